@@ -61,16 +61,6 @@ impl Files for MemFiles {
             (λ bytes. MatchResult result (λ read. read.items ≡ bytes) (λ e. e ≡ FileAnswer.Memory))
             (λ e. IsErrOf result e) }
         ensures after { self.new ≡ after_read self.old }
-
-        ensures ok { IfOk result (λ bytes. Holds (Some (held_in self.old.entries)) name.now bytes.items) }
-        ensures within { IfOk result (λ bytes. length bytes.items ≤ limit) }
-        ensures failed { IsErrOf result FileAnswer.Failed →
-            HasRisen self.old.faults self.new.faults ⊎ IsAbsent (Some (held_in self.old.entries)) name.now }
-        ensures too_long { (seen : ℕ) → IsErrOf result (FileAnswer.TooLong seen) →
-            (limit < seen) × HasLength (Some (held_in self.old.entries)) name.now seen }
-        ensures over { (bytes : List ℕ) → IsHeld (Some (held_in self.old.entries)) name.now bytes → limit < length bytes →
-            IsErrOf result (FileAnswer.TooLong (length bytes)) ⊎ (IsErrOf result FileAnswer.Failed ⊎ IsErrOf result FileAnswer.Memory) }
-        ensures kept { self.new.entries ≡ self.old.entries }
         ensures count { self.old.faults ≤ self.new.faults }
     {
         self.calls = raise(self.calls);

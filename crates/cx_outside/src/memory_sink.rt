@@ -70,11 +70,6 @@ impl Sink for MemSink {
             (λ n. (0 < n) × (n ≡ taken self.old (length piece.now)))
             (λ _. taken self.old (length piece.now) ≡ 0) }
         ensures after { self.new ≡ after_write self.old piece.now }
-
-        ensures ok { IfOk result (λ n. (0 < n) × (n ≤ length piece.now)) }
-        ensures grows { IfOk result (λ n. Some self.new.written ≡ grown (Some self.old.written) (take n piece.now)) }
-        ensures failed { OnErr result (HasRisen self.old.faults self.new.faults) }
-        ensures kept { OnErr result (self.new.written ≡ self.old.written) }
         ensures count { self.old.faults ≤ self.new.faults }
     {
         self.calls = raise(self.calls);
