@@ -1,0 +1,5 @@
+pub mod Counts
+pub mod Reading
+pub mod Writing
+pub mod InMemory
+pub mod MemoryReads
