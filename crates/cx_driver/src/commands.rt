@@ -1,7 +1,12 @@
 //! The commands that the words on the command line spell.
 
+ghost use Rattle.std.specs.Prelude.{MatchOption, SomeIff};
+ghost use Rattle.std.specs.Str.Parse.{digits_value};
+ghost use Rattle.cx_driver.specs.Commands.{Asks, AsksNothing, IsBudget};
+ghost use Rattle.cx_driver.specs.Asked.{asked_of};
+
 use cx_outside::Word;
-use cx_text::BUDGET;
+use cx_text::{BUDGET, decimal};
 
 /// What is asked for. File names are lent from the words.
 #[derive(Clone, Copy, Debug)]
@@ -9,37 +14,32 @@ pub(crate) enum Command<'a> {
     /// Runs the design of a file on a data file with a budget in turns.
     Interp {
         design: &'a [u8],
-        data: &'a [u8],
+        json: &'a [u8],
         budget: u64,
     },
 }
 
 /// The command of the words after the program's name.
-pub(crate) fn command(words: &[Word]) -> Option<Command<'_>> {
+pub(crate) fn command(words: &[Word]) -> Option<Command<'_>>
+    ensures { MatchOption result (AsksNothing words.now) (λ command. Asks words.now (asked_of command)) }
+{
     match words {
-        [command, design, data, budget] if command.bytes() == b"interp" => Some(Command::Interp {
-            design: design.bytes(),
-            data: data.bytes(),
-            budget: number(budget.bytes())?,
-        }),
+        [name, design, json, digits] if name.bytes() == b"interp".as_slice() => {
+            let budget = number(digits.bytes())?;
+            Some(Command::Interp {
+                design: design.bytes(),
+                json: json.bytes(),
+                budget,
+            })
+        }
         _ => None,
     }
 }
 
 /// A budget: one decimal digit or more, with a value of at most 10^12.
-fn number(digits: &[u8]) -> Option<u64> {
-    let mut value: u64 = 0;
-    for digit in digits {
-        if !digit.is_ascii_digit() {
-            return None;
-        }
-        value = value
-            .saturating_mul(10)
-            .saturating_add(u64::from(digit.wrapping_sub(b'0')));
-    }
-    if digits.is_empty() || value > BUDGET {
-        None
-    } else {
-        Some(value)
-    }
+fn number(digits: &[u8]) -> Option<u64>
+    ensures { MatchOption result ((budget : ℕ) → IsBudget digits.now budget → ⊥) (IsBudget digits.now) }
+{
+    let value = u64::try_from(decimal(digits)?).ok()?;
+    if value > BUDGET { None } else { Some(value) }
 }

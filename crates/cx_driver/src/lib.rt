@@ -1,21 +1,14 @@
-//! The top call.
+//! The top call: from the words of a command line and the files that they name to what is written.
 #![tactic(auto)]
 
-mod first_form;
+mod commands;
+mod interpreting;
+mod messages;
+mod refusals;
+mod running;
+mod stops;
 
-use cx_text::Loaded;
-use std::alloc::Global;
-
-pub fn tryit(alloc: Global, text: &[u8], loaded: &mut Loaded) -> u64 {
-    match first_form::read(alloc, text) {
-        Ok(d) => match d.rows(alloc) {
-            Ok(rows) => match d.run(alloc, loaded, 1000) {
-                Ok(Some(t)) => t + 100,
-                Ok(None) => 1,
-                Err(_) => 2,
-            },
-            Err(_) => 3,
-        },
-        Err(_) => 4,
-    }
-}
+pub use interpreting::interp;
+pub use refusals::Status;
+pub use running::run;
+pub use stops::Stop;

@@ -1,5 +1,7 @@
 //! A design of the first form, by the numbers of its cells and groups.
 
+ghost use Rattle.std.specs.Prelude.{◌≤◌};
+
 use cx_text::Name;
 use indexmap::IndexMap;
 
@@ -18,6 +20,8 @@ pub(crate) struct Cell {
     pub(crate) kind: CellKind,
     pub(crate) width: u8,
     pub(crate) external: bool,
+    ghost some_bits: { 1 ≤ width },
+    ghost few_bits: { width ≤ 64 },
 }
 
 /// An input of a cell.

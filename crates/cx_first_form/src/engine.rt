@@ -1,5 +1,10 @@
 //! Runs a design of the first form. A group takes two turns: one in which its cell is written, and an idle one.
 
+ghost use Rattle.std.specs.Prelude.{◌≡◌, ◌^◌, ◌<◌, map, All, IfOk};
+ghost use Rattle.cx_text.specs.Loading.{FitsShape, plain_rows, plain_loaded};
+ghost use Rattle.cx_data.specs.Widths.{HasWordWidth};
+ghost use Rattle.cx_first_form.specs.Whole.{IsWhole, row_of};
+
 use crate::design::{Cell, CellKind, Design, Group, Input, Operand};
 use cx_text::{Loaded, LoadedMemory, Memory, MemoryRow, Name};
 use std::alloc::Global;
@@ -9,7 +14,9 @@ const GROUP_TURNS: u64 = 2;
 
 impl Design {
     /// The external memories, in the order of the cells.
-    pub fn rows(&self, alloc: Global) -> Result<Vec<MemoryRow>, Memory> {
+    pub fn rows(&self, alloc: Global) -> Result<Vec<MemoryRow>, Memory>
+        ensures widths { IfOk result (λ rows. All HasWordWidth (plain_rows rows.items)) }
+    {
         let mut rows = Vec::new(alloc);
         for (name, cell) in self.cells.iter() {
             if let CellKind::Memory { size, .. } = cell.kind {
@@ -32,7 +39,11 @@ impl Design {
         alloc: Global,
         loaded: &mut Loaded,
         budget: u64,
-    ) -> Result<Option<u64>, Memory> {
+    ) -> Result<Option<u64>, Memory>
+        requires fits { All FitsShape (plain_loaded loaded.old) }
+        ensures fits { All FitsShape (plain_loaded loaded.new) }
+        ensures shapes { map (λ m. m.shape) (plain_loaded loaded.new) ≡ map (λ m. m.shape) (plain_loaded loaded.old) }
+    {
         let mut words = self.start(alloc, loaded)?;
         let mut turns: u64 = 0;
         for number in &self.enables {
@@ -44,7 +55,8 @@ impl Design {
                 self.write(&mut words, group);
             }
         }
-        self.store(&words, loaded);
+        let words = self.external_words(alloc, words)?;
+        store_all(&mut loaded.memories, &words);
         Ok(Some(turns))
     }
 }
@@ -138,17 +150,41 @@ impl Design {
         }
     }
 
-    /// Puts the words of the external memories where they were loaded.
-    fn store(&self, words: &[Vec<u64>], loaded: &mut Loaded) {
-        let mut memories = loaded.memories.iter_mut();
+    /// The words of the external memories, out of those of all cells.
+    fn external_words(&self, alloc: Global, words: Vec<Vec<u64>>) -> Result<Vec<Vec<u64>>, Memory> {
+        let mut external = Vec::new(alloc);
         for (cell, words) in self.cells.values().zip(words) {
             if cell.external {
-                if let Some(memory) = memories.next() {
-                    for (place, word) in memory.words.iter_mut().zip(words) {
-                        *place = *word;
-                    }
-                }
+                external.push(words)?;
             }
+        }
+        Ok(external)
+    }
+}
+
+/// Puts words where they were loaded.
+fn store_all(memories: &mut [LoadedMemory], words: &[Vec<u64>])
+    requires fits { All IsWhole memories.old }
+    ensures fits { All IsWhole memories.new }
+    ensures shapes { map row_of memories.new ≡ map row_of memories.old }
+{
+    for number in 0..memories.len() {
+        if let Some(words) = words.get(number) {
+            store(&mut memories[number], words);
+        }
+    }
+}
+
+/// Puts the words of one memory where they were loaded.
+fn store(memory: &mut LoadedMemory, words: &[u64])
+    requires fits { IsWhole memory.old }
+    ensures fits { IsWhole memory.new }
+    ensures shape { row_of memory.new ≡ row_of memory.old }
+{
+    let width = memory.row.width;
+    for index in 0..memory.words.len() {
+        if let Some(word) = words.get(index) {
+            memory.words[index] = low(*word, width);
         }
     }
 }

@@ -174,13 +174,28 @@ impl<'a> Scanner<'a> {
         }
     }
 
+    /// Skips blanks and comments.
     fn skip_blanks(&mut self) {
-        let (_, rest) = span(
-            self.rest,
-            |byte| matches!(byte, b' ' | b'\t' | b'\r' | b'\n'),
-        );
-        self.rest = rest;
+        for _ in 0..self.rest.len() {
+            let (_, rest) = span(self.rest, |byte| matches!(byte, b' ' | b'\t' | b'\r' | b'\n'));
+            self.rest = rest;
+            match after_comment(rest) {
+                Some(after) => self.rest = after,
+                None => return,
+            }
+        }
     }
+}
+
+/// What follows a comment that stands at the front. None where none does, or where it has no end.
+fn after_comment(text: &[u8]) -> Option<&[u8]> {
+    if let Some(line) = text.strip_prefix(b"//") {
+        let (_, rest) = span(line, |byte| *byte != b'\n');
+        return Some(rest);
+    }
+    let block = text.strip_prefix(b"/*")?;
+    let length = block.windows(2).position(|pair| pair == b"*/".as_slice())?;
+    block.split_at_checked(length)?.1.strip_prefix(b"*/")
 }
 
 /// The bytes at the front that pass the test, and the rest.
