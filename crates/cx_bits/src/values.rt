@@ -86,11 +86,20 @@ impl Bits {
         ensures remainder { result.1 ≡ remainder_of self other }
     {
         if other.value == 0 {
-            let all_ones = Bits { width: self.width, value: ones(self.width) };
+            let all_ones = Bits {
+                width: self.width,
+                value: ones(self.width),
+            };
             return (all_ones, self);
         }
-        let quotient = Bits { width: self.width, value: self.value / other.value };
-        let remainder = Bits { width: self.width, value: self.value % other.value };
+        let quotient = Bits {
+            width: self.width,
+            value: self.value / other.value,
+        };
+        let remainder = Bits {
+            width: self.width,
+            value: self.value % other.value,
+        };
         (quotient, remainder)
     }
 
@@ -99,7 +108,10 @@ impl Bits {
         requires { self.width ≡ other.width }
         ensures value { result ≡ and_of self other }
     {
-        Bits { width: self.width, value: self.value & other.value }
+        Bits {
+            width: self.width,
+            value: self.value & other.value,
+        }
     }
 
     /// The bits that are 1 in one or both.
@@ -107,7 +119,10 @@ impl Bits {
         requires { self.width ≡ other.width }
         ensures value { result ≡ or_of self other }
     {
-        Bits { width: self.width, value: self.value | other.value }
+        Bits {
+            width: self.width,
+            value: self.value | other.value,
+        }
     }
 
     /// The bits that are 1 in exactly one.
@@ -115,34 +130,48 @@ impl Bits {
         requires { self.width ≡ other.width }
         ensures value { result ≡ xor_of self other }
     {
-        Bits { width: self.width, value: self.value ^ other.value }
+        Bits {
+            width: self.width,
+            value: self.value ^ other.value,
+        }
     }
 
     /// Each bit turned.
     pub fn not(self) -> Bits
         ensures value { result ≡ complement_of self }
     {
-        Bits { width: self.width, value: ones(self.width) - self.value }
+        Bits {
+            width: self.width,
+            value: ones(self.width) - self.value,
+        }
     }
 
     /// Shifted left by the value of `other`, whatever its width; 0 from the own width on.
     pub fn shl(self, other: Bits) -> Bits
         ensures value { result ≡ left_shift_of self other }
     {
-        if other.value >= u128::from(self.width) {
-            return Bits { width: self.width, value: 0 };
-        }
-        reduced(self.width, self.value << other.value)
+        // A `u128` is shifted by at most 127.
+        let shifted_up = if other.value < 128 {
+            self.value << other.value
+        } else {
+            0
+        };
+        reduced(self.width, shifted_up)
     }
 
     /// Shifted right by the value of `other`, whatever its width; 0 from the own width on.
     pub fn shr(self, other: Bits) -> Bits
         ensures value { result ≡ right_shift_of self other }
     {
-        if other.value >= u128::from(self.width) {
-            return Bits { width: self.width, value: 0 };
+        let shifted_down = if other.value < 128 {
+            self.value >> other.value
+        } else {
+            0
+        };
+        Bits {
+            width: self.width,
+            value: shifted_down,
         }
-        Bits { width: self.width, value: self.value >> other.value }
     }
 
     /// One bit: 1 where the value is below the other, both unsigned.
@@ -158,12 +187,14 @@ impl Bits {
         ensures value { result ≡ signed_less_bit_of self other }
     {
         let half = 1u128 << (self.width - 1);
-        let is_negative = self.value >= half;
-        if is_negative == (other.value >= half) {
-            bit(self.value < other.value)
+        let left_negative = self.value >= half;
+        let right_negative = other.value >= half;
+        let below = if left_negative == right_negative {
+            self.value < other.value
         } else {
-            bit(is_negative)
-        }
+            left_negative
+        };
+        bit(below)
     }
 
     /// One bit: 1 where the values are equal.
@@ -188,7 +219,10 @@ impl Bits {
         requires within { width ≤ 128 }
         ensures value { result ≡ zero_extension_of self width }
     {
-        Bits { width, value: self.value }
+        Bits {
+            width,
+            value: self.value,
+        }
     }
 
     /// The bits of this value above those of `low`.
@@ -196,7 +230,10 @@ impl Bits {
         requires { self.width + low.width ≤ 128 }
         ensures value { result ≡ concatenation_of self low }
     {
-        Bits { width: self.width + low.width, value: (self.value << low.width) + low.value }
+        Bits {
+            width: self.width + low.width,
+            value: (self.value << low.width) + low.value,
+        }
     }
 }
 
@@ -206,7 +243,10 @@ fn reduced(width: u8, value: u128) -> Bits
     requires few_bits { width ≤ 128 }
     ensures { result ≡ record { width = width; value = value % 2 ^ width } }
 {
-    Bits { width, value: value & ones(width) }
+    Bits {
+        width,
+        value: value & ones(width),
+    }
 }
 
 /// The greatest value of a width: that many ones.
@@ -222,5 +262,8 @@ fn ones(width: u8) -> u128
 fn bit(truth: bool) -> Bits
     ensures { result ≡ bit_of truth }
 {
-    Bits { width: 1, value: u128::from(truth) }
+    Bits {
+        width: 1,
+        value: u128::from(truth),
+    }
 }
