@@ -16,6 +16,7 @@ Fits-mod w n some few = record { some_bits = some; few_bits = few; in_range = mo
 pub Fits-below : (a : BitVector) (n : ℕ) → Fits a → n ≤ a.value → Fits (record { width = a.width; value = n })
 Fits-below a n fits below = record { some_bits = fits.some_bits; few_bits = fits.few_bits; in_range = omega arith }
 
+-- what each operator gives fits its width, where the operands fit theirs
 pub Fits-sum_of : (a b : BitVector) → Fits a → Fits (sum_of a b)
 Fits-sum_of a b fits = Fits-mod a.width (a.value + b.value) fits.some_bits fits.few_bits
 

@@ -56,7 +56,7 @@ impl Bits {
         self.value
     }
 
-    /// The sum modulo two to the width.
+    /// The sum of two values of one width, modulo two to the width.
     pub fn add(self, other: Bits) -> Bits
         requires { self.width ≡ other.width }
         ensures value { result ≡ sum_of self other }
@@ -64,7 +64,7 @@ impl Bits {
         reduced(self.width, self.value.wrapping_add(other.value))
     }
 
-    /// The difference modulo two to the width.
+    /// The difference of two values of one width, modulo two to the width.
     pub fn sub(self, other: Bits) -> Bits
         requires { self.width ≡ other.width }
         ensures value { result ≡ difference_of self other }
@@ -72,7 +72,7 @@ impl Bits {
         reduced(self.width, self.value.wrapping_sub(other.value))
     }
 
-    /// The product modulo two to the width.
+    /// The product of two values of one width, modulo two to the width.
     pub fn mul(self, other: Bits) -> Bits
         requires { self.width ≡ other.width }
         ensures value { result ≡ product_of self other }
@@ -103,7 +103,7 @@ impl Bits {
         (quotient, remainder)
     }
 
-    /// The bits that are 1 in both.
+    /// The bits that are 1 in both of two values of one width.
     pub fn and(self, other: Bits) -> Bits
         requires { self.width ≡ other.width }
         ensures value { result ≡ and_of self other }
@@ -114,7 +114,7 @@ impl Bits {
         }
     }
 
-    /// The bits that are 1 in one or both.
+    /// The bits that are 1 in one or both of two values of one width.
     pub fn or(self, other: Bits) -> Bits
         requires { self.width ≡ other.width }
         ensures value { result ≡ or_of self other }
@@ -125,7 +125,7 @@ impl Bits {
         }
     }
 
-    /// The bits that are 1 in exactly one.
+    /// The bits that are 1 in exactly one of two values of one width.
     pub fn xor(self, other: Bits) -> Bits
         requires { self.width ≡ other.width }
         ensures value { result ≡ xor_of self other }
@@ -181,7 +181,7 @@ impl Bits {
         bit(self.value < other.value)
     }
 
-    /// One bit: 1 where the value is below the other, both in two's complement.
+    /// One bit: 1 where the value is below the other of the same width, both in two's complement.
     pub fn signed_lt(self, other: Bits) -> Bits
         requires { self.width ≡ other.width }
         ensures value { result ≡ signed_less_bit_of self other }
@@ -204,7 +204,7 @@ impl Bits {
         bit(self.value == other.value)
     }
 
-    /// The low bits, `width` of them.
+    /// The low bits, `width` of them: 1 to the own width.
     pub fn low(self, width: u8) -> Bits
         requires some_bits { 1 ≤ width }
         requires within { width ≤ self.width }
@@ -213,7 +213,7 @@ impl Bits {
         reduced(width, self.value)
     }
 
-    /// The same value at a width that is no smaller: zeros above.
+    /// The same value at a width from the own to 128: zeros above.
     pub fn pad(self, width: u8) -> Bits
         requires wider { self.width ≤ width }
         requires within { width ≤ 128 }
@@ -225,7 +225,7 @@ impl Bits {
         }
     }
 
-    /// The bits of this value above those of `low`.
+    /// The bits of this value above those of `low`, 128 in all at most.
     pub fn cat(self, low: Bits) -> Bits
         requires { self.width + low.width ≤ 128 }
         ensures value { result ≡ concatenation_of self low }
