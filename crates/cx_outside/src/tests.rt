@@ -93,6 +93,7 @@ fn reads_the_system(rt: HostRuntime) -> Result<(), Fail> {
         let failed = files.read_file(alloc, name, usize::MAX);
         assert_eq!(rt; failed.err(), Some(FileAnswer::Failed), "{name:?}");
     }
+    fs::remove_file(&rt, "seventy_thousand")?;
     Ok(())
 }
 
