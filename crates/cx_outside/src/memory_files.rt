@@ -77,10 +77,8 @@ impl Files for MemFiles {
 fn find<'a>(entries: &'a [(Word, Word)], name: &[u8]) -> Option<&'a [u8]>
     ensures value { option_copied result ≡ held_in entries.now name.now }
 {
-    for entry in entries {
-        if entry.0.bytes() == name {
-            return Some(entry.1.bytes());
-        }
-    }
-    None
+    entries
+        .iter()
+        .find(|entry| entry.0.bytes() == name)
+        .map(|entry| entry.1.bytes())
 }
