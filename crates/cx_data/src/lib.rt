@@ -8,6 +8,9 @@ mod lists;
 mod loading;
 mod numbers;
 
+#[cfg(test)]
+mod tests;
+
 pub use dumping::dump;
 pub use faults::DataFault;
 pub use loading::load;
