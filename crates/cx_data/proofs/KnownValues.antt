@@ -1,10 +1,10 @@
 -- Worked values of the definitions, by hand.
-use Rattle.std.proofs.Common.{◌≡◌, ℕ, pos, negsuc, true, false, List, [], ◌∷◌, Some, None, Ok, Err, codes, refl}
+use Rattle.std.proofs.Common.{◌≡◌, negsuc, true, false, [], ◌∷◌, Some, None, Ok, Err, codes, refl}
 use Rattle.std.specs.Fmt.{digits}
-use Rattle.serde_json.specs.Data.{unsigned, negative, number, string, array, no_items, item}
-use Rattle.cx_data.specs.Dump.{dump_text, number_text}
+use Rattle.serde_json.specs.Data.{unsigned, negative, number, array, no_items, item}
+use Rattle.cx_data.specs.Dump.{dump_text}
 use Rattle.cx_data.specs.Numbers.{numbers_of, word_of, words_of}
-use Rattle.cx_text.specs.Loading.{PlainRow, PlainMemory}
+use Rattle.cx_text.specs.Loading.{PlainMemory}
 
 abbrev pub table : PlainMemory
 table = record { shape = record { name = codes "t"; width = 8; sizes = 2 ∷ 3 ∷ [] }; signed = false; words = 1 ∷ 2 ∷ 3 ∷ 4 ∷ 5 ∷ 6 ∷ [] }

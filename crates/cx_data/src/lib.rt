@@ -7,7 +7,6 @@ mod faults;
 mod lists;
 mod loading;
 mod numbers;
-
 #[cfg(test)]
 mod tests;
 

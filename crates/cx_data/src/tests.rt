@@ -61,7 +61,10 @@ fn numbers_of_one_word(rt: HostRuntime) -> Result<(), Fail> {
     let rows = [row(rt.alloc(), "mem", 32, [1].as_slice())?];
     let cases = [
         ("5", "{\"cycles\":3,\"memories\":{\"mem\":[5]}}\n"),
-        ("4294967295", "{\"cycles\":3,\"memories\":{\"mem\":[4294967295]}}\n"),
+        (
+            "4294967295",
+            "{\"cycles\":3,\"memories\":{\"mem\":[4294967295]}}\n",
+        ),
         ("4294967296", "out-of-range mem 0"),
         ("5.0", "out-of-range mem 0"),
         ("-0", "out-of-range mem 0"),
@@ -73,7 +76,9 @@ fn numbers_of_one_word(rt: HostRuntime) -> Result<(), Fail> {
         ("05", "not-json"),
     ];
     for (number, want) in cases {
-        let json = format!(in rt.alloc(); "{{\"mem\":{{\"data\":[{number}],\"format\":{{\"numeric_type\":\"bitnum\",\"is_signed\":false,\"width\":32}}}}}}")?;
+        let json = format!(in rt.alloc();
+            "{{\"mem\":{{\"data\":[{number}],\"format\":{{\"numeric_type\":\"bitnum\",\"is_signed\":false,\"width\":32}}}}}}"
+        )?;
         let answer = dumped(rt.alloc(), json.as_bytes(), rows.as_slice());
         assert_eq!(rt; told(rt.alloc(), &answer)?.as_str(), want, "{number}");
     }
@@ -85,20 +90,31 @@ fn numbers_of_one_word(rt: HostRuntime) -> Result<(), Fail> {
 fn signed_words(rt: HostRuntime) -> Result<(), Fail> {
     let rows = [row(rt.alloc(), "src", 8, [3].as_slice())?];
     let cases = [
-        ("-128,127,-1", "{\"cycles\":3,\"memories\":{\"src\":[-128,127,-1]}}\n"),
+        (
+            "-128,127,-1",
+            "{\"cycles\":3,\"memories\":{\"src\":[-128,127,-1]}}\n",
+        ),
         ("128,127,-1", "out-of-range src 0"),
         ("-129,127,-1", "out-of-range src 0"),
         ("0,127,1e0", "out-of-range src 2"),
     ];
     for (numbers, want) in cases {
-        let json = format!(in rt.alloc(); "{{\"src\":{{\"data\":[{numbers}],\"format\":{{\"is_signed\":true,\"numeric_type\":\"bitnum\",\"width\":8}}}}}}")?;
+        let json = format!(in rt.alloc();
+            "{{\"src\":{{\"data\":[{numbers}],\"format\":{{\"is_signed\":true,\"numeric_type\":\"bitnum\",\"width\":8}}}}}}"
+        )?;
         let answer = dumped(rt.alloc(), json.as_bytes(), rows.as_slice());
         assert_eq!(rt; told(rt.alloc(), &answer)?.as_str(), want, "{numbers}");
     }
-    let json = b"{\"src\":{\"data\":[-128,127,-1],\"format\":{\"is_signed\":true,\"numeric_type\":\"bitnum\",\"width\":8}}}";
-    let loaded = load(rt.alloc(), json.as_slice(), rows.as_slice()).ok().ok_or("fault")?;
+    let json =
+        b"{\"src\":{\"data\":[-128,127,-1],\"format\":{\"is_signed\":true,\"numeric_type\":\"bitnum\",\"width\":8}}}";
+    let loaded = load(rt.alloc(), json.as_slice(), rows.as_slice())
+        .ok()
+        .ok_or("fault")?;
     assert_eq!(rt; loaded.memories.len(), 1);
-    assert_eq!(rt; loaded.memories[0].words.as_slice(), [128, 127, 255].as_slice());
+    assert_eq!(rt;
+        loaded.memories[0].words.as_slice(),
+        [128, 127, 255].as_slice()
+    );
     Ok(())
 }
 
@@ -109,17 +125,39 @@ fn two_memories(rt: HostRuntime) -> Result<(), Fail> {
         row(rt.alloc(), "t", 64, [2, 3].as_slice())?,
         row(rt.alloc(), "b", 1, [1].as_slice())?,
     ];
-    let t = "\"t\":{\"data\":[[1,2,3],[4,5,18446744073709551615]],\"format\":{\"numeric_type\":\"bitnum\",\"is_signed\":false,\"width\":64}}";
-    let b = "\"b\":{\"data\":[1],\"more\":0,\"format\":{\"numeric_type\":\"bitnum\",\"is_signed\":false,\"width\":1,\"more\":0}}";
+    let t =
+        "\"t\":{\"data\":[[1,2,3],[4,5,18446744073709551615]],\"format\":{\"numeric_type\":\"bitnum\",\"is_signed\":false,\"width\":64}}";
+    let b =
+        "\"b\":{\"data\":[1],\"more\":0,\"format\":{\"numeric_type\":\"bitnum\",\"is_signed\":false,\"width\":1,\"more\":0}}";
     let cases = [
-        (t, b, "{\"cycles\":3,\"memories\":{\"b\":[1],\"t\":[[1,2,3],[4,5,18446744073709551615]]}}\n"),
+        (
+            t,
+            b,
+            "{\"cycles\":3,\"memories\":{\"b\":[1],\"t\":[[1,2,3],[4,5,18446744073709551615]]}}\n",
+        ),
         ("\"z\":[]", "\"y\":[]", "missing t"),
         ("\"b\":0", "\"t\":0", "bad-format t"),
         (t, "\"b\":{\"data\":[1]}", "bad-format b"),
-        (t, "\"b\":{\"data\":[],\"format\":{\"numeric_type\":\"bitnum\",\"is_signed\":false,\"width\":2}}", "width-differs b"),
-        (t, "\"b\":{\"data\":[],\"format\":{\"numeric_type\":\"fixed\",\"is_signed\":false,\"width\":1}}", "bad-format b"),
-        (b, "\"t\":{\"data\":[[1,2,3],[4,-5]],\"format\":{\"numeric_type\":\"bitnum\",\"is_signed\":false,\"width\":64}}", "bad-shape t"),
-        (b, "\"t\":{\"data\":[[1,2,3],[4,-5,6.0]],\"format\":{\"numeric_type\":\"bitnum\",\"is_signed\":false,\"width\":64}}", "out-of-range t 4"),
+        (
+            t,
+            "\"b\":{\"data\":[],\"format\":{\"numeric_type\":\"bitnum\",\"is_signed\":false,\"width\":2}}",
+            "width-differs b",
+        ),
+        (
+            t,
+            "\"b\":{\"data\":[],\"format\":{\"numeric_type\":\"fixed\",\"is_signed\":false,\"width\":1}}",
+            "bad-format b",
+        ),
+        (
+            b,
+            "\"t\":{\"data\":[[1,2,3],[4,-5]],\"format\":{\"numeric_type\":\"bitnum\",\"is_signed\":false,\"width\":64}}",
+            "bad-shape t",
+        ),
+        (
+            b,
+            "\"t\":{\"data\":[[1,2,3],[4,-5,6.0]],\"format\":{\"numeric_type\":\"bitnum\",\"is_signed\":false,\"width\":64}}",
+            "out-of-range t 4",
+        ),
     ];
     for (first, second, want) in cases {
         let json = format!(in rt.alloc(); "{{{first}, {second}}}")?;
@@ -140,8 +178,10 @@ fn no_json(rt: HostRuntime) -> Result<(), Fail> {
         (b"[]", "not-json"),
         (b"{\"a\":1e999}", "not-json"),
         (b"{\"\xff\":1}", "not-json"),
-        (b"{\"mem\":0,\"mem\":{\"data\":[7],\"format\":{\"numeric_type\":\"bitnum\",\"is_signed\":false,\"width\":32}}}",
-            "{\"cycles\":3,\"memories\":{\"mem\":[7]}}\n"),
+        (
+            b"{\"mem\":0,\"mem\":{\"data\":[7],\"format\":{\"numeric_type\":\"bitnum\",\"is_signed\":false,\"width\":32}}}",
+            "{\"cycles\":3,\"memories\":{\"mem\":[7]}}\n",
+        ),
     ];
     for (json, want) in cases {
         let answer = dumped(rt.alloc(), json, rows.as_slice());
