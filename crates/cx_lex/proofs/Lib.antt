@@ -1,1 +1,5 @@
+pub mod TestLemmas
 pub mod SpanLemmas
+pub mod ByteLemmas
+pub mod SignLemmas
+pub mod AgainLemmas
