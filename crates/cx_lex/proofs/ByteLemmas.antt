@@ -38,3 +38,11 @@ no_tick b h = grind (arith, nat_tests)
 
 pub no_quote_at_end : (b : ℕ) → is_in_line b ≡ false → (b == 34) ≡ false
 no_quote_at_end b h = grind (arith, nat_tests)
+
+pub none_goes_on : (a b c : Bool) → (a || b || c) ≡ false → (a ≡ false) × (b ≡ false) × (c ≡ false)
+none_goes_on true b c e = absurd (cc)
+none_goes_on false true c e = absurd (cc)
+none_goes_on false false c e = (refl, refl, e)
+
+pub some_of_zero : (n : ℕ) → (n == 0) ≡ false → 0 < n
+some_of_zero n h = grind (arith, nat_tests)

@@ -3,3 +3,4 @@ pub mod SpanLemmas
 pub mod ByteLemmas
 pub mod SignLemmas
 pub mod AgainLemmas
+pub mod TakesLemmas
