@@ -4,3 +4,4 @@ pub mod ByteLemmas
 pub mod SignLemmas
 pub mod AgainLemmas
 pub mod TakesLemmas
+pub mod WholeLemmas
