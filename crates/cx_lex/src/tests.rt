@@ -44,12 +44,12 @@ fn tokens_have_their_places(rt: HostRuntime) -> Result<(), Fail> {
         (3, 11, TokenKind::Literal(8, 255)),
         (3, 16, TokenKind::Sign(Sign::Question)),
         (3, 17, TokenKind::Literal(4, 10)),
-        (3, 23, TokenKind::Sign(Sign::Arrow)),
-        (3, 25, TokenKind::Text(Name::from_bytes(rt.alloc(), b"a\t\xff").ok().ok_or("memory")?)),
-        (3, 31, TokenKind::Literal(6, 15)),
-        (3, 37, TokenKind::Number(42)),
-        (3, 42, TokenKind::Sign(Sign::LessEqual)),
-        (3, 45, TokenKind::Sign(Sign::Less)),
+        (3, 24, TokenKind::Sign(Sign::Arrow)),
+        (3, 26, TokenKind::Text(Name::from_bytes(rt.alloc(), b"a\t\xff").ok().ok_or("memory")?)),
+        (3, 32, TokenKind::Literal(6, 15)),
+        (3, 38, TokenKind::Number(42)),
+        (3, 43, TokenKind::Sign(Sign::LessEqual)),
+        (3, 46, TokenKind::Sign(Sign::Less)),
     ];
     let tokens = lex(rt.alloc(), text).ok().ok_or("a fault")?;
     assert_eq!(rt; tokens.len(), wanted.len());
