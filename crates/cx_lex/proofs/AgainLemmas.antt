@@ -1,21 +1,20 @@
 -- Each case of `Lex` is read again: what is a token, a blank or a comment is what `front_at` answers.
-use Rattle.std.proofs.Common.{◌≡◌, ◌≢◌, ℕ, ◌+◌, ◌<◌, ◌≤◌, ◌^◌, ◌==◌, Bool, true, false, not, ◌&&◌, ◌||◌, nat_lt, if◌then◌else◌, Option, Some, None, List, [], ◌∷◌, ◌++◌, length, ◌⊎◌, inl, inr, ⊎_elim, refl, sym, ◌∙◌, ap, subst, lit≤, arith, length-append, append_assoc}
-use Rattle.std.proofs.lemmas.Bool.{eqb-true, ne_eqb, ltb-true, lt-ltb, le-ltb, ltb-false, and_from, and_parts}
+use Rattle.std.proofs.Common.{◌≡◌, ◌≢◌, ℕ, ◌<◌, ◌≤◌, ◌^◌, ◌==◌, Bool, true, false, ◌&&◌, ◌||◌, nat_lt, if◌then◌else◌, Option, Some, None, List, [], ◌∷◌, ◌++◌, length, ⊎_elim, refl, sym, ◌∙◌, ap, subst, lit≤, arith, append_assoc}
+use Rattle.std.proofs.lemmas.Bool.{eqb-true, ne_eqb, lt-ltb, le-ltb, and_from}
 use Rattle.std.specs.List.{list_all}
-use Rattle.std.specs.Prelude.{Result, Ok, Err}
+use Rattle.std.specs.Prelude.{Ok, Err}
 use Rattle.std.specs.Str.Parse.{AllDigits, IsNumeral, digits_value}
 use Rattle.cx_tokens.specs.declared.signs.Sign.{Sign}
 use Rattle.cx_tokens.specs.declared.tokens.TokenKind.{TokenKind}
 use Rattle.cx_tokens.specs.declared.tokens.TokenKind.TheVariants as kinds
 use Rattle.cx_tokens.specs.declared.signs.Sign.TheVariants as signs
-use Rattle.cx_lex.specs.declared.faults.LexKind.{LexKind}
-use Rattle.cx_lex.specs.declared.faults.LexKind.TheVariants.{BadByte, OpenComment, OpenString, BadLiteral}
+use Rattle.cx_lex.specs.declared.faults.LexKind.TheVariants.{BadByte, OpenString, BadLiteral}
 use Rattle.cx_lex.specs.Bytes.{is_blank, is_name_start, is_digit, is_name_byte, goes_on, is_in_line, is_in_string, base_of, is_digit_in, Stops}
 use Rattle.cx_lex.specs.Lex.{sign_bytes, IsLongest, IsWord, IsToken, name, number, literal, string, sign, HasNoClose, IsStray, IsGap, blank, line_comment, block_comment}
-use Rattle.cx_lex.specs.Reading.{front, back, Read, name_at, goes_on_at, number_of, literal_of, based_at, literal_at, behind_digits, numeric_at, behind_body, string_at, after_close, commented, comment_at, short_sign, long_sign, signed, longest_of, sign_at, item_at}
+use Rattle.cx_lex.specs.Reading.{front, back, Read, name_at, goes_on_at, number_of, literal_of, based_at, behind_digits, numeric_at, behind_body, string_at, after_close, commented, comment_at, short_sign, long_sign, signed, longest_of, sign_at, item_at}
 use Rattle.cx_lex.proofs.TestLemmas.{by_test, pick_true, pick_false}
 use Rattle.cx_lex.proofs.SpanLemmas.{front_again, back_again, all_digits_pass}
-use Rattle.cx_lex.proofs.ByteLemmas.{is_name_start-not_blank, is_digit-not_blank, is_digit-not_name, is_name_start-name_byte, digit_value-is_digit, is_digit-digit_value, not_goes_on-digit, not_in_line-not_in_string, no_tick, no_quote_at_end}
+use Rattle.cx_lex.proofs.ByteLemmas.{is_name_start-not_blank, is_digit-not_blank, is_digit-not_name, is_name_start-name_byte, digit_value-is_digit, not_goes_on-digit, not_in_line-not_in_string, no_tick, no_quote_at_end}
 use Rattle.cx_lex.proofs.SignLemmas.{short_or_long, IsShort, IsLong, short_sign-bytes, long_sign-bytes}
 
 -- what stands at the front of any text
@@ -69,7 +68,7 @@ none_of : (a b c : Bool) → a ≡ false → b ≡ false → c ≡ false → (a 
 none_of a b c ea eb ec = cc
 
 literal_read : (width : List ℕ) (base : ℕ) (digits rest : List ℕ) → IsNumeral 10 width → digits_value 10 width < 2 ^ 32 → IsNumeral base digits → digits_value base digits < 2 ^ 128 → Stops goes_on rest
-  → literal_of width base digits rest ≡ Ok (Some (kinds.Literal (digits_value 10 width) (digits_value base digits)), rest)
+    → literal_of width base digits rest ≡ Ok (Some (kinds.Literal (digits_value 10 width) (digits_value base digits)), rest)
 literal_read width base digits rest wide width_fits numeral fits stop =
     pick_false (goes_on_at rest || length width == 0 || length digits == 0) _ _ (none_of _ _ _ (no_going_on rest stop) (some_digits width wide.0) (some_digits digits numeral.0))
     ∙ pick_true (nat_lt (digits_value 10 width) (2 ^ 32) && nat_lt (digits_value base digits) (2 ^ 128)) _ _ (and_from _ _ (lt-ltb _ _ width_fits) (lt-ltb _ _ fits))
@@ -92,7 +91,7 @@ begins_digit [] rest numeral = absurd (let some = numeral.0 in omega arith)
 begins_digit (d ∷ digits) rest numeral = item_at-digit d (digits ++ rest) (digit_value-is_digit d (lt-ltb _ _ numeral.1.0))
 
 literal_again : (width : List ℕ) (letter base : ℕ) (digits rest : List ℕ) → IsNumeral 10 width → digits_value 10 width < 2 ^ 32 → base_of letter ≡ Some base → IsNumeral base digits → digits_value base digits < 2 ^ 128 → Stops goes_on rest
-  → front_at ((width ++ 39 ∷ letter ∷ digits) ++ rest) ≡ Ok (Some (kinds.Literal (digits_value 10 width) (digits_value base digits)), rest)
+    → front_at ((width ++ 39 ∷ letter ∷ digits) ++ rest) ≡ Ok (Some (kinds.Literal (digits_value 10 width) (digits_value base digits)), rest)
 literal_again width letter base digits rest wide width_fits eb numeral fits stop =
     let le = base_of-le letter base eb in
     let stops = digits_stop base rest le stop in
@@ -147,15 +146,15 @@ begins_sign signs.Arrow rest = refl
 short_read : (s : Sign) (a : ℕ) (rest : List ℕ) → sign_bytes s ≡ a ∷ [] → short_sign a ≡ Some s → IsLongest s (a ∷ rest) → sign_at a rest ≡ Ok (Some (kinds.Sign s), rest)
 short_read s a [] bytes found longest = ap (λ o. signed o []) found
 short_read s a (c ∷ rest) bytes found longest = behind (long_sign a c) refl
-    where
-  behind : (o : Option Sign) → long_sign a c ≡ o → longest_of o a c rest ≡ Ok (Some (kinds.Sign s), c ∷ rest)
-  behind None e = ap (λ o. signed o (c ∷ rest)) found
-  behind (Some t) e =
-      let longer = long_sign-bytes t a c e in
-      let le = longest t rest (ap (λ bytes. bytes ++ rest) (sym longer)) in
-      let two = ap length longer in
-      let one = ap length bytes in
-      absurd (omega arith)
+  where
+    behind : (o : Option Sign) → long_sign a c ≡ o → longest_of o a c rest ≡ Ok (Some (kinds.Sign s), c ∷ rest)
+    behind None e = ap (λ o. signed o (c ∷ rest)) found
+    behind (Some t) e =
+        let longer = long_sign-bytes t a c e in
+        let le = longest t rest (ap (λ bytes. bytes ++ rest) (sym longer)) in
+        let two = ap length longer in
+        let one = ap length bytes in
+        absurd (omega arith)
 
 sign_again : (s : Sign) (rest : List ℕ) → IsLongest s (sign_bytes s ++ rest) → front_at (sign_bytes s ++ rest) ≡ Ok (Some (kinds.Sign s), rest)
 sign_again s rest longest = begins_sign s rest ∙ ⊎_elim
@@ -207,18 +206,18 @@ gap_again (block_comment body {rest = rest} open_body) = ap (λ bytes. commented
 -- faults
 no_sign_at : (b : ℕ) (rest : List ℕ) → ((s : Sign) (after : List ℕ) → b ∷ rest ≢ sign_bytes s ++ after) → sign_at b rest ≡ Err BadByte
 no_sign_at b rest none = within rest none
-    where
-  no_short : (rest : List ℕ) → ((s : Sign) (after : List ℕ) → b ∷ rest ≢ sign_bytes s ++ after) → (o : Option Sign) → short_sign b ≡ o → signed o rest ≡ Err BadByte
-  no_short rest none None e = refl
-  no_short rest none (Some s) e = absurd (none s rest (ap (λ bytes. bytes ++ rest) (sym (short_sign-bytes b s e))))
+  where
+    no_short : (rest : List ℕ) → ((s : Sign) (after : List ℕ) → b ∷ rest ≢ sign_bytes s ++ after) → (o : Option Sign) → short_sign b ≡ o → signed o rest ≡ Err BadByte
+    no_short rest none None e = refl
+    no_short rest none (Some s) e = absurd (none s rest (ap (λ bytes. bytes ++ rest) (sym (short_sign-bytes b s e))))
 
-  no_long : (c : ℕ) (rest : List ℕ) → ((s : Sign) (after : List ℕ) → b ∷ c ∷ rest ≢ sign_bytes s ++ after) → (o : Option Sign) → long_sign b c ≡ o → longest_of o b c rest ≡ Err BadByte
-  no_long c rest none None e = no_short (c ∷ rest) none (short_sign b) refl
-  no_long c rest none (Some s) e = absurd (none s rest (ap (λ bytes. bytes ++ rest) (sym (long_sign-bytes s b c e))))
+    no_long : (c : ℕ) (rest : List ℕ) → ((s : Sign) (after : List ℕ) → b ∷ c ∷ rest ≢ sign_bytes s ++ after) → (o : Option Sign) → long_sign b c ≡ o → longest_of o b c rest ≡ Err BadByte
+    no_long c rest none None e = no_short (c ∷ rest) none (short_sign b) refl
+    no_long c rest none (Some s) e = absurd (none s rest (ap (λ bytes. bytes ++ rest) (sym (long_sign-bytes s b c e))))
 
-  within : (rest : List ℕ) → ((s : Sign) (after : List ℕ) → b ∷ rest ≢ sign_bytes s ++ after) → sign_at b rest ≡ Err BadByte
-  within [] none = no_short [] none (short_sign b) refl
-  within (c ∷ rest) none = no_long c rest none (long_sign b c) refl
+    within : (rest : List ℕ) → ((s : Sign) (after : List ℕ) → b ∷ rest ≢ sign_bytes s ++ after) → sign_at b rest ≡ Err BadByte
+    within [] none = no_short [] none (short_sign b) refl
+    within (c ∷ rest) none = no_long c rest none (long_sign b c) refl
 
 no_comment_at : (rest : List ℕ) → ((after : List ℕ) → 47 ∷ rest ≢ 47 ∷ 47 ∷ after) → ((after : List ℕ) → 47 ∷ rest ≢ 47 ∷ 42 ∷ after) → comment_at rest ≡ Err BadByte
 no_comment_at [] line block = refl

@@ -1,11 +1,10 @@
 -- Signs and their bytes.
-use Rattle.std.proofs.Common.{◌≡◌, ◌≢◌, ℕ, ◌+◌, ◌<◌, ◌≤◌, ◌==◌, Bool, true, false, nat_eq, if◌then◌else◌, Option, Some, None, List, [], ◌∷◌, ◌++◌, length, ◌⊎◌, inl, inr, ⊎_elim, refl, sym, ◌∙◌, ap, subst, arith, length-append}
+use Rattle.std.proofs.Common.{◌≡◌, ℕ, ◌≤◌, ◌==◌, if◌then◌else◌, Option, Some, None, List, [], ◌∷◌, length, ◌⊎◌, inl, inr, ⊎_elim, refl, sym, ◌∙◌, ap, arith}
 use Rattle.std.proofs.lemmas.Bool.{eqb-true}
 use Rattle.std.specs.List.{AllByRecursion}
-use Rattle.std.specs.Prelude.{Ok, Err}
 use Rattle.cx_tokens.specs.declared.signs.Sign.{Sign}
 use Rattle.cx_tokens.specs.declared.signs.Sign.TheVariants as signs
-use Rattle.cx_lex.specs.Lex.{sign_bytes, IsLongest}
+use Rattle.cx_lex.specs.Lex.{sign_bytes}
 use Rattle.cx_lex.specs.Reading.{look_up, short_signs, short_sign, long_sign}
 use Rattle.cx_lex.proofs.TestLemmas.{chosen}
 
@@ -67,11 +66,11 @@ module _ (s : Sign) (a b : ℕ) where
   pub long_sign-bytes : long_sign a b ≡ Some s → sign_bytes s ≡ a ∷ b ∷ []
   long_sign-bytes e = ⊎_elim
       (λ equal. let eb = eqb-true b 61 equal.0 in
-          one_long 61 61 signs.EqualEqual _ refl eb (one_long 33 61 signs.NotEqual _ refl eb (one_long 60 61 signs.LessEqual _ refl eb (one_long 62 61 signs.GreaterEqual _ refl eb nothing))) equal.1)
+      one_long 61 61 signs.EqualEqual _ refl eb (one_long 33 61 signs.NotEqual _ refl eb (one_long 60 61 signs.LessEqual _ refl eb (one_long 62 61 signs.GreaterEqual _ refl eb nothing))) equal.1)
       (λ other. ⊎_elim
-          (λ greater. one_long 45 62 signs.Arrow _ refl (eqb-true b 62 greater.0) nothing greater.1)
-          (λ none. nothing none.1)
-          (chosen (b == 62) (if a == 45 then Some signs.Arrow else None) None (Some s) other.1))
+      (λ greater. one_long 45 62 signs.Arrow _ refl (eqb-true b 62 greater.0) nothing greater.1)
+      (λ none. nothing none.1)
+      (chosen (b == 62) (if a == 45 then Some signs.Arrow else None) None (Some s) other.1))
       (chosen (b == 61) (if a == 61 then Some signs.EqualEqual else if a == 33 then Some signs.NotEqual else if a == 60 then Some signs.LessEqual else if a == 62 then Some signs.GreaterEqual else None) (if b == 62 then (if a == 45 then Some signs.Arrow else None) else None) (Some s) e)
 
 -- no sign has more than two bytes

@@ -1,5 +1,5 @@
 -- Whole texts: one list of tokens or one first fault.
-use Rattle.std.proofs.Common.{◌≡◌, ◌≢◌, ℕ, zero, suc, ◌+◌, ◌-◌, ◌<◌, ◌≤◌, List, [], ◌∷◌, ◌++◌, length, take, drop, Option, Some, None, ◌⊎◌, inl, inr, ⊎_elim, refl, sym, ◌∙◌, ap, subst, arith, length-append, append_assoc}
+use Rattle.std.proofs.Common.{◌≡◌, ℕ, zero, suc, ◌+◌, ◌-◌, ◌<◌, ◌≤◌, List, [], ◌∷◌, ◌++◌, length, take, drop, Option, Some, None, ◌⊎◌, inl, inr, ⊎_elim, refl, sym, ◌∙◌, ap, subst, arith, length-append, append_assoc}
 use Rattle.std.proofs.lemmas.List.{take_at, drop_at, take-append-drop, length-take-le, append-nil, nil_from_length}
 use Rattle.std.specs.Prelude.{Result, Ok, Err}
 use Rattle.cx_text.specs.declared.places.Place.{Place}
@@ -62,13 +62,13 @@ outcome (suc n) place (b ∷ text) = go_on (outcome n) place (b ∷ text) (item_
 -- one item more
 outcome_step : (n : ℕ) (place : Place) (bytes rest : List ℕ) (found : Option TokenKind) → front_at (bytes ++ rest) ≡ Ok (found, rest) → outcome (suc n) place (bytes ++ rest) ≡ with_token found place (outcome n (after_bytes place bytes) rest)
 outcome_step n place bytes rest found e = within (bytes ++ rest) refl e
-    where
-  parts : take (length (bytes ++ rest) - length rest) (bytes ++ rest) ≡ bytes
-  parts = take_at bytes rest _ (let whole = length-append bytes rest in omega arith)
+  where
+    parts : take (length (bytes ++ rest) - length rest) (bytes ++ rest) ≡ bytes
+    parts = take_at bytes rest _ (let whole = length-append bytes rest in omega arith)
 
-  within : (text : List ℕ) → text ≡ bytes ++ rest → front_at text ≡ Ok (found, rest) → outcome (suc n) place text ≡ with_token found place (outcome n (after_bytes place bytes) rest)
-  within [] whole h = absurd (cc)
-  within (b ∷ text) whole h = ap (go_on (outcome n) place (b ∷ text)) h ∙ ap (λ t. with_token found place (outcome n (after_bytes place (take (length t - length rest) t)) rest)) whole ∙ ap (λ bs. with_token found place (outcome n (after_bytes place bs) rest)) parts
+    within : (text : List ℕ) → text ≡ bytes ++ rest → front_at text ≡ Ok (found, rest) → outcome (suc n) place text ≡ with_token found place (outcome n (after_bytes place bytes) rest)
+    within [] whole h = absurd (cc)
+    within (b ∷ text) whole h = ap (go_on (outcome n) place (b ∷ text)) h ∙ ap (λ t. with_token found place (outcome n (after_bytes place (take (length t - length rest) t)) rest)) whole ∙ ap (λ bs. with_token found place (outcome n (after_bytes place bs) rest)) parts
 
 pub tokens_outcome : {place : Place} {text : List ℕ} {tokens : List Token} → HasTokens place text tokens → (n : ℕ) → length text ≤ n → outcome n place text ≡ Ok tokens
 tokens_outcome ended zero le = refl
@@ -122,14 +122,14 @@ either_within : (n : ℕ) (place : Place) (text : List ℕ) → length text ≤ 
 either_within n place [] le = inl ([], ended)
 either_within zero place (b ∷ text) le = absurd (omega arith)
 either_within (suc n) place (b ∷ text) le = reads (λ behind h. either_within n behind.0 behind.1 h) (item_at b text) (item_reads b text)
-    where
-  reads : ((behind : Place × List ℕ) → length behind.1 ≤ n → HasEither behind.0 behind.1) → (r : Read) → Reads (b ∷ text) r → HasEither place (b ∷ text)
-  reads shorter (Err kind) h = inr (kind, place, here h)
-  reads shorter (Ok x) h =
-      let some = item_some x.0 h.bytes x.1 h.item in
-      let whole = ap length h.whole in
-      let parts = length-append h.bytes x.1 in
-      subst (HasEither place) (sym h.whole) (front_item place x.0 h.bytes x.1 h.item (shorter (after_bytes place h.bytes, x.1) (omega arith)))
+  where
+    reads : ((behind : Place × List ℕ) → length behind.1 ≤ n → HasEither behind.0 behind.1) → (r : Read) → Reads (b ∷ text) r → HasEither place (b ∷ text)
+    reads shorter (Err kind) h = inr (kind, place, here h)
+    reads shorter (Ok x) h =
+        let some = item_some x.0 h.bytes x.1 h.item in
+        let whole = ap length h.whole in
+        let parts = length-append h.bytes x.1 in
+        subst (HasEither place) (sym h.whole) (front_item place x.0 h.bytes x.1 h.item (shorter (after_bytes place h.bytes, x.1) (omega arith)))
 
 pub tokens_or_fault : (text : List ℕ) → ((tokens : List Token) × Lex text tokens) ⊎ ((kind : LexKind) × (place : Place) × FirstFault text kind place)
 tokens_or_fault text = either_within (length text) start text (omega arith)
@@ -189,7 +189,7 @@ pub record StepsTo (text : List ℕ) (read : ℕ) (rest : List ℕ) (done : List
   pub so_far : LexedSoFar text (read + (length rest - length behind)) behind (done ++ added found (place_at text read))
 
 pub LexedSoFar-steps : (text : List ℕ) (read : ℕ) (rest : List ℕ) (done : List Token) (b : ℕ) (after : List ℕ) (found : Option TokenKind) (behind : List ℕ)
-  → LexedSoFar text read rest done → rest ≡ b ∷ after → item_at b after ≡ Ok (found, behind) → StepsTo text read rest done found behind
+    → LexedSoFar text read rest done → rest ≡ b ∷ after → item_at b after ≡ Ok (found, behind) → StepsTo text read rest done found behind
 LexedSoFar-steps text read rest done b after found behind so_far e is =
     let taken : Taken (b ∷ after) found behind = subst (Reads (b ∷ after)) is (item_reads b after) in
     let whole : rest ≡ taken.bytes ++ behind = e ∙ taken.whole in
@@ -203,7 +203,7 @@ LexedSoFar-steps text read rest done b after found behind so_far e is =
 
 -- at a byte that begins a fault, the text's first fault is here
 pub LexedSoFar-fault : (text : List ℕ) (read : ℕ) (rest : List ℕ) (done : List Token) (b : ℕ) (after : List ℕ) (kind : LexKind)
-  → LexedSoFar text read rest done → rest ≡ b ∷ after → item_at b after ≡ Err kind → FirstFault text kind (place_at text read)
+    → LexedSoFar text read rest done → rest ≡ b ∷ after → item_at b after ≡ Err kind → FirstFault text kind (place_at text read)
 LexedSoFar-fault text read rest done b after kind so_far e is =
     let fault : IsFault (b ∷ after) kind = subst (Reads (b ∷ after)) is (item_reads b after) in
     so_far.fault kind (place_at text read) (here (subst (λ t. IsFault t kind) (sym e) fault))
@@ -221,7 +221,7 @@ pub Lexing-start : (text : List ℕ) → Lexing text (record { text = text; read
 Lexing-start text = record { same = refl; so_far = LexedSoFar-start text }
 
 pub Lexing-fault : (text : List ℕ) (cursor : Reading) (rest : List ℕ) (done : List Token) (b : ℕ) (after : List ℕ) (kind : LexKind) (place : Place)
-  → Lexing text cursor rest done → rest ≡ b ∷ after → Err kind ≡ item_at b after → place ≡ place_at cursor.text cursor.read → FirstFault text kind place
+    → Lexing text cursor rest done → rest ≡ b ∷ after → Err kind ≡ item_at b after → place ≡ place_at cursor.text cursor.read → FirstFault text kind place
 Lexing-fault text cursor rest done b after kind place lexing e is at =
     subst (FirstFault text kind) (sym (at ∙ ap (λ t. place_at t cursor.read) lexing.same)) (LexedSoFar-fault text cursor.read rest done b after kind lexing.so_far e (sym is))
 
@@ -232,7 +232,7 @@ pub record Advances (text : List ℕ) (cursor : Reading) (rest : List ℕ) (done
   pub next : (later : Reading) (tokens : List Token) → later ≡ record { text = cursor.text; read = cursor.read + (length rest - length behind) } → tokens ≡ done ++ added found place → Lexing text later behind tokens
 
 pub Lexing-advances : (text : List ℕ) (cursor : Reading) (rest : List ℕ) (done : List Token) (b : ℕ) (after : List ℕ) (found : Option TokenKind) (behind : List ℕ) (place : Place)
-  → Lexing text cursor rest done → rest ≡ b ∷ after → Ok (found, behind) ≡ item_at b after → place ≡ place_at cursor.text cursor.read → Advances text cursor rest done found behind place
+    → Lexing text cursor rest done → rest ≡ b ∷ after → Ok (found, behind) ≡ item_at b after → place ≡ place_at cursor.text cursor.read → Advances text cursor rest done found behind place
 Lexing-advances text cursor rest done b after found behind place lexing e is at =
     let steps = LexedSoFar-steps text cursor.read rest done b after found behind lexing.so_far e (sym is) in
     let here : place ≡ place_at text cursor.read = at ∙ ap (λ t. place_at t cursor.read) lexing.same in

@@ -56,7 +56,12 @@ fn skip(cursor: &mut Cursor<'_>, count: usize)
 }
 
 // Adds the token, where what was found is one.
-fn push(alloc: Global, tokens: &mut Vec<Token>, found: Found<'_>, place: Place) -> Result<(), Memory>
+fn push(
+    alloc: Global,
+    tokens: &mut Vec<Token>,
+    found: Found<'_>,
+    place: Place,
+) -> Result<(), Memory>
     ensures ok { OnOk result (tokens.new.items ≡ tokens.old.items ++ added (kind_of found.entry) place) }
     ensures err { OnErr result (tokens.new.items ≡ tokens.old.items) }
 {
@@ -90,5 +95,4 @@ pub fn one_reading()
         → Lex text tokens → ¬ FirstFault text kind place }
     ensures fault { (text : List ℕ) (kind other : KindValue) (place elsewhere : PlaceValue)
         → FirstFault text kind place → FirstFault text other elsewhere → (kind ≡ other) × (place ≡ elsewhere) }
-{
-}
+{}

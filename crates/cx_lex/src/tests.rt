@@ -1,14 +1,13 @@
 //! What no clause says: that the text's tokens are answered where there is memory.
 
 use crate::{LexFault, LexKind, Sign, Token, TokenKind, lex};
-use cx_text::{Name, Place};
+use cx_text::{DESIGN_BYTES, Name, Place};
 use std::alloc::Global;
+use std::process::Abort;
 use std::test::Fail;
 
 fn word(alloc: Global, bytes: &[u8]) -> Result<TokenKind, Fail> {
-    Ok(TokenKind::Word(
-        Name::from_bytes(alloc, bytes).ok().ok_or("memory")?,
-    ))
+    Ok(TokenKind::Word(Name::from_bytes(alloc, bytes).ok().ok_or("memory")?))
 }
 
 // Whether two kinds are of one token.
@@ -26,7 +25,8 @@ fn same(a: &TokenKind, b: &TokenKind) -> bool {
 // Worked by hand: kinds in order, each with its line and column.
 #[test]
 fn tokens_have_their_places(rt: HostRuntime) -> Result<(), Fail> {
-    let text = b"cell /* a\n* **/r1=std_reg(32); // end\r\n\tg[done]>=8'hFF?4'b1010->\"a\t\xff\" 6'o17 00042<= <";
+    let text =
+        b"cell /* a\n* **/r1=std_reg(32); // end\r\n\tg[done]>=8'hFF?4'b1010->\"a\t\xff\" 6'o17 00042<= <";
     let wanted = [
         (1, 1, word(rt.alloc(), b"cell")?),
         (2, 6, word(rt.alloc(), b"r1")?),
@@ -45,7 +45,15 @@ fn tokens_have_their_places(rt: HostRuntime) -> Result<(), Fail> {
         (3, 16, TokenKind::Sign(Sign::Question)),
         (3, 17, TokenKind::Literal(4, 10)),
         (3, 24, TokenKind::Sign(Sign::Arrow)),
-        (3, 26, TokenKind::Text(Name::from_bytes(rt.alloc(), b"a\t\xff").ok().ok_or("memory")?)),
+        (
+            3,
+            26,
+            TokenKind::Text(
+                Name::from_bytes(rt.alloc(), b"a\t\xff")
+                    .ok()
+                    .ok_or("memory")?,
+            ),
+        ),
         (3, 32, TokenKind::Literal(6, 15)),
         (3, 38, TokenKind::Number(42)),
         (3, 43, TokenKind::Sign(Sign::LessEqual)),
@@ -55,13 +63,20 @@ fn tokens_have_their_places(rt: HostRuntime) -> Result<(), Fail> {
     assert_eq!(rt; tokens.len(), wanted.len());
     for (token, (line, column, kind)) in tokens.iter().zip(wanted.iter()) {
         assert!(rt; same(&token.kind, kind), "{kind:?}");
-        assert_eq!(rt; token.place, Place { line: *line, column: *column });
+        assert_eq!(rt;
+            token.place,
+            Place {
+                line: *line,
+                column: *column
+            }
+        );
     }
     Ok(())
 }
 
 // How many tokens a text has, or its fault.
-fn outcome(alloc: Global, text: &[u8]) -> Result<usize, LexFault> {
+fn outcome(rt: &impl Abort, alloc: Global, text: &[u8]) -> Result<usize, LexFault> {
+    assert!(rt; text.len() <= DESIGN_BYTES);
     let tokens = lex(alloc, text)?;
     Ok(tokens.len())
 }
@@ -106,10 +121,13 @@ fn faults_are_the_first(rt: HostRuntime) {
         (b"18446744073709551616", fault(LexKind::BadLiteral, 1, 1)),
         (b"4294967296'd0", fault(LexKind::BadLiteral, 1, 1)),
         (b"128'd340282366920938463463374607431768211455", Ok(1)),
-        (b"128'd340282366920938463463374607431768211456", fault(LexKind::BadLiteral, 1, 1)),
+        (
+            b"128'd340282366920938463463374607431768211456",
+            fault(LexKind::BadLiteral, 1, 1),
+        ),
     ];
     for (text, wanted) in cases {
-        assert_eq!(rt; outcome(rt.alloc(), text), wanted);
+        assert_eq!(rt; outcome(&rt, rt.alloc(), text), wanted);
     }
 }
 
@@ -117,13 +135,22 @@ fn faults_are_the_first(rt: HostRuntime) {
 #[test]
 fn names_have_255_bytes(rt: HostRuntime) -> Result<(), Fail> {
     let mut text = vec![in rt.alloc(); b'a'; 255]?;
-    assert_eq!(rt; outcome(rt.alloc(), &text), Ok(1));
+    assert_eq!(rt; outcome(&rt, rt.alloc(), &text), Ok(1));
     text.push(b'_')?;
-    assert_eq!(rt; outcome(rt.alloc(), &text), fault(LexKind::BadLiteral, 1, 1));
+    assert_eq!(rt;
+        outcome(&rt, rt.alloc(), &text),
+        fault(LexKind::BadLiteral, 1, 1)
+    );
     let mut quoted = vec![in rt.alloc(); b'"'; 1]?;
     quoted.extend_from_slice(&text)?;
-    assert_eq!(rt; outcome(rt.alloc(), &quoted), fault(LexKind::OpenString, 1, 1));
+    assert_eq!(rt;
+        outcome(&rt, rt.alloc(), &quoted),
+        fault(LexKind::OpenString, 1, 1)
+    );
     quoted.push(b'"')?;
-    assert_eq!(rt; outcome(rt.alloc(), &quoted), fault(LexKind::BadLiteral, 1, 1));
+    assert_eq!(rt;
+        outcome(&rt, rt.alloc(), &quoted),
+        fault(LexKind::BadLiteral, 1, 1)
+    );
     Ok(())
 }

@@ -1,6 +1,6 @@
-use Rattle.std.proofs.Common.{◌≡◌, ◌-◌, ◌<◌, [], length, inl, inr, rules, sym, arith}
+use Rattle.std.proofs.Common.{inr, arith}
 use Rattle.cx_lex.specs.Views.{kind_of}
-use Rattle.cx_lex.proofs.WholeLemmas.{Lexing-start, Lexing-fault, Lexing-advances, Lexing-end, one_tokens, no_fault, same_fault}
+use Rattle.cx_lex.proofs.WholeLemmas.{Lexing-fault, Lexing-advances, Lexing-end, one_tokens, no_fault, same_fault}
 use Rattle.cx_lex.proofs.lexing.lex.Goals as goal
 
 -- a fault is the first one of the text
