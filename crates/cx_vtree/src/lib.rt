@@ -1,0 +1,14 @@
+//! The Verilog subset: its tree, what it means, and the sources that keep every rule of it.
+#![tactic(auto)]
+
+mod exprs;
+mod modules;
+mod operators;
+mod sources;
+
+pub use exprs::Expr;
+pub use modules::{
+    Conn, Decl, Edge, EdgeItem, Instance, Module, ModulePort, NetAssign,
+};
+pub use operators::Operator;
+pub use sources::External;
