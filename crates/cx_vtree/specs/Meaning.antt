@@ -1,5 +1,5 @@
 -- The value of a net in one cycle.
-use Rattle.std.specs.Prelude.{◌≡◌, ℕ, ◌==◌, nat_lt, List, [], ◌∷◌, Option, Some, None, option_and_then, option_map, if◌then◌else◌, codes}
+use Rattle.std.specs.Prelude.{◌≡◌, ℕ, ◌<◌, ◌==◌, nat_lt, IsSome, List, [], ◌∷◌, Option, Some, None, option_and_then, option_map, if◌then◌else◌, codes}
 use Rattle.cx_bits.specs.BitVector.{BitVector}
 use Rattle.cx_vtree.specs.Plain.{PlainExpr, Named, Number, Part, Word, Applied, Inverted, Chosen, Joined, PlainDecl, WireOf, RegisterOf, ArrayOf}
 use Rattle.cx_vtree.specs.Operators.{operate, inverted, part_of, joined}
@@ -99,3 +99,20 @@ pub data Asks (tree : List Placed) (m : Moment) (i : ℕ) : PlainExpr → List �
 pub data Needs (tree : List Placed) (m : Moment) : ℕ → List ℕ → ℕ → List ℕ → Type 0 where
   when_tied : {i j : ℕ} {name net : List ℕ} → origin_of tree i name ≡ Some (Tied j net) → Needs tree m i name j net
   when_given : {i : ℕ} {name net : List ℕ} {e : PlainExpr} → origin_of tree i name ≡ Some (Given e) → Asks tree m i e net → Needs tree m i name i net
+
+-- a rank goes down along what is needed, and what is needed is a net that something drives
+abbrev pub GoesDown : List Placed → Moment → (ℕ → List ℕ → ℕ) → Type 0
+GoesDown tree m rank = (i : ℕ) (name : List ℕ) (j : ℕ) (net : List ℕ) → Needs tree m i name j net → (rank j net < rank i name) × IsSome (origin_of tree j net)
+
+-- a net has one value at most
+abbrev pub OneValue : Type 0
+OneValue = (tree : List Placed) (m : Moment) (i : ℕ) (name : List ℕ) (v w : BitVector) → HasValue tree m i name v → HasValue tree m i name w → v ≡ w
+
+-- an expression has one value at most
+abbrev pub OneEval : Type 0
+OneEval = (tree : List Placed) (m : Moment) (i : ℕ) (e : PlainExpr) (v w : BitVector) → Eval tree m i e v → Eval tree m i e w → v ≡ w
+
+-- where a rank goes down along what is needed in this cycle, each net that something drives has a value
+abbrev pub RankedHave : Type 0
+RankedHave = (tree : List Placed) (m : Moment) (rank : ℕ → List ℕ → ℕ) → GoesDown tree m rank
+           → (i : ℕ) (name : List ℕ) → IsSome (origin_of tree i name) → (v : BitVector) × HasValue tree m i name v

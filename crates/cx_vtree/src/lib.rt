@@ -2,11 +2,13 @@
 #![tactic(auto)]
 
 mod exprs;
+mod laws;
 mod modules;
 mod operators;
 mod sources;
 
 pub use exprs::Expr;
+pub use laws::{one_value, ranked};
 pub use modules::{
     Conn, Decl, Edge, EdgeItem, Instance, Module, ModulePort, NetAssign,
 };
