@@ -86,3 +86,7 @@ pub data SimRun (source : PlainSource) (loaded : List (List ℕ)) (last : ℕ) :
   loops_in_reset : {i k : ℕ} → IsFirstLoop (instances_of source) (resetting (start_state source loaded)) i k → SimRun source loaded last (LoopAt i k)
   after_reset : {o : Outcome} (look : Look) → IsWhole (instances_of source) (resetting (start_state source loaded)) look
               → RunsFrom source (state_after (instances_of source) (resetting (start_state source loaded)) look) 0 last o → SimRun source loaded last o
+
+-- a run has one outcome at most
+abbrev pub OneOutcome : Type 0
+OneOutcome = (source : PlainSource) (loaded : List (List ℕ)) (last : ℕ) (o q : Outcome) → SimRun source loaded last o → SimRun source loaded last q → o ≡ q

@@ -8,7 +8,7 @@ mod operators;
 mod sources;
 
 pub use exprs::Expr;
-pub use laws::{one_value, ranked};
+pub use laws::{one_outcome, one_value, ranked};
 pub use modules::{
     Conn, Decl, Edge, EdgeItem, Instance, Module, ModulePort, NetAssign,
 };
