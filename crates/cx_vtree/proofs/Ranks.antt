@@ -1,14 +1,13 @@
 -- Where a rank goes down along what is needed, each net has a value.
-use Rattle.std.proofs.Common.{◌≡◌, ℕ, ◌+◌, ◌<◌, ◌≤◌, zero, suc, ◌==◌, Bool, true, false, List, [], ◌∷◌, Option, Some, None, option_and_then, option_map, refl, ap, sym, ◌∙◌, subst, if◌then◌else◌, arith, ⊎_elim}
-use Rattle.std.proofs.lemmas.Bool.{eqb-true, ne_eqb}
+use Rattle.std.proofs.Common.{◌≡◌, ℕ, ◌+◌, ◌<◌, zero, suc, ◌==◌, Bool, true, false, List, Option, Some, None, option_and_then, option_map, refl, ap, ◌∙◌, if◌then◌else◌, arith, ⊎_elim}
 use Rattle.std.proofs.lemmas.Bool.Decides.{eqb_tells}
 use Rattle.std.specs.Prelude.{IsSome}
 use Rattle.cx_bits.specs.BitVector.{BitVector}
 use Rattle.cx_vtree.specs.Plain.{PlainExpr, Named, Number, Part, Word, Applied, Inverted, Chosen, Joined}
 use Rattle.cx_vtree.specs.Operators.{operate, inverted, part_of, joined}
 use Rattle.cx_vtree.specs.InstanceTree.{Placed, decls_at, Origin, Outside, Tied, Held, Given, origin_of}
-use Rattle.cx_vtree.specs.Meaning.{State, Moment, Look, word_in, expr_in, expr_at, from_origin, step, HasValue, by_step, IsRight, Eval, by_nets, Asks, by_name, by_part, by_index, by_left, by_right, by_inner, by_test, by_one, by_other, by_high, by_low, Needs, when_tied, when_given, GoesDown}
-use Rattle.cx_vtree.proofs.Values.{Agree, one_value, right_agree}
+use Rattle.cx_vtree.specs.Meaning.{Moment, Look, word_in, expr_in, expr_at, from_origin, step, HasValue, by_step, IsRight, Eval, by_nets, Asks, by_name, by_part, by_index, by_left, by_right, by_inner, by_test, by_one, by_other, by_high, by_low, when_tied, when_given, GoesDown}
+use Rattle.cx_vtree.proofs.Values.{Agree, right_agree}
 
 -- what one of two looks knows
 abbrev first_of : {A : Type 0} → Option A → Option A → Option A
@@ -69,14 +68,15 @@ module _ (tree : List Placed) (m : Moment) where
 
   -- two expressions by one look
   together : (i : ℕ) (a b : PlainExpr) → (ka : Known i a) → (kb : Known i b)
-           → (look : Look) × IsRight tree m look × (expr_at tree m look i a ≡ Some ka.0) × (expr_at tree m look i b ≡ Some kb.0)
+      → (look : Look) × IsRight tree m look × (expr_at tree m look i a ≡ Some ka.0) × (expr_at tree m look i b ≡ Some kb.0)
   together i a b ka kb =
       let look : Look = both_of ka.1 kb.1 in
-      let words : List ℕ → ℕ → BitVector = word_in (m.state.word i) (decls_at tree i) in
-      ( look,
+      let words : List ℕ → ℕ → BitVector = word_in (m.state.word i) (decls_at tree i) in (
+        look,
         right_both ka.1 kb.1 ka.2 kb.2,
         within_expr (ka.1 i) (look i) words (λ n. within_first (ka.1 i n) (kb.1 i n)) a ka.0 ka.3,
-        within_expr (kb.1 i) (look i) words (λ n. within_second (ka.1 i n) (kb.1 i n) (right_agree tree m ka.1 kb.1 ka.2 kb.2 i n)) b kb.0 kb.3 )
+        within_expr (kb.1 i) (look i) words (λ n. within_second (ka.1 i n) (kb.1 i n) (right_agree tree m ka.1 kb.1 ka.2 kb.2 i n)) b kb.0 kb.3,
+      )
 
   abbrev nothing : Look
   nothing j n = None
@@ -89,22 +89,28 @@ module _ (tree : List Placed) (m : Moment) where
 
   -- a choice by its test and the side that it takes
   known_choice : (i : ℕ) (c a b : PlainExpr) (kc : Known i c)
-               → ((kc.0.value ≡ 0 → ⊥) → Known i a) → (kc.0.value ≡ 0 → Known i b) → Known i (Chosen c a b)
+      → ((kc.0.value ≡ 0 → ⊥) → Known i a) → (kc.0.value ≡ 0 → Known i b) → Known i (Chosen c a b)
   known_choice i c a b kc ka kb = ⊎_elim
       (λ z.
       let k = kb z.1 in
-      let (look, right, ec, eb) = together i c b kc k in
-      (k.0, look, right,
-       ap (option_and_then (sides look)) ec ∙ ap (λ t. if t then expr_at tree m look i b else expr_at tree m look i a) z.0 ∙ eb))
+      let (look, right, ec, eb) = together i c b kc k in (
+        k.0,
+        look,
+        right,
+        ap (option_and_then (sides look)) ec ∙ ap (λ t. if t then expr_at tree m look i b else expr_at tree m look i a) z.0 ∙ eb,
+      ))
       (λ z.
       let k = ka z.1 in
-      let (look, right, ec, ea) = together i c a kc k in
-      (k.0, look, right,
-       ap (option_and_then (sides look)) ec ∙ ap (λ t. if t then expr_at tree m look i b else expr_at tree m look i a) z.0 ∙ ea))
+      let (look, right, ec, ea) = together i c a kc k in (
+        k.0,
+        look,
+        right,
+        ap (option_and_then (sides look)) ec ∙ ap (λ t. if t then expr_at tree m look i b else expr_at tree m look i a) z.0 ∙ ea,
+      ))
       (eqb_tells kc.0.value 0)
-      where
-    sides : Look → BitVector → Option BitVector
-    sides look t = if t.value == 0 then expr_at tree m look i b else expr_at tree m look i a
+    where
+      sides : Look → BitVector → Option BitVector
+      sides look t = if t.value == 0 then expr_at tree m look i b else expr_at tree m look i a
 
   known_expr : (i : ℕ) (e : PlainExpr) → ((n : List ℕ) → Asks tree m i e n → (v : BitVector) × HasValue tree m i n v) → Known i e
   known_expr i (Named n) h = known_net i n (h n by_name)
@@ -118,9 +124,12 @@ module _ (tree : List Placed) (m : Moment) where
   known_expr i (Applied op a b) h =
       let ka = known_expr i a (λ n q. h n (by_left q)) in
       let kb = known_expr i b (λ n q. h n (by_right q)) in
-      let (look, right, ea, eb) = together i a b ka kb in
-      (operate op ka.0 kb.0, look, right,
-       ap (option_and_then (λ x. option_map (operate op x) (expr_at tree m look i b))) ea ∙ ap (option_map (operate op ka.0)) eb)
+      let (look, right, ea, eb) = together i a b ka kb in (
+        operate op ka.0 kb.0,
+        look,
+        right,
+        ap (option_and_then (λ x. option_map (operate op x) (expr_at tree m look i b))) ea ∙ ap (option_map (operate op ka.0)) eb,
+      )
   known_expr i (Inverted a) h =
       let k = known_expr i a (λ n q. h n (by_inner q)) in (inverted k.0, k.1, k.2, ap (option_map inverted) k.3)
   known_expr i (Chosen c a b) h =
@@ -131,19 +140,22 @@ module _ (tree : List Placed) (m : Moment) where
   known_expr i (Joined a b) h =
       let ka = known_expr i a (λ n q. h n (by_high q)) in
       let kb = known_expr i b (λ n q. h n (by_low q)) in
-      let (look, right, ea, eb) = together i a b ka kb in
-      (joined ka.0 kb.0, look, right,
-       ap (option_and_then (λ x. option_map (joined x) (expr_at tree m look i b))) ea ∙ ap (option_map (joined ka.0)) eb)
+      let (look, right, ea, eb) = together i a b ka kb in (
+        joined ka.0 kb.0,
+        look,
+        right,
+        ap (option_and_then (λ x. option_map (joined x) (expr_at tree m look i b))) ea ∙ ap (option_map (joined ka.0)) eb,
+      )
 
   -- the step of a net, where it is known what gives the net its value
   by_origin : (i : ℕ) (n : List ℕ) (o : Origin) (look : Look) (v : BitVector) → origin_of tree i n ≡ Some o → IsRight tree m look
-            → from_origin tree m look i n o ≡ Some v → (w : BitVector) × HasValue tree m i n w
+      → from_origin tree m look i n o ≡ Some v → (w : BitVector) × HasValue tree m i n w
   by_origin i n o look v is right e = (v, by_step look right (ap (option_and_then (from_origin tree m look i n)) is ∙ e))
 
   module _ (rank : ℕ → List ℕ → ℕ) (down : GoesDown tree m rank) where
     -- a net has a value where all nets of lower rank have
     from_lower : (i : ℕ) (n : List ℕ) → ((j : ℕ) (net : List ℕ) → rank j net < rank i n → IsSome (origin_of tree j net) → (v : BitVector) × HasValue tree m j net v)
-               → (o : Option Origin) → origin_of tree i n ≡ o → IsSome o → (v : BitVector) × HasValue tree m i n v
+        → (o : Option Origin) → origin_of tree i n ≡ o → IsSome o → (v : BitVector) × HasValue tree m i n v
     from_lower i n lower None is some = absurd (cc)
     from_lower i n lower (Some Outside) is some = by_origin i n Outside nothing _ is nothing_right refl
     from_lower i n lower (Some (Tied j net)) is some =

@@ -1,15 +1,15 @@
 -- A run from reset has one outcome at most.
-use Rattle.std.proofs.Common.{◌≡◌, ℕ, ◌+◌, ◌<◌, ◌≤◌, zero, suc, ◌==◌, ◌⊎◌, inl, inr, Bool, true, false, List, [], ◌∷◌, ◌++◌, map, Option, Some, None, option_and_then, option_map, refl, ap, sym, ◌∙◌, subst, if◌then◌else◌, arith, ⊎_elim}
-use Rattle.std.specs.Prelude.{IsSome, slice_get, codes}
+use Rattle.std.proofs.Common.{◌≡◌, ℕ, ◌+◌, ◌<◌, zero, suc, ◌⊎◌, inl, inr, Bool, true, false, List, [], ◌∷◌, ◌++◌, map, Option, Some, None, option_and_then, refl, ap, sym, ◌∙◌, subst, if◌then◌else◌, ⊎_elim}
+use Rattle.std.specs.Prelude.{IsSome, slice_get}
 use Rattle.std.proofs.lemmas.Bool.{cases_order}
 use Rattle.std.specs.Cmp.Lexicographic.{same_text}
 use Rattle.cx_bits.specs.BitVector.{BitVector}
 use Rattle.cx_vtree.specs.Plain.{PlainPort, PlainDecl, WireOf, RegisterOf, ArrayOf, PlainSource}
-use Rattle.cx_vtree.specs.InstanceTree.{Placed, same_name, ports_at, decls_at, nets_at, declared_nets, NetKind, declared_kind, kind_in, Origin, origin_by, origin_of, instances_of}
-use Rattle.cx_vtree.specs.Meaning.{State, Moment, resetting, running, Look, from_origin, step, HasValue, by_step, IsRight}
+use Rattle.cx_vtree.specs.InstanceTree.{Placed, same_name, nets_at, declared_nets, NetKind, declared_kind, kind_in, origin_by, origin_of, instances_of}
+use Rattle.cx_vtree.specs.Meaning.{State, Moment, resetting, running, Look, from_origin, HasValue, by_step}
 use Rattle.cx_vtree.specs.Edges.{state_after}
-use Rattle.cx_vtree.specs.SimRun.{Outcome, DoneAt, LoopAt, NotDone, IsFirstLoop, IsWhole, is_done, words_of, start_state, RunsFrom, loops, ends, spent, goes_on, SimRun, loops_in_reset, after_reset}
-use Rattle.cx_vtree.proofs.Values.{one_value, right_agree}
+use Rattle.cx_vtree.specs.SimRun.{Outcome, LoopAt, IsFirstLoop, IsWhole, is_done, start_state, RunsFrom, loops, ends, spent, goes_on, SimRun, loops_in_reset, after_reset}
+use Rattle.cx_vtree.proofs.Values.{right_agree}
 
 -- what a bind that gave something began with
 bind_some : {A B : Type 0} (f : A → Option B) (o : Option A) (y : B) → option_and_then f o ≡ Some y → (x : A) × (o ≡ Some x) × (f x ≡ Some y)

@@ -1,10 +1,10 @@
 -- A net has one value at most, and more knowledge gives no other values.
-use Rattle.std.proofs.Common.{◌≡◌, ℕ, ◌==◌, Bool, true, false, List, [], ◌∷◌, Option, Some, None, option_and_then, option_map, refl, ap, sym, ◌∙◌, subst, if◌then◌else◌}
+use Rattle.std.proofs.Common.{◌≡◌, ℕ, ◌==◌, Bool, true, false, List, Option, Some, None, option_and_then, option_map, refl, ap, ◌∙◌, if◌then◌else◌}
 use Rattle.cx_bits.specs.BitVector.{BitVector}
 use Rattle.cx_vtree.specs.Plain.{PlainExpr, Named, Number, Part, Word, Applied, Inverted, Chosen, Joined}
 use Rattle.cx_vtree.specs.Operators.{operate, inverted, part_of, joined}
 use Rattle.cx_vtree.specs.InstanceTree.{Placed, decls_at, Origin, Outside, Tied, Held, Given, origin_of}
-use Rattle.cx_vtree.specs.Meaning.{State, Moment, Look, word_in, expr_in, expr_at, from_origin, step, HasValue, by_step, IsRight, Eval, by_nets}
+use Rattle.cx_vtree.specs.Meaning.{Moment, Look, word_in, expr_in, expr_at, from_origin, step, HasValue, by_step, IsRight, Eval, by_nets}
 
 -- two answers, where both are there, are one
 abbrev pub Agree : {A : Type 0} → Option A → Option A → Type 0

@@ -1,8 +1,8 @@
 -- The edge that ends a cycle: all registers and words of arrays change at once, by the values before it.
-use Rattle.std.specs.Prelude.{ℕ, ◌==◌, ◌&&◌, nat_lt, not, List, [], ◌∷◌, Bool, false, Option, Some, None, option_and_then, option_map, slice_get, if◌then◌else◌}
+use Rattle.std.specs.Prelude.{ℕ, ◌==◌, nat_lt, not, List, [], ◌∷◌, false, Option, Some, None, option_and_then, slice_get, if◌then◌else◌}
 use Rattle.std.specs.Option.{option_map_or}
 use Rattle.cx_bits.specs.BitVector.{BitVector}
-use Rattle.cx_vtree.specs.Plain.{PlainExpr, PlainDecl, WireOf, RegisterOf, ArrayOf, PlainAssign, PlainStore, PlainItem, SetTo, StoreTo, PlainEdge}
+use Rattle.cx_vtree.specs.Plain.{PlainDecl, WireOf, RegisterOf, ArrayOf, PlainAssign, PlainStore, PlainItem, SetTo, StoreTo, PlainEdge}
 use Rattle.cx_vtree.specs.InstanceTree.{Placed, same_name, decls_at, assigned}
 use Rattle.cx_vtree.specs.Meaning.{State, Moment, Look, expr_at}
 

@@ -5,3 +5,8 @@ pub mod InstanceTree
 pub mod Meaning
 pub mod Edges
 pub mod SimRun
+pub mod Lines
+pub mod Spelling
+pub mod Sound
+pub mod Sources
+pub mod PlainSources

@@ -1,5 +1,5 @@
 -- The value of a net in one cycle.
-use Rattle.std.specs.Prelude.{◌≡◌, ℕ, ◌<◌, ◌==◌, nat_lt, IsSome, List, [], ◌∷◌, Option, Some, None, option_and_then, option_map, if◌then◌else◌, codes}
+use Rattle.std.specs.Prelude.{◌≡◌, ℕ, ◌<◌, ◌==◌, nat_lt, IsSome, List, [], ◌∷◌, Option, Some, option_and_then, option_map, if◌then◌else◌, codes}
 use Rattle.cx_bits.specs.BitVector.{BitVector}
 use Rattle.cx_vtree.specs.Plain.{PlainExpr, Named, Number, Part, Word, Applied, Inverted, Chosen, Joined, PlainDecl, WireOf, RegisterOf, ArrayOf}
 use Rattle.cx_vtree.specs.Operators.{operate, inverted, part_of, joined}
@@ -68,8 +68,8 @@ step tree m look i name = option_and_then (from_origin tree m look i name) (orig
 -- the net of a name in an instance has a value: by one rule from nets that have theirs
 pub data HasValue (tree : List Placed) (m : Moment) : ℕ → List ℕ → BitVector → Type 0 where
   by_step : {i : ℕ} {name : List ℕ} {v : BitVector} (look : Look)
-          → ((j : ℕ) (net : List ℕ) (w : BitVector) → look j net ≡ Some w → HasValue tree m j net w)
-          → step tree m look i name ≡ Some v → HasValue tree m i name v
+      → ((j : ℕ) (net : List ℕ) (w : BitVector) → look j net ≡ Some w → HasValue tree m j net w)
+      → step tree m look i name ≡ Some v → HasValue tree m i name v
 
 -- what is known is so
 abbrev pub IsRight : List Placed → Moment → Look → Type 0
@@ -78,8 +78,8 @@ IsRight tree m look = (j : ℕ) (net : List ℕ) (w : BitVector) → look j net 
 -- an expression of an instance has a value: from nets that have theirs
 pub data Eval (tree : List Placed) (m : Moment) : ℕ → PlainExpr → BitVector → Type 0 where
   by_nets : {i : ℕ} {e : PlainExpr} {v : BitVector} (look : Look)
-          → ((j : ℕ) (net : List ℕ) (w : BitVector) → look j net ≡ Some w → HasValue tree m j net w)
-          → expr_at tree m look i e ≡ Some v → Eval tree m i e v
+      → ((j : ℕ) (net : List ℕ) (w : BitVector) → look j net ≡ Some w → HasValue tree m j net w)
+      → expr_at tree m look i e ≡ Some v → Eval tree m i e v
 
 -- the nets of its instance that an expression needs: of a choice, those of the test and of the chosen side alone
 pub data Asks (tree : List Placed) (m : Moment) (i : ℕ) : PlainExpr → List ℕ → Type 0 where
@@ -115,4 +115,4 @@ OneEval = (tree : List Placed) (m : Moment) (i : ℕ) (e : PlainExpr) (v w : Bit
 -- where a rank goes down along what is needed in this cycle, each net that something drives has a value
 abbrev pub RankedHave : Type 0
 RankedHave = (tree : List Placed) (m : Moment) (rank : ℕ → List ℕ → ℕ) → GoesDown tree m rank
-           → (i : ℕ) (name : List ℕ) → IsSome (origin_of tree i name) → (v : BitVector) × HasValue tree m i name v
+    → (i : ℕ) (name : List ℕ) → IsSome (origin_of tree i name) → (v : BitVector) × HasValue tree m i name v

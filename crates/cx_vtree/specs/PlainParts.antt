@@ -1,7 +1,7 @@
 -- What the Rust types stand for, without where they lie in memory.
-use Rattle.std.specs.Prelude.{ℕ, List, Option, map, option_map}
+use Rattle.std.specs.Prelude.{List, map, option_map}
 use Rattle.cx_text.specs.Loading.{PlainRow}
-use Rattle.cx_vtree.specs.Plain.{PlainExpr, Named, Number, Part, Word, Applied, Inverted, Chosen, Joined, PlainPort, PlainDecl, WireOf, RegisterOf, ArrayOf, PlainAssign, PlainConn, PlainInstance, PlainStore, PlainItem, SetTo, StoreTo, PlainEdge, PlainModule, PlainExternal, PlainSource}
+use Rattle.cx_vtree.specs.Plain.{PlainExpr, Named, Number, Part, Word, Applied, Inverted, Chosen, Joined, PlainPort, PlainDecl, WireOf, RegisterOf, ArrayOf, PlainAssign, PlainConn, PlainInstance, PlainItem, SetTo, StoreTo, PlainEdge, PlainModule, PlainExternal}
 use Rattle.cx_vtree.specs.declared.exprs.Expr.{Expr, Expr-F, fold-Expr}
 use Rattle.cx_vtree.specs.declared.exprs.Expr.TheOpen as open_expr
 use Rattle.cx_vtree.specs.declared.modules.ModulePort.{ModulePort}
@@ -14,7 +14,7 @@ use Rattle.cx_vtree.specs.declared.modules.EdgeItem.{EdgeItem}
 use Rattle.cx_vtree.specs.declared.modules.EdgeItem.TheVariants.{Set, Store}
 use Rattle.cx_vtree.specs.declared.modules.Edge.{Edge}
 use Rattle.cx_vtree.specs.declared.modules.Module.{Module}
-use Rattle.cx_vtree.specs.declared.sources.External.{External}
+use Rattle.cx_vtree.specs.declared.externals.External.{External}
 
 abbrev pub expr_step : Expr-F PlainExpr → PlainExpr
 expr_step (open_expr.Net n) = Named n

@@ -1,5 +1,5 @@
 -- A run from reset, and its answer.
-use Rattle.std.specs.Prelude.{◌≡◌, ℕ, zero, suc, ◌+◌, ◌<◌, ◌==◌, ◌&&◌, ◌⊎◌, List, [], ◌∷◌, Bool, true, false, Option, Some, None, option_and_then, option_map, map, slice_get, slice_index, IsSome, if◌then◌else◌, codes}
+use Rattle.std.specs.Prelude.{◌≡◌, ℕ, zero, suc, ◌+◌, ◌<◌, ◌==◌, ◌&&◌, ◌⊎◌, List, [], ◌∷◌, Bool, true, false, Option, Some, None, map, slice_get, slice_index, IsSome, if◌then◌else◌, codes}
 use Rattle.std.specs.Option.{option_map_or}
 use Rattle.cx_bits.specs.BitVector.{BitVector}
 use Rattle.cx_text.specs.Loading.{word_count}
@@ -75,17 +75,17 @@ start_state source loaded = record { register = λ i name. 0; word = loaded_word
 pub data RunsFrom (source : PlainSource) : State → ℕ → ℕ → Outcome → Type 0 where
   loops : {s : State} {cycle left i k : ℕ} → IsFirstLoop (instances_of source) (running s) i k → RunsFrom source s cycle left (LoopAt i k)
   ends : {s : State} {cycle left : ℕ} (look : Look) → IsWhole (instances_of source) (running s) look → is_done look ≡ true
-       → RunsFrom source s cycle left (DoneAt cycle (words_of source s))
+      → RunsFrom source s cycle left (DoneAt cycle (words_of source s))
   spent : {s : State} {cycle : ℕ} (look : Look) → IsWhole (instances_of source) (running s) look → is_done look ≡ false → RunsFrom source s cycle 0 NotDone
   goes_on : {s : State} {cycle left : ℕ} {o : Outcome} (look : Look) → IsWhole (instances_of source) (running s) look → is_done look ≡ false
-          → RunsFrom source (state_after (instances_of source) (running s) look) (cycle + 1) left o → RunsFrom source s cycle (suc left) o
+      → RunsFrom source (state_after (instances_of source) (running s) look) (cycle + 1) left o → RunsFrom source s cycle (suc left) o
 
 -- the run with these words loaded, in which the cycles 0 to `last` may be looked at. The cycle of the edge with reset
 -- is looked at for a loop, and not for `done`.
 pub data SimRun (source : PlainSource) (loaded : List (List ℕ)) (last : ℕ) : Outcome → Type 0 where
   loops_in_reset : {i k : ℕ} → IsFirstLoop (instances_of source) (resetting (start_state source loaded)) i k → SimRun source loaded last (LoopAt i k)
   after_reset : {o : Outcome} (look : Look) → IsWhole (instances_of source) (resetting (start_state source loaded)) look
-              → RunsFrom source (state_after (instances_of source) (resetting (start_state source loaded)) look) 0 last o → SimRun source loaded last o
+      → RunsFrom source (state_after (instances_of source) (resetting (start_state source loaded)) look) 0 last o → SimRun source loaded last o
 
 -- a run has one outcome at most
 abbrev pub OneOutcome : Type 0

@@ -7,17 +7,14 @@ ghost use Rattle.cx_vtree.specs.SimRun.{OneOutcome};
 pub fn one_value()
     ensures nets { OneValue }
     ensures exprs { OneEval }
-{
-}
+{}
 
 /// Where a rank goes down along what the nets need in a cycle, each net that something drives has a value in it.
 pub fn ranked()
     ensures { RankedHave }
-{
-}
+{}
 
 /// A run from reset has one outcome at most.
 pub fn one_outcome()
     ensures { OneOutcome }
-{
-}
+{}

@@ -2,15 +2,15 @@
 #![tactic(auto)]
 
 mod exprs;
+mod externals;
 mod laws;
 mod modules;
 mod operators;
 mod sources;
 
 pub use exprs::Expr;
+pub use externals::External;
 pub use laws::{one_outcome, one_value, ranked};
-pub use modules::{
-    Conn, Decl, Edge, EdgeItem, Instance, Module, ModulePort, NetAssign,
-};
+pub use modules::{Conn, Decl, Edge, EdgeItem, Instance, Module, ModulePort, NetAssign};
 pub use operators::Operator;
-pub use sources::External;
+pub use sources::Source;
