@@ -7,6 +7,7 @@ pub mod Edges
 pub mod SimRun
 pub mod Lines
 pub mod Spelling
+pub mod Layout
 pub mod Sound
 pub mod Sources
 pub mod PlainSources

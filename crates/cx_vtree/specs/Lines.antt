@@ -86,10 +86,17 @@ decl_text (WireOf n w) = codes "  wire " ++ bounds_text w ++ n ++ codes ";"
 decl_text (RegisterOf n w) = codes "  reg " ++ bounds_text w ++ n ++ codes ";"
 decl_text (ArrayOf n w k) = codes "  reg " ++ bounds_text w ++ n ++ codes " [0:" ++ decimal_text (k - 1) ++ codes "];"
 
+-- how the line of a port begins, and how it ends
+abbrev pub side_text : Bool → List ℕ
+side_text output = if output then codes "  output wire " else codes "  input wire "
+
+abbrev pub comma_text : Bool → List ℕ
+comma_text more = if more then codes "," else []
+
 abbrev pub line_text : Line → List ℕ
 line_text (ExternalLine e) = codes "// external " ++ e.name ++ codes " " ++ e.instance ++ codes " " ++ decimal_text e.width ++ sizes_text e.sizes
 line_text (ModuleLine n) = codes "module " ++ n ++ codes "("
-line_text (PortLine p more) = (if p.output then codes "  output wire " else codes "  input wire ") ++ bounds_text p.width ++ p.name ++ (if more then codes "," else [])
+line_text (PortLine p more) = side_text p.output ++ bounds_text p.width ++ p.name ++ comma_text more
 line_text PortsEnd = codes ");"
 line_text (DeclLine d) = decl_text d
 line_text (AssignLine a) = codes "  assign " ++ a.name ++ codes " = " ++ expr_text a.value ++ codes ";"

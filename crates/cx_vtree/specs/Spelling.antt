@@ -1,13 +1,12 @@
 -- The text of a source: each source has one.
-use Rattle.std.specs.Prelude.{ℕ, List, [], ◌∷◌, ◌++◌, true, false, Option, Some, None, map}
+use Rattle.std.specs.Prelude.{List, [], ◌∷◌, ◌++◌, ◌==◌, not, length, Option, Some, None, ℕ, map}
 use Rattle.cx_vtree.specs.Plain.{PlainPort, PlainItem, SetTo, StoreTo, PlainEdge, PlainModule, PlainSource}
 use Rattle.cx_vtree.specs.Lines.{Line, ExternalLine, ModuleLine, PortLine, PortsEnd, DeclLine, AssignLine, InstanceLine, AlwaysLine, ResetLine, SetLine, ElseLine, StoreLine, BranchesEnd, AlwaysEnd, ModuleEnd, lines_text}
 
 -- every port but the last is followed by a comma
 abbrev pub port_lines : List PlainPort → List Line
 port_lines [] = []
-port_lines (p ∷ []) = PortLine p false ∷ []
-port_lines (p ∷ q ∷ ps) = PortLine p true ∷ port_lines (q ∷ ps)
+port_lines (p ∷ ps) = PortLine p (not (length ps == 0)) ∷ port_lines ps
 
 abbrev pub item_line : PlainItem → Line
 item_line (SetTo a) = SetLine a

@@ -4,6 +4,7 @@
 mod exprs;
 mod externals;
 mod laws;
+mod meanings;
 mod modules;
 mod operators;
 mod sources;
@@ -11,6 +12,7 @@ mod sources;
 pub use exprs::Expr;
 pub use externals::External;
 pub use laws::{one_outcome, one_value, ranked};
+pub use meanings::Meaning;
 pub use modules::{Conn, Decl, Edge, EdgeItem, Instance, Module, ModulePort, NetAssign};
 pub use operators::Operator;
 pub use sources::Source;
