@@ -93,8 +93,12 @@ side_text output = if output then codes "  output wire " else codes "  input wir
 abbrev pub comma_text : Bool → List ℕ
 comma_text more = if more then codes "," else []
 
+-- the words of an external line
+abbrev pub external_text : List ℕ → List ℕ → List ℕ
+external_text name instance = codes "// external " ++ (name ++ codes " ") ++ (instance ++ codes " ")
+
 abbrev pub line_text : Line → List ℕ
-line_text (ExternalLine e) = codes "// external " ++ e.name ++ codes " " ++ e.instance ++ codes " " ++ decimal_text e.width ++ sizes_text e.sizes
+line_text (ExternalLine e) = external_text e.name e.instance ++ decimal_text e.width ++ sizes_text e.sizes
 line_text (ModuleLine n) = codes "module " ++ n ++ codes "("
 line_text (PortLine p more) = side_text p.output ++ bounds_text p.width ++ p.name ++ comma_text more
 line_text PortsEnd = codes ");"

@@ -204,19 +204,17 @@ driven_by_all before (i ∷ rest) = driven_by (ports_of before i.kind) i.conns +
 abbrev pub drivers_in : List PlainModule → PlainModule → List (List ℕ)
 drivers_in before m = map (λ a. a.name) m.assigns ++ driven_by_all before m.instances
 
--- Ports. `fixed` has the ports that a module must begin with.
-abbrev pub wanted_port : Bool → ℕ → Option (List ℕ × Bool)
-wanted_port is_main index =
-    if index == 0 then Some (codes "clk", false)
-    else (if index == 1 then Some (codes "reset", false)
-    else (if not is_main then None
-    else (if index == 2 then Some (codes "go", false)
-    else (if index == 3 then Some (codes "done", true) else Some ([], false)))))
+-- Ports: every module begins with `clk` and `reset`, and `main` has `go` and `done` besides, and no more.
+abbrev pub is_port : List ℕ → Bool → PlainPort → Bool
+is_port name output p = same_name p.name name && (if output then p.output else not p.output)
 
--- a port of `main` or one of the first two of any module is another than it has to be; `main` has four
 abbrev pub wrong_port : Bool → ℕ → PlainPort → Bool
 wrong_port is_main index p =
-    option_map_or (λ (w : List ℕ × Bool). not (same_name w.0 p.name && (if p.output then w.1 else not w.1))) (wanted_port is_main index) false
+    if index == 0 then not (is_port (codes "clk") false p)
+    else (if index == 1 then not (is_port (codes "reset") false p)
+    else (if not is_main then false
+    else (if index == 2 then not (is_port (codes "go") false p)
+    else (if index == 3 then not (is_port (codes "done") true p) else true))))
 
 abbrev pub undriven : List (List ℕ) → List ℕ → Bool
 undriven drivers name = not (has_name drivers name)
@@ -224,7 +222,7 @@ undriven drivers name = not (has_name drivers name)
 abbrev pub port_faults : Bool → List (List ℕ) → List (List ℕ) → ℕ → PlainPort → Faults
 port_faults is_main drivers earlier index p = record {
   name = has_name earlier p.name || wrong_port is_main index p || (p.output && undriven drivers p.name);
-  width = bad_width p.width || (is_some (wanted_port is_main index) && not (p.width == 1));
+  width = bad_width p.width || ((is_main || nat_lt index 2) && not (p.width == 1));
   limit = false;
 }
 
@@ -255,25 +253,33 @@ abbrev pub assigns_faults : Scope → List (List ℕ) → List PlainAssign → L
 assigns_faults scope earlier [] = []
 assigns_faults scope earlier (a ∷ rest) = assign_faults scope earlier a ∷ assigns_faults scope (earlier ++ a.name ∷ []) rest
 
--- Instances: all ports in their order. `clk` goes to `clk` and `reset` to `reset`, which are the first two.
-abbrev pub misconnects : Scope → List (List ℕ) → ℕ → List PlainPort → List PlainConn → Bool
-misconnects scope driven index [] [] = false
-misconnects scope driven index [] (c ∷ cs) = true
-misconnects scope driven index (p ∷ ps) [] = true
-misconnects scope driven index (p ∷ ps) (c ∷ cs) =
+-- Instances: all ports in their order; an input to an input, a wire or a register, `clk` to `clk` and `reset` to `reset`;
+-- an output to a wire that nothing drives before.
+abbrev pub miswired : Scope → PlainPort → PlainConn → Bool
+miswired scope p c =
     not (same_name p.name c.port)
-    || (if p.output then not (is_wire (scope c.net)) || has_name driven c.net else not (is_source (scope c.net)))
-    || (nat_lt index 2 && not (same_name p.name c.net))
-    || misconnects scope (if p.output then driven ++ c.net ∷ [] else driven) (index + 1) ps cs
+    || (if p.output then not (is_wire (scope c.net)) else not (is_source (scope c.net)))
+    || ((same_name p.name (codes "clk") || same_name p.name (codes "reset")) && not (same_name p.name c.net))
+
+abbrev pub misconnects : Scope → List PlainPort → List PlainConn → Bool
+misconnects scope [] cs = not (length cs == 0)
+misconnects scope (p ∷ ps) [] = true
+misconnects scope (p ∷ ps) (c ∷ cs) = miswired scope p c || misconnects scope ps cs
 
 abbrev pub misfits : Scope → List PlainPort → List PlainConn → Bool
 misfits scope [] cs = false
 misfits scope (p ∷ ps) [] = false
 misfits scope (p ∷ ps) (c ∷ cs) = not (p.width == width_of (scope c.net)) || misfits scope ps cs
 
+-- one of the nets is driven before it
+abbrev pub doubles : List (List ℕ) → List (List ℕ) → Bool
+doubles driven [] = false
+doubles driven (n ∷ ns) = has_name driven n || doubles (driven ++ n ∷ []) ns
+
 abbrev pub instance_faults : List PlainModule → Scope → List (List ℕ) → List (List ℕ) → PlainInstance → Faults
 instance_faults before scope earlier driven i = record {
-  name = has_name earlier i.name || is_none (module_named before i.kind) || misconnects scope driven 0 (ports_of before i.kind) i.conns;
+  name = has_name earlier i.name || is_none (module_named before i.kind) || misconnects scope (ports_of before i.kind) i.conns
+      || doubles driven (driven_by (ports_of before i.kind) i.conns);
   width = misfits scope (ports_of before i.kind) i.conns;
   limit = false;
 }
@@ -303,11 +309,18 @@ store_faults scope earlier s = record {
   limit = too_deep s.guard || too_deep s.index || too_deep s.value;
 }
 
+abbrev pub item_faults : Scope → List (List ℕ) → PlainItem → Faults
+item_faults scope earlier (SetTo a) = set_faults scope earlier a
+item_faults scope earlier (StoreTo s) = store_faults scope earlier s
+
+abbrev pub item_name : PlainItem → List ℕ
+item_name (SetTo a) = a.name
+item_name (StoreTo s) = s.array
+
 -- a register and an array never have one name, so one list has what was set and stored before
 abbrev pub items_faults : Scope → List (List ℕ) → List PlainItem → List Faults
 items_faults scope earlier [] = []
-items_faults scope earlier (SetTo a ∷ rest) = set_faults scope earlier a ∷ items_faults scope (earlier ++ a.name ∷ []) rest
-items_faults scope earlier (StoreTo s ∷ rest) = store_faults scope earlier s ∷ items_faults scope (earlier ++ s.array ∷ []) rest
+items_faults scope earlier (i ∷ rest) = item_faults scope earlier i ∷ items_faults scope (earlier ++ item_name i ∷ []) rest
 
 -- as in the text: the lines that open and close the branches break nothing
 abbrev pub edge_faults : Scope → Option PlainEdge → List Faults
@@ -417,7 +430,8 @@ not_this_memory (a ∷ b ∷ rest) e = true
 
 abbrev pub not_this_width : List (ℕ × ℕ) → PlainExternal → Bool
 not_this_width [] e = false
-not_this_width (a ∷ rest) e = not (a.0 == e.width)
+not_this_width (a ∷ []) e = not (a.0 == e.width)
+not_this_width (a ∷ b ∷ rest) e = false
 
 abbrev pub memory_arrays : List PlainModule → PlainExternal → List (ℕ × ℕ)
 memory_arrays modules e = option_map_or (λ m. arrays_in m.decls) (memory_module modules e) []
