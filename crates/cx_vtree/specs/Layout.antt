@@ -1,10 +1,8 @@
 -- What the layout of a text asks of names and of lists.
-use Rattle.std.specs.Prelude.{ℕ, ◌==◌, ◌&&◌, ◌||◌, not, nat_lt, nat_le, List, [], ◌∷◌, Bool, true, false, length, codes}
+use Rattle.std.specs.Prelude.{ℕ, ◌==◌, ◌&&◌, ◌||◌, not, nat_lt, nat_le, List, [], ◌∷◌, Bool, true, false, Option, Some, None, length, codes}
 use Rattle.std.specs.List.{list_any, list_all}
-use Rattle.cx_vtree.specs.Plain.{PlainExpr, Named, Number, Part, Word, Applied, Inverted, Chosen, Joined, PlainPort, PlainDecl, WireOf, RegisterOf, ArrayOf, PlainAssign, PlainConn, PlainInstance, PlainStore, PlainModule, PlainExternal, PlainSource}
+use Rattle.cx_vtree.specs.Plain.{PlainExpr, Named, Number, Part, Word, Applied, Inverted, Chosen, Joined, PlainPort, PlainDecl, WireOf, RegisterOf, ArrayOf, PlainAssign, PlainConn, PlainInstance, PlainStore, PlainItem, SetTo, StoreTo, PlainEdge, PlainModule, PlainExternal, PlainSource}
 use Rattle.cx_vtree.specs.InstanceTree.{same_name}
-use Rattle.cx_vtree.specs.Lines.{Line, ExternalLine, ModuleLine, PortLine, PortsEnd, DeclLine, AssignLine, InstanceLine, AlwaysLine, ResetLine, SetLine, ElseLine, StoreLine, BranchesEnd, AlwaysEnd, ModuleEnd}
-use Rattle.cx_vtree.specs.Spelling.{source_lines}
 
 -- a letter or `_`
 abbrev pub is_letter : ℕ → Bool
@@ -29,45 +27,58 @@ keywords =
     codes "module" ∷ codes "input" ∷ codes "output" ∷ codes "wire" ∷ codes "reg" ∷ codes "assign" ∷ codes "always" ∷ codes "posedge"
     ∷ codes "begin" ∷ codes "end" ∷ codes "if" ∷ codes "else" ∷ codes "endmodule" ∷ []
 
+abbrev pub is_keyword : List ℕ → Bool
+is_keyword n = list_any (λ k. same_name n k) keywords
+
 -- a word that is none of the grammar's own
 abbrev pub is_name : List ℕ → Bool
-is_name n = is_word n && not (list_any (λ k. same_name k n) keywords)
+is_name n = is_word n && not (is_keyword n)
 
-abbrev pub names_fit : PlainExpr → Bool
-names_fit (Named n) = is_name n
-names_fit (Number b) = true
-names_fit (Part n high low) = is_name n
-names_fit (Word n i) = is_name n && names_fit i
-names_fit (Applied op a b) = names_fit a && names_fit b
-names_fit (Inverted a) = names_fit a
-names_fit (Chosen c a b) = names_fit c && names_fit a && names_fit b
-names_fit (Joined a b) = names_fit a && names_fit b
+abbrev pub expr_fits : PlainExpr → Bool
+expr_fits (Named n) = is_name n
+expr_fits (Number b) = true
+expr_fits (Part n high low) = is_name n
+expr_fits (Word n i) = is_name n && expr_fits i
+expr_fits (Applied op a b) = expr_fits a && expr_fits b
+expr_fits (Inverted a) = expr_fits a
+expr_fits (Chosen c a b) = expr_fits c && expr_fits a && expr_fits b
+expr_fits (Joined a b) = expr_fits a && expr_fits b
+
+-- a width and a length are one more than a number of the text
+abbrev pub port_fits : PlainPort → Bool
+port_fits p = is_name p.name && nat_lt 0 p.width
 
 abbrev pub decl_fits : PlainDecl → Bool
 decl_fits (WireOf n w) = is_name n && nat_lt 0 w
 decl_fits (RegisterOf n w) = is_name n && nat_lt 0 w
 decl_fits (ArrayOf n w k) = is_name n && nat_lt 0 w && nat_lt 0 k
 
+abbrev pub assign_fits : PlainAssign → Bool
+assign_fits a = is_name a.name && expr_fits a.value
+
 abbrev pub conn_fits : PlainConn → Bool
 conn_fits c = is_name c.port && is_name c.net
 
-abbrev pub line_fits : Line → Bool
-line_fits (ExternalLine e) = is_word e.name && is_name e.instance && nat_lt 0 (length e.sizes) && nat_le (length e.sizes) 4
-line_fits (ModuleLine n) = is_name n
-line_fits (PortLine p more) = is_name p.name && nat_lt 0 p.width
-line_fits PortsEnd = true
-line_fits (DeclLine d) = decl_fits d
-line_fits (AssignLine a) = is_name a.name && names_fit a.value
-line_fits (InstanceLine i) = is_name i.kind && is_name i.name && nat_lt 0 (length i.conns) && list_all conn_fits i.conns
-line_fits AlwaysLine = true
-line_fits ResetLine = true
-line_fits (SetLine a) = is_name a.name && names_fit a.value
-line_fits ElseLine = true
-line_fits (StoreLine s) = is_name s.array && names_fit s.guard && names_fit s.index && names_fit s.value
-line_fits BranchesEnd = true
-line_fits AlwaysEnd = true
-line_fits ModuleEnd = true
+abbrev pub instance_fits : PlainInstance → Bool
+instance_fits i = is_name i.kind && is_name i.name && nat_lt 0 (length i.conns) && list_all conn_fits i.conns
 
--- a source that some text spells: each line is one of the grammar, there is a module, and each module has a port
+abbrev pub item_fits : PlainItem → Bool
+item_fits (SetTo a) = assign_fits a
+item_fits (StoreTo s) = is_name s.array && expr_fits s.guard && expr_fits s.index && expr_fits s.value
+
+abbrev pub edge_fits : Option PlainEdge → Bool
+edge_fits None = true
+edge_fits (Some e) = list_all assign_fits e.reset && list_all item_fits e.step
+
+abbrev pub module_fits : PlainModule → Bool
+module_fits m =
+    is_name m.name && nat_lt 0 (length m.ports) && list_all port_fits m.ports && list_all decl_fits m.decls && list_all assign_fits m.assigns
+    && list_all instance_fits m.instances && edge_fits m.edge
+
+-- a memory's own name may be one of the grammar's words, since it stands in a comment
+abbrev pub external_fits : PlainExternal → Bool
+external_fits e = is_word e.name && is_name e.instance && nat_lt 0 (length e.sizes) && nat_le (length e.sizes) 4
+
+-- a source that some text spells
 abbrev pub is_laid_out : PlainSource → Bool
-is_laid_out s = list_all line_fits (source_lines s) && nat_lt 0 (length s.modules) && list_all (λ m. nat_lt 0 (length m.ports)) s.modules
+is_laid_out s = list_all external_fits s.externals && nat_lt 0 (length s.modules) && list_all module_fits s.modules

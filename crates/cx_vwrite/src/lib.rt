@@ -9,4 +9,4 @@ mod refusals;
 mod writing;
 
 pub use refusals::WriteRefusal;
-pub use writing::write;
+pub use writing::{spell, write};
