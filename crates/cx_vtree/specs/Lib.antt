@@ -1,0 +1,13 @@
+pub mod Plain
+pub mod PlainParts
+pub mod Operators
+pub mod InstanceTree
+pub mod Meaning
+pub mod Edges
+pub mod SimRun
+pub mod Lines
+pub mod Spelling
+pub mod Layout
+pub mod Sound
+pub mod Sources
+pub mod PlainSources
