@@ -181,8 +181,11 @@ cmp =
     (Choice (mapped (λ _. comparisons.LessEqual) (sign t.LessEqual)) (mapped (λ _. comparisons.GreaterEqual) (sign t.GreaterEqual))))))
 
 -- "%" number | "%" "[" number ":" number "]"
+unfoldable pub window_range : Grammar PlainGuard
+window_range = behind t.OpenBracket (Pair (λ from to. During from to) number (behind t.Colon (before number t.CloseBracket)))
+
 unfoldable pub window : Grammar PlainGuard
-window = behind t.Percent (Choice (mapped (λ n. At n) number) (within t.OpenBracket (Pair (λ from to. During from to) number (behind t.Colon number)) t.CloseBracket))
+window = behind t.Percent (Choice (mapped (λ n. At n) number) window_range)
 
 -- unary = "!" unary | "(" guard ")" | operand | window; here those that do not begin with an operand
 unfoldable pub prefixed : Grammar PlainGuard
@@ -394,9 +397,6 @@ static_rest =
 unfoldable pub static_form : Grammar PlainForm
 static_form = Pair (λ l f. f l) optional_length static_rest
 
-unfoldable pub enable_rest : Grammar (List Mark)
-enable_rest = before marks t.Semicolon
-
 -- a form and its place
 abbrev pub enable_of : Named → List Mark → PlainForm × Place
 enable_of n ms = (plain.Enable n.0 ms, n.1)
@@ -416,15 +416,32 @@ invoke_of p r = (plain.Invoke r.0.0 r.1.0 r.1.1, p)
 abbrev pub form_of : Place → PlainForm → PlainForm × Place
 form_of p f = (f, p)
 
+unfoldable pub enable : Grammar (PlainForm × Place)
+enable = Pair enable_of name (before marks t.Semicolon)
+
+unfoldable pub seq : Grammar (PlainForm × Place)
+seq = Pair seq_of (sign t.Seq) marked_block
+
+unfoldable pub par : Grammar (PlainForm × Place)
+par = Pair par_of (sign t.Par) marked_block
+
+unfoldable pub if_form : Grammar (PlainForm × Place)
+if_form = Pair form_of (sign t.If) if_rest
+
+unfoldable pub while_form : Grammar (PlainForm × Place)
+while_form = Pair form_of (sign t.While) while_rest
+
+unfoldable pub repeat : Grammar (PlainForm × Place)
+repeat = Pair repeat_of (sign t.Repeat) repeat_rest
+
+unfoldable pub invoke : Grammar (PlainForm × Place)
+invoke = Pair invoke_of (sign t.Invoke) invoke_rest
+
+unfoldable pub static_statement : Grammar (PlainForm × Place)
+static_statement = Pair form_of (sign t.Static) static_form
+
 unfoldable pub form : Grammar (PlainForm × Place)
-form =
-    Choice (Pair enable_of name enable_rest)
-    (Choice (Pair seq_of (sign t.Seq) marked_block)
-    (Choice (Pair par_of (sign t.Par) marked_block)
-    (Choice (Pair form_of (sign t.If) if_rest)
-    (Choice (Pair form_of (sign t.While) while_rest)
-    (Choice (Pair repeat_of (sign t.Repeat) repeat_rest)
-    (Choice (Pair invoke_of (sign t.Invoke) invoke_rest) (Pair form_of (sign t.Static) static_form)))))))
+form = Choice enable (Choice seq (Choice par (Choice if_form (Choice while_form (Choice repeat (Choice invoke static_statement))))))
 
 -- stmt = {attr} form
 abbrev pub statement_of : List Attribute → PlainForm × Place → PlainStatement

@@ -1,0 +1,120 @@
+//! Reading assignments.
+
+ghost use Rattle.std.specs.Prelude.{◌≡◌, map, option_map};
+ghost use Rattle.cx_parse.specs.Answers.{Gives, given};
+ghost use Rattle.cx_grammar.specs.Reading.{read, one_at};
+ghost use Rattle.cx_grammar.specs.Calyx.{nested_at, guarded, after_operand, value, bare_assign, assign, assigns};
+ghost use Rattle.cx_ast.specs.PlainGuards.{plain_guard};
+ghost use Rattle.cx_ast.specs.PlainTree.{plain_assign};
+
+use crate::guards::PREFIXED;
+use crate::parsers::Parser;
+use crate::stops::Stop;
+use crate::tokens::{next_in, sign};
+use cx_ast::{AssignItem, Attribute, GuardItem, OperandItem};
+use cx_grammar::Terminal;
+use cx_tokens::Token;
+
+/// The terminals that go on with a guard behind an operand.
+const GUARD_GOES_ON: [Terminal; 9] = [
+    Terminal::EqualEqual,
+    Terminal::NotEqual,
+    Terminal::Less,
+    Terminal::Greater,
+    Terminal::LessEqual,
+    Terminal::GreaterEqual,
+    Terminal::And,
+    Terminal::Or,
+    Terminal::Question,
+];
+
+/// The terminals that an assignment begins with.
+const ASSIGN: [Terminal; 2] = [Terminal::At, Terminal::Name];
+
+/// A guard, where there is one, and a source.
+type Value = (Option<GuardItem>, OperandItem);
+
+impl Parser {
+    /// Reads the rest of a guard behind its first part, and the source.
+    fn guarded(self, first: GuardItem, tokens: &[Token]) -> Result<(Value, &[Token]), Stop>
+        ensures value { Gives (λ x. ((option_map plain_guard x.0.0, x.0.1), x.1.now)) result (given (plain_guard first) (read (nested_at self.levels) guarded tokens.now)) }
+    {
+        let (conj, rest) = self.more_comps(first, tokens)?;
+        let (guard, rest) = self.more_conjs(conj, rest)?;
+        let (_, rest) = sign(rest, Terminal::Question)?;
+        let (source, rest) = self.operand(rest)?;
+        Ok(((Some(guard), source), rest))
+    }
+
+    /// Reads what follows the first operand of a value.
+    fn after_operand(self, first: OperandItem, tokens: &[Token]) -> Result<(Value, &[Token]), Stop>
+        ensures value { Gives (λ x. ((option_map plain_guard x.0.0, x.0.1), x.1.now)) result (given first (read (nested_at self.levels) after_operand tokens.now)) }
+    {
+        if next_in(tokens, &GUARD_GOES_ON) {
+            let (part, rest) = self.compared(first, tokens)?;
+            self.guarded(part, rest)
+        } else {
+            Ok(((None, first), tokens))
+        }
+    }
+
+    /// Reads what follows the `=` of an assignment.
+    fn value(self, tokens: &[Token]) -> Result<(Value, &[Token]), Stop>
+        ensures value { Gives (λ x. ((option_map plain_guard x.0.0, x.0.1), x.1.now)) result ((read (nested_at self.levels) value tokens.now)) }
+    {
+        if next_in(tokens, &PREFIXED) {
+            let (first, rest) = self.prefixed(tokens)?;
+            self.guarded(first, rest)
+        } else {
+            let (first, rest) = self.operand(tokens)?;
+            self.after_operand(first, rest)
+        }
+    }
+
+    /// Reads an assignment behind its attributes.
+    pub fn bare_assign(
+        self,
+        attributes: Vec<Attribute>,
+        tokens: &[Token],
+    ) -> Result<(AssignItem, &[Token]), Stop>
+        ensures value { Gives (λ x. (plain_assign x.0, x.1.now)) result (given attributes.items (read (nested_at self.levels) bare_assign tokens.now)) }
+    {
+        let (target, rest) = self.target(tokens)?;
+        let (_, rest) = sign(rest, Terminal::Equal)?;
+        let ((guard, source), rest) = self.value(rest)?;
+        let (_, rest) = sign(rest, Terminal::Semicolon)?;
+        let place = target.place;
+        Ok((
+            AssignItem {
+                attributes,
+                target,
+                guard,
+                source,
+                place,
+            },
+            rest,
+        ))
+    }
+
+    /// Reads an assignment.
+    fn assign(self, tokens: &[Token]) -> Result<(AssignItem, &[Token]), Stop>
+        ensures value { Gives (λ x. (plain_assign x.0, x.1.now)) result ((read (nested_at self.levels) assign tokens.now)) }
+    {
+        let (attributes, rest) = self.attributes(tokens)?;
+        self.bare_assign(attributes, rest)
+    }
+
+    /// Reads the assignments of a group.
+    pub fn assigns(self, tokens: &[Token]) -> Result<(Vec<AssignItem>, &[Token]), Stop>
+        ensures value { Gives (λ x. (map plain_assign x.0.items, x.1.now)) result ((read (nested_at self.levels) assigns tokens.now)) }
+    {
+        let mut all = Vec::new(self.alloc);
+        let mut rest = tokens;
+        while next_in(rest, &ASSIGN) {
+            let (assign, after) = self.assign(rest)?;
+            all.push(assign)?;
+            rest = after;
+        }
+        Ok((all, rest))
+    }
+}

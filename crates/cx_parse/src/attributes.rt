@@ -1,0 +1,123 @@
+//! Reading attributes, marks and imports.
+
+ghost use Rattle.std.specs.Prelude.{◌≡◌, [], ◌∷◌};
+ghost use Rattle.cx_parse.specs.Answers.{Gives, with_front, given};
+ghost use Rattle.cx_grammar.specs.Reading.{read, one_at};
+ghost use Rattle.cx_grammar.specs.Calyx.{nested_at, attribute_number, attribute, attributes, mark, more_marks, marks, import, length_of, optional_length};
+
+use crate::parsers::Parser;
+use crate::stops::Stop;
+use crate::tokens::{next_is, number, sign, text, word};
+use cx_ast::{Attribute, ImportItem, Mark};
+use cx_grammar::Terminal;
+use cx_tokens::Token;
+
+impl Parser {
+    /// Reads the number of an attribute, where there is one.
+    fn attribute_number(self, tokens: &[Token]) -> Result<(Option<u64>, &[Token]), Stop>
+        ensures value { Gives (λ x. (x.0, x.1.now)) result ((read (nested_at self.levels) attribute_number tokens.now)) }
+    {
+        if !next_is(tokens, Terminal::OpenParen) {
+            return Ok((None, tokens));
+        }
+        let (_, rest) = sign(tokens, Terminal::OpenParen)?;
+        let (n, rest) = number(rest)?;
+        let (_, rest) = sign(rest, Terminal::CloseParen)?;
+        Ok((Some(n), rest))
+    }
+
+    /// Reads an attribute.
+    fn attribute(self, tokens: &[Token]) -> Result<(Attribute, &[Token]), Stop>
+        ensures value { Gives (λ x. (x.0, x.1.now)) result ((read (nested_at self.levels) attribute tokens.now)) }
+    {
+        let (_, rest) = sign(tokens, Terminal::At)?;
+        let (name, rest) = word(self.alloc, rest)?;
+        let (number, rest) = self.attribute_number(rest)?;
+        Ok((Attribute { name, number }, rest))
+    }
+
+    /// Reads the attributes before a part.
+    pub fn attributes(self, tokens: &[Token]) -> Result<(Vec<Attribute>, &[Token]), Stop>
+        ensures value { Gives (λ x. (x.0.items, x.1.now)) result ((read (nested_at self.levels) attributes tokens.now)) }
+    {
+        let mut all = Vec::new(self.alloc);
+        let mut rest = tokens;
+        while next_is(rest, Terminal::At) {
+            let (attribute, after) = self.attribute(rest)?;
+            all.push(attribute)?;
+            rest = after;
+        }
+        Ok((all, rest))
+    }
+
+    /// Reads a mark.
+    fn mark(self, tokens: &[Token]) -> Result<(Mark, &[Token]), Stop>
+        ensures value { Gives (λ x. (x.0, x.1.now)) result ((read (nested_at self.levels) mark tokens.now)) }
+    {
+        let (name, rest) = text(self.alloc, tokens)?;
+        let (_, rest) = sign(rest, Terminal::Equal)?;
+        let (number, rest) = number(rest)?;
+        Ok((Mark { name, number }, rest))
+    }
+
+    /// Reads the marks behind the first.
+    fn more_marks(self, first: Mark, tokens: &[Token]) -> Result<(Vec<Mark>, &[Token]), Stop>
+        ensures value { Gives (λ x. (x.0.items, x.1.now)) result (with_front (first ∷ []) (read (nested_at self.levels) more_marks tokens.now)) }
+    {
+        let mut all = Vec::new(self.alloc);
+        all.push(first)?;
+        let mut rest = tokens;
+        while next_is(rest, Terminal::Comma) {
+            let (_, after) = sign(rest, Terminal::Comma)?;
+            let (mark, after) = self.mark(after)?;
+            all.push(mark)?;
+            rest = after;
+        }
+        Ok((all, rest))
+    }
+
+    /// Reads the marks behind a name, where there are some.
+    pub fn marks(self, tokens: &[Token]) -> Result<(Vec<Mark>, &[Token]), Stop>
+        ensures value { Gives (λ x. (x.0.items, x.1.now)) result ((read (nested_at self.levels) marks tokens.now)) }
+    {
+        if !next_is(tokens, Terminal::Less) {
+            return Ok((Vec::new(self.alloc), tokens));
+        }
+        let (_, rest) = sign(tokens, Terminal::Less)?;
+        let (first, rest) = self.mark(rest)?;
+        let (all, rest) = self.more_marks(first, rest)?;
+        let (_, rest) = sign(rest, Terminal::Greater)?;
+        Ok((all, rest))
+    }
+
+    /// Reads a length in cycles.
+    pub fn length_of(self, tokens: &[Token]) -> Result<(u64, &[Token]), Stop>
+        ensures value { Gives (λ x. (x.0, x.1.now)) result ((read (nested_at self.levels) length_of tokens.now)) }
+    {
+        let (_, rest) = sign(tokens, Terminal::Less)?;
+        let (n, rest) = number(rest)?;
+        let (_, rest) = sign(rest, Terminal::Greater)?;
+        Ok((n, rest))
+    }
+
+    /// Reads a length in cycles, where there is one.
+    pub fn optional_length(self, tokens: &[Token]) -> Result<(Option<u64>, &[Token]), Stop>
+        ensures value { Gives (λ x. (x.0, x.1.now)) result ((read (nested_at self.levels) optional_length tokens.now)) }
+    {
+        if !next_is(tokens, Terminal::Less) {
+            return Ok((None, tokens));
+        }
+        let (n, rest) = self.length_of(tokens)?;
+        Ok((Some(n), rest))
+    }
+
+    /// Reads an import.
+    pub fn import(self, tokens: &[Token]) -> Result<(ImportItem, &[Token]), Stop>
+        ensures value { Gives (λ x. (x.0, x.1.now)) result ((read (nested_at self.levels) import tokens.now)) }
+    {
+        let (place, rest) = sign(tokens, Terminal::Import)?;
+        let (path, rest) = text(self.alloc, rest)?;
+        let (_, rest) = sign(rest, Terminal::Semicolon)?;
+        Ok((ImportItem { path, place }, rest))
+    }
+}

@@ -1,0 +1,122 @@
+//! Reading a whole file.
+
+ghost use Rattle.std.specs.Prelude.{◌≡◌, ◌<◌, ◌^◌, [], ◌∷◌, length, map};
+ghost use Rattle.cx_parse.specs.Answers.{Gives, with_front, whole_at, place_left_of};
+ghost use Rattle.cx_grammar.specs.Reading.{read, one_at};
+ghost use Rattle.cx_grammar.specs.Calyx.{nested_at, imports, components, file};
+ghost use Rattle.cx_ast.specs.PlainTree.{plain_tree, plain_component};
+
+use crate::parsers::Parser;
+use crate::stops::Stop;
+use crate::tokens::{next_in, next_is};
+use cx_ast::{ComponentItem, ImportItem, Tree};
+use cx_grammar::Terminal;
+use cx_text::{NESTING, Place};
+use cx_tokens::Token;
+use std::alloc::Global;
+
+/// The terminals that a component begins with.
+const COMPONENT: [Terminal; 3] = [Terminal::At, Terminal::Static, Terminal::Component];
+
+/// Why tokens are no file that is read.
+#[derive(Clone, Copy, Debug, PartialEq, Eq)]
+pub enum ParseFault {
+    /// The place of the first token with which the tokens so far begin no file. Where the end comes too early, it is that
+    /// of the last token, and 1:1 where there is none.
+    Unexpected(Place),
+    /// The place of the token that begins the first level of nesting that is one too many.
+    TooDeep(Place),
+    Memory,
+}
+
+impl Parser {
+    /// Reads imports.
+    fn imports(self, tokens: &[Token]) -> Result<(Vec<ImportItem>, &[Token]), Stop>
+        ensures value { Gives (λ x. (x.0.items, x.1.now)) result ((read (nested_at self.levels) imports tokens.now)) }
+    {
+        let mut all = Vec::new(self.alloc);
+        let mut rest = tokens;
+        while next_is(rest, Terminal::Import) {
+            let (import, after) = self.import(rest)?;
+            all.push(import)?;
+            rest = after;
+        }
+        Ok((all, rest))
+    }
+
+    /// Reads the components behind the first.
+    fn more_components(
+        self,
+        first: ComponentItem,
+        tokens: &[Token],
+    ) -> Result<(Vec<ComponentItem>, &[Token]), Stop>
+        ensures value { Gives (λ x. (map plain_component x.0.items, x.1.now)) result (with_front (plain_component first ∷ []) (read (nested_at self.levels) components tokens.now)) }
+    {
+        let mut all = Vec::new(self.alloc);
+        all.push(first)?;
+        let mut rest = tokens;
+        while next_in(rest, &COMPONENT) {
+            let (component, after) = self.component(rest)?;
+            all.push(component)?;
+            rest = after;
+        }
+        Ok((all, rest))
+    }
+
+    /// Reads imports and components.
+    fn file(self, tokens: &[Token]) -> Result<(Tree, &[Token]), Stop>
+        ensures value { Gives (λ x. (plain_tree x.0, x.1.now)) result ((read (nested_at self.levels) file tokens.now)) }
+    {
+        let (imports, rest) = self.imports(tokens)?;
+        let (first, rest) = self.component(rest)?;
+        let (components, rest) = self.more_components(first, rest)?;
+        Ok((
+            Tree {
+                imports,
+                components,
+            },
+            rest,
+        ))
+    }
+
+    /// Reads a file up to the end of the tokens.
+    fn whole(self, tokens: &[Token]) -> Result<Tree, Stop>
+        ensures value { Gives plain_tree result (whole_at self.levels tokens.now) }
+    {
+        let (tree, rest) = self.file(tokens)?;
+        if rest.is_empty() {
+            Ok(tree)
+        } else {
+            Err(Stop::Unexpected(rest.len()))
+        }
+    }
+}
+
+/// The place of the token from which on so many are left. The end has the place of the last token, or 1:1.
+fn place_left(tokens: &[Token], left: usize) -> Place
+    ensures value { result ≡ place_left_of tokens.now left }
+{
+    match tokens.get(tokens.len() - left) {
+        Some(token) => token.place,
+        None => match tokens.last() {
+            Some(token) => token.place,
+            None => Place { line: 1, column: 1 },
+        },
+    }
+}
+
+/// Reads the tree that the tokens spell.
+pub fn parse(alloc: Global, tokens: &[Token]) -> Result<Tree, ParseFault>
+    requires { length tokens.now < 2 ^ 28 }
+{
+    let parser = Parser {
+        alloc,
+        levels: NESTING as u32,
+    };
+    match parser.whole(tokens) {
+        Ok(tree) => Ok(tree),
+        Err(Stop::Unexpected(left)) => Err(ParseFault::Unexpected(place_left(tokens, left))),
+        Err(Stop::TooDeep(left)) => Err(ParseFault::TooDeep(place_left(tokens, left))),
+        Err(Stop::Memory) => Err(ParseFault::Memory),
+    }
+}

@@ -1,0 +1,104 @@
+//! Reading targets and operands.
+
+ghost use Rattle.std.specs.Prelude.{◌≡◌};
+ghost use Rattle.cx_parse.specs.Answers.{Gives, with_front, given};
+ghost use Rattle.cx_grammar.specs.Reading.{read, one_at};
+ghost use Rattle.cx_grammar.specs.Calyx.{nested_at, reference, target, literal, operand, cmp};
+
+use crate::parsers::Parser;
+use crate::stops::Stop;
+use crate::tokens::{name, next_is, sign, word};
+use cx_ast::{Comparison, OperandForm, OperandItem};
+use cx_grammar::Terminal;
+use cx_text::Name;
+use cx_tokens::{Token, TokenKind};
+
+/// The terminals that an operand begins with.
+pub const OPERAND: [Terminal; 2] = [Terminal::Name, Terminal::Literal];
+
+impl Parser {
+    /// Reads what follows the first name of a target.
+    fn reference(self, first: Name, tokens: &[Token]) -> Result<(OperandForm, &[Token]), Stop>
+        ensures value { Gives (λ x. (x.0, x.1.now)) result (given first (read (nested_at self.levels) reference tokens.now)) }
+    {
+        if next_is(tokens, Terminal::Dot) {
+            let (_, rest) = sign(tokens, Terminal::Dot)?;
+            let (port, rest) = name(self.alloc, rest)?;
+            Ok((OperandForm::Port(first, port.0), rest))
+        } else if next_is(tokens, Terminal::OpenBracket) {
+            let (_, rest) = sign(tokens, Terminal::OpenBracket)?;
+            let (hole, rest) = word(self.alloc, rest)?;
+            let (_, rest) = sign(rest, Terminal::CloseBracket)?;
+            Ok((OperandForm::Hole(first, hole), rest))
+        } else {
+            Ok((OperandForm::Own(first), tokens))
+        }
+    }
+
+    /// Reads a target.
+    pub fn target(self, tokens: &[Token]) -> Result<(OperandItem, &[Token]), Stop>
+        ensures value { Gives (λ x. (x.0, x.1.now)) result ((read (nested_at self.levels) target tokens.now)) }
+    {
+        let ((first, place), rest) = name(self.alloc, tokens)?;
+        let (form, rest) = self.reference(first, rest)?;
+        Ok((OperandItem { form, place }, rest))
+    }
+
+    /// Reads a literal.
+    fn literal(self, tokens: &[Token]) -> Result<(OperandItem, &[Token]), Stop>
+        ensures value { Gives (λ x. (x.0, x.1.now)) result ((read (nested_at self.levels) literal tokens.now)) }
+    {
+        match tokens.split_first() {
+            Some((first, rest)) => match &first.kind {
+                TokenKind::Literal(width, value) => {
+                    let form = OperandForm::Literal(*width, *value);
+                    Ok((
+                        OperandItem {
+                            form,
+                            place: first.place,
+                        },
+                        rest,
+                    ))
+                }
+                _ => Err(Stop::Unexpected(tokens.len())),
+            },
+            None => Err(Stop::Unexpected(0)),
+        }
+    }
+
+    /// Reads an operand.
+    pub fn operand(self, tokens: &[Token]) -> Result<(OperandItem, &[Token]), Stop>
+        ensures value { Gives (λ x. (x.0, x.1.now)) result ((read (nested_at self.levels) operand tokens.now)) }
+    {
+        if next_is(tokens, Terminal::Name) {
+            self.target(tokens)
+        } else {
+            self.literal(tokens)
+        }
+    }
+
+    /// Reads the sign of a comparison.
+    pub fn cmp(self, tokens: &[Token]) -> Result<(Comparison, &[Token]), Stop>
+        ensures value { Gives (λ x. (x.0, x.1.now)) result ((read (nested_at self.levels) cmp tokens.now)) }
+    {
+        if next_is(tokens, Terminal::EqualEqual) {
+            let (_, rest) = sign(tokens, Terminal::EqualEqual)?;
+            Ok((Comparison::Equal, rest))
+        } else if next_is(tokens, Terminal::NotEqual) {
+            let (_, rest) = sign(tokens, Terminal::NotEqual)?;
+            Ok((Comparison::NotEqual, rest))
+        } else if next_is(tokens, Terminal::Less) {
+            let (_, rest) = sign(tokens, Terminal::Less)?;
+            Ok((Comparison::Less, rest))
+        } else if next_is(tokens, Terminal::Greater) {
+            let (_, rest) = sign(tokens, Terminal::Greater)?;
+            Ok((Comparison::Greater, rest))
+        } else if next_is(tokens, Terminal::LessEqual) {
+            let (_, rest) = sign(tokens, Terminal::LessEqual)?;
+            Ok((Comparison::LessEqual, rest))
+        } else {
+            let (_, rest) = sign(tokens, Terminal::GreaterEqual)?;
+            Ok((Comparison::GreaterEqual, rest))
+        }
+    }
+}
