@@ -121,8 +121,11 @@ attributes = many attribute
 unfoldable pub mark : Grammar Mark
 mark = Pair (λ w n. record { name = w; number = n }) text (behind t.Equal number)
 
+unfoldable pub next_mark : Grammar Mark
+next_mark = behind t.Comma mark
+
 unfoldable pub more_marks : Grammar (List Mark)
-more_marks = many (behind t.Comma mark)
+more_marks = many next_mark
 
 unfoldable pub marks : Grammar (List Mark)
 marks = Choice (behind t.Less (Pair (λ m ms. m ∷ ms) mark (before more_marks t.Greater))) (Empty [])
@@ -202,26 +205,35 @@ unfoldable pub comp : Grammar PlainGuard
 comp = Choice prefixed (Pair (λ o f. f o) operand compared)
 
 -- conj = comp {"&" comp}
-abbrev pub and_of : List PlainGuard → PlainGuard → PlainGuard
-and_of [] g = g
-and_of (h ∷ hs) g = guards.And (guards_of (g ∷ h ∷ hs))
+-- one part stands for itself
+abbrev pub and_of : List PlainGuard → PlainGuard
+and_of [] = guards.And guards.NoGuards
+and_of (g ∷ []) = g
+and_of (g ∷ h ∷ gs) = guards.And (guards_of (g ∷ h ∷ gs))
+
+unfoldable pub next_comp : Grammar PlainGuard
+next_comp = behind t.And comp
 
 unfoldable pub more_comps : Grammar (List PlainGuard)
-more_comps = many (behind t.And comp)
+more_comps = many next_comp
 
 unfoldable pub conj : Grammar PlainGuard
-conj = Pair (λ g gs. and_of gs g) comp more_comps
+conj = Pair (λ g gs. and_of (g ∷ gs)) comp more_comps
 
 -- guard = conj {"|" conj}
-abbrev pub or_of : List PlainGuard → PlainGuard → PlainGuard
-or_of [] g = g
-or_of (h ∷ hs) g = guards.Or (guards_of (g ∷ h ∷ hs))
+abbrev pub or_of : List PlainGuard → PlainGuard
+or_of [] = guards.Or guards.NoGuards
+or_of (g ∷ []) = g
+or_of (g ∷ h ∷ gs) = guards.Or (guards_of (g ∷ h ∷ gs))
+
+unfoldable pub next_conj : Grammar PlainGuard
+next_conj = behind t.Or conj
 
 unfoldable pub more_conjs : Grammar (List PlainGuard)
-more_conjs = many (behind t.Or conj)
+more_conjs = many next_conj
 
 unfoldable pub guard : Grammar PlainGuard
-guard = Pair (λ g gs. or_of gs g) conj more_conjs
+guard = Pair (λ g gs. or_of (g ∷ gs)) conj more_conjs
 
 -- What follows "=" in an assignment: operand | guard "?" operand.
 abbrev pub Value : Type 0
@@ -229,7 +241,7 @@ Value = Option PlainGuard × OperandItem
 
 -- the rest of a guard behind its first comp, and "?" operand
 abbrev pub guarded_of : List PlainGuard → List PlainGuard × OperandItem → PlainGuard → Value
-guarded_of gs r g = (Some (or_of r.0 (and_of gs g)), r.1)
+guarded_of gs r g = (Some (or_of (and_of (g ∷ gs) ∷ r.0)), r.1)
 
 unfoldable pub guarded : Grammar (PlainGuard → Value)
 guarded = Pair guarded_of more_comps (pair more_conjs (behind t.Question operand))
@@ -289,8 +301,11 @@ unfoldable pub wires_part : Grammar (List PlainWire)
 wires_part = behind t.Wires (within t.OpenBrace wire_list t.CloseBrace)
 
 -- cell = {attr} name [marks] "=" name "(" [number {"," number}] ")" ";"
+unfoldable pub next_number : Grammar ℕ
+next_number = behind t.Comma number
+
 unfoldable pub more_numbers : Grammar (List ℕ)
-more_numbers = many (behind t.Comma number)
+more_numbers = many next_number
 
 unfoldable pub numbers : Grammar (List ℕ)
 numbers = Choice (Pair (λ n ns. n ∷ ns) number more_numbers) (Empty [])

@@ -1,5 +1,5 @@
 -- Grammars as values: what the productions are made of, which tokens a grammar spells, and how it is read from the left.
-use Rattle.std.specs.Prelude.{◌≡◌, ℕ, zero, suc, Bool, true, false, ◌&&◌, not, List, [], ◌∷◌, ◌++◌, length, Result, Ok, Err, ◌⊎◌, if◌then◌else◌}
+use Rattle.std.specs.Prelude.{◌≡◌, ℕ, zero, suc, Bool, true, false, ◌&&◌, ◌||◌, not, List, [], ◌∷◌, ◌++◌, length, Result, Ok, Err, ◌⊎◌, if◌then◌else◌}
 use Rattle.std.specs.List.{list_all}
 use Rattle.cx_tokens.specs.declared.tokens.Token.{Token}
 use Rattle.cx_ast.specs.PlainGuards.{PlainGuard}
@@ -53,9 +53,9 @@ abbrev pub nullable : {A : Type 0} → Grammar A → Bool
 nullable (Empty x) = true
 nullable (One set value) = false
 nullable (Pair join g h) = nullable g && nullable h
-nullable (Choice g h) = nullable h
+nullable (Choice g h) = nullable g || nullable h
 nullable (Several whole g) = true
-nullable (Commas whole g) = false
+nullable (Commas whole g) = nullable g
 nullable (Deeper n) = false
 
 -- the terminals with which a text of the grammar begins

@@ -1,11 +1,12 @@
 -- What the reading functions of the code answer, in the words of the grammar's reading.
-use Rattle.std.specs.Prelude.{◌≡◌, ℕ, ◌-◌, List, [], ◌∷◌, ◌++◌, length, Option, Some, None, Result, Ok, Err, slice_get}
+use Rattle.std.specs.Prelude.{◌≡◌, ℕ, ◌-◌, List, [], ◌∷◌, ◌++◌, length, Option, Some, None, Result, Ok, Err, slice_get, if◌then◌else◌}
 use Rattle.cx_text.specs.declared.places.Place.{Place}
 use Rattle.cx_tokens.specs.declared.tokens.Token.{Token}
-use Rattle.cx_ast.specs.PlainGuards.{PlainGuard}
 use Rattle.cx_ast.specs.PlainTree.{PlainTree}
 use Rattle.cx_grammar.specs.Reading.{Why, Unexpected, TooDeep, Stop, Reads, then_reads, read, unexpected}
-use Rattle.cx_grammar.specs.Calyx.{nested_at, file, and_of, or_of}
+use Rattle.cx_grammar.specs.declared.terminals.Terminal.{Terminal}
+use Rattle.cx_grammar.specs.Terminals.{begins}
+use Rattle.cx_grammar.specs.Calyx.{nested_at, file}
 use Rattle.cx_parse.specs.declared.stops.Stop.{Stop as Answer}
 use Rattle.cx_parse.specs.declared.stops.Stop.TheVariants as stops
 
@@ -27,11 +28,9 @@ with_front front reads = then_reads reads (λ xs rest. Ok (front ++ xs, rest))
 abbrev pub given : {A B : Type 0} → A → Reads (A → B) → Reads B
 given x reads = then_reads reads (λ f rest. Ok (f x, rest))
 
-abbrev pub conj_of : PlainGuard → Reads (List PlainGuard) → Reads PlainGuard
-conj_of g reads = then_reads reads (λ gs rest. Ok (and_of gs g, rest))
-
-abbrev pub disj_of : PlainGuard → Reads (List PlainGuard) → Reads PlainGuard
-disj_of g reads = then_reads reads (λ gs rest. Ok (or_of gs g, rest))
+-- why reading stops where no level is left
+abbrev pub stop_without_level : Terminal → List Token → Answer
+stop_without_level opening ts = if begins (opening ∷ []) ts then stops.TooDeep (length ts) else stops.Unexpected (length ts)
 
 -- a file and nothing behind it
 abbrev pub whole_of : PlainTree → List Token → Result PlainTree Stop

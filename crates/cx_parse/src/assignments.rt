@@ -7,7 +7,7 @@ ghost use Rattle.cx_grammar.specs.Calyx.{nested_at, guarded, after_operand, valu
 ghost use Rattle.cx_ast.specs.PlainGuards.{plain_guard};
 ghost use Rattle.cx_ast.specs.PlainTree.{plain_assign};
 
-use crate::guards::PREFIXED;
+use crate::guards::{PREFIXED, conjunction, disjunction};
 use crate::parsers::Parser;
 use crate::stops::Stop;
 use crate::tokens::{next_in, sign};
@@ -36,17 +36,19 @@ type Value = (Option<GuardItem>, OperandItem);
 
 impl Parser {
     /// Reads the rest of a guard behind its first part, and the source.
+    #[tactic(auto, unfolding(cx_grammar::specs::Calyx::guarded))]
     fn guarded(self, first: GuardItem, tokens: &[Token]) -> Result<(Value, &[Token]), Stop>
         ensures value { Gives (λ x. ((option_map plain_guard x.0.0, x.0.1), x.1.now)) result (given (plain_guard first) (read (nested_at self.levels) guarded tokens.now)) }
     {
-        let (conj, rest) = self.more_comps(first, tokens)?;
-        let (guard, rest) = self.more_conjs(conj, rest)?;
+        let (parts, rest) = self.more_comps(first, tokens)?;
+        let (parts, rest) = self.more_conjs(conjunction(parts), rest)?;
         let (_, rest) = sign(rest, Terminal::Question)?;
         let (source, rest) = self.operand(rest)?;
-        Ok(((Some(guard), source), rest))
+        Ok(((Some(disjunction(parts)), source), rest))
     }
 
     /// Reads what follows the first operand of a value.
+    #[tactic(auto, unfolding(cx_grammar::specs::Calyx::after_operand, cx_grammar::specs::Calyx::compared, cx_grammar::specs::Calyx::cmp, cx_grammar::specs::Calyx::guarded, cx_grammar::specs::Calyx::more_comps, cx_grammar::specs::Calyx::next_comp, cx_grammar::specs::Calyx::more_conjs, cx_grammar::specs::Calyx::next_conj))]
     fn after_operand(self, first: OperandItem, tokens: &[Token]) -> Result<(Value, &[Token]), Stop>
         ensures value { Gives (λ x. ((option_map plain_guard x.0.0, x.0.1), x.1.now)) result (given first (read (nested_at self.levels) after_operand tokens.now)) }
     {
@@ -59,6 +61,7 @@ impl Parser {
     }
 
     /// Reads what follows the `=` of an assignment.
+    #[tactic(auto, unfolding(cx_grammar::specs::Calyx::value, cx_grammar::specs::Calyx::prefixed, cx_grammar::specs::Calyx::window))]
     fn value(self, tokens: &[Token]) -> Result<(Value, &[Token]), Stop>
         ensures value { Gives (λ x. ((option_map plain_guard x.0.0, x.0.1), x.1.now)) result ((read (nested_at self.levels) value tokens.now)) }
     {
@@ -72,6 +75,7 @@ impl Parser {
     }
 
     /// Reads an assignment behind its attributes.
+    #[tactic(auto, unfolding(cx_grammar::specs::Calyx::bare_assign))]
     pub fn bare_assign(
         self,
         attributes: Vec<Attribute>,
@@ -97,6 +101,7 @@ impl Parser {
     }
 
     /// Reads an assignment.
+    #[tactic(auto, unfolding(cx_grammar::specs::Calyx::assign))]
     fn assign(self, tokens: &[Token]) -> Result<(AssignItem, &[Token]), Stop>
         ensures value { Gives (λ x. (plain_assign x.0, x.1.now)) result ((read (nested_at self.levels) assign tokens.now)) }
     {
@@ -105,6 +110,7 @@ impl Parser {
     }
 
     /// Reads the assignments of a group.
+    #[tactic(auto, unfolding(cx_grammar::specs::Calyx::assigns, cx_grammar::specs::Calyx::assign, cx_grammar::specs::Calyx::attributes, cx_grammar::specs::Calyx::attribute, cx_grammar::specs::Calyx::bare_assign, cx_grammar::specs::Calyx::target))]
     pub fn assigns(self, tokens: &[Token]) -> Result<(Vec<AssignItem>, &[Token]), Stop>
         ensures value { Gives (λ x. (map plain_assign x.0.items, x.1.now)) result ((read (nested_at self.levels) assigns tokens.now)) }
     {

@@ -3,7 +3,7 @@
 ghost use Rattle.std.specs.Prelude.{◌≡◌, [], ◌∷◌};
 ghost use Rattle.cx_parse.specs.Answers.{Gives, with_front, given};
 ghost use Rattle.cx_grammar.specs.Reading.{read, one_at};
-ghost use Rattle.cx_grammar.specs.Calyx.{nested_at, attribute_number, attribute, attributes, mark, more_marks, marks, import, length_of, optional_length};
+ghost use Rattle.cx_grammar.specs.Calyx.{nested_at, attribute_number, attribute, attributes, mark, next_mark, more_marks, marks, import, length_of, optional_length};
 
 use crate::parsers::Parser;
 use crate::stops::Stop;
@@ -14,6 +14,7 @@ use cx_tokens::Token;
 
 impl Parser {
     /// Reads the number of an attribute, where there is one.
+    #[tactic(auto, unfolding(cx_grammar::specs::Calyx::attribute_number))]
     fn attribute_number(self, tokens: &[Token]) -> Result<(Option<u64>, &[Token]), Stop>
         ensures value { Gives (λ x. (x.0, x.1.now)) result ((read (nested_at self.levels) attribute_number tokens.now)) }
     {
@@ -27,6 +28,7 @@ impl Parser {
     }
 
     /// Reads an attribute.
+    #[tactic(auto, unfolding(cx_grammar::specs::Calyx::attribute))]
     fn attribute(self, tokens: &[Token]) -> Result<(Attribute, &[Token]), Stop>
         ensures value { Gives (λ x. (x.0, x.1.now)) result ((read (nested_at self.levels) attribute tokens.now)) }
     {
@@ -37,6 +39,7 @@ impl Parser {
     }
 
     /// Reads the attributes before a part.
+    #[tactic(auto, unfolding(cx_grammar::specs::Calyx::attributes, cx_grammar::specs::Calyx::attribute))]
     pub fn attributes(self, tokens: &[Token]) -> Result<(Vec<Attribute>, &[Token]), Stop>
         ensures value { Gives (λ x. (x.0.items, x.1.now)) result ((read (nested_at self.levels) attributes tokens.now)) }
     {
@@ -51,6 +54,7 @@ impl Parser {
     }
 
     /// Reads a mark.
+    #[tactic(auto, unfolding(cx_grammar::specs::Calyx::mark))]
     fn mark(self, tokens: &[Token]) -> Result<(Mark, &[Token]), Stop>
         ensures value { Gives (λ x. (x.0, x.1.now)) result ((read (nested_at self.levels) mark tokens.now)) }
     {
@@ -60,7 +64,17 @@ impl Parser {
         Ok((Mark { name, number }, rest))
     }
 
+    /// Reads a comma and a mark.
+    #[tactic(auto, unfolding(cx_grammar::specs::Calyx::next_mark))]
+    fn next_mark(self, tokens: &[Token]) -> Result<(Mark, &[Token]), Stop>
+        ensures value { Gives (λ x. (x.0, x.1.now)) result ((read (nested_at self.levels) next_mark tokens.now)) }
+    {
+        let (_, rest) = sign(tokens, Terminal::Comma)?;
+        self.mark(rest)
+    }
+
     /// Reads the marks behind the first.
+    #[tactic(auto, unfolding(cx_grammar::specs::Calyx::more_marks, cx_grammar::specs::Calyx::next_mark))]
     fn more_marks(self, first: Mark, tokens: &[Token]) -> Result<(Vec<Mark>, &[Token]), Stop>
         ensures value { Gives (λ x. (x.0.items, x.1.now)) result (with_front (first ∷ []) (read (nested_at self.levels) more_marks tokens.now)) }
     {
@@ -68,8 +82,7 @@ impl Parser {
         all.push(first)?;
         let mut rest = tokens;
         while next_is(rest, Terminal::Comma) {
-            let (_, after) = sign(rest, Terminal::Comma)?;
-            let (mark, after) = self.mark(after)?;
+            let (mark, after) = self.next_mark(rest)?;
             all.push(mark)?;
             rest = after;
         }
@@ -77,6 +90,7 @@ impl Parser {
     }
 
     /// Reads the marks behind a name, where there are some.
+    #[tactic(auto, unfolding(cx_grammar::specs::Calyx::marks))]
     pub fn marks(self, tokens: &[Token]) -> Result<(Vec<Mark>, &[Token]), Stop>
         ensures value { Gives (λ x. (x.0.items, x.1.now)) result ((read (nested_at self.levels) marks tokens.now)) }
     {
@@ -91,6 +105,7 @@ impl Parser {
     }
 
     /// Reads a length in cycles.
+    #[tactic(auto, unfolding(cx_grammar::specs::Calyx::length_of))]
     pub fn length_of(self, tokens: &[Token]) -> Result<(u64, &[Token]), Stop>
         ensures value { Gives (λ x. (x.0, x.1.now)) result ((read (nested_at self.levels) length_of tokens.now)) }
     {
@@ -101,6 +116,7 @@ impl Parser {
     }
 
     /// Reads a length in cycles, where there is one.
+    #[tactic(auto, unfolding(cx_grammar::specs::Calyx::optional_length, cx_grammar::specs::Calyx::length_of))]
     pub fn optional_length(self, tokens: &[Token]) -> Result<(Option<u64>, &[Token]), Stop>
         ensures value { Gives (λ x. (x.0, x.1.now)) result ((read (nested_at self.levels) optional_length tokens.now)) }
     {
@@ -112,6 +128,7 @@ impl Parser {
     }
 
     /// Reads an import.
+    #[tactic(auto, unfolding(cx_grammar::specs::Calyx::import))]
     pub fn import(self, tokens: &[Token]) -> Result<(ImportItem, &[Token]), Stop>
         ensures value { Gives (λ x. (x.0, x.1.now)) result ((read (nested_at self.levels) import tokens.now)) }
     {

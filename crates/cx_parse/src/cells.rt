@@ -3,7 +3,7 @@
 ghost use Rattle.std.specs.Prelude.{◌≡◌, [], ◌∷◌, map};
 ghost use Rattle.cx_parse.specs.Answers.{Gives, with_front};
 ghost use Rattle.cx_grammar.specs.Reading.{read, one_at};
-ghost use Rattle.cx_grammar.specs.Calyx.{nested_at, more_numbers, numbers, cell_kind, cell, cell_list, cells};
+ghost use Rattle.cx_grammar.specs.Calyx.{nested_at, next_number, more_numbers, numbers, cell_kind, cell, cell_list, cells};
 ghost use Rattle.cx_ast.specs.PlainTree.{plain_cell};
 
 use crate::parsers::Parser;
@@ -18,7 +18,18 @@ use cx_tokens::Token;
 const CELL: [Terminal; 2] = [Terminal::At, Terminal::Name];
 
 impl Parser {
+    /// Reads a comma and a number.
+    #[tactic(auto, unfolding(cx_grammar::specs::Calyx::next_number))]
+    fn next_number(self, tokens: &[Token]) -> Result<(u64, &[Token]), Stop>
+        ensures value { Gives (λ x. (x.0, x.1.now)) result ((read (nested_at self.levels) next_number tokens.now)) }
+    {
+        let (_, rest) = sign(tokens, Terminal::Comma)?;
+        let (n, rest) = number(rest)?;
+        Ok((n, rest))
+    }
+
     /// Reads the numbers behind the first.
+    #[tactic(auto, unfolding(cx_grammar::specs::Calyx::more_numbers, cx_grammar::specs::Calyx::next_number))]
     fn more_numbers(self, first: u64, tokens: &[Token]) -> Result<(Vec<u64>, &[Token]), Stop>
         ensures value { Gives (λ x. (x.0.items, x.1.now)) result (with_front (first ∷ []) (read (nested_at self.levels) more_numbers tokens.now)) }
     {
@@ -26,8 +37,7 @@ impl Parser {
         all.push(first)?;
         let mut rest = tokens;
         while next_is(rest, Terminal::Comma) {
-            let (_, after) = sign(rest, Terminal::Comma)?;
-            let (n, after) = number(after)?;
+            let (n, after) = self.next_number(rest)?;
             all.push(n)?;
             rest = after;
         }
@@ -35,6 +45,7 @@ impl Parser {
     }
 
     /// Reads the numbers of a cell.
+    #[tactic(auto, unfolding(cx_grammar::specs::Calyx::numbers))]
     fn numbers(self, tokens: &[Token]) -> Result<(Vec<u64>, &[Token]), Stop>
         ensures value { Gives (λ x. (x.0.items, x.1.now)) result ((read (nested_at self.levels) numbers tokens.now)) }
     {
@@ -46,6 +57,7 @@ impl Parser {
     }
 
     /// Reads the kind of a cell and its numbers.
+    #[tactic(auto, unfolding(cx_grammar::specs::Calyx::cell_kind))]
     fn cell_kind(self, tokens: &[Token]) -> Result<((Name, Vec<u64>), &[Token]), Stop>
         ensures value { Gives (λ x. ((x.0.0, x.0.1.items), x.1.now)) result ((read (nested_at self.levels) cell_kind tokens.now)) }
     {
@@ -58,6 +70,7 @@ impl Parser {
     }
 
     /// Reads a cell.
+    #[tactic(auto, unfolding(cx_grammar::specs::Calyx::cell))]
     fn cell(self, tokens: &[Token]) -> Result<(CellItem, &[Token]), Stop>
         ensures value { Gives (λ x. (plain_cell x.0, x.1.now)) result ((read (nested_at self.levels) cell tokens.now)) }
     {
@@ -80,6 +93,7 @@ impl Parser {
     }
 
     /// Reads cells.
+    #[tactic(auto, unfolding(cx_grammar::specs::Calyx::cell_list, cx_grammar::specs::Calyx::cell, cx_grammar::specs::Calyx::attributes, cx_grammar::specs::Calyx::attribute))]
     fn cell_list(self, tokens: &[Token]) -> Result<(Vec<CellItem>, &[Token]), Stop>
         ensures value { Gives (λ x. (map plain_cell x.0.items, x.1.now)) result ((read (nested_at self.levels) cell_list tokens.now)) }
     {
@@ -94,6 +108,7 @@ impl Parser {
     }
 
     /// Reads the part `cells`.
+    #[tactic(auto, unfolding(cx_grammar::specs::Calyx::cells))]
     pub fn cells(self, tokens: &[Token]) -> Result<(Vec<CellItem>, &[Token]), Stop>
         ensures value { Gives (λ x. (map plain_cell x.0.items, x.1.now)) result ((read (nested_at self.levels) cells tokens.now)) }
     {

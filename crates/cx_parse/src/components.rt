@@ -23,6 +23,7 @@ type Signature = ((Name, Place), Vec<Mark>, Vec<PortItem>, Vec<PortItem>);
 
 impl Parser {
     /// Reads the word `component` and what stands before it.
+    #[tactic(auto, unfolding(cx_grammar::specs::Calyx::component_word))]
     fn component_word(self, tokens: &[Token]) -> Result<((Option<u64>, Place), &[Token]), Stop>
         ensures value { Gives (λ x. ((x.0.0, x.0.1), x.1.now)) result ((read (nested_at self.levels) component_word tokens.now)) }
     {
@@ -38,6 +39,7 @@ impl Parser {
     }
 
     /// Reads a component's name and signature.
+    #[tactic(auto, unfolding(cx_grammar::specs::Calyx::signature))]
     fn signature(self, tokens: &[Token]) -> Result<(Signature, &[Token]), Stop>
         ensures value { Gives (λ x. (((x.0.0.0, x.0.0.1), (x.0.1.items, (map plain_port x.0.2.items, map plain_port x.0.3.items))), x.1.now)) result ((read (nested_at self.levels) signature tokens.now)) }
     {
@@ -49,6 +51,7 @@ impl Parser {
     }
 
     /// Reads what stands between a component's braces.
+    #[tactic(auto, unfolding(cx_grammar::specs::Calyx::body))]
     fn body(self, tokens: &[Token]) -> Result<(Body, &[Token]), Stop>
         ensures value { Gives (λ x. ((map plain_cell x.0.0.items, (map plain_wire x.0.1.items, option_map plain_block x.0.2)), x.1.now)) result ((read (nested_at self.levels) body tokens.now)) }
     {
@@ -61,6 +64,7 @@ impl Parser {
     }
 
     /// Reads a component.
+    #[tactic(auto, unfolding(cx_grammar::specs::Calyx::component))]
     pub fn component(self, tokens: &[Token]) -> Result<(ComponentItem, &[Token]), Stop>
         ensures value { Gives (λ x. (plain_component x.0, x.1.now)) result ((read (nested_at self.levels) component tokens.now)) }
     {

@@ -31,6 +31,7 @@ pub enum ParseFault {
 
 impl Parser {
     /// Reads imports.
+    #[tactic(auto, unfolding(cx_grammar::specs::Calyx::imports, cx_grammar::specs::Calyx::import))]
     fn imports(self, tokens: &[Token]) -> Result<(Vec<ImportItem>, &[Token]), Stop>
         ensures value { Gives (λ x. (x.0.items, x.1.now)) result ((read (nested_at self.levels) imports tokens.now)) }
     {
@@ -45,6 +46,7 @@ impl Parser {
     }
 
     /// Reads the components behind the first.
+    #[tactic(auto, unfolding(cx_grammar::specs::Calyx::components, cx_grammar::specs::Calyx::component, cx_grammar::specs::Calyx::attributes, cx_grammar::specs::Calyx::attribute, cx_grammar::specs::Calyx::component_word))]
     fn more_components(
         self,
         first: ComponentItem,
@@ -64,6 +66,7 @@ impl Parser {
     }
 
     /// Reads imports and components.
+    #[tactic(auto, unfolding(cx_grammar::specs::Calyx::file))]
     fn file(self, tokens: &[Token]) -> Result<(Tree, &[Token]), Stop>
         ensures value { Gives (λ x. (plain_tree x.0, x.1.now)) result ((read (nested_at self.levels) file tokens.now)) }
     {

@@ -25,6 +25,7 @@ const WIRE: [Terminal; 5] = [
 
 impl Parser {
     /// Reads the word `group` and what stands before it.
+    #[tactic(auto, unfolding(cx_grammar::specs::Calyx::group_word))]
     fn group_word(self, tokens: &[Token]) -> Result<((GroupWord, Place), &[Token]), Stop>
         ensures value { Gives (λ x. ((x.0.0, x.0.1), x.1.now)) result ((read (nested_at self.levels) group_word tokens.now)) }
     {
@@ -44,6 +45,7 @@ impl Parser {
     }
 
     /// Reads a group behind its attributes.
+    #[tactic(auto, unfolding(cx_grammar::specs::Calyx::bare_group))]
     fn bare_group(
         self,
         attributes: Vec<Attribute>,
@@ -71,6 +73,7 @@ impl Parser {
     }
 
     /// Reads a group or a continuous assignment.
+    #[tactic(auto, unfolding(cx_grammar::specs::Calyx::wire, cx_grammar::specs::Calyx::bare_assign, cx_grammar::specs::Calyx::target))]
     fn wire(self, tokens: &[Token]) -> Result<(WireItem, &[Token]), Stop>
         ensures value { Gives (λ x. (plain_wire x.0, x.1.now)) result ((read (nested_at self.levels) wire tokens.now)) }
     {
@@ -85,6 +88,7 @@ impl Parser {
     }
 
     /// Reads groups and continuous assignments.
+    #[tactic(auto, unfolding(cx_grammar::specs::Calyx::wire_list, cx_grammar::specs::Calyx::wire, cx_grammar::specs::Calyx::attributes, cx_grammar::specs::Calyx::attribute, cx_grammar::specs::Calyx::bare_assign, cx_grammar::specs::Calyx::target, cx_grammar::specs::Calyx::bare_group, cx_grammar::specs::Calyx::group_word))]
     fn wire_list(self, tokens: &[Token]) -> Result<(Vec<WireItem>, &[Token]), Stop>
         ensures value { Gives (λ x. (map plain_wire x.0.items, x.1.now)) result ((read (nested_at self.levels) wire_list tokens.now)) }
     {
@@ -99,6 +103,7 @@ impl Parser {
     }
 
     /// Reads the part `wires`.
+    #[tactic(auto, unfolding(cx_grammar::specs::Calyx::wires_part))]
     pub fn wires_part(self, tokens: &[Token]) -> Result<(Vec<WireItem>, &[Token]), Stop>
         ensures value { Gives (λ x. (map plain_wire x.0.items, x.1.now)) result ((read (nested_at self.levels) wires_part tokens.now)) }
     {

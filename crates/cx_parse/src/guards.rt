@@ -1,13 +1,13 @@
 //! Reading guards.
 
-ghost use Rattle.std.specs.Prelude.{◌≡◌};
-ghost use Rattle.cx_parse.specs.Answers.{Gives, given, conj_of, disj_of};
+ghost use Rattle.std.specs.Prelude.{◌≡◌, ◌<◌, [], ◌∷◌, map, vec_len};
+ghost use Rattle.cx_parse.specs.Answers.{Gives, with_front, given};
 ghost use Rattle.cx_grammar.specs.Reading.{read, one_at};
-ghost use Rattle.cx_grammar.specs.Calyx.{nested_at, nest, window, window_range, prefixed, unary, compared, comp, more_comps, conj, more_conjs, guard};
+ghost use Rattle.cx_grammar.specs.Calyx.{nested_at, and_of, or_of, next_comp, next_conj, window, prefixed, unary, compared, comp, more_comps, conj, more_conjs, guard};
 ghost use Rattle.cx_grammar.specs.Grammar.{Negation, Parens};
 ghost use Rattle.cx_ast.specs.PlainGuards.{plain_guard};
 
-use crate::parsers::Parser;
+use crate::parsers::{Parser, no_level};
 use crate::stops::Stop;
 use crate::tokens::{next_in, next_is, number, sign};
 use cx_ast::{GuardItem, OperandItem};
@@ -27,8 +27,37 @@ const COMPARISONS: [Terminal; 6] = [
     Terminal::GreaterEqual,
 ];
 
+/// The conjunction of the parts. One part stands for itself.
+pub fn conjunction(mut all: Vec<GuardItem>) -> GuardItem
+    requires some { 0 < vec_len all }
+    ensures value { plain_guard result ≡ and_of (map plain_guard all.items) }
+{
+    if all.len() > 1 {
+        return GuardItem::And(all);
+    }
+    match all.pop() {
+        Some(only) => only,
+        None => unreachable!(),
+    }
+}
+
+/// The disjunction of the parts. One part stands for itself.
+pub fn disjunction(mut all: Vec<GuardItem>) -> GuardItem
+    requires some { 0 < vec_len all }
+    ensures value { plain_guard result ≡ or_of (map plain_guard all.items) }
+{
+    if all.len() > 1 {
+        return GuardItem::Or(all);
+    }
+    match all.pop() {
+        Some(only) => only,
+        None => unreachable!(),
+    }
+}
+
 impl Parser {
     /// Reads the cycles of a window between brackets.
+    #[tactic(auto, unfolding(cx_grammar::specs::Calyx::window_range))]
     fn window_range(self, tokens: &[Token]) -> Result<(GuardItem, &[Token]), Stop>
         ensures value { Gives (λ x. (plain_guard x.0, x.1.now)) result ((read (nested_at self.levels) window_range tokens.now)) }
     {
@@ -41,6 +70,7 @@ impl Parser {
     }
 
     /// Reads a window of cycles.
+    #[tactic(auto, unfolding(cx_grammar::specs::Calyx::window, cx_grammar::specs::Calyx::window_range))]
     fn window(self, tokens: &[Token]) -> Result<(GuardItem, &[Token]), Stop>
         ensures value { Gives (λ x. (plain_guard x.0, x.1.now)) result ((read (nested_at self.levels) window tokens.now)) }
     {
@@ -53,24 +83,10 @@ impl Parser {
         }
     }
 
-    /// Begins a level: answers the parser with one level less.
-    pub fn deeper(self, tokens: &[Token], opening: Terminal) -> Result<Parser, Stop> {
-        if self.levels > 0 {
-            let levels = self.levels - 1;
-            Ok(Parser {
-                alloc: self.alloc,
-                levels,
-            })
-        } else if next_is(tokens, opening) {
-            Err(Stop::TooDeep(tokens.len()))
-        } else {
-            Err(Stop::Unexpected(tokens.len()))
-        }
-    }
-
-    /// Reads a negation.
+    /// Reads a negation, its level begun.
+    #[tactic(auto, unfolding(cx_grammar::specs::Calyx::nest))]
     #[cycle(guard)]
-    fn negation(self, tokens: &[Token]) -> Result<(GuardItem, &[Token]), Stop>
+    fn negated(self, tokens: &[Token]) -> Result<(GuardItem, &[Token]), Stop>
         ensures value { Gives (λ x. (plain_guard x.0, x.1.now)) result ((read (nested_at self.levels) (nest Negation) tokens.now)) }
     {
         let (_, rest) = sign(tokens, Terminal::Not)?;
@@ -78,9 +94,10 @@ impl Parser {
         Ok((GuardItem::Not(Box::new(self.alloc, guard)?), rest))
     }
 
-    /// Reads a guard in parentheses.
+    /// Reads a guard in parentheses, its level begun.
+    #[tactic(auto, unfolding(cx_grammar::specs::Calyx::nest))]
     #[cycle(guard)]
-    fn parens(self, tokens: &[Token]) -> Result<(GuardItem, &[Token]), Stop>
+    fn enclosed(self, tokens: &[Token]) -> Result<(GuardItem, &[Token]), Stop>
         ensures value { Gives (λ x. (plain_guard x.0, x.1.now)) result ((read (nested_at self.levels) (nest Parens) tokens.now)) }
     {
         let (_, rest) = sign(tokens, Terminal::OpenParen)?;
@@ -89,21 +106,45 @@ impl Parser {
         Ok((guard, rest))
     }
 
+    /// Reads a negation.
+    #[cycle(guard)]
+    fn negation(self, tokens: &[Token]) -> Result<(GuardItem, &[Token]), Stop>
+        ensures value { Gives (λ x. (plain_guard x.0, x.1.now)) result (nested_at self.levels Negation tokens.now) }
+    {
+        match self.deeper() {
+            Some(parser) => parser.negated(tokens),
+            None => Err(no_level(tokens, Terminal::Not)),
+        }
+    }
+
+    /// Reads a guard in parentheses.
+    #[cycle(guard)]
+    fn parens(self, tokens: &[Token]) -> Result<(GuardItem, &[Token]), Stop>
+        ensures value { Gives (λ x. (plain_guard x.0, x.1.now)) result (nested_at self.levels Parens tokens.now) }
+    {
+        match self.deeper() {
+            Some(parser) => parser.enclosed(tokens),
+            None => Err(no_level(tokens, Terminal::OpenParen)),
+        }
+    }
+
     /// Reads a negation, a guard in parentheses or a window of cycles.
+    #[tactic(auto, unfolding(cx_grammar::specs::Calyx::prefixed))]
     #[cycle(guard)]
     pub fn prefixed(self, tokens: &[Token]) -> Result<(GuardItem, &[Token]), Stop>
         ensures value { Gives (λ x. (plain_guard x.0, x.1.now)) result ((read (nested_at self.levels) prefixed tokens.now)) }
     {
         if next_is(tokens, Terminal::Not) {
-            self.deeper(tokens, Terminal::Not)?.negation(tokens)
+            self.negation(tokens)
         } else if next_is(tokens, Terminal::OpenParen) {
-            self.deeper(tokens, Terminal::OpenParen)?.parens(tokens)
+            self.parens(tokens)
         } else {
             self.window(tokens)
         }
     }
 
     /// Reads what a negation stands before.
+    #[tactic(auto, unfolding(cx_grammar::specs::Calyx::unary, cx_grammar::specs::Calyx::prefixed, cx_grammar::specs::Calyx::window))]
     #[cycle(guard)]
     fn unary(self, tokens: &[Token]) -> Result<(GuardItem, &[Token]), Stop>
         ensures value { Gives (λ x. (plain_guard x.0, x.1.now)) result ((read (nested_at self.levels) unary tokens.now)) }
@@ -117,6 +158,7 @@ impl Parser {
     }
 
     /// Reads what follows the first operand of a comparison, where it is one.
+    #[tactic(auto, unfolding(cx_grammar::specs::Calyx::compared, cx_grammar::specs::Calyx::cmp))]
     pub fn compared(
         self,
         left: OperandItem,
@@ -134,6 +176,7 @@ impl Parser {
     }
 
     /// Reads a part of a conjunction.
+    #[tactic(auto, unfolding(cx_grammar::specs::Calyx::comp, cx_grammar::specs::Calyx::prefixed, cx_grammar::specs::Calyx::window))]
     #[cycle(guard)]
     fn comp(self, tokens: &[Token]) -> Result<(GuardItem, &[Token]), Stop>
         ensures value { Gives (λ x. (plain_guard x.0, x.1.now)) result ((read (nested_at self.levels) comp tokens.now)) }
@@ -146,69 +189,87 @@ impl Parser {
         }
     }
 
+    /// Reads `&` and a part of a conjunction.
+    #[tactic(auto, unfolding(cx_grammar::specs::Calyx::next_comp))]
+    #[cycle(guard)]
+    fn next_comp(self, tokens: &[Token]) -> Result<(GuardItem, &[Token]), Stop>
+        ensures value { Gives (λ x. (plain_guard x.0, x.1.now)) result ((read (nested_at self.levels) next_comp tokens.now)) }
+    {
+        let (_, rest) = sign(tokens, Terminal::And)?;
+        self.comp(rest)
+    }
+
     /// Reads the parts of a conjunction behind the first.
+    #[tactic(auto, unfolding(cx_grammar::specs::Calyx::more_comps, cx_grammar::specs::Calyx::next_comp))]
     #[cycle(guard)]
     pub fn more_comps(
         self,
         first: GuardItem,
         tokens: &[Token],
-    ) -> Result<(GuardItem, &[Token]), Stop>
-        ensures value { Gives (λ x. (plain_guard x.0, x.1.now)) result (conj_of (plain_guard first) (read (nested_at self.levels) more_comps tokens.now)) }
+    ) -> Result<(Vec<GuardItem>, &[Token]), Stop>
+        ensures value { Gives (λ x. (map plain_guard x.0.items, x.1.now)) result (with_front (plain_guard first ∷ []) (read (nested_at self.levels) more_comps tokens.now)) }
     {
-        if !next_is(tokens, Terminal::And) {
-            return Ok((first, tokens));
-        }
         let mut all = Vec::new(self.alloc);
         all.push(first)?;
         let mut rest = tokens;
         while next_is(rest, Terminal::And) {
-            let (_, after) = sign(rest, Terminal::And)?;
-            let (part, after) = self.comp(after)?;
+            let (part, after) = self.next_comp(rest)?;
             all.push(part)?;
             rest = after;
         }
-        Ok((GuardItem::And(all), rest))
+        Ok((all, rest))
     }
 
     /// Reads a conjunction.
+    #[tactic(auto, unfolding(cx_grammar::specs::Calyx::conj))]
     #[cycle(guard)]
     fn conj(self, tokens: &[Token]) -> Result<(GuardItem, &[Token]), Stop>
         ensures value { Gives (λ x. (plain_guard x.0, x.1.now)) result ((read (nested_at self.levels) conj tokens.now)) }
     {
         let (first, rest) = self.comp(tokens)?;
-        self.more_comps(first, rest)
+        let (all, rest) = self.more_comps(first, rest)?;
+        Ok((conjunction(all), rest))
+    }
+
+    /// Reads `|` and a part of a disjunction.
+    #[tactic(auto, unfolding(cx_grammar::specs::Calyx::next_conj))]
+    #[cycle(guard)]
+    fn next_conj(self, tokens: &[Token]) -> Result<(GuardItem, &[Token]), Stop>
+        ensures value { Gives (λ x. (plain_guard x.0, x.1.now)) result ((read (nested_at self.levels) next_conj tokens.now)) }
+    {
+        let (_, rest) = sign(tokens, Terminal::Or)?;
+        self.conj(rest)
     }
 
     /// Reads the parts of a disjunction behind the first.
+    #[tactic(auto, unfolding(cx_grammar::specs::Calyx::more_conjs, cx_grammar::specs::Calyx::next_conj))]
     #[cycle(guard)]
     pub fn more_conjs(
         self,
         first: GuardItem,
         tokens: &[Token],
-    ) -> Result<(GuardItem, &[Token]), Stop>
-        ensures value { Gives (λ x. (plain_guard x.0, x.1.now)) result (disj_of (plain_guard first) (read (nested_at self.levels) more_conjs tokens.now)) }
+    ) -> Result<(Vec<GuardItem>, &[Token]), Stop>
+        ensures value { Gives (λ x. (map plain_guard x.0.items, x.1.now)) result (with_front (plain_guard first ∷ []) (read (nested_at self.levels) more_conjs tokens.now)) }
     {
-        if !next_is(tokens, Terminal::Or) {
-            return Ok((first, tokens));
-        }
         let mut all = Vec::new(self.alloc);
         all.push(first)?;
         let mut rest = tokens;
         while next_is(rest, Terminal::Or) {
-            let (_, after) = sign(rest, Terminal::Or)?;
-            let (part, after) = self.conj(after)?;
+            let (part, after) = self.next_conj(rest)?;
             all.push(part)?;
             rest = after;
         }
-        Ok((GuardItem::Or(all), rest))
+        Ok((all, rest))
     }
 
     /// Reads a guard.
+    #[tactic(auto, unfolding(cx_grammar::specs::Calyx::guard))]
     #[cycle(guard)]
     pub fn guard(self, tokens: &[Token]) -> Result<(GuardItem, &[Token]), Stop>
         ensures value { Gives (λ x. (plain_guard x.0, x.1.now)) result ((read (nested_at self.levels) guard tokens.now)) }
     {
         let (first, rest) = self.conj(tokens)?;
-        self.more_conjs(first, rest)
+        let (all, rest) = self.more_conjs(first, rest)?;
+        Ok((disjunction(all), rest))
     }
 }

@@ -18,6 +18,7 @@ pub const OPERAND: [Terminal; 2] = [Terminal::Name, Terminal::Literal];
 
 impl Parser {
     /// Reads what follows the first name of a target.
+    #[tactic(auto, unfolding(cx_grammar::specs::Calyx::reference))]
     fn reference(self, first: Name, tokens: &[Token]) -> Result<(OperandForm, &[Token]), Stop>
         ensures value { Gives (λ x. (x.0, x.1.now)) result (given first (read (nested_at self.levels) reference tokens.now)) }
     {
@@ -36,6 +37,7 @@ impl Parser {
     }
 
     /// Reads a target.
+    #[tactic(auto, unfolding(cx_grammar::specs::Calyx::target))]
     pub fn target(self, tokens: &[Token]) -> Result<(OperandItem, &[Token]), Stop>
         ensures value { Gives (λ x. (x.0, x.1.now)) result ((read (nested_at self.levels) target tokens.now)) }
     {
@@ -45,6 +47,7 @@ impl Parser {
     }
 
     /// Reads a literal.
+    #[tactic(auto, unfolding(cx_grammar::specs::Calyx::literal))]
     fn literal(self, tokens: &[Token]) -> Result<(OperandItem, &[Token]), Stop>
         ensures value { Gives (λ x. (x.0, x.1.now)) result ((read (nested_at self.levels) literal tokens.now)) }
     {
@@ -67,6 +70,7 @@ impl Parser {
     }
 
     /// Reads an operand.
+    #[tactic(auto, unfolding(cx_grammar::specs::Calyx::operand, cx_grammar::specs::Calyx::target))]
     pub fn operand(self, tokens: &[Token]) -> Result<(OperandItem, &[Token]), Stop>
         ensures value { Gives (λ x. (x.0, x.1.now)) result ((read (nested_at self.levels) operand tokens.now)) }
     {
@@ -78,6 +82,7 @@ impl Parser {
     }
 
     /// Reads the sign of a comparison.
+    #[tactic(auto, unfolding(cx_grammar::specs::Calyx::cmp))]
     pub fn cmp(self, tokens: &[Token]) -> Result<(Comparison, &[Token]), Stop>
         ensures value { Gives (λ x. (x.0, x.1.now)) result ((read (nested_at self.levels) cmp tokens.now)) }
     {

@@ -19,6 +19,7 @@ const PORT: [Terminal; 2] = [Terminal::At, Terminal::Name];
 
 impl Parser {
     /// Reads a port.
+    #[tactic(auto, unfolding(cx_grammar::specs::Calyx::port))]
     fn port(self, tokens: &[Token]) -> Result<(PortItem, &[Token]), Stop>
         ensures value { Gives (λ x. (plain_port x.0, x.1.now)) result ((read (nested_at self.levels) port tokens.now)) }
     {
@@ -38,6 +39,7 @@ impl Parser {
     }
 
     /// Reads the ports behind the first. A comma may stand behind the last.
+    #[tactic(auto, unfolding(cx_grammar::specs::Calyx::port, cx_grammar::specs::Calyx::attributes, cx_grammar::specs::Calyx::attribute))]
     fn more_ports(
         self,
         first: PortItem,
@@ -61,6 +63,7 @@ impl Parser {
     }
 
     /// Reads the ports between parentheses.
+    #[tactic(auto, unfolding(cx_grammar::specs::Calyx::some_ports, cx_grammar::specs::Calyx::port, cx_grammar::specs::Calyx::attributes, cx_grammar::specs::Calyx::attribute))]
     fn some_ports(self, tokens: &[Token]) -> Result<(Vec<PortItem>, &[Token]), Stop>
         ensures value { Gives (λ x. (map plain_port x.0.items, x.1.now)) result ((read (nested_at self.levels) some_ports tokens.now)) }
     {
@@ -72,6 +75,7 @@ impl Parser {
     }
 
     /// Reads ports and their parentheses.
+    #[tactic(auto, unfolding(cx_grammar::specs::Calyx::ports))]
     pub fn ports(self, tokens: &[Token]) -> Result<(Vec<PortItem>, &[Token]), Stop>
         ensures value { Gives (λ x. (map plain_port x.0.items, x.1.now)) result ((read (nested_at self.levels) ports tokens.now)) }
     {
@@ -82,6 +86,7 @@ impl Parser {
     }
 
     /// Reads the outputs, where there are some.
+    #[tactic(auto, unfolding(cx_grammar::specs::Calyx::outputs))]
     pub fn outputs(self, tokens: &[Token]) -> Result<(Vec<PortItem>, &[Token]), Stop>
         ensures value { Gives (λ x. (map plain_port x.0.items, x.1.now)) result ((read (nested_at self.levels) outputs tokens.now)) }
     {

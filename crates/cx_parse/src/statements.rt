@@ -7,7 +7,7 @@ ghost use Rattle.cx_grammar.specs.Grammar.{Braces, starts};
 ghost use Rattle.cx_grammar.specs.Calyx.{nested_at, nest, enable, seq, par, if_form, while_form, repeat, invoke, static_statement, bind, some_binds, binds, block, control, comb, otherwise, marked_block, if_rest, while_rest, repeat_rest, static_if_rest, invoke_rest, static_rest, static_form, form, statement, statements};
 ghost use Rattle.cx_ast.specs.PlainStatements.{plain_block, plain_form, plain_statement};
 
-use crate::parsers::Parser;
+use crate::parsers::{Parser, no_level};
 use crate::stops::Stop;
 use crate::tokens::{name, next_in, next_is, number, sign};
 use cx_ast::{BindItem, Block, Mark, StatementForm, StatementItem};
@@ -30,6 +30,7 @@ const STATEMENT: [Terminal; 9] = [
 
 impl Parser {
     /// Reads a bind.
+    #[tactic(auto, unfolding(cx_grammar::specs::Calyx::bind))]
     fn bind(self, tokens: &[Token]) -> Result<(BindItem, &[Token]), Stop>
         ensures value { Gives (λ x. (x.0, x.1.now)) result ((read (nested_at self.levels) bind tokens.now)) }
     {
@@ -40,6 +41,7 @@ impl Parser {
     }
 
     /// Reads the binds behind the first. A comma may stand behind the last.
+    #[tactic(auto, unfolding(cx_grammar::specs::Calyx::bind))]
     fn more_binds(
         self,
         first: BindItem,
@@ -63,6 +65,7 @@ impl Parser {
     }
 
     /// Reads the binds between parentheses.
+    #[tactic(auto, unfolding(cx_grammar::specs::Calyx::some_binds, cx_grammar::specs::Calyx::bind))]
     fn some_binds(self, tokens: &[Token]) -> Result<(Vec<BindItem>, &[Token]), Stop>
         ensures value { Gives (λ x. (x.0.items, x.1.now)) result ((read (nested_at self.levels) some_binds tokens.now)) }
     {
@@ -74,6 +77,7 @@ impl Parser {
     }
 
     /// Reads binds and their parentheses.
+    #[tactic(auto, unfolding(cx_grammar::specs::Calyx::binds))]
     fn binds(self, tokens: &[Token]) -> Result<(Vec<BindItem>, &[Token]), Stop>
         ensures value { Gives (λ x. (x.0.items, x.1.now)) result ((read (nested_at self.levels) binds tokens.now)) }
     {
@@ -84,6 +88,7 @@ impl Parser {
     }
 
     /// Reads the comb group behind a condition, where there is one.
+    #[tactic(auto, unfolding(cx_grammar::specs::Calyx::comb))]
     fn comb(self, tokens: &[Token]) -> Result<(Option<Name>, &[Token]), Stop>
         ensures value { Gives (λ x. (x.0, x.1.now)) result ((read (nested_at self.levels) comb tokens.now)) }
     {
@@ -96,6 +101,7 @@ impl Parser {
     }
 
     /// Reads a block, its level begun.
+    #[tactic(auto, unfolding(cx_grammar::specs::Calyx::nest))]
     #[cycle(statement)]
     fn braces(self, tokens: &[Token]) -> Result<(Block, &[Token]), Stop>
         ensures value { Gives (λ x. (plain_block x.0, x.1.now)) result ((read (nested_at self.levels) (nest Braces) tokens.now)) }
@@ -109,12 +115,16 @@ impl Parser {
     /// Reads a block.
     #[cycle(statement)]
     pub fn block(self, tokens: &[Token]) -> Result<(Block, &[Token]), Stop>
-        ensures value { Gives (λ x. (plain_block x.0, x.1.now)) result ((read (nested_at self.levels) block tokens.now)) }
+        ensures value { Gives (λ x. (plain_block x.0, x.1.now)) result (nested_at self.levels Braces tokens.now) }
     {
-        self.deeper(tokens, Terminal::OpenBrace)?.braces(tokens)
+        match self.deeper() {
+            Some(parser) => parser.braces(tokens),
+            None => Err(no_level(tokens, Terminal::OpenBrace)),
+        }
     }
 
     /// Reads the block behind `else`, where there is one.
+    #[tactic(auto, unfolding(cx_grammar::specs::Calyx::otherwise, cx_grammar::specs::Calyx::block))]
     #[cycle(statement)]
     fn otherwise(self, tokens: &[Token]) -> Result<(Option<Block>, &[Token]), Stop>
         ensures value { Gives (λ x. (option_map plain_block x.0, x.1.now)) result ((read (nested_at self.levels) otherwise tokens.now)) }
@@ -128,6 +138,7 @@ impl Parser {
     }
 
     /// Reads marks and a block.
+    #[tactic(auto, unfolding(cx_grammar::specs::Calyx::marked_block, cx_grammar::specs::Calyx::block))]
     #[cycle(statement)]
     fn marked_block(self, tokens: &[Token]) -> Result<((Vec<Mark>, Block), &[Token]), Stop>
         ensures value { Gives (λ x. ((x.0.0.items, plain_block x.0.1), x.1.now)) result ((read (nested_at self.levels) marked_block tokens.now)) }
@@ -138,6 +149,7 @@ impl Parser {
     }
 
     /// Reads an `if` behind its word.
+    #[tactic(auto, unfolding(cx_grammar::specs::Calyx::if_rest, cx_grammar::specs::Calyx::block))]
     #[cycle(statement)]
     fn if_rest(self, tokens: &[Token]) -> Result<(StatementForm, &[Token]), Stop>
         ensures value { Gives (λ x. (plain_form x.0, x.1.now)) result ((read (nested_at self.levels) if_rest tokens.now)) }
@@ -158,6 +170,7 @@ impl Parser {
     }
 
     /// Reads a `while` behind its word.
+    #[tactic(auto, unfolding(cx_grammar::specs::Calyx::while_rest, cx_grammar::specs::Calyx::block))]
     #[cycle(statement)]
     fn while_rest(self, tokens: &[Token]) -> Result<(StatementForm, &[Token]), Stop>
         ensures value { Gives (λ x. (plain_form x.0, x.1.now)) result ((read (nested_at self.levels) while_rest tokens.now)) }
@@ -169,6 +182,7 @@ impl Parser {
     }
 
     /// Reads the count and the body of a `repeat`.
+    #[tactic(auto, unfolding(cx_grammar::specs::Calyx::repeat_rest, cx_grammar::specs::Calyx::block))]
     #[cycle(statement)]
     fn repeat_rest(self, tokens: &[Token]) -> Result<((u64, Block), &[Token]), Stop>
         ensures value { Gives (λ x. ((x.0.0, plain_block x.0.1), x.1.now)) result ((read (nested_at self.levels) repeat_rest tokens.now)) }
@@ -179,6 +193,7 @@ impl Parser {
     }
 
     /// Reads a static `if` behind its word.
+    #[tactic(auto, unfolding(cx_grammar::specs::Calyx::static_if_rest, cx_grammar::specs::Calyx::block))]
     #[cycle(statement)]
     fn static_if_rest(
         self,
@@ -202,6 +217,7 @@ impl Parser {
     }
 
     /// Reads the cell of an `invoke` and its binds.
+    #[tactic(auto, unfolding(cx_grammar::specs::Calyx::invoke_rest))]
     fn invoke_rest(
         self,
         tokens: &[Token],
@@ -216,6 +232,7 @@ impl Parser {
     }
 
     /// Reads what follows `static` and its length.
+    #[tactic(auto, unfolding(cx_grammar::specs::Calyx::static_rest))]
     #[cycle(statement)]
     fn static_rest(
         self,
@@ -276,6 +293,7 @@ impl Parser {
     }
 
     /// Reads a static statement behind the word `static`.
+    #[tactic(auto, unfolding(cx_grammar::specs::Calyx::static_form))]
     #[cycle(statement)]
     fn static_form(self, tokens: &[Token]) -> Result<(StatementForm, &[Token]), Stop>
         ensures value { Gives (λ x. (plain_form x.0, x.1.now)) result ((read (nested_at self.levels) static_form tokens.now)) }
@@ -285,6 +303,7 @@ impl Parser {
     }
 
     /// Reads the enable of a group.
+    #[tactic(auto, unfolding(cx_grammar::specs::Calyx::enable))]
     fn enable(self, tokens: &[Token]) -> Result<((StatementForm, Place), &[Token]), Stop>
         ensures value { Gives (λ x. ((plain_form x.0.0, x.0.1), x.1.now)) result ((read (nested_at self.levels) enable tokens.now)) }
     {
@@ -295,6 +314,7 @@ impl Parser {
     }
 
     /// Reads a `seq`.
+    #[tactic(auto, unfolding(cx_grammar::specs::Calyx::seq))]
     #[cycle(statement)]
     fn seq(self, tokens: &[Token]) -> Result<((StatementForm, Place), &[Token]), Stop>
         ensures value { Gives (λ x. ((plain_form x.0.0, x.0.1), x.1.now)) result ((read (nested_at self.levels) seq tokens.now)) }
@@ -305,6 +325,7 @@ impl Parser {
     }
 
     /// Reads a `par`.
+    #[tactic(auto, unfolding(cx_grammar::specs::Calyx::par))]
     #[cycle(statement)]
     fn par(self, tokens: &[Token]) -> Result<((StatementForm, Place), &[Token]), Stop>
         ensures value { Gives (λ x. ((plain_form x.0.0, x.0.1), x.1.now)) result ((read (nested_at self.levels) par tokens.now)) }
@@ -315,6 +336,7 @@ impl Parser {
     }
 
     /// Reads an `if`.
+    #[tactic(auto, unfolding(cx_grammar::specs::Calyx::if_form))]
     #[cycle(statement)]
     fn if_form(self, tokens: &[Token]) -> Result<((StatementForm, Place), &[Token]), Stop>
         ensures value { Gives (λ x. ((plain_form x.0.0, x.0.1), x.1.now)) result ((read (nested_at self.levels) if_form tokens.now)) }
@@ -325,6 +347,7 @@ impl Parser {
     }
 
     /// Reads a `while`.
+    #[tactic(auto, unfolding(cx_grammar::specs::Calyx::while_form))]
     #[cycle(statement)]
     fn while_form(self, tokens: &[Token]) -> Result<((StatementForm, Place), &[Token]), Stop>
         ensures value { Gives (λ x. ((plain_form x.0.0, x.0.1), x.1.now)) result ((read (nested_at self.levels) while_form tokens.now)) }
@@ -335,6 +358,7 @@ impl Parser {
     }
 
     /// Reads a `repeat`.
+    #[tactic(auto, unfolding(cx_grammar::specs::Calyx::repeat))]
     #[cycle(statement)]
     fn repeat(self, tokens: &[Token]) -> Result<((StatementForm, Place), &[Token]), Stop>
         ensures value { Gives (λ x. ((plain_form x.0.0, x.0.1), x.1.now)) result ((read (nested_at self.levels) repeat tokens.now)) }
@@ -345,6 +369,7 @@ impl Parser {
     }
 
     /// Reads an `invoke`.
+    #[tactic(auto, unfolding(cx_grammar::specs::Calyx::invoke))]
     fn invoke(self, tokens: &[Token]) -> Result<((StatementForm, Place), &[Token]), Stop>
         ensures value { Gives (λ x. ((plain_form x.0.0, x.0.1), x.1.now)) result ((read (nested_at self.levels) invoke tokens.now)) }
     {
@@ -364,6 +389,7 @@ impl Parser {
     }
 
     /// Reads a static statement.
+    #[tactic(auto, unfolding(cx_grammar::specs::Calyx::static_statement))]
     #[cycle(statement)]
     fn static_statement(self, tokens: &[Token]) -> Result<((StatementForm, Place), &[Token]), Stop>
         ensures value { Gives (λ x. ((plain_form x.0.0, x.0.1), x.1.now)) result ((read (nested_at self.levels) static_statement tokens.now)) }
@@ -374,6 +400,7 @@ impl Parser {
     }
 
     /// Reads a statement behind its attributes, with its place.
+    #[tactic(auto, unfolding(cx_grammar::specs::Calyx::form, cx_grammar::specs::Calyx::enable, cx_grammar::specs::Calyx::seq, cx_grammar::specs::Calyx::par, cx_grammar::specs::Calyx::if_form, cx_grammar::specs::Calyx::while_form, cx_grammar::specs::Calyx::repeat, cx_grammar::specs::Calyx::invoke))]
     #[cycle(statement)]
     fn form(self, tokens: &[Token]) -> Result<((StatementForm, Place), &[Token]), Stop>
         ensures value { Gives (λ x. ((plain_form x.0.0, x.0.1), x.1.now)) result ((read (nested_at self.levels) form tokens.now)) }
@@ -398,6 +425,7 @@ impl Parser {
     }
 
     /// Reads a statement.
+    #[tactic(auto, unfolding(cx_grammar::specs::Calyx::statement))]
     #[cycle(statement)]
     fn statement(self, tokens: &[Token]) -> Result<(StatementItem, &[Token]), Stop>
         ensures value { Gives (λ x. (plain_statement x.0, x.1.now)) result ((read (nested_at self.levels) statement tokens.now)) }
@@ -415,6 +443,7 @@ impl Parser {
     }
 
     /// Reads the statements of a block.
+    #[tactic(auto, unfolding(cx_grammar::specs::Calyx::statements, cx_grammar::specs::Calyx::statement, cx_grammar::specs::Calyx::attributes, cx_grammar::specs::Calyx::attribute, cx_grammar::specs::Calyx::form, cx_grammar::specs::Calyx::enable, cx_grammar::specs::Calyx::seq, cx_grammar::specs::Calyx::par, cx_grammar::specs::Calyx::if_form, cx_grammar::specs::Calyx::while_form, cx_grammar::specs::Calyx::repeat, cx_grammar::specs::Calyx::invoke, cx_grammar::specs::Calyx::static_statement))]
     #[cycle(statement)]
     fn statements(self, tokens: &[Token]) -> Result<(Vec<StatementItem>, &[Token]), Stop>
         ensures value { Gives (λ x. (map plain_statement x.0.items, x.1.now)) result ((read (nested_at self.levels) statements tokens.now)) }
@@ -430,6 +459,7 @@ impl Parser {
     }
 
     /// Reads the part `control`, where there is one.
+    #[tactic(auto, unfolding(cx_grammar::specs::Calyx::control, cx_grammar::specs::Calyx::block))]
     pub fn control(self, tokens: &[Token]) -> Result<(Option<Block>, &[Token]), Stop>
         ensures value { Gives (λ x. (option_map plain_block x.0, x.1.now)) result ((read (nested_at self.levels) control tokens.now)) }
     {
