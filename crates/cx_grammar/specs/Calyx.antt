@@ -60,13 +60,16 @@ literal_of (kinds.Sign sign) = operands.Literal 0 0
 abbrev pub Named : Type 0
 Named = List ℕ × Place
 
+abbrev pub named : Token → Named
+named token = (word_of token.kind, token.place)
+
 -- a reserved word or a sign
 abbrev pub sign : Terminal → Grammar Place
 sign terminal = One (terminal ∷ []) (λ token. token.place)
 
 -- a word that is not reserved
 abbrev pub name : Grammar Named
-name = One (t.Name ∷ []) (λ token. (word_of token.kind, token.place))
+name = One (t.Name ∷ []) named
 
 -- any word
 abbrev pub words : List Terminal

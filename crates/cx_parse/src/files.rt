@@ -1,16 +1,16 @@
 //! Reading a whole file.
 
 ghost use Rattle.std.specs.Prelude.{◌≡◌, ◌<◌, ◌^◌, [], ◌∷◌, length, map};
-ghost use Rattle.cx_parse.specs.Answers.{Gives, with_front, whole_at, place_left_of};
+ghost use Rattle.cx_guards.specs.Answers.{Gives, with_front};
+ghost use Rattle.cx_parse.specs.Whole.{whole_at, place_left_of, last_place};
 ghost use Rattle.cx_grammar.specs.Reading.{read, one_at};
 ghost use Rattle.cx_grammar.specs.Calyx.{nested_at, imports, components, file};
 ghost use Rattle.cx_ast.specs.PlainTree.{plain_tree, plain_component};
 
-use crate::parsers::Parser;
-use crate::stops::Stop;
-use crate::tokens::{next_in, next_is};
+use crate::components::component;
 use cx_ast::{ComponentItem, ImportItem, Tree};
 use cx_grammar::Terminal;
+use cx_guards::{Parser, Stop, import, next_in, next_is};
 use cx_text::{NESTING, Place};
 use cx_tokens::Token;
 use std::alloc::Global;
@@ -29,69 +29,67 @@ pub enum ParseFault {
     Memory,
 }
 
-impl Parser {
-    /// Reads imports.
-    #[tactic(auto, unfolding(cx_grammar::specs::Calyx::imports, cx_grammar::specs::Calyx::import))]
-    fn imports(self, tokens: &[Token]) -> Result<(Vec<ImportItem>, &[Token]), Stop>
-        ensures value { Gives (λ x. (x.0.items, x.1.now)) result ((read (nested_at self.levels) imports tokens.now)) }
-    {
-        let mut all = Vec::new(self.alloc);
-        let mut rest = tokens;
-        while next_is(rest, Terminal::Import) {
-            let (import, after) = self.import(rest)?;
-            all.push(import)?;
-            rest = after;
-        }
-        Ok((all, rest))
+/// Reads imports.
+#[tactic(auto, unfolding(cx_grammar::specs::Calyx::imports, cx_grammar::specs::Calyx::import))]
+fn imports(parser: Parser, tokens: &[Token]) -> Result<(Vec<ImportItem>, &[Token]), Stop>
+    ensures value { Gives (λ x. (x.0.items, x.1.now)) result ((read (nested_at parser.levels) imports tokens.now)) }
+{
+    let mut all = Vec::new(parser.alloc);
+    let mut rest = tokens;
+    while next_is(rest, Terminal::Import) {
+        let (import, after) = import(parser, rest)?;
+        all.push(import)?;
+        rest = after;
     }
+    Ok((all, rest))
+}
 
-    /// Reads the components behind the first.
-    #[tactic(auto, unfolding(cx_grammar::specs::Calyx::components, cx_grammar::specs::Calyx::component, cx_grammar::specs::Calyx::attributes, cx_grammar::specs::Calyx::attribute, cx_grammar::specs::Calyx::component_word))]
-    fn more_components(
-        self,
-        first: ComponentItem,
-        tokens: &[Token],
-    ) -> Result<(Vec<ComponentItem>, &[Token]), Stop>
-        ensures value { Gives (λ x. (map plain_component x.0.items, x.1.now)) result (with_front (plain_component first ∷ []) (read (nested_at self.levels) components tokens.now)) }
-    {
-        let mut all = Vec::new(self.alloc);
-        all.push(first)?;
-        let mut rest = tokens;
-        while next_in(rest, &COMPONENT) {
-            let (component, after) = self.component(rest)?;
-            all.push(component)?;
-            rest = after;
-        }
-        Ok((all, rest))
+/// Reads the components behind the first.
+#[tactic(auto, unfolding(cx_grammar::specs::Calyx::components, cx_grammar::specs::Calyx::component, cx_grammar::specs::Calyx::attributes, cx_grammar::specs::Calyx::attribute, cx_grammar::specs::Calyx::component_word))]
+fn more_components(
+    parser: Parser,
+    first: ComponentItem,
+    tokens: &[Token],
+) -> Result<(Vec<ComponentItem>, &[Token]), Stop>
+    ensures value { Gives (λ x. (map plain_component x.0.items, x.1.now)) result (with_front (plain_component first ∷ []) (read (nested_at parser.levels) components tokens.now)) }
+{
+    let mut all = Vec::new(parser.alloc);
+    all.push(first)?;
+    let mut rest = tokens;
+    while next_in(rest, &COMPONENT) {
+        let (component, after) = component(parser, rest)?;
+        all.push(component)?;
+        rest = after;
     }
+    Ok((all, rest))
+}
 
-    /// Reads imports and components.
-    #[tactic(auto, unfolding(cx_grammar::specs::Calyx::file))]
-    fn file(self, tokens: &[Token]) -> Result<(Tree, &[Token]), Stop>
-        ensures value { Gives (λ x. (plain_tree x.0, x.1.now)) result ((read (nested_at self.levels) file tokens.now)) }
-    {
-        let (imports, rest) = self.imports(tokens)?;
-        let (first, rest) = self.component(rest)?;
-        let (components, rest) = self.more_components(first, rest)?;
-        Ok((
-            Tree {
-                imports,
-                components,
-            },
-            rest,
-        ))
-    }
+/// Reads imports and components.
+#[tactic(auto, unfolding(cx_grammar::specs::Calyx::file))]
+fn file(parser: Parser, tokens: &[Token]) -> Result<(Tree, &[Token]), Stop>
+    ensures value { Gives (λ x. (plain_tree x.0, x.1.now)) result ((read (nested_at parser.levels) file tokens.now)) }
+{
+    let (imports, rest) = imports(parser, tokens)?;
+    let (first, rest) = component(parser, rest)?;
+    let (components, rest) = more_components(parser, first, rest)?;
+    Ok((
+        Tree {
+            imports,
+            components,
+        },
+        rest,
+    ))
+}
 
-    /// Reads a file up to the end of the tokens.
-    fn whole(self, tokens: &[Token]) -> Result<Tree, Stop>
-        ensures value { Gives plain_tree result (whole_at self.levels tokens.now) }
-    {
-        let (tree, rest) = self.file(tokens)?;
-        if rest.is_empty() {
-            Ok(tree)
-        } else {
-            Err(Stop::Unexpected(rest.len()))
-        }
+/// Reads a file up to the end of the tokens.
+fn whole(parser: Parser, tokens: &[Token]) -> Result<Tree, Stop>
+    ensures value { Gives plain_tree result (whole_at parser.levels tokens.now) }
+{
+    let (tree, rest) = file(parser, tokens)?;
+    if rest.is_empty() {
+        Ok(tree)
+    } else {
+        Err(Stop::Unexpected(rest.len()))
     }
 }
 
@@ -99,13 +97,22 @@ impl Parser {
 fn place_left(tokens: &[Token], left: usize) -> Place
     ensures value { result ≡ place_left_of tokens.now left }
 {
-    match tokens.get(tokens.len() - left) {
-        Some(token) => token.place,
-        None => match tokens.last() {
-            Some(token) => token.place,
-            None => Place { line: 1, column: 1 },
-        },
+    let rest = &tokens[tokens.len().saturating_sub(left)..];
+    match rest.split_first() {
+        Some((first, _)) => first.place,
+        None => end_place(tokens),
     }
+}
+
+/// The place of the last token, or 1:1.
+fn end_place(tokens: &[Token]) -> Place
+    ensures value { result ≡ last_place (record { line = 1; column = 1 }) tokens.now }
+{
+    let mut place = Place { line: 1, column: 1 };
+    for token in tokens {
+        place = token.place;
+    }
+    place
 }
 
 /// Reads the tree that the tokens spell.
@@ -116,7 +123,7 @@ pub fn parse(alloc: Global, tokens: &[Token]) -> Result<Tree, ParseFault>
         alloc,
         levels: NESTING as u32,
     };
-    match parser.whole(tokens) {
+    match whole(parser, tokens) {
         Ok(tree) => Ok(tree),
         Err(Stop::Unexpected(left)) => Err(ParseFault::Unexpected(place_left(tokens, left))),
         Err(Stop::TooDeep(left)) => Err(ParseFault::TooDeep(place_left(tokens, left))),

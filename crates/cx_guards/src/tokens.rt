@@ -1,10 +1,10 @@
 //! Reading one token.
 
 ghost use Rattle.std.specs.Prelude.{◌≡◌, [], ◌∷◌};
-ghost use Rattle.cx_parse.specs.Answers.{Gives};
+ghost use Rattle.cx_guards.specs.Answers.{Gives};
 ghost use Rattle.cx_grammar.specs.Terminals as terminals;
 ghost use Rattle.cx_grammar.specs.Reading.{one_at};
-ghost use Rattle.cx_grammar.specs.Calyx.{words, word_of, text_of, number_of};
+ghost use Rattle.cx_grammar.specs.Calyx.{words, named, word_of, text_of, number_of};
 
 use crate::stops::Stop;
 use cx_grammar::{Terminal, from_kind, from_word};
@@ -47,7 +47,7 @@ pub fn sign(tokens: &[Token], want: Terminal) -> Result<(Place, &[Token]), Stop>
 
 /// Reads a word that is not reserved, and answers its place too.
 pub fn name(alloc: Global, tokens: &[Token]) -> Result<((Name, Place), &[Token]), Stop>
-    ensures value { Gives (λ x. ((x.0.0, x.0.1), x.1.now)) result (one_at (Terminal.Name ∷ []) (λ t. (word_of t.kind, t.place)) tokens.now) }
+    ensures value { Gives (λ x. ((x.0.0, x.0.1), x.1.now)) result (one_at (Terminal.Name ∷ []) named tokens.now) }
 {
     match tokens.split_first() {
         Some((first, rest)) => match &first.kind {

@@ -1,7 +1,7 @@
 //! What every reading function needs.
 
 ghost use Rattle.std.specs.Prelude.{◌≡◌, ◌+◌, MatchOption};
-ghost use Rattle.cx_parse.specs.Answers.{stop_without_level};
+ghost use Rattle.cx_guards.specs.Answers.{stop_without_level};
 
 use crate::stops::Stop;
 use crate::tokens::next_is;

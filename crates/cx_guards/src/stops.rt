@@ -1,7 +1,7 @@
 //! Why reading stops.
 
 ghost use Rattle.std.specs.Prelude.{◌≡◌};
-ghost use Rattle.cx_parse.specs.declared.stops.Stop.TheVariants as stops;
+ghost use Rattle.cx_guards.specs.declared.stops.Stop.TheVariants as stops;
 
 use cx_text;
 use std::alloc::{AllocError, AllocFailed};
