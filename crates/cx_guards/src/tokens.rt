@@ -27,12 +27,16 @@ pub fn next_in(tokens: &[Token], set: &[Terminal]) -> bool
     ensures value { result ≡ terminals.begins set.now tokens.now }
 {
     match tokens.split_first() {
-        Some((first, _)) => {
-            let terminal = from_kind(&first.kind);
-            set.iter().any(|t| terminal.is(*t))
-        }
+        Some((first, _)) => is_one_of(from_kind(&first.kind), set),
         None => false,
     }
+}
+
+/// Tells whether a terminal is one of a set.
+fn is_one_of(terminal: Terminal, set: &[Terminal]) -> bool
+    ensures value { result ≡ terminals.is_in terminal set.now }
+{
+    set.iter().any(|t| terminal.is(*t))
 }
 
 /// Reads a reserved word or a sign, and answers its place.
