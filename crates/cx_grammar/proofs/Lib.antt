@@ -1,3 +1,4 @@
 pub mod Known
 pub mod Shorter
 pub mod Loops
+pub mod Sound

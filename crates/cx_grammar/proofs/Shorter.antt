@@ -106,7 +106,7 @@ module _ (nested : (n : Nest) → List Token → Reads (Nested n)) (shorter : (n
       subst (λ (p : B × List Token). Taken (nullable g) (length p.1) (length ts)) (ok_same rb) (rw (← and-true (nullable g)) all)
   took (Deeper n) ts x e = shorter n ts x e
 
-nullable_nest : (n : Nest) → nullable (nest n) ≡ false
+pub nullable_nest : (n : Nest) → nullable (nest n) ≡ false
 unfolding nest
 nullable_nest Negation = refl
 nullable_nest Parens = refl

@@ -250,8 +250,11 @@ unfoldable pub guarded : Grammar (PlainGuard → Value)
 guarded = Pair guarded_of more_comps (pair more_conjs (behind t.Question operand))
 
 -- what follows an operand: the rest of a guard that begins with it, or nothing
+unfoldable pub guard_value : Grammar (OperandItem → Value)
+guard_value = Pair (λ f k o. k (f o)) compared guarded
+
 unfoldable pub after_operand : Grammar (OperandItem → Value)
-after_operand = Choice (Pair (λ f k o. k (f o)) compared guarded) (Empty (λ o. (None, o)))
+after_operand = Choice guard_value (Empty (λ o. (None, o)))
 
 unfoldable pub value : Grammar Value
 value = Choice (Pair (λ g k. k g) prefixed guarded) (Pair (λ o k. k o) operand after_operand)

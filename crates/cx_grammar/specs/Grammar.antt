@@ -88,7 +88,7 @@ Several_of spelled ts [] rest = ts ≡ rest
 Several_of spelled ts (x ∷ xs) rest = (mid : List Token) × spelled ts x mid × Several_of spelled mid xs rest
 
 abbrev pub IsComma : List Token → List Token → Type 0
-IsComma ts rest = (t : Token) × (ts ≡ t ∷ rest) × (terminal_of t.kind ≡ Comma)
+IsComma ts rest = (t : Token) × (ts ≡ t ∷ rest) × (is_in (terminal_of t.kind) (Comma ∷ []) ≡ true)
 
 abbrev pub Commas_of : {A : Type 0} → Spelling A → A → List A → List Token → List Token → Type 0
 Commas_of spelled x [] ts rest = (mid : List Token) × spelled ts x mid × ((mid ≡ rest) ⊎ IsComma mid rest)

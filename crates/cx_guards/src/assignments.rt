@@ -3,7 +3,7 @@
 ghost use Rattle.std.specs.Prelude.{◌≡◌, map, option_map};
 ghost use Rattle.cx_guards.specs.Answers.{Gives, given};
 ghost use Rattle.cx_grammar.specs.Reading.{read, one_at};
-ghost use Rattle.cx_grammar.specs.Calyx.{nested_at, guarded, after_operand, value, bare_assign, assign, assigns};
+ghost use Rattle.cx_grammar.specs.Calyx.{nested_at, guarded, guard_value, after_operand, value, bare_assign, assign, assigns};
 ghost use Rattle.cx_ast.specs.PlainGuards.{plain_guard};
 ghost use Rattle.cx_ast.specs.PlainTree.{plain_assign};
 
@@ -50,8 +50,21 @@ fn guarded(parser: Parser, first: GuardItem, tokens: &[Token]) -> Result<(Value,
     Ok(((Some(disjunction(parts)), source), rest))
 }
 
+/// Reads the rest of a guard behind its first operand, and the source.
+#[tactic(auto, unfolding(cx_grammar::specs::Calyx::guard_value))]
+fn guard_value(
+    parser: Parser,
+    first: OperandItem,
+    tokens: &[Token],
+) -> Result<(Value, &[Token]), Stop>
+    ensures value { Gives (λ x. ((option_map plain_guard x.0.0, x.0.1), x.1.now)) result (given first (read (nested_at parser.levels) guard_value tokens.now)) }
+{
+    let (part, rest) = compared(parser, first, tokens)?;
+    guarded(parser, part, rest)
+}
+
 /// Reads what follows the first operand of a value.
-#[tactic(auto, unfolding(cx_grammar::specs::Calyx::after_operand, cx_grammar::specs::Calyx::compared, cx_grammar::specs::Calyx::cmp, cx_grammar::specs::Calyx::guarded, cx_grammar::specs::Calyx::more_comps, cx_grammar::specs::Calyx::next_comp, cx_grammar::specs::Calyx::more_conjs, cx_grammar::specs::Calyx::next_conj))]
+#[tactic(auto, unfolding(cx_grammar::specs::Calyx::after_operand, cx_grammar::specs::Calyx::guard_value, cx_grammar::specs::Calyx::compared, cx_grammar::specs::Calyx::cmp, cx_grammar::specs::Calyx::guarded, cx_grammar::specs::Calyx::more_comps, cx_grammar::specs::Calyx::next_comp, cx_grammar::specs::Calyx::more_conjs, cx_grammar::specs::Calyx::next_conj))]
 fn after_operand(
     parser: Parser,
     first: OperandItem,
@@ -60,8 +73,7 @@ fn after_operand(
     ensures value { Gives (λ x. ((option_map plain_guard x.0.0, x.0.1), x.1.now)) result (given first (read (nested_at parser.levels) after_operand tokens.now)) }
 {
     if next_in(tokens, &GUARD_GOES_ON) {
-        let (part, rest) = compared(parser, first, tokens)?;
-        guarded(parser, part, rest)
+        guard_value(parser, first, tokens)
     } else {
         Ok(((None, first), tokens))
     }

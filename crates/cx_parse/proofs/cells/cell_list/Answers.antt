@@ -23,7 +23,7 @@ loop-parser-smaller c = shorter_at c.args.parser.levels cell refl c.loop-parser.
 pub loop-parser-preserved : goal.loop-parser-preserved
 unfolding cell attributes attribute cell_list
 loop-parser-preserved c =
-    rw (c.in_ok-push.ensures.items, map_push plain_cell c.loop-parser.all.items c.in_ok-cell.cell) 
+    rw (c.in_ok-push.ensures.items, map_push plain_cell c.loop-parser.all.items c.in_ok-cell.cell)
     (front-next c.args.parser.levels cell refl (map plain_cell c.loop-parser.all.items) c.loop-parser.rest.now (plain_cell c.in_ok-cell.cell) c.in_ok-cell.after.now (sym c.next_in.ensures.value ∙ c.loop-parser-test.true) c.in_ok-cell.ensures.value ∙ c.loop-parser.invariant)
 
 pub returns : goal.returns

@@ -22,7 +22,7 @@ loop-parser-smaller c = shorter_at c.args.parser.levels next_number refl c.loop-
 pub loop-parser-preserved : goal.loop-parser-preserved
 unfolding next_number more_numbers
 loop-parser-preserved c =
-    rw c.in_ok-push-2.ensures.items 
+    rw c.in_ok-push-2.ensures.items
     (front-next c.args.parser.levels next_number refl c.loop-parser.all.items c.loop-parser.rest.now c.in_ok-n.n c.in_ok-n.after.now (sym c.next_is.ensures.value ∙ c.loop-parser-test.true) c.in_ok-n.ensures.value ∙ c.loop-parser.invariant)
 
 pub returns : goal.returns

@@ -22,7 +22,7 @@ loop-parser-smaller c = shorter_at c.args.parser.levels import refl c.loop-parse
 pub loop-parser-preserved : goal.loop-parser-preserved
 unfolding import imports
 loop-parser-preserved c =
-    rw c.in_ok-push.ensures.items 
+    rw c.in_ok-push.ensures.items
     (front-next c.args.parser.levels import refl c.loop-parser.all.items c.loop-parser.rest.now c.in_ok-import.import c.in_ok-import.after.now (sym c.next_is.ensures.value ∙ c.loop-parser-test.true) c.in_ok-import.ensures.value ∙ c.loop-parser.invariant)
 
 pub returns : goal.returns

@@ -23,7 +23,7 @@ loop-parser-smaller c = shorter_at c.args.parser.levels component refl c.loop-pa
 pub loop-parser-preserved : goal.loop-parser-preserved
 unfolding component attributes attribute component_word components
 loop-parser-preserved c =
-    rw (c.in_ok-push-2.ensures.items, map_push plain_component c.loop-parser.all.items c.in_ok-component.component) 
+    rw (c.in_ok-push-2.ensures.items, map_push plain_component c.loop-parser.all.items c.in_ok-component.component)
     (front-next c.args.parser.levels component refl (map plain_component c.loop-parser.all.items) c.loop-parser.rest.now (plain_component c.in_ok-component.component) c.in_ok-component.after.now (sym c.next_in.ensures.value ∙ c.loop-parser-test.true) c.in_ok-component.ensures.value ∙ c.loop-parser.invariant)
 
 pub returns : goal.returns

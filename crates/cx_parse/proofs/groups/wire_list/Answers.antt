@@ -23,7 +23,7 @@ loop-parser-smaller c = shorter_at c.args.parser.levels wire refl c.loop-parser.
 pub loop-parser-preserved : goal.loop-parser-preserved
 unfolding wire attributes attribute bare_assign target bare_group group_word wire_list
 loop-parser-preserved c =
-    rw (c.in_ok-push.ensures.items, map_push plain_wire c.loop-parser.all.items c.in_ok-wire.wire) 
+    rw (c.in_ok-push.ensures.items, map_push plain_wire c.loop-parser.all.items c.in_ok-wire.wire)
     (front-next c.args.parser.levels wire refl (map plain_wire c.loop-parser.all.items) c.loop-parser.rest.now (plain_wire c.in_ok-wire.wire) c.in_ok-wire.after.now (sym c.next_in.ensures.value ∙ c.loop-parser-test.true) c.in_ok-wire.ensures.value ∙ c.loop-parser.invariant)
 
 pub returns : goal.returns

@@ -23,7 +23,7 @@ statements-loop-parser-smaller t c = shorter_at c.args.parser.levels statement r
 pub statements-loop-parser-preserved : goal.statements-loop-parser-preserved
 unfolding statement attributes attribute form enable seq par if_form while_form repeat invoke static_statement statements
 statements-loop-parser-preserved t c =
-    rw (c.in_ok-push.ensures.items, map_push plain_statement c.loop-parser.all.items c.in_ok-statement.statement) 
+    rw (c.in_ok-push.ensures.items, map_push plain_statement c.loop-parser.all.items c.in_ok-statement.statement)
     (front-next c.args.parser.levels statement refl (map plain_statement c.loop-parser.all.items) c.loop-parser.rest.now (plain_statement c.in_ok-statement.statement) c.in_ok-statement.after.now (sym c.next_in.ensures.value ∙ c.loop-parser-test.true) c.in_ok-statement.ensures.value ∙ c.loop-parser.invariant)
 
 pub statements-returns : goal.statements-returns
