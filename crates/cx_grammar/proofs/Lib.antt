@@ -2,3 +2,4 @@ pub mod Known
 pub mod Shorter
 pub mod Loops
 pub mod Sound
+pub mod Complete
