@@ -49,6 +49,32 @@ module _ {A : Type 0} (r : List Token → Reads A) (set : List Terminal) (shorte
       ∙ ap (λ s. then_reads s (λ x mid. then_reads (several_in r set (length ts) mid) (λ xs rest. Ok (x ∷ xs, rest)))) e
       ∙ ap (λ s. then_reads s (λ xs rest. Ok (x.0 ∷ xs, rest))) (enough (length ts) (length x.1) x.1 (omega arith) (omega arith))
 
+  -- at once for both
+  pub several-unroll : (ts : List Token) → begins set ts ≡ true → several_at r set ts ≡ then_reads (r ts) (λ x mid. then_reads (several_at r set mid) (λ xs rest. Ok (x ∷ xs, rest)))
+  unfolding several_at
+  several-unroll [] b = absurd (cc)
+  several-unroll (t ∷ ts) b =
+      ap (λ s. cond s (then_reads (r (t ∷ ts)) (λ x mid. then_reads (several_in r set (length ts) mid) (λ xs rest. Ok (x ∷ xs, rest)))) (Ok ([], t ∷ ts))) b
+      ∙ alike (r (t ∷ ts)) _ _ (λ x e. let le : length x.1 < length (t ∷ ts) = shorter (t ∷ ts) x e in ap (λ s. then_reads s (λ xs rest. Ok (x.0 ∷ xs, rest))) (enough (length ts) (length x.1) x.1 (omega arith) (omega arith)))
+
+  pub commas-none : (ts : List Token) → begins (Comma ∷ []) ts ≡ false → commas_at r set ts ≡ Ok ([], ts)
+  unfolding commas_at
+  commas-none [] b = refl
+  commas-none (t ∷ ts) b = ap (λ s. cond s (cond (begins set ts) (then_reads (r ts) (λ x mid. then_reads (commas_in r set (length ts) mid) (λ xs rest. Ok (x ∷ xs, rest)))) (Ok ([], ts))) (Ok ([], t ∷ ts))) b
+
+  pub commas-last : (t : Token) (ts : List Token) → is_in (terminal_of t.kind) (Comma ∷ []) ≡ true → begins set ts ≡ false → commas_at r set (t ∷ ts) ≡ Ok ([], ts)
+  unfolding commas_at
+  commas-last t ts c b =
+      ap (λ s. cond s (cond (begins set ts) (then_reads (r ts) (λ x mid. then_reads (commas_in r set (length ts) mid) (λ xs rest. Ok (x ∷ xs, rest)))) (Ok ([], ts))) (Ok ([], t ∷ ts))) c
+      ∙ ap (λ s. cond s (then_reads (r ts) (λ x mid. then_reads (commas_in r set (length ts) mid) (λ xs rest. Ok (x ∷ xs, rest)))) (Ok ([], ts))) b
+
+  pub commas-unroll : (t : Token) (ts : List Token) → is_in (terminal_of t.kind) (Comma ∷ []) ≡ true → begins set ts ≡ true → commas_at r set (t ∷ ts) ≡ then_reads (r ts) (λ x mid. then_reads (commas_at r set mid) (λ xs rest. Ok (x ∷ xs, rest)))
+  unfolding commas_at
+  commas-unroll t ts c b =
+      ap (λ s. cond s (cond (begins set ts) (then_reads (r ts) (λ x mid. then_reads (commas_in r set (length ts) mid) (λ xs rest. Ok (x ∷ xs, rest)))) (Ok ([], ts))) (Ok ([], t ∷ ts))) c
+      ∙ ap (λ s. cond s (then_reads (r ts) (λ x mid. then_reads (commas_in r set (length ts) mid) (λ xs rest. Ok (x ∷ xs, rest)))) (Ok ([], ts))) b
+      ∙ alike (r ts) _ _ (λ x e. let le : length x.1 < length ts = shorter ts x e in ap (λ s. then_reads s (λ xs rest. Ok (x.0 ∷ xs, rest))) (commas_enough (length ts) (length x.1) x.1 (omega arith) (omega arith)))
+
   pub several-stop : (ts : List Token) (s : Stop) → begins set ts ≡ true → r ts ≡ Err s → several_at r set ts ≡ Err s
   unfolding several_at
   several-stop [] s b e = absurd (cc)

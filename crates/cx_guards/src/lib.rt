@@ -14,4 +14,4 @@ pub use assignments::{assigns, bare_assign};
 pub use operands::operand;
 pub use parsers::{Parser, no_level};
 pub use stops::Stop;
-pub use tokens::{name, next_in, next_is, number, sign};
+pub use tokens::{after_comma, name, next_in, next_is, number, sign};

@@ -1,7 +1,8 @@
 //! Reading one token.
 
-ghost use Rattle.std.specs.Prelude.{◌≡◌, [], ◌∷◌};
+ghost use Rattle.std.specs.Prelude.{◌≡◌, [], ◌∷◌, false, MatchOption};
 ghost use Rattle.cx_guards.specs.Answers.{Gives};
+ghost use Rattle.cx_grammar.specs.Grammar.{IsComma};
 ghost use Rattle.cx_grammar.specs.Terminals as terminals;
 ghost use Rattle.cx_grammar.specs.Reading.{one_at};
 ghost use Rattle.cx_grammar.specs.Calyx.{words, named, word_of, text_of, number_of};
@@ -37,6 +38,16 @@ fn is_one_of(terminal: Terminal, set: &[Terminal]) -> bool
     ensures value { result ≡ terminals.is_in terminal set.now }
 {
     set.iter().any(|t| terminal.is(*t))
+}
+
+/// The tokens behind a comma, where one is next.
+pub fn after_comma(tokens: &[Token]) -> Option<&[Token]>
+    ensures value { MatchOption result (terminals.begins (Terminal.Comma ∷ []) tokens.now ≡ false) (λ after. IsComma tokens.now after.now) }
+{
+    match tokens.split_first() {
+        Some((first, rest)) if from_kind(&first.kind).is(Terminal::Comma) => Some(rest),
+        _ => None,
+    }
 }
 
 /// Reads a reserved word or a sign, and answers its place.

@@ -2,9 +2,12 @@
 use Rattle.std.specs.Prelude.{◌≡◌, ℕ, ◌-◌, List, [], ◌∷◌, length, Result, Ok, Err, drop}
 use Rattle.cx_text.specs.declared.places.Place.{Place}
 use Rattle.cx_tokens.specs.declared.tokens.Token.{Token}
-use Rattle.cx_ast.specs.PlainTree.{PlainTree}
-use Rattle.cx_grammar.specs.Reading.{Stop, Reads, read, unexpected}
+use Rattle.cx_ast.specs.declared.trees.Tree.{Tree}
+use Rattle.cx_ast.specs.PlainTree.{PlainTree, plain_tree}
+use Rattle.cx_grammar.specs.Reading.{Stop, Unexpected, TooDeep, Reads, read, unexpected}
 use Rattle.cx_grammar.specs.Calyx.{nested_at, file}
+use Rattle.cx_parse.specs.declared.files.ParseFault.{ParseFault}
+use Rattle.cx_parse.specs.declared.files.ParseFault.TheVariants as faults
 
 -- a file and nothing behind it
 abbrev pub whole_of : PlainTree → List Token → Result PlainTree Stop
@@ -29,3 +32,20 @@ place_at (t ∷ rest) ts = t.place
 
 abbrev pub place_left_of : List Token → ℕ → Place
 place_left_of ts left = place_at (drop (length ts - left) ts) ts
+
+-- reading a file from the left, with 64 levels of control and of each guard
+unfoldable pub reading : List Token → Result PlainTree Stop
+reading ts = whole_at 64 ts
+
+-- the fault is the stop of reading, at its place
+abbrev pub IsFault : List Token → ParseFault → Type 0
+IsFault ts (faults.Unexpected place) = (left : ℕ) × (reading ts ≡ Err (record { why = Unexpected; left = left })) × (place ≡ place_left_of ts left)
+IsFault ts (faults.TooDeep place) = (left : ℕ) × (reading ts ≡ Err (record { why = TooDeep; left = left })) × (place ≡ place_left_of ts left)
+IsFault ts faults.Memory = Unit {0}
+
+-- the tree is what is answered, unless memory ran out
+abbrev pub IsOnly : PlainTree → Result Tree ParseFault → Type 0
+IsOnly tree (Ok t) = plain_tree t ≡ tree
+IsOnly tree (Err (faults.Unexpected place)) = ⊥
+IsOnly tree (Err (faults.TooDeep place)) = ⊥
+IsOnly tree (Err faults.Memory) = Unit {0}

@@ -1,11 +1,12 @@
 //! Reading a whole file.
 
-ghost use Rattle.std.specs.Prelude.{◌≡◌, ◌<◌, ◌^◌, [], ◌∷◌, length, map};
-ghost use Rattle.cx_guards.specs.Answers.{Gives, with_front};
-ghost use Rattle.cx_parse.specs.Whole.{whole_at, place_left_of, last_place};
+ghost use Rattle.std.specs.Prelude.{◌≡◌, ◌<◌, ◌^◌, [], ◌∷◌, length, map, IfOk, IfErr};
+ghost use Rattle.cx_guards.specs.Answers.{Fails, Gives, with_front};
+ghost use Rattle.cx_parse.specs.Whole.{whole_at, place_left_of, last_place, reading, IsFault, IsOnly};
 ghost use Rattle.cx_grammar.specs.Reading.{read, one_at};
 ghost use Rattle.cx_grammar.specs.Calyx.{nested_at, imports, components, file};
-ghost use Rattle.cx_ast.specs.PlainTree.{plain_tree, plain_component};
+ghost use Rattle.cx_grammar.specs.Parsing.{Parse};
+ghost use Rattle.cx_ast.specs.PlainTree.{PlainTree, plain_tree, plain_component};
 
 use crate::components::component;
 use cx_ast::{ComponentItem, ImportItem, Tree};
@@ -115,18 +116,42 @@ fn end_place(tokens: &[Token]) -> Place
     place
 }
 
-/// Reads the tree that the tokens spell.
-pub fn parse(alloc: Global, tokens: &[Token]) -> Result<Tree, ParseFault>
-    requires { length tokens.now < 2 ^ 28 }
+/// The fault that a stop is.
+fn fault_of(tokens: &[Token], stop: Stop) -> ParseFault
+    requires stopped { Fails {Y = PlainTree} stop (reading tokens.now) }
+    ensures fault { IsFault tokens.now result }
+{
+    match stop {
+        Stop::Unexpected(left) => ParseFault::Unexpected(place_left(tokens, left)),
+        Stop::TooDeep(left) => ParseFault::TooDeep(place_left(tokens, left)),
+        Stop::Memory => ParseFault::Memory,
+    }
+}
+
+/// Reads a file with all the levels that it may have.
+#[tactic(auto, unfolding(crate::specs::Whole::reading))]
+fn read_file(alloc: Global, tokens: &[Token]) -> Result<Tree, Stop>
+    ensures value { Gives plain_tree result (reading tokens.now) }
 {
     let parser = Parser {
         alloc,
         levels: NESTING as u32,
     };
-    match whole(parser, tokens) {
+    whole(parser, tokens)
+}
+
+/// Reads the tree that the tokens spell.
+pub fn parse(alloc: Global, tokens: &[Token]) -> Result<Tree, ParseFault>
+    requires { length tokens.now < 2 ^ 28 }
+    // What is answered is the tokens' tree.
+    ensures parsed { IfOk result (λ tree. Parse tokens.now (plain_tree tree)) }
+    // The tokens' tree is answered, unless memory runs out.
+    ensures only { (tree : PlainTree) → Parse tokens.now tree → IsOnly tree result }
+    // Where reading from the left stops.
+    ensures fault { IfErr result (IsFault tokens.now) }
+{
+    match read_file(alloc, tokens) {
         Ok(tree) => Ok(tree),
-        Err(Stop::Unexpected(left)) => Err(ParseFault::Unexpected(place_left(tokens, left))),
-        Err(Stop::TooDeep(left)) => Err(ParseFault::TooDeep(place_left(tokens, left))),
-        Err(Stop::Memory) => Err(ParseFault::Memory),
+        Err(stop) => Err(fault_of(tokens, stop)),
     }
 }

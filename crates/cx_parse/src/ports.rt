@@ -9,7 +9,7 @@ ghost use Rattle.cx_ast.specs.PlainTree.{plain_port};
 
 use cx_ast::PortItem;
 use cx_grammar::Terminal;
-use cx_guards::{Parser, Stop, attributes, name, next_in, next_is, number, sign};
+use cx_guards::{Parser, Stop, after_comma, attributes, name, next_in, next_is, number, sign};
 use cx_tokens::Token;
 
 /// The terminals that a port begins with.
@@ -47,8 +47,7 @@ fn more_ports(
     let mut all = Vec::new(parser.alloc);
     all.push(first)?;
     let mut rest = tokens;
-    while next_is(rest, Terminal::Comma) {
-        let (_, after) = sign(rest, Terminal::Comma)?;
+    while let Some(after) = after_comma(rest) {
         if !next_in(after, &PORT) {
             return Ok((all, after));
         }

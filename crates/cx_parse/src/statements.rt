@@ -10,8 +10,8 @@ ghost use Rattle.cx_ast.specs.PlainStatements.{plain_block, plain_form, plain_st
 use cx_ast::{BindItem, Block, Mark, StatementForm, StatementItem};
 use cx_grammar::Terminal;
 use cx_guards::{
-    Parser, Stop, attributes, marks, name, next_in, next_is, no_level, number, operand,
-    optional_length, sign,
+    Parser, Stop, after_comma, attributes, marks, name, next_in, next_is, no_level, number,
+    operand, optional_length, sign,
 };
 use cx_text::{Name, Place};
 use cx_tokens::Token;
@@ -52,8 +52,7 @@ fn more_binds(
     let mut all = Vec::new(parser.alloc);
     all.push(first)?;
     let mut rest = tokens;
-    while next_is(rest, Terminal::Comma) {
-        let (_, after) = sign(rest, Terminal::Comma)?;
+    while let Some(after) = after_comma(rest) {
         if !next_is(after, Terminal::Name) {
             return Ok((all, after));
         }
