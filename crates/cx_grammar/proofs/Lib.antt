@@ -6,3 +6,4 @@ pub mod Complete
 pub mod OneTree
 pub mod Samples
 pub mod Stays
+pub mod Viable

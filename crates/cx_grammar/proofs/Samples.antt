@@ -133,7 +133,7 @@ or_none : (a : Bool) → (a || false) ≡ true → a ≡ true
 or_none true e = refl
 or_none false e = e
 
-one_sample : {A : Type 0} (spelled : (n : Nest) → Spelling (Nested n)) (set : List Terminal) (value : Token → A) → not (is_empty set) ≡ true → Sample (Spells spelled (One set value))
+pub one_sample : {A : Type 0} (spelled : (n : Nest) → Spelling (Nested n)) (set : List Terminal) (value : Token → A) → not (is_empty set) ≡ true → Sample (Spells spelled (One set value))
 one_sample spelled [] value e = absurd (cc)
 one_sample spelled (t ∷ set) value e = record {
   tokens = token_for t ∷ [];
