@@ -4,7 +4,6 @@
 mod design;
 mod engine;
 mod reader;
-mod scanner;
 mod shape;
 
 pub use design::Design;

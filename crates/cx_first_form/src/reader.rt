@@ -1,23 +1,21 @@
-//! Reads a design of the first form: registers, adders and memories of one dimension, and one `seq` of groups.
+//! Takes a design of the first form from its tree: registers, adders and memories of one dimension, and one `seq` of
+//! groups.
 
 use crate::design::{Assign, Cell, CellKind, Design, Group, Input, Operand};
-use crate::scanner::{OtherForm, Scanner};
 use crate::shape::keeps_shape;
+use cx_ast::{
+    AssignItem, Attribute, CellItem, ComponentItem, GroupItem, GroupWord, Mark, OperandForm,
+    OperandItem, StatementForm, Tree, WireItem,
+};
 use cx_text::{CELLS, GROUPS, MEMORY_WORDS, Memory, Name, WEIGHT};
 use indexmap::IndexMap;
 use std::alloc::{AllocError, AllocFailed, Global};
 
-/// Why a text gave no design.
+/// Why a tree gave no design.
 #[derive(Clone, Copy, Debug)]
 pub enum Unread {
     OtherForm,
     Memory,
-}
-
-impl From<OtherForm> for Unread {
-    fn from(_e: OtherForm) -> Unread {
-        Unread::OtherForm
-    }
 }
 
 impl From<Memory> for Unread {
@@ -38,17 +36,23 @@ impl<T: Drop> From<AllocFailed<T>> for Unread {
     }
 }
 
-/// Reads the one component of a text.
-pub fn read(alloc: Global, text: &[u8]) -> Result<Design, Unread> {
-    let mut scanner = Scanner::new(text);
-    heading(&mut scanner)?;
-    let cells = cells(alloc, text.len(), &mut scanner)?;
-    scanner.sign(b'}')?;
-    let groups = groups(alloc, text.len(), &mut scanner, &cells)?;
-    scanner.sign(b'}')?;
-    let enables = control(alloc, text.len(), &mut scanner, &groups)?;
-    scanner.sign(b'}')?;
-    if !scanner.is_at_end() || is_too_large(&cells, &groups, &enables) {
+/// Takes the one component of a tree.
+pub fn read(alloc: Global, tree: &Tree) -> Result<Design, Unread> {
+    let [main] = tree.components.as_slice() else {
+        return Err(Unread::OtherForm);
+    };
+    let known = tree
+        .imports
+        .iter()
+        .all(|import| import.path.bytes().starts_with(b"primitives/"));
+    let plain = main.length.is_none() && main.inputs.is_empty() && main.outputs.is_empty();
+    if !known || !plain || main.name.bytes() != b"main".as_slice() {
+        return Err(Unread::OtherForm);
+    }
+    let cells = cells(alloc, &main.cells)?;
+    let groups = groups(alloc, &main.wires, &cells)?;
+    let enables = enables(alloc, main, &groups)?;
+    if is_too_large(&cells, &groups, &enables) {
         return Err(Unread::OtherForm);
     }
     Ok(Design {
@@ -58,104 +62,82 @@ pub fn read(alloc: Global, text: &[u8]) -> Result<Design, Unread> {
     })
 }
 
-fn heading(scanner: &mut Scanner) -> Result<(), OtherForm> {
-    scanner.is_external()?;
-    scanner.keyword("component")?;
-    scanner.keyword("main")?;
-    scanner.sign(b'(')?;
-    scanner.sign(b')')?;
-    if scanner.is_at(b'-') {
-        scanner.arrow()?;
-        scanner.sign(b'(')?;
-        scanner.sign(b')')?;
-    }
-    scanner.sign(b'{')
-}
-
-fn cells(
-    alloc: Global,
-    most: usize,
-    scanner: &mut Scanner,
-) -> Result<IndexMap<Name, Cell>, Unread> {
+fn cells(alloc: Global, items: &[CellItem]) -> Result<IndexMap<Name, Cell>, Unread> {
     let mut cells = IndexMap::new(alloc);
-    scanner.keyword("cells")?;
-    scanner.sign(b'{')?;
-    for _ in 0..most {
-        if scanner.is_at(b'}') {
-            break;
-        }
-        let (name, cell) = cell(alloc, scanner)?;
-        if cells.insert(name, cell)?.is_some() {
+    for item in items {
+        let cell = cell(item).ok_or(Unread::OtherForm)?;
+        if cells
+            .insert(Name::from_bytes(alloc, item.name.bytes())?, cell)?
+            .is_some()
+        {
             return Err(Unread::OtherForm);
         }
     }
     Ok(cells)
 }
 
-fn cell(alloc: Global, scanner: &mut Scanner) -> Result<(Name, Cell), Unread> {
-    let external = scanner.is_external()?;
-    let name = Name::from_bytes(alloc, scanner.name()?)?;
-    scanner.sign(b'=')?;
-    let kind = scanner.name()?;
-    scanner.sign(b'(')?;
-    let width = match u8::try_from(scanner.number()?) {
-        Ok(width) if (1..=64).contains(&width) => width,
-        _ => return Err(Unread::OtherForm),
-    };
-    let kind = if kind == b"std_reg".as_slice() && !external {
-        CellKind::Register
-    } else if kind == b"std_add".as_slice() && !external {
-        CellKind::Adder
-    } else if kind == b"std_mem_d1".as_slice() {
-        memory(scanner)?
-    } else {
-        return Err(Unread::OtherForm);
-    };
-    scanner.sign(b')')?;
-    scanner.sign(b';')?;
-    Ok((
-        name,
-        Cell {
-            kind,
-            width,
-            external,
-        },
-    ))
+fn cell(item: &CellItem) -> Option<Cell> {
+    let external = is_external(&item.attributes, &item.marks);
+    let width = u8::try_from(*item.numbers.first()?).ok()?;
+    if !(1..=64).contains(&width) {
+        return None;
+    }
+    let kind = kind(item.kind.bytes(), &item.numbers)?;
+    let is_memory = matches!(&kind, CellKind::Memory { .. });
+    if external && !is_memory {
+        return None;
+    }
+    Some(Cell {
+        kind,
+        width,
+        external,
+    })
 }
 
-fn memory(scanner: &mut Scanner) -> Result<CellKind, OtherForm> {
-    scanner.sign(b',')?;
-    let size = scanner.number()?;
-    scanner.sign(b',')?;
-    let address_width = scanner.number()?;
-    if size == 0 || !(1..=64).contains(&address_width) {
-        return Err(OtherForm);
+/// The kind of this name, where it takes so many numbers.
+fn kind(name: &[u8], numbers: &[u64]) -> Option<CellKind> {
+    if name == b"std_reg".as_slice() && numbers.len() == 1 {
+        Some(CellKind::Register)
+    } else if name == b"std_add".as_slice() && numbers.len() == 1 {
+        Some(CellKind::Adder)
+    } else if name == b"std_mem_d1".as_slice() && numbers.len() == 3 {
+        let size = *numbers.get(1)?;
+        let address_width = *numbers.get(2)?;
+        if size == 0 || !(1..=64).contains(&address_width) {
+            return None;
+        }
+        Some(CellKind::Memory {
+            size,
+            address_width,
+        })
+    } else {
+        None
     }
-    Ok(CellKind::Memory {
-        size,
-        address_width,
-    })
+}
+
+/// Marked as external, by an attribute or a mark with no number or another than 0.
+fn is_external(attributes: &[Attribute], marks: &[Mark]) -> bool {
+    let named = b"external".as_slice();
+    attributes.iter().any(|attribute| attribute.name.bytes() == named
+        && attribute.number != Some(0))
+        || marks
+            .iter()
+            .any(|mark| mark.name.bytes() == named && mark.number != 0)
 }
 
 fn groups(
     alloc: Global,
-    most: usize,
-    scanner: &mut Scanner,
+    wires: &[WireItem],
     cells: &IndexMap<Name, Cell>,
 ) -> Result<IndexMap<Name, Group>, Unread> {
     let mut groups = IndexMap::new(alloc);
-    scanner.keyword("wires")?;
-    scanner.sign(b'{')?;
-    for _ in 0..most {
-        if scanner.is_at(b'}') {
-            break;
-        }
-        scanner.is_external()?;
-        scanner.keyword("group")?;
-        let name = scanner.name()?;
-        let group = group(alloc, most, scanner, cells, name)?;
+    for wire in wires {
+        let WireItem::Group(item) = wire else {
+            return Err(Unread::OtherForm);
+        };
+        let group = group(alloc, item, cells)?;
         if groups
-            .insert(Name::from_bytes(alloc, name)?, group)?
+            .insert(Name::from_bytes(alloc, item.name.bytes())?, group)?
             .is_some()
         {
             return Err(Unread::OtherForm);
@@ -164,154 +146,137 @@ fn groups(
     Ok(groups)
 }
 
-fn group(
-    alloc: Global,
-    most: usize,
-    scanner: &mut Scanner,
-    cells: &IndexMap<Name, Cell>,
-    name: &[u8],
-) -> Result<Group, Unread> {
+fn group(alloc: Global, item: &GroupItem, cells: &IndexMap<Name, Cell>) -> Result<Group, Unread> {
     let mut assigns = Vec::new(alloc);
     let mut done = None;
-    scanner.sign(b'{')?;
-    for _ in 0..most {
-        if scanner.is_at(b'}') {
-            break;
-        }
-        scanner.is_external()?;
-        let target = scanner.name()?;
-        if scanner.is_at(b'[') {
-            if target != name || done.is_some() {
-                return Err(Unread::OtherForm);
-            }
-            done = Some(done_of(alloc, scanner, cells)?);
-        } else {
-            assigns.push(assign(alloc, scanner, cells, target)?)?;
+    for assign in &item.assigns {
+        match part_of(cells, &item.name, assign).ok_or(Unread::OtherForm)? {
+            Part::Done(cell) if done.is_none() => done = Some(cell),
+            Part::Done(_) => return Err(Unread::OtherForm),
+            Part::Assign(assign) => assigns.push(assign)?,
         }
     }
-    scanner.sign(b'}')?;
     match done {
-        Some(written) if keeps_shape(cells, &assigns, written) => Ok(Group { assigns, written }),
+        Some(written) if item.kind == GroupWord::Plain && keeps_shape(cells, &assigns, written) => {
+            Ok(Group { assigns, written })
+        }
         _ => Err(Unread::OtherForm),
     }
 }
 
-/// Reads the rest of a done assignment, and answers the cell whose `done` it takes.
-fn done_of(
-    alloc: Global,
-    scanner: &mut Scanner,
-    cells: &IndexMap<Name, Cell>,
-) -> Result<usize, Unread> {
-    scanner.sign(b'[')?;
-    scanner.keyword("done")?;
-    scanner.sign(b']')?;
-    scanner.sign(b'=')?;
-    let (source, _) = operand(alloc, scanner, cells)?;
-    scanner.sign(b';')?;
-    match source {
-        Operand::Done(cell) => Ok(cell),
-        _ => Err(Unread::OtherForm),
-    }
+/// What an assignment of a group is: its done, of this cell, or one to an input of a cell.
+#[derive(Clone, Copy, Debug)]
+enum Part {
+    Done(usize),
+    Assign(Assign),
 }
 
-/// Reads an assignment from behind the name of its cell.
-fn assign(
-    alloc: Global,
-    scanner: &mut Scanner,
-    cells: &IndexMap<Name, Cell>,
-    target: &[u8],
-) -> Result<Assign, Unread> {
-    let name = Name::from_bytes(alloc, target)?;
-    let (number, _, cell) = cells.get_full(&name).ok_or(OtherForm)?;
-    scanner.sign(b'.')?;
-    let (input, width) = input_of(cell, scanner.name()?)?;
-    scanner.sign(b'=')?;
-    let (source, source_width) = operand(alloc, scanner, cells)?;
-    scanner.sign(b';')?;
-    if source_width != width {
-        return Err(Unread::OtherForm);
+fn part_of(cells: &IndexMap<Name, Cell>, group: &Name, item: &AssignItem) -> Option<Part> {
+    if item.guard.is_some() {
+        return None;
     }
-    Ok(Assign {
-        cell: number,
-        input,
-        source,
-    })
+    let (source, source_width) = operand(cells, &item.source)?;
+    match &item.target.form {
+        OperandForm::Hole(name, hole) if name == group && hole.bytes() == b"done".as_slice() => {
+            match source {
+                Operand::Done(cell) => Some(Part::Done(cell)),
+                _ => None,
+            }
+        }
+        OperandForm::Port(name, port) => {
+            let (number, _, cell) = cells.get_full(name)?;
+            let (input, width) = input_of(cell, port.bytes())?;
+            if source_width != width {
+                return None;
+            }
+            Some(Part::Assign(Assign {
+                cell: number,
+                input,
+                source,
+            }))
+        }
+        _ => None,
+    }
 }
 
 /// The input of this name, and its width.
-fn input_of(cell: &Cell, port: &[u8]) -> Result<(Input, u64), OtherForm> {
+fn input_of(cell: &Cell, port: &[u8]) -> Option<(Input, u64)> {
     let width = u64::from(cell.width);
-    let is_memory = matches!(&cell.kind, CellKind::Memory { .. });
-    if port == b"in".as_slice() && cell.kind == CellKind::Register {
-        Ok((Input::In, width))
-    } else if port == b"left".as_slice() && cell.kind == CellKind::Adder {
-        Ok((Input::Left, width))
-    } else if port == b"right".as_slice() && cell.kind == CellKind::Adder {
-        Ok((Input::Right, width))
-    } else if port == b"write_en".as_slice() && cell.kind != CellKind::Adder {
-        Ok((Input::WriteEnable, 1))
-    } else if port == b"write_data".as_slice() && is_memory {
-        Ok((Input::WriteData, width))
-    } else if port == b"addr0".as_slice() {
-        match cell.kind {
-            CellKind::Memory { address_width, .. } => Ok((Input::Address, address_width)),
-            _ => Err(OtherForm),
+    match cell.kind {
+        CellKind::Register if port == b"in".as_slice() => Some((Input::In, width)),
+        CellKind::Adder if port == b"left".as_slice() => Some((Input::Left, width)),
+        CellKind::Adder if port == b"right".as_slice() => Some((Input::Right, width)),
+        CellKind::Memory { .. } if port == b"write_data".as_slice() => Some((
+            Input::WriteData,
+            width,
+        )),
+        CellKind::Memory { address_width, .. } if port == b"addr0".as_slice() => {
+            Some((Input::Address, address_width))
         }
-    } else {
-        Err(OtherForm)
+        CellKind::Register | CellKind::Memory { .. } if port == b"write_en".as_slice() => {
+            Some((Input::WriteEnable, 1))
+        }
+        _ => None,
     }
 }
 
-/// Reads a literal or an output of a cell, and answers its width with it.
-fn operand(
-    alloc: Global,
-    scanner: &mut Scanner,
-    cells: &IndexMap<Name, Cell>,
-) -> Result<(Operand, u64), Unread> {
-    if scanner.is_at_digit() {
-        let (width, value) = scanner.literal()?;
-        if width == 0 || (width < 64 && value >> width != 0) {
-            return Err(Unread::OtherForm);
+/// A literal or an output of a cell, with its width.
+fn operand(cells: &IndexMap<Name, Cell>, item: &OperandItem) -> Option<(Operand, u64)> {
+    match &item.form {
+        OperandForm::Literal(width, value) => {
+            let value = u64::try_from(*value).ok()?;
+            if *width == 0 || (*width < 64 && value >> *width != 0) {
+                return None;
+            }
+            Some((Operand::Literal(value), u64::from(*width)))
         }
-        return Ok((Operand::Literal(value), width));
+        OperandForm::Port(name, port) => {
+            let (number, _, cell) = cells.get_full(name)?;
+            output_of(cell, number, port.bytes())
+        }
+        _ => None,
     }
-    let name = Name::from_bytes(alloc, scanner.name()?)?;
-    let (number, _, cell) = cells.get_full(&name).ok_or(OtherForm)?;
-    scanner.sign(b'.')?;
-    let port = scanner.name()?;
+}
+
+/// The output of this name, of the cell of this number, with its width.
+fn output_of(cell: &Cell, number: usize, port: &[u8]) -> Option<(Operand, u64)> {
     let is_memory = matches!(&cell.kind, CellKind::Memory { .. });
-    if (port == b"out".as_slice() && !is_memory) || (port == b"read_data".as_slice() && is_memory) {
-        Ok((Operand::Value(number), u64::from(cell.width)))
+    let value = if is_memory {
+        b"read_data".as_slice()
+    } else {
+        b"out".as_slice()
+    };
+    if port == value {
+        Some((Operand::Value(number), u64::from(cell.width)))
     } else if port == b"done".as_slice() && cell.kind != CellKind::Adder {
-        Ok((Operand::Done(number), 1))
+        Some((Operand::Done(number), 1))
     } else {
-        Err(Unread::OtherForm)
+        None
     }
 }
 
-fn control(
+/// The groups that the one `seq` of the control enables, in order.
+fn enables(
     alloc: Global,
-    most: usize,
-    scanner: &mut Scanner,
+    main: &ComponentItem,
     groups: &IndexMap<Name, Group>,
 ) -> Result<Vec<usize>, Unread> {
+    let Some(control) = &main.control else {
+        return Err(Unread::OtherForm);
+    };
+    let [statement] = control.statements.as_slice() else {
+        return Err(Unread::OtherForm);
+    };
+    let StatementForm::Seq { block, .. } = &statement.form else {
+        return Err(Unread::OtherForm);
+    };
     let mut enables = Vec::new(alloc);
-    scanner.keyword("control")?;
-    scanner.sign(b'{')?;
-    scanner.is_external()?;
-    scanner.keyword("seq")?;
-    scanner.sign(b'{')?;
-    for _ in 0..most {
-        if scanner.is_at(b'}') {
-            break;
-        }
-        scanner.is_external()?;
-        let name = Name::from_bytes(alloc, scanner.name()?)?;
-        scanner.sign(b';')?;
-        enables.push(groups.get_index_of(&name).ok_or(OtherForm)?)?;
+    for child in &block.statements {
+        let StatementForm::Enable { group, .. } = &child.form else {
+            return Err(Unread::OtherForm);
+        };
+        enables.push(groups.get_index_of(group).ok_or(Unread::OtherForm)?)?;
     }
-    scanner.sign(b'}')?;
-    scanner.sign(b'}')?;
     if enables.is_empty() {
         return Err(Unread::OtherForm);
     }
