@@ -1,0 +1,4 @@
+pub mod PortNames
+pub mod PrimitiveNames
+pub mod CellStates
+pub mod Rows
