@@ -2,3 +2,8 @@ pub mod PortNames
 pub mod PrimitiveNames
 pub mod CellStates
 pub mod Rows
+pub mod CombinationalRows
+pub mod RegisterRow
+pub mod MemoryRows
+pub mod PipeRows
+pub mod Table

@@ -78,11 +78,14 @@ is_enable_side _ = false
 abbrev pub HasSide : Row → ℕ → (Side → Bool) → Type 0
 HasSide r n test = (port : PortRow) × (slice_get r.ports n ≡ Some port) × (test port.side ≡ true)
 
--- one entry a port, each value as wide as its port and below two to its width
+-- one entry a port, each value as wide as its port
 pub record FitsPorts (ports : List PortRow) (inputs : Inputs) : Type 0 where
   pub count : length inputs ≡ length ports
   pub widths : (n : ℕ) (port : PortRow) (b : BitVector) → slice_get ports n ≡ Some port → input inputs n ≡ Some b → b.width ≡ port.width
-  pub in_range : (n : ℕ) (b : BitVector) → input inputs n ≡ Some b → b.value < 2 ^ b.width
+
+-- each value is below two to its width, as every value of the program is
+abbrev pub AreInRange : Inputs → Type 0
+AreInRange inputs = (n : ℕ) (b : BitVector) → input inputs n ≡ Some b → b.value < 2 ^ b.width
 
 -- every enabling port has a value, and so has every demanded port
 pub record IsLookedAt (r : Row) (state : CellState) (inputs : Inputs) : Type 0 where
@@ -97,3 +100,46 @@ IsQuiet r inputs = (n : ℕ) (port : PortRow) → slice_get r.ports n ≡ Some p
 pub record AgreesWhereLooked (r : Row) (state : CellState) (inputs others : Inputs) : Type 0 where
   pub enabling : (n : ℕ) (port : PortRow) → slice_get r.ports n ≡ Some port → port.side ≡ Enable → input inputs n ≡ input others n
   pub demanded : (n : ℕ) → r.demands state inputs n ≡ true → input inputs n ≡ input others n
+
+-- two idle edges are one
+abbrev pub IdlesOnce : Row → Type 0
+IdlesOnce r = (state : CellState) → r.idle (r.idle state) ≡ r.idle state
+
+-- an edge with every enabling port 0 is the idle edge, whatever the data ports hold
+abbrev pub IdlesWhenQuiet : Row → Type 0
+IdlesWhenQuiet r = (state : CellState) (inputs : Inputs) → IsQuiet r inputs → edge r state inputs ≡ Ok (r.idle state)
+
+-- a registered output reads no input
+abbrev pub KeepsRegistered : Row → Type 0
+KeepsRegistered r = (state : CellState) (inputs others : Inputs) (n : ℕ) (port : PortRow) → slice_get r.ports n ≡ Some port → port.side ≡ Registered → r.output state inputs n ≡ r.output state others n
+
+-- an edge depends only on the enabling and the demanded ports
+abbrev pub LooksWhereDemanded : Row → Type 0
+LooksWhereDemanded r = (state : CellState) (inputs others : Inputs) → AgreesWhereLooked r state inputs others → edge r state inputs ≡ edge r state others
+
+-- the value of an output is as wide as its port and below two to its width
+pub record IsAsWide (width : ℕ) (b : BitVector) : Type 0 where
+  pub same_width : b.width ≡ width
+  pub in_range : b.value < 2 ^ b.width
+
+abbrev pub GivesWidths : Row → Type 0
+GivesWidths r =
+    (state : CellState) (inputs : Inputs) (n : ℕ) (port : PortRow) (b : BitVector) → IsState r.shape state → FitsPorts r.ports inputs → AreInRange inputs
+      → slice_get r.ports n ≡ Some port → is_output_side port.side ≡ true → r.output state inputs n ≡ Some b → IsAsWide port.width b
+
+-- the same stands at every input that output n reads
+abbrev pub AgreesWhereRead : Row → ℕ → Inputs → Inputs → Type 0
+AgreesWhereRead r n inputs others = (m : ℕ) → r.reads n m ≡ true → input inputs m ≡ input others m
+
+-- an output depends only on the inputs that it reads
+abbrev pub ReadsOnly : Row → Type 0
+ReadsOnly r = (state : CellState) (inputs others : Inputs) (n : ℕ) → AgreesWhereRead r n inputs others → r.output state inputs n ≡ r.output state others n
+
+-- an output has no value exactly where an input that it reads has none, or where it is a word at addresses of which one is out of range
+pub record IsStrict (r : Row) (state : CellState) (inputs : Inputs) (n : ℕ) : Type 0 where
+  pub unread : (m : ℕ) → r.reads n m ≡ true → input inputs m ≡ None → r.output state inputs n ≡ None
+  pub beyond : r.beyond inputs n ≡ true → r.output state inputs n ≡ None
+  pub otherwise : ((m : ℕ) → r.reads n m ≡ true → IsSome (input inputs m)) → r.beyond inputs n ≡ false → IsSome (r.output state inputs n)
+
+abbrev pub AnswersStrictly : Row → Type 0
+AnswersStrictly r = (state : CellState) (inputs : Inputs) (n : ℕ) → IsState r.shape state → HasSide r n is_output_side → IsStrict r state inputs n
