@@ -11,3 +11,6 @@ pub mod Table
 pub mod Operators
 pub mod CombinationalLaws
 pub mod OperatorWidths
+pub mod RowTools
+pub mod RegisterLaws
+pub mod PipeLaws

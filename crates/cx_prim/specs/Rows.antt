@@ -150,3 +150,20 @@ pub record IsStrict (r : Row) (state : CellState) (inputs : Inputs) (n : ℕ) : 
 
 abbrev pub AnswersStrictly : Row → Type 0
 AnswersStrictly r = (state : CellState) (inputs : Inputs) (n : ℕ) → IsState r.shape state → HasSide r n is_output_side → IsStrict r state inputs n
+
+-- the start is a state of the row, and edges keep the states of the row
+pub record KeepsStates (r : Row) : Type 0 where
+  pub start : IsState r.shape r.start
+  pub next : (state : CellState) (inputs : Inputs) → IsState r.shape state → FitsPorts r.ports inputs → AreValues inputs → IsState r.shape (r.next state inputs)
+  pub idle : (state : CellState) → IsState r.shape state → IsState r.shape (r.idle state)
+
+-- the laws of a row, which every primitive keeps
+pub record IsLawful (r : Row) : Type 0 where
+  pub idle_once : IdlesOnce r
+  pub quiet_is_idle : IdlesWhenQuiet r
+  pub registered : KeepsRegistered r
+  pub looked_at : LooksWhereDemanded r
+  pub widths : GivesWidths r
+  pub reads_only : ReadsOnly r
+  pub strict : AnswersStrictly r
+  pub states : KeepsStates r
