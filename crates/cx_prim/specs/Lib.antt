@@ -14,3 +14,4 @@ pub mod OperatorWidths
 pub mod RowTools
 pub mod RegisterLaws
 pub mod PipeLaws
+pub mod MemoryLaws

@@ -50,12 +50,12 @@ pub record Row : Type 0 where
   pub idle : CellState → CellState
 
 -- the state after the edge, or the first address port that is out of range
+abbrev pub edge_of : Option ℕ → CellState → Result CellState ℕ
+edge_of (Some port) next = Err port
+edge_of None next = Ok next
+
 abbrev pub edge : Row → CellState → Inputs → Result CellState ℕ
 edge r state inputs = edge_of (r.out_of_range inputs) (r.next state inputs)
-  where
-    edge_of : Option ℕ → CellState → Result CellState ℕ
-    edge_of (Some port) next = Err port
-    edge_of None next = Ok next
 
 -- the start with these words
 abbrev pub start_with : Row → List ℕ → CellState
