@@ -15,3 +15,4 @@ pub mod RowTools
 pub mod RegisterLaws
 pub mod PipeLaws
 pub mod MemoryLaws
+pub mod TableLaws

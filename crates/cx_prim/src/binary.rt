@@ -1,12 +1,10 @@
 //! Primitives with the inputs `left` and `right` and one output.
 
-ghost use Rattle.std.specs.Prelude.{refl};
 ghost use Rattle.cx_prim.specs.CellStates as states;
 ghost use Rattle.cx_prim.specs.CombinationalRows.{binary_row};
-ghost use Rattle.cx_prim.specs.CombinationalLaws.{no_registered, binary_widths, binary_reads_only, binary_strict};
 ghost use Rattle.cx_prim.specs.Operators.{binary_out_width, apply_binary};
-ghost use Rattle.cx_prim.specs.OperatorWidths.{binary_gives};
 ghost use Rattle.cx_prim.specs.Widths.{IsWidth};
+ghost use Rattle.cx_prim.specs.OperatorWidths.{binary_lawful};
 
 use crate::cycle::Cycle;
 use crate::inputs::input_at;
@@ -64,17 +62,17 @@ impl Cycle for Binary {
 
     fn idle(&self, _state: &mut Stateless) {}
 
-    ghost idle_once = { λ p state. refl };
+    ghost idle_once = { λ p. (binary_lawful p.operator p.width).idle_once };
 
-    ghost quiet_is_idle = { λ p state inputs quiet. refl };
+    ghost quiet_is_idle = { λ p. (binary_lawful p.operator p.width).quiet_is_idle };
 
-    ghost registered = { λ p. no_registered (binary_row p.width (binary_out_width p.operator p.width) (apply_binary p.operator)) refl };
+    ghost registered = { λ p. (binary_lawful p.operator p.width).registered };
 
-    ghost looked_at = { λ p state inputs others agree. refl };
+    ghost looked_at = { λ p. (binary_lawful p.operator p.width).looked_at };
 
-    ghost widths = { λ p. binary_widths p.width (binary_out_width p.operator p.width) (apply_binary p.operator) (binary_gives p.operator p.width) };
+    ghost widths = { λ p. (binary_lawful p.operator p.width).widths };
 
-    ghost reads_only = { λ p. binary_reads_only p.width (binary_out_width p.operator p.width) (apply_binary p.operator) };
+    ghost reads_only = { λ p. (binary_lawful p.operator p.width).reads_only };
 
-    ghost strict = { λ p. binary_strict p.width (binary_out_width p.operator p.width) (apply_binary p.operator) };
+    ghost strict = { λ p. (binary_lawful p.operator p.width).strict };
 }

@@ -1,10 +1,9 @@
 //! The primitive with one value that never changes.
 
-ghost use Rattle.std.specs.Prelude.{refl};
 ghost use Rattle.cx_bits.specs.BitVector.{Fits};
 ghost use Rattle.cx_prim.specs.CellStates as states;
 ghost use Rattle.cx_prim.specs.CombinationalRows.{constant_row};
-ghost use Rattle.cx_prim.specs.CombinationalLaws.{no_registered, constant_widths, constant_reads_only, constant_strict};
+ghost use Rattle.cx_prim.specs.OperatorWidths.{constant_lawful};
 
 use crate::cycle::Cycle;
 use crate::inputs::value_of;
@@ -55,17 +54,17 @@ impl Cycle for Constant {
 
     fn idle(&self, _state: &mut Stateless) {}
 
-    ghost idle_once = { λ p state. refl };
+    ghost idle_once = { λ p. (constant_lawful p.width p.value p.within).idle_once };
 
-    ghost quiet_is_idle = { λ p state inputs quiet. refl };
+    ghost quiet_is_idle = { λ p. (constant_lawful p.width p.value p.within).quiet_is_idle };
 
-    ghost registered = { λ p. no_registered (constant_row p.width p.value) refl };
+    ghost registered = { λ p. (constant_lawful p.width p.value p.within).registered };
 
-    ghost looked_at = { λ p state inputs others agree. refl };
+    ghost looked_at = { λ p. (constant_lawful p.width p.value p.within).looked_at };
 
-    ghost widths = { λ p. constant_widths p.width p.value p.within };
+    ghost widths = { λ p. (constant_lawful p.width p.value p.within).widths };
 
-    ghost reads_only = { λ p. constant_reads_only p.width p.value };
+    ghost reads_only = { λ p. (constant_lawful p.width p.value p.within).reads_only };
 
-    ghost strict = { λ p. constant_strict p.width p.value };
+    ghost strict = { λ p. (constant_lawful p.width p.value p.within).strict };
 }

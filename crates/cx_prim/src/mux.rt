@@ -1,10 +1,9 @@
 //! The primitive that chooses one of two values.
 
-ghost use Rattle.std.specs.Prelude.{refl};
 ghost use Rattle.cx_prim.specs.CellStates as states;
 ghost use Rattle.cx_prim.specs.CombinationalRows.{mux_row};
-ghost use Rattle.cx_prim.specs.CombinationalLaws.{no_registered, mux_widths, mux_reads_only, mux_strict};
 ghost use Rattle.cx_prim.specs.Widths.{IsWidth};
+ghost use Rattle.cx_prim.specs.OperatorWidths.{mux_lawful};
 
 use crate::cycle::Cycle;
 use crate::inputs::input_at;
@@ -62,17 +61,17 @@ impl Cycle for Mux {
 
     fn idle(&self, _state: &mut Stateless) {}
 
-    ghost idle_once = { λ p state. refl };
+    ghost idle_once = { λ p. (mux_lawful p.width).idle_once };
 
-    ghost quiet_is_idle = { λ p state inputs quiet. refl };
+    ghost quiet_is_idle = { λ p. (mux_lawful p.width).quiet_is_idle };
 
-    ghost registered = { λ p. no_registered (mux_row p.width) refl };
+    ghost registered = { λ p. (mux_lawful p.width).registered };
 
-    ghost looked_at = { λ p state inputs others agree. refl };
+    ghost looked_at = { λ p. (mux_lawful p.width).looked_at };
 
-    ghost widths = { λ p. mux_widths p.width };
+    ghost widths = { λ p. (mux_lawful p.width).widths };
 
-    ghost reads_only = { λ p. mux_reads_only p.width };
+    ghost reads_only = { λ p. (mux_lawful p.width).reads_only };
 
-    ghost strict = { λ p. mux_strict p.width };
+    ghost strict = { λ p. (mux_lawful p.width).strict };
 }

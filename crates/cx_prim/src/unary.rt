@@ -1,11 +1,9 @@
 //! Primitives with one input and one output.
 
-ghost use Rattle.std.specs.Prelude.{refl};
 ghost use Rattle.cx_prim.specs.CellStates as states;
 ghost use Rattle.cx_prim.specs.CombinationalRows.{unary_row};
-ghost use Rattle.cx_prim.specs.CombinationalLaws.{no_registered, unary_widths, unary_reads_only, unary_strict};
 ghost use Rattle.cx_prim.specs.Operators.{IsUnary, apply_unary};
-ghost use Rattle.cx_prim.specs.OperatorWidths.{unary_gives};
+ghost use Rattle.cx_prim.specs.OperatorWidths.{unary_lawful};
 
 use crate::cycle::Cycle;
 use crate::inputs::input_at;
@@ -62,17 +60,17 @@ impl Cycle for Unary {
 
     fn idle(&self, _state: &mut Stateless) {}
 
-    ghost idle_once = { λ p state. refl };
+    ghost idle_once = { λ p. (unary_lawful p.operator p.width p.out_width p.within).idle_once };
 
-    ghost quiet_is_idle = { λ p state inputs quiet. refl };
+    ghost quiet_is_idle = { λ p. (unary_lawful p.operator p.width p.out_width p.within).quiet_is_idle };
 
-    ghost registered = { λ p. no_registered (unary_row p.width p.out_width (apply_unary p.operator p.out_width)) refl };
+    ghost registered = { λ p. (unary_lawful p.operator p.width p.out_width p.within).registered };
 
-    ghost looked_at = { λ p state inputs others agree. refl };
+    ghost looked_at = { λ p. (unary_lawful p.operator p.width p.out_width p.within).looked_at };
 
-    ghost widths = { λ p. unary_widths p.width p.out_width (apply_unary p.operator p.out_width) (unary_gives p.operator p.width p.out_width p.within) };
+    ghost widths = { λ p. (unary_lawful p.operator p.width p.out_width p.within).widths };
 
-    ghost reads_only = { λ p. unary_reads_only p.width p.out_width (apply_unary p.operator p.out_width) };
+    ghost reads_only = { λ p. (unary_lawful p.operator p.width p.out_width p.within).reads_only };
 
-    ghost strict = { λ p. unary_strict p.width p.out_width (apply_unary p.operator p.out_width) };
+    ghost strict = { λ p. (unary_lawful p.operator p.width p.out_width p.within).strict };
 }
