@@ -1,6 +1,6 @@
 //! What stands at the ports of a cell, and values made of numbers.
 
-ghost use Rattle.std.specs.Prelude.{◌≡◌};
+ghost use Rattle.std.specs.Prelude.{◌≡◌, IfSome};
 ghost use Rattle.cx_bits.specs.BitVector.{Fits};
 ghost use Rattle.cx_bits.specs.Operators.{bit_of};
 ghost use Rattle.cx_prim.specs.Rows as rows;
@@ -20,6 +20,7 @@ pub fn input_at(inputs: &[Option<Bits>], port: usize) -> Option<Bits>
 /// The number at a port, and 0 where no value stands there.
 pub fn number_at(inputs: &[Option<Bits>], port: usize) -> u128
     ensures value { result ≡ rows.value_at inputs.now port }
+    ensures fits { IfSome (rows.input inputs.now port) Fits }
 {
     match input_at(inputs, port) {
         Some(value) => value.value(),
