@@ -61,3 +61,15 @@ abbrev pub with_words : List ℕ → CellState → CellState
 with_words words (Memory old done) = Memory words done
 with_words words (SequentialMemory old read_data done) = SequentialMemory words read_data done
 with_words words state = state
+
+-- as many words as the memory has, each below two to its width, which is at most 64
+abbrev pub TakesWords : StateShape → List ℕ → Type 0
+TakesWords (MemoryOf width count) words = AreWords width count words × (width ≤ 64)
+TakesWords (SequentialMemoryOf width count) words = AreWords width count words × (width ≤ 64)
+TakesWords _ words = ⊥
+
+-- word n is there, in a memory of a width of at most 64
+abbrev pub HasWord : StateShape → ℕ → Type 0
+HasWord (MemoryOf width count) n = (n < count) × (width ≤ 64)
+HasWord (SequentialMemoryOf width count) n = (n < count) × (width ≤ 64)
+HasWord _ n = ⊥

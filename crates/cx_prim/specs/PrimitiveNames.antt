@@ -1,5 +1,5 @@
 -- The names of the primitives, as designs write them.
-use Rattle.std.specs.Prelude.{ℕ, List, codes}
+use Rattle.std.specs.Prelude.{◌≡◌, ◌≢◌, ℕ, List, codes}
 use Rattle.cx_prim.specs.declared.names.PrimitiveName.{PrimitiveName}
 use Rattle.cx_prim.specs.declared.names.PrimitiveName.TheVariants.{Const, Wire, Add, Sub, And, Or, Xor, Not, Lsh, Rsh, Lt, Gt, Equal, Neq, Le, Ge, Slt, Sgt, Seq, Sneq, Sle, Sge, Slice, Pad, Mux, Reg, StdMemD1, StdMemD2, StdMemD3, StdMemD4, CombMemD1, CombMemD2, CombMemD3, CombMemD4, SeqMemD1, SeqMemD2, SeqMemD3, SeqMemD4, MultPipe, DivPipe, Timer}
 
@@ -46,3 +46,8 @@ name_text SeqMemD4 = codes "seq_mem_d4"
 name_text MultPipe = codes "std_mult_pipe"
 name_text DivPipe = codes "std_div_pipe"
 name_text Timer = codes "cx_timer"
+
+-- designs name it so; the timer they cannot name
+pub record IsNamed (name : PrimitiveName) (text : List ℕ) : Type 0 where
+  pub spelled : name_text name ≡ text
+  pub nameable : name ≢ Timer

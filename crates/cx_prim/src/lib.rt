@@ -17,7 +17,7 @@ pub use constant::Constant;
 pub use cycle::Cycle;
 pub use inputs::{bit, input_at, is_on, number_at, value_of};
 pub use mux::Mux;
-pub use names::PrimitiveName;
+pub use names::{NAMES, PrimitiveName};
 pub use operators::{BinaryOperator, UnaryOperator};
 pub use ports::{OutOfRange, PortName, PortRow, Side};
 pub use stateless::Stateless;

@@ -1,7 +1,7 @@
 //! The names of the primitives.
 
-ghost use Rattle.std.specs.Prelude.{◌≡◌};
-ghost use Rattle.cx_prim.specs.PrimitiveNames.{name_text};
+ghost use Rattle.std.specs.Prelude.{◌≡◌, ◌↔◌, IsTrue, IfSome, IfNone};
+ghost use Rattle.cx_prim.specs.PrimitiveNames.{name_text, IsNamed};
 
 /// The name of a primitive, as its row has it.
 #[derive(Clone, Copy, Debug, PartialEq, Eq)]
@@ -50,7 +50,64 @@ pub enum PrimitiveName {
     Timer,
 }
 
+/// The primitives that designs can name.
+pub const NAMES: [PrimitiveName; 40] = [
+    PrimitiveName::Const,
+    PrimitiveName::Wire,
+    PrimitiveName::Add,
+    PrimitiveName::Sub,
+    PrimitiveName::And,
+    PrimitiveName::Or,
+    PrimitiveName::Xor,
+    PrimitiveName::Not,
+    PrimitiveName::Lsh,
+    PrimitiveName::Rsh,
+    PrimitiveName::Lt,
+    PrimitiveName::Gt,
+    PrimitiveName::Equal,
+    PrimitiveName::Neq,
+    PrimitiveName::Le,
+    PrimitiveName::Ge,
+    PrimitiveName::Slt,
+    PrimitiveName::Sgt,
+    PrimitiveName::Seq,
+    PrimitiveName::Sneq,
+    PrimitiveName::Sle,
+    PrimitiveName::Sge,
+    PrimitiveName::Slice,
+    PrimitiveName::Pad,
+    PrimitiveName::Mux,
+    PrimitiveName::Reg,
+    PrimitiveName::StdMemD1,
+    PrimitiveName::StdMemD2,
+    PrimitiveName::StdMemD3,
+    PrimitiveName::StdMemD4,
+    PrimitiveName::CombMemD1,
+    PrimitiveName::CombMemD2,
+    PrimitiveName::CombMemD3,
+    PrimitiveName::CombMemD4,
+    PrimitiveName::SeqMemD1,
+    PrimitiveName::SeqMemD2,
+    PrimitiveName::SeqMemD3,
+    PrimitiveName::SeqMemD4,
+    PrimitiveName::MultPipe,
+    PrimitiveName::DivPipe,
+];
+
 impl PrimitiveName {
+    /// The primitive of this name. None where designs cannot name one so.
+    pub fn from_text(text: &[u8]) -> Option<PrimitiveName>
+        ensures some { IfSome result (λ name. IsNamed name text.now) }
+        ensures none { IfNone result ((name : PrimitiveName) → ¬ IsNamed name text.now) }
+    {
+        for name in NAMES.iter() {
+            if name.is_spelled(text) {
+                return Some(*name);
+            }
+        }
+        None
+    }
+
     /// The name as designs write it.
     pub fn text(self) -> &'static str
         ensures value { result.now ≡ name_text self }
@@ -98,5 +155,12 @@ impl PrimitiveName {
             PrimitiveName::DivPipe => "std_div_pipe",
             PrimitiveName::Timer => "cx_timer",
         }
+    }
+
+    /// Whether the bytes are this name.
+    fn is_spelled(self, text: &[u8]) -> bool
+        ensures value { IsTrue result ↔ name_text self ≡ text.now }
+    {
+        self.text().as_bytes() == text
     }
 }
