@@ -48,7 +48,7 @@ next_at sizes rest inputs port number size below beyond word within =
     test : nat_lt (value_at inputs port) size ≡ true
     test = grind (arith, nat_tests)
 
-split_at : (sizes : List ℕ) (port : ℕ) → port < length sizes → drop port sizes ≡ slice_index sizes port ∷ drop (port + 1) sizes
+pub split_at : (sizes : List ℕ) (port : ℕ) → port < length sizes → drop port sizes ≡ slice_index sizes port ∷ drop (port + 1) sizes
 split_at sizes port there = drop-cons sizes port 0 there ∙ ap (λ (k : ℕ). slice_index sizes port ∷ drop k sizes) (sym (add-one port))
 
 pub IsLocating-next : (sizes : List ℕ) (inputs : Inputs) (port number : ℕ) → port < length sizes → value_at inputs port < slice_index sizes port → IsLocating sizes inputs port number

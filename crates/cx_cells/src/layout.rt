@@ -13,8 +13,8 @@ use cx_prim::{OutOfRange, PortName, PortRow, Side, input_at, number_at};
 pub struct Layout {
     pub width: u8,
     pub dimensions: usize,
-    pub sizes: [u32; 4],
-    pub address_widths: [u8; 4],
+    pub sizes: [u64; 4],
+    pub address_widths: [u64; 4],
     pub count: u32,
     pub ghost few: { dimensions ≤ 4 },
     pub ghost within: { IsLayout width (take dimensions sizes) (take dimensions address_widths) },
@@ -23,7 +23,7 @@ pub struct Layout {
 
 impl Layout {
     /// The sizes, the outermost first.
-    pub fn sizes(&self) -> &[u32]
+    pub fn sizes(&self) -> &[u64]
         ensures value { result.now ≡ take self.now.dimensions self.now.sizes }
     {
         &self.sizes[..self.dimensions]
@@ -40,12 +40,12 @@ impl Layout {
             2 => PortName::Addr2,
             _ => PortName::Addr3,
         };
-        PortRow { name, side: Side::Plain, width: self.address_widths[n] }
+        PortRow { name, side: Side::Plain, width: self.address_widths[n] as u8 }
     }
 }
 
 /// Whether a value stands at each address port.
-pub fn have_addresses(sizes: &[u32], inputs: &[Option<Bits>]) -> bool
+pub fn have_addresses(sizes: &[u64], inputs: &[Option<Bits>]) -> bool
     ensures value { result ≡ rows.have_addresses sizes.now 0 inputs.now }
 {
     for port in 0..sizes.len() {
@@ -57,7 +57,7 @@ pub fn have_addresses(sizes: &[u32], inputs: &[Option<Bits>]) -> bool
 }
 
 /// The number of the word at the addresses, in row-major order. Refused at the first address that is not below its size.
-pub fn locate(sizes: &[u32], inputs: &[Option<Bits>]) -> Result<usize, OutOfRange>
+pub fn locate(sizes: &[u64], inputs: &[Option<Bits>]) -> Result<usize, OutOfRange>
     requires { IsTrue (are_sizes sizes.now) }
     ensures ok { IfOk result (λ number. first_beyond sizes.now 0 inputs.now ≡ None) }
     ensures value { IfOk result (λ number. number ≡ rows.word_number sizes.now 0 inputs.now) }

@@ -1,7 +1,6 @@
 //! Memories whose read data follows the addresses.
 
-ghost use Rattle.std.specs.Prelude.{◌≡◌, ◌+◌, None, Some, OnOk, OnErr, IfErr, take, replicate};
-ghost use Rattle.cx_text.specs.Loading as loading;
+ghost use Rattle.std.specs.Prelude.{◌≡◌, take};
 ghost use Rattle.cx_prim.specs.CellStates.{IsState};
 ghost use Rattle.cx_prim.specs.Rows.{FitsPorts, Row};
 ghost use Rattle.cx_prim.specs.MemoryRows.{memory_row};

@@ -1,7 +1,8 @@
 //! Memories whose read data is registered.
 
-ghost use Rattle.std.specs.Prelude.{◌≡◌, ◌+◌, None, Some, OnOk, OnErr, IfErr, take, replicate};
+ghost use Rattle.std.specs.Prelude.{◌≡◌, take, false};
 ghost use Rattle.cx_prim.specs.CellStates.{IsState};
+ghost use Rattle.cx_prim.specs.CellStates as plain;
 ghost use Rattle.cx_prim.specs.Rows.{FitsPorts, Row};
 ghost use Rattle.cx_prim.specs.MemoryRows.{sequential_memory_row};
 ghost use Rattle.cx_prim.specs.MemoryLaws.{sequential_lawful};
@@ -26,6 +27,16 @@ pub struct SequentialState {
     pub words: Vec<u128>,
     pub read_data: u128,
     pub done: bool,
+}
+
+impl SequentialState {
+    /// Forgets all but the words.
+    pub fn clear(&mut self)
+        ensures value { sequential_shown self.new ≡ plain.SequentialMemory self.old.words.items 0 false }
+    {
+        self.read_data = 0;
+        self.done = false;
+    }
 }
 
 impl SequentialMemory {
