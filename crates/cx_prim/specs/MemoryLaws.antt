@@ -55,6 +55,18 @@ output_after_plain (name ∷ names) (w ∷ widths) ys (suc n) port at out =
     let rest = output_after_plain names widths ys n port at out in
     record { places = rest.places; number = let h = rest.number in omega arith; there = rest.there }
 
+pub record IsPlainAt (ports : List PortRow) (n : ℕ) : Type 0 where
+  pub port : PortRow
+  pub there : slice_get ports n ≡ Some port
+  pub plain : port.side ≡ Plain
+
+-- each address port is plain
+pub plain_before : (names : List PortName) (widths : List ℕ) (ys : List PortRow) (n : ℕ) → n < length (ports_named names widths) → IsPlainAt (ports_named names widths ++ ys) n
+plain_before [] widths ys n below = absurd (omega arith)
+plain_before (name ∷ names) [] ys n below = absurd (omega arith)
+plain_before (name ∷ names) (w ∷ widths) ys zero below = record { port = plain_port name w; there = refl; plain = refl }
+plain_before (name ∷ names) (w ∷ widths) ys (suc n) below = let rest = plain_before names widths ys n (omega arith) in record { port = rest.port; there = rest.there; plain = rest.plain }
+
 -- what the addresses give
 
 -- the same stands at the ports from n on, as many as there are sizes
@@ -218,15 +230,21 @@ memory_registered w sizes address_widths layout state inputs others n port at re
     by_output (is_read e same) = absurd (let wrong : Output ≡ Registered = ap (λ (p : PortRow). p.side) same ∙ registered in cc)
     by_output (is_done e same) = memory_done w sizes state inputs others n (not_at n (length sizes + 2) 0 (omega arith))
 
-pub memory_write_same : (w : ℕ) (sizes address_widths : List ℕ) (state : CellState) (inputs others : Inputs) → is_on inputs (length sizes + 1) ≡ true → AgreesWhereLooked (memory_row w sizes address_widths) state inputs others
+pub memory_write_same : (w : ℕ) (sizes address_widths : List ℕ) → IsLayout w sizes address_widths → (state : CellState) (inputs others : Inputs) → is_on inputs (length sizes + 1) ≡ true → AgreesWhereLooked (memory_row w sizes address_widths) state inputs others
     → SameAddresses sizes 0 inputs others × (input inputs (length sizes) ≡ input others (length sizes))
-memory_write_same w sizes address_widths state inputs others on agree = (λ m low high. looked m (omega arith), looked (length sizes) (omega arith))
+memory_write_same w sizes address_widths layout state inputs others on agree = (addresses, looked (length sizes) (plain_port WriteData w) (memory_port w sizes address_widths _ 0 layout (omega arith)) refl (omega arith))
   where
-    looked : (m : ℕ) → m < length sizes + 1 → input inputs m ≡ input others m
-    looked m below = agree.demanded m (rw (on, test) refl)
+    looked : (m : ℕ) (port : PortRow) → slice_get (memory_row w sizes address_widths).ports m ≡ Some port → port.side ≡ Plain → m < length sizes + 1 → input inputs m ≡ input others m
+    looked m port there plain below = agree.demanded m port there plain (rw (on, test) refl)
       where
         test : nat_lt m (length sizes + 1) ≡ true
         test = grind (arith, nat_tests)
+    addresses : SameAddresses sizes 0 inputs others
+    addresses m low high =
+        let count = address_count w sizes address_widths layout in
+        let before : m < length (address_ports address_widths) = omega (arith, count, high) in
+        let at = plain_before (Addr0 ∷ Addr1 ∷ Addr2 ∷ Addr3 ∷ []) address_widths (memory_tail w) m before in
+        looked m at.port at.there at.plain (omega arith)
 
 pub memory_wrote_same : (sizes : List ℕ) (state : CellState) (inputs others : Inputs) → SameAddresses sizes 0 inputs others → input inputs (length sizes) ≡ input others (length sizes)
     → memory_write sizes state inputs ≡ memory_write sizes state others
@@ -237,7 +255,7 @@ memory_wrote_same sizes state inputs others same word = refl
 pub memory_looks : (w : ℕ) (sizes address_widths : List ℕ) → IsLayout w sizes address_widths → LooksWhereDemanded (memory_row w sizes address_widths)
 memory_looks w sizes address_widths layout state inputs others agree =
     let there = agree.enabling (length sizes + 1) (enable_port WriteEn) (memory_port w sizes address_widths _ 1 layout refl) refl in
-    let seen = λ (on : is_on inputs (length sizes + 1) ≡ true). memory_write_same w sizes address_widths state inputs others on agree in
+    let seen = λ (on : is_on inputs (length sizes + 1) ≡ true). memory_write_same w sizes address_widths layout state inputs others on agree in
     let range = if-same_else (is_on inputs (length sizes + 1)) (first_beyond sizes 0 inputs) (first_beyond sizes 0 others) None (λ on. first_beyond_same sizes 0 inputs others (seen on).0)
           ∙ ap (λ (i : Option BitVector). if number_of i == 1 then first_beyond sizes 0 others else None) there in
     let after = if-same_else (is_on inputs (length sizes + 1)) (memory_write sizes state inputs) (memory_write sizes state others) (memory_idle state) (λ on. memory_wrote_same sizes state inputs others (seen on).0 (seen on).1)
@@ -375,17 +393,21 @@ pub sequential_idle_once : (state : CellState) → sequential_idle (sequential_i
 sequential_idle_once (SequentialMemory words read_data done) = refl
 sequential_idle_once state = refl
 
-pub sequential_seen : (w : ℕ) (sizes address_widths : List ℕ) (state : CellState) (inputs others : Inputs) → is_on inputs (length sizes) ≡ true → AgreesWhereLooked (sequential_memory_row w sizes address_widths) state inputs others
+pub sequential_seen : (w : ℕ) (sizes address_widths : List ℕ) → IsLayout w sizes address_widths → (state : CellState) (inputs others : Inputs) → is_on inputs (length sizes) ≡ true → AgreesWhereLooked (sequential_memory_row w sizes address_widths) state inputs others
     → SameAddresses sizes 0 inputs others × (is_on inputs (length sizes + 1) ≡ true → input inputs (length sizes + 2) ≡ input others (length sizes + 2))
-sequential_seen w sizes address_widths state inputs others on agree = (addresses, word)
+sequential_seen w sizes address_widths layout state inputs others on agree = (addresses, word)
   where
     addresses : SameAddresses sizes 0 inputs others
-    addresses m low high = agree.demanded m (rw (on, test) refl)
+    addresses m low high =
+        let count = address_count w sizes address_widths layout in
+        let before : m < length (address_ports address_widths) = omega (arith, count, high) in
+        let at = plain_before (Addr0 ∷ Addr1 ∷ Addr2 ∷ Addr3 ∷ []) address_widths (sequential_tail w) m before in
+        agree.demanded m at.port at.there at.plain (rw (on, test) refl)
       where
         test : nat_lt m (length sizes) ≡ true
         test = grind (arith, nat_tests)
     word : is_on inputs (length sizes + 1) ≡ true → input inputs (length sizes + 2) ≡ input others (length sizes + 2)
-    word writes = agree.demanded (length sizes + 2) (demanded (nat_lt (length sizes + 2) (length sizes)) (length sizes + 2 == length sizes + 2) (is_on inputs (length sizes)) (is_on inputs (length sizes + 1)) (is_at _ _ refl) on writes)
+    word writes = agree.demanded (length sizes + 2) (plain_port WriteData w) (sequential_port w sizes address_widths _ 2 layout refl) refl (demanded (nat_lt (length sizes + 2) (length sizes)) (length sizes + 2 == length sizes + 2) (is_on inputs (length sizes)) (is_on inputs (length sizes + 1)) (is_at _ _ refl) on writes)
       where
         demanded : (low here on writes : Bool) → here ≡ true → on ≡ true → writes ≡ true → (on && (low || (here && writes))) ≡ true
         demanded true true true true a b c = refl
@@ -412,7 +434,7 @@ pub sequential_looks : (w : ℕ) (sizes address_widths : List ℕ) → IsLayout 
 sequential_looks w sizes address_widths layout state inputs others agree =
     let there = agree.enabling (length sizes) (enable_port ContentEn) (sequential_port w sizes address_widths _ 0 layout (omega arith)) refl in
     let write_en = agree.enabling (length sizes + 1) (enable_port WriteEn) (sequential_port w sizes address_widths _ 1 layout refl) refl in
-    let seen = λ (on : is_on inputs (length sizes) ≡ true). sequential_seen w sizes address_widths state inputs others on agree in
+    let seen = λ (on : is_on inputs (length sizes) ≡ true). sequential_seen w sizes address_widths layout state inputs others on agree in
     let range = if-same_else (is_on inputs (length sizes)) (first_beyond sizes 0 inputs) (first_beyond sizes 0 others) None (λ on. first_beyond_same sizes 0 inputs others (seen on).0)
           ∙ ap (λ (i : Option BitVector). if number_of i == 1 then first_beyond sizes 0 others else None) there in
     let after = if-same_else (is_on inputs (length sizes)) (sequential_access sizes state inputs) (sequential_access sizes state others) (sequential_idle state)

@@ -52,7 +52,7 @@ pub multiplier_go_same : (w : ℕ) (state : CellState) (inputs others : Inputs) 
     → multiplier_go w multiplier_latency state inputs ≡ multiplier_go w multiplier_latency state others
 multiplier_go_same w (Multiplier run product) inputs others on agree =
     ap (λ (r : PipeRun). multiplied w multiplier_latency r product)
-      (holding_same run inputs others (λ first. agree.demanded 1 (rw (on, first) refl)) (λ first. agree.demanded 2 (rw (on, first) refl)))
+      (holding_same run inputs others (λ first. agree.demanded 1 (plain_port Left w) refl refl (rw (on, first) refl)) (λ first. agree.demanded 2 (plain_port Right w) refl refl (rw (on, first) refl)))
 multiplier_go_same w state inputs others on agree = refl
 
 pub multiplier_looks : (w : ℕ) → LooksWhereDemanded (multiplier_row w)
@@ -128,7 +128,7 @@ divider_idle_once state = refl
 pub divider_go_same : (w : ℕ) (state : CellState) (inputs others : Inputs) → is_on inputs 0 ≡ true → AgreesWhereLooked (divider_row w) state inputs others → divider_go w w state inputs ≡ divider_go w w state others
 divider_go_same w (Divider run quotient remainder) inputs others on agree =
     ap (λ (r : PipeRun). divided w w r quotient remainder)
-      (holding_same run inputs others (λ first. agree.demanded 1 (rw (on, first) refl)) (λ first. agree.demanded 2 (rw (on, first) refl)))
+      (holding_same run inputs others (λ first. agree.demanded 1 (plain_port Left w) refl refl (rw (on, first) refl)) (λ first. agree.demanded 2 (plain_port Right w) refl refl (rw (on, first) refl)))
 divider_go_same w state inputs others on agree = refl
 
 pub divider_looks : (w : ℕ) → LooksWhereDemanded (divider_row w)

@@ -22,7 +22,7 @@ pub register_looks : (w : ℕ) → LooksWhereDemanded (register_row w)
 register_looks w state inputs others agree =
     let there = agree.enabling 1 (enable_port WriteEn) refl refl in
     let written = if-same_else (is_on inputs 1) (Register (value_at inputs 0) true) (Register (value_at others 0) true) (register_idle state)
-          (λ on. ap (λ (i : Option BitVector). Register (number_of i) true) (agree.demanded 0 (rw on refl))) in
+          (λ on. ap (λ (i : Option BitVector). Register (number_of i) true) (agree.demanded 0 (plain_port In w) refl refl (rw on refl))) in
     ap Ok (written ∙ ap (λ (i : Option BitVector). if number_of i == 1 then Register (value_at others 0) true else register_idle state) there)
 
 pub register_widths : (w : ℕ) → IsWidth w → GivesWidths (register_row w)

@@ -40,7 +40,7 @@ pub record Row : Type 0 where
   pub reads : ℕ → ℕ → Bool
   -- whether output n is the word at addresses of which one is out of range
   pub beyond : Inputs → ℕ → Bool
-  -- whether input n, which is no enabling port, has to be a value at the edge
+  -- whether plain input n has to be a value at the edge
   pub demands : CellState → Inputs → ℕ → Bool
   -- the first address port that the edge compares with its size and finds out of range
   pub out_of_range : Inputs → Option ℕ
@@ -92,19 +92,19 @@ pub record FitsPorts (ports : List PortRow) (inputs : Inputs) : Type 0 where
 abbrev pub AreValues : Inputs → Type 0
 AreValues inputs = (n : ℕ) (b : BitVector) → input inputs n ≡ Some b → Fits b
 
--- every enabling port has a value, and so has every demanded port
+-- every enabling port has a value, and so has every plain port that the edge demands
 pub record IsLookedAt (r : Row) (state : CellState) (inputs : Inputs) : Type 0 where
   pub enabling : (n : ℕ) (port : PortRow) → slice_get r.ports n ≡ Some port → port.side ≡ Enable → IsSome (input inputs n)
-  pub demanded : (n : ℕ) → r.demands state inputs n ≡ true → IsSome (input inputs n)
+  pub demanded : (n : ℕ) (port : PortRow) → slice_get r.ports n ≡ Some port → port.side ≡ Plain → r.demands state inputs n ≡ true → IsSome (input inputs n)
 
 -- every enabling port is 0
 abbrev pub IsQuiet : Row → Inputs → Type 0
 IsQuiet r inputs = (n : ℕ) (port : PortRow) → slice_get r.ports n ≡ Some port → port.side ≡ Enable → value_at inputs n ≡ 0
 
--- the same stands at every enabling port and at every demanded port
+-- the same stands at every enabling port and at every plain port that the edge demands
 pub record AgreesWhereLooked (r : Row) (state : CellState) (inputs others : Inputs) : Type 0 where
   pub enabling : (n : ℕ) (port : PortRow) → slice_get r.ports n ≡ Some port → port.side ≡ Enable → input inputs n ≡ input others n
-  pub demanded : (n : ℕ) → r.demands state inputs n ≡ true → input inputs n ≡ input others n
+  pub demanded : (n : ℕ) (port : PortRow) → slice_get r.ports n ≡ Some port → port.side ≡ Plain → r.demands state inputs n ≡ true → input inputs n ≡ input others n
 
 -- two idle edges are one
 abbrev pub IdlesOnce : Row → Type 0
