@@ -1,9 +1,9 @@
 -- Worked values of the rows, by hand from their sentences.
-use Rattle.std.specs.Prelude.{◌≡◌, ℕ, ◌^◌, ◌-◌, Bool, true, false, List, [], ◌∷◌, Option, Some, None, Ok, Err, IsSome, IsNone, refl}
+use Rattle.std.specs.Prelude.{◌≡◌, ℕ, true, false, [], ◌∷◌, Option, Some, None, Ok, Err, IsSome, refl}
 use Rattle.cx_bits.specs.BitVector.{BitVector}
-use Rattle.cx_prim.specs.declared.names.PrimitiveName.TheVariants.{Const, Add, Slt, Lt, Slice, Pad, Reg, StdMemD2, SeqMemD1, CombMemD1, MultPipe, DivPipe, Timer}
-use Rattle.cx_prim.specs.CellStates.{CellState, Register, Memory, SequentialMemory, Multiplier, Divider, Timer as TimerState}
-use Rattle.cx_prim.specs.Rows.{Inputs, Row, edge}
+use Rattle.cx_prim.specs.declared.names.PrimitiveName.TheVariants.{Const, Add, Slice, Pad, Reg, StdMemD2, CombMemD1}
+use Rattle.cx_prim.specs.CellStates.{Register, Memory, SequentialMemory, Multiplier, Divider, Timer as TimerState}
+use Rattle.cx_prim.specs.Rows.{Inputs, edge}
 use Rattle.cx_prim.specs.CombinationalRows.{binary_row, signed_at_most_bit_of}
 use Rattle.cx_prim.specs.RegisterRow.{register_row}
 use Rattle.cx_prim.specs.MemoryRows.{memory_row, sequential_memory_row}

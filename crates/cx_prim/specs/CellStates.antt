@@ -1,5 +1,5 @@
 -- The states of primitives as plain data, one type for all rows.
-use Rattle.std.specs.Prelude.{◌≡◌, ℕ, ◌<◌, ◌≤◌, ◌^◌, Bool, false, List, [], length, All}
+use Rattle.std.specs.Prelude.{◌≡◌, ℕ, ◌<◌, ◌≤◌, ◌^◌, Bool, List, [], length, All}
 
 -- a pipe's way through one operation: how many cycles it has gone, the operands that it holds, and done
 pub record PipeRun : Type 0 where

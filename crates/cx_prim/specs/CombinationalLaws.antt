@@ -1,5 +1,5 @@
 -- The rows of the primitives without state keep the laws of a row.
-use Rattle.std.specs.Prelude.{◌≡◌, ℕ, zero, suc, ◌<◌, ◌≤◌, ◌==◌, ◌&&◌, ◌||◌, Bool, true, false, not, List, [], ◌∷◌, Option, Some, None, Result, Ok, Err, IsSome, slice_get, nat_lt, if◌then◌else◌, option_and_then, option_map, refl}
+use Rattle.std.specs.Prelude.{◌≡◌, ℕ, zero, suc, ◌<◌, ◌==◌, ◌&&◌, Bool, true, false, List, [], ◌∷◌, Option, Some, None, IsSome, slice_get, nat_lt, if◌then◌else◌, option_and_then, option_map, refl}
 use Rattle.std.specs.List.{list_all}
 use Rattle.std.specs.Prelude.{◌⊎◌}
 use Rattle.std.proofs.Common.{ap, sym, ◌∙◌, subst, arith, inl, inr}
@@ -8,10 +8,9 @@ use Rattle.cx_bits.specs.BitVector.{BitVector, Fits}
 use Rattle.cx_prim.specs.declared.ports.PortName.TheVariants.{In, Left, Right, Tru, Fal}
 use Rattle.cx_prim.specs.declared.ports.PortRow.{PortRow}
 use Rattle.cx_prim.specs.declared.ports.Side.{Side}
-use Rattle.cx_prim.specs.declared.ports.Side.TheVariants.{Enable, Plain, Output, Registered}
-use Rattle.cx_prim.specs.CellStates.{CellState, Stateless}
-use Rattle.cx_prim.specs.Rows.{Inputs, input, Row, FitsPorts, AreValues, HasSide, is_output_side, IsOfWidth, AgreesWhereRead, IsStrict, KeepsRegistered, GivesWidths, ReadsOnly, AnswersStrictly}
-use Rattle.cx_prim.specs.CombinationalRows.{combinational_row, constant_row, unary_row, binary_row, mux_row, chosen}
+use Rattle.cx_prim.specs.declared.ports.Side.TheVariants.{Plain, Registered}
+use Rattle.cx_prim.specs.Rows.{Inputs, input, Row, is_output_side, IsOfWidth, KeepsRegistered, GivesWidths, ReadsOnly, AnswersStrictly}
+use Rattle.cx_prim.specs.CombinationalRows.{constant_row, unary_row, binary_row, mux_row, chosen}
 
 -- both sides of a conjunction that is true
 pub and_left : (a b : Bool) → (a && b) ≡ true → a ≡ true
@@ -183,8 +182,10 @@ mux_strict w state inputs n of_row out = record {
   where
     after_tru : BitVector → BitVector → Option BitVector
     after_tru c t = option_map (chosen c t) (input inputs 2)
+
     after_cond : BitVector → Option BitVector
     after_cond c = option_and_then (after_tru c) (input inputs 1)
+
     unread : (m : ℕ) → nat_lt m 3 ≡ true → input inputs m ≡ None → option_and_then after_cond (input inputs 0) ≡ None
     unread zero low none = ap (option_and_then after_cond) none
     unread (suc zero) low none = none_chained after_cond (input inputs 0) (λ c. ap (option_and_then (after_tru c)) none)

@@ -1,12 +1,12 @@
 -- The rows of the primitives without state. An output has a value where every input has one.
-use Rattle.std.specs.Prelude.{ℕ, ◌^◌, ◌==◌, Bool, true, false, not, List, [], ◌∷◌, Option, Some, None, nat_lt, nat_le, int_lt, int_le, if◌then◌else◌, option_and_then, option_map}
+use Rattle.std.specs.Prelude.{ℕ, ◌==◌, false, not, List, [], ◌∷◌, Option, Some, None, nat_lt, nat_le, int_lt, int_le, if◌then◌else◌, option_and_then, option_map}
 use Rattle.cx_bits.specs.BitVector.{BitVector}
-use Rattle.cx_bits.specs.Operators.{sum_of, difference_of, product_of, and_of, or_of, xor_of, complement_of, left_shift_of, right_shift_of, bit_of, less_bit_of, equal_bit_of, signed_of, signed_less_bit_of, low_bits_of, zero_extension_of}
+use Rattle.cx_bits.specs.Operators.{bit_of, signed_of}
 use Rattle.cx_prim.specs.declared.ports.PortName.{PortName}
 use Rattle.cx_prim.specs.declared.ports.PortName.TheVariants.{In, Out, Left, Right, Cond, Tru, Fal}
 use Rattle.cx_prim.specs.declared.ports.PortRow.{PortRow}
 use Rattle.cx_prim.specs.declared.ports.Side.TheVariants.{Enable, Plain, Output, Registered}
-use Rattle.cx_prim.specs.CellStates.{CellState, Stateless, StateShape, NoState}
+use Rattle.cx_prim.specs.CellStates.{Stateless, NoState}
 use Rattle.cx_prim.specs.Rows.{Inputs, input, Row}
 
 -- a port of one bit that an edge looks at first
@@ -50,7 +50,7 @@ unary_row width out_width operator =
 abbrev pub binary_row : ℕ → ℕ → (BitVector → BitVector → BitVector) → Row
 binary_row width out_width operator =
     combinational_row (plain_port Left width ∷ plain_port Right width ∷ output_port Out out_width ∷ []) 2
-      (λ inputs. option_and_then (λ left. option_map (operator left) (input inputs 1)) (input inputs 0))
+    (λ inputs. option_and_then (λ left. option_map (operator left) (input inputs 1)) (input inputs 0))
 
 -- `tru` where `cond` is 1, else `fal`
 abbrev pub chosen : BitVector → BitVector → BitVector → BitVector
@@ -60,7 +60,7 @@ chosen condition yes_value no_value = if condition.value == 1 then yes_value els
 abbrev pub mux_row : ℕ → Row
 mux_row width =
     combinational_row (plain_port Cond 1 ∷ plain_port Tru width ∷ plain_port Fal width ∷ output_port Out width ∷ []) 3
-      (λ inputs. option_and_then (λ condition. option_and_then (λ yes_value. option_map (chosen condition yes_value) (input inputs 2)) (input inputs 1)) (input inputs 0))
+    (λ inputs. option_and_then (λ condition. option_and_then (λ yes_value. option_map (chosen condition yes_value) (input inputs 2)) (input inputs 1)) (input inputs 0))
 
 -- comparisons of unsigned numbers, as one bit
 abbrev pub greater_bit_of : BitVector → BitVector → BitVector

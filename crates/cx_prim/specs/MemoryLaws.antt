@@ -1,29 +1,26 @@
 -- The rows of memories keep the laws of a row.
-use Rattle.std.specs.Prelude.{◌≡◌, ◌⊎◌, ℕ, zero, suc, ◌+◌, ◌*◌, ◌<◌, ◌≤◌, ◌^◌, ◌==◌, ◌&&◌, ◌||◌, not, Bool, true, false, List, [], ◌∷◌, ◌++◌, Option, Some, None, Result, Ok, Err, IsSome, is_some, is_none, nat_lt, slice_get, slice_index, slice_set, length, replicate, if◌then◌else◌, refl, All}
-use Rattle.std.specs.List.{list_all}
-use Rattle.std.proofs.Common.{ap, sym, ◌∙◌, subst, arith, inl, inr}
+use Rattle.std.specs.Prelude.{◌≡◌, ℕ, zero, suc, ◌+◌, ◌*◌, ◌<◌, ◌≤◌, ◌^◌, ◌==◌, ◌&&◌, ◌||◌, not, Bool, true, false, List, [], ◌∷◌, ◌++◌, Option, Some, None, IsSome, is_some, is_none, nat_lt, slice_get, slice_index, slice_set, length, replicate, if◌then◌else◌, refl, All}
+use Rattle.std.proofs.Common.{ap, sym, ◌∙◌, subst, arith}
 use Rattle.std.proofs.lemmas.Nat.{pow_pos}
 use Rattle.std.proofs.lemmas.Bool.{eqb-true, ltb-true}
 use Rattle.std.proofs.lemmas.Bool.Decides.{nat_tests}
 use Rattle.std.proofs.Math.ListN.{length-replicate, get_or-replicate, get_or-eq_default}
 use Rattle.std.proofs.lemmas.List.{length-set}
 use Rattle.std.proofs.lemmas.List.Elements.{All-set, All-get_or}
-use Rattle.cx_bits.specs.BitVector.{BitVector, Fits}
+use Rattle.cx_bits.specs.BitVector.{BitVector}
 use Rattle.cx_bits.specs.Operators.{bit_of}
 use Rattle.cx_bits.specs.OperatorLaws.{Fits-bit_of}
 use Rattle.cx_text.specs.Loading.{word_count}
 use Rattle.cx_prim.specs.declared.ports.PortName.{PortName}
 use Rattle.cx_prim.specs.declared.ports.PortRow.{PortRow}
 use Rattle.cx_prim.specs.declared.ports.PortName.TheVariants.{Addr0, Addr1, Addr2, Addr3, WriteData, WriteEn, ContentEn, ReadData, Done}
-use Rattle.cx_prim.specs.declared.ports.Side.{Side}
-use Rattle.cx_prim.specs.declared.ports.Side.TheVariants.{Enable, Plain, Output, Registered}
+use Rattle.cx_prim.specs.declared.ports.Side.TheVariants.{Plain, Output, Registered}
 use Rattle.cx_prim.specs.CellStates.{CellState, Memory, SequentialMemory, IsState, MemoryOf, SequentialMemoryOf, AreWords}
-use Rattle.cx_prim.specs.Rows.{Inputs, input, number_of, value_at, is_on, Row, edge_of, FitsPorts, AreValues, AgreesWhereLooked, KeepsRegistered, LooksWhereDemanded, GivesWidths, ReadsOnly, AnswersStrictly, IsStrict, HasSide, is_output_side, IsOfWidth, IsLawful}
+use Rattle.cx_prim.specs.Rows.{Inputs, input, number_of, value_at, is_on, edge_of, AgreesWhereLooked, KeepsRegistered, LooksWhereDemanded, GivesWidths, ReadsOnly, AnswersStrictly, is_output_side, IsOfWidth, IsLawful}
 use Rattle.cx_prim.specs.CombinationalRows.{enable_port, plain_port, output_port, registered_port}
 use Rattle.cx_prim.specs.CombinationalLaws.{not_output, and_left, and_right}
 use Rattle.cx_prim.specs.MemoryRows.{IsLayout, ports_named, address_ports, first_beyond, word_number, have_addresses, word_at, written, memory_read, memory_output, memory_idle, memory_write, memory_row, sequential_output, sequential_idle, sequential_access, sequential_memory_row}
 use Rattle.cx_prim.specs.RowTools.{out_fits, number_fits, if-same_else, if-each, value_at_fits}
-use Rattle.cx_prim.specs.Widths.{IsWidth}
 
 -- ports
 
@@ -82,7 +79,7 @@ first_beyond_same (size ∷ sizes) n inputs others same =
     let here : input inputs n ≡ input others n = same n (omega arith) (omega arith) in
     let rest = first_beyond_same sizes (n + 1) inputs others (later_same size sizes n inputs others same) in
     ap (λ (i : Option BitVector). if nat_lt (number_of i) size then first_beyond sizes (n + 1) inputs else Some n) here
-      ∙ ap (λ (o : Option ℕ). if nat_lt (value_at others n) size then o else Some n) rest
+    ∙ ap (λ (o : Option ℕ). if nat_lt (value_at others n) size then o else Some n) rest
 
 pub word_number_same : (sizes : List ℕ) (n : ℕ) (inputs others : Inputs) → SameAddresses sizes n inputs others → word_number sizes n inputs ≡ word_number sizes n others
 word_number_same [] n inputs others same = refl
@@ -90,7 +87,7 @@ word_number_same (size ∷ sizes) n inputs others same =
     let here : input inputs n ≡ input others n = same n (omega arith) (omega arith) in
     let rest = word_number_same sizes (n + 1) inputs others (later_same size sizes n inputs others same) in
     ap (λ (i : Option BitVector). number_of i * word_count sizes + word_number sizes (n + 1) inputs) here
-      ∙ ap (λ (k : ℕ). value_at others n * word_count sizes + k) rest
+    ∙ ap (λ (k : ℕ). value_at others n * word_count sizes + k) rest
 
 pub have_addresses_same : (sizes : List ℕ) (n : ℕ) (inputs others : Inputs) → SameAddresses sizes n inputs others → have_addresses sizes n inputs ≡ have_addresses sizes n others
 have_addresses_same [] n inputs others same = refl
@@ -102,18 +99,18 @@ have_addresses_same (size ∷ sizes) n inputs others same =
 pub memory_read_same : (w : ℕ) (sizes words : List ℕ) (inputs others : Inputs) → SameAddresses sizes 0 inputs others → memory_read w sizes words inputs ≡ memory_read w sizes words others
 memory_read_same w sizes words inputs others same =
     ap (λ (have : Bool). if have && is_none (first_beyond sizes 0 inputs) then Some (record { width = w; value = slice_index words (word_number sizes 0 inputs) }) else None) (have_addresses_same sizes 0 inputs others same)
-      ∙ ap (λ (o : Option ℕ). if have_addresses sizes 0 others && is_none o then Some (record { width = w; value = slice_index words (word_number sizes 0 inputs) }) else None) (first_beyond_same sizes 0 inputs others same)
-      ∙ ap (λ (k : ℕ). if have_addresses sizes 0 others && is_none (first_beyond sizes 0 others) then Some (record { width = w; value = slice_index words k }) else None) (word_number_same sizes 0 inputs others same)
+    ∙ ap (λ (o : Option ℕ). if have_addresses sizes 0 others && is_none o then Some (record { width = w; value = slice_index words (word_number sizes 0 inputs) }) else None) (first_beyond_same sizes 0 inputs others same)
+    ∙ ap (λ (k : ℕ). if have_addresses sizes 0 others && is_none (first_beyond sizes 0 others) then Some (record { width = w; value = slice_index words k }) else None) (word_number_same sizes 0 inputs others same)
 
 pub written_same : (sizes : List ℕ) (inputs others : Inputs) (word : ℕ) (words : List ℕ) → SameAddresses sizes 0 inputs others → written sizes inputs word words ≡ written sizes others word words
 written_same sizes inputs others word words same =
     ap (λ (o : Option ℕ). if is_none o then slice_set words (word_number sizes 0 inputs) word else words) (first_beyond_same sizes 0 inputs others same)
-      ∙ ap (λ (k : ℕ). if is_none (first_beyond sizes 0 others) then slice_set words k word else words) (word_number_same sizes 0 inputs others same)
+    ∙ ap (λ (k : ℕ). if is_none (first_beyond sizes 0 others) then slice_set words k word else words) (word_number_same sizes 0 inputs others same)
 
 pub word_at_same : (sizes : List ℕ) (inputs others : Inputs) (words : List ℕ) → SameAddresses sizes 0 inputs others → word_at sizes inputs words ≡ word_at sizes others words
 word_at_same sizes inputs others words same =
     ap (λ (o : Option ℕ). if is_none o then slice_index words (word_number sizes 0 inputs) else 0) (first_beyond_same sizes 0 inputs others same)
-      ∙ ap (λ (k : ℕ). if is_none (first_beyond sizes 0 others) then slice_index words k else 0) (word_number_same sizes 0 inputs others same)
+    ∙ ap (λ (k : ℕ). if is_none (first_beyond sizes 0 others) then slice_index words k else 0) (word_number_same sizes 0 inputs others same)
 
 -- an address that is no value
 pub have_addresses_none : (sizes : List ℕ) (n m : ℕ) (inputs : Inputs) → n ≤ m → m < n + length sizes → input inputs m ≡ None → have_addresses sizes n inputs ≡ false
@@ -123,12 +120,15 @@ have_addresses_none (size ∷ sizes) n m inputs low high none =
   where
     here : n ≡ m → is_some (input inputs n) ≡ false
     here e = ap is_some (ap (input inputs) e ∙ none)
+
     false_left : (a b : Bool) → a ≡ false → (a && b) ≡ false
     false_left true b h = absurd (cc)
     false_left false b h = refl
+
     false_right : (a b : Bool) → b ≡ false → (a && b) ≡ false
     false_right true b h = h
     false_right false b h = refl
+
     by_place : (b : Bool) → (n == m) ≡ b → (n + 1 ≤ m → have_addresses sizes (n + 1) inputs ≡ false) → (is_some (input inputs n) && have_addresses sizes (n + 1) inputs) ≡ false
     by_place true e rest = false_left _ _ (here (eqb-true n m e))
     by_place false e rest = false_right _ _ (rest (grind (arith, nat_tests, e)))
@@ -137,7 +137,7 @@ pub have_addresses_all : (sizes : List ℕ) (n : ℕ) (inputs : Inputs) → ((m 
 have_addresses_all [] n inputs all = refl
 have_addresses_all (size ∷ sizes) n inputs all =
     both_true (is_some (input inputs n)) (have_addresses sizes (n + 1) inputs) (all n (omega arith) (omega arith))
-      (have_addresses_all sizes (n + 1) inputs (λ m low high. all m (omega arith) (omega arith)))
+    (have_addresses_all sizes (n + 1) inputs (λ m low high. all m (omega arith) (omega arith)))
   where
     both_true : (a b : Bool) → a ≡ true → b ≡ true → (a && b) ≡ true
     both_true true b ha hb = hb
@@ -239,6 +239,7 @@ memory_write_same w sizes address_widths layout state inputs others on agree = (
       where
         test : nat_lt m (length sizes + 1) ≡ true
         test = grind (arith, nat_tests)
+
     addresses : SameAddresses sizes 0 inputs others
     addresses m low high =
         let count = address_count w sizes address_widths layout in
@@ -257,9 +258,9 @@ memory_looks w sizes address_widths layout state inputs others agree =
     let there = agree.enabling (length sizes + 1) (enable_port WriteEn) (memory_port w sizes address_widths _ 1 layout refl) refl in
     let seen = λ (on : is_on inputs (length sizes + 1) ≡ true). memory_write_same w sizes address_widths layout state inputs others on agree in
     let range = if-same_else (is_on inputs (length sizes + 1)) (first_beyond sizes 0 inputs) (first_beyond sizes 0 others) None (λ on. first_beyond_same sizes 0 inputs others (seen on).0)
-          ∙ ap (λ (i : Option BitVector). if number_of i == 1 then first_beyond sizes 0 others else None) there in
+    ∙ ap (λ (i : Option BitVector). if number_of i == 1 then first_beyond sizes 0 others else None) there in
     let after = if-same_else (is_on inputs (length sizes + 1)) (memory_write sizes state inputs) (memory_write sizes state others) (memory_idle state) (λ on. memory_wrote_same sizes state inputs others (seen on).0 (seen on).1)
-          ∙ ap (λ (i : Option BitVector). if number_of i == 1 then memory_write sizes state others else memory_idle state) there in
+    ∙ ap (λ (i : Option BitVector). if number_of i == 1 then memory_write sizes state others else memory_idle state) there in
     ap (λ (o : Option ℕ). edge_of o ((memory_row w sizes address_widths).next state inputs)) range ∙ ap (edge_of ((memory_row w sizes address_widths).out_of_range others)) after
 
 some_read : (b : Bool) (a v : BitVector) → (if b then Some a else None) ≡ Some v → Some a ≡ Some v
@@ -273,7 +274,7 @@ memory_widths w sizes address_widths layout (Memory words done) inputs n port b 
     by_output (is_read number same) =
         let read : memory_read w sizes words inputs ≡ Some b = sym (ap (λ (t : Bool). if t then memory_read w sizes words inputs else Some (bit_of done)) (is_at n (length sizes + 2) number)) ∙ e in
         out_fits (output_port ReadData w) port _ b (ap Some same) (some_read (have_addresses sizes 0 inputs && is_none (first_beyond sizes 0 inputs)) _ b read)
-          (number_fits w (slice_index words (word_number sizes 0 inputs)) layout.word (word_below w (word_count sizes) words _ of_row))
+        (number_fits w (slice_index words (word_number sizes 0 inputs)) layout.word (word_below w (word_count sizes) words _ of_row))
     by_output (is_done number same) =
         let one : Some (bit_of done) ≡ Some b = sym (ap (λ (t : Bool). if t then memory_read w sizes words inputs else Some (bit_of done)) (not_at n (length sizes + 2) 0 (omega arith))) ∙ e in
         out_fits (registered_port Done 1) port _ b (ap Some same) one (record { same_width = refl; fits = Fits-bit_of done })
@@ -298,29 +299,35 @@ memory_strict w sizes address_widths layout (Memory words done) inputs n of_row 
   where
     read_when : (n == length sizes + 2) ≡ true → memory_output w sizes (Memory words done) inputs n ≡ memory_read w sizes words inputs
     read_when e = ap (λ (t : Bool). if t then memory_read w sizes words inputs else Some (bit_of done)) e
+
     false_left : (a b : Bool) → a ≡ false → (a && b) ≡ false
     false_left true b h = absurd (cc)
     false_left false b h = refl
+
     false_right : (a b : Bool) → not b ≡ true → (a && b) ≡ false
     false_right true true h = absurd (cc)
     false_right true false h = refl
     false_right false b h = refl
+
     unread : (m : ℕ) → (memory_row w sizes address_widths).reads n m ≡ true → input inputs m ≡ None → memory_output w sizes (Memory words done) inputs n ≡ None
     unread m reads none =
         let read = and_left (n == length sizes + 2) (nat_lt m (length sizes)) reads in
         let below = ltb-true m (length sizes) (and_right (n == length sizes + 2) (nat_lt m (length sizes)) reads) in
         let missing = have_addresses_none sizes 0 m inputs (omega arith) (omega arith) none in
         read_when read ∙ no_word (have_addresses sizes 0 inputs) (is_none (first_beyond sizes 0 inputs)) _ (false_left _ _ missing)
+
     beyond : (memory_row w sizes address_widths).beyond inputs n ≡ true → memory_output w sizes (Memory words done) inputs n ≡ None
     beyond h =
         let read = and_left (n == length sizes + 2) (not (is_none (first_beyond sizes 0 inputs))) h in
         let out_there = and_right (n == length sizes + 2) (not (is_none (first_beyond sizes 0 inputs))) h in
         read_when read ∙ no_word (have_addresses sizes 0 inputs) (is_none (first_beyond sizes 0 inputs)) _ (false_right _ _ out_there)
+
     there : (read have within : Bool) (a : BitVector) (d : Option BitVector) → (read ≡ true → have ≡ true) → (read && not within) ≡ false → IsSome d → IsSome (if read then (if have && within then Some a else None) else d)
     there true true true a d h off is_there = refl
     there true true false a d h off is_there = absurd (cc)
     there true false within a d h off is_there = absurd (let wrong : false ≡ true = h refl in cc)
     there false have within a d h off is_there = is_there
+
     otherwise : ((m : ℕ) → (memory_row w sizes address_widths).reads n m ≡ true → IsSome (input inputs m)) → (memory_row w sizes address_widths).beyond inputs n ≡ false → IsSome (memory_output w sizes (Memory words done) inputs n)
     otherwise all within =
         there (n == length sizes + 2) (have_addresses sizes 0 inputs) (is_none (first_beyond sizes 0 inputs)) _ _ (λ read. have_addresses_all sizes 0 inputs (λ m low high. all m (rw (read, below m high) refl))) within refl
@@ -341,8 +348,8 @@ pub memory_lawful : (w : ℕ) (sizes address_widths : List ℕ) → IsLayout w s
 memory_lawful w sizes address_widths layout = record {
   idle_once = memory_idle_once;
   quiet_is_idle = λ state inputs quiet.
-    let off : value_at inputs (length sizes + 1) ≡ 0 = quiet (length sizes + 1) (enable_port WriteEn) (memory_port w sizes address_widths _ 1 layout refl) refl in
-    ap (λ (v : ℕ). edge_of (if v == 1 then first_beyond sizes 0 inputs else None) (if v == 1 then memory_write sizes state inputs else memory_idle state)) off;
+      let off : value_at inputs (length sizes + 1) ≡ 0 = quiet (length sizes + 1) (enable_port WriteEn) (memory_port w sizes address_widths _ 1 layout refl) refl in
+      ap (λ (v : ℕ). edge_of (if v == 1 then first_beyond sizes 0 inputs else None) (if v == 1 then memory_write sizes state inputs else memory_idle state)) off;
   registered = memory_registered w sizes address_widths layout;
   looked_at = memory_looks w sizes address_widths layout;
   widths = memory_widths w sizes address_widths layout;
@@ -351,9 +358,9 @@ memory_lawful w sizes address_widths layout = record {
   states = record {
     start = AreWords-start w (word_count sizes);
     next = λ state inputs of_row fits values.
-      if-each (IsState (MemoryOf w (word_count sizes))) (is_on inputs (length sizes + 1)) (memory_write sizes state inputs) (memory_idle state)
+        if-each (IsState (MemoryOf w (word_count sizes))) (is_on inputs (length sizes + 1)) (memory_write sizes state inputs) (memory_idle state)
         (memory_write_keeps w sizes state inputs of_row
-          (value_at_fits (memory_row w sizes address_widths).ports inputs (length sizes) (plain_port WriteData w) fits values (memory_port w sizes address_widths _ 0 layout (omega arith))))
+        (value_at_fits (memory_row w sizes address_widths).ports inputs (length sizes) (plain_port WriteData w) fits values (memory_port w sizes address_widths _ 0 layout (omega arith))))
         (memory_idle_keeps w (word_count sizes) state of_row);
     idle = memory_idle_keeps w (word_count sizes);
   };
@@ -406,6 +413,7 @@ sequential_seen w sizes address_widths layout state inputs others on agree = (ad
       where
         test : nat_lt m (length sizes) ≡ true
         test = grind (arith, nat_tests)
+
     word : is_on inputs (length sizes + 1) ≡ true → input inputs (length sizes + 2) ≡ input others (length sizes + 2)
     word writes = agree.demanded (length sizes + 2) (plain_port WriteData w) (sequential_port w sizes address_widths _ 2 layout refl) refl (demanded (nat_lt (length sizes + 2) (length sizes)) (length sizes + 2 == length sizes + 2) (is_on inputs (length sizes)) (is_on inputs (length sizes + 1)) (is_at _ _ refl) on writes)
       where
@@ -420,12 +428,13 @@ pub sequential_access_same : (sizes : List ℕ) (state : CellState) (inputs othe
     → (is_on inputs (length sizes + 1) ≡ true → input inputs (length sizes + 2) ≡ input others (length sizes + 2)) → sequential_access sizes state inputs ≡ sequential_access sizes state others
 sequential_access_same sizes (SequentialMemory words read_data done) inputs others same write_en word =
     if-same_else (is_on inputs (length sizes + 1)) (write inputs) (write others) (read inputs)
-        (λ writes. ap (λ (ws : List ℕ). SequentialMemory ws read_data true) (written_same sizes inputs others (value_at inputs (length sizes + 2)) words same ∙ ap (λ (i : Option BitVector). written sizes others (number_of i) words) (word writes)))
-      ∙ ap (λ (v : ℕ). if is_on inputs (length sizes + 1) then write others else SequentialMemory words v true) (word_at_same sizes inputs others words same)
-      ∙ ap (λ (i : Option BitVector). if number_of i == 1 then write others else read others) write_en
+    (λ writes. ap (λ (ws : List ℕ). SequentialMemory ws read_data true) (written_same sizes inputs others (value_at inputs (length sizes + 2)) words same ∙ ap (λ (i : Option BitVector). written sizes others (number_of i) words) (word writes)))
+    ∙ ap (λ (v : ℕ). if is_on inputs (length sizes + 1) then write others else SequentialMemory words v true) (word_at_same sizes inputs others words same)
+    ∙ ap (λ (i : Option BitVector). if number_of i == 1 then write others else read others) write_en
   where
     write : Inputs → CellState
     write is = SequentialMemory (written sizes is (value_at is (length sizes + 2)) words) read_data true
+
     read : Inputs → CellState
     read is = SequentialMemory words (word_at sizes is words) true
 sequential_access_same sizes state inputs others same write_en word = refl
@@ -436,10 +445,10 @@ sequential_looks w sizes address_widths layout state inputs others agree =
     let write_en = agree.enabling (length sizes + 1) (enable_port WriteEn) (sequential_port w sizes address_widths _ 1 layout refl) refl in
     let seen = λ (on : is_on inputs (length sizes) ≡ true). sequential_seen w sizes address_widths layout state inputs others on agree in
     let range = if-same_else (is_on inputs (length sizes)) (first_beyond sizes 0 inputs) (first_beyond sizes 0 others) None (λ on. first_beyond_same sizes 0 inputs others (seen on).0)
-          ∙ ap (λ (i : Option BitVector). if number_of i == 1 then first_beyond sizes 0 others else None) there in
+    ∙ ap (λ (i : Option BitVector). if number_of i == 1 then first_beyond sizes 0 others else None) there in
     let after = if-same_else (is_on inputs (length sizes)) (sequential_access sizes state inputs) (sequential_access sizes state others) (sequential_idle state)
-            (λ on. sequential_access_same sizes state inputs others (seen on).0 write_en (seen on).1)
-          ∙ ap (λ (i : Option BitVector). if number_of i == 1 then sequential_access sizes state others else sequential_idle state) there in
+    (λ on. sequential_access_same sizes state inputs others (seen on).0 write_en (seen on).1)
+    ∙ ap (λ (i : Option BitVector). if number_of i == 1 then sequential_access sizes state others else sequential_idle state) there in
     ap (λ (o : Option ℕ). edge_of o ((sequential_memory_row w sizes address_widths).next state inputs)) range ∙ ap (edge_of ((sequential_memory_row w sizes address_widths).out_of_range others)) after
 
 pub sequential_widths : (w : ℕ) (sizes address_widths : List ℕ) → IsLayout w sizes address_widths → GivesWidths (sequential_memory_row w sizes address_widths)
@@ -447,6 +456,7 @@ sequential_widths w sizes address_widths layout (SequentialMemory words read_dat
   where
     choose : Bool → Option BitVector
     choose t = Some (if t then record { width = w; value = read_data } else bit_of done)
+
     by_output : SequentialOutput w (length sizes) n port → IsOfWidth port.width b
     by_output (is_data number same) =
         out_fits (registered_port ReadData w) port _ b (ap Some same) (sym (ap choose (is_at n (length sizes + 3) number)) ∙ e) (number_fits w read_data layout.word of_row.1)
@@ -466,15 +476,15 @@ pub sequential_access_keeps : (w : ℕ) (sizes : List ℕ) (state : CellState) (
     → IsState (SequentialMemoryOf w (word_count sizes)) (sequential_access sizes state inputs)
 sequential_access_keeps w sizes (SequentialMemory words read_data done) inputs of_row below =
     if-each (IsState (SequentialMemoryOf w (word_count sizes))) (is_on inputs (length sizes + 1)) _ _
-      (AreWords-written w (word_count sizes) sizes inputs _ words of_row.0 below, of_row.1) (of_row.0, word_at_below w (word_count sizes) sizes inputs words of_row.0)
+    (AreWords-written w (word_count sizes) sizes inputs _ words of_row.0 below, of_row.1) (of_row.0, word_at_below w (word_count sizes) sizes inputs words of_row.0)
 sequential_access_keeps w sizes state inputs of_row below = absurd of_row
 
 pub sequential_lawful : (w : ℕ) (sizes address_widths : List ℕ) → IsLayout w sizes address_widths → IsLawful (sequential_memory_row w sizes address_widths)
 sequential_lawful w sizes address_widths layout = record {
   idle_once = sequential_idle_once;
   quiet_is_idle = λ state inputs quiet.
-    let off : value_at inputs (length sizes) ≡ 0 = quiet (length sizes) (enable_port ContentEn) (sequential_port w sizes address_widths _ 0 layout (omega arith)) refl in
-    ap (λ (v : ℕ). edge_of (if v == 1 then first_beyond sizes 0 inputs else None) (if v == 1 then sequential_access sizes state inputs else sequential_idle state)) off;
+      let off : value_at inputs (length sizes) ≡ 0 = quiet (length sizes) (enable_port ContentEn) (sequential_port w sizes address_widths _ 0 layout (omega arith)) refl in
+      ap (λ (v : ℕ). edge_of (if v == 1 then first_beyond sizes 0 inputs else None) (if v == 1 then sequential_access sizes state inputs else sequential_idle state)) off;
   registered = λ state inputs others n port at registered. refl;
   looked_at = sequential_looks w sizes address_widths layout;
   widths = sequential_widths w sizes address_widths layout;
@@ -487,9 +497,9 @@ sequential_lawful w sizes address_widths layout = record {
   states = record {
     start = (AreWords-start w (word_count sizes), pow_pos w);
     next = λ state inputs of_row fits values.
-      if-each (IsState (SequentialMemoryOf w (word_count sizes))) (is_on inputs (length sizes)) (sequential_access sizes state inputs) (sequential_idle state)
+        if-each (IsState (SequentialMemoryOf w (word_count sizes))) (is_on inputs (length sizes)) (sequential_access sizes state inputs) (sequential_idle state)
         (sequential_access_keeps w sizes state inputs of_row
-          (value_at_fits (sequential_memory_row w sizes address_widths).ports inputs (length sizes + 2) (plain_port WriteData w) fits values (sequential_port w sizes address_widths _ 2 layout refl)))
+        (value_at_fits (sequential_memory_row w sizes address_widths).ports inputs (length sizes + 2) (plain_port WriteData w) fits values (sequential_port w sizes address_widths _ 2 layout refl)))
         (sequential_idle_keeps w (word_count sizes) state of_row);
     idle = sequential_idle_keeps w (word_count sizes);
   };

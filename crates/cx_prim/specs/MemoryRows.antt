@@ -7,7 +7,7 @@ use Rattle.cx_text.specs.Loading.{word_count}
 use Rattle.cx_prim.specs.declared.ports.PortName.{PortName}
 use Rattle.cx_prim.specs.declared.ports.PortName.TheVariants.{Addr0, Addr1, Addr2, Addr3, WriteData, WriteEn, ContentEn, ReadData, Done}
 use Rattle.cx_prim.specs.declared.ports.PortRow.{PortRow}
-use Rattle.cx_prim.specs.CellStates.{CellState, Memory, SequentialMemory, StateShape, MemoryOf, SequentialMemoryOf}
+use Rattle.cx_prim.specs.CellStates.{CellState, Memory, SequentialMemory, MemoryOf, SequentialMemoryOf}
 use Rattle.cx_prim.specs.Widths.{IsWidth}
 use Rattle.cx_prim.specs.Rows.{Inputs, input, value_at, is_on, Row}
 use Rattle.cx_prim.specs.CombinationalRows.{enable_port, plain_port, output_port, registered_port}

@@ -1,16 +1,14 @@
 -- What the operators give has the width of their output, so the rows without state keep the laws of a row.
 use Rattle.cx_prim.specs.declared.ports.PortRow.{PortRow}
-use Rattle.std.specs.Prelude.{◌≡◌, ℕ, ◌≤◌, ◌==◌, Bool, true, nat_le, List, Option, refl}
-use Rattle.std.proofs.Common.{ap, sym, ◌∙◌, subst, arith}
+use Rattle.std.specs.Prelude.{ℕ, ◌≤◌, List, Option, refl}
+use Rattle.std.proofs.Common.{sym, ◌∙◌}
 use Rattle.std.proofs.lemmas.Bool.{eqb-true, leb-true}
 use Rattle.cx_bits.specs.BitVector.{BitVector, Fits}
 use Rattle.cx_bits.specs.OperatorLaws.{Fits-sum_of, Fits-difference_of, Fits-and_of, Fits-or_of, Fits-xor_of, Fits-complement_of, Fits-left_shift_of, Fits-right_shift_of, Fits-bit_of, Fits-low_bits_of, Fits-zero_extension_of}
-use Rattle.cx_prim.specs.CellStates.{CellState}
-use Rattle.cx_prim.specs.Rows.{Inputs, Row, IsOfWidth, KeepsRegistered, GivesWidths, ReadsOnly, AnswersStrictly, IsLawful}
+use Rattle.cx_prim.specs.Rows.{Inputs, KeepsRegistered, GivesWidths, ReadsOnly, AnswersStrictly, IsLawful}
 use Rattle.cx_prim.specs.CombinationalRows.{combinational_row, constant_row, unary_row, binary_row, mux_row}
-use Rattle.cx_prim.specs.Widths.{IsWidth}
 use Rattle.cx_prim.specs.CombinationalLaws.{GivesWidth1, GivesWidth2, no_registered, constant_widths, unary_widths, binary_widths, mux_widths, constant_reads_only, unary_reads_only, binary_reads_only, mux_reads_only, constant_strict, unary_strict, binary_strict, mux_strict}
-use Rattle.cx_prim.specs.Operators.{IsUnary, takes_widths, apply_unary, binary_out_width, apply_binary}
+use Rattle.cx_prim.specs.Operators.{IsUnary, apply_unary, binary_out_width, apply_binary}
 use Rattle.cx_prim.specs.declared.operators.UnaryOperator.{UnaryOperator}
 use Rattle.cx_prim.specs.declared.operators.UnaryOperator.TheVariants.{Wire, Not, Slice, Pad}
 use Rattle.cx_prim.specs.declared.operators.BinaryOperator.{BinaryOperator}

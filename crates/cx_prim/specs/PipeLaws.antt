@@ -1,19 +1,17 @@
 -- The rows of the multiplier, the divider and the timer keep the laws of a row.
-use Rattle.std.specs.Prelude.{◌≡◌, ℕ, zero, suc, ◌+◌, ◌<◌, ◌≤◌, ◌^◌, ◌==◌, ◌&&◌, Bool, true, false, List, [], ◌∷◌, Option, Some, None, Result, Ok, Err, IsSome, slice_get, if◌then◌else◌, refl}
-use Rattle.std.proofs.Common.{ap, sym, ◌∙◌, subst, arith}
+use Rattle.std.specs.Prelude.{◌≡◌, ℕ, zero, suc, ◌+◌, ◌<◌, ◌≤◌, ◌^◌, ◌==◌, Bool, true, false, Option, Ok, IsSome, if◌then◌else◌, refl}
+use Rattle.std.proofs.Common.{ap, ◌∙◌, arith}
 use Rattle.std.proofs.lemmas.Nat.{pow_pos}
-use Rattle.std.proofs.lemmas.Bool.{eqb-true}
 use Rattle.std.proofs.lemmas.Bool.Decides.{nat_tests}
 use Rattle.cx_bits.specs.BitVector.{BitVector, Fits}
 use Rattle.cx_bits.specs.Operators.{product_of, quotient_of, remainder_of}
 use Rattle.cx_bits.specs.OperatorLaws.{Fits-bit_of, Fits-product_of, Fits-quotient_of, Fits-remainder_of}
-use Rattle.cx_prim.specs.declared.ports.PortRow.{PortRow}
 use Rattle.cx_prim.specs.declared.ports.PortName.TheVariants.{Go, Left, Right, Out, OutQuotient, OutRemainder, Done}
 use Rattle.cx_prim.specs.CellStates.{CellState, Multiplier, Divider, Timer, IsState, MultiplierOf, DividerOf, TimerOf, PipeRun, IsRun}
-use Rattle.cx_prim.specs.Rows.{Inputs, input, number_of, value_at, is_on, Row, FitsPorts, AreValues, AgreesWhereLooked, LooksWhereDemanded, GivesWidths, IsLawful}
+use Rattle.cx_prim.specs.Rows.{Inputs, input, number_of, value_at, is_on, AgreesWhereLooked, LooksWhereDemanded, GivesWidths, IsLawful}
 use Rattle.cx_prim.specs.CombinationalRows.{enable_port, plain_port, registered_port}
 use Rattle.cx_prim.specs.CombinationalLaws.{not_output}
-use Rattle.cx_prim.specs.PipeRows.{holding, is_last, advanced, stopped, at_rest, left_of, right_of, multiplier_output, multiplier_idle, multiplied, multiplier_go, multiplier_latency, multiplier_row, divider_output, divider_idle, divided, divider_go, divider_row, timer_output, timer_idle, timer_go, timer_row}
+use Rattle.cx_prim.specs.PipeRows.{holding, is_last, advanced, stopped, left_of, right_of, multiplier_output, multiplier_idle, multiplied, multiplier_go, multiplier_latency, multiplier_row, divider_output, divider_idle, divided, divider_go, divider_row, timer_output, timer_idle, timer_go, timer_row}
 use Rattle.cx_prim.specs.RowTools.{out_fits, number_fits, if-same_else, if-each, value_at_fits}
 use Rattle.cx_prim.specs.Widths.{IsWidth}
 
@@ -21,14 +19,14 @@ use Rattle.cx_prim.specs.Widths.{IsWidth}
 pub holding_same : (run : PipeRun) (inputs others : Inputs) → ((run.count == 0) ≡ true → input inputs 1 ≡ input others 1) → ((run.count == 0) ≡ true → input inputs 2 ≡ input others 2) → holding run inputs ≡ holding run others
 holding_same run inputs others left right =
     if-same_else (run.count == 0) (record run { left = value_at inputs 1; right = value_at inputs 2 }) (record run { left = value_at others 1; right = value_at others 2 }) run
-      (λ first. ap (λ (i : Option BitVector). record run { left = number_of i; right = value_at inputs 2 }) (left first)
-          ∙ ap (λ (i : Option BitVector). record run { left = value_at others 1; right = number_of i }) (right first))
+    (λ first. ap (λ (i : Option BitVector). record run { left = number_of i; right = value_at inputs 2 }) (left first)
+    ∙ ap (λ (i : Option BitVector). record run { left = value_at others 1; right = number_of i }) (right first))
 
 -- runs stay runs
 pub holding_keeps : (w latency : ℕ) (run : PipeRun) (inputs : Inputs) → IsRun w latency run → value_at inputs 1 < 2 ^ w → value_at inputs 2 < 2 ^ w → IsRun w latency (holding run inputs)
 holding_keeps w latency run inputs ok left right =
     if-each (IsRun w latency) (run.count == 0) (record run { left = value_at inputs 1; right = value_at inputs 2 }) run
-      (record { under_way = ok.under_way; left_fits = left; right_fits = right }) ok
+    (record { under_way = ok.under_way; left_fits = left; right_fits = right }) ok
 
 pub advanced_keeps : (w latency : ℕ) (run : PipeRun) → IsRun w latency run → IsRun w latency (advanced latency run)
 advanced_keeps w latency run ok = by_test (is_last latency run) refl
@@ -52,14 +50,14 @@ pub multiplier_go_same : (w : ℕ) (state : CellState) (inputs others : Inputs) 
     → multiplier_go w multiplier_latency state inputs ≡ multiplier_go w multiplier_latency state others
 multiplier_go_same w (Multiplier run product) inputs others on agree =
     ap (λ (r : PipeRun). multiplied w multiplier_latency r product)
-      (holding_same run inputs others (λ first. agree.demanded 1 (plain_port Left w) refl refl (rw (on, first) refl)) (λ first. agree.demanded 2 (plain_port Right w) refl refl (rw (on, first) refl)))
+    (holding_same run inputs others (λ first. agree.demanded 1 (plain_port Left w) refl refl (rw (on, first) refl)) (λ first. agree.demanded 2 (plain_port Right w) refl refl (rw (on, first) refl)))
 multiplier_go_same w state inputs others on agree = refl
 
 pub multiplier_looks : (w : ℕ) → LooksWhereDemanded (multiplier_row w)
 multiplier_looks w state inputs others agree =
     let there = agree.enabling 0 (enable_port Go) refl refl in
     let gone = if-same_else (is_on inputs 0) (multiplier_go w multiplier_latency state inputs) (multiplier_go w multiplier_latency state others) (multiplier_idle state)
-          (λ on. multiplier_go_same w state inputs others on agree) in
+    (λ on. multiplier_go_same w state inputs others on agree) in
     ap Ok (gone ∙ ap (λ (i : Option BitVector). if number_of i == 1 then multiplier_go w multiplier_latency state others else multiplier_idle state) there)
 
 pub multiplier_widths : (w : ℕ) → IsWidth w → GivesWidths (multiplier_row w)
@@ -82,10 +80,11 @@ multiplier_idle_keeps w (Multiplier run product) of_row = (stopped_keeps w multi
 multiplier_idle_keeps w state of_row = absurd of_row
 
 pub multiplied_keeps : (w latency : ℕ) (run : PipeRun) (product : ℕ) → IsWidth w → IsRun w latency run → product < 2 ^ w → IsState (MultiplierOf w latency) (multiplied w latency run product)
-multiplied_keeps w latency run product is_width ok below =
-    (advanced_keeps w latency run ok,
-      let made : Fits (product_of (left_of w run) (right_of w run)) = Fits-product_of (left_of w run) (right_of w run) (left_fits w latency run is_width ok) in
-      if-each (λ (v : ℕ). v < 2 ^ w) (is_last latency run) ((product_of (left_of w run) (right_of w run)).value) product made.in_range below)
+multiplied_keeps w latency run product is_width ok below = (
+  advanced_keeps w latency run ok,
+  let made : Fits (product_of (left_of w run) (right_of w run)) = Fits-product_of (left_of w run) (right_of w run) (left_fits w latency run is_width ok) in
+      if-each (λ (v : ℕ). v < 2 ^ w) (is_last latency run) ((product_of (left_of w run) (right_of w run)).value) product made.in_range below,
+)
 
 pub multiplier_go_keeps : (w : ℕ) (state : CellState) (inputs : Inputs) → IsWidth w → IsState (MultiplierOf w multiplier_latency) state → value_at inputs 1 < 2 ^ w → value_at inputs 2 < 2 ^ w
     → IsState (MultiplierOf w multiplier_latency) (multiplier_go w multiplier_latency state inputs)
@@ -97,8 +96,8 @@ pub multiplier_lawful : (w : ℕ) → IsWidth w → IsLawful (multiplier_row w)
 multiplier_lawful w is_width = record {
   idle_once = multiplier_idle_once;
   quiet_is_idle = λ state inputs quiet.
-    let off : value_at inputs 0 ≡ 0 = quiet 0 (enable_port Go) refl refl in
-    ap (λ (v : ℕ). Ok (if v == 1 then multiplier_go w multiplier_latency state inputs else multiplier_idle state)) off;
+      let off : value_at inputs 0 ≡ 0 = quiet 0 (enable_port Go) refl refl in
+      ap (λ (v : ℕ). Ok (if v == 1 then multiplier_go w multiplier_latency state inputs else multiplier_idle state)) off;
   registered = λ state inputs others n port at registered. refl;
   looked_at = multiplier_looks w;
   widths = multiplier_widths w is_width;
@@ -111,10 +110,10 @@ multiplier_lawful w is_width = record {
   states = record {
     start = (record { under_way = omega arith; left_fits = pow_pos w; right_fits = pow_pos w }, pow_pos w);
     next = λ state inputs of_row fits values.
-      if-each (IsState (MultiplierOf w multiplier_latency)) (is_on inputs 0) (multiplier_go w multiplier_latency state inputs) (multiplier_idle state)
+        if-each (IsState (MultiplierOf w multiplier_latency)) (is_on inputs 0) (multiplier_go w multiplier_latency state inputs) (multiplier_idle state)
         (multiplier_go_keeps w state inputs is_width of_row
-          (value_at_fits (multiplier_row w).ports inputs 1 (plain_port Left w) fits values refl)
-          (value_at_fits (multiplier_row w).ports inputs 2 (plain_port Right w) fits values refl))
+        (value_at_fits (multiplier_row w).ports inputs 1 (plain_port Left w) fits values refl)
+        (value_at_fits (multiplier_row w).ports inputs 2 (plain_port Right w) fits values refl))
         (multiplier_idle_keeps w state of_row);
     idle = multiplier_idle_keeps w;
   };
@@ -128,7 +127,7 @@ divider_idle_once state = refl
 pub divider_go_same : (w : ℕ) (state : CellState) (inputs others : Inputs) → is_on inputs 0 ≡ true → AgreesWhereLooked (divider_row w) state inputs others → divider_go w w state inputs ≡ divider_go w w state others
 divider_go_same w (Divider run quotient remainder) inputs others on agree =
     ap (λ (r : PipeRun). divided w w r quotient remainder)
-      (holding_same run inputs others (λ first. agree.demanded 1 (plain_port Left w) refl refl (rw (on, first) refl)) (λ first. agree.demanded 2 (plain_port Right w) refl refl (rw (on, first) refl)))
+    (holding_same run inputs others (λ first. agree.demanded 1 (plain_port Left w) refl refl (rw (on, first) refl)) (λ first. agree.demanded 2 (plain_port Right w) refl refl (rw (on, first) refl)))
 divider_go_same w state inputs others on agree = refl
 
 pub divider_looks : (w : ℕ) → LooksWhereDemanded (divider_row w)
@@ -175,8 +174,8 @@ pub divider_lawful : (w : ℕ) → IsWidth w → IsLawful (divider_row w)
 divider_lawful w is_width = record {
   idle_once = divider_idle_once;
   quiet_is_idle = λ state inputs quiet.
-    let off : value_at inputs 0 ≡ 0 = quiet 0 (enable_port Go) refl refl in
-    ap (λ (v : ℕ). Ok (if v == 1 then divider_go w w state inputs else divider_idle state)) off;
+      let off : value_at inputs 0 ≡ 0 = quiet 0 (enable_port Go) refl refl in
+      ap (λ (v : ℕ). Ok (if v == 1 then divider_go w w state inputs else divider_idle state)) off;
   registered = λ state inputs others n port at registered. refl;
   looked_at = divider_looks w;
   widths = divider_widths w is_width;
@@ -189,10 +188,10 @@ divider_lawful w is_width = record {
   states = record {
     start = (record { under_way = let h = is_width.some_bits in omega arith; left_fits = pow_pos w; right_fits = pow_pos w }, pow_pos w, pow_pos w);
     next = λ state inputs of_row fits values.
-      if-each (IsState (DividerOf w w)) (is_on inputs 0) (divider_go w w state inputs) (divider_idle state)
+        if-each (IsState (DividerOf w w)) (is_on inputs 0) (divider_go w w state inputs) (divider_idle state)
         (divider_go_keeps w state inputs is_width of_row
-          (value_at_fits (divider_row w).ports inputs 1 (plain_port Left w) fits values refl)
-          (value_at_fits (divider_row w).ports inputs 2 (plain_port Right w) fits values refl))
+        (value_at_fits (divider_row w).ports inputs 1 (plain_port Left w) fits values refl)
+        (value_at_fits (divider_row w).ports inputs 2 (plain_port Right w) fits values refl))
         (divider_idle_keeps w state of_row);
     idle = divider_idle_keeps w;
   };
@@ -232,11 +231,11 @@ pub timer_lawful : (length : ℕ) → 1 ≤ length → length < 2 ^ 32 → IsLaw
 timer_lawful length some few = record {
   idle_once = timer_idle_once;
   quiet_is_idle = λ state inputs quiet.
-    let off : value_at inputs 0 ≡ 0 = quiet 0 (enable_port Go) refl refl in
-    ap (λ (v : ℕ). Ok (if v == 1 then timer_go length state else timer_idle state)) off;
+      let off : value_at inputs 0 ≡ 0 = quiet 0 (enable_port Go) refl refl in
+      ap (λ (v : ℕ). Ok (if v == 1 then timer_go length state else timer_idle state)) off;
   registered = λ state inputs others n port at registered. refl;
   looked_at = λ state inputs others agree.
-    ap (λ (i : Option BitVector). Ok (if number_of i == 1 then timer_go length state else timer_idle state)) (agree.enabling 0 (enable_port Go) refl refl);
+      ap (λ (i : Option BitVector). Ok (if number_of i == 1 then timer_go length state else timer_idle state)) (agree.enabling 0 (enable_port Go) refl refl);
   widths = timer_widths length few;
   reads_only = λ state inputs others n agree. refl;
   strict = λ state inputs n of_row out. record {
@@ -247,7 +246,7 @@ timer_lawful length some few = record {
   states = record {
     start = omega arith;
     next = λ state inputs of_row fits values.
-      if-each (IsState (TimerOf length)) (is_on inputs 0) (timer_go length state) (timer_idle state) (timer_go_keeps length state of_row) (timer_idle_keeps length state of_row);
+        if-each (IsState (TimerOf length)) (is_on inputs 0) (timer_go length state) (timer_idle state) (timer_go_keeps length state of_row) (timer_idle_keeps length state of_row);
     idle = timer_idle_keeps length;
   };
 }

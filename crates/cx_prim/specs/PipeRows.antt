@@ -1,9 +1,9 @@
 -- The rows of the multiplier and the divider, which hold their operands and answer some cycles later, and of the timer.
-use Rattle.std.specs.Prelude.{ℕ, ◌+◌, ◌*◌, ◌%◌, ◌^◌, ◌==◌, ◌&&◌, Bool, true, false, List, [], ◌∷◌, Option, Some, None, nat_lt, nat_le, if◌then◌else◌}
+use Rattle.std.specs.Prelude.{ℕ, ◌+◌, ◌==◌, ◌&&◌, Bool, true, false, [], ◌∷◌, Option, Some, None, nat_le, if◌then◌else◌}
 use Rattle.cx_bits.specs.BitVector.{BitVector}
 use Rattle.cx_bits.specs.Operators.{bit_of, product_of, quotient_of, remainder_of}
 use Rattle.cx_prim.specs.declared.ports.PortName.TheVariants.{Go, Left, Right, Out, OutQuotient, OutRemainder, Done}
-use Rattle.cx_prim.specs.CellStates.{CellState, Multiplier, Divider, Timer, StateShape, MultiplierOf, DividerOf, TimerOf, PipeRun}
+use Rattle.cx_prim.specs.CellStates.{CellState, Multiplier, Divider, Timer, MultiplierOf, DividerOf, TimerOf, PipeRun}
 use Rattle.cx_prim.specs.Rows.{Inputs, value_at, is_on, Row}
 use Rattle.cx_prim.specs.CombinationalRows.{enable_port, plain_port, registered_port}
 

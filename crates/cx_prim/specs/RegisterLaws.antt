@@ -1,16 +1,15 @@
 -- The row of a register keeps the laws of a row.
-use Rattle.std.specs.Prelude.{◌≡◌, ℕ, zero, suc, ◌<◌, ◌^◌, ◌==◌, Bool, true, false, List, [], ◌∷◌, Option, Some, None, Result, Ok, Err, IsSome, slice_get, if◌then◌else◌, refl}
-use Rattle.std.proofs.Common.{ap, sym, ◌∙◌, subst, arith}
+use Rattle.std.specs.Prelude.{◌≡◌, ℕ, zero, suc, ◌==◌, true, false, Option, Ok, IsSome, if◌then◌else◌, refl}
+use Rattle.std.proofs.Common.{ap, ◌∙◌}
 use Rattle.std.proofs.lemmas.Nat.{pow_pos}
-use Rattle.cx_bits.specs.BitVector.{BitVector, Fits}
+use Rattle.cx_bits.specs.BitVector.{BitVector}
 use Rattle.cx_bits.specs.OperatorLaws.{Fits-bit_of}
-use Rattle.cx_prim.specs.declared.ports.PortRow.{PortRow}
 use Rattle.cx_prim.specs.declared.ports.PortName.TheVariants.{In, Out, WriteEn, Done}
 use Rattle.cx_prim.specs.CellStates.{CellState, Register, IsState, RegisterOf}
-use Rattle.cx_prim.specs.Rows.{Inputs, input, number_of, value_at, is_on, Row, FitsPorts, AreValues, AgreesWhereLooked, IdlesOnce, LooksWhereDemanded, GivesWidths, KeepsStates, IsLawful, is_output_side}
+use Rattle.cx_prim.specs.Rows.{number_of, value_at, is_on, LooksWhereDemanded, GivesWidths, IsLawful}
 use Rattle.cx_prim.specs.CombinationalRows.{enable_port, plain_port, registered_port}
 use Rattle.cx_prim.specs.CombinationalLaws.{not_output}
-use Rattle.cx_prim.specs.RegisterRow.{register_output, register_idle, register_next, register_row}
+use Rattle.cx_prim.specs.RegisterRow.{register_output, register_idle, register_row}
 use Rattle.cx_prim.specs.RowTools.{out_fits, number_fits, if-same_else, if-each, value_at_fits}
 use Rattle.cx_prim.specs.Widths.{IsWidth}
 
@@ -22,7 +21,7 @@ pub register_looks : (w : ℕ) → LooksWhereDemanded (register_row w)
 register_looks w state inputs others agree =
     let there = agree.enabling 1 (enable_port WriteEn) refl refl in
     let written = if-same_else (is_on inputs 1) (Register (value_at inputs 0) true) (Register (value_at others 0) true) (register_idle state)
-          (λ on. ap (λ (i : Option BitVector). Register (number_of i) true) (agree.demanded 0 (plain_port In w) refl refl (rw on refl))) in
+    (λ on. ap (λ (i : Option BitVector). Register (number_of i) true) (agree.demanded 0 (plain_port In w) refl refl (rw on refl))) in
     ap Ok (written ∙ ap (λ (i : Option BitVector). if number_of i == 1 then Register (value_at others 0) true else register_idle state) there)
 
 pub register_widths : (w : ℕ) → IsWidth w → GivesWidths (register_row w)
@@ -47,8 +46,8 @@ pub register_lawful : (w : ℕ) → IsWidth w → IsLawful (register_row w)
 register_lawful w is_width = record {
   idle_once = register_idle_once;
   quiet_is_idle = λ state inputs quiet.
-    let off : value_at inputs 1 ≡ 0 = quiet 1 (enable_port WriteEn) refl refl in
-    ap (λ (v : ℕ). Ok (if v == 1 then Register (value_at inputs 0) true else register_idle state)) off;
+      let off : value_at inputs 1 ≡ 0 = quiet 1 (enable_port WriteEn) refl refl in
+      ap (λ (v : ℕ). Ok (if v == 1 then Register (value_at inputs 0) true else register_idle state)) off;
   registered = λ state inputs others n port at registered. refl;
   looked_at = register_looks w;
   widths = register_widths w is_width;
@@ -61,7 +60,7 @@ register_lawful w is_width = record {
   states = record {
     start = pow_pos w;
     next = λ state inputs of_row fits values.
-      if-each (IsState (RegisterOf w)) (is_on inputs 1) (Register (value_at inputs 0) true) (register_idle state)
+        if-each (IsState (RegisterOf w)) (is_on inputs 1) (Register (value_at inputs 0) true) (register_idle state)
         (value_at_fits (register_row w).ports inputs 0 (plain_port In w) fits values refl) (register_idle_keeps w state of_row);
     idle = register_idle_keeps w;
   };

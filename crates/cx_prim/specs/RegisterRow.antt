@@ -1,9 +1,9 @@
 -- The row of a register.
-use Rattle.std.specs.Prelude.{ℕ, ◌==◌, Bool, true, false, List, [], ◌∷◌, Option, Some, None, if◌then◌else◌}
+use Rattle.std.specs.Prelude.{ℕ, ◌==◌, true, false, [], ◌∷◌, Option, Some, None, if◌then◌else◌}
 use Rattle.cx_bits.specs.BitVector.{BitVector}
 use Rattle.cx_bits.specs.Operators.{bit_of}
 use Rattle.cx_prim.specs.declared.ports.PortName.TheVariants.{In, Out, WriteEn, Done}
-use Rattle.cx_prim.specs.CellStates.{CellState, Register, StateShape, RegisterOf}
+use Rattle.cx_prim.specs.CellStates.{CellState, Register, RegisterOf}
 use Rattle.cx_prim.specs.Rows.{Inputs, value_at, is_on, Row}
 use Rattle.cx_prim.specs.CombinationalRows.{enable_port, plain_port, registered_port}
 

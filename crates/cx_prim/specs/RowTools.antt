@@ -1,12 +1,9 @@
 -- Small steps that the laws of several rows take.
-use Rattle.std.specs.Prelude.{◌≡◌, ℕ, zero, suc, ◌+◌, ◌<◌, ◌≤◌, ◌^◌, ◌==◌, Bool, true, false, List, [], ◌∷◌, ◌++◌, Option, Some, None, Result, Ok, Err, IsSome, IfSome, slice_get, length, if◌then◌else◌, refl, All, slice_index, slice_set, replicate}
-use Rattle.std.proofs.Common.{ap, sym, ◌∙◌, subst, arith, cond}
+use Rattle.std.specs.Prelude.{◌≡◌, ℕ, ◌<◌, ◌^◌, Bool, true, false, List, Option, Some, None, IfSome, slice_get, if◌then◌else◌, refl}
+use Rattle.std.proofs.Common.{subst}
 use Rattle.std.proofs.lemmas.Nat.{pow_pos}
 use Rattle.cx_bits.specs.BitVector.{BitVector, Fits}
 use Rattle.cx_prim.specs.declared.ports.PortRow.{PortRow}
-use Rattle.cx_prim.specs.declared.ports.Side.{Side}
-use Rattle.cx_prim.specs.declared.ports.Side.TheVariants.{Enable, Plain, Output, Registered}
-use Rattle.cx_prim.specs.CellStates.{CellState, AreWords}
 use Rattle.cx_prim.specs.Rows.{Inputs, input, number_of, value_at, FitsPorts, AreValues, IsOfWidth}
 use Rattle.cx_prim.specs.Widths.{IsWidth}
 

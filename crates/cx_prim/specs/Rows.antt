@@ -1,7 +1,6 @@
 -- What a primitive is to its users: a row of ports and equations. A cycle looks at the old state and the inputs; its edge gives the next state.
-use Rattle.std.specs.Prelude.{◌≡◌, ℕ, ◌<◌, ◌^◌, ◌↔◌, ◌==◌, ◌&&◌, Bool, true, false, List, [], Option, Some, None, Result, Ok, Err, IsSome, IsNone, slice_get, slice_index_or, length}
+use Rattle.std.specs.Prelude.{◌≡◌, ℕ, ◌==◌, Bool, true, false, List, Option, Some, None, Result, Ok, Err, IsSome, slice_get, slice_index_or, length}
 use Rattle.cx_bits.specs.BitVector.{BitVector, Fits}
-use Rattle.cx_prim.specs.declared.ports.PortName.{PortName}
 use Rattle.cx_prim.specs.declared.ports.PortRow.{PortRow}
 use Rattle.cx_prim.specs.declared.ports.Side.{Side}
 use Rattle.cx_prim.specs.declared.ports.Side.TheVariants.{Enable, Plain, Output, Registered}
@@ -132,7 +131,7 @@ pub record IsOfWidth (width : ℕ) (b : BitVector) : Type 0 where
 abbrev pub GivesWidths : Row → Type 0
 GivesWidths r =
     (state : CellState) (inputs : Inputs) (n : ℕ) (port : PortRow) (b : BitVector) → IsState r.shape state → FitsPorts r.ports inputs → AreValues inputs
-      → slice_get r.ports n ≡ Some port → is_output_side port.side ≡ true → r.output state inputs n ≡ Some b → IsOfWidth port.width b
+    → slice_get r.ports n ≡ Some port → is_output_side port.side ≡ true → r.output state inputs n ≡ Some b → IsOfWidth port.width b
 
 -- the same stands at every input that output n reads
 abbrev pub AgreesWhereRead : Row → ℕ → Inputs → Inputs → Type 0

@@ -1,11 +1,11 @@
 -- Every row of the table keeps the laws of a row.
-use Rattle.std.specs.Prelude.{◌≡◌, ℕ, zero, suc, ◌+◌, ◌*◌, ◌<◌, ◌≤◌, ◌^◌, ◌==◌, ◌&&◌, Bool, true, false, List, [], ◌∷◌, Option, Some, None, nat_lt, nat_le, length, take, drop, if◌then◌else◌, unwrap_or, refl}
+use Rattle.std.specs.Prelude.{◌≡◌, ℕ, ◌*◌, ◌<◌, ◌≤◌, ◌^◌, ◌==◌, ◌&&◌, Bool, true, false, List, [], ◌∷◌, Some, None, nat_lt, nat_le, length, take, drop, if◌then◌else◌, unwrap_or, refl}
 use Rattle.std.specs.List.{list_all}
-use Rattle.std.proofs.Common.{ap, sym, ◌∙◌, subst, arith}
+use Rattle.std.proofs.Common.{arith}
 use Rattle.std.proofs.lemmas.Bool.{eqb-true, leb-true, ltb-true}
 use Rattle.std.proofs.lemmas.Bool.Decides.{nat_tests}
 use Rattle.std.proofs.lemmas.List.{length-take, length-drop}
-use Rattle.cx_bits.specs.BitVector.{BitVector, Fits}
+use Rattle.cx_bits.specs.BitVector.{Fits}
 use Rattle.cx_bits.specs.Operators.{low_bits_of, zero_extension_of}
 use Rattle.cx_prim.specs.declared.names.PrimitiveName.{PrimitiveName}
 use Rattle.cx_prim.specs.declared.names.PrimitiveName.TheVariants.{Const, Wire, Add, Sub, And, Or, Xor, Not, Lsh, Rsh, Lt, Gt, Equal, Neq, Le, Ge, Slt, Sgt, Seq, Sneq, Sle, Sge, Slice, Pad, Mux, Reg, StdMemD1, StdMemD2, StdMemD3, StdMemD4, CombMemD1, CombMemD2, CombMemD3, CombMemD4, SeqMemD1, SeqMemD2, SeqMemD3, SeqMemD4, MultPipe, DivPipe, Timer}
@@ -13,15 +13,13 @@ use Rattle.cx_prim.specs.declared.operators.UnaryOperator.TheVariants as unary
 use Rattle.cx_prim.specs.declared.operators.BinaryOperator.TheVariants as binary
 use Rattle.cx_prim.specs.Widths.{IsWidth, is_width}
 use Rattle.cx_prim.specs.Rows.{Row, IsLawful}
-use Rattle.cx_prim.specs.CombinationalRows.{constant_row, unary_row, binary_row, mux_row}
+use Rattle.cx_prim.specs.CombinationalRows.{constant_row, unary_row}
 use Rattle.cx_prim.specs.CombinationalLaws.{and_left, and_right, no_registered}
-use Rattle.cx_prim.specs.Operators.{IsUnary}
 use Rattle.cx_prim.specs.OperatorWidths.{combinational_lawful, constant_lawful, unary_lawful, binary_lawful, mux_lawful}
-use Rattle.cx_prim.specs.RegisterRow.{register_row}
 use Rattle.cx_prim.specs.RegisterLaws.{register_lawful}
-use Rattle.cx_prim.specs.MemoryRows.{IsLayout, are_sizes, is_address_width, memory_row, sequential_memory_row}
+use Rattle.cx_prim.specs.MemoryRows.{IsLayout, are_sizes, is_address_width}
 use Rattle.cx_prim.specs.MemoryLaws.{memory_lawful, sequential_lawful}
-use Rattle.cx_prim.specs.PipeRows.{multiplier_row, divider_row, timer_row}
+use Rattle.cx_prim.specs.PipeRows.{timer_row}
 use Rattle.cx_prim.specs.PipeLaws.{multiplier_lawful, divider_lawful, timer_lawful}
 use Rattle.cx_prim.specs.Table.{PrimitiveRow, at_width, constant_at, slice_at, pad_at, memory_at, timer_at, row_at, no_row, row_of}
 

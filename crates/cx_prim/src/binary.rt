@@ -36,9 +36,21 @@ impl Cycle for Binary {
 
     fn port(&self, n: usize) -> PortRow {
         match n {
-            0 => PortRow { name: PortName::Left, side: Side::Plain, width: self.width },
-            1 => PortRow { name: PortName::Right, side: Side::Plain, width: self.width },
-            _ => PortRow { name: PortName::Out, side: Side::Output, width: self.operator.out_width(self.width) },
+            0 => PortRow {
+                name: PortName::Left,
+                side: Side::Plain,
+                width: self.width,
+            },
+            1 => PortRow {
+                name: PortName::Right,
+                side: Side::Plain,
+                width: self.width,
+            },
+            _ => PortRow {
+                name: PortName::Out,
+                side: Side::Output,
+                width: self.operator.out_width(self.width),
+            },
         }
     }
 

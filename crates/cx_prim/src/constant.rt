@@ -33,7 +33,11 @@ impl Cycle for Constant {
     }
 
     fn port(&self, _n: usize) -> PortRow {
-        PortRow { name: PortName::Out, side: Side::Output, width: self.width }
+        PortRow {
+            name: PortName::Out,
+            side: Side::Output,
+            width: self.width,
+        }
     }
 
     fn start(&self, _alloc: Global) -> Result<Stateless, Memory> {

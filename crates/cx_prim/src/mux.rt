@@ -33,10 +33,26 @@ impl Cycle for Mux {
 
     fn port(&self, n: usize) -> PortRow {
         match n {
-            0 => PortRow { name: PortName::Cond, side: Side::Plain, width: 1 },
-            1 => PortRow { name: PortName::Tru, side: Side::Plain, width: self.width },
-            2 => PortRow { name: PortName::Fal, side: Side::Plain, width: self.width },
-            _ => PortRow { name: PortName::Out, side: Side::Output, width: self.width },
+            0 => PortRow {
+                name: PortName::Cond,
+                side: Side::Plain,
+                width: 1,
+            },
+            1 => PortRow {
+                name: PortName::Tru,
+                side: Side::Plain,
+                width: self.width,
+            },
+            2 => PortRow {
+                name: PortName::Fal,
+                side: Side::Plain,
+                width: self.width,
+            },
+            _ => PortRow {
+                name: PortName::Out,
+                side: Side::Output,
+                width: self.width,
+            },
         }
     }
 
@@ -48,7 +64,11 @@ impl Cycle for Mux {
         let condition = input_at(inputs, 0)?;
         let yes_value = input_at(inputs, 1)?;
         let no_value = input_at(inputs, 2)?;
-        Some(if condition.value() == 1 { yes_value } else { no_value })
+        Some(if condition.value() == 1 {
+            yes_value
+        } else {
+            no_value
+        })
     }
 
     fn demands(&self, _state: &Stateless, _inputs: &[Option<Bits>], _port: usize) -> bool {

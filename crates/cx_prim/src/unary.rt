@@ -36,8 +36,16 @@ impl Cycle for Unary {
 
     fn port(&self, n: usize) -> PortRow {
         match n {
-            0 => PortRow { name: PortName::In, side: Side::Plain, width: self.width },
-            _ => PortRow { name: PortName::Out, side: Side::Output, width: self.out_width },
+            0 => PortRow {
+                name: PortName::In,
+                side: Side::Plain,
+                width: self.width,
+            },
+            _ => PortRow {
+                name: PortName::Out,
+                side: Side::Output,
+                width: self.out_width,
+            },
         }
     }
 

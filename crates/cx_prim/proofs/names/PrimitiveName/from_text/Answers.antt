@@ -1,7 +1,5 @@
-use Rattle.std.proofs.Common.{rules, sym, ◌∙◌, ◌≡◌, ℕ, ◌<◌, ◌≤◌, arith, Some, slice_get}
+use Rattle.std.proofs.Common.{arith}
 use Rattle.std.proofs.lemmas.Option.{slice_get-get_or}
-use Rattle.cx_prim.specs.declared.names.PrimitiveName.{PrimitiveName}
-use Rattle.cx_prim.specs.PrimitiveNames.{name_text, IsNamed}
 use Rattle.cx_prim.proofs.NameLemmas.{all_names, nameable_at, stands, unnamed_next}
 use Rattle.cx_prim.proofs.names.PrimitiveName.from_text.Goals as goal
 
@@ -14,7 +12,7 @@ returns-then-is_spelled-clause-some c = record {
 pub loop-name-preserved : goal.loop-name-preserved
 loop-name-preserved c =
     unnamed_next c.args.text.now c.loop-name.name-index _ (slice_get-get_or all_names c.loop-name.name-index _ c.loop-name-test.true)
-      (λ spelled. let wrong = c.is_spelled.ensures.value.1 spelled in let off = c.if-is_spelled.false in cc) c.loop-name.invariant
+    (λ spelled. let wrong = c.is_spelled.ensures.value.1 spelled in let off = c.if-is_spelled.false in cc) c.loop-name.invariant
 
 pub returns-clause-none : goal.returns-clause-none
 returns-clause-none c name named =
