@@ -1,0 +1,2 @@
+pub mod LocateLemmas
+pub mod NumberLemmas

@@ -1,0 +1,5 @@
+pub mod Shown
+pub mod Operands
+pub mod Layouts
+pub mod Kinds
+pub mod Primitives
