@@ -1,23 +1,29 @@
 //! The interpreter on texts: a design, a data file and a budget give a dump.
 
-ghost use Rattle.std.specs.Prelude.{◌≡◌, All, IfOk};
+ghost use Rattle.std.specs.Prelude.{◌≡◌, ◌≤◌, All, IfOk, length};
 ghost use Rattle.cx_text.specs.Loading.{plain_loaded};
 ghost use Rattle.cx_data.specs.Dump.{dump_text};
 ghost use Rattle.cx_first_form.specs.Whole.{IsWhole};
 ghost use Rattle.cx_driver.specs.Dumps.{IsDump};
 
+use crate::reading::{refused, tree_of};
 use crate::stops::Stop;
 use cx_first_form::Unread;
-use cx_text::{Diagnostic, Loaded, Memory, Name, Place, Rule};
+use cx_text::{Loaded, Memory, Place, Rule};
 use std::alloc::Global;
+
+/// Where a design is refused that is left out as a whole.
+const FIRST_PLACE: Place = Place { line: 1, column: 1 };
 
 /// Runs the control of `main` by its meaning, with a budget in turns, and answers the dump of the external memories.
 pub fn interp(alloc: Global, text: &[u8], json: &[u8], turns: u64) -> Result<Vec<u8>, Stop>
+    requires { length text.now ≤ 1048576 }
     ensures dump { IfOk result (λ dump. IsDump dump.items) }
 {
-    let design = match cx_first_form::read(alloc, text) {
+    let tree = tree_of(alloc, text)?;
+    let design = match cx_first_form::read(alloc, &tree) {
         Ok(design) => design,
-        Err(Unread::OtherForm) => return Err(left_out(alloc)),
+        Err(Unread::OtherForm) => return Err(refused(alloc, Rule::LeftOut, FIRST_PLACE, b"")),
         Err(Unread::Memory) => return Err(Stop::Memory),
     };
     let rows = design.rows(alloc)?;
@@ -37,19 +43,4 @@ fn dump_of(alloc: Global, cycles: u64, loaded: &Loaded) -> Result<Vec<u8>, Memor
     let mut dump = Vec::new(alloc);
     cx_data::dump(alloc, cycles, loaded, &mut dump)?;
     Ok(dump)
-}
-
-/// A design that this program does not take yet.
-fn left_out(alloc: Global) -> Stop {
-    match Name::from_bytes(alloc, b"") {
-        Ok(name) => {
-            let place = Place { line: 1, column: 1 };
-            Stop::Rule(Diagnostic {
-                rule: Rule::LeftOut,
-                place,
-                name,
-            })
-        }
-        Err(memory) => memory.into(),
-    }
 }

@@ -4,6 +4,7 @@
 mod commands;
 mod interpreting;
 mod messages;
+mod reading;
 mod refusals;
 mod running;
 mod stops;

@@ -1,6 +1,6 @@
 //! The top call.
 
-ghost use Rattle.std.specs.Prelude.{◌≡◌, ◌≢◌, ◌⊎◌, ◌↔◌, ◌≤◌, ℕ, List, [], ◌∷◌, Contains, IfOk, IfErr};
+ghost use Rattle.std.specs.Prelude.{◌≡◌, ◌≢◌, ◌⊎◌, ◌↔◌, ◌≤◌, ℕ, List, [], ◌∷◌, Contains, length, IfOk, IfErr};
 ghost use Rattle.cx_outside.specs.Counts.{HasRisen};
 ghost use Rattle.cx_outside.specs.Writing.{grown, GrowsByPart};
 ghost use Rattle.cx_driver.specs.Commands.{AsksNothing, IsFileOf, files_of};
@@ -155,6 +155,7 @@ fn read<'a, F: Files>(
     file: &'a [u8],
     limit: usize,
 ) -> Result<Vec<u8>, Refusal<'a>>
+    ensures within { IfOk result (λ bytes. length bytes.items ≤ limit) }
     ensures cause { IfErr result (IsOfFile (F.held files.old) (F.faults files.old) (F.faults files.new) file.now) }
 
     ensures kept { F.held files.new ≡ F.held files.old }
