@@ -11,8 +11,16 @@ use Rattle.cx_parse.specs.declared.files.ParseFault.{ParseFault}
 use Rattle.cx_parse.specs.declared.files.ParseFault.TheVariants as faults
 use Rattle.cx_parse.specs.Whole.{then_whole, reading, IsFault, IsOnly}
 
+then_ok_of : Result PlainTree Stop → Reads PlainTree
+then_ok_of (Ok x) = Ok (x, [])
+then_ok_of (Err s) = Err s
+
+same_ok : {A E : Type 0} (x y : A) → (let r : Result A E = Ok x in r ≡ Ok y) → x ≡ y
+same_ok x y e = cc
+
 no_rest : (r : Reads PlainTree) (t : PlainTree) → then_whole r ≡ Ok t → r ≡ Ok (t, [])
-no_rest (Ok (x, [])) t e = let same : x ≡ t = cc in ap (λ y. Ok (y, [])) same
+unfolding then_ok_of
+no_rest (Ok (x, [])) t e = ap (λ r. then_ok_of r) e
 no_rest (Ok (x, u ∷ us)) t e = absurd (cc)
 no_rest (Err s) t e = absurd (cc)
 
@@ -25,10 +33,13 @@ unfolding reading
 tree_reading ts t p = ap then_whole (parse_complete ts t p)
 
 pub only_ok : (ts : List Token) (t : Tree) → reading ts ≡ Ok (plain_tree t) → (tree : PlainTree) → Parse ts tree → plain_tree t ≡ tree
-only_ok ts t e tree p = let f = tree_reading ts tree p in cc
+only_ok ts t e tree p = same_ok (plain_tree t) tree (sym e ∙ tree_reading ts tree p)
+
+not_ok : (s : Stop) (t : PlainTree) → (let r : Result PlainTree Stop = Err s in r ≡ Ok t) → ⊥
+not_ok s t e = cc
 
 differs : (ts : List Token) (s : Stop) → reading ts ≡ Err s → (tree : PlainTree) → Parse ts tree → ⊥
-differs ts s e tree p = let f = tree_reading ts tree p in cc
+differs ts s e tree p = not_ok s tree (sym e ∙ tree_reading ts tree p)
 
 pub only_err : (ts : List Token) (f : ParseFault) → IsFault ts f → (tree : PlainTree) → Parse ts tree → IsOnly tree (Err f)
 only_err ts (faults.Unexpected place) h tree p = differs ts _ h.1 tree p
