@@ -6,6 +6,7 @@ use Rattle.cx_ast.specs.declared.trees.Tree.{Tree}
 use Rattle.cx_ast.specs.PlainTree.{PlainTree, plain_tree}
 use Rattle.cx_grammar.specs.Reading.{Stop, Unexpected, TooDeep, Reads, read, unexpected}
 use Rattle.cx_grammar.specs.Calyx.{nested_at, file}
+use Rattle.cx_grammar.specs.Parsing.{IsUnexpected, IsDeep}
 use Rattle.cx_parse.specs.declared.files.ParseFault.{ParseFault}
 use Rattle.cx_parse.specs.declared.files.ParseFault.TheVariants as faults
 
@@ -38,9 +39,15 @@ unfoldable pub reading : List Token → Result PlainTree Stop
 reading ts = whole_at 64 ts
 
 -- the fault is the stop of reading, at its place
+abbrev pub IsStop : List Token → ParseFault → Type 0
+IsStop ts (faults.Unexpected place) = (left : ℕ) × (reading ts ≡ Err (record { why = Unexpected; left = left })) × (place ≡ place_left_of ts left)
+IsStop ts (faults.TooDeep place) = (left : ℕ) × (reading ts ≡ Err (record { why = TooDeep; left = left })) × (place ≡ place_left_of ts left)
+IsStop ts faults.Memory = Unit {0}
+
+-- the first token, or the end, with which the tokens so far begin no file; or the token that begins a level too many
 abbrev pub IsFault : List Token → ParseFault → Type 0
-IsFault ts (faults.Unexpected place) = (left : ℕ) × (reading ts ≡ Err (record { why = Unexpected; left = left })) × (place ≡ place_left_of ts left)
-IsFault ts (faults.TooDeep place) = (left : ℕ) × (reading ts ≡ Err (record { why = TooDeep; left = left })) × (place ≡ place_left_of ts left)
+IsFault ts (faults.Unexpected place) = (front back : List Token) × IsUnexpected ts front back × (place ≡ place_at back ts)
+IsFault ts (faults.TooDeep place) = (front back : List Token) × IsDeep ts front back × (place ≡ place_at back ts)
 IsFault ts faults.Memory = Unit {0}
 
 -- the tree is what is answered, unless memory ran out

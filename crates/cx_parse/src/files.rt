@@ -2,7 +2,7 @@
 
 ghost use Rattle.std.specs.Prelude.{◌≡◌, ◌<◌, ◌^◌, [], ◌∷◌, length, map, IfOk, IfErr};
 ghost use Rattle.cx_guards.specs.Answers.{Fails, Gives, with_front};
-ghost use Rattle.cx_parse.specs.Whole.{whole_at, place_left_of, last_place, reading, IsFault, IsOnly};
+ghost use Rattle.cx_parse.specs.Whole.{whole_at, place_left_of, last_place, reading, IsStop, IsFault, IsOnly};
 ghost use Rattle.cx_grammar.specs.Reading.{read, one_at};
 ghost use Rattle.cx_grammar.specs.Calyx.{nested_at, imports, components, file};
 ghost use Rattle.cx_grammar.specs.Parsing.{Parse};
@@ -119,7 +119,7 @@ fn end_place(tokens: &[Token]) -> Place
 /// The fault that a stop is.
 fn fault_of(tokens: &[Token], stop: Stop) -> ParseFault
     requires stopped { Fails {Y = PlainTree} stop (reading tokens.now) }
-    ensures fault { IsFault tokens.now result }
+    ensures { IsStop tokens.now result }
 {
     match stop {
         Stop::Unexpected(left) => ParseFault::Unexpected(place_left(tokens, left)),
@@ -147,7 +147,7 @@ pub fn parse(alloc: Global, tokens: &[Token]) -> Result<Tree, ParseFault>
     ensures parsed { IfOk result (λ tree. Parse tokens.now (plain_tree tree)) }
     // The tokens' tree is answered, unless memory runs out.
     ensures only { (tree : PlainTree) → Parse tokens.now tree → IsOnly tree result }
-    // Where reading from the left stops.
+    // A fault is the first, from the left, at its place.
     ensures fault { IfErr result (IsFault tokens.now) }
 {
     match read_file(alloc, tokens) {

@@ -7,5 +7,7 @@ mod files;
 mod groups;
 mod ports;
 mod statements;
+#[cfg(test)]
+mod tests;
 
 pub use files::{ParseFault, parse};

@@ -1,6 +1,6 @@
 use Rattle.std.proofs.Common.{rules}
 use Rattle.cx_ast.specs.PlainTree.{plain_tree}
-use Rattle.cx_parse.proofs.Trees.{reading_tree, only_ok, only_err}
+use Rattle.cx_parse.proofs.Trees.{reading_tree, only_ok, only_err, told}
 use Rattle.cx_parse.proofs.files.parse.Goals as goal
 
 pub returns-in-Ok : goal.returns-in-Ok
@@ -13,6 +13,6 @@ returns-in-Ok c = record {
 pub returns-in-Err : goal.returns-in-Err
 returns-in-Err c = record {
   parsed = tt;
-  only = only_err c.args.tokens.now c.fault_of.result c.fault_of.ensures.fault;
-  fault = c.fault_of.ensures.fault;
+  only = only_err c.args.tokens.now c.fault_of.result c.fault_of.ensures;
+  fault = told c.args.tokens.now c.fault_of.result c.fault_of.ensures;
 }
