@@ -7,3 +7,5 @@ pub mod OneTree
 pub mod Samples
 pub mod Stays
 pub mod Viable
+pub mod Wider
+pub mod Faults

@@ -4,7 +4,7 @@ use Rattle.cx_tokens.specs.declared.tokens.Token.{Token}
 use Rattle.cx_grammar.specs.declared.terminals.Terminal.{Terminal}
 use Rattle.cx_grammar.specs.declared.terminals.Terminal.TheVariants.{Comma}
 use Rattle.cx_grammar.specs.Terminals.{terminal_of, is_in, begins}
-use Rattle.cx_grammar.specs.Grammar.{Nest, Nested, Grammar, starts, nullable, opening}
+use Rattle.cx_grammar.specs.Grammar.{Nest, Nested, Grammar, IsComma, starts, nullable, opening}
 use Rattle.cx_grammar.specs.Calyx.{nest, nested_at}
 use Rattle.cx_grammar.specs.Reading.{Stop, Reads, then_reads, several_in, several_at, commas_in, commas_at, read, unexpected, too_deep}
 use Rattle.cx_grammar.proofs.Shorter.{Taken, took, nested_shorter}
@@ -24,8 +24,8 @@ module _ {A : Type 0} (r : List Token → Reads A) (set : List Terminal) (shorte
   enough (suc n) zero (t ∷ ts) hn hm = absurd (omega arith)
   enough (suc n) (suc m) ts hn hm =
       ap (λ s. cond (begins set ts) s (Ok ([], ts))) (alike (r ts) _ _ (λ x e.
-      let le : length x.1 < length ts = shorter ts x e in
-      ap (λ s. then_reads s (λ xs rest. Ok (x.0 ∷ xs, rest))) (enough n m x.1 (omega arith) (omega arith))))
+        let le : length x.1 < length ts = shorter ts x e in
+        ap (λ s. then_reads s (λ xs rest. Ok (x.0 ∷ xs, rest))) (enough n m x.1 (omega arith) (omega arith))))
 
   commas_enough : (n m : ℕ) (ts : List Token) → length ts ≤ n → length ts ≤ m → commas_in r set n ts ≡ commas_in r set m ts
   commas_enough zero zero ts hn hm = refl
@@ -36,8 +36,8 @@ module _ {A : Type 0} (r : List Token → Reads A) (set : List Terminal) (shorte
   commas_enough (suc n) (suc m) [] hn hm = refl
   commas_enough (suc n) (suc m) (t ∷ ts) hn hm =
       ap (λ s. cond (is_in (terminal_of t.kind) (Comma ∷ [])) (cond (begins set ts) s (Ok ([], ts))) (Ok ([], t ∷ ts))) (alike (r ts) _ _ (λ x e.
-      let le : length x.1 < length ts = shorter ts x e in
-      ap (λ s. then_reads s (λ xs rest. Ok (x.0 ∷ xs, rest))) (commas_enough n m x.1 (omega arith) (omega arith))))
+        let le : length x.1 < length ts = shorter ts x e in
+        ap (λ s. then_reads s (λ xs rest. Ok (x.0 ∷ xs, rest))) (commas_enough n m x.1 (omega arith) (omega arith))))
 
   -- the first text, and those behind it
   pub several-next : (ts : List Token) (x : A × List Token) → begins set ts ≡ true → r ts ≡ Ok x → several_at r set ts ≡ then_reads (several_at r set x.1) (λ xs rest. Ok (x.0 ∷ xs, rest))
@@ -114,6 +114,38 @@ module _ {A : Type 0} (levels : ℕ) (g : Grammar A) (some : nullable g ≡ fals
       behind_front front (several_at (read (nested_at levels) g) (starts g) ts) ≡ Ok (front, ts)
   front-end front ts b =
       ap (behind_front front) (several-end (read (nested_at levels) g) (starts g) (shorter_at levels g some) ts b) ∙ ap (λ xs. Ok (xs, ts)) (append-nil front)
+
+  pub commas-pass : (front : List A) (ts after : List Token) (x : A) (mid : List Token) → IsComma ts after → begins (starts g) after ≡ true → read (nested_at levels) g after ≡ Ok (x, mid) →
+      behind_front (front ++ (x ∷ [])) (commas_at (read (nested_at levels) g) (starts g) mid) ≡ behind_front front (commas_at (read (nested_at levels) g) (starts g) ts)
+  commas-pass front ts after x mid k b e =
+      sym (ap (behind_front front)
+        (ap (commas_at (read (nested_at levels) g) (starts g)) k.1
+        ∙ commas-unroll (read (nested_at levels) g) (starts g) (shorter_at levels g some) k.0 after k.2 b
+        ∙ ap (λ r. then_reads r (λ x mid. then_reads (commas_at (read (nested_at levels) g) (starts g) mid) (λ xs rest. Ok (x ∷ xs, rest)))) e)
+      ∙ behind_next front x (commas_at (read (nested_at levels) g) (starts g) mid))
+
+  pub commas-stop : (front : List A) (ts after : List Token) (s : Stop) → IsComma ts after → begins (starts g) after ≡ true → read (nested_at levels) g after ≡ Err s →
+      behind_front front (commas_at (read (nested_at levels) g) (starts g) ts) ≡ Err s
+  commas-stop front ts after s k b e = ap (behind_front front)
+      (ap (commas_at (read (nested_at levels) g) (starts g)) k.1
+      ∙ commas-unroll (read (nested_at levels) g) (starts g) (shorter_at levels g some) k.0 after k.2 b
+      ∙ ap (λ r. then_reads r (λ x mid. then_reads (commas_at (read (nested_at levels) g) (starts g) mid) (λ xs rest. Ok (x ∷ xs, rest)))) e)
+
+  pub commas-over : (front : List A) (ts after : List Token) → IsComma ts after → begins (starts g) after ≡ false →
+      behind_front front (commas_at (read (nested_at levels) g) (starts g) ts) ≡ Ok (front, after)
+  commas-over front ts after k b =
+      ap (behind_front front) (ap (commas_at (read (nested_at levels) g) (starts g)) k.1 ∙ commas-last (read (nested_at levels) g) (starts g) (shorter_at levels g some) k.0 after k.2 b)
+      ∙ ap (λ xs. Ok (xs, after)) (append-nil front)
+
+  pub commas-end : (front : List A) (ts : List Token) → begins (Comma ∷ []) ts ≡ false → behind_front front (commas_at (read (nested_at levels) g) (starts g) ts) ≡ Ok (front, ts)
+  commas-end front ts b =
+      ap (behind_front front) (commas-none (read (nested_at levels) g) (starts g) (shorter_at levels g some) ts b) ∙ ap (λ xs. Ok (xs, ts)) (append-nil front)
+
+  pub commas-shorter : (ts after : List Token) (x : A) (mid : List Token) → IsComma ts after → read (nested_at levels) g after ≡ Ok (x, mid) → length mid < length ts
+  commas-shorter ts after x mid k e =
+      let same : length ts ≡ length (k.0 ∷ after) = ap length k.1 in
+      let less : length mid < length after = shorter_at levels g some after (x, mid) e in
+      omega arith
 
 -- a level less
 pub nested_at-suc : (levels less : ℕ) (n : Nest) (ts : List Token) → levels ≡ less + 1 → nested_at levels n ts ≡ read (nested_at less) (nest n) ts

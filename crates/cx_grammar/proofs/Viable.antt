@@ -164,7 +164,7 @@ stuck r W D any ts local = record {
   goes = record { extra = any.tokens; value = any.value; free = any.free };
 }
 
-one_fails : {A : Type 0} (set : List Terminal) (value : Token → A) (ts : List Token) → begins set ts ≡ false → one_at set value ts ≡ Err (unexpected ts)
+pub one_fails : {A : Type 0} (set : List Terminal) (value : Token → A) (ts : List Token) → begins set ts ≡ false → one_at set value ts ≡ Err (unexpected ts)
 one_fails set value [] e = refl
 one_fails set value (t ∷ ts) e = ap (λ b. cond b (Ok (value t, ts)) (Err (unexpected (t ∷ ts)))) e
 

@@ -41,3 +41,19 @@ deep_at (suc levels) n ts = Leads (spelled_within levels) (deep_at levels) (nest
 -- the last of the tokens begins the sixty-fifth level, of control or of a guard
 unfoldable pub IsTooDeep : List Token → Type 0
 IsTooDeep tokens = Leads (spelled_within 64) (deep_at 64) file tokens
+
+-- with the tokens of the front these begin a file, and with the next token, or at the end, they do not
+pub record IsUnexpected (tokens front back : List Token) : Type 0 where
+  pub whole : tokens ≡ front ++ back
+  pub front_begins : Begins front
+  pub no_more : (t : Token) (after : List Token) → back ≡ t ∷ after → Begins (front ++ (t ∷ [])) → ⊥
+  pub no_tree : back ≡ [] → (tree : PlainTree) → Parse tokens tree → ⊥
+
+-- behind the front stands a token that begins the sixty-fifth level, and up to it the tokens begin a file
+pub record IsDeep (tokens front back : List Token) : Type 0 where
+  pub token : Token
+  pub after : List Token
+  pub whole : tokens ≡ front ++ back
+  pub is : back ≡ token ∷ after
+  pub too_deep : IsTooDeep (front ++ (token ∷ []))
+  pub still_begins : Begins (front ++ (token ∷ []))

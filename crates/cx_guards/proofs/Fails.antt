@@ -2,10 +2,10 @@
 use Rattle.std.proofs.Common.{◌≡◌, ℕ, zero, suc, Bool, true, false, List, [], ◌∷◌, length, Result, Ok, Err, refl, sym, ap, ◌∙◌, cond, arith}
 use Rattle.cx_tokens.specs.declared.tokens.Token.{Token}
 use Rattle.cx_grammar.specs.Terminals.{begins}
-use Rattle.cx_grammar.specs.Grammar.{Nest, Nested, Grammar, starts, nullable, opening}
+use Rattle.cx_grammar.specs.Grammar.{Nest, Nested, Grammar, IsComma, starts, nullable, opening}
 use Rattle.cx_grammar.specs.Calyx.{nested_at}
-use Rattle.cx_grammar.specs.Reading.{Reads, then_reads, Unexpected, TooDeep, several_at, read, too_deep, unexpected}
-use Rattle.cx_grammar.proofs.Loops.{behind_front, front-stop}
+use Rattle.cx_grammar.specs.Reading.{Reads, then_reads, Unexpected, TooDeep, several_at, commas_at, read, too_deep, unexpected}
+use Rattle.cx_grammar.proofs.Loops.{behind_front, front-stop, commas-stop}
 use Rattle.cx_guards.specs.declared.stops.Stop.{Stop as Answer}
 use Rattle.cx_guards.specs.declared.stops.Stop.TheVariants as stops
 use Rattle.cx_guards.specs.Answers.{Fails, stop_without_level}
@@ -15,6 +15,12 @@ pub front_fails : {A : Type 0} (levels : ℕ) (g : Grammar A) → nullable g ≡
 front_fails levels g some front ts (stops.Unexpected left) b f whole is = sym is ∙ front-stop levels g some front ts (record { why = Unexpected; left = left }) b f
 front_fails levels g some front ts (stops.TooDeep left) b f whole is = sym is ∙ front-stop levels g some front ts (record { why = TooDeep; left = left }) b f
 front_fails levels g some front ts stops.Memory b f whole is = tt
+
+pub commas_fails : {A : Type 0} (levels : ℕ) (g : Grammar A) → nullable g ≡ false → (front : List A) (ts after : List Token) (e : Answer) → IsComma ts after → begins (starts g) after ≡ true → Fails e (read (nested_at levels) g after) →
+    (whole : Reads (List A)) → behind_front front (commas_at (read (nested_at levels) g) (starts g) ts) ≡ whole → Fails e whole
+commas_fails levels g some front ts after (stops.Unexpected left) k b f whole is = sym is ∙ commas-stop levels g some front ts after (record { why = Unexpected; left = left }) k b f
+commas_fails levels g some front ts after (stops.TooDeep left) k b f whole is = sym is ∙ commas-stop levels g some front ts after (record { why = TooDeep; left = left }) k b f
+commas_fails levels g some front ts after stops.Memory k b f whole is = tt
 
 begun : (A : Type 0) (b : Bool) (ts : List Token) → Fails {Y = A × List Token} (cond b (stops.TooDeep (length ts)) (stops.Unexpected (length ts))) (cond b (Err (too_deep ts)) (Err (unexpected ts)))
 begun A true ts = refl

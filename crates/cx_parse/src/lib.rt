@@ -1,0 +1,13 @@
+//! The parser: from tokens to the tree of a design.
+#![tactic(auto)]
+
+mod cells;
+mod components;
+mod files;
+mod groups;
+mod ports;
+mod statements;
+#[cfg(test)]
+mod tests;
+
+pub use files::{ParseFault, parse};
