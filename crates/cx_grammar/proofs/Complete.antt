@@ -237,9 +237,9 @@ module _ (nested : (n : Nest) → List Token → Reads (Nested n)) (shorter : (n
       let q = and_parts (is_plain g) (is_plain h && disjoint (goes_on g) (starts h)) p in
       let o = and_parts (is_plain h) (disjoint (goes_on g) (starts h)) q.1 in
       let ends : begins (goes_on g) s.0 ≡ false = ⊎_elim
-        (λ k. apart_back (goes_on g) (starts h) s.0 o.1 k)
-        (λ k. subst (λ r. begins (goes_on g) r ≡ false) (sym k.1) (ends_first (nullable h) (goes_on g) (goes_on h) rest k.0 e))
-        (first h o.0 s.0 s.2 rest s.4) in
+      (λ k. apart_back (goes_on g) (starts h) s.0 o.1 k)
+      (λ k. subst (λ r. begins (goes_on g) r ≡ false) (sym k.1) (ends_first (nullable h) (goes_on g) (goes_on h) rest k.0 e))
+      (first h o.0 s.0 s.2 rest s.4) in
       ap (λ r. then_reads r (λ x m. then_reads (read nested h m) (λ y r. Ok (join x y, r)))) (read_complete g q.0 ts s.1 s.0 s.3 ends)
       ∙ ap (λ r. then_reads r (λ y r. Ok (join s.1 y, r))) (read_complete h o.0 s.0 s.2 rest s.4 (ends_second (nullable h) (goes_on g) (goes_on h) rest e))
       ∙ ap (λ z. Ok (z, rest)) s.5
@@ -254,9 +254,9 @@ module _ (nested : (n : Nest) → List Token → Reads (Nested n)) (shorter : (n
       let o = and_parts (is_plain h) (not (nullable g) && disjoint (starts g) (starts h)) q.1 in
       let m = and_parts (not (nullable g)) (disjoint (starts g) (starts h)) o.1 in
       let other : begins (starts g) ts ≡ false = ⊎_elim
-        (λ k. apart_back (starts g) (starts h) ts m.1 k)
-        (λ k. subst (λ r. begins (starts g) r ≡ false) (sym k.1) (ends_first (nullable h) (starts g) (goes_on g ++ goes_on h) rest k.0 e))
-        (first h o.0 ts x rest s) in
+      (λ k. apart_back (starts g) (starts h) ts m.1 k)
+      (λ k. subst (λ r. begins (starts g) r ≡ false) (sym k.1) (ends_first (nullable h) (starts g) (goes_on g ++ goes_on h) rest k.0 e))
+      (first h o.0 ts x rest s) in
       ap (λ b. cond b (read nested g ts) (read nested h ts)) other
       ∙ read_complete h o.0 ts x rest s (begins_right (goes_on g) (goes_on h) rest (ends_second (nullable h) (starts g) (goes_on g ++ goes_on h) rest e))
   read_complete (Several whole g) p ts x rest s e =
@@ -273,7 +273,7 @@ module _ (nested : (n : Nest) → List Token → Reads (Nested n)) (shorter : (n
       let some = not_true (nullable g) o.0 in
       let e2 = begins_right (Comma ∷ []) (starts g ++ goes_on g) rest e in
       let all = commas_complete (read nested g) (starts g) (goes_on g) (Spells spelled g) (item_shorter g some) (read_complete g q.0)
-        (λ us y r k. first_some (nullable g) (starts g) us r some (first g q.0 us y r k)) o.1 s.1 s.0 ts rest s.2 (begins_left (Comma ∷ []) (starts g ++ goes_on g) rest e) (begins_left (starts g) (goes_on g) rest e2) (begins_right (starts g) (goes_on g) rest e2) in
+      (λ us y r k. first_some (nullable g) (starts g) us r some (first g q.0 us y r k)) o.1 s.1 s.0 ts rest s.2 (begins_left (Comma ∷ []) (starts g ++ goes_on g) rest e) (begins_left (starts g) (goes_on g) rest e2) (begins_right (starts g) (goes_on g) rest e2) in
       ap (λ r. then_reads r (λ x mid. then_reads (commas_in (read nested g) (starts g) (length mid) mid) (λ xs rest. Ok (whole (x ∷ xs), rest)))) all.1
       ∙ ap (λ r. then_reads r (λ xs rest. Ok (whole (s.0 ∷ xs), rest))) (all.2 (length all.0) (omega arith))
       ∙ ap (λ z. Ok (z, rest)) s.3

@@ -50,47 +50,60 @@ pub unexpected_at : (ts : List Token) (left : ℕ) → read (nested_at 64) file 
 unfolding Parse
 unexpected_at ts left e = stopped (subst (Stays (read (nested_at 64) file) (Spells (spelled_within 65) file) (Leads (spelled_within 64) (deep_at 64) file) ts) e (file_stays 64 ts))
   where
-  stopped : Stopped (read (nested_at 64) file) (Spells (spelled_within 65) file) (Leads (spelled_within 64) (deep_at 64) file) ts Unexpected left → (front back : List Token) × IsUnexpected ts front back × (length back ≡ left)
-  stopped k = (k.used, k.rest, record {
-    whole = k.whole;
-    front_begins = completed 65 k.used k.goes;
-    no_more = λ t after is b.
-      not_stopped b.levels 64 (k.used ++ (t ∷ b.more)) b.tree (length (t ∷ b.more))
-      (ap (read (nested_at b.levels) file) (sym (one_more k.used t b.more)) ∙ file_complete b.levels ((k.used ++ (t ∷ [])) ++ b.more) b.tree b.whole)
-      (k.local (t ∷ b.more) (sym (ap peek_at is)));
-    no_tree = λ is tree p. not_stopped 64 64 ts tree left (file_complete 64 ts tree p) e;
-  }, k.count)
+    stopped : Stopped (read (nested_at 64) file) (Spells (spelled_within 65) file) (Leads (spelled_within 64) (deep_at 64) file) ts Unexpected left → (front back : List Token) × IsUnexpected ts front back × (length back ≡ left)
+    stopped k = (
+      k.used,
+      k.rest,
+      record {
+        whole = k.whole;
+        front_begins = completed 65 k.used k.goes;
+        no_more = λ t after is b.
+            not_stopped b.levels 64 (k.used ++ (t ∷ b.more)) b.tree (length (t ∷ b.more))
+            (ap (read (nested_at b.levels) file) (sym (one_more k.used t b.more)) ∙ file_complete b.levels ((k.used ++ (t ∷ [])) ++ b.more) b.tree b.whole)
+            (k.local (t ∷ b.more) (sym (ap peek_at is)));
+        no_tree = λ is tree p. not_stopped 64 64 ts tree left (file_complete 64 ts tree p) e;
+      },
+      k.count,
+    )
 
 -- a file ended before the last token
 pub over_at : (ts : List Token) (x : PlainTree) (t : Token) (after : List Token) → read (nested_at 64) file ts ≡ Ok (x, t ∷ after) → (front : List Token) × IsUnexpected ts front (t ∷ after)
 unfolding Parse
 over_at ts x t after e = ended (subst (Stays (read (nested_at 64) file) (Spells (spelled_within 65) file) (Leads (spelled_within 64) (deep_at 64) file) ts) e (file_stays 64 ts))
   where
-  ended : Done (read (nested_at 64) file) (Spells (spelled_within 65) file) ts x (t ∷ after) → (front : List Token) × IsUnexpected ts front (t ∷ after)
-  ended d = (d.used, record {
-    whole = d.whole;
-    front_begins = record { levels = 65; more = []; tree = x; whole = d.free [] };
-    no_more = λ u rest is b.
-      not_over b.levels 64 (d.used ++ (u ∷ b.more)) b.tree x u b.more
-      (ap (read (nested_at b.levels) file) (sym (one_more d.used u b.more)) ∙ file_complete b.levels ((d.used ++ (u ∷ [])) ++ b.more) b.tree b.whole)
-      (d.local (u ∷ b.more) (sym (ap peek_at is)));
-    no_tree = λ is tree p. not_over 64 64 ts tree x t after (file_complete 64 ts tree p) e;
-  })
+    ended : Done (read (nested_at 64) file) (Spells (spelled_within 65) file) ts x (t ∷ after) → (front : List Token) × IsUnexpected ts front (t ∷ after)
+    ended d = (
+      d.used,
+      record {
+        whole = d.whole;
+        front_begins = record { levels = 65; more = []; tree = x; whole = d.free [] };
+        no_more = λ u rest is b.
+            not_over b.levels 64 (d.used ++ (u ∷ b.more)) b.tree x u b.more
+            (ap (read (nested_at b.levels) file) (sym (one_more d.used u b.more)) ∙ file_complete b.levels ((d.used ++ (u ∷ [])) ++ b.more) b.tree b.whole)
+            (d.local (u ∷ b.more) (sym (ap peek_at is)));
+        no_tree = λ is tree p. not_over 64 64 ts tree x t after (file_complete 64 ts tree p) e;
+      },
+    )
 
 -- reading stopped at a level too deep
 pub deep_stop : (ts : List Token) (left : ℕ) → read (nested_at 64) file ts ≡ Err (record { why = TooDeep; left = left }) → (front back : List Token) × IsDeep ts front back × (length back ≡ left)
 unfolding IsTooDeep
 deep_stop ts left e = stopped (subst (Stays (read (nested_at 64) file) (Spells (spelled_within 65) file) (Leads (spelled_within 64) (deep_at 64) file) ts) e (file_stays 64 ts))
   where
-  stopped : Stopped (read (nested_at 64) file) (Spells (spelled_within 65) file) (Leads (spelled_within 64) (deep_at 64) file) ts TooDeep left → (front back : List Token) × IsDeep ts front back × (length back ≡ left)
-  stopped k = (k.used, k.rest, record {
-    token = k.goes.token;
-    after = k.goes.after;
-    whole = k.whole;
-    is = k.goes.is;
-    too_deep = k.goes.leads;
-    still_begins = completed 65 (k.used ++ (k.goes.token ∷ [])) k.goes.goes;
-  }, k.count)
+    stopped : Stopped (read (nested_at 64) file) (Spells (spelled_within 65) file) (Leads (spelled_within 64) (deep_at 64) file) ts TooDeep left → (front back : List Token) × IsDeep ts front back × (length back ≡ left)
+    stopped k = (
+      k.used,
+      k.rest,
+      record {
+        token = k.goes.token;
+        after = k.goes.after;
+        whole = k.whole;
+        is = k.goes.is;
+        too_deep = k.goes.leads;
+        still_begins = completed 65 (k.used ++ (k.goes.token ∷ [])) k.goes.goes;
+      },
+      k.count,
+    )
 
 -- the tokens that are left
 pub drop-front : (front back : List Token) → drop (length front) (front ++ back) ≡ back

@@ -24,8 +24,8 @@ module _ {A : Type 0} (r : List Token → Reads A) (set : List Terminal) (shorte
   enough (suc n) zero (t ∷ ts) hn hm = absurd (omega arith)
   enough (suc n) (suc m) ts hn hm =
       ap (λ s. cond (begins set ts) s (Ok ([], ts))) (alike (r ts) _ _ (λ x e.
-        let le : length x.1 < length ts = shorter ts x e in
-        ap (λ s. then_reads s (λ xs rest. Ok (x.0 ∷ xs, rest))) (enough n m x.1 (omega arith) (omega arith))))
+      let le : length x.1 < length ts = shorter ts x e in
+      ap (λ s. then_reads s (λ xs rest. Ok (x.0 ∷ xs, rest))) (enough n m x.1 (omega arith) (omega arith))))
 
   commas_enough : (n m : ℕ) (ts : List Token) → length ts ≤ n → length ts ≤ m → commas_in r set n ts ≡ commas_in r set m ts
   commas_enough zero zero ts hn hm = refl
@@ -36,8 +36,8 @@ module _ {A : Type 0} (r : List Token → Reads A) (set : List Terminal) (shorte
   commas_enough (suc n) (suc m) [] hn hm = refl
   commas_enough (suc n) (suc m) (t ∷ ts) hn hm =
       ap (λ s. cond (is_in (terminal_of t.kind) (Comma ∷ [])) (cond (begins set ts) s (Ok ([], ts))) (Ok ([], t ∷ ts))) (alike (r ts) _ _ (λ x e.
-        let le : length x.1 < length ts = shorter ts x e in
-        ap (λ s. then_reads s (λ xs rest. Ok (x.0 ∷ xs, rest))) (commas_enough n m x.1 (omega arith) (omega arith))))
+      let le : length x.1 < length ts = shorter ts x e in
+      ap (λ s. then_reads s (λ xs rest. Ok (x.0 ∷ xs, rest))) (commas_enough n m x.1 (omega arith) (omega arith))))
 
   -- the first text, and those behind it
   pub several-next : (ts : List Token) (x : A × List Token) → begins set ts ≡ true → r ts ≡ Ok x → several_at r set ts ≡ then_reads (several_at r set x.1) (λ xs rest. Ok (x.0 ∷ xs, rest))
@@ -119,9 +119,9 @@ module _ {A : Type 0} (levels : ℕ) (g : Grammar A) (some : nullable g ≡ fals
       behind_front (front ++ (x ∷ [])) (commas_at (read (nested_at levels) g) (starts g) mid) ≡ behind_front front (commas_at (read (nested_at levels) g) (starts g) ts)
   commas-pass front ts after x mid k b e =
       sym (ap (behind_front front)
-        (ap (commas_at (read (nested_at levels) g) (starts g)) k.1
-        ∙ commas-unroll (read (nested_at levels) g) (starts g) (shorter_at levels g some) k.0 after k.2 b
-        ∙ ap (λ r. then_reads r (λ x mid. then_reads (commas_at (read (nested_at levels) g) (starts g) mid) (λ xs rest. Ok (x ∷ xs, rest)))) e)
+      (ap (commas_at (read (nested_at levels) g) (starts g)) k.1
+      ∙ commas-unroll (read (nested_at levels) g) (starts g) (shorter_at levels g some) k.0 after k.2 b
+      ∙ ap (λ r. then_reads r (λ x mid. then_reads (commas_at (read (nested_at levels) g) (starts g) mid) (λ xs rest. Ok (x ∷ xs, rest)))) e)
       ∙ behind_next front x (commas_at (read (nested_at levels) g) (starts g) mid))
 
   pub commas-stop : (front : List A) (ts after : List Token) (s : Stop) → IsComma ts after → begins (starts g) after ≡ true → read (nested_at levels) g after ≡ Err s →

@@ -51,10 +51,10 @@ several_shorter : {A : Type 0} (r : List Token → Reads A) (set : List Terminal
 several_shorter {A = A} r set item zero ts x e = subst (λ (p : List A × List Token). length p.1 ≤ length ts) (ok_same e) (omega arith)
 several_shorter {A = A} r set item (suc n) ts x e = ⊎_elim
     (λ h. let (a, ea, ra) = then_ok (r ts) _ x h.1 in
-      let (b, eb, rb) = then_ok (several_in r set n a.1) _ x ra in
-      let first : length a.1 ≤ length ts = item ts a ea in
-      let others : length b.1 ≤ length a.1 = several_shorter r set item n a.1 b eb in
-      subst (λ (p : List A × List Token). length p.1 ≤ length ts) (ok_same rb) (omega arith))
+    let (b, eb, rb) = then_ok (several_in r set n a.1) _ x ra in
+    let first : length a.1 ≤ length ts = item ts a ea in
+    let others : length b.1 ≤ length a.1 = several_shorter r set item n a.1 b eb in
+    subst (λ (p : List A × List Token). length p.1 ≤ length ts) (ok_same rb) (omega arith))
     (λ h. subst (λ (p : List A × List Token). length p.1 ≤ length ts) (ok_same h.1) (omega arith))
     (which (begins set ts) _ (Ok ([], ts)) (Ok x) e)
 
@@ -63,13 +63,13 @@ commas_shorter {A = A} r set item zero ts x e = subst (λ (p : List A × List To
 commas_shorter {A = A} r set item (suc n) [] x e = subst (λ (p : List A × List Token). length p.1 ≤ 0) (ok_same e) (omega arith)
 commas_shorter {A = A} r set item (suc n) (t ∷ ts) x e = ⊎_elim
     (λ h. ⊎_elim
-      (λ k. let (a, ea, ra) = then_ok (r ts) _ x k.1 in
-        let (b, eb, rb) = then_ok (commas_in r set n a.1) _ x ra in
-        let first : length a.1 ≤ length ts = item ts a ea in
-        let others : length b.1 ≤ length a.1 = commas_shorter r set item n a.1 b eb in
-        subst (λ (p : List A × List Token). length p.1 ≤ length (t ∷ ts)) (ok_same rb) (omega arith))
-      (λ k. subst (λ (p : List A × List Token). length p.1 ≤ length (t ∷ ts)) (ok_same k.1) (omega arith))
-      (which (begins set ts) _ (Ok ([], ts)) (Ok x) h.1))
+    (λ k. let (a, ea, ra) = then_ok (r ts) _ x k.1 in
+    let (b, eb, rb) = then_ok (commas_in r set n a.1) _ x ra in
+    let first : length a.1 ≤ length ts = item ts a ea in
+    let others : length b.1 ≤ length a.1 = commas_shorter r set item n a.1 b eb in
+    subst (λ (p : List A × List Token). length p.1 ≤ length (t ∷ ts)) (ok_same rb) (omega arith))
+    (λ k. subst (λ (p : List A × List Token). length p.1 ≤ length (t ∷ ts)) (ok_same k.1) (omega arith))
+    (which (begins set ts) _ (Ok ([], ts)) (Ok x) h.1))
     (λ h. subst (λ (p : List A × List Token). length p.1 ≤ length (t ∷ ts)) (ok_same h.1) (omega arith))
     (which (is_in (terminal_of t.kind) (Comma ∷ [])) _ (Ok ([], t ∷ ts)) (Ok x) e)
 

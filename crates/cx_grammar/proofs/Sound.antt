@@ -14,8 +14,8 @@ module _ {A : Type 0} (r : List Token → Reads A) (set : List Terminal) (spelle
   several_sound zero ts x e = subst (λ (p : List A × List Token). Several_of spelled ts p.0 p.1) (ok_same e) refl
   several_sound (suc n) ts x e = ⊎_elim
       (λ h. let (a, ea, ra) = then_ok (r ts) _ x h.1 in
-        let (b, eb, rb) = then_ok (several_in r set n a.1) _ x ra in
-        subst (λ (p : List A × List Token). Several_of spelled ts p.0 p.1) (ok_same rb) (a.1, sound ts a ea, several_sound n a.1 b eb))
+      let (b, eb, rb) = then_ok (several_in r set n a.1) _ x ra in
+      subst (λ (p : List A × List Token). Several_of spelled ts p.0 p.1) (ok_same rb) (a.1, sound ts a ea, several_sound n a.1 b eb))
       (λ h. subst (λ (p : List A × List Token). Several_of spelled ts p.0 p.1) (ok_same h.1) refl)
       (which (begins set ts) _ (Ok ([], ts)) (Ok x) e)
 
@@ -24,11 +24,11 @@ module _ {A : Type 0} (r : List Token → Reads A) (set : List Terminal) (spelle
   commas_sound (suc n) ts first [] x s e = subst (λ (p : List A × List Token). Commas_of spelled first p.0 ts p.1) (ok_same e) ([], s, inl refl)
   commas_sound (suc n) ts first (t ∷ mid) x s e = ⊎_elim
       (λ h. ⊎_elim
-        (λ k. let (a, ea, ra) = then_ok (r mid) _ x k.1 in
-          let (b, eb, rb) = then_ok (commas_in r set n a.1) _ x ra in
-          subst (λ (p : List A × List Token). Commas_of spelled first p.0 ts p.1) (ok_same rb) (t ∷ mid, mid, s, (t, refl, h.0), commas_sound n mid a.0 a.1 b (sound mid a ea) eb))
-        (λ k. subst (λ (p : List A × List Token). Commas_of spelled first p.0 ts p.1) (ok_same k.1) (t ∷ mid, s, inr (t, refl, h.0)))
-        (which (begins set mid) _ (Ok ([], mid)) (Ok x) h.1))
+      (λ k. let (a, ea, ra) = then_ok (r mid) _ x k.1 in
+      let (b, eb, rb) = then_ok (commas_in r set n a.1) _ x ra in
+      subst (λ (p : List A × List Token). Commas_of spelled first p.0 ts p.1) (ok_same rb) (t ∷ mid, mid, s, (t, refl, h.0), commas_sound n mid a.0 a.1 b (sound mid a ea) eb))
+      (λ k. subst (λ (p : List A × List Token). Commas_of spelled first p.0 ts p.1) (ok_same k.1) (t ∷ mid, s, inr (t, refl, h.0)))
+      (which (begins set mid) _ (Ok ([], mid)) (Ok x) h.1))
       (λ h. subst (λ (p : List A × List Token). Commas_of spelled first p.0 ts p.1) (ok_same h.1) (t ∷ mid, s, inl refl))
       (which (is_in (terminal_of t.kind) (Comma ∷ [])) _ (Ok ([], t ∷ mid)) (Ok x) e)
 

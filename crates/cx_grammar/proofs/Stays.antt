@@ -101,9 +101,9 @@ module _ {A B C : Type 0} (join : A → B → C) (r : List Token → Reads A) (q
     used = d.used ++ k.used;
     whole = d.whole ∙ ap (λ s. d.used ++ s) k.whole ∙ sym (append_assoc d.used k.used y.1);
     local = λ more e.
-      ap both (append_assoc d.used k.used more)
-      ∙ ap (λ s. then_reads s (λ x mid. then_reads (q mid) (λ y rest. Ok (join x y, rest)))) (d.local (k.used ++ more) (peek_same k.used more y.1 e ∙ sym (ap peek_at k.whole)))
-      ∙ ap (λ s. then_reads s (λ y rest. Ok (join x y, rest))) (k.local more e);
+        ap both (append_assoc d.used k.used more)
+        ∙ ap (λ s. then_reads s (λ x mid. then_reads (q mid) (λ y rest. Ok (join x y, rest)))) (d.local (k.used ++ more) (peek_same k.used more y.1 e ∙ sym (ap peek_at k.whole)))
+        ∙ ap (λ s. then_reads s (λ y rest. Ok (join x y, rest))) (k.local more e);
     free = λ more. subst (λ us. Both us (join x y.0) more) (sym (append_assoc d.used k.used more)) (k.used ++ more, x, y.0, d.free (k.used ++ more), k.free more, refl);
   }
   second_stays ts x mid d (Err s) k = record {
@@ -112,9 +112,9 @@ module _ {A B C : Type 0} (join : A → B → C) (r : List Token → Reads A) (q
     whole = d.whole ∙ ap (λ s. d.used ++ s) k.whole ∙ sym (append_assoc d.used k.used k.rest);
     count = k.count;
     local = λ more e.
-      ap both (append_assoc d.used k.used more)
-      ∙ ap (λ s. then_reads s (λ x mid. then_reads (q mid) (λ y rest. Ok (join x y, rest)))) (d.local (k.used ++ more) (peek_same k.used more k.rest e ∙ sym (ap peek_at k.whole)))
-      ∙ ap (λ s. then_reads s (λ y rest. Ok (join x y, rest))) (k.local more e);
+        ap both (append_assoc d.used k.used more)
+        ∙ ap (λ s. then_reads s (λ x mid. then_reads (q mid) (λ y rest. Ok (join x y, rest)))) (d.local (k.used ++ more) (peek_same k.used more k.rest e ∙ sym (ap peek_at k.whole)))
+        ∙ ap (λ s. then_reads s (λ y rest. Ok (join x y, rest))) (k.local more e);
     goes = second_goes s.why ts x mid d k.used k.rest k.whole k.goes;
   }
 

@@ -34,7 +34,7 @@ module _ {A : Type 0} (r q : List Token → Reads A) (set : List Terminal) (item
   several_wider (suc n) ts nd =
       cond_wider (begins set ts) (then_reads (r ts) (λ x mid. then_reads (several_in r set n mid) (λ xs rest. Ok (x ∷ xs, rest)))) (Ok ([], ts)) (then_reads (q ts) (λ x mid. then_reads (several_in q set n mid) (λ xs rest. Ok (x ∷ xs, rest)))) (Ok ([], ts))
       (then_wider (r ts) (q ts) (λ x mid. then_reads (several_in r set n mid) (λ xs rest. Ok (x ∷ xs, rest))) (λ x mid. then_reads (several_in q set n mid) (λ xs rest. Ok (x ∷ xs, rest))) (item ts)
-        (λ x mid. then_wider (several_in r set n mid) (several_in q set n mid) (λ xs rest. Ok (x ∷ xs, rest)) (λ xs rest. Ok (x ∷ xs, rest)) (several_wider n mid) (λ xs rest _. refl)))
+      (λ x mid. then_wider (several_in r set n mid) (several_in q set n mid) (λ xs rest. Ok (x ∷ xs, rest)) (λ xs rest. Ok (x ∷ xs, rest)) (several_wider n mid) (λ xs rest _. refl)))
       (λ _. refl) nd
 
   commas_wider : (n : ℕ) (ts : List Token) → NotDeep (commas_in r set n ts) → commas_in q set n ts ≡ commas_in r set n ts
@@ -45,9 +45,9 @@ module _ {A : Type 0} (r q : List Token → Reads A) (set : List Terminal) (item
       (cond (begins set ts) (then_reads (r ts) (λ x mid. then_reads (commas_in r set n mid) (λ xs rest. Ok (x ∷ xs, rest)))) (Ok ([], ts))) (Ok ([], t ∷ ts))
       (cond (begins set ts) (then_reads (q ts) (λ x mid. then_reads (commas_in q set n mid) (λ xs rest. Ok (x ∷ xs, rest)))) (Ok ([], ts))) (Ok ([], t ∷ ts))
       (cond_wider (begins set ts) (then_reads (r ts) (λ x mid. then_reads (commas_in r set n mid) (λ xs rest. Ok (x ∷ xs, rest)))) (Ok ([], ts)) (then_reads (q ts) (λ x mid. then_reads (commas_in q set n mid) (λ xs rest. Ok (x ∷ xs, rest)))) (Ok ([], ts))
-        (then_wider (r ts) (q ts) (λ x mid. then_reads (commas_in r set n mid) (λ xs rest. Ok (x ∷ xs, rest))) (λ x mid. then_reads (commas_in q set n mid) (λ xs rest. Ok (x ∷ xs, rest))) (item ts)
-          (λ x mid. then_wider (commas_in r set n mid) (commas_in q set n mid) (λ xs rest. Ok (x ∷ xs, rest)) (λ xs rest. Ok (x ∷ xs, rest)) (commas_wider n mid) (λ xs rest _. refl)))
-        (λ _. refl))
+      (then_wider (r ts) (q ts) (λ x mid. then_reads (commas_in r set n mid) (λ xs rest. Ok (x ∷ xs, rest))) (λ x mid. then_reads (commas_in q set n mid) (λ xs rest. Ok (x ∷ xs, rest))) (item ts)
+      (λ x mid. then_wider (commas_in r set n mid) (commas_in q set n mid) (λ xs rest. Ok (x ∷ xs, rest)) (λ xs rest. Ok (x ∷ xs, rest)) (commas_wider n mid) (λ xs rest _. refl)))
+      (λ _. refl))
       (λ _. refl) nd
 
 module _ (nested wide : (n : Nest) → List Token → Reads (Nested n)) (wider : (n : Nest) (ts : List Token) → NotDeep (nested n ts) → wide n ts ≡ nested n ts) where
@@ -65,7 +65,7 @@ module _ (nested wide : (n : Nest) → List Token → Reads (Nested n)) (wider :
   read_wider (Commas whole g) ts nd =
       then_wider (read nested g ts) (read wide g ts) (λ x mid. then_reads (commas_in (read nested g) (starts g) (length mid) mid) (λ xs rest. Ok (whole (x ∷ xs), rest))) (λ x mid. then_reads (commas_in (read wide g) (starts g) (length mid) mid) (λ xs rest. Ok (whole (x ∷ xs), rest))) (read_wider g ts)
       (λ x mid. then_wider (commas_in (read nested g) (starts g) (length mid) mid) (commas_in (read wide g) (starts g) (length mid) mid) (λ xs rest. Ok (whole (x ∷ xs), rest)) (λ xs rest. Ok (whole (x ∷ xs), rest))
-        (commas_wider (read nested g) (read wide g) (starts g) (read_wider g) (length mid) mid) (λ xs rest _. refl)) nd
+      (commas_wider (read nested g) (read wide g) (starts g) (read_wider g) (length mid) mid) (λ xs rest _. refl)) nd
   read_wider (Deeper n) ts nd = wider n ts nd
 
 pair_fails : {A B C : Type 0} (nested : (n : Nest) → List Token → Reads (Nested n)) (set : List Terminal) (value : Token → A) (join : A → B → C) (h : Grammar B) (ts : List Token) → begins set ts ≡ false → read nested (Pair join (One set value) h) ts ≡ Err (unexpected ts)
@@ -111,14 +111,14 @@ order zero m = inl (omega arith)
 order (suc k) zero = inr (omega arith)
 order (suc k) (suc m) = shifted (order k m)
   where
-  shifted : (k ≤ m) ⊎ (m ≤ k) → (suc k ≤ suc m) ⊎ (suc m ≤ suc k)
-  shifted (inl le) = inl (omega arith)
-  shifted (inr le) = inr (omega arith)
+    shifted : (k ≤ m) ⊎ (m ≤ k) → (suc k ≤ suc m) ⊎ (suc m ≤ suc k)
+    shifted (inl le) = inl (omega arith)
+    shifted (inr le) = inr (omega arith)
 
 -- two numbers of levels that are both enough read alike
 pub levels_same : (k m : ℕ) (ts : List Token) → NotDeep (read (nested_at k) file ts) → NotDeep (read (nested_at m) file ts) → read (nested_at m) file ts ≡ read (nested_at k) file ts
 levels_same k m ts nk nm = sides (order k m)
   where
-  sides : (k ≤ m) ⊎ (m ≤ k) → read (nested_at m) file ts ≡ read (nested_at k) file ts
-  sides (inl le) = levels_up k m le ts nk
-  sides (inr le) = sym (levels_up m k le ts nm)
+    sides : (k ≤ m) ⊎ (m ≤ k) → read (nested_at m) file ts ≡ read (nested_at k) file ts
+    sides (inl le) = levels_up k m le ts nk
+    sides (inr le) = sym (levels_up m k le ts nm)
