@@ -38,12 +38,13 @@ next_at : (sizes rest : List ℕ) (inputs : Inputs) (port number size : ℕ) →
     → number * word_count (size ∷ rest) + word_number (size ∷ rest) port inputs ≡ word_number sizes 0 inputs
     → (number + 1) * word_count (size ∷ rest) ≤ word_count sizes
     → (first_beyond rest (port + 1) inputs ≡ first_beyond sizes 0 inputs)
-      × ((number * size + value_at inputs port) * word_count rest + word_number rest (port + 1) inputs ≡ word_number sizes 0 inputs)
-      × ((number * size + value_at inputs port + 1) * word_count rest ≤ word_count sizes)
-next_at sizes rest inputs port number size below beyond word within =
-    (sym (ap (λ (b : Bool). if b then first_beyond rest (port + 1) inputs else Some port) test) ∙ beyond,
-      sym (one_more_word number size (value_at inputs port) (word_count rest) (word_number rest (port + 1) inputs)) ∙ word,
-      one_more_within number size (value_at inputs port) (word_count rest) (word_count sizes) below within)
+    × ((number * size + value_at inputs port) * word_count rest + word_number rest (port + 1) inputs ≡ word_number sizes 0 inputs)
+    × ((number * size + value_at inputs port + 1) * word_count rest ≤ word_count sizes)
+next_at sizes rest inputs port number size below beyond word within = (
+  sym (ap (λ (b : Bool). if b then first_beyond rest (port + 1) inputs else Some port) test) ∙ beyond,
+  sym (one_more_word number size (value_at inputs port) (word_count rest) (word_number rest (port + 1) inputs)) ∙ word,
+  one_more_within number size (value_at inputs port) (word_count rest) (word_count sizes) below within,
+)
   where
     test : nat_lt (value_at inputs port) size ≡ true
     test = grind (arith, nat_tests)
@@ -56,9 +57,9 @@ pub IsLocating-next : (sizes : List ℕ) (inputs : Inputs) (port number : ℕ) �
 IsLocating-next sizes inputs port number there below far =
     let split = split_at sizes port there in
     let next = next_at sizes (drop (port + 1) sizes) inputs port number (slice_index sizes port) below
-          (sym (ap (λ (rest : List ℕ). first_beyond rest port inputs) split) ∙ far.beyond)
-          (sym (ap (λ (rest : List ℕ). number * word_count rest + word_number rest port inputs) split) ∙ far.word)
-          (subst (λ (rest : List ℕ). (number + 1) * word_count rest ≤ word_count sizes) split far.within) in
+    (sym (ap (λ (rest : List ℕ). first_beyond rest port inputs) split) ∙ far.beyond)
+    (sym (ap (λ (rest : List ℕ). number * word_count rest + word_number rest port inputs) split) ∙ far.word)
+    (subst (λ (rest : List ℕ). (number + 1) * word_count rest ≤ word_count sizes) split far.within) in
     record { beyond = next.0; word = next.1; within = next.2 }
 
 -- the first address out of range

@@ -52,11 +52,14 @@ are_sizes-large sizes place count there large far = by_rest (are_positive rest) 
   where
     rest : List ℕ
     rest = drop (place + 1) sizes
+
     size : ℕ
     size = slice_index sizes place
+
     and_false : (a : Bool) → (a && false) ≡ false
     and_false true = refl
     and_false false = refl
+
     by_rest : (b : Bool) → are_positive rest ≡ b → are_sizes sizes ≡ false
     by_rest false e =
         let split = split_at sizes place there in
@@ -80,7 +83,7 @@ are_sizes-all sizes place count all far =
     let positive : are_positive sizes ≡ true = sym far.positive ∙ ap are_positive none_left in
     let test : nat_lt (word_count sizes) (2 ^ 32) ≡ true = grind (arith, nat_tests) in
     ap (λ (b : Bool). if b && nat_lt (word_count sizes) (2 ^ 32) then Some (word_count sizes) else None) positive
-      ∙ ap (λ (b : Bool). if b then Some (word_count sizes) else None) test ∙ ap Some counted
+    ∙ ap (λ (b : Bool). if b then Some (word_count sizes) else None) test ∙ ap Some counted
 
 -- a value that does not fit a width
 pub unfit : (width value : ℕ) → IsWidth width → (Fits (record { width = width; value = value }) → ⊥) → nat_lt value (2 ^ width) ≡ false

@@ -34,7 +34,11 @@ impl DividerState {
     pub fn at_rest() -> DividerState
         ensures value { divider_shown result ≡ (divider_row 0).start }
     {
-        DividerState { run: Run::at_rest(), quotient: 0, remainder: 0 }
+        DividerState {
+            run: Run::at_rest(),
+            quotient: 0,
+            remainder: 0,
+        }
     }
 }
 
@@ -73,12 +77,36 @@ impl Cycle for Divider {
 
     fn port(&self, n: usize) -> PortRow {
         match n {
-            0 => PortRow { name: PortName::Go, side: Side::Enable, width: 1 },
-            1 => PortRow { name: PortName::Left, side: Side::Plain, width: self.width },
-            2 => PortRow { name: PortName::Right, side: Side::Plain, width: self.width },
-            3 => PortRow { name: PortName::OutQuotient, side: Side::Registered, width: self.width },
-            4 => PortRow { name: PortName::OutRemainder, side: Side::Registered, width: self.width },
-            _ => PortRow { name: PortName::Done, side: Side::Registered, width: 1 },
+            0 => PortRow {
+                name: PortName::Go,
+                side: Side::Enable,
+                width: 1,
+            },
+            1 => PortRow {
+                name: PortName::Left,
+                side: Side::Plain,
+                width: self.width,
+            },
+            2 => PortRow {
+                name: PortName::Right,
+                side: Side::Plain,
+                width: self.width,
+            },
+            3 => PortRow {
+                name: PortName::OutQuotient,
+                side: Side::Registered,
+                width: self.width,
+            },
+            4 => PortRow {
+                name: PortName::OutRemainder,
+                side: Side::Registered,
+                width: self.width,
+            },
+            _ => PortRow {
+                name: PortName::Done,
+                side: Side::Registered,
+                width: 1,
+            },
         }
     }
 

@@ -97,7 +97,11 @@ impl Kind {
         let words = widened(alloc, words)?;
         match self {
             Kind::Memory(_) => Ok(KindState::Memory(MemoryState { words, done: false })),
-            Kind::Sequential(_) => Ok(KindState::Sequential(SequentialState { words, read_data: 0, done: false })),
+            Kind::Sequential(_) => Ok(KindState::Sequential(SequentialState {
+                words,
+                read_data: 0,
+                done: false,
+            })),
             _ => unreachable!(),
         }
     }

@@ -40,7 +40,11 @@ impl Layout {
             2 => PortName::Addr2,
             _ => PortName::Addr3,
         };
-        PortRow { name, side: Side::Plain, width: self.address_widths[n] as u8 }
+        PortRow {
+            name,
+            side: Side::Plain,
+            width: self.address_widths[n] as u8,
+        }
     }
 }
 

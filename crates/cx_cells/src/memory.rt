@@ -60,15 +60,34 @@ impl Cycle for CombinationalMemory {
             return self.layout.address_port(n);
         }
         match n - self.layout.dimensions {
-            0 => PortRow { name: PortName::WriteData, side: Side::Plain, width: self.layout.width },
-            1 => PortRow { name: PortName::WriteEn, side: Side::Enable, width: 1 },
-            2 => PortRow { name: PortName::ReadData, side: Side::Output, width: self.layout.width },
-            _ => PortRow { name: PortName::Done, side: Side::Registered, width: 1 },
+            0 => PortRow {
+                name: PortName::WriteData,
+                side: Side::Plain,
+                width: self.layout.width,
+            },
+            1 => PortRow {
+                name: PortName::WriteEn,
+                side: Side::Enable,
+                width: 1,
+            },
+            2 => PortRow {
+                name: PortName::ReadData,
+                side: Side::Output,
+                width: self.layout.width,
+            },
+            _ => PortRow {
+                name: PortName::Done,
+                side: Side::Registered,
+                width: 1,
+            },
         }
     }
 
     fn start(&self, alloc: Global) -> Result<MemoryState, Memory> {
-        Ok(MemoryState { words: vec![in alloc; 0; self.layout.count as usize]?, done: false })
+        Ok(MemoryState {
+            words: vec![in alloc; 0; self.layout.count as usize]?,
+            done: false,
+        })
     }
 
     fn output(&self, state: &MemoryState, inputs: &[Option<Bits>], port: usize) -> Option<Bits> {

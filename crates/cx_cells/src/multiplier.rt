@@ -33,7 +33,10 @@ impl MultiplierState {
     pub fn at_rest() -> MultiplierState
         ensures value { multiplier_shown result ≡ (multiplier_row 0).start }
     {
-        MultiplierState { run: Run::at_rest(), product: 0 }
+        MultiplierState {
+            run: Run::at_rest(),
+            product: 0,
+        }
     }
 }
 
@@ -70,11 +73,31 @@ impl Cycle for Multiplier {
 
     fn port(&self, n: usize) -> PortRow {
         match n {
-            0 => PortRow { name: PortName::Go, side: Side::Enable, width: 1 },
-            1 => PortRow { name: PortName::Left, side: Side::Plain, width: self.width },
-            2 => PortRow { name: PortName::Right, side: Side::Plain, width: self.width },
-            3 => PortRow { name: PortName::Out, side: Side::Registered, width: self.width },
-            _ => PortRow { name: PortName::Done, side: Side::Registered, width: 1 },
+            0 => PortRow {
+                name: PortName::Go,
+                side: Side::Enable,
+                width: 1,
+            },
+            1 => PortRow {
+                name: PortName::Left,
+                side: Side::Plain,
+                width: self.width,
+            },
+            2 => PortRow {
+                name: PortName::Right,
+                side: Side::Plain,
+                width: self.width,
+            },
+            3 => PortRow {
+                name: PortName::Out,
+                side: Side::Registered,
+                width: self.width,
+            },
+            _ => PortRow {
+                name: PortName::Done,
+                side: Side::Registered,
+                width: 1,
+            },
         }
     }
 
@@ -82,8 +105,17 @@ impl Cycle for Multiplier {
         Ok(MultiplierState::at_rest())
     }
 
-    fn output(&self, state: &MultiplierState, _inputs: &[Option<Bits>], port: usize) -> Option<Bits> {
-        Some(if port == 3 { value_of(self.width, state.product) } else { bit(state.run.done) })
+    fn output(
+        &self,
+        state: &MultiplierState,
+        _inputs: &[Option<Bits>],
+        port: usize,
+    ) -> Option<Bits> {
+        Some(if port == 3 {
+            value_of(self.width, state.product)
+        } else {
+            bit(state.run.done)
+        })
     }
 
     fn demands(&self, state: &MultiplierState, inputs: &[Option<Bits>], port: usize) -> bool {

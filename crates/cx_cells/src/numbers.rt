@@ -33,10 +33,18 @@ pub fn kind_of(name: PrimitiveName, numbers: &[u64]) -> Option<Kind>
         PrimitiveName::Not => same_width(UnaryOperator::Not, numbers),
         PrimitiveName::Slice => slice(numbers),
         PrimitiveName::Pad => pad(numbers),
-        PrimitiveName::Mux => Some(Kind::Mux(Mux { width: lone_width(numbers)? })),
-        PrimitiveName::Reg => Some(Kind::Register(Register { width: lone_width(numbers)? })),
-        PrimitiveName::MultPipe => Some(Kind::Multiplier(Multiplier { width: lone_width(numbers)? })),
-        PrimitiveName::DivPipe => Some(Kind::Divider(Divider { width: lone_width(numbers)? })),
+        PrimitiveName::Mux => Some(Kind::Mux(Mux {
+            width: lone_width(numbers)?,
+        })),
+        PrimitiveName::Reg => Some(Kind::Register(Register {
+            width: lone_width(numbers)?,
+        })),
+        PrimitiveName::MultPipe => Some(Kind::Multiplier(Multiplier {
+            width: lone_width(numbers)?,
+        })),
+        PrimitiveName::DivPipe => Some(Kind::Divider(Divider {
+            width: lone_width(numbers)?,
+        })),
         PrimitiveName::Timer => timer(numbers),
         PrimitiveName::StdMemD1 | PrimitiveName::CombMemD1 => memory(1, numbers),
         PrimitiveName::StdMemD2 | PrimitiveName::CombMemD2 => memory(2, numbers),
@@ -71,7 +79,11 @@ fn width_of(number: u64) -> Option<u8>
     ensures value { result ≡ (if is_width number then Some number else None) }
     ensures width { IfSome result IsWidth }
 {
-    if 1 <= number && number <= 128 { Some(number as u8) } else { None }
+    if 1 <= number && number <= 128 {
+        Some(number as u8)
+    } else {
+        None
+    }
 }
 
 /// The width where it is the only number.
@@ -88,10 +100,15 @@ fn lone_width(numbers: &[u64]) -> Option<u8>
 fn constant(numbers: &[u64]) -> Option<Kind>
     ensures value { constant_at numbers.now ≡ option_map kind_row result }
 {
-    let [number, value] = numbers else { return None };
+    let [number, value] = numbers else {
+        return None
+    };
     let width = width_of(*number)?;
     let _fitting = Bits::new(width, u128::from(*value))?;
-    Some(Kind::Constant(Constant { width, value: *value }))
+    Some(Kind::Constant(Constant {
+        width,
+        value: *value,
+    }))
 }
 
 fn same_width(operator: UnaryOperator, numbers: &[u64]) -> Option<Kind>
@@ -99,13 +116,20 @@ fn same_width(operator: UnaryOperator, numbers: &[u64]) -> Option<Kind>
     ensures value { at_width (λ width. unary_row width width (apply_unary operator width)) numbers.now ≡ option_map kind_row result }
 {
     let width = lone_width(numbers)?;
-    Some(Kind::Unary(Unary { operator, width, out_width: width }))
+    Some(Kind::Unary(Unary {
+        operator,
+        width,
+        out_width: width,
+    }))
 }
 
 fn binary(operator: BinaryOperator, numbers: &[u64]) -> Option<Kind>
     ensures value { at_width (λ width. binary_row width (binary_out_width operator width) (apply_binary operator)) numbers.now ≡ option_map kind_row result }
 {
-    Some(Kind::Binary(Binary { operator, width: lone_width(numbers)? }))
+    Some(Kind::Binary(Binary {
+        operator,
+        width: lone_width(numbers)?,
+    }))
 }
 
 fn slice(numbers: &[u64]) -> Option<Kind>
@@ -117,7 +141,11 @@ fn slice(numbers: &[u64]) -> Option<Kind>
     if out_width > width {
         return None;
     }
-    Some(Kind::Unary(Unary { operator: UnaryOperator::Slice, width, out_width }))
+    Some(Kind::Unary(Unary {
+        operator: UnaryOperator::Slice,
+        width,
+        out_width,
+    }))
 }
 
 fn pad(numbers: &[u64]) -> Option<Kind>
@@ -129,7 +157,11 @@ fn pad(numbers: &[u64]) -> Option<Kind>
     if width > out_width {
         return None;
     }
-    Some(Kind::Unary(Unary { operator: UnaryOperator::Pad, width, out_width }))
+    Some(Kind::Unary(Unary {
+        operator: UnaryOperator::Pad,
+        width,
+        out_width,
+    }))
 }
 
 fn timer(numbers: &[u64]) -> Option<Kind>
@@ -139,7 +171,9 @@ fn timer(numbers: &[u64]) -> Option<Kind>
     if *length == 0 || *length > 0xffff_ffff {
         return None;
     }
-    Some(Kind::Timer(Timer { length: *length as u32 }))
+    Some(Kind::Timer(Timer {
+        length: *length as u32,
+    }))
 }
 
 fn memory(dimensions: usize, numbers: &[u64]) -> Option<Kind>
@@ -147,7 +181,9 @@ fn memory(dimensions: usize, numbers: &[u64]) -> Option<Kind>
     requires few { dimensions ≤ 4 }
     ensures value { memory_at dimensions memory_row numbers.now ≡ option_map kind_row result }
 {
-    Some(Kind::Memory(CombinationalMemory { layout: layout(dimensions, numbers)? }))
+    Some(Kind::Memory(CombinationalMemory {
+        layout: layout(dimensions, numbers)?,
+    }))
 }
 
 fn sequential(dimensions: usize, numbers: &[u64]) -> Option<Kind>
@@ -155,7 +191,9 @@ fn sequential(dimensions: usize, numbers: &[u64]) -> Option<Kind>
     requires few { dimensions ≤ 4 }
     ensures value { memory_at dimensions sequential_memory_row numbers.now ≡ option_map kind_row result }
 {
-    Some(Kind::Sequential(SequentialMemory { layout: layout(dimensions, numbers)? }))
+    Some(Kind::Sequential(SequentialMemory {
+        layout: layout(dimensions, numbers)?,
+    }))
 }
 
 /// The layout of a memory: the width, the sizes and the address widths.
@@ -174,7 +212,13 @@ fn layout(dimensions: usize, numbers: &[u64]) -> Option<Layout>
     if !are_address_widths(address_widths) {
         return None;
     }
-    Some(Layout { width, dimensions, sizes: padded(sizes), address_widths: padded(address_widths), count })
+    Some(Layout {
+        width,
+        dimensions,
+        sizes: padded(sizes),
+        address_widths: padded(address_widths),
+        count,
+    })
 }
 
 /// The number of words of a memory of these sizes, where each is at least 1 and the number is below 2^32.

@@ -72,7 +72,12 @@ impl Primitive {
     {
         let named = PrimitiveName::from_text(name).ok_or(PrimFault::Unknown)?;
         let kind = kind_of(named, numbers).ok_or(PrimFault::BadParameters)?;
-        Ok(Primitive { name: named, numbers: padded(numbers), count: numbers.len(), kind })
+        Ok(Primitive {
+            name: named,
+            numbers: padded(numbers),
+            count: numbers.len(),
+            kind,
+        })
     }
 
     /// The timer of this length in cycles.
@@ -81,14 +86,24 @@ impl Primitive {
         ensures value { result ≡ record { name = PrimitiveName.Timer; numbers = length ∷ [] } }
     {
         let numbers = [u64::from(length)];
-        Primitive { name: PrimitiveName::Timer, numbers: padded(&numbers), count: 1, kind: Kind::Timer(Timer { length }) }
+        Primitive {
+            name: PrimitiveName::Timer,
+            numbers: padded(&numbers),
+            count: 1,
+            kind: Kind::Timer(Timer { length }),
+        }
     }
 
     /// The same primitive again.
     pub fn copied(&self) -> Primitive
         ensures value { result ≡ self.now }
     {
-        Primitive { name: self.name, numbers: self.numbers, count: self.count, kind: self.kind }
+        Primitive {
+            name: self.name,
+            numbers: self.numbers,
+            count: self.count,
+            kind: self.kind,
+        }
     }
 
     /// The name as designs write it.
@@ -112,7 +127,9 @@ impl Primitive {
         ensures value { IfOk result (λ state. state ≡ rows.start_with (row_of self.now) words.now) }
         ensures fits { IfOk result (λ state. IsState (row_of self.now).shape state) }
     {
-        Ok(PrimState { held: self.kind().start_with(alloc, words)? })
+        Ok(PrimState {
+            held: self.kind().start_with(alloc, words)?,
+        })
     }
 
     /// Word `n` of a memory, in row-major order.
@@ -171,7 +188,9 @@ impl Cycle for Primitive {
     }
 
     fn start(&self, alloc: Global) -> Result<PrimState, Memory> {
-        Ok(PrimState { held: self.kind().start(alloc)? })
+        Ok(PrimState {
+            held: self.kind().start(alloc)?,
+        })
     }
 
     fn output(&self, state: &PrimState, inputs: &[Option<Bits>], port: usize) -> Option<Bits> {

@@ -32,7 +32,10 @@ impl RegisterState {
     pub fn at_rest() -> RegisterState
         ensures value { register_shown result ≡ (register_row 0).start }
     {
-        RegisterState { value: 0, done: false }
+        RegisterState {
+            value: 0,
+            done: false,
+        }
     }
 }
 
@@ -64,10 +67,26 @@ impl Cycle for Register {
 
     fn port(&self, n: usize) -> PortRow {
         match n {
-            0 => PortRow { name: PortName::In, side: Side::Plain, width: self.width },
-            1 => PortRow { name: PortName::WriteEn, side: Side::Enable, width: 1 },
-            2 => PortRow { name: PortName::Out, side: Side::Registered, width: self.width },
-            _ => PortRow { name: PortName::Done, side: Side::Registered, width: 1 },
+            0 => PortRow {
+                name: PortName::In,
+                side: Side::Plain,
+                width: self.width,
+            },
+            1 => PortRow {
+                name: PortName::WriteEn,
+                side: Side::Enable,
+                width: 1,
+            },
+            2 => PortRow {
+                name: PortName::Out,
+                side: Side::Registered,
+                width: self.width,
+            },
+            _ => PortRow {
+                name: PortName::Done,
+                side: Side::Registered,
+                width: 1,
+            },
         }
     }
 
@@ -76,7 +95,11 @@ impl Cycle for Register {
     }
 
     fn output(&self, state: &RegisterState, _inputs: &[Option<Bits>], port: usize) -> Option<Bits> {
-        Some(if port == 2 { value_of(self.width, state.value) } else { bit(state.done) })
+        Some(if port == 2 {
+            value_of(self.width, state.value)
+        } else {
+            bit(state.done)
+        })
     }
 
     fn demands(&self, _state: &RegisterState, inputs: &[Option<Bits>], port: usize) -> bool {

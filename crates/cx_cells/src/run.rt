@@ -26,7 +26,12 @@ impl Run {
     pub fn at_rest() -> Run
         ensures value { run_shown result ≡ at_rest }
     {
-        Run { count: 0, left: 0, right: 0, done: false }
+        Run {
+            count: 0,
+            left: 0,
+            right: 0,
+            done: false,
+        }
     }
 
     /// One cycle with `go`: the first takes the operands, from ports 1 and 2. Answers whether it is the last.

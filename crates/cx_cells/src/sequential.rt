@@ -81,25 +81,59 @@ impl Cycle for SequentialMemory {
             return self.layout.address_port(n);
         }
         match n - self.layout.dimensions {
-            0 => PortRow { name: PortName::ContentEn, side: Side::Enable, width: 1 },
-            1 => PortRow { name: PortName::WriteEn, side: Side::Enable, width: 1 },
-            2 => PortRow { name: PortName::WriteData, side: Side::Plain, width: self.layout.width },
-            3 => PortRow { name: PortName::ReadData, side: Side::Registered, width: self.layout.width },
-            _ => PortRow { name: PortName::Done, side: Side::Registered, width: 1 },
+            0 => PortRow {
+                name: PortName::ContentEn,
+                side: Side::Enable,
+                width: 1,
+            },
+            1 => PortRow {
+                name: PortName::WriteEn,
+                side: Side::Enable,
+                width: 1,
+            },
+            2 => PortRow {
+                name: PortName::WriteData,
+                side: Side::Plain,
+                width: self.layout.width,
+            },
+            3 => PortRow {
+                name: PortName::ReadData,
+                side: Side::Registered,
+                width: self.layout.width,
+            },
+            _ => PortRow {
+                name: PortName::Done,
+                side: Side::Registered,
+                width: 1,
+            },
         }
     }
 
     fn start(&self, alloc: Global) -> Result<SequentialState, Memory> {
-        Ok(SequentialState { words: vec![in alloc; 0; self.layout.count as usize]?, read_data: 0, done: false })
+        Ok(SequentialState {
+            words: vec![in alloc; 0; self.layout.count as usize]?,
+            read_data: 0,
+            done: false,
+        })
     }
 
-    fn output(&self, state: &SequentialState, _inputs: &[Option<Bits>], port: usize) -> Option<Bits> {
-        Some(if port == self.layout.dimensions + 3 { value_of(self.layout.width, state.read_data) } else { bit(state.done) })
+    fn output(
+        &self,
+        state: &SequentialState,
+        _inputs: &[Option<Bits>],
+        port: usize,
+    ) -> Option<Bits> {
+        Some(if port == self.layout.dimensions + 3 {
+            value_of(self.layout.width, state.read_data)
+        } else {
+            bit(state.done)
+        })
     }
 
     fn demands(&self, _state: &SequentialState, inputs: &[Option<Bits>], port: usize) -> bool {
         let dimensions = self.layout.dimensions;
-        is_on(inputs, dimensions) && (port < dimensions || port == dimensions + 2 && is_on(inputs, dimensions + 1))
+        is_on(inputs, dimensions)
+            && (port < dimensions || port == dimensions + 2 && is_on(inputs, dimensions + 1))
     }
 
     fn step(&self, state: &mut SequentialState, inputs: &[Option<Bits>]) -> Result<(), OutOfRange> {

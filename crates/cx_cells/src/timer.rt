@@ -32,7 +32,10 @@ impl TimerState {
     pub fn at_rest() -> TimerState
         ensures value { timer_shown result ≡ (timer_row 0).start }
     {
-        TimerState { count: 0, done: false }
+        TimerState {
+            count: 0,
+            done: false,
+        }
     }
 }
 
@@ -47,9 +50,15 @@ impl Timer {
         if !is_on(inputs, 0) {
             *state = TimerState::at_rest();
         } else if state.count + 1 == self.length {
-            *state = TimerState { count: 0, done: true };
+            *state = TimerState {
+                count: 0,
+                done: true,
+            };
         } else {
-            *state = TimerState { count: state.count + 1, done: false };
+            *state = TimerState {
+                count: state.count + 1,
+                done: false,
+            };
         }
     }
 }
@@ -67,9 +76,21 @@ impl Cycle for Timer {
 
     fn port(&self, n: usize) -> PortRow {
         match n {
-            0 => PortRow { name: PortName::Go, side: Side::Enable, width: 1 },
-            1 => PortRow { name: PortName::Out, side: Side::Registered, width: 32 },
-            _ => PortRow { name: PortName::Done, side: Side::Registered, width: 1 },
+            0 => PortRow {
+                name: PortName::Go,
+                side: Side::Enable,
+                width: 1,
+            },
+            1 => PortRow {
+                name: PortName::Out,
+                side: Side::Registered,
+                width: 32,
+            },
+            _ => PortRow {
+                name: PortName::Done,
+                side: Side::Registered,
+                width: 1,
+            },
         }
     }
 
@@ -78,7 +99,11 @@ impl Cycle for Timer {
     }
 
     fn output(&self, state: &TimerState, _inputs: &[Option<Bits>], port: usize) -> Option<Bits> {
-        Some(if port == 1 { value_of(32, u128::from(state.count)) } else { bit(state.done) })
+        Some(if port == 1 {
+            value_of(32, u128::from(state.count))
+        } else {
+            bit(state.done)
+        })
     }
 
     fn demands(&self, _state: &TimerState, _inputs: &[Option<Bits>], _port: usize) -> bool {

@@ -9,7 +9,7 @@ after_dimension c =
     let address = c.number_at-address.ensures.value in
     let below : value_at c.args.inputs.now c.loop-port.port < slice_index c.args.sizes.now c.loop-port.port = omega (arith, address) in
     subst (λ (a : ℕ). IsLocating c.args.sizes.now c.args.inputs.now (c.loop-port.port + 1) (c.loop-port.number * slice_index c.args.sizes.now c.loop-port.port + a)) (sym address)
-      (IsLocating-next c.args.sizes.now c.args.inputs.now c.loop-port.port c.loop-port.number c.loop-port-test.true below c.loop-port.invariant)
+    (IsLocating-next c.args.sizes.now c.args.inputs.now c.loop-port.port c.loop-port.number c.loop-port-test.true below c.loop-port.invariant)
 
 pub overflow_mul-number : goal.overflow_mul-number
 overflow_mul-number c =

@@ -12,12 +12,12 @@ pub returns : goal.returns
 returns g c = record {
   value = λ looked. record {
     enabling = λ n port there side.
-      let within : n < length (g.C.Cycle.meaning c.args.cell.now).ports = slice_get_within _ n port there in
-      let before : n < c.loop-n.n = omega (arith, within, c.port_count-n-end.ensures.value, c.loop-n-test.false) in
-      (c.loop-n.invariant n before).enabling port there side;
+        let within : n < length (g.C.Cycle.meaning c.args.cell.now).ports = slice_get_within _ n port there in
+        let before : n < c.loop-n.n = omega (arith, within, c.port_count-n-end.ensures.value, c.loop-n-test.false) in
+        (c.loop-n.invariant n before).enabling port there side;
     demanded = λ n port there side wanted.
-      let within : n < length (g.C.Cycle.meaning c.args.cell.now).ports = slice_get_within _ n port there in
-      let before : n < c.loop-n.n = omega (arith, within, c.port_count-n-end.ensures.value, c.loop-n-test.false) in
-      (c.loop-n.invariant n before).demanded port there side wanted;
+        let within : n < length (g.C.Cycle.meaning c.args.cell.now).ports = slice_get_within _ n port there in
+        let before : n < c.loop-n.n = omega (arith, within, c.port_count-n-end.ensures.value, c.loop-n-test.false) in
+        (c.loop-n.invariant n before).demanded port there side wanted;
   };
 }
