@@ -3,3 +3,4 @@ pub mod Operands
 pub mod Layouts
 pub mod Kinds
 pub mod Primitives
+pub mod Seen

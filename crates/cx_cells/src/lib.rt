@@ -11,6 +11,8 @@ mod primitive;
 mod register;
 mod run;
 mod sequential;
+#[cfg(test)]
+mod tests;
 mod timer;
 mod words;
 

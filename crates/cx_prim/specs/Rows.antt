@@ -73,11 +73,6 @@ abbrev pub is_enable_side : Side → Bool
 is_enable_side Enable = true
 is_enable_side _ = false
 
-abbrev pub is_input_side : Side → Bool
-is_input_side Enable = true
-is_input_side Plain = true
-is_input_side _ = false
-
 -- port n is there, on a side that passes the test
 abbrev pub HasSide : Row → ℕ → (Side → Bool) → Type 0
 HasSide r n test = (port : PortRow) × (slice_get r.ports n ≡ Some port) × (test port.side ≡ true)

@@ -2,7 +2,7 @@
 
 ghost use Rattle.std.specs.Prelude.{◌≡◌, ℕ, ◌<◌, Some, None, IfOk, IfErr, OnOk, OnErr, length, slice_get};
 ghost use Rattle.cx_prim.specs.CellStates.{CellState, IsState};
-ghost use Rattle.cx_prim.specs.Rows.{Row, FitsPorts, HasSide, is_input_side, is_output_side, IsLookedAt, IdlesOnce, IdlesWhenQuiet, KeepsRegistered, LooksWhereDemanded, GivesWidths, ReadsOnly, AnswersStrictly};
+ghost use Rattle.cx_prim.specs.Rows.{Row, FitsPorts, HasSide, is_output_side, IsLookedAt, IdlesOnce, IdlesWhenQuiet, KeepsRegistered, LooksWhereDemanded, GivesWidths, ReadsOnly, AnswersStrictly};
 
 use crate::ports::{OutOfRange, PortRow};
 use cx_bits::Bits;
@@ -44,11 +44,11 @@ pub trait Cycle {
         requires names { HasSide (meaning self.now) port is_output_side }
         ensures value { result ≡ (meaning self.now).output (shown state.now) inputs.now port };
 
-    /// Whether an input has to be a value at the edge of this cycle.
+    /// Whether a port is a plain input that has to be a value at the edge of this cycle.
     fn demands(&self, state: &Self::State, inputs: &[Option<Bits>], port: usize) -> bool
         requires state_fits { IsState (meaning self.now).shape (shown state.now) }
         requires inputs_fit { FitsPorts (meaning self.now).ports inputs.now }
-        requires names { HasSide (meaning self.now) port is_input_side }
+        requires within { port < length (meaning self.now).ports }
         ensures value { result ≡ (meaning self.now).demands (shown state.now) inputs.now port };
 
     /// The edge of a cycle. Refused where the row compares an address that is out of range; the state then stays.
