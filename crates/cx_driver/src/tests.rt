@@ -1,7 +1,8 @@
 //! Whole calls over files and sinks in memory. The values were worked by hand: each group takes two turns.
 
-use crate::{Status, run};
+use crate::{Status, Stop, interp, run};
 use cx_outside::{MemFiles, MemSink, Word};
+use cx_text::Rule;
 use std::alloc::Global;
 use std::test::Fail;
 
@@ -40,12 +41,24 @@ fn words_of(alloc: Global, line: &str) -> Result<Vec<Word>, Fail> {
 
 fn files_of(alloc: Global) -> Result<MemFiles, Fail> {
     let mut entries = Vec::new(alloc);
-    for (name, bytes) in [
+    let files = [
         ("add", ADD_THREE),
         ("stale", STALE_DONE),
         ("five", FIVE),
         ("bad", "[]"),
-    ] {
+        ("open", "component main() /* x"),
+        (
+            "word",
+            "component main() -> () {\ncells {\nref r = std_reg(32);\n",
+        ),
+        ("end", "component"),
+        ("empty", ""),
+        (
+            "other",
+            "component main() -> () { cells { } wires { } control { } }",
+        ),
+    ];
+    for (name, bytes) in files {
         entries.push((
             Word::from_bytes(alloc, name.as_bytes())?,
             Word::from_bytes(alloc, bytes.as_bytes())?,
@@ -120,6 +133,41 @@ fn whole_calls(rt: HostRuntime) -> Result<(), Fail> {
             0,
             Status::Refused,
             "",
+            "refused 1:1 unexpected\n",
+        ),
+        (
+            "interp open five 9",
+            0,
+            Status::Refused,
+            "",
+            "refused 1:18 open-comment\n",
+        ),
+        (
+            "interp word five 9",
+            0,
+            Status::Refused,
+            "",
+            "refused 3:1 unexpected ref\n",
+        ),
+        (
+            "interp end five 9",
+            0,
+            Status::Refused,
+            "",
+            "refused 1:1 unexpected\n",
+        ),
+        (
+            "interp empty five 9",
+            0,
+            Status::Refused,
+            "",
+            "refused 1:1 unexpected\n",
+        ),
+        (
+            "interp other five 9",
+            0,
+            Status::Refused,
+            "",
             "refused 1:1 left-out\n",
         ),
         (
@@ -169,5 +217,21 @@ fn deaf(rt: HostRuntime) -> Result<(), Fail> {
         run(alloc, &words, &mut files, &mut out, &mut err),
         Status::More
     );
+    Ok(())
+}
+
+/// A design that is cut before its last `}` breaks a rule of its text, wherever it is cut.
+#[test]
+fn cut_texts(rt: HostRuntime) -> Result<(), Fail> {
+    let alloc = rt.alloc();
+    for length in 0..STALE_DONE.len() - 1 {
+        let text = &STALE_DONE.as_bytes()[..length];
+        match interp(alloc, text, b"{}", 9) {
+            Err(Stop::Rule(diagnostic)) => {
+                assert_ne!(rt; diagnostic.rule, Rule::LeftOut, "cut at {length}");
+            }
+            _ => assert!(rt; false, "cut at {length}"),
+        }
+    }
     Ok(())
 }
