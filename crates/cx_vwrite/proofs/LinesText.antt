@@ -26,13 +26,13 @@ edge_text e = sym (
     lines_text_append ((AlwaysLine ∷ ResetLine ∷ map SetLine e.reset) ++ (ElseLine ∷ map item_line e.step)) (BranchesEnd ∷ AlwaysEnd ∷ [])
     ∙ ap (λ t. t ++ lines_text (BranchesEnd ∷ AlwaysEnd ∷ [])) (lines_text_append (AlwaysLine ∷ ResetLine ∷ map SetLine e.reset) (ElseLine ∷ map item_line e.step))
     ∙ append_assoc (lines_text (AlwaysLine ∷ ResetLine ∷ map SetLine e.reset)) (lines_text (ElseLine ∷ map item_line e.step)) (lines_text (BranchesEnd ∷ AlwaysEnd ∷ []))
-)
+    )
 
 -- an edge is appended piece by piece
 pub edge_pieces : (e : PlainEdge) (p q r s t u : List ℕ) (rs : List PlainAssign) (items : List PlainItem)
-                → q ≡ p ++ codes "  always @(posedge clk) begin\n    if (reset) begin\n" → r ≡ q ++ lines_text (map SetLine rs)
-                → s ≡ r ++ codes "    end else begin\n" → t ≡ s ++ lines_text (map item_line items) → u ≡ t ++ codes "    end\n  end\n"
-                → rs ≡ e.reset → items ≡ e.step → u ≡ p ++ lines_text (edge_lines (Some e))
+    → q ≡ p ++ codes "  always @(posedge clk) begin\n    if (reset) begin\n" → r ≡ q ++ lines_text (map SetLine rs)
+    → s ≡ r ++ codes "    end else begin\n" → t ≡ s ++ lines_text (map item_line items) → u ≡ t ++ codes "    end\n  end\n"
+    → rs ≡ e.reset → items ≡ e.step → u ≡ p ++ lines_text (edge_lines (Some e))
 edge_pieces e p q r s t u rs items f g h i j k l =
     pieces_5 p q r s t u _ _ _ _ _ f (g ∙ ap (λ x. q ++ lines_text (map SetLine x)) k) h (i ∙ ap (λ x. s ++ lines_text (map item_line x)) l) j
     ∙ ap (λ x. p ++ x) (edge_text e)
@@ -53,7 +53,7 @@ pub whole_text : (m : PlainModule) → lines_text (module_lines m) ≡ signature
 whole_text m =
     six (ModuleLine m.name ∷ port_lines m.ports) (PortsEnd ∷ map DeclLine m.decls) (map AssignLine m.assigns) (map InstanceLine m.instances) (edge_lines m.edge) (ModuleEnd ∷ [])
     ∙ ap (λ t. (((((t ++ lines_text (port_lines m.ports)) ++ lines_text (PortsEnd ∷ map DeclLine m.decls)) ++ lines_text (map AssignLine m.assigns)) ++ lines_text (map InstanceLine m.instances)) ++ lines_text (edge_lines m.edge)) ++ lines_text (ModuleEnd ∷ []))
-      (append_assoc (codes "module " ++ m.name) (codes "(") (codes "\n"))
+    (append_assoc (codes "module " ++ m.name) (codes "(") (codes "\n"))
     ∙ regroup (codes "module " ++ m.name ++ codes "(\n") (lines_text (port_lines m.ports)) (codes ");\n") (lines_text (map DeclLine m.decls)) (lines_text (map AssignLine m.assigns)) (lines_text (map InstanceLine m.instances)) (lines_text (edge_lines m.edge)) (codes "endmodule\n")
 
 -- the lines of modules
@@ -63,7 +63,7 @@ modules_text-lines (m ∷ ms) = ap (λ t. lines_text (module_lines m) ++ t) (mod
 
 -- a source is its external lines and its modules
 pub source_text : (s : PlainSource) (es : List PlainExternal) (ms : List PlainModule) (old mid new : List ℕ) → old ≡ []
-                → mid ≡ old ++ lines_text (map ExternalLine es) → new ≡ mid ++ modules_text ms → es ≡ s.externals → ms ≡ s.modules → new ≡ text_of s
+    → mid ≡ old ++ lines_text (map ExternalLine es) → new ≡ mid ++ modules_text ms → es ≡ s.externals → ms ≡ s.modules → new ≡ text_of s
 source_text s es ms old mid new e f g h i =
     g ∙ ap (λ t. t ++ modules_text ms) (f ∙ ap (λ t. t ++ lines_text (map ExternalLine es)) e)
     ∙ ap (λ t. lines_text (map ExternalLine es) ++ t) (modules_text-lines ms)

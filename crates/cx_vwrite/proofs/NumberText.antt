@@ -33,10 +33,10 @@ last_digit base n low le =
     ∙ ap (map glyph) (digits_of_step base n low positive)
     ∙ map-append glyph (digits_of base (n / base)) (n % base ∷ [])
     ∙ ap (λ t. t ++ (glyph (n % base) ∷ [])) (sym (number_text-positive base (n / base) front))
-    where
-  go : (q : ℕ) → n / base ≡ q → 0 < q
-  go zero e = let none : base * (n / base) ≡ base * 0 = ap (λ q. base * q) e in absurd (omega arith)
-  go (suc q) e = omega arith
+  where
+    go : (q : ℕ) → n / base ≡ q → 0 < q
+    go zero e = let none : base * (n / base) ≡ base * 0 = ap (λ q. base * q) e in absurd (omega arith)
+    go (suc q) e = omega arith
 
 -- its other digits and then its last digit are a number
 pub digits_end : (base n : ℕ) (old mid new : List ℕ) → new ≡ mid ++ glyph (n % base) ∷ [] → mid ≡ old ++ number_text base (n / base) → 2 ≤ base → base ≤ n → new ≡ old ++ number_text base n

@@ -200,7 +200,13 @@ pub fn set(out: &mut Vec<u8>, a: &NetAssign) -> Result<(), Memory>
 }
 
 /// Appends the line that stores a word.
-fn store(out: &mut Vec<u8>, guard: &Expr, array: &Name, index: &Expr, value: &Expr) -> Result<(), Memory>
+fn store(
+    out: &mut Vec<u8>,
+    guard: &Expr,
+    array: &Name,
+    index: &Expr,
+    value: &Expr,
+) -> Result<(), Memory>
     ensures { OnOk result (out.new.items ≡ out.old.items ++ (line_text (StoreLine (record { guard = plain_expr guard.now; array = array.now; index = plain_expr index.now; value = plain_expr value.now })) ++ codes "\n")) }
 {
     push(out, b"      if (")?;

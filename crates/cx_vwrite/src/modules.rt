@@ -87,7 +87,10 @@ fn items(out: &mut Vec<u8>, list: &[EdgeItem]) -> Result<(), Memory>
 fn edge_begin(out: &mut Vec<u8>) -> Result<(), Memory>
     ensures { OnOk result (out.new.items ≡ out.old.items ++ codes "  always @(posedge clk) begin\n    if (reset) begin\n") }
 {
-    push(out, b"  always @(posedge clk) begin\n    if (reset) begin\n")
+    push(
+        out,
+        b"  always @(posedge clk) begin\n    if (reset) begin\n",
+    )
 }
 
 /// Appends the line between the branches.
