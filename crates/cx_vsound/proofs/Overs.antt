@@ -19,9 +19,9 @@ keeps b line (f ∷ fs) = keeps b (min (line + 1) last_line) fs
 
 -- a line is looked at, and those after it
 after_line : (name width limit : Bool) (n line : ℕ) (fs : List Faults) → line ≡ min n last_line
-           → ((over (record { line = min (line + 1) last_line; found = None }) fs).found ≡ option_map told_break (first_break (n + 1) fs))
-           → (over (record { line = min (line + 1) last_line; found = break_on line (record { name = name; width = width; limit = limit }) }) fs).found
-             ≡ option_map told_break (break_at n (record { name = name; width = width; limit = limit }) (first_break (n + 1) fs))
+    → ((over (record { line = min (line + 1) last_line; found = None }) fs).found ≡ option_map told_break (first_break (n + 1) fs))
+    → (over (record { line = min (line + 1) last_line; found = break_on line (record { name = name; width = width; limit = limit }) }) fs).found
+    ≡ option_map told_break (break_at n (record { name = name; width = width; limit = limit }) (first_break (n + 1) fs))
 after_line true width limit n line fs e later = keeps (breaks.Name line) (min (line + 1) last_line) fs ∙ ap (λ l. Some (breaks.Name l)) e
 after_line false true limit n line fs e later = keeps (breaks.Width line) (min (line + 1) last_line) fs ∙ ap (λ l. Some (breaks.Width l)) e
 after_line false false true n line fs e later = keeps (breaks.Limit line) (min (line + 1) last_line) fs ∙ ap (λ l. Some (breaks.Limit l)) e
@@ -43,7 +43,7 @@ regroup a b c d e = simp append_assoc
 
 -- past all lines of a module: past those to its last declaration, and then past the others
 pub lines_over : (s : Search) (is_main : Bool) (before : List PlainModule) (own : Counts) (m : PlainModule)
-               → over (over s (signature_faults is_main before own m)) (body_faults before m) ≡ over s (lines_faults is_main before own m)
+    → over (over s (signature_faults is_main before own m)) (body_faults before m) ≡ over s (lines_faults is_main before own m)
 lines_over s is_main before own m =
     sym (over_append s (signature_faults is_main before own m) (body_faults before m)) ∙ ap (over s) (sym (regroup (signature_faults is_main before own m) _ _ _ _))
 
@@ -56,8 +56,8 @@ signature_pieces is_main before own m s s1 s2 s3 s4 d1 d2 names ps ds e1 e2 e3 e
     e4
     ∙ ap (λ d. over s3 (decls_faults d names ds)) f2 ∙ ap (λ n. over s3 (decls_faults (drivers_in before m) n ds)) f3 ∙ ap (λ x. over s3 (decls_faults (drivers_in before m) (map (λ p. p.name) m.ports) x)) f5
     ∙ ap (λ x. over x (decls_faults (drivers_in before m) (map (λ p. p.name) m.ports) m.decls))
-      (e3 ∙ ap (λ x. noted x no_faults) (e2 ∙ ap (λ d. over s1 (ports_faults is_main d [] 0 ps)) f1 ∙ ap (λ x. over s1 (ports_faults is_main (drivers_in before m) [] 0 x)) f4
-      ∙ ap (λ x. over x (ports_faults is_main (drivers_in before m) [] 0 m.ports)) e1))
+    (e3 ∙ ap (λ x. noted x no_faults) (e2 ∙ ap (λ d. over s1 (ports_faults is_main d [] 0 ps)) f1 ∙ ap (λ x. over s1 (ports_faults is_main (drivers_in before m) [] 0 x)) f4
+    ∙ ap (λ x. over x (ports_faults is_main (drivers_in before m) [] 0 m.ports)) e1))
     ∙ sym (over_append s (module_faults is_main before own m ∷ ports_faults is_main (drivers_in before m) [] 0 m.ports) (no_faults ∷ decls_faults (drivers_in before m) (map (λ p. p.name) m.ports) m.decls))
 
 -- past the other lines

@@ -77,12 +77,7 @@ fn counts_named(before: &[Module], counts: &[Sums], name: &Name) -> Sums
     }
 }
 
-fn instances_counts(
-    before: &[Module],
-    counts: &[Sums],
-    start: Sums,
-    instances: &[Instance],
-) -> Sums
+fn instances_counts(before: &[Module], counts: &[Sums], start: Sums, instances: &[Instance]) -> Sums
     ensures { counts_in result ≡ sound.instances_counts (plain_modules before.now) (map counts_in counts.now) (counts_in start) (map plain_instance instances.now) }
 {
     let mut sums = start;
@@ -108,7 +103,5 @@ pub fn module_counts(before: &[Module], counts: &[Sums], m: &Module) -> Sums
 pub fn too_large(sums: Sums) -> bool
     ensures { result ≡ sound.too_large (counts_in sums) }
 {
-    sums.nets > VERILOG_NETS
-        || sums.instances > VERILOG_INSTANCES
-        || sums.words > MEMORY_WORDS
+    sums.nets > VERILOG_NETS || sums.instances > VERILOG_INSTANCES || sums.words > MEMORY_WORDS
 }

@@ -73,12 +73,7 @@ fn item_name(item: &EdgeItem) -> &Name
     }
 }
 
-fn sets(
-    alloc: Global,
-    search: Search,
-    m: &Module,
-    list: &[NetAssign],
-) -> Result<Search, Memory>
+fn sets(alloc: Global, search: Search, m: &Module, list: &[NetAssign]) -> Result<Search, Memory>
     ensures { IfOk result (λ s. s ≡ over search (sound.sets_faults (scope_of m.now) [] (map plain_assign list.now))) }
 {
     let mut search = search;
@@ -113,12 +108,7 @@ fn edge_lines(alloc: Global, search: Search, m: &Module, e: &Edge) -> Result<Sea
 }
 
 /// Goes on past the lines of an edge where there is one.
-pub fn edge(
-    alloc: Global,
-    search: Search,
-    m: &Module,
-    e: &Option<Edge>,
-) -> Result<Search, Memory>
+pub fn edge(alloc: Global, search: Search, m: &Module, e: &Option<Edge>) -> Result<Search, Memory>
     ensures { IfOk result (λ s. s ≡ over search (sound.edge_faults (scope_of m.now) (option_map plain_edge e.now))) }
 {
     match e {

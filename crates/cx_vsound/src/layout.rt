@@ -6,7 +6,9 @@ ghost use Rattle.cx_vtree.specs.Layout as layout;
 ghost use Rattle.cx_vtree.specs.PlainParts.{plain_expr, plain_port, plain_decl, plain_assign, plain_conn, plain_instance, plain_item, plain_edge, plain_module, plain_modules, plain_external, plain_externals};
 
 use cx_text::{NAME_BYTES, Name};
-use cx_vtree::{Conn, Decl, Edge, EdgeItem, Expr, External, Instance, Module, ModulePort, NetAssign};
+use cx_vtree::{
+    Conn, Decl, Edge, EdgeItem, Expr, External, Instance, Module, ModulePort, NetAssign,
+};
 
 fn is_letter(c: u8) -> bool
     ensures { result ≡ layout.is_letter c }

@@ -86,11 +86,7 @@ pub fn add_driven<'a>(
 }
 
 /// The nets that a module drives.
-pub fn drivers<'a>(
-    alloc: Global,
-    before: &[Module],
-    m: &'a Module,
-) -> Result<Vec<&'a Name>, Memory>
+pub fn drivers<'a>(alloc: Global, before: &[Module], m: &'a Module) -> Result<Vec<&'a Name>, Memory>
     ensures { IfOk result (λ names. map (λ n. n.now) names.items ≡ sound.drivers_in (plain_modules before.now) (plain_module m.now)) }
 {
     let mut names = Vec::new(alloc);
