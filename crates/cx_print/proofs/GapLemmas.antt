@@ -1,5 +1,5 @@
 -- Between two tokens that would run into one another stands a blank, in the pieces of every tree.
-use Rattle.std.proofs.Common.{◌≡◌, ℕ, Bool, true, false, ◌&&◌, ◌==◌, List, [], ◌∷◌, ◌++◌, Option, Some, None, codes, map, option_map, refl, sym, ◌∙◌, ap, subst}
+use Rattle.std.proofs.Common.{◌≡◌, ℕ, Bool, true, false, ◌&&◌, ◌==◌, List, [], ◌∷◌, Option, Some, None, codes, refl}
 use Rattle.cx_tokens.specs.declared.signs.Sign.{Sign}
 use Rattle.cx_tokens.specs.declared.signs.Sign.TheVariants as signs
 use Rattle.cx_tokens.specs.declared.tokens.TokenKind.{TokenKind}

@@ -1,12 +1,12 @@
 -- Pieces that do not run into one another are read again from their layout.
-use Rattle.std.proofs.Common.{◌≡◌, ◌≢◌, ℕ, ◌+◌, ◌<◌, ◌≤◌, ◌^◌, ◌==◌, Bool, true, false, ◌&&◌, ◌||◌, List, [], ◌∷◌, ◌++◌, length, drop, get_or, drop-cons, ◌⊎◌, inl, inr, ⊎_elim, refl, sym, ◌∙◌, ap, subst, lit≤, arith, append_assoc, length-append}
+use Rattle.std.proofs.Common.{◌≡◌, ◌≢◌, ℕ, ◌<◌, ◌^◌, ◌==◌, Bool, true, false, ◌&&◌, ◌||◌, List, [], ◌∷◌, ◌++◌, length, ◌⊎◌, inl, inr, ⊎_elim, refl, sym, ◌∙◌, ap, subst, arith, append_assoc}
 use Rattle.std.proofs.lemmas.List.{append-nil}
-use Rattle.std.proofs.lemmas.Bool.{and_parts, and_from, ltb-true, lt-ltb, eqb-true}
+use Rattle.std.proofs.lemmas.Bool.{and_parts, and_from, lt-ltb}
 use Rattle.std.proofs.lemmas.Bool.Decides.{nat_tests}
 use Rattle.std.proofs.lemmas.Fmt.{decimal_is_IsNumeral_wide}
 use Rattle.std.specs.Fmt.{decimal}
-use Rattle.std.specs.List.{list_all, AllByRecursion}
-use Rattle.std.specs.Str.Parse.{AllDigits, IsNumeral, digits_value}
+use Rattle.std.specs.List.{list_all}
+use Rattle.std.specs.Str.Parse.{IsNumeral, digits_value}
 use Rattle.cx_text.specs.declared.places.Place.{Place}
 use Rattle.cx_text.specs.Places.{start, after_bytes}
 use Rattle.cx_tokens.specs.declared.signs.Sign.{Sign}
@@ -15,8 +15,8 @@ use Rattle.cx_tokens.specs.declared.tokens.Token.{Token}
 use Rattle.cx_tokens.specs.declared.tokens.TokenKind.{TokenKind}
 use Rattle.cx_tokens.specs.declared.tokens.TokenKind.TheVariants as kinds
 use Rattle.cx_tokens.specs.PlainTokens.{kinds_of}
-use Rattle.cx_lex.specs.Bytes.{is_blank, is_name_start, is_name_byte, is_in_string, goes_on, is_digit_in, Stops}
-use Rattle.cx_lex.specs.Lex.{sign_bytes, IsLongest, IsWord, IsToken, name, number, literal, string, sign, IsGap, blank, HasTokens, ended, gap, token, Lex}
+use Rattle.cx_lex.specs.Bytes.{is_blank, is_name_start, is_name_byte, goes_on, is_digit_in, Stops}
+use Rattle.cx_lex.specs.Lex.{sign_bytes, IsLongest, IsToken, name, number, literal, string, sign, blank, HasTokens, ended, gap, token}
 use Rattle.cx_lex.proofs.SignLemmas.{short_or_long, IsShort, IsLong, length-sign_bytes-le}
 use Rattle.cx_print.specs.declared.pieces.Gap.{Gap}
 use Rattle.cx_print.specs.declared.pieces.Gap.TheVariants.{Tight, Space, Line}
@@ -42,10 +42,10 @@ digit_no_equal b h = grind (arith, nat_tests)
 name_stops : (rest : List ℕ) → Stops goes_on rest → Stops is_name_byte rest
 name_stops [] h = tt
 name_stops (b ∷ rest) h = first (is_name_byte b) (b == 39) h
-    where
-  first : (s t : Bool) → (s || t) ≡ false → s ≡ false
-  first true t e = absurd (cc)
-  first false t e = refl
+  where
+    first : (s t : Bool) → (s || t) ≡ false → s ≡ false
+    first true t e = absurd (cc)
+    first false t e = refl
 
 -- the first byte of each kind of token
 digits_no_equal : (digits rest : List ℕ) → IsNumeral 10 digits → Stops (λ b. b == 61) (digits ++ rest)
@@ -164,16 +164,16 @@ stops_at b rest h e = let equal : (b == 61) ≡ true = ap (λ c. c == 61) e in a
 sign_longest : (s : Sign) (rest : List ℕ) → Stops (λ b. b == 61) rest → IsLongest s (sign_bytes s ++ rest)
 sign_longest s rest stop other after e = ⊎_elim
     (λ (short : IsShort s). ⊎_elim
-        (λ (h : IsShort other). let one = ap length h.1 in let mine = ap length short.1 in omega arith)
-        (λ (h : IsLong other).
-            let whole : short.0 ∷ rest ≡ h.0 ∷ h.1 ∷ after = ap (λ bytes. bytes ++ rest) (sym short.1) ∙ e ∙ ap (λ bytes. bytes ++ after) h.2 in
-            let first : short.0 ≡ h.0 = cc in
-            let later : rest ≡ h.1 ∷ after = cc in
-            absurd (⊎_elim
-                (λ (equal : h.1 ≡ 61). stops_at h.1 after (subst (Stops (λ b. b == 61)) later stop) equal)
-                (λ (dash : h.0 ≡ 45). no_short_dash s (short.1 ∙ ap (λ b. b ∷ []) (first ∙ dash)))
-                (long_ends other h.0 h.1 h.2)))
-        (short_or_long other))
+    (λ (h : IsShort other). let one = ap length h.1 in let mine = ap length short.1 in omega arith)
+    (λ (h : IsLong other).
+    let whole : short.0 ∷ rest ≡ h.0 ∷ h.1 ∷ after = ap (λ bytes. bytes ++ rest) (sym short.1) ∙ e ∙ ap (λ bytes. bytes ++ after) h.2 in
+    let first : short.0 ≡ h.0 = cc in
+    let later : rest ≡ h.1 ∷ after = cc in
+    absurd (⊎_elim
+    (λ (equal : h.1 ≡ 61). stops_at h.1 after (subst (Stops (λ b. b == 61)) later stop) equal)
+    (λ (dash : h.0 ≡ 45). no_short_dash s (short.1 ∙ ap (λ b. b ∷ []) (first ∙ dash)))
+    (long_ends other h.0 h.1 h.2)))
+    (short_or_long other))
     (λ (long : IsLong s). let two = ap length long.2 in let most = length-sign_bytes-le other in omega arith)
     (short_or_long s)
 
@@ -231,8 +231,8 @@ layout-tokens ps old text new loose h laid appended =
 
 -- one piece more is laid out
 pub piece_appended : (all : List Piece) (old mid : List ℕ) (p : Piece) (later : List Piece) (blanks : List ℕ) → IsGapOf p.gap blanks
-  → ((rest : List ℕ) → IsLaidOut (p ∷ later) rest → AppendsLayout all old (mid ++ rest))
-  → (rest : List ℕ) → IsLaidOut later rest → AppendsLayout all old (((mid ++ blanks) ++ token_bytes p.kind) ++ rest)
+    → ((rest : List ℕ) → IsLaidOut (p ∷ later) rest → AppendsLayout all old (mid ++ rest))
+    → (rest : List ℕ) → IsLaidOut later rest → AppendsLayout all old (((mid ++ blanks) ++ token_bytes p.kind) ++ rest)
 piece_appended all old mid p later blanks g so_far rest more =
     subst (AppendsLayout all old)
     (sym (append_assoc (mid ++ blanks) (token_bytes p.kind) rest ∙ append_assoc mid blanks (token_bytes p.kind ++ rest)))
@@ -263,7 +263,7 @@ pub layout_end : (all left : List Piece) (old mid new : List ℕ) → left ≡ [
 layout_end all left old mid new e so_far appended = subst (AppendsLayout all old) (sym appended) (so_far (10 ∷ []) (subst (λ ps. IsLaidOut ps (10 ∷ [])) (sym e) layout.ended))
 
 pub layout_more : (all left later : List Piece) (old mid gapped new : List ℕ) (p : Piece) → left ≡ p ∷ later → ((rest : List ℕ) → IsLaidOut left rest → AppendsLayout all old (mid ++ rest))
-  → AppendsGap p.gap mid gapped → new ≡ gapped ++ token_bytes p.kind → (rest : List ℕ) → IsLaidOut later rest → AppendsLayout all old (new ++ rest)
+    → AppendsGap p.gap mid gapped → new ≡ gapped ++ token_bytes p.kind → (rest : List ℕ) → IsLaidOut later rest → AppendsLayout all old (new ++ rest)
 layout_more all left later old mid gapped new p e so_far g appended rest more =
     subst (λ t. AppendsLayout all old (t ++ rest)) (sym (appended ∙ ap (λ t. t ++ token_bytes p.kind) g.1))
     (piece_appended all old mid p later g.0 g.2 (λ r laid. so_far r (subst (λ ps. IsLaidOut ps r) (sym e) laid)) rest more)

@@ -1,5 +1,5 @@
 -- How tokens are written, and what stands between them.
-use Rattle.std.specs.Prelude.{◌≡◌, ◌≢◌, ℕ, ◌+◌, ◌*◌, ◌^◌, ◌<◌, ◌≤◌, Bool, true, false, List, [], ◌∷◌, ◌++◌, length, decimal}
+use Rattle.std.specs.Prelude.{◌≡◌, ◌≢◌, ℕ, ◌^◌, ◌<◌, ◌≤◌, true, List, [], ◌∷◌, ◌++◌, length, decimal}
 use Rattle.std.specs.List.{list_all, AllByRecursion}
 use Rattle.cx_tokens.specs.declared.tokens.Token.{Token}
 use Rattle.cx_tokens.specs.declared.tokens.TokenKind.{TokenKind}

@@ -1,5 +1,5 @@
 -- The tokens of a tree, with the layout before each: what each part adds behind what is there.
-use Rattle.std.specs.Prelude.{ℕ, Bool, true, false, List, [], ◌∷◌, ◌++◌, Option, Some, None, codes, map, if◌then◌else◌}
+use Rattle.std.specs.Prelude.{ℕ, Bool, true, false, List, [], ◌∷◌, ◌++◌, Option, Some, None, codes, map}
 use Rattle.cx_tokens.specs.declared.signs.Sign.{Sign}
 use Rattle.cx_tokens.specs.declared.signs.Sign.TheVariants as signs
 use Rattle.cx_tokens.specs.declared.tokens.TokenKind.{TokenKind}

@@ -40,12 +40,7 @@ fn some_ports(alloc: Global, out: &mut Vec<Piece>, items: &[PortItem]) -> Result
 }
 
 // Adds ports in parentheses.
-fn ports(
-    alloc: Global,
-    out: &mut Vec<Piece>,
-    gap: Gap,
-    items: &[PortItem],
-) -> Result<(), Memory>
+fn ports(alloc: Global, out: &mut Vec<Piece>, gap: Gap, items: &[PortItem]) -> Result<(), Memory>
     ensures { OnOk result (out.new.items ≡ add_ports gap (map plain_port items.now) out.old.items) }
 {
     sign(out, gap, Sign::OpenParen)?;

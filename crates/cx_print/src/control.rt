@@ -94,12 +94,7 @@ fn otherwise(alloc: Global, out: &mut Vec<Piece>, no: &Option<Block>) -> Result<
 
 // Adds a statement without its attributes.
 #[cycle(control)]
-fn form(
-    alloc: Global,
-    out: &mut Vec<Piece>,
-    gap: Gap,
-    form: &StatementForm,
-) -> Result<(), Memory>
+fn form(alloc: Global, out: &mut Vec<Piece>, gap: Gap, form: &StatementForm) -> Result<(), Memory>
     ensures { OnOk result (out.new.items ≡ add_control gap (plain_form form.now) out.old.items) }
 {
     match form {

@@ -38,7 +38,11 @@ fn imports(alloc: Global, out: &mut Vec<Piece>, items: &[ImportItem]) -> Result<
 fn behind(items: &[ImportItem]) -> Gap
     ensures { result ≡ behind_imports items.now }
 {
-    if items.is_empty() { Gap::Tight } else { Gap::Line }
+    if items.is_empty() {
+        Gap::Tight
+    } else {
+        Gap::Line
+    }
 }
 
 // Adds components, one after the other.

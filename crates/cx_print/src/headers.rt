@@ -49,7 +49,11 @@ pub(crate) fn attributes(
 pub(crate) fn behind(gap: Gap, attributes: &[Attribute]) -> Gap
     ensures { result ≡ behind_attributes gap attributes.now }
 {
-    if attributes.is_empty() { gap } else { Gap::Space }
+    if attributes.is_empty() {
+        gap
+    } else {
+        Gap::Space
+    }
 }
 
 // Adds a mark.
@@ -82,7 +86,11 @@ pub(crate) fn marks(alloc: Global, out: &mut Vec<Piece>, marks: &[Mark]) -> Resu
 pub(crate) fn after_marks(marks: &[Mark]) -> Gap
     ensures { result ≡ behind_marks marks.now }
 {
-    if marks.is_empty() { Gap::Tight } else { Gap::Space }
+    if marks.is_empty() {
+        Gap::Tight
+    } else {
+        Gap::Space
+    }
 }
 
 /// Adds the length of a static part, where it is written.

@@ -13,3 +13,6 @@ mod rendering;
 mod wiring;
 
 pub use printing::print;
+
+#[cfg(test)]
+mod tests;

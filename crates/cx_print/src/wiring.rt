@@ -53,12 +53,7 @@ fn assigns(alloc: Global, out: &mut Vec<Piece>, items: &[AssignItem]) -> Result<
 }
 
 // Adds the words that begin a group.
-fn group_word(
-    alloc: Global,
-    out: &mut Vec<Piece>,
-    gap: Gap,
-    kind: GroupWord,
-) -> Result<(), Memory>
+fn group_word(alloc: Global, out: &mut Vec<Piece>, gap: Gap, kind: GroupWord) -> Result<(), Memory>
     ensures { OnOk result (out.new.items ≡ add_group_word gap kind out.old.items) }
 {
     match kind {
