@@ -10,3 +10,4 @@ pub mod Control
 pub mod Islands
 pub mod Calls
 pub mod Running
+pub mod Budgets

@@ -1,0 +1,3 @@
+pub mod SightsLemmas
+pub mod AnswersLemmas
+pub mod ControlLemmas
