@@ -1,1 +1,3 @@
 pub mod BitVector
+pub mod Operators
+pub mod OperatorLaws

@@ -1,7 +1,8 @@
-//! The type of a value with a width.
+//! The type of a value with a width, and its operators.
 
-ghost use Rattle.std.specs.Prelude.{◌≡◌, ◌+◌, ◌^◌, ◌<◌, ◌≤◌, ◌↔◌, IsSome, IfSome};
+ghost use Rattle.std.specs.Prelude.{◌≡◌, ◌+◌, ◌-◌, ◌%◌, ◌^◌, ◌<◌, ◌≤◌, ◌↔◌, IsSome, IfSome};
 ghost use Rattle.cx_bits.specs.BitVector.{BitVector, Fits};
+ghost use Rattle.cx_bits.specs.Operators.{sum_of, difference_of, product_of, quotient_of, remainder_of, and_of, or_of, xor_of, complement_of, left_shift_of, right_shift_of, bit_of, less_bit_of, equal_bit_of, signed_less_bit_of, low_bits_of, zero_extension_of, concatenation_of};
 
 use std::marker::Model;
 
@@ -54,4 +55,172 @@ impl Bits {
     {
         self.value
     }
+
+    /// The sum modulo two to the width.
+    pub fn add(self, other: Bits) -> Bits
+        requires { self.width ≡ other.width }
+        ensures value { result ≡ sum_of self other }
+    {
+        reduced(self.width, self.value.wrapping_add(other.value))
+    }
+
+    /// The difference modulo two to the width.
+    pub fn sub(self, other: Bits) -> Bits
+        requires { self.width ≡ other.width }
+        ensures value { result ≡ difference_of self other }
+    {
+        reduced(self.width, self.value.wrapping_sub(other.value))
+    }
+
+    /// The product modulo two to the width.
+    pub fn mul(self, other: Bits) -> Bits
+        requires { self.width ≡ other.width }
+        ensures value { result ≡ product_of self other }
+    {
+        reduced(self.width, self.value.wrapping_mul(other.value))
+    }
+
+    /// The quotient, rounded down, and the remainder. For a divisor of 0 all ones and the dividend.
+    pub fn div_rem(self, other: Bits) -> (Bits, Bits)
+        ensures quotient { result.0 ≡ quotient_of self other }
+        ensures remainder { result.1 ≡ remainder_of self other }
+    {
+        if other.value == 0 {
+            let all_ones = Bits { width: self.width, value: ones(self.width) };
+            return (all_ones, self);
+        }
+        let quotient = Bits { width: self.width, value: self.value / other.value };
+        let remainder = Bits { width: self.width, value: self.value % other.value };
+        (quotient, remainder)
+    }
+
+    /// The bits that are 1 in both.
+    pub fn and(self, other: Bits) -> Bits
+        requires { self.width ≡ other.width }
+        ensures value { result ≡ and_of self other }
+    {
+        Bits { width: self.width, value: self.value & other.value }
+    }
+
+    /// The bits that are 1 in one or both.
+    pub fn or(self, other: Bits) -> Bits
+        requires { self.width ≡ other.width }
+        ensures value { result ≡ or_of self other }
+    {
+        Bits { width: self.width, value: self.value | other.value }
+    }
+
+    /// The bits that are 1 in exactly one.
+    pub fn xor(self, other: Bits) -> Bits
+        requires { self.width ≡ other.width }
+        ensures value { result ≡ xor_of self other }
+    {
+        Bits { width: self.width, value: self.value ^ other.value }
+    }
+
+    /// Each bit turned.
+    pub fn not(self) -> Bits
+        ensures value { result ≡ complement_of self }
+    {
+        Bits { width: self.width, value: ones(self.width) - self.value }
+    }
+
+    /// Shifted left by the value of `other`, whatever its width; 0 from the own width on.
+    pub fn shl(self, other: Bits) -> Bits
+        ensures value { result ≡ left_shift_of self other }
+    {
+        if other.value >= u128::from(self.width) {
+            return Bits { width: self.width, value: 0 };
+        }
+        reduced(self.width, self.value << other.value)
+    }
+
+    /// Shifted right by the value of `other`, whatever its width; 0 from the own width on.
+    pub fn shr(self, other: Bits) -> Bits
+        ensures value { result ≡ right_shift_of self other }
+    {
+        if other.value >= u128::from(self.width) {
+            return Bits { width: self.width, value: 0 };
+        }
+        Bits { width: self.width, value: self.value >> other.value }
+    }
+
+    /// One bit: 1 where the value is below the other, both unsigned.
+    pub fn lt(self, other: Bits) -> Bits
+        ensures value { result ≡ less_bit_of self other }
+    {
+        bit(self.value < other.value)
+    }
+
+    /// One bit: 1 where the value is below the other, both in two's complement.
+    pub fn signed_lt(self, other: Bits) -> Bits
+        requires { self.width ≡ other.width }
+        ensures value { result ≡ signed_less_bit_of self other }
+    {
+        let half = 1u128 << (self.width - 1);
+        let is_negative = self.value >= half;
+        if is_negative == (other.value >= half) {
+            bit(self.value < other.value)
+        } else {
+            bit(is_negative)
+        }
+    }
+
+    /// One bit: 1 where the values are equal.
+    pub fn eq(self, other: Bits) -> Bits
+        ensures value { result ≡ equal_bit_of self other }
+    {
+        bit(self.value == other.value)
+    }
+
+    /// The low bits, `width` of them.
+    pub fn low(self, width: u8) -> Bits
+        requires some_bits { 1 ≤ width }
+        requires within { width ≤ self.width }
+        ensures value { result ≡ low_bits_of self width }
+    {
+        reduced(width, self.value)
+    }
+
+    /// The same value at a width that is no smaller: zeros above.
+    pub fn pad(self, width: u8) -> Bits
+        requires wider { self.width ≤ width }
+        requires within { width ≤ 128 }
+        ensures value { result ≡ zero_extension_of self width }
+    {
+        Bits { width, value: self.value }
+    }
+
+    /// The bits of this value above those of `low`.
+    pub fn cat(self, low: Bits) -> Bits
+        requires { self.width + low.width ≤ 128 }
+        ensures value { result ≡ concatenation_of self low }
+    {
+        Bits { width: self.width + low.width, value: (self.value << low.width) + low.value }
+    }
+}
+
+/// The value modulo two to the width.
+fn reduced(width: u8, value: u128) -> Bits
+    requires some_bits { 1 ≤ width }
+    requires few_bits { width ≤ 128 }
+    ensures { result ≡ record { width = width; value = value % 2 ^ width } }
+{
+    Bits { width, value: value & ones(width) }
+}
+
+/// The greatest value of a width: that many ones.
+fn ones(width: u8) -> u128
+    requires some_bits { 1 ≤ width }
+    requires few_bits { width ≤ 128 }
+    ensures { result ≡ 2 ^ width - 1 }
+{
+    u128::MAX >> (128 - width)
+}
+
+/// A truth value as one bit.
+fn bit(truth: bool) -> Bits
+    ensures { result ≡ bit_of truth }
+{
+    Bits { width: 1, value: u128::from(truth) }
 }

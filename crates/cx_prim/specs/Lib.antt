@@ -1,0 +1,9 @@
+pub mod PortNames
+pub mod PrimitiveNames
+pub mod CellStates
+pub mod Rows
+pub mod CombinationalRows
+pub mod RegisterRow
+pub mod MemoryRows
+pub mod PipeRows
+pub mod Table
