@@ -8,6 +8,9 @@ module _ {S F : Type 0} where
   abbrev pub idle_for : (S → S) → Meaning S F
   idle_for rest = idle_turn rest
 
+  abbrev pub stay_for : Meaning S F
+  stay_for = stay
+
   abbrev faulted : F → ℕ → Answer S F
   faulted f t = Fault f t
 
@@ -46,7 +49,7 @@ module _ {S F : Type 0} where
   pub steady_then : (first go : Meaning S F) → IsSteady first → IsSteady go → IsSteady (λ s n. then_do (first s n) n go)
   steady_then first go f g s n m le = grows_then n m le (first s n) (first s m) go go (λ s1 a b ab an bm. g s1 a b ab) (f s n m le)
 
-  pub steady_stay : IsSteady (stay {S = S} {F = F})
+  pub steady_stay : IsSteady (stay_for)
   steady_stay s n m le = (omega arith, refl)
 
   pub steady_idle : (rest : S → S) → IsSteady (idle_for rest)

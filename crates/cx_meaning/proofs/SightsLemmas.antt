@@ -1,20 +1,32 @@
 -- A port is seen as one thing.
-use Rattle.std.proofs.Common.{◌≡◌, ℕ, zero, suc, false, inl, inr, List, [], ◌∷◌, Option, refl, sym, ap, ◌∙◌, subst}
-use Rattle.cx_bits.specs.BitVector.{BitVector}
+use Rattle.std.proofs.Common.{◌≡◌, ℕ, zero, suc, Bool, true, false, inl, inr, List, [], ◌∷◌, refl, sym, ap, ◌∙◌, subst}
 use Rattle.cx_meaning.specs.declared.ports.PortRef.{PortRef}
 use Rattle.cx_meaning.specs.declared.ports.PortRef.TheVariants as ports
 use Rattle.cx_meaning.specs.declared.sights.Seen.{Seen}
 use Rattle.cx_meaning.specs.declared.sights.Seen.TheVariants.{Value, Conflict, Undefined}
 use Rattle.cx_meaning.specs.declared.ports.Comparison.{Comparison}
 use Rattle.cx_meaning.specs.Designs.{PlainGuard, Always, Atom, Negation, All, Any, Compared, Within, PlainGuards, no_guards, a_guard, PlainComponent}
-use Rattle.cx_meaning.specs.Rows.{Data, Side, Enabling, Input, Output, Registered, Row, side_of, bit_zero}
+use Rattle.cx_prim.specs.declared.ports.PortRow.{PortRow}
+use Rattle.cx_prim.specs.declared.ports.Side.{Side}
+use Rattle.cx_prim.specs.declared.ports.Side.TheVariants.{Enable, Plain, Output, Registered}
+use Rattle.cx_prim.specs.Rows.{Row}
+use Rattle.cx_meaning.specs.Rows.{side_of}
 use Rattle.cx_meaning.specs.Instances.{Instance, Node, Cells, At, Nothing, OfRow, OfInstance, part_of, cells_of, cell_at, State, under}
 use Rattle.cx_meaning.specs.Active.{Active, nothing, Acting, drivers}
 use Rattle.cx_meaning.specs.Truths.{Truth, truth_of, not_truth, and_truth, or_truth, compared}
-use Rattle.cx_meaning.specs.Sights.{Look, Below, Held, unheld, bit_of, guard_truth, all_truth, any_truth, Taken, Sources, Stopped, take_guard, taken, agreed, all_agreed, settle, target_seen, gather_one, gather, output_seen, PartPort, Go, AnInput, AnOutput, ItsDone, part_port, input_step, side_step, part_step, cell_step, step, In, GuardNames, AnyNames, IsTaken, TargetNeeds, PortIn, SideNeeds, PartNeeds, CellNeeds, Needs, Sees, by_step}
+use Rattle.cx_meaning.specs.Sights.{Look, Below, Held, unheld, bit_of, guard_truth, all_truth, any_truth, Taken, Sources, Stopped, take_guard, taken, agreed, all_agreed, settle, target_seen, gather_one, gather_port, gather, output_seen, PartPort, Go, AnInput, AnOutput, ItsDone, part_port, input_step, side_step, part_step, cell_step, step, In, GuardNames, AnyNames, IsTaken, TargetNeeds, IsWanted, SideNeeds, PartNeeds, CellNeeds, Needs, Sees, by_step}
 
 two_alike : {A B C : Type 0} (f : A → B → C) (a b : A) (x y : B) → a ≡ b → x ≡ y → f a x ≡ f b y
 two_alike f a b x y e h = ap (λ z. f z x) e ∙ ap (f b) h
+
+-- looks that agree on the wanted ports gather the same
+pub gather_alike : (look more : ℕ → Seen) (wanted : ℕ → Bool) (p : ℕ) (list : List PortRow) → ((q : ℕ) → wanted q ≡ true → look q ≡ more q) → gather look wanted p list ≡ gather more wanted p list
+gather_alike look more wanted p [] h = refl
+gather_alike look more wanted p (port ∷ list) h = one (wanted p) (h p) ∙ ap (gather_port (wanted p) p (more p)) (gather_alike look more wanted (suc p) list h)
+  where
+    one : (w : Bool) → (w ≡ true → look p ≡ more p) → gather_port w p (look p) (gather look wanted (suc p) list) ≡ gather_port w p (more p) (gather look wanted (suc p) list)
+    one true e = ap (λ x. gather_one p x (gather look wanted (suc p) list)) (e refl)
+    one false e = refl
 
 -- looks that agree on what both steps need give equal steps
 module _ (look more : Look) where
@@ -56,21 +68,17 @@ module _ (look more : Look) where
       let t = taken_alike acts (λ a q i n. h q (inl (a, i, n)) (inl (a, i, n))) in
       settle_alike u (taken look acts) (λ q i. h q (inr i) (inr (subst (λ t. IsTaken t q) t i))) ∙ ap (settle u more) t
 
-  pub gather_alike : (c : ℕ) (ps : List ℕ) → ((q : PortRef) → PortIn c ps q → look q ≡ more q) → gather look c ps ≡ gather more c ps
-  gather_alike c [] h = refl
-  gather_alike c (p ∷ ps) h =
-      ap (λ x. gather_one p x (gather look c ps)) (h (ports.Cell c p) (p, inl refl, refl))
-      ∙ ap (gather_one p (more (ports.Cell c p))) (gather_alike c ps (λ q n. h q (n.0, inr n.1, n.2)))
-
   module _ (part : PlainComponent) (act : Active) (s : State) (below beneath : Below) where
     abbrev AgreeOn : (PortRef → Type 0) → (PortRef → Type 0) → Type 0
     AgreeOn N M = (q : PortRef) → N q → M q → look q ≡ more q
 
-    side_alike : (output : ℕ → Data → List BitVector → Option BitVector) (c p : ℕ) (side : Side) → AgreeOn (SideNeeds part act look c p side) (SideNeeds part act more c p side) → side_step part act s look below output c p side ≡ side_step part act s more beneath output c p side
-    side_alike output c p Enabling h = target_alike (bit_of false) (drivers part act (ports.Cell c p)) h
-    side_alike output c p Input h = target_alike Undefined (drivers part act (ports.Cell c p)) h
-    side_alike output c p (Output reads) h = ap (output_seen (output p (s (c ∷ [])))) (gather_alike c reads (λ q n. h q n n))
-    side_alike output c p Registered h = refl
+    side_alike : (row : Row) (c p : ℕ) (side : Side) → AgreeOn (SideNeeds part act look row c p side) (SideNeeds part act more row c p side) → side_step part act s look below row c p side ≡ side_step part act s more beneath row c p side
+    side_alike row c p Enable h = target_alike (bit_of false) (drivers part act (ports.Cell c p)) h
+    side_alike row c p Plain h = target_alike Undefined (drivers part act (ports.Cell c p)) h
+    side_alike row c p Output h =
+        ap (output_seen (λ inputs. row.output (s (c ∷ [])) inputs p))
+        (gather_alike (λ q. look (ports.Cell c q)) (λ q. more (ports.Cell c q)) (row.reads p) 0 row.ports (λ q w. h (ports.Cell c q) (q, w, refl) (q, w, refl)))
+    side_alike row c p Registered h = refl
 
     part_alike : (c p : ℕ) (port : PartPort) → ((n : ℕ) → below c n ≡ beneath c n) → AgreeOn (PartNeeds part act look c p port) (PartNeeds part act more c p port) → part_step part act s look below c p port ≡ part_step part act s more beneath c p port
     part_alike c p Go b h = target_alike (bit_of false) (drivers part act (ports.Cell c p)) h
@@ -80,7 +88,7 @@ module _ (look more : Look) where
 
     cell_alike : (c p : ℕ) (at : At) → ((n : ℕ) (child : Instance) → at ≡ OfInstance child → below c n ≡ beneath c n) → AgreeOn (CellNeeds part act look c p at) (CellNeeds part act more c p at) → cell_step part act s look below c p at ≡ cell_step part act s more beneath c p at
     cell_alike c p Nothing b h = refl
-    cell_alike c p (OfRow row) b h = side_alike row.output c p (side_of row p) h
+    cell_alike c p (OfRow row) b h = side_alike row c p (side_of row p) h
     cell_alike c p (OfInstance child) b h = part_alike c p (part_port (part_of child) p) (λ n. b n child refl) h
 
   pub step_alike : (i : Instance) (held : Held) (act : Active) (s : State) (below beneath : Below) (p : PortRef)

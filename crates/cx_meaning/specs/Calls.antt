@@ -6,7 +6,8 @@ use Rattle.cx_meaning.specs.declared.sights.FaultKind.TheVariants as faults
 use Rattle.cx_meaning.specs.declared.kinds.GroupKind.{GroupKind}
 use Rattle.cx_meaning.specs.declared.kinds.GroupKind.TheVariants as kinds
 use Rattle.cx_meaning.specs.Designs.{PlainAssign, PlainComponent, group_at, Enable}
-use Rattle.cx_meaning.specs.Rows.{Side, Enabling, Input, Output, Registered, side_of}
+use Rattle.cx_prim.specs.Rows.{is_enable_side}
+use Rattle.cx_meaning.specs.Rows.{side_of}
 use Rattle.cx_meaning.specs.Truths.{Truth, One, Zero, Clash, Unknown, truth_of}
 use Rattle.cx_meaning.specs.Instances.{Instance, Cells, At, Nothing, OfRow, OfInstance, cell_at, part_of, cells_of, State, under, put, idle}
 use Rattle.cx_meaning.specs.Active.{nothing, group, comb, capture}
@@ -58,15 +59,9 @@ called_in cells (a ∷ rest) = called_by cells a.target (called_in cells rest)
 abbrev pub called : Instance → ℕ → Option ℕ
 called i g = called_in (cells_of i) (group_at (part_of i) g).assigns
 
-abbrev pub is_enabling_side : Side → Bool
-is_enabling_side Enabling = true
-is_enabling_side Input = false
-is_enabling_side (Output reads) = false
-is_enabling_side Registered = false
-
 abbrev pub enables_at : At → ℕ → Bool
 enables_at Nothing p = false
-enables_at (OfRow row) p = is_enabling_side (side_of row p)
+enables_at (OfRow row) p = is_enable_side (side_of row p)
 enables_at (OfInstance child) p = false
 
 abbrev pub enables_primitive : Cells → PortRef → Bool

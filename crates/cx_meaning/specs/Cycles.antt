@@ -1,16 +1,18 @@
 -- A cycle of an instance under an active set: the next state, or exactly its fault.
-use Rattle.std.specs.Prelude.{ℕ, zero, suc, Bool, true, false, List, [], ◌∷◌, Option, Some, None, if◌then◌else◌}
-use Rattle.cx_bits.specs.BitVector.{BitVector}
+use Rattle.std.specs.Prelude.{ℕ, zero, suc, ◌||◌, Bool, true, false, List, [], ◌∷◌, Option, Some, None, Result, Ok, Err, if◌then◌else◌}
 use Rattle.cx_meaning.specs.declared.ports.PortRef.{PortRef}
 use Rattle.cx_meaning.specs.declared.ports.PortRef.TheVariants as ports
 use Rattle.cx_meaning.specs.declared.sights.Seen.{Seen}
 use Rattle.cx_meaning.specs.declared.sights.Seen.TheVariants as sights
 use Rattle.cx_meaning.specs.declared.sights.FaultKind.{FaultKind}
 use Rattle.cx_meaning.specs.declared.sights.FaultKind.TheVariants as faults
-use Rattle.cx_meaning.specs.Rows.{Data, Row, Edge, Steps, OutOfRange, enabling_of}
+use Rattle.cx_prim.specs.declared.ports.Side.{Side}
+use Rattle.cx_prim.specs.CellStates.{CellState}
+use Rattle.cx_prim.specs.Rows.{Inputs, Row, edge, is_enable_side}
+use Rattle.cx_meaning.specs.Rows.{side_of}
 use Rattle.cx_meaning.specs.Instances.{Instance, Node, Cells, no_cells, a_primitive, an_instance, cells_of, Path, State, Set}
 use Rattle.cx_meaning.specs.Active.{Active}
-use Rattle.cx_meaning.specs.Sights.{Look, Held, seen, Gathered, Values, Lacks, gather}
+use Rattle.cx_meaning.specs.Sights.{Look, Held, seen, Gathered, Given, Lacks, gather}
 
 -- a fault: its kind, the path of the instance, and the port
 pub record Fault : Type 0 where
@@ -30,25 +32,32 @@ fault_at kind port = record { kind = kind; path = []; port = port }
 
 -- what a cell comes to: its next state, or a port of it that is a fault
 pub data Outcome : Type 0 where
-  Next : (after : Data) → Outcome
+  Next : (after : CellState) → Outcome
   Stops : (kind : FaultKind) (port : ℕ) → Outcome
 
-abbrev pub after_edge : Edge → Outcome
-after_edge (Steps after) = Next after
-after_edge (OutOfRange port) = Stops faults.Range port
+abbrev pub after_edge : Result CellState ℕ → Outcome
+after_edge (Ok after) = Next after
+after_edge (Err port) = Stops faults.Range port
 
-abbrev pub after_data : Row → Data → List BitVector → Gathered → Outcome
-after_data row d enables (Values values) = after_edge (row.edge d enables values)
-after_data row d enables (Lacks p x) = Stops (kind_of x) p
+abbrev pub after_data : Row → CellState → Gathered → Outcome
+after_data row state (Given inputs) = after_edge (edge row state inputs)
+after_data row state (Lacks p x) = Stops (kind_of x) p
 
-abbrev pub after_enabling : Look → ℕ → Row → Data → Gathered → Outcome
-after_enabling look c row d (Values enables) = after_data row d enables (gather look c (row.demands d enables))
-after_enabling look c row d (Lacks p x) = Stops (kind_of x) p
+abbrev pub enables : Row → ℕ → Bool
+enables row p = is_enable_side (side_of row p)
+
+-- the enabling ports, and the ports that the row demands at their values
+abbrev pub looks_at : Row → CellState → Inputs → ℕ → Bool
+looks_at row state enabling p = enables row p || row.demands state enabling p
+
+abbrev pub after_enabling : (ℕ → Seen) → Row → CellState → Gathered → Outcome
+after_enabling look row state (Given enabling) = after_data row state (gather look (looks_at row state enabling) 0 row.ports)
+after_enabling look row state (Lacks p x) = Stops (kind_of x) p
 
 -- A CELL IN A CYCLE: its enabling ports are seen in port order, then the data ports that its row demands at their values,
 -- then the row compares each address with its size
-abbrev pub cell_outcome : Look → ℕ → Row → Data → Outcome
-cell_outcome look c row d = after_enabling look c row d (gather look c (enabling_of row))
+abbrev pub cell_outcome : Look → ℕ → Row → CellState → Outcome
+cell_outcome look c row state = after_enabling (λ p. look (ports.Cell c p)) row state (gather (λ p. look (ports.Cell c p)) (enables row) 0 row.ports)
 
 abbrev pub first_of : ℕ → Outcome → Option Fault → Option Fault
 first_of c (Next after) later = later
@@ -67,12 +76,12 @@ first_fault listed look s (a_primitive row rest) c =
     (first_fault listed look s rest (suc c))
 first_fault listed look s (an_instance child rest) c = first_fault listed look s rest (suc c)
 
-abbrev pub stepped : Data → Outcome → Data
+abbrev pub stepped : CellState → Outcome → CellState
 stepped d (Next after) = after
 stepped d (Stops kind p) = d
 
 -- a listed cell after its step; c is the number that counts, at is the cell's place in the rest of the list
-abbrev pub cell_after : Set → Look → ℕ → Cells → ℕ → Data → Data
+abbrev pub cell_after : Set → Look → ℕ → Cells → ℕ → CellState → CellState
 cell_after listed look c no_cells at d = d
 cell_after listed look c (a_primitive row rest) zero d = if listed c then stepped d (cell_outcome look c row d) else d
 cell_after listed look c (a_primitive row rest) (suc at) d = cell_after listed look c rest at d

@@ -1,6 +1,7 @@
 -- A design as plain data: what the types of a design stand for, without where they lie in memory. Numbers name parts.
 use Rattle.std.specs.Prelude.{ℕ, Bool, List, [], ◌∷◌, Option, None, get_or}
 use Rattle.cx_text.specs.declared.places.Place.{Place}
+use Rattle.cx_prim.specs.Table.{PrimitiveRow}
 use Rattle.cx_meaning.specs.declared.ports.PortRef.{PortRef}
 use Rattle.cx_meaning.specs.declared.ports.PlacedPort.{PlacedPort}
 use Rattle.cx_meaning.specs.declared.ports.Comparison.{Comparison}
@@ -39,7 +40,7 @@ pub record PlainGroup : Type 0 where
 
 -- what a cell is of: a primitive, which is a name and numbers, or a component, by its number
 pub data PlainKind : Type 0 where
-  OfPrimitive : (name : List ℕ) (numbers : List ℕ) → PlainKind
+  OfPrimitive : (primitive : PrimitiveRow) → PlainKind
   OfComponent : (component : ℕ) → PlainKind
 
 pub record PlainCell : Type 0 where

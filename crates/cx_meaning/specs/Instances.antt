@@ -1,6 +1,9 @@
 -- The instance tree of a design, and its states.
-use Rattle.std.specs.Prelude.{◌≡◌, ℕ, zero, suc, ◌+◌, ◌<◌, Bool, true, false, List, [], ◌∷◌, ◌++◌, length, map, flat_map, get_or, if◌then◌else◌}
-use Rattle.cx_meaning.specs.Rows.{Data, Row}
+use Rattle.std.specs.Prelude.{◌≡◌, ℕ, zero, suc, Bool, true, false, List, [], ◌∷◌, ◌++◌, length, map, if◌then◌else◌}
+use Rattle.cx_prim.specs.CellStates.{CellState, Stateless}
+use Rattle.cx_prim.specs.CellStates as cell_states
+use Rattle.cx_prim.specs.Rows.{Row}
+use Rattle.cx_prim.specs.Table.{row_of}
 use Rattle.cx_meaning.specs.Designs.{PlainKind, OfPrimitive, OfComponent, PlainCell, PlainComponent, PlainDesign, component_at, no_component}
 
 -- an instance: its component, and for each of its cells, in cell order, the row of the primitive or an instance of the component
@@ -32,30 +35,30 @@ cell_at (a_primitive row rest) (suc c) = cell_at rest c
 cell_at (an_instance child rest) zero = OfInstance child
 cell_at (an_instance child rest) (suc c) = cell_at rest c
 
--- THE INSTANCE TREE. rows gives each primitive, a name and numbers, its row
-abbrev pub add_cell : (List ℕ → List ℕ → Row) → (ℕ → Instance) → PlainKind → Cells → Cells
-add_cell rows child (OfPrimitive name numbers) rest = a_primitive (rows name numbers) rest
-add_cell rows child (OfComponent k) rest = an_instance (child k) rest
+-- THE INSTANCE TREE: a primitive cell has its row, and a component cell an instance
+abbrev pub add_cell : (ℕ → Instance) → PlainKind → Cells → Cells
+add_cell child (OfPrimitive primitive) rest = a_primitive (row_of primitive) rest
+add_cell child (OfComponent k) rest = an_instance (child k) rest
 
-abbrev pub cells_for : (List ℕ → List ℕ → Row) → (ℕ → Instance) → List PlainCell → Cells
-cells_for rows child [] = no_cells
-cells_for rows child (c ∷ cs) = add_cell rows child c.kind (cells_for rows child cs)
+abbrev pub cells_for : (ℕ → Instance) → List PlainCell → Cells
+cells_for child [] = no_cells
+cells_for child (c ∷ cs) = add_cell child c.kind (cells_for child cs)
 
 -- the tree below a component, at most so many levels deep
-abbrev pub tree_within : (List ℕ → List ℕ → Row) → PlainDesign → ℕ → ℕ → Instance
-tree_within rows d zero k = Node no_component no_cells
-tree_within rows d (suc n) k = Node (component_at d k) (cells_for rows (tree_within rows d n) (component_at d k).cells)
+abbrev pub tree_within : PlainDesign → ℕ → ℕ → Instance
+tree_within d zero k = Node no_component no_cells
+tree_within d (suc n) k = Node (component_at d k) (cells_for (tree_within d n) (component_at d k).cells)
 
 -- no cell of a design leads back to its component, so no tree has more levels than there are components
-abbrev pub tree_of : (List ℕ → List ℕ → Row) → PlainDesign → Instance
-tree_of rows d = tree_within rows d (length d.components) d.main
+abbrev pub tree_of : PlainDesign → Instance
+tree_of d = tree_within d (length d.components) d.main
 
 -- a path names a cell: the numbers of the cells that lead from an instance to it. A state gives each primitive cell its state
 abbrev pub Path : Type 0
 Path = List ℕ
 
 abbrev pub State : Type 0
-State = Path → Data
+State = Path → CellState
 
 -- the state of the child at a cell
 abbrev pub under : ℕ → State → State
@@ -112,11 +115,11 @@ abbrev mutual
 
 -- every cell in the idle edge of its row
 abbrev mutual
-  pub idle_at : Instance → Path → Data → Data
+  pub idle_at : Instance → Path → CellState → CellState
   idle_at (Node part cells) [] d = d
   idle_at (Node part cells) (c ∷ path) d = idle_below cells c path d
 
-  pub idle_below : Cells → ℕ → Path → Data → Data
+  pub idle_below : Cells → ℕ → Path → CellState → CellState
   idle_below no_cells c path d = d
   idle_below (a_primitive row rest) zero [] d = row.idle d
   idle_below (a_primitive row rest) zero (e ∷ path) d = d
@@ -133,12 +136,12 @@ IsSettled i s = (path : Path) → idle i s path ≡ s path
 
 -- every cell at its row's start
 abbrev mutual
-  pub start_at : Instance → Path → Data
-  start_at (Node part cells) [] = record { numbers = []; words = [] }
+  pub start_at : Instance → Path → CellState
+  start_at (Node part cells) [] = Stateless
   start_at (Node part cells) (c ∷ path) = start_below cells c path
 
-  pub start_below : Cells → ℕ → Path → Data
-  start_below no_cells c path = record { numbers = []; words = [] }
+  pub start_below : Cells → ℕ → Path → CellState
+  start_below no_cells c path = Stateless
   start_below (a_primitive row rest) zero path = row.start
   start_below (a_primitive row rest) (suc c) path = start_below rest c path
   start_below (an_instance child rest) zero path = start_at child path
@@ -157,17 +160,17 @@ abbrev pub externals_of : PlainComponent → List ℕ
 externals_of part = externals_from 0 part.cells
 
 -- the words that stand for a cell in a list for the external memories, or none of the list
-abbrev pub with_words : List ℕ → List (List ℕ) → ℕ → Data → Data
-with_words [] words c d = d
-with_words (e ∷ es) [] c d = d
-with_words (e ∷ es) (w ∷ ws) c d = if just e c then record d { words = w } else with_words es ws c d
+abbrev pub loaded_at : List ℕ → List (List ℕ) → ℕ → CellState → CellState
+loaded_at [] words c d = d
+loaded_at (e ∷ es) [] c d = d
+loaded_at (e ∷ es) (w ∷ ws) c d = if just e c then cell_states.with_words w d else loaded_at es ws c d
 
 -- START: every cell at its row's start, but the external memories of main with the loaded words
 abbrev pub start : Instance → List (List ℕ) → State
 start i words [] = start_at i []
-start i words (c ∷ []) = with_words (externals_of (part_of i)) words c (start_at i (c ∷ []))
+start i words (c ∷ []) = loaded_at (externals_of (part_of i)) words c (start_at i (c ∷ []))
 start i words (c ∷ e ∷ path) = start_at i (c ∷ e ∷ path)
 
 -- the words of the external memories
 abbrev pub words_of : Instance → State → List (List ℕ)
-words_of i s = map (λ c. (s (c ∷ [])).words) (externals_of (part_of i))
+words_of i s = map (λ c. cell_states.words_of (s (c ∷ []))) (externals_of (part_of i))

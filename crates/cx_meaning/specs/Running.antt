@@ -1,7 +1,6 @@
 -- The run of a design: the leaves of control in an instance, the control of an instance, and that of main.
 use Rattle.std.specs.Prelude.{ℕ, zero, suc, List}
 use Rattle.cx_meaning.specs.Designs.{PlainStatement, PlainDesign}
-use Rattle.cx_meaning.specs.Rows.{Row}
 use Rattle.cx_meaning.specs.Instances.{Instance, Node, Cells, no_cells, a_primitive, an_instance, part_of, tree_of, State, idle, merge, start}
 use Rattle.cx_meaning.specs.Sights.{Held, unheld}
 use Rattle.cx_meaning.specs.Cycles.{Fault}
@@ -46,6 +45,6 @@ abbrev mutual
 abbrev pub run_statement : Instance → Held → PlainStatement → Meaning State Fault
 run_statement (Node part cells) held statement s n = run (leaves (Node part cells) (control_below cells) held) statement s n
 
--- RUN OF MAIN, from the start with the loaded words; rows gives each primitive its row
-abbrev pub run_main : (List ℕ → List ℕ → Row) → PlainDesign → List (List ℕ) → ℕ → Answer State Fault
-run_main rows d words n = run_control (tree_of rows d) unheld (start (tree_of rows d) words) n
+-- RUN OF MAIN, from the start with the loaded words
+abbrev pub run_main : PlainDesign → List (List ℕ) → ℕ → Answer State Fault
+run_main d words n = run_control (tree_of d) unheld (start (tree_of d) words) n

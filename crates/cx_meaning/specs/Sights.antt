@@ -7,7 +7,12 @@ use Rattle.cx_meaning.specs.declared.ports.PlacedPort.{PlacedPort}
 use Rattle.cx_meaning.specs.declared.sights.Seen.{Seen}
 use Rattle.cx_meaning.specs.declared.sights.Seen.TheVariants.{Value, Conflict, Undefined}
 use Rattle.cx_meaning.specs.Designs.{PlainGuard, Always, Atom, Negation, All, Any, Compared, Within, PlainGuards, no_guards, a_guard, PlainComponent}
-use Rattle.cx_meaning.specs.Rows.{Data, Side, Enabling, Input, Output, Registered, Row, side_of, bit_zero}
+use Rattle.cx_prim.specs.declared.ports.PortRow.{PortRow}
+use Rattle.cx_prim.specs.declared.ports.Side.{Side}
+use Rattle.cx_prim.specs.declared.ports.Side.TheVariants.{Enable, Plain, Output, Registered}
+use Rattle.cx_prim.specs.CellStates.{CellState}
+use Rattle.cx_prim.specs.Rows.{Inputs, Row}
+use Rattle.cx_meaning.specs.Rows.{side_of}
 use Rattle.cx_meaning.specs.Instances.{Instance, Node, Cells, no_cells, a_primitive, an_instance, At, Nothing, OfRow, OfInstance, part_of, cells_of, cell_at, State, under}
 use Rattle.cx_meaning.specs.Active.{Active, nothing, Acting, drivers}
 use Rattle.cx_meaning.specs.Truths.{Truth, One, Zero, Clash, Unknown, truth_of_bit, truth_of, not_truth, and_truth, or_truth, compared}
@@ -29,7 +34,7 @@ unheld input = Undefined
 
 abbrev pub bit_of : Bool → Seen
 bit_of true = Value (record { width = 1; value = 1 })
-bit_of false = Value bit_zero
+bit_of false = Value (record { width = 1; value = 0 })
 
 -- GUARDS, at an offset of their group
 abbrev mutual
@@ -90,31 +95,36 @@ settle undriven look (Sources (source ∷ rest)) = all_agreed look source rest
 abbrev pub target_seen : Seen → Look → List Acting → Seen
 target_seen undriven look acts = settle undriven look (taken look acts)
 
--- PORTS OF A CELL IN ORDER: their values, or the first of them that is no value
+-- PORTS OF A CELL: what stands at its ports, in order, where the wanted ones are values and nothing stands at the others;
+-- or the first wanted port, in port order, that is no value
 pub data Gathered : Type 0 where
-  Values : (values : List BitVector) → Gathered
+  Given : (inputs : Inputs) → Gathered
   Lacks : (port : ℕ) (seen : Seen) → Gathered
 
-abbrev pub with_value : BitVector → Gathered → Gathered
-with_value b (Values rest) = Values (b ∷ rest)
-with_value b (Lacks p x) = Lacks p x
+abbrev pub with_entry : Option BitVector → Gathered → Gathered
+with_entry entry (Given rest) = Given (entry ∷ rest)
+with_entry entry (Lacks p x) = Lacks p x
 
 abbrev pub gather_one : ℕ → Seen → Gathered → Gathered
-gather_one p (Value b) rest = with_value b rest
+gather_one p (Value b) rest = with_entry (Some b) rest
 gather_one p Conflict rest = Lacks p Conflict
 gather_one p Undefined rest = Lacks p Undefined
 
-abbrev pub gather : Look → ℕ → List ℕ → Gathered
-gather look c [] = Values []
-gather look c (p ∷ ps) = gather_one p (look (ports.Cell c p)) (gather look c ps)
+abbrev pub gather_port : Bool → ℕ → Seen → Gathered → Gathered
+gather_port true p x rest = gather_one p x rest
+gather_port false p x rest = with_entry None rest
+
+abbrev pub gather : (ℕ → Seen) → (ℕ → Bool) → ℕ → List PortRow → Gathered
+gather look wanted p [] = Given []
+gather look wanted p (port ∷ ports) = gather_port (wanted p) p (look p) (gather look wanted (suc p) ports)
 
 -- OUTPUTS OF A PRIMITIVE: by its row over the inputs that it reads; the first that is no value decides, and an address out of range gives Undefined
 abbrev pub of_option : Option BitVector → Seen
 of_option None = Undefined
 of_option (Some b) = Value b
 
-abbrev pub output_seen : (List BitVector → Option BitVector) → Gathered → Seen
-output_seen f (Values values) = of_option (f values)
+abbrev pub output_seen : (Inputs → Option BitVector) → Gathered → Seen
+output_seen f (Given inputs) = of_option (f inputs)
 output_seen f (Lacks p x) = x
 
 -- PORTS OF A COMPONENT CELL: go, the inputs, the outputs, done
@@ -144,11 +154,11 @@ module _ (part : PlainComponent) (act : Active) (s : State) (look : Look) (below
   abbrev pub input_step : Seen → ℕ → ℕ → Seen
   input_step undriven c p = target_seen undriven look (drivers part act (ports.Cell c p))
 
-  abbrev pub side_step : (ℕ → Data → List BitVector → Option BitVector) → ℕ → ℕ → Side → Seen
-  side_step output c p Enabling = input_step (bit_of false) c p
-  side_step output c p Input = input_step Undefined c p
-  side_step output c p (Output reads) = output_seen (output p (s (c ∷ []))) (gather look c reads)
-  side_step output c p Registered = of_option (output p (s (c ∷ [])) [])
+  abbrev pub side_step : Row → ℕ → ℕ → Side → Seen
+  side_step row c p Enable = input_step (bit_of false) c p
+  side_step row c p Plain = input_step Undefined c p
+  side_step row c p Output = output_seen (λ inputs. row.output (s (c ∷ [])) inputs p) (gather (λ q. look (ports.Cell c q)) (row.reads p) 0 row.ports)
+  side_step row c p Registered = of_option (row.output (s (c ∷ [])) [] p)
 
   -- an output of a component cell is what the child gives; its done is 0 but in the capture cycle
   abbrev pub part_step : ℕ → ℕ → PartPort → Seen
@@ -159,7 +169,7 @@ module _ (part : PlainComponent) (act : Active) (s : State) (look : Look) (below
 
   abbrev pub cell_step : ℕ → ℕ → At → Seen
   cell_step c p Nothing = Undefined
-  cell_step c p (OfRow row) = side_step row.output c p (side_of row p)
+  cell_step c p (OfRow row) = side_step row c p (side_of row p)
   cell_step c p (OfInstance child) = part_step c p (part_port (part_of child) p)
 
 abbrev pub step : Instance → Held → Active → State → Look → Below → PortRef → Seen
@@ -195,15 +205,16 @@ IsTaken (Sources sources) q = In sources q
 abbrev pub TargetNeeds : Look → List Acting → PortRef → Type 0
 TargetNeeds look acts q = ((a : Acting) × In acts a × GuardNames a.assign.guard q) ⊎ IsTaken (taken look acts) q
 
-abbrev pub PortIn : ℕ → List ℕ → PortRef → Type 0
-PortIn c ps q = (p : ℕ) × In ps p × (ports.Cell c p ≡ q)
+-- a wanted port of a cell
+abbrev pub IsWanted : ℕ → (ℕ → Bool) → PortRef → Type 0
+IsWanted c wanted q = (p : ℕ) × (wanted p ≡ true) × (ports.Cell c p ≡ q)
 
 module _ (part : PlainComponent) (act : Active) (look : Look) where
-  abbrev pub SideNeeds : ℕ → ℕ → Side → PortRef → Type 0
-  SideNeeds c p Enabling q = TargetNeeds look (drivers part act (ports.Cell c p)) q
-  SideNeeds c p Input q = TargetNeeds look (drivers part act (ports.Cell c p)) q
-  SideNeeds c p (Output reads) q = PortIn c reads q
-  SideNeeds c p Registered q = ⊥
+  abbrev pub SideNeeds : Row → ℕ → ℕ → Side → PortRef → Type 0
+  SideNeeds row c p Enable q = TargetNeeds look (drivers part act (ports.Cell c p)) q
+  SideNeeds row c p Plain q = TargetNeeds look (drivers part act (ports.Cell c p)) q
+  SideNeeds row c p Output q = IsWanted c (row.reads p) q
+  SideNeeds row c p Registered q = ⊥
 
   abbrev pub PartNeeds : ℕ → ℕ → PartPort → PortRef → Type 0
   PartNeeds c p Go q = TargetNeeds look (drivers part act (ports.Cell c p)) q
@@ -213,7 +224,7 @@ module _ (part : PlainComponent) (act : Active) (look : Look) where
 
   abbrev pub CellNeeds : ℕ → ℕ → At → PortRef → Type 0
   CellNeeds c p Nothing q = ⊥
-  CellNeeds c p (OfRow row) q = SideNeeds c p (side_of row p) q
+  CellNeeds c p (OfRow row) q = SideNeeds row c p (side_of row p) q
   CellNeeds c p (OfInstance child) q = PartNeeds c p (part_port (part_of child) p) q
 
 abbrev pub Needs : Instance → Active → Look → PortRef → PortRef → Type 0

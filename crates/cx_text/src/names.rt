@@ -1,6 +1,6 @@
 //! Names: of components, cells, groups and ports, of modules and nets, and of files.
 
-ghost use Rattle.std.specs.Prelude.{◌≡◌, IfOk};
+ghost use Rattle.std.specs.Prelude.{◌≡◌, ◌↔◌, IfOk, IsTrue};
 
 use crate::memory::Memory;
 use std::alloc::Global;
@@ -49,7 +49,9 @@ impl PartialEq for Name {
 
     ghost laws = { Prim.search (comparing, rules) };
 
-    fn eq(&self, other: &Name) -> bool {
+    fn eq(&self, other: &Name) -> bool
+        ensures same { IsTrue result ↔ (self.now ≡ other.now) }
+    {
         self.bytes.as_slice() == other.bytes.as_slice()
     }
 }

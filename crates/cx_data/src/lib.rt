@@ -1,0 +1,9 @@
+//! The data file, which gives the external memories their words, and the dump of the words at the end of a run.
+#![tactic(auto)]
+
+mod dumping;
+mod faults;
+mod lists;
+
+pub use dumping::dump;
+pub use faults::DataFault;

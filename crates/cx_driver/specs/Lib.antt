@@ -1,0 +1,4 @@
+pub mod Commands
+pub mod Dumps
+pub mod Causes
+pub mod Asked

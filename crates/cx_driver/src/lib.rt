@@ -1,0 +1,14 @@
+//! The top call: from the words of a command line and the files that they name to what is written.
+#![tactic(auto)]
+
+mod commands;
+mod interpreting;
+mod messages;
+mod refusals;
+mod running;
+mod stops;
+
+pub use interpreting::interp;
+pub use refusals::Status;
+pub use running::run;
+pub use stops::Stop;

@@ -1,0 +1,60 @@
+//! How a call of the program ends, and what it says where it ends without an answer.
+
+use crate::stops::Stop;
+use cx_outside::FileAnswer;
+use cx_text::Memory;
+
+/// How the program ends. The numbers are the exit statuses.
+#[derive(Clone, Copy, Debug, PartialEq, Eq)]
+pub enum Status {
+    /// The whole answer was written.
+    Done = 0,
+    /// The words spell no command.
+    Words = 1,
+    /// A file is over its limit, or what it holds is refused.
+    Refused = 2,
+    /// The budget does not suffice.
+    More = 3,
+    /// The run has a fault.
+    Fault = 4,
+    /// A file could not be read.
+    ReadFault = 5,
+    /// The answer could not be written whole.
+    WriteFault = 6,
+    /// An allocation was refused.
+    Memory = 7,
+}
+
+/// Why a command has no answer. File names are lent from the words.
+#[derive(Debug, Drop)]
+pub(crate) enum Refusal<'a> {
+    Words,
+    /// More bytes than the file may have.
+    TooLong { file: &'a [u8], seen: u64 },
+    ReadFault { file: &'a [u8] },
+    Stop(Stop),
+}
+
+impl Refusal<'_> {
+    /// The status with which the program ends.
+    pub(crate) fn status(&self) -> Status {
+        match self {
+            Refusal::Words => Status::Words,
+            Refusal::TooLong { .. } | Refusal::Stop(Stop::Rule(_) | Stop::Json(_)) => {
+                Status::Refused
+            }
+            Refusal::Stop(Stop::More(_)) => Status::More,
+            Refusal::ReadFault { .. } => Status::ReadFault,
+            Refusal::Stop(Stop::Memory) => Status::Memory,
+        }
+    }
+
+    /// What is told of a file that was not read.
+    pub(crate) fn of_file<'a>(file: &'a [u8], answer: FileAnswer) -> Refusal<'a> {
+        match answer {
+            FileAnswer::Failed => Refusal::ReadFault { file },
+            FileAnswer::TooLong(seen) => Refusal::TooLong { file, seen },
+            FileAnswer::Memory => Refusal::Stop(Stop::Memory),
+        }
+    }
+}

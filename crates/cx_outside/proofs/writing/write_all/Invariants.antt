@@ -1,0 +1,11 @@
+use Rattle.std.proofs.Common.{length, take, ◌-◌, ◌≡◌, ◌≤◌}
+use Rattle.cx_outside.specs.Writing.{grown}
+use Rattle.cx_outside.proofs.writing.write_all.Given as goal
+
+abbrev pub invariant-loop-done : goal.invariant-loop-done
+invariant-loop-done g l =
+    (l.done ≤ length l.bytes) × (g.S.Sink.written l.sink ≡ grown (g.S.Sink.written l.fn.sink) (take l.done l.bytes))
+    × (g.S.Sink.faults l.fn.sink ≤ g.S.Sink.faults l.sink)
+
+abbrev pub decreases-loop-done : goal.decreases-loop-done
+decreases-loop-done g l = length l.bytes - l.done

@@ -1,0 +1,6 @@
+pub mod Counts
+pub mod Reading
+pub mod Writing
+pub mod InMemory
+pub mod MemoryReads
+pub mod Edge
