@@ -4,10 +4,31 @@ use Rattle.std.proofs.lemmas.Bool.{le-leb, lt-leb}
 use Rattle.cx_meaning.specs.Answers.{Answer, End, Fault, More, Meaning, after_turns, then_do, stay, idle_turn, Turn, Ends, Goes, Faults, turn_then, one_turn, turns_of, Test, Holds, Fails, Unclear, chosen, test_turn, loop, loop_of, rounds, both}
 use Rattle.cx_meaning.specs.Budgets.{Beyond, Grows, IsSteady, TakesTurns, Leaves}
 
-module _ {S F : Type 0} where
-  abbrev pub idle_for : (S → S) → Meaning S F
-  idle_for rest = idle_turn rest
+pub steady_idle : (S F : Type 0) (rest : S → S) → IsSteady {S = S} {F = F} (idle_turn rest)
+steady_idle S F rest s zero zero le = tt
+steady_idle S F rest s zero (suc m) le = omega arith
+steady_idle S F rest s (suc n) zero le = absurd (omega arith)
+steady_idle S F rest s (suc n) (suc m) le = (omega arith, refl)
 
+pub takes_idle : (S F : Type 0) (rest : S → S) (s : S) (n : ℕ) → TakesTurns {S = S} {F = F} (idle_turn rest s n)
+takes_idle S F rest s zero = tt
+takes_idle S F rest s (suc n) = omega arith
+
+pub leaves_idle : (S F : Type 0) (P : S → Type 0) (rest : S → S) → ((s : S) → P (rest s)) → (s : S) (n : ℕ) → Leaves {S = S} {F = F} P (idle_turn rest s n)
+leaves_idle S F P rest rests s zero = tt
+leaves_idle S F P rest rests s (suc n) = rests s
+
+abbrev a_fault : (S F : Type 0) → F → ℕ → Answer S F
+a_fault S F f t = Fault f t
+
+earlier_beyond : (S F : Type 0) (n t u : ℕ) (f g : F) → n ≤ t → n ≤ u → Beyond n (if nat_le t u then a_fault S F f t else Fault g u)
+earlier_beyond S F n t u f g h k = go (nat_le t u)
+  where
+    go : (b : Bool) → Beyond n (if b then a_fault S F f t else Fault g u)
+    go true = h
+    go false = k
+
+module _ {S F : Type 0} where
   abbrev pub stay_for : Meaning S F
   stay_for = stay
 
@@ -52,13 +73,7 @@ module _ {S F : Type 0} where
   pub steady_stay : IsSteady (stay_for)
   steady_stay s n m le = (omega arith, refl)
 
-  pub steady_idle : (rest : S → S) → IsSteady (idle_for rest)
-  steady_idle rest s zero zero le = tt
-  steady_idle rest s zero (suc m) le = omega arith
-  steady_idle rest s (suc n) zero le = absurd (omega arith)
-  steady_idle rest s (suc n) (suc m) le = (omega arith, refl)
-
-  turn_beyond : (rest : S → S) (s : S) (turn : Turn S F) (go : S → Answer S F) → Beyond 0 (turn_then rest s turn go)
+  pub turn_beyond : (rest : S → S) (s : S) (turn : Turn S F) (go : S → Answer S F) → Beyond 0 (turn_then rest s turn go)
   turn_beyond rest s Ends go = omega arith
   turn_beyond rest s (Goes after) go = after_beyond 0 1 (go after) (omega arith)
   turn_beyond rest s (Faults fault) go = omega arith
@@ -133,13 +148,6 @@ module _ {S F : Type 0} where
       go true e = (h, e)
       go false e = (k, e)
 
-  earlier_beyond : (n t u : ℕ) (f g : F) → n ≤ t → n ≤ u → Beyond n (if nat_le t u then faulted f t else Fault g u)
-  earlier_beyond n t u f g h k = go (nat_le t u)
-    where
-      go : (b : Bool) → Beyond n (if b then faulted f t else Fault g u)
-      go true = h
-      go false = k
-
   module _ (merged : S → S → S) where
     end_more : (n t : ℕ) (a : S) (later : Answer S F) → Beyond n later → Beyond n (both merged (End a t) later)
     end_more n t a (End b u) h = omega arith
@@ -164,7 +172,7 @@ module _ {S F : Type 0} where
     more_more : (n : ℕ) (later later2 : Answer S F) → Beyond n later → Beyond n later2 → Beyond n (both merged later later2)
     more_more n (End a t) later2 h k = end_more n t a later2 k
     more_more n (Fault f t) (End b u) h k = h
-    more_more n (Fault f t) (Fault g u) h k = earlier_beyond n t u f g h k
+    more_more n (Fault f t) (Fault g u) h k = earlier_beyond S F n t u f g h k
     more_more n (Fault f t) More h k = h
     more_more n More (End b u) h k = tt
     more_more n More (Fault g u) h k = k
@@ -174,14 +182,14 @@ module _ {S F : Type 0} where
     with_both n o x x2 y y2 e f h = subst (λ z. Grows n o (both merged z y)) (sym e) (subst (λ z. Grows n o (both merged x2 z)) (sym f) h)
 
     pub grows_both : (n : ℕ) (o later o2 later2 : Answer S F) → Grows n o later → Grows n o2 later2 → Grows n (both merged o o2) (both merged later later2)
-    grows_both n (End a t) later (End b u) later2 (h, e) (k, f) = with_both n _ later _ later2 _ e f (omega arith, refl)
-    grows_both n (End a t) later (Fault g u) later2 (h, e) (k, f) = with_both n _ later _ later2 _ e f (k, refl)
-    grows_both n (End a t) later More later2 (h, e) k = with_both n _ later _ later2 later2 e refl (end_more n t a later2 k)
-    grows_both n (Fault f t) later (End b u) later2 (h, e) (k, e2) = with_both n _ later _ later2 _ e e2 (h, refl)
-    grows_both n (Fault f t) later (Fault g u) later2 (h, e) (k, e2) = with_both n _ later _ later2 _ e e2 (earlier_grows n t u f g _ h k refl)
-    grows_both n (Fault f t) later More later2 (h, e) k = with_both n _ later _ later2 later2 e refl (h, fault_more n t f later2 h k)
-    grows_both n More later (End b u) later2 h (k, f) = with_both n _ later later later2 _ refl f (more_end n u b later h)
-    grows_both n More later (Fault g u) later2 h (k, f) = with_both n _ later later later2 _ refl f (k, more_fault n u g later k h)
+    grows_both n (End a t) later (End b u) later2 (h, e) (k, f) = with_both n (End (merged a b) (max t u)) later (End a t) later2 (End b u) e f (omega arith, refl)
+    grows_both n (End a t) later (Fault g u) later2 (h, e) (k, f) = with_both n (Fault g u) later (End a t) later2 (Fault g u) e f (k, refl)
+    grows_both n (End a t) later More later2 (h, e) k = with_both n More later (End a t) later2 later2 e refl (end_more n t a later2 k)
+    grows_both n (Fault f t) later (End b u) later2 (h, e) (k, e2) = with_both n (Fault f t) later (Fault f t) later2 (End b u) e e2 (h, refl)
+    grows_both n (Fault f t) later (Fault g u) later2 (h, e) (k, e2) = with_both n (both merged (Fault f t) (Fault g u)) later (Fault f t) later2 (Fault g u) e e2 (earlier_grows n t u f g (both merged (Fault f t) (Fault g u)) h k refl)
+    grows_both n (Fault f t) later More later2 (h, e) k = with_both n (Fault f t) later (Fault f t) later2 later2 e refl (h, fault_more n t f later2 h k)
+    grows_both n More later (End b u) later2 h (k, f) = with_both n More later later later2 (End b u) refl f (more_end n u b later h)
+    grows_both n More later (Fault g u) later2 h (k, f) = with_both n (Fault g u) later later later2 (Fault g u) refl f (k, more_fault n u g later k h)
     grows_both n More later More later2 h k = more_more n later later2 h k
 
     pub takes_both : (o o2 : Answer S F) → TakesTurns o → TakesTurns (both merged o o2)
@@ -221,10 +229,6 @@ module _ {S F : Type 0} where
   takes_last (Fault f t) n go h = tt
   takes_last More n go h = tt
 
-  pub takes_idle : (rest : S → S) (s : S) (n : ℕ) → TakesTurns (idle_turn {S = S} {F = F} rest s n)
-  takes_idle rest s zero = tt
-  takes_idle rest s (suc n) = omega arith
-
   pub takes_turn : (rest : S → S) (s : S) (turn : Turn S F) (go : S → Answer S F) → TakesTurns (turn_then rest s turn go)
   takes_turn rest s Ends go = omega arith
   takes_turn rest s (Goes after) go = takes_later 1 (go after) (omega arith)
@@ -242,6 +246,10 @@ module _ {S F : Type 0} where
   pub takes_test : (rest : S → S) (test : S → Test F) (first second : Meaning S F) (s : S) (n : ℕ) → TakesTurns (test_turn rest test first second s n)
   takes_test rest test first second s zero = tt
   takes_test rest test first second s (suc n) = takes_chosen (test s) (first (rest s) n) (second (rest s) n)
+
+  pub takes_loop : (rest : S → S) (test : S → Test F) (body : Meaning S F) (tests : ℕ) (s : S) (n : ℕ) → TakesTurns (loop tests rest test body s n)
+  takes_loop rest test body zero s n = tt
+  takes_loop rest test body (suc tests) s n = takes_test rest test (λ s1 m. then_do (body s1 m) m (loop tests rest test body)) stay s n
 
   -- what holds of the state that is left
   module _ (P : S → Type 0) where
@@ -262,10 +270,6 @@ module _ {S F : Type 0} where
     leaves_last More n go g = tt
 
     module _ (rest : S → S) (rests : (s : S) → P (rest s)) where
-      pub leaves_idle : (s : S) (n : ℕ) → Leaves {S = S} {F = F} P (idle_turn rest s n)
-      leaves_idle s zero = tt
-      leaves_idle s (suc n) = rests s
-
       pub leaves_turn : (s : S) (turn : Turn S F) (go : S → Answer S F) → ((after : S) → Leaves P (go after)) → Leaves P (turn_then rest s turn go)
       leaves_turn s Ends go h = rests s
       leaves_turn s (Goes after) go h = leaves_later 1 (go after) (h after)

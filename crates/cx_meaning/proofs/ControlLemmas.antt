@@ -5,7 +5,7 @@ use Rattle.cx_meaning.specs.Answers.{Answer, Meaning, then_do, stay, rounds, bot
 use Rattle.cx_meaning.specs.Control as control
 use Rattle.cx_meaning.specs.Control.{run_form, run, run_parts, run_arms}
 use Rattle.cx_meaning.specs.Budgets.{Grows, IsSteady, TakesTurns, Leaves}
-use Rattle.cx_meaning.proofs.AnswersLemmas.{steady_then, steady_stay, steady_idle, steady_test, steady_loop, steady_rounds, grows_both, takes_both, takes_then, takes_idle, takes_test, leaves_then, leaves_idle, leaves_test, leaves_loop, leaves_rounds, leaves_both}
+use Rattle.cx_meaning.proofs.AnswersLemmas.{steady_then, steady_stay, steady_idle, steady_test, steady_loop, steady_rounds, grows_both, takes_both, takes_then, takes_idle, takes_test, takes_loop, leaves_then, leaves_idle, leaves_test, leaves_loop, leaves_rounds, leaves_both}
 
 module _ {S F : Type 0} (L : control.Leaves S F) where
   -- the leaves are steady
@@ -17,15 +17,15 @@ module _ {S F : Type 0} (L : control.Leaves S F) where
   module _ (leaves : LeavesAreSteady) where
     mutual
       steady_form : (form : PlainForm) → IsSteady (run_form L form)
-      steady_form Empty s n m le = steady_idle L.rest s n m le
+      steady_form Empty s n m le = steady_idle S F L.rest s n m le
       steady_form (Enable g) s n m le = leaves.enable g s n m le
-      steady_form (Seq no_statements) s n m le = steady_idle L.rest s n m le
+      steady_form (Seq no_statements) s n m le = steady_idle S F L.rest s n m le
       steady_form (Seq (a_statement first later)) s n m le = steady_then (run L first) (run_parts L later) (steady_run first) (steady_parts later) s n m le
-      steady_form (Par no_statements) s n m le = steady_idle L.rest s n m le
+      steady_form (Par no_statements) s n m le = steady_idle S F L.rest s n m le
       steady_form (Par (a_statement first later)) s n m le = grows_both (L.merged (L.driven first)) n _ _ _ _ (steady_run first s n m le) (steady_arms later s n m le)
       steady_form (If test comb a b) s n m le = steady_test L.rest (L.test test.port comb) (run L a) (run L b) (steady_run a) (steady_run b) s n m le
       steady_form (While test comb a) s n m le = steady_loop L.rest (L.test test.port comb) (run L a) (steady_run a) s n m le
-      steady_form (Repeat zero a) s n m le = steady_idle L.rest s n m le
+      steady_form (Repeat zero a) s n m le = steady_idle S F L.rest s n m le
       steady_form (Repeat (suc k) a) s n m le = steady_rounds (suc k) (run L a) (steady_run a) s n m le
       steady_form (StaticSeq length parts) s n m le = leaves.island (StaticSeq length parts) s n m le
       steady_form (StaticPar length arms) s n m le = leaves.island (StaticPar length arms) s n m le
@@ -53,15 +53,15 @@ module _ {S F : Type 0} (L : control.Leaves S F) where
   module _ (leaves : LeavesTakeTurns) where
     mutual
       takes_form : (form : PlainForm) (s : S) (n : ℕ) → TakesTurns (run_form L form s n)
-      takes_form Empty s n = takes_idle L.rest s n
+      takes_form Empty s n = takes_idle S F L.rest s n
       takes_form (Enable g) s n = leaves.enable g s n
-      takes_form (Seq no_statements) s n = takes_idle L.rest s n
+      takes_form (Seq no_statements) s n = takes_idle S F L.rest s n
       takes_form (Seq (a_statement first later)) s n = takes_then (run L first s n) n (run_parts L later) (takes_run first s n)
-      takes_form (Par no_statements) s n = takes_idle L.rest s n
+      takes_form (Par no_statements) s n = takes_idle S F L.rest s n
       takes_form (Par (a_statement first later)) s n = takes_both (L.merged (L.driven first)) (run L first s n) (run_arms L later s n) (takes_run first s n)
       takes_form (If test comb a b) s n = takes_test L.rest (L.test test.port comb) (run L a) (run L b) s n
-      takes_form (While test comb a) s n = takes_test L.rest (L.test test.port comb) _ _ s n
-      takes_form (Repeat zero a) s n = takes_idle L.rest s n
+      takes_form (While test comb a) s n = takes_loop L.rest (L.test test.port comb) (run L a) (suc n) s n
+      takes_form (Repeat zero a) s n = takes_idle S F L.rest s n
       takes_form (Repeat (suc k) a) s n = takes_then (run L a s n) n (rounds k (run L a)) (takes_run a s n)
       takes_form (StaticSeq length parts) s n = leaves.island (StaticSeq length parts) s n
       takes_form (StaticPar length arms) s n = leaves.island (StaticPar length arms) s n
@@ -83,15 +83,15 @@ module _ {S F : Type 0} (L : control.Leaves S F) where
   module _ (P : S → Type 0) (keep : LeavesKeep P) where
     mutual
       leaves_form : (form : PlainForm) (s : S) (n : ℕ) → P s → Leaves P (run_form L form s n)
-      leaves_form Empty s n p = leaves_idle P L.rest keep.rests s n
+      leaves_form Empty s n p = leaves_idle S F P L.rest keep.rests s n
       leaves_form (Enable g) s n p = keep.enable g s n p
-      leaves_form (Seq no_statements) s n p = leaves_idle P L.rest keep.rests s n
+      leaves_form (Seq no_statements) s n p = leaves_idle S F P L.rest keep.rests s n
       leaves_form (Seq (a_statement first later)) s n p = leaves_then P (run L first s n) n (run_parts L later) (leaves_run first s n p) (λ s1 k q. leaves_parts later s1 k q)
-      leaves_form (Par no_statements) s n p = leaves_idle P L.rest keep.rests s n
+      leaves_form (Par no_statements) s n p = leaves_idle S F P L.rest keep.rests s n
       leaves_form (Par (a_statement first later)) s n p = leaves_both P (L.merged (L.driven first)) (keep.merges first) (run L first s n) (run_arms L later s n) (leaves_run first s n p) (leaves_arms later s n p)
       leaves_form (If test comb a b) s n p = leaves_test P L.rest keep.rests (L.test test.port comb) (run L a) (run L b) s n (λ s1 k q. leaves_run a s1 k q) (λ s1 k q. leaves_run b s1 k q)
       leaves_form (While test comb a) s n p = leaves_loop P L.rest keep.rests (L.test test.port comb) (run L a) (suc n) s n (λ s1 k q. leaves_run a s1 k q)
-      leaves_form (Repeat zero a) s n p = leaves_idle P L.rest keep.rests s n
+      leaves_form (Repeat zero a) s n p = leaves_idle S F P L.rest keep.rests s n
       leaves_form (Repeat (suc k) a) s n p = leaves_rounds P (run L a) (suc k) s n p (λ s1 j q. leaves_run a s1 j q)
       leaves_form (StaticSeq length parts) s n p = keep.island (StaticSeq length parts) s n p
       leaves_form (StaticPar length arms) s n p = keep.island (StaticPar length arms) s n p

@@ -1,3 +1,4 @@
 pub mod SightsLemmas
 pub mod AnswersLemmas
 pub mod ControlLemmas
+pub mod RunningLemmas

@@ -11,3 +11,4 @@ pub mod Islands
 pub mod Calls
 pub mod Running
 pub mod Budgets
+pub mod Laws
