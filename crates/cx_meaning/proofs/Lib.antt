@@ -2,3 +2,5 @@ pub mod SightsLemmas
 pub mod AnswersLemmas
 pub mod ControlLemmas
 pub mod RunningLemmas
+pub mod KnownDesigns
+pub mod KnownRuns
