@@ -6,3 +6,7 @@ pub mod Sizes
 pub mod Spots
 pub mod WidthRules
 pub mod ShapeRules
+pub mod CallShape
+pub mod RaceRule
+pub mod LimitRule
+pub mod Accepted
