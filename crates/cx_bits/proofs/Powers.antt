@@ -1,5 +1,5 @@
 -- Powers of two: what 128 bits keep of a number that is wanted modulo a power of two up to 2 ^ 128.
-use Rattle.std.proofs.Common.{◌≡◌, ℕ, ◌+◌, ◌-◌, ◌*◌, ◌/◌, ◌%◌, ◌^◌, ◌<◌, ◌≤◌, mul_assoc, refl, sym, ap, ◌∙◌, subst, arith}
+use Rattle.std.proofs.Common.{◌≡◌, ℕ, ◌+◌, ◌-◌, ◌*◌, ◌/◌, ◌%◌, ◌^◌, ◌<◌, ◌≤◌, mul_assoc, sym, ap, ◌∙◌, subst, arith}
 use Rattle.std.proofs.lemmas.Nat.{pow-add, pow_pos, mul-add-lt, shl_whole}
 use Rattle.std.proofs.lemmas.Nat.Bits.{ones_shr}
 use Rattle.std.proofs.Math.Pow.{mod-mod-pow}
@@ -51,6 +51,7 @@ shift-mod_past w a k h =
     ∙ ap (λ n. n % 2 ^ w) (sym (mul_assoc a (2 ^ (k - w)) (2 ^ w)))
     ∙ mul-mod_left (a * 2 ^ (k - w)) (2 ^ w)
 
+-- what has w bits, shifted down by w or more, is 0
 pub div-pow_past : (w a k : ℕ) → a < 2 ^ w → w ≤ k → a / 2 ^ k ≡ 0
 div-pow_past w a k below h =
     let past : a < 2 ^ k = omega (arith, pow_grows w k h) in
@@ -62,6 +63,7 @@ pub record FitSideBySide (a w b v : ℕ) : Type 0 where
   pub within : a * 2 ^ v + b < 2 ^ (w + v)
   pub representable : a * 2 ^ v + b < 2 ^ 128
 
+-- two numbers that fit their widths fit side by side
 pub side_by_side : (a w b v : ℕ) → a < 2 ^ w → b < 2 ^ v → w + v ≤ 128 → FitSideBySide a w b v
 side_by_side a w b v upper lower fit =
     let whole : a * 2 ^ v + b < 2 ^ w * 2 ^ v = omega (arith, mul-add-lt a (2 ^ v) b (2 ^ w) upper lower) in

@@ -1,5 +1,5 @@
 -- Values of a fixed width: what `Bits` stands for.
-use Rattle.std.specs.Prelude.{ℕ, ◌+◌, ◌-◌, ◌*◌, ◌/◌, ◌%◌, ◌^◌, ◌<◌, ◌≤◌}
+use Rattle.std.specs.Prelude.{ℕ, ◌^◌, ◌<◌, ◌≤◌}
 
 -- a width in bits, and a number
 pub record BitVector : Type 0 where

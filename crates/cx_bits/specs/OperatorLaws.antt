@@ -1,12 +1,12 @@
 -- Laws of the operators: what they give fits its width, and how signed comparison comes from unsigned.
-use Rattle.std.specs.Prelude.{◌≡◌, ℕ, ℤ, pos, ◌-ℤ◌, int_lt, nat_lt, if◌then◌else◌, ◌+◌, ◌-◌, ◌*◌, ◌/◌, ◌%◌, ◌^◌, ◌<◌, ◌≤◌, Bool, true, false, refl, ◌==◌, nat_eq, bit_and, bit_or, bit_xor}
+use Rattle.std.specs.Prelude.{◌≡◌, ℕ, pos, ◌-ℤ◌, int_lt, nat_lt, if◌then◌else◌, ◌+◌, ◌-◌, ◌*◌, ◌/◌, ◌%◌, ◌^◌, ◌<◌, ◌≤◌, Bool, true, false, ◌==◌, bit_and, bit_xor}
 use Rattle.std.proofs.Common.{arith, sym, ap, ◌∙◌}
 use Rattle.std.proofs.lemmas.Nat.{pow-add, pow_pos, mul-add-lt, and_le_l, or_lt, xor_lt, shr_le, mod_below, xor_block}
 use Rattle.std.specs.Int.Bits.{xor_zero_r}
 use Rattle.std.proofs.lemmas.Int.{ints}
 use Rattle.std.proofs.Math.Nat.{pow-le-pow_right, mod-le, div-le_self}
 use Rattle.cx_bits.specs.BitVector.{BitVector, Fits}
-use Rattle.cx_bits.specs.Operators.{sum_of, difference_of, product_of, quotient_of, remainder_of, and_of, or_of, xor_of, complement_of, left_shift_of, right_shift_of, bit_of, less_bit_of, equal_bit_of, signed_less_bit_of, low_bits_of, zero_extension_of, concatenation_of}
+use Rattle.cx_bits.specs.Operators.{sum_of, difference_of, product_of, quotient_of, remainder_of, and_of, or_of, xor_of, complement_of, left_shift_of, right_shift_of, bit_of, less_bit_of, signed_less_bit_of, low_bits_of, zero_extension_of, concatenation_of}
 
 -- a number modulo two to the width fits it
 pub Fits-mod : (w n : ℕ) → 1 ≤ w → w ≤ 128 → Fits (record { width = w; value = n % 2 ^ w })
@@ -16,6 +16,7 @@ Fits-mod w n some few = record { some_bits = some; few_bits = few; in_range = mo
 pub Fits-below : (a : BitVector) (n : ℕ) → Fits a → n ≤ a.value → Fits (record { width = a.width; value = n })
 Fits-below a n fits below = record { some_bits = fits.some_bits; few_bits = fits.few_bits; in_range = omega arith }
 
+-- what each operator gives fits its width, where the operands fit theirs
 pub Fits-sum_of : (a b : BitVector) → Fits a → Fits (sum_of a b)
 Fits-sum_of a b fits = Fits-mod a.width (a.value + b.value) fits.some_bits fits.few_bits
 
@@ -27,16 +28,16 @@ Fits-product_of a b fits = Fits-mod a.width (a.value * b.value) fits.some_bits f
 
 pub Fits-quotient_of : (a b : BitVector) → Fits a → Fits (quotient_of a b)
 Fits-quotient_of a b fits =
-    elim (b.value == 0) as (λ zero_divisor. Fits (record { width = a.width; value = if zero_divisor then 2 ^ a.width - 1 else a.value / b.value }))
-    [ true ↦ record { some_bits = fits.some_bits; few_bits = fits.few_bits; in_range = omega (arith, pow_pos a.width) }
-    | false ↦ Fits-below a (a.value / b.value) fits (div-le_self a.value b.value)
+    elim (b.value == 0) as (λ zero_divisor. Fits (record { width = a.width; value = if zero_divisor then 2 ^ a.width - 1 else a.value / b.value })) [
+      | true ↦ record { some_bits = fits.some_bits; few_bits = fits.few_bits; in_range = omega (arith, pow_pos a.width) }
+      | false ↦ Fits-below a (a.value / b.value) fits (div-le_self a.value b.value)
     ]
 
 pub Fits-remainder_of : (a b : BitVector) → Fits a → Fits (remainder_of a b)
 Fits-remainder_of a b fits =
-    elim (b.value == 0) as (λ zero_divisor. Fits (record { width = a.width; value = if zero_divisor then a.value else a.value % b.value }))
-    [ true ↦ fits
-    | false ↦ Fits-below a (a.value % b.value) fits (mod-le a.value b.value)
+    elim (b.value == 0) as (λ zero_divisor. Fits (record { width = a.width; value = if zero_divisor then a.value else a.value % b.value })) [
+      | true ↦ fits
+      | false ↦ Fits-below a (a.value % b.value) fits (mod-le a.value b.value)
     ]
 
 pub Fits-and_of : (a b : BitVector) → Fits a → Fits (and_of a b)
@@ -93,19 +94,19 @@ pub record AcrossMiddle (half number turned : ℕ) : Type 0 where
 pub AcrossMiddle-xor : (k n : ℕ) → n < 2 ^ k + 2 ^ k → AcrossMiddle (2 ^ k) n (bit_xor n (2 ^ k))
 AcrossMiddle-xor k n below = record {
   lower = λ is_lower.
-    let blocks : bit_xor (0 * 2 ^ k + n) (1 * 2 ^ k + 0) ≡ bit_xor 0 1 * 2 ^ k + bit_xor n 0 = xor_block k 0 1 n 0 is_lower (pow_pos k) in
-    let left : 0 * 2 ^ k + n ≡ n = omega arith in
-    let top : 1 * 2 ^ k + 0 ≡ 2 ^ k = omega arith in
-    let turned : bit_xor n (2 ^ k) ≡ 1 * 2 ^ k + bit_xor n 0 = sym (ap (λ m. bit_xor m (2 ^ k)) left) ∙ sym (ap (bit_xor (0 * 2 ^ k + n)) top) ∙ blocks in
-    omega (arith, xor_zero_r n);
+      let blocks : bit_xor (0 * 2 ^ k + n) (1 * 2 ^ k + 0) ≡ bit_xor 0 1 * 2 ^ k + bit_xor n 0 = xor_block k 0 1 n 0 is_lower (pow_pos k) in
+      let left : 0 * 2 ^ k + n ≡ n = omega arith in
+      let top : 1 * 2 ^ k + 0 ≡ 2 ^ k = omega arith in
+      let turned : bit_xor n (2 ^ k) ≡ 1 * 2 ^ k + bit_xor n 0 = sym (ap (λ m. bit_xor m (2 ^ k)) left) ∙ sym (ap (bit_xor (0 * 2 ^ k + n)) top) ∙ blocks in
+      omega (arith, xor_zero_r n);
   upper = λ is_upper.
-    let rest = n - 2 ^ k in
-    let rest_below : rest < 2 ^ k = omega arith in
-    let blocks : bit_xor (1 * 2 ^ k + rest) (1 * 2 ^ k + 0) ≡ bit_xor 1 1 * 2 ^ k + bit_xor rest 0 = xor_block k 1 1 rest 0 rest_below (pow_pos k) in
-    let left : 1 * 2 ^ k + rest ≡ n = omega arith in
-    let top : 1 * 2 ^ k + 0 ≡ 2 ^ k = omega arith in
-    let turned : bit_xor n (2 ^ k) ≡ 0 * 2 ^ k + bit_xor rest 0 = sym (ap (λ m. bit_xor m (2 ^ k)) left) ∙ sym (ap (bit_xor (1 * 2 ^ k + rest)) top) ∙ blocks in
-    omega (arith, xor_zero_r rest)
+      let rest = n - 2 ^ k in
+      let rest_below : rest < 2 ^ k = omega arith in
+      let blocks : bit_xor (1 * 2 ^ k + rest) (1 * 2 ^ k + 0) ≡ bit_xor 1 1 * 2 ^ k + bit_xor rest 0 = xor_block k 1 1 rest 0 rest_below (pow_pos k) in
+      let left : 1 * 2 ^ k + rest ≡ n = omega arith in
+      let top : 1 * 2 ^ k + 0 ≡ 2 ^ k = omega arith in
+      let turned : bit_xor n (2 ^ k) ≡ 0 * 2 ^ k + bit_xor rest 0 = sym (ap (λ m. bit_xor m (2 ^ k)) left) ∙ sym (ap (bit_xor (1 * 2 ^ k + rest)) top) ∙ blocks in
+      omega (arith, xor_zero_r rest);
 }
 
 -- two to a width is twice its half

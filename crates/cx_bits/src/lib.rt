@@ -4,3 +4,6 @@
 mod values;
 
 pub use values::Bits;
+
+#[cfg(test)]
+mod tests;

@@ -56,7 +56,7 @@ impl Bits {
         self.value
     }
 
-    /// The sum modulo two to the width.
+    /// The sum of two values of one width, modulo two to the width.
     pub fn add(self, other: Bits) -> Bits
         requires { self.width ≡ other.width }
         ensures value { result ≡ sum_of self other }
@@ -64,7 +64,7 @@ impl Bits {
         reduced(self.width, self.value.wrapping_add(other.value))
     }
 
-    /// The difference modulo two to the width.
+    /// The difference of two values of one width, modulo two to the width.
     pub fn sub(self, other: Bits) -> Bits
         requires { self.width ≡ other.width }
         ensures value { result ≡ difference_of self other }
@@ -72,7 +72,7 @@ impl Bits {
         reduced(self.width, self.value.wrapping_sub(other.value))
     }
 
-    /// The product modulo two to the width.
+    /// The product of two values of one width, modulo two to the width.
     pub fn mul(self, other: Bits) -> Bits
         requires { self.width ≡ other.width }
         ensures value { result ≡ product_of self other }
@@ -86,63 +86,92 @@ impl Bits {
         ensures remainder { result.1 ≡ remainder_of self other }
     {
         if other.value == 0 {
-            let all_ones = Bits { width: self.width, value: ones(self.width) };
+            let all_ones = Bits {
+                width: self.width,
+                value: ones(self.width),
+            };
             return (all_ones, self);
         }
-        let quotient = Bits { width: self.width, value: self.value / other.value };
-        let remainder = Bits { width: self.width, value: self.value % other.value };
+        let quotient = Bits {
+            width: self.width,
+            value: self.value / other.value,
+        };
+        let remainder = Bits {
+            width: self.width,
+            value: self.value % other.value,
+        };
         (quotient, remainder)
     }
 
-    /// The bits that are 1 in both.
+    /// The bits that are 1 in both of two values of one width.
     pub fn and(self, other: Bits) -> Bits
         requires { self.width ≡ other.width }
         ensures value { result ≡ and_of self other }
     {
-        Bits { width: self.width, value: self.value & other.value }
+        Bits {
+            width: self.width,
+            value: self.value & other.value,
+        }
     }
 
-    /// The bits that are 1 in one or both.
+    /// The bits that are 1 in one or both of two values of one width.
     pub fn or(self, other: Bits) -> Bits
         requires { self.width ≡ other.width }
         ensures value { result ≡ or_of self other }
     {
-        Bits { width: self.width, value: self.value | other.value }
+        Bits {
+            width: self.width,
+            value: self.value | other.value,
+        }
     }
 
-    /// The bits that are 1 in exactly one.
+    /// The bits that are 1 in exactly one of two values of one width.
     pub fn xor(self, other: Bits) -> Bits
         requires { self.width ≡ other.width }
         ensures value { result ≡ xor_of self other }
     {
-        Bits { width: self.width, value: self.value ^ other.value }
+        Bits {
+            width: self.width,
+            value: self.value ^ other.value,
+        }
     }
 
     /// Each bit turned.
     pub fn not(self) -> Bits
         ensures value { result ≡ complement_of self }
     {
-        Bits { width: self.width, value: ones(self.width) - self.value }
+        Bits {
+            width: self.width,
+            value: ones(self.width) - self.value,
+        }
     }
 
     /// Shifted left by the value of `other`, whatever its width; 0 from the own width on.
     pub fn shl(self, other: Bits) -> Bits
         ensures value { result ≡ left_shift_of self other }
     {
-        if other.value >= u128::from(self.width) {
-            return Bits { width: self.width, value: 0 };
-        }
-        reduced(self.width, self.value << other.value)
+        // A `u128` is shifted by at most 127.
+        let shifted_up = if other.value < 128 {
+            self.value << other.value
+        } else {
+            0
+        };
+        reduced(self.width, shifted_up)
     }
 
     /// Shifted right by the value of `other`, whatever its width; 0 from the own width on.
     pub fn shr(self, other: Bits) -> Bits
         ensures value { result ≡ right_shift_of self other }
     {
-        if other.value >= u128::from(self.width) {
-            return Bits { width: self.width, value: 0 };
+        let shifted_down = if other.value < 128 {
+            self.value >> other.value
+        } else {
+            0
+        };
+        Bits {
+            width: self.width,
+            value: shifted_down,
         }
-        Bits { width: self.width, value: self.value >> other.value }
     }
 
     /// One bit: 1 where the value is below the other, both unsigned.
@@ -152,18 +181,20 @@ impl Bits {
         bit(self.value < other.value)
     }
 
-    /// One bit: 1 where the value is below the other, both in two's complement.
+    /// One bit: 1 where the value is below the other of the same width, both in two's complement.
     pub fn signed_lt(self, other: Bits) -> Bits
         requires { self.width ≡ other.width }
         ensures value { result ≡ signed_less_bit_of self other }
     {
         let half = 1u128 << (self.width - 1);
-        let is_negative = self.value >= half;
-        if is_negative == (other.value >= half) {
-            bit(self.value < other.value)
+        let left_negative = self.value >= half;
+        let right_negative = other.value >= half;
+        let below = if left_negative == right_negative {
+            self.value < other.value
         } else {
-            bit(is_negative)
-        }
+            left_negative
+        };
+        bit(below)
     }
 
     /// One bit: 1 where the values are equal.
@@ -173,7 +204,7 @@ impl Bits {
         bit(self.value == other.value)
     }
 
-    /// The low bits, `width` of them.
+    /// The low bits, `width` of them: 1 to the own width.
     pub fn low(self, width: u8) -> Bits
         requires some_bits { 1 ≤ width }
         requires within { width ≤ self.width }
@@ -182,21 +213,27 @@ impl Bits {
         reduced(width, self.value)
     }
 
-    /// The same value at a width that is no smaller: zeros above.
+    /// The same value at a width from the own to 128: zeros above.
     pub fn pad(self, width: u8) -> Bits
         requires wider { self.width ≤ width }
         requires within { width ≤ 128 }
         ensures value { result ≡ zero_extension_of self width }
     {
-        Bits { width, value: self.value }
+        Bits {
+            width,
+            value: self.value,
+        }
     }
 
-    /// The bits of this value above those of `low`.
+    /// The bits of this value above those of `low`, 128 in all at most.
     pub fn cat(self, low: Bits) -> Bits
         requires { self.width + low.width ≤ 128 }
         ensures value { result ≡ concatenation_of self low }
     {
-        Bits { width: self.width + low.width, value: (self.value << low.width) + low.value }
+        Bits {
+            width: self.width + low.width,
+            value: (self.value << low.width) + low.value,
+        }
     }
 }
 
@@ -206,7 +243,10 @@ fn reduced(width: u8, value: u128) -> Bits
     requires few_bits { width ≤ 128 }
     ensures { result ≡ record { width = width; value = value % 2 ^ width } }
 {
-    Bits { width, value: value & ones(width) }
+    Bits {
+        width,
+        value: value & ones(width),
+    }
 }
 
 /// The greatest value of a width: that many ones.
@@ -222,5 +262,8 @@ fn ones(width: u8) -> u128
 fn bit(truth: bool) -> Bits
     ensures { result ≡ bit_of truth }
 {
-    Bits { width: 1, value: u128::from(truth) }
+    Bits {
+        width: 1,
+        value: u128::from(truth),
+    }
 }

@@ -1,5 +1,5 @@
 -- What the dump's definitions give step by step.
-use Rattle.std.proofs.Common.{◌≡◌, ◌∙◌, cond, not, suc-mul, Option, Some, None, SomeIff, unwrap_or, ◌/◌, ℕ, zero, suc, ◌+◌, ◌-◌, ◌*◌, ◌<◌, ◌≤◌, Bool, true, false, List, [], ◌∷◌, ◌++◌, length, get_or, map, take, drop, All, refl, sym, ap, subst, append_assoc, arith}
+use Rattle.std.proofs.Common.{◌≡◌, ◌∙◌, cond, not, suc-mul, Option, Some, None, SomeIff, unwrap_or, ◌/◌, ℕ, suc, ◌+◌, ◌-◌, ◌*◌, ◌<◌, Bool, true, false, List, [], ◌∷◌, ◌++◌, length, map, take, drop, All, refl, ap, subst, append_assoc, arith}
 use Rattle.std.specs.Cmp.Lexicographic.{slice_cmp}
 use Rattle.std.specs.Prelude.{if◌then◌else◌}
 use Rattle.std.proofs.Math.Nat.{mul-div_cancel_left}
@@ -59,13 +59,13 @@ insert_by_name-place plain m [] = refl
 insert_by_name-place {X} plain m (x ∷ xs) =
     let p : X → Bool = λ other. is_lt (slice_cmp nat_cmp (plain m).shape.name (plain other).shape.name) in
     let P : Bool → Type 0 = λ b.
-        map plain (insert (x ∷ xs) (cond (not b) (1 + position_or_len p xs) 0) m)
-        ≡ (if b then plain m ∷ plain x ∷ map plain xs else plain x ∷ insert_by_name (plain m) (map plain xs)) in
+    map plain (insert (x ∷ xs) (cond (not b) (1 + position_or_len p xs) 0) m)
+    ≡ (if b then plain m ∷ plain x ∷ map plain xs else plain x ∷ insert_by_name (plain m) (map plain xs)) in
     let later : suc (position_or_len p xs) ≡ 1 + position_or_len p xs = omega arith in
     elim (p x) as P [
-      true ↦ refl
-    | false ↦ subst (λ (n : ℕ). map plain (insert (x ∷ xs) n m) ≡ plain x ∷ insert_by_name (plain m) (map plain xs)) later
-        (ap (λ (ys : List PlainMemory). plain x ∷ ys) (insert_by_name-place plain m xs))
+      | true ↦ refl
+      | false ↦ subst (λ (n : ℕ). map plain (insert (x ∷ xs) n m) ≡ plain x ∷ insert_by_name (plain m) (map plain xs)) later
+          (ap (λ (ys : List PlainMemory). plain x ∷ ys) (insert_by_name-place plain m xs))
     ]
 
 -- one more memory in its place
@@ -76,7 +76,7 @@ pub ordered_step : {X : Type 0} (plain : X → PlainMemory) (m : X) (xs more : L
     → inserted_by_name (map plain more) rest ≡ whole
 ordered_step plain m xs more rest whole place there is so_far =
     let e : map plain more ≡ insert_by_name (plain m) (map plain xs) =
-        ap (map plain) is ∙ (ap (λ (n : ℕ). map plain (insert xs n m)) there ∙ insert_by_name-place plain m xs) in
+    ap (map plain) is ∙ (ap (λ (n : ℕ). map plain (insert xs n m)) there ∙ insert_by_name-place plain m xs) in
     ap (λ (ms : List PlainMemory). inserted_by_name ms rest) e ∙ so_far
 
 pub All-insert_by_name : (P : PlainMemory → Type 0) (m : PlainMemory) (ms : List PlainMemory) → P m → All P ms → All P (insert_by_name m ms)
@@ -84,8 +84,8 @@ All-insert_by_name P m [] one all = All-cons P m [] one all
 All-insert_by_name P m (other ∷ others) one all =
     elim (is_lt (slice_cmp nat_cmp m.shape.name other.shape.name))
     as (λ b. All P (if b then m ∷ other ∷ others else other ∷ insert_by_name m others)) [
-      true ↦ All-cons P m (other ∷ others) one all
-    | false ↦ All-cons P other (insert_by_name m others) (All-head P other others all) (All-insert_by_name P m others one (All-tail P other others all))
+      | true ↦ All-cons P m (other ∷ others) one all
+      | false ↦ All-cons P other (insert_by_name m others) (All-head P other others all) (All-insert_by_name P m others one (All-tail P other others all))
     ]
 
 pub All-inserted_by_name : (P : PlainMemory → Type 0) (ordered ms : List PlainMemory) → All P ordered → All P ms → All P (inserted_by_name ordered ms)

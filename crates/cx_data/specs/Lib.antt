@@ -1,2 +1,4 @@
 pub mod Widths
+pub mod Numbers
+pub mod Load
 pub mod Dump

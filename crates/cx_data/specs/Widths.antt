@@ -1,5 +1,5 @@
 -- The widths that the words of a data file may have.
-use Rattle.std.specs.Prelude.{ℕ, ◌≤◌}
+use Rattle.std.specs.Prelude.{◌≤◌}
 use Rattle.cx_text.specs.Loading.{PlainRow}
 
 -- a word of the data file has 1 to 64 bits

@@ -8,7 +8,7 @@ ghost use Rattle.cx_text.specs.Loading.{FitsShape, plain_memory, plain_loaded};
 ghost use Rattle.cx_data.specs.Dump.{joined, memory_text, by_name, dump_text};
 ghost use Rattle.cx_data.specs.Widths.{HasWordWidth};
 
-use crate::lists::{push_comma, push_nested, Format};
+use crate::lists::{Format, push_comma, push_nested};
 use cx_text::{Loaded, LoadedMemory, Memory, Name};
 use itoa::Buffer;
 use std::alloc::Global;
@@ -16,12 +16,7 @@ use std::alloc::Global;
 /// Appends the dump: `{"cycles":T,"memories":{"a":[..],"b":[[..],[..]]}}` and one line feed, without spaces. The
 /// memories are in the order of the bytes of their names, each as lists by its sizes, and its words are signed where
 /// the data file said so. The names are written as they are.
-pub fn dump(
-    alloc: Global,
-    cycles: u64,
-    loaded: &Loaded,
-    out: &mut Vec<u8>,
-) -> Result<(), Memory>
+pub fn dump(alloc: Global, cycles: u64, loaded: &Loaded, out: &mut Vec<u8>) -> Result<(), Memory>
     requires fits { All FitsShape (plain_loaded loaded.now) }
     requires widths { All HasWordWidth (map (λ m. m.shape) (plain_loaded loaded.now)) }
     ensures ok { OnOk result (out.new.items ≡ out.old.items ++ dump_text cycles (plain_loaded loaded.now)) }
@@ -93,5 +88,10 @@ fn push_memory(out: &mut Vec<u8>, memory: &LoadedMemory) -> Result<(), Memory>
         signed: memory.signed,
         width: memory.row.width,
     };
-    push_nested(out, format, memory.row.sizes.as_slice(), memory.words.as_slice())
+    push_nested(
+        out,
+        format,
+        memory.row.sizes.as_slice(),
+        memory.words.as_slice(),
+    )
 }

@@ -2,8 +2,12 @@
 #![tactic(auto)]
 
 mod dumping;
+mod entries;
 mod faults;
 mod lists;
+mod loading;
+mod numbers;
 
 pub use dumping::dump;
 pub use faults::DataFault;
+pub use loading::load;

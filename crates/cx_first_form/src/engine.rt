@@ -1,9 +1,9 @@
 //! Runs a design of the first form. A group takes two turns: one in which its cell is written, and an idle one.
 
-ghost use Rattle.std.specs.Prelude.{◌≡◌, ◌^◌, ◌<◌, map, All, IfOk};
-ghost use Rattle.cx_text.specs.Loading.{FitsShape, plain_rows, plain_loaded};
+ghost use Rattle.std.specs.Prelude.{◌^◌, ◌<◌, All, IfOk};
+ghost use Rattle.cx_text.specs.Loading.{plain_rows};
 ghost use Rattle.cx_data.specs.Widths.{HasWordWidth};
-ghost use Rattle.cx_first_form.specs.Whole.{IsWhole, row_of};
+ghost use Rattle.cx_first_form.specs.Whole.{IsWhole};
 
 use crate::design::{Cell, CellKind, Design, Group, Input, Operand};
 use cx_text::{Loaded, LoadedMemory, Memory, MemoryRow, Name};
@@ -40,9 +40,8 @@ impl Design {
         loaded: &mut Loaded,
         budget: u64,
     ) -> Result<Option<u64>, Memory>
-        requires fits { All FitsShape (plain_loaded loaded.old) }
-        ensures fits { All FitsShape (plain_loaded loaded.new) }
-        ensures shapes { map (λ m. m.shape) (plain_loaded loaded.new) ≡ map (λ m. m.shape) (plain_loaded loaded.old) }
+        requires { All IsWhole loaded.old.memories.items }
+        ensures { All IsWhole loaded.new.memories.items }
     {
         let mut words = self.start(alloc, loaded)?;
         let mut turns: u64 = 0;
@@ -164,35 +163,35 @@ impl Design {
 
 /// Puts words where they were loaded.
 fn store_all(memories: &mut [LoadedMemory], words: &[Vec<u64>])
-    requires fits { All IsWhole memories.old }
-    ensures fits { All IsWhole memories.new }
-    ensures shapes { map row_of memories.new ≡ map row_of memories.old }
+    requires { All IsWhole memories.old }
+    ensures { All IsWhole memories.new }
 {
     for number in 0..memories.len() {
-        if let Some(words) = words.get(number) {
-            store(&mut memories[number], words);
-        }
+        let words = words
+            .get(number)
+            .map_or(&[] as &[u64], |words| words.as_slice());
+        store(&mut memories[number], words);
     }
 }
 
 /// Puts the words of one memory where they were loaded.
 fn store(memory: &mut LoadedMemory, words: &[u64])
-    requires fits { IsWhole memory.old }
-    ensures fits { IsWhole memory.new }
-    ensures shape { row_of memory.new ≡ row_of memory.old }
+    requires { IsWhole memory.old }
+    ensures { IsWhole memory.new }
 {
     let width = memory.row.width;
     for index in 0..memory.words.len() {
-        if let Some(word) = words.get(index) {
-            memory.words[index] = low(*word, width);
-        }
+        let word = words.get(index).copied().unwrap_or(0);
+        memory.words[index] = low(word, width);
     }
 }
 
 /// The low bits of a number.
-fn low(value: u64, width: u8) -> u64 {
+fn low(value: u64, width: u8) -> u64
+    ensures { result < 2 ^ width }
+{
     if width < 64 {
-        value & ((1 << width) - 1)
+        value % (1 << width)
     } else {
         value
     }

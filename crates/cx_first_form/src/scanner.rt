@@ -177,7 +177,10 @@ impl<'a> Scanner<'a> {
     /// Skips blanks and comments.
     fn skip_blanks(&mut self) {
         for _ in 0..self.rest.len() {
-            let (_, rest) = span(self.rest, |byte| matches!(byte, b' ' | b'\t' | b'\r' | b'\n'));
+            let (_, rest) = span(
+                self.rest,
+                |byte| matches!(byte, b' ' | b'\t' | b'\r' | b'\n'),
+            );
             self.rest = rest;
             match after_comment(rest) {
                 Some(after) => self.rest = after,

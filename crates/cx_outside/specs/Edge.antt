@@ -1,5 +1,5 @@
 -- How the real kinds count their faults.
-use Rattle.std.specs.Prelude.{ℕ, Result, Ok, Err}
+use Rattle.std.specs.Prelude.{ℕ}
 use Rattle.cx_outside.specs.Counts.{raised}
 use Rattle.cx_outside.specs.declared.reading.FileAnswer.{FileAnswer}
 use Rattle.cx_outside.specs.declared.reading.FileAnswer.TheVariants.{Failed, TooLong, Memory}

@@ -1,5 +1,5 @@
 -- Files and sinks in memory: what they hold, and which of their calls fail.
-use Rattle.std.specs.Prelude.{ℕ, ◌-◌, ◌==◌, List, [], ◌∷◌, ◌++◌, Bool, Option, Some, None, length, take, min, if◌then◌else◌}
+use Rattle.std.specs.Prelude.{ℕ, ◌-◌, ◌==◌, List, ◌++◌, Bool, Option, find, option_map, length, take, min, if◌then◌else◌}
 use Rattle.std.specs.List.{list_any}
 use Rattle.std.specs.Cmp.Lexicographic.{pointwise}
 use Rattle.cx_outside.specs.Counts.{raised}
@@ -27,8 +27,7 @@ fails_next fails calls = list_any (λ n. n == raised calls) fails
 
 -- what the first entry with this name holds
 abbrev pub held_in : List (List ℕ × List ℕ) → List ℕ → Option (List ℕ)
-held_in [] name = None
-held_in (e ∷ entries) name = if pointwise ◌==◌ e.0 name then Some e.1 else held_in entries name
+held_in entries name = option_map (λ e. e.1) (find (λ e. pointwise ◌==◌ e.0 name) entries)
 
 -- how many bytes of a piece of this length the next call takes; none where it fails
 abbrev pub taken : MemorySink → ℕ → ℕ

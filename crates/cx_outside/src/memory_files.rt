@@ -51,12 +51,7 @@ impl Files for MemFiles {
     ghost faults = { λ m. m.faults };
 
     /// Fails where the number of the call is listed, which raises the count, or where no entry has the name.
-    fn read_file(
-        &mut self,
-        alloc: Global,
-        name: &[u8],
-        limit: usize,
-    ) -> Result<Vec<u8>, FileAnswer>
+    fn read_file(&mut self, alloc: Global, name: &[u8], limit: usize) -> Result<Vec<u8>, FileAnswer>
         ensures exact { MatchResult (read_answer self.old name.now limit)
             (λ bytes. MatchResult result (λ read. read.items ≡ bytes) (λ e. e ≡ FileAnswer.Memory))
             (λ e. IsErrOf result e) }
@@ -82,10 +77,8 @@ impl Files for MemFiles {
 fn find<'a>(entries: &'a [(Word, Word)], name: &[u8]) -> Option<&'a [u8]>
     ensures value { option_copied result ≡ held_in entries.now name.now }
 {
-    for entry in entries {
-        if entry.0.bytes() == name {
-            return Some(entry.1.bytes());
-        }
-    }
-    None
+    entries
+        .iter()
+        .find(|entry| entry.0.bytes() == name)
+        .map(|entry| entry.1.bytes())
 }

@@ -37,12 +37,7 @@ pub trait Files {
     ghost faults: { Self → ℕ };
 
     /// Reads all bytes of a file, of which there may be `limit` at most.
-    fn read_file(
-        &mut self,
-        alloc: Global,
-        name: &[u8],
-        limit: usize,
-    ) -> Result<Vec<u8>, FileAnswer>
+    fn read_file(&mut self, alloc: Global, name: &[u8], limit: usize) -> Result<Vec<u8>, FileAnswer>
         ensures ok { IfOk result (λ bytes. Holds (held self.old) name.now bytes.items) }
         ensures within { IfOk result (λ bytes. length bytes.items ≤ limit) }
 

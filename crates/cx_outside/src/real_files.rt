@@ -1,6 +1,6 @@
 //! The files of the system: the trusted edge of what is read.
 
-ghost use Rattle.std.specs.Prelude.{◌≡◌, ◌≤◌, ◌<◌, ℕ, None, length, IfOk, IsErrOf, MatchResult};
+ghost use Rattle.std.specs.Prelude.{◌≡◌, ◌≤◌, ◌<◌, ℕ, None, length, IfOk, IfSome, IsErrOf, MatchResult};
 ghost use Rattle.cx_outside.specs.Edge.{count_after};
 
 use crate::counts::raise;
@@ -44,12 +44,7 @@ impl<R: System> Files for RealFiles<R> {
     ghost faults = { λ count. count };
 
     /// Each failure of the system, a name that no file has and one that is no UTF-8 among them, raises the count.
-    fn read_file(
-        &mut self,
-        alloc: Global,
-        name: &[u8],
-        limit: usize,
-    ) -> Result<Vec<u8>, FileAnswer>
+    fn read_file(&mut self, alloc: Global, name: &[u8], limit: usize) -> Result<Vec<u8>, FileAnswer>
         ensures within { IfOk result (λ bytes. length bytes.items ≤ limit) }
         ensures too_long { (seen : ℕ) → IsErrOf result (FileAnswer.TooLong seen) → limit < seen }
         ensures after { MatchResult result (λ _. self.new ≡ self.old) (λ e. self.new ≡ count_after e self.old) }
@@ -83,13 +78,17 @@ fn read_named<R: System>(
 }
 
 /// Reads to the end, or up to the first byte over the limit.
-fn read_up_to<F: Read>(
+pub(crate) fn read_up_to<F: Read>(
     file: &mut F,
     alloc: Global,
     limit: usize,
 ) -> Result<Vec<u8>, FileAnswer>
     ensures within { IfOk result (λ bytes. length bytes.items ≤ limit) }
+    ensures whole { IfOk result (λ bytes. IfSome (F.remaining file.old) (λ held. bytes.items ≡ held)) }
+
     ensures too_long { (seen : ℕ) → IsErrOf result (FileAnswer.TooLong seen) → limit < seen }
+    ensures over { (seen : ℕ) → IsErrOf result (FileAnswer.TooLong seen) →
+        IfSome (F.remaining file.old) (λ held. seen ≤ length held) }
 {
     let mut bytes = Vec::new(alloc);
     let mut chunk = [0u8; CHUNK];

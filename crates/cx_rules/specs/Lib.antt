@@ -10,3 +10,4 @@ pub mod CallShape
 pub mod RaceRule
 pub mod LimitRule
 pub mod Accepted
+pub mod Wellformed

@@ -1,4 +1,3 @@
-use Rattle.std.proofs.Common.{arith}
 use Rattle.cx_bits.proofs.Powers.{ones-shift}
 use Rattle.cx_bits.proofs.values.ones.Goals as goal
 

@@ -1,4 +1,4 @@
-use Rattle.std.proofs.Common.{◌≡◌, ap, sym, map, All, Bor}
+use Rattle.std.proofs.Common.{ap, map, Bor}
 use Rattle.std.proofs.lemmas.List.Elements.{All-same}
 use Rattle.cx_text.specs.Loading.{PlainMemory, FitsShape, plain_memory}
 use Rattle.cx_text.specs.declared.loading.LoadedMemory.{LoadedMemory}

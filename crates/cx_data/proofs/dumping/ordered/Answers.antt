@@ -1,4 +1,4 @@
-use Rattle.std.proofs.Common.{◌≡◌, ◌∙◌, ◌∷◌, ◌+◌, suc, ap, sym, drop, length, arith, Bor, add-one, map, rules}
+use Rattle.std.proofs.Common.{◌≡◌, ◌∙◌, ◌∷◌, ◌+◌, drop, Bor, add-one, map, rules}
 use Rattle.std.proofs.Math.Seq.{drop-cons}
 use Rattle.cx_text.specs.Loading.{plain_memory}
 use Rattle.cx_text.specs.declared.loading.LoadedMemory.{LoadedMemory}
@@ -9,8 +9,8 @@ use Rattle.cx_data.proofs.dumping.ordered.Goals as goal
 pub loop-memory-preserved : goal.loop-memory-preserved
 loop-memory-preserved c =
     let e : drop c.loop-memory.memory-index c.args.memories.now ≡ c.memory-item.result ∷ drop (c.loop-memory.memory-index + 1) c.args.memories.now =
-        drop-cons c.args.memories.now c.loop-memory.memory-index c.memory-item.result c.loop-memory-test.true
-        ∙ (rw (← c.memory-item.is) (rw add-one)) in
+    drop-cons c.args.memories.now c.loop-memory.memory-index c.memory-item.result c.loop-memory-test.true
+    ∙ (rw (← c.memory-item.is) (rw add-one)) in
     ordered_step (λ (b : Bor LoadedMemory). plain_memory b.now) _ c.loop-memory.ordered.items _
-        (map plain_memory (drop (c.loop-memory.memory-index + 1) c.args.memories.now)) (by_name (map plain_memory c.args.memories.now)) _
-        (search rules) c.in_ok-insert.ensures.items (rw e at c.loop-memory.invariant)
+    (map plain_memory (drop (c.loop-memory.memory-index + 1) c.args.memories.now)) (by_name (map plain_memory c.args.memories.now)) _
+    (search rules) c.in_ok-insert.ensures.items (rw e at c.loop-memory.invariant)

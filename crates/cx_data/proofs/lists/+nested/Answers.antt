@@ -1,4 +1,4 @@
-use Rattle.std.proofs.Common.{rules, ◌≡◌, ◌<◌, ◌^◌, ℕ, length, drop, arith}
+use Rattle.std.proofs.Common.{rules, ◌≡◌, ◌<◌, ◌^◌, ℕ, length, arith}
 use Rattle.std.proofs.lemmas.List.Elements.{All-same, All-drop}
 use Rattle.cx_text.specs.Loading.{word_count}
 use Rattle.cx_data.specs.Dump.{number_text, nested_text}
@@ -12,7 +12,7 @@ push_list-loop-index-init t c = record {
   room = search rules;
   in_range = search rules;
   text = list_start (nested_text (number_text c.args.format.signed c.args.format.width) c.args.inner.now)
-      c.args.out.now.items c.push.new.self.items c.args.words.now c.args.size (word_count c.args.inner.now) c.in_ok-push.ensures.items
+      c.args.out.now.items c.push.new.self.items c.args.words.now c.args.size (word_count c.args.inner.now) c.in_ok-push.ensures.items;
 }
 
 pub push_list-loop-index-preserved : goal.push_list-loop-index-preserved
@@ -27,5 +27,5 @@ push_list-loop-index-preserved t c =
       text = list_step (nested_text (number_text c.args.format.signed c.args.format.width) c.args.inner.now)
           c.loop-index.out.items c.push_nested.new.out.items _ c.loop-index.rest.now c.split_at.result.0.now c.split_at.result.1.now
           c.args.size c.loop-index.index (word_count c.args.inner.now) c.unwrap_or-part_len.result
-          c.loop-index-test.true sized c.split_at.ensures.front c.split_at.ensures.back (search rules) c.loop-index.invariant.text
+          c.loop-index-test.true sized c.split_at.ensures.front c.split_at.ensures.back (search rules) c.loop-index.invariant.text;
     }

@@ -15,5 +15,5 @@ invariant-push_list-loop-index l = record {
   room : length l.rest ≡ (l.count - l.index) * word_count l.inner;
   in_range : All (λ word. word < 2 ^ l.format.width) l.rest;
   text : l.out.items ++ (joined l.index (map (nested_text (number_text l.format.signed l.format.width) l.inner) (pieces (l.count - l.index) (word_count l.inner) l.rest)) ++ 93 ∷ [])
-      ≡ l.fn.out.items ++ 91 ∷ (joined 0 (map (nested_text (number_text l.format.signed l.format.width) l.inner) (pieces l.count (word_count l.inner) l.words)) ++ 93 ∷ [])
+      ≡ l.fn.out.items ++ 91 ∷ (joined 0 (map (nested_text (number_text l.format.signed l.format.width) l.inner) (pieces l.count (word_count l.inner) l.words)) ++ 93 ∷ []);
 }

@@ -1,0 +1,5 @@
+pub mod Bytes
+pub mod Lex
+pub mod Reading
+pub mod Classes
+pub mod Views
