@@ -1,0 +1,23 @@
+//! Designs: their types, what they stand for, their limits, and designs that are accepted.
+#![tactic(auto)]
+
+mod actives;
+mod cells;
+mod components;
+mod designs;
+mod groups;
+mod guards;
+mod primitives;
+mod refusals;
+mod statements;
+
+pub use actives::{Active, ActiveEntry, PortFault};
+pub use cells::{Cell, CellKind};
+pub use components::Component;
+pub use cx_meaning::{Comparison, FaultKind, GroupKind, PlacedPort, PortDecl, PortRef, Seen};
+pub use designs::Design;
+pub use groups::{Assign, Group};
+pub use guards::Guard;
+pub use primitives::Primitive;
+pub use refusals::Refusal;
+pub use statements::{Form, Statement};
