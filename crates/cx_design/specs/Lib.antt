@@ -1,1 +1,2 @@
 pub mod PlainForms
+pub mod PlainDesigns

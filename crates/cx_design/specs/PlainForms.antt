@@ -13,7 +13,6 @@ use Rattle.cx_design.specs.declared.statements.Form.{Form, Form-F, fold-Form}
 use Rattle.cx_design.specs.declared.statements.Form.TheOpen as forms
 use Rattle.cx_design.specs.declared.statements.Statement.{Statement, Statement-F, fold-Statement}
 use Rattle.cx_design.specs.declared.components.Component.{Component}
-use Rattle.cx_design.specs.declared.designs.Design.{Design}
 
 abbrev pub guard_step : Guard-F PlainGuard → PlainGuard
 guard_step guards.True = Always
@@ -81,8 +80,6 @@ plain_component c = record {
   place = c.place;
 }
 
+-- the design of these components and this main
 abbrev pub plain_parts : List Component → ℕ → PlainDesign
 plain_parts components main = record { components = map plain_component components; main = main }
-
-abbrev pub plain_design : Design → PlainDesign
-plain_design d = plain_parts d.components.items d.main
