@@ -1,6 +1,7 @@
 //! Designs: their types, what they stand for, their limits, and designs that are accepted.
 #![tactic(auto)]
 
+mod accepted;
 mod actives;
 mod cells;
 mod components;
@@ -11,6 +12,7 @@ mod primitives;
 mod refusals;
 mod statements;
 
+pub use accepted::Checked;
 pub use actives::{Active, ActiveEntry, PortFault};
 pub use cells::{Cell, CellKind};
 pub use components::Component;
