@@ -1,5 +1,5 @@
 -- What a port is seen as under an active set: a value, Conflict, or Undefined.
-use Rattle.std.specs.Prelude.{◌≡◌, ℕ, zero, suc, ◌+◌, ◌-◌, ◌⊎◌, ◌<◌, Bool, true, false, ◌&&◌, ◌==◌, not, nat_lt, nat_le, nat_eq, List, [], ◌∷◌, ◌++◌, length, Option, Some, None, if◌then◌else◌}
+use Rattle.std.specs.Prelude.{◌≡◌, ℕ, zero, suc, ◌+◌, ◌-◌, ◌⊎◌, ◌<◌, Bool, true, false, ◌&&◌, ◌==◌, not, nat_lt, nat_le, nat_eq, List, [], ◌∷◌, ◌++◌, length, map, Option, Some, None, if◌then◌else◌}
 use Rattle.cx_bits.specs.BitVector.{BitVector}
 use Rattle.cx_meaning.specs.declared.ports.PortRef.{PortRef}
 use Rattle.cx_meaning.specs.declared.ports.PortRef.TheVariants as ports
@@ -14,7 +14,7 @@ use Rattle.cx_prim.specs.CellStates.{CellState}
 use Rattle.cx_prim.specs.Rows.{Inputs, Row}
 use Rattle.cx_meaning.specs.Rows.{side_of}
 use Rattle.cx_meaning.specs.Instances.{Instance, Node, Cells, no_cells, a_primitive, an_instance, At, Nothing, OfRow, OfInstance, part_of, cells_of, cell_at, State, under}
-use Rattle.cx_meaning.specs.Active.{Active, nothing, Acting, drivers}
+use Rattle.cx_meaning.specs.Active.{Active, nothing, Acting, source_order, drivers}
 use Rattle.cx_meaning.specs.Truths.{Truth, One, Zero, Clash, Unknown, truth_of_bit, truth_of, not_truth, and_truth, or_truth, compared}
 
 -- what the ports of an instance are taken to be seen as
@@ -242,25 +242,28 @@ pub data Sees : Instance → Held → Active → State → PortRef → Seen → 
     → ((c port n : ℕ) (child : Instance) → p ≡ ports.Cell c port → cell_at (cells_of i) c ≡ OfInstance child → Sees child unheld nothing (under c s) (ports.Output n) (below c n))
     → step i held act s look below p ≡ x → Sees i held act s p x
 
--- WHAT A PORT IS SEEN AS, FOUND: where each port has seen as many steps as there are ports, nothing that does not lead
--- in a circle is left to see. Seen in a circle, a port is Undefined
+-- WHAT A PORT IS SEEN AS, FOUND: after as many steps as there are ports to which something leads, nothing that does not
+-- lead in a circle is left to see. In a circle a port is Undefined
 abbrev pub approach : Instance → Held → Active → State → Below → ℕ → Look
 approach i held act s below zero p = Undefined
 approach i held act s below (suc n) p = step i held act s (approach i held act s below n) below p
 
--- how many ports the cells have
-abbrev pub cell_ports : Cells → ℕ
-cell_ports no_cells = 0
-cell_ports (a_primitive row rest) = length row.ports + cell_ports rest
-cell_ports (an_instance child rest) = length (part_of child).inputs + length (part_of child).outputs + 2 + cell_ports rest
+abbrev pub numbered : ℕ → ℕ → List PortRef
+numbered c zero = []
+numbered c (suc n) = ports.Cell c n ∷ numbered c n
 
--- how many ports an instance has that something can lead to: of its cells, its outputs, and the done holes
-abbrev pub port_total : Instance → ℕ
-port_total i = cell_ports (cells_of i) + length (part_of i).outputs + length (part_of i).groups
+abbrev pub ports_of_cells : Cells → ℕ → List PortRef
+ports_of_cells no_cells c = []
+ports_of_cells (a_primitive row rest) c = numbered c (length row.ports) ++ ports_of_cells rest (suc c)
+ports_of_cells (an_instance child rest) c = ports_of_cells rest (suc c)
+
+-- the ports to which something can lead: those of primitive cells, and the targets of assignments
+abbrev pub ports_of : Instance → List PortRef
+ports_of i = ports_of_cells (cells_of i) 0 ++ map (λ a. a.assign.target) (source_order (part_of i))
 
 abbrev mutual
   pub seen : Instance → Held → Active → State → Look
-  seen (Node part cells) held act s p = approach (Node part cells) held act s (outputs_below cells (λ c. under c s)) (suc (port_total (Node part cells))) p
+  seen (Node part cells) held act s p = approach (Node part cells) held act s (outputs_below cells (λ c. under c s)) (suc (length (ports_of (Node part cells)))) p
 
   pub outputs_below : Cells → (ℕ → State) → Below
   outputs_below no_cells states c n = Undefined

@@ -11,3 +11,4 @@ pub mod RaceRule
 pub mod LimitRule
 pub mod Accepted
 pub mod Wellformed
+pub mod Circles
