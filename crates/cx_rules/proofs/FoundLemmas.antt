@@ -138,6 +138,15 @@ nothing_row row e = cc
 instance_row : (child : Instance) (row : Row) → OfInstance child ≡ OfRow row → ⊥
 instance_row child row e = cc
 
+nothing_instance : (child : Instance) → Nothing ≡ OfInstance child → ⊥
+nothing_instance child e = cc
+
+row_instance : (row : Row) (child : Instance) → OfRow row ≡ OfInstance child → ⊥
+row_instance row child e = cc
+
+instance_is : (a b : Instance) → OfInstance a ≡ OfInstance b → a ≡ b
+instance_is a b e = cc
+
 row_is : (a b : Row) → OfRow a ≡ OfRow b → a ≡ b
 row_is a b e = cc
 
@@ -212,3 +221,24 @@ module _ (i : Instance) (act : Active) where
     -- and so is every look that is right
     pub solved : (look : Look) → ((q : PortRef) → Sees i held act s q (look q)) → (p : PortRef) → look p ≡ step i held act s look below p
     solved look right p = one_sight (right p) (by_step look below (λ q need. right q) (λ c port m child e at. children c m child at) refl)
+
+-- in an instance tree in which nothing leads in a circle
+mutual
+  pub seen_found : (i : Instance) (held : Held) (act : Active) (s : State) → IsAcyclic i act → AcyclicBelow (cells_of i) → (p : PortRef) → Sees i held act s p (seen i held act s p)
+  seen_found (Node part cells) held act s acyclic deeper p = found (Node part cells) act acyclic held s (outputs_below cells (λ c. under c s)) (below_found cells (λ c. under c s) deeper) p
+
+  pub below_found : (cells : Cells) (states : ℕ → State) → AcyclicBelow cells → (c n : ℕ) (child : Instance) → cell_at cells c ≡ OfInstance child → Sees child unheld nothing (states c) (ports.Output n) (outputs_below cells states c n)
+  below_found no_cells states deeper c n child e = absurd (nothing_instance child e)
+  below_found (a_primitive row rest) states deeper zero n child e = absurd (row_instance row child e)
+  below_found (a_primitive row rest) states deeper (suc c) n child e = below_found rest (λ k. states (suc k)) deeper c n child e
+  below_found (an_instance i rest) states (acyclic, deeper) zero n child e =
+      subst (λ x. Sees x unheld nothing (states 0) (ports.Output n) (seen i unheld nothing (states 0) (ports.Output n))) (instance_is i child e) (seen_whole i acyclic unheld (states 0) (ports.Output n))
+  below_found (an_instance i rest) states (acyclic, deeper) (suc c) n child e = below_found rest (λ k. states (suc k)) deeper c n child e
+
+  seen_whole : (i : Instance) → AreAcyclic i → (held : Held) (s : State) (p : PortRef) → Sees i held nothing s p (seen i held nothing s p)
+  seen_whole (Node part cells) (acyclic, deeper) held s p = found (Node part cells) nothing acyclic held s (outputs_below cells (λ c. under c s)) (below_found cells (λ c. under c s) deeper) p
+
+-- what is found solves the steps
+pub seen_solves : (i : Instance) (held : Held) (act : Active) (s : State) → IsAcyclic i act → AcyclicBelow (cells_of i) → (p : PortRef) → seen i held act s p ≡ step i held act s (seen i held act s) (outputs_below (cells_of i) (λ c. under c s)) p
+seen_solves (Node part cells) held act s acyclic deeper p =
+    solved (Node part cells) act acyclic held s (outputs_below cells (λ c. under c s)) (below_found cells (λ c. under c s) deeper) (seen (Node part cells) held act s) (seen_found (Node part cells) held act s acyclic deeper) p
