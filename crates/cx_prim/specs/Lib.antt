@@ -1,5 +1,6 @@
 pub mod PortNames
 pub mod PrimitiveNames
+pub mod Widths
 pub mod CellStates
 pub mod Rows
 pub mod CombinationalRows
@@ -7,3 +8,11 @@ pub mod RegisterRow
 pub mod MemoryRows
 pub mod PipeRows
 pub mod Table
+pub mod Operators
+pub mod CombinationalLaws
+pub mod OperatorWidths
+pub mod RowTools
+pub mod RegisterLaws
+pub mod PipeLaws
+pub mod MemoryLaws
+pub mod TableLaws

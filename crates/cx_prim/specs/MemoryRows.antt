@@ -1,5 +1,6 @@
 -- The rows of memories of one to four dimensions: combinational ones, whose read data follows the addresses, and sequential ones, whose read data is registered.
-use Rattle.std.specs.Prelude.{ℕ, ◌+◌, ◌*◌, ◌==◌, ◌&&◌, ◌||◌, not, Bool, true, false, List, [], ◌∷◌, ◌++◌, Option, Some, None, nat_lt, is_some, is_none, slice_index, slice_set, length, replicate, if◌then◌else◌}
+use Rattle.std.specs.Prelude.{◌≡◌, ◌≤◌, ℕ, ◌+◌, ◌*◌, ◌^◌, ◌==◌, ◌&&◌, ◌||◌, not, Bool, true, false, List, [], ◌∷◌, ◌++◌, Option, Some, None, nat_lt, nat_le, is_some, is_none, slice_index, slice_set, length, replicate, if◌then◌else◌}
+use Rattle.std.specs.List.{list_all}
 use Rattle.cx_bits.specs.BitVector.{BitVector}
 use Rattle.cx_bits.specs.Operators.{bit_of}
 use Rattle.cx_text.specs.Loading.{word_count}
@@ -7,8 +8,25 @@ use Rattle.cx_prim.specs.declared.ports.PortName.{PortName}
 use Rattle.cx_prim.specs.declared.ports.PortName.TheVariants.{Addr0, Addr1, Addr2, Addr3, WriteData, WriteEn, ContentEn, ReadData, Done}
 use Rattle.cx_prim.specs.declared.ports.PortRow.{PortRow}
 use Rattle.cx_prim.specs.CellStates.{CellState, Memory, SequentialMemory, StateShape, MemoryOf, SequentialMemoryOf}
+use Rattle.cx_prim.specs.Widths.{IsWidth}
 use Rattle.cx_prim.specs.Rows.{Inputs, input, value_at, is_on, Row}
 use Rattle.cx_prim.specs.CombinationalRows.{enable_port, plain_port, output_port, registered_port}
+
+-- sizes from 1 on, whose product is below 2 ^ 32
+abbrev pub are_sizes : List ℕ → Bool
+are_sizes sizes = list_all (λ size. nat_le 1 size) sizes && nat_lt (word_count sizes) (2 ^ 32)
+
+-- 1 to 64 bits
+abbrev pub is_address_width : ℕ → Bool
+is_address_width width = nat_le 1 width && nat_le width 64
+
+-- the width, the sizes and the address widths of a memory: as many address widths as sizes, at most four
+pub record IsLayout (width : ℕ) (sizes address_widths : List ℕ) : Type 0 where
+  pub word : IsWidth width
+  pub few : length sizes ≤ 4
+  pub alike : length address_widths ≡ length sizes
+  pub sized : are_sizes sizes ≡ true
+  pub addressed : list_all is_address_width address_widths ≡ true
 
 -- one plain port of each width, with these names
 abbrev pub ports_named : List PortName → List ℕ → List PortRow

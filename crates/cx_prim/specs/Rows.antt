@@ -1,6 +1,6 @@
 -- What a primitive is to its users: a row of ports and equations. A cycle looks at the old state and the inputs; its edge gives the next state.
 use Rattle.std.specs.Prelude.{◌≡◌, ℕ, ◌<◌, ◌^◌, ◌↔◌, ◌==◌, ◌&&◌, Bool, true, false, List, [], Option, Some, None, Result, Ok, Err, IsSome, IsNone, slice_get, slice_index_or, length}
-use Rattle.cx_bits.specs.BitVector.{BitVector}
+use Rattle.cx_bits.specs.BitVector.{BitVector, Fits}
 use Rattle.cx_prim.specs.declared.ports.PortName.{PortName}
 use Rattle.cx_prim.specs.declared.ports.PortRow.{PortRow}
 use Rattle.cx_prim.specs.declared.ports.Side.{Side}
@@ -50,12 +50,12 @@ pub record Row : Type 0 where
   pub idle : CellState → CellState
 
 -- the state after the edge, or the first address port that is out of range
+abbrev pub edge_of : Option ℕ → CellState → Result CellState ℕ
+edge_of (Some port) next = Err port
+edge_of None next = Ok next
+
 abbrev pub edge : Row → CellState → Inputs → Result CellState ℕ
 edge r state inputs = edge_of (r.out_of_range inputs) (r.next state inputs)
-  where
-    edge_of : Option ℕ → CellState → Result CellState ℕ
-    edge_of (Some port) next = Err port
-    edge_of None next = Ok next
 
 -- the start with these words
 abbrev pub start_with : Row → List ℕ → CellState
@@ -74,7 +74,12 @@ abbrev pub is_enable_side : Side → Bool
 is_enable_side Enable = true
 is_enable_side _ = false
 
--- port n is there, with this side
+abbrev pub is_input_side : Side → Bool
+is_input_side Enable = true
+is_input_side Plain = true
+is_input_side _ = false
+
+-- port n is there, on a side that passes the test
 abbrev pub HasSide : Row → ℕ → (Side → Bool) → Type 0
 HasSide r n test = (port : PortRow) × (slice_get r.ports n ≡ Some port) × (test port.side ≡ true)
 
@@ -83,9 +88,9 @@ pub record FitsPorts (ports : List PortRow) (inputs : Inputs) : Type 0 where
   pub count : length inputs ≡ length ports
   pub widths : (n : ℕ) (port : PortRow) (b : BitVector) → slice_get ports n ≡ Some port → input inputs n ≡ Some b → b.width ≡ port.width
 
--- each value is below two to its width, as every value of the program is
-abbrev pub AreInRange : Inputs → Type 0
-AreInRange inputs = (n : ℕ) (b : BitVector) → input inputs n ≡ Some b → b.value < 2 ^ b.width
+-- each value fits its width, as every value of the program does
+abbrev pub AreValues : Inputs → Type 0
+AreValues inputs = (n : ℕ) (b : BitVector) → input inputs n ≡ Some b → Fits b
 
 -- every enabling port has a value, and so has every demanded port
 pub record IsLookedAt (r : Row) (state : CellState) (inputs : Inputs) : Type 0 where
@@ -117,15 +122,17 @@ KeepsRegistered r = (state : CellState) (inputs others : Inputs) (n : ℕ) (port
 abbrev pub LooksWhereDemanded : Row → Type 0
 LooksWhereDemanded r = (state : CellState) (inputs others : Inputs) → AgreesWhereLooked r state inputs others → edge r state inputs ≡ edge r state others
 
--- the value of an output is as wide as its port and below two to its width
-pub record IsAsWide (width : ℕ) (b : BitVector) : Type 0 where
+-- a value of this width
+pub record IsOfWidth (width : ℕ) (b : BitVector) : Type 0 where
   pub same_width : b.width ≡ width
-  pub in_range : b.value < 2 ^ b.width
+  pub fits : Fits b
+
+-- outputs have the widths of their ports
 
 abbrev pub GivesWidths : Row → Type 0
 GivesWidths r =
-    (state : CellState) (inputs : Inputs) (n : ℕ) (port : PortRow) (b : BitVector) → IsState r.shape state → FitsPorts r.ports inputs → AreInRange inputs
-      → slice_get r.ports n ≡ Some port → is_output_side port.side ≡ true → r.output state inputs n ≡ Some b → IsAsWide port.width b
+    (state : CellState) (inputs : Inputs) (n : ℕ) (port : PortRow) (b : BitVector) → IsState r.shape state → FitsPorts r.ports inputs → AreValues inputs
+      → slice_get r.ports n ≡ Some port → is_output_side port.side ≡ true → r.output state inputs n ≡ Some b → IsOfWidth port.width b
 
 -- the same stands at every input that output n reads
 abbrev pub AgreesWhereRead : Row → ℕ → Inputs → Inputs → Type 0
@@ -143,3 +150,20 @@ pub record IsStrict (r : Row) (state : CellState) (inputs : Inputs) (n : ℕ) : 
 
 abbrev pub AnswersStrictly : Row → Type 0
 AnswersStrictly r = (state : CellState) (inputs : Inputs) (n : ℕ) → IsState r.shape state → HasSide r n is_output_side → IsStrict r state inputs n
+
+-- the start is a state of the row, and edges keep the states of the row
+pub record KeepsStates (r : Row) : Type 0 where
+  pub start : IsState r.shape r.start
+  pub next : (state : CellState) (inputs : Inputs) → IsState r.shape state → FitsPorts r.ports inputs → AreValues inputs → IsState r.shape (r.next state inputs)
+  pub idle : (state : CellState) → IsState r.shape state → IsState r.shape (r.idle state)
+
+-- the laws of a row, which every primitive keeps
+pub record IsLawful (r : Row) : Type 0 where
+  pub idle_once : IdlesOnce r
+  pub quiet_is_idle : IdlesWhenQuiet r
+  pub registered : KeepsRegistered r
+  pub looked_at : LooksWhereDemanded r
+  pub widths : GivesWidths r
+  pub reads_only : ReadsOnly r
+  pub strict : AnswersStrictly r
+  pub states : KeepsStates r

@@ -6,24 +6,17 @@ use Rattle.cx_bits.specs.Operators.{sum_of, difference_of, and_of, or_of, xor_of
 use Rattle.cx_text.specs.Loading.{word_count}
 use Rattle.cx_prim.specs.declared.names.PrimitiveName.{PrimitiveName}
 use Rattle.cx_prim.specs.declared.names.PrimitiveName.TheVariants.{Const, Wire, Add, Sub, And, Or, Xor, Not, Lsh, Rsh, Lt, Gt, Equal, Neq, Le, Ge, Slt, Sgt, Seq, Sneq, Sle, Sge, Slice, Pad, Mux, Reg, StdMemD1, StdMemD2, StdMemD3, StdMemD4, CombMemD1, CombMemD2, CombMemD3, CombMemD4, SeqMemD1, SeqMemD2, SeqMemD3, SeqMemD4, MultPipe, DivPipe, Timer}
+use Rattle.cx_prim.specs.Widths.{is_width}
 use Rattle.cx_prim.specs.Rows.{Row}
 use Rattle.cx_prim.specs.CombinationalRows.{combinational_row, constant_row, unary_row, binary_row, mux_row, greater_bit_of, unequal_bit_of, at_most_bit_of, at_least_bit_of, signed_greater_bit_of, signed_at_most_bit_of, signed_at_least_bit_of}
 use Rattle.cx_prim.specs.RegisterRow.{register_row}
-use Rattle.cx_prim.specs.MemoryRows.{memory_row, sequential_memory_row}
+use Rattle.cx_prim.specs.MemoryRows.{are_sizes, is_address_width, memory_row, sequential_memory_row}
 use Rattle.cx_prim.specs.PipeRows.{multiplier_row, divider_row, timer_row}
 
 -- a primitive as designs write it: its name and its numbers
 pub record PrimitiveRow : Type 0 where
   pub name : PrimitiveName
   pub numbers : List ℕ
-
--- 1 to 128 bits
-abbrev pub is_width : ℕ → Bool
-is_width width = nat_le 1 width && nat_le width 128
-
--- 1 to 64 bits
-abbrev pub is_address_width : ℕ → Bool
-is_address_width width = nat_le 1 width && nat_le width 64
 
 -- numbers: the width
 abbrev pub at_width : (ℕ → Row) → List ℕ → Option Row
@@ -44,10 +37,6 @@ slice_at _ = None
 abbrev pub pad_at : List ℕ → Option Row
 pad_at (width ∷ wide ∷ []) = if (is_width width && is_width wide) && nat_le width wide then Some (unary_row width wide (λ a. zero_extension_of a wide)) else None
 pad_at _ = None
-
--- sizes from 1 on, whose product is below 2 ^ 32
-abbrev pub are_sizes : List ℕ → Bool
-are_sizes sizes = list_all (λ size. nat_le 1 size) sizes && nat_lt (word_count sizes) (2 ^ 32)
 
 -- numbers: the width, the size of each dimension, the address width of each dimension
 abbrev pub memory_at : ℕ → (ℕ → List ℕ → List ℕ → Row) → List ℕ → Option Row
