@@ -1,10 +1,9 @@
 -- What the meaning of a design asks of a primitive's row. Nothing here or above knows a particular primitive.
-use Rattle.std.specs.Prelude.{◌≡◌, ℕ, zero, suc, Bool, List, [], ◌∷◌, Result, Ok, Err, IsFalse}
+use Rattle.std.specs.Prelude.{◌≡◌, ℕ, zero, suc, List, [], ◌∷◌}
 use Rattle.cx_prim.specs.declared.ports.PortRow.{PortRow}
 use Rattle.cx_prim.specs.declared.ports.Side.{Side}
 use Rattle.cx_prim.specs.declared.ports.Side.TheVariants.{Registered}
-use Rattle.cx_prim.specs.CellStates.{CellState}
-use Rattle.cx_prim.specs.Rows.{Inputs, Row, IdlesOnce, IdlesWhenQuiet, IsQuiet}
+use Rattle.cx_prim.specs.Rows.{Row, IdlesOnce}
 
 abbrev pub side_from : List PortRow → ℕ → Side
 side_from [] p = Registered
@@ -15,10 +14,7 @@ side_from (port ∷ ports) (suc p) = side_from ports p
 abbrev pub side_of : Row → ℕ → Side
 side_of row p = side_from row.ports p
 
--- what every row keeps: two idle edges are one, an edge whose enabling ports are 0 demands nothing and is the idle edge,
--- and an idle edge leaves the start as it is
+-- what every row keeps: two idle edges are one, and an idle edge leaves the start as it is
 pub record KeepsIdle (row : Row) : Type 0 where
   pub once : IdlesOnce row
-  pub quiet : IdlesWhenQuiet row
-  pub undemanded : (state : CellState) (inputs : Inputs) (p : ℕ) → IsQuiet row inputs → IsFalse (row.demands state inputs p)
   pub starts_settled : row.idle row.start ≡ row.start

@@ -4,8 +4,8 @@ ghost use Rattle.std.specs.Prelude.{◌≡◌, ◌≤◌, ℕ};
 ghost use Rattle.cx_meaning.specs.declared.ports.PortRef.{PortRef};
 ghost use Rattle.cx_meaning.specs.declared.sights.Seen.{Seen};
 ghost use Rattle.cx_meaning.specs.Rows.{KeepsIdle};
-ghost use Rattle.cx_meaning.specs.Designs.{PlainStatement};
-ghost use Rattle.cx_meaning.specs.Instances.{Instance, State, Path, idle, start_at, IsSettled};
+ghost use Rattle.cx_meaning.specs.Designs.{PlainDesign, PlainStatement};
+ghost use Rattle.cx_meaning.specs.Instances.{Instance, State, Path, idle, tree_of, start_at, IsSettled};
 ghost use Rattle.cx_meaning.specs.Active.{Active};
 ghost use Rattle.cx_meaning.specs.Sights.{Held, Sees};
 ghost use Rattle.cx_meaning.specs.Running.{run_statement};
@@ -57,5 +57,11 @@ pub fn leaves_settled()
         (i : Instance) (held : Held) (statement : PlainStatement) (s : State) (n : ℕ)
             → AllRows KeepsIdle i → IsSettled i s → Leaves (IsSettled i) (run_statement i held statement s n)
     }
+{
+}
+
+/// The rows of a design's tree keep their idle edges, which the laws on settled states ask.
+pub fn designs_keep_idle()
+    ensures { (d : PlainDesign) → AllRows KeepsIdle (tree_of d) }
 {
 }
