@@ -1,2 +1,3 @@
 pub mod Finite
 pub mod FoundLemmas
+pub mod FrameLemmas

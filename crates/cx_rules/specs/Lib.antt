@@ -12,3 +12,4 @@ pub mod LimitRule
 pub mod Accepted
 pub mod Wellformed
 pub mod Circles
+pub mod Frames
