@@ -8,7 +8,7 @@ pub data Asked : Type 0 where
 
 -- one decimal digit or more, with a value of at most 10^12; zeros may stand before
 pub record IsBudget (digits : List ℕ) (budget : ℕ) : Type 0 where
-  pub digits : IsNumeral 10 digits
+  pub numeral : IsNumeral 10 digits
   pub value : digits_value 10 digits ≡ budget
   pub limit : budget ≤ 1000000000000
 

@@ -1,7 +1,6 @@
 //! The commands that the words on the command line spell.
 
-ghost use Rattle.std.specs.Prelude.{MatchOption, SomeIff};
-ghost use Rattle.std.specs.Str.Parse.{digits_value};
+ghost use Rattle.std.specs.Prelude.{ℕ, MatchOption};
 ghost use Rattle.cx_driver.specs.Commands.{Asks, AsksNothing, IsBudget};
 ghost use Rattle.cx_driver.specs.Asked.{asked_of};
 
@@ -20,7 +19,7 @@ pub(crate) enum Command<'a> {
 }
 
 /// The command of the words after the program's name.
-pub(crate) fn command(words: &[Word]) -> Option<Command<'_>>
+pub(crate) fn command_of(words: &[Word]) -> Option<Command<'_>>
     ensures { MatchOption result (AsksNothing words.now) (λ command. Asks words.now (asked_of command)) }
 {
     match words {

@@ -12,3 +12,6 @@ pub use interpreting::interp;
 pub use refusals::Status;
 pub use running::run;
 pub use stops::Stop;
+
+#[cfg(test)]
+mod tests;

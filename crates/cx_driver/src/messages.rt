@@ -11,7 +11,6 @@ use std::alloc::Global;
 pub(crate) fn line(alloc: Global, refusal: &Refusal<'_>) -> Result<Vec<u8>, Memory> {
     let mut line = Vec::new(alloc);
     match refusal {
-        Refusal::Words => line.extend_from_slice(b"words")?,
         Refusal::TooLong { file, seen } => {
             line.extend_from_slice(b"too-long")?;
             push_part(&mut line, file)?;

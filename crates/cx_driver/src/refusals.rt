@@ -1,8 +1,8 @@
 //! How a call of the program ends, and what it says where it ends without an answer.
 
+ghost use Rattle.std.specs.Prelude.{◌≡◌};
+
 use crate::stops::Stop;
-use cx_outside::FileAnswer;
-use cx_text::Memory;
 
 /// How the program ends. The numbers are the exit statuses.
 #[derive(Clone, Copy, Debug, PartialEq, Eq)]
@@ -25,10 +25,9 @@ pub enum Status {
     Memory = 7,
 }
 
-/// Why a command has no answer. File names are lent from the words.
+/// Why a command has no answer. The names of files are lent from the words.
 #[derive(Debug, Drop)]
 pub(crate) enum Refusal<'a> {
-    Words,
     /// More bytes than the file may have.
     TooLong { file: &'a [u8], seen: u64 },
     ReadFault { file: &'a [u8] },
@@ -36,25 +35,19 @@ pub(crate) enum Refusal<'a> {
 }
 
 impl Refusal<'_> {
+    ghost use Rattle.cx_driver.specs.Causes.{status_of};
+
     /// The status with which the program ends.
-    pub(crate) fn status(&self) -> Status {
+    pub(crate) fn status(&self) -> Status
+        ensures { result ≡ status_of self.now }
+    {
         match self {
-            Refusal::Words => Status::Words,
             Refusal::TooLong { .. } | Refusal::Stop(Stop::Rule(_) | Stop::Json(_)) => {
                 Status::Refused
             }
             Refusal::Stop(Stop::More(_)) => Status::More,
             Refusal::ReadFault { .. } => Status::ReadFault,
             Refusal::Stop(Stop::Memory) => Status::Memory,
-        }
-    }
-
-    /// What is told of a file that was not read.
-    pub(crate) fn of_file<'a>(file: &'a [u8], answer: FileAnswer) -> Refusal<'a> {
-        match answer {
-            FileAnswer::Failed => Refusal::ReadFault { file },
-            FileAnswer::TooLong(seen) => Refusal::TooLong { file, seen },
-            FileAnswer::Memory => Refusal::Stop(Stop::Memory),
         }
     }
 }

@@ -1,24 +1,24 @@
 //! The top call.
 
-ghost use Rattle.std.specs.Prelude.{◌≡◌, ◌≢◌, ◌⊎◌, ◌↔◌, ◌≤◌, ℕ, List, IfOk, IfErr};
+ghost use Rattle.std.specs.Prelude.{◌≡◌, ◌≢◌, ◌⊎◌, ◌↔◌, ◌≤◌, ℕ, List, [], ◌∷◌, Contains, IfOk, IfErr};
 ghost use Rattle.cx_outside.specs.Counts.{HasRisen};
-ghost use Rattle.cx_outside.specs.Reading.{IsAbsent};
 ghost use Rattle.cx_outside.specs.Writing.{grown, GrowsByPart};
-ghost use Rattle.cx_driver.specs.Commands.{Asked, Asks, AsksNothing, IsFileOf};
+ghost use Rattle.cx_driver.specs.Commands.{AsksNothing, IsFileOf, files_of};
+ghost use Rattle.cx_driver.specs.Asked.{asked_of};
 ghost use Rattle.cx_driver.specs.Dumps.{IsDump};
 ghost use Rattle.cx_driver.specs.Causes.{HasCause, IsOfFile, IsReadFault, status_of};
 
-use crate::commands::{Command, command};
+use crate::commands::{Command, command_of};
 use crate::interpreting::interp;
 use crate::messages::line;
 use crate::refusals::{Refusal, Status};
 use crate::stops::Stop;
-use cx_outside::{Files, Sink, Word, write_all};
+use cx_outside::{FileAnswer, Files, Sink, Word, write_all};
 use cx_text::{DATA_BYTES, DESIGN_BYTES};
 use std::alloc::Global;
 
 /// Does what the words after the program's name ask for: writes the whole answer to `out`, or a line to `err` that
-/// says why there is none.
+/// says why there is none. A failing `err` changes no status.
 pub fn run<F: Files, O: Sink, E: Sink>(
     alloc: Global,
     words: &[Word],
@@ -26,18 +26,50 @@ pub fn run<F: Files, O: Sink, E: Sink>(
     out: &mut O,
     err: &mut E,
 ) -> Status
-    ensures done { result ≡ Status.Done → (text : List ℕ) × IsDump text × (O.written out.new ≡ grown (O.written out.old) text) }
+    ensures done { result ≡ Status.Done →
+        (text : List ℕ) × IsDump text × (O.written out.new ≡ grown (O.written out.old) text) }
 
     ensures words { (result ≡ Status.Words) ↔ AsksNothing words.now }
-    ensures read_fault { result ≡ Status.ReadFault → (file : List ℕ)
-        × IsReadFault words.now (F.held files.old) (F.faults files.old) (F.faults files.new) file }
+    ensures read_fault { result ≡ Status.ReadFault → (file : List ℕ) × IsFileOf words.now file
+        × IsReadFault (F.held files.old) (F.faults files.old) (F.faults files.new) file }
     ensures write_fault { result ≡ Status.WriteFault → HasRisen (O.faults out.old) (O.faults out.new) }
 
-    ensures part { result ≡ Status.WriteFault → (text : List ℕ) × IsDump text
-        × GrowsByPart (O.written out.old) text (O.written out.new) }
-    ensures nothing { result ≢ Status.Done → result ≢ Status.WriteFault → O.written out.new ≡ O.written out.old }
+    ensures part { result ≡ Status.WriteFault →
+        (text : List ℕ) × IsDump text × GrowsByPart (O.written out.old) text (O.written out.new) }
+    ensures nothing { result ≢ Status.Done → result ≢ Status.WriteFault →
+        O.written out.new ≡ O.written out.old }
 {
-    match answer(alloc, words, files) {
+    match command_of(words) {
+        Some(command) => obey(alloc, command, files, out, err),
+        None => {
+            tell(b"words\n", err);
+            Status::Words
+        }
+    }
+}
+
+/// Does what a command asks for.
+fn obey<F: Files, O: Sink, E: Sink>(
+    alloc: Global,
+    command: Command<'_>,
+    files: &mut F,
+    out: &mut O,
+    err: &mut E,
+) -> Status
+    ensures done { result ≡ Status.Done →
+        (text : List ℕ) × IsDump text × (O.written out.new ≡ grown (O.written out.old) text) }
+
+    ensures words { result ≢ Status.Words }
+    ensures read_fault { result ≡ Status.ReadFault → (file : List ℕ) × Contains (files_of (asked_of command.entry)) file
+        × IsReadFault (F.held files.old) (F.faults files.old) (F.faults files.new) file }
+    ensures write_fault { result ≡ Status.WriteFault → HasRisen (O.faults out.old) (O.faults out.new) }
+
+    ensures part { result ≡ Status.WriteFault →
+        (text : List ℕ) × IsDump text × GrowsByPart (O.written out.old) text (O.written out.new) }
+    ensures nothing { result ≢ Status.Done → result ≢ Status.WriteFault →
+        O.written out.new ≡ O.written out.old }
+{
+    match answer(alloc, command, files) {
         Ok(text) => deliver(&text, out, err),
         Err(refusal) => refuse(alloc, &refusal, err),
     }
@@ -47,7 +79,7 @@ pub fn run<F: Files, O: Sink, E: Sink>(
 fn deliver<O: Sink, E: Sink>(text: &[u8], out: &mut O, err: &mut E) -> Status
     ensures cases { ((result ≡ Status.Done) × (O.written out.new ≡ grown (O.written out.old) text.now))
         ⊎ ((result ≡ Status.WriteFault) × HasRisen (O.faults out.old) (O.faults out.new)
-            × GrowsByPart (O.written out.old) text.now (O.written out.new)) }
+        × GrowsByPart (O.written out.old) text.now (O.written out.new)) }
 {
     match write_all(out, text) {
         Ok(()) => Status::Done,
@@ -60,7 +92,7 @@ fn deliver<O: Sink, E: Sink>(text: &[u8], out: &mut O, err: &mut E) -> Status
 
 /// Says why there is no answer.
 fn refuse<E: Sink>(alloc: Global, refusal: &Refusal<'_>, err: &mut E) -> Status
-    ensures status { (result ≡ status_of refusal.now) ⊎ (result ≡ Status.Memory) }
+    ensures { (result ≡ status_of refusal.now) ⊎ (result ≡ Status.Memory) }
 {
     match line(alloc, refusal) {
         Ok(line) => {
@@ -74,26 +106,46 @@ fn refuse<E: Sink>(alloc: Global, refusal: &Refusal<'_>, err: &mut E) -> Status
     }
 }
 
-/// Writes a line, or as much of it as the sink takes: what is said changes no status.
+/// Writes a line, or as much of it as the sink takes.
 fn tell<E: Sink>(line: &[u8], err: &mut E) {
     let _ = write_all(err, line);
 }
 
-/// The answer of the command that the words spell.
+/// The answer of a command.
 fn answer<'a, F: Files>(
     alloc: Global,
-    words: &'a [Word],
+    command: Command<'a>,
     files: &mut F,
 ) -> Result<Vec<u8>, Refusal<'a>>
-    ensures dump { IfOk result (λ text. IsDump text.items × ((command : Asked) × Asks words.now command)) }
-    ensures cause { IfErr result (HasCause words.now (F.held files.old) (F.faults files.old) (F.faults files.new)) }
+    ensures dump { IfOk result (λ text. IsDump text.items) }
+    ensures cause { IfErr result (HasCause (files_of (asked_of command.entry)) (F.held files.old) (F.faults files.old) (F.faults files.new)) }
 {
-    let Some(Command::Interp { design, json, budget }) = command(words) else {
-        return Err(Refusal::Words);
-    };
+    match command {
+        Command::Interp {
+            design,
+            json,
+            budget,
+        } => interpreted(alloc, design, json, budget, files),
+    }
+}
+
+/// The answer of the interpreter on files.
+fn interpreted<'a, F: Files>(
+    alloc: Global,
+    design: &'a [u8],
+    json: &'a [u8],
+    budget: u64,
+    files: &mut F,
+) -> Result<Vec<u8>, Refusal<'a>>
+    ensures dump { IfOk result (λ text. IsDump text.items) }
+    ensures cause { IfErr result (HasCause (design.now ∷ json.now ∷ []) (F.held files.old) (F.faults files.old) (F.faults files.new)) }
+{
     let text = read(alloc, files, design, DESIGN_BYTES)?;
     let data = read(alloc, files, json, DATA_BYTES)?;
-    interp(alloc, &text, &data, budget).map_err(Refusal::Stop)
+    match interp(alloc, &text, &data, budget) {
+        Ok(dump) => Ok(dump),
+        Err(stop) => Err(Refusal::Stop(stop)),
+    }
 }
 
 /// Reads a file within its limit in bytes.
@@ -104,11 +156,14 @@ fn read<'a, F: Files>(
     limit: usize,
 ) -> Result<Vec<u8>, Refusal<'a>>
     ensures cause { IfErr result (IsOfFile (F.held files.old) (F.faults files.old) (F.faults files.new) file.now) }
+
     ensures kept { F.held files.new ≡ F.held files.old }
     ensures count { F.faults files.old ≤ F.faults files.new }
 {
     match files.read_file(alloc, file, limit) {
         Ok(bytes) => Ok(bytes),
-        Err(answer) => Err(Refusal::of_file(file, answer)),
+        Err(FileAnswer::Failed) => Err(Refusal::ReadFault { file }),
+        Err(FileAnswer::TooLong(seen)) => Err(Refusal::TooLong { file, seen }),
+        Err(FileAnswer::Memory) => Err(Refusal::Stop(Stop::Memory)),
     }
 }

@@ -1,0 +1,3 @@
+pub mod Wholes
+pub mod Counted
+pub mod Four

@@ -1,0 +1,173 @@
+//! Whole calls over files and sinks in memory. The values were worked by hand: each group takes two turns.
+
+use crate::{Status, run};
+use cx_outside::{MemFiles, MemSink, Word};
+use std::alloc::Global;
+use std::test::Fail;
+
+const ADD_THREE: &str = "component main() -> () { cells { @external mem = std_mem_d1(32, 1, 1);
+    r = std_reg(32); a = std_add(32); } wires {
+    group rd { mem.addr0 = 1'd0; r.in = mem.read_data; r.write_en = 1'd1; rd[done] = r.done; }
+    group up { a.left = r.out; a.right = 32'd3; r.in = a.out; r.write_en = 1'd1; up[done] = r.done; }
+    group wr { mem.addr0 = 1'd0; mem.write_data = r.out; mem.write_en = 1'd1; wr[done] = mem.done; }
+    } control { seq { rd; up; wr; } } }";
+
+/// The done of a register stays up for one turn after its write: the second `inc` must not see it.
+const STALE_DONE: &str = "component main() -> () { cells { @external mem = std_mem_d1(32, 1, 1);
+    r = std_reg(32); a = std_add(32); } wires {
+    group inc { a.left = r.out; a.right = 32'd1; r.in = a.out; r.write_en = 1'd1; inc[done] = r.done; }
+    group st { mem.addr0 = 1'd0; mem.write_data = r.out; mem.write_en = 1'd1; st[done] = mem.done; }
+    } control { seq { inc; inc; st; } } }";
+
+const FIVE: &str = "{\"mem\":{\"data\":[5],\"format\":
+    {\"numeric_type\":\"bitnum\",\"is_signed\":false,\"width\":32}}}";
+
+/// What a call of `run` came to.
+#[derive(Debug, Drop)]
+struct Ended {
+    status: Status,
+    out: MemSink,
+    err: MemSink,
+}
+
+fn words_of(alloc: Global, line: &str) -> Result<Vec<Word>, Fail> {
+    let mut words = Vec::new(alloc);
+    for word in line.split(' ') {
+        words.push(Word::from_bytes(alloc, word.as_bytes())?)?;
+    }
+    Ok(words)
+}
+
+fn files_of(alloc: Global) -> Result<MemFiles, Fail> {
+    let mut entries = Vec::new(alloc);
+    for (name, bytes) in [
+        ("add", ADD_THREE),
+        ("stale", STALE_DONE),
+        ("five", FIVE),
+        ("bad", "[]"),
+    ] {
+        entries.push((
+            Word::from_bytes(alloc, name.as_bytes())?,
+            Word::from_bytes(alloc, bytes.as_bytes())?,
+        ))?;
+    }
+    Ok(MemFiles::new(entries, Vec::new(alloc)))
+}
+
+/// Runs the words of a line over the files above. `out` takes 8 bytes a call and fails at this call, from 1.
+fn ended(alloc: Global, line: &str, failing: u64) -> Result<Ended, Fail> {
+    let mut files = files_of(alloc)?;
+    let mut out = MemSink::new(8, vec![in alloc; failing]?, vec![in alloc; 0; 64]?);
+    let mut err = MemSink::new(64, Vec::new(alloc), vec![in alloc; 0; 64]?);
+    let status = run(
+        alloc,
+        &words_of(alloc, line)?,
+        &mut files,
+        &mut out,
+        &mut err,
+    );
+    Ok(Ended { status, out, err })
+}
+
+#[test]
+fn whole_calls(rt: HostRuntime) -> Result<(), Fail> {
+    let cases = [
+        (
+            "interp add five 1000",
+            0,
+            Status::Done,
+            "{\"cycles\":6,\"memories\":{\"mem\":[8]}}\n",
+            "",
+        ),
+        (
+            "interp stale five 1000",
+            0,
+            Status::Done,
+            "{\"cycles\":6,\"memories\":{\"mem\":[2]}}\n",
+            "",
+        ),
+        (
+            "interp add five 6",
+            0,
+            Status::Done,
+            "{\"cycles\":6,\"memories\":{\"mem\":[8]}}\n",
+            "",
+        ),
+        ("interp add five 5", 0, Status::More, "", "more 5\n"),
+        (
+            "interp add five 007",
+            0,
+            Status::Done,
+            "{\"cycles\":6,\"memories\":{\"mem\":[8]}}\n",
+            "",
+        ),
+        (
+            "interp absent five 9",
+            0,
+            Status::ReadFault,
+            "",
+            "read-fault absent\n",
+        ),
+        (
+            "interp add absent 9",
+            0,
+            Status::ReadFault,
+            "",
+            "read-fault absent\n",
+        ),
+        (
+            "interp five five 9",
+            0,
+            Status::Refused,
+            "",
+            "refused 1:1 left-out\n",
+        ),
+        (
+            "interp add bad 9",
+            0,
+            Status::Refused,
+            "",
+            "data not-json\n",
+        ),
+        (
+            "interp add five 9",
+            2,
+            Status::WriteFault,
+            "{\"cycles",
+            "write-fault\n",
+        ),
+        ("interp add five", 0, Status::Words, "", "words\n"),
+        ("interp add five 9 9", 0, Status::Words, "", "words\n"),
+        (
+            "interp add five 1000000000001",
+            0,
+            Status::Words,
+            "",
+            "words\n",
+        ),
+        ("interp add five +9", 0, Status::Words, "", "words\n"),
+        ("run add five 9", 0, Status::Words, "", "words\n"),
+    ];
+    for (line, failing, status, out, err) in cases {
+        let ended = ended(rt.alloc(), line, failing)?;
+        assert_eq!(rt; ended.status, status, "{line}");
+        assert_eq!(rt; ended.out.bytes(), out.as_bytes(), "{line}");
+        assert_eq!(rt; ended.err.bytes(), err.as_bytes(), "{line}");
+    }
+    Ok(())
+}
+
+/// A sink for messages that fails changes no status.
+#[test]
+fn deaf(rt: HostRuntime) -> Result<(), Fail> {
+    let alloc = rt.alloc();
+    let mut files = files_of(alloc)?;
+    let mut out = MemSink::new(1, Vec::new(alloc), vec![in alloc; 0; 64]?);
+    let mut err = MemSink::new(1, vec![in alloc; 1]?, Vec::new(alloc));
+    let words = words_of(alloc, "interp add five 5")?;
+    assert_eq!(rt;
+        run(alloc, &words, &mut files, &mut out, &mut err),
+        Status::More
+    );
+    Ok(())
+}
