@@ -1,0 +1,3 @@
+pub mod PlainGuards
+pub mod PlainStatements
+pub mod PlainTree
