@@ -85,7 +85,7 @@ known_absent_branch = refl
 abbrev multiplying : PlainDesign
 multiplying = design (mem ∷ cell primitives.MultPipe (32 ∷ []) ∷ [])
     (plain_group (assign (Cell 1 1) (number 65536) 1 ∷ assign (Cell 1 2) (number 65537) 2 ∷ guarded (Cell 1 0) (Negation (Atom (placed (Cell 1 4)))) (one_bit 1) 3
-      ∷ assign (Cell 0 0) (one_bit 0) 4 ∷ assign (Cell 0 1) (Cell 1 3) 5 ∷ assign (Cell 0 2) (Cell 1 4) 6 ∷ assign (Done 0) (Cell 0 4) 7 ∷ []) ∷ [])
+    ∷ assign (Cell 0 0) (one_bit 0) 4 ∷ assign (Cell 0 1) (Cell 1 3) 5 ∷ assign (Cell 0 2) (Cell 1 4) 6 ∷ assign (Done 0) (Cell 0 4) 7 ∷ []) ∷ [])
     [] (enable 0)
 
 pub known_latency : run_told multiplying five 1000 ≡ Ends 5 ((65536 ∷ []) ∷ [])

@@ -238,9 +238,9 @@ Needs i act look (ports.Literal w v) q = ⊥
 -- are seen in the child's state under its continuous assignments; its inputs do not matter there, since outputs rest on state
 pub data Sees : Instance → Held → Active → State → PortRef → Seen → Type 0 where
   by_step : {i : Instance} {held : Held} {act : Active} {s : State} {p : PortRef} {x : Seen} (look : Look) (below : Below)
-    → ((q : PortRef) → Needs i act look p q → Sees i held act s q (look q))
-    → ((c port n : ℕ) (child : Instance) → p ≡ ports.Cell c port → cell_at (cells_of i) c ≡ OfInstance child → Sees child unheld nothing (under c s) (ports.Output n) (below c n))
-    → step i held act s look below p ≡ x → Sees i held act s p x
+      → ((q : PortRef) → Needs i act look p q → Sees i held act s q (look q))
+      → ((c port n : ℕ) (child : Instance) → p ≡ ports.Cell c port → cell_at (cells_of i) c ≡ OfInstance child → Sees child unheld nothing (under c s) (ports.Output n) (below c n))
+      → step i held act s look below p ≡ x → Sees i held act s p x
 
 -- WHAT A PORT IS SEEN AS, FOUND: after as many steps as there are ports to which something leads, nothing that does not
 -- lead in a circle is left to see. In a circle a port is Undefined

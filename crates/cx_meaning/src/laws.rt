@@ -14,54 +14,39 @@ ghost use Rattle.cx_meaning.specs.Laws.{AllRows};
 
 /// A port is seen as one thing.
 pub fn sees_one_thing()
-    ensures {
-        (i : Instance) (held : Held) (act : Active) (s : State) (p : PortRef) (x y : Seen)
-            → Sees i held act s p x → Sees i held act s p y → x ≡ y
-    }
-{
-}
+    ensures { (i : Instance) (held : Held) (act : Active) (s : State) (p : PortRef) (x y : Seen)
+        → Sees i held act s p x → Sees i held act s p y → x ≡ y }
+{}
 
 /// With a greater budget a run that ended ends so, one that faulted faults so, and another ends or faults later.
 pub fn grows_with_budget()
-    ensures {
-        (i : Instance) (held : Held) (statement : PlainStatement) (s : State) (n m : ℕ)
-            → n ≤ m → Grows n (run_statement i held statement s n) (run_statement i held statement s m)
-    }
-{
-}
+    ensures { (i : Instance) (held : Held) (statement : PlainStatement) (s : State) (n m : ℕ)
+        → n ≤ m → Grows n (run_statement i held statement s n) (run_statement i held statement s m) }
+{}
 
 /// A statement that ends takes at least one turn.
 pub fn takes_a_turn()
-    ensures {
-        (i : Instance) (held : Held) (statement : PlainStatement) (s : State) (n : ℕ)
-            → TakesTurns (run_statement i held statement s n)
-    }
-{
-}
+    ensures { (i : Instance) (held : Held) (statement : PlainStatement) (s : State) (n : ℕ)
+        → TakesTurns (run_statement i held statement s n) }
+{}
 
 /// Two idle turns are one: after one the state is settled.
 pub fn idle_settles()
     ensures { (i : Instance) (s : State) → AllRows KeepsIdle i → IsSettled i (idle i s) }
-{
-}
+{}
 
 /// Where every cell is at its row's start the state is settled.
 pub fn start_is_settled()
     ensures { (i : Instance) → AllRows KeepsIdle i → IsSettled i (start_at i) }
-{
-}
+{}
 
 /// A statement that begins in a settled state and ends leaves a settled state.
 pub fn leaves_settled()
-    ensures {
-        (i : Instance) (held : Held) (statement : PlainStatement) (s : State) (n : ℕ)
-            → AllRows KeepsIdle i → IsSettled i s → Leaves (IsSettled i) (run_statement i held statement s n)
-    }
-{
-}
+    ensures { (i : Instance) (held : Held) (statement : PlainStatement) (s : State) (n : ℕ)
+        → AllRows KeepsIdle i → IsSettled i s → Leaves (IsSettled i) (run_statement i held statement s n) }
+{}
 
 /// The rows of a design's tree keep their idle edges, which the laws on settled states ask.
 pub fn designs_keep_idle()
     ensures { (d : PlainDesign) → AllRows KeepsIdle (tree_of d) }
-{
-}
+{}

@@ -204,11 +204,11 @@ module _ (i : Instance) (act : Active) where
     enough (suc n) p above distinct real depends h =
         by_step (approach i held act s below n) below
         (λ q need. let l : Leads i act p q = needs_leads i act (approach i held act s below n) p q need in
-            enough n q (p ∷ above)
-            ((λ j. acyclic (p, depends p j)), distinct)
-            (λ v j. ⊎_elim (λ e. subst (λ x. In (ports_of i) x) e (leads_real p q l)) (λ k. real v k) j)
-            (λ v j. ⊎_elim (λ e. subst (λ x. Depends i act x q) e (at_once l)) (λ k. further v p q (depends v k) l) j)
-            (longer n (length above) h))
+        enough n q (p ∷ above)
+        ((λ j. acyclic (p, depends p j)), distinct)
+        (λ v j. ⊎_elim (λ e. subst (λ x. In (ports_of i) x) e (leads_real p q l)) (λ k. real v k) j)
+        (λ v j. ⊎_elim (λ e. subst (λ x. Depends i act x q) e (at_once l)) (λ k. further v p q (depends v k) l) j)
+        (longer n (length above) h))
         (λ c port m child e at. children c m child at)
         refl
       where

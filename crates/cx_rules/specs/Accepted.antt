@@ -129,7 +129,7 @@ pub record IsFirstOf (stage : ℕ) (d : PlainDesign) (told : Diagnostic) : Type 
   pub spot : Spot
   pub breaks : Breaks d told.rule spot told.place told.name
   pub first : (rule : Rule) (other : Spot) (place : Place) (name : List ℕ) → stage_of rule ≡ stage → Breaks d rule other place name
-    → comes_before (key_of rule other place) (key_of told.rule spot told.place) ≡ false
+      → comes_before (key_of rule other place) (key_of told.rule spot told.place) ≡ false
 
 -- THE FIRST BREAK of a design: that of the first stage that has one
 pub record FirstBreak (d : PlainDesign) (told : Diagnostic) : Type 0 where

@@ -174,13 +174,13 @@ pub data CallBreak (i : Instance) (g : ℕ) (c : ℕ) (child : Instance) : PortR
   wrong_go : is_right_go (done_port c child) (with_target (go_port c) (group_at (part_of i) g).assigns) ≡ false → CallBreak i g c child (go_port c)
   -- no other input of c depends on an output or the done of c
   input_by_output : (p q n : ℕ) → part_port (part_of child) p ≡ AnInput n → ((m : ℕ) × (part_port (part_of child) q ≡ AnOutput m)) ⊎ (part_port (part_of child) q ≡ ItsDone)
-    → Depends i (group g) (ports.Cell c p) (ports.Cell c q) → CallBreak i g c child (ports.Cell c p)
+      → Depends i (group g) (ports.Cell c p) (ports.Cell c q) → CallBreak i g c child (ports.Cell c p)
   -- each other enabling port is the write_en of a std_reg, driven as said
   wrong_enable : {target : PortRef} → is_primitive_enable i target ≡ true
-    → (is_register_enable (part_of i) target && is_right_enable (done_port c child) (with_target target (group_at (part_of i) g).assigns)) ≡ false → CallBreak i g c child target
+      → (is_register_enable (part_of i) target && is_right_enable (done_port c child) (with_target target (group_at (part_of i) g).assigns)) ≡ false → CallBreak i g c child target
   -- the done is as said
   wrong_done : is_right_done (wanted_dones (done_port c child) (captured (part_of i) (group_at (part_of i) g).assigns)) (with_target (ports.Done g) (group_at (part_of i) g).assigns) ≡ false
-    → CallBreak i g c child (ports.Done g)
+      → CallBreak i g c child (ports.Done g)
 
 -- an assignment that drives a port of a component cell and stands in no plain group
 abbrev pub IsOutside : Instance → Owned → Type 0
@@ -203,5 +203,5 @@ abbrev pub GroupBreaksCallShape : GroupRule
 GroupBreaksCallShape i g place name =
     (is_plain (group_at (part_of i) g).kind ≡ true)
     × ((c : ℕ) × Calls i (group_at (part_of i) g).assigns c
-      × ((some_target (same_port (go_port c)) (group_at (part_of i) g).assigns && some_target (is_hole_of g) (group_at (part_of i) g).assigns) ≡ false))
+    × ((some_target (same_port (go_port c)) (group_at (part_of i) g).assigns && some_target (is_hole_of g) (group_at (part_of i) g).assigns) ≡ false))
     × Tells place name (group_at (part_of i) g).place (group_at (part_of i) g).name

@@ -36,9 +36,9 @@ pub data Rests (i : Instance) : PortRef → Type 0 where
   output_rests : {c p : ℕ} (n : ℕ) (child : Instance) → cell_at (cells_of i) c ≡ OfInstance child → part_port (part_of child) p ≡ AnOutput n → Rests i (ports.Cell c p)
   done_rests : {c p : ℕ} (child : Instance) → cell_at (cells_of i) c ≡ OfInstance child → part_port (part_of child) p ≡ ItsDone → Rests i (ports.Cell c p)
   combinational_rests : {c p : ℕ} (row : Row) → cell_at (cells_of i) c ≡ OfRow row → side_of row p ≡ sides.Output
-    → ((m g : ℕ) (a : PlainAssign) → row.reads p m ≡ true → In (group_at (part_of i) g).assigns a → a.target ≡ ports.Cell c m → ⊥)
-    → ((m : ℕ) (a : PlainAssign) (q : PortRef) → row.reads p m ≡ true → In (part_of i).always a → a.target ≡ ports.Cell c m → AssignNames a q → Rests i q)
-    → Rests i (ports.Cell c p)
+      → ((m g : ℕ) (a : PlainAssign) → row.reads p m ≡ true → In (group_at (part_of i) g).assigns a → a.target ≡ ports.Cell c m → ⊥)
+      → ((m : ℕ) (a : PlainAssign) (q : PortRef) → row.reads p m ≡ true → In (part_of i).always a → a.target ≡ ports.Cell c m → AssignNames a q → Rests i q)
+      → Rests i (ports.Cell c p)
 
 -- what the sources and guards of active assignments name
 abbrev pub Mentions : List Acting → PortRef → Type 0

@@ -83,7 +83,7 @@ IsEnabledTwice arms g = (two : Arms arms) × In (enabled_in two.first) g × In (
 abbrev pub BreaksRace : StatementRule
 BreaksRace i v place name =
     ((c : ℕ) × IsShared (part_of i) (arms_of v.form) c × ((e : ℕ) → e < c → IsShared (part_of i) (arms_of v.form) e → ⊥)
-      × Tells place name v.place (cell_name (part_of i).cells c))
+    × Tells place name v.place (cell_name (part_of i).cells c))
     ⊎ (((c : ℕ) → IsShared (part_of i) (arms_of v.form) c → ⊥)
-      × ((g : ℕ) × IsEnabledTwice (arms_of v.form) g × ((h : ℕ) → h < g → IsEnabledTwice (arms_of v.form) h → ⊥)
-        × Tells place name v.place (group_at (part_of i) g).name))
+    × ((g : ℕ) × IsEnabledTwice (arms_of v.form) g × ((h : ℕ) → h < g → IsEnabledTwice (arms_of v.form) h → ⊥)
+    × Tells place name v.place (group_at (part_of i) g).name))

@@ -14,40 +14,28 @@ ghost use Rattle.cx_rules.specs.Frames.{IsFrame};
 
 /// Each port is seen as what `seen` finds.
 pub fn sees_what_is_found()
-    ensures {
-        (i : Instance) (held : Held) (act : Active) (s : State) (p : PortRef)
-            → IsAcyclic i act → AcyclicBelow (cells_of i) → Sees i held act s p (seen i held act s p)
-    }
-{
-}
+    ensures { (i : Instance) (held : Held) (act : Active) (s : State) (p : PortRef)
+        → IsAcyclic i act → AcyclicBelow (cells_of i) → Sees i held act s p (seen i held act s p) }
+{}
 
 /// What is found solves the steps: each port is what one step gives over what all ports are.
 pub fn found_solves_steps()
-    ensures {
-        (i : Instance) (held : Held) (act : Active) (s : State) (p : PortRef)
-            → IsAcyclic i act → AcyclicBelow (cells_of i)
-            → seen i held act s p ≡ step i held act s (seen i held act s) (outputs_below (cells_of i) (λ c. under c s)) p
-    }
-{
-}
+    ensures { (i : Instance) (held : Held) (act : Active) (s : State) (p : PortRef)
+        → IsAcyclic i act → AcyclicBelow (cells_of i)
+        → seen i held act s p ≡ step i held act s (seen i held act s) (outputs_below (cells_of i) (λ c. under c s)) p }
+{}
 
 /// What a port of a frame is seen as depends on the frame alone, a conflict or undefined too.
 pub fn sees_by_frame()
-    ensures {
-        (i : Instance) (held other_held : Held) (act other : Active) (s t : State) (set : PortRef → Bool) (p : PortRef) (x : Seen)
-            → IsFrame i held other_held act other s t set → set p ≡ true
-            → Sees i held act s p x → Sees i other_held other t p x
-    }
-{
-}
+    ensures { (i : Instance) (held other_held : Held) (act other : Active) (s t : State) (set : PortRef → Bool) (p : PortRef) (x : Seen)
+        → IsFrame i held other_held act other s t set → set p ≡ true
+        → Sees i held act s p x → Sees i other_held other t p x }
+{}
 
 /// A cell whose ports are all in a frame comes to the same in a cycle: the same next state, or the same fault.
 pub fn steps_by_frame()
-    ensures {
-        (i : Instance) (held other_held : Held) (act other : Active) (s t : State) (set : PortRef → Bool) (c : ℕ) (row : Row)
-            → IsFrame i held other_held act other s t set → IsAcyclic i act → IsAcyclic i other → AcyclicBelow (cells_of i)
-            → ((p : ℕ) → set (Cell c p) ≡ true)
-            → cell_outcome (seen i held act s) c row (s (c ∷ [])) ≡ cell_outcome (seen i other_held other t) c row (t (c ∷ []))
-    }
-{
-}
+    ensures { (i : Instance) (held other_held : Held) (act other : Active) (s t : State) (set : PortRef → Bool) (c : ℕ) (row : Row)
+        → IsFrame i held other_held act other s t set → IsAcyclic i act → IsAcyclic i other → AcyclicBelow (cells_of i)
+        → ((p : ℕ) → set (Cell c p) ≡ true)
+        → cell_outcome (seen i held act s) c row (s (c ∷ [])) ≡ cell_outcome (seen i other_held other t) c row (t (c ∷ [])) }
+{}
