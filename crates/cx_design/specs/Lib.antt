@@ -1,2 +1,3 @@
 pub mod PlainForms
+pub mod Narrow
 pub mod PlainDesigns

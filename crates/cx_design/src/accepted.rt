@@ -1,10 +1,19 @@
 //! Designs that are accepted.
 
-ghost use Rattle.std.specs.Prelude.{◌≡◌};
+ghost use Rattle.std.specs.Prelude.{◌≡◌, All, IfOk};
+ghost use Rattle.cx_meaning.specs.Designs.{component_at};
+ghost use Rattle.cx_design.specs.Narrow.{IsNarrow};
+ghost use Rattle.cx_design.specs.PlainForms.{plain_cell, plain_component};
+ghost use Rattle.cx_text.specs.Loading.{plain_rows};
+ghost use Rattle.cx_rules.specs.Externals as externals;
 ghost use Rattle.cx_rules.specs.Accepted.{IsAccepted};
 ghost use Rattle.cx_design.specs.PlainDesigns.{plain_design};
 
+use crate::components::Component;
 use crate::designs::Design;
+use crate::rows;
+use cx_text::{Memory, MemoryRow};
+use std::alloc::Global;
 use std::marker::Model;
 
 /// An accepted design: it breaks no rule. Contracts see it as the design.
@@ -45,4 +54,20 @@ impl Checked {
     {
         &self.design
     }
+
+    /// The external memories of `main`, in cell order.
+    pub fn rows(&self, alloc: Global) -> Result<Vec<MemoryRow>, Memory>
+        ensures value { IfOk result (λ rows. plain_rows rows.items ≡ externals.external_rows (plain_design self.now)) }
+    {
+        rows::external_rows(alloc, main_of(&self.design).cells.as_slice())
+    }
+}
+
+/// The component named `main`.
+fn main_of(design: &Design) -> &Component
+    ensures value { plain_component result.now ≡ component_at (plain_design design.now) design.now.main }
+    ensures narrow { All (λ cell. IsNarrow (plain_cell cell)) result.now.cells.items }
+{
+    let components = design.components.as_slice();
+    &components[design.main as usize]
 }

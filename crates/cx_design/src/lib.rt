@@ -10,6 +10,7 @@ mod groups;
 mod guards;
 mod primitives;
 mod refusals;
+mod rows;
 mod statements;
 
 pub use accepted::Checked;

@@ -22,7 +22,7 @@ use Rattle.cx_ast.specs.PlainTree as ast
 use Rattle.cx_ast.specs.PlainGuards as guards
 use Rattle.cx_ast.specs.PlainStatements as statements
 use Rattle.cx_rules.specs.Accepted.{number_of, comes_before}
-use Rattle.cx_rules.specs.Wellformed.{word_width}
+use Rattle.cx_rules.specs.Wellformed.{is_memory, first_number}
 use Rattle.cx_numbering.specs.Names.{same_name, is_among, primitive_of, own_names, is_own_name, port_names, component_names, cell_names, groups_in, always_in, group_names, component_among, cell_among, group_among, CellOf, Neither, APrimitive, AComponent, cell_of, found_cell_ports, cell_go, is_external}
 
 abbrev pub tell : Rule → Place → List ℕ → Diagnostic
@@ -309,11 +309,7 @@ module _ (tree : ast.PlainTree) (part : ast.PlainComponent) where
   -- external on what is no memory, is not in main, or has words of over 64 bits
   abbrev pub is_narrow_memory : CellOf → Bool
   is_narrow_memory Neither = false
-  is_narrow_memory (APrimitive primitive) = is_narrow (word_width (row_of primitive).shape)
-    where
-      is_narrow : Option ℕ → Bool
-      is_narrow None = false
-      is_narrow (Some width) = nat_le width 64
+  is_narrow_memory (APrimitive primitive) = is_memory (row_of primitive).shape && nat_le (first_number primitive.numbers) 64
   is_narrow_memory (AComponent component) = false
 
   abbrev pub is_main : Bool

@@ -13,3 +13,4 @@ pub mod Accepted
 pub mod Wellformed
 pub mod Circles
 pub mod Frames
+pub mod Externals

@@ -76,15 +76,20 @@ pub record IsStatement (i : Instance) (v : Visited) : Type 0 where
   pub test : (p : PlacedPort) → test_in v.form ≡ Some p → IsThere i p.port
   pub no_hole : (p : PlacedPort) → test_in v.form ≡ Some p → is_hole p.port ≡ false
 
--- the width of a memory's words, where a row is one of a memory
-abbrev pub word_width : StateShape → Option ℕ
-word_width NoState = None
-word_width (RegisterOf width) = None
-word_width (MemoryOf width count) = Some width
-word_width (SequentialMemoryOf width count) = Some width
-word_width (MultiplierOf width latency) = None
-word_width (DividerOf width latency) = None
-word_width (TimerOf length) = None
+-- a row of a memory
+abbrev pub is_memory : StateShape → Bool
+is_memory NoState = false
+is_memory (RegisterOf width) = false
+is_memory (MemoryOf width count) = true
+is_memory (SequentialMemoryOf width count) = true
+is_memory (MultiplierOf width latency) = false
+is_memory (DividerOf width latency) = false
+is_memory (TimerOf length) = false
+
+-- the first number of a memory is the width of its words
+abbrev pub first_number : List ℕ → ℕ
+first_number [] = 0
+first_number (n ∷ rest) = n
 
 -- the numbers of a primitive keep its row, no design names the internal timer, and a component's number names one
 abbrev pub IsKind : PlainDesign → PlainKind → Type 0
@@ -93,7 +98,7 @@ IsKind d (OfComponent k) = k < length d.components
 
 -- an external cell is a memory of main with words of at most 64 bits
 abbrev pub IsExternal : PlainDesign → ℕ → PlainKind → Type 0
-IsExternal d k (OfPrimitive primitive) = (k ≡ d.main) × ((w : ℕ) × (word_width (row_of primitive).shape ≡ Some w) × (w ≤ 64))
+IsExternal d k (OfPrimitive primitive) = (k ≡ d.main) × (is_memory (row_of primitive).shape ≡ true) × (first_number primitive.numbers ≤ 64)
 IsExternal d k (OfComponent j) = ⊥
 
 pub record IsCell (d : PlainDesign) (k : ℕ) (cell : PlainCell) : Type 0 where
