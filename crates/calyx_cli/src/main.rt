@@ -18,7 +18,9 @@ fn main(rt: HostRuntime) -> ExitCode {
             let mut err = RealSink::new(rt.stderr());
             ExitCode::from(run(rt.alloc(), &words, &mut files, &mut out, &mut err) as u8)
         }
-        Err(error) if error.kind() == ErrorKind::OutOfMemory => ExitCode::from(Status::Memory as u8),
+        Err(error) if error.kind() == ErrorKind::OutOfMemory => ExitCode::from(
+            Status::Memory as u8,
+        ),
         Err(_) => ExitCode::from(NO_ARGUMENTS),
     }
 }

@@ -7,6 +7,8 @@ mod faults;
 mod lists;
 mod loading;
 mod numbers;
+#[cfg(test)]
+mod tests;
 
 pub use dumping::dump;
 pub use faults::DataFault;

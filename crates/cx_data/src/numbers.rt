@@ -52,7 +52,8 @@ fn push_items(
 ) -> Result<bool, Memory>
     ensures value { IfOk result (λ shaped.
         option_map (λ ns. map number_view numbers.old.items ++ ns)
-        (if items_len (items_view items.now) == size then numbers_of_each (numbers_of sizes.now) (items_view items.now) else None)
+        (if items_len (items_view items.now) == size
+        then numbers_of_each (numbers_of sizes.now) (items_view items.now) else None)
         ≡ (if shaped then Some (map number_view numbers.new.items) else None)) }
 {
     if items.len() as u64 == size {

@@ -55,7 +55,7 @@ fn files_of(alloc: Global) -> Result<MemFiles, Fail> {
 }
 
 /// Runs the words of a line over the files above. `out` takes 8 bytes a call and fails at this call, from 1.
-fn ended(alloc: Global, line: &str, failing: u64) -> Result<Ended, Fail> {
+fn end_of(alloc: Global, line: &str, failing: u64) -> Result<Ended, Fail> {
     let mut files = files_of(alloc)?;
     let mut out = MemSink::new(8, vec![in alloc; failing]?, vec![in alloc; 0; 64]?);
     let mut err = MemSink::new(64, Vec::new(alloc), vec![in alloc; 0; 64]?);
@@ -149,7 +149,7 @@ fn whole_calls(rt: HostRuntime) -> Result<(), Fail> {
         ("run add five 9", 0, Status::Words, "", "words\n"),
     ];
     for (line, failing, status, out, err) in cases {
-        let ended = ended(rt.alloc(), line, failing)?;
+        let ended = end_of(rt.alloc(), line, failing)?;
         assert_eq!(rt; ended.status, status, "{line}");
         assert_eq!(rt; ended.out.bytes(), out.as_bytes(), "{line}");
         assert_eq!(rt; ended.err.bytes(), err.as_bytes(), "{line}");
