@@ -12,6 +12,8 @@ mod primitives;
 mod refusals;
 mod rows;
 mod statements;
+#[cfg(test)]
+mod tests;
 
 pub use accepted::Checked;
 pub use actives::{Active, ActiveEntry, PortFault};
