@@ -1,1 +1,7 @@
+pub mod TestLemmas
 pub mod SpanLemmas
+pub mod ByteLemmas
+pub mod SignLemmas
+pub mod AgainLemmas
+pub mod TakesLemmas
+pub mod WholeLemmas

@@ -1,6 +1,6 @@
 -- The tokens of a design's text, and the first that cannot be read. Whole texts, by cases: one for each kind of token,
 -- blank, comment and fault.
-use Rattle.std.specs.Prelude.{◌≡◌, ◌≢◌, ℕ, ◌^◌, ◌<◌, ◌≤◌, ◌==◌, Bool, true, false, List, [], ◌∷◌, ◌++◌, length, codes, Some}
+use Rattle.std.specs.Prelude.{◌≡◌, ◌≢◌, ℕ, ◌^◌, ◌<◌, ◌≤◌, true, false, List, [], ◌∷◌, ◌++◌, length, codes, Some}
 use Rattle.std.specs.List.{list_all}
 use Rattle.std.specs.Str.Parse.{IsNumeral, digits_value}
 use Rattle.cx_text.specs.declared.places.Place.{Place}
@@ -56,7 +56,7 @@ pub data IsToken : List ℕ → List ℕ → TokenKind → Type 0 where
   name : {first : ℕ} {more rest : List ℕ} → IsWord first more rest → length (first ∷ more) ≤ 255 → IsToken (first ∷ more) rest (kinds.Word (first ∷ more))
   number : {digits rest : List ℕ} → IsNumeral 10 digits → digits_value 10 digits < 2 ^ 64 → Stops goes_on rest → IsToken digits rest (kinds.Number (digits_value 10 digits))
   literal : (width : List ℕ) (letter base : ℕ) (digits : List ℕ) {rest : List ℕ} → IsNumeral 10 width → digits_value 10 width < 2 ^ 32 → base_of letter ≡ Some base → IsNumeral base digits → digits_value base digits < 2 ^ 128 → Stops goes_on rest
-    → IsToken (width ++ 39 ∷ letter ∷ digits) rest (kinds.Literal (digits_value 10 width) (digits_value base digits))
+      → IsToken (width ++ 39 ∷ letter ∷ digits) rest (kinds.Literal (digits_value 10 width) (digits_value base digits))
   string : (body : List ℕ) {rest : List ℕ} → list_all is_in_string body ≡ true → length body ≤ 255 → IsToken (34 ∷ body ++ 34 ∷ []) rest (kinds.Text body)
   sign : (s : Sign) {rest : List ℕ} → IsLongest s (sign_bytes s ++ rest) → IsToken (sign_bytes s) rest (kinds.Sign s)
 

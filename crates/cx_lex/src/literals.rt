@@ -8,7 +8,7 @@ ghost use Rattle.cx_lex.specs.Views.{read_of};
 
 use crate::classes::{Class, is_name_start, span};
 use crate::faults::LexKind;
-use crate::items::{Front, Found};
+use crate::items::{Found, Front};
 use cx_text::{decimal, numeral};
 
 /// A number or literal at the front of the text, which begins with a digit.

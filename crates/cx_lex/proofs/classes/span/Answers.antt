@@ -1,4 +1,4 @@
-use Rattle.std.proofs.Common.{◌≡◌, ◌-◌, ◌≤◌, length, take, rules, sym, subst}
+use Rattle.std.proofs.Common.{◌≡◌, ◌-◌, ◌≤◌, length, take, sym, subst}
 use Rattle.cx_lex.specs.Classes.{passes}
 use Rattle.cx_lex.specs.Reading.{front}
 use Rattle.cx_lex.proofs.SpanLemmas.{length-back-le, front_is_take}
