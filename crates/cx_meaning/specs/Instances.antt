@@ -44,9 +44,9 @@ abbrev pub cells_for : (ℕ → Instance) → List PlainCell → Cells
 cells_for child [] = no_cells
 cells_for child (c ∷ cs) = add_cell child c.kind (cells_for child cs)
 
--- the tree below a component, at most so many levels deep
+-- the tree below a component, with at most so many levels below it
 abbrev pub tree_within : PlainDesign → ℕ → ℕ → Instance
-tree_within d zero k = Node no_component no_cells
+tree_within d zero k = Node (component_at d k) no_cells
 tree_within d (suc n) k = Node (component_at d k) (cells_for (tree_within d n) (component_at d k).cells)
 
 -- no cell of a design leads back to its component, so no tree has more levels than there are components

@@ -1,3 +1,4 @@
 pub mod Finite
 pub mod FoundLemmas
 pub mod FrameLemmas
+pub mod CircleLemmas
