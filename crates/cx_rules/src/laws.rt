@@ -1,15 +1,17 @@
 //! Laws of what is seen where nothing leads in a circle: each function does nothing, and its clause is the law.
 
-ghost use Rattle.std.specs.Prelude.{◌≡◌, ℕ, Bool, true, [], ◌∷◌};
+ghost use Rattle.std.specs.Prelude.{◌≡◌, ◌<◌, ℕ, Bool, true, [], ◌∷◌, length};
 ghost use Rattle.cx_prim.specs.Rows.{Row};
 ghost use Rattle.cx_meaning.specs.declared.ports.PortRef.TheVariants.{Cell};
 ghost use Rattle.cx_meaning.specs.Cycles.{cell_outcome};
 ghost use Rattle.cx_meaning.specs.declared.ports.PortRef.{PortRef};
 ghost use Rattle.cx_meaning.specs.declared.sights.Seen.{Seen};
-ghost use Rattle.cx_meaning.specs.Instances.{Instance, State, cells_of, under};
-ghost use Rattle.cx_meaning.specs.Active.{Active};
+ghost use Rattle.cx_meaning.specs.Designs.{PlainDesign};
+ghost use Rattle.cx_meaning.specs.Instances.{Instance, Path, State, cells_of, part_of, tree_of, instance_at, under};
+ghost use Rattle.cx_meaning.specs.Active.{Active, group};
 ghost use Rattle.cx_meaning.specs.Sights.{Held, Sees, seen, step, outputs_below};
-ghost use Rattle.cx_rules.specs.Circles.{IsAcyclic, AcyclicBelow};
+ghost use Rattle.cx_rules.specs.Accepted.{IsAccepted};
+ghost use Rattle.cx_rules.specs.Circles.{IsAcyclic, AreAcyclic, AcyclicBelow};
 ghost use Rattle.cx_rules.specs.Frames.{IsFrame};
 
 /// Each port is seen as what `seen` finds.
@@ -38,4 +40,17 @@ pub fn steps_by_frame()
         → IsFrame i held other_held act other s t set → IsAcyclic i act → IsAcyclic i other → AcyclicBelow (cells_of i)
         → ((p : ℕ) → set (Cell c p) ≡ true)
         → cell_outcome (seen i held act s) c row (s (c ∷ [])) ≡ cell_outcome (seen i other_held other t) c row (t (c ∷ [])) }
+{}
+
+/// In an accepted design nothing leads in a circle: in no instance of its tree, under its continuous assignments and in
+/// what is below it.
+pub fn accepted_is_acyclic()
+    ensures { (d : PlainDesign) (path : Path) → IsAccepted d → AreAcyclic (instance_at (tree_of d) path) }
+{}
+
+/// Nor under the continuous assignments with one group.
+pub fn accepted_group_is_acyclic()
+    ensures { (d : PlainDesign) (path : Path) (g : ℕ)
+        → IsAccepted d → g < length (part_of (instance_at (tree_of d) path)).groups
+        → IsAcyclic (instance_at (tree_of d) path) (group g) }
 {}
