@@ -2,3 +2,4 @@ pub mod Finite
 pub mod FoundLemmas
 pub mod FrameLemmas
 pub mod CircleLemmas
+pub mod ForeignLemmas
