@@ -3,3 +3,4 @@ pub mod FoundLemmas
 pub mod FrameLemmas
 pub mod CircleLemmas
 pub mod ForeignLemmas
+pub mod KnownRules
