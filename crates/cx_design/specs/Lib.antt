@@ -1,0 +1,4 @@
+pub mod PlainForms
+pub mod Narrow
+pub mod PlainDesigns
+pub mod PlainActives

@@ -1,0 +1,28 @@
+//! Designs: their types, what they stand for, their limits, and designs that are accepted.
+#![tactic(auto)]
+
+mod accepted;
+mod actives;
+mod cells;
+mod components;
+mod designs;
+mod groups;
+mod guards;
+mod primitives;
+mod refusals;
+mod rows;
+mod statements;
+#[cfg(test)]
+mod tests;
+
+pub use accepted::Checked;
+pub use actives::{Active, ActiveEntry, PortFault};
+pub use cells::{Cell, CellKind};
+pub use components::Component;
+pub use cx_meaning::{Comparison, FaultKind, GroupKind, PlacedPort, PortDecl, PortRef, Seen};
+pub use designs::Design;
+pub use groups::{Assign, Group};
+pub use guards::Guard;
+pub use primitives::Primitive;
+pub use refusals::Refusal;
+pub use statements::{Form, Statement};

@@ -1,0 +1,7 @@
+pub mod SightsLemmas
+pub mod AnswersLemmas
+pub mod ControlLemmas
+pub mod RunningLemmas
+pub mod TableStarts
+pub mod KnownDesigns
+pub mod KnownRuns

@@ -1,0 +1,14 @@
+pub mod Designs
+pub mod Rows
+pub mod Instances
+pub mod Truths
+pub mod Active
+pub mod Sights
+pub mod Cycles
+pub mod Answers
+pub mod Control
+pub mod Islands
+pub mod Calls
+pub mod Running
+pub mod Budgets
+pub mod Laws

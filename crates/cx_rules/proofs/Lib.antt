@@ -1,0 +1,6 @@
+pub mod Finite
+pub mod FoundLemmas
+pub mod FrameLemmas
+pub mod CircleLemmas
+pub mod ForeignLemmas
+pub mod KnownRules

@@ -1,0 +1,16 @@
+pub mod Ports
+pub mod Items
+pub mod Footprints
+pub mod StaticControl
+pub mod Sizes
+pub mod Spots
+pub mod WidthRules
+pub mod ShapeRules
+pub mod CallShape
+pub mod RaceRule
+pub mod LimitRule
+pub mod Accepted
+pub mod Wellformed
+pub mod Circles
+pub mod Frames
+pub mod Externals

@@ -1,0 +1,103 @@
+-- Stage 7: limits. Counts are numbers without bound.
+use Rattle.std.specs.Prelude.{◌≡◌, ℕ, ◌<◌, ◌≤◌, ◌⊎◌, Bool, true, List, [], ◌∷◌, Option, Some, None, codes, length}
+use Rattle.cx_text.specs.declared.places.Place.{Place}
+use Rattle.cx_text.specs.declared.limits.TheConstants.{CELLS, GROUPS, INSTANCES, INSTANCE_DEPTH, MEMORY_WORDS, OCCURRENCES, REPETITIONS, WEIGHT}
+use Rattle.cx_meaning.specs.Designs.{PlainDesign, component_at, PlainForm, Empty, Enable, Seq, Par, If, While, Repeat, StaticSeq, StaticPar, StaticIf, StaticRepeat, Timed}
+use Rattle.cx_meaning.specs.Instances.{part_of, tree_of}
+use Rattle.cx_meaning.specs.Islands.{form_length}
+use Rattle.cx_rules.specs.StaticControl.{is_island, form_occurrences}
+use Rattle.cx_rules.specs.Sizes.{weight_of, instances_below, depth_below, words_below}
+use Rattle.cx_rules.specs.Spots.{Whole, Spot, Tells, StatementRule}
+
+-- what a limit is on; at one place they are tried in this order
+pub data Limited : Type 0 where
+  OnCells : Limited
+  OnGroups : Limited
+  OnRepeat : Limited
+  OnOccurrences : Limited
+  OnLatency : Limited
+  OnInstances : Limited
+  OnDepth : Limited
+  OnWords : Limited
+  OnWeight : Limited
+
+abbrev pub word_of : Limited → List ℕ
+word_of OnCells = codes "cells"
+word_of OnGroups = codes "groups"
+word_of OnRepeat = codes "repeat"
+word_of OnOccurrences = codes "occurrences"
+word_of OnLatency = codes "latency"
+word_of OnInstances = codes "instances"
+word_of OnDepth = codes "depth"
+word_of OnWords = codes "words"
+word_of OnWeight = codes "weight"
+
+abbrev pub order_of : Limited → ℕ
+order_of OnCells = 0
+order_of OnGroups = 1
+order_of OnRepeat = 2
+order_of OnOccurrences = 3
+order_of OnLatency = 4
+order_of OnInstances = 5
+order_of OnDepth = 6
+order_of OnWords = 7
+order_of OnWeight = 8
+
+-- the count of a repeat or a static repeat
+abbrev pub count_in : PlainForm → Option ℕ
+count_in Empty = None
+count_in (Enable g) = None
+count_in (Seq parts) = None
+count_in (Par arms) = None
+count_in (If test comb a b) = None
+count_in (While test comb a) = None
+count_in (Repeat count a) = Some count
+count_in (StaticSeq length parts) = None
+count_in (StaticPar length arms) = None
+count_in (StaticIf length test a b) = None
+count_in (StaticRepeat length count a) = Some count
+count_in (Timed k) = None
+
+-- RULE limit, at a statement: the count of a repeat; the occurrences in an island, before repetition; an island's length
+abbrev pub BreaksRepeat : StatementRule
+BreaksRepeat i v place name = (n : ℕ) × (count_in v.form ≡ Some n) × (REPETITIONS ≤ n) × Tells place name v.place (word_of OnRepeat)
+
+abbrev pub BreaksOccurrences : StatementRule
+BreaksOccurrences i v place name =
+    (is_island (part_of i) v ≡ true) × (OCCURRENCES < form_occurrences (part_of i) v.form) × Tells place name v.place (word_of OnOccurrences)
+
+abbrev pub BreaksLatency : StatementRule
+BreaksLatency i v place name =
+    (is_island (part_of i) v ≡ true) × (REPETITIONS ≤ form_length (part_of i) v.form) × Tells place name v.place (word_of OnLatency)
+
+-- at a component: its cells, and its groups with those of its invokes
+pub record BreaksPart (d : PlainDesign) (limited : Limited) (count limit : ℕ) (spot : Spot) (place : Place) (name : List ℕ) : Type 0 where
+  pub within : spot.component < length d.components
+  pub is : spot.part ≡ Whole (order_of limited)
+  pub exceeds : limit < count
+  pub tells : Tells place name (component_at d spot.component).place (word_of limited)
+
+abbrev pub BreaksCells : PlainDesign → Spot → Place → List ℕ → Type 0
+BreaksCells d spot place name = BreaksPart d OnCells (length (component_at d spot.component).cells) CELLS spot place name
+
+abbrev pub BreaksGroups : PlainDesign → Spot → Place → List ℕ → Type 0
+BreaksGroups d spot place name = BreaksPart d OnGroups (length (component_at d spot.component).groups) GROUPS spot place name
+
+-- at main: over the instance tree
+pub record BreaksTree (d : PlainDesign) (limited : Limited) (count limit : ℕ) (spot : Spot) (place : Place) (name : List ℕ) : Type 0 where
+  pub at_main : spot.component ≡ d.main
+  pub is : spot.part ≡ Whole (order_of limited)
+  pub exceeds : limit < count
+  pub tells : Tells place name (component_at d d.main).place (word_of limited)
+
+abbrev pub BreaksInstances : PlainDesign → Spot → Place → List ℕ → Type 0
+BreaksInstances d = BreaksTree d OnInstances (instances_below (tree_of d)) INSTANCES
+
+abbrev pub BreaksDepth : PlainDesign → Spot → Place → List ℕ → Type 0
+BreaksDepth d = BreaksTree d OnDepth (depth_below (tree_of d)) INSTANCE_DEPTH
+
+abbrev pub BreaksWords : PlainDesign → Spot → Place → List ℕ → Type 0
+BreaksWords d = BreaksTree d OnWords (words_below (tree_of d)) MEMORY_WORDS
+
+abbrev pub BreaksWeight : PlainDesign → Spot → Place → List ℕ → Type 0
+BreaksWeight d = BreaksTree d OnWeight (weight_of d) WEIGHT

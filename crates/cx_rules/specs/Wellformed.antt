@@ -1,0 +1,139 @@
+-- What every design keeps: its numbers name its own parts, its names are apart, no cell leads back to its component, and
+-- it breaks no rule on names that speaks of its own parts.
+use Rattle.std.specs.Prelude.{◌≡◌, ◌≢◌, ℕ, zero, suc, ◌+◌, ◌^◌, ◌<◌, ◌≤◌, nat_lt, Bool, true, false, List, [], ◌∷◌, ◌++◌, Option, Some, None, IsTrue, codes, length, map, slice_get, IsSome}
+use Rattle.cx_prim.specs.declared.names.PrimitiveName.{PrimitiveName}
+use Rattle.cx_prim.specs.declared.names.PrimitiveName.TheVariants as primitives
+use Rattle.cx_prim.specs.PrimitiveNames.{name_text}
+use Rattle.cx_prim.specs.CellStates.{StateShape, NoState, RegisterOf, MemoryOf, SequentialMemoryOf, MultiplierOf, DividerOf, TimerOf}
+use Rattle.cx_prim.specs.Rows.{Row}
+use Rattle.cx_prim.specs.Table.{PrimitiveRow, HasRow, row_of}
+use Rattle.cx_meaning.specs.declared.ports.PortRef.{PortRef}
+use Rattle.cx_meaning.specs.declared.ports.PortRef.TheVariants as ports
+use Rattle.cx_meaning.specs.declared.ports.PlacedPort.{PlacedPort}
+use Rattle.cx_meaning.specs.declared.kinds.PortDecl.{PortDecl}
+use Rattle.cx_meaning.specs.Designs.{Always, PlainAssign, PlainKind, OfPrimitive, OfComponent, PlainCell, PlainComponent, PlainDesign, component_at, group_at, PlainForm, Empty, Enable, Seq, Par, If, While, Repeat, StaticSeq, StaticPar, StaticIf, StaticRepeat, Timed}
+use Rattle.cx_meaning.specs.Instances.{Instance, At, Nothing, OfRow, OfInstance, part_of, cells_of, cell_at}
+use Rattle.cx_meaning.specs.Sights.{In}
+use Rattle.cx_rules.specs.Ports.{component_of}
+use Rattle.cx_rules.specs.Items.{sources_of, is_comb, Visited, statements_in, test_in}
+use Rattle.cx_rules.specs.ShapeRules.{is_hole}
+use Rattle.cx_rules.specs.Sizes.{design_size}
+
+-- the number names a port
+abbrev pub port_count : At → ℕ
+port_count Nothing = 0
+port_count (OfRow row) = length row.ports
+port_count (OfInstance child) = 2 + length (part_of child).inputs + length (part_of child).outputs
+
+abbrev pub IsThere : Instance → PortRef → Type 0
+IsThere i (ports.Cell c p) = (c < length (part_of i).cells) × (p < port_count (cell_at (cells_of i) c))
+IsThere i (ports.Input n) = n < length (part_of i).inputs
+IsThere i (ports.Output n) = n < length (part_of i).outputs
+IsThere i (ports.Done g) = g < length (part_of i).groups
+IsThere i (ports.Literal w v) = Unit {0}
+
+-- an assignment of a component, continuous or of a group
+abbrev pub StandsIn : PlainComponent → Option ℕ → PlainAssign → Type 0
+StandsIn part None a = In part.always a
+StandsIn part (Some g) a = (g < length part.groups) × In (group_at part g).assigns a
+
+-- an assignment names ports that are there; its target is no literal, a done is driven in its own group alone and not by a
+-- bare 1'd1, an output of the signature continuously alone, and nothing reads a hole
+pub record IsAssign (i : Instance) (owner : Option ℕ) (a : PlainAssign) : Type 0 where
+  pub target : IsThere i a.target
+  pub no_literal : (w v : ℕ) → a.target ≢ ports.Literal w v
+  pub own_hole : (g : ℕ) → a.target ≡ ports.Done g → owner ≡ Some g
+  pub no_bare_done : (g : ℕ) → a.target ≡ ports.Done g → a.guard ≡ Always → a.source.port ≢ ports.Literal 1 1
+  pub output_outside : (n : ℕ) → a.target ≡ ports.Output n → owner ≡ None
+  pub sources : (p : PlacedPort) → In (sources_of a) p → IsThere i p.port
+  pub no_hole : (p : PlacedPort) → In (sources_of a) p → is_hole p.port ≡ false
+
+-- a group that control enables is there and is no comb group; the group of a with is there and is one
+abbrev pub IsEnable : PlainComponent → ℕ → Type 0
+IsEnable part g = (g < length part.groups) × (is_comb (group_at part g).kind ≡ false)
+
+abbrev pub IsWith : PlainComponent → Option ℕ → Type 0
+IsWith part None = Unit {0}
+IsWith part (Some g) = (g < length part.groups) × (is_comb (group_at part g).kind ≡ true)
+
+-- a design that is not lowered has no timed statement
+abbrev pub IsForm : PlainComponent → PlainForm → Type 0
+IsForm part Empty = Unit {0}
+IsForm part (Enable g) = IsEnable part g
+IsForm part (Seq parts) = Unit {0}
+IsForm part (Par arms) = Unit {0}
+IsForm part (If test comb a b) = IsWith part comb
+IsForm part (While test comb a) = IsWith part comb
+IsForm part (Repeat count a) = Unit {0}
+IsForm part (StaticSeq length parts) = Unit {0}
+IsForm part (StaticPar length arms) = Unit {0}
+IsForm part (StaticIf length test a b) = Unit {0}
+IsForm part (StaticRepeat length count a) = Unit {0}
+IsForm part (Timed k) = ⊥
+
+pub record IsStatement (i : Instance) (v : Visited) : Type 0 where
+  pub form : IsForm (part_of i) v.form
+  pub test : (p : PlacedPort) → test_in v.form ≡ Some p → IsThere i p.port
+  pub no_hole : (p : PlacedPort) → test_in v.form ≡ Some p → is_hole p.port ≡ false
+
+-- a row of a memory
+abbrev pub is_memory : StateShape → Bool
+is_memory NoState = false
+is_memory (RegisterOf width) = false
+is_memory (MemoryOf width count) = true
+is_memory (SequentialMemoryOf width count) = true
+is_memory (MultiplierOf width latency) = false
+is_memory (DividerOf width latency) = false
+is_memory (TimerOf length) = false
+
+-- the first number of a memory is the width of its words
+abbrev pub first_number : List ℕ → ℕ
+first_number [] = 0
+first_number (n ∷ rest) = n
+
+-- the numbers of a primitive keep its row, no design names the internal timer, and a component's number names one
+abbrev pub IsKind : PlainDesign → PlainKind → Type 0
+IsKind d (OfPrimitive primitive) = HasRow primitive × (primitive.name ≢ primitives.Timer)
+IsKind d (OfComponent k) = k < length d.components
+
+-- an external cell is a memory of main with words of at most 64 bits
+abbrev pub IsExternal : PlainDesign → ℕ → PlainKind → Type 0
+IsExternal d k (OfPrimitive primitive) = (k ≡ d.main) × (is_memory (row_of primitive).shape ≡ true) × (first_number primitive.numbers ≤ 64)
+IsExternal d k (OfComponent j) = ⊥
+
+pub record IsCell (d : PlainDesign) (k : ℕ) (cell : PlainCell) : Type 0 where
+  pub kind : IsKind d cell.kind
+  pub external : cell.external ≡ true → IsExternal d k cell.kind
+
+-- no two entries of a list have one name that is not empty
+abbrev pub AreApart : List (List ℕ) → Type 0
+AreApart names = (m n : ℕ) (name : List ℕ) → slice_get names m ≡ Some name → slice_get names n ≡ Some name → name ≢ [] → m ≡ n
+
+abbrev pub IsSignature : List PortDecl → Type 0
+IsSignature decls = (decl : PortDecl) → In decls decl → (1 ≤ decl.width) × (decl.width ≤ 128)
+
+pub record IsComponent (d : PlainDesign) (k : ℕ) : Type 0 where
+  pub cells : (cell : PlainCell) → In (component_at d k).cells cell → IsCell d k cell
+  pub assigns : (owner : Option ℕ) (a : PlainAssign) → StandsIn (component_at d k) owner a → IsAssign (component_of d k) owner a
+  pub statements : (v : Visited) → In (statements_in (component_at d k)) v → IsStatement (component_of d k) v
+  pub inputs : IsSignature (component_at d k).inputs
+  pub outputs : IsSignature (component_at d k).outputs
+  pub port_names : AreApart (map (λ decl. decl.name) ((component_at d k).inputs ++ (component_at d k).outputs))
+  pub cell_names : AreApart (map (λ cell. cell.name) (component_at d k).cells)
+  pub group_names : AreApart (map (λ group. group.name) (component_at d k).groups)
+  pub no_primitive_name : (name : PrimitiveName) → name ≢ primitives.Timer → (component_at d k).name ≢ name_text name
+
+-- component k has a cell of component j, or a cell of one that leads to it
+pub data LeadsTo (d : PlainDesign) : ℕ → ℕ → Type 0 where
+  by_cell : {k : ℕ} (j : ℕ) (cell : PlainCell) → In (component_at d k).cells cell → cell.kind ≡ OfComponent j → LeadsTo d k j
+  by_way_of : {k j : ℕ} (m : ℕ) → LeadsTo d k m → LeadsTo d m j → LeadsTo d k j
+
+-- WHAT EVERY DESIGN KEEPS
+pub record IsDesign (d : PlainDesign) : Type 0 where
+  pub main_there : d.main < length d.components
+  pub main_named : (component_at d d.main).name ≡ codes "main"
+  pub main_bare : ((component_at d d.main).inputs ≡ []) × ((component_at d d.main).outputs ≡ [])
+  pub components : (k : ℕ) → k < length d.components → IsComponent d k
+  pub component_names : (j k : ℕ) → j < length d.components → k < length d.components → (component_at d j).name ≡ (component_at d k).name → j ≡ k
+  pub not_recursive : (k : ℕ) → LeadsTo d k k → ⊥
+  pub few_parts : design_size d < 2 ^ 32
