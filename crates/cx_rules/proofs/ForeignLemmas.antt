@@ -94,8 +94,8 @@ module _ (i : Instance) (act : Active) (c p : ℕ)
       ⊎_elim
       (λ k. let r = owned_among None (part_of i).always o k in absurd (alone o j r.0 t))
       (λ k. let r = groups_among 0 (part_of i).groups o k in
-          let e : 0 + r.number ≡ r.number = omega arith in
-          ap (offset_of act) (r.owner ∙ ap Some e) ∙ apart r.number (assigns_drive_in (group_at (part_of i) r.number).assigns o.assign c p r.stands t))
+      let e : 0 + r.number ≡ r.number = omega arith in
+      ap (offset_of act) (r.owner ∙ ap Some e) ∙ apart r.number (assigns_drive_in (group_at (part_of i) r.number).assigns o.assign c p r.stands t))
       (split (owned None (part_of i).always) (owned_by_groups 0 (part_of i).groups) o (sorted_among _ o j))
 
   none_drive : drivers (part_of i) act (ports.Cell c p) ≡ []

@@ -62,18 +62,14 @@ pub fn accepted_group_is_acyclic()
 /// The enabling ports of a cell that no active group drives are 0, where no continuous assignment drives them. So what one
 /// arm of a `par` has active looks at no other port of a cell that another arm drives.
 pub fn foreign_enables_are_zero()
-    ensures {
-        (i : Instance) (act : Active) (c p : ℕ) (row : Row) (held : Held) (s : State)
-            → ((o : Owned) → In (source_order (part_of i)) o → o.owner ≡ None → o.assign.target ≡ Cell c p → ⊥)
-            → ((g : ℕ) → group_drives (part_of i) g c ≡ true → act.offset g ≡ None)
-            → cell_at (cells_of i) c ≡ OfRow row → side_of row p ≡ Enable
-            → seen i held act s (Cell c p) ≡ bit_of false
-    }
-{
-}
+    ensures { (i : Instance) (act : Active) (c p : ℕ) (row : Row) (held : Held) (s : State)
+        → ((o : Owned) → In (source_order (part_of i)) o → o.owner ≡ None → o.assign.target ≡ Cell c p → ⊥)
+        → ((g : ℕ) → group_drives (part_of i) g c ≡ true → act.offset g ≡ None)
+        → cell_at (cells_of i) c ≡ OfRow row → side_of row p ≡ Enable
+        → seen i held act s (Cell c p) ≡ bit_of false }
+{}
 
 /// What a statement drives it reads.
 pub fn drives_within_reads()
     ensures { (part : PlainComponent) (s : PlainStatement) (c : ℕ) → drives part s c ≡ true → Reads part s c }
-{
-}
+{}
