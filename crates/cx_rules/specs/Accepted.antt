@@ -10,7 +10,7 @@ use Rattle.cx_rules.specs.WidthRules.{BreaksWidth, BreaksGuardWidth, TestBreaksG
 use Rattle.cx_rules.specs.ShapeRules.{BreaksNoDone, BreaksDoneNotState, BreaksAlwaysEnable, BreaksCombEnable, BreaksStaticGuard, GroupBreaksStaticShape, BreaksStaticControl, BreaksLength, BreaksStaticTest, BreaksOutputNotState}
 use Rattle.cx_rules.specs.CallShape.{BreaksCallShape, GroupBreaksCallShape}
 use Rattle.cx_rules.specs.RaceRule.{BreaksCombCycle, GroupBreaksCombCycle, BreaksRace}
-use Rattle.cx_rules.specs.LimitRule.{BreaksRepeat, BreaksOccurrences, BreaksLatency, BreaksCells, BreaksGroups, BreaksInstances, BreaksDepth, BreaksWords, BreaksWeight}
+use Rattle.cx_rules.specs.LimitRule.{BreaksStatement, BreaksCells, BreaksGroups, BreaksInstances, BreaksDepth, BreaksWords, BreaksWeight}
 
 -- THE TABLE: when a design breaks a rule of stages 3 to 7 at a part, with what place and what name. A design breaks none of
 -- stages 1 and 2, and too-large is a matter of compile alone
@@ -33,8 +33,8 @@ Breaks d OutputNotState spot place name = OnAssign BreaksOutputNotState d spot p
 Breaks d CombCycle spot place name = BreaksCombCycle d spot place name ⊎ OnGroup GroupBreaksCombCycle d spot place name
 Breaks d Race spot place name = OnStatement BreaksRace d spot place name
 Breaks d Limit spot place name =
-    BreaksCells d spot place name ⊎ BreaksGroups d spot place name ⊎ OnStatement BreaksRepeat d spot place name
-    ⊎ OnStatement BreaksOccurrences d spot place name ⊎ OnStatement BreaksLatency d spot place name ⊎ BreaksInstances d spot place name
+    BreaksCells d spot place name ⊎ BreaksGroups d spot place name ⊎ OnStatement BreaksStatement d spot place name
+    ⊎ BreaksInstances d spot place name
     ⊎ BreaksDepth d spot place name ⊎ BreaksWords d spot place name ⊎ BreaksWeight d spot place name
 Breaks d _ spot place name = ⊥
 

@@ -1,12 +1,13 @@
 -- Stage 7: limits. Counts are numbers without bound.
-use Rattle.std.specs.Prelude.{◌≡◌, ℕ, ◌<◌, ◌≤◌, ◌⊎◌, Bool, true, List, [], ◌∷◌, Option, Some, None, codes, length}
+use Rattle.std.specs.Prelude.{◌≡◌, ℕ, ◌<◌, ◌&&◌, nat_lt, nat_le, if◌then◌else◌, Bool, false, List, [], ◌∷◌, Option, Some, None, codes, length}
 use Rattle.cx_text.specs.declared.places.Place.{Place}
 use Rattle.cx_text.specs.declared.limits.TheConstants.{CELLS, GROUPS, INSTANCES, INSTANCE_DEPTH, MEMORY_WORDS, OCCURRENCES, REPETITIONS, WEIGHT}
-use Rattle.cx_meaning.specs.Designs.{PlainDesign, component_at, PlainForm, Empty, Enable, Seq, Par, If, While, Repeat, StaticSeq, StaticPar, StaticIf, StaticRepeat, Timed}
+use Rattle.cx_meaning.specs.Designs.{PlainComponent, PlainDesign, component_at, PlainForm, Empty, Enable, Seq, Par, If, While, Repeat, StaticSeq, StaticPar, StaticIf, StaticRepeat, Timed}
 use Rattle.cx_meaning.specs.Instances.{part_of, tree_of}
 use Rattle.cx_meaning.specs.Islands.{form_length}
 use Rattle.cx_rules.specs.StaticControl.{is_island, form_occurrences}
 use Rattle.cx_rules.specs.Sizes.{weight_of, instances_below, depth_below, words_below}
+use Rattle.cx_rules.specs.Items.{Visited}
 use Rattle.cx_rules.specs.Spots.{Whole, Spot, Tells, StatementRule}
 
 -- what a limit is on; at one place they are tried in this order
@@ -58,17 +59,23 @@ count_in (StaticIf length test a b) = None
 count_in (StaticRepeat length count a) = Some count
 count_in (Timed k) = None
 
--- RULE limit, at a statement: the count of a repeat; the occurrences in an island, before repetition; an island's length
-abbrev pub BreaksRepeat : StatementRule
-BreaksRepeat i v place name = (n : ℕ) × (count_in v.form ≡ Some n) × (REPETITIONS ≤ n) × Tells place name v.place (word_of OnRepeat)
+abbrev pub is_too_many : Option ℕ → Bool
+is_too_many None = false
+is_too_many (Some n) = nat_le REPETITIONS n
 
-abbrev pub BreaksOccurrences : StatementRule
-BreaksOccurrences i v place name =
-    (is_island (part_of i) v ≡ true) × (OCCURRENCES < form_occurrences (part_of i) v.form) × Tells place name v.place (word_of OnOccurrences)
+-- the first limit that a statement exceeds: on the count of a repeat, on the occurrences in an island before repetition,
+-- on an island's length
+abbrev pub statement_limit : PlainComponent → Visited → Option Limited
+statement_limit part v =
+    if is_too_many (count_in v.form) then Some OnRepeat
+    else if is_island part v && nat_lt OCCURRENCES (form_occurrences part v.form) then Some OnOccurrences
+    else if is_island part v && nat_le REPETITIONS (form_length part v.form) then Some OnLatency
+    else None
 
-abbrev pub BreaksLatency : StatementRule
-BreaksLatency i v place name =
-    (is_island (part_of i) v ≡ true) × (REPETITIONS ≤ form_length (part_of i) v.form) × Tells place name v.place (word_of OnLatency)
+-- RULE limit, at a statement: of several limits that it exceeds the first is told
+abbrev pub BreaksStatement : StatementRule
+BreaksStatement i v place name =
+    (limited : Limited) × (statement_limit (part_of i) v ≡ Some limited) × Tells place name v.place (word_of limited)
 
 -- at a component: its cells, and its groups with those of its invokes
 pub record BreaksPart (d : PlainDesign) (limited : Limited) (count limit : ℕ) (spot : Spot) (place : Place) (name : List ℕ) : Type 0 where

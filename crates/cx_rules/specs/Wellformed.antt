@@ -109,8 +109,17 @@ pub record IsCell (d : PlainDesign) (k : ℕ) (cell : PlainCell) : Type 0 where
 abbrev pub AreApart : List (List ℕ) → Type 0
 AreApart names = (m n : ℕ) (name : List ℕ) → slice_get names m ≡ Some name → slice_get names n ≡ Some name → name ≢ [] → m ≡ n
 
+-- a port of the signature: 1 to 128 bits wide, and none of the four that every component has
+pub record IsPort (decl : PortDecl) : Type 0 where
+  pub some_bits : 1 ≤ decl.width
+  pub few_bits : decl.width ≤ 128
+  pub no_go : decl.name ≢ codes "go"
+  pub no_clk : decl.name ≢ codes "clk"
+  pub no_reset : decl.name ≢ codes "reset"
+  pub no_done : decl.name ≢ codes "done"
+
 abbrev pub IsSignature : List PortDecl → Type 0
-IsSignature decls = (decl : PortDecl) → In decls decl → (1 ≤ decl.width) × (decl.width ≤ 128)
+IsSignature decls = (decl : PortDecl) → In decls decl → IsPort decl
 
 pub record IsComponent (d : PlainDesign) (k : ℕ) : Type 0 where
   pub cells : (cell : PlainCell) → In (component_at d k).cells cell → IsCell d k cell
