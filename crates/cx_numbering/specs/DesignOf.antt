@@ -210,8 +210,8 @@ module _ (tree : ast.PlainTree) (part : ast.PlainComponent) where
     form_of n place (statements.StaticPar length marks block) = plain.StaticPar length (parts_of n block)
     form_of n place (statements.If test comb block otherwise) =
         plain.If (placed_of tree part test) (comb_number comb) (block_of false n block) (else_of false (n + length (invokes_of block)) place otherwise)
-    form_of n place (statements.StaticIf length test block otherwise) =
-        plain.StaticIf length (placed_of tree part test) (block_of true n block) (else_of true (n + length (invokes_of block)) place otherwise)
+    form_of n place (statements.StaticIf written test block otherwise) =
+        plain.StaticIf written (placed_of tree part test) (block_of true n block) (else_of true (n + length (invokes_of block)) place otherwise)
     form_of n place (statements.While test comb body) = plain.While (placed_of tree part test) (comb_number comb) (block_of false n body)
     form_of n place (statements.Repeat count body) = plain.Repeat count (block_of false n body)
     form_of n place (statements.StaticRepeat length count body) = plain.StaticRepeat length count (block_of true n body)
