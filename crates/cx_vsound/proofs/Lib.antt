@@ -1,4 +1,0 @@
-pub mod Overs
-pub mod Literals
-pub mod Memories
-pub mod ModuleSteps
