@@ -220,18 +220,23 @@ fn deaf(rt: HostRuntime) -> Result<(), Fail> {
     Ok(())
 }
 
+/// The rule that a design breaks, where it is refused for one.
+fn rule_of(answer: &Result<Vec<u8>, Stop>) -> Option<Rule> {
+    match answer {
+        Err(Stop::Rule(diagnostic)) => Some(diagnostic.rule),
+        _ => None,
+    }
+}
+
 /// A design that is cut before its last `}` breaks a rule of its text, wherever it is cut.
 #[test]
 fn cut_texts(rt: HostRuntime) -> Result<(), Fail> {
     let alloc = rt.alloc();
     for length in 0..STALE_DONE.len() - 1 {
         let text = &STALE_DONE.as_bytes()[..length];
-        match interp(alloc, text, b"{}", 9) {
-            Err(Stop::Rule(diagnostic)) => {
-                assert_ne!(rt; diagnostic.rule, Rule::LeftOut, "cut at {length}");
-            }
-            _ => assert!(rt; false, "cut at {length}"),
-        }
+        let rule = rule_of(&interp(alloc, text, b"{}", 9));
+        assert!(rt; rule.is_some(), "cut at {length}");
+        assert_ne!(rt; rule, Some(Rule::LeftOut), "cut at {length}");
     }
     Ok(())
 }
