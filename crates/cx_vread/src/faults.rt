@@ -1,0 +1,92 @@
+//! Why a text is not read.
+
+ghost use Rattle.std.specs.Prelude.{◌≡◌};
+
+use cx_text::Memory;
+use std::alloc::{AllocError, AllocFailed};
+
+/// Why `read` gives no source. Lines are counted from 1; from 2^32 - 1 on all are that one.
+#[derive(Clone, Copy, Debug, PartialEq, Eq)]
+pub enum ReadRefusal {
+    /// The first line with which the lines so far begin no text.
+    Syntax(u32),
+    /// The first line that breaks a rule breaks one on names.
+    Name(u32),
+    /// The first line that breaks a rule breaks one on widths, and none on names.
+    Width(u32),
+    /// The first line that breaks a rule breaks limits alone.
+    Limit(u32),
+    /// An allocation was refused.
+    Memory,
+}
+
+impl From<Memory> for ReadRefusal {
+    fn from(_e: Memory) -> ReadRefusal {
+        ReadRefusal::Memory
+    }
+}
+
+/// Where reading stopped: how many bytes were left there, or that memory was refused.
+#[derive(Clone, Copy, Debug, PartialEq, Eq)]
+pub enum Fault {
+    Syntax(usize),
+    Memory,
+}
+
+impl From<Memory> for Fault {
+    fn from(_e: Memory) -> Fault {
+        Fault::Memory
+    }
+}
+
+impl From<AllocError> for Fault {
+    fn from(_e: AllocError) -> Fault {
+        Fault::Memory
+    }
+}
+
+impl<T: Drop> From<AllocFailed<T>> for Fault {
+    fn from(_e: AllocFailed<T>) -> Fault {
+        Fault::Memory
+    }
+}
+
+/// Parts that no tree holds, as numbers that are too large: for each kind of rule that they break, how many bytes were
+/// left at the first of them.
+#[derive(Clone, Copy, Debug, PartialEq, Eq)]
+pub struct Notes {
+    pub name: Option<usize>,
+    pub width: Option<usize>,
+    pub limit: Option<usize>,
+}
+
+impl Notes {
+    /// No such part.
+    pub fn new() -> Notes {
+        Notes {
+            name: None,
+            width: None,
+            limit: None,
+        }
+    }
+
+    /// Whether there is no such part.
+    pub fn is_clean(&self) -> bool {
+        self.name.is_none() && self.width.is_none() && self.limit.is_none()
+    }
+
+    /// Notes a part that breaks a rule on names.
+    pub fn note_name(&mut self, left: usize) {
+        self.name = self.name.or(Some(left));
+    }
+
+    /// Notes a part that breaks a rule on widths.
+    pub fn note_width(&mut self, left: usize) {
+        self.width = self.width.or(Some(left));
+    }
+
+    /// Notes a part that breaks a limit.
+    pub fn note_limit(&mut self, left: usize) {
+        self.limit = self.limit.or(Some(left));
+    }
+}

@@ -1,0 +1,4 @@
+pub mod Overs
+pub mod Literals
+pub mod Memories
+pub mod ModuleSteps

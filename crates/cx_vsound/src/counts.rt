@@ -1,0 +1,107 @@
+//! Nets, instances and words over the tree of a module.
+
+ghost use Rattle.std.specs.Prelude.{◌≡◌, map};
+ghost use Rattle.cx_vtree.specs.PlainParts.{plain_decl, plain_instance, plain_module, plain_modules};
+ghost use Rattle.cx_vtree.specs.Sound as sound;
+ghost use Rattle.cx_vsound.specs.Parts.{counts_in};
+
+use crate::meanings::same;
+use cx_text::{MEMORY_WORDS, Name, VERILOG_INSTANCES, VERILOG_NETS};
+use cx_vtree::{Decl, Instance, Module};
+
+/// Counts over a tree of instances. They stop at 2^64 - 1.
+#[derive(Clone, Copy, Debug, PartialEq, Eq)]
+pub struct Sums {
+    pub nets: u64,
+    pub instances: u64,
+    pub words: u64,
+}
+
+fn sum(a: Sums, b: Sums) -> Sums
+    ensures { counts_in result ≡ sound.sum_counts (counts_in a) (counts_in b) }
+{
+    Sums {
+        nets: a.nets.saturating_add(b.nets),
+        instances: a.instances.saturating_add(b.instances),
+        words: a.words.saturating_add(b.words),
+    }
+}
+
+fn decl_counts(d: &Decl) -> Sums
+    ensures { counts_in result ≡ sound.decl_counts (plain_decl d.now) }
+{
+    match d {
+        Decl::Wire { .. } | Decl::Register { .. } => Sums {
+            nets: 1,
+            instances: 0,
+            words: 0,
+        },
+        Decl::Array { length, .. } => Sums {
+            nets: 0,
+            instances: 0,
+            words: *length,
+        },
+    }
+}
+
+fn decls_counts(start: Sums, decls: &[Decl]) -> Sums
+    ensures { counts_in result ≡ sound.decls_counts (counts_in start) (map plain_decl decls.now) }
+{
+    let mut sums = start;
+    for d in decls {
+        sums = sum(sums, decl_counts(d));
+    }
+    sums
+}
+
+/// The counts of the module of a name, among those before.
+fn counts_named(before: &[Module], counts: &[Sums], name: &Name) -> Sums
+    ensures { counts_in result ≡ sound.counts_named (plain_modules before.now) (map counts_in counts.now) name.now }
+{
+    let mut modules = before;
+    let mut counts = counts;
+    while let Some((m, more_modules)) = modules.split_first() {
+        let Some((c, more_counts)) = counts.split_first() else {
+            break;
+        };
+        if same(&m.name, name) {
+            return *c;
+        }
+        modules = more_modules;
+        counts = more_counts;
+    }
+    Sums {
+        nets: 0,
+        instances: 0,
+        words: 0,
+    }
+}
+
+fn instances_counts(before: &[Module], counts: &[Sums], start: Sums, instances: &[Instance]) -> Sums
+    ensures { counts_in result ≡ sound.instances_counts (plain_modules before.now) (map counts_in counts.now) (counts_in start) (map plain_instance instances.now) }
+{
+    let mut sums = start;
+    for i in instances {
+        sums = sum(sums, counts_named(before, counts, &i.module));
+    }
+    sums
+}
+
+/// The counts of a module, with those of its instances.
+pub fn module_counts(before: &[Module], counts: &[Sums], m: &Module) -> Sums
+    ensures { counts_in result ≡ sound.module_counts (plain_modules before.now) (map counts_in counts.now) (plain_module m.now) }
+{
+    let own = Sums {
+        nets: m.ports.len() as u64,
+        instances: 1,
+        words: 0,
+    };
+    instances_counts(before, counts, decls_counts(own, &m.decls), &m.instances)
+}
+
+/// Whether a tree has more nets, instances or words than a text may have.
+pub fn too_large(sums: Sums) -> bool
+    ensures { result ≡ sound.too_large (counts_in sums) }
+{
+    sums.nets > VERILOG_NETS || sums.instances > VERILOG_INSTANCES || sums.words > MEMORY_WORDS
+}

@@ -1,0 +1,138 @@
+//! The rules on modules.
+
+ghost use Rattle.std.specs.Prelude.{◌≡◌, [], ◌++◌, map, IfOk, OnOk};
+ghost use Rattle.cx_vtree.specs.PlainParts.{plain_port, plain_decl, plain_assign, plain_module, plain_modules};
+ghost use Rattle.cx_vtree.specs.Sound as sound;
+ghost use Rattle.cx_vsound.specs.Parts.{counts_in, signature_faults, body_faults};
+ghost use Rattle.cx_vsound.specs.Search.{faults_in, over};
+
+use crate::counts::{Sums, module_counts, too_large};
+use crate::edges::edge;
+use crate::instances::instances;
+use crate::meanings::same;
+use crate::nets::drivers;
+use crate::parts::{assigns, decls, ports};
+use crate::search::{LineFaults, Search, after, clean};
+use cx_text::{Memory, Name};
+use cx_vtree::{Module, ModulePort, NetAssign};
+use std::alloc::Global;
+
+fn module_faults(is_main: bool, before: &[Module], own: Sums, m: &Module) -> LineFaults
+    ensures { faults_in result ≡ sound.module_faults is_main (plain_modules before.now) (counts_in own) (plain_module m.now) }
+{
+    let fewest = if is_main { 4usize } else { 2usize };
+    LineFaults {
+        name: has_module(before, &m.name)
+            || m.ports.len() < fewest
+            || (is_main && m.name.bytes() != b"main".as_slice()),
+        width: false,
+        limit: is_main && too_large(own),
+    }
+}
+
+/// Whether a module of this name is among some.
+fn has_module(modules: &[Module], name: &Name) -> bool
+    ensures { result ≡ sound.has_name (map (λ m. m.name) (plain_modules modules.now)) name.now }
+{
+    for m in modules {
+        if same(&m.name, name) {
+            return true;
+        }
+    }
+    false
+}
+
+/// The names of ports.
+fn port_names<'a>(alloc: Global, ports: &'a [ModulePort]) -> Result<Vec<&'a Name>, Memory>
+    ensures { IfOk result (λ names. map (λ n. n.now) names.items ≡ map (λ p. p.name) (map plain_port ports.now)) }
+{
+    let mut names = Vec::new(alloc);
+    for p in ports {
+        names.push(&p.name)?;
+    }
+    Ok(names)
+}
+
+/// The names of what is assigned.
+fn assigned<'a>(alloc: Global, assigns: &'a [NetAssign]) -> Result<Vec<&'a Name>, Memory>
+    ensures { IfOk result (λ names. map (λ n. n.now) names.items ≡ map (λ a. a.name) (map plain_assign assigns.now)) }
+{
+    let mut names = Vec::new(alloc);
+    for a in assigns {
+        names.push(&a.name)?;
+    }
+    Ok(names)
+}
+
+/// Goes on past the lines of a module to its last declaration. `names` gains the names of its ports and declarations.
+fn signature<'a>(
+    alloc: Global,
+    search: Search,
+    is_main: bool,
+    before: &[Module],
+    own: Sums,
+    names: &mut Vec<&'a Name>,
+    m: &'a Module,
+) -> Result<Search, Memory>
+    requires { map (λ n. n.now) names.old.items ≡ map (λ p. p.name) (map plain_port m.now.ports.items) }
+    ensures value { IfOk result (λ s. s ≡ over search (signature_faults is_main (plain_modules before.now) (counts_in own) (plain_module m.now))) }
+    ensures names { OnOk result (map (λ n. n.now) names.new.items ≡ map (λ p. p.name) (map plain_port m.now.ports.items) ++ map sound.decl_name (map plain_decl m.now.decls.items)) }
+{
+    let driving = drivers(alloc, before, m)?;
+    let search = after(search, module_faults(is_main, before, own, m));
+    let search = ports(alloc, search, is_main, &driving, &m.ports)?;
+    let past = decls(clean(search), &driving, names, &m.decls)?;
+    Ok(past)
+}
+
+/// Goes on past the other lines of a module.
+fn body<'a>(
+    alloc: Global,
+    search: Search,
+    before: &[Module],
+    names: &mut Vec<&'a Name>,
+    m: &'a Module,
+) -> Result<Search, Memory>
+    requires { map (λ n. n.now) names.old.items ≡ map (λ p. p.name) (map plain_port m.now.ports.items) ++ map sound.decl_name (map plain_decl m.now.decls.items) }
+    ensures { IfOk result (λ s. s ≡ over search (body_faults (plain_modules before.now) (plain_module m.now))) }
+{
+    let search = assigns(alloc, search, m, &m.assigns)?;
+    let mut driven = assigned(alloc, &m.assigns)?;
+    let search = instances(search, before, m, names, &mut driven, &m.instances)?;
+    let search = edge(alloc, search, m, &m.edge)?;
+    Ok(clean(search))
+}
+
+/// Goes on past the lines of a module.
+fn module_lines(
+    alloc: Global,
+    search: Search,
+    is_main: bool,
+    before: &[Module],
+    own: Sums,
+    m: &Module,
+) -> Result<Search, Memory>
+    ensures { IfOk result (λ s. s ≡ over search (sound.lines_faults is_main (plain_modules before.now) (counts_in own) (plain_module m.now))) }
+{
+    let mut names = port_names(alloc, &m.ports)?;
+    let declared = signature(alloc, search, is_main, before, own, &mut names, m)?;
+    let past = body(alloc, declared, before, &mut names, m)?;
+    Ok(past)
+}
+
+/// Goes on past the lines of all modules.
+pub fn modules(alloc: Global, search: Search, modules: &[Module]) -> Result<Search, Memory>
+    ensures { IfOk result (λ s. s ≡ over search (sound.modules_faults [] [] (plain_modules modules.now))) }
+{
+    let mut search = search;
+    let mut counts = Vec::new(alloc);
+    for i in 0..modules.len() {
+        let before = &modules[..i];
+        let m = &modules[i];
+        let own = module_counts(before, &counts, m);
+        let is_main = modules[i + 1..].is_empty();
+        search = module_lines(alloc, search, is_main, before, own, m)?;
+        counts.push(own)?;
+    }
+    Ok(search)
+}

@@ -1,0 +1,100 @@
+//! Names that came before, and what drives nets.
+
+ghost use Rattle.std.specs.Prelude.{◌≡◌, [], ◌∷◌, ◌++◌, ◌||◌, map, option_map, IfOk, OnOk};
+ghost use Rattle.std.specs.Option.{option_copied};
+ghost use Rattle.cx_vtree.specs.PlainParts.{plain_port, plain_conn, plain_module, plain_modules};
+ghost use Rattle.cx_vtree.specs.Sound as sound;
+
+use crate::meanings::same;
+use cx_text::{Memory, Name};
+use cx_vtree::{Conn, Module, ModulePort};
+use std::alloc::Global;
+
+/// Whether a name is among some.
+pub fn has_name(names: &[&Name], name: &Name) -> bool
+    ensures { result ≡ sound.has_name (map (λ n. n.now) names.now) name.now }
+{
+    for n in names {
+        if same(n, name) {
+            return true;
+        }
+    }
+    false
+}
+
+/// Whether a module has an output of this name.
+pub fn has_output(ports: &[ModulePort], name: &Name) -> bool
+    ensures { result ≡ sound.has_output (map plain_port ports.now) name.now }
+{
+    for p in ports {
+        if p.output && same(&p.name, name) {
+            return true;
+        }
+    }
+    false
+}
+
+/// The module of a name, among some.
+pub fn module_named<'a>(modules: &'a [Module], name: &Name) -> Option<&'a Module>
+    ensures { option_map plain_module (option_copied result) ≡ sound.module_named (plain_modules modules.now) name.now }
+{
+    for m in modules {
+        if same(&m.name, name) {
+            return Some(m);
+        }
+    }
+    None
+}
+
+/// The ports of the module of a name; none where there is no such module.
+pub fn ports_of<'a>(modules: &'a [Module], name: &Name) -> &'a [ModulePort]
+    ensures { map plain_port result.now ≡ sound.ports_of (plain_modules modules.now) name.now }
+{
+    match module_named(modules, name) {
+        None => &[],
+        Some(m) => &m.ports,
+    }
+}
+
+/// Adds a net, and tells whether it or one before was there already.
+fn add_net<'a>(driven: &mut Vec<&'a Name>, doubled: bool, net: &'a Name) -> Result<bool, Memory>
+    ensures value { IfOk result (λ d. d ≡ (doubled || sound.has_name (map (λ n. n.now) driven.old.items) net.now)) }
+    ensures names { OnOk result (map (λ n. n.now) driven.new.items ≡ map (λ n. n.now) driven.old.items ++ net.now ∷ []) }
+{
+    let again = doubled || has_name(driven, net);
+    driven.push(net)?;
+    Ok(again)
+}
+
+/// Adds the nets that connections drive, by the outputs of the instance's module. Tells whether one of them was driven before.
+#[tactic(auto, using(crate::proofs::Literals::or_assoc))]
+pub fn add_driven<'a>(
+    driven: &mut Vec<&'a Name>,
+    ports: &[ModulePort],
+    conns: &'a [Conn],
+) -> Result<bool, Memory>
+    ensures value { IfOk result (λ d. d ≡ sound.doubles (map (λ n. n.now) driven.old.items) (sound.driven_by (map plain_port ports.now) (map plain_conn conns.now))) }
+    ensures names { OnOk result (map (λ n. n.now) driven.new.items ≡ map (λ n. n.now) driven.old.items ++ sound.driven_by (map plain_port ports.now) (map plain_conn conns.now)) }
+{
+    let mut doubled = false;
+    for c in conns {
+        if has_output(ports, &c.port) {
+            doubled = add_net(driven, doubled, &c.net)?;
+        }
+    }
+    Ok(doubled)
+}
+
+/// The nets that a module drives.
+pub fn drivers<'a>(alloc: Global, before: &[Module], m: &'a Module) -> Result<Vec<&'a Name>, Memory>
+    ensures { IfOk result (λ names. map (λ n. n.now) names.items ≡ sound.drivers_in (plain_modules before.now) (plain_module m.now)) }
+{
+    let mut names = Vec::new(alloc);
+    for a in &m.assigns {
+        names.push(&a.name)?;
+    }
+    for i in &m.instances {
+        let _doubled = add_driven(&mut names, ports_of(before, &i.module), &i.conns)?;
+    }
+    Ok(names)
+}

@@ -1,0 +1,169 @@
+//! The rules on ports, declarations and assigns.
+
+ghost use Rattle.std.specs.Prelude.{◌≡◌, ◌^◌, nat_le, [], ◌++◌, map, IfOk, OnOk};
+ghost use Rattle.cx_vtree.specs.PlainParts.{plain_port, plain_decl, plain_assign};
+ghost use Rattle.cx_vtree.specs.Sound as sound;
+ghost use Rattle.cx_vsound.specs.Parts.{scope_of};
+ghost use Rattle.cx_vsound.specs.Search.{faults_in, over};
+
+use crate::exprs::{has_width, misnames, too_deep};
+use crate::meanings::{decl_name, is_driven, meaning, width_of};
+use crate::nets::has_name;
+use crate::search::{LineFaults, Search, after};
+use cx_text::{Memory, Name, WIDTH_BITS};
+use cx_vtree::{Decl, Module, ModulePort, NetAssign};
+use std::alloc::Global;
+
+/// Whether a width is not 1 to 128.
+fn bad_width(width: u8) -> bool
+    ensures { result ≡ sound.bad_width width }
+{
+    width == 0 || width > WIDTH_BITS
+}
+
+fn is_port(p: &ModulePort, name: &[u8], output: bool) -> bool
+    ensures { result ≡ sound.is_port name.now output (plain_port p.now) }
+{
+    p.name.bytes() == name && p.output == output
+}
+
+/// Whether a port is another than one at this index has to be.
+fn wrong_port(is_main: bool, index: usize, p: &ModulePort) -> bool
+    ensures { result ≡ sound.wrong_port is_main index (plain_port p.now) }
+{
+    if index == 0 {
+        return !is_port(p, b"clk", false);
+    }
+    if index == 1 {
+        return !is_port(p, b"reset", false);
+    }
+    if !is_main {
+        return false;
+    }
+    if index == 2 {
+        return !is_port(p, b"go", false);
+    }
+    if index == 3 {
+        return !is_port(p, b"done", true);
+    }
+    true
+}
+
+fn port_faults(
+    is_main: bool,
+    drivers: &[&Name],
+    earlier: &[&Name],
+    index: usize,
+    p: &ModulePort,
+) -> LineFaults
+    ensures { faults_in result ≡ sound.port_faults is_main (map (λ n. n.now) drivers.now) (map (λ n. n.now) earlier.now) index (plain_port p.now) }
+{
+    LineFaults {
+        name: has_name(earlier, &p.name)
+            || wrong_port(is_main, index, p)
+            || (p.output && !has_name(drivers, &p.name)),
+        width: bad_width(p.width) || ((is_main || index < 2) && p.width != 1),
+        limit: false,
+    }
+}
+
+/// Goes on past the lines of ports.
+pub fn ports(
+    alloc: Global,
+    search: Search,
+    is_main: bool,
+    drivers: &[&Name],
+    ports: &[ModulePort],
+) -> Result<Search, Memory>
+    ensures { IfOk result (λ s. s ≡ over search (sound.ports_faults is_main (map (λ n. n.now) drivers.now) [] 0 (map plain_port ports.now))) }
+{
+    let mut search = search;
+    let mut earlier = Vec::new(alloc);
+    for (index, p) in ports.iter().enumerate() {
+        search = after(search, port_faults(is_main, drivers, &earlier, index, p));
+        earlier.push(&p.name)?;
+    }
+    Ok(search)
+}
+
+/// Whether an array has 2^64 words or more, which no `u64` says.
+fn is_too_long(length: u64) -> bool
+    ensures { result ≡ nat_le (2 ^ 64) length }
+{
+    let _words = length;
+    false
+}
+
+fn decl_faults(drivers: &[&Name], earlier: &[&Name], d: &Decl) -> LineFaults
+    ensures { faults_in result ≡ sound.decl_faults (map (λ n. n.now) drivers.now) (map (λ n. n.now) earlier.now) (plain_decl d.now) }
+{
+    match d {
+        Decl::Wire { name, width } => LineFaults {
+            name: has_name(earlier, name) || !has_name(drivers, name),
+            width: bad_width(*width),
+            limit: false,
+        },
+        Decl::Register { name, width } => LineFaults {
+            name: has_name(earlier, name),
+            width: bad_width(*width),
+            limit: false,
+        },
+        Decl::Array {
+            name,
+            width,
+            length,
+        } => LineFaults {
+            name: has_name(earlier, name),
+            width: bad_width(*width),
+            limit: is_too_long(*length),
+        },
+    }
+}
+
+/// Goes on past the lines of declarations. `earlier` has the names of the ports, and gains those of the declarations.
+pub fn decls<'a>(
+    search: Search,
+    drivers: &[&Name],
+    earlier: &mut Vec<&'a Name>,
+    decls: &'a [Decl],
+) -> Result<Search, Memory>
+    ensures value { IfOk result (λ s. s ≡ over search (sound.decls_faults (map (λ n. n.now) drivers.now) (map (λ n. n.now) earlier.old.items) (map plain_decl decls.now))) }
+    ensures names { OnOk result (map (λ n. n.now) earlier.new.items ≡ map (λ n. n.now) earlier.old.items ++ map sound.decl_name (map plain_decl decls.now)) }
+{
+    let mut search = search;
+    for d in decls {
+        search = after(search, decl_faults(drivers, earlier, d));
+        earlier.push(decl_name(d))?;
+    }
+    Ok(search)
+}
+
+fn assign_faults(m: &Module, earlier: &[&Name], a: &NetAssign) -> LineFaults
+    ensures { faults_in result ≡ sound.assign_faults (scope_of m.now) (map (λ n. n.now) earlier.now) (plain_assign a.now) }
+{
+    LineFaults {
+        name: !is_driven(meaning(m, &a.name))
+            || has_name(earlier, &a.name)
+            || misnames(m, &a.value),
+        width: !has_width(m, &a.value, width_of(meaning(m, &a.name))),
+        limit: too_deep(&a.value),
+    }
+}
+
+/// Goes on past the lines of assigns.
+pub fn assigns(
+    alloc: Global,
+    search: Search,
+    m: &Module,
+    assigns: &[NetAssign],
+) -> Result<Search, Memory>
+    ensures { IfOk result (λ s. s ≡ over search (sound.assigns_faults (scope_of m.now) [] (map plain_assign assigns.now))) }
+{
+    let mut search = search;
+    let mut earlier = Vec::new(alloc);
+    for a in assigns {
+        search = after(search, assign_faults(m, &earlier, a));
+        earlier.push(&a.name)?;
+    }
+    Ok(search)
+}
