@@ -24,7 +24,7 @@ AreAlike Nothing b = Unit {0}
 AreAlike (OfRow row) b = b ≡ OfRow row
 AreAlike (OfInstance child) b = (other : Instance) × (b ≡ OfInstance other) × (part_of child ≡ part_of other)
 
-same_part : (d : PlainDesign) (n k : ℕ) → part_of (tree_within d n k) ≡ component_at d k
+pub same_part : (d : PlainDesign) (n k : ℕ) → part_of (tree_within d n k) ≡ component_at d k
 same_part d zero k = refl
 same_part d (suc n) k = refl
 
@@ -95,7 +95,7 @@ no_leads i act e none (ports.Output n) q l = let h : Mentions (drivers no_compon
 no_leads i act e none (ports.Done g) q l = let h : Mentions (drivers no_component act (ports.Done g)) q = subst (λ x. Mentions (drivers x act (ports.Done g)) q) e l in h.1
 no_leads i act e none (ports.Literal w v) q l = l
 
-no_circle : (i : Instance) (act : Active) → part_of i ≡ no_component → ((c : ℕ) → cell_at (cells_of i) c ≡ Nothing) → IsAcyclic i act
+pub no_circle : (i : Instance) (act : Active) → part_of i ≡ no_component → ((c : ℕ) → cell_at (cells_of i) c ≡ Nothing) → IsAcyclic i act
 no_circle i act e none (p, at_once l) = no_leads i act e none p p l
 no_circle i act e none (p, by_way_of r l rest) = no_leads i act e none p r l
 
