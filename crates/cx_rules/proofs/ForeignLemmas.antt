@@ -1,21 +1,15 @@
 -- The enabling ports of a cell that no active group drives are 0.
-use Rattle.std.proofs.Common.{◌≡◌, ℕ, zero, suc, ◌+◌, ◌<◌, inl, inr, ◌⊎◌, ⊎_elim, Bool, true, false, ◌&&◌, ◌||◌, Option, Some, None, List, [], ◌∷◌, ◌++◌, length, get_or, if◌then◌else◌, refl, sym, ap, ◌∙◌, subst, arith}
-use Rattle.cx_text.specs.declared.rules.Rule.TheVariants.{AlwaysEnable}
-use Rattle.std.specs.Prelude.{slice_get}
+use Rattle.std.proofs.Common.{◌≡◌, ℕ, zero, suc, ◌+◌, inl, inr, ◌⊎◌, ⊎_elim, Bool, true, false, ◌||◌, Option, Some, None, List, [], ◌∷◌, ◌++◌, length, get_or, if◌then◌else◌, refl, sym, ap, ◌∙◌, arith}
 use Rattle.cx_prim.specs.declared.ports.Side.TheVariants as sides
-use Rattle.cx_prim.specs.Rows.{Row, is_enable_side}
+use Rattle.cx_prim.specs.Rows.{Row}
 use Rattle.cx_meaning.specs.declared.ports.PortRef.{PortRef}
 use Rattle.cx_meaning.specs.declared.ports.PortRef.TheVariants as ports
 use Rattle.cx_meaning.specs.Rows.{side_of}
-use Rattle.cx_meaning.specs.Designs.{PlainAssign, PlainGroup, PlainComponent, PlainDesign, component_at, group_at, no_group}
-use Rattle.cx_meaning.specs.Instances.{Instance, Node, At, OfRow, cell_at, cells_of, part_of, State, under, just}
-use Rattle.cx_meaning.specs.Active.{Active, Acting, Owned, owned, owned_by_groups, no_later, placed_in, by_place, source_order, offset_of, if_acting, if_target, acting, same_port, drivers}
-use Rattle.cx_meaning.specs.declared.sights.Seen.{Seen}
-use Rattle.cx_meaning.specs.Sights.{Look, Below, Held, bit_of, target_seen, PartPort, cell_step, side_step, step, In, outputs_below, approach, ports_of, seen}
+use Rattle.cx_meaning.specs.Designs.{PlainAssign, PlainGroup, group_at, no_group}
+use Rattle.cx_meaning.specs.Instances.{Instance, Node, OfRow, cell_at, cells_of, part_of, State, under, just}
+use Rattle.cx_meaning.specs.Active.{Active, Owned, owned, owned_by_groups, no_later, placed_in, by_place, source_order, offset_of, if_acting, if_target, acting, same_port, drivers}
+use Rattle.cx_meaning.specs.Sights.{Look, Below, Held, bit_of, target_seen, cell_step, side_step, step, In, outputs_below, approach, ports_of, seen}
 use Rattle.cx_meaning.specs.Control.{targets_cell, assigns_drive, group_drives}
-use Rattle.cx_rules.specs.Ports.{component_of, is_primitive_enable, enables_cell, path_of}
-use Rattle.cx_rules.specs.Spots.{AnAssign}
-use Rattle.cx_rules.specs.Accepted.{IsAccepted}
 use Rattle.cx_rules.proofs.FoundLemmas.{same_is}
 
 -- an assignment in source order is a continuous one, or one of a group

@@ -1,8 +1,8 @@
 -- Static control: what may stand in it, and counts of occurrences before repetition.
-use Rattle.std.specs.Prelude.{ℕ, zero, suc, ◌+◌, Bool, true, false, ◌&&◌, ◌||◌, is_some, List, [], ◌∷◌, Option, Some, None}
+use Rattle.std.specs.Prelude.{ℕ, ◌+◌, Bool, true, false, ◌&&◌, is_some, List, [], ◌∷◌, Option, None}
 use Rattle.cx_meaning.specs.Designs.{PlainComponent, PlainForm, Empty, Enable, Seq, Par, If, While, Repeat, StaticSeq, StaticPar, StaticIf, StaticRepeat, Timed, PlainStatement, Placed, PlainStatements, no_statements, a_statement}
 use Rattle.cx_meaning.specs.Islands.{group_length}
-use Rattle.cx_rules.specs.Items.{Context, Dynamic, InStatic, Branch, Amiss, Visited, statements_in}
+use Rattle.cx_rules.specs.Items.{Context, Dynamic, InStatic, Branch, Amiss, Visited}
 
 -- a static seq, par, if or repeat
 abbrev pub is_static : PlainForm → Bool
