@@ -1,0 +1,4 @@
+mod StartLemmas
+mod ReadsLemmas
+mod PositionLemmas
+mod IslandLemmas

@@ -1,0 +1,40 @@
+//! Laws: each function does nothing, and its clause is the law.
+
+ghost use Rattle.std.specs.Prelude.{◌≡◌, ◌<◌, ℕ, List, [], true};
+ghost use Rattle.cx_meaning.specs.Designs.{PlainDesign, PlainComponent, PlainForm, PlainStatement};
+ghost use Rattle.cx_meaning.specs.Instances.{Set, tree_of, start, IsSettled};
+ghost use Rattle.cx_meaning.specs.Islands.{History, form_flat, form_length, active_in, looked_at};
+ghost use Rattle.cx_rules.specs.Footprints.{Reads};
+ghost use Rattle.cx_laws.specs.Closures.{IsClosed};
+ghost use Rattle.cx_laws.specs.Positions.{active_at, begun_at, HasNoEmptyIf};
+
+/// Every start is settled, with whatever words the external memories are loaded.
+pub fn loaded_start_is_settled()
+    ensures { (d : PlainDesign) (words : List (List ℕ)) → IsSettled (tree_of d) (start (tree_of d) words) }
+{}
+
+/// What a statement reads is closed: it has what the statement drives and names, and with each cell what continuous
+/// assignments of its ports name.
+pub fn reads_are_closed()
+    ensures { (part : PlainComponent) (s : PlainStatement) → IsClosed part s (Reads part s) }
+{}
+
+/// And it is within every other set of cells that is closed.
+pub fn reads_are_least()
+    ensures { (part : PlainComponent) (s : PlainStatement) (set : Set) (c : ℕ)
+        → IsClosed part s (λ e. set e ≡ true) → Reads part s c → set c ≡ true }
+{}
+
+/// The groups that are active in a cycle of an island, by nested timers and without unrolling, are those of its flat list, in
+/// the same order.
+pub fn timers_give_the_active_groups()
+    ensures { (part : PlainComponent) (form : PlainForm) (h : History) (t : ℕ)
+        → t < form_length part form → active_in h t (form_flat part form 0 []) ≡ active_at part h t form }
+{}
+
+/// And so are the ports of the static ifs that begin, where no static if is empty.
+pub fn timers_give_the_begun_ports()
+    ensures { (part : PlainComponent) (form : PlainForm) (h : History) (t : ℕ)
+        → HasNoEmptyIf part form → t < form_length part form
+        → looked_at h t (form_flat part form 0 []) ≡ begun_at part h t form }
+{}

@@ -1,0 +1,4 @@
+//! Further laws of the meaning of a design and of its rules, on which interpreters and compilers stand.
+#![tactic(auto)]
+
+pub mod laws;
