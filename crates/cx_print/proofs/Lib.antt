@@ -1,3 +1,6 @@
-pub mod GapLemmas
-pub mod LayoutLemmas
+pub mod Adding
+pub mod HeaderSpelling
+pub mod GuardSpelling
+pub mod ControlSpelling
+pub mod FileSpelling
 pub mod PrintLemmas
