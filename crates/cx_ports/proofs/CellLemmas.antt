@@ -49,7 +49,7 @@ at_number child [] c = refl
 at_number child (cell ∷ cells) zero = at_first child cell.kind (cells_for child cells)
 at_number child (cell ∷ cells) (suc c) = at_next child cell.kind (cells_for child cells) c ∙ at_number child cells c
 
-part_within : (d : PlainDesign) (n j : ℕ) → part_of (tree_within d n j) ≡ component_at d j
+pub part_within : (d : PlainDesign) (n j : ℕ) → part_of (tree_within d n j) ≡ component_at d j
 part_within d zero j = refl
 part_within d (suc n) j = refl
 

@@ -23,15 +23,15 @@ pub enum At<'a> {
 }
 
 /// The component of a number.
-pub fn component(design: &Design, number: u32) -> &Component
+pub fn component(design: &Design, number: usize) -> &Component
     requires within { number < length design.now.components.items }
     ensures value { plain_component result.now ≡ component_at (plain_design design.now) number }
 {
-    &design.components.as_slice()[number as usize]
+    &design.components.as_slice()[number]
 }
 
 /// The cell of a number, where the component has it.
-fn cell_of(component: &Component, number: u32) -> Option<&Cell>
+pub fn cell_of(component: &Component, number: u32) -> Option<&Cell>
     ensures none { IfNone result (slice_get (plain_component component.now).cells number ≡ None) }
     ensures some { IfSome result (λ cell. slice_get (plain_component component.now).cells number ≡ Some (plain_cell cell.now)) }
 {
@@ -39,7 +39,7 @@ fn cell_of(component: &Component, number: u32) -> Option<&Cell>
 }
 
 /// What stands at a cell of a component, both by their numbers.
-pub fn stands_at(design: &Design, number: u32, cell: u32) -> At<'_>
+pub fn stands_at(design: &Design, number: usize, cell: u32) -> At<'_>
     requires within { number < length design.now.components.items }
     ensures value { StandsFor result (cell_at (cells_of (component_of (plain_design design.now) number)) cell) }
 {
@@ -47,7 +47,7 @@ pub fn stands_at(design: &Design, number: u32, cell: u32) -> At<'_>
         None => At::Nothing,
         Some(cell) => match &cell.kind {
             CellKind::Prim(primitive) => At::Primitive(primitive),
-            CellKind::Part(part) => At::Part(component(design, *part)),
+            CellKind::Part(part) => At::Part(component(design, *part as usize)),
         },
     }
 }

@@ -15,7 +15,7 @@ use cx_design::{Design, PortRef};
 use cx_prim::Side;
 
 /// Whether a port is an output of a cell or an input of the signature, which no assignment can drive.
-pub fn is_source_only(design: &Design, number: u32, port: PortRef) -> bool
+pub fn is_source_only(design: &Design, number: usize, port: PortRef) -> bool
     requires within { number < length design.now.components.items }
     ensures value { result ≡ ports.is_source_only (component_of (plain_design design.now) number) port }
 {
@@ -27,7 +27,7 @@ pub fn is_source_only(design: &Design, number: u32, port: PortRef) -> bool
 }
 
 /// Whether a port is an input of a cell or an output of the signature, which nothing can read.
-pub fn is_target_only(design: &Design, number: u32, port: PortRef) -> bool
+pub fn is_target_only(design: &Design, number: usize, port: PortRef) -> bool
     requires within { number < length design.now.components.items }
     ensures value { result ≡ ports.is_target_only (component_of (plain_design design.now) number) port }
 {
@@ -39,7 +39,7 @@ pub fn is_target_only(design: &Design, number: u32, port: PortRef) -> bool
 }
 
 /// Whether a port is an enabling port of a primitive cell.
-pub fn is_primitive_enable(design: &Design, number: u32, port: PortRef) -> bool
+pub fn is_primitive_enable(design: &Design, number: usize, port: PortRef) -> bool
     requires within { number < length design.now.components.items }
     ensures value { result ≡ ports.is_primitive_enable (component_of (plain_design design.now) number) port }
 {
@@ -50,7 +50,7 @@ pub fn is_primitive_enable(design: &Design, number: u32, port: PortRef) -> bool
 }
 
 /// Whether a port is one of a component's cell.
-pub fn is_part_port(design: &Design, number: u32, port: PortRef) -> bool
+pub fn is_part_port(design: &Design, number: usize, port: PortRef) -> bool
     requires within { number < length design.now.components.items }
     ensures value { result ≡ ports.is_part_port (component_of (plain_design design.now) number) port }
 {
@@ -61,7 +61,7 @@ pub fn is_part_port(design: &Design, number: u32, port: PortRef) -> bool
 }
 
 /// Whether a cell's port is one of its outputs.
-fn is_cell_output(design: &Design, number: u32, cell: u32, port: u32) -> bool
+fn is_cell_output(design: &Design, number: usize, cell: u32, port: u32) -> bool
     requires within { number < length design.now.components.items }
     ensures value { result ≡ ports.is_cell_output (cell_at (cells_of (component_of (plain_design design.now) number)) cell) port }
 {
@@ -76,7 +76,7 @@ fn is_cell_output(design: &Design, number: u32, cell: u32, port: u32) -> bool
 }
 
 /// Whether a cell's port is an enabling port of a primitive.
-fn enables_cell(design: &Design, number: u32, cell: u32, port: u32) -> bool
+fn enables_cell(design: &Design, number: usize, cell: u32, port: u32) -> bool
     requires within { number < length design.now.components.items }
     ensures value { result ≡ ports.enables_cell (cell_at (cells_of (component_of (plain_design design.now) number)) cell) port }
 {
@@ -87,7 +87,7 @@ fn enables_cell(design: &Design, number: u32, cell: u32, port: u32) -> bool
 }
 
 /// Whether a cell is one of a component.
-fn is_instance(design: &Design, number: u32, cell: u32) -> bool
+fn is_instance(design: &Design, number: usize, cell: u32) -> bool
     requires within { number < length design.now.components.items }
     ensures value { result ≡ ports.is_instance (cell_at (cells_of (component_of (plain_design design.now) number)) cell) }
 {

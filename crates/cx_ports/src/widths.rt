@@ -13,7 +13,7 @@ use crate::parts::{PartPort, part_port};
 use cx_design::{Component, Design, PortDecl, PortRef};
 
 /// The width of a port. A literal has its width where it is one of 1 to 128 bits that the value fits.
-pub fn width(design: &Design, number: u32, port: PortRef) -> Option<u32>
+pub fn width(design: &Design, number: usize, port: PortRef) -> Option<u32>
     requires within { number < length design.now.components.items }
     ensures value { result ≡ ports.width_of (component_of (plain_design design.now) number) port }
 {
@@ -31,7 +31,7 @@ pub fn width(design: &Design, number: u32, port: PortRef) -> Option<u32>
 }
 
 /// The width of a port, and of a literal as it is written.
-pub fn written_width(design: &Design, number: u32, port: PortRef) -> Option<u32>
+pub fn written_width(design: &Design, number: usize, port: PortRef) -> Option<u32>
     requires within { number < length design.now.components.items }
     ensures value { result ≡ ports.written_width (component_of (plain_design design.now) number) port }
 {
@@ -50,7 +50,7 @@ pub fn keeps_literal(width: u32, value: u128) -> bool
     1 <= width && width <= 128 && (width == 128 || value < 1u128 << width)
 }
 
-fn cell_width(design: &Design, number: u32, cell: u32, port: u32) -> Option<u32>
+fn cell_width(design: &Design, number: usize, cell: u32, port: u32) -> Option<u32>
     requires within { number < length design.now.components.items }
     ensures value { result ≡ ports.cell_width (cell_at (cells_of (component_of (plain_design design.now) number)) cell) port }
 {
