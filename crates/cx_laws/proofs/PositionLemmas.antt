@@ -258,3 +258,6 @@ module _ {A : Type 0} (part : PlainComponent) (h : History) (t : ℕ) (P : ℕ �
   -- AN ISLAND
   pub on_island : (form : PlainForm) → FormIfs P part form → t < form_length part form → observed (form_flat part form 0 []) ≡ form_at part h t of_group of_port form t
   on_island form fine l = on_form form fine 0 t [] (omega arith) l refl
+
+  pub past_island : (form : PlainForm) → FormIfs P part form → form_length part form ≤ t → observed (form_flat part form 0 []) ≡ []
+  past_island form fine l = out_form form fine 0 [] (inr (omega arith))

@@ -2,9 +2,15 @@
 
 ghost use Rattle.std.specs.Prelude.{◌≡◌, ◌<◌, ℕ, List, [], true};
 ghost use Rattle.cx_meaning.specs.Designs.{PlainDesign, PlainComponent, PlainForm, PlainStatement};
-ghost use Rattle.cx_meaning.specs.Instances.{Set, tree_of, start, IsSettled};
+ghost use Rattle.cx_meaning.specs.Instances.{Set, Path, part_of, tree_of, instance_at, start, IsSettled};
+ghost use Rattle.cx_meaning.specs.Active.{entries};
+ghost use Rattle.cx_meaning.specs.Sights.{In};
 ghost use Rattle.cx_meaning.specs.Islands.{History, form_flat, form_length, active_in, looked_at};
+ghost use Rattle.cx_rules.specs.Items.{Visited, statements_in};
 ghost use Rattle.cx_rules.specs.Footprints.{Reads};
+ghost use Rattle.cx_rules.specs.Accepted.{IsAccepted};
+ghost use Rattle.cx_rules.specs.Wellformed.{IsDesign};
+ghost use Rattle.cx_rules.specs.Circles.{IsAcyclic};
 ghost use Rattle.cx_laws.specs.Closures.{IsClosed};
 ghost use Rattle.cx_laws.specs.Positions.{active_at, begun_at, HasNoEmptyIf};
 
@@ -37,4 +43,13 @@ pub fn timers_give_the_begun_ports()
     ensures { (part : PlainComponent) (form : PlainForm) (h : History) (t : ℕ)
         → HasNoEmptyIf part form → t < form_length part form
         → looked_at h t (form_flat part form 0 []) ≡ begun_at part h t form }
+{}
+
+/// In an accepted design nothing leads in a circle under the groups that a static statement has active together in a cycle,
+/// whatever the values of its samples: in no instance of its tree.
+pub fn accepted_entries_are_acyclic()
+    ensures { (d : PlainDesign) (path : Path) (v : Visited) (h : History) (t : ℕ)
+        → IsDesign d → IsAccepted d → In (statements_in (part_of (instance_at (tree_of d) path))) v
+        → IsAcyclic (instance_at (tree_of d) path)
+        (entries (active_in h t (form_flat (part_of (instance_at (tree_of d) path)) v.form 0 []))) }
 {}
