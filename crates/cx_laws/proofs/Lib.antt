@@ -6,3 +6,4 @@ mod EdgeLemmas
 mod TogetherLemmas
 mod VisitLemmas
 mod ApartLemmas
+mod LengthLemmas

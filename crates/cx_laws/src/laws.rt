@@ -45,6 +45,13 @@ pub fn timers_give_the_begun_ports()
         → looked_at h t (form_flat part form 0 []) ≡ begun_at part h t form }
 {}
 
+/// In an accepted design no static if is empty, in no instance of its tree.
+pub fn accepted_has_no_empty_if()
+    ensures { (d : PlainDesign) (path : Path) (v : Visited)
+        → IsAccepted d → In (statements_in (part_of (instance_at (tree_of d) path))) v
+        → HasNoEmptyIf (part_of (instance_at (tree_of d) path)) v.form }
+{}
+
 /// In an accepted design nothing leads in a circle under the groups that a static statement has active together in a cycle,
 /// whatever the values of its samples: in no instance of its tree.
 pub fn accepted_entries_are_acyclic()
