@@ -1,102 +1,33 @@
 -- In an accepted design the groups that an island has active in one cycle look at nothing that another of them drives.
-use Rattle.std.proofs.Common.{◌≡◌, ℕ, zero, suc, ◌+◌, ◌<◌, ◌≤◌, inl, inr, ◌⊎◌, ⊎_elim, Bool, true, false, ◌||◌, Option, Some, None, List, [], ◌∷◌, ◌++◌, length, get_or, refl, sym, ap, ◌∙◌, subst, arith}
-use Rattle.std.specs.Prelude.{if◌then◌else◌, nat_eq, ◌≢◌}
-use Rattle.std.proofs.lemmas.Bool.{cases_lt, eqb-true}
+use Rattle.std.proofs.Common.{◌≡◌, ℕ, ◌<◌, inl, inr, ⊎_elim, Bool, true, false, ◌||◌, Option, Some, None, List, [], ◌∷◌, length, refl, sym, ap, ◌∙◌, subst}
+use Rattle.std.specs.Prelude.{if◌then◌else◌, nat_eq}
+use Rattle.std.proofs.lemmas.Bool.{cases_lt, eqb-true, eqb-false}
 use Rattle.std.proofs.lemmas.List.{get_or_past}
-use Rattle.cx_text.specs.declared.rules.Rule.TheVariants.{NotASource, Race}
-use Rattle.cx_meaning.specs.declared.ports.PortRef.{PortRef}
 use Rattle.cx_meaning.specs.declared.ports.PortRef.TheVariants as ports
-use Rattle.cx_meaning.specs.declared.ports.PlacedPort.{PlacedPort}
-use Rattle.cx_meaning.specs.Designs.{PlainGuard, Always, Atom, Negation, All, Any, Compared, Within, PlainGuards, no_guards, a_guard, PlainAssign, PlainComponent, PlainDesign, PlainStatement, Placed, Enable, component_at, no_component, group_at, no_group}
-use Rattle.cx_meaning.specs.Instances.{Instance, Node, no_cells, part_of, tree_within, tree_of, Path, instance_at}
-use Rattle.cx_meaning.specs.Active.{Active, nothing, group, Entry, offset_in, entries, Owned, source_order}
-use Rattle.cx_meaning.specs.Sights.{In, GuardNames, AnyNames}
+use Rattle.cx_meaning.specs.Designs.{PlainAssign, PlainComponent, PlainDesign, PlainStatement, Placed, component_at, no_component, group_at}
+use Rattle.cx_meaning.specs.Instances.{Instance, Node, part_of, tree_of, Path, instance_at}
+use Rattle.cx_meaning.specs.Active.{Active, nothing, Entry, offset_in, entries}
+use Rattle.cx_meaning.specs.Sights.{In}
 use Rattle.cx_meaning.specs.Control.{groups_of, group_drives, groups_drive, drives}
 use Rattle.cx_meaning.specs.Islands.{History, form_length, form_flat, active_in}
-use Rattle.cx_rules.specs.Ports.{component_of, is_target_only, path_of}
-use Rattle.cx_rules.specs.Items.{operands_of, operands_in, sources_of, Visited, Dynamic, statements_in}
+use Rattle.cx_rules.specs.Items.{Visited, Dynamic, statements_in}
 use Rattle.cx_rules.specs.Footprints as footprints
 use Rattle.cx_rules.specs.Footprints.{AssignNames, Reads}
-use Rattle.cx_rules.specs.ShapeRules.{is_hole}
-use Rattle.cx_rules.specs.Spots.{AnAssign, AStatement}
-use Rattle.cx_rules.specs.RaceRule.{Arms, arms_of, IsShared, BreaksRace}
+use Rattle.cx_rules.specs.RaceRule.{Arms, arms_of, enabled_in}
 use Rattle.cx_rules.specs.Accepted.{IsAccepted}
-use Rattle.cx_rules.specs.Wellformed.{IsDesign, StandsIn}
+use Rattle.cx_rules.specs.Wellformed.{IsDesign}
 use Rattle.cx_rules.specs.Circles.{IsAcyclic, AreAcyclic}
-use Rattle.cx_rules.proofs.Finite.{in_left, in_right}
 use Rattle.cx_rules.proofs.ForeignLemmas.{or_right}
-use Rattle.cx_rules.proofs.CircleLemmas.{same_part, no_circle, Reached, a_tree, no_tree, reached, instance_acyclic, instance_group}
+use Rattle.cx_rules.proofs.CircleLemmas.{same_part, Reached, a_tree, no_tree, reached, instance_acyclic, instance_group}
 use Rattle.cx_laws.specs.Closures.{IsClosed}
 use Rattle.cx_laws.specs.Positions.{active_at}
 use Rattle.cx_laws.proofs.ReadsLemmas.{reads_least}
 use Rattle.cx_laws.proofs.IslandLemmas.{active_is, active_past}
-use Rattle.cx_laws.proofs.EdgeLemmas.{OwnerOf, continuous, of_group, owner_of, IsFit, IsActive, enabled, StandApart, group_there, no_shared_circle}
-use Rattle.cx_laws.proofs.TogetherLemmas.{InArms, InPar, Together, together}
-use Rattle.cx_laws.proofs.VisitLemmas.{visits, visited, number_in}
-
--- what an assignment names is among its sources
-mutual
-  guard_operand : (g : PlainGuard) (q : PortRef) → GuardNames g q → (p : PlacedPort) × In (operands_of g) p × (p.port ≡ q)
-  guard_operand Always q n = absurd n
-  guard_operand (Atom p) q n = (p, inl refl, n)
-  guard_operand (Negation g) q n = guard_operand g q n
-  guard_operand (All gs) q n = guards_operand gs q n
-  guard_operand (Any gs) q n = guards_operand gs q n
-  guard_operand (Compared c a b) q (inl e) = (a, inl refl, e)
-  guard_operand (Compared c a b) q (inr e) = (b, inr (inl refl), e)
-  guard_operand (Within from to) q n = absurd n
-
-  guards_operand : (gs : PlainGuards) (q : PortRef) → AnyNames gs q → (p : PlacedPort) × In (operands_in gs) p × (p.port ≡ q)
-  guards_operand no_guards q n = absurd n
-  guards_operand (a_guard g gs) q (inl n) = let r = guard_operand g q n in (r.0, in_left (operands_of g) (operands_in gs) r.0 r.1, r.2)
-  guards_operand (a_guard g gs) q (inr n) = let r = guards_operand gs q n in (r.0, in_right (operands_of g) (operands_in gs) r.0 r.1, r.2)
-
-source_in : (a : PlainAssign) (q : PortRef) → AssignNames a q → (p : PlacedPort) × In (sources_of a) p × (p.port ≡ q)
-source_in a q (inl n) = let r = guard_operand a.guard q n in (r.0, inr r.1, r.2)
-source_in a q (inr e) = (a.source, inl refl, e)
-
-module _ (d : PlainDesign) (design : IsDesign d) (accepted : IsAccepted d) (k : ℕ) (within : k < length d.components) where
-  stands_in : (o : Owned) → OwnerOf (component_at d k) o → StandsIn (component_at d k) o.owner o.assign
-  stands_in o (continuous e i) = subst (λ x. StandsIn (component_at d k) x o.assign) (sym e) i
-  stands_in o (of_group g e i) = subst (λ x. StandsIn (component_at d k) x o.assign) (sym e) (group_there (component_at d k) g o.assign i, i)
-
-  no_hole : (o : Owned) → In (source_order (component_at d k)) o → (p : PlacedPort) → In (sources_of o.assign) p → is_hole p.port ≡ false
-  no_hole o i p j = ((design.components k within).assigns o.owner o.assign (stands_in o (owner_of (component_at d k) o i))).no_hole p j
-
-  no_sink : (o : Owned) → In (source_order (component_at d k)) o → (p : PlacedPort) → In (sources_of o.assign) p → is_target_only (component_of d k) p.port ≡ true → ⊥
-  no_sink o i p j sink =
-      let n = number_in (source_order (component_at d k)) o i in
-      accepted.widths NotASource (record { component = k; part = AnAssign n.0 }) p.place (path_of (component_of d k) p.port) refl
-      (inl (record { within = within; number = n.0; is = refl; assign = o; stands = n.1; breaks = (p, j, sink, (refl, refl)) }))
-
-  fit : (q : PortRef) → is_hole q ≡ false → (is_target_only (component_of d k) q ≡ true → ⊥) → IsFit q
-  fit (ports.Cell c p) h s = tt
-  fit (ports.Input n) h s = tt
-  fit (ports.Output n) h s = s refl
-  fit (ports.Done g) h s = true_false h
-    where
-      true_false : true ≡ false → ⊥
-      true_false e = cc
-  fit (ports.Literal w v) h s = tt
-
-  fit_source : (o : Owned) → In (source_order (component_at d k)) o → (q : PortRef) → AssignNames o.assign q → IsFit q
-  fit_source o i q n =
-      let r = source_in o.assign q n in
-      subst IsFit r.2 (fit r.0.port (no_hole o i r.0 r.1) (no_sink o i r.0 r.1))
-
-  -- no cell that one arm drives and another reads
-  shared_least : (v : Visited) → In (statements_in (component_at d k)) v → (c : ℕ) → ((e : ℕ) → e < c → IsShared (part_of (component_of d k)) (arms_of v.form) e → ⊥) → IsShared (part_of (component_of d k)) (arms_of v.form) c → ⊥
-  shared_least v i c least shared =
-      let n = number_in (statements_in (component_at d k)) v i in
-      accepted.no_races Race (record { component = k; part = AStatement n.0 }) v.place _ refl
-      (record { within = within; number = n.0; is = refl; statement = v; stands = n.1; breaks = inl (c, shared, least, (refl, refl)) })
-
-  shared_below : (v : Visited) → In (statements_in (component_at d k)) v → (n e : ℕ) → e < n → IsShared (part_of (component_of d k)) (arms_of v.form) e → ⊥
-  shared_below v i zero e l shared = absurd (omega arith)
-  shared_below v i (suc n) e l shared = shared_least v i e (λ f m s. shared_below v i n f (omega arith) s) shared
-
-  unshared : (v : Visited) → In (statements_in (component_at d k)) v → (c : ℕ) → IsShared (component_at d k) (arms_of v.form) c → ⊥
-  unshared v i c shared = shared_below v i (suc c) c (omega arith) (subst (λ x. IsShared x (arms_of v.form) c) (sym (same_part d (length d.components) k)) shared)
+use Rattle.cx_laws.proofs.EdgeLemmas.{IsActive, enabled, StandApart, no_shared_circle}
+use Rattle.cx_laws.proofs.TogetherLemmas.{InPar, Together, among, together}
+use Rattle.cx_laws.proofs.SourceLemmas.{fit_source}
+use Rattle.cx_laws.proofs.RaceLemmas.{unshared, not_twice}
+use Rattle.cx_laws.proofs.VisitLemmas.{visited}
 
 -- what a statement drives and reads with its groups
 groups_drive_in : (part : PlainComponent) (gs : List ℕ) (g c : ℕ) → In gs g → group_drives part g c ≡ true → groups_drive part gs c ≡ true
@@ -138,46 +69,60 @@ entry_of (e ∷ es) g n h = go (nat_eq e.group g) refl h (entry_of es g n)
     go true same h rest = (e, inl refl, eqb-true e.group g same)
     go false differ h rest = let r = rest h in (r.0, inr r.1, r.2)
 
-module _ (d : PlainDesign) (design : IsDesign d) (accepted : IsAccepted d) (k : ℕ) (within : k < length d.components) where
+module _ (d : PlainDesign) (accepted : IsAccepted d) (k : ℕ) (within : k < length d.components) where
   -- two groups that stand in two arms
   par_apart : (g f c : ℕ) → InPar (statements_in (component_at d k)) g f → group_drives (component_at d k) f c ≡ true → Reads (component_at d k) (enabled g) c → ⊥
   par_apart g f c p h r =
       let a = p.arms in
       let two : Arms (arms_of p.statement.form) = record { one = a.two.other; other = a.two.one; differ = λ e. a.two.differ (sym e); first = a.two.second; second = a.two.first; first_stands = a.two.second_stands; second_stands = a.two.first_stands } in
-      unshared d design accepted k within p.statement p.stands c (two, groups_drive_in (component_at d k) (groups_of a.two.second) f c a.other h, group_reads (component_at d k) a.two.first g a.one r)
+      unshared d accepted k within p.statement p.stands c (two, groups_drive_in (component_at d k) (groups_of a.two.second) f c a.other h, group_reads (component_at d k) a.two.first g a.one r)
 
   module _ (v : Visited) (stands : In (statements_in (component_at d k)) v) (h : History) (t : ℕ) where
-    by_together : (g f c : ℕ) → (g ≡ f → ⊥) → Together (statements_in (component_at d k)) g f → group_drives (component_at d k) f c ≡ true → Reads (component_at d k) (enabled g) c → ⊥
-    by_together g f c differ (inl same) drives reads = differ same
-    by_together g f c differ (inr p) drives reads = par_apart g f c p drives reads
-
-    among_all : (g f : ℕ) → Together (visits v) g f → Together (statements_in (component_at d k)) g f
-    among_all g f (inl e) = inl e
-    among_all g f (inr p) = inr (record { statement = p.statement; stands = visited Dynamic (component_at d k).control v p.statement stands p.stands; arms = p.arms })
-
-    entries_together : (e f : Entry) → t < form_length (component_at d k) v.form → In (active_in h t (form_flat (component_at d k) v.form 0 [])) e → In (active_in h t (form_flat (component_at d k) v.form 0 [])) f → Together (statements_in (component_at d k)) e.group f.group
-    entries_together e f l i j =
+    entries_within : (e f : Entry) → t < form_length (component_at d k) v.form → In (active_in h t (form_flat (component_at d k) v.form 0 [])) e → In (active_in h t (form_flat (component_at d k) v.form 0 [])) f → Together (statements_in (component_at d k)) e f
+    entries_within e f l i j =
         let same : active_in h t (form_flat (component_at d k) v.form 0 []) ≡ active_at (component_at d k) h t v.form = active_is h t (component_at d k) v.form l in
-        among_all e.group f.group (together (component_at d k) h t v.context (Placed v.form v.place) t e f (subst (λ x. In x e) same i) (subst (λ x. In x f) same j))
+        among (λ w p. visited Dynamic (component_at d k).control v w stands p)
+        (together (component_at d k) h t v.context (Placed v.form v.place) t e f (subst (λ x. In x e) same i) (subst (λ x. In x f) same j))
 
-    entries_apart : (e f : Entry) → In (active_in h t (form_flat (component_at d k) v.form 0 [])) e → In (active_in h t (form_flat (component_at d k) v.form 0 [])) f → Together (statements_in (component_at d k)) e.group f.group
-    entries_apart e f i j =
+    entries_together : (e f : Entry) → In (active_in h t (form_flat (component_at d k) v.form 0 [])) e → In (active_in h t (form_flat (component_at d k) v.form 0 [])) f → Together (statements_in (component_at d k)) e f
+    entries_together e f i j =
         ⊎_elim
-        (λ l. entries_together e f l i j)
+        (λ l. entries_within e f l i j)
         (λ l. let none : In [] e = subst (λ x. In x e) (active_past h t (component_at d k) v.form l) i in absurd none)
         (cases_lt t (form_length (component_at d k) v.form))
+
+    by_together : (e f : Entry) (c : ℕ) → (e.group ≡ f.group → ⊥) → Together (statements_in (component_at d k)) e f → group_drives (component_at d k) f.group c ≡ true → Reads (component_at d k) (enabled e.group) c → ⊥
+    by_together e f c differ (inl same) drives reads = differ (ap (λ x. x.group) same)
+    by_together e f c differ (inr p) drives reads = par_apart e.group f.group c p drives reads
+
+    -- each group is in one entry
+    pub entry_once : (e f : Entry) → In (active_in h t (form_flat (component_at d k) v.form 0 [])) e → In (active_in h t (form_flat (component_at d k) v.form 0 [])) f → e.group ≡ f.group → e ≡ f
+    entry_once e f i j same =
+        ⊎_elim
+        (λ r. r)
+        (λ p. absurd (not_twice d accepted k within p.statement p.stands e.group (p.arms.two, p.arms.one_enabled, subst (In (enabled_in p.arms.two.second)) (sym same) p.arms.other_enabled)))
+        (entries_together e f i j)
 
     apart : (g f c : ℕ) → IsActive (entries (active_in h t (form_flat (component_at d k) v.form 0 []))) g → IsActive (entries (active_in h t (form_flat (component_at d k) v.form 0 []))) f → (g ≡ f → ⊥)
         → group_drives (component_at d k) f c ≡ true → Reads (component_at d k) (enabled g) c → ⊥
     apart g f c (m, a) (n, b) differ drives reads =
         let x = entry_of (active_in h t (form_flat (component_at d k) v.form 0 [])) g m a in
         let y = entry_of (active_in h t (form_flat (component_at d k) v.form 0 [])) f n b in
-        by_together g f c differ
-        (subst (λ z. Together (statements_in (component_at d k)) z f) x.2 (subst (λ z. Together (statements_in (component_at d k)) x.0.group z) y.2 (entries_apart x.0 y.0 x.1 y.1)))
-        drives reads
+        by_together x.0 y.0 c (λ e. differ (sym x.2 ∙ e ∙ y.2)) (entries_together x.0 y.0 x.1 y.1)
+        (subst (λ z. group_drives (component_at d k) z c ≡ true) (sym y.2) drives) (subst (λ z. Reads (component_at d k) (enabled z) c) (sym x.2) reads)
 
-    pub stand_apart : StandApart (component_at d k) (entries (active_in h t (form_flat (component_at d k) v.form 0 [])))
-    stand_apart = record { sources = fit_source d design accepted k within; apart = apart }
+    pub stand_apart : IsDesign d → StandApart (component_at d k) (entries (active_in h t (form_flat (component_at d k) v.form 0 [])))
+    stand_apart design = record { sources = fit_source d design accepted k within; apart = apart }
+
+-- where each group is in one entry its offset is that of its entry
+offset_once : (es : List Entry) (e : Entry) → ((f : Entry) → In es f → f.group ≡ e.group → f ≡ e) → In es e → offset_in es e.group ≡ Some e.offset
+offset_once [] e once i = absurd i
+offset_once (x ∷ xs) e once i = go (nat_eq x.group e.group) refl i (offset_once xs e (λ f j same. once f (inr j) same))
+  where
+    go : (b : Bool) → nat_eq x.group e.group ≡ b → In (x ∷ xs) e → (In xs e → offset_in xs e.group ≡ Some e.offset) → (if b then Some x.offset else offset_in xs e.group) ≡ Some e.offset
+    go true same i rest = ap (λ f. Some f.offset) (once x (inl refl) (eqb-true x.group e.group same))
+    go false differ (inl same) rest = absurd (eqb-false x.group e.group differ (ap (λ f. f.group) same))
+    go false differ (inr j) rest = rest j
 
 -- so nothing leads in a circle under them
 own_acyclic : (i : Instance) → AreAcyclic i → IsAcyclic i nothing
@@ -190,6 +135,35 @@ true_false e = cc
 bare_apart : (part : PlainComponent) (act : Active) → part ≡ no_component → StandApart part act
 bare_apart part act e = subst (λ x. StandApart x act) (sym e) (record { sources = λ o i q n. absurd i; apart = λ g k c a b differ drives reads. absurd (true_false drives) })
 
+-- an instance without a component has no active groups
+bare_entries : (part : PlainComponent) (v : Visited) (h : History) (t : ℕ) → part ≡ no_component → In (statements_in part) v → active_in h t (form_flat part v.form 0 []) ≡ []
+bare_entries part v h t e i = subst (λ x. active_in h t (form_flat x v.form 0 []) ≡ []) (sym e) (of_bare (subst (λ x. In (statements_in x) v) e i))
+  where
+    of_bare : In (statements_in no_component) v → active_in h t (form_flat no_component v.form 0 []) ≡ []
+    of_bare (inl f) = subst (λ w. active_in h t (form_flat no_component w.form 0 []) ≡ []) f refl
+    of_bare (inr none) = absurd none
+
+module _ (d : PlainDesign) (accepted : IsAccepted d) (v : Visited) (h : History) (t : ℕ) where
+  abbrev OneOffset : PlainComponent → Type 0
+  OneOffset part = (e : Entry) → In (active_in h t (form_flat part v.form 0 [])) e → offset_in (active_in h t (form_flat part v.form 0 [])) e.group ≡ Some e.offset
+
+  bare_offset : (part : PlainComponent) → part ≡ no_component → In (statements_in part) v → OneOffset part
+  bare_offset part same stands e i = let none : In [] e = subst (λ x. In x e) (bare_entries part v h t same stands) i in absurd none
+
+  component_offset : (k : ℕ) → In (statements_in (component_at d k)) v → OneOffset (component_at d k)
+  component_offset k stands =
+      ⊎_elim
+      (λ l. λ e i. offset_once (active_in h t (form_flat (component_at d k) v.form 0 [])) e (λ f j same. entry_once d accepted k l v stands h t f e j i same) i)
+      (λ l. bare_offset (component_at d k) (get_or_past d.components k no_component l) stands)
+      (cases_lt k (length d.components))
+
+  reached_offset : {i : Instance} → Reached d i → In (statements_in (part_of i)) v → OneOffset (part_of i)
+  reached_offset (a_tree m k) stands = subst OneOffset (sym (same_part d m k)) (component_offset k (subst (λ x. In (statements_in x) v) (same_part d m k) stands))
+  reached_offset no_tree stands = bare_offset no_component refl stands
+
+  pub one_offset : (path : Path) → In (statements_in (part_of (instance_at (tree_of d) path))) v → OneOffset (part_of (instance_at (tree_of d) path))
+  one_offset path stands = reached_offset (reached d path (length d.components) d.main) stands
+
 module _ (d : PlainDesign) (design : IsDesign d) (accepted : IsAccepted d) (v : Visited) (h : History) (t : ℕ) where
   abbrev shown : PlainComponent → Active
   shown part = entries (active_in h t (form_flat part v.form 0 []))
@@ -197,7 +171,7 @@ module _ (d : PlainDesign) (design : IsDesign d) (accepted : IsAccepted d) (v : 
   component_apart : (k : ℕ) → In (statements_in (component_at d k)) v → StandApart (component_at d k) (shown (component_at d k))
   component_apart k stands =
       ⊎_elim
-      (λ l. stand_apart d design accepted k l v stands h t)
+      (λ l. stand_apart d accepted k l v stands h t design)
       (λ l. bare_apart (component_at d k) (shown (component_at d k)) (get_or_past d.components k no_component l))
       (cases_lt k (length d.components))
 

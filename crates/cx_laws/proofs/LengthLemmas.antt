@@ -1,6 +1,5 @@
 -- In an accepted design no static if is empty.
-use Rattle.std.proofs.Common.{◌≡◌, ℕ, zero, suc, ◌<◌, ◌≤◌, inl, inr, ◌⊎◌, ⊎_elim, Bool, true, false, ◌&&◌, Option, None, List, [], ◌∷◌, ◌++◌, length, max, refl, sym, ap, ◌∙◌, subst, arith}
-use Rattle.std.specs.Prelude.{◌≢◌}
+use Rattle.std.proofs.Common.{◌≡◌, ℕ, ◌<◌, inl, inr, ⊎_elim, Bool, true, false, ◌&&◌, List, [], ◌++◌, length, refl, sym, ap, ◌∙◌, subst, arith}
 use Rattle.std.proofs.lemmas.Bool.{cases_lt}
 use Rattle.std.proofs.lemmas.List.{get_or_past}
 use Rattle.cx_text.specs.declared.places.Place.{Place}
@@ -8,17 +7,17 @@ use Rattle.cx_text.specs.declared.rules.Rule.TheVariants.{StaticShape}
 use Rattle.cx_meaning.specs.Designs.{PlainComponent, PlainDesign, component_at, no_component, PlainForm, Empty, Enable, Seq, Par, If, While, Repeat, StaticSeq, StaticPar, StaticIf, StaticRepeat, Timed, PlainStatement, Placed, PlainStatements, no_statements, a_statement}
 use Rattle.cx_meaning.specs.Instances.{Instance, part_of, tree_of, Path, instance_at}
 use Rattle.cx_meaning.specs.Sights.{In}
-use Rattle.cx_meaning.specs.Islands.{form_length, length_of}
+use Rattle.cx_meaning.specs.Islands.{form_length}
 use Rattle.cx_rules.specs.Ports.{component_of}
-use Rattle.cx_rules.specs.Items.{Context, InStatic, Branch, below_dynamic, Visited, visit, visit_parts, visit_all, statements_in}
+use Rattle.cx_rules.specs.Items.{Context, InStatic, Branch, Visited, visit, visit_parts, visit_all, statements_in}
 use Rattle.cx_rules.specs.StaticControl.{is_static, is_in_static, may_stand, form_has_length, has_length, all_have_length}
 use Rattle.cx_rules.specs.ShapeRules.{enabled_name}
 use Rattle.cx_rules.specs.Spots.{AStatement}
 use Rattle.cx_rules.specs.Accepted.{IsAccepted}
 use Rattle.cx_rules.proofs.Finite.{in_left, in_right}
 use Rattle.cx_rules.proofs.CircleLemmas.{same_part, Reached, a_tree, no_tree, reached}
-use Rattle.cx_laws.specs.Positions.{FormIfs, StatementIfs, AllIfs, HasNoEmptyIf}
-use Rattle.cx_laws.proofs.VisitLemmas.{visits, visited, number_in}
+use Rattle.cx_laws.specs.Positions.{StatementIfs, AllIfs, HasNoEmptyIf}
+use Rattle.cx_laws.proofs.VisitLemmas.{visited, number_in}
 
 -- it may stand where it stands, and where it is static and has a length this is not 0
 record StandsWell (part : PlainComponent) (v : Visited) : Type 0 where

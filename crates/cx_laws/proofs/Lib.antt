@@ -5,5 +5,7 @@ mod IslandLemmas
 mod EdgeLemmas
 mod TogetherLemmas
 mod VisitLemmas
+mod SourceLemmas
+mod RaceLemmas
 mod ApartLemmas
 mod LengthLemmas

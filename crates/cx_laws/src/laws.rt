@@ -1,9 +1,9 @@
 //! Laws: each function does nothing, and its clause is the law.
 
-ghost use Rattle.std.specs.Prelude.{◌≡◌, ◌<◌, ℕ, List, [], true};
+ghost use Rattle.std.specs.Prelude.{◌≡◌, ◌<◌, ℕ, List, [], Some, true};
 ghost use Rattle.cx_meaning.specs.Designs.{PlainDesign, PlainComponent, PlainForm, PlainStatement};
 ghost use Rattle.cx_meaning.specs.Instances.{Set, Path, part_of, tree_of, instance_at, start, IsSettled};
-ghost use Rattle.cx_meaning.specs.Active.{entries};
+ghost use Rattle.cx_meaning.specs.Active.{Entry, entries};
 ghost use Rattle.cx_meaning.specs.Sights.{In};
 ghost use Rattle.cx_meaning.specs.Islands.{History, form_flat, form_length, active_in, looked_at};
 ghost use Rattle.cx_rules.specs.Items.{Visited, statements_in};
@@ -50,6 +50,14 @@ pub fn accepted_has_no_empty_if()
     ensures { (d : PlainDesign) (path : Path) (v : Visited)
         → IsAccepted d → In (statements_in (part_of (instance_at (tree_of d) path))) v
         → HasNoEmptyIf (part_of (instance_at (tree_of d) path)) v.form }
+{}
+
+/// In an accepted design each group that a static statement has active in a cycle is active at one offset.
+pub fn accepted_groups_have_one_offset()
+    ensures { (d : PlainDesign) (path : Path) (v : Visited) (h : History) (t : ℕ) (e : Entry)
+        → IsAccepted d → In (statements_in (part_of (instance_at (tree_of d) path))) v
+        → In (active_in h t (form_flat (part_of (instance_at (tree_of d) path)) v.form 0 [])) e
+        → (entries (active_in h t (form_flat (part_of (instance_at (tree_of d) path)) v.form 0 []))).offset e.group ≡ Some e.offset }
 {}
 
 /// In an accepted design nothing leads in a circle under the groups that a static statement has active together in a cycle,
