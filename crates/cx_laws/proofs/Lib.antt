@@ -9,3 +9,4 @@ mod SourceLemmas
 mod RaceLemmas
 mod ApartLemmas
 mod LengthLemmas
+mod ExampleLemmas
