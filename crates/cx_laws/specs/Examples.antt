@@ -36,7 +36,7 @@ main_of cells groups always control = record {
 -- par { g; h; }
 abbrev pub racing : PlainDesign
 racing = main_of
-    (record { name = codes "mem"; kind = OfPrimitive (record { name = StdMemD1; numbers = 32 ∷ 1 ∷ 1 ∷ [] }); external = true; place = at 3 1 }
+    (record { name = codes "mem"; kind = OfPrimitive (record { name = StdMemD1; numbers = 32 ∷ 1 ∷ 1 ∷ [] }); external = true; place = at 3 11 }
     ∷ cell (codes "x") Reg (32 ∷ []) 39 ∷ cell (codes "y") Reg (32 ∷ []) 56 ∷ cell (codes "w") Wire (32 ∷ []) 73 ∷ [])
     (group (codes "g") (assign (Cell 1 0) (Literal 32 1) 25 32 ∷ assign (Cell 1 1) (Literal 1 1) 39 52 ∷ assign (Done 0) (Cell 1 3) 58 68 ∷ []) 15
     ∷ group (codes "h") (assign (Cell 2 0) (Cell 3 1) 88 95 ∷ assign (Cell 2 1) (Literal 1 1) 102 115 ∷ assign (Done 1) (Cell 2 3) 121 131 ∷ []) 78
