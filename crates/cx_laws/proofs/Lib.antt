@@ -10,3 +10,5 @@ mod RaceLemmas
 mod ApartLemmas
 mod LengthLemmas
 mod ExampleLemmas
+mod SampleLemmas
+mod SampledLemmas
