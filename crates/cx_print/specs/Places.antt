@@ -1,5 +1,5 @@
 -- A tree apart from its places: each place is replaced by the one at which a text begins.
-use Rattle.std.specs.Prelude.{List, Option, option_map, map}
+use Rattle.std.specs.Prelude.{option_map, map}
 use Rattle.cx_text.specs.declared.places.Place.{Place}
 use Rattle.cx_ast.specs.declared.operands.OperandItem.{OperandItem}
 use Rattle.cx_ast.specs.declared.statements.BindItem.{BindItem}
