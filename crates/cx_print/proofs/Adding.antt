@@ -11,6 +11,10 @@ use Rattle.cx_layout.specs.declared.pieces.Gap.{Gap}
 use Rattle.cx_layout.specs.Layout.{IsWritable, AreWritable}
 use Rattle.cx_layout.specs.Pieces.{Pieces, put, kinds_in}
 
+-- any value
+abbrev pub Any : {A : Type 0} → A → Type 0
+Any x = Unit {0}
+
 -- the tokens begin with a text of the grammar, for a value of which P holds, and others follow
 pub record Begun {A : Type 0} (n : ℕ) (g : Grammar A) (P : A → Type 0) (ts : List Token) (after : List TokenKind) : Type 0 where
   pub value : A

@@ -19,7 +19,8 @@ use Rattle.cx_layout.specs.declared.pieces.Gap.{Gap}
 use Rattle.cx_layout.specs.declared.pieces.Gap.TheVariants.{Tight, Space, Line}
 use Rattle.cx_layout.specs.Layout.{IsWritableWord}
 use Rattle.cx_layout.specs.Pieces.{Pieces, put_word, put_number, add_marks, behind_marks, add_comb, add_length, add_invoke, behind_attributes, add_control, add_else, add_statement, add_statements, add_block}
-use Rattle.cx_print.specs.Places.{start, bare_bind, bare_form, bare_else, bare_statement, bare_statements, bare_block}
+use Rattle.cx_text.specs.Places.{start}
+use Rattle.cx_print.specs.Places.{bare_bind, bare_form, bare_else, bare_statement, bare_statements, bare_block}
 use Rattle.cx_print.specs.Printable.{IsName, IsNumber, IfThere, IsAttribute, IsMark, IsOperand, IsBind, IsControl, IsElse, IsStatement, AreStatements, IsBlock}
 use Rattle.cx_print.proofs.Adding.{Adds, AddsMany, adds_nothing, adds_pair, adds_left, adds_right, adds_deeper, many_none, many_more, adds_several}
 use Rattle.cx_print.proofs.HeaderSpelling.{name_added, number_added, sign_added, keyword_added, before_added, mapped_added, marks_added, optional_length_added, operand_added, binds_added, attributes_added}

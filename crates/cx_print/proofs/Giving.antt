@@ -10,6 +10,7 @@ use Rattle.cx_grammar.specs.Calyx.{nest, spelled_within}
 use Rattle.cx_grammar.specs.Calyx as calyx
 use Rattle.cx_layout.specs.Layout.{IsWritable, AreWritable}
 use Rattle.cx_print.specs.Printable.{IfThere}
+use Rattle.cx_print.proofs.Adding.{Any}
 
 -- P holds of each value that the grammar spells in tokens that can be written, and those behind it can be written too
 pub record Gives {A : Type 0} (n : ℕ) (g : Grammar A) (P : A → Type 0) : Type 0 where
@@ -78,9 +79,6 @@ module _ {A : Type 0} {n : ℕ} {g : Grammar A} {P : A → Type 0} (a : Gives n 
   gives_commas = gives_choice (record { gives = λ ts rest x w s. let all = tail_given s.1 s.0 ts rest w s.2 in (subst (AllByRecursion P) s.3 all.0, all.1) }) (gives_nothing [] (AllByRecursion P) tt)
 
 -- signs and reserved words tell nothing
-abbrev pub Any : {A : Type 0} → A → Type 0
-Any x = Unit {0}
-
 pub sign_given : {n : ℕ} (terminal : Terminal) → Gives n (calyx.sign terminal) Any
 sign_given terminal = gives_one (terminal ∷ []) (λ token. token.place) Any (λ token w e. tt)
 

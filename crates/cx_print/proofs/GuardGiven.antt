@@ -1,5 +1,5 @@
 -- What the grammar gives for guards and assignments is printable.
-use Rattle.std.proofs.Common.{◌≡◌, ℕ, zero, suc, Bool, true, false, List, [], ◌∷◌, Some, None, refl, ap, ◌∙◌, subst, inl, inr, ⊎_elim, ◌⊎◌}
+use Rattle.std.proofs.Common.{◌≡◌, ℕ, zero, suc, Bool, true, false, List, [], ◌∷◌, refl, ap, ◌∙◌, subst, inl, inr, ⊎_elim, ◌⊎◌}
 use Rattle.std.specs.List.{AllByRecursion}
 use Rattle.cx_tokens.specs.declared.tokens.Token.{Token}
 use Rattle.cx_ast.specs.declared.components.Attribute.{Attribute}
@@ -16,7 +16,9 @@ use Rattle.cx_layout.specs.declared.guards.Binding.{Binding}
 use Rattle.cx_layout.specs.declared.guards.Binding.TheVariants.{OrPart, AndPart, NotPart}
 use Rattle.cx_layout.specs.Pieces.{needs_parens}
 use Rattle.cx_print.specs.Printable.{IsOperand, IfThere, IsAttribute, OneDeeper, IsWrapped, IsInside, AreParts, IsAssign}
-use Rattle.cx_print.proofs.Giving.{Any, Gives, gives_nothing, gives_choice, gives_so, gives_pair, gives_many, gives_deeper, gives_none, gives_behind, gives_before, gives_mapped, gives_within, sign_given}
+use Rattle.cx_print.proofs.Adding.{Any}
+use Rattle.cx_print.proofs.GuardSpelling.{valued, unguarded}
+use Rattle.cx_print.proofs.Giving.{Gives, gives_nothing, gives_choice, gives_so, gives_pair, gives_many, gives_deeper, gives_none, gives_behind, gives_before, gives_mapped, gives_within, sign_given}
 use Rattle.cx_print.proofs.HeaderGiven.{number_given, attributes_given, target_given, operand_given}
 
 -- a part of this binding that fits in n levels
@@ -154,12 +156,6 @@ guard_given : (n : ℕ) → Gives n calyx.guard (λ g. IsInside g n)
 guard_given n = guard_given_of (prefixed_given n)
 
 -- the value of an assignment is an operand, or a guard and what follows it
-abbrev valued : PlainGuard → OperandItem → calyx.Value
-valued g o = (Some g, o)
-
-abbrev unguarded : OperandItem → calyx.Value
-unguarded o = (None, o)
-
 record Guarded (spelled : (n : Nest) → Spelling (Nested n)) (ts : List Token) (v : calyx.Value) (rest : List Token) : Type 0 where
   pub mid : List Token
   pub guard : PlainGuard

@@ -234,7 +234,7 @@ guard_added {n = n} gap (guards.At m) h = guard_added_of (guards.At m) (natural_
 guard_added {n = n} gap (guards.During from to) h = guard_added_of (guards.During from to) (natural_of (guards.During from to)) n gap h
 
 -- a guard and what follows it, as the value of an assignment is read
-abbrev valued : PlainGuard → OperandItem → calyx.Value
+abbrev pub valued : PlainGuard → OperandItem → calyx.Value
 valued g o = (Some g, o)
 
 value_same : (a : PlainGuard) (more : List PlainGuard) (c : PlainGuard) (cs : List PlainGuard) (g : PlainGuard) (o : OperandItem) → calyx.and_of (a ∷ more) ≡ c → calyx.or_of (c ∷ cs) ≡ g → calyx.guarded_of more (cs, o) a ≡ valued g o
@@ -262,7 +262,7 @@ value_spelled spelled ts mid rest g o s q =
 abbrev LikeValue : Option PlainGuard → OperandItem → calyx.Value → Type 0
 LikeValue g o v = (option_map bare_guard v.0 ≡ option_map bare_guard g) × (v.1.form ≡ o.form)
 
-abbrev unguarded : OperandItem → calyx.Value
+abbrev pub unguarded : OperandItem → calyx.Value
 unguarded o = (None, o)
 
 module _ {n : ℕ} where

@@ -26,11 +26,7 @@ use Rattle.cx_layout.specs.Layout.{AreWritable, IsWritableWord}
 use Rattle.cx_layout.specs.Pieces.{Pieces, put, put_sign, put_word, put_number, kinds_in, more_of, with_commas, add_attribute_number, add_attribute, add_attributes, add_mark, add_marks, add_length, add_form, add_operand, add_bind, add_binds}
 use Rattle.cx_print.specs.Places.{bare_bind}
 use Rattle.cx_print.specs.Printable.{IsName, IsText, IsNumber, IfThere, IsAttribute, IsMark, IsForm, IsNoLiteral, IsOperand, IsBind}
-use Rattle.cx_print.proofs.Adding.{Adds, AddsMany, adds_nothing, adds_one, adds_pair, adds_left, adds_right, many_none, many_more, adds_several, adds_both}
-
--- any value
-abbrev pub Any : {A : Type 0} → A → Type 0
-Any x = Unit {0}
+use Rattle.cx_print.proofs.Adding.{Any, Adds, AddsMany, adds_nothing, adds_one, adds_pair, adds_left, adds_right, many_none, many_more, adds_several, adds_both}
 
 -- every word is of a terminal that stands for words
 pub record AmongWords (terminal : Terminal) : Type 0 where
