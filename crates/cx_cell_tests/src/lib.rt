@@ -16,6 +16,8 @@ mod names;
 #[cfg(test)]
 mod pipes;
 #[cfg(test)]
+mod ports;
+#[cfg(test)]
 mod turns;
 #[cfg(test)]
 mod words;

@@ -1,6 +1,7 @@
 //! Memories of one to four dimensions.
 
-use crate::turns::plays_all;
+use crate::turns::{found, plays_all};
+use cx_prim::Cycle;
 use cx_text::Memory;
 
 // Worked by hand from the rows. An address out of range in each dimension: a step is refused at the first such port and
@@ -99,15 +100,6 @@ const LARGE: &str = "
     comb_mem_d1 128 4194304 22
     1 step 4194303 0xffffffffffffffffffffffffffffffff 1 0xffffffffffffffffffffffffffffffff 1
     1 look 4194302 . . 0 1
-
-    comb_mem_d2 128 2 3 1 2
-    1 step 1 0 5 1 5 1
-
-    comb_mem_d3 128 2 3 1 1 2 1
-    1 step 1 2 0 5 1 5 1
-
-    comb_mem_d4 128 2 3 1 1 1 2 1 1
-    1 step 1 2 0 0 5 1 5 1
 ";
 
 #[test]
@@ -123,4 +115,12 @@ fn sequential(rt: HostRuntime) -> Result<(), Memory> {
 #[test]
 fn large(rt: HostRuntime) -> Result<(), Memory> {
     plays_all(&rt, rt.alloc(), LARGE)
+}
+
+// Where the second allocation fails, as with `rt try --test --fail-alloc 2`, this one still passes.
+#[test]
+fn large_in_one_allocation(rt: HostRuntime) -> Result<(), Memory> {
+    let cell = found(&rt, "comb_mem_d1", &[128, 4194304, 22]);
+    let _state = cell.start(rt.alloc())?;
+    Ok(())
 }

@@ -52,7 +52,7 @@ pub fn plays_from(
 }
 
 /// The primitive of a name and numbers.
-fn told(rt: &impl Abort, alloc: Global, line: &str) -> Result<Primitive, Memory> {
+pub fn told(rt: &impl Abort, alloc: Global, line: &str) -> Result<Primitive, Memory> {
     let mut words = line.split_whitespace();
     let name = words.next().expect(rt, "a name");
     let mut numbers = Vec::new(alloc);

@@ -33,8 +33,8 @@ fn holds(rt: &impl Abort, cell: &Primitive, state: &PrimState, words: &[u64])
     requires state_fits { IsState (row_of cell.now).shape state.now }
     requires taken { TakesWords (row_of cell.now).shape words.now }
 {
-    for (n, word) in words.iter().enumerate() {
-        assert_eq!(rt; cell.word(state, n as u64), *word, "word {n}");
+    for n in 0..words.len() {
+        assert_eq!(rt; cell.word(state, n as u64), words[n], "word {n}");
     }
 }
 

@@ -1,4 +1,4 @@
-//! Designs: their types, what they stand for, their limits, and designs that are accepted.
+//! Designs: their types, what they stand for, and designs that are accepted.
 #![tactic(auto)]
 
 mod accepted;

@@ -1,12 +1,12 @@
 -- The active groups of a cycle of an island, and the ports that are looked at in it, by nested timers.
-use Rattle.std.proofs.Common.{◌≡◌, ℕ, zero, suc, ◌+◌, ◌-◌, ◌<◌, ◌≤◌, ◌⊎◌, inl, inr, Bool, true, false, ◌&&◌, nat_lt, nat_le, nat_eq, List, [], ◌∷◌, ◌++◌, refl, sym, ap, ◌∙◌, arith}
+use Rattle.std.proofs.Common.{◌≡◌, ℕ, zero, suc, ◌+◌, ◌-◌, ◌<◌, ◌≤◌, inl, inr, Bool, true, false, ◌&&◌, nat_lt, nat_le, nat_eq, List, [], ◌∷◌, ◌++◌, refl, ap, ◌∙◌, arith}
 use Rattle.std.proofs.lemmas.Bool.{lt-ltb, le-ltb, lt-leb, le-leb, eq-eqb, ne_eqb}
 use Rattle.cx_meaning.specs.declared.ports.PortRef.{PortRef}
 use Rattle.cx_meaning.specs.Designs.{PlainComponent, PlainForm, Empty, Enable, Seq, Par, If, While, Repeat, StaticSeq, StaticPar, StaticIf, StaticRepeat, Timed, PlainStatement, Placed, PlainStatements, no_statements, a_statement}
 use Rattle.cx_meaning.specs.Active.{Entry}
 use Rattle.cx_meaning.specs.Islands.{form_length, Sample, Occurrence, Runs, Looks, form_flat, History, hold, entry_if, active_in, port_if, looked_at}
 use Rattle.cx_laws.specs.Positions.{FormIfs, StatementIfs, AllIfs, entry_at, no_entry, active_at, no_port, port_at, begun_at, HasNoEmptyIf}
-use Rattle.cx_laws.proofs.PositionLemmas.{Out, Observes, on_island}
+use Rattle.cx_laws.proofs.PositionLemmas.{Out, Observes, on_island, past_island}
 
 and_false : (a b : Bool) → b ≡ false → (a && b) ≡ false
 and_false true b e = e
@@ -82,6 +82,9 @@ module _ (h : History) (t : ℕ) where
 
   pub active_is : (part : PlainComponent) (form : PlainForm) → t < form_length part form → active_in h t (form_flat part form 0 []) ≡ active_at part h t form
   active_is part form l = on_island part h t Any entry_at no_entry (active_in h t) active_observed form (any_form part form) l
+
+  pub active_past : (part : PlainComponent) (form : PlainForm) → form_length part form ≤ t → active_in h t (form_flat part form 0 []) ≡ []
+  active_past part form l = past_island part h t Any entry_at no_entry (active_in h t) active_observed form (any_form part form) l
 
   -- the ports that are looked at
   joined_ports : (b : Bool) (port : PortRef) (xs ys : List PortRef) → port_if b port (xs ++ ys) ≡ port_if b port xs ++ ys

@@ -1,8 +1,7 @@
 -- Nested timers give what the flat list of an island gives.
-use Rattle.std.proofs.Common.{◌≡◌, ℕ, zero, suc, ◌+◌, ◌-◌, ◌*◌, ◌%◌, ◌<◌, ◌≤◌, max, ◌⊎◌, ⊎_elim, inl, inr, Bool, true, false, ◌&&◌, nat_lt, Option, Some, None, List, [], ◌∷◌, ◌++◌, if◌then◌else◌, refl, sym, ap, ◌∙◌, subst, arith}
+use Rattle.std.proofs.Common.{◌≡◌, ℕ, zero, suc, ◌+◌, ◌-◌, ◌*◌, ◌%◌, ◌<◌, ◌≤◌, max, ◌⊎◌, ⊎_elim, inl, inr, Bool, true, false, ◌&&◌, nat_lt, Option, Some, None, List, [], ◌∷◌, ◌++◌, if◌then◌else◌, refl, sym, ap, ◌∙◌, arith}
 use Rattle.std.proofs.lemmas.List.{append-nil}
 use Rattle.std.proofs.lemmas.Bool.{cases_lt, lt-ltb, le-ltb}
-use Rattle.std.proofs.lemmas.Nat.{mod_below}
 use Rattle.std.proofs.Math.Nat.{mod-eq_of_lt, add-mod_left}
 use Rattle.cx_meaning.specs.declared.ports.PortRef.{PortRef}
 use Rattle.cx_meaning.specs.Designs.{PlainComponent, PlainForm, Empty, Enable, Seq, Par, If, While, Repeat, StaticSeq, StaticPar, StaticIf, StaticRepeat, Timed, PlainStatement, Placed, PlainStatements, no_statements, a_statement}
@@ -258,3 +257,6 @@ module _ {A : Type 0} (part : PlainComponent) (h : History) (t : ℕ) (P : ℕ �
   -- AN ISLAND
   pub on_island : (form : PlainForm) → FormIfs P part form → t < form_length part form → observed (form_flat part form 0 []) ≡ form_at part h t of_group of_port form t
   on_island form fine l = on_form form fine 0 t [] (omega arith) l refl
+
+  pub past_island : (form : PlainForm) → FormIfs P part form → form_length part form ≤ t → observed (form_flat part form 0 []) ≡ []
+  past_island form fine l = out_form form fine 0 [] (inr (omega arith))

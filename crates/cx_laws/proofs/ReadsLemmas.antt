@@ -1,5 +1,5 @@
 -- What a statement reads is the least closed set.
-use Rattle.std.proofs.Common.{◌≡◌, ℕ, true}
+use Rattle.std.proofs.Common.{ℕ}
 use Rattle.cx_meaning.specs.Designs.{PlainComponent, PlainStatement}
 use Rattle.cx_rules.specs.Footprints as footprints
 use Rattle.cx_rules.specs.Footprints.{Reads}

@@ -1,6 +1,6 @@
 -- Every start is settled, with loaded words too.
 use Rattle.std.proofs.Common.{◌≡◌, ℕ, zero, suc, Bool, true, false, List, [], ◌∷◌, if◌then◌else◌, refl}
-use Rattle.std.specs.Prelude.{◌*◌, ◌^◌, ◌==◌, ◌&&◌, Option, Some, None, nat_lt, nat_le, length, take, drop, unwrap_or}
+use Rattle.std.specs.Prelude.{◌*◌, ◌^◌, ◌==◌, ◌&&◌, Some, None, nat_lt, nat_le, length, take, drop, unwrap_or}
 use Rattle.std.specs.List.{list_all}
 use Rattle.cx_prim.specs.declared.names.PrimitiveName.{PrimitiveName}
 use Rattle.cx_prim.specs.declared.names.PrimitiveName.TheVariants.{Const, Wire, Add, Sub, And, Or, Xor, Not, Lsh, Rsh, Lt, Gt, Equal, Neq, Le, Ge, Slt, Sgt, Seq, Sneq, Sle, Sge, Slice, Pad, Mux, Reg, StdMemD1, StdMemD2, StdMemD3, StdMemD4, CombMemD1, CombMemD2, CombMemD3, CombMemD4, SeqMemD1, SeqMemD2, SeqMemD3, SeqMemD4, MultPipe, DivPipe, Timer}
@@ -14,7 +14,7 @@ use Rattle.cx_prim.specs.PipeRows.{timer_row}
 use Rattle.cx_prim.specs.Table.{PrimitiveRow, at_width, constant_at, slice_at, pad_at, memory_at, timer_at, row_at, no_row, row_of}
 use Rattle.cx_meaning.specs.Rows.{KeepsIdle}
 use Rattle.cx_meaning.specs.Designs.{PlainKind, OfPrimitive, OfComponent, PlainCell, PlainDesign, component_at}
-use Rattle.cx_meaning.specs.Instances.{Instance, Node, Cells, no_cells, a_primitive, an_instance, part_of, add_cell, cells_for, tree_within, tree_of, Path, just, idle_at, idle_below, IsSettled, start_at, start_below, externals_of, loaded_at, start}
+use Rattle.cx_meaning.specs.Instances.{Instance, Node, Cells, no_cells, a_primitive, an_instance, add_cell, cells_for, tree_within, tree_of, just, idle_at, idle_below, IsSettled, start_at, start_below, externals_of, loaded_at, start}
 use Rattle.cx_meaning.specs.Laws.{AllRows, AllRowsBelow}
 use Rattle.cx_meaning.proofs.TableStarts.{kept_within}
 use Rattle.cx_meaning.proofs.RunningLemmas.{start_idle}

@@ -1,18 +1,19 @@
 -- What a part of the printer adds is read by its grammar: one lemma for each of the seven parts of grammars.
-use Rattle.std.proofs.Common.{◌≡◌, ℕ, zero, suc, Bool, true, false, List, [], ◌∷◌, ◌++◌, refl, sym, ap, ◌∙◌, subst, inl, inr, map, append_assoc, append-nil}
-use Rattle.std.specs.List.{AllByRecursion}
+use Rattle.std.proofs.Common.{◌≡◌, ℕ, suc, true, List, [], ◌∷◌, ◌++◌, refl, sym, ap, ◌∙◌, subst, inl, inr, append_assoc, append-nil}
 use Rattle.cx_tokens.specs.declared.tokens.Token.{Token}
 use Rattle.cx_tokens.specs.declared.tokens.TokenKind.{TokenKind}
-use Rattle.cx_tokens.specs.declared.tokens.TokenKind.TheVariants as kinds
 use Rattle.cx_tokens.specs.PlainTokens.{kinds_of}
 use Rattle.cx_grammar.specs.declared.terminals.Terminal.{Terminal}
 use Rattle.cx_grammar.specs.Terminals.{terminal_of, is_in}
-use Rattle.cx_grammar.specs.Grammar.{Nest, Nested, Grammar, Empty, One, Pair, Choice, Several, Commas, Deeper, Spells, Several_of, Commas_of, IsComma}
+use Rattle.cx_grammar.specs.Grammar.{Nest, Nested, Grammar, Empty, One, Pair, Choice, Several, Deeper, Spells, Several_of}
 use Rattle.cx_grammar.specs.Calyx.{nest, spelled_within}
 use Rattle.cx_layout.specs.declared.pieces.Gap.{Gap}
-use Rattle.cx_layout.specs.declared.pieces.Gap.TheVariants.{Tight, Space, Line}
 use Rattle.cx_layout.specs.Layout.{IsWritable, AreWritable}
 use Rattle.cx_layout.specs.Pieces.{Pieces, put, kinds_in}
+
+-- any value
+abbrev pub Any : {A : Type 0} → A → Type 0
+Any x = Unit {0}
 
 -- the tokens begin with a text of the grammar, for a value of which P holds, and others follow
 pub record Begun {A : Type 0} (n : ℕ) (g : Grammar A) (P : A → Type 0) (ts : List Token) (after : List TokenKind) : Type 0 where

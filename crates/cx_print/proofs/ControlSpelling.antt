@@ -1,5 +1,5 @@
 -- Control: what each statement and block adds is read by its production as an equal part apart from places.
-use Rattle.std.proofs.Common.{◌≡◌, ℕ, zero, suc, Bool, true, false, List, [], ◌∷◌, ◌++◌, Option, Some, None, option_map, codes, refl, sym, ap, ◌∙◌, map, arith}
+use Rattle.std.proofs.Common.{◌≡◌, ℕ, zero, suc, true, List, [], ◌∷◌, Option, Some, None, codes, refl, ap, map, arith}
 use Rattle.std.specs.List.{AllByRecursion}
 use Rattle.cx_text.specs.declared.places.Place.{Place}
 use Rattle.cx_tokens.specs.declared.signs.Sign.TheVariants as signs
@@ -18,11 +18,12 @@ use Rattle.cx_grammar.specs.Calyx as calyx
 use Rattle.cx_layout.specs.declared.pieces.Gap.{Gap}
 use Rattle.cx_layout.specs.declared.pieces.Gap.TheVariants.{Tight, Space, Line}
 use Rattle.cx_layout.specs.Layout.{IsWritableWord}
-use Rattle.cx_layout.specs.Pieces.{Pieces, put_sign, put_word, put_number, add_marks, behind_marks, add_marked, add_comb, add_length, add_static, add_operand, add_binds, add_invoke, add_attributes, behind_attributes, add_control, add_else, add_statement, add_statements, add_block}
-use Rattle.cx_print.specs.Places.{start, bare_operand, bare_bind, bare_form, bare_else, bare_statement, bare_statements, bare_block}
+use Rattle.cx_layout.specs.Pieces.{Pieces, put_word, put_number, add_marks, behind_marks, add_comb, add_length, add_invoke, behind_attributes, add_control, add_else, add_statement, add_statements, add_block}
+use Rattle.cx_text.specs.Places.{start}
+use Rattle.cx_print.specs.Places.{bare_bind, bare_form, bare_else, bare_statement, bare_statements, bare_block}
 use Rattle.cx_print.specs.Printable.{IsName, IsNumber, IfThere, IsAttribute, IsMark, IsOperand, IsBind, IsControl, IsElse, IsStatement, AreStatements, IsBlock}
 use Rattle.cx_print.proofs.Adding.{Adds, AddsMany, adds_nothing, adds_pair, adds_left, adds_right, adds_deeper, many_none, many_more, adds_several}
-use Rattle.cx_print.proofs.HeaderSpelling.{Any, name_added, number_added, sign_added, keyword_added, behind_added, before_added, mapped_added, adds_so, marks_added, optional_length_added, operand_added, binds_added, attributes_added}
+use Rattle.cx_print.proofs.HeaderSpelling.{name_added, number_added, sign_added, keyword_added, before_added, mapped_added, marks_added, optional_length_added, operand_added, binds_added, attributes_added}
 
 -- equal apart from places
 abbrev pub LikeBlock : PlainBlock → PlainBlock → Type 0

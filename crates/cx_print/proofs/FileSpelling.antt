@@ -1,12 +1,8 @@
 -- Ports, cells, groups, components and whole files: what each adds is read by its production as an equal part apart from places.
-use Rattle.std.proofs.Common.{◌≡◌, ℕ, Bool, true, false, List, [], ◌∷◌, ◌++◌, Option, Some, None, option_map, codes, refl, sym, ap, ◌∙◌, map, append-nil, arith}
+use Rattle.std.proofs.Common.{◌≡◌, ℕ, List, [], ◌∷◌, Option, Some, None, option_map, codes, refl, ap, map, arith}
 use Rattle.std.specs.List.{AllByRecursion}
-use Rattle.cx_text.specs.declared.places.Place.{Place}
 use Rattle.cx_tokens.specs.declared.signs.Sign.TheVariants as signs
-use Rattle.cx_tokens.specs.declared.tokens.Token.{Token}
-use Rattle.cx_tokens.specs.PlainTokens.{kinds_of}
 use Rattle.cx_ast.specs.declared.components.Attribute.{Attribute}
-use Rattle.cx_ast.specs.declared.components.Mark.{Mark}
 use Rattle.cx_ast.specs.declared.trees.ImportItem.{ImportItem}
 use Rattle.cx_ast.specs.declared.wiring.GroupWord.{GroupWord}
 use Rattle.cx_ast.specs.declared.wiring.GroupWord.TheVariants as group_words
@@ -14,19 +10,17 @@ use Rattle.cx_ast.specs.PlainStatements.{PlainBlock}
 use Rattle.cx_ast.specs.PlainTree.{PlainPort, PlainCell, PlainAssign, PlainGroup, PlainWire, PlainComponent, PlainTree}
 use Rattle.cx_ast.specs.PlainTree as wires
 use Rattle.cx_grammar.specs.declared.terminals.Terminal.TheVariants as t
-use Rattle.cx_grammar.specs.Grammar.{Grammar, Empty, Pair, Choice, Several, Commas}
+use Rattle.cx_grammar.specs.Grammar.{Grammar, Empty, Pair}
 use Rattle.cx_grammar.specs.Calyx as calyx
-use Rattle.cx_grammar.specs.Parsing.{Parse}
 use Rattle.cx_layout.specs.declared.pieces.Gap.{Gap}
 use Rattle.cx_layout.specs.declared.pieces.Gap.TheVariants.{Tight, Space, Line}
-use Rattle.cx_layout.specs.Layout.{AreWritable}
-use Rattle.cx_layout.specs.Pieces.{Pieces, put_sign, put_word, put_number, kinds_in, more_of, with_commas, add_lines, add_from, behind_attributes, behind_marks, behind_imports, add_attributes, add_marks, add_length, add_group_word, add_group, add_assign, add_wire, add_port, add_ports, add_outputs, add_numbers, add_cell, add_component_word, add_control_part, add_section, add_signature, add_component, add_import, pieces_of, tokens_of}
-use Rattle.cx_print.specs.Places.{start, bare_import, bare_port, bare_cell, bare_assign, bare_group, bare_wire, bare_block, bare_component, without_places}
-use Rattle.cx_print.specs.Printable.{IsName, IsText, IsNumber, IfThere, IsAttribute, IsMark, IsBlock, IsAssign, IsGroupWord, IsGroup, IsWire, IsPort, IsCell, IsComponent, IsPrintable}
+use Rattle.cx_layout.specs.Pieces.{Pieces, put_sign, put_word, put_number, more_of, with_commas, add_lines, add_from, behind_attributes, behind_marks, behind_imports, add_marks, add_group_word, add_assign, add_wire, add_port, add_ports, add_outputs, add_cell, add_component_word, add_control_part, add_section, add_component, add_import}
+use Rattle.cx_print.specs.Places.{bare_import, bare_port, bare_cell, bare_assign, bare_group, bare_wire, bare_block, bare_component, without_places}
+use Rattle.cx_print.specs.Printable.{IsText, IsNumber, IfThere, IsBlock, IsGroupWord, IsGroup, IsWire, IsPort, IsCell, IsComponent, IsPrintable}
 use Rattle.cx_print.proofs.Adding.{Adds, AddsMany, adds_nothing, adds_pair, adds_left, adds_right, many_none, many_more, adds_several}
-use Rattle.cx_print.proofs.HeaderSpelling.{Any, name_added, number_added, text_added, sign_added, keyword_added, behind_added, before_added, within_added, mapped_added, adds_so, attributes_added, marks_added, length_added, commas_added}
-use Rattle.cx_print.proofs.GuardSpelling.{LikeAssign, add_bare_assign, bare_assign_added, assigns_added}
-use Rattle.cx_print.proofs.ControlSpelling.{LikeBlock, word_behind_added, block_added}
+use Rattle.cx_print.proofs.HeaderSpelling.{name_added, number_added, text_added, keyword_added, behind_added, before_added, within_added, mapped_added, attributes_added, marks_added, length_added, commas_added}
+use Rattle.cx_print.proofs.GuardSpelling.{bare_assign_added, assigns_added}
+use Rattle.cx_print.proofs.ControlSpelling.{word_behind_added, block_added}
 
 -- ports
 port_added : (gap : Gap) (p : PlainPort) → IsPort p → Adds 64 calyx.port (λ q. bare_port q ≡ bare_port p) (add_port gap p)

@@ -1,10 +1,8 @@
 -- Guards and assignments: what each adds is read by its production as an equal part apart from places.
-use Rattle.std.proofs.Common.{◌≡◌, ℕ, zero, suc, Bool, true, false, List, [], ◌∷◌, ◌++◌, Option, Some, None, option_map, refl, sym, ap, ◌∙◌, map, inl, inr, ⊎_elim, append_assoc}
+use Rattle.std.proofs.Common.{◌≡◌, ℕ, zero, suc, true, false, List, [], ◌∷◌, ◌++◌, Option, Some, None, option_map, refl, ap, ◌∙◌, map, inl, inr, ⊎_elim, append_assoc}
 use Rattle.std.specs.List.{AllByRecursion}
-use Rattle.cx_tokens.specs.declared.signs.Sign.{Sign}
 use Rattle.cx_tokens.specs.declared.signs.Sign.TheVariants as signs
 use Rattle.cx_tokens.specs.declared.tokens.Token.{Token}
-use Rattle.cx_tokens.specs.declared.tokens.TokenKind.{TokenKind}
 use Rattle.cx_ast.specs.declared.components.Attribute.{Attribute}
 use Rattle.cx_ast.specs.declared.guards.Comparison.{Comparison}
 use Rattle.cx_ast.specs.declared.guards.Comparison.TheVariants as comparisons
@@ -13,18 +11,18 @@ use Rattle.cx_ast.specs.PlainGuards.{PlainGuard, PlainGuards, NoGuards, GuardThe
 use Rattle.cx_ast.specs.PlainGuards as guards
 use Rattle.cx_ast.specs.PlainTree.{PlainAssign}
 use Rattle.cx_grammar.specs.declared.terminals.Terminal.TheVariants as t
-use Rattle.cx_grammar.specs.Grammar.{Nest, Negation, Parens, Nested, Grammar, Empty, One, Pair, Choice, Several, Deeper, Spelling, Spells}
+use Rattle.cx_grammar.specs.Grammar.{Nest, Negation, Parens, Nested, Grammar, Spelling, Spells}
 use Rattle.cx_grammar.specs.Calyx.{spelled_within}
 use Rattle.cx_grammar.specs.Calyx as calyx
 use Rattle.cx_layout.specs.declared.guards.Binding.{Binding}
 use Rattle.cx_layout.specs.declared.guards.Binding.TheVariants.{Whole, OrPart, AndPart, NotPart}
 use Rattle.cx_layout.specs.declared.pieces.Gap.{Gap}
 use Rattle.cx_layout.specs.declared.pieces.Gap.TheVariants.{Tight, Space, Line}
-use Rattle.cx_layout.specs.Pieces.{Pieces, put_sign, kinds_in, add_lines, add_operand, comparison_sign, needs_parens, wrapped, add_during, add_inside, add_parts, add_guard, add_condition, add_attributes, behind_attributes, add_assign}
+use Rattle.cx_layout.specs.Pieces.{Pieces, put_sign, kinds_in, add_lines, add_operand, comparison_sign, needs_parens, wrapped, add_inside, add_parts, add_guard, add_condition, behind_attributes, add_assign}
 use Rattle.cx_print.specs.Places.{bare_operand, bare_guard, bare_guards, bare_assign}
-use Rattle.cx_print.specs.Printable.{IsOperand, IsNumber, IfThere, IsTarget, OneDeeper, IsWrapped, HasTwo, IsInside, AreParts, IsGuard, IsAssign}
-use Rattle.cx_print.proofs.Adding.{Begun, Adds, AddsMany, adds_nothing, adds_pair, adds_left, adds_right, adds_deeper, many_none, many_more, adds_several, adds_both}
-use Rattle.cx_print.proofs.HeaderSpelling.{Any, number_added, sign_added, behind_added, before_added, mapped_added, within_added, adds_so, attributes_added, target_added, operand_added}
+use Rattle.cx_print.specs.Printable.{IsOperand, IsNumber, IfThere, OneDeeper, IsWrapped, HasTwo, IsInside, AreParts, IsAssign}
+use Rattle.cx_print.proofs.Adding.{Adds, AddsMany, adds_nothing, adds_pair, adds_left, adds_right, adds_deeper, many_none, many_more, adds_several, adds_both}
+use Rattle.cx_print.proofs.HeaderSpelling.{number_added, sign_added, behind_added, before_added, mapped_added, within_added, attributes_added, target_added, operand_added}
 
 -- equal apart from places
 abbrev pub Like : PlainGuard → PlainGuard → Type 0
@@ -236,7 +234,7 @@ guard_added {n = n} gap (guards.At m) h = guard_added_of (guards.At m) (natural_
 guard_added {n = n} gap (guards.During from to) h = guard_added_of (guards.During from to) (natural_of (guards.During from to)) n gap h
 
 -- a guard and what follows it, as the value of an assignment is read
-abbrev valued : PlainGuard → OperandItem → calyx.Value
+abbrev pub valued : PlainGuard → OperandItem → calyx.Value
 valued g o = (Some g, o)
 
 value_same : (a : PlainGuard) (more : List PlainGuard) (c : PlainGuard) (cs : List PlainGuard) (g : PlainGuard) (o : OperandItem) → calyx.and_of (a ∷ more) ≡ c → calyx.or_of (c ∷ cs) ≡ g → calyx.guarded_of more (cs, o) a ≡ valued g o
@@ -264,7 +262,7 @@ value_spelled spelled ts mid rest g o s q =
 abbrev LikeValue : Option PlainGuard → OperandItem → calyx.Value → Type 0
 LikeValue g o v = (option_map bare_guard v.0 ≡ option_map bare_guard g) × (v.1.form ≡ o.form)
 
-abbrev unguarded : OperandItem → calyx.Value
+abbrev pub unguarded : OperandItem → calyx.Value
 unguarded o = (None, o)
 
 module _ {n : ℕ} where

@@ -1,8 +1,7 @@
 -- Names, attributes, marks, operands and binds: what each adds is read by its production as an equal part apart from places.
-use Rattle.std.proofs.Common.{◌≡◌, ℕ, zero, suc, Bool, true, false, List, [], ◌∷◌, ◌++◌, Option, Some, None, codes, refl, sym, ap, ◌∙◌, subst, map, inl, inr, append_assoc, append-nil, if◌then◌else◌, ◌==◌}
+use Rattle.std.proofs.Common.{◌≡◌, ℕ, Bool, true, false, List, [], ◌∷◌, ◌++◌, Option, Some, None, codes, refl, sym, ap, ◌∙◌, subst, map, inl, append_assoc, append-nil, if◌then◌else◌, ◌==◌}
 use Rattle.std.specs.Cmp.Lexicographic.{pointwise}
 use Rattle.std.specs.List.{AllByRecursion}
-use Rattle.cx_text.specs.declared.places.Place.{Place}
 use Rattle.cx_tokens.specs.declared.signs.Sign.{Sign}
 use Rattle.cx_tokens.specs.declared.signs.Sign.TheVariants as signs
 use Rattle.cx_tokens.specs.declared.tokens.Token.{Token}
@@ -17,24 +16,20 @@ use Rattle.cx_ast.specs.declared.operands.OperandItem.{OperandItem}
 use Rattle.cx_ast.specs.declared.statements.BindItem.{BindItem}
 use Rattle.cx_grammar.specs.declared.terminals.Terminal.{Terminal}
 use Rattle.cx_grammar.specs.declared.terminals.Terminal.TheVariants as t
-use Rattle.cx_grammar.specs.Terminals.{terminal_of, is_in, sign_terminal, word_terminal}
-use Rattle.cx_grammar.specs.Grammar.{Grammar, Empty, One, Pair, Choice, Several, Commas, Deeper, Spells, Commas_of}
+use Rattle.cx_grammar.specs.Terminals.{is_in, sign_terminal, word_terminal}
+use Rattle.cx_grammar.specs.Grammar.{Grammar, Empty, Choice, Commas, Spells, Commas_of}
 use Rattle.cx_grammar.specs.Calyx.{spelled_within}
 use Rattle.cx_grammar.specs.Calyx as calyx
 use Rattle.cx_layout.specs.declared.pieces.Gap.{Gap}
-use Rattle.cx_layout.specs.declared.pieces.Gap.TheVariants.{Tight, Space, Line}
-use Rattle.cx_layout.specs.Layout.{IsWritable, AreWritable, IsWritableWord}
+use Rattle.cx_layout.specs.declared.pieces.Gap.TheVariants.{Tight, Space}
+use Rattle.cx_layout.specs.Layout.{AreWritable, IsWritableWord}
 use Rattle.cx_layout.specs.Pieces.{Pieces, put, put_sign, put_word, put_number, kinds_in, more_of, with_commas, add_attribute_number, add_attribute, add_attributes, add_mark, add_marks, add_length, add_form, add_operand, add_bind, add_binds}
-use Rattle.cx_print.specs.Places.{bare_operand, bare_bind}
+use Rattle.cx_print.specs.Places.{bare_bind}
 use Rattle.cx_print.specs.Printable.{IsName, IsText, IsNumber, IfThere, IsAttribute, IsMark, IsForm, IsNoLiteral, IsOperand, IsBind}
-use Rattle.cx_print.proofs.Adding.{Adds, AddsMany, adds_nothing, adds_one, adds_pair, adds_left, adds_right, many_none, many_more, adds_several, adds_both}
-
--- any value
-abbrev pub Any : {A : Type 0} → A → Type 0
-Any x = Unit {0}
+use Rattle.cx_print.proofs.Adding.{Any, Adds, AddsMany, adds_nothing, adds_one, adds_pair, adds_left, adds_right, many_none, many_more, adds_several, adds_both}
 
 -- every word is of a terminal that stands for words
-record AmongWords (terminal : Terminal) : Type 0 where
+pub record AmongWords (terminal : Terminal) : Type 0 where
   pub among : is_in terminal calyx.words ≡ true
 
 either : (b : Bool) (terminal : Terminal) (others : Terminal) → AmongWords terminal → AmongWords others → AmongWords (if b then terminal else others)
@@ -44,7 +39,7 @@ either false terminal others h k = k
 known : (terminal : Terminal) → is_in terminal calyx.words ≡ true → AmongWords terminal
 known terminal h = record { among = h }
 
-among_words : (bytes : List ℕ) → AmongWords (word_terminal bytes)
+pub among_words : (bytes : List ℕ) → AmongWords (word_terminal bytes)
 among_words bytes =
     either (pointwise ◌==◌ bytes (codes "import")) t.Import _ (known t.Import refl) (
     either (pointwise ◌==◌ bytes (codes "component")) t.Component _ (known t.Component refl) (

@@ -4,3 +4,8 @@ pub mod GuardSpelling
 pub mod ControlSpelling
 pub mod FileSpelling
 pub mod PrintLemmas
+pub mod Giving
+pub mod HeaderGiven
+pub mod GuardGiven
+pub mod ControlGiven
+pub mod FileGiven

@@ -1,5 +1,5 @@
 -- From the tokens of a tree to the tree.
-use Rattle.std.proofs.Common.{◌≡◌, ℕ, List, [], ◌∷◌, ◌++◌, ◌∙◌, refl, sym, subst, append-nil}
+use Rattle.std.proofs.Common.{◌≡◌, ℕ, List, [], ◌∷◌, ◌∙◌, refl, sym, subst, append-nil}
 use Rattle.cx_tokens.specs.declared.tokens.Token.{Token}
 use Rattle.cx_tokens.specs.PlainTokens.{kinds_of}
 use Rattle.cx_ast.specs.PlainTree.{PlainTree}

@@ -1,6 +1,6 @@
 -- A tree apart from its places: each place is replaced by the one at which a text begins.
-use Rattle.std.specs.Prelude.{List, Option, option_map, map}
-use Rattle.cx_text.specs.declared.places.Place.{Place}
+use Rattle.std.specs.Prelude.{option_map, map}
+use Rattle.cx_text.specs.Places.{start}
 use Rattle.cx_ast.specs.declared.operands.OperandItem.{OperandItem}
 use Rattle.cx_ast.specs.declared.statements.BindItem.{BindItem}
 use Rattle.cx_ast.specs.declared.trees.ImportItem.{ImportItem}
@@ -10,9 +10,6 @@ use Rattle.cx_ast.specs.PlainStatements.{PlainForm, PlainElse, NoElse, Else, Pla
 use Rattle.cx_ast.specs.PlainStatements as plain
 use Rattle.cx_ast.specs.PlainTree.{PlainPort, PlainCell, PlainAssign, PlainGroup, PlainWire, PlainComponent, PlainTree}
 use Rattle.cx_ast.specs.PlainTree as wires
-
-abbrev pub start : Place
-start = record { line = 1; column = 1 }
 
 abbrev pub bare_operand : OperandItem → OperandItem
 bare_operand o = record { form = o.form; place = start }
