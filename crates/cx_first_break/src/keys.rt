@@ -13,10 +13,10 @@ pub fn key_of(rule: Rule, spot: Spot, place: Place) -> [u64; 6]
 {
     let [kind, number] = part_key(spot.part);
     [
-        place.line,
-        place.column,
+        place.line as u64,
+        place.column as u64,
         number_of(rule),
-        spot.component,
+        spot.component as u64,
         kind,
         number,
     ]
