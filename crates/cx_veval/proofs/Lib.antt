@@ -1,0 +1,4 @@
+pub mod Widths
+pub mod Agreement
+pub mod Waiting
+pub mod Steps

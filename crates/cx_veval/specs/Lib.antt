@@ -1,0 +1,6 @@
+pub mod Arrays
+pub mod Codes
+pub mod Values
+pub mod Fits
+pub mod Looks
+pub mod Search
