@@ -2,3 +2,5 @@ pub mod Widths
 pub mod Agreement
 pub mod Waiting
 pub mod Steps
+pub mod Known
+pub mod StoreSteps

@@ -1,5 +1,5 @@
 -- The steps of the search.
-use Rattle.std.proofs.Common.{◌≡◌, ◌≢◌, ℕ, zero, suc, ◌+◌, ◌-◌, ◌*◌, ◌<◌, ◌≤◌, ◌⊎◌, ⊎_elim, inl, inr, Bool, true, false, cond, List, [], ◌∷◌, Option, Some, None, IsSome, option_map, unwrap_or, length, get_or, set, slice_get, refl, sym, ap, ◌∙◌, subst, arith, count_by, get_or-set_same, get_or-set_other, length-set}
+use Rattle.std.proofs.Common.{◌≡◌, ◌≢◌, ℕ, zero, suc, ◌+◌, ◌-◌, ◌*◌, ◌<◌, ◌≤◌, ◌⊎◌, ⊎_elim, inl, inr, Bool, true, false, cond, List, [], ◌∷◌, Option, Some, None, IsSome, is_some, option_map, unwrap_or, length, get_or, set, slice_get, refl, sym, ap, ◌∙◌, subst, arith, count_by, get_or-set_same, get_or-set_other, length-set}
 use Rattle.std.proofs.lemmas.List.Sums.{sum_by-set, count_by-le-length}
 use Rattle.std.proofs.lemmas.Option.{slice_get-get_or, get_or_from_slice_get, slice_get_past, unwrap_or-slice_get}
 use Rattle.std.proofs.lemmas.Bool.{cases_eq, cases_lt}
@@ -13,7 +13,7 @@ use Rattle.cx_veval.specs.declared.nets.Stored.{Stored}
 use Rattle.cx_veval.specs.Values.{rule, HasValue, by_rule, IsRight}
 use Rattle.cx_veval.specs.Fits.{width_at, Fits}
 use Rattle.cx_veval.specs.Looks.{marked, seen, look_net}
-use Rattle.cx_veval.specs.Search.{mark_at, no_bits, value_at, SameWidths, Ready, Visited, AllUnseen, AllHave, IsFirstWithout}
+use Rattle.cx_veval.specs.Search.{mark_at, no_bits, value_at, SameWidths, Ready, Visited, AllUnseen, AllHave, AllKnown, IsFirstWithout}
 use Rattle.cx_veval.proofs.Widths.{seen_known, net_there}
 use Rattle.cx_veval.proofs.Agreement.{worth_of, known_by, worth_net}
 use Rattle.cx_veval.proofs.Waiting.{Blocks, IsPending, pending, net_width, width_there, some_along}
@@ -49,7 +49,7 @@ at_set xs i m x d P lt h k =
     (cases_eq m i)
 
 -- a value of the same width keeps all widths
-width_set : (values : List BitVector) (i : ℕ) (v : BitVector) → width_at values i ≡ Some v.width → (f : ℕ) → width_at (set values i v) f ≡ width_at values f
+pub width_set : (values : List BitVector) (i : ℕ) (v : BitVector) → width_at values i ≡ Some v.width → (f : ℕ) → width_at (set values i v) f ≡ width_at values f
 width_set [] i v e f = refl
 width_set (y ∷ ys) zero v e zero = sym e
 width_set (y ∷ ys) zero v e (suc f) = refl
@@ -262,6 +262,13 @@ module _ (n : Nets) (s : Stored) (fits : Fits n s) where
 
   pub all_have : (marks : List Mark) (values : List BitVector) → Ready n s marks values → ((f : ℕ) → f < length n.drivers.items → mark_at marks f ≡ Known) → AllHave n s values
   all_have marks values r known f lt = r.right f (known f lt)
+
+  pub all_known : (marks : List Mark) (values : List BitVector) → Ready n s marks values → ((f : ℕ) → f < length n.drivers.items → mark_at marks f ≡ Known) → AllKnown marks values
+  all_known marks values r known = λ f lt.
+      let here : f < length s.nets.items = net_there s.nets.items f (ap is_some (sym (r.widths f)) ∙ ap (λ o. is_some (option_map (λ (v : BitVector). v.width) o)) (slice_get-get_or values f no_bits lt)) in
+      let driven : f < length n.drivers.items = omega (arith, fits.long) in
+      let marked : f < length marks = omega (arith, r.long) in
+      slice_get-get_or marks f Unseen marked ∙ ap Some (known f driven)
 
   pub first_without : (root : ℕ) (marks : List Mark) (values : List BitVector) → Ready n s marks values → ((f : ℕ) → f < root → mark_at marks f ≡ Known) → root < length n.drivers.items
       → ((v : BitVector) → HasValue n s root v → ⊥) → IsFirstWithout n s root

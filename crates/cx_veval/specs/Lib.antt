@@ -4,3 +4,5 @@ pub mod Values
 pub mod Fits
 pub mod Looks
 pub mod Search
+pub mod Edges
+pub mod Stores

@@ -1,5 +1,5 @@
 -- What a search for values tells.
-use Rattle.std.specs.Prelude.{◌≡◌, ℕ, ◌<◌, ◌≢◌, Bool, true, false, List, get_or, length}
+use Rattle.std.specs.Prelude.{◌≡◌, ℕ, ◌<◌, ◌≢◌, Bool, true, false, List, Some, get_or, slice_get, length}
 use Rattle.cx_bits.specs.BitVector.{BitVector}
 use Rattle.cx_veval.specs.declared.marks.Mark.{Mark}
 use Rattle.cx_veval.specs.declared.marks.Mark.TheVariants.{Unseen, Open, Known}
@@ -40,6 +40,10 @@ AllUnseen marks = (f : ℕ) → f < length marks → mark_at marks f ≡ Unseen
 -- each net has its value
 abbrev pub AllHave : Nets → Stored → List BitVector → Type 0
 AllHave n s values = (f : ℕ) → f < length n.drivers.items → HasValue n s f (value_at values f)
+
+-- each net is marked as known
+abbrev pub AllKnown : List Mark → List BitVector → Type 0
+AllKnown marks values = (f : ℕ) → f < length values → slice_get marks f ≡ Some Known
 
 -- the net has no value, and each before it has one
 pub record IsFirstWithout (n : Nets) (s : Stored) (f : ℕ) : Type 0 where

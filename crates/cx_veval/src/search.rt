@@ -1,9 +1,9 @@
 //! The values of all nets in a cycle, or the first net that has none.
 
-ghost use Rattle.std.specs.Prelude.{◌≡◌, ℕ, ◌<◌, length, MatchOption};
+ghost use Rattle.std.specs.Prelude.{◌≡◌, ℕ, ◌<◌, length, IfNone, MatchOption};
 ghost use Rattle.cx_veval.specs.Fits.{Fits};
 ghost use Rattle.cx_veval.specs.Looks.{look_net};
-ghost use Rattle.cx_veval.specs.Search.{Ready, Visited, AllHave, IsFirstWithout, AllUnseen, SameWidths};
+ghost use Rattle.cx_veval.specs.Search.{Ready, Visited, AllHave, AllKnown, IsFirstWithout, AllUnseen, SameWidths};
 
 use crate::marks::{Found, Mark, seen};
 use crate::nets::{Driver, Nets, Stored};
@@ -95,6 +95,7 @@ pub fn settle(
     requires fits { Fits nets.now stored.now }
     requires widths { SameWidths values.old stored.now.nets.items }
     ensures value { MatchOption result (AllHave nets.now stored.now values.new) (IsFirstWithout nets.now stored.now) }
+    ensures known { IfNone result (AllKnown marks.new values.new) }
     ensures widths { SameWidths values.new stored.now.nets.items }
 {
     clear(marks);

@@ -1,9 +1,11 @@
 //! The value of a code, or the first net that it waits for.
 
-ghost use Rattle.std.specs.Prelude.{◌≡◌, ◌+◌, IsSome};
+ghost use Rattle.std.specs.Prelude.{◌≡◌, ◌+◌, IsSome, Some};
 ghost use Rattle.cx_veval.specs.Codes.{code_width};
 ghost use Rattle.cx_veval.specs.Arrays.{IsEven};
 ghost use Rattle.cx_veval.specs.Looks.{look, seen_from, words_from, widths_from, array_widths_from};
+ghost use Rattle.cx_veval.specs.Edges.{code_of, width_of};
+ghost use Rattle.cx_veval.specs.Search.{AllKnown};
 
 use crate::arrays::{Words, word};
 use crate::codes::{Code, Place};
@@ -63,5 +65,18 @@ pub fn value(marks: &[Mark], values: &[Bits], arrays: &[Words], place: Place, co
                 Found::Worth(y) => Found::Worth(x.cat(y)),
             },
         },
+    }
+}
+
+/// What a code of an instance gives where all nets have their values.
+pub fn settled(marks: &[Mark], values: &[Bits], arrays: &[Words], place: Place, code: &Code) -> Bits
+    requires known { AllKnown marks.now values.now }
+    requires even { IsEven arrays.now }
+    requires fits { IsSome (width_of values.now arrays.now place code.now) }
+    ensures { code_of values.now arrays.now place code.now ≡ Some result }
+{
+    match value(marks, values, arrays, place, code) {
+        Found::Worth(found) => found,
+        Found::Waits(_) => unreachable!(),
     }
 }
