@@ -6,3 +6,6 @@ mod tree;
 
 pub use paths::loop_path;
 pub use tree::{Row, rows};
+
+#[cfg(test)]
+mod tests;
