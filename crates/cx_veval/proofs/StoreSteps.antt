@@ -1,5 +1,5 @@
 -- The writes of an edge, one after another.
-use Rattle.std.proofs.Common.{◌≡◌, ℕ, zero, suc, ◌+◌, ◌<◌, ◌⊎◌, ⊎_elim, inl, inr, List, [], ◌∷◌, Option, Some, None, IsSome, is_some, option_map, get_or, map, drop, drop-cons, add-one, length, slice_get, slice_set, refl, ap, ◌∙◌, sym, subst, arith}
+use Rattle.std.proofs.Common.{◌≡◌, ℕ, zero, suc, ◌+◌, ◌<◌, ◌⊎◌, ⊎_elim, inl, inr, Bool, true, false, ◌==◌, if◌then◌else◌, List, [], ◌∷◌, Option, Some, None, IsSome, is_some, option_and_then, option_map, get_or, map, drop, drop-cons, add-one, length, slice_get, slice_set, refl, ap, ◌∙◌, sym, subst, arith}
 use Rattle.std.specs.Option.{option_map_or}
 use Rattle.std.proofs.lemmas.Option.{slice_get-get_or, slice_get_read, slice_get-map}
 use Rattle.cx_bits.specs.BitVector.{BitVector}
@@ -7,8 +7,13 @@ use Rattle.cx_veval.specs.declared.arrays.Words.{Words}
 use Rattle.cx_veval.specs.declared.stores.Store.{Store}
 use Rattle.cx_veval.specs.declared.stores.Write.{Write}
 use Rattle.cx_veval.specs.Arrays.{IsEven, array_width}
-use Rattle.cx_veval.specs.Stores.{PlainWords, plain_words, written, write_word, after_writes, WritesFit}
-use Rattle.cx_veval.proofs.Widths.{array_there}
+use Rattle.cx_veval.specs.declared.codes.Code.{Code}
+use Rattle.cx_veval.specs.declared.marks.Mark.{Mark}
+use Rattle.cx_veval.specs.Edges.{code_of, width_of, numbered}
+use Rattle.cx_veval.specs.Search.{AllKnown}
+use Rattle.cx_veval.specs.Stores.{PlainWords, plain_words, guarded, write_of, written, write_word, after_writes, StoreFits, StoresFit, WritesFit}
+use Rattle.cx_veval.proofs.Widths.{array_there, the_some}
+use Rattle.cx_veval.proofs.Known.{code_width_is}
 
 -- what is read past the last store
 abbrev pub no_store : Store
@@ -78,6 +83,30 @@ write-step stores writes i d o arrays after whole lt long is e =
     let rest' : drop i writes ≡ (get_or writes i o ∷ drop (i + 1) writes) = drop-cons writes i o within ∙ ap (λ k. get_or writes i o ∷ drop k writes) (sym (add-one i)) in
     ap (after_writes (drop (i + 1) stores) (drop (i + 1) writes)) is
     ∙ sym (ap (λ l. after_writes l (drop i writes) arrays) rest ∙ ap (λ l. after_writes (get_or stores i d ∷ drop (i + 1) stores) l arrays) rest') ∙ e
+
+guarded_value : (t : Bool) (g i v : BitVector) (w : Write) → (if t then None else Some (record { index = i.value; value = v })) ≡ Some w → v ≡ w.value
+guarded_value true g i v w e = cc
+guarded_value false g i v w e = let same : record { index = i.value; value = v } ≡ w = cc in ap (λ (x : Write). x.value) same
+
+guarded_is : (g i v : Option BitVector) (w : Write) → guarded g i v ≡ Some w → v ≡ Some w.value
+guarded_is None i v w e = cc
+guarded_is (Some g) None v w e = cc
+guarded_is (Some g) (Some i) None w e = cc
+guarded_is (Some g) (Some i) (Some v) w e = ap Some (guarded_value (g.value == 0) g i v w e)
+
+-- what stores write has the widths of their arrays
+pub writes-fit : (marks : List Mark) (values : List BitVector) (arrays : List Words) (codes : List Code) (stores : List Store) (writes : List (Option Write)) → AllKnown marks values → IsEven arrays
+    → StoresFit codes values arrays stores → writes ≡ map (write_of codes values arrays) stores → WritesFit arrays stores writes
+writes-fit marks values arrays codes stores writes known even fits is = λ j x w there e.
+    let f = fits j x there in
+    let at : Some (write_of codes values arrays x) ≡ Some (Some w) =
+    sym (ap (option_map (write_of codes values arrays)) there) ∙ sym (slice_get-map (write_of codes values arrays) stores j) ∙ sym (ap (λ (l : List (Option Write)). slice_get l j) is) ∙ e in
+    let given : write_of codes values arrays x ≡ Some w = cc in
+    let value = guarded_is (numbered codes values arrays x.place x.guard) (numbered codes values arrays x.place x.index) (numbered codes values arrays x.place x.value) w given in
+    let code : code_of values arrays x.place f.value.0 ≡ Some w.value = sym (ap (option_and_then (code_of values arrays x.place)) f.value.1) ∙ value in
+    let u = the_some (width_of values arrays x.place f.value.0) f.value.2 in
+    let width : w.value.width ≡ u.0 = code_width_is marks values known arrays x.place f.value.0 even u.0 w.value u.1 code in
+    sym (f.wide f.value.0 f.value.1) ∙ u.1 ∙ ap Some (sym width)
 
 -- what the store of a number writes fits
 pub write-fits : (old arrays : List Words) (stores : List Store) (writes : List (Option Write)) (i : ℕ) (d : Store) (o : Option Write) → i < length stores → length writes ≡ length stores → WritesFit old stores writes

@@ -52,6 +52,7 @@ pub record StoreFits (codes : List Code) (values : List BitVector) (arrays : Lis
   pub guard : HasCode codes values arrays x.place x.guard
   pub index : HasCode codes values arrays x.place x.index
   pub value : HasCode codes values arrays x.place x.value
+  pub wide : (c : Code) → slice_get codes x.value ≡ Some c → width_of values arrays x.place c ≡ array_width arrays x.array
 
 abbrev pub StoresFit : List Code → List BitVector → List Words → List Store → Type 0
 StoresFit codes values arrays stores = (j : ℕ) (x : Store) → slice_get stores j ≡ Some x → StoreFits codes values arrays x

@@ -85,7 +85,8 @@ pub fn look_at_stores(
     requires even { IsEven arrays.now }
     requires fits { StoresFit codes.now values.now arrays.now stores.now }
     requires long { length writes.old ≡ length stores.now }
-    ensures { writes.new ≡ map (write_of codes.now values.now arrays.now) stores.now }
+    ensures value { writes.new ≡ map (write_of codes.now values.now arrays.now) stores.now }
+    ensures fits { WritesFit arrays.now stores.now writes.new }
 {
     for (number, store) in stores.iter().enumerate() {
         writes[number] = write_by(codes, *store, marks, values, arrays);
