@@ -242,6 +242,25 @@ module _ (n : Nets) (s : Stored) (fits : Fits n s) where
             room = omega (arith, c, g.room);
           }
 
+  -- a net that has its value
+  module _ (marks : List Mark) (values : List BitVector) (r : Ready n s marks values) (f : ℕ) (within : f < length n.drivers.items) where
+    pub f_values : f < length values
+    f_values = values_there values r.widths f (width_there n s fits f within)
+
+    pub one_ready : (v : BitVector) → Worth v ≡ look_net n s marks values f → Ready n s (set marks f Known) (set values f v)
+    one_ready v w =
+        let l : f < length marks = omega (arith, r.long) in
+        let has : HasValue n s f v = by_rule (known_by marks values) (right_known marks values r.right) (sym (worth_net n s marks values f) ∙ ap worth_of (sym w)) in
+        let wide : width_at values f ≡ Some v.width = r.widths f ∙ net_width n s fits marks values r.widths f v within (sym w) in
+        record {
+          long = length-set marks f Known ∙ r.long;
+          widths = λ g. width_set values f v wide g ∙ r.widths g;
+          right = λ g. at_set marks f g Known Unseen (λ y. y ≡ Known → HasValue n s g (value_at (set values f v) g)) l
+              (λ e h. subst (λ j. HasValue n s j (value_at (set values f v) j)) (sym e) (subst (HasValue n s f) (sym (get_or-set_same values f v no_bits f_values)) has))
+              (λ ne h. subst (HasValue n s g) (sym (get_or-set_other values f g v no_bits ne)) (r.right g h));
+          closed = λ g. at_set marks f g Known Unseen (λ y. y ≢ Open) l (λ e h. cc) (λ ne. r.closed g);
+        }
+
   pub end_going : (root : ℕ) (old marks : List Mark) (values : List BitVector) (stack : List ℕ) → Going n s root old marks values stack 0 → Visited n s root old marks values true
   end_going root old marks values stack g =
       let closed : (m : ℕ) → mark_at marks m ≢ Open = λ m h. let o = g.opened m h in omega (arith, o.1) in

@@ -72,6 +72,39 @@ fn visit(
     true
 }
 
+/// Gives a net its value, where all that it needs has values.
+fn try_net(nets: &Nets, stored: &Stored, marks: &mut [Mark], values: &mut [Bits], net: usize)
+    requires within { net < length nets.now.drivers.items }
+    requires fits { Fits nets.now stored.now }
+    requires ready { Ready nets.now stored.now marks.old values.old }
+    ensures { Ready nets.now stored.now marks.new values.new }
+{
+    if let Found::Worth(value) = find(nets, stored, marks, values, net) {
+        marks[net] = Mark::Known;
+        values[net] = value;
+    }
+}
+
+/// Tries nets in an order.
+fn try_in_order(
+    nets: &Nets,
+    stored: &Stored,
+    order: &[u32],
+    marks: &mut [Mark],
+    values: &mut [Bits],
+)
+    requires fits { Fits nets.now stored.now }
+    requires ready { Ready nets.now stored.now marks.old values.old }
+    ensures { Ready nets.now stored.now marks.new values.new }
+{
+    for net in order {
+        let net = *net as usize;
+        if net < nets.drivers.len() {
+            try_net(nets, stored, marks, values, net);
+        }
+    }
+}
+
 /// Forgets all values.
 fn clear(marks: &mut [Mark])
     ensures { AllUnseen marks.new }
@@ -82,10 +115,12 @@ fn clear(marks: &mut [Mark])
 }
 
 /// Gives each net its value in a cycle, or answers the first net that has none. Before, `values` has values of the nets'
-/// widths; `marks` and `stack` are as long, and what they hold is of no account.
+/// widths; `marks` and `stack` are as long, and what they hold is of no account. Nets are tried in `order` first, which
+/// may be any: where needs come first in it, each net is looked at once or twice.
 pub fn settle(
     nets: &Nets,
     stored: &Stored,
+    order: &[u32],
     marks: &mut [Mark],
     values: &mut [Bits],
     stack: &mut [usize],
@@ -99,6 +134,7 @@ pub fn settle(
     ensures widths { SameWidths values.new stored.now.nets.items }
 {
     clear(marks);
+    try_in_order(nets, stored, order, marks, values);
     for root in 0..nets.drivers.len() {
         if !visit(nets, stored, marks, values, stack, root) {
             return Some(root);
