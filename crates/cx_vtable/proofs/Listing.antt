@@ -1,5 +1,5 @@
 -- The steps of listing the instances.
-use Rattle.std.proofs.Common.{◌≡◌, ℕ, ◌+◌, ◌<◌, List, [], ◌∷◌, ◌++◌, Bool, true, false, Option, Some, None, map, length, reverse, option_map, subst, refl, sym, ap, ◌∙◌, append_assoc, append-nil, length-append, add-zero, if◌then◌else◌, arith}
+use Rattle.std.proofs.Common.{◌≡◌, ℕ, ◌+◌, ◌<◌, List, [], ◌∷◌, ◌++◌, Bool, true, false, Option, Some, None, map, length, reverse, option_map, subst, refl, sym, ap, ◌∙◌, append_assoc, length-append, add-zero, if◌then◌else◌, arith}
 use Rattle.std.proofs.lemmas.List.{reverse-append}
 use Rattle.cx_vtree.specs.Plain.{PlainInstance, PlainModule}
 use Rattle.cx_vtree.specs.InstanceTree.{Placed, same_name, below, tree_from}

@@ -1,5 +1,5 @@
 -- Paths, step by step.
-use Rattle.std.proofs.Common.{◌≡◌, ◌≢◌, ℕ, zero, suc, ◌+◌, ◌-◌, ◌<◌, ◌≤◌, ◌==◌, List, [], ◌∷◌, ◌++◌, Bool, true, false, Option, Some, None, map, length, reverse, get_or, option_map, slice_get, refl, sym, ap, ◌∙◌, subst, append-nil, append_assoc, if◌then◌else◌, arith, ne_eqb}
+use Rattle.std.proofs.Common.{◌≡◌, ◌≢◌, ℕ, zero, suc, ◌+◌, ◌<◌, ◌≤◌, ◌==◌, List, [], ◌∷◌, ◌++◌, Bool, true, false, Option, Some, None, map, length, get_or, option_map, slice_get, refl, sym, ap, ◌∙◌, append-nil, append_assoc, if◌then◌else◌, arith, ne_eqb}
 use Rattle.std.specs.Option.{option_map_or}
 use Rattle.std.proofs.lemmas.Option.{slice_get-map, slice_get_read, slice_get_past}
 use Rattle.cx_vtree.specs.declared.modules.ModulePort.{ModulePort}
