@@ -1,5 +1,5 @@
 -- A net has one value at most, and what a look finds is right.
-use Rattle.std.proofs.Common.{◌≡◌, ℕ, ◌+◌, ◌==◌, Bool, true, false, List, Option, Some, None, option_and_then, option_map, slice_get, refl, ap, ◌∙◌, sym, subst, if◌then◌else◌}
+use Rattle.std.proofs.Common.{◌≡◌, ℕ, ◌+◌, ◌==◌, Bool, true, false, List, Option, Some, None, option_and_then, option_map, slice_get, refl, ap, ◌∙◌, if◌then◌else◌}
 use Rattle.cx_bits.specs.BitVector.{BitVector}
 use Rattle.cx_vtree.specs.Operators.{operate, inverted, part_of, joined}
 use Rattle.cx_veval.specs.declared.codes.Code.{Code}
@@ -14,7 +14,7 @@ use Rattle.cx_veval.specs.declared.nets.Driver.TheVariants.{Held, Tied, Given}
 use Rattle.cx_veval.specs.Arrays.{word_at}
 use Rattle.cx_veval.specs.Codes.{code_in}
 use Rattle.cx_veval.specs.Looks.{found_map, found_and_then, look, seen, seen_from, words_from, look_stored, look_code, look_driver, look_net}
-use Rattle.cx_veval.specs.Values.{code_at, driver_in, rule, HasValue, by_rule, IsRight}
+use Rattle.cx_veval.specs.Values.{driver_in, rule, HasValue, by_rule, IsRight}
 
 -- two answers, where both are there, are one
 abbrev pub Agree : Option BitVector → Option BitVector → Type 0

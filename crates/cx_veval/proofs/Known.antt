@@ -1,5 +1,5 @@
 -- Codes where all nets have their values.
-use Rattle.std.proofs.Common.{◌≡◌, ◌≢◌, ℕ, zero, suc, ◌+◌, ◌<◌, ◌≤◌, ◌⊎◌, ⊎_elim, inl, inr, ◌==◌, Bool, true, false, List, [], ◌∷◌, Option, Some, None, IsSome, option_and_then, option_map, get_or, drop, drop-cons, add-one, length, slice_get, slice_set, refl, ap, ◌∙◌, sym, subst, if◌then◌else◌, arith}
+use Rattle.std.proofs.Common.{◌≡◌, ℕ, ◌+◌, ◌<◌, ◌≤◌, ⊎_elim, ◌==◌, List, ◌∷◌, Option, Some, None, IsSome, option_and_then, option_map, get_or, drop, drop-cons, add-one, length, slice_get, slice_set, refl, ap, ◌∙◌, sym, subst, if◌then◌else◌}
 use Rattle.std.specs.Option.{option_map_or}
 use Rattle.std.proofs.lemmas.Option.{slice_get-get_or, slice_get_past, slice_get_read, slice_get_within}
 use Rattle.std.proofs.lemmas.Bool.{cases_lt}
@@ -14,15 +14,15 @@ use Rattle.cx_veval.specs.declared.marks.Mark.{Mark}
 use Rattle.cx_veval.specs.declared.marks.Mark.TheVariants.{Unseen, Open, Known}
 use Rattle.cx_veval.specs.declared.marks.Found.{Found}
 use Rattle.cx_veval.specs.declared.marks.Found.TheVariants.{Worth, Waits}
-use Rattle.cx_veval.specs.Arrays.{IsEven, word_at, array_width}
+use Rattle.cx_veval.specs.Arrays.{IsEven, array_width}
 use Rattle.cx_veval.specs.Codes.{code_in}
 use Rattle.cx_veval.specs.Fits.{width_at}
 use Rattle.cx_veval.specs.Looks.{look, marked, seen, seen_from, words_from}
 use Rattle.cx_veval.specs.Search.{AllKnown, no_bits, SameWidths}
 use Rattle.cx_veval.specs.Edges.{code_of, width_of, numbered, after_sets, SetsFit}
-use Rattle.cx_veval.proofs.Widths.{the_some, look_width, seen_width, word_width, net_there}
+use Rattle.cx_veval.proofs.Widths.{look_width, seen_width, word_width, net_there}
 use Rattle.cx_veval.proofs.Agreement.{worth_of, worth_look}
-use Rattle.cx_veval.proofs.Waiting.{IsWanted, wants}
+use Rattle.cx_veval.proofs.Waiting.{wants}
 use Rattle.cx_veval.proofs.Steps.{width_set}
 
 -- nets that are the same give the same

@@ -1,5 +1,5 @@
 -- The writes of an edge, one after another.
-use Rattle.std.proofs.Common.{◌≡◌, ℕ, zero, suc, ◌+◌, ◌<◌, ◌⊎◌, ⊎_elim, inl, inr, Bool, true, false, ◌==◌, if◌then◌else◌, List, [], ◌∷◌, Option, Some, None, IsSome, is_some, option_and_then, option_map, get_or, map, drop, drop-cons, add-one, length, slice_get, slice_set, refl, ap, ◌∙◌, sym, subst, arith}
+use Rattle.std.proofs.Common.{◌≡◌, ℕ, zero, suc, ◌+◌, ◌<◌, ◌⊎◌, ⊎_elim, inl, inr, Bool, true, false, ◌==◌, if◌then◌else◌, List, [], ◌∷◌, Option, Some, None, is_some, option_and_then, option_map, get_or, map, drop, drop-cons, add-one, length, slice_get, slice_set, refl, ap, ◌∙◌, sym, subst, arith}
 use Rattle.std.specs.Option.{option_map_or}
 use Rattle.std.proofs.lemmas.Option.{slice_get-get_or, slice_get_read, slice_get-map}
 use Rattle.cx_bits.specs.BitVector.{BitVector}
@@ -11,7 +11,7 @@ use Rattle.cx_veval.specs.declared.codes.Code.{Code}
 use Rattle.cx_veval.specs.declared.marks.Mark.{Mark}
 use Rattle.cx_veval.specs.Edges.{code_of, width_of, numbered}
 use Rattle.cx_veval.specs.Search.{AllKnown}
-use Rattle.cx_veval.specs.Stores.{PlainWords, plain_words, guarded, write_of, written, write_word, after_writes, StoreFits, StoresFit, WritesFit}
+use Rattle.cx_veval.specs.Stores.{PlainWords, plain_words, guarded, write_of, written, write_word, after_writes, StoresFit, WritesFit}
 use Rattle.cx_veval.proofs.Widths.{array_there, the_some}
 use Rattle.cx_veval.proofs.Known.{code_width_is}
 

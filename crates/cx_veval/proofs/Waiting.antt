@@ -1,5 +1,5 @@
 -- What a look that waits for a net tells: the net is needed.
-use Rattle.std.proofs.Common.{◌≡◌, ℕ, ◌+◌, ◌<◌, ◌==◌, Bool, true, false, List, Option, Some, None, IsSome, is_some, option_and_then, option_map, get_or, length, slice_get, refl, ap, ◌∙◌, sym, subst, if◌then◌else◌, arith}
+use Rattle.std.proofs.Common.{◌≡◌, ℕ, ◌+◌, ◌<◌, ◌==◌, Bool, true, false, List, Option, Some, None, IsSome, is_some, option_and_then, option_map, length, slice_get, refl, ap, ◌∙◌, sym, subst, if◌then◌else◌}
 use Rattle.std.proofs.lemmas.Option.{slice_get-get_or}
 use Rattle.cx_bits.specs.BitVector.{BitVector}
 use Rattle.cx_vtree.specs.Operators.{operate, inverted, part_of, joined}
@@ -15,9 +15,9 @@ use Rattle.cx_veval.specs.declared.nets.Nets.{Nets}
 use Rattle.cx_veval.specs.declared.nets.Stored.{Stored}
 use Rattle.cx_veval.specs.declared.nets.Driver.{Driver}
 use Rattle.cx_veval.specs.declared.nets.Driver.TheVariants.{Held, Tied, Given}
-use Rattle.cx_veval.specs.Arrays.{word_at, array_width}
+use Rattle.cx_veval.specs.Arrays.{array_width}
 use Rattle.cx_veval.specs.Codes.{code_in, code_width}
-use Rattle.cx_veval.specs.Values.{driver_in, code_at, rule, HasValue, IsRight}
+use Rattle.cx_veval.specs.Values.{driver_in, code_at, rule, IsRight}
 use Rattle.cx_veval.specs.Fits.{width_at, width_in, Fits}
 use Rattle.cx_veval.specs.Looks.{found_map, found_and_then, look, marked, seen, seen_from, words_from, look_stored, look_code, look_driver, look_net}
 use Rattle.cx_veval.specs.Search.{SameWidths, no_bits}

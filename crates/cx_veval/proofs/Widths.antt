@@ -1,7 +1,7 @@
 -- The width of what a code gives.
-use Rattle.std.proofs.Common.{◌≡◌, ℕ, ◌+◌, ◌-◌, ◌<◌, ◌≤◌, ◌&&◌, Bool, true, false, List, Option, Some, None, IsSome, is_some, option_and_then, option_map, get_or, length, refl, sym, ap, ◌∙◌, subst, if◌then◌else◌, arith, ◌==◌, nat_lt, nat_le, slice_get, unwrap_or}
+use Rattle.std.proofs.Common.{◌≡◌, ℕ, ◌+◌, ◌-◌, ◌<◌, ◌≤◌, ◌&&◌, Bool, true, false, List, Option, Some, None, IsSome, option_and_then, option_map, get_or, length, refl, sym, ap, ◌∙◌, if◌then◌else◌, arith, ◌==◌, nat_lt, nat_le, slice_get, unwrap_or}
 use Rattle.std.proofs.lemmas.Bool.{eqb-true, ltb-true, leb-true}
-use Rattle.std.proofs.lemmas.Option.{slice_get-get_or, slice_get_within, get_or_from_slice_get, slice_get_read}
+use Rattle.std.proofs.lemmas.Option.{slice_get_within, slice_get_read}
 use Rattle.cx_bits.specs.BitVector.{BitVector}
 use Rattle.cx_vtree.specs.declared.operators.Operator.{Operator}
 use Rattle.cx_vtree.specs.declared.operators.Operator.TheVariants.{Add, Subtract, Multiply, And, Or, Xor, ShiftLeft, ShiftRight, Equal, NotEqual, Less, Greater, AtMost, AtLeast}

@@ -1,5 +1,5 @@
 -- The value of a code, and its width.
-use Rattle.std.specs.Prelude.{ℕ, ◌==◌, Option, Some, None, option_and_then, option_map, if◌then◌else◌}
+use Rattle.std.specs.Prelude.{ℕ, ◌==◌, Option, Some, option_and_then, option_map, if◌then◌else◌}
 use Rattle.cx_bits.specs.BitVector.{BitVector}
 use Rattle.cx_vtree.specs.Operators.{operate, inverted, part_of, joined}
 use Rattle.cx_vtree.specs.Sound.{applied_width, chosen_width, joined_width, part_width}

@@ -1,5 +1,5 @@
 -- The value of a net in one cycle.
-use Rattle.std.specs.Prelude.{◌≡◌, ℕ, ◌+◌, List, Option, Some, None, option_and_then, slice_get}
+use Rattle.std.specs.Prelude.{◌≡◌, ℕ, ◌+◌, Option, Some, None, option_and_then, slice_get}
 use Rattle.cx_bits.specs.BitVector.{BitVector}
 use Rattle.cx_veval.specs.declared.codes.Code.{Code}
 use Rattle.cx_veval.specs.declared.codes.Place.{Place}

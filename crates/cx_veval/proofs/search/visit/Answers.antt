@@ -1,4 +1,4 @@
-use Rattle.std.proofs.Common.{◌<◌, length, arith}
+use Rattle.std.proofs.Common.{arith}
 use Rattle.std.proofs.lemmas.Grind.{common_steps}
 use Rattle.cx_veval.proofs.Steps.{start_going, unseen_else, top_values, pop_going, pop_smaller, m_marks, push_going, push_smaller, push_room, stuck_going}
 use Rattle.cx_veval.proofs.search.visit.Goals as goal
