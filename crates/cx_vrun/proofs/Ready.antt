@@ -1,6 +1,5 @@
 -- What fits by its widths fits whatever has the same widths.
-use Rattle.std.proofs.Common.{◌≡◌, ℕ, zero, suc, ◌+◌, ◌<◌, Bool, true, false, not, List, [], ◌∷◌, Option, Some, None, IsSome, is_some, option_and_then, option_map, map, length, slice_get, slice_set, refl, sym, ap, ◌∙◌, subst, arith, if◌then◌else◌}
-use Rattle.std.proofs.lemmas.Option.{slice_get-get_or, slice_get_within}
+use Rattle.std.proofs.Common.{◌≡◌, ℕ, zero, suc, ◌+◌, Bool, not, List, [], ◌∷◌, Option, Some, None, is_some, option_and_then, map, length, slice_set, refl, sym, ap, ◌∙◌, subst, arith}
 use Rattle.cx_bits.specs.BitVector.{BitVector}
 use Rattle.cx_vtree.specs.Sound.{applied_width, chosen_width, joined_width, part_width}
 use Rattle.cx_veval.specs.declared.arrays.Words.{Words}
@@ -14,15 +13,15 @@ use Rattle.cx_veval.specs.declared.stores.Store.{Store}
 use Rattle.cx_veval.specs.Arrays.{IsEven, array_width}
 use Rattle.cx_veval.specs.Codes.{code_width}
 use Rattle.cx_veval.specs.Edges.{width_of, SetsFit}
-use Rattle.cx_veval.specs.Fits.{width_at, width_in, Fits}
-use Rattle.cx_veval.specs.Search.{SameWidths, no_bits}
-use Rattle.cx_veval.specs.Stores.{plain_words, HasCode, StoreFits, StoresFit}
+use Rattle.cx_veval.specs.Fits.{width_at, Fits}
+use Rattle.cx_veval.specs.Search.{SameWidths}
+use Rattle.cx_veval.specs.Stores.{plain_words, HasCode, StoresFit}
 use Rattle.cx_vrun.specs.declared.machines.Machine.{Machine}
 use Rattle.cx_vrun.specs.declared.machines.Bench.{Bench}
 use Rattle.cx_vrun.specs.declared.runs.Answer.{Answer}
 use Rattle.cx_vrun.specs.declared.runs.Answer.TheVariants.{Done, Loop, More}
 use Rattle.cx_vrun.specs.Machines.{KeepsWidths, IsAfter}
-use Rattle.cx_vrun.specs.Runs.{bit, WithInputs, IsReady, AreValues, IsLooked, Outcome, DoneIn, LoopOf, NotDone, outcome_of, is_done, FlatFrom, loops, ends, spent, goes_on}
+use Rattle.cx_vrun.specs.Runs.{bit, WithInputs, IsReady, IsLooked, Outcome, DoneIn, NotDone, outcome_of, FlatFrom, loops, ends, spent, goes_on}
 
 module _ (nets nets' arrays arrays' : ℕ → Option ℕ) (same : (k : ℕ) → nets k ≡ nets' k) (alike : (a : ℕ) → arrays a ≡ arrays' a) where
   both : (f : ℕ → ℕ → Option ℕ) (o p q r : Option ℕ) → o ≡ p → q ≡ r → option_and_then (λ v. option_and_then (f v) q) o ≡ option_and_then (λ v. option_and_then (f v) r) p

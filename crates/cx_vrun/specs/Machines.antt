@@ -1,7 +1,6 @@
 -- What changes at an edge.
 use Rattle.std.specs.Prelude.{◌≡◌, ℕ, List, map}
 use Rattle.cx_bits.specs.BitVector.{BitVector}
-use Rattle.cx_veval.specs.declared.arrays.Words.{Words}
 use Rattle.cx_veval.specs.declared.codes.Code.{Code}
 use Rattle.cx_veval.specs.declared.edges.Set.{Set}
 use Rattle.cx_veval.specs.declared.nets.Stored.{Stored}

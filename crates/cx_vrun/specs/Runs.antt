@@ -4,7 +4,7 @@ use Rattle.cx_bits.specs.BitVector.{BitVector}
 use Rattle.cx_veval.specs.declared.nets.Stored.{Stored}
 use Rattle.cx_veval.specs.Edges.{SetsFit}
 use Rattle.cx_veval.specs.Fits.{width_at, Fits}
-use Rattle.cx_veval.specs.Search.{value_at, SameWidths, AllHave, AllKnown, IsFirstWithout}
+use Rattle.cx_veval.specs.Search.{value_at, SameWidths, AllHave, IsFirstWithout}
 use Rattle.cx_veval.specs.Stores.{PlainWords, plain_words, StoresFit}
 use Rattle.cx_vrun.specs.declared.machines.Machine.{Machine}
 use Rattle.cx_vrun.specs.declared.machines.Bench.{Bench}

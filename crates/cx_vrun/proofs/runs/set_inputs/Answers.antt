@@ -1,4 +1,4 @@
-use Rattle.std.proofs.Common.{not, refl, ap, ◌∙◌, slice_set}
+use Rattle.std.proofs.Common.{refl, ap, ◌∙◌, slice_set}
 use Rattle.cx_vrun.specs.Runs.{bit}
 use Rattle.cx_vrun.proofs.Ready.{inputs-ready}
 use Rattle.cx_vrun.proofs.runs.set_inputs.Goals as goal
