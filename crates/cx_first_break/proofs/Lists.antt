@@ -1,5 +1,5 @@
 -- Lists of breaks: what stands in them, and their first.
-use Rattle.std.proofs.Common.{◌≡◌, ◌+◌, ◌<◌, ℕ, zero, suc, List, [], ◌∷◌, ◌++◌, Option, Some, None, length, slice_get, flat_map, ◌⊎◌, inl, inr, ⊎_elim, refl, sym, ap, ◌∙◌, subst, arith}
+use Rattle.std.proofs.Common.{◌≡◌, ◌+◌, ◌<◌, ℕ, zero, suc, List, [], ◌∷◌, ◌++◌, Option, Some, None, length, map, drop, slice_get, flat_map, ◌⊎◌, inl, inr, ⊎_elim, refl, sym, ap, ◌∙◌, subst, arith, add-one}
 use Rattle.cx_meaning.specs.Sights.{In}
 use Rattle.cx_first_break.specs.Breaks.{Broken, earlier, first_of}
 use Rattle.cx_first_break.specs.Numbered.{numbered}
@@ -56,3 +56,15 @@ module _ {A : Type 0} (f : ℕ → A → List Broken) where
       (λ p. (0, y, refl, subst (λ v. In (f v y) b) here p))
       (λ q. let rest = numbered_in (suc n) xs b q in let at : suc n + rest.0 ≡ n + suc rest.0 = omega arith in (suc rest.0, rest.1, rest.2, subst (λ v. In (f v rest.1) b) at rest.3))
       (in_either (f n y) (numbered f (suc n) xs) b i)
+
+-- one more of numbered parts is looked at
+pub next_number : {X A : Type 0} (view : X → A) (f : ℕ → A → List Broken) (n : ℕ) (xs : List X) (x : X) (best next rest : Option Broken)
+    → drop n xs ≡ x ∷ drop (n + 1) xs → next ≡ first_of best (f n (view x)) → first_of best (numbered f n (map view (drop n xs))) ≡ rest
+    → first_of next (numbered f (n + 1) (map view (drop (n + 1) xs))) ≡ rest
+next_number view f n xs x best next rest at step so_far =
+    let more = map view (drop (n + 1) xs) in
+    ap (λ m. first_of next (numbered f m more)) (add-one n)
+    ∙ ap (λ b. first_of b (numbered f (suc n) more)) step
+    ∙ sym (first_append best (f n (view x)) (numbered f (suc n) more))
+    ∙ ap (λ l. first_of best (numbered f n (map view l))) (sym at)
+    ∙ so_far
