@@ -48,9 +48,9 @@ by_place s t p q h = by (nat_lt p.line q.line) (nat_eq p.line q.line) refl refl 
         (before_equal p.line (p.column ∷ 29 ∷ spot_key s) (q.column ∷ 29 ∷ spot_key t) (before_less p.column q.column (29 ∷ spot_key s) (29 ∷ spot_key t) (ltb-true p.column q.column g)))
     by false false e f g = absurd (let k : false ≡ true = g in cc)
 
-same_rule : (xs ys : List ℕ) → (29 < 29) ⊎ ((29 ≡ 29) × (comes_before xs ys ≡ true)) → comes_before xs ys ≡ true
-same_rule xs ys (inl lt) = absurd (omega arith)
-same_rule xs ys (inr (e, h)) = h
+same_number : (n : ℕ) (xs ys : List ℕ) → (n < n) ⊎ ((n ≡ n) × (comes_before xs ys ≡ true)) → comes_before xs ys ≡ true
+same_number n xs ys (inl lt) = absurd (omega arith)
+same_number n xs ys (inr (e, h)) = h
 
 by_either : (s t : Spot) (p q : Place) → comes_before (limit_key s p) (limit_key t q) ≡ true → (stands_before p q ≡ true) ⊎ (comes_before (spot_key s) (spot_key t) ≡ true)
 by_either s t p q h = lines (before_cases p.line q.line (p.column ∷ 29 ∷ spot_key s) (q.column ∷ 29 ∷ spot_key t) h)
@@ -62,7 +62,7 @@ by_either s t p q h = lines (before_cases p.line q.line (p.column ∷ 29 ∷ spo
 
     columns : (p.line ≡ q.line) → (p.column < q.column) ⊎ ((p.column ≡ q.column) × (comes_before (29 ∷ spot_key s) (29 ∷ spot_key t) ≡ true)) → (stands_before p q ≡ true) ⊎ (comes_before (spot_key s) (spot_key t) ≡ true)
     columns e (inl lt) = inl (standing (nat_lt p.line q.line) (nat_eq p.line q.line) (nat_lt p.column q.column) (inr (eq-eqb p.line q.line e, lt-ltb p.column q.column lt)))
-    columns e (inr (f, g)) = inr (same_rule (spot_key s) (spot_key t) (before_cases 29 29 (spot_key s) (spot_key t) g))
+    columns e (inr (f, g)) = inr (same_number 29 (spot_key s) (spot_key t) (before_cases 29 29 (spot_key s) (spot_key t) g))
 
     lines : (p.line < q.line) ⊎ ((p.line ≡ q.line) × (comes_before (p.column ∷ 29 ∷ spot_key s) (q.column ∷ 29 ∷ spot_key t) ≡ true)) → (stands_before p q ≡ true) ⊎ (comes_before (spot_key s) (spot_key t) ≡ true)
     lines (inl lt) = inl (standing (nat_lt p.line q.line) (nat_eq p.line q.line) (nat_lt p.column q.column) (inl (lt-ltb p.line q.line lt)))

@@ -1,4 +1,6 @@
 pub mod ScanLemmas
+pub mod StepLemmas
+pub mod WayLemmas
 pub mod Caps
 pub mod Places
 pub mod WordLemmas

@@ -144,8 +144,8 @@ ascending_append (x ∷ xs) ys (above, a) b h = ((λ s i. either s (in_split xs 
 part_ascends : (main : ℕ) (tally : Tally) (k : ℕ) (part : PlainComponent) → IsAscending (part_tests main tally k part)
 part_ascends main tally k part =
     ascending_append (statement_tests part k 0 (statements_in part)) (whole_tests (nat_eq k main) tally k part)
-    (rising_ascends AStatement 1 (λ m. refl) k 0 _ (statements_rise part k 0 (statements_in part)))
-    (rising_ascends Whole 3 (λ m. refl) k 0 _ (wholes_rise (nat_eq k main) tally k part)) between
+    (rising_ascends AStatement 1 (λ m. refl) k 0 (statement_tests part k 0 (statements_in part)) (statements_rise part k 0 (statements_in part)))
+    (rising_ascends Whole 3 (λ m. refl) k 0 (whole_tests (nat_eq k main) tally k part) (wholes_rise (nat_eq k main) tally k part)) between
   where
     between : (s t : Test) → In (statement_tests part k 0 (statements_in part)) s → In (whole_tests (nat_eq k main) tally k part) t → comes_before (spot_key t.spot) (spot_key s.spot) ≡ false
     between s t i j =
@@ -217,7 +217,7 @@ statement_test part k n (v ∷ vs) t (inr i) =
 
 statement_tested : (part : PlainComponent) (k n m : ℕ) (vs : List Visited) (v : Visited) → slice_get vs m ≡ Some v → In (statement_tests part k n vs) (at_statement part k (n + m) v)
 statement_tested part k n m [] v e = absurd (none_is_some v e)
-statement_tested part k n zero (w ∷ vs) v e = inl ((let z : n ≡ n + 0 = omega arith in ap (λ x. at_statement part k x w) z) ∙ ap (at_statement part k (n + 0)) (let f : Some w ≡ Some v = e in cc))
+statement_tested part k n zero (w ∷ vs) v e = inl ((let z : n ≡ n + 0 = omega arith in ap (λ x. at_statement part k x w) z) ∙ (let same : w ≡ v = (let f : Some w ≡ Some v = e in cc) in ap (λ x. at_statement part k (n + 0) x) same))
 statement_tested part k n (suc m) (w ∷ vs) v e =
     inr (subst (λ x. In (statement_tests part k (suc n) vs) (at_statement part k x v)) (let z : suc n + m ≡ n + suc m = omega arith in z) (statement_tested part k (suc n) m vs v e))
 

@@ -2,9 +2,8 @@
 use Rattle.std.proofs.Common.{◌≡◌, ◌≢◌, ℕ, zero, suc, ◌+◌, ◌-◌, ◌^◌, ◌<◌, ◌≤◌, min, max, inl, inr, ◌⊎◌, List, [], ◌∷◌, ◌++◌, length, map, take, set, get_or, Option, Some, None, refl, sym, ap, ◌∙◌, subst, arith}
 use Rattle.std.specs.List.{slice_get}
 use Rattle.std.proofs.lemmas.Bool.{cases_eq}
-use Rattle.std.proofs.lemmas.List.{get_or-set_same, get_or-set_other, take_more}
-use Rattle.std.proofs.lemmas.Option.{get_or_from_slice_get}
-use Rattle.std.proofs.Math.Seq.{take-length}
+use Rattle.std.proofs.lemmas.List.{get_or-set_same, get_or-set_other, get_or_default, length-set, take_more, take_all}
+use Rattle.std.proofs.lemmas.Option.{get_or_from_slice_get, slice_get-get_or}
 use Rattle.cx_prim.specs.Rows.{Row}
 use Rattle.cx_prim.specs.Table.{row_of}
 use Rattle.cx_meaning.specs.Designs.{PlainKind, OfPrimitive, OfComponent, PlainCell, PlainComponent, PlainDesign, component_at}
@@ -15,7 +14,7 @@ use Rattle.cx_limits.specs.Capped.{capped}
 use Rattle.cx_limits.specs.declared.tallies.Tally.{Tally}
 use Rattle.cx_limits.specs.Orders.{IsChildrenFirst}
 use Rattle.cx_limits.specs.Tallies.{tally_of, tally_in, no_tally, beside, kind_tally, cells_tally, above}
-use Rattle.cx_limits.proofs.Places.{below_length, in_snoc}
+use Rattle.cx_limits.proofs.Places.{below_length, in_from_place, in_snoc}
 
 tally_eq : (a b : Tally) → a.instances ≡ b.instances → a.depth ≡ b.depth → a.words ≡ b.words → a.weight ≡ b.weight → a ≡ b
 tally_eq a b e f g h = λ i. record { instances = e i; depth = f i; words = g i; weight = h i }
@@ -95,11 +94,33 @@ tally_next d order tallies i k t first at lt known is j m i_done ge = one (cases
     one (inr other) (inl before) = get_or-set_other tallies k j t no_tally (λ e. other (sym e)) ∙ known j m before (omega arith)
     one (inr other) (inr same) = absurd (other same)
 
--- behind the last component the tally of main is that of the tree
-pub tally_whole : (d : PlainDesign) (order : List ℕ) (tallies : List Tally) (i : ℕ) → IsChildrenFirst d order → length order ≤ i → i ≤ length order
-    → AreTallied d i tallies (take i order) → get_or tallies d.main no_tally ≡ tally_of (tree_of d)
-tally_whole d order tallies i first low high known =
-    known d.main (length d.components) (subst (λ xs. In xs d.main) (sym whole) first.main) (let few : length order ≤ length d.components = first.few in omega arith)
+-- as far as the components of an order are gone through
+pub record IsTalliedTo (d : PlainDesign) (order : List ℕ) (i : ℕ) (tallies : List Tally) : Type 0 where
+  pub sized : length tallies ≡ length d.components
+  pub known : AreTallied d i tallies (take i order)
+
+pub tally_begin : (d : PlainDesign) (order : List ℕ) (tallies : List Tally) → length tallies ≡ length d.components → IsTalliedTo d order 0 tallies
+tally_begin d order tallies sized = record { sized = sized; known = λ k m i ge. absurd i }
+
+-- the component of a turn
+pub turn_there : (d : PlainDesign) (order : List ℕ) (i none : ℕ) → IsChildrenFirst d order → i < length order → get_or order i none < length d.components
+turn_there d order i none first lt = first.there (get_or order i none) (in_from_place order i (get_or order i none) (slice_get-get_or order i none lt))
+
+pub tally_turn : (d : PlainDesign) (order : List ℕ) (i none : ℕ) (tallies : List Tally) (part : PlainComponent) (t : Tally) → IsChildrenFirst d order → IsTalliedTo d order i tallies → i < length order
+    → part ≡ component_at d (get_or order i none) → t ≡ above part (cells_tally tallies part.cells) → IsTalliedTo d order (i + 1) (set tallies (get_or order i none) t)
+tally_turn d order i none tallies part t first so_far lt own is = record {
+  sized = length-set tallies (get_or order i none) t ∙ so_far.sized;
+  known = tally_next d order tallies i (get_or order i none) t first (slice_get-get_or order i none lt) within so_far.known (subst (λ p. t ≡ above p (cells_tally tallies p.cells)) own is);
+}
   where
-    whole : take i order ≡ order
-    whole = ap (λ n. take n order) (let e : i ≡ length order = omega arith in e) ∙ take-length order
+    within : get_or order i none < length tallies
+    within = subst (λ n. get_or order i none < n) (sym so_far.sized) (turn_there d order i none first lt)
+
+-- behind the last component the tally of main is that of the tree
+pub tally_end : (d : PlainDesign) (order : List ℕ) (i : ℕ) (tallies : List Tally) (none : Tally) → IsChildrenFirst d order → length order ≤ i → i ≤ length order → IsTalliedTo d order i tallies
+    → d.main < length tallies → get_or tallies d.main none ≡ tally_of (tree_of d)
+tally_end d order i tallies none first past within so_far lt =
+    get_or_default tallies d.main none no_tally lt ∙ so_far.known d.main (length d.components) (subst (λ xs. In xs d.main) (sym (take_all i order past)) first.main) (le_all first.few)
+  where
+    le_all : length order ≤ length d.components → i ≤ length d.components
+    le_all few = omega arith

@@ -30,6 +30,7 @@ abbrev pub context_of : Context → items.Context
 context_of contexts.Dynamic = items.Dynamic
 context_of contexts.InStatic = items.InStatic
 context_of contexts.Branch = items.Branch
+context_of contexts.Amiss = items.Amiss
 
 -- a stands before b in the text
 abbrev pub stands_before : Place → Place → Bool

@@ -1,6 +1,6 @@
 //! The first limit that a design exceeds.
 
-ghost use Rattle.std.specs.Prelude.{◌≡◌, IfOk, OnOk, IfErr, map, None};
+ghost use Rattle.std.specs.Prelude.{◌≡◌, IfOk, OnOk, IfErr, map, None, if◌then◌else◌};
 ghost use Rattle.cx_meaning.specs.Instances.{tree_of};
 ghost use Rattle.cx_rules.specs.Accepted.{KeepsStage};
 ghost use Rattle.cx_design.specs.PlainForms.{plain_component};

@@ -9,7 +9,7 @@ ghost use Rattle.cx_rules.specs.Sizes as sizes;
 ghost use Rattle.cx_limits.specs.Capped.{capped};
 ghost use Rattle.cx_limits.specs.Scan.{context_of, occurrences_at, statements_size};
 
-use crate::context::Context;
+use crate::context::{Context, below_dynamic};
 use crate::islands::{form_occurrences, is_island_form};
 use cx_design::{Assign, Component, Form, Group, Guard, Statement};
 
@@ -77,35 +77,35 @@ fn island_occurrences(part: &Component, context: Context, statement: &Statement)
 
 /// A statement with all in it, and the occurrences of islands.
 #[cycle(statement)]
-#[tactic(auto, using(crate::proofs::ScanLemmas::statements_size_append))]
 fn statement_size(part: &Component, context: Context, statement: &Statement) -> u64
     ensures { result ≡ capped (statements_size (plain_component part.now) (visit (context_of context) (plain_statement statement.now))) }
 {
-    parts_size(part, &statement.form)
+    parts_size(part, context, &statement.form)
         .saturating_add(island_occurrences(part, context, statement))
         .saturating_add(1)
 }
 
-/// What is in a form, and the occurrences of islands.
+/// What is in a form that stands so, and the occurrences of islands.
 #[cycle(statement)]
-#[tactic(auto, using(crate::proofs::ScanLemmas::statements_size_append))]
-fn parts_size(part: &Component, form: &Form) -> u64
-    ensures { result ≡ capped (statements_size (plain_component part.now) (visit_parts (plain_form form.now))) }
+fn parts_size(part: &Component, context: Context, form: &Form) -> u64
+    ensures { result ≡ capped (statements_size (plain_component part.now) (visit_parts (context_of context) (plain_form form.now))) }
 {
     match form {
         Form::Empty | Form::Enable(_) | Form::Timed(_) => 0,
-        Form::Seq(parts) | Form::Par(parts) => all_size(part, Context::Dynamic, parts),
+        Form::Seq(parts) | Form::Par(parts) => all_size(part, below_dynamic(context), parts),
         Form::StaticSeq { parts, .. } | Form::StaticPar { parts, .. } => {
             all_size(part, Context::InStatic, parts)
         }
-        Form::If { yes, no, .. } => statement_size(part, Context::Dynamic, yes).saturating_add(
-            statement_size(part, Context::Dynamic, no),
-        ),
-        Form::StaticIf { yes, no, .. } => statement_size(part, Context::Branch, yes).saturating_add(
-            statement_size(part, Context::Branch, no),
-        ),
+        Form::If { yes, no, .. } => {
+            let one = statement_size(part, below_dynamic(context), yes);
+            one.saturating_add(statement_size(part, below_dynamic(context), no))
+        }
+        Form::StaticIf { yes, no, .. } => {
+            let one = statement_size(part, Context::Branch, yes);
+            one.saturating_add(statement_size(part, Context::Branch, no))
+        }
         Form::While { body, .. } | Form::Repeat { body, .. } => {
-            statement_size(part, Context::Dynamic, body)
+            statement_size(part, below_dynamic(context), body)
         }
         Form::StaticRepeat { body, .. } => statement_size(part, Context::InStatic, body),
     }
@@ -113,7 +113,6 @@ fn parts_size(part: &Component, form: &Form) -> u64
 
 /// Statements with all in them, and the occurrences of islands.
 #[cycle(statement)]
-#[tactic(auto, using(crate::proofs::ScanLemmas::statements_size_append))]
 fn all_size(part: &Component, context: Context, statements: &[Statement]) -> u64
     ensures { result ≡ capped (statements_size (plain_component part.now) (visit_all (context_of context) (plain_statements statements.now))) }
 {

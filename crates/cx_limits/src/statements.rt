@@ -7,7 +7,7 @@ ghost use Rattle.cx_rules.specs.Items.{visit, visit_parts, visit_all, statements
 ghost use Rattle.cx_rules.specs.LimitRule as rule;
 ghost use Rattle.cx_limits.specs.Scan.{context_of, told, past_statements};
 
-use crate::context::Context;
+use crate::context::{Context, below_dynamic};
 use crate::found::{Found, Limited, noted};
 use crate::islands::{form_length, form_occurrences, is_island_form};
 use cx_design::{Component, Form, Statement};
@@ -62,7 +62,6 @@ fn statement_limit(part: &Component, context: Context, statement: &Statement) ->
 
 /// The first so far, past a statement with all in it.
 #[cycle(statement)]
-#[tactic(auto, using(crate::proofs::ScanLemmas::past_statements_append))]
 fn past(
     part: &Component,
     best: Option<Found>,
@@ -72,31 +71,37 @@ fn past(
     ensures { result ≡ past_statements (plain_component part.now) best (visit (context_of context) (plain_statement statement.now)) }
 {
     let limited = statement_limit(part, context, statement);
-    past_parts(part, noted(best, statement.place, limited), &statement.form)
+    past_parts(
+        part,
+        noted(best, statement.place, limited),
+        context,
+        &statement.form,
+    )
 }
 
-/// The first so far, past what is in a form.
+/// The first so far, past what is in a form that stands so.
 #[cycle(statement)]
-#[tactic(auto, using(crate::proofs::ScanLemmas::past_statements_append))]
-fn past_parts(part: &Component, best: Option<Found>, form: &Form) -> Option<Found>
-    ensures { result ≡ past_statements (plain_component part.now) best (visit_parts (plain_form form.now)) }
+fn past_parts(part: &Component, best: Option<Found>, context: Context, form: &Form) -> Option<Found>
+    ensures { result ≡ past_statements (plain_component part.now) best (visit_parts (context_of context) (plain_form form.now)) }
 {
     match form {
         Form::Empty | Form::Enable(_) | Form::Timed(_) => best,
-        Form::Seq(parts) | Form::Par(parts) => past_all(part, best, Context::Dynamic, parts),
+        Form::Seq(parts) | Form::Par(parts) => {
+            past_all(part, best, below_dynamic(context), parts)
+        }
         Form::StaticSeq { parts, .. } | Form::StaticPar { parts, .. } => {
             past_all(part, best, Context::InStatic, parts)
         }
         Form::If { yes, no, .. } => {
-            let best = past(part, best, Context::Dynamic, yes);
-            past(part, best, Context::Dynamic, no)
+            let best = past(part, best, below_dynamic(context), yes);
+            past(part, best, below_dynamic(context), no)
         }
         Form::StaticIf { yes, no, .. } => {
             let best = past(part, best, Context::Branch, yes);
             past(part, best, Context::Branch, no)
         }
         Form::While { body, .. } | Form::Repeat { body, .. } => {
-            past(part, best, Context::Dynamic, body)
+            past(part, best, below_dynamic(context), body)
         }
         Form::StaticRepeat { body, .. } => past(part, best, Context::InStatic, body),
     }
@@ -104,7 +109,6 @@ fn past_parts(part: &Component, best: Option<Found>, form: &Form) -> Option<Foun
 
 /// The first so far, past statements with all in them.
 #[cycle(statement)]
-#[tactic(auto, using(crate::proofs::ScanLemmas::past_statements_append))]
 fn past_all(
     part: &Component,
     best: Option<Found>,

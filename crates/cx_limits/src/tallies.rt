@@ -91,9 +91,10 @@ pub fn tree_tally(alloc: Global, design: &Design) -> Result<Tally, Memory>
     ensures { IfOk result (λ tally. tally ≡ counts.tally_of (tree_of (plain_design design.now))) }
 {
     let components = design.components.as_slice();
-    let order = children_first(alloc, design)?;
+    let placed = children_first(alloc, design)?;
+    let order = placed.as_slice();
     let mut tallies = vec![in alloc; NO_TALLY; components.len()]?;
-    for component in &order {
+    for component in order {
         let number = *component as usize;
         tallies[number] = component_tally(&tallies, &components[number]);
     }
