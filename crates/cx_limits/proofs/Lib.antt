@@ -8,3 +8,4 @@ pub mod OrderLemmas
 pub mod TallyLemmas
 pub mod FirstLimit
 pub mod LimitBreaks
+pub mod FirstTold

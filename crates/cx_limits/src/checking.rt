@@ -93,8 +93,9 @@ pub fn limits(alloc: Global, design: &Design) -> Result<(), Refusal>
     ensures ok { OnOk result (KeepsStage 7 (plain_design design.now)) }
     ensures rule { IfErr result (IsFirstBreak 7 (plain_design design.now)) }
 {
-    match first_limit(alloc, design)? {
-        None => Ok(()),
-        Some(found) => Err(told(alloc, found)),
+    match first_limit(alloc, design) {
+        Ok(None) => Ok(()),
+        Ok(Some(found)) => Err(told(alloc, found)),
+        Err(Memory) => Err(Refusal::Memory),
     }
 }
