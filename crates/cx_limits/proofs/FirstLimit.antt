@@ -1,19 +1,18 @@
 -- The first limit that a scan finds is the first break.
-use Rattle.std.proofs.Common.{◌≡◌, ℕ, zero, suc, ◌+◌, ◌<◌, ◌≤◌, nat_eq, nat_lt, Bool, true, false, ◌||◌, ◌&&◌, inl, inr, ◌⊎◌, List, [], ◌∷◌, ◌++◌, length, Option, Some, None, option_map, refl, sym, ap, ◌∙◌, subst, arith, if◌then◌else◌}
+use Rattle.std.proofs.Common.{◌≡◌, ℕ, ◌<◌, nat_eq, nat_lt, Bool, true, false, ◌||◌, ◌&&◌, inl, inr, ◌⊎◌, List, [], ◌∷◌, ◌++◌, Option, Some, None, refl, sym, ap, ◌∙◌, subst, arith, if◌then◌else◌}
 use Rattle.std.proofs.Common.{append_assoc}
 use Rattle.std.proofs.lemmas.Bool.{ltb-true, lt-ltb, eq-eqb, eqb-true}
 use Rattle.std.proofs.lemmas.List.{append-nil}
 use Rattle.cx_text.specs.declared.places.Place.{Place}
-use Rattle.cx_text.specs.declared.rules.Rule.{Rule}
 use Rattle.cx_text.specs.declared.rules.Rule.TheVariants as told_rules
 use Rattle.cx_meaning.specs.Sights.{In}
 use Rattle.cx_rules.proofs.Finite.{in_left, in_right}
 use Rattle.cx_breaks.proofs.KeyOrder.{before_irreflexive, before_cases, before_less, before_equal, before_transitive, not_true}
 use Rattle.cx_rules.specs.Accepted.{part_key, key_of, comes_before}
-use Rattle.cx_rules.specs.Spots.{Part, AnAssign, AStatement, AGroup, Whole, Spot}
+use Rattle.cx_rules.specs.Spots.{Spot}
 use Rattle.cx_limits.specs.declared.found.Limited.{Limited}
 use Rattle.cx_limits.specs.declared.found.Found.{Found}
-use Rattle.cx_limits.specs.Scan.{stands_before, nearer, noted}
+use Rattle.cx_limits.specs.Scan.{stands_before, noted}
 use Rattle.cx_limits.proofs.Places.{in_snoc, none_is_some}
 
 -- a thing that is looked at: its spot, its place, and the limit that it exceeds, if it exceeds one

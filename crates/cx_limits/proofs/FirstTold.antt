@@ -1,5 +1,5 @@
 -- What is told of the limit that a scan has found.
-use Rattle.std.proofs.Common.{◌≡◌, ℕ, ◌<◌, length, Some, None}
+use Rattle.std.proofs.Common.{◌≡◌, ◌<◌, length, Some, None}
 use Rattle.cx_meaning.specs.Designs.{PlainDesign}
 use Rattle.cx_meaning.specs.Instances.{tree_of}
 use Rattle.cx_design.specs.declared.refusals.Refusal.{Refusal}

@@ -1,5 +1,5 @@
 -- What a scan looks at, and the breaks of the limits, are the same.
-use Rattle.std.proofs.Common.{◌≡◌, ℕ, zero, suc, ◌+◌, ◌-◌, ◌^◌, ◌<◌, ◌≤◌, nat_eq, nat_lt, min, Bool, true, false, inl, inr, ◌⊎◌, List, [], ◌∷◌, ◌++◌, length, get_or, Option, Some, None, option_map, refl, sym, ap, ◌∙◌, subst, arith, if◌then◌else◌}
+use Rattle.std.proofs.Common.{◌≡◌, ℕ, zero, suc, ◌+◌, ◌-◌, ◌^◌, ◌<◌, ◌≤◌, nat_eq, nat_lt, Bool, true, false, inl, inr, ◌⊎◌, List, [], ◌∷◌, ◌++◌, length, Option, Some, None, option_map, refl, sym, ap, ◌∙◌, subst, arith, if◌then◌else◌}
 use Rattle.std.specs.List.{slice_get}
 use Rattle.std.proofs.lemmas.Bool.{ltb-true, lt-ltb, eq-eqb, eqb-true}
 use Rattle.std.proofs.lemmas.Option.{get_or_from_slice_get, slice_get-get_or}
@@ -18,7 +18,7 @@ use Rattle.cx_rules.specs.LimitRule as rule
 use Rattle.cx_rules.specs.LimitRule.{OnCells, OnGroups, OnRepeat, OnOccurrences, OnLatency, OnInstances, OnDepth, OnWords, OnWeight, order_of, word_of, statement_limit, BreaksStatement, BreaksPart, BreaksTree}
 use Rattle.cx_rules.specs.Ports.{component_of}
 use Rattle.cx_rules.specs.Sizes.{weight_of, instances_below, depth_below, words_below}
-use Rattle.cx_rules.specs.Spots.{Part, AStatement, Whole, Spot, OnStatement, Tells}
+use Rattle.cx_rules.specs.Spots.{Part, AStatement, Whole, Spot, OnStatement}
 use Rattle.cx_limits.specs.Capped.{capped}
 use Rattle.cx_limits.specs.declared.found.Limited.{Limited}
 use Rattle.cx_limits.specs.declared.found.Limited.TheVariants as limited
@@ -26,9 +26,9 @@ use Rattle.cx_limits.specs.declared.found.Found.{Found}
 use Rattle.cx_limits.specs.declared.tallies.Tally.{Tally}
 use Rattle.cx_limits.specs.Scan.{told, limited_of, noted, past_statements, if_over, past_part, past_tree, past_parts}
 use Rattle.cx_limits.specs.Tallies.{tally_of}
-use Rattle.cx_limits.proofs.Places.{none_is_some, below_length, in_from_place, place_of_in, in_split}
+use Rattle.cx_limits.proofs.Places.{none_is_some, below_length, in_split}
 use Rattle.cx_breaks.proofs.KeyOrder.{before_cases, not_true}
-use Rattle.cx_limits.proofs.FirstLimit.{Test, spot_key, past_tests, IsAscending, limit_key, IsBestAt, IsBest, best_of}
+use Rattle.cx_limits.proofs.FirstLimit.{Test, spot_key, past_tests, IsAscending, limit_key, IsBest, best_of}
 
 -- THE TESTS, in the order in which a scan makes them
 abbrev at_statement : PlainComponent → ℕ → ℕ → Visited → Test

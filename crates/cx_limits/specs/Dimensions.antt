@@ -1,5 +1,5 @@
 -- The dimensions of memories, and their words by their numbers.
-use Rattle.std.specs.Prelude.{ℕ, suc, ◌<◌, nat_lt, nat_le, ◌&&◌, List, [], ◌∷◌, take, length, if◌then◌else◌}
+use Rattle.std.specs.Prelude.{ℕ, nat_lt, nat_le, ◌&&◌, List, [], ◌∷◌, take, length, if◌then◌else◌}
 use Rattle.cx_text.specs.Loading.{word_count}
 use Rattle.cx_prim.specs.declared.names.PrimitiveName.{PrimitiveName}
 use Rattle.cx_prim.specs.declared.names.PrimitiveName.TheVariants.{StdMemD1, StdMemD2, StdMemD3, StdMemD4, CombMemD1, CombMemD2, CombMemD3, CombMemD4, SeqMemD1, SeqMemD2, SeqMemD3, SeqMemD4}

@@ -1,5 +1,5 @@
 -- Counts over the tree of a component.
-use Rattle.std.specs.Prelude.{ℕ, ◌+◌, max, List, [], ◌∷◌, get_or}
+use Rattle.std.specs.Prelude.{◌+◌, max, List, [], ◌∷◌, get_or}
 use Rattle.cx_prim.specs.Table.{row_of}
 use Rattle.cx_meaning.specs.Designs.{PlainKind, OfPrimitive, OfComponent, PlainCell, PlainComponent}
 use Rattle.cx_meaning.specs.Instances.{Instance, Cells}

@@ -1,4 +1,4 @@
-use Rattle.std.proofs.Common.{◌≡◌, None, map, refl, sym, ap, ◌∙◌}
+use Rattle.std.proofs.Common.{None, map, sym, ap, ◌∙◌}
 use Rattle.std.proofs.Math.ListN.{drop_of_length-le}
 use Rattle.cx_design.specs.PlainForms.{plain_component}
 use Rattle.cx_meaning.specs.Instances.{tree_of}

@@ -1,7 +1,7 @@
-use Rattle.std.proofs.Common.{◌≡◌, ◌-◌, take, ◌<◌, ◌∷◌, ◌++◌, [], List, false, length, map, replicate, refl, sym, ap, ◌∙◌, subst}
+use Rattle.std.proofs.Common.{◌≡◌, ◌-◌, take, ◌<◌, ◌++◌, [], false, length, map, replicate, sym, ap, ◌∙◌, subst}
 use Rattle.std.proofs.lemmas.List.{length-map, length-replicate}
 use Rattle.cx_meaning.specs.Designs.{component_at}
-use Rattle.cx_design.proofs.DesignFacts.{main_there, component_is}
+use Rattle.cx_design.proofs.DesignFacts.{main_there}
 use Rattle.cx_design.specs.PlainForms.{plain_cell, plain_component}
 use Rattle.cx_design.specs.PlainDesigns.{plain_design}
 use Rattle.cx_limits.proofs.OrderLemmas.{IsOnWay, IsUnderWay}

@@ -1,4 +1,4 @@
-use Rattle.std.proofs.Common.{◌+◌, ◌-◌, ◌*◌, length}
+use Rattle.std.proofs.Common.{◌-◌, ◌*◌, length}
 use Rattle.cx_design.specs.PlainDesigns.{plain_design}
 use Rattle.cx_limits.proofs.OrderLemmas.{IsUnderWay}
 use Rattle.cx_limits.proofs.order.children_first.Given as goal

@@ -1,5 +1,4 @@
-use Rattle.std.proofs.Common.{◌≡◌, ◌<◌, ◌≤◌, Some, None, length, map, sym, ap, ◌∙◌, arith}
-use Rattle.std.specs.List.{slice_get}
+use Rattle.std.proofs.Common.{map, sym, ◌∙◌, arith}
 use Rattle.cx_design.specs.PlainForms.{plain_cell}
 use Rattle.cx_limits.proofs.StepLemmas.{placed_more, cell_at}
 use Rattle.cx_limits.proofs.order.next_unplaced.Goals as goal

@@ -1,4 +1,4 @@
-use Rattle.std.proofs.Common.{◌≡◌, sym, ap, ◌∙◌, subst}
+use Rattle.std.proofs.Common.{◌≡◌, ap, ◌∙◌, subst}
 use Rattle.cx_prim.specs.PrimitiveNames.{IsNamed, name_text}
 use Rattle.cx_limits.specs.Dimensions.{dimensions_of, memory_words}
 use Rattle.cx_limits.proofs.WordLemmas.{found_words}
