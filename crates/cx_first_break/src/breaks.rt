@@ -15,16 +15,16 @@ use std::marker::Model;
 /// pre-order, a group; or the component, with the number of a word of the rule.
 #[derive(Clone, Copy, Debug, PartialEq, Eq)]
 pub enum Part {
-    Assign(u32),
-    Statement(u32),
-    Group(u32),
-    Whole(u32),
+    Assign(usize),
+    Statement(usize),
+    Group(usize),
+    Whole(usize),
 }
 
 /// A part of a component of a design, both by their numbers.
 #[derive(Clone, Copy, Debug, PartialEq, Eq)]
 pub struct Spot {
-    pub component: u32,
+    pub component: usize,
     pub part: Part,
 }
 

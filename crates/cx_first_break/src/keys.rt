@@ -8,34 +8,34 @@ use crate::breaks::{Part, Spot};
 use cx_text::{Place, Rule};
 
 /// The numbers by which breaks are in order: line, column, rule, component, and the part.
-pub fn key_of(rule: Rule, spot: Spot, place: Place) -> [u32; 6]
+pub fn key_of(rule: Rule, spot: Spot, place: Place) -> [u64; 6]
     ensures value { result ≡ key_of rule (plain_spot spot) place }
 {
     let [kind, number] = part_key(spot.part);
     [
-        place.line,
-        place.column,
+        place.line as u64,
+        place.column as u64,
         number_of(rule),
-        spot.component,
+        spot.component as u64,
         kind,
         number,
     ]
 }
 
 /// The kind of a part, and its number.
-fn part_key(part: Part) -> [u32; 2]
+fn part_key(part: Part) -> [u64; 2]
     ensures value { result ≡ part_key (plain_part part) }
 {
     match part {
-        Part::Assign(number) => [0, number],
-        Part::Statement(number) => [1, number],
-        Part::Group(number) => [2, number],
-        Part::Whole(word) => [3, word],
+        Part::Assign(number) => [0, number as u64],
+        Part::Statement(number) => [1, number as u64],
+        Part::Group(number) => [2, number as u64],
+        Part::Whole(word) => [3, word as u64],
     }
 }
 
 /// The number of a rule, from 1.
-fn number_of(rule: Rule) -> u32
+fn number_of(rule: Rule) -> u64
     ensures value { result ≡ number_of rule }
 {
     match rule {

@@ -12,6 +12,7 @@ use std::alloc::Global;
 
 /// Appends a text that is read as an equal tree apart from places: two spaces of indentation, one statement a line,
 /// parentheses only where they are needed.
+#[tactic(auto, using(crate::proofs::PrintLemmas::tree_appended))]
 pub fn print(alloc: Global, tree: &Tree, out: &mut Vec<u8>) -> Result<(), Memory>
     requires { IsPrintable (plain_tree tree.now) }
     ensures ok { OnOk result (AppendsTree (plain_tree tree.now) out.old.items out.new.items) }

@@ -1,4 +1,4 @@
 pub mod Overs
-pub mod Literals
+pub mod Tests
 pub mod Memories
 pub mod ModuleSteps

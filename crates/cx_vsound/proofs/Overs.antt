@@ -60,8 +60,7 @@ signature_pieces is_main before own m s s1 s2 s3 s4 d1 d2 names ps ds e1 e2 e3 e
     ∙ ap (λ x. over x (ports_faults is_main (drivers_in before m) [] 0 m.ports)) e1))
     ∙ sym (over_append s (module_faults is_main before own m ∷ ports_faults is_main (drivers_in before m) [] 0 m.ports) (no_faults ∷ decls_faults (drivers_in before m) (map (λ p. p.name) m.ports) m.decls))
 
--- past the other lines
-pub body_pieces : (before : List PlainModule) (m : PlainModule) (s s1 s2 s3 s4 : Search) (assigns : List PlainAssign) (instances : List PlainInstance) (e : Option PlainEdge) (names driven : List (List ℕ))
+body_pieces : (before : List PlainModule) (m : PlainModule) (s s1 s2 s3 s4 : Search) (assigns : List PlainAssign) (instances : List PlainInstance) (e : Option PlainEdge) (names driven : List (List ℕ))
     → s1 ≡ over s (assigns_faults (meant_in m.ports m.decls) [] assigns) → s2 ≡ over s1 (instances_faults before (meant_in m.ports m.decls) names driven instances)
     → s3 ≡ over s2 (edge_faults (meant_in m.ports m.decls) e) → s4 ≡ noted s3 no_faults
     → assigns ≡ m.assigns → instances ≡ m.instances → e ≡ m.edge → names ≡ map (λ p. p.name) m.ports ++ map decl_name m.decls → driven ≡ map (λ a. a.name) m.assigns
@@ -77,3 +76,14 @@ body_pieces before m s s1 s2 s3 s4 assigns instances e names driven e1 e2 e3 e4 
     ∙ ap (λ x. over s1 (instances_faults before scope (map (λ p. p.name) m.ports ++ map decl_name m.decls) (map (λ a. a.name) m.assigns) x)) f2
     ∙ ap (λ x. over x i) (e1 ∙ ap (λ x. over s (assigns_faults scope [] x)) f1)))
     ∙ sym (over_append s ((a ++ i) ++ g) (no_faults ∷ []) ∙ ap (λ x. noted x no_faults) (over_append s (a ++ i) g ∙ ap (λ x. over x g) (over_append s a i)))
+
+-- past the other lines, by a scope that is the module's
+pub body_pieces_by : (scope : Scope) (before : List PlainModule) (m : PlainModule) (s s1 s2 s3 s4 : Search) (assigns : List PlainAssign) (instances : List PlainInstance) (e : Option PlainEdge) (names driven : List (List ℕ))
+    → scope ≡ meant_in m.ports m.decls → s1 ≡ over s (assigns_faults scope [] assigns) → s2 ≡ over s1 (instances_faults before scope names driven instances)
+    → s3 ≡ over s2 (edge_faults scope e) → s4 ≡ noted s3 no_faults
+    → assigns ≡ m.assigns → instances ≡ m.instances → e ≡ m.edge → names ≡ map (λ p. p.name) m.ports ++ map decl_name m.decls → driven ≡ map (λ a. a.name) m.assigns
+    → s4 ≡ over s (body_faults before m)
+body_pieces_by scope before m s s1 s2 s3 s4 assigns instances e names driven q e1 e2 e3 e4 f1 f2 f3 f4 f5 =
+    body_pieces before m s s1 s2 s3 s4 assigns instances e names driven
+    (e1 ∙ ap (λ x. over s (assigns_faults x [] assigns)) q) (e2 ∙ ap (λ x. over s1 (instances_faults before x names driven instances)) q)
+    (e3 ∙ ap (λ x. over s2 (edge_faults x e)) q) e4 f1 f2 f3 f4 f5

@@ -6,10 +6,6 @@ use Rattle.cx_vtree.specs.Plain.{PlainInstance, PlainModule}
 use Rattle.cx_vtree.specs.Sound.{Scope, meant_in, Counts, Faults, no_faults, has_name, module_named, misconnects, misfits, ports_of, drivers_in, decl_name, module_faults, ports_faults, decls_faults, assigns_faults, instances_faults, edge_faults}
 use Rattle.cx_vsound.specs.declared.counts.Sums.{Sums}
 
--- what each name stands for in a module
-abbrev pub scope_of : Module → Scope
-scope_of m = meant_in (map plain_port m.ports.items) (map plain_decl m.decls.items)
-
 abbrev pub counts_in : Sums → Counts
 counts_in c = record { nets = c.nets; instances = c.instances; words = c.words }
 

@@ -5,8 +5,8 @@ ghost use Rattle.cx_vtree.specs.PlainParts.{plain_decl, plain_instance, plain_mo
 ghost use Rattle.cx_vtree.specs.Sound as sound;
 ghost use Rattle.cx_vsound.specs.Parts.{counts_in};
 
-use crate::meanings::same;
 use cx_text::{MEMORY_WORDS, Name, VERILOG_INSTANCES, VERILOG_NETS};
+use cx_vscope::same;
 use cx_vtree::{Decl, Instance, Module};
 
 /// Counts over a tree of instances. They stop at 2^64 - 1.

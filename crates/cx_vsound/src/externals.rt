@@ -8,10 +8,10 @@ ghost use Rattle.cx_vtree.specs.Sound as sound;
 ghost use Rattle.cx_vsound.specs.Arrays.{arrays_among, one_more, other_length, other_width};
 ghost use Rattle.cx_vsound.specs.Search.{faults_in, over};
 
-use crate::meanings::same;
-use crate::nets::{has_name, module_named};
+use crate::nets::module_named;
 use crate::search::{LineFaults, Search, after};
 use cx_text::{DATA_WORD_BITS, Memory, Name};
+use cx_vscope::{Names, same};
 use cx_vtree::{Decl, External, Instance, Module};
 use std::alloc::Global;
 
@@ -128,19 +128,14 @@ fn is_other_width(arrays: Arrays, width: u8) -> bool
 }
 
 #[tactic(auto, using(crate::proofs::Memories::other_length_is, crate::proofs::Memories::other_width_is))]
-fn external_faults(
-    modules: &[Module],
-    names: &[&Name],
-    instances: &[&Name],
-    e: &External,
-) -> LineFaults
-    ensures { faults_in result ≡ sound.external_faults (plain_modules modules.now) (map (λ n. n.now) names.now) (map (λ n. n.now) instances.now) (plain_external e.now) }
+fn external_faults(modules: &[Module], names: &Names, instances: &Names, e: &External) -> LineFaults
+    ensures { faults_in result ≡ sound.external_faults (plain_modules modules.now) names.now instances.now (plain_external e.now) }
 {
     let arrays = memory_arrays(modules, e);
     let other_length = is_other_length(arrays, &e.sizes);
     let other_width = is_other_width(arrays, e.width);
     LineFaults {
-        name: has_name(names, &e.name) || has_name(instances, &e.instance) || other_length,
+        name: names.has(&e.name) || instances.has(&e.instance) || other_length,
         width: e.width > DATA_WORD_BITS || other_width,
         limit: false,
     }
@@ -156,8 +151,8 @@ pub fn externals(
     ensures { IfOk result (λ s. s ≡ over search (sound.externals_faults (plain_modules modules.now) [] [] (plain_externals externals.now))) }
 {
     let mut search = search;
-    let mut names = Vec::new(alloc);
-    let mut instances = Vec::new(alloc);
+    let mut names = Names::new(alloc);
+    let mut instances = Names::new(alloc);
     for e in externals {
         search = after(search, external_faults(modules, &names, &instances, e));
         names.push(&e.name)?;

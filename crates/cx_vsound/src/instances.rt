@@ -3,20 +3,21 @@
 ghost use Rattle.std.specs.Prelude.{◌≡◌, [], ◌∷◌, ◌++◌, map, IfOk, OnOk};
 ghost use Rattle.cx_vtree.specs.PlainParts.{plain_port, plain_conn, plain_instance, plain_modules};
 ghost use Rattle.cx_vtree.specs.Sound as sound;
-ghost use Rattle.cx_vsound.specs.Parts.{scope_of, instance_faults_by};
+ghost use Rattle.cx_vscope.specs.ScopeValues.{scope_by};
+ghost use Rattle.cx_vsound.specs.Parts.{instance_faults_by};
 ghost use Rattle.cx_vsound.specs.Search.{faults_in, noted, over};
 
-use crate::meanings::{is_source, is_wire, meaning, same, width_of};
-use crate::nets::{add_driven, has_name, module_named, ports_of};
+use crate::nets::{add_driven, module_named, ports_of};
 use crate::search::{LineFaults, Search, after};
-use cx_text::{Memory, Name};
+use cx_text::Memory;
+use cx_vscope::{Names, Scope, is_source, is_wire, same, width_of};
 use cx_vtree::{Conn, Instance, Module, ModulePort};
 
 /// Whether a port is connected to a net that it may not be connected to, or another port stands in its place.
-fn miswired(m: &Module, p: &ModulePort, c: &Conn) -> bool
-    ensures { result ≡ sound.miswired (scope_of m.now) (plain_port p.now) (plain_conn c.now) }
+fn miswired(scope: &Scope, p: &ModulePort, c: &Conn) -> bool
+    ensures { result ≡ sound.miswired (scope_by scope.now) (plain_port p.now) (plain_conn c.now) }
 {
-    let net = meaning(m, &c.net);
+    let net = scope.meaning(&c.net);
     let fixed = p.name.bytes() == b"clk".as_slice() || p.name.bytes() == b"reset".as_slice();
     !same(&p.name, &c.port)
         || (if p.output {
@@ -28,8 +29,8 @@ fn miswired(m: &Module, p: &ModulePort, c: &Conn) -> bool
 }
 
 /// Whether an instance does not connect all ports of its module in their order, as it may.
-fn misconnects(m: &Module, ports: &[ModulePort], conns: &[Conn]) -> bool
-    ensures { result ≡ sound.misconnects (scope_of m.now) (map plain_port ports.now) (map plain_conn conns.now) }
+fn misconnects(scope: &Scope, ports: &[ModulePort], conns: &[Conn]) -> bool
+    ensures { result ≡ sound.misconnects (scope_by scope.now) (map plain_port ports.now) (map plain_conn conns.now) }
 {
     let mut ports = ports;
     let mut conns = conns;
@@ -37,7 +38,7 @@ fn misconnects(m: &Module, ports: &[ModulePort], conns: &[Conn]) -> bool
         let Some((c, more_conns)) = conns.split_first() else {
             return true;
         };
-        if miswired(m, p, c) {
+        if miswired(scope, p, c) {
             return true;
         }
         ports = more_ports;
@@ -47,8 +48,8 @@ fn misconnects(m: &Module, ports: &[ModulePort], conns: &[Conn]) -> bool
 }
 
 /// Whether a port is connected to a net of another width.
-fn misfits(m: &Module, ports: &[ModulePort], conns: &[Conn]) -> bool
-    ensures { result ≡ sound.misfits (scope_of m.now) (map plain_port ports.now) (map plain_conn conns.now) }
+fn misfits(scope: &Scope, ports: &[ModulePort], conns: &[Conn]) -> bool
+    ensures { result ≡ sound.misfits (scope_by scope.now) (map plain_port ports.now) (map plain_conn conns.now) }
 {
     let mut ports = ports;
     let mut conns = conns;
@@ -56,7 +57,7 @@ fn misfits(m: &Module, ports: &[ModulePort], conns: &[Conn]) -> bool
         let Some((c, more_conns)) = conns.split_first() else {
             return false;
         };
-        if p.width != width_of(meaning(m, &c.net)) {
+        if p.width != width_of(scope.meaning(&c.net)) {
             return true;
         }
         ports = more_ports;
@@ -67,20 +68,20 @@ fn misfits(m: &Module, ports: &[ModulePort], conns: &[Conn]) -> bool
 
 fn instance_faults(
     before: &[Module],
-    m: &Module,
-    earlier: &[&Name],
+    scope: &Scope,
+    earlier: &Names,
     doubled: bool,
     i: &Instance,
 ) -> LineFaults
-    ensures { faults_in result ≡ instance_faults_by doubled (plain_modules before.now) (scope_of m.now) (map (λ n. n.now) earlier.now) (plain_instance i.now) }
+    ensures { faults_in result ≡ instance_faults_by doubled (plain_modules before.now) (scope_by scope.now) earlier.now (plain_instance i.now) }
 {
     let ports = ports_of(before, &i.module);
     LineFaults {
-        name: has_name(earlier, &i.name)
+        name: earlier.has(&i.name)
             || module_named(before, &i.module).is_none()
-            || misconnects(m, ports, &i.conns)
+            || misconnects(scope, ports, &i.conns)
             || doubled,
-        width: misfits(m, ports, &i.conns),
+        width: misfits(scope, ports, &i.conns),
         limit: false,
     }
 }
@@ -89,17 +90,17 @@ fn instance_faults(
 fn instance<'a>(
     search: Search,
     before: &[Module],
-    m: &Module,
-    earlier: &mut Vec<&'a Name>,
-    driven: &mut Vec<&'a Name>,
+    scope: &Scope,
+    earlier: &mut Names<'a>,
+    driven: &mut Names<'a>,
     i: &'a Instance,
 ) -> Result<Search, Memory>
-    ensures value { IfOk result (λ s. s ≡ noted search (sound.instance_faults (plain_modules before.now) (scope_of m.now) (map (λ n. n.now) earlier.old.items) (map (λ n. n.now) driven.old.items) (plain_instance i.now))) }
-    ensures names { OnOk result (map (λ n. n.now) earlier.new.items ≡ map (λ n. n.now) earlier.old.items ++ i.now.name ∷ []) }
-    ensures driven { OnOk result (map (λ n. n.now) driven.new.items ≡ map (λ n. n.now) driven.old.items ++ sound.driven_by (sound.ports_of (plain_modules before.now) i.now.module) (map plain_conn i.now.conns.items)) }
+    ensures value { IfOk result (λ s. s ≡ noted search (sound.instance_faults (plain_modules before.now) (scope_by scope.now) earlier.old driven.old (plain_instance i.now))) }
+    ensures names { OnOk result (earlier.new ≡ earlier.old ++ i.now.name ∷ []) }
+    ensures driven { OnOk result (driven.new ≡ driven.old ++ sound.driven_by (sound.ports_of (plain_modules before.now) i.now.module) (map plain_conn i.now.conns.items)) }
 {
     let doubled = add_driven(driven, ports_of(before, &i.module), &i.conns)?;
-    let search = after(search, instance_faults(before, m, earlier, doubled, i));
+    let search = after(search, instance_faults(before, scope, earlier, doubled, i));
     earlier.push(&i.name)?;
     Ok(search)
 }
@@ -108,16 +109,16 @@ fn instance<'a>(
 pub fn instances<'a>(
     search: Search,
     before: &[Module],
-    m: &Module,
-    earlier: &mut Vec<&'a Name>,
-    driven: &mut Vec<&'a Name>,
+    scope: &Scope,
+    earlier: &mut Names<'a>,
+    driven: &mut Names<'a>,
     instances: &'a [Instance],
 ) -> Result<Search, Memory>
-    ensures { IfOk result (λ s. s ≡ over search (sound.instances_faults (plain_modules before.now) (scope_of m.now) (map (λ n. n.now) earlier.old.items) (map (λ n. n.now) driven.old.items) (map plain_instance instances.now))) }
+    ensures { IfOk result (λ s. s ≡ over search (sound.instances_faults (plain_modules before.now) (scope_by scope.now) earlier.old driven.old (map plain_instance instances.now))) }
 {
     let mut search = search;
     for i in instances {
-        search = instance(search, before, m, earlier, driven, i)?;
+        search = instance(search, before, scope, earlier, driven, i)?;
     }
     Ok(search)
 }

@@ -9,11 +9,11 @@ ghost use Rattle.cx_vsound.specs.Search.{faults_in, over};
 use crate::counts::{Sums, module_counts, too_large};
 use crate::edges::edge;
 use crate::instances::instances;
-use crate::meanings::same;
 use crate::nets::drivers;
 use crate::parts::{assigns, decls, ports};
 use crate::search::{LineFaults, Search, after, clean};
 use cx_text::{Memory, Name};
+use cx_vscope::{Names, Scope, same};
 use cx_vtree::{Module, ModulePort, NetAssign};
 use std::alloc::Global;
 
@@ -43,10 +43,10 @@ fn has_module(modules: &[Module], name: &Name) -> bool
 }
 
 /// The names of ports.
-fn port_names<'a>(alloc: Global, ports: &'a [ModulePort]) -> Result<Vec<&'a Name>, Memory>
-    ensures { IfOk result (λ names. map (λ n. n.now) names.items ≡ map (λ p. p.name) (map plain_port ports.now)) }
+fn port_names<'a>(alloc: Global, ports: &'a [ModulePort]) -> Result<Names<'a>, Memory>
+    ensures { IfOk result (λ names. names ≡ map (λ p. p.name) (map plain_port ports.now)) }
 {
-    let mut names = Vec::new(alloc);
+    let mut names = Names::new(alloc);
     for p in ports {
         names.push(&p.name)?;
     }
@@ -54,10 +54,10 @@ fn port_names<'a>(alloc: Global, ports: &'a [ModulePort]) -> Result<Vec<&'a Name
 }
 
 /// The names of what is assigned.
-fn assigned<'a>(alloc: Global, assigns: &'a [NetAssign]) -> Result<Vec<&'a Name>, Memory>
-    ensures { IfOk result (λ names. map (λ n. n.now) names.items ≡ map (λ a. a.name) (map plain_assign assigns.now)) }
+fn assigned<'a>(alloc: Global, assigns: &'a [NetAssign]) -> Result<Names<'a>, Memory>
+    ensures { IfOk result (λ names. names ≡ map (λ a. a.name) (map plain_assign assigns.now)) }
 {
-    let mut names = Vec::new(alloc);
+    let mut names = Names::new(alloc);
     for a in assigns {
         names.push(&a.name)?;
     }
@@ -71,12 +71,12 @@ fn signature<'a>(
     is_main: bool,
     before: &[Module],
     own: Sums,
-    names: &mut Vec<&'a Name>,
+    names: &mut Names<'a>,
     m: &'a Module,
 ) -> Result<Search, Memory>
-    requires { map (λ n. n.now) names.old.items ≡ map (λ p. p.name) (map plain_port m.now.ports.items) }
+    requires { names.old ≡ map (λ p. p.name) (map plain_port m.now.ports.items) }
     ensures value { IfOk result (λ s. s ≡ over search (signature_faults is_main (plain_modules before.now) (counts_in own) (plain_module m.now))) }
-    ensures names { OnOk result (map (λ n. n.now) names.new.items ≡ map (λ p. p.name) (map plain_port m.now.ports.items) ++ map sound.decl_name (map plain_decl m.now.decls.items)) }
+    ensures names { OnOk result (names.new ≡ map (λ p. p.name) (map plain_port m.now.ports.items) ++ map sound.decl_name (map plain_decl m.now.decls.items)) }
 {
     let driving = drivers(alloc, before, m)?;
     let search = after(search, module_faults(is_main, before, own, m));
@@ -90,16 +90,17 @@ fn body<'a>(
     alloc: Global,
     search: Search,
     before: &[Module],
-    names: &mut Vec<&'a Name>,
+    names: &mut Names<'a>,
     m: &'a Module,
 ) -> Result<Search, Memory>
-    requires { map (λ n. n.now) names.old.items ≡ map (λ p. p.name) (map plain_port m.now.ports.items) ++ map sound.decl_name (map plain_decl m.now.decls.items) }
+    requires { names.old ≡ map (λ p. p.name) (map plain_port m.now.ports.items) ++ map sound.decl_name (map plain_decl m.now.decls.items) }
     ensures { IfOk result (λ s. s ≡ over search (body_faults (plain_modules before.now) (plain_module m.now))) }
 {
-    let search = assigns(alloc, search, m, &m.assigns)?;
+    let scope = Scope::new(alloc, m)?;
+    let search = assigns(alloc, search, &scope, &m.assigns)?;
     let mut driven = assigned(alloc, &m.assigns)?;
-    let search = instances(search, before, m, names, &mut driven, &m.instances)?;
-    let search = edge(alloc, search, m, &m.edge)?;
+    let search = instances(search, before, &scope, names, &mut driven, &m.instances)?;
+    let search = edge(alloc, search, &scope, &m.edge)?;
     Ok(clean(search))
 }
 

@@ -1,26 +1,14 @@
-//! Names that came before, and what drives nets.
+//! What drives nets.
 
 ghost use Rattle.std.specs.Prelude.{◌≡◌, [], ◌∷◌, ◌++◌, ◌||◌, map, option_map, IfOk, OnOk};
 ghost use Rattle.std.specs.Option.{option_copied};
 ghost use Rattle.cx_vtree.specs.PlainParts.{plain_port, plain_conn, plain_module, plain_modules};
 ghost use Rattle.cx_vtree.specs.Sound as sound;
 
-use crate::meanings::same;
 use cx_text::{Memory, Name};
+use cx_vscope::{Names, same};
 use cx_vtree::{Conn, Module, ModulePort};
 use std::alloc::Global;
-
-/// Whether a name is among some.
-pub fn has_name(names: &[&Name], name: &Name) -> bool
-    ensures { result ≡ sound.has_name (map (λ n. n.now) names.now) name.now }
-{
-    for n in names {
-        if same(n, name) {
-            return true;
-        }
-    }
-    false
-}
 
 /// Whether a module has an output of this name.
 pub fn has_output(ports: &[ModulePort], name: &Name) -> bool
@@ -57,24 +45,24 @@ pub fn ports_of<'a>(modules: &'a [Module], name: &Name) -> &'a [ModulePort]
 }
 
 /// Adds a net, and tells whether it or one before was there already.
-fn add_net<'a>(driven: &mut Vec<&'a Name>, doubled: bool, net: &'a Name) -> Result<bool, Memory>
-    ensures value { IfOk result (λ d. d ≡ (doubled || sound.has_name (map (λ n. n.now) driven.old.items) net.now)) }
-    ensures names { OnOk result (map (λ n. n.now) driven.new.items ≡ map (λ n. n.now) driven.old.items ++ net.now ∷ []) }
+fn add_net<'a>(driven: &mut Names<'a>, doubled: bool, net: &'a Name) -> Result<bool, Memory>
+    ensures value { IfOk result (λ d. d ≡ (doubled || sound.has_name driven.old net.now)) }
+    ensures names { OnOk result (driven.new ≡ driven.old ++ net.now ∷ []) }
 {
-    let again = doubled || has_name(driven, net);
+    let again = doubled || driven.has(net);
     driven.push(net)?;
     Ok(again)
 }
 
 /// Adds the nets that connections drive, by the outputs of the instance's module. Tells whether one of them was driven before.
-#[tactic(auto, using(crate::proofs::Literals::or_assoc))]
+#[tactic(auto, using(crate::proofs::Tests::or_assoc))]
 pub fn add_driven<'a>(
-    driven: &mut Vec<&'a Name>,
+    driven: &mut Names<'a>,
     ports: &[ModulePort],
     conns: &'a [Conn],
 ) -> Result<bool, Memory>
-    ensures value { IfOk result (λ d. d ≡ sound.doubles (map (λ n. n.now) driven.old.items) (sound.driven_by (map plain_port ports.now) (map plain_conn conns.now))) }
-    ensures names { OnOk result (map (λ n. n.now) driven.new.items ≡ map (λ n. n.now) driven.old.items ++ sound.driven_by (map plain_port ports.now) (map plain_conn conns.now)) }
+    ensures value { IfOk result (λ d. d ≡ sound.doubles driven.old (sound.driven_by (map plain_port ports.now) (map plain_conn conns.now))) }
+    ensures names { OnOk result (driven.new ≡ driven.old ++ sound.driven_by (map plain_port ports.now) (map plain_conn conns.now)) }
 {
     let mut doubled = false;
     for c in conns {
@@ -86,10 +74,10 @@ pub fn add_driven<'a>(
 }
 
 /// The nets that a module drives.
-pub fn drivers<'a>(alloc: Global, before: &[Module], m: &'a Module) -> Result<Vec<&'a Name>, Memory>
-    ensures { IfOk result (λ names. map (λ n. n.now) names.items ≡ sound.drivers_in (plain_modules before.now) (plain_module m.now)) }
+pub fn drivers<'a>(alloc: Global, before: &[Module], m: &'a Module) -> Result<Names<'a>, Memory>
+    ensures { IfOk result (λ names. names ≡ sound.drivers_in (plain_modules before.now) (plain_module m.now)) }
 {
-    let mut names = Vec::new(alloc);
+    let mut names = Names::new(alloc);
     for a in &m.assigns {
         names.push(&a.name)?;
     }

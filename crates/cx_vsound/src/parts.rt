@@ -3,15 +3,13 @@
 ghost use Rattle.std.specs.Prelude.{◌≡◌, ◌^◌, nat_le, [], ◌++◌, map, IfOk, OnOk};
 ghost use Rattle.cx_vtree.specs.PlainParts.{plain_port, plain_decl, plain_assign};
 ghost use Rattle.cx_vtree.specs.Sound as sound;
-ghost use Rattle.cx_vsound.specs.Parts.{scope_of};
+ghost use Rattle.cx_vscope.specs.ScopeValues.{scope_by};
 ghost use Rattle.cx_vsound.specs.Search.{faults_in, over};
 
-use crate::exprs::{has_width, misnames, too_deep};
-use crate::meanings::{decl_name, is_driven, meaning, width_of};
-use crate::nets::has_name;
 use crate::search::{LineFaults, Search, after};
-use cx_text::{Memory, Name, WIDTH_BITS};
-use cx_vtree::{Decl, Module, ModulePort, NetAssign};
+use cx_text::{Memory, WIDTH_BITS};
+use cx_vscope::{Names, Scope, decl_name, has_width, is_driven, misnames, too_deep, width_of};
+use cx_vtree::{Decl, ModulePort, NetAssign};
 use std::alloc::Global;
 
 /// Whether a width is not 1 to 128.
@@ -51,17 +49,17 @@ fn wrong_port(is_main: bool, index: usize, p: &ModulePort) -> bool
 
 fn port_faults(
     is_main: bool,
-    drivers: &[&Name],
-    earlier: &[&Name],
+    drivers: &Names,
+    earlier: &Names,
     index: usize,
     p: &ModulePort,
 ) -> LineFaults
-    ensures { faults_in result ≡ sound.port_faults is_main (map (λ n. n.now) drivers.now) (map (λ n. n.now) earlier.now) index (plain_port p.now) }
+    ensures { faults_in result ≡ sound.port_faults is_main drivers.now earlier.now index (plain_port p.now) }
 {
     LineFaults {
-        name: has_name(earlier, &p.name)
+        name: earlier.has(&p.name)
             || wrong_port(is_main, index, p)
-            || (p.output && !has_name(drivers, &p.name)),
+            || (p.output && !drivers.has(&p.name)),
         width: bad_width(p.width) || ((is_main || index < 2) && p.width != 1),
         limit: false,
     }
@@ -72,13 +70,13 @@ pub fn ports(
     alloc: Global,
     search: Search,
     is_main: bool,
-    drivers: &[&Name],
+    drivers: &Names,
     ports: &[ModulePort],
 ) -> Result<Search, Memory>
-    ensures { IfOk result (λ s. s ≡ over search (sound.ports_faults is_main (map (λ n. n.now) drivers.now) [] 0 (map plain_port ports.now))) }
+    ensures { IfOk result (λ s. s ≡ over search (sound.ports_faults is_main drivers.now [] 0 (map plain_port ports.now))) }
 {
     let mut search = search;
-    let mut earlier = Vec::new(alloc);
+    let mut earlier = Names::new(alloc);
     for (index, p) in ports.iter().enumerate() {
         search = after(search, port_faults(is_main, drivers, &earlier, index, p));
         earlier.push(&p.name)?;
@@ -94,17 +92,17 @@ fn is_too_long(length: u64) -> bool
     false
 }
 
-fn decl_faults(drivers: &[&Name], earlier: &[&Name], d: &Decl) -> LineFaults
-    ensures { faults_in result ≡ sound.decl_faults (map (λ n. n.now) drivers.now) (map (λ n. n.now) earlier.now) (plain_decl d.now) }
+fn decl_faults(drivers: &Names, earlier: &Names, d: &Decl) -> LineFaults
+    ensures { faults_in result ≡ sound.decl_faults drivers.now earlier.now (plain_decl d.now) }
 {
     match d {
         Decl::Wire { name, width } => LineFaults {
-            name: has_name(earlier, name) || !has_name(drivers, name),
+            name: earlier.has(name) || !drivers.has(name),
             width: bad_width(*width),
             limit: false,
         },
         Decl::Register { name, width } => LineFaults {
-            name: has_name(earlier, name),
+            name: earlier.has(name),
             width: bad_width(*width),
             limit: false,
         },
@@ -113,7 +111,7 @@ fn decl_faults(drivers: &[&Name], earlier: &[&Name], d: &Decl) -> LineFaults
             width,
             length,
         } => LineFaults {
-            name: has_name(earlier, name),
+            name: earlier.has(name),
             width: bad_width(*width),
             limit: is_too_long(*length),
         },
@@ -123,12 +121,12 @@ fn decl_faults(drivers: &[&Name], earlier: &[&Name], d: &Decl) -> LineFaults
 /// Goes on past the lines of declarations. `earlier` has the names of the ports, and gains those of the declarations.
 pub fn decls<'a>(
     search: Search,
-    drivers: &[&Name],
-    earlier: &mut Vec<&'a Name>,
+    drivers: &Names,
+    earlier: &mut Names<'a>,
     decls: &'a [Decl],
 ) -> Result<Search, Memory>
-    ensures value { IfOk result (λ s. s ≡ over search (sound.decls_faults (map (λ n. n.now) drivers.now) (map (λ n. n.now) earlier.old.items) (map plain_decl decls.now))) }
-    ensures names { OnOk result (map (λ n. n.now) earlier.new.items ≡ map (λ n. n.now) earlier.old.items ++ map sound.decl_name (map plain_decl decls.now)) }
+    ensures value { IfOk result (λ s. s ≡ over search (sound.decls_faults drivers.now earlier.old (map plain_decl decls.now))) }
+    ensures names { OnOk result (earlier.new ≡ earlier.old ++ map sound.decl_name (map plain_decl decls.now)) }
 {
     let mut search = search;
     for d in decls {
@@ -138,14 +136,14 @@ pub fn decls<'a>(
     Ok(search)
 }
 
-fn assign_faults(m: &Module, earlier: &[&Name], a: &NetAssign) -> LineFaults
-    ensures { faults_in result ≡ sound.assign_faults (scope_of m.now) (map (λ n. n.now) earlier.now) (plain_assign a.now) }
+fn assign_faults(scope: &Scope, earlier: &Names, a: &NetAssign) -> LineFaults
+    ensures { faults_in result ≡ sound.assign_faults (scope_by scope.now) earlier.now (plain_assign a.now) }
 {
     LineFaults {
-        name: !is_driven(meaning(m, &a.name))
-            || has_name(earlier, &a.name)
-            || misnames(m, &a.value),
-        width: !has_width(m, &a.value, width_of(meaning(m, &a.name))),
+        name: !is_driven(scope.meaning(&a.name))
+            || earlier.has(&a.name)
+            || misnames(scope, &a.value),
+        width: !has_width(scope, &a.value, width_of(scope.meaning(&a.name))),
         limit: too_deep(&a.value),
     }
 }
@@ -154,15 +152,15 @@ fn assign_faults(m: &Module, earlier: &[&Name], a: &NetAssign) -> LineFaults
 pub fn assigns(
     alloc: Global,
     search: Search,
-    m: &Module,
+    scope: &Scope,
     assigns: &[NetAssign],
 ) -> Result<Search, Memory>
-    ensures { IfOk result (λ s. s ≡ over search (sound.assigns_faults (scope_of m.now) [] (map plain_assign assigns.now))) }
+    ensures { IfOk result (λ s. s ≡ over search (sound.assigns_faults (scope_by scope.now) [] (map plain_assign assigns.now))) }
 {
     let mut search = search;
-    let mut earlier = Vec::new(alloc);
+    let mut earlier = Names::new(alloc);
     for a in assigns {
-        search = after(search, assign_faults(m, &earlier, a));
+        search = after(search, assign_faults(scope, &earlier, a));
         earlier.push(&a.name)?;
     }
     Ok(search)

@@ -1,14 +1,15 @@
 use Rattle.std.proofs.Common.{◌≡◌, List, ℕ, map, option_map, refl, ap, ◌∙◌}
 use Rattle.cx_vtree.specs.PlainParts.{plain_assign, plain_instance, plain_edge, plain_module, plain_modules}
-use Rattle.cx_vsound.proofs.Overs.{body_pieces}
+use Rattle.cx_vscope.specs.ScopeValues.{scope_by}
+use Rattle.cx_vsound.proofs.Overs.{body_pieces_by}
 use Rattle.cx_vsound.proofs.modules.body.Goals as goal
 
 pub returns : goal.returns
 returns c =
     let m = c.args.m.now in
-    body_pieces (plain_modules c.args.before.now) (plain_module m) c.args.search c.in_ok-search.search c.in_ok-search-2.search c.in_ok-search-3.search c.clean.result
+    body_pieces_by (scope_by c.in_ok-scope.scope) (plain_modules c.args.before.now) (plain_module m) c.args.search c.in_ok-search.search c.in_ok-search-2.search c.in_ok-search-3.search c.clean.result
     (map plain_assign c.deref.result.now) (map plain_instance c.deref-3.result.now) (option_map plain_edge m.edge)
-    (map (λ n. n.now) c.args.names.now.items) (map (λ n. n.now) c.in_ok-driven.driven.items)
-    c.in_ok-search.ensures c.in_ok-search-2.ensures c.in_ok-search-3.ensures c.clean.ensures
+    c.args.names.now c.in_ok-driven.driven
+    c.in_ok-scope.ensures c.in_ok-search.ensures c.in_ok-search-2.ensures c.in_ok-search-3.ensures c.clean.ensures
     (ap (map plain_assign) c.deref.ensures.value) (ap (map plain_instance) c.deref-3.ensures.value) refl c.requires
     (c.in_ok-driven.ensures ∙ ap (λ xs. map (λ a. a.name) (map plain_assign xs)) c.deref-2.ensures.value)

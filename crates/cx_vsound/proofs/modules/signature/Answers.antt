@@ -9,8 +9,8 @@ pub returns-clause-value : goal.returns-clause-value
 returns-clause-value c =
     signature_pieces c.args.is_main (plain_modules c.args.before.now) (counts_in c.args.own) (plain_module c.args.m.now) c.args.search
     c.after-search.result c.in_ok-search.search c.clean.result c.in_ok-past.past
-    (map (λ n. n.now) c.deref.result.now) (map (λ n. n.now) c.deref-3.result.now) (map (λ n. n.now) c.args.names.now.items)
-    (map plain_port c.deref-2.result.now) (map plain_decl c.deref-4.result.now)
+    c.in_ok-driving.driving c.in_ok-driving.driving c.args.names.now
+    (map plain_port c.deref.result.now) (map plain_decl c.deref-2.result.now)
     (c.after-search.ensures ∙ ap (noted c.args.search) c.module_faults.ensures) c.in_ok-search.ensures c.clean.ensures c.in_ok-past.ensures.value
-    (ap (map (λ n. n.now)) c.deref.ensures.value ∙ c.in_ok-driving.ensures) (ap (map (λ n. n.now)) c.deref-3.ensures.value ∙ c.in_ok-driving.ensures) c.requires
-    (ap (map plain_port) c.deref-2.ensures.value) (ap (map plain_decl) c.deref-4.ensures.value)
+    c.in_ok-driving.ensures c.in_ok-driving.ensures c.requires
+    (ap (map plain_port) c.deref.ensures.value) (ap (map plain_decl) c.deref-2.ensures.value)

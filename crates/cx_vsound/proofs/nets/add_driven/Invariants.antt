@@ -5,7 +5,7 @@ use Rattle.cx_vsound.proofs.nets.add_driven.Given as goal
 
 abbrev pub invariant-loop-c : goal.invariant-loop-c
 invariant-loop-c l =
-    ((l.doubled || sound.doubles (map (λ n. n.now) l.driven.items) (sound.driven_by (map plain_port l.ports) (map plain_conn (drop l.c-index l.conns))))
-    ≡ sound.doubles (map (λ n. n.now) l.initial.driven.items) (sound.driven_by (map plain_port l.ports) (map plain_conn l.conns)))
-    × (map (λ n. n.now) l.driven.items ++ sound.driven_by (map plain_port l.ports) (map plain_conn (drop l.c-index l.conns))
-    ≡ map (λ n. n.now) l.initial.driven.items ++ sound.driven_by (map plain_port l.ports) (map plain_conn l.conns))
+    ((l.doubled || sound.doubles l.driven (sound.driven_by (map plain_port l.ports) (map plain_conn (drop l.c-index l.conns))))
+    ≡ sound.doubles l.initial.driven (sound.driven_by (map plain_port l.ports) (map plain_conn l.conns)))
+    × (l.driven ++ sound.driven_by (map plain_port l.ports) (map plain_conn (drop l.c-index l.conns))
+    ≡ l.initial.driven ++ sound.driven_by (map plain_port l.ports) (map plain_conn l.conns))

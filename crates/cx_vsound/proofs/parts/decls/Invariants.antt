@@ -5,4 +5,4 @@ use Rattle.cx_vsound.specs.Search.{over}
 use Rattle.cx_vsound.proofs.parts.decls.Given as goal
 
 abbrev pub invariant-loop-d : goal.invariant-loop-d
-invariant-loop-d l = (over l.search (sound.decls_faults (map (λ n. n.now) l.drivers) (map (λ n. n.now) l.earlier.items) (map plain_decl (drop l.d-index l.decls))) ≡ over l.initial.search (sound.decls_faults (map (λ n. n.now) l.drivers) (map (λ n. n.now) l.initial.earlier.items) (map plain_decl l.decls))) × (map (λ n. n.now) l.earlier.items ++ map sound.decl_name (map plain_decl (drop l.d-index l.decls)) ≡ map (λ n. n.now) l.initial.earlier.items ++ map sound.decl_name (map plain_decl l.decls))
+invariant-loop-d l = (over l.search (sound.decls_faults l.drivers l.earlier (map plain_decl (drop l.d-index l.decls))) ≡ over l.initial.search (sound.decls_faults l.drivers l.initial.earlier (map plain_decl l.decls))) × (l.earlier ++ map sound.decl_name (map plain_decl (drop l.d-index l.decls)) ≡ l.initial.earlier ++ map sound.decl_name (map plain_decl l.decls))

@@ -1,5 +1,5 @@
 use Rattle.std.proofs.Common.{arith}
-use Rattle.cx_vsound.proofs.Literals.{fits_no_overflow}
+use Rattle.cx_vsound.proofs.Tests.{fits_no_overflow}
 use Rattle.cx_vsound.proofs.parts.is_too_long.Goals as goal
 
 pub returns : goal.returns

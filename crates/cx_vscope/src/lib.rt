@@ -1,0 +1,16 @@
+//! What the names of a Verilog module stand for, the rules on expressions, and the trees that some text spells.
+#![tactic(auto)]
+
+mod exprs;
+mod layout;
+mod meanings;
+mod names;
+mod scopes;
+
+pub use exprs::{fitting_width, has_width, misnames, too_deep};
+pub use layout::{is_keyword, is_laid_out, is_name_byte, is_word};
+pub use meanings::{
+    decl_name, is_array, is_driven, is_register, is_source, is_wire, same, width_of,
+};
+pub use names::Names;
+pub use scopes::Scope;

@@ -1,8 +1,0 @@
-use Rattle.std.proofs.Common.{◌≡◌, map, drop}
-use Rattle.std.specs.List.{list_all}
-use Rattle.cx_vtree.specs.Layout as layout
-use Rattle.cx_vtree.specs.PlainParts.{plain_instance}
-use Rattle.cx_vsound.proofs.layout.instances_fit.Given as goal
-
-abbrev pub invariant-loop-i : goal.invariant-loop-i
-invariant-loop-i l = list_all layout.instance_fits (map plain_instance (drop l.i-index l.list)) ≡ list_all layout.instance_fits (map plain_instance l.list)
