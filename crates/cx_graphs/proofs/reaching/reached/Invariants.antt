@@ -1,0 +1,11 @@
+use Rattle.std.proofs.Common.{◌+◌, ◌*◌, length}
+use Rattle.cx_graphs.specs.Graphs.{edges_of, unmarked}
+use Rattle.cx_graphs.specs.Search.{IsUnderWay}
+use Rattle.cx_graphs.proofs.reaching.reached.Given as goal
+
+abbrev pub invariant-loop-node : goal.invariant-loop-node
+invariant-loop-node l = IsUnderWay (edges_of l.graph) l.starts l.marks.items l.waiting.items
+
+-- a node that begins to wait is marked, and counts twice before
+abbrev pub decreases-loop-node : goal.decreases-loop-node
+decreases-loop-node l = length l.waiting.items + 2 * unmarked l.marks.items
