@@ -1,10 +1,11 @@
 use Rattle.cx_ast.specs.PlainTree.{plain_tree}
+use Rattle.cx_driver.specs.Unread.{IsRead}
 use Rattle.cx_driver.proofs.UnreadLemmas.{interp_tree, interp_cause, interp_all, told_no_tree, told_of_text}
 use Rattle.cx_driver.proofs.interpreting.interp.Goals as goal
 
 pub returns-in-Ok : goal.returns-in-Ok
 returns-in-Ok c =
-    let read = (plain_tree c.in-Ok.tree, c.in-Ok.ensures.tree) in
+    let read : IsRead c.args.text.now = (plain_tree c.in-Ok.tree, c.in-Ok.ensures.tree) in
     record {
       dump = c.run_tree.ensures.dump;
       tree = interp_tree c.args.text.now c.run_tree.result read;
