@@ -8,11 +8,10 @@ use Rattle.cx_tokens.specs.declared.tokens.Token.{Token}
 use Rattle.cx_ast.specs.declared.trees.Tree.{Tree}
 use Rattle.cx_ast.specs.PlainTree.{PlainTree, plain_tree}
 use Rattle.cx_lex.specs.declared.faults.LexFault.{LexFault}
-use Rattle.cx_lex.specs.declared.faults.LexKind.TheVariants as lexical
 use Rattle.cx_lex.specs.Lex.{Lex, FirstFault}
 use Rattle.cx_lex.specs.Reading.{memory_fault}
 use Rattle.cx_lex.proofs.WholeLemmas.{one_tokens, no_fault, one_fault}
-use Rattle.cx_grammar.specs.Parsing.{Parse, IsUnexpected, IsDeep}
+use Rattle.cx_grammar.specs.Parsing.{Parse}
 use Rattle.cx_grammar.proofs.OneReading.{one_unexpected, one_deep, not_both, tree_expected, tree_within}
 use Rattle.cx_guards.specs.declared.stops.Stop.{Stop as Unread}
 use Rattle.cx_guards.specs.declared.stops.Stop.TheVariants as unread
