@@ -1,5 +1,5 @@
 -- What the reads of a command tell.
-use Rattle.std.proofs.Common.{ℕ, ◌≤◌, ◌≡◌, ◌⊎◌, inl, inr, List, Option, Contains, subst, arith}
+use Rattle.std.proofs.Common.{ℕ, ◌≤◌, ◌≡◌, inl, inr, List, Option, Contains, subst, arith}
 use Rattle.cx_outside.specs.Counts.{HasRisen}
 use Rattle.cx_outside.specs.Reading.{IsAbsent}
 use Rattle.cx_driver.specs.declared.refusals.Refusal.{Refusal}

@@ -1,4 +1,4 @@
 pub mod Wholes
 pub mod Counted
 pub mod Four
-pub mod TokenCount
+pub mod UnreadLemmas

@@ -1,7 +1,7 @@
 -- What a data file loads is whole, and what is whole can be dumped.
-use Rattle.std.proofs.Common.{◌≡◌, List, All, map, subst, sym}
+use Rattle.std.proofs.Common.{List, All, map, subst, sym}
 use Rattle.std.proofs.lemmas.List.Elements.{All-map}
-use Rattle.cx_text.specs.Loading.{PlainRow, PlainMemory, FitsShape, FitsRows, plain_row, plain_memory}
+use Rattle.cx_text.specs.Loading.{PlainRow, PlainMemory, FitsShape, FitsRows, plain_memory}
 use Rattle.cx_text.specs.declared.loading.LoadedMemory.{LoadedMemory}
 use Rattle.cx_data.specs.Widths.{HasWordWidth}
 use Rattle.cx_data.proofs.DumpLemmas.{All-from_map}

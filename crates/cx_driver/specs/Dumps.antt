@@ -1,6 +1,6 @@
 -- The texts that a run can write.
-use Rattle.std.specs.Prelude.{◌≡◌, ℕ, List, map, All}
-use Rattle.cx_text.specs.Loading.{PlainMemory, FitsShape}
+use Rattle.std.specs.Prelude.{◌≡◌, ℕ, List}
+use Rattle.cx_text.specs.Loading.{PlainMemory}
 use Rattle.cx_data.specs.Dump.{dump_text}
 
 -- the dump of some cycle and some words

@@ -1,4 +1,5 @@
 pub mod Commands
+pub mod Unread
 pub mod Dumps
 pub mod Causes
 pub mod Asked

@@ -1,13 +1,17 @@
 //! The interpreter on texts: a design, a data file and a budget give a dump.
 
-ghost use Rattle.std.specs.Prelude.{◌≡◌, ◌≤◌, All, IfOk, length};
+ghost use Rattle.std.specs.Prelude.{◌≡◌, ◌≤◌, ◌⊎◌, All, IfOk, IfErr, MatchResult, length};
+ghost use Rattle.cx_text.specs.declared.diagnostics.Diagnostic.{Diagnostic as DiagnosticValue};
 ghost use Rattle.cx_text.specs.Loading.{plain_loaded};
 ghost use Rattle.cx_data.specs.Dump.{dump_text};
 ghost use Rattle.cx_first_form.specs.Whole.{IsWhole};
 ghost use Rattle.cx_driver.specs.Dumps.{IsDump};
+ghost use Rattle.cx_driver.specs.Unread.{StageOneFault, IsRead, IsOfText, IsOfDesign};
+ghost use Rattle.cx_driver.specs.declared.stops.Stop.TheVariants as stops;
 
 use crate::reading::{refused, tree_of};
 use crate::stops::Stop;
+use cx_ast::Tree;
 use cx_first_form::Unread;
 use cx_text::{Loaded, Memory, Place, Rule};
 use std::alloc::Global;
@@ -19,9 +23,26 @@ const FIRST_PLACE: Place = Place { line: 1, column: 1 };
 pub fn interp(alloc: Global, text: &[u8], json: &[u8], turns: u64) -> Result<Vec<u8>, Stop>
     requires { length text.now ≤ 1048576 }
     ensures dump { IfOk result (λ dump. IsDump dump.items) }
+
+    // Each answer but a rule of the text and want of memory comes only where the text has a tree.
+    ensures tree { IfOk result (λ _. IsRead text.now) }
+    ensures cause { IfErr result (IsOfText text.now) }
+    // The rule that a text breaks without a tree is told, unless memory is wanting.
+    ensures all_faults { (fault : DiagnosticValue) → StageOneFault text.now fault
+        → MatchResult result (λ _. ⊥) (λ stop. (stop ≡ stops.Memory) ⊎ (stop ≡ stops.Rule fault)) }
 {
-    let tree = tree_of(alloc, text)?;
-    let design = match cx_first_form::read(alloc, &tree) {
+    match tree_of(alloc, text) {
+        Ok(tree) => run_tree(alloc, &tree, json, turns),
+        Err(stop) => Err(stop),
+    }
+}
+
+/// Runs the design of a tree on a data file.
+fn run_tree(alloc: Global, tree: &Tree, json: &[u8], turns: u64) -> Result<Vec<u8>, Stop>
+    ensures dump { IfOk result (λ dump. IsDump dump.items) }
+    ensures cause { IfErr result IsOfDesign }
+{
+    let design = match cx_first_form::read(alloc, tree) {
         Ok(design) => design,
         Err(Unread::OtherForm) => return Err(refused(alloc, Rule::LeftOut, FIRST_PLACE, b"")),
         Err(Unread::Memory) => return Err(Stop::Memory),

@@ -1,100 +1,102 @@
 //! The tree of a design's text, or the rule of the text that it breaks.
 
-ghost use Rattle.std.specs.Prelude.{◌≤◌, ◌<◌, ◌^◌, length};
+ghost use Rattle.std.specs.Prelude.{◌≡◌, ◌≤◌, ◌⊎◌, ◌-◌, length, drop, IfOk, IfErr};
+ghost use Rattle.cx_ast.specs.PlainTree.{plain_tree};
+ghost use Rattle.cx_grammar.specs.Parsing.{Parse};
+ghost use Rattle.cx_guards.specs.declared.stops.Stop.TheVariants as unread;
+ghost use Rattle.cx_lex.specs.Reading.{memory_fault};
+ghost use Rattle.cx_lex.specs.Lex.{FirstFault};
+ghost use Rattle.cx_parse.specs.Faults.{IsStop};
+ghost use Rattle.cx_driver.specs.declared.stops.Stop.TheVariants as stops;
+ghost use Rattle.cx_driver.specs.Unread.{HasTree, name_at, word_in as bytes_in, IsNoTree, IsNoFile, IsNoToken};
 
 use crate::stops::Stop;
 use cx_ast::Tree;
 use cx_lex::{LexFault, LexKind, lex};
-use cx_parse::{ParseFault, parse};
-use cx_text::{Diagnostic, Memory, Name, Place, Rule};
-use cx_tokens::{Sign, Token, TokenKind};
+use cx_parse::{Stop as Unread, place_left, read_tree};
+use cx_text::{Diagnostic, Name, Place, Rule};
+use cx_tokens::{Token, TokenKind};
 use std::alloc::Global;
-
-/// A place that no token of a text has.
-const NOWHERE: Place = Place { line: 0, column: 0 };
 
 /// Reads the tokens of a text and then its tree.
 pub(crate) fn tree_of(alloc: Global, text: &[u8]) -> Result<Tree, Stop>
     requires { length text.now ≤ 1048576 }
+    ensures tree { IfOk result (λ tree. HasTree text.now (plain_tree tree)) }
+    ensures fault { IfErr result (IsNoTree text.now) }
 {
     match lex(alloc, text) {
-        Ok(tokens) => read(alloc, tokens),
+        Ok(tokens) => read(alloc, &tokens),
         Err(fault) => Err(of_lex(alloc, fault)),
     }
 }
 
-fn read(alloc: Global, tokens: Vec<Token>) -> Result<Tree, Stop>
-    requires { length tokens.items ≤ 1048576 }
+/// Reads the tree of tokens.
+fn read(alloc: Global, tokens: &[Token]) -> Result<Tree, Stop>
+    ensures tree { IfOk result (λ tree. Parse tokens.now (plain_tree tree)) }
+    ensures fault { IfErr result (IsNoFile tokens.now) }
 {
-    match parse(alloc, &tokens) {
+    match read_tree(alloc, tokens) {
         Ok(tree) => Ok(tree),
-        Err(ParseFault::TooDeep(place)) => Err(refused(alloc, Rule::TooDeep, place, b"")),
-        Err(ParseFault::Unexpected(place)) => Err(unexpected(alloc, tokens, place)),
-        Err(ParseFault::Memory) => Err(Stop::Memory),
+        Err(stop) => Err(of_parse(alloc, tokens, stop)),
     }
 }
 
 /// The rule of a text without tokens.
-fn of_lex(alloc: Global, fault: LexFault) -> Stop {
-    let rule = match fault.kind {
-        LexKind::BadByte => Rule::BadByte,
-        LexKind::OpenComment => Rule::OpenComment,
-        LexKind::OpenString => Rule::OpenString,
-        LexKind::BadLiteral => Rule::BadLiteral,
-        LexKind::Memory => return Stop::Memory,
-    };
-    refused(alloc, rule, fault.place, b"")
-}
-
-/// An unexpected token, which is named where it is a word. The end has the place of the last token and no name.
-fn unexpected(alloc: Global, tokens: Vec<Token>, place: Place) -> Stop
-    requires { length tokens.items ≤ 1048576 }
+fn of_lex(alloc: Global, fault: LexFault) -> Stop
+    ensures { IsNoToken fault result }
 {
-    let name = match word_at(alloc, &tokens, place) {
-        Ok(name) => name,
-        Err(memory) => return memory.into(),
-    };
-    match is_end(alloc, tokens, place) {
-        Ok(true) => refused(alloc, Rule::Unexpected, place, b""),
-        Ok(false) => Stop::Rule(Diagnostic {
-            rule: Rule::Unexpected,
-            place,
-            name,
-        }),
-        Err(memory) => memory.into(),
+    match fault.kind {
+        LexKind::BadByte => refused(alloc, Rule::BadByte, fault.place, b""),
+        LexKind::OpenComment => refused(alloc, Rule::OpenComment, fault.place, b""),
+        LexKind::OpenString => refused(alloc, Rule::OpenString, fault.place, b""),
+        LexKind::BadLiteral => refused(alloc, Rule::BadLiteral, fault.place, b""),
+        LexKind::Memory => Stop::Memory,
     }
 }
 
-/// The word at a place, or no bytes where no word stands there.
-fn word_at(alloc: Global, tokens: &[Token], place: Place) -> Result<Name, Memory> {
-    match tokens.iter().find(|token| token.place == place) {
-        Some(
-            Token {
-                kind: TokenKind::Word(name),
-                ..
-            },
-        ) => Name::from_bytes(alloc, name.bytes()),
-        _ => Name::from_bytes(alloc, b""),
+/// The rule of tokens without a tree.
+fn of_parse(alloc: Global, tokens: &[Token], stop: Unread) -> Stop
+    requires stopped { (stop ≡ unread.Memory) ⊎ IsStop tokens.now stop }
+    ensures { IsNoFile tokens.now result }
+{
+    match stop {
+        Unread::Unexpected(left) => {
+            let place = place_left(tokens, left);
+            refused(alloc, Rule::Unexpected, place, word_left(tokens, left))
+        }
+        Unread::TooDeep(left) => {
+            let place = place_left(tokens, left);
+            refused(alloc, Rule::TooDeep, place, b"")
+        }
+        Unread::Memory => Stop::Memory,
     }
 }
 
-/// The fault at this place is the end of the tokens and not the last of them: with one token more it is elsewhere.
-fn is_end(alloc: Global, mut tokens: Vec<Token>, place: Place) -> Result<bool, Memory>
-    requires { length tokens.items ≤ 1048576 }
+/// The word from which on so many tokens are left, or no bytes where there is none.
+fn word_left(tokens: &[Token], left: usize) -> &[u8]
+    ensures { result.now ≡ name_at (drop (length tokens.now - left) tokens.now) }
 {
-    tokens.push(Token {
-        kind: TokenKind::Sign(Sign::CloseBrace),
-        place: NOWHERE,
-    })?;
-    match parse(alloc, &tokens) {
-        Err(ParseFault::Unexpected(again)) => Ok(again != place),
-        Err(ParseFault::Memory) => Err(Memory),
-        _ => Ok(true),
+    let rest = &tokens[tokens.len().saturating_sub(left)..];
+    match rest.split_first() {
+        Some((first, _)) => word_in(first),
+        None => b"",
+    }
+}
+
+/// The word that a token is, or no bytes.
+fn word_in(token: &Token) -> &[u8]
+    ensures { result.now ≡ bytes_in token.now.kind }
+{
+    match &token.kind {
+        TokenKind::Word(name) => name.bytes(),
+        _ => b"",
     }
 }
 
 /// A break of a rule at a place.
-pub(crate) fn refused(alloc: Global, rule: Rule, place: Place, name: &[u8]) -> Stop {
+pub(crate) fn refused(alloc: Global, rule: Rule, place: Place, name: &[u8]) -> Stop
+    ensures { (result ≡ stops.Memory) ⊎ (result ≡ stops.Rule (record { rule = rule; place = place; name = name.now })) }
+{
     match Name::from_bytes(alloc, name) {
         Ok(name) => Stop::Rule(Diagnostic { rule, place, name }),
         Err(memory) => memory.into(),

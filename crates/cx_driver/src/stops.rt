@@ -28,6 +28,10 @@ impl From<Memory> for Stop {
 }
 
 impl From<DataFault> for Stop {
+    ghost use Rattle.cx_driver.specs.Unread.{IsOfDesign};
+
+    ghost from_gives = { λ _ stop. IsOfDesign stop };
+
     fn from(fault: DataFault) -> Stop {
         match fault {
             DataFault::Memory => Stop::Memory,

@@ -1,4 +1,4 @@
-use Rattle.std.proofs.Common.{◌≡◌, List, ℕ, codes, sym, ◌∙◌}
+use Rattle.std.proofs.Common.{◌≡◌, codes, sym, ◌∙◌}
 use Rattle.std.specs.Cmp.Lexicographic.{same_text}
 use Rattle.cx_driver.proofs.Four.{four_items}
 use Rattle.cx_driver.proofs.commands.command_of.Goals as goal

@@ -1,14 +1,22 @@
-use Rattle.std.proofs.Common.{List, subst}
-use Rattle.cx_text.specs.declared.loading.MemoryRow.{MemoryRow}
-use Rattle.cx_text.specs.Loading.{FitsRows, plain_rows, plain_loaded}
-use Rattle.cx_driver.proofs.Wholes.{IsWhole-FitsRows}
+use Rattle.cx_ast.specs.PlainTree.{plain_tree}
+use Rattle.cx_driver.specs.Unread.{IsRead}
+use Rattle.cx_driver.proofs.UnreadLemmas.{interp_tree, interp_cause, interp_all, told_no_tree, told_of_text}
 use Rattle.cx_driver.proofs.interpreting.interp.Goals as goal
 
-pub run-requires : goal.run-requires
-run-requires c =
-    let Fit : List MemoryRow → Type 0 = λ rows. FitsRows (plain_rows rows) (plain_loaded c.in_ok-loaded.loaded) in
-    IsWhole-FitsRows (plain_rows c.in_ok-rows.rows.items) c.in_ok-loaded.loaded.memories.items c.in_ok-rows.ensures.widths
-    (subst Fit c.deref.ensures.value c.in_ok-loaded.ensures.fits)
+pub returns-in-Ok : goal.returns-in-Ok
+returns-in-Ok c =
+    let read : IsRead c.args.text.now = (plain_tree c.in-Ok.tree, c.in-Ok.ensures.tree) in
+    record {
+      dump = c.run_tree.ensures.dump;
+      tree = interp_tree c.args.text.now c.run_tree.result read;
+      cause = interp_cause c.args.text.now c.run_tree.result read c.run_tree.ensures.cause;
+      all_faults = λ fault k. interp_all c.args.text.now c.run_tree.result read fault k;
+    }
 
-pub returns : goal.returns
-returns c = record { dump = (c.in-Some.cycles, plain_loaded c.run.new.loaded, c.in_ok-dump.ensures) }
+pub returns-in-Err : goal.returns-in-Err
+returns-in-Err c = record {
+  dump = tt;
+  tree = tt;
+  cause = told_no_tree c.args.text.now c.in-Err.stop c.in-Err.ensures.fault;
+  all_faults = λ fault k. told_of_text c.args.text.now fault c.in-Err.stop (told_no_tree c.args.text.now c.in-Err.stop c.in-Err.ensures.fault) k;
+}
