@@ -1,5 +1,5 @@
 -- The way down to an instance, step by step.
-use Rattle.std.proofs.Common.{◌≡◌, ℕ, zero, suc, ◌+◌, ◌-◌, ◌^◌, ◌<◌, ◌≤◌, inl, inr, List, [], ◌∷◌, ◌++◌, length, map, get_or, Option, Some, None, append_assoc, refl, sym, ap, ◌∙◌, subst, arith}
+use Rattle.std.proofs.Common.{◌≡◌, ℕ, zero, suc, ◌+◌, ◌-◌, ◌^◌, ◌<◌, ◌≤◌, List, [], ◌∷◌, ◌++◌, length, map, get_or, Option, Some, None, append_assoc, refl, sym, ap, ◌∙◌, subst, arith}
 use Rattle.std.specs.Prelude.{codes}
 use Rattle.std.specs.List.{slice_get}
 use Rattle.cx_meaning.specs.declared.ports.PortRef.{PortRef}
@@ -12,12 +12,12 @@ use Rattle.cx_design.specs.PlainForms.{plain_cell}
 use Rattle.cx_limits.specs.declared.tallies.Tally.{Tally}
 use Rattle.cx_limits.specs.Orders.{IsChildrenFirst}
 use Rattle.cx_limits.specs.Tallies.{AreTallied}
-use Rattle.cx_limits.proofs.Places.{none_is_some, below_length, in_from_place}
+use Rattle.cx_limits.proofs.Places.{below_length, in_from_place}
 use Rattle.cx_paths.specs.declared.steps.Step.{Step}
 use Rattle.cx_paths.specs.Paths.{names_along, full_path}
 use Rattle.cx_paths.specs.Steps.{step_below, next_step}
 use Rattle.cx_paths.proofs.TreeLemmas.{child_in, tree_is, instance_self, child_is}
-use Rattle.cx_paths.proofs.StepLemmas.{IsStep, IsStepOf, found}
+use Rattle.cx_paths.proofs.StepLemmas.{IsStepOf, found}
 
 -- so far: what is written, and behind it the path from the component that is reached
 pub record IsOnWay (d : PlainDesign) (order : List ℕ) (port : PortRef) (whole : List ℕ) (k left : ℕ) (text : List ℕ) : Type 0 where

@@ -1,10 +1,9 @@
 use Rattle.std.proofs.Common.{◌≡◌, ◌<◌, get_or, length, sym, ap, ◌∙◌, subst}
 use Rattle.std.proofs.lemmas.List.{length-map, length-replicate}
 use Rattle.cx_meaning.specs.Designs.{component_at}
-use Rattle.cx_design.proofs.DesignFacts.{main_there, component_is}
+use Rattle.cx_design.proofs.DesignFacts.{component_is}
 use Rattle.cx_design.specs.PlainForms.{plain_component}
 use Rattle.cx_design.specs.PlainDesigns.{plain_design}
-use Rattle.cx_limits.specs.Orders.{IsChildrenFirst}
 use Rattle.cx_limits.specs.Tallies.{no_tally, above, cells_tally}
 use Rattle.cx_limits.proofs.TallyLemmas.{tally_begin, turn_there, tally_turn, tally_end}
 use Rattle.cx_limits.proofs.tallies.component_tallies.Goals as goal
