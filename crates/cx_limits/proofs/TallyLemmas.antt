@@ -13,7 +13,7 @@ use Rattle.cx_rules.specs.Sizes.{size_of, weight_below, weight_in, instances_bel
 use Rattle.cx_limits.specs.Capped.{capped}
 use Rattle.cx_limits.specs.declared.tallies.Tally.{Tally}
 use Rattle.cx_limits.specs.Orders.{IsChildrenFirst}
-use Rattle.cx_limits.specs.Tallies.{tally_of, tally_in, no_tally, beside, kind_tally, cells_tally, above}
+use Rattle.cx_limits.specs.Tallies.{tally_of, tally_in, no_tally, beside, kind_tally, cells_tally, above, AreTallied}
 use Rattle.cx_limits.proofs.Places.{below_length, in_from_place, in_snoc}
 
 tally_eq : (a b : Tally) → a.instances ≡ b.instances → a.depth ≡ b.depth → a.words ≡ b.words → a.weight ≡ b.weight → a ≡ b
@@ -67,10 +67,6 @@ cells_right d m tallies (c ∷ cs) h =
     ap (beside (kind_tally tallies c.kind)) (cells_right d m tallies cs (λ cell j i. h cell j (inr i)))
     ∙ kind_beside d m tallies c.kind (cells_for (tree_within d m) cs) (λ j e. h c j (inl refl) e)
 
--- the tallies of these components are those of their trees, from n levels on
-abbrev pub AreTallied : PlainDesign → ℕ → List Tally → List ℕ → Type 0
-AreTallied d n tallies done = (k m : ℕ) → In done k → n ≤ m → get_or tallies k no_tally ≡ tally_of (tree_within d m k)
-
 -- one component more
 pub tally_next : (d : PlainDesign) (order : List ℕ) (tallies : List Tally) (i k : ℕ) (t : Tally)
     → IsChildrenFirst d order → slice_get order i ≡ Some k → k < length tallies → AreTallied d i tallies (take i order)
@@ -116,11 +112,11 @@ tally_turn d order i none tallies part t first so_far lt own is = record {
     within : get_or order i none < length tallies
     within = subst (λ n. get_or order i none < n) (sym so_far.sized) (turn_there d order i none first lt)
 
--- behind the last component the tally of main is that of the tree
-pub tally_end : (d : PlainDesign) (order : List ℕ) (i : ℕ) (tallies : List Tally) (none : Tally) → IsChildrenFirst d order → length order ≤ i → i ≤ length order → IsTalliedTo d order i tallies
-    → d.main < length tallies → get_or tallies d.main none ≡ tally_of (tree_of d)
-tally_end d order i tallies none first past within so_far lt =
-    get_or_default tallies d.main none no_tally lt ∙ so_far.known d.main (length d.components) (subst (λ xs. In xs d.main) (sym (take_all i order past)) first.main) (le_all first.few)
-  where
-    le_all : length order ≤ length d.components → i ≤ length d.components
-    le_all few = omega arith
+-- behind the last component
+pub tally_end : (d : PlainDesign) (order : List ℕ) (i : ℕ) (tallies : List Tally) → length order ≤ i → i ≤ length order → IsTalliedTo d order i tallies → AreTallied d (length order) tallies order
+tally_end d order i tallies past within so_far k m here ge = so_far.known k m (subst (λ xs. In xs k) (sym (take_all i order past)) here) (omega arith)
+
+-- the tally of main is that of the tree
+pub tally_main : (d : PlainDesign) (order : List ℕ) (tallies : List Tally) (none : Tally) → IsChildrenFirst d order → AreTallied d (length order) tallies order → d.main < length tallies
+    → get_or tallies d.main none ≡ tally_of (tree_of d)
+tally_main d order tallies none first known lt = get_or_default tallies d.main none no_tally lt ∙ known d.main (length d.components) first.main first.few

@@ -3,7 +3,7 @@ use Rattle.std.specs.Prelude.{◌≡◌, ℕ, ◌<◌, ◌≤◌, Bool, true, fa
 use Rattle.cx_meaning.specs.Designs.{PlainKind, OfPrimitive, OfComponent, PlainCell, PlainDesign, component_at}
 use Rattle.cx_meaning.specs.Sights.{In}
 
--- each component stands behind those of its cells, main is among them, and none stands twice
+-- each component stands behind those of its cells, main is among them, and they are no more than the design has
 pub record IsChildrenFirst (d : PlainDesign) (order : List ℕ) : Type 0 where
   pub there : (k : ℕ) → In order k → k < length d.components
   pub behind : (i k j : ℕ) (cell : PlainCell) → slice_get order i ≡ Some k → In (component_at d k).cells cell → cell.kind ≡ OfComponent j → In (take i order) j

@@ -1,8 +1,9 @@
 -- Counts over the tree of a component.
-use Rattle.std.specs.Prelude.{◌+◌, max, List, [], ◌∷◌, get_or}
+use Rattle.std.specs.Prelude.{◌≡◌, ℕ, ◌≤◌, ◌+◌, max, List, [], ◌∷◌, get_or}
 use Rattle.cx_prim.specs.Table.{row_of}
-use Rattle.cx_meaning.specs.Designs.{PlainKind, OfPrimitive, OfComponent, PlainCell, PlainComponent}
-use Rattle.cx_meaning.specs.Instances.{Instance, Cells}
+use Rattle.cx_meaning.specs.Designs.{PlainKind, OfPrimitive, OfComponent, PlainCell, PlainComponent, PlainDesign}
+use Rattle.cx_meaning.specs.Instances.{Instance, Cells, tree_within}
+use Rattle.cx_meaning.specs.Sights.{In}
 use Rattle.cx_rules.specs.Sizes.{size_of, weight_below, weight_in, instances_below, instances_in, depth_below, depth_in, words_below, words_in, shape_words}
 use Rattle.cx_limits.specs.Capped.{capped}
 use Rattle.cx_limits.specs.declared.tallies.Tally.{Tally}
@@ -43,3 +44,7 @@ above part below = record {
   words = below.words;
   weight = capped (size_of part + 1 + below.weight);
 }
+
+-- the tallies of these components are those of their trees, from n levels on
+abbrev pub AreTallied : PlainDesign → ℕ → List Tally → List ℕ → Type 0
+AreTallied d n tallies done = (k m : ℕ) → In done k → n ≤ m → get_or tallies k no_tally ≡ tally_of (tree_within d m k)

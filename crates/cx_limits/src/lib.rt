@@ -12,3 +12,5 @@ mod tallies;
 mod words;
 
 pub use checking::limits;
+pub use order::children_first;
+pub use tallies::{Tally, component_tallies};

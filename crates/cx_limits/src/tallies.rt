@@ -4,6 +4,7 @@ ghost use Rattle.std.specs.Prelude.{◌≡◌, ◌<◌, IfOk, map, length};
 ghost use Rattle.cx_meaning.specs.Instances.{tree_of};
 ghost use Rattle.cx_design.specs.PlainForms.{plain_cell, plain_component};
 ghost use Rattle.cx_design.specs.PlainDesigns.{plain_design};
+ghost use Rattle.cx_limits.specs.Orders.{IsChildrenFirst};
 ghost use Rattle.cx_limits.specs.Tallies as counts;
 
 use crate::order::children_first;
@@ -86,17 +87,30 @@ fn component_tally(tallies: &[Tally], part: &Component) -> Tally
     }
 }
 
-/// The counts over the tree of main.
-pub fn tree_tally(alloc: Global, design: &Design) -> Result<Tally, Memory>
-    ensures { IfOk result (λ tally. tally ≡ counts.tally_of (tree_of (plain_design design.now))) }
+/// The counts over the tree of each component of an order in which those of a component's cells come before it.
+pub fn component_tallies(
+    alloc: Global,
+    design: &Design,
+    order: &[u32],
+) -> Result<Vec<Tally>, Memory>
+    requires first { IsChildrenFirst (plain_design design.now) order.now }
+    ensures sized { IfOk result (λ tallies. length tallies.items ≡ length design.now.components.items) }
+    ensures value { IfOk result (λ tallies. counts.AreTallied (plain_design design.now) (length order.now) tallies.items order.now) }
 {
     let components = design.components.as_slice();
-    let placed = children_first(alloc, design)?;
-    let order = placed.as_slice();
     let mut tallies = vec![in alloc; NO_TALLY; components.len()]?;
     for component in order {
         let number = *component as usize;
         tallies[number] = component_tally(&tallies, &components[number]);
     }
+    Ok(tallies)
+}
+
+/// The counts over the tree of main.
+pub fn tree_tally(alloc: Global, design: &Design) -> Result<Tally, Memory>
+    ensures { IfOk result (λ tally. tally ≡ counts.tally_of (tree_of (plain_design design.now))) }
+{
+    let order = children_first(alloc, design)?;
+    let tallies = component_tallies(alloc, design, &order)?;
     Ok(tallies[design.main as usize])
 }

@@ -1,0 +1,3 @@
+mod TreeLemmas
+mod StepLemmas
+mod WayLemmas
