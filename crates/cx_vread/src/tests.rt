@@ -47,3 +47,16 @@ fn refusals_tell_the_line(rt: HostRuntime) {
         }
     }
 }
+
+#[test]
+fn cut_texts_are_refused_where_they_end(rt: HostRuntime) {
+    let text = COUNTER.as_bytes();
+    let mut line = 1u32;
+    for n in 0..text.len() {
+        let cut = read(rt.alloc(), &text[..n]).err();
+        assert!(rt; cut == Some(ReadRefusal::Syntax(line)), "{n}");
+        if text[n] == b'\n' {
+            line = line.saturating_add(1);
+        }
+    }
+}
