@@ -131,6 +131,7 @@ some_product (suc k) (suc r) h = (omega arith, omega arith)
 sizes_held : (ks : List ℕ) → 0 < word_count ks → word_count ks < 18446744073709551616 → list_all (λ k. nat_lt k 18446744073709551616) ks ≡ true
 sizes_held [] l h = refl
 sizes_held (k ∷ ks) l h =
+    let bound : k * word_count ks < 18446744073709551616 = h in
     let both = some_product k (word_count ks) l in
     let left : k ≤ k * word_count ks = le-mul_of_pos_right k both.1 in
     let right : word_count ks ≤ word_count ks * k = le-mul_of_pos_right (word_count ks) both.0 in

@@ -1,5 +1,5 @@
 -- A tree holds each sound source.
-use Rattle.std.proofs.Common.{◌≡◌, ℕ, ◌+◌, ◌-◌, ◌*◌, ◌<◌, ◌≤◌, ◌^◌, zero, suc, ◌==◌, not, Bool, true, false, ◌&&◌, ◌||◌, List, [], ◌∷◌, ◌++◌, map, length, Option, Some, None, refl, ◌∙◌, ap, sym, subst, arith, if◌then◌else◌}
+use Rattle.std.proofs.Common.{◌≡◌, ◌≢◌, ℕ, ◌+◌, ◌-◌, ◌*◌, ◌<◌, ◌≤◌, ◌^◌, zero, suc, ◌==◌, not, Bool, true, false, ◌&&◌, ◌||◌, List, [], ◌∷◌, ◌++◌, map, length, Option, Some, None, refl, ◌∙◌, ap, sym, subst, arith, if◌then◌else◌}
 use Rattle.std.specs.Prelude.{is_some, nat_lt, nat_le, option_and_then, is_none}
 use Rattle.std.specs.List.{list_all}
 use Rattle.std.specs.Option.{option_map_or}
@@ -120,7 +120,7 @@ literal_held : (w v : ℕ) → nat_le (2 ^ w) v ≡ false → bad_width w ≡ fa
 literal_held w v over bad =
     let le = small_width w bad in
     let lt = leb-false (2 ^ w) v over in
-    let some = eqb-false w 0 (or_parts (w == 0) (nat_lt 128 w) bad).0 in
+    let some : w ≢ 0 = eqb-false w 0 (or_parts (w == 0) (nat_lt 128 w) bad).0 in
     and_from (nat_lt 0 w && nat_le w 128) (nat_lt v (2 ^ w)) (and_from (nat_lt 0 w) (nat_le w 128) (lt-ltb 0 w (omega arith)) (le-leb w 128 le)) (lt-ltb v (2 ^ w) lt)
 
 numbers_held : (scope : Scope) (small : (n : List ℕ) → width_of (scope n) < 256) (e : PlainExpr) → misnames scope e ≡ false → is_some (fitting_width scope e) ≡ true → numbers_fit e ≡ true
@@ -157,7 +157,7 @@ numbers_held scope small (Joined a b) m f =
 
 -- more levels than enough are enough
 not_zero : (l m : ℕ) → (l == 0) ≡ false → l ≤ m → (m == 0) ≡ false
-not_zero l m h le = let ne = eqb-false l 0 h in ne_eqb m 0 (λ e. absurd (ne (omega arith)))
+not_zero l m h le = let ne : l ≢ 0 = eqb-false l 0 h in ne_eqb m 0 (λ e. absurd (ne (omega arith)))
 
 deeper : (l m : ℕ) (e : PlainExpr) → l ≤ m → nests_over l e ≡ false → nests_over m e ≡ false
 deeper l m (Named n) le h = refl

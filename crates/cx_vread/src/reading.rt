@@ -1,6 +1,6 @@
 //! The reading of a whole text.
 
-ghost use Rattle.std.specs.Prelude.{◌≡◌, true, IfOk};
+ghost use Rattle.std.specs.Prelude.{◌≡◌, ◌↔◌, true, IfOk, IsTrue};
 ghost use Rattle.cx_vtree.specs.Layout.{is_laid_out};
 ghost use Rattle.cx_vtree.specs.Plain.{PlainSource};
 ghost use Rattle.cx_vtree.specs.PlainSources.{plain_source};
@@ -110,20 +110,13 @@ fn noted(text: &[u8], notes: Notes) -> Option<ReadRefusal> {
     first(first(name, width), limit)
 }
 
-/// The parts of a text.
-#[derive(Drop)]
-pub struct Parts {
-    externals: Vec<External>,
-    modules: Vec<Module>,
-}
-
 /// The parts of a text, and where reading ends. Parts that no tree holds are noted, and others stand for them.
-fn parts<'a>(alloc: Global, at: At<'a>) -> Result<(Parts, At<'a>), Fault>
-    ensures { Gives (λ x. (source_of x.0.externals.items x.0.modules.items, place_of x.1)) result (source_at (place_of at.entry)) }
+fn parts<'a>(alloc: Global, at: At<'a>) -> Result<((Vec<External>, Vec<Module>), At<'a>), Fault>
+    ensures { Gives (λ x. (source_of x.0.0.items x.0.1.items, place_of x.1)) result (source_at (place_of at.entry)) }
 {
     let (externals, at) = externals(alloc, at)?;
     let (modules, at) = modules(alloc, at)?;
-    Ok((Parts { externals, modules }, at))
+    Ok(((externals, modules), at))
 }
 
 /// Keeps parts that some text spells, where they break no rule.
@@ -143,6 +136,13 @@ fn checked(
     }
 }
 
+/// Whether two texts are one.
+fn is_same(one: &[u8], other: &[u8]) -> bool
+    ensures { IsTrue result ↔ (one.now ≡ other.now) }
+{
+    one == other
+}
+
 /// Keeps parts that spell the text, where they break no rule.
 fn kept(
     alloc: Global,
@@ -154,7 +154,10 @@ fn kept(
     ensures answer { text.now ≡ text_of (source_of externals.items modules.items) → is_laid_out (source_of externals.items modules.items) ≡ true → Answers (source_of externals.items modules.items) result }
 {
     let spelled = spell(alloc, &externals, &modules)?;
-    if spelled.as_slice() != text || !is_laid_out(&externals, &modules) {
+    if !is_same(&spelled, text) {
+        return Err(ReadRefusal::Syntax(first_difference(text, &spelled)));
+    }
+    if !is_laid_out(&externals, &modules) {
         return Err(ReadRefusal::Syntax(first_difference(text, &spelled)));
     }
     checked(alloc, externals, modules)
@@ -175,15 +178,16 @@ fn kept_or_noted(
     alloc: Global,
     text: &[u8],
     notes: Notes,
-    parts: Parts,
+    externals: Vec<External>,
+    modules: Vec<Module>,
 ) -> Result<Source, ReadRefusal>
     ensures value { IfOk result (λ source. text.now ≡ text_of (plain_source source)) }
-    ensures answer { is_clean notes ≡ true → text.now ≡ text_of (source_of parts.externals.items parts.modules.items) → is_laid_out (source_of parts.externals.items parts.modules.items) ≡ true → Answers (source_of parts.externals.items parts.modules.items) result }
+    ensures answer { is_clean notes ≡ true → text.now ≡ text_of (source_of externals.items modules.items) → is_laid_out (source_of externals.items modules.items) ≡ true → Answers (source_of externals.items modules.items) result }
 {
     if notes.is_clean() {
-        return kept(alloc, text, parts.externals, parts.modules);
+        return kept(alloc, text, externals, modules);
     }
-    let found = check(alloc, &parts.externals, &parts.modules)?;
+    let found = check(alloc, &externals, &modules)?;
     Err(earliest(text, notes, found))
 }
 
@@ -198,7 +202,9 @@ pub fn read(alloc: Global, text: &[u8]) -> Result<Source, ReadRefusal>
     let start = At { rest: text, notes };
     match parts(alloc, start) {
         Err(fault) => Err(stopped(text, fault)),
-        Ok((parts, end)) => kept_or_noted(alloc, text, end.notes, parts),
+        Ok(((externals, modules), end)) => kept_or_noted(
+            alloc, text, end.notes, externals, modules,
+        ),
     }
 }
 
