@@ -1,2 +1,1 @@
-pub mod LocateLemmas
 pub mod NumberLemmas

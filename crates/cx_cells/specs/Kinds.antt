@@ -15,8 +15,8 @@ use Rattle.cx_cells.specs.declared.kinds.Kind.{Kind}
 use Rattle.cx_cells.specs.declared.kinds.Kind.TheVariants as kinds
 use Rattle.cx_cells.specs.declared.kinds.KindState.{KindState}
 use Rattle.cx_cells.specs.declared.kinds.KindState.TheVariants as states
-use Rattle.cx_cells.specs.Layouts.{row_at_layout}
-use Rattle.cx_cells.specs.Shown.{register_shown, memory_shown, sequential_shown, multiplier_shown, divider_shown, timer_shown}
+use Rattle.cx_stateful.specs.Layouts.{row_at_layout}
+use Rattle.cx_stateful.specs.Shown.{register_shown, memory_shown, sequential_shown, multiplier_shown, divider_shown, timer_shown}
 
 abbrev pub kind_row : Kind → Row
 kind_row (kinds.Constant p) = constant_row p.width p.value

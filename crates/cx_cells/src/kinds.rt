@@ -5,15 +5,13 @@ ghost use Rattle.cx_prim.specs.CellStates.{IsState, TakesWords, HasWord, words_o
 ghost use Rattle.cx_prim.specs.Rows.{FitsPorts, reset, start_with};
 ghost use Rattle.cx_cells.specs.Kinds.{kind_row, state_shown, kind_lawful};
 
-use crate::divider::{Divider, DividerState};
-use crate::memory::{CombinationalMemory, MemoryState};
-use crate::multiplier::{Multiplier, MultiplierState};
-use crate::register::{Register, RegisterState};
-use crate::sequential::{SequentialMemory, SequentialState};
-use crate::timer::{Timer, TimerState};
 use crate::words::{widened, word_at};
 use cx_bits::Bits;
 use cx_prim::{Binary, Constant, Cycle, Mux, OutOfRange, PortRow, Stateless, Unary};
+use cx_stateful::{
+    CombinationalMemory, Divider, DividerState, MemoryState, Multiplier, MultiplierState, Register,
+    RegisterState, SequentialMemory, SequentialState, Timer, TimerState,
+};
 use cx_text::Memory;
 use std::alloc::Global;
 

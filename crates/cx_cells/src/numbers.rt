@@ -10,18 +10,14 @@ ghost use Rattle.cx_prim.specs.Operators.{IsUnary, apply_binary, apply_unary, bi
 ghost use Rattle.cx_prim.specs.Table.{at_width, constant_at, memory_at, pad_at, row_at, slice_at, timer_at};
 ghost use Rattle.cx_prim.specs.Widths.{IsWidth, is_width};
 ghost use Rattle.cx_cells.specs.Kinds.{kind_row};
-ghost use Rattle.cx_cells.specs.Layouts.{row_at_layout};
+ghost use Rattle.cx_stateful.specs.Layouts.{row_at_layout};
 
-use crate::divider::Divider;
 use crate::kinds::Kind;
-use crate::layout::Layout;
-use crate::memory::CombinationalMemory;
-use crate::multiplier::Multiplier;
-use crate::register::Register;
-use crate::sequential::SequentialMemory;
-use crate::timer::Timer;
 use cx_bits::Bits;
 use cx_prim::{Binary, BinaryOperator, Constant, Mux, PrimitiveName, Unary, UnaryOperator};
+use cx_stateful::{
+    CombinationalMemory, Divider, Layout, Multiplier, Register, SequentialMemory, Timer,
+};
 
 /// The primitive of this name at these numbers. None where the numbers break the row.
 pub fn kind_of(name: PrimitiveName, numbers: &[u64]) -> Option<Kind>

@@ -4,9 +4,9 @@ ghost use Rattle.std.specs.Prelude.{◌≡◌, ◌≢◌, ◌<◌, ◌≤◌, �
 
 use crate::kinds::{Kind, KindState};
 use crate::numbers::{kind_of, padded};
-use crate::timer::Timer;
 use cx_bits::Bits;
 use cx_prim::{Cycle, OutOfRange, PortRow, PrimitiveName};
+use cx_stateful::Timer;
 use cx_text::Memory;
 use std::alloc::Global;
 use std::marker::Model;

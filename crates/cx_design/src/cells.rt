@@ -1,6 +1,6 @@
 //! Cells of a component.
 
-use crate::primitives::Primitive;
+use cx_cells::Primitive;
 use cx_text::{Name, Place};
 
 /// What a cell is of.

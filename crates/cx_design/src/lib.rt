@@ -1,4 +1,4 @@
-//! Designs: their types, what they stand for, their limits, and designs that are accepted.
+//! Designs: their types, what they stand for, and designs that are accepted.
 #![tactic(auto)]
 
 mod accepted;
@@ -8,7 +8,6 @@ mod components;
 mod designs;
 mod groups;
 mod guards;
-mod primitives;
 mod refusals;
 mod rows;
 mod statements;
@@ -19,10 +18,10 @@ pub use accepted::Checked;
 pub use actives::{Active, ActiveEntry, PortFault};
 pub use cells::{Cell, CellKind};
 pub use components::Component;
+pub use cx_cells::Primitive;
 pub use cx_meaning::{Comparison, FaultKind, GroupKind, PlacedPort, PortDecl, PortRef, Seen};
 pub use designs::Design;
 pub use groups::{Assign, Group};
 pub use guards::Guard;
-pub use primitives::Primitive;
 pub use refusals::Refusal;
 pub use statements::{Form, Statement};

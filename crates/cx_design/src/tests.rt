@@ -5,30 +5,29 @@ ghost use Rattle.cx_design.specs.Narrow.{IsNarrow};
 ghost use Rattle.cx_design.specs.PlainForms.{plain_cell};
 
 use crate::cells::{Cell, CellKind};
-use crate::primitives::Primitive;
 use crate::rows::external_rows;
-use cx_prim::PrimitiveName;
-use cx_text::{Memory, MemoryRow, Name, Place};
+use cx_cells::Primitive;
+use cx_text::{MemoryRow, Name, Place};
 use std::alloc::Global;
 use std::test::Fail;
 
 /// A cell `mem` of `std_mem_d2` with words of 32 bits, 2 rows of 3 words, and addresses of 1 and 2 bits.
-fn memory(alloc: Global, external: bool) -> Result<Cell, Memory>
+fn memory(alloc: Global, external: bool) -> Result<Cell, Fail>
     ensures narrow { IfOk result (λ cell. IsNarrow (plain_cell cell)) }
 {
-    let numbers = Vec::from_slice(alloc, [32, 2, 3, 1, 2].as_slice())?;
+    let primitive = Primitive::find(b"std_mem_d2".as_slice(), [32, 2, 3, 1, 2].as_slice())?;
     Ok(Cell {
         name: Name::from_bytes(alloc, b"mem".as_slice())?,
-        kind: CellKind::Prim(Primitive::new(PrimitiveName::StdMemD2, numbers)),
+        kind: CellKind::Prim(primitive),
         external,
         place: Place { line: 1, column: 1 },
     })
 }
 
 /// The rows of one memory.
-fn rows_of_one(alloc: Global, external: bool) -> Result<Vec<MemoryRow>, Memory> {
+fn rows_of_one(alloc: Global, external: bool) -> Result<Vec<MemoryRow>, Fail> {
     let cells = [memory(alloc, external)?];
-    external_rows(alloc, cells.as_slice())
+    Ok(external_rows(alloc, cells.as_slice())?)
 }
 
 // The row of `std_mem_d2(32, 2, 3, 1, 2)`: a width of 32 and the sizes 2 and 3. A cell that is not external has none.

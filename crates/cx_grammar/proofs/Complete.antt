@@ -1,14 +1,14 @@
 -- What is spelled so is read, where one token of lookahead is enough and the next token does not go on.
-use Rattle.std.proofs.Common.{◌≡◌, ℕ, zero, suc, ◌≤◌, ◌<◌, Bool, true, false, ◌&&◌, ◌||◌, not, List, [], ◌∷◌, ◌++◌, length, Result, Ok, Err, refl, sym, ap, subst, ◌∙◌, cond, arith, ◌⊎◌, inl, inr, ⊎_elim, ◌==◌}
+use Rattle.std.proofs.Common.{◌≡◌, ℕ, zero, suc, ◌≤◌, ◌<◌, Bool, true, false, ◌&&◌, ◌||◌, not, List, [], ◌∷◌, ◌++◌, length, Ok, Err, refl, sym, ap, subst, ◌∙◌, cond, arith, ◌⊎◌, inl, inr, ⊎_elim, ◌==◌}
 use Rattle.std.proofs.lemmas.Bool.{and_parts, eqb-true}
-use Rattle.std.specs.List.{list_any, list_all}
+use Rattle.std.specs.List.{list_all}
 use Rattle.cx_tokens.specs.declared.tokens.Token.{Token}
 use Rattle.cx_grammar.specs.declared.terminals.Terminal.{Terminal}
 use Rattle.cx_grammar.specs.declared.terminals.Terminal.TheVariants.{Comma}
 use Rattle.cx_grammar.specs.Terminals.{terminal_of, number_of, is, is_in, begins}
-use Rattle.cx_grammar.specs.Grammar.{Nest, Nested, Negation, Parens, Braces, Grammar, Empty, One, Pair, Choice, Several, Commas, Deeper, starts, nullable, opening, goes_on, nest_goes_on, Spelling, Spells, Several_of, Commas_of, IsComma}
+use Rattle.cx_grammar.specs.Grammar.{Nest, Nested, Grammar, Empty, One, Pair, Choice, Several, Commas, Deeper, starts, nullable, opening, goes_on, nest_goes_on, Spelling, Spells, Several_of, Commas_of, IsComma}
 use Rattle.cx_grammar.specs.Calyx.{nest, nested_at, spelled_within}
-use Rattle.cx_grammar.specs.Reading.{Stop, Reads, then_reads, one_at, several_in, several_at, commas_in, commas_at, read, unexpected, too_deep, disjoint, is_plain}
+use Rattle.cx_grammar.specs.Reading.{Reads, then_reads, one_at, several_in, several_at, commas_in, commas_at, read, unexpected, disjoint, is_plain}
 use Rattle.cx_grammar.proofs.Shorter.{took, nested_shorter, Taken, nullable_nest}
 use Rattle.cx_grammar.proofs.Known.{plain_nest, starts_nest, nest_within}
 
@@ -80,24 +80,24 @@ begins_left us vs ts e = or_left (begins us ts) (begins vs ts) (sym (begins-appe
 pub begins_right : (us vs : List Terminal) (ts : List Token) → begins (us ++ vs) ts ≡ false → begins vs ts ≡ false
 begins_right us vs ts e = or_right (begins us ts) (begins vs ts) (sym (begins-append us vs ts) ∙ e)
 
-begins_more : (us vs : List Terminal) (ts : List Token) → begins us ts ≡ true → begins (us ++ vs) ts ≡ true
+pub begins_more : (us vs : List Terminal) (ts : List Token) → begins us ts ≡ true → begins (us ++ vs) ts ≡ true
 begins_more us vs ts e = begins-append us vs ts ∙ ap (λ b. b || begins vs ts) e
 
-begins_other : (us vs : List Terminal) (ts : List Token) → begins vs ts ≡ true → begins (us ++ vs) ts ≡ true
+pub begins_other : (us vs : List Terminal) (ts : List Token) → begins vs ts ≡ true → begins (us ++ vs) ts ≡ true
 begins_other us vs ts e = begins-append us vs ts ∙ or_second (begins us ts) (begins vs ts) e
 
 -- how a text begins: with a terminal that begins one, or it is empty
 abbrev First : Bool → List Terminal → List Token → List Token → Type 0
 First empty set ts rest = (begins set ts ≡ true) ⊎ ((empty ≡ true) × (ts ≡ rest))
 
-first_pair : (a b : Bool) (us vs : List Terminal) (ts mid rest : List Token) → First a us ts mid → First b vs mid rest → First (a && b) (cond a (us ++ vs) us) ts rest
+pub first_pair : (a b : Bool) (us vs : List Terminal) (ts mid rest : List Token) → First a us ts mid → First b vs mid rest → First (a && b) (cond a (us ++ vs) us) ts rest
 first_pair true b us vs ts mid rest (inl h) k = inl (begins_more us vs ts h)
 first_pair true b us vs ts mid rest (inr h) (inl k) = inl (begins_other us vs ts (subst (λ s. begins vs s ≡ true) (sym h.1) k))
 first_pair true b us vs ts mid rest (inr h) (inr k) = inr (k.0, h.1 ∙ k.1)
 first_pair false b us vs ts mid rest (inl h) k = inl h
 first_pair false b us vs ts mid rest (inr h) k = absurd (let f = h.0 in cc)
 
-first_some : (a : Bool) (us : List Terminal) (ts rest : List Token) → a ≡ false → First a us ts rest → begins us ts ≡ true
+pub first_some : (a : Bool) (us : List Terminal) (ts rest : List Token) → a ≡ false → First a us ts rest → begins us ts ≡ true
 first_some a us ts rest e (inl h) = h
 first_some a us ts rest e (inr h) = absurd (let f = h.0 in cc)
 

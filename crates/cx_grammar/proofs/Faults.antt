@@ -1,14 +1,15 @@
 -- Where reading a file stops, the tokens so far begin a file, and with the next one they begin none, or are too deep.
-use Rattle.std.proofs.Common.{◌≡◌, ℕ, zero, suc, ◌+◌, ◌-◌, Bool, true, false, List, [], ◌∷◌, ◌++◌, length, drop, Result, Ok, Err, refl, sym, ap, subst, ◌∙◌, arith, append_assoc, append-nil}
+use Rattle.std.proofs.Common.{◌≡◌, ℕ, suc, List, [], ◌∷◌, ◌++◌, length, drop, Ok, Err, refl, sym, ap, subst, ◌∙◌, append_assoc}
 use Rattle.cx_tokens.specs.declared.tokens.Token.{Token}
 use Rattle.cx_ast.specs.PlainTree.{PlainTree}
 use Rattle.cx_grammar.specs.Terminals.{peek_at}
 use Rattle.cx_grammar.specs.Grammar.{Spells}
 use Rattle.cx_grammar.specs.Calyx.{file, nested_at, spelled_within}
 use Rattle.cx_grammar.specs.Parsing.{Parse, Begins, IsTooDeep, Leads, deep_at, IsUnexpected, IsDeep}
-use Rattle.cx_grammar.specs.Reading.{Why, Unexpected, TooDeep, Stop, Reads, read}
+use Rattle.cx_grammar.specs.Reading.{Unexpected, TooDeep, Stop, Reads, read}
+use Rattle.cx_grammar.proofs.Deep.{last_stop, too_deep_stops}
 use Rattle.cx_grammar.proofs.Known.{plain_file}
-use Rattle.cx_grammar.proofs.OneTree.{file_complete, parse_complete}
+use Rattle.cx_grammar.proofs.OneTree.{file_complete}
 use Rattle.cx_grammar.proofs.Samples.{nested_sample}
 use Rattle.cx_grammar.proofs.Shorter.{nested_shorter, ok_same}
 use Rattle.cx_grammar.proofs.Sound.{nested_sound}
@@ -45,6 +46,22 @@ not_over m k ts tree x t more e f =
 one_more : (used : List Token) (t : Token) (more : List Token) → (used ++ (t ∷ [])) ++ more ≡ used ++ (t ∷ more)
 one_more used t more = append_assoc used (t ∷ []) more
 
+-- tokens of which some at the front are too deep stop reading there
+deep_front : (ts before after rest : List Token) → ts ≡ (before ++ after) ++ rest → IsTooDeep before → read (nested_at 64) file ts ≡ Err (last_stop (after ++ rest))
+deep_front ts before after rest whole d = ap (read (nested_at 64) file) (whole ∙ append_assoc before after rest) ∙ too_deep_stops before (after ++ rest) d
+
+stop_same : (s u : Stop) → (let r : Reads PlainTree = Err s in r ≡ Err u) → s ≡ u
+stop_same s u e = cc
+
+unlike : (a b : Stop) → a.why ≡ TooDeep → b.why ≡ Unexpected → a ≡ b → ⊥
+unlike a b deep plain e = let same : a.why ≡ b.why = ap (λ (s : Stop). s.why) e in cc
+
+not_deep_stopped : (ts before after rest : List Token) (left : ℕ) → ts ≡ (before ++ after) ++ rest → IsTooDeep before → read (nested_at 64) file ts ≡ Err (record { why = Unexpected; left = left }) → ⊥
+not_deep_stopped ts before after rest left whole d e = unlike (last_stop (after ++ rest)) (record { why = Unexpected; left = left }) refl refl (stop_same _ _ (sym (deep_front ts before after rest whole d) ∙ e))
+
+not_deep_read : (ts before after rest : List Token) (x : PlainTree) (behind : List Token) → ts ≡ (before ++ after) ++ rest → IsTooDeep before → read (nested_at 64) file ts ≡ Ok (x, behind) → ⊥
+not_deep_read ts before after rest x behind whole d e = ok_not_err (x, behind) (last_stop (after ++ rest)) (sym e ∙ deep_front ts before after rest whole d)
+
 -- reading stopped
 pub unexpected_at : (ts : List Token) (left : ℕ) → read (nested_at 64) file ts ≡ Err (record { why = Unexpected; left = left }) → (front back : List Token) × IsUnexpected ts front back × (length back ≡ left)
 unfolding Parse
@@ -61,7 +78,8 @@ unexpected_at ts left e = stopped (subst (Stays (read (nested_at 64) file) (Spel
             not_stopped b.levels 64 (k.used ++ (t ∷ b.more)) b.tree (length (t ∷ b.more))
             (ap (read (nested_at b.levels) file) (sym (one_more k.used t b.more)) ∙ file_complete b.levels ((k.used ++ (t ∷ [])) ++ b.more) b.tree b.whole)
             (k.local (t ∷ b.more) (sym (ap peek_at is)));
-        no_tree = λ is tree p. not_stopped 64 64 ts tree left (file_complete 64 ts tree p) e;
+        no_file = λ is f. not_stopped f.0 64 ts f.1 left (file_complete f.0 ts f.1 f.2) e;
+        not_deep = λ before after is d. not_deep_stopped ts before after k.rest left (k.whole ∙ ap (λ us. us ++ k.rest) is) d e;
       },
       k.count,
     )
@@ -81,7 +99,8 @@ over_at ts x t after e = ended (subst (Stays (read (nested_at 64) file) (Spells 
             not_over b.levels 64 (d.used ++ (u ∷ b.more)) b.tree x u b.more
             (ap (read (nested_at b.levels) file) (sym (one_more d.used u b.more)) ∙ file_complete b.levels ((d.used ++ (u ∷ [])) ++ b.more) b.tree b.whole)
             (d.local (u ∷ b.more) (sym (ap peek_at is)));
-        no_tree = λ is tree p. not_over 64 64 ts tree x t after (file_complete 64 ts tree p) e;
+        no_file = λ is f. not_over f.0 64 ts f.1 x t after (file_complete f.0 ts f.1 f.2) e;
+        not_deep = λ before rest is p. not_deep_read ts before rest (t ∷ after) x (t ∷ after) (d.whole ∙ ap (λ us. us ++ (t ∷ after)) is) p e;
       },
     )
 

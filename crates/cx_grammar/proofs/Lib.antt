@@ -4,8 +4,10 @@ pub mod Loops
 pub mod Sound
 pub mod Complete
 pub mod OneTree
+pub mod Deep
 pub mod Samples
 pub mod Stays
 pub mod Viable
 pub mod Wider
 pub mod Faults
+pub mod OneReading

@@ -1,12 +1,12 @@
 -- Reading one text after another, a text at a time.
-use Rattle.std.proofs.Common.{◌≡◌, ℕ, zero, suc, ◌≤◌, ◌<◌, Bool, true, false, ◌&&◌, List, [], ◌∷◌, ◌++◌, length, Result, Ok, Err, refl, sym, ap, ◌∙◌, subst, arith, cond, append_assoc, append-nil, ◌+◌}
+use Rattle.std.proofs.Common.{◌≡◌, ℕ, zero, suc, ◌≤◌, ◌<◌, true, false, List, [], ◌∷◌, ◌++◌, length, Ok, Err, refl, sym, ap, ◌∙◌, subst, arith, cond, append_assoc, append-nil, ◌+◌}
 use Rattle.cx_tokens.specs.declared.tokens.Token.{Token}
 use Rattle.cx_grammar.specs.declared.terminals.Terminal.{Terminal}
 use Rattle.cx_grammar.specs.declared.terminals.Terminal.TheVariants.{Comma}
 use Rattle.cx_grammar.specs.Terminals.{terminal_of, is_in, begins}
-use Rattle.cx_grammar.specs.Grammar.{Nest, Nested, Grammar, IsComma, starts, nullable, opening}
+use Rattle.cx_grammar.specs.Grammar.{Nest, Grammar, IsComma, starts, nullable}
 use Rattle.cx_grammar.specs.Calyx.{nest, nested_at}
-use Rattle.cx_grammar.specs.Reading.{Stop, Reads, then_reads, several_in, several_at, commas_in, commas_at, read, unexpected, too_deep}
+use Rattle.cx_grammar.specs.Reading.{Stop, Reads, then_reads, several_in, several_at, commas_in, commas_at, read}
 use Rattle.cx_grammar.proofs.Shorter.{Taken, took, nested_shorter}
 
 -- two readings go on alike

@@ -1,5 +1,5 @@
 -- A text of each grammar.
-use Rattle.std.proofs.Common.{◌≡◌, ℕ, zero, suc, ◌+◌, ◌<◌, Bool, true, false, ◌&&◌, ◌||◌, not, List, [], ◌∷◌, ◌++◌, length, codes, refl, sym, ap, subst, ◌∙◌, arith, ◌⊎◌, inl, inr, append_assoc, ◌==◌}
+use Rattle.std.proofs.Common.{◌≡◌, ℕ, suc, Bool, true, false, ◌&&◌, ◌||◌, not, List, [], ◌∷◌, ◌++◌, codes, refl, sym, ap, subst, ◌∙◌, inl, inr, append_assoc}
 use Rattle.std.proofs.lemmas.Bool.{and_parts, eq-eqb}
 use Rattle.cx_tokens.specs.declared.signs.Sign.TheVariants as signs
 use Rattle.cx_tokens.specs.declared.tokens.Token.{Token}
@@ -7,8 +7,8 @@ use Rattle.cx_tokens.specs.declared.tokens.TokenKind.{TokenKind}
 use Rattle.cx_tokens.specs.declared.tokens.TokenKind.TheVariants as kinds
 use Rattle.cx_grammar.specs.declared.terminals.Terminal.{Terminal}
 use Rattle.cx_grammar.specs.declared.terminals.Terminal.TheVariants.{Import, Component, Cells, Wires, Control, Group, Comb, Static, Seq, Par, If, Else, While, Repeat, Invoke, With, Ref, Name, Number, Literal, Text, OpenBrace, CloseBrace, OpenParen, CloseParen, OpenBracket, CloseBracket, Less, Greater, Semicolon, Colon, Comma, Dot, Equal, Question, Not, And, Or, At, Percent, EqualEqual, NotEqual, LessEqual, GreaterEqual, Arrow}
-use Rattle.cx_grammar.specs.Terminals.{terminal_of, number_of, is, is_in, begins}
-use Rattle.cx_grammar.specs.Grammar.{Nest, Nested, Negation, Parens, Braces, Grammar, Empty, One, Pair, Choice, Several, Commas, Deeper, Spelling, Spells, Several_of, Commas_of, IsComma, starts, nullable, goes_on}
+use Rattle.cx_grammar.specs.Terminals.{terminal_of, number_of, is, is_in}
+use Rattle.cx_grammar.specs.Grammar.{Nest, Nested, Grammar, Empty, One, Pair, Choice, Several, Commas, Deeper, Spelling, Spells, starts, nullable, goes_on}
 use Rattle.cx_grammar.specs.Calyx.{nest, spelled_within}
 use Rattle.cx_grammar.specs.Reading.{is_plain, is_empty, disjoint}
 use Rattle.cx_grammar.proofs.Known.{plain_nest, shallow_nest, is_shallow}

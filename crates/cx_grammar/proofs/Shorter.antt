@@ -1,5 +1,5 @@
 -- What is read takes its tokens from the front: a text that is not empty takes one at least.
-use Rattle.std.proofs.Common.{◌≡◌, ℕ, zero, suc, ◌≤◌, ◌<◌, Bool, true, false, ◌&&◌, ◌||◌, List, [], ◌∷◌, length, Result, Ok, Err, refl, sym, ap, subst, arith, cond, ◌⊎◌, inl, inr, ⊎_elim}
+use Rattle.std.proofs.Common.{◌≡◌, ℕ, zero, suc, ◌≤◌, ◌<◌, Bool, true, false, ◌&&◌, ◌||◌, List, [], ◌∷◌, length, Ok, Err, refl, subst, arith, cond, ◌⊎◌, inl, inr, ⊎_elim}
 use Rattle.std.proofs.Math.Bool.{and-true}
 use Rattle.cx_tokens.specs.declared.tokens.Token.{Token}
 use Rattle.cx_grammar.specs.declared.terminals.Terminal.{Terminal}
@@ -7,7 +7,7 @@ use Rattle.cx_grammar.specs.declared.terminals.Terminal.TheVariants.{Comma}
 use Rattle.cx_grammar.specs.Terminals.{terminal_of, is_in, begins}
 use Rattle.cx_grammar.specs.Grammar.{Nest, Nested, Negation, Parens, Braces, Grammar, Empty, One, Pair, Choice, Several, Commas, Deeper, starts, nullable, opening}
 use Rattle.cx_grammar.specs.Calyx.{nest, nested_at}
-use Rattle.cx_grammar.specs.Reading.{Stop, Reads, then_reads, one_at, several_in, several_at, commas_in, commas_at, read, unexpected, too_deep}
+use Rattle.cx_grammar.specs.Reading.{Reads, then_reads, one_at, several_in, several_at, commas_in, commas_at, read, unexpected, too_deep}
 
 -- what came before what follows
 pub then_ok : {A B : Type 0} (r : Reads A) (f : A → List Token → Reads B) (y : B × List Token) → then_reads r f ≡ Ok y → (x : A × List Token) × (r ≡ Ok x) × (f x.0 x.1 ≡ Ok y)

@@ -1,12 +1,12 @@
 -- What is read is spelled so.
-use Rattle.std.proofs.Common.{◌≡◌, ℕ, zero, suc, Bool, true, false, List, [], ◌∷◌, length, Result, Ok, Err, refl, sym, ap, subst, cond, ◌⊎◌, inl, inr, ⊎_elim}
+use Rattle.std.proofs.Common.{◌≡◌, ℕ, zero, suc, List, [], ◌∷◌, length, Ok, Err, refl, subst, inl, inr, ⊎_elim}
 use Rattle.cx_tokens.specs.declared.tokens.Token.{Token}
 use Rattle.cx_grammar.specs.declared.terminals.Terminal.{Terminal}
 use Rattle.cx_grammar.specs.declared.terminals.Terminal.TheVariants.{Comma}
 use Rattle.cx_grammar.specs.Terminals.{terminal_of, is_in, begins}
-use Rattle.cx_grammar.specs.Grammar.{Nest, Nested, Grammar, Empty, One, Pair, Choice, Several, Commas, Deeper, starts, nullable, opening, Spelling, Spells, Several_of, Commas_of, IsComma}
+use Rattle.cx_grammar.specs.Grammar.{Nest, Nested, Grammar, Empty, One, Pair, Choice, Several, Commas, Deeper, starts, opening, Spelling, Spells, Several_of, Commas_of}
 use Rattle.cx_grammar.specs.Calyx.{nest, nested_at, spelled_within}
-use Rattle.cx_grammar.specs.Reading.{Stop, Reads, then_reads, one_at, several_in, several_at, commas_in, commas_at, read, unexpected, too_deep}
+use Rattle.cx_grammar.specs.Reading.{Reads, several_in, several_at, commas_in, commas_at, read, unexpected, too_deep}
 use Rattle.cx_grammar.proofs.Shorter.{then_ok, ok_same, which}
 
 module _ {A : Type 0} (r : List Token → Reads A) (set : List Terminal) (spelled : Spelling A) (sound : (ts : List Token) (x : A × List Token) → r ts ≡ Ok x → spelled ts x.0 x.1) where

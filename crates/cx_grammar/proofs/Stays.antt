@@ -1,13 +1,10 @@
 -- What reading answers hangs on the tokens up to the one that it looks at last, and what is read up to there can be completed.
-use Rattle.std.proofs.Common.{◌≡◌, ℕ, zero, suc, ◌+◌, ◌≤◌, ◌<◌, Bool, true, false, List, [], ◌∷◌, ◌++◌, length, Option, Some, None, Result, Ok, Err, refl, sym, ap, subst, ◌∙◌, cond, arith, ◌⊎◌, inl, inr, append_assoc, append-nil, length-append}
+use Rattle.std.proofs.Common.{◌≡◌, ℕ, Bool, List, [], ◌∷◌, ◌++◌, length, Ok, Err, refl, sym, ap, subst, ◌∙◌, ◌⊎◌, inl, inr, append_assoc}
 use Rattle.cx_tokens.specs.declared.tokens.Token.{Token}
 use Rattle.cx_grammar.specs.declared.terminals.Terminal.{Terminal}
-use Rattle.cx_grammar.specs.declared.terminals.Terminal.TheVariants.{Comma}
-use Rattle.cx_grammar.specs.Terminals.{terminal_of, is_in, is_next, begins, peek_at}
-use Rattle.cx_grammar.specs.Grammar.{Spelling, Several_of, Commas_of, IsComma}
-use Rattle.cx_grammar.specs.Parsing.{Commas_into}
-use Rattle.cx_grammar.specs.Reading.{Why, Unexpected, TooDeep, Stop, Reads, then_reads, several_at, commas_at}
-use Rattle.cx_grammar.proofs.Loops.{several-unroll, several-end, commas-none, commas-last, commas-unroll}
+use Rattle.cx_grammar.specs.Terminals.{is_next, begins, peek_at}
+use Rattle.cx_grammar.specs.Grammar.{Spelling}
+use Rattle.cx_grammar.specs.Reading.{Why, Unexpected, TooDeep, Reads, then_reads}
 use Rattle.cx_grammar.proofs.Samples.{Sample}
 
 -- what is read can be completed

@@ -1,5 +1,5 @@
 -- Where reading a grammar stops, what was read can be completed, and the token there decides.
-use Rattle.std.proofs.Common.{◌≡◌, ℕ, zero, suc, ◌≤◌, ◌<◌, Bool, true, false, ◌&&◌, ◌||◌, not, List, [], ◌∷◌, ◌++◌, length, Result, Ok, Err, refl, sym, ap, subst, ◌∙◌, cond, arith, ◌⊎◌, inl, inr}
+use Rattle.std.proofs.Common.{◌≡◌, ℕ, zero, suc, ◌≤◌, ◌<◌, Bool, true, false, ◌&&◌, not, List, [], ◌∷◌, ◌++◌, length, Ok, Err, refl, sym, ap, subst, ◌∙◌, cond, arith, ◌⊎◌, inl, inr}
 use Rattle.std.proofs.lemmas.Bool.{and_parts}
 use Rattle.cx_tokens.specs.declared.tokens.Token.{Token}
 use Rattle.cx_grammar.specs.declared.terminals.Terminal.{Terminal}
@@ -13,14 +13,14 @@ use Rattle.cx_ast.specs.PlainGuards as guards
 use Rattle.cx_ast.specs.PlainStatements.{statements_of}
 use Rattle.cx_ast.specs.PlainStatements as plain
 use Rattle.cx_grammar.specs.Parsing.{Commas_into, Leads, deep_at}
-use Rattle.cx_grammar.specs.Reading.{Why, Unexpected, TooDeep, Stop, Reads, then_reads, one_at, several_at, commas_at, read, unexpected, too_deep, is_plain, disjoint}
+use Rattle.cx_grammar.specs.Reading.{Why, Unexpected, TooDeep, Reads, then_reads, one_at, several_at, commas_at, read, unexpected, too_deep, is_plain, disjoint}
 use Rattle.cx_grammar.proofs.Known.{plain_nest, shallow_nest, is_shallow}
 use Rattle.cx_grammar.proofs.Complete.{not_true}
 use Rattle.cx_grammar.proofs.Loops.{several-unroll, several-end, commas-none, commas-last, commas-unroll}
 use Rattle.cx_grammar.proofs.Samples.{Sample, sample, nested_sample, one_sample}
 use Rattle.cx_grammar.proofs.Shorter.{Taken, took, nested_shorter}
 use Rattle.cx_grammar.proofs.Sound.{read_sound, nested_sound}
-use Rattle.cx_grammar.proofs.Stays.{Completes, Deepens, Done, Goes, Stopped, Stays, peek_same, begins_same, both, Both, Either, both_stays, along_stays, then_same}
+use Rattle.cx_grammar.proofs.Stays.{Completes, Goes, Stopped, Stays, peek_same, begins_same, both, Both, Either, both_stays, along_stays, then_same}
 
 module _ {A : Type 0} (r : List Token → Reads A) (set : List Terminal) (W S : Spelling A) (D : List Token → Type 0)
     (shorter : (ts : List Token) (x : A × List Token) → r ts ≡ Ok x → length x.1 < length ts)

@@ -1,7 +1,6 @@
 -- More levels make no difference where none was wanting.
-use Rattle.std.proofs.Common.{◌≡◌, ℕ, zero, suc, ◌+◌, ◌-◌, ◌≤◌, ◌<◌, Bool, true, false, List, [], ◌∷◌, length, Result, Ok, Err, refl, sym, ap, subst, ◌∙◌, cond, arith, ◌⊎◌, inl, inr}
+use Rattle.std.proofs.Common.{◌≡◌, ℕ, zero, suc, ◌+◌, ◌-◌, ◌≤◌, Bool, true, false, List, [], ◌∷◌, length, Ok, Err, refl, sym, ap, subst, ◌∙◌, cond, arith, ◌⊎◌, inl, inr}
 use Rattle.cx_tokens.specs.declared.tokens.Token.{Token}
-use Rattle.cx_ast.specs.PlainTree.{PlainTree}
 use Rattle.cx_grammar.specs.declared.terminals.Terminal.{Terminal}
 use Rattle.cx_grammar.specs.declared.terminals.Terminal.TheVariants.{Comma, Not, OpenParen, CloseParen, OpenBrace, CloseBrace}
 use Rattle.cx_grammar.specs.Terminals.{terminal_of, is_in, begins}
@@ -12,7 +11,7 @@ use Rattle.cx_ast.specs.PlainGuards.{PlainGuard}
 use Rattle.cx_ast.specs.PlainGuards as guards
 use Rattle.cx_ast.specs.PlainStatements.{statements_of}
 use Rattle.cx_ast.specs.PlainStatements as plain
-use Rattle.cx_grammar.specs.Reading.{Why, Unexpected, TooDeep, Stop, Reads, then_reads, one_at, several_in, several_at, commas_in, commas_at, read, unexpected, too_deep}
+use Rattle.cx_grammar.specs.Reading.{Unexpected, Reads, then_reads, several_in, several_at, commas_in, commas_at, read, unexpected, too_deep}
 use Rattle.cx_grammar.proofs.Viable.{one_fails}
 
 -- reading did not stop at a level too deep

@@ -1,12 +1,11 @@
 -- Grammars as values: what the productions are made of, which tokens a grammar spells, and how it is read from the left.
-use Rattle.std.specs.Prelude.{◌≡◌, ℕ, zero, suc, Bool, true, false, ◌&&◌, ◌||◌, not, List, [], ◌∷◌, ◌++◌, length, Result, Ok, Err, ◌⊎◌, if◌then◌else◌}
-use Rattle.std.specs.List.{list_all}
+use Rattle.std.specs.Prelude.{◌≡◌, Bool, true, false, ◌&&◌, ◌||◌, List, [], ◌∷◌, ◌++◌, ◌⊎◌, if◌then◌else◌}
 use Rattle.cx_tokens.specs.declared.tokens.Token.{Token}
 use Rattle.cx_ast.specs.PlainGuards.{PlainGuard}
 use Rattle.cx_ast.specs.PlainStatements.{PlainBlock}
 use Rattle.cx_grammar.specs.declared.terminals.Terminal.{Terminal}
 use Rattle.cx_grammar.specs.declared.terminals.Terminal.TheVariants.{Comma, Not, OpenParen, OpenBrace, Dot, OpenBracket}
-use Rattle.cx_grammar.specs.Terminals.{terminal_of, is_in, begins}
+use Rattle.cx_grammar.specs.Terminals.{terminal_of, is_in}
 
 -- the parts that nest, each of which begins a level: `!` with its operand, a guard in parentheses, a block in braces
 pub data Nest : Type 0 where
@@ -102,14 +101,3 @@ Spells spelled (Choice g h) ts x rest = Spells spelled g ts x rest ⊎ Spells sp
 Spells spelled (Several {A = A} whole g) ts x rest = (xs : List A) × Several_of (Spells spelled g) ts xs rest × (whole xs ≡ x)
 Spells spelled (Commas {A = A} whole g) ts x rest = (first : A) × (more : List A) × Commas_of (Spells spelled g) first more ts rest × (whole (first ∷ more) ≡ x)
 Spells spelled (Deeper n) ts x rest = spelled n ts x rest
-
--- The tokens lead through the grammar to a token that begins a level too deep, and end with it. `deep` says it of the
--- parts that nest.
-abbrev pub Reaches : {A : Type 0} → ((n : Nest) → Spelling (Nested n)) → ((n : Nest) → List Token → Type 0) → Grammar A → List Token → Type 0
-Reaches spelled deep (Empty x) ts = ⊥
-Reaches spelled deep (One set value) ts = ⊥
-Reaches spelled deep (Pair {A = A} join g h) ts = Reaches spelled deep g ts ⊎ ((mid : List Token) × (x : A) × Spells spelled g ts x mid × Reaches spelled deep h mid)
-Reaches spelled deep (Choice g h) ts = Reaches spelled deep g ts ⊎ Reaches spelled deep h ts
-Reaches spelled deep (Several {A = A} whole g) ts = (mid : List Token) × (xs : List A) × Several_of (Spells spelled g) ts xs mid × Reaches spelled deep g mid
-Reaches spelled deep (Commas {A = A} whole g) ts = ⊥
-Reaches spelled deep (Deeper n) ts = deep n ts

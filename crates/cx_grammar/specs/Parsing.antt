@@ -1,5 +1,5 @@
 -- What it means that tokens are a file, that they begin one, and that they are too deep.
-use Rattle.std.specs.Prelude.{◌≡◌, ℕ, zero, suc, Bool, true, List, [], ◌∷◌, ◌++◌, ◌⊎◌}
+use Rattle.std.specs.Prelude.{◌≡◌, ℕ, zero, suc, true, List, [], ◌∷◌, ◌++◌, ◌⊎◌}
 use Rattle.cx_tokens.specs.declared.tokens.Token.{Token}
 use Rattle.cx_ast.specs.PlainTree.{PlainTree}
 use Rattle.cx_grammar.specs.Terminals.{begins}
@@ -9,6 +9,10 @@ use Rattle.cx_grammar.specs.Calyx.{file, nest, spelled_within}
 -- the tokens are those of the tree, with no more than 64 levels of control and of each guard
 unfoldable pub Parse : List Token → PlainTree → Type 0
 Parse tokens tree = Spells (spelled_within 64) file tokens tree []
+
+-- the tokens are some file, however deep it is
+abbrev pub IsFile : List Token → Type 0
+IsFile tokens = (levels : ℕ) × (tree : PlainTree) × Spells (spelled_within levels) file tokens tree []
 
 -- the tokens begin some file, however deep it is
 pub record Begins (tokens : List Token) : Type 0 where
@@ -42,12 +46,14 @@ deep_at (suc levels) n ts = Leads (spelled_within levels) (deep_at levels) (nest
 unfoldable pub IsTooDeep : List Token → Type 0
 IsTooDeep tokens = Leads (spelled_within 64) (deep_at 64) file tokens
 
--- with the tokens of the front these begin a file, and with the next token, or at the end, they do not
+-- behind the front stands the first token, or the end, with which the tokens so far begin no file, and no token of the
+-- front begins the sixty-fifth level
 pub record IsUnexpected (tokens front back : List Token) : Type 0 where
   pub whole : tokens ≡ front ++ back
   pub front_begins : Begins front
   pub no_more : (t : Token) (after : List Token) → back ≡ t ∷ after → Begins (front ++ (t ∷ [])) → ⊥
-  pub no_tree : back ≡ [] → (tree : PlainTree) → Parse tokens tree → ⊥
+  pub no_file : back ≡ [] → IsFile tokens → ⊥
+  pub not_deep : (before after : List Token) → front ≡ before ++ after → IsTooDeep before → ⊥
 
 -- behind the front stands a token that begins the sixty-fifth level, and up to it the tokens begin a file
 pub record IsDeep (tokens front back : List Token) : Type 0 where

@@ -1,7 +1,7 @@
 -- The terminals of the grammar: what it sees of a token.
-use Rattle.std.specs.Prelude.{ℕ, ◌==◌, Bool, true, false, ◌&&◌, List, [], ◌∷◌, Option, Some, None, codes, if◌then◌else◌}
+use Rattle.std.specs.Prelude.{ℕ, ◌==◌, Bool, false, List, [], ◌∷◌, Option, Some, None, codes, if◌then◌else◌}
 use Rattle.std.specs.Cmp.Lexicographic.{pointwise}
-use Rattle.std.specs.List.{list_any, list_all}
+use Rattle.std.specs.List.{list_any}
 use Rattle.cx_tokens.specs.declared.signs.Sign.{Sign}
 use Rattle.cx_tokens.specs.declared.signs.Sign.TheVariants as signs
 use Rattle.cx_tokens.specs.declared.tokens.Token.{Token}

@@ -1,9 +1,9 @@
 //! The terminals of the grammar.
 
 ghost use Rattle.std.specs.Prelude.{◌≡◌, ◌==◌};
-ghost use Rattle.cx_grammar.specs.Terminals.{word_terminal, sign_terminal, terminal_of, number_of, peek_at, is};
+ghost use Rattle.cx_grammar.specs.Terminals.{word_terminal, sign_terminal, terminal_of, number_of, is};
 
-use cx_tokens::{Sign, Token, TokenKind};
+use cx_tokens::{Sign, TokenKind};
 
 /// What the grammar sees of a token: which reserved word or which sign it is, or that it is a name, a number, a literal or
 /// a string.
@@ -110,7 +110,7 @@ pub fn from_word(word: &[u8]) -> Terminal
 }
 
 /// The terminal of a sign.
-pub fn from_sign(sign: Sign) -> Terminal
+fn from_sign(sign: Sign) -> Terminal
     ensures value { result ≡ sign_terminal sign }
 {
     match sign {
@@ -151,15 +151,5 @@ pub fn from_kind(kind: &TokenKind) -> Terminal
         TokenKind::Literal(_, _) => Terminal::Literal,
         TokenKind::Text(_) => Terminal::Text,
         TokenKind::Sign(sign) => from_sign(*sign),
-    }
-}
-
-/// The terminal of the next token, where there is one.
-pub fn peek(tokens: &[Token]) -> Option<Terminal>
-    ensures value { result ≡ peek_at tokens.now }
-{
-    match tokens.split_first() {
-        Some((first, _)) => Some(from_kind(&first.kind)),
-        None => None,
     }
 }

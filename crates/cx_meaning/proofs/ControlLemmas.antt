@@ -1,10 +1,10 @@
 -- What runs over any leaves keep, where the leaves keep it.
-use Rattle.std.proofs.Common.{◌≡◌, ℕ, zero, suc, ◌≤◌, refl, arith}
+use Rattle.std.proofs.Common.{ℕ, zero, suc}
 use Rattle.cx_meaning.specs.Designs.{PlainForm, Empty, Enable, Seq, Par, If, While, Repeat, StaticSeq, StaticPar, StaticIf, StaticRepeat, Timed, PlainStatement, Placed, PlainStatements, no_statements, a_statement}
-use Rattle.cx_meaning.specs.Answers.{Answer, Meaning, then_do, stay, rounds, both}
+use Rattle.cx_meaning.specs.Answers.{rounds}
 use Rattle.cx_meaning.specs.Control as control
 use Rattle.cx_meaning.specs.Control.{run_form, run, run_parts, run_arms}
-use Rattle.cx_meaning.specs.Budgets.{Grows, IsSteady, TakesTurns, Leaves}
+use Rattle.cx_meaning.specs.Budgets.{IsSteady, TakesTurns, Leaves}
 use Rattle.cx_meaning.proofs.AnswersLemmas.{steady_then, steady_stay, steady_idle, steady_test, steady_loop, steady_rounds, grows_both, takes_both, takes_then, takes_idle, takes_test, takes_loop, leaves_then, leaves_idle, leaves_test, leaves_loop, leaves_rounds, leaves_both}
 
 module _ {S F : Type 0} (L : control.Leaves S F) where

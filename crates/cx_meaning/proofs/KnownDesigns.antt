@@ -1,16 +1,13 @@
 -- Small designs for worked examples, as plain data.
-use Rattle.std.specs.Prelude.{ℕ, Bool, true, false, List, [], ◌∷◌, ◌++◌, Option, Some, None, length}
+use Rattle.std.specs.Prelude.{ℕ, true, false, List, [], ◌∷◌}
 use Rattle.cx_text.specs.declared.places.Place.{Place}
 use Rattle.cx_prim.specs.declared.names.PrimitiveName.{PrimitiveName}
 use Rattle.cx_prim.specs.declared.names.PrimitiveName.TheVariants as primitives
 use Rattle.cx_meaning.specs.declared.ports.PortRef.{PortRef}
-use Rattle.cx_meaning.specs.declared.ports.PortRef.TheVariants.{Cell, Input, Done, Literal}
-use Rattle.cx_meaning.specs.declared.ports.PortRef.TheVariants as ports
+use Rattle.cx_meaning.specs.declared.ports.PortRef.TheVariants.{Cell, Done, Literal}
 use Rattle.cx_meaning.specs.declared.ports.PlacedPort.{PlacedPort}
-use Rattle.cx_meaning.specs.declared.kinds.GroupKind.{GroupKind}
 use Rattle.cx_meaning.specs.declared.kinds.GroupKind.TheVariants as kinds
-use Rattle.cx_meaning.specs.declared.kinds.PortDecl.{PortDecl}
-use Rattle.cx_meaning.specs.Designs.{PlainGuard, Always, PlainAssign, PlainGroup, PlainKind, OfPrimitive, OfComponent, PlainCell, PlainForm, Enable, PlainStatement, Placed, statements_of, Seq, Par, PlainComponent, PlainDesign, no_place}
+use Rattle.cx_meaning.specs.Designs.{PlainGuard, Always, PlainAssign, PlainGroup, OfPrimitive, OfComponent, PlainCell, PlainForm, Enable, PlainStatement, Placed, statements_of, Seq, Par, PlainComponent, PlainDesign, no_place}
 
 abbrev pub at : ℕ → Place
 at column = record { line = 5; column = column }

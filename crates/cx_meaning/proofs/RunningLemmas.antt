@@ -1,25 +1,23 @@
 -- Laws of runs: budgets, turns, and settled states.
-use Rattle.std.proofs.Common.{◌≡◌, ℕ, zero, suc, ◌+◌, ◌≤◌, Bool, true, false, List, [], ◌∷◌, Option, Some, None, if◌then◌else◌, refl, ap, arith}
+use Rattle.std.proofs.Common.{◌≡◌, ℕ, zero, suc, Bool, true, false, List, [], ◌∷◌, Option, Some, None, if◌then◌else◌, refl, ap, arith}
 use Rattle.cx_prim.specs.CellStates.{CellState}
-use Rattle.cx_prim.specs.Rows.{Row}
 use Rattle.cx_meaning.specs.declared.kinds.GroupKind.{GroupKind}
 use Rattle.cx_meaning.specs.declared.kinds.GroupKind.TheVariants as kinds
 use Rattle.cx_meaning.specs.Rows.{KeepsIdle}
 use Rattle.cx_meaning.specs.Designs.{PlainForm, Enable, PlainStatement, group_at}
-use Rattle.cx_meaning.specs.Instances.{Instance, Node, Cells, no_cells, a_primitive, an_instance, part_of, State, Path, Set, merge, put, under, idle_at, idle_below, idle, IsSettled, start_at, start_below}
+use Rattle.cx_meaning.specs.Instances.{Instance, Node, Cells, no_cells, a_primitive, an_instance, part_of, State, Path, Set, merge, under, idle_at, idle_below, idle, IsSettled, start_at, start_below}
 use Rattle.cx_meaning.specs.Active.{nothing, capture}
 use Rattle.cx_meaning.specs.Sights.{Held, seen}
 use Rattle.cx_meaning.specs.Cycles.{Fault, cycle}
 use Rattle.cx_meaning.specs.Answers.{Answer, End, More, Meaning, idle_turn, one_turn, turns_of, then_do}
 use Rattle.cx_meaning.specs.Answers as answers
-use Rattle.cx_meaning.specs.Control.{run, run_form}
 use Rattle.cx_meaning.specs.Islands.{Occurrence, form_flat, form_length, no_history, History, and_now, island_turn, island_from, island, turn_of}
-use Rattle.cx_meaning.specs.Calls.{group_turn, lift_answer, fault_below, inputs_of_call, after_child, call, call_or_turns, called, captures, enable_kind, enable}
+use Rattle.cx_meaning.specs.Calls.{group_turn, lift_answer, inputs_of_call, after_child, call, call_or_turns, called, captures, enable_kind}
 use Rattle.cx_meaning.specs.Running.{Children, leaves, run_control, control_below, run_statement}
 use Rattle.cx_meaning.specs.Budgets.{Beyond, Grows, IsSteady, TakesTurns, Leaves}
 use Rattle.cx_meaning.specs.Laws.{AllRows, AllRowsBelow}
-use Rattle.cx_meaning.proofs.AnswersLemmas.{steady_then, steady_idle, steady_turn, steady_turns, grows_turn, grows_then, turn_beyond, takes_last, takes_idle, takes_turn, takes_turns_of, leaves_last, leaves_idle, leaves_turn, leaves_turns}
-use Rattle.cx_meaning.proofs.ControlLemmas.{LeavesAreSteady, steady_run, LeavesTakeTurns, takes_run, LeavesKeep, leaves_run}
+use Rattle.cx_meaning.proofs.AnswersLemmas.{steady_idle, steady_turn, steady_turns, grows_turn, grows_then, turn_beyond, takes_last, takes_idle, takes_turn, takes_turns_of, leaves_last, leaves_idle, leaves_turn, leaves_turns}
+use Rattle.cx_meaning.proofs.ControlLemmas.{LeavesAreSteady, steady_run, takes_run, leaves_run}
 
 -- islands
 module _ (i : Instance) (held : Held) where

@@ -1,20 +1,19 @@
 -- A port is seen as one thing.
-use Rattle.std.proofs.Common.{◌≡◌, ℕ, zero, suc, Bool, true, false, inl, inr, List, [], ◌∷◌, refl, sym, ap, ◌∙◌, subst}
+use Rattle.std.proofs.Common.{◌≡◌, ℕ, suc, Bool, true, false, inl, inr, List, [], ◌∷◌, refl, sym, ap, ◌∙◌, subst}
 use Rattle.cx_meaning.specs.declared.ports.PortRef.{PortRef}
 use Rattle.cx_meaning.specs.declared.ports.PortRef.TheVariants as ports
 use Rattle.cx_meaning.specs.declared.sights.Seen.{Seen}
-use Rattle.cx_meaning.specs.declared.sights.Seen.TheVariants.{Value, Conflict, Undefined}
-use Rattle.cx_meaning.specs.declared.ports.Comparison.{Comparison}
+use Rattle.cx_meaning.specs.declared.sights.Seen.TheVariants.{Undefined}
 use Rattle.cx_meaning.specs.Designs.{PlainGuard, Always, Atom, Negation, All, Any, Compared, Within, PlainGuards, no_guards, a_guard, PlainComponent}
 use Rattle.cx_prim.specs.declared.ports.PortRow.{PortRow}
 use Rattle.cx_prim.specs.declared.ports.Side.{Side}
 use Rattle.cx_prim.specs.declared.ports.Side.TheVariants.{Enable, Plain, Output, Registered}
 use Rattle.cx_prim.specs.Rows.{Row}
 use Rattle.cx_meaning.specs.Rows.{side_of}
-use Rattle.cx_meaning.specs.Instances.{Instance, Node, Cells, At, Nothing, OfRow, OfInstance, part_of, cells_of, cell_at, State, under}
-use Rattle.cx_meaning.specs.Active.{Active, nothing, Acting, drivers}
-use Rattle.cx_meaning.specs.Truths.{Truth, truth_of, not_truth, and_truth, or_truth, compared}
-use Rattle.cx_meaning.specs.Sights.{Look, Below, Held, unheld, bit_of, guard_truth, all_truth, any_truth, Taken, Sources, Stopped, take_guard, taken, agreed, all_agreed, settle, target_seen, gather_one, gather_port, gather, output_seen, PartPort, Go, AnInput, AnOutput, ItsDone, part_port, input_step, side_step, part_step, cell_step, step, In, GuardNames, AnyNames, IsTaken, TargetNeeds, IsWanted, SideNeeds, PartNeeds, CellNeeds, Needs, Sees, by_step}
+use Rattle.cx_meaning.specs.Instances.{Instance, At, Nothing, OfRow, OfInstance, part_of, cells_of, cell_at, State}
+use Rattle.cx_meaning.specs.Active.{Active, Acting, drivers}
+use Rattle.cx_meaning.specs.Truths.{truth_of, not_truth, and_truth, or_truth, compared}
+use Rattle.cx_meaning.specs.Sights.{Look, Below, Held, bit_of, guard_truth, all_truth, any_truth, Taken, Sources, Stopped, take_guard, taken, agreed, all_agreed, settle, target_seen, gather_one, gather_port, gather, output_seen, PartPort, Go, AnInput, AnOutput, ItsDone, part_port, side_step, part_step, cell_step, step, In, GuardNames, AnyNames, IsTaken, TargetNeeds, SideNeeds, PartNeeds, CellNeeds, Needs, Sees, by_step}
 
 two_alike : {A B C : Type 0} (f : A → B → C) (a b : A) (x y : B) → a ≡ b → x ≡ y → f a x ≡ f b y
 two_alike f a b x y e h = ap (λ z. f z x) e ∙ ap (f b) h

@@ -1,5 +1,5 @@
 -- An idle edge leaves the start of each row of the table as it is.
-use Rattle.std.specs.Prelude.{◌≡◌, ℕ, zero, suc, ◌*◌, ◌^◌, ◌==◌, ◌&&◌, Bool, true, false, List, [], ◌∷◌, Option, Some, None, nat_lt, nat_le, length, take, drop, if◌then◌else◌, unwrap_or, refl}
+use Rattle.std.specs.Prelude.{◌≡◌, ℕ, zero, suc, ◌*◌, ◌^◌, ◌==◌, ◌&&◌, Bool, true, false, List, [], ◌∷◌, Some, None, nat_lt, nat_le, length, take, drop, if◌then◌else◌, unwrap_or, refl}
 use Rattle.std.specs.List.{list_all}
 use Rattle.cx_prim.specs.declared.names.PrimitiveName.{PrimitiveName}
 use Rattle.cx_prim.specs.declared.names.PrimitiveName.TheVariants.{Const, Wire, Add, Sub, And, Or, Xor, Not, Lsh, Rsh, Lt, Gt, Equal, Neq, Le, Ge, Slt, Sgt, Seq, Sneq, Sle, Sge, Slice, Pad, Mux, Reg, StdMemD1, StdMemD2, StdMemD3, StdMemD4, CombMemD1, CombMemD2, CombMemD3, CombMemD4, SeqMemD1, SeqMemD2, SeqMemD3, SeqMemD4, MultPipe, DivPipe, Timer}
@@ -13,7 +13,7 @@ use Rattle.cx_prim.specs.Table.{PrimitiveRow, at_width, constant_at, slice_at, p
 use Rattle.cx_prim.specs.TableLaws.{row_of_lawful}
 use Rattle.cx_meaning.specs.Rows.{KeepsIdle}
 use Rattle.cx_meaning.specs.Designs.{PlainKind, OfPrimitive, OfComponent, PlainCell, PlainDesign, component_at}
-use Rattle.cx_meaning.specs.Instances.{Instance, Node, Cells, no_cells, add_cell, cells_for, tree_within, tree_of}
+use Rattle.cx_meaning.specs.Instances.{Instance, Cells, add_cell, cells_for, tree_within}
 use Rattle.cx_meaning.specs.Laws.{AllRows, AllRowsBelow}
 
 record Starts (row : Row) : Type 0 where

@@ -1,6 +1,6 @@
 -- How runs end, and how the answers of parts make one: turns, budgets and faults. Nothing here knows a leaf of control,
 -- a state or a fault.
-use Rattle.std.specs.Prelude.{ℕ, zero, suc, ◌+◌, ◌-◌, max, nat_le, Bool, if◌then◌else◌}
+use Rattle.std.specs.Prelude.{ℕ, zero, suc, ◌+◌, ◌-◌, max, nat_le, if◌then◌else◌}
 
 -- within a budget of turns: the state in which the run ends and the turns that it took, or the fault and its turn,
 -- counted from 0, or not yet ended

@@ -1,5 +1,5 @@
 -- What holds of answers under every budget.
-use Rattle.std.specs.Prelude.{◌≡◌, ℕ, ◌<◌, ◌≤◌, ◌+◌}
+use Rattle.std.specs.Prelude.{◌≡◌, ℕ, ◌<◌, ◌≤◌}
 use Rattle.cx_meaning.specs.Answers.{Answer, End, Fault, More, Meaning}
 
 -- an answer for a greater budget than n, where a run has not ended within n

@@ -1,16 +1,16 @@
 -- Groups: their turns, and calls of components.
-use Rattle.std.specs.Prelude.{ℕ, zero, suc, Bool, true, false, ◌||◌, List, [], ◌∷◌, Option, Some, None}
+use Rattle.std.specs.Prelude.{ℕ, suc, Bool, true, false, ◌||◌, List, [], ◌∷◌, Option, Some, None}
 use Rattle.cx_meaning.specs.declared.ports.PortRef.{PortRef}
 use Rattle.cx_meaning.specs.declared.ports.PortRef.TheVariants as ports
 use Rattle.cx_meaning.specs.declared.sights.FaultKind.TheVariants as faults
 use Rattle.cx_meaning.specs.declared.kinds.GroupKind.{GroupKind}
 use Rattle.cx_meaning.specs.declared.kinds.GroupKind.TheVariants as kinds
-use Rattle.cx_meaning.specs.Designs.{PlainAssign, PlainComponent, group_at, Enable}
+use Rattle.cx_meaning.specs.Designs.{PlainAssign, group_at, Enable}
 use Rattle.cx_prim.specs.Rows.{is_enable_side}
 use Rattle.cx_meaning.specs.Rows.{side_of}
 use Rattle.cx_meaning.specs.Truths.{Truth, One, Zero, Clash, Unknown, truth_of}
 use Rattle.cx_meaning.specs.Instances.{Instance, Cells, At, Nothing, OfRow, OfInstance, cell_at, part_of, cells_of, State, under, put, idle}
-use Rattle.cx_meaning.specs.Active.{nothing, group, comb, capture}
+use Rattle.cx_meaning.specs.Active.{group, comb, capture}
 use Rattle.cx_meaning.specs.Sights.{Held, seen}
 use Rattle.cx_meaning.specs.Cycles.{Fault, fault_at, Ended, cycle}
 use Rattle.cx_meaning.specs.Answers.{Answer, End, More, Meaning, then_do, idle_turn, one_turn, turns_of, Turn, Test, Holds, Fails, Unclear}

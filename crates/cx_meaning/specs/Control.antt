@@ -1,11 +1,10 @@
 -- The run of a statement over any leaves: what seq, par, if, while and repeat make of the meanings of their parts.
-use Rattle.std.specs.Prelude.{ℕ, zero, suc, ◌||◌, Bool, true, false, List, [], ◌∷◌, ◌++◌, Option, Some, None}
-use Rattle.cx_meaning.specs.declared.ports.PlacedPort.{PlacedPort}
+use Rattle.std.specs.Prelude.{ℕ, zero, suc, ◌||◌, false, List, [], ◌∷◌, ◌++◌, Option, Some, None}
 use Rattle.cx_meaning.specs.declared.ports.PortRef.{PortRef}
 use Rattle.cx_meaning.specs.declared.ports.PortRef.TheVariants as ports
-use Rattle.cx_meaning.specs.Designs.{PlainAssign, PlainGroup, PlainComponent, group_at, PlainForm, Empty, Enable, Seq, Par, If, While, Repeat, StaticSeq, StaticPar, StaticIf, StaticRepeat, Timed, PlainStatement, Placed, PlainStatements, no_statements, a_statement}
+use Rattle.cx_meaning.specs.Designs.{PlainAssign, PlainComponent, group_at, PlainForm, Empty, Enable, Seq, Par, If, While, Repeat, StaticSeq, StaticPar, StaticIf, StaticRepeat, Timed, PlainStatement, Placed, PlainStatements, no_statements, a_statement}
 use Rattle.cx_meaning.specs.Instances.{Set, just}
-use Rattle.cx_meaning.specs.Answers.{Answer, Meaning, then_do, stay, idle_turn, Test, test_turn, loop_of, rounds, both}
+use Rattle.cx_meaning.specs.Answers.{Meaning, then_do, stay, idle_turn, Test, test_turn, loop_of, rounds, both}
 
 -- the groups that a statement enables, with the comb groups of its tests, in source order
 abbrev pub with_comb : Option ℕ → List ℕ → List ℕ

@@ -1,5 +1,4 @@
 -- What laws of the meaning speak of.
-use Rattle.std.specs.Prelude.{◌≡◌, ℕ}
 use Rattle.cx_prim.specs.Rows.{Row}
 use Rattle.cx_meaning.specs.Instances.{Instance, Node, Cells, no_cells, a_primitive, an_instance}
 

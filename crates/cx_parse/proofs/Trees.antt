@@ -1,16 +1,21 @@
 -- The tree of reading is the tokens' tree, and there is no other.
-use Rattle.std.proofs.Common.{◌≡◌, ℕ, ◌+◌, ◌-◌, List, [], ◌∷◌, ◌++◌, length, drop, length-append, Result, Ok, Err, refl, sym, ap, ◌∙◌, arith}
+use Rattle.std.proofs.Common.{◌≡◌, ℕ, ◌+◌, ◌-◌, List, [], ◌∷◌, ◌++◌, length, drop, length-append, Result, Ok, Err, refl, sym, ap, subst, ◌∙◌, arith, ◌⊎◌, inl, inr}
 use Rattle.cx_tokens.specs.declared.tokens.Token.{Token}
-use Rattle.cx_ast.specs.declared.trees.Tree.{Tree}
-use Rattle.cx_ast.specs.PlainTree.{PlainTree, plain_tree}
+use Rattle.cx_ast.specs.PlainTree.{PlainTree}
 use Rattle.cx_grammar.specs.Parsing.{Parse, IsUnexpected, IsDeep}
 use Rattle.cx_grammar.specs.Reading.{Unexpected, TooDeep, Stop, Reads, read}
 use Rattle.cx_grammar.specs.Calyx.{nested_at, file}
-use Rattle.cx_grammar.proofs.OneTree.{parse_sound, parse_complete}
+use Rattle.cx_grammar.proofs.OneTree.{parse_sound}
+use Rattle.cx_grammar.proofs.OneReading.{one_unexpected, one_deep, not_both, tree_expected, tree_within}
 use Rattle.cx_grammar.proofs.Faults.{unexpected_at, over_at, deep_stop, drop-front}
 use Rattle.cx_parse.specs.declared.files.ParseFault.{ParseFault}
 use Rattle.cx_parse.specs.declared.files.ParseFault.TheVariants as faults
-use Rattle.cx_parse.specs.Whole.{then_whole, reading, place_at, place_left_of, IsStop, IsFault, IsOnly}
+use Rattle.cx_text.specs.declared.places.Place.{Place}
+use Rattle.cx_guards.specs.declared.stops.Stop.{Stop as Stopped}
+use Rattle.cx_guards.specs.declared.stops.Stop.TheVariants as stops
+use Rattle.cx_guards.specs.Answers.{Fails}
+use Rattle.cx_parse.specs.Whole.{then_whole, reading, place_at, place_left_of}
+use Rattle.cx_parse.specs.Faults.{IsUnexpectedAt, IsTooDeepAt, IsStop, IsFault}
 
 then_ok_of : Result PlainTree Stop → Reads PlainTree
 then_ok_of (Ok x) = Ok (x, [])
@@ -28,24 +33,6 @@ no_rest (Err s) t e = absurd (cc)
 pub reading_tree : (ts : List Token) (t : PlainTree) → reading ts ≡ Ok t → Parse ts t
 unfolding reading
 reading_tree ts t e = parse_sound ts t (no_rest (read (nested_at 64) file ts) t e)
-
-tree_reading : (ts : List Token) (t : PlainTree) → Parse ts t → reading ts ≡ Ok t
-unfolding reading
-tree_reading ts t p = ap then_whole (parse_complete ts t p)
-
-pub only_ok : (ts : List Token) (t : Tree) → reading ts ≡ Ok (plain_tree t) → (tree : PlainTree) → Parse ts tree → plain_tree t ≡ tree
-only_ok ts t e tree p = same_ok (plain_tree t) tree (sym e ∙ tree_reading ts tree p)
-
-not_ok : (s : Stop) (t : PlainTree) → (let r : Result PlainTree Stop = Err s in r ≡ Ok t) → ⊥
-not_ok s t e = cc
-
-differs : (ts : List Token) (s : Stop) → reading ts ≡ Err s → (tree : PlainTree) → Parse ts tree → ⊥
-differs ts s e tree p = not_ok s tree (sym e ∙ tree_reading ts tree p)
-
-pub only_err : (ts : List Token) (f : ParseFault) → IsStop ts f → (tree : PlainTree) → Parse ts tree → IsOnly tree (Err f)
-only_err ts (faults.Unexpected place) h tree p = differs ts _ h.1 tree p
-only_err ts (faults.TooDeep place) h tree p = differs ts _ h.1 tree p
-only_err ts faults.Memory h tree p = tt
 
 err_same : (s u : Stop) → (let r : Result PlainTree Stop = Err s in r ≡ Err u) → s ≡ u
 err_same s u e = cc
@@ -66,11 +53,14 @@ deep_cases ts left (Ok (x, [])) is e = absurd (cc)
 deep_cases ts left (Ok (x, t ∷ after)) is e = absurd (why_differs (t ∷ after) left (err_same (record { why = Unexpected; left = length (t ∷ after) }) (record { why = TooDeep; left = left }) e))
 
 -- so many tokens are left
-place_back : (ts front back : List Token) (left : ℕ) → ts ≡ front ++ back → length back ≡ left → place_left_of ts left ≡ place_at back ts
-place_back ts front back left whole count =
+pub drop_back : (ts front back : List Token) (left : ℕ) → ts ≡ front ++ back → length back ≡ left → drop (length ts - left) ts ≡ back
+drop_back ts front back left whole count =
     let all : length ts ≡ length front + length back = ap length whole ∙ length-append front back in
     let before : length ts - left ≡ length front = omega arith in
-    ap (λ s. place_at s ts) (ap (λ n. drop n ts) before ∙ ap (drop (length front)) whole ∙ drop-front front back)
+    ap (λ n. drop n ts) before ∙ ap (drop (length front)) whole ∙ drop-front front back
+
+place_back : (ts front back : List Token) (left : ℕ) → ts ≡ front ++ back → length back ≡ left → place_left_of ts left ≡ place_at back ts
+place_back ts front back left whole count = ap (λ s. place_at s ts) (drop_back ts front back left whole count)
 
 unexpected_reading : (ts : List Token) (left : ℕ) → reading ts ≡ Err (record { why = Unexpected; left = left }) → (front back : List Token) × IsUnexpected ts front back × (length back ≡ left)
 unfolding reading
@@ -80,12 +70,45 @@ deep_reading : (ts : List Token) (left : ℕ) → reading ts ≡ Err (record { w
 unfolding reading
 deep_reading ts left e = deep_cases ts left (read (nested_at 64) file ts) refl e
 
--- where reading stops is the fault
-pub told : (ts : List Token) (f : ParseFault) → IsStop ts f → IsFault ts f
-told ts (faults.Unexpected place) h =
-    let k = unexpected_reading ts h.0 h.1 in
-    (k.0, k.1, k.2, h.2 ∙ place_back ts k.0 k.1 h.0 k.2.whole k.3)
-told ts (faults.TooDeep place) h =
-    let k = deep_reading ts h.0 h.1 in
-    (k.0, k.1, k.2, h.2 ∙ place_back ts k.0 k.1 h.0 k.2.whole k.3)
-told ts faults.Memory h = tt
+-- what reading comes to
+pub stopped : (ts : List Token) (e : Stopped) → Fails {Y = PlainTree} e (reading ts) → (e ≡ stops.Memory) ⊎ IsStop ts e
+stopped ts (stops.Unexpected left) f = inr (unexpected_reading ts left f)
+stopped ts (stops.TooDeep left) f = inr (deep_reading ts left f)
+stopped ts stops.Memory f = inl refl
+
+pub tree_no_stop : (ts : List Token) (tree : PlainTree) (e : Stopped) → Parse ts tree → IsStop ts e → ⊥
+tree_no_stop ts tree (stops.Unexpected left) p k = tree_expected ts tree k.0 k.1 p k.2
+tree_no_stop ts tree (stops.TooDeep left) p k = tree_within ts tree k.0 k.1 p k.2
+tree_no_stop ts tree stops.Memory p k = k
+
+pub one_stop : (ts : List Token) (e f : Stopped) → IsStop ts e → IsStop ts f → e ≡ f
+one_stop ts (stops.Unexpected left) (stops.Unexpected other) k l = ap (λ n. stops.Unexpected n) (sym k.3 ∙ ap length (one_unexpected ts k.0 k.1 l.0 l.1 k.2 l.2).1 ∙ l.3)
+one_stop ts (stops.Unexpected left) (stops.TooDeep other) k l = absurd (not_both ts k.0 k.1 l.0 l.1 k.2 l.2)
+one_stop ts (stops.TooDeep left) (stops.Unexpected other) k l = absurd (not_both ts l.0 l.1 k.0 k.1 l.2 k.2)
+one_stop ts (stops.TooDeep left) (stops.TooDeep other) k l = ap (λ n. stops.TooDeep n) (sym k.3 ∙ ap length (one_deep ts k.0 k.1 l.0 l.1 k.2 l.2).1 ∙ l.3)
+one_stop ts stops.Memory f k l = absurd k
+one_stop ts (stops.Unexpected left) stops.Memory k l = absurd l
+one_stop ts (stops.TooDeep left) stops.Memory k l = absurd l
+
+-- a stop is a fault at its place
+pub told_unexpected : (ts : List Token) (stop : Stopped) (left : ℕ) (place : Place) → stop ≡ stops.Unexpected left → ((stop ≡ stops.Memory) ⊎ IsStop ts stop) → place ≡ place_left_of ts left → IsUnexpectedAt ts place
+told_unexpected ts stop left place e (inl memory) is = absurd (cc)
+told_unexpected ts stop left place e (inr k) is = let l : IsStop ts (stops.Unexpected left) = subst (IsStop ts) e k in (l.0, l.1, l.2, is ∙ place_back ts l.0 l.1 left l.2.whole l.3)
+
+pub told_deep : (ts : List Token) (stop : Stopped) (left : ℕ) (place : Place) → stop ≡ stops.TooDeep left → ((stop ≡ stops.Memory) ⊎ IsStop ts stop) → place ≡ place_left_of ts left → IsTooDeepAt ts place
+told_deep ts stop left place e (inl memory) is = absurd (cc)
+told_deep ts stop left place e (inr k) is = let l : IsStop ts (stops.TooDeep left) = subst (IsStop ts) e k in (l.0, l.1, l.2, is ∙ place_back ts l.0 l.1 left l.2.whole l.3)
+
+pub tree_no_fault : (ts : List Token) (tree : PlainTree) (e : ParseFault) → Parse ts tree → IsFault ts e → ⊥
+tree_no_fault ts tree (faults.Unexpected place) p k = tree_expected ts tree k.0 k.1 p k.2
+tree_no_fault ts tree (faults.TooDeep place) p k = tree_within ts tree k.0 k.1 p k.2
+tree_no_fault ts tree faults.Memory p k = k
+
+pub one_fault : (ts : List Token) (e f : ParseFault) → IsFault ts e → IsFault ts f → e ≡ f
+one_fault ts (faults.Unexpected place) (faults.Unexpected other) k l = ap (λ p. faults.Unexpected p) (k.3 ∙ ap (λ us. place_at us ts) (one_unexpected ts k.0 k.1 l.0 l.1 k.2 l.2).1 ∙ sym l.3)
+one_fault ts (faults.Unexpected place) (faults.TooDeep other) k l = absurd (not_both ts k.0 k.1 l.0 l.1 k.2 l.2)
+one_fault ts (faults.TooDeep place) (faults.Unexpected other) k l = absurd (not_both ts l.0 l.1 k.0 k.1 l.2 k.2)
+one_fault ts (faults.TooDeep place) (faults.TooDeep other) k l = ap (λ p. faults.TooDeep p) (k.3 ∙ ap (λ us. place_at us ts) (one_deep ts k.0 k.1 l.0 l.1 k.2 l.2).1 ∙ sym l.3)
+one_fault ts faults.Memory f k l = absurd k
+one_fault ts (faults.Unexpected place) faults.Memory k l = absurd l
+one_fault ts (faults.TooDeep place) faults.Memory k l = absurd l

@@ -1,14 +1,10 @@
 -- A whole file, and the place at which reading stops.
-use Rattle.std.specs.Prelude.{◌≡◌, ℕ, ◌-◌, List, [], ◌∷◌, length, Result, Ok, Err, drop}
+use Rattle.std.specs.Prelude.{ℕ, ◌-◌, List, [], ◌∷◌, length, Result, Ok, Err, drop}
 use Rattle.cx_text.specs.declared.places.Place.{Place}
 use Rattle.cx_tokens.specs.declared.tokens.Token.{Token}
-use Rattle.cx_ast.specs.declared.trees.Tree.{Tree}
-use Rattle.cx_ast.specs.PlainTree.{PlainTree, plain_tree}
-use Rattle.cx_grammar.specs.Reading.{Stop, Unexpected, TooDeep, Reads, read, unexpected}
+use Rattle.cx_ast.specs.PlainTree.{PlainTree}
+use Rattle.cx_grammar.specs.Reading.{Stop, Reads, read, unexpected}
 use Rattle.cx_grammar.specs.Calyx.{nested_at, file}
-use Rattle.cx_grammar.specs.Parsing.{IsUnexpected, IsDeep}
-use Rattle.cx_parse.specs.declared.files.ParseFault.{ParseFault}
-use Rattle.cx_parse.specs.declared.files.ParseFault.TheVariants as faults
 
 -- a file and nothing behind it
 abbrev pub whole_of : PlainTree → List Token → Result PlainTree Stop
@@ -37,22 +33,3 @@ place_left_of ts left = place_at (drop (length ts - left) ts) ts
 -- reading a file from the left, with 64 levels of control and of each guard
 unfoldable pub reading : List Token → Result PlainTree Stop
 reading ts = whole_at 64 ts
-
--- the fault is the stop of reading, at its place
-abbrev pub IsStop : List Token → ParseFault → Type 0
-IsStop ts (faults.Unexpected place) = (left : ℕ) × (reading ts ≡ Err (record { why = Unexpected; left = left })) × (place ≡ place_left_of ts left)
-IsStop ts (faults.TooDeep place) = (left : ℕ) × (reading ts ≡ Err (record { why = TooDeep; left = left })) × (place ≡ place_left_of ts left)
-IsStop ts faults.Memory = Unit {0}
-
--- the first token, or the end, with which the tokens so far begin no file; or the token that begins a level too many
-abbrev pub IsFault : List Token → ParseFault → Type 0
-IsFault ts (faults.Unexpected place) = (front back : List Token) × IsUnexpected ts front back × (place ≡ place_at back ts)
-IsFault ts (faults.TooDeep place) = (front back : List Token) × IsDeep ts front back × (place ≡ place_at back ts)
-IsFault ts faults.Memory = Unit {0}
-
--- the tree is what is answered, unless memory ran out
-abbrev pub IsOnly : PlainTree → Result Tree ParseFault → Type 0
-IsOnly tree (Ok t) = plain_tree t ≡ tree
-IsOnly tree (Err (faults.Unexpected place)) = ⊥
-IsOnly tree (Err (faults.TooDeep place)) = ⊥
-IsOnly tree (Err faults.Memory) = Unit {0}

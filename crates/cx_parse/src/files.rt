@@ -1,8 +1,13 @@
 //! Reading a whole file.
 
-ghost use Rattle.std.specs.Prelude.{◌≡◌, ◌<◌, ◌^◌, [], ◌∷◌, length, map, IfOk, IfErr};
-ghost use Rattle.cx_guards.specs.Answers.{Fails, Gives, with_front};
-ghost use Rattle.cx_parse.specs.Whole.{whole_at, place_left_of, last_place, reading, IsStop, IsFault, IsOnly};
+ghost use Rattle.std.specs.Prelude.{◌≡◌, ◌<◌, ◌^◌, ◌⊎◌, [], ◌∷◌, length, map, IfOk, IfErr, MatchResult};
+ghost use Rattle.cx_guards.specs.Answers.{Gives, with_front};
+ghost use Rattle.cx_guards.specs.declared.stops.Stop.{Stop as StopValue};
+ghost use Rattle.cx_guards.specs.declared.stops.Stop.TheVariants as stops;
+ghost use Rattle.cx_parse.specs.declared.files.ParseFault.{ParseFault as FaultValue};
+ghost use Rattle.cx_parse.specs.declared.files.ParseFault.TheVariants as faults;
+ghost use Rattle.cx_parse.specs.Whole.{whole_at, place_left_of, last_place, reading};
+ghost use Rattle.cx_parse.specs.Faults.{IsStop, IsFault};
 ghost use Rattle.cx_grammar.specs.Reading.{read, one_at};
 ghost use Rattle.cx_grammar.specs.Calyx.{nested_at, imports, components, file};
 ghost use Rattle.cx_grammar.specs.Parsing.{Parse};
@@ -95,7 +100,7 @@ fn whole(parser: Parser, tokens: &[Token]) -> Result<Tree, Stop>
 }
 
 /// The place of the token from which on so many are left. The end has the place of the last token, or 1:1.
-fn place_left(tokens: &[Token], left: usize) -> Place
+pub fn place_left(tokens: &[Token], left: usize) -> Place
     ensures value { result ≡ place_left_of tokens.now left }
 {
     let rest = &tokens[tokens.len().saturating_sub(left)..];
@@ -118,8 +123,8 @@ fn end_place(tokens: &[Token]) -> Place
 
 /// The fault that a stop is.
 fn fault_of(tokens: &[Token], stop: Stop) -> ParseFault
-    requires stopped { Fails {Y = PlainTree} stop (reading tokens.now) }
-    ensures { IsStop tokens.now result }
+    requires stopped { (stop ≡ stops.Memory) ⊎ IsStop tokens.now stop }
+    ensures { (result ≡ faults.Memory) ⊎ IsFault tokens.now result }
 {
     match stop {
         Stop::Unexpected(left) => ParseFault::Unexpected(place_left(tokens, left)),
@@ -140,17 +145,37 @@ fn read_file(alloc: Global, tokens: &[Token]) -> Result<Tree, Stop>
     whole(parser, tokens)
 }
 
-/// Reads the tree that the tokens spell.
-pub fn parse(alloc: Global, tokens: &[Token]) -> Result<Tree, ParseFault>
-    requires { length tokens.now < 2 ^ 28 }
-    // What is answered is the tokens' tree.
+/// Reads the tree that the tokens spell, or tells how many tokens are left from the fault on.
+pub fn read_tree(alloc: Global, tokens: &[Token]) -> Result<Tree, Stop>
+    // What is answered is the tokens' tree, and the tokens' tree is answered unless memory is wanting.
     ensures parsed { IfOk result (λ tree. Parse tokens.now (plain_tree tree)) }
-    // The tokens' tree is answered, unless memory runs out.
-    ensures only { (tree : PlainTree) → Parse tokens.now tree → IsOnly tree result }
-    // A fault is the first, from the left, at its place.
-    ensures fault { IfErr result (IsFault tokens.now) }
+    ensures only { (wanted : PlainTree) → Parse tokens.now wanted
+        → MatchResult result (λ tree. plain_tree tree ≡ wanted) (λ stop. stop ≡ stops.Memory) }
+
+    // So it is with faults.
+    ensures fault { IfErr result (λ stop. (stop ≡ stops.Memory) ⊎ IsStop tokens.now stop) }
+    ensures all_faults { (wanted : StopValue) → IsStop tokens.now wanted
+        → MatchResult result (λ _. ⊥) (λ stop. (stop ≡ stops.Memory) ⊎ (stop ≡ wanted)) }
 {
     match read_file(alloc, tokens) {
+        Ok(tree) => Ok(tree),
+        Err(stop) => Err(stop),
+    }
+}
+
+/// Reads the tree that the tokens spell, or tells the fault with its place.
+pub fn parse(alloc: Global, tokens: &[Token]) -> Result<Tree, ParseFault>
+    // What is answered is the tokens' tree, and the tokens' tree is answered unless memory is wanting.
+    ensures parsed { IfOk result (λ tree. Parse tokens.now (plain_tree tree)) }
+    ensures only { (wanted : PlainTree) → Parse tokens.now wanted
+        → MatchResult result (λ tree. plain_tree tree ≡ wanted) (λ fault. fault ≡ faults.Memory) }
+
+    // So it is with faults.
+    ensures fault { IfErr result (λ fault. (fault ≡ faults.Memory) ⊎ IsFault tokens.now fault) }
+    ensures all_faults { (wanted : FaultValue) → IsFault tokens.now wanted
+        → MatchResult result (λ _. ⊥) (λ fault. (fault ≡ faults.Memory) ⊎ (fault ≡ wanted)) }
+{
+    match read_tree(alloc, tokens) {
         Ok(tree) => Ok(tree),
         Err(stop) => Err(fault_of(tokens, stop)),
     }

@@ -10,4 +10,5 @@ mod statements;
 #[cfg(test)]
 mod tests;
 
-pub use files::{ParseFault, parse};
+pub use cx_guards::Stop;
+pub use files::{ParseFault, parse, place_left, read_tree};

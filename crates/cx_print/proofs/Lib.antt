@@ -1,3 +1,11 @@
-pub mod GapLemmas
-pub mod LayoutLemmas
+pub mod Adding
+pub mod HeaderSpelling
+pub mod GuardSpelling
+pub mod ControlSpelling
+pub mod FileSpelling
 pub mod PrintLemmas
+pub mod Giving
+pub mod HeaderGiven
+pub mod GuardGiven
+pub mod ControlGiven
+pub mod FileGiven

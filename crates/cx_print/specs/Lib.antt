@@ -1,2 +1,3 @@
-pub mod Pieces
-pub mod Layout
+pub mod Places
+pub mod Printable
+pub mod Printed

@@ -1,18 +1,8 @@
-//! Prints a tree as a text that people like to read.
+//! Prints a tree as a text that is read as an equal tree apart from places.
 #![tactic(auto)]
 
-mod components;
-mod control;
-mod files;
-mod guards;
-mod headers;
-mod operands;
-mod pieces;
+mod laws;
 mod printing;
-mod rendering;
-mod wiring;
 
+pub use laws::parsed_is_printable;
 pub use printing::print;
-
-#[cfg(test)]
-mod tests;

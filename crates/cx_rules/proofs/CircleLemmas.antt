@@ -1,19 +1,16 @@
 -- In the instance tree of an accepted design nothing leads in a circle.
-use Rattle.std.proofs.Common.{◌≡◌, ℕ, zero, suc, ◌<◌, ◌≤◌, inl, inr, ◌⊎◌, ⊎_elim, Bool, true, false, List, [], ◌∷◌, ◌++◌, length, get_or, map, refl, sym, ap, ◌∙◌, subst, arith}
+use Rattle.std.proofs.Common.{◌≡◌, ℕ, zero, suc, ◌<◌, ◌≤◌, inl, inr, ⊎_elim, List, [], ◌∷◌, length, refl, sym, ap, ◌∙◌, subst, arith}
 use Rattle.std.proofs.lemmas.Bool.{cases_lt}
 use Rattle.std.proofs.lemmas.List.{get_or_past}
-use Rattle.cx_prim.specs.declared.ports.Side.{Side}
-use Rattle.cx_prim.specs.Rows.{Row}
 use Rattle.cx_text.specs.declared.rules.Rule.TheVariants.{CombCycle}
 use Rattle.cx_meaning.specs.declared.ports.PortRef.{PortRef}
 use Rattle.cx_meaning.specs.declared.ports.PortRef.TheVariants as ports
 use Rattle.cx_meaning.specs.Designs.{PlainKind, OfPrimitive, OfComponent, PlainCell, PlainComponent, PlainDesign, component_at, no_component, group_at}
-use Rattle.cx_meaning.specs.Instances.{Instance, Node, Cells, no_cells, a_primitive, an_instance, At, Nothing, OfRow, OfInstance, cell_at, cells_of, part_of, add_cell, cells_for, tree_within, tree_of, Path, instance_at, child_at}
+use Rattle.cx_meaning.specs.Instances.{Instance, Node, Cells, no_cells, At, Nothing, OfRow, OfInstance, cell_at, cells_of, part_of, add_cell, cells_for, tree_within, tree_of, Path, instance_at, child_at}
 use Rattle.cx_meaning.specs.Active.{Active, nothing, group, drivers}
 use Rattle.cx_meaning.specs.Sights.{part_port}
 use Rattle.cx_rules.specs.Ports.{component_of}
 use Rattle.cx_rules.specs.Footprints.{Mentions, PartLeads, CellLeads, Leads, Depends, at_once, by_way_of}
-use Rattle.cx_rules.specs.RaceRule.{HasCycle}
 use Rattle.cx_rules.specs.Spots.{Whole, AGroup}
 use Rattle.cx_rules.specs.Accepted.{IsAccepted}
 use Rattle.cx_rules.specs.Circles.{IsAcyclic, AreAcyclic, AcyclicBelow}
@@ -24,7 +21,7 @@ AreAlike Nothing b = Unit {0}
 AreAlike (OfRow row) b = b ≡ OfRow row
 AreAlike (OfInstance child) b = (other : Instance) × (b ≡ OfInstance other) × (part_of child ≡ part_of other)
 
-same_part : (d : PlainDesign) (n k : ℕ) → part_of (tree_within d n k) ≡ component_at d k
+pub same_part : (d : PlainDesign) (n k : ℕ) → part_of (tree_within d n k) ≡ component_at d k
 same_part d zero k = refl
 same_part d (suc n) k = refl
 
@@ -95,7 +92,7 @@ no_leads i act e none (ports.Output n) q l = let h : Mentions (drivers no_compon
 no_leads i act e none (ports.Done g) q l = let h : Mentions (drivers no_component act (ports.Done g)) q = subst (λ x. Mentions (drivers x act (ports.Done g)) q) e l in h.1
 no_leads i act e none (ports.Literal w v) q l = l
 
-no_circle : (i : Instance) (act : Active) → part_of i ≡ no_component → ((c : ℕ) → cell_at (cells_of i) c ≡ Nothing) → IsAcyclic i act
+pub no_circle : (i : Instance) (act : Active) → part_of i ≡ no_component → ((c : ℕ) → cell_at (cells_of i) c ≡ Nothing) → IsAcyclic i act
 no_circle i act e none (p, at_once l) = no_leads i act e none p p l
 no_circle i act e none (p, by_way_of r l rest) = no_leads i act e none p r l
 

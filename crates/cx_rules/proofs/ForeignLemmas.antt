@@ -1,21 +1,15 @@
 -- The enabling ports of a cell that no active group drives are 0.
-use Rattle.std.proofs.Common.{◌≡◌, ℕ, zero, suc, ◌+◌, ◌<◌, inl, inr, ◌⊎◌, ⊎_elim, Bool, true, false, ◌&&◌, ◌||◌, Option, Some, None, List, [], ◌∷◌, ◌++◌, length, get_or, if◌then◌else◌, refl, sym, ap, ◌∙◌, subst, arith}
-use Rattle.cx_text.specs.declared.rules.Rule.TheVariants.{AlwaysEnable}
-use Rattle.std.specs.Prelude.{slice_get}
+use Rattle.std.proofs.Common.{◌≡◌, ℕ, zero, suc, ◌+◌, inl, inr, ◌⊎◌, ⊎_elim, Bool, true, false, ◌||◌, Option, Some, None, List, [], ◌∷◌, ◌++◌, length, get_or, if◌then◌else◌, refl, sym, ap, ◌∙◌, arith}
 use Rattle.cx_prim.specs.declared.ports.Side.TheVariants as sides
-use Rattle.cx_prim.specs.Rows.{Row, is_enable_side}
+use Rattle.cx_prim.specs.Rows.{Row}
 use Rattle.cx_meaning.specs.declared.ports.PortRef.{PortRef}
 use Rattle.cx_meaning.specs.declared.ports.PortRef.TheVariants as ports
 use Rattle.cx_meaning.specs.Rows.{side_of}
-use Rattle.cx_meaning.specs.Designs.{PlainAssign, PlainGroup, PlainComponent, PlainDesign, component_at, group_at, no_group}
-use Rattle.cx_meaning.specs.Instances.{Instance, Node, At, OfRow, cell_at, cells_of, part_of, State, under, just}
-use Rattle.cx_meaning.specs.Active.{Active, Acting, Owned, owned, owned_by_groups, no_later, placed_in, by_place, source_order, offset_of, if_acting, if_target, acting, same_port, drivers}
-use Rattle.cx_meaning.specs.declared.sights.Seen.{Seen}
-use Rattle.cx_meaning.specs.Sights.{Look, Below, Held, bit_of, target_seen, PartPort, cell_step, side_step, step, In, outputs_below, approach, ports_of, seen}
+use Rattle.cx_meaning.specs.Designs.{PlainAssign, PlainGroup, group_at, no_group}
+use Rattle.cx_meaning.specs.Instances.{Instance, Node, OfRow, cell_at, cells_of, part_of, State, under, just}
+use Rattle.cx_meaning.specs.Active.{Active, Owned, owned, owned_by_groups, no_later, placed_in, by_place, source_order, offset_of, if_acting, if_target, acting, same_port, drivers}
+use Rattle.cx_meaning.specs.Sights.{Look, Below, Held, bit_of, target_seen, cell_step, side_step, step, In, outputs_below, approach, ports_of, seen}
 use Rattle.cx_meaning.specs.Control.{targets_cell, assigns_drive, group_drives}
-use Rattle.cx_rules.specs.Ports.{component_of, is_primitive_enable, enables_cell, path_of}
-use Rattle.cx_rules.specs.Spots.{AnAssign}
-use Rattle.cx_rules.specs.Accepted.{IsAccepted}
 use Rattle.cx_rules.proofs.FoundLemmas.{same_is}
 
 -- an assignment in source order is a continuous one, or one of a group
@@ -30,25 +24,25 @@ placed_among a (b ∷ rest) o i = go (no_later a.assign.place b.assign.place) i 
     go false (inl e) h = inr (inl e)
     go false (inr j) h = ⊎_elim inl (λ k. inr (inr k)) (h j)
 
-sorted_among : (list : List Owned) (o : Owned) → In (by_place list) o → In list o
+pub sorted_among : (list : List Owned) (o : Owned) → In (by_place list) o → In list o
 sorted_among [] o i = i
 sorted_among (a ∷ rest) o i = ⊎_elim inl (λ k. inr (sorted_among rest o k)) (placed_among a (by_place rest) o i)
 
-owned_among : (owner : Option ℕ) (list : List PlainAssign) (o : Owned) → In (owned owner list) o → (o.owner ≡ owner) × In list o.assign
+pub owned_among : (owner : Option ℕ) (list : List PlainAssign) (o : Owned) → In (owned owner list) o → (o.owner ≡ owner) × In list o.assign
 owned_among owner [] o i = absurd i
 owned_among owner (a ∷ rest) o (inl e) = (ap (λ x. x.owner) (sym e), inl (ap (λ x. x.assign) e))
 owned_among owner (a ∷ rest) o (inr i) = let r = owned_among owner rest o i in (r.0, inr r.1)
 
-split : (xs ys : List Owned) (o : Owned) → In (xs ++ ys) o → In xs o ⊎ In ys o
+pub split : (xs ys : List Owned) (o : Owned) → In (xs ++ ys) o → In xs o ⊎ In ys o
 split [] ys o i = inr i
 split (x ∷ xs) ys o (inl e) = inl (inl e)
 split (x ∷ xs) ys o (inr i) = ⊎_elim (λ j. inl (inr j)) inr (split xs ys o i)
 
 -- the group of the number that is counted on from k
-record OfGroup (k : ℕ) (groups : List PlainGroup) (o : Owned) : Type 0 where
-  number : ℕ
-  owner : o.owner ≡ Some (k + number)
-  stands : In (get_or groups number no_group).assigns o.assign
+pub record OfGroup (k : ℕ) (groups : List PlainGroup) (o : Owned) : Type 0 where
+  pub number : ℕ
+  pub owner : o.owner ≡ Some (k + number)
+  pub stands : In (get_or groups number no_group).assigns o.assign
 
 first_group : (k : ℕ) (x : PlainGroup) (xs : List PlainGroup) (o : Owned) → In (owned (Some k) x.assigns) o → OfGroup k (x ∷ xs) o
 first_group k x xs o j = let r = owned_among (Some k) x.assigns o j in let e : k ≡ k + 0 = omega arith in record { number = 0; owner = r.0 ∙ ap Some e; stands = r.1 }
@@ -56,20 +50,20 @@ first_group k x xs o j = let r = owned_among (Some k) x.assigns o j in let e : k
 later_group : (k : ℕ) (x : PlainGroup) (xs : List PlainGroup) (o : Owned) → OfGroup (suc k) xs o → OfGroup k (x ∷ xs) o
 later_group k x xs o h = let e : suc k + h.number ≡ k + suc h.number = omega arith in record { number = suc h.number; owner = h.owner ∙ ap Some e; stands = h.stands }
 
-groups_among : (k : ℕ) (groups : List PlainGroup) (o : Owned) → In (owned_by_groups k groups) o → OfGroup k groups o
+pub groups_among : (k : ℕ) (groups : List PlainGroup) (o : Owned) → In (owned_by_groups k groups) o → OfGroup k groups o
 groups_among k [] o i = absurd i
 groups_among k (x ∷ xs) o i = ⊎_elim (first_group k x xs o) (λ j. later_group k x xs o (groups_among (suc k) xs o j)) (split (owned (Some k) x.assigns) (owned_by_groups (suc k) xs) o i)
 
 -- a group that drives a port of a cell drives the cell
-just_self : (c : ℕ) → just c c ≡ true
+pub just_self : (c : ℕ) → just c c ≡ true
 just_self zero = refl
 just_self (suc c) = just_self c
 
-or_right : (a b : Bool) → b ≡ true → (a || b) ≡ true
+pub or_right : (a b : Bool) → b ≡ true → (a || b) ≡ true
 or_right true b e = refl
 or_right false b e = e
 
-assigns_drive_in : (list : List PlainAssign) (a : PlainAssign) (c p : ℕ) → In list a → a.target ≡ ports.Cell c p → assigns_drive list c ≡ true
+pub assigns_drive_in : (list : List PlainAssign) (a : PlainAssign) (c p : ℕ) → In list a → a.target ≡ ports.Cell c p → assigns_drive list c ≡ true
 assigns_drive_in [] a c p i t = absurd i
 assigns_drive_in (x ∷ rest) a c p (inl e) t = ap (λ target. targets_cell target c || assigns_drive rest c) (ap (λ y. y.target) e ∙ t) ∙ ap (λ b. b || assigns_drive rest c) (just_self c)
 assigns_drive_in (x ∷ rest) a c p (inr i) t = or_right (targets_cell x.target c) (assigns_drive rest c) (assigns_drive_in rest a c p i t)

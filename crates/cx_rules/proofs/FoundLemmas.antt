@@ -1,5 +1,5 @@
 -- Where nothing leads in a circle each port is seen as what `seen` finds.
-use Rattle.std.proofs.Common.{◌≡◌, ℕ, zero, suc, ◌+◌, ◌≤◌, ◌<◌, Bool, true, false, ◌&&◌, inl, inr, ◌⊎◌, ⊎_elim, List, [], ◌∷◌, ◌++◌, length, map, Option, Some, None, nat_eq, if◌then◌else◌, refl, sym, ap, ◌∙◌, subst, arith}
+use Rattle.std.proofs.Common.{◌≡◌, ℕ, zero, suc, ◌+◌, ◌≤◌, ◌<◌, Bool, true, false, ◌&&◌, inl, inr, ◌⊎◌, ⊎_elim, List, [], ◌∷◌, length, map, Option, Some, None, nat_eq, refl, sym, ap, ◌∙◌, subst, arith}
 use Rattle.std.proofs.lemmas.Bool.{eqb-true}
 use Rattle.cx_prim.specs.declared.ports.PortRow.{PortRow}
 use Rattle.cx_prim.specs.declared.ports.Side.{Side}
@@ -7,17 +7,14 @@ use Rattle.cx_prim.specs.declared.ports.Side.TheVariants as sides
 use Rattle.cx_prim.specs.Rows.{Row}
 use Rattle.cx_meaning.specs.declared.ports.PortRef.{PortRef}
 use Rattle.cx_meaning.specs.declared.ports.PortRef.TheVariants as ports
-use Rattle.cx_meaning.specs.declared.sights.Seen.{Seen}
-use Rattle.cx_meaning.specs.declared.sights.Seen.TheVariants.{Value, Conflict, Undefined}
 use Rattle.cx_meaning.specs.Rows.{side_from, side_of}
 use Rattle.cx_meaning.specs.Designs.{PlainAssign, PlainComponent}
 use Rattle.cx_meaning.specs.Instances.{Instance, Node, Cells, no_cells, a_primitive, an_instance, At, Nothing, OfRow, OfInstance, part_of, cells_of, cell_at, State, under}
 use Rattle.cx_meaning.specs.Active.{Active, nothing, Acting, Owned, source_order, offset_of, if_acting, if_target, acting, same_port, drivers}
 use Rattle.cx_meaning.specs.Truths.{Truth, One, Zero, Clash, Unknown}
-use Rattle.cx_meaning.specs.Sights.{Look, Below, Held, unheld, guard_truth, Taken, Sources, Stopped, take_guard, taken, PartPort, Go, AnInput, AnOutput, ItsDone, part_port, step, In, GuardNames, IsTaken, TargetNeeds, IsWanted, SideNeeds, PartNeeds, CellNeeds, Needs, Sees, by_step, approach, numbered, ports_of_cells, ports_of, seen, outputs_below}
+use Rattle.cx_meaning.specs.Sights.{Look, Below, Held, unheld, guard_truth, Taken, Sources, Stopped, take_guard, taken, PartPort, Go, AnInput, AnOutput, ItsDone, part_port, step, In, IsTaken, TargetNeeds, SideNeeds, PartNeeds, CellNeeds, Needs, Sees, by_step, approach, numbered, ports_of_cells, ports_of, seen, outputs_below}
 use Rattle.cx_meaning.proofs.SightsLemmas.{one_sight}
-use Rattle.cx_rules.specs.Footprints.{AssignNames, Mentions, SideLeads, PartLeads, CellLeads, Leads, Depends, at_once, by_way_of}
-use Rattle.cx_rules.specs.RaceRule.{HasCycle}
+use Rattle.cx_rules.specs.Footprints.{Mentions, SideLeads, PartLeads, CellLeads, Leads, Depends, at_once, by_way_of}
 use Rattle.cx_rules.specs.Circles.{IsAcyclic, AreAcyclic, AcyclicBelow}
 use Rattle.cx_rules.proofs.Finite.{Distinct, distinct_few, in_left, in_right}
 

@@ -1,5 +1,5 @@
 -- What ports of a frame are seen as depends on the frame alone.
-use Rattle.std.proofs.Common.{◌≡◌, ℕ, zero, suc, Bool, true, false, inl, inr, List, [], ◌∷◌, Option, ◌||◌, Result, refl, sym, ap, ◌∙◌, subst}
+use Rattle.std.proofs.Common.{◌≡◌, ℕ, Bool, true, false, inl, inr, List, [], ◌∷◌, refl, sym, ap, ◌∙◌, subst}
 use Rattle.std.proofs.Math.Path.{fun_ext}
 use Rattle.cx_prim.specs.declared.ports.Side.{Side}
 use Rattle.cx_prim.specs.declared.ports.Side.TheVariants as sides
@@ -15,9 +15,8 @@ use Rattle.cx_meaning.specs.Instances.{Instance, At, Nothing, OfRow, OfInstance,
 use Rattle.cx_meaning.specs.Active.{Active, nothing, Acting, Owned, source_order, offset_of, if_acting, if_target, acting, same_port, drivers}
 use Rattle.cx_meaning.specs.Sights.{Look, Below, Held, unheld, bit_of, PartPort, Go, AnInput, AnOutput, ItsDone, part_port, target_seen, of_option, output_seen, gather, is_done_cell, side_step, part_step, cell_step, step, In, TargetNeeds, SideNeeds, PartNeeds, CellNeeds, Needs, Sees, by_step}
 use Rattle.cx_meaning.specs.Sights.{seen, Gathered, Given, Lacks}
-use Rattle.cx_meaning.specs.Cycles.{Outcome, enables, looks_at, after_data, after_enabling, cell_outcome}
+use Rattle.cx_meaning.specs.Cycles.{enables, looks_at, after_data, after_enabling, cell_outcome}
 use Rattle.cx_meaning.proofs.SightsLemmas.{gather_alike, one_sight}
-use Rattle.cx_rules.specs.Footprints.{Leads}
 use Rattle.cx_rules.specs.Circles.{IsAcyclic, AcyclicBelow}
 use Rattle.cx_rules.specs.Frames.{IsFrame}
 use Rattle.cx_rules.proofs.FoundLemmas.{needs_leads, same_is, seen_found}

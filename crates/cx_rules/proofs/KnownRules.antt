@@ -1,11 +1,9 @@
 -- Worked values of what rules speak of, each from the sentence above it.
-use Rattle.std.specs.Prelude.{◌≡◌, ℕ, Bool, true, false, List, [], ◌∷◌, Option, Some, None, refl}
-use Rattle.cx_meaning.specs.declared.ports.PortRef.{PortRef}
-use Rattle.cx_meaning.specs.declared.ports.PortRef.TheVariants.{Cell, Input, Done, Literal}
-use Rattle.cx_meaning.specs.Designs.{PlainDesign, PlainComponent, PlainGroup, PlainForm, Within, StaticSeq, StaticRepeat, StaticIf, Empty, component_at, statements_of}
-use Rattle.cx_meaning.specs.Instances.{Instance}
+use Rattle.std.specs.Prelude.{◌≡◌, true, false, [], ◌∷◌, Some, None, refl}
+use Rattle.cx_meaning.specs.declared.ports.PortRef.TheVariants.{Cell, Literal}
+use Rattle.cx_meaning.specs.Designs.{PlainDesign, Within, StaticSeq, StaticRepeat, StaticIf, Empty, component_at, statements_of}
 use Rattle.cx_meaning.specs.Islands.{form_length}
-use Rattle.cx_meaning.proofs.KnownDesigns.{placed, assign, guarded, timed_group, mem, reg, st, enable, seq, design, one_bit, number, store, write}
+use Rattle.cx_meaning.proofs.KnownDesigns.{placed, assign, guarded, timed_group, mem, reg, st, enable, seq, design, one_bit, number, store}
 use Rattle.cx_rules.specs.Ports.{component_of, keeps_literal}
 use Rattle.cx_rules.specs.WidthRules.{first_unequal, pairs_of}
 use Rattle.cx_rules.specs.StaticControl.{form_has_length, form_occurrences}

@@ -1,11 +1,11 @@
 -- The parts of a component that rules speak of: assignments in source order, operands, statements in pre-order.
-use Rattle.std.specs.Prelude.{◌≡◌, ℕ, zero, suc, ◌+◌, Bool, true, false, List, [], ◌∷◌, ◌++◌, Option, Some, None, length, slice_get, map, flat_map}
+use Rattle.std.specs.Prelude.{ℕ, ◌+◌, Bool, true, false, List, [], ◌∷◌, ◌++◌, Option, Some, None, length, flat_map}
 use Rattle.cx_text.specs.declared.places.Place.{Place}
 use Rattle.cx_meaning.specs.declared.ports.PortRef.{PortRef}
 use Rattle.cx_meaning.specs.declared.ports.PlacedPort.{PlacedPort}
 use Rattle.cx_meaning.specs.declared.kinds.GroupKind.{GroupKind}
 use Rattle.cx_meaning.specs.declared.kinds.GroupKind.TheVariants as kinds
-use Rattle.cx_meaning.specs.Designs.{PlainGuard, Always, Atom, Negation, All, Any, Compared, Within, PlainGuards, no_guards, a_guard, PlainAssign, PlainComponent, group_at, PlainForm, Empty, Enable, Seq, Par, If, While, Repeat, StaticSeq, StaticPar, StaticIf, StaticRepeat, Timed, PlainStatement, Placed, PlainStatements, no_statements, a_statement, form_of, place_of}
+use Rattle.cx_meaning.specs.Designs.{PlainGuard, Always, Atom, Negation, All, Any, Compared, Within, PlainGuards, no_guards, a_guard, PlainAssign, PlainComponent, PlainForm, Empty, Enable, Seq, Par, If, While, Repeat, StaticSeq, StaticPar, StaticIf, StaticRepeat, Timed, PlainStatement, Placed, PlainStatements, no_statements, a_statement}
 
 -- the ports that stand by themselves in a guard, in source order
 abbrev mutual
@@ -95,11 +95,20 @@ abbrev mutual
 abbrev pub sources_of : PlainAssign → List PlacedPort
 sources_of a = a.source ∷ operands_of a.guard
 
--- where a statement stands: in dynamic control, in static control, or as the branch of a static if
+-- where a statement stands: in dynamic control, in static control, as the branch of a static if, or below a statement that
+-- may not stand in static control
 pub data Context : Type 0 where
   Dynamic : Context
   InStatic : Context
   Branch : Context
+  Amiss : Context
+
+-- where the parts of a dynamic statement stand
+abbrev pub below_dynamic : Context → Context
+below_dynamic Dynamic = Dynamic
+below_dynamic InStatic = Amiss
+below_dynamic Branch = Amiss
+below_dynamic Amiss = Amiss
 
 pub record Visited : Type 0 where
   pub context : Context
@@ -109,21 +118,21 @@ pub record Visited : Type 0 where
 -- the statements of a statement in pre-order, itself first, each with where it stands
 abbrev mutual
   pub visit : Context → PlainStatement → List Visited
-  visit context (Placed form place) = record { context = context; form = form; place = place } ∷ visit_parts form
+  visit context (Placed form place) = record { context = context; form = form; place = place } ∷ visit_parts context form
 
-  pub visit_parts : PlainForm → List Visited
-  visit_parts Empty = []
-  visit_parts (Enable g) = []
-  visit_parts (Seq parts) = visit_all Dynamic parts
-  visit_parts (Par arms) = visit_all Dynamic arms
-  visit_parts (If test comb a b) = visit Dynamic a ++ visit Dynamic b
-  visit_parts (While test comb a) = visit Dynamic a
-  visit_parts (Repeat count a) = visit Dynamic a
-  visit_parts (StaticSeq length parts) = visit_all InStatic parts
-  visit_parts (StaticPar length arms) = visit_all InStatic arms
-  visit_parts (StaticIf length test a b) = visit Branch a ++ visit Branch b
-  visit_parts (StaticRepeat length count a) = visit InStatic a
-  visit_parts (Timed k) = []
+  pub visit_parts : Context → PlainForm → List Visited
+  visit_parts context Empty = []
+  visit_parts context (Enable g) = []
+  visit_parts context (Seq parts) = visit_all (below_dynamic context) parts
+  visit_parts context (Par arms) = visit_all (below_dynamic context) arms
+  visit_parts context (If test comb a b) = visit (below_dynamic context) a ++ visit (below_dynamic context) b
+  visit_parts context (While test comb a) = visit (below_dynamic context) a
+  visit_parts context (Repeat count a) = visit (below_dynamic context) a
+  visit_parts context (StaticSeq length parts) = visit_all InStatic parts
+  visit_parts context (StaticPar length arms) = visit_all InStatic arms
+  visit_parts context (StaticIf length test a b) = visit Branch a ++ visit Branch b
+  visit_parts context (StaticRepeat length count a) = visit InStatic a
+  visit_parts context (Timed k) = []
 
   pub visit_all : Context → PlainStatements → List Visited
   visit_all context no_statements = []

@@ -1,5 +1,5 @@
 -- Stage 5, combinational cycles, and stage 6, races.
-use Rattle.std.specs.Prelude.{◌≡◌, ◌≢◌, ℕ, ◌<◌, ◌⊎◌, Bool, true, List, [], ◌∷◌, Some, length, flat_map, slice_get}
+use Rattle.std.specs.Prelude.{◌≡◌, ◌≢◌, ℕ, ◌<◌, ◌⊎◌, true, List, [], ◌∷◌, Some, length, flat_map, slice_get}
 use Rattle.cx_text.specs.declared.places.Place.{Place}
 use Rattle.cx_meaning.specs.declared.ports.PortRef.{PortRef}
 use Rattle.cx_meaning.specs.Designs.{PlainComponent, PlainDesign, component_at, group_at, PlainForm, Empty, Enable, Seq, Par, If, While, Repeat, StaticSeq, StaticPar, StaticIf, StaticRepeat, Timed, PlainStatement, list_of}
@@ -8,7 +8,7 @@ use Rattle.cx_meaning.specs.Active.{Active, nothing, group}
 use Rattle.cx_meaning.specs.Sights.{In}
 use Rattle.cx_meaning.specs.Control.{drives}
 use Rattle.cx_rules.specs.Ports.{component_of, cell_name}
-use Rattle.cx_rules.specs.Items.{Dynamic, Visited, visit}
+use Rattle.cx_rules.specs.Items.{Dynamic, visit}
 use Rattle.cx_rules.specs.Footprints.{Depends, Reads}
 use Rattle.cx_rules.specs.Spots.{Whole, Spot, Tells, StatementRule, GroupRule}
 

@@ -1,16 +1,15 @@
 -- Stage 4: shapes of groups, guards, static control and outputs. Calls stand in CallShape.
-use Rattle.std.specs.Prelude.{◌≡◌, ◌≢◌, ℕ, nat_eq, nat_lt, ◌⊎◌, Bool, true, false, ◌&&◌, ◌||◌, not, List, [], ◌∷◌, Option, Some, None, IsTrue}
-use Rattle.cx_text.specs.declared.places.Place.{Place}
+use Rattle.std.specs.Prelude.{◌≡◌, ◌≢◌, ℕ, nat_eq, nat_lt, ◌⊎◌, Bool, true, false, ◌||◌, not, List, [], ◌∷◌, Option, Some, None}
 use Rattle.cx_meaning.specs.declared.ports.PortRef.{PortRef}
 use Rattle.cx_meaning.specs.declared.ports.PortRef.TheVariants as ports
 use Rattle.cx_meaning.specs.declared.ports.PlacedPort.{PlacedPort}
 use Rattle.cx_meaning.specs.Designs.{PlainAssign, PlainComponent, group_at, PlainForm, Empty, Enable, Seq, Par, If, While, Repeat, StaticSeq, StaticPar, StaticIf, StaticRepeat, Timed, PlainStatement}
 use Rattle.cx_meaning.specs.Instances.{Instance, part_of}
-use Rattle.cx_meaning.specs.Active.{nothing, Owned}
+use Rattle.cx_meaning.specs.Active.{nothing}
 use Rattle.cx_meaning.specs.Sights.{In}
 use Rattle.cx_meaning.specs.Islands.{group_length, form_length}
 use Rattle.cx_rules.specs.Ports.{is_primitive_enable, is_part_port, path_of}
-use Rattle.cx_rules.specs.Items.{Range, ranges_of, is_plain, is_comb, Context, Visited}
+use Rattle.cx_rules.specs.Items.{Range, ranges_of, is_plain, is_comb}
 use Rattle.cx_rules.specs.Footprints.{AssignNames, Rests, Depends}
 use Rattle.cx_rules.specs.StaticControl.{is_static, is_in_static, may_stand, form_has_length, written_length}
 use Rattle.cx_rules.specs.Spots.{Tells, AssignRule, StatementRule, GroupRule}

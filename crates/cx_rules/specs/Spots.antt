@@ -1,7 +1,7 @@
 -- Where a rule is broken: the part, its place and its name.
-use Rattle.std.specs.Prelude.{◌≡◌, ℕ, ◌<◌, Bool, List, [], ◌∷◌, length, slice_get, Some}
+use Rattle.std.specs.Prelude.{◌≡◌, ℕ, ◌<◌, List, length, slice_get, Some}
 use Rattle.cx_text.specs.declared.places.Place.{Place}
-use Rattle.cx_meaning.specs.Designs.{PlainComponent, PlainDesign, component_at}
+use Rattle.cx_meaning.specs.Designs.{PlainDesign, component_at}
 use Rattle.cx_meaning.specs.Instances.{Instance}
 use Rattle.cx_meaning.specs.Active.{Owned, source_order}
 use Rattle.cx_rules.specs.Ports.{component_of}

@@ -1,8 +1,8 @@
 -- Static control: what may stand in it, and counts of occurrences before repetition.
-use Rattle.std.specs.Prelude.{ℕ, zero, suc, ◌+◌, Bool, true, false, ◌&&◌, ◌||◌, is_some, List, [], ◌∷◌, Option, Some, None}
+use Rattle.std.specs.Prelude.{ℕ, ◌+◌, Bool, true, false, ◌&&◌, is_some, List, [], ◌∷◌, Option, None}
 use Rattle.cx_meaning.specs.Designs.{PlainComponent, PlainForm, Empty, Enable, Seq, Par, If, While, Repeat, StaticSeq, StaticPar, StaticIf, StaticRepeat, Timed, PlainStatement, Placed, PlainStatements, no_statements, a_statement}
 use Rattle.cx_meaning.specs.Islands.{group_length}
-use Rattle.cx_rules.specs.Items.{Context, Dynamic, InStatic, Branch, Visited, statements_in}
+use Rattle.cx_rules.specs.Items.{Context, Dynamic, InStatic, Branch, Amiss, Visited}
 
 -- a static seq, par, if or repeat
 abbrev pub is_static : PlainForm → Bool
@@ -23,11 +23,13 @@ abbrev pub is_branch : Context → Bool
 is_branch Dynamic = false
 is_branch InStatic = false
 is_branch Branch = true
+is_branch Amiss = false
 
 abbrev pub is_in_static : Context → Bool
 is_in_static Dynamic = false
 is_in_static InStatic = true
 is_in_static Branch = true
+is_in_static Amiss = false
 
 -- MAY STAND IN STATIC CONTROL: a static statement, the enable of a static group, and as a branch of a static if the empty one
 abbrev pub may_stand : PlainComponent → Context → PlainForm → Bool
@@ -101,6 +103,7 @@ abbrev pub is_dynamic : Context → Bool
 is_dynamic Dynamic = true
 is_dynamic InStatic = false
 is_dynamic Branch = false
+is_dynamic Amiss = false
 
 abbrev pub is_island : PlainComponent → Visited → Bool
 is_island part v = is_dynamic v.context && is_island_form part v.form

@@ -1,4 +1,4 @@
-use Rattle.std.proofs.Common.{◌≡◌, [], ◌∷◌, map, length}
+use Rattle.std.proofs.Common.{◌≡◌, [], map, length}
 use Rattle.cx_ast.specs.PlainTree.{plain_cell}
 use Rattle.cx_grammar.specs.Calyx.{nested_at, cell}
 use Rattle.cx_grammar.specs.Grammar.{starts}

@@ -1,6 +1,5 @@
-use Rattle.std.proofs.Common.{◌≡◌, [], ◌∷◌, refl, sym, ◌∙◌, map}
+use Rattle.std.proofs.Common.{[], ◌∷◌, refl, sym, ◌∙◌}
 use Rattle.std.proofs.lemmas.Result.{err_from_is_err_and}
-use Rattle.std.proofs.lemmas.List.{map_push}
 use Rattle.cx_grammar.specs.Calyx.{nested_at, next_number, more_numbers}
 use Rattle.cx_grammar.specs.Grammar.{starts}
 use Rattle.cx_grammar.specs.Reading.{read, several_at}

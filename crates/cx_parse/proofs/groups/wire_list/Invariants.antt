@@ -1,4 +1,4 @@
-use Rattle.std.proofs.Common.{◌≡◌, [], ◌∷◌, map, length}
+use Rattle.std.proofs.Common.{◌≡◌, [], map, length}
 use Rattle.cx_ast.specs.PlainTree.{plain_wire}
 use Rattle.cx_grammar.specs.Calyx.{nested_at, wire}
 use Rattle.cx_grammar.specs.Grammar.{starts}

@@ -1,12 +1,11 @@
-use Rattle.std.proofs.Common.{◌≡◌, [], ◌∷◌, refl, sym, ◌∙◌, map}
+use Rattle.std.proofs.Common.{refl, sym, ◌∙◌, map}
 use Rattle.std.proofs.lemmas.Result.{err_from_is_err_and}
 use Rattle.std.proofs.lemmas.List.{map_push}
 use Rattle.cx_ast.specs.PlainStatements.{plain_statement}
-use Rattle.cx_grammar.specs.Calyx.{nested_at, statement, attributes, attribute, form, enable, seq, par, if_form, while_form, repeat, invoke, static_statement, statements}
-use Rattle.cx_grammar.specs.Grammar.{starts, Braces}
-use Rattle.cx_grammar.specs.Reading.{read, several_at}
+use Rattle.cx_grammar.specs.Calyx.{statement, attributes, attribute, form, enable, seq, par, if_form, while_form, repeat, invoke, static_statement, statements}
+use Rattle.cx_grammar.specs.Grammar.{Braces}
 use Rattle.cx_grammar.proofs.Loops.{shorter_at, front-next, front-end, nested_at-suc}
-use Rattle.cx_guards.proofs.Fails.{front_fails, front-many, level_zero}
+use Rattle.cx_guards.proofs.Fails.{front_fails, level_zero}
 use Rattle.cx_parse.proofs.statements.+statement.Goals as goal
 
 pub statements-returns-in_err-statement : goal.statements-returns-in_err-statement

@@ -1,6 +1,5 @@
-use Rattle.std.proofs.Common.{◌≡◌, [], ◌∷◌, refl, sym, ◌∙◌, map}
+use Rattle.std.proofs.Common.{refl, sym, ◌∙◌}
 use Rattle.std.proofs.lemmas.Result.{err_from_is_err_and}
-use Rattle.std.proofs.lemmas.List.{map_push}
 use Rattle.cx_grammar.specs.Calyx.{bind}
 use Rattle.cx_grammar.proofs.Loops.{commas-pass, commas-over, commas-end, commas-shorter}
 use Rattle.cx_guards.proofs.Fails.{commas_fails}

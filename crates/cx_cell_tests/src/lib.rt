@@ -1,0 +1,23 @@
+//! Values from outside for the primitives.
+#![tactic(auto)]
+
+#[cfg(test)]
+mod arithmetic;
+#[cfg(test)]
+mod comparisons;
+#[cfg(test)]
+mod conditions;
+#[cfg(test)]
+mod laws;
+#[cfg(test)]
+mod memories;
+#[cfg(test)]
+mod names;
+#[cfg(test)]
+mod pipes;
+#[cfg(test)]
+mod ports;
+#[cfg(test)]
+mod turns;
+#[cfg(test)]
+mod words;

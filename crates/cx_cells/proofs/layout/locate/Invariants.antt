@@ -1,5 +1,0 @@
-use Rattle.cx_cells.proofs.LocateLemmas.{IsLocating}
-use Rattle.cx_cells.proofs.layout.locate.Given as goal
-
-abbrev pub invariant-loop-port : goal.invariant-loop-port
-invariant-loop-port l = IsLocating l.sizes l.inputs l.port l.number

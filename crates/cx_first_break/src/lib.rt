@@ -1,0 +1,7 @@
+//! The first break of a stage's rules.
+#![tactic(auto)]
+
+mod breaks;
+mod keys;
+
+pub use breaks::{Break, FirstBreak, Part, Spot};

@@ -1,0 +1,14 @@
+mod StartLemmas
+mod ReadsLemmas
+mod PositionLemmas
+mod IslandLemmas
+mod EdgeLemmas
+mod TogetherLemmas
+mod VisitLemmas
+mod SourceLemmas
+mod RaceLemmas
+mod ApartLemmas
+mod LengthLemmas
+mod ExampleLemmas
+mod SampleLemmas
+mod SampledLemmas

@@ -1,0 +1,5 @@
+pub mod Closures
+pub mod Positions
+pub mod Samples
+pub mod SampledIslands
+pub mod Examples

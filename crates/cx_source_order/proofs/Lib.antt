@@ -1,0 +1,2 @@
+mod Stable
+mod SourceOrder

@@ -1,0 +1,14 @@
+use Rattle.std.proofs.Common.{refl, arith, sym, rules, ◌≡◌, ◌+◌, length, take, ℕ}
+use Rattle.cx_prim.specs.MemoryLaws.{AreWords-set, memory_port}
+use Rattle.cx_prim.specs.MemoryRows.{memory_row}
+use Rattle.cx_prim.specs.RowTools.{value_at_below}
+use Rattle.cx_stateful.specs.Layouts.{row_at_layout}
+use Rattle.cx_stateful.proofs.memory.CombinationalMemory.edge.Goals as goal
+
+pub returns-in-Ok-clause-fits : goal.returns-in-Ok-clause-fits
+returns-in-Ok-clause-fits c =
+    let layout = c.args.self.now.layout in
+    let counted : layout.dimensions ≡ length (take layout.dimensions layout.sizes) + 0 = search rules in
+    let at = memory_port layout.width (take layout.dimensions layout.sizes) (take layout.dimensions layout.address_widths) layout.dimensions 0 layout.within counted in
+    AreWords-set layout.width _ c.args.state.now.words.items c.in-Ok.number c.number_at.result c.requires.state_fits
+    (rw c.number_at.ensures.value (value_at_below (row_at_layout memory_row layout).ports c.args.inputs.now layout.dimensions _ c.requires.inputs_fit at c.number_at.ensures.fits))

@@ -1,0 +1,5 @@
+//! Texts that go through the lexer, the parser and the printer, and back.
+#![tactic(auto)]
+
+#[cfg(test)]
+mod tests;
