@@ -13,6 +13,6 @@ pub mod InstanceAgain
 pub mod EdgeAgain
 pub mod ExternalAgain
 pub mod SourceAgain
-pub mod Reads
+pub mod WholeTexts
 pub mod SoundHeld
 pub mod HeldSources

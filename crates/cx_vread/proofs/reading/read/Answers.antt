@@ -1,4 +1,4 @@
-use Rattle.cx_vread.proofs.Reads.{stops_for_memory, answers_it}
+use Rattle.cx_vread.proofs.WholeTexts.{stops_for_memory, answers_it}
 use Rattle.cx_vread.proofs.reading.read.Goals as goal
 
 pub returns-in-Err-clause-spelled : goal.returns-in-Err-clause-spelled
