@@ -1,5 +1,9 @@
 -- Parts one after another.
-use Rattle.std.proofs.Common.{◌≡◌, ℕ, ◌+◌, ◌-◌, ◌<◌, zero, suc, Bool, true, false, List, [], ◌∷◌, ◌++◌, Option, Some, None, refl, ap, sym, ◌∙◌, arith, append_assoc, append-nil, if◌then◌else◌}
+use Rattle.std.proofs.Common.{◌≡◌, ℕ, ◌+◌, ◌-◌, ◌<◌, zero, suc, Bool, true, false, List, [], ◌∷◌, ◌++◌, Option, Some, None, refl, ap, sym, ◌∙◌, arith, append_assoc, append-nil, map, if◌then◌else◌}
+use Rattle.std.proofs.lemmas.List.{map-append}
+use Rattle.cx_vread.specs.declared.faults.Fault.{Fault}
+use Rattle.cx_vread.specs.declared.faults.Fault.TheVariants as faults
+use Rattle.cx_vread.specs.Answers.{Fails}
 use Rattle.cx_vread.specs.Places.{Place, Reads, then_reads, many, with_front}
 
 some_left : (left : ℕ) → 0 < left → left ≡ suc (left - 1)
@@ -52,3 +56,24 @@ module _ {X : Type 0} where
       ap (λ n. with_front front (many starts one n p)) (some_left left lt)
       ∙ ap (λ b. with_front front (if b then then_reads (one p) (λ x q. then_reads (many starts one (left - 1) q) (λ xs r. Some (x ∷ xs, r))) else Some ([], p))) here
       ∙ ap (λ r. with_front front (then_reads r (λ x q. then_reads (many starts one (left - 1) q) (λ xs r. Some (x ∷ xs, r))))) is
+
+  -- where such a part is not read, the whole is not
+  pub fails_on : (starts : Place → Bool) (one : Place → Reads X) (front : List X) (left : ℕ) (p : Place) (fault : Fault) (whole : Reads (List X))
+      → with_front front (many starts one left p) ≡ whole → 0 < left → starts p ≡ true → Fails fault (one p) → Fails fault whole
+  fails_on starts one front left p (faults.Syntax bytes) whole so_far lt here reads = sym so_far ∙ many_fails starts one front left p lt here reads
+  fails_on starts one front left p faults.Memory whole so_far lt here reads = tt
+
+module _ {X Y : Type 0} where
+  -- one part more is read into a list of the program
+  pub mapped_next : (plain : Y → X) (starts : Place → Bool) (one : Place → Reads X) (list more : List Y) (y : Y) (left : ℕ) (p q : Place) (whole : Reads (List X))
+      → with_front (map plain list) (many starts one left p) ≡ whole → more ≡ list ++ y ∷ [] → 0 < left → starts p ≡ true → one p ≡ Some (plain y, q)
+      → with_front (map plain more) (many starts one (left - 1) q) ≡ whole
+  mapped_next plain starts one list more y left p q whole so_far is lt here reads =
+      ap (λ xs. with_front xs (many starts one (left - 1) q)) (ap (map plain) is ∙ map-append plain list (y ∷ []))
+      ∙ many_next starts one (map plain list) left p q (plain y) lt here reads
+      ∙ so_far
+
+  -- no such part stands here
+  pub mapped_end : (plain : Y → X) (starts : Place → Bool) (one : Place → Reads X) (list : List Y) (left : ℕ) (p : Place) (whole : Reads (List X))
+      → with_front (map plain list) (many starts one left p) ≡ whole → starts p ≡ false → whole ≡ Some (map plain list, p)
+  mapped_end plain starts one list left p whole so_far absent = sym so_far ∙ many_end starts one (map plain list) left p absent

@@ -25,11 +25,11 @@ pub stops_for_memory : (s : PlainSource) (text : List ℕ) (fits : Bool) (fault 
 stops_for_memory s text fits (faults.Syntax left) refused ok none told e laid held = let some = spelled s text fits ok e laid held in absurd (cc)
 stops_for_memory s text fits faults.Memory refused ok none told e laid held = subst (λ r. Answers s (Err r)) (sym told) tt
 
-value_of : Option (PlainSource × Place) → PlainSource → PlainSource
+abbrev value_of : Option (PlainSource × Place) → PlainSource → PlainSource
 value_of None other = other
 value_of (Some x) other = x.0
 
-fits_of : Option (PlainSource × Place) → Bool
+abbrev fits_of : Option (PlainSource × Place) → Bool
 fits_of None = true
 fits_of (Some x) = x.1.fits
 
