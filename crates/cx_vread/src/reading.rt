@@ -202,9 +202,10 @@ pub fn read(alloc: Global, text: &[u8]) -> Result<Source, ReadRefusal>
     let start = At { rest: text, notes };
     match parts(alloc, start) {
         Err(fault) => Err(stopped(text, fault)),
-        Ok(((externals, modules), end)) => kept_or_noted(
-            alloc, text, end.notes, externals, modules,
-        ),
+        Ok(found) => {
+            let ((externals, modules), end) = found;
+            kept_or_noted(alloc, text, end.notes, externals, modules)
+        }
     }
 }
 
