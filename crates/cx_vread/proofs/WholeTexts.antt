@@ -1,17 +1,23 @@
 -- What reading a whole text tells of the source that it spells.
-use Rattle.std.proofs.Common.{◌≡◌, ℕ, Bool, true, false, List, [], Option, Some, None, Result, Ok, Err, refl, ap, sym, subst, ◌∙◌}
+use Rattle.std.proofs.Common.{◌≡◌, ℕ, Bool, true, false, List, [], Option, Some, None, option_map, Result, Ok, Err, refl, ap, sym, subst, ◌∙◌, ◌&&◌}
+use Rattle.std.specs.Prelude.{is_none}
+use Rattle.std.proofs.lemmas.Bool.{and_parts}
 use Rattle.cx_vtree.specs.declared.sources.Source.{Source}
 use Rattle.cx_vtree.specs.Layout.{is_laid_out}
 use Rattle.cx_vtree.specs.Plain.{PlainSource}
+use Rattle.cx_vtree.specs.Sound.{Break, break_of, is_sound}
 use Rattle.cx_vtree.specs.Spelling.{text_of}
+use Rattle.cx_vsound.specs.Search.{told_break}
 use Rattle.cx_vread.specs.declared.faults.Fault.{Fault}
 use Rattle.cx_vread.specs.declared.faults.Fault.TheVariants as faults
 use Rattle.cx_vread.specs.declared.faults.ReadRefusal.{ReadRefusal}
+use Rattle.cx_vread.specs.declared.faults.ReadRefusal.TheVariants as refusals
 use Rattle.cx_vread.specs.Answers.{Fails}
 use Rattle.cx_vread.specs.Holds.{is_held}
 use Rattle.cx_vread.specs.Parts.{source_at}
 use Rattle.cx_vread.specs.Places.{Place}
-use Rattle.cx_vread.specs.ReadAnswers.{Answers, Stopped}
+use Rattle.cx_vread.specs.ReadAnswers.{Answers, ReadAs, Stopped}
+use Rattle.cx_vread.proofs.HeldSources.{sound_held}
 use Rattle.cx_vread.proofs.NumberAgain.{clean}
 use Rattle.cx_vread.proofs.SourceAgain.{source_again}
 
@@ -43,3 +49,24 @@ answers_it s read text fits end result ok gives answers e laid held =
     let is : read ≡ s = ap (λ o. value_of o s) same in
     let clear : end.fits ≡ true = ap fits_of same in
     subst (λ x. Answers x result) is (answers clear (e ∙ ap text_of (sym is)) (ap is_laid_out is ∙ laid))
+
+no_break : (o : Option Break) → is_none o ≡ true → option_map told_break o ≡ None
+no_break None h = refl
+no_break (Some b) h = absurd (cc)
+
+-- what has no break is not refused for one
+unbroken : (s : PlainSource) (result : Result Source ReadRefusal) → option_map told_break (break_of s) ≡ None → Answers s result → ReadAs s result
+unbroken s (Ok source) none answer = answer
+unbroken s (Err (refusals.Syntax line)) none answer = answer
+unbroken s (Err (refusals.Name line)) none answer = let both = sym none ∙ answer in absurd (cc)
+unbroken s (Err (refusals.Width line)) none answer = let both = sym none ∙ answer in absurd (cc)
+unbroken s (Err (refusals.Limit line)) none answer = let both = sym none ∙ answer in absurd (cc)
+unbroken s (Err refusals.Memory) none answer = tt
+
+-- so a sound source is read
+pub sound_read : (s : PlainSource) (text : List ℕ) (result : Result Source ReadRefusal)
+    → ((t : PlainSource) → text ≡ text_of t → is_laid_out t ≡ true → is_held t ≡ true → Answers t result)
+    → text ≡ text_of s → is_sound s ≡ true → ReadAs s result
+sound_read s text result answers e sound =
+    let both = and_parts (is_laid_out s) (is_none (break_of s)) sound in
+    unbroken s result (no_break (break_of s) both.1) (answers s e both.0 (sound_held s sound))

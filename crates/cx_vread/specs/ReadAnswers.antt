@@ -27,6 +27,15 @@ Answers s (Err (refusals.Width line)) = option_map told_break (break_of s) ≡ S
 Answers s (Err (refusals.Limit line)) = option_map told_break (break_of s) ≡ Some (breaks.Limit line)
 Answers s (Err refusals.Memory) = Unit {0}
 
+-- the source itself
+abbrev pub ReadAs : PlainSource → Result Source ReadRefusal → Type 0
+ReadAs s (Ok source) = plain_source source ≡ s
+ReadAs s (Err (refusals.Syntax line)) = ⊥
+ReadAs s (Err (refusals.Name line)) = ⊥
+ReadAs s (Err (refusals.Width line)) = ⊥
+ReadAs s (Err (refusals.Limit line)) = ⊥
+ReadAs s (Err refusals.Memory) = Unit {0}
+
 -- the refusal where reading stops
 abbrev pub Stopped : Fault → ReadRefusal → Type 0
 Stopped (faults.Syntax left) refused = Unit {0}

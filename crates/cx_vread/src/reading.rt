@@ -4,11 +4,12 @@ ghost use Rattle.std.specs.Prelude.{◌≡◌, ◌↔◌, true, IfOk, IsTrue};
 ghost use Rattle.cx_vtree.specs.Layout.{is_laid_out};
 ghost use Rattle.cx_vtree.specs.Plain.{PlainSource};
 ghost use Rattle.cx_vtree.specs.PlainSources.{plain_source};
+ghost use Rattle.cx_vtree.specs.Sound.{is_sound};
 ghost use Rattle.cx_vtree.specs.Sources.{source_of};
 ghost use Rattle.cx_vread.specs.Answers.{Gives, is_clean, place_of};
 ghost use Rattle.cx_vread.specs.Parts.{source_at};
 ghost use Rattle.cx_vread.specs.Holds.{is_held};
-ghost use Rattle.cx_vread.specs.ReadAnswers.{Answers, Stopped, refusal};
+ghost use Rattle.cx_vread.specs.ReadAnswers.{Answers, ReadAs, Stopped, refusal};
 ghost use Rattle.cx_vtree.specs.Spelling.{text_of};
 
 use crate::externals::externals;
@@ -195,6 +196,8 @@ fn kept_or_noted(
 pub fn read(alloc: Global, text: &[u8]) -> Result<Source, ReadRefusal>
     // What is read is spelled so. That it is sound stands in its type.
     ensures value { IfOk result (λ source. text.now ≡ text_of (plain_source source)) }
+    // A text that spells a sound source is read as it, unless memory is refused.
+    ensures sound { (s : PlainSource) → text.now ≡ text_of s → is_sound s ≡ true → ReadAs s result }
     // A text that spells a source that a tree holds is read as it, or refused for its first break.
     ensures spelled { (s : PlainSource) → text.now ≡ text_of s → is_laid_out s ≡ true → is_held s ≡ true → Answers s result }
 {
