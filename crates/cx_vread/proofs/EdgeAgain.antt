@@ -1,25 +1,24 @@
 -- The lines of an edge that are spelled are read.
-use Rattle.std.proofs.Common.{◌≡◌, ℕ, ◌<◌, ◌==◌, not, Bool, true, false, ◌&&◌, List, [], ◌∷◌, ◌++◌, map, length, Option, Some, None, refl, ◌∙◌, ap, sym, arith, append_assoc, if◌then◌else◌}
+use Rattle.std.proofs.Common.{◌≡◌, ℕ, ◌<◌, Bool, true, false, ◌&&◌, List, [], ◌∷◌, ◌++◌, map, length, Option, Some, None, refl, ◌∙◌, ap, sym, arith, append_assoc, if◌then◌else◌}
 use Rattle.std.specs.Prelude.{codes, is_some}
 use Rattle.std.specs.List.{list_all}
-use Rattle.std.proofs.lemmas.Bool.{and_parts, not-true}
-use Rattle.cx_vtree.specs.Layout.{is_name, is_name_byte, expr_fits, assign_fits, item_fits, edge_fits}
-use Rattle.cx_vtree.specs.Lines.{expr_text, SetLine, StoreLine, line_text, lines_text}
-use Rattle.cx_vtree.specs.Plain.{PlainExpr, PlainAssign, PlainStore, PlainItem, SetTo, StoreTo, PlainEdge}
-use Rattle.cx_vtree.specs.Sound.{nests_over}
+use Rattle.std.proofs.lemmas.Bool.{and_parts}
+use Rattle.cx_vtree.specs.Layout.{is_name, expr_fits, assign_fits, item_fits, edge_fits}
+use Rattle.cx_vtree.specs.Lines.{expr_text, SetLine, line_text, lines_text}
+use Rattle.cx_vtree.specs.Plain.{PlainExpr, PlainAssign, PlainItem, SetTo, StoreTo, PlainEdge}
 use Rattle.cx_vtree.specs.Spelling.{item_line, edge_lines}
 use Rattle.cx_vwrite.proofs.LinesText.{edge_text}
 use Rattle.cx_vread.specs.Places as places
 use Rattle.cx_vread.specs.Places.{Place, Reads, then_reads, then_at, begins}
 use Rattle.cx_vread.specs.Tokens.{name_at}
 use Rattle.cx_vread.specs.Exprs.{whole_expr_at}
-use Rattle.cx_vread.specs.Holds.{numbers_fit, holds_expr, holds_assign, holds_item, holds_edge}
-use Rattle.cx_vread.specs.Parts.{assigned_by, set_at, store_by, store_head_at, store_at, item_at, sets_at, items_at, edge_at, edge_or_none_at}
+use Rattle.cx_vread.specs.Holds.{holds_expr, holds_assign, holds_item, holds_edge}
+use Rattle.cx_vread.specs.Parts.{assigned_by, set_at, store_by, store_at, item_at, sets_at, items_at, edge_at, edge_or_none_at}
 use Rattle.cx_vread.proofs.ExprAgain.{closed, name_again, whole_again}
 use Rattle.cx_vread.proofs.LineAgain.{assigned_again, good_assign, good_assigns}
 use Rattle.cx_vread.proofs.ManyAgain.{joined_text, Again, all_again, lines_joined, Anything}
 use Rattle.cx_vread.proofs.NumberAgain.{clean}
-use Rattle.cx_vread.proofs.WordAgain.{other_word, OwnWords, no_keyword}
+use Rattle.cx_vread.proofs.WordAgain.{other_word, no_keyword}
 
 abbrev set_text_of : PlainAssign → List ℕ
 set_text_of a = line_text (SetLine a) ++ codes "\n"

@@ -1,5 +1,5 @@
 -- An expression that is spelled is read.
-use Rattle.std.proofs.Common.{◌≡◌, ℕ, ◌+◌, ◌-◌, ◌<◌, ◌≤◌, ◌^◌, ◌⊎◌, inl, inr, zero, suc, ◌==◌, not, Bool, true, false, ◌&&◌, ◌||◌, List, [], ◌∷◌, ◌++◌, Option, Some, None, refl, ◌∙◌, ap, sym, subst, arith, append_assoc, if◌then◌else◌}
+use Rattle.std.proofs.Common.{◌≡◌, ℕ, ◌-◌, ◌<◌, ◌≤◌, ◌^◌, inl, inr, zero, suc, ◌==◌, not, true, false, ◌&&◌, ◌||◌, List, [], ◌∷◌, ◌++◌, Option, Some, None, refl, ◌∙◌, ap, sym, subst, arith, append_assoc, if◌then◌else◌}
 use Rattle.std.specs.Prelude.{codes, is_some, nat_lt, nat_le}
 use Rattle.std.specs.List.{list_all}
 use Rattle.std.specs.Str.Parse.{digits_value}
@@ -15,7 +15,7 @@ use Rattle.cx_bits.proofs.Powers.{pow_grows}
 use Rattle.cx_vread.specs.Places as Places
 use Rattle.cx_vread.specs.Places.{Place, Reads, unfit, then_reads, then_at, after_text, begins}
 use Rattle.cx_vread.specs.Tokens.{front, back, name_at, is_digit_in, is_numeral, number_at, capped, bounded, small_at, fits_bits, stand_in, literal_of, literal_at}
-use Rattle.cx_vread.specs.Exprs.{operator_at, is_part, part_by, item_by, bracketed_by, named_by, behind_by, applied_by, chosen_by, round_by, inverted_by, joined_by, brackets_by, starts_digit, by_first, expr_at, inner_at, nested_at, most_levels, whole_expr_at}
+use Rattle.cx_vread.specs.Exprs.{operator_at, is_part, part_by, item_by, bracketed_by, named_by, behind_by, applied_by, chosen_by, round_by, inverted_by, brackets_by, by_first, expr_at, inner_at, nested_at, most_levels, whole_expr_at}
 use Rattle.cx_vread.specs.Holds.{numbers_fit, holds_expr}
 use Rattle.cx_vread.proofs.Levels.{expr_at_is, levels_are}
 use Rattle.cx_vread.proofs.NumberAgain.{clean, number_again, text_digits, text_numeral}

@@ -1,5 +1,5 @@
 -- The lines of external memories that are spelled are read.
-use Rattle.std.proofs.Common.{◌≡◌, ℕ, ◌<◌, ◌≤◌, ◌^◌, inl, Bool, true, false, ◌&&◌, List, [], ◌∷◌, ◌++◌, map, length, Option, Some, None, refl, ◌∙◌, ap, sym, arith, append_assoc, if◌then◌else◌}
+use Rattle.std.proofs.Common.{◌≡◌, ℕ, ◌<◌, ◌≤◌, ◌^◌, inl, Bool, true, false, ◌&&◌, List, [], ◌∷◌, ◌++◌, map, length, Some, None, refl, ◌∙◌, ap, arith, append_assoc, if◌then◌else◌}
 use Rattle.std.specs.Prelude.{codes, nat_lt, nat_le}
 use Rattle.std.specs.List.{list_all}
 use Rattle.std.proofs.lemmas.Bool.{and_parts, lt-ltb, ltb-true, leb-true}
@@ -8,7 +8,7 @@ use Rattle.cx_vtree.specs.Lines.{decimal_text, sizes_text, ExternalLine, line_te
 use Rattle.cx_vtree.specs.Plain.{PlainExternal}
 use Rattle.cx_vread.specs.Places as places
 use Rattle.cx_vread.specs.Places.{Place, Reads, unfit, then_reads, then_at, begins, many}
-use Rattle.cx_vread.specs.Tokens.{back, is_digit_in, word_at, name_at, capped, bounded, small_at, size_at}
+use Rattle.cx_vread.specs.Tokens.{back, is_digit_in, word_at, name_at, capped, bounded, size_at}
 use Rattle.cx_vread.specs.Holds.{holds_external}
 use Rattle.cx_vread.specs.Parts.{more_size_at, sizes_at, external_by, external_at, externals_at}
 use Rattle.cx_vread.proofs.ExprAgain.{name_again, small_again}

@@ -1,18 +1,18 @@
 -- A tree holds each sound source: modules, and external memories.
-use Rattle.std.proofs.Common.{◌≡◌, ℕ, ◌+◌, ◌*◌, ◌<◌, ◌≤◌, ◌^◌, zero, suc, ◌==◌, not, Bool, true, false, ◌&&◌, ◌||◌, List, [], ◌∷◌, ◌++◌, map, length, Option, Some, None, refl, ◌∙◌, ap, sym, subst, arith, if◌then◌else◌}
-use Rattle.std.specs.Prelude.{codes, nat_lt, nat_le, option_and_then, is_none}
+use Rattle.std.proofs.Common.{◌≡◌, ℕ, ◌*◌, ◌<◌, ◌≤◌, zero, suc, ◌==◌, not, Bool, true, false, ◌&&◌, ◌||◌, List, [], ◌∷◌, ◌++◌, map, length, Option, Some, None, refl, ◌∙◌, ap, sym, subst, arith, if◌then◌else◌}
+use Rattle.std.specs.Prelude.{codes, nat_lt, option_and_then, is_none}
 use Rattle.std.specs.List.{list_all}
 use Rattle.std.specs.Option.{option_map_or}
 use Rattle.std.proofs.Math.Nat.{le-mul_of_pos_right, mul_comm}
-use Rattle.std.proofs.lemmas.Bool.{and_parts, and_from, or_parts, not-true, eqb-true, ltb-true, ltb-false, lt-ltb}
+use Rattle.std.proofs.lemmas.Bool.{and_parts, and_from, or_parts, eqb-true, ltb-true, ltb-false, lt-ltb}
 use Rattle.std.proofs.lemmas.List.Folds.{list_all-append}
 use Rattle.cx_text.specs.Loading.{word_count}
 use Rattle.cx_vtree.specs.InstanceTree.{same_name}
 use Rattle.cx_vtree.specs.Layout.{is_name, port_fits, decl_fits, assign_fits, instance_fits, edge_fits, module_fits, external_fits, is_laid_out}
-use Rattle.cx_vtree.specs.Plain.{PlainPort, PlainDecl, WireOf, RegisterOf, ArrayOf, PlainAssign, PlainEdge, PlainModule, PlainExternal, PlainSource}
+use Rattle.cx_vtree.specs.Plain.{PlainDecl, WireOf, RegisterOf, ArrayOf, PlainEdge, PlainModule, PlainExternal, PlainSource}
 use Rattle.cx_vtree.specs.Sound.{Break, Faults, no_faults, Scope, Counts, width_of, meant_in, decl_name, drivers_in, module_named, module_counts, module_faults, ports_faults, decls_faults, assigns_faults, instances_faults, edge_faults, sets_faults, items_faults, lines_faults, modules_faults, last_named, instance_kind, memory_module, arrays_in, not_this_memory, memory_arrays, not_this_width, has_name, external_faults, externals_faults, faults_of, break_of, is_sound}
 use Rattle.cx_vread.specs.Holds.{holds_port, holds_decl, holds_assign, holds_item, holds_edge, holds_module, holds_external, is_held}
-use Rattle.cx_vread.proofs.SoundHeld.{is_clean, no_break, ports_held, decls_held, meant_small, assigns_held, sets_held, items_held, parts_of, Parts}
+use Rattle.cx_vread.proofs.SoundHeld.{is_clean, no_break, ports_held, decls_held, meant_small, assigns_held, sets_held, items_held, parts_of}
 
 split : (xs ys : List Faults) → list_all is_clean (xs ++ ys) ≡ true → (list_all is_clean xs ≡ true) × (list_all is_clean ys ≡ true)
 split xs ys h = and_parts (list_all is_clean xs) (list_all is_clean ys) (sym (list_all-append is_clean xs ys) ∙ h)

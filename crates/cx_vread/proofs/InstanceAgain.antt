@@ -1,9 +1,9 @@
 -- The lines of instances that are spelled are read.
-use Rattle.std.proofs.Common.{◌≡◌, ℕ, ◌<◌, ◌==◌, not, Bool, true, false, ◌&&◌, ◌||◌, List, [], ◌∷◌, ◌++◌, map, length, Option, Some, None, refl, ◌∙◌, ap, sym, arith, append_assoc, if◌then◌else◌}
+use Rattle.std.proofs.Common.{◌≡◌, ℕ, ◌<◌, not, true, false, ◌&&◌, ◌||◌, List, [], ◌∷◌, ◌++◌, map, length, Some, refl, ◌∙◌, ap, arith, append_assoc}
 use Rattle.std.specs.Prelude.{codes, is_some, nat_lt}
 use Rattle.std.specs.List.{list_all}
 use Rattle.std.proofs.lemmas.Bool.{and_parts, ltb-true}
-use Rattle.cx_vtree.specs.Layout.{is_name, is_name_byte, conn_fits, instance_fits}
+use Rattle.cx_vtree.specs.Layout.{is_name, conn_fits, instance_fits}
 use Rattle.cx_vtree.specs.Lines.{conn_text, more_conns_text, conns_text, InstanceLine, line_text, lines_text}
 use Rattle.cx_vtree.specs.Plain.{PlainConn, PlainInstance}
 use Rattle.cx_vread.specs.Places as places
@@ -13,7 +13,7 @@ use Rattle.cx_vread.specs.Parts.{conn_at, next_conn_at, more_conns_at, conns_at,
 use Rattle.cx_vread.proofs.ExprAgain.{name_again}
 use Rattle.cx_vread.proofs.ManyAgain.{joined_text, Again, all_again, lines_joined, Anything}
 use Rattle.cx_vread.proofs.NumberAgain.{clean}
-use Rattle.cx_vread.proofs.WordAgain.{other_word, OwnWords, no_keyword}
+use Rattle.cx_vread.proofs.WordAgain.{other_word, no_keyword}
 
 conn_again : (n m : List ℕ) (y : List ℕ) → is_name n ≡ true → is_name m ≡ true
     → conn_at (clean (codes "." ++ (n ++ (codes "(" ++ (m ++ (codes ")" ++ y)))))) ≡ Some (record { port = n; net = m }, clean y)

@@ -1,7 +1,6 @@
 -- One level of nesting.
-use Rattle.std.proofs.Common.{◌≡◌, ℕ, ◌+◌, zero, suc, refl, ap, sym, ◌∙◌, add-one}
-use Rattle.cx_vtree.specs.Plain.{PlainExpr}
-use Rattle.cx_vread.specs.Places.{Place, Reads}
+use Rattle.std.proofs.Common.{◌≡◌, ℕ, ◌+◌, zero, suc, refl, ap, ◌∙◌, add-one}
+use Rattle.cx_vread.specs.Places.{Place}
 use Rattle.cx_vread.specs.Exprs.{most_levels, by_first, named_by, brackets_by, expr_at, inner_at, nested_at, deep_at, deep_brackets_at}
 
 -- an expression is what its first byte says, with one level fewer within

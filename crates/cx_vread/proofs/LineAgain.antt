@@ -1,21 +1,19 @@
 -- The lines of ports, declarations and assigns that are spelled are read.
-use Rattle.std.proofs.Common.{◌≡◌, ℕ, ◌+◌, ◌-◌, ◌<◌, ◌≤◌, ◌^◌, inl, inr, zero, suc, ◌==◌, not, Bool, true, false, ◌&&◌, ◌||◌, List, [], ◌∷◌, ◌++◌, map, length, Option, Some, None, refl, ◌∙◌, ap, sym, subst, arith, append_assoc, append-nil, if◌then◌else◌}
-use Rattle.std.specs.Prelude.{codes, is_some, nat_lt, nat_le}
+use Rattle.std.proofs.Common.{◌≡◌, ℕ, ◌+◌, ◌-◌, ◌<◌, ◌^◌, inl, not, Bool, true, false, ◌&&◌, List, [], ◌∷◌, ◌++◌, map, length, Some, None, refl, ◌∙◌, ap, arith, append_assoc, append-nil, if◌then◌else◌}
+use Rattle.std.specs.Prelude.{codes, nat_lt}
 use Rattle.std.specs.List.{list_all}
-use Rattle.std.proofs.lemmas.Bool.{and_parts, lt-ltb, ltb-true, not-true, ne_eqb}
+use Rattle.std.proofs.lemmas.Bool.{and_parts, lt-ltb, ltb-true, ne_eqb}
 use Rattle.cx_vtree.specs.Layout.{is_name, is_name_byte, expr_fits, port_fits, decl_fits, assign_fits}
-use Rattle.cx_vtree.specs.Lines.{decimal_text, expr_text, bounds_text, side_text, comma_text, PortLine, DeclLine, AssignLine, line_text, lines_text}
+use Rattle.cx_vtree.specs.Lines.{decimal_text, expr_text, bounds_text, side_text, PortLine, DeclLine, AssignLine, line_text, lines_text}
 use Rattle.cx_vtree.specs.Plain.{PlainExpr, PlainPort, PlainDecl, WireOf, RegisterOf, ArrayOf, PlainAssign}
-use Rattle.cx_vtree.specs.Sound.{nests_over}
 use Rattle.cx_vtree.specs.Spelling.{port_lines}
 use Rattle.cx_vread.specs.Places as places
 use Rattle.cx_vread.specs.Places.{Place, Reads, unfit, then_reads, then_at, begins, many}
-use Rattle.cx_vread.specs.Tokens.{is_digit_in, name_at, number_at, capped, one_more, bounds_at}
-use Rattle.cx_vread.specs.Exprs.{whole_expr_at}
-use Rattle.cx_vread.specs.Holds.{numbers_fit, holds_expr, holds_port, holds_decl, holds_assign}
-use Rattle.cx_vread.specs.Parts.{port_by, port_at, next_port_at, more_ports_at, ports_at, length_at, array_by, register_by, register_at, wire_at, decl_at, is_decl, decls_at, assigned_by, assign_at, assigns_at}
-use Rattle.cx_vread.proofs.ExprAgain.{Ends, closed, name_again, whole_again}
-use Rattle.cx_vread.proofs.ManyAgain.{joined_text, Again, many_again, all_again, lines_joined, Anything}
+use Rattle.cx_vread.specs.Tokens.{name_at, capped, one_more, bounds_at}
+use Rattle.cx_vread.specs.Holds.{holds_expr, holds_port, holds_decl, holds_assign}
+use Rattle.cx_vread.specs.Parts.{port_by, port_at, next_port_at, more_ports_at, ports_at, length_at, register_by, decl_at, is_decl, decls_at, assigned_by, assign_at, assigns_at}
+use Rattle.cx_vread.proofs.ExprAgain.{closed, name_again, whole_again}
+use Rattle.cx_vread.proofs.ManyAgain.{joined_text, Again, all_again, lines_joined, Anything}
 use Rattle.cx_vread.proofs.NumberAgain.{clean, number_again}
 use Rattle.cx_vread.proofs.Spans.{Stops}
 

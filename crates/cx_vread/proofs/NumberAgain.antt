@@ -1,5 +1,5 @@
 -- A number that is spelled is read.
-use Rattle.std.proofs.Common.{◌≡◌, ℕ, ◌+◌, ◌*◌, ◌<◌, ◌≤◌, ◌^◌, ◌⊎◌, zero, suc, ◌==◌, not, Bool, true, false, ◌&&◌, List, [], ◌∷◌, ◌++◌, map, get_or, Option, Some, None, refl, ◌∙◌, ap, sym, subst, arith, ⊎_elim, if◌then◌else◌}
+use Rattle.std.proofs.Common.{◌≡◌, ℕ, ◌+◌, ◌*◌, ◌<◌, ◌≤◌, zero, suc, ◌==◌, not, true, false, List, [], ◌∷◌, ◌++◌, map, get_or, Some, None, refl, ◌∙◌, ap, sym, subst, arith, ⊎_elim, if◌then◌else◌}
 use Rattle.std.specs.Prelude.{codes}
 use Rattle.std.specs.Char.{digit_value}
 use Rattle.std.specs.Int.Digits.{digits_of, number_from_digits, AllBelowBase}
@@ -11,8 +11,8 @@ use Rattle.std.proofs.lemmas.Int.Digits.{digits_value_is, all_below_base_digits_
 use Rattle.std.proofs.lemmas.Str.{digit_value-digit_char}
 use Rattle.cx_vtree.specs.Lines.{glyph, number_text}
 use Rattle.cx_vread.specs.Numbers.{IsBase}
-use Rattle.cx_vread.specs.Places.{Place, then_reads, moved}
-use Rattle.cx_vread.specs.Tokens.{front, back, is_digit_in, is_numeral, digits_at, number_at, capped}
+use Rattle.cx_vread.specs.Places.{Place, then_reads}
+use Rattle.cx_vread.specs.Tokens.{back, is_digit_in, is_numeral, digits_at, number_at, capped}
 use Rattle.cx_vread.proofs.Spans.{Stops, front_again, back_again}
 
 -- a place before these bytes, after parts that a tree holds

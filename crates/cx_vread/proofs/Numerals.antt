@@ -1,6 +1,6 @@
 -- The number that digits of the text write.
-use Rattle.std.proofs.Common.{◌≡◌, ℕ, ◌<◌, ◌≤◌, ◌^◌, ◌⊎◌, Bool, true, false, ◌&&◌, List, [], ◌∷◌, length, Option, Some, None, refl, ◌∙◌, ap, sym, subst, arith, ⊎_elim, if◌then◌else◌}
-use Rattle.std.specs.Prelude.{IsTrue, SomeIff, nat_lt}
+use Rattle.std.proofs.Common.{◌≡◌, ℕ, ◌<◌, ◌≤◌, ◌^◌, true, List, [], ◌∷◌, length, Option, Some, None, ◌∙◌, ap, sym, subst, arith, ⊎_elim, if◌then◌else◌}
+use Rattle.std.specs.Prelude.{SomeIff}
 use Rattle.std.specs.Char.{digit_value}
 use Rattle.std.specs.List.{list_all}
 use Rattle.std.specs.Str.Parse.{IsNumeral, AllDigits, digits_value}

@@ -1,15 +1,13 @@
 -- A tree holds each sound source.
-use Rattle.std.proofs.Common.{◌≡◌, ◌≢◌, ℕ, ◌+◌, ◌-◌, ◌*◌, ◌<◌, ◌≤◌, ◌^◌, zero, suc, ◌==◌, not, Bool, true, false, ◌&&◌, ◌||◌, List, [], ◌∷◌, ◌++◌, map, length, Option, Some, None, refl, ◌∙◌, ap, sym, subst, arith, if◌then◌else◌}
+use Rattle.std.proofs.Common.{◌≡◌, ◌≢◌, ℕ, ◌+◌, ◌-◌, ◌<◌, ◌≤◌, ◌^◌, ◌==◌, not, Bool, true, false, ◌&&◌, ◌||◌, List, [], ◌∷◌, ◌++◌, Option, Some, None, refl, ◌∙◌, ap, arith, if◌then◌else◌}
 use Rattle.std.specs.Prelude.{is_some, nat_lt, nat_le, option_and_then, is_none}
 use Rattle.std.specs.List.{list_all}
 use Rattle.std.specs.Option.{option_map_or}
 use Rattle.std.proofs.lemmas.Bool.{and_parts, and_from, or_parts, or_from, not-true, ne_eqb, eqb-false, ltb-true, leb-true, ltb-false, leb-false, lt-ltb, le-leb}
-use Rattle.std.proofs.lemmas.List.Folds.{list_all-append}
-use Rattle.cx_vtree.specs.declared.operators.Operator.{Operator}
 use Rattle.cx_vtree.specs.declared.meanings.Meaning.{Meaning}
 use Rattle.cx_vtree.specs.InstanceTree.{same_name}
-use Rattle.cx_vtree.specs.Plain.{PlainExpr, Named, Number, Part, Word, Applied, Inverted, Chosen, Joined, PlainPort, PlainDecl, WireOf, RegisterOf, ArrayOf, PlainAssign, PlainStore, PlainItem, SetTo, StoreTo, PlainEdge}
-use Rattle.cx_vtree.specs.Sound.{Faults, Break, Scope, break_at, first_break, bad_width, width_of, is_array, is_readable, meant_decl, meant_in, decl_meaning, port_meaning, decl_name, misnames, fitting_width, has_width, part_width, applied_width, chosen_width, joined_width, nests_over, too_deep, ports_faults, port_faults, decls_faults, decl_faults, assigns_faults, assign_faults, has_name, item_name, sets_faults, set_faults, items_faults, item_faults, store_faults}
+use Rattle.cx_vtree.specs.Plain.{PlainExpr, Named, Number, Part, Word, Applied, Inverted, Chosen, Joined, PlainPort, PlainDecl, WireOf, RegisterOf, ArrayOf, PlainAssign, PlainStore, PlainItem, SetTo, StoreTo}
+use Rattle.cx_vtree.specs.Sound.{Faults, Break, Scope, break_at, first_break, bad_width, width_of, is_array, meant_decl, meant_in, decl_meaning, port_meaning, decl_name, misnames, fitting_width, has_width, applied_width, chosen_width, joined_width, nests_over, too_deep, ports_faults, port_faults, decls_faults, decl_faults, assigns_faults, assign_faults, has_name, item_name, sets_faults, set_faults, items_faults, item_faults, store_faults}
 use Rattle.cx_vread.specs.Tokens.{fits_bits}
 use Rattle.cx_vread.specs.Holds.{numbers_fit, holds_expr, holds_port, holds_decl, holds_assign, holds_item}
 

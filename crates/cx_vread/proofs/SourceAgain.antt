@@ -1,19 +1,18 @@
 -- A source that is spelled is read.
-use Rattle.std.proofs.Common.{◌≡◌, ℕ, ◌<◌, ◌==◌, not, Bool, true, false, ◌&&◌, ◌||◌, List, [], ◌∷◌, ◌++◌, map, length, Option, Some, None, refl, ◌∙◌, ap, sym, arith, append_assoc, append-nil, if◌then◌else◌}
+use Rattle.std.proofs.Common.{◌≡◌, ℕ, ◌<◌, not, Bool, true, false, ◌&&◌, List, [], ◌∷◌, ◌++◌, map, length, Option, Some, None, refl, ◌∙◌, ap, sym, arith, append_assoc, append-nil}
 use Rattle.std.specs.Prelude.{codes, nat_lt}
 use Rattle.std.specs.List.{list_all}
 use Rattle.std.proofs.lemmas.Bool.{and_parts, ltb-true, ne_eqb}
 use Rattle.cx_vtree.specs.Layout.{is_name, port_fits, decl_fits, assign_fits, instance_fits, edge_fits, module_fits, external_fits, is_laid_out}
 use Rattle.cx_vtree.specs.Lines.{ExternalLine, DeclLine, AssignLine, InstanceLine, lines_text}
-use Rattle.cx_vtree.specs.Plain.{PlainPort, PlainDecl, PlainAssign, PlainInstance, PlainEdge, PlainModule, PlainExternal, PlainSource}
-use Rattle.cx_vtree.specs.Spelling.{port_lines, edge_lines, module_lines, modules_lines, source_lines, text_of}
-use Rattle.cx_vwrite.specs.Pieces.{signature_text, body_text, modules_text}
+use Rattle.cx_vtree.specs.Plain.{PlainPort, PlainAssign, PlainInstance, PlainEdge, PlainModule, PlainExternal, PlainSource}
+use Rattle.cx_vtree.specs.Spelling.{port_lines, edge_lines, module_lines, modules_lines, text_of}
+use Rattle.cx_vwrite.specs.Pieces.{modules_text}
 use Rattle.cx_vwrite.proofs.LinesText.{lines_text_append, whole_text, modules_text-lines}
 use Rattle.cx_vread.specs.Places as places
 use Rattle.cx_vread.specs.Places.{Place, Reads, then_reads, then_at, begins, many}
-use Rattle.cx_vread.specs.Tokens.{name_at}
 use Rattle.cx_vread.specs.Holds.{holds_port, holds_decl, holds_assign, holds_edge, holds_module, holds_external, is_held}
-use Rattle.cx_vread.specs.Parts.{is_decl, is_instance, ports_at, decls_at, assigns_at, instances_at, edge_or_none_at, head_at, module_by, module_at, is_left, more_modules_at, modules_at, externals_at, source_at}
+use Rattle.cx_vread.specs.Parts.{is_decl, is_instance, ports_at, assigns_at, instances_at, edge_or_none_at, head_at, module_by, module_at, is_left, more_modules_at, modules_at, source_at}
 use Rattle.cx_vread.proofs.EdgeAgain.{edge_again}
 use Rattle.cx_vread.proofs.ExprAgain.{name_again}
 use Rattle.cx_vread.proofs.ExternalAgain.{externals_again}

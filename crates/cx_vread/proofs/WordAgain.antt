@@ -1,11 +1,11 @@
 -- A name before a space is none of the grammar's own words.
-use Rattle.std.proofs.Common.{◌≡◌, ℕ, ◌==◌, not, Bool, true, false, ◌&&◌, ◌||◌, List, [], ◌∷◌, ◌++◌, Option, Some, None, refl, ◌∙◌, ap, sym, arith, if◌then◌else◌}
+use Rattle.std.proofs.Common.{◌≡◌, ℕ, ◌==◌, not, Bool, true, false, ◌&&◌, List, [], ◌∷◌, ◌++◌, Option, None, refl, ◌∙◌, ap, arith, if◌then◌else◌}
 use Rattle.std.specs.Prelude.{codes}
-use Rattle.std.specs.List.{list_all, list_any}
+use Rattle.std.specs.List.{list_all}
 use Rattle.std.proofs.lemmas.Bool.{and_parts, or_parts, not-true}
 use Rattle.std.proofs.lemmas.Bool.Decides.{nat_tests}
 use Rattle.cx_vtree.specs.InstanceTree.{same_name}
-use Rattle.cx_vtree.specs.Layout.{is_name_byte, is_word, is_name, is_keyword, keywords}
+use Rattle.cx_vtree.specs.Layout.{is_name_byte, is_word, is_name, is_keyword}
 use Rattle.cx_vread.specs.Places.{after_text}
 use Rattle.cx_vread.proofs.ExprAgain.{name_parts}
 

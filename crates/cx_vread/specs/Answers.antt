@@ -1,5 +1,5 @@
 -- What the reading functions of the code answer, in the words of the reading on lists.
-use Rattle.std.specs.Prelude.{◌≡◌, ℕ, ◌&&◌, Bool, is_none, Option, Some, None, Result, Ok, Err}
+use Rattle.std.specs.Prelude.{◌≡◌, ◌&&◌, Bool, is_none, Option, Some, None, Result, Ok, Err}
 use Rattle.cx_vread.specs.declared.faults.Fault.{Fault}
 use Rattle.cx_vread.specs.declared.faults.Fault.TheVariants as faults
 use Rattle.cx_vread.specs.declared.faults.Notes.{Notes}

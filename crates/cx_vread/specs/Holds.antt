@@ -1,5 +1,5 @@
 -- Which numbers and which nesting a tree of `cx_vtree` holds, as `read` makes it.
-use Rattle.std.specs.Prelude.{◌≡◌, ℕ, ◌&&◌, not, nat_lt, List, Bool, true, Option, Some, None}
+use Rattle.std.specs.Prelude.{◌≡◌, ◌&&◌, not, nat_lt, Bool, true, Option, Some, None}
 use Rattle.std.specs.List.{list_all}
 use Rattle.cx_vtree.specs.Plain.{PlainExpr, Named, Number, Part, Word, Applied, Inverted, Chosen, Joined, PlainPort, PlainDecl, WireOf, RegisterOf, ArrayOf, PlainAssign, PlainItem, SetTo, StoreTo, PlainEdge, PlainModule, PlainExternal, PlainSource}
 use Rattle.cx_vtree.specs.Sound.{nests_over, is_sound}

@@ -1,5 +1,5 @@
 -- Reading the lines of a text.
-use Rattle.std.specs.Prelude.{ℕ, ◌==◌, ◌&&◌, ◌||◌, not, Bool, true, false, List, [], ◌∷◌, length, Option, Some, None, codes, if◌then◌else◌}
+use Rattle.std.specs.Prelude.{ℕ, ◌==◌, ◌&&◌, ◌||◌, not, Bool, true, false, List, ◌∷◌, length, Option, Some, None, codes, if◌then◌else◌}
 use Rattle.cx_vtree.specs.Plain.{PlainExpr, PlainPort, PlainDecl, WireOf, RegisterOf, ArrayOf, PlainAssign, PlainConn, PlainInstance, PlainStore, PlainItem, SetTo, StoreTo, PlainEdge, PlainModule, PlainExternal, PlainSource}
 use Rattle.cx_vread.specs.Places.{Place, Reads, then_reads, then_at, after, begins, many}
 use Rattle.cx_vread.specs.Tokens.{word_at, name_at, number_at, small_at, size_at, one_more, bounds_at}

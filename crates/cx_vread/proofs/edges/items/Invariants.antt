@@ -1,4 +1,4 @@
-use Rattle.std.proofs.Common.{◌≡◌, [], ◌∷◌, map, length}
+use Rattle.std.proofs.Common.{◌≡◌, map, length}
 use Rattle.std.specs.Prelude.{codes}
 use Rattle.cx_vtree.specs.PlainParts.{plain_item}
 use Rattle.cx_vread.specs.Answers.{place_of}

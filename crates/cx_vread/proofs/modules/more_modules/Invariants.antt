@@ -1,8 +1,7 @@
 use Rattle.std.proofs.Common.{◌≡◌, [], ◌∷◌, map, length}
-use Rattle.std.specs.Prelude.{codes}
 use Rattle.cx_vtree.specs.PlainParts.{plain_module}
 use Rattle.cx_vread.specs.Answers.{place_of}
-use Rattle.cx_vread.specs.Places.{begins, many, with_front}
+use Rattle.cx_vread.specs.Places.{many, with_front}
 use Rattle.cx_vread.specs.Parts as parts
 use Rattle.cx_vread.proofs.modules.more_modules.Given as goal
 

@@ -1,4 +1,4 @@
-use Rattle.std.proofs.Common.{Ok, Err}
+use Rattle.std.proofs.Common.{Err}
 use Rattle.cx_vread.proofs.WholeTexts.{stops_for_memory, answers_it, sound_read}
 use Rattle.cx_vread.proofs.reading.read.Goals as goal
 
