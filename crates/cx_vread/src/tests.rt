@@ -1,4 +1,4 @@
-//! What no clause says: that a text is read at all, and the line and kind of a refusal.
+//! What no clause says: that ample memory is not refused, and the line that `Syntax` tells.
 
 use crate::{ReadRefusal, read};
 use cx_vwrite::write;
