@@ -1,2 +1,3 @@
-mod Order
+pub mod Order
 mod First
+pub mod Lists

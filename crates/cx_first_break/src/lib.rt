@@ -3,5 +3,6 @@
 
 mod breaks;
 mod keys;
+pub mod laws;
 
 pub use breaks::{Break, FirstBreak, Part, Spot};

@@ -1,0 +1,93 @@
+-- A scan for the first limit that is exceeded: by place, and at one place what is looked at first.
+use Rattle.std.specs.Prelude.{ℕ, suc, ◌+◌, nat_eq, nat_lt, Bool, ◌&&◌, ◌||◌, List, [], ◌∷◌, Option, Some, None, option_map, length, if◌then◌else◌}
+use Rattle.cx_text.specs.declared.places.Place.{Place}
+use Rattle.cx_text.specs.declared.limits.TheConstants.{CELLS, GROUPS, INSTANCES, INSTANCE_DEPTH, MEMORY_WORDS, WEIGHT}
+use Rattle.cx_meaning.specs.Designs.{PlainComponent, PlainStatement, Placed}
+use Rattle.cx_rules.specs.Items as items
+use Rattle.cx_rules.specs.Items.{Visited, statements_in}
+use Rattle.cx_rules.specs.LimitRule as rule
+use Rattle.cx_rules.specs.LimitRule.{OnCells, OnGroups, OnRepeat, OnOccurrences, OnLatency, OnInstances, OnDepth, OnWords, OnWeight, statement_limit}
+use Rattle.cx_rules.specs.StaticControl.{is_island, island_occurrences, occurrences_of}
+use Rattle.cx_limits.specs.declared.tallies.Tally.{Tally}
+use Rattle.cx_limits.specs.declared.found.Limited.{Limited}
+use Rattle.cx_limits.specs.declared.found.Limited.TheVariants as limited
+use Rattle.cx_limits.specs.declared.found.Found.{Found}
+use Rattle.cx_limits.specs.declared.context.Context.{Context}
+use Rattle.cx_limits.specs.declared.context.Context.TheVariants as contexts
+
+abbrev pub told : rule.Limited → Limited
+told OnCells = limited.Cells
+told OnGroups = limited.Groups
+told OnRepeat = limited.Repeat
+told OnOccurrences = limited.Occurrences
+told OnLatency = limited.Latency
+told OnInstances = limited.Instances
+told OnDepth = limited.Depth
+told OnWords = limited.Words
+told OnWeight = limited.Weight
+
+abbrev pub context_of : Context → items.Context
+context_of contexts.Dynamic = items.Dynamic
+context_of contexts.InStatic = items.InStatic
+context_of contexts.Branch = items.Branch
+context_of contexts.Amiss = items.Amiss
+
+-- a stands before b in the text
+abbrev pub stands_before : Place → Place → Bool
+stands_before a b = nat_lt a.line b.line || (nat_eq a.line b.line && nat_lt a.column b.column)
+
+abbrev pub nearer : Option Found → Found → Found
+nearer None f = f
+nearer (Some g) f = if stands_before f.place g.place then f else g
+
+-- the first so far, where one thing more is looked at
+abbrev pub noted : Option Found → Place → Option Limited → Option Found
+noted best place None = best
+noted best place (Some l) = Some (nearer best (record { place = place; limited = l }))
+
+-- past some statements of a component
+abbrev pub past_statements : PlainComponent → Option Found → List Visited → Option Found
+past_statements part best [] = best
+past_statements part best (v ∷ vs) = past_statements part (noted best v.place (option_map told (statement_limit part v))) vs
+
+-- the occurrences of a statement that is an island
+abbrev pub occurrences_at : PlainComponent → items.Context → PlainStatement → ℕ
+occurrences_at part context (Placed form place) = island_occurrences part (is_island part (record { context = context; form = form; place = place })) form
+
+-- statements, with the occurrences of those that are islands
+abbrev pub statements_size : PlainComponent → List Visited → ℕ
+statements_size part vs = length vs + occurrences_of part vs
+
+-- what is told of a limit
+abbrev pub limited_of : Limited → rule.Limited
+limited_of limited.Cells = OnCells
+limited_of limited.Groups = OnGroups
+limited_of limited.Repeat = OnRepeat
+limited_of limited.Occurrences = OnOccurrences
+limited_of limited.Latency = OnLatency
+limited_of limited.Instances = OnInstances
+limited_of limited.Depth = OnDepth
+limited_of limited.Words = OnWords
+limited_of limited.Weight = OnWeight
+
+-- the limit, where the count exceeds it
+abbrev pub if_over : Limited → ℕ → ℕ → Option Limited
+if_over l limit count = if nat_lt limit count then Some l else None
+
+-- past the statements, the cells and the groups of a component
+abbrev pub past_part : Option Found → PlainComponent → Option Found
+past_part best part =
+    noted (noted (past_statements part best (statements_in part)) part.place (if_over limited.Cells CELLS (length part.cells)))
+    part.place (if_over limited.Groups GROUPS (length part.groups))
+
+-- past the counts over the tree
+abbrev pub past_tree : Option Found → Place → Tally → Option Found
+past_tree best place tally =
+    noted (noted (noted (noted best place (if_over limited.Instances INSTANCES tally.instances)) place (if_over limited.Depth INSTANCE_DEPTH tally.depth))
+    place (if_over limited.Words MEMORY_WORDS tally.words)) place (if_over limited.Weight WEIGHT tally.weight)
+
+-- past components from a number on
+abbrev pub past_parts : ℕ → Tally → Option Found → ℕ → List PlainComponent → Option Found
+past_parts main tally best k [] = best
+past_parts main tally best k (part ∷ parts) =
+    past_parts main tally (if nat_eq k main then past_tree (past_part best part) part.place tally else past_part best part) (suc k) parts

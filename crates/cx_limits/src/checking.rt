@@ -1,0 +1,101 @@
+//! The first limit that a design exceeds.
+
+ghost use Rattle.std.specs.Prelude.{◌≡◌, IfOk, OnOk, IfErr, map, None, if◌then◌else◌};
+ghost use Rattle.cx_meaning.specs.Instances.{tree_of};
+ghost use Rattle.cx_rules.specs.Accepted.{KeepsStage};
+ghost use Rattle.cx_design.specs.PlainForms.{plain_component};
+ghost use Rattle.cx_design.specs.PlainDesigns.{plain_design};
+ghost use Rattle.cx_limits.specs.First.{IsFirstBreak, TellsFound};
+ghost use Rattle.cx_limits.specs.Scan as scan;
+ghost use Rattle.cx_limits.specs.Tallies.{tally_of};
+
+use crate::found::{Found, Limited, noted};
+use crate::statements::past_control;
+use crate::tallies::{Tally, tree_tally};
+use cx_design::{Component, Design, Refusal};
+use cx_text::{
+    CELLS, Diagnostic, GROUPS, INSTANCE_DEPTH, INSTANCES, MEMORY_WORDS, Memory, Name, Place, Rule,
+    WEIGHT,
+};
+use std::alloc::Global;
+
+/// The limit, where the count exceeds it.
+fn if_over(limited: Limited, limit: u64, count: u64) -> Option<Limited>
+    ensures { result ≡ scan.if_over limited limit count }
+{
+    if count > limit { Some(limited) } else { None }
+}
+
+/// The first so far, past the statements, the cells and the groups of a component.
+fn past_part(best: Option<Found>, part: &Component) -> Option<Found>
+    ensures { result ≡ scan.past_part best (plain_component part.now) }
+{
+    let cells = if_over(Limited::Cells, CELLS as u64, part.cells.len() as u64);
+    let groups = if_over(Limited::Groups, GROUPS as u64, part.groups.len() as u64);
+    let best = past_control(part, best);
+    noted(noted(best, part.place, cells), part.place, groups)
+}
+
+/// The first so far, past the counts over the tree.
+fn past_tree(best: Option<Found>, place: Place, tally: Tally) -> Option<Found>
+    ensures { result ≡ scan.past_tree best place tally }
+{
+    let instances = if_over(Limited::Instances, INSTANCES, tally.instances);
+    let depth = if_over(Limited::Depth, INSTANCE_DEPTH, tally.depth);
+    let words = if_over(Limited::Words, MEMORY_WORDS, tally.words);
+    let weight = if_over(Limited::Weight, WEIGHT, tally.weight);
+    let best = noted(noted(best, place, instances), place, depth);
+    noted(noted(best, place, words), place, weight)
+}
+
+/// The first so far, past a component, and past the tree where it is main.
+fn past_one(best: Option<Found>, part: &Component, is_main: bool, tally: Tally) -> Option<Found>
+    ensures { result ≡ (if is_main then scan.past_tree (scan.past_part best (plain_component part.now)) (plain_component part.now).place tally else scan.past_part best (plain_component part.now)) }
+{
+    let best = past_part(best, part);
+    if is_main {
+        past_tree(best, part.place, tally)
+    } else {
+        best
+    }
+}
+
+/// The first limit that the design exceeds.
+fn first_limit(alloc: Global, design: &Design) -> Result<Option<Found>, Memory>
+    ensures { IfOk result (λ found. found ≡ scan.past_parts design.now.main (tally_of (tree_of (plain_design design.now))) None 0 (map plain_component design.now.components.items)) }
+{
+    let tally = tree_tally(alloc, design)?;
+    let components = design.components.as_slice();
+    let main = design.main as usize;
+    let mut best = None;
+    for number in 0..components.len() {
+        best = past_one(best, &components[number], number == main, tally);
+    }
+    Ok(best)
+}
+
+/// What is told of a limit.
+fn told(alloc: Global, found: Found) -> Refusal
+    ensures { TellsFound found result }
+{
+    match Name::from_bytes(alloc, found.limited.text().as_bytes()) {
+        Ok(name) => Refusal::Rule(Diagnostic {
+            rule: Rule::Limit,
+            place: found.place,
+            name,
+        }),
+        Err(Memory) => Refusal::Memory,
+    }
+}
+
+/// Answers the first limit that the design exceeds: by place, and at one place in the order of `Limited`.
+pub fn limits(alloc: Global, design: &Design) -> Result<(), Refusal>
+    ensures ok { OnOk result (KeepsStage 7 (plain_design design.now)) }
+    ensures rule { IfErr result (IsFirstBreak 7 (plain_design design.now)) }
+{
+    match first_limit(alloc, design) {
+        Ok(None) => Ok(()),
+        Ok(Some(found)) => Err(told(alloc, found)),
+        Err(Memory) => Err(Refusal::Memory),
+    }
+}

@@ -1,0 +1,14 @@
+//! The limits of a design.
+#![tactic(auto)]
+
+mod checking;
+mod context;
+mod found;
+mod islands;
+mod order;
+mod sizes;
+mod statements;
+mod tallies;
+mod words;
+
+pub use checking::limits;

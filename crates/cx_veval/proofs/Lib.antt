@@ -1,0 +1,6 @@
+pub mod Widths
+pub mod Agreement
+pub mod Waiting
+pub mod Steps
+pub mod Known
+pub mod StoreSteps

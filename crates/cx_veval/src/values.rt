@@ -1,0 +1,82 @@
+//! The value of a code, or the first net that it waits for.
+
+ghost use Rattle.std.specs.Prelude.{◌≡◌, ◌+◌, IsSome, Some};
+ghost use Rattle.cx_veval.specs.Codes.{code_width};
+ghost use Rattle.cx_veval.specs.Arrays.{IsEven};
+ghost use Rattle.cx_veval.specs.Looks.{look, seen_from, words_from, widths_from, array_widths_from};
+ghost use Rattle.cx_veval.specs.Edges.{code_of, width_of};
+ghost use Rattle.cx_veval.specs.Search.{AllKnown};
+
+use crate::arrays::{Words, word};
+use crate::codes::{Code, Place};
+use crate::marks::{Found, Mark, seen};
+use crate::operators::{operate, part};
+use cx_bits::Bits;
+
+/// The number of a net or an array among all.
+fn number(start: u32, offset: u32) -> usize
+    ensures { result ≡ start + offset }
+{
+    start as usize + offset as usize
+}
+
+/// What a code of an instance gives by what is known.
+pub fn value(marks: &[Mark], values: &[Bits], arrays: &[Words], place: Place, code: &Code) -> Found
+    requires even { IsEven arrays.now }
+    requires fits { IsSome (code_width (widths_from values.now place.nets) (array_widths_from arrays.now place.arrays) code.now) }
+    ensures { result ≡ look (seen_from marks.now values.now place.nets) (words_from arrays.now place.arrays) code.now }
+{
+    match code {
+        Code::Net(k) => seen(marks, values, number(place.nets, *k)),
+        Code::Literal(bits) => Found::Worth(*bits),
+        Code::Slice(k, high, low) => match seen(marks, values, number(place.nets, *k)) {
+            Found::Waits(net) => Found::Waits(net),
+            Found::Worth(whole) => Found::Worth(part(whole, *high, *low)),
+        },
+        Code::Item(a, index) => match value(marks, values, arrays, place, index) {
+            Found::Waits(net) => Found::Waits(net),
+            Found::Worth(at) => Found::Worth(word(&arrays[number(place.arrays, *a)], at)),
+        },
+        Code::Binary(op, left, right) => match value(marks, values, arrays, place, left) {
+            Found::Waits(net) => Found::Waits(net),
+            Found::Worth(x) => match value(marks, values, arrays, place, right) {
+                Found::Waits(net) => Found::Waits(net),
+                Found::Worth(y) => Found::Worth(operate(*op, x, y)),
+            },
+        },
+        Code::Not(inner) => match value(marks, values, arrays, place, inner) {
+            Found::Waits(net) => Found::Waits(net),
+            Found::Worth(x) => Found::Worth(x.not()),
+        },
+        Code::Choose(test, one, other) => match value(marks, values, arrays, place, test) {
+            Found::Waits(net) => Found::Waits(net),
+            Found::Worth(t) => {
+                if t.value() == 0 {
+                    value(marks, values, arrays, place, other)
+                } else {
+                    value(marks, values, arrays, place, one)
+                }
+            }
+        },
+        Code::Cat(high, low) => match value(marks, values, arrays, place, high) {
+            Found::Waits(net) => Found::Waits(net),
+            Found::Worth(x) => match value(marks, values, arrays, place, low) {
+                Found::Waits(net) => Found::Waits(net),
+                Found::Worth(y) => Found::Worth(x.cat(y)),
+            },
+        },
+    }
+}
+
+/// What a code of an instance gives where all nets have their values.
+pub fn settled(marks: &[Mark], values: &[Bits], arrays: &[Words], place: Place, code: &Code) -> Bits
+    requires known { AllKnown marks.now values.now }
+    requires even { IsEven arrays.now }
+    requires fits { IsSome (width_of values.now arrays.now place code.now) }
+    ensures { code_of values.now arrays.now place code.now ≡ Some result }
+{
+    match value(marks, values, arrays, place, code) {
+        Found::Worth(found) => found,
+        Found::Waits(_) => unreachable!(),
+    }
+}

@@ -1,0 +1,9 @@
+//! Runs numbered nets from reset.
+#![tactic(auto)]
+
+mod edges;
+mod machines;
+mod runs;
+
+pub use machines::{Bench, Machine};
+pub use runs::{Answer, run};

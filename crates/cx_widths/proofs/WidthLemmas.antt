@@ -1,0 +1,351 @@
+-- The list of breaks has the breaks of the rules on widths, literals, targets and sources, and no others.
+use Rattle.std.proofs.Common.{◌≡◌, ◌+◌, ◌-◌, ◌<◌, ◌≤◌, ℕ, zero, suc, Bool, true, false, not, cond, List, [], ◌∷◌, ◌++◌, Option, Some, None, length, slice_get, flat_map, inl, inr, ⊎_elim, refl, sym, ap, ◌∙◌, subst, arith, true≢false, add-one}
+use Rattle.cx_text.specs.declared.places.Place.{Place}
+use Rattle.cx_text.specs.declared.rules.Rule.{Rule}
+use Rattle.cx_text.specs.declared.rules.Rule.TheVariants as rule
+use Rattle.cx_meaning.specs.declared.ports.PortRef.{PortRef}
+use Rattle.cx_meaning.specs.declared.ports.PortRef.TheVariants as ports
+use Rattle.cx_meaning.specs.declared.ports.PlacedPort.{PlacedPort}
+use Rattle.cx_meaning.specs.Designs.{PlainAssign, PlainDesign, component_at}
+use Rattle.cx_meaning.specs.Instances.{Instance}
+use Rattle.cx_meaning.specs.Active.{Owned, source_order}
+use Rattle.cx_meaning.specs.Sights.{In}
+use Rattle.cx_rules.specs.Ports.{component_of, keeps_literal, is_source_only, is_target_only, path_of}
+use Rattle.cx_rules.specs.Items.{operands_of, atoms_of, sources_of, Visited, statements_in, test_in}
+use Rattle.cx_rules.specs.Spots.{AnAssign, AStatement, Spot, Tells, OnAssign, OnStatement, AssignRule, StatementRule}
+use Rattle.cx_rules.specs.WidthRules.{pairs_of, first_unequal, first_wide, is_wide, IsBadLiteral, BreaksWidth, BreaksGuardWidth, TestBreaksGuardWidth, BreaksLiteral, TestBreaksLiteral, BreaksNotATarget, BreaksNotASource, TestBreaksNotASource}
+use Rattle.cx_rules.specs.Accepted.{Breaks, stage_of, key_of}
+use Rattle.cx_first_break.specs.Breaks.{Broken, first_of}
+use Rattle.cx_first_break.specs.Numbered.{numbered}
+use Rattle.cx_first_break.specs.Answers.{AreBreaks}
+use Rattle.cx_first_break.proofs.Order.{not_before_itself}
+use Rattle.cx_first_break.proofs.Lists.{first_append, in_left, in_right, in_either, in_flat, flat_in, in_numbered, numbered_in}
+use Rattle.cx_widths.specs.WidthBreaks.{told_port, port_if, is_bad, literal_break, source_break, target_break, operand_breaks, assign_breaks, condition_breaks, test_breaks, assign_breaks_at, condition_breaks_at, component_breaks, components_breaks, width_breaks}
+
+abbrev broken : Rule → Spot → Place → List ℕ → Broken
+broken r spot place name = record { rule = r; spot = spot; place = place; name = name }
+
+-- what the list tells is a break
+abbrev Holds : PlainDesign → Broken → Type 0
+Holds d b = (stage_of b.rule ≡ 3) × Breaks d b.rule b.spot b.place b.name
+
+from_not : (b : Bool) → not b ≡ true → b ≡ false
+from_not true h = sym h
+from_not false h = refl
+
+told_in : (r : Rule) (i : Instance) (spot : Spot) (place : Place) (port : Option PortRef) (b : Broken) → In (told_port r i spot place port) b
+    → (p : PortRef) × (port ≡ Some p) × (broken r spot place (path_of i p) ≡ b)
+told_in r i spot place None b h = absurd h
+told_in r i spot place (Some p) b (inl e) = (p, refl, e)
+told_in r i spot place (Some p) b (inr h) = absurd h
+
+told_has : (r : Rule) (i : Instance) (spot : Spot) (at : Place) (port : Option PortRef) (p : PortRef) (place : Place) (name : List ℕ)
+    → port ≡ Some p → Tells place name at (path_of i p) → In (told_port r i spot at port) (broken r spot place name)
+told_has r i spot at port p place name e t =
+    subst (λ o. In (told_port r i spot at o) (broken r spot place name)) (sym e)
+    (inl (ap (λ q. broken r spot q (path_of i p)) (sym t.0) ∙ ap (λ n. broken r spot place n) (sym t.1)))
+
+port_if_some : (b : Bool) (p q : PortRef) → port_if b p ≡ Some q → (b ≡ true) × (p ≡ q)
+port_if_some true p q e = (refl, ap (λ o. or_else o) e)
+  where
+    or_else : Option PortRef → PortRef
+    or_else None = p
+    or_else (Some x) = x
+port_if_some false p q e = absurd (cc)
+
+port_if_true : (b : Bool) (p : PortRef) → b ≡ true → port_if b p ≡ Some p
+port_if_true true p e = refl
+port_if_true false p e = absurd (true≢false (sym e))
+
+literal_in : (spot : Spot) (p : PlacedPort) (b : Broken) → In (literal_break spot p) b → (is_bad p.port ≡ true) × (broken rule.Literal spot p.place [] ≡ b)
+literal_in spot p b h = choice (is_bad p.port) h
+  where
+    choice : (t : Bool) → In (cond t (broken rule.Literal spot p.place [] ∷ []) []) b → (t ≡ true) × (broken rule.Literal spot p.place [] ≡ b)
+    choice true (inl e) = (refl, e)
+    choice true (inr h) = absurd h
+    choice false h = absurd h
+
+literal_has : (spot : Spot) (p : PlacedPort) (place : Place) (name : List ℕ) → IsBadLiteral p.port → Tells place name p.place [] → In (literal_break spot p) (broken rule.Literal spot place name)
+literal_has spot p place name bad t =
+    let is : is_bad p.port ≡ true = ap is_bad bad.2 ∙ ap not bad.3 in
+    subst (λ c. In (cond c (broken rule.Literal spot p.place [] ∷ []) []) (broken rule.Literal spot place name)) (sym is)
+    (inl (ap (λ q. broken rule.Literal spot q []) (sym t.0) ∙ ap (λ n. broken rule.Literal spot place n) (sym t.1)))
+
+bad_literal : (port : PortRef) → is_bad port ≡ true → IsBadLiteral port
+bad_literal (ports.Cell c p) h = absurd (true≢false (sym h))
+bad_literal (ports.Input n) h = absurd (true≢false (sym h))
+bad_literal (ports.Output n) h = absurd (true≢false (sym h))
+bad_literal (ports.Done g) h = absurd (true≢false (sym h))
+bad_literal (ports.Literal w v) h = (w, v, refl, from_not (keeps_literal w v) h)
+
+-- ASSIGNMENTS
+module _ (d : PlainDesign) (k m : ℕ) (a : Owned) (within : k < length d.components) (stands : slice_get (source_order (component_at d k)) m ≡ Some a) where
+  abbrev here : Spot
+  here = record { component = k; part = AnAssign m }
+
+  abbrev at : Instance
+  at = component_of d k
+
+  on_assign : (r : AssignRule) (place : Place) (name : List ℕ) → r at a place name → OnAssign r d here place name
+  on_assign r place name b = record { within = within; number = m; is = refl; assign = a; stands = stands; breaks = b }
+
+  operand_holds : (p : PlacedPort) (b : Broken) → In (sources_of a.assign) p → In (operand_breaks at here p) b → Holds d b
+  operand_holds p b i h =
+      ⊎_elim
+      (λ l. let found = literal_in here p b l in
+      subst (Holds d) found.1 (refl, inl (on_assign BreaksLiteral p.place [] (p, i, bad_literal p.port found.0, (refl, refl)))))
+      (λ s. let found = told_in rule.NotASource at here p.place (port_if (is_target_only at p.port) p.port) b s in
+      let is = port_if_some (is_target_only at p.port) p.port found.0 found.1 in
+      subst (Holds d) (ap (λ q. broken rule.NotASource here p.place (path_of at q)) is.1 ∙ found.2)
+      (refl, inl (on_assign BreaksNotASource p.place (path_of at p.port) (p, i, is.0, (refl, refl)))))
+      (in_either (literal_break here p) (source_break at here p) b h)
+
+  abbrev widths : List Broken
+  widths = told_port rule.Width at here a.assign.place (first_unequal at (pairs_of a.assign))
+
+  abbrev guards : List Broken
+  guards = told_port rule.GuardWidth at here a.assign.place (first_wide at (atoms_of a.assign.guard))
+
+  widths_hold : (b : Broken) → In widths b → Holds d b
+  widths_hold b h =
+      let found = told_in rule.Width at here a.assign.place (first_unequal at (pairs_of a.assign)) b h in
+      subst (Holds d) found.2 (refl, on_assign BreaksWidth a.assign.place (path_of at found.0) (found.0, found.1, (refl, refl)))
+
+  guards_hold : (b : Broken) → In guards b → Holds d b
+  guards_hold b h =
+      let found = told_in rule.GuardWidth at here a.assign.place (first_wide at (atoms_of a.assign.guard)) b h in
+      subst (Holds d) found.2 (refl, inl (on_assign BreaksGuardWidth a.assign.place (path_of at found.0) (found.0, found.1, (refl, refl))))
+
+  target_holds : (b : Broken) → In (target_break at here a.assign) b → Holds d b
+  target_holds b h =
+      let target = a.assign.target in
+      let found = told_in rule.NotATarget at here a.assign.place (port_if (is_source_only at target) target) b h in
+      let is = port_if_some (is_source_only at target) target found.0 found.1 in
+      subst (Holds d) (ap (λ q. broken rule.NotATarget here a.assign.place (path_of at q)) is.1 ∙ found.2)
+      (refl, on_assign BreaksNotATarget a.assign.place (path_of at target) (is.0, (refl, refl)))
+
+  operands_hold : (b : Broken) → In (flat_map (operand_breaks at here) (operands_of a.assign.guard)) b → Holds d b
+  operands_hold b h =
+      let found = flat_in (operand_breaks at here) (operands_of a.assign.guard) b h in operand_holds found.0 b (inr found.1) found.2
+
+  assign_holds : (b : Broken) → In (assign_breaks at here a.assign) b → Holds d b
+  assign_holds b h =
+      ⊎_elim
+      (λ w. ⊎_elim
+      (λ x. ⊎_elim
+      (λ y. ⊎_elim (widths_hold b) (guards_hold b) (in_either widths guards b y))
+      (target_holds b)
+      (in_either (widths ++ guards) (target_break at here a.assign) b x))
+      (λ o. operand_holds a.assign.source b (inl refl) o)
+      (in_either (widths ++ guards ++ target_break at here a.assign) (operand_breaks at here a.assign.source) b w))
+      (operands_hold b)
+      (in_either (widths ++ guards ++ target_break at here a.assign ++ operand_breaks at here a.assign.source) (flat_map (operand_breaks at here) (operands_of a.assign.guard)) b h)
+
+-- CONDITIONS
+module _ (d : PlainDesign) (k m : ℕ) (v : Visited) (within : k < length d.components) (stands : slice_get (statements_in (component_at d k)) m ≡ Some v) where
+  abbrev there : Spot
+  there = record { component = k; part = AStatement m }
+
+  abbrev inside : Instance
+  inside = component_of d k
+
+  on_statement : (r : StatementRule) (place : Place) (name : List ℕ) → r inside v place name → OnStatement r d there place name
+  on_statement r place name b = record { within = within; number = m; is = refl; statement = v; stands = stands; breaks = b }
+
+  condition_holds : (p : PlacedPort) (b : Broken) → test_in v.form ≡ Some p → In (condition_breaks inside there v.place p) b → Holds d b
+  condition_holds p b t h =
+      ⊎_elim
+      (λ w. let found = told_in rule.GuardWidth inside there v.place (port_if (is_wide inside p.port) p.port) b w in
+      let is = port_if_some (is_wide inside p.port) p.port found.0 found.1 in
+      subst (Holds d) (ap (λ q. broken rule.GuardWidth there v.place (path_of inside q)) is.1 ∙ found.2)
+      (refl, inr (on_statement TestBreaksGuardWidth v.place (path_of inside p.port) (p, t, is.0, (refl, refl)))))
+      (λ o. ⊎_elim
+      (λ l. let found = literal_in there p b l in
+      subst (Holds d) found.1 (refl, inr (on_statement TestBreaksLiteral p.place [] (p, t, bad_literal p.port found.0, (refl, refl)))))
+      (λ s. let found = told_in rule.NotASource inside there p.place (port_if (is_target_only inside p.port) p.port) b s in
+      let is = port_if_some (is_target_only inside p.port) p.port found.0 found.1 in
+      subst (Holds d) (ap (λ q. broken rule.NotASource there p.place (path_of inside q)) is.1 ∙ found.2)
+      (refl, inr (on_statement TestBreaksNotASource p.place (path_of inside p.port) (p, t, is.0, (refl, refl)))))
+      (in_either (literal_break there p) (source_break inside there p) b o))
+      (in_either (told_port rule.GuardWidth inside there v.place (port_if (is_wide inside p.port) p.port)) (operand_breaks inside there p) b h)
+
+  statement_holds : (test : Option PlacedPort) (b : Broken) → test_in v.form ≡ test → In (test_breaks inside there v.place test) b → Holds d b
+  statement_holds None b t h = absurd h
+  statement_holds (Some p) b t h = condition_holds p b t h
+
+component_holds : (d : PlainDesign) (k : ℕ) (b : Broken) → k < length d.components → In (component_breaks d k) b → Holds d b
+component_holds d k b within h =
+    ⊎_elim
+    (λ l. let found = numbered_in (assign_breaks_at d k) 0 (source_order (component_at d k)) b l in
+    let same : 0 + found.0 ≡ found.0 = omega arith in
+    assign_holds d k found.0 found.1 within found.2 b (subst (λ n. In (assign_breaks_at d k n found.1) b) same found.3))
+    (λ r. let found = numbered_in (condition_breaks_at d k) 0 (statements_in (component_at d k)) b r in
+    let same : 0 + found.0 ≡ found.0 = omega arith in
+    statement_holds d k found.0 found.1 within found.2 (test_in found.1.form) b refl (subst (λ n. In (condition_breaks_at d k n found.1) b) same found.3))
+    (in_either (numbered (assign_breaks_at d k) 0 (source_order (component_at d k))) (numbered (condition_breaks_at d k) 0 (statements_in (component_at d k))) b h)
+
+components_hold : (d : PlainDesign) (k left : ℕ) (b : Broken) → k + left ≤ length d.components → In (components_breaks d k left) b → Holds d b
+components_hold d k zero b few h = absurd h
+components_hold d k (suc left) b few h =
+    ⊎_elim
+    (component_holds d k b (omega (arith, few)))
+    (components_hold d (suc k) left b (omega (arith, few)))
+    (in_either (component_breaks d k) (components_breaks d (suc k) left) b h)
+
+in_components : (d : PlainDesign) (k left m : ℕ) (b : Broken) → m < left → In (component_breaks d (k + m)) b → In (components_breaks d k left) b
+in_components d k zero m b few h = absurd (omega (arith, few))
+in_components d k (suc left) zero b few h =
+    let same : k + 0 ≡ k = omega arith in in_left (component_breaks d k) (components_breaks d (suc k) left) b (subst (λ n. In (component_breaks d n) b) same h)
+in_components d k (suc left) (suc m) b few h =
+    let same : k + suc m ≡ suc k + m = omega arith in
+    in_right (component_breaks d k) (components_breaks d (suc k) left) b (in_components d (suc k) left m b (omega (arith, few)) (subst (λ n. In (component_breaks d n) b) same h))
+
+in_design : (d : PlainDesign) (k : ℕ) (b : Broken) → k < length d.components → In (component_breaks d k) b → In (width_breaks d) b
+in_design d k b within h =
+    let same : k ≡ 0 + k = omega arith in in_components d 0 (length d.components) k b within (subst (λ n. In (component_breaks d n) b) same h)
+
+assign_in : (d : PlainDesign) (r : Rule) (spot : Spot) (place : Place) (name : List ℕ) (rules : AssignRule) (o : OnAssign rules d spot place name)
+    → ((s : Spot) → In (assign_breaks (component_of d spot.component) s o.assign.assign) (broken r s place name)) → In (width_breaks d) (broken r spot place name)
+assign_in d r spot place name rules o has =
+    let k = spot.component in
+    let order = source_order (component_at d k) in
+    let same : o.number ≡ 0 + o.number = omega arith in
+    let spot_is : record { component = k; part = AnAssign o.number } ≡ spot = ap (λ part. record { component = k; part = part }) (sym o.is) in
+    in_design d k (broken r spot place name) o.within
+    (in_left (numbered (assign_breaks_at d k) 0 order) (numbered (condition_breaks_at d k) 0 (statements_in (component_at d k))) (broken r spot place name)
+    (in_numbered (assign_breaks_at d k) 0 order o.number o.assign (broken r spot place name) o.stands
+    (subst (λ n. In (assign_breaks_at d k n o.assign) (broken r spot place name)) same
+    (subst (λ s. In (assign_breaks (component_of d k) (record { component = k; part = AnAssign o.number }) o.assign.assign) (broken r s place name)) spot_is (has (record { component = k; part = AnAssign o.number }))))))
+
+statement_in : (d : PlainDesign) (r : Rule) (spot : Spot) (place : Place) (name : List ℕ) (rules : StatementRule) (o : OnStatement rules d spot place name) (p : PlacedPort)
+    → test_in o.statement.form ≡ Some p
+    → ((s : Spot) → In (condition_breaks (component_of d spot.component) s o.statement.place p) (broken r s place name)) → In (width_breaks d) (broken r spot place name)
+statement_in d r spot place name rules o p t has =
+    let k = spot.component in
+    let list = statements_in (component_at d k) in
+    let same : o.number ≡ 0 + o.number = omega arith in
+    let own : Spot = record { component = k; part = AStatement o.number } in
+    let spot_is : own ≡ spot = ap (λ part. record { component = k; part = part }) (sym o.is) in
+    in_design d k (broken r spot place name) o.within
+    (in_right (numbered (assign_breaks_at d k) 0 (source_order (component_at d k))) (numbered (condition_breaks_at d k) 0 list) (broken r spot place name)
+    (in_numbered (condition_breaks_at d k) 0 list o.number o.statement (broken r spot place name) o.stands
+    (subst (λ n. In (condition_breaks_at d k n o.statement) (broken r spot place name)) same
+    (subst (λ s. In (test_breaks (component_of d k) own o.statement.place (test_in o.statement.form)) (broken r s place name)) spot_is
+    (subst (λ x. In (test_breaks (component_of d k) own o.statement.place x) (broken r own place name)) (sym t) (has own))))))
+
+-- where the breaks of an operand stand among those of its assignment
+among_operands : (i : Instance) (s : Spot) (a : PlainAssign) (p : PlacedPort) (b : Broken) → In (sources_of a) p → In (operand_breaks i s p) b → In (assign_breaks i s a) b
+among_operands i s a p b (inl e) h =
+    in_left (told_port rule.Width i s a.place (first_unequal i (pairs_of a)) ++ told_port rule.GuardWidth i s a.place (first_wide i (atoms_of a.guard)) ++ target_break i s a ++ operand_breaks i s a.source)
+    (flat_map (operand_breaks i s) (operands_of a.guard)) b
+    (in_right (told_port rule.Width i s a.place (first_unequal i (pairs_of a)) ++ told_port rule.GuardWidth i s a.place (first_wide i (atoms_of a.guard)) ++ target_break i s a) (operand_breaks i s a.source) b
+    (subst (λ q. In (operand_breaks i s q) b) (sym e) h))
+among_operands i s a p b (inr j) h =
+    in_right (told_port rule.Width i s a.place (first_unequal i (pairs_of a)) ++ told_port rule.GuardWidth i s a.place (first_wide i (atoms_of a.guard)) ++ target_break i s a ++ operand_breaks i s a.source)
+    (flat_map (operand_breaks i s) (operands_of a.guard)) b
+    (in_flat (operand_breaks i s) (operands_of a.guard) p b j h)
+
+-- the first two lists, and the third, among all
+among_front : (i : Instance) (s : Spot) (a : PlainAssign) (b : Broken)
+    → In (told_port rule.Width i s a.place (first_unequal i (pairs_of a)) ++ told_port rule.GuardWidth i s a.place (first_wide i (atoms_of a.guard)) ++ target_break i s a) b → In (assign_breaks i s a) b
+among_front i s a b h =
+    let front = told_port rule.Width i s a.place (first_unequal i (pairs_of a)) ++ told_port rule.GuardWidth i s a.place (first_wide i (atoms_of a.guard)) ++ target_break i s a in
+    in_left (front ++ operand_breaks i s a.source) (flat_map (operand_breaks i s) (operands_of a.guard)) b (in_left front (operand_breaks i s a.source) b h)
+
+source_has : (i : Instance) (s : Spot) (p : PlacedPort) (place : Place) (name : List ℕ) → is_target_only i p.port ≡ true → Tells place name p.place (path_of i p.port)
+    → In (operand_breaks i s p) (broken rule.NotASource s place name)
+source_has i s p place name h t =
+    in_right (literal_break s p) (source_break i s p) (broken rule.NotASource s place name)
+    (told_has rule.NotASource i s p.place (port_if (is_target_only i p.port) p.port) p.port place name (port_if_true (is_target_only i p.port) p.port h) t)
+
+bad_has : (i : Instance) (s : Spot) (p : PlacedPort) (place : Place) (name : List ℕ) → IsBadLiteral p.port → Tells place name p.place [] → In (operand_breaks i s p) (broken rule.Literal s place name)
+bad_has i s p place name bad t = in_left (literal_break s p) (source_break i s p) (broken rule.Literal s place name) (literal_has s p place name bad t)
+
+-- each break of the stage is in the list
+all_breaks : (d : PlainDesign) (r : Rule) (spot : Spot) (place : Place) (name : List ℕ) → stage_of r ≡ 3 → Breaks d r spot place name → In (width_breaks d) (broken r spot place name)
+all_breaks d rule.Width spot place name h o =
+    let i = component_of d spot.component in let a = o.assign.assign in
+    assign_in d rule.Width spot place name BreaksWidth o (λ s. among_front i s a (broken rule.Width s place name)
+    (in_left (told_port rule.Width i s a.place (first_unequal i (pairs_of a)) ++ told_port rule.GuardWidth i s a.place (first_wide i (atoms_of a.guard))) (target_break i s a) (broken rule.Width s place name)
+    (in_left (told_port rule.Width i s a.place (first_unequal i (pairs_of a))) (told_port rule.GuardWidth i s a.place (first_wide i (atoms_of a.guard))) (broken rule.Width s place name)
+    (told_has rule.Width i s a.place (first_unequal i (pairs_of a)) o.breaks.0 place name o.breaks.1 o.breaks.2))))
+all_breaks d rule.GuardWidth spot place name h (inl o) =
+    let i = component_of d spot.component in let a = o.assign.assign in
+    assign_in d rule.GuardWidth spot place name BreaksGuardWidth o (λ s. among_front i s a (broken rule.GuardWidth s place name)
+    (in_left (told_port rule.Width i s a.place (first_unequal i (pairs_of a)) ++ told_port rule.GuardWidth i s a.place (first_wide i (atoms_of a.guard))) (target_break i s a) (broken rule.GuardWidth s place name)
+    (in_right (told_port rule.Width i s a.place (first_unequal i (pairs_of a))) (told_port rule.GuardWidth i s a.place (first_wide i (atoms_of a.guard))) (broken rule.GuardWidth s place name)
+    (told_has rule.GuardWidth i s a.place (first_wide i (atoms_of a.guard)) o.breaks.0 place name o.breaks.1 o.breaks.2))))
+all_breaks d rule.GuardWidth spot place name h (inr o) =
+    let i = component_of d spot.component in let p = o.breaks.0 in
+    statement_in d rule.GuardWidth spot place name TestBreaksGuardWidth o p o.breaks.1 (λ s.
+    in_left (told_port rule.GuardWidth i s o.statement.place (port_if (is_wide i p.port) p.port)) (operand_breaks i s p) (broken rule.GuardWidth s place name)
+    (told_has rule.GuardWidth i s o.statement.place (port_if (is_wide i p.port) p.port) p.port place name (port_if_true (is_wide i p.port) p.port o.breaks.2) o.breaks.3))
+all_breaks d rule.Literal spot place name h (inl o) =
+    let i = component_of d spot.component in
+    assign_in d rule.Literal spot place name BreaksLiteral o (λ s. among_operands i s o.assign.assign o.breaks.0 (broken rule.Literal s place name) o.breaks.1 (bad_has i s o.breaks.0 place name o.breaks.2 o.breaks.3))
+all_breaks d rule.Literal spot place name h (inr o) =
+    let i = component_of d spot.component in let p = o.breaks.0 in
+    statement_in d rule.Literal spot place name TestBreaksLiteral o p o.breaks.1 (λ s.
+    in_right (told_port rule.GuardWidth i s o.statement.place (port_if (is_wide i p.port) p.port)) (operand_breaks i s p) (broken rule.Literal s place name) (bad_has i s p place name o.breaks.2 o.breaks.3))
+all_breaks d rule.NotATarget spot place name h o =
+    let i = component_of d spot.component in let a = o.assign.assign in
+    assign_in d rule.NotATarget spot place name BreaksNotATarget o (λ s. among_front i s a (broken rule.NotATarget s place name)
+    (in_right (told_port rule.Width i s a.place (first_unequal i (pairs_of a)) ++ told_port rule.GuardWidth i s a.place (first_wide i (atoms_of a.guard))) (target_break i s a) (broken rule.NotATarget s place name)
+    (told_has rule.NotATarget i s a.place (port_if (is_source_only i a.target) a.target) a.target place name (port_if_true (is_source_only i a.target) a.target o.breaks.0) o.breaks.1)))
+all_breaks d rule.NotASource spot place name h (inl o) =
+    let i = component_of d spot.component in
+    assign_in d rule.NotASource spot place name BreaksNotASource o (λ s. among_operands i s o.assign.assign o.breaks.0 (broken rule.NotASource s place name) o.breaks.1 (source_has i s o.breaks.0 place name o.breaks.2 o.breaks.3))
+all_breaks d rule.NotASource spot place name h (inr o) =
+    let i = component_of d spot.component in let p = o.breaks.0 in
+    statement_in d rule.NotASource spot place name TestBreaksNotASource o p o.breaks.1 (λ s.
+    in_right (told_port rule.GuardWidth i s o.statement.place (port_if (is_wide i p.port) p.port)) (operand_breaks i s p) (broken rule.NotASource s place name) (source_has i s p place name o.breaks.2 o.breaks.3))
+all_breaks d rule.BadByte spot place name h o = absurd o
+all_breaks d rule.OpenComment spot place name h o = absurd o
+all_breaks d rule.OpenString spot place name h o = absurd o
+all_breaks d rule.BadLiteral spot place name h o = absurd o
+all_breaks d rule.Unexpected spot place name h o = absurd o
+all_breaks d rule.TooDeep spot place name h o = absurd o
+all_breaks d rule.Duplicate spot place name h o = absurd o
+all_breaks d rule.UnknownName spot place name h o = absurd o
+all_breaks d rule.UnknownPrimitive spot place name h o = absurd o
+all_breaks d rule.BadParameters spot place name h o = absurd o
+all_breaks d rule.Recursive spot place name h o = absurd o
+all_breaks d rule.NoMain spot place name h o = absurd o
+all_breaks d rule.LeftOut spot place name h o = absurd o
+all_breaks d rule.NoDone spot place name h o = absurd (omega (arith, h))
+all_breaks d rule.DoneNotState spot place name h o = absurd (omega (arith, h))
+all_breaks d rule.AlwaysEnable spot place name h o = absurd (omega (arith, h))
+all_breaks d rule.CombEnable spot place name h o = absurd (omega (arith, h))
+all_breaks d rule.StaticGuard spot place name h o = absurd (omega (arith, h))
+all_breaks d rule.StaticShape spot place name h o = absurd (omega (arith, h))
+all_breaks d rule.CallShape spot place name h o = absurd (omega (arith, h))
+all_breaks d rule.OutputNotState spot place name h o = absurd (omega (arith, h))
+all_breaks d rule.CombCycle spot place name h o = absurd (omega (arith, h))
+all_breaks d rule.Race spot place name h o = absurd (omega (arith, h))
+all_breaks d rule.Limit spot place name h o = absurd (omega (arith, h))
+all_breaks d rule.TooLarge spot place name h o = absurd o
+
+-- the list is that of the stage
+pub are_breaks : (d : PlainDesign) → AreBreaks 3 d (width_breaks d)
+are_breaks d = record {
+  in_stage = λ b h. (components_hold d 0 (length d.components) b (omega arith) h).0;
+  break = λ b h. (components_hold d 0 (length d.components) b (omega arith) h).1;
+  all = λ r spot place name s o. (broken r spot place name, all_breaks d r spot place name s o, not_before_itself (key_of r spot place));
+}
+
+-- one more component is looked at
+pub next_component : (d : PlainDesign) (n count : ℕ) (best mid next rest : Option Broken) → n < count
+    → mid ≡ first_of best (numbered (assign_breaks_at d n) 0 (source_order (component_at d n)))
+    → next ≡ first_of mid (numbered (condition_breaks_at d n) 0 (statements_in (component_at d n)))
+    → first_of best (components_breaks d n (count - n)) ≡ rest → first_of next (components_breaks d (n + 1) (count - (n + 1))) ≡ rest
+next_component d n count best mid next rest few one two so_far =
+    let assigns = numbered (assign_breaks_at d n) 0 (source_order (component_at d n)) in
+    let conditions = numbered (condition_breaks_at d n) 0 (statements_in (component_at d n)) in
+    let left = count - (n + 1) in
+    let more = components_breaks d (suc n) left in
+    let at : count - n ≡ suc left = omega (arith, few) in
+    ap (λ m. first_of next (components_breaks d m left)) (add-one n)
+    ∙ ap (λ b. first_of b more) (two ∙ ap (λ b. first_of b conditions) one ∙ sym (first_append best assigns conditions))
+    ∙ sym (first_append best (assigns ++ conditions) more)
+    ∙ ap (λ m. first_of best (components_breaks d n m)) (sym at)
+    ∙ so_far

@@ -1,0 +1,108 @@
+//! The check over a whole design.
+
+ghost use Rattle.std.specs.Prelude.{◌≡◌, ◌<◌, ◌++◌, None, IfOk, length};
+ghost use Rattle.cx_rules.specs.Ports.{component_of};
+ghost use Rattle.cx_rules.specs.Items.{statements_in, test_in};
+ghost use Rattle.cx_meaning.specs.Active as active;
+ghost use Rattle.cx_meaning.specs.Designs.{component_at};
+ghost use Rattle.cx_design.specs.PlainForms.{plain_form};
+ghost use Rattle.cx_design.specs.PlainDesigns.{plain_design};
+ghost use Rattle.cx_first_break.specs.Answers.{IsAnswer};
+ghost use Rattle.cx_first_break.specs.Breaks.{first_of, plain_spot};
+ghost use Rattle.cx_first_break.specs.Numbered.{numbered};
+ghost use Rattle.cx_widths.specs.WidthBreaks.{assign_breaks_at, condition_breaks_at, test_breaks, width_breaks};
+
+use crate::assigns::add_assign;
+use crate::conditions::add_condition;
+use cx_design::{Design, Refusal};
+use cx_first_break::{FirstBreak, Part, Spot};
+use cx_items::{Visited, statements, test};
+use cx_ports::component;
+use cx_source_order::source_order;
+use cx_text::Memory;
+use std::alloc::Global;
+
+/// Refuses a design that breaks one of the rules width, guard-width, literal, not-a-target and not-a-source, with the first
+/// break of them.
+pub fn check(alloc: Global, design: &Design) -> Result<(), Refusal>
+    ensures answer { IsAnswer 3 (plain_design design.now) result }
+{
+    match first_break(alloc, design) {
+        Ok(first) => first.result(),
+        Err(Memory) => Err(Refusal::Memory),
+    }
+}
+
+/// The first break of a design.
+#[tactic(auto, using(cx_first_break::proofs::Lists::first_append))]
+fn first_break(alloc: Global, design: &Design) -> Result<FirstBreak, Memory>
+    ensures value { IfOk result (λ first. first ≡ first_of None (width_breaks (plain_design design.now))) }
+{
+    let mut first = FirstBreak::new();
+    for number in 0..design.components.len() {
+        add_assigns(alloc, &mut first, design, number)?;
+        add_conditions(alloc, &mut first, design, number)?;
+    }
+    Ok(first)
+}
+
+/// Looks at the assignments of a component.
+#[tactic(auto, using(cx_first_break::proofs::Lists::first_append))]
+fn add_assigns(
+    alloc: Global,
+    first: &mut FirstBreak,
+    design: &Design,
+    number: usize,
+) -> Result<(), Memory>
+    requires within { number < length design.now.components.items }
+    ensures value { IfOk result (λ _. let d = plain_design design.now in first.new ≡ first_of first.old (numbered (assign_breaks_at d number) 0 (active.source_order (component_at d number)))) }
+{
+    let assigns = source_order(alloc, component(design, number))?;
+    for place in 0..assigns.len() {
+        let spot = Spot {
+            component: number,
+            part: Part::Assign(place),
+        };
+        add_assign(alloc, first, design, spot, assigns[place].assign)?;
+    }
+    Ok(())
+}
+
+/// Looks at the conditions in a component's control.
+#[tactic(auto, using(cx_first_break::proofs::Lists::first_append))]
+fn add_conditions(
+    alloc: Global,
+    first: &mut FirstBreak,
+    design: &Design,
+    number: usize,
+) -> Result<(), Memory>
+    requires within { number < length design.now.components.items }
+    ensures value { IfOk result (λ _. let d = plain_design design.now in first.new ≡ first_of first.old (numbered (condition_breaks_at d number) 0 (statements_in (component_at d number)))) }
+{
+    let list = statements(alloc, component(design, number))?;
+    for place in 0..list.len() {
+        let spot = Spot {
+            component: number,
+            part: Part::Statement(place),
+        };
+        add_visited(alloc, first, design, spot, list[place])?;
+    }
+    Ok(())
+}
+
+/// Looks at the condition of a statement, where it has one.
+fn add_visited(
+    alloc: Global,
+    first: &mut FirstBreak,
+    design: &Design,
+    spot: Spot,
+    visited: Visited<'_>,
+) -> Result<(), Memory>
+    requires within { spot.component < length design.now.components.items }
+    ensures value { IfOk result (λ _. first.new ≡ first_of first.old (test_breaks (component_of (plain_design design.now) spot.component) (plain_spot spot) visited.entry.place (test_in (plain_form visited.entry.form.now)))) }
+{
+    match test(visited.form) {
+        Some(condition) => add_condition(alloc, first, design, spot, visited.place, condition),
+        None => Ok(()),
+    }
+}
