@@ -1,109 +1,128 @@
 //! The lines of an edge.
 
-use crate::faults::{Fault, Notes};
-use crate::lines::whole_expr;
-use crate::names::{begins, expect, name};
-use cx_vtree::{Edge, EdgeItem, NetAssign};
+ghost use Rattle.std.specs.Prelude.{◌≡◌, codes, map, option_map};
+ghost use Rattle.cx_vtree.specs.PlainParts.{plain_expr, plain_assign, plain_item, plain_edge};
+ghost use Rattle.cx_vread.specs.Answers.{Gives, place_of};
+ghost use Rattle.cx_vread.specs.Places.{begins, many, with_front};
+ghost use Rattle.cx_vread.specs.Parts as parts;
+
+use crate::exprs::whole_expr;
+use crate::faults::Fault;
+use crate::lines::assigned;
+use crate::names::name;
+use crate::places::{At, begins, expect};
+use cx_text::Name;
+use cx_vtree::{Edge, EdgeItem, Expr, NetAssign};
 use std::alloc::Global;
 
 /// The line that sets a register.
-fn set<'a>(
-    alloc: Global,
-    notes: &mut Notes,
-    bytes: &'a [u8],
-) -> Result<(NetAssign, &'a [u8]), Fault> {
-    let (name_of, rest) = name(alloc, expect(bytes, b"      ")?)?;
-    let (value, rest) = whole_expr(alloc, notes, expect(rest, b" <= ")?)?;
-    let a = NetAssign {
-        name: name_of,
-        value,
-    };
-    Ok((a, expect(rest, b";\n")?))
+fn set<'a>(alloc: Global, at: At<'a>) -> Result<(NetAssign, At<'a>), Fault>
+    ensures { Gives (λ x. (plain_assign x.0, place_of x.1)) result (parts.set_at (place_of at.entry)) }
+{
+    let at = expect(at, b"      ")?;
+    let (name, at) = name(alloc, at)?;
+    let at = expect(at, b" <= ")?;
+    assigned(alloc, name, at)
+}
+
+/// The guard and the array of a line that stores a word.
+fn store_head<'a>(alloc: Global, at: At<'a>) -> Result<((Expr, Name), At<'a>), Fault>
+    ensures { Gives (λ x. ((plain_expr x.0.0, x.0.1), place_of x.1)) result (parts.store_head_at (place_of at.entry)) }
+{
+    let at = expect(at, b"      if (")?;
+    let (guard, at) = whole_expr(alloc, at)?;
+    let at = expect(at, b") ")?;
+    let (array, at) = name(alloc, at)?;
+    let at = expect(at, b"[")?;
+    Ok(((guard, array), at))
 }
 
 /// The line that stores a word.
-fn store<'a>(
-    alloc: Global,
-    notes: &mut Notes,
-    bytes: &'a [u8],
-) -> Result<(EdgeItem, &'a [u8]), Fault> {
-    let (guard, rest) = whole_expr(alloc, notes, expect(bytes, b"      if (")?)?;
-    let (array, rest) = name(alloc, expect(rest, b") ")?)?;
-    let (index, rest) = whole_expr(alloc, notes, expect(rest, b"[")?)?;
-    let (value, rest) = whole_expr(alloc, notes, expect(rest, b"] <= ")?)?;
+fn store<'a>(alloc: Global, at: At<'a>) -> Result<(EdgeItem, At<'a>), Fault>
+    ensures { Gives (λ x. (plain_item x.0, place_of x.1)) result (parts.store_at (place_of at.entry)) }
+{
+    let ((guard, array), at) = store_head(alloc, at)?;
+    let (index, at) = whole_expr(alloc, at)?;
+    let at = expect(at, b"] <= ")?;
+    let (value, at) = whole_expr(alloc, at)?;
+    let at = expect(at, b";\n")?;
     let item = EdgeItem::Store {
         guard,
         array,
         index,
         value,
     };
-    Ok((item, expect(rest, b";\n")?))
+    Ok((item, at))
 }
 
 /// A line of the branch without reset.
-fn item<'a>(
-    alloc: Global,
-    notes: &mut Notes,
-    bytes: &'a [u8],
-) -> Result<(EdgeItem, &'a [u8]), Fault> {
-    if begins(bytes, b"      if (") {
-        return store(alloc, notes, bytes);
+fn item<'a>(alloc: Global, at: At<'a>) -> Result<(EdgeItem, At<'a>), Fault>
+    ensures { Gives (λ x. (plain_item x.0, place_of x.1)) result (parts.item_at (place_of at.entry)) }
+{
+    if begins(at, b"      if (") {
+        return store(alloc, at);
     }
-    let (a, rest) = set(alloc, notes, bytes)?;
-    Ok((EdgeItem::Set(a), rest))
+    let (assign, at) = set(alloc, at)?;
+    Ok((EdgeItem::Set(assign), at))
 }
 
 /// The lines of the branch with reset.
-fn sets<'a>(
-    alloc: Global,
-    notes: &mut Notes,
-    bytes: &'a [u8],
-) -> Result<(Vec<NetAssign>, &'a [u8]), Fault> {
+fn sets<'a>(alloc: Global, at: At<'a>) -> Result<(Vec<NetAssign>, At<'a>), Fault>
+    ensures { Gives (λ x. (map plain_assign x.0.items, place_of x.1)) result (parts.sets_at (place_of at.entry)) }
+{
     let mut list = Vec::new(alloc);
-    let mut rest = bytes;
-    for _ in 0..bytes.len() {
-        if !begins(rest, b"     ") {
-            break;
+    let mut here = at;
+    let mut left = at.rest.len();
+    while left > 0 {
+        if !begins(here, b"     ") {
+            return Ok((list, here));
         }
-        let (a, after) = set(alloc, notes, rest)?;
-        list.push(a)?;
-        rest = after;
+        let (line, after) = set(alloc, here)?;
+        list.push(line)?;
+        here = after;
+        left -= 1;
     }
-    Ok((list, rest))
+    Ok((list, here))
 }
 
 /// The lines of the branch without reset.
-fn items<'a>(
-    alloc: Global,
-    notes: &mut Notes,
-    bytes: &'a [u8],
-) -> Result<(Vec<EdgeItem>, &'a [u8]), Fault> {
+fn items<'a>(alloc: Global, at: At<'a>) -> Result<(Vec<EdgeItem>, At<'a>), Fault>
+    ensures { Gives (λ x. (map plain_item x.0.items, place_of x.1)) result (parts.items_at (place_of at.entry)) }
+{
     let mut list = Vec::new(alloc);
-    let mut rest = bytes;
-    for _ in 0..bytes.len() {
-        if !begins(rest, b"     ") {
-            break;
+    let mut here = at;
+    let mut left = at.rest.len();
+    while left > 0 {
+        if !begins(here, b"     ") {
+            return Ok((list, here));
         }
-        let (i, after) = item(alloc, notes, rest)?;
-        list.push(i)?;
-        rest = after;
+        let (line, after) = item(alloc, here)?;
+        list.push(line)?;
+        here = after;
+        left -= 1;
     }
-    Ok((list, rest))
+    Ok((list, here))
+}
+
+/// The lines of an edge.
+fn edge_lines<'a>(alloc: Global, at: At<'a>) -> Result<(Edge, At<'a>), Fault>
+    ensures { Gives (λ x. (plain_edge x.0, place_of x.1)) result (parts.edge_at (place_of at.entry)) }
+{
+    let at = expect(at, b"  always @(posedge clk) begin\n    if (reset) begin\n")?;
+    let (reset, at) = sets(alloc, at)?;
+    let at = expect(at, b"    end else begin\n")?;
+    let (step, at) = items(alloc, at)?;
+    let at = expect(at, b"    end\n  end\n")?;
+    Ok((Edge { reset, step }, at))
 }
 
 /// The lines of an edge where there is one.
-pub fn edge<'a>(
-    alloc: Global,
-    notes: &mut Notes,
-    bytes: &'a [u8],
-) -> Result<(Option<Edge>, &'a [u8]), Fault> {
-    if !begins(bytes, b"  always ") {
-        return Ok((None, bytes));
+pub fn edge<'a>(alloc: Global, at: At<'a>) -> Result<(Option<Edge>, At<'a>), Fault>
+    ensures { Gives (λ x. (option_map plain_edge x.0, place_of x.1)) result (parts.edge_or_none_at (place_of at.entry)) }
+{
+    if !begins(at, b"  always ") {
+        return Ok((None, at));
     }
-    let rest = expect(bytes, b"  always @(posedge clk) begin\n")?;
-    let (reset, rest) = sets(alloc, notes, expect(rest, b"    if (reset) begin\n")?)?;
-    let (step, rest) = items(alloc, notes, expect(rest, b"    end else begin\n")?)?;
-    let rest = expect(rest, b"    end\n")?;
-    let rest = expect(rest, b"  end\n")?;
-    Ok((Some(Edge { reset, step }), rest))
+    let (edge, at) = edge_lines(alloc, at)?;
+    Ok((Some(edge), at))
 }

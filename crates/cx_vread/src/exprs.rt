@@ -1,275 +1,211 @@
 //! Expressions.
 
-use crate::faults::{Fault, Notes};
-use crate::names::{begins, expect, name, next_is};
-use crate::numbers::{literal, number, small_number};
-use cx_bits::Bits;
+ghost use Rattle.std.specs.Prelude.{◌≡◌, ◌+◌, MatchOption};
+ghost use Rattle.cx_vtree.specs.PlainParts.{plain_expr};
+ghost use Rattle.cx_vread.specs.Answers.{Gives, place_of};
+ghost use Rattle.cx_vread.specs.Exprs as exprs;
+
+use crate::deep::{deep, deep_brackets};
+use crate::faults::Fault;
+use crate::names::name;
+use crate::numbers::{is_part, literal, small};
+use crate::operators::operator;
+use crate::places::{At, begins, expect};
 use cx_text::Name;
-use cx_vtree::{Expr, Operator};
+use cx_vtree::Expr;
 use std::alloc::Global;
 
-/// The operator that the bytes begin with, and the bytes after it.
-fn operator(bytes: &[u8]) -> Result<(Operator, &[u8]), Fault> {
-    let (op, len) = if begins(bytes, b"<<") {
-        (Operator::ShiftLeft, 2usize)
-    } else if begins(bytes, b">>") {
-        (Operator::ShiftRight, 2)
-    } else if begins(bytes, b"<=") {
-        (Operator::AtMost, 2)
-    } else if begins(bytes, b">=") {
-        (Operator::AtLeast, 2)
-    } else if begins(bytes, b"==") {
-        (Operator::Equal, 2)
-    } else if begins(bytes, b"!=") {
-        (Operator::NotEqual, 2)
-    } else {
-        (sign(bytes)?, 1)
-    };
-    match bytes.split_at_checked(len) {
-        Some((_, rest)) => Ok((op, rest)),
-        None => Err(Fault::Syntax(bytes.len())),
-    }
-}
+/// Levels of nesting that are read into a tree. They are more than the limit, so that what stands on a line that breaks
+/// it is looked at too.
+const LEVELS: u8 = 128;
 
-/// The operator of one byte that the bytes begin with.
-fn sign(bytes: &[u8]) -> Result<Operator, Fault> {
-    match bytes.first() {
-        Some(b'+') => Ok(Operator::Add),
-        Some(b'-') => Ok(Operator::Subtract),
-        Some(b'*') => Ok(Operator::Multiply),
-        Some(b'&') => Ok(Operator::And),
-        Some(b'|') => Ok(Operator::Or),
-        Some(b'^') => Ok(Operator::Xor),
-        Some(b'<') => Ok(Operator::Less),
-        Some(b'>') => Ok(Operator::Greater),
-        _ => Err(Fault::Syntax(bytes.len())),
+/// One level fewer, if one is left.
+fn fewer(levels: u8) -> Option<u8>
+    ensures { MatchOption result (levels ≡ 0) (λ fewer. levels ≡ fewer + 1) }
+{
+    if levels == 0 {
+        return None;
     }
-}
-
-/// Where a decimal number and a colon stand, as in the bounds of a part.
-fn is_part(bytes: &[u8]) -> bool {
-    match number(bytes) {
-        Ok((_, rest)) => next_is(rest, b':'),
-        Err(_) => false,
-    }
+    Some(levels - 1)
 }
 
 /// The bounds of a part, after its `[`.
-fn part<'a>(notes: &mut Notes, bytes: &'a [u8], net: Name) -> Result<(Expr, &'a [u8]), Fault> {
-    let (high, rest) = small_number(notes, bytes)?;
-    let rest = expect(rest, b":")?;
-    let (low, rest) = small_number(notes, rest)?;
-    let rest = expect(rest, b"]")?;
-    Ok((Expr::Slice(net, high, low), rest))
+fn part<'a>(net: Name, at: At<'a>) -> Result<(Expr, At<'a>), Fault>
+    ensures { Gives (λ x. (plain_expr x.0, place_of x.1)) result (exprs.part_by net (place_of at.entry)) }
+{
+    let (high, at) = small(at)?;
+    let at = expect(at, b":")?;
+    let (low, at) = small(at)?;
+    let at = expect(at, b"]")?;
+    Ok((Expr::Slice(net, high, low), at))
 }
 
-/// Goes past what is nested too deep, to the bracket that closes it, on its line.
-fn skip(bytes: &[u8]) -> &[u8] {
-    let mut open = 0u64;
-    let mut rest = bytes;
-    for _ in 0..bytes.len() {
-        let Some((b, after)) = rest.split_first() else {
-            return rest;
-        };
-        match *b {
-            b'(' | b'[' | b'{' => open = open.saturating_add(1),
-            b')' | b']' | b'}' => {
-                if open == 0 {
-                    return rest;
-                }
-                open -= 1;
-            }
-            b'\n' => return rest,
-            _ => {}
-        }
-        rest = after;
-    }
-    rest
-}
-
-/// Notes what is nested too deep, and goes past it. A literal stands for it.
-fn too_deep<'a>(notes: &mut Notes, bytes: &'a [u8]) -> Result<(Expr, &'a [u8]), Fault> {
-    notes.note_limit(bytes.len());
-    match Bits::new(1, 0) {
-        Some(bits) => Ok((Expr::Literal(bits), skip(bytes))),
-        None => Err(Fault::Syntax(bytes.len())),
+/// Whether a digit stands here.
+fn starts_digit(at: At) -> bool
+    ensures { result ≡ exprs.starts_digit at.entry.rest.now }
+{
+    match at.rest.split_first() {
+        None => false,
+        Some((byte, _)) => 48 <= *byte && *byte <= 57,
     }
 }
 
-/// An expression of at most so many levels of nesting, and the bytes after it.
+/// A word of an array, from the bracket after its index on.
+fn item<'a>(alloc: Global, net: Name, index: Expr, at: At<'a>) -> Result<(Expr, At<'a>), Fault>
+    ensures { Gives (λ x. (plain_expr x.0, place_of x.1)) result (exprs.item_by net (plain_expr index) (place_of at.entry)) }
+{
+    let at = expect(at, b"]")?;
+    Ok((Expr::Item(net, Box::new(alloc, index)?), at))
+}
+
+/// A whole expression.
+pub fn whole_expr<'a>(alloc: Global, at: At<'a>) -> Result<(Expr, At<'a>), Fault>
+    ensures { Gives (λ x. (plain_expr x.0, place_of x.1)) result (exprs.whole_expr_at (place_of at.entry)) }
+{
+    expr(alloc, LEVELS, at)
+}
+
+/// An expression of at most so many levels of nesting.
 #[cycle(reader)]
-pub fn expr<'a>(
-    alloc: Global,
-    notes: Notes,
-    levels: u8,
-    bytes: &'a [u8],
-) -> Result<(Expr, Notes, &'a [u8]), Fault> {
-    match bytes.first() {
-        Some(b'(') => nested(alloc, notes, levels, bytes),
-        Some(b'{') => nested(alloc, notes, levels, bytes),
-        Some(b'0'..=b'9') => number_expr(notes, bytes),
-        _ => named(alloc, notes, levels, bytes),
+#[tactic(auto, using(crate::proofs::Levels::expr_at_is))]
+fn expr<'a>(alloc: Global, levels: u8, at: At<'a>) -> Result<(Expr, At<'a>), Fault>
+    ensures { Gives (λ x. (plain_expr x.0, place_of x.1)) result (exprs.expr_at levels (place_of at.entry)) }
+{
+    if begins(at, b"(") || begins(at, b"{") {
+        nested(alloc, levels, at)
+    } else if starts_digit(at) {
+        literal(at)
+    } else {
+        named(alloc, levels, at)
     }
 }
 
-/// A literal.
-fn number_expr(notes: Notes, bytes: &[u8]) -> Result<(Expr, Notes, &[u8]), Fault> {
-    let mut notes = notes;
-    let (e, rest) = literal(&mut notes, bytes)?;
-    Ok((e, notes, rest))
-}
-
-/// A part, from its bounds on.
-fn part_expr(notes: Notes, bytes: &[u8], net: Name) -> Result<(Expr, Notes, &[u8]), Fault> {
-    let mut notes = notes;
-    let (e, rest) = part(&mut notes, bytes, net)?;
-    Ok((e, notes, rest))
-}
-
-/// What is nested too deep.
-fn deep_expr(notes: Notes, bytes: &[u8]) -> Result<(Expr, Notes, &[u8]), Fault> {
-    let mut notes = notes;
-    let (e, rest) = too_deep(&mut notes, bytes)?;
-    Ok((e, notes, rest))
-}
-
-/// What is nested too deep, with its brackets.
-fn deep_brackets(notes: Notes, bytes: &[u8]) -> Result<(Expr, Notes, &[u8]), Fault> {
-    let Some((_, inner)) = bytes.split_first() else {
-        return Err(Fault::Syntax(bytes.len()));
-    };
-    let (e, notes, rest) = deep_expr(notes, inner)?;
-    let Some((_, rest)) = rest.split_first() else {
-        return Err(Fault::Syntax(rest.len()));
-    };
-    Ok((e, notes, rest))
+/// What stands one level deeper.
+#[cycle(reader)]
+fn inner<'a>(alloc: Global, levels: u8, at: At<'a>) -> Result<(Expr, At<'a>), Fault>
+    ensures { Gives (λ x. (plain_expr x.0, place_of x.1)) result (exprs.inner_at levels (place_of at.entry)) }
+{
+    match fewer(levels) {
+        None => Ok(deep(at)),
+        Some(levels) => expr(alloc, levels, at),
+    }
 }
 
 /// A name, and what stands in brackets after it.
 #[cycle(reader)]
-fn named<'a>(
-    alloc: Global,
-    notes: Notes,
-    levels: u8,
-    bytes: &'a [u8],
-) -> Result<(Expr, Notes, &'a [u8]), Fault> {
-    let (net, rest) = name(alloc, bytes)?;
-    if !next_is(rest, b'[') {
-        return Ok((Expr::Net(net), notes, rest));
+fn named<'a>(alloc: Global, levels: u8, at: At<'a>) -> Result<(Expr, At<'a>), Fault>
+    ensures { Gives (λ x. (plain_expr x.0, place_of x.1)) result (exprs.named_by (exprs.inner_at levels) (place_of at.entry)) }
+{
+    let (net, at) = name(alloc, at)?;
+    if begins(at, b"[") {
+        bracketed(alloc, levels, net, at)
+    } else {
+        Ok((Expr::Net(net), at))
     }
-    let rest = expect(rest, b"[")?;
-    if is_part(rest) {
-        return part_expr(notes, rest, net);
-    }
-    if levels == 0 {
-        let (index, notes, rest) = deep_expr(notes, rest)?;
-        return item(alloc, notes, rest, net, index);
-    }
-    let (index, notes, rest) = expr(alloc, notes, levels - 1, rest)?;
-    item(alloc, notes, rest, net, index)
 }
 
-/// A word of an array, from the bracket after its index on.
-fn item(
-    alloc: Global,
-    notes: Notes,
-    bytes: &[u8],
-    net: Name,
-    index: Expr,
-) -> Result<(Expr, Notes, &[u8]), Fault> {
-    let rest = expect(bytes, b"]")?;
-    Ok((Expr::Item(net, Box::new(alloc, index)?), notes, rest))
+/// What stands in square brackets after a name.
+#[cycle(reader)]
+fn bracketed<'a>(alloc: Global, levels: u8, net: Name, at: At<'a>) -> Result<(Expr, At<'a>), Fault>
+    ensures { Gives (λ x. (plain_expr x.0, place_of x.1)) result (exprs.bracketed_by (exprs.inner_at levels) net (place_of at.entry)) }
+{
+    let at = expect(at, b"[")?;
+    if is_part(at) {
+        return part(net, at);
+    }
+    let (index, at) = inner(alloc, levels, at)?;
+    item(alloc, net, index, at)
 }
 
 /// What begins with a bracket.
 #[cycle(reader)]
-fn nested<'a>(
-    alloc: Global,
-    notes: Notes,
-    levels: u8,
-    bytes: &'a [u8],
-) -> Result<(Expr, Notes, &'a [u8]), Fault> {
-    if levels == 0 {
-        return deep_brackets(notes, bytes);
+fn nested<'a>(alloc: Global, levels: u8, at: At<'a>) -> Result<(Expr, At<'a>), Fault>
+    ensures { Gives (λ x. (plain_expr x.0, place_of x.1)) result (exprs.nested_at levels (place_of at.entry)) }
+{
+    match fewer(levels) {
+        None => deep_brackets(at),
+        Some(levels) => brackets(alloc, levels, at),
     }
-    if begins(bytes, b"{") {
-        return joined(alloc, notes, levels - 1, bytes);
+}
+
+/// What begins with a bracket, its level counted.
+#[cycle(reader)]
+fn brackets<'a>(alloc: Global, levels: u8, at: At<'a>) -> Result<(Expr, At<'a>), Fault>
+    ensures { Gives (λ x. (plain_expr x.0, place_of x.1)) result (exprs.brackets_by (exprs.expr_at levels) (place_of at.entry)) }
+{
+    if begins(at, b"{") {
+        joined(alloc, levels, at)
+    } else if begins(at, b"(~") {
+        inverted(alloc, levels, at)
+    } else {
+        round(alloc, levels, at)
     }
-    if begins(bytes, b"(~") {
-        return inverted(alloc, notes, levels - 1, bytes);
-    }
-    let rest = expect(bytes, b"(")?;
-    let (first, notes, rest) = expr(alloc, notes, levels - 1, rest)?;
-    let rest = expect(rest, b" ")?;
-    if begins(rest, b"? ") {
-        return chosen(alloc, notes, levels - 1, rest, first);
-    }
-    applied(alloc, notes, levels - 1, rest, first)
 }
 
 /// `{a, b}`
 #[cycle(reader)]
-fn joined<'a>(
-    alloc: Global,
-    notes: Notes,
-    levels: u8,
-    bytes: &'a [u8],
-) -> Result<(Expr, Notes, &'a [u8]), Fault> {
-    let rest = expect(bytes, b"{")?;
-    let (high, notes, rest) = expr(alloc, notes, levels, rest)?;
-    let rest = expect(rest, b", ")?;
-    let (low, notes, rest) = expr(alloc, notes, levels, rest)?;
-    let rest = expect(rest, b"}")?;
+fn joined<'a>(alloc: Global, levels: u8, at: At<'a>) -> Result<(Expr, At<'a>), Fault>
+    ensures { Gives (λ x. (plain_expr x.0, place_of x.1)) result (exprs.joined_by (exprs.expr_at levels) (place_of at.entry)) }
+{
+    let at = expect(at, b"{")?;
+    let (high, at) = expr(alloc, levels, at)?;
+    let at = expect(at, b", ")?;
+    let (low, at) = expr(alloc, levels, at)?;
+    let at = expect(at, b"}")?;
     let cat = Expr::Cat(Box::new(alloc, high)?, Box::new(alloc, low)?);
-    Ok((cat, notes, rest))
+    Ok((cat, at))
 }
 
 /// `(~a)`
 #[cycle(reader)]
-fn inverted<'a>(
-    alloc: Global,
-    notes: Notes,
-    levels: u8,
-    bytes: &'a [u8],
-) -> Result<(Expr, Notes, &'a [u8]), Fault> {
-    let rest = expect(bytes, b"(~")?;
-    let (inner, notes, rest) = expr(alloc, notes, levels, rest)?;
-    let rest = expect(rest, b")")?;
-    Ok((Expr::Not(Box::new(alloc, inner)?), notes, rest))
+fn inverted<'a>(alloc: Global, levels: u8, at: At<'a>) -> Result<(Expr, At<'a>), Fault>
+    ensures { Gives (λ x. (plain_expr x.0, place_of x.1)) result (exprs.inverted_by (exprs.expr_at levels) (place_of at.entry)) }
+{
+    let at = expect(at, b"(~")?;
+    let (inner, at) = expr(alloc, levels, at)?;
+    let at = expect(at, b")")?;
+    Ok((Expr::Not(Box::new(alloc, inner)?), at))
+}
+
+/// `(c ? a : b)` or `(a op b)`
+#[cycle(reader)]
+fn round<'a>(alloc: Global, levels: u8, at: At<'a>) -> Result<(Expr, At<'a>), Fault>
+    ensures { Gives (λ x. (plain_expr x.0, place_of x.1)) result (exprs.round_by (exprs.expr_at levels) (place_of at.entry)) }
+{
+    let at = expect(at, b"(")?;
+    let (first, at) = expr(alloc, levels, at)?;
+    let at = expect(at, b" ")?;
+    if begins(at, b"? ") {
+        chosen(alloc, levels, first, at)
+    } else {
+        applied(alloc, levels, first, at)
+    }
 }
 
 /// `(c ? a : b)`, from the `?` on.
 #[cycle(reader)]
-fn chosen<'a>(
-    alloc: Global,
-    notes: Notes,
-    levels: u8,
-    bytes: &'a [u8],
-    test: Expr,
-) -> Result<(Expr, Notes, &'a [u8]), Fault> {
-    let rest = expect(bytes, b"? ")?;
-    let (one, notes, rest) = expr(alloc, notes, levels, rest)?;
-    let rest = expect(rest, b" : ")?;
-    let (other, notes, rest) = expr(alloc, notes, levels, rest)?;
-    let rest = expect(rest, b")")?;
+fn chosen<'a>(alloc: Global, levels: u8, test: Expr, at: At<'a>) -> Result<(Expr, At<'a>), Fault>
+    ensures { Gives (λ x. (plain_expr x.0, place_of x.1)) result (exprs.chosen_by (exprs.expr_at levels) (plain_expr test) (place_of at.entry)) }
+{
+    let at = expect(at, b"? ")?;
+    let (one, at) = expr(alloc, levels, at)?;
+    let at = expect(at, b" : ")?;
+    let (other, at) = expr(alloc, levels, at)?;
+    let at = expect(at, b")")?;
     let test = Box::new(alloc, test)?;
     let choice = Expr::Choose(test, Box::new(alloc, one)?, Box::new(alloc, other)?);
-    Ok((choice, notes, rest))
+    Ok((choice, at))
 }
 
 /// `(a op b)`, from the operator on.
 #[cycle(reader)]
-fn applied<'a>(
-    alloc: Global,
-    notes: Notes,
-    levels: u8,
-    bytes: &'a [u8],
-    left: Expr,
-) -> Result<(Expr, Notes, &'a [u8]), Fault> {
-    let (op, rest) = operator(bytes)?;
-    let rest = expect(rest, b" ")?;
-    let (right, notes, rest) = expr(alloc, notes, levels, rest)?;
-    let rest = expect(rest, b")")?;
+fn applied<'a>(alloc: Global, levels: u8, left: Expr, at: At<'a>) -> Result<(Expr, At<'a>), Fault>
+    ensures { Gives (λ x. (plain_expr x.0, place_of x.1)) result (exprs.applied_by (exprs.expr_at levels) (plain_expr left) (place_of at.entry)) }
+{
+    let (op, at) = operator(at)?;
+    let at = expect(at, b" ")?;
+    let (right, at) = expr(alloc, levels, at)?;
+    let at = expect(at, b")")?;
     let binary = Expr::Binary(op, Box::new(alloc, left)?, Box::new(alloc, right)?);
-    Ok((binary, notes, rest))
+    Ok((binary, at))
 }

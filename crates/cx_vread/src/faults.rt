@@ -1,6 +1,9 @@
 //! Why a text is not read.
 
-ghost use Rattle.std.specs.Prelude.{◌≡◌};
+ghost use Rattle.std.specs.Prelude.{◌≡◌, true, false};
+ghost use Rattle.cx_vread.specs.Answers.{is_clean};
+ghost use Rattle.cx_vread.specs.declared.faults.Fault.TheVariants as faults;
+ghost use Rattle.cx_vread.specs.declared.faults.ReadRefusal.TheVariants as refusals;
 
 use cx_text::Memory;
 use std::alloc::{AllocError, AllocFailed};
@@ -21,6 +24,8 @@ pub enum ReadRefusal {
 }
 
 impl From<Memory> for ReadRefusal {
+    ghost from_gives = { λ _ e. e ≡ refusals.Memory };
+
     fn from(_e: Memory) -> ReadRefusal {
         ReadRefusal::Memory
     }
@@ -34,18 +39,24 @@ pub enum Fault {
 }
 
 impl From<Memory> for Fault {
+    ghost from_gives = { λ _ e. e ≡ faults.Memory };
+
     fn from(_e: Memory) -> Fault {
         Fault::Memory
     }
 }
 
 impl From<AllocError> for Fault {
+    ghost from_gives = { λ _ e. e ≡ faults.Memory };
+
     fn from(_e: AllocError) -> Fault {
         Fault::Memory
     }
 }
 
 impl<T: Drop> From<AllocFailed<T>> for Fault {
+    ghost from_gives = { λ _ e. e ≡ faults.Memory };
+
     fn from(_e: AllocFailed<T>) -> Fault {
         Fault::Memory
     }
@@ -62,7 +73,9 @@ pub struct Notes {
 
 impl Notes {
     /// No such part.
-    pub fn new() -> Notes {
+    pub fn new() -> Notes
+        ensures { is_clean result ≡ true }
+    {
         Notes {
             name: None,
             width: None,
@@ -71,22 +84,45 @@ impl Notes {
     }
 
     /// Whether there is no such part.
-    pub fn is_clean(&self) -> bool {
+    pub fn is_clean(self) -> bool
+        ensures { result ≡ is_clean self }
+    {
         self.name.is_none() && self.width.is_none() && self.limit.is_none()
     }
 
     /// Notes a part that breaks a rule on names.
-    pub fn note_name(&mut self, left: usize) {
-        self.name = self.name.or(Some(left));
+    pub fn with_name(self, left: usize) -> Notes
+        ensures { is_clean result ≡ false }
+    {
+        let first = self.name.unwrap_or(left);
+        Notes {
+            name: Some(first),
+            width: self.width,
+            limit: self.limit,
+        }
     }
 
     /// Notes a part that breaks a rule on widths.
-    pub fn note_width(&mut self, left: usize) {
-        self.width = self.width.or(Some(left));
+    pub fn with_width(self, left: usize) -> Notes
+        ensures { is_clean result ≡ false }
+    {
+        let first = self.width.unwrap_or(left);
+        Notes {
+            name: self.name,
+            width: Some(first),
+            limit: self.limit,
+        }
     }
 
     /// Notes a part that breaks a limit.
-    pub fn note_limit(&mut self, left: usize) {
-        self.limit = self.limit.or(Some(left));
+    pub fn with_limit(self, left: usize) -> Notes
+        ensures { is_clean result ≡ false }
+    {
+        let first = self.limit.unwrap_or(left);
+        Notes {
+            name: self.name,
+            width: self.width,
+            limit: Some(first),
+        }
     }
 }

@@ -1,194 +1,208 @@
-//! The lines of a module's parts.
+//! The lines of ports, declarations and assigns.
 
-use crate::exprs::expr;
-use crate::faults::{Fault, Notes};
-use crate::names::{begins, expect, name, next_is, word};
-use crate::numbers::{bounds, number, small_number};
+ghost use Rattle.std.specs.Prelude.{◌≡◌, [], ◌∷◌, codes, map};
+ghost use Rattle.cx_vtree.specs.PlainParts.{plain_port, plain_decl, plain_assign};
+ghost use Rattle.cx_vread.specs.Answers.{Gives, place_of};
+ghost use Rattle.cx_vread.specs.Places.{begins, many, with_front};
+ghost use Rattle.cx_vread.specs.Parts as parts;
+
+use crate::exprs::whole_expr;
+use crate::faults::Fault;
+use crate::names::name;
+use crate::numbers::{bounds, length};
+use crate::places::{At, begins, expect};
 use cx_text::Name;
-use cx_vtree::{Conn, Decl, Expr, External, Instance, ModulePort, NetAssign};
+use cx_vtree::{Decl, ModulePort, NetAssign};
 use std::alloc::Global;
 
-/// Levels of nesting that are read into a tree. They are more than the limit, so that what stands on a line that breaks
-/// it is looked at too.
-const LEVELS: u8 = 128;
-
-/// An expression with all levels of nesting before it.
-pub fn whole_expr<'a>(
-    alloc: Global,
-    notes: &mut Notes,
-    bytes: &'a [u8],
-) -> Result<(Expr, &'a [u8]), Fault> {
-    let (e, more, rest) = expr(alloc, *notes, LEVELS, bytes)?;
-    *notes = more;
-    Ok((e, rest))
-}
-
-/// A size: one that no `u64` holds is noted, and the greatest stands for it.
-fn size<'a>(notes: &mut Notes, bytes: &'a [u8]) -> Result<(u64, &'a [u8]), Fault> {
-    let (n, rest) = number(bytes)?;
-    match n {
-        Some(n) => Ok((n, rest)),
-        None => {
-            notes.note_name(bytes.len());
-            Ok((u64::MAX, rest))
-        }
-    }
-}
-
-/// The sizes of a memory after the first, at most three.
-fn more_sizes<'a>(
-    notes: &mut Notes,
-    sizes: &mut Vec<u64>,
-    bytes: &'a [u8],
-) -> Result<&'a [u8], Fault> {
-    let mut rest = bytes;
-    for _ in 0..3u8 {
-        if !next_is(rest, b' ') {
-            break;
-        }
-        let (n, after) = size(notes, expect(rest, b" ")?)?;
-        sizes.push(n)?;
-        rest = after;
-    }
-    Ok(rest)
-}
-
-/// The line of an external memory.
-pub fn external<'a>(
-    alloc: Global,
-    notes: &mut Notes,
-    bytes: &'a [u8],
-) -> Result<(External, &'a [u8]), Fault> {
-    let rest = expect(bytes, b"// external ")?;
-    let (name_of, rest) = word(alloc, rest)?;
-    let (instance, rest) = name(alloc, expect(rest, b" ")?)?;
-    let (width, rest) = small_number(notes, expect(rest, b" ")?)?;
-    let (first, rest) = size(notes, expect(rest, b" ")?)?;
-    let mut sizes = Vec::new(alloc);
-    sizes.push(first)?;
-    let rest = more_sizes(notes, &mut sizes, rest)?;
-    let rest = expect(rest, b"\n")?;
-    let e = External {
-        name: name_of,
-        instance,
-        width,
-        sizes,
-    };
-    Ok((e, rest))
-}
-
-/// A port, up to its name.
-pub fn port<'a>(
-    alloc: Global,
-    notes: &mut Notes,
-    bytes: &'a [u8],
-) -> Result<(ModulePort, &'a [u8]), Fault> {
-    let output = begins(bytes, b"  o");
-    let rest = if output {
-        expect(bytes, b"  output wire ")?
-    } else {
-        expect(bytes, b"  input wire ")?
-    };
-    let (width, rest) = bounds(notes, rest)?;
-    let (name_of, rest) = name(alloc, rest)?;
-    let p = ModulePort {
+/// A port, from its width to its name.
+fn port_of<'a>(alloc: Global, output: bool, at: At<'a>) -> Result<(ModulePort, At<'a>), Fault>
+    ensures { Gives (λ x. (plain_port x.0, place_of x.1)) result (parts.port_by output (place_of at.entry)) }
+{
+    let (width, at) = bounds(at)?;
+    let (name, at) = name(alloc, at)?;
+    let port = ModulePort {
         output,
-        name: name_of,
+        name,
         width,
     };
-    Ok((p, rest))
+    Ok((port, at))
 }
 
-/// The end of the line of a register, which is an array where a length stands.
-fn register<'a>(
-    notes: &mut Notes,
-    bytes: &'a [u8],
-    name: Name,
-    width: u8,
-) -> Result<(Decl, &'a [u8]), Fault> {
-    if next_is(bytes, b';') {
-        return Ok((Decl::Register { name, width }, expect(bytes, b";\n")?));
+/// A port, to its name.
+fn port<'a>(alloc: Global, at: At<'a>) -> Result<(ModulePort, At<'a>), Fault>
+    ensures { Gives (λ x. (plain_port x.0, place_of x.1)) result (parts.port_at (place_of at.entry)) }
+{
+    if begins(at, b"  output wire ") {
+        let at = expect(at, b"  output wire ")?;
+        port_of(alloc, true, at)
+    } else {
+        let at = expect(at, b"  input wire ")?;
+        port_of(alloc, false, at)
     }
-    let last = expect(bytes, b" [0:")?;
-    let (n, rest) = number(last)?;
-    let length = match n.and_then(|n| n.checked_add(1)) {
-        Some(length) => length,
-        None => {
-            notes.note_limit(last.len());
-            u64::MAX
+}
+
+/// A port after the first, from the comma before it on.
+fn next_port<'a>(alloc: Global, at: At<'a>) -> Result<(ModulePort, At<'a>), Fault>
+    ensures { Gives (λ x. (plain_port x.0, place_of x.1)) result (parts.next_port_at (place_of at.entry)) }
+{
+    let at = expect(at, b",\n")?;
+    port(alloc, at)
+}
+
+/// The ports after the first, behind it.
+fn more_ports<'a>(
+    alloc: Global,
+    first: ModulePort,
+    at: At<'a>,
+) -> Result<(Vec<ModulePort>, At<'a>), Fault>
+    ensures { Gives (λ x. (map plain_port x.0.items, place_of x.1)) result (with_front (plain_port first ∷ []) (parts.more_ports_at (place_of at.entry))) }
+{
+    let mut list = Vec::new(alloc);
+    list.push(first)?;
+    let mut here = at;
+    let mut left = at.rest.len();
+    while left > 0 {
+        if !begins(here, b",") {
+            return Ok((list, here));
         }
-    };
-    let rest = expect(rest, b"];\n")?;
-    let d = Decl::Array {
+        let (item, after) = next_port(alloc, here)?;
+        list.push(item)?;
+        here = after;
+        left -= 1;
+    }
+    Ok((list, here))
+}
+
+/// The lines of ports, and the line that ends them.
+pub fn ports<'a>(alloc: Global, at: At<'a>) -> Result<(Vec<ModulePort>, At<'a>), Fault>
+    ensures { Gives (λ x. (map plain_port x.0.items, place_of x.1)) result (parts.ports_at (place_of at.entry)) }
+{
+    let (first, at) = port(alloc, at)?;
+    let (ports, at) = more_ports(alloc, first, at)?;
+    let at = expect(at, b"\n);\n")?;
+    Ok((ports, at))
+}
+
+/// The end of the line of an array, from its length on.
+fn array<'a>(name: Name, width: u8, at: At<'a>) -> Result<(Decl, At<'a>), Fault>
+    ensures { Gives (λ x. (plain_decl x.0, place_of x.1)) result (parts.array_by name width (place_of at.entry)) }
+{
+    let at = expect(at, b" [0:")?;
+    let (length, at) = length(at)?;
+    let at = expect(at, b"];\n")?;
+    let decl = Decl::Array {
         name,
         width,
         length,
     };
-    Ok((d, rest))
+    Ok((decl, at))
+}
+
+/// The end of the line of a register, which is an array where a length stands.
+fn register_of<'a>(name: Name, width: u8, at: At<'a>) -> Result<(Decl, At<'a>), Fault>
+    ensures { Gives (λ x. (plain_decl x.0, place_of x.1)) result (parts.register_by name width (place_of at.entry)) }
+{
+    if begins(at, b";") {
+        let at = expect(at, b";\n")?;
+        Ok((Decl::Register { name, width }, at))
+    } else {
+        array(name, width, at)
+    }
+}
+
+/// The line of a register or an array, from its width on.
+fn register<'a>(alloc: Global, at: At<'a>) -> Result<(Decl, At<'a>), Fault>
+    ensures { Gives (λ x. (plain_decl x.0, place_of x.1)) result (parts.register_at (place_of at.entry)) }
+{
+    let (width, at) = bounds(at)?;
+    let (name, at) = name(alloc, at)?;
+    register_of(name, width, at)
+}
+
+/// The line of a wire, from its width on.
+fn wire<'a>(alloc: Global, at: At<'a>) -> Result<(Decl, At<'a>), Fault>
+    ensures { Gives (λ x. (plain_decl x.0, place_of x.1)) result (parts.wire_at (place_of at.entry)) }
+{
+    let (width, at) = bounds(at)?;
+    let (name, at) = name(alloc, at)?;
+    let at = expect(at, b";\n")?;
+    Ok((Decl::Wire { name, width }, at))
 }
 
 /// The line of a declaration.
-pub fn decl<'a>(
-    alloc: Global,
-    notes: &mut Notes,
-    bytes: &'a [u8],
-) -> Result<(Decl, &'a [u8]), Fault> {
-    if begins(bytes, b"  reg ") {
-        let (width, rest) = bounds(notes, expect(bytes, b"  reg ")?)?;
-        let (name_of, rest) = name(alloc, rest)?;
-        return register(notes, rest, name_of, width);
+fn decl<'a>(alloc: Global, at: At<'a>) -> Result<(Decl, At<'a>), Fault>
+    ensures { Gives (λ x. (plain_decl x.0, place_of x.1)) result (parts.decl_at (place_of at.entry)) }
+{
+    if begins(at, b"  reg ") {
+        let at = expect(at, b"  reg ")?;
+        register(alloc, at)
+    } else {
+        let at = expect(at, b"  wire ")?;
+        wire(alloc, at)
     }
-    let (width, rest) = bounds(notes, expect(bytes, b"  wire ")?)?;
-    let (name_of, rest) = name(alloc, rest)?;
-    let d = Decl::Wire {
-        name: name_of,
-        width,
-    };
-    Ok((d, expect(rest, b";\n")?))
+}
+
+/// Whether the line of a declaration begins here.
+fn is_decl(at: At) -> bool
+    ensures { result ≡ parts.is_decl (place_of at.entry) }
+{
+    begins(at, b"  wire ") || begins(at, b"  reg ")
+}
+
+/// The lines of declarations.
+pub fn decls<'a>(alloc: Global, at: At<'a>) -> Result<(Vec<Decl>, At<'a>), Fault>
+    ensures { Gives (λ x. (map plain_decl x.0.items, place_of x.1)) result (parts.decls_at (place_of at.entry)) }
+{
+    let mut list = Vec::new(alloc);
+    let mut here = at;
+    let mut left = at.rest.len();
+    while left > 0 {
+        if !is_decl(here) {
+            return Ok((list, here));
+        }
+        let (item, after) = decl(alloc, here)?;
+        list.push(item)?;
+        here = after;
+        left -= 1;
+    }
+    Ok((list, here))
+}
+
+/// The end of the line of an assign, from its value on.
+pub fn assigned<'a>(alloc: Global, name: Name, at: At<'a>) -> Result<(NetAssign, At<'a>), Fault>
+    ensures { Gives (λ x. (plain_assign x.0, place_of x.1)) result (parts.assigned_by name (place_of at.entry)) }
+{
+    let (value, at) = whole_expr(alloc, at)?;
+    let at = expect(at, b";\n")?;
+    Ok((NetAssign { name, value }, at))
 }
 
 /// The line of an assign.
-pub fn assign<'a>(
-    alloc: Global,
-    notes: &mut Notes,
-    bytes: &'a [u8],
-) -> Result<(NetAssign, &'a [u8]), Fault> {
-    let (name_of, rest) = name(alloc, expect(bytes, b"  assign ")?)?;
-    let (value, rest) = whole_expr(alloc, notes, expect(rest, b" = ")?)?;
-    let a = NetAssign {
-        name: name_of,
-        value,
-    };
-    Ok((a, expect(rest, b";\n")?))
+fn assign<'a>(alloc: Global, at: At<'a>) -> Result<(NetAssign, At<'a>), Fault>
+    ensures { Gives (λ x. (plain_assign x.0, place_of x.1)) result (parts.assign_at (place_of at.entry)) }
+{
+    let at = expect(at, b"  assign ")?;
+    let (name, at) = name(alloc, at)?;
+    let at = expect(at, b" = ")?;
+    assigned(alloc, name, at)
 }
 
-/// A connection.
-fn conn(alloc: Global, bytes: &[u8]) -> Result<(Conn, &[u8]), Fault> {
-    let (port, rest) = name(alloc, expect(bytes, b".")?)?;
-    let (net, rest) = name(alloc, expect(rest, b"(")?)?;
-    Ok((Conn { port, net }, expect(rest, b")")?))
-}
-
-/// The line of an instance.
-pub fn instance(alloc: Global, bytes: &[u8]) -> Result<(Instance, &[u8]), Fault> {
-    let (module, rest) = name(alloc, expect(bytes, b"  ")?)?;
-    let (name_of, rest) = name(alloc, expect(rest, b" ")?)?;
-    let (first, after) = conn(alloc, expect(rest, b"(")?)?;
-    let mut conns = Vec::new(alloc);
-    conns.push(first)?;
-    let mut rest = after;
-    for _ in 0..bytes.len() {
-        if !next_is(rest, b',') {
-            break;
+/// The lines of assigns.
+pub fn assigns<'a>(alloc: Global, at: At<'a>) -> Result<(Vec<NetAssign>, At<'a>), Fault>
+    ensures { Gives (λ x. (map plain_assign x.0.items, place_of x.1)) result (parts.assigns_at (place_of at.entry)) }
+{
+    let mut list = Vec::new(alloc);
+    let mut here = at;
+    let mut left = at.rest.len();
+    while left > 0 {
+        if !begins(here, b"  assign ") {
+            return Ok((list, here));
         }
-        let (c, after) = conn(alloc, expect(rest, b", ")?)?;
-        conns.push(c)?;
-        rest = after;
+        let (item, after) = assign(alloc, here)?;
+        list.push(item)?;
+        here = after;
+        left -= 1;
     }
-    let i = Instance {
-        module,
-        name: name_of,
-        conns,
-    };
-    Ok((i, expect(rest, b");\n")?))
+    Ok((list, here))
 }

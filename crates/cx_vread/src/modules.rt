@@ -1,142 +1,88 @@
 //! Modules.
 
+ghost use Rattle.std.specs.Prelude.{◌≡◌, [], ◌∷◌, map};
+ghost use Rattle.cx_vtree.specs.PlainParts.{plain_port, plain_module, plain_modules};
+ghost use Rattle.cx_vread.specs.Answers.{Gives, place_of};
+ghost use Rattle.cx_vread.specs.Places.{many, with_front};
+ghost use Rattle.cx_vread.specs.Parts as parts;
+
 use crate::edges::edge;
-use crate::faults::{Fault, Notes};
-use crate::lines::{assign, decl, external, instance, port};
-use crate::names::{begins, expect, name, next_is};
-use cx_vtree::{Decl, External, Instance, Module, ModulePort, NetAssign};
+use crate::faults::Fault;
+use crate::instances::instances;
+use crate::lines::{assigns, decls, ports};
+use crate::names::name;
+use crate::places::{At, expect};
+use cx_text::Name;
+use cx_vtree::{Module, ModulePort};
 use std::alloc::Global;
 
-/// The lines of external memories.
-pub fn externals<'a>(
-    alloc: Global,
-    notes: &mut Notes,
-    bytes: &'a [u8],
-) -> Result<(Vec<External>, &'a [u8]), Fault> {
-    let mut list = Vec::new(alloc);
-    let mut rest = bytes;
-    for _ in 0..bytes.len() {
-        if !next_is(rest, b'/') {
-            break;
-        }
-        let (e, after) = external(alloc, notes, rest)?;
-        list.push(e)?;
-        rest = after;
-    }
-    Ok((list, rest))
-}
-
-/// The lines of ports, and the line that ends them.
-fn ports<'a>(
-    alloc: Global,
-    notes: &mut Notes,
-    bytes: &'a [u8],
-) -> Result<(Vec<ModulePort>, &'a [u8]), Fault> {
-    let mut list = Vec::new(alloc);
-    let mut rest = bytes;
-    for _ in 0..bytes.len() {
-        let (p, after) = port(alloc, notes, rest)?;
-        list.push(p)?;
-        rest = after;
-        if !next_is(rest, b',') {
-            break;
-        }
-        rest = expect(rest, b",\n")?;
-    }
-    let rest = expect(rest, b"\n")?;
-    Ok((list, expect(rest, b");\n")?))
-}
-
-/// The lines of declarations.
-fn decls<'a>(
-    alloc: Global,
-    notes: &mut Notes,
-    bytes: &'a [u8],
-) -> Result<(Vec<Decl>, &'a [u8]), Fault> {
-    let mut list = Vec::new(alloc);
-    let mut rest = bytes;
-    for _ in 0..bytes.len() {
-        if !begins(rest, b"  wire ") && !begins(rest, b"  reg ") {
-            break;
-        }
-        let (d, after) = decl(alloc, notes, rest)?;
-        list.push(d)?;
-        rest = after;
-    }
-    Ok((list, rest))
-}
-
-/// The lines of assigns.
-fn assigns<'a>(
-    alloc: Global,
-    notes: &mut Notes,
-    bytes: &'a [u8],
-) -> Result<(Vec<NetAssign>, &'a [u8]), Fault> {
-    let mut list = Vec::new(alloc);
-    let mut rest = bytes;
-    for _ in 0..bytes.len() {
-        if !begins(rest, b"  assign ") {
-            break;
-        }
-        let (a, after) = assign(alloc, notes, rest)?;
-        list.push(a)?;
-        rest = after;
-    }
-    Ok((list, rest))
-}
-
-/// The lines of instances.
-fn instances(alloc: Global, bytes: &[u8]) -> Result<(Vec<Instance>, &[u8]), Fault> {
-    let mut list = Vec::new(alloc);
-    let mut rest = bytes;
-    for _ in 0..bytes.len() {
-        if !begins(rest, b"  ") || begins(rest, b"  always ") {
-            break;
-        }
-        let (i, after) = instance(alloc, rest)?;
-        list.push(i)?;
-        rest = after;
-    }
-    Ok((list, rest))
+/// The first line of a module, and its ports.
+fn head<'a>(alloc: Global, at: At<'a>) -> Result<((Name, Vec<ModulePort>), At<'a>), Fault>
+    ensures { Gives (λ x. ((x.0.0, map plain_port x.0.1.items), place_of x.1)) result (parts.head_at (place_of at.entry)) }
+{
+    let at = expect(at, b"module ")?;
+    let (name, at) = name(alloc, at)?;
+    let at = expect(at, b"(\n")?;
+    let (ports, at) = ports(alloc, at)?;
+    Ok(((name, ports), at))
 }
 
 /// The lines of a module.
-fn whole_module<'a>(
-    alloc: Global,
-    notes: &mut Notes,
-    bytes: &'a [u8],
-) -> Result<(Module, &'a [u8]), Fault> {
-    let (name_of, rest) = name(alloc, expect(bytes, b"module ")?)?;
-    let (ports, rest) = ports(alloc, notes, expect(rest, b"(\n")?)?;
-    let (decls, rest) = decls(alloc, notes, rest)?;
-    let (assigns, rest) = assigns(alloc, notes, rest)?;
-    let (instances, rest) = instances(alloc, rest)?;
-    let (edge, rest) = edge(alloc, notes, rest)?;
-    let rest = expect(rest, b"endmodule\n")?;
-    let m = Module {
-        name: name_of,
+fn module<'a>(alloc: Global, at: At<'a>) -> Result<(Module, At<'a>), Fault>
+    ensures { Gives (λ x. (plain_module x.0, place_of x.1)) result (parts.module_at (place_of at.entry)) }
+{
+    let ((name, ports), at) = head(alloc, at)?;
+    let (decls, at) = decls(alloc, at)?;
+    let (assigns, at) = assigns(alloc, at)?;
+    let (instances, at) = instances(alloc, at)?;
+    let (edge, at) = edge(alloc, at)?;
+    let at = expect(at, b"endmodule\n")?;
+    let module = Module {
+        name,
         ports,
         decls,
         assigns,
         instances,
         edge,
     };
-    Ok((m, rest))
+    Ok((module, at))
+}
+
+/// Whether bytes are left.
+fn is_left(at: At) -> bool
+    ensures { result ≡ parts.is_left (place_of at.entry) }
+{
+    at.rest.len() != 0
+}
+
+/// The modules after the first, behind it, to the end of the text.
+fn more_modules<'a>(
+    alloc: Global,
+    first: Module,
+    at: At<'a>,
+) -> Result<(Vec<Module>, At<'a>), Fault>
+    ensures { Gives (λ x. (plain_modules x.0.items, place_of x.1)) result (with_front (plain_module first ∷ []) (parts.more_modules_at (place_of at.entry))) }
+{
+    let mut list = Vec::new(alloc);
+    list.push(first)?;
+    let mut here = at;
+    let mut left = at.rest.len();
+    while left > 0 {
+        if !is_left(here) {
+            return Ok((list, here));
+        }
+        let (item, after) = module(alloc, here)?;
+        list.push(item)?;
+        here = after;
+        left -= 1;
+    }
+    Ok((list, here))
 }
 
 /// The lines of all modules, to the end of the text.
-pub fn modules(alloc: Global, notes: &mut Notes, bytes: &[u8]) -> Result<Vec<Module>, Fault> {
-    let mut list = Vec::new(alloc);
-    let (first, after) = whole_module(alloc, notes, bytes)?;
-    list.push(first)?;
-    let mut rest = after;
-    for _ in 0..bytes.len() {
-        if rest.is_empty() {
-            break;
-        }
-        let (m, after) = whole_module(alloc, notes, rest)?;
-        list.push(m)?;
-        rest = after;
-    }
-    Ok(list)
+pub fn modules<'a>(alloc: Global, at: At<'a>) -> Result<(Vec<Module>, At<'a>), Fault>
+    ensures { Gives (λ x. (plain_modules x.0.items, place_of x.1)) result (parts.modules_at (place_of at.entry)) }
+{
+    let (first, at) = module(alloc, at)?;
+    more_modules(alloc, first, at)
 }

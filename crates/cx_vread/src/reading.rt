@@ -1,12 +1,21 @@
 //! The reading of a whole text.
 
-ghost use Rattle.std.specs.Prelude.{◌≡◌, IfOk};
+ghost use Rattle.std.specs.Prelude.{◌≡◌, ◌↔◌, true, IfOk, IsTrue};
+ghost use Rattle.cx_vtree.specs.Layout.{is_laid_out};
+ghost use Rattle.cx_vtree.specs.Plain.{PlainSource};
 ghost use Rattle.cx_vtree.specs.PlainSources.{plain_source};
+ghost use Rattle.cx_vtree.specs.Sound.{is_sound};
+ghost use Rattle.cx_vtree.specs.Sources.{source_of};
+ghost use Rattle.cx_vread.specs.Answers.{Gives, is_clean, place_of};
+ghost use Rattle.cx_vread.specs.Parts.{source_at};
+ghost use Rattle.cx_vread.specs.Holds.{is_held};
+ghost use Rattle.cx_vread.specs.ReadAnswers.{Answers, ReadAs, Stopped, refusal};
 ghost use Rattle.cx_vtree.specs.Spelling.{text_of};
 
+use crate::externals::externals;
 use crate::faults::{Fault, Notes, ReadRefusal};
-use crate::modules::{externals, modules};
-use cx_text::Memory;
+use crate::modules::modules;
+use crate::places::At;
 use cx_vscope::is_laid_out;
 use cx_vsound::{Break, check};
 use cx_vtree::{External, Module, Source};
@@ -78,7 +87,9 @@ fn first(a: Option<ReadRefusal>, b: Option<ReadRefusal>) -> Option<ReadRefusal> 
 }
 
 /// A break as a refusal.
-fn refusal_of(found: Break) -> ReadRefusal {
+fn refusal_of(found: Break) -> ReadRefusal
+    ensures { result ≡ refusal found }
+{
     match found {
         Break::Name(line) => ReadRefusal::Name(line),
         Break::Width(line) => ReadRefusal::Width(line),
@@ -100,15 +111,37 @@ fn noted(text: &[u8], notes: Notes) -> Option<ReadRefusal> {
     first(first(name, width), limit)
 }
 
-/// The parts of a text. Parts that no tree holds are noted, and others stand for them.
-fn parts(
+/// The parts of a text, and where reading ends. Parts that no tree holds are noted, and others stand for them.
+fn parts<'a>(alloc: Global, at: At<'a>) -> Result<((Vec<External>, Vec<Module>), At<'a>), Fault>
+    ensures { Gives (λ x. (source_of x.0.0.items x.0.1.items, place_of x.1)) result (source_at (place_of at.entry)) }
+{
+    let (externals, at) = externals(alloc, at)?;
+    let (modules, at) = modules(alloc, at)?;
+    Ok(((externals, modules), at))
+}
+
+/// Keeps parts that some text spells, where they break no rule.
+#[tactic(auto, using(crate::proofs::Checks::sound_by, crate::proofs::Checks::break_answers))]
+fn checked(
     alloc: Global,
-    notes: &mut Notes,
-    text: &[u8],
-) -> Result<(Vec<External>, Vec<Module>), Fault> {
-    let (es, rest) = externals(alloc, notes, text)?;
-    let ms = modules(alloc, notes, rest)?;
-    Ok((es, ms))
+    externals: Vec<External>,
+    modules: Vec<Module>,
+) -> Result<Source, ReadRefusal>
+    requires { is_laid_out (source_of externals.items modules.items) ≡ true }
+    ensures value { IfOk result (λ source. plain_source source ≡ source_of externals.items modules.items) }
+    ensures answer { Answers (source_of externals.items modules.items) result }
+{
+    match check(alloc, &externals, &modules)? {
+        Some(found) => Err(refusal_of(found)),
+        None => Ok(Source::new(externals, modules)),
+    }
+}
+
+/// Whether two texts are one.
+fn is_same(one: &[u8], other: &[u8]) -> bool
+    ensures { IsTrue result ↔ (one.now ≡ other.now) }
+{
+    one == other
 }
 
 /// Keeps parts that spell the text, where they break no rule.
@@ -118,44 +151,71 @@ fn kept(
     externals: Vec<External>,
     modules: Vec<Module>,
 ) -> Result<Source, ReadRefusal>
-    ensures { IfOk result (λ source. text.now ≡ text_of (plain_source source)) }
+    ensures value { IfOk result (λ source. text.now ≡ text_of (plain_source source)) }
+    ensures answer { text.now ≡ text_of (source_of externals.items modules.items) → is_laid_out (source_of externals.items modules.items) ≡ true → Answers (source_of externals.items modules.items) result }
 {
     let spelled = spell(alloc, &externals, &modules)?;
-    if spelled.as_slice() != text || !is_laid_out(&externals, &modules) {
+    if !is_same(&spelled, text) {
         return Err(ReadRefusal::Syntax(first_difference(text, &spelled)));
     }
-    match check(alloc, &externals, &modules)? {
-        Some(found) => Err(refusal_of(found)),
-        None => Ok(Source::new(externals, modules)),
+    if !is_laid_out(&externals, &modules) {
+        return Err(ReadRefusal::Syntax(first_difference(text, &spelled)));
     }
+    checked(alloc, externals, modules)
+}
+
+/// The refusal of a text in which reading stopped.
+fn stopped(text: &[u8], fault: Fault) -> ReadRefusal
+    ensures { Stopped fault result }
+{
+    match fault {
+        Fault::Syntax(left) => ReadRefusal::Syntax(line_at(text, left)),
+        Fault::Memory => ReadRefusal::Memory,
+    }
+}
+
+/// Keeps parts that spell the text, where none was noted and they break no rule.
+fn kept_or_noted(
+    alloc: Global,
+    text: &[u8],
+    notes: Notes,
+    externals: Vec<External>,
+    modules: Vec<Module>,
+) -> Result<Source, ReadRefusal>
+    ensures value { IfOk result (λ source. text.now ≡ text_of (plain_source source)) }
+    ensures answer { is_clean notes ≡ true → text.now ≡ text_of (source_of externals.items modules.items) → is_laid_out (source_of externals.items modules.items) ≡ true → Answers (source_of externals.items modules.items) result }
+{
+    if notes.is_clean() {
+        return kept(alloc, text, externals, modules);
+    }
+    let found = check(alloc, &externals, &modules)?;
+    Err(earliest(text, notes, found))
 }
 
 /// The source that a text spells.
 pub fn read(alloc: Global, text: &[u8]) -> Result<Source, ReadRefusal>
     // What is read is spelled so. That it is sound stands in its type.
     ensures value { IfOk result (λ source. text.now ≡ text_of (plain_source source)) }
+    // A text that spells a sound source is read as it, unless memory is refused.
+    ensures sound { (s : PlainSource) → text.now ≡ text_of s → is_sound s ≡ true → ReadAs s result }
+    // A text that spells a source that a tree holds is read as it, or refused for its first break.
+    ensures spelled { (s : PlainSource) → text.now ≡ text_of s → is_laid_out s ≡ true → is_held s ≡ true → Answers s result }
 {
-    let mut notes = Notes::new();
-    match parts(alloc, &mut notes, text) {
-        Err(Fault::Syntax(left)) => Err(ReadRefusal::Syntax(line_at(text, left))),
-        Err(Fault::Memory) => Err(ReadRefusal::Memory),
-        Ok((externals, modules)) => match noted(text, notes) {
-            None => kept(alloc, text, externals, modules),
-            Some(broken) => Err(earliest(alloc, broken, &externals, &modules)?),
-        },
+    let notes = Notes::new();
+    let start = At { rest: text, notes };
+    match parts(alloc, start) {
+        Err(fault) => Err(stopped(text, fault)),
+        Ok(found) => {
+            let ((externals, modules), end) = found;
+            kept_or_noted(alloc, text, end.notes, externals, modules)
+        }
     }
 }
 
-/// The first of a noted break and of what the other parts break.
-fn earliest(
-    alloc: Global,
-    broken: ReadRefusal,
-    externals: &[External],
-    modules: &[Module],
-) -> Result<ReadRefusal, Memory> {
-    let found = check(alloc, externals, modules)?;
-    match first(Some(broken), found.map(refusal_of)) {
-        Some(refusal) => Ok(refusal),
-        None => Ok(broken),
+/// The first of what was noted and of what the other parts break.
+fn earliest(text: &[u8], notes: Notes, found: Option<Break>) -> ReadRefusal {
+    match first(noted(text, notes), found.map(refusal_of)) {
+        Some(refusal) => refusal,
+        None => ReadRefusal::Syntax(line_at(text, 0)),
     }
 }

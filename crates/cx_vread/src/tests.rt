@@ -1,4 +1,4 @@
-//! What no clause says: that a text is read at all, and the line and kind of a refusal.
+//! What no clause says: that ample memory is not refused, and the line that `Syntax` tells.
 
 use crate::{ReadRefusal, read};
 use cx_vwrite::write;
@@ -44,6 +44,19 @@ fn refusals_tell_the_line(rt: HostRuntime) {
                 read(rt.alloc(), text.as_bytes()).err() == Some(want),
                 "{rest}"
             );
+        }
+    }
+}
+
+#[test]
+fn cut_texts_are_refused_where_they_end(rt: HostRuntime) {
+    let text = COUNTER.as_bytes();
+    let mut line = 1u32;
+    for n in 0..text.len() {
+        let cut = read(rt.alloc(), &text[..n]).err();
+        assert!(rt; cut == Some(ReadRefusal::Syntax(line)), "{n}");
+        if text[n] == b'\n' {
+            line = line.saturating_add(1);
         }
     }
 }
