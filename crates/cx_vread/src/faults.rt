@@ -6,7 +6,7 @@ ghost use Rattle.cx_vread.specs.declared.faults.Fault.TheVariants as faults;
 ghost use Rattle.cx_vread.specs.declared.faults.ReadRefusal.TheVariants as refusals;
 
 use cx_text::Memory;
-use std::alloc::{AllocError, AllocFailed};
+use std::alloc::AllocFailed;
 
 /// Why `read` gives no source. Lines are counted from 1; from 2^32 - 1 on all are that one.
 #[derive(Clone, Copy, Debug, PartialEq, Eq)]
@@ -42,14 +42,6 @@ impl From<Memory> for Fault {
     ghost from_gives = { λ _ e. e ≡ faults.Memory };
 
     fn from(_e: Memory) -> Fault {
-        Fault::Memory
-    }
-}
-
-impl From<AllocError> for Fault {
-    ghost from_gives = { λ _ e. e ≡ faults.Memory };
-
-    fn from(_e: AllocError) -> Fault {
         Fault::Memory
     }
 }
