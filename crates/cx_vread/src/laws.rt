@@ -1,8 +1,0 @@
-//! What follows from the definitions of a sound source and of one that a tree holds.
-
-ghost use Rattle.cx_vread.specs.Holds.{SoundIsHeld};
-
-/// A tree holds every sound source.
-pub fn sound_is_held()
-    ensures { SoundIsHeld }
-{}
