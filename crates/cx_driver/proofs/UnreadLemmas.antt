@@ -20,7 +20,7 @@ use Rattle.cx_parse.specs.Faults.{IsStop}
 use Rattle.cx_parse.proofs.Trees.{drop_back}
 use Rattle.cx_driver.specs.declared.stops.Stop.{Stop}
 use Rattle.cx_driver.specs.declared.stops.Stop.TheVariants as stops
-use Rattle.cx_driver.specs.Unread.{rule_of, name_at, TokensFault, unexpected, too_deep, StageOneFault, no_tokens, no_tree, HasTree, IsRead, IsNoToken, IsNoFile, IsNoTree, IsOfText, IsOfDesign}
+use Rattle.cx_driver.specs.Unread.{rule_of, name_at, TokensFault, unexpected, too_deep, StageOneFault, no_tokens, no_tree, HasTree, IsRead, IsNoToken, IsNoFile, IsNoTree, IsOfDesign}
 
 tokens_no_fault : {tokens : List Token} {fault : Diagnostic} (tree : PlainTree) → Parse tokens tree → TokensFault tokens fault → ⊥
 tokens_no_fault tree p (unexpected tokens front back u) = tree_expected tokens tree front back p u
@@ -50,14 +50,6 @@ one_stage_one (no_tokens text kind rule place first is) (no_tree _ tokens fault 
 one_stage_one (no_tree text tokens fault lexed f) (no_tokens _ kind rule place first is) = absurd (no_fault text tokens kind place lexed first)
 one_stage_one (no_tree text tokens a lexed f) (no_tree _ others b again g) = one_tokens_fault f (subst (λ ts. TokensFault ts b) (one_tokens text others tokens again lexed) g)
 
--- the fault of a text is what is told of it
-pub told_of_text : (text : List ℕ) (fault : Diagnostic) (stop : Stop) → IsOfText text stop → StageOneFault text fault → (stop ≡ stops.Memory) ⊎ (stop ≡ stops.Rule fault)
-told_of_text text fault (stops.Rule told) (inl s) k = inr (ap (λ f. stops.Rule f) (one_stage_one s k))
-told_of_text text fault (stops.Rule told) (inr r) k = absurd (read_no_fault r.0 k)
-told_of_text text fault (stops.Json data_fault) r k = absurd (read_no_fault r k)
-told_of_text text fault (stops.More budget) r k = absurd (read_no_fault r k)
-told_of_text text fault stops.Memory r k = inl refl
-
 -- what is told of a token that cannot be read
 pub no_token : (fault : LexFault) (rule : Rule) (bytes : List ℕ) (stop : Stop) → bytes ≡ [] → rule_of fault.kind ≡ Some rule →
     ((stop ≡ stops.Memory) ⊎ (stop ≡ stops.Rule (record { rule = rule; place = fault.place; name = bytes }))) → IsNoToken fault stop
@@ -85,30 +77,6 @@ read_tree_of text tokens (Err stop) lexed p = tt
 pub read_fault_of : (text : List ℕ) (tokens : List Token) (r : Result Tree Stop) → Lex text tokens → IfErr r (IsNoFile tokens) → IfErr r (IsNoTree text)
 read_fault_of text tokens (Ok tree) lexed k = tt
 read_fault_of text tokens (Err stop) lexed k = file_fault text tokens stop lexed k
-
--- what is told of a text without a tree, and of a design whose text is read
-pub told_no_tree : (text : List ℕ) (stop : Stop) → IsNoTree text stop → IsOfText text stop
-told_no_tree text (stops.Rule told) k = inl k
-told_no_tree text (stops.Json data_fault) k = absurd k
-told_no_tree text (stops.More budget) k = absurd k
-told_no_tree text stops.Memory k = tt
-
-told_of_design : (text : List ℕ) (stop : Stop) → IsRead text → IsOfDesign stop → IsOfText text stop
-told_of_design text (stops.Rule told) r k = inr (r, k)
-told_of_design text (stops.Json data_fault) r k = r
-told_of_design text (stops.More budget) r k = r
-told_of_design text stops.Memory r k = tt
-
-pub interp_tree : {X : Type 0} (text : List ℕ) (r : Result X Stop) → IsRead text → IfOk r (λ _. IsRead text)
-interp_tree text (Ok x) read = read
-interp_tree text (Err stop) read = tt
-
-pub interp_cause : {X : Type 0} (text : List ℕ) (r : Result X Stop) → IsRead text → IfErr r IsOfDesign → IfErr r (IsOfText text)
-interp_cause text (Ok x) read k = tt
-interp_cause text (Err stop) read k = told_of_design text stop read k
-
-pub interp_all : {X : Type 0} (text : List ℕ) (r : Result X Stop) → IsRead text → (fault : Diagnostic) → StageOneFault text fault → MatchResult r (λ _. ⊥) (λ stop. (stop ≡ stops.Memory) ⊎ (stop ≡ stops.Rule fault))
-interp_all text r read fault k = absurd (read_no_fault read k)
 
 fault_same : (rule : Rule) {place other : Place} {name bytes : List ℕ} → place ≡ other → name ≡ bytes → (let d : Diagnostic = record { rule = rule; place = place; name = name } in d ≡ record { rule = rule; place = other; name = bytes })
 fault_same rule there called = cc

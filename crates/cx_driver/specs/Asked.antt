@@ -1,8 +1,9 @@
 -- The command of the program's own type as what is asked for.
-use Rattle.cx_driver.specs.Commands.{Asked, interp}
+use Rattle.cx_driver.specs.Commands.{Asked, interp, check}
 use Rattle.cx_driver.specs.declared.commands.Command.{Command}
-use Rattle.cx_driver.specs.declared.commands.Command.TheVariants.{Interp}
+use Rattle.cx_driver.specs.declared.commands.Command.TheVariants.{Interp, Check}
 
 -- what a command asks for
 abbrev pub asked_of : Command → Asked
 asked_of (Interp design json budget) = interp design.now json.now budget
+asked_of (Check design) = check design.now

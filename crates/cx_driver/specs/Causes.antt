@@ -1,7 +1,12 @@
 -- Why a command has no answer, and the status that says so.
 use Rattle.std.specs.Prelude.{◌≡◌, ◌⊎◌, ℕ, List, Option, Contains}
 use Rattle.cx_outside.specs.Counts.{HasRisen}
-use Rattle.cx_outside.specs.Reading.{IsAbsent}
+use Rattle.cx_outside.specs.Reading.{Holds, HasLength, IsAbsent}
+use Rattle.cx_outside.specs.Writing.{grown, GrowsByPart}
+use Rattle.cx_driver.specs.Messages.{line_of}
+use Rattle.cx_driver.specs.Commands.{Asked, interp, check, files_of, design_of}
+use Rattle.cx_driver.specs.Texts.{IsRunStop, IsTextRefusal}
+use Rattle.cx_driver.specs.declared.stops.Stop.{Stop}
 use Rattle.cx_driver.specs.declared.refusals.Refusal.{Refusal}
 use Rattle.cx_driver.specs.declared.refusals.Refusal.TheVariants as refusals
 use Rattle.cx_driver.specs.declared.refusals.Status.{Status}
@@ -14,15 +19,29 @@ IsReadFault held before after file = HasRisen before after ⊎ IsAbsent held fil
 
 -- what is told of a file that was not read
 abbrev pub IsOfFile : Option (List ℕ → Option (List ℕ)) → ℕ → ℕ → List ℕ → Refusal → Type 0
-IsOfFile held before after file (refusals.TooLong named seen) = named.now ≡ file
+IsOfFile held before after file (refusals.TooLong named seen) = (named.now ≡ file) × HasLength held file seen
 IsOfFile held before after file (refusals.ReadFault named) = (named.now ≡ file) × IsReadFault held before after file
 IsOfFile held before after file (refusals.Stop stop) = stop ≡ stops.Memory
 
+-- want of memory
+abbrev pub IsMemory : Refusal → Type 0
+IsMemory (refusals.TooLong file seen) = ⊥
+IsMemory (refusals.ReadFault file) = ⊥
+IsMemory (refusals.Stop stop) = stop ≡ stops.Memory
+
+-- what stops a command is true of the text that its file of the design holds, where it is told what files hold
+abbrev pub IsCommandStop : Asked → List ℕ → Stop → Type 0
+IsCommandStop (interp design json budget) text stop = IsRunStop text stop
+IsCommandStop (check design) text stop = IsTextRefusal text stop
+
+abbrev pub StopsCommand : Asked → Option (List ℕ → Option (List ℕ)) → Stop → Type 0
+StopsCommand command held stop = (stop ≡ stops.Memory) ⊎ ((text : List ℕ) × Holds held (design_of command) text × IsCommandStop command text stop)
+
 -- what is told is true of the files of a command, whose count of faults was `before` and is `after`
-abbrev pub HasCause : List (List ℕ) → Option (List ℕ → Option (List ℕ)) → ℕ → ℕ → Refusal → Type 0
-HasCause files held before after (refusals.TooLong file seen) = Contains files file.now
-HasCause files held before after (refusals.ReadFault file) = Contains files file.now × IsReadFault held before after file.now
-HasCause files held before after (refusals.Stop stop) = Unit {0}
+abbrev pub HasCause : Asked → Option (List ℕ → Option (List ℕ)) → ℕ → ℕ → Refusal → Type 0
+HasCause command held before after (refusals.TooLong file seen) = Contains (files_of command) file.now × HasLength held file.now seen
+HasCause command held before after (refusals.ReadFault file) = Contains (files_of command) file.now × IsReadFault held before after file.now
+HasCause command held before after (refusals.Stop stop) = StopsCommand command held stop
 
 -- the status of a refusal
 abbrev pub status_of : Refusal → Status
@@ -32,3 +51,19 @@ status_of (refusals.Stop (stops.Rule diagnostic)) = statuses.Refused
 status_of (refusals.Stop (stops.Json fault)) = statuses.Refused
 status_of (refusals.Stop (stops.More budget)) = statuses.More
 status_of (refusals.Stop stops.Memory) = statuses.Memory
+
+-- the status says that a file or the budget does not serve
+abbrev pub IsRefusing : Status → Type 0
+IsRefusing status = (status ≡ statuses.Refused) ⊎ (status ≡ statuses.More) ⊎ (status ≡ statuses.ReadFault)
+
+-- the line was written, as far as it was taken: where it was not taken whole, the count of faults rose or stands at its last value
+abbrev pub ReceivesLine : Option (List ℕ) → ℕ → List ℕ → Option (List ℕ) → ℕ → Type 0
+ReceivesLine old before line new after = (new ≡ grown old line) ⊎ (HasRisen before after × GrowsByPart old line new)
+
+-- what a command tells where it has no answer: a refusal of this status that is true of its files, with its line
+pub record ToldWhy (command : Asked) (held : Option (List ℕ → Option (List ℕ))) (before after : ℕ) (status : Status) (err_old : Option (List ℕ)) (err_before : ℕ)
+    (err_new : Option (List ℕ)) (err_after : ℕ) : Type 0 where
+  pub refusal : Refusal
+  pub tells : status ≡ status_of refusal
+  pub is_true : HasCause command held before after refusal
+  pub line : ReceivesLine err_old err_before (line_of refusal) err_new err_after

@@ -78,13 +78,6 @@ IsNoTree text stops.Memory = Unit {0}
 abbrev pub IsRead : List ℕ → Type 0
 IsRead text = (tree : PlainTree) × HasTree text tree
 
--- what is told of a text: a rule that it breaks without a tree; each other answer comes only where it has a tree
-abbrev pub IsOfText : List ℕ → Stop → Type 0
-IsOfText text (stops.Rule fault) = StageOneFault text fault ⊎ (IsRead text × (fault.rule ≡ rules.LeftOut))
-IsOfText text (stops.Json data_fault) = IsRead text
-IsOfText text (stops.More budget) = IsRead text
-IsOfText text stops.Memory = Unit {0}
-
 -- what is told of a design whose text is read: it is left out as a whole, the data file or the budget does not serve, or
 -- memory is wanting
 abbrev pub IsOfDesign : Stop → Type 0

@@ -6,10 +6,12 @@ ghost use Rattle.cx_text.specs.Loading.{plain_loaded};
 ghost use Rattle.cx_data.specs.Dump.{dump_text};
 ghost use Rattle.cx_first_form.specs.Whole.{IsWhole};
 ghost use Rattle.cx_driver.specs.Dumps.{IsDump};
-ghost use Rattle.cx_driver.specs.Unread.{StageOneFault, IsRead, IsOfText, IsOfDesign};
+ghost use Rattle.cx_driver.specs.Texts.{IsAcceptedText, IsRunStop, StopsAs, TextBreak};
+ghost use Rattle.cx_driver.specs.Unread.{StageOneFault, IsOfDesign};
 ghost use Rattle.cx_driver.specs.declared.stops.Stop.TheVariants as stops;
 
-use crate::reading::{refused, tree_of};
+use crate::accepting::accepted_tree;
+use crate::reading::refused;
 use crate::stops::Stop;
 use cx_ast::Tree;
 use cx_first_form::Unread;
@@ -24,14 +26,16 @@ pub fn interp(alloc: Global, text: &[u8], json: &[u8], turns: u64) -> Result<Vec
     requires { length text.now ≤ 1048576 }
     ensures dump { IfOk result (λ dump. IsDump dump.items) }
 
-    // Each answer but a rule of the text and want of memory comes only where the text has a tree.
-    ensures tree { IfOk result (λ _. IsRead text.now) }
-    ensures cause { IfErr result (IsOfText text.now) }
+    // Each answer but a rule and want of memory comes only where the text is accepted.
+    ensures accepted { IfOk result (λ _. IsAcceptedText text.now) }
+    ensures cause { IfErr result (IsRunStop text.now) }
     // The rule that a text breaks without a tree is told, unless memory is wanting.
     ensures all_faults { (fault : DiagnosticValue) → StageOneFault text.now fault
         → MatchResult result (λ _. ⊥) (λ stop. (stop ≡ stops.Memory) ⊎ (stop ≡ stops.Rule fault)) }
+    // A text that breaks a rule is refused, and by that rule at that place unless memory is wanting.
+    ensures all_refusals { (told : DiagnosticValue) → TextBreak text.now told → MatchResult result (λ _. ⊥) (StopsAs told) }
 {
-    match tree_of(alloc, text) {
+    match accepted_tree(alloc, text) {
         Ok(tree) => run_tree(alloc, &tree, json, turns),
         Err(stop) => Err(stop),
     }

@@ -1,6 +1,7 @@
 //! The top call: from the words of a command line and the files that they name to what is written.
 #![tactic(auto)]
 
+mod accepting;
 mod commands;
 mod interpreting;
 mod messages;
@@ -9,6 +10,7 @@ mod refusals;
 mod running;
 mod stops;
 
+pub use accepting::check_text;
 pub use interpreting::interp;
 pub use refusals::Status;
 pub use running::run;

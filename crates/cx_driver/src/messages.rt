@@ -1,5 +1,9 @@
 //! The line that says why a command has no answer.
 
+ghost use Rattle.std.specs.Prelude.{◌≡◌, ◌++◌, IfOk, codes};
+ghost use Rattle.cx_driver.specs.Messages as messages;
+ghost use Rattle.cx_driver.specs.Messages.{break_line, data_line, line_of, part, stop_line, text_line};
+
 use crate::refusals::Refusal;
 use crate::stops::Stop;
 use cx_data::DataFault;
@@ -8,25 +12,41 @@ use itoa::Buffer;
 use std::alloc::Global;
 
 /// The line of a refusal. A part that is empty is left out with the space before it.
-pub(crate) fn line(alloc: Global, refusal: &Refusal<'_>) -> Result<Vec<u8>, Memory> {
+pub(crate) fn line(alloc: Global, refusal: &Refusal<'_>) -> Result<Vec<u8>, Memory>
+    ensures value { IfOk result (λ line. line.items ≡ line_of refusal.now) }
+{
     let mut line = Vec::new(alloc);
-    match refusal {
-        Refusal::TooLong { file, seen } => {
-            line.extend_from_slice(b"too-long")?;
-            push_part(&mut line, file)?;
-            push_number(&mut line, *seen)?;
-        }
-        Refusal::ReadFault { file } => {
-            line.extend_from_slice(b"read-fault ")?;
-            line.extend_from_slice(file)?;
-        }
-        Refusal::Stop(stop) => push_stop(&mut line, stop)?,
-    }
+    push_refusal(&mut line, refusal)?;
     line.push(b'\n')?;
     Ok(line)
 }
 
-fn push_stop(line: &mut Vec<u8>, stop: &Stop) -> Result<(), Memory> {
+fn push_refusal(line: &mut Vec<u8>, refusal: &Refusal<'_>) -> Result<(), Memory>
+    ensures value { IfOk result (λ _. line.new.items ≡ line.old.items ++ text_line refusal.now) }
+{
+    match refusal {
+        Refusal::TooLong { file, seen } => {
+            line.extend_from_slice(b"too-long")?;
+            push_part(line, file)?;
+            push_number(line, *seen)
+        }
+        Refusal::ReadFault { file } => push_both(line, b"read-fault ", file),
+        Refusal::Stop(stop) => push_stop(line, stop),
+    }
+}
+
+/// Appends two texts.
+fn push_both(line: &mut Vec<u8>, first: &[u8], second: &[u8]) -> Result<(), Memory>
+    ensures value { IfOk result (λ _. line.new.items ≡ line.old.items ++ (first.now ++ second.now)) }
+{
+    line.extend_from_slice(first)?;
+    line.extend_from_slice(second)?;
+    Ok(())
+}
+
+fn push_stop(line: &mut Vec<u8>, stop: &Stop) -> Result<(), Memory>
+    ensures value { IfOk result (λ _. line.new.items ≡ line.old.items ++ stop_line stop.now) }
+{
     match stop {
         Stop::Rule(diagnostic) => push_diagnostic(line, diagnostic),
         Stop::Json(fault) => push_data_fault(line, fault),
@@ -42,7 +62,9 @@ fn push_stop(line: &mut Vec<u8>, stop: &Stop) -> Result<(), Memory> {
 }
 
 /// `refused LINE:COLUMN RULE NAME`.
-fn push_diagnostic(line: &mut Vec<u8>, diagnostic: &Diagnostic) -> Result<(), Memory> {
+fn push_diagnostic(line: &mut Vec<u8>, diagnostic: &Diagnostic) -> Result<(), Memory>
+    ensures value { IfOk result (λ _. line.new.items ≡ line.old.items ++ break_line diagnostic.now) }
+{
     line.extend_from_slice(b"refused")?;
     push_number(line, u64::from(diagnostic.place.line))?;
     line.push(b':')?;
@@ -53,7 +75,9 @@ fn push_diagnostic(line: &mut Vec<u8>, diagnostic: &Diagnostic) -> Result<(), Me
 }
 
 /// `data KIND NAME INDEX`.
-fn push_data_fault(line: &mut Vec<u8>, fault: &DataFault) -> Result<(), Memory> {
+fn push_data_fault(line: &mut Vec<u8>, fault: &DataFault) -> Result<(), Memory>
+    ensures value { IfOk result (λ _. line.new.items ≡ line.old.items ++ data_line fault.now) }
+{
     line.extend_from_slice(b"data")?;
     match fault {
         DataFault::NotJson => push_part(line, b"not-json"),
@@ -62,28 +86,45 @@ fn push_data_fault(line: &mut Vec<u8>, fault: &DataFault) -> Result<(), Memory> 
         DataFault::WidthDiffers(name) => push_named(line, b"width-differs", name.bytes()),
         DataFault::BadShape(name) => push_named(line, b"bad-shape", name.bytes()),
         DataFault::OutOfRange(name, index) => {
-            push_named(line, b"out-of-range", name.bytes())?;
-            push_number(line, *index)
+            push_counted(line, b"out-of-range", name.bytes(), *index)?;
+            Ok(())
         }
         DataFault::Memory => Ok(()),
     }
 }
 
-fn push_named(line: &mut Vec<u8>, kind: &[u8], name: &[u8]) -> Result<(), Memory> {
+#[tactic(auto, using(crate::proofs::MessageLemmas::behind_two))]
+fn push_counted(line: &mut Vec<u8>, kind: &[u8], name: &[u8], index: u64) -> Result<(), Memory>
+    ensures value { IfOk result (λ _. line.new.items ≡ line.old.items ++ (part kind.now ++ (part name.now ++ messages.number index))) }
+{
+    push_named(line, kind, name)?;
+    push_number(line, index)?;
+    Ok(())
+}
+
+fn push_named(line: &mut Vec<u8>, kind: &[u8], name: &[u8]) -> Result<(), Memory>
+    ensures value { IfOk result (λ _. line.new.items ≡ line.old.items ++ (part kind.now ++ part name.now)) }
+{
     push_part(line, kind)?;
     push_part(line, name)
 }
 
 /// Appends a part behind a space, unless it is empty.
-fn push_part(line: &mut Vec<u8>, part: &[u8]) -> Result<(), Memory> {
-    if !part.is_empty() {
-        line.push(b' ')?;
-        line.extend_from_slice(part)?;
+#[tactic(auto, using(crate::proofs::MessageLemmas::part_empty, crate::proofs::MessageLemmas::part_whole))]
+fn push_part(line: &mut Vec<u8>, piece: &[u8]) -> Result<(), Memory>
+    ensures value { IfOk result (λ _. line.new.items ≡ line.old.items ++ part piece.now) }
+{
+    if piece.is_empty() {
+        return Ok(());
     }
+    line.push(b' ')?;
+    line.extend_from_slice(piece)?;
     Ok(())
 }
 
-fn push_number(line: &mut Vec<u8>, number: u64) -> Result<(), Memory> {
+fn push_number(line: &mut Vec<u8>, number: u64) -> Result<(), Memory>
+    ensures value { IfOk result (λ _. line.new.items ≡ line.old.items ++ messages.number number) }
+{
     let mut buffer = Buffer::new();
     push_part(line, buffer.format(number).as_bytes())
 }

@@ -1,13 +1,17 @@
 //! The top call.
 
-ghost use Rattle.std.specs.Prelude.{◌≡◌, ◌≢◌, ◌⊎◌, ◌↔◌, ◌≤◌, ℕ, List, [], ◌∷◌, Contains, length, IfOk, IfErr};
+ghost use Rattle.std.specs.Prelude.{◌≡◌, ◌≢◌, ◌⊎◌, ◌↔◌, ◌≤◌, ℕ, List, [], ◌∷◌, Contains, codes, length, IfOk, IfErr};
 ghost use Rattle.cx_outside.specs.Counts.{HasRisen};
+ghost use Rattle.cx_outside.specs.Reading.{Holds};
 ghost use Rattle.cx_outside.specs.Writing.{grown, GrowsByPart};
-ghost use Rattle.cx_driver.specs.Commands.{AsksNothing, IsFileOf, files_of};
+ghost use Rattle.cx_driver.specs.Commands.{Asked, Asks, AsksNothing, IsFileOf, files_of};
 ghost use Rattle.cx_driver.specs.Asked.{asked_of};
-ghost use Rattle.cx_driver.specs.Dumps.{IsDump};
-ghost use Rattle.cx_driver.specs.Causes.{HasCause, IsOfFile, IsReadFault, status_of};
+ghost use Rattle.cx_driver.specs.Commands as asked;
+ghost use Rattle.cx_driver.specs.Messages.{line_of};
+ghost use Rattle.cx_driver.specs.Dumps.{IsAnswer, IsAnswerTo};
+ghost use Rattle.cx_driver.specs.Causes.{HasCause, IsMemory, IsOfFile, IsReadFault, IsRefusing, ReceivesLine, ToldWhy, status_of};
 
+use crate::accepting::check_text;
 use crate::commands::{Command, command_of};
 use crate::interpreting::interp;
 use crate::messages::line;
@@ -27,7 +31,7 @@ pub fn run<F: Files, O: Sink, E: Sink>(
     err: &mut E,
 ) -> Status
     ensures done { result ≡ Status.Done →
-        (text : List ℕ) × IsDump text × (O.written out.new ≡ grown (O.written out.old) text) }
+        (text : List ℕ) × IsAnswerTo (F.held files.old) words.now text × (O.written out.new ≡ grown (O.written out.old) text) }
 
     ensures words { (result ≡ Status.Words) ↔ AsksNothing words.now }
     ensures read_fault { result ≡ Status.ReadFault → (file : List ℕ) × IsFileOf words.now file
@@ -35,9 +39,12 @@ pub fn run<F: Files, O: Sink, E: Sink>(
     ensures write_fault { result ≡ Status.WriteFault → HasRisen (O.faults out.old) (O.faults out.new) }
 
     ensures part { result ≡ Status.WriteFault →
-        (text : List ℕ) × IsDump text × GrowsByPart (O.written out.old) text (O.written out.new) }
+        (text : List ℕ) × IsAnswerTo (F.held files.old) words.now text × GrowsByPart (O.written out.old) text (O.written out.new) }
     ensures nothing { result ≢ Status.Done → result ≢ Status.WriteFault →
         O.written out.new ≡ O.written out.old }
+
+    ensures cause { IsRefusing result → (command : Asked) × Asks words.now command
+        × ToldWhy command (F.held files.old) (F.faults files.old) (F.faults files.new) result (E.written err.old) (E.faults err.old) (E.written err.new) (E.faults err.new) }
 {
     match command_of(words) {
         Some(command) => obey(alloc, command, files, out, err),
@@ -57,7 +64,7 @@ fn obey<F: Files, O: Sink, E: Sink>(
     err: &mut E,
 ) -> Status
     ensures done { result ≡ Status.Done →
-        (text : List ℕ) × IsDump text × (O.written out.new ≡ grown (O.written out.old) text) }
+        (text : List ℕ) × IsAnswer (F.held files.old) (asked_of command.entry) text × (O.written out.new ≡ grown (O.written out.old) text) }
 
     ensures words { result ≢ Status.Words }
     ensures read_fault { result ≡ Status.ReadFault → (file : List ℕ) × Contains (files_of (asked_of command.entry)) file
@@ -65,9 +72,12 @@ fn obey<F: Files, O: Sink, E: Sink>(
     ensures write_fault { result ≡ Status.WriteFault → HasRisen (O.faults out.old) (O.faults out.new) }
 
     ensures part { result ≡ Status.WriteFault →
-        (text : List ℕ) × IsDump text × GrowsByPart (O.written out.old) text (O.written out.new) }
+        (text : List ℕ) × IsAnswer (F.held files.old) (asked_of command.entry) text × GrowsByPart (O.written out.old) text (O.written out.new) }
     ensures nothing { result ≢ Status.Done → result ≢ Status.WriteFault →
         O.written out.new ≡ O.written out.old }
+
+    ensures cause { IsRefusing result → ToldWhy (asked_of command.entry) (F.held files.old) (F.faults files.old) (F.faults files.new) result
+        (E.written err.old) (E.faults err.old) (E.written err.new) (E.faults err.new) }
 {
     match answer(alloc, command, files) {
         Ok(text) => deliver(&text, out, err),
@@ -92,7 +102,8 @@ fn deliver<O: Sink, E: Sink>(text: &[u8], out: &mut O, err: &mut E) -> Status
 
 /// Says why there is no answer.
 fn refuse<E: Sink>(alloc: Global, refusal: &Refusal<'_>, err: &mut E) -> Status
-    ensures { (result ≡ status_of refusal.now) ⊎ (result ≡ Status.Memory) }
+    ensures { ((result ≡ status_of refusal.now) × ReceivesLine (E.written err.old) (E.faults err.old) (line_of refusal.now) (E.written err.new) (E.faults err.new))
+        ⊎ (result ≡ Status.Memory) }
 {
     match line(alloc, refusal) {
         Ok(line) => {
@@ -107,7 +118,9 @@ fn refuse<E: Sink>(alloc: Global, refusal: &Refusal<'_>, err: &mut E) -> Status
 }
 
 /// Writes a line, or as much of it as the sink takes.
-fn tell<E: Sink>(line: &[u8], err: &mut E) {
+fn tell<E: Sink>(line: &[u8], err: &mut E)
+    ensures { ReceivesLine (E.written err.old) (E.faults err.old) line.now (E.written err.new) (E.faults err.new) }
+{
     let _ = write_all(err, line);
 }
 
@@ -117,8 +130,8 @@ fn answer<'a, F: Files>(
     command: Command<'a>,
     files: &mut F,
 ) -> Result<Vec<u8>, Refusal<'a>>
-    ensures dump { IfOk result (λ text. IsDump text.items) }
-    ensures cause { IfErr result (HasCause (files_of (asked_of command.entry)) (F.held files.old) (F.faults files.old) (F.faults files.new)) }
+    ensures answer { IfOk result (λ text. IsAnswer (F.held files.old) (asked_of command.entry) text.items) }
+    ensures cause { IfErr result (HasCause (asked_of command.entry) (F.held files.old) (F.faults files.old) (F.faults files.new)) }
 {
     match command {
         Command::Interp {
@@ -126,6 +139,7 @@ fn answer<'a, F: Files>(
             json,
             budget,
         } => interpreted(alloc, design, json, budget, files),
+        Command::Check { design } => checked(alloc, design, files),
     }
 }
 
@@ -137,14 +151,41 @@ fn interpreted<'a, F: Files>(
     budget: u64,
     files: &mut F,
 ) -> Result<Vec<u8>, Refusal<'a>>
-    ensures dump { IfOk result (λ text. IsDump text.items) }
-    ensures cause { IfErr result (HasCause (design.now ∷ json.now ∷ []) (F.held files.old) (F.faults files.old) (F.faults files.new)) }
+    ensures answer { IfOk result (λ text. IsAnswer (F.held files.old) (asked.interp design.now json.now budget) text.items) }
+    ensures cause { IfErr result (HasCause (asked.interp design.now json.now budget) (F.held files.old) (F.faults files.old) (F.faults files.new)) }
 {
     let text = read(alloc, files, design, DESIGN_BYTES)?;
     let data = read(alloc, files, json, DATA_BYTES)?;
     match interp(alloc, &text, &data, budget) {
         Ok(dump) => Ok(dump),
         Err(stop) => Err(Refusal::Stop(stop)),
+    }
+}
+
+/// The answer of the checks on a file.
+fn checked<'a, F: Files>(
+    alloc: Global,
+    design: &'a [u8],
+    files: &mut F,
+) -> Result<Vec<u8>, Refusal<'a>>
+    ensures answer { IfOk result (λ text. IsAnswer (F.held files.old) (asked.check design.now) text.items) }
+    ensures cause { IfErr result (HasCause (asked.check design.now) (F.held files.old) (F.faults files.old) (F.faults files.new)) }
+{
+    let text = read(alloc, files, design, DESIGN_BYTES)?;
+    match check_text(alloc, &text) {
+        Ok(()) => accepted(alloc),
+        Err(told) => Err(Refusal::Stop(told)),
+    }
+}
+
+/// What is written of an accepted text.
+fn accepted<'a>(alloc: Global) -> Result<Vec<u8>, Refusal<'a>>
+    ensures answer { IfOk result (λ text. text.items ≡ codes "accepted\n") }
+    ensures cause { IfErr result IsMemory }
+{
+    match Vec::from_slice(alloc, b"accepted\n".as_slice()) {
+        Ok(text) => Ok(text),
+        Err(_) => Err(Refusal::Stop(Stop::Memory)),
     }
 }
 
@@ -155,6 +196,7 @@ fn read<'a, F: Files>(
     file: &'a [u8],
     limit: usize,
 ) -> Result<Vec<u8>, Refusal<'a>>
+    ensures held { IfOk result (λ bytes. Holds (F.held files.old) file.now bytes.items) }
     ensures within { IfOk result (λ bytes. length bytes.items ≤ limit) }
     ensures cause { IfErr result (IsOfFile (F.held files.old) (F.faults files.old) (F.faults files.new) file.now) }
 

@@ -20,6 +20,15 @@ const STALE_DONE: &str = "component main() -> () { cells { @external mem = std_m
     group st { mem.addr0 = 1'd0; mem.write_data = r.out; mem.write_en = 1'd1; st[done] = mem.done; }
     } control { seq { inc; inc; st; } } }";
 
+/// A register of 8 bits takes 4.
+const WIDE: &str =
+    "component main() -> () { cells { r = std_reg(8); } wires { group g { r.in = 4'd1; r.write_en = 1'd1; g[done] = r.done; } }
+    control { g; } }";
+
+/// A static invoke.
+const STATIC_CALL: &str =
+    "component main() -> () { cells { } wires { } control { static<1> invoke c()(); } }";
+
 const FIVE: &str = "{\"mem\":{\"data\":[5],\"format\":
     {\"numeric_type\":\"bitnum\",\"is_signed\":false,\"width\":32}}}";
 
@@ -57,6 +66,8 @@ fn files_of(alloc: Global) -> Result<MemFiles, Fail> {
             "other",
             "component main() -> () { cells { } wires { } control { } }",
         ),
+        ("wide", WIDE),
+        ("call", STATIC_CALL),
     ];
     for (name, bytes) in files {
         entries.push((
@@ -184,6 +195,47 @@ fn whole_calls(rt: HostRuntime) -> Result<(), Fail> {
             "{\"cycles",
             "write-fault\n",
         ),
+        ("check add", 0, Status::Done, "accepted\n", ""),
+        ("check stale", 0, Status::Done, "accepted\n", ""),
+        ("check other", 0, Status::Done, "accepted\n", ""),
+        (
+            "check wide",
+            0,
+            Status::Refused,
+            "",
+            "refused 1:70 width r.in\n",
+        ),
+        (
+            "check call",
+            0,
+            Status::Refused,
+            "",
+            "refused 1:56 left-out\n",
+        ),
+        (
+            "interp wide five 9",
+            0,
+            Status::Refused,
+            "",
+            "refused 1:70 width r.in\n",
+        ),
+        (
+            "check end",
+            0,
+            Status::Refused,
+            "",
+            "refused 1:1 unexpected\n",
+        ),
+        (
+            "check absent",
+            0,
+            Status::ReadFault,
+            "",
+            "read-fault absent\n",
+        ),
+        ("check add", 1, Status::WriteFault, "", "write-fault\n"),
+        ("check", 0, Status::Words, "", "words\n"),
+        ("check add five", 0, Status::Words, "", "words\n"),
         ("interp add five", 0, Status::Words, "", "words\n"),
         ("interp add five 9 9", 0, Status::Words, "", "words\n"),
         (

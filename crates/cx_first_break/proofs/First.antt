@@ -1,12 +1,10 @@
 -- The first of a list of breaks is one of them, and none of them comes before it.
-use Rattle.std.proofs.Common.{◌≡◌, ◌<◌, ℕ, Bool, true, false, cond, List, [], ◌∷◌, length, Option, Some, None, ◌⊎◌, inl, inr, ⊎_elim, refl, sym, ap, ◌∙◌, subst}
-use Rattle.cx_text.specs.declared.places.Place.{Place}
-use Rattle.cx_text.specs.declared.rules.Rule.{Rule}
+use Rattle.std.proofs.Common.{◌≡◌, ℕ, Bool, true, false, cond, List, [], ◌∷◌, length, Option, Some, None, ◌⊎◌, inl, inr, ⊎_elim, refl, sym, ap, ◌∙◌, subst}
 use Rattle.cx_meaning.specs.Designs.{PlainDesign}
 use Rattle.cx_meaning.specs.Sights.{In}
-use Rattle.cx_rules.specs.Spots.{Part, AnAssign, AStatement, AGroup, Whole, Spot}
-use Rattle.cx_rules.specs.Accepted.{Breaks, number_of, part_key, stage_of, key_of, comes_before, KeepsStage, IsFirstOf}
-use Rattle.cx_first_break.specs.Breaks.{Broken, key, is_first, earlier, first_of}
+use Rattle.cx_rules.specs.Spots.{Part, AnAssign, AStatement, AGroup, Whole}
+use Rattle.cx_rules.specs.Accepted.{number_of, part_key, comes_before}
+use Rattle.cx_first_break.specs.Breaks.{Broken, key, earlier, first_of}
 use Rattle.cx_first_break.specs.Answers.{AreBreaks, IsAnswer, answer_of}
 use Rattle.cx_first_break.proofs.Order.{not_before_itself, not_before_later, not_both}
 

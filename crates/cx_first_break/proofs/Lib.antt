@@ -1,3 +1,4 @@
 pub mod Order
 mod First
 pub mod Lists
+pub mod Families

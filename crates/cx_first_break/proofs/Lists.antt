@@ -1,5 +1,5 @@
 -- Lists of breaks: what stands in them, and their first.
-use Rattle.std.proofs.Common.{◌≡◌, ◌+◌, ◌<◌, ℕ, zero, suc, List, [], ◌∷◌, ◌++◌, Option, Some, None, length, map, drop, slice_get, flat_map, ◌⊎◌, inl, inr, ⊎_elim, refl, sym, ap, ◌∙◌, subst, arith, add-one}
+use Rattle.std.proofs.Common.{◌≡◌, ◌+◌, ℕ, zero, suc, List, [], ◌∷◌, ◌++◌, Option, Some, None, map, drop, slice_get, flat_map, ◌⊎◌, inl, inr, ⊎_elim, refl, sym, ap, ◌∙◌, subst, arith, add-one}
 use Rattle.cx_meaning.specs.Sights.{In}
 use Rattle.cx_first_break.specs.Breaks.{Broken, earlier, first_of}
 use Rattle.cx_first_break.specs.Numbered.{numbered}

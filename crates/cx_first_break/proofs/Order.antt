@@ -1,5 +1,5 @@
 -- The order of lists of numbers of one length: where none comes before the next, none comes before a later one.
-use Rattle.std.proofs.Common.{◌≡◌, ◌<◌, ◌≤◌, ◌+◌, ◌==◌, ℕ, suc, Bool, true, false, ◌&&◌, ◌||◌, nat_lt, nat_eq, List, [], ◌∷◌, length, refl, sym, ap, ◌∙◌, arith, tests}
+use Rattle.std.proofs.Common.{◌≡◌, ◌≤◌, ℕ, Bool, true, false, ◌&&◌, ◌||◌, nat_lt, nat_eq, List, [], ◌∷◌, length, refl, arith, tests}
 use Rattle.cx_rules.specs.Accepted.{comes_before}
 
 not_after : (x y : ℕ) (b : Bool) → nat_lt x y || (nat_eq x y && b) ≡ false → y ≤ x

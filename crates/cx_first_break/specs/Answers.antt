@@ -18,6 +18,16 @@ pub record AreBreaks (stage : ℕ) (d : PlainDesign) (found : List Broken) : Typ
   pub all : (rule : Rule) (spot : Spot) (place : Place) (name : List ℕ) → stage_of rule ≡ stage → Breaks d rule spot place name
       → (b : Broken) × In found b × (comes_before (key_of rule spot place) (key b) ≡ false)
 
+-- the list has breaks of a family alone, and for each break of the family one that no break comes before
+pub record AreBreaksBy (family : Rule → Spot → Place → List ℕ → Type 0) (found : List Broken) : Type 0 where
+  pub by_family : (b : Broken) → In found b → family b.rule b.spot b.place b.name
+  pub all_family : (rule : Rule) (spot : Spot) (place : Place) (name : List ℕ) → family rule spot place name
+      → (b : Broken) × In found b × (comes_before (key_of rule spot place) (key b) ≡ false)
+
+-- the breaks of a stage
+abbrev pub StageBreaks : ℕ → PlainDesign → Rule → Spot → Place → List ℕ → Type 0
+StageBreaks stage d rule spot place name = (stage_of rule ≡ stage) × Breaks d rule spot place name
+
 -- what is told of a break
 abbrev pub told : Broken → Diagnostic
 told b = record { rule = b.rule; place = b.place; name = b.name }

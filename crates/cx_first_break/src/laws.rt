@@ -2,6 +2,8 @@
 
 ghost use Rattle.std.specs.Prelude.{◌≡◌, ◌+◌, ◌++◌, ℕ, List, Option, Some, slice_get};
 ghost use Rattle.cx_meaning.specs.Sights.{In};
+ghost use Rattle.cx_meaning.specs.Designs.{PlainDesign};
+ghost use Rattle.cx_first_break.specs.Answers.{AreBreaks, AreBreaksBy, StageBreaks};
 ghost use Rattle.cx_first_break.specs.Breaks.{Broken, first_of};
 ghost use Rattle.cx_first_break.specs.Numbered.{numbered};
 
@@ -16,4 +18,9 @@ pub fn breaks_of_numbered()
         → (m : ℕ) × (part : ℕ) × (slice_get parts m ≡ Some part) × In (f (n + m) part) b }
     ensures all { (f : ℕ → ℕ → List Broken) (n : ℕ) (parts : List ℕ) (m part : ℕ) (b : Broken) → slice_get parts m ≡ Some part
         → In (f (n + m) part) b → In (numbered f n parts) b }
+{}
+
+/// A list that has the breaks of a stage answers for the stage.
+pub fn breaks_of_stage()
+    ensures { (stage : ℕ) (d : PlainDesign) (found : List Broken) → AreBreaksBy (StageBreaks stage d) found → AreBreaks stage d found }
 {}

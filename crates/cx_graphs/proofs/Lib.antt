@@ -1,2 +1,5 @@
-mod Marks
-mod Ways
+pub mod Additions
+pub mod Lists
+pub mod Marks
+pub mod WalkLemmas
+pub mod Ways

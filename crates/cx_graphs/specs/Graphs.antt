@@ -2,7 +2,7 @@
 use Rattle.std.specs.Prelude.{◌≡◌, ℕ, zero, suc, ◌+◌, ◌*◌, ◌<◌, ◌≤◌, ◌⊎◌, Bool, true, List, [], ◌∷◌, Some, length, slice_get, map, if◌then◌else◌}
 use Rattle.std.specs.declared.vec.Vec.{Vec}
 
-abbrev pub In : List ℕ → ℕ → Type 0
+abbrev pub In : {A : Type 0} → List A → A → Type 0
 In [] n = ⊥
 In (m ∷ ms) n = (m ≡ n) ⊎ In ms n
 

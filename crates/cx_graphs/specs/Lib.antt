@@ -1,2 +1,5 @@
+pub mod Additions
 pub mod Graphs
 pub mod Search
+pub mod Walks
+pub mod Ways

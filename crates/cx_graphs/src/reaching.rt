@@ -63,9 +63,10 @@ fn no_marks(alloc: Global, count: usize) -> Result<Vec<bool>, Memory>
     Ok(vec![in alloc; false; count]?)
 }
 
-/// Takes the last node that waits.
-fn last(waiting: &mut Vec<u32>) -> Option<u32>
+/// Takes the last node of a list.
+pub(crate) fn last(waiting: &mut Vec<u32>) -> Option<u32>
     ensures none { IfNone result (waiting.old.items ≡ []) }
+    ensures none_left { IfNone result (waiting.new.items ≡ []) }
     ensures some { IfSome result (λ node. waiting.old.items ≡ waiting.new.items ++ node ∷ []) }
 {
     waiting.pop()

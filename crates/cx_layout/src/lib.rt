@@ -13,6 +13,3 @@ mod rendering;
 mod wiring;
 
 pub use laying::lay_out;
-
-#[cfg(test)]
-mod tests;

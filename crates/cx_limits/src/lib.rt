@@ -13,4 +13,5 @@ mod words;
 
 pub use checking::limits;
 pub use order::children_first;
+pub use sizes::component_size;
 pub use tallies::{Tally, component_tallies};

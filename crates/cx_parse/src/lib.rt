@@ -7,8 +7,6 @@ mod files;
 mod groups;
 mod ports;
 mod statements;
-#[cfg(test)]
-mod tests;
 
 pub use cx_guards::Stop;
 pub use files::{ParseFault, parse, place_left, read_tree};

@@ -1,3 +1,3 @@
-mod TreeLemmas
+pub mod TreeLemmas
 mod StepLemmas
 mod WayLemmas

@@ -2,4 +2,6 @@
 #![tactic(auto)]
 
 #[cfg(test)]
+mod parsing;
+#[cfg(test)]
 mod tests;

@@ -50,6 +50,30 @@ const SMALLEST_PRINTED: &[u8] = b"component main() {
 }
 ";
 
+// Spaces where they do not count, and parentheses that are needed and that are not.
+const CROWDED: &[u8] =
+    b"import \"primitives/core.futil\";component main(@go go:1)->(){cells{r=std_mem_d1(32,4,2);}
+wires{static<3>group g{r.in=!((r.a<r.b|r.c)&(r.d))?32'hff;}}control{seq{@bound(4)g<\"pos\"=7>;}}}";
+
+// Written by hand: two spaces for each level, one statement a line, a space behind the `>` of marks.
+const CROWDED_PRINTED: &[u8] = b"import \"primitives/core.futil\";
+component main(@go go: 1) {
+  cells {
+    r = std_mem_d1(32, 4, 2);
+  }
+  wires {
+    static<3> group g {
+      r.in = !((r.a < r.b | r.c) & r.d) ? 32'd255;
+    }
+  }
+  control {
+    seq {
+      @bound(4) g<\"pos\" = 7> ;
+    }
+  }
+}
+";
+
 // Each kind of statement, of guard and of operand; a comma behind the last, and parentheses that are not needed.
 const LONGER: &[u8] = b"import \"primitives/core.futil\";
 component main<\"top\"=1>(@go go: 1, x: 8,) -> (y: 8) {
@@ -80,6 +104,13 @@ static<2> component child() { cells {} wires {} }
 fn the_smallest_is_printed(rt: HostRuntime) -> Result<(), Fail> {
     let text = printed(rt.alloc(), SMALLEST)?;
     assert_eq!(rt; text.as_slice(), SMALLEST_PRINTED);
+    Ok(())
+}
+
+#[test]
+fn a_crowded_text_is_laid_out(rt: HostRuntime) -> Result<(), Fail> {
+    let text = printed(rt.alloc(), CROWDED)?;
+    assert_eq!(rt; text.as_slice(), CROWDED_PRINTED);
     Ok(())
 }
 

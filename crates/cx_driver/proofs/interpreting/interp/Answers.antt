@@ -1,22 +1,30 @@
-use Rattle.cx_ast.specs.PlainTree.{plain_tree}
-use Rattle.cx_driver.specs.Unread.{IsRead}
-use Rattle.cx_driver.proofs.UnreadLemmas.{interp_tree, interp_cause, interp_all, told_no_tree, told_of_text}
+use Rattle.std.proofs.Common.{Err}
+use Rattle.cx_driver.specs.Texts.{IsRunStop}
+use Rattle.cx_driver.proofs.TextLemmas.{run_accepted, run_refused, run_told, fault_told, refused_run}
 use Rattle.cx_driver.proofs.interpreting.interp.Goals as goal
 
 pub returns-in-Ok : goal.returns-in-Ok
 returns-in-Ok c =
-    let read : IsRead c.args.text.now = (plain_tree c.in-Ok.tree, c.in-Ok.ensures.tree) in
+    let text = c.args.text.now in
+    let r = c.run_tree.result in
+    let accepted = run_accepted text r c.in-Ok.ensures.accepted in
+    let cause = run_refused text r c.in-Ok.ensures.accepted c.run_tree.ensures.cause in
     record {
       dump = c.run_tree.ensures.dump;
-      tree = interp_tree c.args.text.now c.run_tree.result read;
-      cause = interp_cause c.args.text.now c.run_tree.result read c.run_tree.ensures.cause;
-      all_faults = λ fault k. interp_all c.args.text.now c.run_tree.result read fault k;
+      accepted = accepted;
+      cause = cause;
+      all_faults = λ fault s. fault_told text r accepted cause fault s;
+      all_refusals = λ told b. run_told text r accepted cause told b;
     }
 
 pub returns-in-Err : goal.returns-in-Err
-returns-in-Err c = record {
-  dump = tt;
-  tree = tt;
-  cause = told_no_tree c.args.text.now c.in-Err.stop c.in-Err.ensures.fault;
-  all_faults = λ fault k. told_of_text c.args.text.now fault c.in-Err.stop (told_no_tree c.args.text.now c.in-Err.stop c.in-Err.ensures.fault) k;
-}
+returns-in-Err c =
+    let text = c.args.text.now in
+    let cause : IsRunStop text c.in-Err.stop = refused_run text c.in-Err.stop c.in-Err.ensures.cause in
+    record {
+      dump = tt;
+      accepted = tt;
+      cause = cause;
+      all_faults = λ fault s. fault_told {X = Unit {0}} text (Err c.in-Err.stop) tt cause fault s;
+      all_refusals = λ told b. run_told {X = Unit {0}} text (Err c.in-Err.stop) tt cause told b;
+    }

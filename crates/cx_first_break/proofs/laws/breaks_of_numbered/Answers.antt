@@ -1,4 +1,3 @@
-use Rattle.std.proofs.Common.{ℕ}
 use Rattle.cx_first_break.proofs.Lists.{in_numbered, numbered_in}
 use Rattle.cx_first_break.proofs.laws.breaks_of_numbered.Goals as goal
 

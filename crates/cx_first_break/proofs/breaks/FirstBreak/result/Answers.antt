@@ -1,4 +1,4 @@
-use Rattle.std.proofs.Common.{◌≡◌, ap, sym, ◌∙◌, subst}
+use Rattle.std.proofs.Common.{ap, sym, ◌∙◌, subst}
 use Rattle.cx_first_break.specs.Answers.{IsAnswer, answer_of}
 use Rattle.cx_first_break.proofs.First.{first_answers}
 use Rattle.cx_first_break.proofs.breaks.FirstBreak.result.Goals as goal

@@ -1,0 +1,4 @@
+pub mod AlikeLemmas
+pub mod StandLemmas
+pub mod ReadLemmas
+pub mod ChangeLemmas

@@ -1,0 +1,3 @@
+pub mod ConjunctionLemmas
+pub mod CaptureLemmas
+pub mod DoneLemmas

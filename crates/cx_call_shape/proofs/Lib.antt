@@ -1,0 +1,4 @@
+mod BoolLemmas
+mod CalledLemmas
+mod WrongLemmas
+mod BreakLemmas

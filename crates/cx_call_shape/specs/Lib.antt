@@ -1,0 +1,2 @@
+pub mod CallBreaks
+pub mod Decisions

@@ -1,0 +1,4 @@
+pub mod Counts
+pub mod Leads
+pub mod Numbers
+pub mod Steps

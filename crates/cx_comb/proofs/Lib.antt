@@ -1,0 +1,6 @@
+mod BreakLemmas
+mod CircleFacts
+mod CycleLemmas
+mod MarkFacts
+mod PruneLemmas
+mod TargetLemmas

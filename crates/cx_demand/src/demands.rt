@@ -1,0 +1,39 @@
+//! The value of a node on demand.
+
+ghost use Rattle.std.specs.Prelude.{◌≡◌, ◌<◌, length};
+ghost use Rattle.cx_demand.specs.Demands.{Demanded, IsGrounded, Ready, StaysWithin};
+
+use crate::marks::{Mark, is_known};
+use crate::network::Network;
+
+/// Finds the value of a node, and those of all that it depends on. `stack` is as long as `marks`, and what it holds is of no
+/// account. It takes no memory, and does not recurse from node to node.
+pub fn demand<N: Network>(net: &N, marks: &mut [Mark], stack: &mut [usize], root: usize)
+    requires root { root < length marks.old }
+    requires stack { length stack.old ≡ length marks.old }
+    requires within { StaysWithin (N.leads net.now) (length marks.old) }
+    requires grounded { IsGrounded (N.leads net.now) }
+    requires ready { Ready (N.value net.now) marks.old }
+    ensures value { Demanded (N.value net.now) root marks.old marks.new }
+{
+    if is_known(marks, root) {
+        return;
+    }
+    stack[0] = root;
+    marks[root] = Mark::Open;
+    let mut depth = 1;
+    while depth > 0 {
+        let top = stack[depth - 1];
+        match net.unknown(marks, top) {
+            Some(next) => {
+                marks[next] = Mark::Open;
+                stack[depth] = next;
+                depth += 1;
+            }
+            None => {
+                marks[top] = Mark::Known(net.value_by(marks, top));
+                depth -= 1;
+            }
+        }
+    }
+}

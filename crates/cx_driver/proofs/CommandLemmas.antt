@@ -1,0 +1,15 @@
+-- Words that are none of a command.
+use Rattle.std.proofs.Common.{◌≡◌, ◌<◌, ◌≤◌, ℕ, List, [], ◌∷◌, length, slice_index_or, arith}
+use Rattle.cx_driver.specs.Commands.{Asks, AsksNothing, interp, check}
+
+pub neither : (words : List (List ℕ)) → ((design : List ℕ) → Asks words (check design) → ⊥)
+    → ((design json : List ℕ) (budget : ℕ) → Asks words (interp design json budget) → ⊥) → AsksNothing words
+neither words c i (interp design json budget) asks = i design json budget asks
+neither words c i (check design) asks = c design asks
+
+-- a list with two items is those at its first two indices
+pub two_items : {X : Type 0} (xs : List X) (a b : X) → 2 ≤ length xs → length xs < 3 → a ≡ slice_index_or xs 0 a → b ≡ slice_index_or xs 1 b → xs ≡ a ∷ b ∷ []
+two_items [] a b least most ea eb = absurd (grind arith)
+two_items (w ∷ []) a b least most ea eb = absurd (grind arith)
+two_items (w ∷ x ∷ []) a b least most ea eb = cc
+two_items (w ∷ x ∷ y ∷ xs) a b least most ea eb = absurd (grind arith)

@@ -1,0 +1,16 @@
+use Rattle.cx_driver.proofs.TextLemmas.{accepted_once, text_stop}
+use Rattle.cx_driver.proofs.accepting.check_text.Goals as goal
+
+pub returns-in-Ok : goal.returns-in-Ok
+returns-in-Ok c = record {
+  accepted = c.in-Ok.ensures.accepted;
+  cause = tt;
+  all_refusals = λ told b. accepted_once c.args.text.now told c.in-Ok.ensures.accepted b;
+}
+
+pub returns : goal.returns
+returns c = record {
+  accepted = tt;
+  cause = c.in-Err.ensures.cause;
+  all_refusals = λ told b. text_stop c.args.text.now told c.in-Err.stop b c.in-Err.ensures.cause;
+}

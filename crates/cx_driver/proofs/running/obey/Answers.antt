@@ -1,0 +1,15 @@
+use Rattle.cx_driver.specs.Asked.{asked_of}
+use Rattle.cx_driver.proofs.CauseLemmas.{delivered, told_why, unread_file}
+use Rattle.cx_driver.proofs.running.obey.Goals as goal
+
+pub returns-in-Ok-clause-cause : goal.returns-in-Ok-clause-cause
+returns-in-Ok-clause-cause g c = λ r. absurd (delivered c.deliver.result c.deliver.ensures.cases r)
+
+pub returns-in-Err-clause-read_fault : goal.returns-in-Err-clause-read_fault
+returns-in-Err-clause-read_fault g c = λ e.
+    unread_file (asked_of c.args.command) (g.F.Files.held c.args.files.now) (g.F.Files.faults c.args.files.now) (g.F.Files.faults c.answer.new.files) c.refuse.result c.in-Err.refusal c.refuse.ensures c.in-Err.ensures.cause e
+
+pub returns-in-Err-clause-cause : goal.returns-in-Err-clause-cause
+returns-in-Err-clause-cause g c = λ r.
+    told_why (asked_of c.args.command) (g.F.Files.held c.args.files.now) (g.F.Files.faults c.args.files.now) (g.F.Files.faults c.answer.new.files) c.refuse.result
+    (g.E.Sink.written c.args.err.now) (g.E.Sink.faults c.args.err.now) (g.E.Sink.written c.refuse.new.err) (g.E.Sink.faults c.refuse.new.err) c.in-Err.refusal c.refuse.ensures c.in-Err.ensures.cause r

@@ -1,0 +1,5 @@
+pub mod FormLemmas
+pub mod CellLemmas
+mod LinkLemmas
+pub mod ReadLemmas
+pub mod Bounds

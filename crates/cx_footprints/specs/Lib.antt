@@ -1,0 +1,4 @@
+pub mod Forms
+pub mod Cells
+pub mod Links
+pub mod Footprints

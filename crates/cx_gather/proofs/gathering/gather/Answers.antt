@@ -1,0 +1,15 @@
+use Rattle.std.proofs.Common.{length, sym, ◌∙◌, arith}
+use Rattle.std.proofs.lemmas.List.{length-set}
+use Rattle.cx_gather.specs.Gathers.{ports_seen, wanted_at}
+use Rattle.cx_gather.proofs.GatherLemmas.{so_far_next}
+use Rattle.cx_gather.proofs.gathering.gather.Goals as goal
+
+pub loop-port-preserved : goal.loop-port-preserved
+loop-port-preserved g c =
+    let sized = c.loop-port.invariant.sized in
+    record {
+      sized = length-set c.loop-port.inputs c.loop-port.port c.in-Ok.found ∙ sized;
+      far =
+          so_far_next (ports_seen (g.L.Look.seen c.args.look.now) c.args.cell) (wanted_at c.args.wanted.now) (length c.args.inputs.now) c.loop-port.port c.loop-port.inputs c.in-Ok.found
+          (omega (arith, sized)) (omega (arith, sized)) c.loop-port.invariant.far (sym c.in-Ok.ensures);
+    }

@@ -1,0 +1,50 @@
+//! What stands at the ports of a cell, where the wanted ones are values.
+
+ghost use Rattle.std.specs.Prelude.{◌≡◌, ◌^◌, ◌<◌, length};
+ghost use Rattle.cx_gather.specs.Gathers.{entry_of, gather_all, gathered, ports_seen, wanted_at};
+
+use cx_bits::Bits;
+use cx_design::{PortRef, Seen};
+use cx_looks::Look;
+
+/// A wanted port that is no value.
+#[derive(Clone, Copy, Debug, PartialEq, Eq)]
+pub struct Lack {
+    pub port: usize,
+    pub seen: Seen,
+}
+
+/// What stands at a port: nothing where it is not wanted, and else its value, or what it is seen as where that is none.
+fn entry<L: Look>(look: &L, port: PortRef, wanted: bool) -> Result<Option<Bits>, Seen>
+    ensures { result ≡ entry_of wanted (L.seen look.now port) }
+{
+    if !wanted {
+        return Ok(None);
+    }
+    match look.at(port) {
+        Seen::Value(bits) => Ok(Some(bits)),
+        Seen::Conflict => Err(Seen::Conflict),
+        Seen::Undefined => Err(Seen::Undefined),
+    }
+}
+
+/// Puts what stands at the ports of a cell into `inputs`, or answers the first wanted port that is no value. It takes no
+/// memory.
+pub fn gather<L: Look>(
+    look: &L,
+    cell: u32,
+    wanted: &[bool],
+    inputs: &mut [Option<Bits>],
+) -> Option<Lack>
+    requires sized { length wanted.now ≡ length inputs.old }
+    requires few { length inputs.old < 2 ^ 32 }
+    ensures value { gathered result inputs.new ≡ gather_all (ports_seen (L.seen look.now) cell) (wanted_at wanted.now) 0 (length inputs.old) }
+{
+    for port in 0..inputs.len() {
+        match entry(look, PortRef::Cell(cell, port as u32), wanted[port]) {
+            Ok(found) => inputs[port] = found,
+            Err(seen) => return Some(Lack { port, seen }),
+        }
+    }
+    None
+}

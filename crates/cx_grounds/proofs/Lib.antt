@@ -1,0 +1,5 @@
+mod Counting
+pub mod Ends
+pub mod EdgeLemmas
+mod Takes
+mod SearchLemmas

@@ -1,0 +1,3 @@
+pub mod PreOrder
+pub mod FillLemmas
+pub mod TableLemmas

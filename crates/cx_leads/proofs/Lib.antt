@@ -1,0 +1,4 @@
+pub mod DriverLemmas
+pub mod EdgeLemmas
+pub mod NodeLemmas
+pub mod ThereLemmas

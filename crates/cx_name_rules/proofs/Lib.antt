@@ -1,0 +1,4 @@
+pub mod FoundLemmas
+pub mod FoundRules
+pub mod OrderLemmas
+pub mod VisitLemmas

@@ -1,0 +1,13 @@
+pub mod Base
+pub mod Kept
+pub mod Numbers
+pub mod Rows
+pub mod There
+pub mod Assigns
+pub mod Circles
+pub mod Invokes
+pub mod InvokeGroups
+pub mod Statements
+pub mod Primitives
+pub mod Parts
+pub mod Whole

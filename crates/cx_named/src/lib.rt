@@ -1,0 +1,4 @@
+//! Trees that keep the rules on names have designs.
+#![tactic(auto)]
+
+pub mod laws;

@@ -1,0 +1,6 @@
+//! From a tree to its design.
+#![tactic(auto)]
+
+mod resolving;
+
+pub use resolving::resolve;

@@ -1,0 +1,2 @@
+mod PortLemmas
+pub mod OutputLemmas

@@ -1,0 +1,4 @@
+mod ArmLemmas
+mod NameLemmas
+mod SharedLemmas
+mod RaceLemmas

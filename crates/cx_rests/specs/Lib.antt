@@ -1,0 +1,4 @@
+pub mod Waits
+pub mod Resting
+pub mod Joining
+pub mod Tells

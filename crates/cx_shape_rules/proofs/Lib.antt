@@ -1,0 +1,3 @@
+mod PartLemmas
+mod LengthLemmas
+pub mod ShapeLemmas

@@ -1,0 +1,2 @@
+pub mod ShapeBreaks
+pub mod Measures

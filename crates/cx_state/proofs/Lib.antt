@@ -1,0 +1,4 @@
+pub mod Shapes
+pub mod Takes
+pub mod StartLemmas
+pub mod StartsStand

@@ -1,0 +1,84 @@
+-- Loaded words that fit the external memories are taken by them.
+use Rattle.std.proofs.Common.{◌≡◌, ℕ, ◌^◌, ◌<◌, ◌≤◌, Bool, true, false, inl, inr, List, [], ◌∷◌, map, All, Some, None, refl, sym, ap, ◌∙◌, subst}
+use Rattle.std.proofs.Math.Logic.{∥∥₁_elim}
+use Rattle.std.proofs.lemmas.List.Elements.{All-head, All-tail}
+use denote.Struct.Props.{props}
+use Rattle.cx_text.specs.Loading.{PlainMemory, FitsShape, FitsRows, word_count, plain_memory}
+use Rattle.cx_text.specs.declared.loading.LoadedMemory.{LoadedMemory}
+use Rattle.cx_prim.specs.CellStates.{StateShape, AreWords, TakesWords}
+use Rattle.cx_prim.specs.Table.{row_of}
+use Rattle.cx_meaning.specs.Designs.{PlainKind, OfPrimitive, OfComponent, PlainCell, PlainDesign, component_at}
+use Rattle.cx_meaning.specs.Sights.{In}
+use Rattle.cx_rules.specs.Wellformed.{IsDesign, IsExternal, first_number}
+use Rattle.cx_rules.specs.Externals.{sizes_in, numbers_of, row_for, if_external, rows_of, external_rows}
+use Rattle.cx_state.specs.States.{words_in}
+use Rattle.cx_state.specs.Starts.{words_for, words_past, KindTakes, TakeWords}
+use Rattle.cx_state.proofs.Shapes.{IsMemoryOf, memory_shape}
+
+-- without words nothing is taken
+kind_none : (kind : PlainKind) → KindTakes kind None
+kind_none (OfPrimitive p) = tt
+kind_none (OfComponent k) = tt
+
+none_for : (b : Bool) → words_for b [] ≡ None
+none_for true = refl
+none_for false = refl
+
+none_past : (b : Bool) → words_past b [] ≡ []
+none_past true = refl
+none_past false = refl
+
+pub take_none : (cells : List PlainCell) → TakeWords cells []
+take_none [] = tt
+take_none (cell ∷ cells) = (subst (KindTakes cell.kind) (sym (none_for cell.external)) (kind_none cell.kind), subst (TakeWords cells) (sym (none_past cell.external)) (take_none cells))
+
+takes_shape : (shape : StateShape) (width count : ℕ) (words : List ℕ) → IsMemoryOf shape width count → AreWords width count words → width ≤ 64 → TakesWords shape words
+takes_shape shape width count words (inl e) fit small = subst (λ s. TakesWords s words) (sym e) (fit, small)
+takes_shape shape width count words (inr e) fit small = subst (λ s. TakesWords s words) (sym e) (fit, small)
+
+-- an external cell takes the words of a memory of its row
+kind_takes : (d : PlainDesign) (k : ℕ) (cell : PlainCell) (kind : PlainKind) (m : PlainMemory) → cell.kind ≡ kind → IsExternal d k kind → m.shape ≡ row_for cell → FitsShape m → KindTakes kind (Some m.words)
+kind_takes d k cell (OfComponent j) m is external same fit = tt
+kind_takes d k cell (OfPrimitive p) m is external same fit =
+    let numbers : numbers_of cell.kind ≡ p.numbers = ap numbers_of is in
+    let width : m.shape.width ≡ first_number p.numbers = ap (λ r. r.width) same ∙ ap first_number numbers in
+    let sizes : m.shape.sizes ≡ sizes_in p.numbers = ap (λ r. r.sizes) same ∙ ap sizes_in numbers in
+    takes_shape (row_of p).shape (first_number p.numbers) (word_count (sizes_in p.numbers)) m.words (memory_shape p external.1)
+    (record { length = fit.count ∙ ap word_count sizes; in_range = subst (λ w. All (λ word. word < 2 ^ w) m.words) width fit.in_range }) external.2
+
+abbrev AreExternal : PlainDesign → ℕ → List PlainCell → Type 0
+AreExternal d k cells = (cell : PlainCell) → In cells cell → cell.external ≡ true → IsExternal d k cell.kind
+
+abbrev words_of_all : List PlainMemory → List (List ℕ)
+words_of_all memories = map (λ (m : PlainMemory). m.words) memories
+
+cell_takes : (d : PlainDesign) (k : ℕ) (cell : PlainCell) (cells : List PlainCell) (b : Bool) (memories : List PlainMemory) → cell.external ≡ b → (b ≡ true → IsExternal d k cell.kind)
+    → ((rest : List PlainMemory) → map (λ (m : PlainMemory). m.shape) rest ≡ rows_of cells → All FitsShape rest → TakeWords cells (words_of_all rest))
+    → map (λ (m : PlainMemory). m.shape) memories ≡ if_external b cell (rows_of cells) → All FitsShape memories
+    → KindTakes cell.kind (words_for b (words_of_all memories)) × TakeWords cells (words_past b (words_of_all memories))
+cell_takes d k cell cells false memories is external later same fit = (kind_none cell.kind, later memories same fit)
+cell_takes d k cell cells true [] is external later same fit = (kind_none cell.kind, take_none cells)
+cell_takes d k cell cells true (m ∷ ms) is external later same fit = (
+  kind_takes d k cell cell.kind m refl (external refl) (cc) (All-head FitsShape m ms fit),
+  later ms (cc) (All-tail FitsShape m ms fit),
+)
+
+all_take : (d : PlainDesign) (k : ℕ) (cells : List PlainCell) (memories : List PlainMemory) → AreExternal d k cells → map (λ (m : PlainMemory). m.shape) memories ≡ rows_of cells → All FitsShape memories
+    → TakeWords cells (words_of_all memories)
+all_take d k [] memories external same fit = tt
+all_take d k (cell ∷ cells) memories external same fit =
+    cell_takes d k cell cells cell.external memories refl (external cell (inl refl)) (λ rest e f. all_take d k cells rest (λ x i e. external x (inr i) e) e f) same fit
+
+external_kind : (d : PlainDesign) → ∥ IsDesign d ∥₁ → (cell : PlainCell) (kind : PlainKind) → cell.kind ≡ kind → In (component_at d d.main).cells cell → cell.external ≡ true → IsExternal d d.main kind
+external_kind d keeps cell (OfPrimitive p) e i x = ∥∥₁_elim keeps (hlevel props) (λ k. subst (IsExternal d d.main) e (((k.components d.main k.main_there).cells cell i).external x))
+external_kind d keeps cell (OfComponent j) e i x = ∥∥₁_elim keeps (hlevel props) (λ k. subst (IsExternal d d.main) e (((k.components d.main k.main_there).cells cell i).external x))
+
+words_plain : (memories : List LoadedMemory) → words_of_all (map plain_memory memories) ≡ words_in memories
+words_plain [] = refl
+words_plain (m ∷ ms) = ap (λ ws. m.words.items ∷ ws) (words_plain ms)
+
+-- the cells of main take what is loaded
+pub design_takes : (d : PlainDesign) → ∥ IsDesign d ∥₁ → (memories : List LoadedMemory) → FitsRows (external_rows d) (map plain_memory memories) → TakeWords (component_at d d.main).cells (words_in memories)
+design_takes d keeps memories fits =
+    subst (TakeWords (component_at d d.main).cells) (words_plain memories)
+    (all_take d d.main (component_at d d.main).cells (map plain_memory memories) (λ cell i e. external_kind d keeps cell cell.kind refl i e) fits.same_rows fits.whole)

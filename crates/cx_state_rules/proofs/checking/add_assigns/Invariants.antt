@@ -1,0 +1,13 @@
+use Rattle.std.proofs.Common.{◌≡◌, drop, map}
+use Rattle.cx_design.specs.PlainDesigns.{plain_design}
+use Rattle.cx_source_order.specs.Plain.{plain_owned}
+use Rattle.cx_first_break.specs.Breaks.{first_of}
+use Rattle.cx_first_break.specs.Numbered.{numbered}
+use Rattle.cx_state_rules.specs.StateBreaks.{assign_breaks_at}
+use Rattle.cx_state_rules.proofs.checking.add_assigns.Given as goal
+
+-- the first so far, with the assignments that are left, is the first of all
+abbrev pub invariant-loop-place : goal.invariant-loop-place
+invariant-loop-place l =
+    let f = assign_breaks_at (plain_design l.design) l.number in
+    first_of l.first (numbered f l.place (map plain_owned (drop l.place l.assigns.items))) ≡ first_of l.initial.first (numbered f 0 (map plain_owned l.assigns.items))

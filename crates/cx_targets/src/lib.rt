@@ -1,0 +1,4 @@
+//! Targets in trees of texts.
+#![tactic(auto)]
+
+pub mod laws;

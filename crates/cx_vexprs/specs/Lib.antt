@@ -1,0 +1,6 @@
+pub mod Places
+pub mod Tokens
+pub mod Exprs
+pub mod Numbers
+pub mod Answers
+pub mod Holds

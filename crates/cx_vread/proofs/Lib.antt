@@ -1,0 +1,4 @@
+pub mod Checks
+pub mod SoundHeld
+pub mod HeldSources
+pub mod WholeTexts

@@ -1,0 +1,2 @@
+pub mod ReadAnswers
+pub mod Laws

@@ -1,0 +1,5 @@
+//! Verilog texts that are read, and written again.
+#![tactic(auto)]
+
+#[cfg(test)]
+mod tests;
