@@ -57,6 +57,7 @@ left_by s (Goes after) = after
 left_by s (Faults fault) = s
 
 unless_fault-Goes : (fault : Option Fault) (s after : State) → unless_fault fault s ≡ Goes after → s ≡ after
+unfolding left_by
 unless_fault-Goes None s after e = ap (left_by s) e
 unless_fault-Goes (Some fault) s after e = absurd (cc)
 

@@ -14,22 +14,20 @@ use Rattle.cx_rules.proofs.Finite.{in_left, in_right}
 abbrev pub Keeps : {S F : Type 0} → (S → Type 0) → Meaning S F → Type 0
 Keeps {S} P meaning = (s : S) (n : ℕ) → P s → Leaves P (meaning s n)
 
-module _ {S F : Type 0} (P : S → Type 0) where
-  pub keeps_stay : Keeps {S = S} {F = F} P stay
-  keeps_stay s n p = p
+-- an idle turn that keeps it
+pub keeps_idle : {S : Type 0} (F : Type 0) (P : S → Type 0) (rest : S → S) → ((s : S) → P s → P (rest s)) → Keeps {S = S} {F = F} P (idle_turn rest)
+keeps_idle F P rest rests s zero p = tt
+keeps_idle F P rest rests s (suc n) p = rests s p
 
+module _ {S F : Type 0} (P : S → Type 0) where
   pub keeps_then : (first go : Meaning S F) → Keeps P first → Keeps P go → Keeps P (λ s n. then_do (first s n) n go)
   keeps_then first go f g s n p = leaves_then P (first s n) n go (f s n p) (λ after k q. g after k q)
 
   pub keeps_rounds : (k : ℕ) (body : Meaning S F) → Keeps P body → Keeps P (rounds k body)
   keeps_rounds k body h s n p = leaves_rounds P body k s n p h
 
-  -- an idle turn keeps it
+  -- where idle turns keep it
   module _ (rest : S → S) (rests : (s : S) → P s → P (rest s)) where
-    pub keeps_idle : Keeps {S = S} {F = F} P (idle_turn rest)
-    keeps_idle s zero p = tt
-    keeps_idle s (suc n) p = rests s p
-
     pub leaves_turn_then : (s : S) (turn : Turn S F) (go : S → Answer S F) → P s → ((after : S) → turn ≡ Goes after → Leaves P (go after)) → Leaves P (turn_then rest s turn go)
     leaves_turn_then s Ends go p h = rests s p
     leaves_turn_then s (Goes after) go p h = leaves_later P 1 (go after) (h after refl)
@@ -83,14 +81,14 @@ module _ {S F : Type 0} (L : control.Leaves S F) (P : S → Type 0) (allowed : �
   module _ (keep : LeavesKeep) where
     mutual
       keeps_form : (form : PlainForm) → ((g : ℕ) → In (groups_in form) g → allowed g) → Keeps P (run_form L form)
-      keeps_form Empty all s n p = keeps_idle P L.rest keep.rests s n p
+      keeps_form Empty all s n p = keeps_idle F P L.rest keep.rests s n p
       keeps_form (Enable g) all s n p = keep.enable g (all g (inl refl)) s n p
-      keeps_form (Seq no_statements) all s n p = keeps_idle P L.rest keep.rests s n p
+      keeps_form (Seq no_statements) all s n p = keeps_idle F P L.rest keep.rests s n p
       keeps_form (Seq (a_statement first later)) all s n p =
           keeps_then P (run L first) (run_parts L later)
           (keeps_run first (λ g i. all g (in_left (groups_of first) (groups_in_all later) g i)))
           (keeps_parts later (λ g i. all g (in_right (groups_of first) (groups_in_all later) g i))) s n p
-      keeps_form (Par no_statements) all s n p = keeps_idle P L.rest keep.rests s n p
+      keeps_form (Par no_statements) all s n p = keeps_idle F P L.rest keep.rests s n p
       keeps_form (Par (a_statement first later)) all s n p =
           keeps_both P (L.merged (L.driven first)) (keep.merges (L.driven first)) (run L first) (run_arms L later)
           (keeps_run first (λ g i. all g (in_left (groups_of first) (groups_in_all later) g i)))
@@ -101,7 +99,7 @@ module _ {S F : Type 0} (L : control.Leaves S F) (P : S → Type 0) (allowed : �
           (keeps_run b (λ g i. all g (later_group comb (groups_of a ++ groups_of b) g (in_right (groups_of a) (groups_of b) g i)))) s n p
       keeps_form (While test comb a) all s n p =
           keeps_loop_of P L.rest keep.rests (L.test test.port comb) (run L a) (keeps_run a (λ g i. all g (later_group comb (groups_of a) g i))) s n p
-      keeps_form (Repeat zero a) all s n p = keeps_idle P L.rest keep.rests s n p
+      keeps_form (Repeat zero a) all s n p = keeps_idle F P L.rest keep.rests s n p
       keeps_form (Repeat (suc k) a) all s n p = keeps_rounds P (suc k) (run L a) (keeps_run a all) s n p
       keeps_form (StaticSeq length parts) all s n p = keep.island (StaticSeq length parts) all s n p
       keeps_form (StaticPar length arms) all s n p = keep.island (StaticPar length arms) all s n p

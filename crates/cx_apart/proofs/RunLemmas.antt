@@ -158,6 +158,7 @@ next_of s (answers.Goes after) = after
 next_of s (answers.Faults fault) = s
 
 turn_of-Goes : (ended : Ended) (after : State) → turn_of ended ≡ answers.Goes after → ended ≡ Goes after
+unfolding next_of
 turn_of-Goes (Goes s) after e = ap Goes (ap (next_of s) e)
 turn_of-Goes (Faults fault) after e = absurd (cc)
 
@@ -199,7 +200,7 @@ module _ (i : Instance) (quiet : HasQuietRows i) (bare : BareEnablesNothing i) (
 
   module _ (held : Held) where
     keeps_cycles : (list : List Occurrence) → RunsOnly (Spares (part_of i) kept) list → (left t : ℕ) (h : History) → Keeps (Stays kept first) (island_from i held list left t h)
-    keeps_cycles list runs zero t h s n p = keeps_idle (Stays kept first) (idle i) stays_idle s n p
+    keeps_cycles list runs zero t h s n p = keeps_idle Fault (Stays kept first) (idle i) stays_idle s n p
     keeps_cycles list runs (suc left) t h s zero p = tt
     keeps_cycles list runs (suc left) t h s (suc n) p =
         leaves_turn_then (Stays kept first) (idle i) stays_idle s (island_turn i held list t (and_now h t (seen i held nothing s)) s) _ p
@@ -216,8 +217,8 @@ module _ (i : Instance) (quiet : HasQuietRows i) (bare : BareEnablesNothing i) (
       keeps_after e true s n p =
           keeps_turn (Stays kept first) (idle i) stays_idle (λ s1. turn_of (cycle i held (capture g e) s1)) (idle_turn (idle i))
           (λ s1 after q goes. stays_cycle held (capture g e) s1 after (λ c k. capture_undriven (part_of i) g e c (spares c k)) q (turn_of-Goes _ after goes))
-          (keeps_idle (Stays kept first) (idle i) stays_idle) s n p
-      keeps_after e false s n p = keeps_idle (Stays kept first) (idle i) stays_idle s n p
+          (keeps_idle Fault (Stays kept first) (idle i) stays_idle) s n p
+      keeps_after e false s n p = keeps_idle Fault (Stays kept first) (idle i) stays_idle s n p
 
       lifted_leaves : (e : ℕ) (s : State) (answer : Answer State Fault) → ((c : ℕ) → kept c → just e c ≡ false) → Stays kept first s → Leaves (Stays kept first) (lift_answer e s answer)
       lifted_leaves e s (End own t) apart p = stays_put e own s apart p
@@ -252,21 +253,15 @@ Undriven i statement s c = (drives (part_of i) statement c ≡ false) × IsSettl
 -- A RUN leaves them alone
 statement_stays : (i : Instance) → HasQuietRows i → BareEnablesNothing i → (held : Held) (statement : PlainStatement) (s : State) (n : ℕ) → Leaves (Stays (Undriven i statement s) s) (run_statement i held statement s n)
 statement_stays (Node part cells) quiet bare held statement s n =
-    keeps_run (leaves (Node part cells) (control_below cells) held) (Stays kept s) (Spares part kept)
+    keeps_run (leaves (Node part cells) (control_below cells) held) (Stays (Undriven (Node part cells) statement s) s) (Spares part (Undriven (Node part cells) statement s))
     (record {
-      rests = stays_idle (Node part cells) quiet bare kept s settled;
-      merges = stays_merged (Node part cells) quiet bare kept s settled;
-      enable = λ g spares s1 k p. keeps_enable (Node part cells) quiet bare kept s settled held g spares (control_below cells) (group_at part g).kind s1 k p;
-      island = λ form all s1 k p. keeps_island (Node part cells) quiet bare kept s settled held form all s1 k p;
+      rests = stays_idle (Node part cells) quiet bare (Undriven (Node part cells) statement s) s (λ c k. k.1);
+      merges = stays_merged (Node part cells) quiet bare (Undriven (Node part cells) statement s) s (λ c k. k.1);
+      enable = λ g spares s1 k p. keeps_enable (Node part cells) quiet bare (Undriven (Node part cells) statement s) s (λ c k. k.1) held g spares (control_below cells) (group_at part g).kind s1 k p;
+      island = λ form all s1 k p. keeps_island (Node part cells) quiet bare (Undriven (Node part cells) statement s) s (λ c k. k.1) held form all s1 k p;
       timed = λ k s1 j p. tt;
     })
     statement (λ g j c k. undriven_group part statement c k.0 g j) s n (refl, λ c k below. refl)
-  where
-    abbrev kept : ℕ → Type 0
-    kept = Undriven (Node part cells) statement s
-
-    settled : (c : ℕ) → kept c → IsSettledAt (Node part cells) s c
-    settled c k = k.1
 
 pub run_stays : (i : Instance) → HasQuietRows i → BareEnablesNothing i → (held : Held) (statement : PlainStatement) (s after : State) (n t : ℕ) → run_statement i held statement s n ≡ End after t → Stays (Undriven i statement s) s after
 run_stays i quiet bare held statement s after n t ends = subst (Leaves (Stays (Undriven i statement s) s)) ends (statement_stays i quiet bare held statement s n)
