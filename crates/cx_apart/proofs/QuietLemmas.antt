@@ -17,10 +17,8 @@ use Rattle.cx_prim.specs.MemoryRows.{are_sizes, is_address_width, memory_row, se
 use Rattle.cx_prim.specs.PipeRows.{multiplier_row, divider_row, timer_row}
 use Rattle.cx_prim.specs.Table.{PrimitiveRow, at_width, constant_at, slice_at, pad_at, memory_at, timer_at, row_at, no_row, row_of}
 use Rattle.cx_prim.specs.TableLaws.{row_of_lawful}
-use Rattle.cx_meaning.specs.declared.ports.PortRef.{PortRef}
 use Rattle.cx_meaning.specs.declared.ports.PortRef.TheVariants as ports
 use Rattle.cx_meaning.specs.declared.sights.Seen.{Seen}
-use Rattle.cx_meaning.specs.declared.sights.Seen.TheVariants.{Value}
 use Rattle.cx_meaning.specs.Sights.{Look, bit_of, Gathered, Given, with_entry, gather_one, gather_port, gather}
 use Rattle.cx_meaning.specs.Cycles.{Next, after_edge, after_data, enables, looks_at, after_enabling, cell_outcome}
 

@@ -1,22 +1,21 @@
 -- A run of a statement leaves alone what the statement does not drive.
 use Rattle.std.proofs.Common.{◌≡◌, ℕ, zero, suc, ◌+◌, ◌-◌, Bool, true, false, ◌||◌, ◌&&◌, nat_eq, nat_le, nat_lt, inl, inr, List, [], ◌∷◌, ◌++◌, Option, Some, None, if◌then◌else◌, refl, sym, ap, ◌∙◌, subst}
 use Rattle.std.proofs.lemmas.Bool.{eqb-true}
-use Rattle.cx_prim.specs.CellStates.{CellState}
 use Rattle.cx_meaning.specs.declared.ports.PortRef.{PortRef}
 use Rattle.cx_meaning.specs.declared.ports.PortRef.TheVariants as ports
 use Rattle.cx_meaning.specs.declared.kinds.GroupKind.{GroupKind}
 use Rattle.cx_meaning.specs.declared.kinds.GroupKind.TheVariants as kinds
 use Rattle.cx_meaning.specs.Designs.{PlainAssign, PlainComponent, group_at, PlainForm, Empty, Enable, Seq, Par, If, While, Repeat, StaticSeq, StaticPar, StaticIf, StaticRepeat, Timed, PlainStatement, Placed, PlainStatements, no_statements, a_statement}
 use Rattle.cx_meaning.specs.Instances.{Instance, Node, Cells, At, Nothing, OfRow, OfInstance, cell_at, cells_of, part_of, Path, State, Set, merge, just, beneath, put, under, idle_at, idle}
-use Rattle.cx_meaning.specs.Active.{Active, nothing, only_at, group, capture, Entry, offset_in, entries}
+use Rattle.cx_meaning.specs.Active.{Active, nothing, group, capture, offset_in, entries}
 use Rattle.cx_meaning.specs.Sights.{Held, In, seen}
-use Rattle.cx_meaning.specs.Truths.{Truth, One, Zero, Clash, Unknown, truth_of}
+use Rattle.cx_meaning.specs.Truths.{Truth, One, Zero, Clash, Unknown}
 use Rattle.cx_meaning.specs.Cycles.{Fault, Ended, Goes, Faults, cycle, every_cell}
 use Rattle.cx_meaning.specs.Answers.{Answer, End, More, Turn, idle_turn, one_turn, turns_of, turn_then, then_do}
 use Rattle.cx_meaning.specs.Answers as answers
 use Rattle.cx_meaning.specs.Control.{groups_in, groups_of, groups_in_all, targets_cell, assigns_drive, group_drives, groups_drive, drives}
-use Rattle.cx_meaning.specs.Islands.{group_length, form_length, length_of, sum_length, Sample, sample, Occurrence, Runs, Looks, rounds_from, occurrence, form_flat, flat, seq_flat, par_flat, History, no_history, hold, entry_if, active_in, looked_at, and_now, first_unclear, turn_of, unless_unclear, island_turn, island_from, island}
-use Rattle.cx_meaning.specs.Calls.{hole_turn, group_turn, if_instance, called_by, called_in, called, captures, lift_answer, inputs_of_call, after_child, call, call_or_turns, enable_kind}
+use Rattle.cx_meaning.specs.Islands.{group_length, form_length, length_of, Sample, sample, Occurrence, Runs, Looks, rounds_from, occurrence, form_flat, flat, seq_flat, par_flat, History, no_history, hold, entry_if, active_in, and_now, turn_of, unless_unclear, island_turn, island_from, island}
+use Rattle.cx_meaning.specs.Calls.{hole_turn, group_turn, if_instance, called_by, called_in, called, captures, lift_answer, inputs_of_call, after_child, call_or_turns, enable_kind}
 use Rattle.cx_meaning.specs.Running.{Children, leaves, control_below, run_statement}
 use Rattle.cx_meaning.specs.Budgets.{Leaves}
 use Rattle.cx_meaning.proofs.AnswersLemmas.{leaves_then}
@@ -25,7 +24,7 @@ use Rattle.cx_rules.proofs.Finite.{in_left, in_right}
 use Rattle.cx_apart.specs.Rests.{IsUndriven, IsSettledAt, IsKeptAt}
 use Rattle.cx_apart.proofs.EnableLemmas.{HasQuietRows, BareEnablesNothing}
 use Rattle.cx_apart.proofs.CycleLemmas.{idle_at-root, cycle_keeps_root, cycle_keeps}
-use Rattle.cx_apart.proofs.KeepLemmas.{Keeps, keeps_idle, keeps_turn, keeps_turns, leaves_turn_then, LeavesKeep, keeps_run}
+use Rattle.cx_apart.proofs.KeepLemmas.{Keeps, keeps_idle, keeps_turn, keeps_turns, leaves_turn_then, keeps_run}
 
 true_false : true ≡ false → ⊥
 true_false e = cc
