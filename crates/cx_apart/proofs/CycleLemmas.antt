@@ -1,25 +1,21 @@
 -- A cycle leaves alone what nothing active drives.
 use Rattle.std.proofs.Common.{◌≡◌, ℕ, zero, suc, ◌+◌, Bool, true, false, [], ◌∷◌, Option, Some, None, if◌then◌else◌, refl, sym, ap, ◌∙◌, subst, arith}
 use Rattle.std.proofs.Math.Path.{fun_ext}
+use Rattle.std.proofs.lemmas.Bool.{both_ways}
 use Rattle.cx_prim.specs.CellStates.{CellState}
 use Rattle.cx_prim.specs.Rows.{Row}
 use Rattle.cx_meaning.specs.declared.ports.PortRef.TheVariants as ports
+use Rattle.cx_meaning.specs.declared.sights.FaultKind.{FaultKind}
 use Rattle.cx_meaning.specs.Rows.{side_of}
 use Rattle.cx_meaning.specs.Instances.{Instance, Node, Cells, no_cells, a_primitive, an_instance, OfRow, OfInstance, cell_at, cells_of, part_of, Path, State, Set, merge, idle_at, idle_below, idle}
 use Rattle.cx_meaning.specs.Active.{Active, Owned, source_order}
 use Rattle.cx_meaning.specs.Sights.{Look, Held, In, seen}
-use Rattle.cx_meaning.specs.Cycles.{Fault, Outcome, Next, enables, cell_outcome, first_of, where_listed, first_fault, stepped, cell_after, state_after, Ended, Goes, Faults, unless_fault, cycle_by, cycle_of, every_cell}
+use Rattle.cx_meaning.specs.Cycles.{Fault, fault_at, Outcome, Next, Stops, enables, cell_outcome, first_of, where_listed, first_fault, stepped, cell_after, state_after, Ended, Goes, Faults, unless_fault, cycle_by, cycle_of, every_cell}
 use Rattle.cx_rules.specs.Ports.{enables_cell, is_primitive_enable}
 use Rattle.cx_rules.proofs.ForeignLemmas.{foreign_zero}
 use Rattle.cx_apart.specs.Rests.{IsUndriven, IsSettledAt, IsKeptAt}
 use Rattle.cx_apart.proofs.QuietLemmas.{cell_outcome-idle, is_enable_side-Enable}
-use Rattle.cx_apart.proofs.EnableLemmas.{HasQuietRows, BareEnablesNothing}
-
-true_false : true ≡ false → ⊥
-true_false e = cc
-
-row_is : (a b : Row) → OfRow a ≡ OfRow b → a ≡ b
-row_is a b e = cc
+use Rattle.cx_apart.proofs.EnableLemmas.{row_is, HasQuietRows, BareEnablesNothing}
 
 -- the idle turn of a primitive cell
 idle_below-row : (cells : Cells) (c : ℕ) (row : Row) (state : CellState) → cell_at cells c ≡ OfRow row → idle_below cells c [] state ≡ row.idle state
@@ -83,7 +79,7 @@ module _ (i : Instance) (quiet : HasQuietRows i) (bare : BareEnablesNothing i) (
   no_bare : (p : ℕ) (row : Row) → cell_at (cells_of i) c ≡ OfRow row → enables row p ≡ true → (o : Owned) → In (source_order (part_of i)) o → o.owner ≡ None → o.assign.target ≡ ports.Cell c p → ⊥
   no_bare p row stands enabling o j none target =
       let on : is_primitive_enable i o.assign.target ≡ true = ap (is_primitive_enable i) target ∙ ap (λ at. enables_cell at p) stands ∙ enabling in
-      true_false (sym on ∙ bare o j none)
+      both_ways (is_primitive_enable i o.assign.target) (bare o j none) on
 
   -- a cell that nothing active drives makes an idle step
   pub undriven_idles : (row : Row) → cell_at (cells_of i) c ≡ OfRow row → cell_outcome (seen i held act s) c row (s (c ∷ [])) ≡ Next (row.idle (s (c ∷ [])))
@@ -98,6 +94,48 @@ module _ (i : Instance) (quiet : HasQuietRows i) (bare : BareEnablesNothing i) (
 
   pub cycle_keeps : (listed : Set) (after : State) → IsSettledAt i s c → cycle_of i held act listed s ≡ Goes after → IsKeptAt s after c
   cycle_keeps listed after settled goes = at_cell i held act listed s after goes c (undriven_stays settled)
+
+-- a fault of a cycle is at a cell that does not go on
+unless_fault-Faults : (found : Option Fault) (s : State) (fault : Fault) → unless_fault found s ≡ Faults fault → found ≡ Some fault
+unless_fault-Faults None s fault e = absurd (cc)
+unless_fault-Faults (Some found) s fault e = let same : found ≡ fault = cc in ap Some same
+
+cell_is : (c d p q : ℕ) → ports.Cell c p ≡ ports.Cell d q → c ≡ d
+cell_is c d p q e = cc
+
+not_next : (look : Look) (c d : ℕ) (row : Row) (s : State) (kind : FaultKind) (q : ℕ) → cell_outcome look c row (s (c ∷ [])) ≡ Stops kind q → c ≡ d → (next : CellState) × (cell_outcome look d row (s (d ∷ [])) ≡ Next next) → ⊥
+not_next look c d row s kind q stops same (next, on) =
+    let goes : cell_outcome look c row (s (c ∷ [])) ≡ Next next = subst (λ n. cell_outcome look n row (s (n ∷ [])) ≡ Next next) (sym same) on in
+    different (sym stops ∙ goes)
+  where
+    different : Stops kind q ≡ Next next → ⊥
+    different e = cc
+
+module _ (listed : Set) (look : Look) (s : State) (c p : ℕ) (fault : Fault) (at_cell : fault.port ≡ ports.Cell c p) where
+  first_fault-elsewhere : (cells : Cells) (start : ℕ) → ((k : ℕ) (row : Row) → cell_at cells k ≡ OfRow row → start + k ≡ c → (next : CellState) × (cell_outcome look c row (s (c ∷ [])) ≡ Next next)) → first_fault listed look s cells start ≡ Some fault → ⊥
+  first_fault-elsewhere no_cells start on e = absurd (cc)
+  first_fault-elsewhere (a_primitive row rest) start on e =
+      found (listed start) (cell_outcome look start row (s (start ∷ []))) refl e
+      (first_fault-elsewhere rest (suc start) (λ k r stands number. on (suc k) r stands (omega arith)))
+    where
+      found : (b : Bool) (outcome : Outcome) → cell_outcome look start row (s (start ∷ [])) ≡ outcome
+          → where_listed b (first_of start outcome (first_fault listed look s rest (suc start))) (first_fault listed look s rest (suc start)) ≡ Some fault
+          → (first_fault listed look s rest (suc start) ≡ Some fault → ⊥) → ⊥
+      found false outcome is e later = later e
+      found true (Next next) is e later = later e
+      found true (Stops kind q) is e later =
+          let told : fault_at kind (ports.Cell start q) ≡ fault = cc in
+          let same : start ≡ c = cell_is start c q p (ap (λ f. f.port) told ∙ at_cell) in
+          let first : start + 0 ≡ c = omega arith in
+          not_next look start c row s kind q is same (on 0 row refl first)
+  first_fault-elsewhere (an_instance child rest) start on e = first_fault-elsewhere rest (suc start) (λ k r stands number. on (suc k) r stands (omega arith)) e
+
+module _ (i : Instance) (quiet : HasQuietRows i) (bare : BareEnablesNothing i) (held : Held) (act : Active) (s : State) (c : ℕ) (undriven : IsUndriven (part_of i) act c) where
+  pub cycle_faults_elsewhere : (listed : Set) (fault : Fault) (p : ℕ) → cycle_of i held act listed s ≡ Faults fault → fault.port ≡ ports.Cell c p → ⊥
+  cycle_faults_elsewhere listed fault p faults at_cell =
+      first_fault-elsewhere listed (seen i held act s) s c p fault at_cell (cells_of i) 0
+      (λ k row stands number. let same : k ≡ c = omega arith in (row.idle (s (c ∷ [])), undriven_idles i quiet bare held act s c undriven row (subst (λ n. cell_at (cells_of i) n ≡ OfRow row) same stands)))
+      (unless_fault-Faults _ _ fault faults)
 
 -- THE LISTED CELLS SUFFICE where the others go on without a fault and stay as they are
 first_listed : (b : Bool) (c : ℕ) (outcome : Outcome) (some every : Option Fault) → some ≡ every → (b ≡ false → (next : CellState) × (outcome ≡ Next next)) → where_listed b (first_of c outcome some) some ≡ first_of c outcome every

@@ -1,7 +1,7 @@
 -- In an accepted design the cells of every instance have rows that rest, and no continuous assignment drives an enabling port.
-use Rattle.std.proofs.Common.{◌≡◌, ℕ, zero, suc, ◌<◌, ⊎_elim, true, false, Bool, None, List, [], ◌∷◌, length, refl, sym, ap, ◌∙◌, subst, arith}
+use Rattle.std.proofs.Common.{◌≡◌, ℕ, zero, suc, ◌<◌, ⊎_elim, true, false, None, List, [], ◌∷◌, length, refl, sym, ap, ◌∙◌, subst, arith}
 use Rattle.std.specs.Prelude.{Some, slice_get}
-use Rattle.std.proofs.lemmas.Bool.{cases_lt}
+use Rattle.std.proofs.lemmas.Bool.{cases_lt, false_from_ne_true}
 use Rattle.std.proofs.lemmas.List.{get_or_past}
 use Rattle.cx_text.specs.declared.rules.Rule.TheVariants.{AlwaysEnable}
 use Rattle.cx_prim.specs.Rows.{Row}
@@ -21,7 +21,7 @@ use Rattle.cx_apart.proofs.QuietLemmas.{IsQuietRow, quiet_row}
 abbrev pub HasQuietRows : Instance → Type 0
 HasQuietRows i = (c : ℕ) (row : Row) → cell_at (cells_of i) c ≡ OfRow row → IsQuietRow row
 
-row_is : (a b : Row) → OfRow a ≡ OfRow b → a ≡ b
+pub row_is : (a b : Row) → OfRow a ≡ OfRow b → a ≡ b
 row_is a b e = cc
 
 kind_quiet : (child : ℕ → Instance) (kind : PlainKind) (rest : Cells) → ((c : ℕ) (row : Row) → cell_at rest c ≡ OfRow row → IsQuietRow row) → (c : ℕ) (row : Row) → cell_at (add_cell child kind rest) c ≡ OfRow row → IsQuietRow row
@@ -68,10 +68,6 @@ number_in : (xs : List Owned) (x : Owned) → In xs x → (n : ℕ) × (slice_ge
 number_in [] x i = absurd i
 number_in (y ∷ ys) x i = ⊎_elim (λ e. (0, ap Some e)) (λ j. let r = number_in ys x j in (suc r.0, r.1)) i
 
-not_true : (b : Bool) → (b ≡ true → ⊥) → b ≡ false
-not_true true h = absurd (h refl)
-not_true false h = refl
-
 -- no continuous assignment drives an enabling port of a primitive cell
 abbrev pub BareEnablesNothing : Instance → Type 0
 BareEnablesNothing i = (o : Owned) → In (source_order (part_of i)) o → o.owner ≡ None → is_primitive_enable i o.assign.target ≡ false
@@ -95,7 +91,7 @@ module _ (d : PlainDesign) (accepted : IsAccepted d) where
   bare_in_tree : (m k : ℕ) → BareEnablesNothing (tree_within d m k)
   bare_in_tree m k o i bare =
       let j = subst (λ part. In (source_order part) o) (same_part d m k) i in
-      not_true (is_primitive_enable (tree_within d m k) o.assign.target)
+      false_from_ne_true (is_primitive_enable (tree_within d m k) o.assign.target)
       (λ e. ⊎_elim (λ h. there m k (length d.components) refl h o j bare e) (λ h. past k (get_or_past d.components k no_component h) o j) (cases_lt k (length d.components)))
 
   reached_bare : {i : Instance} → Reached d i → BareEnablesNothing i

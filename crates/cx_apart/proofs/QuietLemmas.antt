@@ -1,7 +1,8 @@
 -- A cell whose enabling ports are all 0 makes an idle step, and looks at nothing else.
-use Rattle.std.proofs.Common.{◌≡◌, ℕ, zero, suc, Bool, true, false, ◌||◌, List, [], ◌∷◌, if◌then◌else◌, refl, sym, ap, ◌∙◌, subst}
+use Rattle.std.proofs.Common.{⊎_elim, ◌≡◌, ℕ, zero, suc, Bool, true, false, ◌||◌, List, [], ◌∷◌, if◌then◌else◌, refl, sym, ap, ◌∙◌, subst}
 use Rattle.std.specs.Prelude.{◌*◌, ◌+◌, ◌^◌, ◌==◌, ◌&&◌, Some, None, nat_lt, nat_le, length, take, drop, unwrap_or}
 use Rattle.std.specs.List.{list_all}
+use Rattle.std.proofs.lemmas.Bool.{both_ways, or_cases}
 use Rattle.cx_prim.specs.declared.names.PrimitiveName.{PrimitiveName}
 use Rattle.cx_prim.specs.declared.names.PrimitiveName.TheVariants.{Const, Wire, Add, Sub, And, Or, Xor, Not, Lsh, Rsh, Lt, Gt, Equal, Neq, Le, Ge, Slt, Sgt, Seq, Sneq, Sle, Sge, Slice, Pad, Mux, Reg, StdMemD1, StdMemD2, StdMemD3, StdMemD4, CombMemD1, CombMemD2, CombMemD3, CombMemD4, SeqMemD1, SeqMemD2, SeqMemD3, SeqMemD4, MultPipe, DivPipe, Timer}
 use Rattle.cx_bits.specs.Operators.{low_bits_of, zero_extension_of}
@@ -180,8 +181,7 @@ gather-zero look wanted p (row ∷ rows) h = one (wanted p) (h p) (gather-zero l
     one false e rest = add_none (gather look wanted (suc p) rows) rest
 
 left_of_or : (a b : Bool) → (a || b) ≡ true → b ≡ false → a ≡ true
-left_of_or true b e f = refl
-left_of_or false b e f = absurd (cc)
+left_of_or a b e off = ⊎_elim (λ on. on) (λ on. absurd (both_ways b off on)) (or_cases a b e)
 
 pub is_enable_side-Enable : (side : Side) → is_enable_side side ≡ true → side ≡ sides.Enable
 is_enable_side-Enable sides.Enable e = refl
@@ -194,7 +194,7 @@ pub cell_outcome-idle : (look : Look) (c : ℕ) (row : Row) (state : CellState) 
 cell_outcome-idle look c row state quiet zeros =
     let first = gather-zero (λ p. look (ports.Cell c p)) (enables row) 0 row.ports zeros in
     let second = gather-zero (λ p. look (ports.Cell c p)) (looks_at row state first.inputs) 0 row.ports
-        (λ p w. zeros p (left_of_or (enables row p) (row.demands state first.inputs p) w (quiet.demands_nothing state first.inputs p first.zeros))) in
+    (λ p w. zeros p (left_of_or (enables row p) (row.demands state first.inputs p) w (quiet.demands_nothing state first.inputs p first.zeros))) in
     ap (after_enabling (λ p. look (ports.Cell c p)) row state) first.given
     ∙ ap (after_data row state) second.given
     ∙ ap after_edge (quiet.idles state second.inputs (λ n port at side. second.zeros n))

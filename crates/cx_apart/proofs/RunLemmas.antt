@@ -1,6 +1,6 @@
 -- A run of a statement leaves alone what the statement does not drive.
 use Rattle.std.proofs.Common.{◌≡◌, ℕ, zero, suc, ◌+◌, ◌-◌, Bool, true, false, ◌||◌, ◌&&◌, nat_eq, nat_le, nat_lt, inl, inr, List, [], ◌∷◌, ◌++◌, Option, Some, None, if◌then◌else◌, refl, sym, ap, ◌∙◌, subst}
-use Rattle.std.proofs.lemmas.Bool.{eqb-true}
+use Rattle.std.proofs.lemmas.Bool.{both_ways, false_from_ne_true, ne_eqb, or_parts, or_right}
 use Rattle.cx_meaning.specs.declared.ports.PortRef.{PortRef}
 use Rattle.cx_meaning.specs.declared.ports.PortRef.TheVariants as ports
 use Rattle.cx_meaning.specs.declared.kinds.GroupKind.{GroupKind}
@@ -19,23 +19,11 @@ use Rattle.cx_meaning.specs.Calls.{hole_turn, group_turn, if_instance, called_by
 use Rattle.cx_meaning.specs.Running.{Children, leaves, control_below, run_statement}
 use Rattle.cx_meaning.specs.Budgets.{Leaves}
 use Rattle.cx_meaning.proofs.AnswersLemmas.{leaves_then}
-use Rattle.cx_rules.proofs.ForeignLemmas.{or_right}
 use Rattle.cx_rules.proofs.Finite.{in_left, in_right}
 use Rattle.cx_apart.specs.Rests.{IsUndriven, IsSettledAt, IsKeptAt}
 use Rattle.cx_apart.proofs.EnableLemmas.{HasQuietRows, BareEnablesNothing}
 use Rattle.cx_apart.proofs.CycleLemmas.{idle_at-root, cycle_keeps_root, cycle_keeps}
 use Rattle.cx_apart.proofs.KeepLemmas.{Keeps, keeps_idle, keeps_turn, keeps_turns, leaves_turn_then, keeps_run}
-
-true_false : true ≡ false → ⊥
-true_false e = cc
-
-left_off : (a b : Bool) → (a || b) ≡ false → a ≡ false
-left_off true b e = e
-left_off false b e = refl
-
-right_off : (a b : Bool) → (a || b) ≡ false → b ≡ false
-right_off true b e = absurd (true_false e)
-right_off false b e = e
 
 -- GROUPS: what a group of a statement drives the statement drives
 groups_drive_in : (part : PlainComponent) (gs : List ℕ) (g c : ℕ) → In gs g → group_drives part g c ≡ true → groups_drive part gs c ≡ true
@@ -46,16 +34,12 @@ groups_drive_in part (h ∷ gs) g c (inr i) e = or_right (group_drives part h c)
 pub drives_group : (part : PlainComponent) (s : PlainStatement) (g c : ℕ) → In (groups_of s) g → group_drives part g c ≡ true → drives part s c ≡ true
 drives_group part s g c i e = groups_drive_in part (groups_of s) g c i e
 
-not_both : (a b : Bool) → a ≡ false → (b ≡ true → a ≡ true) → b ≡ false
-not_both a true e h = absurd (true_false (sym (h refl) ∙ e))
-not_both a false e h = refl
-
 undriven_group : (part : PlainComponent) (s : PlainStatement) (c : ℕ) → drives part s c ≡ false → (g : ℕ) → In (groups_of s) g → group_drives part g c ≡ false
-undriven_group part s c e g i = not_both (drives part s c) (group_drives part g c) e (drives_group part s g c i)
+undriven_group part s c off g i = false_from_ne_true (group_drives part g c) (λ on. both_ways (drives part s c) off (drives_group part s g c i on))
 
 -- ONE GROUP that does not drive the cell
 nat_eq-differs : (part : PlainComponent) (c g h : ℕ) → group_drives part g c ≡ false → group_drives part h c ≡ true → nat_eq g h ≡ false
-nat_eq-differs part c g h off on = not_both false (nat_eq g h) refl (λ e. absurd (true_false (sym on ∙ ap (λ k. group_drives part k c) (sym (eqb-true g h e)) ∙ off)))
+nat_eq-differs part c g h off on = ne_eqb g h (λ same. both_ways (group_drives part g c) off (ap (λ k. group_drives part k c) same ∙ on))
 
 group_undriven : (part : PlainComponent) (g c : ℕ) → group_drives part g c ≡ false → IsUndriven part (group g) c
 group_undriven part g c off h on = ap (λ b. if b then Some 0 else None) (nat_eq-differs part c g h off on)
@@ -147,8 +131,8 @@ target_apart cells (ports.Literal w v) e c later off h same = h same
 called_apart : (cells : Cells) (assigns : List PlainAssign) (e c : ℕ) → assigns_drive assigns c ≡ false → called_in cells assigns ≡ Some e → just e c ≡ false
 called_apart cells [] e c off same = absurd (cc)
 called_apart cells (a ∷ rest) e c off same =
-    target_apart cells a.target e c (called_in cells rest) (left_off (targets_cell a.target c) (assigns_drive rest c) off)
-    (called_apart cells rest e c (right_off (targets_cell a.target c) (assigns_drive rest c) off)) same
+    target_apart cells a.target e c (called_in cells rest) (or_parts (targets_cell a.target c) (assigns_drive rest c) off).0
+    (called_apart cells rest e c (or_parts (targets_cell a.target c) (assigns_drive rest c) off).1) same
 
 -- TURNS that go on
 next_of : State → Turn State Fault → State
@@ -193,9 +177,10 @@ module _ (i : Instance) (quiet : HasQuietRows i) (bare : BareEnablesNothing i) (
   stays_put e own s apart p = (p.0, λ c k below. ap (λ b. if b then beneath own (c ∷ below) else s (c ∷ below)) (apart c k) ∙ p.1 c k below)
 
   stays_cycle : (held : Held) (act : Active) (s after : State) → ((c : ℕ) → kept c → IsUndriven (part_of i) act c) → Stays kept first s → cycle i held act s ≡ Goes after → Stays kept first after
-  stays_cycle held act s after undriven p goes =
-      (cycle_keeps_root i held act every_cell s after goes ∙ p.0,
-      λ c k below. cycle_keeps i quiet bare held act s c (undriven c k) every_cell after (still_settled s p c k) goes below ∙ p.1 c k below)
+  stays_cycle held act s after undriven p goes = (
+    cycle_keeps_root i held act every_cell s after goes ∙ p.0,
+    λ c k below. cycle_keeps i quiet bare held act s c (undriven c k) every_cell after (still_settled s p c k) goes below ∙ p.1 c k below,
+  )
 
   module _ (held : Held) where
     keeps_cycles : (list : List Occurrence) → RunsOnly (Spares (part_of i) kept) list → (left t : ℕ) (h : History) → Keeps (Stays kept first) (island_from i held list left t h)

@@ -2,11 +2,12 @@
 
 ghost use Rattle.std.specs.Prelude.{◌≡◌, ℕ, true, false, [], ◌∷◌, None};
 ghost use Rattle.cx_prim.specs.Rows.{Row};
+ghost use Rattle.cx_meaning.specs.declared.ports.PortRef.TheVariants.{Cell};
 ghost use Rattle.cx_meaning.specs.Designs.{PlainComponent, PlainDesign, PlainStatement};
 ghost use Rattle.cx_meaning.specs.Instances.{Instance, OfInstance, OfRow, Path, Set, State, cell_at, cells_of, idle, instance_at, merge, part_of, tree_of};
 ghost use Rattle.cx_meaning.specs.Active.{Active, Owned, source_order};
 ghost use Rattle.cx_meaning.specs.Sights.{Held, In, seen};
-ghost use Rattle.cx_meaning.specs.Cycles.{Goes, Next, cell_outcome, cycle_of, every_cell};
+ghost use Rattle.cx_meaning.specs.Cycles.{Fault, Faults, Goes, Next, cell_outcome, cycle_of, every_cell};
 ghost use Rattle.cx_meaning.specs.Answers.{End};
 ghost use Rattle.cx_meaning.specs.Control.{drives, group_drives, groups_of};
 ghost use Rattle.cx_meaning.specs.Running.{run_statement};
@@ -32,6 +33,9 @@ pub fn cycles_keep_the_rest()
         → IsAccepted d → IsUndriven (part_of (instance_at (tree_of d) path)) act c
         → IsSettledAt (instance_at (tree_of d) path) s c
         → cycle_of (instance_at (tree_of d) path) held act listed s ≡ Goes after → IsKeptAt s after c }
+    ensures elsewhere { (d : PlainDesign) (path : Path) (held : Held) (act : Active) (listed : Set) (s : State) (c p : ℕ) (fault : Fault)
+        → IsAccepted d → IsUndriven (part_of (instance_at (tree_of d) path)) act c
+        → cycle_of (instance_at (tree_of d) path) held act listed s ≡ Faults fault → fault.port ≡ Cell c p → ⊥ }
     ensures children { (i child : Instance) (held : Held) (act : Active) (listed : Set) (s after : State) (c : ℕ)
         → cell_at (cells_of i) c ≡ OfInstance child → cycle_of i held act listed s ≡ Goes after → IsKeptAt s after c }
     ensures root { (i : Instance) (held : Held) (act : Active) (listed : Set) (s after : State)
