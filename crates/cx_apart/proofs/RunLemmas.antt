@@ -1,6 +1,7 @@
 -- A run of a statement leaves alone what the statement does not drive.
 use Rattle.std.proofs.Common.{◌≡◌, ℕ, zero, suc, ◌+◌, ◌-◌, Bool, true, false, ◌||◌, ◌&&◌, nat_eq, nat_le, nat_lt, inl, inr, List, [], ◌∷◌, ◌++◌, Option, Some, None, if◌then◌else◌, refl, sym, ap, ◌∙◌, subst}
 use Rattle.std.proofs.lemmas.Bool.{both_ways, false_from_ne_true, ne_eqb, or_parts, or_right}
+use Rattle.cx_text.specs.declared.places.Place.{Place}
 use Rattle.cx_meaning.specs.declared.ports.PortRef.{PortRef}
 use Rattle.cx_meaning.specs.declared.ports.PortRef.TheVariants as ports
 use Rattle.cx_meaning.specs.declared.kinds.GroupKind.{GroupKind}
@@ -34,17 +35,17 @@ groups_drive_in part (h ∷ gs) g c (inr i) e = or_right (group_drives part h c)
 pub drives_group : (part : PlainComponent) (s : PlainStatement) (g c : ℕ) → In (groups_of s) g → group_drives part g c ≡ true → drives part s c ≡ true
 drives_group part s g c i e = groups_drive_in part (groups_of s) g c i e
 
-undriven_group : (part : PlainComponent) (s : PlainStatement) (c : ℕ) → drives part s c ≡ false → (g : ℕ) → In (groups_of s) g → group_drives part g c ≡ false
+pub undriven_group : (part : PlainComponent) (s : PlainStatement) (c : ℕ) → drives part s c ≡ false → (g : ℕ) → In (groups_of s) g → group_drives part g c ≡ false
 undriven_group part s c off g i = false_from_ne_true (group_drives part g c) (λ on. both_ways (drives part s c) off (drives_group part s g c i on))
 
 -- ONE GROUP that does not drive the cell
 nat_eq-differs : (part : PlainComponent) (c g h : ℕ) → group_drives part g c ≡ false → group_drives part h c ≡ true → nat_eq g h ≡ false
 nat_eq-differs part c g h off on = ne_eqb g h (λ same. both_ways (group_drives part g c) off (ap (λ k. group_drives part k c) same ∙ on))
 
-group_undriven : (part : PlainComponent) (g c : ℕ) → group_drives part g c ≡ false → IsUndriven part (group g) c
+pub group_undriven : (part : PlainComponent) (g c : ℕ) → group_drives part g c ≡ false → IsUndriven part (group g) c
 group_undriven part g c off h on = ap (λ b. if b then Some 0 else None) (nat_eq-differs part c g h off on)
 
-capture_undriven : (part : PlainComponent) (g e c : ℕ) → group_drives part g c ≡ false → IsUndriven part (capture g e) c
+pub capture_undriven : (part : PlainComponent) (g e c : ℕ) → group_drives part g c ≡ false → IsUndriven part (capture g e) c
 capture_undriven part g e c off h on = ap (λ b. if b then Some 0 else None) (nat_eq-differs part c g h off on)
 
 -- ISLANDS: the groups of the flat list are those of the statement
@@ -114,6 +115,12 @@ entries_undriven part kept c k t h (Runs x from to samples ∷ rest) (spares, ru
     one true e = ap (λ same. if same then Some (t - from) else offset_in (active_in h t rest) g) (nat_eq-differs part c x g (spares c k) on) ∙ e
     one false e = e
 entries_undriven part kept c k t h (Looks port at samples ∷ rest) runs g on = entries_undriven part kept c k t h rest runs g on
+
+-- what a statement does not drive no group drives that is active in an island of it
+pub island_undriven : (part : PlainComponent) (form : PlainForm) (place : Place) (t : ℕ) (h : History) (c : ℕ) → drives part (Placed form place) c ≡ false → IsUndriven part (entries (active_in h t (form_flat part form 0 []))) c
+island_undriven part form place t h c off =
+    entries_undriven part (λ e. drives part (Placed form place) e ≡ false) c off t h (form_flat part form 0 [])
+    (runs_form part (Spares part (λ e. drives part (Placed form place) e ≡ false)) form (λ g i e spared. undriven_group part (Placed form place) e spared g i) 0 [])
 
 -- CALLS: the cell that a group calls is one that it drives
 at_apart : (at : At) (d e c : ℕ) (later : Option ℕ) → just d c ≡ false → (later ≡ Some e → just e c ≡ false) → if_instance at d later ≡ Some e → just e c ≡ false
@@ -231,21 +238,21 @@ module _ (i : Instance) (quiet : HasQuietRows i) (bare : BareEnablesNothing i) (
       keeps_enable children (kinds.Timed length) s n p = keeps_island (Enable g) only_group s n p
 
 -- the cells that a statement does not drive and that are settled
-abbrev pub Undriven : Instance → PlainStatement → State → ℕ → Type 0
-Undriven i statement s c = (drives (part_of i) statement c ≡ false) × IsSettledAt i s c
+abbrev pub IsSpared : Instance → PlainStatement → State → ℕ → Type 0
+IsSpared i statement s c = (drives (part_of i) statement c ≡ false) × IsSettledAt i s c
 
 -- A RUN leaves them alone
-statement_stays : (i : Instance) → HasQuietRows i → BareEnablesNothing i → (held : Held) (statement : PlainStatement) (s : State) (n : ℕ) → Leaves (Stays (Undriven i statement s) s) (run_statement i held statement s n)
+statement_stays : (i : Instance) → HasQuietRows i → BareEnablesNothing i → (held : Held) (statement : PlainStatement) (s : State) (n : ℕ) → Leaves (Stays (IsSpared i statement s) s) (run_statement i held statement s n)
 statement_stays (Node part cells) quiet bare held statement s n =
-    keeps_run (leaves (Node part cells) (control_below cells) held) (Stays (Undriven (Node part cells) statement s) s) (Spares part (Undriven (Node part cells) statement s))
+    keeps_run (leaves (Node part cells) (control_below cells) held) (Stays (IsSpared (Node part cells) statement s) s) (Spares part (IsSpared (Node part cells) statement s))
     (record {
-      rests = stays_idle (Node part cells) quiet bare (Undriven (Node part cells) statement s) s (λ c k. k.1);
-      merges = stays_merged (Node part cells) quiet bare (Undriven (Node part cells) statement s) s (λ c k. k.1);
-      enable = λ g spares s1 k p. keeps_enable (Node part cells) quiet bare (Undriven (Node part cells) statement s) s (λ c k. k.1) held g spares (control_below cells) (group_at part g).kind s1 k p;
-      island = λ form all s1 k p. keeps_island (Node part cells) quiet bare (Undriven (Node part cells) statement s) s (λ c k. k.1) held form all s1 k p;
+      rests = stays_idle (Node part cells) quiet bare (IsSpared (Node part cells) statement s) s (λ c k. k.1);
+      merges = stays_merged (Node part cells) quiet bare (IsSpared (Node part cells) statement s) s (λ c k. k.1);
+      enable = λ g spares s1 k p. keeps_enable (Node part cells) quiet bare (IsSpared (Node part cells) statement s) s (λ c k. k.1) held g spares (control_below cells) (group_at part g).kind s1 k p;
+      island = λ form all s1 k p. keeps_island (Node part cells) quiet bare (IsSpared (Node part cells) statement s) s (λ c k. k.1) held form all s1 k p;
       timed = λ k s1 j p. tt;
     })
     statement (λ g j c k. undriven_group part statement c k.0 g j) s n (refl, λ c k below. refl)
 
-pub run_stays : (i : Instance) → HasQuietRows i → BareEnablesNothing i → (held : Held) (statement : PlainStatement) (s after : State) (n t : ℕ) → run_statement i held statement s n ≡ End after t → Stays (Undriven i statement s) s after
-run_stays i quiet bare held statement s after n t ends = subst (Leaves (Stays (Undriven i statement s) s)) ends (statement_stays i quiet bare held statement s n)
+pub run_stays : (i : Instance) → HasQuietRows i → BareEnablesNothing i → (held : Held) (statement : PlainStatement) (s after : State) (n t : ℕ) → run_statement i held statement s n ≡ End after t → Stays (IsSpared i statement s) s after
+run_stays i quiet bare held statement s after n t ends = subst (Leaves (Stays (IsSpared i statement s) s)) ends (statement_stays i quiet bare held statement s n)

@@ -1,13 +1,15 @@
 //! Laws: each function does nothing, and its clause is the law.
 
 ghost use Rattle.std.specs.Prelude.{◌≡◌, ℕ, true, false, [], ◌∷◌, None};
+ghost use Rattle.cx_text.specs.declared.places.Place.{Place};
 ghost use Rattle.cx_prim.specs.Rows.{Row};
 ghost use Rattle.cx_meaning.specs.declared.ports.PortRef.TheVariants.{Cell};
-ghost use Rattle.cx_meaning.specs.Designs.{PlainComponent, PlainDesign, PlainStatement};
+ghost use Rattle.cx_meaning.specs.Designs.{Placed, PlainComponent, PlainDesign, PlainForm, PlainStatement};
 ghost use Rattle.cx_meaning.specs.Instances.{Instance, OfInstance, OfRow, Path, Set, State, cell_at, cells_of, idle, instance_at, merge, part_of, tree_of};
-ghost use Rattle.cx_meaning.specs.Active.{Active, Owned, source_order};
+ghost use Rattle.cx_meaning.specs.Active.{Active, Owned, capture, entries, group, source_order};
 ghost use Rattle.cx_meaning.specs.Sights.{Held, In, seen};
 ghost use Rattle.cx_meaning.specs.Cycles.{Fault, Faults, Goes, Next, cell_outcome, cycle_of, every_cell};
+ghost use Rattle.cx_meaning.specs.Islands.{History, active_in, form_flat};
 ghost use Rattle.cx_meaning.specs.Answers.{End};
 ghost use Rattle.cx_meaning.specs.Control.{drives, group_drives, groups_of};
 ghost use Rattle.cx_meaning.specs.Running.{run_statement};
@@ -62,6 +64,17 @@ pub fn listed_cells_suffice_when_idle()
 pub fn group_within()
     ensures { (part : PlainComponent) (s : PlainStatement) (g c : ℕ)
         → In (groups_of s) g → group_drives part g c ≡ true → drives part s c ≡ true }
+{}
+
+/// What a statement does not drive no group drives that is active in a turn of it: a group of it alone, a call group of it in
+/// its capture cycle, or the static groups that an island of it has active together.
+pub fn active_groups_within()
+    ensures alone { (part : PlainComponent) (s : PlainStatement) (g c : ℕ)
+        → In (groups_of s) g → drives part s c ≡ false → IsUndriven part (group g) c }
+    ensures capture { (part : PlainComponent) (s : PlainStatement) (g called c : ℕ)
+        → In (groups_of s) g → drives part s c ≡ false → IsUndriven part (capture g called) c }
+    ensures island { (part : PlainComponent) (form : PlainForm) (place : Place) (h : History) (t c : ℕ)
+        → drives part (Placed form place) c ≡ false → IsUndriven part (entries (active_in h t (form_flat part form 0 []))) c }
 {}
 
 /// In an accepted design a run of a statement leaves every cell that the statement does not drive as it was, where the cell was
