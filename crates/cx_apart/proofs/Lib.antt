@@ -1,0 +1,5 @@
+mod QuietLemmas
+mod EnableLemmas
+mod CycleLemmas
+mod KeepLemmas
+mod RunLemmas

@@ -1,0 +1,4 @@
+//! What a statement does not drive stays as it is.
+#![tactic(auto)]
+
+pub mod laws;
