@@ -1,0 +1,4 @@
+mod RowWidths
+mod SightWidths
+mod TreeLemmas
+mod SeenLemmas

@@ -1,0 +1,4 @@
+//! Widths of what is seen in an accepted design.
+#![tactic(auto)]
+
+pub mod laws;

@@ -1,0 +1,4 @@
+//! Widths of what is seen in the states of a design.
+#![tactic(auto)]
+
+pub mod laws;
