@@ -1,2 +1,9 @@
 mod AlikeLemmas
 mod ControlFrames
+mod StillLemmas
+mod QuietLemmas
+mod RuleLemmas
+mod SightFrames
+mod CircleFrames
+mod LeafFrames
+mod IslandFrames
