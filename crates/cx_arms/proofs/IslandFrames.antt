@@ -29,11 +29,11 @@ none_some k e = cc
 -- what is active is among the groups of the entries
 entries_among : (es : List Entry) → IsAmong (entries es) (map (λ e. e.group) es)
 entries_among [] g k e = none_some k e
-entries_among (x ∷ es) g k e = go (nat_eq x.group g) refl e
+entries_among (x ∷ es) g k e = go (nat_eq x.group g) refl e (entries_among es g k)
   where
-    go : (b : Bool) → nat_eq x.group g ≡ b → (if b then Some x.offset else offset_in es g) ≡ Some k → In (map (λ e. e.group) (x ∷ es)) g
-    go true same e = inl (eqb-true x.group g same)
-    go false differ e = inr (entries_among es g k e)
+    go : (b : Bool) → nat_eq x.group g ≡ b → (if b then Some x.offset else offset_in es g) ≡ Some k → (offset_in es g ≡ Some k → In (map (λ y. y.group) es) g) → In (map (λ y. y.group) (x ∷ es)) g
+    go true same e later = inl (eqb-true x.group g same)
+    go false differ e later = inr (later e)
 
 unclear_same : (look more : Look) (list : List PortRef) → ((q : PortRef) → In list q → look q ≡ more q) → first_unclear look list ≡ first_unclear more list
 unclear_same look more [] h = refl
@@ -132,23 +132,23 @@ module _ (G : ℕ → Type 0) (F : PortRef → Type 0) where
   -- what is active and looked at is such
   active_good : (h : History) (t : ℕ) (list : List Occurrence) → AllFine list → (g : ℕ) → In (map (λ e. e.group) (active_in h t list)) g → G g
   active_good h t [] fine g i = absurd i
-  active_good h t (Runs n from to samples ∷ rest) ((good, all), fine) g i = one (nat_le from t && nat_lt t to && hold h samples) i
+  active_good h t (Runs n from to samples ∷ rest) ((good, all), fine) g i = one (nat_le from t && nat_lt t to && hold h samples) i (active_good h t rest fine g)
     where
-      one : (b : Bool) → In (map (λ e. e.group) (entry_if b n (t - from) (active_in h t rest))) g → G g
-      one true (inl e) = subst G e good
-      one true (inr j) = active_good h t rest fine g j
-      one false j = active_good h t rest fine g j
+      one : (b : Bool) → In (map (λ e. e.group) (entry_if b n (t - from) (active_in h t rest))) g → (In (map (λ e. e.group) (active_in h t rest)) g → G g) → G g
+      one true (inl e) later = subst G e good
+      one true (inr j) later = later j
+      one false j later = later j
   active_good h t (Looks port at samples ∷ rest) (here, fine) g i = active_good h t rest fine g i
 
   looked_good : (h : History) (t : ℕ) (list : List Occurrence) → AllFine list → (q : PortRef) → In (looked_at h t list) q → F q
   looked_good h t [] fine q i = absurd i
   looked_good h t (Runs n from to samples ∷ rest) (here, fine) q i = looked_good h t rest fine q i
-  looked_good h t (Looks port at samples ∷ rest) ((inside, all), fine) q i = one (nat_eq t at && hold h samples) i
+  looked_good h t (Looks port at samples ∷ rest) ((inside, all), fine) q i = one (nat_eq t at && hold h samples) i (looked_good h t rest fine q)
     where
-      one : (b : Bool) → In (port_if b port (looked_at h t rest)) q → F q
-      one true (inl e) = subst F e inside
-      one true (inr j) = looked_good h t rest fine q j
-      one false j = looked_good h t rest fine q j
+      one : (b : Bool) → In (port_if b port (looked_at h t rest)) q → (In (looked_at h t rest) q → F q) → F q
+      one true (inl e) later = subst F e inside
+      one true (inr j) later = later j
+      one false j later = later j
 
 module _ (i : Instance) (held : Held) (set : ℕ → Type 0) (kept : IsKept i) (through : IsThrough (part_of i) set) (deeper : AcyclicBelow (cells_of i)) (bare : IsAcyclic i nothing) where
   unclear_alike : (x y : Option Fault) (a b : Ended) → x ≡ y → AlikeTurn set (turn_of a) (turn_of b) → AlikeTurn set (unless_unclear x a) (unless_unclear y b)

@@ -7,3 +7,6 @@ mod SightFrames
 mod CircleFrames
 mod LeafFrames
 mod IslandFrames
+mod StatementFrames
+mod BothLemmas
+mod ShareLemmas

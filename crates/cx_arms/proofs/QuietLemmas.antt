@@ -15,17 +15,15 @@ use Rattle.cx_meaning.specs.Cycles.{Outcome, Next, enables, looks_at, after_edge
 use Rattle.cx_arms.proofs.StillLemmas.{IsFine}
 
 -- 0 at the wanted ports, and nothing at the others
-zero_if : Bool → Option BitVector
+abbrev zero_if : Bool → Option BitVector
 zero_if true = Some (record { width = 1; value = 0 })
 zero_if false = None
 
-zeros : (ℕ → Bool) → ℕ → List PortRow → Inputs
+abbrev zeros : (ℕ → Bool) → ℕ → List PortRow → Inputs
 zeros wanted p [] = []
 zeros wanted p (port ∷ list) = zero_if (wanted p) ∷ zeros wanted (suc p) list
 
 zeros_value : (wanted : ℕ → Bool) (p : ℕ) (list : List PortRow) (n : ℕ) → value_at (zeros wanted p list) n ≡ 0
-unfolding zeros
-unfolding zero_if
 zeros_value wanted p [] n = refl
 zeros_value wanted p (port ∷ list) zero = one (wanted p)
   where
@@ -35,8 +33,6 @@ zeros_value wanted p (port ∷ list) zero = one (wanted p)
 zeros_value wanted p (port ∷ list) (suc n) = zeros_value wanted (suc p) list n
 
 gather_zeros : (look : ℕ → Seen) (wanted : ℕ → Bool) (p : ℕ) (list : List PortRow) → ((q : ℕ) → wanted q ≡ true → look q ≡ bit_of false) → gather look wanted p list ≡ Given (zeros wanted p list)
-unfolding zeros
-unfolding zero_if
 gather_zeros look wanted p [] h = refl
 gather_zeros look wanted p (port ∷ list) h = ap (gather_port (wanted p) p (look p)) (gather_zeros look wanted (suc p) list h) ∙ one (wanted p) (h p)
   where

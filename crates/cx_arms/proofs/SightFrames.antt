@@ -144,15 +144,15 @@ driver_in part (g ∷ gs) c e = go (group_drives part g c) refl e (driver_in par
 
 none_drives : (part : PlainComponent) (gs : List ℕ) (g c : ℕ) → groups_drive part gs c ≡ false → In gs g → group_drives part g c ≡ true → ⊥
 none_drives part [] g c e i f = absurd i
-none_drives part (h ∷ gs) g c e i f = go (group_drives part h c) refl e i
+none_drives part (h ∷ gs) g c e i f = go (group_drives part h c) refl e i (λ k j. none_drives part gs g c k j f)
   where
     true_false : true ≡ false → ⊥
     true_false e = cc
 
-    go : (b : Bool) → group_drives part h c ≡ b → (b || groups_drive part gs c) ≡ false → In (h ∷ gs) g → ⊥
-    go true here e i = true_false e
-    go false here e (inl same) = true_false (sym f ∙ ap (λ x. group_drives part x c) (sym same) ∙ here)
-    go false here e (inr j) = none_drives part gs g c e j f
+    go : (b : Bool) → group_drives part h c ≡ b → (b || groups_drive part gs c) ≡ false → In (h ∷ gs) g → (groups_drive part gs c ≡ false → In gs g → ⊥) → ⊥
+    go true here e i later = true_false e
+    go false here e (inl same) later = true_false (sym f ∙ ap (λ x. group_drives part x c) (sym same) ∙ here)
+    go false here e (inr j) later = later e j
 
 module _ (i : Instance) (held : Held) (act : Active) (set : ℕ → Type 0) (gs : List ℕ)
     (kept : IsKept i) (through : IsThrough (part_of i) set) (among : IsAmong act gs) (looks : (g : ℕ) → In gs g → IsWithin (part_of i) set g) where

@@ -1,5 +1,6 @@
-use Rattle.cx_arms.proofs.ControlFrames.{run_frames}
-use Rattle.cx_arms.proofs.IslandFrames.{island_frames}
+use Rattle.cx_arms.proofs.StatementFrames.{statement_frames}
+use Rattle.cx_arms.proofs.BothLemmas.{arm_answers}
+use Rattle.cx_arms.proofs.ShareLemmas.{apart_from}
 use Rattle.cx_arms.proofs.laws.stay.Goals as goal
 
 pub returns : goal.returns
