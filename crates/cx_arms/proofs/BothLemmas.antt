@@ -59,7 +59,7 @@ module _ (one two : State → State → State) where
       go false = refl
 
   module _ (states : (a b c : State) → one a (two b c) ≡ two (one a b) c) where
-    ends : (a b c : State) (t u v : ℕ) → End {S = State} {F = Fault} (one a (two b c)) (max t (max u v)) ≡ End (two (one a b) c) (max (max t u) v)
+    ends : (a b c : State) (t u v : ℕ) → ◌≡◌ {A = Answer State Fault} (End (one a (two b c)) (max t (max u v))) (End (two (one a b) c) (max (max t u) v))
     ends a b c t u v =
         let turns : max t (max u v) ≡ max (max t u) v = omega arith in
         ap (λ x. End x (max t (max u v))) (states a b c) ∙ ap (End (two (one a b) c)) turns

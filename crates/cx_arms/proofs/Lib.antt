@@ -10,3 +10,4 @@ mod IslandFrames
 mod StatementFrames
 mod BothLemmas
 mod ShareLemmas
+mod ArmLemmas
