@@ -1,5 +1,6 @@
 -- One more arm of a par, on the state that the arms before it left.
-use Rattle.std.proofs.Common.{◌≡◌, ℕ, zero, suc, ◌≤◌, max, inl, inr, Bool, true, false, ◌||◌, if◌then◌else◌, List, [], ◌∷◌, ◌++◌, refl, sym, ap, ◌∙◌, subst, arith}
+use Rattle.std.proofs.Common.{◌≡◌, ℕ, zero, suc, ◌≤◌, max, inl, inr, Bool, true, false, ◌||◌, if◌then◌else◌, List, [], ◌∷◌, ◌++◌, Option, Some, take, drop, length, refl, sym, ap, ◌∙◌, subst, arith}
+use Rattle.std.specs.Prelude.{slice_get}
 use Rattle.std.proofs.Math.Path.{fun_ext}
 use Rattle.cx_text.specs.declared.places.Place.{Place}
 use Rattle.cx_meaning.specs.Designs.{PlainComponent, PlainForm, Par, PlainStatement, Placed, PlainStatements, no_statements, a_statement, statements_of, list_of, no_place}
@@ -124,6 +125,27 @@ arm_stands part v arms done later form place stands e f =
     visited Dynamic part.control v _ stands
     (inr (subst (λ x. In (visit_parts v.context x) (record { context = below_dynamic v.context; form = form; place = place })) (sym e) (arm_visited (below_dynamic v.context) arms form place inside)))
 
+-- a member of a list, between those before it and those after it
+pub behind : {A : Type 0} (xs : List A) (k : ℕ) (x : A) → slice_get xs k ≡ Some x → xs ≡ take k xs ++ (x ∷ drop (suc k) xs)
+behind [] k x e = absurd (cc)
+behind {A} (y ∷ ys) zero x e = ap (λ z. z ∷ ys) (inj e)
+  where
+    inj : ◌≡◌ {A = Option A} (Some y) (Some x) → y ≡ x
+    inj e = cc
+behind (y ∷ ys) (suc k) x e = ap (λ l. y ∷ l) (behind ys k x e)
+
+pub one_longer : {A : Type 0} (xs : List A) (k : ℕ) (x : A) → slice_get xs k ≡ Some x → take (suc k) xs ≡ take k xs ++ (x ∷ [])
+one_longer [] k x e = absurd (cc)
+one_longer {A} (y ∷ ys) zero x e = ap (λ z. z ∷ []) (inj e)
+  where
+    inj : ◌≡◌ {A = Option A} (Some y) (Some x) → y ≡ x
+    inj e = cc
+one_longer (y ∷ ys) (suc k) x e = ap (λ l. y ∷ l) (one_longer ys k x e)
+
+pub list_again : (ss : List PlainStatement) → list_of (statements_of ss) ≡ ss
+list_again [] = refl
+list_again (s ∷ ss) = ap (λ l. s ∷ l) (list_again ss)
+
 -- before the first arm
 pub none_ran : (i : Instance) (held : Held) (s : State) (n : ℕ) → IsSettled i s → Ran i (all_drive (part_of i) []) (arms_run i held []) s n s (Ended 0)
 none_ran (Node part cells) held s n settled = record { settled = settled; top = refl; others = λ c below e. refl; answer = (refl, λ path. refl) }
@@ -158,6 +180,14 @@ all_ran (Node part cells) held (a_statement x xs) place first rest s after n o e
   others = λ c below f. ran.others c below (sym (arms_drive part (a_statement x xs) c) ∙ f);
   answer = subst (λ w. AnswersAs after (run_arms (leaves (Node part cells) (control_below cells) held) w s n) o) (same_arms (a_statement x xs)) ran.answer;
 }
+
+pub listed_ran : (i : Instance) (held : Held) (list : List PlainStatement) (place : Place) (s after : State) (n : ℕ) (o : Outcome) → 1 ≤ length list
+    → Ran i (all_drive (part_of i) list) (arms_run i held list) s n after o
+    → Ran i (drives (part_of i) (Placed (Par (statements_of list)) place)) (run_statement i held (Placed (Par (statements_of list)) place)) s n after o
+listed_ran i held [] place s after n o some ran = absurd (omega arith)
+listed_ran i held (x ∷ xs) place s after n o some ran =
+    all_ran i held (statements_of (x ∷ xs)) place x xs s after n o (list_again (x ∷ xs))
+    (subst (λ l. Ran i (all_drive (part_of i) l) (arms_run i held l) s n after o) (sym (list_again (x ∷ xs))) ran)
 
 -- a par without arms is the idle turn
 pub empty_ran : (i : Instance) (held : Held) (place : Place) (s : State) (n : ℕ) → IsSettled i s

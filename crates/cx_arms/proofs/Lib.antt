@@ -11,3 +11,4 @@ mod StatementFrames
 mod BothLemmas
 mod ShareLemmas
 mod ArmLemmas
+mod NextLemmas

@@ -19,7 +19,7 @@ use Rattle.cx_rules.specs.Items.{operands_of, operands_in, sources_of, Visited, 
 use Rattle.cx_rules.specs.Footprints.{AssignNames}
 use Rattle.cx_rules.specs.Spots.{AnAssign, AStatement}
 use Rattle.cx_rules.specs.Accepted.{IsAccepted}
-use Rattle.cx_rules.specs.Wellformed.{IsForm, IsDesign}
+use Rattle.cx_rules.specs.Wellformed.{IsDesign}
 use Rattle.cx_rules.proofs.Finite.{in_left, in_right}
 use Rattle.cx_rules.proofs.ForeignLemmas.{sorted_among, owned_among, split, groups_among}
 use Rattle.cx_rules.proofs.CircleLemmas.{same_part, Reached, a_tree, no_tree, reached}
@@ -107,7 +107,6 @@ pub record IsKept (i : Instance) : Type 0 where
   pub sources : (o : Owned) (n : ℕ) → In (source_order (part_of i)) o → AssignNames o.assign (ports.Output n) → ⊥
   pub tests : (v : Visited) (p : PlacedPort) (n : ℕ) → In (statements_in (part_of i)) v → test_in v.form ≡ Some p → p.port ≡ ports.Output n → ⊥
   pub holes : (a : PlainAssign) (g : ℕ) → In (part_of i).always a → a.target ≡ ports.Done g → ⊥
-  pub forms : (v : Visited) → In (statements_in (part_of i)) v → IsForm (part_of i) v.form
 
 none_some : (g : ℕ) → ◌≡◌ {A = Option ℕ} None (Some g) → ⊥
 none_some g e = cc
@@ -136,9 +135,6 @@ module _ (d : PlainDesign) (design : IsDesign d) (accepted : IsAccepted d) (k : 
   no_hole : (a : PlainAssign) (g : ℕ) → In (component_at d k).always a → a.target ≡ ports.Done g → ⊥
   no_hole a g i e = none_some g (((design.components k within).assigns None a i).own_hole g e)
 
-  form_there : (v : Visited) → In (statements_in (component_at d k)) v → IsForm (component_at d k) v.form
-  form_there v i = subst (λ x. IsForm x v.form) (same_part d (length d.components) k) (((design.components k within).statements v i).form)
-
   kept_tree : (m : ℕ) → IsKept (tree_within d m k)
   kept_tree m = record {
     fine = fine m;
@@ -146,7 +142,6 @@ module _ (d : PlainDesign) (design : IsDesign d) (accepted : IsAccepted d) (k : 
     sources = λ o n i names. no_sink o n (subst (λ x. In (source_order x) o) (same_part d m k) i) names;
     tests = λ v p n i e is. no_sunk_test v p n (subst (λ x. In (statements_in x) v) (same_part d m k) i) e is;
     holes = λ a g i e. no_hole a g (subst (λ x. In x.always a) (same_part d m k) i) e;
-    forms = λ v i. subst (λ x. IsForm x v.form) (sym (same_part d m k)) (form_there v (subst (λ x. In (statements_in x) v) (same_part d m k) i));
   }
     where
       fine : (m c : ℕ) (row : Row) → cell_at (cells_of (tree_within d m k)) c ≡ OfRow row → IsFine row
@@ -154,10 +149,6 @@ module _ (d : PlainDesign) (design : IsDesign d) (accepted : IsAccepted d) (k : 
       fine (suc m) c row e = fine_cells (tree_within d m) (component_at d k).cells c row e
 
 -- an instance without a component
-bare_form : (v : Visited) → In (statements_in no_component) v → IsForm no_component v.form
-bare_form v (inl e) = subst (λ w. IsForm no_component w.form) e tt
-bare_form v (inr i) = absurd i
-
 bare_test : (v : Visited) (p : PlacedPort) → In (statements_in no_component) v → test_in v.form ≡ Some p → ⊥
 bare_test v p (inl e) f = none_port (ap (λ w. test_in w.form) e ∙ f)
   where
@@ -173,7 +164,6 @@ module _ (part : PlainComponent) (cells : Cells) (none : part ≡ no_component) 
     sources = λ o n i names. let j : In (source_order no_component) o = subst (λ x. In (source_order x) o) none i in j;
     tests = λ v p n i e is. bare_test v p (subst (λ x. In (statements_in x) v) none i) e;
     holes = λ a g i e. let j : In no_component.always a = subst (λ x. In x.always a) none i in j;
-    forms = λ v i. subst (λ x. IsForm x v.form) (sym none) (bare_form v (subst (λ x. In (statements_in x) v) none i));
   }
 
 module _ (d : PlainDesign) (design : IsDesign d) (accepted : IsAccepted d) where

@@ -1,4 +1,4 @@
-use Rattle.cx_arms.proofs.ArmLemmas.{all_ran, empty_ran, empty_waits}
+use Rattle.cx_arms.proofs.ArmLemmas.{all_ran, listed_ran, empty_ran, empty_waits}
 use Rattle.cx_arms.proofs.laws.whole_par.Goals as goal
 
 pub returns-clause-arms : goal.returns-clause-arms
@@ -9,3 +9,6 @@ returns-clause-none c i held place s n settled = empty_ran i held place s n sett
 
 pub returns-clause-waits : goal.returns-clause-waits
 returns-clause-waits c i held place s settled = empty_waits i held place s settled
+
+pub returns-clause-listed : goal.returns-clause-listed
+returns-clause-listed c i held list place s after n o some ran = listed_ran i held list place s after n o some ran
