@@ -10,7 +10,7 @@ use Rattle.cx_meaning.specs.Cycles.{Fault}
 use Rattle.cx_meaning.specs.Answers.{Answer, End, More, both}
 use Rattle.cx_meaning.specs.Answers as answers
 use Rattle.cx_meaning.specs.Budgets.{Grows, IsSteady}
-use Rattle.cx_meaning.specs.Control.{groups_of, groups_in_all, groups_drive, group_drives, drives, run, run_arms}
+use Rattle.cx_meaning.specs.Control.{groups_of, groups_in_all, groups_drive, group_drives, drives, run_arms}
 use Rattle.cx_meaning.specs.Running.{leaves, control_below, run_statement}
 use Rattle.cx_rules.specs.Items.{Context, Dynamic, below_dynamic, Visited, visit, visit_parts, visit_all, statements_in}
 use Rattle.cx_rules.specs.Footprints as footprints

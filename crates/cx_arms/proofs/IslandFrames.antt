@@ -1,10 +1,9 @@
 -- Islands hang on a set of cells alone.
-use Rattle.std.proofs.Common.{◌≡◌, ℕ, zero, suc, ◌+◌, ◌-◌, inl, inr, Bool, true, false, ◌&&◌, nat_le, Option, Some, None, List, [], ◌∷◌, ◌++◌, map, refl, sym, ap, ◌∙◌, subst}
+use Rattle.std.proofs.Common.{◌≡◌, ℕ, zero, suc, ◌+◌, ◌-◌, inl, inr, Bool, true, false, ◌&&◌, nat_le, Option, Some, None, List, [], ◌∷◌, ◌++◌, map, refl, ap, ◌∙◌, subst}
 use Rattle.std.specs.Prelude.{if◌then◌else◌, nat_eq, nat_lt}
 use Rattle.std.proofs.lemmas.Bool.{eqb-true}
 use Rattle.cx_meaning.specs.declared.ports.PortRef.{PortRef}
 use Rattle.cx_meaning.specs.declared.ports.PlacedPort.{PlacedPort}
-use Rattle.cx_meaning.specs.declared.sights.Seen.{Seen}
 use Rattle.cx_meaning.specs.Designs.{PlainComponent, PlainForm, Empty, Enable, Seq, Par, If, While, Repeat, StaticSeq, StaticPar, StaticIf, StaticRepeat, Timed, PlainStatement, Placed, PlainStatements, no_statements, a_statement}
 use Rattle.cx_meaning.specs.Instances.{Instance, cells_of, part_of, State, idle}
 use Rattle.cx_meaning.specs.Active.{nothing, Entry, offset_in, entries}
@@ -13,14 +12,13 @@ use Rattle.cx_meaning.specs.Sights.{Look, Held, seen, In}
 use Rattle.cx_meaning.specs.Cycles.{Fault, Ended, cycle}
 use Rattle.cx_meaning.specs.Control.{groups_in, groups_of, groups_in_all}
 use Rattle.cx_meaning.specs.Islands.{group_length, form_length, length_of, Sample, Occurrence, Runs, Looks, sample, rounds_from, occurrence, form_flat, flat, seq_flat, par_flat, History, no_history, is_wanted, hold, entry_if, active_in, port_if, looked_at, is_one, and_now, fault_of, first_unclear, turn_of, unless_unclear, island_turn, island_from, island}
-use Rattle.cx_rules.specs.Items.{Context, InStatic, Branch, Visited, visit, visit_parts, visit_all, test_in}
+use Rattle.cx_rules.specs.Items.{Context, InStatic, Branch, visit, visit_parts, visit_all, test_in}
 use Rattle.cx_rules.specs.Circles.{IsAcyclic, AcyclicBelow}
-use Rattle.cx_rules.proofs.Finite.{in_left, in_right}
 use Rattle.cx_arms.specs.Agreeing.{Agree, Alike}
 use Rattle.cx_arms.proofs.AlikeLemmas.{Frames, AlikeTurn, idle_frames, turn_alike}
 use Rattle.cx_arms.proofs.ControlFrames.{Holds, left, right}
 use Rattle.cx_arms.proofs.RuleLemmas.{IsKept}
-use Rattle.cx_arms.proofs.SightFrames.{InFrame, IsThrough, IsWithin, IsAmong, cycle_alike}
+use Rattle.cx_arms.proofs.SightFrames.{InFrame, IsThrough, IsAmong, cycle_alike}
 use Rattle.cx_arms.proofs.LeafFrames.{idle_agree, IsGood, bare_seen}
 
 none_some : (k : ℕ) → ◌≡◌ {A = Option ℕ} None (Some k) → ⊥
@@ -79,11 +77,12 @@ module _ (G : ℕ → Type 0) (F : PortRef → Type 0) where
       form_fine part context (StaticSeq length parts) x samples p h all = seq_fine part parts x samples h all
       form_fine part context (StaticPar length arms) x samples p h all = par_fine part arms x samples h all
       form_fine part context (StaticIf length test a b) x samples p h all =
-          let inside : F test.port = tests (StaticIf length test a b) test p refl in
-          ((inside, all),
-          joined (flat part a x (sample test.port x true ∷ samples)) (flat part b x (sample test.port x false ∷ samples))
-          (statement_fine part Branch a x (sample test.port x true ∷ samples) (left (groups_of a) (groups_of b) (visit Branch a) (visit Branch b) h) (inside, all))
-          (statement_fine part Branch b x (sample test.port x false ∷ samples) (right (groups_of a) (groups_of b) (visit Branch a) (visit Branch b) h) (inside, all)))
+          let inside : F test.port = tests (StaticIf length test a b) test p refl in (
+            (inside, all),
+            joined (flat part a x (sample test.port x true ∷ samples)) (flat part b x (sample test.port x false ∷ samples))
+                (statement_fine part Branch a x (sample test.port x true ∷ samples) (left (groups_of a) (groups_of b) (visit Branch a) (visit Branch b) h) (inside, all))
+                (statement_fine part Branch b x (sample test.port x false ∷ samples) (right (groups_of a) (groups_of b) (visit Branch a) (visit Branch b) h) (inside, all)),
+          )
       form_fine part context (StaticRepeat length count a) x samples p h all = rounds_fine (λ y. flat part a y samples) (length_of part a) count x (λ y. statement_fine part InStatic a y samples h all)
       form_fine part context (Timed k) x samples p h all = tt
 

@@ -1,5 +1,5 @@
 -- Turns of groups, tests and calls hang on a set of cells alone.
-use Rattle.std.proofs.Common.{◌≡◌, ℕ, zero, suc, inl, inr, Bool, true, false, ◌||◌, Option, Some, None, List, [], ◌∷◌, refl, sym, ap, ◌∙◌, subst}
+use Rattle.std.proofs.Common.{◌≡◌, ℕ, suc, inl, inr, Bool, true, false, ◌||◌, Option, Some, None, List, [], ◌∷◌, refl, ap, ◌∙◌, subst}
 use Rattle.std.specs.Prelude.{if◌then◌else◌, nat_eq}
 use Rattle.std.proofs.Math.Path.{fun_ext}
 use Rattle.std.proofs.lemmas.Bool.{eqb-true}
@@ -9,13 +9,13 @@ use Rattle.cx_meaning.specs.declared.kinds.GroupKind.{GroupKind}
 use Rattle.cx_meaning.specs.declared.kinds.GroupKind.TheVariants as kinds
 use Rattle.cx_meaning.specs.Designs.{PlainAssign, group_at, Enable}
 use Rattle.cx_meaning.specs.Instances.{Instance, Cells, At, Nothing, OfRow, OfInstance, cell_at, cells_of, part_of, State, Set, merge, just, beneath, put, under, idle_at, idle}
-use Rattle.cx_meaning.specs.Active.{nothing, only_at, group, comb, capture}
+use Rattle.cx_meaning.specs.Active.{nothing, only_at, group, capture}
 use Rattle.cx_meaning.specs.Truths.{Truth, One, Zero, Clash, Unknown, truth_of}
 use Rattle.cx_meaning.specs.Sights.{Held, seen, In}
 use Rattle.cx_meaning.specs.Cycles.{Fault, Ended, cycle}
 use Rattle.cx_meaning.specs.Answers.{Answer, End, More, Meaning, idle_turn, one_turn}
 use Rattle.cx_meaning.specs.Answers as answers
-use Rattle.cx_meaning.specs.Control.{targets_cell, assigns_drive, group_drives}
+use Rattle.cx_meaning.specs.Control.{targets_cell, assigns_drive}
 use Rattle.cx_meaning.specs.Islands.{turn_of, island}
 use Rattle.cx_meaning.specs.Calls.{hole_turn, group_turn, test_of, test, if_instance, called_by, called_in, called, captures, lift_answer, inputs_of_call, after_child, call, call_or_turns, enable_kind, enable}
 use Rattle.cx_meaning.specs.Running.{Children}
@@ -126,7 +126,7 @@ module _ (i : Instance) (held : Held) (set : ℕ → Type 0) (kept : IsKept i) (
         let inputs : inputs_of_call i held g c s ≡ inputs_of_call i held g c t = fun_ext (λ input. group_seen g good s t h (ports.Cell c (suc input)) inside) in
         let below : under c s ≡ under c t = fun_ext (λ path. h c path inside) in
         let same : children c (inputs_of_call i held g c s) (under c s) n ≡ children c (inputs_of_call i held g c t) (under c t) n =
-            ap (λ x. children c x (under c s) n) inputs ∙ ap (λ x. children c (inputs_of_call i held g c t) x n) below in
+        ap (λ x. children c x (under c s) n) inputs ∙ ap (λ x. children c (inputs_of_call i held g c t) x n) below in
         then_alike set n (lift_answer c s (children c (inputs_of_call i held g c s) (under c s) n)) (lift_answer c t (children c (inputs_of_call i held g c t) (under c t) n)) (after_child i held g c (captures i g))
         (subst (λ o. Alike set (lift_answer c s (children c (inputs_of_call i held g c s) (under c s) n)) (lift_answer c t o)) same (lift_alike set c s t (children c (inputs_of_call i held g c s) (under c s) n) h))
         (after_frames c (captures i g))

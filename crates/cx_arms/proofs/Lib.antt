@@ -12,3 +12,4 @@ mod BothLemmas
 mod ShareLemmas
 mod ArmLemmas
 mod NextLemmas
+pub mod KnownOutcomes

@@ -1,5 +1,5 @@
 -- One more arm of a par in an accepted design.
-use Rattle.std.proofs.Common.{◌≡◌, ℕ, suc, ◌+◌, Some, List, [], ◌∷◌, ◌++◌, take, drop, refl, sym, ap, ◌∙◌, subst, arith}
+use Rattle.std.proofs.Common.{◌≡◌, ℕ, suc, ◌+◌, Some, List, [], ◌∷◌, ◌++◌, take, drop, sym, ap, ◌∙◌, subst, arith}
 use Rattle.std.specs.Prelude.{slice_get}
 use Rattle.cx_meaning.specs.Designs.{PlainDesign, Par, PlainStatement, Placed, PlainStatements, statements_of, list_of}
 use Rattle.cx_meaning.specs.Instances.{part_of, tree_of, State, Path, instance_at}

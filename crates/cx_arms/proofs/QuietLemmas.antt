@@ -1,17 +1,16 @@
 -- A cell whose enabling ports are all 0 makes its idle edge, whatever its other ports are seen as.
-use Rattle.std.specs.Prelude.{slice_get}
 use Rattle.std.proofs.Common.{◌≡◌, ℕ, zero, suc, Bool, true, false, ◌||◌, Option, Some, None, List, [], ◌∷◌, refl, sym, ap, ◌∙◌}
 use Rattle.cx_bits.specs.BitVector.{BitVector}
 use Rattle.cx_prim.specs.declared.ports.PortRow.{PortRow}
 use Rattle.cx_prim.specs.declared.ports.Side.{Side}
 use Rattle.cx_prim.specs.declared.ports.Side.TheVariants as sides
 use Rattle.cx_prim.specs.CellStates.{CellState}
-use Rattle.cx_prim.specs.Rows.{Inputs, value_at, number_of, Row, edge, IsQuiet, is_enable_side}
+use Rattle.cx_prim.specs.Rows.{Inputs, value_at, number_of, Row, IsQuiet, is_enable_side}
 use Rattle.cx_meaning.specs.declared.ports.PortRef.TheVariants as ports
 use Rattle.cx_meaning.specs.declared.sights.Seen.{Seen}
 use Rattle.cx_meaning.specs.Rows.{side_of}
-use Rattle.cx_meaning.specs.Sights.{Look, bit_of, Gathered, Given, gather, gather_one, gather_port}
-use Rattle.cx_meaning.specs.Cycles.{Outcome, Next, enables, looks_at, after_edge, after_data, after_enabling, cell_outcome}
+use Rattle.cx_meaning.specs.Sights.{Look, bit_of, Given, gather, gather_one, gather_port}
+use Rattle.cx_meaning.specs.Cycles.{Next, enables, looks_at, after_edge, after_data, after_enabling, cell_outcome}
 use Rattle.cx_arms.proofs.StillLemmas.{IsFine}
 
 -- 0 at the wanted ports, and nothing at the others

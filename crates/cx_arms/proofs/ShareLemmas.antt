@@ -1,10 +1,10 @@
 -- In an accepted design no arm reads a cell that another arm of its par drives.
-use Rattle.std.proofs.Common.{◌≡◌, ℕ, zero, suc, ◌<◌, inl, inr, ◌⊎◌, ⊎_elim, Bool, true, false, ◌||◌, Some, List, [], ◌∷◌, ◌++◌, length, refl, sym, ap, ◌∙◌, subst, arith}
+use Rattle.std.proofs.Common.{◌≡◌, ℕ, zero, suc, ◌<◌, inl, inr, ⊎_elim, Bool, true, false, ◌||◌, Some, List, [], ◌∷◌, ◌++◌, length, refl, sym, subst, arith}
 use Rattle.std.specs.Prelude.{slice_get}
 use Rattle.std.proofs.lemmas.Bool.{cases_lt}
 use Rattle.std.proofs.lemmas.List.{get_or_past}
 use Rattle.cx_text.specs.declared.rules.Rule.TheVariants.{Race}
-use Rattle.cx_meaning.specs.Designs.{PlainComponent, PlainDesign, component_at, no_component, PlainForm, Par, PlainStatement, PlainStatements, list_of}
+use Rattle.cx_meaning.specs.Designs.{PlainComponent, PlainDesign, component_at, no_component, PlainStatement}
 use Rattle.cx_meaning.specs.Instances.{Instance, part_of, tree_of, Path, instance_at}
 use Rattle.cx_meaning.specs.Sights.{In}
 use Rattle.cx_meaning.specs.Control.{drives}

@@ -1,5 +1,5 @@
 -- Ports whose sights hang on a set of cells alone, and the cycles that do.
-use Rattle.std.proofs.Common.{◌≡◌, ℕ, zero, suc, ◌+◌, inl, inr, ◌⊎◌, ⊎_elim, Bool, true, false, ◌||◌, Option, Some, None, List, [], ◌∷◌, refl, sym, ap, ◌∙◌, subst, arith}
+use Rattle.std.proofs.Common.{◌≡◌, ℕ, zero, suc, ◌+◌, inl, inr, ◌⊎◌, Bool, true, false, ◌||◌, Option, Some, None, List, [], ◌∷◌, refl, sym, ap, ◌∙◌, subst, arith}
 use Rattle.std.proofs.Math.Path.{fun_ext}
 use Rattle.cx_prim.specs.declared.ports.Side.{Side}
 use Rattle.cx_prim.specs.declared.ports.Side.TheVariants as sides
@@ -10,12 +10,10 @@ use Rattle.cx_meaning.specs.declared.ports.PortRef.TheVariants as ports
 use Rattle.cx_meaning.specs.declared.sights.Seen.{Seen}
 use Rattle.cx_meaning.specs.Rows.{side_of}
 use Rattle.cx_meaning.specs.Designs.{PlainAssign, PlainComponent, group_at}
-use Rattle.cx_meaning.specs.Instances.{Instance, Cells, no_cells, a_primitive, an_instance, At, Nothing, OfRow, OfInstance, cell_at, cells_of, part_of, State, Path, under}
+use Rattle.cx_meaning.specs.Instances.{Instance, Cells, no_cells, a_primitive, an_instance, At, Nothing, OfRow, OfInstance, cell_at, cells_of, part_of, State, under}
 use Rattle.cx_meaning.specs.Active.{Active, nothing, Acting, Owned, source_order, offset_of, if_acting, if_target, acting, same_port, drivers}
-use Rattle.cx_meaning.specs.Sights.{Look, Below, Held, unheld, bit_of, PartPort, Go, AnInput, AnOutput, ItsDone, part_port, of_option, output_seen, gather, side_step, part_step, cell_step, step, In, Sees, by_step, seen}
-use Rattle.cx_meaning.specs.Cycles.{Fault, Outcome, Next, Stops, enables, after_enabling, cell_outcome, fault_at, first_of, where_listed, first_fault, stepped, cell_after, state_after, unless_fault, every_cell, cycle}
-use Rattle.cx_meaning.specs.Cycles as cycles
-use Rattle.cx_meaning.specs.Answers.{Turn, Goes, Faults}
+use Rattle.cx_meaning.specs.Sights.{Look, Below, Held, unheld, PartPort, Go, AnInput, AnOutput, ItsDone, part_port, of_option, output_seen, gather, side_step, part_step, cell_step, step, In, Sees, by_step, seen}
+use Rattle.cx_meaning.specs.Cycles.{Fault, Outcome, Next, enables, after_enabling, cell_outcome, first_of, first_fault, stepped, cell_after, state_after, unless_fault, every_cell, cycle}
 use Rattle.cx_meaning.specs.Control.{group_drives, groups_drive}
 use Rattle.cx_meaning.specs.Islands.{turn_of}
 use Rattle.cx_meaning.proofs.SightsLemmas.{one_sight}

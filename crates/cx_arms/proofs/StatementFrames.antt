@@ -1,10 +1,10 @@
 -- What a statement of an accepted design does hangs on what it reads alone.
-use Rattle.std.proofs.Common.{◌≡◌, ℕ, ◌<◌, inl, inr, ◌⊎◌, ⊎_elim, true, false, ◌||◌, Some, List, [], ◌∷◌, ◌++◌, length, refl, sym, ap, ◌∙◌, subst}
+use Rattle.std.proofs.Common.{◌≡◌, ℕ, ◌<◌, inl, inr, true, ◌||◌, Some, List, [], ◌∷◌, ◌++◌, length, refl, sym, ap, ◌∙◌, subst}
 use Rattle.std.specs.Prelude.{flat_map}
 use Rattle.cx_meaning.specs.declared.ports.PlacedPort.{PlacedPort}
 use Rattle.cx_meaning.specs.Designs.{PlainComponent, PlainForm, Empty, Enable, Seq, Par, If, While, Repeat, StaticSeq, StaticPar, StaticIf, StaticRepeat, Timed, PlainStatement, Placed, PlainStatements, no_statements, a_statement}
 use Rattle.cx_meaning.specs.Instances.{Instance, Node, part_of}
-use Rattle.cx_meaning.specs.Active.{nothing, group, entries}
+use Rattle.cx_meaning.specs.Active.{group, entries}
 use Rattle.cx_meaning.specs.Sights.{Held, In}
 use Rattle.cx_meaning.specs.Control.{groups_in, groups_of, group_drives, groups_drive, drives, run}
 use Rattle.cx_meaning.specs.Islands.{History, form_flat, active_in, island}
@@ -17,7 +17,7 @@ use Rattle.cx_laws.specs.Closures.{IsClosed}
 use Rattle.cx_arms.proofs.AlikeLemmas.{Frames}
 use Rattle.cx_arms.proofs.ControlFrames.{Holds, LeavesFrame, run_frames}
 use Rattle.cx_arms.proofs.RuleLemmas.{IsKept}
-use Rattle.cx_arms.proofs.SightFrames.{InFrame, in_frame, IsThrough, IsWithin}
+use Rattle.cx_arms.proofs.SightFrames.{InFrame, in_frame, IsThrough}
 use Rattle.cx_arms.proofs.CircleFrames.{bare_acyclic, deeper_acyclic, group_acyclic}
 use Rattle.cx_arms.proofs.LeafFrames.{merge_agree, idle_agree, IsGood, test_alike, enable_frames}
 use Rattle.cx_arms.proofs.IslandFrames.{island_frames}

@@ -13,7 +13,7 @@ use Rattle.cx_prim.specs.CombinationalRows.{enable_port, constant_row, unary_row
 use Rattle.cx_prim.specs.RegisterRow.{register_row}
 use Rattle.cx_prim.specs.MemoryRows.{IsLayout, are_sizes, is_address_width, memory_row, sequential_memory_row}
 use Rattle.cx_prim.specs.MemoryLaws.{memory_port, sequential_port}
-use Rattle.cx_prim.specs.PipeRows.{pipe_demands, multiplier_demands, multiplier_row, divider_demands, divider_row, timer_row}
+use Rattle.cx_prim.specs.PipeRows.{multiplier_demands, multiplier_row, divider_demands, divider_row, timer_row}
 use Rattle.cx_prim.specs.Table.{PrimitiveRow, at_width, constant_at, slice_at, pad_at, memory_at, timer_at, row_at, no_row, row_of}
 use Rattle.cx_prim.specs.TableLaws.{is_layout_tells, row_of_lawful}
 
