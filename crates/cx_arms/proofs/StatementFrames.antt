@@ -49,13 +49,13 @@ mutual
       (λ k. in_right (visit (below_dynamic context) a) (visit (below_dynamic context) b) w (visited (below_dynamic context) b v w k j))
   visited_parts context (While test comb a) v w i j = visited (below_dynamic context) a v w i j
   visited_parts context (Repeat count a) v w i j = visited (below_dynamic context) a v w i j
-  visited_parts context (StaticSeq length parts) v w i j = visited_all InStatic parts v w i j
-  visited_parts context (StaticPar length arms) v w i j = visited_all InStatic arms v w i j
-  visited_parts context (StaticIf length test a b) v w i j =
+  visited_parts context (StaticSeq written parts) v w i j = visited_all InStatic parts v w i j
+  visited_parts context (StaticPar written arms) v w i j = visited_all InStatic arms v w i j
+  visited_parts context (StaticIf written test a b) v w i j =
       of_joined (visit Branch a) (visit Branch b) v i
       (λ k. in_left (visit Branch a) (visit Branch b) w (visited Branch a v w k j))
       (λ k. in_right (visit Branch a) (visit Branch b) w (visited Branch b v w k j))
-  visited_parts context (StaticRepeat length count a) v w i j = visited InStatic a v w i j
+  visited_parts context (StaticRepeat written count a) v w i j = visited InStatic a v w i j
   visited_parts context (Timed k) v w i j = absurd i
 
   pub visited : (context : Context) (s : PlainStatement) (v w : Visited) → In (visit context s) v → In (visits v) w → In (visit context s) w
@@ -88,10 +88,10 @@ mutual
       (λ k. wider _ (visit (below_dynamic b) x ++ visit (below_dynamic b) y) v (in_right (visit (below_dynamic b) x) (visit (below_dynamic b) y)) (among (below_dynamic a) (below_dynamic b) y v k))
   parts_among a b (While test comb x) v i = among (below_dynamic a) (below_dynamic b) x v i
   parts_among a b (Repeat count x) v i = among (below_dynamic a) (below_dynamic b) x v i
-  parts_among a b (StaticSeq length parts) v i = (v, i, refl)
-  parts_among a b (StaticPar length arms) v i = (v, i, refl)
-  parts_among a b (StaticIf length test x y) v i = (v, i, refl)
-  parts_among a b (StaticRepeat length count x) v i = (v, i, refl)
+  parts_among a b (StaticSeq written parts) v i = (v, i, refl)
+  parts_among a b (StaticPar written arms) v i = (v, i, refl)
+  parts_among a b (StaticIf written test x y) v i = (v, i, refl)
+  parts_among a b (StaticRepeat written count x) v i = (v, i, refl)
   parts_among a b (Timed k) v i = absurd i
 
   among : (a b : Context) (s : PlainStatement) (v : Visited) → In (visit a s) v → Among (visit b s) v

@@ -41,8 +41,8 @@ pub fn stay()
 /// In an accepted design one more arm of a `par` may run on the state that the arms before it left, within the turns in
 /// which it still matters: what it leaves is what all of them leave, each from the first state, with their joined outcome.
 pub fn next_arm()
-    ensures split { (d : PlainDesign) (path : Path) (held : Held) (v : Visited) (arms : PlainStatements) (done later : List PlainStatement) (arm : PlainStatement)
-        (s cur next : State) (n : ℕ) (o p : Outcome)
+    ensures split { (d : PlainDesign) (path : Path) (held : Held) (v : Visited)
+        (arms : PlainStatements) (done later : List PlainStatement) (arm : PlainStatement) (s cur next : State) (n : ℕ) (o p : Outcome)
         → IsDesign d → IsAccepted d → In (statements_in (part_of (instance_at (tree_of d) path))) v
         → v.form ≡ Par arms → list_of arms ≡ done ++ (arm ∷ later)
         → Ran (instance_at (tree_of d) path) (all_drive (part_of (instance_at (tree_of d) path)) done)
@@ -51,8 +51,8 @@ pub fn next_arm()
         (run_statement (instance_at (tree_of d) path) held arm) cur (limit n o) next p
         → Ran (instance_at (tree_of d) path) (all_drive (part_of (instance_at (tree_of d) path)) (done ++ (arm ∷ [])))
         (arms_run (instance_at (tree_of d) path) held (done ++ (arm ∷ []))) s n next (joined o p) }
-    ensures numbered { (d : PlainDesign) (path : Path) (held : Held) (v : Visited) (list : List PlainStatement) (k : ℕ) (arm : PlainStatement)
-        (s cur next : State) (n : ℕ) (o p : Outcome)
+    ensures numbered { (d : PlainDesign) (path : Path) (held : Held) (v : Visited)
+        (list : List PlainStatement) (k : ℕ) (arm : PlainStatement) (s cur next : State) (n : ℕ) (o p : Outcome)
         → IsDesign d → IsAccepted d → In (statements_in (part_of (instance_at (tree_of d) path))) v
         → v.form ≡ Par (statements_of list) → slice_get list k ≡ Some arm
         → Ran (instance_at (tree_of d) path) (all_drive (part_of (instance_at (tree_of d) path)) (take k list))
@@ -72,15 +72,19 @@ pub fn whole_par()
         (s after : State) (n : ℕ) (o : Outcome)
         → list_of arms ≡ first ∷ rest
         → Ran i (all_drive (part_of i) (list_of arms)) (arms_run i held (list_of arms)) s n after o
-        → Ran i (drives (part_of i) (Placed (Par arms) place)) (run_statement i held (Placed (Par arms) place)) s n after o }
+        → Ran i (drives (part_of i) (Placed (Par arms) place))
+        (run_statement i held (Placed (Par arms) place)) s n after o }
     ensures listed { (i : Instance) (held : Held) (list : List PlainStatement) (place : Place) (s after : State) (n : ℕ) (o : Outcome)
         → 1 ≤ length list
         → Ran i (all_drive (part_of i) list) (arms_run i held list) s n after o
-        → Ran i (drives (part_of i) (Placed (Par (statements_of list)) place)) (run_statement i held (Placed (Par (statements_of list)) place)) s n after o }
+        → Ran i (drives (part_of i) (Placed (Par (statements_of list)) place))
+        (run_statement i held (Placed (Par (statements_of list)) place)) s n after o }
     ensures none { (i : Instance) (held : Held) (place : Place) (s : State) (n : ℕ)
         → IsSettled i s
-        → Ran i (drives (part_of i) (Placed (Par no_statements) place)) (run_statement i held (Placed (Par no_statements) place)) s (suc n) s (Ended 1) }
+        → Ran i (drives (part_of i) (Placed (Par no_statements) place))
+        (run_statement i held (Placed (Par no_statements) place)) s (suc n) s (Ended 1) }
     ensures waits { (i : Instance) (held : Held) (place : Place) (s : State)
         → IsSettled i s
-        → Ran i (drives (part_of i) (Placed (Par no_statements) place)) (run_statement i held (Placed (Par no_statements) place)) s 0 s Unfinished }
+        → Ran i (drives (part_of i) (Placed (Par no_statements) place))
+        (run_statement i held (Placed (Par no_statements) place)) s 0 s Unfinished }
 {}
