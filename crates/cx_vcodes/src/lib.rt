@@ -1,0 +1,2 @@
+//! Codes of expressions: names become numbers.
+#![tactic(auto)]

@@ -1,0 +1,5 @@
+pub mod Numbers
+pub mod Flat
+pub mod Memory
+pub mod EdgesFlat
+pub mod RunsFlat

@@ -1,0 +1,31 @@
+-- The numbers of the nets and arrays of all instances: those of an instance follow those of the instances before it.
+use Rattle.std.specs.Prelude.{ℕ, zero, suc, ◌+◌, List, Option, length, option_map}
+use Rattle.cx_vtree.specs.InstanceTree.{Placed, decls_at, nets_at}
+use Rattle.cx_veval.specs.declared.codes.Place.{Place}
+use Rattle.cx_vcodes.specs.Numbers.{position, declared_arrays}
+
+-- the arrays of an instance, numbered from 0
+abbrev pub arrays_at : List Placed → ℕ → List (List ℕ)
+arrays_at tree i = declared_arrays (decls_at tree i)
+
+-- how many nets the instances of lower number have
+abbrev pub nets_before : List Placed → ℕ → ℕ
+nets_before tree zero = 0
+nets_before tree (suc i) = nets_before tree i + length (nets_at tree i)
+
+-- how many arrays they have
+abbrev pub arrays_before : List Placed → ℕ → ℕ
+arrays_before tree zero = 0
+arrays_before tree (suc i) = arrays_before tree i + length (arrays_at tree i)
+
+-- the number of the net of a name in an instance, among all nets
+abbrev pub net_number : List Placed → ℕ → List ℕ → Option ℕ
+net_number tree i name = option_map (λ k. nets_before tree i + k) (position (nets_at tree i) name)
+
+-- the number of the array of a name in an instance, among all arrays
+abbrev pub array_number : List Placed → ℕ → List ℕ → Option ℕ
+array_number tree i name = option_map (λ a. arrays_before tree i + a) (position (arrays_at tree i) name)
+
+-- where the nets and the arrays of an instance begin
+abbrev pub place_of : List Placed → ℕ → Place
+place_of tree i = record { nets = nets_before tree i; arrays = arrays_before tree i }
