@@ -8,23 +8,29 @@ use Rattle.cx_vcodes.specs.Numbers.{position, declared_arrays}
 abbrev pub arrays_at : List Placed → ℕ → List (List ℕ)
 arrays_at tree i = declared_arrays (decls_at tree i)
 
--- how many nets the instances of lower number have
-abbrev pub nets_before : List Placed → ℕ → ℕ
-nets_before tree zero = 0
-nets_before tree (suc i) = nets_before tree i + length (nets_at tree i)
+-- how many names stand in the lists of lower number
+abbrev pub before : (ℕ → List (List ℕ)) → ℕ → ℕ
+before lists zero = 0
+before lists (suc i) = before lists i + length (lists i)
 
--- how many arrays they have
+-- the number of a name of a list among the names of all lists
+abbrev pub number_in : (ℕ → List (List ℕ)) → ℕ → List ℕ → Option ℕ
+number_in lists i name = option_map (λ k. before lists i + k) (position (lists i) name)
+
+-- how many nets the instances of lower number have, and how many arrays
+abbrev pub nets_before : List Placed → ℕ → ℕ
+nets_before tree i = before (nets_at tree) i
+
 abbrev pub arrays_before : List Placed → ℕ → ℕ
-arrays_before tree zero = 0
-arrays_before tree (suc i) = arrays_before tree i + length (arrays_at tree i)
+arrays_before tree i = before (arrays_at tree) i
 
 -- the number of the net of a name in an instance, among all nets
 abbrev pub net_number : List Placed → ℕ → List ℕ → Option ℕ
-net_number tree i name = option_map (λ k. nets_before tree i + k) (position (nets_at tree i) name)
+net_number tree i name = number_in (nets_at tree) i name
 
 -- the number of the array of a name in an instance, among all arrays
 abbrev pub array_number : List Placed → ℕ → List ℕ → Option ℕ
-array_number tree i name = option_map (λ a. arrays_before tree i + a) (position (arrays_at tree i) name)
+array_number tree i name = number_in (arrays_at tree) i name
 
 -- where the nets and the arrays of an instance begin
 abbrev pub place_of : List Placed → ℕ → Place
