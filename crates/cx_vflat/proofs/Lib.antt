@@ -1,1 +1,5 @@
 pub mod Numbering
+pub mod CodeValues
+pub mod Values
+pub mod SetSteps
+pub mod Registers

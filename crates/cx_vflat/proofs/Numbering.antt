@@ -1,7 +1,7 @@
 -- Each number belongs to one name of one list.
 use Rattle.std.proofs.Common.{◌≡◌, ℕ, zero, suc, ◌+◌, ◌-◌, ◌<◌, ◌≤◌, ◌⊎◌, inl, inr, ⊎_elim, Bool, true, false, List, [], ◌∷◌, ◌++◌, map, length, Option, Some, None, option_and_then, option_map, slice_get, nat_lt, refl, ap, sym, ◌∙◌, subst, if◌then◌else◌, arith}
 use Rattle.std.proofs.lemmas.Bool.{cases_order, cases_lt, lt-ltb, le-ltb, ltb-true, ltb-false, cases_Bool}
-use Rattle.std.proofs.lemmas.Option.{slice_get_within, slice_get_past, slice_get-get_or}
+use Rattle.std.proofs.lemmas.Option.{slice_get_within, slice_get_past, slice_get-get_or, same_Some}
 use Rattle.std.specs.Cmp.Lexicographic.{bytes_decides}
 use Rattle.std.specs.Option.{option_map_or}
 use Rattle.cx_vtree.specs.InstanceTree.{Placed, same_name, ports_at, decls_at, declared_nets, nets_at}
@@ -17,10 +17,10 @@ pub map_some : {A B : Type 0} (f : A → B) (o : Option A) (y : B) → option_ma
 map_some f None y e = absurd (cc)
 map_some f (Some x) y e = let same : f x ≡ y = cc in (x, refl, same)
 
-same_name-refl : (n : List ℕ) → same_name n n ≡ true
+pub same_name-refl : (n : List ℕ) → same_name n n ≡ true
 same_name-refl n = (bytes_decides n n).1 refl
 
-same_name-true : (n m : List ℕ) → same_name n m ≡ true → n ≡ m
+pub same_name-true : (n m : List ℕ) → same_name n m ≡ true → n ≡ m
 same_name-true n m e = (bytes_decides n m).0 e
 
 -- the first place of a name has it
@@ -74,9 +74,12 @@ module _ (lists : ℕ → List (List ℕ)) where
       omega arith
 
   -- a number belongs to one place of one list
-  pub number_once : (i k j h : ℕ) (n p : List ℕ) → slice_get (lists i) k ≡ Some n → slice_get (lists j) h ≡ Some p → before lists i + k ≡ before lists j + h → (i ≡ j) × (k ≡ h)
+  pub number_once : (i k j h : ℕ) (n p : List ℕ) → slice_get (lists i) k ≡ Some n → slice_get (lists j) h ≡ Some p → before lists i + k ≡ before lists j + h → (i ≡ j) × (k ≡ h) × (n ≡ p)
   number_once i k j h n p at at' same = ⊎_elim
-      (λ one. let e = ap (before lists) one in let k_is : k ≡ h = omega arith in (one, k_is))
+      (λ one.
+      let e = ap (before lists) one in
+      let k_is : k ≡ h = omega arith in
+      (one, k_is, same_Some n p (sym at ∙ ap (λ z. slice_get (lists z) k) one ∙ ap (slice_get (lists j)) k_is ∙ at')))
       (λ order. absurd (⊎_elim
       (λ less. let lt = number_below i k j n less at in omega arith)
       (λ more. let lt = number_below j h i p more at' in omega arith)

@@ -1,6 +1,8 @@
 -- The numbers of the nets and arrays of all instances: those of an instance follow those of the instances before it.
-use Rattle.std.specs.Prelude.{ℕ, zero, suc, ◌+◌, List, Option, length, option_map}
+use Rattle.std.specs.Prelude.{ℕ, zero, suc, ◌+◌, List, Option, length, option_and_then, option_map, slice_get}
+use Rattle.cx_bits.specs.BitVector.{BitVector}
 use Rattle.cx_vtree.specs.InstanceTree.{Placed, decls_at, nets_at}
+use Rattle.cx_vtree.specs.Meaning.{Look}
 use Rattle.cx_veval.specs.declared.codes.Place.{Place}
 use Rattle.cx_vcodes.specs.Numbers.{position, declared_arrays}
 
@@ -35,3 +37,7 @@ array_number tree i name = number_in (arrays_at tree) i name
 -- where the nets and the arrays of an instance begin
 abbrev pub place_of : List Placed → ℕ → Place
 place_of tree i = record { nets = nets_before tree i; arrays = arrays_before tree i }
+
+-- what is known of the nets, where all of them have these values
+abbrev pub look_by : List Placed → List BitVector → Look
+look_by tree values i name = option_and_then (slice_get values) (net_number tree i name)
