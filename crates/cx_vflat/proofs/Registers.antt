@@ -8,6 +8,7 @@ use Rattle.cx_vtree.specs.InstanceTree.{Placed, same_name, nets_at, Outside, Hel
 use Rattle.cx_vtree.specs.Meaning.{Moment, expr_at, outside_value}
 use Rattle.cx_vtree.specs.Edges.{edge_at, acting_sets, number_or, register_after}
 use Rattle.cx_veval.specs.declared.codes.Code.{Code}
+use Rattle.cx_veval.specs.declared.codes.Place.{Place}
 use Rattle.cx_veval.specs.declared.edges.Set.{Set}
 use Rattle.cx_veval.specs.declared.nets.Stored.{Stored}
 use Rattle.cx_veval.specs.Arrays.{IsEven}
@@ -16,7 +17,8 @@ use Rattle.cx_veval.specs.Edges.{code_of, numbered, after_sets, SetsFit}
 use Rattle.cx_veval.specs.Search.{SameWidths}
 use Rattle.cx_veval.specs.Widths.{HaveWidths}
 use Rattle.cx_vcodes.specs.Numbers.{position}
-use Rattle.cx_vflat.specs.Numbers.{nets_before, net_number, look_by}
+use Rattle.cx_vflat.specs.Numbers.{nets_before, place_of, look_by}
+use Rattle.cx_vflat.specs.Flat.{CodeStands}
 use Rattle.cx_vflat.specs.Memory.{StoredStands}
 use Rattle.cx_vflat.specs.EdgesFlat.{SetStands, SetsStand, AreApart, EdgesAreApart}
 use Rattle.cx_vflat.proofs.Numbering.{same_name-true, same_name-refl, number_at, number_once}
@@ -52,6 +54,14 @@ module _ (tree : List Placed) (values : List BitVector) where
   pub look_same : (j : ℕ) (name : List ℕ) (h : ℕ) → position (nets_at tree j) name ≡ Some h → look_by tree values j name ≡ slice_get values (nets_before tree j + h)
   look_same j name h e = ap (λ o. option_and_then (slice_get values) (option_map (λ k. nets_before tree j + k) o)) e
 
+module _ (tree : List Placed) (m : Moment) (table : List Code) (values : List BitVector) (s : Stored) (memory : StoredStands tree m s) where
+  -- a code of an instance has the value of its expression
+  pub code_given : (i c : ℕ) (e : PlainExpr) (p : Place) → p ≡ place_of tree i → CodeStands tree table i c e
+      → numbered table values s.arrays.items p c ≡ expr_at tree m (look_by tree values) i e
+  code_given i c e p is h =
+      ap (λ q. numbered table values s.arrays.items q c) is
+      ∙ sym (same_at tree m s memory (look_by tree values) (slice_get values) (look_same tree values) table i c e h)
+
 module _ (tree : List Placed) (m : Moment) (table : List Code) (values : List BitVector) (s : Stored) (sets : List Set)
     (memory : StoredStands tree m s) (apart : AreApart tree) (edges : EdgesAreApart tree) (stands : SetsStand tree table m.reset sets) where
   abbrev acting : ℕ → List PlainAssign
@@ -67,9 +77,7 @@ module _ (tree : List Placed) (m : Moment) (table : List Code) (values : List Bi
   nets_after = after_sets table values s.arrays.items sets s.nets.items
 
   number_same : (i : ℕ) (a : PlainAssign) (x : Set) → SetStands tree table i a x → number x ≡ given i a.value
-  number_same i a x h =
-      ap (λ p. numbered table values s.arrays.items p x.code) h.place
-      ∙ sym (same_at tree m s memory (look_by tree values) (slice_get values) (look_same tree values) table i x.code a.value h.code)
+  number_same i a x h = code_given tree m table values s memory i x.code a.value x.place h.place h.code
 
   -- the assignment of a set
   set_of : (i k : ℕ) (name : List ℕ) (h : ℕ) (x : Set) → slice_get (nets_at tree i) k ≡ Some name → slice_get sets h ≡ Some x → x.net ≡ nets_before tree i + k
