@@ -58,6 +58,9 @@ both_sides false x = refl
 abbrev word_with : Option BitVector → Option BitVector → Option BitVector → ℕ → ℕ → ℕ
 word_with g i v old index = if not (number_or 0 g == 0) then (if option_map_or (λ b. b.value == index) i false then number_or old v else old) else old
 
+abbrev write_at : ℕ → BitVector → Write
+write_at index v = record { index = index; value = v }
+
 word_unwritten : (g i v : Option BitVector) (old index : ℕ) → guarded g i v ≡ None → word_with g i v old index ≡ old
 word_unwritten None i v old index e = refl
 word_unwritten (Some g) None v old index e = both_sides (not (g.value == 0)) old
@@ -65,7 +68,7 @@ word_unwritten (Some g) (Some i) None old index e =
     ap (λ x. if not (g.value == 0) then x else old) (both_sides (i.value == index) old) ∙ both_sides (not (g.value == 0)) old
 word_unwritten (Some g) (Some i) (Some v) old index e = go (g.value == 0) e
   where
-    go : (t : Bool) → (if t then None else Some (record { index = i.value; value = v })) ≡ None → (if not t then (if i.value == index then v.value else old) else old) ≡ old
+    go : (t : Bool) → (if t then None else Some (write_at i.value v)) ≡ None → (if not t then (if i.value == index then v.value else old) else old) ≡ old
     go true e = refl
     go false e = cc
 
@@ -76,10 +79,10 @@ word_written (Some g) None v w old index e = absurd (cc)
 word_written (Some g) (Some i) None w old index e = absurd (cc)
 word_written (Some g) (Some i) (Some v) w old index e = go (g.value == 0) e
   where
-    go : (t : Bool) → (if t then None else Some (record { index = i.value; value = v })) ≡ Some w
+    go : (t : Bool) → (if t then None else Some (write_at i.value v)) ≡ Some w
         → ((if not t then (if i.value == index then v.value else old) else old) ≡ (if w.index == index then w.value.value else old)) × (Some v ≡ Some w.value)
     go true e = absurd (cc)
-    go false e = let same = same_Some (record { index = i.value; value = v }) w e in (ap (λ u. if u.index == index then u.value.value else old) same, ap (λ u. Some u.value) same)
+    go false e = let same = same_Some (write_at i.value v) w e in (ap (λ u. if u.index == index then u.value.value else old) same, ap (λ u. Some u.value) same)
 
 set_past : {A : Type 0} (xs : List A) (i : ℕ) (v : A) → length xs ≤ i → slice_set xs i v ≡ xs
 set_past [] i v le = refl
