@@ -6,3 +6,4 @@ pub mod Registers
 pub mod StoreSteps
 pub mod WordLemmas
 pub mod WordsAfter
+pub mod EdgeLemmas
