@@ -7,3 +7,7 @@ pub mod StoreSteps
 pub mod WordLemmas
 pub mod WordsAfter
 pub mod EdgeLemmas
+pub mod WholeLooks
+pub mod InputLemmas
+pub mod Fitting
+pub mod RunLemmas

@@ -23,6 +23,11 @@ use Rattle.cx_vflat.specs.Memory.{WordsStand, StoredStands}
 use Rattle.cx_vflat.proofs.Numbering.{bind_some, map_some, position_here, number_parts, number_below, number_order, order_back, number_there, located, located_here, located_tells, net_within}
 use Rattle.cx_vflat.proofs.CodeValues.{same_value}
 
+-- each number below the count is that of a net
+pub net_there : (tree : List Placed) (n : Nets) → NetsStand tree n → (f : ℕ) → f < length n.drivers.items
+    → (i : ℕ) × (k : ℕ) × (name : List ℕ) × (f ≡ nets_before tree i + k) × (slice_get (nets_at tree i) k ≡ Some name)
+net_there tree n stands f lt = let r = number_there (nets_at tree) (length tree) f (subst (λ x. f < x) stands.count lt) in (r.0, r.1, r.2, r.4, r.5)
+
 module _ (tree : List Placed) (m : Moment) (s : Stored) (memory : StoredStands tree m s) where
   -- a word of an array
   pub same_word : (i : ℕ) (name : List ℕ) (a index : ℕ) → position (arrays_at tree i) name ≡ Some a
@@ -129,9 +134,3 @@ module _ (tree : List Placed) (m : Moment) (n : Nets) (s : Stored) (stands : Net
           let order = order_back (nets_at tree) r.0 r.1 i k first.name first.stands_there (subst (λ x. x < nets_before tree i + k) r.4 lower) in
           let v = first.earlier_have r.0 r.1 r.2 order r.5 in
           (v.0, subst (λ x. HasValue n s x v.0) (sym r.4) (value_by_number v.1 r.1 r.5))
-
-  -- the net of a number that has no value
-  pub net_of_number : (f : ℕ) → f < length n.drivers.items → (i : ℕ) × (k : ℕ) × (name : List ℕ) × (f ≡ nets_before tree i + k) × (slice_get (nets_at tree i) k ≡ Some name)
-  net_of_number f lt =
-      let r = number_there (nets_at tree) (length tree) f (subst (λ x. f < x) stands.count lt) in
-      (r.0, r.1, r.2, r.4, r.5)

@@ -3,3 +3,4 @@ pub mod Flat
 pub mod Memory
 pub mod EdgesFlat
 pub mod RunsFlat
+pub mod Laws
