@@ -14,7 +14,7 @@ use Rattle.cx_veval.specs.declared.codes.Code.{Code}
 use Rattle.cx_veval.specs.declared.edges.Set.{Set}
 use Rattle.cx_veval.specs.declared.stores.Store.{Store}
 use Rattle.cx_veval.specs.declared.nets.Stored.{Stored}
-use Rattle.cx_veval.specs.Arrays.{IsEven, word_of, array_width}
+use Rattle.cx_veval.specs.Arrays.{IsEven, array_width}
 use Rattle.cx_veval.specs.Fits.{width_at}
 use Rattle.cx_veval.specs.Edges.{code_of, numbered, after_sets, SetsFit}
 use Rattle.cx_veval.specs.Search.{SameWidths}

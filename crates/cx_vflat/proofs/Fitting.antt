@@ -1,5 +1,5 @@
 -- What fits by its widths fits whatever has the same widths.
-use Rattle.std.proofs.Common.{◌≡◌, ℕ, ◌+◌, Bool, not, List, [], Some, IsSome, length, slice_set, refl, ap, sym, ◌∙◌, subst}
+use Rattle.std.proofs.Common.{◌≡◌, ℕ, ◌+◌, Bool, not, List, Some, IsSome, length, slice_set, refl, ap, sym, ◌∙◌, subst}
 use Rattle.cx_bits.specs.BitVector.{BitVector}
 use Rattle.cx_veval.specs.declared.arrays.Words.{Words}
 use Rattle.cx_veval.specs.declared.codes.Code.{Code}

@@ -1,12 +1,12 @@
 -- The inputs of a cycle.
-use Rattle.std.proofs.Common.{◌≡◌, ℕ, zero, suc, ◌+◌, ◌<◌, ◌==◌, ⊎_elim, Bool, true, false, not, List, [], ◌∷◌, Option, Some, None, option_and_then, option_map, slice_get, slice_set, length, refl, ap, sym, ◌∙◌, subst, if◌then◌else◌, arith}
+use Rattle.std.proofs.Common.{◌≡◌, ℕ, ◌+◌, ◌<◌, ◌==◌, Bool, true, false, not, List, [], ◌∷◌, Option, Some, None, option_and_then, option_map, slice_get, slice_set, length, refl, ap, sym, ◌∙◌, subst, if◌then◌else◌}
 use Rattle.std.specs.Prelude.{codes}
 use Rattle.std.specs.Option.{option_map_or}
-use Rattle.std.proofs.lemmas.Bool.{eqb-true, cases_Bool}
-use Rattle.std.proofs.lemmas.Option.{same_Some, slice_get_within}
+use Rattle.std.proofs.lemmas.Bool.{eqb-true}
+use Rattle.std.proofs.lemmas.Option.{slice_get_within}
 use Rattle.cx_bits.specs.BitVector.{BitVector}
 use Rattle.cx_vtree.specs.Plain.{PlainExpr}
-use Rattle.cx_vtree.specs.InstanceTree.{Placed, same_name, nets_at, NetKind, Input, Driven, Stored, Origin, Outside, Tied, Held, Given, net_of, assigned, output_to, driving_output, origin_by, kind_in, origin_of}
+use Rattle.cx_vtree.specs.InstanceTree.{Placed, same_name, nets_at, NetKind, Input, Driven, Stored, Outside, Tied, Held, Given, net_of, assigned, output_to, driving_output, origin_by, kind_in, origin_of}
 use Rattle.cx_vtree.specs.Meaning.{State, Moment, outside_value}
 use Rattle.cx_veval.specs.declared.nets.Stored.{Stored as Memory}
 use Rattle.cx_vrun.specs.declared.machines.Machine.{Machine}
@@ -15,7 +15,7 @@ use Rattle.cx_vflat.specs.Numbers.{nets_before, arrays_before}
 use Rattle.cx_vflat.specs.Memory.{StoredStands}
 use Rattle.cx_vflat.specs.EdgesFlat.{AreApart}
 use Rattle.cx_vflat.specs.RunsFlat.{IsInput}
-use Rattle.cx_vflat.proofs.Numbering.{bind_some, map_some, same_name-true, same_name-refl, number_at, number_once}
+use Rattle.cx_vflat.proofs.Numbering.{bind_some, same_name-true, same_name-refl, number_at, number_once}
 use Rattle.cx_vflat.proofs.SetSteps.{get_set_same, get_set_other, length_set}
 
 -- An origin from outside is one of instance 0.

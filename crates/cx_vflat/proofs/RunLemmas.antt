@@ -1,6 +1,5 @@
 -- A run of the machine is the run of its source.
-use Rattle.std.proofs.Common.{◌≡◌, ℕ, zero, suc, ◌+◌, ◌<◌, Bool, true, false, List, [], ◌∷◌, map, Option, Some, None, option_map, unwrap_or, slice_get, length, refl, ap, sym, ◌∙◌, subst, arith}
-use Rattle.std.specs.Prelude.{codes}
+use Rattle.std.proofs.Common.{◌≡◌, ℕ, zero, suc, ◌+◌, ◌<◌, Bool, true, false, List, [], ◌∷◌, map, Option, Some, option_map, unwrap_or, slice_get, length, refl, ap, sym, ◌∙◌, subst, arith}
 use Rattle.std.specs.Option.{option_map_or}
 use Rattle.std.proofs.lemmas.Option.{slice_get-map, slice_get_within}
 use Rattle.cx_bits.specs.BitVector.{BitVector}
@@ -13,10 +12,9 @@ use Rattle.cx_vtree.specs.SimRun as source
 use Rattle.cx_vtree.specs.SimRun.{IsWhole, first_array, numbers_from, words_in, words_of, start_state, RunsFrom, SimRun}
 use Rattle.cx_veval.specs.declared.arrays.Words.{Words}
 use Rattle.cx_veval.specs.declared.nets.Stored.{Stored}
-use Rattle.cx_veval.specs.Arrays.{word_of}
-use Rattle.cx_veval.specs.Stores.{PlainWords, plain_words}
+use Rattle.cx_veval.specs.Stores.{plain_words}
 use Rattle.cx_veval.specs.Widths.{HaveWidths}
-use Rattle.cx_veval.specs.Search.{AllHave, IsFirstWithout}
+use Rattle.cx_veval.specs.Search.{IsFirstWithout}
 use Rattle.cx_vrun.specs.declared.machines.Machine.{Machine}
 use Rattle.cx_vrun.specs.Machines.{IsAfter}
 use Rattle.cx_vrun.specs.Runs as flat

@@ -1,5 +1,5 @@
 -- The nets by their numbers have the values that they have by instance and name.
-use Rattle.std.proofs.Common.{◌≡◌, ℕ, ◌+◌, ◌<◌, ◌⊎◌, List, Option, Some, None, IsSome, option_and_then, option_map, unwrap_or, slice_get, length, refl, ap, sym, ◌∙◌, subst, arith}
+use Rattle.std.proofs.Common.{◌≡◌, ℕ, ◌+◌, ◌<◌, List, Option, Some, option_and_then, option_map, unwrap_or, slice_get, length, refl, ap, sym, ◌∙◌, subst, arith}
 use Rattle.cx_bits.specs.BitVector.{BitVector}
 use Rattle.cx_vtree.specs.Plain.{PlainExpr}
 use Rattle.cx_vtree.specs.InstanceTree.{Placed, decls_at, nets_at, Origin, Outside, Tied, Held, Given, origin_of}
@@ -13,14 +13,13 @@ use Rattle.cx_veval.specs.declared.nets.Stored.{Stored}
 use Rattle.cx_veval.specs.declared.nets.Driver.{Driver}
 use Rattle.cx_veval.specs.declared.nets.Driver.TheVariants as driver
 use Rattle.cx_veval.specs.Arrays.{word_of, word_at}
-use Rattle.cx_veval.specs.Codes.{code_in}
 use Rattle.cx_veval.specs.Search.{IsFirstWithout}
 use Rattle.cx_veval.specs.Values.{code_at, driver_in, rule, HasValue, by_rule}
 use Rattle.cx_vcodes.specs.Numbers.{position}
 use Rattle.cx_vflat.specs.Numbers.{arrays_at, nets_before, arrays_before, net_number, place_of}
 use Rattle.cx_vflat.specs.Flat.{CodeStands, DriverStands, NetsStand}
-use Rattle.cx_vflat.specs.Memory.{WordsStand, StoredStands}
-use Rattle.cx_vflat.proofs.Numbering.{bind_some, map_some, position_here, number_parts, number_below, number_order, order_back, number_there, located, located_here, located_tells, net_within}
+use Rattle.cx_vflat.specs.Memory.{StoredStands}
+use Rattle.cx_vflat.proofs.Numbering.{bind_some, position_here, number_parts, number_below, number_order, order_back, number_there, located, located_here, located_tells, net_within}
 use Rattle.cx_vflat.proofs.CodeValues.{same_value}
 
 -- each number below the count is that of a net

@@ -1,17 +1,15 @@
 -- The values of all nets.
-use Rattle.std.proofs.Common.{◌≡◌, ℕ, zero, suc, ◌+◌, ◌<◌, ◌==◌, List, [], ◌∷◌, Bool, true, false, Option, Some, None, IsSome, option_and_then, option_map, slice_get, length, refl, ap, sym, ◌∙◌, subst, arith}
+use Rattle.std.proofs.Common.{◌≡◌, ℕ, zero, suc, ◌+◌, ◌<◌, ◌==◌, List, [], ◌∷◌, false, Some, IsSome, option_and_then, slice_get, length, refl, ap, sym, ◌∙◌, subst}
 use Rattle.std.specs.Option.{option_map_or}
 use Rattle.std.specs.Prelude.{codes}
-use Rattle.std.proofs.lemmas.Option.{same_Some, slice_get_within, slice_get-get_or, get_or_from_slice_get}
+use Rattle.std.proofs.lemmas.Option.{slice_get_within, slice_get-get_or, get_or_from_slice_get}
 use Rattle.cx_bits.specs.BitVector.{BitVector}
 use Rattle.cx_vtree.specs.InstanceTree.{Placed, nets_at}
-use Rattle.cx_vtree.specs.Meaning as named
 use Rattle.cx_vtree.specs.Meaning.{Moment, Look}
 use Rattle.cx_vtree.specs.SimRun as source
 use Rattle.cx_vtree.specs.SimRun.{IsWhole}
 use Rattle.cx_veval.specs.declared.nets.Nets.{Nets}
 use Rattle.cx_veval.specs.declared.nets.Stored.{Stored}
-use Rattle.cx_veval.specs.Fits.{width_at}
 use Rattle.cx_veval.specs.Search.{no_bits, value_at, AllHave, SameWidths}
 use Rattle.cx_veval.specs.Values.{HasValue}
 use Rattle.cx_vrun.specs.declared.machines.Machine.{Machine}

@@ -1,7 +1,6 @@
 -- The words of an array by its declaration.
-use Rattle.std.proofs.Common.{◌≡◌, ℕ, ◌<◌, ◌≤◌, Bool, true, false, List, [], ◌∷◌, nat_lt, refl, ap, ◌∙◌, sym, if◌then◌else◌, arith}
-use Rattle.std.proofs.lemmas.Bool.{lt-ltb, le-ltb, ltb-false}
-use Rattle.cx_bits.specs.BitVector.{BitVector}
+use Rattle.std.proofs.Common.{◌≡◌, ℕ, ◌<◌, Bool, true, false, List, [], ◌∷◌, nat_lt, refl, ap, if◌then◌else◌, arith}
+use Rattle.std.proofs.lemmas.Bool.{lt-ltb}
 use Rattle.cx_vtree.specs.Plain.{PlainDecl, WireOf, RegisterOf, ArrayOf}
 use Rattle.cx_vtree.specs.InstanceTree.{same_name}
 use Rattle.cx_vtree.specs.Meaning.{word_in}

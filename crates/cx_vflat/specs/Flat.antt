@@ -1,9 +1,8 @@
 -- Which numbered nets stand for the nets of a tree of instances.
-use Rattle.std.specs.Prelude.{◌≡◌, ℕ, ◌+◌, List, Option, Some, length, slice_get}
+use Rattle.std.specs.Prelude.{◌≡◌, ℕ, ◌+◌, List, Some, length, slice_get}
 use Rattle.cx_vtree.specs.Plain.{PlainExpr}
 use Rattle.cx_vtree.specs.InstanceTree.{Placed, nets_at, Origin, Outside, Tied, Held, Given, origin_of}
 use Rattle.cx_veval.specs.declared.codes.Code.{Code}
-use Rattle.cx_veval.specs.declared.codes.Place.{Place}
 use Rattle.cx_veval.specs.declared.nets.Nets.{Nets}
 use Rattle.cx_veval.specs.declared.nets.Driver.{Driver}
 use Rattle.cx_veval.specs.declared.nets.Driver.TheVariants as driver
