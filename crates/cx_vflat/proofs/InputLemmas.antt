@@ -3,6 +3,7 @@ use Rattle.std.proofs.Common.{◌≡◌, ℕ, ◌+◌, ◌<◌, ◌==◌, Bool, 
 use Rattle.std.specs.Prelude.{codes}
 use Rattle.std.specs.Option.{option_map_or}
 use Rattle.std.proofs.lemmas.Bool.{eqb-true}
+use Rattle.std.proofs.lemmas.List.{length-set}
 use Rattle.std.proofs.lemmas.Option.{slice_get_within}
 use Rattle.cx_bits.specs.BitVector.{BitVector}
 use Rattle.cx_vtree.specs.Plain.{PlainExpr}
@@ -16,7 +17,7 @@ use Rattle.cx_vflat.specs.Memory.{StoredStands}
 use Rattle.cx_vflat.specs.EdgesFlat.{AreApart}
 use Rattle.cx_vflat.specs.RunsFlat.{IsInput}
 use Rattle.cx_vflat.proofs.Numbering.{bind_some, same_name-true, same_name-refl, number_at, number_once}
-use Rattle.cx_vflat.proofs.SetSteps.{get_set_same, get_set_other, length_set}
+use Rattle.cx_vflat.proofs.SetSteps.{get_set_same, get_set_other}
 
 -- An origin from outside is one of instance 0.
 driving_not_outside : (tree : List Placed) (number holder : ℕ) (net : List ℕ) → driving_output tree number holder net ≡ Some Outside → ⊥
@@ -114,7 +115,7 @@ module _ (tree : List Placed) (apart : AreApart tree) (m : Machine) (reset_is : 
     at_go same =
         let net = input_net tree apart (codes "go") m.go go_is k (there ∙ ap Some (sym same)) in
         ap (λ j. slice_get (slice_set inner j (bit (not one))) f) net
-        ∙ get_set_same inner f (bit (not one)) (subst (λ c. f < c) (sym (length_set before.nets.items m.reset (bit one))) within)
+        ∙ get_set_same inner f (bit (not one)) (subst (λ c. f < c) (sym (length-set before.nets.items m.reset (bit one))) within)
 
     at_other : same_name name (codes "reset") ≡ false → same_name name (codes "go") ≡ false → slice_get nets f ≡ Some (value_by false false)
     at_other no_reset no_go =

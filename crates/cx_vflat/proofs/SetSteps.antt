@@ -2,6 +2,7 @@
 use Rattle.std.proofs.Common.{◌≡◌, ℕ, zero, suc, ◌<◌, ⊎_elim, List, [], ◌∷◌, Option, Some, None, length, slice_get, slice_set, refl, ap, ◌∙◌, sym, subst, arith}
 use Rattle.std.specs.Option.{option_map_or}
 use Rattle.std.proofs.lemmas.Bool.{cases_eq}
+use Rattle.std.proofs.lemmas.List.{length-set}
 use Rattle.cx_bits.specs.BitVector.{BitVector}
 use Rattle.cx_veval.specs.declared.arrays.Words.{Words}
 use Rattle.cx_veval.specs.declared.codes.Code.{Code}
@@ -20,16 +21,6 @@ get_set_other (x ∷ xs) zero (suc j) v ne = refl
 get_set_other (x ∷ xs) (suc i) zero v ne = refl
 get_set_other (x ∷ xs) (suc i) (suc j) v ne = get_set_other xs i j v (λ e. ne (ap suc e))
 
-pub length_set : {A : Type 0} (xs : List A) (i : ℕ) (v : A) → length (slice_set xs i v) ≡ length xs
-length_set [] i v = refl
-length_set (x ∷ xs) zero v = refl
-length_set (x ∷ xs) (suc i) v = ap suc (length_set xs i v)
-
-pub set_set : {A : Type 0} (xs : List A) (i : ℕ) (v : A) → slice_set (slice_set xs i v) i v ≡ slice_set xs i v
-set_set [] i v = refl
-set_set (x ∷ xs) zero v = refl
-set_set (x ∷ xs) (suc i) v = ap (λ l. x ∷ l) (set_set xs i v)
-
 module _ (table : List Code) (values : List BitVector) (arrays : List Words) where
   abbrev pub number : Set → Option BitVector
   number x = numbered table values arrays x.place x.code
@@ -43,7 +34,7 @@ module _ (table : List Code) (values : List BitVector) (arrays : List Words) whe
 
   put_long : (x : Set) (o : Option BitVector) (registers : List BitVector) → length (put x o registers) ≡ length registers
   put_long x None registers = refl
-  put_long x (Some v) registers = length_set registers x.net v
+  put_long x (Some v) registers = length-set registers x.net v
 
   put_here : (x : Set) (o : Option BitVector) (registers : List BitVector) (f : ℕ) (v : BitVector) → x.net ≡ f → o ≡ Some v → f < length registers → slice_get (put x o registers) f ≡ Some v
   put_here x o registers f v is gives lt =

@@ -2,15 +2,16 @@
 use Rattle.std.proofs.Common.{◌≡◌, ℕ, zero, suc, ⊎_elim, List, [], ◌∷◌, map, Option, Some, None, length, slice_get, slice_set, refl, ap, ◌∙◌}
 use Rattle.std.specs.Option.{option_map_or}
 use Rattle.std.proofs.lemmas.Bool.{cases_eq}
+use Rattle.std.proofs.lemmas.List.{length-set, set-set}
 use Rattle.std.proofs.lemmas.Option.{slice_get_within}
 use Rattle.cx_veval.specs.declared.stores.Store.{Store}
 use Rattle.cx_veval.specs.declared.stores.Write.{Write}
 use Rattle.cx_veval.specs.Stores.{PlainWords, written, write_word, after_writes}
-use Rattle.cx_vflat.proofs.SetSteps.{get_set_same, get_set_other, length_set, set_set}
+use Rattle.cx_vflat.proofs.SetSteps.{get_set_same, get_set_other}
 
 -- a write twice is a write once
 written_twice : (x : PlainWords) (w : Write) → written (written x w) w ≡ written x w
-written_twice x w = ap (λ ws. record { zero = x.zero; words = ws }) (set_set x.words w.index w.value)
+written_twice x w = ap (λ ws. record { zero = x.zero; words = ws }) (set-set x.words w.index w.value w.value)
 
 module _ (a : ℕ) (w : Write) (arrays : List PlainWords) where
   abbrev put : Option PlainWords → List PlainWords
@@ -22,7 +23,7 @@ module _ (a : ℕ) (w : Write) (arrays : List PlainWords) where
 
   put_long : (o : Option PlainWords) → length (put o) ≡ length arrays
   put_long None = refl
-  put_long (Some x) = length_set arrays a (written x w)
+  put_long (Some x) = length-set arrays a (written x w)
 
   put_here : (f : ℕ) (x : PlainWords) → a ≡ f → slice_get arrays f ≡ Some x → slice_get (put (slice_get arrays a)) f ≡ Some (written x w)
   put_here f x is at =

@@ -2,6 +2,7 @@
 use Rattle.std.proofs.Common.{◌≡◌, ℕ, zero, suc, ◌+◌, ◌<◌, ◌≤◌, ⊎_elim, ◌==◌, not, Bool, true, false, nat_lt, List, [], ◌∷◌, map, Option, Some, None, option_and_then, option_map, unwrap_or, slice_get, slice_set, length, refl, ap, sym, ◌∙◌, subst, if◌then◌else◌, arith}
 use Rattle.std.specs.Option.{option_map_or}
 use Rattle.std.proofs.lemmas.Bool.{cases_lt, cases_eq, lt-ltb, le-ltb, eq-eqb, ne_eqb}
+use Rattle.std.proofs.lemmas.List.{length-set}
 use Rattle.std.proofs.lemmas.Option.{same_Some, slice_get-map, slice_get_past}
 use Rattle.cx_bits.specs.BitVector.{BitVector}
 use Rattle.cx_vtree.specs.Plain.{PlainExpr, PlainDecl, PlainStore}
@@ -21,7 +22,7 @@ use Rattle.cx_vflat.specs.Numbers.{arrays_at, arrays_before, look_by}
 use Rattle.cx_vflat.specs.Memory.{WordsStand, StoredStands}
 use Rattle.cx_vflat.specs.EdgesFlat.{StoreStands, StoresStand, AreApart, EdgesAreApart}
 use Rattle.cx_vflat.proofs.Numbering.{map_some, same_name-true, same_name-refl, number_at, number_once}
-use Rattle.cx_vflat.proofs.SetSteps.{get_set_same, get_set_other, length_set}
+use Rattle.cx_vflat.proofs.SetSteps.{get_set_same, get_set_other}
 use Rattle.cx_vflat.proofs.StoreSteps.{stores_keep, stores_give}
 use Rattle.cx_vflat.proofs.WordLemmas.{word_in_same, word_in_width, word_in_value}
 use Rattle.cx_vflat.proofs.Registers.{code_given}
@@ -230,7 +231,7 @@ module _ (tree : List Placed) (m : Moment) (table : List Code) (values : List Bi
 
       changed : WordsStand new decls name y
       changed = record {
-        size = ap (λ (p : PlainWords). length p.words) same ∙ length_set x.words.items w.index w.value ∙ words.size;
+        size = ap (λ (p : PlainWords). length p.words) same ∙ length-set x.words.items w.index w.value ∙ words.size;
         each = λ index. ap (λ (p : PlainWords). unwrap_or (slice_get p.words index) p.zero) same ∙ each_word index;
       }
 
