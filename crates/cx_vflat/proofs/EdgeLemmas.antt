@@ -59,9 +59,9 @@ module _ (tree : List Placed) where
       let r = memory.arrays p.0 p.1 p.2 p.5 in
       let q = other.arrays p.0 p.1 p.2 p.5 in
       let width : r.0.zero.width ≡ q.0.zero.width =
-          zero_width (m.state.word p.0) (decls_at tree p.0) p.2 r.0 r.2
-          ∙ word_in_width (decls_at tree p.0) (m.state.word p.0) (n.state.word p.0) p.2 0 0
-          ∙ sym (zero_width (n.state.word p.0) (decls_at tree p.0) p.2 q.0 q.2) in
+      zero_width (m.state.word p.0) (decls_at tree p.0) p.2 r.0 r.2
+      ∙ word_in_width (decls_at tree p.0) (m.state.word p.0) (n.state.word p.0) p.2 0 0
+      ∙ sym (zero_width (n.state.word p.0) (decls_at tree p.0) p.2 q.0 q.2) in
       ap (array_width s.arrays.items) p.4
       ∙ ap (option_map (λ (x : Words). x.zero.width)) r.1
       ∙ ap Some width

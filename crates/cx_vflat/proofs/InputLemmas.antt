@@ -104,9 +104,9 @@ module _ (tree : List Placed) (apart : AreApart tree) (m : Machine) (reset_is : 
     at_reset same =
         let net = input_net tree apart (codes "reset") m.reset reset_is k (there ∙ ap Some (sym same)) in
         let not_go : m.go ≡ f → ⊥ = λ e.
-            let o = input_once tree apart (codes "go") m.go go_is 0 k name there e in
-            let t = subst (λ n. same_name (codes "reset") n ≡ true) (same ∙ sym o.1) (same_name-refl (codes "reset")) in
-            let u = differ in cc in
+        let o = input_once tree apart (codes "go") m.go go_is 0 k name there e in
+        let t = subst (λ n. same_name (codes "reset") n ≡ true) (same ∙ sym o.1) (same_name-refl (codes "reset")) in
+        let u = differ in cc in
         get_set_other inner m.go f (bit (not one)) not_go
         ∙ ap (λ j. slice_get (slice_set before.nets.items j (bit one)) f) net
         ∙ get_set_same before.nets.items f (bit one) within
@@ -120,13 +120,13 @@ module _ (tree : List Placed) (apart : AreApart tree) (m : Machine) (reset_is : 
     at_other : same_name name (codes "reset") ≡ false → same_name name (codes "go") ≡ false → slice_get nets f ≡ Some (value_by false false)
     at_other no_reset no_go =
         let not_reset : m.reset ≡ f → ⊥ = λ e.
-            let o = input_once tree apart (codes "reset") m.reset reset_is 0 k name there e in
-            let t = subst (λ n. same_name n (codes "reset") ≡ true) o.1 (same_name-refl (codes "reset")) in
-            let u = sym t ∙ no_reset in cc in
+        let o = input_once tree apart (codes "reset") m.reset reset_is 0 k name there e in
+        let t = subst (λ n. same_name n (codes "reset") ≡ true) o.1 (same_name-refl (codes "reset")) in
+        let u = sym t ∙ no_reset in cc in
         let not_go : m.go ≡ f → ⊥ = λ e.
-            let o = input_once tree apart (codes "go") m.go go_is 0 k name there e in
-            let t = subst (λ n. same_name n (codes "go") ≡ true) o.1 (same_name-refl (codes "go")) in
-            let u = sym t ∙ no_go in cc in
+        let o = input_once tree apart (codes "go") m.go go_is 0 k name there e in
+        let t = subst (λ n. same_name n (codes "go") ≡ true) o.1 (same_name-refl (codes "go")) in
+        let u = sym t ∙ no_go in cc in
         other_net f not_reset not_go
         ∙ memory.inputs 0 k name there out
         ∙ ap (λ t. Some (record { width = 1; value = if t then r else (if same_name name (codes "go") then g else 0) })) no_reset

@@ -51,14 +51,13 @@ module _ (tree : List Placed) (m : Moment) (s : Stored) (memory : StoredStands t
       let stand = r.2 in
       let long : word_count e.sizes ≡ length x.words.items = sym is.size ∙ sym stand.size in
       let each : (k : ℕ) (b : BitVector) → slice_get x.words.items k ≡ Some b → b.value ≡ m.state.word j name (0 + k) = λ k b at.
-          let lt : k < length x.words.items = slice_get_within x.words.items k b at in
-          let below = subst (λ c. k < c) stand.size lt in
-          let place : k ≡ 0 + k = omega arith in
-          ap (λ (o : Option BitVector). (unwrap_or o x.zero).value) (sym at)
-          ∙ ap (λ (w : BitVector). w.value) (stand.each k)
-          ∙ word_in_value (decls_at tree j) (m.state.word j) name k below
-          ∙ ap (m.state.word j name) place in
-      (
+      let lt : k < length x.words.items = slice_get_within x.words.items k b at in
+      let below = subst (λ c. k < c) stand.size lt in
+      let place : k ≡ 0 + k = omega arith in
+      ap (λ (o : Option BitVector). (unwrap_or o x.zero).value) (sym at)
+      ∙ ap (λ (w : BitVector). w.value) (stand.each k)
+      ∙ word_in_value (decls_at tree j) (m.state.word j) name k below
+      ∙ ap (m.state.word j name) place in (
         j,
         arrays_before tree j + n.0,
         plain_words x,
@@ -66,8 +65,8 @@ module _ (tree : List Placed) (m : Moment) (s : Stored) (memory : StoredStands t
         n.1,
         slice_get-map plain_words s.arrays.items (arrays_before tree j + n.0) ∙ ap (option_map plain_words) r.1,
         ap (λ o. option_map_or (λ i. map (m.state.word i (first_array (decls_at tree i))) (numbers_from 0 (word_count e.sizes))) o []) is.instance
-        ∙ ap (λ c. map (m.state.word j name) (numbers_from 0 c)) long
-        ∙ values_in_row x.words.items (m.state.word j name) 0 each,
+            ∙ ap (λ c. map (m.state.word j name) (numbers_from 0 c)) long
+            ∙ values_in_row x.words.items (m.state.word j name) 0 each,
       )
 
   all_words : (es : List PlainExternal) → ((k : ℕ) (e : PlainExternal) → slice_get es k ≡ Some e → (j : ℕ) × IsMemory tree e j)

@@ -214,10 +214,10 @@ module _ (tree : List Placed) (m : Moment) (table : List Code) (values : List Bi
       here_word index is lt =
           let within : index < length x.words.items = let e = words.size in omega arith in
           let value : w.value.value ≡ (word_in new decls name index).value = sym (
-              word_in_value decls new name index lt
-              ∙ changes index
-              ∙ ap (λ t. if t then (if w.index == index then w.value.value else old index) else old index) (lt-ltb index (array_size decls name) lt)
-              ∙ ap (λ t. if t then w.value.value else old index) (eq-eqb w.index index is)) in
+          word_in_value decls new name index lt
+          ∙ changes index
+          ∙ ap (λ t. if t then (if w.index == index then w.value.value else old index) else old index) (lt-ltb index (array_size decls name) lt)
+          ∙ ap (λ t. if t then w.value.value else old index) (eq-eqb w.index index is)) in
           let width : w.value.width ≡ (word_in new decls name index).width = wide ∙ zero_width ∙ word_in_width decls new new name 0 index in
           ap (λ j. unwrap_or (slice_get (slice_set x.words.items j w.value) index) x.zero) is
           ∙ ap (λ o. unwrap_or o x.zero) (get_set_same x.words.items index w.value within)
@@ -268,11 +268,11 @@ module _ (tree : List Placed) (m : Moment) (table : List Code) (values : List Bi
           let same : (h : ℕ) (z : Store) → slice_get stores h ≡ Some z → z.array ≡ place → write z ≡ Some w = λ h z here is'. all_same j a at is h z here is' ∙ gives in
           let q = found (written (plain_words x) w) (stores_give write stores (map plain_words s.arrays.items) place r.0 r.1 w (plain_words x) same plain_before r.2 array) in
           let value : number r.1 r.1.value ≡ Some w.value =
-              code_given tree m table values s memory i r.1.value a.value r.1.place r.3.place r.3.value
-              ∙ (word_written (given i a.guard) (given i a.index) (given i a.value) w 0 0 gives).1 in
+          code_given tree m table values s memory i r.1.value a.value r.1.place r.3.place r.3.value
+          ∙ (word_written (given i a.guard) (given i a.index) (given i a.value) w 0 0 gives).1 in
           let changes : (index : ℕ) → new name index ≡ (if nat_lt index (array_size decls name) then (if w.index == index then w.value.value else old index) else old index) = λ index.
-              after_some a finds index
-              ∙ ap (λ v. if nat_lt index (array_size decls name) then v else old index) (word_written (given i a.guard) (given i a.index) (given i a.value) w (old index) index gives).0 in
+          after_some a finds index
+          ∙ ap (λ v. if nat_lt index (array_size decls name) then v else old index) (word_written (given i a.guard) (given i a.index) (given i a.value) w (old index) index gives).0 in
           (q.0, q.1, changed w changes (write_width r.0 r.1 w.value r.2 array value) q.0 q.2)
 
       by_store : (o : Option PlainStore) → store_to (acting i) name ≡ o → ArrayAfter
