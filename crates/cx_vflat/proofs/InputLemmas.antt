@@ -64,6 +64,12 @@ module _ (tree : List Placed) (apart : AreApart tree) (input : List ℕ) (f : �
       let origin = sym is.outside ∙ ap (λ j. origin_of tree j input) one.0 ∙ ap (origin_of tree i) one.1 ∙ held in
       cc
 
+  other_name : (k : ℕ) (name : List ℕ) → slice_get (nets_at tree 0) k ≡ Some name → same_name name input ≡ false → f ≡ nets_before tree 0 + k → ⊥
+  other_name k name there differs same =
+      let one = input_once 0 k name there same in
+      let t = subst (λ n. same_name n input ≡ true) one.1 (same_name-refl input) in
+      let never = sym t ∙ differs in cc
+
   input_net : (k : ℕ) → slice_get (nets_at tree 0) k ≡ Some input → f ≡ nets_before tree 0 + k
   input_net k there =
       let p = number_at (nets_at tree) 0 input f is.number in
@@ -86,9 +92,6 @@ module _ (tree : List Placed) (apart : AreApart tree) (m : Machine) (reset_is : 
   other_net : (f : ℕ) → (m.reset ≡ f → ⊥) → (m.go ≡ f → ⊥) → slice_get nets f ≡ slice_get before.nets.items f
   other_net f not_reset not_go = get_set_other inner m.go f (bit (not one)) not_go ∙ get_set_other before.nets.items m.reset f (bit one) not_reset
 
-  differ : same_name (codes "reset") (codes "go") ≡ false
-  differ = refl
-
   -- an input of `main` by its name
   module _ (k : ℕ) (name : List ℕ) (there : slice_get (nets_at tree 0) k ≡ Some name) (out : origin_of tree 0 name ≡ Some Outside) where
     abbrev f : ℕ
@@ -100,14 +103,16 @@ module _ (tree : List Placed) (apart : AreApart tree) (m : Machine) (reset_is : 
     within : f < length before.nets.items
     within = slice_get_within before.nets.items f (outside_value old name) (memory.inputs 0 k name there out)
 
+    not_reset : same_name name (codes "reset") ≡ false → m.reset ≡ f → ⊥
+    not_reset differs = other_name tree apart (codes "reset") m.reset reset_is k name there differs
+
+    not_go : same_name name (codes "go") ≡ false → m.go ≡ f → ⊥
+    not_go differs = other_name tree apart (codes "go") m.go go_is k name there differs
+
     at_reset : codes "reset" ≡ name → slice_get nets f ≡ Some (bit one)
     at_reset same =
         let net = input_net tree apart (codes "reset") m.reset reset_is k (there ∙ ap Some (sym same)) in
-        let not_go : m.go ≡ f → ⊥ = λ e.
-        let o = input_once tree apart (codes "go") m.go go_is 0 k name there e in
-        let t = subst (λ n. same_name (codes "reset") n ≡ true) (same ∙ sym o.1) (same_name-refl (codes "reset")) in
-        let u = differ in cc in
-        get_set_other inner m.go f (bit (not one)) not_go
+        get_set_other inner m.go f (bit (not one)) (not_go (subst (λ n. same_name n (codes "go") ≡ false) same refl))
         ∙ ap (λ j. slice_get (slice_set before.nets.items j (bit one)) f) net
         ∙ get_set_same before.nets.items f (bit one) within
 
@@ -119,15 +124,7 @@ module _ (tree : List Placed) (apart : AreApart tree) (m : Machine) (reset_is : 
 
     at_other : same_name name (codes "reset") ≡ false → same_name name (codes "go") ≡ false → slice_get nets f ≡ Some (value_by false false)
     at_other no_reset no_go =
-        let not_reset : m.reset ≡ f → ⊥ = λ e.
-        let o = input_once tree apart (codes "reset") m.reset reset_is 0 k name there e in
-        let t = subst (λ n. same_name n (codes "reset") ≡ true) o.1 (same_name-refl (codes "reset")) in
-        let u = sym t ∙ no_reset in cc in
-        let not_go : m.go ≡ f → ⊥ = λ e.
-        let o = input_once tree apart (codes "go") m.go go_is 0 k name there e in
-        let t = subst (λ n. same_name n (codes "go") ≡ true) o.1 (same_name-refl (codes "go")) in
-        let u = sym t ∙ no_go in cc in
-        other_net f not_reset not_go
+        other_net f (not_reset no_reset) (not_go no_go)
         ∙ memory.inputs 0 k name there out
         ∙ ap (λ t. Some (record { width = 1; value = if t then r else (if same_name name (codes "go") then g else 0) })) no_reset
         ∙ ap (λ t. Some (record { width = 1; value = if t then g else 0 })) no_go
