@@ -4,3 +4,4 @@ pub mod Waiting
 pub mod Steps
 pub mod Known
 pub mod StoreSteps
+pub mod CodeWidths

@@ -6,3 +6,4 @@ pub mod Looks
 pub mod Search
 pub mod Edges
 pub mod Stores
+pub mod Widths

@@ -4,6 +4,7 @@
 mod arrays;
 mod codes;
 mod edges;
+mod laws;
 mod marks;
 mod nets;
 mod operators;
@@ -14,6 +15,7 @@ mod values;
 pub use arrays::Words;
 pub use codes::{Code, Place};
 pub use edges::{Set, set_registers};
+pub use laws::codes_have_widths;
 pub use marks::Mark;
 pub use nets::{Driver, Nets, Stored};
 pub use search::settle;

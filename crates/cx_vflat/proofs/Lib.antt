@@ -1,0 +1,13 @@
+pub mod Numbering
+pub mod CodeValues
+pub mod Values
+pub mod SetSteps
+pub mod Registers
+pub mod StoreSteps
+pub mod WordLemmas
+pub mod WordsAfter
+pub mod EdgeLemmas
+pub mod WholeLooks
+pub mod InputLemmas
+pub mod Fitting
+pub mod RunLemmas
