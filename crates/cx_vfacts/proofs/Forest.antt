@@ -1,5 +1,6 @@
 -- The tree of a sound source, and the module of each instance.
 use Rattle.std.proofs.Common.{◌≡◌, ◌⊎◌, ℕ, zero, suc, ◌+◌, ◌<◌, List, [], ◌∷◌, ◌++◌, Bool, true, false, ◌||◌, not, map, length, reverse, Option, Some, None, is_none, slice_get, refl, ap, sym, ◌∙◌, subst, inl, inr, if◌then◌else◌, codes}
+use Rattle.std.specs.Option.{option_map_or}
 use Rattle.std.proofs.lemmas.Bool.{or_parts, or_left, or_right, both_ways, not-false, false_from_ne_true}
 use Rattle.cx_vtree.specs.Plain.{PlainInstance, PlainModule, PlainSource}
 use Rattle.cx_vtree.specs.InstanceTree.{same_name, Placed, below, tree_from, main_instance, instances_of}
@@ -33,7 +34,7 @@ wired before scope earlier driven x e = go (module_named before x.kind) refl nam
       → misfits scope (ports_of before x.kind) x.conns ≡ false → IsWired before scope x
   go None is some connects fits = absurd (both_ways (is_none (module_named before x.kind)) some (ap is_none is))
   go (Some m) is some connects fits =
-      let ports : ports_of before x.kind ≡ m.ports = ap (λ (o : Option PlainModule). elim o as (λ _. List _) [ None ↦ [] | Some q ↦ q.ports ]) is in
+      let ports : ports_of before x.kind ≡ m.ports = ap (λ o. option_map_or (λ q. q.ports) o []) is in
       record { part = m; known = is; connects = subst (λ ps. misconnects scope ps x.conns ≡ false) ports connects; fits = subst (λ ps. misfits scope ps x.conns ≡ false) ports fits }
 
 pub wired_at : (before : List PlainModule) (scope : Scope) (earlier driven : List (List ℕ)) (xs : List PlainInstance) → Clean (instances_faults before scope earlier driven xs)

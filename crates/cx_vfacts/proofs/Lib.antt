@@ -6,3 +6,4 @@ pub mod Trees
 pub mod Forest
 pub mod Parts
 pub mod Instances
+pub mod Conns
