@@ -7,3 +7,5 @@ pub mod Forest
 pub mod Parts
 pub mod Instances
 pub mod Conns
+pub mod Holders
+pub mod Origins
