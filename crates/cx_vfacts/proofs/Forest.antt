@@ -128,7 +128,7 @@ unfolds is_main (z ∷ ms) k x holder n m e =
     tree-later is_main z ms y c.0 k c.1)))
 
 -- the last module is `main`
-main_named : (m : PlainModule) (before : List PlainModule) → AllKeep true (m ∷ before) → module_named (m ∷ before) (codes "main") ≡ Some m
+pub main_named : (m : PlainModule) (before : List PlainModule) → AllKeep true (m ∷ before) → module_named (m ∷ before) (codes "main") ≡ Some m
 main_named m before k =
     let name = ap (λ (f : Faults). f.name) k.0.head in
     if-true (same_name m.name (codes "main")) (Some m) (module_named before (codes "main")) (not-false (same_name m.name (codes "main")) (or_parts _ _ name).1)

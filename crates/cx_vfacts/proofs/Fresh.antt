@@ -95,16 +95,16 @@ fresh_apart earlier (x ∷ xs) f (suc j) (suc k) n e g = ap suc (fresh_apart (ea
 abbrev pub Within : List (List ℕ) → List (List ℕ) → Type 0
 Within less more = (n : List ℕ) → has_name less n ≡ true → has_name more n ≡ true
 
-within_out : (less more : List (List ℕ)) (n : List ℕ) → Within less more → has_name more n ≡ false → has_name less n ≡ false
+pub within_out : (less more : List (List ℕ)) (n : List ℕ) → Within less more → has_name more n ≡ false → has_name less n ≡ false
 within_out less more n w e = false_from_ne_true (has_name less n) (λ h. both_ways (has_name more n) e (w n h))
 
-within_next : (less more : List (List ℕ)) (n : List ℕ) → Within less more → Within (less ++ n ∷ []) (more ++ n ∷ [])
+pub within_next : (less more : List (List ℕ)) (n : List ℕ) → Within less more → Within (less ++ n ∷ []) (more ++ n ∷ [])
 within_next less more n w m h = go (has_name less m) refl (sym (has-append less (n ∷ []) m) ∙ h) where
   go : (b : Bool) → has_name less m ≡ b → (b || has_name (n ∷ []) m) ≡ true → has_name (more ++ n ∷ []) m ≡ true
   go true is e = has_left more (n ∷ []) m (w m is)
   go false is e = has_right more (n ∷ []) m e
 
-within_more : (less more : List (List ℕ)) (n : List ℕ) → Within less more → Within less (more ++ n ∷ [])
+pub within_more : (less more : List (List ℕ)) (n : List ℕ) → Within less more → Within less (more ++ n ∷ [])
 within_more less more n w m h = has_left more (n ∷ []) m (w m h)
 
 -- of the declared names those of nets, and those of arrays

@@ -93,7 +93,7 @@ module _ (source : PlainSource) (sound : is_sound source ≡ true) where
     part-aligned k p r = subst (λ cs. Aligned scope p.part.ports cs) (sym r.conns) (part_known r.s r.x p.part r.there r.known).1
 
     -- the ports of a part
-    part-ports : (s : ℕ) (x : PlainInstance) (m : PlainModule) → slice_get q.part.instances s ≡ Some x → module_named modules x.kind ≡ Some m → ports_of before x.kind ≡ m.ports
+    pub part-ports : (s : ℕ) (x : PlainInstance) (m : PlainModule) → slice_get q.part.instances s ≡ Some x → module_named modules x.kind ≡ Some m → ports_of before x.kind ≡ m.ports
     part-ports s x m there known = ap (λ o. option_map_or (λ y. y.ports) o []) (part_known s x m there known).0
 
     pub drives : (k : ℕ) (p : Placed) → slice_get tree k ≡ Some p → (r : IsPart i q k p) → (net port : List ℕ) → output_to p.part.ports p.conns net ≡ Some port → has_name (driven_by (ports_of before r.x.kind) r.x.conns) net ≡ true

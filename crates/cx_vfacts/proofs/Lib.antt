@@ -8,4 +8,11 @@ pub mod Parts
 pub mod Instances
 pub mod Conns
 pub mod Holders
-pub mod Origins
+pub mod OriginLemmas
+pub mod Given
+pub mod Ties
+pub mod EdgeLemmas
+pub mod Mains
+pub mod MeaningLemmas
+pub mod MemoryLemmas
+pub mod CountLemmas

@@ -1,6 +1,20 @@
 //! What a sound Verilog source keeps, for each instance of its tree.
 #![tactic(auto)]
 
+mod counts;
+mod edges;
+mod main_module;
+mod meanings;
+mod memories;
 mod names;
+mod origins;
 
+pub use counts::counts_are_bounded;
+pub use edges::{sets_are_of_registers, stores_are_of_arrays};
+pub use main_module::{clock_is_unread, main_comes_first};
+pub use meanings::{meant_is_there, names_stand_for_their_parts, widths_are_bounded};
+pub use memories::{externals_are_apart, externals_are_memories};
 pub use names::names_are_apart;
+pub use origins::{
+    assigned_are_given, inputs_are_tied, instances_are_held, nets_have_origins, outputs_are_tied,
+};

@@ -1,7 +1,3 @@
-use Rattle.cx_vfacts.proofs.Origins.{width-port}
-use Rattle.cx_vfacts.specs.Origins.{IsThere}
-use Rattle.cx_vfacts.proofs.Holders.{driving_part}
-use Rattle.cx_vfacts.proofs.Conns.{one_driver}
 use Rattle.cx_vtree.specs.InstanceTree.{instances_of, ports_at, decls_at}
 use Rattle.cx_vfacts.proofs.Instances.{fresh_at, names_apart, nets_apart, arrays_apart, nets-no_arrays}
 use Rattle.cx_vfacts.proofs.names.names_are_apart.Goals as goal

@@ -111,7 +111,7 @@ declared_has (WireOf x w ∷ ds) n e = kind_choice (same_name x n) (has_name (de
 declared_has (RegisterOf x w ∷ ds) n e = kind_choice (same_name x n) (has_name (declared_nets ds) n) (Stored w) (declared_kind ds n) (declared_has ds n) e
 declared_has (ArrayOf x w k ∷ ds) n e = declared_has ds n e
 
-net_has : (ps : List PlainPort) (ds : List PlainDecl) (n : List ℕ) → has_name (port_names ps ++ declared_nets ds) n ≡ true → HasKind (kind_in ps ds n)
+pub net_has : (ps : List PlainPort) (ds : List PlainDecl) (n : List ℕ) → has_name (port_names ps ++ declared_nets ds) n ≡ true → HasKind (kind_in ps ds n)
 net_has [] ds n e = declared_has ds n e
 net_has (p ∷ ps) ds n e = kind_choice (same_name p.name n) (has_name (port_names ps ++ declared_nets ds) n) (if p.output then Driven else Input) (kind_in ps ds n) (net_has ps ds n) e
 
@@ -173,7 +173,7 @@ width-port p = go p.output where
   go true = refl
   go false = refl
 
-decl_no_input : (d : PlainDecl) (w : ℕ) → decl_meaning d ≡ meant.Input w → ⊥
+pub decl_no_input : (d : PlainDecl) (w : ℕ) → decl_meaning d ≡ meant.Input w → ⊥
 decl_no_input (WireOf n v) w e = cc
 decl_no_input (RegisterOf n v) w e = cc
 decl_no_input (ArrayOf n v k) w e = cc
