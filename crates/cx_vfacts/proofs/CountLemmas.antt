@@ -1,7 +1,7 @@
 -- The counts of a module are those of the tree of its instances, up to the number where they stop.
 use Rattle.std.proofs.Common.{◌≡◌, ℕ, zero, suc, ◌+◌, ◌-◌, ◌^◌, ◌<◌, ◌≤◌, min, List, [], ◌∷◌, ◌++◌, Bool, true, false, ◌&&◌, ◌||◌, map, length, reverse, Option, Some, None, slice_get, refl, ap, sym, ◌∙◌, subst, if◌then◌else◌, arith, length-append}
 use Rattle.std.specs.Prelude.{nat_lt}
-use Rattle.std.proofs.lemmas.Bool.{or_parts, not-false, ltb-false}
+use Rattle.std.proofs.lemmas.Bool.{or_parts, ltb-false}
 use Rattle.std.proofs.lemmas.List.{length-reverse}
 use Rattle.cx_vtree.specs.Plain.{PlainDecl, WireOf, RegisterOf, ArrayOf, PlainInstance, PlainModule, PlainSource}
 use Rattle.cx_vtree.specs.InstanceTree.{same_name, Placed, declared_nets, below, tree_from, main_instance, instances_of}
@@ -13,7 +13,7 @@ use Rattle.cx_vfacts.proofs.Modules.{Keeps, KeepsAfter, AllKeep, seen_counts, ne
 use Rattle.cx_vfacts.proofs.Trees.{placed}
 use Rattle.cx_vfacts.proofs.Forest.{parts_known, by_first}
 use Rattle.cx_vfacts.proofs.Parts.{none_of_three}
-use Rattle.cx_vfacts.proofs.Mains.{IsMain, main_at}
+use Rattle.cx_vfacts.proofs.Mains.{IsMain, main_at, main_name}
 
 abbrev cap : ℕ
 cap = 2 ^ 64 - 1
@@ -167,7 +167,7 @@ counts_bounded source sound = go (main_at source sound) where
       let all : AllKeep true (r.m ∷ r.before) = (r.kept, r.earlier) in
       let unfolded : instances_of source ≡ placed main_instance 0 r.m ∷ below (tree_from r.before) 0 (0 + 1) r.m.instances =
       ap (λ l. tree_from l main_instance 0 0) r.are
-      ∙ if-true (same_name r.m.name main_instance.kind) (placed main_instance 0 r.m ∷ below (tree_from r.before) 0 (0 + 1) r.m.instances) (tree_from r.before main_instance 0 0) (main_name r) in
+      ∙ if-true (same_name r.m.name main_instance.kind) (placed main_instance 0 r.m ∷ below (tree_from r.before) 0 (0 + 1) r.m.instances) (tree_from r.before main_instance 0 0) (main_name source r) in
       let caps : CapsOf own (instances_of source) = subst (CapsOf own) (sym unfolded) (caps_module true r.m r.before all (all_counted false r.before r.earlier) main_instance 0 0) in
       let few = none_of_three (nat_lt 4194304 own.nets) (nat_lt 131072 own.instances) (nat_lt 4194304 own.words) (ap (λ (f : Faults). f.limit) r.kept.head) in
       let nets_room : 4194304 < cap = omega arith in
@@ -177,5 +177,3 @@ counts_bounded source sound = go (main_at source sound) where
         at_most own.instances (length (instances_of source)) cap 131072 caps.instances_are (ltb-false 131072 own.instances few.1) instances_room,
         at_most own.words (words_count (instances_of source)) cap 4194304 caps.words_are (ltb-false 4194304 own.words few.2) nets_room,
       )
-  main_name : (r : IsMain source) → same_name r.m.name main_instance.kind ≡ true
-  main_name r = not-false (same_name r.m.name main_instance.kind) (or_parts _ _ (ap (λ (f : Faults). f.name) r.kept.head)).1

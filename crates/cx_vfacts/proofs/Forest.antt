@@ -79,7 +79,7 @@ pub record Among (modules : List PlainModule) (m : PlainModule) : Type 0 where
   pub later : (kind : List ℕ) (part : PlainModule) → module_named before kind ≡ Some part → module_named modules kind ≡ Some part
 
 -- a module of a name is the first one, or one of the others
-by_first : {P : Type 0} (x m : PlainModule) (ms : List PlainModule) (kind : List ℕ) → module_named (x ∷ ms) kind ≡ Some m → (same_name x.name kind ≡ true → x ≡ m → P) → (same_name x.name kind ≡ false → module_named ms kind ≡ Some m → P) → P
+pub by_first : {P : Type 0} (x m : PlainModule) (ms : List PlainModule) (kind : List ℕ) → module_named (x ∷ ms) kind ≡ Some m → (same_name x.name kind ≡ true → x ≡ m → P) → (same_name x.name kind ≡ false → module_named ms kind ≡ Some m → P) → P
 by_first {P} x m ms kind e here there = go (same_name x.name kind) refl where
   go : (same : Bool) → same_name x.name kind ≡ same → P
   go true is = let same : Some x ≡ Some m = sym (if-true (same_name x.name kind) (Some x) (module_named ms kind) is) ∙ e in here is cc

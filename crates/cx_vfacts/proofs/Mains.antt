@@ -48,6 +48,11 @@ main_at source sound = go (reverse source.modules) refl (sound_keeps source soun
         first = ap (λ l. slice_get (tree_from l main_instance 0 0) 0) e ∙ ap (λ l. slice_get l 0) tree;
       }
 
+pub main_name : (source : PlainSource) (r : IsMain source) → same_name r.m.name (codes "main") ≡ true
+main_name source r =
+    let name = ap (λ (f : Faults). f.name) r.kept.head in
+    not-false (same_name r.m.name (codes "main")) (or_parts _ _ name).1
+
 port-by_parts : (o o' : Bool) (n n' : List ℕ) (w w' : ℕ) → o ≡ o' → n ≡ n' → w ≡ w' → ◌≡◌ {A = PlainPort} (record { output = o; name = n; width = w }) (record { output = o'; name = n'; width = w' })
 port-by_parts o o' n n' w w' e f g = cc
 

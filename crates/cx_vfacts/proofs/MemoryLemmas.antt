@@ -6,12 +6,13 @@ use Rattle.std.specs.List.{list_all}
 use Rattle.std.proofs.lemmas.Bool.{or_parts, and_parts, and_from, not-false, both_ways, eqb-true, eq-eqb, ltb-false, false_from_ne_true}
 use Rattle.std.proofs.lemmas.List.{reverse-reverse}
 use Rattle.cx_text.specs.Loading.{word_count}
-use Rattle.cx_vtree.specs.Plain.{PlainInstance, PlainModule, PlainExternal, PlainSource}
-use Rattle.cx_vtree.specs.InstanceTree.{same_name, Placed, tree_from, main_instance, instances_of}
+use Rattle.cx_vtree.specs.Plain.{PlainDecl, WireOf, RegisterOf, ArrayOf, PlainInstance, PlainModule, PlainExternal, PlainSource}
+use Rattle.cx_vtree.specs.InstanceTree.{same_name, Placed, decls_at, tree_from, main_instance, instances_of}
 use Rattle.cx_vtree.specs.Layout.{begins_word, is_name_byte, is_word, is_keyword, is_name, external_fits, module_fits, is_laid_out}
-use Rattle.cx_vtree.specs.SimRun.{instance_named}
-use Rattle.cx_vtree.specs.Sound.{Faults, no_faults, has_name, decl_name, module_named, last_named, instance_kind, memory_module, arrays_in, memory_arrays, not_this_memory, not_this_width, external_faults, externals_faults, break_of, is_sound}
-use Rattle.cx_vfacts.specs.Names.{AreApart}
+use Rattle.cx_vtree.specs.Edges.{array_size}
+use Rattle.cx_vtree.specs.SimRun.{instance_named, first_array}
+use Rattle.cx_vtree.specs.Sound.{Faults, no_faults, has_name, decl_name, module_named, last_named, instance_kind, memory_module, width_of, arrays_in, memory_arrays, not_this_memory, not_this_width, external_faults, externals_faults, break_of, is_sound}
+use Rattle.cx_vfacts.specs.Names.{AreApart, declared_arrays}
 use Rattle.cx_vfacts.specs.Memories.{IsMemory}
 use Rattle.cx_vfacts.proofs.Cleans.{Clean}
 use Rattle.cx_vfacts.proofs.Fresh.{same_is, is_same, same_self, has_at, Fresh, fresh_apart}
@@ -21,7 +22,8 @@ use Rattle.cx_vfacts.proofs.Trees.{placed, number_of}
 use Rattle.cx_vfacts.proofs.Forest.{part_at, stands}
 use Rattle.cx_vfacts.proofs.Parts.{none_of_three, instances_fresh}
 use Rattle.cx_vfacts.proofs.Holders.{some_same, IsPart, part_in}
-use Rattle.cx_vfacts.proofs.Mains.{IsMain, main_at}
+use Rattle.cx_vfacts.proofs.MeaningLemmas.{decl-means}
+use Rattle.cx_vfacts.proofs.Mains.{main_at, main_name}
 
 -- the search for an instance of `main` by its name
 named_some : (tree : List Placed) (number : ℕ) (name : List ℕ) (k : ℕ) (p : Placed) → slice_get tree k ≡ Some p → p.holder ≡ 0 → p.name ≡ name → (j : ℕ) × (instance_named tree number name ≡ Some j)
@@ -85,6 +87,35 @@ one_array ((v, n) ∷ []) e h w =
     let words : n ≡ word_count e.sizes = eqb-true n (word_count e.sizes) (not-false (n == word_count e.sizes) h) in
     ap (λ (x : ℕ). (x, n) ∷ []) width ∙ ap (λ (y : ℕ). (e.width, y) ∷ []) words
 one_array (a ∷ b ∷ rest) e h w = absurd (cc)
+
+-- the array of a module that has one
+none_declared : (ds : List PlainDecl) → arrays_in ds ≡ [] → declared_arrays ds ≡ []
+none_declared [] e = refl
+none_declared (WireOf x v ∷ ds) e = none_declared ds e
+none_declared (RegisterOf x v ∷ ds) e = none_declared ds e
+none_declared (ArrayOf x v k ∷ ds) e = absurd (cc)
+
+record IsOnly (ds : List PlainDecl) (w n : ℕ) : Type 0 where
+  pub only : declared_arrays ds ≡ first_array ds ∷ []
+  pub size : array_size ds (first_array ds) ≡ n
+  pub k : ℕ
+  pub there : slice_get ds k ≡ Some (ArrayOf (first_array ds) w n)
+
+only_array : (ds : List PlainDecl) (w n : ℕ) → arrays_in ds ≡ (w, n) ∷ [] → IsOnly ds w n
+only_array [] w n e = absurd (cc)
+only_array (WireOf x v ∷ ds) w n e = let later = only_array ds w n e in record { only = later.only; size = later.size; k = suc later.k; there = later.there }
+only_array (RegisterOf x v ∷ ds) w n e = let later = only_array ds w n e in record { only = later.only; size = later.size; k = suc later.k; there = later.there }
+only_array (ArrayOf x v k ∷ ds) w n e =
+    let pair : ◌≡◌ {A = ℕ × ℕ} (v, k) (w, n) = cc in
+    let rest : arrays_in ds ≡ [] = cc in
+    let width : v ≡ w = ap (λ (p : ℕ × ℕ). p.0) pair in
+    let words : k ≡ n = ap (λ (p : ℕ × ℕ). p.1) pair in
+    record {
+      only = ap (λ l. x ∷ l) (none_declared ds rest);
+      size = if-true (same_name x x) k (array_size ds x) (same_self x) ∙ words;
+      k = zero;
+      there = ap (λ a. Some (ArrayOf x a k)) width ∙ ap (λ a. Some (ArrayOf x w a)) words;
+    }
 
 -- an external memory keeps its rules
 record ExternalKeeps (modules : List PlainModule) (e : PlainExternal) : Type 0 where
@@ -157,7 +188,7 @@ memory_there source sound k e at =
     let modules : source.modules ≡ reverse r.before ++ r.m ∷ [] = sym (reverse-reverse source.modules) ∙ ap reverse r.are ∙ reverse-cons r.m r.before in
     let (main, last, by_kind) = bind_some (λ m. option_and_then (module_named source.modules) (instance_kind m.instances e.instance)) (last_named source.modules (codes "main")) x.part x.is in
     let (kind, kinds, found) = bind_some (module_named source.modules) (instance_kind main.instances e.instance) x.part by_kind in
-    let is_main : last_named source.modules (codes "main") ≡ Some r.m = ap (λ l. last_named l (codes "main")) modules ∙ last-push (reverse r.before) r.m (codes "main") (main_name r) in
+    let is_main : last_named source.modules (codes "main") ≡ Some r.m = ap (λ l. last_named l (codes "main")) modules ∙ last-push (reverse r.before) r.m (codes "main") (main_name source r) in
     let same : main ≡ r.m = some_same (last_named source.modules (codes "main")) main r.m last is_main in
     let (s, y, there, named, kind_is) = kind_found r.m.instances e.instance kind (ap (λ (m : PlainModule). instance_kind m.instances e.instance) (sym same) ∙ kinds) in
     let (part, known, stands_there) = part_at source sound 0 (placed main_instance 0 r.m) r.first s y there in
@@ -176,18 +207,24 @@ memory_there source sound k e at =
     let same_p : n.p ≡ placed y 0 part = some_same (slice_get (instances_of source) number) n.p (placed y 0 part) (subst (λ i. slice_get (instances_of source) i ≡ Some n.p) same_k n.at) stands_there in
     let n-is = n.is in
     let j_is : n.k ≡ j = omega arith in
+    let at_j : slice_get (instances_of source) j ≡ Some n.p = subst (λ i. slice_get (instances_of source) i ≡ Some n.p) j_is n.at in
+    let decls : decls_at (instances_of source) j ≡ x.part.decls =
+    ap (λ o. option_map_or (λ q. q.part.decls) o []) at_j ∙ ap (λ (q : Placed). q.part.decls) same_p ∙ ap (λ (m : PlainModule). m.decls) same_part in
+    let array : arrays_in (decls_at (instances_of source) j) ≡ (e.width, word_count e.sizes) ∷ [] = ap arrays_in decls ∙ x.array in
+    let only = only_array (decls_at (instances_of source) j) e.width (word_count e.sizes) array in
     record {
       number = j;
       found = is_named;
       place = n.p;
-      at = subst (λ i. slice_get (instances_of source) i ≡ Some n.p) j_is n.at;
+      at = at_j;
       name = n.named;
-      array = ap (λ (q : Placed). arrays_in q.part.decls) same_p ∙ ap (λ (m : PlainModule). arrays_in m.decls) same_part ∙ x.array;
+      array = array;
       width = x.width;
+      only = only.only;
+      size = only.size;
+      wide = ap width_of (decl-means source sound j only.k (ArrayOf (first_array (decls_at (instances_of source) j)) e.width (word_count e.sizes)) only.there);
     }
   where
-    main_name : (r : IsMain source) → same_name r.m.name (codes "main") ≡ true
-    main_name r = not-false (same_name r.m.name (codes "main")) (or_parts _ _ (ap (λ (f : Faults). f.name) r.kept.head)).1
     slice_name : (xs : List PlainInstance) (i : ℕ) (z : PlainInstance) → slice_get xs i ≡ Some z → slice_get (map (λ q. q.name) xs) i ≡ Some z.name
     slice_name [] i z h = absurd (cc)
     slice_name (q ∷ xs) zero z h = let same : q ≡ z = cc in ap (λ (w : PlainInstance). Some w.name) same

@@ -5,8 +5,9 @@ use Rattle.std.proofs.lemmas.Bool.{both_ways, ne_eqb, false_from_ne_true}
 use Rattle.cx_vtree.specs.declared.meanings.Meaning.{Meaning}
 use Rattle.cx_vtree.specs.declared.meanings.Meaning.TheVariants as meant
 use Rattle.cx_vtree.specs.Plain.{PlainExpr, PlainPort, PlainAssign, PlainConn, PlainInstance, PlainModule, PlainSource}
-use Rattle.cx_vtree.specs.InstanceTree.{same_name, Placed, instances_of, NetKind, Input, Driven, Stored, kind_in, Origin, Outside, Tied, Held, Given, net_of, assigned, is_output, output_to, driving_output, origin_by, origin_of}
+use Rattle.cx_vtree.specs.InstanceTree.{same_name, Placed, ports_at, instances_of, NetKind, Input, Driven, Stored, kind_in, Origin, Outside, Tied, Held, Given, net_of, assigned, is_output, output_to, driving_output, origin_by, origin_of}
 use Rattle.cx_vtree.specs.Sound.{Scope, has_name, port_meaning, meant_in, width_of, is_driven, is_wire, ports_of, driven_by, driven_by_all, drivers_in, is_sound}
+use Rattle.cx_vfacts.specs.Widths.{scope_at}
 use Rattle.cx_vfacts.proofs.Fresh.{is_same, Fresh, fresh_left, fresh_right, fresh_sides}
 use Rattle.cx_vfacts.proofs.Scopes.{port_names, if-true, if-false, other_than, port_at_has, meant-port, kind_of}
 use Rattle.cx_vfacts.proofs.Modules.{Keeps}
@@ -15,7 +16,7 @@ use Rattle.cx_vfacts.proofs.Parts.{assigns_fresh, assign_keeps}
 use Rattle.cx_vfacts.proofs.Conns.{net-of_port, output-to, among_drivers}
 use Rattle.cx_vfacts.proofs.Holders.{some_same, IsPart, part_of, part_in, part-aligned, part-ports, before, drives, one_part, output-no_main, drivers-fresh}
 use Rattle.cx_vfacts.proofs.OriginLemmas.{driving_some, driving_found, none-assigned, assigned-at}
-use Rattle.cx_vfacts.proofs.Given.{origin-at, ports_fresh_here, kind-here}
+use Rattle.cx_vfacts.proofs.Given.{scope-at, origin-at, ports_fresh_here, kind-here}
 
 pub wire_kind : (m : Meaning) → is_wire m ≡ true → kind_of m ≡ Some Driven
 wire_kind (meant.Input w) e = absurd (cc)
@@ -127,3 +128,21 @@ module _ (source : PlainSource) (sound : is_sound source ≡ true) (i : ℕ) (p 
       let driven = (assign_keeps (meant_in p.part.ports p.part.decls) [] p.part.assigns kept.kept.assigns k a there).0 in
       origin-at tree i p a.name Driven here (kind-here source sound i p here a.name ∙ driven_kind (meant_in p.part.ports p.part.decls a.name) driven)
       ∙ ap (λ o. option_map_or (λ e. Some (Given e)) o (driving_output tree 0 i a.name)) (assigned-at [] p.part.assigns (assigns_fresh (meant_in p.part.ports p.part.decls) [] p.part.assigns kept.kept.assigns) k a there)
+
+-- a register holds its value
+pub register_held : (source : PlainSource) → is_sound source ≡ true → (i : ℕ) (n : List ℕ) (w : ℕ) → scope_at (instances_of source) i n ≡ meant.Register w → origin_of (instances_of source) i n ≡ Some (Held w)
+register_held source sound i n w is = go (slice_get (instances_of source) i) refl where
+  go : (o : Option Placed) → slice_get (instances_of source) i ≡ o → origin_of (instances_of source) i n ≡ Some (Held w)
+  go None e = absurd (let h = sym (ap (λ (o : Option Placed). meant_in (option_map_or (λ q. q.part.ports) o []) (option_map_or (λ q. q.part.decls) o []) n) e) ∙ is in cc)
+  go (Some p) e =
+      origin-at (instances_of source) i p n (Stored w) e (kind-here source sound i p e n ∙ ap kind_of (sym (ap (λ (s : Scope). s n) (scope-at (instances_of source) i p e)) ∙ is))
+
+-- the inputs of `main` have their values from outside
+pub input_outside : (source : PlainSource) → is_sound source ≡ true → (k : ℕ) (port : PlainPort) → slice_get (ports_at (instances_of source) 0) k ≡ Some port → port.output ≡ false → origin_of (instances_of source) 0 port.name ≡ Some Outside
+input_outside source sound k port there input = go (slice_get (instances_of source) 0) refl there where
+  go : (o : Option Placed) → slice_get (instances_of source) 0 ≡ o → slice_get (option_map_or (λ p. p.part.ports) o []) k ≡ Some port → origin_of (instances_of source) 0 port.name ≡ Some Outside
+  go None e h = absurd (cc)
+  go (Some p) e h =
+      let means : meant_in p.part.ports p.part.decls port.name ≡ port_meaning port = meant-port [] p.part.ports p.part.decls k port (ports_fresh_here source sound 0 p e) h in
+      let is_input : port_meaning port ≡ meant.Input port.width = if-false port.output (meant.Output port.width) (meant.Input port.width) input in
+      origin-at (instances_of source) 0 p port.name Input e (kind-here source sound 0 p e port.name ∙ ap kind_of (means ∙ is_input))

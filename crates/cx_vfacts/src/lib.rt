@@ -16,5 +16,6 @@ pub use meanings::{meant_is_there, names_stand_for_their_parts, widths_are_bound
 pub use memories::{externals_are_apart, externals_are_memories};
 pub use names::names_are_apart;
 pub use origins::{
-    assigned_are_given, inputs_are_tied, instances_are_held, nets_have_origins, outputs_are_tied,
+    assigned_are_given, inputs_are_tied, inputs_of_main_are_outside, instances_are_held,
+    nets_have_origins, outputs_are_tied, registers_are_held,
 };

@@ -1,9 +1,11 @@
 //! What gives each net its value.
 
 ghost use Rattle.std.specs.Prelude.{◌≡◌, ◌<◌, ℕ, List, Some, slice_get, true, false};
+ghost use Rattle.cx_vtree.specs.declared.meanings.Meaning.TheVariants.{Register};
 ghost use Rattle.cx_vtree.specs.Plain.{PlainSource, PlainPort, PlainAssign, PlainConn};
-ghost use Rattle.cx_vtree.specs.InstanceTree.{Placed, instances_of, Origin, Tied, Given, origin_of};
+ghost use Rattle.cx_vtree.specs.InstanceTree.{Placed, ports_at, instances_of, Origin, Outside, Tied, Held, Given, origin_of};
 ghost use Rattle.cx_vtree.specs.Sound.{is_sound};
+ghost use Rattle.cx_vfacts.specs.Widths.{scope_at};
 ghost use Rattle.cx_vfacts.specs.Origins.{IsNet, width_at, IsThere};
 
 /// Each net has an origin: the net that it is tied to is there and is as wide, an expression names what is there and is as
@@ -37,4 +39,16 @@ pub fn outputs_are_tied()
 pub fn assigned_are_given()
     ensures { (source : PlainSource) (i k : ℕ) (p : Placed) (a : PlainAssign) → is_sound source ≡ true → slice_get (instances_of source) i ≡ Some p
         → slice_get p.part.assigns k ≡ Some a → origin_of (instances_of source) i a.name ≡ Some (Given a.value) }
+{}
+
+/// A register holds its value.
+pub fn registers_are_held()
+    ensures { (source : PlainSource) (i w : ℕ) (n : List ℕ) → is_sound source ≡ true → scope_at (instances_of source) i n ≡ Register w
+        → origin_of (instances_of source) i n ≡ Some (Held w) }
+{}
+
+/// The inputs of `main` have their values from outside.
+pub fn inputs_of_main_are_outside()
+    ensures { (source : PlainSource) (k : ℕ) (port : PlainPort) → is_sound source ≡ true → slice_get (ports_at (instances_of source) 0) k ≡ Some port
+        → port.output ≡ false → origin_of (instances_of source) 0 port.name ≡ Some Outside }
 {}
