@@ -1,5 +1,5 @@
 -- Lines that break no rule.
-use Rattle.std.proofs.Common.{◌≡◌, ℕ, ◌+◌, List, [], ◌∷◌, ◌++◌, Bool, true, false, not, ◌&&◌, ◌||◌, Option, Some, None, is_none, refl, ap, sym, ◌∙◌}
+use Rattle.std.proofs.Common.{◌≡◌, ℕ, ◌+◌, List, [], ◌∷◌, ◌++◌, Bool, true, false, Option, is_none, refl}
 use Rattle.cx_vtree.specs.Sound.{Faults, no_faults, Break, break_at, first_break}
 
 -- none of these lines breaks a rule

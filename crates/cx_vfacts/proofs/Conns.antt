@@ -1,11 +1,10 @@
 -- How the ports of a part are connected.
-use Rattle.std.proofs.Common.{◌≡◌, ℕ, zero, suc, ◌==◌, List, [], ◌∷◌, ◌++◌, Bool, true, false, ◌&&◌, ◌||◌, not, map, length, Option, Some, None, is_none, slice_get, refl, ap, sym, ◌∙◌, subst, if◌then◌else◌, arith, codes}
-use Rattle.std.specs.Option.{option_map_or}
-use Rattle.std.proofs.lemmas.Bool.{or_parts, or_left, or_right, and_parts, and_from, both_ways, not-false, false_from_ne_true, eqb-true}
+use Rattle.std.proofs.Common.{◌≡◌, ℕ, zero, suc, ◌==◌, List, [], ◌∷◌, ◌++◌, Bool, true, false, ◌&&◌, ◌||◌, not, length, Some, slice_get, refl, ap, sym, ◌∙◌, subst, if◌then◌else◌, arith, codes}
+use Rattle.std.proofs.lemmas.Bool.{or_parts, or_left, or_right, and_parts, and_from, both_ways, not-false, eqb-true}
 use Rattle.cx_vtree.specs.Plain.{PlainPort, PlainConn, PlainInstance, PlainModule}
 use Rattle.cx_vtree.specs.InstanceTree.{same_name, net_of, is_output, output_to}
 use Rattle.cx_vtree.specs.Sound.{Scope, has_name, has_output, is_source, is_wire, width_of, miswired, misconnects, misfits, ports_of, driven_by, driven_by_all}
-use Rattle.cx_vfacts.proofs.Fresh.{same_is, is_same, same_self, has_left, has_right, has-append, Fresh, fresh_head, fresh_left, fresh_right, fresh_sides}
+use Rattle.cx_vfacts.proofs.Fresh.{same_is, is_same, has_left, has_right, has-append, Fresh, fresh_right, fresh_sides}
 use Rattle.cx_vfacts.proofs.Scopes.{port_names, if-true, if-false, other_than, port_at_has, has-output}
 
 -- a port is connected to a net that it fits

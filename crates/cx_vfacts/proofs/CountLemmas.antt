@@ -1,15 +1,15 @@
 -- The counts of a module are those of the tree of its instances, up to the number where they stop.
-use Rattle.std.proofs.Common.{◌≡◌, ℕ, zero, suc, ◌+◌, ◌-◌, ◌^◌, ◌<◌, ◌≤◌, min, List, [], ◌∷◌, ◌++◌, Bool, true, false, ◌&&◌, ◌||◌, map, length, reverse, Option, Some, None, slice_get, refl, ap, sym, ◌∙◌, subst, if◌then◌else◌, arith, length-append}
+use Rattle.std.proofs.Common.{◌≡◌, ℕ, zero, suc, ◌+◌, ◌-◌, ◌^◌, ◌<◌, ◌≤◌, min, List, [], ◌∷◌, ◌++◌, Bool, true, false, map, length, reverse, Some, slice_get, refl, ap, sym, ◌∙◌, subst, if◌then◌else◌, arith, length-append}
 use Rattle.std.specs.Prelude.{nat_lt}
 use Rattle.std.proofs.lemmas.Bool.{or_parts, ltb-false}
 use Rattle.std.proofs.lemmas.List.{length-reverse}
 use Rattle.cx_vtree.specs.Plain.{PlainDecl, WireOf, RegisterOf, ArrayOf, PlainInstance, PlainModule, PlainSource}
 use Rattle.cx_vtree.specs.InstanceTree.{same_name, Placed, declared_nets, below, tree_from, main_instance, instances_of}
-use Rattle.cx_vtree.specs.Sound.{Faults, Counts, sum_counts, no_counts, decl_counts, decls_counts, counts_named, instances_counts, module_counts, too_large, has_name, module_named, is_sound}
+use Rattle.cx_vtree.specs.Sound.{Faults, Counts, sum_counts, no_counts, decl_counts, decls_counts, counts_named, instances_counts, module_counts, has_name, module_named, is_sound}
 use Rattle.cx_vfacts.specs.Counts.{declared_words, nets_count, words_count}
 use Rattle.cx_vfacts.proofs.Fresh.{same_is}
 use Rattle.cx_vfacts.proofs.Scopes.{if-true, if-false}
-use Rattle.cx_vfacts.proofs.Modules.{Keeps, KeepsAfter, AllKeep, seen_counts, new_name, named-reversed, reverse-cons}
+use Rattle.cx_vfacts.proofs.Modules.{AllKeep, seen_counts, new_name, named-reversed, reverse-cons}
 use Rattle.cx_vfacts.proofs.Trees.{placed}
 use Rattle.cx_vfacts.proofs.Forest.{parts_known, by_first}
 use Rattle.cx_vfacts.proofs.Parts.{none_of_three}

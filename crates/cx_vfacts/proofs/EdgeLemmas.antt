@@ -1,20 +1,20 @@
 -- What an edge sets and stores.
-use Rattle.std.proofs.Common.{◌≡◌, ℕ, zero, suc, ◌==◌, List, [], ◌∷◌, ◌++◌, Bool, true, false, ◌||◌, not, map, Option, Some, None, is_none, slice_get, option_and_then, refl, ap, sym, ◌∙◌, subst, if◌then◌else◌}
+use Rattle.std.proofs.Common.{◌≡◌, ℕ, zero, suc, ◌==◌, List, [], ◌∷◌, ◌++◌, Bool, true, false, ◌||◌, not, map, Option, Some, None, is_none, slice_get, option_and_then, refl, ap, subst, if◌then◌else◌}
 use Rattle.std.specs.Option.{option_map_or}
-use Rattle.std.proofs.lemmas.Bool.{or_parts, not-false, true_from_ne_false, false_from_ne_true, both_ways}
+use Rattle.std.proofs.lemmas.Bool.{or_parts, not-false}
 use Rattle.cx_vtree.specs.declared.meanings.Meaning.{Meaning}
 use Rattle.cx_vtree.specs.declared.meanings.Meaning.TheVariants as meant
-use Rattle.cx_vtree.specs.Plain.{PlainExpr, PlainAssign, PlainStore, PlainItem, SetTo, StoreTo, PlainEdge, PlainSource}
+use Rattle.cx_vtree.specs.Plain.{PlainAssign, PlainStore, PlainItem, SetTo, StoreTo, PlainEdge, PlainSource}
 use Rattle.cx_vtree.specs.InstanceTree.{Placed, instances_of}
 use Rattle.cx_vtree.specs.Edges.{sets_in, stores_in, edge_at, acting_sets, acting_stores}
 use Rattle.cx_vtree.specs.Sound.{Faults, no_faults, Scope, has_name, width_of, is_register, is_array, misnames, fitting_width, has_width, too_deep, meant_in, set_faults, sets_faults, store_faults, item_faults, item_name, items_faults, edge_faults, is_sound}
 use Rattle.cx_vfacts.specs.Names.{AreApart}
-use Rattle.cx_vfacts.specs.Widths.{scope_at, IsExpression}
+use Rattle.cx_vfacts.specs.Widths.{scope_at}
 use Rattle.cx_vfacts.specs.Edges.{IsSet, IsStore}
 use Rattle.cx_vfacts.proofs.Cleans.{Clean, clean_left, clean_right}
 use Rattle.cx_vfacts.proofs.Fresh.{Fresh, fresh_apart, Within, within_out, within_next, within_more}
 use Rattle.cx_vfacts.proofs.Parts.{none_of_three, expression, set_keeps}
-use Rattle.cx_vfacts.proofs.Forest.{Among, instance_keeps}
+use Rattle.cx_vfacts.proofs.Forest.{instance_keeps}
 
 register_is : (m : Meaning) → is_register m ≡ true → m ≡ meant.Register (width_of m)
 register_is (meant.Input w) e = absurd (cc)

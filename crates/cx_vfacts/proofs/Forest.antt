@@ -1,12 +1,12 @@
 -- The tree of a sound source, and the module of each instance.
-use Rattle.std.proofs.Common.{◌≡◌, ◌⊎◌, ℕ, zero, suc, ◌+◌, ◌<◌, List, [], ◌∷◌, ◌++◌, Bool, true, false, ◌||◌, not, map, length, reverse, Option, Some, None, is_none, slice_get, refl, ap, sym, ◌∙◌, subst, inl, inr, if◌then◌else◌, codes}
+use Rattle.std.proofs.Common.{◌≡◌, ℕ, zero, suc, ◌+◌, List, [], ◌∷◌, ◌++◌, Bool, true, false, ◌||◌, map, length, reverse, Option, Some, None, is_none, slice_get, refl, ap, sym, ◌∙◌, subst, codes}
 use Rattle.std.specs.Option.{option_map_or}
 use Rattle.std.proofs.lemmas.Bool.{or_parts, or_left, or_right, both_ways, not-false, false_from_ne_true}
 use Rattle.cx_vtree.specs.Plain.{PlainInstance, PlainModule, PlainSource}
 use Rattle.cx_vtree.specs.InstanceTree.{same_name, Placed, below, tree_from, main_instance, instances_of}
-use Rattle.cx_vtree.specs.Sound.{Faults, no_faults, Counts, Scope, has_name, decl_name, meant_in, ports_of, driven_by, module_named, misconnects, misfits, doubles, module_faults, instance_faults, instances_faults, module_counts, is_sound}
+use Rattle.cx_vtree.specs.Sound.{Faults, no_faults, Counts, Scope, has_name, meant_in, ports_of, driven_by, module_named, misconnects, misfits, doubles, instance_faults, instances_faults, module_counts, is_sound}
 use Rattle.cx_vfacts.proofs.Cleans.{Clean}
-use Rattle.cx_vfacts.proofs.Fresh.{same_is, is_same}
+use Rattle.cx_vfacts.proofs.Fresh.{same_is}
 use Rattle.cx_vfacts.proofs.Scopes.{if-true, if-false}
 use Rattle.cx_vfacts.proofs.Modules.{Keeps, KeepsAfter, AllKeep, seen_counts, sound_keeps, new_name, named-reversed}
 use Rattle.cx_vfacts.proofs.Trees.{placed, Stands, every_stands, part_stands, number_of}

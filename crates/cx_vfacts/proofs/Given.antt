@@ -1,17 +1,16 @@
 -- Each net of an instance has an origin, which is there and has the net's width.
-use Rattle.std.proofs.Common.{◌≡◌, ◌⊎◌, ℕ, zero, suc, ◌+◌, ◌<◌, ◌==◌, List, [], ◌∷◌, ◌++◌, Bool, true, false, ◌||◌, map, reverse, Option, Some, None, slice_get, option_and_then, option_map, refl, ap, sym, ◌∙◌, subst, inl, inr, if◌then◌else◌, arith, ⊎_elim}
+use Rattle.std.proofs.Common.{◌≡◌, ℕ, ◌+◌, ◌==◌, List, [], ◌++◌, true, false, ◌||◌, map, reverse, Option, Some, None, slice_get, option_and_then, option_map, refl, ap, sym, ◌∙◌, subst, if◌then◌else◌, arith, ⊎_elim}
 use Rattle.std.specs.Option.{option_map_or}
-use Rattle.std.proofs.lemmas.Bool.{both_ways, eq-eqb, ne_eqb, cases_eq}
+use Rattle.std.proofs.lemmas.Bool.{eq-eqb, ne_eqb, cases_eq}
 use Rattle.cx_vtree.specs.declared.meanings.Meaning.{Meaning}
 use Rattle.cx_vtree.specs.declared.meanings.Meaning.TheVariants as meant
-use Rattle.cx_vtree.specs.Plain.{PlainExpr, PlainPort, PlainDecl, PlainAssign, PlainConn, PlainModule, PlainSource}
-use Rattle.cx_vtree.specs.InstanceTree.{Placed, instances_of, nets_at, declared_nets, NetKind, Input, Driven, Stored, kind_in, Origin, Outside, Tied, Held, Given, net_of, assigned, is_output, output_to, driving_output, driver_of, origin_by, origin_of}
-use Rattle.cx_vtree.specs.Sound.{Scope, has_name, decl_name, decl_meaning, port_meaning, meant_in, width_of, is_source, is_driven, is_wire, drivers_in, driven_by_all, is_sound}
+use Rattle.cx_vtree.specs.Plain.{PlainExpr, PlainPort, PlainSource}
+use Rattle.cx_vtree.specs.InstanceTree.{Placed, instances_of, nets_at, declared_nets, NetKind, Input, Driven, Stored, kind_in, Origin, Outside, Tied, Held, Given, net_of, assigned, output_to, driving_output, origin_by, origin_of}
+use Rattle.cx_vtree.specs.Sound.{Scope, has_name, decl_name, port_meaning, meant_in, width_of, is_driven, drivers_in, driven_by_all, is_sound}
 use Rattle.cx_vfacts.specs.Widths.{scope_at, IsExpression}
 use Rattle.cx_vfacts.specs.Origins.{IsNet, width_at, IsThere}
 use Rattle.cx_vfacts.proofs.Fresh.{has_at, at_has, has_left, has-append, Fresh}
 use Rattle.cx_vfacts.proofs.Scopes.{port_names, if-true, if-false, port_at_has, meant-port, Declared, as_port, as_decl, as_nothing, declared_by, kind_of, kind-by_meaning}
-use Rattle.cx_vfacts.proofs.Modules.{Keeps}
 use Rattle.cx_vfacts.proofs.Forest.{Among, instance_keeps}
 use Rattle.cx_vfacts.proofs.Parts.{port_keeps, decl_keeps, assign_keeps}
 use Rattle.cx_vfacts.proofs.Instances.{fresh_ports, fresh_decls}

@@ -1,17 +1,17 @@
 -- Instances and what holds them.
-use Rattle.std.proofs.Common.{◌≡◌, ◌⊎◌, ℕ, zero, suc, ◌+◌, ◌<◌, List, [], ◌∷◌, ◌++◌, Bool, true, false, map, reverse, Option, Some, None, slice_get, option_and_then, refl, ap, sym, ◌∙◌, subst, inl, inr, arith}
+use Rattle.std.proofs.Common.{◌≡◌, ◌⊎◌, ℕ, ◌+◌, ◌<◌, List, [], ◌++◌, true, false, map, reverse, Option, Some, slice_get, refl, ap, sym, ◌∙◌, subst, inl, inr, arith}
 use Rattle.std.specs.Option.{option_map_or}
-use Rattle.cx_vtree.specs.Plain.{PlainConn, PlainInstance, PlainModule, PlainSource}
-use Rattle.cx_vtree.specs.InstanceTree.{Placed, tree_from, main_instance, instances_of, output_to, is_output}
-use Rattle.cx_vtree.specs.Sound.{Scope, Counts, has_name, module_named, meant_in, ports_of, driven_by, driven_by_all, drivers_in, is_sound}
+use Rattle.cx_vtree.specs.Plain.{PlainInstance, PlainModule, PlainSource}
+use Rattle.cx_vtree.specs.InstanceTree.{Placed, tree_from, main_instance, instances_of, output_to}
+use Rattle.cx_vtree.specs.Sound.{Scope, has_name, module_named, meant_in, ports_of, driven_by, driven_by_all, drivers_in, is_sound}
 use Rattle.cx_vfacts.proofs.Fresh.{Fresh, fresh_both, fresh_right}
 use Rattle.cx_vfacts.proofs.Scopes.{port_names}
-use Rattle.cx_vfacts.proofs.Modules.{Keeps, named-reversed}
+use Rattle.cx_vfacts.proofs.Modules.{named-reversed}
 use Rattle.cx_vfacts.proofs.Trees.{placed, number_of, Stands, IsHeld}
-use Rattle.cx_vfacts.proofs.Forest.{IsWired, parts_known, Among, stands, part_at, instance_keeps}
+use Rattle.cx_vfacts.proofs.Forest.{parts_known, Among, stands, part_at, instance_keeps}
 use Rattle.cx_vfacts.proofs.Parts.{instances_drive, assigns_fresh}
 use Rattle.cx_vfacts.proofs.Instances.{fresh_ports}
-use Rattle.cx_vfacts.proofs.Conns.{Aligned, aligned_from, output_found, output_there, output_drives, output-to, one_driver, driver_among, among_drivers}
+use Rattle.cx_vfacts.proofs.Conns.{Aligned, aligned_from, output_found, output_there, output_drives, one_driver, driver_among}
 
 pub some_same : {A : Type 0} (o : Option A) (x y : A) → o ≡ Some x → o ≡ Some y → x ≡ y
 some_same o x y e f = cc

@@ -16,3 +16,4 @@ pub mod Mains
 pub mod MeaningLemmas
 pub mod MemoryLemmas
 pub mod CountLemmas
+pub mod TallyLemmas

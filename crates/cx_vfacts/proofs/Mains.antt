@@ -1,21 +1,21 @@
 -- The instance of `main`.
-use Rattle.std.proofs.Common.{◌≡◌, ℕ, zero, suc, ◌+◌, ◌==◌, List, [], ◌∷◌, ◌++◌, Bool, true, false, ◌&&◌, ◌||◌, not, map, length, reverse, Option, Some, None, slice_get, refl, ap, sym, ◌∙◌, subst, if◌then◌else◌, arith, codes}
+use Rattle.std.proofs.Common.{◌≡◌, ℕ, ◌==◌, List, [], ◌∷◌, Bool, true, false, ◌&&◌, ◌||◌, not, length, reverse, Some, slice_get, refl, ap, sym, ◌∙◌, subst, if◌then◌else◌, codes}
 use Rattle.std.specs.Prelude.{nat_lt}
 use Rattle.std.proofs.lemmas.Bool.{or_parts, or_from, and_parts, not-false, both_ways, false_from_ne_true, eqb-true}
 use Rattle.std.proofs.lemmas.List.{reverse-reverse}
-use Rattle.cx_vtree.specs.Plain.{PlainExpr, Named, Number, Part, Word, Applied, Inverted, Chosen, Joined, PlainPort, PlainModule, PlainExternal, PlainSource}
-use Rattle.cx_vtree.specs.InstanceTree.{same_name, Placed, below, tree_from, main_instance, instances_of}
+use Rattle.cx_vtree.specs.Plain.{PlainExpr, Named, Number, Part, Word, Applied, Inverted, Chosen, Joined, PlainPort, PlainModule, PlainSource}
+use Rattle.cx_vtree.specs.InstanceTree.{same_name, tree_from, main_instance, instances_of}
 use Rattle.cx_vtree.specs.Layout.{external_fits, module_fits, is_laid_out}
 use Rattle.std.specs.List.{list_all}
-use Rattle.cx_vtree.specs.Sound.{Faults, Counts, Scope, has_name, is_source, is_readable, misnames, bad_width, is_port, wrong_port, module_faults, module_named, ports_faults, drivers_in, undriven, break_of, is_sound}
+use Rattle.cx_vtree.specs.Sound.{Faults, Scope, is_source, is_readable, misnames, is_port, ports_faults, drivers_in, break_of, is_sound}
 use Rattle.std.specs.Prelude.{is_none}
 use Rattle.cx_vfacts.specs.MainPorts.{main_ports, reads_net}
 use Rattle.cx_vfacts.proofs.Cleans.{Clean}
 use Rattle.cx_vfacts.proofs.Fresh.{same_is}
-use Rattle.cx_vfacts.proofs.Modules.{Keeps, KeepsAfter, AllKeep, sound_keeps, seen_counts}
+use Rattle.cx_vfacts.proofs.Modules.{KeepsAfter, AllKeep, sound_keeps}
 use Rattle.cx_vfacts.proofs.Trees.{placed}
 use Rattle.cx_vfacts.proofs.Forest.{unfolds, main_named}
-use Rattle.cx_vfacts.proofs.Parts.{none_of_three, PortKeeps, port_keeps}
+use Rattle.cx_vfacts.proofs.Parts.{none_of_three, port_keeps}
 
 -- the last module is that of instance 0
 pub record IsMain (source : PlainSource) : Type 0 where

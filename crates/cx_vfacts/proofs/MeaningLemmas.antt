@@ -1,12 +1,12 @@
 -- Widths of what names stand for.
-use Rattle.std.proofs.Common.{◌≡◌, ◌⊎◌, ℕ, zero, suc, ◌+◌, ◌<◌, ◌≤◌, ◌==◌, List, [], ◌∷◌, ◌++◌, Bool, true, false, ◌||◌, map, reverse, Option, Some, None, slice_get, refl, ap, sym, ◌∙◌, subst, inl, inr, if◌then◌else◌, arith}
+use Rattle.std.proofs.Common.{◌≡◌, ℕ, zero, suc, ◌+◌, ◌<◌, ◌≤◌, ◌==◌, List, [], ◌∷◌, Bool, true, false, reverse, Some, slice_get, refl, ap, sym, ◌∙◌, subst, if◌then◌else◌, arith}
 use Rattle.std.specs.Prelude.{nat_lt}
 use Rattle.std.proofs.lemmas.Bool.{or_parts, or_left, or_right, eqb-false, ltb-false}
 use Rattle.cx_vtree.specs.declared.meanings.Meaning.{Meaning}
 use Rattle.cx_vtree.specs.declared.meanings.Meaning.TheVariants as meant
 use Rattle.cx_vtree.specs.Plain.{PlainPort, PlainDecl, WireOf, RegisterOf, ArrayOf, PlainSource}
-use Rattle.cx_vtree.specs.InstanceTree.{same_name, Placed, ports_at, decls_at, declared_nets, nets_at, instances_of, NetKind, kind_in}
-use Rattle.cx_vtree.specs.Sound.{has_name, decl_name, decl_meaning, port_meaning, meant_in, width_of, is_source, is_driven, is_array, drivers_in, bad_width, is_sound}
+use Rattle.cx_vtree.specs.InstanceTree.{same_name, Placed, ports_at, decls_at, nets_at, instances_of, NetKind}
+use Rattle.cx_vtree.specs.Sound.{has_name, decl_name, decl_meaning, port_meaning, width_of, is_driven, is_array, drivers_in, bad_width, is_sound}
 use Rattle.cx_vfacts.specs.Names.{declared_arrays, arrays_at}
 use Rattle.cx_vfacts.specs.Widths.{scope_at}
 use Rattle.cx_vfacts.specs.Origins.{IsNet, width_at}
@@ -15,7 +15,7 @@ use Rattle.cx_vfacts.proofs.Scopes.{port_names, meant-port, meant-decl, Declared
 use Rattle.cx_vfacts.proofs.Forest.{instance_keeps}
 use Rattle.cx_vfacts.proofs.Parts.{port_keeps, decl_keeps}
 use Rattle.cx_vfacts.proofs.Instances.{by_part, fresh_at}
-use Rattle.cx_vfacts.proofs.OriginLemmas.{net_has, is_net, source_net, meant_net, width-port}
+use Rattle.cx_vfacts.proofs.OriginLemmas.{net_has, is_net, meant_net, width-port}
 
 wide : (w : ℕ) → bad_width w ≡ false → (0 < w) × (w ≤ 128)
 wide w e =

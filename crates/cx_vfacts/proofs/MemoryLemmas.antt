@@ -1,27 +1,27 @@
 -- External memories of a sound source.
-use Rattle.std.proofs.Common.{◌≡◌, ◌⊎◌, ℕ, zero, suc, ◌+◌, ◌<◌, ◌≤◌, ◌==◌, List, [], ◌∷◌, ◌++◌, Bool, true, false, ◌&&◌, ◌||◌, not, map, length, reverse, Option, Some, None, slice_get, option_and_then, refl, ap, sym, ◌∙◌, subst, inl, inr, if◌then◌else◌, arith, codes}
+use Rattle.std.proofs.Common.{◌≡◌, ℕ, zero, suc, ◌+◌, ◌≤◌, ◌==◌, List, [], ◌∷◌, ◌++◌, Bool, true, false, ◌&&◌, ◌||◌, map, length, reverse, Option, Some, None, slice_get, option_and_then, refl, ap, sym, ◌∙◌, subst, if◌then◌else◌, arith, codes}
 use Rattle.std.specs.Prelude.{nat_lt, nat_le, is_none}
 use Rattle.std.specs.Option.{option_map_or}
 use Rattle.std.specs.List.{list_all}
-use Rattle.std.proofs.lemmas.Bool.{or_parts, and_parts, and_from, not-false, both_ways, eqb-true, eq-eqb, ltb-false, false_from_ne_true}
+use Rattle.std.proofs.lemmas.Bool.{or_parts, and_parts, and_from, not-false, eqb-true, eq-eqb, ltb-false}
 use Rattle.std.proofs.lemmas.List.{reverse-reverse}
 use Rattle.cx_text.specs.Loading.{word_count}
 use Rattle.cx_vtree.specs.Plain.{PlainDecl, WireOf, RegisterOf, ArrayOf, PlainInstance, PlainModule, PlainExternal, PlainSource}
 use Rattle.cx_vtree.specs.InstanceTree.{same_name, Placed, decls_at, tree_from, main_instance, instances_of}
-use Rattle.cx_vtree.specs.Layout.{begins_word, is_name_byte, is_word, is_keyword, is_name, external_fits, module_fits, is_laid_out}
+use Rattle.cx_vtree.specs.Layout.{is_word, is_name, external_fits, module_fits, is_laid_out}
 use Rattle.cx_vtree.specs.Edges.{array_size}
 use Rattle.cx_vtree.specs.SimRun.{instance_named, first_array}
-use Rattle.cx_vtree.specs.Sound.{Faults, no_faults, has_name, decl_name, module_named, last_named, instance_kind, memory_module, width_of, arrays_in, memory_arrays, not_this_memory, not_this_width, external_faults, externals_faults, break_of, is_sound}
+use Rattle.cx_vtree.specs.Sound.{Faults, no_faults, has_name, module_named, last_named, instance_kind, memory_module, width_of, arrays_in, memory_arrays, not_this_memory, not_this_width, external_faults, externals_faults, break_of, is_sound}
 use Rattle.cx_vfacts.specs.Names.{AreApart, declared_arrays}
 use Rattle.cx_vfacts.specs.Memories.{IsMemory}
 use Rattle.cx_vfacts.proofs.Cleans.{Clean}
-use Rattle.cx_vfacts.proofs.Fresh.{same_is, is_same, same_self, has_at, Fresh, fresh_apart}
-use Rattle.cx_vfacts.proofs.Scopes.{port_names, if-true, if-false}
-use Rattle.cx_vfacts.proofs.Modules.{Keeps, KeepsAfter, AllKeep, sound-faults, named-reversed, reverse-cons}
+use Rattle.cx_vfacts.proofs.Fresh.{same_is, is_same, same_self, Fresh, fresh_apart}
+use Rattle.cx_vfacts.proofs.Scopes.{if-true, if-false}
+use Rattle.cx_vfacts.proofs.Modules.{AllKeep, sound-faults, named-reversed, reverse-cons}
 use Rattle.cx_vfacts.proofs.Trees.{placed, number_of}
-use Rattle.cx_vfacts.proofs.Forest.{part_at, stands}
+use Rattle.cx_vfacts.proofs.Forest.{part_at}
 use Rattle.cx_vfacts.proofs.Parts.{none_of_three, instances_fresh}
-use Rattle.cx_vfacts.proofs.Holders.{some_same, IsPart, part_in}
+use Rattle.cx_vfacts.proofs.Holders.{some_same, part_in}
 use Rattle.cx_vfacts.proofs.MeaningLemmas.{decl-means}
 use Rattle.cx_vfacts.proofs.Mains.{main_at, main_name}
 

@@ -1,5 +1,5 @@
 -- Each module of a sound source keeps every rule, with those that ended before it.
-use Rattle.std.proofs.Common.{◌≡◌, ℕ, ◌==◌, List, [], ◌∷◌, ◌++◌, Bool, true, false, map, length, reverse, Option, Some, None, is_none, refl, ap, sym, ◌∙◌, subst, append_assoc, if◌then◌else◌, arith}
+use Rattle.std.proofs.Common.{◌≡◌, ℕ, ◌==◌, List, [], ◌∷◌, ◌++◌, Bool, true, false, map, length, reverse, Some, None, is_none, refl, ap, sym, ◌∙◌, subst, append_assoc, if◌then◌else◌, arith}
 use Rattle.std.proofs.lemmas.Bool.{or_parts, and_parts, ne_eqb}
 use Rattle.std.proofs.lemmas.List.{reverse-append}
 use Rattle.cx_vtree.specs.Plain.{PlainModule, PlainSource}

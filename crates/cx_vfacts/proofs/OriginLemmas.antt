@@ -1,22 +1,14 @@
 -- What gives a net its value.
-use Rattle.std.proofs.Common.{◌≡◌, ◌⊎◌, ℕ, zero, suc, ◌+◌, ◌<◌, ◌==◌, List, [], ◌∷◌, ◌++◌, Bool, true, false, ◌||◌, map, reverse, Option, Some, None, slice_get, option_and_then, option_map, refl, ap, sym, ◌∙◌, subst, inl, inr, if◌then◌else◌, arith, ⊎_elim}
+use Rattle.std.proofs.Common.{◌≡◌, ◌⊎◌, ℕ, zero, suc, ◌+◌, ◌==◌, List, [], ◌∷◌, ◌++◌, Bool, true, false, ◌||◌, map, Option, Some, None, slice_get, refl, ap, sym, ◌∙◌, subst, inl, inr, if◌then◌else◌, arith}
 use Rattle.std.specs.Option.{option_map_or}
-use Rattle.std.proofs.lemmas.Bool.{or_parts, or_left, or_right, both_ways, eq-eqb, ne_eqb, eqb-true, cases_eq}
+use Rattle.std.proofs.lemmas.Bool.{or_parts, or_left, or_right, eq-eqb, eqb-true}
 use Rattle.cx_vtree.specs.declared.meanings.Meaning.{Meaning}
 use Rattle.cx_vtree.specs.declared.meanings.Meaning.TheVariants as meant
-use Rattle.cx_vtree.specs.Plain.{PlainExpr, PlainPort, PlainDecl, WireOf, RegisterOf, ArrayOf, PlainAssign, PlainConn, PlainModule, PlainSource}
-use Rattle.cx_vtree.specs.InstanceTree.{same_name, Placed, instances_of, nets_at, declared_nets, NetKind, Input, Driven, Stored, declared_kind, kind_in, Origin, Outside, Tied, Held, Given, net_of, input_origin, assigned, is_output, output_to, driving_output, driver_of, origin_by, origin_of}
-use Rattle.cx_vtree.specs.Sound.{has_name, decl_name, decl_meaning, port_meaning, meant_in, width_of, is_source, is_driven, is_wire, drivers_in, driven_by, driven_by_all, is_sound}
-use Rattle.cx_vfacts.specs.Widths.{scope_at, IsExpression}
-use Rattle.cx_vfacts.specs.Origins.{IsNet, width_at, IsThere}
-use Rattle.cx_vfacts.proofs.Fresh.{same_is, is_same, has_at, at_has, has_left, has_right, has-append, Fresh, fresh_not, fresh_head, fresh_right}
-use Rattle.cx_vfacts.proofs.Scopes.{port_names, if-true, if-false, other_than, port_at_has, decl_at_has, meant-port, Declared, as_port, as_decl, as_nothing, declared_by, kind_of, kind-by_meaning}
-use Rattle.cx_vfacts.proofs.Modules.{Keeps}
-use Rattle.cx_vfacts.proofs.Forest.{Among, instance_keeps}
-use Rattle.cx_vfacts.proofs.Parts.{PortKeeps, port_keeps, decl_keeps, assigns_fresh, assign_keeps}
-use Rattle.cx_vfacts.proofs.Instances.{fresh_ports, fresh_decls}
-use Rattle.cx_vfacts.proofs.Conns.{IsConnected, Aligned, port_of, net-of_port, output_found}
-use Rattle.cx_vfacts.proofs.Holders.{some_same, part_of, part_in, part-aligned, output-no_main, drivers-fresh, driving_part}
+use Rattle.cx_vtree.specs.Plain.{PlainExpr, PlainPort, PlainDecl, WireOf, RegisterOf, ArrayOf, PlainAssign}
+use Rattle.cx_vtree.specs.InstanceTree.{same_name, Placed, declared_nets, NetKind, Input, Driven, Stored, declared_kind, kind_in, Origin, Tied, assigned, output_to, driving_output}
+use Rattle.cx_vtree.specs.Sound.{has_name, decl_name, decl_meaning, port_meaning, meant_in, width_of, is_source, is_driven}
+use Rattle.cx_vfacts.proofs.Fresh.{same_is, is_same, has_left, has_right, Fresh}
+use Rattle.cx_vfacts.proofs.Scopes.{port_names, if-true, if-false, other_than, port_at_has, Declared, as_port, as_decl, as_nothing, declared_by}
 
 -- the search for an output that is connected to a net
 pub driving_some : (tree : List Placed) (number i : ℕ) (net : List ℕ) (k : ℕ) (p : Placed) (port : List ℕ) → slice_get tree k ≡ Some p → p.holder ≡ i → output_to p.part.ports p.conns net ≡ Some port

@@ -1,14 +1,12 @@
 -- What the parts of a module that breaks no rule keep.
-use Rattle.std.proofs.Common.{◌≡◌, ◌⊎◌, ℕ, zero, suc, ◌+◌, ◌<◌, ◌≤◌, ◌==◌, List, [], ◌∷◌, ◌++◌, Bool, true, false, ◌&&◌, ◌||◌, not, map, length, Option, Some, None, is_none, slice_get, nat_lt, refl, ap, sym, ◌∙◌, subst, append_assoc, inl, inr, arith}
+use Rattle.std.proofs.Common.{◌≡◌, ℕ, zero, suc, ◌+◌, ◌==◌, List, [], ◌∷◌, ◌++◌, Bool, true, false, ◌&&◌, ◌||◌, not, map, Option, Some, None, is_none, slice_get, nat_lt, refl, ap, subst, arith}
 use Rattle.std.specs.Option.{option_map_or}
-use Rattle.std.proofs.lemmas.Bool.{or_parts, or_left, or_right, both_ways, not-false, not-true, false_from_ne_true, eqb-true, ltb-false}
-use Rattle.cx_vtree.specs.Plain.{PlainExpr, PlainPort, PlainDecl, WireOf, RegisterOf, ArrayOf, PlainAssign, PlainConn, PlainInstance, PlainModule, PlainStore, PlainItem, SetTo, StoreTo}
-use Rattle.cx_vtree.specs.InstanceTree.{same_name}
-use Rattle.cx_vtree.specs.Edges.{sets_in, stores_in}
-use Rattle.cx_vtree.specs.Sound.{Faults, no_faults, Counts, Scope, has_name, decl_name, decl_meaning, drivers_in, driven_by, driven_by_all, ports_of, doubles, undriven, bad_width, wrong_port, port_faults, ports_faults, decl_faults, decls_faults, assign_faults, assigns_faults, instance_faults, instances_faults, set_faults, sets_faults, store_faults, item_faults, item_name, items_faults, misconnects, module_named, width_of, is_driven, is_register, is_array, misnames, has_width, fitting_width, too_deep}
+use Rattle.std.proofs.lemmas.Bool.{or_parts, not-false, eqb-true}
+use Rattle.cx_vtree.specs.Plain.{PlainExpr, PlainPort, PlainDecl, WireOf, RegisterOf, ArrayOf, PlainAssign, PlainInstance, PlainModule}
+use Rattle.cx_vtree.specs.Sound.{Faults, no_faults, Scope, has_name, decl_name, decl_meaning, driven_by, driven_by_all, ports_of, doubles, undriven, bad_width, wrong_port, ports_faults, decl_faults, decls_faults, assigns_faults, instances_faults, set_faults, misconnects, module_named, width_of, is_driven, is_register, misnames, has_width, fitting_width, too_deep}
 use Rattle.cx_vfacts.specs.Widths.{IsExpression}
 use Rattle.cx_vfacts.proofs.Cleans.{Clean}
-use Rattle.cx_vfacts.proofs.Fresh.{Fresh, fresh_both, has-append}
+use Rattle.cx_vfacts.proofs.Fresh.{Fresh, fresh_both}
 use Rattle.cx_vfacts.proofs.Scopes.{port_names}
 
 -- of three tests none, of two none

@@ -1,13 +1,12 @@
 -- What the names of a module stand for, where none is declared twice.
-use Rattle.std.proofs.Common.{◌≡◌, ◌⊎◌, ℕ, zero, suc, List, [], ◌∷◌, ◌++◌, Bool, true, false, ◌&&◌, ◌||◌, map, Option, Some, None, option_map, slice_get, refl, ap, sym, ◌∙◌, subst, inl, inr, if◌then◌else◌}
+use Rattle.std.proofs.Common.{◌≡◌, ◌⊎◌, ℕ, zero, suc, List, [], ◌∷◌, ◌++◌, Bool, true, false, ◌&&◌, ◌||◌, map, Option, Some, None, slice_get, refl, ap, ◌∙◌, subst, inl, inr, if◌then◌else◌}
 use Rattle.std.proofs.lemmas.Bool.{or_parts, or_left, or_right, both_ways, false_from_ne_true}
 use Rattle.cx_vtree.specs.declared.meanings.Meaning.{Meaning}
 use Rattle.cx_vtree.specs.declared.meanings.Meaning.TheVariants as meant
 use Rattle.cx_vtree.specs.Plain.{PlainPort, PlainDecl, WireOf, RegisterOf, ArrayOf}
-use Rattle.cx_vtree.specs.InstanceTree.{same_name, declared_nets, NetKind, Input, Driven, Stored, declared_kind, kind_in, is_output}
-use Rattle.cx_vtree.specs.Sound.{has_name, has_output, decl_name, decl_meaning, port_meaning, meant_decl, meant_in, is_source, is_driven, is_wire, is_register, is_array, width_of}
-use Rattle.cx_vfacts.specs.Names.{declared_arrays}
-use Rattle.cx_vfacts.proofs.Fresh.{same_is, is_same, same_self, has_at, at_has, has_left, has_right, Fresh, fresh_not, fresh_head, fresh_right, declared-net}
+use Rattle.cx_vtree.specs.InstanceTree.{same_name, NetKind, Input, Driven, Stored, declared_kind, kind_in, is_output}
+use Rattle.cx_vtree.specs.Sound.{has_name, has_output, decl_name, decl_meaning, port_meaning, meant_decl, meant_in}
+use Rattle.cx_vfacts.proofs.Fresh.{same_is, is_same, Fresh, fresh_not, fresh_head}
 
 abbrev pub port_names : List PlainPort → List (List ℕ)
 port_names ps = map (λ p. p.name) ps

@@ -1,17 +1,16 @@
 -- What the ports of an instance are tied to.
-use Rattle.std.proofs.Common.{◌≡◌, ℕ, zero, suc, ◌+◌, ◌<◌, ◌==◌, List, [], ◌∷◌, ◌++◌, Bool, true, false, map, reverse, Option, Some, None, slice_get, option_map, refl, ap, sym, ◌∙◌, subst, if◌then◌else◌, arith}
+use Rattle.std.proofs.Common.{◌≡◌, ℕ, zero, suc, ◌+◌, ◌==◌, List, [], ◌∷◌, ◌++◌, true, false, map, Option, Some, None, slice_get, option_map, refl, ap, sym, ◌∙◌, subst, arith}
 use Rattle.std.specs.Option.{option_map_or}
 use Rattle.std.proofs.lemmas.Bool.{both_ways, ne_eqb, false_from_ne_true}
 use Rattle.cx_vtree.specs.declared.meanings.Meaning.{Meaning}
 use Rattle.cx_vtree.specs.declared.meanings.Meaning.TheVariants as meant
-use Rattle.cx_vtree.specs.Plain.{PlainExpr, PlainPort, PlainAssign, PlainConn, PlainInstance, PlainModule, PlainSource}
-use Rattle.cx_vtree.specs.InstanceTree.{same_name, Placed, ports_at, instances_of, NetKind, Input, Driven, Stored, kind_in, Origin, Outside, Tied, Held, Given, net_of, assigned, is_output, output_to, driving_output, origin_by, origin_of}
-use Rattle.cx_vtree.specs.Sound.{Scope, has_name, port_meaning, meant_in, width_of, is_driven, is_wire, ports_of, driven_by, driven_by_all, drivers_in, is_sound}
+use Rattle.cx_vtree.specs.Plain.{PlainPort, PlainAssign, PlainConn, PlainInstance, PlainModule, PlainSource}
+use Rattle.cx_vtree.specs.InstanceTree.{same_name, Placed, ports_at, instances_of, Input, Driven, Stored, Outside, Tied, Held, Given, net_of, assigned, is_output, output_to, driving_output, origin_of}
+use Rattle.cx_vtree.specs.Sound.{Scope, has_name, port_meaning, meant_in, is_driven, is_wire, ports_of, driven_by, driven_by_all, is_sound}
 use Rattle.cx_vfacts.specs.Widths.{scope_at}
 use Rattle.cx_vfacts.proofs.Fresh.{is_same, Fresh, fresh_left, fresh_right, fresh_sides}
 use Rattle.cx_vfacts.proofs.Scopes.{port_names, if-true, if-false, other_than, port_at_has, meant-port, kind_of}
-use Rattle.cx_vfacts.proofs.Modules.{Keeps}
-use Rattle.cx_vfacts.proofs.Forest.{Among, instance_keeps}
+use Rattle.cx_vfacts.proofs.Forest.{instance_keeps}
 use Rattle.cx_vfacts.proofs.Parts.{assigns_fresh, assign_keeps}
 use Rattle.cx_vfacts.proofs.Conns.{net-of_port, output-to, among_drivers}
 use Rattle.cx_vfacts.proofs.Holders.{some_same, IsPart, part_of, part_in, part-aligned, part-ports, before, drives, one_part, output-no_main, drivers-fresh}

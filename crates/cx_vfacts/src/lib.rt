@@ -9,7 +9,7 @@ mod memories;
 mod names;
 mod origins;
 
-pub use counts::counts_are_bounded;
+pub use counts::{arrays_have_words, counts_are_bounded, counts_go_by_instances};
 pub use edges::{sets_are_of_registers, stores_are_of_arrays};
 pub use main_module::{clock_is_unread, main_comes_first};
 pub use meanings::{meant_is_there, names_stand_for_their_parts, widths_are_bounded};

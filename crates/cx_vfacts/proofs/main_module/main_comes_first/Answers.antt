@@ -1,4 +1,4 @@
-use Rattle.std.proofs.Common.{◌≡◌, ℕ, List, [], Bool, true, false, ◌||◌, ◌&&◌, not, refl, ap, codes}
+use Rattle.std.proofs.Common.{refl, ap, codes}
 use Rattle.std.proofs.lemmas.Bool.{or_parts, not-false}
 use Rattle.cx_vtree.specs.InstanceTree.{same_name, main_instance}
 use Rattle.cx_vtree.specs.Sound.{Faults}

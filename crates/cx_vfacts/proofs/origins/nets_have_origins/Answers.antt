@@ -1,8 +1,7 @@
 use Rattle.std.proofs.Common.{◌≡◌, ℕ, List, [], Option, Some, None, slice_get, refl, ap, sym, ◌∙◌, map, ◌++◌}
 use Rattle.std.specs.Option.{option_map_or}
-use Rattle.cx_vtree.specs.Plain.{PlainSource}
-use Rattle.cx_vtree.specs.InstanceTree.{Placed, instances_of, nets_at, declared_nets, Origin, origin_of}
-use Rattle.cx_vfacts.specs.Origins.{IsNet, width_at, IsThere}
+use Rattle.cx_vtree.specs.InstanceTree.{Placed, instances_of, declared_nets}
+use Rattle.cx_vfacts.specs.Origins.{IsNet}
 use Rattle.cx_vfacts.proofs.Given.{has_origin}
 use Rattle.cx_vfacts.proofs.origins.nets_have_origins.Goals as goal
 
