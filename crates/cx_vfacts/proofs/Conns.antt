@@ -1,11 +1,11 @@
 -- How the ports of a part are connected.
 use Rattle.std.proofs.Common.{◌≡◌, ℕ, zero, suc, ◌==◌, List, [], ◌∷◌, ◌++◌, Bool, true, false, ◌&&◌, ◌||◌, not, length, Some, slice_get, refl, ap, sym, ◌∙◌, subst, if◌then◌else◌, arith, codes}
-use Rattle.std.proofs.lemmas.Bool.{or_parts, or_left, or_right, and_parts, and_from, both_ways, not-false, eqb-true}
+use Rattle.std.proofs.lemmas.Bool.{or_parts, or_left, or_right, and_parts, and_from, and_right, both_ways, not-false, eqb-true, cond-true, cond-false}
 use Rattle.cx_vtree.specs.Plain.{PlainPort, PlainConn, PlainInstance, PlainModule}
 use Rattle.cx_vtree.specs.InstanceTree.{same_name, net_of, is_output, output_to}
 use Rattle.cx_vtree.specs.Sound.{Scope, has_name, has_output, is_source, is_wire, width_of, miswired, misconnects, misfits, ports_of, driven_by, driven_by_all}
 use Rattle.cx_vfacts.proofs.Fresh.{same_is, is_same, has_left, has_right, has-append, Fresh, fresh_right, fresh_sides}
-use Rattle.cx_vfacts.proofs.Scopes.{port_names, if-true, if-false, other_than, port_at_has, has-output}
+use Rattle.cx_vfacts.proofs.Scopes.{port_names, other_than, port_at_has, has-output}
 
 -- a port is connected to a net that it fits
 pub record IsConnected (scope : Scope) (p : PlainPort) (c : PlainConn) : Type 0 where
@@ -68,11 +68,11 @@ net-of_port scope earlier (x ∷ ps) [] a f k p e = absurd a
 net-of_port scope earlier (x ∷ ps) (c ∷ cs) a f zero p e =
     let same : x ≡ p = cc in
     let connects = subst (λ q. IsConnected scope q c) same a.0 in
-    (c, refl, connects, if-true (same_name c.port p.name) (Some c.net) (net_of cs p.name) (is_same c.port p.name (sym connects.port)))
+    (c, refl, connects, cond-true (same_name c.port p.name) (Some c.net) (net_of cs p.name) (is_same c.port p.name (sym connects.port)))
 net-of_port scope earlier (x ∷ ps) (c ∷ cs) a f (suc k) p e =
     let (d, at, connects, found) = net-of_port scope (earlier ++ x.name ∷ []) ps cs a.1 f.1 k p e in
     let other = other_than earlier (port_names ps) x.name p.name f.1 (port_at_has ps k p e) in
-    (d, at, connects, if-false (same_name c.port p.name) (Some c.net) (net_of cs p.name) (subst (λ n. same_name n p.name ≡ false) a.0.port other) ∙ found)
+    (d, at, connects, cond-false (same_name c.port p.name) (Some c.net) (net_of cs p.name) (subst (λ n. same_name n p.name ≡ false) a.0.port other) ∙ found)
 
 -- the output that is connected to a net
 pub output_found : (ports : List PlainPort) (cs : List PlainConn) (net port : List ℕ) → output_to ports cs net ≡ Some port
@@ -84,10 +84,10 @@ output_found ports (c ∷ cs) net port e = go (same_name c.net net && is_output 
       → (k : ℕ) × (d : PlainConn) × (slice_get (c ∷ cs) k ≡ Some d) × (d.net ≡ net) × (is_output ports d.port ≡ true) × (d.port ≡ port)
   go true is later =
       let both = and_parts (same_name c.net net) (is_output ports c.port) is in
-      let same : Some c.port ≡ Some port = sym (if-true (same_name c.net net && is_output ports c.port) (Some c.port) (output_to ports cs net) is) ∙ e in
+      let same : Some c.port ≡ Some port = sym (cond-true (same_name c.net net && is_output ports c.port) (Some c.port) (output_to ports cs net) is) ∙ e in
       (zero, c, refl, same_is c.net net both.0, both.1, cc)
   go false is later =
-      let (k, d, at, named, out, port_is) = later (sym (if-false (same_name c.net net && is_output ports c.port) (Some c.port) (output_to ports cs net) is) ∙ e) in
+      let (k, d, at, named, out, port_is) = later (sym (cond-false (same_name c.net net && is_output ports c.port) (Some c.port) (output_to ports cs net) is) ∙ e) in
       (suc k, d, at, named, out, port_is)
 
 -- a net that is driven is connected to an output
@@ -100,19 +100,15 @@ output_there ports (c ∷ cs) net f e = go (is_output ports c.port) (same_name c
   there = subst (λ l. has_name l net ≡ true) driven e
   go : (out same : Bool) → is_output ports c.port ≡ out → same_name c.net net ≡ same → (has_name (driven_by ports cs) net ≡ true → (port : List ℕ) × (output_to ports cs net ≡ Some port))
       → (port : List ℕ) × (output_to ports (c ∷ cs) net ≡ Some port)
-  go true true out same later = (c.port, if-true (same_name c.net net && is_output ports c.port) (Some c.port) (output_to ports cs net) (and_from (same_name c.net net) (is_output ports c.port) same out))
+  go true true out same later = (c.port, cond-true (same_name c.net net && is_output ports c.port) (Some c.port) (output_to ports cs net) (and_from (same_name c.net net) (is_output ports c.port) same out))
   go true false out same later =
       let h : has_name (c.net ∷ driven_by ports cs) net ≡ true = subst (λ b. has_name (if b then c.net ∷ driven_by ports cs else driven_by ports cs) net ≡ true) out there in
       let next = later (sym (ap (λ b. b || has_name (driven_by ports cs) net) same) ∙ h) in
-      (next.0, if-false (same_name c.net net && is_output ports c.port) (Some c.port) (output_to ports cs net) (ap (λ b. b && is_output ports c.port) same) ∙ next.1)
+      (next.0, cond-false (same_name c.net net && is_output ports c.port) (Some c.port) (output_to ports cs net) (ap (λ b. b && is_output ports c.port) same) ∙ next.1)
   go false same out is later =
       let h : has_name (driven_by ports cs) net ≡ true = subst (λ b. has_name (if b then c.net ∷ driven_by ports cs else driven_by ports cs) net ≡ true) out there in
       let next = later h in
-      (next.0, if-false (same_name c.net net && is_output ports c.port) (Some c.port) (output_to ports cs net) (ap (λ b. same_name c.net net && b) out ∙ and_none (same_name c.net net)) ∙ next.1)
-    where
-      and_none : (b : Bool) → (b && false) ≡ false
-      and_none true = refl
-      and_none false = refl
+      (next.0, cond-false (same_name c.net net && is_output ports c.port) (Some c.port) (output_to ports cs net) (ap (λ b. same_name c.net net && b) out ∙ and_right (same_name c.net net) false refl) ∙ next.1)
 
 -- an output drives the net that it is connected to
 pub output_drives : (ports : List PlainPort) (cs : List PlainConn) → Fresh [] (port_names ports) → (k : ℕ) (c : PlainConn) → slice_get cs k ≡ Some c → is_output ports c.port ≡ true → has_name (driven_by ports cs) c.net ≡ true
@@ -120,7 +116,7 @@ output_drives ports [] f k c e out = absurd (cc)
 output_drives ports (x ∷ cs) f zero c e out =
     let same : x ≡ c = cc in
     let outs : has_output ports x.port ≡ true = has-output [] ports x.port f ∙ ap (λ (d : PlainConn). is_output ports d.port) same ∙ out in
-    subst (λ l. has_name l c.net ≡ true) (sym (if-true (has_output ports x.port) (x.net ∷ driven_by ports cs) (driven_by ports cs) outs))
+    subst (λ l. has_name l c.net ≡ true) (sym (cond-true (has_output ports x.port) (x.net ∷ driven_by ports cs) (driven_by ports cs) outs))
     (or_left (same_name x.net c.net) (has_name (driven_by ports cs) c.net) (is_same x.net c.net (ap (λ (d : PlainConn). d.net) same)))
 output_drives ports (x ∷ cs) f (suc k) c e out = go (has_output ports x.port) (output_drives ports cs f k c e out) where
   go : (b : Bool) → has_name (driven_by ports cs) c.net ≡ true → has_name (if b then x.net ∷ driven_by ports cs else driven_by ports cs) c.net ≡ true
@@ -133,22 +129,18 @@ pub output-to : (earlier : List (List ℕ)) (ports : List PlainPort) (cs : List 
 output-to earlier ports [] f g k c e out = absurd (cc)
 output-to earlier ports (x ∷ cs) f g zero c e out =
     let same : x ≡ c = cc in
-    if-true (same_name x.net c.net && is_output ports x.port) (Some x.port) (output_to ports cs c.net)
+    cond-true (same_name x.net c.net && is_output ports x.port) (Some x.port) (output_to ports cs c.net)
     (and_from (same_name x.net c.net) (is_output ports x.port) (is_same x.net c.net (ap (λ (d : PlainConn). d.net) same)) (ap (λ (d : PlainConn). is_output ports d.port) same ∙ out))
     ∙ ap (λ (d : PlainConn). Some d.port) same
 output-to earlier ports (x ∷ cs) f g (suc k) c e out = go (has_output ports x.port) refl g (output_drives ports cs f k c e out) (λ earlier' h. output-to earlier' ports cs f h k c e out) where
   go : (b : Bool) → has_output ports x.port ≡ b → Fresh earlier (if b then x.net ∷ driven_by ports cs else driven_by ports cs) → has_name (driven_by ports cs) c.net ≡ true
       → ((earlier' : List (List ℕ)) → Fresh earlier' (driven_by ports cs) → output_to ports cs c.net ≡ Some c.port) → output_to ports (x ∷ cs) c.net ≡ Some c.port
   go true is h driven later =
-      if-false (same_name x.net c.net && is_output ports x.port) (Some x.port) (output_to ports cs c.net) (ap (λ b. b && is_output ports x.port) (other_than earlier (driven_by ports cs) x.net c.net h.1 driven))
+      cond-false (same_name x.net c.net && is_output ports x.port) (Some x.port) (output_to ports cs c.net) (ap (λ b. b && is_output ports x.port) (other_than earlier (driven_by ports cs) x.net c.net h.1 driven))
       ∙ later (earlier ++ x.net ∷ []) h.1
   go false is h driven later =
-      if-false (same_name x.net c.net && is_output ports x.port) (Some x.port) (output_to ports cs c.net) (ap (λ b. same_name x.net c.net && b) (sym (has-output [] ports x.port f) ∙ is) ∙ no_one (same_name x.net c.net))
+      cond-false (same_name x.net c.net && is_output ports x.port) (Some x.port) (output_to ports cs c.net) (ap (λ b. same_name x.net c.net && b) (sym (has-output [] ports x.port f) ∙ is) ∙ and_right (same_name x.net c.net) false refl)
       ∙ later earlier h
-    where
-      no_one : (b : Bool) → (b && false) ≡ false
-      no_one true = refl
-      no_one false = refl
 
 -- a net that some instance drives
 pub driver_among : (before : List PlainModule) (xs : List PlainInstance) (n : List ℕ) → has_name (driven_by_all before xs) n ≡ true

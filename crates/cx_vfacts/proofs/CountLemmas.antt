@@ -1,14 +1,14 @@
 -- The counts of a module are those of the tree of its instances, up to the number where they stop.
 use Rattle.std.proofs.Common.{◌≡◌, ℕ, zero, suc, ◌+◌, ◌-◌, ◌^◌, ◌<◌, ◌≤◌, min, List, [], ◌∷◌, ◌++◌, Bool, true, false, map, length, reverse, Some, slice_get, refl, ap, sym, ◌∙◌, subst, if◌then◌else◌, arith, length-append}
 use Rattle.std.specs.Prelude.{nat_lt}
-use Rattle.std.proofs.lemmas.Bool.{or_parts, ltb-false}
+use Rattle.std.proofs.lemmas.Bool.{or_parts, ltb-false, cond-true, cond-false}
 use Rattle.std.proofs.lemmas.List.{length-reverse}
 use Rattle.cx_vtree.specs.Plain.{PlainDecl, WireOf, RegisterOf, ArrayOf, PlainInstance, PlainModule, PlainSource}
 use Rattle.cx_vtree.specs.InstanceTree.{same_name, Placed, declared_nets, below, tree_from, main_instance, instances_of}
 use Rattle.cx_vtree.specs.Sound.{Faults, Counts, sum_counts, no_counts, decl_counts, decls_counts, counts_named, instances_counts, module_counts, has_name, module_named, is_sound}
 use Rattle.cx_vfacts.specs.Counts.{declared_words, nets_count, words_count}
 use Rattle.cx_vfacts.proofs.Fresh.{same_is}
-use Rattle.cx_vfacts.proofs.Scopes.{if-true, if-false}
+
 use Rattle.cx_vfacts.proofs.Modules.{AllKeep, seen_counts, new_name, named-reversed, reverse-cons}
 use Rattle.cx_vfacts.proofs.Trees.{placed}
 use Rattle.cx_vfacts.proofs.Forest.{parts_known, by_first}
@@ -111,20 +111,20 @@ caps_module is_main m ms k all x h n =
     declared)
 
 counts-other : (xs : List PlainModule) (cs : List Counts) (m : PlainModule) (c : Counts) (kind : List ℕ) → length cs ≡ length xs → same_name m.name kind ≡ false → counts_named (xs ++ m ∷ []) (cs ++ c ∷ []) kind ≡ counts_named xs cs kind
-counts-other [] [] m c kind e differs = if-false (same_name m.name kind) c no_counts differs
+counts-other [] [] m c kind e differs = cond-false (same_name m.name kind) c no_counts differs
 counts-other [] (d ∷ cs) m c kind e differs = absurd (omega arith)
 counts-other (x ∷ xs) [] m c kind e differs = absurd (omega arith)
 counts-other (x ∷ xs) (d ∷ cs) m c kind e differs = let same : length cs ≡ length xs = omega arith in ap (λ o. if same_name x.name kind then d else o) (counts-other xs cs m c kind same differs)
 
 counts-new : (xs : List PlainModule) (cs : List Counts) (m : PlainModule) (c : Counts) (kind : List ℕ) → length cs ≡ length xs → same_name m.name kind ≡ true → has_name (map (λ x. x.name) xs) kind ≡ false
     → counts_named (xs ++ m ∷ []) (cs ++ c ∷ []) kind ≡ c
-counts-new [] [] m c kind e same other = if-true (same_name m.name kind) c no_counts same
+counts-new [] [] m c kind e same other = cond-true (same_name m.name kind) c no_counts same
 counts-new [] (d ∷ cs) m c kind e same other = absurd (omega arith)
 counts-new (x ∷ xs) [] m c kind e same other = absurd (omega arith)
 counts-new (x ∷ xs) (d ∷ cs) m c kind e same other =
     let ends = or_parts (same_name x.name kind) (has_name (map (λ y. y.name) xs) kind) other in
     let long : length cs ≡ length xs = omega arith in
-    if-false (same_name x.name kind) d (counts_named (xs ++ m ∷ []) (cs ++ c ∷ []) kind) ends.0 ∙ counts-new xs cs m c kind long same ends.1
+    cond-false (same_name x.name kind) d (counts_named (xs ++ m ∷ []) (cs ++ c ∷ []) kind) ends.0 ∙ counts-new xs cs m c kind long same ends.1
 
 seen-length : (ms : List PlainModule) → length (seen_counts ms) ≡ length ms
 seen-length [] = refl
@@ -148,11 +148,11 @@ all_counted is_main (m ∷ ms) k y part found h n =
     (λ is same.
     let other = subst (λ name. has_name (map (λ x. x.name) (reverse ms)) name ≡ false) (same_is m.name y.kind is) (new_name is_main (reverse ms) own m k.0) in
     let counts = pushed ∙ counts-new (reverse ms) (seen_counts ms) m own y.kind (seen_long ms) is other in
-    let tree = if-true (same_name m.name y.kind) (placed y h m ∷ below (tree_from ms) n (n + 1) m.instances) (tree_from ms y h n) is in
+    let tree = cond-true (same_name m.name y.kind) (placed y h m ∷ below (tree_from ms) n (n + 1) m.instances) (tree_from ms y h n) is in
     subst (λ c. CapsOf c (tree_from (m ∷ ms) y h n)) (sym counts) (subst (CapsOf own) (sym tree) (caps_module is_main m ms k earlier y h n)))
     (λ is there.
     let counts = pushed ∙ counts-other (reverse ms) (seen_counts ms) m own y.kind (seen_long ms) is in
-    let tree = if-false (same_name m.name y.kind) (placed y h m ∷ below (tree_from ms) n (n + 1) m.instances) (tree_from ms y h n) is in
+    let tree = cond-false (same_name m.name y.kind) (placed y h m ∷ below (tree_from ms) n (n + 1) m.instances) (tree_from ms y h n) is in
     subst (λ c. CapsOf c (tree_from (m ∷ ms) y h n)) (sym counts)
     (subst (CapsOf (counts_named (reverse ms) (seen_counts ms) y.kind)) (sym tree) (earlier y part there h n)))
 
@@ -167,7 +167,7 @@ counts_bounded source sound = go (main_at source sound) where
       let all : AllKeep true (r.m ∷ r.before) = (r.kept, r.earlier) in
       let unfolded : instances_of source ≡ placed main_instance 0 r.m ∷ below (tree_from r.before) 0 (0 + 1) r.m.instances =
       ap (λ l. tree_from l main_instance 0 0) r.are
-      ∙ if-true (same_name r.m.name main_instance.kind) (placed main_instance 0 r.m ∷ below (tree_from r.before) 0 (0 + 1) r.m.instances) (tree_from r.before main_instance 0 0) (main_name source r) in
+      ∙ cond-true (same_name r.m.name main_instance.kind) (placed main_instance 0 r.m ∷ below (tree_from r.before) 0 (0 + 1) r.m.instances) (tree_from r.before main_instance 0 0) (main_name source r) in
       let caps : CapsOf own (instances_of source) = subst (CapsOf own) (sym unfolded) (caps_module true r.m r.before all (all_counted false r.before r.earlier) main_instance 0 0) in
       let few = none_of_three (nat_lt 4194304 own.nets) (nat_lt 131072 own.instances) (nat_lt 4194304 own.words) (ap (λ (f : Faults). f.limit) r.kept.head) in
       let nets_room : 4194304 < cap = omega arith in

@@ -1,13 +1,13 @@
 -- The tree of a sound source, and the module of each instance.
 use Rattle.std.proofs.Common.{◌≡◌, ℕ, zero, suc, ◌+◌, List, [], ◌∷◌, ◌++◌, Bool, true, false, ◌||◌, map, length, reverse, Option, Some, None, is_none, slice_get, refl, ap, sym, ◌∙◌, subst, codes}
 use Rattle.std.specs.Option.{option_map_or}
-use Rattle.std.proofs.lemmas.Bool.{or_parts, or_left, or_right, both_ways, not-false, false_from_ne_true}
+use Rattle.std.proofs.lemmas.Bool.{or_parts, or_left, or_right, both_ways, not-false, false_from_ne_true, cond-true, cond-false}
 use Rattle.cx_vtree.specs.Plain.{PlainInstance, PlainModule, PlainSource}
 use Rattle.cx_vtree.specs.InstanceTree.{same_name, Placed, below, tree_from, main_instance, instances_of}
 use Rattle.cx_vtree.specs.Sound.{Faults, no_faults, Counts, Scope, has_name, meant_in, ports_of, driven_by, module_named, misconnects, misfits, doubles, instance_faults, instances_faults, module_counts, is_sound}
 use Rattle.cx_vfacts.proofs.Cleans.{Clean}
 use Rattle.cx_vfacts.proofs.Fresh.{same_is}
-use Rattle.cx_vfacts.proofs.Scopes.{if-true, if-false}
+
 use Rattle.cx_vfacts.proofs.Modules.{Keeps, KeepsAfter, AllKeep, seen_counts, sound_keeps, new_name, named-reversed}
 use Rattle.cx_vfacts.proofs.Trees.{placed, Stands, every_stands, part_stands, number_of}
 
@@ -52,7 +52,7 @@ named_has [] kind m e = absurd (cc)
 named_has (x ∷ ms) kind m e = go (same_name x.name kind) refl (named_has ms kind m) where
   go : (same : Bool) → same_name x.name kind ≡ same → (module_named ms kind ≡ Some m → has_name (map (λ y. y.name) ms) kind ≡ true) → has_name (map (λ y. y.name) (x ∷ ms)) kind ≡ true
   go true is later = or_left (same_name x.name kind) (has_name (map (λ y. y.name) ms) kind) is
-  go false is later = or_right (same_name x.name kind) (has_name (map (λ y. y.name) ms) kind) (later (sym (if-false (same_name x.name kind) (Some x) (module_named ms kind) is) ∙ e))
+  go false is later = or_right (same_name x.name kind) (has_name (map (λ y. y.name) ms) kind) (later (sym (cond-false (same_name x.name kind) (Some x) (module_named ms kind) is) ∙ e))
 
 -- a module has another name than one that was found among those before it
 differs : (is_main : Bool) (m : PlainModule) (before : List PlainModule) (kind : List ℕ) (part : PlainModule) → AllKeep is_main (m ∷ before) → module_named before kind ≡ Some part → same_name m.name kind ≡ false
@@ -64,11 +64,11 @@ differs is_main m before kind part k found =
 
 -- what is found among the modules before is found
 named-later : (is_main : Bool) (m : PlainModule) (before : List PlainModule) (kind : List ℕ) (part : PlainModule) → AllKeep is_main (m ∷ before) → module_named before kind ≡ Some part → module_named (m ∷ before) kind ≡ Some part
-named-later is_main m before kind part k found = if-false (same_name m.name kind) (Some m) (module_named before kind) (differs is_main m before kind part k found) ∙ found
+named-later is_main m before kind part k found = cond-false (same_name m.name kind) (Some m) (module_named before kind) (differs is_main m before kind part k found) ∙ found
 
 tree-later : (is_main : Bool) (m : PlainModule) (before : List PlainModule) (x : PlainInstance) (part : PlainModule) → AllKeep is_main (m ∷ before) → module_named before x.kind ≡ Some part
     → (holder n : ℕ) → tree_from before x holder n ≡ tree_from (m ∷ before) x holder n
-tree-later is_main m before x part k found holder n = sym (if-false (same_name m.name x.kind) _ (tree_from before x holder n) (differs is_main m before x.kind part k found))
+tree-later is_main m before x part k found holder n = sym (cond-false (same_name m.name x.kind) _ (tree_from before x holder n) (differs is_main m before x.kind part k found))
 
 -- a module among some, with those before it
 pub record Among (modules : List PlainModule) (m : PlainModule) : Type 0 where
@@ -82,8 +82,8 @@ pub record Among (modules : List PlainModule) (m : PlainModule) : Type 0 where
 pub by_first : {P : Type 0} (x m : PlainModule) (ms : List PlainModule) (kind : List ℕ) → module_named (x ∷ ms) kind ≡ Some m → (same_name x.name kind ≡ true → x ≡ m → P) → (same_name x.name kind ≡ false → module_named ms kind ≡ Some m → P) → P
 by_first {P} x m ms kind e here there = go (same_name x.name kind) refl where
   go : (same : Bool) → same_name x.name kind ≡ same → P
-  go true is = let same : Some x ≡ Some m = sym (if-true (same_name x.name kind) (Some x) (module_named ms kind) is) ∙ e in here is cc
-  go false is = there is (sym (if-false (same_name x.name kind) (Some x) (module_named ms kind) is) ∙ e)
+  go true is = let same : Some x ≡ Some m = sym (cond-true (same_name x.name kind) (Some x) (module_named ms kind) is) ∙ e in here is cc
+  go false is = there is (sym (cond-false (same_name x.name kind) (Some x) (module_named ms kind) is) ∙ e)
 
 pub among : (is_main : Bool) (modules : List PlainModule) → AllKeep is_main modules → (kind : List ℕ) (m : PlainModule) → module_named modules kind ≡ Some m → Among modules m
 among is_main [] k kind m e = absurd (cc)
@@ -115,13 +115,13 @@ unfolds is_main [] k x holder n m e = absurd (cc)
 unfolds is_main (z ∷ ms) k x holder n m e =
     by_first z m ms x.kind e
     (λ is same.
-    if-true (same_name z.name x.kind) (placed x holder z ∷ below (tree_from ms) n (n + 1) z.instances) (tree_from ms x holder n) is
+    cond-true (same_name z.name x.kind) (placed x holder z ∷ below (tree_from ms) n (n + 1) z.instances) (tree_from ms x holder n) is
     ∙ ap (λ l. placed x holder z ∷ l) (below-same (tree_from ms) (tree_from (z ∷ ms)) n (n + 1) z.instances (λ s y there.
     let w = parts_known is_main (reverse ms) _ z k.0 s y there in
     tree-later is_main z ms y w.part k (sym (named-reversed false ms y.kind k.1) ∙ w.known)))
     ∙ ap (λ (q : PlainModule). placed x holder q ∷ below (tree_from (z ∷ ms)) n (n + 1) q.instances) same)
     (λ is found.
-    if-false (same_name z.name x.kind) (placed x holder z ∷ below (tree_from ms) n (n + 1) z.instances) (tree_from ms x holder n) is
+    cond-false (same_name z.name x.kind) (placed x holder z ∷ below (tree_from ms) n (n + 1) z.instances) (tree_from ms x holder n) is
     ∙ unfolds false ms k.1 x holder n m found
     ∙ ap (λ l. placed x holder m ∷ l) (below-same (tree_from ms) (tree_from (z ∷ ms)) n (n + 1) m.instances (λ s y there.
     let c = closed false ms k.1 x.kind m found s y there in
@@ -131,7 +131,7 @@ unfolds is_main (z ∷ ms) k x holder n m e =
 pub main_named : (m : PlainModule) (before : List PlainModule) → AllKeep true (m ∷ before) → module_named (m ∷ before) (codes "main") ≡ Some m
 main_named m before k =
     let name = ap (λ (f : Faults). f.name) k.0.head in
-    if-true (same_name m.name (codes "main")) (Some m) (module_named before (codes "main")) (not-false (same_name m.name (codes "main")) (or_parts _ _ name).1)
+    cond-true (same_name m.name (codes "main")) (Some m) (module_named before (codes "main")) (not-false (same_name m.name (codes "main")) (or_parts _ _ name).1)
 
 -- what stands where in the tree of a sound source
 pub stands : (source : PlainSource) → is_sound source ≡ true → (i : ℕ) (p : Placed) → slice_get (instances_of source) i ≡ Some p

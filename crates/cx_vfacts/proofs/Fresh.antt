@@ -1,6 +1,7 @@
 -- Names that come one after another, none of them twice.
-use Rattle.std.proofs.Common.{◌≡◌, ℕ, zero, suc, List, [], ◌∷◌, ◌++◌, Bool, true, false, ◌||◌, map, Some, slice_get, refl, ap, sym, ◌∙◌, subst, append_assoc, append-nil}
+use Rattle.std.proofs.Common.{◌≡◌, ℕ, zero, suc, List, [], ◌∷◌, ◌++◌, Bool, true, false, ◌||◌, map, Some, slice_get, option_map, refl, ap, sym, ◌∙◌, subst, append_assoc, append-nil}
 use Rattle.std.proofs.lemmas.Bool.{or_parts, or_left, or_right, or_from, both_ways, false_from_ne_true}
+use Rattle.std.proofs.lemmas.Option.{slice_get-map}
 use Rattle.std.specs.Cmp.Lexicographic.{bytes_decides}
 use Rattle.cx_vtree.specs.Plain.{PlainDecl, WireOf, RegisterOf, ArrayOf}
 use Rattle.cx_vtree.specs.InstanceTree.{same_name, declared_nets}
@@ -38,6 +39,10 @@ pub has_at : (xs : List (List ℕ)) (k : ℕ) (n : List ℕ) → slice_get xs k 
 has_at [] k n e = absurd (cc)
 has_at (x ∷ xs) zero n e = let same : x ≡ n = cc in or_left (same_name x n) (has_name xs n) (is_same x n same)
 has_at (x ∷ xs) (suc k) n e = or_right (same_name x n) (has_name xs n) (has_at xs k n e)
+
+-- the name of a part is among those of all
+pub has_each : {A : Type 0} (name : A → List ℕ) (xs : List A) (k : ℕ) (x : A) → slice_get xs k ≡ Some x → has_name (map name xs) (name x) ≡ true
+has_each name xs k x e = has_at (map name xs) k (name x) (slice_get-map name xs k ∙ ap (option_map name) e)
 
 pub at_has : (xs : List (List ℕ)) (n : List ℕ) → has_name xs n ≡ true → (k : ℕ) × (slice_get xs k ≡ Some n)
 at_has [] n e = absurd (cc)
@@ -120,13 +125,13 @@ fresh-arrays less more (WireOf n v ∷ ds) w f = fresh-arrays less (more ++ n �
 fresh-arrays less more (RegisterOf n v ∷ ds) w f = fresh-arrays less (more ++ n ∷ []) ds (within_more less more n w) f.1
 fresh-arrays less more (ArrayOf n v k ∷ ds) w f = (within_out less more n w f.0, fresh-arrays (less ++ n ∷ []) (more ++ n ∷ []) ds (within_next less more n w) f.1)
 
-either : (same a b : Bool) → (a ≡ true → b ≡ true) → (same || a) ≡ true → (same || b) ≡ true
-either true a b h e = refl
-either false a b h e = h e
+pub or_second : (same a b : Bool) → (a ≡ true → b ≡ true) → (same || a) ≡ true → (same || b) ≡ true
+or_second true a b h e = refl
+or_second false a b h e = h e
 
 -- a net is declared
 pub declared-net : (ds : List PlainDecl) (n : List ℕ) → has_name (declared_nets ds) n ≡ true → has_name (map decl_name ds) n ≡ true
 declared-net [] n e = e
-declared-net (WireOf x w ∷ ds) n e = either (same_name x n) (has_name (declared_nets ds) n) (has_name (map decl_name ds) n) (declared-net ds n) e
-declared-net (RegisterOf x w ∷ ds) n e = either (same_name x n) (has_name (declared_nets ds) n) (has_name (map decl_name ds) n) (declared-net ds n) e
+declared-net (WireOf x w ∷ ds) n e = or_second (same_name x n) (has_name (declared_nets ds) n) (has_name (map decl_name ds) n) (declared-net ds n) e
+declared-net (RegisterOf x w ∷ ds) n e = or_second (same_name x n) (has_name (declared_nets ds) n) (has_name (map decl_name ds) n) (declared-net ds n) e
 declared-net (ArrayOf x w k ∷ ds) n e = or_right (same_name x n) (has_name (map decl_name ds) n) (declared-net ds n e)

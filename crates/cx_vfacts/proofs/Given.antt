@@ -1,7 +1,7 @@
 -- Each net of an instance has an origin, which is there and has the net's width.
 use Rattle.std.proofs.Common.{◌≡◌, ℕ, ◌+◌, ◌==◌, List, [], ◌++◌, true, false, ◌||◌, map, reverse, Option, Some, None, slice_get, option_and_then, option_map, refl, ap, sym, ◌∙◌, subst, if◌then◌else◌, arith, ⊎_elim}
 use Rattle.std.specs.Option.{option_map_or}
-use Rattle.std.proofs.lemmas.Bool.{eq-eqb, ne_eqb, cases_eq}
+use Rattle.std.proofs.lemmas.Bool.{eq-eqb, ne_eqb, cases_eq, cond-true, cond-false}
 use Rattle.cx_vtree.specs.declared.meanings.Meaning.{Meaning}
 use Rattle.cx_vtree.specs.declared.meanings.Meaning.TheVariants as meant
 use Rattle.cx_vtree.specs.Plain.{PlainExpr, PlainPort, PlainSource}
@@ -10,7 +10,7 @@ use Rattle.cx_vtree.specs.Sound.{Scope, has_name, decl_name, port_meaning, meant
 use Rattle.cx_vfacts.specs.Widths.{scope_at, IsExpression}
 use Rattle.cx_vfacts.specs.Origins.{IsNet, width_at, IsThere}
 use Rattle.cx_vfacts.proofs.Fresh.{has_at, at_has, has_left, has-append, Fresh}
-use Rattle.cx_vfacts.proofs.Scopes.{port_names, if-true, if-false, port_at_has, meant-port, Declared, as_port, as_decl, as_nothing, declared_by, kind_of, kind-by_meaning}
+use Rattle.cx_vfacts.proofs.Scopes.{port_names, port_at_has, meant-port, Declared, as_port, as_decl, as_nothing, declared_by, kind_of, kind-by_meaning}
 use Rattle.cx_vfacts.proofs.Forest.{Among, instance_keeps}
 use Rattle.cx_vfacts.proofs.Parts.{port_keeps, decl_keeps, assign_keeps}
 use Rattle.cx_vfacts.proofs.Instances.{fresh_ports, fresh_decls}
@@ -89,7 +89,7 @@ module _ (source : PlainSource) (sound : is_sound source ≡ true) (i : ℕ) (p 
     by_kind : origin_of tree i n ≡ (if i == 0 then Some Outside else option_map (Tied p.holder) (net_of p.conns n))
     by_kind = origin-at tree i p n Input here (kind-here n ∙ ap kind_of is)
     outside : i ≡ 0 → HasOrigin n
-    outside first = (Outside, by_kind ∙ if-true (i == 0) (Some Outside) (option_map (Tied p.holder) (net_of p.conns n)) (eq-eqb i 0 first), first)
+    outside first = (Outside, by_kind ∙ cond-true (i == 0) (Some Outside) (option_map (Tied p.holder) (net_of p.conns n)) (eq-eqb i 0 first), first)
     tied : (i ≡ 0 → ⊥) → HasOrigin n
     tied other =
         let (q, at, is_part) = part_of source sound i p here other in
@@ -97,7 +97,7 @@ module _ (source : PlainSource) (sound : is_sound source ≡ true) (i : ℕ) (p 
         let (c, is_at, connects, found) = net-of_port (meant_in q.part.ports q.part.decls) [] p.part.ports p.conns (part-aligned source sound p.holder q at i p is_part) ports_fresh_here k port there in
         let found_here : net_of p.conns n ≡ Some c.net = ap (net_of p.conns) (sym named) ∙ found in (
           Tied p.holder c.net,
-          by_kind ∙ if-false (i == 0) (Some Outside) (option_map (Tied p.holder) (net_of p.conns n)) (ne_eqb i 0 other) ∙ ap (option_map (Tied p.holder)) found_here,
+          by_kind ∙ cond-false (i == 0) (Some Outside) (option_map (Tied p.holder) (net_of p.conns n)) (ne_eqb i 0 other) ∙ ap (option_map (Tied p.holder)) found_here,
           (
             net_there tree p.holder q c.net at (meant_net q.part.ports q.part.decls c.net (source_net (meant_in q.part.ports q.part.decls c.net) (connects.inward input))),
             width-at tree p.holder q c.net at ∙ sym connects.width ∙ wide ∙ sym (ap width_of is) ∙ sym (width-at tree i p n here),

@@ -6,7 +6,7 @@ use Rattle.cx_vtree.specs.Plain.{PlainPort, PlainDecl, WireOf, RegisterOf, Array
 use Rattle.cx_vtree.specs.InstanceTree.{same_name, Placed, ports_at, decls_at, declared_nets, instances_of}
 use Rattle.cx_vtree.specs.Sound.{Counts, has_name, decl_name, drivers_in, is_sound}
 use Rattle.cx_vfacts.specs.Names.{AreApart, declared_arrays}
-use Rattle.cx_vfacts.proofs.Fresh.{same_is, has_at, has-append, Fresh, fresh_not, fresh_head, fresh_both, fresh_apart, fresh-nets, fresh-arrays, declared-net}
+use Rattle.cx_vfacts.proofs.Fresh.{or_second, same_is, has_at, has-append, Fresh, fresh_not, fresh_head, fresh_both, fresh_apart, fresh-nets, fresh-arrays, declared-net}
 use Rattle.cx_vfacts.proofs.Scopes.{port_names}
 use Rattle.cx_vfacts.proofs.Modules.{Keeps}
 use Rattle.cx_vfacts.proofs.Forest.{instance_keeps}
@@ -44,15 +44,11 @@ pub arrays_apart : (ps : List PlainPort) (ds : List PlainDecl) → Fresh (port_n
 arrays_apart ps ds g = fresh_apart (port_names ps) (declared_arrays ds) (fresh-arrays (port_names ps) (port_names ps) ds (λ n h. h) g)
 
 -- an array is declared
-either : (same a b : Bool) → (a ≡ true → b ≡ true) → (same || a) ≡ true → (same || b) ≡ true
-either true a b h e = refl
-either false a b h e = h e
-
 pub declared-array : (ds : List PlainDecl) (n : List ℕ) → has_name (declared_arrays ds) n ≡ true → has_name (map decl_name ds) n ≡ true
 declared-array [] n e = e
 declared-array (WireOf x w ∷ ds) n e = or_right (same_name x n) (has_name (map decl_name ds) n) (declared-array ds n e)
 declared-array (RegisterOf x w ∷ ds) n e = or_right (same_name x n) (has_name (map decl_name ds) n) (declared-array ds n e)
-declared-array (ArrayOf x w k ∷ ds) n e = either (same_name x n) (has_name (declared_arrays ds) n) (has_name (map decl_name ds) n) (declared-array ds n) e
+declared-array (ArrayOf x w k ∷ ds) n e = or_second (same_name x n) (has_name (declared_arrays ds) n) (has_name (map decl_name ds) n) (declared-array ds n) e
 
 -- a declared net is no array
 no_array : (same nets : Bool) (arrays : Bool) → (same ≡ true → arrays ≡ false) → (nets ≡ true → arrays ≡ false) → (same || nets) ≡ true → arrays ≡ false

@@ -1,9 +1,10 @@
 -- External memories of a sound source.
-use Rattle.std.proofs.Common.{◌≡◌, ℕ, zero, suc, ◌+◌, ◌≤◌, ◌==◌, List, [], ◌∷◌, ◌++◌, Bool, true, false, ◌&&◌, ◌||◌, map, length, reverse, Option, Some, None, slice_get, option_and_then, refl, ap, sym, ◌∙◌, subst, if◌then◌else◌, arith, codes}
+use Rattle.std.proofs.Common.{◌≡◌, ℕ, zero, suc, ◌+◌, ◌≤◌, ◌==◌, List, [], ◌∷◌, ◌++◌, Bool, true, false, ◌&&◌, ◌||◌, map, length, reverse, Option, Some, None, slice_get, option_map, option_and_then, refl, ap, sym, ◌∙◌, subst, if◌then◌else◌, arith, codes}
 use Rattle.std.specs.Prelude.{nat_lt, nat_le, is_none}
 use Rattle.std.specs.Option.{option_map_or}
 use Rattle.std.specs.List.{list_all}
-use Rattle.std.proofs.lemmas.Bool.{or_parts, and_parts, and_from, not-false, eqb-true, eq-eqb, ltb-false}
+use Rattle.std.proofs.lemmas.Bool.{or_parts, and_parts, and_from, not-false, eqb-true, eq-eqb, ltb-false, cond-true, cond-false}
+use Rattle.std.proofs.lemmas.Option.{slice_get-map}
 use Rattle.std.proofs.lemmas.List.{reverse-reverse}
 use Rattle.cx_text.specs.Loading.{word_count}
 use Rattle.cx_vtree.specs.Plain.{PlainDecl, WireOf, RegisterOf, ArrayOf, PlainInstance, PlainModule, PlainExternal, PlainSource}
@@ -16,7 +17,7 @@ use Rattle.cx_vfacts.specs.Names.{AreApart, declared_arrays}
 use Rattle.cx_vfacts.specs.Memories.{IsMemory}
 use Rattle.cx_vfacts.proofs.Cleans.{Clean}
 use Rattle.cx_vfacts.proofs.Fresh.{same_is, is_same, same_self, Fresh, fresh_apart}
-use Rattle.cx_vfacts.proofs.Scopes.{if-true, if-false}
+
 use Rattle.cx_vfacts.proofs.Modules.{AllKeep, sound-faults, named-reversed, reverse-cons}
 use Rattle.cx_vfacts.proofs.Trees.{placed, number_of}
 use Rattle.cx_vfacts.proofs.Forest.{part_at}
@@ -25,6 +26,9 @@ use Rattle.cx_vfacts.proofs.Holders.{some_same, part_in}
 use Rattle.cx_vfacts.proofs.MeaningLemmas.{decl-means}
 use Rattle.cx_vfacts.proofs.Mains.{main_at, main_name}
 
+name_at : {A : Type 0} (name : A → List ℕ) (xs : List A) (k : ℕ) (x : A) → slice_get xs k ≡ Some x → slice_get (map name xs) k ≡ Some (name x)
+name_at name xs k x e = slice_get-map name xs k ∙ ap (option_map name) e
+
 -- the search for an instance of `main` by its name
 named_some : (tree : List Placed) (number : ℕ) (name : List ℕ) (k : ℕ) (p : Placed) → slice_get tree k ≡ Some p → p.holder ≡ 0 → p.name ≡ name → (j : ℕ) × (instance_named tree number name ≡ Some j)
 named_some [] number name k p e around named = absurd (cc)
@@ -32,7 +36,7 @@ named_some (q ∷ tree) number name zero p e around named =
     let same : q ≡ p = cc in
     let holds : (q.holder == 0) ≡ true = eq-eqb q.holder 0 (ap (λ (y : Placed). y.holder) same ∙ around) in
     let is : same_name q.name name ≡ true = is_same q.name name (ap (λ (y : Placed). y.name) same ∙ named) in
-    (number, if-true (q.holder == 0 && same_name q.name name) (Some number) (instance_named tree (number + 1) name) (and_from (q.holder == 0) (same_name q.name name) holds is))
+    (number, cond-true (q.holder == 0 && same_name q.name name) (Some number) (instance_named tree (number + 1) name) (and_from (q.holder == 0) (same_name q.name name) holds is))
 named_some (q ∷ tree) number name (suc k) p e around named = go (q.holder == 0 && same_name q.name name) (named_some tree (number + 1) name k p e around named) where
   go : (here : Bool) → ((j : ℕ) × (instance_named tree (number + 1) name ≡ Some j)) → (j : ℕ) × ((if here then Some number else instance_named tree (number + 1) name) ≡ Some j)
   go true later = (number, refl)
@@ -64,7 +68,7 @@ named_found (q ∷ tree) number name j e = go (q.holder == 0 && same_name q.name
 
 -- the last module named `main`
 last-push : (ms : List PlainModule) (m : PlainModule) (name : List ℕ) → same_name m.name name ≡ true → last_named (ms ++ m ∷ []) name ≡ Some m
-last-push [] m name e = if-true (same_name m.name name) (Some m) None e
+last-push [] m name e = cond-true (same_name m.name name) (Some m) None e
 last-push (x ∷ ms) m name e = ap (λ o. option_map_or Some o (if same_name x.name name then Some x else None)) (last-push ms m name e)
 
 kind_found : (xs : List PlainInstance) (name kind : List ℕ) → instance_kind xs name ≡ Some kind → (s : ℕ) × (x : PlainInstance) × (slice_get xs s ≡ Some x) × (x.name ≡ name) × (x.kind ≡ kind)
@@ -72,8 +76,8 @@ kind_found [] name kind e = absurd (cc)
 kind_found (x ∷ xs) name kind e = go (same_name x.name name) refl (kind_found xs name kind) where
   go : (same : Bool) → same_name x.name name ≡ same → (instance_kind xs name ≡ Some kind → (s : ℕ) × (y : PlainInstance) × (slice_get xs s ≡ Some y) × (y.name ≡ name) × (y.kind ≡ kind))
       → (s : ℕ) × (y : PlainInstance) × (slice_get (x ∷ xs) s ≡ Some y) × (y.name ≡ name) × (y.kind ≡ kind)
-  go true is later = let same : Some x.kind ≡ Some kind = sym (if-true (same_name x.name name) (Some x.kind) (instance_kind xs name) is) ∙ e in (zero, x, refl, same_is x.name name is, cc)
-  go false is later = let (s, y, at, named, kinds) = later (sym (if-false (same_name x.name name) (Some x.kind) (instance_kind xs name) is) ∙ e) in (suc s, y, at, named, kinds)
+  go true is later = let same : Some x.kind ≡ Some kind = sym (cond-true (same_name x.name name) (Some x.kind) (instance_kind xs name) is) ∙ e in (zero, x, refl, same_is x.name name is, cc)
+  go false is later = let (s, y, at, named, kinds) = later (sym (cond-false (same_name x.name name) (Some x.kind) (instance_kind xs name) is) ∙ e) in (suc s, y, at, named, kinds)
 
 bind_some : {A B : Type 0} (f : A → Option B) (o : Option A) (y : B) → option_and_then f o ≡ Some y → (x : A) × (o ≡ Some x) × (f x ≡ Some y)
 bind_some f None y e = absurd (cc)
@@ -112,7 +116,7 @@ only_array (ArrayOf x v k ∷ ds) w n e =
     let words : k ≡ n = ap (λ (p : ℕ × ℕ). p.1) pair in
     record {
       only = ap (λ l. x ∷ l) (none_declared ds rest);
-      size = if-true (same_name x x) k (array_size ds x) (same_self x) ∙ words;
+      size = cond-true (same_name x x) k (array_size ds x) (same_self x) ∙ words;
       k = zero;
       there = ap (λ a. Some (ArrayOf x a k)) width ∙ ap (λ a. Some (ArrayOf x w a)) words;
     }
@@ -202,7 +206,7 @@ memory_there source sound k e at =
     let is_part = part_in source sound 0 (placed main_instance 0 r.m) r.first n.k n.p n.at (λ first. no_main n.k n.p n.at first n.named) n.around in
     let fresh = instances_fresh _ _ _ _ r.m.instances r.kept.instances in
     let names : AreApart (map (λ z. z.name) r.m.instances) = fresh_apart _ (map (λ z. z.name) r.m.instances) fresh in
-    let same_s : is_part.s ≡ s = names is_part.s s e.instance (slice_name r.m.instances is_part.s is_part.x is_part.there ∙ ap Some (sym is_part.name ∙ n.named)) (slice_name r.m.instances s y there ∙ ap Some named) in
+    let same_s : is_part.s ≡ s = names is_part.s s e.instance (name_at (λ (z : PlainInstance). z.name) r.m.instances is_part.s is_part.x is_part.there ∙ ap Some (sym is_part.name ∙ n.named)) (name_at (λ (z : PlainInstance). z.name) r.m.instances s y there ∙ ap Some named) in
     let same_k : n.k ≡ number = is_part.number ∙ ap (number_of (tree_from (reverse source.modules)) 0 (0 + 1) r.m.instances) same_s in
     let same_p : n.p ≡ placed y 0 part = some_same (slice_get (instances_of source) number) n.p (placed y 0 part) (subst (λ i. slice_get (instances_of source) i ≡ Some n.p) same_k n.at) stands_there in
     let n-is = n.is in
@@ -225,20 +229,11 @@ memory_there source sound k e at =
       wide = ap width_of (decl-means source sound j only.k (ArrayOf (first_array (decls_at (instances_of source) j)) e.width (word_count e.sizes)) only.there);
     }
   where
-    slice_name : (xs : List PlainInstance) (i : ℕ) (z : PlainInstance) → slice_get xs i ≡ Some z → slice_get (map (λ q. q.name) xs) i ≡ Some z.name
-    slice_name [] i z h = absurd (cc)
-    slice_name (q ∷ xs) zero z h = let same : q ≡ z = cc in ap (λ (w : PlainInstance). Some w.name) same
-    slice_name (q ∷ xs) (suc i) z h = slice_name xs i z h
     no_main : (i : ℕ) (p : Placed) → slice_get (instances_of source) i ≡ Some p → i ≡ 0 → p.name ≡ e.instance → ⊥
     no_main i p here first named =
         let r = main_at source sound in
         let same : p ≡ placed main_instance 0 r.m = some_same (slice_get (instances_of source) 0) p (placed main_instance 0 r.m) (subst (λ l. slice_get (instances_of source) l ≡ Some p) first here) r.first in
         named_instance source sound k e at (sym (ap (λ (q : Placed). q.name) same) ∙ named)
-
-instance_at : (es : List PlainExternal) (k : ℕ) (e : PlainExternal) → slice_get es k ≡ Some e → slice_get (map (λ x. x.instance) es) k ≡ Some e.instance
-instance_at [] k e h = absurd (cc)
-instance_at (x ∷ es) zero e h = let same : x ≡ e = cc in ap (λ (y : PlainExternal). Some y.instance) same
-instance_at (x ∷ es) (suc k) e h = instance_at es k e h
 
 -- one instance is of one external memory
 pub same_place : (source : PlainSource) → is_sound source ≡ true → (j k i : ℕ) (d e : PlainExternal) → slice_get source.externals j ≡ Some d → slice_get source.externals k ≡ Some e
@@ -251,4 +246,4 @@ same_place source sound j k i d e at at' found found' =
     let place : m.k ≡ n.k = omega arith in
     let part : m.p ≡ n.p = some_same (slice_get (instances_of source) n.k) m.p n.p (subst (λ l. slice_get (instances_of source) l ≡ Some m.p) place m.at) n.at in
     let name : d.instance ≡ e.instance = sym m.named ∙ ap (λ (p : Placed). p.name) part ∙ n.named in
-    (externals_apart source sound).1 j k e.instance (instance_at source.externals j d at ∙ ap Some name) (instance_at source.externals k e at')
+    (externals_apart source sound).1 j k e.instance (name_at (λ (x : PlainExternal). x.instance) source.externals j d at ∙ ap Some name) (name_at (λ (x : PlainExternal). x.instance) source.externals k e at')

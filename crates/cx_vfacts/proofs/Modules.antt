@@ -1,6 +1,6 @@
 -- Each module of a sound source keeps every rule, with those that ended before it.
 use Rattle.std.proofs.Common.{◌≡◌, ℕ, ◌==◌, List, [], ◌∷◌, ◌++◌, Bool, true, false, map, length, reverse, Some, None, is_none, refl, ap, sym, ◌∙◌, subst, append_assoc, if◌then◌else◌, arith}
-use Rattle.std.proofs.lemmas.Bool.{or_parts, and_parts, ne_eqb}
+use Rattle.std.proofs.lemmas.Bool.{or_parts, and_parts, ne_eqb, cond-true, cond-false}
 use Rattle.std.proofs.lemmas.List.{reverse-append}
 use Rattle.cx_vtree.specs.Plain.{PlainModule, PlainSource}
 use Rattle.cx_vtree.specs.InstanceTree.{same_name}
@@ -8,7 +8,7 @@ use Rattle.cx_vtree.specs.Layout.{is_laid_out}
 use Rattle.cx_vtree.specs.Sound.{Faults, no_faults, Counts, has_name, decl_name, drivers_in, module_named, meant_in, module_faults, ports_faults, decls_faults, assigns_faults, instances_faults, edge_faults, module_counts, lines_faults, modules_faults, externals_faults, faults_of, break_of, is_sound}
 use Rattle.cx_vfacts.proofs.Cleans.{Clean, clean_left, clean_right, clean_from_none}
 use Rattle.cx_vfacts.proofs.Fresh.{same_is}
-use Rattle.cx_vfacts.proofs.Scopes.{port_names, if-true, if-false}
+use Rattle.cx_vfacts.proofs.Scopes.{port_names}
 
 -- a module breaks no rule
 pub record Keeps (is_main : Bool) (before : List PlainModule) (own : Counts) (m : PlainModule) : Type 0 where
@@ -99,14 +99,14 @@ sound_keeps source sound = go source.modules (sound-faults source sound).1 where
 
 -- Names of modules are apart, so the first one of a name is the last one.
 named-push : (ms : List PlainModule) (m : PlainModule) (kind : List ℕ) → same_name m.name kind ≡ false → module_named (ms ++ m ∷ []) kind ≡ module_named ms kind
-named-push [] m kind differs = if-false (same_name m.name kind) (Some m) None differs
+named-push [] m kind differs = cond-false (same_name m.name kind) (Some m) None differs
 named-push (x ∷ ms) m kind differs = ap (λ o. if same_name x.name kind then Some x else o) (named-push ms m kind differs)
 
 named-new : (ms : List PlainModule) (m : PlainModule) (kind : List ℕ) → same_name m.name kind ≡ true → has_name (map (λ x. x.name) ms) kind ≡ false → module_named (ms ++ m ∷ []) kind ≡ Some m
-named-new [] m kind same other = if-true (same_name m.name kind) (Some m) None same
+named-new [] m kind same other = cond-true (same_name m.name kind) (Some m) None same
 named-new (x ∷ ms) m kind same other =
     let ends = or_parts (same_name x.name kind) (has_name (map (λ y. y.name) ms) kind) other in
-    if-false (same_name x.name kind) (Some x) (module_named (ms ++ m ∷ []) kind) ends.0 ∙ named-new ms m kind same ends.1
+    cond-false (same_name x.name kind) (Some x) (module_named (ms ++ m ∷ []) kind) ends.0 ∙ named-new ms m kind same ends.1
 
 -- a module has another name than those before it
 pub new_name : (is_main : Bool) (before : List PlainModule) (own : Counts) (m : PlainModule) → Keeps is_main before own m → has_name (map (λ x. x.name) before) m.name ≡ false
@@ -121,6 +121,6 @@ named-reversed is_main (m ∷ before) kind k = ap (λ l. module_named l kind) (r
   go true is h =
       named-new (reverse before) m kind is
       (subst (λ n. has_name (map (λ x. x.name) (reverse before)) n ≡ false) (same_is m.name kind is) (new_name is_main (reverse before) _ m k.0))
-      ∙ sym (if-true (same_name m.name kind) (Some m) (module_named before kind) is)
+      ∙ sym (cond-true (same_name m.name kind) (Some m) (module_named before kind) is)
   go false is h =
-      named-push (reverse before) m kind is ∙ h ∙ sym (if-false (same_name m.name kind) (Some m) (module_named before kind) is)
+      named-push (reverse before) m kind is ∙ h ∙ sym (cond-false (same_name m.name kind) (Some m) (module_named before kind) is)

@@ -1,14 +1,14 @@
 -- What gives a net its value.
 use Rattle.std.proofs.Common.{◌≡◌, ◌⊎◌, ℕ, zero, suc, ◌+◌, ◌==◌, List, [], ◌∷◌, ◌++◌, Bool, true, false, ◌||◌, map, Option, Some, None, slice_get, refl, ap, sym, ◌∙◌, subst, inl, inr, if◌then◌else◌, arith}
 use Rattle.std.specs.Option.{option_map_or}
-use Rattle.std.proofs.lemmas.Bool.{or_parts, or_left, or_right, eq-eqb, eqb-true}
+use Rattle.std.proofs.lemmas.Bool.{or_parts, or_left, or_right, eq-eqb, eqb-true, cond-true, cond-false}
 use Rattle.cx_vtree.specs.declared.meanings.Meaning.{Meaning}
 use Rattle.cx_vtree.specs.declared.meanings.Meaning.TheVariants as meant
 use Rattle.cx_vtree.specs.Plain.{PlainExpr, PlainPort, PlainDecl, WireOf, RegisterOf, ArrayOf, PlainAssign}
 use Rattle.cx_vtree.specs.InstanceTree.{same_name, Placed, declared_nets, NetKind, Input, Driven, Stored, declared_kind, kind_in, Origin, Tied, assigned, output_to, driving_output}
 use Rattle.cx_vtree.specs.Sound.{has_name, decl_name, decl_meaning, port_meaning, meant_in, width_of, is_source, is_driven}
-use Rattle.cx_vfacts.proofs.Fresh.{same_is, is_same, has_left, has_right, Fresh}
-use Rattle.cx_vfacts.proofs.Scopes.{port_names, if-true, if-false, other_than, port_at_has, Declared, as_port, as_decl, as_nothing, declared_by}
+use Rattle.cx_vfacts.proofs.Fresh.{has_each, same_is, is_same, has_left, has_right, Fresh}
+use Rattle.cx_vfacts.proofs.Scopes.{port_names, other_than, port_at_has, Declared, as_port, as_decl, as_nothing, declared_by}
 
 -- the search for an output that is connected to a net
 pub driving_some : (tree : List Placed) (number i : ℕ) (net : List ℕ) (k : ℕ) (p : Placed) (port : List ℕ) → slice_get tree k ≡ Some p → p.holder ≡ i → output_to p.part.ports p.conns net ≡ Some port
@@ -59,35 +59,30 @@ assigned_found (x ∷ xs) n e h = go (same_name x.name n) refl (assigned_found x
   go : (same : Bool) → same_name x.name n ≡ same → (assigned xs n ≡ Some e → (k : ℕ) × (a : PlainAssign) × (slice_get xs k ≡ Some a) × (a.name ≡ n) × (a.value ≡ e))
       → (k : ℕ) × (a : PlainAssign) × (slice_get (x ∷ xs) k ≡ Some a) × (a.name ≡ n) × (a.value ≡ e)
   go true is later =
-      let same : Some x.value ≡ Some e = sym (if-true (same_name x.name n) (Some x.value) (assigned xs n) is) ∙ h in (zero, x, refl, same_is x.name n is, cc)
+      let same : Some x.value ≡ Some e = sym (cond-true (same_name x.name n) (Some x.value) (assigned xs n) is) ∙ h in (zero, x, refl, same_is x.name n is, cc)
   go false is later =
-      let (k, a, at, named, value) = later (sym (if-false (same_name x.name n) (Some x.value) (assigned xs n) is) ∙ h) in (suc k, a, at, named, value)
+      let (k, a, at, named, value) = later (sym (cond-false (same_name x.name n) (Some x.value) (assigned xs n) is) ∙ h) in (suc k, a, at, named, value)
 
 pub assigned_none : (xs : List PlainAssign) (n : List ℕ) → assigned xs n ≡ None → has_name (map (λ a. a.name) xs) n ≡ false
 assigned_none [] n h = refl
 assigned_none (x ∷ xs) n h = go (same_name x.name n) refl (assigned_none xs n) where
   go : (same : Bool) → same_name x.name n ≡ same → (assigned xs n ≡ None → has_name (map (λ a. a.name) xs) n ≡ false) → (same_name x.name n || has_name (map (λ a. a.name) xs) n) ≡ false
-  go true is later = absurd (let some = sym (if-true (same_name x.name n) (Some x.value) (assigned xs n) is) ∙ h in cc)
-  go false is later = ap (λ b. b || has_name (map (λ a. a.name) xs) n) is ∙ later (sym (if-false (same_name x.name n) (Some x.value) (assigned xs n) is) ∙ h)
+  go true is later = absurd (let some = sym (cond-true (same_name x.name n) (Some x.value) (assigned xs n) is) ∙ h in cc)
+  go false is later = ap (λ b. b || has_name (map (λ a. a.name) xs) n) is ∙ later (sym (cond-false (same_name x.name n) (Some x.value) (assigned xs n) is) ∙ h)
 
 pub none-assigned : (xs : List PlainAssign) (n : List ℕ) → has_name (map (λ a. a.name) xs) n ≡ false → assigned xs n ≡ None
 none-assigned [] n h = refl
 none-assigned (x ∷ xs) n h =
     let ends = or_parts (same_name x.name n) (has_name (map (λ a. a.name) xs) n) h in
-    if-false (same_name x.name n) (Some x.value) (assigned xs n) ends.0 ∙ none-assigned xs n ends.1
-
-pub assign_at_has : (xs : List PlainAssign) (k : ℕ) (a : PlainAssign) → slice_get xs k ≡ Some a → has_name (map (λ a. a.name) xs) a.name ≡ true
-assign_at_has [] k a e = absurd (cc)
-assign_at_has (x ∷ xs) zero a e = let same : x ≡ a = cc in or_left (same_name x.name a.name) (has_name (map (λ a. a.name) xs) a.name) (is_same x.name a.name (ap (λ (y : PlainAssign). y.name) same))
-assign_at_has (x ∷ xs) (suc k) a e = or_right (same_name x.name a.name) (has_name (map (λ a. a.name) xs) a.name) (assign_at_has xs k a e)
+    cond-false (same_name x.name n) (Some x.value) (assigned xs n) ends.0 ∙ none-assigned xs n ends.1
 
 pub assigned-at : (earlier : List (List ℕ)) (xs : List PlainAssign) → Fresh earlier (map (λ a. a.name) xs) → (k : ℕ) (a : PlainAssign) → slice_get xs k ≡ Some a → assigned xs a.name ≡ Some a.value
 assigned-at earlier [] f k a e = absurd (cc)
 assigned-at earlier (x ∷ xs) f zero a e =
     let same : x ≡ a = cc in
-    if-true (same_name x.name a.name) (Some x.value) (assigned xs a.name) (is_same x.name a.name (ap (λ (y : PlainAssign). y.name) same)) ∙ ap (λ (y : PlainAssign). Some y.value) same
+    cond-true (same_name x.name a.name) (Some x.value) (assigned xs a.name) (is_same x.name a.name (ap (λ (y : PlainAssign). y.name) same)) ∙ ap (λ (y : PlainAssign). Some y.value) same
 assigned-at earlier (x ∷ xs) f (suc k) a e =
-    if-false (same_name x.name a.name) (Some x.value) (assigned xs a.name) (other_than earlier (map (λ a. a.name) xs) x.name a.name f.1 (assign_at_has xs k a e)) ∙ assigned-at (earlier ++ x.name ∷ []) xs f.1 k a e
+    cond-false (same_name x.name a.name) (Some x.value) (assigned xs a.name) (other_than earlier (map (λ a. a.name) xs) x.name a.name f.1 (has_each (λ (y : PlainAssign). y.name) xs k a e)) ∙ assigned-at (earlier ++ x.name ∷ []) xs f.1 k a e
 
 -- a net has a kind
 abbrev HasKind : Option NetKind → Type 0

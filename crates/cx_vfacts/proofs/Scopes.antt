@@ -1,33 +1,18 @@
 -- What the names of a module stand for, where none is declared twice.
 use Rattle.std.proofs.Common.{◌≡◌, ◌⊎◌, ℕ, zero, suc, List, [], ◌∷◌, ◌++◌, Bool, true, false, ◌&&◌, ◌||◌, map, Option, Some, None, slice_get, refl, ap, ◌∙◌, subst, inl, inr, if◌then◌else◌}
-use Rattle.std.proofs.lemmas.Bool.{or_parts, or_left, or_right, both_ways, false_from_ne_true}
+use Rattle.std.proofs.lemmas.Bool.{or_parts, both_ways, false_from_ne_true, cond-true, cond-false}
 use Rattle.cx_vtree.specs.declared.meanings.Meaning.{Meaning}
 use Rattle.cx_vtree.specs.declared.meanings.Meaning.TheVariants as meant
 use Rattle.cx_vtree.specs.Plain.{PlainPort, PlainDecl, WireOf, RegisterOf, ArrayOf}
 use Rattle.cx_vtree.specs.InstanceTree.{same_name, NetKind, Input, Driven, Stored, declared_kind, kind_in, is_output}
 use Rattle.cx_vtree.specs.Sound.{has_name, has_output, decl_name, decl_meaning, port_meaning, meant_decl, meant_in}
-use Rattle.cx_vfacts.proofs.Fresh.{same_is, is_same, Fresh, fresh_not, fresh_head}
+use Rattle.cx_vfacts.proofs.Fresh.{has_each, same_is, is_same, Fresh, fresh_not, fresh_head}
 
 abbrev pub port_names : List PlainPort → List (List ℕ)
 port_names ps = map (λ p. p.name) ps
 
-pub if-true : {A : Type 0} (t : Bool) (a b : A) → t ≡ true → (if t then a else b) ≡ a
-if-true true a b e = refl
-if-true false a b e = absurd (cc)
-
-pub if-false : {A : Type 0} (t : Bool) (a b : A) → t ≡ false → (if t then a else b) ≡ b
-if-false true a b e = absurd (cc)
-if-false false a b e = refl
-
 pub port_at_has : (ps : List PlainPort) (k : ℕ) (p : PlainPort) → slice_get ps k ≡ Some p → has_name (port_names ps) p.name ≡ true
-port_at_has [] k p e = absurd (cc)
-port_at_has (x ∷ ps) zero p e = let same : x ≡ p = cc in or_left (same_name x.name p.name) (has_name (port_names ps) p.name) (is_same x.name p.name (ap (λ q. q.name) same))
-port_at_has (x ∷ ps) (suc k) p e = or_right (same_name x.name p.name) (has_name (port_names ps) p.name) (port_at_has ps k p e)
-
-pub decl_at_has : (ds : List PlainDecl) (k : ℕ) (d : PlainDecl) → slice_get ds k ≡ Some d → has_name (map decl_name ds) (decl_name d) ≡ true
-decl_at_has [] k d e = absurd (cc)
-decl_at_has (x ∷ ds) zero d e = let same : x ≡ d = cc in or_left (same_name (decl_name x) (decl_name d)) (has_name (map decl_name ds) (decl_name d)) (is_same (decl_name x) (decl_name d) (ap decl_name same))
-decl_at_has (x ∷ ds) (suc k) d e = or_right (same_name (decl_name x) (decl_name d)) (has_name (map decl_name ds) (decl_name d)) (decl_at_has ds k d e)
+port_at_has ps k p e = has_each (λ q. q.name) ps k p e
 
 -- a name that is among those that follow is not the first
 pub other_than : (earlier ns : List (List ℕ)) (x n : List ℕ) → Fresh (earlier ++ x ∷ []) ns → has_name ns n ≡ true → same_name x n ≡ false
@@ -39,24 +24,24 @@ pub meant-past : (ps : List PlainPort) (ds : List PlainDecl) (n : List ℕ) → 
 meant-past [] ds n e = refl
 meant-past (p ∷ ps) ds n e =
     let parts = or_parts (same_name p.name n) (has_name (port_names ps) n) e in
-    if-false (same_name p.name n) (port_meaning p) (meant_in ps ds n) parts.0 ∙ meant-past ps ds n parts.1
+    cond-false (same_name p.name n) (port_meaning p) (meant_in ps ds n) parts.0 ∙ meant-past ps ds n parts.1
 
 pub meant-port : (earlier : List (List ℕ)) (ps : List PlainPort) (ds : List PlainDecl) (k : ℕ) (p : PlainPort) → Fresh earlier (port_names ps) → slice_get ps k ≡ Some p → meant_in ps ds p.name ≡ port_meaning p
 meant-port earlier [] ds k p f e = absurd (cc)
 meant-port earlier (x ∷ ps) ds zero p f e =
     let same : x ≡ p = cc in
-    if-true (same_name x.name p.name) (port_meaning x) (meant_in ps ds p.name) (is_same x.name p.name (ap (λ q. q.name) same)) ∙ ap port_meaning same
+    cond-true (same_name x.name p.name) (port_meaning x) (meant_in ps ds p.name) (is_same x.name p.name (ap (λ q. q.name) same)) ∙ ap port_meaning same
 meant-port earlier (x ∷ ps) ds (suc k) p f e =
-    if-false (same_name x.name p.name) (port_meaning x) (meant_in ps ds p.name) (other_than earlier (port_names ps) x.name p.name f.1 (port_at_has ps k p e))
+    cond-false (same_name x.name p.name) (port_meaning x) (meant_in ps ds p.name) (other_than earlier (port_names ps) x.name p.name f.1 (port_at_has ps k p e))
     ∙ meant-port (earlier ++ x.name ∷ []) ps ds k p f.1 e
 
 decl-meant : (earlier : List (List ℕ)) (ds : List PlainDecl) (k : ℕ) (d : PlainDecl) → Fresh earlier (map decl_name ds) → slice_get ds k ≡ Some d → meant_decl ds (decl_name d) ≡ decl_meaning d
 decl-meant earlier [] k d f e = absurd (cc)
 decl-meant earlier (x ∷ ds) zero d f e =
     let same : x ≡ d = cc in
-    if-true (same_name (decl_name x) (decl_name d)) (decl_meaning x) (meant_decl ds (decl_name d)) (is_same (decl_name x) (decl_name d) (ap decl_name same)) ∙ ap decl_meaning same
+    cond-true (same_name (decl_name x) (decl_name d)) (decl_meaning x) (meant_decl ds (decl_name d)) (is_same (decl_name x) (decl_name d) (ap decl_name same)) ∙ ap decl_meaning same
 decl-meant earlier (x ∷ ds) (suc k) d f e =
-    if-false (same_name (decl_name x) (decl_name d)) (decl_meaning x) (meant_decl ds (decl_name d)) (other_than earlier (map decl_name ds) (decl_name x) (decl_name d) f.1 (decl_at_has ds k d e))
+    cond-false (same_name (decl_name x) (decl_name d)) (decl_meaning x) (meant_decl ds (decl_name d)) (other_than earlier (map decl_name ds) (decl_name x) (decl_name d) f.1 (has_each decl_name ds k d e))
     ∙ decl-meant (earlier ++ decl_name x ∷ []) ds k d f.1 e
 
 -- a declared name is no port's
@@ -65,7 +50,7 @@ no_port ps ds n f e = false_from_ne_true (has_name (port_names ps) n) (λ h. bot
 
 pub meant-decl : (ps : List PlainPort) (ds : List PlainDecl) (k : ℕ) (d : PlainDecl) → Fresh (port_names ps) (map decl_name ds) → slice_get ds k ≡ Some d → meant_in ps ds (decl_name d) ≡ decl_meaning d
 meant-decl ps ds k d f e =
-    meant-past ps ds (decl_name d) (no_port ps ds (decl_name d) f (decl_at_has ds k d e)) ∙ decl-meant (port_names ps) ds k d f e
+    meant-past ps ds (decl_name d) (no_port ps ds (decl_name d) f (has_each decl_name ds k d e)) ∙ decl-meant (port_names ps) ds k d f e
 
 -- where a name stands for something, a port or a declaration has it
 pub data Declared (ps : List PlainPort) (ds : List PlainDecl) (n : List ℕ) : Type 0 where
@@ -79,9 +64,9 @@ find-decl (x ∷ ds) n = go (same_name (decl_name x) n) refl (find-decl ds n) wh
   go : (same : Bool) → same_name (decl_name x) n ≡ same
       → ((k : ℕ) × (d : PlainDecl) × (slice_get ds k ≡ Some d) × (decl_name d ≡ n) × (meant_decl ds n ≡ decl_meaning d)) ⊎ (meant_decl ds n ≡ meant.Nothing)
       → ((k : ℕ) × (d : PlainDecl) × (slice_get (x ∷ ds) k ≡ Some d) × (decl_name d ≡ n) × (meant_decl (x ∷ ds) n ≡ decl_meaning d)) ⊎ (meant_decl (x ∷ ds) n ≡ meant.Nothing)
-  go true is later = inl (zero, x, refl, same_is (decl_name x) n is, if-true (same_name (decl_name x) n) (decl_meaning x) (meant_decl ds n) is)
-  go false is (inl (k, d, at, named, means)) = inl (suc k, d, at, named, if-false (same_name (decl_name x) n) (decl_meaning x) (meant_decl ds n) is ∙ means)
-  go false is (inr means) = inr (if-false (same_name (decl_name x) n) (decl_meaning x) (meant_decl ds n) is ∙ means)
+  go true is later = inl (zero, x, refl, same_is (decl_name x) n is, cond-true (same_name (decl_name x) n) (decl_meaning x) (meant_decl ds n) is)
+  go false is (inl (k, d, at, named, means)) = inl (suc k, d, at, named, cond-false (same_name (decl_name x) n) (decl_meaning x) (meant_decl ds n) is ∙ means)
+  go false is (inr means) = inr (cond-false (same_name (decl_name x) n) (decl_meaning x) (meant_decl ds n) is ∙ means)
 
 pub declared_by : (ps : List PlainPort) (ds : List PlainDecl) (n : List ℕ) → Declared ps ds n
 declared_by [] ds n = go (find-decl ds n) where
@@ -90,10 +75,10 @@ declared_by [] ds n = go (find-decl ds n) where
   go (inr means) = as_nothing means
 declared_by (x ∷ ps) ds n = go (same_name x.name n) refl (declared_by ps ds n) where
   go : (same : Bool) → same_name x.name n ≡ same → Declared ps ds n → Declared (x ∷ ps) ds n
-  go true is later = as_port zero x refl (same_is x.name n is) (if-true (same_name x.name n) (port_meaning x) (meant_in ps ds n) is)
-  go false is (as_port k p at named means) = as_port (suc k) p at named (if-false (same_name x.name n) (port_meaning x) (meant_in ps ds n) is ∙ means)
-  go false is (as_decl k d at named means) = as_decl k d at named (if-false (same_name x.name n) (port_meaning x) (meant_in ps ds n) is ∙ means)
-  go false is (as_nothing means) = as_nothing (if-false (same_name x.name n) (port_meaning x) (meant_in ps ds n) is ∙ means)
+  go true is later = as_port zero x refl (same_is x.name n is) (cond-true (same_name x.name n) (port_meaning x) (meant_in ps ds n) is)
+  go false is (as_port k p at named means) = as_port (suc k) p at named (cond-false (same_name x.name n) (port_meaning x) (meant_in ps ds n) is ∙ means)
+  go false is (as_decl k d at named means) = as_decl k d at named (cond-false (same_name x.name n) (port_meaning x) (meant_in ps ds n) is ∙ means)
+  go false is (as_nothing means) = as_nothing (cond-false (same_name x.name n) (port_meaning x) (meant_in ps ds n) is ∙ means)
 
 -- the kind of net that a meaning is
 abbrev pub kind_of : Meaning → Option NetKind
@@ -106,8 +91,8 @@ kind_of meant.Nothing = None
 
 kind-none : (ds : List PlainDecl) (n : List ℕ) → has_name (map decl_name ds) n ≡ false → declared_kind ds n ≡ None
 kind-none [] n e = refl
-kind-none (WireOf x w ∷ ds) n e = let parts = or_parts (same_name x n) (has_name (map decl_name ds) n) e in if-false (same_name x n) (Some Driven) (declared_kind ds n) parts.0 ∙ kind-none ds n parts.1
-kind-none (RegisterOf x w ∷ ds) n e = let parts = or_parts (same_name x n) (has_name (map decl_name ds) n) e in if-false (same_name x n) (Some (Stored w)) (declared_kind ds n) parts.0 ∙ kind-none ds n parts.1
+kind-none (WireOf x w ∷ ds) n e = let parts = or_parts (same_name x n) (has_name (map decl_name ds) n) e in cond-false (same_name x n) (Some Driven) (declared_kind ds n) parts.0 ∙ kind-none ds n parts.1
+kind-none (RegisterOf x w ∷ ds) n e = let parts = or_parts (same_name x n) (has_name (map decl_name ds) n) e in cond-false (same_name x n) (Some (Stored w)) (declared_kind ds n) parts.0 ∙ kind-none ds n parts.1
 kind-none (ArrayOf x w k ∷ ds) n e = kind-none ds n (or_parts (same_name x n) (has_name (map decl_name ds) n) e).1
 
 kind-choice : (same : Bool) (a : Option NetKind) (b : Option NetKind) (m l : Meaning) → a ≡ kind_of m → b ≡ kind_of l → (if same then a else b) ≡ kind_of (if same then m else l)

@@ -1,7 +1,7 @@
 -- What the ports of an instance are tied to.
 use Rattle.std.proofs.Common.{◌≡◌, ℕ, zero, suc, ◌+◌, ◌==◌, List, [], ◌∷◌, ◌++◌, true, false, map, Option, Some, None, slice_get, option_map, refl, ap, sym, ◌∙◌, subst, arith}
 use Rattle.std.specs.Option.{option_map_or}
-use Rattle.std.proofs.lemmas.Bool.{both_ways, ne_eqb, false_from_ne_true}
+use Rattle.std.proofs.lemmas.Bool.{both_ways, ne_eqb, false_from_ne_true, cond-true, cond-false}
 use Rattle.cx_vtree.specs.declared.meanings.Meaning.{Meaning}
 use Rattle.cx_vtree.specs.declared.meanings.Meaning.TheVariants as meant
 use Rattle.cx_vtree.specs.Plain.{PlainPort, PlainAssign, PlainConn, PlainInstance, PlainModule, PlainSource}
@@ -9,7 +9,7 @@ use Rattle.cx_vtree.specs.InstanceTree.{same_name, Placed, ports_at, instances_o
 use Rattle.cx_vtree.specs.Sound.{Scope, has_name, port_meaning, meant_in, is_driven, is_wire, ports_of, driven_by, driven_by_all, is_sound}
 use Rattle.cx_vfacts.specs.Widths.{scope_at}
 use Rattle.cx_vfacts.proofs.Fresh.{is_same, Fresh, fresh_left, fresh_right, fresh_sides}
-use Rattle.cx_vfacts.proofs.Scopes.{port_names, if-true, if-false, other_than, port_at_has, meant-port, kind_of}
+use Rattle.cx_vfacts.proofs.Scopes.{port_names, other_than, port_at_has, meant-port, kind_of}
 use Rattle.cx_vfacts.proofs.Forest.{instance_keeps}
 use Rattle.cx_vfacts.proofs.Parts.{assigns_fresh, assign_keeps}
 use Rattle.cx_vfacts.proofs.Conns.{net-of_port, output-to, among_drivers}
@@ -37,9 +37,9 @@ output-at : (earlier : List (List ℕ)) (ps : List PlainPort) → Fresh earlier 
 output-at earlier [] f k p e = absurd (cc)
 output-at earlier (x ∷ ps) f zero p e =
     let same : x ≡ p = cc in
-    if-true (same_name x.name p.name) x.output (is_output ps p.name) (is_same x.name p.name (ap (λ (q : PlainPort). q.name) same)) ∙ ap (λ (q : PlainPort). q.output) same
+    cond-true (same_name x.name p.name) x.output (is_output ps p.name) (is_same x.name p.name (ap (λ (q : PlainPort). q.name) same)) ∙ ap (λ (q : PlainPort). q.output) same
 output-at earlier (x ∷ ps) f (suc k) p e =
-    if-false (same_name x.name p.name) x.output (is_output ps p.name) (other_than earlier (port_names ps) x.name p.name f.1 (port_at_has ps k p e)) ∙ output-at (earlier ++ x.name ∷ []) ps f.1 k p e
+    cond-false (same_name x.name p.name) x.output (is_output ps p.name) (other_than earlier (port_names ps) x.name p.name f.1 (port_at_has ps k p e)) ∙ output-at (earlier ++ x.name ∷ []) ps f.1 k p e
 
 -- the nets that one part drives
 fresh-part : (earlier : List (List ℕ)) (modules : List PlainModule) (xs : List PlainInstance) → Fresh earlier (driven_by_all modules xs) → (s : ℕ) (x : PlainInstance) → slice_get xs s ≡ Some x
@@ -61,12 +61,12 @@ module _ (source : PlainSource) (sound : is_sound source ≡ true) (i : ℕ) (p 
       let (q, at, is_part) = part_of source sound i p here other in
       let (c, is_at, connects, found) = net-of_port (meant_in q.part.ports q.part.decls) [] p.part.ports p.conns (part-aligned source sound p.holder q at i p is_part) (ports_fresh_here source sound i p here) k port there in
       let means : meant_in p.part.ports p.part.decls port.name ≡ port_meaning port = meant-port [] p.part.ports p.part.decls k port (ports_fresh_here source sound i p here) there in
-      let is_input : port_meaning port ≡ meant.Input port.width = if-false port.output (meant.Output port.width) (meant.Input port.width) input in
+      let is_input : port_meaning port ≡ meant.Input port.width = cond-false port.output (meant.Output port.width) (meant.Input port.width) input in
       let by_kind = origin-at tree i p port.name Input here (kind-here source sound i p here port.name ∙ ap kind_of (means ∙ is_input)) in (
         c,
         is_at,
         sym connects.port,
-        by_kind ∙ if-false (i == 0) (Some Outside) (option_map (Tied p.holder) (net_of p.conns port.name)) (ne_eqb i 0 other) ∙ ap (option_map (Tied p.holder)) found,
+        by_kind ∙ cond-false (i == 0) (Some Outside) (option_map (Tied p.holder) (net_of p.conns port.name)) (ne_eqb i 0 other) ∙ ap (option_map (Tied p.holder)) found,
       )
 
   -- the nets that the outputs of an instance are connected to
@@ -143,5 +143,5 @@ input_outside source sound k port there input = go (slice_get (instances_of sour
   go None e h = absurd (cc)
   go (Some p) e h =
       let means : meant_in p.part.ports p.part.decls port.name ≡ port_meaning port = meant-port [] p.part.ports p.part.decls k port (ports_fresh_here source sound 0 p e) h in
-      let is_input : port_meaning port ≡ meant.Input port.width = if-false port.output (meant.Output port.width) (meant.Input port.width) input in
+      let is_input : port_meaning port ≡ meant.Input port.width = cond-false port.output (meant.Output port.width) (meant.Input port.width) input in
       origin-at (instances_of source) 0 p port.name Input e (kind-here source sound 0 p e port.name ∙ ap kind_of (means ∙ is_input))
