@@ -96,8 +96,10 @@ output_there ports [] net f e = absurd (cc)
 output_there ports (c ∷ cs) net f e = go (is_output ports c.port) (same_name c.net net) refl refl (output_there ports cs net f) where
   driven : driven_by ports (c ∷ cs) ≡ (if is_output ports c.port then c.net ∷ driven_by ports cs else driven_by ports cs)
   driven = ap (λ b. if b then c.net ∷ driven_by ports cs else driven_by ports cs) (has-output [] ports c.port f)
+
   there : has_name (if is_output ports c.port then c.net ∷ driven_by ports cs else driven_by ports cs) net ≡ true
   there = subst (λ l. has_name l net ≡ true) driven e
+
   go : (out same : Bool) → is_output ports c.port ≡ out → same_name c.net net ≡ same → (has_name (driven_by ports cs) net ≡ true → (port : List ℕ) × (output_to ports cs net ≡ Some port))
       → (port : List ℕ) × (output_to ports (c ∷ cs) net ≡ Some port)
   go true true out same later = (c.port, cond-true (same_name c.net net && is_output ports c.port) (Some c.port) (output_to ports cs net) (and_from (same_name c.net net) (is_output ports c.port) same out))

@@ -8,7 +8,6 @@ use Rattle.cx_vtree.specs.InstanceTree.{same_name, Placed, declared_nets, below,
 use Rattle.cx_vtree.specs.Sound.{Faults, Counts, sum_counts, no_counts, decl_counts, decls_counts, counts_named, instances_counts, module_counts, has_name, module_named, is_sound}
 use Rattle.cx_vfacts.specs.Counts.{declared_words, nets_count, words_count}
 use Rattle.cx_vfacts.proofs.Fresh.{same_is}
-
 use Rattle.cx_vfacts.proofs.Modules.{AllKeep, seen_counts, new_name, named-reversed, reverse-cons}
 use Rattle.cx_vfacts.proofs.Trees.{placed}
 use Rattle.cx_vfacts.proofs.Forest.{parts_known, by_first}
@@ -171,8 +170,7 @@ counts_bounded source sound = go (main_at source sound) where
       let caps : CapsOf own (instances_of source) = subst (CapsOf own) (sym unfolded) (caps_module true r.m r.before all (all_counted false r.before r.earlier) main_instance 0 0) in
       let few = none_of_three (nat_lt 4194304 own.nets) (nat_lt 131072 own.instances) (nat_lt 4194304 own.words) (ap (λ (f : Faults). f.limit) r.kept.head) in
       let nets_room : 4194304 < cap = omega arith in
-      let instances_room : 131072 < cap = omega arith in
-      (
+      let instances_room : 131072 < cap = omega arith in (
         at_most own.nets (nets_count (instances_of source)) cap 4194304 caps.nets_are (ltb-false 4194304 own.nets few.0) nets_room,
         at_most own.instances (length (instances_of source)) cap 131072 caps.instances_are (ltb-false 131072 own.instances few.1) instances_room,
         at_most own.words (words_count (instances_of source)) cap 4194304 caps.words_are (ltb-false 4194304 own.words few.2) nets_room,

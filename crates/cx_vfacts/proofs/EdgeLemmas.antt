@@ -118,16 +118,22 @@ edge_keeps scope None reset c = record { sets_are = λ k a e. absurd (cc); sets_
 edge_keeps scope (Some edge) reset c = go (reset == 1) where
   sets : List Faults
   sets = sets_faults scope [] edge.reset
+
   items : List Faults
   items = items_faults scope [] edge.step
+
   both : Clean (no_faults ∷ no_faults ∷ sets ++ no_faults ∷ items)
   both = clean_left (no_faults ∷ no_faults ∷ sets ++ no_faults ∷ items) (no_faults ∷ no_faults ∷ []) c
+
   sets_clean : Clean sets
   sets_clean = (clean_left (no_faults ∷ no_faults ∷ sets) (no_faults ∷ items) both).1.1
+
   items_clean : Clean items
   items_clean = (clean_right (no_faults ∷ no_faults ∷ sets) (no_faults ∷ items) both).1
+
   fresh : Fresh [] (map item_name edge.step)
   fresh = items_fresh scope [] edge.step items_clean
+
   go : (is_reset : Bool) → BranchKeeps scope (if is_reset then edge.reset else sets_in edge.step) (if is_reset then [] else stores_in edge.step)
   go true = record {
     sets_are = sets_keep scope [] edge.reset sets_clean;

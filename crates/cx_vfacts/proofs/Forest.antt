@@ -7,7 +7,6 @@ use Rattle.cx_vtree.specs.InstanceTree.{same_name, Placed, below, tree_from, mai
 use Rattle.cx_vtree.specs.Sound.{Faults, no_faults, Counts, Scope, has_name, meant_in, ports_of, driven_by, module_named, misconnects, misfits, doubles, instance_faults, instances_faults, module_counts, is_sound}
 use Rattle.cx_vfacts.proofs.Cleans.{Clean}
 use Rattle.cx_vfacts.proofs.Fresh.{same_is}
-
 use Rattle.cx_vfacts.proofs.Modules.{Keeps, KeepsAfter, AllKeep, seen_counts, sound_keeps, new_name, named-reversed}
 use Rattle.cx_vfacts.proofs.Trees.{placed, Stands, every_stands, part_stands, number_of}
 
@@ -22,14 +21,17 @@ wired : (before : List PlainModule) (scope : Scope) (earlier driven : List (List
 wired before scope earlier driven x e = go (module_named before x.kind) refl names.1 names.2 widths where
   name_is : (has_name earlier x.name || is_none (module_named before x.kind) || misconnects scope (ports_of before x.kind) x.conns || doubles driven (driven_by (ports_of before x.kind) x.conns)) ≡ false
   name_is = ap (λ (f : Faults). f.name) e
+
   names : (has_name earlier x.name ≡ false) × (is_none (module_named before x.kind) ≡ false) × (misconnects scope (ports_of before x.kind) x.conns ≡ false)
   names =
       let outer = or_parts (has_name earlier x.name || is_none (module_named before x.kind) || misconnects scope (ports_of before x.kind) x.conns) (doubles driven (driven_by (ports_of before x.kind) x.conns)) name_is in
       let middle = or_parts (has_name earlier x.name || is_none (module_named before x.kind)) (misconnects scope (ports_of before x.kind) x.conns) outer.0 in
       let inner = or_parts (has_name earlier x.name) (is_none (module_named before x.kind)) middle.0 in
       (inner.0, inner.1, middle.1)
+
   widths : misfits scope (ports_of before x.kind) x.conns ≡ false
   widths = ap (λ (f : Faults). f.width) e
+
   go : (o : Option PlainModule) → module_named before x.kind ≡ o → is_none (module_named before x.kind) ≡ false → misconnects scope (ports_of before x.kind) x.conns ≡ false
       → misfits scope (ports_of before x.kind) x.conns ≡ false → IsWired before scope x
   go None is some connects fits = absurd (both_ways (is_none (module_named before x.kind)) some (ap is_none is))

@@ -88,8 +88,10 @@ module _ (source : PlainSource) (sound : is_sound source ≡ true) (i : ℕ) (p 
   input_origin_there n w is = ⊎_elim outside tied (cases_eq i 0) where
     by_kind : origin_of tree i n ≡ (if i == 0 then Some Outside else option_map (Tied p.holder) (net_of p.conns n))
     by_kind = origin-at tree i p n Input here (kind-here n ∙ ap kind_of is)
+
     outside : i ≡ 0 → HasOrigin n
     outside first = (Outside, by_kind ∙ cond-true (i == 0) (Some Outside) (option_map (Tied p.holder) (net_of p.conns n)) (eq-eqb i 0 first), first)
+
     tied : (i ≡ 0 → ⊥) → HasOrigin n
     tied other =
         let (q, at, is_part) = part_of source sound i p here other in
@@ -121,8 +123,7 @@ module _ (source : PlainSource) (sound : is_sound source ≡ true) (i : ℕ) (p 
       let (z, there, connects) = port_of scope q.part.ports q.conns (part-aligned source sound i p here k q is_part) j c is_at in
       let named : z.name ≡ port = connects.port ∙ is_port in
       let a = instance_keeps source sound k q at in
-      let means : meant_in q.part.ports q.part.decls z.name ≡ port_meaning z = meant-port [] q.part.ports q.part.decls j z (fresh_ports a.is_main (reverse a.before) _ q.part a.kept) there in
-      (
+      let means : meant_in q.part.ports q.part.decls z.name ≡ port_meaning z = meant-port [] q.part.ports q.part.decls j z (fresh_ports a.is_main (reverse a.before) _ q.part a.kept) there in (
         net_there tree k q port at (has_left (port_names q.part.ports) (declared_nets q.part.decls) port (subst (λ m. has_name (port_names q.part.ports) m ≡ true) named (port_at_has q.part.ports j z there))),
         width-at tree k q port at ∙ ap (λ m. width_of (meant_in q.part.ports q.part.decls m)) (sym named) ∙ ap width_of means ∙ width-port z ∙ connects.width ∙ ap (λ m. width_of (scope m)) is_net ∙ sym (width-at tree i p n here),
       )
@@ -131,6 +132,7 @@ module _ (source : PlainSource) (sound : is_sound source ≡ true) (i : ℕ) (p 
   driven_origin_there n driven kind = go (assigned p.part.assigns n) refl where
     by_kind : origin_of tree i n ≡ option_map_or (λ e. Some (Given e)) (assigned p.part.assigns n) (driving_output tree 0 i n)
     by_kind = origin-at tree i p n Driven here kind
+
     go : (o : Option PlainExpr) → assigned p.part.assigns n ≡ o → HasOrigin n
     go (Some e) is = (Given e, by_kind ∙ ap (λ o. option_map_or (λ e. Some (Given e)) o (driving_output tree 0 i n)) is, given_there n e is)
     go None is =
@@ -141,8 +143,7 @@ module _ (source : PlainSource) (sound : is_sound source ≡ true) (i : ℕ) (p 
         let (o, drives) = driving_some tree 0 i n k q port at around out in
         let d = driving_found tree 0 i n o drives in
         let there = output_there_too n d.k d.p d.port d.at d.around d.out in
-        let number : 0 + d.k ≡ d.k = omega arith in
-        (
+        let number : 0 + d.k ≡ d.k = omega arith in (
           Tied d.k d.port,
           by_kind ∙ ap (λ o. option_map_or (λ e. Some (Given e)) o (driving_output tree 0 i n)) is ∙ drives ∙ ap Some (d.is ∙ ap (λ j. Tied j d.port) number),
           there,
@@ -152,10 +153,10 @@ module _ (source : PlainSource) (sound : is_sound source ≡ true) (i : ℕ) (p 
   has_origin n (k, at) =
       let there : has_name (port_names p.part.ports ++ declared_nets p.part.decls) n ≡ true = has_at (port_names p.part.ports ++ declared_nets p.part.decls) k n (sym (ap (λ l. slice_get l k) (nets-at tree i p here)) ∙ at) in
       go (scope n) refl (kind-here n) (net_has p.part.ports p.part.decls n there) where
-    go : (m : Meaning) → scope n ≡ m → kind_in p.part.ports p.part.decls n ≡ kind_of (scope n) → ((kind : NetKind) × (kind_in p.part.ports p.part.decls n ≡ Some kind)) → HasOrigin n
-    go (meant.Input w) is kind some = input_origin_there n w is
-    go (meant.Output w) is kind some = driven_origin_there n (ap is_driven is) (kind ∙ ap kind_of is)
-    go (meant.Wire w) is kind some = driven_origin_there n (ap is_driven is) (kind ∙ ap kind_of is)
-    go (meant.Register w) is kind some = (Held w, origin-at tree i p n (Stored w) here (kind ∙ ap kind_of is), sym (width-at tree i p n here ∙ ap width_of is))
-    go (meant.Array w) is kind some = absurd (let h = sym (some.1) ∙ kind ∙ ap kind_of is in cc)
-    go meant.Nothing is kind some = absurd (let h = sym (some.1) ∙ kind ∙ ap kind_of is in cc)
+        go : (m : Meaning) → scope n ≡ m → kind_in p.part.ports p.part.decls n ≡ kind_of (scope n) → ((kind : NetKind) × (kind_in p.part.ports p.part.decls n ≡ Some kind)) → HasOrigin n
+        go (meant.Input w) is kind some = input_origin_there n w is
+        go (meant.Output w) is kind some = driven_origin_there n (ap is_driven is) (kind ∙ ap kind_of is)
+        go (meant.Wire w) is kind some = driven_origin_there n (ap is_driven is) (kind ∙ ap kind_of is)
+        go (meant.Register w) is kind some = (Held w, origin-at tree i p n (Stored w) here (kind ∙ ap kind_of is), sym (width-at tree i p n here ∙ ap width_of is))
+        go (meant.Array w) is kind some = absurd (let h = sym (some.1) ∙ kind ∙ ap kind_of is in cc)
+        go meant.Nothing is kind some = absurd (let h = sym (some.1) ∙ kind ∙ ap kind_of is in cc)

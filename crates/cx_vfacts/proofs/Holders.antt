@@ -41,10 +41,10 @@ module _ (source : PlainSource) (sound : is_sound source ≡ true) where
         → (q : Placed) × (slice_get tree p.holder ≡ Some q) × IsPart p.holder q k p
     go r (inl (first, same, around)) = absurd (other first)
     go r (inr h) = (
-          h.holder,
-          h.at,
-          record { s = h.s; x = r.x; there = h.there; known = r.known; name = ap (λ (y : Placed). y.name) r.is; conns = ap (λ (y : Placed). y.conns) r.is; number = h.number; lower = h.lower },
-        )
+      h.holder,
+      h.at,
+      record { s = h.s; x = r.x; there = h.there; known = r.known; name = ap (λ (y : Placed). y.name) r.is; conns = ap (λ (y : Placed). y.conns) r.is; number = h.number; lower = h.lower },
+    )
 
   -- nothing is connected to `main`
   pub main-conns : (k : ℕ) (p : Placed) → slice_get tree k ≡ Some p → k ≡ 0 → p.conns ≡ []

@@ -77,8 +77,8 @@ pub nets-no_arrays : (ps : List PlainPort) (ds : List PlainDecl) → Fresh (port
 nets-no_arrays ps ds g j k n e f =
     let array : has_name (declared_arrays ds) n ≡ true = has_at (declared_arrays ds) k n f in
     go (has_name (port_names ps) n) refl (sym (has-append (port_names ps) (declared_nets ds) n) ∙ has_at (port_names ps ++ declared_nets ds) j n e) array where
-  go : (port : Bool) → has_name (port_names ps) n ≡ port → (has_name (port_names ps) n || has_name (declared_nets ds) n) ≡ true → has_name (declared_arrays ds) n ≡ true → ⊥
-  go true is either_way array =
-      both_ways (has_name (map decl_name ds) n) (fresh_not (port_names ps) (map decl_name ds) n g is) (declared-array ds n array)
-  go false is either_way array =
-      both_ways (has_name (declared_arrays ds) n) (net-no_array (port_names ps) ds n g (sym (ap (λ b. b || has_name (declared_nets ds) n) is) ∙ either_way)) array
+      go : (port : Bool) → has_name (port_names ps) n ≡ port → (has_name (port_names ps) n || has_name (declared_nets ds) n) ≡ true → has_name (declared_arrays ds) n ≡ true → ⊥
+      go true is either_way array =
+          both_ways (has_name (map decl_name ds) n) (fresh_not (port_names ps) (map decl_name ds) n g is) (declared-array ds n array)
+      go false is either_way array =
+          both_ways (has_name (declared_arrays ds) n) (net-no_array (port_names ps) ds n g (sym (ap (λ b. b || has_name (declared_nets ds) n) is) ∙ either_way)) array

@@ -33,6 +33,7 @@ main_at source sound = go (reverse source.modules) refl (sound_keeps source soun
       let laid = (and_parts (is_laid_out source) (is_none (break_of source)) sound).0 in
       let outer = (and_parts (list_all external_fits source.externals && nat_lt 0 (length source.modules)) (list_all module_fits source.modules) laid).0 in
       (and_parts (list_all external_fits source.externals) (nat_lt 0 (length source.modules)) outer).1
+
   go : (ms : List PlainModule) → reverse source.modules ≡ ms → AllKeep true ms → IsMain source
   go [] e k =
       let nothing : source.modules ≡ [] = sym (reverse-reverse source.modules) ∙ ap reverse e in

@@ -53,11 +53,11 @@ net_wide source sound i n (k, at) =
     let ds : List PlainDecl = decls_at tree i in
     let some = net_has ps ds n (has_at (nets_at tree i) k n at) in
     go (declared_by ps ds n) some.0 (sym (kind-by_meaning (port_names ps) ps ds n (fresh_at source sound i).1) ∙ some.1) where
-  go : Declared (ports_at (instances_of source) i) (decls_at (instances_of source) i) n → (kind : NetKind) → kind_of (scope_at (instances_of source) i n) ≡ Some kind
-      → (0 < width_at (instances_of source) i n) × (width_at (instances_of source) i n ≤ 128)
-  go (as_port j p there named means) kind is = subst (λ w. (0 < w) × (w ≤ 128)) (sym (ap width_of means ∙ width-port p)) (port_wide source sound i j p there)
-  go (as_decl j d there named means) kind is = subst (λ w. (0 < w) × (w ≤ 128)) (sym (ap width_of means)) (decl_wide source sound i j d there)
-  go (as_nothing means) kind is = absurd (let h = sym (ap kind_of means) ∙ is in cc)
+      go : Declared (ports_at (instances_of source) i) (decls_at (instances_of source) i) n → (kind : NetKind) → kind_of (scope_at (instances_of source) i n) ≡ Some kind
+          → (0 < width_at (instances_of source) i n) × (width_at (instances_of source) i n ≤ 128)
+      go (as_port j p there named means) kind is = subst (λ w. (0 < w) × (w ≤ 128)) (sym (ap width_of means ∙ width-port p)) (port_wide source sound i j p there)
+      go (as_decl j d there named means) kind is = subst (λ w. (0 < w) × (w ≤ 128)) (sym (ap width_of means)) (decl_wide source sound i j d there)
+      go (as_nothing means) kind is = absurd (let h = sym (ap kind_of means) ∙ is in cc)
 
 -- what is meant is there
 pub net_meant : (tree : List Placed) (i : ℕ) (n : List ℕ) → is_net (scope_at tree i n) ≡ true → IsNet tree i n

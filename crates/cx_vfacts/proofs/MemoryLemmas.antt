@@ -17,7 +17,6 @@ use Rattle.cx_vfacts.specs.Names.{AreApart, declared_arrays}
 use Rattle.cx_vfacts.specs.Memories.{IsMemory}
 use Rattle.cx_vfacts.proofs.Cleans.{Clean}
 use Rattle.cx_vfacts.proofs.Fresh.{same_is, is_same, same_self, Fresh, fresh_apart}
-
 use Rattle.cx_vfacts.proofs.Modules.{AllKeep, sound-faults, named-reversed, reverse-cons}
 use Rattle.cx_vfacts.proofs.Trees.{placed, number_of}
 use Rattle.cx_vfacts.proofs.Forest.{part_at}
@@ -132,12 +131,16 @@ external_keeps : (modules : List PlainModule) (names instances : List (List ℕ)
 external_keeps modules names instances e clean = go (memory_module modules e) refl memory width where
   name : (has_name names e.name || has_name instances e.instance || not_this_memory (memory_arrays modules e) e) ≡ false
   name = ap (λ (f : Faults). f.name) clean
+
   memory : not_this_memory (memory_arrays modules e) e ≡ false
   memory = (none_of_three (has_name names e.name) (has_name instances e.instance) (not_this_memory (memory_arrays modules e) e) name).2
+
   widths : (nat_lt 64 e.width ≡ false) × (not_this_width (memory_arrays modules e) e ≡ false)
   widths = or_parts (nat_lt 64 e.width) (not_this_width (memory_arrays modules e) e) (ap (λ (f : Faults). f.width) clean)
+
   width : not_this_width (memory_arrays modules e) e ≡ false
   width = widths.1
+
   go : (o : Option PlainModule) → memory_module modules e ≡ o → not_this_memory (memory_arrays modules e) e ≡ false → not_this_width (memory_arrays modules e) e ≡ false → ExternalKeeps modules e
   go None is h w = absurd (let nothing : not_this_memory [] e ≡ false = subst (λ o. not_this_memory (option_map_or (λ m. arrays_in m.decls) o []) e ≡ false) is h in cc)
   go (Some m) is h w = record {

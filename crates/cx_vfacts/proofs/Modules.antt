@@ -27,8 +27,7 @@ parts x y a b c d e f clean =
     let to_c = clean_left (x ∷ a ++ y ∷ b ++ c) d to_d in
     let to_b = clean_left (x ∷ a ++ y ∷ b) c to_c in
     let to_a = clean_left (x ∷ a) (y ∷ b) to_b in
-    let at_b = clean_right (x ∷ a) (y ∷ b) to_b in
-    (
+    let at_b = clean_right (x ∷ a) (y ∷ b) to_b in (
       to_a.0,
       to_a.1,
       at_b.1,
@@ -82,9 +81,10 @@ all_keep m (n ∷ ms) before kept clean =
 pub sound-faults : (source : PlainSource) → is_sound source ≡ true → Clean (externals_faults source.modules [] [] source.externals) × Clean (modules_faults [] [] source.modules)
 sound-faults source sound =
     let none = (and_parts (is_laid_out source) (is_none (break_of source)) sound).1 in
-    let clean : Clean (faults_of source) = clean_from_none (faults_of source) 1 none in
-    (clean_left (externals_faults source.modules [] [] source.externals) (modules_faults [] [] source.modules) clean,
-     clean_right (externals_faults source.modules [] [] source.externals) (modules_faults [] [] source.modules) clean)
+    let clean : Clean (faults_of source) = clean_from_none (faults_of source) 1 none in (
+      clean_left (externals_faults source.modules [] [] source.externals) (modules_faults [] [] source.modules) clean,
+      clean_right (externals_faults source.modules [] [] source.externals) (modules_faults [] [] source.modules) clean,
+    )
 
 -- all modules of a sound source, the last one first
 pub sound_keeps : (source : PlainSource) → is_sound source ≡ true → AllKeep true (reverse source.modules)

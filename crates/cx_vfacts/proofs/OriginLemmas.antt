@@ -20,7 +20,7 @@ driving_some (q ∷ tree) number i net zero p port e around out =
     let found : output_to q.part.ports q.conns net ≡ Some port = ap (λ (y : Placed). output_to y.part.ports y.conns net) same ∙ out in (
       Tied number port,
       ap (λ b. option_map_or (λ x. Some (Tied number x)) (if b then output_to q.part.ports q.conns net else None) (driving_output tree (number + 1) i net)) holds
-      ∙ ap (λ o. option_map_or (λ x. Some (Tied number x)) o (driving_output tree (number + 1) i net)) found,
+          ∙ ap (λ o. option_map_or (λ x. Some (Tied number x)) o (driving_output tree (number + 1) i net)) found,
     )
 driving_some (q ∷ tree) number i net (suc k) p port e around out = go (if q.holder == i then output_to q.part.ports q.conns net else None) (driving_some tree (number + 1) i net k p port e around out) where
   go : (here : Option (List ℕ)) → ((o : Origin) × (driving_output tree (number + 1) i net ≡ Some o)) → (o : Origin) × (option_map_or (λ x. Some (Tied number x)) here (driving_output tree (number + 1) i net) ≡ Some o)
@@ -42,6 +42,7 @@ driving_found (q ∷ tree) number i net o e = go (q.holder == i) (output_to q.pa
   next : IsDriving tree (number + 1) i net o → IsDriving (q ∷ tree) number i net o
   next d = let same : number + 1 + d.k ≡ number + suc d.k = omega arith in
       record { k = suc d.k; p = d.p; port = d.port; at = d.at; around = d.around; out = d.out; is = d.is ∙ ap (λ n. Tied n d.port) same }
+
   go : (holds : Bool) (found : Option (List ℕ)) → (q.holder == i) ≡ holds → output_to q.part.ports q.conns net ≡ found
       → option_map_or (λ x. Some (Tied number x)) (if holds then found else None) (driving_output tree (number + 1) i net) ≡ Some o
       → (driving_output tree (number + 1) i net ≡ Some o → IsDriving tree (number + 1) i net o) → IsDriving (q ∷ tree) number i net o

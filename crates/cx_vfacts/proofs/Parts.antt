@@ -20,9 +20,9 @@ none_of_three false false true e = absurd (cc)
 pub ports_fresh : (is_main : Bool) (drivers earlier : List (List ℕ)) (index : ℕ) (ps : List PlainPort) → Clean (ports_faults is_main drivers earlier index ps) → Fresh earlier (port_names ps)
 ports_fresh is_main drivers earlier index [] c = tt
 ports_fresh is_main drivers earlier index (p ∷ ps) c = (
-      (none_of_three (has_name earlier p.name) (wrong_port is_main index p) (p.output && undriven drivers p.name) (ap (λ (f : Faults). f.name) c.0)).0,
-      ports_fresh is_main drivers (earlier ++ p.name ∷ []) (index + 1) ps c.1,
-    )
+  (none_of_three (has_name earlier p.name) (wrong_port is_main index p) (p.output && undriven drivers p.name) (ap (λ (f : Faults). f.name) c.0)).0,
+  ports_fresh is_main drivers (earlier ++ p.name ∷ []) (index + 1) ps c.1,
+)
 
 -- a port keeps its rules
 pub record PortKeeps (is_main : Bool) (drivers : List (List ℕ)) (index : ℕ) (p : PlainPort) : Type 0 where
@@ -83,9 +83,9 @@ expression scope e w named width shallow = record { named = named; width = width
 pub assigns_fresh : (scope : Scope) (earlier : List (List ℕ)) (xs : List PlainAssign) → Clean (assigns_faults scope earlier xs) → Fresh earlier (map (λ a. a.name) xs)
 assigns_fresh scope earlier [] c = tt
 assigns_fresh scope earlier (a ∷ xs) c = (
-      (none_of_three (not (is_driven (scope a.name))) (has_name earlier a.name) (misnames scope a.value) (ap (λ (f : Faults). f.name) c.0)).1,
-      assigns_fresh scope (earlier ++ a.name ∷ []) xs c.1,
-    )
+  (none_of_three (not (is_driven (scope a.name))) (has_name earlier a.name) (misnames scope a.value) (ap (λ (f : Faults). f.name) c.0)).1,
+  assigns_fresh scope (earlier ++ a.name ∷ []) xs c.1,
+)
 
 pub assign_keeps : (scope : Scope) (earlier : List (List ℕ)) (xs : List PlainAssign) → Clean (assigns_faults scope earlier xs) → (k : ℕ) (a : PlainAssign) → slice_get xs k ≡ Some a
     → (is_driven (scope a.name) ≡ true) × IsExpression scope a.value (width_of (scope a.name))

@@ -110,15 +110,14 @@ module _ (source : PlainSource) (sound : is_sound source ≡ true) (i : ℕ) (p 
       let is_out : is_output p.part.ports c.port ≡ true = ap (is_output p.part.ports) (sym connects.port) ∙ output-at [] p.part.ports fresh k port there ∙ output in
       let (others, f) = drives_fresh q at is_part in
       let out : output_to p.part.ports p.conns c.net ≡ Some c.port = output-to others p.part.ports p.conns fresh f k c is_at is_out in
-      let kind = kind-here source sound p.holder q at c.net ∙ wire_kind (meant_in q.part.ports q.part.decls c.net) (connects.outward output) in
-      (
+      let kind = kind-here source sound p.holder q at c.net ∙ wire_kind (meant_in q.part.ports q.part.decls c.net) (connects.outward output) in (
         c,
         is_at,
         sym connects.port,
         origin-at tree p.holder q c.net Driven at kind
-        ∙ ap (λ o. option_map_or (λ e. Some (Given e)) o (driving_output tree 0 p.holder c.net)) (unassigned q at is_part c.net c.port out)
-        ∙ driving-output q at is_part c.net c.port out
-        ∙ ap (λ n. Some (Tied i n)) (sym connects.port),
+            ∙ ap (λ o. option_map_or (λ e. Some (Given e)) o (driving_output tree 0 p.holder c.net)) (unassigned q at is_part c.net c.port out)
+            ∙ driving-output q at is_part c.net c.port out
+            ∙ ap (λ n. Some (Tied i n)) (sym connects.port),
       )
 
   pub assigned_given : (k : ℕ) (a : PlainAssign) → slice_get p.part.assigns k ≡ Some a → origin_of tree i a.name ≡ Some (Given a.value)

@@ -69,24 +69,24 @@ module _ (tree : PlainInstance → ℕ → ℕ → List Placed) where
       let next : ℕ = n + length t in
       let rest : List Placed = below tree holder next xs in
       go (split t rest j p e) (within whole holder next xs) where
-    go : (slice_get (tree x holder n) j ≡ Some p) ⊎ ((k : ℕ) × (j ≡ length (tree x holder n) + k) × (slice_get (below tree holder (n + length (tree x holder n)) xs) k ≡ Some p))
-        → ((k : ℕ) (q : Placed) → StandsAt whole (n + length (tree x holder n)) (below tree holder (n + length (tree x holder n)) xs) → slice_get (below tree holder (n + length (tree x holder n)) xs) k ≡ Some q
-        → IsWithin whole holder (n + length (tree x holder n)) xs k q)
-        → IsWithin whole holder n (x ∷ xs) j p
-    go (inl here) later =
-        let total : length (tree x holder n ++ below tree holder (n + length (tree x holder n)) xs) ≡ length (tree x holder n) + length (below tree holder (n + length (tree x holder n)) xs) =
-        length-append (tree x holder n) (below tree holder (n + length (tree x holder n)) xs) in
-        let less : length (tree x holder n) ≤ length (tree x holder n ++ below tree holder (n + length (tree x holder n)) xs) = omega arith in
-        record { s = zero; y = x; there = refl; at = j; place = refl; is = here; stands = stands-left whole n (tree x holder n) (below tree holder (n + length (tree x holder n)) xs) h; short = less }
-    go (inr (k, same, there)) later =
-        let w = later k p (stands-right whole n (tree x holder n) (below tree holder (n + length (tree x holder n)) xs) h) there in
-        let w-place = w.place in
-        let w-short = w.short in
-        let total : length (tree x holder n ++ below tree holder (n + length (tree x holder n)) xs) ≡ length (tree x holder n) + length (below tree holder (n + length (tree x holder n)) xs) =
-        length-append (tree x holder n) (below tree holder (n + length (tree x holder n)) xs) in
-        let place-here : n + j ≡ number_of holder (n + length (tree x holder n)) xs w.s + w.at = omega arith in
-        let short-here : length (tree w.y holder (number_of holder (n + length (tree x holder n)) xs w.s)) ≤ length (tree x holder n ++ below tree holder (n + length (tree x holder n)) xs) = omega arith in
-        record { s = suc w.s; y = w.y; there = w.there; at = w.at; place = place-here; is = w.is; stands = w.stands; short = short-here }
+        go : (slice_get (tree x holder n) j ≡ Some p) ⊎ ((k : ℕ) × (j ≡ length (tree x holder n) + k) × (slice_get (below tree holder (n + length (tree x holder n)) xs) k ≡ Some p))
+            → ((k : ℕ) (q : Placed) → StandsAt whole (n + length (tree x holder n)) (below tree holder (n + length (tree x holder n)) xs) → slice_get (below tree holder (n + length (tree x holder n)) xs) k ≡ Some q
+            → IsWithin whole holder (n + length (tree x holder n)) xs k q)
+            → IsWithin whole holder n (x ∷ xs) j p
+        go (inl here) later =
+            let total : length (tree x holder n ++ below tree holder (n + length (tree x holder n)) xs) ≡ length (tree x holder n) + length (below tree holder (n + length (tree x holder n)) xs) =
+            length-append (tree x holder n) (below tree holder (n + length (tree x holder n)) xs) in
+            let less : length (tree x holder n) ≤ length (tree x holder n ++ below tree holder (n + length (tree x holder n)) xs) = omega arith in
+            record { s = zero; y = x; there = refl; at = j; place = refl; is = here; stands = stands-left whole n (tree x holder n) (below tree holder (n + length (tree x holder n)) xs) h; short = less }
+        go (inr (k, same, there)) later =
+            let w = later k p (stands-right whole n (tree x holder n) (below tree holder (n + length (tree x holder n)) xs) h) there in
+            let w-place = w.place in
+            let w-short = w.short in
+            let total : length (tree x holder n ++ below tree holder (n + length (tree x holder n)) xs) ≡ length (tree x holder n) + length (below tree holder (n + length (tree x holder n)) xs) =
+            length-append (tree x holder n) (below tree holder (n + length (tree x holder n)) xs) in
+            let place-here : n + j ≡ number_of holder (n + length (tree x holder n)) xs w.s + w.at = omega arith in
+            let short-here : length (tree w.y holder (number_of holder (n + length (tree x holder n)) xs w.s)) ≤ length (tree x holder n ++ below tree holder (n + length (tree x holder n)) xs) = omega arith in
+            record { s = suc w.s; y = w.y; there = w.there; at = w.at; place = place-here; is = w.is; stands = w.stands; short = short-here }
 
   -- each of these instances has its tree at its number
   pub tree_stands : (whole : List Placed) (holder n : ℕ) (xs : List PlainInstance) (s : ℕ) (y : PlainInstance) → StandsAt whole n (below tree holder n xs) → slice_get xs s ≡ Some y
