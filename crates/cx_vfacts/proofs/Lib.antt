@@ -17,3 +17,5 @@ pub mod MeaningLemmas
 pub mod MemoryLemmas
 pub mod CountLemmas
 pub mod TallyLemmas
+pub mod DriverLemmas
+pub mod ExpressionWidths

@@ -17,7 +17,7 @@ use Rattle.cx_vfacts.proofs.Parts.{port_keeps, decl_keeps}
 use Rattle.cx_vfacts.proofs.Instances.{by_part, fresh_at}
 use Rattle.cx_vfacts.proofs.OriginLemmas.{net_has, is_net, meant_net, width-port}
 
-wide : (w : ℕ) → bad_width w ≡ false → (0 < w) × (w ≤ 128)
+pub wide : (w : ℕ) → bad_width w ≡ false → (0 < w) × (w ≤ 128)
 wide w e =
     let ends = or_parts (w == 0) (nat_lt 128 w) e in
     let some : w ≡ 0 → ⊥ = eqb-false w 0 ends.0 in
@@ -91,4 +91,11 @@ array_meant tree i n e = go (declared_by (ports_at tree i) (decls_at tree i) n) 
       no_array true w h = cc
       no_array false w h = cc
   go (as_decl k d at named means) = at_has (arrays_at tree i) n (subst (λ m. has_name (declared_arrays (decls_at tree i)) m ≡ true) named (decl_array (decls_at tree i) k d at (sym (ap is_array means) ∙ e)))
+  go (as_nothing means) = absurd (let h = sym (ap is_array means) ∙ e in cc)
+
+pub array_wide : (source : PlainSource) → is_sound source ≡ true → (i : ℕ) (n : List ℕ) → is_array (scope_at (instances_of source) i n) ≡ true → (0 < width_at (instances_of source) i n) × (width_at (instances_of source) i n ≤ 128)
+array_wide source sound i n e = go (declared_by (ports_at (instances_of source) i) (decls_at (instances_of source) i) n) where
+  go : Declared (ports_at (instances_of source) i) (decls_at (instances_of source) i) n → (0 < width_at (instances_of source) i n) × (width_at (instances_of source) i n ≤ 128)
+  go (as_port j p there named means) = subst (λ w. (0 < w) × (w ≤ 128)) (sym (ap width_of means ∙ width-port p)) (port_wide source sound i j p there)
+  go (as_decl j d there named means) = subst (λ w. (0 < w) × (w ≤ 128)) (sym (ap width_of means)) (decl_wide source sound i j d there)
   go (as_nothing means) = absurd (let h = sym (ap is_array means) ∙ e in cc)

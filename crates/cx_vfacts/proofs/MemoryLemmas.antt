@@ -225,6 +225,7 @@ memory_there source sound k e at =
       place = n.p;
       at = at_j;
       name = n.named;
+      holder = n.around;
       array = array;
       width = x.width;
       only = only.only;

@@ -33,7 +33,7 @@ driven_kind (meant.Register w) e = absurd (cc)
 driven_kind (meant.Array w) e = absurd (cc)
 driven_kind meant.Nothing e = absurd (cc)
 
-output-at : (earlier : List (List ℕ)) (ps : List PlainPort) → Fresh earlier (port_names ps) → (k : ℕ) (p : PlainPort) → slice_get ps k ≡ Some p → is_output ps p.name ≡ p.output
+pub output-at : (earlier : List (List ℕ)) (ps : List PlainPort) → Fresh earlier (port_names ps) → (k : ℕ) (p : PlainPort) → slice_get ps k ≡ Some p → is_output ps p.name ≡ p.output
 output-at earlier [] f k p e = absurd (cc)
 output-at earlier (x ∷ ps) f zero p e =
     let same : x ≡ p = cc in

@@ -16,6 +16,7 @@ pub record IsMemory (tree : List Placed) (e : PlainExternal) : Type 0 where
   pub place : Placed
   pub at : slice_get tree number ≡ Some place
   pub name : place.name ≡ e.instance
+  pub holder : place.holder ≡ 0
   pub array : arrays_in (decls_at tree number) ≡ (e.width, word_count e.sizes) ∷ []
   pub width : e.width ≤ 64
   -- the same by the array's name
