@@ -1,0 +1,6 @@
+//! The assignments of each port of a component.
+#![tactic(auto)]
+
+mod driving;
+
+pub use driving::Drivers;

@@ -1,0 +1,49 @@
+//! Ports as marks show them.
+
+ghost use Rattle.std.specs.Prelude.{◌≡◌, ◌<◌, length, slice_get};
+ghost use Rattle.cx_design.specs.PlainDesigns.{plain_design};
+ghost use Rattle.cx_nodes.specs.Nodes.{IsNodesOf};
+ghost use Rattle.cx_network.specs.Networks.{node_shown, shown};
+
+use crate::literals::literal_seen;
+use cx_demand::Mark;
+use cx_design::{Design, PortRef, Seen};
+use cx_instances::InstanceTable;
+use cx_looks::Look;
+use cx_nodes::Nodes;
+
+/// What marks show of the ports of an instance: a literal that fits its width as it is, and of a port that has a node what
+/// is known of it.
+#[derive(Clone, Copy)]
+pub struct MarkedPorts<'a> {
+    pub design: &'a Design,
+    pub table: &'a InstanceTable,
+    pub nodes: &'a Nodes,
+    pub marks: &'a [Mark],
+    pub instance: usize,
+    pub ghost within: { instance < length table.now.rows.items },
+    pub ghost numbered: { IsNodesOf (plain_design design.now) table.now.rows.items nodes.now },
+}
+
+impl<'a> Look for MarkedPorts<'a> {
+    ghost use Rattle.cx_nodes.specs.Nodes.{node_at};
+
+    ghost seen = { λ m q. node_shown m.marks.now q (node_at (plain_design m.design.now) m.table.now.rows.items m.instance q) };
+
+    fn at(&self, port: PortRef) -> Seen {
+        match self.nodes.node(self.instance, port) {
+            Some(node) => shown_at(self.marks, node),
+            None => literal_seen(port),
+        }
+    }
+}
+
+/// What is known of a node.
+fn shown_at(marks: &[Mark], node: usize) -> Seen
+    ensures value { result ≡ shown (slice_get marks.now node) }
+{
+    match marks.get(node) {
+        Some(Mark::Known(seen)) => *seen,
+        Some(Mark::Unseen | Mark::Open) | None => Seen::Undefined,
+    }
+}

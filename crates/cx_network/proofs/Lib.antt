@@ -1,0 +1,4 @@
+pub mod LeadLemmas
+pub mod NetworkLemmas
+pub mod ValueLemmas
+pub mod AcceptedLemmas

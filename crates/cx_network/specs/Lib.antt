@@ -1,0 +1,2 @@
+pub mod LeadPorts
+pub mod Networks

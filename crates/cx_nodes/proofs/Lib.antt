@@ -1,0 +1,4 @@
+pub mod PartLemmas
+pub mod NodeLemmas
+pub mod PlaceLemmas
+pub mod FoundLemmas
