@@ -1,0 +1,5 @@
+mod DemandLemmas
+mod LookLemmas
+mod PassLemmas
+mod FaultLemmas
+mod AlikeLemmas
