@@ -1,0 +1,4 @@
+pub mod Numbers
+pub mod Codes
+pub mod Maps
+pub mod Numberings
