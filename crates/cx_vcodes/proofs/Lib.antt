@@ -1,0 +1,3 @@
+pub mod Places
+pub mod Widths
+pub mod Steps

@@ -2,7 +2,12 @@
 #![tactic(auto)]
 
 mod codes;
+mod laws;
 mod numbers;
 
 pub use codes::code;
+pub use laws::{code_widths, names_have_numbers};
 pub use numbers::ModuleNumbers;
+
+#[cfg(test)]
+mod tests;
