@@ -1,12 +1,12 @@
 -- A name that stands as it may has a number, and its width stands there.
-use Rattle.std.proofs.Common.{◌≡◌, ℕ, zero, suc, Bool, true, false, ◌&&◌, ◌||◌, not, List, [], ◌∷◌, ◌++◌, map, Option, Some, None, option_map, slice_get, refl, ap, sym, ◌∙◌, subst, if◌then◌else◌}
+use Rattle.std.proofs.Common.{◌≡◌, ℕ, suc, Bool, true, false, List, [], ◌∷◌, ◌++◌, map, Some, option_map, slice_get, refl, ap, sym, ◌∙◌, subst, if◌then◌else◌}
 use Rattle.cx_vtree.specs.declared.meanings.Meaning.{Meaning}
 use Rattle.cx_vtree.specs.declared.meanings.Meaning.TheVariants.{Input, Output}
 use Rattle.cx_vtree.specs.Plain.{PlainPort, PlainDecl, WireOf, RegisterOf, ArrayOf}
 use Rattle.cx_vtree.specs.InstanceTree.{same_name, declared_nets}
 use Rattle.cx_vtree.specs.Sound.{width_of, is_source, is_array, meant_decl, meant_in, port_meaning}
 use Rattle.cx_vcodes.specs.Numbers.{declared_arrays, position}
-use Rattle.cx_vcodes.specs.Laws.{declared_widths, net_widths, array_widths, net_numbering, array_numbering}
+use Rattle.cx_vcodes.specs.Laws.{declared_widths, net_widths, array_widths}
 
 -- the name has a number, and the width of that number
 abbrev pub StandsIn : List (List ℕ) → List ℕ → List ℕ → ℕ → Type 0
@@ -56,7 +56,7 @@ net_stands [] ds n = decl_stands ds n
 net_stands (p ∷ ps) ds n =
     by_test (λ m. is_source m ≡ true → StandsIn (p.name ∷ (map (λ q. q.name) ps ++ declared_nets ds)) (p.width ∷ net_widths ps ds) n (width_of m)) (same_name p.name n) (port_meaning p) (meant_in ps ds n)
     (λ e f. subst (StandsIn (p.name ∷ (map (λ q. q.name) ps ++ declared_nets ds)) (p.width ∷ net_widths ps ds) n) (sym (width_of-port p.output p.width))
-        (stands_first p.name n (map (λ q. q.name) ps ++ declared_nets ds) p.width (net_widths ps ds) e))
+    (stands_first p.name n (map (λ q. q.name) ps ++ declared_nets ds) p.width (net_widths ps ds) e))
     (λ e f. stands_later p.name n (map (λ q. q.name) ps ++ declared_nets ds) p.width _ (net_widths ps ds) e (net_stands ps ds n f))
 
 array_stands_in : (ds : List PlainDecl) (n : List ℕ) → is_array (meant_decl ds n) ≡ true → StandsIn (declared_arrays ds) (array_widths ds) n (width_of (meant_decl ds n))

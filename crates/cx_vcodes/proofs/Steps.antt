@@ -1,5 +1,5 @@
 -- One more name has a number.
-use Rattle.std.proofs.Common.{◌≡◌, ℕ, suc, ◌+◌, ◌<◌, Bool, true, false, cond, List, [], ◌∷◌, ◌++◌, map, length, drop, get_or, Option, Some, None, Ordering, option_map, is_some, refl, ap, sym, ◌∙◌, subst, add-one, drop-cons, arith, if◌then◌else◌}
+use Rattle.std.proofs.Common.{◌≡◌, ℕ, suc, ◌+◌, Bool, true, false, cond, List, [], ◌∷◌, ◌++◌, map, length, Option, Some, None, Ordering, option_map, is_some, refl, ap, sym, ◌∙◌, arith, if◌then◌else◌}
 use Rattle.std.specs.Option.{option_or}
 use Rattle.std.specs.BTreeMap as tree
 use Rattle.std.specs.BTreeMap.{BTreeMap, is_at}
@@ -8,12 +8,10 @@ use Rattle.std.specs.Cmp.Lexicographic.{slice_cmp, same_text}
 use Rattle.std.specs.Ordering.{nat_cmp}
 use Rattle.std.proofs.lemmas.Map.Text.{btree_map_updates_str}
 use denote.Ref.{Bor}
-use Rattle.cx_vtree.specs.declared.modules.Decl.{Decl}
 use Rattle.cx_vtree.specs.declared.modules.ModulePort.{ModulePort}
-use Rattle.cx_vtree.specs.Plain.{PlainDecl, WireOf, RegisterOf, ArrayOf}
-use Rattle.cx_vtree.specs.PlainParts.{plain_port, plain_decl}
-use Rattle.cx_vtree.specs.InstanceTree.{same_name, declared_nets}
-use Rattle.cx_vcodes.specs.Numbers.{declared_arrays, position, position_from}
+use Rattle.cx_vtree.specs.PlainParts.{plain_port}
+use Rattle.cx_vtree.specs.InstanceTree.{same_name}
+use Rattle.cx_vcodes.specs.Numbers.{position, position_from}
 use Rattle.cx_vcodes.specs.Maps.{number_by}
 
 abbrev by_bytes : Bor (List ℕ) → Bor (List ℕ) → Ordering

@@ -71,10 +71,7 @@ fn enter_nets<'a>(
 }
 
 /// Numbers arrays, from 0 on.
-fn enter_arrays<'a>(
-    arrays: &mut BTreeMap<&'a [u8], u32>,
-    decls: &'a [Decl],
-) -> Result<(), Memory>
+fn enter_arrays<'a>(arrays: &mut BTreeMap<&'a [u8], u32>, decls: &'a [Decl]) -> Result<(), Memory>
     requires { length decls.now < 2 ^ 32 }
     ensures { OnOk result ((q : List ℕ) → number_by arrays.new q ≡ option_or (number_by arrays.old q) (position_from 0 (declared_arrays (map plain_decl decls.now)) q)) }
 {

@@ -1,4 +1,4 @@
-use Rattle.std.proofs.Common.{◌≡◌, map, length, sym}
+use Rattle.std.proofs.Common.{map, sym}
 use Rattle.std.proofs.Math.Path.{fun_ext}
 use Rattle.cx_vtree.specs.InstanceTree.{declared_nets}
 use Rattle.cx_vtree.specs.PlainParts.{plain_port, plain_decl}
