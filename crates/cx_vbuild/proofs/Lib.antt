@@ -1,0 +1,3 @@
+pub mod BaseLemmas
+pub mod AddedLemmas
+pub mod ChangeLemmas

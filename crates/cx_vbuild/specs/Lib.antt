@@ -1,1 +1,4 @@
 pub mod Tables
+pub mod Added
+pub mod Coded
+pub mod Changes

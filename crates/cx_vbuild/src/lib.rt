@@ -1,8 +1,12 @@
 //! The numbered machine of a Verilog source, from the rows of its instances.
 #![tactic(auto)]
 
-mod places;
-mod stored;
+mod bases;
+mod changes;
+mod coding;
+mod zeros;
 
-pub use places::places;
-pub use stored::stored;
+pub use bases::places;
+pub use changes::{push_items, push_sets};
+pub use coding::push_module;
+pub use zeros::stored;
