@@ -1,3 +1,4 @@
 pub mod BaseLemmas
 pub mod AddedLemmas
 pub mod ChangeLemmas
+pub mod ZeroLemmas

@@ -2,3 +2,4 @@ pub mod Tables
 pub mod Added
 pub mod Coded
 pub mod Changes
+pub mod Zeros
