@@ -3,3 +3,6 @@ pub mod Added
 pub mod Coded
 pub mod Changes
 pub mod Zeros
+pub mod Ties
+pub mod Driven
+pub mod Covered

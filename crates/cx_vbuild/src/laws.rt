@@ -1,9 +1,22 @@
-//! What the tables of zeros stand for.
+//! What the tables of zeros and of drivers stand for.
 
+ghost use Rattle.cx_vbuild.specs.Covered.{DrivenStand};
+ghost use Rattle.cx_vbuild.specs.Driven.{TiesAreRight, GivensAreRight};
 ghost use Rattle.cx_vbuild.specs.Zeros.{ZerosHaveWidths, ZerosStand};
 
 /// Zeros stand at the numbers of the nets, with their widths, and they stand for a cycle in which all is 0.
 pub fn zeros_stand()
     ensures widths { ZerosHaveWidths }
     ensures values { ZerosStand }
+{}
+
+/// Ports that are tied and nets that codes are given to have right drivers, and what was right stays right.
+pub fn drivers_are_right()
+    ensures ties { TiesAreRight }
+    ensures givens { GivensAreRight }
+{}
+
+/// Where what is stored, tied and assigned has right drivers, all nets of a tree have.
+pub fn driven_nets_stand()
+    ensures { DrivenStand }
 {}
