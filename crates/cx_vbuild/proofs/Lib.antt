@@ -4,3 +4,4 @@ pub mod ChangeLemmas
 pub mod ZeroLemmas
 pub mod DrivenLemmas
 pub mod CoveredLemmas
+pub mod FitsLemmas

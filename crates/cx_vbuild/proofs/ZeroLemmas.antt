@@ -44,7 +44,7 @@ length-widths (WireOf n w ∷ ds) = ap suc (length-widths ds)
 length-widths (RegisterOf n w ∷ ds) = ap suc (length-widths ds)
 length-widths (ArrayOf n w k ∷ ds) = length-widths ds
 
-length-net_widths : (ps : List PlainPort) (ds : List PlainDecl) → length (net_widths ps ds) ≡ length (map (λ p. p.name) ps ++ declared_nets ds)
+pub length-net_widths : (ps : List PlainPort) (ds : List PlainDecl) → length (net_widths ps ds) ≡ length (map (λ p. p.name) ps ++ declared_nets ds)
 length-net_widths [] ds = length-widths ds
 length-net_widths (p ∷ ps) ds = ap suc (length-net_widths ps ds)
 

@@ -6,3 +6,4 @@ pub mod Zeros
 pub mod Ties
 pub mod Driven
 pub mod Covered
+pub mod FitsLaws

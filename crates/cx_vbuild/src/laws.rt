@@ -1,8 +1,11 @@
-//! What the tables of zeros and of drivers stand for.
+//! What the tables stand for, and that they fit one another.
 
 ghost use Rattle.cx_vbuild.specs.Covered.{DrivenStand};
 ghost use Rattle.cx_vbuild.specs.Driven.{TiesAreRight, GivensAreRight};
+ghost use Rattle.cx_vbuild.specs.FitsLaws.{NetsFit, AllSetsFit, AllStoresFit};
 ghost use Rattle.cx_vbuild.specs.Zeros.{ZerosHaveWidths, ZerosStand};
+
+use cx_vcodes::code_widths;
 
 /// Zeros stand at the numbers of the nets, with their widths, and they stand for a cycle in which all is 0.
 pub fn zeros_stand()
@@ -20,3 +23,12 @@ pub fn drivers_are_right()
 pub fn driven_nets_stand()
     ensures { DrivenStand }
 {}
+
+/// Nets, sets and stores that stand for those of a tree fit what is stored, where that has the widths of the tree.
+pub fn tables_fit()
+    ensures nets { NetsFit }
+    ensures sets { AllSetsFit }
+    ensures stores { AllStoresFit }
+{
+    code_widths();
+}
