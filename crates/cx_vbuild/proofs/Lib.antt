@@ -5,3 +5,5 @@ pub mod ZeroLemmas
 pub mod DrivenLemmas
 pub mod CoveredLemmas
 pub mod FitsLemmas
+pub mod PartLemmas
+pub mod EvenLemmas

@@ -31,7 +31,7 @@ behind (x ∷ xs) ys zero j e = absurd (omega arith)
 behind (x ∷ xs) ys (suc k) j e = behind xs ys k j (omega arith)
 
 -- a first list comes before the others
-before_first : (lists more : ℕ → List (List ℕ)) → ((i : ℕ) → lists (suc i) ≡ more i) → (i : ℕ) → before lists (suc i) ≡ length (lists 0) + before more i
+pub before_first : (lists more : ℕ → List (List ℕ)) → ((i : ℕ) → lists (suc i) ≡ more i) → (i : ℕ) → before lists (suc i) ≡ length (lists 0) + before more i
 before_first lists more same zero = omega arith
 before_first lists more same (suc i) =
     let e = before_first lists more same i in

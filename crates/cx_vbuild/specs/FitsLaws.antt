@@ -1,5 +1,5 @@
 -- When numbered nets fit what is stored.
-use Rattle.std.specs.Prelude.{◌≡◌, ℕ, ◌+◌, List, false, Some, length, slice_get}
+use Rattle.std.specs.Prelude.{◌≡◌, ℕ, ◌+◌, List, false, Some, length, map, slice_get}
 use Rattle.cx_vtree.specs.Plain.{PlainExpr, PlainAssign, PlainStore}
 use Rattle.cx_vtree.specs.Edges.{edge_at, acting_sets, acting_stores}
 use Rattle.cx_vtree.specs.InstanceTree.{Placed, ports_at, decls_at, nets_at, Origin, Outside, Tied, Held, Given, origin_of}
@@ -12,12 +12,13 @@ use Rattle.cx_veval.specs.declared.stores.Store.{Store}
 use Rattle.cx_veval.specs.Arrays.{array_width, IsEven}
 use Rattle.cx_veval.specs.Edges.{SetsFit}
 use Rattle.cx_veval.specs.Fits.{width_at, Fits}
-use Rattle.cx_veval.specs.Stores.{StoresFit}
+use Rattle.cx_veval.specs.Stores.{plain_words, StoresFit}
 use Rattle.cx_vcodes.specs.Numbers.{position}
 use Rattle.cx_vcodes.specs.Laws.{array_widths}
 use Rattle.cx_vflat.specs.EdgesFlat.{SetsStand, StoresStand}
 use Rattle.cx_vflat.specs.Numbers.{arrays_at, nets_before, arrays_before}
 use Rattle.cx_vflat.specs.Flat.{NetsStand}
+use Rattle.cx_vbuild.specs.Tables.{all_zeros, all_zero_arrays}
 use Rattle.cx_vbuild.specs.Zeros.{widths_at}
 
 -- what is stored has the widths of the nets and the arrays
@@ -85,3 +86,7 @@ StoresAreAsWide tree reset = (i j : ℕ) (a : PlainStore) → slice_get (acting_
 abbrev pub AllStoresFit : Type 0
 AllStoresFit = (tree : List Placed) (table : List Code) (s : Stored) (stores : List Store) (reset : ℕ) → StoresStand tree table reset stores → StoredHasWidths tree s → StoresAreAsWide tree reset
     → StoresFit table s.nets.items s.arrays.items stores
+
+-- zeros have the widths of the nets and the arrays
+abbrev pub ZerosFit : Type 0
+ZerosFit = (tree : List Placed) (s : Stored) → s.nets.items ≡ all_zeros tree → map plain_words s.arrays.items ≡ all_zero_arrays tree → StoredHasWidths tree s

@@ -7,3 +7,4 @@ pub mod Ties
 pub mod Driven
 pub mod Covered
 pub mod FitsLaws
+pub mod Parts

@@ -110,7 +110,7 @@ fn push_edge(
 }
 
 /// Appends the codes of a module: of its assigns, of the branch with reset, and of the other branch.
-pub fn push_module(
+pub(crate) fn push_module(
     alloc: Global,
     codes: &mut Vec<Code>,
     numbers: &ModuleNumbers<'_>,

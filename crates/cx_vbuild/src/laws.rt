@@ -2,7 +2,7 @@
 
 ghost use Rattle.cx_vbuild.specs.Covered.{DrivenStand};
 ghost use Rattle.cx_vbuild.specs.Driven.{TiesAreRight, GivensAreRight};
-ghost use Rattle.cx_vbuild.specs.FitsLaws.{NetsFit, AllSetsFit, AllStoresFit};
+ghost use Rattle.cx_vbuild.specs.FitsLaws.{NetsFit, AllSetsFit, AllStoresFit, ZerosFit};
 ghost use Rattle.cx_vbuild.specs.Zeros.{ZerosHaveWidths, ZerosStand};
 
 use cx_vcodes::code_widths;
@@ -11,6 +11,7 @@ use cx_vcodes::code_widths;
 pub fn zeros_stand()
     ensures widths { ZerosHaveWidths }
     ensures values { ZerosStand }
+    ensures fits { ZerosFit }
 {}
 
 /// Ports that are tied and nets that codes are given to have right drivers, and what was right stays right.

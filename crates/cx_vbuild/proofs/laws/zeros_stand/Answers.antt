@@ -6,6 +6,7 @@ use Rattle.cx_vflat.specs.Numbers.{nets_before, arrays_before}
 use Rattle.cx_vbuild.specs.Tables.{zero_of}
 use Rattle.cx_vbuild.specs.Zeros.{widths_at}
 use Rattle.cx_vbuild.proofs.ZeroLemmas.{zeros_at, zero_arrays_at, zero_arrays_count, held_stands, array_stands, zero_word, zero_count, mapped_some, length-mapped, outside_zero}
+use Rattle.cx_vbuild.proofs.EvenLemmas.{zeros_fit}
 use Rattle.cx_vbuild.proofs.laws.zeros_stand.Goals as goal
 
 pub returns-clause-widths : goal.returns-clause-widths
@@ -31,3 +32,6 @@ returns-clause-values c = λ tree s apart bits nets arrays. record {
       );
   count = sym (length-mapped plain_words s.arrays.items) ∙ ap length arrays ∙ zero_arrays_count tree;
 }
+
+pub returns-clause-fits : goal.returns-clause-fits
+returns-clause-fits c = zeros_fit
