@@ -1,5 +1,5 @@
 -- Sets and stores, step by step.
-use Rattle.std.proofs.Common.{◌≡◌, ℕ, ◌+◌, ◌<◌, List, [], ◌∷◌, ◌++◌, map, length, get_or, drop, Some, option_map, refl, ap, sym, ◌∙◌, length-append, arith}
+use Rattle.std.proofs.Common.{◌≡◌, ℕ, ◌+◌, ◌<◌, List, map, length, get_or, drop, Some, option_map, ap, ◌∙◌, length-append}
 use Rattle.cx_vtree.specs.declared.modules.EdgeItem.{EdgeItem}
 use Rattle.cx_vtree.specs.Plain.{PlainAssign, PlainStore}
 use Rattle.cx_vtree.specs.PlainParts.{plain_item}

@@ -1,5 +1,5 @@
 -- Where the driver of each net comes from.
-use Rattle.std.proofs.Common.{◌≡◌, ◌≢◌, ℕ, zero, suc, ◌+◌, ◌<◌, ◌==◌, ◌&&◌, ◌⊎◌, ⊎_elim, Bool, true, false, List, [], ◌∷◌, ◌++◌, map, length, Option, Some, None, option_map, option_and_then, slice_get, refl, ap, sym, ◌∙◌, subst, arith, if◌then◌else◌}
+use Rattle.std.proofs.Common.{◌≡◌, ℕ, zero, suc, ◌+◌, ◌<◌, ◌==◌, ◌&&◌, ⊎_elim, Bool, true, false, List, [], ◌∷◌, ◌++◌, map, length, Option, Some, None, option_map, option_and_then, slice_get, refl, ap, sym, ◌∙◌, subst, arith, if◌then◌else◌}
 use Rattle.std.specs.Prelude.{IsSome}
 use Rattle.std.specs.Option.{option_map_or}
 use Rattle.std.specs.Cmp.Lexicographic.{same_text}
@@ -11,8 +11,8 @@ use Rattle.cx_vtree.specs.InstanceTree.{Placed, same_name, declared_nets, nets_a
 use Rattle.cx_veval.specs.declared.codes.Code.{Code}
 use Rattle.cx_veval.specs.declared.nets.Driver.{Driver}
 use Rattle.cx_vcodes.specs.Numbers.{position}
-use Rattle.cx_vbuild.specs.Driven.{IsRight, IsConnected, IsTied}
-use Rattle.cx_vbuild.specs.Covered.{IsTidy, IsStored, IsDriven, DrivenStand}
+use Rattle.cx_vbuild.specs.Driven.{IsRight, IsTied}
+use Rattle.cx_vbuild.specs.Covered.{IsTidy, IsDriven, DrivenStand}
 use Rattle.cx_vbuild.proofs.DrivenLemmas.{position_here, position_there}
 
 bind_some : {A B : Type 0} (f : A → Option B) (o : Option A) (y : B) → option_and_then f o ≡ Some y → (x : A) × (o ≡ Some x) × (f x ≡ Some y)

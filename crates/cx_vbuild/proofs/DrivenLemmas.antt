@@ -1,5 +1,5 @@
 -- One driver more is right.
-use Rattle.std.proofs.Common.{◌≡◌, ◌≢◌, ℕ, zero, suc, ◌+◌, ◌<◌, ◌≤◌, ◌⊎◌, ⊎_elim, Bool, true, false, List, [], ◌∷◌, ◌++◌, map, length, Option, Some, None, option_map, slice_get, refl, ap, sym, ◌∙◌, subst, arith, if◌then◌else◌}
+use Rattle.std.proofs.Common.{◌≡◌, ◌≢◌, ℕ, zero, suc, ◌+◌, ◌<◌, ◌≤◌, ⊎_elim, Bool, true, false, List, [], ◌∷◌, ◌++◌, map, length, Option, Some, None, option_map, slice_get, refl, ap, sym, ◌∙◌, subst, arith, if◌then◌else◌}
 use Rattle.std.specs.Prelude.{slice_set, unwrap_or}
 use Rattle.std.specs.Option.{option_map_or}
 use Rattle.std.specs.Cmp.Lexicographic.{same_text, bytes_decides}
@@ -13,7 +13,7 @@ use Rattle.cx_veval.specs.declared.nets.Driver.{Driver}
 use Rattle.cx_veval.specs.declared.nets.Driver.TheVariants as driver
 use Rattle.cx_vcodes.specs.Numbers.{position}
 use Rattle.cx_vflat.specs.Numbers.{before, nets_before, net_number, place_of}
-use Rattle.cx_vflat.specs.Flat.{CodeStands, DriverStands}
+use Rattle.cx_vflat.specs.Flat.{DriverStands}
 use Rattle.cx_vbuild.specs.Ties.{number_or_0, tied_by, tied_ports, given_nets}
 use Rattle.cx_vbuild.specs.Driven.{IsRight, KeepsRight, NetsAreApart, IsWhole, TellsOrigin, IsConnected, IsTied, TiesAreRight, IsGiven, GivensAreRight}
 use Rattle.cx_vbuild.proofs.BaseLemmas.{before_up}

@@ -1,19 +1,16 @@
 -- Zeros have the widths of the nets and the arrays.
-use Rattle.std.proofs.Common.{◌≡◌, ℕ, zero, suc, ◌+◌, ◌<◌, List, [], ◌∷◌, ◌++◌, map, length, Option, Some, None, option_map, slice_get, refl, ap, sym, ◌∙◌, length-append, arith}
+use Rattle.std.proofs.Common.{◌≡◌, ℕ, zero, suc, ◌+◌, List, [], ◌∷◌, ◌++◌, map, length, Some, option_map, slice_get, refl, ap, sym, ◌∙◌, length-append, arith}
 use Rattle.std.specs.Prelude.{replicate}
 use Rattle.cx_bits.specs.BitVector.{BitVector}
 use Rattle.cx_vtree.specs.Plain.{PlainDecl, WireOf, RegisterOf, ArrayOf}
 use Rattle.cx_vtree.specs.InstanceTree.{Placed, decls_at, nets_at}
 use Rattle.cx_veval.specs.declared.arrays.Words.{Words}
-use Rattle.cx_veval.specs.declared.nets.Stored.{Stored}
-use Rattle.cx_veval.specs.Arrays.{array_width, IsEven}
 use Rattle.cx_veval.specs.Fits.{width_at}
 use Rattle.cx_veval.specs.Stores.{PlainWords, plain_words}
 use Rattle.cx_vcodes.specs.Laws.{net_widths, array_widths}
 use Rattle.cx_vflat.specs.Numbers.{nets_before, arrays_before}
 use Rattle.cx_vbuild.specs.Tables.{zero_of, module_zeros, zero_arrays, all_zeros, all_zero_arrays}
-use Rattle.cx_vbuild.specs.Zeros.{widths_at}
-use Rattle.cx_vbuild.specs.FitsLaws.{StoredHasWidths, ZerosFit}
+use Rattle.cx_vbuild.specs.FitsLaws.{ZerosFit}
 use Rattle.cx_vbuild.proofs.ZeroLemmas.{before_first, length-net_widths, length-mapped, mapped_some, zeros_at, zero_arrays_at}
 
 -- as many zeros as nets
@@ -46,12 +43,12 @@ zeros_next w k xs h zero x e = let same : x ≡ zeros w k = cc in (w, k, same)
 zeros_next w k xs h (suc a) x e = h a x e
 
 zeros_both : (xs ys : List PlainWords) → AreZeros xs → AreZeros ys → AreZeros (xs ++ ys)
-zeros_both [] ys h g = g
+zeros_both [] ys h g a x e = g a x e
 zeros_both (x ∷ xs) ys h g zero y e = h 0 y e
 zeros_both (x ∷ xs) ys h g (suc a) y e = zeros_both xs ys (λ b z f. h (suc b) z f) g a y e
 
 decl_zeros : (ds : List PlainDecl) → AreZeros (zero_arrays ds)
-decl_zeros [] a x e = absurd (cc)
+decl_zeros [] = λ a x e. absurd (cc)
 decl_zeros (WireOf n v ∷ ds) = decl_zeros ds
 decl_zeros (RegisterOf n v ∷ ds) = decl_zeros ds
 decl_zeros (ArrayOf n v k ∷ ds) = zeros_next v k (zero_arrays ds) (decl_zeros ds)

@@ -1,10 +1,10 @@
 -- Widths of nets by number.
-use Rattle.std.proofs.Common.{◌≡◌, ◌≢◌, ℕ, zero, suc, ◌+◌, ◌-◌, ◌<◌, ◌≤◌, ◌⊎◌, ⊎_elim, false, List, [], ◌∷◌, ◌++◌, map, length, Option, Some, None, option_map, slice_get, refl, ap, sym, ◌∙◌, subst, arith}
+use Rattle.std.proofs.Common.{◌≡◌, ℕ, zero, suc, ◌+◌, ◌-◌, ◌<◌, ⊎_elim, false, List, [], ◌∷◌, length, Some, option_map, slice_get, refl, ap, sym, ◌∙◌, subst, arith}
 use Rattle.std.proofs.lemmas.Bool.{cases_lt}
 use Rattle.std.proofs.lemmas.Option.{slice_get_within}
 use Rattle.std.specs.Prelude.{IsSome}
 use Rattle.cx_vtree.specs.Plain.{PlainExpr, PlainAssign, PlainStore}
-use Rattle.cx_vtree.specs.InstanceTree.{Placed, ports_at, decls_at, declared_nets, nets_at, Origin, Outside, Tied, Held, Given, origin_of}
+use Rattle.cx_vtree.specs.InstanceTree.{Placed, ports_at, decls_at, nets_at, Origin, Outside, Tied, Held, Given}
 use Rattle.cx_vtree.specs.Sound.{misnames, fitting_width}
 use Rattle.cx_veval.specs.declared.codes.Code.{Code}
 use Rattle.cx_veval.specs.declared.codes.Place.{Place}
@@ -17,13 +17,12 @@ use Rattle.cx_veval.specs.declared.stores.Store.{Store}
 use Rattle.cx_veval.specs.Arrays.{array_width}
 use Rattle.cx_veval.specs.Edges.{width_of}
 use Rattle.cx_veval.specs.Stores.{HasCode, StoreFits}
-use Rattle.cx_veval.specs.Codes.{code_width}
 use Rattle.cx_veval.specs.Fits.{width_at, width_in, Fits}
 use Rattle.cx_vcodes.specs.Numbers.{position}
 use Rattle.cx_vcodes.specs.Codes.{IsCode}
 use Rattle.cx_vcodes.specs.Laws.{CodesHaveWidths}
 use Rattle.cx_vflat.specs.EdgesFlat.{SetStands, StoreStands}
-use Rattle.cx_vflat.specs.Numbers.{before, arrays_at, nets_before, arrays_before, net_number, place_of}
+use Rattle.cx_vflat.specs.Numbers.{before, arrays_at, nets_before, arrays_before, place_of}
 use Rattle.cx_vflat.specs.Flat.{CodeStands, DriverStands, NetsStand}
 use Rattle.cx_vbuild.specs.Zeros.{widths_at}
 use Rattle.cx_vbuild.specs.FitsLaws.{StoredHasWidths, scope_at, IsSound, IsAsWide, OriginsAreAsWide, NetsFit, SetIsAsWide, AllSetsFit, StoreIsAsWide, AllStoresFit}

@@ -1,5 +1,5 @@
 -- The codes of a module, by their numbers.
-use Rattle.std.proofs.Common.{◌≡◌, ℕ, zero, suc, ◌+◌, List, [], ◌∷◌, ◌++◌, map, length, Some, slice_get, refl, ap, sym, ◌∙◌, subst, arith}
+use Rattle.std.proofs.Common.{◌≡◌, ℕ, zero, suc, ◌+◌, List, [], ◌∷◌, ◌++◌, map, length, Some, slice_get, refl, ap, ◌∙◌, subst, arith}
 use Rattle.cx_vtree.specs.InstanceTree.{declared_nets}
 use Rattle.cx_vtree.specs.declared.modules.Decl.{Decl}
 use Rattle.cx_vtree.specs.declared.modules.ModulePort.{ModulePort}

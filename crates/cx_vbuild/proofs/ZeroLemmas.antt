@@ -1,9 +1,9 @@
 -- Zeros at the numbers of nets and arrays.
-use Rattle.std.proofs.Common.{◌≡◌, ℕ, zero, suc, ◌+◌, ◌<◌, ◌≤◌, ◌==◌, Bool, true, false, List, [], ◌∷◌, ◌++◌, map, length, Option, Some, None, option_map, option_and_then, slice_get, refl, ap, sym, ◌∙◌, subst, length-append, arith, if◌then◌else◌}
+use Rattle.std.proofs.Common.{◌≡◌, ℕ, zero, suc, ◌+◌, ◌==◌, Bool, true, false, List, [], ◌∷◌, ◌++◌, map, length, Option, Some, None, option_map, option_and_then, slice_get, refl, ap, sym, ◌∙◌, length-append, arith, if◌then◌else◌}
 use Rattle.std.specs.Prelude.{replicate, nat_lt, unwrap_or}
 use Rattle.std.specs.Option.{option_map_or}
 use Rattle.std.specs.Cmp.Lexicographic.{same_text, bytes_decides}
-use Rattle.std.proofs.lemmas.Option.{slice_get-map, slice_get_within}
+use Rattle.std.proofs.lemmas.Option.{slice_get-map}
 use Rattle.cx_bits.specs.BitVector.{BitVector}
 use Rattle.cx_vtree.specs.Plain.{PlainExpr, PlainPort, PlainDecl, WireOf, RegisterOf, ArrayOf}
 use Rattle.cx_vtree.specs.InstanceTree as kinds
@@ -15,7 +15,6 @@ use Rattle.cx_veval.specs.Arrays.{word_of}
 use Rattle.cx_veval.specs.Stores.{PlainWords, plain_words}
 use Rattle.cx_vcodes.specs.Numbers.{declared_arrays}
 use Rattle.cx_vcodes.specs.Laws.{declared_widths, net_widths}
-use Rattle.cx_vtable.specs.Paths.{nets_in}
 use Rattle.cx_vflat.specs.Numbers.{before, arrays_at, nets_before, arrays_before}
 use Rattle.cx_vbuild.specs.Tables.{zero_of, module_zeros, zero_arrays, all_zeros, all_zero_arrays}
 use Rattle.cx_vbuild.specs.Zeros.{widths_at, ZerosHaveWidths}

@@ -1,5 +1,5 @@
 -- When a table of drivers is right for the nets of a tree of instances.
-use Rattle.std.specs.Prelude.{◌≡◌, ℕ, ◌+◌, List, Bool, true, false, Some, IsSome, length, slice_get}
+use Rattle.std.specs.Prelude.{◌≡◌, ℕ, ◌+◌, List, Bool, true, false, Some, length, slice_get}
 use Rattle.cx_vtree.specs.Plain.{PlainPort, PlainAssign, PlainConn}
 use Rattle.cx_vtree.specs.InstanceTree.{Placed, nets_at, Origin, Tied, Given, origin_of}
 use Rattle.cx_veval.specs.declared.codes.Code.{Code}

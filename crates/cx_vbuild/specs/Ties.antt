@@ -1,5 +1,5 @@
 -- The drivers that connections and assigns give.
-use Rattle.std.specs.Prelude.{◌≡◌, ℕ, ◌+◌, ◌<◌, ◌≤◌, List, [], ◌∷◌, Bool, true, false, Some, IsSome, length, slice_get, slice_set, unwrap_or}
+use Rattle.std.specs.Prelude.{◌≡◌, ℕ, ◌+◌, ◌<◌, List, [], ◌∷◌, Bool, true, false, Some, IsSome, slice_get, slice_set, unwrap_or}
 use Rattle.cx_vtree.specs.Plain.{PlainPort, PlainAssign, PlainConn}
 use Rattle.cx_veval.specs.declared.codes.Place.{Place}
 use Rattle.cx_veval.specs.declared.nets.Driver.{Driver}

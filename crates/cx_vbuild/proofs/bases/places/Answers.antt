@@ -1,9 +1,7 @@
-use Rattle.std.proofs.Common.{◌≡◌, ◌+◌, ◌<◌, ◌^◌, map, length, slice_get, Some, ap, arith}
-use Rattle.cx_vtree.specs.PlainParts.{plain_decl, plain_module}
+use Rattle.std.proofs.Common.{◌<◌, ◌^◌, map, length, ap, arith}
+use Rattle.cx_vtree.specs.PlainParts.{plain_decl}
 use Rattle.cx_vcodes.specs.Numbers.{declared_arrays}
-use Rattle.cx_vtable.specs.Paths.{nets_in}
 use Rattle.cx_vtable.specs.Rows.{placed_of}
-use Rattle.cx_vflat.specs.Numbers.{nets_before, arrays_before}
 use Rattle.cx_vbuild.proofs.AddedLemmas.{item_at}
 use Rattle.cx_vbuild.proofs.BaseLemmas.{nets_next, arrays_next, nets_small, arrays_small, placed_next}
 use Rattle.cx_vbuild.proofs.bases.places.Goals as goal

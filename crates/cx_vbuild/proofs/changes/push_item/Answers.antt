@@ -1,4 +1,4 @@
-use Rattle.std.proofs.Common.{◌≡◌, [], ◌∷◌, ap, sym, refl}
+use Rattle.std.proofs.Common.{[], ◌∷◌, ap, sym, refl}
 use Rattle.cx_vtree.specs.Plain.{PlainStore}
 use Rattle.cx_vtree.specs.PlainParts.{plain_expr, plain_assign, plain_item}
 use Rattle.cx_vcodes.specs.Numberings.{nets_by, arrays_by}

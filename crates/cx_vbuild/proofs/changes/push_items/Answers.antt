@@ -1,4 +1,4 @@
-use Rattle.std.proofs.Common.{◌≡◌, ◌+◌, ◌<◌, ◌++◌, map, drop, length, ap, sym, ◌∙◌, arith}
+use Rattle.std.proofs.Common.{◌+◌, ◌<◌, ◌++◌, map, drop, length, ap, sym, ◌∙◌, arith}
 use Rattle.cx_vtree.specs.PlainParts.{plain_item}
 use Rattle.cx_vcodes.specs.Numberings.{nets_by, arrays_by}
 use Rattle.cx_vbuild.specs.Changes.{item_sets, item_stores, numbered_sets, numbered_stores, IsSet, IsStore}

@@ -1,4 +1,4 @@
-use Rattle.std.proofs.Common.{◌≡◌, ◌+◌, ◌<◌, [], ◌∷◌, map, drop, length, ap, refl, arith}
+use Rattle.std.proofs.Common.{◌+◌, ◌<◌, [], ◌∷◌, map, drop, length, ap, refl, arith}
 use Rattle.cx_vtree.specs.PlainParts.{plain_assign}
 use Rattle.cx_vcodes.specs.Numberings.{nets_by}
 use Rattle.cx_vbuild.specs.Changes.{numbered, IsSet}

@@ -1,4 +1,4 @@
-use Rattle.std.proofs.Common.{◌≡◌, ◌+◌, ◌<◌, [], ◌∷◌, map, drop, length, ap, arith}
+use Rattle.std.proofs.Common.{◌+◌, ◌<◌, [], ◌∷◌, map, drop, length, ap, arith}
 use Rattle.cx_vtree.specs.PlainParts.{plain_expr, plain_assign}
 use Rattle.cx_vcodes.specs.Codes.{IsCode}
 use Rattle.cx_vcodes.specs.Numberings.{nets_by, arrays_by}

@@ -1,4 +1,4 @@
-use Rattle.std.proofs.Common.{◌≡◌, ◌++◌, map, option_map, ap, sym, ◌∙◌}
+use Rattle.std.proofs.Common.{◌++◌, map, option_map, ap, sym, ◌∙◌}
 use Rattle.cx_vtree.specs.PlainParts.{plain_assign, plain_item, plain_edge}
 use Rattle.cx_vcodes.specs.Codes.{IsCode}
 use Rattle.cx_vcodes.specs.Numberings.{nets_by, arrays_by}

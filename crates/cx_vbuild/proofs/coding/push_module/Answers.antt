@@ -1,4 +1,4 @@
-use Rattle.std.proofs.Common.{◌≡◌, ◌++◌, map, option_map, ap}
+use Rattle.std.proofs.Common.{◌++◌, map, option_map, ap}
 use Rattle.cx_vtree.specs.PlainParts.{plain_assign, plain_edge, plain_module}
 use Rattle.cx_vcodes.specs.Codes.{IsCode}
 use Rattle.cx_vcodes.specs.Numberings.{nets_by, arrays_by}

@@ -1,9 +1,8 @@
-use Rattle.std.proofs.Common.{◌≡◌, ℕ, ◌+◌, Some, map, length, slice_get, ap, sym, ◌∙◌, subst}
+use Rattle.std.proofs.Common.{◌≡◌, ◌+◌, Some, length, slice_get, ap, sym, ◌∙◌, subst}
 use Rattle.std.specs.Prelude.{codes}
 use Rattle.cx_vtree.specs.InstanceTree.{same_name, decls_at}
 use Rattle.cx_veval.specs.Stores.{plain_words}
 use Rattle.cx_vflat.specs.Numbers.{nets_before, arrays_before}
-use Rattle.cx_vbuild.specs.Tables.{zero_of}
 use Rattle.cx_vbuild.specs.Zeros.{widths_at}
 use Rattle.cx_vbuild.proofs.ZeroLemmas.{zeros_at, zero_arrays_at, zero_arrays_count, held_stands, array_stands, zero_word, zero_count, mapped_some, length-mapped, outside_zero}
 use Rattle.cx_vbuild.proofs.EvenLemmas.{zeros_fit}

@@ -1,8 +1,8 @@
-use Rattle.std.proofs.Common.{◌≡◌, map, length, ap, sym, ◌∙◌, subst, arith}
+use Rattle.std.proofs.Common.{◌≡◌, length, sym, subst, arith}
 use Rattle.cx_vtree.specs.PlainParts.{plain_module}
 use Rattle.cx_vcodes.specs.Laws.{net_numbering, array_numbering}
 use Rattle.cx_vcodes.specs.Numberings.{nets_by, arrays_by}
-use Rattle.cx_vbuild.specs.Coded.{module_exprs, AddsCodes, AssignsHaveNumbers, EdgeHasNumbers}
+use Rattle.cx_vbuild.specs.Coded.{module_exprs, AssignsHaveNumbers, EdgeHasNumbers}
 use Rattle.cx_vbuild.specs.Parts.{HasCodes}
 use Rattle.cx_vbuild.proofs.PartLemmas.{codes_at, nets_same, arrays_same}
 use Rattle.cx_vbuild.proofs.parts.code_part.Goals as goal

@@ -1,4 +1,4 @@
-use Rattle.std.proofs.Common.{◌≡◌, ◌<◌, map, length, slice_get, ap, sym, ◌∙◌, arith}
+use Rattle.std.proofs.Common.{◌<◌, map, length, slice_get, ap, sym, ◌∙◌, arith}
 use Rattle.cx_vtree.specs.PlainParts.{plain_decl}
 use Rattle.cx_vtable.specs.Rows.{placed_of}
 use Rattle.cx_vbuild.proofs.AddedLemmas.{item_at}
