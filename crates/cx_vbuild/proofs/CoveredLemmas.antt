@@ -159,10 +159,10 @@ module _ (tree : List Placed) (codes : List Code) (drivers : List Driver) (tidy 
       let q = r.1 in
       let c = output_conn q.part.ports q.conns name port r.5 in
       let inner : r.0 ≡ 0 → ⊥ = λ z.
-          let empty : q.conns ≡ [] = tidy.main q (subst (λ m. slice_get tree m ≡ Some q) z r.2) in
-          let none : slice_get q.conns c.0 ≡ None = ap (λ l. slice_get l c.0) empty in
-          let some = c.2 in
-          absurd (cc) in
+      let empty : q.conns ≡ [] = tidy.main q (subst (λ m. slice_get tree m ≡ Some q) z r.2) in
+      let none : slice_get q.conns c.0 ≡ None = ap (λ l. slice_get l c.0) empty in
+      let some = c.2 in
+      absurd (cc) in
       let long = tidy.conns r.0 q r.2 inner in
       let within : c.0 < length q.part.ports = let lt = slice_get_within q.conns c.0 c.1 c.2 in omega (arith, lt, long) in
       let d = there_at q.part.ports c.0 within in
@@ -178,7 +178,7 @@ module _ (tree : List Placed) (codes : List Code) (drivers : List Driver) (tidy 
       let right_here : IsRight tree codes drivers i con.3.number = subst (λ m. IsRight tree codes drivers m con.3.number) r.4 right in
       let net_is : con.0.net ≡ name = ap (λ x. x.net) same_conn ∙ c.3 in
       let number : position (nets_at tree i) name ≡ Some con.3.number =
-          ap (λ m. position (nets_at tree m) name) (sym r.4) ∙ ap (position (nets_at tree q.holder)) (sym net_is) ∙ con.3.net in
+      ap (λ m. position (nets_at tree m) name) (sym r.4) ∙ ap (position (nets_at tree q.holder)) (sym net_is) ∙ con.3.net in
       let same : con.3.number ≡ k = tidy.apart i con.3.number k name (position_here (nets_at tree i) name con.3.number number) there in
       subst (λ m. IsRight tree codes drivers i m) same right_here
 

@@ -182,8 +182,8 @@ module _ (tree : List Placed) (codes : List Code) (apart : NetsAreApart tree) wh
   ties : (i holder k : ℕ) (ports : List PlainPort) (conns : List PlainConn) (drivers : List Driver) → IsWhole tree drivers
       → ((j : ℕ) (port : PlainPort) (c : PlainConn) → slice_get ports j ≡ Some port → slice_get conns j ≡ Some c → IsConnected tree i holder (k + j) port c)
       → KeepsRight tree codes drivers (tied_ports (position (nets_at tree holder)) (nets_before tree i) (nets_before tree holder) k ports conns drivers)
-        × IsWhole tree (tied_ports (position (nets_at tree holder)) (nets_before tree i) (nets_before tree holder) k ports conns drivers)
-        × AllTied i holder k ports conns (tied_ports (position (nets_at tree holder)) (nets_before tree i) (nets_before tree holder) k ports conns drivers)
+      × IsWhole tree (tied_ports (position (nets_at tree holder)) (nets_before tree i) (nets_before tree holder) k ports conns drivers)
+      × AllTied i holder k ports conns (tied_ports (position (nets_at tree holder)) (nets_before tree i) (nets_before tree holder) k ports conns drivers)
   ties i holder k [] conns drivers whole facts = (λ a b r. r, whole, λ j port c n e f g. absurd (cc))
   ties i holder k (p ∷ ps) [] drivers whole facts = (λ a b r. r, whole, λ j port c n e f g. absurd (cc))
   ties i holder k (p ∷ ps) (c ∷ cs) drivers whole facts =
@@ -192,7 +192,7 @@ module _ (tree : List Placed) (codes : List Code) (apart : NetsAreApart tree) wh
       let mid : List Driver = tied_by p.output (nets_before tree i + k) (nets_before tree holder + number_or_0 (position (nets_at tree holder)) c.net) drivers in
       let one = tie_one i holder k p c drivers whole con in
       let rest = ties i holder (k + 1) ps cs mid one.1
-          (λ j port d e f. let m_is : k + suc j ≡ k + 1 + j = omega arith in subst (λ m. IsConnected tree i holder m port d) m_is (facts (suc j) port d e f)) in
+      (λ j port d e f. let m_is : k + suc j ≡ k + 1 + j = omega arith in subst (λ m. IsConnected tree i holder m port d) m_is (facts (suc j) port d e f)) in
       let end : List Driver = tied_ports (position (nets_at tree holder)) (nets_before tree i) (nets_before tree holder) (k + 1) ps cs mid in (
         λ a b r. rest.0 a b (one.0 a b r),
         rest.1,
@@ -201,15 +201,15 @@ module _ (tree : List Placed) (codes : List Code) (apart : NetsAreApart tree) wh
 
   give_one : (i first : ℕ) (a : PlainAssign) (old : List Driver) → IsWhole tree old → (con : IsGiven tree codes i first a)
       → KeepsRight tree codes old (slice_set old (nets_before tree i + number_or_0 (position (nets_at tree i)) a.name) (driver.Given first (place_of tree i)))
-        × IsWhole tree (slice_set old (nets_before tree i + number_or_0 (position (nets_at tree i)) a.name) (driver.Given first (place_of tree i)))
-        × IsRight tree codes (slice_set old (nets_before tree i + number_or_0 (position (nets_at tree i)) a.name) (driver.Given first (place_of tree i))) i con.number
+      × IsWhole tree (slice_set old (nets_before tree i + number_or_0 (position (nets_at tree i)) a.name) (driver.Given first (place_of tree i)))
+      × IsRight tree codes (slice_set old (nets_before tree i + number_or_0 (position (nets_at tree i)) a.name) (driver.Given first (place_of tree i))) i con.number
   give_one i first a old whole con =
       let same : number_or_0 (position (nets_at tree i)) a.name ≡ con.number = ap (λ o. unwrap_or o 0) con.net in
       let there = position_here (nets_at tree i) a.name con.number con.net in
       let stands : DriverStands tree codes i (Given a.value) (driver.Given first (place_of tree i)) = (refl, con.coded) in
       subst (λ m. KeepsRight tree codes old (slice_set old (nets_before tree i + m) (driver.Given first (place_of tree i)))
-          × IsWhole tree (slice_set old (nets_before tree i + m) (driver.Given first (place_of tree i)))
-          × IsRight tree codes (slice_set old (nets_before tree i + m) (driver.Given first (place_of tree i))) i con.number) (sym same) (
+      × IsWhole tree (slice_set old (nets_before tree i + m) (driver.Given first (place_of tree i)))
+      × IsRight tree codes (slice_set old (nets_before tree i + m) (driver.Given first (place_of tree i))) i con.number) (sym same) (
         put_keeps old i con.number a.name (Given a.value) (driver.Given first (place_of tree i)) whole there con.origin stands,
         put_whole old i con.number a.name (Given a.value) (driver.Given first (place_of tree i)) whole there con.origin stands,
         put_right old i con.number a.name (Given a.value) (driver.Given first (place_of tree i)) whole there con.origin stands,
@@ -230,8 +230,8 @@ module _ (tree : List Placed) (codes : List Code) (apart : NetsAreApart tree) wh
   givens : (i first : ℕ) (assigns : List PlainAssign) (drivers : List Driver) → IsWhole tree drivers
       → ((j : ℕ) (a : PlainAssign) → slice_get assigns j ≡ Some a → IsGiven tree codes i (first + j) a)
       → KeepsRight tree codes drivers (given_nets (position (nets_at tree i)) (place_of tree i) first assigns drivers)
-        × IsWhole tree (given_nets (position (nets_at tree i)) (place_of tree i) first assigns drivers)
-        × AllGiven i assigns (given_nets (position (nets_at tree i)) (place_of tree i) first assigns drivers)
+      × IsWhole tree (given_nets (position (nets_at tree i)) (place_of tree i) first assigns drivers)
+      × AllGiven i assigns (given_nets (position (nets_at tree i)) (place_of tree i) first assigns drivers)
   givens i first [] drivers whole facts = (λ a b r. r, whole, λ j a n e g. absurd (cc))
   givens i first (d ∷ rest) drivers whole facts =
       let f_is : first + 0 ≡ first = omega arith in
@@ -239,7 +239,7 @@ module _ (tree : List Placed) (codes : List Code) (apart : NetsAreApart tree) wh
       let mid : List Driver = slice_set drivers (nets_before tree i + number_or_0 (position (nets_at tree i)) d.name) (driver.Given first (place_of tree i)) in
       let one = give_one i first d drivers whole con in
       let later = givens i (first + 1) rest mid one.1
-          (λ j a e. let m_is : first + suc j ≡ first + 1 + j = omega arith in subst (λ m. IsGiven tree codes i m a) m_is (facts (suc j) a e)) in
+      (λ j a e. let m_is : first + suc j ≡ first + 1 + j = omega arith in subst (λ m. IsGiven tree codes i m a) m_is (facts (suc j) a e)) in
       let end : List Driver = given_nets (position (nets_at tree i)) (place_of tree i) (first + 1) rest mid in (
         λ a b r. later.0 a b (one.0 a b r),
         later.1,
@@ -249,7 +249,7 @@ module _ (tree : List Placed) (codes : List Code) (apart : NetsAreApart tree) wh
 pub ties_right : TiesAreRight
 ties_right tree codes i holder ports conns drivers apart whole facts =
     let t = ties tree codes apart i holder 0 ports conns drivers whole
-        (λ j port c e f. let m_is : j ≡ 0 + j = omega arith in subst (λ m. IsConnected tree i holder m port c) m_is (facts j port c e f)) in (
+    (λ j port c e f. let m_is : j ≡ 0 + j = omega arith in subst (λ m. IsConnected tree i holder m port c) m_is (facts j port c e f)) in (
       t.0,
       t.1,
       λ k port c n e f g.

@@ -119,8 +119,7 @@ module _ (tree : List Placed) (table : List Code) (s : Stored) (wide : StoredHas
       → (c : Code) × (slice_get table x.code ≡ Some c) × ((w : ℕ) × (width_of s.nets.items s.arrays.items x.place c ≡ Some w) × (width_at s.nets.items x.net ≡ Some w))
   set_fits i a x stands wide_by =
       let number : Some (nets_before tree i + wide_by.number) ≡ Some x.net = ap (option_map (λ k. nets_before tree i + k)) (sym wide_by.net) ∙ stands.net in
-      let same : nets_before tree i + wide_by.number ≡ x.net = cc in
-      (
+      let same : nets_before tree i + wide_by.number ≡ x.net = cc in (
         stands.code.0,
         stands.code.1,
         (wide_by.width, width_at_place i wide_by.width x.place stands.code.0 a.value stands.place wide_by.value stands.code.2, ap (width_at s.nets.items) (sym same) ∙ wide.nets i wide_by.number wide_by.width wide_by.there),

@@ -49,9 +49,9 @@ TiesAreRight = (tree : List Placed) (codes : List Code) (i holder : ℕ) (ports 
     → NetsAreApart tree → IsWhole tree drivers
     → ((k : ℕ) (port : PlainPort) (c : PlainConn) → slice_get ports k ≡ Some port → slice_get conns k ≡ Some c → IsConnected tree i holder k port c)
     → KeepsRight tree codes drivers (tied_ports (position (nets_at tree holder)) (nets_before tree i) (nets_before tree holder) 0 ports conns drivers)
-      × IsWhole tree (tied_ports (position (nets_at tree holder)) (nets_before tree i) (nets_before tree holder) 0 ports conns drivers)
-      × ((k : ℕ) (port : PlainPort) (c : PlainConn) (n : ℕ) → slice_get ports k ≡ Some port → slice_get conns k ≡ Some c → position (nets_at tree holder) c.net ≡ Some n
-        → IsTied tree codes (tied_ports (position (nets_at tree holder)) (nets_before tree i) (nets_before tree holder) 0 ports conns drivers) i holder k n port.output)
+    × IsWhole tree (tied_ports (position (nets_at tree holder)) (nets_before tree i) (nets_before tree holder) 0 ports conns drivers)
+    × ((k : ℕ) (port : PlainPort) (c : PlainConn) (n : ℕ) → slice_get ports k ≡ Some port → slice_get conns k ≡ Some c → position (nets_at tree holder) c.net ≡ Some n
+    → IsTied tree codes (tied_ports (position (nets_at tree holder)) (nets_before tree i) (nets_before tree holder) 0 ports conns drivers) i holder k n port.output)
 
 -- an assign is the origin of its net, and the code of this number is its expression
 pub record IsGiven (tree : List Placed) (codes : List Code) (i code : ℕ) (a : PlainAssign) : Type 0 where
@@ -66,6 +66,6 @@ GivensAreRight = (tree : List Placed) (codes : List Code) (i first : ℕ) (assig
     → NetsAreApart tree → IsWhole tree drivers
     → ((j : ℕ) (a : PlainAssign) → slice_get assigns j ≡ Some a → IsGiven tree codes i (first + j) a)
     → KeepsRight tree codes drivers (given_nets (position (nets_at tree i)) (place_of tree i) first assigns drivers)
-      × IsWhole tree (given_nets (position (nets_at tree i)) (place_of tree i) first assigns drivers)
-      × ((j : ℕ) (a : PlainAssign) (n : ℕ) → slice_get assigns j ≡ Some a → position (nets_at tree i) a.name ≡ Some n
-        → IsRight tree codes (given_nets (position (nets_at tree i)) (place_of tree i) first assigns drivers) i n)
+    × IsWhole tree (given_nets (position (nets_at tree i)) (place_of tree i) first assigns drivers)
+    × ((j : ℕ) (a : PlainAssign) (n : ℕ) → slice_get assigns j ≡ Some a → position (nets_at tree i) a.name ≡ Some n
+    → IsRight tree codes (given_nets (position (nets_at tree i)) (place_of tree i) first assigns drivers) i n)
