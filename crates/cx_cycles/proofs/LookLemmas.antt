@@ -49,6 +49,19 @@ marked_gather look test wanted ports n g marked sized counted is =
     counts look test 0 ports ∙ ap (gather_all look test 0) (sym counted)
     ∙ gather_alike look test (wanted_at wanted) 0 n (λ k lt. let z : 0 + k ≡ k = omega arith in ap test z ∙ sym (marked k (omega arith)) ∙ ap (wanted_at wanted) (sym z)) ∙ sym is
 
+-- a port that is lacking is one of those that there are
+pub lacks_below : (look : ℕ → Seen) (wanted : ℕ → Bool) (p n q : ℕ) (x : Seen) → gather_all look wanted p n ≡ Lacks q x → q < p + n
+lacks_below look wanted p zero q x e = absurd (cc)
+lacks_below look wanted p (suc n) q x e = by (wanted p) (look p) (gather_all look wanted (suc p) n) e (lacks_below look wanted (suc p) n q x)
+  where
+    by : (w : Bool) (y : Seen) (g : Gathered) → gather_port w p y g ≡ Lacks q x → (g ≡ Lacks q x → q < suc p + n) → q < p + suc n
+    by false y (Given xs) e h = absurd (cc)
+    by false y (Lacks r z) e h = let lt : q < suc p + n = h e in omega arith
+    by true (Value b) (Given xs) e h = absurd (cc)
+    by true (Value b) (Lacks r z) e h = let lt : q < suc p + n = h e in omega arith
+    by true Conflict g e h = let same : p ≡ q = cc in omega arith
+    by true Undefined g e h = let same : p ≡ q = cc in omega arith
+
 -- a wanted port of what is given has a value, the one that it is seen as
 pub record Stands (look : ℕ → Seen) (xs : Inputs) (k n : ℕ) : Type 0 where
   pub value : BitVector

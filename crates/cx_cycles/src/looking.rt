@@ -21,7 +21,7 @@ use cx_ranges::out_of_range;
 #[derive(Clone, Copy, Debug, PartialEq, Eq)]
 pub struct Stop {
     pub kind: FaultKind,
-    pub port: usize,
+    pub port: u32,
 }
 
 /// The kind of the fault where a port is looked at that is no value.
@@ -36,11 +36,12 @@ fn kind_of(seen: Seen) -> FaultKind
 
 /// A port that is lacking stops its cell.
 fn stop_at(lack: Lack) -> Stop
+    requires few { lack.port < 2 ^ 32 }
     ensures { result ≡ record { kind = cycles.kind_of lack.seen; port = lack.port } }
 {
     Stop {
         kind: kind_of(lack.seen),
-        port: lack.port,
+        port: lack.port as u32,
     }
 }
 
@@ -129,7 +130,7 @@ pub fn look_at<L: Look>(
     match out_of_range(primitive, inputs) {
         Some(port) => Err(Stop {
             kind: FaultKind::Range,
-            port,
+            port: port as u32,
         }),
         None => Ok(()),
     }

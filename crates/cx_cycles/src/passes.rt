@@ -18,7 +18,7 @@ use cx_looks::Look;
 /// A cell at which a cycle stops, by its number, and its port.
 #[derive(Clone, Copy, Debug, PartialEq, Eq)]
 pub struct CellFault {
-    pub cell: usize,
+    pub cell: u32,
     pub stop: Stop,
 }
 
@@ -46,8 +46,9 @@ fn fault_of<L: Look>(
     let Some(state) = &held[cell] else {
         return None;
     };
-    match stop_of(look, cell as u32, primitive, state, wanted, inputs) {
-        Some(stop) => Some(CellFault { cell, stop }),
+    let number = cell as u32;
+    match stop_of(look, number, primitive, state, wanted, inputs) {
+        Some(stop) => Some(CellFault { cell: number, stop }),
         None => None,
     }
 }

@@ -1,11 +1,11 @@
-use Rattle.std.proofs.Common.{length, sym, ap, ◌∙◌}
+use Rattle.std.proofs.Common.{length, sym, ap, ◌∙◌, arith}
 use Rattle.cx_prim.specs.Table.{row_of}
 use Rattle.cx_meaning.specs.Cycles.{Stops, enables, looks_at}
 use Rattle.cx_gather.specs.Gathers.{gathered, ports_seen, wanted_at}
 use Rattle.cx_gather.proofs.GatherLemmas.{given_fits}
 use Rattle.cx_cycles.specs.declared.looking.Stop.{Stop}
 use Rattle.cx_cycles.proofs.DemandLemmas.{row_facts}
-use Rattle.cx_cycles.proofs.LookLemmas.{marked_gather, lacks_enabling, lacks_demanded, out_of_range_stops, in_range_goes, given_looked}
+use Rattle.cx_cycles.proofs.LookLemmas.{marked_gather, lacks_enabling, lacks_demanded, out_of_range_stops, in_range_goes, given_looked, lacks_below}
 use Rattle.cx_cycles.proofs.looking.look_at.Goals as goal
 
 pub returns-in-Some-clause-value : goal.returns-in-Some-clause-value
@@ -102,3 +102,36 @@ returns-in-None-clause-looked_at g c =
     let ys = c.gather-2.new.inputs in
     let given_all = demanded ∙ ap (λ o. gathered o ys) c.in_default-gather.is in
     given_looked look row state (λ inputs others n agree. (row_facts c.args.primitive.now).demands state inputs others n agree) xs ys given given_all
+
+pub stop_at-requires : goal.stop_at-requires
+stop_at-requires g c =
+    let look = ports_seen (g.L.Look.seen c.args.look.now) c.args.cell in
+    let lack = c.in-Some.lack in
+    let below =
+    lacks_below look (wanted_at c.mark_enabling.new.wanted) 0 (length c.args.inputs.now) lack.port lack.seen
+    (sym c.gather.ensures.value ∙ ap (λ o. gathered o c.gather.new.inputs) c.in-Some.is) in
+    let few = c.requires.few in
+    record { few = omega (arith, below, few) }
+
+pub stop_at-requires-in-Some-gather : goal.stop_at-requires-in-Some-gather
+stop_at-requires-in-Some-gather g c =
+    let look = ports_seen (g.L.Look.seen c.args.look.now) c.args.cell in
+    let xs = c.gather.new.inputs in
+    let fits = given_fits look (wanted_at c.mark_enabling.new.wanted) (row_of c.args.primitive.now).ports (length c.args.inputs.now) xs c.requires.sized c.requires.widths
+    (ap (λ o. gathered o xs) (sym c.in_default.is) ∙ c.gather.ensures.value) in
+    let lack = c.in-Some-gather.lack in
+    let below =
+    lacks_below look (wanted_at c.mark_looked.new.wanted) 0 (length xs) lack.port lack.seen
+    (sym c.gather-2.ensures.value ∙ ap (λ o. gathered o c.gather-2.new.inputs) c.in-Some-gather.is) in
+    let count = fits.count in
+    let sized = c.requires.sized in
+    let few = c.requires.few in
+    record { few = omega (arith, below, count, sized, few) }
+
+pub overflow_cast-result : goal.overflow_cast-result
+overflow_cast-result g c =
+    let port = c.in-Some-out_of_range.port in
+    let below = (row_facts c.args.primitive.now).ranges c.gather-2.new.inputs port (sym c.out_of_range.ensures.value ∙ c.in-Some-out_of_range.is) in
+    let sized = c.requires.sized in
+    let few = c.requires.few in
+    omega (arith, below, sized, few)
