@@ -1,0 +1,77 @@
+-- In an accepted design islands are short.
+use Rattle.std.proofs.Common.{◌≡◌, ℕ, suc, ◌<◌, ◌≤◌, nat_lt, nat_le, ◌&&◌, inl, inr, ⊎_elim, Bool, true, false, List, [], ◌∷◌, length, Some, None, refl, sym, ap, ◌∙◌, subst}
+use Rattle.std.specs.Prelude.{if◌then◌else◌, slice_get}
+use Rattle.std.proofs.lemmas.Bool.{cases_lt, le-leb}
+use Rattle.std.proofs.lemmas.List.{get_or_past}
+use Rattle.cx_text.specs.declared.limits.TheConstants.{OCCURRENCES, REPETITIONS}
+use Rattle.cx_text.specs.declared.rules.Rule.TheVariants.{Limit}
+use Rattle.cx_meaning.specs.Designs.{PlainComponent, PlainDesign, component_at, no_component}
+use Rattle.cx_meaning.specs.Instances.{Instance, part_of, tree_of, Path, instance_at}
+use Rattle.cx_meaning.specs.Sights.{In}
+use Rattle.cx_meaning.specs.Islands.{form_length}
+use Rattle.cx_rules.specs.Ports.{component_of}
+use Rattle.cx_rules.specs.Items.{Visited, statements_in}
+use Rattle.cx_rules.specs.StaticControl.{is_island, form_occurrences}
+use Rattle.cx_rules.specs.LimitRule.{Limited, OnRepeat, OnOccurrences, OnLatency, word_of, count_in, is_too_many, statement_limit}
+use Rattle.cx_rules.specs.Spots.{AStatement}
+use Rattle.cx_rules.specs.Accepted.{IsAccepted}
+use Rattle.cx_rules.proofs.CircleLemmas.{same_part, Reached, a_tree, no_tree, reached}
+
+number_in : {A : Type 0} (xs : List A) (x : A) → In xs x → (n : ℕ) × (slice_get xs n ≡ Some x)
+number_in [] x i = absurd i
+number_in (y ∷ ys) x (inl e) = (0, ap Some e)
+number_in (y ∷ ys) x (inr i) = let r = number_in ys x i in (suc r.0, r.1)
+
+-- some limit is exceeded where the last one is
+some_limit : (many occurs long : Bool) → long ≡ true → (limited : Limited) × ((if many then Some OnRepeat else if occurs then Some OnOccurrences else if long then Some OnLatency else None) ≡ Some limited)
+some_limit true occurs long e = (OnRepeat, refl)
+some_limit false true long e = (OnOccurrences, refl)
+some_limit false false long e = (OnLatency, ap (λ b. if b then Some OnLatency else None) e)
+
+both_true : (a b : Bool) → a ≡ true → b ≡ true → (a && b) ≡ true
+both_true a b e f = ap (λ c. c && b) e ∙ f
+
+exceeds : (part : PlainComponent) (v : Visited) → is_island part v ≡ true → REPETITIONS ≤ form_length part v.form → (limited : Limited) × (statement_limit part v ≡ Some limited)
+exceeds part v island long =
+    some_limit (is_too_many (count_in v.form)) (is_island part v && nat_lt OCCURRENCES (form_occurrences part v.form)) (is_island part v && nat_le REPETITIONS (form_length part v.form))
+    (both_true (is_island part v) (nat_le REPETITIONS (form_length part v.form)) island (le-leb REPETITIONS (form_length part v.form) long))
+
+module _ (d : PlainDesign) (accepted : IsAccepted d) (v : Visited) where
+  abbrev IsShort : PlainComponent → Type 0
+  IsShort part = In (statements_in part) v → is_island part v ≡ true → form_length part v.form < REPETITIONS
+
+  short_here : (k : ℕ) → k < length d.components → IsShort (component_at d k)
+  short_here k within i island =
+      ⊎_elim
+      (λ l. l)
+      (λ l. let n = number_in (statements_in (component_at d k)) v i in
+      let part : part_of (component_of d k) ≡ component_at d k = same_part d (length d.components) k in
+      let over = exceeds (part_of (component_of d k)) v (ap (λ x. is_island x v) part ∙ island) (subst (λ x. REPETITIONS ≤ form_length x v.form) (sym part) l) in
+      absurd (accepted.limits Limit (record { component = k; part = AStatement n.0 }) v.place (word_of over.0) refl
+      (inr (inr (inl (record { within = within; number = n.0; is = refl; statement = v; stands = n.1; breaks = (over.0, over.1, (refl, refl)) }))))))
+      (cases_lt (form_length (component_at d k) v.form) REPETITIONS)
+
+  -- an instance without a component has no island
+  short_bare : (part : PlainComponent) → part ≡ no_component → IsShort part
+  short_bare part e = subst IsShort (sym e) bare
+    where
+      bare : IsShort no_component
+      bare (inl f) island = absurd (never (ap (λ w. is_island no_component w) f ∙ island))
+        where
+          never : false ≡ true → ⊥
+          never e = cc
+      bare (inr none) island = absurd none
+
+  short_part : (k : ℕ) → IsShort (component_at d k)
+  short_part k =
+      ⊎_elim
+      (λ l. short_here k l)
+      (λ l. short_bare (component_at d k) (get_or_past d.components k no_component l))
+      (cases_lt k (length d.components))
+
+  short_reached : {i : Instance} → Reached d i → IsShort (part_of i)
+  short_reached (a_tree m k) = subst IsShort (sym (same_part d m k)) (short_part k)
+  short_reached no_tree = short_bare no_component refl
+
+  pub short_island : (path : Path) → IsShort (part_of (instance_at (tree_of d) path))
+  short_island path = short_reached (reached d path (length d.components) d.main)
