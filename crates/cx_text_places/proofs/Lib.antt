@@ -1,0 +1,4 @@
+pub mod Rising
+pub mod Spelled
+pub mod Written
+pub mod OfText

@@ -1,0 +1,19 @@
+//! Laws of designs of texts: each function does nothing, and its clause is the law.
+
+ghost use Rattle.std.specs.Prelude.{◌≡◌, List, ℕ};
+ghost use Rattle.cx_tokens.specs.declared.tokens.Token.{Token};
+ghost use Rattle.cx_ast.specs.PlainTree.{PlainTree, PlainComponent};
+ghost use Rattle.cx_lex.specs.Lex.{Lex};
+ghost use Rattle.cx_grammar.specs.Parsing.{Parse};
+ghost use Rattle.cx_meaning.specs.declared.ports.PlacedPort.{PlacedPort};
+ghost use Rattle.cx_meaning.specs.Sights.{In};
+ghost use Rattle.cx_rules.specs.Items.{sources_of};
+ghost use Rattle.cx_numbering.specs.DesignOf.{assign_of};
+ghost use Rattle.cx_numbering.specs.NameRules.{Standing, standing};
+
+/// In the design of a text each operand of an assignment that is written has a place of its own: two at one place are of one port.
+pub fn written_operands_are_placed()
+    ensures { (text : List ℕ) (tokens : List Token) (tree : PlainTree) (part : PlainComponent) (x : Standing) (p q : PlacedPort)
+        → Lex text tokens → Parse tokens tree → In tree.components part → In (standing part) x
+        → In (sources_of (assign_of tree part x.assign)) p → In (sources_of (assign_of tree part x.assign)) q → p.place ≡ q.place → p.port ≡ q.port }
+{}
