@@ -2,3 +2,5 @@ pub mod Rising
 pub mod Spelled
 pub mod Written
 pub mod OfText
+pub mod Registers
+pub mod Invoked
