@@ -4,3 +4,4 @@ pub mod Written
 pub mod OfText
 pub mod Registers
 pub mod Invoked
+pub mod Placed

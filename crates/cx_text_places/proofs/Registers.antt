@@ -5,7 +5,7 @@ use Rattle.std.proofs.lemmas.Option.{slice_get-map, slice_get_within}
 use Rattle.cx_prim.specs.declared.names.PrimitiveName.{PrimitiveName}
 use Rattle.cx_prim.specs.declared.names.PrimitiveName.TheVariants as primitives
 use Rattle.cx_prim.specs.PortNames.{text_of}
-use Rattle.cx_prim.specs.Rows.{Row, is_output_side, side_of}
+use Rattle.cx_prim.specs.Rows.{Row, is_output_side}
 use Rattle.cx_prim.specs.RegisterRow.{register_row}
 use Rattle.cx_prim.specs.Widths.{is_width}
 use Rattle.cx_prim.specs.Table.{PrimitiveRow, row_at, row_of, no_row, at_width}
@@ -16,6 +16,7 @@ use Rattle.cx_ast.specs.PlainTree as ast
 use Rattle.cx_ast.specs.PlainTree.{PlainTree}
 use Rattle.cx_meaning.specs.Designs.{PlainCell, PlainKind, OfPrimitive, OfComponent, PlainDesign, component_at}
 use Rattle.cx_meaning.specs.Instances.{Instance, At, OfRow, cell_at, cells_of, add_cell, cells_for, tree_within}
+use Rattle.cx_meaning.specs.Rows.{side_of}
 use Rattle.cx_meaning.specs.Sights.{In}
 use Rattle.cx_rules.specs.Ports.{component_of as instance_of, is_cell_output, is_target_only}
 use Rattle.cx_numbering.specs.Names.{cell_names, cell_among, CellOf, Neither, APrimitive, AComponent, cell_of, cell_port_names, found_cell_ports}
