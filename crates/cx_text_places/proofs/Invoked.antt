@@ -1,15 +1,14 @@
 -- The assignments of an invoke's group: of two that are no sources and stand at one place the ports are one.
-use Rattle.std.proofs.Common.{◌≡◌, ℕ, suc, true, false, List, [], ◌∷◌, ◌++◌, map, flat_map, slice_get, Some, codes, inl, inr, ⊎_elim, refl, sym, ap, ◌∙◌, subst, true≢false}
+use Rattle.std.proofs.Common.{◌≡◌, ℕ, suc, true, List, [], ◌∷◌, ◌++◌, map, flat_map, slice_get, Some, inl, inr, ⊎_elim, refl, sym, ap, ◌∙◌, subst, true≢false}
 use Rattle.cx_ast.specs.declared.statements.BindItem.{BindItem}
 use Rattle.cx_ast.specs.PlainTree as ast
 use Rattle.cx_ast.specs.PlainTree.{PlainTree}
-use Rattle.cx_meaning.specs.declared.ports.PortRef.{PortRef}
 use Rattle.cx_meaning.specs.declared.ports.PlacedPort.{PlacedPort}
 use Rattle.cx_meaning.specs.Designs.{Atom, PlainAssign, PlainGroup, guards_of}
 use Rattle.cx_meaning.specs.Sights.{In}
 use Rattle.cx_rules.specs.Items.{sources_of, operands_of, operands_in}
 use Rattle.cx_rules.specs.Ports.{component_of as instance_of, is_target_only}
-use Rattle.cx_numbering.specs.DesignOf.{Invoke, cell_port, register_of, at, one, register_done, input_assign, go_guard, go_assign, capture_assigns, done_assign, invoke_group, invoke_groups, design_of}
+use Rattle.cx_numbering.specs.DesignOf.{Invoke, at, one, register_done, input_assign, go_guard, go_assign, capture_assigns, done_assign, invoke_group, invoke_groups, design_of}
 use Rattle.cx_numbering.specs.NameRules.{is_register_in}
 use Rattle.cx_named.proofs.Base.{in_map, flat_in, in_either}
 use Rattle.cx_named.proofs.Circles.{KeptCell}

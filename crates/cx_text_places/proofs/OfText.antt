@@ -14,9 +14,9 @@ use Rattle.cx_rules.specs.Items.{sources_of, operands_of, operands_in}
 use Rattle.cx_numbering.specs.Names.{groups_in, always_in}
 use Rattle.cx_numbering.specs.DesignOf.{placed_of, guard_of, guards_in, guard_or_always, assign_of}
 use Rattle.cx_numbering.specs.NameRules.{Standing, standing}
-use Rattle.cx_named.proofs.Base.{in_left, in_right, in_either, in_map, map_in, flat_in}
+use Rattle.cx_named.proofs.Base.{in_left, in_right, in_either, in_map, flat_in}
 use Rattle.cx_text_places.proofs.Rising.{text_rises}
-use Rattle.cx_text_places.proofs.Spelled.{Chain, in_guard, in_guards, one_at_place}
+use Rattle.cx_text_places.proofs.Spelled.{in_guard, in_guards, one_at_place}
 use Rattle.cx_text_places.proofs.Written.{in_maybe, in_assign, Assigns, Each, Wires, HasWires, written_in_text}
 
 each_in : {A : Type 0} (P : A → Type 0) (xs : List A) (x : A) → Each P xs → In xs x → P x

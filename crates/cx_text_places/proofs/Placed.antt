@@ -3,22 +3,18 @@ use Rattle.std.proofs.Common.{◌≡◌, ℕ, suc, Bool, true, false, cond, List
 use Rattle.std.proofs.lemmas.Option.{slice_get-map, unwrap_or-slice_get}
 use Rattle.cx_text.specs.declared.diagnostics.Diagnostic.{Diagnostic}
 use Rattle.cx_tokens.specs.declared.tokens.Token.{Token}
-use Rattle.cx_ast.specs.declared.statements.BindItem.{BindItem}
 use Rattle.cx_ast.specs.PlainTree as ast
 use Rattle.cx_ast.specs.PlainTree.{PlainTree}
 use Rattle.cx_ast.specs.PlainStatements as statements
 use Rattle.cx_lex.specs.Lex.{Lex}
 use Rattle.cx_grammar.specs.Parsing.{Parse}
-use Rattle.cx_meaning.specs.declared.ports.PlacedPort.{PlacedPort}
-use Rattle.cx_meaning.specs.Designs.{PlainAssign, PlainGroup, PlainComponent, component_at, no_component}
+use Rattle.cx_meaning.specs.Designs.{PlainAssign, PlainGroup, component_at, no_component}
 use Rattle.cx_meaning.specs.Active.{Owned, owned, owned_by_groups, no_later, placed_in, by_place, source_order}
 use Rattle.cx_meaning.specs.Sights.{In}
 use Rattle.cx_rules.specs.Accepted.{FirstBreak}
-use Rattle.cx_rules.specs.Items.{sources_of}
-use Rattle.cx_rules.specs.Ports.{component_of as instance_of, is_target_only}
 use Rattle.cx_numbering.specs.Names.{groups_in, always_in, group_names, cell_of}
 use Rattle.cx_numbering.specs.DesignOf.{Invoke, assign_of, group_of, invoke_group, invoke_groups, control_invokes, component_of, design_of}
-use Rattle.cx_numbering.specs.NameRules.{Visited, visit_block, names_break, is_register_in}
+use Rattle.cx_numbering.specs.NameRules.{Visited, visit_block, names_break}
 use Rattle.cx_breaks.specs.OneBreak.{IsPlaced}
 use Rattle.cx_breaks.proofs.OneBreak.{one_break, one_break_name}
 use Rattle.cx_named.proofs.Base.{in_at, in_map, in_either}
@@ -27,7 +23,7 @@ use Rattle.cx_named.proofs.There.{component_is}
 use Rattle.cx_named.proofs.Circles.{KeptCell, kept_cell}
 use Rattle.cx_named.proofs.Invokes.{KeptInvoke, kept_invoke, output_register}
 use Rattle.cx_named.proofs.Statements.{invoke_of_block, visited_of}
-use Rattle.cx_text_places.proofs.Written.{Each, Wires, HasWires}
+use Rattle.cx_text_places.proofs.Written.{HasWires}
 use Rattle.cx_text_places.proofs.OfText.{assign_placed, always_wired, in_group, wires_of_text}
 use Rattle.cx_text_places.proofs.Invoked.{Tells, invoke_tells, invoked}
 

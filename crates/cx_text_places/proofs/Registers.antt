@@ -15,7 +15,7 @@ use Rattle.cx_ast.specs.declared.statements.BindItem.{BindItem}
 use Rattle.cx_ast.specs.PlainTree as ast
 use Rattle.cx_ast.specs.PlainTree.{PlainTree}
 use Rattle.cx_meaning.specs.Designs.{PlainCell, PlainKind, OfPrimitive, OfComponent, PlainDesign, component_at}
-use Rattle.cx_meaning.specs.Instances.{Instance, At, OfRow, cell_at, cells_of, add_cell, cells_for, tree_within}
+use Rattle.cx_meaning.specs.Instances.{OfRow, cell_at, cells_of, add_cell, cells_for, tree_within}
 use Rattle.cx_meaning.specs.Rows.{side_of}
 use Rattle.cx_meaning.specs.Sights.{In}
 use Rattle.cx_rules.specs.Ports.{component_of as instance_of, is_cell_output, is_target_only}

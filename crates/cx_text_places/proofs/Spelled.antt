@@ -1,5 +1,5 @@
 -- What a grammar spells, over tokens that stand further and further on.
-use Rattle.std.proofs.Common.{◌≡◌, ℕ, List, [], ◌∷◌, ◌++◌, ◌⊎◌, inl, inr, refl, sym, ◌∙◌, subst}
+use Rattle.std.proofs.Common.{◌≡◌, List, [], ◌∷◌, ◌++◌, ◌⊎◌, inl, inr, sym, ◌∙◌, subst}
 use Rattle.cx_text.specs.declared.places.Place.{Place}
 use Rattle.cx_tokens.specs.declared.tokens.Token.{Token}
 use Rattle.cx_ast.specs.declared.operands.OperandItem.{OperandItem}
@@ -7,8 +7,7 @@ use Rattle.cx_ast.specs.PlainGuards.{PlainGuard, PlainGuards, Or, And, Compare, 
 use Rattle.cx_meaning.specs.Sights.{In}
 use Rattle.cx_grammar.specs.declared.terminals.Terminal.{Terminal}
 use Rattle.cx_grammar.specs.Grammar.{Nest, Negation, Parens, Braces, Nested, Grammar, Empty, One, Pair, Choice, Several, Commas, Deeper, Spelling, Spells, Several_of, Commas_of, IsComma}
-use Rattle.cx_grammar.specs.Calyx.{sign, behind, before, within, pair, mapped}
-use Rattle.cx_text_places.proofs.Rising.{Before, NoLater, here, before_no_later, then_later, then_before, not_before_itself, Rises, rises_earlier}
+use Rattle.cx_text_places.proofs.Rising.{Before, NoLater, here, before_no_later, then_later, then_before, not_before_itself, Rises}
 
 -- the operands stand one behind the other, from p on and up to q
 abbrev pub Chain : Place → List OperandItem → Place → Type 0

@@ -1,5 +1,5 @@
 -- The operands of an assignment that is written stand one behind the other.
-use Rattle.std.proofs.Common.{◌≡◌, ℕ, zero, suc, List, [], ◌∷◌, ◌++◌, map, flat_map, Option, Some, None, inl, inr, ⊎_elim, refl, sym, ap, ◌∙◌, subst, append_assoc, append-nil}
+use Rattle.std.proofs.Common.{◌≡◌, ℕ, zero, suc, List, [], ◌∷◌, ◌++◌, flat_map, Option, Some, None, refl, sym, ap, ◌∙◌, subst, append_assoc, append-nil}
 use Rattle.cx_text.specs.declared.places.Place.{Place}
 use Rattle.cx_tokens.specs.declared.tokens.Token.{Token}
 use Rattle.cx_ast.specs.declared.components.Attribute.{Attribute}
@@ -9,11 +9,11 @@ use Rattle.cx_ast.specs.PlainTree.{PlainTree, PlainComponent, PlainGroup, PlainW
 use Rattle.cx_ast.specs.PlainTree as ast
 use Rattle.cx_grammar.specs.declared.terminals.Terminal.{Terminal}
 use Rattle.cx_grammar.specs.declared.terminals.Terminal.TheVariants as t
-use Rattle.cx_grammar.specs.Grammar.{Nest, Negation, Parens, Braces, Nested, Grammar, Empty, One, Pair, Choice, Several, Deeper, Spelling, Spells}
+use Rattle.cx_grammar.specs.Grammar.{Nest, Negation, Parens, Braces, Nested, Grammar, Empty, Pair, Choice, Deeper, Spelling, Spells}
 use Rattle.cx_grammar.specs.Calyx.{sign, name, number, behind, before, within, pair, mapped, many, reference, target_of, assign_of, target, literal, literal_of, operand, cmp, window_range, window, prefixed, unary, compared, comp, and_of, next_comp, more_comps, conj, or_of, next_conj, more_conjs, guard, Value, guarded_of, guarded, guard_value, after_operand, value, assign_of, bare_assign, attributes, assign, group_word, marks, assigns, group_of, bare_group, assign_wire, group_wire, wire, wire_list, wires_part, cells, control, nest, component_word, signature, body, component_of, component, imports, components, file, spelled_within}
 use Rattle.cx_grammar.specs.Parsing.{Parse}
-use Rattle.cx_text_places.proofs.Rising.{Before, NoLater, here, before_no_later, then_later, Rises}
-use Rattle.cx_text_places.proofs.Spelled.{Chain, chain_earlier, chain_join, chain_passes, chain_later, in_guard, in_guards, Between, Passes, Guards, Nests, Keeps, Gives, gives_empty, gives_one, gives_pair, gives_choice, gives_several, passes}
+use Rattle.cx_text_places.proofs.Rising.{Before, NoLater, here, then_later, Rises}
+use Rattle.cx_text_places.proofs.Spelled.{Chain, chain_earlier, chain_join, chain_later, in_guard, in_guards, Between, Passes, Guards, Nests, Keeps, Gives, gives_empty, gives_one, gives_pair, gives_choice, gives_several, passes}
 
 -- operands of conjunctions and disjunctions
 abbrev in_each : List PlainGuard → List OperandItem
