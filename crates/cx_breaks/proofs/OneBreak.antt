@@ -253,7 +253,7 @@ module _ (d : PlainDesign) (spot : Spot) (place : Place) (n m : List ℕ) where
   names_of NotATarget h a b = assign_name d spot place n m BreaksNotATarget (λ k o s x y. x.1.1 ∙ sym y.1.1) a b
   names_of NotASource h (inl a) (inl b) =
       assign_name d spot place n m BreaksNotASource
-      (λ k o s x y. x.3.1 ∙ ap (path_of (component_of d spot.component)) (h refl spot.component k o x.0 y.0 s x.1 y.1 (sym x.3.0 ∙ y.3.0)) ∙ sym y.3.1) a b
+      (λ k o s x y. x.3.1 ∙ ap (path_of (component_of d spot.component)) (h refl spot.component k o x.0 y.0 s x.1 y.1 x.2 y.2 (sym x.3.0 ∙ y.3.0)) ∙ sym y.3.1) a b
   names_of NotASource h (inl a) (inr b) = absurd_spot spot (AnAssign a.number) (AStatement b.number) a.is b.is (assign_statement a.number b.number)
   names_of NotASource h (inr a) (inl b) = absurd_spot spot (AnAssign b.number) (AStatement a.number) b.is a.is (assign_statement b.number a.number)
   names_of NotASource h (inr a) (inr b) =

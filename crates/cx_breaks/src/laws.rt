@@ -8,7 +8,7 @@ ghost use Rattle.cx_rules.specs.Accepted.{FirstBreak};
 ghost use Rattle.cx_breaks.specs.OneBreak.{IsPlaced};
 
 /// Two first breaks of one design are of one rule, at one place. They have one name, but for `not-a-source`, where the
-/// places of an assignment's operands have to tell their ports, as in the design of a text.
+/// places of an assignment's operands that are no sources have to tell their ports, as in the design of a text.
 pub fn first_break_is_one()
     ensures rule { (d : PlainDesign) (a b : Diagnostic) → FirstBreak d a → FirstBreak d b → a.rule ≡ b.rule }
     ensures place { (d : PlainDesign) (a b : Diagnostic) → FirstBreak d a → FirstBreak d b → a.place ≡ b.place }

@@ -1,0 +1,4 @@
+//! Places of operands in designs of texts.
+#![tactic(auto)]
+
+pub mod laws;
