@@ -1,0 +1,4 @@
+pub mod Positions
+pub mod TidyLemmas
+pub mod CodedLemmas
+pub mod WideLemmas
