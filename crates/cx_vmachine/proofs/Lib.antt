@@ -2,3 +2,4 @@ pub mod Positions
 pub mod TidyLemmas
 pub mod CodedLemmas
 pub mod WideLemmas
+pub mod PassLemmas
