@@ -10,8 +10,8 @@ ghost use Rattle.cx_vbuild.specs.Parts.{CanCode, PartStands, Extends, HasPart, M
 use crate::coding::push_module;
 use cx_text::Memory;
 use cx_vcodes::ModuleNumbers;
-use cx_vtable::Row;
 use cx_veval::Code;
+use cx_vtable::Row;
 use cx_vtree::Module;
 use std::alloc::Global;
 use std::collections::BTreeMap;

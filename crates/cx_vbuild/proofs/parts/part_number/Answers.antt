@@ -16,9 +16,9 @@ returns-in-Some-clause-number c =
     let is : number_by c.args.found.now c.bytes.result.now ≡ Some c.in-Some.number.now = sym c.in-Some.ensures.value in
     let h = c.requires.found c.bytes.result.now c.in-Some.number.now is in
     λ p at.
-        let row : placed_of c.index-rows-i.result ≡ p = cc in
-        let same = c.requires.named h.0 c.args.i h.1 p h.2 at (h.3 ∙ named ∙ ap (λ x. x.part.name) row) in
-        subst (λ m. HasPart c.args.list.now.items c.args.codes.now.items c.in-Some.number.now m) same h.4
+    let row : placed_of c.index-rows-i.result ≡ p = cc in
+    let same = c.requires.named h.0 c.args.i h.1 p h.2 at (h.3 ∙ named ∙ ap (λ x. x.part.name) row) in
+    subst (λ m. HasPart c.args.list.now.items c.args.codes.now.items c.in-Some.number.now m) same h.4
 
 pub code_part-requires : goal.code_part-requires
 code_part-requires c =
@@ -31,9 +31,9 @@ returns-clause-number c =
     let number : c.len-number.result ≡ length c.args.list.now.items = omega (arith, c.len-number.ensures, c.args.list.now.ok.0) in
     let stands = subst (λ x. PartStands c.code_part.new.codes.items (plain_module x.module.now) c.in_ok-made.made) (sym c.index-rows-i.is) c.in_ok-made.ensures.part in
     λ p at.
-        let row : placed_of c.index-rows-i.result ≡ p = cc in
-        subst (λ x. HasPart c.push.new.self.items c.code_part.new.codes.items c.len-number.result x.part) row
-        (has_new c.args.list.now.items c.push.new.self.items c.in_ok-made.made c.code_part.new.codes.items c.len-number.result (placed_of c.index-rows-i.result).part c.in_ok-push.ensures.items number stands)
+    let row : placed_of c.index-rows-i.result ≡ p = cc in
+    subst (λ x. HasPart c.push.new.self.items c.code_part.new.codes.items c.len-number.result x.part) row
+    (has_new c.args.list.now.items c.push.new.self.items c.in_ok-made.made c.code_part.new.codes.items c.len-number.result (placed_of c.index-rows-i.result).part c.in_ok-push.ensures.items number stands)
 
 pub returns-clause-kept : goal.returns-clause-kept
 returns-clause-kept c =
