@@ -1,5 +1,6 @@
 -- The modules of a sound source's tree can be coded.
-use Rattle.std.proofs.Common.{◌≡◌, ℕ, zero, suc, ◌+◌, ◌<◌, ◌≤◌, ◌^◌, Bool, false, List, [], ◌∷◌, length, Option, Some, None, option_and_then, slice_get, refl, ap, sym, ◌∙◌, subst, arith, length-append, length-map}
+use Rattle.std.proofs.Common.{◌≡◌, ℕ, zero, suc, ◌+◌, ◌<◌, ◌≤◌, ◌^◌, Bool, false, List, [], ◌∷◌, length, Option, Some, None, option_and_then, slice_get, refl, ap, sym, ◌∙◌, subst, arith, length-append}
+use Rattle.std.proofs.lemmas.List.{length-map}
 use Rattle.std.specs.Option.{option_map_or}
 use Rattle.cx_vtree.specs.Plain.{PlainExpr, PlainPort, PlainDecl, WireOf, RegisterOf, ArrayOf, PlainAssign, PlainStore, PlainItem, SetTo, StoreTo, PlainEdge, PlainModule}
 use Rattle.cx_vtree.specs.InstanceTree.{Placed, ports_at, decls_at, declared_nets, nets_at, Origin, Given, origin_of}
@@ -31,8 +32,8 @@ StoresAre tree = (i reset k : ℕ) (s : PlainStore) → slice_get (acting_stores
 -- a declaration is of a net or of an array
 decl_count : (ds : List PlainDecl) → length ds ≡ length (declared_nets ds) + length (declared_arrays ds)
 decl_count [] = refl
-decl_count (WireOf n w ∷ ds) = ap suc (decl_count ds)
-decl_count (RegisterOf n w ∷ ds) = ap suc (decl_count ds)
+decl_count (WireOf n w ∷ ds) = let e = decl_count ds in omega (arith, e)
+decl_count (RegisterOf n w ∷ ds) = let e = decl_count ds in omega (arith, e)
 decl_count (ArrayOf n w k ∷ ds) = let e = decl_count ds in omega (arith, e)
 
 -- an item of a branch is among its sets or its stores

@@ -11,7 +11,7 @@ ghost use Rattle.cx_vmachine.specs.Machines.{BuiltStands};
 use crate::driving::drivers;
 use crate::facts::trees_can_be_built;
 use crate::stepping::{all_steps, resets};
-use crate::tables::{Table, root, table};
+use crate::tables::{Table, listed, root};
 use cx_text::Memory;
 use cx_vbuild::{driven_nets_stand, stored, tables_fit, zeros_stand};
 use cx_veval::{Mark, Nets, Stored};
@@ -102,6 +102,6 @@ pub fn machine(alloc: Global, source: &Source) -> Result<Built, Memory>
     trees_can_be_built();
     let main = root(alloc)?;
     let rows = rows(alloc, source.modules(), &main)?;
-    let table = table(alloc, rows)?;
+    let table = listed(alloc, rows)?;
     build(alloc, table)
 }
