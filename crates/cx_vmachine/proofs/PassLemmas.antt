@@ -172,7 +172,7 @@ module _ (tree : List Placed) (codes : List Code) where
       (λ more. let none : slice_get (nets_at tree i) k ≡ None = ap (λ o. slice_get (nets_of o) k) (none_past tree i more) in absurd (cc))
       (cases_lt i (length tree))
     where
-      abbrev nets_of : Option Placed → List (List ℕ)
+      nets_of : Option Placed → List (List ℕ)
       nets_of o = map (λ p. p.name) (option_map_or (λ p. p.part.ports) o []) ++ declared_nets (option_map_or (λ p. p.part.decls) o [])
 
   pub driven_none : (count : ℕ) → IsTidy tree → count ≡ nets_before tree (length tree) → DrivenBelow tree codes 0 (replicate count driver.Held)

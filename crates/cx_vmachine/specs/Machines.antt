@@ -1,6 +1,6 @@
 -- A machine that stands for a source, before it runs.
-use Rattle.cx_vtree.specs.Plain.{PlainSource}
-use Rattle.cx_vtree.specs.InstanceTree.{Placed, instances_of}
+use Rattle.std.specs.Prelude.{List}
+use Rattle.cx_vtree.specs.InstanceTree.{Placed}
 use Rattle.cx_vrun.specs.Runs.{IsReady}
 use Rattle.cx_vflat.specs.Memory.{StoredStands}
 use Rattle.cx_vflat.specs.RunsFlat.{MachineStands}

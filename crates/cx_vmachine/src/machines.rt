@@ -64,7 +64,7 @@ fn bench(alloc: Global, stored: &Stored, stores: usize) -> Result<Bench, Memory>
 fn build(alloc: Global, table: Table<'_>) -> Result<Built, Memory>
     requires table { TableStands table }
     requires tree { CanBeBuilt (tree_of table) }
-    ensures { IfOk result (BuiltStands (tree_of table)) }
+    ensures { IfOk result (BuiltStands (tree_of table.entry)) }
 {
     let stored = stored(alloc, &table.rows)?;
     zeros_stand();

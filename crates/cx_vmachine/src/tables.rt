@@ -41,7 +41,7 @@ pub(crate) fn root(alloc: Global) -> Result<Vec<Instance>, Memory>
 /// Lists the places of instances, and codes their modules. More codes than 32 bits can number count as want of memory.
 pub(crate) fn listed<'a>(alloc: Global, rows: Vec<Row<'a>>) -> Result<Table<'a>, Memory>
     requires { CanBeBuilt (map placed_of rows.items) }
-    ensures rows { IfOk result (λ t. t.rows.items ≡ rows.items) }
+    ensures rows { IfOk result (λ t. t.rows.items ≡ rows.entry.items) }
     ensures stands { IfOk result TableStands }
 {
     let places = places(alloc, &rows)?;
