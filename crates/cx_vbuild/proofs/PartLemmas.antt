@@ -1,5 +1,5 @@
 -- The codes of a module, by their numbers.
-use Rattle.std.proofs.Common.{◌≡◌, ℕ, zero, suc, ◌+◌, Bool, true, false, cond, Ordering, List, [], ◌∷◌, ◌++◌, map, length, Some, slice_get, refl, ap, sym, ◌∙◌, subst, arith}
+use Rattle.std.proofs.Common.{◌≡◌, ℕ, zero, suc, ◌+◌, ◌≤◌, Bool, true, false, cond, Ordering, List, [], ◌∷◌, ◌++◌, map, length, Some, slice_get, refl, ap, sym, ◌∙◌, subst, arith, length-append}
 use Rattle.std.specs.BTreeMap as tree
 use Rattle.std.specs.BTreeMap.{BTreeMap}
 use Rattle.std.specs.Cmp.Lexicographic.{slice_cmp, same_text}
@@ -56,12 +56,29 @@ front (y ∷ xs) ys (suc k) x e = front xs ys k x e
 extended : {A : Type 0} (old new made : List A) (k : ℕ) (x : A) → new ≡ old ++ made → slice_get old k ≡ Some x → slice_get new k ≡ Some x
 extended old new made k x e at = ap (λ l. slice_get l k) e ∙ front old made k x at
 
+longer : {A : Type 0} (old new made : List A) → new ≡ old ++ made → length new ≡ length old + length made
+longer old new made e = ap length e ∙ length-append old made
+
+paired_count : {A B : Type 0} (R : A → B → Type 0) (xs : List A) (ys : List B) → Paired R xs ys → length xs ≡ length ys
+paired_count R [] [] h = refl
+paired_count R (x ∷ xs) (y ∷ ys) h = ap suc (paired_count R xs ys h.1)
+paired_count R [] (y ∷ ys) h = absurd h
+paired_count R (x ∷ xs) [] h = absurd h
+
+-- as many codes were added as there are expressions
+pub codes_within : (nets arrays : Numbering) (old new : List Code) (first : ℕ) (exprs : List PlainExpr) → first ≡ length old → AddsCodes nets arrays old new exprs → first + length exprs ≤ length new
+codes_within nets arrays old new first exprs is a =
+    let more = longer old new a.0 a.1 in
+    let same = paired_count (IsCode nets arrays) a.0 exprs a.2 in
+    omega (arith, is, more, same)
+
 -- a part stands with more codes
 part_kept : (old new made : List Code) (m : PlainModule) (x : Part) → new ≡ old ++ made → PartStands old m x → PartStands new m x
 part_kept old new made m x e p = record {
   nets = p.nets;
   arrays = p.arrays;
   coded = λ j y at. let c = p.coded j y at in (c.0, extended old new made (x.first + j) c.0 e c.1, c.2);
+  within = let was = p.within in let more = longer old new made e in omega (arith, was, more);
 }
 
 -- and so does what has a part, with more parts

@@ -1,5 +1,5 @@
 -- Modules with the numbers of their names and their codes.
-use Rattle.std.specs.Prelude.{◌≡◌, ℕ, ◌+◌, ◌<◌, ◌^◌, List, ◌++◌, Some, length, slice_get}
+use Rattle.std.specs.Prelude.{◌≡◌, ℕ, ◌+◌, ◌<◌, ◌≤◌, ◌^◌, List, ◌++◌, Some, length, slice_get}
 use Rattle.std.specs.BTreeMap.{BTreeMap}
 use denote.Ref.{Bor}
 use Rattle.cx_vtree.specs.Plain.{PlainExpr, PlainModule}
@@ -27,6 +27,7 @@ pub record PartStands (codes : List Code) (m : PlainModule) (p : Part) : Type 0 
   pub nets : nets_by p.numbers ≡ net_numbering m.ports m.decls
   pub arrays : arrays_by p.numbers ≡ array_numbering m.decls
   pub coded : HasCodes (net_numbering m.ports m.decls) (array_numbering m.decls) codes p.first (module_exprs m)
+  pub within : p.first + length (module_exprs m) ≤ length codes
 
 -- codes come behind others
 abbrev pub Extends : List Code → List Code → Type 0

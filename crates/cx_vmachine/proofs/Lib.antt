@@ -3,3 +3,4 @@ pub mod TidyLemmas
 pub mod CodedLemmas
 pub mod WideLemmas
 pub mod PassLemmas
+pub mod RowLemmas

@@ -25,7 +25,7 @@ use Rattle.cx_vbuild.specs.Covered.{IsTidy, IsStored, IsDriven}
 use Rattle.cx_vmachine.specs.Passes.{RowTied, RowGiven, DrivenBelow, StandBelow}
 use Rattle.cx_vmachine.proofs.Positions.{front}
 
-behind : {A : Type 0} (xs ys : List A) (k j : ℕ) → k ≡ length xs + j → slice_get (xs ++ ys) k ≡ slice_get ys j
+pub behind : {A : Type 0} (xs ys : List A) (k j : ℕ) → k ≡ length xs + j → slice_get (xs ++ ys) k ≡ slice_get ys j
 behind [] ys k j e = let same : k ≡ j = omega arith in ap (slice_get ys) same
 behind (x ∷ xs) ys zero j e = absurd (omega arith)
 behind (x ∷ xs) ys (suc k) j e = behind xs ys k j (omega arith)
@@ -104,7 +104,7 @@ all_stores_stand tree codes reset stores s = record {
 }
 
 -- lists of lower number end before the end
-lists_up : (lists : ℕ → List (List ℕ)) (n i : ℕ) → i < n → before lists i + length (lists i) ≤ before lists n
+pub lists_up : (lists : ℕ → List (List ℕ)) (n i : ℕ) → i < n → before lists i + length (lists i) ≤ before lists n
 lists_up lists zero i lt = absurd (omega arith)
 lists_up lists (suc n) i lt = ⊎_elim
     (λ s.

@@ -33,4 +33,4 @@ pub record IsPartOf (tree : List Placed) (codes : List Code) (i : ℕ) (x : Part
   pub nets : nets_by x.numbers ≡ position (nets_at tree i)
   pub arrays : arrays_by x.numbers ≡ position (arrays_at tree i)
   pub coded : (j : ℕ) (e : PlainExpr) → slice_get (exprs_at tree i) j ≡ Some e → CodeStands tree codes i (x.first + j) e
-  pub small : 0 < length (exprs_at tree i) → x.first + length (exprs_at tree i) < 2 ^ 32
+  pub small : x.first + length (exprs_at tree i) < 2 ^ 32

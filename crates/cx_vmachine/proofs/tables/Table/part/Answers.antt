@@ -1,20 +1,29 @@
-use Rattle.std.proofs.Common.{rules, ◌≡◌, ◌<◌, IfOk, [], ◌∷◌, length, map, ℕ, ◌+◌, ◌-◌, ◌*◌, ◌≤◌, ◌/◌, ◌%◌, Bool, true, false, nat_eq, nat_lt, List, ◌++◌, slice_index_or, slice_set, bit_and, bit_or, Fits, w8, w32, w64, Bor, MutBor}
-use Rattle.cx_vtree.specs.InstanceTree.{main_instance, tree_from, below}
-use Rattle.cx_vtree.specs.PlainParts.{plain_instance}
+use Rattle.std.proofs.Common.{◌<◌, length, arith}
+use Rattle.std.proofs.lemmas.List.{length-map}
 use Rattle.cx_vtable.specs.Rows.{placed_of}
-use Rattle.cx_vflat.specs.Numbers.{place_of}
-use Rattle.cx_vmachine.specs.Trees.{CanBeBuilt}
-use Rattle.cx_vmachine.specs.Tables.{tree_of, TableStands, IsPartOf}
+use Rattle.cx_vmachine.specs.Tables.{tree_of}
+use Rattle.cx_vmachine.proofs.RowLemmas.{own_row, own_part, part_read}
 use Rattle.cx_vmachine.proofs.tables.Table.part.Goals as goal
 
--- src/tables.rt:77:26
 pub index-requires : goal.index-requires
-index-requires c = ?
+index-requires c =
+    let t = c.args.self.now in
+    let long = length-map t.rows.items placed_of in
+    let lt : c.args.i < length (tree_of t) = omega (arith, long, c.requires.within) in
+    let own = own_row (tree_of t) t.codes.items t.parts.list.items t.parts.of_rows.items c.requires.stands.parts c.args.i lt in
+    omega (arith, own, t.parts.of_rows.ok.0)
 
--- src/tables.rt:77:10
 pub index-requires-2 : goal.index-requires-2
-index-requires-2 c = ?
+index-requires-2 c =
+    let t = c.args.self.now in
+    let long = length-map t.rows.items placed_of in
+    let lt : c.args.i < length (tree_of t) = omega (arith, long, c.requires.within) in
+    let own = own_part (tree_of t) t.codes.items t.parts.list.items t.parts.of_rows.items c.requires.stands.parts c.args.i lt c.index.result.now c.index.ensures in
+    omega (arith, own, t.parts.list.ok.0)
 
--- src/tables.rt:72:5
 pub returns : goal.returns
-returns c = ?
+returns c =
+    let t = c.args.self.now in
+    let long = length-map t.rows.items placed_of in
+    let lt : c.args.i < length (tree_of t) = omega (arith, long, c.requires.within) in
+    part_read (tree_of t) t.codes.items t.parts.list.items t.parts.of_rows.items c.requires.stands.parts c.args.i lt c.index.result.now c.index-2.result.now c.index.ensures c.index-2.ensures c.requires.stands.small

@@ -1,16 +1,15 @@
-use Rattle.std.proofs.Common.{rules, ◌≡◌, ◌<◌, IfOk, [], ◌∷◌, length, map, ℕ, ◌+◌, ◌-◌, ◌*◌, ◌≤◌, ◌/◌, ◌%◌, Bool, true, false, nat_eq, nat_lt, List, ◌++◌, slice_index_or, slice_set, bit_and, bit_or, Fits, w8, w32, w64, Bor, MutBor}
-use Rattle.cx_vtree.specs.InstanceTree.{main_instance, tree_from, below}
-use Rattle.cx_vtree.specs.PlainParts.{plain_instance}
-use Rattle.cx_vtable.specs.Rows.{placed_of}
-use Rattle.cx_vflat.specs.Numbers.{place_of}
-use Rattle.cx_vmachine.specs.Trees.{CanBeBuilt}
-use Rattle.cx_vmachine.specs.Tables.{tree_of, TableStands, IsPartOf}
+use Rattle.std.proofs.Common.{◌≡◌, length, ap, ◌∙◌, arith}
+use Rattle.cx_vmachine.specs.Tables.{tree_of}
+use Rattle.cx_vmachine.proofs.RowLemmas.{length-places, place_read}
 use Rattle.cx_vmachine.proofs.tables.Table.place.Goals as goal
 
--- src/tables.rt:68:9
 pub index-requires : goal.index-requires
-index-requires c = ?
+index-requires c =
+    let t = c.args.self.now in
+    let long : length t.places.items ≡ length t.rows.items = ap length c.requires.stands.places ∙ length-places (tree_of t) (length t.rows.items) in
+    omega (arith, long, c.requires.within, t.places.ok.0)
 
--- src/tables.rt:63:5
 pub returns : goal.returns
-returns c = ?
+returns c =
+    let t = c.args.self.now in
+    place_read (tree_of t) t.places.items (length t.rows.items) c.args.i c.index.result.now c.requires.stands.places c.requires.within c.index.ensures
