@@ -1,5 +1,5 @@
 -- One instance more.
-use Rattle.std.proofs.Common.{◌≡◌, ℕ, zero, suc, ◌+◌, ◌<◌, ◌≤◌, ⊎_elim, Bool, true, false, List, [], ◌∷◌, ◌++◌, map, length, Option, Some, None, option_map, option_and_then, slice_get, refl, ap, sym, ◌∙◌, subst, arith}
+use Rattle.std.proofs.Common.{◌≡◌, ℕ, zero, suc, ◌+◌, ◌<◌, ◌≤◌, ⊎_elim, Bool, true, false, List, [], ◌∷◌, ◌++◌, map, length, take, Option, Some, None, option_map, option_and_then, slice_get, refl, ap, sym, ◌∙◌, subst, arith}
 use Rattle.std.specs.Prelude.{replicate}
 use Rattle.std.specs.Option.{option_map_or}
 use Rattle.std.proofs.lemmas.Bool.{cases_lt}
@@ -35,6 +35,12 @@ two_parts : {A : Type 0} (xs ys : List A) (h : ℕ) (x : A) (P : Type 0) → sli
 two_parts [] ys h x P e a b = b h e
 two_parts (y ∷ xs) ys zero x P e a b = a e
 two_parts (y ∷ xs) ys (suc h) x P e a b = two_parts xs ys h x P e a b
+
+-- what was lent is put back whole
+pub put_back : {A : Type 0} (new rest : List A) (n : ℕ) → n ≡ length new → take n (new ++ rest) ≡ new
+put_back [] rest n e = ap (λ k. take k rest) e
+put_back (x ∷ new) rest zero e = absurd (omega arith)
+put_back (x ∷ new) rest (suc n) e = ap (λ l. x ∷ l) (put_back new rest n (omega arith))
 
 module _ {A B : Type 0} (R : B → A → Type 0) where
   -- pairs by either of their sides
