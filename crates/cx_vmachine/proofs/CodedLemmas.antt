@@ -37,14 +37,14 @@ decl_count (RegisterOf n w ∷ ds) = let e = decl_count ds in omega (arith, e)
 decl_count (ArrayOf n w k ∷ ds) = let e = decl_count ds in omega (arith, e)
 
 -- an item of a branch is among its sets or its stores
-set_among : (items : List PlainItem) (j : ℕ) (a : PlainAssign) → slice_get items j ≡ Some (SetTo a) → (k : ℕ) × (slice_get (sets_in items) k ≡ Some a)
+pub set_among : (items : List PlainItem) (j : ℕ) (a : PlainAssign) → slice_get items j ≡ Some (SetTo a) → (k : ℕ) × (slice_get (sets_in items) k ≡ Some a)
 set_among [] j a e = absurd (cc)
 set_among (SetTo b ∷ items) zero a e = let same : b ≡ a = cc in (0, ap Some same)
 set_among (StoreTo s ∷ items) zero a e = absurd (cc)
 set_among (SetTo b ∷ items) (suc j) a e = let r = set_among items j a e in (suc r.0, r.1)
 set_among (StoreTo s ∷ items) (suc j) a e = set_among items j a e
 
-store_among : (items : List PlainItem) (j : ℕ) (s : PlainStore) → slice_get items j ≡ Some (StoreTo s) → (k : ℕ) × (slice_get (stores_in items) k ≡ Some s)
+pub store_among : (items : List PlainItem) (j : ℕ) (s : PlainStore) → slice_get items j ≡ Some (StoreTo s) → (k : ℕ) × (slice_get (stores_in items) k ≡ Some s)
 store_among [] j s e = absurd (cc)
 store_among (StoreTo t ∷ items) zero s e = let same : t ≡ s = cc in (0, ap Some same)
 store_among (SetTo a ∷ items) zero s e = absurd (cc)

@@ -4,3 +4,4 @@ pub mod CodedLemmas
 pub mod WideLemmas
 pub mod PassLemmas
 pub mod RowLemmas
+pub mod StepLemmas

@@ -13,7 +13,7 @@ use Rattle.cx_veval.specs.declared.nets.Driver.{Driver}
 use Rattle.cx_veval.specs.declared.nets.Driver.TheVariants as driver
 use Rattle.cx_veval.specs.declared.edges.Set.{Set}
 use Rattle.cx_veval.specs.declared.stores.Store.{Store}
-use Rattle.cx_vcodes.specs.Numbers.{position}
+use Rattle.cx_vcodes.specs.Numbers.{declared_arrays, position}
 use Rattle.cx_vflat.specs.Numbers.{before, arrays_at, nets_before, arrays_before, place_of}
 use Rattle.cx_vflat.specs.Flat.{CodeStands, DriverStands}
 use Rattle.cx_vflat.specs.EdgesFlat.{SetStands, StoreStands, SetsStand, StoresStand}
@@ -125,6 +125,13 @@ lists_up lists (suc n) i lt = ⊎_elim
     omega arith)
     (eqb_tells i n)
 
+-- the number of an array is one of all
+pub array_within : (tree : List Placed) (i k : ℕ) (name : List ℕ) → slice_get (arrays_at tree i) k ≡ Some name → arrays_before tree i + k < arrays_before tree (length tree)
+array_within tree i k name at = ⊎_elim
+    (λ less. let up = lists_up (arrays_at tree) (length tree) i less in let lt = slice_get_within (arrays_at tree i) k name at in omega (arith, up, lt))
+    (λ more. let none : slice_get (arrays_at tree i) k ≡ None = ap (λ o. slice_get (declared_arrays (option_map_or (λ (p : Placed). p.part.decls) o [])) k) (none_past tree i more) in absurd (cc))
+    (cases_lt i (length tree))
+
 module _ (tree : List Placed) (codes : List Code) where
   tied_kept : (b : Bool) (old new : List Driver) (i holder k n : ℕ) → KeepsRight tree codes old new → IsTied tree codes old i holder k n b → IsTied tree codes new i holder k n b
   tied_kept true old new i holder k n keeps t = keeps holder n t
@@ -208,10 +215,10 @@ module _ (tree : List Placed) (codes : List Code) where
       let same : ◌≡◌ {A = Store} (record { array = arrays_before tree i + k; guard = code; index = code + 1; value = code + 2; place = place_of tree i }) x = cc in
       subst (StoreStands tree codes i s) same (record { array = ap (option_map (λ j. arrays_before tree i + j)) is; place = refl; guard = guard; index = index; value = value })
 
-  abbrev AreCoded : ℕ → ℕ → List PlainExpr → Type 0
+  abbrev pub AreCoded : ℕ → ℕ → List PlainExpr → Type 0
   AreCoded i first exprs = (j : ℕ) (e : PlainExpr) → slice_get exprs j ≡ Some e → CodeStands tree codes i (first + j) e
 
-  coded_after : (i first : ℕ) (xs ys : List PlainExpr) (next : ℕ) → next ≡ first + length xs → AreCoded i first (xs ++ ys) → AreCoded i next ys
+  pub coded_after : (i first : ℕ) (xs ys : List PlainExpr) (next : ℕ) → next ≡ first + length xs → AreCoded i first (xs ++ ys) → AreCoded i next ys
   coded_after i first xs ys next is coded j e at =
       let number : first + (length xs + j) ≡ next + j = omega (arith, is) in
       subst (λ c. CodeStands tree codes i c e) number (coded (length xs + j) e (behind xs ys (length xs + j) j refl ∙ at))

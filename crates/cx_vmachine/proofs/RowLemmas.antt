@@ -106,7 +106,7 @@ module _ (tree : List Placed) (codes : List Code) (list : List Part) (of_rows : 
       let one : r.2.0 ≡ x = cc in
       stands_by p.0 x p.1 (subst (PartStands codes p.0.part) one r.2.2) small
 
-some_by : {A : Type 0} (o : Option A) (x : A) → o ≡ Some x → IsSome o
+pub some_by : {A : Type 0} (o : Option A) (x : A) → o ≡ Some x → IsSome o
 some_by o x e = subst IsSome (sym e) (is x)
   where
     is : {A : Type 0} (x : A) → IsSome (Some x)
