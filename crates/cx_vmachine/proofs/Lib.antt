@@ -5,3 +5,4 @@ pub mod WideLemmas
 pub mod PassLemmas
 pub mod RowLemmas
 pub mod StepLemmas
+pub mod BuiltLemmas
