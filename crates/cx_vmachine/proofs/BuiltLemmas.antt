@@ -1,14 +1,13 @@
 -- The machine of a tree that can be built.
-use Rattle.std.proofs.Common.{◌≡◌, ℕ, ◌+◌, List, [], ◌∷◌, ◌++◌, map, reverse, length, Option, Some, option_map, option_and_then, slice_get, refl, ap, sym, ◌∙◌, subst, arith, append-nil, codes}
-use Rattle.std.specs.Prelude.{IsSome}
+use Rattle.std.proofs.Common.{◌≡◌, ℕ, ◌+◌, List, [], ◌∷◌, ◌++◌, map, reverse, length, Some, option_map, option_and_then, slice_get, refl, ap, sym, ◌∙◌, subst, arith, append-nil, codes}
 use Rattle.cx_vtree.specs.Plain.{PlainPort, PlainInstance, PlainModule, PlainSource}
-use Rattle.cx_vtree.specs.InstanceTree.{Placed, main_instance, below, tree_from, instances_of, ports_at, decls_at, declared_nets, nets_at, kind_in, origin_by, origin_of, Outside}
+use Rattle.cx_vtree.specs.InstanceTree.{Placed, main_instance, below, tree_from, instances_of, decls_at, declared_nets, nets_at, kind_in, origin_by, origin_of, Outside}
 use Rattle.cx_veval.specs.declared.nets.Stored.{Stored}
 use Rattle.cx_veval.specs.Fits.{width_at, Fits}
 use Rattle.cx_veval.specs.Search.{SameWidths}
 use Rattle.cx_veval.specs.Stores.{plain_words}
 use Rattle.cx_vcodes.specs.Numbers.{position}
-use Rattle.cx_vcodes.specs.Laws.{declared_widths, net_widths}
+use Rattle.cx_vcodes.specs.Laws.{net_widths}
 use Rattle.cx_vrun.specs.declared.machines.Machine.{Machine}
 use Rattle.cx_vrun.specs.declared.machines.Bench.{Bench}
 use Rattle.cx_vrun.specs.Runs.{IsReady}
@@ -23,7 +22,6 @@ use Rattle.cx_vbuild.specs.Covered.{IsDriven, DrivenStand}
 use Rattle.cx_vbuild.specs.FitsLaws.{StoredHasWidths, NetsFit, AllSetsFit, AllStoresFit, ZerosFit}
 use Rattle.cx_vmachine.specs.Trees.{CanBeBuilt}
 use Rattle.cx_vmachine.specs.Machines.{BuiltStands}
-use Rattle.cx_vmachine.specs.declared.machines.Built.{Built}
 use Rattle.cx_vmachine.proofs.Positions.{nets_there, ports_there}
 use Rattle.cx_vmachine.proofs.RowLemmas.{some_by}
 

@@ -1,21 +1,21 @@
 -- The modules of a sound source's tree can be coded.
-use Rattle.std.proofs.Common.{◌≡◌, ℕ, zero, suc, ◌+◌, ◌<◌, ◌≤◌, ◌^◌, Bool, false, List, [], ◌∷◌, length, Option, Some, None, option_and_then, slice_get, refl, ap, sym, ◌∙◌, subst, arith, length-append}
+use Rattle.std.proofs.Common.{◌≡◌, ℕ, zero, suc, ◌+◌, ◌<◌, ◌≤◌, ◌^◌, false, List, [], ◌∷◌, length, Option, Some, None, option_and_then, slice_get, refl, ap, ◌∙◌, subst, arith, length-append}
 use Rattle.std.proofs.lemmas.List.{length-map}
 use Rattle.std.specs.Option.{option_map_or}
-use Rattle.cx_vtree.specs.Plain.{PlainExpr, PlainPort, PlainDecl, WireOf, RegisterOf, ArrayOf, PlainAssign, PlainStore, PlainItem, SetTo, StoreTo, PlainEdge, PlainModule}
-use Rattle.cx_vtree.specs.InstanceTree.{Placed, ports_at, decls_at, declared_nets, nets_at, Origin, Given, origin_of}
+use Rattle.cx_vtree.specs.Plain.{PlainExpr, PlainPort, PlainDecl, WireOf, RegisterOf, ArrayOf, PlainAssign, PlainStore, PlainItem, SetTo, StoreTo, PlainEdge}
+use Rattle.cx_vtree.specs.InstanceTree.{Placed, ports_at, decls_at, declared_nets, nets_at, Given, origin_of}
 use Rattle.cx_vtree.specs.Edges.{sets_in, stores_in, edge_at, acting_sets, acting_stores}
 use Rattle.cx_vtree.specs.Sound.{Scope, meant_in, misnames, width_of, decl_meaning}
 use Rattle.cx_vcodes.specs.Numbers.{declared_arrays}
 use Rattle.cx_vcodes.specs.Codes.{HasNumbers}
 use Rattle.cx_vcodes.specs.Laws.{NamesHaveNumbers, net_numbering, array_numbering}
-use Rattle.cx_vflat.specs.Numbers.{arrays_at, nets_before, arrays_before}
+use Rattle.cx_vflat.specs.Numbers.{arrays_at}
 use Rattle.cx_vfacts.specs.Widths.{scope_at, IsExpression}
 use Rattle.cx_vfacts.specs.Origins.{width_at, IsThere}
 use Rattle.cx_vfacts.specs.Edges.{IsSet, IsStore}
-use Rattle.cx_vbuild.specs.Tables.{IsWidth, decl_width, HasWidths}
+use Rattle.cx_vbuild.specs.Tables.{IsWidth, decl_width}
 use Rattle.cx_vbuild.specs.Coded.{AssignsHaveNumbers, EdgeHasNumbers, ItemHasNumbers}
-use Rattle.cx_vbuild.specs.Parts.{ModulesAreNamed, AllCanCode, CanCode}
+use Rattle.cx_vbuild.specs.Parts.{ModulesAreNamed}
 use Rattle.cx_vmachine.specs.Trees.{IsSmall, CanBeCoded}
 use Rattle.cx_vmachine.proofs.Positions.{position_here, origin_position, nets_there, ports_there, decls_there, share}
 use Rattle.cx_vmachine.proofs.TidyLemmas.{Origins}

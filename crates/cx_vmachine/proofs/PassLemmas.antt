@@ -5,7 +5,7 @@ use Rattle.std.specs.Option.{option_map_or}
 use Rattle.std.proofs.lemmas.Bool.{cases_lt}
 use Rattle.std.proofs.lemmas.Bool.Decides.{eqb_tells}
 use Rattle.std.proofs.lemmas.Option.{slice_get_within}
-use Rattle.cx_vtree.specs.Plain.{PlainExpr, PlainPort, PlainAssign, PlainConn, PlainStore, PlainItem, SetTo, StoreTo}
+use Rattle.cx_vtree.specs.Plain.{PlainExpr, PlainAssign, PlainStore, PlainItem, SetTo, StoreTo}
 use Rattle.cx_vtree.specs.InstanceTree.{Placed, declared_nets, nets_at, Origin, Outside, Tied, Held, Given, origin_of}
 use Rattle.cx_vtree.specs.Edges.{sets_in, stores_in, edge_at, acting_sets, acting_stores}
 use Rattle.cx_veval.specs.declared.codes.Code.{Code}
@@ -18,9 +18,9 @@ use Rattle.cx_vflat.specs.Numbers.{before, arrays_at, nets_before, arrays_before
 use Rattle.cx_vflat.specs.Flat.{CodeStands, DriverStands}
 use Rattle.cx_vflat.specs.EdgesFlat.{SetStands, StoreStands, SetsStand, StoresStand}
 use Rattle.cx_vbuild.specs.Added.{Paired, Adds}
-use Rattle.cx_vbuild.specs.Coded.{values_of, item_exprs, items_exprs}
+use Rattle.cx_vbuild.specs.Coded.{values_of, items_exprs}
 use Rattle.cx_vbuild.specs.Changes.{numbered, numbered_sets, numbered_stores, IsSet, IsStore}
-use Rattle.cx_vbuild.specs.Driven.{IsRight, KeepsRight, IsWhole, IsTied}
+use Rattle.cx_vbuild.specs.Driven.{KeepsRight, IsWhole, IsTied}
 use Rattle.cx_vbuild.specs.Covered.{IsTidy, IsStored, IsDriven}
 use Rattle.cx_vmachine.specs.Passes.{RowTied, RowGiven, DrivenBelow, StandBelow}
 use Rattle.cx_vmachine.proofs.Positions.{front}

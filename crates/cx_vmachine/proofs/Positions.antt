@@ -4,7 +4,7 @@ use Rattle.std.specs.Option.{option_map_or}
 use Rattle.std.specs.Cmp.Lexicographic.{same_text, bytes_decides}
 use Rattle.std.proofs.lemmas.Bool.Decides.{eqb_tells}
 use Rattle.std.proofs.lemmas.Option.{slice_get-map}
-use Rattle.cx_vtree.specs.Plain.{PlainPort, PlainDecl, WireOf, RegisterOf, ArrayOf, PlainModule}
+use Rattle.cx_vtree.specs.Plain.{PlainPort, PlainDecl, WireOf, RegisterOf, ArrayOf}
 use Rattle.cx_vtree.specs.InstanceTree.{Placed, same_name, ports_at, decls_at, declared_nets, nets_at, NetKind, Driven, Input, Stored, declared_kind, kind_in, origin_by, origin_of, Origin}
 use Rattle.cx_vcodes.specs.Numbers as codes
 use Rattle.cx_vcodes.specs.Numbers.{position}

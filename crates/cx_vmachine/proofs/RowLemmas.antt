@@ -1,27 +1,25 @@
 -- One instance of a table.
-use Rattle.std.proofs.Common.{◌≡◌, ℕ, zero, suc, ◌+◌, ◌<◌, ◌≤◌, ◌^◌, ⊎_elim, List, [], ◌∷◌, ◌++◌, map, length, get_or, Option, Some, None, option_map, slice_get, refl, ap, sym, ◌∙◌, subst, arith, length-append}
+use Rattle.std.proofs.Common.{◌≡◌, ℕ, zero, suc, ◌+◌, ◌<◌, ◌≤◌, ◌^◌, ⊎_elim, List, [], ◌∷◌, ◌++◌, map, length, get_or, Option, Some, option_map, slice_get, refl, ap, sym, ◌∙◌, subst, arith, length-append}
 use Rattle.std.specs.Prelude.{IsSome}
 use Rattle.std.specs.Option.{option_map_or}
 use Rattle.std.proofs.lemmas.List.{length-map}
 use Rattle.std.proofs.lemmas.Bool.{cases_lt}
 use Rattle.std.proofs.lemmas.Option.{slice_get-map, slice_get_read, slice_get_within}
-use Rattle.cx_vtree.specs.Plain.{PlainExpr, PlainPort, PlainAssign, PlainConn}
-use Rattle.cx_vtree.specs.InstanceTree.{Placed, declared_nets, nets_at, Given, origin_of}
+use Rattle.cx_vtree.specs.Plain.{PlainPort, PlainAssign, PlainConn}
+use Rattle.cx_vtree.specs.InstanceTree.{Placed, declared_nets, nets_at, Given}
 use Rattle.cx_veval.specs.declared.codes.Code.{Code}
 use Rattle.cx_veval.specs.declared.codes.Place.{Place}
 use Rattle.cx_veval.specs.declared.nets.Driver.{Driver}
 use Rattle.cx_vcodes.specs.Numbers.{declared_arrays, position}
 use Rattle.cx_vcodes.specs.Codes.{Numbering, IsCode}
-use Rattle.cx_vcodes.specs.Numberings.{nets_by, arrays_by}
+use Rattle.cx_vcodes.specs.Numberings.{nets_by}
 use Rattle.cx_vflat.specs.Numbers.{arrays_at, nets_before, place_of}
-use Rattle.cx_vflat.specs.Flat.{CodeStands}
 use Rattle.cx_vbuild.specs.Tables.{all_places}
 use Rattle.cx_vbuild.specs.Coded.{values_of, edge_exprs, module_exprs}
 use Rattle.cx_vbuild.specs.declared.parts.Part.{Part}
-use Rattle.cx_vbuild.specs.Parts.{PartStands, PartsStand, HasPart}
+use Rattle.cx_vbuild.specs.Parts.{PartStands, PartsStand}
 use Rattle.cx_vbuild.specs.Ties.{tied_ports, given_nets}
-use Rattle.cx_vbuild.specs.Driven.{KeepsRight, IsWhole, IsConnected, IsTied, TiesAreRight, IsGiven, GivensAreRight}
-use Rattle.cx_vbuild.specs.Covered.{IsTidy}
+use Rattle.cx_vbuild.specs.Driven.{KeepsRight, IsWhole, IsConnected, IsTied, TiesAreRight, GivensAreRight}
 use Rattle.cx_vmachine.specs.Trees.{CanBeBuilt}
 use Rattle.cx_vmachine.specs.Tables.{exprs_at, IsPartOf}
 use Rattle.cx_vmachine.specs.Passes.{RowTied, RowGiven}

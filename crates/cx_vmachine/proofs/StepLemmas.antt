@@ -1,11 +1,11 @@
 -- The sets and stores of one instance.
-use Rattle.std.proofs.Common.{◌≡◌, ℕ, ◌+◌, ◌<◌, ◌^◌, List, [], ◌∷◌, ◌++◌, map, length, Option, Some, None, option_and_then, slice_get, refl, ap, sym, ◌∙◌, subst, arith, length-append, append-nil}
+use Rattle.std.proofs.Common.{◌≡◌, ℕ, ◌+◌, ◌<◌, ◌^◌, List, [], ◌++◌, length, Some, None, option_and_then, slice_get, refl, ap, sym, ◌∙◌, subst, arith, length-append, append-nil}
 use Rattle.std.specs.Prelude.{IsSome}
 use Rattle.std.specs.Option.{option_map_or}
 use Rattle.std.proofs.lemmas.List.{length-map}
-use Rattle.cx_vtree.specs.Plain.{PlainExpr, PlainAssign, PlainStore, PlainItem, SetTo, StoreTo, PlainEdge}
-use Rattle.cx_vtree.specs.InstanceTree.{Placed, nets_at, Held, origin_of}
-use Rattle.cx_vtree.specs.Edges.{sets_in, stores_in, edge_at, acting_sets, acting_stores}
+use Rattle.cx_vtree.specs.Plain.{PlainAssign, PlainStore, PlainItem, SetTo, StoreTo, PlainEdge}
+use Rattle.cx_vtree.specs.InstanceTree.{Placed, nets_at, Held}
+use Rattle.cx_vtree.specs.Edges.{edge_at, acting_sets, acting_stores}
 use Rattle.cx_veval.specs.declared.codes.Code.{Code}
 use Rattle.cx_veval.specs.declared.codes.Place.{Place}
 use Rattle.cx_veval.specs.declared.edges.Set.{Set}
@@ -14,17 +14,16 @@ use Rattle.cx_vcodes.specs.Numbers.{position}
 use Rattle.cx_vcodes.specs.Codes.{Numbering}
 use Rattle.cx_vflat.specs.Numbers.{arrays_at, nets_before, arrays_before, place_of}
 use Rattle.cx_vflat.specs.EdgesFlat.{SetStands, StoreStands}
-use Rattle.cx_vbuild.specs.Added.{Paired, Adds}
+use Rattle.cx_vbuild.specs.Added.{Paired}
 use Rattle.cx_vbuild.specs.Coded.{values_of, items_exprs, edge_exprs, module_exprs}
 use Rattle.cx_vbuild.specs.Changes.{numbered, numbered_sets, numbered_stores, IsSet, IsStore, AddsSets, AddsStores, ItemIsNamed}
-use Rattle.cx_vbuild.specs.FitsLaws.{StoresAreAsWide}
 use Rattle.cx_vbuild.specs.declared.parts.Part.{Part}
 use Rattle.cx_vmachine.specs.Trees.{CanBeBuilt}
 use Rattle.cx_vmachine.specs.Tables.{exprs_at, IsPartOf}
 use Rattle.cx_vmachine.specs.Passes.{AddsRowSets, AddsRowStores}
 use Rattle.cx_vmachine.proofs.Positions.{position_here, origin_position, front}
 use Rattle.cx_vmachine.proofs.CodedLemmas.{set_among, store_among}
-use Rattle.cx_vmachine.proofs.PassLemmas.{AreCoded, coded_after, sets_paired, item_sets_paired, item_stores_paired, lists_up, array_within}
+use Rattle.cx_vmachine.proofs.PassLemmas.{AreCoded, coded_after, sets_paired, item_sets_paired, item_stores_paired, array_within}
 use Rattle.cx_vmachine.proofs.RowLemmas.{some_by, numbers_within}
 
 -- an instance without an edge changes nothing

@@ -1,8 +1,8 @@
 -- The nets and ports of a sound source's tree.
-use Rattle.std.proofs.Common.{◌≡◌, ℕ, Bool, true, false, List, [], length, Some, slice_get, refl, ap, sym, ◌∙◌, subst}
+use Rattle.std.proofs.Common.{◌≡◌, ℕ, Bool, true, false, List, [], length, Some, slice_get, refl, sym, subst}
 use Rattle.std.specs.Prelude.{IsSome}
 use Rattle.cx_vtree.specs.Plain.{PlainPort, PlainConn}
-use Rattle.cx_vtree.specs.InstanceTree.{Placed, nets_at, Origin, Tied, origin_of}
+use Rattle.cx_vtree.specs.InstanceTree.{Placed, Origin, Tied, origin_of}
 use Rattle.cx_vfacts.specs.Origins.{IsNet, width_at, IsThere}
 use Rattle.cx_vbuild.specs.Driven.{NetsAreApart, TellsOrigin, IsConnected}
 use Rattle.cx_vbuild.specs.Covered.{IsTidy}

@@ -1,22 +1,21 @@
 -- What gives a net, a register or a word its value is as wide.
-use Rattle.std.proofs.Common.{◌≡◌, ℕ, zero, suc, ◌+◌, ◌==◌, Bool, true, false, List, [], ◌∷◌, ◌++◌, map, length, Option, Some, None, slice_get, refl, ap, sym, ◌∙◌, subst, if◌then◌else◌}
+use Rattle.std.proofs.Common.{◌≡◌, ℕ, zero, suc, ◌+◌, ◌==◌, Bool, true, false, List, [], ◌∷◌, ◌++◌, map, Option, Some, None, slice_get, refl, ap, sym, ◌∙◌, subst, if◌then◌else◌}
 use Rattle.std.specs.Option.{option_map_or}
 use Rattle.std.specs.Cmp.Lexicographic.{same_text}
-use Rattle.cx_vtree.specs.declared.meanings.Meaning.TheVariants.{Input, Output, Wire, Register, Array}
-use Rattle.cx_vtree.specs.Plain.{PlainExpr, PlainPort, PlainDecl, WireOf, RegisterOf, ArrayOf, PlainAssign, PlainStore}
+use Rattle.cx_vtree.specs.declared.meanings.Meaning.TheVariants.{Input, Output, Register}
+use Rattle.cx_vtree.specs.Plain.{PlainExpr, PlainPort, PlainDecl, WireOf, RegisterOf, ArrayOf}
 use Rattle.cx_vtree.specs.InstanceTree as kinds
 use Rattle.cx_vtree.specs.InstanceTree.{Placed, same_name, ports_at, decls_at, declared_nets, nets_at, NetKind, declared_kind, kind_in, driving_output, output_to, assigned, driver_of, origin_by, Origin, Outside, Tied, Held, Given, origin_of}
-use Rattle.cx_vtree.specs.Edges.{edge_at, acting_sets, acting_stores}
 use Rattle.cx_vtree.specs.Sound.{Scope, width_of, is_array, decl_name, decl_meaning, port_meaning}
-use Rattle.cx_vcodes.specs.Numbers.{declared_arrays, position}
+use Rattle.cx_vcodes.specs.Numbers.{declared_arrays}
 use Rattle.cx_vcodes.specs.Laws.{declared_widths, net_widths, array_widths}
 use Rattle.cx_vflat.specs.Numbers.{arrays_at}
 use Rattle.cx_vfacts.specs.Names as facts
 use Rattle.cx_vfacts.specs.Widths.{scope_at}
-use Rattle.cx_vfacts.specs.Origins.{IsNet, width_at, IsThere}
+use Rattle.cx_vfacts.specs.Origins.{width_at, IsThere}
 use Rattle.cx_vfacts.specs.MainPorts.{main_ports}
 use Rattle.cx_vbuild.specs.Zeros.{widths_at, InputsAreBits}
-use Rattle.cx_vbuild.specs.FitsLaws.{IsAsWide, OriginsAreAsWide, SetIsAsWide, SetsAreAsWide, StoreIsAsWide, StoresAreAsWide}
+use Rattle.cx_vbuild.specs.FitsLaws.{IsAsWide, OriginsAreAsWide, SetsAreAsWide, StoresAreAsWide}
 use Rattle.cx_vmachine.specs.Trees.{IsEvenlyWide}
 use Rattle.cx_vmachine.proofs.Positions.{position_here, position_there, origin_found, origin_position, ports_there, arrays_at_same}
 use Rattle.cx_vmachine.proofs.TidyLemmas.{Origins}

@@ -1,6 +1,6 @@
 -- What is made of the instances one after another.
 use Rattle.std.specs.Prelude.{◌≡◌, ℕ, ◌<◌, List, Some, slice_get}
-use Rattle.cx_vtree.specs.Plain.{PlainPort, PlainAssign, PlainConn, PlainStore}
+use Rattle.cx_vtree.specs.Plain.{PlainPort, PlainAssign, PlainConn}
 use Rattle.cx_vtree.specs.InstanceTree.{Placed, nets_at, Origin, origin_of}
 use Rattle.cx_vtree.specs.Edges.{edge_at, acting_sets, acting_stores}
 use Rattle.cx_veval.specs.declared.codes.Code.{Code}

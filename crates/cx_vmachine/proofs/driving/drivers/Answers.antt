@@ -1,8 +1,6 @@
-use Rattle.std.proofs.Common.{◌≡◌, ◌+◌, length, map, replicate, take, drop, ◌++◌, ap, sym, ◌∙◌, subst, arith}
+use Rattle.std.proofs.Common.{◌≡◌, ◌+◌, length, drop, sym, subst, arith}
 use Rattle.std.proofs.lemmas.List.{length-map}
-use Rattle.cx_veval.specs.declared.nets.Driver.TheVariants.{Held}
 use Rattle.cx_vtable.specs.Rows.{placed_of}
-use Rattle.cx_vflat.specs.Numbers.{nets_before}
 use Rattle.cx_vbuild.specs.Driven.{KeepsRight}
 use Rattle.cx_vmachine.specs.Tables.{tree_of}
 use Rattle.cx_vmachine.specs.Passes.{DrivenBelow}

@@ -1,4 +1,4 @@
-use Rattle.std.proofs.Common.{◌≡◌, ◌<◌, length, map, slice_get, Some, ap, sym, ◌∙◌, arith}
+use Rattle.std.proofs.Common.{length, map, slice_get, ap, sym, ◌∙◌, arith}
 use Rattle.std.proofs.lemmas.List.{length-map}
 use Rattle.cx_vtree.specs.PlainParts.{plain_port, plain_conn}
 use Rattle.cx_vcodes.specs.Numberings.{nets_by}

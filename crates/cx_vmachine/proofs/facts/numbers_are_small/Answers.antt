@@ -1,4 +1,4 @@
-use Rattle.std.proofs.Common.{◌≡◌, ◌<◌, ◌^◌, ◌+◌, length, refl, ap, sym, arith}
+use Rattle.std.proofs.Common.{◌+◌, length, refl, ap, sym, arith}
 use Rattle.cx_vtree.specs.InstanceTree.{instances_of}
 use Rattle.cx_vflat.specs.Numbers.{nets_before, arrays_before}
 use Rattle.cx_vmachine.proofs.Positions.{arrays_at_same}

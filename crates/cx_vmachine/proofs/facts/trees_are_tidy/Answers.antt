@@ -1,4 +1,4 @@
-use Rattle.std.proofs.Common.{◌≡◌, Some, ap, sym, ◌∙◌}
+use Rattle.std.proofs.Common.{◌≡◌, ap, sym, ◌∙◌}
 use Rattle.cx_vtree.specs.InstanceTree.{Placed, instances_of}
 use Rattle.cx_vmachine.proofs.TidyLemmas.{tidy_tree}
 use Rattle.cx_vmachine.proofs.facts.trees_are_tidy.Goals as goal

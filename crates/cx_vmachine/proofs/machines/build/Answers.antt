@@ -1,5 +1,4 @@
 use Rattle.std.proofs.Common.{◌≡◌, map, refl, ap, ◌∙◌, length, arith}
-use Rattle.cx_veval.specs.Stores.{plain_words}
 use Rattle.cx_vtable.specs.Rows.{placed_of}
 use Rattle.cx_vbuild.specs.Tables.{all_zeros, all_zero_arrays}
 use Rattle.cx_vmachine.specs.Tables.{tree_of}

@@ -1,10 +1,8 @@
-use Rattle.std.proofs.Common.{◌≡◌, List, [], ◌∷◌, ◌++◌, map, reverse, IfOk, ap, sym, ◌∙◌, subst, append-nil}
-use Rattle.cx_vtree.specs.InstanceTree.{Placed, main_instance, tree_from, below, instances_of}
+use Rattle.std.proofs.Common.{map, IfOk, ap, sym, ◌∙◌, subst}
 use Rattle.cx_vtree.specs.PlainParts.{plain_instance, plain_modules}
 use Rattle.cx_vtree.specs.PlainSources.{plain_source}
 use Rattle.cx_vtable.specs.Rows.{placed_of}
 use Rattle.cx_vmachine.specs.Trees.{CanBeBuilt}
-use Rattle.cx_vmachine.specs.Tables.{tree_of}
 use Rattle.cx_vmachine.specs.Machines.{BuiltStands}
 use Rattle.cx_vmachine.proofs.BuiltLemmas.{main_alone}
 use Rattle.cx_vmachine.proofs.machines.machine.Goals as goal

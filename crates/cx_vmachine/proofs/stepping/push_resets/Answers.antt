@@ -1,6 +1,6 @@
-use Rattle.std.proofs.Common.{◌≡◌, ◌+◌, length, map, option_map, slice_get, Some, ap, sym, ◌∙◌, arith}
+use Rattle.std.proofs.Common.{◌+◌, length, map, option_map, slice_get, ap, sym, ◌∙◌, arith}
 use Rattle.std.proofs.lemmas.List.{length-map}
-use Rattle.cx_vtree.specs.PlainParts.{plain_assign, plain_item, plain_edge}
+use Rattle.cx_vtree.specs.PlainParts.{plain_assign, plain_edge}
 use Rattle.cx_vcodes.specs.Numberings.{nets_by, arrays_by}
 use Rattle.cx_vtable.specs.Rows.{placed_of}
 use Rattle.cx_vmachine.specs.Tables.{tree_of}

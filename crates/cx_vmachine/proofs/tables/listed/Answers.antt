@@ -1,4 +1,4 @@
-use Rattle.std.proofs.Common.{◌≡◌, map, Some, slice_get, ap, sym, ◌∙◌}
+use Rattle.std.proofs.Common.{map, slice_get, ap, sym, ◌∙◌}
 use Rattle.cx_vtable.specs.Rows.{placed_of}
 use Rattle.cx_vmachine.proofs.tables.listed.Goals as goal
 
