@@ -108,7 +108,7 @@ module _ (tree : List Placed) (origins : Origins tree) (numbered : NamesHaveNumb
       let nets = share (nets_at tree) (length tree) i lt in
       let arrays = share (arrays_at tree) (length tree) i lt in
       let own : length (nets_at tree i) ≡ length p.part.ports + length (declared_nets p.part.decls) =
-          ap length (nets_there tree i p at) ∙ length-append _ (declared_nets p.part.decls) ∙ ap (λ n. n + length (declared_nets p.part.decls)) (length-map p.part.ports (λ (q : PlainPort). q.name)) in
+      ap length (nets_there tree i p at) ∙ length-append _ (declared_nets p.part.decls) ∙ ap (λ n. n + length (declared_nets p.part.decls)) (length-map p.part.ports (λ (q : PlainPort). q.name)) in
       let others : length (arrays_at tree i) ≡ length (declared_arrays p.part.decls) = ap (λ ds. length (declared_arrays ds)) (decls_there tree i p at) in
       let count = decl_count p.part.decls in
       let most = small.both in

@@ -85,10 +85,13 @@ module _ (tree : List Placed) (codes : List Code) (list : List Part) (of_rows : 
     nets = s.nets ∙ ap position (sym (nets_there tree i p at));
     arrays = s.arrays ∙ ap (λ ds. position (declared_arrays ds)) (sym (decls_there tree i p at));
     coded = λ j e there.
-        let c = s.coded j e (ap (λ l. slice_get l j) (sym (scope_is p at)) ∙ there) in
-        (c.0, c.1, subst (λ f. IsCode f (position (arrays_at tree i)) c.0 e) (ap position (sym (nets_there tree i p at)))
-        (subst (λ g. IsCode (position (map (λ q. q.name) p.part.ports ++ declared_nets p.part.decls)) g c.0 e)
-        (ap (λ ds. position (declared_arrays ds)) (sym (decls_there tree i p at))) c.2));
+        let c = s.coded j e (ap (λ l. slice_get l j) (sym (scope_is p at)) ∙ there) in (
+          c.0,
+          c.1,
+          subst (λ f. IsCode f (position (arrays_at tree i)) c.0 e) (ap position (sym (nets_there tree i p at)))
+              (subst (λ g. IsCode (position (map (λ q. q.name) p.part.ports ++ declared_nets p.part.decls)) g c.0 e)
+              (ap (λ ds. position (declared_arrays ds)) (sym (decls_there tree i p at))) c.2),
+        );
     small = let w = s.within in let e = ap length (scope_is p at) in omega (arith, w, e, small);
   }
 
@@ -135,7 +138,7 @@ module _ (tree : List Placed) (codes : List Code) (build : CanBeBuilt tree) wher
     assigns_short x is =
         let small = is.small in
         let all : length (exprs_at tree i) ≡ length (values_of p.part.assigns) + length (edge_exprs p.part.edge) =
-            ap (λ o. length (option_map_or (λ (q : Placed). module_exprs q.part) o [])) at ∙ length-append (values_of p.part.assigns) (edge_exprs p.part.edge) in
+        ap (λ o. length (option_map_or (λ (q : Placed). module_exprs q.part) o [])) at ∙ length-append (values_of p.part.assigns) (edge_exprs p.part.edge) in
         let own : length (values_of p.part.assigns) ≡ length p.part.assigns = length-map p.part.assigns (λ (b : PlainAssign). b.value) in
         omega (arith, small, all, own)
 
@@ -146,15 +149,19 @@ module _ (tree : List Placed) (codes : List Code) (build : CanBeBuilt tree) wher
         → (assigns : List PlainAssign) → assigns ≡ p.part.assigns → new ≡ given_nets (nets_by x.numbers) place x.first assigns old → GivenRight old new
     give_right law x is place e old new whole assigns same made =
         let r = law tree codes i x.first p.part.assigns old build.tidy.apart whole (λ j a there.
-            let given = build.rooted.givens i j p a at there in
-            let number = origin_position tree i a.name (Given a.value) given in
-            record { number = number.0; net = number.1; origin = given; coded = is.coded j a.value (expr_front j a there) }) in
+        let given = build.rooted.givens i j p a at there in
+        let number = origin_position tree i a.name (Given a.value) given in
+        record { number = number.0; net = number.1; origin = given; coded = is.coded j a.value (expr_front j a there) }) in
         let made_is : given_nets (position (nets_at tree i)) (place_of tree i) x.first p.part.assigns old ≡ new =
-            sym (made ∙ ap (λ f. given_nets f place x.first assigns old) is.nets ∙ ap (λ q. given_nets (position (nets_at tree i)) q x.first assigns old) e
-            ∙ ap (λ l. given_nets (position (nets_at tree i)) (place_of tree i) x.first l old) same) in
-        subst (GivenRight old) made_is (r.0, r.1, λ j n q a here there number.
-            let one : p ≡ q = cc in
-            r.2 j a n (subst (λ (z : Placed). slice_get z.part.assigns j ≡ Some a) (sym one) there) number)
+        sym (made ∙ ap (λ f. given_nets f place x.first assigns old) is.nets ∙ ap (λ q. given_nets (position (nets_at tree i)) q x.first assigns old) e
+        ∙ ap (λ l. given_nets (position (nets_at tree i)) (place_of tree i) x.first l old) same) in
+        subst (GivenRight old) made_is (
+          r.0,
+          r.1,
+          λ j n q a here there number.
+              let one : p ≡ q = cc in
+              r.2 j a n (subst (λ (z : Placed). slice_get z.part.assigns j ≡ Some a) (sym one) there) number,
+        )
 
     module _ (inner : i ≡ 0 → ⊥) where
       pub conn_named : (nets : Numbering) → nets ≡ position (nets_at tree p.holder) → (j : ℕ) (c : PlainConn) → slice_get p.conns j ≡ Some c → IsSome (nets c.net)
@@ -171,7 +178,7 @@ module _ (tree : List Placed) (codes : List Code) (build : CanBeBuilt tree) wher
       ports_within start count e f =
           let up = lists_up (nets_at tree) (length tree) i (slice_get_within tree i p at) in
           let own : length (nets_at tree i) ≡ length p.part.ports + length (declared_nets p.part.decls) =
-              ap length (nets_there tree i p at) ∙ length-append _ (declared_nets p.part.decls) ∙ ap (λ n. n + length (declared_nets p.part.decls)) (length-map p.part.ports (λ (q : PlainPort). q.name)) in
+          ap length (nets_there tree i p at) ∙ length-append _ (declared_nets p.part.decls) ∙ ap (λ n. n + length (declared_nets p.part.decls)) (length-map p.part.ports (λ (q : PlainPort). q.name)) in
           omega (arith, up, own, e, f)
 
       abbrev TiedRight : List Driver → List Driver → Type 0
@@ -182,18 +189,22 @@ module _ (tree : List Placed) (codes : List Code) (build : CanBeBuilt tree) wher
           → new ≡ tied_ports nets own.nets around.nets 0 ports conns old → TiedRight old new
       tie_right law nets e own around f g old new whole ports conns h k made =
           let r = law tree codes i p.holder p.part.ports p.conns old build.tidy.apart whole (λ j port c there conn.
-              let t = build.tidy.ports i j p port at inner there in
-              let u = t.1 in
-              let same : t.0 ≡ c = cc in
-              subst (IsConnected tree i p.holder j port) same t.3) in
+          let t = build.tidy.ports i j p port at inner there in
+          let u = t.1 in
+          let same : t.0 ≡ c = cc in
+          subst (IsConnected tree i p.holder j port) same t.3) in
           let made_is : tied_ports (position (nets_at tree p.holder)) (nets_before tree i) (nets_before tree p.holder) 0 p.part.ports p.conns old ≡ new =
-              sym (made ∙ ap (λ n. tied_ports n own.nets around.nets 0 ports conns old) e
-              ∙ ap (λ (q : Place). tied_ports (position (nets_at tree p.holder)) q.nets around.nets 0 ports conns old) f
-              ∙ ap (λ (q : Place). tied_ports (position (nets_at tree p.holder)) (nets_before tree i) q.nets 0 ports conns old) g
-              ∙ ap (λ l. tied_ports (position (nets_at tree p.holder)) (nets_before tree i) (nets_before tree p.holder) 0 l conns old) h
-              ∙ ap (λ l. tied_ports (position (nets_at tree p.holder)) (nets_before tree i) (nets_before tree p.holder) 0 p.part.ports l old) k) in
-          subst (TiedRight old) made_is (r.0, r.1, λ j n q port c here inside there conn number.
-              let one : p ≡ q = cc in
-              subst (λ (z : Placed). IsTied tree codes (tied_ports (position (nets_at tree p.holder)) (nets_before tree i) (nets_before tree p.holder) 0 p.part.ports p.conns old) i z.holder j n port.output) one
-              (r.2 j port c n (subst (λ (z : Placed). slice_get z.part.ports j ≡ Some port) (sym one) there) (subst (λ (z : Placed). slice_get z.conns j ≡ Some c) (sym one) conn)
-              (subst (λ (z : Placed). position (nets_at tree z.holder) c.net ≡ Some n) (sym one) number)))
+          sym (made ∙ ap (λ n. tied_ports n own.nets around.nets 0 ports conns old) e
+          ∙ ap (λ (q : Place). tied_ports (position (nets_at tree p.holder)) q.nets around.nets 0 ports conns old) f
+          ∙ ap (λ (q : Place). tied_ports (position (nets_at tree p.holder)) (nets_before tree i) q.nets 0 ports conns old) g
+          ∙ ap (λ l. tied_ports (position (nets_at tree p.holder)) (nets_before tree i) (nets_before tree p.holder) 0 l conns old) h
+          ∙ ap (λ l. tied_ports (position (nets_at tree p.holder)) (nets_before tree i) (nets_before tree p.holder) 0 p.part.ports l old) k) in
+          subst (TiedRight old) made_is (
+            r.0,
+            r.1,
+            λ j n q port c here inside there conn number.
+                let one : p ≡ q = cc in
+                subst (λ (z : Placed). IsTied tree codes (tied_ports (position (nets_at tree p.holder)) (nets_before tree i) (nets_before tree p.holder) 0 p.part.ports p.conns old) i z.holder j n port.output) one
+                (r.2 j port c n (subst (λ (z : Placed). slice_get z.part.ports j ≡ Some port) (sym one) there) (subst (λ (z : Placed). slice_get z.conns j ≡ Some c) (sym one) conn)
+                (subst (λ (z : Placed). position (nets_at tree z.holder) c.net ≡ Some n) (sym one) number)),
+          )

@@ -116,20 +116,29 @@ module _ (tree : List Placed) (codes : List Code) (build : CanBeBuilt tree) (i :
         pub resets_added : (first : ℕ) → first ≡ x.first + length p.part.assigns → (old new : List Set) (assigns : List PlainAssign) → assigns ≡ e.reset → AddsSets nets place old new (numbered first assigns)
             → AddsRowSets tree codes 1 i old new
         resets_added first f old new assigns same a =
-            let h = subst (λ l. Paired (IsSet nets place) a.0 (numbered first l)) same a.2 in
-            (a.0, a.1, subst (Paired (λ y b. SetStands tree codes i b y) a.0) (sym (ap (acting_sets 1) edge_is))
-            (sets_paired tree codes i first a.0 e.reset (resets_coded first f) (set_at a.0 (numbered first e.reset) h)))
+            let h = subst (λ l. Paired (IsSet nets place) a.0 (numbered first l)) same a.2 in (
+              a.0,
+              a.1,
+              subst (Paired (λ y b. SetStands tree codes i b y) a.0) (sym (ap (acting_sets 1) edge_is))
+                  (sets_paired tree codes i first a.0 e.reset (resets_coded first f) (set_at a.0 (numbered first e.reset) h)),
+            )
 
         pub sets_added : (first : ℕ) → first ≡ x.first + length p.part.assigns + length e.reset → (old new : List Set) (items : List PlainItem) → items ≡ e.step → AddsSets nets place old new (numbered_sets first items)
             → AddsRowSets tree codes 0 i old new
         sets_added first f old new items same a =
-            let h = subst (λ l. Paired (IsSet nets place) a.0 (numbered_sets first l)) same a.2 in
-            (a.0, a.1, subst (Paired (λ y b. SetStands tree codes i b y) a.0) (sym (ap (acting_sets 0) edge_is))
-            (item_sets_paired tree codes i first a.0 e.step (items_coded first f) (set_at a.0 (numbered_sets first e.step) h)))
+            let h = subst (λ l. Paired (IsSet nets place) a.0 (numbered_sets first l)) same a.2 in (
+              a.0,
+              a.1,
+              subst (Paired (λ y b. SetStands tree codes i b y) a.0) (sym (ap (acting_sets 0) edge_is))
+                  (item_sets_paired tree codes i first a.0 e.step (items_coded first f) (set_at a.0 (numbered_sets first e.step) h)),
+            )
 
         pub stores_added : (first : ℕ) → first ≡ x.first + length p.part.assigns + length e.reset → (old new : List Store) (items : List PlainItem) → items ≡ e.step
             → AddsStores arrays place old new (numbered_stores first items) → AddsRowStores tree codes i old new
         stores_added first f old new items same a =
-            let h = subst (λ l. Paired (IsStore arrays place) a.0 (numbered_stores first l)) same a.2 in
-            (a.0, a.1, subst (Paired (λ y s. StoreStands tree codes i s y) a.0) (sym (ap (acting_stores 0) edge_is))
-            (item_stores_paired tree codes i first a.0 e.step (items_coded first f) (store_at a.0 (numbered_stores first e.step) h)))
+            let h = subst (λ l. Paired (IsStore arrays place) a.0 (numbered_stores first l)) same a.2 in (
+              a.0,
+              a.1,
+              subst (Paired (λ y s. StoreStands tree codes i s y) a.0) (sym (ap (acting_stores 0) edge_is))
+                  (item_stores_paired tree codes i first a.0 e.step (items_coded first f) (store_at a.0 (numbered_stores first e.step) h)),
+            )

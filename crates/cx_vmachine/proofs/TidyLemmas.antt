@@ -39,13 +39,17 @@ module _ (tree : List Placed) (origins : Origins tree) (inputs : InputsTied tree
       (r.0, r.1, r.2, record { number = number.0; own = own; net = number.1; origin = subst (TellsOrigin tree i p.holder port.name r.0.net) (sym is) r.3 })
   by_output true i k p port at inner there is =
       let r = outputs i k p port at inner there is in
-      let number = origin_position tree p.holder r.0.net (Tied i port.name) r.3 in
-      (r.0, r.1, r.2, record {
-        number = number.0;
-        own = port_net tree i k p port at there;
-        net = number.1;
-        origin = subst (TellsOrigin tree i p.holder port.name r.0.net) (sym is) r.3;
-      })
+      let number = origin_position tree p.holder r.0.net (Tied i port.name) r.3 in (
+        r.0,
+        r.1,
+        r.2,
+        record {
+          number = number.0;
+          own = port_net tree i k p port at there;
+          net = number.1;
+          origin = subst (TellsOrigin tree i p.holder port.name r.0.net) (sym is) r.3;
+        },
+      )
 
   pub tidy_tree : NetsAreApart tree → ((p : Placed) → slice_get tree 0 ≡ Some p → p.conns ≡ []) → ((i : ℕ) (p : Placed) → slice_get tree i ≡ Some p → (i ≡ 0 → ⊥) → length p.conns ≡ length p.part.ports)
       → IsTidy tree

@@ -125,7 +125,7 @@ module _ (tree : List Placed) (origins : Origins tree)
       let of_main : ports_at tree i ≡ main_ports = ap (ports_at tree) root ∙ ports_there tree 0 main first ∙ is in
       let bit : port.1.width ≡ 1 = main_wide port.0 port.1 (ap (λ l. slice_get l port.0) (sym of_main) ∙ here) in
       let wide : width_at tree i name ≡ 1 =
-          ap (λ n. width_at tree i n) (sym port.3) ∙ ap width_of (ports i port.0 port.1 here) ∙ port_width port.1.output port.1.width ∙ bit in
+      ap (λ n. width_at tree i n) (sym port.3) ∙ ap width_of (ports i port.0 port.1 here) ∙ port_width port.1.output port.1.width ∙ bit in
       wide_at i k name at ∙ ap Some wide
 
   origin_wide : (i w : ℕ) (o : Origin) → IsThere tree i w o → IsAsWide tree i w o

@@ -53,7 +53,13 @@ fn give_row(drivers: &mut [Driver], table: &Table<'_>, i: usize)
     let row = &table.rows[i];
     let part = table.part(i);
     let place = table.place(i);
-    give_nets(drivers, &part.numbers, place, part.first, &row.module.assigns);
+    give_nets(
+        drivers,
+        &part.numbers,
+        place,
+        part.first,
+        &row.module.assigns,
+    );
     drivers_are_right();
 }
 

@@ -13,8 +13,8 @@ give_nets-requires-clause-named c =
     let row = c.index-row.result.now in
     let at = item_at placed_of t.rows.items c.args.i row c.requires.within c.index-row.ensures in
     λ j a there.
-        assign_named (tree_of t) t.codes.items c.requires.tree c.args.i (placed_of row) at (nets_by c.part-part.result.now.numbers) c.part-part.ensures.nets j a
-        (ap (λ l. slice_get (map plain_assign l) j) (sym c.deref.ensures.value) ∙ there)
+    assign_named (tree_of t) t.codes.items c.requires.tree c.args.i (placed_of row) at (nets_by c.part-part.result.now.numbers) c.part-part.ensures.nets j a
+    (ap (λ l. slice_get (map plain_assign l) j) (sym c.deref.ensures.value) ∙ there)
 
 pub give_nets-requires-clause-within : goal.give_nets-requires-clause-within
 give_nets-requires-clause-within c =

@@ -43,8 +43,8 @@ tie_ports-requires-clause-named c =
     let row = c.index-row.result.now in
     let at = item_at placed_of t.rows.items c.args.i row c.requires.within c.index-row.ensures in
     λ j x there.
-        conn_named (tree_of t) t.codes.items c.requires.tree c.args.i (placed_of row) at c.requires.inner (nets_by c.part-around.result.now.numbers) c.part-around.ensures.nets j x
-        (ap (λ l. slice_get (map plain_conn l) j) (sym c.deref-2.ensures.value) ∙ there)
+    conn_named (tree_of t) t.codes.items c.requires.tree c.args.i (placed_of row) at c.requires.inner (nets_by c.part-around.result.now.numbers) c.part-around.ensures.nets j x
+    (ap (λ l. slice_get (map plain_conn l) j) (sym c.deref-2.ensures.value) ∙ there)
 
 pub tie_ports-requires-clause-inner : goal.tie_ports-requires-clause-inner
 tie_ports-requires-clause-inner c =
@@ -52,7 +52,7 @@ tie_ports-requires-clause-inner c =
     let row = c.index-row.result.now in
     let at = item_at placed_of t.rows.items c.args.i row c.requires.within c.index-row.ensures in
     let short = ports_within (tree_of t) t.codes.items c.requires.tree c.args.i (placed_of row) at c.requires.inner c.place-inner.result.nets (length c.args.drivers.now)
-        (ap (λ p. p.nets) c.place-inner.ensures) c.requires.whole in
+    (ap (λ p. p.nets) c.place-inner.ensures) c.requires.whole in
     let ports = length-map row.module.now.ports.items plain_port in
     let same = ap length c.deref.ensures.value in
     omega (arith, short, ports, same)

@@ -17,12 +17,12 @@ pub build-requires-clause-tree : goal.build-requires-clause-tree
 build-requires-clause-tree c =
     let s = plain_source c.args.source.now in
     let all = ap (map placed_of) c.in_ok-table.ensures.rows ∙ c.in_ok-rows.ensures
-        ∙ main_alone s (plain_modules c.modules.result.now) (map plain_instance c.deref.result.now) c.modules.ensures.value (ap (map plain_instance) c.deref.ensures.value ∙ c.in_ok-main.ensures) in
+    ∙ main_alone s (plain_modules c.modules.result.now) (map plain_instance c.deref.result.now) c.modules.ensures.value (ap (map plain_instance) c.deref.ensures.value ∙ c.in_ok-main.ensures) in
     subst CanBeBuilt (sym all) (c.trees_can_be_built.ensures s c.modules.ensures.sound)
 
 pub returns : goal.returns
 returns c =
     let s = plain_source c.args.source.now in
     let all = ap (map placed_of) c.in_ok-table.ensures.rows ∙ c.in_ok-rows.ensures
-        ∙ main_alone s (plain_modules c.modules.result.now) (map plain_instance c.deref.result.now) c.modules.ensures.value (ap (map plain_instance) c.deref.ensures.value ∙ c.in_ok-main.ensures) in
+    ∙ main_alone s (plain_modules c.modules.result.now) (map plain_instance c.deref.result.now) c.modules.ensures.value (ap (map plain_instance) c.deref.ensures.value ∙ c.in_ok-main.ensures) in
     subst (λ tree. IfOk c.build.result (BuiltStands tree)) all c.build.ensures

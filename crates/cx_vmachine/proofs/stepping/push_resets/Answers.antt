@@ -14,8 +14,8 @@ push_sets-requires-clause-named c =
     let row = c.index.result.now in
     let at = item_at placed_of t.rows.items c.args.i row c.requires.within c.index.ensures in
     λ j a there.
-        resets_named (tree_of t) t.codes.items c.requires.tree c.args.i (placed_of row) at (plain_edge c.in-Some.edge) (ap (option_map plain_edge) c.in-Some.is)
-        (nets_by c.part-part.result.now.numbers) c.part-part.ensures.nets j a (ap (λ l. slice_get (map plain_assign l) j) (sym c.deref.ensures.value) ∙ there)
+    resets_named (tree_of t) t.codes.items c.requires.tree c.args.i (placed_of row) at (plain_edge c.in-Some.edge) (ap (option_map plain_edge) c.in-Some.is)
+    (nets_by c.part-part.result.now.numbers) c.part-part.ensures.nets j a (ap (λ l. slice_get (map plain_assign l) j) (sym c.deref.ensures.value) ∙ there)
 
 pub push_sets-requires-clause-small : goal.push_sets-requires-clause-small
 push_sets-requires-clause-small c =

@@ -15,9 +15,9 @@ push_items-requires-clause-named c =
     let row = c.index.result.now in
     let at = item_at placed_of t.rows.items c.args.i row c.requires.within c.index.ensures in
     λ j x there.
-        items_named (tree_of t) t.codes.items c.requires.tree c.args.i (placed_of row) at (plain_edge c.in-Some.edge) (ap (option_map plain_edge) c.in-Some.is)
-        (nets_by c.part-part.result.now.numbers) (arrays_by c.part-part.result.now.numbers) c.part-part.ensures.nets c.part-part.ensures.arrays j x
-        (ap (λ l. slice_get (map plain_item l) j) (sym c.deref.ensures.value) ∙ there)
+    items_named (tree_of t) t.codes.items c.requires.tree c.args.i (placed_of row) at (plain_edge c.in-Some.edge) (ap (option_map plain_edge) c.in-Some.is)
+    (nets_by c.part-part.result.now.numbers) (arrays_by c.part-part.result.now.numbers) c.part-part.ensures.nets c.part-part.ensures.arrays j x
+    (ap (λ l. slice_get (map plain_item l) j) (sym c.deref.ensures.value) ∙ there)
 
 pub push_items-requires-clause-nets : goal.push_items-requires-clause-nets
 push_items-requires-clause-nets c =
