@@ -12,7 +12,7 @@ mod zeros;
 pub use bases::places;
 pub use changes::{push_items, push_sets};
 pub use laws::{driven_nets_stand, drivers_are_right, tables_fit, zeros_stand};
-pub use parts::{Part, code_part};
+pub use parts::{Part, PartTable, all_parts, code_part};
 pub use ties::{give_nets, tie_ports};
 pub use zeros::stored;
 

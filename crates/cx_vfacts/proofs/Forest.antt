@@ -156,3 +156,19 @@ part_at source sound i p e s y there = go (reverse source.modules) (sound_keeps 
 pub instance_keeps : (source : PlainSource) → is_sound source ≡ true → (i : ℕ) (p : Placed) → slice_get (instances_of source) i ≡ Some p → Among (reverse source.modules) p.part
 instance_keeps source sound i p e =
     let r = stands source sound i p e in among true (reverse source.modules) (sound_keeps source sound) r.x.kind p.part r.known
+
+-- a module that is found has the name that it was looked for by
+found_name : (modules : List PlainModule) (kind : List ℕ) (m : PlainModule) → module_named modules kind ≡ Some m → m.name ≡ kind
+found_name [] kind m e = absurd (cc)
+found_name (x ∷ ms) kind m e = by_first x m ms kind e (λ is same. ap (λ (y : PlainModule). y.name) (sym same) ∙ same_is x.name kind is) (λ is found. found_name ms kind m found)
+
+-- instances whose modules have one name have one module
+pub same_modules : (source : PlainSource) (i j : ℕ) (p q : Placed) → is_sound source ≡ true → slice_get (instances_of source) i ≡ Some p → slice_get (instances_of source) j ≡ Some q
+    → p.part.name ≡ q.part.name → p.part ≡ q.part
+same_modules source i j p q sound at there named =
+    let r = stands source sound i p at in
+    let t = stands source sound j q there in
+    let modules : List PlainModule = reverse source.modules in
+    let kinds : r.x.kind ≡ t.x.kind = sym (found_name modules r.x.kind p.part r.known) ∙ named ∙ found_name modules t.x.kind q.part t.known in
+    let same : Some p.part ≡ Some q.part = sym r.known ∙ ap (module_named modules) kinds ∙ t.known in
+    cc

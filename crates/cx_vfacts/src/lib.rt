@@ -16,7 +16,7 @@ pub use meanings::{
     expressions_are_bounded, meant_is_there, names_stand_for_their_parts, widths_are_bounded,
 };
 pub use memories::{externals_are_apart, externals_are_memories};
-pub use names::names_are_apart;
+pub use names::{modules_have_names, names_are_apart};
 pub use origins::{
     assigned_are_given, connections_are_of_ports, driven_nets_have_drivers, inputs_are_tied,
     inputs_of_main_are_outside, instances_are_held, nets_have_origins, outputs_are_tied,

@@ -4,7 +4,7 @@ use Rattle.cx_vcodes.specs.Laws.{net_numbering, array_numbering}
 use Rattle.cx_vcodes.specs.Numberings.{nets_by, arrays_by}
 use Rattle.cx_vbuild.specs.Coded.{module_exprs, AssignsHaveNumbers, EdgeHasNumbers}
 use Rattle.cx_vbuild.specs.Parts.{HasCodes}
-use Rattle.cx_vbuild.proofs.PartLemmas.{codes_at, nets_same, arrays_same}
+use Rattle.cx_vbuild.proofs.PartLemmas.{codes_at, codes_within, nets_same, arrays_same}
 use Rattle.cx_vbuild.proofs.parts.code_part.Goals as goal
 
 pub push_module-requires : goal.push_module-requires
@@ -29,4 +29,5 @@ returns-clause-part c =
       arrays = arrays;
       coded = subst (λ f. HasCodes f (array_numbering m.decls) c.push_module.new.codes.items c.in_ok-first.first (module_exprs m)) nets
           (subst (λ g. HasCodes (nets_by c.in_ok-numbers.numbers) g c.push_module.new.codes.items c.in_ok-first.first (module_exprs m)) arrays coded);
+      within = codes_within (nets_by c.in_ok-numbers.numbers) (arrays_by c.in_ok-numbers.numbers) c.args.codes.now.items c.push_module.new.codes.items c.in_ok-first.first (module_exprs m) first c.in_ok-push_module.ensures;
     }
