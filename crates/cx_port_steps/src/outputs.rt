@@ -12,8 +12,8 @@ use cx_cells::{PrimState, Primitive};
 use cx_design::Seen;
 use cx_gather::{output_seen, seen_of};
 use cx_looks::Look;
-use cx_outputs::read_count;
 use cx_outputs::laws::outputs_read_first;
+use cx_outputs::read_count;
 use cx_prim::Cycle;
 
 /// Room for the ports of any primitive: the longest row is that of a sequential memory of four dimensions, with nine.
