@@ -15,5 +15,7 @@ pub struct Asking<'a> {
     pub drivers: &'a Drivers<'a>,
     pub state: &'a State,
     pub active: &'a Active,
+    /// The empty active set, for the instances below.
+    pub nothing: &'a Active,
     pub instance: usize,
 }

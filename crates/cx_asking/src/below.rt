@@ -15,17 +15,17 @@ use cx_port_steps::Below;
 
 /// What marks show of the outputs of the instances at the cells of an instance.
 #[derive(Clone, Copy)]
-pub struct MarkedBelow<'a> {
+pub struct MarkedBelow<'a, 'm> {
     pub design: &'a Design,
     pub table: &'a InstanceTable,
     pub nodes: &'a Nodes,
-    pub marks: &'a [Mark],
+    pub marks: &'m [Mark],
     pub instance: usize,
     pub ghost within: { instance < length table.now.rows.items },
     pub ghost numbered: { IsNodesOf (plain_design design.now) table.now.rows.items nodes.now },
 }
 
-impl<'a> Below for MarkedBelow<'a> {
+impl<'a, 'm> Below for MarkedBelow<'a, 'm> {
     ghost use Rattle.cx_asking.specs.Asked as asked;
 
     ghost seen = { λ m c output. asked.child_shown (plain_design m.design.now) m.table.now.rows.items m.marks.now (asked.child_in m.table.now.rows.items m.table.now.children.items m.instance c) output };

@@ -5,5 +5,7 @@ mod asking;
 mod below;
 mod children;
 mod places;
+mod values;
 
 pub use asking::Asking;
+pub use values::node_value;

@@ -34,9 +34,9 @@ fn if_asked(found: NodePort, instance: usize) -> Option<NodePort>
     }
 }
 
-/// The place of a port. `nothing` is the empty active set.
-pub fn place_of<'b>(asking: &Asking<'b>, nothing: &'b Active, found: NodePort) -> Place<'b>
-    requires nothing { nothing.now ≡ actives.Nothing }
+/// The place of a port.
+pub fn place_of<'b>(asking: &Asking<'b>, found: NodePort) -> Place<'b>
+    requires nothing { asking.now.nothing.now ≡ actives.Nothing }
     requires within { found.instance < length (plain_state asking.now.state.now) }
     ensures value { IsPlaceOf asking.now found result }
 {
@@ -44,7 +44,7 @@ pub fn place_of<'b>(asking: &Asking<'b>, nothing: &'b Active, found: NodePort) -
     Place {
         design: asking.design,
         drivers: asking.drivers,
-        active: active_of(asking, nothing, found.instance),
+        active: active_of(asking, found.instance),
         cells: own.cells.as_slice(),
         held: held_of(asking, found.instance),
         component: found.component as usize,
@@ -54,14 +54,14 @@ pub fn place_of<'b>(asking: &Asking<'b>, nothing: &'b Active, found: NodePort) -
 }
 
 /// What is active in an instance.
-fn active_of<'b>(asking: &Asking<'b>, nothing: &'b Active, instance: usize) -> &'b Active
-    requires nothing { nothing.now ≡ actives.Nothing }
+fn active_of<'b>(asking: &Asking<'b>, instance: usize) -> &'b Active
+    requires nothing { asking.now.nothing.now ≡ actives.Nothing }
     ensures value { result.now ≡ active_in asking.now.instance asking.now.active.now instance }
 {
     if instance == asking.instance {
         asking.active
     } else {
-        nothing
+        asking.nothing
     }
 }
 
