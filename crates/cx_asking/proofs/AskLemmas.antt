@@ -14,10 +14,13 @@ use Rattle.cx_meaning.specs.declared.sights.Seen.TheVariants.{Undefined, Value}
 use Rattle.cx_meaning.specs.Rows.{side_of}
 use Rattle.cx_meaning.specs.Active as plain
 use Rattle.cx_meaning.specs.Designs.{PlainComponent, PlainDesign, component_at}
-use Rattle.cx_meaning.specs.Instances.{Instance, OfRow, OfInstance, Path, State, cell_at, cells_of, instance_at, part_of, tree_of}
+use Rattle.cx_meaning.specs.Instances.{Instance, Cells, no_cells, a_primitive, an_instance, OfRow, OfInstance, Path, State, cell_at, cells_of, instance_at, part_of, tree_of}
 use Rattle.cx_meaning.specs.Sights.{Below, Held, Look, AnOutput, part_port, step, unheld}
 use Rattle.cx_rules.specs.Footprints.{CellLeads, Leads, SideLeads}
 use Rattle.cx_rules.specs.Ports.{cell_width, component_of, width_of}
+use Rattle.cx_rules.specs.WidthRules.{IsBadLiteral}
+use Rattle.cx_rules.specs.Wellformed.{IsThere, port_count}
+use Rattle.cx_seen_widths.specs.Widths.{HoldsWidths}
 use Rattle.cx_design.specs.declared.actives.Active.{Active}
 use Rattle.cx_design.specs.declared.actives.Active.TheVariants as actives
 use Rattle.cx_design.specs.PlainActives.{plain_active}
@@ -28,8 +31,8 @@ use Rattle.cx_alike.specs.ReadStates.{state_in}
 use Rattle.cx_drivers.specs.Drivers.{AreDrivers}
 use Rattle.cx_demand.specs.declared.marks.Mark.{Mark}
 use Rattle.cx_demand.specs.Demands.{AreKnown}
-use Rattle.cx_leads.specs.Nodes.{node_of}
-use Rattle.cx_leads.proofs.NodeLemmas.{component_part}
+use Rattle.cx_leads.specs.Nodes.{cell_count, node_of}
+use Rattle.cx_leads.proofs.NodeLemmas.{component_cells, component_part}
 use Rattle.cx_nodes.specs.declared.numbering.NodePort.{NodePort}
 use Rattle.cx_nodes.specs.declared.numbering.Nodes.{Nodes}
 use Rattle.cx_nodes.specs.Nodes.{part_at}
@@ -65,6 +68,37 @@ held_there a k input = choice (nat_eq k a.instance)
     choice : (b : Bool) → get_or (if b then (instance_state a.state k).held else []) input Undefined ≡ (if b then inputs_held a.state k else unheld) input
     choice true = refl
     choice false = refl
+
+held_wide : (a : Asked) (k : ℕ) (part : PlainComponent) → HoldsWidths part (inputs_held a.state k) → HoldsWidths part (held_at a k)
+held_wide a k part wide = choice (nat_eq k a.instance)
+  where
+    choice : (b : Bool) → HoldsWidths part (if b then inputs_held a.state k else unheld)
+    choice true = wide
+    choice false = λ n x e. absurd (let no : Undefined ≡ Value x = e in cc)
+
+pub not_bad : (c n : ℕ) → IsBadLiteral (ports.Cell c n) → ⊥
+not_bad c n l = let e : ports.Cell c n ≡ ports.Literal l.0 l.1 = l.2 in cc
+
+cell_below : (cells : Cells) (c : ℕ) (row : Row) → cell_at cells c ≡ OfRow row → c < cell_count cells
+cell_below no_cells c row e = absurd (cc)
+cell_below (a_primitive x rest) zero row e = omega arith
+cell_below (a_primitive x rest) (suc c) row e = let h = cell_below rest c row e in omega (arith, h)
+cell_below (an_instance x rest) zero row e = absurd (cc)
+cell_below (an_instance x rest) (suc c) row e = let h = cell_below rest c row e in omega (arith, h)
+
+port_below : (xs : List PortRow) (n : ℕ) (port : PortRow) → slice_get xs n ≡ Some port → n < length xs
+port_below [] n port e = absurd (cc)
+port_below (x ∷ xs) zero port e = omega arith
+port_below (x ∷ xs) (suc n) port e = let h = port_below xs n port e in omega (arith, h)
+
+is_there : (d : PlainDesign) (k c n : ℕ) (row : Row) (port : PortRow) → k < length d.components → cell_at (cells_of (component_of d k)) c ≡ OfRow row → slice_get row.ports n ≡ Some port
+    → IsThere (component_of d k) (ports.Cell c n)
+is_there d k c n row port lt e f =
+    (subst (λ (part : PlainComponent). c < length part.cells) (sym (component_part d k)) (subst (λ m. c < m) (component_cells d k lt) (cell_below (cells_of (component_of d k)) c row e)),
+    subst (λ at. n < port_count at) (sym e) (port_below row.ports n port f))
+
+same_width : {m n : ℕ} → Some m ≡ Some n → n ≡ m
+same_width e = cc
 
 step_alike : {i j : Instance} {held other : Held} {act more : plain.Active} {p q : PortRef} (s : State) (look : Look) (below : Below) → i ≡ j → held ≡ other → act ≡ more → p ≡ q
     → step i held act s look below p ≡ step j other more s look below q
@@ -117,6 +151,22 @@ module _ (asking : Asking) (can : CanAsk (asked_of asking) asking.nodes.now aski
         let own : cell_at (cells_of i) c ≡ OfRow row = ap (λ j. cell_at (cells_of j) c) (sym place_instance) ∙ at in
         subst (λ q. Leads i act q (ports.Cell c n)) (sym (sym is.port ∙ e))
         (subst (λ x. CellLeads (part_of i) act c p x (ports.Cell c n)) (sym own) (subst (λ x. SideLeads (part_of i) act row c p x (ports.Cell c n)) (sym side) (n, reads, refl)))
+
+    pub own_cell : (c : ℕ) (row : Row) → cell_at (cells_of (places.instance_of place)) c ≡ OfRow row → cell_at (cells_of (networks.instance_of a found.instance)) c ≡ OfRow row
+    own_cell c row at = ap (λ j. cell_at (cells_of j) c) (sym place_instance) ∙ at
+
+    pub read_there : (c n : ℕ) (row : Row) (port : PortRow) → cell_at (cells_of (places.instance_of place)) c ≡ OfRow row → slice_get row.ports n ≡ Some port → IsThere (networks.instance_of a found.instance) (ports.Cell c n)
+    read_there c n row port at e =
+        subst (λ i. IsThere i (ports.Cell c n)) (sym there)
+        (is_there a.design (row_at a.rows found.instance).component c n row port (can.network.table.there found.instance f.within) (ap (λ j. cell_at (cells_of j) c) (sym part_is) ∙ at) e)
+
+    pub read_wide : (c n : ℕ) (row : Row) (port : PortRow) (b : BitVector) → cell_at (cells_of (places.instance_of place)) c ≡ OfRow row → slice_get row.ports n ≡ Some port
+        → width_of (networks.instance_of a found.instance) (ports.Cell c n) ≡ Some b.width → b.width ≡ port.width
+    read_wide c n row port b at e width =
+        same_width (ap (option_map (λ (p : PortRow). p.width)) (sym e) ∙ ap (λ z. cell_width z n) (sym (own_cell c row at)) ∙ width)
+
+    pub held_widths : HoldsWidths (part_of (networks.instance_of a found.instance)) (inputs_held a.state found.instance) → HoldsWidths (part_of (networks.instance_of a found.instance)) (held_at a found.instance)
+    held_widths wide = held_wide a found.instance (part_of (networks.instance_of a found.instance)) wide
 
     child_is : (marks : List Mark) (c n : ℕ) (child : Instance) → cell_at (cells_of (networks.instance_of a found.instance)) c ≡ OfInstance child
         → child_shown a.design a.rows marks (child_in a.rows a.children found.instance c) n ≡ below_at a marks found.instance c n
