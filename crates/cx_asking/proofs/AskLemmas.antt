@@ -1,21 +1,19 @@
 -- The place of a port that is found, and its step.
-use Rattle.std.proofs.Common.{◌≡◌, ℕ, zero, suc, ◌+◌, ◌<◌, ◌≤◌, nat_eq, nat_lt, nat_le, Bool, true, false, Option, Some, None, List, [], ◌∷◌, get_or, length, refl, sym, ap, ◌∙◌, subst, arith}
+use Rattle.std.proofs.Common.{◌≡◌, ℕ, zero, suc, ◌<◌, nat_eq, nat_lt, Bool, true, false, Some, None, List, [], ◌∷◌, get_or, length, refl, sym, ap, ◌∙◌, subst, arith}
 use Rattle.std.specs.Prelude.{slice_get, option_map, if◌then◌else◌}
 use Rattle.std.proofs.Math.Path.{fun_ext}
 use Rattle.cx_bits.specs.BitVector.{BitVector}
-use Rattle.cx_prim.specs.CellStates.{CellState}
 use Rattle.cx_prim.specs.Rows.{Row}
 use Rattle.cx_prim.specs.declared.ports.PortRow.{PortRow}
 use Rattle.cx_prim.specs.declared.ports.Side.TheVariants.{Output}
 use Rattle.cx_meaning.specs.declared.ports.PortRef.{PortRef}
 use Rattle.cx_meaning.specs.declared.ports.PortRef.TheVariants as ports
-use Rattle.cx_meaning.specs.declared.sights.Seen.{Seen}
 use Rattle.cx_meaning.specs.declared.sights.Seen.TheVariants.{Undefined, Value}
 use Rattle.cx_meaning.specs.Rows.{side_of}
 use Rattle.cx_meaning.specs.Active as plain
 use Rattle.cx_meaning.specs.Designs.{PlainComponent, PlainDesign, component_at}
-use Rattle.cx_meaning.specs.Instances.{Instance, Cells, no_cells, a_primitive, an_instance, OfRow, OfInstance, Path, State, cell_at, cells_of, instance_at, part_of, tree_of}
-use Rattle.cx_meaning.specs.Sights.{Below, Held, Look, AnOutput, part_port, step, unheld}
+use Rattle.cx_meaning.specs.Instances.{Instance, Cells, no_cells, a_primitive, an_instance, OfRow, OfInstance, State, cell_at, cells_of, part_of, tree_of}
+use Rattle.cx_meaning.specs.Sights.{Below, Held, Look, step, unheld}
 use Rattle.cx_rules.specs.Footprints.{CellLeads, Leads, SideLeads}
 use Rattle.cx_rules.specs.Ports.{cell_width, component_of, width_of}
 use Rattle.cx_rules.specs.WidthRules.{IsBadLiteral}
@@ -25,8 +23,8 @@ use Rattle.cx_design.specs.declared.actives.Active.{Active}
 use Rattle.cx_design.specs.declared.actives.Active.TheVariants as actives
 use Rattle.cx_design.specs.PlainActives.{plain_active}
 use Rattle.cx_design.specs.PlainDesigns.{plain_design}
-use Rattle.cx_instances.specs.Tables.{IsNumber, child_of, row_at}
-use Rattle.cx_state.specs.States.{HoldCells, PlainInstance, StandsFor, inputs_held, instance_state, plain_state, under_path}
+use Rattle.cx_instances.specs.Tables.{child_of, row_at}
+use Rattle.cx_state.specs.States.{HoldCells, StandsFor, inputs_held, instance_state, under_path}
 use Rattle.cx_alike.specs.ReadStates.{state_in}
 use Rattle.cx_drivers.specs.Drivers.{AreDrivers}
 use Rattle.cx_demand.specs.declared.marks.Mark.{Mark}
@@ -34,13 +32,11 @@ use Rattle.cx_demand.specs.Demands.{AreKnown}
 use Rattle.cx_leads.specs.Nodes.{cell_count, node_of}
 use Rattle.cx_leads.proofs.NodeLemmas.{component_cells, component_part}
 use Rattle.cx_nodes.specs.declared.numbering.NodePort.{NodePort}
-use Rattle.cx_nodes.specs.declared.numbering.Nodes.{Nodes}
 use Rattle.cx_nodes.specs.Nodes.{part_at}
-use Rattle.cx_drivers.specs.declared.driving.Drivers.{Drivers}
 use Rattle.cx_network.specs.Networks as networks
 use Rattle.cx_network.specs.Networks.{Asked, IsNetwork, active_at, below_at, held_at, leads_of, look_at, path_at, seen_at, value_at}
 use Rattle.cx_network.proofs.NetworkLemmas.{child_later, number_at, same_instance}
-use Rattle.cx_network.proofs.ValueLemmas.{found_value, lead_shown, same_step}
+use Rattle.cx_network.proofs.ValueLemmas.{found_value, same_step}
 use Rattle.cx_port_steps.specs.declared.places.Place.{Place}
 use Rattle.cx_port_steps.specs.Places as places
 use Rattle.cx_port_steps.specs.Places.{HoldsCells, IsPlace, active_of, held_by}
@@ -93,9 +89,10 @@ port_below (x ∷ xs) (suc n) port e = let h = port_below xs n port e in omega (
 
 is_there : (d : PlainDesign) (k c n : ℕ) (row : Row) (port : PortRow) → k < length d.components → cell_at (cells_of (component_of d k)) c ≡ OfRow row → slice_get row.ports n ≡ Some port
     → IsThere (component_of d k) (ports.Cell c n)
-is_there d k c n row port lt e f =
-    (subst (λ (part : PlainComponent). c < length part.cells) (sym (component_part d k)) (subst (λ m. c < m) (component_cells d k lt) (cell_below (cells_of (component_of d k)) c row e)),
-    subst (λ at. n < port_count at) (sym e) (port_below row.ports n port f))
+is_there d k c n row port lt e f = (
+  subst (λ (part : PlainComponent). c < length part.cells) (sym (component_part d k)) (subst (λ m. c < m) (component_cells d k lt) (cell_below (cells_of (component_of d k)) c row e)),
+  subst (λ at. n < port_count at) (sym e) (port_below row.ports n port f),
+)
 
 same_width : {m n : ℕ} → Some m ≡ Some n → n ≡ m
 same_width e = cc

@@ -1,11 +1,10 @@
 -- What is asked of a design: an instance under an active set, in a state.
-use Rattle.std.specs.Prelude.{◌≡◌, ℕ, ◌+◌, ◌<◌, nat_lt, nat_eq, Bool, true, false, List, [], Option, Some, None, get_or, length, if◌then◌else◌}
+use Rattle.std.specs.Prelude.{ℕ, ◌<◌, nat_lt, nat_eq, List, [], Option, Some, None, length, if◌then◌else◌}
 use Rattle.cx_meaning.specs.declared.ports.PortRef.TheVariants as ports
 use Rattle.cx_meaning.specs.declared.sights.Seen.{Seen}
 use Rattle.cx_meaning.specs.declared.sights.Seen.TheVariants.{Undefined}
 use Rattle.cx_meaning.specs.Designs.{PlainDesign}
 use Rattle.cx_meaning.specs.Instances.{instance_at, tree_of}
-use Rattle.cx_meaning.specs.Sights.{Below}
 use Rattle.cx_rules.specs.Accepted.{IsAccepted}
 use Rattle.cx_design.specs.declared.actives.Active.{Active}
 use Rattle.cx_design.specs.declared.actives.Active.TheVariants as actives

@@ -26,7 +26,10 @@ fn child_of(table: &InstanceTable, instance: usize, cell: u32) -> usize
     ensures value { result ≡ tables.child_of table.now.rows.items table.now.children.items instance cell }
 {
     let first = table.rows[instance].first;
-    number_at(table.children.as_slice(), first.saturating_add(cell as usize))
+    number_at(
+        table.children.as_slice(),
+        first.saturating_add(cell as usize),
+    )
 }
 
 /// The number that stands at a place, and 0 where none does.

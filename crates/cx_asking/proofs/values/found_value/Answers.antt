@@ -29,9 +29,9 @@ step_seen-requires-clause-widths c = λ cell p row e at side n port b there read
     let stands = c.rows_stand.ensures a.design a.rows a.children a.state can.network.table can.fits in
     let shown = lead_shown a asking.nodes.now can.network c.args.marks.now found (ports.Cell cell n) f.from f.within c.requires.known (read_leads asking can found f place is cell p n row e at side reads) in
     let width = c.found_has_width.ensures a.design (path_at a.design k) (held_at a k) (active_at a k) (under_path (path_at a.design k) whole) (ports.Cell cell n) b can.network.design can.accepted (can.network.acyclic k)
-        (held_widths asking can found f place is (c.states_hold_widths.ensures.inputs a.design a.state k (path_at a.design k) can.fits number))
-        (c.states_hold_widths.ensures.cells a.design a.state whole (path_at a.design k) can.fits stands)
-        (read_there asking can found f place is cell n row port at there) (not_bad cell n) (sym shown ∙ x) in
+    (held_widths asking can found f place is (c.states_hold_widths.ensures.inputs a.design a.state k (path_at a.design k) can.fits number))
+    (c.states_hold_widths.ensures.cells a.design a.state whole (path_at a.design k) can.fits stands)
+    (read_there asking can found f place is cell n row port at there) (not_bad cell n) (sym shown ∙ x) in
     read_wide asking can found f place is cell n row port b at there width
 
 pub returns : goal.returns
