@@ -1,13 +1,14 @@
 -- What outputs read, and ports by their sides.
-use Rattle.std.proofs.Common.{◌≡◌, ℕ, zero, suc, ◌+◌, ◌<◌, ◌≤◌, ⊎_elim, Bool, true, false, nat_lt, List, [], ◌∷◌, get_or, length, set, take, Option, Some, None, refl, sym, ap, ◌∙◌, arith}
+use Rattle.std.proofs.Common.{◌≡◌, ℕ, zero, suc, ◌+◌, ◌<◌, ◌≤◌, ⊎_elim, Bool, true, false, nat_lt, List, [], ◌∷◌, get_or, length, set, take, Option, Some, None, refl, sym, ap, ◌∙◌, subst, arith}
 use Rattle.std.specs.Prelude.{slice_get, if◌then◌else◌}
+use Rattle.std.proofs.Math.Path.{fun_ext}
 use Rattle.std.proofs.lemmas.Bool.{cases_eq, cases_lt}
 use Rattle.std.proofs.lemmas.List.{length-take, get_or_past, get_or-set_same, get_or-set_other}
 use Rattle.cx_bits.specs.BitVector.{BitVector}
 use Rattle.cx_prim.specs.declared.ports.PortRow.{PortRow}
 use Rattle.cx_prim.specs.declared.ports.Side.{Side}
-use Rattle.cx_prim.specs.declared.ports.Side.TheVariants.{Registered}
-use Rattle.cx_prim.specs.Rows.{FitsPorts, HasSide, Row, is_output_side}
+use Rattle.cx_prim.specs.declared.ports.Side.TheVariants.{Output, Registered}
+use Rattle.cx_prim.specs.Rows.{FitsPorts, HasSide, Row, input, is_output_side}
 use Rattle.cx_meaning.specs.Rows.{side_from, side_of}
 use Rattle.cx_outputs.specs.Outputs.{is_read_port, read_count}
 

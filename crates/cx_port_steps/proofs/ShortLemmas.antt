@@ -1,5 +1,5 @@
 -- No row of the table has more than nine ports.
-use Rattle.std.proofs.Common.{◌*◌, ◌≤◌, ◌==◌, ◌^◌, ℕ, Bool, true, false, ◌&&◌, cond, nat_lt, nat_le, List, [], ◌∷◌, ◌++◌, Some, None, length, take, drop, unwrap_or, arith}
+use Rattle.std.proofs.Common.{◌≡◌, ◌+◌, ◌*◌, ◌≤◌, ◌==◌, ◌^◌, ℕ, zero, suc, Bool, true, false, ◌&&◌, cond, nat_lt, nat_le, List, [], ◌∷◌, ◌++◌, Some, None, length, take, drop, unwrap_or, refl, arith}
 use Rattle.std.specs.List.{list_all}
 use Rattle.std.proofs.lemmas.List.{length-append}
 use Rattle.cx_bits.specs.BitVector.{BitVector}

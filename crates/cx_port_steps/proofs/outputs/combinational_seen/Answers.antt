@@ -1,4 +1,4 @@
-use Rattle.std.proofs.Common.{◌≡◌, nat_lt, refl, sym, ap, ◌∙◌, arith}
+use Rattle.std.proofs.Common.{◌≡◌, ◌≤◌, ℕ, nat_lt, length, refl, sym, ap, ◌∙◌, subst, take, arith}
 use Rattle.std.proofs.Math.Path.{fun_ext}
 use Rattle.cx_prim.specs.Table.{row_of}
 use Rattle.cx_prim.specs.declared.ports.Side.TheVariants as sides

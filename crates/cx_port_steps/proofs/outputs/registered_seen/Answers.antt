@@ -1,4 +1,4 @@
-use Rattle.std.proofs.Common.{[], refl, ap, ◌∙◌, take, arith}
+use Rattle.std.proofs.Common.{◌≡◌, ◌≤◌, [], length, refl, sym, ap, ◌∙◌, subst, take, arith}
 use Rattle.cx_prim.specs.Table.{row_of}
 use Rattle.cx_prim.specs.TableLaws.{row_of_lawful}
 use Rattle.cx_prim.specs.declared.ports.Side.TheVariants as sides

@@ -1,4 +1,4 @@
-use Rattle.std.proofs.Common.{[], None, get_or, sym, ap, ◌∙◌}
+use Rattle.std.proofs.Common.{[], ◌∷◌, Some, None, get_or, sym, ap, ◌∙◌}
 use Rattle.cx_prim.specs.Table.{row_of}
 use Rattle.cx_meaning.specs.Instances.{part_of}
 use Rattle.cx_meaning.specs.Sights as sights
