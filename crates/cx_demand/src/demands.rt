@@ -9,6 +9,7 @@ use crate::network::Network;
 /// Finds the value of a node, and those of all that it depends on. `stack` is as long as `marks`, and what it holds is of no
 /// account. It takes no memory, and does not recurse from node to node.
 pub fn demand<N: Network>(net: &N, marks: &mut [Mark], stack: &mut [usize], root: usize)
+    requires sound { N.sound net.now }
     requires root { root < length marks.old }
     requires stack { length stack.old ≡ length marks.old }
     requires within { StaysWithin (N.leads net.now) (length marks.old) }

@@ -16,13 +16,18 @@ pub trait Network {
     /// The value of each node.
     ghost value: { Self → ℕ → Seen };
 
+    /// What has to hold where nodes are asked.
+    ghost sound: { Self → Type 0 };
+
     /// A node that a node depends on at once and that is not known, where there is one.
     fn unknown(&self, marks: &[Mark], node: usize) -> Option<usize>
+        requires sound { sound self.now }
         ensures none { IfNone result ((m : ℕ) → In (leads self.now node) m → known_at marks.now m ≡ true) }
         ensures some { IfSome result (λ m. In (leads self.now node) m × (known_at marks.now m ≡ false)) };
 
     /// The value of a node, where those that it depends on are known.
     fn value_by(&self, marks: &[Mark], node: usize) -> Seen
+        requires sound { sound self.now }
         requires known { AreKnown (value self.now) marks.now (leads self.now node) }
         ensures value { result ≡ value self.now node };
 }

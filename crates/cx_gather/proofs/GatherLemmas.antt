@@ -6,7 +6,7 @@ use Rattle.cx_meaning.specs.declared.sights.Seen.{Seen}
 use Rattle.cx_meaning.specs.declared.sights.Seen.TheVariants.{Value, Conflict, Undefined}
 use Rattle.cx_meaning.specs.Sights.{Gathered, Given, Lacks, with_entry, gather_port, gather}
 use Rattle.cx_prim.specs.Rows.{FitsPorts}
-use Rattle.cx_gather.specs.Gathers.{gather_all, entry_of, AreWide}
+use Rattle.cx_gather.specs.Gathers.{gather_all, entry_of, AreWide, WantedAreWide}
 
 pub counts : (look : ℕ → Seen) (wanted : ℕ → Bool) (p : ℕ) (ports : List PortRow) → gather look wanted p ports ≡ gather_all look wanted p (length ports)
 counts look wanted p [] = refl
@@ -116,4 +116,39 @@ module _ (look : ℕ → Seen) (wanted : ℕ → Bool) where
   given_fits ports n xs same wide is = record {
     count = given_count 0 n xs (sym is) ∙ same;
     widths = λ k port b at e. wide k port b at (let z : 0 + k ≡ k = omega arith in ap look (sym z) ∙ given_seen 0 n xs (sym is) k b e);
+  }
+
+-- only what is wanted is given
+unwanted_none : (p : ℕ) (x : Seen) (g : Gathered) (xs : List (Option BitVector)) → gather_port false p x g ≡ Given xs → get_or xs 0 None ≡ None
+unwanted_none p x (Given ys) xs is = let f : None ∷ ys ≡ xs = (let h : Given (None ∷ ys) ≡ Given xs = is in cc) in ap (λ zs. get_or zs 0 None) (sym f)
+unwanted_none p x (Lacks q y) xs is = cc
+
+module _ (look : ℕ → Seen) (wanted : ℕ → Bool) where
+  given_wanted : (p n : ℕ) (xs : List (Option BitVector)) → gather_all look wanted p n ≡ Given xs → (k : ℕ) (b : BitVector) → get_or xs k None ≡ Some b → wanted (p + k) ≡ true
+  given_wanted p zero xs is k b e = let f : [] ≡ xs = cc in absurd (none_is (get_or xs k None) b (sym (ap (λ ys. get_or ys k None) f)) e)
+    where
+      none_is : (o : Option BitVector) (b : BitVector) → o ≡ None → o ≡ Some b → ⊥
+      none_is o b e f = cc
+  given_wanted p (suc n) xs is zero b e = choice (wanted p) refl
+    where
+      none_is : (o : Option BitVector) (b : BitVector) → o ≡ None → o ≡ Some b → ⊥
+      none_is o b e f = cc
+
+      choice : (w : Bool) → wanted p ≡ w → wanted (p + 0) ≡ true
+      choice true f = (let z : p + 0 ≡ p = omega arith in ap wanted z) ∙ f
+      choice false f =
+          let rest = gather_all look wanted (suc p) n in
+          absurd (none_is (get_or xs 0 None) b (unwanted_none p (look p) rest xs (ap (λ w. gather_port w p (look p) rest) (sym f) ∙ is)) e)
+  given_wanted p (suc n) xs is (suc k) b e =
+      let s = entry_step (wanted p) p (look p) (gather_all look wanted (suc p) n) xs is in
+      let z : p + suc k ≡ suc p + k = omega arith in
+      ap wanted z ∙ given_wanted (suc p) n s.1 s.2 k b (ap (λ ys. get_or ys (suc k) None) (sym s.3) ∙ e)
+
+  pub wanted_fits : (ports : List PortRow) (n : ℕ) (xs : List (Option BitVector)) → n ≡ length ports → WantedAreWide wanted look ports → Given xs ≡ gather_all look wanted 0 n → FitsPorts ports xs
+  wanted_fits ports n xs same wide is = record {
+    count = given_count look wanted 0 n xs (sym is) ∙ same;
+    widths =
+        λ k port b at e.
+        let z : 0 + k ≡ k = omega arith in
+        wide k port b at (ap wanted (sym z) ∙ given_wanted 0 n xs (sym is) k b e) (ap look (sym z) ∙ given_seen look wanted 0 n xs (sym is) k b e);
   }

@@ -7,4 +7,4 @@ mod outputs;
 
 pub use gathering::{Lack, gather};
 pub use laws::gather_counts;
-pub use outputs::output_seen;
+pub use outputs::{output_seen, seen_of};

@@ -5,7 +5,7 @@ ghost use Rattle.cx_prim.specs.CellStates.{IsState};
 ghost use Rattle.cx_prim.specs.Rows.{HasSide, is_output_side};
 ghost use Rattle.cx_prim.specs.Table.{row_of};
 ghost use Rattle.cx_meaning.specs.Sights as sights;
-ghost use Rattle.cx_gather.specs.Gathers.{AreWide, ports_seen, wanted_at};
+ghost use Rattle.cx_gather.specs.Gathers.{WantedAreWide, ports_seen, wanted_at};
 
 use crate::gathering::gather;
 use cx_bits::Bits;
@@ -15,7 +15,7 @@ use cx_looks::Look;
 use cx_prim::Cycle;
 
 /// What the output of a primitive gives, as it is seen.
-fn seen_of(output: Option<Bits>) -> Seen
+pub fn seen_of(output: Option<Bits>) -> Seen
     ensures { result ≡ sights.of_option output }
 {
     match output {
@@ -36,7 +36,7 @@ pub fn output_seen<L: Look>(
 ) -> Seen
     requires state { IsState (row_of primitive.now).shape state.now }
     requires output { HasSide (row_of primitive.now) port is_output_side }
-    requires widths { AreWide (ports_seen (L.seen look.now) cell) (row_of primitive.now).ports }
+    requires widths { WantedAreWide (wanted_at wanted.now) (ports_seen (L.seen look.now) cell) (row_of primitive.now).ports }
     requires wanted { length wanted.now ≡ length (row_of primitive.now).ports }
     requires sized { length inputs.old ≡ length (row_of primitive.now).ports }
     requires few { length inputs.old < 2 ^ 32 }

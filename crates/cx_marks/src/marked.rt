@@ -15,17 +15,17 @@ use cx_nodes::Nodes;
 /// What marks show of the ports of an instance: a literal that fits its width as it is, and of a port that has a node what
 /// is known of it.
 #[derive(Clone, Copy)]
-pub struct MarkedPorts<'a> {
+pub struct MarkedPorts<'a, 'm> {
     pub design: &'a Design,
     pub table: &'a InstanceTable,
     pub nodes: &'a Nodes,
-    pub marks: &'a [Mark],
+    pub marks: &'m [Mark],
     pub instance: usize,
     pub ghost within: { instance < length table.now.rows.items },
     pub ghost numbered: { IsNodesOf (plain_design design.now) table.now.rows.items nodes.now },
 }
 
-impl<'a> Look for MarkedPorts<'a> {
+impl<'a, 'm> Look for MarkedPorts<'a, 'm> {
     ghost use Rattle.cx_nodes.specs.Nodes.{node_at};
 
     ghost seen = { λ m q. node_shown m.marks.now q (node_at (plain_design m.design.now) m.table.now.rows.items m.instance q) };

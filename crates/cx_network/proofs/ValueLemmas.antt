@@ -128,7 +128,7 @@ module _ (own : PlainComponent) (act : Active) (s : State) (look : Look) (one ot
   same_cell c p (OfRow row) h = same_side row c p _
   same_cell c p (OfInstance child) h = same_part c p (part_port (part_of child) p) (λ n e. h n child refl e)
 
-same_step : (i : Instance) (held : Held) (act : Active) (s : State) (look : Look) (one other : Below) (p : PortRef)
+pub same_step : (i : Instance) (held : Held) (act : Active) (s : State) (look : Look) (one other : Below) (p : PortRef)
     → ((c port n : ℕ) (child : Instance) → p ≡ ports.Cell c port → cell_at (cells_of i) c ≡ OfInstance child → part_port (part_of child) port ≡ AnOutput n → one c n ≡ other c n)
     → step i held act s look one p ≡ step i held act s look other p
 same_step i held act s look one other (ports.Cell c p) h = same_cell (part_of i) act s look one other c p (cell_at (cells_of i) c) (λ n child e f. h c p n child refl e f)
@@ -211,7 +211,7 @@ module _ (a : Asked) (nodes : Nodes) (h : IsNetwork a nodes) (marks : List Mark)
   known_shown k m q from lt e known = ap (node_shown marks q) e ∙ ap shown known ∙ value_there k m q from lt e
 
   -- what a port of an asked instance leads to is shown as it is seen
-  lead_shown : (found : NodePort) (q : PortRef) → a.instance ≤ found.instance → found.instance < length a.rows → AreKnown (value_at a nodes) marks (leads_of a (Some found))
+  pub lead_shown : (found : NodePort) (q : PortRef) → a.instance ≤ found.instance → found.instance < length a.rows → AreKnown (value_at a nodes) marks (leads_of a (Some found))
       → Leads (instance_of a found.instance) (active_at a found.instance) found.port q → look_at a marks found.instance q ≡ seen_at a found.instance q
   lead_shown found q from lt known l =
       let k = found.instance in

@@ -3,7 +3,7 @@ use Rattle.cx_prim.specs.Table.{row_of}
 use Rattle.cx_meaning.specs.Sights as sights
 use Rattle.cx_meaning.specs.Sights.{Given, Lacks}
 use Rattle.cx_gather.specs.Gathers.{gather_all, gathered, ports_seen, wanted_at}
-use Rattle.cx_gather.proofs.GatherLemmas.{counts, given_fits}
+use Rattle.cx_gather.proofs.GatherLemmas.{counts, wanted_fits}
 use Rattle.cx_gather.proofs.outputs.output_seen.Goals as goal
 
 pub returns-in-Some : goal.returns-in-Some
@@ -17,7 +17,7 @@ returns-in-Some g c =
 
 pub output-requires-clause-inputs_fit : goal.output-requires-clause-inputs_fit
 output-requires-clause-inputs_fit g c =
-    given_fits (ports_seen (g.L.Look.seen c.args.look.now) c.args.cell) (wanted_at c.args.wanted.now) (row_of c.args.primitive.now).ports (length c.args.inputs.now) c.gather.new.inputs c.requires.sized c.requires.widths
+    wanted_fits (ports_seen (g.L.Look.seen c.args.look.now) c.args.cell) (wanted_at c.args.wanted.now) (row_of c.args.primitive.now).ports (length c.args.inputs.now) c.gather.new.inputs c.requires.sized c.requires.widths
     (ap (λ o. gathered o c.gather.new.inputs) (sym c.in_default.is) ∙ c.gather.ensures.value)
 
 pub returns : goal.returns

@@ -1,0 +1,11 @@
+//! An instance of a design that is asked what its ports are seen as.
+#![tactic(auto)]
+
+mod asking;
+mod below;
+mod children;
+mod places;
+mod values;
+
+pub use asking::Asking;
+pub use values::node_value;

@@ -1,0 +1,3 @@
+pub mod ShortLemmas
+pub mod OutputLemmas
+pub mod StepLemmas
