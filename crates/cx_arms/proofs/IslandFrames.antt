@@ -33,7 +33,7 @@ entries_among (x ∷ es) g k e = go (nat_eq x.group g) refl e (entries_among es 
     go true same e later = inl (eqb-true x.group g same)
     go false differ e later = inr (later e)
 
-unclear_same : (look more : Look) (list : List PortRef) → ((q : PortRef) → In list q → look q ≡ more q) → first_unclear look list ≡ first_unclear more list
+pub unclear_same : (look more : Look) (list : List PortRef) → ((q : PortRef) → In list q → look q ≡ more q) → first_unclear look list ≡ first_unclear more list
 unclear_same look more [] h = refl
 unclear_same look more (p ∷ rest) h = ap (λ x. fault_of p x (first_unclear look rest)) (h p (inl refl)) ∙ ap (fault_of p (more p)) (unclear_same look more rest (λ q i. h q (inr i)))
 
@@ -47,7 +47,7 @@ module _ (G : ℕ → Type 0) (F : PortRef → Type 0) where
   IsFineOne (Runs g from to samples) = G g × AllSampled samples
   IsFineOne (Looks port at samples) = F port × AllSampled samples
 
-  abbrev AllFine : List Occurrence → Type 0
+  abbrev pub AllFine : List Occurrence → Type 0
   AllFine [] = Unit {0}
   AllFine (o ∷ rest) = IsFineOne o × AllFine rest
 
@@ -105,7 +105,7 @@ module _ (G : ℕ → Type 0) (F : PortRef → Type 0) where
           (par_fine part ss x samples (right (groups_of s) (groups_in_all ss) (visit InStatic s) (visit_all InStatic ss) h) all)
 
   -- histories that agree on such ports give the same cycle
-  abbrev AreSame : History → History → Type 0
+  abbrev pub AreSame : History → History → Type 0
   AreSame h k = (port : PortRef) (at : ℕ) → F port → h port at ≡ k port at
 
   module _ (h k : History) (same : AreSame h k) where
@@ -114,14 +114,14 @@ module _ (G : ℕ → Type 0) (F : PortRef → Type 0) where
     hold_same (s ∷ rest) (inside, all) =
         ap (λ b. is_wanted s.wanted b && hold h rest) (same s.port s.at inside) ∙ ap (λ b. is_wanted s.wanted (k s.port s.at) && b) (hold_same rest all)
 
-    active_same : (t : ℕ) (list : List Occurrence) → AllFine list → active_in h t list ≡ active_in k t list
+    pub active_same : (t : ℕ) (list : List Occurrence) → AllFine list → active_in h t list ≡ active_in k t list
     active_same t [] fine = refl
     active_same t (Runs g from to samples ∷ rest) ((good, all), fine) =
         ap (λ b. entry_if (nat_le from t && nat_lt t to && b) g (t - from) (active_in h t rest)) (hold_same samples all)
         ∙ ap (entry_if (nat_le from t && nat_lt t to && hold k samples) g (t - from)) (active_same t rest fine)
     active_same t (Looks port at samples ∷ rest) (here, fine) = active_same t rest fine
 
-    looked_same : (t : ℕ) (list : List Occurrence) → AllFine list → looked_at h t list ≡ looked_at k t list
+    pub looked_same : (t : ℕ) (list : List Occurrence) → AllFine list → looked_at h t list ≡ looked_at k t list
     looked_same t [] fine = refl
     looked_same t (Runs g from to samples ∷ rest) (here, fine) = looked_same t rest fine
     looked_same t (Looks port at samples ∷ rest) ((inside, all), fine) =
@@ -139,7 +139,7 @@ module _ (G : ℕ → Type 0) (F : PortRef → Type 0) where
       one false j later = later j
   active_good h t (Looks port at samples ∷ rest) (here, fine) g i = active_good h t rest fine g i
 
-  looked_good : (h : History) (t : ℕ) (list : List Occurrence) → AllFine list → (q : PortRef) → In (looked_at h t list) q → F q
+  pub looked_good : (h : History) (t : ℕ) (list : List Occurrence) → AllFine list → (q : PortRef) → In (looked_at h t list) q → F q
   looked_good h t [] fine q i = absurd i
   looked_good h t (Runs n from to samples ∷ rest) (here, fine) q i = looked_good h t rest fine q i
   looked_good h t (Looks port at samples ∷ rest) ((inside, all), fine) q i = one (nat_eq t at && hold h samples) i (looked_good h t rest fine q)

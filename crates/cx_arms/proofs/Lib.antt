@@ -13,3 +13,6 @@ mod ShareLemmas
 mod ArmLemmas
 mod NextLemmas
 pub mod KnownOutcomes
+mod InputLemmas
+mod InputRuns
+mod InputRules

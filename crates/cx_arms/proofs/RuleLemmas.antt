@@ -60,7 +60,7 @@ mutual
   guards_operand (a_guard g gs) q (inl n) = let r = guard_operand g q n in (r.0, in_left (operands_of g) (operands_in gs) r.0 r.1, r.2)
   guards_operand (a_guard g gs) q (inr n) = let r = guards_operand gs q n in (r.0, in_right (operands_of g) (operands_in gs) r.0 r.1, r.2)
 
-source_in : (a : PlainAssign) (q : PortRef) → AssignNames a q → (p : PlacedPort) × In (sources_of a) p × (p.port ≡ q)
+pub source_in : (a : PlainAssign) (q : PortRef) → AssignNames a q → (p : PlacedPort) × In (sources_of a) p × (p.port ≡ q)
 source_in a q (inl n) = let r = guard_operand a.guard q n in (r.0, inr r.1, r.2)
 source_in a q (inr e) = (a.source, inl refl, e)
 
@@ -149,7 +149,7 @@ module _ (d : PlainDesign) (design : IsDesign d) (accepted : IsAccepted d) (k : 
       fine (suc m) c row e = fine_cells (tree_within d m) (component_at d k).cells c row e
 
 -- an instance without a component
-bare_test : (v : Visited) (p : PlacedPort) → In (statements_in no_component) v → test_in v.form ≡ Some p → ⊥
+pub bare_test : (v : Visited) (p : PlacedPort) → In (statements_in no_component) v → test_in v.form ≡ Some p → ⊥
 bare_test v p (inl e) f = none_port (ap (λ w. test_in w.form) e ∙ f)
   where
     none_port : ◌≡◌ {A = Option PlacedPort} None (Some p) → ⊥

@@ -1,12 +1,12 @@
 //! Laws of arms that run one after another: each function does nothing but call others, and its clause is the law.
 
-ghost use Rattle.std.specs.Prelude.{◌≡◌, ◌≤◌, ◌+◌, ℕ, suc, List, [], ◌∷◌, ◌++◌, Some, length, slice_get, take};
+ghost use Rattle.std.specs.Prelude.{◌≡◌, ◌≤◌, ◌<◌, ◌+◌, ℕ, suc, List, [], ◌∷◌, ◌++◌, Some, length, slice_get, take};
 ghost use Rattle.cx_text.specs.declared.places.Place.{Place};
 ghost use Rattle.cx_meaning.specs.Designs.{PlainDesign, PlainStatement, PlainStatements, Placed, Par, no_statements, statements_of, list_of};
 ghost use Rattle.cx_meaning.specs.Instances.{Instance, State, Path, part_of, tree_of, instance_at, IsSettled};
 ghost use Rattle.cx_meaning.specs.Sights.{In, Held};
 ghost use Rattle.cx_meaning.specs.Control.{drives};
-ghost use Rattle.cx_meaning.specs.Running.{run_statement};
+ghost use Rattle.cx_meaning.specs.Running.{run_control, run_statement};
 ghost use Rattle.cx_rules.specs.Accepted.{IsAccepted};
 ghost use Rattle.cx_rules.specs.Footprints.{Reads};
 ghost use Rattle.cx_rules.specs.Items.{Visited, statements_in};
@@ -88,3 +88,13 @@ pub fn whole_par()
         → Ran i (drives (part_of i) (Placed (Par no_statements) place))
         (run_statement i held (Placed (Par no_statements) place)) s 0 s Unfinished }
 {}
+
+/// What the control of an instance does depends on how the inputs are held that its component has, and on no others.
+pub fn own_inputs_suffice()
+    ensures { (d : PlainDesign) (path : Path) (held other : Held) (s : State) (n : ℕ)
+        → IsDesign d → IsAccepted d
+        → ((input : ℕ) → input < length (part_of (instance_at (tree_of d) path)).inputs → held input ≡ other input)
+        → run_control (instance_at (tree_of d) path) held s n ≡ run_control (instance_at (tree_of d) path) other s n }
+{
+    accepted_entries_are_acyclic();
+}

@@ -92,6 +92,12 @@ ready-keeps m before after b keeps r = record {
   values = λ f. r.values f ∙ sym (keeps.nets f);
 }
 
+pub keeps-none : (m : Machine) (s : Stored) (b : Bench) → IsReady m s b → KeepsWidths s s
+keeps-none m s b r = record { nets = λ f. refl; arrays = λ a. refl; even = r.fits.even }
+
+pub keeps-more : (a b c : Stored) → KeepsWidths a b → KeepsWidths b c → KeepsWidths a c
+keeps-more a b c first then_ = record { nets = λ f. then_.nets f ∙ first.nets f; arrays = λ k. then_.arrays k ∙ first.arrays k; even = then_.even }
+
 width-set : (values : List BitVector) (i : ℕ) (v : BitVector) → width_at values i ≡ Some v.width → (f : ℕ) → width_at (slice_set values i v) f ≡ width_at values f
 width-set [] i v e f = refl
 width-set (y ∷ ys) zero v e zero = sym e

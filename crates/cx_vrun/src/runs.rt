@@ -2,6 +2,7 @@
 
 ghost use Rattle.std.specs.Prelude.{◌≡◌, IfNone, MatchOption};
 ghost use Rattle.cx_veval.specs.Search.{AllKnown, IsFirstWithout};
+ghost use Rattle.cx_vrun.specs.Machines.{KeepsWidths};
 ghost use Rattle.cx_vrun.specs.Runs.{AreValues, IsReady, WithInputs, IsLooked, bit, FlatFrom, FlatRun, outcome_of};
 
 use crate::edges::{edge, reset_edge};
@@ -87,7 +88,8 @@ fn look_last(machine: &Machine, bench: &mut Bench, stored: &Stored, cycle: u64) 
 /// The cycles after the edge with reset.
 fn run_on(machine: &Machine, bench: &mut Bench, stored: &mut Stored, cycles: u64) -> Answer
     requires ready { IsReady machine.now stored.old bench.old }
-    ensures { FlatFrom machine.now stored.old 0 cycles (outcome_of result stored.new) }
+    ensures value { FlatFrom machine.now stored.old 0 cycles (outcome_of result stored.new) }
+    ensures widths { KeepsWidths stored.old stored.new }
 {
     for cycle in 0..cycles {
         if let Some(answer) = look(machine, bench, stored, cycle) {
@@ -102,7 +104,8 @@ fn run_on(machine: &Machine, bench: &mut Bench, stored: &mut Stored, cycles: u64
 /// cycle.
 pub fn run(machine: &Machine, bench: &mut Bench, stored: &mut Stored, cycles: u64) -> Answer
     requires ready { IsReady machine.now stored.old bench.old }
-    ensures { FlatRun machine.now stored.old cycles (outcome_of result stored.new) }
+    ensures value { FlatRun machine.now stored.old cycles (outcome_of result stored.new) }
+    ensures widths { KeepsWidths stored.old stored.new }
 {
     set_inputs(machine, bench, stored, true);
     if let Some(net) = values(machine, bench, stored) {

@@ -1,0 +1,9 @@
+use Rattle.std.proofs.Common.{◌≡◌, length, take}
+use Rattle.cx_vwords.specs.Numbers.{numbers_of}
+use Rattle.cx_vwords.proofs.words.read_words.Given as goal
+
+abbrev pub invariant-loop-n : goal.invariant-loop-n
+invariant-loop-n l = record {
+  sized : length l.words ≡ length (numbers_of l.array.words.items);
+  far : take l.n l.words ≡ take l.n (numbers_of l.array.words.items);
+}
