@@ -4,6 +4,7 @@
 mod driving;
 mod facts;
 mod machines;
+mod ordering;
 mod stepping;
 mod tables;
 

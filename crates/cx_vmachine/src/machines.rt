@@ -1,6 +1,6 @@
 //! The machine of a source, and what a run of it begins with.
 
-ghost use Rattle.std.specs.Prelude.{◌≡◌, ◌<◌, ◌^◌, IfOk, length};
+ghost use Rattle.std.specs.Prelude.{◌≡◌, IfOk, length};
 ghost use Rattle.cx_vtree.specs.InstanceTree.{instances_of};
 ghost use Rattle.cx_vtree.specs.PlainSources.{plain_source};
 ghost use Rattle.cx_veval.specs.Search.{SameWidths};
@@ -10,6 +10,7 @@ ghost use Rattle.cx_vmachine.specs.Machines.{BuiltStands};
 
 use crate::driving::drivers;
 use crate::facts::trees_can_be_built;
+use crate::ordering::order;
 use crate::stepping::{all_steps, resets};
 use crate::tables::{Table, listed, root};
 use cx_text::Memory;
@@ -26,18 +27,6 @@ pub struct Built {
     pub machine: Machine,
     pub bench: Bench,
     pub stored: Stored,
-}
-
-/// Numbers in their order.
-fn in_order(alloc: Global, count: usize) -> Result<Vec<u32>, Memory>
-    requires { count < 2 ^ 32 }
-    ensures { IfOk result (λ order. length order.items ≡ count) }
-{
-    let mut order = Vec::new(alloc);
-    for number in 0..count {
-        order.push(number as u32)?;
-    }
-    Ok(order)
 }
 
 /// Room for one cycle.
@@ -71,15 +60,16 @@ fn build(alloc: Global, table: Table<'_>) -> Result<Built, Memory>
     let drivers = drivers(alloc, &table, stored.nets.len())?;
     let resets = resets(alloc, &table)?;
     let steps = all_steps(alloc, &table)?;
-    let order = in_order(alloc, stored.nets.len())?;
     let bench = bench(alloc, &stored, steps.stores.len())?;
     driven_nets_stand();
     tables_fit();
+    let nets = Nets {
+        drivers,
+        codes: table.codes,
+    };
+    let order = order(alloc, &nets)?;
     let machine = Machine {
-        nets: Nets {
-            drivers,
-            codes: table.codes,
-        },
+        nets,
         order,
         resets,
         sets: steps.sets,
@@ -95,7 +85,7 @@ fn build(alloc: Global, table: Table<'_>) -> Result<Built, Memory>
     })
 }
 
-/// The machine of a source, in which nets are tried in the order of their numbers, with zeros to begin with.
+/// The machine of a source, with zeros to begin with.
 pub fn machine(alloc: Global, source: &Source) -> Result<Built, Memory>
     ensures { IfOk result (BuiltStands (instances_of (plain_source source.now))) }
 {

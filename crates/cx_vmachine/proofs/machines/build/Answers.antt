@@ -10,7 +10,7 @@ returns c =
     let t = c.args.table in
     let rows = ap (map placed_of) c.deref.ensures.value in
     let stored = c.in_ok-stored.stored in
-    let writes : length c.in_ok-bench.bench.writes.items ≡ length c.in_ok-steps.steps.stores.items = omega (arith, c.in_ok-bench.ensures.writes, c.len-3.ensures, c.in_ok-steps.steps.stores.ok.0) in
+    let writes : length c.in_ok-bench.bench.writes.items ≡ length c.in_ok-steps.steps.stores.items = omega (arith, c.in_ok-bench.ensures.writes, c.len-2.ensures, c.in_ok-steps.steps.stores.ok.0) in
     built_stands (tree_of t) c.requires.tree c.driven_nets_stand.ensures c.tables_fit.ensures.nets c.tables_fit.ensures.sets c.tables_fit.ensures.stores c.zeros_stand.ensures.fits c.zeros_stand.ensures.values
     (record {
       nets = record { drivers = c.in_ok-drivers.drivers; codes = t.codes };
