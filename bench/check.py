@@ -3,7 +3,8 @@
 
     bench/check.py PROGRAM
 
-PROGRAM is the built calyx_cli, which is run as `PROGRAM check FILE`. Each design is meant to be accepted. Printed are the status,
+PROGRAM is the built calyx_cli, which is run as `PROGRAM check FILE`. Each design breaks no rule but limits, which are tried last, so that all
+stages are timed: status 0 is accepted, and 2 over a limit. Printed are the status,
 the best time of three, in milliseconds with the start of the program, the peak of memory in MiB, and at the end how many times
 as long the longest text takes as the shortest, of which it is 16 times as long.
 """
