@@ -71,6 +71,7 @@ fn walk(
     order: &mut Vec<u32>,
     stack: &mut Vec<Step>,
 ) -> Result<(), Memory> {
+    // A net is entered once for each net that reads it and left once, so the stack is empty long before the last step.
     for _step in 0..u64::MAX {
         match stack.pop() {
             None => break,
