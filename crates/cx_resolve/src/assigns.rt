@@ -40,7 +40,7 @@ pub(crate) fn assigns(
     requires { IsSite site.now }
     ensures { IfOk result (λ all. plain_assigns all.items ≡ map (design.assign_of (tree_at site.now) (part_at site.now)) (map written.plain_assign items.now)) }
 {
-    let mut all = Vec::new(alloc);
+    let mut all = Vec::with_capacity(alloc, items.len())?;
     for item in items {
         all.push(assign(alloc, site, item)?)?;
     }

@@ -104,7 +104,7 @@ pub(crate) fn cells(alloc: Global, site: &Site) -> Result<Vec<Cell>, Memory>
     requires { IsSite site.now }
     ensures { IfOk result (λ all. map plain_cell all.items ≡ map (design.plain_cell_of (tree_at site.now) (part_at site.now)) (part_at site.now).cells) }
 {
-    let mut all = Vec::new(alloc);
+    let mut all = Vec::with_capacity(alloc, site.scope.part.cells.len())?;
     for item in &site.scope.part.cells {
         all.push(cell(alloc, site, item)?)?;
     }

@@ -42,7 +42,7 @@ fn decl(alloc: Global, site: &Site, port: &PortItem) -> Result<PortDecl, Memory>
 fn decls(alloc: Global, site: &Site, ports: &[PortItem]) -> Result<Vec<PortDecl>, Memory>
     ensures { IfOk result (λ all. all.items ≡ map (design.decl_of (tree_at site.now) (part_at site.now)) (signature_ports (map written.plain_port ports.now))) }
 {
-    let mut all = Vec::new(alloc);
+    let mut all = Vec::with_capacity(alloc, ports.len())?;
     for port in ports {
         if is_own_name(&port.name) {
             continue;

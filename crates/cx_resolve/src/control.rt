@@ -213,7 +213,7 @@ fn statements(
     ensures value { IfOk result (λ all. plain_statements all.items ≡ design.all_of (tree_at site.now) (part_at site.now) (length (map plain_group groups.old.items)) (written.statements_of (written.plain_statements items.now))) }
     ensures groups { OnOk result (map plain_group groups.new.items ≡ added (tree_at site.now) (part_at site.now) (map plain_group groups.old.items) (invokes_all (written.statements_of (written.plain_statements items.now)))) }
 {
-    let mut all = Vec::new(alloc);
+    let mut all = Vec::with_capacity(alloc, items.len())?;
     for item in items {
         let next = statement(alloc, site, groups, item)?;
         all.push(next)?;

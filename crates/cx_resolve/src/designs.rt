@@ -36,7 +36,7 @@ fn components(
     requires ports { ArePortNumbers (plain_tree tree.now).components ports.now.items }
     ensures { IfOk result (λ all. map plain_component all.items ≡ map (component_of (plain_tree tree.now)) (plain_tree tree.now).components) }
 {
-    let mut all = Vec::new(alloc);
+    let mut all = Vec::with_capacity(alloc, tree.components.len())?;
     for number in 0..tree.components.len() {
         let site = Site {
             scope: Scope {

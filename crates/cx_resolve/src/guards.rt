@@ -70,7 +70,7 @@ fn guards(alloc: Global, site: &Site, items: &[GuardItem]) -> Result<Vec<Guard>,
     requires { IsSite site.now }
     ensures { IfOk result (λ gs. guards_of (map plain_guard gs.items) ≡ design.guards_in (tree_at site.now) (part_at site.now) (written.guards_of (written.plain_guards items.now))) }
 {
-    let mut all = Vec::new(alloc);
+    let mut all = Vec::with_capacity(alloc, items.len())?;
     for item in items {
         all.push(guard(alloc, site, item)?)?;
     }

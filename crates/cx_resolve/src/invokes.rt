@@ -193,7 +193,7 @@ fn register_guards(alloc: Global, site: &Site, call: Call) -> Result<Vec<Guard>,
     requires { IsSite site.now }
     ensures { IfOk result (λ gs. map plain_guard gs.items ≡ map (λ b. Atom (design.register_done (tree_at site.now) (part_at site.now) (invoke_of call.entry) b)) call.entry.outputs.now) }
 {
-    let mut all = Vec::new(alloc);
+    let mut all = Vec::with_capacity(alloc, call.outputs.len())?;
     for bind in call.outputs {
         let done = register_done(alloc, site, bind, call.place)?;
         all.push(Guard::Port(done))?;

@@ -53,7 +53,7 @@ pub(crate) fn all_port_numbers(
 ) -> Result<Vec<Numbers>, Memory>
     ensures { IfOk result (λ all. ArePortNumbers (map plain_component parts.now) all.items) }
 {
-    let mut all = Vec::new(alloc);
+    let mut all = Vec::with_capacity(alloc, parts.len())?;
     for part in parts {
         all.push(port_numbers(alloc, part)?)?;
     }

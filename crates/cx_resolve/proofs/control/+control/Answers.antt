@@ -69,7 +69,7 @@ form-returns-in_ok-no-in-StaticIf-clause-groups t c =
     ∙ ap (λ f. added tree part gs (invokes_in f c.args.place)) (sym item)
 
 pub statements-loop-item-init : goal.statements-loop-item-init
-statements-loop-item-init t c = record { value = rw c.new-all.ensures.items refl; groups = refl }
+statements-loop-item-init t c = record { value = rw c.in_ok-all.ensures.items refl; groups = refl }
 
 pub statements-loop-item-preserved : goal.statements-loop-item-preserved
 statements-loop-item-preserved t c =
