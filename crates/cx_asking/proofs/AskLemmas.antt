@@ -47,10 +47,10 @@ use Rattle.cx_asking.specs.declared.asking.Asking.{Asking}
 eq_true : (m n : ℕ) → nat_eq m n ≡ true → m ≡ n
 eq_true m n e = grind arith
 
-lt_true : (m n : ℕ) → m < n → nat_lt m n ≡ true
+pub lt_true : (m n : ℕ) → m < n → nat_lt m n ≡ true
 lt_true m n h = grind arith
 
-active_there : (a : Asked) (active : Active) (k : ℕ) → a.active ≡ plain_active (networks.instance_of a a.instance) active → (i : Instance) → i ≡ networks.instance_of a k
+pub active_there : (a : Asked) (active : Active) (k : ℕ) → a.active ≡ plain_active (networks.instance_of a a.instance) active → (i : Instance) → i ≡ networks.instance_of a k
     → plain_active i (active_in a.instance active k) ≡ active_at a k
 active_there a active k is i e = choice (nat_eq k a.instance) refl
   where
@@ -106,7 +106,7 @@ module _ (asking : Asking) (can : CanAsk (asked_of asking) asking.nodes.now aski
   abbrev a : Asked
   a = asked_of asking
 
-  there : networks.instance_of a found.instance ≡ part_at a.design a.rows found.instance
+  pub there : networks.instance_of a found.instance ≡ part_at a.design a.rows found.instance
   there = same_instance a asking.nodes.now can.network found.instance f.within
 
   module _ (place : Place) (is : IsPlaceOf asking found place) where

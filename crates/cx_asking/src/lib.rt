@@ -4,7 +4,11 @@
 mod asking;
 mod below;
 mod children;
+mod known;
+mod lacking;
+mod network;
 mod places;
+mod unknown;
 mod values;
 
 pub use asking::Asking;

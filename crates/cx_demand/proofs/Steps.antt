@@ -8,54 +8,46 @@ use Rattle.cx_meaning.specs.declared.sights.Seen.{Seen}
 use Rattle.cx_meaning.specs.Sights.{In}
 use Rattle.cx_demand.specs.declared.marks.Mark.{Mark}
 use Rattle.cx_demand.specs.declared.marks.Mark.TheVariants.{Unseen, Open, Known}
+use Rattle.cx_demand.specs.Touches.{weight, unseen}
 use Rattle.cx_demand.specs.Demands.{Way, at_once, by_way_of, IsGrounded, StaysWithin, is_known, known_at, AreKnown, Ready, Demanded}
 
-none_is_some : {A : Type 0} (x : A) → ◌≡◌ {A = Option A} None (Some x) → ⊥
+pub none_is_some : {A : Type 0} (x : A) → ◌≡◌ {A = Option A} None (Some x) → ⊥
 none_is_some x e = cc
 
-below_length : {A : Type 0} (xs : List A) (i : ℕ) (x : A) → slice_get xs i ≡ Some x → i < length xs
+pub below_length : {A : Type 0} (xs : List A) (i : ℕ) (x : A) → slice_get xs i ≡ Some x → i < length xs
 below_length [] i x e = absurd (none_is_some x e)
 below_length (y ∷ ys) zero x e = omega arith
 below_length (y ∷ ys) (suc i) x e = let h : i < length ys = below_length ys i x e in omega arith
 
-set_here : {A : Type 0} (xs : List A) (i : ℕ) (y : A) → i < length xs → slice_get (set xs i y) i ≡ Some y
+pub set_here : {A : Type 0} (xs : List A) (i : ℕ) (y : A) → i < length xs → slice_get (set xs i y) i ≡ Some y
 set_here [] i y lt = absurd (omega arith)
 set_here (x ∷ xs) zero y lt = refl
 set_here (x ∷ xs) (suc i) y lt = set_here xs i y (let h : suc i < suc (length xs) = lt in omega arith)
 
-set_there : {A : Type 0} (xs : List A) (i j : ℕ) (y : A) → j ≢ i → slice_get (set xs i y) j ≡ slice_get xs j
+pub set_there : {A : Type 0} (xs : List A) (i j : ℕ) (y : A) → j ≢ i → slice_get (set xs i y) j ≡ slice_get xs j
 set_there [] i j y ne = refl
 set_there (x ∷ xs) zero zero y ne = absurd (ne refl)
 set_there (x ∷ xs) zero (suc j) y ne = refl
 set_there (x ∷ xs) (suc i) zero y ne = refl
 set_there (x ∷ xs) (suc i) (suc j) y ne = set_there xs i j y (λ e. ne (ap suc e))
 
-same_or : (m n : ℕ) → (m ≡ n) ⊎ (m ≢ n)
+pub same_or : (m n : ℕ) → (m ≡ n) ⊎ (m ≢ n)
 same_or zero zero = inl refl
 same_or zero (suc n) = inr (λ e. (let f : zero ≡ suc n = e in omega arith))
 same_or (suc m) zero = inr (λ e. (let f : suc m ≡ zero = e in omega arith))
 same_or (suc m) (suc n) = ⊎_elim (λ e. inl (ap suc e)) (λ ne. inr (λ e. ne (let f : suc m ≡ suc n = e in omega arith))) (same_or m n)
 
--- the nodes of which nothing is known
-abbrev weight : Mark → ℕ
-weight Unseen = 1
-weight Open = 0
-weight (Known x) = 0
-
-abbrev pub unseen : List Mark → ℕ
-unseen [] = 0
-unseen (m ∷ ms) = weight m + unseen ms
-
+-- HOW MANY ARE UNSEEN
 weight_le : (m : Mark) → weight m ≤ 1
 weight_le Unseen = omega arith
 weight_le Open = omega arith
 weight_le (Known x) = omega arith
 
-unseen_le : (marks : List Mark) → unseen marks ≤ length marks
+pub unseen_le : (marks : List Mark) → unseen marks ≤ length marks
 unseen_le [] = omega arith
 unseen_le (m ∷ ms) = let w = weight_le m in let r = unseen_le ms in omega (arith, w, r)
 
-unseen_set : (marks : List Mark) (n : ℕ) (m x : Mark) → slice_get marks n ≡ Some m → unseen (set marks n x) + weight m ≡ unseen marks + weight x
+pub unseen_set : (marks : List Mark) (n : ℕ) (m x : Mark) → slice_get marks n ≡ Some m → unseen (set marks n x) + weight m ≡ unseen marks + weight x
 unseen_set [] n m x e = absurd (none_is_some m e)
 unseen_set (y ∷ ys) zero m x e = let same : y ≡ m = (let f : Some y ≡ Some m = e in cc) in let w : weight y ≡ weight m = ap weight same in omega (arith, w)
 unseen_set (y ∷ ys) (suc n) m x e = let r = unseen_set ys n m x e in omega (arith, r)
@@ -98,7 +90,7 @@ known_before value root marks ready e =
       kept = λ n x h. h;
     }
 
-root_unseen : (value : ℕ → Seen) (root : ℕ) (marks : List Mark) → Ready value marks → root < length marks → known_at marks root ≡ false → slice_get marks root ≡ Some Unseen
+pub root_unseen : (value : ℕ → Seen) (root : ℕ) (marks : List Mark) → Ready value marks → root < length marks → known_at marks root ≡ false → slice_get marks root ≡ Some Unseen
 root_unseen value root marks ready lt e = by (is_open_or (slice_get marks root) e)
   where
     there : slice_get marks root ≡ Some (get_or marks root Unseen)
@@ -137,7 +129,7 @@ module _ (leads : ℕ → List ℕ) (value : ℕ → Seen) (root : ℕ) (old mar
   last_less : depth - 1 < depth
   last_less = omega arith
 
-  top_open : slice_get marks (get_or stack (depth - 1) 0) ≡ Some Open
+  pub top_open : slice_get marks (get_or stack (depth - 1) 0) ≡ Some Open
   top_open = g.stacked (depth - 1) last_less
 
   pub top_within : get_or stack (depth - 1) 0 < length marks
@@ -157,7 +149,7 @@ module _ (leads : ℕ → List ℕ) (value : ℕ → Seen) (root : ℕ) (old mar
         let lt : get_or stack (depth - 1) 0 < length old = (let t = top_within in omega (arith, t, s)) in
         let n = within (get_or stack (depth - 1) 0) next lt step in omega (arith, n, s)
 
-    next_unseen : slice_get marks next ≡ Some Unseen
+    pub next_unseen : slice_get marks next ≡ Some Unseen
     next_unseen = by (is_open_or (slice_get marks next) unknown)
       where
         there : slice_get marks next ≡ Some (get_or marks next Unseen)

@@ -35,6 +35,10 @@ pub record Ready (value : ℕ → Seen) (marks : List Mark) : Type 0 where
   pub right : (n : ℕ) (x : Seen) → slice_get marks n ≡ Some (Known x) → x ≡ value n
   pub closed : (n : ℕ) → slice_get marks n ≡ Some Open → ⊥
 
+-- nothing is known
+abbrev pub AllUnseen : List Mark → Type 0
+AllUnseen marks = (n : ℕ) (m : Mark) → slice_get marks n ≡ Some m → m ≡ Unseen
+
 -- after a demand: the node is known with its value, and so is what was known before
 pub record Demanded (value : ℕ → Seen) (root : ℕ) (old marks : List Mark) : Type 0 where
   pub ready : Ready value marks

@@ -2,9 +2,11 @@
 #![tactic(auto)]
 
 mod demands;
+mod finding;
 mod marks;
 mod network;
+mod touched;
 
-pub use demands::demand;
-pub use marks::Mark;
+pub use demands::Marks;
+pub use marks::{Mark, is_known};
 pub use network::Network;

@@ -196,7 +196,7 @@ module _ (a : Asked) (nodes : Nodes) (h : IsNetwork a nodes) (marks : List Mark)
   abbrev whole : State
   whole = state_in (tree_of a.design) a.state
 
-  value_there : (k m : ℕ) (q : PortRef) → a.instance ≤ k → k < length a.rows → node_at a.design a.rows k q ≡ Some m → value_at a nodes m ≡ seen_at a k q
+  pub value_there : (k m : ℕ) (q : PortRef) → a.instance ≤ k → k < length a.rows → node_at a.design a.rows k q ≡ Some m → value_at a nodes m ≡ seen_at a k q
   value_there k m q from lt e = choice (found_at nodes m) (found_is a.design a.rows nodes h.numbered m)
     where
       choice : (o : Option NodePort) → IsPortOf a.design a.rows m o → value_of a (asked_port a o) ≡ seen_at a k q
@@ -207,7 +207,7 @@ module _ (a : Asked) (nodes : Nodes) (h : IsNetwork a nodes) (marks : List Mark)
           ∙ ap (λ b. value_of a (if_asked a b found)) (le_true a.instance k from)
           ∙ ap (λ n. seen_at a n found.port) same.0 ∙ ap (seen_at a k) same.1
 
-  known_shown : (k m : ℕ) (q : PortRef) → a.instance ≤ k → k < length a.rows → node_at a.design a.rows k q ≡ Some m → slice_get marks m ≡ Some (Known (value_at a nodes m)) → look_at a marks k q ≡ seen_at a k q
+  pub known_shown : (k m : ℕ) (q : PortRef) → a.instance ≤ k → k < length a.rows → node_at a.design a.rows k q ≡ Some m → slice_get marks m ≡ Some (Known (value_at a nodes m)) → look_at a marks k q ≡ seen_at a k q
   known_shown k m q from lt e known = ap (node_shown marks q) e ∙ ap shown known ∙ value_there k m q from lt e
 
   -- what a port of an asked instance leads to is shown as it is seen
