@@ -1,24 +1,41 @@
 -- A cycle depends on a look at the ports alone that it looks at.
-use Rattle.std.proofs.Common.{◌≡◌, ℕ, zero, suc, ◌+◌, Bool, true, false, [], ◌∷◌, if◌then◌else◌, refl, ap, ◌∙◌, subst, arith}
+use Rattle.std.proofs.Common.{◌≡◌, ℕ, zero, suc, ◌+◌, ◌<◌, Bool, true, false, List, [], ◌∷◌, length, if◌then◌else◌, refl, sym, ap, ◌∙◌, subst, arith}
 use Rattle.cx_prim.specs.CellStates.{CellState}
+use Rattle.cx_prim.specs.declared.ports.PortRow.{PortRow}
 use Rattle.cx_prim.specs.Rows.{Row}
 use Rattle.cx_meaning.specs.declared.ports.PortRef.TheVariants.{Cell}
+use Rattle.cx_meaning.specs.declared.sights.Seen.{Seen}
 use Rattle.cx_meaning.specs.Instances.{Cells, no_cells, a_primitive, an_instance, OfRow, cell_at, Path, Set, State}
-use Rattle.cx_meaning.specs.Sights.{Look, Gathered, Given, Lacks, gather}
+use Rattle.cx_meaning.specs.Sights.{Look, Gathered, Given, Lacks, gather_port, gather}
 use Rattle.cx_meaning.specs.Cycles.{enables, looks_at, after_data, after_enabling, cell_outcome, first_of, where_listed, first_fault, stepped, cell_after, state_after, unless_fault, cycle_by}
-use Rattle.cx_meaning.proofs.SightsLemmas.{gather_alike}
 use Rattle.cx_cycles.specs.Alike.{AgreeAt}
+
+-- what is gathered depends on the wanted ports alone that there are
+one_alike : (w : Bool) (p : ℕ) (x y : Seen) (g : Gathered) → (w ≡ true → x ≡ y) → gather_port w p x g ≡ gather_port w p y g
+one_alike true p x y g h = ap (λ z. gather_port true p z g) (h refl)
+one_alike false p x y g h = refl
+
+from_alike : (look more : ℕ → Seen) (wanted : ℕ → Bool) (p : ℕ) (list : List PortRow) → ((k : ℕ) → k < length list → wanted (p + k) ≡ true → look (p + k) ≡ more (p + k))
+    → gather look wanted p list ≡ gather more wanted p list
+from_alike look more wanted p [] h = refl
+from_alike look more wanted p (port ∷ list) h =
+    let z : p + 0 ≡ p = omega arith in
+    one_alike (wanted p) p (look p) (more p) (gather look wanted (suc p) list) (λ on. ap look (sym z) ∙ h 0 (omega arith) (ap wanted z ∙ on) ∙ ap more z)
+    ∙ ap (gather_port (wanted p) p (more p)) (from_alike look more wanted (suc p) list (λ k lt on. let s : suc p + k ≡ p + suc k = omega arith in ap look s ∙ h (suc k) (omega (arith, lt)) (ap wanted (sym s) ∙ on) ∙ ap more (sym s)))
+
+pub ports_alike : (look more : ℕ → Seen) (wanted : ℕ → Bool) (list : List PortRow) → ((p : ℕ) → p < length list → wanted p ≡ true → look p ≡ more p) → gather look wanted 0 list ≡ gather more wanted 0 list
+ports_alike look more wanted list h = from_alike look more wanted 0 list (λ k lt on. let z : k ≡ 0 + k = omega arith in ap look (sym z) ∙ h k lt (ap wanted z ∙ on) ∙ ap more z)
 
 module _ (look more : Look) (c : ℕ) (row : Row) (state : CellState) (agree : AgreeAt look more c row state) where
   enabled_alike : (g : Gathered) → gather (λ p. look (Cell c p)) (enables row) 0 row.ports ≡ g → after_enabling (λ p. look (Cell c p)) row state g ≡ after_enabling (λ p. more (Cell c p)) row state g
   enabled_alike (Given xs) is =
-      ap (after_data row state) (gather_alike (λ p. look (Cell c p)) (λ p. more (Cell c p)) (looks_at row state xs) 0 row.ports (λ p wanted. agree.demanded xs p is wanted))
+      ap (after_data row state) (ports_alike (λ p. look (Cell c p)) (λ p. more (Cell c p)) (looks_at row state xs) row.ports (λ p lt wanted. agree.demanded xs p is lt wanted))
   enabled_alike (Lacks p x) is = refl
 
-  outcome_alike : cell_outcome look c row state ≡ cell_outcome more c row state
+  pub outcome_alike : cell_outcome look c row state ≡ cell_outcome more c row state
   outcome_alike =
       enabled_alike (gather (λ p. look (Cell c p)) (enables row) 0 row.ports) refl
-      ∙ ap (after_enabling (λ p. more (Cell c p)) row state) (gather_alike (λ p. look (Cell c p)) (λ p. more (Cell c p)) (enables row) 0 row.ports (λ p enabling. agree.enabling p enabling))
+      ∙ ap (after_enabling (λ p. more (Cell c p)) row state) (ports_alike (λ p. look (Cell c p)) (λ p. more (Cell c p)) (enables row) row.ports (λ p lt enabling. agree.enabling p lt enabling))
 
 module _ (listed : Set) (look more : Look) where
   listed_same : {A : Type 0} (b : Bool) (x y z : A) → (b ≡ true → x ≡ y) → (if b then x else z) ≡ (if b then y else z)

@@ -1,5 +1,6 @@
-mod DemandLemmas
-mod LookLemmas
-mod PassLemmas
-mod FaultLemmas
-mod AlikeLemmas
+pub mod DemandLemmas
+pub mod LookLemmas
+pub mod PassLemmas
+pub mod FaultLemmas
+pub mod AlikeLemmas
+pub mod EndLemmas

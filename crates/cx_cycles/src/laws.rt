@@ -1,15 +1,42 @@
-//! A law: the function does nothing, and its clause is the law.
+//! Laws: each function does nothing, and its clause is the law.
 
-ghost use Rattle.std.specs.Prelude.{◌≡◌, ℕ, [], ◌∷◌, true};
+ghost use Rattle.std.specs.Prelude.{◌≡◌, ℕ, [], ◌∷◌, true, List, Option, None, Some, Ok, Err, length};
+ghost use Rattle.cx_prim.specs.CellStates.{CellState};
 ghost use Rattle.cx_prim.specs.Rows.{Row};
-ghost use Rattle.cx_meaning.specs.Instances.{Cells, OfRow, Set, State, cell_at};
+ghost use Rattle.cx_meaning.specs.Designs.{PlainCell};
+ghost use Rattle.cx_meaning.specs.Instances.{Cells, Instance, OfRow, Set, State, cell_at, cells_for};
 ghost use Rattle.cx_meaning.specs.Sights.{Look};
-ghost use Rattle.cx_meaning.specs.Cycles.{cycle_by};
-ghost use Rattle.cx_cycles.specs.Alike.{AgreeAt};
+ghost use Rattle.cx_meaning.specs.Cycles.{cycle_by, every_cell};
+ghost use Rattle.cx_cycles.specs.Alike.{AgreeAt, AgreeWhere};
+ghost use Rattle.cx_cycles.specs.declared.passes.CellFault.{CellFault};
+ghost use Rattle.cx_cycles.specs.Passes.{AreStepped, EndsSo, HeldAt, IsAscending, fault_of, first_among, first_from, listed_in};
 
 /// A cycle ends alike over two looks that agree where the listed cells are looked at.
 pub fn cycles_look_where_demanded()
     ensures { (listed : Set) (look more : Look) (s : State) (cells : Cells)
         → ((c : ℕ) (row : Row) → cell_at cells c ≡ OfRow row → listed c ≡ true → AgreeAt look more c row (s (c ∷ [])))
         → cycle_by listed look cells s ≡ cycle_by listed more cells s }
+{}
+
+/// A cycle of all cells ends with the first fault over its look; or, where there is none, as the cells hold after their steps
+/// over a look that agrees where they are looked at.
+pub fn cycles_end_so()
+    ensures faults { (look : Look) (cells : List PlainCell) (held : List (Option CellState)) (child : ℕ → Instance) (s : State) (fault : CellFault)
+        → HeldAt cells held s → first_from (fault_of look cells held) 0 (length cells) ≡ Some fault
+        → EndsSo cells held held (Err fault) (cycle_by every_cell look (cells_for child cells) s) }
+    ensures goes { (look more : Look) (cells : List PlainCell) (old new : List (Option CellState)) (child : ℕ → Instance) (s : State)
+        → HeldAt cells old s → first_from (fault_of look cells old) 0 (length cells) ≡ None
+        → AgreeWhere every_cell look more cells old → AreStepped every_cell more cells old new
+        → EndsSo cells old new (Ok tt) (cycle_by every_cell look (cells_for child cells) s) }
+{}
+
+/// A cycle of the cells of an ascending list ends likewise.
+pub fn listed_cycles_end_so()
+    ensures faults { (look : Look) (cells : List PlainCell) (held : List (Option CellState)) (child : ℕ → Instance) (s : State) (listed : List ℕ) (fault : CellFault)
+        → IsAscending listed → HeldAt cells held s → first_among (fault_of look cells held) listed ≡ Some fault
+        → EndsSo cells held held (Err fault) (cycle_by (listed_in listed) look (cells_for child cells) s) }
+    ensures goes { (look more : Look) (cells : List PlainCell) (old new : List (Option CellState)) (child : ℕ → Instance) (s : State) (listed : List ℕ)
+        → IsAscending listed → HeldAt cells old s → first_among (fault_of look cells old) listed ≡ None
+        → AgreeWhere (listed_in listed) look more cells old → AreStepped (listed_in listed) more cells old new
+        → EndsSo cells old new (Ok tt) (cycle_by (listed_in listed) look (cells_for child cells) s) }
 {}

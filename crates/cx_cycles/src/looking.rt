@@ -7,7 +7,7 @@ ghost use Rattle.cx_prim.specs.Table.{row_of};
 ghost use Rattle.cx_meaning.specs.Cycles as cycles;
 ghost use Rattle.cx_meaning.specs.Cycles.{cell_outcome, stepped};
 ghost use Rattle.cx_gather.specs.Gathers.{AreWide, ports_seen};
-ghost use Rattle.cx_cycles.specs.Stops.{AreMarked, stop_in, told};
+ghost use Rattle.cx_cycles.specs.Stops.{AreMarked, told};
 
 use cx_bits::Bits;
 use cx_cells::{PrimState, Primitive};
@@ -35,7 +35,7 @@ fn kind_of(seen: Seen) -> FaultKind
 }
 
 /// A port that is lacking stops its cell.
-fn stop_at(lack: Lack) -> Stop
+pub fn stop_at(lack: Lack) -> Stop
     requires few { lack.port < 2 ^ 32 }
     ensures { result ≡ record { kind = cycles.kind_of lack.seen; port = lack.port } }
 {
@@ -72,7 +72,7 @@ fn looks(primitive: &Primitive, state: &PrimState, inputs: &[Option<Bits>], port
 }
 
 /// Marks the enabling ports of a primitive.
-fn mark_enabling(primitive: &Primitive, wanted: &mut [bool])
+pub fn mark_enabling(primitive: &Primitive, wanted: &mut [bool])
     requires sized { length wanted.old ≡ length (row_of primitive.now).ports }
     ensures marked { AreMarked (cycles.enables (row_of primitive.now)) wanted.new }
     ensures sized { length wanted.new ≡ length wanted.old }
@@ -83,7 +83,7 @@ fn mark_enabling(primitive: &Primitive, wanted: &mut [bool])
 }
 
 /// Marks the ports of a primitive that a cycle looks at, by what stands at the enabling ones.
-fn mark_looked(
+pub fn mark_looked(
     primitive: &Primitive,
     state: &PrimState,
     inputs: &[Option<Bits>],
@@ -133,31 +133,6 @@ pub fn look_at<L: Look>(
             port: port as u32,
         }),
         None => Ok(()),
-    }
-}
-
-/// The port at which a cell stops a cycle, if it does. It takes no memory.
-pub fn stop_of<L: Look>(
-    look: &L,
-    cell: u32,
-    primitive: &Primitive,
-    state: &PrimState,
-    wanted: &mut [bool],
-    inputs: &mut [Option<Bits>],
-) -> Option<Stop>
-    requires state { IsState (row_of primitive.now).shape state.now }
-    requires widths { AreWide (ports_seen (L.seen look.now) cell) (row_of primitive.now).ports }
-    requires wanted { length (row_of primitive.now).ports ≤ length wanted.old }
-    requires sized { length (row_of primitive.now).ports ≤ length inputs.old }
-    requires few { length inputs.old < 2 ^ 32 }
-    ensures value { result ≡ stop_in (cell_outcome (L.seen look.now) cell (row_of primitive.now) state.now) }
-{
-    let count = primitive.port_count();
-    let wanted = &mut wanted[..count];
-    let inputs = &mut inputs[..count];
-    match look_at(look, cell, primitive, state, wanted, inputs) {
-        Ok(()) => None,
-        Err(stop) => Some(stop),
     }
 }
 

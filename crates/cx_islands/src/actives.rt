@@ -19,6 +19,7 @@ use cx_text::Memory;
 pub fn reserve_entries(form: &Form, into: &mut Vec<ActiveEntry>) -> Result<(), Memory>
     ensures items { into.new.items ≡ into.old.items }
     ensures room { IfOk result (λ _. vec_len into.new + rooms.form_groups (plain_form form.now) ≤ vec_capacity into.new) }
+    ensures grows { vec_capacity into.old ≤ vec_capacity into.new }
 {
     into.reserve(group_count(form))?;
     Ok(())

@@ -15,6 +15,9 @@ pub trait Sampler {
     /// What each port is seen as.
     ghost look: { Self → sights.Look };
 
+    /// What stays of it when it is asked.
+    ghost kept: { Self → Self };
+
     /// The ports that it can be asked.
     ghost answers: { Self → PortRef → Type 0 };
 
@@ -26,6 +29,7 @@ pub trait Sampler {
         requires port { answers self.old port }
         ensures value { result ≡ samples.says (look self.old) port }
         ensures look { look self.new ≡ look self.old }
+        ensures kept { kept self.new ≡ kept self.old }
         ensures answers { AreStill (answers self.old) (answers self.new) }
         ensures fault { fault self.new ≡ earlier_fault (fault self.old) (first_unclear (look self.old) (port ∷ [])) };
 }

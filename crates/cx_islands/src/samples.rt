@@ -29,6 +29,7 @@ pub fn take_samples<S: Sampler>(
     ensures value { samples_of samples.new ≡ samples_after (plain_component part.now) (says (S.look sampler.old)) cycle (plain_form form.now) (samples_of samples.old) }
     ensures length { length samples.new ≡ length samples.old }
     ensures look { S.look sampler.new ≡ S.look sampler.old }
+    ensures kept { S.kept sampler.new ≡ S.kept sampler.old }
     ensures answers { AreStill (S.answers sampler.old) (S.answers sampler.new) }
     ensures fault { S.fault sampler.new ≡ earlier_fault (S.fault sampler.old) (first_unclear (S.look sampler.old) (begun_by (plain_component part.now) (samples_of samples.new) cycle (plain_form form.now))) }
 {
@@ -51,6 +52,7 @@ fn take_form<S: Sampler>(
     ensures value { samples_of samples.new ≡ form_after (plain_component part.now) (says (S.look sampler.old)) (plain_form form.now) number offset (samples_of samples.old) }
     ensures length { length samples.new ≡ length samples.old }
     ensures look { S.look sampler.new ≡ S.look sampler.old }
+    ensures kept { S.kept sampler.new ≡ S.kept sampler.old }
     ensures answers { AreStill (S.answers sampler.old) (S.answers sampler.new) }
     ensures fault { S.fault sampler.new ≡ earlier_fault (S.fault sampler.old) (first_unclear (S.look sampler.old) (form_asked (plain_component part.now) (says (S.look sampler.old)) (plain_form form.now) number offset (samples_of samples.old))) }
 {
@@ -94,6 +96,7 @@ fn take_sample<S: Sampler>(
     ensures value { samples_of samples.new ≡ begin number offset (says (S.look sampler.old) port) (samples_of samples.old) }
     ensures length { length samples.new ≡ length samples.old }
     ensures look { S.look sampler.new ≡ S.look sampler.old }
+    ensures kept { S.kept sampler.new ≡ S.kept sampler.old }
     ensures answers { AreStill (S.answers sampler.old) (S.answers sampler.new) }
     ensures fault { S.fault sampler.new ≡ earlier_fault (S.fault sampler.old) (first_unclear (S.look sampler.old) (port_at port offset)) }
 {
@@ -117,6 +120,7 @@ fn take_statement<S: Sampler>(
     ensures value { samples_of samples.new ≡ statement_after (plain_component part.now) (says (S.look sampler.old)) (plain_statement statement.now) number offset (samples_of samples.old) }
     ensures length { length samples.new ≡ length samples.old }
     ensures look { S.look sampler.new ≡ S.look sampler.old }
+    ensures kept { S.kept sampler.new ≡ S.kept sampler.old }
     ensures answers { AreStill (S.answers sampler.old) (S.answers sampler.new) }
     ensures fault { S.fault sampler.new ≡ earlier_fault (S.fault sampler.old) (first_unclear (S.look sampler.old) (statement_asked (plain_component part.now) (says (S.look sampler.old)) (plain_statement statement.now) number offset (samples_of samples.old))) }
 {
@@ -139,6 +143,7 @@ fn take_while<S: Sampler>(
     ensures value { samples_of samples.new ≡ while_after (plain_component part.now) (says (S.look sampler.old)) (plain_statement statement.now) number offset (samples_of samples.old) }
     ensures length { length samples.new ≡ length samples.old }
     ensures look { S.look sampler.new ≡ S.look sampler.old }
+    ensures kept { S.kept sampler.new ≡ S.kept sampler.old }
     ensures answers { AreStill (S.answers sampler.old) (S.answers sampler.new) }
     ensures fault { S.fault sampler.new ≡ earlier_fault (S.fault sampler.old) (first_unclear (S.look sampler.old) (while_asked (plain_component part.now) (says (S.look sampler.old)) (plain_statement statement.now) number offset (samples_of samples.old))) }
 {
@@ -163,6 +168,7 @@ fn take_parts<S: Sampler>(
     ensures value { samples_of samples.new ≡ parts_after (plain_component part.now) (says (S.look sampler.old)) (plain_statements parts.now) number offset (samples_of samples.old) }
     ensures length { length samples.new ≡ length samples.old }
     ensures look { S.look sampler.new ≡ S.look sampler.old }
+    ensures kept { S.kept sampler.new ≡ S.kept sampler.old }
     ensures answers { AreStill (S.answers sampler.old) (S.answers sampler.new) }
     ensures fault { S.fault sampler.new ≡ earlier_fault (S.fault sampler.old) (first_unclear (S.look sampler.old) (parts_asked (plain_component part.now) (says (S.look sampler.old)) (plain_statements parts.now) number offset (samples_of samples.old))) }
 {
@@ -193,6 +199,7 @@ fn take_arms<S: Sampler>(
     ensures value { samples_of samples.new ≡ arms_after (plain_component part.now) (says (S.look sampler.old)) (plain_statements arms.now) number offset (samples_of samples.old) }
     ensures length { length samples.new ≡ length samples.old }
     ensures look { S.look sampler.new ≡ S.look sampler.old }
+    ensures kept { S.kept sampler.new ≡ S.kept sampler.old }
     ensures answers { AreStill (S.answers sampler.old) (S.answers sampler.new) }
     ensures fault { S.fault sampler.new ≡ earlier_fault (S.fault sampler.old) (first_unclear (S.look sampler.old) (arms_asked (plain_component part.now) (says (S.look sampler.old)) (plain_statements arms.now) number offset (samples_of samples.old))) }
 {

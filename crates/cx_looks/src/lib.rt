@@ -10,5 +10,5 @@ mod truths;
 pub use guards::guard_truth;
 pub use laws::{active_is_acyclic, known_ports_decide, own_assigns_drive};
 pub use look::Look;
-pub use targets::target_seen;
+pub use targets::{offset_of, target_seen};
 pub use truths::{Truth, truth_of};

@@ -28,6 +28,7 @@ take_arms-loop-statement-preserved g t c = (
       (samples_of c.loop-statement.samples) (samples_of c.take_while.new.samples) c.loop-statement-test.true c.statement-item.is c.loop-statement.invariant.2 c.sample_count-number.ensures.value c.take_while.ensures.value
       (length c.take_while.new.samples) (let e = c.take_while.ensures.length in let f = c.loop-statement.invariant.5 in omega arith),
   c.take_while.ensures.length ∙ c.loop-statement.invariant.6,
+  c.take_while.ensures.kept ∙ c.loop-statement.invariant.7,
 )
 
 pub take_arms-take_while-requires : goal.take_arms-take_while-requires
@@ -106,4 +107,5 @@ take_parts-loop-statement-preserved g t c = (
   grind (arith, common_steps),
   grind (arith, common_steps),
   c.loop-statement.invariant.7,
+  c.loop-statement.invariant.8,
 )

@@ -19,6 +19,7 @@ invariant-take_parts-loop-statement g l =
     × (l.offset < 2 ^ 64 - 1)
     × (l.number + ifs_in (plain_statements (drop l.statement-index l.parts)) ≤ length l.samples)
     × (length l.samples ≡ length l.initial.samples)
+    × (g.S.Sampler.kept l.sampler ≡ g.S.Sampler.kept l.initial.sampler)
 
 -- what the arms have taken so far, and what those that are left take, is all
 abbrev pub invariant-take_arms-loop-statement : goal.invariant-take_arms-loop-statement
@@ -32,3 +33,4 @@ invariant-take_arms-loop-statement g l =
     × AreStill (g.S.Sampler.answers l.initial.sampler) (g.S.Sampler.answers l.sampler)
     × (l.number + ifs_in (plain_statements (drop l.statement-index l.arms)) ≤ length l.samples)
     × (length l.samples ≡ length l.initial.samples)
+    × (g.S.Sampler.kept l.sampler ≡ g.S.Sampler.kept l.initial.sampler)

@@ -1,0 +1,4 @@
+mod OwnLemmas
+mod KnownLemmas
+mod StopLemmas
+mod FaultLemmas

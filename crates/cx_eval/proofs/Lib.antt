@@ -1,0 +1,9 @@
+pub mod DesignProp
+mod PartLemmas
+mod TableLemmas
+mod CellLemmas
+mod SightLemmas
+mod ShownLemmas
+mod AskedLemmas
+mod StepLemmas
+mod CycleLemmas

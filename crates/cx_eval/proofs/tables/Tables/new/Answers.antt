@@ -1,0 +1,15 @@
+use Rattle.std.proofs.Common.{refl, sym, subst}
+use Rattle.cx_design.specs.PlainDesigns.{plain_design}
+use Rattle.cx_instances.specs.Tables.{IsTable}
+use Rattle.cx_eval.proofs.TableLemmas.{kept_design}
+use Rattle.cx_eval.proofs.tables.Tables.new.Goals as goal
+
+pub returns-clause-tables : goal.returns-clause-tables
+returns-clause-tables c = record {
+  design = kept_design c.design-design.result.now;
+  accepted = c.design-design.ensures.accepted;
+  table = subst (λ d. IsTable (plain_design d) c.in_ok-table.table.rows.items c.in_ok-table.table.children.items) (sym c.design-design.ensures.value) c.in_ok-table.ensures.value;
+  numbered = c.in_ok-nodes.ensures.value;
+  driven = c.in_ok-drivers.ensures.value;
+  nothing = refl;
+}

@@ -1,0 +1,72 @@
+//! What a port is seen as.
+
+ghost use Rattle.std.specs.Prelude.{◌≡◌, ◌<◌, length};
+ghost use Rattle.cx_meaning.specs.Instances.{paths_of, tree_of};
+ghost use Rattle.cx_design.specs.PlainDesigns.{plain_design};
+ghost use Rattle.cx_state.specs.States.{IsStateOf, plain_state};
+ghost use Rattle.cx_asking.specs.Askings.{IsAsking};
+ghost use Rattle.cx_cycle_demands.specs.Looked.{CanDemand, IsKnownPort, KnowsMore, seen_look};
+ghost use Rattle.cx_eval.specs.Evaluated.{CanAct, IsPort, IsSeen};
+ghost use Rattle.cx_eval.specs.Tables.{AreReady, AreTables, design_of};
+
+use crate::tables::{Tables, ask};
+use cx_asking::Asking;
+use cx_demand::Marks;
+use cx_design::{Active, PortRef, Seen};
+use cx_looks::Look;
+use cx_marks::MarkedPorts;
+use cx_state::State;
+
+/// Finds what a port of the asked instance is seen as, where it has a node.
+fn demand_port(asking: &Asking<'_>, marks: &mut Marks, port: PortRef)
+    requires can { IsAsking asking.now }
+    requires ready { CanDemand asking.now marks.old }
+    ensures more { KnowsMore asking.now marks.old marks.new }
+    ensures known { IsKnownPort asking.now marks.new port }
+{
+    match asking.nodes.node(asking.instance, port) {
+        Some(node) => marks.demand(asking, node),
+        None => {}
+    }
+}
+
+/// What a port of the asked instance is seen as. It takes no memory.
+fn port_seen(asking: &Asking<'_>, marks: &mut Marks, port: PortRef) -> Seen
+    requires can { IsAsking asking.now }
+    requires ready { CanDemand asking.now marks.old }
+    requires port { IsPort (plain_design asking.now.design.now) asking.now.instance port }
+    ensures value { result ≡ seen_look asking.now port }
+    ensures ready { CanDemand asking.now marks.new }
+{
+    demand_port(asking, marks, port);
+    let look = MarkedPorts {
+        design: asking.design,
+        table: asking.table,
+        nodes: asking.nodes,
+        marks: marks.marks(),
+        instance: asking.instance,
+    };
+    look.at(port)
+}
+
+/// What a port of an instance is seen as under an active set, where what is marked is right. It takes no memory.
+pub(crate) fn seen_in(
+    tables: &Tables<'_>,
+    marks: &mut Marks,
+    state: &State,
+    active: &Active,
+    instance: usize,
+    port: PortRef,
+) -> Seen
+    requires tables { AreTables tables.now }
+    requires state { IsStateOf (design_of tables.now) (plain_state state.now) }
+    requires instance { instance < length (paths_of (tree_of (design_of tables.now))) }
+    requires active { CanAct (design_of tables.now) instance active.now }
+    requires ready { AreReady tables.now (plain_state state.now) instance active.now marks.old }
+    requires port { IsPort (design_of tables.now) instance port }
+    ensures value { IsSeen (design_of tables.now) (plain_state state.now) instance active.now port result }
+    ensures ready { AreReady tables.now (plain_state state.now) instance active.now marks.new }
+{
+    let asking = ask(tables, state, active, instance);
+    port_seen(&asking, marks, port)
+}

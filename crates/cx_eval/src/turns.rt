@@ -1,0 +1,75 @@
+//! Turns of groups.
+
+ghost use Rattle.std.specs.Prelude.{◌≡◌, ◌≢◌, ◌<◌, true, false, length};
+ghost use Rattle.cx_meaning.specs.Instances.{paths_of, tree_of};
+ghost use Rattle.cx_meaning.specs.declared.ports.PortRef.TheVariants.{Done};
+ghost use Rattle.cx_meaning.specs.Truths as truths;
+ghost use Rattle.cx_meaning.specs.Truths.{Zero};
+ghost use Rattle.cx_design.specs.declared.actives.Active.TheVariants.{Group};
+ghost use Rattle.cx_state.specs.States.{IsStateOf, plain_state};
+ghost use Rattle.cx_cycles.specs.Passes.{IsAscending, listed_in};
+ghost use Rattle.cx_eval.specs.Evaluated.{CanAct, IsPort, Turned};
+ghost use Rattle.cx_eval.specs.Tables.{AreMarksOf, AreReady, AreTables, design_of};
+
+use crate::cycling::cycle_in;
+use crate::listing::Listed;
+use crate::sights::seen_in;
+use crate::tables::Tables;
+use cx_demand::Marks;
+use cx_design::{Active, PortFault, PortRef, Seen};
+use cx_looks::{Truth, truth_of};
+use cx_state::State;
+
+/// What a turn of a group comes to.
+#[derive(Clone, Copy, Debug, PartialEq, Eq)]
+pub enum GroupTurn {
+    /// Its done hole is seen as this, which is not 0, and nothing changes.
+    Seen(Seen),
+    /// Its done hole is seen as 0: how a cycle of the listed cells ends.
+    Cycled(Result<(), PortFault>),
+}
+
+/// Whether a port is seen as the value 0.
+fn is_zero(seen: &Seen) -> bool
+    ensures zero { result ≡ true → truths.truth_of seen.now ≡ Zero }
+    ensures not_zero { result ≡ false → truths.truth_of seen.now ≢ Zero }
+{
+    matches!(truth_of(*seen), Truth::Zero)
+}
+
+/// A turn of a group, where what is marked is right under it. It takes no memory.
+pub(crate) fn turn_in(
+    tables: &Tables<'_>,
+    marks: &mut Marks,
+    state: &mut State,
+    instance: usize,
+    group: u32,
+    cells: &[u32],
+) -> GroupTurn
+    requires tables { AreTables tables.now }
+    requires state { IsStateOf (design_of tables.now) (plain_state state.old) }
+    requires instance { instance < length (paths_of (tree_of (design_of tables.now))) }
+    requires active { CanAct (design_of tables.now) instance (Group group) }
+    requires port { IsPort (design_of tables.now) instance (Done group) }
+    requires ready { AreReady tables.now (plain_state state.old) instance (Group group) marks.old }
+    requires ascending { IsAscending cells.now }
+    ensures value { Turned (design_of tables.now) (plain_state state.old) (plain_state state.new) instance group (listed_in cells.now) result }
+    ensures fits { IsStateOf (design_of tables.now) (plain_state state.new) }
+    ensures sized { AreMarksOf tables.now marks.new }
+{
+    let active = Active::Group(group);
+    let hole = seen_in(
+        tables,
+        marks,
+        state,
+        &active,
+        instance,
+        PortRef::Done(group),
+    );
+    if is_zero(&hole) {
+        let listed = Listed::These(cells);
+        GroupTurn::Cycled(cycle_in(tables, marks, state, &active, instance, listed))
+    } else {
+        GroupTurn::Seen(hole)
+    }
+}
