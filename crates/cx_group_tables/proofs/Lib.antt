@@ -1,0 +1,3 @@
+mod DriveLemmas
+mod WithinLemmas
+mod TableLemmas

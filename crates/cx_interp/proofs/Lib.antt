@@ -1,0 +1,26 @@
+pub mod DesignProp
+pub mod PlanLemmas
+pub mod PathLemmas
+pub mod RanLemmas
+pub mod DoneLemmas
+pub mod ContinueLemmas
+pub mod Measures
+pub mod ControlLemmas
+pub mod TestLemmas
+pub mod StandLemmas
+pub mod TurnLemmas
+pub mod LoopLemmas
+pub mod IslandLemmas
+pub mod IslandLoop
+pub mod IslandTurns
+pub mod ParLemmas
+pub mod RestLemmas
+pub mod RestStands
+pub mod RoomLemmas
+pub mod SightLemmas
+pub mod EveryLemmas
+pub mod EnableLemmas
+pub mod CaptureLemmas
+pub mod CallLemmas
+pub mod RunLemmas
+mod HoldLemmas

@@ -1,0 +1,40 @@
+use Rattle.std.proofs.Common.{◌≡◌, ℕ, true, false, sym, ap, ◌∙◌, subst}
+use Rattle.cx_meaning.specs.Designs.{PlainComponent}
+use Rattle.cx_meaning.specs.Instances.{instance_at, tree_of}
+use Rattle.cx_meaning.specs.Cycles.{every_cell}
+use Rattle.cx_meaning.specs.Islands.{form_length}
+use Rattle.cx_design.specs.PlainForms.{plain_component, plain_form}
+use Rattle.cx_interp.specs.Doings.{form_does, form_drives}
+use Rattle.cx_interp.specs.Islands.{sampled_does, samples_in}
+use Rattle.cx_interp.specs.Machines.{design_of, rows_of}
+use Rattle.cx_interp.specs.Rooms.{HasRoom}
+use Rattle.cx_interp.proofs.EnableLemmas.{done_same_at}
+use Rattle.cx_interp.proofs.IslandLemmas.{samples_run, there, stands_there}
+use Rattle.cx_interp.proofs.LoopLemmas.{done_rested}
+use Rattle.cx_interp.proofs.RestLemmas.{rows_at}
+use Rattle.cx_interp.proofs.islands.run_island.Goals as goal
+
+pub returns-clause-machine : goal.returns-clause-machine
+returns-clause-machine c = record {
+  evaluator = c.rest_all.ensures.evaluator ∙ c.take_cycles-answer.ensures.machine.evaluator;
+  state = c.rest_all.ensures.rested.fits;
+  room = subst (λ r. HasRoom (design_of c.args.plan.now) r) (sym c.rest_all.ensures.room) c.take_cycles-answer.ensures.machine.room;
+}
+
+pub returns-clause-done : goal.returns-clause-done
+returns-clause-done c =
+    let count : ℕ = form_length (plain_component c.instance_part-part.result.now) (plain_form c.args.form.now) in
+    done_same_at (design_of c.args.plan.now) c.args.instance (form_drives (plain_form c.args.form.now)) (rows_of c.args.machine.now) (rows_of c.rest_all.new.machine) (sampled_does (plain_form c.args.form.now) count (samples_in c.args.machine.now))
+    (form_does (plain_form c.args.form.now)) c.args.budget c.take_cycles-answer.result
+    (λ path held s number.
+    samples_run (instance_at (tree_of (design_of c.args.plan.now)) path) held (plain_form c.args.form.now) count (samples_in c.args.machine.now) s c.args.budget
+    (ap (λ (p : PlainComponent). form_length p (plain_form c.args.form.now)) (sym (c.instance_part-part.ensures path number)))
+    (c.requires.island path number)
+    (c.islands_run_by_samples.ensures (instance_at (tree_of (design_of c.args.plan.now)) path) held (plain_form c.args.form.now) (samples_in c.args.machine.now) s c.args.budget
+    (c.accepted_has_no_empty_if.ensures (design_of c.args.plan.now) path (there (plain_form c.args.form.now) c.requires.form.0) c.requires.plan.accepted
+    (stands_there (design_of c.args.plan.now) c.args.instance (plain_form c.args.form.now) c.requires.form path number))))
+    (done_rested (design_of c.args.plan.now) c.args.instance (rows_of c.args.machine.now) (rows_of c.take_cycles-answer.new.machine) (rows_of c.rest_all.new.machine) (form_drives (plain_form c.args.form.now))
+    (sampled_does (plain_form c.args.form.now) count (samples_in c.args.machine.now)) c.args.budget c.take_cycles-answer.result every_cell
+    (λ path k number off. absurd (let f : true ≡ false = off in cc))
+    (λ path s. c.idle_settles.ensures (instance_at (tree_of (design_of c.args.plan.now)) path) s (rows_at (tree_of (design_of c.args.plan.now)) path (c.designs_keep_idle.ensures (design_of c.args.plan.now))))
+    c.take_cycles-answer.ensures.paused c.rest_all.ensures.rested)

@@ -1,0 +1,84 @@
+use Rattle.std.proofs.Common.{◌≡◌, ◌+◌, ◌<◌, ◌≤◌, ℕ, suc, sym, subst, arith}
+use Rattle.cx_meaning.specs.Designs.{PlainComponent, PlainForm}
+use Rattle.cx_meaning.specs.Islands.{form_length}
+use Rattle.cx_design.specs.PlainForms.{plain_component, plain_form}
+use Rattle.cx_interp.specs.declared.answers.Answer.TheVariants as result
+use Rattle.cx_interp.specs.Doings.{form_drives}
+use Rattle.cx_interp.specs.Islands.{SampledBefore, sampled_does, samples_in}
+use Rattle.cx_interp.specs.Machines.{design_of, rows_of}
+use Rattle.cx_interp.specs.Turns.{Paused}
+use Rattle.cx_interp.proofs.IslandLemmas.{island_short, length_told}
+use Rattle.cx_interp.proofs.IslandLoop.{CyclesGo, cycles_start, cycles_on, cycles_fault, cycles_end, cycles_more}
+use Rattle.cx_interp.proofs.islands.take_cycles.Goals as goal
+
+pub loop-cycle-init : goal.loop-cycle-init
+loop-cycle-init c = (
+  c.requires.machine,
+  cycles_start (design_of c.args.plan.now) c.args.instance (plain_form c.args.form.now) (form_drives (plain_form c.args.form.now)) (form_length (plain_component c.args.part.now) (plain_form c.args.form.now)) c.args.budget (samples_in c.args.machine.now)
+      (rows_of c.args.machine.now),
+  tt,
+)
+
+pub returns-in-Err-clause-paused : goal.returns-in-Err-clause-paused
+returns-in-Err-clause-paused c =
+    let part : PlainComponent = plain_component c.args.part.now in
+    let form : PlainForm = plain_form c.args.form.now in
+    let count : ℕ = form_length part form in
+    let length : c.form_length-length.result ≡ count =
+    length_told part form c.form_length-length.result
+    (island_short (design_of c.args.plan.now) c.args.instance form part c.requires.instance c.requires.form c.requires.island c.requires.part
+    (λ path v stands island. c.accepted_islands_are_short.ensures (design_of c.args.plan.now) path v c.requires.plan.accepted stands island))
+    c.form_length-length.ensures in
+    let inside : c.loop-cycle.cycle < count = omega (arith, length, c.loop-cycle-test.true, c.min-cycle-end.ensures) in
+    let left : c.loop-cycle.cycle < c.args.budget = omega (arith, c.loop-cycle-test.true, c.min-cycle-end.ensures) in
+    cycles_fault (design_of c.args.plan.now) c.args.instance form (form_drives form) count c.args.budget (samples_in c.args.machine.now) (rows_of c.args.machine.now)
+    (rows_of c.loop-cycle.machine) (rows_of c.take_cycle.new.machine) (samples_in c.loop-cycle.machine) (samples_in c.take_cycle.new.machine) c.loop-cycle.cycle inside left c.in-Err.fault c.loop-cycle.invariant.1 c.in-Err.ensures.taken
+
+pub loop-cycle-preserved : goal.loop-cycle-preserved
+loop-cycle-preserved c =
+    let part : PlainComponent = plain_component c.args.part.now in
+    let form : PlainForm = plain_form c.args.form.now in
+    let count : ℕ = form_length part form in
+    let length : c.form_length-length.result ≡ count =
+    length_told part form c.form_length-length.result
+    (island_short (design_of c.args.plan.now) c.args.instance form part c.requires.instance c.requires.form c.requires.island c.requires.part
+    (λ path v stands island. c.accepted_islands_are_short.ensures (design_of c.args.plan.now) path v c.requires.plan.accepted stands island))
+    c.form_length-length.ensures in
+    let inside : c.loop-cycle.cycle < count = omega (arith, length, c.loop-cycle-test.true, c.min-cycle-end.ensures) in
+    let left : c.loop-cycle.cycle < c.args.budget = omega (arith, c.loop-cycle-test.true, c.min-cycle-end.ensures) in
+    let next : suc c.loop-cycle.cycle ≡ c.loop-cycle.cycle + 1 = omega arith in (
+      c.in_default.ensures.machine,
+      cycles_on (design_of c.args.plan.now) c.args.instance form (form_drives form) count c.args.budget (samples_in c.args.machine.now) (rows_of c.args.machine.now) (rows_of c.loop-cycle.machine)
+          (rows_of c.take_cycle.new.machine) (samples_in c.loop-cycle.machine) (samples_in c.take_cycle.new.machine) c.loop-cycle.cycle inside left c.loop-cycle.invariant.1 c.in_default.ensures.taken,
+      subst (λ t. SampledBefore part t form (samples_in c.take_cycle.new.machine)) next c.in_default.ensures.sampled,
+    )
+
+pub returns-then-length-budget-clause-paused : goal.returns-then-length-budget-clause-paused
+returns-then-length-budget-clause-paused c =
+    let part : PlainComponent = plain_component c.args.part.now in
+    let form : PlainForm = plain_form c.args.form.now in
+    let count : ℕ = form_length part form in
+    let length : c.form_length-length.result ≡ count =
+    length_told part form c.form_length-length.result
+    (island_short (design_of c.args.plan.now) c.args.instance form part c.requires.instance c.requires.form c.requires.island c.requires.part
+    (λ path v stands island. c.accepted_islands_are_short.ensures (design_of c.args.plan.now) path v c.requires.plan.accepted stands island))
+    c.form_length-length.ensures in
+    let lt : count < c.args.budget = omega (arith, length, c.if-length-budget.true) in
+    let end : c.loop-cycle.cycle ≡ count = omega (arith, length, c.if-length-budget.true, c.loop-cycle-test.false, c.loop-cycle.auto.cycle-end, c.min-cycle-end.ensures) in
+    subst (λ k. Paused (design_of c.args.plan.now) (rows_of c.args.machine.now) (rows_of c.loop-cycle.machine) c.args.instance (form_drives form) (sampled_does form count (samples_in c.args.machine.now)) c.args.budget (result.End (k + 1))) (sym length)
+    (cycles_end (design_of c.args.plan.now) c.args.instance form (form_drives form) count c.args.budget (samples_in c.args.machine.now) (rows_of c.args.machine.now) (rows_of c.loop-cycle.machine) (samples_in c.loop-cycle.machine) c.loop-cycle.invariant.0.state lt
+    (subst (λ k. CyclesGo (design_of c.args.plan.now) c.args.instance form (form_drives form) count c.args.budget (samples_in c.args.machine.now) (rows_of c.args.machine.now) (rows_of c.loop-cycle.machine) (samples_in c.loop-cycle.machine) k) end c.loop-cycle.invariant.1))
+
+pub returns-else-length-budget-clause-paused : goal.returns-else-length-budget-clause-paused
+returns-else-length-budget-clause-paused c =
+    let part : PlainComponent = plain_component c.args.part.now in
+    let form : PlainForm = plain_form c.args.form.now in
+    let count : ℕ = form_length part form in
+    let length : c.form_length-length.result ≡ count =
+    length_told part form c.form_length-length.result
+    (island_short (design_of c.args.plan.now) c.args.instance form part c.requires.instance c.requires.form c.requires.island c.requires.part
+    (λ path v stands island. c.accepted_islands_are_short.ensures (design_of c.args.plan.now) path v c.requires.plan.accepted stands island))
+    c.form_length-length.ensures in
+    let over : c.args.budget ≤ c.loop-cycle.cycle = omega (arith, c.if-length-budget.false, c.loop-cycle-test.false, c.min-cycle-end.ensures) in
+    cycles_more (design_of c.args.plan.now) c.args.instance form (form_drives form) count c.args.budget (samples_in c.args.machine.now) (rows_of c.args.machine.now) (rows_of c.loop-cycle.machine) (samples_in c.loop-cycle.machine)
+    c.loop-cycle.invariant.0.state c.loop-cycle.cycle over c.loop-cycle.invariant.1

@@ -1,0 +1,112 @@
+//! The run of a design.
+
+ghost use Rattle.std.specs.Prelude.{◌≡◌, ℕ, List, IfOk};
+ghost use Rattle.cx_meaning.specs.Instances.{start, tree_of};
+ghost use Rattle.cx_meaning.specs.Running as running;
+ghost use Rattle.cx_text.specs.Loading.{plain_loaded, FitsRows};
+ghost use Rattle.cx_rules.specs.Externals.{external_rows};
+ghost use Rattle.cx_design.specs.declared.designs.Design.{Design as DesignValue};
+ghost use Rattle.cx_design.specs.PlainDesigns.{plain_design};
+ghost use Rattle.cx_state.specs.States.{words_in, IsUnheld, StandsFor};
+ghost use Rattle.cx_interp.specs.Machines.{design_of, rows_of, IsPlan, IsAt};
+ghost use Rattle.cx_interp.specs.Done.{IsWithin};
+ghost use Rattle.cx_interp.specs.Runs.{Answered, GetsWords, HasRun, IsReady};
+
+use crate::answers::Answer;
+use crate::children::control_of;
+use crate::control::run_statement;
+use crate::machine::Machine;
+use crate::plan::Plan;
+use crate::rooms::Room;
+use crate::sights::Sight;
+use cx_design::{Checked, Design};
+use cx_eval::Evaluator;
+use cx_laws::laws::loaded_start_is_settled;
+use cx_state::State;
+use cx_state_words::external_words;
+use cx_text::{Loaded, Memory};
+use std::alloc::Global;
+
+/// Runs main from its start.
+fn run_main(plan: &Plan<'_>, machine: &mut Machine<'_>, budget: u64) -> Answer
+    requires plan { IsPlan plan.now }
+    requires machine { IsAt plan.now machine.old }
+    requires unheld { IsUnheld (rows_of machine.old) }
+    ensures machine { IsAt plan.now machine.new }
+    ensures answered { (words : List (List ℕ)) → StandsFor (tree_of (design_of plan.now)) (rows_of machine.old) (start (tree_of (design_of plan.now)) words)
+        → Answered (design_of plan.now) (rows_of machine.new) result (running.run_main (design_of plan.now) words budget) }
+    ensures within { IsWithin budget result }
+{
+    loaded_start_is_settled();
+    let control = control_of(plan, 0);
+    run_statement(plan, machine, 0, control, budget)
+}
+
+/// An accepted design at its start, ready to run.
+#[derive(Drop)]
+pub struct Interp<'a> {
+    pub(crate) plan: Plan<'a>,
+    pub(crate) machine: Machine<'a>,
+}
+
+/// What the run of a design has come to.
+#[derive(Drop)]
+pub struct Ran<'a> {
+    pub(crate) design: &'a Design,
+    pub(crate) answer: Answer,
+    pub(crate) state: State,
+}
+
+impl<'a> Interp<'a> {
+    /// A design with the words of its external memories.
+    pub fn new(alloc: Global, design: &'a Checked, loaded: &Loaded) -> Result<Interp<'a>, Memory>
+        requires fits { FitsRows (external_rows (plain_design design.now)) (plain_loaded loaded.now) }
+        ensures ready { IfOk result (λ interp. IsReady design.now (words_in loaded.now.memories.items) interp) }
+    {
+        let plan = Plan::new(alloc, design)?;
+        let evaluator = Evaluator::new(alloc, design)?;
+        let state = State::start(alloc, design, loaded)?;
+        let room = Room::new(alloc, plan.design)?;
+        let sight = Sight {
+            evaluator,
+            state,
+            instance: 0,
+            unclear: None,
+        };
+        let machine = Machine { sight, room };
+        Ok(Interp { plan, machine })
+    }
+
+    /// Runs main within a budget of turns. It takes no memory.
+    pub fn run(self, budget: u64) -> Ran<'a>
+        requires ready { (design : DesignValue) × (words : List (List ℕ)) × IsReady design words self }
+        ensures run { (design : DesignValue) (words : List (List ℕ)) → IsReady design words self.entry → HasRun design words budget result }
+    {
+        let Interp { plan, mut machine } = self;
+        let answer = run_main(&plan, &mut machine, budget);
+        Ran {
+            design: plan.design,
+            answer,
+            state: machine.sight.state,
+        }
+    }
+}
+
+impl Ran<'_> {
+    /// How the run ended.
+    pub fn answer(&self) -> Answer
+        ensures { result ≡ self.now.answer }
+    {
+        self.answer
+    }
+
+    /// Writes the words in which the run left the external memories over those of memories that fit. It takes no memory.
+    pub fn memories(&self, into: &mut Loaded)
+        requires run { (design : DesignValue) × (words : List (List ℕ)) × (budget : ℕ) × HasRun design words budget self.now }
+        requires fits { FitsRows (external_rows (plain_design self.now.design.now)) (plain_loaded into.old) }
+        ensures words { GetsWords self.now (plain_loaded into.old) (plain_loaded into.new) }
+        ensures fits { FitsRows (external_rows (plain_design self.now.design.now)) (plain_loaded into.new) }
+    {
+        external_words(self.design, &self.state, into);
+    }
+}

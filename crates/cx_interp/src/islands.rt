@@ -1,0 +1,179 @@
+//! Static control: islands, which keep nothing of earlier cycles but the samples of their static ifs.
+
+ghost use Rattle.std.specs.Prelude.{◌≡◌, ◌<◌, ◌-◌, ◌^◌};
+ghost use Rattle.cx_meaning.specs.Islands as islands;
+ghost use Rattle.cx_design.specs.PlainForms.{plain_component, plain_form};
+ghost use Rattle.cx_islands.specs.Sampled.{AreSampled};
+ghost use Rattle.cx_interp.specs.Doings.{form_does, form_drives};
+ghost use Rattle.cx_interp.specs.Done.{Done};
+ghost use Rattle.cx_interp.specs.Islands.{CycleTaken, HasPart, IsIsland, SampledBefore, SamplesTaken, TellsUnclear, sampled_does, samples_in};
+ghost use Rattle.cx_interp.specs.Machines.{design_of, rows_of, IsPlan, IsAt, IsInstance, FormStands};
+ghost use Rattle.cx_interp.specs.Sights.{unclear_fault};
+ghost use Rattle.cx_interp.specs.Turns.{Paused, cycle_as};
+
+use crate::answers::Answer;
+use crate::calls::instance_part;
+use crate::machine::{Machine, port_fault};
+use crate::plan::Plan;
+use crate::rest::rest_all;
+use crate::rooms::activate;
+use crate::sights::Unclear;
+use cx_alike::laws::{rows_stand, states_are_seen_alike};
+use cx_apart::laws::{active_groups_within, listed_cells_suffice};
+use cx_design::{Component, Form, PortFault};
+use cx_islands::{
+    accepted_islands_are_short, form_length, static_tests_are_conditions, take_samples,
+    taken_samples_are_of_a_run,
+};
+use cx_laws::laws::{
+    accepted_has_no_empty_if, islands_run_by_samples, samples_give_the_cycle,
+    timers_give_the_active_groups,
+};
+use cx_meaning::laws::{designs_keep_idle, idle_settles};
+
+/// The fault of a port of an instance that was found unclear.
+fn fault_in(instance: usize, unclear: Option<Unclear>) -> Option<PortFault>
+    requires { instance < 2 ^ 32 }
+    ensures { TellsUnclear instance result (unclear_fault unclear) }
+{
+    match unclear {
+        Some(unclear) => Some(port_fault(unclear.kind, instance, unclear.port)),
+        None => None,
+    }
+}
+
+/// Sees the ports of the static ifs that begin in a cycle of an island: the fault of the first that is no value.
+fn sample(
+    plan: &Plan<'_>,
+    machine: &mut Machine<'_>,
+    instance: usize,
+    part: &Component,
+    form: &Form,
+    cycle: u64,
+) -> Option<PortFault>
+    requires plan { IsPlan plan.now }
+    requires machine { IsAt plan.now machine.old }
+    requires instance { IsInstance (design_of plan.now) instance }
+    requires part { HasPart (design_of plan.now) instance (plain_component part.now) }
+    requires form { FormStands (design_of plan.now) instance (plain_form form.now) }
+    requires cycle { cycle < 2 ^ 64 - 1 }
+    ensures machine { IsAt plan.now machine.new }
+    ensures rows { rows_of machine.new ≡ rows_of machine.old }
+    ensures taken { SamplesTaken (design_of plan.now) (rows_of machine.old) instance (plain_component part.now) (plain_form form.now) cycle (samples_in machine.old) (samples_in machine.new) result }
+{
+    rows_stand();
+    states_are_seen_alike();
+    static_tests_are_conditions();
+    let _ = plan;
+    machine.sight.instance = instance;
+    machine.sight.unclear = None;
+    take_samples(
+        part,
+        form,
+        cycle,
+        &mut machine.room.samples,
+        &mut machine.sight,
+    );
+    fault_in(instance, machine.sight.unclear)
+}
+
+/// Takes a cycle of an island: one cycle of all cells of the instance, under the groups that run in it.
+fn take_cycle(
+    plan: &Plan<'_>,
+    machine: &mut Machine<'_>,
+    instance: usize,
+    part: &Component,
+    form: &Form,
+    cycle: u64,
+) -> Result<(), PortFault>
+    requires plan { IsPlan plan.now }
+    requires machine { IsAt plan.now machine.old }
+    requires instance { IsInstance (design_of plan.now) instance }
+    requires part { HasPart (design_of plan.now) instance (plain_component part.now) }
+    requires form { FormStands (design_of plan.now) instance (plain_form form.now) }
+    requires within { cycle < islands.form_length (plain_component part.now) (plain_form form.now) }
+    requires cycle { cycle < 2 ^ 64 - 1 }
+    requires sampled { SampledBefore (plain_component part.now) cycle (plain_form form.now) (samples_in machine.old) }
+    ensures machine { IsAt plan.now machine.new }
+    ensures sampled { AreSampled (plain_component part.now) cycle (plain_form form.now) (samples_in machine.new) }
+    ensures taken { CycleTaken (design_of plan.now) (rows_of machine.old) (rows_of machine.new) instance (plain_form form.now) (form_drives (plain_form form.now)) cycle (samples_in machine.old) (samples_in machine.new) (cycle_as result) }
+{
+    taken_samples_are_of_a_run();
+    samples_give_the_cycle();
+    timers_give_the_active_groups();
+    active_groups_within();
+    listed_cells_suffice();
+    if let Some(fault) = sample(plan, machine, instance, part, form, cycle) {
+        return Err(fault);
+    }
+    activate(
+        part,
+        form,
+        &machine.room.samples,
+        cycle,
+        &mut machine.room.active,
+    );
+    let sight = &mut machine.sight;
+    sight
+        .evaluator
+        .cycle(&mut sight.state, instance, &machine.room.active)
+}
+
+/// Takes the cycles of an island. The idle edges behind them are left to do.
+fn take_cycles(
+    plan: &Plan<'_>,
+    machine: &mut Machine<'_>,
+    instance: usize,
+    part: &Component,
+    form: &Form,
+    budget: u64,
+) -> Answer
+    requires plan { IsPlan plan.now }
+    requires machine { IsAt plan.now machine.old }
+    requires instance { IsInstance (design_of plan.now) instance }
+    requires part { HasPart (design_of plan.now) instance (plain_component part.now) }
+    requires form { FormStands (design_of plan.now) instance (plain_form form.now) }
+    requires island { IsIsland (design_of plan.now) instance (plain_form form.now) }
+    ensures machine { IsAt plan.now machine.new }
+    ensures paused { Paused (design_of plan.now) (rows_of machine.old) (rows_of machine.new) instance (form_drives (plain_form form.now))
+        (sampled_does (plain_form form.now) (islands.form_length (plain_component part.now) (plain_form form.now)) (samples_in machine.old)) budget result }
+{
+    accepted_islands_are_short();
+    let length = form_length(part, form);
+    for cycle in 0..length.min(budget) {
+        if let Err(fault) = take_cycle(plan, machine, instance, part, form, cycle) {
+            return Answer::Fault(fault, cycle);
+        }
+    }
+    if length < budget {
+        Answer::End(length + 1)
+    } else {
+        Answer::More
+    }
+}
+
+/// Runs a static statement of dynamic control, or the enable of a static group there.
+pub(crate) fn run_island(
+    plan: &Plan<'_>,
+    machine: &mut Machine<'_>,
+    instance: usize,
+    form: &Form,
+    budget: u64,
+) -> Answer
+    requires plan { IsPlan plan.now }
+    requires machine { IsAt plan.now machine.old }
+    requires instance { IsInstance (design_of plan.now) instance }
+    requires form { FormStands (design_of plan.now) instance (plain_form form.now) }
+    requires island { IsIsland (design_of plan.now) instance (plain_form form.now) }
+    ensures machine { IsAt plan.now machine.new }
+    ensures done { Done (design_of plan.now) (rows_of machine.old) (rows_of machine.new) instance (form_drives (plain_form form.now)) (form_does (plain_form form.now)) budget result }
+{
+    designs_keep_idle();
+    idle_settles();
+    accepted_has_no_empty_if();
+    islands_run_by_samples();
+    let part = instance_part(plan, instance);
+    let answer = take_cycles(plan, machine, instance, part, form, budget);
+    rest_all(plan, machine, instance);
+    answer
+}
