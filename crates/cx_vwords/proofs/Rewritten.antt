@@ -1,8 +1,10 @@
 -- A list that is written over, element by element.
-use Rattle.std.proofs.Common.{◌≡◌, ℕ, zero, suc, ◌+◌, ◌<◌, ◌≤◌, List, [], ◌∷◌, All, ◌^◌, length, take, map, set, get_or, refl, sym, ap, ◌∙◌, subst, arith}
-use Rattle.std.proofs.lemmas.List.Elements.{All-get_or}
-use Rattle.cx_bits.specs.BitVector.{BitVector}
-use Rattle.cx_vwords.specs.Numbers.{AreBelow, numbers_of, words_of_width}
+use Rattle.std.proofs.Common.{◌≡◌, ℕ, zero, suc, ◌+◌, ◌<◌, ◌≤◌, List, [], ◌∷◌, All, ◌^◌, length, take, set, get_or, refl, sym, ap, ◌∙◌, subst, arith}
+use Rattle.std.proofs.lemmas.List.Elements.{All-get_or, All-more}
+use Rattle.std.proofs.lemmas.List.{take_all}
+use Rattle.std.proofs.Math.Nat.{pow-le-pow_right}
+use Rattle.cx_bits.specs.BitVector.{BitVector, Fits}
+use Rattle.cx_vwords.specs.Numbers.{AreNarrow, numbers_of, words_of_width}
 
 next_one : {X : Type 0} (d : X) (xs ys : List X) (n : ℕ) (v : X) → n < length xs → length xs ≡ length ys → take n xs ≡ take n ys → v ≡ get_or ys n d → take (suc n) (set xs n v) ≡ take (suc n) ys
 next_one d [] ys n v lt same e f = absurd (omega arith)
@@ -50,8 +52,22 @@ pub widths_length : (w : ℕ) (ns : List ℕ) → length (words_of_width w ns) �
 widths_length w [] = refl
 widths_length w (n ∷ ns) = ap suc (widths_length w ns)
 
-pub below_at : (bs : List BitVector) (n v : ℕ) (b : BitVector) → n < length bs → v ≡ b.value → b ≡ get_or bs n b → AreBelow 64 (numbers_of bs) → v < 2 ^ 64
-below_at bs n v b lt e f all =
-    let count = numbers_length bs in
-    let inside : n < length (numbers_of bs) = omega (arith, count, lt) in
-    subst (λ x. x < 2 ^ 64) (sym (number_at bs n v b lt e f)) (All-get_or (λ x. x < 2 ^ 64) (numbers_of bs) n 0 inside all)
+-- a value that fits, of 64 bits at most, is below two to 64
+fit_below : (b : BitVector) → Fits b → b.width ≤ 64 → b.value < 2 ^ 64
+fit_below b fits narrow =
+    let two : 0 < 2 = omega arith in
+    let grows : 2 ^ b.width ≤ 2 ^ 64 = pow-le-pow_right two narrow in
+    let below : b.value < 2 ^ b.width = fits.in_range in
+    omega (arith, below, grows)
+
+pub below_at : (bs : List BitVector) (n v : ℕ) (b : BitVector) → n < length bs → v ≡ b.value → b ≡ get_or bs n b → Fits b → AreNarrow bs → v < 2 ^ 64
+below_at bs n v b lt e f fits all =
+    let narrow : (get_or bs n b).width ≤ 64 = All-get_or (λ (x : BitVector). x.width ≤ 64) bs n b lt all in
+    subst (λ x. x < 2 ^ 64) (sym e) (fit_below b fits (subst (λ (x : BitVector). x.width ≤ 64) (sym f) narrow))
+
+-- one more of the words that were read fits
+pub fits_more : (bs : List BitVector) (n : ℕ) (b : BitVector) → n < length bs → b ≡ get_or bs n b → Fits b → All Fits (take n bs) → All Fits (take (n + 1) bs)
+fits_more bs n b lt f fits all = All-more Fits bs n b lt all (subst Fits f fits)
+
+pub all_fit : (bs : List BitVector) (n : ℕ) → length bs ≤ n → All Fits (take n bs) → All Fits bs
+all_fit bs n le all = subst (All Fits) (take_all n bs le) all

@@ -1,8 +1,9 @@
 //! The words of one array.
 
-ghost use Rattle.std.specs.Prelude.{◌≡◌, ◌<◌, ◌^◌, length};
+ghost use Rattle.std.specs.Prelude.{◌≡◌, ◌<◌, ◌^◌, All, length};
+ghost use Rattle.cx_bits.specs.BitVector.{Fits};
 ghost use Rattle.cx_veval.specs.Stores.{plain_words};
-ghost use Rattle.cx_vwords.specs.Numbers.{AreBelow, numbers_of, words_of_width};
+ghost use Rattle.cx_vwords.specs.Numbers.{AreBelow, AreNarrow, numbers_of, words_of_width};
 
 use cx_bits::Bits;
 use cx_veval::Words;
@@ -10,8 +11,9 @@ use cx_veval::Words;
 /// Writes the words of an array over as many others.
 pub fn read_words(array: &Words, words: &mut [u64])
     requires long { length words.old ≡ length array.now.words.items }
-    requires narrow { AreBelow 64 (numbers_of array.now.words.items) }
+    requires narrow { AreNarrow array.now.words.items }
     ensures value { words.new ≡ numbers_of array.now.words.items }
+    ensures fits { All Fits array.now.words.items }
 {
     for n in 0..words.len() {
         words[n] = array.words[n].value() as u64;

@@ -1,4 +1,4 @@
-use Rattle.std.proofs.Common.{◌≡◌, ◌<◌, length, ◌∙◌, refl, arith}
+use Rattle.std.proofs.Common.{◌<◌, length, ◌∙◌, arith}
 use Rattle.std.proofs.lemmas.List.{length-set}
 use Rattle.cx_vwords.specs.Numbers.{words_of_width}
 use Rattle.cx_vwords.proofs.Rewritten.{one_more, widths_length, width_get}

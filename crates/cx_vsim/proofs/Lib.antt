@@ -1,0 +1,14 @@
+pub mod Widths
+pub mod Located
+pub mod Small
+pub mod Told
+pub mod Start
+pub mod Elements
+pub mod Written
+pub mod Memories
+pub mod LoadedWords
+pub mod LoadLemmas
+pub mod EndLemmas
+pub mod DumpLemmas
+pub mod Unloaded
+pub mod SimLemmas

@@ -1,0 +1,6 @@
+pub mod Answers
+pub mod Models
+pub mod Numbers
+pub mod Memories
+pub mod Stands
+pub mod Arrays

@@ -1,0 +1,5 @@
+//! Verilog texts that are run.
+#![tactic(auto)]
+
+#[cfg(test)]
+mod tests;
