@@ -16,22 +16,26 @@ use Rattle.cx_driver.specs.Messages.{line_of}
 done_tells_nothing : (status : Status) → status ≡ statuses.Done → IsRefusing status → ⊥
 done_tells_nothing status e (inl h) = cc
 done_tells_nothing status e (inr (inl h)) = cc
-done_tells_nothing status e (inr (inr h)) = cc
+done_tells_nothing status e (inr (inr (inl h))) = cc
+done_tells_nothing status e (inr (inr (inr h))) = cc
 
 write_fault_tells_nothing : (status : Status) → status ≡ statuses.WriteFault → IsRefusing status → ⊥
 write_fault_tells_nothing status e (inl h) = cc
 write_fault_tells_nothing status e (inr (inl h)) = cc
-write_fault_tells_nothing status e (inr (inr h)) = cc
+write_fault_tells_nothing status e (inr (inr (inl h))) = cc
+write_fault_tells_nothing status e (inr (inr (inr h))) = cc
 
 memory_tells_nothing : (status : Status) → status ≡ statuses.Memory → IsRefusing status → ⊥
 memory_tells_nothing status e (inl h) = cc
 memory_tells_nothing status e (inr (inl h)) = cc
-memory_tells_nothing status e (inr (inr h)) = cc
+memory_tells_nothing status e (inr (inr (inl h))) = cc
+memory_tells_nothing status e (inr (inr (inr h))) = cc
 
 pub words_tell_nothing : (status : Status) → status ≡ statuses.Words → IsRefusing status → ⊥
 words_tell_nothing status e (inl h) = cc
 words_tell_nothing status e (inr (inl h)) = cc
-words_tell_nothing status e (inr (inr h)) = cc
+words_tell_nothing status e (inr (inr (inl h))) = cc
+words_tell_nothing status e (inr (inr (inr h))) = cc
 
 -- an answer that was delivered, or was not taken whole, is no refusal
 pub delivered : {P Q R : Type 0} (status : Status) → ((status ≡ statuses.Done) × P) ⊎ ((status ≡ statuses.WriteFault) × Q × R) → IsRefusing status → ⊥
@@ -52,6 +56,9 @@ read_fault_in command held before after (refusals.ReadFault file) e h = (file.no
 read_fault_in command held before after (refusals.Stop (stops.Rule told)) e h = absurd (cc)
 read_fault_in command held before after (refusals.Stop (stops.Json fault)) e h = absurd (cc)
 read_fault_in command held before after (refusals.Stop (stops.More budget)) e h = absurd (cc)
+read_fault_in command held before after (refusals.Stop (stops.Verilog refused)) e h = absurd (cc)
+read_fault_in command held before after (refusals.Stop (stops.Fault kind path turn)) e h = absurd (cc)
+read_fault_in command held before after (refusals.Stop (stops.Loop path)) e h = absurd (cc)
 read_fault_in command held before after (refusals.Stop stops.Memory) e h = absurd (cc)
 
 pub unread_file : {L : Type 0} (command : Asked) (held : Option (List ℕ → Option (List ℕ))) (before after : ℕ) (status : Status) (refusal : Refusal)
@@ -67,6 +74,9 @@ no_answer (refusals.ReadFault file) h = ⊎_elim (λ p. cc) (λ q. ⊎_elim (λ 
 no_answer (refusals.Stop (stops.Rule told)) h = ⊎_elim (λ p. cc) (λ q. ⊎_elim (λ p. cc) (λ p. cc) q) h
 no_answer (refusals.Stop (stops.Json fault)) h = ⊎_elim (λ p. cc) (λ q. ⊎_elim (λ p. cc) (λ p. cc) q) h
 no_answer (refusals.Stop (stops.More budget)) h = ⊎_elim (λ p. cc) (λ q. ⊎_elim (λ p. cc) (λ p. cc) q) h
+no_answer (refusals.Stop (stops.Verilog refused)) h = ⊎_elim (λ p. cc) (λ q. ⊎_elim (λ p. cc) (λ p. cc) q) h
+no_answer (refusals.Stop (stops.Fault kind path turn)) h = ⊎_elim (λ p. cc) (λ q. ⊎_elim (λ p. cc) (λ p. cc) q) h
+no_answer (refusals.Stop (stops.Loop path)) h = ⊎_elim (λ p. cc) (λ q. ⊎_elim (λ p. cc) (λ p. cc) q) h
 no_answer (refusals.Stop stops.Memory) h = ⊎_elim (λ p. cc) (λ q. ⊎_elim (λ p. cc) (λ p. cc) q) h
 
 -- want of memory is a cause of each command
@@ -86,3 +96,9 @@ accepted_answer bytes held design text (Err refusal) holds accepted h = tt
 pub received : {E P Q R : Type 0} (r : Result (Unit {0}) E) → OnOk r P → OnErr r Q → OnErr r R → P ⊎ (Q × R)
 received (Ok x) p q r = inl p
 received (Err e) p q r = inr (q, r)
+
+-- an answer that was not taken whole
+pub part_taken : {D R : Type 0} (P G : List ℕ → Type 0) (status : Status) (text : List ℕ) → ((status ≡ statuses.Done) × D) ⊎ ((status ≡ statuses.WriteFault) × R × G text) → P text
+    → status ≡ statuses.WriteFault → (t : List ℕ) × P t × G t
+part_taken P G status text (inl h) p e = absurd (let done = h.0 in cc)
+part_taken P G status text (inr h) p e = (text, p, h.2)

@@ -1,11 +1,12 @@
 -- Words that are none of a command.
 use Rattle.std.proofs.Common.{◌≡◌, ◌<◌, ◌≤◌, ℕ, List, [], ◌∷◌, length, slice_index_or, arith}
-use Rattle.cx_driver.specs.Commands.{Asks, AsksNothing, interp, check}
+use Rattle.cx_driver.specs.Commands.{Asks, AsksNothing, AsksNoRun, interp, check, sim}
 
 pub neither : (words : List (List ℕ)) → ((design : List ℕ) → Asks words (check design) → ⊥)
-    → ((design json : List ℕ) (budget : ℕ) → Asks words (interp design json budget) → ⊥) → AsksNothing words
-neither words c i (interp design json budget) asks = i design json budget asks
-neither words c i (check design) asks = c design asks
+    → AsksNoRun words → AsksNothing words
+neither words c r (interp design json budget) asks = r.interprets design json budget asks
+neither words c r (check design) asks = c design asks
+neither words c r (sim verilog json budget) asks = r.simulates verilog json budget asks
 
 -- a list with two items is those at its first two indices
 pub two_items : {X : Type 0} (xs : List X) (a b : X) → 2 ≤ length xs → length xs < 3 → a ≡ slice_index_or xs 0 a → b ≡ slice_index_or xs 1 b → xs ≡ a ∷ b ∷ []

@@ -1,18 +1,27 @@
 -- A text has one verdict, and what is told of it is that verdict.
-use Rattle.std.proofs.Common.{◌≡◌, ◌⊎◌, inl, inr, ℕ, List, Result, Ok, Err, IfOk, IfErr, MatchResult, refl, sym, ap, ◌∙◌, subst}
+use Rattle.std.proofs.Common.{◌≡◌, ◌⊎◌, inl, inr, ℕ, List, Option, Some, None, Result, Ok, Err, IfOk, IfErr, refl, sym, ap, ◌∙◌, subst}
 use Rattle.cx_text.specs.declared.diagnostics.Diagnostic.{Diagnostic}
+use Rattle.cx_text.specs.declared.places.Place.{Place}
+use Rattle.cx_text.specs.declared.rules.Rule.{Rule}
+use Rattle.cx_tokens.specs.declared.tokens.Token.{Token}
 use Rattle.cx_ast.specs.PlainTree.{PlainTree}
+use Rattle.cx_lex.specs.Lex.{Lex}
 use Rattle.cx_lex.proofs.WholeLemmas.{one_tokens}
 use Rattle.cx_grammar.specs.Parsing.{Parse}
 use Rattle.cx_grammar.proofs.OneTree.{one_tree}
+use Rattle.cx_meaning.specs.Designs.{PlainDesign}
+use Rattle.cx_numbering.specs.DesignOf.{design_of}
+use Rattle.cx_numbering.specs.NameRules.{names_break}
 use Rattle.cx_named.specs.Targets.{HasTargets}
 use Rattle.cx_targets.proofs.TargetLemmas.{targets_in_text}
-use Rattle.cx_accept.specs.Verdicts.{IsAcceptedTree, TreeBreak}
+use Rattle.cx_text_places.proofs.Placed as placed
+use Rattle.cx_unbuilt.specs.Unbuilt.{first_unbuilt}
+use Rattle.cx_accept.specs.Verdicts.{IsAcceptedTree, TreeBreak, left_out}
 use Rattle.cx_accept.proofs.Verdicts as verdicts
 use Rattle.cx_driver.specs.declared.stops.Stop.{Stop}
 use Rattle.cx_driver.specs.declared.stops.Stop.TheVariants as stops
-use Rattle.cx_driver.specs.Unread.{StageOneFault, HasTree, IsNoTree, IsOfDesign}
-use Rattle.cx_driver.specs.Texts.{IsAcceptedText, TextBreak, IsTreeStop, IsTextRefusal, StopsAs, IsRunStop}
+use Rattle.cx_driver.specs.Unread.{StageOneFault, HasTree, IsNoTree}
+use Rattle.cx_driver.specs.Texts.{IsAcceptedText, IsDesignOf, TextBreak, IsTreeStop, IsTextRefusal}
 use Rattle.cx_driver.proofs.UnreadLemmas.{read_no_fault, one_stage_one}
 
 one_text_tree : (text : List ℕ) (a b : PlainTree) → HasTree text a → HasTree text b → a ≡ b
@@ -22,62 +31,76 @@ one_text_tree text a b h k = one_tree h.0 a b h.2 (subst (λ ts. Parse ts b) (on
 pub text_targets : (text : List ℕ) (tree : PlainTree) → HasTree text tree → HasTargets tree
 text_targets text tree h = targets_in_text h.0 tree h.2
 
+-- an accepted text has one design, and breaks no rule
+pub one_design : (text : List ℕ) (a b : PlainDesign) → IsDesignOf text a → IsDesignOf text b → a ≡ b
+one_design text a b h k = h.3 ∙ ap (λ t. design_of t) (one_text_tree text h.0 k.0 h.1 k.1) ∙ sym k.3
+
+pub text_of_design : (text : List ℕ) (d : PlainDesign) → IsDesignOf text d → IsAcceptedText text
+text_of_design text d h = (h.0, h.1, h.2)
+
 pub accepted_once : (text : List ℕ) (told : Diagnostic) → IsAcceptedText text → TextBreak text told → ⊥
 accepted_once text told h (inl s) = read_no_fault (h.0, h.1) s
 accepted_once text told h (inr b) = verdicts.accepted_once b.0 told (subst IsAcceptedTree (one_text_tree text h.0 b.0 h.1 b.1) h.2) b.2
 
-abbrev Same : Diagnostic → Diagnostic → Type 0
-Same a b = (a.rule ≡ b.rule) × (a.place ≡ b.place)
+-- what a text is refused for is one rule, at one place, with one name
+abbrev some_or : {A : Type 0} → A → Option A → A
+some_or y None = y
+some_or y (Some x) = x
 
-refused_once : (text : List ℕ) (a b : Diagnostic) → TextBreak text a → TextBreak text b → Same a b
-refused_once text a b (inl h) (inl k) = let e = one_stage_one h k in (ap (λ (d : Diagnostic). d.rule) e, ap (λ (d : Diagnostic). d.place) e)
-refused_once text a b (inl h) (inr k) = absurd (read_no_fault (k.0, k.1) h)
-refused_once text a b (inr h) (inl k) = absurd (read_no_fault (h.0, h.1) k)
-refused_once text a b (inr h) (inr k) = verdicts.refused_once k.0 a b (subst (λ t. TreeBreak t a) (one_text_tree text h.0 k.0 h.1 k.1) h.2) k.2
+one_value : {A : Type 0} (o : Option A) (x y : A) → o ≡ Some x → o ≡ Some y → x ≡ y
+one_value o x y e f = ap (some_or x) (sym e ∙ f)
 
--- what a text is refused for is what is told of it
-pub text_stop : (text : List ℕ) (told : Diagnostic) (stop : Stop) → TextBreak text told → IsTextRefusal text stop → StopsAs told stop
-text_stop text told (stops.Rule own) b h = refused_once text own told h b
-text_stop text told (stops.Json fault) b h = h
-text_stop text told (stops.More budget) b h = h
-text_stop text told stops.Memory b h = tt
+not_both : {A : Type 0} (o : Option A) (x : A) → o ≡ Some x → o ≡ None → ⊥
+not_both o x e f = cc
 
-run_stop : (text : List ℕ) (told : Diagnostic) (stop : Stop) → TextBreak text told → IsRunStop text stop → StopsAs told stop
-run_stop text told (stops.Rule own) b (inl h) = refused_once text own told h b
-run_stop text told (stops.Rule own) b (inr h) = absurd (accepted_once text told h.0 b)
-run_stop text told (stops.Json fault) b h = absurd (accepted_once text told h b)
-run_stop text told (stops.More budget) b h = absurd (accepted_once text told h b)
-run_stop text told stops.Memory b h = tt
+same_diagnostic : (a b : Diagnostic) → a.rule ≡ b.rule → a.place ≡ b.place → a.name ≡ b.name → a ≡ b
+same_diagnostic a b rule place name =
+    let tell : Rule → Place → List ℕ → Diagnostic = λ r p n. record { rule = r; place = p; name = n } in
+    ap (λ r. tell r a.place a.name) rule ∙ ap (λ p. tell b.rule p a.name) place ∙ ap (λ n. tell b.rule b.place n) name
 
-pub run_told : {X : Type 0} (text : List ℕ) (r : Result X Stop) → IfOk r (λ _. IsAcceptedText text) → IfErr r (IsRunStop text) → (told : Diagnostic) → TextBreak text told
-    → MatchResult r (λ _. ⊥) (StopsAs told)
-run_told text (Ok x) h k told b = accepted_once text told h b
-run_told text (Err stop) h k told b = run_stop text told stop b k
+tree_break_once : (text : List ℕ) (tokens : List Token) (tree : PlainTree) (a b : Diagnostic) → Lex text tokens → Parse tokens tree → TreeBreak tree a → TreeBreak tree b → a ≡ b
+tree_break_once text tokens tree a b lexed parsed (inl h) (inl k) = h.2 ∙ ap left_out (one_value (first_unbuilt tree) h.0 k.0 h.1 k.1) ∙ sym k.2
+tree_break_once text tokens tree a b lexed parsed (inl h) (inr (inl k)) = absurd (not_both (first_unbuilt tree) h.0 h.1 k.0)
+tree_break_once text tokens tree a b lexed parsed (inl h) (inr (inr k)) = absurd (not_both (first_unbuilt tree) h.0 h.1 k.0)
+tree_break_once text tokens tree a b lexed parsed (inr (inl h)) (inl k) = absurd (not_both (first_unbuilt tree) k.0 k.1 h.0)
+tree_break_once text tokens tree a b lexed parsed (inr (inl h)) (inr (inl k)) = one_value (names_break tree) a b h.1 k.1
+tree_break_once text tokens tree a b lexed parsed (inr (inl h)) (inr (inr k)) = absurd (not_both (names_break tree) a h.1 k.1)
+tree_break_once text tokens tree a b lexed parsed (inr (inr h)) (inl k) = absurd (not_both (first_unbuilt tree) k.0 k.1 h.0)
+tree_break_once text tokens tree a b lexed parsed (inr (inr h)) (inr (inl k)) = absurd (not_both (names_break tree) b k.1 h.1)
+tree_break_once text tokens tree a b lexed parsed (inr (inr h)) (inr (inr k)) =
+    let one = placed.refused_once text tokens tree a b lexed parsed h.1 h.2 k.2 in
+    same_diagnostic a b one.0 one.1 one.2
 
-fault_stop : (text : List ℕ) (fault : Diagnostic) (stop : Stop) → StageOneFault text fault → IsRunStop text stop → (stop ≡ stops.Memory) ⊎ (stop ≡ stops.Rule fault)
-fault_stop text fault (stops.Rule own) s (inl (inl h)) = inr (ap (λ f. stops.Rule f) (one_stage_one h s))
-fault_stop text fault (stops.Rule own) s (inl (inr h)) = absurd (read_no_fault (h.0, h.1) s)
-fault_stop text fault (stops.Rule own) s (inr h) = absurd (read_no_fault (h.0.0, h.0.1) s)
-fault_stop text fault (stops.Json data_fault) s h = absurd (read_no_fault (h.0, h.1) s)
-fault_stop text fault (stops.More budget) s h = absurd (read_no_fault (h.0, h.1) s)
-fault_stop text fault stops.Memory s h = inl refl
+pub break_once : (text : List ℕ) (a b : Diagnostic) → TextBreak text a → TextBreak text b → a ≡ b
+break_once text a b (inl h) (inl k) = one_stage_one h k
+break_once text a b (inl h) (inr k) = absurd (read_no_fault (k.0, k.1) h)
+break_once text a b (inr h) (inl k) = absurd (read_no_fault (h.0, h.1) k)
+break_once text a b (inr h) (inr k) = tree_break_once text k.1.0 k.0 a b k.1.1 k.1.2 (subst (λ t. TreeBreak t a) (one_text_tree text h.0 k.0 h.1 k.1) h.2) k.2
 
--- the rule that a text breaks without a tree is told
-pub fault_told : {X : Type 0} (text : List ℕ) (r : Result X Stop) → IfOk r (λ _. IsAcceptedText text) → IfErr r (IsRunStop text) → (fault : Diagnostic) → StageOneFault text fault
-    → MatchResult r (λ _. ⊥) (λ stop. (stop ≡ stops.Memory) ⊎ (stop ≡ stops.Rule fault))
-fault_told text (Ok x) h k fault s = read_no_fault (h.0, h.1) s
-fault_told text (Err stop) h k fault s = fault_stop text fault stop s k
+-- a text that breaks a rule is refused for it, unless memory is wanting
+pub text_stop : (text : List ℕ) (told : Diagnostic) (stop : Stop) → TextBreak text told → IsTextRefusal text stop → (stop ≡ stops.Memory) ⊎ (stop ≡ stops.Rule told)
+text_stop text told (stops.Rule own) b h = inr (ap (λ d. stops.Rule d) (break_once text own told h b))
+text_stop text told (stops.Json fault) b h = absurd h
+text_stop text told (stops.More budget) b h = absurd h
+text_stop text told (stops.Verilog refused) b h = absurd h
+text_stop text told (stops.Fault kind path turn) b h = absurd h
+text_stop text told (stops.Loop path) b h = absurd h
+text_stop text told stops.Memory b h = inl refl
 
 -- from a tree to its text
 of_tree : (text : List ℕ) (tree : PlainTree) (stop : Stop) → HasTree text tree → IsTreeStop tree stop → IsTextRefusal text stop
 of_tree text tree (stops.Rule told) h k = inr (tree, h, k)
 of_tree text tree (stops.Json fault) h k = k
 of_tree text tree (stops.More budget) h k = k
+of_tree text tree (stops.Verilog refused) h k = k
+of_tree text tree (stops.Fault kind path turn) h k = k
+of_tree text tree (stops.Loop path) h k = k
 of_tree text tree stops.Memory h k = tt
 
-pub tree_accepted : {X : Type 0} (text : List ℕ) (tree : PlainTree) (r : Result X Stop) → HasTree text tree → IfOk r (λ _. IsAcceptedTree tree) → IfOk r (λ _. IsAcceptedText text)
-tree_accepted text tree (Ok x) h k = (tree, h, k)
-tree_accepted text tree (Err stop) h k = tt
+pub tree_design : {X : Type 0} (design : X → PlainDesign) (text : List ℕ) (tree : PlainTree) (r : Result X Stop) → HasTree text tree → IfOk r (λ _. IsAcceptedTree tree)
+    → IfOk r (λ x. design x ≡ design_of tree) → IfOk r (λ x. IsDesignOf text (design x))
+tree_design design text tree (Ok x) h k e = (tree, h, k, e)
+tree_design design text tree (Err stop) h k e = tt
 
 pub tree_refused : {X : Type 0} (text : List ℕ) (tree : PlainTree) (r : Result X Stop) → HasTree text tree → IfErr r (IsTreeStop tree) → IfErr r (IsTextRefusal text)
 tree_refused text tree (Ok x) h k = tt
@@ -87,25 +110,7 @@ pub no_tree_refused : (text : List ℕ) (stop : Stop) → IsNoTree text stop →
 no_tree_refused text (stops.Rule told) k = inl k
 no_tree_refused text (stops.Json fault) k = k
 no_tree_refused text (stops.More budget) k = k
+no_tree_refused text (stops.Verilog refused) k = k
+no_tree_refused text (stops.Fault kind path turn) k = k
+no_tree_refused text (stops.Loop path) k = k
 no_tree_refused text stops.Memory k = tt
-
--- from what is told of a text to what is told of its run
-pub refused_run : (text : List ℕ) (stop : Stop) → IsTextRefusal text stop → IsRunStop text stop
-refused_run text (stops.Rule told) k = inl k
-refused_run text (stops.Json fault) k = absurd k
-refused_run text (stops.More budget) k = absurd k
-refused_run text stops.Memory k = tt
-
-of_design : (text : List ℕ) (stop : Stop) → IsAcceptedText text → IsOfDesign stop → IsRunStop text stop
-of_design text (stops.Rule told) h k = inr (h, k)
-of_design text (stops.Json fault) h k = h
-of_design text (stops.More budget) h k = h
-of_design text stops.Memory h k = tt
-
-pub run_accepted : {X : Type 0} (text : List ℕ) (r : Result X Stop) → IsAcceptedText text → IfOk r (λ _. IsAcceptedText text)
-run_accepted text (Ok x) h = h
-run_accepted text (Err stop) h = tt
-
-pub run_refused : {X : Type 0} (text : List ℕ) (r : Result X Stop) → IsAcceptedText text → IfErr r IsOfDesign → IfErr r (IsRunStop text)
-run_refused text (Ok x) h k = tt
-run_refused text (Err stop) h k = of_design text stop h k

@@ -20,7 +20,7 @@ use Rattle.cx_parse.specs.Faults.{IsStop}
 use Rattle.cx_parse.proofs.Trees.{drop_back}
 use Rattle.cx_driver.specs.declared.stops.Stop.{Stop}
 use Rattle.cx_driver.specs.declared.stops.Stop.TheVariants as stops
-use Rattle.cx_driver.specs.Unread.{rule_of, name_at, TokensFault, unexpected, too_deep, StageOneFault, no_tokens, no_tree, HasTree, IsRead, IsNoToken, IsNoFile, IsNoTree, IsOfDesign}
+use Rattle.cx_driver.specs.Unread.{rule_of, name_at, TokensFault, unexpected, too_deep, StageOneFault, no_tokens, no_tree, HasTree, IsRead, IsNoToken, IsNoFile, IsNoTree}
 
 tokens_no_fault : {tokens : List Token} {fault : Diagnostic} (tree : PlainTree) → Parse tokens tree → TokensFault tokens fault → ⊥
 tokens_no_fault tree p (unexpected tokens front back u) = tree_expected tokens tree front back p u
@@ -61,6 +61,9 @@ lexical_fault text fault (stops.Rule told) (inl memory) k = absurd (let none : r
 lexical_fault text fault (stops.Rule told) (inr first) k = subst (StageOneFault text) (sym k.2) (no_tokens text fault.kind k.0 fault.place first k.1)
 lexical_fault text fault (stops.Json data_fault) first k = k
 lexical_fault text fault (stops.More budget) first k = k
+lexical_fault text fault (stops.Verilog refused) first k = k
+lexical_fault text fault (stops.Fault kind path turn) first k = k
+lexical_fault text fault (stops.Loop path) first k = k
 lexical_fault text fault stops.Memory first k = tt
 
 -- what is told of tokens that are no file
@@ -68,6 +71,9 @@ file_fault : (text : List ℕ) (tokens : List Token) (stop : Stop) → Lex text 
 file_fault text tokens (stops.Rule told) lexed k = no_tree text tokens told lexed k
 file_fault text tokens (stops.Json data_fault) lexed k = k
 file_fault text tokens (stops.More budget) lexed k = k
+file_fault text tokens (stops.Verilog refused) lexed k = k
+file_fault text tokens (stops.Fault kind path turn) lexed k = k
+file_fault text tokens (stops.Loop path) lexed k = k
 file_fault text tokens stops.Memory lexed k = tt
 
 pub read_tree_of : (text : List ℕ) (tokens : List Token) (r : Result Tree Stop) → Lex text tokens → IfOk r (λ tree. Parse tokens (plain_tree tree)) → IfOk r (λ tree. HasTree text (plain_tree tree))
@@ -107,8 +113,3 @@ no_file_deep tokens why left place bytes stop why_is (inr l) at named (inr e) =
     let there : place_at k.1 tokens ≡ place = sym (at ∙ ap (λ us. place_at us tokens) back) in
     let called : [] ≡ bytes = sym named in
     subst (IsNoFile tokens) (sym e) (subst (TokensFault tokens) (fault_same rules.TooDeep there called) (too_deep tokens k.0 k.1 k.2))
-
--- a design that is left out as a whole
-pub left_out : (place : Place) (bytes : List ℕ) (stop : Stop) → ((stop ≡ stops.Memory) ⊎ (stop ≡ stops.Rule (record { rule = rules.LeftOut; place = place; name = bytes }))) → IsOfDesign stop
-left_out place bytes stop (inl e) = subst IsOfDesign (sym e) tt
-left_out place bytes stop (inr e) = subst IsOfDesign (sym e) refl

@@ -4,8 +4,10 @@ use Rattle.cx_outside.specs.Counts.{HasRisen}
 use Rattle.cx_outside.specs.Reading.{Holds, HasLength, IsAbsent}
 use Rattle.cx_outside.specs.Writing.{grown, GrowsByPart}
 use Rattle.cx_driver.specs.Messages.{line_of}
-use Rattle.cx_driver.specs.Commands.{Asked, interp, check, files_of, design_of}
-use Rattle.cx_driver.specs.Texts.{IsRunStop, IsTextRefusal}
+use Rattle.cx_driver.specs.Commands.{Asked, interp, check, sim, files_of}
+use Rattle.cx_driver.specs.Texts.{IsTextRefusal}
+use Rattle.cx_driver.specs.Interpreted.{IsInterpStop}
+use Rattle.cx_driver.specs.Simulated.{IsSimStop}
 use Rattle.cx_driver.specs.declared.stops.Stop.{Stop}
 use Rattle.cx_driver.specs.declared.refusals.Refusal.{Refusal}
 use Rattle.cx_driver.specs.declared.refusals.Refusal.TheVariants as refusals
@@ -29,13 +31,14 @@ IsMemory (refusals.TooLong file seen) = ⊥
 IsMemory (refusals.ReadFault file) = ⊥
 IsMemory (refusals.Stop stop) = stop ≡ stops.Memory
 
--- what stops a command is true of the text that its file of the design holds, where it is told what files hold
-abbrev pub IsCommandStop : Asked → List ℕ → Stop → Type 0
-IsCommandStop (interp design json budget) text stop = IsRunStop text stop
-IsCommandStop (check design) text stop = IsTextRefusal text stop
+-- what stops a command is true of what its files hold, where that is told
+abbrev pub IsCommandStop : Asked → Option (List ℕ → Option (List ℕ)) → Stop → Type 0
+IsCommandStop (interp design json budget) held stop = (text : List ℕ) × (bytes : List ℕ) × Holds held design text × Holds held json bytes × IsInterpStop text bytes budget stop
+IsCommandStop (check design) held stop = (text : List ℕ) × Holds held design text × IsTextRefusal text stop
+IsCommandStop (sim verilog json budget) held stop = (text : List ℕ) × (bytes : List ℕ) × Holds held verilog text × Holds held json bytes × IsSimStop text bytes budget stop
 
 abbrev pub StopsCommand : Asked → Option (List ℕ → Option (List ℕ)) → Stop → Type 0
-StopsCommand command held stop = (stop ≡ stops.Memory) ⊎ ((text : List ℕ) × Holds held (design_of command) text × IsCommandStop command text stop)
+StopsCommand command held stop = (stop ≡ stops.Memory) ⊎ IsCommandStop command held stop
 
 -- what is told is true of the files of a command, whose count of faults was `before` and is `after`
 abbrev pub HasCause : Asked → Option (List ℕ → Option (List ℕ)) → ℕ → ℕ → Refusal → Type 0
@@ -48,13 +51,16 @@ abbrev pub status_of : Refusal → Status
 status_of (refusals.TooLong file seen) = statuses.Refused
 status_of (refusals.ReadFault file) = statuses.ReadFault
 status_of (refusals.Stop (stops.Rule diagnostic)) = statuses.Refused
+status_of (refusals.Stop (stops.Verilog refused)) = statuses.Refused
 status_of (refusals.Stop (stops.Json fault)) = statuses.Refused
 status_of (refusals.Stop (stops.More budget)) = statuses.More
+status_of (refusals.Stop (stops.Fault kind path turn)) = statuses.Fault
+status_of (refusals.Stop (stops.Loop path)) = statuses.Fault
 status_of (refusals.Stop stops.Memory) = statuses.Memory
 
--- the status says that a file or the budget does not serve
+-- the status says that a file or the budget does not serve, or that the run has a fault
 abbrev pub IsRefusing : Status → Type 0
-IsRefusing status = (status ≡ statuses.Refused) ⊎ (status ≡ statuses.More) ⊎ (status ≡ statuses.ReadFault)
+IsRefusing status = (status ≡ statuses.Refused) ⊎ (status ≡ statuses.More) ⊎ (status ≡ statuses.Fault) ⊎ (status ≡ statuses.ReadFault)
 
 -- the line was written, as far as it was taken: where it was not taken whole, the count of faults rose or stands at its last value
 abbrev pub ReceivesLine : Option (List ℕ) → ℕ → List ℕ → Option (List ℕ) → ℕ → Type 0

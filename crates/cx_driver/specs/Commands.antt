@@ -6,6 +6,7 @@ use Rattle.std.specs.Str.Parse.{IsNumeral, digits_value}
 pub data Asked : Type 0 where
   interp : (design json : List ℕ) (budget : ℕ) → Asked
   check : (design : List ℕ) → Asked
+  sim : (verilog json : List ℕ) (budget : ℕ) → Asked
 
 -- one decimal digit or more, with a value of at most 10^12; zeros may stand before
 pub record IsBudget (digits : List ℕ) (budget : ℕ) : Type 0 where
@@ -13,10 +14,20 @@ pub record IsBudget (digits : List ℕ) (budget : ℕ) : Type 0 where
   pub value : digits_value 10 digits ≡ budget
   pub limit : budget ≤ 1000000000000
 
+-- the words are this name, two files and the digits of a budget
+abbrev pub AsksRun : List (List ℕ) → List ℕ → List ℕ → List ℕ → ℕ → Type 0
+AsksRun words name first second budget = (digits : List ℕ) × (words ≡ name ∷ first ∷ second ∷ digits ∷ []) × IsBudget digits budget
+
 -- the words ask for this command
 abbrev pub Asks : List (List ℕ) → Asked → Type 0
-Asks words (interp design json budget) = (digits : List ℕ) × (words ≡ codes "interp" ∷ design ∷ json ∷ digits ∷ []) × IsBudget digits budget
+Asks words (interp design json budget) = AsksRun words (codes "interp") design json budget
 Asks words (check design) = words ≡ codes "check" ∷ design ∷ []
+Asks words (sim verilog json budget) = AsksRun words (codes "sim") verilog json budget
+
+-- the words ask for no run
+pub record AsksNoRun (words : List (List ℕ)) : Type 0 where
+  pub interprets : (design json : List ℕ) (budget : ℕ) → Asks words (interp design json budget) → ⊥
+  pub simulates : (verilog json : List ℕ) (budget : ℕ) → Asks words (sim verilog json budget) → ⊥
 
 -- the words are none of a command
 abbrev pub AsksNothing : List (List ℕ) → Type 0
@@ -26,12 +37,8 @@ AsksNothing words = (command : Asked) → Asks words command → ⊥
 abbrev pub files_of : Asked → List (List ℕ)
 files_of (interp design json budget) = design ∷ json ∷ []
 files_of (check design) = design ∷ []
+files_of (sim verilog json budget) = verilog ∷ json ∷ []
 
 -- the words ask for a command that reads this file
 abbrev pub IsFileOf : List (List ℕ) → List ℕ → Type 0
 IsFileOf words file = (command : Asked) × Asks words command × Contains (files_of command) file
-
--- the file of the design of a command
-abbrev pub design_of : Asked → List ℕ
-design_of (interp design json budget) = design
-design_of (check design) = design

@@ -1,6 +1,9 @@
 pub mod Commands
 pub mod Unread
 pub mod Texts
+pub mod Loads
+pub mod Interpreted
+pub mod Simulated
 pub mod Dumps
 pub mod Causes
 pub mod Asked

@@ -56,32 +56,33 @@ HasTree text tree = (tokens : List Token) × Lex text tokens × Parse tokens tre
 -- what is told of a token that cannot be read, unless memory is wanting
 abbrev pub IsNoToken : LexFault → Stop → Type 0
 IsNoToken fault (stops.Rule told) = (rule : Rule) × (rule_of fault.kind ≡ Some rule) × (told ≡ record { rule = rule; place = fault.place; name = [] })
+IsNoToken fault (stops.Verilog refused) = ⊥
 IsNoToken fault (stops.Json data_fault) = ⊥
 IsNoToken fault (stops.More budget) = ⊥
+IsNoToken fault (stops.Fault kind path turn) = ⊥
+IsNoToken fault (stops.Loop path) = ⊥
 IsNoToken fault stops.Memory = Unit {0}
 
 -- what is told of tokens that are no file, unless memory is wanting
 abbrev pub IsNoFile : List Token → Stop → Type 0
 IsNoFile tokens (stops.Rule fault) = TokensFault tokens fault
+IsNoFile tokens (stops.Verilog refused) = ⊥
 IsNoFile tokens (stops.Json data_fault) = ⊥
 IsNoFile tokens (stops.More budget) = ⊥
+IsNoFile tokens (stops.Fault kind path turn) = ⊥
+IsNoFile tokens (stops.Loop path) = ⊥
 IsNoFile tokens stops.Memory = Unit {0}
 
 -- what is told of a text without a tree, unless memory is wanting
 abbrev pub IsNoTree : List ℕ → Stop → Type 0
 IsNoTree text (stops.Rule fault) = StageOneFault text fault
+IsNoTree text (stops.Verilog refused) = ⊥
 IsNoTree text (stops.Json data_fault) = ⊥
 IsNoTree text (stops.More budget) = ⊥
+IsNoTree text (stops.Fault kind path turn) = ⊥
+IsNoTree text (stops.Loop path) = ⊥
 IsNoTree text stops.Memory = Unit {0}
 
 -- the text has a tree
 abbrev pub IsRead : List ℕ → Type 0
 IsRead text = (tree : PlainTree) × HasTree text tree
-
--- what is told of a design whose text is read: it is left out as a whole, the data file or the budget does not serve, or
--- memory is wanting
-abbrev pub IsOfDesign : Stop → Type 0
-IsOfDesign (stops.Rule fault) = fault.rule ≡ rules.LeftOut
-IsOfDesign (stops.Json data_fault) = Unit {0}
-IsOfDesign (stops.More budget) = Unit {0}
-IsOfDesign stops.Memory = Unit {0}

@@ -1,17 +1,20 @@
 //! The checks on texts.
 
-ghost use Rattle.std.specs.Prelude.{◌≡◌, ◌≤◌, IfOk, IfErr, OnOk, MatchResult, length};
+ghost use Rattle.std.specs.Prelude.{◌≡◌, ◌≤◌, ◌⊎◌, IfOk, IfErr, OnOk, MatchResult, length};
 ghost use Rattle.cx_text.specs.declared.diagnostics.Diagnostic.{Diagnostic as DiagnosticValue};
 ghost use Rattle.cx_ast.specs.PlainTree.{plain_tree};
+ghost use Rattle.cx_numbering.specs.DesignOf.{design_of};
+ghost use Rattle.cx_design.specs.PlainDesigns.{plain_design};
 ghost use Rattle.cx_named.specs.Targets.{HasTargets};
 ghost use Rattle.cx_accept.specs.Verdicts.{IsAcceptedTree};
-ghost use Rattle.cx_driver.specs.Texts.{IsAcceptedText, IsTextRefusal, IsTreeStop, StopsAs, TextBreak};
+ghost use Rattle.cx_driver.specs.Texts.{IsAcceptedText, IsDesignOf, IsTextRefusal, IsTreeStop, TextBreak};
+ghost use Rattle.cx_driver.specs.declared.stops.Stop.TheVariants as stops;
 
 use crate::reading::tree_of;
 use crate::stops::Stop;
 use cx_accept::accept;
 use cx_ast::Tree;
-use cx_design::Refusal;
+use cx_design::{Checked, Refusal};
 use std::alloc::Global;
 
 /// Reads a text and tries all rules on it.
@@ -19,35 +22,37 @@ pub fn check_text(alloc: Global, text: &[u8]) -> Result<(), Stop>
     requires { length text.now ≤ 1048576 }
     ensures accepted { OnOk result (IsAcceptedText text.now) }
     ensures cause { IfErr result (IsTextRefusal text.now) }
-    // A text that breaks a rule is refused, and by that rule at that place unless memory is wanting.
-    ensures all_refusals { (told : DiagnosticValue) → TextBreak text.now told → MatchResult result (λ _. ⊥) (StopsAs told) }
+    // A rule that the text breaks is told, with its place and its name, unless memory is wanting.
+    ensures all_refusals { (told : DiagnosticValue) → TextBreak text.now told
+        → MatchResult result (λ _. ⊥) (λ stop. (stop ≡ stops.Memory) ⊎ (stop ≡ stops.Rule told)) }
 {
-    match accepted_tree(alloc, text) {
+    match accepted_design(alloc, text) {
         Ok(_) => Ok(()),
         Err(stop) => Err(stop),
     }
 }
 
-/// The tree of a text that is accepted.
-pub(crate) fn accepted_tree(alloc: Global, text: &[u8]) -> Result<Tree, Stop>
+/// The design of a text that is accepted.
+pub(crate) fn accepted_design(alloc: Global, text: &[u8]) -> Result<Checked, Stop>
     requires { length text.now ≤ 1048576 }
-    ensures accepted { IfOk result (λ _. IsAcceptedText text.now) }
+    ensures design { IfOk result (λ checked. IsDesignOf text.now (plain_design checked)) }
     ensures cause { IfErr result (IsTextRefusal text.now) }
 {
     match tree_of(alloc, text) {
-        Ok(tree) => tried(alloc, tree),
+        Ok(tree) => tried(alloc, &tree),
         Err(stop) => Err(stop),
     }
 }
 
-/// A tree that breaks no rule.
-fn tried(alloc: Global, tree: Tree) -> Result<Tree, Stop>
-    requires targets { HasTargets (plain_tree tree) }
-    ensures accepted { IfOk result (λ _. IsAcceptedTree (plain_tree tree)) }
-    ensures cause { IfErr result (IsTreeStop (plain_tree tree)) }
+/// The design of a tree that breaks no rule.
+fn tried(alloc: Global, tree: &Tree) -> Result<Checked, Stop>
+    requires targets { HasTargets (plain_tree tree.now) }
+    ensures accepted { IfOk result (λ checked. IsAcceptedTree (plain_tree tree.now)) }
+    ensures value { IfOk result (λ checked. plain_design checked ≡ design_of (plain_tree tree.now)) }
+    ensures cause { IfErr result (IsTreeStop (plain_tree tree.now)) }
 {
-    match accept(alloc, &tree) {
-        Ok(_) => Ok(tree),
+    match accept(alloc, tree) {
+        Ok(checked) => Ok(checked),
         Err(Refusal::Rule(told)) => Err(Stop::Rule(told)),
         Err(Refusal::Memory) => Err(Stop::Memory),
     }

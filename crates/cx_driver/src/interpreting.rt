@@ -1,71 +1,110 @@
 //! The interpreter on texts: a design, a data file and a budget give a dump.
 
-ghost use Rattle.std.specs.Prelude.{◌≡◌, ◌≤◌, ◌⊎◌, All, IfOk, IfErr, MatchResult, length};
-ghost use Rattle.cx_text.specs.declared.diagnostics.Diagnostic.{Diagnostic as DiagnosticValue};
-ghost use Rattle.cx_text.specs.Loading.{plain_loaded};
+ghost use Rattle.std.specs.Prelude.{◌≡◌, ◌≤◌, ◌⊎◌, IfOk, IfErr, List, MatchResult, length, ℕ};
+ghost use Rattle.cx_text.specs.Loading.{FitsRows, plain_loaded};
 ghost use Rattle.cx_data.specs.Dump.{dump_text};
-ghost use Rattle.cx_first_form.specs.Whole.{IsWhole};
-ghost use Rattle.cx_driver.specs.Dumps.{IsDump};
-ghost use Rattle.cx_driver.specs.Texts.{IsAcceptedText, IsRunStop, StopsAs, TextBreak};
-ghost use Rattle.cx_driver.specs.Unread.{StageOneFault, IsOfDesign};
+ghost use Rattle.cx_meaning.specs.Answers.{End};
+ghost use Rattle.cx_meaning.specs.Instances.{State, tree_of, words_of};
+ghost use Rattle.cx_meaning.specs.Running.{run_main};
+ghost use Rattle.cx_rules.specs.Externals.{external_rows};
+ghost use Rattle.cx_design.specs.PlainDesigns.{plain_design};
+ghost use Rattle.cx_memory_words.specs.Words.{with_words, words_loaded};
+ghost use Rattle.cx_interp.specs.Runs.{HasRun};
+ghost use Rattle.cx_driver.specs.Interpreted.{IsDesignAnswer, IsDesignStop, IsInterpAnswer, IsInterpStop, IsRunAnswer, StopsRun, StopsText};
+ghost use Rattle.cx_driver.specs.declared.stops.Stop.{Stop as StopValue};
 ghost use Rattle.cx_driver.specs.declared.stops.Stop.TheVariants as stops;
 
-use crate::accepting::accepted_tree;
-use crate::reading::refused;
+use crate::accepting::accepted_design;
+use crate::faults::faulted;
+use crate::memories::{dump_of, load};
 use crate::stops::Stop;
-use cx_ast::Tree;
-use cx_first_form::Unread;
-use cx_text::{Loaded, Memory, Place, Rule};
+use cx_design::Checked;
+use cx_interp::{Answer, Interp, Ran};
+use cx_text::Loaded;
 use std::alloc::Global;
 
-/// Where a design is refused that is left out as a whole.
-const FIRST_PLACE: Place = Place { line: 1, column: 1 };
-
-/// Runs the control of `main` by its meaning, with a budget in turns, and answers the dump of the external memories.
+/// Runs the control of `main` by its meaning, with the words of a data file loaded, within a budget of turns. Answers the
+/// dump of its turns and of the words in which it leaves the external memories.
 pub fn interp(alloc: Global, text: &[u8], json: &[u8], turns: u64) -> Result<Vec<u8>, Stop>
     requires { length text.now ≤ 1048576 }
-    ensures dump { IfOk result (λ dump. IsDump dump.items) }
+    ensures answer { IfOk result (λ dump. IsInterpAnswer text.now json.now turns dump.items) }
+    ensures cause { IfErr result (IsInterpStop text.now json.now turns) }
 
-    // Each answer but a rule and want of memory comes only where the text is accepted.
-    ensures accepted { IfOk result (λ _. IsAcceptedText text.now) }
-    ensures cause { IfErr result (IsRunStop text.now) }
-    // The rule that a text breaks without a tree is told, unless memory is wanting.
-    ensures all_faults { (fault : DiagnosticValue) → StageOneFault text.now fault
-        → MatchResult result (λ _. ⊥) (λ stop. (stop ≡ stops.Memory) ⊎ (stop ≡ stops.Rule fault)) }
-    // A text that breaks a rule is refused, and by that rule at that place unless memory is wanting.
-    ensures all_refusals { (told : DiagnosticValue) → TextBreak text.now told → MatchResult result (λ _. ⊥) (StopsAs told) }
+    // Where the run ends within the budget its dump is the answer, unless memory is wanting.
+    ensures all_answers { (answer : List ℕ) → IsInterpAnswer text.now json.now turns answer
+        → MatchResult result (λ dump. dump.items ≡ answer) (λ stop. stop ≡ stops.Memory) }
+
+    // A rule that the text breaks is told, the fault of the data file, that of the run, or that the budget does not
+    // suffice, unless memory is wanting.
+    ensures all_stops { (why : StopValue) → StopsText text.now json.now turns why
+        → MatchResult result (λ _. ⊥) (λ stop. (stop ≡ stops.Memory) ⊎ (stop ≡ why)) }
 {
-    match accepted_tree(alloc, text) {
-        Ok(tree) => run_tree(alloc, &tree, json, turns),
+    match accepted_design(alloc, text) {
+        Ok(design) => run_design(alloc, &design, json, turns),
         Err(stop) => Err(stop),
     }
 }
 
-/// Runs the design of a tree on a data file.
-fn run_tree(alloc: Global, tree: &Tree, json: &[u8], turns: u64) -> Result<Vec<u8>, Stop>
-    ensures dump { IfOk result (λ dump. IsDump dump.items) }
-    ensures cause { IfErr result IsOfDesign }
+/// Runs a design on a data file.
+fn run_design(alloc: Global, design: &Checked, json: &[u8], turns: u64) -> Result<Vec<u8>, Stop>
+    ensures answer { IfOk result (λ dump. IsDesignAnswer (plain_design design.now) json.now turns dump.items) }
+    ensures cause { IfErr result (IsDesignStop (plain_design design.now) json.now turns) }
 {
-    let design = match cx_first_form::read(alloc, tree) {
-        Ok(design) => design,
-        Err(Unread::OtherForm) => return Err(refused(alloc, Rule::LeftOut, FIRST_PLACE, b"")),
-        Err(Unread::Memory) => return Err(Stop::Memory),
-    };
     let rows = design.rows(alloc)?;
-    let mut loaded = cx_data::load(alloc, json, &rows)?;
-    let Some(cycles) = design.run(alloc, &mut loaded, turns)? else {
-        return Err(Stop::More(turns));
-    };
-    let dump = dump_of(alloc, cycles, &loaded)?;
-    Ok(dump)
+    match load(alloc, json, &rows) {
+        Ok(loaded) => run_loaded(alloc, design, loaded, turns),
+        Err(stop) => Err(stop),
+    }
 }
 
-/// The dump of a run.
-fn dump_of(alloc: Global, cycles: u64, loaded: &Loaded) -> Result<Vec<u8>, Memory>
-    requires { All IsWhole loaded.now.memories.items }
-    ensures { IfOk result (λ dump. dump.items ≡ dump_text cycles (plain_loaded loaded.now)) }
+/// Runs a design with these words loaded.
+fn run_loaded(alloc: Global, design: &Checked, loaded: Loaded, turns: u64) -> Result<Vec<u8>, Stop>
+    requires fits { FitsRows (external_rows (plain_design design.now)) (plain_loaded loaded) }
+    ensures answer { IfOk result (λ dump. IsRunAnswer (plain_design design.now) (plain_loaded loaded) turns dump.items) }
+    ensures cause { IfErr result (StopsRun (plain_design design.now) (plain_loaded loaded) turns) }
 {
-    let mut dump = Vec::new(alloc);
-    cx_data::dump(alloc, cycles, loaded, &mut dump)?;
+    let interp = Interp::new(alloc, design, &loaded)?;
+    let ran = interp.run(turns);
+    end(alloc, design, &ran, loaded, turns)
+}
+
+/// What a run came to.
+fn end(
+    alloc: Global,
+    design: &Checked,
+    ran: &Ran<'_>,
+    loaded: Loaded,
+    turns: u64,
+) -> Result<Vec<u8>, Stop>
+    requires run { HasRun design.now (words_loaded (plain_loaded loaded)) turns ran.now }
+    requires fits { FitsRows (external_rows (plain_design design.now)) (plain_loaded loaded) }
+    ensures answer { IfOk result (λ dump. IsRunAnswer (plain_design design.now) (plain_loaded loaded) turns dump.items) }
+    ensures cause { IfErr result (StopsRun (plain_design design.now) (plain_loaded loaded) turns) }
+{
+    match ran.answer() {
+        Answer::End(ended) => finished(alloc, design, ran, loaded, ended),
+        Answer::Fault(fault, turn) => Err(faulted(alloc, design, fault, turn)),
+        Answer::More => Err(Stop::More(turns)),
+    }
+}
+
+/// The dump of a run that ended after so many turns.
+fn finished(
+    alloc: Global,
+    design: &Checked,
+    ran: &Ran<'_>,
+    mut loaded: Loaded,
+    turns: u64,
+) -> Result<Vec<u8>, Stop>
+    requires run { (words : List (List ℕ)) × (budget : ℕ) × HasRun design.now words budget ran.now }
+    requires fits { FitsRows (external_rows (plain_design design.now)) (plain_loaded loaded) }
+    ensures answer { (words : List (List ℕ)) (budget : ℕ) (after : State) → HasRun design.now words budget ran.now → run_main (plain_design design.now) words budget ≡ End after turns
+        → IfOk result (λ dump. dump.items ≡ dump_text turns (with_words (plain_loaded loaded) (words_of (tree_of (plain_design design.now)) after))) }
+
+    ensures cause { IfErr result (λ stop. stop ≡ stops.Memory) }
+{
+    let _ = design;
+    ran.memories(&mut loaded);
+    let dump = dump_of(alloc, turns, &loaded)?;
     Ok(dump)
 }

@@ -3,17 +3,21 @@
 
 mod accepting;
 mod commands;
+mod faults;
 mod interpreting;
+mod memories;
 mod messages;
 mod reading;
 mod refusals;
 mod running;
+mod simulating;
 mod stops;
 
 pub use accepting::check_text;
 pub use interpreting::interp;
 pub use refusals::Status;
 pub use running::run;
+pub use simulating::sim;
 pub use stops::Stop;
 
 #[cfg(test)]

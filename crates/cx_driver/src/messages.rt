@@ -2,12 +2,14 @@
 
 ghost use Rattle.std.specs.Prelude.{◌≡◌, ◌++◌, IfOk, codes};
 ghost use Rattle.cx_driver.specs.Messages as messages;
-ghost use Rattle.cx_driver.specs.Messages.{break_line, data_line, line_of, part, stop_line, text_line};
+ghost use Rattle.cx_driver.specs.Messages.{break_line, data_line, fault_line, line_of, part, place_line, stop_line, text_line, verilog_line};
 
 use crate::refusals::Refusal;
 use crate::stops::Stop;
 use cx_data::DataFault;
+use cx_meaning::FaultKind;
 use cx_text::{Diagnostic, Memory};
+use cx_vread::ReadRefusal;
 use itoa::Buffer;
 use std::alloc::Global;
 
@@ -49,11 +51,14 @@ fn push_stop(line: &mut Vec<u8>, stop: &Stop) -> Result<(), Memory>
 {
     match stop {
         Stop::Rule(diagnostic) => push_diagnostic(line, diagnostic),
+        Stop::Verilog(refusal) => push_read_refusal(line, *refusal),
         Stop::Json(fault) => push_data_fault(line, fault),
         Stop::More(budget) => {
             line.extend_from_slice(b"more")?;
             push_number(line, *budget)
         }
+        Stop::Fault { kind, path, turn } => push_fault(line, *kind, path.bytes(), *turn),
+        Stop::Loop(path) => push_behind(line, b"loop", path.bytes()),
         Stop::Memory => {
             line.extend_from_slice(b"memory")?;
             Ok(())
@@ -72,6 +77,59 @@ fn push_diagnostic(line: &mut Vec<u8>, diagnostic: &Diagnostic) -> Result<(), Me
     line.extend_from_slice(buffer.format(diagnostic.place.column).as_bytes())?;
     push_part(line, diagnostic.rule.text().as_bytes())?;
     push_part(line, diagnostic.name.bytes())
+}
+
+/// A word, and a part behind it.
+fn push_behind(line: &mut Vec<u8>, word: &[u8], piece: &[u8]) -> Result<(), Memory>
+    ensures value { IfOk result (λ _. line.new.items ≡ line.old.items ++ (word.now ++ part piece.now)) }
+{
+    line.extend_from_slice(word)?;
+    push_part(line, piece)
+}
+
+/// `fault KIND PATH TURN`.
+fn push_fault(line: &mut Vec<u8>, kind: FaultKind, path: &[u8], turn: u64) -> Result<(), Memory>
+    ensures value { IfOk result (λ _. line.new.items ≡ line.old.items ++ fault_line kind path.now turn) }
+{
+    line.extend_from_slice(b"fault")?;
+    push_counted(line, kind_text(kind).as_bytes(), path, turn)
+}
+
+/// A kind of fault as messages write it.
+fn kind_text(kind: FaultKind) -> &'static str
+    ensures { result.now ≡ messages.kind_text kind }
+{
+    match kind {
+        FaultKind::Conflict => "conflict",
+        FaultKind::Undefined => "undefined",
+        FaultKind::Range => "range",
+    }
+}
+
+/// The line of a Verilog text that is refused.
+fn push_read_refusal(line: &mut Vec<u8>, refusal: ReadRefusal) -> Result<(), Memory>
+    ensures value { IfOk result (λ _. line.new.items ≡ line.old.items ++ verilog_line refusal) }
+{
+    match refusal {
+        ReadRefusal::Syntax(at) => push_place(line, at, b"syntax"),
+        ReadRefusal::Name(at) => push_place(line, at, b"name"),
+        ReadRefusal::Width(at) => push_place(line, at, b"width"),
+        ReadRefusal::Limit(at) => push_place(line, at, b"limit"),
+        ReadRefusal::Memory => {
+            line.extend_from_slice(b"verilog")?;
+            Ok(())
+        }
+    }
+}
+
+/// `verilog LINE:1 KIND`.
+fn push_place(line: &mut Vec<u8>, at: u32, kind: &[u8]) -> Result<(), Memory>
+    ensures value { IfOk result (λ _. line.new.items ≡ line.old.items ++ place_line at kind.now) }
+{
+    line.extend_from_slice(b"verilog")?;
+    push_number(line, u64::from(at))?;
+    line.extend_from_slice(b":1")?;
+    push_part(line, kind)
 }
 
 /// `data KIND NAME INDEX`.

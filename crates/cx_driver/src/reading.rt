@@ -94,7 +94,7 @@ fn word_in(token: &Token) -> &[u8]
 }
 
 /// A break of a rule at a place.
-pub(crate) fn refused(alloc: Global, rule: Rule, place: Place, name: &[u8]) -> Stop
+fn refused(alloc: Global, rule: Rule, place: Place, name: &[u8]) -> Stop
     ensures { (result ≡ stops.Memory) ⊎ (result ≡ stops.Rule (record { rule = rule; place = place; name = name.now })) }
 {
     match Name::from_bytes(alloc, name) {

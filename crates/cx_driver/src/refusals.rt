@@ -42,10 +42,10 @@ impl Refusal<'_> {
         ensures { result ≡ status_of self.now }
     {
         match self {
-            Refusal::TooLong { .. } | Refusal::Stop(Stop::Rule(_) | Stop::Json(_)) => {
-                Status::Refused
-            }
+            Refusal::TooLong { .. }
+            | Refusal::Stop(Stop::Rule(_) | Stop::Verilog(_) | Stop::Json(_)) => { Status::Refused }
             Refusal::Stop(Stop::More(_)) => Status::More,
+            Refusal::Stop(Stop::Fault { .. } | Stop::Loop(_)) => Status::Fault,
             Refusal::ReadFault { .. } => Status::ReadFault,
             Refusal::Stop(Stop::Memory) => Status::Memory,
         }

@@ -16,9 +16,10 @@ use crate::commands::{Command, command_of};
 use crate::interpreting::interp;
 use crate::messages::line;
 use crate::refusals::{Refusal, Status};
+use crate::simulating::sim;
 use crate::stops::Stop;
 use cx_outside::{FileAnswer, Files, Sink, Word, write_all};
-use cx_text::{DATA_BYTES, DESIGN_BYTES};
+use cx_text::{DATA_BYTES, DESIGN_BYTES, VERILOG_BYTES};
 use std::alloc::Global;
 
 /// Does what the words after the program's name ask for: writes the whole answer to `out`, or a line to `err` that
@@ -140,6 +141,11 @@ fn answer<'a, F: Files>(
             budget,
         } => interpreted(alloc, design, json, budget, files),
         Command::Check { design } => checked(alloc, design, files),
+        Command::Sim {
+            verilog,
+            json,
+            budget,
+        } => simulated(alloc, verilog, json, budget, files),
     }
 }
 
@@ -159,6 +165,25 @@ fn interpreted<'a, F: Files>(
     match interp(alloc, &text, &data, budget) {
         Ok(dump) => Ok(dump),
         Err(stop) => Err(Refusal::Stop(stop)),
+    }
+}
+
+/// The answer of the simulator on files.
+fn simulated<'a, F: Files>(
+    alloc: Global,
+    verilog: &'a [u8],
+    json: &'a [u8],
+    budget: u64,
+    files: &mut F,
+) -> Result<Vec<u8>, Refusal<'a>>
+    ensures answer { IfOk result (λ text. IsAnswer (F.held files.old) (asked.sim verilog.now json.now budget) text.items) }
+    ensures cause { IfErr result (HasCause (asked.sim verilog.now json.now budget) (F.held files.old) (F.faults files.old) (F.faults files.new)) }
+{
+    let text = read(alloc, files, verilog, VERILOG_BYTES)?;
+    let data = read(alloc, files, json, DATA_BYTES)?;
+    match sim(alloc, &text, &data, budget) {
+        Ok(dump) => Ok(dump),
+        Err(why) => Err(Refusal::Stop(why)),
     }
 }
 

@@ -1,17 +1,29 @@
 //! Why a command on texts gave no answer.
 
 use cx_data::DataFault;
-use cx_text::{Diagnostic, Memory};
+use cx_meaning::FaultKind;
+use cx_text::{Diagnostic, Memory, Name};
+use cx_vread::ReadRefusal;
 
 /// Why a command on texts gave no answer.
 #[derive(Debug, Drop)]
 pub enum Stop {
     /// The design breaks a rule.
     Rule(Diagnostic),
+    /// The Verilog text is refused. It is never for want of memory.
+    Verilog(ReadRefusal),
     /// The data file is refused. It is never for want of memory.
     Json(DataFault),
-    /// The run needs more turns than this budget.
+    /// The run needs more turns or cycles than this budget.
     More(u64),
+    /// The run meets a fault: its port as messages name it from main on, and its turn, counted from 0.
+    Fault {
+        kind: FaultKind,
+        path: Name,
+        turn: u64,
+    },
+    /// The net of this path has no value.
+    Loop(Name),
     /// An allocation was refused.
     Memory,
 }
@@ -24,18 +36,5 @@ impl From<Memory> for Stop {
 
     fn from(_memory: Memory) -> Stop {
         Stop::Memory
-    }
-}
-
-impl From<DataFault> for Stop {
-    ghost use Rattle.cx_driver.specs.Unread.{IsOfDesign};
-
-    ghost from_gives = { λ _ stop. IsOfDesign stop };
-
-    fn from(fault: DataFault) -> Stop {
-        match fault {
-            DataFault::Memory => Stop::Memory,
-            fault => Stop::Json(fault),
-        }
     }
 }

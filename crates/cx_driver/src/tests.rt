@@ -20,6 +20,30 @@ const STALE_DONE: &str = "component main() -> () { cells { @external mem = std_m
     group st { mem.addr0 = 1'd0; mem.write_data = r.out; mem.write_en = 1'd1; st[done] = mem.done; }
     } control { seq { inc; inc; st; } } }";
 
+/// Four tests, three bodies of two turns, and a store.
+const LOOP: &str = "component main() -> () { cells { @external mem = std_mem_d1(32, 1, 1);
+    r = std_reg(32); a = std_add(32); lt = std_lt(32); } wires {
+    group inc { a.left = r.out; a.right = 32'd1; r.in = a.out; r.write_en = 1'd1; inc[done] = r.done; }
+    group st { mem.addr0 = 1'd0; mem.write_data = r.out; mem.write_en = 1'd1; st[done] = mem.done; }
+    comb group c { lt.left = r.out; lt.right = 32'd3; }
+    } control { seq { while lt.out with c { inc; } st; } } }";
+
+/// `r.in` has two values in the first turn.
+const CONFLICT: &str =
+    "component main() -> () { cells { r = std_reg(8); } wires { group g { r.in = 8'd1; r.in = 8'd2; r.write_en = 1'd1; g[done] = r.done; } }
+    control { g; } }";
+
+/// A memory of one word has no word 1.
+const OUTSIDE: &str =
+    "component main() -> () { cells { @external mem = std_mem_d1(32, 1, 1); } wires {
+    group g { mem.addr0 = 1'd1; mem.write_data = 32'd1; mem.write_en = 1'd1; g[done] = mem.done; } } control { g; } }";
+
+/// Behind a group of two turns a call of `c`, whose register is written with nothing.
+const CHILD: &str =
+    "component bad() -> () { cells { r = std_reg(8); } wires { group g { r.write_en = 1'd1; g[done] = r.done; } } control { g; } }
+    component main() -> () { cells { c = bad(); k = std_reg(8); } wires { group one { k.in = 8'd1; k.write_en = 1'd1; one[done] = k.done; } }
+    control { seq { one; invoke c()(); } } }";
+
 /// A register of 8 bits takes 4.
 const WIDE: &str =
     "component main() -> () { cells { r = std_reg(8); } wires { group g { r.in = 4'd1; r.write_en = 1'd1; g[done] = r.done; } }
@@ -28,6 +52,14 @@ const WIDE: &str =
 /// A static invoke.
 const STATIC_CALL: &str =
     "component main() -> () { cells { } wires { } control { static<1> invoke c()(); } }";
+
+/// A counter of four bits whose `done` is 1 at ten.
+const COUNTER: &str =
+    "module main(\n  input wire [0:0] clk,\n  input wire [0:0] reset,\n  input wire [0:0] go,\n  output wire [0:0] done\n);\n  reg [3:0] n;\n  assign done = (n == 4'ha);\n  always @(posedge clk) begin\n    if (reset) begin\n      n <= 4'h0;\n    end else begin\n      n <= (n + 4'h1);\n    end\n  end\nendmodule\n";
+
+/// `other` is no net, on line 7.
+const UNNAMED: &str =
+    "module main(\n  input wire [0:0] clk,\n  input wire [0:0] reset,\n  input wire [0:0] go,\n  output wire [0:0] done\n);\n  assign done = other;\nendmodule\n";
 
 const FIVE: &str = "{\"mem\":{\"data\":[5],\"format\":
     {\"numeric_type\":\"bitnum\",\"is_signed\":false,\"width\":32}}}";
@@ -68,6 +100,12 @@ fn files_of(alloc: Global) -> Result<MemFiles, Fail> {
         ),
         ("wide", WIDE),
         ("call", STATIC_CALL),
+        ("counter", COUNTER),
+        ("unnamed", UNNAMED),
+        ("loop", LOOP),
+        ("conflict", CONFLICT),
+        ("outside", OUTSIDE),
+        ("child", CHILD),
     ];
     for (name, bytes) in files {
         entries.push((
@@ -177,9 +215,47 @@ fn whole_calls(rt: HostRuntime) -> Result<(), Fail> {
         (
             "interp other five 9",
             0,
-            Status::Refused,
+            Status::Done,
+            "{\"cycles\":1,\"memories\":{}}\n",
             "",
-            "refused 1:1 left-out\n",
+        ),
+        ("interp other five 0", 0, Status::More, "", "more 0\n"),
+        (
+            "interp loop five 12",
+            0,
+            Status::Done,
+            "{\"cycles\":12,\"memories\":{\"mem\":[3]}}\n",
+            "",
+        ),
+        ("interp loop five 11", 0, Status::More, "", "more 11\n"),
+        (
+            "interp conflict five 9",
+            0,
+            Status::Fault,
+            "",
+            "fault conflict r.in 0\n",
+        ),
+        (
+            "interp outside five 9",
+            0,
+            Status::Fault,
+            "",
+            "fault range mem.addr0 0\n",
+        ),
+        (
+            "interp child five 9",
+            0,
+            Status::Fault,
+            "",
+            "fault undefined c.r.in 2\n",
+        ),
+        ("interp child five 2", 0, Status::More, "", "more 2\n"),
+        (
+            "interp child five 3",
+            0,
+            Status::Fault,
+            "",
+            "fault undefined c.r.in 2\n",
         ),
         (
             "interp add bad 9",
@@ -247,6 +323,50 @@ fn whole_calls(rt: HostRuntime) -> Result<(), Fail> {
         ),
         ("interp add five +9", 0, Status::Words, "", "words\n"),
         ("run add five 9", 0, Status::Words, "", "words\n"),
+        ("sim counter five", 0, Status::Words, "", "words\n"),
+        ("sim counter five 9 9", 0, Status::Words, "", "words\n"),
+        (
+            "sim counter five 1000000000001",
+            0,
+            Status::Words,
+            "",
+            "words\n",
+        ),
+        (
+            "sim absent five 9",
+            0,
+            Status::ReadFault,
+            "",
+            "read-fault absent\n",
+        ),
+        (
+            "sim counter absent 9",
+            0,
+            Status::ReadFault,
+            "",
+            "read-fault absent\n",
+        ),
+        (
+            "sim five five 9",
+            0,
+            Status::Refused,
+            "",
+            "verilog 1:1 syntax\n",
+        ),
+        (
+            "sim unnamed five 9",
+            0,
+            Status::Refused,
+            "",
+            "verilog 7:1 name\n",
+        ),
+        (
+            "sim counter bad 9",
+            0,
+            Status::Refused,
+            "",
+            "data not-json\n",
+        ),
     ];
     for (line, failing, status, out, err) in cases {
         let ended = end_of(rt.alloc(), line, failing)?;

@@ -1,12 +1,14 @@
-use Rattle.cx_driver.proofs.TextLemmas.{accepted_once, text_stop}
+use Rattle.cx_driver.proofs.TextLemmas.{accepted_once, text_of_design, text_stop}
 use Rattle.cx_driver.proofs.accepting.check_text.Goals as goal
 
 pub returns-in-Ok : goal.returns-in-Ok
-returns-in-Ok c = record {
-  accepted = c.in-Ok.ensures.accepted;
-  cause = tt;
-  all_refusals = λ told b. accepted_once c.args.text.now told c.in-Ok.ensures.accepted b;
-}
+returns-in-Ok c =
+    let accepted = text_of_design c.args.text.now _ c.in-Ok.ensures.design in
+    record {
+      accepted = accepted;
+      cause = tt;
+      all_refusals = λ told b. accepted_once c.args.text.now told accepted b;
+    }
 
 pub returns : goal.returns
 returns c = record {

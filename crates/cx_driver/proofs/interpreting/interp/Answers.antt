@@ -1,30 +1,32 @@
-use Rattle.std.proofs.Common.{Err}
-use Rattle.cx_driver.specs.Texts.{IsRunStop}
-use Rattle.cx_driver.proofs.TextLemmas.{run_accepted, run_refused, run_told, fault_told, refused_run}
+use Rattle.std.proofs.Common.{[], Err}
+use Rattle.cx_design.specs.PlainDesigns.{plain_design}
+use Rattle.cx_driver.specs.Interpreted.{IsInterpStop}
+use Rattle.cx_driver.proofs.InterpLemmas.{all_answered, all_stopped, text_answers, text_stops, refused_stops}
 use Rattle.cx_driver.proofs.interpreting.interp.Goals as goal
 
 pub returns-in-Ok : goal.returns-in-Ok
 returns-in-Ok c =
     let text = c.args.text.now in
-    let r = c.run_tree.result in
-    let accepted = run_accepted text r c.in-Ok.ensures.accepted in
-    let cause = run_refused text r c.in-Ok.ensures.accepted c.run_tree.ensures.cause in
+    let json = c.args.json.now in
+    let d = plain_design c.in-Ok.design in
+    let r = c.run_design.result in
+    let answer = text_answers (λ v. v.items) text json d c.args.turns r c.in-Ok.ensures.design c.run_design.ensures.answer in
+    let cause = text_stops text json d c.args.turns r c.in-Ok.ensures.design c.run_design.ensures.cause in
     record {
-      dump = c.run_tree.ensures.dump;
-      accepted = accepted;
+      answer = answer;
       cause = cause;
-      all_faults = λ fault s. fault_told text r accepted cause fault s;
-      all_refusals = λ told b. run_told text r accepted cause told b;
+      all_answers = λ bytes i. all_answered (λ v. v.items) text json c.args.turns r answer cause bytes i;
+      all_stops = λ why i. all_stopped (λ v. v.items) text json c.args.turns r answer cause why i;
     }
 
 pub returns-in-Err : goal.returns-in-Err
 returns-in-Err c =
     let text = c.args.text.now in
-    let cause : IsRunStop text c.in-Err.stop = refused_run text c.in-Err.stop c.in-Err.ensures.cause in
+    let json = c.args.json.now in
+    let cause : IsInterpStop text json c.args.turns c.in-Err.stop = refused_stops text json c.args.turns c.in-Err.stop c.in-Err.ensures.cause in
     record {
-      dump = tt;
-      accepted = tt;
+      answer = tt;
       cause = cause;
-      all_faults = λ fault s. fault_told {X = Unit {0}} text (Err c.in-Err.stop) tt cause fault s;
-      all_refusals = λ told b. run_told {X = Unit {0}} text (Err c.in-Err.stop) tt cause told b;
+      all_answers = λ bytes i. all_answered {X = Unit {0}} (λ _. []) text json c.args.turns (Err c.in-Err.stop) tt cause bytes i;
+      all_stops = λ why i. all_stopped {X = Unit {0}} (λ _. []) text json c.args.turns (Err c.in-Err.stop) tt cause why i;
     }

@@ -1,7 +1,8 @@
-use Rattle.std.proofs.Common.{refl, inr, lit<, subst, arith}
+use Rattle.std.proofs.Common.{refl, inr, lit<, subst, arith, List, ℕ, Option}
 use Rattle.std.proofs.lemmas.Result.{err_from_is_err_and}
+use Rattle.cx_outside.specs.Reading.{Holds}
 use Rattle.cx_driver.specs.Commands.{interp}
-use Rattle.cx_driver.specs.Texts.{IsAcceptedText, IsRunStop}
+use Rattle.cx_driver.specs.Interpreted.{IsInterpAnswer, IsInterpStop}
 use Rattle.cx_driver.proofs.Counted.{HasCause-read}
 use Rattle.cx_driver.proofs.running.interpreted.Goals as goal
 
@@ -18,7 +19,15 @@ returns-in_err-data-clause-cause g c =
     rw (p.1, p.2) (HasCause-read (interp c.args.design.now c.args.json.now c.args.budget) (g.F.Files.held c.args.files.now) (g.F.Files.held c.read.new.files) (g.F.Files.faults c.args.files.now) (g.F.Files.faults c.read.new.files) (g.F.Files.faults c.read-2.new.files) c.args.json.now c.in_err-data.field-0.0 (1, lit< tt, refl) c.read.ensures.kept c.read.ensures.count c.in_err-data.ensures.cause)
 
 pub returns-in-Ok-clause-answer : goal.returns-in-Ok-clause-answer
-returns-in-Ok-clause-answer g c = (c.in-Ok.ensures.dump, (c.in_ok-text.text.items, c.in_ok-text.ensures.held, subst IsAcceptedText c.deref.ensures.value c.in-Ok.ensures.accepted))
+returns-in-Ok-clause-answer g c =
+    let Same : Option (List ℕ → Option (List ℕ)) → Type 0 = λ h. Holds h c.args.json.now c.in_ok-data.data.items in
+    let ByText : List ℕ → Type 0 = λ t. IsInterpAnswer t c.deref-2.result.now c.args.budget c.in-Ok.dump.items in
+    let ByData : List ℕ → Type 0 = λ d. IsInterpAnswer c.in_ok-text.text.items d c.args.budget c.in-Ok.dump.items in
+    (c.in_ok-text.text.items, c.in_ok-data.data.items, c.in_ok-text.ensures.held, subst Same c.read.ensures.kept c.in_ok-data.ensures.held, subst ByData c.deref-2.ensures.value (subst ByText c.deref.ensures.value c.in-Ok.ensures.answer))
 
 pub returns-clause-cause : goal.returns-clause-cause
-returns-clause-cause g c = inr (c.in_ok-text.text.items, c.in_ok-text.ensures.held, subst (λ t. IsRunStop t c.in-Err.stop) c.deref.ensures.value c.in-Err.ensures.cause)
+returns-clause-cause g c =
+    let Same : Option (List ℕ → Option (List ℕ)) → Type 0 = λ h. Holds h c.args.json.now c.in_ok-data.data.items in
+    let ByText : List ℕ → Type 0 = λ t. IsInterpStop t c.deref-2.result.now c.args.budget c.in-Err.stop in
+    let ByData : List ℕ → Type 0 = λ d. IsInterpStop c.in_ok-text.text.items d c.args.budget c.in-Err.stop in
+    inr (c.in_ok-text.text.items, c.in_ok-data.data.items, c.in_ok-text.ensures.held, subst Same c.read.ensures.kept c.in_ok-data.ensures.held, subst ByData c.deref-2.ensures.value (subst ByText c.deref.ensures.value c.in-Err.ensures.cause))

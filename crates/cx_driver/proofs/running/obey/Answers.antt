@@ -1,6 +1,15 @@
+use Rattle.std.proofs.Common.{List, ℕ, sym, subst}
+use Rattle.cx_outside.specs.Writing.{GrowsByPart}
+use Rattle.cx_driver.specs.Dumps.{IsAnswer}
 use Rattle.cx_driver.specs.Asked.{asked_of}
-use Rattle.cx_driver.proofs.CauseLemmas.{delivered, told_why, unread_file}
+use Rattle.cx_driver.proofs.CauseLemmas.{delivered, part_taken, told_why, unread_file}
 use Rattle.cx_driver.proofs.running.obey.Goals as goal
+
+pub returns-in-Ok-clause-part : goal.returns-in-Ok-clause-part
+returns-in-Ok-clause-part g c =
+    let Answers : List ℕ → Type 0 = λ t. IsAnswer (g.F.Files.held c.args.files.now) (asked_of c.args.command) t in
+    let Grows : List ℕ → Type 0 = λ t. GrowsByPart (g.O.Sink.written c.args.out.now) t (g.O.Sink.written c.deliver.new.out) in
+    λ e. part_taken Answers Grows c.deliver.result c.deref.result.now c.deliver.ensures.cases (subst Answers (sym c.deref.ensures.value) c.in-Ok.ensures.answer) e
 
 pub returns-in-Ok-clause-cause : goal.returns-in-Ok-clause-cause
 returns-in-Ok-clause-cause g c = λ r. absurd (delivered c.deliver.result c.deliver.ensures.cases r)

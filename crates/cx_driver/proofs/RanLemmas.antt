@@ -1,0 +1,69 @@
+-- What a run has come to, as it is told.
+use Rattle.std.proofs.Common.{◌≡◌, ◌⊎◌, inl, inr, ℕ, ◌<◌, List, [], ◌∷◌, map, length, Result, Ok, Err, IfOk, IfErr, refl, sym, ap, ◌∙◌, subst}
+use Rattle.std.proofs.lemmas.Option.{slice_get_within}
+use Rattle.cx_text.specs.Loading.{PlainMemory, plain_memory}
+use Rattle.cx_text.specs.declared.loading.LoadedMemory.{LoadedMemory}
+use Rattle.cx_data.specs.Dump.{dump_text}
+use Rattle.cx_meaning.specs.Answers as answers
+use Rattle.cx_meaning.specs.Cycles as cycles
+use Rattle.cx_meaning.specs.Designs.{PlainDesign}
+use Rattle.cx_meaning.specs.Instances.{State, paths_of, tree_of, words_of}
+use Rattle.cx_meaning.specs.Running.{run_main}
+use Rattle.cx_memory_words.specs.Words.{words_loaded, with_words}
+use Rattle.cx_design.specs.declared.actives.PortFault.{PortFault}
+use Rattle.cx_design.specs.PlainActives.{TellsFault}
+use Rattle.cx_state.specs.States.{PlainInstance, words_in}
+use Rattle.cx_interp.specs.declared.answers.Answer.{Answer}
+use Rattle.cx_interp.specs.declared.answers.Answer.TheVariants.{End, Fault, More}
+use Rattle.cx_interp.specs.Runs.{Answered}
+use Rattle.cx_driver.specs.declared.stops.Stop.{Stop}
+use Rattle.cx_driver.specs.declared.stops.Stop.TheVariants as stops
+use Rattle.cx_driver.specs.Interpreted.{fault_stop, told_of, IsRunAnswer, StopsRun}
+
+-- the words of what is loaded are those of its plain memories
+pub words_of_loaded : (ms : List LoadedMemory) → words_in ms ≡ words_loaded (map plain_memory ms)
+words_of_loaded [] = refl
+words_of_loaded (m ∷ ms) = ap (λ words. m.words.items ∷ words) (words_of_loaded ms)
+
+-- what an answer says of the run
+abbrev Meant : Type 0
+Meant = answers.Answer State cycles.Fault
+
+pub ended : (d : PlainDesign) (rows : List PlainInstance) (answer : Answer) (x : Meant) (turns : ℕ) → Answered d rows answer x → answer ≡ End turns → (after : State) × (x ≡ answers.End after turns)
+ended d rows answer x turns h e =
+    let Says : Answer → Type 0 = λ a. Answered d rows a x in
+    let own = subst Says e h in
+    (own.0, own.1)
+
+pub faulted : (d : PlainDesign) (rows : List PlainInstance) (answer : Answer) (x : Meant) (told : PortFault) (turn : ℕ) → Answered d rows answer x → answer ≡ Fault told turn
+    → (fault : cycles.Fault) × TellsFault (tree_of d) fault told × (x ≡ answers.Fault fault turn)
+faulted d rows answer x told turn h e =
+    let Says : Answer → Type 0 = λ a. Answered d rows a x in
+    subst Says e h
+
+pub unfinished : (d : PlainDesign) (rows : List PlainInstance) (answer : Answer) (x : Meant) → Answered d rows answer x → answer ≡ More → x ≡ answers.More
+unfinished d rows answer x h e =
+    let Says : Answer → Type 0 = λ a. Answered d rows a x in
+    subst Says e h
+
+-- the instance of a fault is one of the design
+pub fault_within : (d : PlainDesign) (fault : cycles.Fault) (told : PortFault) → TellsFault (tree_of d) fault told → told.instance < length (paths_of (tree_of d))
+fault_within d fault told t = slice_get_within (paths_of (tree_of d)) told.instance fault.path t.instance
+
+-- a run that ends is answered by its dump
+pub run_answers : {X : Type 0} (bytes : X → List ℕ) (d : PlainDesign) (ms : List PlainMemory) (budget turns : ℕ) (after : State) (r : Result X Stop) → run_main d (words_loaded ms) budget ≡ answers.End after turns
+    → IfOk r (λ x. bytes x ≡ dump_text turns (with_words ms (words_of (tree_of d) after))) → IfOk r (λ x. IsRunAnswer d ms budget (bytes x))
+run_answers bytes d ms budget turns after (Ok x) run h = ap (λ a. told_of d ms budget a) run ∙ ap (λ b. Ok b) (sym h)
+run_answers bytes d ms budget turns after (Err stop) run h = tt
+
+pub memory_stops : {X : Type 0} (d : PlainDesign) (ms : List PlainMemory) (budget : ℕ) (r : Result X Stop) → IfErr r (λ stop. stop ≡ stops.Memory) → IfErr r (StopsRun d ms budget)
+memory_stops d ms budget (Ok x) h = tt
+memory_stops d ms budget (Err stop) h = inl h
+
+pub fault_stops : (d : PlainDesign) (ms : List PlainMemory) (budget turn : ℕ) (fault : cycles.Fault) (stop : Stop) → run_main d (words_loaded ms) budget ≡ answers.Fault fault turn
+    → (stop ≡ stops.Memory) ⊎ (stop ≡ fault_stop d fault turn) → StopsRun d ms budget stop
+fault_stops d ms budget turn fault stop run (inl memory) = inl memory
+fault_stops d ms budget turn fault stop run (inr told) = inr (ap (λ a. told_of d ms budget a) run ∙ ap (λ s. Err s) (sym told))
+
+pub more_stops : (d : PlainDesign) (ms : List PlainMemory) (budget : ℕ) → run_main d (words_loaded ms) budget ≡ answers.More → StopsRun d ms budget (stops.More budget)
+more_stops d ms budget run = inr (ap (λ a. told_of d ms budget a) run)

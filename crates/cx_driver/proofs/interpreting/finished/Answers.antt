@@ -1,0 +1,31 @@
+use Rattle.std.proofs.Common.{All, sym, ap, ◌∙◌, subst}
+use Rattle.cx_text.specs.Loading.{FitsRows, plain_loaded}
+use Rattle.cx_data.specs.Dump.{dump_text}
+use Rattle.cx_data.specs.Widths.{HasWordWidth}
+use Rattle.cx_rules.specs.Externals.{external_rows}
+use Rattle.cx_design.specs.declared.designs.Design.{Design}
+use Rattle.cx_design.specs.PlainDesigns.{plain_design}
+use Rattle.cx_driver.proofs.RowWidths.{rows_have_width, widths_fit}
+use Rattle.cx_driver.proofs.interpreting.finished.Goals as goal
+
+pub memories-requires : goal.memories-requires
+memories-requires c =
+    let Fit : Design → Type 0 = λ d. FitsRows (external_rows (plain_design d)) (plain_loaded c.args.loaded) in
+    record {
+      run = (c.args.design.now, c.requires.run.0, c.requires.run.1, c.requires.run.2);
+      fits = subst Fit (sym c.requires.run.2.design) c.requires.fits;
+    }
+
+pub dump_of-requires : goal.dump_of-requires
+dump_of-requires c =
+    let d = c.args.ran.now.design.now in
+    record {
+      fits = c.memories.ensures.fits.whole;
+      widths = widths_fit (external_rows (plain_design d)) (plain_loaded c.memories.new.into) (rows_have_width (plain_design d) d.keeps) c.memories.ensures.fits;
+    }
+
+pub returns : goal.returns
+returns c = record {
+  answer = λ words budget after run is. c.in_ok-dump.ensures ∙ ap (λ ms. dump_text c.args.turns ms) (c.memories.ensures.words c.args.design.now words budget c.args.turns after run is);
+  cause = tt;
+}
