@@ -1,0 +1,113 @@
+//! Calls: the turns of the child, one more to end, and one in which registers are captured.
+
+use crate::runs::{FIVE, dump, interp, more};
+use cx_driver::Status;
+use std::test::Fail;
+
+const CELLS: &str =
+    "@external mem = std_mem_d1(32, 1, 1); c = dbl(); d = dbl(); n = nop(); q = quad(); e = acc(); f = bad();
+    k = std_reg(32); l = std_reg(32); b = std_reg(1); a = std_add(32); w = std_wire(32);";
+
+/// `sc`, `sk` and `se` store an output of `c`, the register `k` and an output of `e`; `k7` sets `k`. `g` calls `c` with a wire;
+/// `two` captures its output and one more; `mix` captures their sum; `clash` captures what conflicts.
+const WIRES: &str =
+    "group sc { mem.addr0 = 1'd0; mem.write_data = c.y; mem.write_en = 1'd1; sc[done] = mem.done; }
+    group sk { mem.addr0 = 1'd0; mem.write_data = k.out; mem.write_en = 1'd1; sk[done] = mem.done; }
+    group se { mem.addr0 = 1'd0; mem.write_data = e.y; mem.write_en = 1'd1; se[done] = mem.done; }
+    group k7 { k.in = 32'd7; k.write_en = 1'd1; k7[done] = k.done; }
+    w.in = k.out;
+    group g { c.x = w.out; c.go = 1'd1; g[done] = c.done; }
+    group two { c.x = 32'd5; c.go = !c.done ? 1'd1; k.in = c.y; k.write_en = c.done; l.in = a.out; a.left = c.y; a.right = 32'd1;
+        l.write_en = c.done ? 1'd1; two[done] = (l.done & k.done) ? 1'd1; }
+    group mix { c.x = k.out; c.go = 1'd1; k.in = a.out; a.left = k.out; a.right = c.y; k.write_en = c.done; mix[done] = k.done; }
+    group clash { c.x = 32'd5; c.go = 1'd1; k.in = c.y; k.in = 32'd1; k.write_en = c.done; clash[done] = k.done; }";
+
+/// `dbl` doubles in four turns, `nop` takes one, `quad` calls a `dbl` twice, `acc` adds in two, and `bad` has an output that nothing
+/// drives.
+const CHILDREN: &str =
+    "component dbl(x: 32) -> (y: 32) { cells { r = std_reg(32); a = std_add(32); } wires { y = r.out;
+    group p { r.in = x; r.write_en = 1'd1; p[done] = r.done; }
+    group q { a.left = r.out; a.right = r.out; r.in = a.out; r.write_en = 1'd1; q[done] = r.done; } } control { seq { p; q; } } }
+component nop() -> () { cells { } wires { } control { } }
+component quad(x: 32) -> (y: 32, odd: 1) { cells { d = dbl(); k = std_reg(32); b = std_reg(1); s = std_slice(32, 1); } wires {
+    y = k.out; odd = b.out; group t { s.in = x; b.in = s.out; b.write_en = 1'd1; t[done] = b.done; } }
+    control { seq { t; invoke d(x = x)(y = k.in); invoke d(x = k.out)(y = k.in); } } }
+component acc(x: 32) -> (y: 32) { cells { r = std_reg(32); a = std_add(32); } wires { y = r.out;
+    group p { a.left = r.out; a.right = x; r.in = a.out; r.write_en = 1'd1; p[done] = r.done; } } control { p; } }
+component bad(x: 32) -> (y: 32) { cells { r = std_reg(32); w = std_wire(32); } wires { y = w.out;
+    group p { r.in = x; r.write_en = 1'd1; p[done] = r.done; } } control { p; } }
+";
+
+/// Each control ends after so many turns with this word, and not with one turn less.
+#[test]
+fn turns(rt: HostRuntime) -> Result<(), Fail> {
+    let alloc = rt.alloc();
+    let cases = [
+        ("seq { invoke n()(); invoke n()(); }", 4, 5),
+        (
+            "seq { invoke c(x = 32'd3)(); invoke c(x = 32'd5)(); sc; }",
+            12,
+            10,
+        ),
+        ("seq { invoke c(x = 32'd3)(y = k.in); sk; }", 8, 6),
+        ("seq { invoke q(x = 32'd3)(y = k.in); sk; }", 18, 12),
+        (
+            "seq { invoke q(x = 32'd3)(y = k.in, odd = b.in); if b.out { sk; } }",
+            19,
+            12,
+        ),
+        (
+            "seq { invoke e(x = 32'd3)(); invoke e(x = 32'd4)(); repeat 3 { invoke e(x = 32'd10)(); } se; }",
+            17,
+            37,
+        ),
+        ("seq { k7; g; sc; }", 9, 14),
+        ("seq { two; sk; }", 8, 10),
+        ("seq { k7; mix; sk; }", 10, 21),
+        (
+            "seq { par { invoke c(x = 32'd3)(); invoke d(x = 32'd4)(y = k.in); } sc; }",
+            8,
+            6,
+        ),
+        (
+            "seq { k7; repeat 4 { invoke c(x = k.out)(y = k.in); } sk; }",
+            28,
+            112,
+        ),
+        ("seq { invoke k(in = 32'd9)(); sk; }", 4, 9),
+        ("seq { k7; invoke k(in = 32'd9)(out = l.in); sk; }", 7, 9),
+    ];
+    for (control, turns, word) in cases {
+        let parts = (CELLS, WIRES, control, CHILDREN);
+        let out = dump(alloc, turns, word)?;
+        let told = interp(alloc, parts, FIVE, turns)?;
+        assert!(rt; told.is(Status::Done, &out, ""), "{control}: {told:?}");
+        let less = turns.saturating_sub(1);
+        let err = more(alloc, less)?;
+        let told = interp(alloc, parts, FIVE, less)?;
+        assert!(rt; told.is(Status::More, "", &err), "{control}: {told:?}");
+    }
+    Ok(())
+}
+
+/// A fault of a child is the fault of the call, behind the name of its cell; a budget may end inside a child.
+#[test]
+fn stops(rt: HostRuntime) -> Result<(), Fail> {
+    let alloc = rt.alloc();
+    let cases = [
+        ("invoke c()();", Status::Fault, "fault undefined c.r.in 0\n"),
+        ("invoke q()();", Status::Fault, "fault undefined q.b.in 0\n"),
+        (
+            "invoke f(x = 32'd1)(y = k.in);",
+            Status::Fault,
+            "fault undefined k.in 2\n",
+        ),
+        ("clash;", Status::Fault, "fault conflict k.in 4\n"),
+        ("invoke q(x = 32'd3)();", Status::More, "more 9\n"),
+    ];
+    for (control, status, err) in cases {
+        let told = interp(alloc, (CELLS, WIRES, control, CHILDREN), FIVE, 9)?;
+        assert!(rt; told.is(status, "", err), "{control}: {told:?}");
+    }
+    Ok(())
+}
