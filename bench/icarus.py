@@ -1,0 +1,83 @@
+#!/usr/bin/env python3
+"""Runs the texts of the tests of `sim` that are valid for Icarus Verilog too by both, and compares the cycle and the words.
+
+    bench/icarus.py PROGRAM
+
+PROGRAM is the built calyx_cli; `iverilog` and `vvp` have to be installed (Debian's package iverilog). The texts are read out of
+crates/cx_run_tests/src/verilog.rt. Registers begin with 0, which Icarus Verilog is told.
+"""
+import json
+import os
+import re
+import subprocess
+import sys
+import tempfile
+
+HERE = os.path.dirname(os.path.abspath(__file__))
+STRING = r'"((?:[^"\\]|\\.)*)"'
+MAIN = ('module main(\n  input wire [0:0] clk,\n  input wire [0:0] reset,\n  input wire [0:0] go,\n  output wire [0:0] done\n);\n')
+BENCH = """module bench;
+  reg clk = 0, reset = 1, go = 0;
+  wire done;
+  integer cycle = 0, k;
+  main dut(.clk(clk), .reset(reset), .go(go), .done(done));
+  initial begin
+    {loads}
+    #1 clk = 1; #1 clk = 0; reset = 0; go = 1; #1;
+    while (!done) begin
+      clk = 1; #1 clk = 0; #1;
+      cycle = cycle + 1;
+    end
+    $display("%0d", cycle);
+    {dumps}
+    $finish;
+  end
+endmodule
+"""
+
+
+def texts():
+    """The texts of modules without memories, and that with one, with the words of it."""
+    with open(HERE + '/../crates/cx_run_tests/src/verilog.rt', encoding='utf-8') as file:
+        tests = file.read()
+    named = {name: text.replace('\\n', '\n') for name, text in re.findall(r'let (\w+) =\s*' + STRING, tests)}
+    over = re.search(r'fn external_memories.*?main_of\(\s*alloc,\s*' + STRING, tests, re.S).group(1).replace('\\n', '\n')
+    alone = [(name, MAIN + named[name] + 'endmodule\n', []) for name in ('counter', 'swap')]
+    memory = '// external t i 8 4\n' + named['memory'] + MAIN + over + 'endmodule\n'
+    return alone + [('memory', memory, [1, 2, 3, 4]), ('memory of other words', memory, [250, 7, 0, 99])]
+
+
+def by_sim(program, folder, text, words):
+    held = {'t': {'data': words, 'format': {'numeric_type': 'bitnum', 'is_signed': False, 'width': 8}}} if words else {}
+    with open(folder + '/v.v', 'w', encoding='ascii') as file:
+        file.write(text)
+    with open(folder + '/v.json', 'w', encoding='ascii') as file:
+        json.dump(held, file)
+    ran = subprocess.run([program, 'sim', folder + '/v.v', folder + '/v.json', '1000'], capture_output=True, check=True)
+    told = json.loads(ran.stdout)
+    return told['cycles'], told['memories'].get('t', [])
+
+
+def by_icarus(folder, text, words):
+    loads = ' '.join(f'dut.i.m[{k}] = {word};' for k, word in enumerate(words))
+    dumps = ' '.join(f'$display("%0d", dut.i.m[{k}]);' for k in range(len(words)))
+    zeros = re.sub(r'  reg (\[\d+:0\]) (\w+);', r'  reg \1 \2 = 0;', text)
+    with open(folder + '/b.v', 'w', encoding='ascii') as file:
+        file.write(zeros + BENCH.format(loads=loads, dumps=dumps))
+    subprocess.run(['iverilog', '-g2005', '-s', 'bench', '-o', folder + '/b.vvp', folder + '/b.v'], check=True)
+    ran = subprocess.run(['vvp', '-n', folder + '/b.vvp'], capture_output=True, check=True, text=True)
+    cycle, *held = [int(line) for line in ran.stdout.split('\n') if line.strip().isdigit()]
+    return cycle, held
+
+
+def main():
+    program = os.path.abspath(sys.argv[1])
+    with tempfile.TemporaryDirectory() as folder:
+        for name, text, words in texts():
+            ours, theirs = by_sim(program, folder, text, words), by_icarus(folder, text, words)
+            assert ours == theirs, (name, ours, theirs)
+            print(f'{name}: cycle {ours[0]}, words {ours[1]}')
+
+
+if __name__ == '__main__':
+    main()
