@@ -78,12 +78,23 @@ fn out_by(
     }
 }
 
-/// The first address port that an edge with these inputs compares with its size and finds out of range. It takes no memory.
-pub fn out_of_range(primitive: &Primitive, inputs: &[Option<Bits>]) -> Option<usize>
+/// The same by the name of a primitive.
+fn out_by_name(primitive: &Primitive, inputs: &[Option<Bits>]) -> Option<usize>
     ensures value { result ≡ (row_of primitive.now).out_of_range inputs.now }
 {
     match PrimitiveName::from_text(primitive.name().as_bytes()) {
         Some(name) => out_by(dimensions(name), enable(name), primitive.numbers(), inputs),
         None => None,
     }
+}
+
+/// The first address port that an edge with these inputs compares with its size and finds out of range. It takes no memory.
+pub fn out_of_range(primitive: &Primitive, inputs: &[Option<Bits>]) -> Option<usize>
+    ensures value { result ≡ (row_of primitive.now).out_of_range inputs.now }
+{
+    // a memory has a width, a size and an address width at least, and no other primitive has three numbers
+    if primitive.numbers().len() < 3 {
+        return None;
+    }
+    out_by_name(primitive, inputs)
 }

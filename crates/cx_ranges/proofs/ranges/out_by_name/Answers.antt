@@ -3,7 +3,7 @@ use Rattle.cx_prim.specs.PrimitiveNames.{IsNamed, name_text}
 use Rattle.cx_limits.specs.Dimensions.{dimensions_of}
 use Rattle.cx_ranges.specs.Ranges.{enable_of, out_by}
 use Rattle.cx_ranges.proofs.RangeLemmas.{found_range, unnamed_range}
-use Rattle.cx_ranges.proofs.ranges.out_of_range.Goals as goal
+use Rattle.cx_ranges.proofs.ranges.out_by_name.Goals as goal
 
 pub returns-in-Some : goal.returns-in-Some
 returns-in-Some c =
