@@ -1,19 +1,11 @@
 -- A value of a code is as wide as the code.
-use Rattle.std.proofs.Common.{◌≡◌, ℕ, ◌<◌, List, map, length, Some, option_map, slice_get, ap, ◌∙◌}
-use Rattle.std.proofs.lemmas.Option.{slice_get-get_or, slice_get-map}
-use Rattle.cx_bits.specs.BitVector.{BitVector}
-use Rattle.cx_veval.specs.declared.marks.Mark.{Mark}
-use Rattle.cx_veval.specs.declared.marks.Mark.TheVariants.{Known}
-use Rattle.cx_veval.specs.Search.{AllKnown, no_bits}
+use Rattle.std.proofs.Common.{◌+◌, option_map, slice_get, ap}
+use Rattle.cx_veval.specs.Arrays.{word_at, array_width}
+use Rattle.cx_veval.specs.Fits.{width_at}
 use Rattle.cx_veval.specs.Widths.{HaveWidths}
-use Rattle.cx_veval.proofs.Known.{code_width_is}
-
-module _ (values : List BitVector) where
-  abbrev marks : List Mark
-  marks = map (λ v. Known) values
-
-  all_known : AllKnown marks values
-  all_known f lt = slice_get-map (λ v. Known) values f ∙ ap (option_map (λ v. Known)) (slice_get-get_or values f no_bits lt)
+use Rattle.cx_veval.proofs.Widths.{code_in_width, word_width}
 
 pub code_has_width : HaveWidths
-code_has_width values arrays p c w v even width e = code_width_is (marks values) values (all_known values) arrays p c even w v width e
+code_has_width values arrays p c w v even width e =
+    code_in_width (λ k. slice_get values (p.nets + k)) (λ k. width_at values (p.nets + k)) (λ k x i. ap (option_map (λ y. y.width)) i) (λ a. word_at arrays (p.arrays + a))
+    (λ a. array_width arrays (p.arrays + a)) (λ a i u has. word_width arrays even (p.arrays + a) i u has) c w v width e

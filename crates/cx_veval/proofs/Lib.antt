@@ -2,6 +2,6 @@ pub mod Widths
 pub mod Agreement
 pub mod Waiting
 pub mod Steps
-pub mod Known
+pub mod SetSteps
 pub mod StoreSteps
 pub mod CodeWidths

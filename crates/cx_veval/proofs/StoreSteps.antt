@@ -8,12 +8,10 @@ use Rattle.cx_veval.specs.declared.stores.Store.{Store}
 use Rattle.cx_veval.specs.declared.stores.Write.{Write}
 use Rattle.cx_veval.specs.Arrays.{IsEven, array_width}
 use Rattle.cx_veval.specs.declared.codes.Code.{Code}
-use Rattle.cx_veval.specs.declared.marks.Mark.{Mark}
 use Rattle.cx_veval.specs.Edges.{code_of, width_of, numbered}
-use Rattle.cx_veval.specs.Search.{AllKnown}
 use Rattle.cx_veval.specs.Stores.{PlainWords, plain_words, guarded, write_of, written, write_word, after_writes, StoresFit, WritesFit}
 use Rattle.cx_veval.proofs.Widths.{array_there, the_some}
-use Rattle.cx_veval.proofs.Known.{code_width_is}
+use Rattle.cx_veval.proofs.CodeWidths.{code_has_width}
 
 -- what is read past the last store
 abbrev pub no_store : Store
@@ -95,9 +93,9 @@ guarded_is (Some g) (Some i) None w e = cc
 guarded_is (Some g) (Some i) (Some v) w e = ap Some (guarded_value (g.value == 0) g i v w e)
 
 -- what stores write has the widths of their arrays
-pub writes-fit : (marks : List Mark) (values : List BitVector) (arrays : List Words) (codes : List Code) (stores : List Store) (writes : List (Option Write)) → AllKnown marks values → IsEven arrays
+pub writes-fit : (values : List BitVector) (arrays : List Words) (codes : List Code) (stores : List Store) (writes : List (Option Write)) → IsEven arrays
     → StoresFit codes values arrays stores → writes ≡ map (write_of codes values arrays) stores → WritesFit arrays stores writes
-writes-fit marks values arrays codes stores writes known even fits is = λ j x w there e.
+writes-fit values arrays codes stores writes even fits is = λ j x w there e.
     let f = fits j x there in
     let at : Some (write_of codes values arrays x) ≡ Some (Some w) =
     sym (ap (option_map (write_of codes values arrays)) there) ∙ sym (slice_get-map (write_of codes values arrays) stores j) ∙ sym (ap (λ (l : List (Option Write)). slice_get l j) is) ∙ e in
@@ -105,7 +103,7 @@ writes-fit marks values arrays codes stores writes known even fits is = λ j x w
     let value = guarded_is (numbered codes values arrays x.place x.guard) (numbered codes values arrays x.place x.index) (numbered codes values arrays x.place x.value) w given in
     let code : code_of values arrays x.place f.value.0 ≡ Some w.value = sym (ap (option_and_then (code_of values arrays x.place)) f.value.1) ∙ value in
     let u = the_some (width_of values arrays x.place f.value.0) f.value.2 in
-    let width : w.value.width ≡ u.0 = code_width_is marks values known arrays x.place f.value.0 even u.0 w.value u.1 code in
+    let width : w.value.width ≡ u.0 = code_has_width values arrays x.place f.value.0 u.0 w.value even u.1 code in
     sym (f.wide f.value.0 f.value.1) ∙ u.1 ∙ ap Some (sym width)
 
 -- what the store of a number writes fits

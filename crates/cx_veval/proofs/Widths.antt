@@ -15,9 +15,10 @@ use Rattle.cx_veval.specs.declared.marks.Mark.TheVariants.{Unseen, Open, Known}
 use Rattle.cx_veval.specs.declared.marks.Found.{Found}
 use Rattle.cx_veval.specs.declared.marks.Found.TheVariants.{Worth, Waits}
 use Rattle.cx_veval.specs.Arrays.{word_of, word_at, array_width, IsEven}
-use Rattle.cx_veval.specs.Codes.{code_width}
+use Rattle.cx_veval.specs.Codes.{code_in, code_width}
 use Rattle.cx_veval.specs.Fits.{width_at}
-use Rattle.cx_veval.specs.Looks.{found_map, found_and_then, look, marked, seen, seen_from, words_from, widths_from, array_widths_from}
+use Rattle.cx_veval.specs.Looks.{found_map, look, marked, seen, seen_from, words_from, widths_from, array_widths_from}
+use Rattle.cx_veval.proofs.Agreement.{worth_of, worth_look}
 
 pub and_first : {A B : Type 0} (f : A → Option B) (o : Option A) → IsSome (option_and_then f o) → IsSome o
 and_first f None s = s
@@ -41,13 +42,9 @@ pub bind_case : {A B P : Type 0} (f : A → Option B) (o : Option A) (y : B) →
 bind_case f None y e h = cc
 bind_case f (Some x) y e h = h x refl e
 
-pub found_bind_case : {P : Type 0} (f : BitVector → Found) (o : Found) (v : BitVector) → found_and_then f o ≡ Worth v → ((x : BitVector) → o ≡ Worth x → f x ≡ Worth v → P) → P
-found_bind_case f (Waits m) v e h = cc
-found_bind_case f (Worth x) v e h = h x refl e
-
-pub found_map_case : {P : Type 0} (f : BitVector → BitVector) (o : Found) (v : BitVector) → found_map f o ≡ Worth v → ((x : BitVector) → o ≡ Worth x → f x ≡ v → P) → P
-found_map_case f (Waits m) v e h = cc
-found_map_case f (Worth x) v e h = let same : f x ≡ v = cc in h x refl same
+pub map_case : {P : Type 0} (f : BitVector → BitVector) (o : Option BitVector) (v : BitVector) → option_map f o ≡ Some v → ((x : BitVector) → o ≡ Some x → f x ≡ v → P) → P
+map_case f None v e h = cc
+map_case f (Some x) v e h = let same : f x ≡ v = cc in h x refl same
 
 pub if_some : {A P : Type 0} (t : Bool) (x y : A) → (if t then Some x else None) ≡ Some y → (t ≡ true → x ≡ y → P) → P
 if_some true x y e h = let same : x ≡ y = cc in h refl same
@@ -90,48 +87,60 @@ operate_width Greater x y = refl
 operate_width AtMost x y = refl
 operate_width AtLeast x y = refl
 
-module _ (nets : ℕ → Found) (nw : ℕ → Option ℕ) (nets_have : (k : ℕ) (v : BitVector) → nets k ≡ Worth v → nw k ≡ Some v.width)
+module _ (nets : ℕ → Option BitVector) (nw : ℕ → Option ℕ) (nets_have : (k : ℕ) (v : BitVector) → nets k ≡ Some v → nw k ≡ Some v.width)
     (words : ℕ → ℕ → BitVector) (aw : ℕ → Option ℕ) (words_have : (a i w : ℕ) → aw a ≡ Some w → (words a i).width ≡ w) where
-  -- what a code gives has the code's width
-  pub look_width : (c : Code) (w : ℕ) (v : BitVector) → code_width nw aw c ≡ Some w → look nets words c ≡ Worth v → v.width ≡ w
-  look_width (Net k) w v e l = let h = nets_have k v l in let same : v.width ≡ w = cc in same
-  look_width (Literal b) w v e l = let same : b ≡ v = cc in let width : b.width ≡ w = cc in ap (λ x. x.width) (sym same) ∙ width
-  look_width (Slice k high low) w v e l =
+  -- a value of a code has the code's width
+  pub code_in_width : (c : Code) (w : ℕ) (v : BitVector) → code_width nw aw c ≡ Some w → code_in nets words c ≡ Some v → v.width ≡ w
+  code_in_width (Net k) w v e l = let h = nets_have k v l in let same : v.width ≡ w = cc in same
+  code_in_width (Literal b) w v e l = let same : b ≡ v = cc in let width : b.width ≡ w = cc in ap (λ x. x.width) (sym same) ∙ width
+  code_in_width (Slice k high low) w v e l =
       bind_case (λ u. part_width u high low) (nw k) w e (λ u at fits.
-      found_map_case (part_of high low) (nets k) v l (λ x is made.
+      map_case (part_of high low) (nets k) v l (λ x is made.
       ap (λ y. y.width) (sym made) ∙ (part_is u high low w fits).2))
-  look_width (Item' a p i) w v e l =
+  code_in_width (Item' a p i) w v e l =
       bind_case (λ u. aw a) (code_width nw aw i) w e (λ u at has.
-      found_map_case (λ x. words a x.value) (look nets words i) v l (λ x is made.
+      map_case (λ x. words a x.value) (code_in nets words i) v l (λ x is made.
       ap (λ y. y.width) (sym made) ∙ words_have a x.value w has))
-  look_width (Binary' op p a q b) w v e l =
+  code_in_width (Binary' op p a q b) w v e l =
       bind_case (λ u. option_and_then (applied_width op u) (code_width nw aw b)) (code_width nw aw a) w e (λ u at rest.
       bind_case (applied_width op u) (code_width nw aw b) w rest (λ t there fits.
-      found_bind_case (λ x. found_map (operate op x) (look nets words b)) (look nets words a) v l (λ x is more.
-      found_map_case (operate op x) (look nets words b) v more (λ y is' made.
-      ap (λ z. z.width) (sym made) ∙ operate_width op x y ∙ ap (λ n. if is_comparison op then 1 else n) (look_width a u x at is) ∙ (applied_is op u t w fits).1))))
-  look_width (Not' p a) w v e l =
-      found_map_case inverted (look nets words a) v l (λ x is made. ap (λ y. y.width) (sym made) ∙ look_width a w x e is)
-  look_width (Choose' p c q a r b) w v e l =
+      bind_case (λ x. option_map (operate op x) (code_in nets words b)) (code_in nets words a) v l (λ x is more.
+      map_case (operate op x) (code_in nets words b) v more (λ y is' made.
+      ap (λ z. z.width) (sym made) ∙ operate_width op x y ∙ ap (λ n. if is_comparison op then 1 else n) (code_in_width a u x at is) ∙ (applied_is op u t w fits).1))))
+  code_in_width (Not' p a) w v e l =
+      map_case inverted (code_in nets words a) v l (λ x is made. ap (λ y. y.width) (sym made) ∙ code_in_width a w x e is)
+  code_in_width (Choose' p c q a r b) w v e l =
       bind_case (λ t. option_and_then (λ u. option_and_then (chosen_width t u) (code_width nw aw b)) (code_width nw aw a)) (code_width nw aw c) w e (λ t at rest.
       bind_case (λ u. option_and_then (chosen_width t u) (code_width nw aw b)) (code_width nw aw a) w rest (λ u at' rest'.
       bind_case (chosen_width t u) (code_width nw aw b) w rest' (λ o at'' fits.
-      found_bind_case (λ x. if x.value == 0 then look nets words b else look nets words a) (look nets words c) v l (λ x is more.
+      bind_case (λ x. if x.value == 0 then code_in nets words b else code_in nets words a) (code_in nets words c) v l (λ x is more.
       let same = chosen_is t u o w fits in
-      side (x.value == 0) u o (λ is'. look_width a u v at' is') (λ is'. look_width b o v at'' is') same more))))
+      side (x.value == 0) u o (λ is'. code_in_width a u v at' is') (λ is'. code_in_width b o v at'' is') same more))))
     where
-      side : (zero : Bool) (u o : ℕ) → (look nets words a ≡ Worth v → v.width ≡ u) → (look nets words b ≡ Worth v → v.width ≡ o) → (u ≡ o) × (u ≡ w) → (if zero then look nets words b else look nets words a) ≡ Worth v → v.width ≡ w
+      side : (zero : Bool) (u o : ℕ) → (code_in nets words a ≡ Some v → v.width ≡ u) → (code_in nets words b ≡ Some v → v.width ≡ o) → (u ≡ o) × (u ≡ w)
+          → (if zero then code_in nets words b else code_in nets words a) ≡ Some v → v.width ≡ w
       side true u o one other same more = other more ∙ sym same.0 ∙ same.1
       side false u o one other same more = one more ∙ same.1
-  look_width (Cat' p a q b) w v e l =
+  code_in_width (Cat' p a q b) w v e l =
       bind_case (λ u. option_and_then (joined_width u) (code_width nw aw b)) (code_width nw aw a) w e (λ u at rest.
       bind_case (joined_width u) (code_width nw aw b) w rest (λ t there fits.
-      found_bind_case (λ x. found_map (joined x) (look nets words b)) (look nets words a) v l (λ x is more.
-      found_map_case (joined x) (look nets words b) v more (λ y is' made.
-      let left = look_width a u x at is in
-      let right = look_width b t y there is' in
+      bind_case (λ x. option_map (joined x) (code_in nets words b)) (code_in nets words a) v l (λ x is more.
+      map_case (joined x) (code_in nets words b) v more (λ y is' made.
+      let left = code_in_width a u x at is in
+      let right = code_in_width b t y there is' in
       let whole = (joined_is u t w fits).1 in
       ap (λ z. z.width) (sym made) ∙ ap (λ n. n + y.width) left ∙ ap (λ n. u + n) right ∙ whole))))
+
+worth_is : (o : Found) (v : BitVector) → worth_of o ≡ Some v → o ≡ Worth v
+worth_is (Worth x) v e = let same : x ≡ v = cc in ap Worth same
+worth_is (Waits m) v e = cc
+
+module _ (nets : ℕ → Found) (nw : ℕ → Option ℕ) (nets_have : (k : ℕ) (v : BitVector) → nets k ≡ Worth v → nw k ≡ Some v.width)
+    (words : ℕ → ℕ → BitVector) (aw : ℕ → Option ℕ) (words_have : (a i w : ℕ) → aw a ≡ Some w → (words a i).width ≡ w) where
+  -- what a look at a code finds has the code's width
+  pub look_width : (c : Code) (w : ℕ) (v : BitVector) → code_width nw aw c ≡ Some w → look nets words c ≡ Worth v → v.width ≡ w
+  look_width c w v e l =
+      code_in_width (λ k. worth_of (nets k)) nw (λ k x i. nets_have k x (worth_is (nets k) x i)) words aw words_have c w v e (sym (worth_look nets words c) ∙ ap worth_of l)
 
 marked_known : (o : Option Mark) (p : Option BitVector) (f : ℕ) (v : BitVector) → marked o p f ≡ Worth v → (o ≡ Some Known) × (p ≡ Some v)
 marked_known None p f v e = cc
@@ -173,6 +182,32 @@ net_there values f s = go (slice_get values f) refl s
     go None is s = cc
     go (Some x) is s = slice_get_within values f x is
 
+-- the value of a net that was read
+pub net_read : (values : List BitVector) (start k f : ℕ) (v : BitVector) → f ≡ start + k → IsSome (width_at values (start + k)) → v ≡ get_or values f v → slice_get values (start + k) ≡ Some v
+net_read values start k f v same some is =
+    slice_get_read values (length values) (start + k) v refl (net_there values (start + k) some) (is ∙ ap (λ j. get_or values j v) same)
+
+-- operands of the widths that an operator asks for
+pub operands_same : (op : Operator) (o p : Option ℕ) (x y : BitVector) → IsSome (option_and_then (λ v. option_and_then (applied_width op v) p) o)
+    → ((w : ℕ) → o ≡ Some w → x.width ≡ w) → ((w : ℕ) → p ≡ Some w → y.width ≡ w) → x.width ≡ y.width
+operands_same op o p x y s left right =
+    let whole = the_some (option_and_then (λ v. option_and_then (applied_width op v) p) o) s in
+    bind_case (λ v. option_and_then (applied_width op v) p) o whole.0 whole.1 (λ u at rest.
+    bind_case (applied_width op u) p whole.0 rest (λ t there fits.
+    left u at ∙ (applied_is op u t whole.0 fits).0 ∙ sym (right t there)))
+
+-- operands that are not too wide to be joined
+pub operands_within : (o p : Option ℕ) (x y : BitVector) → IsSome (option_and_then (λ v. option_and_then (joined_width v) p) o)
+    → ((w : ℕ) → o ≡ Some w → x.width ≡ w) → ((w : ℕ) → p ≡ Some w → y.width ≡ w) → x.width + y.width ≤ 128
+operands_within o p x y s left right =
+    let whole = the_some (option_and_then (λ v. option_and_then (joined_width v) p) o) s in
+    bind_case (λ v. option_and_then (joined_width v) p) o whole.0 whole.1 (λ u at rest.
+    bind_case (joined_width u) p whole.0 rest (λ t there fits.
+    let one = left u at in
+    let other = right t there in
+    let within = (joined_is u t whole.0 fits).0 in
+    omega arith))
+
 -- What the parts of a code ask for.
 module _ (marks : List Mark) (values : List BitVector) (arrays : List Words) (start first : ℕ) (even : IsEven arrays) where
   abbrev from : ℕ → Found
@@ -190,31 +225,25 @@ module _ (marks : List Mark) (values : List BitVector) (arrays : List Words) (st
 
   pub binary_same : (op : Operator) (a b : Code) (x y : BitVector) → IsSome (option_and_then (λ v. option_and_then (applied_width op v) (width b)) (width a))
       → look from words a ≡ Worth x → look from words b ≡ Worth y → x.width ≡ y.width
-  binary_same op a b x y s l r =
-      let whole = the_some (option_and_then (λ v. option_and_then (applied_width op v) (width b)) (width a)) s in
-      bind_case (λ v. option_and_then (applied_width op v) (width b)) (width a) whole.0 whole.1 (λ u at rest.
-      bind_case (applied_width op u) (width b) whole.0 rest (λ t there fits.
-      part_width_is a u x at l ∙ (applied_is op u t whole.0 fits).0 ∙ sym (part_width_is b t y there r)))
+  binary_same op a b x y s l r = operands_same op (width a) (width b) x y s (λ w e. part_width_is a w x e l) (λ w e. part_width_is b w y e r)
 
   pub cat_within : (a b : Code) (x y : BitVector) → IsSome (option_and_then (λ v. option_and_then (joined_width v) (width b)) (width a))
       → look from words a ≡ Worth x → look from words b ≡ Worth y → x.width + y.width ≤ 128
-  cat_within a b x y s l r =
-      let whole = the_some (option_and_then (λ v. option_and_then (joined_width v) (width b)) (width a)) s in
-      bind_case (λ v. option_and_then (joined_width v) (width b)) (width a) whole.0 whole.1 (λ u at rest.
-      bind_case (joined_width u) (width b) whole.0 rest (λ t there fits.
-      let left = part_width_is a u x at l in
-      let right = part_width_is b t y there r in
-      let within = (joined_is u t whole.0 fits).0 in
-      omega arith))
+  cat_within a b x y s l r = operands_within (width a) (width b) x y s (λ w e. part_width_is a w x e l) (λ w e. part_width_is b w y e r)
 
 -- the word of an array that was read
+pub word_read : (arrays : List Words) (first a k at : ℕ) (r : BitVector) (x : Words) → k ≡ first + a → IsSome (array_width arrays (first + a)) → x ≡ get_or arrays k x → r ≡ word_of x at
+    → r ≡ word_at arrays (first + a) at
+word_read arrays first a k at r x same some is word =
+    let lt : first + a < length arrays = array_there arrays (first + a) some in
+    let get : slice_get arrays (first + a) ≡ Some x = slice_get_read arrays (length arrays) (first + a) x refl lt (is ∙ ap (λ j. get_or arrays j x) same) in
+    word ∙ sym (ap (λ o. unwrap_or (option_map (λ y. word_of y at) o) (record { width = 0; value = 0 })) get)
+
 pub item_found : (nets : ℕ → Found) (arrays : List Words) (first a k : ℕ) (i : Code) (at r : BitVector) (x : Words) → k ≡ first + a → look nets (words_from arrays first) i ≡ Worth at
     → IsSome (array_width arrays (first + a)) → x ≡ get_or arrays k x → r ≡ word_of x at.value
     → Worth r ≡ found_map (λ y. word_at arrays (first + a) y.value) (look nets (words_from arrays first) i)
 item_found nets arrays first a k i at r x same found some is word =
-    let lt : first + a < length arrays = array_there arrays (first + a) some in
-    let get : slice_get arrays (first + a) ≡ Some x = slice_get_read arrays (length arrays) (first + a) x refl lt (is ∙ ap (λ j. get_or arrays j x) same) in
-    ap Worth (word ∙ sym (ap (λ o. unwrap_or (option_map (λ y. word_of y at.value) o) (record { width = 0; value = 0 })) get)) ∙ sym (ap (found_map (λ y. word_at arrays (first + a) y.value)) found)
+    ap Worth (word_read arrays first a k at.value r x same some is word) ∙ sym (ap (found_map (λ y. word_at arrays (first + a) y.value)) found)
 
 pub item_there : (nets : ℕ → Option ℕ) (arrays : ℕ → Option ℕ) (a : ℕ) (i : Code) → IsSome (option_and_then (λ v. arrays a) (code_width nets arrays i)) → IsSome (arrays a)
 item_there nets arrays a i s = go (code_width nets arrays i) s

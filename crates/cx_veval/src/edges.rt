@@ -3,11 +3,10 @@
 ghost use Rattle.std.specs.Prelude.{◌≡◌};
 ghost use Rattle.cx_veval.specs.Arrays.{IsEven};
 ghost use Rattle.cx_veval.specs.Edges.{SetsFit, after_sets};
-ghost use Rattle.cx_veval.specs.Search.{AllKnown, SameWidths};
+ghost use Rattle.cx_veval.specs.Search.{SameWidths};
 
 use crate::arrays::Words;
 use crate::codes::{Code, Place};
-use crate::marks::Mark;
 use crate::values::settled;
 use cx_bits::Bits;
 
@@ -23,12 +22,10 @@ pub struct Set {
 pub fn set_registers(
     codes: &[Code],
     sets: &[Set],
-    marks: &[Mark],
     values: &[Bits],
     arrays: &[Words],
     registers: &mut [Bits],
 )
-    requires known { AllKnown marks.now values.now }
     requires even { IsEven arrays.now }
     requires fits { SetsFit codes.now values.now arrays.now sets.now }
     requires widths { SameWidths registers.old values.now }
@@ -36,7 +33,7 @@ pub fn set_registers(
     ensures widths { SameWidths registers.new values.now }
 {
     for set in sets {
-        let value = settled(marks, values, arrays, set.place, &codes[set.code as usize]);
+        let value = settled(values, arrays, set.place, &codes[set.code as usize]);
         registers[set.net as usize] = value;
     }
 }

@@ -3,12 +3,10 @@
 ghost use Rattle.std.specs.Prelude.{◌≡◌, ℕ, ◌<◌, length, map, slice_get, Some};
 ghost use Rattle.cx_veval.specs.Arrays.{IsEven, array_width};
 ghost use Rattle.cx_veval.specs.Stores.{StoreFits, StoresFit, WritesFit, plain_words, write_of, written, write_word, after_writes};
-ghost use Rattle.cx_veval.specs.Search.{AllKnown};
 ghost use Rattle.cx_veval.specs.declared.stores.Write.{Write};
 
 use crate::arrays::Words;
 use crate::codes::{Code, Place};
-use crate::marks::Mark;
 use crate::values::settled;
 use cx_bits::Bits;
 
@@ -30,42 +28,17 @@ pub struct Write {
 }
 
 /// What a store writes; None where its guard is 0.
-fn write_by(
-    codes: &[Code],
-    store: Store,
-    marks: &[Mark],
-    values: &[Bits],
-    arrays: &[Words],
-) -> Option<Write>
-    requires known { AllKnown marks.now values.now }
+fn write_by(codes: &[Code], store: Store, values: &[Bits], arrays: &[Words]) -> Option<Write>
     requires even { IsEven arrays.now }
     requires fits { StoreFits codes.now values.now arrays.now store }
     ensures { result ≡ write_of codes.now values.now arrays.now store }
 {
-    let guard = settled(
-        marks,
-        values,
-        arrays,
-        store.place,
-        &codes[store.guard as usize],
-    );
+    let guard = settled(values, arrays, store.place, &codes[store.guard as usize]);
     if guard.value() == 0 {
         return None;
     }
-    let index = settled(
-        marks,
-        values,
-        arrays,
-        store.place,
-        &codes[store.index as usize],
-    );
-    let value = settled(
-        marks,
-        values,
-        arrays,
-        store.place,
-        &codes[store.value as usize],
-    );
+    let index = settled(values, arrays, store.place, &codes[store.index as usize]);
+    let value = settled(values, arrays, store.place, &codes[store.value as usize]);
     Some(Write {
         index: index.value(),
         value,
@@ -76,12 +49,10 @@ fn write_by(
 pub fn look_at_stores(
     codes: &[Code],
     stores: &[Store],
-    marks: &[Mark],
     values: &[Bits],
     arrays: &[Words],
     writes: &mut [Option<Write>],
 )
-    requires known { AllKnown marks.now values.now }
     requires even { IsEven arrays.now }
     requires fits { StoresFit codes.now values.now arrays.now stores.now }
     requires long { length writes.old ≡ length stores.now }
@@ -89,7 +60,7 @@ pub fn look_at_stores(
     ensures fits { WritesFit arrays.now stores.now writes.new }
 {
     for (number, store) in stores.iter().enumerate() {
-        writes[number] = write_by(codes, *store, marks, values, arrays);
+        writes[number] = write_by(codes, *store, values, arrays);
     }
 }
 

@@ -5,7 +5,6 @@ ghost use Rattle.cx_veval.specs.Codes.{code_width};
 ghost use Rattle.cx_veval.specs.Arrays.{IsEven};
 ghost use Rattle.cx_veval.specs.Looks.{look, seen_from, words_from, widths_from, array_widths_from};
 ghost use Rattle.cx_veval.specs.Edges.{code_of, width_of};
-ghost use Rattle.cx_veval.specs.Search.{AllKnown};
 
 use crate::arrays::{Words, word};
 use crate::codes::{Code, Place};
@@ -69,14 +68,36 @@ pub fn value(marks: &[Mark], values: &[Bits], arrays: &[Words], place: Place, co
 }
 
 /// What a code of an instance gives where all nets have their values.
-pub fn settled(marks: &[Mark], values: &[Bits], arrays: &[Words], place: Place, code: &Code) -> Bits
-    requires known { AllKnown marks.now values.now }
+pub fn settled(values: &[Bits], arrays: &[Words], place: Place, code: &Code) -> Bits
     requires even { IsEven arrays.now }
     requires fits { IsSome (width_of values.now arrays.now place code.now) }
     ensures { code_of values.now arrays.now place code.now ≡ Some result }
 {
-    match value(marks, values, arrays, place, code) {
-        Found::Worth(found) => found,
-        Found::Waits(_) => unreachable!(),
+    match code {
+        Code::Net(k) => values[number(place.nets, *k)],
+        Code::Literal(bits) => *bits,
+        Code::Slice(k, high, low) => part(values[number(place.nets, *k)], *high, *low),
+        Code::Item(a, index) => {
+            let at = settled(values, arrays, place, index);
+            word(&arrays[number(place.arrays, *a)], at)
+        }
+        Code::Binary(op, left, right) => {
+            let x = settled(values, arrays, place, left);
+            let y = settled(values, arrays, place, right);
+            operate(*op, x, y)
+        }
+        Code::Not(inner) => settled(values, arrays, place, inner).not(),
+        Code::Choose(test, one, other) => {
+            if settled(values, arrays, place, test).value() == 0 {
+                settled(values, arrays, place, other)
+            } else {
+                settled(values, arrays, place, one)
+            }
+        }
+        Code::Cat(high, low) => {
+            let x = settled(values, arrays, place, high);
+            let y = settled(values, arrays, place, low);
+            x.cat(y)
+        }
     }
 }

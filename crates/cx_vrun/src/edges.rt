@@ -3,19 +3,16 @@
 ghost use Rattle.std.specs.Prelude.{◌≡◌, ℕ, [], length, map};
 ghost use Rattle.cx_veval.specs.Arrays.{IsEven, array_width};
 ghost use Rattle.cx_veval.specs.Edges.{SetsFit};
-ghost use Rattle.cx_veval.specs.Search.{AllKnown, SameWidths};
+ghost use Rattle.cx_veval.specs.Search.{SameWidths};
 ghost use Rattle.cx_veval.specs.Stores.{StoresFit, plain_words, write_of, after_writes};
 ghost use Rattle.cx_vrun.specs.Machines.{IsAfter, KeepsWidths};
 
 use crate::machines::{Bench, Machine};
 use cx_bits::Bits;
-use cx_veval::{
-    Code, Mark, Store, Stored, Words, Write, look_at_stores, set_registers, store_words,
-};
+use cx_veval::{Code, Store, Stored, Words, Write, look_at_stores, set_registers, store_words};
 
 /// The edge with reset.
 pub fn reset_edge(machine: &Machine, bench: &Bench, stored: &mut Stored)
-    requires known { AllKnown bench.now.marks.items bench.now.values.items }
     requires widths { SameWidths stored.old.nets.items bench.now.values.items }
     requires even { IsEven stored.old.arrays.items }
     requires sets { SetsFit machine.now.nets.codes.items bench.now.values.items stored.old.arrays.items machine.now.resets.items }
@@ -25,7 +22,6 @@ pub fn reset_edge(machine: &Machine, bench: &Bench, stored: &mut Stored)
     set_registers(
         &machine.nets.codes,
         &machine.resets,
-        &bench.marks,
         &bench.values,
         &stored.arrays,
         &mut stored.nets,
@@ -36,12 +32,10 @@ pub fn reset_edge(machine: &Machine, bench: &Bench, stored: &mut Stored)
 fn store_all(
     codes: &[Code],
     stores: &[Store],
-    marks: &[Mark],
     values: &[Bits],
     writes: &mut [Option<Write>],
     arrays: &mut [Words],
 )
-    requires known { AllKnown marks.now values.now }
     requires even { IsEven arrays.old }
     requires fits { StoresFit codes.now values.now arrays.old stores.now }
     requires long { length writes.old ≡ length stores.now }
@@ -49,13 +43,12 @@ fn store_all(
     ensures even { IsEven arrays.new }
     ensures widths { (a : ℕ) → array_width arrays.new a ≡ array_width arrays.old a }
 {
-    look_at_stores(codes, stores, marks, values, arrays, writes);
+    look_at_stores(codes, stores, values, arrays, writes);
     store_words(stores, writes, arrays);
 }
 
 /// An edge without reset.
 pub fn edge(machine: &Machine, bench: &mut Bench, stored: &mut Stored)
-    requires known { AllKnown bench.old.marks.items bench.old.values.items }
     requires widths { SameWidths stored.old.nets.items bench.old.values.items }
     requires even { IsEven stored.old.arrays.items }
     requires sets { SetsFit machine.now.nets.codes.items bench.old.values.items stored.old.arrays.items machine.now.sets.items }
@@ -71,7 +64,6 @@ pub fn edge(machine: &Machine, bench: &mut Bench, stored: &mut Stored)
     set_registers(
         &machine.nets.codes,
         &machine.sets,
-        &bench.marks,
         &bench.values,
         &stored.arrays,
         &mut stored.nets,
@@ -79,7 +71,6 @@ pub fn edge(machine: &Machine, bench: &mut Bench, stored: &mut Stored)
     store_all(
         &machine.nets.codes,
         &machine.stores,
-        &bench.marks,
         &bench.values,
         &mut bench.writes,
         &mut stored.arrays,

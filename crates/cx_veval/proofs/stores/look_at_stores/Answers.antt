@@ -11,4 +11,4 @@ write_by-requires-clause-fits c = c.requires.fits c.loop-number.number _ (slice_
 pub returns-clause-fits : goal.returns-clause-fits
 returns-clause-fits c =
     let whole : c.loop-number.writes ≡ map (write_of c.args.codes.now c.args.values.now c.args.arrays.now) c.args.stores.now = grind (arith, common_steps) in
-    writes-fit c.args.marks.now c.args.values.now c.args.arrays.now c.args.codes.now c.args.stores.now c.loop-number.writes c.requires.known c.requires.even c.requires.fits whole
+    writes-fit c.args.values.now c.args.arrays.now c.args.codes.now c.args.stores.now c.loop-number.writes c.requires.even c.requires.fits whole
