@@ -165,7 +165,7 @@ def seconds(program, folder, shape):
     call = [program, 'interp', folder + '/d.futil', folder + '/d.json']
     out, took = best([*call, str(BUDGET)], 0)
     assert json.loads(out) == {'cycles': shape.cycles, 'memories': shape.after}, out[:200]
-    return took - best([*call, '0'], 4)[1]
+    return took - best([*call, '0'], 3)[1]
 
 
 def main():

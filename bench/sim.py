@@ -3,12 +3,15 @@
 
     bench/sim.py PROGRAM
 
-PROGRAM is the built calyx_cli; `iverilog` and `vvp` have to be installed (Debian's package iverilog). Both have to end in the same cycle with
-the same words, which is asserted. Printed are the cycles, the best time of three in seconds, that of `vvp` (its compilation not
-counted), and how many times as long `sim` takes.
+PROGRAM is the built calyx_cli. Icarus Verilog is installed where it is not there (Debian's package iverilog); where that fails only `sim` is
+timed. Both have to end in the same cycle with the same words, which is asserted. Printed are the cycles, the best time of three in
+seconds, that of `vvp`, and how many times as long `sim` takes. The time of a run that ends in cycle 1 is left out of both. Then texts of
+5, 20 and 80 MB are read and looked at for a cycle: printed are the seconds, and the peak of memory in MiB and for each byte of the text.
 """
 import json
 import os
+import re
+import shutil
 import subprocess
 import sys
 import tempfile
@@ -56,14 +59,14 @@ def counter(cycles):
 
 
 def memory_walk(cycles):
-    """Each cycle adds a number to one of 1,024 words, one after the other."""
-    memory = ('module cx_m' + PORTS + '  input wire [9:0] a,\n  input wire [31:0] d,\n  input wire [0:0] we,\n  output wire [31:0] q\n);\n'
-              '  reg [31:0] m [0:1023];\n  assign q = m[a];\n' + always(['      if (we) m[a] <= d;']) + 'endmodule\n')
+    """Each cycle adds a number to one of 4,096 words, one after the other."""
+    memory = ('module cx_m' + PORTS + '  input wire [11:0] a,\n  input wire [31:0] d,\n  input wire [0:0] we,\n  output wire [31:0] q\n);\n'
+              '  reg [31:0] m [0:4095];\n  assign q = m[a];\n' + always(['      if (we) m[a] <= d;']) + 'endmodule\n')
     head, step = ends_at(cycles)
     regs, assigns = head.split('\n', 1)
-    body = (regs + '\n  wire [9:0] a;\n  wire [31:0] d;\n  wire [31:0] q;\n  assign a = n[9:0];\n  assign d = (q + n);\n' + assigns
+    body = (regs + '\n  wire [11:0] a;\n  wire [31:0] d;\n  wire [31:0] q;\n  assign a = n[11:0];\n  assign d = (q + n);\n' + assigns
             + '  cx_m i(.clk(clk), .reset(reset), .a(a), .d(d), .we(go), .q(q));\n')
-    return '// external mem i 32 1024\n' + memory + MAIN + body + always([step]) + 'endmodule\n'
+    return '// external mem i 32 4096\n' + memory + MAIN + body + always([step]) + 'endmodule\n'
 
 
 def counters(cycles):
@@ -74,34 +77,43 @@ def counters(cycles):
     return MAIN + first + '\n' + regs + assigns + always([step] + [f"      r{k} <= (r{k} + 32'h{k + 1:x});" for k in range(64)]) + 'endmodule\n'
 
 
-def shift_and_add(cycles):
-    """A product of 64 bits in one cycle, by 64 steps of a chain."""
+def pipeline(cycles):
+    """A product by 64 stages of shift and add, one bit of a factor each, with a new product in each cycle."""
     head, step = ends_at(cycles)
     first, assigns = head.split('\n', 1)
-    wires = '  reg [63:0] a;\n  reg [63:0] b;\n' + ''.join(f'  wire [63:0] p{k};\n' for k in range(65))
-    chain = "  assign p0 = 64'h0;\n" + ''.join(
-        f"  assign p{k + 1} = (b[{k}:{k}] ? (p{k} + (a << 64'h{k:x})) : p{k});\n" for k in range(64))
-    sets = [step, "      a <= ((a << 64'h1) ^ (b + 64'h9));", '      b <= (p64 + a);']
-    return MAIN + first + '\n' + wires + assigns + chain + always(sets, ["      a <= 64'h123456789abcdef;", "      b <= 64'hfedcba987654321;"]) + 'endmodule\n'
+    regs = ''.join(f'  reg [63:0] a{k};\n  reg [63:0] b{k};\n  reg [63:0] p{k};\n' for k in range(65))
+    sets = [step, "      a0 <= (a0 + 64'h9);", '      b0 <= (b0 + p64);', "      p0 <= 64'h0;"]
+    for k in range(64):
+        sets += [f"      a{k + 1} <= (a{k} << 64'h1);", f"      b{k + 1} <= (b{k} >> 64'h1);", f'      p{k + 1} <= (b{k}[0:0] ? (p{k} + a{k}) : p{k});']
+    resets = ["      a0 <= 64'h123456789abcdef;", "      b0 <= 64'hfedcba987654321;"]
+    return MAIN + first + '\n' + regs + assigns + always(sets, resets) + 'endmodule\n'
 
 
-def instances(cycles):
-    """1,000 instances of a register, each of which takes what the one before holds."""
-    part = ('module cx_r' + PORTS + '  input wire [31:0] x,\n  output wire [31:0] y\n);\n  reg [31:0] r;\n  assign y = r;\n'
+def chained(name, part, count):
+    """A module of so many instances of another, each of which takes what the one before gives."""
+    wires = ''.join(f'  wire [31:0] w{k};\n' for k in range(count))
+    made = ''.join(f"  {part} i{k}(.clk(clk), .reset(reset), .x({f'w{k - 1}' if k else 'x'}), .y(w{k}));\n" for k in range(count))
+    return f'module {name}{PORTS}  input wire [31:0] x,\n  output wire [31:0] y\n);\n{wires}  assign y = w{count - 1};\n{made}endmodule\n'
+
+
+def tree(cycles):
+    """A tree of 1,001 instances, three deep: eleven parts of nine parts of nine registers."""
+    leaf = ('module cx_r' + PORTS + '  input wire [31:0] x,\n  output wire [31:0] y\n);\n  reg [31:0] r;\n  assign y = r;\n'
             + always(['      r <= x;']) + 'endmodule\n')
     head, step = ends_at(cycles)
     first, assigns = head.split('\n', 1)
-    wires = ''.join(f'  wire [31:0] w{k};\n' for k in range(1_000))
-    made = ''.join(f"  cx_r i{k}(.clk(clk), .reset(reset), .x({f'w{k - 1}' if k else 'n'}), .y(w{k}));\n" for k in range(1_000))
-    return part + MAIN + first + '\n' + wires + assigns + made + always([step]) + 'endmodule\n'
+    wires = ''.join(f'  wire [31:0] w{k};\n' for k in range(11))
+    made = ''.join(f"  cx_b i{k}(.clk(clk), .reset(reset), .x({f'w{k - 1}' if k else 'n'}), .y(w{k}));\n" for k in range(11))
+    return (leaf + chained('cx_a', 'cx_r', 9) + chained('cx_b', 'cx_a', 9) + MAIN + first + '\n' + wires + assigns + made + always([step])
+            + 'endmodule\n')
 
 
 SHAPES = (
-    ('a counter', counter, 300_000, 0),
-    ('a walk over a memory', memory_walk, 100_000, 1_024),
-    ('64 counters', counters, 20_000, 0),
-    ('64 steps of shift and add', shift_and_add, 1_000, 0),
-    ('1,000 instances', instances, 1_000, 0),
+    ('a counter', counter, 1_000_000, 0),
+    ('64 counters', counters, 50_000, 0),
+    ('64 stages of shift and add', pipeline, 10_000, 0),
+    ('a walk over 4,096 words', memory_walk, 300_000, 4_096),
+    ('a tree of 1,001 instances', tree, 3_000, 0),
 )
 
 
@@ -115,16 +127,17 @@ def best(words):
     return ran.stdout, min(times)
 
 
+def zeros(text):
+    """The text with registers that begin with 0."""
+    return re.sub(r'^(  reg \[\d+:0\] \w+);', r'\1 = 0;', text, flags=re.M)
+
+
 def by_icarus(folder, text, words):
     """The cycle, the words and the seconds of `vvp`."""
     loads = f'for (k = 0; k < {words}; k = k + 1) dut.i.m[k] = k;' if words else ''
     dumps = f'for (k = 0; k < {words}; k = k + 1) $display("%0d", dut.i.m[k]);' if words else ''
-    zeros = text.replace('  reg [31:0] n;', '  reg [31:0] n = 0;')
-    for k in range(64):
-        zeros = zeros.replace(f'  reg [31:0] r{k};', f'  reg [31:0] r{k} = 0;')
-    zeros = zeros.replace('  reg [31:0] r;', '  reg [31:0] r = 0;')
     with open(folder + '/b.v', 'w', encoding='ascii') as file:
-        file.write(zeros + BENCH.format(loads=loads, dumps=dumps))
+        file.write(zeros(text) + BENCH.format(loads=loads, dumps=dumps))
     subprocess.run(['iverilog', '-g2005', '-s', 'bench', '-o', folder + '/b.vvp', folder + '/b.v'], check=True)
     out, took = best(['vvp', '-n', folder + '/b.vvp'])
     cycle, *held = [int(line) for line in out.split('\n') if line.strip().isdigit()]
@@ -143,16 +156,53 @@ def by_sim(program, folder, text, words):
     return told['cycles'], told['memories'].get('mem', []), took
 
 
+def long_text(size):
+    """Wires that each add 1 to the one before, in a text of about so many bytes."""
+    lines = size // 62
+    wires = ''.join(f'  wire [31:0] w{k};\n' for k in range(1, lines))
+    assigns = ''.join(f"  assign w{k + 1} = (w{k} + 32'h1);\n" for k in range(1, lines - 1))
+    return MAIN + wires + "  assign done = 1'h0;\n  assign w1 = 32'h0;\n" + assigns + 'endmodule\n'
+
+
+def read(program, folder, size):
+    """The bytes of a text, the seconds in which it is read and looked at for a cycle, and the peak of memory in bytes."""
+    text = long_text(size)
+    with open(folder + '/v.v', 'w', encoding='ascii') as file:
+        file.write(text)
+    with open(folder + '/v.json', 'w', encoding='ascii') as file:
+        file.write('{}')
+    begin = time.perf_counter()
+    with open(os.devnull, 'w', encoding='ascii') as nothing:
+        ran = subprocess.Popen([program, 'sim', folder + '/v.v', folder + '/v.json', '0'], stderr=nothing)
+        _, status, used = os.wait4(ran.pid, 0)
+    assert os.waitstatus_to_exitcode(status) == 3, status
+    return len(text), time.perf_counter() - begin, used.ru_maxrss * 1024
+
+
+def has_icarus():
+    """Whether Icarus Verilog is there, or could be installed."""
+    if not shutil.which('vvp'):
+        subprocess.run('apt-get update && apt-get install -y iverilog', shell=True, capture_output=True, check=False)
+    return shutil.which('vvp') is not None
+
+
 def main():
     program = os.path.abspath(sys.argv[1])
+    compares = has_icarus()
     with tempfile.TemporaryDirectory() as folder:
         for name, make, cycles, words in SHAPES:
-            text = make(cycles)
-            cycle, held, took = by_sim(program, folder, text, words)
-            assert cycle == cycles, (name, cycle)
-            other, known, theirs = by_icarus(folder, text, words)
-            assert (cycle, held) == (other, known), (name, cycle, other)
-            print(f'{name:28} {cycles:8} cycles {took:8.2f} s {theirs:8.2f} s {took / theirs:6.2f}')
+            ours = by_sim(program, folder, make(cycles), words)
+            seconds = ours[2] - by_sim(program, folder, make(1), words)[2]
+            line = f'{name:28} {cycles:9} cycles {seconds:8.3f} s'
+            if compares:
+                theirs = by_icarus(folder, make(cycles), words)
+                assert ours[:2] == theirs[:2], (name, ours[:2], theirs[:2])
+                other = theirs[2] - by_icarus(folder, make(1), words)[2]
+                line += f' {other:8.3f} s {seconds / other:6.2f}'
+            print(line)
+        for size in (5_000_000, 20_000_000, 80_000_000):
+            length, seconds, peak = read(program, folder, size)
+            print(f'a text of {length:11,} bytes {seconds:8.3f} s {peak / 2**20:6.0f} MiB {peak / length:6.1f}')
 
 
 if __name__ == '__main__':
