@@ -13,27 +13,10 @@ import subprocess
 import sys
 import tempfile
 
+from sim import BENCH, MAIN
+
 HERE = os.path.dirname(os.path.abspath(__file__))
 STRING = r'"((?:[^"\\]|\\.)*)"'
-MAIN = ('module main(\n  input wire [0:0] clk,\n  input wire [0:0] reset,\n  input wire [0:0] go,\n  output wire [0:0] done\n);\n')
-BENCH = """module bench;
-  reg clk = 0, reset = 1, go = 0;
-  wire done;
-  integer cycle = 0, k;
-  main dut(.clk(clk), .reset(reset), .go(go), .done(done));
-  initial begin
-    {loads}
-    #1 clk = 1; #1 clk = 0; reset = 0; go = 1; #1;
-    while (!done) begin
-      clk = 1; #1 clk = 0; #1;
-      cycle = cycle + 1;
-    end
-    $display("%0d", cycle);
-    {dumps}
-    $finish;
-  end
-endmodule
-"""
 
 
 def texts():
