@@ -1,5 +1,5 @@
 -- The place of a port that is found, and its step.
-use Rattle.std.proofs.Common.{◌≡◌, ℕ, zero, suc, ◌<◌, nat_eq, nat_lt, Bool, true, false, Some, None, List, [], ◌∷◌, get_or, length, refl, sym, ap, ◌∙◌, subst, arith}
+use Rattle.std.proofs.Common.{◌≡◌, ℕ, zero, suc, ◌≤◌, ◌<◌, nat_eq, nat_lt, nat_le, Bool, true, false, Option, Some, None, List, [], ◌∷◌, get_or, length, refl, sym, ap, ◌∙◌, subst, arith}
 use Rattle.std.specs.Prelude.{slice_get, option_map, if◌then◌else◌}
 use Rattle.std.proofs.Math.Path.{fun_ext}
 use Rattle.cx_bits.specs.BitVector.{BitVector}
@@ -32,7 +32,9 @@ use Rattle.cx_demand.specs.Demands.{AreKnown}
 use Rattle.cx_leads.specs.Nodes.{cell_count, node_of}
 use Rattle.cx_leads.proofs.NodeLemmas.{component_cells, component_part}
 use Rattle.cx_nodes.specs.declared.numbering.NodePort.{NodePort}
-use Rattle.cx_nodes.specs.Nodes.{part_at}
+use Rattle.cx_nodes.specs.declared.numbering.Nodes.{Nodes}
+use Rattle.cx_nodes.specs.Nodes.{IsAt, IsPortOf, found_at, part_at}
+use Rattle.cx_nodes.proofs.FoundLemmas.{found_is}
 use Rattle.cx_network.specs.Networks as networks
 use Rattle.cx_network.specs.Networks.{Asked, IsNetwork, active_at, below_at, held_at, leads_of, look_at, path_at, seen_at, value_at}
 use Rattle.cx_network.proofs.NetworkLemmas.{child_later, number_at, same_instance}
@@ -101,6 +103,24 @@ step_alike : {i j : Instance} {held other : Held} {act more : plain.Active} {p q
     → step i held act s look below p ≡ step j other more s look below q
 step_alike {i} {j} {held} {other} {act} {more} {p} {q} s look below e f g h =
     ap (λ x. step x held act s look below p) e ∙ ap (λ x. step j x act s look below p) f ∙ ap (λ x. step j other x s look below p) g ∙ ap (step j other more s look below) h
+
+-- what is found and asked is found there
+pub found_asked : (a : Asked) (nodes : Nodes) → IsNetwork a nodes → (node : ℕ) (found : NodePort) → networks.asked_port a (found_at nodes node) ≡ Some found → IsFound a found
+found_asked a nodes h node found e = choice (found_at nodes node) (found_is a.design a.rows nodes h.numbered node) e
+  where
+    le_true : (m n : ℕ) → nat_le m n ≡ true → m ≤ n
+    le_true m n e = grind arith
+
+    choose : (x : NodePort) → IsAt a.design a.rows node x → (b : Bool) → nat_le a.instance x.instance ≡ b → networks.if_asked a b x ≡ Some found → IsFound a found
+    choose x at true f g = subst (IsFound a) (same g) (record { from = le_true a.instance x.instance f; within = at.within; component = at.component; number = at.number })
+      where
+        same : Some x ≡ Some found → x ≡ found
+        same e = cc
+    choose x at false f g = absurd (cc)
+
+    choice : (o : Option NodePort) → IsPortOf a.design a.rows node o → networks.asked_port a o ≡ Some found → IsFound a found
+    choice None at g = absurd (cc)
+    choice (Some x) at g = choose x at (nat_le a.instance x.instance) refl g
 
 module _ (asking : Asking) (can : CanAsk (asked_of asking) asking.nodes.now asking.drivers.now) (found : NodePort) (f : IsFound (asked_of asking) found) where
   abbrev a : Asked

@@ -1,10 +1,11 @@
 -- What is lacked of the ports that a port depends on, and the nodes that stand for them.
 use Rattle.std.proofs.Common.{◌≡◌, ℕ, suc, ◌+◌, ◌-◌, ◌<◌, inl, inr, Bool, true, false, Option, Some, None, List, [], ◌∷◌, ◌++◌, drop, get_or, length, map, nat_lt, refl, sym, ap, ◌∙◌, subst, arith}
-use Rattle.std.specs.Prelude.{IfNone, IfSome, if◌then◌else◌, option_to_list}
+use Rattle.std.specs.Prelude.{if◌then◌else◌, option_to_list, slice_get}
 use Rattle.std.proofs.lemmas.List.{drop_more}
 use Rattle.cx_meaning.specs.declared.ports.PortRef.{PortRef}
 use Rattle.cx_meaning.specs.declared.ports.PortRef.TheVariants as ports
 use Rattle.cx_meaning.specs.declared.ports.PlacedPort.{PlacedPort}
+use Rattle.cx_meaning.specs.declared.sights.Seen.{Seen}
 use Rattle.cx_meaning.specs.Active.{Acting, Owned, if_acting}
 use Rattle.cx_meaning.specs.Instances.{cell_at, cells_of}
 use Rattle.cx_meaning.specs.Sights.{In, numbered}
@@ -18,7 +19,8 @@ use Rattle.cx_instances.specs.declared.tables.InstanceRow.{InstanceRow}
 use Rattle.cx_instances.specs.Tables.{child_of}
 use Rattle.cx_lacks.specs.Lacks.{first_lack, lack_or}
 use Rattle.cx_demand.specs.declared.marks.Mark.{Mark}
-use Rattle.cx_demand.specs.Demands.{known_at}
+use Rattle.cx_demand.specs.declared.marks.Mark.TheVariants.{Unseen, Open, Known}
+use Rattle.cx_demand.specs.Demands.{AreKnown, IsRight, is_known, known_at}
 use Rattle.cx_nodes.specs.declared.numbering.NodePort.{NodePort}
 use Rattle.cx_nodes.specs.Nodes.{node_at}
 use Rattle.cx_network.specs.LeadPorts.{lead_ports, named_by}
@@ -142,7 +144,7 @@ module _ (marks : List Mark) where
       choice true is behind f (inr j) = behind f j
       choice false is behind f j = absurd (none_some k f)
 
-  first_some : (ms : List ℕ) (m : ℕ) → Some m ≡ unknown_in marks ms → In ms m × (known_at marks m ≡ false)
+  pub first_some : (ms : List ℕ) (m : ℕ) → Some m ≡ unknown_in marks ms → In ms m × (known_at marks m ≡ false)
   first_some [] m e = absurd (none_some m (sym e))
   first_some (k ∷ ks) m e = choice (known_at marks k) refl (λ f. first_some ks m f) e
     where
@@ -151,13 +153,15 @@ module _ (marks : List Mark) where
       choice true is behind f = let r = behind f in (inr r.0, r.1)
       choice false is behind f = let same : m ≡ k = same_some m k f in (inl (sym same), ap (known_at marks) same ∙ is)
 
-  pub all_known : (o : Option ℕ) (ms : List ℕ) → o ≡ unknown_in marks ms → IfNone o ((m : ℕ) → In ms m → known_at marks m ≡ true)
-  all_known None ms e = first_none ms e
-  all_known (Some k) ms e = tt
-
-  pub one_unknown : (o : Option ℕ) (ms : List ℕ) → o ≡ unknown_in marks ms → IfSome o (λ m. In ms m × (known_at marks m ≡ false))
-  one_unknown None ms e = tt
-  one_unknown (Some k) ms e = first_some ms k e
+  -- where what is known is right, all are known with their values
+  pub all_known : (value : ℕ → Seen) → IsRight value marks → (ms : List ℕ) → None ≡ unknown_in marks ms → AreKnown value marks ms
+  all_known value right ms e m i = by (slice_get marks m) refl (first_none ms e m i)
+    where
+      by : (o : Option Mark) → slice_get marks m ≡ o → is_known o ≡ true → slice_get marks m ≡ Some (Known (value m))
+      by None is known = absurd (let no : false ≡ true = known in cc)
+      by (Some Unseen) is known = absurd (let no : false ≡ true = known in cc)
+      by (Some Open) is known = absurd (let no : false ≡ true = known in cc)
+      by (Some (Known x)) is known = is ∙ ap (λ y. Some (Known y)) (right m x is)
 
 -- WHAT A FOUND PORT leads to
 module _ (asking : Asking) (can : CanAsk (asked_of asking) asking.nodes.now asking.drivers.now) (found : NodePort) (f : IsFound (asked_of asking) found) where

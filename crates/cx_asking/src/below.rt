@@ -36,7 +36,7 @@ impl<'a, 'm> Below for MarkedBelow<'a, 'm> {
                 let ports = MarkedPorts {
                     design: self.design,
                     table: self.table,
-                    nodes: self.nodes,
+                    ports: self.nodes.ports_of(self.design, self.table, child),
                     marks: self.marks,
                     instance: child,
                 };

@@ -1,25 +1,23 @@
 //! Which ports of an instance are known.
 
-ghost use Rattle.std.specs.Prelude.{◌<◌, length};
 ghost use Rattle.cx_design.specs.PlainDesigns.{plain_design};
-ghost use Rattle.cx_nodes.specs.Nodes.{IsNodesOf};
+ghost use Rattle.cx_nodes.specs.Nodes.{ArePortsOf};
 
 use cx_demand::{Mark, is_known};
 use cx_design::{Design, PortRef};
 use cx_instances::InstanceTable;
 use cx_lacks::Known;
-use cx_nodes::Nodes;
+use cx_nodes::InstancePorts;
 
 /// The ports of an instance that marks know. A port that has no node waits for nothing, and counts as known.
 #[derive(Clone, Copy)]
 pub struct KnownPorts<'a, 'm> {
     pub design: &'a Design,
     pub table: &'a InstanceTable,
-    pub nodes: &'a Nodes,
+    pub ports: InstancePorts<'a>,
     pub marks: &'m [Mark],
     pub instance: usize,
-    pub ghost within: { instance < length table.now.rows.items },
-    pub ghost numbered: { IsNodesOf (plain_design design.now) table.now.rows.items nodes.now },
+    pub ghost are_ports: { ArePortsOf (plain_design design.now) table.now.rows.items instance ports },
 }
 
 impl<'a, 'm> Known for KnownPorts<'a, 'm> {
@@ -29,7 +27,7 @@ impl<'a, 'm> Known for KnownPorts<'a, 'm> {
     ghost known = { λ k q. port_known k.marks.now (node_at (plain_design k.design.now) k.table.now.rows.items k.instance q) };
 
     fn is_known(&self, port: PortRef) -> bool {
-        match self.nodes.node(self.instance, port) {
+        match self.ports.node(port) {
             Some(node) => is_known(self.marks, node),
             None => true,
         }

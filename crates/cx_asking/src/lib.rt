@@ -6,10 +6,10 @@ mod below;
 mod children;
 mod known;
 mod lacking;
+mod looking;
 mod network;
 mod places;
 mod unknown;
 mod values;
 
 pub use asking::Asking;
-pub use values::node_value;

@@ -1,10 +1,8 @@
 //! What is asked, as a network.
 
 use crate::asking::Asking;
-use crate::unknown::unknown_node;
-use crate::values::node_value;
-use cx_demand::{Mark, Network};
-use cx_design::Seen;
+use crate::looking::look_at_node;
+use cx_demand::{Found, Mark, Network};
 
 impl Network for Asking<'_> {
     ghost use Rattle.cx_network.specs.Networks as networks;
@@ -16,11 +14,7 @@ impl Network for Asking<'_> {
 
     ghost sound = { IsAsking };
 
-    fn unknown(&self, marks: &[Mark], node: usize) -> Option<usize> {
-        unknown_node(self, marks, node)
-    }
-
-    fn value_by(&self, marks: &[Mark], node: usize) -> Seen {
-        node_value(self, marks, node)
+    fn look(&self, marks: &[Mark], node: usize) -> Found {
+        look_at_node(self, marks, node)
     }
 }

@@ -1,51 +1,48 @@
-//! The first node that a node leads to and that is not known.
+//! The first node that a port leads to and that is not known.
 
 ghost use Rattle.std.specs.Prelude.{◌≡◌, ◌<◌, Some, length, option_to_list};
 ghost use Rattle.cx_ports.specs.Cells.{plain_part_port};
 ghost use Rattle.cx_meaning.specs.declared.ports.PortRef.TheVariants.{Cell};
 ghost use Rattle.cx_meaning.specs.Sights as sights;
 ghost use Rattle.cx_instances.specs.Tables as tables;
-ghost use Rattle.cx_network.specs.Networks.{below_nodes, leads_at, leads_of, output_node};
-ghost use Rattle.cx_asking.specs.Askings.{IsAsking, IsFound, asked_of};
+ghost use Rattle.cx_network.specs.Networks.{below_nodes, leads_of, output_node};
+ghost use Rattle.cx_asking.specs.Askings.{IsAsking, IsFound, IsPlaceOf, asked_of};
 ghost use Rattle.cx_asking.specs.Lacking.{unknown_in};
 
 use crate::asking::Asking;
 use crate::children::child_in;
 use crate::known::KnownPorts;
 use crate::lacking::lacking_port;
-use crate::places::{asked_port, place_of};
 use cx_demand::{Mark, is_known};
 use cx_design::PortRef;
 use cx_nodes::NodePort;
+use cx_port_steps::Place;
 use cx_ports::{At, PartPort, part_port, stands_at};
 
-/// The first node that a node leads to and that is not known. It takes no memory.
-pub fn unknown_node(asking: &Asking<'_>, marks: &[Mark], node: usize) -> Option<usize>
-    requires can { IsAsking asking.now }
-    ensures value { result ≡ unknown_in marks.now (leads_at (asked_of asking.now) asking.now.nodes.now node) }
-{
-    match asked_port(asking, node) {
-        Some(found) => unknown_from(asking, marks, found),
-        None => None,
-    }
-}
-
-/// The first that a port leads to that is found.
-fn unknown_from(asking: &Asking<'_>, marks: &[Mark], found: NodePort) -> Option<usize>
+/// The first node that a port leads to that is found, and that is not known. It takes no memory.
+pub fn unknown_from(
+    asking: &Asking<'_>,
+    marks: &[Mark],
+    found: NodePort,
+    place: &Place<'_>,
+) -> Option<usize>
     requires can { IsAsking asking.now }
     requires found { IsFound (asked_of asking.now) found }
+    requires place { IsPlaceOf asking.now found place.now }
     ensures value { result ≡ unknown_in marks.now (leads_of (asked_of asking.now) (Some found)) }
 {
-    let place = place_of(asking, found);
+    let own = asking
+        .nodes
+        .ports_of(asking.design, asking.table, found.instance);
     let ports = KnownPorts {
         design: asking.design,
         table: asking.table,
-        nodes: asking.nodes,
+        ports: own,
         marks,
         instance: found.instance,
     };
-    match lacking_port(&place, &ports) {
-        Some(port) => asking.nodes.node(found.instance, port),
+    match lacking_port(place, &ports) {
+        Some(port) => own.node(port),
         None => unknown_below(asking, marks, found),
     }
 }

@@ -1,49 +1,38 @@
-//! Values of nodes.
+//! Values of ports.
 
 ghost use Rattle.std.specs.Prelude.{◌≡◌, Some};
 ghost use Rattle.cx_demand.specs.Demands.{AreKnown};
-ghost use Rattle.cx_network.specs.Networks.{leads_at, leads_of, seen_at, value_at};
-ghost use Rattle.cx_asking.specs.Askings.{IsAsking, IsFound, asked_of};
+ghost use Rattle.cx_network.specs.Networks.{leads_of, seen_at, value_at};
+ghost use Rattle.cx_asking.specs.Askings.{IsAsking, IsFound, IsPlaceOf, asked_of};
 
 use crate::asking::Asking;
 use crate::below::MarkedBelow;
-use crate::places::{asked_port, place_of};
 use cx_alike::laws::rows_stand;
 use cx_demand::Mark;
 use cx_design::Seen;
 use cx_marks::MarkedPorts;
 use cx_nodes::NodePort;
-use cx_port_steps::step_seen;
+use cx_port_steps::{Place, step_seen};
 use cx_seen_widths::laws::found_has_width;
 use cx_state_widths::laws::states_hold_widths;
 
-/// The value of a node, where all that it leads to is known. It takes no memory.
-pub fn node_value(asking: &Asking<'_>, marks: &[Mark], node: usize) -> Seen
-    requires can { IsAsking asking.now }
-    requires known { AreKnown (value_at (asked_of asking.now) asking.now.nodes.now) marks.now (leads_at (asked_of asking.now) asking.now.nodes.now node) }
-    ensures value { result ≡ value_at (asked_of asking.now) asking.now.nodes.now node }
-{
-    match asked_port(asking, node) {
-        Some(found) => found_value(asking, marks, found),
-        None => Seen::Undefined,
-    }
-}
-
-/// What a port is seen as that is found, where all that it leads to is known.
-fn found_value(asking: &Asking<'_>, marks: &[Mark], found: NodePort) -> Seen
+/// What a port is seen as that is found, where all that it leads to is known. It takes no memory.
+pub fn found_value(asking: &Asking<'_>, marks: &[Mark], found: NodePort, place: &Place<'_>) -> Seen
     requires can { IsAsking asking.now }
     requires found { IsFound (asked_of asking.now) found }
+    requires place { IsPlaceOf asking.now found place.now }
     requires known { AreKnown (value_at (asked_of asking.now) asking.now.nodes.now) marks.now (leads_of (asked_of asking.now) (Some found)) }
     ensures value { result ≡ seen_at (asked_of asking.now) found.instance found.port }
 {
     rows_stand();
     found_has_width();
     states_hold_widths();
-    let place = place_of(asking, found);
     let look = MarkedPorts {
         design: asking.design,
         table: asking.table,
-        nodes: asking.nodes,
+        ports: asking
+            .nodes
+            .ports_of(asking.design, asking.table, found.instance),
         marks,
         instance: found.instance,
     };
@@ -54,5 +43,5 @@ fn found_value(asking: &Asking<'_>, marks: &[Mark], found: NodePort) -> Seen
         marks,
         instance: found.instance,
     };
-    step_seen(&place, &look, &below)
+    step_seen(place, &look, &below)
 }

@@ -1,5 +1,5 @@
 -- What a look at a cell of the asked instance comes to, where its ports are demanded.
-use Rattle.std.proofs.Common.{◌≡◌, ℕ, ◌<◌, Bool, true, List, length, sym, ap, ◌∙◌, subst}
+use Rattle.std.proofs.Common.{◌≡◌, ℕ, ◌<◌, ◌||◌, Bool, true, false, List, [], length, sym, ap, ◌∙◌, subst}
 use Rattle.cx_prim.specs.CellStates.{CellState}
 use Rattle.cx_prim.specs.Rows.{Inputs, Row}
 use Rattle.cx_meaning.specs.declared.ports.PortRef.TheVariants.{Cell}
@@ -14,6 +14,20 @@ use Rattle.cx_cycle_demands.proofs.KnownLemmas.{kept_port}
 
 same_given : (xs ys : Inputs) → Given xs ≡ Given ys → xs ≡ ys
 same_given xs ys e = cc
+
+neither_first : (a b : Bool) → (a || b) ≡ false → a ≡ true → ⊥
+neither_first true b e f = absurd (cc)
+neither_first false b e f = absurd (cc)
+
+not_both : (b : Bool) → b ≡ false → b ≡ true → ⊥
+not_both b e f = cc
+
+-- where no port of a cell is looked at, nothing has to be known
+pub none_looked_up : (a : Asking) (marks : List Mark) (c : ℕ) (row : Row) (state : CellState) → ((inputs : Inputs) (n : ℕ) → looks_at row state inputs n ≡ false) → IsLookedUp a marks c row state
+none_looked_up a marks c row state unseen = record {
+  enabling = λ n lt on. absurd (neither_first (enables row n) (row.demands state [] n) (unseen [] n) on);
+  demanded = λ xs n is lt on. absurd (not_both (looks_at row state xs n) (unseen xs n) on);
+}
 
 -- the wanted ports of a cell are known
 pub record AreDemanded (a : Asking) (marks : List Mark) (c : ℕ) (wanted : List Bool) : Type 0 where

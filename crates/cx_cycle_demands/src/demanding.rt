@@ -2,6 +2,8 @@
 
 ghost use Rattle.std.specs.Prelude.{◌≡◌, ◌^◌, ◌<◌, ℕ, true, length};
 ghost use Rattle.cx_meaning.specs.declared.ports.PortRef.TheVariants.{Cell};
+ghost use Rattle.cx_design.specs.PlainDesigns.{plain_design};
+ghost use Rattle.cx_nodes.specs.Nodes.{ArePortsOf};
 ghost use Rattle.cx_gather.specs.Gathers.{gather_all, gathered, ports_seen, wanted_at};
 ghost use Rattle.cx_asking.specs.Askings.{IsAsking};
 ghost use Rattle.cx_cycle_demands.specs.Looked.{CanDemand, HaveNodes, IsKnownPort, KnowsMore, seen_look};
@@ -12,10 +14,18 @@ use cx_demand::Marks;
 use cx_design::PortRef;
 use cx_gather::{Lack, gather};
 use cx_marks::MarkedPorts;
+use cx_nodes::InstancePorts;
 
 /// Demands a port of the asked instance, where it is wanted.
-fn demand_wanted(asking: &Asking<'_>, marks: &mut Marks, port: PortRef, wanted: bool)
+fn demand_wanted(
+    asking: &Asking<'_>,
+    ports: InstancePorts<'_>,
+    marks: &mut Marks,
+    port: PortRef,
+    wanted: bool,
+)
     requires can { IsAsking asking.now }
+    requires own { ArePortsOf (plain_design asking.now.design.now) asking.now.table.now.rows.items asking.now.instance ports }
     requires ready { CanDemand asking.now marks.old }
     ensures more { KnowsMore asking.now marks.old marks.new }
     ensures known { wanted ≡ true → IsKnownPort asking.now marks.new port }
@@ -23,15 +33,22 @@ fn demand_wanted(asking: &Asking<'_>, marks: &mut Marks, port: PortRef, wanted: 
     if !wanted {
         return;
     }
-    match asking.nodes.node(asking.instance, port) {
+    match ports.node(port) {
         Some(node) => marks.demand(asking, node),
         None => {}
     }
 }
 
 /// Demands the wanted ports of a cell.
-fn demand_ports(asking: &Asking<'_>, marks: &mut Marks, cell: u32, wanted: &[bool])
+fn demand_ports(
+    asking: &Asking<'_>,
+    ports: InstancePorts<'_>,
+    marks: &mut Marks,
+    cell: u32,
+    wanted: &[bool],
+)
     requires can { IsAsking asking.now }
+    requires own { ArePortsOf (plain_design asking.now.design.now) asking.now.table.now.rows.items asking.now.instance ports }
     requires ready { CanDemand asking.now marks.old }
     requires few { length wanted.now < 2 ^ 32 }
     ensures more { KnowsMore asking.now marks.old marks.new }
@@ -40,6 +57,7 @@ fn demand_ports(asking: &Asking<'_>, marks: &mut Marks, cell: u32, wanted: &[boo
     for port in 0..wanted.len() {
         demand_wanted(
             asking,
+            ports,
             marks,
             PortRef::Cell(cell, port as u32),
             wanted[port],
@@ -64,11 +82,14 @@ pub fn gather_demanded(
     ensures more { KnowsMore asking.now marks.old marks.new }
     ensures known { (p : ℕ) → p < length wanted.now → wanted_at wanted.now p ≡ true → IsKnownPort asking.now marks.new (Cell cell p) }
 {
-    demand_ports(asking, marks, cell, wanted);
+    let ports = asking
+        .nodes
+        .ports_of(asking.design, asking.table, asking.instance);
+    demand_ports(asking, ports, marks, cell, wanted);
     let look = MarkedPorts {
         design: asking.design,
         table: asking.table,
-        nodes: asking.nodes,
+        ports,
         marks: marks.marks(),
         instance: asking.instance,
     };

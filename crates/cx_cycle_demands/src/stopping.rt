@@ -15,13 +15,14 @@ use crate::laws::seen_ports_are_wide;
 use cx_asking::Asking;
 use cx_bits::Bits;
 use cx_cells::{PrimState, Primitive};
-use cx_cycles::{Stop, mark_enabling, mark_looked, stop_at};
+use cx_cycles::laws::cells_without_enabling_stay;
+use cx_cycles::{Stop, has_enabling, mark_enabling, mark_looked, stop_at};
 use cx_demand::Marks;
 use cx_design::FaultKind;
 use cx_ranges::out_of_range;
 
 /// The port at which a primitive of the asked instance stops a cycle, if it does. Its enabling ports are demanded, and then
-/// those that it demands at their values.
+/// those that it demands at their values. A primitive that has no enabling port is passed over.
 pub fn stop_of(
     asking: &Asking<'_>,
     marks: &mut Marks,
@@ -42,6 +43,10 @@ pub fn stop_of(
     ensures more { KnowsMore asking.now marks.old marks.new }
     ensures known { IfNone result (IsLookedUp asking.now marks.new cell (row_of primitive.now) state.now) }
 {
+    cells_without_enabling_stay();
+    if !has_enabling(primitive) {
+        return None;
+    }
     seen_ports_are_wide();
     mark_enabling(primitive, wanted);
     if let Some(lack) = gather_demanded(asking, marks, cell, wanted, inputs) {

@@ -4,3 +4,4 @@ pub mod PassLemmas
 pub mod FaultLemmas
 pub mod AlikeLemmas
 pub mod EndLemmas
+pub mod InertLemmas

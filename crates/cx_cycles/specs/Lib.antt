@@ -1,3 +1,4 @@
 pub mod Stops
 pub mod Passes
 pub mod Alike
+pub mod Enabling

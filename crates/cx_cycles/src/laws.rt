@@ -1,13 +1,15 @@
 //! Laws: each function does nothing, and its clause is the law.
 
-ghost use Rattle.std.specs.Prelude.{◌≡◌, ℕ, [], ◌∷◌, true, List, Option, None, Some, Ok, Err, length};
+ghost use Rattle.std.specs.Prelude.{◌≡◌, ℕ, [], ◌∷◌, true, false, List, Option, None, Some, Ok, Err, length};
 ghost use Rattle.cx_prim.specs.CellStates.{CellState};
-ghost use Rattle.cx_prim.specs.Rows.{Row};
+ghost use Rattle.cx_prim.specs.Rows.{Inputs, Row};
+ghost use Rattle.cx_prim.specs.Table.{PrimitiveRow, row_of};
 ghost use Rattle.cx_meaning.specs.Designs.{PlainCell};
 ghost use Rattle.cx_meaning.specs.Instances.{Cells, Instance, OfRow, Set, State, cell_at, cells_for};
 ghost use Rattle.cx_meaning.specs.Sights.{Look};
-ghost use Rattle.cx_meaning.specs.Cycles.{cycle_by, every_cell};
+ghost use Rattle.cx_meaning.specs.Cycles.{Next, cell_outcome, cycle_by, every_cell, looks_at};
 ghost use Rattle.cx_cycles.specs.Alike.{AgreeAt, AgreeWhere};
+ghost use Rattle.cx_cycles.specs.Enabling.{any_enables};
 ghost use Rattle.cx_cycles.specs.declared.passes.CellFault.{CellFault};
 ghost use Rattle.cx_cycles.specs.Passes.{AreStepped, EndsSo, HeldAt, IsAscending, fault_of, first_among, first_from, listed_in};
 
@@ -39,4 +41,12 @@ pub fn listed_cycles_end_so()
         → IsAscending listed → HeldAt cells old s → first_among (fault_of look cells old) listed ≡ None
         → AgreeWhere (listed_in listed) look more cells old → AreStepped (listed_in listed) more cells old new
         → EndsSo cells old new (Ok tt) (cycle_by (listed_in listed) look (cells_for child cells) s) }
+{}
+
+/// A cycle looks at no port of a primitive that has no enabling port, and leaves it as it is.
+pub fn cells_without_enabling_stay()
+    ensures stays { (look : Look) (c : ℕ) (p : PrimitiveRow) (state : CellState) → any_enables (row_of p).ports ≡ false
+        → cell_outcome look c (row_of p) state ≡ Next state }
+    ensures unseen { (p : PrimitiveRow) (state : CellState) (inputs : Inputs) (port : ℕ) → any_enables (row_of p).ports ≡ false
+        → looks_at (row_of p) state inputs port ≡ false }
 {}

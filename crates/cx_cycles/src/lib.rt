@@ -5,5 +5,5 @@ pub mod laws;
 mod looking;
 mod passes;
 
-pub use looking::{Stop, look_at, mark_enabling, mark_looked, step_cell, stop_at};
+pub use looking::{Stop, has_enabling, look_at, mark_enabling, mark_looked, step_cell, stop_at};
 pub use passes::{CellFault, step_cells, step_listed};

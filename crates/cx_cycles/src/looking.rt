@@ -7,6 +7,7 @@ ghost use Rattle.cx_prim.specs.Table.{row_of};
 ghost use Rattle.cx_meaning.specs.Cycles as cycles;
 ghost use Rattle.cx_meaning.specs.Cycles.{cell_outcome, stepped};
 ghost use Rattle.cx_gather.specs.Gathers.{AreWide, ports_seen};
+ghost use Rattle.cx_cycles.specs.Enabling.{any_enables};
 ghost use Rattle.cx_cycles.specs.Stops.{AreMarked, told};
 
 use cx_bits::Bits;
@@ -59,6 +60,19 @@ fn enables(primitive: &Primitive, port: usize) -> bool
 {
     let row = primitive.port(port);
     is_enable(row.side)
+}
+
+/// Whether a primitive has an enabling port. One that has none is combinational: no cycle looks at its ports, and its edge
+/// changes nothing.
+pub fn has_enabling(primitive: &Primitive) -> bool
+    ensures { result ≡ any_enables (row_of primitive.now).ports }
+{
+    for port in 0..primitive.port_count() {
+        if enables(primitive, port) {
+            return true;
+        }
+    }
+    false
 }
 
 /// Whether a cycle looks at a port, by what stands at the enabling ones.
@@ -153,6 +167,9 @@ pub fn step_cell<L: Look>(
     ensures value { state.new ≡ stepped state.old (cell_outcome (L.seen look.now) cell (row_of primitive.now) state.old) }
     ensures fits { IsState (row_of primitive.now).shape state.new }
 {
+    if !has_enabling(primitive) {
+        return;
+    }
     let count = primitive.port_count();
     let wanted = &mut wanted[..count];
     let inputs = &mut inputs[..count];

@@ -9,7 +9,7 @@ use Rattle.cx_meaning.specs.Sights.{In}
 use Rattle.cx_demand.specs.declared.marks.Mark.{Mark}
 use Rattle.cx_demand.specs.declared.marks.Mark.TheVariants.{Unseen, Open, Known}
 use Rattle.cx_demand.specs.Touches.{weight, unseen}
-use Rattle.cx_demand.specs.Demands.{Way, at_once, by_way_of, IsGrounded, StaysWithin, is_known, known_at, AreKnown, Ready, Demanded}
+use Rattle.cx_demand.specs.Demands.{Way, at_once, by_way_of, IsGrounded, StaysWithin, is_known, known_at, IsRight, Ready, Demanded}
 
 pub none_is_some : {A : Type 0} (x : A) → ◌≡◌ {A = Option A} None (Some x) → ⊥
 none_is_some x e = cc
@@ -72,7 +72,7 @@ is_known_some (Some (Known x)) e = (x, refl)
 pub record Going (leads : ℕ → List ℕ) (value : ℕ → Seen) (root : ℕ) (old marks : List Mark) (stack : List ℕ) (depth : ℕ) : Type 0 where
   pub long : length stack ≡ length marks
   pub sized : length marks ≡ length old
-  pub right : (n : ℕ) (x : Seen) → slice_get marks n ≡ Some (Known x) → x ≡ value n
+  pub right : IsRight value marks
   pub kept : (n : ℕ) (x : Seen) → slice_get old n ≡ Some (Known x) → slice_get marks n ≡ Some (Known x)
   pub opens : (n : ℕ) → slice_get marks n ≡ Some Open → (j : ℕ) × (j < depth) × (get_or stack j 0 ≡ n)
   pub stacked : (j : ℕ) → j < depth → slice_get marks (get_or stack j 0) ≡ Some Open
@@ -236,11 +236,6 @@ module _ (leads : ℕ → List ℕ) (value : ℕ → Seen) (root : ℕ) (old mar
             ∙ g.stacked j lt
 
   -- POP
-  pub all_known : ((m : ℕ) → In (leads (get_or stack (depth - 1) 0)) m → known_at marks m ≡ true) → AreKnown value marks (leads (get_or stack (depth - 1) 0))
-  all_known known m i =
-      let k = is_known_some (slice_get marks m) (known m i) in
-      k.1 ∙ ap (λ x. Some (Known x)) (g.right m k.0 k.1)
-
   module _ (v : Seen) (is : v ≡ value (get_or stack (depth - 1) 0)) where
     same_count : unseen (set marks (get_or stack (depth - 1) 0) (Known v)) ≡ unseen marks
     same_count = let u = unseen_set marks (get_or stack (depth - 1) 0) Open (Known v) top_open in omega (arith, u)

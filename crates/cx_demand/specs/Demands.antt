@@ -4,6 +4,8 @@ use Rattle.cx_meaning.specs.declared.sights.Seen.{Seen}
 use Rattle.cx_meaning.specs.Sights.{In}
 use Rattle.cx_demand.specs.declared.marks.Mark.{Mark}
 use Rattle.cx_demand.specs.declared.marks.Mark.TheVariants.{Unseen, Open, Known}
+use Rattle.cx_demand.specs.declared.network.Found.{Found}
+use Rattle.cx_demand.specs.declared.network.Found.TheVariants.{Worth, Waits}
 
 -- a node depends on another by a chain of one or more
 pub data Way (leads : ℕ → List ℕ) : ℕ → ℕ → Type 0 where
@@ -30,9 +32,18 @@ known_at marks n = is_known (slice_get marks n)
 abbrev pub AreKnown : (ℕ → Seen) → List Mark → List ℕ → Type 0
 AreKnown value marks nodes = (m : ℕ) → In nodes m → slice_get marks m ≡ Some (Known (value m))
 
+-- what is known is right
+abbrev pub IsRight : (ℕ → Seen) → List Mark → Type 0
+IsRight value marks = (n : ℕ) (x : Seen) → slice_get marks n ≡ Some (Known x) → x ≡ value n
+
+-- what a look finds at a node that leads to some nodes: its value, or one of these that is not known
+abbrev pub Looked : List ℕ → Seen → List Mark → Found → Type 0
+Looked leads value marks (Worth x) = x ≡ value
+Looked leads value marks (Waits m) = In leads m × (known_at marks m ≡ false)
+
 -- what is known is right, and no node waits
 pub record Ready (value : ℕ → Seen) (marks : List Mark) : Type 0 where
-  pub right : (n : ℕ) (x : Seen) → slice_get marks n ≡ Some (Known x) → x ≡ value n
+  pub right : IsRight value marks
   pub closed : (n : ℕ) → slice_get marks n ≡ Some Open → ⊥
 
 -- nothing is known

@@ -5,7 +5,7 @@ ghost use Rattle.cx_demand.specs.Demands.{Demanded, IsGrounded, Ready, StaysWith
 ghost use Rattle.cx_demand.specs.Touches.{AreTouched};
 
 use crate::marks::{Mark, is_known};
-use crate::network::Network;
+use crate::network::{Found, Network};
 use crate::touched::Touched;
 
 /// Finds the value of a node, and those of all that it depends on. `stack` is as long as `marks`, and what it holds is of no
@@ -37,14 +37,14 @@ pub fn find<N: Network>(
     let mut depth = 1;
     while depth > 0 {
         let top = stack[depth - 1];
-        match net.unknown(marks, top) {
-            Some(next) => {
+        match net.look(marks, top) {
+            Found::Waits(next) => {
                 touched.open(marks, next);
                 stack[depth] = next;
                 depth += 1;
             }
-            None => {
-                marks[top] = Mark::Known(net.value_by(marks, top));
+            Found::Worth(value) => {
+                marks[top] = Mark::Known(value);
                 depth -= 1;
             }
         }

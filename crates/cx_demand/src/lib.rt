@@ -9,4 +9,4 @@ mod touched;
 
 pub use demands::Marks;
 pub use marks::{Mark, is_known};
-pub use network::Network;
+pub use network::{Found, Network};

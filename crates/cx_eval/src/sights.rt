@@ -42,7 +42,9 @@ fn port_seen(asking: &Asking<'_>, marks: &mut Marks, port: PortRef) -> Seen
     let look = MarkedPorts {
         design: asking.design,
         table: asking.table,
-        nodes: asking.nodes,
+        ports: asking
+            .nodes
+            .ports_of(asking.design, asking.table, asking.instance),
         marks: marks.marks(),
         instance: asking.instance,
     };

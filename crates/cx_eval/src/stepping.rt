@@ -37,7 +37,9 @@ fn step_held(
     let look = MarkedPorts {
         design: tables.design,
         table: &tables.table,
-        nodes: &tables.nodes,
+        ports: tables
+            .nodes
+            .ports_of(tables.design, &tables.table, instance),
         marks,
         instance,
     };

@@ -30,6 +30,11 @@ entry_of true (Value b) = Ok (Some b)
 entry_of true Conflict = Err Conflict
 entry_of true Undefined = Err Undefined
 
+-- what the answer for one port and its slot stand for
+abbrev pub slotted : Option Seen → Option BitVector → Result (Option BitVector) Seen
+slotted None slot = Ok slot
+slotted (Some x) slot = Err x
+
 -- values are as wide as their ports, all of them or the wanted ones
 abbrev pub AreWide : (ℕ → Seen) → List PortRow → Type 0
 AreWide look ports = (n : ℕ) (port : PortRow) (b : BitVector) → slice_get ports n ≡ Some port → look n ≡ Value b → b.width ≡ port.width

@@ -1,7 +1,7 @@
 //! What stands at the ports of a cell, where the wanted ones are values.
 
 ghost use Rattle.std.specs.Prelude.{◌≡◌, ◌^◌, ◌<◌, length};
-ghost use Rattle.cx_gather.specs.Gathers.{entry_of, gather_all, gathered, ports_seen, wanted_at};
+ghost use Rattle.cx_gather.specs.Gathers.{entry_of, gather_all, gathered, ports_seen, slotted, wanted_at};
 
 use cx_bits::Bits;
 use cx_design::{PortRef, Seen};
@@ -14,17 +14,27 @@ pub struct Lack {
     pub seen: Seen,
 }
 
-/// What stands at a port: nothing where it is not wanted, and else its value, or what it is seen as where that is none.
-fn entry<L: Look>(look: &L, port: PortRef, wanted: bool) -> Result<Option<Bits>, Seen>
-    ensures { result ≡ entry_of wanted (L.seen look.now port) }
+/// Puts what stands at a port into its slot: nothing where it is not wanted, and else its value. Where it is no value, the
+/// answer is what the port is seen as.
+fn gather_port<L: Look>(
+    look: &L,
+    port: PortRef,
+    wanted: bool,
+    slot: &mut Option<Bits>,
+) -> Option<Seen>
+    ensures { slotted result slot.new ≡ entry_of wanted (L.seen look.now port) }
 {
     if !wanted {
-        return Ok(None);
+        *slot = None;
+        return None;
     }
     match look.at(port) {
-        Seen::Value(bits) => Ok(Some(bits)),
-        Seen::Conflict => Err(Seen::Conflict),
-        Seen::Undefined => Err(Seen::Undefined),
+        Seen::Value(bits) => {
+            *slot = Some(bits);
+            None
+        }
+        Seen::Conflict => Some(Seen::Conflict),
+        Seen::Undefined => Some(Seen::Undefined),
     }
 }
 
@@ -41,9 +51,9 @@ pub fn gather<L: Look>(
     ensures value { gathered result inputs.new ≡ gather_all (ports_seen (L.seen look.now) cell) (wanted_at wanted.now) 0 (length inputs.old) }
 {
     for port in 0..inputs.len() {
-        match entry(look, PortRef::Cell(cell, port as u32), wanted[port]) {
-            Ok(found) => inputs[port] = found,
-            Err(seen) => return Some(Lack { port, seen }),
+        let place = PortRef::Cell(cell, port as u32);
+        if let Some(seen) = gather_port(look, place, wanted[port], &mut inputs[port]) {
+            return Some(Lack { port, seen });
         }
     }
     None

@@ -1,6 +1,5 @@
 -- The drivers of a target, one by one from the last.
-use Rattle.std.proofs.Common.{◌≡◌, ℕ, suc, ◌-◌, ◌<◌, ◌≤◌, nat_eq, Bool, true, false, List, [], ◌∷◌, length, map, drop, get_or, Option, Some, None, refl, sym, ap, ◌∙◌, arith, if◌then◌else◌}
-use Rattle.std.proofs.Math.Seq.{drop-cons}
+use Rattle.std.proofs.Common.{◌≡◌, ℕ, nat_eq, Bool, true, false, List, [], ◌∷◌, map, drop, Option, Some, None, refl, sym, ap, ◌∙◌, if◌then◌else◌}
 use Rattle.cx_meaning.specs.declared.ports.PortRef.{PortRef}
 use Rattle.cx_meaning.specs.declared.sights.Seen.{Seen}
 use Rattle.cx_meaning.specs.Truths as truths
@@ -56,17 +55,6 @@ settled undriven look (Sources (s ∷ ss)) = refl
 
 pub target_is : (undriven : Seen) (look : Look) (offset : Option ℕ → Option ℕ) (xs : List Owned) → seen_of undriven (drive_of look offset xs) ≡ target_seen undriven look (acting_of offset xs)
 target_is undriven look offset xs = ap (seen_of undriven) (drive_taken look offset xs) ∙ settled undriven look (taken look (acting_of offset xs))
-
--- one assignment more, before those behind it
-pub one_more : (look : Look) (offset : Option ℕ → Option ℕ) (xs : List OwnedAssign) (left : ℕ) (x : OwnedAssign) (d next : Drive) → 0 < left → left ≤ length xs
-    → d ≡ drive_of look offset (map plain_owned (drop left xs)) → next ≡ with_assign look (offset (get_or xs (left - 1) x).owner) (plain_owned (get_or xs (left - 1) x)) d
-    → next ≡ drive_of look offset (map plain_owned (drop (left - 1) xs))
-one_more look offset xs left x d next some within e f =
-    let lt : left - 1 < length xs = omega arith in
-    let split : drop (left - 1) xs ≡ get_or xs (left - 1) x ∷ drop (suc (left - 1)) xs = drop-cons xs (left - 1) x lt in
-    let back : suc (left - 1) ≡ left = omega arith in
-    f ∙ ap (with_assign look (offset (get_or xs (left - 1) x).owner) (plain_owned (get_or xs (left - 1) x))) (e ∙ ap (λ n. drive_of look offset (map plain_owned (drop n xs))) (sym back))
-    ∙ ap (λ ys. drive_of look offset (map plain_owned ys)) (sym split)
 
 -- OFFSETS of what an active set stands for
 among : (es : List ActiveEntry) (g : ℕ) → offset_among es g ≡ offset_in (map plain_entry es) g

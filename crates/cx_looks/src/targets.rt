@@ -11,7 +11,7 @@ use crate::guards::guard_truth;
 use crate::look::Look;
 use crate::truths::Truth;
 use cx_bits::Bits;
-use cx_design::{Active, ActiveEntry, Seen};
+use cx_design::{Active, ActiveEntry, PortRef, Seen};
 use cx_source_order::OwnedAssign;
 
 /// What the drivers of a target come to: one stops it, or those whose guards are 1 agree on what is given.
@@ -54,68 +54,63 @@ pub fn offset_of(active: &Active, owner: Option<usize>) -> Option<u64>
     }
 }
 
-/// Two values of one target: the value where they are equal.
-fn agreed_value(first: Bits, rest: Seen) -> Seen
-    ensures { result ≡ sights.agreed (Seen.Value first) rest }
+/// Puts a value before what is given: the value where both are the same number, and a conflict where they are not.
+fn agree_value(first: Bits, given: &mut Seen)
+    ensures { given.new ≡ sights.agreed (Seen.Value first) given.old }
 {
-    match rest {
+    match given {
         Seen::Value(second) => {
             if first.value() == second.value() {
-                Seen::Value(first)
+                *second = first;
             } else {
-                Seen::Conflict
+                *given = Seen::Conflict;
             }
         }
-        Seen::Conflict => Seen::Conflict,
-        Seen::Undefined => Seen::Undefined,
+        Seen::Conflict | Seen::Undefined => {}
     }
 }
 
-/// What a source and those behind it agree on.
-fn agreed(first: Seen, rest: Seen) -> Seen
-    ensures { result ≡ sights.agreed first rest }
+/// Puts a source before what is given, which becomes what both agree on.
+fn agree(first: Seen, given: &mut Seen)
+    ensures { given.new ≡ sights.agreed first given.old }
 {
     match first {
-        Seen::Value(first) => agreed_value(first, rest),
-        Seen::Conflict => Seen::Conflict,
-        Seen::Undefined => Seen::Undefined,
+        Seen::Value(first) => agree_value(first, given),
+        Seen::Conflict => *given = Seen::Conflict,
+        Seen::Undefined => *given = Seen::Undefined,
     }
 }
 
-/// A source whose guard is 1, before those behind it.
-fn with_source(source: Seen, rest: Drive) -> Drive
-    ensures { result ≡ drives.with_source source rest }
+/// Puts a source whose guard is 1 before what the drive has already.
+fn add_source(drive: &mut Drive, source: Seen)
+    ensures { drive.new ≡ drives.with_source source drive.old }
 {
-    match rest {
-        Drive::Stopped(by) => Drive::Stopped(by),
-        Drive::Nothing => Drive::Gives(source),
-        Drive::Gives(given) => Drive::Gives(agreed(source, given)),
+    match drive {
+        Drive::Stopped(_) => {}
+        Drive::Nothing => *drive = Drive::Gives(source),
+        Drive::Gives(given) => agree(source, given),
     }
 }
 
-/// A driver by its guard and its source, before those behind it.
-fn with_driver(guard: Truth, source: Seen, rest: Drive) -> Drive
-    ensures { result ≡ drives.with_driver (plain_truth guard) source rest }
+/// Puts a driver before what the drive has already. Its source is looked at only where its guard is 1.
+fn add_driver<L: Look>(drive: &mut Drive, look: &L, guard: Truth, source: PortRef)
+    ensures { drive.new ≡ drives.with_driver (plain_truth guard) (L.seen look.now source) drive.old }
 {
     match guard {
-        Truth::One => with_source(source, rest),
-        Truth::Zero => rest,
-        Truth::Clash => Drive::Stopped(Seen::Conflict),
-        Truth::Unknown => Drive::Stopped(Seen::Undefined),
+        Truth::One => add_source(drive, look.at(source)),
+        Truth::Zero => {}
+        Truth::Clash => *drive = Drive::Stopped(Seen::Conflict),
+        Truth::Unknown => *drive = Drive::Stopped(Seen::Undefined),
     }
 }
 
-/// An assignment of the target, before those behind it; nothing changes where it is not active.
-fn with_assign<L: Look>(look: &L, active: &Active, owned: OwnedAssign<'_>, rest: Drive) -> Drive
-    ensures { result ≡ drives.with_assign (L.seen look.now) (offset_by active.now owned.entry.owner) (plain_owned owned.entry) rest }
+/// Puts an assignment of the target before what the drive has already; nothing changes where it is not active.
+fn add_assign<L: Look>(drive: &mut Drive, look: &L, active: &Active, owned: &OwnedAssign<'_>)
+    ensures { drive.new ≡ drives.with_assign (L.seen look.now) (offset_by active.now owned.now.owner) (plain_owned owned.now) drive.old }
 {
-    match offset_of(active, owned.owner) {
-        Some(offset) => {
-            let guard = guard_truth(look, offset, &owned.assign.guard);
-            let source = look.at(owned.assign.source.port);
-            with_driver(guard, source, rest)
-        }
-        None => rest,
+    if let Some(offset) = offset_of(active, owned.owner) {
+        let guard = guard_truth(look, offset, &owned.assign.guard);
+        add_driver(drive, look, guard, owned.assign.source.port);
     }
 }
 
@@ -132,7 +127,7 @@ pub fn target_seen<L: Look>(
     let mut left = assigns.len();
     while left > 0 {
         left -= 1;
-        drive = with_assign(look, active, assigns[left], drive);
+        add_assign(&mut drive, look, active, &assigns[left]);
     }
     match drive {
         Drive::Stopped(by) => by,

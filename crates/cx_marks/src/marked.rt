@@ -1,8 +1,8 @@
 //! Ports as marks show them.
 
-ghost use Rattle.std.specs.Prelude.{◌≡◌, ◌<◌, length, slice_get};
+ghost use Rattle.std.specs.Prelude.{◌≡◌, slice_get};
 ghost use Rattle.cx_design.specs.PlainDesigns.{plain_design};
-ghost use Rattle.cx_nodes.specs.Nodes.{IsNodesOf};
+ghost use Rattle.cx_nodes.specs.Nodes.{ArePortsOf};
 ghost use Rattle.cx_network.specs.Networks.{node_shown, shown};
 
 use crate::literals::literal_seen;
@@ -10,7 +10,7 @@ use cx_demand::Mark;
 use cx_design::{Design, PortRef, Seen};
 use cx_instances::InstanceTable;
 use cx_looks::Look;
-use cx_nodes::Nodes;
+use cx_nodes::InstancePorts;
 
 /// What marks show of the ports of an instance: a literal that fits its width as it is, and of a port that has a node what
 /// is known of it.
@@ -18,11 +18,10 @@ use cx_nodes::Nodes;
 pub struct MarkedPorts<'a, 'm> {
     pub design: &'a Design,
     pub table: &'a InstanceTable,
-    pub nodes: &'a Nodes,
+    pub ports: InstancePorts<'a>,
     pub marks: &'m [Mark],
     pub instance: usize,
-    pub ghost within: { instance < length table.now.rows.items },
-    pub ghost numbered: { IsNodesOf (plain_design design.now) table.now.rows.items nodes.now },
+    pub ghost are_ports: { ArePortsOf (plain_design design.now) table.now.rows.items instance ports },
 }
 
 impl<'a, 'm> Look for MarkedPorts<'a, 'm> {
@@ -31,7 +30,7 @@ impl<'a, 'm> Look for MarkedPorts<'a, 'm> {
     ghost seen = { λ m q. node_shown m.marks.now q (node_at (plain_design m.design.now) m.table.now.rows.items m.instance q) };
 
     fn at(&self, port: PortRef) -> Seen {
-        match self.nodes.node(self.instance, port) {
+        match self.ports.node(port) {
             Some(node) => shown_at(self.marks, node),
             None => literal_seen(port),
         }

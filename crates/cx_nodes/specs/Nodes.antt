@@ -1,5 +1,5 @@
 -- Numbers for the ports of all instances, their nodes: instance by instance, and in each as its component numbers its ports.
-use Rattle.std.specs.Prelude.{◌≡◌, ℕ, zero, suc, ◌+◌, ◌-◌, ◌^◌, ◌≤◌, ◌<◌, List, Option, Some, None, length, slice_get, option_map}
+use Rattle.std.specs.Prelude.{◌≡◌, ℕ, zero, suc, ◌+◌, ◌^◌, ◌≤◌, ◌<◌, ◌⊎◌, List, Option, Some, None, length, slice_get, option_map}
 use Rattle.cx_meaning.specs.declared.ports.PortRef.{PortRef}
 use Rattle.cx_meaning.specs.Designs.{PlainDesign}
 use Rattle.cx_meaning.specs.Instances.{Instance}
@@ -12,6 +12,7 @@ use Rattle.cx_nodes.specs.declared.parts.PartNodes.{PartNodes}
 use Rattle.cx_nodes.specs.declared.numbering.InstanceNodes.{InstanceNodes}
 use Rattle.cx_nodes.specs.declared.numbering.NodePort.{NodePort}
 use Rattle.cx_nodes.specs.declared.numbering.Nodes.{Nodes}
+use Rattle.cx_nodes.specs.declared.instance_ports.InstancePorts.{InstancePorts}
 
 -- the component of an instance with what is below it, by the rows of the instances
 abbrev pub part_at : PlainDesign → List InstanceRow → ℕ → Instance
@@ -28,6 +29,12 @@ node_count d rows = first_node d rows (length rows)
 -- THE NODE of a port of an instance that is there; a literal has none
 abbrev pub node_at : PlainDesign → List InstanceRow → ℕ → PortRef → Option ℕ
 node_at d rows n p = option_map (λ m. first_node d rows n + m) (part.node_of (part_at d rows n) p)
+
+-- the ports of an instance, by the numbers of its component, with its first node
+pub record ArePortsOf (d : PlainDesign) (rows : List InstanceRow) (n : ℕ) (ports : InstancePorts) : Type 0 where
+  pub numbers : part.IsNodesOf (part_at d rows n) ports.numbers.now
+  pub first : ports.first ≡ first_node d rows n
+  pub fits : first_node d rows n + part.node_count (part_at d rows n) < 2 ^ 64
 
 -- the port of a node, with its instance, its component and its number there
 pub record IsAt (d : PlainDesign) (rows : List InstanceRow) (node : ℕ) (found : NodePort) : Type 0 where
@@ -49,43 +56,34 @@ pub record HaveParts (d : PlainDesign) (parts : List PartNodes) : Type 0 where
   pub count : length parts ≡ length d.components
   pub each : (k : ℕ) (nodes : PartNodes) → slice_get parts k ≡ Some nodes → IsPartOf (component_of d k) nodes
 
--- a node of an instance
-pub record IsOwner (d : PlainDesign) (rows : List InstanceRow) (count node n : ℕ) : Type 0 where
-  pub within : n < count
-  pub from : first_node d rows n ≤ node
-  pub to : node < first_node d rows (suc n)
+-- one of the ports of an instance that stand from a node on
+pub record StandsBehind (instance component : ℕ) (ports : List PortRef) (start node : ℕ) (found : NodePort) : Type 0 where
+  pub instance_is : found.instance ≡ instance
+  pub component_is : found.component ≡ component
+  pub port : slice_get ports found.number ≡ Some found.port
+  pub is : start + found.number ≡ node
 
--- the first instances are placed: each has its component and its first node, and each of their nodes its instance
-pub record ArePlaced (d : PlainDesign) (rows : List InstanceRow) (count : ℕ) (instances : List InstanceNodes) (owners : List ℕ) : Type 0 where
+-- the first ports of an instance stand behind what stood before
+pub record StandBehind (instance component : ℕ) (ports : List PortRef) (count : ℕ) (before after : List NodePort) : Type 0 where
+  pub sized : length after ≡ length before + count
+  pub each : (node : ℕ) (found : NodePort) → slice_get after node ≡ Some found
+      → (slice_get before node ≡ Some found) ⊎ StandsBehind instance component ports (length before) node found
+
+-- the first instances are placed: each has its component and its first node, and each of their nodes its port
+pub record ArePlaced (d : PlainDesign) (rows : List InstanceRow) (count : ℕ) (instances : List InstanceNodes) (ports : List NodePort) : Type 0 where
   pub sized : length instances ≡ count
   pub components : (n : ℕ) (i : InstanceNodes) → slice_get instances n ≡ Some i → i.component ≡ (row_at rows n).component
   pub firsts : (n : ℕ) (i : InstanceNodes) → slice_get instances n ≡ Some i → i.first ≡ first_node d rows n
-  pub nodes : length owners ≡ first_node d rows count
-  pub owned : (node n : ℕ) → slice_get owners node ≡ Some n → IsOwner d rows count node n
+  pub nodes : length ports ≡ first_node d rows count
+  pub each : (node : ℕ) (found : NodePort) → slice_get ports node ≡ Some found → IsAt d rows node found
 
 -- what the numbering of a design keeps
 pub record IsNodesOf (d : PlainDesign) (rows : List InstanceRow) (nodes : Nodes) : Type 0 where
   pub parts : HaveParts d nodes.parts.items
   pub there : (n : ℕ) → n < length rows → (row_at rows n).component < length d.components
-  pub placed : ArePlaced d rows (length rows) nodes.instances.items nodes.owners.items
+  pub placed : ArePlaced d rows (length rows) nodes.instances.items nodes.ports.items
   pub fits : node_count d rows < 2 ^ 64
 
 -- what stands at a node, as the numbering has it
-abbrev pub port_found : ℕ → InstanceNodes → ℕ → Option PortRef → Option NodePort
-port_found n place number None = None
-port_found n place number (Some port) = Some (record { instance = n; component = place.component; port = port; number = number })
-
-abbrev pub part_found : ℕ → InstanceNodes → ℕ → Option PartNodes → Option NodePort
-part_found n place number None = None
-part_found n place number (Some part) = port_found n place number (slice_get part.ports.items number)
-
-abbrev pub place_found : Nodes → ℕ → ℕ → Option InstanceNodes → Option NodePort
-place_found nodes node n None = None
-place_found nodes node n (Some place) = part_found n place (node - place.first) (slice_get nodes.parts.items place.component)
-
-abbrev pub owner_found : Nodes → ℕ → Option ℕ → Option NodePort
-owner_found nodes node None = None
-owner_found nodes node (Some n) = place_found nodes node n (slice_get nodes.instances.items n)
-
 abbrev pub found_at : Nodes → ℕ → Option NodePort
-found_at nodes node = owner_found nodes node (slice_get nodes.owners.items node)
+found_at nodes node = slice_get nodes.ports.items node

@@ -1,12 +1,13 @@
 //! Numbers for the ports of all instances.
 
-ghost use Rattle.std.specs.Prelude.{◌≡◌, ◌+◌, ◌<◌, ◌++◌, ℕ, List, IfNone, IfOk, IfSome, None, OnOk, Some, length, replicate, slice_get};
+ghost use Rattle.std.specs.Prelude.{◌≡◌, ◌+◌, ◌<◌, ℕ, List, IfNone, IfOk, IfSome, None, OnOk, Some, length, slice_get};
 ghost use Rattle.cx_meaning.specs.Designs.{PlainDesign};
 ghost use Rattle.cx_design.specs.PlainDesigns.{plain_design};
 ghost use Rattle.cx_instances.specs.declared.tables.InstanceRow.{InstanceRow};
 ghost use Rattle.cx_instances.specs.Tables.{IsTable, row_at};
-ghost use Rattle.cx_nodes.specs.Nodes.{HaveParts, IsNodesOf, IsPortOf, found_at, node_at, node_count};
+ghost use Rattle.cx_nodes.specs.Nodes.{ArePortsOf, HaveParts, IsNodesOf, IsPortOf, StandBehind, found_at, node_at, node_count};
 
+use crate::instance_ports::InstancePorts;
 use crate::parts::PartNodes;
 use cx_design::{Design, PortRef};
 use cx_instances::{InstanceRow, InstanceTable};
@@ -36,8 +37,8 @@ pub struct Nodes {
     /// The ports of each component.
     parts: Vec<PartNodes>,
     instances: Vec<InstanceNodes>,
-    /// For each node the number of its instance.
-    owners: Vec<usize>,
+    /// What stands at each node.
+    ports: Vec<NodePort>,
 }
 
 impl Nodes {
@@ -58,7 +59,7 @@ impl Nodes {
     pub fn count(&self) -> usize
         ensures value { (d : PlainDesign) (rows : List InstanceRow) → IsNodesOf d rows self.now → result ≡ node_count d rows }
     {
-        self.owners.len()
+        self.ports.len()
     }
 
     /// The node of a port of an instance. A literal has none, nor has a port that is not there.
@@ -67,8 +68,29 @@ impl Nodes {
     {
         let place = instance_nodes(self.instances.as_slice(), instance)?;
         let part = part_nodes(self.parts.as_slice(), place.component)?;
-        let number = part.numbers.node(port)?;
-        place.first.checked_add(number as usize)
+        let ports = InstancePorts {
+            numbers: &part.numbers,
+            first: place.first,
+        };
+        ports.node(port)
+    }
+
+    /// The ports of an instance of the table of a design that is numbered.
+    pub fn ports_of<'a>(
+        &'a self,
+        _design: &Design,
+        table: &InstanceTable,
+        instance: usize,
+    ) -> InstancePorts<'a>
+        requires within { instance < length table.now.rows.items }
+        requires numbered { IsNodesOf (plain_design _design.now) table.now.rows.items self.now }
+        ensures value { ArePortsOf (plain_design _design.now) table.now.rows.items instance result }
+    {
+        let part = &self.parts[table.rows[instance].component as usize];
+        InstancePorts {
+            numbers: &part.numbers,
+            first: self.instances[instance].first,
+        }
     }
 
     /// What stands at a node, where it is one.
@@ -76,25 +98,8 @@ impl Nodes {
         ensures found { result ≡ found_at self.now node }
         ensures value { (d : PlainDesign) (rows : List InstanceRow) → IsNodesOf d rows self.now → IsPortOf d rows node result }
     {
-        let instance = owner(self.owners.as_slice(), node)?;
-        let place = instance_nodes(self.instances.as_slice(), instance)?;
-        let part = part_nodes(self.parts.as_slice(), place.component)?;
-        let number = node.saturating_sub(place.first);
-        let port = port_of(part.ports.as_slice(), number)?;
-        Some(NodePort {
-            instance,
-            component: place.component,
-            port,
-            number,
-        })
+        self.ports.get(node).copied()
     }
-}
-
-/// The instance of a node, where it is one.
-fn owner(owners: &[usize], node: usize) -> Option<usize>
-    ensures value { result ≡ slice_get owners.now node }
-{
-    owners.get(node).copied()
 }
 
 /// The nodes of an instance, where it is there.
@@ -112,42 +117,45 @@ fn part_nodes(parts: &[PartNodes], component: u32) -> Option<&PartNodes>
     parts.get(component as usize)
 }
 
-/// The port of a number, where there are so many.
-fn port_of(ports: &[PortRef], number: usize) -> Option<PortRef>
-    ensures value { result ≡ slice_get ports.now number }
-{
-    ports.get(number).copied()
-}
-
 /// The numbering over the ports of the components.
 fn placed(alloc: Global, rows: &[InstanceRow], parts: Vec<PartNodes>) -> Result<Nodes, Memory>
     requires within { (n : ℕ) → n < length rows.now → (row_at rows.now n).component < length parts.items }
     ensures value { IfOk result (λ nodes. (d : PlainDesign) → HaveParts d parts.items → IsNodesOf d rows.now nodes) }
 {
     let mut instances = Vec::new(alloc);
-    let mut owners = Vec::new(alloc);
+    let mut ports = Vec::new(alloc);
     for (number, row) in rows.iter().enumerate() {
-        let first = owners.len();
+        let first = ports.len();
         let part = &parts[row.component as usize];
         instances.push(InstanceNodes {
             component: row.component,
             first,
         })?;
-        own(&mut owners, number, part.ports.len())?;
+        stand(&mut ports, number, row.component, part.ports.as_slice())?;
     }
     Ok(Nodes {
         parts,
         instances,
-        owners,
+        ports,
     })
 }
 
-/// Gives the next so many nodes to an instance.
-fn own(owners: &mut Vec<usize>, instance: usize, count: usize) -> Result<(), Memory>
-    ensures value { OnOk result (owners.new.items ≡ owners.old.items ++ replicate count instance) }
+/// Gives the next nodes to the ports of an instance.
+fn stand(
+    nodes: &mut Vec<NodePort>,
+    instance: usize,
+    component: u32,
+    ports: &[PortRef],
+) -> Result<(), Memory>
+    ensures value { OnOk result (StandBehind instance component ports.now (length ports.now) nodes.old.items nodes.new.items) }
 {
-    'nodes: for _node in 0..count {
-        owners.push(instance)?;
+    for (number, port) in ports.iter().enumerate() {
+        nodes.push(NodePort {
+            instance,
+            component,
+            port: *port,
+            number,
+        })?;
     }
     Ok(())
 }

@@ -14,11 +14,11 @@ returns-in-Some c =
     let can = c.requires.can.can in
     let found = c.args.found in
     let k = found.instance in
-    let alike = leads_alike asking can found c.requires.found c.place_of-place.result c.place_of-place.ensures.value in
+    let alike = leads_alike asking can found c.requires.found c.args.place.now c.requires.place in
     let marks = c.args.marks.now in
     record {
       value =
-          c.node.ensures.value a.design a.rows can.network.numbered c.requires.found.within
+          c.node.ensures.value a.design a.rows k c.ports_of-own.ensures.value
           ∙ sym (lacked a marks k (lead_ports (instance_of a k) (active_at a k) found.port) (below_nodes a k found.port) c.in-Some.port (sym (c.in-Some.ensures.value ∙ ap (lacking (known_here a marks k)) alike)));
     }
 
@@ -29,7 +29,7 @@ returns-in-None c =
     let can = c.requires.can.can in
     let found = c.args.found in
     let k = found.instance in
-    let alike = leads_alike asking can found c.requires.found c.place_of-place.result c.place_of-place.ensures.value in
+    let alike = leads_alike asking can found c.requires.found c.args.place.now c.requires.place in
     let marks = c.args.marks.now in
     record {
       value =
@@ -38,4 +38,4 @@ returns-in-None c =
     }
 
 pub lacking_port-requires : goal.lacking_port-requires
-lacking_port-requires c = record { place = place_stands c.args.asking.now c.requires.can.can c.args.found c.requires.found c.place_of-place.result c.place_of-place.ensures.value }
+lacking_port-requires c = record { place = place_stands c.args.asking.now c.requires.can.can c.args.found c.requires.found c.args.place.now c.requires.place }

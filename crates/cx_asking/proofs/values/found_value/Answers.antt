@@ -12,7 +12,7 @@ use Rattle.cx_asking.proofs.AskLemmas.{cells_held, held_widths, not_bad, place_s
 use Rattle.cx_asking.proofs.values.found_value.Goals as goal
 
 pub step_seen-requires-clause-place : goal.step_seen-requires-clause-place
-step_seen-requires-clause-place c = place_stands c.args.asking.now c.requires.can.can c.args.found c.requires.found c.place_of-place.result c.place_of-place.ensures.value
+step_seen-requires-clause-place c = place_stands c.args.asking.now c.requires.can.can c.args.found c.requires.found c.args.place.now c.requires.place
 
 pub step_seen-requires-clause-widths : goal.step_seen-requires-clause-widths
 step_seen-requires-clause-widths c = λ cell p row e at side n port b there reads x.
@@ -21,8 +21,8 @@ step_seen-requires-clause-widths c = λ cell p row e at side n port b there read
     let can = c.requires.can.can in
     let found = c.args.found in
     let f = c.requires.found in
-    let place = c.place_of-place.result in
-    let is = c.place_of-place.ensures.value in
+    let place = c.args.place.now in
+    let is = c.requires.place in
     let k = found.instance in
     let whole = state_in (tree_of a.design) a.state in
     let number = number_at a asking.nodes.now can.network k f.within in
@@ -41,8 +41,8 @@ returns c =
     let can = c.requires.can.can in
     let found = c.args.found in
     let f = c.requires.found in
-    let place = c.place_of-place.result in
-    let is = c.place_of-place.ensures.value in
+    let place = c.args.place.now in
+    let is = c.requires.place in
     let k = found.instance in
     let stands = c.rows_stand.ensures a.design a.rows a.children a.state can.network.table can.fits in
     record {

@@ -18,7 +18,7 @@ demand-requires c =
     let can = c.requires.can.can in
     let design = plain_design a.design.now in
     let rows = a.table.now.rows.items in
-    let is = sym (c.node.ensures.value design rows can.network.numbered can.within) ∙ c.in-Some.is in
+    let is = sym (c.node.ensures.value design rows a.instance c.requires.own) ∙ c.in-Some.is in
     let within = nodes_within design rows a.instance c.args.port c.in-Some.node can.within is in
     let count = ready.count in
     record {
@@ -32,8 +32,7 @@ demand-requires c =
 pub returns-in-Some : goal.returns-in-Some
 returns-in-Some c =
     let a = c.args.asking.now in
-    let can = c.requires.can.can in
-    let is = sym (c.node.ensures.value (plain_design a.design.now) a.table.now.rows.items can.network.numbered can.within) ∙ c.in-Some.is in
+    let is = sym (c.node.ensures.value (plain_design a.design.now) a.table.now.rows.items a.instance c.requires.own) ∙ c.in-Some.is in
     record {
       more = more_demanded a c.in-Some.node c.args.marks.now c.demand.new.self c.requires.ready c.demand.ensures.value c.demand.ensures.count;
       known = λ on. found_known a c.in-Some.node c.args.marks.now c.demand.new.self c.args.port c.demand.ensures.value is;
@@ -42,8 +41,7 @@ returns-in-Some c =
 pub returns-in-None : goal.returns-in-None
 returns-in-None c =
     let a = c.args.asking.now in
-    let can = c.requires.can.can in
-    let is = sym (c.node.ensures.value (plain_design a.design.now) a.table.now.rows.items can.network.numbered can.within) ∙ c.in-None.is in
+    let is = sym (c.node.ensures.value (plain_design a.design.now) a.table.now.rows.items a.instance c.requires.own) ∙ c.in-None.is in
     record {
       more = more_same a c.args.marks.now c.requires.ready;
       known = λ on. no_node_known a c.args.marks.now c.args.port is;

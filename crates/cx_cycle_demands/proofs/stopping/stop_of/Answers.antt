@@ -8,10 +8,21 @@ use Rattle.cx_cycles.specs.Stops.{stop_in}
 use Rattle.cx_cycles.proofs.DemandLemmas.{row_facts}
 use Rattle.cx_cycles.proofs.LookLemmas.{marked_gather, lacks_enabling, lacks_demanded, out_of_range_stops, in_range_goes, lacks_below}
 use Rattle.cx_cycle_demands.specs.Looked.{seen_look}
-use Rattle.cx_cycle_demands.proofs.KnownLemmas.{more_yet}
+use Rattle.cx_cycle_demands.proofs.KnownLemmas.{more_same, more_yet}
 use Rattle.cx_cycle_demands.proofs.OwnLemmas.{port_node}
-use Rattle.cx_cycle_demands.proofs.StopLemmas.{looked_up}
+use Rattle.cx_cycle_demands.proofs.StopLemmas.{looked_up, none_looked_up}
 use Rattle.cx_cycle_demands.proofs.stopping.stop_of.Goals as goal
+
+pub returns-then-not-has_enabling : goal.returns-then-not-has_enabling
+returns-then-not-has_enabling c =
+    let a = c.args.asking.now in
+    let p = c.args.primitive.now in
+    let none = sym c.if-not-has_enabling.ensures in
+    record {
+      value = sym (ap stop_in (c.cells_without_enabling_stay.ensures.stays (seen_look a) c.args.cell p c.args.state.now none));
+      more = more_same a c.args.marks.now c.requires.ready;
+      known = none_looked_up a c.args.marks.now c.args.cell (row_of p) c.args.state.now (λ inputs n. c.cells_without_enabling_stay.ensures.unseen p c.args.state.now inputs n none);
+    }
 
 pub returns-in-Some-clause-value : goal.returns-in-Some-clause-value
 returns-in-Some-clause-value c =

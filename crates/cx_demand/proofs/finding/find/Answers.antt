@@ -17,23 +17,23 @@ loop-depth-init g c = record {
   touched = c.open.ensures.touched;
 }
 
-pub open-requires-in-Some-clause-unseen : goal.open-requires-in-Some-clause-unseen
-open-requires-in-Some-clause-unseen g c = next_unseen _ _ _ _ _ _ _ c.loop-depth.invariant.going c.loop-depth-test.true c.requires.within c.requires.grounded c.in-Some.next c.in-Some.ensures.some.0 c.in-Some.ensures.some.1
+pub open-requires-in-Waits-clause-unseen : goal.open-requires-in-Waits-clause-unseen
+open-requires-in-Waits-clause-unseen g c = next_unseen _ _ _ _ _ _ _ c.loop-depth.invariant.going c.loop-depth-test.true c.requires.within c.requires.grounded c.in-Waits.next c.in-Waits.ensures.found.0 c.in-Waits.ensures.found.1
 
-pub bounds-stack-depth-in-Some : goal.bounds-stack-depth-in-Some
-bounds-stack-depth-in-Some g c = push_room _ _ _ _ _ _ _ c.loop-depth.invariant.going c.loop-depth-test.true c.requires.within c.requires.grounded c.in-Some.next c.in-Some.ensures.some.0 c.in-Some.ensures.some.1
+pub bounds-stack-depth-in-Waits : goal.bounds-stack-depth-in-Waits
+bounds-stack-depth-in-Waits g c = push_room _ _ _ _ _ _ _ c.loop-depth.invariant.going c.loop-depth-test.true c.requires.within c.requires.grounded c.in-Waits.next c.in-Waits.ensures.found.0 c.in-Waits.ensures.found.1
 
-pub loop-depth-smaller-in-Some : goal.loop-depth-smaller-in-Some
-loop-depth-smaller-in-Some g c =
-    subst (λ (marks : List Mark). 2 * unseen marks + (c.loop-depth.depth + 1) < 2 * unseen c.loop-depth.marks + c.loop-depth.depth) (sym c.open-in-Some.ensures.marks)
-    (push_smaller _ _ _ _ _ _ _ c.loop-depth.invariant.going c.loop-depth-test.true c.requires.within c.requires.grounded c.in-Some.next c.in-Some.ensures.some.0 c.in-Some.ensures.some.1)
+pub loop-depth-smaller-in-Waits : goal.loop-depth-smaller-in-Waits
+loop-depth-smaller-in-Waits g c =
+    subst (λ (marks : List Mark). 2 * unseen marks + (c.loop-depth.depth + 1) < 2 * unseen c.loop-depth.marks + c.loop-depth.depth) (sym c.open-in-Waits.ensures.marks)
+    (push_smaller _ _ _ _ _ _ _ c.loop-depth.invariant.going c.loop-depth-test.true c.requires.within c.requires.grounded c.in-Waits.next c.in-Waits.ensures.found.0 c.in-Waits.ensures.found.1)
 
-pub loop-depth-preserved-in-Some : goal.loop-depth-preserved-in-Some
-loop-depth-preserved-in-Some g c = record {
+pub loop-depth-preserved-in-Waits : goal.loop-depth-preserved-in-Waits
+loop-depth-preserved-in-Waits g c = record {
   going =
-      subst (λ (marks : List Mark). Going (g.N.Network.leads c.args.net.now) (g.N.Network.value c.args.net.now) c.args.root c.args.marks.now marks (set c.loop-depth.stack c.loop-depth.depth c.in-Some.next) (c.loop-depth.depth + 1)) (sym c.open-in-Some.ensures.marks)
-      (push _ _ _ _ _ _ _ c.loop-depth.invariant.going c.loop-depth-test.true c.requires.within c.requires.grounded c.in-Some.next c.in-Some.ensures.some.0 c.in-Some.ensures.some.1);
-  touched = c.open-in-Some.ensures.touched;
+      subst (λ (marks : List Mark). Going (g.N.Network.leads c.args.net.now) (g.N.Network.value c.args.net.now) c.args.root c.args.marks.now marks (set c.loop-depth.stack c.loop-depth.depth c.in-Waits.next) (c.loop-depth.depth + 1)) (sym c.open-in-Waits.ensures.marks)
+      (push _ _ _ _ _ _ _ c.loop-depth.invariant.going c.loop-depth-test.true c.requires.within c.requires.grounded c.in-Waits.next c.in-Waits.ensures.found.0 c.in-Waits.ensures.found.1);
+  touched = c.open-in-Waits.ensures.touched;
 }
 
 pub offset_bounds-marks-top : goal.offset_bounds-marks-top
@@ -44,12 +44,12 @@ pub bounds-marks-top : goal.bounds-marks-top
 bounds-marks-top g c = top_within _ _ _ _ _ _ _ c.loop-depth.invariant.going c.loop-depth-test.true c.requires.within c.requires.grounded
 
 pub loop-depth-smaller : goal.loop-depth-smaller
-loop-depth-smaller g c = pop_smaller _ _ _ _ _ _ _ c.loop-depth.invariant.going c.loop-depth-test.true c.requires.within c.requires.grounded c.value_by.result c.value_by.ensures.value
+loop-depth-smaller g c = pop_smaller _ _ _ _ _ _ _ c.loop-depth.invariant.going c.loop-depth-test.true c.requires.within c.requires.grounded c.in-Worth.value c.in-Worth.ensures.found
 
 pub loop-depth-preserved : goal.loop-depth-preserved
 loop-depth-preserved g c = record {
-  going = pop _ _ _ _ _ _ _ c.loop-depth.invariant.going c.loop-depth-test.true c.requires.within c.requires.grounded c.value_by.result c.value_by.ensures.value;
+  going = pop _ _ _ _ _ _ _ c.loop-depth.invariant.going c.loop-depth-test.true c.requires.within c.requires.grounded c.in-Worth.value c.in-Worth.ensures.found;
   touched =
-      settled _ _ _ c.loop-depth.invariant.touched _ c.value_by.result
+      settled _ _ _ c.loop-depth.invariant.touched _ c.in-Worth.value
       (top_open _ _ _ _ _ _ _ c.loop-depth.invariant.going c.loop-depth-test.true c.requires.within c.requires.grounded);
 }
