@@ -1,7 +1,7 @@
 //! The simulator on texts: a Verilog text, a data file and a budget give a dump.
 
 ghost use Rattle.std.specs.Prelude.{◌≡◌, ◌<◌, ◌⊎◌, IfOk, IfErr, length};
-ghost use Rattle.cx_text.specs.Loading.{FitsRows, plain_loaded};
+ghost use Rattle.cx_text.specs.Loading.{FitsRows, plain_loaded, with_words, words_loaded};
 ghost use Rattle.cx_data.specs.Dump.{dump_text};
 ghost use Rattle.cx_vtree.specs.InstanceTree.{instances_of, nets_at};
 ghost use Rattle.cx_vtree.specs.PlainParts.{rows_of};
@@ -9,7 +9,6 @@ ghost use Rattle.cx_vtree.specs.PlainSources.{plain_source};
 ghost use Rattle.cx_vtree.specs.SimRun.{SimRun};
 ghost use Rattle.cx_vtable.specs.Paths.{path_of};
 ghost use Rattle.cx_vsim.specs.Answers.{IsDone, final_words};
-ghost use Rattle.cx_vsim.specs.Models.{with_words, words_loaded};
 ghost use Rattle.cx_driver.specs.Simulated.{IsRunAnswer, IsSimAnswer, IsSimStop, IsSourceAnswer, IsSourceStop, IsUnread, IsVerilogOf, StopsRun, read_stop};
 ghost use Rattle.cx_driver.specs.declared.stops.Stop.TheVariants as stops;
 

@@ -5,8 +5,7 @@ use Rattle.std.proofs.lemmas.List.{length-map, get_or-map}
 use Rattle.std.proofs.lemmas.List.Elements.{All-nil, All-cons, All-head, All-tail}
 use Rattle.std.specs.List.{slice_get}
 use denote.Struct.Props.{props}
-use Rattle.cx_text.specs.Loading.{PlainMemory, FitsShape, FitsRows, word_count}
-use Rattle.cx_memory_words.specs.Words.{with_words}
+use Rattle.cx_text.specs.Loading.{PlainMemory, FitsShape, FitsRows, word_count, with_words}
 use Rattle.cx_prim.specs.CellStates.{CellState, Stateless, Register, Memory, SequentialMemory, Multiplier, Divider, Timer, StateShape, MemoryOf, SequentialMemoryOf, AreWords, IsState, TakesWords, words_of}
 use Rattle.cx_prim.specs.Table.{row_of}
 use Rattle.cx_meaning.specs.Designs.{PlainKind, OfPrimitive, OfComponent, PlainCell, PlainDesign, component_at}

@@ -4,8 +4,7 @@ use Rattle.std.proofs.Math.Seq.{drop-cons}
 use Rattle.std.proofs.Math.ListN.{drop_of_length-le}
 use Rattle.std.proofs.lemmas.List.{drop-set-lt, length-map, get_or-map, map-set}
 use Rattle.cx_text.specs.declared.loading.LoadedMemory.{LoadedMemory}
-use Rattle.cx_text.specs.Loading.{PlainMemory, plain_memory}
-use Rattle.cx_memory_words.specs.Words.{with_words}
+use Rattle.cx_text.specs.Loading.{PlainMemory, plain_memory, with_words}
 use Rattle.cx_prim.specs.CellStates.{CellState}
 use Rattle.cx_meaning.specs.Designs.{PlainCell}
 use Rattle.cx_design.specs.declared.cells.Cell.{Cell}

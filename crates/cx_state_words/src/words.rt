@@ -1,8 +1,7 @@
 //! Words of cells over those of memories.
 
 ghost use Rattle.std.specs.Prelude.{◌≡◌, map};
-ghost use Rattle.cx_text.specs.Loading.{plain_loaded, plain_memory, FitsRows};
-ghost use Rattle.cx_memory_words.specs.Words.{with_words};
+ghost use Rattle.cx_text.specs.Loading.{plain_loaded, plain_memory, FitsRows, with_words};
 ghost use Rattle.cx_meaning.specs.Instances as meaning;
 ghost use Rattle.cx_meaning.specs.Instances.{State as StateOf, tree_of};
 ghost use Rattle.cx_rules.specs.Externals.{external_rows};

@@ -5,7 +5,7 @@ use Rattle.std.proofs.lemmas.List.{length-map}
 use Rattle.std.proofs.lemmas.Option.{same_Some, slice_get-map, slice_get_past}
 use Rattle.std.specs.Option.{option_map_or}
 use Rattle.cx_bits.specs.BitVector.{BitVector}
-use Rattle.cx_text.specs.Loading.{PlainRow, PlainMemory, FitsShape, FitsRows, word_count}
+use Rattle.cx_text.specs.Loading.{PlainRow, PlainMemory, FitsShape, FitsRows, word_count, words_loaded}
 use Rattle.cx_vtree.specs.Plain.{PlainDecl, PlainExternal, PlainSource}
 use Rattle.cx_vtree.specs.PlainParts.{row_of, rows_of}
 use Rattle.cx_vtree.specs.InstanceTree.{decls_at, instances_of}
@@ -24,7 +24,6 @@ use Rattle.cx_vflat.proofs.WordLemmas.{word_in_same, word_in_width, word_in_valu
 use Rattle.cx_vflat.proofs.EdgeLemmas.{even_stored, same_array_widths}
 use Rattle.cx_vplaces.specs.Externals.{array_of}
 use Rattle.cx_vsim.specs.Stands.{start_moment, words_by}
-use Rattle.cx_vsim.specs.Models.{words_loaded}
 use Rattle.cx_vsim.specs.Arrays.{rewritten, with_arrays, Takes, CanTake}
 use Rattle.cx_vsim.specs.Memories.{HasMemories}
 use Rattle.cx_vsim.proofs.Elements.{mapped_at, all_at, found_or_not}

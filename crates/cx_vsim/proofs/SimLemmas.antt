@@ -1,6 +1,6 @@
 -- What a simulator holds when it is made, once words are loaded, and after a run.
 use Rattle.std.proofs.Common.{◌≡◌, ℕ, ◌<◌, ◌^◌, List, [], map, length, sym, subst}
-use Rattle.cx_text.specs.Loading.{PlainMemory, FitsRows}
+use Rattle.cx_text.specs.Loading.{PlainMemory, FitsRows, words_loaded}
 use Rattle.cx_vtree.specs.Plain.{PlainSource}
 use Rattle.cx_vtree.specs.PlainParts.{rows_of}
 use Rattle.cx_vtree.specs.InstanceTree.{instances_of}
@@ -23,7 +23,6 @@ use Rattle.cx_vsim.specs.declared.answers.SimAnswer.{SimAnswer}
 use Rattle.cx_vsim.specs.declared.numbers.Numbers.{Numbers}
 use Rattle.cx_vsim.specs.Arrays.{with_arrays}
 use Rattle.cx_vsim.specs.Memories.{HasMemories}
-use Rattle.cx_vsim.specs.Models.{words_loaded}
 use Rattle.cx_vsim.specs.Numbers.{AreNumbersOf}
 use Rattle.cx_vsim.specs.Stands.{SimStands, RanStands, IsToldAs, TellsNet, outcome_by, words_by, start_moment}
 use Rattle.cx_vsim.proofs.Start.{zeros_start}

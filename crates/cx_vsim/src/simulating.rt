@@ -1,12 +1,11 @@
 //! A source that is run from reset, and what its run came to.
 
 ghost use Rattle.std.specs.Prelude.{◌≡◌, [], IfOk};
-ghost use Rattle.cx_text.specs.Loading.{FitsRows, plain_loaded};
+ghost use Rattle.cx_text.specs.Loading.{FitsRows, plain_loaded, words_loaded, with_words};
 ghost use Rattle.cx_vtree.specs.PlainParts.{rows_of};
 ghost use Rattle.cx_vtree.specs.PlainSources.{plain_source};
 ghost use Rattle.cx_vtree.specs.SimRun.{SimRun};
 ghost use Rattle.cx_vsim.specs.Answers.{IsDone, NamesNet, answer_of, final_words};
-ghost use Rattle.cx_vsim.specs.Models.{words_loaded, with_words};
 
 use crate::answers::SimAnswer;
 use crate::laws::{instances_are_few, memories_are_arrays};

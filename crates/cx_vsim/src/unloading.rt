@@ -1,9 +1,8 @@
 //! Words of arrays into the memories of a dump.
 
 ghost use Rattle.std.specs.Prelude.{◌≡◌, map};
-ghost use Rattle.cx_text.specs.Loading.{plain_loaded};
+ghost use Rattle.cx_text.specs.Loading.{plain_loaded, with_words};
 ghost use Rattle.cx_veval.specs.Stores.{plain_words};
-ghost use Rattle.cx_vsim.specs.Models.{with_words};
 ghost use Rattle.cx_vsim.specs.Stands.{words_by};
 ghost use Rattle.cx_vsim.specs.Arrays.{AllGivenFit, CanGive};
 

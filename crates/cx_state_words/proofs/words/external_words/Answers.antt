@@ -1,8 +1,7 @@
 use Rattle.std.proofs.Common.{rules, ◌≡◌, ◌<◌, List, length, map, sym, ap, ◌∙◌, subst, arith}
 use Rattle.std.specs.Vec.{with_items}
 use Rattle.std.proofs.lemmas.List.{with_items_is}
-use Rattle.cx_text.specs.Loading.{plain_loaded, plain_memory, FitsRows}
-use Rattle.cx_memory_words.specs.Words.{with_words}
+use Rattle.cx_text.specs.Loading.{plain_loaded, plain_memory, FitsRows, with_words}
 use Rattle.cx_meaning.specs.Designs.{PlainComponent, PlainDesign, component_at}
 use Rattle.cx_rules.specs.Externals.{external_rows}
 use Rattle.cx_design.specs.PlainForms.{plain_cell}
