@@ -12,6 +12,3 @@ mod signs;
 pub use cx_tokens::{Sign, Token, TokenKind};
 pub use faults::{LexFault, LexKind};
 pub use lexing::{lex, one_reading};
-
-#[cfg(test)]
-mod tests;

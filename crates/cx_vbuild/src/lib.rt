@@ -15,6 +15,3 @@ pub use laws::{driven_nets_stand, drivers_are_right, tables_fit, zeros_stand};
 pub use parts::{Part, PartTable, all_parts, code_part};
 pub use ties::{give_nets, tie_ports};
 pub use zeros::stored;
-
-#[cfg(test)]
-mod tests;

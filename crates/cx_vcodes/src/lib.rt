@@ -8,6 +8,3 @@ mod numbers;
 pub use codes::code;
 pub use laws::{code_widths, names_have_numbers};
 pub use numbers::ModuleNumbers;
-
-#[cfg(test)]
-mod tests;

@@ -10,6 +10,3 @@ mod tables;
 
 pub use facts::{memories_stand, trees_can_be_built};
 pub use machines::{Built, machine};
-
-#[cfg(test)]
-mod tests;

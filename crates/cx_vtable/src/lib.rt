@@ -6,6 +6,3 @@ mod tree;
 
 pub use paths::loop_path;
 pub use tree::{Row, rows};
-
-#[cfg(test)]
-mod tests;

@@ -98,7 +98,7 @@ fn append(path: &mut Vec<u8>, rows: &[Row<'_>], instance: usize) -> Result<(), M
 }
 
 /// The bytes of a path.
-pub(crate) fn net_path(
+fn net_path(
     alloc: Global,
     rows: &[Row<'_>],
     instance: usize,

@@ -1,16 +1,54 @@
-//! What no clause says: that the text's tokens are answered where there is memory.
+//! Places, numerals and tokens. The values were worked by hand.
 
-use crate::{LexFault, LexKind, Sign, Token, TokenKind, lex};
-use cx_text::{DESIGN_BYTES, Name, Place};
+use cx_lex::{LexKind, lex};
+use cx_text::{Cursor, DESIGN_BYTES, Memory, Name, Place, decimal};
+use cx_tokens::{Sign, TokenKind};
 use std::alloc::Global;
 use std::process::Abort;
 use std::test::Fail;
 
-fn word(alloc: Global, bytes: &[u8]) -> Result<TokenKind, Fail> {
-    Ok(TokenKind::Word(Name::from_bytes(alloc, bytes).ok().ok_or("memory")?))
+/// Counted by hand: a line feed has the place of its own line, and the byte behind it begins the next.
+#[test]
+fn places_count_from_one(rt: HostRuntime) {
+    let mut cursor = Cursor::new(b"a\n\nbc");
+    let want = [
+        (1, 1, Some(b'a')),
+        (1, 2, Some(b'\n')),
+        (2, 1, Some(b'\n')),
+        (3, 1, Some(b'b')),
+        (3, 2, Some(b'c')),
+        (3, 3, None),
+        (3, 3, None),
+    ];
+    for (line, column, byte) in want {
+        assert_eq!(rt; cursor.place(), Place { line, column });
+        assert_eq!(rt; cursor.peek(), byte);
+        assert_eq!(rt; cursor.next(), byte);
+    }
 }
 
-// Whether two kinds are of one token.
+/// 2 to the 128 is 340282366920938463463374607431768211456.
+#[test]
+fn decimals_stop_at_128_bits(rt: HostRuntime) {
+    let cases: [(&[u8], Option<u128>); 7] = [
+        (b"", None),
+        (b"0", Some(0)),
+        (b"00042", Some(42)),
+        (b"4x", None),
+        (b"-1", None),
+        (b"340282366920938463463374607431768211455", Some(u128::MAX)),
+        (b"340282366920938463463374607431768211456", None),
+    ];
+    for (digits, want) in cases {
+        assert_eq!(rt; decimal(digits), want);
+    }
+}
+
+fn word(alloc: Global, bytes: &[u8]) -> Result<TokenKind, Memory> {
+    Ok(TokenKind::Word(Name::from_bytes(alloc, bytes)?))
+}
+
+/// Whether two kinds are of one token.
 fn same(a: &TokenKind, b: &TokenKind) -> bool {
     match (a, b) {
         (TokenKind::Word(a), TokenKind::Word(b)) => *a == *b,
@@ -22,7 +60,7 @@ fn same(a: &TokenKind, b: &TokenKind) -> bool {
     }
 }
 
-// Worked by hand: kinds in order, each with its line and column.
+/// Worked by hand: kinds in order, each with its line and column.
 #[test]
 fn tokens_have_their_places(rt: HostRuntime) -> Result<(), Fail> {
     let text =
@@ -74,56 +112,51 @@ fn tokens_have_their_places(rt: HostRuntime) -> Result<(), Fail> {
     Ok(())
 }
 
-// How many tokens a text has, or its fault.
-fn outcome(rt: &impl Abort, alloc: Global, text: &[u8]) -> Result<usize, LexFault> {
+/// How many tokens a text has, or its fault with its line and column.
+fn outcome(rt: &impl Abort, alloc: Global, text: &[u8]) -> Result<usize, (LexKind, u32, u32)> {
     assert!(rt; text.len() <= DESIGN_BYTES);
-    let tokens = lex(alloc, text)?;
-    Ok(tokens.len())
+    match lex(alloc, text) {
+        Ok(tokens) => Ok(tokens.len()),
+        Err(fault) => Err((fault.kind, fault.place.line, fault.place.column)),
+    }
 }
 
-fn fault(kind: LexKind, line: u32, column: u32) -> Result<usize, LexFault> {
-    Err(LexFault {
-        kind,
-        place: Place { line, column },
-    })
-}
-
-// Worked by hand from the rules of the tokens: the first fault, or the count of tokens.
+/// From the rules of the tokens: the count of tokens, or the first fault.
 #[test]
 fn faults_are_the_first(rt: HostRuntime) {
-    let cases: [(&[u8], Result<usize, LexFault>); 30] = [
+    let cases: [(&[u8], Result<usize, (LexKind, u32, u32)>); 30] = [
         (b"", Ok(0)),
         (b" \t\r\n", Ok(0)),
         (b"a;b", Ok(3)),
-        (b"foo $", fault(LexKind::BadByte, 1, 5)),
-        (b"a\n /b", fault(LexKind::BadByte, 2, 2)),
-        (b"a -b", fault(LexKind::BadByte, 1, 3)),
-        (b"caf\xc3\xa9", fault(LexKind::BadByte, 1, 4)),
-        (b"/*/", fault(LexKind::OpenComment, 1, 1)),
+        (b"foo $", Err((LexKind::BadByte, 1, 5))),
+        (b"a\n /b", Err((LexKind::BadByte, 2, 2))),
+        (b"a -b", Err((LexKind::BadByte, 1, 3))),
+        (b"caf\xc3\xa9", Err((LexKind::BadByte, 1, 4))),
+        (b"/*/", Err((LexKind::OpenComment, 1, 1))),
         (b"/**/a", Ok(1)),
-        (b"a /* * /\n", fault(LexKind::OpenComment, 1, 3)),
+        (b"a /* * /\n", Err((LexKind::OpenComment, 1, 3))),
         (b"// /* \" $\na", Ok(1)),
-        (b"a \"b\nc\"", fault(LexKind::OpenString, 1, 3)),
-        (b"\"", fault(LexKind::OpenString, 1, 1)),
+        (b"a \"b\nc\"", Err((LexKind::OpenString, 1, 3))),
+        (b"\"", Err((LexKind::OpenString, 1, 1))),
         (b"\"\"", Ok(1)),
-        (b"32'd10x", fault(LexKind::BadLiteral, 1, 1)),
+        (b"32'd10x", Err((LexKind::BadLiteral, 1, 1))),
         (b"32'd10", Ok(1)),
-        (b"32'd", fault(LexKind::BadLiteral, 1, 1)),
-        (b"32'D1", fault(LexKind::BadLiteral, 1, 1)),
-        (b"32 'd1", fault(LexKind::BadByte, 1, 4)),
-        (b"4'b102", fault(LexKind::BadLiteral, 1, 1)),
-        (b"4'o8", fault(LexKind::BadLiteral, 1, 1)),
+        (b"32'd", Err((LexKind::BadLiteral, 1, 1))),
+        (b"32'D1", Err((LexKind::BadLiteral, 1, 1))),
+        (b"32 'd1", Err((LexKind::BadByte, 1, 4))),
+        (b"4'b102", Err((LexKind::BadLiteral, 1, 1))),
+        (b"4'o8", Err((LexKind::BadLiteral, 1, 1))),
         (b"8'xfF", Ok(1)),
-        (b"8'xg", fault(LexKind::BadLiteral, 1, 1)),
-        (b"1'd1'd1", fault(LexKind::BadLiteral, 1, 1)),
-        (b"7_", fault(LexKind::BadLiteral, 1, 1)),
+        (b"8'xg", Err((LexKind::BadLiteral, 1, 1))),
+        (b"1'd1'd1", Err((LexKind::BadLiteral, 1, 1))),
+        (b"7_", Err((LexKind::BadLiteral, 1, 1))),
         (b"18446744073709551615", Ok(1)),
-        (b"18446744073709551616", fault(LexKind::BadLiteral, 1, 1)),
-        (b"4294967296'd0", fault(LexKind::BadLiteral, 1, 1)),
+        (b"18446744073709551616", Err((LexKind::BadLiteral, 1, 1))),
+        (b"4294967296'd0", Err((LexKind::BadLiteral, 1, 1))),
         (b"128'd340282366920938463463374607431768211455", Ok(1)),
         (
             b"128'd340282366920938463463374607431768211456",
-            fault(LexKind::BadLiteral, 1, 1),
+            Err((LexKind::BadLiteral, 1, 1)),
         ),
     ];
     for (text, wanted) in cases {
@@ -131,7 +164,7 @@ fn faults_are_the_first(rt: HostRuntime) {
     }
 }
 
-// A name and a string of 255 bytes are read, and none of 256.
+/// A name and a string of 255 bytes are read, and none of 256.
 #[test]
 fn names_have_255_bytes(rt: HostRuntime) -> Result<(), Fail> {
     let mut text = vec![in rt.alloc(); b'a'; 255]?;
@@ -139,18 +172,18 @@ fn names_have_255_bytes(rt: HostRuntime) -> Result<(), Fail> {
     text.push(b'_')?;
     assert_eq!(rt;
         outcome(&rt, rt.alloc(), &text),
-        fault(LexKind::BadLiteral, 1, 1)
+        Err((LexKind::BadLiteral, 1, 1))
     );
     let mut quoted = vec![in rt.alloc(); b'"'; 1]?;
     quoted.extend_from_slice(&text)?;
     assert_eq!(rt;
         outcome(&rt, rt.alloc(), &quoted),
-        fault(LexKind::OpenString, 1, 1)
+        Err((LexKind::OpenString, 1, 1))
     );
     quoted.push(b'"')?;
     assert_eq!(rt;
         outcome(&rt, rt.alloc(), &quoted),
-        fault(LexKind::BadLiteral, 1, 1)
+        Err((LexKind::BadLiteral, 1, 1))
     );
     Ok(())
 }

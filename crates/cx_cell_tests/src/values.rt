@@ -1,8 +1,8 @@
-//! Values that Python computed with its unbounded integers.
+//! Operators on values, as Python computed them with its unbounded integers.
 
 ghost use Rattle.std.specs.Prelude.{◌≡◌};
 
-use crate::Bits;
+use cx_bits::Bits;
 use std::test::Fail;
 
 /// Width, the two operands, and what the operators give, in the order of `results`.
