@@ -10,8 +10,8 @@ use Rattle.cx_vtree.specs.Layout.{is_laid_out}
 use Rattle.cx_vtree.specs.Sound.{is_sound}
 use Rattle.cx_vtree.specs.Spelling.{text_of}
 use Rattle.cx_vtree.specs.SimRun.{Outcome, DoneAt, LoopAt, NotDone, SimRun}
-use Rattle.cx_vtable.specs.Paths.{path_of}
-use Rattle.cx_vlines.specs.Held.{is_held}
+use Rattle.cx_velab.specs.Paths.{path_of}
+use Rattle.cx_vread.specs.Held.{is_held}
 use Rattle.cx_vread.specs.ReadAnswers.{Answers, ReadAs}
 use Rattle.cx_vread.specs.declared.refusals.ReadRefusal.{ReadRefusal}
 use Rattle.cx_vread.specs.declared.refusals.ReadRefusal.TheVariants as unread

@@ -8,8 +8,8 @@ use Rattle.cx_text.specs.Loading.{PlainRow, PlainMemory, FitsShape, FitsRows, wo
 use Rattle.cx_vtree.specs.Plain.{PlainSource}
 use Rattle.cx_vtree.specs.PlainParts.{row_of, rows_of}
 use Rattle.cx_vtree.specs.InstanceTree.{instances_of}
-use Rattle.cx_veval.specs.Stores.{PlainWords}
-use Rattle.cx_vplaces.specs.Externals.{array_of}
+use Rattle.cx_vnets.specs.Stores.{PlainWords}
+use Rattle.cx_vsim.specs.Externals.{array_of}
 use Rattle.cx_vsim.specs.Answers.{IsDone, final_words}
 use Rattle.cx_vsim.specs.Stands.{words_at, words_by, outcome_by, RanStands}
 use Rattle.cx_vsim.specs.Arrays.{Gives, CanGive, AllGivenFit}

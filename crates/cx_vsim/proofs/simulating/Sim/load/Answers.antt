@@ -5,8 +5,8 @@ use Rattle.cx_text.specs.Loading.{FitsRows, plain_loaded, words_loaded}
 use Rattle.cx_vtree.specs.declared.sources.Source.{Source}
 use Rattle.cx_vtree.specs.PlainParts.{rows_of}
 use Rattle.cx_vtree.specs.PlainSources.{plain_source}
-use Rattle.cx_veval.specs.declared.nets.Stored.{Stored}
-use Rattle.cx_veval.specs.Stores.{plain_words}
+use Rattle.cx_vnets.specs.declared.nets.Stored.{Stored}
+use Rattle.cx_vnets.specs.Stores.{plain_words}
 use Rattle.cx_vsim.specs.Arrays.{CanTake, with_arrays}
 use Rattle.cx_vsim.specs.Models.{Loaded}
 use Rattle.cx_vsim.specs.Stands.{words_by}

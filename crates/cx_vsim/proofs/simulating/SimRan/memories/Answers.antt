@@ -2,7 +2,7 @@ use Rattle.std.proofs.Common.{◌≡◌, map, ap, sym, ◌∙◌, subst}
 use Rattle.cx_text.specs.Loading.{FitsRows, plain_loaded, with_words}
 use Rattle.cx_vtree.specs.PlainParts.{rows_of}
 use Rattle.cx_vtree.specs.PlainSources.{plain_source}
-use Rattle.cx_veval.specs.Stores.{plain_words}
+use Rattle.cx_vnets.specs.Stores.{plain_words}
 use Rattle.cx_vsim.specs.Answers.{IsDone}
 use Rattle.cx_vsim.specs.Arrays.{AllGivenFit, CanGive}
 use Rattle.cx_vsim.specs.Models.{Ended}
