@@ -50,19 +50,16 @@ class Crate:
             word, name, is_impl, of = item.groups()
             body = text[item.end() : after.start() if after else len(text)]
             clauses = {a or b for a, b in CLAUSE.findall(body)}
-            if is_impl or word == 'trait':
-                owner = of if is_impl else name
-            if is_impl:
-                continue
             if re.search(r'\bensures[ \t]*\{', body):
                 clauses.add('')
-            if word == 'trait':
-                self.clauses.setdefault(name, []).append((name, clauses | {''}))
+            if is_impl or word == 'trait':
+                owner = of if is_impl else name
             else:
+                owner = owner if item.group()[0] in ' \t' else ''
                 self.clauses.setdefault(name, []).append((owner, clauses))
-                for of in re.findall(r'[A-Z]\w+', owner):
-                    # what the functions of an impl promise is told of its type and of its trait too
-                    self.clauses.setdefault(of, []).append((owner, clauses))
+            # what a trait and an impl promise, and their functions, is told of the trait and of the type
+            for one in re.findall(r'[A-Z]\w+', owner):
+                self.clauses.setdefault(one, []).append((owner, clauses | ({''} if word == 'trait' else set())))
 
     def lacks(self, name, clauses):
         """Why a contract is not there, or None."""
