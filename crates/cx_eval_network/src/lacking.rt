@@ -15,7 +15,7 @@ ghost use Rattle.cx_design_parts.specs.Cells.{plain_part_port};
 ghost use Rattle.cx_eval_network.specs.Places.{IsPlace, active_of, instance_of};
 ghost use Rattle.cx_eval_network.specs.Lacking.{lacking, owned_lack};
 
-use crate::Place;
+use crate::PortContext;
 use cx_cells::Primitive;
 use cx_design::{Active, PortRef};
 use cx_design_parts::{At, OwnedAssign, PartPort, part_port, read_count, side, stands_at};
@@ -23,7 +23,7 @@ use cx_eval_drives::{Known, lack_in_assign, offset_of, own_assigns_drive};
 use cx_prim::Side;
 
 /// The first port of its instance that a port depends on at once and that is not known. It takes no memory.
-pub fn lacking_port<K: Known>(place: &Place<'_>, ports: &K) -> Option<PortRef>
+pub fn lacking_port<K: Known>(place: &PortContext<'_>, ports: &K) -> Option<PortRef>
     requires place { IsPlace place.now }
     ensures value { result ≡ lacking (K.known ports.now) (lead_ports (instance_of place.now) (active_of place.now) place.now.port) }
 {
@@ -35,7 +35,12 @@ pub fn lacking_port<K: Known>(place: &Place<'_>, ports: &K) -> Option<PortRef>
 }
 
 /// The first for a port of a cell.
-fn lack_of_cell<K: Known>(place: &Place<'_>, ports: &K, cell: u32, port: u32) -> Option<PortRef>
+fn lack_of_cell<K: Known>(
+    place: &PortContext<'_>,
+    ports: &K,
+    cell: u32,
+    port: u32,
+) -> Option<PortRef>
     requires place { IsPlace place.now }
     requires port { place.now.port ≡ Cell cell port }
     ensures value { result ≡ lacking (K.known ports.now) (cell_leads (part_of (instance_of place.now)) (active_of place.now) cell port (cell_at (cells_of (instance_of place.now)) cell)) }
@@ -49,7 +54,7 @@ fn lack_of_cell<K: Known>(place: &Place<'_>, ports: &K, cell: u32, port: u32) ->
 
 /// The first for a port of a primitive.
 fn lack_of_primitive<K: Known>(
-    place: &Place<'_>,
+    place: &PortContext<'_>,
     ports: &K,
     cell: u32,
     primitive: &Primitive,
@@ -68,7 +73,7 @@ fn lack_of_primitive<K: Known>(
 
 /// The first for a port of a component cell.
 fn lack_of_part<K: Known>(
-    place: &Place<'_>,
+    place: &PortContext<'_>,
     ports: &K,
     cell: u32,
     number: u32,
@@ -100,7 +105,7 @@ fn lack_of_inputs<K: Known>(ports: &K, cell: u32, primitive: &Primitive) -> Opti
 }
 
 /// The first of what its active assignments name.
-fn lack_of_drivers<K: Known>(place: &Place<'_>, ports: &K) -> Option<PortRef>
+fn lack_of_drivers<K: Known>(place: &PortContext<'_>, ports: &K) -> Option<PortRef>
     requires place { IsPlace place.now }
     ensures value { result ≡ lacking (K.known ports.now) (named_by (drivers (part_of (instance_of place.now)) (active_of place.now) place.now.port)) }
 {

@@ -9,7 +9,7 @@ ghost use Rattle.cx_eval_network.specs.Asked.{active_in, held_in};
 ghost use Rattle.cx_eval_network.specs.Askings.{IsPlaceOf, asked_of};
 
 use crate::asking::Asking;
-use crate::{NodePort, Place};
+use crate::{NodePort, PortContext};
 use cx_design::{Active, Seen};
 
 /// What stands at a node, where it is asked: a port of the asked instance or of a later one.
@@ -34,13 +34,13 @@ fn if_asked(found: NodePort, instance: usize) -> Option<NodePort>
 }
 
 /// The place of a port.
-pub fn place_of<'b>(asking: &Asking<'b>, found: NodePort) -> Place<'b>
+pub fn place_of<'b>(asking: &Asking<'b>, found: NodePort) -> PortContext<'b>
     requires nothing { asking.now.nothing.now ≡ actives.Nothing }
     requires within { found.instance < length (plain_state asking.now.state.now) }
     ensures value { IsPlaceOf asking.now found result }
 {
     let own = &asking.state.instances[found.instance];
-    Place {
+    PortContext {
         design: asking.design,
         drivers: asking.drivers,
         active: active_of(asking, found.instance),

@@ -13,7 +13,7 @@ use crate::asking::Asking;
 use crate::children::child_in;
 use crate::known::KnownPorts;
 use crate::lacking::lacking_port;
-use crate::{NodePort, Place};
+use crate::{NodePort, PortContext};
 use cx_design::PortRef;
 use cx_design_parts::{At, PartPort, part_port, stands_at};
 use cx_eval_demand::{NodeMark, is_known};
@@ -23,7 +23,7 @@ pub fn unknown_from(
     asking: &Asking<'_>,
     marks: &[NodeMark],
     found: NodePort,
-    place: &Place<'_>,
+    place: &PortContext<'_>,
 ) -> Option<usize>
     requires can { IsAsking asking.now }
     requires found { IsFound (asked_of asking.now) found }

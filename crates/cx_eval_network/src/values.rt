@@ -7,7 +7,7 @@ ghost use Rattle.cx_eval_network.specs.Askings.{IsAsking, IsFound, IsPlaceOf, as
 
 use crate::asking::Asking;
 use crate::below::MarkedBelow;
-use crate::{MarkedPorts, NodePort, Place, step_seen};
+use crate::{MarkedPorts, NodePort, PortContext, step_seen};
 use cx_design::Seen;
 use cx_eval_demand::NodeMark;
 use cx_laws::width_laws::found_has_width;
@@ -19,7 +19,7 @@ pub fn found_value(
     asking: &Asking<'_>,
     marks: &[NodeMark],
     found: NodePort,
-    place: &Place<'_>,
+    place: &PortContext<'_>,
 ) -> Seen
     requires can { IsAsking asking.now }
     requires found { IsFound (asked_of asking.now) found }

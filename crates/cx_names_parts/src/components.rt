@@ -9,7 +9,7 @@ ghost use Rattle.cx_names_scopes.specs.Scopes.{IsScope, tree_in, part_in};
 ghost use Rattle.cx_names_parts.specs.Leading.{AreCircles};
 ghost use Rattle.cx_names_rules.specs.Found.{first_of};
 
-use crate::Circles;
+use crate::CellCircles;
 use crate::cells::cells;
 use cx_ast::Tree;
 use cx_names_rules::{
@@ -97,7 +97,7 @@ fn component(
     alloc: Global,
     found: &mut Option<Diagnostic>,
     scope: &Scope,
-    circles: &Circles,
+    circles: &CellCircles,
     number: usize,
 ) -> Result<(), Memory>
     requires scope { IsScope scope.now }
@@ -123,7 +123,7 @@ pub(crate) fn components(
     requires { IsIndex (plain_tree tree.now) index.now }
     ensures { OnOk result (found.new ≡ first_of found.old (flat_map (rules.component_breaks (plain_tree tree.now)) (plain_tree tree.now).components)) }
 {
-    let circles = Circles::new(alloc, tree, index)?;
+    let circles = CellCircles::new(alloc, tree, index)?;
     for number in 0..tree.components.len() {
         let scope = Scope::new(tree, index, number);
         component(alloc, found, &scope, &circles, number)?;

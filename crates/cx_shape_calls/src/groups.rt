@@ -8,7 +8,7 @@ ghost use Rattle.cx_design.specs.PlainDesigns.{plain_design};
 ghost use Rattle.cx_shape_calls.specs.Inputs.{ArePathsOf};
 ghost use Rattle.cx_shape_calls.specs.Decisions.{AreShapesOf, IsShapeOf};
 
-use crate::{CallForm, Paths, Tally, form};
+use crate::{CallForm, Paths, PortTally, form};
 use cx_design::{Design, Group};
 use cx_design_parts::component;
 use cx_text::Memory;
@@ -19,7 +19,7 @@ use std::alloc::Global;
 pub struct GroupShape<'a> {
     pub form: CallForm<'a>,
     /// The inputs of component cells that it drives and that depend on an output or the done of the cell.
-    pub dependent: Tally,
+    pub dependent: PortTally,
 }
 
 /// What is kept of the groups of a component, in their order.

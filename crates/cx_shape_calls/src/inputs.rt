@@ -10,7 +10,7 @@ ghost use Rattle.cx_shape_calls.specs.Forms.{times};
 ghost use Rattle.cx_shape_calls.specs.Inputs as inputs;
 ghost use Rattle.cx_shape_calls.specs.Inputs.{AreDependent, AreDependentPorts, ArePathsOf, HasPaths, IsDependent, IsInputOf};
 
-use crate::{Callee, Tally, callee_of, tally};
+use crate::{Callee, PortTally, callee_of, tally};
 use cx_design::{Assign, Component, Design, Group, PortRef};
 use cx_design_leads::{GroupLeads, Nodes, continuous_leads};
 use cx_design_parts::{PartPort, part_port};
@@ -52,7 +52,7 @@ impl Paths {
         number: usize,
         place: usize,
         group: &Group,
-    ) -> Result<Tally, Memory>
+    ) -> Result<PortTally, Memory>
         requires within { number < length design.now.components.items }
         requires paths { ArePathsOf (component_of (plain_design design.now) number) self.old }
         requires group { place < length (component_at (plain_design design.now) number).groups }

@@ -1,6 +1,6 @@
 //! What a run works on.
 
-use crate::{Mark, Nets, Set, Store, Write};
+use crate::{NetMark, Nets, Set, Store, Write};
 use cx_bits::Bits;
 
 /// Nets with what changes at their edges.
@@ -23,7 +23,7 @@ pub struct Machine {
 /// Room for one cycle: a mark and a value for each net, a list for the search, and what each store writes.
 #[derive(Drop)]
 pub struct Bench {
-    pub marks: Vec<Mark>,
+    pub marks: Vec<NetMark>,
     pub values: Vec<Bits>,
     pub stack: Vec<usize>,
     pub writes: Vec<Option<Write>>,
