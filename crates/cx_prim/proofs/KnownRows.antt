@@ -67,6 +67,11 @@ pub known_one_bit : edge (divider_row 1) (divider_row 1).start (bits 1 1 ∷ bit
     ≡ Ok (Divider (record { count = 0; left = 1; right = 0; done = true }) 1 1)
 known_one_bit = refl
 
+-- the eighth cycle with `go` ends a division of 8 bits: 100 is 14 times 7 and 2
+pub known_division : edge (divider_row 8) (Divider (record { count = 7; left = 100; right = 7; done = false }) 0 0) (bits 1 1 ∷ None ∷ None ∷ None ∷ None ∷ None ∷ [])
+    ≡ Ok (Divider (record { count = 0; left = 100; right = 7; done = true }) 14 2)
+known_division = refl
+
 pub known_timer : edge (timer_row 3) (TimerState 2 false) (bits 1 1 ∷ None ∷ None ∷ []) ≡ Ok (TimerState 0 true)
 known_timer = refl
 
