@@ -3,11 +3,12 @@ use Rattle.std.specs.Prelude.{◌≡◌, true, false, [], ◌∷◌, Some, None,
 use Rattle.cx_meaning.specs.declared.ports.PortRef.TheVariants.{Cell, Literal}
 use Rattle.cx_meaning.specs.Designs.{PlainDesign, Within, StaticSeq, StaticRepeat, StaticIf, Empty, component_at, statements_of}
 use Rattle.cx_meaning.specs.Islands.{form_length}
-use Rattle.cx_meaning.proofs.KnownDesigns.{placed, assign, guarded, timed_group, mem, reg, st, enable, seq, design, one_bit, number, store}
+use Rattle.cx_meaning.proofs.KnownDesigns.{placed, child_cell, component, assign, guarded, timed_group, mem, reg, st, enable, seq, design, one_bit, number, store}
 use Rattle.cx_rules.specs.Ports.{component_of, keeps_literal}
 use Rattle.cx_rules.specs.WidthRules.{first_unequal, pairs_of}
 use Rattle.cx_rules.specs.StaticControl.{form_has_length, form_occurrences}
 use Rattle.cx_rules.specs.Items.{Dynamic}
+use Rattle.cx_rules.specs.LimitRule.{is_too_many}
 use Rattle.cx_rules.specs.Sizes.{design_size, weight_of, instances_below, depth_below, words_below}
 use Rattle.cx_meaning.specs.Instances.{tree_of}
 use Rattle.cx_rules.specs.Accepted.{comes_before}
@@ -46,6 +47,17 @@ known_empty_child = refl
 -- one instance, one level, one word
 pub known_tree : (instances_below (tree_of repeated) ≡ 1) × (depth_below (tree_of repeated) ≡ 1) × (words_below (tree_of repeated) ≡ 1)
 known_tree = (refl, refl, refl)
+
+-- main holds two instances of one component, which has a memory of one word: three instances on two levels, and two words
+abbrev twice : PlainDesign
+twice = record { components = component (mem ∷ []) [] [] (st Empty) ∷ component (child_cell 0 ∷ child_cell 0 ∷ []) [] [] (st Empty) ∷ []; main = 1 }
+
+pub known_two_instances : (instances_below (tree_of twice) ≡ 3) × (depth_below (tree_of twice) ≡ 2) × (words_below (tree_of twice) ≡ 2)
+known_two_instances = (refl, refl, refl)
+
+-- 2^32 turns are too many, and one less are not
+pub known_repeat : (is_too_many (Some 4294967296) ≡ true) × (is_too_many (Some 4294967295) ≡ false)
+known_repeat = (refl, refl)
 
 -- 8'd1 on a port of 32 bits: the target is named
 pub known_width : first_unequal (component_of repeated 0) (pairs_of (assign (Cell 1 0) (Literal 8 1) 1)) ≡ Some (Cell 1 0)
