@@ -1,3 +1,4 @@
+pub mod PlainTokens
 pub mod PlainGuards
 pub mod PlainStatements
 pub mod PlainTree

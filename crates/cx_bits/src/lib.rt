@@ -4,6 +4,3 @@
 mod values;
 
 pub use values::Bits;
-
-#[cfg(test)]
-mod tests;

@@ -1,11 +1,8 @@
 //! Sums, bits and shifts, and the primitives with one input or a choice.
 
-use crate::turns::plays_all;
-use cx_text::Memory;
-
 // Computed by a program in Python on lists of bits (a carry from bit to bit, shifts of the list), and compared there
 // with its integers modulo two to the width.
-const TWO_INPUTS: &str = "
+pub const TWO_INPUTS: &str = "
     std_add 1
     1 look 0 0 0
     1 look 0 1 1
@@ -159,7 +156,7 @@ const TWO_INPUTS: &str = "
 ";
 
 // Bits from a program in Python, cut, filled up and turned as lists. A choice has a value where all three inputs have one.
-const OTHERS: &str = "
+pub const OTHERS: &str = "
     std_wire 1
     1 look 1 1
     1 look . .
@@ -258,13 +255,3 @@ const OTHERS: &str = "
     std_const 128 7
     1 look 7
 ";
-
-#[test]
-fn two_inputs(rt: HostRuntime) -> Result<(), Memory> {
-    plays_all(&rt, rt.alloc(), TWO_INPUTS)
-}
-
-#[test]
-fn other_inputs(rt: HostRuntime) -> Result<(), Memory> {
-    plays_all(&rt, rt.alloc(), OTHERS)
-}

@@ -1,11 +1,8 @@
 //! Comparisons, at the ends of the ranges of signed numbers too.
 
-use crate::turns::plays_all;
-use cx_text::Memory;
-
 // Computed by a program in Python: lists of bits from the highest bit down, and compared there with its integers,
 // which `int.from_bytes` makes signed. The values are the least and the greatest signed number, -1 and their like.
-const COMPARISONS: &str = "
+pub const COMPARISONS: &str = "
     std_lt 1
     1 look 0 0 0
     1 look 0 1 1
@@ -366,8 +363,3 @@ const COMPARISONS: &str = "
     1 look 0x7ffffffffffffffffffffffffffffffe 0x7fffffffffffffffffffffffffffffff 0
     1 look 0x80000000000000000000000000000001 0x80000000000000000000000000000000 1
 ";
-
-#[test]
-fn compares(rt: HostRuntime) -> Result<(), Memory> {
-    plays_all(&rt, rt.alloc(), COMPARISONS)
-}

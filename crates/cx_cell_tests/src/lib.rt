@@ -1,4 +1,4 @@
-//! Values from outside for the primitives.
+//! Values from outside for the operators on values and for the primitives.
 #![tactic(auto)]
 
 #[cfg(test)]
@@ -18,6 +18,10 @@ mod pipes;
 #[cfg(test)]
 mod ports;
 #[cfg(test)]
+mod tables;
+#[cfg(test)]
 mod turns;
+#[cfg(test)]
+mod values;
 #[cfg(test)]
 mod words;

@@ -1,12 +1,8 @@
 //! Memories of one to four dimensions.
 
-use crate::turns::{found, plays_all};
-use cx_prim::Cycle;
-use cx_text::Memory;
-
 // Worked by hand from the rows. An address out of range in each dimension: a step is refused at the first such port and
 // changes nothing; an edge writes no word, reads 0, and raises done.
-const COMBINATIONAL: &str = "
+pub const COMBINATIONAL: &str = "
     std_mem_d1 8 3 2
     1 look 2 . 0 0 0
     1 step 2 9 1 9 1
@@ -52,7 +48,7 @@ const COMBINATIONAL: &str = "
 ";
 
 // Worked by hand from the rows. A write keeps the read data; `content_en` 0 with `write_en` 1 is idle.
-const SEQUENTIAL: &str = "
+pub const SEQUENTIAL: &str = "
     seq_mem_d1 32 3 2
     1 step 2 1 1 6 0 1
     1 step . 0 1 . 0 0
@@ -96,31 +92,8 @@ const SEQUENTIAL: &str = "
 ";
 
 // 4194304 words of 128 bits.
-const LARGE: &str = "
+pub const LARGE: &str = "
     comb_mem_d1 128 4194304 22
     1 step 4194303 0xffffffffffffffffffffffffffffffff 1 0xffffffffffffffffffffffffffffffff 1
     1 look 4194302 . . 0 1
 ";
-
-#[test]
-fn combinational(rt: HostRuntime) -> Result<(), Memory> {
-    plays_all(&rt, rt.alloc(), COMBINATIONAL)
-}
-
-#[test]
-fn sequential(rt: HostRuntime) -> Result<(), Memory> {
-    plays_all(&rt, rt.alloc(), SEQUENTIAL)
-}
-
-#[test]
-fn large(rt: HostRuntime) -> Result<(), Memory> {
-    plays_all(&rt, rt.alloc(), LARGE)
-}
-
-// Where the second allocation fails, as with `rt try --test --fail-alloc 2`, this one still passes.
-#[test]
-fn large_in_one_allocation(rt: HostRuntime) -> Result<(), Memory> {
-    let cell = found(&rt, "comb_mem_d1", &[128, 4194304, 22]);
-    let _state = cell.start(rt.alloc())?;
-    Ok(())
-}

@@ -1,12 +1,9 @@
-//! The multiplier and the divider, cycle by cycle, and the register and the timer.
-
-use crate::turns::plays_all;
-use cx_text::Memory;
+//! The multiplier and the divider, cycle by cycle, and the register.
 
 // Computed by a program in Python on lists of bits (sums of shifted lists, long division), and compared there with its
 // integers. A product comes in the third cycle with `go`, a quotient in the cycle whose number is the width; operands
 // are looked at in the first.
-const PIPES: &str = "
+pub const PIPES: &str = "
     std_mult_pipe 1
     1 step 1 1 1 0 0
     1 step 1 . . 0 0
@@ -81,7 +78,7 @@ const PIPES: &str = "
 
 // Worked by hand: 65536 * 65537 is 65536 modulo two to the 32, in the third cycle with `go`; a cycle without `go`
 // begins anew and keeps the output. 200 is 28 times 7 and 4; a divisor of 0 gives all ones and the dividend.
-const WORKED: &str = "
+pub const WORKED: &str = "
     std_mult_pipe 32
     1 step 1 65536 65537 0 0
     1 step 1 . . 0 0
@@ -107,7 +104,7 @@ const WORKED: &str = "
 ";
 
 // Worked by hand from the rows.
-const REGISTER: &str = "
+pub const REGISTER: &str = "
     std_reg 8
     1 look . . 0 0
     1 step 7 1 7 1
@@ -116,18 +113,3 @@ const REGISTER: &str = "
     1 idle 3 1 255 0
     1 reset 3 1 0 0
 ";
-
-#[test]
-fn pipes_by_width(rt: HostRuntime) -> Result<(), Memory> {
-    plays_all(&rt, rt.alloc(), PIPES)
-}
-
-#[test]
-fn worked_pipes(rt: HostRuntime) -> Result<(), Memory> {
-    plays_all(&rt, rt.alloc(), WORKED)
-}
-
-#[test]
-fn register(rt: HostRuntime) -> Result<(), Memory> {
-    plays_all(&rt, rt.alloc(), REGISTER)
-}

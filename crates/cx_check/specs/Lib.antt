@@ -1,1 +1,3 @@
+pub mod Unbuilt
 pub mod Verdicts
+pub mod Acceptance

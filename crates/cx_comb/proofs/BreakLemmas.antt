@@ -11,13 +11,13 @@ use Rattle.cx_rules.specs.Ports.{component_of}
 use Rattle.cx_rules.specs.Spots.{Part, AGroup, Whole, Spot, OnGroup}
 use Rattle.cx_rules.specs.RaceRule.{BreaksCombCycle, GroupBreaksCombCycle}
 use Rattle.cx_rules.specs.Accepted.{Breaks, stage_of, key_of, comes_before}
-use Rattle.cx_first_break.specs.Breaks.{Broken, key, earlier, first_of}
-use Rattle.cx_first_break.specs.Numbered.{numbered}
-use Rattle.cx_first_break.specs.Answers.{AreBreaks, AreBreaksBy, StageBreaks}
-use Rattle.cx_first_break.proofs.Order.{not_before_itself}
-use Rattle.cx_first_break.proofs.Lists.{first_append, in_left, in_right, in_either, in_numbered, numbered_in}
-use Rattle.cx_first_break.proofs.Families.{Either, breaks_of_either, breaks_of_same, breaks_of_stage}
-use Rattle.cx_leads.proofs.NodeLemmas.{component_part}
+use Rattle.cx_design_parts.specs.Breaks.{Broken, key, earlier, first_of}
+use Rattle.cx_design_parts.specs.Numbered.{numbered}
+use Rattle.cx_design_parts.specs.Answers.{AreBreaks, AreBreaksBy, StageBreaks}
+use Rattle.cx_design_parts.proofs.Order.{not_before_itself}
+use Rattle.cx_design_parts.proofs.Lists.{first_append, in_left, in_right, in_either, in_numbered, numbered_in}
+use Rattle.cx_design_parts.proofs.Families.{Either, breaks_of_either, breaks_of_same, breaks_of_stage}
+use Rattle.cx_design_leads.proofs.NodeLemmas.{component_part}
 use Rattle.cx_comb.specs.Circles.{AreCircles}
 use Rattle.cx_comb.specs.CombBreaks.{told_if, whole_break, group_break, group_breaks, component_breaks, CombBreaks, BreaksBefore, BreaksAt}
 

@@ -12,10 +12,10 @@ use Rattle.cx_meaning.specs.Instances.{Instance, part_of}
 use Rattle.cx_meaning.specs.Active.{nothing, group}
 use Rattle.cx_rules.specs.Footprints.{Leads}
 use Rattle.cx_rules.specs.RaceRule.{HasCycle}
-use Rattle.cx_leads.specs.Nodes.{node_count}
-use Rattle.cx_leads.specs.Edges.{HasEdges, IsGroupOf, LeadsInGroup}
-use Rattle.cx_leads.specs.declared.leading.GroupLeads.{GroupLeads}
-use Rattle.cx_leads.proofs.NodeLemmas.{within}
+use Rattle.cx_design_leads.specs.Nodes.{node_count}
+use Rattle.cx_design_leads.specs.Edges.{HasEdges, IsGroupOf, LeadsInGroup}
+use Rattle.cx_design_leads.specs.declared.leading.GroupLeads.{GroupLeads}
+use Rattle.cx_design_leads.proofs.NodeLemmas.{within}
 use Rattle.cx_comb.specs.Circles.{AreCircles, AreGroupCircles}
 use Rattle.cx_comb.specs.Pruning.{ServesGroups}
 

@@ -14,12 +14,12 @@ use Rattle.cx_rules.specs.Footprints.{Leads, Depends, at_once, by_way_of}
 use Rattle.cx_rules.specs.RaceRule.{HasCycle}
 use Rattle.cx_rules.specs.Ports.{component_of}
 use Rattle.cx_rules.specs.Wellformed.{IsDesign}
-use Rattle.cx_leads.specs.Nodes.{node_of}
-use Rattle.cx_leads.specs.Edges.{Between, HasEdges, LeadsInGroup}
-use Rattle.cx_leads.proofs.NodeLemmas.{distinct, some_is}
-use Rattle.cx_leads.proofs.DriverLemmas.{leads_by_group, by_group_leads}
-use Rattle.cx_leads.proofs.ThereLemmas.{leads_there}
-use Rattle.cx_leads.proofs.EdgeLemmas.{driven_from}
+use Rattle.cx_design_leads.specs.Nodes.{node_of}
+use Rattle.cx_design_leads.specs.Edges.{Between, HasEdges, LeadsInGroup}
+use Rattle.cx_design_leads.proofs.NodeLemmas.{distinct, some_is}
+use Rattle.cx_design_leads.proofs.DriverLemmas.{leads_by_group, by_group_leads}
+use Rattle.cx_design_leads.proofs.ThereLemmas.{leads_there}
+use Rattle.cx_design_leads.proofs.EdgeLemmas.{driven_from}
 use Rattle.cx_comb.specs.Pruning.{IsPruned}
 use Rattle.cx_comb.proofs.PruneLemmas.{circle_kept, pruned_circle}
 

@@ -9,7 +9,7 @@ use Rattle.cx_graphs.proofs.WalkLemmas.{targets_within}
 use Rattle.cx_meaning.specs.Designs.{PlainAssign, PlainComponent, PlainDesign, PlainGroup, component_at, group_at, no_group}
 use Rattle.cx_meaning.specs.Sights.{In}
 use Rattle.cx_rules.specs.Ports.{component_of}
-use Rattle.cx_leads.proofs.NodeLemmas.{component_part}
+use Rattle.cx_design_leads.proofs.NodeLemmas.{component_part}
 use Rattle.cx_comb.specs.Pruning.{HasTargets, IsKept, IsPruned}
 
 pub turned_graph : (g turned : Edges) → IsTurned g turned → IsGraph turned

@@ -8,8 +8,8 @@ use Rattle.cx_graphs.proofs.Lists.{same_or, in_before, in_last, the_last}
 use Rattle.cx_meaning.specs.Designs.{PlainAssign, PlainGroup}
 use Rattle.cx_meaning.specs.Instances.{Instance}
 use Rattle.cx_meaning.specs.Sights.{In}
-use Rattle.cx_leads.specs.Nodes.{node_count}
-use Rattle.cx_leads.specs.Links.{driven_node}
+use Rattle.cx_design_leads.specs.Nodes.{node_count}
+use Rattle.cx_design_leads.specs.Links.{driven_node}
 use Rattle.cx_comb.specs.Pruning.{AddsTargets, HasTargets, AreMarked, IsKept}
 
 none_some : (m : ℕ) → None ≡ Some m → ⊥

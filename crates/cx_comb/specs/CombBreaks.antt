@@ -6,8 +6,8 @@ use Rattle.cx_text.specs.declared.rules.Rule.TheVariants.{CombCycle}
 use Rattle.cx_meaning.specs.Designs.{PlainDesign, component_at, group_at}
 use Rattle.cx_rules.specs.Spots.{AGroup, Whole, Spot, OnGroup}
 use Rattle.cx_rules.specs.RaceRule.{BreaksCombCycle, GroupBreaksCombCycle}
-use Rattle.cx_first_break.specs.Breaks.{Broken}
-use Rattle.cx_first_break.specs.Numbered.{numbered}
+use Rattle.cx_design_parts.specs.Breaks.{Broken}
+use Rattle.cx_design_parts.specs.Numbered.{numbered}
 
 abbrev pub told_if : Bool → Broken → List Broken
 told_if found b = if found then b ∷ [] else []

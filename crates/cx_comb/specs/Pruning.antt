@@ -8,9 +8,9 @@ use Rattle.cx_meaning.specs.Sights.{In}
 use Rattle.cx_meaning.specs.Active.{nothing}
 use Rattle.cx_rules.specs.Footprints.{Leads}
 use Rattle.cx_graphs.specs.Ways.{HasCircle}
-use Rattle.cx_leads.specs.Nodes.{node_count}
-use Rattle.cx_leads.specs.Edges.{HasEdges}
-use Rattle.cx_leads.specs.Links.{driven_node}
+use Rattle.cx_design_leads.specs.Nodes.{node_count}
+use Rattle.cx_design_leads.specs.Edges.{HasEdges}
+use Rattle.cx_design_leads.specs.Links.{driven_node}
 
 -- a list of nodes to which those are added that assignments drive
 pub record AddsTargets (i : Instance) (assigns : List PlainAssign) (before after : List ℕ) : Type 0 where

@@ -2,14 +2,14 @@
 
 ghost use Rattle.std.specs.Prelude.{◌≡◌, ◌<◌, List, None, IfOk, length};
 ghost use Rattle.cx_design.specs.PlainDesigns.{plain_design};
-ghost use Rattle.cx_first_break.specs.Answers.{AreBreaks, AreBreaksBy, IsAnswer};
-ghost use Rattle.cx_first_break.specs.Breaks.{Broken, first_of};
+ghost use Rattle.cx_design_parts.specs.Answers.{AreBreaks, AreBreaksBy, IsAnswer};
+ghost use Rattle.cx_design_parts.specs.Breaks.{Broken, first_of};
 ghost use Rattle.cx_comb.specs.CombBreaks.{BreaksAt};
 
 use crate::circles::find_circles;
 use crate::telling::add_circles;
 use cx_design::{Design, Refusal};
-use cx_first_break::FirstBreak;
+use cx_design_parts::FirstBreak;
 use cx_text::Memory;
 use std::alloc::Global;
 

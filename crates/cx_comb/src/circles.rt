@@ -10,16 +10,16 @@ ghost use Rattle.cx_rules.specs.Footprints.{Leads};
 ghost use Rattle.cx_rules.specs.Ports.{component_of};
 ghost use Rattle.cx_rules.specs.RaceRule.{HasCycle};
 ghost use Rattle.cx_design.specs.PlainDesigns.{plain_design};
-ghost use Rattle.cx_leads.specs.Nodes.{IsNodesOf, node_count};
-ghost use Rattle.cx_leads.specs.Edges.{HasEdges, IsClear};
+ghost use Rattle.cx_design_leads.specs.Nodes.{IsNodesOf, node_count};
+ghost use Rattle.cx_design_leads.specs.Edges.{HasEdges, IsClear};
 ghost use Rattle.cx_comb.specs.Circles.{AreCircles, AreGroupCircles};
 ghost use Rattle.cx_comb.specs.Pruning.{ServesGroups};
 
 use crate::pruning::pruned;
 use cx_design::Design;
+use cx_design_leads::{GroupLeads, Nodes, continuous_leads};
+use cx_design_parts::component;
 use cx_graphs::{Walk, has_circle};
-use cx_leads::{GroupLeads, Nodes, continuous_leads};
-use cx_ports::component;
 use cx_text::Memory;
 use std::alloc::Global;
 

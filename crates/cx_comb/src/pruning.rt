@@ -10,14 +10,14 @@ ghost use Rattle.cx_rules.specs.Footprints.{Leads};
 ghost use Rattle.cx_rules.specs.Ports.{component_of};
 ghost use Rattle.cx_design.specs.PlainForms.{plain_assign, plain_assigns};
 ghost use Rattle.cx_design.specs.PlainDesigns.{plain_design};
-ghost use Rattle.cx_leads.specs.Nodes.{IsNodesOf};
-ghost use Rattle.cx_leads.specs.Edges.{HasEdges};
+ghost use Rattle.cx_design_leads.specs.Nodes.{IsNodesOf};
+ghost use Rattle.cx_design_leads.specs.Edges.{HasEdges};
 ghost use Rattle.cx_comb.specs.Pruning.{AddsTargets, HasTargets, IsKept, IsPruned, AreMarked};
 
 use cx_design::{Assign, Design};
+use cx_design_leads::{Nodes, driven};
+use cx_design_parts::component;
 use cx_graphs::{reached, turned};
-use cx_leads::{Nodes, driven};
-use cx_ports::component;
 use cx_text::Memory;
 use std::alloc::Global;
 

@@ -4,19 +4,18 @@ ghost use Rattle.std.specs.Prelude.{◌≡◌, ◌<◌, IfOk, length};
 ghost use Rattle.cx_meaning.specs.Designs.{component_at};
 ghost use Rattle.cx_design.specs.PlainDesigns.{plain_design};
 ghost use Rattle.cx_text.specs.declared.rules.Rule.TheVariants.{CombCycle};
-ghost use Rattle.cx_first_break.specs.Breaks.{earlier, first_of, plain_spot};
-ghost use Rattle.cx_first_break.specs.Numbered.{numbered};
+ghost use Rattle.cx_design_parts.specs.Breaks.{earlier, first_of, plain_spot};
+ghost use Rattle.cx_design_parts.specs.Numbered.{numbered};
 ghost use Rattle.cx_comb.specs.CombBreaks.{component_breaks, group_breaks, told_if, whole_break};
 
 use crate::circles::Circles;
 use cx_design::Design;
-use cx_first_break::{Break, FirstBreak, Part, Spot};
-use cx_ports::component;
+use cx_design_parts::{Break, FirstBreak, Part, Spot, component};
 use cx_text::{Memory, Name, Place, Rule};
 use std::alloc::Global;
 
 /// Keeps the first break of a component with these circles.
-#[tactic(auto, using(cx_first_break::proofs::Lists::first_append))]
+#[tactic(auto, using(cx_design_parts::proofs::Lists::first_append))]
 pub fn add_circles(
     alloc: Global,
     first: &mut FirstBreak,

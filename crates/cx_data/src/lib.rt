@@ -7,8 +7,6 @@ mod faults;
 mod lists;
 mod loading;
 mod numbers;
-#[cfg(test)]
-mod tests;
 
 pub use dumping::dump;
 pub use faults::DataFault;

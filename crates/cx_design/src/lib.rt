@@ -11,8 +11,6 @@ mod guards;
 mod refusals;
 mod rows;
 mod statements;
-#[cfg(test)]
-mod tests;
 
 pub use accepted::Checked;
 pub use actives::{Active, ActiveEntry, PortFault};

@@ -1,7 +1,7 @@
 -- What a run has come to, as it is told.
 use Rattle.std.proofs.Common.{◌≡◌, ◌⊎◌, inl, inr, ℕ, ◌<◌, List, [], ◌∷◌, map, length, Result, Ok, Err, IfOk, IfErr, refl, sym, ap, ◌∙◌, subst}
 use Rattle.std.proofs.lemmas.Option.{slice_get_within}
-use Rattle.cx_text.specs.Loading.{PlainMemory, plain_memory}
+use Rattle.cx_text.specs.Loading.{PlainMemory, plain_memory, words_loaded, with_words}
 use Rattle.cx_text.specs.declared.loading.LoadedMemory.{LoadedMemory}
 use Rattle.cx_data.specs.Dump.{dump_text}
 use Rattle.cx_meaning.specs.Answers as answers
@@ -9,7 +9,6 @@ use Rattle.cx_meaning.specs.Cycles as cycles
 use Rattle.cx_meaning.specs.Designs.{PlainDesign}
 use Rattle.cx_meaning.specs.Instances.{State, paths_of, tree_of, words_of}
 use Rattle.cx_meaning.specs.Running.{run_main}
-use Rattle.cx_memory_words.specs.Words.{words_loaded, with_words}
 use Rattle.cx_design.specs.declared.actives.PortFault.{PortFault}
 use Rattle.cx_design.specs.PlainActives.{TellsFault}
 use Rattle.cx_state.specs.States.{PlainInstance, words_in}

@@ -1,6 +1,6 @@
 -- What a Verilog text does on a data file, from what its parts do.
 use Rattle.std.proofs.Common.{◌≡◌, ◌⊎◌, inl, inr, ℕ, List, Result, Ok, Err, IfOk, IfErr, refl, sym, ap, ◌∙◌, subst, true}
-use Rattle.cx_text.specs.Loading.{PlainRow, PlainMemory}
+use Rattle.cx_text.specs.Loading.{PlainRow, PlainMemory, words_loaded, with_words}
 use Rattle.cx_data.specs.Dump.{dump_text}
 use Rattle.cx_data.specs.Load.{load_of}
 use Rattle.cx_vtree.specs.Plain.{PlainSource}
@@ -10,13 +10,12 @@ use Rattle.cx_vtree.specs.Layout.{is_laid_out}
 use Rattle.cx_vtree.specs.Sound.{is_sound}
 use Rattle.cx_vtree.specs.Spelling.{text_of}
 use Rattle.cx_vtree.specs.SimRun.{Outcome, DoneAt, LoopAt, NotDone, SimRun}
-use Rattle.cx_vtable.specs.Paths.{path_of}
-use Rattle.cx_vlines.specs.Held.{is_held}
+use Rattle.cx_velab.specs.Paths.{path_of}
+use Rattle.cx_vread.specs.Held.{is_held}
 use Rattle.cx_vread.specs.ReadAnswers.{Answers, ReadAs}
 use Rattle.cx_vread.specs.declared.refusals.ReadRefusal.{ReadRefusal}
 use Rattle.cx_vread.specs.declared.refusals.ReadRefusal.TheVariants as unread
 use Rattle.cx_vsim.specs.Answers.{IsDone, answer_of, final_words}
-use Rattle.cx_vsim.specs.Models.{words_loaded, with_words}
 use Rattle.cx_vsim.specs.declared.answers.SimAnswer.TheVariants.{Done, Loop, More}
 use Rattle.cx_driver.specs.declared.stops.Stop.{Stop}
 use Rattle.cx_driver.specs.declared.stops.Stop.TheVariants as stops

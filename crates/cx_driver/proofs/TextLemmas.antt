@@ -3,7 +3,7 @@ use Rattle.std.proofs.Common.{◌≡◌, ◌⊎◌, inl, inr, ℕ, List, Option,
 use Rattle.cx_text.specs.declared.diagnostics.Diagnostic.{Diagnostic}
 use Rattle.cx_text.specs.declared.places.Place.{Place}
 use Rattle.cx_text.specs.declared.rules.Rule.{Rule}
-use Rattle.cx_tokens.specs.declared.tokens.Token.{Token}
+use Rattle.cx_ast.specs.declared.tokens.Token.{Token}
 use Rattle.cx_ast.specs.PlainTree.{PlainTree}
 use Rattle.cx_lex.specs.Lex.{Lex}
 use Rattle.cx_lex.proofs.WholeLemmas.{one_tokens}
@@ -12,12 +12,12 @@ use Rattle.cx_grammar.proofs.OneTree.{one_tree}
 use Rattle.cx_meaning.specs.Designs.{PlainDesign}
 use Rattle.cx_numbering.specs.DesignOf.{design_of}
 use Rattle.cx_numbering.specs.NameRules.{names_break}
-use Rattle.cx_named.specs.Targets.{HasTargets}
-use Rattle.cx_targets.proofs.TargetLemmas.{targets_in_text}
-use Rattle.cx_text_places.proofs.Placed as placed
-use Rattle.cx_unbuilt.specs.Unbuilt.{first_unbuilt}
-use Rattle.cx_accept.specs.Verdicts.{IsAcceptedTree, TreeBreak, left_out}
-use Rattle.cx_accept.proofs.Verdicts as verdicts
+use Rattle.cx_names.specs.Targets.{HasTargets}
+use Rattle.cx_names.proofs.TargetLemmas.{targets_in_text}
+use Rattle.cx_names.proofs.Placed as placed
+use Rattle.cx_check.specs.Unbuilt.{first_unbuilt}
+use Rattle.cx_check.specs.Acceptance.{IsAcceptedTree, TreeBreak, left_out}
+use Rattle.cx_check.proofs.Verdicts as verdicts
 use Rattle.cx_driver.specs.declared.stops.Stop.{Stop}
 use Rattle.cx_driver.specs.declared.stops.Stop.TheVariants as stops
 use Rattle.cx_driver.specs.Unread.{StageOneFault, HasTree, IsNoTree}

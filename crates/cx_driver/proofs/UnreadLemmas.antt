@@ -4,7 +4,7 @@ use Rattle.cx_text.specs.declared.diagnostics.Diagnostic.{Diagnostic}
 use Rattle.cx_text.specs.declared.places.Place.{Place}
 use Rattle.cx_text.specs.declared.rules.Rule.{Rule}
 use Rattle.cx_text.specs.declared.rules.Rule.TheVariants as rules
-use Rattle.cx_tokens.specs.declared.tokens.Token.{Token}
+use Rattle.cx_ast.specs.declared.tokens.Token.{Token}
 use Rattle.cx_ast.specs.declared.trees.Tree.{Tree}
 use Rattle.cx_ast.specs.PlainTree.{PlainTree, plain_tree}
 use Rattle.cx_lex.specs.declared.faults.LexFault.{LexFault}
@@ -13,8 +13,8 @@ use Rattle.cx_lex.specs.Reading.{memory_fault}
 use Rattle.cx_lex.proofs.WholeLemmas.{one_tokens, no_fault, one_fault}
 use Rattle.cx_grammar.specs.Parsing.{Parse}
 use Rattle.cx_grammar.proofs.OneReading.{one_unexpected, one_deep, not_both, tree_expected, tree_within}
-use Rattle.cx_guards.specs.declared.stops.Stop.{Stop as Unread}
-use Rattle.cx_guards.specs.declared.stops.Stop.TheVariants as unread
+use Rattle.cx_parse_parts.specs.declared.stops.Stop.{Stop as Unread}
+use Rattle.cx_parse_parts.specs.declared.stops.Stop.TheVariants as unread
 use Rattle.cx_parse.specs.Whole.{place_at, place_left_of}
 use Rattle.cx_parse.specs.Faults.{IsStop}
 use Rattle.cx_parse.proofs.Trees.{drop_back}

@@ -1,7 +1,7 @@
 -- What the design of a text does on a data file within a budget of turns, and what stops it.
 use Rattle.std.specs.Prelude.{◌≡◌, ◌⊎◌, ℕ, List, Result, Ok, Err}
 use Rattle.cx_text.specs.declared.diagnostics.Diagnostic.{Diagnostic}
-use Rattle.cx_text.specs.Loading.{PlainMemory}
+use Rattle.cx_text.specs.Loading.{PlainMemory, words_loaded, with_words}
 use Rattle.cx_data.specs.Dump.{dump_text}
 use Rattle.cx_data.specs.Load.{load_of}
 use Rattle.cx_data.specs.declared.faults.DataFault.{DataFault}
@@ -11,8 +11,7 @@ use Rattle.cx_meaning.specs.Designs.{PlainDesign}
 use Rattle.cx_meaning.specs.Instances.{State, tree_of, words_of}
 use Rattle.cx_meaning.specs.Running.{run_main}
 use Rattle.cx_rules.specs.Externals.{external_rows}
-use Rattle.cx_paths.specs.Paths.{full_path}
-use Rattle.cx_memory_words.specs.Words.{words_loaded, with_words}
+use Rattle.cx_state.specs.Paths.{full_path}
 use Rattle.cx_driver.specs.Texts.{IsDesignOf, TextBreak}
 use Rattle.cx_driver.specs.declared.stops.Stop.{Stop}
 use Rattle.cx_driver.specs.declared.stops.Stop.TheVariants as stops

@@ -1,6 +1,6 @@
 -- What a Verilog text does on a data file, and what stops it.
 use Rattle.std.specs.Prelude.{◌≡◌, ◌≢◌, ℕ, List, Result, Ok, Err, true}
-use Rattle.cx_text.specs.Loading.{PlainMemory}
+use Rattle.cx_text.specs.Loading.{PlainMemory, words_loaded, with_words}
 use Rattle.cx_data.specs.Load.{load_of}
 use Rattle.cx_data.specs.Dump.{dump_text}
 use Rattle.cx_vtree.specs.Plain.{PlainSource}
@@ -10,12 +10,11 @@ use Rattle.cx_vtree.specs.Layout.{is_laid_out}
 use Rattle.cx_vtree.specs.Sound.{is_sound}
 use Rattle.cx_vtree.specs.Spelling.{text_of}
 use Rattle.cx_vtree.specs.SimRun.{DoneAt, LoopAt, NotDone, SimRun}
-use Rattle.cx_vtable.specs.Paths.{path_of}
-use Rattle.cx_vlines.specs.Held.{is_held}
+use Rattle.cx_velab.specs.Paths.{path_of}
+use Rattle.cx_vread.specs.Held.{is_held}
 use Rattle.cx_vread.specs.ReadAnswers.{Answers}
 use Rattle.cx_vread.specs.declared.refusals.ReadRefusal.{ReadRefusal}
 use Rattle.cx_vread.specs.declared.refusals.ReadRefusal.TheVariants as unread
-use Rattle.cx_vsim.specs.Models.{words_loaded, with_words}
 use Rattle.cx_driver.specs.declared.stops.Stop.{Stop}
 use Rattle.cx_driver.specs.declared.stops.Stop.TheVariants as stops
 

@@ -4,7 +4,7 @@ use Rattle.cx_text.specs.declared.diagnostics.Diagnostic.{Diagnostic}
 use Rattle.cx_ast.specs.PlainTree.{PlainTree}
 use Rattle.cx_meaning.specs.Designs.{PlainDesign}
 use Rattle.cx_numbering.specs.DesignOf.{design_of}
-use Rattle.cx_accept.specs.Verdicts.{IsAcceptedTree, TreeBreak}
+use Rattle.cx_check.specs.Acceptance.{IsAcceptedTree, TreeBreak}
 use Rattle.cx_driver.specs.Unread.{StageOneFault, HasTree}
 use Rattle.cx_driver.specs.declared.stops.Stop.{Stop}
 use Rattle.cx_driver.specs.declared.stops.Stop.TheVariants as stops

@@ -5,9 +5,9 @@ use Rattle.cx_text.specs.declared.diagnostics.Diagnostic.{Diagnostic}
 use Rattle.cx_text.specs.declared.places.Place.{Place}
 use Rattle.cx_text.specs.declared.rules.Rule.{Rule}
 use Rattle.cx_text.specs.declared.rules.Rule.TheVariants as rules
-use Rattle.cx_tokens.specs.declared.tokens.Token.{Token}
-use Rattle.cx_tokens.specs.declared.tokens.TokenKind.{TokenKind}
-use Rattle.cx_tokens.specs.declared.tokens.TokenKind.TheVariants as kinds
+use Rattle.cx_ast.specs.declared.tokens.Token.{Token}
+use Rattle.cx_ast.specs.declared.tokens.TokenKind.{TokenKind}
+use Rattle.cx_ast.specs.declared.tokens.TokenKind.TheVariants as kinds
 use Rattle.cx_ast.specs.PlainTree.{PlainTree}
 use Rattle.cx_lex.specs.declared.faults.LexFault.{LexFault}
 use Rattle.cx_lex.specs.declared.faults.LexKind.{LexKind}

@@ -5,15 +5,15 @@ ghost use Rattle.cx_text.specs.declared.diagnostics.Diagnostic.{Diagnostic as Di
 ghost use Rattle.cx_ast.specs.PlainTree.{plain_tree};
 ghost use Rattle.cx_numbering.specs.DesignOf.{design_of};
 ghost use Rattle.cx_design.specs.PlainDesigns.{plain_design};
-ghost use Rattle.cx_named.specs.Targets.{HasTargets};
-ghost use Rattle.cx_accept.specs.Verdicts.{IsAcceptedTree};
+ghost use Rattle.cx_names.specs.Targets.{HasTargets};
+ghost use Rattle.cx_check.specs.Acceptance.{IsAcceptedTree};
 ghost use Rattle.cx_driver.specs.Texts.{IsAcceptedText, IsDesignOf, IsTextRefusal, IsTreeStop, TextBreak};
 ghost use Rattle.cx_driver.specs.declared.stops.Stop.TheVariants as stops;
 
 use crate::reading::tree_of;
 use crate::stops::Stop;
-use cx_accept::accept;
 use cx_ast::Tree;
+use cx_check::accept;
 use cx_design::{Checked, Refusal};
 use std::alloc::Global;
 

@@ -10,7 +10,7 @@ ghost use Rattle.cx_driver.specs.declared.stops.Stop.TheVariants as stops;
 
 use crate::stops::Stop;
 use cx_design::{Checked, PortFault};
-use cx_paths::port_path;
+use cx_state::port_path;
 use std::alloc::Global;
 
 /// A fault in a turn, counted from 0, with its port as messages name it from main on.

@@ -1,14 +1,13 @@
 //! The interpreter on texts: a design, a data file and a budget give a dump.
 
 ghost use Rattle.std.specs.Prelude.{◌≡◌, ◌≤◌, ◌⊎◌, IfOk, IfErr, List, MatchResult, length, ℕ};
-ghost use Rattle.cx_text.specs.Loading.{FitsRows, plain_loaded};
+ghost use Rattle.cx_text.specs.Loading.{FitsRows, plain_loaded, with_words, words_loaded};
 ghost use Rattle.cx_data.specs.Dump.{dump_text};
 ghost use Rattle.cx_meaning.specs.Answers.{End};
 ghost use Rattle.cx_meaning.specs.Instances.{State, tree_of, words_of};
 ghost use Rattle.cx_meaning.specs.Running.{run_main};
 ghost use Rattle.cx_rules.specs.Externals.{external_rows};
 ghost use Rattle.cx_design.specs.PlainDesigns.{plain_design};
-ghost use Rattle.cx_memory_words.specs.Words.{with_words, words_loaded};
 ghost use Rattle.cx_interp.specs.Runs.{HasRun};
 ghost use Rattle.cx_driver.specs.Interpreted.{IsDesignAnswer, IsDesignStop, IsInterpAnswer, IsInterpStop, IsRunAnswer, StopsRun, StopsText};
 ghost use Rattle.cx_driver.specs.declared.stops.Stop.{Stop as StopValue};

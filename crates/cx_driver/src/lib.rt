@@ -19,6 +19,3 @@ pub use refusals::Status;
 pub use running::run;
 pub use simulating::sim;
 pub use stops::Stop;
-
-#[cfg(test)]
-mod tests;

@@ -3,7 +3,7 @@
 ghost use Rattle.std.specs.Prelude.{◌≡◌, ◌≤◌, ◌⊎◌, ◌-◌, length, drop, IfOk, IfErr};
 ghost use Rattle.cx_ast.specs.PlainTree.{plain_tree};
 ghost use Rattle.cx_grammar.specs.Parsing.{Parse};
-ghost use Rattle.cx_guards.specs.declared.stops.Stop.TheVariants as unread;
+ghost use Rattle.cx_parse_parts.specs.declared.stops.Stop.TheVariants as unread;
 ghost use Rattle.cx_lex.specs.Reading.{memory_fault};
 ghost use Rattle.cx_lex.specs.Lex.{FirstFault};
 ghost use Rattle.cx_parse.specs.Faults.{IsStop};
@@ -11,11 +11,10 @@ ghost use Rattle.cx_driver.specs.declared.stops.Stop.TheVariants as stops;
 ghost use Rattle.cx_driver.specs.Unread.{HasTree, name_at, word_in as bytes_in, IsNoTree, IsNoFile, IsNoToken};
 
 use crate::stops::Stop;
-use cx_ast::Tree;
+use cx_ast::{Token, TokenKind, Tree};
 use cx_lex::{LexFault, LexKind, lex};
 use cx_parse::{Stop as Unread, place_left, read_tree};
 use cx_text::{Diagnostic, Name, Place, Rule};
-use cx_tokens::{Token, TokenKind};
 use std::alloc::Global;
 
 /// Reads the tokens of a text and then its tree.

@@ -1,24 +1,23 @@
 //! The simulator on texts: a Verilog text, a data file and a budget give a dump.
 
 ghost use Rattle.std.specs.Prelude.{◌≡◌, ◌<◌, ◌⊎◌, IfOk, IfErr, length};
-ghost use Rattle.cx_text.specs.Loading.{FitsRows, plain_loaded};
+ghost use Rattle.cx_text.specs.Loading.{FitsRows, plain_loaded, with_words, words_loaded};
 ghost use Rattle.cx_data.specs.Dump.{dump_text};
 ghost use Rattle.cx_vtree.specs.InstanceTree.{instances_of, nets_at};
 ghost use Rattle.cx_vtree.specs.PlainParts.{rows_of};
 ghost use Rattle.cx_vtree.specs.PlainSources.{plain_source};
 ghost use Rattle.cx_vtree.specs.SimRun.{SimRun};
-ghost use Rattle.cx_vtable.specs.Paths.{path_of};
+ghost use Rattle.cx_velab.specs.Paths.{path_of};
 ghost use Rattle.cx_vsim.specs.Answers.{IsDone, final_words};
-ghost use Rattle.cx_vsim.specs.Models.{with_words, words_loaded};
 ghost use Rattle.cx_driver.specs.Simulated.{IsRunAnswer, IsSimAnswer, IsSimStop, IsSourceAnswer, IsSourceStop, IsUnread, IsVerilogOf, StopsRun, read_stop};
 ghost use Rattle.cx_driver.specs.declared.stops.Stop.TheVariants as stops;
 
 use crate::memories::{dump_of, load};
 use crate::stops::Stop;
 use cx_text::Loaded;
+use cx_velab::loop_path;
 use cx_vread::{ReadRefusal, read};
 use cx_vsim::{Sim, SimAnswer, SimRan, source_is_sound};
-use cx_vtable::loop_path;
 use cx_vtree::Source;
 use std::alloc::Global;
 

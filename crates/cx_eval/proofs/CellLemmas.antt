@@ -4,7 +4,7 @@ use Rattle.cx_prim.specs.CellStates.{CellState, IsState}
 use Rattle.cx_prim.specs.Table.{PrimitiveRow, row_of}
 use Rattle.cx_meaning.specs.Designs.{OfComponent, OfPrimitive, PlainCell, PlainKind}
 use Rattle.cx_state.specs.States.{HoldCells, HoldsKind}
-use Rattle.cx_cycles.specs.Passes.{cell_held, kind_at}
+use Rattle.cx_eval_cycle.specs.Passes.{cell_held, kind_at}
 
 -- what cells hold
 pub record HoldsState (p : PrimitiveRow) (held : Option CellState) : Type 0 where

@@ -12,16 +12,16 @@ use Rattle.cx_meaning.specs.Sights.{Look, seen}
 use Rattle.cx_design.specs.declared.actives.Active.{Active}
 use Rattle.cx_design.specs.declared.actives.PortFault.{PortFault}
 use Rattle.cx_design.specs.PlainActives.{plain_active}
-use Rattle.cx_instances.specs.Tables.{IsNumber, row_at}
+use Rattle.cx_state.specs.Tables.{IsNumber, row_at}
 use Rattle.cx_state.specs.States.{HoldCells, IsStateOf, PlainInstance, StandsFor, inputs_held, instance_state, put_path, under_path}
-use Rattle.cx_alike.proofs.ChangeLemmas.{cycle_changed}
-use Rattle.cx_demand.specs.declared.marks.Mark.{Mark}
-use Rattle.cx_network.specs.Networks.{Asked, path_at, seen_at}
-use Rattle.cx_network.proofs.NetworkLemmas.{get_there}
-use Rattle.cx_cycles.specs.declared.passes.CellFault.{CellFault}
-use Rattle.cx_cycles.specs.Alike.{AgreeWhere}
-use Rattle.cx_cycles.specs.Passes.{AreStepped, EndsSo, HeldAt, cell_held, fault_of, kind_at}
-use Rattle.cx_cycles.proofs.EndLemmas.{all_fault, all_go, listed_fault, listed_go}
+use Rattle.cx_state.proofs.ChangeLemmas.{cycle_changed}
+use Rattle.cx_eval_demand.specs.declared.marks.NodeMark.{NodeMark}
+use Rattle.cx_eval_network.specs.Networks.{Asked, path_at, seen_at}
+use Rattle.cx_eval_network.proofs.NetworkLemmas.{get_there}
+use Rattle.cx_eval_cycle.specs.declared.passes.CellFault.{CellFault}
+use Rattle.cx_eval_cycle.specs.Alike.{AgreeWhere}
+use Rattle.cx_eval_cycle.specs.Passes.{AreStepped, EndsSo, HeldAt, cell_held, fault_of, kind_at}
+use Rattle.cx_eval_cycle.proofs.EndLemmas.{all_fault, all_go, listed_fault, listed_go}
 use Rattle.cx_eval.specs.declared.listing.Listed.{Listed}
 use Rattle.cx_eval.specs.declared.listing.Listed.TheVariants as listings
 use Rattle.cx_eval.specs.declared.tables.Tables.{Tables}
@@ -98,7 +98,7 @@ module _ (t : Tables) (are : AreTables t) (old : List PlainInstance) (fits : IsS
           is = ap (λ (l : Look). cycle_by (set_of listed) l (cells_of (instance_at (tree_of d) path)) (under_path path s)) look ∙ ap (λ (cs : Cells). cycle_by (set_of listed) (seen_at a n) cs (under_path path s)) here.cells;
         }
 
-    module _ (marks : List Mark) (first : Option CellFault) (is : IsFirst a cells own listed marks first) where
+    module _ (marks : List NodeMark) (first : Option CellFault) (is : IsFirst a cells own listed marks first) where
       -- A FAULT
       told_so : (f : CellFault) (told : PortFault) → told ≡ record { kind = f.stop.kind; instance = n; port = Cell f.cell f.stop.port } → (path : Path) (s : State) → IsNumber d n path → (x : Ended) → EndsSo cells own own (Err f) x
           → EndsAs d path s old old (Err told) x

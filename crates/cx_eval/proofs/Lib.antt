@@ -1,3 +1,7 @@
+mod OwnLemmas
+mod KnownLemmas
+mod StopLemmas
+mod FaultLemmas
 pub mod DesignProp
 mod PartLemmas
 mod TableLemmas

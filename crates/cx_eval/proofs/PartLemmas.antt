@@ -7,11 +7,11 @@ use Rattle.cx_rules.specs.Accepted.{IsAccepted}
 use Rattle.cx_rules.specs.Ports.{component_of}
 use Rattle.cx_rules.specs.Sizes.{instances_below, sizes_of}
 use Rattle.cx_rules.specs.Wellformed.{IsDesign}
-use Rattle.cx_paths.proofs.TreeLemmas.{count_paths}
-use Rattle.cx_instances.specs.declared.tables.InstanceRow.{InstanceRow}
-use Rattle.cx_instances.specs.Tables.{IsNumber, IsTable, row_at}
-use Rattle.cx_instances.proofs.TableLemmas.{few_instances}
-use Rattle.cx_leads.proofs.NodeLemmas.{component_part}
+use Rattle.cx_state.proofs.TreeLemmas.{count_paths}
+use Rattle.cx_state.specs.declared.tables.InstanceRow.{InstanceRow}
+use Rattle.cx_state.specs.Tables.{IsNumber, IsTable, row_at}
+use Rattle.cx_state.proofs.TableLemmas.{few_instances}
+use Rattle.cx_design_leads.proofs.NodeLemmas.{component_part}
 
 -- few parts, few instances
 part_few : (parts : List PlainComponent) (k : ℕ) → length (get_or parts k no_component).cells ≤ sizes_of parts

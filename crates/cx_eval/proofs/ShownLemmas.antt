@@ -8,22 +8,22 @@ use Rattle.cx_meaning.specs.Active.{Active}
 use Rattle.cx_meaning.specs.Instances.{Instance, Node, State, tree_of}
 use Rattle.cx_meaning.specs.Sights.{Held, seen}
 use Rattle.cx_rules.specs.Wellformed.{IsThere}
-use Rattle.cx_demand.specs.declared.marks.Mark.{Mark}
-use Rattle.cx_demand.specs.declared.marks.Mark.TheVariants.{Known}
+use Rattle.cx_eval_demand.specs.declared.marks.NodeMark.{NodeMark}
+use Rattle.cx_eval_demand.specs.declared.marks.NodeMark.TheVariants.{Known}
 use Rattle.cx_state.specs.States.{under_path}
-use Rattle.cx_alike.specs.ReadStates.{state_in}
-use Rattle.cx_nodes.specs.declared.numbering.Nodes.{Nodes}
-use Rattle.cx_nodes.specs.Nodes.{node_at}
-use Rattle.cx_nodes.proofs.NodeLemmas.{ports_have}
-use Rattle.cx_network.specs.Networks.{Asked, IsNetwork, active_at, held_at, instance_of, look_at, path_at, seen_at, value_at}
-use Rattle.cx_network.proofs.NetworkLemmas.{number_at, same_instance}
-use Rattle.cx_network.proofs.ValueLemmas.{known_shown}
+use Rattle.cx_state.specs.ReadStates.{state_in}
+use Rattle.cx_eval_network.specs.declared.numbering.Nodes.{Nodes}
+use Rattle.cx_eval_network.specs.Nodes.{node_at}
+use Rattle.cx_eval_network.proofs.NodeLemmas.{ports_have}
+use Rattle.cx_eval_network.specs.Networks.{Asked, IsNetwork, active_at, held_at, instance_of, look_at, path_at, seen_at, value_at}
+use Rattle.cx_eval_network.proofs.NetworkLemmas.{number_at, same_instance}
+use Rattle.cx_eval_network.proofs.ValueLemmas.{known_shown}
 use Rattle.cx_eval.specs.Evaluated.{IsKept, IsPort}
 
 literal_is : (i : Instance) (held : Held) (act : Active) (s : State) (w v : ℕ) → seen i held act s (ports.Literal w v) ≡ Value (record { width = w; value = v })
 literal_is (Node part cells) held act s w v = refl
 
-module _ (a : Asked) (nodes : Nodes) (h : IsNetwork a nodes) (within : a.instance < length a.rows) (marks : List Mark) where
+module _ (a : Asked) (nodes : Nodes) (h : IsNetwork a nodes) (within : a.instance < length a.rows) (marks : List NodeMark) where
   abbrev n : ℕ
   n = a.instance
 

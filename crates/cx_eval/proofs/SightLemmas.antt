@@ -10,15 +10,15 @@ use Rattle.cx_meaning.specs.Instances.{Path, State, instance_at, paths_of, tree_
 use Rattle.cx_meaning.specs.Sights.{seen, unheld}
 use Rattle.cx_design.specs.declared.actives.Active.{Active}
 use Rattle.cx_design.specs.PlainActives.{plain_active}
-use Rattle.cx_instances.specs.declared.tables.InstanceRow.{InstanceRow}
-use Rattle.cx_instances.specs.Tables.{IsNumber, IsTable}
+use Rattle.cx_state.specs.declared.tables.InstanceRow.{InstanceRow}
+use Rattle.cx_state.specs.Tables.{IsNumber, IsTable}
 use Rattle.cx_state.specs.States.{IsStateOf, PlainInstance, StandsFor, inputs_held, under_path}
-use Rattle.cx_alike.specs.ReadStates.{state_in}
-use Rattle.cx_alike.proofs.AlikeLemmas.{alike_at, seen_alike}
-use Rattle.cx_alike.proofs.ReadLemmas.{rows_read}
-use Rattle.cx_alike.proofs.StandLemmas.{stand_alike}
-use Rattle.cx_network.specs.Networks.{Asked, path_at, seen_at}
-use Rattle.cx_asking.specs.Asked.{asked}
+use Rattle.cx_state.specs.ReadStates.{state_in}
+use Rattle.cx_state.proofs.AlikeLemmas.{alike_at, seen_alike}
+use Rattle.cx_state.proofs.ReadLemmas.{rows_read}
+use Rattle.cx_state.proofs.StandLemmas.{stand_alike}
+use Rattle.cx_eval_network.specs.Networks.{Asked, path_at, seen_at}
+use Rattle.cx_eval_network.specs.Asked.{asked}
 use Rattle.cx_eval.specs.Evaluated.{IsSeen}
 use Rattle.cx_eval.proofs.PartLemmas.{get_is}
 

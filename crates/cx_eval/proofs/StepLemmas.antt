@@ -10,9 +10,9 @@ use Rattle.cx_meaning.specs.Cycles.{cell_outcome, stepped}
 use Rattle.cx_meaning.specs.Designs.{OfComponent, OfPrimitive, PlainCell, PlainComponent, PlainDesign, PlainKind}
 use Rattle.cx_meaning.specs.Instances.{Path, Set, instance_at, part_of, tree_of}
 use Rattle.cx_meaning.specs.Sights.{Look}
-use Rattle.cx_instances.specs.Tables.{IsNumber}
+use Rattle.cx_state.specs.Tables.{IsNumber}
 use Rattle.cx_state.specs.States.{FitsPart, HoldCells, HoldsKind, IsStateOf, PlainInstance, inputs_held, instance_state, no_instance}
-use Rattle.cx_cycles.specs.Passes.{AreStepped, CanCycle, after_kind, cell_held, kind_at}
+use Rattle.cx_eval_cycle.specs.Passes.{AreStepped, CanCycle, after_kind, cell_held, kind_at}
 use Rattle.cx_eval.specs.Cycling.{with_cells}
 use Rattle.cx_eval.specs.Evaluated.{HeldAlike}
 use Rattle.cx_eval.proofs.CellLemmas.{beyond_holds, component_holds, hold_again, primitive_holds}

@@ -12,15 +12,15 @@ use Rattle.cx_design.specs.declared.components.Component.{Component}
 use Rattle.cx_design.specs.declared.designs.Design.{Design}
 use Rattle.cx_design.specs.PlainDesigns.{plain_design}
 use Rattle.cx_design.specs.PlainForms.{plain_cell, plain_component}
-use Rattle.cx_looks.specs.Actives.{CanBeActive}
-use Rattle.cx_instances.specs.declared.tables.InstanceRow.{InstanceRow}
-use Rattle.cx_instances.specs.Tables.{no_row, row_at}
+use Rattle.cx_eval_drives.specs.Actives.{CanBeActive}
+use Rattle.cx_state.specs.declared.tables.InstanceRow.{InstanceRow}
+use Rattle.cx_state.specs.Tables.{no_row, row_at}
 use Rattle.cx_state.specs.declared.states.InstanceState.{InstanceState}
 use Rattle.cx_state.specs.States.{IsStateOf, PlainInstance, instance_state, no_instance, plain_instance}
-use Rattle.cx_nodes.proofs.FoundLemmas.{get_same}
-use Rattle.cx_network.specs.Networks.{IsNetwork, instance_of, path_at}
-use Rattle.cx_network.proofs.NetworkLemmas.{get_there}
-use Rattle.cx_asking.specs.Asked.{CanAsk}
+use Rattle.cx_eval_network.proofs.FoundLemmas.{get_same}
+use Rattle.cx_eval_network.specs.Networks.{IsNetwork, instance_of, path_at}
+use Rattle.cx_eval_network.proofs.NetworkLemmas.{get_there}
+use Rattle.cx_eval_network.specs.Asked.{CanAsk}
 use Rattle.cx_eval.specs.declared.tables.Tables.{Tables}
 use Rattle.cx_eval.specs.Cycling.{with_cells}
 use Rattle.cx_eval.specs.Evaluated.{CanAct}

@@ -14,9 +14,9 @@ use Rattle.cx_design.specs.declared.actives.Active.{Active}
 use Rattle.cx_design.specs.declared.actives.Active.TheVariants.{Group}
 use Rattle.cx_design.specs.declared.actives.PortFault.{PortFault}
 use Rattle.cx_design.specs.PlainActives.{plain_active, TellsFault}
-use Rattle.cx_instances.specs.Tables.{IsNumber}
+use Rattle.cx_state.specs.Tables.{IsNumber}
 use Rattle.cx_state.specs.States.{PlainInstance, inputs_held, StandsFor, under_path, put_path}
-use Rattle.cx_looks.specs.Actives.{CanBeActive}
+use Rattle.cx_eval_drives.specs.Actives.{CanBeActive}
 use Rattle.cx_eval.specs.declared.turns.GroupTurn.{GroupTurn}
 use Rattle.cx_eval.specs.declared.turns.GroupTurn.TheVariants as turns
 

@@ -1,3 +1,4 @@
+pub mod Looked
 pub mod Evaluated
 pub mod Tables
 pub mod Cycling

@@ -9,15 +9,15 @@ use Rattle.cx_rules.specs.Wellformed.{IsDesign}
 use Rattle.cx_design.specs.declared.actives.Active.{Active}
 use Rattle.cx_design.specs.declared.actives.Active.TheVariants as actives
 use Rattle.cx_design.specs.PlainDesigns.{plain_design}
-use Rattle.cx_instances.specs.Tables.{IsTable, row_at}
+use Rattle.cx_state.specs.Tables.{IsTable, row_at}
 use Rattle.cx_state.specs.States.{PlainInstance}
-use Rattle.cx_demand.specs.Demands.{Ready}
-use Rattle.cx_demand.specs.declared.marks.Mark.{Mark}
-use Rattle.cx_nodes.specs.Nodes.{IsNodesOf, node_count}
-use Rattle.cx_drivers.specs.Drivers.{AreDrivers}
-use Rattle.cx_network.specs.Networks.{Asked, value_at}
-use Rattle.cx_asking.specs.Asked.{asked}
-use Rattle.cx_cycles.specs.Passes.{IsAscending, listed_in}
+use Rattle.cx_eval_demand.specs.Demands.{Ready}
+use Rattle.cx_eval_demand.specs.declared.marks.NodeMark.{NodeMark}
+use Rattle.cx_eval_network.specs.Nodes.{IsNodesOf, node_count}
+use Rattle.cx_eval_drives.specs.Drivers.{AreDrivers}
+use Rattle.cx_eval_network.specs.Networks.{Asked, value_at}
+use Rattle.cx_eval_network.specs.Asked.{asked}
+use Rattle.cx_eval_cycle.specs.Passes.{IsAscending, listed_in}
 use Rattle.cx_eval.specs.declared.listing.Listed.{Listed}
 use Rattle.cx_eval.specs.declared.listing.Listed.TheVariants as listings
 use Rattle.cx_eval.specs.declared.tables.Tables.{Tables}
@@ -42,11 +42,11 @@ abbrev pub value_in : Tables → List PlainInstance → ℕ → Active → ℕ �
 value_in t rows n active = value_at (asked_in t rows n active) t.nodes
 
 -- a mark for each node
-abbrev pub AreMarksOf : Tables → List Mark → Type 0
+abbrev pub AreMarksOf : Tables → List NodeMark → Type 0
 AreMarksOf t marks = length marks ≡ node_count (design_of t) t.table.rows.items
 
 -- and all that is known is right where an instance is asked
-pub record AreReady (t : Tables) (rows : List PlainInstance) (n : ℕ) (active : Active) (marks : List Mark) : Type 0 where
+pub record AreReady (t : Tables) (rows : List PlainInstance) (n : ℕ) (active : Active) (marks : List NodeMark) : Type 0 where
   pub count : AreMarksOf t marks
   pub ready : Ready (value_in t rows n active) marks
 

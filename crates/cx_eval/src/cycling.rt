@@ -4,22 +4,22 @@ ghost use Rattle.std.specs.Prelude.{◌≡◌, ◌<◌, ◌^◌, length};
 ghost use Rattle.cx_meaning.specs.Instances.{paths_of, tree_of};
 ghost use Rattle.cx_meaning.specs.declared.ports.PortRef.TheVariants.{Cell};
 ghost use Rattle.cx_state.specs.States.{IsStateOf, instance_state, plain_state};
-ghost use Rattle.cx_asking.specs.Askings.{IsAsking, asked_of};
-ghost use Rattle.cx_cycles.specs.Passes.{CanCycle};
-ghost use Rattle.cx_cycle_demands.specs.Looked.{CanDemand, own_cells, own_held};
+ghost use Rattle.cx_eval_network.specs.Askings.{IsAsking, asked_of};
+ghost use Rattle.cx_eval_cycle.specs.Passes.{CanCycle};
+ghost use Rattle.cx_eval.specs.Looked.{CanDemand, own_cells, own_held};
 ghost use Rattle.cx_eval.specs.Cycling.{IsFirst, shown_in};
 ghost use Rattle.cx_eval.specs.Evaluated.{CanAct, Cycled};
 ghost use Rattle.cx_eval.specs.Tables.{AreListed, AreMarksOf, AreReady, AreTables, asked_in, cells_at, design_of, set_of};
 
+use crate::laws::marked_cells_can_step;
 use crate::listing::Listed;
 use crate::stepping::{ROOM, step_in};
 use crate::tables::{Tables, ask};
-use cx_asking::Asking;
-use cx_cycle_demands::laws::marked_cells_can_step;
-use cx_cycle_demands::{first_fault, first_fault_among};
-use cx_cycles::CellFault;
-use cx_demand::Marks;
+use crate::{first_fault, first_fault_among};
 use cx_design::{Active, PortFault, PortRef};
+use cx_eval_cycle::CellFault;
+use cx_eval_demand::Marks;
+use cx_eval_network::Asking;
 use cx_state::State;
 
 /// The first fault among the listed cells of the asked instance.

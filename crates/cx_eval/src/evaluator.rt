@@ -8,15 +8,15 @@ ghost use Rattle.cx_design.specs.declared.actives.Active.TheVariants.{Group};
 ghost use Rattle.cx_meaning.specs.declared.ports.PortRef.TheVariants.{Done};
 ghost use Rattle.cx_state.specs.States.{IsStateOf, plain_state};
 ghost use Rattle.cx_eval.specs.Evaluated.{CanAct, Cycled, IsPort, IsSeen, Turned};
-ghost use Rattle.cx_cycles.specs.Passes.{IsAscending, listed_in};
+ghost use Rattle.cx_eval_cycle.specs.Passes.{IsAscending, listed_in};
 
 use crate::cycling::cycle_in;
 use crate::listing::Listed;
 use crate::sights::seen_in;
 use crate::tables::Tables;
 use crate::turns::{GroupTurn, turn_in};
-use cx_demand::Marks;
 use cx_design::{Active, Checked, PortFault, PortRef, Seen};
+use cx_eval_demand::Marks;
 use cx_state::State;
 use cx_text::Memory;
 use std::alloc::Global;

@@ -4,17 +4,16 @@ ghost use Rattle.std.specs.Prelude.{◌≡◌, ◌<◌, length};
 ghost use Rattle.cx_meaning.specs.Instances.{paths_of, tree_of};
 ghost use Rattle.cx_design.specs.PlainDesigns.{plain_design};
 ghost use Rattle.cx_state.specs.States.{IsStateOf, plain_state};
-ghost use Rattle.cx_asking.specs.Askings.{IsAsking};
-ghost use Rattle.cx_cycle_demands.specs.Looked.{CanDemand, IsKnownPort, KnowsMore, seen_look};
+ghost use Rattle.cx_eval_network.specs.Askings.{IsAsking};
+ghost use Rattle.cx_eval.specs.Looked.{CanDemand, IsKnownPort, KnowsMore, seen_look};
 ghost use Rattle.cx_eval.specs.Evaluated.{CanAct, IsPort, IsSeen};
 ghost use Rattle.cx_eval.specs.Tables.{AreReady, AreTables, design_of};
 
 use crate::tables::{Tables, ask};
-use cx_asking::Asking;
-use cx_demand::Marks;
 use cx_design::{Active, PortRef, Seen};
-use cx_looks::Look;
-use cx_marks::MarkedPorts;
+use cx_eval_demand::Marks;
+use cx_eval_drives::Look;
+use cx_eval_network::{Asking, MarkedPorts};
 use cx_state::State;
 
 /// Finds what a port of the asked instance is seen as, where it has a node.

@@ -3,16 +3,16 @@
 ghost use Rattle.std.specs.Prelude.{◌<◌, length};
 ghost use Rattle.cx_meaning.specs.Instances.{paths_of, tree_of};
 ghost use Rattle.cx_state.specs.States.{IsStateOf, instance_state, plain_state};
-ghost use Rattle.cx_cycles.specs.Passes.{AreStepped, CanCycle};
+ghost use Rattle.cx_eval_cycle.specs.Passes.{AreStepped, CanCycle};
 ghost use Rattle.cx_eval.specs.Cycling.{HaveStepped, shown_in};
 ghost use Rattle.cx_eval.specs.Tables.{AreListed, AreTables, cells_at, design_of, set_of};
 
 use crate::listing::Listed;
 use crate::tables::{Tables, cells_of};
 use cx_cells::PrimState;
-use cx_cycles::{step_cells, step_listed};
-use cx_demand::Mark;
-use cx_marks::MarkedPorts;
+use cx_eval_cycle::{step_cells, step_listed};
+use cx_eval_demand::NodeMark;
+use cx_eval_network::MarkedPorts;
 use cx_state::State;
 
 /// Room for the ports of any primitive: the longest row is that of a sequential memory of four dimensions, with nine.
@@ -21,7 +21,7 @@ pub(crate) const ROOM: usize = 9;
 /// The listed cells of an instance make their steps at once, by what marks show of its ports.
 fn step_held(
     tables: &Tables<'_>,
-    marks: &[Mark],
+    marks: &[NodeMark],
     instance: usize,
     listed: Listed<'_>,
     held: &mut [Option<PrimState>],
@@ -56,7 +56,7 @@ fn step_held(
 /// The listed cells of an instance make their steps in a state.
 pub(crate) fn step_in(
     tables: &Tables<'_>,
-    marks: &[Mark],
+    marks: &[NodeMark],
     state: &mut State,
     instance: usize,
     listed: Listed<'_>,

@@ -4,18 +4,15 @@ ghost use Rattle.std.specs.Prelude.{◌≡◌, ◌<◌, ◌^◌, IfOk, length, m
 ghost use Rattle.cx_meaning.specs.Instances.{paths_of, tree_of};
 ghost use Rattle.cx_design.specs.PlainForms.{plain_cell};
 ghost use Rattle.cx_state.specs.States.{IsStateOf, plain_state};
-ghost use Rattle.cx_asking.specs.Askings.{IsAsking, asked_of};
+ghost use Rattle.cx_eval_network.specs.Askings.{IsAsking, asked_of};
 ghost use Rattle.cx_eval.specs.Evaluated.{CanAct};
 ghost use Rattle.cx_eval.specs.Tables.{AreTables, asked_in, cells_at, design_of};
 
-use cx_asking::Asking;
 use cx_design::{Active, Cell, Checked, Design};
-use cx_drivers::Drivers;
-use cx_instances::{InstanceTable, instances};
-use cx_network::accepted_designs_are_networks;
-use cx_nodes::Nodes;
-use cx_ports::component;
-use cx_state::State;
+use cx_design_parts::component;
+use cx_eval_drives::Drivers;
+use cx_eval_network::{Asking, Nodes, accepted_designs_are_networks};
+use cx_state::{InstanceTable, State, instances};
 use cx_text::Memory;
 use std::alloc::Global;
 

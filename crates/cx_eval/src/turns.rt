@@ -7,7 +7,7 @@ ghost use Rattle.cx_meaning.specs.Truths as truths;
 ghost use Rattle.cx_meaning.specs.Truths.{Zero};
 ghost use Rattle.cx_design.specs.declared.actives.Active.TheVariants.{Group};
 ghost use Rattle.cx_state.specs.States.{IsStateOf, plain_state};
-ghost use Rattle.cx_cycles.specs.Passes.{IsAscending, listed_in};
+ghost use Rattle.cx_eval_cycle.specs.Passes.{IsAscending, listed_in};
 ghost use Rattle.cx_eval.specs.Evaluated.{CanAct, IsPort, Turned};
 ghost use Rattle.cx_eval.specs.Tables.{AreMarksOf, AreReady, AreTables, design_of};
 
@@ -15,9 +15,9 @@ use crate::cycling::cycle_in;
 use crate::listing::Listed;
 use crate::sights::seen_in;
 use crate::tables::Tables;
-use cx_demand::Marks;
 use cx_design::{Active, PortFault, PortRef, Seen};
-use cx_looks::{Truth, truth_of};
+use cx_eval_demand::Marks;
+use cx_eval_drives::{Truth, truth_of};
 use cx_state::State;
 
 /// What a turn of a group comes to.

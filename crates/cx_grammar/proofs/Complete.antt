@@ -2,7 +2,7 @@
 use Rattle.std.proofs.Common.{◌≡◌, ℕ, zero, suc, ◌≤◌, ◌<◌, Bool, true, false, ◌&&◌, ◌||◌, not, List, [], ◌∷◌, ◌++◌, length, Ok, Err, refl, sym, ap, subst, ◌∙◌, cond, arith, ◌⊎◌, inl, inr, ⊎_elim, ◌==◌}
 use Rattle.std.proofs.lemmas.Bool.{and_parts, eqb-true}
 use Rattle.std.specs.List.{list_all}
-use Rattle.cx_tokens.specs.declared.tokens.Token.{Token}
+use Rattle.cx_ast.specs.declared.tokens.Token.{Token}
 use Rattle.cx_grammar.specs.declared.terminals.Terminal.{Terminal}
 use Rattle.cx_grammar.specs.declared.terminals.Terminal.TheVariants.{Comma}
 use Rattle.cx_grammar.specs.Terminals.{terminal_of, number_of, is, is_in, begins}

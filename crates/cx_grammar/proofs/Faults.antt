@@ -1,6 +1,6 @@
 -- Where reading a file stops, the tokens so far begin a file, and with the next one they begin none, or are too deep.
 use Rattle.std.proofs.Common.{◌≡◌, ℕ, suc, List, [], ◌∷◌, ◌++◌, length, drop, Ok, Err, refl, sym, ap, subst, ◌∙◌, append_assoc}
-use Rattle.cx_tokens.specs.declared.tokens.Token.{Token}
+use Rattle.cx_ast.specs.declared.tokens.Token.{Token}
 use Rattle.cx_ast.specs.PlainTree.{PlainTree}
 use Rattle.cx_grammar.specs.Terminals.{peek_at}
 use Rattle.cx_grammar.specs.Grammar.{Spells}

@@ -1,6 +1,6 @@
 -- Tokens have one tree, or one fault at one place.
 use Rattle.std.proofs.Common.{◌≡◌, ℕ, suc, ◌+◌, List, [], ◌∷◌, ◌++◌, length, Ok, Err, refl, sym, ap, subst, ◌∙◌, arith, ◌⊎◌, inl, inr, ⊎_elim, append_assoc, append-nil, length-append}
-use Rattle.cx_tokens.specs.declared.tokens.Token.{Token}
+use Rattle.cx_ast.specs.declared.tokens.Token.{Token}
 use Rattle.cx_ast.specs.PlainTree.{PlainTree}
 use Rattle.cx_grammar.specs.Grammar.{Spells}
 use Rattle.cx_grammar.specs.Calyx.{file, nested_at, spelled_within}

@@ -1,6 +1,6 @@
 -- A file's tokens have one tree, and it is the one that is read.
 use Rattle.std.proofs.Common.{◌≡◌, ℕ, List, [], Ok, refl, sym, ap, ◌∙◌}
-use Rattle.cx_tokens.specs.declared.tokens.Token.{Token}
+use Rattle.cx_ast.specs.declared.tokens.Token.{Token}
 use Rattle.cx_ast.specs.PlainTree.{PlainTree}
 use Rattle.cx_grammar.specs.Calyx.{file, nested_at, spelled_within}
 use Rattle.cx_grammar.specs.Grammar.{Spells}

@@ -1,6 +1,6 @@
 -- What reading answers hangs on the tokens up to the one that it looks at last, and what is read up to there can be completed.
 use Rattle.std.proofs.Common.{◌≡◌, ℕ, Bool, List, [], ◌∷◌, ◌++◌, length, Ok, Err, refl, sym, ap, subst, ◌∙◌, ◌⊎◌, inl, inr, append_assoc}
-use Rattle.cx_tokens.specs.declared.tokens.Token.{Token}
+use Rattle.cx_ast.specs.declared.tokens.Token.{Token}
 use Rattle.cx_grammar.specs.declared.terminals.Terminal.{Terminal}
 use Rattle.cx_grammar.specs.Terminals.{is_next, begins, peek_at}
 use Rattle.cx_grammar.specs.Grammar.{Spelling}

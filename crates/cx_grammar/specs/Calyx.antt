@@ -1,9 +1,9 @@
 -- The productions of the Calyx text.
 use Rattle.std.specs.Prelude.{ℕ, zero, suc, List, [], ◌∷◌, Option, Some, None, Err, if◌then◌else◌}
 use Rattle.cx_text.specs.declared.places.Place.{Place}
-use Rattle.cx_tokens.specs.declared.tokens.Token.{Token}
-use Rattle.cx_tokens.specs.declared.tokens.TokenKind.{TokenKind}
-use Rattle.cx_tokens.specs.declared.tokens.TokenKind.TheVariants as kinds
+use Rattle.cx_ast.specs.declared.tokens.Token.{Token}
+use Rattle.cx_ast.specs.declared.tokens.TokenKind.{TokenKind}
+use Rattle.cx_ast.specs.declared.tokens.TokenKind.TheVariants as kinds
 use Rattle.cx_ast.specs.declared.components.Attribute.{Attribute}
 use Rattle.cx_ast.specs.declared.components.Mark.{Mark}
 use Rattle.cx_ast.specs.declared.guards.Comparison.{Comparison}

@@ -1,6 +1,6 @@
 -- Grammars as values: what the productions are made of, which tokens a grammar spells, and how it is read from the left.
 use Rattle.std.specs.Prelude.{◌≡◌, Bool, true, false, ◌&&◌, ◌||◌, List, [], ◌∷◌, ◌++◌, ◌⊎◌, if◌then◌else◌}
-use Rattle.cx_tokens.specs.declared.tokens.Token.{Token}
+use Rattle.cx_ast.specs.declared.tokens.Token.{Token}
 use Rattle.cx_ast.specs.PlainGuards.{PlainGuard}
 use Rattle.cx_ast.specs.PlainStatements.{PlainBlock}
 use Rattle.cx_grammar.specs.declared.terminals.Terminal.{Terminal}

@@ -1,6 +1,6 @@
 -- What it means that tokens are a file, that they begin one, and that they are too deep.
 use Rattle.std.specs.Prelude.{◌≡◌, ℕ, zero, suc, true, List, [], ◌∷◌, ◌++◌, ◌⊎◌}
-use Rattle.cx_tokens.specs.declared.tokens.Token.{Token}
+use Rattle.cx_ast.specs.declared.tokens.Token.{Token}
 use Rattle.cx_ast.specs.PlainTree.{PlainTree}
 use Rattle.cx_grammar.specs.Terminals.{begins}
 use Rattle.cx_grammar.specs.Grammar.{Nest, Nested, opening, Grammar, Empty, One, Pair, Choice, Several, Commas, Deeper, Spelling, Spells, Several_of, IsComma}

@@ -1,7 +1,7 @@
 -- Reading a grammar from the left, with one token of lookahead: the value and the tokens behind it, or where reading stops.
 use Rattle.std.specs.Prelude.{ℕ, zero, suc, Bool, true, false, ◌&&◌, not, List, [], ◌∷◌, length, Result, Ok, Err, if◌then◌else◌}
 use Rattle.std.specs.List.{list_all}
-use Rattle.cx_tokens.specs.declared.tokens.Token.{Token}
+use Rattle.cx_ast.specs.declared.tokens.Token.{Token}
 use Rattle.cx_grammar.specs.declared.terminals.Terminal.{Terminal}
 use Rattle.cx_grammar.specs.declared.terminals.Terminal.TheVariants.{Comma}
 use Rattle.cx_grammar.specs.Terminals.{terminal_of, is_in, begins}

@@ -2,11 +2,11 @@
 use Rattle.std.specs.Prelude.{ℕ, ◌==◌, Bool, false, List, [], ◌∷◌, Option, Some, None, codes, if◌then◌else◌}
 use Rattle.std.specs.Cmp.Lexicographic.{pointwise}
 use Rattle.std.specs.List.{list_any}
-use Rattle.cx_tokens.specs.declared.signs.Sign.{Sign}
-use Rattle.cx_tokens.specs.declared.signs.Sign.TheVariants as signs
-use Rattle.cx_tokens.specs.declared.tokens.Token.{Token}
-use Rattle.cx_tokens.specs.declared.tokens.TokenKind.{TokenKind}
-use Rattle.cx_tokens.specs.declared.tokens.TokenKind.TheVariants as kinds
+use Rattle.cx_ast.specs.declared.signs.Sign.{Sign}
+use Rattle.cx_ast.specs.declared.signs.Sign.TheVariants as signs
+use Rattle.cx_ast.specs.declared.tokens.Token.{Token}
+use Rattle.cx_ast.specs.declared.tokens.TokenKind.{TokenKind}
+use Rattle.cx_ast.specs.declared.tokens.TokenKind.TheVariants as kinds
 use Rattle.cx_grammar.specs.declared.terminals.Terminal.{Terminal}
 use Rattle.cx_grammar.specs.declared.terminals.Terminal.TheVariants.{Import, Component, Cells, Wires, Control, Group, Comb, Static, Seq, Par, If, Else, While, Repeat, Invoke, With, Ref, Name, Number, Literal, Text, OpenBrace, CloseBrace, OpenParen, CloseParen, OpenBracket, CloseBracket, Less, Greater, Semicolon, Colon, Comma, Dot, Equal, Question, Not, And, Or, At, Percent, EqualEqual, NotEqual, LessEqual, GreaterEqual, Arrow}
 

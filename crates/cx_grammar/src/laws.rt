@@ -1,7 +1,7 @@
 //! The law of readings.
 
 ghost use Rattle.std.specs.Prelude.{◌≡◌, ◌⊎◌, List};
-ghost use Rattle.cx_tokens.specs.declared.tokens.Token.{Token as TokenValue};
+ghost use Rattle.cx_ast.specs.declared.tokens.Token.{Token as TokenValue};
 ghost use Rattle.cx_ast.specs.PlainTree.{PlainTree};
 ghost use Rattle.cx_grammar.specs.Parsing.{Parse, IsUnexpected, IsDeep};
 

@@ -3,7 +3,7 @@
 ghost use Rattle.std.specs.Prelude.{◌≡◌, ◌==◌};
 ghost use Rattle.cx_grammar.specs.Terminals.{word_terminal, sign_terminal, terminal_of, number_of, is};
 
-use cx_tokens::{Sign, TokenKind};
+use cx_ast::{Sign, TokenKind};
 
 /// What the grammar sees of a token: which reserved word or which sign it is, or that it is a name, a number, a literal or
 /// a string.

@@ -3,3 +3,17 @@ pub mod Lists
 pub mod Marks
 pub mod WalkLemmas
 pub mod Ways
+mod ReachMarks
+mod ReachWays
+mod Counting
+pub mod Ends
+pub mod EdgeLemmas
+mod Takes
+mod SearchLemmas
+mod Members
+mod OwnerLemmas
+mod TallyAdditions
+mod Beginnings
+mod Sharing
+mod Spreading
+pub mod Least

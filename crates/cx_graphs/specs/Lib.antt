@@ -3,3 +3,10 @@ pub mod Graphs
 pub mod Search
 pub mod Walks
 pub mod Ways
+pub mod Reach
+pub mod Edges
+pub mod Grounds
+pub mod GroundSearch
+pub mod Owners
+pub mod Tallies
+pub mod Spreads

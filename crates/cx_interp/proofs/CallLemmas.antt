@@ -20,14 +20,14 @@ use Rattle.cx_rules.specs.Ports.{component_of}
 use Rattle.cx_design.specs.declared.components.Component.{Component}
 use Rattle.cx_design.specs.PlainForms.{plain_component, plain_statement}
 use Rattle.cx_design.specs.PlainActives.{TellsFault}
-use Rattle.cx_instances.specs.declared.tables.InstanceRow.{InstanceRow}
-use Rattle.cx_instances.specs.Tables.{IsNumber, IsTable, row_at}
-use Rattle.cx_instances.proofs.PreOrder.{before, stands}
-use Rattle.cx_paths.proofs.TreeLemmas.{instance_self}
-use Rattle.cx_alike.proofs.ChangeLemmas.{one_number}
+use Rattle.cx_state.specs.declared.tables.InstanceRow.{InstanceRow}
+use Rattle.cx_state.specs.Tables.{IsNumber, IsTable, row_at}
+use Rattle.cx_state.proofs.PreOrder.{before, stands}
+use Rattle.cx_state.proofs.TreeLemmas.{instance_self}
+use Rattle.cx_state.proofs.ChangeLemmas.{one_number}
 use Rattle.cx_state.specs.States.{PlainInstance, inputs_held, StandsFor, under_path, put_path}
-use Rattle.cx_arms.specs.Ran.{Outcome, Ended, Faulted, Unfinished, AnswersAs, Ran}
-use Rattle.cx_group_tables.specs.declared.tables.GroupRow.{GroupRow}
+use Rattle.cx_frames.specs.Ran.{Outcome, Ended, Faulted, Unfinished, AnswersAs, Ran}
+use Rattle.cx_interp_plan.specs.declared.tables.GroupRow.{GroupRow}
 use Rattle.cx_interp.specs.declared.answers.Answer as told
 use Rattle.cx_interp.specs.declared.answers.Answer.TheVariants.{End, Fault, More}
 use Rattle.cx_interp.specs.Islands.{HasPart}

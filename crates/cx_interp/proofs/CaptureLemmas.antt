@@ -13,14 +13,14 @@ use Rattle.cx_meaning.specs.Control.{group_drives}
 use Rattle.cx_design.specs.declared.actives.Active.TheVariants as actives
 use Rattle.cx_design.specs.declared.actives.PortFault.{PortFault}
 use Rattle.cx_design.specs.PlainActives.{capture_of, TellsFault}
-use Rattle.cx_instances.specs.Tables.{IsNumber}
+use Rattle.cx_state.specs.Tables.{IsNumber}
 use Rattle.cx_state.specs.States.{PlainInstance, inputs_held, IsStateOf, StandsFor, under_path, put_path}
 use Rattle.cx_eval.specs.Evaluated.{Cycled, EndsAs, fault_along}
-use Rattle.cx_cycles.specs.Passes.{listed_in}
-use Rattle.cx_apart.specs.Rests.{IsUndriven, IsSettledAt}
-use Rattle.cx_arms.specs.Ran.{Outcome, Faulted, Unfinished}
-use Rattle.cx_arms.specs.Ran as ran
-use Rattle.cx_group_tables.specs.declared.tables.GroupRow.{GroupRow}
+use Rattle.cx_eval_cycle.specs.Passes.{listed_in}
+use Rattle.cx_frames.specs.Rests.{IsUndriven, IsSettledAt}
+use Rattle.cx_frames.specs.Ran.{Outcome, Faulted, Unfinished}
+use Rattle.cx_frames.specs.Ran as ran
+use Rattle.cx_interp_plan.specs.declared.tables.GroupRow.{GroupRow}
 use Rattle.cx_interp.specs.declared.answers.Answer as told
 use Rattle.cx_interp.specs.declared.answers.Answer.TheVariants as result
 use Rattle.cx_interp.specs.Callees.{after_does, capture_does, two_turns}

@@ -12,17 +12,17 @@ use Rattle.cx_meaning.specs.Islands.{kind_length, group_length}
 use Rattle.cx_meaning.specs.Calls.{called, group_turn, call_or_turns, enable_kind}
 use Rattle.cx_meaning.specs.Control.{targets_cell, assigns_drive, group_drives}
 use Rattle.cx_meaning.specs.Running.{control_below}
-use Rattle.cx_instances.specs.Tables.{IsNumber, IsTable, row_at}
+use Rattle.cx_state.specs.Tables.{IsNumber, IsTable, row_at}
 use Rattle.cx_state.specs.States.{PlainInstance, inputs_held, under_path}
 use Rattle.cx_interp.specs.declared.answers.Answer.{Answer}
-use Rattle.cx_group_tables.specs.declared.tables.GroupRow.{GroupRow}
-use Rattle.cx_group_tables.specs.Groups.{IsGroup, AreGroups}
+use Rattle.cx_interp_plan.specs.declared.tables.GroupRow.{GroupRow}
+use Rattle.cx_interp_plan.specs.Groups.{IsGroup, AreGroups}
 use Rattle.cx_interp.specs.Doings.{Doing, Driving, form_does, form_drives, group_driving, turns_do}
 use Rattle.cx_interp.specs.Done.{Done}
 use Rattle.cx_interp.specs.Groups.{IsGroupOf, IsGroupRow, HasLength, ListGroup, ListWithin}
-use Rattle.cx_group_tables.specs.declared.tables.GroupTable.{GroupTable}
-use Rattle.cx_instances.specs.declared.tables.InstanceRow.{InstanceRow}
-use Rattle.cx_cycles.specs.Passes.{IsAscending, listed_in}
+use Rattle.cx_interp_plan.specs.declared.tables.GroupTable.{GroupTable}
+use Rattle.cx_state.specs.declared.tables.InstanceRow.{InstanceRow}
+use Rattle.cx_eval_cycle.specs.Passes.{IsAscending, listed_in}
 use Rattle.cx_rules.specs.Ports.{component_of}
 use Rattle.cx_rules.specs.Wellformed.{IsDesign, IsThere}
 use Rattle.cx_design.specs.declared.components.Component.{Component}

@@ -5,7 +5,7 @@ use Rattle.cx_prim.specs.CellStates.{CellState}
 use Rattle.cx_meaning.specs.Designs.{PlainCell}
 use Rattle.cx_meaning.specs.Instances.{Set}
 use Rattle.cx_meaning.specs.Cycles.{every_cell}
-use Rattle.cx_cycles.specs.Passes.{listed_in}
+use Rattle.cx_eval_cycle.specs.Passes.{listed_in}
 use Rattle.cx_state.specs.States.{HoldsKind, HoldCells}
 use Rattle.cx_interp.specs.Rests.{kind_rested, rested_cells}
 use Rattle.cx_interp.proofs.RestLemmas.{hold_length, one_rested, set_holds, any_default}

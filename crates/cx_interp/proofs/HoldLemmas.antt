@@ -22,8 +22,8 @@ use Rattle.cx_rules.specs.WidthRules.{IsBadLiteral}
 use Rattle.cx_rules.specs.Sizes.{size_of, sizes_of, design_size}
 use Rattle.cx_rules.specs.Wellformed.{IsDesign, IsThere, port_count}
 use Rattle.cx_design.specs.declared.actives.Active.TheVariants as actives
-use Rattle.cx_instances.specs.declared.tables.InstanceRow.{InstanceRow}
-use Rattle.cx_instances.specs.Tables.{IsNumber, IsTable, row_at}
+use Rattle.cx_state.specs.declared.tables.InstanceRow.{InstanceRow}
+use Rattle.cx_state.specs.Tables.{IsNumber, IsTable, row_at}
 use Rattle.cx_eval.specs.Evaluated.{IsPort, IsSeen}
 use Rattle.cx_state.specs.States.{PlainInstance, instance_state, cell_held, inputs_held, no_instance, with_held, FitsPart, IsStateOf, StandsFor, under_path}
 use Rattle.cx_design.specs.declared.components.Component.{Component}

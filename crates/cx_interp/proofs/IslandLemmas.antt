@@ -19,13 +19,13 @@ use Rattle.cx_rules.specs.StaticControl.{is_island_form, is_island}
 use Rattle.cx_laws.specs.Positions.{active_at}
 use Rattle.cx_laws.specs.Samples.{Samples, says, active_by, samples_after, AreKept}
 use Rattle.cx_laws.specs.SampledIslands.{sampled_island}
-use Rattle.cx_islands.specs.Sampled.{AreSampled}
+use Rattle.cx_interp_islands.specs.Sampled.{AreSampled}
 use Rattle.cx_limits.specs.Capped.{capped}
 use Rattle.cx_design.specs.declared.actives.Active.{Active}
 use Rattle.cx_design.specs.declared.actives.Active.TheVariants as actives
 use Rattle.cx_design.specs.PlainActives.{plain_active, plain_entry}
-use Rattle.cx_looks.specs.Actives.{CanBeActive}
-use Rattle.cx_instances.specs.Tables.{IsNumber}
+use Rattle.cx_eval_drives.specs.Actives.{CanBeActive}
+use Rattle.cx_state.specs.Tables.{IsNumber}
 use Rattle.cx_eval.specs.Evaluated.{CanAct}
 use Rattle.cx_interp.specs.Doings.{leaves_in, form_does}
 use Rattle.cx_interp.specs.Groups.{HasLength}

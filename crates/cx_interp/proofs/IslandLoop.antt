@@ -11,10 +11,10 @@ use Rattle.cx_meaning.specs.Answers as answers
 use Rattle.cx_laws.specs.Samples.{Samples, says, samples_after}
 use Rattle.cx_laws.specs.SampledIslands.{sampled_turn, sampled_from}
 use Rattle.cx_design.specs.declared.actives.PortFault.{PortFault}
-use Rattle.cx_instances.specs.Tables.{IsNumber}
+use Rattle.cx_state.specs.Tables.{IsNumber}
 use Rattle.cx_state.specs.States.{PlainInstance, inputs_held, IsStateOf, StandsFor, under_path, put_path}
 use Rattle.cx_eval.specs.Evaluated.{HeldAlike}
-use Rattle.cx_arms.specs.Ran.{Ended, Faulted, Unfinished}
+use Rattle.cx_frames.specs.Ran.{Ended, Faulted, Unfinished}
 use Rattle.cx_interp.specs.declared.answers.Answer.TheVariants as result
 use Rattle.cx_interp.specs.declared.turns.Turn.TheVariants as turns
 use Rattle.cx_interp.specs.Doings.{Driving}

@@ -12,10 +12,10 @@ use Rattle.cx_laws.specs.SampledIslands.{sampled_turn}
 use Rattle.cx_design.specs.declared.actives.PortFault.{PortFault}
 use Rattle.cx_design.specs.declared.actives.Active.{Active}
 use Rattle.cx_design.specs.PlainActives.{plain_active, TellsFault}
-use Rattle.cx_instances.specs.Tables.{IsNumber}
+use Rattle.cx_state.specs.Tables.{IsNumber}
 use Rattle.cx_state.specs.States.{PlainInstance, inputs_held, IsStateOf, StandsFor, under_path, put_path}
 use Rattle.cx_eval.specs.Evaluated.{Cycled, EndsAs, fault_along}
-use Rattle.cx_apart.specs.Rests.{IsUndriven, IsSettledAt}
+use Rattle.cx_frames.specs.Rests.{IsUndriven, IsSettledAt}
 use Rattle.cx_interp.specs.declared.turns.Turn.TheVariants as turns
 use Rattle.cx_interp.specs.Doings.{Driving}
 use Rattle.cx_interp.specs.Turns.{IsBusy, TellsTurn, cycle_as}

@@ -2,7 +2,7 @@
 use Rattle.std.proofs.Common.{◌≡◌, ℕ, zero, suc, ◌+◌, ◌*◌, ◌≤◌, ◌<◌, List, [], ◌∷◌, ◌++◌, get_or, length, Some, refl, sym, ap, ◌∙◌, subst, arith}
 use Rattle.cx_meaning.specs.Designs.{PlainDesign, PlainForm, Empty, Enable, Seq, Par, If, While, Repeat, StaticSeq, StaticPar, StaticIf, StaticRepeat, Timed, PlainStatement, Placed, PlainStatements, no_statements, a_statement, statements_of}
 use Rattle.std.specs.List.{slice_get}
-use Rattle.cx_instances.specs.Tables.{IsNumber}
+use Rattle.cx_state.specs.Tables.{IsNumber}
 use Rattle.cx_meaning.specs.Instances.{Instance, Node, Cells, no_cells, a_primitive, an_instance, Nothing, OfRow, OfInstance, cell_at, cells_of, part_of, Path, instance_at, child_at, paths_of, tree_of}
 
 abbrev mutual

@@ -12,10 +12,10 @@ use Rattle.cx_meaning.specs.Running.{run_statement}
 use Rattle.cx_rules.specs.Items.{Visited, Dynamic, visit, visit_all, statements_in}
 use Rattle.cx_design.specs.declared.statements.Statement.{Statement}
 use Rattle.cx_design.specs.PlainForms.{plain_statement, plain_statements}
-use Rattle.cx_instances.specs.Tables.{IsNumber}
+use Rattle.cx_state.specs.Tables.{IsNumber}
 use Rattle.cx_state.specs.States.{PlainInstance, inputs_held, IsStateOf, StandsFor, under_path, put_path}
-use Rattle.cx_arms.specs.Ran.{Outcome, Ended, Faulted, Unfinished, Ran, limit, joined}
-use Rattle.cx_arms.specs.Arms.{all_drive, arms_run}
+use Rattle.cx_frames.specs.Ran.{Outcome, Ended, Faulted, Unfinished, Ran, limit, joined}
+use Rattle.cx_frames.specs.Arms.{all_drive, arms_run}
 use Rattle.cx_interp.specs.declared.answers.Answer.{Answer}
 use Rattle.cx_interp.specs.declared.answers.Answer.TheVariants.{End, Fault, More}
 use Rattle.cx_interp.specs.Doings.{Doing, Driving, stay_does, idle_does, statement_does, statement_drives, form_does, form_drives}

@@ -4,11 +4,11 @@ use Rattle.std.proofs.Math.Logic.{∥∥₁_elim}
 use Rattle.cx_meaning.specs.Instances.{paths_of, tree_of}
 use Rattle.cx_rules.specs.Accepted.{IsAccepted}
 use Rattle.cx_rules.specs.Sizes.{instances_below}
-use Rattle.cx_paths.proofs.TreeLemmas.{count_paths}
-use Rattle.cx_instances.specs.declared.tables.InstanceRow.{InstanceRow}
-use Rattle.cx_instances.specs.Tables.{IsTable}
-use Rattle.cx_instances.proofs.TableLemmas.{few_instances}
-use Rattle.cx_group_tables.specs.Groups.{AreGroups}
+use Rattle.cx_state.proofs.TreeLemmas.{count_paths}
+use Rattle.cx_state.specs.declared.tables.InstanceRow.{InstanceRow}
+use Rattle.cx_state.specs.Tables.{IsTable}
+use Rattle.cx_state.proofs.TableLemmas.{few_instances}
+use Rattle.cx_interp_plan.specs.Groups.{AreGroups}
 use Rattle.cx_interp.specs.declared.plan.Plan.{Plan}
 use Rattle.cx_interp.specs.Machines.{design_of, IsPlan}
 use Rattle.cx_interp.proofs.DesignProp.{design_prop}

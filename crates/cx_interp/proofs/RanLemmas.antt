@@ -5,7 +5,7 @@ use Rattle.cx_meaning.specs.Instances.{Instance, Path, State, Set, idle, IsSettl
 use Rattle.cx_meaning.specs.Cycles.{Fault}
 use Rattle.cx_meaning.specs.Answers.{Answer, End, More, Meaning, after_turns, then_do, stay, idle_turn, Test, Holds, Fails, Unclear, chosen, test_turn, loop, loop_of}
 use Rattle.cx_meaning.specs.Answers as answers
-use Rattle.cx_arms.specs.Ran.{Outcome, Ended, Faulted, Unfinished, AnswersAs, Ran}
+use Rattle.cx_frames.specs.Ran.{Outcome, Ended, Faulted, Unfinished, AnswersAs, Ran}
 
 -- so many turns later
 abbrev pub shifted : ℕ → Outcome → Outcome

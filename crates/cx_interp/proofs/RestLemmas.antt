@@ -10,7 +10,7 @@ use Rattle.cx_meaning.specs.Rows.{KeepsIdle}
 use Rattle.cx_meaning.specs.Laws.{AllRows, AllRowsBelow}
 use Rattle.cx_meaning.specs.Designs.{PlainDesign, PlainKind, OfPrimitive, OfComponent, PlainCell, component_at}
 use Rattle.cx_meaning.specs.Instances.{Instance, Node, Cells, no_cells, a_primitive, an_instance, add_cell, cells_for, tree_within, Path, State, Set, part_of, idle, idle_at, idle_below, instance_at, child_at, tree_of}
-use Rattle.cx_cycles.specs.Passes.{listed_in, IsAscending}
+use Rattle.cx_eval_cycle.specs.Passes.{listed_in, IsAscending}
 use Rattle.cx_state.specs.States.{PlainInstance, HoldsKind, HoldCells}
 use Rattle.cx_interp.specs.Turns.{rested}
 use Rattle.cx_interp.specs.Rests.{kind_rested, rested_cells}

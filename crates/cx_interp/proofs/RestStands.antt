@@ -8,8 +8,8 @@ use Rattle.cx_meaning.specs.declared.sights.Seen.TheVariants.{Undefined}
 use Rattle.cx_meaning.specs.Designs.{PlainDesign, PlainComponent, component_at, no_component}
 use Rattle.cx_meaning.specs.Instances.{Instance, Node, cells_for, tree_within, Path, State, Set, part_of, idle, idle_at, instance_at, paths_of, tree_of}
 use Rattle.cx_rules.specs.Ports.{component_of}
-use Rattle.cx_instances.specs.declared.tables.InstanceRow.{InstanceRow}
-use Rattle.cx_instances.specs.Tables.{IsNumber, IsTable, row_at}
+use Rattle.cx_state.specs.declared.tables.InstanceRow.{InstanceRow}
+use Rattle.cx_state.specs.Tables.{IsNumber, IsTable, row_at}
 use Rattle.cx_state.specs.States.{PlainInstance, plain_instance, no_instance, instance_state, inputs_held, HoldCells, FitsPart, IsStateOf, StandsFor, under_path, put_path}
 use Rattle.cx_eval.specs.Evaluated.{HeldAlike}
 use Rattle.cx_interp.specs.Turns.{rested, Rested}

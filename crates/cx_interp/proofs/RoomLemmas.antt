@@ -6,8 +6,8 @@ use Rattle.std.proofs.lemmas.Bool.{cases_lt}
 use Rattle.std.proofs.lemmas.List.{get_or-map, length-map}
 use Rattle.cx_design.specs.declared.components.Component.{Component}
 use Rattle.cx_design.specs.PlainForms.{plain_component}
-use Rattle.cx_items.specs.declared.control.Visited.{Visited as Item}
-use Rattle.cx_items.specs.Items.{plain_visited}
+use Rattle.cx_design_parts.specs.declared.control.Visited.{Visited as Item}
+use Rattle.cx_design_parts.specs.Items.{plain_visited}
 use Rattle.std.specs.Vec.{vec_len, vec_capacity}
 use Rattle.cx_meaning.specs.Designs.{PlainDesign, PlainComponent, PlainForm, component_at, no_component}
 use Rattle.cx_meaning.specs.Instances.{Path, part_of, instance_at, paths_of, tree_of}
@@ -16,8 +16,8 @@ use Rattle.cx_rules.specs.Accepted.{IsAccepted}
 use Rattle.cx_rules.specs.Wellformed.{IsDesign}
 use Rattle.cx_rules.specs.Items.{Visited, statements_in}
 use Rattle.cx_limits.specs.Capped.{capped}
-use Rattle.cx_instances.specs.Tables.{IsNumber, IsTable}
-use Rattle.cx_instances.specs.declared.tables.InstanceRow.{InstanceRow}
+use Rattle.cx_state.specs.Tables.{IsNumber, IsTable}
+use Rattle.cx_state.specs.declared.tables.InstanceRow.{InstanceRow}
 use Rattle.cx_interp.specs.declared.rooms.Room.{Room}
 use Rattle.cx_interp.specs.Machines.{FormStands}
 use Rattle.cx_interp.specs.Rooms.{FormFits, ListFits, PartFits, HasRoom, HoldsEntries, entry_room}

@@ -8,10 +8,10 @@ use Rattle.cx_meaning.specs.Sights.{Held, unheld}
 use Rattle.cx_meaning.specs.Cycles as cycles
 use Rattle.cx_meaning.specs.Answers as answers
 use Rattle.cx_meaning.specs.Running.{run_control, run_main}
-use Rattle.cx_instances.specs.Tables.{IsNumber}
-use Rattle.cx_paths.proofs.TreeLemmas.{instance_self}
+use Rattle.cx_state.specs.Tables.{IsNumber}
+use Rattle.cx_state.proofs.TreeLemmas.{instance_self}
 use Rattle.cx_state.specs.States.{PlainInstance, inputs_held, StandsFor, IsUnheld}
-use Rattle.cx_arms.specs.Ran.{Outcome, Ended, Faulted, Unfinished, AnswersAs}
+use Rattle.cx_frames.specs.Ran.{Outcome, Ended, Faulted, Unfinished, AnswersAs}
 use Rattle.cx_interp.specs.declared.answers.Answer as told
 use Rattle.cx_interp.specs.declared.answers.Answer.TheVariants.{End, Fault, More}
 use Rattle.cx_interp.specs.Callees.{HasControl}

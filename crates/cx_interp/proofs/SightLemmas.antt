@@ -7,9 +7,9 @@ use Rattle.cx_meaning.specs.Instances.{Path, State, instance_at, paths_of, tree_
 use Rattle.cx_meaning.specs.Active as acting
 use Rattle.cx_meaning.specs.Active.{nothing}
 use Rattle.cx_meaning.specs.Sights.{Held, seen}
-use Rattle.cx_instances.specs.Tables.{IsNumber}
+use Rattle.cx_state.specs.Tables.{IsNumber}
 use Rattle.cx_state.specs.States.{PlainInstance, inputs_held, IsStateOf, StandsFor, under_path}
-use Rattle.cx_alike.specs.ReadStates.{state_in}
+use Rattle.cx_state.specs.ReadStates.{state_in}
 use Rattle.cx_interp.specs.Sights.{path_of, look_in}
 use Rattle.cx_interp.proofs.RestLemmas.{got}
 

@@ -14,11 +14,11 @@ use Rattle.cx_rules.specs.Spots.{AStatement}
 use Rattle.cx_rules.specs.Items.{Visited, Dynamic, statements_in, test_in}
 use Rattle.cx_rules.specs.Ports.{component_of, keeps_literal}
 use Rattle.cx_rules.specs.Wellformed.{IsDesign, IsThere, IsStatement, IsForm, IsWith}
-use Rattle.cx_instances.specs.declared.tables.InstanceRow.{InstanceRow}
-use Rattle.cx_instances.specs.Tables.{IsNumber, IsTable, row_at}
+use Rattle.cx_state.specs.declared.tables.InstanceRow.{InstanceRow}
+use Rattle.cx_state.specs.Tables.{IsNumber, IsTable, row_at}
 use Rattle.cx_eval.specs.Evaluated.{CanAct, IsPort, IsKept}
-use Rattle.cx_looks.specs.Actives.{CanBeActive}
-use Rattle.cx_islands.specs.Asked.{IsTestIn}
+use Rattle.cx_eval_drives.specs.Actives.{CanBeActive}
+use Rattle.cx_interp_islands.specs.Asked.{IsTestIn}
 use Rattle.cx_interp.specs.Groups.{IsGroupOf}
 use Rattle.cx_interp.specs.Machines.{FormStands}
 use Rattle.cx_interp.specs.Tests.{comb_active}

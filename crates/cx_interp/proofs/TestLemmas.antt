@@ -13,7 +13,7 @@ use Rattle.cx_meaning.specs.Answers.{Test}
 use Rattle.cx_meaning.specs.Calls.{test, test_of}
 use Rattle.cx_design.specs.declared.actives.PortFault.{PortFault}
 use Rattle.cx_design.specs.PlainActives.{plain_active, TellsFault}
-use Rattle.cx_instances.specs.Tables.{IsNumber}
+use Rattle.cx_state.specs.Tables.{IsNumber}
 use Rattle.cx_state.specs.States.{PlainInstance, inputs_held, StandsFor, under_path}
 use Rattle.cx_eval.specs.Evaluated.{IsSeen, fault_along}
 use Rattle.cx_interp.specs.Tests.{TellsTest, TellsTruth, Tested, comb_active}

@@ -16,11 +16,11 @@ use Rattle.cx_meaning.specs.Calls.{group_turn, hole_turn}
 use Rattle.cx_meaning.specs.Control.{group_drives}
 use Rattle.cx_design.specs.declared.actives.Active.TheVariants as actives
 use Rattle.cx_design.specs.declared.actives.PortFault.{PortFault}
-use Rattle.cx_instances.specs.Tables.{IsNumber}
+use Rattle.cx_state.specs.Tables.{IsNumber}
 use Rattle.cx_state.specs.States.{PlainInstance, inputs_held, IsStateOf, StandsFor, under_path, put_path}
 use Rattle.cx_eval.specs.Evaluated.{IsSeen, IsSeenAlone, Cycled, HasCycled, EndsAs}
-use Rattle.cx_cycles.specs.Passes.{listed_in}
-use Rattle.cx_apart.specs.Rests.{IsUndriven, IsSettledAt}
+use Rattle.cx_eval_cycle.specs.Passes.{listed_in}
+use Rattle.cx_frames.specs.Rests.{IsUndriven, IsSettledAt}
 use Rattle.cx_interp.specs.declared.turns.Turn.{Turn}
 use Rattle.cx_interp.specs.declared.turns.Turn.TheVariants as turns
 use Rattle.cx_interp.specs.Doings.{group_driving}

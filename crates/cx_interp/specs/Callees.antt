@@ -4,7 +4,7 @@ use Rattle.cx_meaning.specs.Designs.{PlainDesign, PlainStatement}
 use Rattle.cx_meaning.specs.Instances.{Instance, OfInstance, Path, State, cell_at, cells_of, part_of, under, instance_at, tree_of}
 use Rattle.cx_meaning.specs.Calls.{captures, lift_answer, inputs_of_call, after_child}
 use Rattle.cx_meaning.specs.Running.{control_below}
-use Rattle.cx_instances.specs.Tables.{IsNumber}
+use Rattle.cx_state.specs.Tables.{IsNumber}
 use Rattle.cx_state.specs.States.{PlainInstance, inputs_held, StandsFor, under_path}
 use Rattle.cx_interp.specs.declared.answers.Answer.{Answer}
 use Rattle.cx_interp.specs.declared.answers.Answer.TheVariants.{End, More}

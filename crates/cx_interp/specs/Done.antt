@@ -4,10 +4,10 @@ use Rattle.cx_meaning.specs.Designs.{PlainDesign}
 use Rattle.cx_meaning.specs.Instances.{Path, State, instance_at, tree_of, IsSettled}
 use Rattle.cx_meaning.specs.Cycles as cycles
 use Rattle.cx_design.specs.PlainActives.{TellsFault}
-use Rattle.cx_instances.specs.Tables.{IsNumber}
+use Rattle.cx_state.specs.Tables.{IsNumber}
 use Rattle.cx_state.specs.States.{PlainInstance, inputs_held, IsStateOf, StandsFor, under_path, put_path}
 use Rattle.cx_eval.specs.Evaluated.{fault_along}
-use Rattle.cx_arms.specs.Ran.{Outcome, Ended, Faulted, Unfinished, Ran}
+use Rattle.cx_frames.specs.Ran.{Outcome, Ended, Faulted, Unfinished, Ran}
 use Rattle.cx_interp.specs.declared.answers.Answer.{Answer}
 use Rattle.cx_interp.specs.declared.answers.Answer.TheVariants.{End, Fault, More}
 use Rattle.cx_interp.specs.Doings.{Doing, Driving}

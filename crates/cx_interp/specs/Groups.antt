@@ -10,10 +10,10 @@ use Rattle.cx_meaning.specs.Calls.{called, captures, group_turn, call, enable}
 use Rattle.cx_meaning.specs.Islands.{group_length}
 use Rattle.cx_meaning.specs.Control.{group_drives}
 use Rattle.cx_meaning.specs.Running.{control_below}
-use Rattle.cx_instances.specs.Tables.{IsNumber, row_at}
-use Rattle.cx_cycles.specs.Passes.{listed_in, IsAscending}
-use Rattle.cx_group_tables.specs.declared.tables.GroupRow.{GroupRow}
-use Rattle.cx_group_tables.specs.Groups.{IsGroup}
+use Rattle.cx_state.specs.Tables.{IsNumber, row_at}
+use Rattle.cx_eval_cycle.specs.Passes.{listed_in, IsAscending}
+use Rattle.cx_interp_plan.specs.declared.tables.GroupRow.{GroupRow}
+use Rattle.cx_interp_plan.specs.Groups.{IsGroup}
 use Rattle.cx_interp.specs.Doings.{Doing, Driving}
 
 -- a group of instance n

@@ -9,10 +9,10 @@ use Rattle.cx_meaning.specs.Islands.{first_unclear}
 use Rattle.cx_rules.specs.StaticControl.{is_island_form}
 use Rattle.cx_laws.specs.Samples.{Samples, says, begun_by, samples_after}
 use Rattle.cx_laws.specs.SampledIslands.{sampled_turn, sampled_from}
-use Rattle.cx_islands.specs.Rooms.{samples_of}
-use Rattle.cx_islands.specs.Sampled.{AreSampled}
+use Rattle.cx_interp_islands.specs.Rooms.{samples_of}
+use Rattle.cx_interp_islands.specs.Sampled.{AreSampled}
 use Rattle.cx_design.specs.declared.actives.PortFault.{PortFault}
-use Rattle.cx_instances.specs.Tables.{IsNumber}
+use Rattle.cx_state.specs.Tables.{IsNumber}
 use Rattle.cx_state.specs.States.{PlainInstance, inputs_held, IsStateOf, StandsFor, under_path, put_path}
 use Rattle.cx_interp.specs.declared.machine.Machine.{Machine}
 use Rattle.cx_interp.specs.declared.turns.Turn.{Turn}

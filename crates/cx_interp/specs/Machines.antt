@@ -8,11 +8,11 @@ use Rattle.cx_rules.specs.Accepted.{IsAccepted}
 use Rattle.cx_rules.specs.Wellformed.{IsDesign}
 use Rattle.cx_rules.specs.Items.{Visited, Dynamic, visit, visit_all, statements_in}
 use Rattle.cx_design.specs.PlainDesigns.{plain_design}
-use Rattle.cx_instances.specs.Tables.{IsNumber, IsTable}
+use Rattle.cx_state.specs.Tables.{IsNumber, IsTable}
 use Rattle.cx_state.specs.States.{PlainInstance, plain_state, IsStateOf}
 use Rattle.cx_interp.specs.declared.plan.Plan.{Plan}
 use Rattle.cx_interp.specs.declared.machine.Machine.{Machine}
-use Rattle.cx_group_tables.specs.Groups.{AreGroups}
+use Rattle.cx_interp_plan.specs.Groups.{AreGroups}
 use Rattle.cx_interp.specs.Rooms.{HasRoom}
 
 abbrev pub design_of : Plan → PlainDesign

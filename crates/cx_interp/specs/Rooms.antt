@@ -9,7 +9,7 @@ use Rattle.cx_design.specs.declared.actives.Active.{Active}
 use Rattle.cx_design.specs.declared.actives.Active.TheVariants as actives
 use Rattle.cx_design.specs.PlainActives.{plain_entry}
 use Rattle.cx_laws.specs.Samples.{form_ifs}
-use Rattle.cx_islands.specs.Rooms.{form_groups}
+use Rattle.cx_interp_islands.specs.Rooms.{form_groups}
 use Rattle.cx_interp.specs.declared.rooms.Room.{Room}
 
 -- a statement has no more static ifs, and no more enables of groups in static control

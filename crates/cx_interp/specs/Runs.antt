@@ -5,8 +5,7 @@ use Rattle.cx_meaning.specs.Instances.{State, start, tree_of, words_of}
 use Rattle.cx_meaning.specs.Cycles as cycles
 use Rattle.cx_meaning.specs.Answers as answers
 use Rattle.cx_meaning.specs.Running.{run_main}
-use Rattle.cx_text.specs.Loading.{PlainMemory}
-use Rattle.cx_memory_words.specs.Words.{with_words}
+use Rattle.cx_text.specs.Loading.{PlainMemory, with_words}
 use Rattle.cx_design.specs.PlainActives.{TellsFault}
 use Rattle.cx_design.specs.PlainDesigns.{plain_design}
 use Rattle.cx_state.specs.States.{PlainInstance, plain_state, IsStateOf, StandsFor, IsUnheld}

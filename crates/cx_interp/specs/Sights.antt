@@ -8,7 +8,7 @@ use Rattle.cx_meaning.specs.Cycles.{Fault, fault_at}
 use Rattle.cx_meaning.specs.Sights.{Look, seen}
 use Rattle.cx_design.specs.PlainDesigns.{plain_design}
 use Rattle.cx_state.specs.States.{PlainInstance, plain_state, inputs_held, IsStateOf, StandsFor, under_path}
-use Rattle.cx_alike.specs.ReadStates.{state_in}
+use Rattle.cx_state.specs.ReadStates.{state_in}
 use Rattle.cx_eval.specs.Evaluated.{IsPort}
 use Rattle.cx_interp.specs.declared.sights.Sight.{Sight}
 use Rattle.cx_interp.specs.declared.sights.Unclear.{Unclear}

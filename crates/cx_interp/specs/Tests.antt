@@ -12,7 +12,7 @@ use Rattle.cx_design.specs.declared.actives.Active.{Active}
 use Rattle.cx_design.specs.declared.actives.Active.TheVariants as actives
 use Rattle.cx_design.specs.declared.actives.PortFault.{PortFault}
 use Rattle.cx_design.specs.PlainActives.{TellsFault}
-use Rattle.cx_instances.specs.Tables.{IsNumber}
+use Rattle.cx_state.specs.Tables.{IsNumber}
 use Rattle.cx_state.specs.States.{PlainInstance, inputs_held, StandsFor, under_path}
 use Rattle.cx_eval.specs.Evaluated.{fault_along}
 use Rattle.cx_interp.specs.Doings.{Doing}

@@ -11,10 +11,10 @@ use Rattle.cx_meaning.specs.Answers as answers
 use Rattle.cx_meaning.specs.Calls.{group_turn}
 use Rattle.cx_design.specs.declared.actives.PortFault.{PortFault}
 use Rattle.cx_design.specs.PlainActives.{TellsFault}
-use Rattle.cx_instances.specs.Tables.{IsNumber}
+use Rattle.cx_state.specs.Tables.{IsNumber}
 use Rattle.cx_state.specs.States.{PlainInstance, inputs_held, IsStateOf, StandsFor, under_path, put_path}
 use Rattle.cx_eval.specs.Evaluated.{fault_along, HeldAlike}
-use Rattle.cx_arms.specs.Ran.{Outcome, Ended, Faulted, Unfinished}
+use Rattle.cx_frames.specs.Ran.{Outcome, Ended, Faulted, Unfinished}
 use Rattle.cx_interp.specs.declared.answers.Answer as told
 use Rattle.cx_interp.specs.declared.turns.Turn.{Turn}
 use Rattle.cx_interp.specs.declared.turns.Turn.TheVariants as turns

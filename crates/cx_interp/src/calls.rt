@@ -9,8 +9,8 @@ ghost use Rattle.cx_interp.specs.Machines.{design_of, IsPlan, IsInstance};
 
 use crate::plan::Plan;
 use cx_design::{Component, GroupKind};
-use cx_group_tables::GroupRow;
-use cx_ports::component;
+use cx_design_parts::component;
+use cx_interp_plan::GroupRow;
 
 /// What is known of a group of an instance.
 pub(crate) fn group_row<'p>(plan: &'p Plan<'_>, instance: usize, group: u32) -> &'p GroupRow

@@ -14,9 +14,9 @@ use crate::answers::{Answer, idle_turn, later};
 use crate::machine::Machine;
 use crate::plan::Plan;
 use crate::rest::rest;
-use cx_apart::laws::listed_cells_suffice;
 use cx_design::Active;
-use cx_group_tables::GroupRow;
+use cx_frames::apart_laws::listed_cells_suffice;
+use cx_interp_plan::GroupRow;
 use cx_meaning::laws::{designs_keep_idle, idle_settles};
 
 /// The answer of a turn that goes on, with an idle turn behind it.

@@ -8,11 +8,11 @@ ghost use Rattle.cx_interp.specs.Machines.{design_of, rows_of, IsPlan, IsAt, IsI
 use crate::calls::instance_part;
 use crate::machine::Machine;
 use crate::plan::Plan;
-use cx_alike::laws::rows_stand;
 use cx_design::{Active, PortRef, Statement};
-use cx_ports::component;
+use cx_design_parts::component;
 use cx_rules::laws::accepted_group_is_acyclic;
-use cx_state_widths::laws::state_seen_has_width;
+use cx_state::alike_laws::rows_stand;
+use cx_state::width_laws::state_seen_has_width;
 
 /// The number of the instance at a component's cell.
 pub(crate) fn child_number(plan: &Plan<'_>, instance: usize, cell: u32) -> usize

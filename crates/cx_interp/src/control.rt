@@ -16,9 +16,9 @@ use crate::groups::run_group;
 use crate::islands::run_island;
 use crate::machine::{Machine, test};
 use crate::plan::Plan;
-use cx_arms::laws::{next_arm, own_inputs_suffice, whole_par};
 use cx_design::{Form, PlacedPort, Statement};
-use cx_group_tables::GroupRow;
+use cx_frames::arm_laws::{next_arm, own_inputs_suffice, whole_par};
+use cx_interp_plan::GroupRow;
 
 /// Runs a statement in an instance.
 #[cycle(control)]

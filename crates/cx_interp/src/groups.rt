@@ -1,7 +1,7 @@
 //! The turns of a group.
 
 ghost use Rattle.std.specs.Prelude.{◌≡◌};
-ghost use Rattle.cx_cycles.specs.Passes.{IsAscending};
+ghost use Rattle.cx_eval_cycle.specs.Passes.{IsAscending};
 ghost use Rattle.cx_interp.specs.Doings.{group_driving, turns_do};
 ghost use Rattle.cx_interp.specs.Done.{Done};
 ghost use Rattle.cx_interp.specs.Groups.{IsGroupOf, ListGroup, ListWithin};

@@ -22,8 +22,7 @@ use crate::sights::Sight;
 use cx_design::{Checked, Design};
 use cx_eval::Evaluator;
 use cx_laws::laws::loaded_start_is_settled;
-use cx_state::State;
-use cx_state_words::external_words;
+use cx_state::{State, external_words};
 use cx_text::{Loaded, Memory};
 use std::alloc::Global;
 

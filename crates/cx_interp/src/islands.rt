@@ -3,7 +3,7 @@
 ghost use Rattle.std.specs.Prelude.{◌≡◌, ◌<◌, ◌-◌, ◌^◌};
 ghost use Rattle.cx_meaning.specs.Islands as islands;
 ghost use Rattle.cx_design.specs.PlainForms.{plain_component, plain_form};
-ghost use Rattle.cx_islands.specs.Sampled.{AreSampled};
+ghost use Rattle.cx_interp_islands.specs.Sampled.{AreSampled};
 ghost use Rattle.cx_interp.specs.Doings.{form_does, form_drives};
 ghost use Rattle.cx_interp.specs.Done.{Done};
 ghost use Rattle.cx_interp.specs.Islands.{CycleTaken, HasPart, IsIsland, SampledBefore, SamplesTaken, TellsUnclear, sampled_does, samples_in};
@@ -18,10 +18,9 @@ use crate::plan::Plan;
 use crate::rest::rest_all;
 use crate::rooms::activate;
 use crate::sights::Unclear;
-use cx_alike::laws::{rows_stand, states_are_seen_alike};
-use cx_apart::laws::{active_groups_within, listed_cells_suffice};
 use cx_design::{Component, Form, PortFault};
-use cx_islands::{
+use cx_frames::apart_laws::{active_groups_within, listed_cells_suffice};
+use cx_interp_islands::{
     accepted_islands_are_short, form_length, static_tests_are_conditions, take_samples,
     taken_samples_are_of_a_run,
 };
@@ -30,6 +29,7 @@ use cx_laws::laws::{
     timers_give_the_active_groups,
 };
 use cx_meaning::laws::{designs_keep_idle, idle_settles};
+use cx_state::alike_laws::{rows_stand, states_are_seen_alike};
 
 /// The fault of a port of an instance that was found unclear.
 fn fault_in(instance: usize, unclear: Option<Unclear>) -> Option<PortFault>

@@ -10,7 +10,7 @@ use crate::plan::Plan;
 use crate::rooms::Room;
 use crate::sights::Sight;
 use cx_design::{Active, FaultKind, PortFault, PortRef, Seen};
-use cx_looks::{Truth, truth_of};
+use cx_eval_drives::{Truth, truth_of};
 
 /// The sight of the state, and the room for the islands of its design.
 #[derive(Drop)]

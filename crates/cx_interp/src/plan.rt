@@ -1,8 +1,8 @@
 //! What a run knows of its design and never changes.
 
 use cx_design::Design;
-use cx_group_tables::GroupTable;
-use cx_instances::InstanceTable;
+use cx_interp_plan::GroupTable;
+use cx_state::InstanceTable;
 
 /// A design, the table of its instances, and what is known of the groups of each component.
 #[derive(Drop)]

@@ -5,8 +5,8 @@ ghost use Rattle.cx_interp.specs.Machines.{IsPlan};
 
 use crate::plan::Plan;
 use cx_design::Checked;
-use cx_group_tables::group_tables;
-use cx_instances::instances;
+use cx_interp_plan::group_tables;
+use cx_state::instances;
 use cx_text::Memory;
 use std::alloc::Global;
 

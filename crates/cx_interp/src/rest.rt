@@ -3,7 +3,7 @@
 ghost use Rattle.std.specs.Prelude.{◌≡◌, All, ◌<◌, length, map};
 ghost use Rattle.cx_meaning.specs.Cycles.{every_cell};
 ghost use Rattle.cx_design.specs.PlainForms.{plain_cell, plain_kind};
-ghost use Rattle.cx_cycles.specs.Passes.{IsAscending, listed_in};
+ghost use Rattle.cx_eval_cycle.specs.Passes.{IsAscending, listed_in};
 ghost use Rattle.cx_state.specs.States.{HoldCells, HoldsKind};
 ghost use Rattle.cx_interp.specs.Groups.{ListWithin};
 ghost use Rattle.cx_interp.specs.Machines.{design_of, rows_of, IsPlan, IsAt, IsInstance};
@@ -12,10 +12,10 @@ ghost use Rattle.cx_interp.specs.Turns.{Rested};
 
 use crate::machine::Machine;
 use crate::plan::Plan;
-use cx_alike::laws::one_row_changes;
 use cx_cells::PrimState;
 use cx_design::{Cell, CellKind};
 use cx_prim::Cycle;
+use cx_state::alike_laws::one_row_changes;
 
 /// The idle edge of a cell; a component's cell holds nothing of its own.
 fn rest_cell(cell: &Cell, held: &mut Option<PrimState>)

@@ -5,12 +5,12 @@ ghost use Rattle.std.specs.Vec.{vec_len, vec_capacity};
 ghost use Rattle.cx_design.specs.PlainDesigns.{plain_design};
 ghost use Rattle.cx_design.specs.PlainForms.{plain_component, plain_form};
 ghost use Rattle.cx_laws.specs.Samples.{active_by, form_ifs};
-ghost use Rattle.cx_islands.specs.Rooms.{form_groups, samples_of};
+ghost use Rattle.cx_interp_islands.specs.Rooms.{form_groups, samples_of};
 ghost use Rattle.cx_interp.specs.Rooms.{PartFits, HasRoom, HasActive, HoldsEntries, entry_room};
 
 use cx_design::{Active, ActiveEntry, Component, Design, Form};
-use cx_islands::{active_entries, if_count, reserve_entries};
-use cx_items::statements;
+use cx_design_parts::statements;
+use cx_interp_islands::{active_entries, if_count, reserve_entries};
 use cx_text::Memory;
 use std::alloc::Global;
 

@@ -3,13 +3,13 @@
 ghost use Rattle.std.specs.Prelude.{◌≡◌, None};
 ghost use Rattle.cx_meaning.specs.Islands.{fault_of, is_one};
 ghost use Rattle.cx_meaning.specs.Truths as truths;
-ghost use Rattle.cx_islands.specs.Asked.{earlier_fault};
+ghost use Rattle.cx_interp_islands.specs.Asked.{earlier_fault};
 ghost use Rattle.cx_interp.specs.Sights.{CanAsk, sight_kept, sight_look, unclear_fault};
 
 use cx_design::{Active, FaultKind, PortRef, Seen};
 use cx_eval::Evaluator;
-use cx_islands::Sampler;
-use cx_looks::{Truth, truth_of};
+use cx_eval_drives::{Truth, truth_of};
+use cx_interp_islands::Sampler;
 use cx_state::State;
 
 /// A port that is no value, and why.

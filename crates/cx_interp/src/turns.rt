@@ -3,7 +3,7 @@
 ghost use Rattle.std.specs.Prelude.{◌≡◌, ◌≢◌, ◌<◌, ◌^◌};
 ghost use Rattle.cx_meaning.specs.Truths as truths;
 ghost use Rattle.cx_meaning.specs.Truths.{Zero};
-ghost use Rattle.cx_cycles.specs.Passes.{IsAscending};
+ghost use Rattle.cx_eval_cycle.specs.Passes.{IsAscending};
 ghost use Rattle.cx_interp.specs.Doings.{group_driving};
 ghost use Rattle.cx_interp.specs.Groups.{IsGroupOf, ListGroup};
 ghost use Rattle.cx_interp.specs.Machines.{design_of, rows_of, IsPlan, IsAt, IsInstance};
@@ -11,10 +11,10 @@ ghost use Rattle.cx_interp.specs.Turns.{HoleTurn, Taken, cycle_as};
 
 use crate::machine::{Machine, port_fault};
 use crate::plan::Plan;
-use cx_apart::laws::listed_cells_suffice;
 use cx_design::{FaultKind, PortFault, PortRef, Seen};
 use cx_eval::GroupTurn;
-use cx_looks::{Truth, truth_of};
+use cx_eval_drives::{Truth, truth_of};
+use cx_frames::apart_laws::listed_cells_suffice;
 
 /// What a turn of a group comes to.
 #[derive(Clone, Copy, Debug, PartialEq, Eq)]

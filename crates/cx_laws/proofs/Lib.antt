@@ -12,3 +12,7 @@ mod LengthLemmas
 mod ExampleLemmas
 mod SampleLemmas
 mod SampledLemmas
+mod RowWidths
+mod SightWidths
+mod TreeLemmas
+mod SeenLemmas

@@ -3,3 +3,4 @@ pub mod Positions
 pub mod Samples
 pub mod SampledIslands
 pub mod Examples
+pub mod Widths

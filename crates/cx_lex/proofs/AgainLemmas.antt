@@ -4,10 +4,10 @@ use Rattle.std.proofs.lemmas.Bool.{eqb-true, ne_eqb, lt-ltb, le-ltb, and_from}
 use Rattle.std.specs.List.{list_all}
 use Rattle.std.specs.Prelude.{Ok, Err}
 use Rattle.std.specs.Str.Parse.{AllDigits, IsNumeral, digits_value}
-use Rattle.cx_tokens.specs.declared.signs.Sign.{Sign}
-use Rattle.cx_tokens.specs.declared.tokens.TokenKind.{TokenKind}
-use Rattle.cx_tokens.specs.declared.tokens.TokenKind.TheVariants as kinds
-use Rattle.cx_tokens.specs.declared.signs.Sign.TheVariants as signs
+use Rattle.cx_ast.specs.declared.signs.Sign.{Sign}
+use Rattle.cx_ast.specs.declared.tokens.TokenKind.{TokenKind}
+use Rattle.cx_ast.specs.declared.tokens.TokenKind.TheVariants as kinds
+use Rattle.cx_ast.specs.declared.signs.Sign.TheVariants as signs
 use Rattle.cx_lex.specs.declared.faults.LexKind.TheVariants.{BadByte, OpenString, BadLiteral}
 use Rattle.cx_lex.specs.Bytes.{is_blank, is_name_start, is_digit, is_name_byte, goes_on, is_in_line, is_in_string, base_of, is_digit_in, Stops}
 use Rattle.cx_lex.specs.Lex.{sign_bytes, IsLongest, IsWord, IsToken, name, number, literal, string, sign, HasNoClose, IsStray, IsGap, blank, line_comment, block_comment}

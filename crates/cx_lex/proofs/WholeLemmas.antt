@@ -5,8 +5,8 @@ use Rattle.std.specs.Prelude.{Result, Ok, Err}
 use Rattle.cx_text.specs.declared.places.Place.{Place}
 use Rattle.cx_text.specs.Places.{start, after_bytes, place_at, Reading}
 use Rattle.cx_text.proofs.PlaceLemmas.{after_bytes-append}
-use Rattle.cx_tokens.specs.declared.tokens.TokenKind.{TokenKind}
-use Rattle.cx_tokens.specs.declared.tokens.Token.{Token}
+use Rattle.cx_ast.specs.declared.tokens.TokenKind.{TokenKind}
+use Rattle.cx_ast.specs.declared.tokens.Token.{Token}
 use Rattle.cx_lex.specs.declared.faults.LexKind.{LexKind}
 use Rattle.cx_lex.specs.declared.faults.LexFault.{LexFault}
 use Rattle.cx_lex.specs.Lex.{IsToken, name, number, literal, string, sign, IsGap, blank, line_comment, block_comment, IsFault, bad_byte, open_comment, open_string, long_string, long_name, bad_literal, HasTokens, ended, gap, token, HasFault, here, behind_gap, behind_token, Lex, FirstFault}

@@ -5,11 +5,11 @@ use Rattle.std.specs.List.{list_all}
 use Rattle.std.specs.Str.Parse.{IsNumeral, digits_value}
 use Rattle.cx_text.specs.declared.places.Place.{Place}
 use Rattle.cx_text.specs.Places.{start, after_bytes}
-use Rattle.cx_tokens.specs.declared.signs.Sign.{Sign}
-use Rattle.cx_tokens.specs.declared.signs.Sign.TheVariants as signs
-use Rattle.cx_tokens.specs.declared.tokens.TokenKind.{TokenKind}
-use Rattle.cx_tokens.specs.declared.tokens.TokenKind.TheVariants as kinds
-use Rattle.cx_tokens.specs.declared.tokens.Token.{Token}
+use Rattle.cx_ast.specs.declared.signs.Sign.{Sign}
+use Rattle.cx_ast.specs.declared.signs.Sign.TheVariants as signs
+use Rattle.cx_ast.specs.declared.tokens.TokenKind.{TokenKind}
+use Rattle.cx_ast.specs.declared.tokens.TokenKind.TheVariants as kinds
+use Rattle.cx_ast.specs.declared.tokens.Token.{Token}
 use Rattle.cx_lex.specs.declared.faults.LexKind.{LexKind}
 use Rattle.cx_lex.specs.declared.faults.LexKind.TheVariants.{BadByte, OpenComment, OpenString, BadLiteral}
 use Rattle.cx_lex.specs.Bytes.{is_blank, is_name_start, is_digit, is_name_byte, goes_on, is_in_line, is_in_string, base_of, Stops}

@@ -2,10 +2,10 @@
 use Rattle.std.specs.Prelude.{ℕ, ◌^◌, ◌==◌, Bool, false, ◌&&◌, ◌||◌, nat_lt, Option, Some, None, Result, Ok, Err, List, [], ◌∷◌, length, if◌then◌else◌}
 use Rattle.std.specs.Str.Parse.{digits_value}
 use Rattle.cx_text.specs.Places.{start}
-use Rattle.cx_tokens.specs.declared.signs.Sign.{Sign}
-use Rattle.cx_tokens.specs.declared.signs.Sign.TheVariants as signs
-use Rattle.cx_tokens.specs.declared.tokens.TokenKind.{TokenKind}
-use Rattle.cx_tokens.specs.declared.tokens.TokenKind.TheVariants as kinds
+use Rattle.cx_ast.specs.declared.signs.Sign.{Sign}
+use Rattle.cx_ast.specs.declared.signs.Sign.TheVariants as signs
+use Rattle.cx_ast.specs.declared.tokens.TokenKind.{TokenKind}
+use Rattle.cx_ast.specs.declared.tokens.TokenKind.TheVariants as kinds
 use Rattle.cx_lex.specs.declared.faults.LexKind.{LexKind}
 use Rattle.cx_lex.specs.declared.faults.LexKind.TheVariants.{BadByte, OpenComment, OpenString, BadLiteral, Memory}
 use Rattle.cx_lex.specs.declared.faults.LexFault.{LexFault}

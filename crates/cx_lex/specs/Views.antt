@@ -1,10 +1,10 @@
 -- What the readers of the code answer, without where it lies in memory.
 use Rattle.std.specs.Prelude.{ℕ, List, [], ◌∷◌, Option, Some, None, Result, Ok, Err}
 use Rattle.std.specs.Borrow.{Bor}
-use Rattle.cx_tokens.specs.declared.tokens.TokenKind.{TokenKind}
-use Rattle.cx_tokens.specs.declared.tokens.TokenKind.TheVariants as kinds
+use Rattle.cx_ast.specs.declared.tokens.TokenKind.{TokenKind}
+use Rattle.cx_ast.specs.declared.tokens.TokenKind.TheVariants as kinds
 use Rattle.cx_text.specs.declared.places.Place.{Place}
-use Rattle.cx_tokens.specs.declared.tokens.Token.{Token}
+use Rattle.cx_ast.specs.declared.tokens.Token.{Token}
 use Rattle.cx_lex.specs.declared.faults.LexKind.{LexKind}
 use Rattle.cx_lex.specs.declared.items.Found.{Found}
 use Rattle.cx_lex.specs.declared.items.Found.TheVariants as items

@@ -9,8 +9,8 @@ use crate::comments::after_comment;
 use crate::faults::LexKind;
 use crate::literals::numeric;
 use crate::signs::{long, short};
+use cx_ast::Sign;
 use cx_text::NAME_BYTES;
-use cx_tokens::Sign;
 
 /// A token's kind, with its bytes where they lie in the text.
 #[derive(Clone, Copy, Debug)]

@@ -3,7 +3,7 @@
 ghost use Rattle.std.specs.Prelude.{◌≡◌, ◌≢◌, ◌+◌, ◌≤◌, ◌++◌, ◌⊎◌, List, ℕ, length, IfOk, IfErr, OnOk, OnErr, MatchResult};
 ghost use Rattle.cx_text.specs.declared.places.Place.{Place as PlaceValue};
 ghost use Rattle.cx_text.specs.Places.{start};
-ghost use Rattle.cx_tokens.specs.declared.tokens.Token.{Token as TokenValue};
+ghost use Rattle.cx_ast.specs.declared.tokens.Token.{Token as TokenValue};
 ghost use Rattle.cx_lex.specs.declared.faults.LexKind.{LexKind as KindValue};
 ghost use Rattle.cx_lex.specs.Lex.{Lex, FirstFault};
 ghost use Rattle.cx_lex.specs.Reading.{memory_fault};
@@ -11,8 +11,8 @@ ghost use Rattle.cx_lex.specs.Views.{kind_of, added};
 
 use crate::faults::{LexFault, LexKind};
 use crate::items::{Found, item};
+use cx_ast::{Token, TokenKind};
 use cx_text::{Cursor, Memory, Name, Place};
-use cx_tokens::{Token, TokenKind};
 use std::alloc::Global;
 
 /// Reads the tokens of a text of at most 83,886,080 bytes, or tells the first that cannot be read.

@@ -9,9 +9,6 @@ mod lexing;
 mod literals;
 mod signs;
 
-pub use cx_tokens::{Sign, Token, TokenKind};
+pub use cx_ast::{Sign, Token, TokenKind};
 pub use faults::{LexFault, LexKind};
 pub use lexing::{lex, one_reading};
-
-#[cfg(test)]
-mod tests;

@@ -3,7 +3,7 @@
 ghost use Rattle.std.specs.Prelude.{◌≡◌};
 ghost use Rattle.cx_lex.specs.Reading.{short_sign, long_sign};
 
-use cx_tokens::Sign;
+use cx_ast::Sign;
 
 /// The sign of one byte, or None.
 pub(crate) fn short(byte: u8) -> Option<Sign>

@@ -7,11 +7,11 @@ use Rattle.cx_text.specs.declared.places.Place.{Place}
 use Rattle.cx_text.specs.declared.rules.Rule.TheVariants as told_rules
 use Rattle.cx_meaning.specs.Sights.{In}
 use Rattle.cx_rules.proofs.Finite.{in_left, in_right}
-use Rattle.cx_breaks.proofs.KeyOrder.{before_irreflexive, before_cases, before_less, before_equal, before_transitive, not_true}
+use Rattle.cx_rules.proofs.KeyOrder.{before_irreflexive, before_cases, before_less, before_equal, before_transitive, not_true}
 use Rattle.cx_rules.specs.Accepted.{part_key, key_of, comes_before}
 use Rattle.cx_rules.specs.Spots.{Spot}
 use Rattle.cx_limits.specs.declared.found.Limited.{Limited}
-use Rattle.cx_limits.specs.declared.found.Found.{Found}
+use Rattle.cx_limits.specs.declared.found.FoundBreak.{FoundBreak}
 use Rattle.cx_limits.specs.Scan.{stands_before, noted}
 use Rattle.cx_limits.proofs.Places.{in_snoc, none_is_some}
 
@@ -24,7 +24,7 @@ pub record Test : Type 0 where
 abbrev pub spot_key : Spot → List ℕ
 spot_key spot = spot.component ∷ part_key spot.part
 
-abbrev pub past_tests : Option Found → List Test → Option Found
+abbrev pub past_tests : Option FoundBreak → List Test → Option FoundBreak
 past_tests best [] = best
 past_tests best (t ∷ ts) = past_tests (noted best t.place t.limited) ts
 
@@ -68,18 +68,18 @@ by_either s t p q h = lines (before_cases p.line q.line (p.column ∷ 29 ∷ spo
     lines (inr (e, g)) = columns e (before_cases p.column q.column (29 ∷ spot_key s) (29 ∷ spot_key t) g)
 
 -- what a scan has found is the first of what it has looked at
-pub record IsBestAt (seen : List Test) (f : Found) (t : Test) : Type 0 where
+pub record IsBestAt (seen : List Test) (f : FoundBreak) (t : Test) : Type 0 where
   pub stands : In seen t
   pub exceeds : t.limited ≡ Some f.limited
   pub place : t.place ≡ f.place
   pub first : (s : Test) (l : Limited) → In seen s → s.limited ≡ Some l → comes_before (limit_key s.spot s.place) (limit_key t.spot t.place) ≡ false
 
-abbrev pub IsBest : List Test → Option Found → Type 0
+abbrev pub IsBest : List Test → Option FoundBreak → Type 0
 IsBest seen None = (s : Test) → In seen s → s.limited ≡ None
 IsBest seen (Some f) = (t : Test) × IsBestAt seen f t
 
 -- one thing more
-best_next : (seen : List Test) (x : Test) (best : Option Found) → ((s : Test) → In seen s → comes_before (spot_key x.spot) (spot_key s.spot) ≡ false)
+best_next : (seen : List Test) (x : Test) (best : Option FoundBreak) → ((s : Test) → In seen s → comes_before (spot_key x.spot) (spot_key s.spot) ≡ false)
     → IsBest seen best → IsBest (seen ++ x ∷ []) (noted best x.place x.limited)
 best_next seen x best later is_best = by best x.limited refl is_best
   where
@@ -94,12 +94,12 @@ best_next seen x best later is_best = by best x.limited refl is_best
     alone s l e h (inl i) = absurd (none_is_some l (sym (h s i) ∙ e))
     alone s l e h (inr f) = subst (λ t. comes_before (limit_key t.spot t.place) (limit_key x.spot x.place) ≡ false) f (before_irreflexive (limit_key x.spot x.place))
 
-    still : (f : Found) (t : Test) → IsBestAt seen f t → (s : Test) (l : Limited) → s.limited ≡ Some l
+    still : (f : FoundBreak) (t : Test) → IsBestAt seen f t → (s : Test) (l : Limited) → s.limited ≡ Some l
         → (x.limited ≡ Some l → comes_before (limit_key x.spot x.place) (limit_key t.spot t.place) ≡ false) → In seen s ⊎ (x ≡ s) → comes_before (limit_key s.spot s.place) (limit_key t.spot t.place) ≡ false
     still f t b s l e h (inl i) = b.first s l i e
     still f t b s l e h (inr same) = subst (λ u. comes_before (limit_key u.spot u.place) (limit_key t.spot t.place) ≡ false) same (h (ap (λ u. u.limited) same ∙ e))
 
-    over_taken : (f : Found) (t : Test) → IsBestAt seen f t → stands_before x.place t.place ≡ true → (s : Test) (l : Limited) → s.limited ≡ Some l → In seen s ⊎ (x ≡ s) → comes_before (limit_key s.spot s.place) (limit_key x.spot x.place) ≡ false
+    over_taken : (f : FoundBreak) (t : Test) → IsBestAt seen f t → stands_before x.place t.place ≡ true → (s : Test) (l : Limited) → s.limited ≡ Some l → In seen s ⊎ (x ≡ s) → comes_before (limit_key s.spot s.place) (limit_key x.spot x.place) ≡ false
     over_taken f t b st s l e (inr same) = subst (λ u. comes_before (limit_key u.spot u.place) (limit_key x.spot x.place) ≡ false) same (before_irreflexive (limit_key x.spot x.place))
     over_taken f t b st s l e (inl i) = not_true (comes_before (limit_key s.spot s.place) (limit_key x.spot x.place)) (λ h.
         let k : comes_before (limit_key s.spot s.place) (limit_key t.spot t.place) ≡ true = before_transitive (limit_key s.spot s.place) (limit_key x.spot x.place) (limit_key t.spot t.place) h (by_place x.spot t.spot x.place t.place st) in
@@ -113,7 +113,7 @@ best_next seen x best later is_best = by best x.limited refl is_best
         either (inl e) = let g : false ≡ true = sym st ∙ e in cc
         either (inr e) = let g : false ≡ true = sym (later t i) ∙ e in cc
 
-    nearest : (f : Found) (t : Test) (l : Limited) → IsBestAt seen f t → x.limited ≡ Some l → (b : Bool) → stands_before x.place f.place ≡ b
+    nearest : (f : FoundBreak) (t : Test) (l : Limited) → IsBestAt seen f t → x.limited ≡ Some l → (b : Bool) → stands_before x.place f.place ≡ b
         → (u : Test) × IsBestAt (seen ++ x ∷ []) (if b then (record { place = x.place; limited = l }) else f) u
     nearest f t l b e true st = (
       x,
@@ -134,7 +134,7 @@ best_next seen x best later is_best = by best x.limited refl is_best
       },
     )
 
-    by : (best : Option Found) (o : Option Limited) → x.limited ≡ o → IsBest seen best → IsBest (seen ++ x ∷ []) (noted best x.place o)
+    by : (best : Option FoundBreak) (o : Option Limited) → x.limited ≡ o → IsBest seen best → IsBest (seen ++ x ∷ []) (noted best x.place o)
     by None None e h = λ s i. none_more s e h (in_snoc seen s x i)
     by (Some f) None e (t, b) = (
       t,
@@ -157,7 +157,7 @@ best_next seen x best later is_best = by best x.limited refl is_best
     by (Some f) (Some l) e (t, b) = nearest f t l b e (stands_before x.place f.place) refl
 
 -- of all
-best_past : (ts seen : List Test) (best : Option Found) → IsBest seen best → IsAscending ts → ((s t : Test) → In seen s → In ts t → comes_before (spot_key t.spot) (spot_key s.spot) ≡ false)
+best_past : (ts seen : List Test) (best : Option FoundBreak) → IsBest seen best → IsAscending ts → ((s t : Test) → In seen s → In ts t → comes_before (spot_key t.spot) (spot_key s.spot) ≡ false)
     → IsBest (seen ++ ts) (past_tests best ts)
 best_past [] seen best is_best up later = subst (λ xs. IsBest xs best) (sym (append-nil seen)) is_best
 best_past (t ∷ ts) seen best is_best (above, up) later =

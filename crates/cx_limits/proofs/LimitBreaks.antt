@@ -22,12 +22,12 @@ use Rattle.cx_rules.specs.Spots.{Part, AStatement, Whole, Spot, OnStatement}
 use Rattle.cx_limits.specs.Capped.{capped}
 use Rattle.cx_limits.specs.declared.found.Limited.{Limited}
 use Rattle.cx_limits.specs.declared.found.Limited.TheVariants as limited
-use Rattle.cx_limits.specs.declared.found.Found.{Found}
-use Rattle.cx_limits.specs.declared.tallies.Tally.{Tally}
+use Rattle.cx_limits.specs.declared.found.FoundBreak.{FoundBreak}
+use Rattle.cx_limits.specs.declared.tallies.LimitTally.{LimitTally}
 use Rattle.cx_limits.specs.Scan.{told, limited_of, noted, past_statements, if_over, past_part, past_tree, past_parts}
 use Rattle.cx_limits.specs.Tallies.{tally_of}
 use Rattle.cx_limits.proofs.Places.{none_is_some, below_length, in_split}
-use Rattle.cx_breaks.proofs.KeyOrder.{before_cases, not_true}
+use Rattle.cx_rules.proofs.KeyOrder.{before_cases, not_true}
 use Rattle.cx_limits.proofs.FirstLimit.{Test, spot_key, past_tests, IsAscending, limit_key, IsBest, best_of}
 
 -- THE TESTS, in the order in which a scan makes them
@@ -41,48 +41,48 @@ statement_tests part k n (v ∷ vs) = at_statement part k n v ∷ statement_test
 abbrev at_whole : ℕ → Place → rule.Limited → ℕ → ℕ → Test
 at_whole k place l limit count = record { spot = record { component = k; part = Whole (order_of l) }; place = place; limited = if_over (told l) limit count }
 
-abbrev tree_tests : Tally → ℕ → Place → List Test
+abbrev tree_tests : LimitTally → ℕ → Place → List Test
 tree_tests tally k place =
     at_whole k place OnInstances INSTANCES tally.instances ∷ at_whole k place OnDepth INSTANCE_DEPTH tally.depth
     ∷ at_whole k place OnWords MEMORY_WORDS tally.words ∷ at_whole k place OnWeight WEIGHT tally.weight ∷ []
 
-abbrev main_tests : Bool → Tally → ℕ → Place → List Test
+abbrev main_tests : Bool → LimitTally → ℕ → Place → List Test
 main_tests true tally k place = tree_tests tally k place
 main_tests false tally k place = []
 
-abbrev whole_tests : Bool → Tally → ℕ → PlainComponent → List Test
+abbrev whole_tests : Bool → LimitTally → ℕ → PlainComponent → List Test
 whole_tests is_main tally k part =
     at_whole k part.place OnCells CELLS (length part.cells) ∷ at_whole k part.place OnGroups GROUPS (length part.groups) ∷ main_tests is_main tally k part.place
 
-abbrev part_tests : ℕ → Tally → ℕ → PlainComponent → List Test
+abbrev part_tests : ℕ → LimitTally → ℕ → PlainComponent → List Test
 part_tests main tally k part = statement_tests part k 0 (statements_in part) ++ whole_tests (nat_eq k main) tally k part
 
-abbrev tests_from : ℕ → Tally → ℕ → List PlainComponent → List Test
+abbrev tests_from : ℕ → LimitTally → ℕ → List PlainComponent → List Test
 tests_from main tally k [] = []
 tests_from main tally k (part ∷ parts) = part_tests main tally k part ++ tests_from main tally (suc k) parts
 
 -- A SCAN makes these tests
-past_append : (best : Option Found) (xs ys : List Test) → past_tests best (xs ++ ys) ≡ past_tests (past_tests best xs) ys
+past_append : (best : Option FoundBreak) (xs ys : List Test) → past_tests best (xs ++ ys) ≡ past_tests (past_tests best xs) ys
 past_append best [] ys = refl
 past_append best (t ∷ xs) ys = past_append (noted best t.place t.limited) xs ys
 
-past_statement_tests : (part : PlainComponent) (k n : ℕ) (best : Option Found) (vs : List Visited) → past_tests best (statement_tests part k n vs) ≡ past_statements part best vs
+past_statement_tests : (part : PlainComponent) (k n : ℕ) (best : Option FoundBreak) (vs : List Visited) → past_tests best (statement_tests part k n vs) ≡ past_statements part best vs
 past_statement_tests part k n best [] = refl
 past_statement_tests part k n best (v ∷ vs) = past_statement_tests part k (suc n) (noted best v.place (option_map told (statement_limit part v))) vs
 
-past_whole : (is_main : Bool) (tally : Tally) (k : ℕ) (part : PlainComponent) (best : Option Found)
+past_whole : (is_main : Bool) (tally : LimitTally) (k : ℕ) (part : PlainComponent) (best : Option FoundBreak)
     → past_tests (past_statements part best (statements_in part)) (whole_tests is_main tally k part) ≡ (if is_main then past_tree (past_part best part) part.place tally else past_part best part)
 past_whole true tally k part best = refl
 past_whole false tally k part best = refl
 
-past_part_tests : (main : ℕ) (tally : Tally) (k : ℕ) (part : PlainComponent) (best : Option Found)
+past_part_tests : (main : ℕ) (tally : LimitTally) (k : ℕ) (part : PlainComponent) (best : Option FoundBreak)
     → past_tests best (part_tests main tally k part) ≡ (if nat_eq k main then past_tree (past_part best part) part.place tally else past_part best part)
 past_part_tests main tally k part best =
     past_append best (statement_tests part k 0 (statements_in part)) (whole_tests (nat_eq k main) tally k part)
     ∙ ap (λ b. past_tests b (whole_tests (nat_eq k main) tally k part)) (past_statement_tests part k 0 best (statements_in part))
     ∙ past_whole (nat_eq k main) tally k part best
 
-past_all : (main : ℕ) (tally : Tally) (k : ℕ) (parts : List PlainComponent) (best : Option Found) → past_tests best (tests_from main tally k parts) ≡ past_parts main tally best k parts
+past_all : (main : ℕ) (tally : LimitTally) (k : ℕ) (parts : List PlainComponent) (best : Option FoundBreak) → past_tests best (tests_from main tally k parts) ≡ past_parts main tally best k parts
 past_all main tally k [] best = refl
 past_all main tally k (part ∷ parts) best =
     past_append best (part_tests main tally k part) (tests_from main tally (suc k) parts)
@@ -129,7 +129,7 @@ statements_rise : (part : PlainComponent) (k n : ℕ) (vs : List Visited) → Is
 statements_rise part k n [] = tt
 statements_rise part k n (v ∷ vs) = (n, refl, omega arith, rising_lower AStatement k n (suc n) (statement_tests part k (suc n) vs) (omega arith) (statements_rise part k (suc n) vs))
 
-wholes_rise : (is_main : Bool) (tally : Tally) (k : ℕ) (part : PlainComponent) → IsRising Whole k 0 (whole_tests is_main tally k part)
+wholes_rise : (is_main : Bool) (tally : LimitTally) (k : ℕ) (part : PlainComponent) → IsRising Whole k 0 (whole_tests is_main tally k part)
 wholes_rise true tally k part = (0, refl, omega arith, (1, refl, omega arith, (5, refl, omega arith, (6, refl, omega arith, (7, refl, omega arith, (8, refl, omega arith, tt))))))
 wholes_rise false tally k part = (0, refl, omega arith, (1, refl, omega arith, tt))
 
@@ -141,7 +141,7 @@ ascending_append (x ∷ xs) ys (above, a) b h = ((λ s i. either s (in_split xs 
     either s (inl i) = above s i
     either s (inr j) = h x s (inl refl) j
 
-part_ascends : (main : ℕ) (tally : Tally) (k : ℕ) (part : PlainComponent) → IsAscending (part_tests main tally k part)
+part_ascends : (main : ℕ) (tally : LimitTally) (k : ℕ) (part : PlainComponent) → IsAscending (part_tests main tally k part)
 part_ascends main tally k part =
     ascending_append (statement_tests part k 0 (statements_in part)) (whole_tests (nat_eq k main) tally k part)
     (rising_ascends AStatement 1 (λ m. refl) k 0 (statement_tests part k 0 (statements_in part)) (statements_rise part k 0 (statements_in part)))
@@ -154,14 +154,14 @@ part_ascends main tally k part =
         let h : comes_before (k ∷ 3 ∷ r.0 ∷ []) (k ∷ 1 ∷ q.0 ∷ []) ≡ false = no_less k k (3 ∷ r.0 ∷ []) (1 ∷ q.0 ∷ []) (omega arith) (λ e. no_less 3 1 (r.0 ∷ []) (q.0 ∷ []) (omega arith) (λ f. absurd (omega arith))) in
         ap (λ x. comes_before (spot_key x) (spot_key s.spot)) r.1 ∙ ap (λ x. comes_before (k ∷ 3 ∷ r.0 ∷ []) (spot_key x)) q.1 ∙ h
 
-part_component : (main : ℕ) (tally : Tally) (k : ℕ) (part : PlainComponent) (t : Test) → In (part_tests main tally k part) t → t.spot.component ≡ k
+part_component : (main : ℕ) (tally : LimitTally) (k : ℕ) (part : PlainComponent) (t : Test) → In (part_tests main tally k part) t → t.spot.component ≡ k
 part_component main tally k part t i = either (in_split (statement_tests part k 0 (statements_in part)) (whole_tests (nat_eq k main) tally k part) t i)
   where
     either : In (statement_tests part k 0 (statements_in part)) t ⊎ In (whole_tests (nat_eq k main) tally k part) t → t.spot.component ≡ k
     either (inl j) = let q = rising_in AStatement k 0 (statement_tests part k 0 (statements_in part)) t (statements_rise part k 0 (statements_in part)) j in ap (λ s. s.component) q.1
     either (inr j) = let q = rising_in Whole k 0 (whole_tests (nat_eq k main) tally k part) t (wholes_rise (nat_eq k main) tally k part) j in ap (λ s. s.component) q.1
 
-from_component : (main : ℕ) (tally : Tally) (k : ℕ) (parts : List PlainComponent) (t : Test) → In (tests_from main tally k parts) t → k ≤ t.spot.component
+from_component : (main : ℕ) (tally : LimitTally) (k : ℕ) (parts : List PlainComponent) (t : Test) → In (tests_from main tally k parts) t → k ≤ t.spot.component
 from_component main tally k [] t i = absurd i
 from_component main tally k (part ∷ parts) t i = either (in_split (part_tests main tally k part) (tests_from main tally (suc k) parts) t i) (from_component main tally (suc k) parts t)
   where
@@ -169,7 +169,7 @@ from_component main tally k (part ∷ parts) t i = either (in_split (part_tests 
     either (inl j) h = let e : t.spot.component ≡ k = part_component main tally k part t j in omega arith
     either (inr j) h = let le : suc k ≤ t.spot.component = h j in omega arith
 
-all_ascend : (main : ℕ) (tally : Tally) (k : ℕ) (parts : List PlainComponent) → IsAscending (tests_from main tally k parts)
+all_ascend : (main : ℕ) (tally : LimitTally) (k : ℕ) (parts : List PlainComponent) → IsAscending (tests_from main tally k parts)
 all_ascend main tally k [] = tt
 all_ascend main tally k (part ∷ parts) =
     ascending_append (part_tests main tally k part) (tests_from main tally (suc k) parts) (part_ascends main tally k part) (all_ascend main tally (suc k) parts)
@@ -221,7 +221,7 @@ statement_tested part k n zero (w ∷ vs) v e = inl ((let z : n ≡ n + 0 = omeg
 statement_tested part k n (suc m) (w ∷ vs) v e =
     inr (subst (λ x. In (statement_tests part k (suc n) vs) (at_statement part k x v)) (let z : suc n + m ≡ n + suc m = omega arith in z) (statement_tested part k (suc n) m vs v e))
 
-from_part : (main : ℕ) (tally : Tally) (k : ℕ) (parts : List PlainComponent) (t : Test) → In (tests_from main tally k parts) t
+from_part : (main : ℕ) (tally : LimitTally) (k : ℕ) (parts : List PlainComponent) (t : Test) → In (tests_from main tally k parts) t
     → (n : ℕ) × (part : PlainComponent) × (slice_get parts n ≡ Some part) × In (part_tests main tally (k + n) part) t
 from_part main tally k [] t i = absurd i
 from_part main tally k (part ∷ parts) t i = either (in_split (part_tests main tally k part) (tests_from main tally (suc k) parts) t i) (from_part main tally (suc k) parts t)
@@ -235,7 +235,7 @@ from_part main tally k (part ∷ parts) t i = either (in_split (part_tests main 
     either (inl j) h = (0, part, refl, subst (λ x. In (part_tests main tally x part) t) (let z : k ≡ k + 0 = omega arith in z) j)
     either (inr j) h = let q = h j in (suc q.0, q.1, q.2, subst (λ x. In (part_tests main tally x q.1) t) (let z : suc k + q.0 ≡ k + suc q.0 = omega arith in z) q.3)
 
-from_tested : (main : ℕ) (tally : Tally) (k n : ℕ) (parts : List PlainComponent) (part : PlainComponent) (t : Test) → slice_get parts n ≡ Some part
+from_tested : (main : ℕ) (tally : LimitTally) (k n : ℕ) (parts : List PlainComponent) (part : PlainComponent) (t : Test) → slice_get parts n ≡ Some part
     → In (part_tests main tally (k + n) part) t → In (tests_from main tally k parts) t
 from_tested main tally k n [] part t e i = absurd (none_is_some part e)
 from_tested main tally k zero (p ∷ parts) part t e i =
@@ -250,7 +250,7 @@ same_part d zero k = refl
 same_part d (suc n) k = refl
 
 module _ (d : PlainDesign) where
-  abbrev tree : Tally
+  abbrev tree : LimitTally
   tree = tally_of (tree_of d)
 
   abbrev all_tests : List Test
@@ -441,7 +441,7 @@ module _ (d : PlainDesign) where
       none_is_some q.1 (sym (none q.0 q.2) ∙ q.5)
 
   -- what was found is the first break
-  pub first_found : d.main < length d.components → (f : Found) (told_as : Diagnostic) → past_parts d.main (tally_of (tree_of d)) None 0 d.components ≡ Some f
+  pub first_found : d.main < length d.components → (f : FoundBreak) (told_as : Diagnostic) → past_parts d.main (tally_of (tree_of d)) None 0 d.components ≡ Some f
       → told_as.rule ≡ told_rules.Limit → told_as.place ≡ f.place → told_as.name ≡ word_of (limited_of f.limited) → IsFirstOf 7 d told_as
   first_found main f told_as e rule_is place_is name_is = by (subst (IsBest all_tests) e best)
     where

@@ -5,10 +5,10 @@ use Rattle.cx_meaning.specs.Designs.{PlainComponent}
 use Rattle.cx_rules.specs.Items.{Visited}
 use Rattle.cx_rules.specs.LimitRule.{statement_limit}
 use Rattle.cx_rules.specs.StaticControl.{is_island, island_occurrences, occurrences_of}
-use Rattle.cx_limits.specs.declared.found.Found.{Found}
+use Rattle.cx_limits.specs.declared.found.FoundBreak.{FoundBreak}
 use Rattle.cx_limits.specs.Scan.{told, noted, past_statements, statements_size}
 
-pub past_statements_append : (part : PlainComponent) (best : Option Found) (xs ys : List Visited) → past_statements part best (xs ++ ys) ≡ past_statements part (past_statements part best xs) ys
+pub past_statements_append : (part : PlainComponent) (best : Option FoundBreak) (xs ys : List Visited) → past_statements part best (xs ++ ys) ≡ past_statements part (past_statements part best xs) ys
 past_statements_append part best [] ys = refl
 past_statements_append part best (v ∷ xs) ys = past_statements_append part (noted best v.place (option_map told (statement_limit part v))) xs ys
 

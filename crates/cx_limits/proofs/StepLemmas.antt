@@ -13,8 +13,8 @@ use Rattle.cx_design.specs.declared.statements.Statement.{Statement}
 use Rattle.cx_design.specs.declared.components.Component.{Component}
 use Rattle.cx_design.specs.PlainForms.{plain_cell, plain_component, plain_statement, plain_statements}
 use Rattle.cx_limits.specs.Capped.{capped}
-use Rattle.cx_limits.specs.declared.found.Found.{Found}
-use Rattle.cx_limits.specs.declared.tallies.Tally.{Tally}
+use Rattle.cx_limits.specs.declared.found.FoundBreak.{FoundBreak}
+use Rattle.cx_limits.specs.declared.tallies.LimitTally.{LimitTally}
 use Rattle.cx_limits.specs.Orders.{ArePlaced, unplaced}
 use Rattle.cx_limits.specs.Scan.{past_statements, statements_size, past_part, past_tree, past_parts}
 use Rattle.cx_limits.specs.Tallies.{no_tally, beside, kind_tally, cells_tally}
@@ -22,7 +22,7 @@ use Rattle.cx_limits.proofs.Caps.{product_more}
 use Rattle.cx_limits.proofs.ScanLemmas.{past_statements_append, statements_size_append}
 
 -- a scan past one statement more
-pub past_all_step : (part : PlainComponent) (best next : Option Found) (context : items.Context) (statements : List Statement) (i : ℕ) (s : Statement)
+pub past_all_step : (part : PlainComponent) (best next : Option FoundBreak) (context : items.Context) (statements : List Statement) (i : ℕ) (s : Statement)
     → i < length statements → s ≡ get_or statements i s → next ≡ past_statements part best (visit context (plain_statement s))
     → past_statements part next (visit_all context (plain_statements (drop (i + 1) statements))) ≡ past_statements part best (visit_all context (plain_statements (drop i statements)))
 past_all_step part best next context statements i s lt is e =
@@ -45,7 +45,7 @@ all_size_step part size more next context statements i s lt is e f =
     sum a r g = omega arith
 
 -- two branches, each where it stands
-pub both_past : (part : PlainComponent) (best one two : Option Found) (a b at : items.Context) (s t first second : Statement) → a ≡ at → b ≡ at → s ≡ first → t ≡ second
+pub both_past : (part : PlainComponent) (best one two : Option FoundBreak) (a b at : items.Context) (s t first second : Statement) → a ≡ at → b ≡ at → s ≡ first → t ≡ second
     → one ≡ past_statements part best (visit a (plain_statement s)) → two ≡ past_statements part one (visit b (plain_statement t))
     → two ≡ past_statements part best (visit at (plain_statement first) ++ visit at (plain_statement second))
 both_past part best one two a b at s t first second ea eb es et e f =
@@ -74,7 +74,7 @@ product_step sizes words next i d lt e =
     ∙ ap (λ xs. capped (words * word_count xs)) (sym (drop_more sizes i d lt))
 
 -- TALLIES of cells, one cell more
-pub record IsSmall (t : Tally) : Type 0 where
+pub record IsSmall (t : LimitTally) : Type 0 where
   pub instances : t.instances ≤ 2 ^ 64 - 1
   pub words : t.words ≤ 2 ^ 64 - 1
   pub weight : t.weight ≤ 2 ^ 64 - 1
@@ -82,16 +82,16 @@ pub record IsSmall (t : Tally) : Type 0 where
 pub small_none : IsSmall no_tally
 small_none = record { instances = omega arith; words = omega arith; weight = omega arith }
 
-pub small_beside : (a b t : Tally) → t ≡ beside a b → IsSmall t
+pub small_beside : (a b t : LimitTally) → t ≡ beside a b → IsSmall t
 small_beside a b t e = subst IsSmall (sym e) (record { instances = under (a.instances + b.instances); words = under (a.words + b.words); weight = under (a.weight + b.weight) })
   where
     under : (n : ℕ) → capped n ≤ 2 ^ 64 - 1
     under n = omega arith
 
-same_tally : (a b : Tally) → a.instances ≡ b.instances → a.depth ≡ b.depth → a.words ≡ b.words → a.weight ≡ b.weight → a ≡ b
+same_tally : (a b : LimitTally) → a.instances ≡ b.instances → a.depth ≡ b.depth → a.words ≡ b.words → a.weight ≡ b.weight → a ≡ b
 same_tally a b e f g h = λ i. record { instances = e i; depth = f i; words = g i; weight = h i }
 
-beside_beside : (a b c : Tally) → beside (beside a b) c ≡ beside a (beside b c)
+beside_beside : (a b c : LimitTally) → beside (beside a b) c ≡ beside a (beside b c)
 beside_beside a b c =
     same_tally (beside (beside a b) c) (beside a (beside b c)) (sum a.instances b.instances c.instances) (most a.depth b.depth c.depth) (sum a.words b.words c.words) (sum a.weight b.weight c.weight)
   where
@@ -101,7 +101,7 @@ beside_beside a b c =
     most : (x y z : ℕ) → max (max x y) z ≡ max x (max y z)
     most x y z = omega arith
 
-none_beside : (t : Tally) → IsSmall t → beside no_tally t ≡ t
+none_beside : (t : LimitTally) → IsSmall t → beside no_tally t ≡ t
 none_beside t small = same_tally (beside no_tally t) t (zero_sum t.instances small.instances) (zero_most t.depth) (zero_sum t.words small.words) (zero_sum t.weight small.weight)
   where
     zero_sum : (x : ℕ) → x ≤ 2 ^ 64 - 1 → capped (0 + x) ≡ x
@@ -110,7 +110,7 @@ none_beside t small = same_tally (beside no_tally t) t (zero_sum t.instances sma
     zero_most : (x : ℕ) → max 0 x ≡ x
     zero_most x = omega arith
 
-beside_none : (t : Tally) → IsSmall t → beside t no_tally ≡ t
+beside_none : (t : LimitTally) → IsSmall t → beside t no_tally ≡ t
 beside_none t small = same_tally (beside t no_tally) t (sum_zero t.instances small.instances) (most_zero t.depth) (sum_zero t.words small.words) (sum_zero t.weight small.weight)
   where
     sum_zero : (x : ℕ) → x ≤ 2 ^ 64 - 1 → capped (x + 0) ≡ x
@@ -119,11 +119,11 @@ beside_none t small = same_tally (beside t no_tally) t (sum_zero t.instances sma
     most_zero : (x : ℕ) → max x 0 ≡ x
     most_zero x = omega arith
 
-pub cells_begin : (tallies : List Tally) (cells : List PlainCell) → beside no_tally (cells_tally tallies cells) ≡ cells_tally tallies cells
+pub cells_begin : (tallies : List LimitTally) (cells : List PlainCell) → beside no_tally (cells_tally tallies cells) ≡ cells_tally tallies cells
 cells_begin tallies [] = none_beside no_tally small_none
 cells_begin tallies (c ∷ cs) = none_beside (cells_tally tallies (c ∷ cs)) (small_beside (kind_tally tallies c.kind) (cells_tally tallies cs) (cells_tally tallies (c ∷ cs)) refl)
 
-pub cells_step : (tallies : List Tally) (t next : Tally) (cells : List Cell) (i : ℕ) (cell : Cell) → i < length cells → cell ≡ get_or cells i cell
+pub cells_step : (tallies : List LimitTally) (t next : LimitTally) (cells : List Cell) (i : ℕ) (cell : Cell) → i < length cells → cell ≡ get_or cells i cell
     → next ≡ beside t (kind_tally tallies (plain_cell cell).kind)
     → beside next (cells_tally tallies (map plain_cell (drop (i + 1) cells))) ≡ beside t (cells_tally tallies (map plain_cell (drop i cells)))
 cells_step tallies t next cells i cell lt is e =
@@ -132,7 +132,7 @@ cells_step tallies t next cells i cell lt is e =
     ∙ ap (λ c. beside t (cells_tally tallies (map plain_cell (c ∷ drop (i + 1) cells)))) is
     ∙ ap (λ cs. beside t (cells_tally tallies (map plain_cell cs))) (sym (drop_more cells i cell lt))
 
-pub cells_end : (tallies : List Tally) (t : Tally) (cells : List Cell) (i : ℕ) (all : Tally) → drop i cells ≡ [] → IsSmall t
+pub cells_end : (tallies : List LimitTally) (t : LimitTally) (cells : List Cell) (i : ℕ) (all : LimitTally) → drop i cells ≡ [] → IsSmall t
     → beside t (cells_tally tallies (map plain_cell (drop i cells))) ≡ all → t ≡ all
 cells_end tallies t cells i all past small e =
     sym (beside_none t small) ∙ sym (ap (λ cs. beside t (cells_tally tallies (map plain_cell cs))) past) ∙ e
@@ -157,7 +157,7 @@ cell_at cells number cell lt is =
     slice_get-map plain_cell cells number ∙ ap (option_map plain_cell) (slice_get-get_or cells number cell lt) ∙ ap (λ c. Some (plain_cell c)) (sym is)
 
 -- a scan past one component more
-pub past_parts_step : (main : ℕ) (tally : Tally) (best next : Option Found) (k : ℕ) (parts : List Component) (part : Component) → k < length parts → part ≡ get_or parts k part
+pub past_parts_step : (main : ℕ) (tally : LimitTally) (best next : Option FoundBreak) (k : ℕ) (parts : List Component) (part : Component) → k < length parts → part ≡ get_or parts k part
     → next ≡ (if nat_eq k main then past_tree (past_part best (plain_component part)) (plain_component part).place tally else past_part best (plain_component part))
     → past_parts main tally next (k + 1) (map plain_component (drop (k + 1) parts)) ≡ past_parts main tally best k (map plain_component (drop k parts))
 past_parts_step main tally best next k parts part lt is e =

@@ -11,12 +11,12 @@ use Rattle.cx_meaning.specs.Instances.{Instance, Node, Cells, a_primitive, an_in
 use Rattle.cx_meaning.specs.Sights.{In}
 use Rattle.cx_rules.specs.Sizes.{size_of, weight_below, weight_in, instances_below, instances_in, depth_below, depth_in, words_below, words_in, shape_words}
 use Rattle.cx_limits.specs.Capped.{capped}
-use Rattle.cx_limits.specs.declared.tallies.Tally.{Tally}
+use Rattle.cx_limits.specs.declared.tallies.LimitTally.{LimitTally}
 use Rattle.cx_limits.specs.Orders.{IsChildrenFirst}
 use Rattle.cx_limits.specs.Tallies.{tally_of, tally_in, no_tally, beside, kind_tally, cells_tally, above, AreTallied}
 use Rattle.cx_limits.proofs.Places.{below_length, in_from_place, in_snoc}
 
-tally_eq : (a b : Tally) → a.instances ≡ b.instances → a.depth ≡ b.depth → a.words ≡ b.words → a.weight ≡ b.weight → a ≡ b
+tally_eq : (a b : LimitTally) → a.instances ≡ b.instances → a.depth ≡ b.depth → a.words ≡ b.words → a.weight ≡ b.weight → a ≡ b
 tally_eq a b e f g h = λ i. record { instances = e i; depth = f i; words = g i; weight = h i }
 
 capped_sum : (a b : ℕ) → capped (capped a + capped b) ≡ capped (a + b)
@@ -52,14 +52,14 @@ node_above part cells =
     tally_eq (above part (tally_in cells)) (tally_of (Node part cells))
     (capped_left 1 (instances_in cells)) (capped_left 1 (depth_in cells)) refl (capped_left (size_of part + 1) (weight_in cells))
 
-kind_beside : (d : PlainDesign) (m : ℕ) (tallies : List Tally) (kind : PlainKind) (rest : Cells)
+kind_beside : (d : PlainDesign) (m : ℕ) (tallies : List LimitTally) (kind : PlainKind) (rest : Cells)
     → ((j : ℕ) → kind ≡ OfComponent j → get_or tallies j no_tally ≡ tally_of (tree_within d m j))
     → beside (kind_tally tallies kind) (tally_in rest) ≡ tally_in (add_cell (tree_within d m) kind rest)
 kind_beside d m tallies (OfPrimitive p) rest h = primitive_beside (row_of p) rest
 kind_beside d m tallies (OfComponent k) rest h = ap (λ t. beside t (tally_in rest)) (h k refl) ∙ child_beside (tree_within d m k) rest
 
 -- where the tallies of the components of cells are right, that of the cells is
-pub cells_right : (d : PlainDesign) (m : ℕ) (tallies : List Tally) (cells : List PlainCell)
+pub cells_right : (d : PlainDesign) (m : ℕ) (tallies : List LimitTally) (cells : List PlainCell)
     → ((cell : PlainCell) (j : ℕ) → In cells cell → cell.kind ≡ OfComponent j → get_or tallies j no_tally ≡ tally_of (tree_within d m j))
     → cells_tally tallies cells ≡ tally_in (cells_for (tree_within d m) cells)
 cells_right d m tallies [] h = refl
@@ -68,7 +68,7 @@ cells_right d m tallies (c ∷ cs) h =
     ∙ kind_beside d m tallies c.kind (cells_for (tree_within d m) cs) (λ j e. h c j (inl refl) e)
 
 -- one component more
-pub tally_next : (d : PlainDesign) (order : List ℕ) (tallies : List Tally) (i k : ℕ) (t : Tally)
+pub tally_next : (d : PlainDesign) (order : List ℕ) (tallies : List LimitTally) (i k : ℕ) (t : LimitTally)
     → IsChildrenFirst d order → slice_get order i ≡ Some k → k < length tallies → AreTallied d i tallies (take i order)
     → t ≡ above (component_at d k) (cells_tally tallies (component_at d k).cells)
     → AreTallied d (i + 1) (set tallies k t) (take (i + 1) order)
@@ -91,18 +91,18 @@ tally_next d order tallies i k t first at lt known is j m i_done ge = one (cases
     one (inr other) (inr same) = absurd (other same)
 
 -- as far as the components of an order are gone through
-pub record IsTalliedTo (d : PlainDesign) (order : List ℕ) (i : ℕ) (tallies : List Tally) : Type 0 where
+pub record IsTalliedTo (d : PlainDesign) (order : List ℕ) (i : ℕ) (tallies : List LimitTally) : Type 0 where
   pub sized : length tallies ≡ length d.components
   pub known : AreTallied d i tallies (take i order)
 
-pub tally_begin : (d : PlainDesign) (order : List ℕ) (tallies : List Tally) → length tallies ≡ length d.components → IsTalliedTo d order 0 tallies
+pub tally_begin : (d : PlainDesign) (order : List ℕ) (tallies : List LimitTally) → length tallies ≡ length d.components → IsTalliedTo d order 0 tallies
 tally_begin d order tallies sized = record { sized = sized; known = λ k m i ge. absurd i }
 
 -- the component of a turn
 pub turn_there : (d : PlainDesign) (order : List ℕ) (i none : ℕ) → IsChildrenFirst d order → i < length order → get_or order i none < length d.components
 turn_there d order i none first lt = first.there (get_or order i none) (in_from_place order i (get_or order i none) (slice_get-get_or order i none lt))
 
-pub tally_turn : (d : PlainDesign) (order : List ℕ) (i none : ℕ) (tallies : List Tally) (part : PlainComponent) (t : Tally) → IsChildrenFirst d order → IsTalliedTo d order i tallies → i < length order
+pub tally_turn : (d : PlainDesign) (order : List ℕ) (i none : ℕ) (tallies : List LimitTally) (part : PlainComponent) (t : LimitTally) → IsChildrenFirst d order → IsTalliedTo d order i tallies → i < length order
     → part ≡ component_at d (get_or order i none) → t ≡ above part (cells_tally tallies part.cells) → IsTalliedTo d order (i + 1) (set tallies (get_or order i none) t)
 tally_turn d order i none tallies part t first so_far lt own is = record {
   sized = length-set tallies (get_or order i none) t ∙ so_far.sized;
@@ -113,10 +113,10 @@ tally_turn d order i none tallies part t first so_far lt own is = record {
     within = subst (λ n. get_or order i none < n) (sym so_far.sized) (turn_there d order i none first lt)
 
 -- behind the last component
-pub tally_end : (d : PlainDesign) (order : List ℕ) (i : ℕ) (tallies : List Tally) → length order ≤ i → i ≤ length order → IsTalliedTo d order i tallies → AreTallied d (length order) tallies order
+pub tally_end : (d : PlainDesign) (order : List ℕ) (i : ℕ) (tallies : List LimitTally) → length order ≤ i → i ≤ length order → IsTalliedTo d order i tallies → AreTallied d (length order) tallies order
 tally_end d order i tallies past within so_far k m here ge = so_far.known k m (subst (λ xs. In xs k) (sym (take_all i order past)) here) (omega arith)
 
 -- the tally of main is that of the tree
-pub tally_main : (d : PlainDesign) (order : List ℕ) (tallies : List Tally) (none : Tally) → IsChildrenFirst d order → AreTallied d (length order) tallies order → d.main < length tallies
+pub tally_main : (d : PlainDesign) (order : List ℕ) (tallies : List LimitTally) (none : LimitTally) → IsChildrenFirst d order → AreTallied d (length order) tallies order → d.main < length tallies
     → get_or tallies d.main none ≡ tally_of (tree_of d)
 tally_main d order tallies none first known lt = get_or_default tallies d.main none no_tally lt ∙ known d.main (length d.components) first.main first.few

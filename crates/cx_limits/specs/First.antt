@@ -6,7 +6,7 @@ use Rattle.cx_rules.specs.Accepted.{IsFirstOf}
 use Rattle.cx_rules.specs.LimitRule.{word_of}
 use Rattle.cx_design.specs.declared.refusals.Refusal.{Refusal}
 use Rattle.cx_design.specs.declared.refusals.Refusal.TheVariants.{Rule, Memory}
-use Rattle.cx_limits.specs.declared.found.Found.{Found}
+use Rattle.cx_limits.specs.declared.found.FoundBreak.{FoundBreak}
 use Rattle.cx_limits.specs.Scan.{limited_of}
 
 -- a refusal that is not want of memory tells the first break of the stage
@@ -15,6 +15,6 @@ IsFirstBreak stage d (Rule told) = IsFirstOf stage d told
 IsFirstBreak stage d Memory = Unit {0}
 
 -- it tells what was found
-abbrev pub TellsFound : Found → Refusal → Type 0
+abbrev pub TellsFound : FoundBreak → Refusal → Type 0
 TellsFound found (Rule told) = (told.rule ≡ rules_told.Limit) × (told.place ≡ found.place) × (told.name ≡ word_of (limited_of found.limited))
 TellsFound found Memory = Unit {0}

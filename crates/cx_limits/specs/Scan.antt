@@ -8,12 +8,12 @@ use Rattle.cx_rules.specs.Items.{Visited, statements_in}
 use Rattle.cx_rules.specs.LimitRule as rule
 use Rattle.cx_rules.specs.LimitRule.{OnCells, OnGroups, OnRepeat, OnOccurrences, OnLatency, OnInstances, OnDepth, OnWords, OnWeight, statement_limit}
 use Rattle.cx_rules.specs.StaticControl.{is_island, island_occurrences, occurrences_of}
-use Rattle.cx_limits.specs.declared.tallies.Tally.{Tally}
+use Rattle.cx_limits.specs.declared.tallies.LimitTally.{LimitTally}
 use Rattle.cx_limits.specs.declared.found.Limited.{Limited}
 use Rattle.cx_limits.specs.declared.found.Limited.TheVariants as limited
-use Rattle.cx_limits.specs.declared.found.Found.{Found}
-use Rattle.cx_limits.specs.declared.context.Context.{Context}
-use Rattle.cx_limits.specs.declared.context.Context.TheVariants as contexts
+use Rattle.cx_limits.specs.declared.found.FoundBreak.{FoundBreak}
+use Rattle.cx_limits.specs.declared.context.LimitContext.{LimitContext}
+use Rattle.cx_limits.specs.declared.context.LimitContext.TheVariants as contexts
 
 abbrev pub told : rule.Limited → Limited
 told OnCells = limited.Cells
@@ -26,7 +26,7 @@ told OnDepth = limited.Depth
 told OnWords = limited.Words
 told OnWeight = limited.Weight
 
-abbrev pub context_of : Context → items.Context
+abbrev pub context_of : LimitContext → items.Context
 context_of contexts.Dynamic = items.Dynamic
 context_of contexts.InStatic = items.InStatic
 context_of contexts.Branch = items.Branch
@@ -36,17 +36,17 @@ context_of contexts.Amiss = items.Amiss
 abbrev pub stands_before : Place → Place → Bool
 stands_before a b = nat_lt a.line b.line || (nat_eq a.line b.line && nat_lt a.column b.column)
 
-abbrev pub nearer : Option Found → Found → Found
+abbrev pub nearer : Option FoundBreak → FoundBreak → FoundBreak
 nearer None f = f
 nearer (Some g) f = if stands_before f.place g.place then f else g
 
 -- the first so far, where one thing more is looked at
-abbrev pub noted : Option Found → Place → Option Limited → Option Found
+abbrev pub noted : Option FoundBreak → Place → Option Limited → Option FoundBreak
 noted best place None = best
 noted best place (Some l) = Some (nearer best (record { place = place; limited = l }))
 
 -- past some statements of a component
-abbrev pub past_statements : PlainComponent → Option Found → List Visited → Option Found
+abbrev pub past_statements : PlainComponent → Option FoundBreak → List Visited → Option FoundBreak
 past_statements part best [] = best
 past_statements part best (v ∷ vs) = past_statements part (noted best v.place (option_map told (statement_limit part v))) vs
 
@@ -75,19 +75,19 @@ abbrev pub if_over : Limited → ℕ → ℕ → Option Limited
 if_over l limit count = if nat_lt limit count then Some l else None
 
 -- past the statements, the cells and the groups of a component
-abbrev pub past_part : Option Found → PlainComponent → Option Found
+abbrev pub past_part : Option FoundBreak → PlainComponent → Option FoundBreak
 past_part best part =
     noted (noted (past_statements part best (statements_in part)) part.place (if_over limited.Cells CELLS (length part.cells)))
     part.place (if_over limited.Groups GROUPS (length part.groups))
 
 -- past the counts over the tree
-abbrev pub past_tree : Option Found → Place → Tally → Option Found
+abbrev pub past_tree : Option FoundBreak → Place → LimitTally → Option FoundBreak
 past_tree best place tally =
     noted (noted (noted (noted best place (if_over limited.Instances INSTANCES tally.instances)) place (if_over limited.Depth INSTANCE_DEPTH tally.depth))
     place (if_over limited.Words MEMORY_WORDS tally.words)) place (if_over limited.Weight WEIGHT tally.weight)
 
 -- past components from a number on
-abbrev pub past_parts : ℕ → Tally → Option Found → ℕ → List PlainComponent → Option Found
+abbrev pub past_parts : ℕ → LimitTally → Option FoundBreak → ℕ → List PlainComponent → Option FoundBreak
 past_parts main tally best k [] = best
 past_parts main tally best k (part ∷ parts) =
     past_parts main tally (if nat_eq k main then past_tree (past_part best part) part.place tally else past_part best part) (suc k) parts

@@ -9,9 +9,9 @@ ghost use Rattle.cx_limits.specs.First.{IsFirstBreak, TellsFound};
 ghost use Rattle.cx_limits.specs.Scan as scan;
 ghost use Rattle.cx_limits.specs.Tallies.{tally_of};
 
-use crate::found::{Found, Limited, noted};
+use crate::found::{FoundBreak, Limited, noted};
 use crate::statements::past_control;
-use crate::tallies::{Tally, tree_tally};
+use crate::tallies::{LimitTally, tree_tally};
 use cx_design::{Component, Design, Refusal};
 use cx_text::{
     CELLS, Diagnostic, GROUPS, INSTANCE_DEPTH, INSTANCES, MEMORY_WORDS, Memory, Name, Place, Rule,
@@ -27,7 +27,7 @@ fn if_over(limited: Limited, limit: u64, count: u64) -> Option<Limited>
 }
 
 /// The first so far, past the statements, the cells and the groups of a component.
-fn past_part(best: Option<Found>, part: &Component) -> Option<Found>
+fn past_part(best: Option<FoundBreak>, part: &Component) -> Option<FoundBreak>
     ensures { result ≡ scan.past_part best (plain_component part.now) }
 {
     let cells = if_over(Limited::Cells, CELLS as u64, part.cells.len() as u64);
@@ -37,7 +37,7 @@ fn past_part(best: Option<Found>, part: &Component) -> Option<Found>
 }
 
 /// The first so far, past the counts over the tree.
-fn past_tree(best: Option<Found>, place: Place, tally: Tally) -> Option<Found>
+fn past_tree(best: Option<FoundBreak>, place: Place, tally: LimitTally) -> Option<FoundBreak>
     ensures { result ≡ scan.past_tree best place tally }
 {
     let instances = if_over(Limited::Instances, INSTANCES, tally.instances);
@@ -49,7 +49,12 @@ fn past_tree(best: Option<Found>, place: Place, tally: Tally) -> Option<Found>
 }
 
 /// The first so far, past a component, and past the tree where it is main.
-fn past_one(best: Option<Found>, part: &Component, is_main: bool, tally: Tally) -> Option<Found>
+fn past_one(
+    best: Option<FoundBreak>,
+    part: &Component,
+    is_main: bool,
+    tally: LimitTally,
+) -> Option<FoundBreak>
     ensures { result ≡ (if is_main then scan.past_tree (scan.past_part best (plain_component part.now)) (plain_component part.now).place tally else scan.past_part best (plain_component part.now)) }
 {
     let best = past_part(best, part);
@@ -61,7 +66,7 @@ fn past_one(best: Option<Found>, part: &Component, is_main: bool, tally: Tally) 
 }
 
 /// The first limit that the design exceeds.
-fn first_limit(alloc: Global, design: &Design) -> Result<Option<Found>, Memory>
+fn first_limit(alloc: Global, design: &Design) -> Result<Option<FoundBreak>, Memory>
     ensures { IfOk result (λ found. found ≡ scan.past_parts design.now.main (tally_of (tree_of (plain_design design.now))) None 0 (map plain_component design.now.components.items)) }
 {
     let tally = tree_tally(alloc, design)?;
@@ -75,7 +80,7 @@ fn first_limit(alloc: Global, design: &Design) -> Result<Option<Found>, Memory>
 }
 
 /// What is told of a limit.
-fn told(alloc: Global, found: Found) -> Refusal
+fn told(alloc: Global, found: FoundBreak) -> Refusal
     ensures { TellsFound found result }
 {
     match Name::from_bytes(alloc, found.limited.text().as_bytes()) {

@@ -6,7 +6,7 @@ ghost use Rattle.cx_limits.specs.Scan.{context_of};
 
 /// Dynamic control, static control, the branch of a static `if`, or below a statement that may not stand in static control.
 #[derive(Clone, Copy, Debug, PartialEq, Eq)]
-pub enum Context {
+pub enum LimitContext {
     Dynamic,
     InStatic,
     Branch,
@@ -14,11 +14,11 @@ pub enum Context {
 }
 
 /// Where the parts of a dynamic statement stand.
-pub fn below_dynamic(context: Context) -> Context
+pub fn below_dynamic(context: LimitContext) -> LimitContext
     ensures { context_of result ≡ items.below_dynamic (context_of context) }
 {
     match context {
-        Context::Dynamic => Context::Dynamic,
-        Context::InStatic | Context::Branch | Context::Amiss => Context::Amiss,
+        LimitContext::Dynamic => LimitContext::Dynamic,
+        LimitContext::InStatic | LimitContext::Branch | LimitContext::Amiss => LimitContext::Amiss,
     }
 }

@@ -21,7 +21,7 @@ pub enum Limited {
 
 /// A limit that is exceeded, and the place that is told.
 #[derive(Clone, Copy, Debug, PartialEq, Eq)]
-pub struct Found {
+pub struct FoundBreak {
     pub place: Place,
     pub limited: Limited,
 }
@@ -57,13 +57,13 @@ fn stands_before(one: Place, other: Place) -> bool
 }
 
 /// The first so far, where one thing more is looked at.
-pub fn noted(best: Option<Found>, place: Place, limited: Option<Limited>) -> Option<Found>
+pub fn noted(best: Option<FoundBreak>, place: Place, limited: Option<Limited>) -> Option<FoundBreak>
     ensures { result ≡ scan.noted best place limited }
 {
     let Some(limited) = limited else {
         return best;
     };
-    let found = Found { place, limited };
+    let found = FoundBreak { place, limited };
     match best {
         Some(earlier) if !stands_before(place, earlier.place) => best,
         _ => Some(found),

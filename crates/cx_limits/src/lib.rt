@@ -14,4 +14,4 @@ mod words;
 pub use checking::limits;
 pub use order::children_first;
 pub use sizes::component_size;
-pub use tallies::{Tally, component_tallies};
+pub use tallies::{LimitTally, component_tallies};

@@ -9,7 +9,7 @@ ghost use Rattle.cx_rules.specs.Sizes as sizes;
 ghost use Rattle.cx_limits.specs.Capped.{capped};
 ghost use Rattle.cx_limits.specs.Scan.{context_of, occurrences_at, statements_size};
 
-use crate::context::{Context, below_dynamic};
+use crate::context::{LimitContext, below_dynamic};
 use crate::islands::{form_occurrences, is_island_form};
 use cx_design::{Assign, Component, Form, Group, Guard, Statement};
 
@@ -65,10 +65,10 @@ pub fn groups_size(groups: &[Group]) -> u64
 }
 
 /// The occurrences of a statement that is an island.
-fn island_occurrences(part: &Component, context: Context, statement: &Statement) -> u64
+fn island_occurrences(part: &Component, context: LimitContext, statement: &Statement) -> u64
     ensures { result ≡ capped (occurrences_at (plain_component part.now) (context_of context) (plain_statement statement.now)) }
 {
-    if context == Context::Dynamic && is_island_form(part, &statement.form) {
+    if context == LimitContext::Dynamic && is_island_form(part, &statement.form) {
         form_occurrences(part, &statement.form)
     } else {
         0
@@ -77,7 +77,7 @@ fn island_occurrences(part: &Component, context: Context, statement: &Statement)
 
 /// A statement with all in it, and the occurrences of islands.
 #[cycle(statement)]
-fn statement_size(part: &Component, context: Context, statement: &Statement) -> u64
+fn statement_size(part: &Component, context: LimitContext, statement: &Statement) -> u64
     ensures { result ≡ capped (statements_size (plain_component part.now) (visit (context_of context) (plain_statement statement.now))) }
 {
     parts_size(part, context, &statement.form)
@@ -87,33 +87,33 @@ fn statement_size(part: &Component, context: Context, statement: &Statement) -> 
 
 /// What is in a form that stands so, and the occurrences of islands.
 #[cycle(statement)]
-fn parts_size(part: &Component, context: Context, form: &Form) -> u64
+fn parts_size(part: &Component, context: LimitContext, form: &Form) -> u64
     ensures { result ≡ capped (statements_size (plain_component part.now) (visit_parts (context_of context) (plain_form form.now))) }
 {
     match form {
         Form::Empty | Form::Enable(_) | Form::Timed(_) => 0,
         Form::Seq(parts) | Form::Par(parts) => all_size(part, below_dynamic(context), parts),
         Form::StaticSeq { parts, .. } | Form::StaticPar { parts, .. } => {
-            all_size(part, Context::InStatic, parts)
+            all_size(part, LimitContext::InStatic, parts)
         }
         Form::If { yes, no, .. } => {
             let one = statement_size(part, below_dynamic(context), yes);
             one.saturating_add(statement_size(part, below_dynamic(context), no))
         }
         Form::StaticIf { yes, no, .. } => {
-            let one = statement_size(part, Context::Branch, yes);
-            one.saturating_add(statement_size(part, Context::Branch, no))
+            let one = statement_size(part, LimitContext::Branch, yes);
+            one.saturating_add(statement_size(part, LimitContext::Branch, no))
         }
         Form::While { body, .. } | Form::Repeat { body, .. } => {
             statement_size(part, below_dynamic(context), body)
         }
-        Form::StaticRepeat { body, .. } => statement_size(part, Context::InStatic, body),
+        Form::StaticRepeat { body, .. } => statement_size(part, LimitContext::InStatic, body),
     }
 }
 
 /// Statements with all in them, and the occurrences of islands.
 #[cycle(statement)]
-fn all_size(part: &Component, context: Context, statements: &[Statement]) -> u64
+fn all_size(part: &Component, context: LimitContext, statements: &[Statement]) -> u64
     ensures { result ≡ capped (statements_size (plain_component part.now) (visit_all (context_of context) (plain_statements statements.now))) }
 {
     let mut size = 0u64;
@@ -132,5 +132,5 @@ pub fn component_size(part: &Component) -> u64
         .saturating_add(part.cells.len() as u64)
         .saturating_add(groups_size(&part.groups))
         .saturating_add(assigns_size(&part.always))
-        .saturating_add(statement_size(part, Context::Dynamic, &part.control))
+        .saturating_add(statement_size(part, LimitContext::Dynamic, &part.control))
 }

@@ -7,8 +7,8 @@ ghost use Rattle.cx_rules.specs.Items.{visit, visit_parts, visit_all, statements
 ghost use Rattle.cx_rules.specs.LimitRule as rule;
 ghost use Rattle.cx_limits.specs.Scan.{context_of, told, past_statements};
 
-use crate::context::{Context, below_dynamic};
-use crate::found::{Found, Limited, noted};
+use crate::context::{LimitContext, below_dynamic};
+use crate::found::{FoundBreak, Limited, noted};
 use crate::islands::{form_length, form_occurrences, is_island_form};
 use cx_design::{Component, Form, Statement};
 use cx_text::{OCCURRENCES, REPETITIONS};
@@ -42,13 +42,17 @@ fn is_too_many(count: Option<u64>) -> bool
 }
 
 /// The first limit that a statement exceeds.
-fn statement_limit(part: &Component, context: Context, statement: &Statement) -> Option<Limited>
+fn statement_limit(
+    part: &Component,
+    context: LimitContext,
+    statement: &Statement,
+) -> Option<Limited>
     ensures { result ≡ option_map told (rule.statement_limit (plain_component part.now) (record { context = context_of context; form = form_of (plain_statement statement.now); place = place_of (plain_statement statement.now) })) }
 {
     if is_too_many(count_in(&statement.form)) {
         return Some(Limited::Repeat);
     }
-    if context != Context::Dynamic || !is_island_form(part, &statement.form) {
+    if context != LimitContext::Dynamic || !is_island_form(part, &statement.form) {
         return None;
     }
     if form_occurrences(part, &statement.form) > OCCURRENCES {
@@ -64,10 +68,10 @@ fn statement_limit(part: &Component, context: Context, statement: &Statement) ->
 #[cycle(statement)]
 fn past(
     part: &Component,
-    best: Option<Found>,
-    context: Context,
+    best: Option<FoundBreak>,
+    context: LimitContext,
     statement: &Statement,
-) -> Option<Found>
+) -> Option<FoundBreak>
     ensures { result ≡ past_statements (plain_component part.now) best (visit (context_of context) (plain_statement statement.now)) }
 {
     let limited = statement_limit(part, context, statement);
@@ -81,7 +85,12 @@ fn past(
 
 /// The first so far, past what is in a form that stands so.
 #[cycle(statement)]
-fn past_parts(part: &Component, best: Option<Found>, context: Context, form: &Form) -> Option<Found>
+fn past_parts(
+    part: &Component,
+    best: Option<FoundBreak>,
+    context: LimitContext,
+    form: &Form,
+) -> Option<FoundBreak>
     ensures { result ≡ past_statements (plain_component part.now) best (visit_parts (context_of context) (plain_form form.now)) }
 {
     match form {
@@ -90,20 +99,20 @@ fn past_parts(part: &Component, best: Option<Found>, context: Context, form: &Fo
             past_all(part, best, below_dynamic(context), parts)
         }
         Form::StaticSeq { parts, .. } | Form::StaticPar { parts, .. } => {
-            past_all(part, best, Context::InStatic, parts)
+            past_all(part, best, LimitContext::InStatic, parts)
         }
         Form::If { yes, no, .. } => {
             let best = past(part, best, below_dynamic(context), yes);
             past(part, best, below_dynamic(context), no)
         }
         Form::StaticIf { yes, no, .. } => {
-            let best = past(part, best, Context::Branch, yes);
-            past(part, best, Context::Branch, no)
+            let best = past(part, best, LimitContext::Branch, yes);
+            past(part, best, LimitContext::Branch, no)
         }
         Form::While { body, .. } | Form::Repeat { body, .. } => {
             past(part, best, below_dynamic(context), body)
         }
-        Form::StaticRepeat { body, .. } => past(part, best, Context::InStatic, body),
+        Form::StaticRepeat { body, .. } => past(part, best, LimitContext::InStatic, body),
     }
 }
 
@@ -111,10 +120,10 @@ fn past_parts(part: &Component, best: Option<Found>, context: Context, form: &Fo
 #[cycle(statement)]
 fn past_all(
     part: &Component,
-    best: Option<Found>,
-    context: Context,
+    best: Option<FoundBreak>,
+    context: LimitContext,
     statements: &[Statement],
-) -> Option<Found>
+) -> Option<FoundBreak>
     ensures { result ≡ past_statements (plain_component part.now) best (visit_all (context_of context) (plain_statements statements.now)) }
 {
     let mut best = best;
@@ -125,8 +134,8 @@ fn past_all(
 }
 
 /// The first so far, past all statements of a component.
-pub fn past_control(part: &Component, best: Option<Found>) -> Option<Found>
+pub fn past_control(part: &Component, best: Option<FoundBreak>) -> Option<FoundBreak>
     ensures { result ≡ past_statements (plain_component part.now) best (statements_in (plain_component part.now)) }
 {
-    past(part, best, Context::Dynamic, &part.control)
+    past(part, best, LimitContext::Dynamic, &part.control)
 }

@@ -16,7 +16,7 @@ use std::alloc::Global;
 
 /// Counts over the tree of a component. They stop at 2^64 - 1.
 #[derive(Clone, Copy, Debug, PartialEq, Eq)]
-pub struct Tally {
+pub struct LimitTally {
     pub instances: u64,
     pub depth: u64,
     pub words: u64,
@@ -24,7 +24,7 @@ pub struct Tally {
 }
 
 /// Nothing.
-const NO_TALLY: Tally = Tally {
+const NO_TALLY: LimitTally = LimitTally {
     instances: 0,
     depth: 0,
     words: 0,
@@ -32,10 +32,10 @@ const NO_TALLY: Tally = Tally {
 };
 
 /// The counts of cells beside those of others.
-fn beside(one: Tally, other: Tally) -> Tally
+fn beside(one: LimitTally, other: LimitTally) -> LimitTally
     ensures { result ≡ counts.beside one other }
 {
-    Tally {
+    LimitTally {
         instances: one.instances.saturating_add(other.instances),
         depth: one.depth.max(other.depth),
         words: one.words.saturating_add(other.words),
@@ -44,11 +44,11 @@ fn beside(one: Tally, other: Tally) -> Tally
 }
 
 /// The counts of a cell, by those of the components.
-fn cell_tally(tallies: &[Tally], cell: &Cell) -> Tally
+fn cell_tally(tallies: &[LimitTally], cell: &Cell) -> LimitTally
     ensures { result ≡ counts.kind_tally tallies.now (plain_cell cell.now).kind }
 {
     match &cell.kind {
-        CellKind::Prim(primitive) => Tally {
+        CellKind::Prim(primitive) => LimitTally {
             instances: 0,
             depth: 0,
             words: memory_words(primitive),
@@ -62,7 +62,7 @@ fn cell_tally(tallies: &[Tally], cell: &Cell) -> Tally
 }
 
 /// The counts of cells, by those of the components.
-fn cells_tally(tallies: &[Tally], cells: &[Cell]) -> Tally
+fn cells_tally(tallies: &[LimitTally], cells: &[Cell]) -> LimitTally
     ensures { result ≡ counts.cells_tally tallies.now (map plain_cell cells.now) }
 {
     let mut tally = NO_TALLY;
@@ -73,11 +73,11 @@ fn cells_tally(tallies: &[Tally], cells: &[Cell]) -> Tally
 }
 
 /// The counts of a component, by those of the components of its cells.
-fn component_tally(tallies: &[Tally], part: &Component) -> Tally
+fn component_tally(tallies: &[LimitTally], part: &Component) -> LimitTally
     ensures { result ≡ counts.above (plain_component part.now) (counts.cells_tally tallies.now (map plain_cell part.now.cells.items)) }
 {
     let below = cells_tally(tallies, &part.cells);
-    Tally {
+    LimitTally {
         instances: below.instances.saturating_add(1),
         depth: below.depth.saturating_add(1),
         words: below.words,
@@ -92,7 +92,7 @@ pub fn component_tallies(
     alloc: Global,
     design: &Design,
     order: &[u32],
-) -> Result<Vec<Tally>, Memory>
+) -> Result<Vec<LimitTally>, Memory>
     requires first { IsChildrenFirst (plain_design design.now) order.now }
     ensures sized { IfOk result (λ tallies. length tallies.items ≡ length design.now.components.items) }
     ensures value { IfOk result (λ tallies. counts.AreTallied (plain_design design.now) (length order.now) tallies.items order.now) }
@@ -107,7 +107,7 @@ pub fn component_tallies(
 }
 
 /// The counts over the tree of main.
-pub fn tree_tally(alloc: Global, design: &Design) -> Result<Tally, Memory>
+pub fn tree_tally(alloc: Global, design: &Design) -> Result<LimitTally, Memory>
     ensures { IfOk result (λ tally. tally ≡ counts.tally_of (tree_of (plain_design design.now))) }
 {
     let order = children_first(alloc, design)?;

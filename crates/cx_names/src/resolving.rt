@@ -7,17 +7,17 @@ ghost use Rattle.cx_rules.specs.Wellformed.{IsDesign};
 ghost use Rattle.cx_design.specs.PlainDesigns.{plain_design};
 ghost use Rattle.cx_design.specs.PlainForms.{plain_component, plain_parts};
 ghost use Rattle.cx_limits.specs.Capped.{capped};
-ghost use Rattle.cx_named.specs.Targets.{HasTargets};
+ghost use Rattle.cx_names.specs.Targets.{HasTargets};
 ghost use Rattle.cx_names.specs.Refused.{IfRule};
 ghost use Rattle.cx_numbering.specs.DesignOf.{design_of};
 ghost use Rattle.cx_numbering.specs.NameRules.{names_break};
 
+use crate::{Parts, design_parts};
 use cx_ast::Tree;
 use cx_design::{Component, Design, Refusal};
 use cx_limits::component_size;
-use cx_resolve::{Parts, design_parts};
+use cx_names_parts::first_name_break;
 use cx_text::Memory;
-use cx_tree_rules::first_name_break;
 use std::alloc::Global;
 
 // The size of components, and 1 for each.

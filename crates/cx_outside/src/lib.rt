@@ -17,6 +17,3 @@ pub use real_files::RealFiles;
 pub use real_sink::RealSink;
 pub use words::Word;
 pub use writing::{Failed, Sink, write_all};
-
-#[cfg(test)]
-mod tests;

@@ -78,11 +78,7 @@ fn read_named<R: System>(
 }
 
 /// Reads to the end, or up to the first byte over the limit.
-pub(crate) fn read_up_to<F: Read>(
-    file: &mut F,
-    alloc: Global,
-    limit: usize,
-) -> Result<Vec<u8>, FileAnswer>
+fn read_up_to<F: Read>(file: &mut F, alloc: Global, limit: usize) -> Result<Vec<u8>, FileAnswer>
     ensures within { IfOk result (λ bytes. length bytes.items ≤ limit) }
     ensures whole { IfOk result (λ bytes. IfSome (F.remaining file.old) (λ held. bytes.items ≡ held)) }
 

@@ -1,7 +1,7 @@
 -- A whole file, and the place at which reading stops.
 use Rattle.std.specs.Prelude.{ℕ, ◌-◌, List, [], ◌∷◌, length, Result, Ok, Err, drop}
 use Rattle.cx_text.specs.declared.places.Place.{Place}
-use Rattle.cx_tokens.specs.declared.tokens.Token.{Token}
+use Rattle.cx_ast.specs.declared.tokens.Token.{Token}
 use Rattle.cx_ast.specs.PlainTree.{PlainTree}
 use Rattle.cx_grammar.specs.Reading.{Stop, Reads, read, unexpected}
 use Rattle.cx_grammar.specs.Calyx.{nested_at, file}

@@ -8,5 +8,5 @@ mod groups;
 mod ports;
 mod statements;
 
-pub use cx_guards::Stop;
+pub use cx_parse_parts::Stop;
 pub use files::{ParseFault, parse, place_left, read_tree};

@@ -1,15 +1,15 @@
 -- What a part of the printer adds is read by its grammar: one lemma for each of the seven parts of grammars.
 use Rattle.std.proofs.Common.{◌≡◌, ℕ, suc, true, List, [], ◌∷◌, ◌++◌, refl, sym, ap, ◌∙◌, subst, inl, inr, append_assoc, append-nil}
-use Rattle.cx_tokens.specs.declared.tokens.Token.{Token}
-use Rattle.cx_tokens.specs.declared.tokens.TokenKind.{TokenKind}
-use Rattle.cx_tokens.specs.PlainTokens.{kinds_of}
+use Rattle.cx_ast.specs.declared.tokens.Token.{Token}
+use Rattle.cx_ast.specs.declared.tokens.TokenKind.{TokenKind}
+use Rattle.cx_ast.specs.PlainTokens.{kinds_of}
 use Rattle.cx_grammar.specs.declared.terminals.Terminal.{Terminal}
 use Rattle.cx_grammar.specs.Terminals.{terminal_of, is_in}
 use Rattle.cx_grammar.specs.Grammar.{Nest, Nested, Grammar, Empty, One, Pair, Choice, Several, Deeper, Spells, Several_of}
 use Rattle.cx_grammar.specs.Calyx.{nest, spelled_within}
-use Rattle.cx_layout.specs.declared.pieces.Gap.{Gap}
-use Rattle.cx_layout.specs.Layout.{IsWritable, AreWritable}
-use Rattle.cx_layout.specs.Pieces.{Pieces, put, kinds_in}
+use Rattle.cx_print.specs.declared.pieces.Gap.{Gap}
+use Rattle.cx_print.specs.Layout.{IsWritable, AreWritable}
+use Rattle.cx_print.specs.Pieces.{Pieces, put, kinds_in}
 
 -- any value
 abbrev pub Any : {A : Type 0} → A → Type 0

@@ -2,7 +2,7 @@
 use Rattle.std.proofs.Common.{◌≡◌, ℕ, zero, suc, true, List, [], ◌∷◌, Option, Some, None, codes, refl, ap, map, arith}
 use Rattle.std.specs.List.{AllByRecursion}
 use Rattle.cx_text.specs.declared.places.Place.{Place}
-use Rattle.cx_tokens.specs.declared.signs.Sign.TheVariants as signs
+use Rattle.cx_ast.specs.declared.signs.Sign.TheVariants as signs
 use Rattle.cx_ast.specs.declared.components.Attribute.{Attribute}
 use Rattle.cx_ast.specs.declared.components.Mark.{Mark}
 use Rattle.cx_ast.specs.declared.operands.OperandItem.{OperandItem}
@@ -15,10 +15,10 @@ use Rattle.cx_grammar.specs.Terminals.{is_in, word_terminal}
 use Rattle.cx_grammar.specs.Grammar.{Grammar, Empty, Pair, Choice, Several, Deeper}
 use Rattle.cx_grammar.specs.Grammar as grammars
 use Rattle.cx_grammar.specs.Calyx as calyx
-use Rattle.cx_layout.specs.declared.pieces.Gap.{Gap}
-use Rattle.cx_layout.specs.declared.pieces.Gap.TheVariants.{Tight, Space, Line}
-use Rattle.cx_layout.specs.Layout.{IsWritableWord}
-use Rattle.cx_layout.specs.Pieces.{Pieces, put_word, put_number, add_marks, behind_marks, add_comb, add_length, add_invoke, behind_attributes, add_control, add_else, add_statement, add_statements, add_block}
+use Rattle.cx_print.specs.declared.pieces.Gap.{Gap}
+use Rattle.cx_print.specs.declared.pieces.Gap.TheVariants.{Tight, Space, Line}
+use Rattle.cx_print.specs.Layout.{IsWritableWord}
+use Rattle.cx_print.specs.Pieces.{Pieces, put_word, put_number, add_marks, behind_marks, add_comb, add_length, add_invoke, behind_attributes, add_control, add_else, add_statement, add_statements, add_block}
 use Rattle.cx_text.specs.Places.{start}
 use Rattle.cx_print.specs.Places.{bare_bind, bare_form, bare_else, bare_statement, bare_statements, bare_block}
 use Rattle.cx_print.specs.Printable.{IsName, IsNumber, IfThere, IsAttribute, IsMark, IsOperand, IsBind, IsControl, IsElse, IsStatement, AreStatements, IsBlock}

@@ -2,9 +2,9 @@
 use Rattle.std.proofs.Common.{◌≡◌, ℕ, List, [], None}
 use Rattle.std.specs.List.{AllByRecursion}
 use Rattle.cx_text.specs.declared.places.Place.{Place}
-use Rattle.cx_tokens.specs.declared.tokens.Token.{Token}
-use Rattle.cx_tokens.specs.declared.tokens.TokenKind.{TokenKind}
-use Rattle.cx_tokens.specs.PlainTokens.{kinds_of}
+use Rattle.cx_ast.specs.declared.tokens.Token.{Token}
+use Rattle.cx_ast.specs.declared.tokens.TokenKind.{TokenKind}
+use Rattle.cx_ast.specs.PlainTokens.{kinds_of}
 use Rattle.cx_ast.specs.declared.components.Attribute.{Attribute}
 use Rattle.cx_ast.specs.declared.trees.ImportItem.{ImportItem}
 use Rattle.cx_ast.specs.declared.wiring.GroupWord.TheVariants as group_words
@@ -15,7 +15,7 @@ use Rattle.cx_lex.specs.Lex as lex
 use Rattle.cx_grammar.specs.declared.terminals.Terminal.TheVariants as t
 use Rattle.cx_grammar.specs.Calyx as calyx
 use Rattle.cx_grammar.specs.Parsing.{Parse}
-use Rattle.cx_layout.specs.Layout.{IsWritable, AreWritable}
+use Rattle.cx_print.specs.Layout.{IsWritable, AreWritable}
 use Rattle.cx_print.specs.Printable.{IsName, IsText, IsNumber, IfThere, IsAttribute, IsMark, IsBlock, IsAssign, IsGroupWord, IsGroup, IsWire, IsPort, IsCell, IsComponent, IsPrintable}
 use Rattle.cx_print.proofs.Giving.{Gives, gives_nothing, gives_choice, gives_pair, gives_many, gives_commas, gives_behind, gives_before, gives_mapped, gives_within, gives_maybe, sign_given}
 use Rattle.cx_print.proofs.HeaderGiven.{name_given, number_given, text_given, attributes_given, marks_given, length_given}

@@ -1,7 +1,7 @@
 -- Ports, cells, groups, components and whole files: what each adds is read by its production as an equal part apart from places.
 use Rattle.std.proofs.Common.{◌≡◌, ℕ, List, [], ◌∷◌, Option, Some, None, option_map, codes, refl, ap, map, arith}
 use Rattle.std.specs.List.{AllByRecursion}
-use Rattle.cx_tokens.specs.declared.signs.Sign.TheVariants as signs
+use Rattle.cx_ast.specs.declared.signs.Sign.TheVariants as signs
 use Rattle.cx_ast.specs.declared.components.Attribute.{Attribute}
 use Rattle.cx_ast.specs.declared.trees.ImportItem.{ImportItem}
 use Rattle.cx_ast.specs.declared.wiring.GroupWord.{GroupWord}
@@ -12,9 +12,9 @@ use Rattle.cx_ast.specs.PlainTree as wires
 use Rattle.cx_grammar.specs.declared.terminals.Terminal.TheVariants as t
 use Rattle.cx_grammar.specs.Grammar.{Grammar, Empty, Pair}
 use Rattle.cx_grammar.specs.Calyx as calyx
-use Rattle.cx_layout.specs.declared.pieces.Gap.{Gap}
-use Rattle.cx_layout.specs.declared.pieces.Gap.TheVariants.{Tight, Space, Line}
-use Rattle.cx_layout.specs.Pieces.{Pieces, put_sign, put_word, put_number, more_of, with_commas, add_lines, add_from, behind_attributes, behind_marks, behind_imports, add_marks, add_group_word, add_assign, add_wire, add_port, add_ports, add_outputs, add_cell, add_component_word, add_control_part, add_section, add_component, add_import}
+use Rattle.cx_print.specs.declared.pieces.Gap.{Gap}
+use Rattle.cx_print.specs.declared.pieces.Gap.TheVariants.{Tight, Space, Line}
+use Rattle.cx_print.specs.Pieces.{Pieces, put_sign, put_word, put_number, more_of, with_commas, add_lines, add_from, behind_attributes, behind_marks, behind_imports, add_marks, add_group_word, add_assign, add_wire, add_port, add_ports, add_outputs, add_cell, add_component_word, add_control_part, add_section, add_component, add_import}
 use Rattle.cx_print.specs.Places.{bare_import, bare_port, bare_cell, bare_assign, bare_group, bare_wire, bare_block, bare_component, without_places}
 use Rattle.cx_print.specs.Printable.{IsText, IsNumber, IfThere, IsBlock, IsGroupWord, IsGroup, IsWire, IsPort, IsCell, IsComponent, IsPrintable}
 use Rattle.cx_print.proofs.Adding.{Adds, AddsMany, adds_nothing, adds_pair, adds_left, adds_right, many_none, many_more, adds_several}

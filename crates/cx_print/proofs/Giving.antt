@@ -1,14 +1,14 @@
 -- What the grammar gives for tokens that can be written: one lemma for each of the seven parts of grammars.
 use Rattle.std.proofs.Common.{◌≡◌, ℕ, zero, suc, true, List, [], ◌∷◌, Some, None, subst, ⊎_elim}
 use Rattle.std.specs.List.{AllByRecursion}
-use Rattle.cx_tokens.specs.declared.tokens.Token.{Token}
-use Rattle.cx_tokens.specs.PlainTokens.{kinds_of}
+use Rattle.cx_ast.specs.declared.tokens.Token.{Token}
+use Rattle.cx_ast.specs.PlainTokens.{kinds_of}
 use Rattle.cx_grammar.specs.declared.terminals.Terminal.{Terminal}
 use Rattle.cx_grammar.specs.Terminals.{terminal_of, is_in}
 use Rattle.cx_grammar.specs.Grammar.{Nest, Nested, Grammar, Empty, One, Pair, Choice, Several, Commas, Deeper, Spells, Several_of, Commas_of}
 use Rattle.cx_grammar.specs.Calyx.{nest, spelled_within}
 use Rattle.cx_grammar.specs.Calyx as calyx
-use Rattle.cx_layout.specs.Layout.{IsWritable, AreWritable}
+use Rattle.cx_print.specs.Layout.{IsWritable, AreWritable}
 use Rattle.cx_print.specs.Printable.{IfThere}
 use Rattle.cx_print.proofs.Adding.{Any}
 

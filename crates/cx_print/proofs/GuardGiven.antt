@@ -1,7 +1,7 @@
 -- What the grammar gives for guards and assignments is printable.
 use Rattle.std.proofs.Common.{◌≡◌, ℕ, zero, suc, Bool, true, false, List, [], ◌∷◌, refl, ap, ◌∙◌, subst, inl, inr, ⊎_elim, ◌⊎◌}
 use Rattle.std.specs.List.{AllByRecursion}
-use Rattle.cx_tokens.specs.declared.tokens.Token.{Token}
+use Rattle.cx_ast.specs.declared.tokens.Token.{Token}
 use Rattle.cx_ast.specs.declared.components.Attribute.{Attribute}
 use Rattle.cx_ast.specs.declared.guards.Comparison.TheVariants as comparisons
 use Rattle.cx_ast.specs.declared.operands.OperandItem.{OperandItem}
@@ -12,9 +12,9 @@ use Rattle.cx_grammar.specs.declared.terminals.Terminal.TheVariants as t
 use Rattle.cx_grammar.specs.Grammar.{Nest, Negation, Parens, Nested, Spelling, Spells}
 use Rattle.cx_grammar.specs.Calyx.{spelled_within}
 use Rattle.cx_grammar.specs.Calyx as calyx
-use Rattle.cx_layout.specs.declared.guards.Binding.{Binding}
-use Rattle.cx_layout.specs.declared.guards.Binding.TheVariants.{OrPart, AndPart, NotPart}
-use Rattle.cx_layout.specs.Pieces.{needs_parens}
+use Rattle.cx_print.specs.declared.guards.Binding.{Binding}
+use Rattle.cx_print.specs.declared.guards.Binding.TheVariants.{OrPart, AndPart, NotPart}
+use Rattle.cx_print.specs.Pieces.{needs_parens}
 use Rattle.cx_print.specs.Printable.{IsOperand, IfThere, IsAttribute, OneDeeper, IsWrapped, IsInside, AreParts, IsAssign}
 use Rattle.cx_print.proofs.Adding.{Any}
 use Rattle.cx_print.proofs.GuardSpelling.{valued, unguarded}

@@ -1,8 +1,8 @@
 -- Guards and assignments: what each adds is read by its production as an equal part apart from places.
 use Rattle.std.proofs.Common.{◌≡◌, ℕ, zero, suc, true, false, List, [], ◌∷◌, ◌++◌, Option, Some, None, option_map, refl, ap, ◌∙◌, map, inl, inr, ⊎_elim, append_assoc}
 use Rattle.std.specs.List.{AllByRecursion}
-use Rattle.cx_tokens.specs.declared.signs.Sign.TheVariants as signs
-use Rattle.cx_tokens.specs.declared.tokens.Token.{Token}
+use Rattle.cx_ast.specs.declared.signs.Sign.TheVariants as signs
+use Rattle.cx_ast.specs.declared.tokens.Token.{Token}
 use Rattle.cx_ast.specs.declared.components.Attribute.{Attribute}
 use Rattle.cx_ast.specs.declared.guards.Comparison.{Comparison}
 use Rattle.cx_ast.specs.declared.guards.Comparison.TheVariants as comparisons
@@ -14,11 +14,11 @@ use Rattle.cx_grammar.specs.declared.terminals.Terminal.TheVariants as t
 use Rattle.cx_grammar.specs.Grammar.{Nest, Negation, Parens, Nested, Grammar, Spelling, Spells}
 use Rattle.cx_grammar.specs.Calyx.{spelled_within}
 use Rattle.cx_grammar.specs.Calyx as calyx
-use Rattle.cx_layout.specs.declared.guards.Binding.{Binding}
-use Rattle.cx_layout.specs.declared.guards.Binding.TheVariants.{Whole, OrPart, AndPart, NotPart}
-use Rattle.cx_layout.specs.declared.pieces.Gap.{Gap}
-use Rattle.cx_layout.specs.declared.pieces.Gap.TheVariants.{Tight, Space, Line}
-use Rattle.cx_layout.specs.Pieces.{Pieces, put_sign, kinds_in, add_lines, add_operand, comparison_sign, needs_parens, wrapped, add_inside, add_parts, add_guard, add_condition, behind_attributes, add_assign}
+use Rattle.cx_print.specs.declared.guards.Binding.{Binding}
+use Rattle.cx_print.specs.declared.guards.Binding.TheVariants.{Whole, OrPart, AndPart, NotPart}
+use Rattle.cx_print.specs.declared.pieces.Gap.{Gap}
+use Rattle.cx_print.specs.declared.pieces.Gap.TheVariants.{Tight, Space, Line}
+use Rattle.cx_print.specs.Pieces.{Pieces, put_sign, kinds_in, add_lines, add_operand, comparison_sign, needs_parens, wrapped, add_inside, add_parts, add_guard, add_condition, behind_attributes, add_assign}
 use Rattle.cx_print.specs.Places.{bare_operand, bare_guard, bare_guards, bare_assign}
 use Rattle.cx_print.specs.Printable.{IsOperand, IsNumber, IfThere, OneDeeper, IsWrapped, HasTwo, IsInside, AreParts, IsAssign}
 use Rattle.cx_print.proofs.Adding.{Adds, AddsMany, adds_nothing, adds_pair, adds_left, adds_right, adds_deeper, many_none, many_more, adds_several, adds_both}

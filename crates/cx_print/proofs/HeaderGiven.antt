@@ -1,17 +1,17 @@
 -- What the grammar gives for names, attributes, marks, operands and binds is printable.
 use Rattle.std.proofs.Common.{◌≡◌, ℕ, true, List, [], ◌∷◌, refl}
 use Rattle.std.specs.List.{AllByRecursion}
-use Rattle.cx_tokens.specs.declared.signs.Sign.{Sign}
-use Rattle.cx_tokens.specs.declared.signs.Sign.TheVariants as signs
-use Rattle.cx_tokens.specs.declared.tokens.TokenKind.{TokenKind}
-use Rattle.cx_tokens.specs.declared.tokens.TokenKind.TheVariants as kinds
+use Rattle.cx_ast.specs.declared.signs.Sign.{Sign}
+use Rattle.cx_ast.specs.declared.signs.Sign.TheVariants as signs
+use Rattle.cx_ast.specs.declared.tokens.TokenKind.{TokenKind}
+use Rattle.cx_ast.specs.declared.tokens.TokenKind.TheVariants as kinds
 use Rattle.cx_ast.specs.declared.operands.OperandForm.{OperandForm}
 use Rattle.cx_ast.specs.declared.operands.OperandForm.TheVariants as operands
 use Rattle.cx_grammar.specs.declared.terminals.Terminal.{Terminal}
 use Rattle.cx_grammar.specs.declared.terminals.Terminal.TheVariants as t
 use Rattle.cx_grammar.specs.Terminals.{terminal_of, is_in, sign_terminal, word_terminal}
 use Rattle.cx_grammar.specs.Calyx as calyx
-use Rattle.cx_layout.specs.Layout.{IsWritable, IsWritableWord}
+use Rattle.cx_print.specs.Layout.{IsWritable, IsWritableWord}
 use Rattle.cx_print.specs.Printable.{IsName, IsText, IsNumber, IfThere, IsAttribute, IsMark, IsForm, IsNoLiteral, IsOperand, IsTarget, IsBind}
 use Rattle.cx_print.proofs.Giving.{Gives, gives_nothing, gives_one, gives_choice, gives_so, gives_pair, gives_many, gives_commas, gives_behind, gives_before, gives_mapped, gives_within, gives_maybe}
 use Rattle.cx_print.proofs.HeaderSpelling.{among_words}

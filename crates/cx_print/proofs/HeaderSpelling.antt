@@ -2,12 +2,12 @@
 use Rattle.std.proofs.Common.{◌≡◌, ℕ, Bool, true, false, List, [], ◌∷◌, ◌++◌, Option, Some, None, codes, refl, sym, ap, ◌∙◌, subst, map, inl, append_assoc, append-nil, if◌then◌else◌, ◌==◌}
 use Rattle.std.specs.Cmp.Lexicographic.{pointwise}
 use Rattle.std.specs.List.{AllByRecursion}
-use Rattle.cx_tokens.specs.declared.signs.Sign.{Sign}
-use Rattle.cx_tokens.specs.declared.signs.Sign.TheVariants as signs
-use Rattle.cx_tokens.specs.declared.tokens.Token.{Token}
-use Rattle.cx_tokens.specs.declared.tokens.TokenKind.{TokenKind}
-use Rattle.cx_tokens.specs.declared.tokens.TokenKind.TheVariants as kinds
-use Rattle.cx_tokens.specs.PlainTokens.{kinds_of}
+use Rattle.cx_ast.specs.declared.signs.Sign.{Sign}
+use Rattle.cx_ast.specs.declared.signs.Sign.TheVariants as signs
+use Rattle.cx_ast.specs.declared.tokens.Token.{Token}
+use Rattle.cx_ast.specs.declared.tokens.TokenKind.{TokenKind}
+use Rattle.cx_ast.specs.declared.tokens.TokenKind.TheVariants as kinds
+use Rattle.cx_ast.specs.PlainTokens.{kinds_of}
 use Rattle.cx_ast.specs.declared.components.Attribute.{Attribute}
 use Rattle.cx_ast.specs.declared.components.Mark.{Mark}
 use Rattle.cx_ast.specs.declared.operands.OperandForm.{OperandForm}
@@ -20,10 +20,10 @@ use Rattle.cx_grammar.specs.Terminals.{is_in, sign_terminal, word_terminal}
 use Rattle.cx_grammar.specs.Grammar.{Grammar, Empty, Choice, Commas, Spells, Commas_of}
 use Rattle.cx_grammar.specs.Calyx.{spelled_within}
 use Rattle.cx_grammar.specs.Calyx as calyx
-use Rattle.cx_layout.specs.declared.pieces.Gap.{Gap}
-use Rattle.cx_layout.specs.declared.pieces.Gap.TheVariants.{Tight, Space}
-use Rattle.cx_layout.specs.Layout.{AreWritable, IsWritableWord}
-use Rattle.cx_layout.specs.Pieces.{Pieces, put, put_sign, put_word, put_number, kinds_in, more_of, with_commas, add_attribute_number, add_attribute, add_attributes, add_mark, add_marks, add_length, add_form, add_operand, add_bind, add_binds}
+use Rattle.cx_print.specs.declared.pieces.Gap.{Gap}
+use Rattle.cx_print.specs.declared.pieces.Gap.TheVariants.{Tight, Space}
+use Rattle.cx_print.specs.Layout.{AreWritable, IsWritableWord}
+use Rattle.cx_print.specs.Pieces.{Pieces, put, put_sign, put_word, put_number, kinds_in, more_of, with_commas, add_attribute_number, add_attribute, add_attributes, add_mark, add_marks, add_length, add_form, add_operand, add_bind, add_binds}
 use Rattle.cx_print.specs.Places.{bare_bind}
 use Rattle.cx_print.specs.Printable.{IsName, IsText, IsNumber, IfThere, IsAttribute, IsMark, IsForm, IsNoLiteral, IsOperand, IsBind}
 use Rattle.cx_print.proofs.Adding.{Any, Adds, AddsMany, adds_nothing, adds_one, adds_pair, adds_left, adds_right, many_none, many_more, adds_several, adds_both}

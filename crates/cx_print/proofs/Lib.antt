@@ -1,3 +1,6 @@
+pub mod GapLemmas
+pub mod LayoutLemmas
+pub mod LayoutPrintLemmas
 pub mod Adding
 pub mod HeaderSpelling
 pub mod GuardSpelling

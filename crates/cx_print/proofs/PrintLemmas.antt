@@ -1,13 +1,13 @@
 -- From the tokens of a tree to the tree.
 use Rattle.std.proofs.Common.{◌≡◌, ℕ, List, [], ◌∷◌, ◌∙◌, refl, sym, subst, append-nil}
-use Rattle.cx_tokens.specs.declared.tokens.Token.{Token}
-use Rattle.cx_tokens.specs.PlainTokens.{kinds_of}
+use Rattle.cx_ast.specs.declared.tokens.Token.{Token}
+use Rattle.cx_ast.specs.PlainTokens.{kinds_of}
 use Rattle.cx_ast.specs.PlainTree.{PlainTree}
 use Rattle.cx_grammar.specs.Grammar.{Spells}
 use Rattle.cx_grammar.specs.Calyx.{file, spelled_within}
 use Rattle.cx_grammar.specs.Parsing.{Parse}
-use Rattle.cx_layout.specs.Layout.{AreWritable, AppendsTokens}
-use Rattle.cx_layout.specs.Pieces.{tokens_of}
+use Rattle.cx_print.specs.Layout.{AreWritable, AppendsTokens}
+use Rattle.cx_print.specs.Pieces.{tokens_of}
 use Rattle.cx_print.specs.Places.{without_places}
 use Rattle.cx_print.specs.Printable.{IsPrintable}
 use Rattle.cx_print.specs.Printed.{AppendsTree}

@@ -1,3 +1,5 @@
+pub mod Pieces
+pub mod Layout
 pub mod Places
 pub mod Printable
 pub mod Printed

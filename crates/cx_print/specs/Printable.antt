@@ -1,7 +1,7 @@
 -- Which trees have a text: names, strings, numbers and literals by the rules of their tokens, and 64 levels at most.
 use Rattle.std.specs.Prelude.{◌≡◌, ◌≢◌, ℕ, zero, suc, ◌^◌, ◌<◌, Bool, true, false, List, [], Option, Some, None}
 use Rattle.std.specs.List.{AllByRecursion}
-use Rattle.cx_tokens.specs.declared.tokens.TokenKind.TheVariants as kinds
+use Rattle.cx_ast.specs.declared.tokens.TokenKind.TheVariants as kinds
 use Rattle.cx_ast.specs.declared.components.Attribute.{Attribute}
 use Rattle.cx_ast.specs.declared.components.Mark.{Mark}
 use Rattle.cx_ast.specs.declared.operands.OperandForm.{OperandForm}
@@ -19,10 +19,10 @@ use Rattle.cx_ast.specs.PlainTree.{PlainPort, PlainCell, PlainAssign, PlainGroup
 use Rattle.cx_ast.specs.PlainTree as wires
 use Rattle.cx_grammar.specs.declared.terminals.Terminal.TheVariants as t
 use Rattle.cx_grammar.specs.Terminals.{word_terminal}
-use Rattle.cx_layout.specs.declared.guards.Binding.{Binding}
-use Rattle.cx_layout.specs.declared.guards.Binding.TheVariants.{OrPart, AndPart, NotPart}
-use Rattle.cx_layout.specs.Layout.{IsWritable, IsWritableWord}
-use Rattle.cx_layout.specs.Pieces.{needs_parens}
+use Rattle.cx_print.specs.declared.guards.Binding.{Binding}
+use Rattle.cx_print.specs.declared.guards.Binding.TheVariants.{OrPart, AndPart, NotPart}
+use Rattle.cx_print.specs.Layout.{IsWritable, IsWritableWord}
+use Rattle.cx_print.specs.Pieces.{needs_parens}
 
 -- a name that is no reserved word
 abbrev pub IsName : List ℕ → Type 0

@@ -1,11 +1,11 @@
 -- What it means that a text is appended which is read as an equal tree.
 use Rattle.std.specs.Prelude.{◌≡◌, ℕ, List, ◌++◌}
-use Rattle.cx_tokens.specs.declared.tokens.Token.{Token}
-use Rattle.cx_tokens.specs.PlainTokens.{kinds_of}
+use Rattle.cx_ast.specs.declared.tokens.Token.{Token}
+use Rattle.cx_ast.specs.PlainTokens.{kinds_of}
 use Rattle.cx_ast.specs.PlainTree.{PlainTree}
 use Rattle.cx_lex.specs.Lex.{Lex}
 use Rattle.cx_grammar.specs.Parsing.{Parse}
-use Rattle.cx_layout.specs.Pieces.{tokens_of}
+use Rattle.cx_print.specs.Pieces.{tokens_of}
 use Rattle.cx_print.specs.Places.{without_places}
 
 -- what is appended is a text whose tokens are read as a tree that is equal apart from places

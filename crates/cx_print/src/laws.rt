@@ -1,7 +1,7 @@
 //! What holds of the trees of texts.
 
 ghost use Rattle.std.specs.Prelude.{ℕ, List};
-ghost use Rattle.cx_tokens.specs.declared.tokens.Token.{Token as TokenValue};
+ghost use Rattle.cx_ast.specs.declared.tokens.Token.{Token as TokenValue};
 ghost use Rattle.cx_ast.specs.PlainTree.{PlainTree};
 ghost use Rattle.cx_lex.specs.Lex.{Lex};
 ghost use Rattle.cx_grammar.specs.Parsing.{Parse};

@@ -5,8 +5,8 @@ ghost use Rattle.cx_ast.specs.PlainTree.{plain_tree};
 ghost use Rattle.cx_print.specs.Printable.{IsPrintable};
 ghost use Rattle.cx_print.specs.Printed.{AppendsTree};
 
+use crate::lay_out;
 use cx_ast::Tree;
-use cx_layout::lay_out;
 use cx_text::Memory;
 use std::alloc::Global;
 

@@ -6,7 +6,7 @@ use Rattle.cx_meaning.specs.Designs.{PlainStatement, statements_of, list_of}
 use Rattle.cx_meaning.specs.Sights.{In}
 use Rattle.cx_design.specs.declared.statements.Statement.{Statement}
 use Rattle.cx_design.specs.PlainForms.{plain_statement}
-use Rattle.cx_footprints.specs.Links.{Within}
+use Rattle.cx_race.specs.Links.{Within}
 
 list_of_statements : (ss : List PlainStatement) → list_of (statements_of ss) ≡ ss
 list_of_statements [] = refl

@@ -1,3 +1,8 @@
+pub mod FormLemmas
+pub mod CellLemmas
+mod LinkLemmas
+pub mod ReadLemmas
+pub mod Bounds
 mod ArmLemmas
 mod NameLemmas
 mod SharedLemmas

@@ -14,15 +14,15 @@ use Rattle.cx_rules.specs.Spots.{AStatement, Spot, Tells, OnStatement}
 use Rattle.cx_rules.specs.RaceRule.{arms_of, IsShared, IsEnabledTwice, BreaksRace}
 use Rattle.cx_rules.specs.Wellformed.{IsDesign}
 use Rattle.cx_rules.specs.Accepted.{Breaks, stage_of, key_of, comes_before}
-use Rattle.cx_first_break.specs.Breaks.{Broken, key, first_of}
-use Rattle.cx_first_break.specs.Answers.{AreBreaks}
-use Rattle.cx_first_break.proofs.Order.{not_before_itself}
-use Rattle.cx_first_break.proofs.Lists.{first_append, in_left, in_right, in_either}
-use Rattle.cx_footprints.specs.declared.parts.Footprints.{Footprints}
-use Rattle.cx_footprints.specs.Cells.{targets_in_group, cells_in_group}
-use Rattle.cx_footprints.specs.Footprints.{AreFootprints}
-use Rattle.cx_footprints.proofs.FormLemmas.{visited_forms, arms_among}
-use Rattle.cx_footprints.proofs.Bounds.{AreForms, groups_there, tests_there, enabled_there}
+use Rattle.cx_design_parts.specs.Breaks.{Broken, key, first_of}
+use Rattle.cx_design_parts.specs.Answers.{AreBreaks}
+use Rattle.cx_design_parts.proofs.Order.{not_before_itself}
+use Rattle.cx_design_parts.proofs.Lists.{first_append, in_left, in_right, in_either}
+use Rattle.cx_race.specs.declared.parts.Footprints.{Footprints}
+use Rattle.cx_race.specs.Cells.{targets_in_group, cells_in_group}
+use Rattle.cx_race.specs.Footprints.{AreFootprints}
+use Rattle.cx_race.proofs.FormLemmas.{visited_forms, arms_among}
+use Rattle.cx_race.proofs.Bounds.{AreForms, groups_there, tests_there, enabled_there}
 use Rattle.cx_race.specs.declared.races.Race.{Race}
 use Rattle.cx_race.specs.declared.races.Race.TheVariants.{Cell, Group}
 use Rattle.cx_race.specs.Races.{AreWithin, IsFirstRace, race_name}

@@ -7,14 +7,14 @@ use Rattle.cx_meaning.specs.Sights.{In}
 use Rattle.cx_meaning.specs.Control.{groups_of, drives}
 use Rattle.cx_rules.specs.Footprints.{Reads, driven}
 use Rattle.cx_rules.specs.RaceRule.{Arms, IsShared, IsEnabledTwice, enabled_in}
-use Rattle.cx_tallies.specs.declared.owners.Owners.{Owners}
-use Rattle.cx_tallies.specs.declared.owners.Owners.TheVariants.{Nobody, Only, Several}
-use Rattle.cx_tallies.specs.Owners.{Covers, Sound, owners_at, IsSeveral, IsLeast}
-use Rattle.cx_tallies.specs.Tallies.{Starts, Reaches, Tallies, starts_of}
-use Rattle.cx_footprints.specs.Cells.{targets_in_group, cells_in_group, driven_by, tested_by, named_by}
-use Rattle.cx_footprints.specs.Links.{AreLinks}
-use Rattle.cx_footprints.proofs.CellLemmas.{group_lists, in_driven, is_driven}
-use Rattle.cx_footprints.proofs.ReadLemmas.{reads_reached, reached_reads}
+use Rattle.cx_graphs.specs.declared.owners.Owners.{Owners}
+use Rattle.cx_graphs.specs.declared.owners.Owners.TheVariants.{Nobody, Only, Several}
+use Rattle.cx_graphs.specs.Owners.{Covers, Sound, owners_at, IsSeveral, IsLeast}
+use Rattle.cx_graphs.specs.Tallies.{Starts, Reaches, Tallies, starts_of}
+use Rattle.cx_race.specs.Cells.{targets_in_group, cells_in_group, driven_by, tested_by, named_by}
+use Rattle.cx_race.specs.Links.{AreLinks}
+use Rattle.cx_race.proofs.CellLemmas.{group_lists, in_driven, is_driven}
+use Rattle.cx_race.proofs.ReadLemmas.{reads_reached, reached_reads}
 use Rattle.cx_race.specs.Races.{IsLeastOf, IsFirstRace, race_of}
 use Rattle.cx_race.proofs.ArmLemmas.{as_node, from_node, list_at, arm_at, from_nowhere}
 

@@ -7,7 +7,7 @@ use Rattle.cx_meaning.specs.Sights.{In}
 use Rattle.cx_rules.specs.Spots.{AStatement, Spot, OnStatement}
 use Rattle.cx_rules.specs.RaceRule.{BreaksRace}
 use Rattle.cx_rules.specs.Accepted.{key_of}
-use Rattle.cx_first_break.specs.Breaks.{Broken, key, first_of}
+use Rattle.cx_design_parts.specs.Breaks.{Broken, key, first_of}
 use Rattle.cx_race.specs.declared.races.Race.{Race}
 use Rattle.cx_race.specs.Races.{race_name}
 

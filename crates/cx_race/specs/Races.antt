@@ -6,10 +6,10 @@ use Rattle.cx_meaning.specs.Sights.{In}
 use Rattle.cx_meaning.specs.Designs.{PlainComponent, PlainStatement, group_at}
 use Rattle.cx_rules.specs.Ports.{cell_name}
 use Rattle.cx_rules.specs.RaceRule.{IsShared, IsEnabledTwice, enabled_in}
-use Rattle.cx_footprints.specs.declared.parts.Footprints.{Footprints}
-use Rattle.cx_footprints.specs.Cells.{tested_by}
-use Rattle.cx_footprints.specs.Links.{Within}
-use Rattle.cx_tallies.specs.Tallies.{IsClear}
+use Rattle.cx_race.specs.declared.parts.Footprints.{Footprints}
+use Rattle.cx_race.specs.Cells.{tested_by}
+use Rattle.cx_race.specs.Links.{Within}
+use Rattle.cx_graphs.specs.Tallies.{IsClear}
 use Rattle.cx_race.specs.declared.races.Race.{Race}
 use Rattle.cx_race.specs.declared.races.Race.TheVariants.{Cell, Group}
 use Rattle.cx_race.specs.declared.races.Tallies.{Tallies}

@@ -5,10 +5,10 @@ ghost use Rattle.cx_graphs.specs.Graphs.{edges_of};
 ghost use Rattle.cx_meaning.specs.Control.{groups_of};
 ghost use Rattle.cx_rules.specs.RaceRule.{arms_of, enabled_in};
 ghost use Rattle.cx_design.specs.PlainForms.{plain_form, plain_statement};
-ghost use Rattle.cx_footprints.specs.Cells.{tested_by};
+ghost use Rattle.cx_race.specs.Cells.{tested_by};
 
+use crate::{enabled, groups, tested};
 use cx_design::{Form, Statement};
-use cx_footprints::{enabled, groups, tested};
 use cx_text::Memory;
 use std::alloc::Global;
 

@@ -4,20 +4,18 @@ ghost use Rattle.std.specs.Prelude.{◌≡◌, ◌<◌, None, Some, IfOk, OnOk, 
 ghost use Rattle.cx_meaning.specs.Designs.{component_at};
 ghost use Rattle.cx_rules.specs.Items.{statements_in};
 ghost use Rattle.cx_design.specs.PlainDesigns.{plain_design};
-ghost use Rattle.cx_first_break.specs.Answers.{IsAnswer};
-ghost use Rattle.cx_items.specs.Items.{plain_visited};
-ghost use Rattle.cx_footprints.specs.Footprints.{AreFootprints};
+ghost use Rattle.cx_design_parts.specs.Answers.{IsAnswer};
+ghost use Rattle.cx_design_parts.specs.Items.{plain_visited};
+ghost use Rattle.cx_race.specs.Footprints.{AreFootprints};
 ghost use Rattle.cx_race.specs.Races.{AreClear};
 ghost use Rattle.cx_race.specs.RaceBreaks.{IsAt, IsBeforeOf, IsOf, Looked};
 
 use crate::arms::arms;
 use crate::races::{Tallies, find_race};
 use crate::telling::add_race;
+use crate::{Footprints, footprints_of};
 use cx_design::{Design, Refusal};
-use cx_first_break::{FirstBreak, Part, Spot};
-use cx_footprints::{Footprints, footprints_of};
-use cx_items::{Visited, statements};
-use cx_ports::component;
+use cx_design_parts::{FirstBreak, Part, Spot, Visited, component, statements};
 use cx_text::Memory;
 use std::alloc::Global;
 

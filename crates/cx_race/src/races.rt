@@ -5,15 +5,15 @@ ghost use Rattle.cx_meaning.specs.Designs.{PlainComponent, PlainStatement};
 ghost use Rattle.cx_meaning.specs.Sights.{In};
 ghost use Rattle.cx_rules.specs.RaceRule.{IsEnabledTwice, IsShared, enabled_in};
 ghost use Rattle.cx_design.specs.PlainForms.{plain_statement};
-ghost use Rattle.cx_tallies.specs.Tallies.{IsClear};
-ghost use Rattle.cx_footprints.specs.Footprints.{AreFootprints};
-ghost use Rattle.cx_footprints.specs.Links.{Within};
+ghost use Rattle.cx_graphs.specs.Tallies.{IsClear};
+ghost use Rattle.cx_race.specs.Footprints.{AreFootprints};
+ghost use Rattle.cx_race.specs.Links.{Within};
 ghost use Rattle.cx_race.specs.Races.{AreClear, AreWithin, IsFirstRace, IsLeastOf, race_of};
 
+use crate::Footprints;
 use crate::arms::{enabled_lists, group_lists, test_lists};
 use cx_design::Statement;
-use cx_footprints::Footprints;
-use cx_tallies::Tally;
+use cx_graphs::Tally;
 use cx_text::Memory;
 use std::alloc::Global;
 

@@ -4,13 +4,13 @@ ghost use Rattle.std.specs.Prelude.{◌≡◌, IfNone, IfOk, IfSome, slice_get};
 ghost use Rattle.cx_meaning.specs.Designs.{group_at};
 ghost use Rattle.cx_rules.specs.Ports.{cell_name};
 ghost use Rattle.cx_design.specs.PlainForms.{plain_cell, plain_component, plain_group};
-ghost use Rattle.cx_first_break.specs.Breaks.{first_of, plain_spot};
+ghost use Rattle.cx_design_parts.specs.Breaks.{first_of, plain_spot};
 ghost use Rattle.cx_race.specs.Races.{race_name};
 ghost use Rattle.cx_race.specs.RaceBreaks.{race_break};
 
 use crate::races::Race;
 use cx_design::{Cell, Component, Group};
-use cx_first_break::{Break, FirstBreak, Spot};
+use cx_design_parts::{Break, FirstBreak, Spot};
 use cx_text::{Memory, Name, Place, Rule};
 use std::alloc::Global;
 

@@ -4,3 +4,5 @@ pub mod FrameLemmas
 pub mod CircleLemmas
 pub mod ForeignLemmas
 pub mod KnownRules
+pub mod KeyOrder
+pub mod OneBreak

@@ -14,3 +14,4 @@ pub mod Wellformed
 pub mod Circles
 pub mod Frames
 pub mod Externals
+pub mod OneBreak

@@ -1,6 +1,6 @@
 //! Calls: the turns of the child, one more to end, and one in which registers are captured.
 
-use crate::runs::{FIVE, dump, interp, more};
+use crate::runs::{ends, stops};
 use cx_driver::Status;
 use std::test::Fail;
 
@@ -38,76 +38,62 @@ component bad(x: 32) -> (y: 32) { cells { r = std_reg(32); w = std_wire(32); } w
     group p { r.in = x; r.write_en = 1'd1; p[done] = r.done; } } control { p; } }
 ";
 
-/// Each control ends after so many turns with this word, and not with one turn less.
+/// Each control, its turns, and the word that it leaves.
+const TURNS: [(&str, u64, u64); 13] = [
+    ("seq { invoke n()(); invoke n()(); }", 4, 5),
+    (
+        "seq { invoke c(x = 32'd3)(); invoke c(x = 32'd5)(); sc; }",
+        12,
+        10,
+    ),
+    ("seq { invoke c(x = 32'd3)(y = k.in); sk; }", 8, 6),
+    ("seq { invoke q(x = 32'd3)(y = k.in); sk; }", 18, 12),
+    (
+        "seq { invoke q(x = 32'd3)(y = k.in, odd = b.in); if b.out { sk; } }",
+        19,
+        12,
+    ),
+    (
+        "seq { invoke e(x = 32'd3)(); invoke e(x = 32'd4)(); repeat 3 { invoke e(x = 32'd10)(); } se; }",
+        17,
+        37,
+    ),
+    ("seq { k7; g; sc; }", 9, 14),
+    ("seq { two; sk; }", 8, 10),
+    ("seq { k7; mix; sk; }", 10, 21),
+    (
+        "seq { par { invoke c(x = 32'd3)(); invoke d(x = 32'd4)(y = k.in); } sc; }",
+        8,
+        6,
+    ),
+    (
+        "seq { k7; repeat 4 { invoke c(x = k.out)(y = k.in); } sk; }",
+        28,
+        112,
+    ),
+    ("seq { invoke k(in = 32'd9)(); sk; }", 4, 9),
+    ("seq { k7; invoke k(in = 32'd9)(out = l.in); sk; }", 7, 9),
+];
+
+/// A fault of a child is the fault of the call, behind the name of its cell; a budget of 9 may end inside a child.
+const STOPS: [(&str, Status, &str); 5] = [
+    ("invoke c()();", Status::Fault, "fault undefined c.r.in 0\n"),
+    ("invoke q()();", Status::Fault, "fault undefined q.b.in 0\n"),
+    (
+        "invoke f(x = 32'd1)(y = k.in);",
+        Status::Fault,
+        "fault undefined k.in 2\n",
+    ),
+    ("clash;", Status::Fault, "fault conflict k.in 4\n"),
+    ("invoke q(x = 32'd3)();", Status::More, "more 9\n"),
+];
+
 #[test]
 fn turns(rt: HostRuntime) -> Result<(), Fail> {
-    let alloc = rt.alloc();
-    let cases = [
-        ("seq { invoke n()(); invoke n()(); }", 4, 5),
-        (
-            "seq { invoke c(x = 32'd3)(); invoke c(x = 32'd5)(); sc; }",
-            12,
-            10,
-        ),
-        ("seq { invoke c(x = 32'd3)(y = k.in); sk; }", 8, 6),
-        ("seq { invoke q(x = 32'd3)(y = k.in); sk; }", 18, 12),
-        (
-            "seq { invoke q(x = 32'd3)(y = k.in, odd = b.in); if b.out { sk; } }",
-            19,
-            12,
-        ),
-        (
-            "seq { invoke e(x = 32'd3)(); invoke e(x = 32'd4)(); repeat 3 { invoke e(x = 32'd10)(); } se; }",
-            17,
-            37,
-        ),
-        ("seq { k7; g; sc; }", 9, 14),
-        ("seq { two; sk; }", 8, 10),
-        ("seq { k7; mix; sk; }", 10, 21),
-        (
-            "seq { par { invoke c(x = 32'd3)(); invoke d(x = 32'd4)(y = k.in); } sc; }",
-            8,
-            6,
-        ),
-        (
-            "seq { k7; repeat 4 { invoke c(x = k.out)(y = k.in); } sk; }",
-            28,
-            112,
-        ),
-        ("seq { invoke k(in = 32'd9)(); sk; }", 4, 9),
-        ("seq { k7; invoke k(in = 32'd9)(out = l.in); sk; }", 7, 9),
-    ];
-    for (control, turns, word) in cases {
-        let parts = (CELLS, WIRES, control, CHILDREN);
-        let out = dump(alloc, turns, word)?;
-        let told = interp(alloc, parts, FIVE, turns)?;
-        assert!(rt; told.is(Status::Done, &out, ""), "{control}: {told:?}");
-        let less = turns.saturating_sub(1);
-        let err = more(alloc, less)?;
-        let told = interp(alloc, parts, FIVE, less)?;
-        assert!(rt; told.is(Status::More, "", &err), "{control}: {told:?}");
-    }
-    Ok(())
+    ends(&rt, rt.alloc(), (CELLS, WIRES, CHILDREN), &TURNS)
 }
 
-/// A fault of a child is the fault of the call, behind the name of its cell; a budget may end inside a child.
 #[test]
-fn stops(rt: HostRuntime) -> Result<(), Fail> {
-    let alloc = rt.alloc();
-    let cases = [
-        ("invoke c()();", Status::Fault, "fault undefined c.r.in 0\n"),
-        ("invoke q()();", Status::Fault, "fault undefined q.b.in 0\n"),
-        (
-            "invoke f(x = 32'd1)(y = k.in);",
-            Status::Fault,
-            "fault undefined k.in 2\n",
-        ),
-        ("clash;", Status::Fault, "fault conflict k.in 4\n"),
-        ("invoke q(x = 32'd3)();", Status::More, "more 9\n"),
-    ];
-    for (control, status, err) in cases {
-        let told = interp(alloc, (CELLS, WIRES, control, CHILDREN), FIVE, 9)?;
-        assert!(rt; told.is(status, "", err), "{control}: {told:?}");
-    }
-    Ok(())
+fn early(rt: HostRuntime) -> Result<(), Fail> {
+    stops(&rt, rt.alloc(), (CELLS, WIRES, CHILDREN), 9, &STOPS)
 }

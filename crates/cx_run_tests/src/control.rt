@@ -3,7 +3,7 @@
 //! A group that is done in the cycle behind its only active one takes two turns, a statement without parts one, and each test of a
 //! condition one.
 
-use crate::runs::{FIVE, dump, interp, more};
+use crate::runs::{ends, stops};
 use cx_driver::Status;
 use std::test::Fail;
 
@@ -20,65 +20,53 @@ const WIRES: &str =
     comb group c3 { lt.left = r.out; lt.right = 32'd3; }
     comb group c7 { lt.left = r.out; lt.right = 32'd7; }";
 
-/// Each control ends after so many turns with this word, and not with one turn less.
+/// Each control, its turns, and the word that it leaves.
+const TURNS: [(&str, u64, u64); 19] = [
+    ("", 1, 5),
+    ("seq { }", 1, 5),
+    ("seq { seq { } seq { seq { } } }", 2, 5),
+    ("inc; inc; st;", 6, 2),
+    ("seq { seq { inc; seq { inc; } } seq { st; } }", 6, 2),
+    ("seq { inc; now; st; }", 5, 1),
+    ("seq { sb; if b.out { inc; } else { z; } st; }", 7, 1),
+    ("seq { if b.out { inc; } else { inc; inc; } st; }", 7, 2),
+    ("seq { if b.out { inc; } st; }", 4, 0),
+    ("seq { if lt.out with c3 { inc; } st; }", 5, 1),
+    ("seq { inc; if r.done { inc; } st; }", 6, 1),
+    ("seq { while b.out { inc; } st; }", 3, 0),
+    ("seq { while lt.out with c3 { inc; } st; }", 12, 3),
+    (
+        "seq { while lt.out with c7 { while lt.out with c3 { inc; } inc; } st; }",
+        28,
+        7,
+    ),
+    ("seq { repeat 0 { while b.out { } z; } st; }", 3, 0),
+    ("seq { repeat 0 { inc; } repeat 3 { inc; } st; }", 9, 3),
+    ("seq { repeat 5 { } st; }", 7, 0),
+    ("seq { repeat 3 { repeat 2 { inc; } inc; } st; }", 20, 9),
+    (
+        "seq { repeat 2 { z; while lt.out with c3 { repeat 2 { inc; } } } st; }",
+        28,
+        4,
+    ),
+];
+
+/// Of what never ends any budget is too small.
+const ENDLESS: [(&str, Status, &str); 2] = [
+    ("seq { sb; while b.out { } st; }", Status::More, "more 50\n"),
+    (
+        "seq { sb; repeat 4294967295 { repeat 4294967295 { } } }",
+        Status::More,
+        "more 50\n",
+    ),
+];
+
 #[test]
 fn turns(rt: HostRuntime) -> Result<(), Fail> {
-    let alloc = rt.alloc();
-    let cases = [
-        ("", 1, 5),
-        ("seq { }", 1, 5),
-        ("seq { seq { } seq { seq { } } }", 2, 5),
-        ("inc; inc; st;", 6, 2),
-        ("seq { seq { inc; seq { inc; } } seq { st; } }", 6, 2),
-        ("seq { inc; now; st; }", 5, 1),
-        ("seq { sb; if b.out { inc; } else { z; } st; }", 7, 1),
-        ("seq { if b.out { inc; } else { inc; inc; } st; }", 7, 2),
-        ("seq { if b.out { inc; } st; }", 4, 0),
-        ("seq { if lt.out with c3 { inc; } st; }", 5, 1),
-        ("seq { inc; if r.done { inc; } st; }", 6, 1),
-        ("seq { while b.out { inc; } st; }", 3, 0),
-        ("seq { while lt.out with c3 { inc; } st; }", 12, 3),
-        (
-            "seq { while lt.out with c7 { while lt.out with c3 { inc; } inc; } st; }",
-            28,
-            7,
-        ),
-        ("seq { repeat 0 { while b.out { } z; } st; }", 3, 0),
-        ("seq { repeat 0 { inc; } repeat 3 { inc; } st; }", 9, 3),
-        ("seq { repeat 5 { } st; }", 7, 0),
-        ("seq { repeat 3 { repeat 2 { inc; } inc; } st; }", 20, 9),
-        (
-            "seq { repeat 2 { z; while lt.out with c3 { repeat 2 { inc; } } } st; }",
-            28,
-            4,
-        ),
-    ];
-    for (control, turns, word) in cases {
-        let parts = (CELLS, WIRES, control, "");
-        let out = dump(alloc, turns, word)?;
-        let told = interp(alloc, parts, FIVE, turns)?;
-        assert!(rt; told.is(Status::Done, &out, ""), "{control}: {told:?}");
-        let less = turns.saturating_sub(1);
-        let err = more(alloc, less)?;
-        let told = interp(alloc, parts, FIVE, less)?;
-        assert!(rt; told.is(Status::More, "", &err), "{control}: {told:?}");
-    }
-    Ok(())
+    ends(&rt, rt.alloc(), (CELLS, WIRES, ""), &TURNS)
 }
 
-/// What never ends needs more turns than any budget.
 #[test]
 fn endless(rt: HostRuntime) -> Result<(), Fail> {
-    let alloc = rt.alloc();
-    for control in [
-        "seq { sb; while b.out { } st; }",
-        "seq { sb; repeat 4294967295 { repeat 4294967295 { } } }",
-    ] {
-        let told = interp(alloc, (CELLS, WIRES, control, ""), FIVE, 50)?;
-        assert!(rt;
-            told.is(Status::More, "", "more 50\n"),
-            "{control}: {told:?}"
-        );
-    }
-    Ok(())
+    stops(&rt, rt.alloc(), (CELLS, WIRES, ""), 50, &ENDLESS)
 }

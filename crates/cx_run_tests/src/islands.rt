@@ -1,6 +1,6 @@
 //! Static control: an island of n cycles takes n turns and an idle one, and does in each cycle what its schedule says.
 
-use crate::runs::{FIVE, dump, interp, more};
+use crate::runs::{ends, stops};
 use cx_driver::Status;
 use std::test::Fail;
 
@@ -22,97 +22,83 @@ const WIRES: &str = "static<2> group s { r.in = %0 ? 32'd4; r.in = %1 ? 32'd9; r
     group z { b.in = 1'd1; b.write_en = 1'd1; z[done] = b.done; }
     v.in = b.out;";
 
-/// Each control ends after so many turns with this word, and not with one turn less.
+/// Each control, its turns, and the word that it leaves.
+const TURNS: [(&str, u64, u64); 19] = [
+    ("seq { s; st; }", 5, 9),
+    ("seq { i; i; st; }", 6, 2),
+    ("seq { static seq { i; w; i; } st; }", 8, 2),
+    (
+        "seq { static par { static seq { i; i; i; } j; } st; }",
+        6,
+        3,
+    ),
+    ("seq { static repeat 3 { i; w; } st; }", 15, 3),
+    (
+        "seq { static repeat 3 { static repeat 4 { i; } } st; }",
+        15,
+        12,
+    ),
+    (
+        "seq { static repeat 2 { static par { static repeat 3 { i; } static seq { j; w; j; } } } st; }",
+        13,
+        6,
+    ),
+    ("seq { static if b.out { i; } st; }", 4, 0),
+    ("seq { z; static if b.out { i; } st; }", 6, 1),
+    (
+        "seq { z; static if b.out { i; } else { i; w; i; } i; st; }",
+        12,
+        2,
+    ),
+    (
+        "seq { static if b.out { f; f; i; } else { f; i; i; } st; }",
+        6,
+        2,
+    ),
+    (
+        "seq { static repeat 5 { static if b.out { f; } else { f; i; } } st; }",
+        13,
+        3,
+    ),
+    (
+        "seq { z; static if b.out { static if v.out { f; static if b.out { i; } else { i; i; } } else { w; } } st; }",
+        8,
+        2,
+    ),
+    ("seq { i; i; mu; st; }", 11, 14),
+    ("seq { static seq { i; mu; mu; } st; }", 12, 49),
+    (
+        "seq { par { static repeat 4 { i; } seq { z; z; } } st; }",
+        7,
+        4,
+    ),
+    ("seq { z; while b.out { static seq { i; f; } } st; }", 9, 1),
+    ("seq { repeat 4 { static seq { i; i; } } st; }", 14, 8),
+    (
+        "seq { static<8> seq { static<4> repeat 2 { static<2> seq { i; i; } } static<3> par { w; } static<1> if b.out { i; } } st; }",
+        11,
+        4,
+    ),
+];
+
+/// A budget of 60 that ends inside an island, or before its idle turn, does not suffice; a fault is told in its cycle.
+const STOPS: [(&str, Status, &str); 4] = [
+    ("static repeat 100 { i; }", Status::More, "more 60\n"),
+    ("static repeat 60 { i; }", Status::More, "more 60\n"),
+    (
+        "static seq { i; w; late; }",
+        Status::Fault,
+        "fault undefined r.in 5\n",
+    ),
+    ("both;", Status::Fault, "fault conflict r.in 1\n"),
+];
+
 #[test]
 fn turns(rt: HostRuntime) -> Result<(), Fail> {
-    let alloc = rt.alloc();
-    let cases = [
-        ("seq { s; st; }", 5, 9),
-        ("seq { i; i; st; }", 6, 2),
-        ("seq { static seq { i; w; i; } st; }", 8, 2),
-        (
-            "seq { static par { static seq { i; i; i; } j; } st; }",
-            6,
-            3,
-        ),
-        ("seq { static repeat 3 { i; w; } st; }", 15, 3),
-        (
-            "seq { static repeat 3 { static repeat 4 { i; } } st; }",
-            15,
-            12,
-        ),
-        (
-            "seq { static repeat 2 { static par { static repeat 3 { i; } static seq { j; w; j; } } } st; }",
-            13,
-            6,
-        ),
-        ("seq { static if b.out { i; } st; }", 4, 0),
-        ("seq { z; static if b.out { i; } st; }", 6, 1),
-        (
-            "seq { z; static if b.out { i; } else { i; w; i; } i; st; }",
-            12,
-            2,
-        ),
-        (
-            "seq { static if b.out { f; f; i; } else { f; i; i; } st; }",
-            6,
-            2,
-        ),
-        (
-            "seq { static repeat 5 { static if b.out { f; } else { f; i; } } st; }",
-            13,
-            3,
-        ),
-        (
-            "seq { z; static if b.out { static if v.out { f; static if b.out { i; } else { i; i; } } else { w; } } st; }",
-            8,
-            2,
-        ),
-        ("seq { i; i; mu; st; }", 11, 14),
-        ("seq { static seq { i; mu; mu; } st; }", 12, 49),
-        (
-            "seq { par { static repeat 4 { i; } seq { z; z; } } st; }",
-            7,
-            4,
-        ),
-        ("seq { z; while b.out { static seq { i; f; } } st; }", 9, 1),
-        ("seq { repeat 4 { static seq { i; i; } } st; }", 14, 8),
-        (
-            "seq { static<8> seq { static<4> repeat 2 { static<2> seq { i; i; } } static<3> par { w; } static<1> if b.out { i; } } st; }",
-            11,
-            4,
-        ),
-    ];
-    for (control, turns, word) in cases {
-        let parts = (CELLS, WIRES, control, "");
-        let out = dump(alloc, turns, word)?;
-        let told = interp(alloc, parts, FIVE, turns)?;
-        assert!(rt; told.is(Status::Done, &out, ""), "{control}: {told:?}");
-        let less = turns.saturating_sub(1);
-        let err = more(alloc, less)?;
-        let told = interp(alloc, parts, FIVE, less)?;
-        assert!(rt; told.is(Status::More, "", &err), "{control}: {told:?}");
-    }
-    Ok(())
+    ends(&rt, rt.alloc(), (CELLS, WIRES, ""), &TURNS)
 }
 
-/// A budget that ends inside an island, or before its idle turn, does not suffice; a fault is told in its cycle.
 #[test]
-fn stops(rt: HostRuntime) -> Result<(), Fail> {
-    let alloc = rt.alloc();
-    let cases = [
-        ("static repeat 100 { i; }", Status::More, "more 60\n"),
-        ("static repeat 60 { i; }", Status::More, "more 60\n"),
-        (
-            "static seq { i; w; late; }",
-            Status::Fault,
-            "fault undefined r.in 5\n",
-        ),
-        ("both;", Status::Fault, "fault conflict r.in 1\n"),
-    ];
-    for (control, status, err) in cases {
-        let told = interp(alloc, (CELLS, WIRES, control, ""), FIVE, 60)?;
-        assert!(rt; told.is(status, "", err), "{control}: {told:?}");
-    }
-    Ok(())
+fn early(rt: HostRuntime) -> Result<(), Fail> {
+    stops(&rt, rt.alloc(), (CELLS, WIRES, ""), 60, &STOPS)
 }

@@ -1,4 +1,4 @@
-//! Worked runs of designs and of Verilog texts, as the program tells them.
+//! Worked values for all above the primitives: most of them as calls of the whole program.
 #![tactic(auto)]
 
 #[cfg(test)]
@@ -6,18 +6,30 @@ mod calls;
 #[cfg(test)]
 mod cells;
 #[cfg(test)]
+mod commands;
+#[cfg(test)]
 mod control;
 #[cfg(test)]
-mod files;
+mod data;
 #[cfg(test)]
 mod islands;
+#[cfg(test)]
+mod outside;
 #[cfg(test)]
 mod parallel;
 #[cfg(test)]
 mod products;
 #[cfg(test)]
+mod rules;
+#[cfg(test)]
 mod runs;
+#[cfg(test)]
+mod simulation;
 #[cfg(test)]
 mod stops;
 #[cfg(test)]
-mod verilog;
+mod texts;
+#[cfg(test)]
+mod trees;
+#[cfg(test)]
+mod verilog_reading;

@@ -1,6 +1,6 @@
 //! Arms that run beside each other: a `par` takes as many turns as its longest arm, each as if it ran alone.
 
-use crate::runs::{FIVE, dump, interp, more};
+use crate::runs::{ends, stops};
 use cx_driver::Status;
 use std::test::Fail;
 
@@ -23,78 +23,78 @@ const WIRES: &str = "group p { x.in = 32'd1; x.write_en = 1'd1; p[done] = x.done
     group gz { z.write_en = 1'd1; gz[done] = z.done; }
     comb group cx { lx.left = x.out; lx.right = 32'd6; }";
 
-/// Each control ends after so many turns with this word, and not with one turn less.
+/// Each control, its turns, and the word that it leaves.
+const TURNS: [(&str, u64, u64); 11] = [
+    ("par { }", 1, 5),
+    ("par { seq { } par { } seq { } }", 1, 5),
+    ("seq { par { p; s; } sum; }", 4, 4),
+    ("seq { par { seq { p; q; } s; } sum; }", 6, 5),
+    ("seq { par { p; seq { s; u; s; } } sum; }", 8, 4),
+    (
+        "seq { par { seq { par { p; s; } s; } repeat 5 { t; } } sum; }",
+        12,
+        4,
+    ),
+    ("seq { repeat 3 { par { ix; s; } } sum; }", 8, 6),
+    (
+        "seq { while lx.out with cx { par { ix; seq { s; u; } } } sum; }",
+        33,
+        11,
+    ),
+    (
+        "seq { par { while lx.out with cx { ix; } repeat 2 { s; } } sum; }",
+        21,
+        9,
+    ),
+    (
+        "seq { fx; par { if bx.out { p; q; } else { p; } if by.out { s; } else { u; s; } } sum; }",
+        9,
+        5,
+    ),
+    ("seq { par { repeat 0 { p; } s; } sum; }", 4, 3),
+];
+
+/// The fault of the least turn is told, and of two in one turn that of the first arm; also where another arm never ends. Where no
+/// arm ends the budget of 77 is too small.
+const FAULTS: [(&str, Status, &str); 6] = [
+    (
+        "par { gx; repeat 9 { s; } }",
+        Status::Fault,
+        "fault undefined x.in 0\n",
+    ),
+    (
+        "par { seq { p; gx; } gy; }",
+        Status::Fault,
+        "fault undefined y.in 0\n",
+    ),
+    (
+        "par { seq { s; gy; } seq { p; gx; } }",
+        Status::Fault,
+        "fault undefined y.in 2\n",
+    ),
+    (
+        "par { seq { fx; while bx.out { } } seq { t; gz; } }",
+        Status::Fault,
+        "fault undefined z.in 2\n",
+    ),
+    (
+        "par { seq { p; par { gx; s; } } t; }",
+        Status::Fault,
+        "fault undefined x.in 2\n",
+    ),
+    (
+        "par { while by.out { } seq { fx; while bx.out { } } }",
+        Status::More,
+        "more 77\n",
+    ),
+];
+
 #[test]
 fn turns(rt: HostRuntime) -> Result<(), Fail> {
-    let alloc = rt.alloc();
-    let cases = [
-        ("par { }", 1, 5),
-        ("par { seq { } par { } seq { } }", 1, 5),
-        ("seq { par { p; s; } sum; }", 4, 4),
-        ("seq { par { seq { p; q; } s; } sum; }", 6, 5),
-        ("seq { par { p; seq { s; u; s; } } sum; }", 8, 4),
-        (
-            "seq { par { seq { par { p; s; } s; } repeat 5 { t; } } sum; }",
-            12,
-            4,
-        ),
-        ("seq { repeat 3 { par { ix; s; } } sum; }", 8, 6),
-        (
-            "seq { while lx.out with cx { par { ix; seq { s; u; } } } sum; }",
-            33,
-            11,
-        ),
-        (
-            "seq { par { while lx.out with cx { ix; } repeat 2 { s; } } sum; }",
-            21,
-            9,
-        ),
-        (
-            "seq { fx; par { if bx.out { p; q; } else { p; } if by.out { s; } else { u; s; } } sum; }",
-            9,
-            5,
-        ),
-        ("seq { par { repeat 0 { p; } s; } sum; }", 4, 3),
-    ];
-    for (control, turns, word) in cases {
-        let parts = (CELLS, WIRES, control, "");
-        let out = dump(alloc, turns, word)?;
-        let told = interp(alloc, parts, FIVE, turns)?;
-        assert!(rt; told.is(Status::Done, &out, ""), "{control}: {told:?}");
-        let less = turns.saturating_sub(1);
-        let err = more(alloc, less)?;
-        let told = interp(alloc, parts, FIVE, less)?;
-        assert!(rt; told.is(Status::More, "", &err), "{control}: {told:?}");
-    }
-    Ok(())
+    ends(&rt, rt.alloc(), (CELLS, WIRES, ""), &TURNS)
 }
 
-/// The fault of the least turn is told, and of two in one turn that of the first arm; also where another arm never ends.
 #[test]
 fn faults(rt: HostRuntime) -> Result<(), Fail> {
-    let alloc = rt.alloc();
-    let cases = [
-        ("par { gx; repeat 9 { s; } }", "fault undefined x.in 0\n"),
-        ("par { seq { p; gx; } gy; }", "fault undefined y.in 0\n"),
-        (
-            "par { seq { s; gy; } seq { p; gx; } }",
-            "fault undefined y.in 2\n",
-        ),
-        (
-            "par { seq { fx; while bx.out { } } seq { t; gz; } }",
-            "fault undefined z.in 2\n",
-        ),
-        (
-            "par { seq { p; par { gx; s; } } t; }",
-            "fault undefined x.in 2\n",
-        ),
-    ];
-    for (control, err) in cases {
-        let told = interp(alloc, (CELLS, WIRES, control, ""), FIVE, 77)?;
-        assert!(rt; told.is(Status::Fault, "", err), "{control}: {told:?}");
-    }
-    let endless = "par { while by.out { } seq { fx; while bx.out { } } }";
-    let told = interp(alloc, (CELLS, WIRES, endless, ""), FIVE, 77)?;
-    assert!(rt; told.is(Status::More, "", "more 77\n"), "{told:?}");
-    Ok(())
+    stops(&rt, rt.alloc(), (CELLS, WIRES, ""), 77, &FAULTS)
 }

@@ -1,6 +1,6 @@
 //! A row of a matrix product: nested loops over a multiplier.
 
-use crate::runs::{interp, more};
+use crate::runs::{interprets, wants_more};
 use cx_driver::Status;
 use std::test::Fail;
 
@@ -41,10 +41,6 @@ fn row_of_a_product(rt: HostRuntime) -> Result<(), Fail> {
         "{{\"cycles\":707,\"memories\":{{\"A\":{row},\"B\":{matrix},\"C\":{row}}}}}\n"
     )?;
     let parts = (CELLS, WIRES, CONTROL, "");
-    let told = interp(alloc, parts, &data, 707)?;
-    assert!(rt; told.is(Status::Done, &out, ""), "{told:?}");
-    let err = more(alloc, 706)?;
-    let told = interp(alloc, parts, &data, 706)?;
-    assert!(rt; told.is(Status::More, "", &err), "{told:?}");
-    Ok(())
+    interprets(&rt, alloc, parts, (&data, 707), (Status::Done, &out, ""))?;
+    wants_more(&rt, alloc, parts, (&data, 706))
 }

@@ -1,56 +1,66 @@
-//! What the program tells of a text and a data file in memory.
+//! Calls of the program over files in memory, with what each is to come to.
 
 use cx_driver::{Status, run};
 use cx_outside::{MemFiles, MemSink, Word};
+use cx_text::Memory;
 use std::alloc::Global;
+use std::process::Abort;
 use std::test::Fail;
 
 /// The data of the memory `mem` of one word of 32 bits, which is 5.
 pub(crate) const FIVE: &str =
     "{\"mem\":{\"data\":[5],\"format\":{\"numeric_type\":\"bitnum\",\"is_signed\":false,\"width\":32}}}";
 
-/// What a call of the program came to: its status, and what it wrote to standard output and to standard error.
-#[derive(Debug, Drop)]
-pub(crate) struct Told {
-    status: Status,
-    out: String,
-    err: String,
-}
-
-impl Told {
-    /// Whether the call ended with this status, and wrote just these texts.
-    pub(crate) fn is(&self, status: Status, out: &str, err: &str) -> bool {
-        self.status == status && self.out.as_str() == out && self.err.as_str() == err
-    }
-}
-
-/// Runs a command on a text and a data file, with a budget.
-pub(crate) fn call(
-    alloc: Global,
-    command: &str,
-    text: &str,
-    data: &str,
-    budget: u64,
-) -> Result<Told, Fail> {
-    let budget = format!(in alloc; "{budget}")?;
+/// The words of a line.
+fn words_of(alloc: Global, line: &str) -> Result<Vec<Word>, Memory> {
     let mut words = Vec::new(alloc);
-    for word in [command, "text", "data", budget.as_str()] {
+    for word in line.split(' ') {
         words.push(Word::from_bytes(alloc, word.as_bytes())?)?;
     }
+    Ok(words)
+}
+
+/// Files of these names and bytes.
+fn files_of(alloc: Global, files: &[(&str, &[u8])]) -> Result<MemFiles, Memory> {
     let mut entries = Vec::new(alloc);
-    for (name, held) in [("text", text), ("data", data)] {
-        entries.push((
-            Word::from_bytes(alloc, name.as_bytes())?,
-            Word::from_bytes(alloc, held.as_bytes())?,
-        ))?;
+    for (name, bytes) in files.iter() {
+        let name = Word::from_bytes(alloc, name.as_bytes())?;
+        entries.push((name, Word::from_bytes(alloc, bytes)?))?;
     }
-    let mut files = MemFiles::new(entries, Vec::new(alloc));
-    let mut out = MemSink::new(64, Vec::new(alloc), vec![in alloc; 0; 512]?);
-    let mut err = MemSink::new(64, Vec::new(alloc), vec![in alloc; 0; 64]?);
+    Ok(MemFiles::new(entries, Vec::new(alloc)))
+}
+
+/// Runs the words of a line over files, and compares the status and all that was written to standard output and to standard error. A
+/// write to standard output takes 8 bytes; of each output the one of its number in `fails` fails, from 1.
+pub(crate) fn tells(
+    rt: &impl Abort,
+    alloc: Global,
+    (line, fails): (&str, (u64, u64)),
+    files: &[(&str, &[u8])],
+    want: (Status, &str, &str),
+) -> Result<(), Fail> {
+    let words = words_of(alloc, line)?;
+    let mut files = files_of(alloc, files)?;
+    let mut out = MemSink::new(8, vec![in alloc; fails.0]?, vec![in alloc; 0; 512]?);
+    let mut err = MemSink::new(64, vec![in alloc; fails.1]?, vec![in alloc; 0; 64]?);
     let status = run(alloc, &words, &mut files, &mut out, &mut err);
-    let out = String::from_utf8(Vec::from_slice(alloc, out.bytes())?)?;
-    let err = String::from_utf8(Vec::from_slice(alloc, err.bytes())?)?;
-    Ok(Told { status, out, err })
+    assert_eq!(rt; status, want.0, "{line} {want:?}");
+    assert_eq!(rt; out.bytes(), want.1.as_bytes(), "{line} {want:?}");
+    assert_eq!(rt; err.bytes(), want.2.as_bytes(), "{line} {want:?}");
+    Ok(())
+}
+
+/// A command on a text and a data file, with a budget.
+pub(crate) fn calls(
+    rt: &impl Abort,
+    alloc: Global,
+    (command, budget): (&str, u64),
+    (text, data): (&str, &[u8]),
+    want: (Status, &str, &str),
+) -> Result<(), Fail> {
+    let line = format!(in alloc; "{command} text data {budget}")?;
+    let files = [("text", text.as_bytes()), ("data", data)];
+    tells(rt, alloc, (&line, (0, 0)), &files, want)
 }
 
 /// The text of a design in eight lines: its cells are the third, its wires the fifth, and its control the seventh. Further
@@ -62,23 +72,73 @@ pub(crate) fn design(alloc: Global, parts: (&str, &str, &str, &str)) -> Result<S
     )?)
 }
 
-/// Interprets a design with a data file.
-pub(crate) fn interp(
+/// Interprets a design with a data file and a budget.
+pub(crate) fn interprets(
+    rt: &impl Abort,
+    alloc: Global,
+    parts: (&str, &str, &str, &str),
+    (data, budget): (&str, u64),
+    want: (Status, &str, &str),
+) -> Result<(), Fail> {
+    let text = design(alloc, parts)?;
+    calls(
+        rt,
+        alloc,
+        ("interp", budget),
+        (&text, data.as_bytes()),
+        want,
+    )
+}
+
+/// Interprets a design with a budget that does not suffice.
+pub(crate) fn wants_more(
+    rt: &impl Abort,
+    alloc: Global,
+    parts: (&str, &str, &str, &str),
+    (data, budget): (&str, u64),
+) -> Result<(), Fail> {
+    let err = format!(in alloc; "more {budget}\n")?;
+    interprets(rt, alloc, parts, (data, budget), (Status::More, "", &err))
+}
+
+/// Interprets a design that ends after so many turns with this word in `mem`.
+pub(crate) fn stores(
+    rt: &impl Abort,
     alloc: Global,
     parts: (&str, &str, &str, &str),
     data: &str,
+    (turns, word): (u64, u64),
+) -> Result<(), Fail> {
+    let out = format!(in alloc; "{{\"cycles\":{turns},\"memories\":{{\"mem\":[{word}]}}}}\n")?;
+    interprets(rt, alloc, parts, (data, turns), (Status::Done, &out, ""))
+}
+
+/// Each control ends after so many turns with this word in `mem`, which was 5, and not with one turn less.
+pub(crate) fn ends(
+    rt: &impl Abort,
+    alloc: Global,
+    (cells, wires, behind): (&str, &str, &str),
+    rows: &[(&str, u64, u64)],
+) -> Result<(), Fail> {
+    for (control, turns, word) in rows.iter() {
+        let parts = (cells, wires, *control, behind);
+        stores(rt, alloc, parts, FIVE, (*turns, *word))?;
+        wants_more(rt, alloc, parts, (FIVE, turns.saturating_sub(1)))?;
+    }
+    Ok(())
+}
+
+/// Each control comes to this status and line within a budget.
+pub(crate) fn stops(
+    rt: &impl Abort,
+    alloc: Global,
+    (cells, wires, behind): (&str, &str, &str),
     budget: u64,
-) -> Result<Told, Fail> {
-    let text = design(alloc, parts)?;
-    call(alloc, "interp", &text, data, budget)
-}
-
-/// The dump of a run that ends after so many turns with this word in `mem`.
-pub(crate) fn dump(alloc: Global, turns: u64, word: u64) -> Result<String, Fail> {
-    Ok(format!(in alloc; "{{\"cycles\":{turns},\"memories\":{{\"mem\":[{word}]}}}}\n")?)
-}
-
-/// The line that says that a budget does not suffice.
-pub(crate) fn more(alloc: Global, budget: u64) -> Result<String, Fail> {
-    Ok(format!(in alloc; "more {budget}\n")?)
+    rows: &[(&str, Status, &str)],
+) -> Result<(), Fail> {
+    for (control, status, err) in rows.iter() {
+        let parts = (cells, wires, *control, behind);
+        interprets(rt, alloc, parts, (FIVE, budget), (*status, "", *err))?;
+    }
+    Ok(())
 }

@@ -1,6 +1,6 @@
 //! Runs that stop with a fault: its kind, its port and its turn, to the letter.
 
-use crate::runs::{FIVE, dump, interp, more};
+use crate::runs::{FIVE, interprets, stores, wants_more};
 use cx_driver::Status;
 use std::test::Fail;
 
@@ -25,68 +25,70 @@ const DATA: &str =
     \"ten\":{\"data\":[0,0,0,0,0,0,0,0,0,0],\"format\":{\"numeric_type\":\"bitnum\",\"is_signed\":false,\"width\":32}}}";
 
 /// Each control stops in this turn, and needs more turns where the budget ends before it.
+const FAULTS: [(&str, u64, &str); 13] = [
+    ("two;", 0, "fault conflict r.in 0\n"),
+    ("none;", 0, "fault undefined r.in 0\n"),
+    ("seq { one; none; }", 2, "fault undefined r.in 2\n"),
+    ("enable;", 0, "fault conflict r.write_en 0\n"),
+    ("hole;", 0, "fault conflict hole[done] 0\n"),
+    ("guarded;", 0, "fault undefined r.in 0\n"),
+    ("seq { one; one; far; }", 4, "fault range ten.addr0 4\n"),
+    ("read;", 0, "fault undefined r.in 0\n"),
+    ("seq { left; right; }", 0, "fault undefined r.in 0\n"),
+    ("if lt.out { }", 0, "fault undefined lt.out 0\n"),
+    (
+        "seq { one; while lt.out { } }",
+        2,
+        "fault undefined lt.out 2\n",
+    ),
+    (
+        "seq { repeat 3 { one; } none; }",
+        6,
+        "fault undefined r.in 6\n",
+    ),
+    (
+        "if b.out { two; } else { seq { } two; }",
+        2,
+        "fault conflict r.in 2\n",
+    ),
+];
+
+/// Two drivers of one value are no conflict, nor is what a guard does not let through: the drivers of `r`, and its value.
+const NO_FAULTS: [(&str, u64); 4] = [
+    ("r.in = 32'd2; r.in = 32'd2;", 2),
+    ("r.in = b.out ? 32'd1; r.in = !b.out ? 32'd2;", 2),
+    ("r.in = lt.out & b.out ? 32'd1; r.in = 32'd2;", 2),
+    ("r.in = 1'd1 | lt.out ? 32'd7;", 7),
+];
+
 #[test]
 fn faults(rt: HostRuntime) -> Result<(), Fail> {
-    let alloc = rt.alloc();
-    let cases = [
-        ("two;", 0, "fault conflict r.in 0\n"),
-        ("none;", 0, "fault undefined r.in 0\n"),
-        ("seq { one; none; }", 2, "fault undefined r.in 2\n"),
-        ("enable;", 0, "fault conflict r.write_en 0\n"),
-        ("hole;", 0, "fault conflict hole[done] 0\n"),
-        ("guarded;", 0, "fault undefined r.in 0\n"),
-        ("seq { one; one; far; }", 4, "fault range ten.addr0 4\n"),
-        ("read;", 0, "fault undefined r.in 0\n"),
-        ("seq { left; right; }", 0, "fault undefined r.in 0\n"),
-        ("if lt.out { }", 0, "fault undefined lt.out 0\n"),
-        (
-            "seq { one; while lt.out { } }",
-            2,
-            "fault undefined lt.out 2\n",
-        ),
-        (
-            "seq { repeat 3 { one; } none; }",
-            6,
-            "fault undefined r.in 6\n",
-        ),
-        (
-            "if b.out { two; } else { seq { } two; }",
-            2,
-            "fault conflict r.in 2\n",
-        ),
-    ];
-    for (control, turn, err) in cases {
+    for (control, turn, err) in FAULTS {
         let parts = (CELLS, WIRES, control, "");
-        let told = interp(alloc, parts, DATA, 1000)?;
-        assert!(rt; told.is(Status::Fault, "", err), "{control}: {told:?}");
-        let line = more(alloc, turn)?;
-        let told = interp(alloc, parts, DATA, turn)?;
-        assert!(rt; told.is(Status::More, "", &line), "{control}: {told:?}");
+        interprets(
+            &rt,
+            rt.alloc(),
+            parts,
+            (DATA, 1000),
+            (Status::Fault, "", err),
+        )?;
+        wants_more(&rt, rt.alloc(), parts, (DATA, turn))?;
     }
     Ok(())
 }
 
-/// Two drivers of one value are no conflict, nor is what a guard does not let through.
 #[test]
 fn no_faults(rt: HostRuntime) -> Result<(), Fail> {
-    let alloc = rt.alloc();
     let cells =
         "@external mem = std_mem_d1(32, 1, 1); r = std_reg(32); b = std_reg(1); lt = std_lt(32);";
     let store =
         "group st { mem.addr0 = 1'd0; mem.write_data = r.out; mem.write_en = 1'd1; st[done] = mem.done; }";
-    let cases = [
-        ("r.in = 32'd2; r.in = 32'd2;", 2),
-        ("r.in = b.out ? 32'd1; r.in = !b.out ? 32'd2;", 2),
-        ("r.in = lt.out & b.out ? 32'd1; r.in = 32'd2;", 2),
-        ("r.in = 1'd1 | lt.out ? 32'd7;", 7),
-    ];
-    for (drivers, word) in cases {
-        let wires = format!(in alloc;
+    for (drivers, word) in NO_FAULTS {
+        let wires = format!(in rt.alloc();
             "{store} group g {{ {drivers} r.write_en = 1'd1; g[done] = r.done; }}"
         )?;
-        let out = dump(alloc, 4, word)?;
-        let told = interp(alloc, (cells, &wires, "seq { g; st; }", ""), FIVE, 4)?;
-        assert!(rt; told.is(Status::Done, &out, ""), "{drivers}: {told:?}");
+        let parts = (cells, wires.as_str(), "seq { g; st; }", "");
+        stores(&rt, rt.alloc(), parts, FIVE, (4, word))?;
     }
     Ok(())
 }

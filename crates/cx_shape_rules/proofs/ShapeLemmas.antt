@@ -14,10 +14,10 @@ use Rattle.cx_rules.specs.StaticControl.{is_static, is_in_static, may_stand, for
 use Rattle.cx_rules.specs.Spots.{AnAssign, AStatement, AGroup, Spot, Tells, OnAssign, OnStatement, OnGroup, AssignRule, StatementRule, GroupRule}
 use Rattle.cx_rules.specs.ShapeRules.{is_hole, is_hole_of, some_target, owner_length, is_bad_range, enabled_name, BreaksNoDone, BreaksAlwaysEnable, BreaksCombEnable, BreaksStaticGuard, GroupBreaksStaticShape, BreaksStaticControl, BreaksLength}
 use Rattle.cx_rules.specs.Accepted.{key_of}
-use Rattle.cx_first_break.specs.Breaks.{Broken, first_of}
-use Rattle.cx_first_break.specs.Answers.{AreBreaksBy}
-use Rattle.cx_first_break.proofs.Order.{not_before_itself}
-use Rattle.cx_first_break.proofs.Lists.{first_append, in_left, in_right, in_either, in_numbered, numbered_in}
+use Rattle.cx_design_parts.specs.Breaks.{Broken, first_of}
+use Rattle.cx_design_parts.specs.Answers.{AreBreaksBy}
+use Rattle.cx_design_parts.proofs.Order.{not_before_itself}
+use Rattle.cx_design_parts.proofs.Lists.{first_append, in_left, in_right, in_either, in_numbered, numbered_in}
 use Rattle.cx_shape_rules.specs.ShapeBreaks.{ShapeFamily, told_if, lacks_done, is_bad_length, is_bad_static, group_breaks, is_always_enable, is_owned_by_comb, is_comb_enable, some_bad, is_bad_guard, assign_break, assign_breaks, is_amiss, is_other, is_wrong, has_wrong_length, statement_breaks, group_breaks_at, assign_breaks_at, statement_breaks_at, groups_breaks, assigns_breaks, statements_breaks, component_breaks, components_breaks, shape_breaks}
 use Rattle.cx_shape_rules.proofs.PartLemmas.{group_there, there_below, below_there, part_within, both_true, and_true, either_true, or_true_left, or_true_right, from_not}
 

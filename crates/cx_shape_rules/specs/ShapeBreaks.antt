@@ -12,8 +12,8 @@ use Rattle.cx_rules.specs.Items.{Range, ranges_of, Visited, statements_in, is_pl
 use Rattle.cx_rules.specs.StaticControl.{is_static, is_in_static, may_stand, form_has_length, written_length}
 use Rattle.cx_rules.specs.Spots.{AnAssign, AStatement, AGroup, Spot, OnAssign, OnStatement, OnGroup}
 use Rattle.cx_rules.specs.ShapeRules.{is_hole, is_hole_of, some_target, owner_length, is_bad_range, enabled_name, BreaksNoDone, BreaksAlwaysEnable, BreaksCombEnable, BreaksStaticGuard, GroupBreaksStaticShape, BreaksStaticControl, BreaksLength}
-use Rattle.cx_first_break.specs.Breaks.{Broken}
-use Rattle.cx_first_break.specs.Numbered.{numbered}
+use Rattle.cx_design_parts.specs.Breaks.{Broken}
+use Rattle.cx_design_parts.specs.Numbered.{numbered}
 
 -- THE RULES that this list is of
 abbrev pub ShapeFamily : PlainDesign → Rule → Spot → Place → List ℕ → Type 0

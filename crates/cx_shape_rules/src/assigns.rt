@@ -4,9 +4,9 @@ ghost use Rattle.std.specs.Prelude.{◌≡◌, ◌<◌, IfOk, length, map};
 ghost use Rattle.cx_rules.specs.Ports.{component_of};
 ghost use Rattle.cx_rules.specs.ShapeRules as rules;
 ghost use Rattle.cx_design.specs.PlainDesigns.{plain_design};
-ghost use Rattle.cx_source_order.specs.Plain.{plain_owned};
-ghost use Rattle.cx_items.specs.Items.{plain_range};
-ghost use Rattle.cx_first_break.specs.Breaks.{first_of, plain_spot};
+ghost use Rattle.cx_design_parts.specs.Plain.{plain_owned};
+ghost use Rattle.cx_design_parts.specs.Items.{plain_range};
+ghost use Rattle.cx_design_parts.specs.Breaks.{first_of, plain_spot};
 ghost use Rattle.cx_shape_rules.specs.ShapeBreaks as breaks;
 ghost use Rattle.cx_shape_rules.specs.ShapeBreaks.{assign_breaks};
 
@@ -14,15 +14,14 @@ use crate::groups::is_hole;
 use crate::owners::{is_owned_by_comb, owner_length};
 use crate::telling::add_target;
 use cx_design::Design;
-use cx_first_break::{FirstBreak, Spot};
-use cx_items::{Range, ranges};
-use cx_ports::{component, is_part_port, is_primitive_enable};
-use cx_source_order::OwnedAssign;
+use cx_design_parts::{
+    FirstBreak, OwnedAssign, Range, Spot, component, is_part_port, is_primitive_enable, ranges,
+};
 use cx_text::{Memory, Rule};
 use std::alloc::Global;
 
 /// Looks at one assignment.
-#[tactic(auto, using(cx_first_break::proofs::Lists::first_append))]
+#[tactic(auto, using(cx_design_parts::proofs::Lists::first_append))]
 pub fn add_assign(
     alloc: Global,
     first: &mut FirstBreak,

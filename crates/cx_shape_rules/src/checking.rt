@@ -2,7 +2,7 @@
 
 ghost use Rattle.std.specs.Prelude.{◌≡◌, ◌<◌, IfOk, length};
 ghost use Rattle.cx_design.specs.PlainDesigns.{plain_design};
-ghost use Rattle.cx_first_break.specs.Breaks.{first_of};
+ghost use Rattle.cx_design_parts.specs.Breaks.{first_of};
 ghost use Rattle.cx_shape_rules.specs.ShapeBreaks.{assigns_breaks, groups_breaks, shape_breaks, statements_breaks};
 
 use crate::assigns::add_assign;
@@ -10,10 +10,7 @@ use crate::groups::add_group;
 use crate::measures::measures;
 use crate::statements::add_statement;
 use cx_design::Design;
-use cx_first_break::{FirstBreak, Part, Spot};
-use cx_items::statements;
-use cx_ports::component;
-use cx_source_order::source_order;
+use cx_design_parts::{FirstBreak, Part, Spot, component, source_order, statements};
 use cx_text::Memory;
 use std::alloc::Global;
 

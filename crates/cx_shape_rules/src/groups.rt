@@ -5,19 +5,19 @@ ghost use Rattle.cx_rules.specs.Items as items;
 ghost use Rattle.cx_rules.specs.ShapeRules as rules;
 ghost use Rattle.cx_rules.specs.ShapeRules.{some_target};
 ghost use Rattle.cx_design.specs.PlainForms.{plain_assigns, plain_group};
-ghost use Rattle.cx_first_break.specs.Breaks.{first_of, plain_spot};
+ghost use Rattle.cx_design_parts.specs.Breaks.{first_of, plain_spot};
 ghost use Rattle.cx_shape_rules.specs.ShapeBreaks as breaks;
 ghost use Rattle.cx_shape_rules.specs.ShapeBreaks.{group_breaks};
 
 use crate::owners::kind_length;
 use crate::telling::add_named;
 use cx_design::{Assign, Group, GroupKind, PortRef};
-use cx_first_break::{FirstBreak, Spot};
+use cx_design_parts::{FirstBreak, Spot};
 use cx_text::{Memory, Rule};
 use std::alloc::Global;
 
 /// Looks at the group of a number.
-#[tactic(auto, using(cx_first_break::proofs::Lists::first_append))]
+#[tactic(auto, using(cx_design_parts::proofs::Lists::first_append))]
 pub fn add_group(
     alloc: Global,
     first: &mut FirstBreak,

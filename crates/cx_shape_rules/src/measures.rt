@@ -7,12 +7,12 @@ ghost use Rattle.cx_rules.specs.StaticControl as control;
 ghost use Rattle.cx_meaning.specs.Designs as designs;
 ghost use Rattle.cx_meaning.specs.Designs.{form_of};
 ghost use Rattle.cx_design.specs.PlainForms.{plain_component, plain_form, plain_statement, plain_statements};
-ghost use Rattle.cx_items.specs.Items.{plain_context};
+ghost use Rattle.cx_design_parts.specs.Items.{plain_context};
 ghost use Rattle.cx_shape_rules.specs.Measures.{measure_in, measure_of, totals_of};
 
 use crate::owners::group_length;
 use cx_design::{Component, Form, Statement};
-use cx_items::Context;
+use cx_design_parts::Context;
 use cx_text::Memory;
 use std::alloc::Global;
 

@@ -4,8 +4,8 @@ ghost use Rattle.std.specs.Prelude.{◌≡◌, ℕ, IfOk};
 ghost use Rattle.cx_rules.specs.ShapeRules as rules;
 ghost use Rattle.cx_rules.specs.StaticControl as control;
 ghost use Rattle.cx_design.specs.PlainForms.{plain_component, plain_form};
-ghost use Rattle.cx_items.specs.Items.{plain_context, plain_visited};
-ghost use Rattle.cx_first_break.specs.Breaks.{first_of, plain_spot};
+ghost use Rattle.cx_design_parts.specs.Items.{plain_context, plain_visited};
+ghost use Rattle.cx_design_parts.specs.Breaks.{first_of, plain_spot};
 ghost use Rattle.cx_shape_rules.specs.Measures.{capped, measure_of};
 ghost use Rattle.cx_shape_rules.specs.ShapeBreaks as breaks;
 ghost use Rattle.cx_shape_rules.specs.ShapeBreaks.{statement_breaks};
@@ -14,13 +14,12 @@ use crate::measures::{Measure, is_branch};
 use crate::owners::{group_length, group_name};
 use crate::telling::add_named;
 use cx_design::{Component, Form};
-use cx_first_break::{FirstBreak, Spot};
-use cx_items::{Context, Visited};
+use cx_design_parts::{Context, FirstBreak, Spot, Visited};
 use cx_text::{Memory, Rule};
 use std::alloc::Global;
 
 /// Looks at one statement, of which the measure is known.
-#[tactic(auto, using(cx_first_break::proofs::Lists::first_append))]
+#[tactic(auto, using(cx_design_parts::proofs::Lists::first_append))]
 pub fn add_statement(
     alloc: Global,
     first: &mut FirstBreak,

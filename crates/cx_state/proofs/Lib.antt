@@ -1,4 +1,17 @@
+pub mod TreeLemmas
+mod StepLemmas
+mod WayLemmas
+pub mod PreOrder
+pub mod FillLemmas
+pub mod TableLemmas
 pub mod Shapes
 pub mod Takes
 pub mod StartLemmas
 pub mod StartsStand
+pub mod AlikeLemmas
+pub mod StandLemmas
+pub mod ReadLemmas
+pub mod ChangeLemmas
+mod WriteLemmas
+mod MainLemmas
+mod HeldLemmas

@@ -16,9 +16,9 @@ use Rattle.cx_design.specs.declared.cells.Cell.{Cell}
 use Rattle.cx_design.specs.declared.components.Component.{Component}
 use Rattle.cx_design.specs.PlainForms.{plain_cell, plain_component, plain_parts}
 use Rattle.cx_design.proofs.DesignFacts.{component_is}
-use Rattle.cx_paths.proofs.TreeLemmas.{instance_self}
-use Rattle.cx_instances.specs.declared.tables.InstanceRow.{InstanceRow}
-use Rattle.cx_instances.specs.Tables.{IsNumber, no_row, row_at, IsTable}
+use Rattle.cx_state.proofs.TreeLemmas.{instance_self}
+use Rattle.cx_state.specs.declared.tables.InstanceRow.{InstanceRow}
+use Rattle.cx_state.specs.Tables.{IsNumber, no_row, row_at, IsTable}
 use Rattle.cx_state.specs.declared.states.InstanceState.{InstanceState}
 use Rattle.cx_state.specs.States.{PlainInstance, plain_instance, instance_state, HoldsKind, HoldCells, words_in, with_held, no_instance}
 use Rattle.cx_state.specs.Starts.{words_for, words_past, kind_started, started, KindTakes, TakeWords, words_of_main, IsStarted, AreStarted}

@@ -13,10 +13,10 @@ use Rattle.cx_meaning.specs.Designs.{PlainKind, OfPrimitive, OfComponent, PlainC
 use Rattle.cx_meaning.specs.Instances.{Instance, Node, Cells, no_cells, a_primitive, an_instance, OfRow, add_cell, cells_for, cell_at, cells_of, part_of, Path, paths_of, instance_at, child_at, tree_within, tree_of, just, start_at, start_below, start, loaded_at, externals_from, externals_of}
 use Rattle.cx_meaning.specs.Instances as meaning
 use Rattle.cx_limits.proofs.Places.{none_is_some, below_length, slice_get-replicate}
-use Rattle.cx_paths.proofs.TreeLemmas.{instance_self}
-use Rattle.cx_instances.specs.declared.tables.InstanceRow.{InstanceRow}
-use Rattle.cx_instances.specs.Tables.{IsNumber, row_at, IsTable}
-use Rattle.cx_instances.proofs.PreOrder.{HasParent, stands}
+use Rattle.cx_state.proofs.TreeLemmas.{instance_self}
+use Rattle.cx_state.specs.declared.tables.InstanceRow.{InstanceRow}
+use Rattle.cx_state.specs.Tables.{IsNumber, row_at, IsTable}
+use Rattle.cx_state.proofs.PreOrder.{HasParent, stands}
 use Rattle.cx_state.specs.States.{PlainInstance, instance_state, cell_held, StandsFor, IsStateOf, IsUnheld}
 use Rattle.cx_state.specs.Starts.{words_for, words_past, row_started, kind_started, started, words_of_main, IsStarted, AreStarted}
 use Rattle.cx_state.proofs.StartLemmas.{part_is}

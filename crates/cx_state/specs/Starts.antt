@@ -6,7 +6,7 @@ use Rattle.cx_prim.specs.Table.{row_of}
 use Rattle.cx_meaning.specs.declared.sights.Seen.TheVariants.{Undefined}
 use Rattle.cx_meaning.specs.Designs.{PlainKind, OfPrimitive, OfComponent, PlainCell, PlainComponent, PlainDesign}
 use Rattle.cx_meaning.specs.Instances.{Path, part_of, instance_at, tree_of}
-use Rattle.cx_instances.specs.Tables.{IsNumber}
+use Rattle.cx_state.specs.Tables.{IsNumber}
 use Rattle.cx_state.specs.States.{PlainInstance, instance_state, HoldCells}
 
 -- the words for a cell, of the lists for the external ones from it on, and the lists for those behind it

@@ -11,7 +11,7 @@ use Rattle.cx_meaning.specs.Instances as meaning
 use Rattle.cx_meaning.specs.Instances.{Instance, Path, part_of, paths_of, instance_at, tree_of}
 use Rattle.cx_meaning.specs.Sights.{Held}
 use Rattle.cx_rules.specs.Ports.{declared_width}
-use Rattle.cx_instances.specs.Tables.{IsNumber}
+use Rattle.cx_state.specs.Tables.{IsNumber}
 use Rattle.cx_state.specs.declared.states.InstanceState.{InstanceState}
 use Rattle.cx_state.specs.declared.states.State.{State}
 

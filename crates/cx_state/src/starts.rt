@@ -10,14 +10,14 @@ ghost use Rattle.cx_text.specs.Loading.{plain_memory, FitsRows};
 ghost use Rattle.cx_rules.specs.Externals.{external_rows};
 ghost use Rattle.cx_design.specs.PlainForms.{plain_cell, plain_component, plain_kind};
 ghost use Rattle.cx_design.specs.PlainDesigns.{plain_design};
-ghost use Rattle.cx_instances.specs.Tables.{IsTable};
+ghost use Rattle.cx_state.specs.Tables.{IsTable};
 ghost use Rattle.cx_state.specs.States.{plain_instance, plain_state, HoldCells, HoldsKind, IsStateOf, StandsFor, IsUnheld, words_in};
 ghost use Rattle.cx_state.specs.Starts.{AreStarted, IsStarted, KindTakes, RowTakes, TakeWords, kind_started, row_started, started, words_for, words_of_main, words_past};
 
+use crate::InstanceTable;
 use crate::states::{InstanceState, State};
 use cx_cells::{PrimState, Primitive};
 use cx_design::{Cell, CellKind, Component, Design, Seen};
-use cx_instances::InstanceTable;
 use cx_prim::Cycle;
 use cx_text::{LoadedMemory, Memory};
 use std::alloc::Global;

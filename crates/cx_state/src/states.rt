@@ -8,10 +8,10 @@ ghost use Rattle.cx_meaning.specs.Instances.{tree_of};
 ghost use Rattle.cx_design.specs.PlainDesigns.{plain_design};
 ghost use Rattle.cx_state.specs.States.{plain_state, instance_state, with_held, IsStateOf, StandsFor, IsUnheld, words_in};
 
+use crate::instances;
 use crate::starts::start_state;
 use cx_cells::PrimState;
 use cx_design::{Checked, Seen};
-use cx_instances::instances;
 use cx_text::{Loaded, Memory};
 use std::alloc::Global;
 

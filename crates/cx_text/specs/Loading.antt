@@ -42,3 +42,13 @@ pub record FitsShape (memory : PlainMemory) : Type 0 where
 pub record FitsRows (rows : List PlainRow) (memories : List PlainMemory) : Type 0 where
   pub same_rows : map (λ m. m.shape) memories ≡ rows
   pub whole : All FitsShape memories
+
+-- the words of the memories that a data file gives
+abbrev pub words_loaded : List PlainMemory → List (List ℕ)
+words_loaded ms = map (λ m. m.words) ms
+
+-- the memories with these words in place of theirs, one list for each
+abbrev pub with_words : List PlainMemory → List (List ℕ) → List PlainMemory
+with_words [] words = []
+with_words (m ∷ ms) [] = m ∷ ms
+with_words (m ∷ ms) (ws ∷ words) = record { shape = m.shape; signed = m.signed; words = ws } ∷ with_words ms words

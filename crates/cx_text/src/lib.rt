@@ -24,6 +24,3 @@ pub use names::Name;
 pub use numerals::{decimal, numeral};
 pub use places::{Place, counted_from_one};
 pub use rules::Rule;
-
-#[cfg(test)]
-mod tests;

@@ -1,3 +1,10 @@
+pub mod Many
+pub mod ManyAgain
+pub mod LineAgain
+pub mod InstanceAgain
+pub mod EdgeAgain
+pub mod ExternalAgain
+pub mod SourceAgain
 pub mod Checks
 pub mod SoundHeld
 pub mod HeldSources

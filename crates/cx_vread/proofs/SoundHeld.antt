@@ -8,9 +8,9 @@ use Rattle.cx_vtree.specs.declared.meanings.Meaning.{Meaning}
 use Rattle.cx_vtree.specs.InstanceTree.{same_name}
 use Rattle.cx_vtree.specs.Plain.{PlainExpr, Named, Number, Part, Word, Applied, Inverted, Chosen, Joined, PlainPort, PlainDecl, WireOf, RegisterOf, ArrayOf, PlainAssign, PlainStore, PlainItem, SetTo, StoreTo}
 use Rattle.cx_vtree.specs.Sound.{Faults, Break, Scope, break_at, first_break, bad_width, width_of, is_array, meant_decl, meant_in, decl_meaning, port_meaning, decl_name, misnames, fitting_width, has_width, applied_width, chosen_width, joined_width, nests_over, too_deep, ports_faults, port_faults, decls_faults, decl_faults, assigns_faults, assign_faults, has_name, item_name, sets_faults, set_faults, items_faults, item_faults, store_faults}
-use Rattle.cx_vexprs.specs.Tokens.{fits_bits}
-use Rattle.cx_vexprs.specs.Holds.{numbers_fit, holds_expr}
-use Rattle.cx_vlines.specs.Held.{holds_port, holds_decl, holds_assign, holds_item}
+use Rattle.cx_vread_exprs.specs.Tokens.{fits_bits}
+use Rattle.cx_vread_exprs.specs.Holds.{numbers_fit, holds_expr}
+use Rattle.cx_vread.specs.Held.{holds_port, holds_decl, holds_assign, holds_item}
 
 -- a line that breaks nothing
 abbrev pub is_clean : Faults → Bool

@@ -8,18 +8,18 @@ use Rattle.cx_vtree.specs.Plain.{PlainSource}
 use Rattle.cx_vtree.specs.Sound.{Break, break_of, is_sound}
 use Rattle.cx_vtree.specs.Spelling.{text_of}
 use Rattle.cx_vsound.specs.Search.{told_break}
-use Rattle.cx_vexprs.specs.declared.faults.Fault.{Fault}
-use Rattle.cx_vexprs.specs.declared.faults.Fault.TheVariants as faults
+use Rattle.cx_vread_exprs.specs.declared.faults.Fault.{Fault}
+use Rattle.cx_vread_exprs.specs.declared.faults.Fault.TheVariants as faults
 use Rattle.cx_vread.specs.declared.refusals.ReadRefusal.{ReadRefusal}
 use Rattle.cx_vread.specs.declared.refusals.ReadRefusal.TheVariants as refusals
-use Rattle.cx_vexprs.specs.Answers.{Fails}
-use Rattle.cx_vlines.specs.Held.{is_held}
-use Rattle.cx_vlines.specs.Parts.{source_at}
-use Rattle.cx_vexprs.specs.Places.{Place}
+use Rattle.cx_vread_exprs.specs.Answers.{Fails}
+use Rattle.cx_vread.specs.Held.{is_held}
+use Rattle.cx_vread.specs.Parts.{source_at}
+use Rattle.cx_vread_exprs.specs.Places.{Place}
 use Rattle.cx_vread.specs.ReadAnswers.{Answers, ReadAs, Stopped}
 use Rattle.cx_vread.proofs.HeldSources.{sound_held}
-use Rattle.cx_vexprs.proofs.NumberAgain.{clean}
-use Rattle.cx_vlines.proofs.SourceAgain.{source_again}
+use Rattle.cx_vread_exprs.proofs.NumberAgain.{clean}
+use Rattle.cx_vread.proofs.SourceAgain.{source_again}
 
 spelled : (s : PlainSource) (text : List ℕ) (fits : Bool) → fits ≡ true → text ≡ text_of s → is_laid_out s ≡ true → is_held s ≡ true
     → source_at (record { rest = text; fits = fits }) ≡ Some (s, clean [])

@@ -1,2 +1,4 @@
+pub mod Parts
+pub mod Held
 pub mod ReadAnswers
 pub mod Laws

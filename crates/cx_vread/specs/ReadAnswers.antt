@@ -7,8 +7,8 @@ use Rattle.cx_vtree.specs.Sound.{break_of}
 use Rattle.cx_vsound.specs.Search.{told_break}
 use Rattle.cx_vsound.specs.declared.search.Break as told
 use Rattle.cx_vsound.specs.declared.search.Break.TheVariants as breaks
-use Rattle.cx_vexprs.specs.declared.faults.Fault.{Fault}
-use Rattle.cx_vexprs.specs.declared.faults.Fault.TheVariants as faults
+use Rattle.cx_vread_exprs.specs.declared.faults.Fault.{Fault}
+use Rattle.cx_vread_exprs.specs.declared.faults.Fault.TheVariants as faults
 use Rattle.cx_vread.specs.declared.refusals.ReadRefusal.{ReadRefusal}
 use Rattle.cx_vread.specs.declared.refusals.ReadRefusal.TheVariants as refusals
 

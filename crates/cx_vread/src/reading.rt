@@ -6,15 +6,15 @@ ghost use Rattle.cx_vtree.specs.Plain.{PlainSource};
 ghost use Rattle.cx_vtree.specs.PlainSources.{plain_source};
 ghost use Rattle.cx_vtree.specs.Sound.{is_sound};
 ghost use Rattle.cx_vtree.specs.Sources.{source_of};
-ghost use Rattle.cx_vexprs.specs.Answers.{Gives, is_clean, place_of};
-ghost use Rattle.cx_vlines.specs.Parts.{source_at};
-ghost use Rattle.cx_vlines.specs.Held.{is_held};
+ghost use Rattle.cx_vread_exprs.specs.Answers.{Gives, is_clean, place_of};
+ghost use Rattle.cx_vread.specs.Parts.{source_at};
+ghost use Rattle.cx_vread.specs.Held.{is_held};
 ghost use Rattle.cx_vread.specs.ReadAnswers.{Answers, ReadAs, Stopped, refusal};
 ghost use Rattle.cx_vtree.specs.Spelling.{text_of};
 
 use crate::refusals::ReadRefusal;
-use cx_vexprs::{At, Fault, Notes};
-use cx_vlines::{read_externals, read_modules};
+use crate::{read_externals, read_modules};
+use cx_vread_exprs::{Fault, Notes, ReadPoint};
 use cx_vscope::is_laid_out;
 use cx_vsound::{Break, check};
 use cx_vtree::{External, Module, Source};
@@ -111,7 +111,10 @@ fn noted(text: &[u8], notes: Notes) -> Option<ReadRefusal> {
 }
 
 /// The parts of a text, and where reading ends. Parts that no tree holds are noted, and others stand for them.
-fn parts<'a>(alloc: Global, at: At<'a>) -> Result<((Vec<External>, Vec<Module>), At<'a>), Fault>
+fn parts<'a>(
+    alloc: Global,
+    at: ReadPoint<'a>,
+) -> Result<((Vec<External>, Vec<Module>), ReadPoint<'a>), Fault>
     ensures { Gives (λ x. (source_of x.0.0.items x.0.1.items, place_of x.1)) result (source_at (place_of at.entry)) }
 {
     let (externals, at) = read_externals(alloc, at)?;
@@ -201,7 +204,7 @@ pub fn read(alloc: Global, text: &[u8]) -> Result<Source, ReadRefusal>
     ensures spelled { (s : PlainSource) → text.now ≡ text_of s → is_laid_out s ≡ true → is_held s ≡ true → Answers s result }
 {
     let notes = Notes::new();
-    let start = At { rest: text, notes };
+    let start = ReadPoint { rest: text, notes };
     match parts(alloc, start) {
         Err(fault) => Err(stopped(text, fault)),
         Ok(found) => {

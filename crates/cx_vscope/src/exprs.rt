@@ -6,20 +6,20 @@ ghost use Rattle.cx_vtree.specs.Sound as sound;
 ghost use Rattle.cx_vscope.specs.ScopeValues.{scope_by};
 
 use crate::meanings::{is_array, is_source, width_of};
-use crate::scopes::Scope;
+use crate::scopes::ModuleScope;
 use cx_bits::Bits;
 use cx_text::{Name, WIDTH_BITS};
 use cx_vtree::{Expr, Operator};
 
 /// Whether a name may stand in an expression.
-fn is_readable(scope: &Scope, name: &Name) -> bool
+fn is_readable(scope: &ModuleScope, name: &Name) -> bool
     ensures { result ≡ sound.is_readable (scope_by scope.now) name.now }
 {
     is_source(scope.meaning(name)) && name.bytes() != b"clk".as_slice()
 }
 
 /// Whether a name stands where it may not.
-pub fn misnames(scope: &Scope, e: &Expr) -> bool
+pub fn misnames(scope: &ModuleScope, e: &Expr) -> bool
     ensures { result ≡ sound.misnames (scope_by scope.now) (plain_expr e.now) }
 {
     match e {
@@ -110,7 +110,7 @@ fn joined_width(v: u8, w: u8) -> Option<u8>
 }
 
 /// The width of an expression, where the widths in it fit.
-pub fn fitting_width(scope: &Scope, e: &Expr) -> Option<u8>
+pub fn fitting_width(scope: &ModuleScope, e: &Expr) -> Option<u8>
     ensures { result ≡ sound.fitting_width (scope_by scope.now) (plain_expr e.now) }
 {
     match e {
@@ -142,7 +142,7 @@ pub fn fitting_width(scope: &Scope, e: &Expr) -> Option<u8>
 }
 
 /// Whether the widths in an expression fit, and it has this width.
-pub fn has_width(scope: &Scope, e: &Expr, width: u8) -> bool
+pub fn has_width(scope: &ModuleScope, e: &Expr, width: u8) -> bool
     ensures { result ≡ sound.has_width (scope_by scope.now) (plain_expr e.now) width }
 {
     match fitting_width(scope, e) {

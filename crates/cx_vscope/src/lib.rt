@@ -13,4 +13,4 @@ pub use meanings::{
     decl_name, is_array, is_driven, is_register, is_source, is_wire, same, width_of,
 };
 pub use names::Names;
-pub use scopes::Scope;
+pub use scopes::ModuleScope;

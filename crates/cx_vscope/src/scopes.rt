@@ -14,7 +14,7 @@ use std::collections::BTreeMap;
 
 /// What each name stands for in a module: what the first part of that name makes it.
 #[derive(Drop)]
-pub struct Scope<'a> {
+pub struct ModuleScope<'a> {
     meanings: BTreeMap<&'a [u8], Meaning>,
 }
 
@@ -53,15 +53,15 @@ fn add_ports<'a>(
     Ok(())
 }
 
-impl<'a> Scope<'a> {
+impl<'a> ModuleScope<'a> {
     /// The scope of a module.
-    pub fn new(alloc: Global, m: &'a Module) -> Result<Scope<'a>, Memory>
+    pub fn new(alloc: Global, m: &'a Module) -> Result<ModuleScope<'a>, Memory>
         ensures { IfOk result (λ scope. scope_by scope ≡ scope_of m.now) }
     {
         let mut meanings = BTreeMap::new(alloc);
         add_decls(&mut meanings, &m.decls)?;
         add_ports(&mut meanings, &m.ports, &m.decls)?;
-        Ok(Scope { meanings })
+        Ok(ModuleScope { meanings })
     }
 
     /// What a name stands for.

@@ -4,15 +4,14 @@ use Rattle.std.proofs.lemmas.List.{length-map}
 use Rattle.std.proofs.lemmas.Option.{same_Some}
 use Rattle.std.specs.Option.{option_map_or}
 use Rattle.cx_bits.specs.BitVector.{BitVector, Fits}
-use Rattle.cx_text.specs.Loading.{PlainRow, PlainMemory, FitsShape, FitsRows, word_count}
+use Rattle.cx_text.specs.Loading.{PlainRow, PlainMemory, FitsShape, FitsRows, word_count, with_words}
 use Rattle.cx_vtree.specs.Plain.{PlainSource}
 use Rattle.cx_vtree.specs.PlainParts.{row_of, rows_of}
 use Rattle.cx_vtree.specs.InstanceTree.{instances_of}
-use Rattle.cx_veval.specs.Stores.{PlainWords}
-use Rattle.cx_vplaces.specs.Externals.{array_of}
+use Rattle.cx_vnets.specs.Stores.{PlainWords}
+use Rattle.cx_vsim.specs.Externals.{array_of}
 use Rattle.cx_vsim.specs.Answers.{IsDone, final_words}
 use Rattle.cx_vsim.specs.Stands.{words_at, words_by, outcome_by, RanStands}
-use Rattle.cx_vsim.specs.Models.{with_words}
 use Rattle.cx_vsim.specs.Arrays.{Gives, CanGive, AllGivenFit}
 use Rattle.cx_vsim.specs.declared.answers.SimAnswer.{SimAnswer}
 use Rattle.cx_vsim.specs.declared.answers.SimAnswer.TheVariants.{Done, Loop, More}

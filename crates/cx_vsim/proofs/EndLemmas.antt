@@ -9,24 +9,24 @@ use Rattle.cx_vtree.specs.Plain.{PlainExternal, PlainSource}
 use Rattle.cx_vtree.specs.InstanceTree.{Placed, decls_at, instances_of}
 use Rattle.cx_vtree.specs.Meaning.{State}
 use Rattle.cx_vtree.specs.SimRun.{Outcome, DoneAt, LoopAt, NotDone, instance_named, first_array, numbers_from, words_in, words_of, RunsFrom, loops, ends, spent, goes_on, SimRun, loops_in_reset, after_reset}
-use Rattle.cx_veval.specs.declared.arrays.Words.{Words}
-use Rattle.cx_veval.specs.declared.nets.Stored.{Stored}
-use Rattle.cx_veval.specs.Stores.{PlainWords, plain_words}
-use Rattle.cx_vrun.specs.Machines.{KeepsWidths}
-use Rattle.cx_vrun.specs.Runs.{outcome_of}
-use Rattle.cx_vrun.specs.declared.runs.Answer.{Answer}
-use Rattle.cx_vrun.specs.declared.runs.Answer.TheVariants as flat
-use Rattle.cx_vflat.specs.Numbers.{array_number}
-use Rattle.cx_vflat.specs.Memory.{StoredStands}
-use Rattle.cx_vflat.specs.RunsFlat.{AreWordsOf, AreAllWords, OutcomeStands}
-use Rattle.cx_vflat.proofs.Numbering.{map_some}
-use Rattle.cx_vplaces.specs.Externals.{array_of}
+use Rattle.cx_vnets.specs.declared.arrays.Words.{Words}
+use Rattle.cx_vnets.specs.declared.nets.Stored.{Stored}
+use Rattle.cx_vnets.specs.Stores.{PlainWords, plain_words}
+use Rattle.cx_vnets.specs.Machines.{KeepsWidths}
+use Rattle.cx_vnets.specs.Runs.{outcome_of}
+use Rattle.cx_vnets.specs.declared.runs.RunAnswer.{RunAnswer}
+use Rattle.cx_vnets.specs.declared.runs.RunAnswer.TheVariants as flat
+use Rattle.cx_vnets.specs.Numbers.{array_number}
+use Rattle.cx_vnets.specs.Memory.{StoredStands}
+use Rattle.cx_vnets.specs.RunsFlat.{AreWordsOf, AreAllWords, OutcomeStands}
+use Rattle.cx_vnets.proofs.Numbering.{map_some}
+use Rattle.cx_vsim.specs.Externals.{array_of}
 use Rattle.cx_vsim.specs.Memories.{HasMemories}
 use Rattle.cx_vsim.specs.Stands.{AreOf, IsToldAs, RanStands, start_moment}
 use Rattle.cx_vsim.specs.declared.answers.SimAnswer.{SimAnswer}
 use Rattle.cx_vsim.specs.declared.answers.SimAnswer.TheVariants.{Done, Loop, More}
-use Rattle.cx_veval.specs.declared.codes.Place.{Place}
-use Rattle.cx_vbuild.specs.Tables.{all_places}
+use Rattle.cx_vnets.specs.declared.codes.NetPosition.{NetPosition}
+use Rattle.cx_velab.specs.Tables.{all_places}
 use Rattle.cx_vsim.proofs.Elements.{mapped_at, all_from_at}
 use Rattle.cx_vsim.proofs.Memories.{HasPlace, external_at, memory_held}
 use Rattle.cx_vsim.proofs.Told.{names}
@@ -65,7 +65,7 @@ all_words_at tree arrays (d ∷ es) [] k e all at = absurd all
 all_words_at tree arrays (d ∷ es) (w ∷ words) zero e all at = let same : d ≡ e = same_Some d e at in (w, refl, subst (λ x. AreWordsOf tree arrays x w) same all.0)
 all_words_at tree arrays (d ∷ es) (w ∷ words) (suc k) e all at = all_words_at tree arrays es words k e all.1 at
 
-module _ (s : PlainSource) (numbers : List ℕ) (places : List Place) (stored final : Stored) (loaded : List (List ℕ)) (last : ℕ) (memories : HasMemories s)
+module _ (s : PlainSource) (numbers : List ℕ) (places : List NetPosition) (stored final : Stored) (loaded : List (List ℕ)) (last : ℕ) (memories : HasMemories s)
     (arrays_are : map Some numbers ≡ map (array_of (instances_of s)) s.externals) (places_are : places ≡ all_places (instances_of s) (length (instances_of s)))
     (stands : StoredStands (instances_of s) (start_moment s loaded) stored) (keeps : KeepsWidths stored final) where
   -- as many words, by the outcome
@@ -107,11 +107,11 @@ module _ (s : PlainSource) (numbers : List ℕ) (places : List Place) (stored fi
         },
       )
 
-  pub ran_stands : (a : Answer) (r : SimAnswer) (q : Outcome) → IsToldAs places a r → OutcomeStands s (outcome_of a final) q → SimRun s loaded last q
+  pub ran_stands : (a : RunAnswer) (r : SimAnswer) (q : Outcome) → IsToldAs places a r → OutcomeStands s (outcome_of a final) q → SimRun s loaded last q
       → RanStands s r (map plain_words final.arrays.items) numbers
   ran_stands a r q told is run = record { names = names s numbers places final arrays_are places_are a r q told is; arrays_are = arrays_are; words = λ cycle k n e done at here. go a q told is run cycle done k n e at here }
     where
-      go : (a : Answer) (q : Outcome) → IsToldAs places a r → OutcomeStands s (outcome_of a final) q → SimRun s loaded last q → (cycle : ℕ) → r ≡ Done cycle
+      go : (a : RunAnswer) (q : Outcome) → IsToldAs places a r → OutcomeStands s (outcome_of a final) q → SimRun s loaded last q → (cycle : ℕ) → r ≡ Done cycle
           → (k n : ℕ) (e : PlainExternal) → slice_get s.externals k ≡ Some e → slice_get numbers k ≡ Some n → (x : PlainWords) × (slice_get (map plain_words final.arrays.items) n ≡ Some x) × AreOf e x
       go (flat.Done t) (DoneAt u words) told is run cycle done k n e at here = ended u k n e words is.1 run at here
       go (flat.Done t) (LoopAt i j) told is run cycle done k n e at here = absurd is

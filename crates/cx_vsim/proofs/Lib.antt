@@ -1,3 +1,14 @@
+pub mod Positions
+pub mod TidyLemmas
+pub mod CodedLemmas
+pub mod WideLemmas
+pub mod PassLemmas
+pub mod RowLemmas
+pub mod StepLemmas
+pub mod BuiltLemmas
+pub mod Finding
+pub mod Naming
+pub mod Rewritten
 pub mod Widths
 pub mod Located
 pub mod Small

@@ -5,26 +5,25 @@ use Rattle.std.proofs.lemmas.List.{length-map}
 use Rattle.std.proofs.lemmas.Option.{same_Some, slice_get-map, slice_get_past}
 use Rattle.std.specs.Option.{option_map_or}
 use Rattle.cx_bits.specs.BitVector.{BitVector}
-use Rattle.cx_text.specs.Loading.{PlainRow, PlainMemory, FitsShape, FitsRows, word_count}
+use Rattle.cx_text.specs.Loading.{PlainRow, PlainMemory, FitsShape, FitsRows, word_count, words_loaded}
 use Rattle.cx_vtree.specs.Plain.{PlainDecl, PlainExternal, PlainSource}
 use Rattle.cx_vtree.specs.PlainParts.{row_of, rows_of}
 use Rattle.cx_vtree.specs.InstanceTree.{decls_at, instances_of}
 use Rattle.cx_vtree.specs.Meaning.{word_in}
 use Rattle.cx_vtree.specs.SimRun.{is_memory, loaded_word}
-use Rattle.cx_veval.specs.declared.arrays.Words.{Words}
-use Rattle.cx_veval.specs.declared.nets.Stored.{Stored}
-use Rattle.cx_veval.specs.Fits.{width_at}
-use Rattle.cx_veval.specs.Stores.{PlainWords, plain_words}
-use Rattle.cx_vrun.specs.Machines.{KeepsWidths}
-use Rattle.cx_vwords.specs.Numbers.{words_of_width}
-use Rattle.cx_vflat.specs.Numbers.{arrays_at, nets_before, arrays_before}
-use Rattle.cx_vflat.specs.Memory.{WordsStand, StoredStands}
-use Rattle.cx_vflat.proofs.Numbering.{map_some}
-use Rattle.cx_vflat.proofs.WordLemmas.{word_in_same, word_in_width, word_in_value}
-use Rattle.cx_vflat.proofs.EdgeLemmas.{even_stored, same_array_widths}
-use Rattle.cx_vplaces.specs.Externals.{array_of}
+use Rattle.cx_vnets.specs.declared.arrays.Words.{Words}
+use Rattle.cx_vnets.specs.declared.nets.Stored.{Stored}
+use Rattle.cx_vnets.specs.Fits.{width_at}
+use Rattle.cx_vnets.specs.Stores.{PlainWords, plain_words}
+use Rattle.cx_vnets.specs.Machines.{KeepsWidths}
+use Rattle.cx_vsim.specs.WordNumbers.{words_of_width}
+use Rattle.cx_vnets.specs.Numbers.{arrays_at, nets_before, arrays_before}
+use Rattle.cx_vnets.specs.Memory.{WordsStand, StoredStands}
+use Rattle.cx_vnets.proofs.Numbering.{map_some}
+use Rattle.cx_vnets.proofs.WordLemmas.{word_in_same, word_in_width, word_in_value}
+use Rattle.cx_vnets.proofs.EdgeLemmas.{even_stored, same_array_widths}
+use Rattle.cx_vsim.specs.Externals.{array_of}
 use Rattle.cx_vsim.specs.Stands.{start_moment, words_by}
-use Rattle.cx_vsim.specs.Models.{words_loaded}
 use Rattle.cx_vsim.specs.Arrays.{rewritten, with_arrays, Takes, CanTake}
 use Rattle.cx_vsim.specs.Memories.{HasMemories}
 use Rattle.cx_vsim.proofs.Elements.{mapped_at, all_at, found_or_not}

@@ -4,26 +4,26 @@ use Rattle.std.proofs.lemmas.Option.{slice_get_within, slice_get_past, get_or_fr
 use Rattle.std.proofs.lemmas.Bool.{cases_lt}
 use Rattle.std.specs.Option.{option_map_or}
 use Rattle.cx_vtree.specs.InstanceTree.{Placed, nets_at, declared_nets}
-use Rattle.cx_veval.specs.declared.codes.Place.{Place}
-use Rattle.cx_vflat.specs.Numbers.{before, nets_before, place_of}
-use Rattle.cx_vflat.specs.RunsFlat.{IsNet}
-use Rattle.cx_vbuild.specs.Tables.{all_places}
+use Rattle.cx_vnets.specs.declared.codes.NetPosition.{NetPosition}
+use Rattle.cx_vnets.specs.Numbers.{before, nets_before, place_of}
+use Rattle.cx_vnets.specs.RunsFlat.{IsNet}
+use Rattle.cx_velab.specs.Tables.{all_places}
 use Rattle.std.proofs.Common.{[], ◌∷◌, ◌++◌, Option, None, map, ⊎_elim, refl}
 
 pub places_length : (tree : List Placed) (n : ℕ) → length (all_places tree n) ≡ n
 places_length tree zero = refl
 places_length tree (suc n) = ends (all_places tree n) (place_of tree n) ∙ ap suc (places_length tree n)
   where
-    ends : (ps : List Place) (p : Place) → length (ps ++ p ∷ []) ≡ suc (length ps)
+    ends : (ps : List NetPosition) (p : NetPosition) → length (ps ++ p ∷ []) ≡ suc (length ps)
     ends [] p = refl
     ends (q ∷ ps) p = ap suc (ends ps p)
 
-front_at : (ps : List Place) (p q : Place) (j : ℕ) → slice_get ps j ≡ Some q → slice_get (ps ++ p ∷ []) j ≡ Some q
+front_at : (ps : List NetPosition) (p q : NetPosition) (j : ℕ) → slice_get ps j ≡ Some q → slice_get (ps ++ p ∷ []) j ≡ Some q
 front_at [] p q j e = absurd (cc)
 front_at (x ∷ ps) p q zero e = e
 front_at (x ∷ ps) p q (suc j) e = front_at ps p q j e
 
-last_at : (ps : List Place) (p : Place) → slice_get (ps ++ p ∷ []) (length ps) ≡ Some p
+last_at : (ps : List NetPosition) (p : NetPosition) → slice_get (ps ++ p ∷ []) (length ps) ≡ Some p
 last_at [] p = refl
 last_at (x ∷ ps) p = last_at ps p
 
@@ -61,7 +61,7 @@ before_up lists i (suc j) le = ⊎_elim
     omega arith)
     (cases_lt i (suc j))
 
-module _ (places : List Place) (tree : List Placed) (net i k r : ℕ) (all : places ≡ all_places tree (length tree)) (is : IsNet tree net i k) (found : r ≡ i) where
+module _ (places : List NetPosition) (tree : List Placed) (net i k r : ℕ) (all : places ≡ all_places tree (length tree)) (is : IsNet tree net i k) (found : r ≡ i) where
   pub inside : r < length tree
   inside = subst (λ x. x < length tree) (sym found) (net_within tree i k is.name is.stands_there)
 
@@ -71,15 +71,15 @@ module _ (places : List Place) (tree : List Placed) (net i k r : ℕ) (all : pla
       let sized = ap length all ∙ places_length tree (length tree) in
       omega (arith, lt, sized)
 
-  pub begin_is : (d : Place) → (get_or places r d).nets ≡ nets_before tree i
+  pub begin_is : (d : NetPosition) → (get_or places r d).nets ≡ nets_before tree i
   begin_is d =
       let at : slice_get places r ≡ Some (place_of tree r) = ap (λ l. slice_get l r) all ∙ place_at tree (length tree) r inside in
-      ap (λ (p : Place). p.nets) (get_or_from_slice_get places r (place_of tree r) d at) ∙ ap (nets_before tree) found
+      ap (λ (p : NetPosition). p.nets) (get_or_from_slice_get places r (place_of tree r) d at) ∙ ap (nets_before tree) found
 
-  pub not_below : (d : Place) → (get_or places r d).nets ≤ net
+  pub not_below : (d : NetPosition) → (get_or places r d).nets ≤ net
   not_below d = let e = begin_is d in let n = is.number in omega (arith, e, n)
 
-  pub place_is : (d : Place) → net - (get_or places r d).nets ≡ k
+  pub place_is : (d : NetPosition) → net - (get_or places r d).nets ≡ k
   place_is d = let e = begin_is d in let n = is.number in omega (arith, e, n)
 
   pub place_small : (most : ℕ) → nets_before tree (length tree) < most → k < most

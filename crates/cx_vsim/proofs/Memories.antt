@@ -11,15 +11,15 @@ use Rattle.cx_vtree.specs.Meaning.{Moment, word_in}
 use Rattle.cx_vtree.specs.Edges.{array_size}
 use Rattle.cx_vtree.specs.SimRun.{instance_named, first_array, is_memory}
 use Rattle.cx_vtree.specs.Sound.{arrays_in}
-use Rattle.cx_vfacts.specs.Memories.{IsMemory}
-use Rattle.cx_veval.specs.declared.arrays.Words.{Words}
-use Rattle.cx_veval.specs.declared.nets.Stored.{Stored}
-use Rattle.cx_vflat.specs.Numbers.{arrays_at, arrays_before, array_number}
-use Rattle.cx_vflat.specs.EdgesFlat.{AreApart}
-use Rattle.cx_vflat.specs.Memory.{WordsStand, StoredStands}
-use Rattle.cx_vflat.proofs.Numbering.{bind_some, number_at, number_once, same_name-refl, same_name-true}
-use Rattle.cx_vflat.proofs.WordLemmas.{word_in_width}
-use Rattle.cx_vplaces.specs.Externals.{array_of}
+use Rattle.cx_vlaws.specs.Memories.{IsMemory}
+use Rattle.cx_vnets.specs.declared.arrays.Words.{Words}
+use Rattle.cx_vnets.specs.declared.nets.Stored.{Stored}
+use Rattle.cx_vnets.specs.Numbers.{arrays_at, arrays_before, array_number}
+use Rattle.cx_vnets.specs.EdgesFlat.{AreApart}
+use Rattle.cx_vnets.specs.Memory.{WordsStand, StoredStands}
+use Rattle.cx_vnets.proofs.Numbering.{bind_some, number_at, number_once, same_name-refl, same_name-true}
+use Rattle.cx_vnets.proofs.WordLemmas.{word_in_width}
+use Rattle.cx_vsim.specs.Externals.{array_of}
 use Rattle.cx_vsim.specs.Memories.{HasMemories}
 use Rattle.cx_vsim.proofs.Elements.{mapped_at}
 

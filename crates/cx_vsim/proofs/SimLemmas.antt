@@ -1,29 +1,28 @@
 -- What a simulator holds when it is made, once words are loaded, and after a run.
 use Rattle.std.proofs.Common.{◌≡◌, ℕ, ◌<◌, ◌^◌, List, [], map, length, sym, subst}
-use Rattle.cx_text.specs.Loading.{PlainMemory, FitsRows}
+use Rattle.cx_text.specs.Loading.{PlainMemory, FitsRows, words_loaded}
 use Rattle.cx_vtree.specs.Plain.{PlainSource}
 use Rattle.cx_vtree.specs.PlainParts.{rows_of}
 use Rattle.cx_vtree.specs.InstanceTree.{instances_of}
 use Rattle.cx_vtree.specs.SimRun.{Outcome, SimRun}
-use Rattle.cx_veval.specs.declared.codes.Place.{Place}
-use Rattle.cx_veval.specs.declared.nets.Stored.{Stored}
-use Rattle.cx_veval.specs.Stores.{plain_words}
-use Rattle.cx_vrun.specs.declared.machines.Machine.{Machine}
-use Rattle.cx_vrun.specs.declared.machines.Bench.{Bench}
-use Rattle.cx_vrun.specs.declared.runs.Answer.{Answer}
-use Rattle.cx_vrun.specs.Machines.{KeepsWidths}
-use Rattle.cx_vrun.specs.Runs.{IsReady, FlatRun, outcome_of}
-use Rattle.cx_vflat.specs.Memory.{StoredStands}
-use Rattle.cx_vflat.specs.RunsFlat.{MemoriesStand, OutcomeStands}
-use Rattle.cx_vflat.specs.Laws.{RunsAreSame}
-use Rattle.cx_vmachine.specs.declared.machines.Built.{Built}
-use Rattle.cx_vmachine.specs.Machines.{BuiltStands}
-use Rattle.cx_vmachine.specs.Trees.{CanBeBuilt}
+use Rattle.cx_vnets.specs.declared.codes.NetPosition.{NetPosition}
+use Rattle.cx_vnets.specs.declared.nets.Stored.{Stored}
+use Rattle.cx_vnets.specs.Stores.{plain_words}
+use Rattle.cx_vnets.specs.declared.machines.Machine.{Machine}
+use Rattle.cx_vnets.specs.declared.machines.Bench.{Bench}
+use Rattle.cx_vnets.specs.declared.runs.RunAnswer.{RunAnswer}
+use Rattle.cx_vnets.specs.Machines.{KeepsWidths}
+use Rattle.cx_vnets.specs.Runs.{IsReady, FlatRun, outcome_of}
+use Rattle.cx_vnets.specs.Memory.{StoredStands}
+use Rattle.cx_vnets.specs.RunsFlat.{MemoriesStand, OutcomeStands}
+use Rattle.cx_vnets.specs.FlatLaws.{RunsAreSame}
+use Rattle.cx_vsim.specs.declared.machines.Built.{Built}
+use Rattle.cx_vsim.specs.Machines.{BuiltStands}
+use Rattle.cx_vsim.specs.Trees.{CanBeBuilt}
 use Rattle.cx_vsim.specs.declared.answers.SimAnswer.{SimAnswer}
 use Rattle.cx_vsim.specs.declared.numbers.Numbers.{Numbers}
 use Rattle.cx_vsim.specs.Arrays.{with_arrays}
 use Rattle.cx_vsim.specs.Memories.{HasMemories}
-use Rattle.cx_vsim.specs.Models.{words_loaded}
 use Rattle.cx_vsim.specs.Numbers.{AreNumbersOf}
 use Rattle.cx_vsim.specs.Stands.{SimStands, RanStands, IsToldAs, TellsNet, outcome_by, words_by, start_moment}
 use Rattle.cx_vsim.proofs.Start.{zeros_start}
@@ -35,7 +34,7 @@ pub new_stands : (s : PlainSource) (built : Built) (n : Numbers) → BuiltStands
 new_stands s built n b are = record { machine = b.machine; ready = b.ready; stored = zeros_start s built.stored b.zeros; arrays_are = are.arrays; places_are = are.places }
 
 -- once words are loaded
-module _ (s : PlainSource) (words : List (List ℕ)) (built : Built) (numbers : List ℕ) (places : List Place) (stands : SimStands s words built numbers places) (memories : HasMemories s)
+module _ (s : PlainSource) (words : List (List ℕ)) (built : Built) (numbers : List ℕ) (places : List NetPosition) (stands : SimStands s words built numbers places) (memories : HasMemories s)
     (ms : List PlainMemory) (fits : FitsRows (rows_of s.externals) ms) (after : Stored) (nets : after.nets.items ≡ built.stored.nets.items)
     (written : map plain_words after.arrays.items ≡ with_arrays numbers ms (map plain_words built.stored.arrays.items)) where
   pub words_are_loaded : words_by numbers (map plain_words after.arrays.items) ≡ words_loaded ms
@@ -52,8 +51,8 @@ module _ (s : PlainSource) (words : List (List ℕ)) (built : Built) (numbers : 
   }
 
 -- after a run
-module _ (s : PlainSource) (words : List (List ℕ)) (built : Built) (numbers : List ℕ) (places : List Place) (stands : SimStands s words built numbers places) (can : CanBeBuilt (instances_of s))
-    (memories : HasMemories s) (arrays : MemoriesStand s) (same : RunsAreSame) (few : length (instances_of s) < 2 ^ 32) (cycles : ℕ) (a : Answer) (final : Stored)
+module _ (s : PlainSource) (words : List (List ℕ)) (built : Built) (numbers : List ℕ) (places : List NetPosition) (stands : SimStands s words built numbers places) (can : CanBeBuilt (instances_of s))
+    (memories : HasMemories s) (arrays : MemoriesStand s) (same : RunsAreSame) (few : length (instances_of s) < 2 ^ 32) (cycles : ℕ) (a : RunAnswer) (final : Stored)
     (flat_run : FlatRun built.machine built.stored cycles (outcome_of a final)) where
   run_is : (q : Outcome) × OutcomeStands s (outcome_of a final) q × SimRun s words cycles q
   run_is = same s words cycles built.machine built.stored built.bench 0 0 (outcome_of a final) can.apart.names can.apart.edges arrays stands.machine stands.stored stands.ready flat_run

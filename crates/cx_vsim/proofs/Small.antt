@@ -1,10 +1,10 @@
 -- The numbers of the instances that rows stand for are small.
 use Rattle.std.proofs.Common.{◌≡◌, suc, ◌<◌, ◌^◌, List, [], ◌∷◌, ◌++◌, length, map, refl, ap, sym, subst}
 use Rattle.cx_vtree.specs.InstanceTree.{Placed}
-use Rattle.cx_vtable.specs.declared.tree.Row.{Row}
-use Rattle.cx_vtable.specs.Rows.{placed_of}
-use Rattle.cx_vflat.specs.Numbers.{nets_before, arrays_before}
-use Rattle.cx_vmachine.specs.Trees.{IsSmall}
+use Rattle.cx_velab.specs.declared.tree.Row.{Row}
+use Rattle.cx_velab.specs.Rows.{placed_of}
+use Rattle.cx_vnets.specs.Numbers.{nets_before, arrays_before}
+use Rattle.cx_vsim.specs.Trees.{IsSmall}
 
 -- one list alone
 pub alone : (tree : List Placed) → tree ++ [] ≡ tree

@@ -5,9 +5,9 @@ use Rattle.cx_vtree.specs.Plain.{PlainExternal, PlainSource}
 use Rattle.cx_vtree.specs.InstanceTree.{Placed, instances_of}
 use Rattle.cx_vtree.specs.Meaning.{Moment}
 use Rattle.cx_vtree.specs.SimRun.{loaded_word}
-use Rattle.cx_veval.specs.declared.nets.Stored.{Stored}
-use Rattle.cx_vflat.specs.Memory.{StoredStands}
-use Rattle.cx_vbuild.specs.Zeros.{zero_moment}
+use Rattle.cx_vnets.specs.declared.nets.Stored.{Stored}
+use Rattle.cx_vnets.specs.Memory.{StoredStands}
+use Rattle.cx_velab.specs.Zeros.{zero_moment}
 use Rattle.cx_vsim.specs.Stands.{start_moment}
 
 loaded_none : (tree : List Placed) (es : List PlainExternal) (i : ℕ) (name : List ℕ) (index : ℕ) → 0 ≡ loaded_word tree es [] i name index

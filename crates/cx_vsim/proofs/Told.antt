@@ -5,16 +5,16 @@ use Rattle.std.specs.Option.{option_map_or}
 use Rattle.cx_vtree.specs.Plain.{PlainExternal, PlainSource}
 use Rattle.cx_vtree.specs.InstanceTree.{Placed, decls_at, instances_of}
 use Rattle.cx_vtree.specs.SimRun.{Outcome, DoneAt, LoopAt, NotDone, first_array}
-use Rattle.cx_veval.specs.declared.nets.Stored.{Stored}
-use Rattle.cx_veval.specs.declared.codes.Place.{Place}
-use Rattle.cx_veval.specs.Stores.{PlainWords, plain_words}
-use Rattle.cx_vrun.specs.Runs.{outcome_of}
-use Rattle.cx_vrun.specs.declared.runs.Answer.{Answer}
-use Rattle.cx_vrun.specs.declared.runs.Answer.TheVariants as flat
-use Rattle.cx_vflat.specs.Numbers.{nets_before, array_number}
-use Rattle.cx_vflat.specs.RunsFlat.{AreWordsOf, AreAllWords, OutcomeStands}
-use Rattle.cx_vbuild.specs.Tables.{all_places}
-use Rattle.cx_vplaces.specs.Externals.{array_of}
+use Rattle.cx_vnets.specs.declared.nets.Stored.{Stored}
+use Rattle.cx_vnets.specs.declared.codes.NetPosition.{NetPosition}
+use Rattle.cx_vnets.specs.Stores.{PlainWords, plain_words}
+use Rattle.cx_vnets.specs.Runs.{outcome_of}
+use Rattle.cx_vnets.specs.declared.runs.RunAnswer.{RunAnswer}
+use Rattle.cx_vnets.specs.declared.runs.RunAnswer.TheVariants as flat
+use Rattle.cx_vnets.specs.Numbers.{nets_before, array_number}
+use Rattle.cx_vnets.specs.RunsFlat.{AreWordsOf, AreAllWords, OutcomeStands}
+use Rattle.cx_velab.specs.Tables.{all_places}
+use Rattle.cx_vsim.specs.Externals.{array_of}
 use Rattle.cx_vsim.specs.Answers.{NamesNet}
 use Rattle.cx_vsim.specs.Stands.{words_at, words_by, outcome_by, TellsNet, IsToldAs}
 use Rattle.cx_vsim.specs.declared.answers.SimAnswer.{SimAnswer}
@@ -38,9 +38,9 @@ module _ (tree : List Placed) (arrays : List PlainWords) where
       let rest : map Some ns ≡ map (array_of tree) es = cc in
       ap (λ x. x ∷ ws) (one_is e w n all.0 first) ∙ ap (λ xs. words_at arrays n ∷ xs) (words_are es ws ns all.1 rest)
 
-module _ (s : PlainSource) (numbers : List ℕ) (places : List Place) (stored : Stored)
+module _ (s : PlainSource) (numbers : List ℕ) (places : List NetPosition) (stored : Stored)
     (arrays_are : map Some numbers ≡ map (array_of (instances_of s)) s.externals) (places_are : places ≡ all_places (instances_of s) (length (instances_of s))) where
-  pub outcome_is : (a : Answer) (r : SimAnswer) (q : Outcome) → IsToldAs places a r → OutcomeStands s (outcome_of a stored) q → q ≡ outcome_by r (words_by numbers (map plain_words stored.arrays.items))
+  pub outcome_is : (a : RunAnswer) (r : SimAnswer) (q : Outcome) → IsToldAs places a r → OutcomeStands s (outcome_of a stored) q → q ≡ outcome_by r (words_by numbers (map plain_words stored.arrays.items))
   outcome_is (flat.Done t) r (DoneAt u words) is stands =
       ap (λ c. DoneAt c words) (sym stands.0)
       ∙ ap (DoneAt t) (words_are (instances_of s) (map plain_words stored.arrays.items) s.externals words numbers stands.1 arrays_are)
@@ -54,14 +54,14 @@ module _ (s : PlainSource) (numbers : List ℕ) (places : List Place) (stored : 
   outcome_is flat.More r (DoneAt u words) is stands = absurd stands
   outcome_is flat.More r (LoopAt i k) is stands = absurd stands
 
-  pub tells : (a : Answer) (q : Outcome) → length (instances_of s) < 2 ^ 32 → nets_before (instances_of s) (length (instances_of s)) < 2 ^ 32 → OutcomeStands s (outcome_of a stored) q → TellsNet places a
+  pub tells : (a : RunAnswer) (q : Outcome) → length (instances_of s) < 2 ^ 32 → nets_before (instances_of s) (length (instances_of s)) < 2 ^ 32 → OutcomeStands s (outcome_of a stored) q → TellsNet places a
   tells (flat.Done t) q few small stands = tt
   tells (flat.Loop f) (LoopAt i k) few small stands = record { tree = instances_of s; instance = i; place = k; all = places_are; net = stands; few = few; small = small }
   tells (flat.Loop f) (DoneAt u words) few small stands = absurd stands
   tells (flat.Loop f) NotDone few small stands = absurd stands
   tells flat.More q few small stands = tt
 
-  pub names : (a : Answer) (r : SimAnswer) (q : Outcome) → IsToldAs places a r → OutcomeStands s (outcome_of a stored) q → NamesNet s r
+  pub names : (a : RunAnswer) (r : SimAnswer) (q : Outcome) → IsToldAs places a r → OutcomeStands s (outcome_of a stored) q → NamesNet s r
   names (flat.Done t) r q is stands = subst (NamesNet s) (sym is) tt
   names (flat.Loop f) r (LoopAt i k) is stands =
       subst (NamesNet s) (sym (is (instances_of s) i k places_are stands)) (net_within (instances_of s) i k stands.name stands.stands_there, slice_get_within _ k stands.name stands.stands_there)

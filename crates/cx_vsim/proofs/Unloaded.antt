@@ -5,14 +5,13 @@ use Rattle.std.proofs.lemmas.List.{length-set, length-map}
 use Rattle.std.proofs.lemmas.Option.{same_Some, slice_get-map, slice_get-get_or, get_or_from_slice_get, slice_get_within}
 use Rattle.std.specs.Option.{option_map_or}
 use Rattle.cx_bits.specs.BitVector.{BitVector, Fits}
-use Rattle.cx_text.specs.Loading.{PlainMemory}
-use Rattle.cx_veval.specs.declared.arrays.Words.{Words}
-use Rattle.cx_veval.specs.Stores.{PlainWords, plain_words}
-use Rattle.cx_vwords.specs.Numbers.{AreNarrow}
-use Rattle.cx_vflat.proofs.Numbering.{map_some}
-use Rattle.cx_vflat.proofs.SetSteps.{get_set_same, get_set_other}
+use Rattle.cx_text.specs.Loading.{PlainMemory, with_words}
+use Rattle.cx_vnets.specs.declared.arrays.Words.{Words}
+use Rattle.cx_vnets.specs.Stores.{PlainWords, plain_words}
+use Rattle.cx_vsim.specs.WordNumbers.{AreNarrow}
+use Rattle.cx_vnets.proofs.Numbering.{map_some}
+use Rattle.cx_vnets.proofs.FlatSetSteps.{get_set_same, get_set_other}
 use Rattle.cx_vsim.specs.Stands.{words_at, words_by}
-use Rattle.cx_vsim.specs.Models.{with_words}
 use Rattle.cx_vsim.specs.Arrays.{Gives, CanGive, AllGivenFit}
 
 abbrev pub with_these : PlainMemory → List ℕ → PlainMemory

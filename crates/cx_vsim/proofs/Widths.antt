@@ -7,7 +7,7 @@ use Rattle.cx_vtree.specs.Plain.{PlainDecl, WireOf, RegisterOf, ArrayOf, PlainEx
 use Rattle.cx_vtree.specs.PlainParts.{row_of, rows_of}
 use Rattle.cx_vtree.specs.InstanceTree.{decls_at, instances_of}
 use Rattle.cx_vtree.specs.Sound.{arrays_in, decl_meaning, width_of, is_sound}
-use Rattle.cx_vfacts.specs.Memories.{IsMemory}
+use Rattle.cx_vlaws.specs.Memories.{IsMemory}
 
 -- an array that is the only one is declared
 array_there : (ds : List PlainDecl) (w n : ℕ) → arrays_in ds ≡ (w, n) ∷ [] → (k : ℕ) × (x : List ℕ) × (slice_get ds k ≡ Some (ArrayOf x w n))

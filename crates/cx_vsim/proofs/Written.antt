@@ -5,15 +5,14 @@ use Rattle.std.proofs.lemmas.List.{length-set, length-map, map-set}
 use Rattle.std.proofs.lemmas.Option.{same_Some, slice_get-map, slice_get-get_or, slice_get_read, get_or_from_slice_get, slice_get_within}
 use Rattle.std.specs.Option.{option_map_or}
 use Rattle.cx_text.specs.declared.loading.LoadedMemory.{LoadedMemory}
-use Rattle.cx_text.specs.Loading.{PlainMemory, plain_memory}
+use Rattle.cx_text.specs.Loading.{PlainMemory, plain_memory, words_loaded}
 use Rattle.cx_bits.specs.BitVector.{BitVector}
-use Rattle.cx_veval.specs.declared.arrays.Words.{Words}
-use Rattle.cx_veval.specs.Stores.{PlainWords, plain_words}
-use Rattle.cx_vwords.specs.Numbers.{words_of_width}
-use Rattle.cx_vflat.proofs.Numbering.{map_some}
-use Rattle.cx_vflat.proofs.SetSteps.{get_set_same, get_set_other}
+use Rattle.cx_vnets.specs.declared.arrays.Words.{Words}
+use Rattle.cx_vnets.specs.Stores.{PlainWords, plain_words}
+use Rattle.cx_vsim.specs.WordNumbers.{words_of_width}
+use Rattle.cx_vnets.proofs.Numbering.{map_some}
+use Rattle.cx_vnets.proofs.FlatSetSteps.{get_set_same, get_set_other}
 use Rattle.cx_vsim.specs.Stands.{words_at, words_by}
-use Rattle.cx_vsim.specs.Models.{words_loaded}
 use Rattle.cx_vsim.specs.Arrays.{rewritten, with_array, with_arrays, Takes, CanTake}
 
 -- the numbers of words of a width are those that they were made of

@@ -2,9 +2,9 @@
 use Rattle.std.specs.Prelude.{◌≡◌, ℕ, ◌<◌, ◌^◌, List, [], ◌∷◌, Some, All, length, slice_get, slice_set}
 use Rattle.std.specs.Option.{option_map_or}
 use Rattle.cx_text.specs.Loading.{PlainMemory}
-use Rattle.cx_veval.specs.Stores.{PlainWords}
+use Rattle.cx_vnets.specs.Stores.{PlainWords}
 use Rattle.cx_bits.specs.BitVector.{Fits}
-use Rattle.cx_vwords.specs.Numbers.{AreNarrow, words_of_width}
+use Rattle.cx_vsim.specs.WordNumbers.{AreNarrow, words_of_width}
 
 -- an array with other words
 abbrev pub rewritten : PlainWords → List ℕ → PlainWords

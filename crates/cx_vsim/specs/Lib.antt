@@ -1,3 +1,10 @@
+pub mod Trees
+pub mod Tables
+pub mod Passes
+pub mod Machines
+pub mod Externals
+pub mod Nets
+pub mod WordNumbers
 pub mod Answers
 pub mod Models
 pub mod Numbers

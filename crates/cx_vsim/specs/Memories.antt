@@ -3,8 +3,8 @@ use Rattle.std.specs.Prelude.{◌≡◌, ℕ, Some, slice_get}
 use Rattle.cx_vtree.specs.Plain.{PlainExternal, PlainSource}
 use Rattle.cx_vtree.specs.InstanceTree.{instances_of}
 use Rattle.cx_vtree.specs.SimRun.{instance_named}
-use Rattle.cx_vfacts.specs.Memories.{IsMemory}
-use Rattle.cx_vflat.specs.EdgesFlat.{AreApart}
+use Rattle.cx_vlaws.specs.Memories.{IsMemory}
+use Rattle.cx_vnets.specs.EdgesFlat.{AreApart}
 
 -- names are apart, each external memory is the array of an instance, and no two are in one instance
 pub record HasMemories (s : PlainSource) : Type 0 where

@@ -1,6 +1,5 @@
 -- What contracts see of a simulator.
-use Rattle.std.specs.Prelude.{ℕ, List, [], ◌∷◌, map}
-use Rattle.cx_text.specs.Loading.{PlainMemory}
+use Rattle.std.specs.Prelude.{ℕ, List}
 use Rattle.cx_vtree.specs.declared.sources.Source.{Source}
 use Rattle.cx_vtree.specs.SimRun.{Outcome}
 
@@ -14,13 +13,3 @@ pub record Loaded : Type 0 where
 pub record Ended : Type 0 where
   pub source : Source
   pub outcome : Outcome
-
--- the words of the memories that a data file gives
-abbrev pub words_loaded : List PlainMemory → List (List ℕ)
-words_loaded ms = map (λ m. m.words) ms
-
--- the memories with these words in place of theirs, one list for each
-abbrev pub with_words : List PlainMemory → List (List ℕ) → List PlainMemory
-with_words [] words = []
-with_words (m ∷ ms) [] = m ∷ ms
-with_words (m ∷ ms) (ws ∷ words) = record { shape = m.shape; signed = m.signed; words = ws } ∷ with_words ms words

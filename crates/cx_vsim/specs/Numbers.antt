@@ -2,8 +2,8 @@
 use Rattle.std.specs.Prelude.{◌≡◌, Some, length, map}
 use Rattle.cx_vtree.specs.Plain.{PlainSource}
 use Rattle.cx_vtree.specs.InstanceTree.{instances_of}
-use Rattle.cx_vbuild.specs.Tables.{all_places}
-use Rattle.cx_vplaces.specs.Externals.{array_of}
+use Rattle.cx_velab.specs.Tables.{all_places}
+use Rattle.cx_vsim.specs.Externals.{array_of}
 use Rattle.cx_vsim.specs.declared.numbers.Numbers.{Numbers}
 
 -- the numbers of the arrays of the external memories, and where each instance begins

@@ -6,17 +6,17 @@ use Rattle.cx_vtree.specs.Plain.{PlainExternal, PlainSource}
 use Rattle.cx_vtree.specs.InstanceTree.{Placed, instances_of}
 use Rattle.cx_vtree.specs.Meaning.{Moment}
 use Rattle.cx_vtree.specs.SimRun.{Outcome, DoneAt, LoopAt, NotDone, start_state}
-use Rattle.cx_veval.specs.declared.codes.Place.{Place}
-use Rattle.cx_veval.specs.Stores.{PlainWords}
-use Rattle.cx_vrun.specs.Runs.{IsReady}
-use Rattle.cx_vrun.specs.declared.runs.Answer.{Answer}
-use Rattle.cx_vrun.specs.declared.runs.Answer.TheVariants as flat
-use Rattle.cx_vflat.specs.Memory.{StoredStands}
-use Rattle.cx_vflat.specs.Numbers.{nets_before}
-use Rattle.cx_vflat.specs.RunsFlat.{MachineStands, IsNet}
-use Rattle.cx_vbuild.specs.Tables.{all_places}
-use Rattle.cx_vplaces.specs.Externals.{array_of}
-use Rattle.cx_vmachine.specs.declared.machines.Built.{Built}
+use Rattle.cx_vnets.specs.declared.codes.NetPosition.{NetPosition}
+use Rattle.cx_vnets.specs.Stores.{PlainWords}
+use Rattle.cx_vnets.specs.Runs.{IsReady}
+use Rattle.cx_vnets.specs.declared.runs.RunAnswer.{RunAnswer}
+use Rattle.cx_vnets.specs.declared.runs.RunAnswer.TheVariants as flat
+use Rattle.cx_vnets.specs.Memory.{StoredStands}
+use Rattle.cx_vnets.specs.Numbers.{nets_before}
+use Rattle.cx_vnets.specs.RunsFlat.{MachineStands, IsNet}
+use Rattle.cx_velab.specs.Tables.{all_places}
+use Rattle.cx_vsim.specs.Externals.{array_of}
+use Rattle.cx_vsim.specs.declared.machines.Built.{Built}
 use Rattle.cx_vsim.specs.Answers.{NamesNet}
 use Rattle.cx_vsim.specs.declared.answers.SimAnswer.{SimAnswer}
 use Rattle.cx_vsim.specs.declared.answers.SimAnswer.TheVariants.{Done, Loop, More}
@@ -34,7 +34,7 @@ abbrev pub start_moment : PlainSource → List (List ℕ) → Moment
 start_moment s words = record { state = start_state s words; reset = 0; go = 0 }
 
 -- the machine is that of the source, with these words in the arrays of its external memories, which have these numbers
-pub record SimStands (s : PlainSource) (words : List (List ℕ)) (built : Built) (numbers : List ℕ) (places : List Place) : Type 0 where
+pub record SimStands (s : PlainSource) (words : List (List ℕ)) (built : Built) (numbers : List ℕ) (places : List NetPosition) : Type 0 where
   pub machine : MachineStands (instances_of s) built.machine
   pub ready : IsReady built.machine built.stored built.bench
   pub stored : StoredStands (instances_of s) (start_moment s words) built.stored
@@ -48,7 +48,7 @@ outcome_by (Loop instance net) words = LoopAt instance net
 outcome_by More words = NotDone
 
 -- the number is that of a net of a tree of instances that begin at these places
-pub record IsPlaced (places : List Place) (f : ℕ) : Type 0 where
+pub record IsPlaced (places : List NetPosition) (f : ℕ) : Type 0 where
   pub tree : List Placed
   pub instance : ℕ
   pub place : ℕ
@@ -57,13 +57,13 @@ pub record IsPlaced (places : List Place) (f : ℕ) : Type 0 where
   pub few : length tree < 2 ^ 32
   pub small : nets_before tree (length tree) < 2 ^ 32
 
-abbrev pub TellsNet : List Place → Answer → Type 0
+abbrev pub TellsNet : List NetPosition → RunAnswer → Type 0
 TellsNet places (flat.Done t) = Unit {0}
 TellsNet places (flat.Loop f) = IsPlaced places f
 TellsNet places flat.More = Unit {0}
 
 -- the answer by the instance and the place of a net is the one by its number
-abbrev pub IsToldAs : List Place → Answer → SimAnswer → Type 0
+abbrev pub IsToldAs : List NetPosition → RunAnswer → SimAnswer → Type 0
 IsToldAs places (flat.Done t) r = r ≡ Done t
 IsToldAs places (flat.Loop f) r = (tree : List Placed) (i k : ℕ) → places ≡ all_places tree (length tree) → IsNet tree f i k → r ≡ Loop i k
 IsToldAs places flat.More r = r ≡ More

@@ -2,12 +2,12 @@
 
 ghost use Rattle.std.specs.Prelude.{◌≡◌, map};
 ghost use Rattle.cx_text.specs.Loading.{plain_loaded};
-ghost use Rattle.cx_veval.specs.Stores.{plain_words};
+ghost use Rattle.cx_vnets.specs.Stores.{plain_words};
 ghost use Rattle.cx_vsim.specs.Arrays.{CanTake, with_arrays};
 
+use crate::write_words;
 use cx_text::Loaded;
-use cx_veval::Words;
-use cx_vwords::write_words;
+use cx_vnets::Words;
 
 /// Writes the words of memories over those of the arrays of these numbers.
 pub(crate) fn load_words(numbers: &[usize], arrays: &mut [Words], loaded: &Loaded)

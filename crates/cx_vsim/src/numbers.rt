@@ -6,12 +6,10 @@ ghost use Rattle.cx_vtree.specs.PlainParts.{plain_instance};
 ghost use Rattle.cx_vtree.specs.PlainSources.{plain_source};
 ghost use Rattle.cx_vsim.specs.Numbers.{AreNumbersOf};
 
+use crate::{external_arrays, trees_can_be_built};
 use cx_text::{Memory, Name};
-use cx_vbuild::places;
-use cx_veval::Place;
-use cx_vmachine::trees_can_be_built;
-use cx_vplaces::external_arrays;
-use cx_vtable::rows;
+use cx_velab::{places, rows};
+use cx_vnets::NetPosition;
 use cx_vtree::{Instance, Source};
 use std::alloc::Global;
 
@@ -19,7 +17,7 @@ use std::alloc::Global;
 #[derive(Drop)]
 pub(crate) struct Numbers {
     pub arrays: Vec<usize>,
-    pub places: Vec<Place>,
+    pub places: Vec<NetPosition>,
 }
 
 /// `main` as an instance: without a name, and with nothing connected to it.

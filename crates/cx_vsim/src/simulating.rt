@@ -1,24 +1,21 @@
 //! A source that is run from reset, and what its run came to.
 
 ghost use Rattle.std.specs.Prelude.{◌≡◌, [], IfOk};
-ghost use Rattle.cx_text.specs.Loading.{FitsRows, plain_loaded};
+ghost use Rattle.cx_text.specs.Loading.{FitsRows, plain_loaded, words_loaded, with_words};
 ghost use Rattle.cx_vtree.specs.PlainParts.{rows_of};
 ghost use Rattle.cx_vtree.specs.PlainSources.{plain_source};
 ghost use Rattle.cx_vtree.specs.SimRun.{SimRun};
 ghost use Rattle.cx_vsim.specs.Answers.{IsDone, NamesNet, answer_of, final_words};
-ghost use Rattle.cx_vsim.specs.Models.{words_loaded, with_words};
 
 use crate::answers::SimAnswer;
-use crate::laws::{instances_are_few, memories_are_arrays};
 use crate::loading::load_words;
 use crate::numbers::numbers_of;
+use crate::sim_laws::{instances_are_few, memories_are_arrays};
 use crate::telling::told;
 use crate::unloading::unload_words;
+use crate::{Built, machine, memories_stand, trees_can_be_built};
 use cx_text::{Loaded, Memory};
-use cx_veval::{Place, Stored};
-use cx_vflat::runs_are_same;
-use cx_vmachine::{Built, machine, memories_stand, trees_can_be_built};
-use cx_vrun::{machines_stay_ready, run};
+use cx_vnets::{NetPosition, Stored, machines_stay_ready, run, runs_are_same};
 use cx_vtree::Source;
 use std::alloc::Global;
 use std::marker::Model;
@@ -29,14 +26,14 @@ pub struct Sim<'a> {
     source: &'a Source,
     built: Built,
     arrays: Vec<usize>,
-    places: Vec<Place>,
+    places: Vec<NetPosition>,
     loaded: bool,
 }
 
 impl<'a> Model for Sim<'a> {
     ghost use Rattle.std.specs.Prelude.{[], map, if◌then◌else◌};
     ghost use Rattle.std.specs.Coded.{codes};
-    ghost use Rattle.cx_veval.specs.Stores.{plain_words};
+    ghost use Rattle.cx_vnets.specs.Stores.{plain_words};
     ghost use Rattle.cx_vtree.specs.PlainSources.{plain_source};
     ghost use Rattle.cx_vtree.specs.contracts.sources.Source as sources;
     ghost use Rattle.cx_vsim.specs.Models.{Loaded};
@@ -63,7 +60,7 @@ pub struct SimRan<'a> {
 impl<'a> Model for SimRan<'a> {
     ghost use Rattle.std.specs.Coded.{codes};
     ghost use Rattle.std.specs.Prelude.{map};
-    ghost use Rattle.cx_veval.specs.Stores.{plain_words};
+    ghost use Rattle.cx_vnets.specs.Stores.{plain_words};
     ghost use Rattle.cx_vtree.specs.PlainSources.{plain_source};
     ghost use Rattle.cx_vtree.specs.contracts.sources.Source as sources;
     ghost use Rattle.cx_vsim.specs.Models.{Ended};

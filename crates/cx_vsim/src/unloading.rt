@@ -1,15 +1,14 @@
 //! Words of arrays into the memories of a dump.
 
 ghost use Rattle.std.specs.Prelude.{◌≡◌, map};
-ghost use Rattle.cx_text.specs.Loading.{plain_loaded};
-ghost use Rattle.cx_veval.specs.Stores.{plain_words};
-ghost use Rattle.cx_vsim.specs.Models.{with_words};
+ghost use Rattle.cx_text.specs.Loading.{plain_loaded, with_words};
+ghost use Rattle.cx_vnets.specs.Stores.{plain_words};
 ghost use Rattle.cx_vsim.specs.Stands.{words_by};
 ghost use Rattle.cx_vsim.specs.Arrays.{AllGivenFit, CanGive};
 
+use crate::read_words;
 use cx_text::Loaded;
-use cx_veval::Words;
-use cx_vwords::read_words;
+use cx_vnets::Words;
 
 /// Writes the words of the arrays of these numbers over those of memories.
 pub(crate) fn unload_words(numbers: &[usize], arrays: &[Words], into: &mut Loaded)

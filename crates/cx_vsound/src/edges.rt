@@ -9,12 +9,13 @@ ghost use Rattle.cx_vsound.specs.Search.{faults_in, over};
 use crate::search::{LineFaults, Search, after, clean};
 use cx_text::{Memory, Name};
 use cx_vscope::{
-    Names, Scope, fitting_width, has_width, is_array, is_register, misnames, too_deep, width_of,
+    ModuleScope, Names, fitting_width, has_width, is_array, is_register, misnames, too_deep,
+    width_of,
 };
 use cx_vtree::{Edge, EdgeItem, Expr, NetAssign};
 use std::alloc::Global;
 
-fn set_faults(scope: &Scope, earlier: &Names, a: &NetAssign) -> LineFaults
+fn set_faults(scope: &ModuleScope, earlier: &Names, a: &NetAssign) -> LineFaults
     ensures { faults_in result ≡ sound.set_faults (scope_by scope.now) earlier.now (plain_assign a.now) }
 {
     LineFaults {
@@ -27,7 +28,7 @@ fn set_faults(scope: &Scope, earlier: &Names, a: &NetAssign) -> LineFaults
 }
 
 fn store_faults(
-    scope: &Scope,
+    scope: &ModuleScope,
     earlier: &Names,
     guard: &Expr,
     array: &Name,
@@ -49,7 +50,7 @@ fn store_faults(
     }
 }
 
-fn item_faults(scope: &Scope, earlier: &Names, item: &EdgeItem) -> LineFaults
+fn item_faults(scope: &ModuleScope, earlier: &Names, item: &EdgeItem) -> LineFaults
     ensures { faults_in result ≡ sound.item_faults (scope_by scope.now) earlier.now (plain_item item.now) }
 {
     match item {
@@ -73,7 +74,12 @@ fn item_name(item: &EdgeItem) -> &Name
     }
 }
 
-fn sets(alloc: Global, search: Search, scope: &Scope, list: &[NetAssign]) -> Result<Search, Memory>
+fn sets(
+    alloc: Global,
+    search: Search,
+    scope: &ModuleScope,
+    list: &[NetAssign],
+) -> Result<Search, Memory>
     ensures { IfOk result (λ s. s ≡ over search (sound.sets_faults (scope_by scope.now) [] (map plain_assign list.now))) }
 {
     let mut search = search;
@@ -85,7 +91,12 @@ fn sets(alloc: Global, search: Search, scope: &Scope, list: &[NetAssign]) -> Res
     Ok(search)
 }
 
-fn items(alloc: Global, search: Search, scope: &Scope, list: &[EdgeItem]) -> Result<Search, Memory>
+fn items(
+    alloc: Global,
+    search: Search,
+    scope: &ModuleScope,
+    list: &[EdgeItem],
+) -> Result<Search, Memory>
     ensures { IfOk result (λ s. s ≡ over search (sound.items_faults (scope_by scope.now) [] (map plain_item list.now))) }
 {
     let mut search = search;
@@ -99,7 +110,12 @@ fn items(alloc: Global, search: Search, scope: &Scope, list: &[EdgeItem]) -> Res
 
 /// Goes on past the lines of an edge.
 #[tactic(auto, using(crate::proofs::Overs::over_append))]
-fn edge_lines(alloc: Global, search: Search, scope: &Scope, e: &Edge) -> Result<Search, Memory>
+fn edge_lines(
+    alloc: Global,
+    search: Search,
+    scope: &ModuleScope,
+    e: &Edge,
+) -> Result<Search, Memory>
     ensures { IfOk result (λ s. s ≡ over search (sound.edge_faults (scope_by scope.now) (Some (plain_edge e.now)))) }
 {
     let search = sets(alloc, clean(clean(search)), scope, &e.reset)?;
@@ -111,7 +127,7 @@ fn edge_lines(alloc: Global, search: Search, scope: &Scope, e: &Edge) -> Result<
 pub fn edge(
     alloc: Global,
     search: Search,
-    scope: &Scope,
+    scope: &ModuleScope,
     e: &Option<Edge>,
 ) -> Result<Search, Memory>
     ensures { IfOk result (λ s. s ≡ over search (sound.edge_faults (scope_by scope.now) (option_map plain_edge e.now))) }

@@ -10,11 +10,11 @@ ghost use Rattle.cx_vsound.specs.Search.{faults_in, noted, over};
 use crate::nets::{add_driven, module_named, ports_of};
 use crate::search::{LineFaults, Search, after};
 use cx_text::Memory;
-use cx_vscope::{Names, Scope, is_source, is_wire, same, width_of};
+use cx_vscope::{ModuleScope, Names, is_source, is_wire, same, width_of};
 use cx_vtree::{Conn, Instance, Module, ModulePort};
 
 /// Whether a port is connected to a net that it may not be connected to, or another port stands in its place.
-fn miswired(scope: &Scope, p: &ModulePort, c: &Conn) -> bool
+fn miswired(scope: &ModuleScope, p: &ModulePort, c: &Conn) -> bool
     ensures { result ≡ sound.miswired (scope_by scope.now) (plain_port p.now) (plain_conn c.now) }
 {
     let net = scope.meaning(&c.net);
@@ -29,7 +29,7 @@ fn miswired(scope: &Scope, p: &ModulePort, c: &Conn) -> bool
 }
 
 /// Whether an instance does not connect all ports of its module in their order, as it may.
-fn misconnects(scope: &Scope, ports: &[ModulePort], conns: &[Conn]) -> bool
+fn misconnects(scope: &ModuleScope, ports: &[ModulePort], conns: &[Conn]) -> bool
     ensures { result ≡ sound.misconnects (scope_by scope.now) (map plain_port ports.now) (map plain_conn conns.now) }
 {
     let mut ports = ports;
@@ -48,7 +48,7 @@ fn misconnects(scope: &Scope, ports: &[ModulePort], conns: &[Conn]) -> bool
 }
 
 /// Whether a port is connected to a net of another width.
-fn misfits(scope: &Scope, ports: &[ModulePort], conns: &[Conn]) -> bool
+fn misfits(scope: &ModuleScope, ports: &[ModulePort], conns: &[Conn]) -> bool
     ensures { result ≡ sound.misfits (scope_by scope.now) (map plain_port ports.now) (map plain_conn conns.now) }
 {
     let mut ports = ports;
@@ -68,7 +68,7 @@ fn misfits(scope: &Scope, ports: &[ModulePort], conns: &[Conn]) -> bool
 
 fn instance_faults(
     before: &[Module],
-    scope: &Scope,
+    scope: &ModuleScope,
     earlier: &Names,
     doubled: bool,
     i: &Instance,
@@ -90,7 +90,7 @@ fn instance_faults(
 fn instance<'a>(
     search: Search,
     before: &[Module],
-    scope: &Scope,
+    scope: &ModuleScope,
     earlier: &mut Names<'a>,
     driven: &mut Names<'a>,
     i: &'a Instance,
@@ -109,7 +109,7 @@ fn instance<'a>(
 pub fn instances<'a>(
     search: Search,
     before: &[Module],
-    scope: &Scope,
+    scope: &ModuleScope,
     earlier: &mut Names<'a>,
     driven: &mut Names<'a>,
     instances: &'a [Instance],

@@ -13,7 +13,7 @@ use crate::nets::drivers;
 use crate::parts::{assigns, decls, ports};
 use crate::search::{LineFaults, Search, after, clean};
 use cx_text::{Memory, Name};
-use cx_vscope::{Names, Scope, same};
+use cx_vscope::{ModuleScope, Names, same};
 use cx_vtree::{Module, ModulePort, NetAssign};
 use std::alloc::Global;
 
@@ -96,7 +96,7 @@ fn body<'a>(
     requires { names.old ≡ map (λ p. p.name) (map plain_port m.now.ports.items) ++ map sound.decl_name (map plain_decl m.now.decls.items) }
     ensures { IfOk result (λ s. s ≡ over search (body_faults (plain_modules before.now) (plain_module m.now))) }
 {
-    let scope = Scope::new(alloc, m)?;
+    let scope = ModuleScope::new(alloc, m)?;
     let search = assigns(alloc, search, &scope, &m.assigns)?;
     let mut driven = assigned(alloc, &m.assigns)?;
     let search = instances(search, before, &scope, names, &mut driven, &m.instances)?;

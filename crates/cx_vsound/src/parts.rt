@@ -8,7 +8,9 @@ ghost use Rattle.cx_vsound.specs.Search.{faults_in, over};
 
 use crate::search::{LineFaults, Search, after};
 use cx_text::{Memory, WIDTH_BITS};
-use cx_vscope::{Names, Scope, decl_name, has_width, is_driven, misnames, too_deep, width_of};
+use cx_vscope::{
+    ModuleScope, Names, decl_name, has_width, is_driven, misnames, too_deep, width_of,
+};
 use cx_vtree::{Decl, ModulePort, NetAssign};
 use std::alloc::Global;
 
@@ -136,7 +138,7 @@ pub fn decls<'a>(
     Ok(search)
 }
 
-fn assign_faults(scope: &Scope, earlier: &Names, a: &NetAssign) -> LineFaults
+fn assign_faults(scope: &ModuleScope, earlier: &Names, a: &NetAssign) -> LineFaults
     ensures { faults_in result ≡ sound.assign_faults (scope_by scope.now) earlier.now (plain_assign a.now) }
 {
     LineFaults {
@@ -152,7 +154,7 @@ fn assign_faults(scope: &Scope, earlier: &Names, a: &NetAssign) -> LineFaults
 pub fn assigns(
     alloc: Global,
     search: Search,
-    scope: &Scope,
+    scope: &ModuleScope,
     assigns: &[NetAssign],
 ) -> Result<Search, Memory>
     ensures { IfOk result (λ s. s ≡ over search (sound.assigns_faults (scope_by scope.now) [] (map plain_assign assigns.now))) }

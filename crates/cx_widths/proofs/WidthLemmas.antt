@@ -15,11 +15,11 @@ use Rattle.cx_rules.specs.Items.{operands_of, atoms_of, sources_of, Visited, sta
 use Rattle.cx_rules.specs.Spots.{AnAssign, AStatement, Spot, Tells, OnAssign, OnStatement, AssignRule, StatementRule}
 use Rattle.cx_rules.specs.WidthRules.{pairs_of, first_unequal, first_wide, is_wide, IsBadLiteral, BreaksWidth, BreaksGuardWidth, TestBreaksGuardWidth, BreaksLiteral, TestBreaksLiteral, BreaksNotATarget, BreaksNotASource, TestBreaksNotASource}
 use Rattle.cx_rules.specs.Accepted.{Breaks, stage_of, key_of}
-use Rattle.cx_first_break.specs.Breaks.{Broken, first_of}
-use Rattle.cx_first_break.specs.Numbered.{numbered}
-use Rattle.cx_first_break.specs.Answers.{AreBreaks}
-use Rattle.cx_first_break.proofs.Order.{not_before_itself}
-use Rattle.cx_first_break.proofs.Lists.{first_append, in_left, in_right, in_either, in_flat, flat_in, in_numbered, numbered_in}
+use Rattle.cx_design_parts.specs.Breaks.{Broken, first_of}
+use Rattle.cx_design_parts.specs.Numbered.{numbered}
+use Rattle.cx_design_parts.specs.Answers.{AreBreaks}
+use Rattle.cx_design_parts.proofs.Order.{not_before_itself}
+use Rattle.cx_design_parts.proofs.Lists.{first_append, in_left, in_right, in_either, in_flat, flat_in, in_numbered, numbered_in}
 use Rattle.cx_widths.specs.WidthBreaks.{told_port, port_if, is_bad, literal_break, source_break, target_break, operand_breaks, assign_breaks, condition_breaks, test_breaks, assign_breaks_at, condition_breaks_at, component_breaks, components_breaks, width_breaks}
 
 abbrev broken : Rule → Spot → Place → List ℕ → Broken

@@ -13,8 +13,8 @@ use Rattle.cx_rules.specs.Ports.{component_of, keeps_literal, is_source_only, is
 use Rattle.cx_rules.specs.Items.{operands_of, atoms_of, Visited, statements_in, test_in}
 use Rattle.cx_rules.specs.Spots.{AnAssign, AStatement, Spot}
 use Rattle.cx_rules.specs.WidthRules.{pairs_of, first_unequal, first_wide, is_wide}
-use Rattle.cx_first_break.specs.Breaks.{Broken}
-use Rattle.cx_first_break.specs.Numbered.{numbered}
+use Rattle.cx_design_parts.specs.Breaks.{Broken}
+use Rattle.cx_design_parts.specs.Numbered.{numbered}
 
 -- a break that is told of a port, where there is one
 abbrev pub told_port : Rule → Instance → Spot → Place → Option PortRef → List Broken

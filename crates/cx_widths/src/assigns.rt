@@ -4,20 +4,18 @@ ghost use Rattle.std.specs.Prelude.{◌≡◌, ◌<◌, IfOk, flat_map, length};
 ghost use Rattle.cx_rules.specs.Ports.{component_of};
 ghost use Rattle.cx_design.specs.PlainForms.{plain_assign};
 ghost use Rattle.cx_design.specs.PlainDesigns.{plain_design};
-ghost use Rattle.cx_first_break.specs.Breaks.{first_of, plain_spot};
+ghost use Rattle.cx_design_parts.specs.Breaks.{first_of, plain_spot};
 ghost use Rattle.cx_widths.specs.WidthBreaks.{assign_breaks, operand_breaks, target_break};
 
 use crate::telling::{add_literal, add_port, add_source};
 use crate::unequal::{first_unequal, first_wide};
 use cx_design::{Assign, Design, PlacedPort};
-use cx_first_break::{FirstBreak, Spot};
-use cx_items::{atoms, operands};
-use cx_ports::is_source_only;
+use cx_design_parts::{FirstBreak, Spot, atoms, is_source_only, operands};
 use cx_text::{Memory, Rule};
 use std::alloc::Global;
 
 /// Looks at one assignment.
-#[tactic(auto, using(cx_first_break::proofs::Lists::first_append))]
+#[tactic(auto, using(cx_design_parts::proofs::Lists::first_append))]
 pub fn add_assign(
     alloc: Global,
     first: &mut FirstBreak,
@@ -83,7 +81,7 @@ fn add_target(
 }
 
 /// Looks at the operands of a guard.
-#[tactic(auto, using(cx_first_break::proofs::Lists::first_append))]
+#[tactic(auto, using(cx_design_parts::proofs::Lists::first_append))]
 fn add_operands(
     alloc: Global,
     first: &mut FirstBreak,
@@ -101,7 +99,7 @@ fn add_operands(
 }
 
 /// Looks at a source or an operand of a guard.
-#[tactic(auto, using(cx_first_break::proofs::Lists::first_append))]
+#[tactic(auto, using(cx_design_parts::proofs::Lists::first_append))]
 pub fn add_operand(
     alloc: Global,
     first: &mut FirstBreak,

@@ -7,18 +7,15 @@ ghost use Rattle.cx_meaning.specs.Active as active;
 ghost use Rattle.cx_meaning.specs.Designs.{component_at};
 ghost use Rattle.cx_design.specs.PlainForms.{plain_form};
 ghost use Rattle.cx_design.specs.PlainDesigns.{plain_design};
-ghost use Rattle.cx_first_break.specs.Answers.{IsAnswer};
-ghost use Rattle.cx_first_break.specs.Breaks.{first_of, plain_spot};
-ghost use Rattle.cx_first_break.specs.Numbered.{numbered};
+ghost use Rattle.cx_design_parts.specs.Answers.{IsAnswer};
+ghost use Rattle.cx_design_parts.specs.Breaks.{first_of, plain_spot};
+ghost use Rattle.cx_design_parts.specs.Numbered.{numbered};
 ghost use Rattle.cx_widths.specs.WidthBreaks.{assign_breaks_at, condition_breaks_at, test_breaks, width_breaks};
 
 use crate::assigns::add_assign;
 use crate::conditions::add_condition;
 use cx_design::{Design, Refusal};
-use cx_first_break::{FirstBreak, Part, Spot};
-use cx_items::{Visited, statements, test};
-use cx_ports::component;
-use cx_source_order::source_order;
+use cx_design_parts::{FirstBreak, Part, Spot, Visited, component, source_order, statements, test};
 use cx_text::Memory;
 use std::alloc::Global;
 
@@ -34,7 +31,7 @@ pub fn check(alloc: Global, design: &Design) -> Result<(), Refusal>
 }
 
 /// The first break of a design.
-#[tactic(auto, using(cx_first_break::proofs::Lists::first_append))]
+#[tactic(auto, using(cx_design_parts::proofs::Lists::first_append))]
 fn first_break(alloc: Global, design: &Design) -> Result<FirstBreak, Memory>
     ensures value { IfOk result (λ first. first ≡ first_of None (width_breaks (plain_design design.now))) }
 {
@@ -47,7 +44,7 @@ fn first_break(alloc: Global, design: &Design) -> Result<FirstBreak, Memory>
 }
 
 /// Looks at the assignments of a component.
-#[tactic(auto, using(cx_first_break::proofs::Lists::first_append))]
+#[tactic(auto, using(cx_design_parts::proofs::Lists::first_append))]
 fn add_assigns(
     alloc: Global,
     first: &mut FirstBreak,
@@ -69,7 +66,7 @@ fn add_assigns(
 }
 
 /// Looks at the conditions in a component's control.
-#[tactic(auto, using(cx_first_break::proofs::Lists::first_append))]
+#[tactic(auto, using(cx_design_parts::proofs::Lists::first_append))]
 fn add_conditions(
     alloc: Global,
     first: &mut FirstBreak,

@@ -3,19 +3,19 @@
 ghost use Rattle.std.specs.Prelude.{◌≡◌, ◌<◌, IfOk, length};
 ghost use Rattle.cx_rules.specs.Ports.{component_of};
 ghost use Rattle.cx_design.specs.PlainDesigns.{plain_design};
-ghost use Rattle.cx_first_break.specs.Breaks.{first_of, plain_spot};
+ghost use Rattle.cx_design_parts.specs.Breaks.{first_of, plain_spot};
 ghost use Rattle.cx_widths.specs.WidthBreaks.{condition_breaks};
 
 use crate::assigns::add_operand;
 use crate::telling::add_port;
 use crate::unequal::is_wide;
 use cx_design::{Design, PlacedPort};
-use cx_first_break::{FirstBreak, Spot};
+use cx_design_parts::{FirstBreak, Spot};
 use cx_text::{Memory, Place, Rule};
 use std::alloc::Global;
 
 /// Looks at the condition of a statement that stands at a place.
-#[tactic(auto, using(cx_first_break::proofs::Lists::first_append))]
+#[tactic(auto, using(cx_design_parts::proofs::Lists::first_append))]
 pub fn add_condition(
     alloc: Global,
     first: &mut FirstBreak,

@@ -3,12 +3,11 @@
 ghost use Rattle.std.specs.Prelude.{◌≡◌, ◌<◌, IfOk, length};
 ghost use Rattle.cx_rules.specs.Ports.{component_of};
 ghost use Rattle.cx_design.specs.PlainDesigns.{plain_design};
-ghost use Rattle.cx_first_break.specs.Breaks.{first_of, plain_spot};
+ghost use Rattle.cx_design_parts.specs.Breaks.{first_of, plain_spot};
 ghost use Rattle.cx_widths.specs.WidthBreaks.{is_bad, told_port, literal_break, source_break};
 
 use cx_design::{Design, PlacedPort, PortRef};
-use cx_first_break::{Break, FirstBreak, Spot};
-use cx_ports::{is_target_only, keeps_literal, path};
+use cx_design_parts::{Break, FirstBreak, Spot, is_target_only, keeps_literal, path};
 use cx_text::{Memory, Name, Place, Rule};
 use std::alloc::Global;
 

@@ -6,11 +6,10 @@ ghost use Rattle.cx_rules.specs.WidthRules as rules;
 ghost use Rattle.cx_rules.specs.WidthRules.{pairs_of};
 ghost use Rattle.cx_design.specs.PlainForms.{plain_assign};
 ghost use Rattle.cx_design.specs.PlainDesigns.{plain_design};
-ghost use Rattle.cx_items.specs.Items.{plain_pair};
+ghost use Rattle.cx_design_parts.specs.Items.{plain_pair};
 
 use cx_design::{Assign, Design, PlacedPort, PortRef};
-use cx_items::{Pair, comparisons};
-use cx_ports::{width, written_width};
+use cx_design_parts::{Pair, comparisons, width, written_width};
 use cx_text::Memory;
 use std::alloc::Global;
 

@@ -3,7 +3,7 @@ use Rattle.std.proofs.lemmas.List.{length-map}
 use Rattle.cx_meaning.specs.Designs.{PlainComponent}
 use Rattle.cx_design.specs.PlainDesigns.{plain_design}
 use Rattle.cx_design.specs.PlainForms.{plain_component}
-use Rattle.cx_leads.proofs.NodeLemmas.{component_part}
+use Rattle.cx_design_leads.proofs.NodeLemmas.{component_part}
 use Rattle.cx_comb.specs.CombBreaks.{component_breaks}
 use Rattle.cx_comb.proofs.BreakLemmas.{component_has}
 use Rattle.cx_comb.proofs.checking.add_component.Goals as goal

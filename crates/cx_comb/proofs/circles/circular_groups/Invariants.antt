@@ -2,8 +2,8 @@ use Rattle.std.proofs.Common.{◌≡◌, length}
 use Rattle.cx_graphs.specs.Walks.{IsReady}
 use Rattle.cx_rules.specs.Ports.{component_of}
 use Rattle.cx_design.specs.PlainDesigns.{plain_design}
-use Rattle.cx_leads.specs.Nodes.{node_count}
-use Rattle.cx_leads.specs.Edges.{IsClear}
+use Rattle.cx_design_leads.specs.Nodes.{node_count}
+use Rattle.cx_design_leads.specs.Edges.{IsClear}
 use Rattle.cx_comb.specs.Circles.{AreGroupCircles}
 use Rattle.cx_comb.proofs.circles.circular_groups.Given as goal
 

@@ -11,8 +11,8 @@ use Rattle.cx_rules.specs.Ports.{component_of}
 use Rattle.cx_rules.specs.RaceRule.{HasCycle}
 use Rattle.cx_design.specs.PlainDesigns.{plain_design}
 use Rattle.cx_design.specs.PlainForms.{plain_component, plain_group}
-use Rattle.cx_leads.specs.Edges.{HasEdges}
-use Rattle.cx_leads.proofs.NodeLemmas.{component_part, part_is}
+use Rattle.cx_design_leads.specs.Edges.{HasEdges}
+use Rattle.cx_design_leads.proofs.NodeLemmas.{component_part, part_is}
 use Rattle.cx_comb.proofs.CircleFacts.{all_circles, leads_graph}
 use Rattle.cx_comb.proofs.CycleLemmas.{bare_cycles, bare_found}
 use Rattle.cx_comb.proofs.circles.find_circles.Goals as goal

@@ -7,7 +7,7 @@ use Rattle.cx_graphs.specs.Walks.{IsReady}
 use Rattle.cx_rules.specs.Ports.{component_of}
 use Rattle.cx_design.specs.PlainDesigns.{plain_design}
 use Rattle.cx_design.specs.PlainForms.{plain_component}
-use Rattle.cx_leads.specs.Nodes.{node_count}
+use Rattle.cx_design_leads.specs.Nodes.{node_count}
 use Rattle.cx_comb.proofs.CircleFacts.{pruned_length, pruned_graph, group_within}
 use Rattle.cx_comb.proofs.CycleLemmas.{group_found}
 use Rattle.cx_comb.proofs.circles.is_circular.Goals as goal

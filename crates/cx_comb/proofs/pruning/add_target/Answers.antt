@@ -2,8 +2,8 @@ use Rattle.std.proofs.Common.{sym}
 use Rattle.cx_rules.specs.Ports.{component_of}
 use Rattle.cx_design.specs.PlainDesigns.{plain_design}
 use Rattle.cx_design.specs.PlainForms.{plain_assign}
-use Rattle.cx_leads.proofs.NodeLemmas.{within}
-use Rattle.cx_leads.proofs.EdgeLemmas.{driven_is}
+use Rattle.cx_design_leads.proofs.NodeLemmas.{within}
+use Rattle.cx_design_leads.proofs.EdgeLemmas.{driven_is}
 use Rattle.cx_comb.proofs.TargetLemmas.{no_target, one_target}
 use Rattle.cx_comb.proofs.pruning.add_target.Goals as goal
 

@@ -2,7 +2,7 @@ use Rattle.std.proofs.Common.{rules, ◌+◌, ◌<◌, length, take, sym}
 use Rattle.cx_rules.specs.Ports.{component_of}
 use Rattle.cx_design.specs.PlainDesigns.{plain_design}
 use Rattle.cx_design.specs.PlainForms.{plain_assign, plain_assigns}
-use Rattle.cx_leads.proofs.EdgeLemmas.{map_take_more}
+use Rattle.cx_design_leads.proofs.EdgeLemmas.{map_take_more}
 use Rattle.cx_comb.proofs.TargetLemmas.{no_targets, more_targets}
 use Rattle.cx_comb.proofs.pruning.add_targets.Goals as goal
 

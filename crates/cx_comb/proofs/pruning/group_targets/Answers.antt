@@ -4,7 +4,7 @@ use Rattle.cx_meaning.specs.Designs.{PlainComponent}
 use Rattle.cx_rules.specs.Ports.{component_of}
 use Rattle.cx_design.specs.PlainDesigns.{plain_design}
 use Rattle.cx_design.specs.PlainForms.{plain_assigns, plain_group}
-use Rattle.cx_leads.proofs.EdgeLemmas.{map_take_more}
+use Rattle.cx_design_leads.proofs.EdgeLemmas.{map_take_more}
 use Rattle.cx_comb.specs.Pruning.{HasTargets, AddsTargets}
 use Rattle.cx_comb.proofs.TargetLemmas.{none_yet, more_groups}
 use Rattle.cx_comb.proofs.pruning.group_targets.Goals as goal

@@ -6,7 +6,7 @@ use Rattle.cx_meaning.specs.Active.{nothing}
 use Rattle.cx_rules.specs.Footprints.{Leads}
 use Rattle.cx_rules.specs.Ports.{component_of}
 use Rattle.cx_design.specs.PlainDesigns.{plain_design}
-use Rattle.cx_leads.specs.Nodes.{node_count}
+use Rattle.cx_design_leads.specs.Nodes.{node_count}
 use Rattle.cx_comb.specs.Pruning.{IsKept}
 use Rattle.cx_comb.proofs.CircleFacts.{leads_graph}
 use Rattle.cx_comb.proofs.MarkFacts.{turned_graph, are_pruned}

@@ -1,8 +1,8 @@
 use Rattle.std.proofs.Common.{rules, get_or, false}
 use Rattle.std.proofs.lemmas.List.{drop_more}
 use Rattle.cx_design.specs.PlainDesigns.{plain_design}
-use Rattle.cx_first_break.specs.Breaks.{first_of}
-use Rattle.cx_first_break.specs.Numbered.{numbered}
+use Rattle.cx_design_parts.specs.Breaks.{first_of}
+use Rattle.cx_design_parts.specs.Numbered.{numbered}
 use Rattle.cx_comb.specs.CombBreaks.{group_breaks}
 use Rattle.cx_comb.proofs.BreakLemmas.{next_flag}
 use Rattle.cx_comb.proofs.telling.add_groups.Goals as goal

@@ -1,7 +1,7 @@
 use Rattle.std.proofs.Common.{◌≡◌, drop}
 use Rattle.cx_design.specs.PlainDesigns.{plain_design}
-use Rattle.cx_first_break.specs.Breaks.{first_of}
-use Rattle.cx_first_break.specs.Numbered.{numbered}
+use Rattle.cx_design_parts.specs.Breaks.{first_of}
+use Rattle.cx_design_parts.specs.Numbered.{numbered}
 use Rattle.cx_comb.specs.CombBreaks.{group_breaks}
 use Rattle.cx_comb.proofs.telling.add_groups.Given as goal
 

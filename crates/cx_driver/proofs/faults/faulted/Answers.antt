@@ -2,7 +2,7 @@ use Rattle.std.proofs.Common.{◌≡◌, ◌<◌, List, ℕ, inl, inr, length, s
 use Rattle.cx_meaning.specs.Instances.{paths_of, tree_of}
 use Rattle.cx_design.specs.declared.designs.Design.{Design}
 use Rattle.cx_design.specs.PlainDesigns.{plain_design}
-use Rattle.cx_paths.specs.Paths.{TellsPort}
+use Rattle.cx_state.specs.Paths.{TellsPort}
 use Rattle.cx_driver.proofs.FaultLemmas.{told_fault}
 use Rattle.cx_driver.proofs.faults.faulted.Goals as goal
 

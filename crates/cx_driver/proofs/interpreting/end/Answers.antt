@@ -1,9 +1,8 @@
 use Rattle.std.proofs.Common.{sym, ◌∙◌}
-use Rattle.cx_text.specs.Loading.{plain_loaded}
+use Rattle.cx_text.specs.Loading.{plain_loaded, words_loaded}
 use Rattle.cx_design.specs.PlainDesigns.{plain_design}
 use Rattle.cx_state.specs.States.{plain_state}
 use Rattle.cx_meaning.specs.Running.{run_main}
-use Rattle.cx_memory_words.specs.Words.{words_loaded}
 use Rattle.cx_driver.proofs.RanLemmas.{ended, faulted, unfinished, fault_within, run_answers, memory_stops, fault_stops, more_stops}
 use Rattle.cx_driver.proofs.interpreting.end.Goals as goal
 

@@ -1,7 +1,6 @@
 use Rattle.std.proofs.Common.{◌≡◌, ℕ, List, refl, sym, ap, ◌∙◌, subst}
-use Rattle.cx_text.specs.Loading.{plain_loaded}
+use Rattle.cx_text.specs.Loading.{plain_loaded, words_loaded}
 use Rattle.cx_state.specs.States.{words_in}
-use Rattle.cx_memory_words.specs.Words.{words_loaded}
 use Rattle.cx_interp.specs.Runs.{HasRun}
 use Rattle.cx_driver.proofs.RanLemmas.{words_of_loaded}
 use Rattle.cx_driver.proofs.interpreting.run_loaded.Goals as goal

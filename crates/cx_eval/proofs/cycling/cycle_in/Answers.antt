@@ -1,6 +1,6 @@
 use Rattle.std.proofs.Common.{sym, subst}
 use Rattle.cx_state.specs.States.{instance_state, plain_state}
-use Rattle.cx_cycles.specs.Passes.{CanCycle}
+use Rattle.cx_eval_cycle.specs.Passes.{CanCycle}
 use Rattle.cx_eval.specs.Cycling.{HaveStepped, shown_in}
 use Rattle.cx_eval.specs.Tables.{cells_at, design_of, set_of}
 use Rattle.cx_eval.proofs.PartLemmas.{number_few}

@@ -1,5 +1,5 @@
 use Rattle.cx_state.specs.States.{plain_state}
-use Rattle.cx_port_steps.proofs.ShortLemmas.{rows_are_short}
+use Rattle.cx_eval_network.proofs.ShortLemmas.{rows_are_short}
 use Rattle.cx_eval.proofs.AskedLemmas.{can_step}
 use Rattle.cx_eval.proofs.cycling.fault_in.Goals as goal
 

@@ -1,4 +1,4 @@
-use Rattle.cx_port_steps.proofs.ShortLemmas.{rows_are_short}
+use Rattle.cx_eval_network.proofs.ShortLemmas.{rows_are_short}
 use Rattle.cx_eval.proofs.cycling.first_among.Goals as goal
 
 pub first_fault-requires-clause-room : goal.first_fault-requires-clause-room

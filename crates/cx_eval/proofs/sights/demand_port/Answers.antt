@@ -1,11 +1,11 @@
 use Rattle.std.proofs.Common.{sym, ◌∙◌, subst, arith}
 use Rattle.cx_design.specs.PlainDesigns.{plain_design}
-use Rattle.cx_demand.specs.Demands.{StaysWithin}
-use Rattle.cx_nodes.proofs.NodeLemmas.{nodes_within}
-use Rattle.cx_network.specs.Networks.{leads_at}
-use Rattle.cx_network.proofs.NetworkLemmas.{network_grounded, stays_within}
-use Rattle.cx_asking.specs.Askings.{asked_of}
-use Rattle.cx_cycle_demands.specs.Looked.{own_node, value_in}
+use Rattle.cx_eval_demand.specs.Demands.{StaysWithin}
+use Rattle.cx_eval_network.proofs.NodeLemmas.{nodes_within}
+use Rattle.cx_eval_network.specs.Networks.{leads_at}
+use Rattle.cx_eval_network.proofs.NetworkLemmas.{network_grounded, stays_within}
+use Rattle.cx_eval_network.specs.Askings.{asked_of}
+use Rattle.cx_eval.specs.Looked.{own_node, value_in}
 use Rattle.cx_eval.proofs.AskedLemmas.{known_at, none_at}
 use Rattle.cx_eval.proofs.sights.demand_port.Goals as goal
 

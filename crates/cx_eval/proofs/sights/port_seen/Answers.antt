@@ -1,6 +1,6 @@
 use Rattle.std.proofs.Common.{ap, ◌∙◌}
-use Rattle.cx_asking.specs.Askings.{asked_of}
-use Rattle.cx_network.specs.Networks.{look_at}
+use Rattle.cx_eval_network.specs.Askings.{asked_of}
+use Rattle.cx_eval_network.specs.Networks.{look_at}
 use Rattle.cx_eval.proofs.ShownLemmas.{shown_port}
 use Rattle.cx_eval.proofs.sights.port_seen.Goals as goal
 

@@ -1,6 +1,6 @@
 use Rattle.std.proofs.Common.{ap, ◌∙◌}
 use Rattle.cx_state.specs.States.{plain_state}
-use Rattle.cx_network.specs.Networks.{Asked, seen_at}
+use Rattle.cx_eval_network.specs.Networks.{Asked, seen_at}
 use Rattle.cx_eval.specs.Tables.{design_of}
 use Rattle.cx_eval.proofs.SightLemmas.{is_seen}
 use Rattle.cx_eval.proofs.sights.seen_in.Goals as goal

@@ -1,5 +1,5 @@
 use Rattle.std.proofs.Common.{sym, subst}
-use Rattle.cx_cycles.specs.Passes.{CanCycle}
+use Rattle.cx_eval_cycle.specs.Passes.{CanCycle}
 use Rattle.cx_eval.specs.Cycling.{shown_in}
 use Rattle.cx_eval.proofs.stepping.step_held.Goals as goal
 

@@ -2,7 +2,7 @@ use Rattle.std.proofs.Common.{◌≡◌, ◌<◌, length, sym, ap, ◌∙◌, su
 use Rattle.std.proofs.lemmas.List.{with_items_is}
 use Rattle.std.specs.Vec.{with_items}
 use Rattle.cx_state.specs.States.{plain_state}
-use Rattle.cx_cycles.specs.Passes.{AreStepped, CanCycle}
+use Rattle.cx_eval_cycle.specs.Passes.{AreStepped, CanCycle}
 use Rattle.cx_eval.specs.Cycling.{shown_in}
 use Rattle.cx_eval.specs.Tables.{cells_at, set_of}
 use Rattle.cx_eval.proofs.TableLemmas.{items_with, own_state}

@@ -1,6 +1,6 @@
 use Rattle.std.proofs.Common.{◌∙◌, sym, ap, subst}
 use Rattle.cx_meaning.specs.Instances.{instance_at, tree_of}
-use Rattle.cx_cycles.specs.Passes.{IsAscending, listed_in}
+use Rattle.cx_eval_cycle.specs.Passes.{IsAscending, listed_in}
 use Rattle.cx_interp.specs.Callees.{capture_does}
 use Rattle.cx_interp.specs.Doings.{group_driving}
 use Rattle.cx_interp.specs.Groups.{ListWithin}

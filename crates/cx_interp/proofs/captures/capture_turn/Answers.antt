@@ -3,7 +3,7 @@ use Rattle.cx_design.specs.PlainDesigns.{plain_design}
 use Rattle.cx_design.specs.declared.actives.Active.TheVariants as actives
 use Rattle.cx_state.specs.States.{IsStateOf, plain_state}
 use Rattle.cx_eval.specs.Evaluated.{CanAct, Cycled}
-use Rattle.cx_cycles.specs.Passes.{IsAscending, listed_in}
+use Rattle.cx_eval_cycle.specs.Passes.{IsAscending, listed_in}
 use Rattle.cx_interp.specs.Callees.{capture_does}
 use Rattle.cx_interp.specs.Doings.{group_driving}
 use Rattle.cx_interp.specs.Machines.{design_of, rows_of}

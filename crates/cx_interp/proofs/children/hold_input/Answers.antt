@@ -2,12 +2,12 @@ use Rattle.std.proofs.Common.{rules, ◌≡◌, ℕ, ◌+◌, ◌<◌, ◌^◌, 
 use Rattle.cx_meaning.specs.declared.ports.PortRef.TheVariants as ports
 use Rattle.cx_meaning.specs.Designs.{PlainDesign}
 use Rattle.cx_meaning.specs.Instances.{Path, paths_of, tree_of}
-use Rattle.cx_alike.specs.ReadStates.{state_in}
+use Rattle.cx_state.specs.ReadStates.{state_in}
 use Rattle.cx_design.specs.declared.designs.Design.{Design}
 use Rattle.cx_design.specs.declared.actives.Active.TheVariants as actives
 use Rattle.cx_design.specs.PlainDesigns.{plain_design}
 use Rattle.cx_eval.specs.Evaluated.{CanAct, IsPort, IsSeen}
-use Rattle.cx_instances.specs.Tables.{IsNumber}
+use Rattle.cx_state.specs.Tables.{IsNumber}
 use Rattle.cx_state.specs.States.{PlainInstance, plain_state, with_held, IsStateOf}
 use Rattle.cx_interp.specs.Callees.{HoldsInput}
 use Rattle.cx_interp.specs.Machines.{design_of, rows_of}

@@ -17,7 +17,7 @@ use Rattle.cx_interp.proofs.StandLemmas.{test_port, test_comb, enabled_group}
 use Rattle.cx_interp.proofs.IslandLemmas.{enable_is_island}
 use Rattle.cx_interp.proofs.EnableLemmas.{enable_turns, row_ascends, row_lists, row_within}
 use Rattle.cx_interp.proofs.ControlLemmas.{empty_form, timed_form, if_yes, if_no, if_unclear, if_no_turn, yes_stands, no_stands, repeat_none, repeat_start, repeat_after, repeat_stop, repeat_end, seq_empty, seq_start, seq_next, seq_stop, seq_ended, part_stands, part_falls, while_start, while_fails, while_unclear, while_spent, while_body, while_body_stops}
-use Rattle.cx_cycles.specs.Passes.{IsAscending}
+use Rattle.cx_eval_cycle.specs.Passes.{IsAscending}
 use Rattle.cx_interp.specs.Callees.{child_does}
 use Rattle.cx_interp.specs.Groups.{ListWithin}
 use Rattle.cx_interp.proofs.CallLemmas.{callee_part, child_instance, child_less, control_stands, done_lifted, enable_call}

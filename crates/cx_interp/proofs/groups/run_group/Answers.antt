@@ -1,6 +1,6 @@
 use Rattle.std.proofs.Common.{◌∙◌, sym, subst}
 use Rattle.cx_meaning.specs.Instances.{instance_at, tree_of}
-use Rattle.cx_cycles.specs.Passes.{listed_in}
+use Rattle.cx_eval_cycle.specs.Passes.{listed_in}
 use Rattle.cx_interp.specs.Doings.{group_driving, turns_do}
 use Rattle.cx_interp.specs.Machines.{design_of, rows_of}
 use Rattle.cx_interp.specs.Rooms.{HasRoom}

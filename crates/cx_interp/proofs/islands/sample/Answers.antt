@@ -7,7 +7,7 @@ use Rattle.cx_design.specs.PlainForms.{plain_component, plain_form}
 use Rattle.cx_meaning.specs.Sights.{Look}
 use Rattle.cx_meaning.specs.Islands.{first_unclear}
 use Rattle.cx_laws.specs.Samples.{says, begun_by, samples_after}
-use Rattle.cx_islands.specs.Rooms.{samples_of}
+use Rattle.cx_interp_islands.specs.Rooms.{samples_of}
 use Rattle.cx_interp.specs.Islands.{TellsUnclear}
 use Rattle.cx_interp.specs.Machines.{design_of, rows_of}
 use Rattle.cx_interp.specs.Sights.{MayAsk, look_in}

@@ -6,7 +6,7 @@ use Rattle.cx_design.specs.PlainForms.{plain_component, plain_form}
 use Rattle.cx_state.specs.States.{plain_state, IsStateOf}
 use Rattle.cx_eval.specs.Evaluated.{CanAct, Cycled}
 use Rattle.cx_laws.specs.Samples.{active_by}
-use Rattle.cx_islands.specs.Rooms.{samples_of}
+use Rattle.cx_interp_islands.specs.Rooms.{samples_of}
 use Rattle.cx_interp.specs.declared.turns.Turn.TheVariants as turns
 use Rattle.cx_interp.specs.Doings.{form_drives}
 use Rattle.cx_interp.specs.Islands.{CycleTaken, samples_in}

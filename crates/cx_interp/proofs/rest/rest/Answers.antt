@@ -1,7 +1,7 @@
 use Rattle.std.proofs.Common.{rules, ◌≡◌, length, ap, arith}
 use Rattle.std.proofs.lemmas.List.{with_items_is}
 use Rattle.std.specs.Vec.{with_items}
-use Rattle.cx_cycles.specs.Passes.{listed_in}
+use Rattle.cx_eval_cycle.specs.Passes.{listed_in}
 use Rattle.cx_interp.specs.Machines.{design_of, rows_of}
 use Rattle.cx_interp.proofs.RestStands.{cells_hold, cells_within, has_rested}
 use Rattle.cx_interp.proofs.rest.rest.Goals as goal

@@ -1,6 +1,6 @@
 use Rattle.std.proofs.Common.{◌≡◌, map}
 use Rattle.cx_design.specs.PlainForms.{plain_cell}
-use Rattle.cx_cycles.specs.Passes.{listed_in}
+use Rattle.cx_eval_cycle.specs.Passes.{listed_in}
 use Rattle.cx_state.specs.States.{HoldCells}
 use Rattle.cx_interp.specs.Rests.{rested_cells}
 use Rattle.cx_interp.proofs.EveryLemmas.{first_numbers}

@@ -1,8 +1,8 @@
 use Rattle.std.proofs.Common.{◌≤◌, map, ap, ◌∙◌, arith}
 use Rattle.std.specs.Vec.{vec_len, vec_capacity}
 use Rattle.cx_design.specs.PlainForms.{plain_component, plain_form}
-use Rattle.cx_items.specs.Items.{plain_visited}
-use Rattle.cx_islands.specs.Rooms.{form_groups}
+use Rattle.cx_design_parts.specs.Items.{plain_visited}
+use Rattle.cx_interp_islands.specs.Rooms.{form_groups}
 use Rattle.cx_interp.proofs.RoomLemmas.{fits_next, item_is, part_fits}
 use Rattle.cx_interp.proofs.rooms.add_component.Goals as goal
 

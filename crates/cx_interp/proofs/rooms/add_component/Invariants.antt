@@ -1,6 +1,6 @@
 use Rattle.std.proofs.Common.{◌≤◌, take, map}
 use Rattle.std.specs.Vec.{vec_len, vec_capacity}
-use Rattle.cx_items.specs.Items.{plain_visited}
+use Rattle.cx_design_parts.specs.Items.{plain_visited}
 use Rattle.cx_interp.specs.Rooms.{ListFits}
 use Rattle.cx_interp.proofs.rooms.add_component.Given as goal
 

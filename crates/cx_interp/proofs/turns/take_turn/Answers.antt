@@ -2,7 +2,7 @@ use Rattle.std.proofs.Common.{sym, subst}
 use Rattle.cx_meaning.specs.declared.ports.PortRef.TheVariants as ports
 use Rattle.cx_design.specs.PlainDesigns.{plain_design}
 use Rattle.cx_state.specs.States.{IsStateOf, plain_state}
-use Rattle.cx_cycles.specs.Passes.{listed_in}
+use Rattle.cx_eval_cycle.specs.Passes.{listed_in}
 use Rattle.cx_design.specs.declared.actives.Active.TheVariants as actives
 use Rattle.cx_eval.specs.Evaluated.{CanAct, HasCycled, IsPort, IsSeenAlone}
 use Rattle.cx_interp.specs.Doings.{group_driving}

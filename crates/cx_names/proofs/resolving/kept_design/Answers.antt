@@ -2,7 +2,7 @@ use Rattle.std.proofs.Common.{◌<◌, ◌^◌, sym, subst}
 use Rattle.cx_ast.specs.PlainTree.{plain_tree}
 use Rattle.cx_rules.specs.Sizes.{design_size}
 use Rattle.cx_rules.specs.Wellformed.{IsDesign}
-use Rattle.cx_named.proofs.Whole.{is_design}
+use Rattle.cx_names.proofs.Whole.{is_design}
 use Rattle.cx_names.proofs.resolving.kept_design.Goals as goal
 
 pub counted-requires : goal.counted-requires

@@ -1,6 +1,6 @@
 use Rattle.std.proofs.Common.{◌≡◌, map, take}
 use Rattle.cx_graphs.specs.Graphs.{edges_of}
-use Rattle.cx_footprints.specs.Cells.{tested_by}
+use Rattle.cx_race.specs.Cells.{tested_by}
 use Rattle.cx_design.specs.PlainForms.{plain_statement}
 use Rattle.cx_race.proofs.arms.test_lists.Given as goal
 

@@ -5,7 +5,7 @@ use Rattle.std.proofs.lemmas.Option.{slice_get-map, slice_get_read}
 use Rattle.cx_meaning.specs.Designs.{component_at}
 use Rattle.cx_rules.specs.Items.{statements_in}
 use Rattle.cx_design.specs.PlainDesigns.{plain_design}
-use Rattle.cx_items.specs.Items.{plain_visited}
+use Rattle.cx_design_parts.specs.Items.{plain_visited}
 use Rattle.cx_race.specs.Races.{AreClear}
 use Rattle.cx_race.specs.RaceBreaks.{IsBefore}
 use Rattle.cx_race.proofs.RaceLemmas.{looked_none, next_statement, component_looked}

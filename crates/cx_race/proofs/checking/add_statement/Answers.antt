@@ -3,8 +3,8 @@ use Rattle.std.proofs.lemmas.List.{length-map}
 use Rattle.cx_meaning.specs.Designs.{component_at}
 use Rattle.cx_rules.specs.Spots.{AStatement, Spot}
 use Rattle.cx_design.specs.PlainDesigns.{plain_design}
-use Rattle.cx_first_break.specs.Breaks.{first_of}
-use Rattle.cx_items.specs.Items.{plain_visited}
+use Rattle.cx_design_parts.specs.Breaks.{first_of}
+use Rattle.cx_design_parts.specs.Items.{plain_visited}
 use Rattle.cx_race.specs.Races.{AreWithin, IsFirstRace}
 use Rattle.cx_race.specs.RaceBreaks.{race_break}
 use Rattle.cx_race.proofs.RaceLemmas.{statement_looked, arms_within}

@@ -3,8 +3,8 @@ use Rattle.cx_graphs.specs.Graphs as graphs
 use Rattle.cx_graphs.specs.Graphs.{edges_of, targets_of}
 use Rattle.cx_rules.specs.RaceRule.{enabled_in}
 use Rattle.cx_design.specs.PlainForms.{plain_statement}
-use Rattle.cx_tallies.specs.Owners.{IsLeast}
-use Rattle.cx_tallies.specs.Tallies.{Starts, Tallies}
+use Rattle.cx_graphs.specs.Owners.{IsLeast}
+use Rattle.cx_graphs.specs.Tallies.{Starts, Tallies}
 use Rattle.cx_race.proofs.ArmLemmas.{lists_within}
 use Rattle.cx_race.proofs.SharedLemmas.{least_twice}
 use Rattle.cx_race.proofs.races.group_enabled_twice.Goals as goal

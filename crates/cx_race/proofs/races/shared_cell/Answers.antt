@@ -3,9 +3,9 @@ use Rattle.cx_graphs.specs.Graphs as graphs
 use Rattle.cx_graphs.specs.Graphs.{edges_of, targets_of}
 use Rattle.cx_meaning.specs.Control.{groups_of}
 use Rattle.cx_design.specs.PlainForms.{plain_statement}
-use Rattle.cx_tallies.specs.Owners.{IsLeast}
-use Rattle.cx_tallies.specs.Tallies.{Reaches, Starts, Tallies, starts_of}
-use Rattle.cx_footprints.specs.Cells.{tested_by}
+use Rattle.cx_graphs.specs.Owners.{IsLeast}
+use Rattle.cx_graphs.specs.Tallies.{Reaches, Starts, Tallies, starts_of}
+use Rattle.cx_race.specs.Cells.{tested_by}
 use Rattle.cx_race.proofs.ArmLemmas.{lists_within}
 use Rattle.cx_race.proofs.SharedLemmas.{least_shared}
 use Rattle.cx_race.proofs.races.shared_cell.Goals as goal

@@ -1,5 +1,5 @@
 use Rattle.std.proofs.Common.{◌≡◌, drop, map}
-use Rattle.cx_items.specs.Items.{plain_range}
+use Rattle.cx_design_parts.specs.Items.{plain_range}
 use Rattle.cx_shape_rules.specs.ShapeBreaks.{some_bad}
 use Rattle.cx_shape_rules.proofs.assigns.has_bad_range.Given as goal
 

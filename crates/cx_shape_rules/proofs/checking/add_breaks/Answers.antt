@@ -1,6 +1,6 @@
 use Rattle.std.proofs.Common.{rules, length}
 use Rattle.cx_design.specs.PlainDesigns.{plain_design}
-use Rattle.cx_first_break.specs.Breaks.{first_of}
+use Rattle.cx_design_parts.specs.Breaks.{first_of}
 use Rattle.cx_shape_rules.specs.ShapeBreaks.{components_breaks}
 use Rattle.cx_shape_rules.proofs.ShapeLemmas.{next_component}
 use Rattle.cx_shape_rules.proofs.checking.add_breaks.Goals as goal

@@ -1,9 +1,9 @@
 use Rattle.std.proofs.Common.{rules, ◌+◌, ◌∷◌, ◌∙◌, ap, drop, map}
 use Rattle.std.proofs.lemmas.List.{drop_more}
 use Rattle.cx_design.specs.PlainForms.{plain_group}
-use Rattle.cx_first_break.specs.Breaks.{first_of}
-use Rattle.cx_first_break.specs.Numbered.{numbered}
-use Rattle.cx_first_break.proofs.Lists.{next_number}
+use Rattle.cx_design_parts.specs.Breaks.{first_of}
+use Rattle.cx_design_parts.specs.Numbered.{numbered}
+use Rattle.cx_design_parts.proofs.Lists.{next_number}
 use Rattle.cx_shape_rules.specs.ShapeBreaks.{group_breaks_at}
 use Rattle.cx_shape_rules.proofs.checking.add_groups.Goals as goal
 

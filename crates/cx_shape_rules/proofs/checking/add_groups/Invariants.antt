@@ -1,7 +1,7 @@
 use Rattle.std.proofs.Common.{◌≡◌, drop, map}
 use Rattle.cx_design.specs.PlainForms.{plain_group}
-use Rattle.cx_first_break.specs.Breaks.{first_of}
-use Rattle.cx_first_break.specs.Numbered.{numbered}
+use Rattle.cx_design_parts.specs.Breaks.{first_of}
+use Rattle.cx_design_parts.specs.Numbered.{numbered}
 use Rattle.cx_shape_rules.specs.ShapeBreaks.{group_breaks_at}
 use Rattle.cx_shape_rules.proofs.checking.add_groups.Given as goal
 

@@ -3,10 +3,10 @@ use Rattle.std.proofs.lemmas.List.{drop_more}
 use Rattle.cx_design.specs.PlainForms.{plain_component}
 use Rattle.cx_design.specs.PlainDesigns.{plain_design}
 use Rattle.cx_rules.specs.Spots.{AStatement}
-use Rattle.cx_items.specs.Items.{plain_visited}
-use Rattle.cx_first_break.specs.Breaks.{first_of}
-use Rattle.cx_first_break.specs.Numbered.{numbered}
-use Rattle.cx_first_break.proofs.Lists.{next_number}
+use Rattle.cx_design_parts.specs.Items.{plain_visited}
+use Rattle.cx_design_parts.specs.Breaks.{first_of}
+use Rattle.cx_design_parts.specs.Numbered.{numbered}
+use Rattle.cx_design_parts.proofs.Lists.{next_number}
 use Rattle.cx_shape_rules.specs.Measures.{measure_of}
 use Rattle.cx_shape_rules.specs.ShapeBreaks.{statement_breaks, statement_breaks_at}
 use Rattle.cx_shape_rules.proofs.LengthLemmas.{at_both}

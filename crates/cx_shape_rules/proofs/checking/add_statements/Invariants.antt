@@ -1,8 +1,8 @@
 use Rattle.std.proofs.Common.{◌≡◌, drop, map}
 use Rattle.cx_design.specs.PlainDesigns.{plain_design}
-use Rattle.cx_items.specs.Items.{plain_visited}
-use Rattle.cx_first_break.specs.Breaks.{first_of}
-use Rattle.cx_first_break.specs.Numbered.{numbered}
+use Rattle.cx_design_parts.specs.Items.{plain_visited}
+use Rattle.cx_design_parts.specs.Breaks.{first_of}
+use Rattle.cx_design_parts.specs.Numbered.{numbered}
 use Rattle.cx_shape_rules.specs.ShapeBreaks.{statement_breaks_at}
 use Rattle.cx_shape_rules.proofs.checking.add_statements.Given as goal
 

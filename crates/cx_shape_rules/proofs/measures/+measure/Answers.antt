@@ -4,7 +4,7 @@ use Rattle.cx_design.specs.PlainForms.{form_step, statement_step, plain_componen
 use Rattle.cx_design.specs.declared.statements.Form.TheFolds.{fold-roll-Form, fold-roll-Statement}
 use Rattle.cx_design.specs.declared.statements.Form.TheVariants.{rolls-If, rolls-StaticRepeat}
 use Rattle.cx_rules.specs.Items.{InStatic, below_dynamic, visit, visit_parts}
-use Rattle.cx_items.specs.Items.{plain_context}
+use Rattle.cx_design_parts.specs.Items.{plain_context}
 use Rattle.cx_shape_rules.specs.Measures.{measure_in, measure_of}
 use Rattle.cx_shape_rules.proofs.LengthLemmas.{placed, two_more, repeated}
 use Rattle.cx_shape_rules.proofs.measures.+measure.Goals as goal

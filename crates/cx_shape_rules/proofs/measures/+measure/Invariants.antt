@@ -3,7 +3,7 @@ use Rattle.cx_design.specs.PlainForms.{plain_component, plain_statements}
 use Rattle.cx_meaning.specs.Islands.{sum_length, max_length}
 use Rattle.cx_rules.specs.Items.{InStatic, visit_all}
 use Rattle.cx_rules.specs.StaticControl.{all_have_length}
-use Rattle.cx_items.specs.Items.{plain_context}
+use Rattle.cx_design_parts.specs.Items.{plain_context}
 use Rattle.cx_shape_rules.specs.Measures.{capped, measure_of}
 use Rattle.cx_shape_rules.proofs.measures.+measure.Given as goal
 

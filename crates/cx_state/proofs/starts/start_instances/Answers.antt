@@ -2,7 +2,7 @@ use Rattle.std.proofs.Common.{◌≡◌, sym, subst}
 use Rattle.cx_meaning.specs.Designs.{component_at}
 use Rattle.cx_design.specs.PlainForms.{plain_component}
 use Rattle.cx_design.specs.PlainDesigns.{plain_design}
-use Rattle.cx_instances.specs.Tables.{row_at}
+use Rattle.cx_state.specs.Tables.{row_at}
 use Rattle.cx_state.specs.States.{words_in}
 use Rattle.cx_state.specs.Starts.{TakeWords, words_of_main}
 use Rattle.cx_state.proofs.StartLemmas.{component_own, component_takes, started_next}

@@ -1,7 +1,7 @@
 use Rattle.std.proofs.Common.{◌≡◌, ◌<◌, ◌^◌, All, get_or, map, length, ap, sym, ◌∙◌, subst, arith}
 use Rattle.std.proofs.lemmas.Grind.{common_steps}
 use Rattle.cx_text.specs.Loading.{plain_memory, plain_loaded}
-use Rattle.cx_veval.specs.Stores.{plain_words}
+use Rattle.cx_vnets.specs.Stores.{plain_words}
 use Rattle.cx_vsim.specs.Arrays.{rewritten}
 use Rattle.cx_vsim.proofs.Written.{memory_there, taken_within, taken_long, taken_below, taken_more, taken_can}
 use Rattle.cx_vsim.proofs.loading.load_words.Goals as goal

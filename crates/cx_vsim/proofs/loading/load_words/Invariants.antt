@@ -1,6 +1,6 @@
 use Rattle.std.proofs.Common.{◌≡◌, map, take}
 use Rattle.cx_text.specs.Loading.{plain_loaded}
-use Rattle.cx_veval.specs.Stores.{plain_words}
+use Rattle.cx_vnets.specs.Stores.{plain_words}
 use Rattle.cx_vsim.specs.Arrays.{CanTake, with_arrays}
 use Rattle.cx_vsim.proofs.loading.load_words.Given as goal
 

@@ -2,7 +2,7 @@ use Rattle.std.proofs.Common.{◌≡◌, map, reverse, ap, ◌∙◌}
 use Rattle.cx_vtree.specs.PlainParts.{plain_instance}
 use Rattle.cx_vtree.specs.PlainSources.{plain_source}
 use Rattle.cx_vtree.specs.InstanceTree.{tree_from, below, instances_of}
-use Rattle.cx_vtable.specs.Rows.{placed_of}
+use Rattle.cx_velab.specs.Rows.{placed_of}
 use Rattle.cx_vsim.proofs.Small.{alone, nets_small, arrays_small}
 use Rattle.cx_vsim.proofs.numbers.numbers_of.Goals as goal
 

@@ -5,7 +5,7 @@ use Rattle.std.specs.Vec.{with_items}
 use Rattle.cx_bits.specs.BitVector.{BitVector}
 use Rattle.cx_text.specs.declared.loading.LoadedMemory.{LoadedMemory}
 use Rattle.cx_text.specs.Loading.{plain_memory, plain_loaded}
-use Rattle.cx_veval.specs.Stores.{plain_words}
+use Rattle.cx_vnets.specs.Stores.{plain_words}
 use Rattle.cx_vsim.specs.Arrays.{CanGive}
 use Rattle.cx_vsim.proofs.Elements.{written_back}
 use Rattle.cx_vsim.proofs.Written.{memory_there}

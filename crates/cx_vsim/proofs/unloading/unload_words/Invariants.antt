@@ -1,7 +1,6 @@
 use Rattle.std.proofs.Common.{◌≡◌, map, take}
-use Rattle.cx_text.specs.Loading.{plain_loaded}
-use Rattle.cx_veval.specs.Stores.{plain_words}
-use Rattle.cx_vsim.specs.Models.{with_words}
+use Rattle.cx_text.specs.Loading.{plain_loaded, with_words}
+use Rattle.cx_vnets.specs.Stores.{plain_words}
 use Rattle.cx_vsim.specs.Stands.{words_by}
 use Rattle.cx_vsim.specs.Arrays.{AllGivenFit, CanGive}
 use Rattle.cx_vsim.proofs.unloading.unload_words.Given as goal

@@ -1,7 +1,7 @@
 use Rattle.std.proofs.Common.{◌≡◌, drop, flat_map}
 use Rattle.cx_rules.specs.Ports.{component_of}
 use Rattle.cx_design.specs.PlainDesigns.{plain_design}
-use Rattle.cx_first_break.specs.Breaks.{first_of, plain_spot}
+use Rattle.cx_design_parts.specs.Breaks.{first_of, plain_spot}
 use Rattle.cx_widths.specs.WidthBreaks.{operand_breaks}
 use Rattle.cx_widths.proofs.assigns.add_operands.Given as goal
 

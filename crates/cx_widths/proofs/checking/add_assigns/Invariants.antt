@@ -1,8 +1,8 @@
 use Rattle.std.proofs.Common.{◌≡◌, drop, map}
 use Rattle.cx_design.specs.PlainDesigns.{plain_design}
-use Rattle.cx_source_order.specs.Plain.{plain_owned}
-use Rattle.cx_first_break.specs.Breaks.{first_of}
-use Rattle.cx_first_break.specs.Numbered.{numbered}
+use Rattle.cx_design_parts.specs.Plain.{plain_owned}
+use Rattle.cx_design_parts.specs.Breaks.{first_of}
+use Rattle.cx_design_parts.specs.Numbered.{numbered}
 use Rattle.cx_widths.specs.WidthBreaks.{assign_breaks_at}
 use Rattle.cx_widths.proofs.checking.add_assigns.Given as goal
 

@@ -1,6 +1,6 @@
 use Rattle.std.proofs.Common.{rules, None, length}
 use Rattle.cx_design.specs.PlainDesigns.{plain_design}
-use Rattle.cx_first_break.specs.Breaks.{first_of}
+use Rattle.cx_design_parts.specs.Breaks.{first_of}
 use Rattle.cx_widths.specs.WidthBreaks.{components_breaks}
 use Rattle.cx_widths.proofs.WidthLemmas.{next_component}
 use Rattle.cx_widths.proofs.checking.first_break.Goals as goal

@@ -1,6 +1,6 @@
 use Rattle.std.proofs.Common.{◌≡◌, ◌-◌, None, length}
 use Rattle.cx_design.specs.PlainDesigns.{plain_design}
-use Rattle.cx_first_break.specs.Breaks.{first_of}
+use Rattle.cx_design_parts.specs.Breaks.{first_of}
 use Rattle.cx_widths.specs.WidthBreaks.{components_breaks}
 use Rattle.cx_widths.proofs.checking.first_break.Given as goal
 

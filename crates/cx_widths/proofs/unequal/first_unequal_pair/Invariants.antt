@@ -2,7 +2,7 @@ use Rattle.std.proofs.Common.{◌≡◌, drop, map}
 use Rattle.cx_rules.specs.Ports.{component_of}
 use Rattle.cx_rules.specs.WidthRules.{first_unequal}
 use Rattle.cx_design.specs.PlainDesigns.{plain_design}
-use Rattle.cx_items.specs.Items.{plain_pair}
+use Rattle.cx_design_parts.specs.Items.{plain_pair}
 use Rattle.cx_widths.proofs.unequal.first_unequal_pair.Given as goal
 
 -- the first unequal pair is among those that are left

@@ -1,5 +1,5 @@
 use Rattle.std.proofs.Common.{subst}
-use Rattle.cx_cycles.specs.Passes.{listed_in}
+use Rattle.cx_eval_cycle.specs.Passes.{listed_in}
 use Rattle.cx_design.specs.PlainDesigns.{plain_design}
 use Rattle.cx_state.specs.States.{plain_state}
 use Rattle.cx_eval.specs.Evaluated.{Cycled}

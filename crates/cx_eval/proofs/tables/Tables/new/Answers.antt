@@ -1,6 +1,6 @@
 use Rattle.std.proofs.Common.{refl, sym, subst}
 use Rattle.cx_design.specs.PlainDesigns.{plain_design}
-use Rattle.cx_instances.specs.Tables.{IsTable}
+use Rattle.cx_state.specs.Tables.{IsTable}
 use Rattle.cx_eval.proofs.TableLemmas.{kept_design}
 use Rattle.cx_eval.proofs.tables.Tables.new.Goals as goal
 

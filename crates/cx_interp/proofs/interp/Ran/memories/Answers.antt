@@ -3,8 +3,7 @@ use Rattle.cx_design.specs.declared.designs.Design.{Design}
 use Rattle.cx_design.specs.PlainDesigns.{plain_design}
 use Rattle.cx_meaning.specs.Instances.{State, tree_of, words_of}
 use Rattle.cx_meaning.specs.Running.{run_main}
-use Rattle.cx_text.specs.Loading.{plain_loaded}
-use Rattle.cx_memory_words.specs.Words.{with_words}
+use Rattle.cx_text.specs.Loading.{plain_loaded, with_words}
 use Rattle.cx_state.specs.States.{plain_state, IsStateOf, StandsFor}
 use Rattle.cx_interp.specs.Runs.{HasRun}
 use Rattle.cx_interp.proofs.RunLemmas.{ends_at}

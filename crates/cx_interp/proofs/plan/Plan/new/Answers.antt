@@ -1,6 +1,6 @@
 use Rattle.std.proofs.Common.{sym, subst}
 use Rattle.cx_design.specs.PlainDesigns.{plain_design}
-use Rattle.cx_instances.specs.Tables.{IsTable}
+use Rattle.cx_state.specs.Tables.{IsTable}
 use Rattle.cx_interp.specs.declared.plan.Plan.{Plan}
 use Rattle.cx_interp.proofs.PlanLemmas.{plan_is}
 use Rattle.cx_interp.proofs.plan.Plan.new.Goals as goal

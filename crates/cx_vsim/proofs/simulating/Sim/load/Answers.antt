@@ -1,14 +1,14 @@
 use Rattle.std.proofs.Common.{◌≡◌, ℕ, List, [], map, drop, length, refl, ap, sym, ◌∙◌, subst, if◌then◌else◌}
 use Rattle.std.proofs.lemmas.List.{length-map}
 use Rattle.std.specs.Vec.{with_items}
-use Rattle.cx_text.specs.Loading.{FitsRows, plain_loaded}
+use Rattle.cx_text.specs.Loading.{FitsRows, plain_loaded, words_loaded}
 use Rattle.cx_vtree.specs.declared.sources.Source.{Source}
 use Rattle.cx_vtree.specs.PlainParts.{rows_of}
 use Rattle.cx_vtree.specs.PlainSources.{plain_source}
-use Rattle.cx_veval.specs.declared.nets.Stored.{Stored}
-use Rattle.cx_veval.specs.Stores.{plain_words}
+use Rattle.cx_vnets.specs.declared.nets.Stored.{Stored}
+use Rattle.cx_vnets.specs.Stores.{plain_words}
 use Rattle.cx_vsim.specs.Arrays.{CanTake, with_arrays}
-use Rattle.cx_vsim.specs.Models.{Loaded, words_loaded}
+use Rattle.cx_vsim.specs.Models.{Loaded}
 use Rattle.cx_vsim.specs.Stands.{words_by}
 use Rattle.cx_vsim.proofs.LoadLemmas.{can_take}
 use Rattle.cx_vsim.proofs.Elements.{written_back}

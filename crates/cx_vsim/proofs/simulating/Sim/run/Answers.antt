@@ -1,7 +1,7 @@
 use Rattle.std.proofs.Common.{ℕ, List, [], map, sym, subst, if◌then◌else◌}
 use Rattle.cx_vtree.specs.PlainSources.{plain_source}
 use Rattle.cx_vtree.specs.SimRun.{SimRun}
-use Rattle.cx_veval.specs.Stores.{plain_words}
+use Rattle.cx_vnets.specs.Stores.{plain_words}
 use Rattle.cx_vsim.specs.Models.{Loaded}
 use Rattle.cx_vsim.specs.Stands.{IsToldAs, TellsNet, outcome_by, words_by}
 use Rattle.cx_vsim.proofs.SimLemmas.{tells_net, ran_is, sim_is}

@@ -1,11 +1,11 @@
 use Rattle.std.proofs.Common.{◌≡◌, map, ap, sym, ◌∙◌, subst}
-use Rattle.cx_text.specs.Loading.{FitsRows, plain_loaded}
+use Rattle.cx_text.specs.Loading.{FitsRows, plain_loaded, with_words}
 use Rattle.cx_vtree.specs.PlainParts.{rows_of}
 use Rattle.cx_vtree.specs.PlainSources.{plain_source}
-use Rattle.cx_veval.specs.Stores.{plain_words}
+use Rattle.cx_vnets.specs.Stores.{plain_words}
 use Rattle.cx_vsim.specs.Answers.{IsDone}
 use Rattle.cx_vsim.specs.Arrays.{AllGivenFit, CanGive}
-use Rattle.cx_vsim.specs.Models.{Ended, with_words}
+use Rattle.cx_vsim.specs.Models.{Ended}
 use Rattle.cx_vsim.specs.Stands.{words_by}
 use Rattle.cx_vsim.proofs.DumpLemmas.{done_is, can_give, given_fit}
 use Rattle.cx_vsim.proofs.simulating.SimRan.memories.Goals as goal

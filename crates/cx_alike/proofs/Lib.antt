@@ -1,4 +1,0 @@
-pub mod AlikeLemmas
-pub mod StandLemmas
-pub mod ReadLemmas
-pub mod ChangeLemmas

@@ -1,4 +1,0 @@
-//! States for which rows stand: one that is read off them, and all in which ports are seen as in it.
-#![tactic(auto)]
-
-pub mod laws;

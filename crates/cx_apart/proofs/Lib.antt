@@ -1,5 +1,0 @@
-mod QuietLemmas
-mod EnableLemmas
-mod CycleLemmas
-mod KeepLemmas
-mod RunLemmas

@@ -1,5 +1,0 @@
-use Rattle.cx_apart.proofs.RunLemmas.{drives_group}
-use Rattle.cx_apart.proofs.laws.group_within.Goals as goal
-
-pub returns : goal.returns
-returns c = λ part s g k stands driven. drives_group part s g k stands driven

@@ -1,4 +1,0 @@
-//! What a statement does not drive stays as it is.
-#![tactic(auto)]
-
-pub mod laws;

@@ -1,5 +1,0 @@
-use Rattle.cx_arms.proofs.ArmLemmas.{none_ran}
-use Rattle.cx_arms.proofs.laws.stay.Goals as goal
-
-pub returns : goal.returns
-returns c i held s n settled = none_ran i held s n settled

@@ -1,4 +1,0 @@
-//! The first break of a design is one.
-#![tactic(auto)]
-
-pub mod laws;

@@ -1,3 +1,0 @@
-pub mod ConjunctionLemmas
-pub mod CaptureLemmas
-pub mod DoneLemmas

@@ -1,4 +1,0 @@
-mod BoolLemmas
-mod CalledLemmas
-mod WrongLemmas
-mod BreakLemmas

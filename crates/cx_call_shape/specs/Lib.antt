@@ -1,2 +1,0 @@
-pub mod CallBreaks
-pub mod Decisions

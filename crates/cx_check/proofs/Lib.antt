@@ -1,0 +1,3 @@
+pub mod PlaceLemmas
+mod StageLemmas
+pub mod Verdicts

@@ -1,0 +1,207 @@
+-- A tree has one verdict.
+use Rattle.std.proofs.Common.{◌≡◌, ℕ, Bool, false, ◌&&◌, ◌||◌, nat_lt, nat_eq, List, [], ◌∷◌, Option, Some, None, inl, inr, ⊎_elim, if◌then◌else◌, refl, sym, ap, ◌∙◌, subst, arith, tests}
+use Rattle.std.specs.Prelude.{Result, Ok, Err, IfOk, IfErr, MatchResult}
+use Rattle.std.proofs.lemmas.Bool.{cases_lt}
+use Rattle.cx_text.specs.declared.places.Place.{Place}
+use Rattle.cx_text.specs.declared.rules.Rule.{Rule}
+use Rattle.cx_text.specs.declared.rules.Rule.TheVariants as rules
+use Rattle.cx_text.specs.declared.diagnostics.Diagnostic.{Diagnostic}
+use Rattle.cx_ast.specs.PlainTree.{PlainTree}
+use Rattle.cx_meaning.specs.Designs.{PlainDesign}
+use Rattle.cx_rules.specs.Spots.{Spot}
+use Rattle.cx_rules.specs.Accepted.{Breaks, number_of, part_key, key_of, comes_before, FirstBreak, IsAccepted}
+use Rattle.cx_numbering.specs.DesignOf.{design_of}
+use Rattle.cx_numbering.specs.NameRules.{names_break}
+use Rattle.cx_check.specs.Unbuilt.{first_unbuilt}
+use Rattle.cx_design.specs.declared.refusals.Refusal.{Refusal}
+use Rattle.cx_design.specs.declared.refusals.Refusal.TheVariants as refusals
+use Rattle.cx_check.specs.Verdicts.{IsRefusal}
+use Rattle.cx_names.specs.Refused.{IfRule}
+use Rattle.cx_check.specs.Acceptance.{IsAcceptedTree, left_out, TreeBreak, IsTreeRefusal, IsLeftOut, TellsAs}
+
+-- an order in which neither of two comes before the other
+same_first : (x y : ℕ) (b c : Bool) → nat_lt x y || (nat_eq x y && b) ≡ false → nat_lt y x || (nat_eq y x && c) ≡ false → x ≡ y
+same_first x y b c h k = grind (arith, tests)
+
+rest_first : (x y : ℕ) (b : Bool) → nat_lt x y || (nat_eq x y && b) ≡ false → x ≡ y → b ≡ false
+rest_first x y b h e = grind (arith, tests)
+
+-- the rule of a number
+abbrev rule_among : List Rule → ℕ → Rule
+rule_among [] n = rules.TooLarge
+rule_among (r ∷ rs) n = if nat_eq n (number_of r) then r else rule_among rs n
+
+abbrev rule_at : ℕ → Rule
+rule_at = rule_among (rules.BadByte ∷ rules.OpenComment ∷ rules.OpenString ∷ rules.BadLiteral ∷ rules.Unexpected ∷ rules.TooDeep ∷ rules.Duplicate ∷ rules.UnknownName ∷ rules.UnknownPrimitive ∷ rules.BadParameters ∷ rules.Recursive ∷ rules.NoMain ∷ rules.LeftOut ∷ rules.Width ∷ rules.GuardWidth ∷ rules.Literal ∷ rules.NotATarget ∷ rules.NotASource ∷ rules.NoDone ∷ rules.DoneNotState ∷ rules.AlwaysEnable ∷ rules.CombEnable ∷ rules.StaticGuard ∷ rules.StaticShape ∷ rules.CallShape ∷ rules.OutputNotState ∷ rules.CombCycle ∷ rules.Race ∷ rules.Limit ∷ rules.TooLarge ∷ [])
+
+rule_at_number : (r : Rule) → rule_at (number_of r) ≡ r
+rule_at_number rules.BadByte = refl
+rule_at_number rules.OpenComment = refl
+rule_at_number rules.OpenString = refl
+rule_at_number rules.BadLiteral = refl
+rule_at_number rules.Unexpected = refl
+rule_at_number rules.TooDeep = refl
+rule_at_number rules.Duplicate = refl
+rule_at_number rules.UnknownName = refl
+rule_at_number rules.UnknownPrimitive = refl
+rule_at_number rules.BadParameters = refl
+rule_at_number rules.Recursive = refl
+rule_at_number rules.NoMain = refl
+rule_at_number rules.LeftOut = refl
+rule_at_number rules.Width = refl
+rule_at_number rules.GuardWidth = refl
+rule_at_number rules.Literal = refl
+rule_at_number rules.NotATarget = refl
+rule_at_number rules.NotASource = refl
+rule_at_number rules.NoDone = refl
+rule_at_number rules.DoneNotState = refl
+rule_at_number rules.AlwaysEnable = refl
+rule_at_number rules.CombEnable = refl
+rule_at_number rules.StaticGuard = refl
+rule_at_number rules.StaticShape = refl
+rule_at_number rules.CallShape = refl
+rule_at_number rules.OutputNotState = refl
+rule_at_number rules.CombCycle = refl
+rule_at_number rules.Race = refl
+rule_at_number rules.Limit = refl
+rule_at_number rules.TooLarge = refl
+
+-- two breaks of which neither comes before the other are of one rule at one place
+same_break : (told other : Diagnostic) (spot beside : Spot) → comes_before (key_of told.rule spot told.place) (key_of other.rule beside other.place) ≡ false
+    → comes_before (key_of other.rule beside other.place) (key_of told.rule spot told.place) ≡ false → (told.rule ≡ other.rule) × (told.place ≡ other.place)
+same_break told other spot beside h k =
+    let line_h : comes_before (told.place.column ∷ number_of told.rule ∷ spot.component ∷ part_key spot.part) (other.place.column ∷ number_of other.rule ∷ beside.component ∷ part_key beside.part) ≡ false =
+    rest_first told.place.line other.place.line _ h line in
+    let line_k : comes_before (other.place.column ∷ number_of other.rule ∷ beside.component ∷ part_key beside.part) (told.place.column ∷ number_of told.rule ∷ spot.component ∷ part_key spot.part) ≡ false =
+    rest_first other.place.line told.place.line _ k (sym line) in
+    let column : told.place.column ≡ other.place.column = same_first told.place.column other.place.column _ _ line_h line_k in
+    let column_h : comes_before (number_of told.rule ∷ spot.component ∷ part_key spot.part) (number_of other.rule ∷ beside.component ∷ part_key beside.part) ≡ false =
+    rest_first told.place.column other.place.column _ line_h column in
+    let column_k : comes_before (number_of other.rule ∷ beside.component ∷ part_key beside.part) (number_of told.rule ∷ spot.component ∷ part_key spot.part) ≡ false =
+    rest_first other.place.column told.place.column _ line_k (sym column) in
+    let number : number_of told.rule ≡ number_of other.rule = same_first (number_of told.rule) (number_of other.rule) _ _ column_h column_k in (
+      sym (rule_at_number told.rule) ∙ ap rule_at number ∙ rule_at_number other.rule,
+      ap (λ n. record { line = n; column = told.place.column }) line ∙ ap (λ n. record { line = other.place.line; column = n }) column,
+    )
+  where
+    line : told.place.line ≡ other.place.line
+    line = same_first told.place.line other.place.line _ _ h k
+
+-- THE FIRST BREAK of a design is one rule at one place
+one_stage : (d : PlainDesign) (a b : Diagnostic) (h : FirstBreak d a) (k : FirstBreak d b) → h.stage ≡ k.stage
+one_stage d a b h k =
+    ⊎_elim (λ less. absurd (k.earlier h.stage less a.rule h.first.spot a.place a.name h.first.in_stage h.first.breaks))
+    (λ least. ⊎_elim (λ less. absurd (h.earlier k.stage less b.rule k.first.spot b.place b.name k.first.in_stage k.first.breaks))
+    (λ most. omega (arith, least, most)) (cases_lt k.stage h.stage))
+    (cases_lt h.stage k.stage)
+
+pub one_first : (d : PlainDesign) (a b : Diagnostic) → FirstBreak d a → FirstBreak d b → (a.rule ≡ b.rule) × (a.place ≡ b.place)
+one_first d a b h k =
+    let same : h.stage ≡ k.stage = one_stage d a b h k in
+    same_break a b h.first.spot k.first.spot
+    (k.first.first a.rule h.first.spot a.place a.name (h.first.in_stage ∙ same) h.first.breaks)
+    (h.first.first b.rule k.first.spot b.place b.name (k.first.in_stage ∙ sym same) k.first.breaks)
+
+-- an accepted design has no first break
+early : (d : PlainDesign) (rule : Rule) (spot : Spot) (place : Place) (name : List ℕ) → IsAccepted d → Breaks d rule spot place name → ⊥
+early d rules.BadByte spot place name h b = b
+early d rules.OpenComment spot place name h b = b
+early d rules.OpenString spot place name h b = b
+early d rules.BadLiteral spot place name h b = b
+early d rules.Unexpected spot place name h b = b
+early d rules.TooDeep spot place name h b = b
+early d rules.Duplicate spot place name h b = b
+early d rules.UnknownName spot place name h b = b
+early d rules.UnknownPrimitive spot place name h b = b
+early d rules.BadParameters spot place name h b = b
+early d rules.Recursive spot place name h b = b
+early d rules.NoMain spot place name h b = b
+early d rules.LeftOut spot place name h b = b
+early d rules.Width spot place name h b = h.widths rules.Width spot place name refl b
+early d rules.GuardWidth spot place name h b = h.widths rules.GuardWidth spot place name refl b
+early d rules.Literal spot place name h b = h.widths rules.Literal spot place name refl b
+early d rules.NotATarget spot place name h b = h.widths rules.NotATarget spot place name refl b
+early d rules.NotASource spot place name h b = h.widths rules.NotASource spot place name refl b
+early d rules.NoDone spot place name h b = h.shapes rules.NoDone spot place name refl b
+early d rules.DoneNotState spot place name h b = h.shapes rules.DoneNotState spot place name refl b
+early d rules.AlwaysEnable spot place name h b = h.shapes rules.AlwaysEnable spot place name refl b
+early d rules.CombEnable spot place name h b = h.shapes rules.CombEnable spot place name refl b
+early d rules.StaticGuard spot place name h b = h.shapes rules.StaticGuard spot place name refl b
+early d rules.StaticShape spot place name h b = h.shapes rules.StaticShape spot place name refl b
+early d rules.CallShape spot place name h b = h.shapes rules.CallShape spot place name refl b
+early d rules.OutputNotState spot place name h b = h.shapes rules.OutputNotState spot place name refl b
+early d rules.CombCycle spot place name h b = h.no_cycles rules.CombCycle spot place name refl b
+early d rules.Race spot place name h b = h.no_races rules.Race spot place name refl b
+early d rules.Limit spot place name h b = h.limits rules.Limit spot place name refl b
+early d rules.TooLarge spot place name h b = b
+
+none_first : (d : PlainDesign) (told : Diagnostic) → IsAccepted d → FirstBreak d told → ⊥
+none_first d told h k = early d told.rule k.first.spot told.place told.name h k.first.breaks
+
+-- A TREE
+not_both : {A : Type 0} (o : Option A) (x : A) → o ≡ None → o ≡ Some x → ⊥
+not_both o x e f = cc
+
+pub accepted_once : (tree : PlainTree) (told : Diagnostic) → IsAcceptedTree tree → TreeBreak tree told → ⊥
+accepted_once tree told h (inl b) = not_both (first_unbuilt tree) b.0 h.built b.1
+accepted_once tree told h (inr (inl b)) = not_both (names_break tree) told h.named b.1
+accepted_once tree told h (inr (inr b)) = none_first (design_of tree) told h.accepted b.2
+
+abbrev some_or : {A : Type 0} → A → Option A → A
+some_or y None = y
+some_or y (Some x) = x
+
+one_value : {A : Type 0} (o : Option A) (x y : A) → o ≡ Some x → o ≡ Some y → x ≡ y
+one_value o x y e f = ap (some_or x) (sym e ∙ f)
+
+abbrev Same : Diagnostic → Diagnostic → Type 0
+Same a b = (a.rule ≡ b.rule) × (a.place ≡ b.place)
+
+as_one : (a b : Diagnostic) → a ≡ b → Same a b
+as_one a b e = (ap (λ d. d.rule) e, ap (λ d. d.place) e)
+
+pub refused_once : (tree : PlainTree) (a b : Diagnostic) → TreeBreak tree a → TreeBreak tree b → Same a b
+refused_once tree a b (inl h) (inl k) = as_one a b (h.2 ∙ ap left_out (one_value (first_unbuilt tree) h.0 k.0 h.1 k.1) ∙ sym k.2)
+refused_once tree a b (inl h) (inr (inl k)) = absurd (not_both (first_unbuilt tree) h.0 k.0 h.1)
+refused_once tree a b (inl h) (inr (inr k)) = absurd (not_both (first_unbuilt tree) h.0 k.0 h.1)
+refused_once tree a b (inr (inl h)) (inl k) = absurd (not_both (first_unbuilt tree) k.0 h.0 k.1)
+refused_once tree a b (inr (inl h)) (inr (inl k)) = as_one a b (one_value (names_break tree) a b h.1 k.1)
+refused_once tree a b (inr (inl h)) (inr (inr k)) = absurd (not_both (names_break tree) a k.1 h.1)
+refused_once tree a b (inr (inr h)) (inl k) = absurd (not_both (first_unbuilt tree) k.0 h.0 k.1)
+refused_once tree a b (inr (inr h)) (inr (inl k)) = absurd (not_both (names_break tree) b h.1 k.1)
+refused_once tree a b (inr (inr h)) (inr (inr k)) = one_first (design_of tree) a b h.2 k.2
+
+-- a refusal of a tree tells as each that is true of it
+pub tells_as : (tree : PlainTree) (told : Diagnostic) (refusal : Refusal) → TreeBreak tree told → IsTreeRefusal tree refusal → TellsAs told refusal
+tells_as tree told (refusals.Rule own) b h = refused_once tree own told h b
+tells_as tree told refusals.Memory b h = tt
+
+-- what the answer about a design says of its tree
+pub accepted_of : {X : Type 0} (tree : PlainTree) (d : PlainDesign) (r : Result X Refusal) → first_unbuilt tree ≡ None → names_break tree ≡ None → d ≡ design_of tree
+    → IfOk r (λ _. IsAccepted d) → IfOk r (λ _. IsAcceptedTree tree)
+accepted_of tree d (Ok x) built named is h = record { built = built; named = named; accepted = subst IsAccepted is h }
+accepted_of tree d (Err e) built named is h = tt
+
+of_design : (tree : PlainTree) (d : PlainDesign) (refusal : Refusal) → first_unbuilt tree ≡ None → names_break tree ≡ None → d ≡ design_of tree
+    → IsRefusal d refusal → IsTreeRefusal tree refusal
+of_design tree d (refusals.Rule told) built named is h = inr (inr (built, named, subst (λ x. FirstBreak x told) is h))
+of_design tree d refusals.Memory built named is h = tt
+
+pub refused_of : {X : Type 0} (tree : PlainTree) (d : PlainDesign) (r : Result X Refusal) → first_unbuilt tree ≡ None → names_break tree ≡ None → d ≡ design_of tree
+    → IfErr r (IsRefusal d) → IfErr r (IsTreeRefusal tree)
+refused_of tree d (Ok x) built named is h = tt
+refused_of tree d (Err refusal) built named is h = of_design tree d refusal built named is h
+
+-- what the answer of the rules on names says of its tree
+pub refused_by_name : (X : Type 0) (tree : PlainTree) (refusal : Refusal) → first_unbuilt tree ≡ None → IfRule {A = X} (Err refusal) (λ told. names_break tree ≡ Some told) → IsTreeRefusal tree refusal
+refused_by_name X tree (refusals.Rule told) built h = inr (inl (built, h))
+refused_by_name X tree refusals.Memory built h = tt
+
+pub refused_unbuilt : (tree : PlainTree) (place : Place) (refusal : Refusal) → first_unbuilt tree ≡ Some place → IsLeftOut place refusal → IsTreeRefusal tree refusal
+refused_unbuilt tree place (refusals.Rule told) at h = inl (place, at, h)
+refused_unbuilt tree place refusals.Memory at h = tt
+
+pub all_told : {X : Type 0} (tree : PlainTree) (r : Result X Refusal) → IfOk r (λ _. IsAcceptedTree tree) → IfErr r (IsTreeRefusal tree) → (told : Diagnostic) → TreeBreak tree told
+    → MatchResult r (λ _. ⊥) (TellsAs told)
+all_told tree (Ok x) accepted refused told b = accepted_once tree told accepted b
+all_told tree (Err refusal) accepted refused told b = tells_as tree told refusal b refused

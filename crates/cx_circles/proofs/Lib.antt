@@ -1,4 +1,0 @@
-pub mod Counts
-pub mod Leads
-pub mod Numbers
-pub mod Steps

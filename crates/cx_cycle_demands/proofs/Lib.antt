@@ -1,4 +1,0 @@
-mod OwnLemmas
-mod KnownLemmas
-mod StopLemmas
-mod FaultLemmas

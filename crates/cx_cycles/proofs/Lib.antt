@@ -1,7 +1,0 @@
-pub mod DemandLemmas
-pub mod LookLemmas
-pub mod PassLemmas
-pub mod FaultLemmas
-pub mod AlikeLemmas
-pub mod EndLemmas
-pub mod InertLemmas

@@ -1,8 +1,0 @@
-use Rattle.cx_cycles.proofs.EndLemmas.{listed_fault, listed_go}
-use Rattle.cx_cycles.proofs.laws.listed_cycles_end_so.Goals as goal
-
-pub returns-clause-faults : goal.returns-clause-faults
-returns-clause-faults c = λ look cells held child s listed fault ascending holds is. listed_fault look cells held child s holds listed ascending fault is
-
-pub returns-clause-goes : goal.returns-clause-goes
-returns-clause-goes c = λ look more cells old new child s listed ascending holds is agree steps. listed_go look cells old child s holds listed ascending more new is agree steps

@@ -1,4 +1,0 @@
-pub mod Stops
-pub mod Passes
-pub mod Alike
-pub mod Enabling

@@ -1,0 +1,10 @@
+mod PortLemmas
+pub mod OutputLemmas
+pub mod Order
+mod First
+pub mod Lists
+pub mod Families
+mod Stable
+mod SourceOrder
+mod CellLemmas
+mod NameLemmas

@@ -1,0 +1,8 @@
+-- The breaks of numbered parts, in the order of the parts.
+use Rattle.std.specs.Prelude.{ℕ, suc, List, [], ◌∷◌, ◌++◌}
+use Rattle.cx_design_parts.specs.Breaks.{Broken}
+
+-- from a number on
+abbrev pub numbered : {A : Type 0} → (ℕ → A → List Broken) → ℕ → List A → List Broken
+numbered f n [] = []
+numbered f n (x ∷ xs) = f n x ++ numbered f (suc n) xs

@@ -1,0 +1,31 @@
+//! What the ports of a primitive are, and which inputs its combinational outputs read.
+//! The first break of a stage's rules.
+//! The assignments of a component in source order.
+//! The parts of a component that rules speak of: operands of guards, and statements in pre-order.
+//! Ports of a component as code: what stands at a cell, widths, sides, and the names in messages.
+#![tactic(auto)]
+
+mod breaks;
+mod cells;
+mod control;
+pub mod first_laws;
+mod guards;
+mod keys;
+mod names;
+mod ordering;
+pub mod output_laws;
+mod output_sides;
+mod parts;
+mod sides;
+mod widths;
+
+pub use breaks::{Break, FirstBreak, Part, Spot};
+pub use cells::{At, component, stands_at};
+pub use control::{Context, Visited, statements, test};
+pub use guards::{Pair, Range, atoms, comparisons, operands, ranges};
+pub use names::path;
+pub use ordering::{OwnedAssign, source_order};
+pub use output_sides::{read_count, side};
+pub use parts::{PartPort, part_port};
+pub use sides::{is_part_port, is_primitive_enable, is_source_only, is_target_only};
+pub use widths::{keeps_literal, width, written_width};

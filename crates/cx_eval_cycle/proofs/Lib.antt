@@ -1,0 +1,8 @@
+pub mod RangeLemmas
+pub mod DemandLemmas
+pub mod LookLemmas
+pub mod PassLemmas
+pub mod FaultLemmas
+pub mod AlikeLemmas
+pub mod EndLemmas
+pub mod InertLemmas

@@ -1,0 +1,22 @@
+use Rattle.std.proofs.Common.{◌≡◌, sym, ap, ◌∙◌, subst}
+use Rattle.cx_prim.specs.PrimitiveNames.{IsNamed, name_text}
+use Rattle.cx_limits.specs.Dimensions.{dimensions_of}
+use Rattle.cx_eval_cycle.specs.Ranges.{enable_of, out_by}
+use Rattle.cx_eval_cycle.proofs.RangeLemmas.{found_range, unnamed_range}
+use Rattle.cx_eval_cycle.proofs.ranges.out_by_name.Goals as goal
+
+pub returns-in-Some : goal.returns-in-Some
+returns-in-Some c =
+    let text : c.as_bytes.result.now ≡ name_text c.args.primitive.now.name = c.as_bytes.ensures.value ∙ c.name.ensures.value in
+    let named : IsNamed c.in-Some.name (name_text c.args.primitive.now.name) = subst (IsNamed c.in-Some.name) text c.in-Some.ensures.some in
+    record {
+      value = c.out_by.ensures ∙ ap (λ n. out_by n c.enable.result c.numbers.result.now c.args.inputs.now) c.dimensions.ensures
+          ∙ ap (λ n. out_by (dimensions_of c.in-Some.name) n c.numbers.result.now c.args.inputs.now) c.enable.ensures
+          ∙ ap (λ ns. out_by (dimensions_of c.in-Some.name) (enable_of c.in-Some.name) ns c.args.inputs.now) c.numbers.ensures.value
+          ∙ found_range c.args.primitive.now c.in-Some.name c.args.inputs.now c.numbers.ensures.has_row named;
+    }
+
+pub returns-in-None : goal.returns-in-None
+returns-in-None c =
+    let text : c.as_bytes.result.now ≡ name_text c.args.primitive.now.name = c.as_bytes.ensures.value ∙ c.name.ensures.value in
+    record { value = unnamed_range c.args.primitive.now c.args.inputs.now (λ name named. c.in-None.ensures.none name (subst (IsNamed name) (sym text) named)) }

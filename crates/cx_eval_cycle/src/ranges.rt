@@ -1,0 +1,100 @@
+//! The first address out of range.
+
+ghost use Rattle.std.specs.Prelude.{◌≡◌, take};
+ghost use Rattle.cx_prim.specs.MemoryRows as rows;
+ghost use Rattle.cx_prim.specs.Table.{row_of};
+ghost use Rattle.cx_limits.specs.Dimensions.{dimensions_of};
+ghost use Rattle.cx_eval_cycle.specs.Ranges as ranges;
+ghost use Rattle.cx_eval_cycle.specs.Ranges.{enable_of};
+
+use cx_bits::Bits;
+use cx_cells::Primitive;
+use cx_prim::{PrimitiveName, is_on, number_at};
+
+/// The dimensions of a memory; 0 for another primitive.
+fn dimensions(name: PrimitiveName) -> usize
+    ensures { result ≡ dimensions_of name }
+{
+    match name {
+        PrimitiveName::StdMemD1 | PrimitiveName::CombMemD1 | PrimitiveName::SeqMemD1 => 1,
+        PrimitiveName::StdMemD2 | PrimitiveName::CombMemD2 | PrimitiveName::SeqMemD2 => 2,
+        PrimitiveName::StdMemD3 | PrimitiveName::CombMemD3 | PrimitiveName::SeqMemD3 => 3,
+        PrimitiveName::StdMemD4 | PrimitiveName::CombMemD4 | PrimitiveName::SeqMemD4 => 4,
+        _ => 0,
+    }
+}
+
+/// The port of a memory at whose 1 an edge looks at the addresses; 0 for another primitive.
+fn enable(name: PrimitiveName) -> usize
+    ensures { result ≡ enable_of name }
+{
+    match name {
+        PrimitiveName::SeqMemD1 => 1,
+        PrimitiveName::StdMemD1 | PrimitiveName::CombMemD1 | PrimitiveName::SeqMemD2 => 2,
+        PrimitiveName::StdMemD2 | PrimitiveName::CombMemD2 | PrimitiveName::SeqMemD3 => 3,
+        PrimitiveName::StdMemD3 | PrimitiveName::CombMemD3 | PrimitiveName::SeqMemD4 => 4,
+        PrimitiveName::StdMemD4 | PrimitiveName::CombMemD4 => 5,
+        _ => 0,
+    }
+}
+
+/// The first numbers of a list, at most so many.
+fn front(numbers: &[u64], count: usize) -> &[u64]
+    ensures { result.now ≡ take count numbers.now }
+{
+    if count <= numbers.len() {
+        &numbers[..count]
+    } else {
+        numbers
+    }
+}
+
+/// The first address that is not below its size.
+fn first_beyond(sizes: &[u64], inputs: &[Option<Bits>]) -> Option<usize>
+    ensures { result ≡ rows.first_beyond sizes.now 0 inputs.now }
+{
+    for port in 0..sizes.len() {
+        if number_at(inputs, port) >= u128::from(sizes[port]) {
+            return Some(port);
+        }
+    }
+    None
+}
+
+/// The same for a memory of so many dimensions, by its numbers, where its enabling port is 1.
+fn out_by(
+    dimensions: usize,
+    enable: usize,
+    numbers: &[u64],
+    inputs: &[Option<Bits>],
+) -> Option<usize>
+    ensures { result ≡ ranges.out_by dimensions enable numbers.now inputs.now }
+{
+    let (_, rest) = numbers.split_first()?;
+    if is_on(inputs, enable) {
+        first_beyond(front(rest, dimensions), inputs)
+    } else {
+        None
+    }
+}
+
+/// The same by the name of a primitive.
+fn out_by_name(primitive: &Primitive, inputs: &[Option<Bits>]) -> Option<usize>
+    ensures value { result ≡ (row_of primitive.now).out_of_range inputs.now }
+{
+    match PrimitiveName::from_text(primitive.name().as_bytes()) {
+        Some(name) => out_by(dimensions(name), enable(name), primitive.numbers(), inputs),
+        None => None,
+    }
+}
+
+/// The first address port that an edge with these inputs compares with its size and finds out of range. It takes no memory.
+pub fn out_of_range(primitive: &Primitive, inputs: &[Option<Bits>]) -> Option<usize>
+    ensures value { result ≡ (row_of primitive.now).out_of_range inputs.now }
+{
+    // a memory has a width, a size and an address width at least, and no other primitive has three numbers
+    if primitive.numbers().len() < 3 {
+        return None;
+    }
+    out_by_name(primitive, inputs)
+}

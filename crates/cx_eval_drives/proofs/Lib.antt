@@ -1,0 +1,6 @@
+pub mod DriveLemmas
+pub mod ActiveLemmas
+pub mod StepLemmas
+pub mod LackLemmas
+pub mod GatherLemmas
+pub mod DriverLemmas

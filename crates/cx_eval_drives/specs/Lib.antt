@@ -1,0 +1,6 @@
+pub mod Plain
+pub mod Drives
+pub mod Actives
+pub mod Lacks
+pub mod Gathers
+pub mod Drivers

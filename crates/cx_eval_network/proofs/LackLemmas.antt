@@ -1,0 +1,203 @@
+-- What is lacked of the ports that a port depends on, and the nodes that stand for them.
+use Rattle.std.proofs.Common.{◌≡◌, ℕ, suc, ◌+◌, ◌-◌, ◌<◌, inl, inr, Bool, true, false, Option, Some, None, List, [], ◌∷◌, ◌++◌, drop, get_or, length, map, nat_lt, refl, sym, ap, ◌∙◌, subst, arith}
+use Rattle.std.specs.Prelude.{if◌then◌else◌, option_to_list, slice_get}
+use Rattle.std.proofs.lemmas.List.{drop_more}
+use Rattle.cx_meaning.specs.declared.ports.PortRef.{PortRef}
+use Rattle.cx_meaning.specs.declared.ports.PortRef.TheVariants as ports
+use Rattle.cx_meaning.specs.declared.ports.PlacedPort.{PlacedPort}
+use Rattle.cx_meaning.specs.declared.sights.Seen.{Seen}
+use Rattle.cx_meaning.specs.Active.{Acting, Owned, if_acting}
+use Rattle.cx_meaning.specs.Instances.{cell_at, cells_of}
+use Rattle.cx_meaning.specs.Sights.{In, numbered}
+use Rattle.cx_rules.specs.Items.{sources_of}
+use Rattle.cx_rules.specs.Ports.{component_of}
+use Rattle.cx_design.specs.PlainActives.{plain_active}
+use Rattle.cx_design_parts.specs.declared.ordering.OwnedAssign.{OwnedAssign}
+use Rattle.cx_design_parts.specs.Plain.{plain_owned}
+use Rattle.cx_eval_drives.specs.Drives.{acting_of}
+use Rattle.cx_state.specs.declared.tables.InstanceRow.{InstanceRow}
+use Rattle.cx_state.specs.Tables.{child_of}
+use Rattle.cx_eval_drives.specs.Lacks.{first_lack, lack_or}
+use Rattle.cx_eval_demand.specs.declared.marks.NodeMark.{NodeMark}
+use Rattle.cx_eval_demand.specs.declared.marks.NodeMark.TheVariants.{Unseen, Open, Known}
+use Rattle.cx_eval_demand.specs.Demands.{AreKnown, IsRight, is_known, known_at}
+use Rattle.cx_eval_network.specs.declared.numbering.NodePort.{NodePort}
+use Rattle.cx_eval_network.specs.Nodes.{node_at}
+use Rattle.cx_eval_network.specs.LeadPorts.{lead_ports, named_by}
+use Rattle.cx_eval_network.specs.Networks as networks
+use Rattle.cx_eval_network.specs.Networks.{Asked, active_at, nodes_of}
+use Rattle.cx_eval_network.specs.declared.step_places.PortContext.{PortContext}
+use Rattle.cx_eval_network.specs.Places as places
+use Rattle.cx_eval_network.specs.Places.{active_of}
+use Rattle.cx_eval_network.specs.declared.asking.Asking.{Asking}
+use Rattle.cx_eval_network.specs.Asked.{CanAsk, child_in}
+use Rattle.cx_eval_network.specs.Askings.{IsFound, IsPlaceOf, asked_of}
+use Rattle.cx_eval_network.specs.Lacking.{lacking, owned_lack, port_known, unknown_in}
+use Rattle.cx_eval_network.proofs.AskLemmas.{active_there, lt_true, place_instance, there}
+
+none_some : {A : Type 0} (x : A) → ◌≡◌ {A = Option A} None (Some x) → ⊥
+none_some x e = cc
+
+same_some : {A : Type 0} (x y : A) → Some x ≡ Some y → x ≡ y
+same_some x y e = cc
+
+module _ (known : PortRef → Bool) where
+  -- LISTS one behind the other
+  lacking-append : (xs ys : List PortRef) → lacking known (xs ++ ys) ≡ lack_or (lacking known xs) (lacking known ys)
+  lacking-append [] ys = refl
+  lacking-append (x ∷ xs) ys = choice (known x) (lacking-append xs ys)
+    where
+      choice : (b : Bool) → lacking known (xs ++ ys) ≡ lack_or (lacking known xs) (lacking known ys)
+          → (if b then lacking known (xs ++ ys) else Some x) ≡ lack_or (if b then lacking known xs else Some x) (lacking known ys)
+      choice true e = e
+      choice false e = refl
+
+  named : (ps : List PlacedPort) → first_lack known ps ≡ lacking known (map (λ p. p.port) ps)
+  named [] = refl
+  named (p ∷ ps) = choice (known p.port) (named ps)
+    where
+      choice : (b : Bool) → first_lack known ps ≡ lacking known (map (λ p. p.port) ps)
+          → lack_or (if b then None else Some p.port) (first_lack known ps) ≡ (if b then lacking known (map (λ p. p.port) ps) else Some p.port)
+      choice true e = e
+      choice false e = refl
+
+  -- ASSIGNMENTS, one by one
+  assign_first : (o : Option ℕ) (a : Owned) (rest : List Acting) → lacking known (named_by (if_acting o a.assign rest)) ≡ lack_or (owned_lack known o a) (lacking known (named_by rest))
+  assign_first None a rest = refl
+  assign_first (Some n) a rest =
+      lacking-append (map (λ p. p.port) (sources_of a.assign)) (named_by rest)
+      ∙ ap (λ o. lack_or o (lacking known (named_by rest))) (sym (named (sources_of a.assign)))
+
+  module _ (offset : Option ℕ → Option ℕ) where
+    abbrev lack_of : List OwnedAssign → Option PortRef
+    lack_of xs = lacking known (named_by (acting_of offset (map plain_owned xs)))
+
+    assigns_step : (xs : List OwnedAssign) (i : ℕ) (x : OwnedAssign) → i < length xs → x ≡ get_or xs i x
+        → lack_of (drop i xs) ≡ lack_or (owned_lack known (offset x.owner) (plain_owned x)) (lack_of (drop (i + 1) xs))
+    assigns_step xs i x lt is =
+        ap lack_of (drop_more xs i x lt)
+        ∙ ap (λ y. lack_of (y ∷ drop (i + 1) xs)) (sym is)
+        ∙ assign_first (offset x.owner) (plain_owned x) (acting_of offset (map plain_owned (drop (i + 1) xs)))
+
+    pub assigns_next : (xs : List OwnedAssign) (i : ℕ) (x : OwnedAssign) → i < length xs → x ≡ get_or xs i x → None ≡ owned_lack known (offset x.owner) (plain_owned x)
+        → lack_of (drop i xs) ≡ lack_of (drop (i + 1) xs)
+    assigns_next xs i x lt is e = assigns_step xs i x lt is ∙ ap (λ o. lack_or o (lack_of (drop (i + 1) xs))) (sym e)
+
+    pub assigns_found : (xs : List OwnedAssign) (i : ℕ) (x : OwnedAssign) (q : PortRef) → i < length xs → x ≡ get_or xs i x → Some q ≡ owned_lack known (offset x.owner) (plain_owned x)
+        → lack_of (drop i xs) ≡ Some q
+    assigns_found xs i x q lt is e = assigns_step xs i x lt is ∙ ap (λ o. lack_or o (lack_of (drop (i + 1) xs))) (sym e)
+
+  -- INPUTS of a cell, from the last one on
+  input_step : (c left m : ℕ) → left ≡ suc m → lacking known (numbered c left) ≡ (if known (ports.Cell c m) then lacking known (numbered c m) else Some (ports.Cell c m))
+  input_step c left m e = ap (λ n. lacking known (numbered c n)) e
+
+  pub input_next : (c left : ℕ) → 0 < left → known (ports.Cell c (left - 1)) ≡ true → lacking known (numbered c left) ≡ lacking known (numbered c (left - 1))
+  input_next c left some e =
+      input_step c left (left - 1) (omega (arith, some)) ∙ ap (λ b. if b then lacking known (numbered c (left - 1)) else Some (ports.Cell c (left - 1))) e
+
+  pub input_found : (c left : ℕ) → 0 < left → known (ports.Cell c (left - 1)) ≡ false → lacking known (numbered c left) ≡ Some (ports.Cell c (left - 1))
+  input_found c left some e =
+      input_step c left (left - 1) (omega (arith, some)) ∙ ap (λ b. if b then lacking known (numbered c (left - 1)) else Some (ports.Cell c (left - 1))) e
+
+-- NODES of ports
+module _ (a : Asked) (marks : List NodeMark) (n : ℕ) where
+  abbrev pub known_here : PortRef → Bool
+  known_here q = port_known marks (node_at a.design a.rows n q)
+
+  pub lacked : (qs : List PortRef) (rest : List ℕ) (q : PortRef) → lacking known_here qs ≡ Some q → unknown_in marks (nodes_of a n qs ++ rest) ≡ node_at a.design a.rows n q
+  lacked [] rest q e = absurd (none_some q e)
+  lacked (p ∷ qs) rest q e = choice (node_at a.design a.rows n p) refl (λ f. lacked qs rest q f) e
+    where
+      choice : (o : Option ℕ) → node_at a.design a.rows n p ≡ o
+          → (lacking known_here qs ≡ Some q → unknown_in marks (nodes_of a n qs ++ rest) ≡ node_at a.design a.rows n q)
+          → (if port_known marks o then lacking known_here qs else Some p) ≡ Some q
+          → unknown_in marks ((option_to_list o ++ nodes_of a n qs) ++ rest) ≡ node_at a.design a.rows n q
+      choice None is behind f = behind f
+      choice (Some m) is behind f = inner (known_at marks m) f
+        where
+          inner : (b : Bool) → (if b then lacking known_here qs else Some p) ≡ Some q → (if b then unknown_in marks (nodes_of a n qs ++ rest) else Some m) ≡ node_at a.design a.rows n q
+          inner true g = behind g
+          inner false g = sym is ∙ ap (node_at a.design a.rows n) (same_some p q g)
+
+  pub none_lacked : (qs : List PortRef) (rest : List ℕ) → lacking known_here qs ≡ None → unknown_in marks (nodes_of a n qs ++ rest) ≡ unknown_in marks rest
+  none_lacked [] rest e = refl
+  none_lacked (p ∷ qs) rest e = choice (node_at a.design a.rows n p) (λ f. none_lacked qs rest f) e
+    where
+      choice : (o : Option ℕ) → (lacking known_here qs ≡ None → unknown_in marks (nodes_of a n qs ++ rest) ≡ unknown_in marks rest)
+          → (if port_known marks o then lacking known_here qs else Some p) ≡ None → unknown_in marks ((option_to_list o ++ nodes_of a n qs) ++ rest) ≡ unknown_in marks rest
+      choice None behind f = behind f
+      choice (Some m) behind f = inner (known_at marks m) f
+        where
+          inner : (b : Bool) → (if b then lacking known_here qs else Some p) ≡ None → (if b then unknown_in marks (nodes_of a n qs ++ rest) else Some m) ≡ unknown_in marks rest
+          inner true g = behind g
+          inner false g = absurd (none_some p (sym g))
+
+-- THE FIRST that is not known
+module _ (marks : List NodeMark) where
+  first_none : (ms : List ℕ) → None ≡ unknown_in marks ms → (m : ℕ) → In ms m → known_at marks m ≡ true
+  first_none [] e m i = absurd i
+  first_none (k ∷ ks) e m i = choice (known_at marks k) refl (λ f j. first_none ks f m j) e i
+    where
+      choice : (b : Bool) → known_at marks k ≡ b → (None ≡ unknown_in marks ks → In ks m → known_at marks m ≡ true)
+          → None ≡ (if b then unknown_in marks ks else Some k) → In (k ∷ ks) m → known_at marks m ≡ true
+      choice true is behind f (inl same) = ap (known_at marks) (sym same) ∙ is
+      choice true is behind f (inr j) = behind f j
+      choice false is behind f j = absurd (none_some k f)
+
+  pub first_some : (ms : List ℕ) (m : ℕ) → Some m ≡ unknown_in marks ms → In ms m × (known_at marks m ≡ false)
+  first_some [] m e = absurd (none_some m (sym e))
+  first_some (k ∷ ks) m e = choice (known_at marks k) refl (λ f. first_some ks m f) e
+    where
+      choice : (b : Bool) → known_at marks k ≡ b → (Some m ≡ unknown_in marks ks → In ks m × (known_at marks m ≡ false))
+          → Some m ≡ (if b then unknown_in marks ks else Some k) → In (k ∷ ks) m × (known_at marks m ≡ false)
+      choice true is behind f = let r = behind f in (inr r.0, r.1)
+      choice false is behind f = let same : m ≡ k = same_some m k f in (inl (sym same), ap (known_at marks) same ∙ is)
+
+  -- where what is known is right, all are known with their values
+  pub all_known : (value : ℕ → Seen) → IsRight value marks → (ms : List ℕ) → None ≡ unknown_in marks ms → AreKnown value marks ms
+  all_known value right ms e m i = by (slice_get marks m) refl (first_none ms e m i)
+    where
+      by : (o : Option NodeMark) → slice_get marks m ≡ o → is_known o ≡ true → slice_get marks m ≡ Some (Known (value m))
+      by None is known = absurd (let no : false ≡ true = known in cc)
+      by (Some Unseen) is known = absurd (let no : false ≡ true = known in cc)
+      by (Some Open) is known = absurd (let no : false ≡ true = known in cc)
+      by (Some (Known x)) is known = is ∙ ap (λ y. Some (Known y)) (right m x is)
+
+-- WHAT A FOUND PORT leads to
+module _ (asking : Asking) (can : CanAsk (asked_of asking) asking.nodes.now asking.drivers.now) (found : NodePort) (f : IsFound (asked_of asking) found) where
+  abbrev a : Asked
+  a = asked_of asking
+
+  abbrev k : ℕ
+  k = found.instance
+
+  pub leads_alike : (place : PortContext) → IsPlaceOf asking found place
+      → lead_ports (places.instance_of place) (active_of place) place.port ≡ lead_ports (networks.instance_of a k) (active_at a k) found.port
+  leads_alike place is =
+      let same = place_instance asking can found f place is in
+      ap (λ i. lead_ports i (active_of place) place.port) same
+      ∙ ap (λ act. lead_ports (networks.instance_of a k) act place.port)
+      (ap (plain_active (places.instance_of place)) is.active ∙ active_there a asking.active.now k refl (places.instance_of place) same)
+      ∙ ap (lead_ports (networks.instance_of a k) (active_at a k)) is.port
+
+  pub cells_there : (c : ℕ) → cell_at (cells_of (networks.instance_of a k)) c ≡ cell_at (cells_of (component_of a.design found.component)) c
+  cells_there c = ap (λ i. cell_at (cells_of i) c) (there asking can found f ∙ ap (component_of a.design) (sym f.component))
+
+  pub component_within : found.component < length a.design.components
+  component_within = subst (λ m. m < length a.design.components) (sym f.component) (can.network.table.there k f.within)
+
+-- THE INSTANCE at a cell
+module _ (rows : List InstanceRow) (children : List ℕ) (n c : ℕ) where
+  pub child_is : (child : ℕ) → Some child ≡ child_in rows children n c → child ≡ child_of rows children n c
+  child_is child e = choice (nat_lt (child_of rows children n c) (length rows)) e
+    where
+      choice : (b : Bool) → Some child ≡ (if b then Some (child_of rows children n c) else None) → child ≡ child_of rows children n c
+      choice true f = same_some child (child_of rows children n c) f
+      choice false f = absurd (none_some child (sym f))
+
+  pub child_there : child_of rows children n c < length rows → None ≡ child_in rows children n c → ⊥
+  child_there lt e = choice (nat_lt (child_of rows children n c) (length rows)) (lt_true (child_of rows children n c) (length rows) lt) e
+    where
+      choice : (b : Bool) → b ≡ true → None ≡ (if b then Some (child_of rows children n c) else None) → ⊥
+      choice true is f = none_some (child_of rows children n c) f
+      choice false is f = absurd (let no : false ≡ true = is in cc)

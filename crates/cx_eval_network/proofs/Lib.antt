@@ -1,0 +1,13 @@
+pub mod PartLemmas
+pub mod NodeLemmas
+pub mod PlaceLemmas
+pub mod FoundLemmas
+pub mod LeadLemmas
+pub mod NetworkLemmas
+pub mod ValueLemmas
+pub mod AcceptedLemmas
+pub mod ShortLemmas
+pub mod OutputLemmas
+pub mod StepLemmas
+pub mod AskLemmas
+pub mod LackLemmas

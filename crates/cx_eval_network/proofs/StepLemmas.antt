@@ -1,0 +1,76 @@
+-- What cells of a component hold, and the groups that call them.
+use Rattle.std.proofs.Common.{◌≡◌, ℕ, zero, suc, ◌-◌, ◌<◌, ◌≤◌, List, [], ◌∷◌, get_or, length, map, drop, Option, Some, None, refl, sym, ap, ◌∙◌, subst, arith}
+use Rattle.std.specs.Prelude.{slice_get}
+use Rattle.std.proofs.Math.Seq.{drop-cons}
+use Rattle.cx_prim.specs.CellStates.{CellState, IsState}
+use Rattle.cx_prim.specs.Rows.{Row}
+use Rattle.cx_prim.specs.Table.{row_of}
+use Rattle.cx_meaning.specs.Calls as calls
+use Rattle.cx_meaning.specs.Designs.{PlainCell, PlainComponent, PlainDesign, PlainGroup, PlainKind, OfPrimitive, OfComponent, component_at, no_group}
+use Rattle.cx_meaning.specs.Instances.{Instance, Cells, OfRow, add_cell, cell_at, cells_for, cells_of, part_of, tree_within}
+use Rattle.cx_rules.specs.Ports.{component_of}
+use Rattle.cx_design.specs.declared.groups.Assign.{Assign}
+use Rattle.cx_design.specs.PlainForms.{plain_assigns, plain_assign}
+use Rattle.cx_state.specs.States.{HoldCells, HoldsKind}
+use Rattle.cx_design_leads.proofs.NodeLemmas.{component_part}
+
+-- a cell holds a state of a row
+pub record Holds (row : Row) (h : Option CellState) : Type 0 where
+  pub held : CellState
+  pub is : h ≡ Some held
+  pub fits : IsState row.shape held
+
+kind_skips : (trees : ℕ → Instance) (kind : PlainKind) (rest : Cells) (c : ℕ) → cell_at (add_cell trees kind rest) (suc c) ≡ cell_at rest c
+kind_skips trees (OfPrimitive p) rest c = refl
+kind_skips trees (OfComponent k) rest c = refl
+
+kind_holds : (trees : ℕ → Instance) (kind : PlainKind) (rest : Cells) (row : Row) (h : Option CellState) → HoldsKind kind h → cell_at (add_cell trees kind rest) zero ≡ OfRow row → Holds row h
+kind_holds trees (OfPrimitive p) rest row None k e = absurd k
+kind_holds trees (OfPrimitive p) rest row (Some held) k e = let same : row_of p ≡ row = cc in record { held = held; is = refl; fits = subst (λ (r : Row). IsState r.shape held) same k }
+kind_holds trees (OfComponent j) rest row h k e = absurd (cc)
+
+cells_hold : (trees : ℕ → Instance) (cells : List PlainCell) (hs : List (Option CellState)) (c : ℕ) (row : Row) → HoldCells cells hs → cell_at (cells_for trees cells) c ≡ OfRow row → Holds row (get_or hs c None)
+cells_hold trees [] hs c row k e = absurd (cc)
+cells_hold trees (x ∷ xs) [] c row k e = absurd k
+cells_hold trees (x ∷ xs) (h ∷ hs) zero row k e = kind_holds trees x.kind (cells_for trees xs) row h k.0 e
+cells_hold trees (x ∷ xs) (h ∷ hs) (suc c) row k e = cells_hold trees xs hs c row k.1 (sym (kind_skips trees x.kind (cells_for trees xs) c) ∙ e)
+
+pub component_holds : (d : PlainDesign) (k : ℕ) (hs : List (Option CellState)) (c : ℕ) (row : Row) → HoldCells (component_at d k).cells hs → cell_at (cells_of (component_of d k)) c ≡ OfRow row → Holds row (get_or hs c None)
+component_holds d k hs c row holds e = choice (length d.components) e
+  where
+    choice : (n : ℕ) → cell_at (cells_of (tree_within d n k)) c ≡ OfRow row → Holds row (get_or hs c None)
+    choice zero e = absurd (cc)
+    choice (suc n) e = cells_hold (tree_within d n) (component_at d k).cells hs c row holds e
+
+pub held_state : (row : Row) (h : Option CellState) (x : CellState) → Holds row h → h ≡ Some x → IsState row.shape x
+held_state row h x holds e = let same : holds.held ≡ x = some_same (sym holds.is ∙ e) in subst (λ y. IsState row.shape y) same holds.fits
+  where
+    some_same : {x y : CellState} → Some x ≡ Some y → x ≡ y
+    some_same e = cc
+
+pub no_state : (row : Row) (h : Option CellState) → Holds row h → h ≡ None → ⊥
+no_state row h holds e = none_some (sym e ∙ holds.is)
+  where
+    none_some : {x : CellState} → None ≡ Some x → ⊥
+    none_some e = cc
+
+-- GROUPS
+get_none : (xs : List PlainGroup) (n : ℕ) → slice_get xs n ≡ None → get_or xs n no_group ≡ no_group
+get_none [] n e = refl
+get_none (x ∷ xs) zero e = absurd (cc)
+get_none (x ∷ xs) (suc n) e = get_none xs n e
+
+pub calls_none : (d : PlainDesign) (k g : ℕ) (part : PlainComponent) → part ≡ component_at d k → slice_get part.groups g ≡ None → None ≡ calls.called (component_of d k) g
+calls_none d k g part is e =
+    ap (λ (group : PlainGroup). calls.called_in (cells_of (component_of d k)) group.assigns)
+    (sym (get_none (part_of (component_of d k)).groups g (ap (λ (p : PlainComponent). slice_get p.groups g) (component_part d k ∙ sym is) ∙ e)))
+
+pub called_more : (cells : Cells) (xs : List Assign) (left : ℕ) (x : Assign) (found next : Option ℕ) → 1 ≤ left → left ≤ length xs
+    → found ≡ calls.called_in cells (plain_assigns (drop left xs)) → next ≡ calls.called_by cells (get_or xs (left - 1) x).target found
+    → next ≡ calls.called_in cells (plain_assigns (drop (left - 1) xs))
+called_more cells xs left x found next some within e f =
+    let back : suc (left - 1) ≡ left = omega (arith, some) in
+    let lt : left - 1 < length xs = omega (arith, some, within) in
+    let split : drop (left - 1) xs ≡ get_or xs (left - 1) x ∷ drop (suc (left - 1)) xs = drop-cons xs (left - 1) x lt in
+    f ∙ ap (calls.called_by cells (get_or xs (left - 1) x).target) (e ∙ ap (λ n. calls.called_in cells (plain_assigns (drop n xs))) (sym back))
+    ∙ ap (λ ys. calls.called_in cells (plain_assigns ys)) (sym split)

@@ -1,0 +1,49 @@
+use Rattle.std.proofs.Common.{rules, ◌≡◌, ◌+◌, ◌<◌, ⊎_elim, Some, length, slice_get, map, sym, ap, ◌∙◌, subst, arith}
+use Rattle.std.proofs.lemmas.List.{length-append, length-map}
+use Rattle.cx_graphs.proofs.Lists.{get_last}
+use Rattle.cx_rules.specs.Ports.{component_of}
+use Rattle.cx_design.specs.PlainForms.{plain_component}
+use Rattle.cx_design.specs.PlainDesigns.{plain_design}
+use Rattle.cx_state.specs.Tables.{row_at}
+use Rattle.cx_eval_network.specs.Nodes.{HaveParts, IsNodesOf, IsPartOf}
+use Rattle.cx_eval_network.proofs.numbering.Nodes.new.Goals as goal
+
+pub loop-number-preserved : goal.loop-number-preserved
+loop-number-preserved c =
+    let d = plain_design c.args.design.now in
+    let parts = c.loop-number.parts.items in
+    let own : IsPartOf (component_of d c.loop-number.number) c.in_ok-new.field-0 = c.in_ok-new.ensures.value in
+    let sized = c.loop-number.invariant.sized in
+    record {
+      sized = ap length c.in_ok-push.ensures.items ∙ length-append parts _ ∙ ap (λ k. k + 1) sized;
+      each = λ k nodes e. ⊎_elim
+          (λ f. c.loop-number.invariant.each k nodes f)
+          (λ (b : (k ≡ length parts) × (c.in_ok-new.field-0 ≡ nodes)).
+          subst (λ m. IsPartOf (component_of d m) nodes) (sym (b.0 ∙ sized)) (subst (IsPartOf (component_of d c.loop-number.number)) b.1 own))
+          (get_last parts c.in_ok-new.field-0 nodes k (subst (λ xs. slice_get xs k ≡ Some nodes) c.in_ok-push.ensures.items e));
+    }
+
+pub placed-requires : goal.placed-requires
+placed-requires c = record {
+  within = λ n lt.
+      let d = plain_design c.args.design.now in
+      let rows = c.args.table.now.rows.items in
+      let all : length c.args.design.now.components.items ≡ c.loop-number.number = search rules in
+      let sized = c.loop-number.invariant.sized in
+      let many : length (map plain_component c.args.design.now.components.items) ≡ length c.args.design.now.components.items = length-map c.args.design.now.components.items plain_component in
+      let there : (row_at rows n).component < length (map plain_component c.args.design.now.components.items) = c.requires.table.there n (subst (λ xs. n < length xs) c.as_slice.ensures.value lt) in
+      subst (λ xs. (row_at xs n).component < length c.loop-number.parts.items) (sym c.as_slice.ensures.value) (omega (arith, there, many, all, sized));
+}
+
+pub returns : goal.returns
+returns c = record {
+  value =
+      let d = plain_design c.args.design.now in
+      let all : length c.args.design.now.components.items ≡ c.loop-number.number = search rules in
+      let sized = c.loop-number.invariant.sized in
+      let parts : HaveParts d c.loop-number.parts.items = record {
+        count = sized ∙ sym all ∙ sym (length-map c.args.design.now.components.items plain_component);
+        each = c.loop-number.invariant.each;
+      } in
+      subst (λ xs. IsNodesOf d xs c.in_ok-nodes.nodes) c.as_slice.ensures.value (c.in_ok-nodes.ensures.value d parts);
+}

@@ -1,0 +1,47 @@
+//! Numbers for the ports of all instances of a design.
+//! The ports that a port depends on at once, as lists.
+//! What marks show of the ports of an instance.
+//! What driven ports are seen as by one step.
+//! What each port of an instance is seen as by one step.
+//! An instance of a design that is asked what its ports are seen as.
+#![tactic(auto)]
+
+mod asking;
+mod below;
+mod called;
+mod children;
+mod driven;
+mod instance_ports;
+mod known;
+mod lacking;
+mod literals;
+mod looking;
+mod marked;
+mod network;
+mod network_laws;
+mod node_laws;
+mod numbering;
+mod outputs;
+mod parts;
+mod places;
+mod step_below;
+mod step_places;
+mod steps;
+mod unknown;
+mod values;
+
+pub use asking::Asking;
+pub use driven::driven_seen;
+pub use instance_ports::InstancePorts;
+pub use marked::MarkedPorts;
+pub use network_laws::{
+    accepted_designs_are_networks, known_nodes_decide, lead_ports_lead, networks_are_grounded,
+    networks_stay_within,
+};
+pub use node_laws::{later_nodes_are_greater, nodes_are_apart, nodes_are_within, ports_have_nodes};
+pub use numbering::{InstanceNodes, NodePort, Nodes};
+pub use outputs::{combinational_seen, registered_seen};
+pub use parts::PartNodes;
+pub use step_below::Below;
+pub use step_places::PortContext;
+pub use steps::step_seen;

@@ -1,0 +1,161 @@
+//! Numbers for the ports of all instances.
+
+ghost use Rattle.std.specs.Prelude.{◌≡◌, ◌+◌, ◌<◌, ℕ, List, IfNone, IfOk, IfSome, None, OnOk, Some, length, slice_get};
+ghost use Rattle.cx_meaning.specs.Designs.{PlainDesign};
+ghost use Rattle.cx_design.specs.PlainDesigns.{plain_design};
+ghost use Rattle.cx_state.specs.declared.tables.InstanceRow.{InstanceRow};
+ghost use Rattle.cx_state.specs.Tables.{IsTable, row_at};
+ghost use Rattle.cx_eval_network.specs.Nodes.{ArePortsOf, HaveParts, IsNodesOf, IsPortOf, StandBehind, found_at, node_at, node_count};
+
+use crate::instance_ports::InstancePorts;
+use crate::parts::PartNodes;
+use cx_design::{Design, PortRef};
+use cx_state::{InstanceRow, InstanceTable};
+use cx_text::Memory;
+use std::alloc::Global;
+
+/// The component of an instance, and the first of its nodes.
+#[derive(Clone, Copy, Debug, PartialEq, Eq)]
+pub struct InstanceNodes {
+    pub component: u32,
+    pub first: usize,
+}
+
+/// What stands at a node: the instance, its component, the port, and the number of the port among those of its component.
+#[derive(Clone, Copy, Debug, PartialEq, Eq)]
+pub struct NodePort {
+    pub instance: usize,
+    pub component: u32,
+    pub port: PortRef,
+    pub number: usize,
+}
+
+/// A numbering of the ports of all instances of a design: instance by instance, and in each as its component numbers its
+/// ports.
+#[derive(Debug, Drop)]
+pub struct Nodes {
+    /// The ports of each component.
+    parts: Vec<PartNodes>,
+    instances: Vec<InstanceNodes>,
+    /// What stands at each node.
+    ports: Vec<NodePort>,
+}
+
+impl Nodes {
+    /// The numbering of the ports of the instances of a table.
+    pub fn new(alloc: Global, design: &Design, table: &InstanceTable) -> Result<Nodes, Memory>
+        requires table { IsTable (plain_design design.now) table.now.rows.items table.now.children.items }
+        ensures value { IfOk result (IsNodesOf (plain_design design.now) table.now.rows.items) }
+    {
+        let mut parts = Vec::new(alloc);
+        for number in 0..design.components.len() {
+            parts.push(PartNodes::new(alloc, design, number)?)?;
+        }
+        let nodes = placed(alloc, table.rows.as_slice(), parts)?;
+        Ok(nodes)
+    }
+
+    /// How many nodes there are.
+    pub fn count(&self) -> usize
+        ensures value { (d : PlainDesign) (rows : List InstanceRow) → IsNodesOf d rows self.now → result ≡ node_count d rows }
+    {
+        self.ports.len()
+    }
+
+    /// The node of a port of an instance. A literal has none, nor has a port that is not there.
+    pub fn node(&self, instance: usize, port: PortRef) -> Option<usize>
+        ensures value { (d : PlainDesign) (rows : List InstanceRow) → IsNodesOf d rows self.now → instance < length rows → result ≡ node_at d rows instance port }
+    {
+        let place = instance_nodes(self.instances.as_slice(), instance)?;
+        let part = part_nodes(self.parts.as_slice(), place.component)?;
+        let ports = InstancePorts {
+            numbers: &part.numbers,
+            first: place.first,
+        };
+        ports.node(port)
+    }
+
+    /// The ports of an instance of the table of a design that is numbered.
+    pub fn ports_of<'a>(
+        &'a self,
+        _design: &Design,
+        table: &InstanceTable,
+        instance: usize,
+    ) -> InstancePorts<'a>
+        requires within { instance < length table.now.rows.items }
+        requires numbered { IsNodesOf (plain_design _design.now) table.now.rows.items self.now }
+        ensures value { ArePortsOf (plain_design _design.now) table.now.rows.items instance result }
+    {
+        let part = &self.parts[table.rows[instance].component as usize];
+        InstancePorts {
+            numbers: &part.numbers,
+            first: self.instances[instance].first,
+        }
+    }
+
+    /// What stands at a node, where it is one.
+    pub fn port(&self, node: usize) -> Option<NodePort>
+        ensures found { result ≡ found_at self.now node }
+        ensures value { (d : PlainDesign) (rows : List InstanceRow) → IsNodesOf d rows self.now → IsPortOf d rows node result }
+    {
+        self.ports.get(node).copied()
+    }
+}
+
+/// The nodes of an instance, where it is there.
+fn instance_nodes(instances: &[InstanceNodes], instance: usize) -> Option<InstanceNodes>
+    ensures value { result ≡ slice_get instances.now instance }
+{
+    instances.get(instance).copied()
+}
+
+/// The ports of a component, where it is there.
+fn part_nodes(parts: &[PartNodes], component: u32) -> Option<&PartNodes>
+    ensures none { IfNone result (slice_get parts.now component ≡ None) }
+    ensures some { IfSome result (λ part. slice_get parts.now component ≡ Some part.now) }
+{
+    parts.get(component as usize)
+}
+
+/// The numbering over the ports of the components.
+fn placed(alloc: Global, rows: &[InstanceRow], parts: Vec<PartNodes>) -> Result<Nodes, Memory>
+    requires within { (n : ℕ) → n < length rows.now → (row_at rows.now n).component < length parts.items }
+    ensures value { IfOk result (λ nodes. (d : PlainDesign) → HaveParts d parts.items → IsNodesOf d rows.now nodes) }
+{
+    let mut instances = Vec::new(alloc);
+    let mut ports = Vec::new(alloc);
+    for (number, row) in rows.iter().enumerate() {
+        let first = ports.len();
+        let part = &parts[row.component as usize];
+        instances.push(InstanceNodes {
+            component: row.component,
+            first,
+        })?;
+        stand(&mut ports, number, row.component, part.ports.as_slice())?;
+    }
+    Ok(Nodes {
+        parts,
+        instances,
+        ports,
+    })
+}
+
+/// Gives the next nodes to the ports of an instance.
+fn stand(
+    nodes: &mut Vec<NodePort>,
+    instance: usize,
+    component: u32,
+    ports: &[PortRef],
+) -> Result<(), Memory>
+    ensures value { OnOk result (StandBehind instance component ports.now (length ports.now) nodes.old.items nodes.new.items) }
+{
+    for (number, port) in ports.iter().enumerate() {
+        nodes.push(NodePort {
+            instance,
+            component,
+            port: *port,
+            number,
+        })?;
+    }
+    Ok(())
+}

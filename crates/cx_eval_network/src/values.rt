@@ -1,0 +1,50 @@
+//! Values of ports.
+
+ghost use Rattle.std.specs.Prelude.{◌≡◌, Some};
+ghost use Rattle.cx_eval_demand.specs.Demands.{AreKnown};
+ghost use Rattle.cx_eval_network.specs.Networks.{leads_of, seen_at, value_at};
+ghost use Rattle.cx_eval_network.specs.Askings.{IsAsking, IsFound, IsPlaceOf, asked_of};
+
+use crate::asking::Asking;
+use crate::below::MarkedBelow;
+use crate::{MarkedPorts, NodePort, Place, step_seen};
+use cx_design::Seen;
+use cx_eval_demand::NodeMark;
+use cx_laws::width_laws::found_has_width;
+use cx_state::alike_laws::rows_stand;
+use cx_state::width_laws::states_hold_widths;
+
+/// What a port is seen as that is found, where all that it leads to is known. It takes no memory.
+pub fn found_value(
+    asking: &Asking<'_>,
+    marks: &[NodeMark],
+    found: NodePort,
+    place: &Place<'_>,
+) -> Seen
+    requires can { IsAsking asking.now }
+    requires found { IsFound (asked_of asking.now) found }
+    requires place { IsPlaceOf asking.now found place.now }
+    requires known { AreKnown (value_at (asked_of asking.now) asking.now.nodes.now) marks.now (leads_of (asked_of asking.now) (Some found)) }
+    ensures value { result ≡ seen_at (asked_of asking.now) found.instance found.port }
+{
+    rows_stand();
+    found_has_width();
+    states_hold_widths();
+    let look = MarkedPorts {
+        design: asking.design,
+        table: asking.table,
+        ports: asking
+            .nodes
+            .ports_of(asking.design, asking.table, found.instance),
+        marks,
+        instance: found.instance,
+    };
+    let below = MarkedBelow {
+        design: asking.design,
+        table: asking.table,
+        nodes: asking.nodes,
+        marks,
+        instance: found.instance,
+    };
+    step_seen(place, &look, &below)
+}

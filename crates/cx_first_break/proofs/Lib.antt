@@ -1,4 +1,0 @@
-pub mod Order
-mod First
-pub mod Lists
-pub mod Families

@@ -1,3 +1,0 @@
-pub mod Breaks
-pub mod Answers
-pub mod Numbered

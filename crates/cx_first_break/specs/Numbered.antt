@@ -1,8 +1,0 @@
--- The breaks of numbered parts, in the order of the parts.
-use Rattle.std.specs.Prelude.{ℕ, suc, List, [], ◌∷◌, ◌++◌}
-use Rattle.cx_first_break.specs.Breaks.{Broken}
-
--- from a number on
-abbrev pub numbered : {A : Type 0} → (ℕ → A → List Broken) → ℕ → List A → List Broken
-numbered f n [] = []
-numbered f n (x ∷ xs) = f n x ++ numbered f (suc n) xs

@@ -1,8 +1,0 @@
-//! The first break of a stage's rules.
-#![tactic(auto)]
-
-mod breaks;
-mod keys;
-pub mod laws;
-
-pub use breaks::{Break, FirstBreak, Part, Spot};

@@ -1,5 +1,0 @@
-pub mod FormLemmas
-pub mod CellLemmas
-mod LinkLemmas
-pub mod ReadLemmas
-pub mod Bounds

@@ -1,4 +1,0 @@
-pub mod Forms
-pub mod Cells
-pub mod Links
-pub mod Footprints

@@ -1,0 +1,206 @@
+-- Islands hang on a set of cells alone.
+use Rattle.std.proofs.Common.{◌≡◌, ℕ, zero, suc, ◌+◌, ◌-◌, inl, inr, Bool, true, false, ◌&&◌, nat_le, Option, Some, None, List, [], ◌∷◌, ◌++◌, map, refl, ap, ◌∙◌, subst}
+use Rattle.std.specs.Prelude.{if◌then◌else◌, nat_eq, nat_lt}
+use Rattle.std.proofs.lemmas.Bool.{eqb-true}
+use Rattle.cx_meaning.specs.declared.ports.PortRef.{PortRef}
+use Rattle.cx_meaning.specs.declared.ports.PlacedPort.{PlacedPort}
+use Rattle.cx_meaning.specs.Designs.{PlainComponent, PlainForm, Empty, Enable, Seq, Par, If, While, Repeat, StaticSeq, StaticPar, StaticIf, StaticRepeat, Timed, PlainStatement, Placed, PlainStatements, no_statements, a_statement}
+use Rattle.cx_meaning.specs.Instances.{Instance, cells_of, part_of, State, idle}
+use Rattle.cx_meaning.specs.Active.{nothing, Entry, offset_in, entries}
+use Rattle.cx_meaning.specs.Truths.{truth_of}
+use Rattle.cx_meaning.specs.Sights.{Look, Held, seen, In}
+use Rattle.cx_meaning.specs.Cycles.{Fault, Ended, cycle}
+use Rattle.cx_meaning.specs.Control.{groups_in, groups_of, groups_in_all}
+use Rattle.cx_meaning.specs.Islands.{group_length, form_length, length_of, Sample, Occurrence, Runs, Looks, sample, rounds_from, occurrence, form_flat, flat, seq_flat, par_flat, History, no_history, is_wanted, hold, entry_if, active_in, port_if, looked_at, is_one, and_now, fault_of, first_unclear, turn_of, unless_unclear, island_turn, island_from, island}
+use Rattle.cx_rules.specs.Items.{Context, InStatic, Branch, visit, visit_parts, visit_all, test_in}
+use Rattle.cx_rules.specs.Circles.{IsAcyclic, AcyclicBelow}
+use Rattle.cx_frames.specs.Agreeing.{Agree, Alike}
+use Rattle.cx_frames.proofs.AlikeLemmas.{Frames, AlikeTurn, idle_frames, turn_alike}
+use Rattle.cx_frames.proofs.ControlFrames.{Holds, left, right}
+use Rattle.cx_frames.proofs.RuleLemmas.{IsKept}
+use Rattle.cx_frames.proofs.SightFrames.{InFrame, IsThrough, IsAmong, cycle_alike}
+use Rattle.cx_frames.proofs.LeafFrames.{idle_agree, IsGood, bare_seen}
+
+none_some : (k : ℕ) → ◌≡◌ {A = Option ℕ} None (Some k) → ⊥
+none_some k e = cc
+
+-- what is active is among the groups of the entries
+entries_among : (es : List Entry) → IsAmong (entries es) (map (λ e. e.group) es)
+entries_among [] g k e = none_some k e
+entries_among (x ∷ es) g k e = go (nat_eq x.group g) refl e (entries_among es g k)
+  where
+    go : (b : Bool) → nat_eq x.group g ≡ b → (if b then Some x.offset else offset_in es g) ≡ Some k → (offset_in es g ≡ Some k → In (map (λ y. y.group) es) g) → In (map (λ y. y.group) (x ∷ es)) g
+    go true same e later = inl (eqb-true x.group g same)
+    go false differ e later = inr (later e)
+
+pub unclear_same : (look more : Look) (list : List PortRef) → ((q : PortRef) → In list q → look q ≡ more q) → first_unclear look list ≡ first_unclear more list
+unclear_same look more [] h = refl
+unclear_same look more (p ∷ rest) h = ap (λ x. fault_of p x (first_unclear look rest)) (h p (inl refl)) ∙ ap (fault_of p (more p)) (unclear_same look more rest (λ q i. h q (inr i)))
+
+module _ (G : ℕ → Type 0) (F : PortRef → Type 0) where
+  -- the ports of samples are such, and those of an occurrence and its group
+  abbrev AllSampled : List Sample → Type 0
+  AllSampled [] = Unit {0}
+  AllSampled (s ∷ rest) = F s.port × AllSampled rest
+
+  abbrev IsFineOne : Occurrence → Type 0
+  IsFineOne (Runs g from to samples) = G g × AllSampled samples
+  IsFineOne (Looks port at samples) = F port × AllSampled samples
+
+  abbrev pub AllFine : List Occurrence → Type 0
+  AllFine [] = Unit {0}
+  AllFine (o ∷ rest) = IsFineOne o × AllFine rest
+
+  joined : (xs ys : List Occurrence) → AllFine xs → AllFine ys → AllFine (xs ++ ys)
+  joined [] ys h k = k
+  joined (o ∷ xs) ys (h, rest) k = (h, joined xs ys rest k)
+
+  rounds_fine : (body : ℕ → List Occurrence) (p k x : ℕ) → ((y : ℕ) → AllFine (body y)) → AllFine (rounds_from body p k x)
+  rounds_fine body p zero x h = tt
+  rounds_fine body p (suc k) x h = joined (body x) (rounds_from body p k (x + p)) (h x) (rounds_fine body p k (x + p) h)
+
+  occurrence_fine : (g x : ℕ) (samples : List Sample) (n : Option ℕ) → G g → AllSampled samples → AllFine (occurrence g x samples n)
+  occurrence_fine g x samples None good all = tt
+  occurrence_fine g x samples (Some n) good all = ((good, all), tt)
+
+  -- the flat list of a statement whose groups and tests are such
+  module _ (P : PlainForm → Type 0) (tests : (form : PlainForm) (p : PlacedPort) → P form → test_in form ≡ Some p → F p.port) where
+    mutual
+      pub form_fine : (part : PlainComponent) (context : Context) (form : PlainForm) (x : ℕ) (samples : List Sample) → P form → Holds G P (groups_in form) (visit_parts context form) → AllSampled samples → AllFine (form_flat part form x samples)
+      form_fine part context Empty x samples p h all = tt
+      form_fine part context (Enable g) x samples p h all = occurrence_fine g x samples (group_length part g) (h.groups g (inl refl)) all
+      form_fine part context (Seq parts) x samples p h all = tt
+      form_fine part context (Par arms) x samples p h all = tt
+      form_fine part context (If test comb a b) x samples p h all = tt
+      form_fine part context (While test comb a) x samples p h all = tt
+      form_fine part context (Repeat count a) x samples p h all = tt
+      form_fine part context (StaticSeq length parts) x samples p h all = seq_fine part parts x samples h all
+      form_fine part context (StaticPar length arms) x samples p h all = par_fine part arms x samples h all
+      form_fine part context (StaticIf length test a b) x samples p h all =
+          let inside : F test.port = tests (StaticIf length test a b) test p refl in (
+            (inside, all),
+            joined (flat part a x (sample test.port x true ∷ samples)) (flat part b x (sample test.port x false ∷ samples))
+                (statement_fine part Branch a x (sample test.port x true ∷ samples) (left (groups_of a) (groups_of b) (visit Branch a) (visit Branch b) h) (inside, all))
+                (statement_fine part Branch b x (sample test.port x false ∷ samples) (right (groups_of a) (groups_of b) (visit Branch a) (visit Branch b) h) (inside, all)),
+          )
+      form_fine part context (StaticRepeat length count a) x samples p h all = rounds_fine (λ y. flat part a y samples) (length_of part a) count x (λ y. statement_fine part InStatic a y samples h all)
+      form_fine part context (Timed k) x samples p h all = tt
+
+      statement_fine : (part : PlainComponent) (context : Context) (s : PlainStatement) (x : ℕ) (samples : List Sample) → Holds G P (groups_of s) (visit context s) → AllSampled samples → AllFine (flat part s x samples)
+      statement_fine part context (Placed form place) x samples h all =
+          form_fine part context form x samples (h.forms (record { context = context; form = form; place = place }) (inl refl)) (record { groups = h.groups; forms = λ v i. h.forms v (inr i) }) all
+
+      seq_fine : (part : PlainComponent) (ss : PlainStatements) (x : ℕ) (samples : List Sample) → Holds G P (groups_in_all ss) (visit_all InStatic ss) → AllSampled samples → AllFine (seq_flat part ss x samples)
+      seq_fine part no_statements x samples h all = tt
+      seq_fine part (a_statement s ss) x samples h all =
+          joined (flat part s x samples) (seq_flat part ss (x + length_of part s) samples)
+          (statement_fine part InStatic s x samples (left (groups_of s) (groups_in_all ss) (visit InStatic s) (visit_all InStatic ss) h) all)
+          (seq_fine part ss (x + length_of part s) samples (right (groups_of s) (groups_in_all ss) (visit InStatic s) (visit_all InStatic ss) h) all)
+
+      par_fine : (part : PlainComponent) (ss : PlainStatements) (x : ℕ) (samples : List Sample) → Holds G P (groups_in_all ss) (visit_all InStatic ss) → AllSampled samples → AllFine (par_flat part ss x samples)
+      par_fine part no_statements x samples h all = tt
+      par_fine part (a_statement s ss) x samples h all =
+          joined (flat part s x samples) (par_flat part ss x samples)
+          (statement_fine part InStatic s x samples (left (groups_of s) (groups_in_all ss) (visit InStatic s) (visit_all InStatic ss) h) all)
+          (par_fine part ss x samples (right (groups_of s) (groups_in_all ss) (visit InStatic s) (visit_all InStatic ss) h) all)
+
+  -- histories that agree on such ports give the same cycle
+  abbrev pub AreSame : History → History → Type 0
+  AreSame h k = (port : PortRef) (at : ℕ) → F port → h port at ≡ k port at
+
+  module _ (h k : History) (same : AreSame h k) where
+    hold_same : (samples : List Sample) → AllSampled samples → hold h samples ≡ hold k samples
+    hold_same [] all = refl
+    hold_same (s ∷ rest) (inside, all) =
+        ap (λ b. is_wanted s.wanted b && hold h rest) (same s.port s.at inside) ∙ ap (λ b. is_wanted s.wanted (k s.port s.at) && b) (hold_same rest all)
+
+    pub active_same : (t : ℕ) (list : List Occurrence) → AllFine list → active_in h t list ≡ active_in k t list
+    active_same t [] fine = refl
+    active_same t (Runs g from to samples ∷ rest) ((good, all), fine) =
+        ap (λ b. entry_if (nat_le from t && nat_lt t to && b) g (t - from) (active_in h t rest)) (hold_same samples all)
+        ∙ ap (entry_if (nat_le from t && nat_lt t to && hold k samples) g (t - from)) (active_same t rest fine)
+    active_same t (Looks port at samples ∷ rest) (here, fine) = active_same t rest fine
+
+    pub looked_same : (t : ℕ) (list : List Occurrence) → AllFine list → looked_at h t list ≡ looked_at k t list
+    looked_same t [] fine = refl
+    looked_same t (Runs g from to samples ∷ rest) (here, fine) = looked_same t rest fine
+    looked_same t (Looks port at samples ∷ rest) ((inside, all), fine) =
+        ap (λ b. port_if (nat_eq t at && b) port (looked_at h t rest)) (hold_same samples all)
+        ∙ ap (port_if (nat_eq t at && hold k samples) port) (looked_same t rest fine)
+
+  -- what is active and looked at is such
+  active_good : (h : History) (t : ℕ) (list : List Occurrence) → AllFine list → (g : ℕ) → In (map (λ e. e.group) (active_in h t list)) g → G g
+  active_good h t [] fine g i = absurd i
+  active_good h t (Runs n from to samples ∷ rest) ((good, all), fine) g i = one (nat_le from t && nat_lt t to && hold h samples) i (active_good h t rest fine g)
+    where
+      one : (b : Bool) → In (map (λ e. e.group) (entry_if b n (t - from) (active_in h t rest))) g → (In (map (λ e. e.group) (active_in h t rest)) g → G g) → G g
+      one true (inl e) later = subst G e good
+      one true (inr j) later = later j
+      one false j later = later j
+  active_good h t (Looks port at samples ∷ rest) (here, fine) g i = active_good h t rest fine g i
+
+  pub looked_good : (h : History) (t : ℕ) (list : List Occurrence) → AllFine list → (q : PortRef) → In (looked_at h t list) q → F q
+  looked_good h t [] fine q i = absurd i
+  looked_good h t (Runs n from to samples ∷ rest) (here, fine) q i = looked_good h t rest fine q i
+  looked_good h t (Looks port at samples ∷ rest) ((inside, all), fine) q i = one (nat_eq t at && hold h samples) i (looked_good h t rest fine q)
+    where
+      one : (b : Bool) → In (port_if b port (looked_at h t rest)) q → (In (looked_at h t rest) q → F q) → F q
+      one true (inl e) later = subst F e inside
+      one true (inr j) later = later j
+      one false j later = later j
+
+module _ (i : Instance) (held : Held) (set : ℕ → Type 0) (kept : IsKept i) (through : IsThrough (part_of i) set) (deeper : AcyclicBelow (cells_of i)) (bare : IsAcyclic i nothing) where
+  unclear_alike : (x y : Option Fault) (a b : Ended) → x ≡ y → AlikeTurn set (turn_of a) (turn_of b) → AlikeTurn set (unless_unclear x a) (unless_unclear y b)
+  unclear_alike x y a b e h = subst (λ z. AlikeTurn set (unless_unclear x a) (unless_unclear z b)) e (one x)
+    where
+      one : (z : Option Fault) → AlikeTurn set (unless_unclear z a) (unless_unclear z b)
+      one None = h
+      one (Some f) = refl
+
+  module _ (list : List Occurrence) (fine : AllFine (IsGood i held set kept through deeper) (InFrame set) list) (acyclic : (h : History) (t : ℕ) → IsAcyclic i (entries (active_in h t list))) where
+    cycle_turn : (t : ℕ) (h : History) (s s2 : State) → Agree set s s2 → AlikeTurn set (turn_of (cycle i held (entries (active_in h t list)) s)) (turn_of (cycle i held (entries (active_in h t list)) s2))
+    cycle_turn t h s s2 agree =
+        cycle_alike i held (entries (active_in h t list)) set (map (λ e. e.group) (active_in h t list)) kept through (entries_among (active_in h t list))
+        (λ g j. (active_good (IsGood i held set kept through deeper) (InFrame set) h t list fine g j).within) s s2 agree (acyclic h t) deeper
+
+    same_turn : (t : ℕ) (h : History) (s s2 : State) → Agree set s s2 → AlikeTurn set (island_turn i held list t h s) (island_turn i held list t h s2)
+    same_turn t h s s2 agree =
+        unclear_alike (first_unclear (seen i held nothing s) (looked_at h t list)) (first_unclear (seen i held nothing s2) (looked_at h t list)) _ _
+        (unclear_same (seen i held nothing s) (seen i held nothing s2) (looked_at h t list) (λ q j. bare_seen i held set kept through deeper bare s s2 agree q (looked_good (IsGood i held set kept through deeper) (InFrame set) h t list fine q j)))
+        (cycle_turn t h s s2 agree)
+
+    island_alike : (t : ℕ) (h k : History) (s s2 : State) → AreSame (IsGood i held set kept through deeper) (InFrame set) h k → Agree set s s2 → AlikeTurn set (island_turn i held list t h s) (island_turn i held list t k s2)
+    island_alike t h k s s2 same agree =
+        subst (λ es. AlikeTurn set (island_turn i held list t h s) (unless_unclear (first_unclear (seen i held nothing s2) (looked_at k t list)) (cycle i held (entries es) s2)))
+        (active_same (IsGood i held set kept through deeper) (InFrame set) h k same t list fine)
+        (subst (λ ps. AlikeTurn set (island_turn i held list t h s) (unless_unclear (first_unclear (seen i held nothing s2) ps) (cycle i held (entries (active_in h t list)) s2)))
+        (looked_same (IsGood i held set kept through deeper) (InFrame set) h k same t list fine)
+        (same_turn t h s s2 agree))
+
+    now_same : (t : ℕ) (h k : History) (s s2 : State) → AreSame (IsGood i held set kept through deeper) (InFrame set) h k → Agree set s s2
+        → AreSame (IsGood i held set kept through deeper) (InFrame set) (and_now h t (seen i held nothing s)) (and_now k t (seen i held nothing s2))
+    now_same t h k s s2 same agree port at inside = one (nat_eq t at)
+      where
+        one : (b : Bool) → (if b then is_one (truth_of (seen i held nothing s port)) else h port at) ≡ (if b then is_one (truth_of (seen i held nothing s2 port)) else k port at)
+        one true = ap (λ x. is_one (truth_of x)) (bare_seen i held set kept through deeper bare s s2 agree port inside)
+        one false = same port at inside
+
+    cycles_alike : (rest t : ℕ) (h k : History) (s s2 : State) (n : ℕ) → AreSame (IsGood i held set kept through deeper) (InFrame set) h k → Agree set s s2
+        → Alike set (island_from i held list rest t h s n) (island_from i held list rest t k s2 n)
+    cycles_alike zero t h k s s2 n same agree = idle_frames set (idle i) (idle_agree set i) s s2 n agree
+    cycles_alike (suc rest) t h k s s2 zero same agree = refl
+    cycles_alike (suc rest) t h k s s2 (suc n) same agree =
+        let later : AreSame (IsGood i held set kept through deeper) (InFrame set) (and_now h t (seen i held nothing s)) (and_now k t (seen i held nothing s2)) = now_same t h k s s2 same agree in
+        turn_alike set (idle i) (idle_agree set i) s s2
+        (island_turn i held list t (and_now h t (seen i held nothing s)) s) (island_turn i held list t (and_now k t (seen i held nothing s2)) s2)
+        (λ after. island_from i held list rest (suc t) (and_now h t (seen i held nothing s)) after n) (λ after. island_from i held list rest (suc t) (and_now k t (seen i held nothing s2)) after n)
+        agree (island_alike t _ _ s s2 later agree)
+        (λ a b more. cycles_alike rest (suc t) _ _ a b n later more)
+
+  -- an island whose groups and tests are within the set
+  pub island_frames : (P : PlainForm → Type 0) → ((form : PlainForm) (p : PlacedPort) → P form → test_in form ≡ Some p → InFrame set p.port)
+      → (context : Context) (form : PlainForm) → P form → Holds (IsGood i held set kept through deeper) P (groups_in form) (visit_parts context form)
+      → ((h : History) (t : ℕ) → IsAcyclic i (entries (active_in h t (form_flat (part_of i) form 0 [])))) → Frames set (island i held form)
+  island_frames P tests context form p holds acyclic s s2 n agree =
+      cycles_alike (form_flat (part_of i) form 0 []) (form_fine (IsGood i held set kept through deeper) (InFrame set) P tests (part_of i) context form 0 [] p holds tt) acyclic
+      (form_length (part_of i) form) 0 no_history no_history s s2 n (λ port at inside. refl) agree

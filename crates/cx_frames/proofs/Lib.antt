@@ -1,0 +1,23 @@
+mod QuietLemmas
+mod EnableLemmas
+mod CycleLemmas
+mod KeepLemmas
+mod RunLemmas
+mod AlikeLemmas
+mod ControlFrames
+mod StillLemmas
+mod ArmQuietLemmas
+mod RuleLemmas
+mod SightFrames
+mod CircleFrames
+mod LeafFrames
+mod IslandFrames
+mod StatementFrames
+mod BothLemmas
+mod ShareLemmas
+mod ArmLemmas
+mod NextLemmas
+pub mod KnownOutcomes
+mod InputLemmas
+mod InputRuns
+mod InputRules

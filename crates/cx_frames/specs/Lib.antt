@@ -1,0 +1,4 @@
+pub mod Rests
+pub mod Agreeing
+pub mod Arms
+pub mod Ran

@@ -1,5 +1,0 @@
-mod Counting
-pub mod Ends
-pub mod EdgeLemmas
-mod Takes
-mod SearchLemmas

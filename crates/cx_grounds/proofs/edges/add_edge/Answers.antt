@@ -1,5 +1,0 @@
-use Rattle.cx_grounds.proofs.EdgeLemmas.{set_with}
-use Rattle.cx_grounds.proofs.edges.add_edge.Goals as goal
-
-pub returns-clause-value : goal.returns-clause-value
-returns-clause-value c = set_with c.args.graph.now.items c.args.from c.args.to c.index_mut.result.now c.push.new.self c.requires.within c.index_mut.ensures.value c.in_ok-push.ensures.items

@@ -1,7 +1,0 @@
-use Rattle.std.proofs.Common.{◌≡◌}
-use Rattle.cx_graphs.specs.Graphs.{edges_of}
-use Rattle.cx_grounds.specs.Edges.{no_edges}
-use Rattle.cx_grounds.proofs.edges.no_edges.Given as goal
-
-abbrev pub invariant-loop : goal.invariant-loop
-invariant-loop l = edges_of l.graph.items ≡ no_edges l.counter

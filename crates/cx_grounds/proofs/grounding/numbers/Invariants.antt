@@ -1,6 +1,0 @@
-use Rattle.std.proofs.Common.{ℕ, ◌<◌}
-use Rattle.cx_graphs.specs.Graphs.{In, Bounded}
-use Rattle.cx_grounds.proofs.grounding.numbers.Given as goal
-
-abbrev pub invariant-loop-number : goal.invariant-loop-number
-invariant-loop-number l = record { each : (n : ℕ) → n < l.number → In l.list.items n; few : Bounded l.number l.list.items }

@@ -1,3 +1,0 @@
-pub mod Edges
-pub mod Grounds
-pub mod Search

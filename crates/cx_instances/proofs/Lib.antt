@@ -1,3 +1,0 @@
-pub mod PreOrder
-pub mod FillLemmas
-pub mod TableLemmas

@@ -1,6 +1,0 @@
-use Rattle.cx_design.specs.PlainDesigns.{plain_design}
-use Rattle.cx_instances.proofs.TableLemmas.{IsFilled}
-use Rattle.cx_instances.proofs.tables.table.Given as goal
-
-abbrev pub invariant-loop-number : goal.invariant-loop-number
-invariant-loop-number l = IsFilled (plain_design l.design) l.order l.number l.rows.items l.children.items

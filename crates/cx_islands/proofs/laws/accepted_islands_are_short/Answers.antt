@@ -1,5 +1,0 @@
-use Rattle.cx_islands.proofs.ShortLemmas.{short_island}
-use Rattle.cx_islands.proofs.laws.accepted_islands_are_short.Goals as goal
-
-pub returns : goal.returns
-returns c = λ d path v accepted stands island. short_island d accepted v path stands island

@@ -1,3 +1,0 @@
-pub mod GapLemmas
-pub mod LayoutLemmas
-pub mod PrintLemmas

@@ -1,6 +1,0 @@
-use Rattle.std.proofs.Common.{◌≡◌, drop}
-use Rattle.cx_layout.specs.Pieces.{put_number, more_of}
-use Rattle.cx_layout.proofs.components.some_numbers.Given as goal
-
-abbrev pub invariant-loop-item : goal.invariant-loop-item
-invariant-loop-item l = more_of put_number (drop l.item-index l.more) l.out.items ≡ more_of put_number l.more l.initial.out.items

@@ -1,5 +1,0 @@
-use Rattle.cx_leads.proofs.ThereLemmas.{leads_there}
-use Rattle.cx_leads.proofs.laws.leads_have_nodes.Goals as goal
-
-pub returns : goal.returns
-returns c = leads_there

@@ -1,5 +1,0 @@
-use Rattle.cx_leads.proofs.NodeLemmas.{distinct}
-use Rattle.cx_leads.proofs.laws.nodes_are_distinct.Goals as goal
-
-pub returns : goal.returns
-returns c = distinct

@@ -1,5 +1,0 @@
-use Rattle.cx_leads.proofs.NodeLemmas.{has_node}
-use Rattle.cx_leads.proofs.laws.ports_have_nodes.Goals as goal
-
-pub returns : goal.returns
-returns c = has_node

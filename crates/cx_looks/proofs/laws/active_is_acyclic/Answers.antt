@@ -1,5 +1,0 @@
-use Rattle.cx_looks.proofs.ActiveLemmas.{active_acyclic}
-use Rattle.cx_looks.proofs.laws.active_is_acyclic.Goals as goal
-
-pub returns : goal.returns
-returns c d path active design accepted can = active_acyclic d path active design accepted (λ v h t stands. c.accepted_entries_are_acyclic.ensures d path v h t design accepted stands) can

@@ -1,6 +1,0 @@
--- Lemmas by the names that the code gives them.
-use Rattle.cx_lookup.proofs.NameLemmas.{same_name-pointwise, same_name-turned, own_name_is}
-
-pub ruleset equal_names = (same_name-pointwise, same_name-turned)
-
-pub ruleset own_names = (own_name_is)

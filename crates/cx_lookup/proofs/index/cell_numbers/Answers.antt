@@ -1,5 +1,0 @@
-use Rattle.cx_lookup.proofs.NameLemmas.{numbers_start}
-use Rattle.cx_lookup.proofs.index.cell_numbers.Goals as goal
-
-pub loop-number-init : goal.loop-number-init
-loop-number-init c = λ n. numbers_start _ n _ (c.new-numbers.ensures n)

@@ -1,9 +1,0 @@
-use Rattle.std.proofs.Common.{◌≡◌, ℕ, List, drop, map}
-use Rattle.cx_ast.specs.PlainTree.{plain_component}
-use Rattle.cx_numbering.specs.Names.{number_of}
-use Rattle.cx_lookup.specs.Numbered.{number_in, number_from, or_else}
-use Rattle.cx_lookup.proofs.index.component_numbers.Given as goal
-
--- the numbers so far, and those that the components behind will have, are those of all
-abbrev pub invariant-loop-number : goal.invariant-loop-number
-invariant-loop-number l = (n : List ℕ) → or_else (number_in l.numbers n) (number_from l.number n (map (λ part. part.name) (map plain_component (drop l.number l.parts)))) ≡ number_of n (map (λ part. part.name) (map plain_component l.parts))

@@ -1,6 +1,0 @@
-use Rattle.std.proofs.Common.{[]}
-use Rattle.cx_name_rules.proofs.FoundLemmas.{sees_all, sees_none}
-use Rattle.cx_name_rules.proofs.duplicates.cell_duplicates.Goals as goal
-
-pub returns : goal.returns
-returns c = sees_all _ _ _ _ (c.in_ok-see_cells.ensures [] (sees_none c.new-seen.result c.new-seen.ensures))

@@ -1,0 +1,122 @@
+-- In the design of a text a place tells a port wherever there is no source.
+use Rattle.std.proofs.Common.{◌≡◌, ℕ, suc, Bool, true, false, cond, List, [], ◌∷◌, ◌++◌, map, length, Option, Some, None, slice_get, unwrap_or, option_map, ◌⊎◌, inl, inr, ⊎_elim, refl, sym, ap, ◌∙◌, subst}
+use Rattle.std.proofs.lemmas.Option.{slice_get-map, unwrap_or-slice_get}
+use Rattle.cx_text.specs.declared.diagnostics.Diagnostic.{Diagnostic}
+use Rattle.cx_ast.specs.declared.tokens.Token.{Token}
+use Rattle.cx_ast.specs.PlainTree as ast
+use Rattle.cx_ast.specs.PlainTree.{PlainTree}
+use Rattle.cx_ast.specs.PlainStatements as statements
+use Rattle.cx_lex.specs.Lex.{Lex}
+use Rattle.cx_grammar.specs.Parsing.{Parse}
+use Rattle.cx_meaning.specs.Designs.{PlainAssign, PlainGroup, component_at, no_component}
+use Rattle.cx_meaning.specs.Active.{Owned, owned, owned_by_groups, no_later, placed_in, by_place, source_order}
+use Rattle.cx_meaning.specs.Sights.{In}
+use Rattle.cx_rules.specs.Accepted.{FirstBreak}
+use Rattle.cx_numbering.specs.Names.{groups_in, always_in, group_names, cell_of}
+use Rattle.cx_numbering.specs.DesignOf.{Invoke, assign_of, group_of, invoke_group, invoke_groups, control_invokes, component_of, design_of}
+use Rattle.cx_numbering.specs.NameRules.{Visited, visit_block, names_break}
+use Rattle.cx_rules.specs.OneBreak.{IsPlaced}
+use Rattle.cx_rules.proofs.OneBreak.{one_break, one_break_name}
+use Rattle.cx_names.proofs.Base.{in_at, in_map, in_either}
+use Rattle.cx_names.proofs.Kept.{KeptPart, kept, kept_part}
+use Rattle.cx_names.proofs.There.{component_is}
+use Rattle.cx_names.proofs.Circles.{KeptCell, kept_cell}
+use Rattle.cx_names.proofs.Invokes.{KeptInvoke, kept_invoke, output_register}
+use Rattle.cx_names.proofs.Statements.{invoke_of_block, visited_of}
+use Rattle.cx_names.proofs.Written.{HasWires}
+use Rattle.cx_names.proofs.OfText.{assign_placed, always_wired, in_group, wires_of_text}
+use Rattle.cx_names.proofs.Invoked.{Tells, invoke_tells, invoked}
+
+-- what stands in source order is an assignment of the component
+in_placed : (a : Owned) (bs : List Owned) (o : Owned) → In (placed_in a bs) o → (a ≡ o) ⊎ In bs o
+in_placed a [] o (inl e) = inl e
+in_placed a [] o (inr i) = absurd i
+in_placed a (b ∷ bs) o i = by (no_later a.assign.place b.assign.place) (in_placed a bs o) i
+  where
+    by : (t : Bool) → (In (placed_in a bs) o → (a ≡ o) ⊎ In bs o) → In (cond t (a ∷ b ∷ bs) (b ∷ placed_in a bs)) o → (a ≡ o) ⊎ In (b ∷ bs) o
+    by true deep (inl e) = inl e
+    by true deep (inr i) = inr i
+    by false deep (inl e) = inr (inl e)
+    by false deep (inr i) = ⊎_elim (λ e. inl e) (λ j. inr (inr j)) (deep i)
+
+in_order : (xs : List Owned) (o : Owned) → In (by_place xs) o → In xs o
+in_order [] o i = absurd i
+in_order (x ∷ xs) o i = ⊎_elim (λ e. inl e) (λ j. inr (in_order xs o j)) (in_placed x (by_place xs) o i)
+
+in_owned : (w : Option ℕ) (assigns : List PlainAssign) (o : Owned) → In (owned w assigns) o → In assigns o.assign
+in_owned w [] o i = absurd i
+in_owned w (a ∷ rest) o (inl e) = inl (ap (λ (x : Owned). x.assign) e)
+in_owned w (a ∷ rest) o (inr i) = inr (in_owned w rest o i)
+
+in_groups : (n : ℕ) (groups : List PlainGroup) (o : Owned) → In (owned_by_groups n groups) o → (g : PlainGroup) × In groups g × In g.assigns o.assign
+in_groups n [] o i = absurd i
+in_groups n (g ∷ gs) o i =
+    ⊎_elim (λ l. (g, inl refl, in_owned (Some n) g.assigns o l)) (λ r. let found = in_groups (suc n) gs o r in (found.0, inr found.1, found.2))
+    (in_either (owned (Some n) g.assigns) (owned_by_groups (suc n) gs) o i)
+
+module _ (tree : PlainTree) (k : ℕ) (part : ast.PlainComponent) (at : slice_get tree.components k ≡ Some part) (wired : HasWires part) (own : KeptPart tree part) where
+  cells_kept : (cell : ast.PlainCell) → In part.cells cell → KeptCell tree part cell
+  cells_kept cell i = kept_cell tree part cell (own.cells cell i)
+
+  abbrev visits : Option statements.PlainBlock → List Visited
+  visits None = []
+  visits (Some block) = visit_block block
+
+  invoke_own : (v : Invoke) → In (control_invokes tree part part.control) v → KeptInvoke tree part v
+  invoke_own v i = kept_invoke tree part v (own.statements (visited_of v) (by part.control i))
+    where
+      by : (o : Option statements.PlainBlock) → In (control_invokes tree part o) v → In (visits o) (visited_of v)
+      by None i = absurd i
+      by (Some block) i = invoke_of_block block v i
+
+  always_tells : (a : PlainAssign) → In (component_of tree part).always a → Tells tree k part at a
+  always_tells a i =
+      let found = in_map (assign_of tree part) (always_in part.wires) a i in
+      subst (Tells tree k part at) found.2 (λ p q ip iq tp tq e. assign_placed tree part found.0 (always_wired part.wires found.0 wired found.1) p q ip iq e)
+
+  written_tells : (g : ast.PlainGroup) → In (groups_in part.wires) g → (a : PlainAssign) → In (group_of tree part g).assigns a → Tells tree k part at a
+  written_tells g i a j =
+      let found = in_map (assign_of tree part) g.assigns a j in
+      subst (Tells tree k part at) found.2 (λ p q ip iq tp tq e. assign_placed tree part found.0 (in_group part g found.0 wired i found.1) p q ip iq e)
+
+  invoked_tells : (v : Invoke) (m : ℕ) → In (control_invokes tree part part.control) v → (a : PlainAssign) → In (invoke_group tree part m v).assigns a → Tells tree k part at a
+  invoked_tells v m i a j =
+      let kept = invoke_own v i in
+      invoke_tells tree k part at cells_kept v (λ b h. output_register tree part v.cell (cell_of tree kept.found) b (kept.outputs b h)) m a j
+
+  group_tells : (g : PlainGroup) → In (component_of tree part).groups g → (a : PlainAssign) → In g.assigns a → Tells tree k part at a
+  group_tells g i a j =
+      ⊎_elim
+      (λ l. let found = in_map (group_of tree part) (groups_in part.wires) g l in written_tells found.0 found.1 a (subst (λ h. In h.assigns a) (sym found.2) j))
+      (λ r. let found = invoked tree k part at (length (group_names part)) (control_invokes tree part part.control) g r in invoked_tells found.0 found.1 found.2 a (subst (λ h. In h.assigns a) (sym found.3) j))
+      (in_either (map (group_of tree part) (groups_in part.wires)) (invoke_groups tree part (length (group_names part)) (control_invokes tree part part.control)) g i)
+
+  part_tells : (o : Owned) → In (source_order (component_of tree part)) o → Tells tree k part at o.assign
+  part_tells o i =
+      ⊎_elim (λ l. always_tells o.assign (in_owned None (component_of tree part).always o l))
+      (λ r. let found = in_groups 0 (component_of tree part).groups o r in group_tells found.0 found.1 o.assign found.2)
+      (in_either (owned None (component_of tree part).always) (owned_by_groups 0 (component_of tree part).groups) o (in_order (owned None (component_of tree part).always ++ owned_by_groups 0 (component_of tree part).groups) o i))
+
+pub texts_placed : (text : List ℕ) (tokens : List Token) (tree : PlainTree) → Lex text tokens → Parse tokens tree → names_break tree ≡ None → IsPlaced (design_of tree)
+texts_placed text tokens tree lexed parsed none k n o p q h ip iq tp tq e = by (slice_get tree.components k) refl
+  where
+    empty : slice_get tree.components k ≡ None → component_at (design_of tree) k ≡ no_component
+    empty f = sym (unwrap_or-slice_get (design_of tree).components k no_component) ∙ ap (λ o. unwrap_or o no_component) (slice_get-map (component_of tree) tree.components k ∙ ap (λ o. option_map (component_of tree) o) f)
+
+    nothing : (let list : List Owned = [] in slice_get list n ≡ Some o) → ⊥
+    nothing f = absurd cc
+
+    by : (c : Option ast.PlainComponent) → slice_get tree.components k ≡ c → p.port ≡ q.port
+    by None f = absurd (nothing (subst (λ c. slice_get (source_order c) n ≡ Some o) (empty f) h))
+    by (Some part) f =
+        let i = in_at tree.components k part f in
+        let own = kept_part tree part ((kept tree none).parts part i) in
+        let stands = in_at (source_order (component_of tree part)) n o (subst (λ c. slice_get (source_order c) n ≡ Some o) (component_is tree k part f) h) in
+        part_tells tree k part f (wires_of_text text tokens tree part lexed parsed i) own o stands p q ip iq tp tq e
+
+-- the first break of the design of a text is one
+pub refused_once : (text : List ℕ) (tokens : List Token) (tree : PlainTree) (a b : Diagnostic) → Lex text tokens → Parse tokens tree → names_break tree ≡ None → FirstBreak (design_of tree) a → FirstBreak (design_of tree) b
+    → (a.rule ≡ b.rule) × (a.place ≡ b.place) × (a.name ≡ b.name)
+refused_once text tokens tree a b lexed parsed none first other =
+    let one = one_break (design_of tree) a b first other in
+    (one.0, one.1, one_break_name (design_of tree) a b (λ r. texts_placed text tokens tree lexed parsed none) first other)

@@ -1,0 +1,158 @@
+-- The whole design of a tree that keeps the rules on names.
+use Rattle.std.proofs.Common.{◌≡◌, ℕ, ◌+◌, ◌<◌, ◌^◌, true, false, List, [], ◌++◌, Option, Some, None, length, map, option_map, slice_get, codes, inl, inr, ⊎_elim, refl, sym, ap, ◌∙◌, subst, arith}
+use Rattle.std.proofs.lemmas.List.{length-map}
+use Rattle.std.proofs.lemmas.Option.{get_or_from_slice_get, slice_get-map, slice_get_within}
+use Rattle.cx_ast.specs.PlainTree as ast
+use Rattle.cx_ast.specs.PlainTree.{PlainTree}
+use Rattle.cx_ast.specs.PlainStatements as statements
+use Rattle.cx_meaning.specs.Designs.{PlainAssign, component_at, group_at, no_group}
+use Rattle.cx_meaning.specs.Instances.{part_of}
+use Rattle.cx_meaning.specs.Sights.{In}
+use Rattle.cx_rules.specs.Items.{Dynamic}
+use Rattle.cx_rules.specs.Items as items
+use Rattle.cx_rules.specs.Ports.{component_of as instance_of}
+use Rattle.cx_rules.specs.Sizes.{design_size}
+use Rattle.cx_rules.specs.Wellformed.{IsAssign, IsStatement, StandsIn, IsCell, IsComponent, IsDesign, IsSignature, AreApart}
+use Rattle.cx_numbering.specs.Names.{same_name, number_of, component_names, groups_in, always_in, group_names}
+use Rattle.cx_numbering.specs.DesignOf.{Invoke, assign_of, group_of, invoke_group, invoke_groups, invokes_of, control_invokes, control_of, plain_cell_of, component_of, design_of}
+use Rattle.cx_numbering.specs.NameRules.{Standing, standing, named, names_break, visit_block, Visited, is_main, form_breaks}
+use Rattle.cx_names_scopes.proofs.NameLemmas.{number_within, same_name-refl}
+use Rattle.cx_names.specs.Targets.{is_literal, HasTargets}
+use Rattle.cx_names.proofs.Base.{in_left, in_right, in_at, in_map, map_in, in_flat, Distinct, some_at, at_either}
+use Rattle.cx_names.proofs.Kept.{Kept, KeptPart, kept, kept_part}
+use Rattle.cx_names.proofs.Numbers.{there, or_0, number_at, number_is}
+use Rattle.cx_names.proofs.There.{part_is, component_is}
+use Rattle.cx_names.proofs.Assigns.{Owns, assign_kept}
+use Rattle.cx_names.proofs.Circles.{KeptCell, kept_cell, no_circle}
+use Rattle.cx_names.proofs.Invokes.{KeptInvoke, kept_invoke}
+use Rattle.cx_names.proofs.InvokeGroups.{invoke_kept}
+use Rattle.cx_names.proofs.Statements.{invokes_count, invoke_at, block_whole, invoke_of_block, visited_of}
+use Rattle.cx_names.proofs.Parts.{distinct_names, distinct_groups, cells_apart, ports_apart, groups_apart, no_primitive_name, inputs_are_ports, outputs_are_ports, main_inputs, main_outputs, cell_is}
+
+module _ (tree : PlainTree) (k : ℕ) (part : ast.PlainComponent) (at : slice_get tree.components k ≡ Some part) (own : KeptPart tree part) (targets : (x : Standing) → In (standing part) x → is_literal x.assign.target.form ≡ false) where
+  cells_kept : (cell : ast.PlainCell) → In part.cells cell → KeptCell tree part cell
+  cells_kept cell i = kept_cell tree part cell (own.cells cell i)
+
+  abbrev visits : Option statements.PlainBlock → List Visited
+  visits None = []
+  visits (Some block) = visit_block block
+
+  -- an invoke of the control
+  invoke_own : (v : Invoke) → In (control_invokes tree part part.control) v → KeptInvoke tree part v
+  invoke_own v i = kept_invoke tree part v (own.statements (visited_of v) (by part.control i))
+    where
+      by : (o : Option statements.PlainBlock) → In (control_invokes tree part o) v → In (visits o) (visited_of v)
+      by None i = absurd i
+      by (Some block) i = invoke_of_block block v i
+
+  standing_kept : (x : Standing) (owner : Option ℕ) → Owns tree part x.group owner → In (standing part) x → IsAssign (instance_of (design_of tree) k) owner (assign_of tree part x.assign)
+  standing_kept x owner owns i = assign_kept tree k part at x owner owns (targets x i) (own.assigns x i)
+
+  always_kept : (a : PlainAssign) → In (component_of tree part).always a → IsAssign (instance_of (design_of tree) k) None a
+  always_kept a i =
+      let found = in_map (assign_of tree part) (always_in part.wires) a i in
+      let x : Standing = record { group = None; assign = found.0 } in
+      subst (IsAssign (instance_of (design_of tree) k) None) found.2 (standing_kept x None tt (in_left (map (λ b. record { group = None; assign = b }) (always_in part.wires)) _ x (map_in (λ b. record { group = None; assign = b }) (always_in part.wires) found.0 found.1)))
+
+  -- an assignment of a group of the text
+  source_kept : (g : ℕ) (group : ast.PlainGroup) → slice_get (groups_in part.wires) g ≡ Some group → (a : PlainAssign) → In (group_of tree part group).assigns a → IsAssign (instance_of (design_of tree) k) (Some g) a
+  source_kept g group stands a i =
+      let found = in_map (assign_of tree part) group.assigns a i in
+      let x : Standing = record { group = Some group.name; assign = found.0 } in
+      let within = in_flat (λ h. map (λ b. record { group = Some h.name; assign = b }) h.assigns) (groups_in part.wires) group x (in_at (groups_in part.wires) g group stands) (map_in (λ b. record { group = Some group.name; assign = b }) group.assigns found.0 found.1) in
+      let number = number_is (group_names part) (distinct_groups tree part own) g group.name (slice_get-map (λ h. h.name) (groups_in part.wires) g ∙ ap (λ o. option_map (λ h. h.name) o) stands) in
+      subst (IsAssign (instance_of (design_of tree) k) (Some g)) found.2 (standing_kept x (Some g) number (in_right (map (λ b. record { group = None; assign = b }) (always_in part.wires)) _ x within))
+
+  group_kept : (g : ℕ) → g < length (component_of tree part).groups → (a : PlainAssign) → In (group_at (component_of tree part) g).assigns a → IsAssign (instance_of (design_of tree) k) (Some g) a
+  group_kept g few a i =
+      let first = map (group_of tree part) (groups_in part.wires) in
+      let n = length (group_names part) in
+      let vs = control_invokes tree part part.control in
+      let group = some_at (component_of tree part).groups g few in
+      let here : group_at (component_of tree part) g ≡ group.0 = get_or_from_slice_get (component_of tree part).groups g group.0 no_group group.1 in
+      ⊎_elim
+      (λ l.
+      let few_first : g < length first = slice_get_within first g group.0 l in
+      let count : length first ≡ length (groups_in part.wires) = length-map (groups_in part.wires) (group_of tree part) in
+      let source = some_at (groups_in part.wires) g (omega (arith, few_first, count)) in
+      let same : Some group.0 ≡ Some (group_of tree part source.0) = sym l ∙ slice_get-map (group_of tree part) (groups_in part.wires) g ∙ ap (λ o. option_map (group_of tree part) o) source.1 in
+      let is : group.0 ≡ group_of tree part source.0 = cc in
+      source_kept g source.0 source.1 a (subst (λ x. In x.assigns a) (here ∙ is) i))
+      (λ r.
+      let few_last : r.0 < length (invoke_groups tree part n vs) = slice_get_within (invoke_groups tree part n vs) r.0 group.0 r.2 in
+      let count = invokes_count tree part n vs in
+      let v = some_at vs r.0 (omega (arith, few_last, count)) in
+      let same : Some group.0 ≡ Some (invoke_group tree part (n + r.0) v.0) = sym r.2 ∙ invoke_at tree part n vs r.0 v.0 v.1 in
+      let is : group.0 ≡ invoke_group tree part (n + r.0) v.0 = cc in
+      let firsts : length first ≡ length (groups_in part.wires) = length-map (groups_in part.wires) (group_of tree part) in
+      let names : n ≡ length (groups_in part.wires) = length-map (groups_in part.wires) (λ h. h.name) in
+      let number : g ≡ n + r.0 = omega (arith, r.1, firsts, names) in
+      let groups : length (part_of (instance_of (design_of tree) k)).groups ≡ length (component_of tree part).groups = ap (λ p. length p.groups) (part_is tree k part at) in
+      subst (λ m. IsAssign (instance_of (design_of tree) k) (Some m) a) (sym number)
+      (invoke_kept tree k part at cells_kept v.0 (invoke_own v.0 (in_at vs r.0 v.0 v.1)) (n + r.0) (omega (arith, few, number, groups)) a (subst (λ x. In x.assigns a) (here ∙ is) i)))
+      (at_either first (invoke_groups tree part n vs) g group.0 group.1)
+
+  assigns_kept : (owner : Option ℕ) (a : PlainAssign) → StandsIn (component_of tree part) owner a → IsAssign (instance_of (design_of tree) k) owner a
+  assigns_kept None a i = always_kept a i
+  assigns_kept (Some g) a (few, i) = group_kept g few a i
+
+  control_kept : (v : items.Visited) → In (items.visit Dynamic (control_of tree part part.control)) v → IsStatement (instance_of (design_of tree) k) v
+  control_kept v i = by part.control refl own.statements i
+    where
+      by : (o : Option statements.PlainBlock) → part.control ≡ o → ((w : Visited) → In (visits o) w → form_breaks tree part w.form w.place ≡ []) → In (items.visit Dynamic (control_of tree part o)) v → IsStatement (instance_of (design_of tree) k) v
+      by None e all (inl same) = subst (IsStatement (instance_of (design_of tree) k)) same (record { form = tt; test = λ p t. absurd cc; no_hole = λ p t. absurd cc })
+      by None e all (inr j) = absurd j
+      by (Some block) e all j =
+          let count : length (control_invokes tree part part.control) ≡ length (invokes_of block) = ap (λ o. length (control_invokes tree part o)) e in
+          block_whole tree k part at Dynamic false (length (group_names part)) block all (omega arith, omega (arith, count)) v j
+
+  component_kept : Distinct (component_names tree) → IsComponent (design_of tree) k
+  component_kept distinct =
+      let is = component_is tree k part at in
+      record {
+        cells = λ cell i. (let found = in_map (plain_cell_of tree part) part.cells cell (subst (λ p. In p.cells cell) is i) in subst (IsCell (design_of tree) k) found.2 (cell_is tree k part at distinct found.0 (cells_kept found.0 found.1)));
+        assigns = λ owner a s. assigns_kept owner a (subst (λ p. StandsIn p owner a) is s);
+        statements = λ v i. control_kept v (subst (λ p. In (items.visit Dynamic p.control) v) is i);
+        inputs = subst (λ p. IsSignature p.inputs) (sym is) (inputs_are_ports tree part own);
+        outputs = subst (λ p. IsSignature p.outputs) (sym is) (outputs_are_ports tree part own);
+        port_names = subst (λ p. AreApart (map (λ decl. decl.name) (p.inputs ++ p.outputs))) (sym is) (ports_apart tree part own);
+        cell_names = subst (λ p. AreApart (map (λ cell. cell.name) p.cells)) (sym is) (cells_apart tree part own);
+        group_names = subst (λ p. AreApart (map (λ group. group.name) p.groups)) (sym is) (groups_apart tree part own);
+        no_primitive_name = λ name other e. no_primitive_name tree part own name other (ap (λ p. p.name) (sym is) ∙ e);
+      }
+
+pub is_design : (tree : PlainTree) → HasTargets tree → names_break tree ≡ None → design_size (design_of tree) < 2 ^ 32 → IsDesign (design_of tree)
+is_design tree targets none few =
+    let all : Kept tree = kept tree none in
+    let distinct : Distinct (component_names tree) = distinct_names (λ part. named part.name part.place) (λ part. part.name) tree.components (λ part. refl) all.apart in
+    let many : length (design_of tree).components ≡ length tree.components = length-map tree.components (component_of tree) in
+    let main = there (codes "main") (component_names tree) all.main in
+    let names : length (component_names tree) ≡ length tree.components = length-map tree.components (λ part. part.name) in
+    let main_few = number_within (codes "main") (component_names tree) main.0 main.1 in
+    let number : (design_of tree).main ≡ main.0 = or_0 (codes "main") (component_names tree) main.0 main.1 in
+    let main_part = some_at tree.components main.0 (omega (arith, main_few, names)) in
+    let stands : Some main_part.0.name ≡ Some (codes "main") = sym (slice_get-map (λ part. part.name) tree.components main.0 ∙ ap (λ o. option_map (λ part. part.name) o) main_part.1) ∙ number_at (codes "main") (component_names tree) main.0 main.1 in
+    let named_main : main_part.0.name ≡ codes "main" = cc in
+    let is : component_at (design_of tree) (design_of tree).main ≡ component_of tree main_part.0 = ap (component_at (design_of tree)) number ∙ component_is tree main.0 main_part.0 main_part.1 in
+    let own : (part : ast.PlainComponent) → In tree.components part → KeptPart tree part = λ part i. kept_part tree part (all.parts part i) in
+    let main_own = own main_part.0 (in_at tree.components main.0 main_part.0 main_part.1) in
+    let is_main_is : is_main tree main_part.0 ≡ true = ap (λ n. same_name n (codes "main")) named_main ∙ same_name-refl (codes "main") in
+    record {
+      main_there = omega (arith, number, many, main_few, names);
+      main_named = ap (λ p. p.name) is ∙ named_main;
+      main_bare = (ap (λ p. p.inputs) is ∙ main_inputs tree main_part.0 main_own is_main_is, ap (λ p. p.outputs) is ∙ main_outputs tree main_part.0 main_own is_main_is);
+      components = λ k within. (
+          let part = some_at tree.components k (omega (arith, within, many)) in
+          let i = in_at tree.components k part.0 part.1 in
+          component_kept tree k part.0 part.1 (own part.0 i) (targets part.0 i) distinct);
+      component_names = λ j k within_j within_k same. (
+          let one = some_at tree.components j (omega (arith, within_j, many)) in
+          let two = some_at tree.components k (omega (arith, within_k, many)) in
+          let names_same : one.0.name ≡ two.0.name = ap (λ p. p.name) (sym (component_is tree j one.0 one.1)) ∙ same ∙ ap (λ p. p.name) (component_is tree k two.0 two.1) in
+          let first = number_is (component_names tree) distinct j one.0.name (slice_get-map (λ part. part.name) tree.components j ∙ ap (λ o. option_map (λ part. part.name) o) one.1) in
+          let second = number_is (component_names tree) distinct k two.0.name (slice_get-map (λ part. part.name) tree.components k ∙ ap (λ o. option_map (λ part. part.name) o) two.1) in
+          let numbers : Some j ≡ Some k = sym first ∙ ap (λ n. number_of n (component_names tree)) names_same ∙ second in
+          cc);
+      not_recursive = no_circle tree (λ part i cell j. kept_cell tree part cell ((own part i).cells cell j));
+      few_parts = few;
+    }

@@ -1,4 +1,0 @@
-pub mod LeadLemmas
-pub mod NetworkLemmas
-pub mod ValueLemmas
-pub mod AcceptedLemmas

@@ -1,5 +1,0 @@
-use Rattle.cx_network.proofs.ValueLemmas.{node_value}
-use Rattle.cx_network.proofs.laws.known_nodes_decide.Goals as goal
-
-pub returns : goal.returns
-returns c = λ a nodes h marks node found e known. node_value a nodes h marks node found e known

@@ -1,5 +1,0 @@
-use Rattle.cx_network.proofs.NetworkLemmas.{network_grounded}
-use Rattle.cx_network.proofs.laws.networks_are_grounded.Goals as goal
-
-pub returns : goal.returns
-returns c = network_grounded

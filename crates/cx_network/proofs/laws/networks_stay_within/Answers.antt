@@ -1,5 +1,0 @@
-use Rattle.cx_network.proofs.NetworkLemmas.{stays_within}
-use Rattle.cx_network.proofs.laws.networks_stay_within.Goals as goal
-
-pub returns : goal.returns
-returns c = stays_within

@@ -1,2 +1,0 @@
-pub mod LeadPorts
-pub mod Networks

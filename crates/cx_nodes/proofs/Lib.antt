@@ -1,4 +1,0 @@
-pub mod PartLemmas
-pub mod NodeLemmas
-pub mod PlaceLemmas
-pub mod FoundLemmas

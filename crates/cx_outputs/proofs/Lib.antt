@@ -1,2 +1,0 @@
-mod PortLemmas
-pub mod OutputLemmas

@@ -1,3 +1,0 @@
-pub mod TreeLemmas
-mod StepLemmas
-mod WayLemmas

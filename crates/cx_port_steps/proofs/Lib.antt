@@ -1,3 +1,0 @@
-pub mod ShortLemmas
-pub mod OutputLemmas
-pub mod StepLemmas

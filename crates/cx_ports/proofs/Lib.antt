@@ -1,2 +1,0 @@
-mod CellLemmas
-mod NameLemmas

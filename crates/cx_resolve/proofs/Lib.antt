@@ -1,3 +1,0 @@
-pub mod ControlLemmas
-pub mod GuardLemmas
-pub mod PortLemmas

@@ -1,3 +1,0 @@
-pub mod Sites
-pub mod Calls
-pub mod Added

@@ -1,8 +1,0 @@
-mod Joins
-mod Cells
-mod Graph
-pub mod Names
-mod RestLemmas
-mod WaitLemmas
-mod InnerLemmas
-pub mod Found

@@ -1,4 +1,0 @@
-pub mod Waits
-pub mod Resting
-pub mod Joining
-pub mod Tells

@@ -1,0 +1,327 @@
+//! Whole calls: the words of a line, the statuses, and outputs that fail. The values were worked by hand: each group takes two turns.
+
+use crate::runs::{FIVE, tells};
+use cx_driver::{Status, Stop, interp};
+use cx_text::Rule;
+use std::test::Fail;
+
+const ADD_THREE: &str = "component main() -> () { cells { @external mem = std_mem_d1(32, 1, 1);
+    r = std_reg(32); a = std_add(32); } wires {
+    group rd { mem.addr0 = 1'd0; r.in = mem.read_data; r.write_en = 1'd1; rd[done] = r.done; }
+    group up { a.left = r.out; a.right = 32'd3; r.in = a.out; r.write_en = 1'd1; up[done] = r.done; }
+    group wr { mem.addr0 = 1'd0; mem.write_data = r.out; mem.write_en = 1'd1; wr[done] = mem.done; }
+    } control { seq { rd; up; wr; } } }";
+
+/// The done of a register stays up for one turn after its write: the second `inc` must not see it.
+const STALE_DONE: &str = "component main() -> () { cells { @external mem = std_mem_d1(32, 1, 1);
+    r = std_reg(32); a = std_add(32); } wires {
+    group inc { a.left = r.out; a.right = 32'd1; r.in = a.out; r.write_en = 1'd1; inc[done] = r.done; }
+    group st { mem.addr0 = 1'd0; mem.write_data = r.out; mem.write_en = 1'd1; st[done] = mem.done; }
+    } control { seq { inc; inc; st; } } }";
+
+/// Four tests, three bodies of two turns, and a store.
+const LOOP: &str = "component main() -> () { cells { @external mem = std_mem_d1(32, 1, 1);
+    r = std_reg(32); a = std_add(32); lt = std_lt(32); } wires {
+    group inc { a.left = r.out; a.right = 32'd1; r.in = a.out; r.write_en = 1'd1; inc[done] = r.done; }
+    group st { mem.addr0 = 1'd0; mem.write_data = r.out; mem.write_en = 1'd1; st[done] = mem.done; }
+    comb group c { lt.left = r.out; lt.right = 32'd3; }
+    } control { seq { while lt.out with c { inc; } st; } } }";
+
+/// `r.in` has two values in the first turn.
+const CONFLICT: &str =
+    "component main() -> () { cells { r = std_reg(8); } wires { group g { r.in = 8'd1; r.in = 8'd2; r.write_en = 1'd1; g[done] = r.done; } }
+    control { g; } }";
+
+/// A memory of one word has no word 1.
+const OUTSIDE: &str =
+    "component main() -> () { cells { @external mem = std_mem_d1(32, 1, 1); } wires {
+    group g { mem.addr0 = 1'd1; mem.write_data = 32'd1; mem.write_en = 1'd1; g[done] = mem.done; } } control { g; } }";
+
+/// Behind a group of two turns a call of `c`, whose register is written with nothing.
+const CHILD: &str =
+    "component bad() -> () { cells { r = std_reg(8); } wires { group g { r.write_en = 1'd1; g[done] = r.done; } } control { g; } }
+    component main() -> () { cells { c = bad(); k = std_reg(8); } wires { group one { k.in = 8'd1; k.write_en = 1'd1; one[done] = k.done; } }
+    control { seq { one; invoke c()(); } } }";
+
+/// A register of 8 bits takes 4.
+const WIDE: &str =
+    "component main() -> () { cells { r = std_reg(8); } wires { group g { r.in = 4'd1; r.write_en = 1'd1; g[done] = r.done; } }
+    control { g; } }";
+
+/// A static invoke.
+const STATIC_CALL: &str =
+    "component main() -> () { cells { } wires { } control { static<1> invoke c()(); } }";
+
+/// A counter of four bits whose `done` is 1 at ten.
+const COUNTER: &str =
+    "module main(\n  input wire [0:0] clk,\n  input wire [0:0] reset,\n  input wire [0:0] go,\n  output wire [0:0] done\n);\n  reg [3:0] n;\n  assign done = (n == 4'ha);\n  always @(posedge clk) begin\n    if (reset) begin\n      n <= 4'h0;\n    end else begin\n      n <= (n + 4'h1);\n    end\n  end\nendmodule\n";
+
+/// `other` is no net, on line 7.
+const UNNAMED: &str =
+    "module main(\n  input wire [0:0] clk,\n  input wire [0:0] reset,\n  input wire [0:0] go,\n  output wire [0:0] done\n);\n  assign done = other;\nendmodule\n";
+
+/// The words of a line, the write to standard output and that to standard error which fail, counted from 1, and what is told.
+const LINES: [(&str, (u64, u64), (Status, &str, &str)); 48] = [
+    (
+        "interp add five 1000",
+        (0, 0),
+        (
+            Status::Done,
+            "{\"cycles\":6,\"memories\":{\"mem\":[8]}}\n",
+            "",
+        ),
+    ),
+    (
+        "interp stale five 1000",
+        (0, 0),
+        (
+            Status::Done,
+            "{\"cycles\":6,\"memories\":{\"mem\":[2]}}\n",
+            "",
+        ),
+    ),
+    (
+        "interp add five 6",
+        (0, 0),
+        (
+            Status::Done,
+            "{\"cycles\":6,\"memories\":{\"mem\":[8]}}\n",
+            "",
+        ),
+    ),
+    ("interp add five 5", (0, 0), (Status::More, "", "more 5\n")),
+    (
+        "interp add five 007",
+        (0, 0),
+        (
+            Status::Done,
+            "{\"cycles\":6,\"memories\":{\"mem\":[8]}}\n",
+            "",
+        ),
+    ),
+    (
+        "interp absent five 9",
+        (0, 0),
+        (Status::ReadFault, "", "read-fault absent\n"),
+    ),
+    (
+        "interp add absent 9",
+        (0, 0),
+        (Status::ReadFault, "", "read-fault absent\n"),
+    ),
+    (
+        "interp five five 9",
+        (0, 0),
+        (Status::Refused, "", "refused 1:1 unexpected\n"),
+    ),
+    (
+        "interp open five 9",
+        (0, 0),
+        (Status::Refused, "", "refused 1:18 open-comment\n"),
+    ),
+    (
+        "interp word five 9",
+        (0, 0),
+        (Status::Refused, "", "refused 3:1 unexpected ref\n"),
+    ),
+    (
+        "interp end five 9",
+        (0, 0),
+        (Status::Refused, "", "refused 1:1 unexpected\n"),
+    ),
+    (
+        "interp empty five 9",
+        (0, 0),
+        (Status::Refused, "", "refused 1:1 unexpected\n"),
+    ),
+    (
+        "interp other five 9",
+        (0, 0),
+        (Status::Done, "{\"cycles\":1,\"memories\":{}}\n", ""),
+    ),
+    (
+        "interp other five 0",
+        (0, 0),
+        (Status::More, "", "more 0\n"),
+    ),
+    (
+        "interp loop five 12",
+        (0, 0),
+        (
+            Status::Done,
+            "{\"cycles\":12,\"memories\":{\"mem\":[3]}}\n",
+            "",
+        ),
+    ),
+    (
+        "interp loop five 11",
+        (0, 0),
+        (Status::More, "", "more 11\n"),
+    ),
+    (
+        "interp conflict five 9",
+        (0, 0),
+        (Status::Fault, "", "fault conflict r.in 0\n"),
+    ),
+    (
+        "interp outside five 9",
+        (0, 0),
+        (Status::Fault, "", "fault range mem.addr0 0\n"),
+    ),
+    (
+        "interp child five 9",
+        (0, 0),
+        (Status::Fault, "", "fault undefined c.r.in 2\n"),
+    ),
+    (
+        "interp child five 2",
+        (0, 0),
+        (Status::More, "", "more 2\n"),
+    ),
+    (
+        "interp child five 3",
+        (0, 0),
+        (Status::Fault, "", "fault undefined c.r.in 2\n"),
+    ),
+    (
+        "interp add bad 9",
+        (0, 0),
+        (Status::Refused, "", "data not-json\n"),
+    ),
+    (
+        "interp add five 9",
+        (2, 0),
+        (Status::WriteFault, "{\"cycles", "write-fault\n"),
+    ),
+    ("check add", (0, 0), (Status::Done, "accepted\n", "")),
+    ("check stale", (0, 0), (Status::Done, "accepted\n", "")),
+    ("check other", (0, 0), (Status::Done, "accepted\n", "")),
+    (
+        "check wide",
+        (0, 0),
+        (Status::Refused, "", "refused 1:70 width r.in\n"),
+    ),
+    (
+        "check call",
+        (0, 0),
+        (Status::Refused, "", "refused 1:56 left-out\n"),
+    ),
+    (
+        "interp wide five 9",
+        (0, 0),
+        (Status::Refused, "", "refused 1:70 width r.in\n"),
+    ),
+    (
+        "check end",
+        (0, 0),
+        (Status::Refused, "", "refused 1:1 unexpected\n"),
+    ),
+    (
+        "check absent",
+        (0, 0),
+        (Status::ReadFault, "", "read-fault absent\n"),
+    ),
+    (
+        "check add",
+        (1, 0),
+        (Status::WriteFault, "", "write-fault\n"),
+    ),
+    ("check", (0, 0), (Status::Words, "", "words\n")),
+    ("check add five", (0, 0), (Status::Words, "", "words\n")),
+    ("interp add five", (0, 0), (Status::Words, "", "words\n")),
+    (
+        "interp add five 9 9",
+        (0, 0),
+        (Status::Words, "", "words\n"),
+    ),
+    (
+        "interp add five 1000000000001",
+        (0, 0),
+        (Status::Words, "", "words\n"),
+    ),
+    ("interp add five +9", (0, 0), (Status::Words, "", "words\n")),
+    ("run add five 9", (0, 0), (Status::Words, "", "words\n")),
+    ("sim counter five", (0, 0), (Status::Words, "", "words\n")),
+    (
+        "sim counter five 9 9",
+        (0, 0),
+        (Status::Words, "", "words\n"),
+    ),
+    (
+        "sim counter five 1000000000001",
+        (0, 0),
+        (Status::Words, "", "words\n"),
+    ),
+    (
+        "sim absent five 9",
+        (0, 0),
+        (Status::ReadFault, "", "read-fault absent\n"),
+    ),
+    (
+        "sim counter absent 9",
+        (0, 0),
+        (Status::ReadFault, "", "read-fault absent\n"),
+    ),
+    (
+        "sim five five 9",
+        (0, 0),
+        (Status::Refused, "", "verilog 1:1 syntax\n"),
+    ),
+    (
+        "sim unnamed five 9",
+        (0, 0),
+        (Status::Refused, "", "verilog 7:1 name\n"),
+    ),
+    (
+        "sim counter bad 9",
+        (0, 0),
+        (Status::Refused, "", "data not-json\n"),
+    ),
+    // A sink for messages that fails changes no status.
+    ("interp add five 5", (0, 1), (Status::More, "", "")),
+];
+
+#[test]
+fn lines(rt: HostRuntime) -> Result<(), Fail> {
+    let files: [(&str, &[u8]); 17] = [
+        ("add", ADD_THREE.as_bytes()),
+        ("stale", STALE_DONE.as_bytes()),
+        ("five", FIVE.as_bytes()),
+        ("bad", b"[]"),
+        ("open", b"component main() /* x"),
+        (
+            "word",
+            b"component main() -> () {\ncells {\nref r = std_reg(32);\n",
+        ),
+        ("end", b"component"),
+        ("empty", b""),
+        (
+            "other",
+            b"component main() -> () { cells { } wires { } control { } }",
+        ),
+        ("wide", WIDE.as_bytes()),
+        ("call", STATIC_CALL.as_bytes()),
+        ("counter", COUNTER.as_bytes()),
+        ("unnamed", UNNAMED.as_bytes()),
+        ("loop", LOOP.as_bytes()),
+        ("conflict", CONFLICT.as_bytes()),
+        ("outside", OUTSIDE.as_bytes()),
+        ("child", CHILD.as_bytes()),
+    ];
+    for (line, fails, want) in LINES {
+        tells(&rt, rt.alloc(), (line, fails), &files, want)?;
+    }
+    Ok(())
+}
+
+/// A design that is cut before its last `}` breaks a rule of its text, wherever it is cut.
+#[test]
+fn cut_texts(rt: HostRuntime) {
+    for length in 0..STALE_DONE.len() - 1 {
+        let text = &STALE_DONE.as_bytes()[..length];
+        match interp(rt.alloc(), text, b"{}", 9) {
+            Err(Stop::Rule(told)) => assert_ne!(rt; told.rule, Rule::LeftOut, "cut at {length}"),
+            _ => panic!(rt; "cut at {length}"),
+        }
+    }
+}

@@ -1,4 +1,0 @@
-mod RowWidths
-mod SightWidths
-mod TreeLemmas
-mod SeenLemmas

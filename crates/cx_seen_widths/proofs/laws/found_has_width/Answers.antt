@@ -1,6 +1,0 @@
-use Rattle.cx_seen_widths.proofs.SeenLemmas.{found_width}
-use Rattle.cx_seen_widths.proofs.laws.found_has_width.Goals as goal
-
-pub returns : goal.returns
-returns c = λ d path held act s p b design accepted acyclic widths states there literal found.
-    found_width d design accepted path held act s p b widths states there literal acyclic found

@@ -1,4 +1,0 @@
-//! Widths of what is seen in an accepted design.
-#![tactic(auto)]
-
-pub mod laws;

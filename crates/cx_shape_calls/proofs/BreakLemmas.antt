@@ -1,0 +1,341 @@
+-- The list of a component's breaks has those of the rule, and no others.
+use Rattle.std.proofs.Common.{◌≡◌, ◌+◌, ◌<◌, ℕ, zero, suc, Bool, true, false, ◌&&◌, not, nat_eq, List, [], ◌∷◌, ◌++◌, Option, Some, None, length, map, get_or, slice_get, ◌⊎◌, inl, inr, ⊎_elim, refl, sym, ap, ◌∙◌, subst, arith, true≢false}
+use Rattle.cx_text.specs.declared.places.Place.{Place}
+use Rattle.cx_text.specs.declared.rules.Rule.{Rule}
+use Rattle.cx_text.specs.declared.rules.Rule.TheVariants as rules
+use Rattle.cx_meaning.specs.Designs.{PlainAssign, PlainGroup, PlainDesign, component_at, group_at, no_group}
+use Rattle.cx_meaning.specs.Instances.{Instance, part_of}
+use Rattle.cx_meaning.specs.Active.{Owned, owned, owned_by_groups, same_port, source_order}
+use Rattle.cx_meaning.specs.Sights.{In}
+use Rattle.cx_rules.specs.Ports.{component_of, is_part_port, path_of}
+use Rattle.cx_rules.specs.Items.{is_plain}
+use Rattle.cx_rules.specs.ShapeRules.{is_hole_of, some_target}
+use Rattle.cx_rules.specs.CallShape.{Calls, go_port, IsOutside, IsMisshapen, BreaksCallShape, GroupBreaksCallShape}
+use Rattle.cx_rules.specs.Spots.{Part, AnAssign, AGroup, Spot, OnAssign, OnGroup}
+use Rattle.cx_rules.specs.Accepted.{key_of, comes_before}
+use Rattle.cx_rules.proofs.ForeignLemmas.{sorted_among, owned_among, split, groups_among}
+use Rattle.std.proofs.lemmas.List.{get_or-map}
+use Rattle.cx_design.specs.declared.groups.Group.{Group}
+use Rattle.cx_design.specs.PlainForms.{plain_group}
+use Rattle.cx_design_parts.specs.Breaks.{Broken, key, first_of}
+use Rattle.cx_design_parts.specs.Numbered.{numbered}
+use Rattle.cx_design_parts.specs.Answers.{AreBreaksBy}
+use Rattle.cx_design_parts.proofs.Order.{not_before_itself}
+use Rattle.cx_design_parts.proofs.Lists.{first_append, in_left, in_right, in_either, in_numbered, numbered_in}
+use Rattle.cx_design_parts.proofs.Families.{Either, breaks_of_either, breaks_of_same}
+use Rattle.cx_shape_calls.specs.Callees.{PlainCallee, called_of}
+use Rattle.cx_shape_calls.specs.Forms.{times, is_none, is_calling}
+use Rattle.cx_shape_calls.proofs.DoneLemmas.{part_is}
+use Rattle.cx_shape_calls.specs.declared.groups.GroupShape.{GroupShape}
+use Rattle.cx_shape_calls.specs.CallBreaks.{CallShapeBreaks, InComponent, Before}
+use Rattle.cx_shape_calls.specs.Decisions.{is_wrong, is_wrong_by, is_wrong_in, or_none, shape_at, lacks_by, told_if, assign_breaks_at, group_breaks_at, component_breaks, IsShapeOf, AreShapesOf}
+use Rattle.cx_shape_calls.proofs.BoolLemmas.{from_not, to_not, split_and, any_in, any_has}
+use Rattle.cx_shape_calls.proofs.TargetLemmas.{callee, target_of}
+use Rattle.cx_shape_calls.proofs.CalledLemmas.{called_sound, called_all, driven_by, part_callee}
+use Rattle.cx_shape_calls.proofs.WrongLemmas.{IsBroken, sound, complete}
+
+-- LISTS
+get_left : {A : Type 0} (xs ys : List A) (n : ℕ) (x : A) → slice_get xs n ≡ Some x → slice_get (xs ++ ys) n ≡ Some x
+get_left [] ys n x e = absurd (cc)
+get_left (y ∷ xs) ys zero x e = e
+get_left (y ∷ xs) ys (suc n) x e = get_left xs ys n x e
+
+get_end : {A : Type 0} (xs : List A) (x : A) → slice_get (xs ++ x ∷ []) (length xs) ≡ Some x
+get_end [] x = refl
+get_end (y ∷ xs) x = get_end xs x
+
+abbrev one_or : {A : Type 0} → A → Option A → A
+one_or x None = x
+one_or x (Some y) = y
+
+in_at : {A : Type 0} (xs : List A) (n : ℕ) (x : A) → slice_get xs n ≡ Some x → In xs x
+in_at [] n x e = absurd (cc)
+in_at (y ∷ xs) zero x e = inl (ap (one_or y) e)
+in_at (y ∷ xs) (suc n) x e = inr (in_at xs n x e)
+
+get_is : (groups : List PlainGroup) (n : ℕ) (group : PlainGroup) → slice_get groups n ≡ Some group → (get_or groups n no_group ≡ group) × (n < length groups)
+get_is [] n group e = absurd (cc)
+get_is (x ∷ xs) zero group e = (ap (one_or x) e, omega arith)
+get_is (x ∷ xs) (suc n) group e = let r = get_is xs n group e in (r.0, omega (arith, r.1))
+
+is_got : (groups : List PlainGroup) (n : ℕ) → n < length groups → slice_get groups n ≡ Some (get_or groups n no_group)
+is_got [] n h = absurd (omega (arith, h))
+is_got (x ∷ xs) zero h = refl
+is_got (x ∷ xs) (suc n) h = is_got xs n (omega (arith, h))
+
+there_in : (groups : List PlainGroup) (g : ℕ) (a : PlainAssign) → In (get_or groups g no_group).assigns a → g < length groups
+there_in [] g a h = absurd h
+there_in (x ∷ xs) zero a h = omega arith
+there_in (x ∷ xs) (suc g) a h = let r = there_in xs g a h in omega (arith, r)
+
+some_same : (m n : ℕ) → Some m ≡ Some n → m ≡ n
+some_same m n e = ap (one_or m) e
+
+none_some : (n : ℕ) → None ≡ Some n → ⊥
+none_some n e = cc
+
+-- one more group is looked at
+pub shapes_more : (i : Instance) (n : ℕ) (list : List (Option GroupShape)) (s : Option GroupShape) → length list ≡ n → AreShapesOf i n list → IsShapeOf i n (group_at (part_of i) n) s
+    → AreShapesOf i (n + 1) (list ++ s ∷ [])
+shapes_more i n list s long so_far is g h = choice (nat_eq g n) refl
+  where
+    from_eq : (x y : ℕ) → nat_eq x y ≡ true → x ≡ y
+    from_eq x y e = grind arith
+
+    less : (x y : ℕ) → nat_eq x y ≡ false → x < y + 1 → x < y
+    less x y e l = grind arith
+
+    choice : (b : Bool) → nat_eq g n ≡ b → (x : Option GroupShape) × (slice_get (list ++ s ∷ []) g ≡ Some x) × IsShapeOf i g (group_at (part_of i) g) x
+    choice true e =
+        let same : g ≡ n = from_eq g n e in
+        (s, subst (λ m. slice_get (list ++ s ∷ []) m ≡ Some s) (long ∙ sym same) (get_end list s), subst (λ m. IsShapeOf i m (group_at (part_of i) m) s) (sym same) is)
+    choice false e = let r = so_far g (less g n e h) in (r.0, get_left list (s ∷ []) g r.0 r.1, r.2)
+
+-- a group as it stands in its component
+pub got_group : (groups : List Group) (n : ℕ) (x : Group) → n < length groups → x ≡ get_or groups n x → plain_group x ≡ get_or (map plain_group groups) n no_group
+got_group groups n x h e = ap plain_group e ∙ sym (get_or-map plain_group groups n x no_group h)
+
+in_some : (ks : List PlainCallee) (k : PlainCallee) → In ks k → is_none ks ≡ false
+in_some [] k h = absurd h
+in_some (x ∷ ks) k h = refl
+
+calls_some : (i : Instance) (assigns : List PlainAssign) (c : ℕ) → Calls i assigns c → is_none (called_of i assigns) ≡ false
+calls_some i assigns c calls = in_some (called_of i assigns) (callee c calls.child) (called_all i assigns c calls.child calls.is_component calls.driven)
+
+is_called : (i : Instance) (group : PlainGroup) (c : ℕ) → is_plain group.kind ≡ true → Calls i group.assigns c → is_calling i group ≡ true
+is_called i group c plain calls = ap (λ b. b && not (is_none (called_of i group.assigns))) plain ∙ to_not (is_none (called_of i group.assigns)) (calls_some i group.assigns c calls)
+
+-- TOLD
+told_in : (b : Bool) (spot : Spot) (place : Place) (name : List ℕ) (x : Broken) → In (told_if b spot place name) x → (b ≡ true) × (record { rule = rules.CallShape; spot = spot; place = place; name = name } ≡ x)
+told_in true spot place name x (inl e) = (refl, e)
+told_in true spot place name x (inr j) = absurd j
+told_in false spot place name x j = absurd j
+
+told_has : (b : Bool) (spot : Spot) (at place : Place) (called name : List ℕ) → b ≡ true → place ≡ at → name ≡ called → In (told_if b spot at called) (record { rule = rules.CallShape; spot = spot; place = place; name = name })
+told_has b spot at place called name e p n =
+    subst (λ t. In (told_if t spot at called) (record { rule = rules.CallShape; spot = spot; place = place; name = name })) (sym e)
+    (inl (ap (λ q. record { rule = rules.CallShape; spot = spot; place = q; name = called }) (sym p) ∙ ap (λ m. record { rule = rules.CallShape; spot = spot; place = place; name = m }) (sym n)))
+
+module _ (d : PlainDesign) (k : ℕ) (within : k < length d.components) (shapes : List (Option GroupShape))
+    (are : AreShapesOf (component_of d k) (length (component_at d k).groups) shapes) where
+  abbrev i : Instance
+  i = component_of d k
+
+  same_part : part_of i ≡ component_at d k
+  same_part = part_is d (length d.components) k
+
+  abbrev OfOwner : Owned → Type 0
+  OfOwner o = (o.owner ≡ None) ⊎ ((g : ℕ) × (o.owner ≡ Some g) × In (group_at (part_of i) g).assigns o.assign × (g < length (component_at d k).groups))
+
+  owner_of : (o : Owned) → In (source_order (component_at d k)) o → OfOwner o
+  owner_of o h =
+      let part = component_at d k in
+      ⊎_elim
+      (λ l. let r = owned_among None part.always o l in inl r.0)
+      (λ l. let r = groups_among 0 part.groups o l in
+      let e : 0 + r.number ≡ r.number = omega arith in
+      inr (r.number, r.owner ∙ ap Some e, subst (λ p. In (group_at p r.number).assigns o.assign) (sym same_part) r.stands, there_in part.groups r.number o.assign r.stands))
+      (split (owned None part.always) (owned_by_groups 0 part.groups) o (sorted_among (owned None part.always ++ owned_by_groups 0 part.groups) o h))
+
+  shape_of : (g : ℕ) → g < length (component_at d k).groups → (s : Option GroupShape) × (shape_at shapes g ≡ s) × IsShapeOf i g (group_at (part_of i) g) s
+  shape_of g h = let r = are g h in (r.0, ap or_none r.1, r.2)
+
+  plain_calling : (group : PlainGroup) → is_calling i group ≡ true → is_plain group.kind ≡ true
+  plain_calling group h = (split_and (is_plain group.kind) (not (is_none (called_of i group.assigns))) h).0
+
+  group_sound : (o : Owned) (g : ℕ) → o.owner ≡ Some g → In (group_at (part_of i) g).assigns o.assign → (s : Option GroupShape) → IsShapeOf i g (group_at (part_of i) g) s
+      → is_wrong_by i g o.assign s ≡ true → IsOutside i o ⊎ IsMisshapen i o
+  group_sound o g e there None idle h = choice (is_plain (group_at (part_of i) g).kind) refl
+    where
+      choice : (b : Bool) → is_plain (group_at (part_of i) g).kind ≡ b → IsOutside i o ⊎ IsMisshapen i o
+      choice true plain =
+          let r = part_callee i o.assign.target h in
+          let t = target_of i o.assign.target r.0 r.1 in
+          let calls : Calls i (group_at (part_of i) g).assigns r.0.cell = record { child = t.child; is_component = t.stands; driven = driven_by i (group_at (part_of i) g).assigns o.assign r.0.cell t.port there t.is } in
+          absurd (true≢false (sym (is_called i (group_at (part_of i) g) r.0.cell plain calls) ∙ idle))
+      choice false other = inl (h, inr (g, e, other))
+  group_sound o g e there (Some s) is h =
+      let f = is.0 in
+      let b = sound i g (times s.form.driven) (times s.dependent) s.form.wrong_done o.assign there f.driven f.wrong_done is.1
+      (subst (λ ks. is_wrong i g ks (times s.form.driven) (times s.dependent) s.form.wrong_done o.assign o.assign.target ≡ true) f.called h) in
+      inr (record { group = g; owner = e; plain = plain_calling (group_at (part_of i) g) f.calling; cell = b.cell; calls = b.calls; breaks = b.breaks })
+
+  owned_sound : (o : Owned) → In (source_order (component_at d k)) o → is_wrong_in i shapes o.owner o.assign ≡ true → IsOutside i o ⊎ IsMisshapen i o
+  owned_sound o h w =
+      ⊎_elim
+      (λ none. inl (ap (λ owner. is_wrong_in i shapes owner o.assign) (sym none) ∙ w, inl none))
+      (λ r. let s = shape_of r.0 r.3 in
+      group_sound o r.0 r.1 r.2 s.0 s.2 (ap (is_wrong_by i r.0 o.assign) (sym s.1) ∙ ap (λ owner. is_wrong_in i shapes owner o.assign) (sym r.1) ∙ w))
+      (owner_of o h)
+
+  group_complete : (o : Owned) (g : ℕ) → o.owner ≡ Some g → In (group_at (part_of i) g).assigns o.assign → (s : Option GroupShape) → IsShapeOf i g (group_at (part_of i) g) s
+      → IsOutside i o ⊎ IsMisshapen i o → is_wrong_by i g o.assign s ≡ true
+  group_complete o g e there None idle (inl outside) = outside.0
+  group_complete o g e there None idle (inr m) =
+      let same : m.group ≡ g = some_same m.group g (sym m.owner ∙ e) in
+      let plain : is_plain (group_at (part_of i) g).kind ≡ true = subst (λ n. is_plain (group_at (part_of i) n).kind ≡ true) same m.plain in
+      let calls : Calls i (group_at (part_of i) g).assigns m.cell = subst (λ n. Calls i (group_at (part_of i) n).assigns m.cell) same m.calls in
+      absurd (true≢false (sym (is_called i (group_at (part_of i) g) m.cell plain calls) ∙ idle))
+  group_complete o g e there (Some s) is (inl (part, inl none)) = absurd (none_some g (sym none ∙ e))
+  group_complete o g e there (Some s) is (inl (part, inr other)) =
+      let same : other.0 ≡ g = some_same other.0 g (sym other.1 ∙ e) in
+      absurd (true≢false (sym (plain_calling (group_at (part_of i) g) is.0.calling) ∙ subst (λ n. is_plain (group_at (part_of i) n).kind ≡ false) same other.2))
+  group_complete o g e there (Some s) is (inr m) =
+      let f = is.0 in
+      let same : m.group ≡ g = some_same m.group g (sym m.owner ∙ e) in
+      let b : IsBroken i g o.assign.target = subst (λ n. IsBroken i n o.assign.target) same (record { cell = m.cell; calls = m.calls; breaks = m.breaks }) in
+      subst (λ ks. is_wrong i g ks (times s.form.driven) (times s.dependent) s.form.wrong_done o.assign o.assign.target ≡ true) (sym f.called)
+      (complete i g (times s.form.driven) (times s.dependent) s.form.wrong_done o.assign there f.driven f.wrong_done is.1 b.cell b.calls refl b.breaks)
+
+  owned_complete : (o : Owned) → In (source_order (component_at d k)) o → IsOutside i o ⊎ IsMisshapen i o → is_wrong_in i shapes o.owner o.assign ≡ true
+  owned_complete o h b =
+      ⊎_elim
+      (λ none. ap (λ owner. is_wrong_in i shapes owner o.assign) none ∙ bare none b)
+      (λ r. let s = shape_of r.0 r.3 in
+      ap (λ owner. is_wrong_in i shapes owner o.assign) r.1 ∙ ap (is_wrong_by i r.0 o.assign) s.1 ∙ group_complete o r.0 r.1 r.2 s.0 s.2 b)
+      (owner_of o h)
+    where
+      bare : o.owner ≡ None → IsOutside i o ⊎ IsMisshapen i o → is_part_port i o.assign.target ≡ true
+      bare none (inl outside) = outside.0
+      bare none (inr m) = absurd (none_some m.group (sym none ∙ m.owner))
+
+  -- the rule on a group
+  abbrev Lacks : ℕ → Type 0
+  Lacks g =
+      (is_plain (group_at (part_of i) g).kind ≡ true)
+      × ((c : ℕ) × Calls i (group_at (part_of i) g).assigns c
+      × ((some_target (same_port (go_port c)) (group_at (part_of i) g).assigns && some_target (is_hole_of g) (group_at (part_of i) g).assigns) ≡ false))
+
+  abbrev lack : ℕ → PlainCallee → Bool
+  lack g l = not (some_target (same_port (go_port l.cell)) (group_at (part_of i) g).assigns && some_target (is_hole_of g) (group_at (part_of i) g).assigns)
+
+  lacks_sound : (g : ℕ) → (s : Option GroupShape) → IsShapeOf i g (group_at (part_of i) g) s → lacks_by s ≡ true → Lacks g
+  lacks_sound g None idle h = absurd (true≢false (sym h))
+  lacks_sound g (Some s) is h =
+      let f = is.0 in
+      let r = any_in (lack g) (called_of i (group_at (part_of i) g).assigns) (sym f.lacks ∙ h) in
+      let c = called_sound i (group_at (part_of i) g).assigns r.0 r.1 in
+      (plain_calling (group_at (part_of i) g) f.calling, (r.0.cell, c.calls, from_not (some_target (same_port (go_port r.0.cell)) (group_at (part_of i) g).assigns && some_target (is_hole_of g) (group_at (part_of i) g).assigns) r.2))
+
+  lacks_complete : (g : ℕ) → (s : Option GroupShape) → IsShapeOf i g (group_at (part_of i) g) s → Lacks g → lacks_by s ≡ true
+  lacks_complete g None idle (plain, r) = absurd (true≢false (sym (is_called i (group_at (part_of i) g) r.0 plain r.1) ∙ idle))
+  lacks_complete g (Some s) is (plain, r) =
+      is.0.lacks
+      ∙ any_has (lack g) (called_of i (group_at (part_of i) g).assigns) (callee r.0 r.1.child) (called_all i (group_at (part_of i) g).assigns r.0 r.1.child r.1.is_component r.1.driven)
+      (to_not (some_target (same_port (go_port r.0)) (group_at (part_of i) g).assigns && some_target (is_hole_of g) (group_at (part_of i) g).assigns) r.2)
+
+  -- THE LIST
+  abbrev found : List Broken
+  found = component_breaks d k shapes
+
+  abbrev Holds : Broken → Type 0
+  Holds b = InComponent d k b.rule b.spot b.place b.name
+
+  assign_holds : (m : ℕ) (o : Owned) (b : Broken) → slice_get (source_order (component_at d k)) m ≡ Some o → In (assign_breaks_at d k shapes m o) b → Holds b
+  assign_holds m o b stands h =
+      let spot : Spot = record { component = k; part = AnAssign m } in
+      let t = told_in (is_wrong_in i shapes o.owner o.assign) spot o.assign.place (path_of i o.assign.target) b h in
+      let on : OnAssign BreaksCallShape d spot o.assign.place (path_of i o.assign.target) =
+      record { within = within; number = m; is = refl; assign = o; stands = stands; breaks = (owned_sound o (in_at (source_order (component_at d k)) m o stands) t.0, (refl, refl)) } in
+      subst Holds t.1 ((refl, inl on), refl)
+
+  group_holds : (g : ℕ) (group : PlainGroup) (b : Broken) → slice_get (component_at d k).groups g ≡ Some group → In (group_breaks_at k shapes g group) b → Holds b
+  group_holds g group b stands h =
+      let spot : Spot = record { component = k; part = AGroup g } in
+      let is = get_is (component_at d k).groups g group stands in
+      let same : group_at (part_of i) g ≡ group = ap (λ p. group_at p g) same_part ∙ is.0 in
+      let t = told_in (lacks_by (shape_at shapes g)) spot group.place group.name b h in
+      let s = shape_of g is.1 in
+      let l = lacks_sound g s.0 s.2 (ap lacks_by (sym s.1) ∙ t.0) in
+      let on : OnGroup GroupBreaksCallShape d spot group.place group.name =
+      record { within = within; number = g; is = refl; stands = is.1; breaks = (l.0, l.1, (ap (λ x. x.place) (sym same), ap (λ x. x.name) (sym same))) } in
+      subst Holds t.1 ((refl, inr on), refl)
+
+  all_hold : (b : Broken) → In found b → Holds b
+  all_hold b h =
+      let assigns = numbered (assign_breaks_at d k shapes) 0 (source_order (component_at d k)) in
+      let groups = numbered (group_breaks_at k shapes) 0 (component_at d k).groups in
+      ⊎_elim
+      (λ l. let r = numbered_in (assign_breaks_at d k shapes) 0 (source_order (component_at d k)) b l in
+      let e : 0 + r.0 ≡ r.0 = omega arith in
+      assign_holds r.0 r.1 b r.2 (subst (λ n. In (assign_breaks_at d k shapes n r.1) b) e r.3))
+      (λ l. let r = numbered_in (group_breaks_at k shapes) 0 (component_at d k).groups b l in
+      let e : 0 + r.0 ≡ r.0 = omega arith in
+      group_holds r.0 r.1 b r.2 (subst (λ n. In (group_breaks_at k shapes n r.1) b) e r.3))
+      (in_either assigns groups b h)
+
+  abbrev told : Spot → Place → List ℕ → Broken
+  told spot place name = record { rule = rules.CallShape; spot = spot; place = place; name = name }
+
+  assign_has : (m : ℕ) (o : Owned) (place : Place) (name : List ℕ) → slice_get (source_order (component_at d k)) m ≡ Some o → BreaksCallShape i o place name → In found (told (record { component = k; part = AnAssign m }) place name)
+  assign_has m o place name stands b =
+      let spot : Spot = record { component = k; part = AnAssign m } in
+      let e : m ≡ 0 + m = omega arith in
+      in_left (numbered (assign_breaks_at d k shapes) 0 (source_order (component_at d k))) (numbered (group_breaks_at k shapes) 0 (component_at d k).groups) (told spot place name)
+      (in_numbered (assign_breaks_at d k shapes) 0 (source_order (component_at d k)) m o (told spot place name) stands
+      (subst (λ n. In (assign_breaks_at d k shapes n o) (told spot place name)) e
+      (told_has (is_wrong_in i shapes o.owner o.assign) spot o.assign.place place (path_of i o.assign.target) name (owned_complete o (in_at (source_order (component_at d k)) m o stands) b.0) b.1.0 b.1.1)))
+
+  group_has : (g : ℕ) (place : Place) (name : List ℕ) → g < length (component_at d k).groups → GroupBreaksCallShape i g place name → In found (told (record { component = k; part = AGroup g }) place name)
+  group_has g place name h (plain, r, at) =
+      let spot : Spot = record { component = k; part = AGroup g } in
+      let group = group_at (component_at d k) g in
+      let same : group_at (part_of i) g ≡ group = ap (λ p. group_at p g) same_part in
+      let s = shape_of g h in
+      let e : g ≡ 0 + g = omega arith in
+      in_right (numbered (assign_breaks_at d k shapes) 0 (source_order (component_at d k))) (numbered (group_breaks_at k shapes) 0 (component_at d k).groups) (told spot place name)
+      (in_numbered (group_breaks_at k shapes) 0 (component_at d k).groups g group (told spot place name) (is_got (component_at d k).groups g h)
+      (subst (λ n. In (group_breaks_at k shapes n group) (told spot place name)) e
+      (told_has (lacks_by (shape_at shapes g)) spot group.place place group.name name (ap lacks_by s.1 ∙ lacks_complete g s.0 s.2 (plain, r)) (at.0 ∙ ap (λ x. x.place) same) (at.1 ∙ ap (λ x. x.name) same))))
+
+  -- a break that is in the list, told at its own spot
+  itself : (rule : Rule) (spot own : Spot) (place : Place) (name : List ℕ) → rule ≡ rules.CallShape → spot ≡ own → In found (told own place name)
+      → (b : Broken) × In found b × (comes_before (key_of rule spot place) (key b) ≡ false)
+  itself rule spot own place name e f h = (
+    told own place name,
+    h,
+    subst (λ r. comes_before (key_of r spot place) (key (told own place name)) ≡ false) (sym e)
+        (subst (λ s. comes_before (key_of rules.CallShape s place) (key (told own place name)) ≡ false) (sym f) (not_before_itself (key_of rules.CallShape own place))),
+  )
+
+  same_spot : (spot : Spot) (part : Part) → spot.component ≡ k → spot.part ≡ part → spot ≡ record { component = k; part = part }
+  same_spot spot part e f = ap (λ c. record { component = c; part = spot.part }) e ∙ ap (λ p. record { component = k; part = p }) f
+
+  pub are_breaks : AreBreaksBy (InComponent d k) found
+  are_breaks = record {
+    by_family = all_hold;
+    all_family = λ rule spot place name h. ⊎_elim
+        (λ o. itself rule spot (record { component = k; part = AnAssign o.number }) place name h.0.0 (same_spot spot (AnAssign o.number) h.1 o.is)
+        (assign_has o.number o.assign place name (subst (λ c. slice_get (source_order (component_at d c)) o.number ≡ Some o.assign) h.1 o.stands)
+        (subst (λ c. BreaksCallShape (component_of d c) o.assign place name) h.1 o.breaks)))
+        (λ o. itself rule spot (record { component = k; part = AGroup o.number }) place name h.0.0 (same_spot spot (AGroup o.number) h.1 o.is)
+        (group_has o.number place name (subst (λ c. o.number < length (component_at d c).groups) h.1 o.stands)
+        (subst (λ c. GroupBreaksCallShape (component_of d c) o.number place name) h.1 o.breaks)))
+        h.0.1;
+  }
+
+-- COMPONENTS
+pub none_before : (d : PlainDesign) → AreBreaksBy (Before d 0) []
+none_before d = record { by_family = λ b h. absurd h; all_family = λ rule spot place name h. absurd (omega (arith, h.1)) }
+
+before_more : (n m : ℕ) → m < n + 1 → (m < n) ⊎ (m ≡ n)
+before_more n m h = choice (nat_eq m n) refl
+  where
+    choice : (b : Bool) → nat_eq m n ≡ b → (m < n) ⊎ (m ≡ n)
+    choice true e = inr (grind arith)
+    choice false e = inl (grind arith)
+
+pub one_more : (d : PlainDesign) (n : ℕ) (found more : List Broken) → AreBreaksBy (Before d n) found → AreBreaksBy (InComponent d n) more → AreBreaksBy (Before d (n + 1)) (found ++ more)
+one_more d n found more a b =
+    breaks_of_same (Either (Before d n) (InComponent d n)) (Before d (n + 1)) (found ++ more)
+    (λ rule spot place name h. ⊎_elim (λ p. (p.0, omega (arith, p.1))) (λ p. (p.0, omega (arith, p.1))) h)
+    (λ rule spot place name h. ⊎_elim (λ l. inl (h.0, l)) (λ e. inr (h.0, e)) (before_more n spot.component h.1))
+    (breaks_of_either (Before d n) (InComponent d n) found more a b)
+
+pub all_before : (d : PlainDesign) (found : List Broken) → AreBreaksBy (Before d (length d.components)) found → AreBreaksBy (CallShapeBreaks d) found
+all_before d found a =
+    breaks_of_same (Before d (length d.components)) (CallShapeBreaks d) found (λ rule spot place name h. h.0)
+    (λ rule spot place name h. (h, ⊎_elim (λ o. o.within) (λ o. o.within) h.1)) a
+
+pub first_more : (best mid next : Option Broken) (found more : List Broken) → mid ≡ first_of best found → next ≡ first_of mid more → next ≡ first_of best (found ++ more)
+first_more best mid next found more e f = f ∙ ap (λ b. first_of b more) e ∙ sym (first_append best found more)

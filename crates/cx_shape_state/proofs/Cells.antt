@@ -1,0 +1,138 @@
+-- The cells of a component of a design, and the cells that ports speak of.
+use Rattle.std.proofs.Common.{◌≡◌, ◌<◌, ◌≤◌, ℕ, zero, suc, nat_lt, Bool, true, false, cond, List, [], ◌∷◌, Option, Some, None, length, ⊎_elim, refl, sym, ap, ◌∙◌, subst, arith}
+use Rattle.std.proofs.lemmas.Bool.{cases_lt, ltb-true}
+use Rattle.cx_prim.specs.declared.ports.Side.{Side}
+use Rattle.cx_prim.specs.declared.ports.Side.TheVariants as sides
+use Rattle.cx_prim.specs.Rows.{Row}
+use Rattle.cx_meaning.specs.declared.ports.PortRef.{PortRef}
+use Rattle.cx_meaning.specs.declared.ports.PortRef.TheVariants as ports
+use Rattle.cx_meaning.specs.Rows.{side_of}
+use Rattle.cx_meaning.specs.Designs.{PlainKind, OfPrimitive, OfComponent, PlainCell, PlainDesign, component_at}
+use Rattle.cx_meaning.specs.Instances.{Instance, Cells, no_cells, a_primitive, an_instance, At, Nothing, OfRow, OfInstance, part_of, cells_of, cell_at, add_cell, cells_for, tree_within}
+use Rattle.cx_meaning.specs.Sights.{PartPort, Go, AnInput, AnOutput, ItsDone, part_port}
+use Rattle.cx_rules.specs.Ports.{component_of}
+use Rattle.cx_design_parts.specs.Outputs.{ReadsFirst, read_count}
+use Rattle.cx_design_parts.proofs.OutputLemmas.{row_of-reads_first}
+use Rattle.cx_shape_state.specs.Waits.{side_basis, part_basis, cell_basis, input_basis, basis_of, reads_at, reader_of, cell_count}
+use Rattle.cx_shape_state.specs.Joining.{IsWithin}
+
+pub part_within : (d : PlainDesign) (n k : ℕ) → part_of (tree_within d n k) ≡ component_at d k
+part_within d zero k = refl
+part_within d (suc n) k = refl
+
+pub part_is : (d : PlainDesign) (k : ℕ) → part_of (component_of d k) ≡ component_at d k
+part_is d k = part_within d (length d.components) k
+
+one_more : (child : ℕ → Instance) (kind : PlainKind) (rest : Cells) → cell_count (add_cell child kind rest) ≡ suc (cell_count rest)
+one_more child (OfPrimitive p) rest = refl
+one_more child (OfComponent k) rest = refl
+
+count_for : (child : ℕ → Instance) (cells : List PlainCell) → cell_count (cells_for child cells) ≡ length cells
+count_for child [] = refl
+count_for child (cell ∷ cells) = one_more child cell.kind (cells_for child cells) ∙ ap suc (count_for child cells)
+
+count_within : (d : PlainDesign) (n k : ℕ) → 0 < n → cell_count (cells_of (tree_within d n k)) ≡ length (component_at d k).cells
+count_within d zero k h = absurd (omega (arith, h))
+count_within d (suc n) k h = count_for (tree_within d n) (component_at d k).cells
+
+pub count_is : (d : PlainDesign) (k : ℕ) → k < length d.components → cell_count (cells_of (component_of d k)) ≡ length (component_at d k).cells
+count_is d k h = count_within d (length d.components) k (omega (arith, h))
+
+-- the outputs of each primitive read its first inputs
+abbrev pub AllRead : Cells → Type 0
+AllRead cells = (c : ℕ) (row : Row) → cell_at cells c ≡ OfRow row → ReadsFirst row
+
+abbrev row_or : Row → At → Row
+row_or other Nothing = other
+row_or other (OfRow row) = row
+row_or other (OfInstance child) = other
+
+add_reads : (child : ℕ → Instance) (kind : PlainKind) (rest : Cells) → AllRead rest → AllRead (add_cell child kind rest)
+add_reads child (OfPrimitive p) rest h zero row e = subst ReadsFirst (ap (row_or row) e) (row_of-reads_first p)
+add_reads child (OfPrimitive p) rest h (suc c) row e = h c row e
+add_reads child (OfComponent k) rest h zero row e = absurd (cc)
+add_reads child (OfComponent k) rest h (suc c) row e = h c row e
+
+for_reads : (child : ℕ → Instance) (cells : List PlainCell) → AllRead (cells_for child cells)
+for_reads child [] c row e = absurd (cc)
+for_reads child (cell ∷ cells) c row e = add_reads child cell.kind (cells_for child cells) (for_reads child cells) c row e
+
+pub all_read : (d : PlainDesign) (n k : ℕ) → AllRead (cells_of (tree_within d n k))
+all_read d zero k c row e = absurd (cc)
+all_read d (suc n) k c row e = for_reads (tree_within d n) (component_at d k).cells c row e
+
+-- past the last cell there is nothing
+nothing_past : (cells : Cells) (c : ℕ) → cell_count cells ≤ c → cell_at cells c ≡ Nothing
+nothing_past no_cells c h = refl
+nothing_past (a_primitive row rest) zero h = absurd (omega (arith, h))
+nothing_past (a_primitive row rest) (suc c) h = nothing_past rest c (omega (arith, h))
+nothing_past (an_instance child rest) zero h = absurd (omega (arith, h))
+nothing_past (an_instance child rest) (suc c) h = nothing_past rest c (omega (arith, h))
+
+pub row_there : (cells : Cells) (c : ℕ) (row : Row) → cell_at cells c ≡ OfRow row → c < cell_count cells
+row_there cells c row e = ⊎_elim (λ l. l) (λ past. let wrong : Nothing ≡ OfRow row = sym (nothing_past cells c past) ∙ e in absurd (cc)) (cases_lt c (cell_count cells))
+
+abbrev cell_or : ℕ → Option ℕ → ℕ
+cell_or other None = other
+cell_or other (Some c) = c
+
+if_some : (b : Bool) (d c : ℕ) → cond b (Some d) None ≡ Some c → (b ≡ true) × (d ≡ c)
+if_some true d c e = (refl, ap (cell_or d) e)
+if_some false d c e = absurd (cc)
+
+-- the reader of a port, and the port
+pub record Reader (i : Instance) (port : PortRef) (c : ℕ) : Type 0 where
+  pub number : ℕ
+  pub port_is : port ≡ ports.Cell c number
+  pub row : Row
+  pub row_is : cell_at (cells_of i) c ≡ OfRow row
+  pub reads : nat_lt number (read_count row.ports) ≡ true
+
+reader_at : (i : Instance) (c m : ℕ) (at : At) → cell_at (cells_of i) c ≡ at → nat_lt m (reads_at at) ≡ true → Reader i (ports.Cell c m) c
+reader_at i c m Nothing e h = absurd (let few : m < 0 = ltb-true m 0 h in omega (arith, few))
+reader_at i c m (OfRow row) e h = record { number = m; port_is = refl; row = row; row_is = e; reads = h }
+reader_at i c m (OfInstance child) e h = absurd (let few : m < 0 = ltb-true m 0 h in omega (arith, few))
+
+pub reader : (i : Instance) (port : PortRef) (c : ℕ) → reader_of i port ≡ Some c → Reader i port c
+reader i (ports.Cell d m) c e =
+    let found = if_some (nat_lt m (reads_at (cell_at (cells_of i) d))) d c e in
+    subst (λ x. Reader i (ports.Cell d m) x) found.1 (reader_at i d m (cell_at (cells_of i) d) refl found.0)
+reader i (ports.Input n) c e = absurd (cc)
+reader i (ports.Output n) c e = absurd (cc)
+reader i (ports.Done g) c e = absurd (cc)
+reader i (ports.Literal w v) c e = absurd (cc)
+
+pub reader_is : (i : Instance) (c m : ℕ) (row : Row) → cell_at (cells_of i) c ≡ OfRow row → nat_lt m (read_count row.ports) ≡ true → reader_of i (ports.Cell c m) ≡ Some c
+reader_is i c m row e h = ap (λ at. cond (nat_lt m (reads_at at)) (Some c) None) e ∙ ap (λ b. cond b (Some c) None) h
+
+pub reader_within : (i : Instance) (port : PortRef) (c : ℕ) → reader_of i port ≡ Some c → c < cell_count (cells_of i)
+reader_within i port c e = let r = reader i port c e in row_there (cells_of i) c r.row r.row_is
+
+-- a cell that is waited for is there
+side_within : (bound c : ℕ) (side : Side) → c < bound → IsWithin bound (side_basis c side)
+side_within bound c sides.Enable h = tt
+side_within bound c sides.Plain h = tt
+side_within bound c sides.Output h = h
+side_within bound c sides.Registered h = tt
+
+part_port_within : (bound : ℕ) (port : PartPort) → IsWithin bound (part_basis port)
+part_port_within bound Go = tt
+part_port_within bound (AnInput n) = tt
+part_port_within bound (AnOutput n) = tt
+part_port_within bound ItsDone = tt
+
+at_within : (i : Instance) (c p : ℕ) (at : At) → cell_at (cells_of i) c ≡ at → IsWithin (cell_count (cells_of i)) (cell_basis c p at)
+at_within i c p Nothing e = tt
+at_within i c p (OfRow row) e = side_within (cell_count (cells_of i)) c (side_of row p) (row_there (cells_of i) c row e)
+at_within i c p (OfInstance child) e = part_port_within (cell_count (cells_of i)) (part_port (part_of child) p)
+
+input_within : (bound : ℕ) (inputs : Bool) → IsWithin bound (input_basis inputs)
+input_within bound true = tt
+input_within bound false = tt
+
+pub basis_within : (i : Instance) (inputs : Bool) (port : PortRef) → IsWithin (cell_count (cells_of i)) (basis_of i inputs port)
+basis_within i inputs (ports.Cell c p) = at_within i c p (cell_at (cells_of i) c) refl
+basis_within i inputs (ports.Input n) = input_within (cell_count (cells_of i)) inputs
+basis_within i inputs (ports.Output n) = tt
+basis_within i inputs (ports.Done g) = tt
+basis_within i inputs (ports.Literal w v) = tt

@@ -1,0 +1,162 @@
+//! The rules on assignments of dones and of signature outputs.
+
+ghost use Rattle.std.specs.Prelude.{◌≡◌, ◌<◌, IfOk, length, true};
+ghost use Rattle.std.specs.List.{list_all};
+ghost use Rattle.cx_rules.specs.Ports.{component_of};
+ghost use Rattle.cx_rules.specs.Items.{sources_of};
+ghost use Rattle.cx_meaning.specs.Designs.{component_at, group_at};
+ghost use Rattle.cx_design.specs.PlainForms.{plain_assign, plain_component};
+ghost use Rattle.cx_design.specs.PlainDesigns.{plain_design};
+ghost use Rattle.cx_design_parts.specs.Breaks.{first_of, plain_spot};
+ghost use Rattle.cx_shape_state.specs.Resting.{rests_at};
+ghost use Rattle.cx_shape_state.specs.Tells.{Tells};
+ghost use Rattle.cx_shape_state.specs.StateBreaks as breaks;
+ghost use Rattle.cx_shape_state.specs.StateBreaks.{assign_breaks, done_break, output_break};
+
+use crate::Resting;
+use cx_design::{Assign, Component, Design, PlacedPort, PortRef};
+use cx_design_parts::{Break, FirstBreak, Spot, component, operands, path};
+use cx_text::{Memory, Name, Rule};
+use std::alloc::Global;
+
+/// Looks at one assignment.
+pub fn add_assign(
+    alloc: Global,
+    first: &mut FirstBreak,
+    design: &Design,
+    resting: &Resting,
+    spot: Spot,
+    assign: &Assign,
+) -> Result<(), Memory>
+    requires within { spot.component < length design.now.components.items }
+    requires tells { Tells (component_of (plain_design design.now) spot.component) resting.now }
+    ensures value { IfOk result (λ _. first.new ≡ first_of first.old (assign_breaks (component_of (plain_design design.now) spot.component) (plain_spot spot) (plain_assign assign.now))) }
+{
+    match assign.target {
+        PortRef::Done(group) => add_done(alloc, first, design, resting, spot, assign, group),
+        PortRef::Output(port) => add_output(alloc, first, design, resting, spot, assign, port),
+        PortRef::Cell(_, _) | PortRef::Input(_) | PortRef::Literal(_, _) => Ok(()),
+    }
+}
+
+/// Keeps a break of an assignment of a group's done, where it names what does not rest on state.
+fn add_done(
+    alloc: Global,
+    first: &mut FirstBreak,
+    design: &Design,
+    resting: &Resting,
+    spot: Spot,
+    assign: &Assign,
+    group: u32,
+) -> Result<(), Memory>
+    requires within { spot.component < length design.now.components.items }
+    requires tells { Tells (component_of (plain_design design.now) spot.component) resting.now }
+    ensures value { IfOk result (λ _. first.new ≡ first_of first.old (done_break (component_of (plain_design design.now) spot.component) (plain_spot spot) (plain_assign assign.now) group)) }
+{
+    let rests = all_rest(alloc, design, spot.component, resting, true, assign)?;
+    if !rests && first.is_first(Rule::DoneNotState, spot, assign.place) {
+        let name = group_name(alloc, component(design, spot.component), group)?;
+        first.keep(Break {
+            rule: Rule::DoneNotState,
+            spot,
+            place: assign.place,
+            name,
+        });
+    }
+    Ok(())
+}
+
+/// Keeps a break of an assignment of a signature output, where it names what does not rest on state or leads back to a
+/// signature input.
+fn add_output(
+    alloc: Global,
+    first: &mut FirstBreak,
+    design: &Design,
+    resting: &Resting,
+    spot: Spot,
+    assign: &Assign,
+    port: u32,
+) -> Result<(), Memory>
+    requires within { spot.component < length design.now.components.items }
+    requires tells { Tells (component_of (plain_design design.now) spot.component) resting.now }
+    ensures value { IfOk result (λ _. first.new ≡ first_of first.old (output_break (component_of (plain_design design.now) spot.component) (plain_spot spot) (plain_assign assign.now) port)) }
+{
+    let rests = all_rest(alloc, design, spot.component, resting, false, assign)?;
+    if !rests && first.is_first(Rule::OutputNotState, spot, assign.place) {
+        let name = path(alloc, design, spot.component, PortRef::Output(port))?;
+        first.keep(Break {
+            rule: Rule::OutputNotState,
+            spot,
+            place: assign.place,
+            name,
+        });
+    }
+    Ok(())
+}
+
+/// Whether all that an assignment names rests on state, where signature inputs do so or never rest.
+fn all_rest(
+    alloc: Global,
+    design: &Design,
+    number: usize,
+    resting: &Resting,
+    inputs: bool,
+    assign: &Assign,
+) -> Result<bool, Memory>
+    requires within { number < length design.now.components.items }
+    requires tells { Tells (component_of (plain_design design.now) number) resting.now }
+    ensures value { IfOk result (λ all. all ≡ breaks.all_rest (component_of (plain_design design.now) number) inputs (sources_of (plain_assign assign.now))) }
+{
+    let operands = operands(alloc, &assign.guard)?;
+    Ok(
+        port_rests(design, number, resting, inputs, assign.source)
+            && ports_rest(design, number, resting, inputs, operands.as_slice()),
+    )
+}
+
+fn ports_rest(
+    design: &Design,
+    number: usize,
+    resting: &Resting,
+    inputs: bool,
+    ports: &[PlacedPort],
+) -> bool
+    requires within { number < length design.now.components.items }
+    requires tells { Tells (component_of (plain_design design.now) number) resting.now }
+    ensures value { result ≡ breaks.all_rest (component_of (plain_design design.now) number) inputs ports.now }
+{
+    for port in ports {
+        if !port_rests(design, number, resting, inputs, *port) {
+            return false;
+        }
+    }
+    true
+}
+
+fn port_rests(
+    design: &Design,
+    number: usize,
+    resting: &Resting,
+    inputs: bool,
+    port: PlacedPort,
+) -> bool
+    requires within { number < length design.now.components.items }
+    requires tells { Tells (component_of (plain_design design.now) number) resting.now }
+    ensures value { result ≡ rests_at (component_of (plain_design design.now) number) inputs port.port }
+{
+    if inputs {
+        resting.rests(design, number, port.port)
+    } else {
+        resting.rests_inside(design, number, port.port)
+    }
+}
+
+/// The name of a group by its number, which is empty where there is none.
+fn group_name(alloc: Global, part: &Component, group: u32) -> Result<Name, Memory>
+    ensures value { IfOk result (λ name. name ≡ (group_at (plain_component part.now) group).name) }
+{
+    match part.groups.as_slice().get(group as usize) {
+        Some(group) => Name::from_bytes(alloc, group.name.bytes()),
+        None => Name::from_bytes(alloc, b"".as_slice()),
+    }
+}

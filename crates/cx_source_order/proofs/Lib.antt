@@ -1,2 +1,0 @@
-mod Stable
-mod SourceOrder

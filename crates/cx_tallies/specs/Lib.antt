@@ -1,3 +1,0 @@
-pub mod Owners
-pub mod Tallies
-pub mod Spreads

@@ -1,5 +1,0 @@
-use Rattle.cx_targets.proofs.TargetLemmas.{targets_in_text}
-use Rattle.cx_targets.proofs.laws.targets_are_ports.Goals as goal
-
-pub returns : goal.returns
-returns c = targets_in_text

@@ -1,4 +1,0 @@
-//! Targets in trees of texts.
-#![tactic(auto)]
-
-pub mod laws;

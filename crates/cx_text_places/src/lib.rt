@@ -1,4 +1,0 @@
-//! Places of operands in designs of texts.
-#![tactic(auto)]
-
-pub mod laws;

@@ -1,5 +1,0 @@
-pub mod Numbers
-pub mod Codes
-pub mod Maps
-pub mod Numberings
-pub mod Laws

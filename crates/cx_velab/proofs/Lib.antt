@@ -1,0 +1,11 @@
+pub mod Listing
+pub mod PathLemmas
+pub mod BaseLemmas
+pub mod AddedLemmas
+pub mod ChangeLemmas
+pub mod ZeroLemmas
+pub mod DrivenLemmas
+pub mod CoveredLemmas
+pub mod FitsLemmas
+pub mod PartLemmas
+pub mod EvenLemmas

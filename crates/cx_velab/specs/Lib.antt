@@ -1,0 +1,13 @@
+pub mod Trees
+pub mod Rows
+pub mod Paths
+pub mod Tables
+pub mod Added
+pub mod Coded
+pub mod Changes
+pub mod Zeros
+pub mod Ties
+pub mod Driven
+pub mod Covered
+pub mod FitsLaws
+pub mod Parts

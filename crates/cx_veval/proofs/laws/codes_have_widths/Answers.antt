@@ -1,5 +1,0 @@
-use Rattle.cx_veval.proofs.CodeWidths.{code_has_width}
-use Rattle.cx_veval.proofs.laws.codes_have_widths.Goals as goal
-
-pub returns : goal.returns
-returns c values arrays p code w v even width e = code_has_width values arrays p code w v even width e

@@ -1,5 +1,0 @@
-use Rattle.cx_veval.specs.Search.{Ready}
-use Rattle.cx_veval.proofs.search.try_in_order.Given as goal
-
-abbrev pub invariant-loop-net : goal.invariant-loop-net
-invariant-loop-net l = Ready l.nets l.stored l.marks l.values

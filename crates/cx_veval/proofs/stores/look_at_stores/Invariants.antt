@@ -1,6 +1,0 @@
-use Rattle.std.proofs.Common.{◌≡◌, map, take}
-use Rattle.cx_veval.specs.Stores.{write_of}
-use Rattle.cx_veval.proofs.stores.look_at_stores.Given as goal
-
-abbrev pub invariant-loop-number : goal.invariant-loop-number
-invariant-loop-number l = take l.number l.writes ≡ map (write_of l.codes l.values l.arrays) (take l.number l.stores)

@@ -1,5 +1,0 @@
-use Rattle.cx_vfacts.proofs.TallyLemmas.{array_words}
-use Rattle.cx_vfacts.proofs.counts.arrays_have_words.Goals as goal
-
-pub returns : goal.returns
-returns c source i k n w size sound there = array_words source sound i k n w size there

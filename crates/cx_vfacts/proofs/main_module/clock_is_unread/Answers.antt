@@ -1,5 +1,0 @@
-use Rattle.cx_vfacts.proofs.Mains.{clock_unread}
-use Rattle.cx_vfacts.proofs.main_module.clock_is_unread.Goals as goal
-
-pub returns : goal.returns
-returns c scope e named = clock_unread scope e named

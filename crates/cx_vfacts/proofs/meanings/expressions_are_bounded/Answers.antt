@@ -1,5 +1,0 @@
-use Rattle.cx_vfacts.proofs.ExpressionWidths.{expression_bounded}
-use Rattle.cx_vfacts.proofs.meanings.expressions_are_bounded.Goals as goal
-
-pub returns : goal.returns
-returns c source i w e sound fits = expression_bounded source sound i e w fits.named fits.width

@@ -1,5 +1,0 @@
-use Rattle.cx_vfacts.proofs.MemoryLemmas.{memory_there}
-use Rattle.cx_vfacts.proofs.memories.externals_are_memories.Goals as goal
-
-pub returns : goal.returns
-returns c source k e sound at = memory_there source sound k e at

@@ -1,5 +1,0 @@
-use Rattle.cx_vfacts.proofs.DriverLemmas.{conns-length}
-use Rattle.cx_vfacts.proofs.origins.connections_are_of_ports.Goals as goal
-
-pub returns : goal.returns
-returns c source i p sound at other = conns-length source sound i p at other

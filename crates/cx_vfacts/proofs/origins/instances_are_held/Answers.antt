@@ -1,5 +1,0 @@
-use Rattle.cx_vfacts.proofs.Holders.{part_of}
-use Rattle.cx_vfacts.proofs.origins.instances_are_held.Goals as goal
-
-pub returns : goal.returns
-returns c source i p sound at other = let (q, around, is_part) = part_of source sound i p at other in (is_part.lower, (q, around))

@@ -1,4 +1,0 @@
-pub mod Trees
-pub mod Tables
-pub mod Passes
-pub mod Machines

@@ -1,0 +1,42 @@
+//! The nets of a source by number, and the evaluation of one cycle.
+//! Runs numbered nets from reset.
+//! Numbers for the names of a Verilog module, and its expressions as codes over them.
+//! The machine of numbered nets does what its Verilog source means.
+#![tactic(auto)]
+
+mod arrays;
+mod code_laws;
+mod codes;
+mod edges;
+mod flat_laws;
+mod machines;
+mod marks;
+mod module_codes;
+mod nets;
+mod numbers;
+mod operators;
+mod run_edges;
+mod run_laws;
+mod runs;
+mod search;
+mod stores;
+mod value_laws;
+mod values;
+
+pub use arrays::Words;
+pub use code_laws::{code_widths, names_have_numbers};
+pub use codes::{Code, NetPosition};
+pub use edges::{Set, set_registers};
+pub use flat_laws::{
+    all_are_nets, edges_are_same, loops_are_same, runs_are_same, values_are_same, wholes_are_same,
+};
+pub use machines::{Bench, Machine};
+pub use marks::NetMark;
+pub use module_codes::code;
+pub use nets::{Driver, Nets, Stored};
+pub use numbers::ModuleNumbers;
+pub use run_laws::machines_stay_ready;
+pub use runs::{RunAnswer, run};
+pub use search::settle;
+pub use stores::{Store, Write, look_at_stores, store_words};
+pub use value_laws::codes_have_widths;

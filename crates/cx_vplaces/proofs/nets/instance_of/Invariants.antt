@@ -1,5 +1,0 @@
-use Rattle.cx_vplaces.specs.Nets.{IsLastBegun}
-use Rattle.cx_vplaces.proofs.nets.instance_of.Given as goal
-
-abbrev pub invariant-loop-i : goal.invariant-loop-i
-invariant-loop-i l = IsLastBegun l.places l.net l.i l.found

@@ -1,0 +1,14 @@
+use Rattle.std.proofs.Common.{◌∙◌, sym, codes}
+use Rattle.cx_vtree.specs.PlainParts.{plain_conn}
+use Rattle.cx_vread_exprs.specs.Answers.{place_of}
+use Rattle.cx_vread_exprs.specs.Places.{begins}
+use Rattle.cx_vread.specs.Parts as parts
+use Rattle.cx_vread.proofs.Many.{mapped_next, mapped_end}
+use Rattle.cx_vread.proofs.instances.more_conns.Goals as goal
+
+pub returns-then-not-begins : goal.returns-then-not-begins
+returns-then-not-begins c = mapped_end plain_conn (begins (codes ",")) parts.next_conn_at c.loop-left.list.items c.loop-left.left (place_of c.loop-left.here) _ c.loop-left.invariant (sym c.begins.ensures ∙ c.if-not-begins.true)
+
+pub loop-left-preserved : goal.loop-left-preserved
+loop-left-preserved c =
+    mapped_next plain_conn (begins (codes ",")) parts.next_conn_at c.loop-left.list.items c.push-in-loop-left.new.self.items c.in_ok-item.item c.loop-left.left (place_of c.loop-left.here) (place_of c.in_ok-item.after) _ c.loop-left.invariant c.in_ok-push-2.ensures.items c.loop-left-test.true (sym c.begins.ensures ∙ c.if-not-begins.false) c.in_ok-item.ensures

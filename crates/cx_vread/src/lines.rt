@@ -1,0 +1,218 @@
+//! The lines of ports, declarations and assigns.
+
+ghost use Rattle.std.specs.Prelude.{◌≡◌, [], ◌∷◌, codes, map};
+ghost use Rattle.cx_vtree.specs.PlainParts.{plain_port, plain_decl, plain_assign};
+ghost use Rattle.cx_vread_exprs.specs.Answers.{Gives, place_of};
+ghost use Rattle.cx_vread_exprs.specs.Places.{begins, many, with_front};
+ghost use Rattle.cx_vread.specs.Parts as parts;
+
+use cx_text::Name;
+use cx_vread_exprs::{Fault, ReadPoint, begins, bounds, expect, length, name, whole_expr};
+use cx_vtree::{Decl, ModulePort, NetAssign};
+use std::alloc::Global;
+
+/// A port, from its width to its name.
+fn port_of<'a>(
+    alloc: Global,
+    output: bool,
+    at: ReadPoint<'a>,
+) -> Result<(ModulePort, ReadPoint<'a>), Fault>
+    ensures { Gives (λ x. (plain_port x.0, place_of x.1)) result (parts.port_by output (place_of at.entry)) }
+{
+    let (width, at) = bounds(at)?;
+    let (name, at) = name(alloc, at)?;
+    let port = ModulePort {
+        output,
+        name,
+        width,
+    };
+    Ok((port, at))
+}
+
+/// A port, to its name.
+fn port<'a>(alloc: Global, at: ReadPoint<'a>) -> Result<(ModulePort, ReadPoint<'a>), Fault>
+    ensures { Gives (λ x. (plain_port x.0, place_of x.1)) result (parts.port_at (place_of at.entry)) }
+{
+    if begins(at, b"  output wire ") {
+        let at = expect(at, b"  output wire ")?;
+        port_of(alloc, true, at)
+    } else {
+        let at = expect(at, b"  input wire ")?;
+        port_of(alloc, false, at)
+    }
+}
+
+/// A port after the first, from the comma before it on.
+fn next_port<'a>(alloc: Global, at: ReadPoint<'a>) -> Result<(ModulePort, ReadPoint<'a>), Fault>
+    ensures { Gives (λ x. (plain_port x.0, place_of x.1)) result (parts.next_port_at (place_of at.entry)) }
+{
+    let at = expect(at, b",\n")?;
+    port(alloc, at)
+}
+
+/// The ports after the first, behind it.
+fn more_ports<'a>(
+    alloc: Global,
+    first: ModulePort,
+    at: ReadPoint<'a>,
+) -> Result<(Vec<ModulePort>, ReadPoint<'a>), Fault>
+    ensures { Gives (λ x. (map plain_port x.0.items, place_of x.1)) result (with_front (plain_port first ∷ []) (parts.more_ports_at (place_of at.entry))) }
+{
+    let mut list = Vec::new(alloc);
+    list.push(first)?;
+    let mut here = at;
+    let mut left = at.rest.len();
+    while left > 0 {
+        if !begins(here, b",") {
+            return Ok((list, here));
+        }
+        let (item, after) = next_port(alloc, here)?;
+        list.push(item)?;
+        here = after;
+        left -= 1;
+    }
+    Ok((list, here))
+}
+
+/// The lines of ports, and the line that ends them.
+pub fn ports<'a>(
+    alloc: Global,
+    at: ReadPoint<'a>,
+) -> Result<(Vec<ModulePort>, ReadPoint<'a>), Fault>
+    ensures { Gives (λ x. (map plain_port x.0.items, place_of x.1)) result (parts.ports_at (place_of at.entry)) }
+{
+    let (first, at) = port(alloc, at)?;
+    let (ports, at) = more_ports(alloc, first, at)?;
+    let at = expect(at, b"\n);\n")?;
+    Ok((ports, at))
+}
+
+/// The end of the line of an array, from its length on.
+fn array<'a>(name: Name, width: u8, at: ReadPoint<'a>) -> Result<(Decl, ReadPoint<'a>), Fault>
+    ensures { Gives (λ x. (plain_decl x.0, place_of x.1)) result (parts.array_by name width (place_of at.entry)) }
+{
+    let at = expect(at, b" [0:")?;
+    let (length, at) = length(at)?;
+    let at = expect(at, b"];\n")?;
+    let decl = Decl::Array {
+        name,
+        width,
+        length,
+    };
+    Ok((decl, at))
+}
+
+/// The end of the line of a register, which is an array where a length stands.
+fn register_of<'a>(name: Name, width: u8, at: ReadPoint<'a>) -> Result<(Decl, ReadPoint<'a>), Fault>
+    ensures { Gives (λ x. (plain_decl x.0, place_of x.1)) result (parts.register_by name width (place_of at.entry)) }
+{
+    if begins(at, b";") {
+        let at = expect(at, b";\n")?;
+        Ok((Decl::Register { name, width }, at))
+    } else {
+        array(name, width, at)
+    }
+}
+
+/// The line of a register or an array, from its width on.
+fn register<'a>(alloc: Global, at: ReadPoint<'a>) -> Result<(Decl, ReadPoint<'a>), Fault>
+    ensures { Gives (λ x. (plain_decl x.0, place_of x.1)) result (parts.register_at (place_of at.entry)) }
+{
+    let (width, at) = bounds(at)?;
+    let (name, at) = name(alloc, at)?;
+    register_of(name, width, at)
+}
+
+/// The line of a wire, from its width on.
+fn wire<'a>(alloc: Global, at: ReadPoint<'a>) -> Result<(Decl, ReadPoint<'a>), Fault>
+    ensures { Gives (λ x. (plain_decl x.0, place_of x.1)) result (parts.wire_at (place_of at.entry)) }
+{
+    let (width, at) = bounds(at)?;
+    let (name, at) = name(alloc, at)?;
+    let at = expect(at, b";\n")?;
+    Ok((Decl::Wire { name, width }, at))
+}
+
+/// The line of a declaration.
+fn decl<'a>(alloc: Global, at: ReadPoint<'a>) -> Result<(Decl, ReadPoint<'a>), Fault>
+    ensures { Gives (λ x. (plain_decl x.0, place_of x.1)) result (parts.decl_at (place_of at.entry)) }
+{
+    if begins(at, b"  reg ") {
+        let at = expect(at, b"  reg ")?;
+        register(alloc, at)
+    } else {
+        let at = expect(at, b"  wire ")?;
+        wire(alloc, at)
+    }
+}
+
+/// Whether the line of a declaration begins here.
+fn is_decl(at: ReadPoint) -> bool
+    ensures { result ≡ parts.is_decl (place_of at.entry) }
+{
+    begins(at, b"  wire ") || begins(at, b"  reg ")
+}
+
+/// The lines of declarations.
+pub fn decls<'a>(alloc: Global, at: ReadPoint<'a>) -> Result<(Vec<Decl>, ReadPoint<'a>), Fault>
+    ensures { Gives (λ x. (map plain_decl x.0.items, place_of x.1)) result (parts.decls_at (place_of at.entry)) }
+{
+    let mut list = Vec::new(alloc);
+    let mut here = at;
+    let mut left = at.rest.len();
+    while left > 0 {
+        if !is_decl(here) {
+            return Ok((list, here));
+        }
+        let (item, after) = decl(alloc, here)?;
+        list.push(item)?;
+        here = after;
+        left -= 1;
+    }
+    Ok((list, here))
+}
+
+/// The end of the line of an assign, from its value on.
+pub fn assigned<'a>(
+    alloc: Global,
+    name: Name,
+    at: ReadPoint<'a>,
+) -> Result<(NetAssign, ReadPoint<'a>), Fault>
+    ensures { Gives (λ x. (plain_assign x.0, place_of x.1)) result (parts.assigned_by name (place_of at.entry)) }
+{
+    let (value, at) = whole_expr(alloc, at)?;
+    let at = expect(at, b";\n")?;
+    Ok((NetAssign { name, value }, at))
+}
+
+/// The line of an assign.
+fn assign<'a>(alloc: Global, at: ReadPoint<'a>) -> Result<(NetAssign, ReadPoint<'a>), Fault>
+    ensures { Gives (λ x. (plain_assign x.0, place_of x.1)) result (parts.assign_at (place_of at.entry)) }
+{
+    let at = expect(at, b"  assign ")?;
+    let (name, at) = name(alloc, at)?;
+    let at = expect(at, b" = ")?;
+    assigned(alloc, name, at)
+}
+
+/// The lines of assigns.
+pub fn assigns<'a>(
+    alloc: Global,
+    at: ReadPoint<'a>,
+) -> Result<(Vec<NetAssign>, ReadPoint<'a>), Fault>
+    ensures { Gives (λ x. (map plain_assign x.0.items, place_of x.1)) result (parts.assigns_at (place_of at.entry)) }
+{
+    let mut list = Vec::new(alloc);
+    let mut here = at;
+    let mut left = at.rest.len();
+    while left > 0 {
+        if !begins(here, b"  assign ") {
+            return Ok((list, here));
+        }
+        let (item, after) = assign(alloc, here)?;
+        list.push(item)?;
+        here = after;
+        left -= 1;
+    }
+    Ok((list, here))
+}

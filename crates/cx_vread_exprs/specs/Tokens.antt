@@ -1,0 +1,84 @@
+-- Reading words, numbers and literals.
+use Rattle.std.specs.Prelude.{ℕ, ◌+◌, ◌^◌, ◌==◌, ◌&&◌, ◌||◌, not, nat_lt, nat_le, Bool, true, false, List, [], ◌∷◌, Option, Some, None, codes, if◌then◌else◌}
+use Rattle.std.specs.Str.Parse.{digits_value}
+use Rattle.cx_vtree.specs.Layout.{is_name_byte, is_word, is_name}
+use Rattle.cx_vtree.specs.Plain.{PlainExpr, Number}
+use Rattle.cx_vread_exprs.specs.Places.{Place, Reads, moved, unfit, then_reads, then_at, after}
+
+-- the bytes from the front on that pass a test, and those behind them
+abbrev pub front : (ℕ → Bool) → List ℕ → List ℕ
+front test [] = []
+front test (b ∷ bs) = if test b then b ∷ front test bs else []
+
+abbrev pub back : (ℕ → Bool) → List ℕ → List ℕ
+back test [] = []
+back test (b ∷ bs) = if test b then back test bs else b ∷ bs
+
+abbrev pub word_at : Place → Reads (List ℕ)
+word_at p = if is_word (front is_name_byte p.rest) then Some (front is_name_byte p.rest, moved p (back is_name_byte p.rest)) else None
+
+abbrev pub name_at : Place → Reads (List ℕ)
+name_at p = if is_name (front is_name_byte p.rest) then Some (front is_name_byte p.rest, moved p (back is_name_byte p.rest)) else None
+
+-- `0` to `9`, and for base 16 `a` to `f`
+abbrev pub is_digit_in : ℕ → ℕ → Bool
+is_digit_in base c = (nat_le 48 c && nat_le c 57) || (base == 16 && nat_le 97 c && nat_le c 102)
+
+-- at least one digit, and no zero before another
+abbrev pub is_numeral : List ℕ → Bool
+is_numeral [] = false
+is_numeral (c ∷ []) = true
+is_numeral (c ∷ d ∷ ds) = not (c == 48)
+
+abbrev pub digits_at : ℕ → Place → Reads (List ℕ)
+digits_at base p =
+    if is_numeral (front (is_digit_in base) p.rest) then Some (front (is_digit_in base) p.rest, moved p (back (is_digit_in base) p.rest)) else None
+
+-- a number, where it is below 2^128
+abbrev pub capped : ℕ → Option ℕ
+capped n = if nat_lt n (2 ^ 128) then Some n else None
+
+abbrev pub number_at : ℕ → Place → Reads (Option ℕ)
+number_at base p = then_reads (digits_at base p) (λ ds q. Some (capped (digits_value base ds), q))
+
+-- a number that is below a bound, or what stands for it
+abbrev pub bounded : ℕ → ℕ → Option ℕ → Place → Reads ℕ
+bounded bound other None p = Some (other, unfit p)
+bounded bound other (Some n) p = if nat_lt n bound then Some (n, p) else Some (other, unfit p)
+
+-- a number that stands for one more
+abbrev pub one_more : ℕ → Option ℕ → Place → Reads ℕ
+one_more bound None p = Some (bound, unfit p)
+one_more bound (Some n) p = if nat_lt n bound then Some (n + 1, p) else Some (bound, unfit p)
+
+abbrev pub small_at : Place → Reads ℕ
+small_at p = then_reads (number_at 10 p) (bounded 256 255)
+
+abbrev pub size_at : Place → Reads ℕ
+size_at p = then_reads (number_at 10 p) (bounded 18446744073709551616 18446744073709551615)
+
+-- the length of an array, which is told by its last index
+abbrev pub length_at : Place → Reads ℕ
+length_at p = then_reads (number_at 10 p) (one_more 18446744073709551615)
+
+-- a width and the space after it, as `[7:0] `
+abbrev pub bounds_at : Place → Reads ℕ
+bounds_at p =
+    then_at (after (codes "[") p) (λ q. then_reads (number_at 10 q) (λ n r. then_at (after (codes ":0] ") r) (one_more 255 n)))
+
+-- a value that has its width
+abbrev pub fits_bits : ℕ → ℕ → Bool
+fits_bits w v = nat_lt 0 w && nat_le w 128 && nat_lt v (2 ^ w)
+
+-- what stands for an expression that no tree holds
+abbrev pub stand_in : PlainExpr
+stand_in = Number (record { width = 1; value = 0 })
+
+abbrev pub literal_of : Option ℕ → Option ℕ → Place → Reads PlainExpr
+literal_of None v p = Some (stand_in, unfit p)
+literal_of (Some w) None p = Some (stand_in, unfit p)
+literal_of (Some w) (Some v) p = if fits_bits w v then Some (Number (record { width = w; value = v }), p) else Some (stand_in, unfit p)
+
+abbrev pub literal_at : Place → Reads PlainExpr
+literal_at p =
+    then_reads (number_at 10 p) (λ w q. then_at (after (codes "'h") q) (λ r. then_reads (number_at 16 r) (literal_of w)))

@@ -1,5 +1,0 @@
-use Rattle.cx_vrun.proofs.Along.{sets-along}
-use Rattle.cx_vrun.proofs.edges.edge.Goals as goal
-
-pub set_registers-requires-clause-fits : goal.set_registers-requires-clause-fits
-set_registers-requires-clause-fits c = sets-along _ _ _ _ _ _ _ _ c.deref.ensures.value c.deref-3.ensures.value c.deref-4.ensures.value c.deref-2.ensures.value c.requires.sets

@@ -1,0 +1,90 @@
+-- The first instance of `main` of a name, and its array.
+use Rattle.std.proofs.Common.{◌≡◌, ◌≢◌, ℕ, zero, suc, ◌+◌, ◌<◌, ◌≤◌, ◌==◌, ◌&&◌, ⊎_elim, Bool, true, false, List, [], ◌∷◌, map, drop, get_or, length, Option, Some, None, option_map, option_and_then, slice_get, refl, ap, sym, ◌∙◌, subst, if◌then◌else◌, arith}
+use Rattle.std.proofs.lemmas.Bool.{cases_lt}
+use Rattle.std.proofs.lemmas.Bool.Decides.{eqb_tells}
+use Rattle.std.proofs.lemmas.Option.{slice_get-map, slice_get_read, slice_get_past, same_Some, get_or_from_slice_get}
+use Rattle.std.specs.Cmp.Lexicographic.{bytes_decides}
+use Rattle.std.specs.Option.{option_map_or}
+use Rattle.cx_vtree.specs.Plain.{PlainExternal}
+use Rattle.cx_vtree.specs.InstanceTree.{Placed, same_name, decls_at}
+use Rattle.cx_vtree.specs.SimRun.{instance_named, first_array}
+use Rattle.cx_velab.specs.declared.tree.Row.{Row}
+use Rattle.cx_velab.specs.Rows.{placed_of}
+use Rattle.cx_vnets.specs.declared.codes.NetPosition.{NetPosition}
+use Rattle.cx_vnets.specs.ModuleNumbers.{position, declared_arrays}
+use Rattle.cx_vnets.specs.Numbers.{arrays_at, arrays_before, array_number, place_of}
+use Rattle.cx_velab.specs.Tables.{all_places}
+use Rattle.cx_vsim.specs.Externals.{array_of, HasArray}
+use Rattle.cx_vsim.proofs.Finding.{place_at, places_length}
+
+dropped : {A : Type 0} (xs : List A) (i : ℕ) (x : A) → slice_get xs i ≡ Some x → drop i xs ≡ x ∷ drop (suc i) xs
+dropped [] i x e = absurd (cc)
+dropped (y ∷ xs) zero x e = let same : y ≡ x = cc in ap (λ z. z ∷ xs) same
+dropped (y ∷ xs) (suc i) x e = dropped xs i x e
+
+pub same_is : (n m : List ℕ) → n ≡ m → same_name n m ≡ true
+same_is n m e = (bytes_decides n m).1 e
+
+pub other_is : (n m : List ℕ) (r : Bool) → (n ≡ m → r ≡ true) → r ≡ false → same_name n m ≡ false
+other_is n m r tells no_ = go (same_name n m) refl
+  where
+    go : (t : Bool) → same_name n m ≡ t → t ≡ false
+    go false is = refl
+    go true is = absurd (let one : r ≡ true = tells ((bytes_decides n m).0 is) in cc)
+
+module _ (rows : List Row) (i : ℕ) (row : Row) (name : List ℕ) (at : slice_get rows i ≡ Some row) where
+  unfolded : instance_named (map placed_of (drop i rows)) i name
+      ≡ (if row.holder == 0 && same_name row.instance.now.name name then Some i else instance_named (map placed_of (drop (suc i) rows)) (i + 1) name)
+  unfolded = ap (λ l. instance_named (map placed_of l) i name) (dropped rows i row at)
+
+  next : instance_named (map placed_of (drop (suc i) rows)) (i + 1) name ≡ instance_named (map placed_of (drop (i + 1) rows)) (i + 1) name
+  next = let s : suc i ≡ i + 1 = omega arith in ap (λ k. instance_named (map placed_of (drop k rows)) (i + 1) name) s
+
+  pub found_here : row.holder ≡ 0 → same_name row.instance.now.name name ≡ true → instance_named (map placed_of (drop i rows)) i name ≡ Some i
+  found_here h s = unfolded
+      ∙ ap (λ k. if k == 0 && same_name row.instance.now.name name then Some i else instance_named (map placed_of (drop (suc i) rows)) (i + 1) name) h
+      ∙ ap (λ b. if b then Some i else instance_named (map placed_of (drop (suc i) rows)) (i + 1) name) s
+
+  pub not_named : row.holder ≡ 0 → same_name row.instance.now.name name ≡ false → instance_named (map placed_of (drop i rows)) i name ≡ instance_named (map placed_of (drop (i + 1) rows)) (i + 1) name
+  not_named h s = unfolded
+      ∙ ap (λ k. if k == 0 && same_name row.instance.now.name name then Some i else instance_named (map placed_of (drop (suc i) rows)) (i + 1) name) h
+      ∙ ap (λ b. if b then Some i else instance_named (map placed_of (drop (suc i) rows)) (i + 1) name) s ∙ next
+
+  pub not_held : row.holder ≢ 0 → instance_named (map placed_of (drop i rows)) i name ≡ instance_named (map placed_of (drop (i + 1) rows)) (i + 1) name
+  not_held h = unfolded
+      ∙ ap (λ b. if b && same_name row.instance.now.name name then Some i else instance_named (map placed_of (drop (suc i) rows)) (i + 1) name)
+      (⊎_elim {C = (row.holder == 0) ≡ false} (λ s. absurd (h s.1)) (λ d. d.0) (eqb_tells row.holder 0)) ∙ next
+
+array_within : (tree : List Placed) (i : ℕ) (n : List ℕ) → arrays_at tree i ≡ n ∷ [] → i < length tree
+array_within tree i n at = ⊎_elim (λ lt. lt) (λ le. absurd (past (slice_get tree i) (slice_get_past tree i le) at)) (cases_lt i (length tree))
+  where
+    past : (o : Option Placed) → o ≡ None → declared_arrays (option_map_or (λ p. p.part.decls) o []) ≡ n ∷ [] → ⊥
+    past None e at = cc
+    past (Some p) e at = cc
+
+module _ (tree : List Placed) (e : PlainExternal) (has : HasArray tree e) where
+  pub instance_within : has.number < length tree
+  instance_within = array_within tree has.number (first_array (decls_at tree has.number)) has.only
+
+  -- the array is the first of its instance
+  pub array_is : array_of tree e ≡ Some (arrays_before tree has.number)
+  array_is =
+      let first = first_array (decls_at tree has.number) in
+      let self : same_name first first ≡ true = (bytes_decides first first).1 refl in
+      let none : arrays_before tree has.number + 0 ≡ arrays_before tree has.number = omega arith in
+      ap (option_and_then (λ j. array_number tree j (first_array (decls_at tree j)))) has.found
+      ∙ ap (λ l. option_map (λ k. arrays_before tree has.number + k) (position l first)) has.only
+      ∙ ap (λ b. option_map (λ k. arrays_before tree has.number + k) (if b then Some 0 else option_map suc (position [] first))) self
+      ∙ ap Some none
+
+  pub array_place : (places : List NetPosition) (j : ℕ) (d : NetPosition) → places ≡ all_places tree (length tree) → has.number ≡ j → array_of tree e ≡ Some (get_or places j d).arrays
+  array_place places j d all same =
+      let at : slice_get places has.number ≡ Some (place_of tree has.number) = ap (λ l. slice_get l has.number) all ∙ place_at tree (length tree) has.number instance_within in
+      let got : get_or places j d ≡ place_of tree has.number = ap (λ k. get_or places k d) (sym same) ∙ get_or_from_slice_get places has.number (place_of tree has.number) d at in
+      array_is ∙ ap (λ (p : NetPosition). Some p.arrays) (sym got)
+
+pub read_at : {A : Type 0} (xs : List A) (i : ℕ) (x : A) → i < length xs → x ≡ get_or xs i x → slice_get xs i ≡ Some x
+read_at xs i x lt at = slice_get_read xs (length xs) i x refl lt at
+
+pub item_at : {A B : Type 0} (f : A → B) (xs : List A) (i : ℕ) (x : A) → i < length xs → x ≡ get_or xs i x → slice_get (map f xs) i ≡ Some (f x)
+item_at f xs i x lt at = slice_get-map f xs i ∙ ap (option_map f) (read_at xs i x lt at)

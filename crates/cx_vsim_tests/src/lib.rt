@@ -1,5 +1,0 @@
-//! Verilog texts that are run.
-#![tactic(auto)]
-
-#[cfg(test)]
-mod tests;
