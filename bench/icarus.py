@@ -4,7 +4,7 @@
     bench/icarus.py PROGRAM
 
 PROGRAM is the built calyx_cli; `iverilog` and `vvp` have to be installed (Debian's package iverilog). The texts are read out of
-crates/cx_run_tests/src/verilog.rt. Registers begin with 0, which Icarus Verilog is told.
+crates/cx_run_tests/src/simulation.rt. Registers begin with 0, which Icarus Verilog is told.
 """
 import json
 import os
@@ -21,12 +21,11 @@ STRING = r'"((?:[^"\\]|\\.)*)"'
 
 def texts():
     """The texts of modules without memories, and that with one, with the words of it."""
-    with open(HERE + '/../crates/cx_run_tests/src/verilog.rt', encoding='utf-8') as file:
+    with open(HERE + '/../crates/cx_run_tests/src/simulation.rt', encoding='utf-8') as file:
         tests = file.read()
-    named = {name: text.replace('\\n', '\n') for name, text in re.findall(r'let (\w+) =\s*' + STRING, tests)}
-    over = re.search(r'fn external_memories.*?main_of\(\s*alloc,\s*' + STRING, tests, re.S).group(1).replace('\\n', '\n')
-    alone = [(name, MAIN + named[name] + 'endmodule\n', []) for name in ('counter', 'swap')]
-    memory = '// external t i 8 4\n' + named['memory'] + MAIN + over + 'endmodule\n'
+    named = {name: text.replace('\\n', '\n') for name, text in re.findall(r'const (\w+): &str =\s*' + STRING, tests)}
+    alone = [(name.lower(), MAIN + named[name] + 'endmodule\n', []) for name in ('COUNTER', 'SWAP')]
+    memory = '// external t i 8 4\n' + named['MEMORY'] + MAIN + named['SUMS'] + 'endmodule\n'
     return alone + [('memory', memory, [1, 2, 3, 4]), ('memory of other words', memory, [250, 7, 0, 99])]
 
 

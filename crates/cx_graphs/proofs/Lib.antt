@@ -3,7 +3,6 @@ pub mod Lists
 pub mod Marks
 pub mod WalkLemmas
 pub mod Ways
-mod ReachMarks
 mod ReachWays
 mod Counting
 pub mod Ends

@@ -5,7 +5,7 @@ use Rattle.std.specs.declared.vec.Vec.{Vec}
 use Rattle.cx_graphs.specs.Graphs.{In, edges_of, targets_of, Marked, Spread}
 use Rattle.cx_graphs.specs.Ways.{Targets, Way, edge, further, Comes}
 use Rattle.cx_graphs.specs.Reach.{IsUnderWay}
-use Rattle.cx_graphs.proofs.ReachMarks.{in_left, in_right, in_either}
+use Rattle.cx_graphs.proofs.Marks.{in_left, in_right, in_either}
 
 module _ (targets : Targets) where
   then_edge : (m n k : ℕ) → Way targets m n → In (targets n) k → Way targets m k

@@ -1,6 +1,6 @@
 use Rattle.std.proofs.Common.{Bool, Some, slice_get, slice_set, true, ap, ◌∙◌, sym, subst, ◌∷◌, []}
 use Rattle.cx_graphs.specs.Graphs.{Spread}
-use Rattle.cx_graphs.proofs.ReachMarks.{marked_before, marked_now}
+use Rattle.cx_graphs.proofs.Marks.{marked_before, marked_now}
 use Rattle.cx_graphs.proofs.searching.mark.Goals as goal
 
 pub returns-in_ok-push : goal.returns-in_ok-push

@@ -1,6 +1,6 @@
 use Rattle.std.proofs.Common.{rules, ◌<◌, ◌∷◌, [], get_or, take, sym, subst}
 use Rattle.cx_graphs.specs.Graphs.{Spread}
-use Rattle.cx_graphs.proofs.ReachMarks.{in_at, marked_more, take_more}
+use Rattle.cx_graphs.proofs.Marks.{in_at, marked_more, take_more}
 use Rattle.cx_graphs.proofs.searching.mark_all.Goals as goal
 
 pub mark-requires : goal.mark-requires

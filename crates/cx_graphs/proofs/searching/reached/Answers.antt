@@ -2,7 +2,7 @@ use Rattle.std.proofs.Common.{◌<◌, length, sym, subst}
 use Rattle.cx_graphs.specs.Graphs.{edges_of, targets_of}
 use Rattle.cx_graphs.specs.Ways.{Targets, both}
 use Rattle.cx_graphs.specs.Reach.{IsUnderWay}
-use Rattle.cx_graphs.proofs.ReachMarks.{marked_more}
+use Rattle.cx_graphs.proofs.Marks.{marked_more}
 use Rattle.cx_graphs.proofs.ReachWays.{goes_on, ends, waits_within}
 use Rattle.cx_graphs.proofs.searching.reached.Goals as goal
 
