@@ -7,7 +7,8 @@ use Rattle.cx_graphs.specs.declared.owners.Owners.TheVariants.{Nobody, Only}
 use Rattle.cx_graphs.specs.Owners.{Covers, Sound, owners_at}
 use Rattle.cx_graphs.specs.Tallies.{IsClear, IsKept, Starts, Tallies, Added}
 use Rattle.cx_graphs.specs.Spreads.{IsBegun}
-use Rattle.cx_graphs.proofs.Members.{in_left, in_right, in_either, past_the_end, same_or_not}
+use Rattle.cx_graphs.proofs.Members.{past_the_end, same_or_not}
+use Rattle.cx_graphs.proofs.Marks.{in_left, in_right, in_either}
 use Rattle.cx_graphs.proofs.OwnerLemmas.{sound_joined}
 
 pub all_nobody : (count n : ℕ) → owners_at (replicate count Nobody) n ≡ Nobody

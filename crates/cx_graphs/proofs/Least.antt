@@ -4,7 +4,7 @@ use Rattle.cx_graphs.specs.Graphs.{In}
 use Rattle.cx_graphs.specs.declared.owners.Owners.{Owners}
 use Rattle.cx_graphs.specs.declared.owners.Owners.TheVariants.{Nobody, Only, Several}
 use Rattle.cx_graphs.specs.Owners.{owners_at, IsSeveral, IsLeast, or_lesser, if_several, lesser}
-use Rattle.cx_graphs.proofs.Members.{in_left, in_right, in_either}
+use Rattle.cx_graphs.proofs.Marks.{in_left, in_right, in_either}
 
 module _ (owners : List Owners) (among : List ℕ) (node : ℕ) where
   abbrev more : List ℕ

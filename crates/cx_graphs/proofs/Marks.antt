@@ -3,18 +3,7 @@ use Rattle.std.proofs.Common.{◌≡◌, ℕ, zero, suc, ◌+◌, ◌<◌, Bool,
 use Rattle.std.proofs.lemmas.List.{length-set, length-append}
 use Rattle.std.proofs.Math.Seq.{take-suc}
 use Rattle.cx_graphs.specs.Graphs.{In, Marked, Spread, unmarked}
-
-marked_here : (ms : List Bool) (i : ℕ) → i < length ms → Marked (slice_set ms i true) i
-marked_here [] i h = absurd (omega (arith, h))
-marked_here (m ∷ ms) zero h = refl
-marked_here (m ∷ ms) (suc i) h = marked_here ms i (omega (arith, h))
-
-marked_still : (ms : List Bool) (i n : ℕ) → Marked ms n → Marked (slice_set ms i true) n
-marked_still [] i n h = h
-marked_still (m ∷ ms) zero zero h = refl
-marked_still (m ∷ ms) zero (suc n) h = h
-marked_still (m ∷ ms) (suc i) zero h = h
-marked_still (m ∷ ms) (suc i) (suc n) h = marked_still ms i n h
+use Rattle.cx_graphs.proofs.Takes.{marked_here, marked_still, fewer}
 
 marked_from : (ms : List Bool) (i n : ℕ) → Marked (slice_set ms i true) n → Marked ms n ⊎ (i ≡ n)
 marked_from [] i n h = inl h
@@ -22,16 +11,6 @@ marked_from (m ∷ ms) zero zero h = inr refl
 marked_from (m ∷ ms) zero (suc n) h = inl h
 marked_from (m ∷ ms) (suc i) zero h = inl h
 marked_from (m ∷ ms) (suc i) (suc n) h = ⊎_elim (λ k. inl k) (λ e. inr (ap (λ x. suc x) e)) (marked_from ms i n h)
-
-fewer : (ms : List Bool) (i : ℕ) → slice_get ms i ≡ Some false → unmarked ms ≡ 1 + unmarked (slice_set ms i true)
-fewer [] i h = absurd (cc)
-fewer (true ∷ ms) zero h = absurd (cc)
-fewer (false ∷ ms) zero h = let u = unmarked ms in omega arith
-fewer (m ∷ ms) (suc i) h = count m (fewer ms i h)
-  where
-    count : (b : Bool) → unmarked ms ≡ 1 + unmarked (slice_set ms i true) → unmarked (b ∷ ms) ≡ 1 + unmarked (b ∷ slice_set ms i true)
-    count true e = omega (arith, e)
-    count false e = omega (arith, e)
 
 pub in_left : (xs ys : List ℕ) (n : ℕ) → In xs n → In (xs ++ ys) n
 in_left [] ys n i = absurd i

@@ -6,6 +6,7 @@ use Rattle.cx_graphs.specs.Graphs.{In, edges_of, targets_of, Marked, Spread}
 use Rattle.cx_graphs.specs.Ways.{Targets, Way, edge, further, Comes}
 use Rattle.cx_graphs.specs.Reach.{IsUnderWay}
 use Rattle.cx_graphs.proofs.Marks.{in_left, in_right, in_either}
+use Rattle.cx_graphs.proofs.Members.{targets_are}
 
 module _ (targets : Targets) where
   then_edge : (m n k : ℕ) → Way targets m n → In (targets n) k → Way targets m k
@@ -71,8 +72,3 @@ pub no_mark : (count n : ℕ) → Marked (replicate count false) n → ⊥
 no_mark zero n h = absurd (cc)
 no_mark (suc count) zero h = absurd (cc)
 no_mark (suc count) (suc n) h = no_mark count n h
-
-pub targets_are : {A : Type 0} (lists : List (Vec ℕ A)) (node : ℕ) (list : Vec ℕ A) → node < length lists → list ≡ get_or lists node list → targets_of (edges_of lists) node ≡ list.items
-targets_are [] node list h e = absurd (omega (arith, h))
-targets_are (x ∷ lists) zero list h e = ap (λ l. l.items) (sym e)
-targets_are (x ∷ lists) (suc node) list h e = targets_are lists node list (omega (arith, h)) e

@@ -5,7 +5,7 @@ use Rattle.cx_graphs.specs.declared.owners.Owners.{Owners}
 use Rattle.cx_graphs.specs.Owners.{Covers, Sound, owners_at}
 use Rattle.cx_graphs.specs.Tallies.{Starts, Tallies, Added, starts_of}
 use Rattle.cx_graphs.specs.Spreads.{IsShared}
-use Rattle.cx_graphs.proofs.Members.{in_left, in_right, in_either}
+use Rattle.cx_graphs.proofs.Marks.{in_left, in_right, in_either}
 use Rattle.cx_graphs.proofs.OwnerLemmas.{sound_joined, sound_wider}
 use Rattle.cx_graphs.proofs.Beginnings.{kept_added, some_added}
 

@@ -6,7 +6,7 @@ use Rattle.cx_graphs.specs.declared.owners.Owners.{Owners}
 use Rattle.cx_graphs.specs.Owners.{Covers, Sound, owners_at}
 use Rattle.cx_graphs.specs.Tallies.{IsKept, Starts, Reaches, Tallies, Added}
 use Rattle.cx_graphs.specs.Spreads.{IsSpreading}
-use Rattle.cx_graphs.proofs.Members.{in_left, in_right, in_at}
+use Rattle.cx_graphs.proofs.Marks.{in_left, in_right, in_at}
 use Rattle.cx_graphs.proofs.OwnerLemmas.{sound_joined, sound_wider}
 use Rattle.cx_graphs.proofs.Beginnings.{kept_added, some_added}
 

@@ -5,7 +5,8 @@ use Rattle.cx_graphs.specs.declared.owners.Owners.{Owners}
 use Rattle.cx_graphs.specs.declared.owners.Owners.TheVariants.{Nobody}
 use Rattle.cx_graphs.specs.Owners.{Covers, joined, owners_at}
 use Rattle.cx_graphs.specs.Tallies.{Added}
-use Rattle.cx_graphs.proofs.Members.{in_left, in_right, in_either, same_or_not}
+use Rattle.cx_graphs.proofs.Members.{same_or_not}
+use Rattle.cx_graphs.proofs.Marks.{in_left, in_right, in_either}
 use Rattle.cx_graphs.proofs.OwnerLemmas.{covers_left, covers_right, joined_again, less_room, some_joined, rooms_less}
 
 pub nothing_added : (owners : List Owners) (touched : List ℕ) (more : Owners) → Added owners touched [] more owners touched

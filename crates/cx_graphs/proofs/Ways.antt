@@ -5,6 +5,8 @@ use Rattle.std.specs.declared.vec.Vec.{Vec}
 use Rattle.cx_graphs.specs.Graphs.{In, Edges, edges_of, targets_of, IsReached, at_start, by_edge, Marked, Spread}
 use Rattle.cx_graphs.specs.Search.{IsUnderWay}
 use Rattle.cx_graphs.proofs.Marks.{in_left, in_right, in_either}
+use Rattle.cx_graphs.proofs.Members.{targets_are}
+use Rattle.cx_graphs.proofs.ReachWays.{no_mark}
 
 pub begins : (g : Edges) (starts : List ℕ) (marks : List Bool) (waiting : List ℕ) (none : List Bool) → length none ≡ length g → ((n : ℕ) → Marked none n → ⊥)
     → Spread none [] starts marks waiting → IsUnderWay g starts marks waiting
@@ -44,17 +46,7 @@ pub ends : (g : Edges) (starts : List ℕ) (marks : List Bool) → IsUnderWay g 
 ends g starts marks way n (at_start i) = way.begun n i
 ends g starts marks way n (by_edge m r i) = ⊎_elim (λ w. absurd w) (λ f. f n i) (way.gone m (ends g starts marks way m r))
 
-pub no_mark : (count n : ℕ) → Marked (replicate count false) n → ⊥
-no_mark zero n h = absurd (cc)
-no_mark (suc count) zero h = absurd (cc)
-no_mark (suc count) (suc n) h = no_mark count n h
-
 -- what waits is a node
 pub waits_within : (g : Edges) (starts : List ℕ) (marks : List Bool) (waiting rest : List ℕ) (node : ℕ) → waiting ≡ rest ++ node ∷ [] → IsUnderWay g starts marks waiting → node < length g
 waits_within g starts marks waiting rest node e way =
     subst (λ n. node < n) way.same_length (slice_get_within marks node true (way.waits node (subst (λ l. In l node) (sym e) (in_right rest (node ∷ []) node (inl refl)))))
-
-pub targets_are : {A : Type 0} (lists : List (Vec ℕ A)) (node : ℕ) (list : Vec ℕ A) → node < length lists → list ≡ get_or lists node list → targets_of (edges_of lists) node ≡ list.items
-targets_are [] node list h e = absurd (omega (arith, h))
-targets_are (x ∷ lists) zero list h e = ap (λ l. l.items) (sym e)
-targets_are (x ∷ lists) (suc node) list h e = targets_are lists node list (omega (arith, h)) e

@@ -1,6 +1,6 @@
 use Rattle.std.proofs.Common.{refl, slice_set}
 use Rattle.cx_graphs.proofs.Additions.{edge_added}
-use Rattle.cx_graphs.proofs.Ways.{targets_are}
+use Rattle.cx_graphs.proofs.Members.{targets_are}
 use Rattle.cx_graphs.proofs.adding.add_edge.Goals as goal
 
 pub returns : goal.returns

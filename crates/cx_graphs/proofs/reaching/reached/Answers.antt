@@ -2,7 +2,9 @@ use Rattle.std.proofs.Common.{◌≡◌, ◌<◌, length, sym, subst, ◌∙◌}
 use Rattle.std.proofs.lemmas.List.{length-map}
 use Rattle.cx_graphs.specs.Graphs.{In, Marked, Spread, edges_of, targets_of}
 use Rattle.cx_graphs.specs.Search.{IsUnderWay}
-use Rattle.cx_graphs.proofs.Ways.{begins, goes_on, ends, no_mark, waits_within, targets_are}
+use Rattle.cx_graphs.proofs.Ways.{begins, goes_on, ends, waits_within}
+use Rattle.cx_graphs.proofs.ReachWays.{no_mark}
+use Rattle.cx_graphs.proofs.Members.{targets_are}
 use Rattle.cx_graphs.proofs.reaching.reached.Goals as goal
 
 pub loop-node-init : goal.loop-node-init

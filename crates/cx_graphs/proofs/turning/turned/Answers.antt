@@ -2,7 +2,7 @@ use Rattle.std.proofs.Common.{rules, ◌≡◌, ◌<◌, length, sym, ◌∙◌,
 use Rattle.std.proofs.lemmas.List.{length-map}
 use Rattle.cx_graphs.specs.Graphs.{In, edges_of, targets_of}
 use Rattle.cx_graphs.specs.Additions.{Adds, IntoNode, IsBackOfFirst}
-use Rattle.cx_graphs.proofs.Ways.{targets_are}
+use Rattle.cx_graphs.proofs.Members.{targets_are}
 use Rattle.cx_graphs.proofs.Additions.{none_back, more_back, all_back, same_nodes}
 use Rattle.cx_graphs.proofs.turning.turned.Goals as goal
 

@@ -1,5 +1,5 @@
 use Rattle.std.proofs.Common.{sym, ◌∙◌, arith}
-use Rattle.cx_graphs.proofs.Ways.{targets_are}
+use Rattle.cx_graphs.proofs.Members.{targets_are}
 use Rattle.cx_graphs.proofs.WalkLemmas.{targets_gone}
 use Rattle.cx_graphs.proofs.walking.edges.Goals as goal
 

@@ -1,6 +1,6 @@
 use Rattle.std.proofs.Common.{rules, ◌<◌, ◌∷◌, [], get_or, take, sym, subst}
 use Rattle.cx_graphs.specs.Tallies.{Added}
-use Rattle.cx_graphs.proofs.Members.{in_at, take_more}
+use Rattle.cx_graphs.proofs.Marks.{in_at, take_more}
 use Rattle.cx_graphs.proofs.TallyAdditions.{added_more}
 use Rattle.cx_graphs.proofs.tally.Tally.add_all.Goals as goal
 

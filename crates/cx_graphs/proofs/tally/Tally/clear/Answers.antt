@@ -2,7 +2,7 @@ use Rattle.std.proofs.Common.{arith, ◌<◌, ◌∷◌, [], length, sym, subst,
 use Rattle.std.proofs.lemmas.List.{length-set}
 use Rattle.cx_graphs.specs.declared.owners.Owners.TheVariants.{Nobody}
 use Rattle.cx_graphs.specs.Graphs.{In}
-use Rattle.cx_graphs.proofs.Members.{in_right}
+use Rattle.cx_graphs.proofs.Marks.{in_right}
 use Rattle.cx_graphs.proofs.Beginnings.{kept_without, cleared}
 use Rattle.cx_graphs.proofs.tally.Tally.clear.Goals as goal
 

@@ -5,7 +5,8 @@ use Rattle.cx_graphs.specs.declared.owners.Owners.TheVariants.{Nobody}
 use Rattle.cx_graphs.specs.Owners.{owners_at}
 use Rattle.cx_graphs.specs.Tallies.{Added}
 use Rattle.cx_graphs.specs.Spreads.{IsShared}
-use Rattle.cx_graphs.proofs.Members.{take_more, targets_are}
+use Rattle.cx_graphs.proofs.Members.{targets_are}
+use Rattle.cx_graphs.proofs.Marks.{take_more}
 use Rattle.cx_graphs.proofs.Spreading.{next_within}
 use Rattle.cx_graphs.proofs.Sharing.{shares, shares_more, shared}
 use Rattle.cx_graphs.proofs.tally.Tally.tally_groups.Goals as goal
