@@ -138,7 +138,7 @@ pub record Drives (list : List PlainAssign) (p q : PortRef) : Type 0 where
   pub target : assign.target ≡ p
   pub names : AssignNames assign q
 
-none_some : (n : ℕ) → None ≡ Some n → ⊥
+pub none_some : (n : ℕ) → None ≡ Some n → ⊥
 none_some n e = cc
 
 some_same : (m n : ℕ) → Some m ≡ Some n → m ≡ n

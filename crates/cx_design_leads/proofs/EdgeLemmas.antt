@@ -29,7 +29,7 @@ use Rattle.cx_design_leads.specs.Nodes.{node_of, node_count, cell_count}
 use Rattle.cx_design_leads.specs.Edges.{Between, HasEdges, IsSpread, LeadsInGroup}
 use Rattle.cx_design_leads.specs.Links.{driven_node, is_combinational, ToPort, ToPorts, ToNamed, OfAssign, OfAssigns, ToInputs, OfPort, OfPorts, OfCell, OfCells}
 use Rattle.cx_design_leads.proofs.NodeLemmas.{cell_there}
-use Rattle.cx_design_leads.proofs.DriverLemmas.{bare_drives, drives_bare, leads_either, either_leads, row_leads}
+use Rattle.cx_design_leads.proofs.DriverLemmas.{bare_drives, drives_bare, leads_either, either_leads, row_leads, none_some}
 
 in_either : {A : Type 0} (xs ys : List A) (x : A) → In (xs ++ ys) x → In xs x ⊎ In ys x
 in_either [] ys x i = inr i
@@ -282,10 +282,6 @@ spread_less count g after targets rest t e long fewer s = record {
       let r = fewer m n j in
       ⊎_elim (λ k. k) (λ same. absurd (r.1 (sym same))) (in_last rest t m (subst (λ l. graphs.In l m) e (s.from_targets m n r.0)));
 }
-
--- THE EDGES of the continuous assignments and the cells, over a bare graph
-none_some : (n : ℕ) → None ≡ Some n → ⊥
-none_some n e = cc
 
 pub driven_is : (i : Instance) (p : PortRef) (m : ℕ) → driven_node i p ≡ Some m → (is_source_only i p ≡ false) × (node_of i p ≡ Some m)
 driven_is i p m e = choice (is_source_only i p) refl e

@@ -71,7 +71,7 @@ guarded : (b : Bool) (o : Option ℕ) (n : ℕ) → (if b then o else None) ≡ 
 guarded true o n e = e
 guarded false o n e = absurd (cc)
 
-below_of : (list : List PortRow) (n : ℕ) (x : PortRow) → slice_get list n ≡ Some x → n < length list
+pub below_of : (list : List PortRow) (n : ℕ) (x : PortRow) → slice_get list n ≡ Some x → n < length list
 below_of [] n x e = absurd (cc)
 below_of (y ∷ list) zero x e = omega arith
 below_of (y ∷ list) (suc n) x e = let h : n < length list = below_of list n x e in omega arith

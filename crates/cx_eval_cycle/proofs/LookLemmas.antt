@@ -17,7 +17,7 @@ use Rattle.cx_meaning.specs.Cycles.{Outcome, Next, Stops, kind_of, enables, look
 use Rattle.cx_eval_drives.specs.Gathers.{gather_all, wanted_at}
 use Rattle.cx_eval_drives.proofs.GatherLemmas.{counts}
 use Rattle.cx_eval_cycle.specs.Stops.{AreMarked}
-use Rattle.cx_eval_cycle.proofs.DemandLemmas.{AgreesWhereEnabling}
+use Rattle.cx_eval_cycle.proofs.DemandLemmas.{AgreesWhereEnabling, below_of}
 
 -- MARKS
 pub marked_next : (test : ℕ → Bool) (wanted : List Bool) (port : ℕ) (b : Bool) → port < length wanted → b ≡ test port → ((p : ℕ) → p < port → get_or wanted p false ≡ test p)
@@ -90,11 +90,6 @@ given_stands look wanted p (port ∷ list) xs is (suc k) lt w =
     let within : k < length list = (let m : suc k < suc (length list) = lt in omega arith) in
     let t = given_stands look wanted (suc p) list r.1 r.2 k within (ap wanted s ∙ w) in
     record { value = t.value; seen = ap look (sym s) ∙ t.seen; at = ap (λ ys. get_or ys (suc k) None) r.3 ∙ t.at }
-
-below_of : (list : List PortRow) (n : ℕ) (x : PortRow) → slice_get list n ≡ Some x → n < length list
-below_of [] n x e = absurd (cc)
-below_of (y ∷ list) zero x e = omega arith
-below_of (y ∷ list) (suc n) x e = let h : n < length list = below_of list n x e in omega arith
 
 some_there : (o : Option BitVector) (b : BitVector) → o ≡ Some b → IsSome o
 some_there (Some v) b e = refl

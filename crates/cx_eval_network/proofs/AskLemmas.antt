@@ -45,12 +45,10 @@ use Rattle.cx_eval_network.specs.Places.{HoldsCells, IsPlace, active_of, held_by
 use Rattle.cx_eval_network.specs.Asked.{CanAsk, active_in, child_in, child_shown, held_in}
 use Rattle.cx_eval_network.specs.Askings.{IsFound, IsPlaceOf, asked_of}
 use Rattle.cx_eval_network.specs.declared.asking.Asking.{Asking}
+use Rattle.cx_eval_network.proofs.LeadLemmas.{lt_true}
 
 eq_true : (m n : ℕ) → nat_eq m n ≡ true → m ≡ n
 eq_true m n e = grind arith
-
-pub lt_true : (m n : ℕ) → m < n → nat_lt m n ≡ true
-lt_true m n h = grind arith
 
 pub active_there : (a : Asked) (active : Active) (k : ℕ) → a.active ≡ plain_active (networks.instance_of a a.instance) active → (i : Instance) → i ≡ networks.instance_of a k
     → plain_active i (active_in a.instance active k) ≡ active_at a k

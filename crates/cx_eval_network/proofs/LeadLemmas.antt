@@ -21,7 +21,7 @@ use Rattle.cx_design_parts.specs.Outputs.{ReadsFirst, read_count}
 use Rattle.cx_design_parts.proofs.OutputLemmas.{row_of-reads_first}
 use Rattle.cx_eval_network.specs.LeadPorts.{named_by, side_leads, part_leads, cell_leads, lead_ports}
 
-in_either : {A : Type 0} (xs ys : List A) (x : A) → In (xs ++ ys) x → In xs x ⊎ In ys x
+pub in_either : {A : Type 0} (xs ys : List A) (x : A) → In (xs ++ ys) x → In xs x ⊎ In ys x
 in_either [] ys x i = inr i
 in_either (y ∷ xs) ys x (inl e) = inl (inl e)
 in_either (y ∷ xs) ys x (inr i) = ⊎_elim (λ p. inl (inr p)) (λ q. inr q) (in_either xs ys x i)
@@ -112,10 +112,10 @@ in_numbered c zero q i = absurd i
 in_numbered c (suc n) q (inl e) = record { number = n; within = omega arith; is = e }
 in_numbered c (suc n) q (inr i) = let r = in_numbered c n q i in record { number = r.number; within = let lt = r.within in omega (arith, lt); is = r.is }
 
-lt_true : (m n : ℕ) → m < n → nat_lt m n ≡ true
+pub lt_true : (m n : ℕ) → m < n → nat_lt m n ≡ true
 lt_true m n h = grind arith
 
-true_lt : (m n : ℕ) → nat_lt m n ≡ true → m < n
+pub true_lt : (m n : ℕ) → nat_lt m n ≡ true → m < n
 true_lt m n e = grind arith
 
 module _ (part : PlainComponent) (act : Active) (c p : ℕ) (q : PortRef) where

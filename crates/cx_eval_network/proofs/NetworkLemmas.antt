@@ -19,12 +19,7 @@ use Rattle.cx_eval_demand.specs.Ports.{PortNodes, LeadOn}
 use Rattle.cx_eval_demand.proofs.GroundLemmas.{grounded}
 use Rattle.cx_eval_network.specs.LeadPorts.{lead_ports}
 use Rattle.cx_eval_network.specs.Networks.{Asked, path_at, instance_of, active_at, nodes_of, output_node, child_node, below_nodes, if_asked, asked_port, leads_of, leads_at, IsNetwork}
-use Rattle.cx_eval_network.proofs.LeadLemmas.{lead_ports_are}
-
-in_either : {A : Type 0} (xs ys : List A) (x : A) → In (xs ++ ys) x → In xs x ⊎ In ys x
-in_either [] ys x i = inr i
-in_either (y ∷ xs) ys x (inl e) = inl (inl e)
-in_either (y ∷ xs) ys x (inr i) = ⊎_elim (λ p. inl (inr p)) (λ q. inr q) (in_either xs ys x i)
+use Rattle.cx_eval_network.proofs.LeadLemmas.{lead_ports_are, in_either}
 
 listed : {A : Type 0} (o : Option A) (x : A) → In (option_to_list o) x → o ≡ Some x
 listed None x i = absurd i

@@ -41,8 +41,9 @@ use Rattle.cx_eval_network.proofs.FoundLemmas.{found_is}
 use Rattle.cx_eval_network.proofs.NodeLemmas.{nodes_apart, nodes_within}
 use Rattle.cx_eval_network.specs.LeadPorts.{lead_ports}
 use Rattle.cx_eval_network.specs.Networks.{Asked, path_at, instance_of, active_at, held_at, seen_at, nodes_of, output_node, child_node, below_nodes, if_asked, asked_port, value_of, value_at, leads_of, leads_at, shown, node_shown, look_at, below_at, IsNetwork}
-use Rattle.cx_eval_network.proofs.LeadLemmas.{AllRead, all_read, assign_named, lead_ports_are}
+use Rattle.cx_eval_network.proofs.LeadLemmas.{AllRead, all_read, assign_named, lead_ports_are, true_lt}
 use Rattle.cx_eval_network.proofs.NetworkLemmas.{at_is, child_later, number_at, same_instance}
+use Rattle.cx_eval_network.proofs.OutputLemmas.{few_read}
 
 -- WHAT IS LED TO is a literal, or has a node
 pub record IsLiteral (q : PortRef) : Type 0 where
@@ -61,17 +62,6 @@ there_node i (ports.Input n) there = inr (has_node i (ports.Input n) there (λ w
 there_node i (ports.Output n) there = inr (has_node i (ports.Output n) there (λ w v e. cc))
 there_node i (ports.Done g) there = inr (has_node i (ports.Done g) there (λ w v e. cc))
 there_node i (ports.Literal w v) there = inl (record { width = w; value = v; is = refl })
-
-few_read : (list : List PortRow) → read_count list ≤ length list
-few_read [] = omega arith
-few_read (port ∷ list) = choice (is_read_port port) (few_read list)
-  where
-    choice : (b : Bool) → read_count list ≤ length list → (if b then suc (read_count list) else 0) ≤ suc (length list)
-    choice true h = omega (arith, h)
-    choice false h = omega arith
-
-true_lt : (m n : ℕ) → nat_lt m n ≡ true → m < n
-true_lt m n e = grind arith
 
 read_node : (i : Instance) (p q : PortRef) → AllRead (cells_of i) → ReadsInRow i p q → (m : ℕ) × (part.node_of i q ≡ Some m)
 read_node i p q read r =

@@ -16,7 +16,7 @@ AlikeTurn set Ends x = x ≡ Ends
 AlikeTurn set (Goes a) x = (b : State) × (x ≡ Goes b) × Agree set a b
 AlikeTurn set (Faults f) x = x ≡ Faults f
 
-abbrev a_fault : Fault → ℕ → Answer State Fault
+abbrev pub a_fault : Fault → ℕ → Answer State Fault
 a_fault f t = answers.Fault f t
 
 module _ (set : ℕ → Type 0) where

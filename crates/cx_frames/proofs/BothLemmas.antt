@@ -8,9 +8,7 @@ use Rattle.cx_meaning.specs.Answers as answers
 use Rattle.cx_meaning.specs.Budgets.{Beyond, Grows}
 use Rattle.cx_frames.specs.Agreeing.{Agree, Alike}
 use Rattle.cx_frames.specs.Ran.{Outcome, Ended, Faulted, Unfinished, AnswersAs, limit, joined}
-
-abbrev a_fault : Fault → ℕ → Answer State Fault
-a_fault f t = answers.Fault f t
+use Rattle.cx_frames.proofs.AlikeLemmas.{a_fault}
 
 -- of three faults the first of the least turn, however they are joined
 module _ (one two : State → State → State) where

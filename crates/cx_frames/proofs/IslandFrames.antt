@@ -19,10 +19,7 @@ use Rattle.cx_frames.proofs.AlikeLemmas.{Frames, AlikeTurn, idle_frames, turn_al
 use Rattle.cx_frames.proofs.ControlFrames.{Holds, left, right}
 use Rattle.cx_frames.proofs.RuleLemmas.{IsKept}
 use Rattle.cx_frames.proofs.SightFrames.{InFrame, IsThrough, IsAmong, cycle_alike}
-use Rattle.cx_frames.proofs.LeafFrames.{idle_agree, IsGood, bare_seen}
-
-none_some : (k : ℕ) → ◌≡◌ {A = Option ℕ} None (Some k) → ⊥
-none_some k e = cc
+use Rattle.cx_frames.proofs.LeafFrames.{idle_agree, IsGood, bare_seen, none_some}
 
 -- what is active is among the groups of the entries
 entries_among : (es : List Entry) → IsAmong (entries es) (map (λ e. e.group) es)

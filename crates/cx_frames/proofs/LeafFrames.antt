@@ -27,7 +27,7 @@ use Rattle.cx_frames.proofs.RuleLemmas.{IsKept}
 use Rattle.cx_frames.proofs.SightFrames.{InFrame, IsThrough, IsWithin, IsAmong, seen_alike, cycle_alike}
 use Rattle.cx_frames.proofs.CircleFrames.{capture_acyclic}
 
-none_some : (k : ℕ) → ◌≡◌ {A = Option ℕ} None (Some k) → ⊥
+pub none_some : (k : ℕ) → ◌≡◌ {A = Option ℕ} None (Some k) → ⊥
 none_some k e = cc
 
 some_inj : (a b : ℕ) → ◌≡◌ {A = Option ℕ} (Some a) (Some b) → a ≡ b

@@ -24,6 +24,7 @@ use Rattle.cx_rules.proofs.Finite.{in_left, in_right}
 use Rattle.cx_rules.proofs.ForeignLemmas.{sorted_among, owned_among, split, groups_among}
 use Rattle.cx_rules.proofs.CircleLemmas.{same_part, Reached, a_tree, no_tree, reached}
 use Rattle.cx_frames.proofs.StillLemmas.{IsFine, row_is_fine}
+use Rattle.cx_frames.proofs.EnableLemmas.{row_is}
 
 -- the number of a member of a list
 pub number_in : {A : Type 0} (xs : List A) (x : A) → In xs x → (n : ℕ) × (slice_get xs n ≡ Some x)
@@ -70,9 +71,6 @@ nothing_row row e = cc
 
 instance_row : (child : Instance) (row : Row) → OfInstance child ≡ OfRow row → ⊥
 instance_row child row e = cc
-
-row_is : (a b : Row) → OfRow a ≡ OfRow b → a ≡ b
-row_is a b e = cc
 
 fine_kind : (child : ℕ → Instance) (kind : PlainKind) (rest : Cells) → ((c : ℕ) (row : Row) → cell_at rest c ≡ OfRow row → IsFine row) → (c : ℕ) (row : Row) → cell_at (add_cell child kind rest) c ≡ OfRow row → IsFine row
 fine_kind child (OfPrimitive p) rest h zero row e = subst IsFine (row_is _ row e) (row_is_fine p)

@@ -34,7 +34,7 @@ within_later k n (End turns) le h = omega (arith, le, h)
 within_later k n (Fault fault turn) le h = omega (arith, le, h)
 within_later k n More le h = tt
 
-append_none : (path : Path) → path ++ [] ≡ path
+pub append_none : (path : Path) → path ++ [] ≡ path
 append_none [] = refl
 append_none (c ∷ path) = ap (λ p. c ∷ p) (append_none path)
 

@@ -22,12 +22,12 @@ use Rattle.cx_interp.specs.Turns.{IsBusy, AnswersIdle, Paused}
 use Rattle.cx_interp.specs.Islands.{CycleTaken, sampled_does}
 use Rattle.cx_interp.proofs.PathLemmas.{put_same}
 
-twice_later : {S F : Type 0} (k m : ℕ) (x : Answer S F) → after_turns k (after_turns m x) ≡ after_turns (k + m) x
+pub twice_later : {S F : Type 0} (k m : ℕ) (x : Answer S F) → after_turns k (after_turns m x) ≡ after_turns (k + m) x
 twice_later k m (End s t) = ap (λ j. End s j) (omega arith)
 twice_later k m (answers.Fault f t) = ap (λ j. answers.Fault f j) (omega arith)
 twice_later k m More = refl
 
-none_later : {S F : Type 0} (x : Answer S F) → after_turns 0 x ≡ x
+pub none_later : {S F : Type 0} (x : Answer S F) → after_turns 0 x ≡ x
 none_later (End s t) = ap (λ j. End s j) (omega arith)
 none_later (answers.Fault f t) = ap (λ j. answers.Fault f j) (omega arith)
 none_later More = refl

@@ -21,16 +21,7 @@ use Rattle.cx_interp.specs.Doings.{Doing, Driving, group_driving, turns_do}
 use Rattle.cx_interp.specs.Done.{Done, Leaves}
 use Rattle.cx_interp.specs.Turns.{IsBusy, rested, Taken, AnswersIdle, Pauses, Paused, Rested}
 use Rattle.cx_interp.proofs.PathLemmas.{under_put, put_put, put_same, settled_under}
-
-twice_later : {S F : Type 0} (k m : ℕ) (x : Answer S F) → after_turns k (after_turns m x) ≡ after_turns (k + m) x
-twice_later k m (End s t) = ap (λ j. End s j) (omega arith)
-twice_later k m (answers.Fault f t) = ap (λ j. answers.Fault f j) (omega arith)
-twice_later k m More = refl
-
-none_later : {S F : Type 0} (x : Answer S F) → after_turns 0 x ≡ x
-none_later (End s t) = ap (λ j. End s j) (omega arith)
-none_later (answers.Fault f t) = ap (λ j. answers.Fault f j) (omega arith)
-none_later More = refl
+use Rattle.cx_interp.proofs.IslandLoop.{twice_later, none_later}
 
 -- the state after so many turns that went on, and what comes of the rest
 pub record Going (d : PlainDesign) (old rows : List PlainInstance) (n g budget taken : ℕ) (path : Path) (s : State) : Type 0 where
@@ -148,7 +139,7 @@ module _ (d : PlainDesign) (n g : ℕ) where
   }
 
 -- THE IDLE EDGES of the driven cells are those of an idle turn
-top_idle : (i : Instance) (d : CellState) → idle_at i [] d ≡ d
+pub top_idle : (i : Instance) (d : CellState) → idle_at i [] d ≡ d
 top_idle (Node part cells) d = refl
 
 rested_idle : (i : Instance) (listed driven : Set) (s now : State) → ((c : ℕ) → listed c ≡ false → driven c ≡ false) → IsSettled i s → IsBusy driven s now → (p : Path) → rested listed i now p ≡ idle i now p

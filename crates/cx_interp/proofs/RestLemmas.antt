@@ -14,6 +14,7 @@ use Rattle.cx_eval_cycle.specs.Passes.{listed_in, IsAscending}
 use Rattle.cx_state.specs.States.{PlainInstance, HoldsKind, HoldCells}
 use Rattle.cx_interp.specs.Turns.{rested}
 use Rattle.cx_interp.specs.Rests.{kind_rested, rested_cells}
+use Rattle.cx_interp.proofs.LoopLemmas.{top_idle}
 
 -- LISTED cells, one more
 pub listed_more : (xs : List ℕ) (k m : ℕ) → slice_get xs k ≡ Some m → (c : ℕ) → listed_in (take (suc k) xs) c ≡ (listed_in (take k xs) c || nat_eq m c)
@@ -74,9 +75,6 @@ kind_at xs c d = (get_or xs c d).kind
 -- WHAT A CELL HOLDS behind its idle edge is that of the state
 abbrev choose : Bool → CellState → CellState → CellState
 choose b x y = if b then x else y
-
-top_idle : (i : Instance) (d : CellState) → idle_at i [] d ≡ d
-top_idle (Node part cells) d = refl
 
 one_kind : (b : Bool) (child : ℕ → Instance) (kind : PlainKind) (rest : Cells) (h : Option CellState) (d held : CellState) → ((h0 : CellState) → h ≡ Some h0 → d ≡ h0)
     → (if b then kind_rested kind h else h) ≡ Some held → choose b (idle_below (add_cell child kind rest) zero [] d) d ≡ held

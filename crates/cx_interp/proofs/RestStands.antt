@@ -20,15 +20,8 @@ use Rattle.cx_design.specs.declared.components.Component.{Component}
 use Rattle.cx_design.specs.PlainForms.{plain_cell, plain_component, plain_parts}
 use Rattle.cx_design.specs.declared.cells.Cell.{Cell}
 use Rattle.cx_state.specs.declared.states.InstanceState.{InstanceState}
-
-append_none : (path : Path) → path ++ [] ≡ path
-append_none [] = refl
-append_none (c ∷ path) = ap (λ p. c ∷ p) (append_none path)
-
-below_length : {A : Type 0} (xs : List A) (k : ℕ) (x : A) → slice_get xs k ≡ Some x → k < length xs
-below_length [] k x e = absurd (let f : None ≡ Some x = e in cc)
-below_length (y ∷ ys) zero x e = omega arith
-below_length (y ∷ ys) (suc k) x e = let h : k < length ys = below_length ys k x e in omega (arith, h)
+use Rattle.cx_interp.proofs.DoneLemmas.{append_none}
+use Rattle.cx_interp.proofs.StandLemmas.{below_length}
 
 same_or : (m n : ℕ) → (m ≡ n) ⊎ (m ≢ n)
 same_or m n = ⊎_elim (λ (lt : m < n). inr (λ e. (let f : m ≡ n = e in omega arith))) (λ (le : n ≤ m). ⊎_elim (λ (lt : n < m). inr (λ e. (let f : m ≡ n = e in omega arith))) (λ (ge : m ≤ n). inl (omega arith)) (cases_lt n m)) (cases_lt m n)

@@ -17,10 +17,7 @@ use Rattle.cx_state.specs.Tables.{IsNumber}
 use Rattle.cx_state.specs.States.{PlainInstance, inputs_held, StandsFor, under_path}
 use Rattle.cx_eval.specs.Evaluated.{IsSeen, fault_along}
 use Rattle.cx_interp.specs.Tests.{TellsTest, TellsTruth, Tested, comb_active}
-
-append_none : (path : Path) → path ++ [] ≡ path
-append_none [] = refl
-append_none (c ∷ path) = ap (λ p. c ∷ p) (append_none path)
+use Rattle.cx_interp.proofs.DoneLemmas.{append_none}
 
 -- a fault of a port of the instance itself
 pub tells_own : (d : PlainDesign) (n : ℕ) (path : Path) (kind : FaultKind) (port : PortRef) → IsNumber d n path → TellsFault (tree_of d) (fault_along path (fault_at kind port)) (record { kind = kind; instance = n; port = port })

@@ -19,7 +19,7 @@ out_part x n y m t l f (inr e) = inr (omega arith)
 both_nil : {A : Type 0} {xs ys : List A} → xs ≡ [] → ys ≡ [] → xs ++ ys ≡ []
 both_nil {A} {xs} {ys} e f = ap (λ z. z ++ ys) e ∙ f
 
-both_same : {A : Type 0} {xs us ys vs : List A} → xs ≡ us → ys ≡ vs → xs ++ ys ≡ us ++ vs
+pub both_same : {A : Type 0} {xs us ys vs : List A} → xs ≡ us → ys ≡ vs → xs ++ ys ≡ us ++ vs
 both_same {A} {xs} {us} {ys} {vs} e f = ap (λ z. z ++ ys) e ∙ ap (λ z. us ++ z) f
 
 -- what occurrences give in cycle t, one after the other: those that run in t, and whose samples hold, give what of_group and

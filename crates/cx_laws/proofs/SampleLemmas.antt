@@ -10,9 +10,7 @@ use Rattle.cx_meaning.specs.Sights.{Look}
 use Rattle.cx_meaning.specs.Islands.{History, length_of, and_now}
 use Rattle.cx_laws.specs.Positions.{form_at, statement_at, while_runs, parts_at, arms_at}
 use Rattle.cx_laws.specs.Samples.{Samples, form_ifs, ifs_of, ifs_in, says, begin, form_after, statement_after, while_after, parts_after, arms_after, form_by, statement_by, while_by, parts_by, arms_by, FormKept, StatementKept, PartsKept, ArmsKept, Every, samples_after, AreKept}
-
-both_same : {A : Type 0} {xs us ys vs : List A} → xs ≡ us → ys ≡ vs → xs ++ ys ≡ us ++ vs
-both_same {A} {xs} {us} {ys} {vs} e f = ap (λ z. z ++ ys) e ∙ ap (λ z. us ++ z) f
+use Rattle.cx_laws.proofs.PositionLemmas.{both_same}
 
 -- a choice by a test that is known on either side
 choose_lt : {A : Type 0} (j n : ℕ) (x y z : A) → (j < n → x ≡ z) → (n ≤ j → y ≡ z) → (if nat_lt j n then x else y) ≡ z

@@ -23,6 +23,7 @@ use Rattle.cx_rules.specs.Wellformed.{IsDesign, IsKind, IsThere, StandsIn, port_
 use Rattle.cx_rules.proofs.CircleLemmas.{same_part}
 use Rattle.cx_rules.proofs.ForeignLemmas.{sorted_among, owned_among, split, groups_among}
 use Rattle.cx_laws.proofs.RowWidths.{HasWidths, row_has}
+use Rattle.cx_laws.proofs.EdgeLemmas.{group_there}
 
 -- PORTS
 pub below_of : {A : Type 0} (list : List A) (n : ℕ) (x : A) → slice_get list n ≡ Some x → n < length list
@@ -122,10 +123,6 @@ some_number : {A : Type 0} (xs : List A) (x : A) → In xs x → (n : ℕ) × (s
 some_number [] x i = absurd i
 some_number (y ∷ ys) x (inl e) = (0, ap Some e)
 some_number (y ∷ ys) x (inr i) = let r = some_number ys x i in (suc r.0, r.1)
-
--- an assignment in source order stands in its owner
-group_there : (part : PlainComponent) (g : ℕ) (a : PlainAssign) → In (group_at part g).assigns a → g < length part.groups
-group_there part g a i = ⊎_elim (λ l. l) (λ l. let none : In no_group.assigns a = subst (λ x. In x.assigns a) (get_or_past part.groups g no_group l) i in absurd none) (cases_lt g (length part.groups))
 
 stands_in : (part : PlainComponent) (o : Owned) → In (source_order part) o → StandsIn part o.owner o.assign
 stands_in part o i =

@@ -38,7 +38,7 @@ done_or_output : (g n : ℕ) → ports.Done g ≡ ports.Output n → ⊥
 done_or_output g n e = absurd cc
 
 -- what a conjunction of ports looks at
-atoms : {A : Type 0} (f : A → PlacedPort) (xs : List A) → operands_in (guards_of (map (λ x. Atom (f x)) xs)) ≡ map f xs
+pub atoms : {A : Type 0} (f : A → PlacedPort) (xs : List A) → operands_in (guards_of (map (λ x. Atom (f x)) xs)) ≡ map f xs
 atoms f [] = refl
 atoms f (x ∷ xs) = ap (λ ps. f x ∷ ps) (atoms f xs)
 

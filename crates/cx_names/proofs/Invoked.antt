@@ -13,10 +13,7 @@ use Rattle.cx_numbering.specs.NameRules.{is_register_in}
 use Rattle.cx_names.proofs.Base.{in_map, flat_in, in_either}
 use Rattle.cx_names.proofs.Circles.{KeptCell}
 use Rattle.cx_names.proofs.Registers.{register_source}
-
-atoms : {A : Type 0} (f : A → PlacedPort) (xs : List A) → operands_in (guards_of (map (λ x. Atom (f x)) xs)) ≡ map f xs
-atoms f [] = refl
-atoms f (x ∷ xs) = ap (λ ps. f x ∷ ps) (atoms f xs)
+use Rattle.cx_names.proofs.InvokeGroups.{atoms}
 
 alone : (s p q : PlacedPort) → In (s ∷ []) p → In (s ∷ []) q → p.port ≡ q.port
 alone s p q (inl e) (inl f) = ap (λ (r : PlacedPort). r.port) (sym e ∙ f)

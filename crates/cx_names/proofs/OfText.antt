@@ -18,6 +18,7 @@ use Rattle.cx_names.proofs.Base.{in_left, in_right, in_either, in_map, flat_in}
 use Rattle.cx_names.proofs.Rising.{text_rises}
 use Rattle.cx_names.proofs.Spelled.{in_guard, in_guards, one_at_place}
 use Rattle.cx_names.proofs.Written.{in_maybe, in_assign, Assigns, Each, Wires, HasWires, written_in_text}
+use Rattle.cx_names.proofs.TargetLemmas.{free, owned, inside}
 
 each_in : {A : Type 0} (P : A → Type 0) (xs : List A) (x : A) → Each P xs → In xs x → P x
 each_in P [] x h i = absurd i
@@ -82,15 +83,6 @@ always_wired [] a h i = absurd i
 always_wired (ast.Group x ∷ wires) a h i = always_wired wires a h.1 i
 always_wired (ast.Assign x ∷ wires) a h (inl e) = subst Assigns e h.0
 always_wired (ast.Assign x ∷ wires) a h (inr i) = always_wired wires a h.1 i
-
-abbrev free : PlainAssign → Standing
-free a = record { group = None; assign = a }
-
-abbrev owned : PlainGroup → PlainAssign → Standing
-owned g a = record { group = Some g.name; assign = a }
-
-abbrev inside : PlainGroup → List Standing
-inside g = map (owned g) g.assigns
 
 pub in_group : (part : PlainComponent) (g : PlainGroup) (a : PlainAssign) → Each Wires part.wires → In (groups_in part.wires) g → In g.assigns a → Assigns a
 in_group part g a h i j = each_in Assigns g.assigns a (group_wired part.wires g h i) j

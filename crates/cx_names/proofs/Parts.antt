@@ -23,11 +23,7 @@ use Rattle.cx_names.proofs.Numbers.{or_0, number_is, part_found}
 use Rattle.cx_names.proofs.Primitives.{no_timer, nameable}
 use Rattle.cx_names.proofs.There.{of_component}
 use Rattle.cx_names.proofs.Circles.{KeptCell}
-use Rattle.cx_names.proofs.Invokes.{row_kept}
-
-and_parts : (a b : Bool) → (a && b) ≡ true → (a ≡ true) × (b ≡ true)
-and_parts true b h = (refl, h)
-and_parts false b h = absurd (true≢false (sym h))
+use Rattle.cx_names.proofs.Invokes.{row_kept, and_parts}
 
 -- PORTS of a signature
 signature_in : (list : List ast.PlainPort) (port : ast.PlainPort) → In (signature_ports list) port → In list port × (is_own_name port.name ≡ false)

@@ -13,7 +13,7 @@ use Rattle.cx_names_scopes.specs.Scopes.{at_number}
 use Rattle.cx_names_scopes.proofs.NameLemmas.{drop_found, number_from-start, number_within, numbered, part_at}
 use Rattle.cx_names.specs.Sites.{AddsNames, ArePortNumbers}
 
-abbrev texts : List PortRow → List (List ℕ)
+abbrev pub texts : List PortRow → List (List ℕ)
 texts ports = map (λ port. text_of port.name) ports
 
 -- the port of a number has the name, or has not

@@ -41,20 +41,20 @@ RefersTo f = (n : List ℕ) → is_literal (f n) ≡ false
 abbrev Assigns : PlainAssign → Type 0
 Assigns a = NoLiteral a.target
 
-abbrev AssignsWith : (List Attribute → PlainAssign) → Type 0
+abbrev pub AssignsWith : (List Attribute → PlainAssign) → Type 0
 AssignsWith f = (attrs : List Attribute) → Assigns (f attrs)
 
 abbrev Groups : PlainGroup → Type 0
 Groups g = All Assigns g.assigns
 
-abbrev GroupsWith : (List Attribute → PlainGroup) → Type 0
+abbrev pub GroupsWith : (List Attribute → PlainGroup) → Type 0
 GroupsWith f = (attrs : List Attribute) → Groups (f attrs)
 
 abbrev Wires : PlainWire → Type 0
 Wires (ast.Group g) = Groups g
 Wires (ast.Assign a) = Assigns a
 
-abbrev WiresWith : (List Attribute → PlainWire) → Type 0
+abbrev pub WiresWith : (List Attribute → PlainWire) → Type 0
 WiresWith f = (attrs : List Attribute) → Wires (f attrs)
 
 abbrev HasWires : PlainComponent → Type 0
@@ -194,13 +194,13 @@ always_wired (ast.Group x ∷ wires) a h i = always_wired wires a h.1 i
 always_wired (ast.Assign x ∷ wires) a h (inl e) = subst Assigns e h.0
 always_wired (ast.Assign x ∷ wires) a h (inr i) = always_wired wires a h.1 i
 
-abbrev free : PlainAssign → Standing
+abbrev pub free : PlainAssign → Standing
 free a = record { group = None; assign = a }
 
-abbrev owned : PlainGroup → PlainAssign → Standing
+abbrev pub owned : PlainGroup → PlainAssign → Standing
 owned g a = record { group = Some g.name; assign = a }
 
-abbrev inside : PlainGroup → List Standing
+abbrev pub inside : PlainGroup → List Standing
 inside g = map (owned g) g.assigns
 
 abbrev IsPort : Standing → Type 0

@@ -24,9 +24,9 @@ use Rattle.cx_race.specs.Footprints.{AreFootprints}
 use Rattle.cx_race.specs.declared.parts.Footprints.{Footprints}
 use Rattle.cx_race.proofs.FormLemmas.{visited_forms, enabled_by_forms, groups_by_forms, tests_by_forms}
 use Rattle.cx_race.proofs.CellLemmas.{cell_is, group_list}
-use Rattle.cx_race.proofs.LinkLemmas.{from_node}
+use Rattle.cx_race.proofs.ArmLemmas.{from_node}
 
-part_is : (d : PlainDesign) (n k : ℕ) → part_of (tree_within d n k) ≡ component_at d k
+pub part_is : (d : PlainDesign) (n k : ℕ) → part_of (tree_within d n k) ≡ component_at d k
 part_is d zero k = refl
 part_is d (suc n) k = refl
 

@@ -15,17 +15,7 @@ use Rattle.cx_design.specs.PlainForms.{plain_cell, plain_component}
 use Rattle.cx_design_parts.proofs.Lists.{in_left, in_right, in_either}
 use Rattle.cx_race.specs.Cells.{cell_in, target_in, named_in}
 use Rattle.cx_race.specs.Links.{HasLinks, Within, linked}
-
--- the two ways to say what stands in a list of numbers
-pub as_node : (ns : List ℕ) (n : ℕ) → In ns n → graphs.In ns n
-as_node [] n i = absurd i
-as_node (m ∷ ns) n (inl e) = inl e
-as_node (m ∷ ns) n (inr i) = inr (as_node ns n i)
-
-pub from_node : (ns : List ℕ) (n : ℕ) → graphs.In ns n → In ns n
-from_node [] n i = absurd i
-from_node (m ∷ ns) n (inl e) = inl e
-from_node (m ∷ ns) n (inr i) = inr (from_node ns n i)
+use Rattle.cx_race.proofs.ArmLemmas.{as_node, from_node}
 
 no_targets : (count c : ℕ) → targets_of (replicate count []) c ≡ []
 no_targets zero c = refl
@@ -38,7 +28,7 @@ no_links count = record {
   all = λ c e a i t n. absurd i;
 }
 
-same_or_not : (m n : ℕ) → (m ≡ n) ⊎ (m ≢ n)
+pub same_or_not : (m n : ℕ) → (m ≡ n) ⊎ (m ≢ n)
 same_or_not zero zero = inl refl
 same_or_not zero (suc n) = inr (λ e. absurd (omega (arith, e)))
 same_or_not (suc m) zero = inr (λ e. absurd (omega (arith, e)))

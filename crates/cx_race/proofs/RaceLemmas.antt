@@ -22,7 +22,7 @@ use Rattle.cx_race.specs.declared.parts.Footprints.{Footprints}
 use Rattle.cx_race.specs.Cells.{targets_in_group, cells_in_group}
 use Rattle.cx_race.specs.Footprints.{AreFootprints}
 use Rattle.cx_race.proofs.FormLemmas.{visited_forms, arms_among}
-use Rattle.cx_race.proofs.Bounds.{AreForms, groups_there, tests_there, enabled_there}
+use Rattle.cx_race.proofs.Bounds.{AreForms, groups_there, tests_there, enabled_there, part_is}
 use Rattle.cx_race.specs.declared.races.Race.{Race}
 use Rattle.cx_race.specs.declared.races.Race.TheVariants.{Cell, Group}
 use Rattle.cx_race.specs.Races.{AreWithin, IsFirstRace, race_name}
@@ -77,10 +77,6 @@ break_is part spot place (Some r) b (inr i) = absurd i
 
 has_break : (part : PlainComponent) (spot : Spot) (place : Place) (race : Option Race) (r : Race) → race ≡ Some r → In (race_break part spot place race) (broken part spot place r)
 has_break part spot place race r e = subst (λ o. In (race_break part spot place o) (broken part spot place r)) (sym e) (inl refl)
-
-part_is : (d : PlainDesign) (n k : ℕ) → part_of (tree_within d n k) ≡ component_at d k
-part_is d zero k = refl
-part_is d (suc n) k = refl
 
 abbrev visited_or : Visited → Option Visited → Visited
 visited_or v None = v

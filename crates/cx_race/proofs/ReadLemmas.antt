@@ -10,7 +10,7 @@ use Rattle.cx_design_parts.proofs.Lists.{in_left, in_right, in_either, in_flat, 
 use Rattle.cx_race.specs.Cells.{port_cell, named_in, named_in_all, targets_in_group, cells_in_group, named_by}
 use Rattle.cx_race.specs.Links.{AreLinks}
 use Rattle.cx_race.proofs.CellLemmas.{cell_is, has_cell, in_driven, is_driven, in_named, is_named}
-use Rattle.cx_race.proofs.LinkLemmas.{as_node, from_node}
+use Rattle.cx_race.proofs.ArmLemmas.{as_node, from_node}
 
 module _ (part : PlainComponent) (s : PlainStatement) where
   abbrev of_group : ℕ → List ℕ

@@ -17,6 +17,7 @@ use Rattle.cx_race.proofs.CellLemmas.{group_lists, in_driven, is_driven}
 use Rattle.cx_race.proofs.ReadLemmas.{reads_reached, reached_reads}
 use Rattle.cx_race.specs.Races.{IsLeastOf, IsFirstRace, race_of}
 use Rattle.cx_race.proofs.ArmLemmas.{as_node, from_node, list_at, arm_at, from_nowhere}
+use Rattle.cx_race.proofs.LinkLemmas.{same_or_not}
 
 -- owners that cover a number have one
 pub an_owner : (P : ℕ → Type 0) (o : Owners) (k : ℕ) → Covers o k → Sound P o → (j : ℕ) × P j
@@ -37,12 +38,6 @@ owners_two P o e s = subst (Sound P) e s
 -- what has an owner is touched
 pub is_touched : (P : ℕ → ℕ → Type 0) (owners : List Owners) (touched : List ℕ) → Tallies P owners touched → (n k : ℕ) → P n k → graphs.In touched n
 is_touched P owners touched t n k h = ⊎_elim (λ nobody. absurd (subst (λ o. Covers o k) nobody ((t.tells n).all k h))) (λ i. i) (t.kept.others n)
-
-same_or_not : (m n : ℕ) → (m ≡ n) ⊎ (m ≢ n)
-same_or_not zero zero = inl refl
-same_or_not zero (suc n) = inr (λ e. absurd (omega (arith, e)))
-same_or_not (suc m) zero = inr (λ e. absurd (omega (arith, e)))
-same_or_not (suc m) (suc n) = ⊎_elim (λ e. inl (ap (λ k. suc k) e)) (λ d. inr (λ e. d (omega (arith, e)))) (same_or_not m n)
 
 -- the least of what several own is the least of what P holds of, where these are one
 pub least_is : (owners : List Owners) (among : List ℕ) (P : ℕ → Type 0) → ((n : ℕ) → graphs.In among n → IsSeveral owners n → P n) → ((n : ℕ) → P n → graphs.In among n × IsSeveral owners n)

@@ -9,7 +9,7 @@ use Rattle.cx_rules.specs.Ports.{is_instance, is_part_port}
 use Rattle.cx_rules.specs.ShapeRules.{some_target}
 use Rattle.cx_rules.specs.CallShape.{is_port_of, Calls}
 use Rattle.cx_shape_calls.specs.Callees.{PlainCallee, callee_at, callee_of, and_then, callees_of, is_cell, apart, called_of}
-use Rattle.cx_shape_calls.proofs.TargetLemmas.{callee, target_of}
+use Rattle.cx_shape_calls.proofs.TargetLemmas.{callee, target_of, none_some}
 use Rattle.cx_shape_calls.proofs.BoolLemmas.{from_eq, eq_itself, or_left, or_right}
 
 abbrev number_or : ℕ → Option ℕ → ℕ
@@ -20,9 +20,6 @@ abbrev part_or : Instance → At → PlainComponent
 part_or i Nothing = part_of i
 part_or i (OfRow row) = part_of i
 part_or i (OfInstance child) = part_of child
-
-none_some : {A : Type 0} (x : A) → None ≡ Some x → ⊥
-none_some x e = cc
 
 module _ (i : Instance) where
   pub callee_is : (c p : ℕ) (child : Instance) → cell_at (cells_of i) c ≡ OfInstance child → callee_of i (ports.Cell c p) ≡ Some (callee c child)

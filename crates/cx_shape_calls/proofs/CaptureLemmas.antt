@@ -12,6 +12,7 @@ use Rattle.cx_rules.specs.ShapeRules.{some_target}
 use Rattle.cx_rules.specs.CallShape.{write_en_of, is_reg_kind, is_register_cell, is_register, captured_from, captured}
 use Rattle.cx_shape_calls.specs.Callees.{is_cell}
 use Rattle.cx_shape_calls.specs.Forms.{register_of, with_register, registers_in}
+use Rattle.cx_shape_calls.proofs.BoolLemmas.{from_eq, eq_itself}
 
 abbrev has : List ℕ → ℕ → Bool
 has xs q = list_any (nat_eq q) xs
@@ -24,12 +25,6 @@ Up n (x ∷ xs) = (n ≤ x) × Up (suc x) xs
 up_weaker : (m n : ℕ) (xs : List ℕ) → m ≤ n → Up n xs → Up m xs
 up_weaker m n [] le h = tt
 up_weaker m n (x ∷ xs) le h = (omega (arith, le, h.0), h.1)
-
-from_eq : (x y : ℕ) → nat_eq x y ≡ true → x ≡ y
-from_eq x y h = grind (arith, tests)
-
-eq_itself : (x : ℕ) → nat_eq x x ≡ true
-eq_itself x = grind (arith, tests)
 
 not_eq : (x y : ℕ) → x < y → nat_eq x y ≡ false
 not_eq x y h = grind (arith, tests)
@@ -122,7 +117,7 @@ up_registers part found (a ∷ rest) h = up_registers part (with_register found 
     choice None = h
     choice (Some r) = up_insert 0 found r (omega arith) h
 
-eq_sym : (x y : ℕ) → nat_eq x y ≡ nat_eq y x
+pub eq_sym : (x y : ℕ) → nat_eq x y ≡ nat_eq y x
 eq_sym x y = grind (arith, tests)
 
 has_registers : (part : PlainComponent) (found : List ℕ) (assigns : List PlainAssign) (q : ℕ) → has (registers_in part found assigns) q ≡ has found q || registers_have part assigns q

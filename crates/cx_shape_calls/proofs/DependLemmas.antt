@@ -33,6 +33,7 @@ use Rattle.cx_shape_calls.specs.Callees.{PlainCallee, callee_at, callee_of}
 use Rattle.cx_shape_calls.specs.Forms.{count_of}
 use Rattle.cx_shape_calls.specs.Inputs.{IsDependent, AreDependent, AreDependentPorts, IsInputOf, is_an_input, is_input}
 use Rattle.cx_shape_calls.proofs.TargetLemmas.{target_of}
+use Rattle.cx_shape_calls.proofs.BoolLemmas.{eq_itself}
 
 -- LISTS
 in_left : {A : Type 0} (xs ys : List A) (x : A) → In xs x → In (xs ++ ys) x
@@ -78,9 +79,6 @@ mutual
 named_source : (a : PlainAssign) (q : PortRef) → AssignNames a q → (p : PlacedPort) × In (sources_of a) p × (p.port ≡ q)
 named_source a q (inl n) = let r = guard_operand a.guard q n in (r.0, inr r.1, r.2)
 named_source a q (inr e) = (a.source, inl refl, e)
-
-eq_itself : (x : ℕ) → nat_eq x x ≡ true
-eq_itself x = grind (arith, tests)
 
 -- PORTS of a component's cell
 input_below : (part : PlainComponent) (p : ℕ) → is_an_input (part_port part p) ≡ true → p < suc (length part.inputs)
@@ -387,7 +385,7 @@ counted_in w (p ∷ ps) h = choice (same_port p w) refl h (λ e. counted_in w ps
     choice true e h f = inl (same_is p w e)
     choice false e h f = inr (f h)
 
-same_self : (p : PortRef) → same_port p p ≡ true
+pub same_self : (p : PortRef) → same_port p p ≡ true
 same_self (ports.Cell c p) = ap (λ b. b && nat_eq p p) (eq_itself c) ∙ eq_itself p
 same_self (ports.Input n) = eq_itself n
 same_self (ports.Output n) = eq_itself n

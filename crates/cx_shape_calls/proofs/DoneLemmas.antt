@@ -17,9 +17,8 @@ use Rattle.cx_rules.specs.ShapeRules.{is_hole_of, some_target}
 use Rattle.cx_rules.specs.CallShape.{go_port, register_done, wanted_dones, with_target, are_dones, is_right_done}
 use Rattle.cx_shape_calls.specs.Callees.{PlainCallee, plain_callee, done_of, called_of}
 use Rattle.cx_shape_calls.specs.Forms.{count_of, is_wrong_done, lacks_go_or_done, is_none, is_calling}
-
-eq_sym : (x y : ℕ) → nat_eq x y ≡ nat_eq y x
-eq_sym x y = grind (arith, tests)
+use Rattle.cx_shape_calls.proofs.CaptureLemmas.{eq_sym}
+use Rattle.cx_shape_calls.proofs.BoolLemmas.{from_eq}
 
 both_same : (a b c d : ℕ) → nat_eq a b && nat_eq c d ≡ nat_eq b a && nat_eq d c
 both_same a b c d = ap (λ t. t && nat_eq c d) (eq_sym a b) ∙ ap (λ t. nat_eq b a && t) (eq_sym c d)
@@ -70,9 +69,6 @@ count_taken w ps i = omega (arith, count_few w (take i ps), length-take i ps)
 pub with_one : (b : Bool) (o : Option ℕ) (n : ℕ) → (b ≡ true → unwrap_or o 0 ≡ n) → unwrap_or (cond b (Some (n + 1)) o) 0 ≡ unwrap_or o 0 + cond b 1 0
 with_one true o n h = ap (λ m. m + 1) (sym (h refl))
 with_one false o n h = omega arith
-
-from_eq : (x y : ℕ) → nat_eq x y ≡ true → x ≡ y
-from_eq x y h = grind (arith, tests)
 
 both_true : (a b : Bool) → a && b ≡ true → (a ≡ true) × (b ≡ true)
 both_true true true h = (refl, refl)

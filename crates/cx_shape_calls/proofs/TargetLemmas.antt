@@ -12,7 +12,7 @@ abbrev callee_or : PlainCallee → Option PlainCallee → PlainCallee
 callee_or k None = k
 callee_or k (Some l) = l
 
-none_some : {A : Type 0} (x : A) → None ≡ Some x → ⊥
+pub none_some : {A : Type 0} (x : A) → None ≡ Some x → ⊥
 none_some x e = cc
 
 module _ (i : Instance) where

@@ -16,13 +16,7 @@ use Rattle.cx_shape_calls.specs.Decisions.{port_number, cell_number, calls_other
 use Rattle.cx_shape_calls.proofs.BoolLemmas.{from_eq, eq_itself, not_same, other_than, from_not, to_not, split_or, or_left, or_right, split_and, grouped, any_in, any_has, in_filter, lone}
 use Rattle.cx_shape_calls.proofs.TargetLemmas.{callee, Target, target_of}
 use Rattle.cx_shape_calls.proofs.CalledLemmas.{callee_is, driven_by, called_sound, called_all, part_callee, part_port_is}
-
-same_self : (p : PortRef) → same_port p p ≡ true
-same_self (ports.Cell c p) = ap (λ b. b && nat_eq p p) (eq_itself c) ∙ eq_itself p
-same_self (ports.Input n) = eq_itself n
-same_self (ports.Output n) = eq_itself n
-same_self (ports.Done g) = eq_itself g
-same_self (ports.Literal w v) = ap (λ b. b && nat_eq v v) (eq_itself w) ∙ eq_itself v
+use Rattle.cx_shape_calls.proofs.DependLemmas.{same_self}
 
 later_no_go : (a b n : ℕ) → later_port a b n ≡ Go → ⊥
 later_no_go a b n e = choice (nat_lt n a) (nat_lt (n - a) b) e

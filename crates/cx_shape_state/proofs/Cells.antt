@@ -42,7 +42,7 @@ count_is d k h = count_within d (length d.components) k (omega (arith, h))
 abbrev pub AllRead : Cells → Type 0
 AllRead cells = (c : ℕ) (row : Row) → cell_at cells c ≡ OfRow row → ReadsFirst row
 
-abbrev row_or : Row → At → Row
+abbrev pub row_or : Row → At → Row
 row_or other Nothing = other
 row_or other (OfRow row) = row
 row_or other (OfInstance child) = other

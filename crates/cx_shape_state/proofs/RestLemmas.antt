@@ -20,7 +20,7 @@ use Rattle.cx_shape_state.specs.declared.basis.Basis.{Basis}
 use Rattle.cx_shape_state.specs.declared.basis.Basis.TheVariants as basis
 use Rattle.cx_shape_state.specs.Waits.{side_basis, part_basis, cell_basis, input_basis, basis_of, reader_of, waits_on, waits_of, cell_count, waits}
 use Rattle.cx_shape_state.specs.Resting.{rests_by, rests_at}
-use Rattle.cx_shape_state.proofs.Cells.{AllRead, row_there, reader, reader_is}
+use Rattle.cx_shape_state.proofs.Cells.{AllRead, row_there, reader, reader_is, row_or}
 use Rattle.cx_shape_state.proofs.Graph.{graph_length, targets_are, target_within, AlwaysWaits, GroupWaits, waits_either, always_in, driven_waits}
 use Rattle.cx_shape_state.proofs.Names.{source_in, source_named, group_number}
 
@@ -51,11 +51,6 @@ from_rests (registered_rests row at side) = by_registered row at side
 from_rests (output_rests n child at port) = by_output n child at port
 from_rests (done_rests child at port) = by_done child at port
 from_rests (combinational_rests row at side none named) = by_combinational row at side none (λ m a q r j t n. from_rests (named m a q r j t n))
-
-abbrev row_or : Row → At → Row
-row_or other Nothing = other
-row_or other (OfRow row) = row
-row_or other (OfInstance child) = other
 
 abbrev number_or : ℕ → Basis → ℕ
 number_or other basis.State = other

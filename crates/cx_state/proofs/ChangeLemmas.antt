@@ -66,7 +66,7 @@ mutual
       (cases_lt m (instances_below child))
 
 -- A STATE PUT AT A PATH
-just_same : (k : ℕ) → just k k ≡ true
+pub just_same : (k : ℕ) → just k k ≡ true
 just_same zero = refl
 just_same (suc k) = just_same k
 

@@ -46,7 +46,7 @@ are_words : (shape : StateShape) (width count : ℕ) (held : CellState) → IsMe
 are_words shape width count held (inl e) k = words_plain width count held (subst (λ s. IsState s held) e k)
 are_words shape width count held (inr e) k = words_sequential width count held (subst (λ s. IsState s held) e k)
 
-takes_shape : (shape : StateShape) (width count : ℕ) (words : List ℕ) → IsMemoryOf shape width count → AreWords width count words → width ≤ 64 → TakesWords shape words
+pub takes_shape : (shape : StateShape) (width count : ℕ) (words : List ℕ) → IsMemoryOf shape width count → AreWords width count words → width ≤ 64 → TakesWords shape words
 takes_shape shape width count words (inl e) fit small = subst (λ s. TakesWords s words) (sym e) (fit, small)
 takes_shape shape width count words (inr e) fit small = subst (λ s. TakesWords s words) (sym e) (fit, small)
 
@@ -72,7 +72,7 @@ cell_reads d k cell (OfPrimitive p) (Some held) m is external holds same fit =
       },
     )
 
-abbrev AreExternal : PlainDesign → ℕ → List PlainCell → Type 0
+abbrev pub AreExternal : PlainDesign → ℕ → List PlainCell → Type 0
 AreExternal d k cells = (cell : PlainCell) → In cells cell → cell.external ≡ true → IsExternal d k cell.kind
 
 record Read (cells : List PlainCell) (hs : List (Option CellState)) (ms : List PlainMemory) : Type 0 where
@@ -137,11 +137,11 @@ same_shapes [] words = refl
 same_shapes (m ∷ ms) [] = refl
 same_shapes (m ∷ ms) (ws ∷ words) = ap (λ rs. m.shape ∷ rs) (same_shapes ms words)
 
-external_kind : (d : PlainDesign) → ∥ IsDesign d ∥₁ → (cell : PlainCell) (kind : PlainKind) → cell.kind ≡ kind → In (component_at d d.main).cells cell → cell.external ≡ true → IsExternal d d.main kind
+pub external_kind : (d : PlainDesign) → ∥ IsDesign d ∥₁ → (cell : PlainCell) (kind : PlainKind) → cell.kind ≡ kind → In (component_at d d.main).cells cell → cell.external ≡ true → IsExternal d d.main kind
 external_kind d keeps cell (OfPrimitive p) e i x = ∥∥₁_elim keeps (hlevel props) (λ k. subst (IsExternal d d.main) e (((k.components d.main k.main_there).cells cell i).external x))
 external_kind d keeps cell (OfComponent j) e i x = ∥∥₁_elim keeps (hlevel props) (λ k. subst (IsExternal d d.main) e (((k.components d.main k.main_there).cells cell i).external x))
 
-main_first : (i : Instance) → slice_get (paths_of i) 0 ≡ Some []
+pub main_first : (i : Instance) → slice_get (paths_of i) 0 ≡ Some []
 main_first (Node part cells) = refl
 
 main_counts : (i : Instance) → 0 < length (paths_of i)

@@ -11,6 +11,7 @@ use Rattle.cx_meaning.specs.Instances.{Instance, Node, Cells, no_cells, a_primit
 use Rattle.cx_rules.specs.Sizes.{instances_below, instances_in}
 use Rattle.cx_limits.proofs.Places.{none_is_some, below_length}
 use Rattle.cx_state.proofs.TreeLemmas.{count_paths}
+use Rattle.cx_state.proofs.StandLemmas.{get_left, shift}
 
 -- the instances at the cells before one
 abbrev pub before : Cells → ℕ → ℕ
@@ -64,12 +65,7 @@ pub record StandsBelow (cells : Cells) (k j : ℕ) (q : Path) : Type 0 where
       → slice_get (paths_below cells k) (suc (j + before (cells_of (child_at cells entered rest)) c)) ≡ Some ((k + entered) ∷ (rest ++ c ∷ []))
   pub parent : OuterParent cells j entered rest ⊎ InnerParent cells k j entered rest
 
-get_left : {A : Type 0} (xs ys : List A) (i : ℕ) → i < length xs → slice_get (xs ++ ys) i ≡ slice_get xs i
-get_left [] ys i lt = absurd (omega arith)
-get_left (x ∷ xs) ys zero lt = refl
-get_left (x ∷ xs) ys (suc i) lt = get_left xs ys i (let h : suc i < suc (length xs) = lt in omega arith)
-
-mapped_some : {A B : Type 0} (f : A → B) (o : Option A) (y : B) → option_map f o ≡ Some y → (x : A) × (o ≡ Some x) × (f x ≡ y)
+pub mapped_some : {A B : Type 0} (f : A → B) (o : Option A) (y : B) → option_map f o ≡ Some y → (x : A) × (o ≡ Some x) × (f x ≡ y)
 mapped_some f None y e = absurd (none_is_some y e)
 mapped_some f (Some x) y e = (x, refl, (let g : Some (f x) ≡ Some y = e in cc))
 
@@ -100,9 +96,6 @@ module _ (child : Instance) (rest : Cells) (k : ℕ) where
 
   past : (j : ℕ) → slice_get (paths_below (an_instance child rest) k) (instances_below child + j) ≡ slice_get (paths_below rest (suc k)) j
   past j = slice_get-append (behind k (paths_of child)) (paths_below rest (suc k)) (instances_below child + j) j (omega (arith, size))
-
-shift : (k e : ℕ) → suc k + e ≡ k + suc e
-shift k e = omega arith
 
 -- a primitive cell before
 beside_primitive : (cells : Cells) (k j : ℕ) (q : Path) (row : Row) → StandsBelow cells (suc k) j q → StandsBelow (a_primitive row cells) k j q

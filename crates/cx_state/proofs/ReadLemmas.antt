@@ -17,10 +17,7 @@ use Rattle.cx_state.specs.Tables.{row_at, IsTable}
 use Rattle.cx_state.specs.States.{PlainInstance, instance_state, cell_held, StandsFor, HoldsKind, HoldCells, IsStateOf}
 use Rattle.cx_state.specs.ReadStates.{state_from, held_from, state_in}
 use Rattle.cx_state.proofs.StandLemmas.{get_left, size, past, shift, none_more, one_less, kind_skip}
-
-mapped_some : {A B : Type 0} (f : A → B) (o : Option A) (y : B) → option_map f o ≡ Some y → (x : A) × (o ≡ Some x) × (f x ≡ y)
-mapped_some f None y e = absurd (none_is_some y e)
-mapped_some f (Some x) y e = (x, refl, (let g : Some (f x) ≡ Some y = e in cc))
+use Rattle.cx_state.proofs.PreOrder.{mapped_some}
 
 pub inside_back : (child : Instance) (rest : Cells) (k j : ℕ) (q : Path) → j < instances_below child → slice_get (paths_below (an_instance child rest) k) j ≡ Some q → (x : Path) × (slice_get (paths_of child) j ≡ Some x) × (k ∷ x ≡ q)
 inside_back child rest k j q lt e =
@@ -107,7 +104,7 @@ cells_have trees (x ∷ xs) [] c held k e = absurd k
 cells_have trees (x ∷ xs) (h ∷ hs) zero held k e = kind_has trees x.kind (cells_for trees xs) h held k.0 e
 cells_have trees (x ∷ xs) (h ∷ hs) (suc c) held k e = let r = cells_have trees xs hs c held k.1 e in (r.0, kind_skip trees x.kind (cells_for trees xs) c ∙ r.1)
 
-some_cells : (d : PlainDesign) (n k : ℕ) → 0 < n → (trees : ℕ → Instance) × (cells_of (tree_within d n k) ≡ cells_for trees (component_at d k).cells)
+pub some_cells : (d : PlainDesign) (n k : ℕ) → 0 < n → (trees : ℕ → Instance) × (cells_of (tree_within d n k) ≡ cells_for trees (component_at d k).cells)
 some_cells d zero k lt = absurd (omega arith)
 some_cells d (suc n) k lt = (tree_within d n, refl)
 

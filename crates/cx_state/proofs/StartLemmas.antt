@@ -23,6 +23,7 @@ use Rattle.cx_state.specs.declared.states.InstanceState.{InstanceState}
 use Rattle.cx_state.specs.States.{PlainInstance, plain_instance, instance_state, HoldsKind, HoldCells, words_in, with_held, no_instance}
 use Rattle.cx_state.specs.Starts.{words_for, words_past, kind_started, started, KindTakes, TakeWords, words_of_main, IsStarted, AreStarted}
 use Rattle.cx_state.proofs.Takes.{take_none}
+use Rattle.cx_state.proofs.MainLemmas.{main_first}
 
 -- THE NEXT WORDS
 words_drop : (memories : List LoadedMemory) (next : ℕ) (m : LoadedMemory) → next < length memories → drop next (words_in memories) ≡ (get_or memories next m).words.items ∷ drop (suc next) (words_in memories)
@@ -122,9 +123,6 @@ part_is d rows children n path table at = ap part_of (table.component n path at)
 
 number_path : (d : PlainDesign) (rows : List InstanceRow) (children : List ℕ) (n : ℕ) → IsTable d rows children → n < length rows → IsNumber d n (get_or (paths_of (tree_of d)) n [])
 number_path d rows children n table lt = slice_get-get_or (paths_of (tree_of d)) n [] (let c = table.count in omega (arith, c))
-
-main_first : (i : Instance) → slice_get (paths_of i) 0 ≡ Some []
-main_first (Node part cells) = refl
 
 -- the component of instance n takes the words for it
 pub component_takes : (d : PlainDesign) (rows : List InstanceRow) (children : List ℕ) (ws : List (List ℕ)) (n : ℕ) → IsTable d rows children → TakeWords (component_at d d.main).cells ws

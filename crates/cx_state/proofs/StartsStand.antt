@@ -20,20 +20,16 @@ use Rattle.cx_state.proofs.PreOrder.{HasParent, stands}
 use Rattle.cx_state.specs.States.{PlainInstance, instance_state, cell_held, StandsFor, IsStateOf, IsUnheld}
 use Rattle.cx_state.specs.Starts.{words_for, words_past, row_started, kind_started, started, words_of_main, IsStarted, AreStarted}
 use Rattle.cx_state.proofs.StartLemmas.{part_is}
+use Rattle.cx_state.proofs.ReadLemmas.{some_cells}
+use Rattle.cx_state.proofs.ChangeLemmas.{just_same}
+use Rattle.cx_state.proofs.Takes.{none_for, none_past}
+use Rattle.cx_state.proofs.StandLemmas.{kind_skip}
 
 -- the words for cell c
 abbrev words_at : List PlainCell → List (List ℕ) → ℕ → Option (List ℕ)
 words_at [] ws c = None
 words_at (cell ∷ cells) ws zero = words_for cell.external ws
 words_at (cell ∷ cells) ws (suc c) = words_at cells (words_past cell.external ws) c
-
-none_for : (b : Bool) → words_for b [] ≡ None
-none_for true = refl
-none_for false = refl
-
-none_past : (b : Bool) → words_past b [] ≡ []
-none_past true = refl
-none_past false = refl
 
 words_none : (cells : List PlainCell) (c : ℕ) → words_at cells [] c ≡ None
 words_none [] c = refl
@@ -50,10 +46,6 @@ kind_at : (trees : ℕ → Instance) (kind : PlainKind) (rest : Cells) (words : 
     → (row : Row) × (cell_at (add_cell trees kind rest) zero ≡ OfRow row) × (held ≡ row_started row words)
 kind_at trees (OfPrimitive p) rest words held e = (row_of p, refl, (let f : Some (row_started (row_of p) words) ≡ Some held = e in cc))
 kind_at trees (OfComponent k) rest words held e = absurd (none_is_some held e)
-
-kind_skip : (trees : ℕ → Instance) (kind : PlainKind) (rest : Cells) (c : ℕ) → cell_at (add_cell trees kind rest) (suc c) ≡ cell_at rest c
-kind_skip trees (OfPrimitive p) rest c = refl
-kind_skip trees (OfComponent k) rest c = refl
 
 started_at : (trees : ℕ → Instance) (cells : List PlainCell) (ws : List (List ℕ)) (c : ℕ) (held : CellState) → get_or (started cells ws) c None ≡ Some held → IsAt trees cells ws c held
 started_at trees [] ws c held e = absurd (none_is_some held e)
@@ -72,10 +64,6 @@ with_option (Some words) d = with_words words d
 row_with : (row : Row) (o : Option (List ℕ)) → row_started row o ≡ with_option o row.start
 row_with row None = refl
 row_with row (Some words) = refl
-
-just_same : (k : ℕ) → just k k ≡ true
-just_same zero = refl
-just_same (suc k) = just_same k
 
 just_other : (k c : ℕ) → (c ≡ k → ⊥) → just k c ≡ false
 just_other zero zero h = absurd (h refl)
@@ -141,10 +129,6 @@ deep_start : (i : Instance) (ws : List (List ℕ)) (above : Path) (x c : ℕ) �
 deep_start i ws [] x c = refl
 deep_start i ws (y ∷ []) x c = refl
 deep_start i ws (y ∷ z ∷ above) x c = refl
-
-some_cells : (d : PlainDesign) (n k : ℕ) → 0 < n → (trees : ℕ → Instance) × (cells_of (tree_within d n k) ≡ cells_for trees (component_at d k).cells)
-some_cells d zero k lt = absurd (omega arith)
-some_cells d (suc n) k lt = (tree_within d n, refl)
 
 main_path : (i : Instance) (path : Path) → slice_get (paths_of i) 0 ≡ Some path → path ≡ []
 main_path (Node part cells) path e = let f : Some [] ≡ Some path = e in cc

@@ -16,19 +16,12 @@ use Rattle.cx_limits.proofs.Places.{none_is_some}
 use Rattle.cx_state.specs.declared.steps.Step.{Step}
 use Rattle.cx_state.specs.Steps.{instances_at, component_in, step_below}
 use Rattle.cx_state.proofs.TreeLemmas.{count_paths}
+use Rattle.cx_state.proofs.StandLemmas.{get_left}
+use Rattle.cx_state.proofs.PreOrder.{mapped_some}
 
 not_true : (b : Bool) → (b ≡ true → ⊥) → b ≡ false
 not_true true h = absurd (h refl)
 not_true false h = refl
-
-get_left : {A : Type 0} (xs ys : List A) (i : ℕ) → i < length xs → slice_get (xs ++ ys) i ≡ slice_get xs i
-get_left [] ys i lt = absurd (omega arith)
-get_left (x ∷ xs) ys zero lt = refl
-get_left (x ∷ xs) ys (suc i) lt = get_left xs ys i (let h : suc i < suc (length xs) = lt in omega arith)
-
-mapped_some : {A B : Type 0} (f : A → B) (o : Option A) (y : B) → option_map f o ≡ Some y → (x : A) × (o ≡ Some x) × (f x ≡ y)
-mapped_some f None y e = absurd (none_is_some y e)
-mapped_some f (Some x) y e = (x, refl, (let g : Some (f x) ≡ Some y = e in cc))
 
 -- a step among cells from the number c on, to the instance that is number r below them, whose path this is
 pub record IsStep (trees : ℕ → Instance) (cells : List PlainCell) (c r : ℕ) (path : Path) (step : Step) : Type 0 where

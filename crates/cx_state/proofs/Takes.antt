@@ -14,27 +14,24 @@ use Rattle.cx_rules.specs.Externals.{sizes_in, numbers_of, row_for, if_external,
 use Rattle.cx_state.specs.States.{words_in}
 use Rattle.cx_state.specs.Starts.{words_for, words_past, KindTakes, TakeWords}
 use Rattle.cx_state.proofs.Shapes.{IsMemoryOf, memory_shape}
+use Rattle.cx_state.proofs.MainLemmas.{takes_shape, AreExternal, external_kind}
 
 -- without words nothing is taken
 kind_none : (kind : PlainKind) → KindTakes kind None
 kind_none (OfPrimitive p) = tt
 kind_none (OfComponent k) = tt
 
-none_for : (b : Bool) → words_for b [] ≡ None
+pub none_for : (b : Bool) → words_for b [] ≡ None
 none_for true = refl
 none_for false = refl
 
-none_past : (b : Bool) → words_past b [] ≡ []
+pub none_past : (b : Bool) → words_past b [] ≡ []
 none_past true = refl
 none_past false = refl
 
 pub take_none : (cells : List PlainCell) → TakeWords cells []
 take_none [] = tt
 take_none (cell ∷ cells) = (subst (KindTakes cell.kind) (sym (none_for cell.external)) (kind_none cell.kind), subst (TakeWords cells) (sym (none_past cell.external)) (take_none cells))
-
-takes_shape : (shape : StateShape) (width count : ℕ) (words : List ℕ) → IsMemoryOf shape width count → AreWords width count words → width ≤ 64 → TakesWords shape words
-takes_shape shape width count words (inl e) fit small = subst (λ s. TakesWords s words) (sym e) (fit, small)
-takes_shape shape width count words (inr e) fit small = subst (λ s. TakesWords s words) (sym e) (fit, small)
 
 -- an external cell takes the words of a memory of its row
 kind_takes : (d : PlainDesign) (k : ℕ) (cell : PlainCell) (kind : PlainKind) (m : PlainMemory) → cell.kind ≡ kind → IsExternal d k kind → m.shape ≡ row_for cell → FitsShape m → KindTakes kind (Some m.words)
@@ -45,9 +42,6 @@ kind_takes d k cell (OfPrimitive p) m is external same fit =
     let sizes : m.shape.sizes ≡ sizes_in p.numbers = ap (λ r. r.sizes) same ∙ ap sizes_in numbers in
     takes_shape (row_of p).shape (first_number p.numbers) (word_count (sizes_in p.numbers)) m.words (memory_shape p external.1)
     (record { length = fit.count ∙ ap word_count sizes; in_range = subst (λ w. All (λ word. word < 2 ^ w) m.words) width fit.in_range }) external.2
-
-abbrev AreExternal : PlainDesign → ℕ → List PlainCell → Type 0
-AreExternal d k cells = (cell : PlainCell) → In cells cell → cell.external ≡ true → IsExternal d k cell.kind
 
 abbrev words_of_all : List PlainMemory → List (List ℕ)
 words_of_all memories = map (λ (m : PlainMemory). m.words) memories
@@ -68,10 +62,6 @@ all_take : (d : PlainDesign) (k : ℕ) (cells : List PlainCell) (memories : List
 all_take d k [] memories external same fit = tt
 all_take d k (cell ∷ cells) memories external same fit =
     cell_takes d k cell cells cell.external memories refl (external cell (inl refl)) (λ rest e f. all_take d k cells rest (λ x i e. external x (inr i) e) e f) same fit
-
-external_kind : (d : PlainDesign) → ∥ IsDesign d ∥₁ → (cell : PlainCell) (kind : PlainKind) → cell.kind ≡ kind → In (component_at d d.main).cells cell → cell.external ≡ true → IsExternal d d.main kind
-external_kind d keeps cell (OfPrimitive p) e i x = ∥∥₁_elim keeps (hlevel props) (λ k. subst (IsExternal d d.main) e (((k.components d.main k.main_there).cells cell i).external x))
-external_kind d keeps cell (OfComponent j) e i x = ∥∥₁_elim keeps (hlevel props) (λ k. subst (IsExternal d d.main) e (((k.components d.main k.main_there).cells cell i).external x))
 
 words_plain : (memories : List LoadedMemory) → words_of_all (map plain_memory memories) ≡ words_in memories
 words_plain [] = refl

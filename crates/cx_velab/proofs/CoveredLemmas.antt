@@ -15,11 +15,11 @@ use Rattle.cx_velab.specs.Driven.{IsRight, IsTied}
 use Rattle.cx_velab.specs.Covered.{IsTidy, IsDriven, DrivenStand}
 use Rattle.cx_velab.proofs.DrivenLemmas.{position_here, position_there}
 
-bind_some : {A B : Type 0} (f : A → Option B) (o : Option A) (y : B) → option_and_then f o ≡ Some y → (x : A) × (o ≡ Some x) × (f x ≡ Some y)
+pub bind_some : {A B : Type 0} (f : A → Option B) (o : Option A) (y : B) → option_and_then f o ≡ Some y → (x : A) × (o ≡ Some x) × (f x ≡ Some y)
 bind_some f None y e = absurd (cc)
 bind_some f (Some x) y e = (x, refl, e)
 
-next_of : {A : Type 0} (x : A) (xs : List A) (k : ℕ) → slice_get (x ∷ xs) (suc k) ≡ slice_get xs k
+pub next_of : {A : Type 0} (x : A) (xs : List A) (k : ℕ) → slice_get (x ∷ xs) (suc k) ≡ slice_get xs k
 next_of x xs k = refl
 
 -- by the two sides of a test
@@ -128,12 +128,12 @@ assign_of (a ∷ rest) name x e =
     (λ t f. (0, a, refl, same_text a.name name (sym t)))
     (λ t f. let r = assign_of rest name x f in (suc r.0, r.1, next_of a rest r.0 ∙ r.2, r.3))
 
-front : {A : Type 0} (xs ys : List A) (k : ℕ) (x : A) → slice_get xs k ≡ Some x → slice_get (xs ++ ys) k ≡ Some x
+pub front : {A : Type 0} (xs ys : List A) (k : ℕ) (x : A) → slice_get xs k ≡ Some x → slice_get (xs ++ ys) k ≡ Some x
 front [] ys k x e = absurd (cc)
 front (y ∷ xs) ys zero x e = e
 front (y ∷ xs) ys (suc k) x e = front xs ys k x e
 
-there_at : {A : Type 0} (xs : List A) (k : ℕ) → k < length xs → (x : A) × (slice_get xs k ≡ Some x)
+pub there_at : {A : Type 0} (xs : List A) (k : ℕ) → k < length xs → (x : A) × (slice_get xs k ≡ Some x)
 there_at [] k lt = absurd (omega arith)
 there_at (x ∷ xs) zero lt = (x, refl)
 there_at (x ∷ xs) (suc k) lt = there_at xs k (omega arith)

@@ -11,7 +11,7 @@ use Rattle.cx_vnets.specs.CodeLaws.{net_widths, array_widths}
 use Rattle.cx_vnets.specs.Numbers.{nets_before, arrays_before}
 use Rattle.cx_velab.specs.Tables.{zero_of, module_zeros, zero_arrays, all_zeros, all_zero_arrays}
 use Rattle.cx_velab.specs.FitsLaws.{ZerosFit}
-use Rattle.cx_velab.proofs.ZeroLemmas.{before_first, length-net_widths, length-mapped, mapped_some, zeros_at, zero_arrays_at}
+use Rattle.cx_velab.proofs.ZeroLemmas.{before_first, length-net_widths, length-mapped, mapped_some, zeros_at, zero_arrays_at, zeros}
 
 -- as many zeros as nets
 zeros_count : (tree : List Placed) → length (all_zeros tree) ≡ nets_before tree (length tree)
@@ -22,9 +22,6 @@ zeros_count (p ∷ ps) =
     let both = length-append (module_zeros p.part) (all_zeros ps) in
     let rest = zeros_count ps in
     omega arith
-
-abbrev zeros : ℕ → ℕ → PlainWords
-zeros w k = record { zero = zero_of w; words = replicate k (zero_of w) }
 
 -- an array has zeros of its width
 array_zeros : (ds : List PlainDecl) (a w : ℕ) → slice_get (array_widths ds) a ≡ Some w → (k : ℕ) × (slice_get (zero_arrays ds) a ≡ Some (zeros w k))

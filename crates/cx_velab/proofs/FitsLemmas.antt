@@ -27,11 +27,7 @@ use Rattle.cx_vnets.specs.Flat.{CodeStands, DriverStands, NetsStand}
 use Rattle.cx_velab.specs.Zeros.{widths_at}
 use Rattle.cx_velab.specs.FitsLaws.{StoredHasWidths, scope_at, IsSound, IsAsWide, OriginsAreAsWide, NetsFit, SetIsAsWide, AllSetsFit, StoreIsAsWide, AllStoresFit}
 use Rattle.cx_velab.proofs.ZeroLemmas.{length-net_widths}
-
-there_at : {A : Type 0} (xs : List A) (k : ℕ) → k < length xs → (x : A) × (slice_get xs k ≡ Some x)
-there_at [] k lt = absurd (omega arith)
-there_at (x ∷ xs) zero lt = (x, refl)
-there_at (x ∷ xs) (suc k) lt = there_at xs k (omega arith)
+use Rattle.cx_velab.proofs.CoveredLemmas.{there_at}
 
 -- each number below the count is that of a place in a list
 pub place_in : (lists : ℕ → List (List ℕ)) (n f : ℕ) → f < before lists n → (i : ℕ) × (k : ℕ) × (f ≡ before lists i + k) × (k < length (lists i))

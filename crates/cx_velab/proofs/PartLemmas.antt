@@ -19,8 +19,9 @@ use Rattle.cx_velab.specs.Added.{Paired}
 use Rattle.cx_velab.specs.Coded.{AddsCodes}
 use Rattle.cx_velab.specs.declared.parts.ModulePart.{ModulePart}
 use Rattle.cx_velab.specs.Parts.{HasCodes, PartStands, Extends, HasPart, AreFound}
+use Rattle.cx_velab.proofs.CoveredLemmas.{front}
 
-behind : {A : Type 0} (xs ys : List A) (k j : ℕ) → k ≡ length xs + j → slice_get (xs ++ ys) k ≡ slice_get ys j
+pub behind : {A : Type 0} (xs ys : List A) (k j : ℕ) → k ≡ length xs + j → slice_get (xs ++ ys) k ≡ slice_get ys j
 behind [] ys k j e = let same : k ≡ j = omega arith in ap (slice_get ys) same
 behind (x ∷ xs) ys zero j e = absurd (omega arith)
 behind (x ∷ xs) ys (suc k) j e = behind xs ys k j (omega arith)
@@ -47,11 +48,6 @@ nets_same nets ps qs ds es is e f =
 
 pub arrays_same : (arrays : Numbering) (ds es : List Decl) → arrays ≡ position (declared_arrays (map plain_decl ds)) → ds ≡ es → arrays ≡ position (declared_arrays (map plain_decl es))
 arrays_same arrays ds es is f = is ∙ ap (λ l. position (declared_arrays (map plain_decl l))) f
-
-front : {A : Type 0} (xs ys : List A) (k : ℕ) (x : A) → slice_get xs k ≡ Some x → slice_get (xs ++ ys) k ≡ Some x
-front [] ys k x e = absurd (cc)
-front (y ∷ xs) ys zero x e = e
-front (y ∷ xs) ys (suc k) x e = front xs ys k x e
 
 extended : {A : Type 0} (old new made : List A) (k : ℕ) (x : A) → new ≡ old ++ made → slice_get old k ≡ Some x → slice_get new k ≡ Some x
 extended old new made k x e at = ap (λ l. slice_get l k) e ∙ front old made k x at

@@ -17,7 +17,7 @@ slice_get-back [] ys k j e = let same : k ≡ j = omega arith in ap (slice_get y
 slice_get-back (x ∷ xs) ys zero j e = absurd (omega arith)
 slice_get-back (x ∷ xs) ys (suc k) j e = slice_get-back xs ys k j (omega arith)
 
-length-map : {A B : Type 0} (f : A → B) (xs : List A) → length (map f xs) ≡ length xs
+pub length-map : {A B : Type 0} (f : A → B) (xs : List A) → length (map f xs) ≡ length xs
 length-map f [] = refl
 length-map f (x ∷ xs) = ap suc (length-map f xs)
 

@@ -18,16 +18,9 @@ use Rattle.cx_vnets.specs.CodeLaws.{declared_widths, net_widths}
 use Rattle.cx_vnets.specs.Numbers.{before, arrays_at, nets_before, arrays_before}
 use Rattle.cx_velab.specs.Tables.{zero_of, module_zeros, zero_arrays, all_zeros, all_zero_arrays}
 use Rattle.cx_velab.specs.Zeros.{widths_at, ZerosHaveWidths}
-
-front : {A : Type 0} (xs ys : List A) (k : ℕ) (x : A) → slice_get xs k ≡ Some x → slice_get (xs ++ ys) k ≡ Some x
-front [] ys k x e = absurd (cc)
-front (y ∷ xs) ys zero x e = e
-front (y ∷ xs) ys (suc k) x e = front xs ys k x e
-
-behind : {A : Type 0} (xs ys : List A) (k j : ℕ) → k ≡ length xs + j → slice_get (xs ++ ys) k ≡ slice_get ys j
-behind [] ys k j e = let same : k ≡ j = omega arith in ap (slice_get ys) same
-behind (x ∷ xs) ys zero j e = absurd (omega arith)
-behind (x ∷ xs) ys (suc k) j e = behind xs ys k j (omega arith)
+use Rattle.cx_velab.proofs.PathLemmas.{length-map}
+use Rattle.cx_velab.proofs.PartLemmas.{behind}
+use Rattle.cx_velab.proofs.CoveredLemmas.{front, next_of, bind_some}
 
 -- a first list comes before the others
 pub before_first : (lists more : ℕ → List (List ℕ)) → ((i : ℕ) → lists (suc i) ≡ more i) → (i : ℕ) → before lists (suc i) ≡ length (lists 0) + before more i
@@ -46,10 +39,6 @@ length-widths (ArrayOf n w k ∷ ds) = length-widths ds
 pub length-net_widths : (ps : List PlainPort) (ds : List PlainDecl) → length (net_widths ps ds) ≡ length (map (λ p. p.name) ps ++ declared_nets ds)
 length-net_widths [] ds = length-widths ds
 length-net_widths (p ∷ ps) ds = ap suc (length-net_widths ps ds)
-
-length-map : {A B : Type 0} (f : A → B) (xs : List A) → length (map f xs) ≡ length xs
-length-map f [] = refl
-length-map f (x ∷ xs) = ap suc (length-map f xs)
 
 length-zero_arrays : (ds : List PlainDecl) → length (zero_arrays ds) ≡ length (declared_arrays ds)
 length-zero_arrays [] = refl
@@ -94,9 +83,6 @@ zero_arrays_count (p ∷ ps) =
 abbrev Stands : List (List ℕ) → List ℕ → List ℕ → ℕ → Type 0
 Stands names widths name w = (h : ℕ) × (slice_get names h ≡ Some name) × (slice_get widths h ≡ Some w)
 
-next_of : {A : Type 0} (x : A) (xs : List A) (k : ℕ) → slice_get (x ∷ xs) (suc k) ≡ slice_get xs k
-next_of x xs k = refl
-
 stands_later : (x name : List ℕ) (names : List (List ℕ)) (v w : ℕ) (widths : List ℕ) → Stands names widths name w → Stands (x ∷ names) (v ∷ widths) name w
 stands_later x name names v w widths h = (suc h.0, next_of x names h.0 ∙ h.1, next_of v widths h.0 ∙ h.2)
 
@@ -127,10 +113,6 @@ register_stands (p ∷ ps) ds name w =
     by_kind (λ o. o ≡ Some (kinds.Stored w) → Stands (p.name ∷ (map (λ q. q.name) ps ++ declared_nets ds)) (p.width ∷ net_widths ps ds) name w) (same_name p.name name) (Some (if p.output then kinds.Driven else kinds.Input)) (kind_in ps ds name)
     (λ e f. absurd (port_unstored p.output w f))
     (λ e f. stands_later p.name name (map (λ q. q.name) ps ++ declared_nets ds) p.width w (net_widths ps ds) (register_stands ps ds name w f))
-
-bind_some : {A B : Type 0} (f : A → Option B) (o : Option A) (y : B) → option_and_then f o ≡ Some y → (x : A) × (o ≡ Some x) × (f x ≡ Some y)
-bind_some f None y e = absurd (cc)
-bind_some f (Some x) y e = (x, refl, e)
 
 -- no output holds a value
 output_unheld : (ps : List Placed) (number holder w : ℕ) (net : List ℕ) → driving_output ps number holder net ≡ Some (Held w) → ⊥
@@ -165,7 +147,7 @@ held_stands tree i w name e =
     rw p.1 (register_stands p.0.part.ports p.0.part.decls name w stored)
 
 -- an array of zeros
-abbrev zeros : ℕ → ℕ → PlainWords
+abbrev pub zeros : ℕ → ℕ → PlainWords
 zeros w k = record { zero = zero_of w; words = replicate k (zero_of w) }
 
 -- the first array of a name

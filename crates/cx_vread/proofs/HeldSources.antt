@@ -12,7 +12,7 @@ use Rattle.cx_vtree.specs.Layout.{is_name, port_fits, decl_fits, assign_fits, in
 use Rattle.cx_vtree.specs.Plain.{PlainDecl, WireOf, RegisterOf, ArrayOf, PlainEdge, PlainModule, PlainExternal, PlainSource}
 use Rattle.cx_vtree.specs.Sound.{Break, Faults, no_faults, Scope, Counts, width_of, meant_in, decl_name, drivers_in, module_named, module_counts, module_faults, ports_faults, decls_faults, assigns_faults, instances_faults, edge_faults, sets_faults, items_faults, lines_faults, modules_faults, last_named, instance_kind, memory_module, arrays_in, not_this_memory, memory_arrays, not_this_width, has_name, external_faults, externals_faults, faults_of, break_of, is_sound}
 use Rattle.cx_vread.specs.Held.{holds_port, holds_decl, holds_assign, holds_item, holds_edge, holds_module, holds_external, is_held}
-use Rattle.cx_vread.proofs.SoundHeld.{is_clean, no_break, ports_held, decls_held, meant_small, assigns_held, sets_held, items_held, parts_of}
+use Rattle.cx_vread.proofs.SoundHeld.{is_clean, no_break, ports_held, decls_held, meant_small, assigns_held, sets_held, items_held, parts_of, not_not}
 
 split : (xs ys : List Faults) → list_all is_clean (xs ++ ys) ≡ true → (list_all is_clean xs ≡ true) × (list_all is_clean ys ≡ true)
 split xs ys h = and_parts (list_all is_clean xs) (list_all is_clean ys) (sym (list_all-append is_clean xs ys) ∙ h)
@@ -110,11 +110,6 @@ by_main ms (Some m) name h = by_kind ms (instance_kind m.instances name) h
 arrays_of : (o : Option PlainModule) → option_map_or has_lengths o true ≡ true → list_all is_length (option_map_or (λ m. arrays_in m.decls) o []) ≡ true
 arrays_of None h = refl
 arrays_of (Some m) h = h
-
--- The sizes of an external memory.
-not_not : (b : Bool) → not b ≡ false → b ≡ true
-not_not true h = refl
-not_not false h = absurd (cc)
 
 counted : (arrays : List (ℕ × ℕ)) (e : PlainExternal) → not_this_memory arrays e ≡ false → list_all is_length arrays ≡ true → is_length (0, word_count e.sizes) ≡ true
 counted [] e n h = absurd (cc)

@@ -193,7 +193,7 @@ deeper l m (Joined a b) le h =
 pub expr_held : (scope : Scope) (small : (n : List ℕ) → width_of (scope n) < 256) (e : PlainExpr) → misnames scope e ≡ false → is_some (fitting_width scope e) ≡ true → too_deep e ≡ false → holds_expr e ≡ true
 expr_held scope small e m f d = and_from (numbers_fit e) (not (nests_over 128 e)) (numbers_held scope small e m f) (ap not (deeper 64 128 e (omega arith) d))
 
-not_not : (b : Bool) → not b ≡ false → b ≡ true
+pub not_not : (b : Bool) → not b ≡ false → b ≡ true
 not_not true h = refl
 not_not false h = absurd (cc)
 

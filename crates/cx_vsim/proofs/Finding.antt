@@ -18,12 +18,12 @@ places_length tree (suc n) = ends (all_places tree n) (place_of tree n) ∙ ap s
     ends [] p = refl
     ends (q ∷ ps) p = ap suc (ends ps p)
 
-front_at : (ps : List NetPosition) (p q : NetPosition) (j : ℕ) → slice_get ps j ≡ Some q → slice_get (ps ++ p ∷ []) j ≡ Some q
+pub front_at : (ps : List NetPosition) (p q : NetPosition) (j : ℕ) → slice_get ps j ≡ Some q → slice_get (ps ++ p ∷ []) j ≡ Some q
 front_at [] p q j e = absurd (cc)
 front_at (x ∷ ps) p q zero e = e
 front_at (x ∷ ps) p q (suc j) e = front_at ps p q j e
 
-last_at : (ps : List NetPosition) (p : NetPosition) → slice_get (ps ++ p ∷ []) (length ps) ≡ Some p
+pub last_at : (ps : List NetPosition) (p : NetPosition) → slice_get (ps ++ p ∷ []) (length ps) ≡ Some p
 last_at [] p = refl
 last_at (x ∷ ps) p = last_at ps p
 
@@ -56,7 +56,7 @@ begun_later ps net i found p at gt b = record {
   here = b.here;
 }
 
-before_up : (lists : ℕ → List (List ℕ)) (i j : ℕ) → i ≤ j → before lists i ≤ before lists j
+pub before_up : (lists : ℕ → List (List ℕ)) (i j : ℕ) → i ≤ j → before lists i ≤ before lists j
 before_up lists i zero le =
     let e : i ≡ 0 = omega arith in
     let same : before lists i ≡ before lists 0 = ap (before lists) e in

@@ -9,57 +9,7 @@ use Rattle.cx_vnets.specs.Numbers.{before, nets_before, place_of}
 use Rattle.cx_vnets.specs.RunsFlat.{IsNet}
 use Rattle.cx_velab.specs.Tables.{all_places}
 use Rattle.std.proofs.Common.{[], ◌∷◌, ◌++◌, Option, None, map, ⊎_elim, refl}
-
-pub places_length : (tree : List Placed) (n : ℕ) → length (all_places tree n) ≡ n
-places_length tree zero = refl
-places_length tree (suc n) = ends (all_places tree n) (place_of tree n) ∙ ap suc (places_length tree n)
-  where
-    ends : (ps : List NetPosition) (p : NetPosition) → length (ps ++ p ∷ []) ≡ suc (length ps)
-    ends [] p = refl
-    ends (q ∷ ps) p = ap suc (ends ps p)
-
-front_at : (ps : List NetPosition) (p q : NetPosition) (j : ℕ) → slice_get ps j ≡ Some q → slice_get (ps ++ p ∷ []) j ≡ Some q
-front_at [] p q j e = absurd (cc)
-front_at (x ∷ ps) p q zero e = e
-front_at (x ∷ ps) p q (suc j) e = front_at ps p q j e
-
-last_at : (ps : List NetPosition) (p : NetPosition) → slice_get (ps ++ p ∷ []) (length ps) ≡ Some p
-last_at [] p = refl
-last_at (x ∷ ps) p = last_at ps p
-
-pub place_at : (tree : List Placed) (n j : ℕ) → j < n → slice_get (all_places tree n) j ≡ Some (place_of tree j)
-place_at tree zero j lt = absurd (omega arith)
-place_at tree (suc n) j lt = ⊎_elim
-    (λ less. front_at (all_places tree n) (place_of tree n) (place_of tree j) j (place_at tree n j less))
-    (λ le.
-    let same : n ≡ j = omega arith in
-    subst (λ k. slice_get (all_places tree (suc n)) k ≡ Some (place_of tree k)) same
-    (subst (λ k. slice_get (all_places tree (suc n)) k ≡ Some (place_of tree n)) (places_length tree n) (last_at (all_places tree n) (place_of tree n))))
-    (cases_lt j n)
-
-pub net_within : (tree : List Placed) (i k : ℕ) (n : List ℕ) → slice_get (nets_at tree i) k ≡ Some n → i < length tree
-net_within tree i k n at = ⊎_elim (λ lt. lt) (λ le. absurd (past (slice_get tree i) (slice_get_past tree i le) at)) (cases_lt i (length tree))
-  where
-    past : (o : Option Placed) → o ≡ None → slice_get (map (λ p. p.name) (option_map_or (λ p. p.part.ports) o []) ++ declared_nets (option_map_or (λ p. p.part.decls) o [])) k ≡ Some n → ⊥
-    past None e at = cc
-    past (Some p) e at = cc
-
-before_up : (lists : ℕ → List (List ℕ)) (i j : ℕ) → i ≤ j → before lists i ≤ before lists j
-before_up lists i zero le =
-    let e : i ≡ 0 = omega arith in
-    let same : before lists i ≡ before lists 0 = ap (before lists) e in
-    omega arith
-before_up lists i (suc j) le = ⊎_elim
-    (λ less.
-    let within : i ≤ j = omega arith in
-    let up = before_up lists i j within in
-    let step : before lists (suc j) ≡ before lists j + length (lists j) = refl in
-    omega arith)
-    (λ more.
-    let e : i ≡ suc j = omega arith in
-    let same : before lists i ≡ before lists (suc j) = ap (before lists) e in
-    omega arith)
-    (cases_lt i (suc j))
+use Rattle.cx_vsim.proofs.Finding.{places_length, front_at, last_at, place_at, before_up, net_within}
 
 module _ (places : List NetPosition) (tree : List Placed) (net i k r : ℕ) (all : places ≡ all_places tree (length tree)) (is : IsNet tree net i k) (found : r ≡ i) where
   pub inside : r < length tree
