@@ -1,3 +1,4 @@
 pub mod Values
 pub mod Ranks
 pub mod Runs
+pub mod KnownCycles
