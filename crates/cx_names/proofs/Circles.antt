@@ -17,7 +17,7 @@ use Rattle.cx_numbering.specs.DesignOf.{kind_or, plain_cell_of, component_of, de
 use Rattle.cx_numbering.specs.NameRules.{tell_if, component_kinds, some_part, leads_back, recursive_breaks, kind_breaks, external_breaks, cell_breaks}
 use Rattle.cx_names_scopes.proofs.NameLemmas.{same_name-refl}
 use Rattle.cx_names.proofs.Base.{in_at, in_map, in_flat, append_none, tell_none}
-use Rattle.cx_names.proofs.Numbers.{or_0, part_found}
+use Rattle.cx_names.proofs.NumberLemmas.{or_0, part_found}
 use Rattle.cx_names.proofs.There.{component_is, of_component}
 
 same_or_not : (m n : ℕ) → (m ≡ n) ⊎ (m ≡ n → ⊥)

@@ -17,10 +17,10 @@ use Rattle.cx_numbering.specs.DesignOf.{Invoke, cell_port, port_of, go_port, go_
 use Rattle.cx_numbering.specs.NameRules.{is_clock, is_unknown}
 use Rattle.cx_names.proofs.Base.{either, in_at, in_map, flat_in, in_either}
 use Rattle.cx_names.proofs.Kept.{from_not}
-use Rattle.cx_names.proofs.Numbers.{cell_found}
+use Rattle.cx_names.proofs.NumberLemmas.{cell_found}
 use Rattle.cx_names.proofs.There.{IsSource, source_there, cell_port_there}
 use Rattle.cx_names.proofs.Circles.{KeptCell}
-use Rattle.cx_names.proofs.Invokes.{Started, started, Register, register_of_form, KeptInvoke, input_named, input_source, output_named, output_register, output_known}
+use Rattle.cx_names.proofs.InvokeLemmas.{Started, started, Register, register_of_form, KeptInvoke, input_named, input_source, output_named, output_register, output_known}
 
 cell_or_literal : (c p w v : ℕ) → ports.Cell c p ≡ ports.Literal w v → ⊥
 cell_or_literal c p w v e = absurd cc

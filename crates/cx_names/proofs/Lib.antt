@@ -3,12 +3,12 @@ pub mod GuardLemmas
 pub mod PortLemmas
 pub mod Base
 pub mod Kept
-pub mod Numbers
+pub mod NumberLemmas
 pub mod Rows
 pub mod There
-pub mod Assigns
+pub mod AssignLemmas
 pub mod Circles
-pub mod Invokes
+pub mod InvokeLemmas
 pub mod InvokeGroups
 pub mod Statements
 pub mod Primitives

@@ -19,11 +19,11 @@ use Rattle.cx_numbering.specs.NameRules.{Standing, standing, named, duplicates, 
 use Rattle.cx_names_scopes.proofs.NameLemmas.{same_name-true}
 use Rattle.cx_names.proofs.Base.{in_map, map_in, append_none, tell_none, map_map, map_append, Distinct, distinct_from, apart, at_either, both}
 use Rattle.cx_names.proofs.Kept.{KeptPart, from_not}
-use Rattle.cx_names.proofs.Numbers.{or_0, number_is, part_found}
+use Rattle.cx_names.proofs.NumberLemmas.{or_0, number_is, part_found}
 use Rattle.cx_names.proofs.Primitives.{no_timer, nameable}
 use Rattle.cx_names.proofs.There.{of_component}
 use Rattle.cx_names.proofs.Circles.{KeptCell}
-use Rattle.cx_names.proofs.Invokes.{row_kept, and_parts}
+use Rattle.cx_names.proofs.InvokeLemmas.{row_kept, and_parts}
 
 -- PORTS of a signature
 signature_in : (list : List ast.PlainPort) (port : ast.PlainPort) → In (signature_ports list) port → In list port × (is_own_name port.name ≡ false)

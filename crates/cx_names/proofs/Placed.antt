@@ -21,7 +21,7 @@ use Rattle.cx_names.proofs.Base.{in_at, in_map, in_either}
 use Rattle.cx_names.proofs.Kept.{KeptPart, kept, kept_part}
 use Rattle.cx_names.proofs.There.{component_is}
 use Rattle.cx_names.proofs.Circles.{KeptCell, kept_cell}
-use Rattle.cx_names.proofs.Invokes.{KeptInvoke, kept_invoke, output_register}
+use Rattle.cx_names.proofs.InvokeLemmas.{KeptInvoke, kept_invoke, output_register}
 use Rattle.cx_names.proofs.Statements.{invoke_of_block, visited_of}
 use Rattle.cx_names.proofs.Written.{HasWires}
 use Rattle.cx_names.proofs.OfText.{assign_placed, always_wired, in_group, wires_of_text}

@@ -23,10 +23,10 @@ use Rattle.cx_numbering.specs.Names.{cell_names, cell_among, CellOf, Neither, AP
 use Rattle.cx_numbering.specs.DesignOf.{number_or_0, cell_port, register_of, kind_or, plain_cell_of, component_of, design_of}
 use Rattle.cx_numbering.specs.NameRules.{is_reg, found_reg, is_register_in, kind_breaks}
 use Rattle.cx_names.proofs.Base.{in_at}
-use Rattle.cx_names.proofs.Numbers.{or_0, cell_found}
+use Rattle.cx_names.proofs.NumberLemmas.{or_0, cell_found}
 use Rattle.cx_names.proofs.There.{component_is}
 use Rattle.cx_names.proofs.Circles.{KeptCell}
-use Rattle.cx_names.proofs.Invokes.{row_kept}
+use Rattle.cx_names.proofs.InvokeLemmas.{row_kept}
 
 -- the row's done is an output
 abbrev HasDone : Row → Type 0

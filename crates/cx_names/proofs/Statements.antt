@@ -25,7 +25,7 @@ use Rattle.cx_names_scopes.proofs.NameLemmas.{number_within}
 use Rattle.cx_names_scopes.proofs.NameLemmas as lookup
 use Rattle.cx_names.proofs.Base.{append_none, tell_none, in_left, in_right, in_either, some_at, front_at, back_at}
 use Rattle.cx_names.proofs.Kept.{from_not}
-use Rattle.cx_names.proofs.Numbers.{there, or_0}
+use Rattle.cx_names.proofs.NumberLemmas.{there, or_0}
 use Rattle.cx_names.proofs.There.{IsSource, source_there, part_is}
 
 module _ (tree : PlainTree) (part : ast.PlainComponent) where

@@ -24,7 +24,7 @@ use Rattle.cx_numbering.specs.NameRules.{is_own, is_clock, is_unknown, is_left_o
 use Rattle.cx_names_scopes.proofs.NameLemmas.{number_within}
 use Rattle.cx_names.proofs.Base.{either, both, append_none, tell_none}
 use Rattle.cx_names.proofs.Kept.{from_not}
-use Rattle.cx_names.proofs.Numbers.{there, or_0, cell_found, part_found}
+use Rattle.cx_names.proofs.NumberLemmas.{there, or_0, cell_found, part_found}
 
 -- PARTS OF INSTANCES
 pub part_within : (d : PlainDesign) (n k : ℕ) → part_of (tree_within d n k) ≡ component_at d k

@@ -20,11 +20,11 @@ use Rattle.cx_names_scopes.proofs.NameLemmas.{number_within, same_name-refl}
 use Rattle.cx_names.specs.Targets.{is_literal, HasTargets}
 use Rattle.cx_names.proofs.Base.{in_left, in_right, in_at, in_map, map_in, in_flat, Distinct, some_at, at_either}
 use Rattle.cx_names.proofs.Kept.{Kept, KeptPart, kept, kept_part}
-use Rattle.cx_names.proofs.Numbers.{there, or_0, number_at, number_is}
+use Rattle.cx_names.proofs.NumberLemmas.{there, or_0, number_at, number_is}
 use Rattle.cx_names.proofs.There.{part_is, component_is}
-use Rattle.cx_names.proofs.Assigns.{Owns, assign_kept}
+use Rattle.cx_names.proofs.AssignLemmas.{Owns, assign_kept}
 use Rattle.cx_names.proofs.Circles.{KeptCell, kept_cell, no_circle}
-use Rattle.cx_names.proofs.Invokes.{KeptInvoke, kept_invoke}
+use Rattle.cx_names.proofs.InvokeLemmas.{KeptInvoke, kept_invoke}
 use Rattle.cx_names.proofs.InvokeGroups.{invoke_kept}
 use Rattle.cx_names.proofs.Statements.{invokes_count, invoke_at, block_whole, invoke_of_block, visited_of}
 use Rattle.cx_names.proofs.Parts.{distinct_names, distinct_groups, cells_apart, ports_apart, groups_apart, no_primitive_name, inputs_are_ports, outputs_are_ports, main_inputs, main_outputs, cell_is}

@@ -12,7 +12,7 @@ pub mod ModuleWidths
 pub mod CodeSteps
 pub mod Numbering
 pub mod CodeValues
-pub mod Values
+pub mod FlatValues
 pub mod FlatSetSteps
 pub mod Registers
 pub mod FlatStoreSteps

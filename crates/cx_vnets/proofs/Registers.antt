@@ -22,7 +22,7 @@ use Rattle.cx_vnets.specs.Flat.{CodeStands}
 use Rattle.cx_vnets.specs.Memory.{StoredStands}
 use Rattle.cx_vnets.specs.EdgesFlat.{SetStands, SetsStand, AreApart, EdgesAreApart}
 use Rattle.cx_vnets.proofs.Numbering.{same_name-true, same_name-refl, number_at, number_once}
-use Rattle.cx_vnets.proofs.Values.{same_at}
+use Rattle.cx_vnets.proofs.FlatValues.{same_at}
 use Rattle.cx_vnets.proofs.FlatSetSteps.{sets_keep, sets_give}
 
 -- an assignment of a name is found

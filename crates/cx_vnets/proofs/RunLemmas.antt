@@ -24,7 +24,7 @@ use Rattle.cx_vnets.specs.Memory.{StoredStands}
 use Rattle.cx_vnets.specs.EdgesFlat.{AreApart, EdgesAreApart}
 use Rattle.cx_vnets.specs.RunsFlat.{MachineStands, IsMemory, MemoriesStand, AreWordsOf, AreAllWords, IsNet, OutcomeStands}
 use Rattle.cx_vnets.proofs.Numbering.{number_of}
-use Rattle.cx_vnets.proofs.Values.{net_there, loop_by_name}
+use Rattle.cx_vnets.proofs.FlatValues.{net_there, loop_by_name}
 use Rattle.cx_vnets.proofs.WordLemmas.{word_in_value}
 use Rattle.cx_vnets.proofs.EdgeLemmas.{even_stored, same_array_widths, moment_after, edge_same, no_stores}
 use Rattle.cx_vnets.proofs.WholeLooks.{same_length, whole_by_values, done_same}

@@ -19,7 +19,7 @@ use Rattle.cx_vnets.specs.Flat.{NetsStand}
 use Rattle.cx_vnets.specs.Memory.{StoredStands}
 use Rattle.cx_vnets.specs.EdgesFlat.{AreApart}
 use Rattle.cx_vnets.proofs.Numbering.{bind_some, number_at, number_of, number_below, net_within}
-use Rattle.cx_vnets.proofs.Values.{value_by_name, value_by_number, net_there}
+use Rattle.cx_vnets.proofs.FlatValues.{value_by_name, value_by_number, net_there}
 
 -- lists whose values have the same widths are of one length
 pub same_length : (xs ys : List BitVector) → SameWidths xs ys → length xs ≡ length ys

@@ -1,4 +1,4 @@
-use Rattle.cx_vnets.proofs.Values.{net_there}
+use Rattle.cx_vnets.proofs.FlatValues.{net_there}
 use Rattle.cx_vnets.proofs.flat_laws.all_are_nets.Goals as goal
 
 pub returns : goal.returns

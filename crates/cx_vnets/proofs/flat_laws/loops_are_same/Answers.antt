@@ -1,6 +1,6 @@
 use Rattle.std.proofs.Common.{subst, sym}
 use Rattle.cx_vnets.specs.Search.{IsFirstWithout}
-use Rattle.cx_vnets.proofs.Values.{loop_by_name, loop_by_number}
+use Rattle.cx_vnets.proofs.FlatValues.{loop_by_name, loop_by_number}
 use Rattle.cx_vnets.proofs.flat_laws.loops_are_same.Goals as goal
 
 pub returns : goal.returns

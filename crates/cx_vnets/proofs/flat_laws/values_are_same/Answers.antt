@@ -1,5 +1,5 @@
 use Rattle.std.proofs.Common.{refl}
-use Rattle.cx_vnets.proofs.Values.{value_by_name, value_by_number}
+use Rattle.cx_vnets.proofs.FlatValues.{value_by_name, value_by_number}
 use Rattle.cx_vnets.proofs.flat_laws.values_are_same.Goals as goal
 
 pub returns : goal.returns

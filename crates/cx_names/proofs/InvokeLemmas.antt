@@ -16,7 +16,7 @@ use Rattle.cx_ast.specs.PlainStatements as statements
 use Rattle.cx_names_scopes.proofs.NameLemmas.{is_among-cons, is_among-append}
 use Rattle.cx_names.proofs.Base.{append_none, flat_none, tell_none, both, either, in_at}
 use Rattle.cx_names.proofs.Kept.{from_not}
-use Rattle.cx_names.proofs.Numbers.{cell_found}
+use Rattle.cx_names.proofs.NumberLemmas.{cell_found}
 use Rattle.cx_names.proofs.Rows.{go_there, register_ports}
 use Rattle.cx_names.proofs.Circles.{KeptCell}
 

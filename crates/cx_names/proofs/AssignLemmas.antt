@@ -21,7 +21,7 @@ use Rattle.cx_names_scopes.proofs.NameLemmas.{same_name-true}
 use Rattle.cx_names.specs.Targets.{is_literal}
 use Rattle.cx_names.proofs.Base.{append_none, flat_none, tell_none, both, either, in_map, map_append}
 use Rattle.cx_names.proofs.Kept.{from_not}
-use Rattle.cx_names.proofs.Numbers.{or_0}
+use Rattle.cx_names.proofs.NumberLemmas.{or_0}
 use Rattle.cx_names.proofs.There.{IsSource, source_there, form_there}
 
 module _ (tree : PlainTree) (part : ast.PlainComponent) where
