@@ -1,7 +1,5 @@
-//! What the grammar has and designs have not: static components and static invokes.
-//! The rules on shapes of groups, guards, static control, calls and outputs.
-//! The checks of a design, one after the other.
-//! From a tree to an accepted design.
+//! Decides whether the tree of a design's text is accepted: what is left out, the rules on names and the stages of
+//! checks are tried in order, and the first rule that is broken is told with its place and name.
 #![tactic(auto)]
 
 pub mod accept_laws;

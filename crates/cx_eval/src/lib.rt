@@ -1,5 +1,5 @@
-//! The first pass of a cycle of the asked instance: the ports that its cells look at are demanded, and the first fault is found.
-//! What ports are seen as, and cycles, of the instances of a design.
+//! Evaluates an accepted design: what a port of an instance is seen as, and what one cycle of an instance does, each
+//! found on demand and without taking memory.
 #![tactic(auto)]
 
 mod cycling;

@@ -1,5 +1,5 @@
-//! Addresses of memories that are out of range.
-//! Cycles of an instance: how its cells are looked at, and their steps where what its ports are seen as is known.
+//! One cycle of an instance where what its ports are seen as is known: how each cell is looked at, the first fault,
+//! and the steps of all cells at once.
 #![tactic(auto)]
 
 pub mod laws;

@@ -1,9 +1,5 @@
-//! Numbers for the ports of all instances of a design.
-//! The ports that a port depends on at once, as lists.
-//! What marks show of the ports of an instance.
-//! What driven ports are seen as by one step.
-//! What each port of an instance is seen as by one step.
-//! An instance of a design that is asked what its ports are seen as.
+//! The ports of all instances of a design as the nodes of one network, under what is active in an instance that is
+//! asked: what each node leads to, and its value by one step from what is known of these.
 #![tactic(auto)]
 
 mod asking;

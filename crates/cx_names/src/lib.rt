@@ -1,8 +1,5 @@
-//! The parts of a design from those of a tree.
-//! Trees that keep the rules on names have designs.
-//! Targets in trees of texts.
-//! Places of operands in designs of texts.
-//! From a tree to its design.
+//! Makes the numbered design of a design's text from its tree, where no rule on names is broken, and tells the first
+//! break of these rules where one is.
 #![tactic(auto)]
 
 mod assigns;

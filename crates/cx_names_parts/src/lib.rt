@@ -1,5 +1,5 @@
-//! Which cells lead back to the component that they stand in.
-//! The first break of the rules on names.
+//! Tells the first break of the rules on names in the tree of a design's text, cells that lead back to their own
+//! component included.
 #![tactic(auto)]
 
 mod cells;

@@ -1,5 +1,5 @@
-//! What statements read and drive, by cells.
-//! The rule on races between the arms of a par.
+//! Checks the rule on races, the sixth stage of the checks of a design: no arm of a `par` or a `static par` drives
+//! what another arm reads, and no two arms enable one group.
 #![tactic(auto)]
 
 mod arms;

@@ -1,6 +1,5 @@
-//! What the assignments of one group that calls are: its called cells, its go, its enables, its captures, and its done.
-//! Which inputs of a called cell depend on an output or the done of the cell.
-//! The rule on the shape of calls.
+//! Checks the rule on calls: a group that drives ports of a component cell has the one form in which a call is
+//! written, and no other input of the called cell depends on an output or the done of that cell.
 #![tactic(auto)]
 
 mod assigns;

@@ -1,5 +1,5 @@
-//! Which ports of a component rest on state.
-//! The rules that speak of what rests on state: the dones of groups, signature outputs, and the port of a static if.
+//! Checks the rules that speak of state: the dones of groups, the outputs of signatures and the ports of `static if`
+//! rest on what cells hold, and no output leads back to an input of the same cycle.
 #![tactic(auto)]
 
 mod assigns;

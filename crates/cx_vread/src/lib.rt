@@ -1,5 +1,5 @@
-//! Reads the lines of a Verilog text: external memories and modules.
-//! Reads the text of a Verilog source.
+//! Reads the text of a Verilog source of the subset that `sim` runs, or tells the line and the kind of what it
+//! breaks.
 #![tactic(auto)]
 
 mod edges;
