@@ -1,5 +1,7 @@
-//! What drives a port, and what it is then seen as: the assignments of each port are found without a search, and come
-//! to one thing where the ports that they name are known.
+//! What one port is seen as, where the ports that it depends on are known.
+//! The first port that an assignment names and that is not known.
+//! What stands at the ports of a cell.
+//! The assignments of each port of a component.
 #![tactic(auto)]
 
 mod driving;
