@@ -12,7 +12,7 @@ pub mod InvokeLemmas
 pub mod InvokeGroups
 pub mod Statements
 pub mod Primitives
-pub mod Parts
+pub mod PartLemmas
 pub mod Whole
 pub mod TargetLemmas
 pub mod Rising

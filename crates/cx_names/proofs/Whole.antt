@@ -27,7 +27,7 @@ use Rattle.cx_names.proofs.Circles.{KeptCell, kept_cell, no_circle}
 use Rattle.cx_names.proofs.InvokeLemmas.{KeptInvoke, kept_invoke}
 use Rattle.cx_names.proofs.InvokeGroups.{invoke_kept}
 use Rattle.cx_names.proofs.Statements.{invokes_count, invoke_at, block_whole, invoke_of_block, visited_of}
-use Rattle.cx_names.proofs.Parts.{distinct_names, distinct_groups, cells_apart, ports_apart, groups_apart, no_primitive_name, inputs_are_ports, outputs_are_ports, main_inputs, main_outputs, cell_is}
+use Rattle.cx_names.proofs.PartLemmas.{distinct_names, distinct_groups, cells_apart, ports_apart, groups_apart, no_primitive_name, inputs_are_ports, outputs_are_ports, main_inputs, main_outputs, cell_is}
 
 module _ (tree : PlainTree) (k : ℕ) (part : ast.PlainComponent) (at : slice_get tree.components k ≡ Some part) (own : KeptPart tree part) (targets : (x : Standing) → In (standing part) x → is_literal x.assign.target.form ≡ false) where
   cells_kept : (cell : ast.PlainCell) → In part.cells cell → KeptCell tree part cell
