@@ -35,7 +35,7 @@ fn stages(alloc: Global, design: &Design) -> Result<(), Refusal>
     ensures rule { IfErr result (IsRefusal (plain_design design.now)) }
 {
     cx_widths::check(alloc, design)?;
-    crate::check(alloc, design)?;
+    crate::check_shapes(alloc, design)?;
     cx_comb::check(alloc, design)?;
     cx_race::check(alloc, design)?;
     cx_limits::limits(alloc, design)
