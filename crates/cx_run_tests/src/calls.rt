@@ -1,6 +1,6 @@
 //! Calls: the turns of the child, one more to end, and one in which registers are captured.
 
-use crate::runs::{ends, stops};
+use crate::runs::turns;
 use cx_driver::Status;
 use std::test::Fail;
 
@@ -89,11 +89,12 @@ const STOPS: [(&str, Status, &str); 5] = [
 ];
 
 #[test]
-fn turns(rt: HostRuntime) -> Result<(), Fail> {
-    ends(&rt, rt.alloc(), (CELLS, WIRES, CHILDREN), &TURNS)
-}
-
-#[test]
-fn early(rt: HostRuntime) -> Result<(), Fail> {
-    stops(&rt, rt.alloc(), (CELLS, WIRES, CHILDREN), 9, &STOPS)
+fn calls(rt: HostRuntime) -> Result<(), Fail> {
+    turns(
+        &rt,
+        rt.alloc(),
+        (CELLS, WIRES, CHILDREN),
+        &TURNS,
+        (9, &STOPS),
+    )
 }

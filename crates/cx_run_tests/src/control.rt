@@ -3,7 +3,7 @@
 //! A group that is done in the cycle behind its only active one takes two turns, a statement without parts one, and each test of a
 //! condition one.
 
-use crate::runs::{ends, stops};
+use crate::runs::turns;
 use cx_driver::Status;
 use std::test::Fail;
 
@@ -62,11 +62,6 @@ const ENDLESS: [(&str, Status, &str); 2] = [
 ];
 
 #[test]
-fn turns(rt: HostRuntime) -> Result<(), Fail> {
-    ends(&rt, rt.alloc(), (CELLS, WIRES, ""), &TURNS)
-}
-
-#[test]
-fn endless(rt: HostRuntime) -> Result<(), Fail> {
-    stops(&rt, rt.alloc(), (CELLS, WIRES, ""), 50, &ENDLESS)
+fn control(rt: HostRuntime) -> Result<(), Fail> {
+    turns(&rt, rt.alloc(), (CELLS, WIRES, ""), &TURNS, (50, &ENDLESS))
 }

@@ -1,6 +1,6 @@
 //! Static control: an island of n cycles takes n turns and an idle one, and does in each cycle what its schedule says.
 
-use crate::runs::{ends, stops};
+use crate::runs::turns;
 use cx_driver::Status;
 use std::test::Fail;
 
@@ -94,11 +94,6 @@ const STOPS: [(&str, Status, &str); 4] = [
 ];
 
 #[test]
-fn turns(rt: HostRuntime) -> Result<(), Fail> {
-    ends(&rt, rt.alloc(), (CELLS, WIRES, ""), &TURNS)
-}
-
-#[test]
-fn early(rt: HostRuntime) -> Result<(), Fail> {
-    stops(&rt, rt.alloc(), (CELLS, WIRES, ""), 60, &STOPS)
+fn islands(rt: HostRuntime) -> Result<(), Fail> {
+    turns(&rt, rt.alloc(), (CELLS, WIRES, ""), &TURNS, (60, &STOPS))
 }

@@ -14,6 +14,8 @@ mod data;
 #[cfg(test)]
 mod islands;
 #[cfg(test)]
+mod misreadings;
+#[cfg(test)]
 mod outside;
 #[cfg(test)]
 mod parallel;

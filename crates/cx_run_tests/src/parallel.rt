@@ -1,6 +1,6 @@
 //! Arms that run beside each other: a `par` takes as many turns as its longest arm, each as if it ran alone.
 
-use crate::runs::{ends, stops};
+use crate::runs::turns;
 use cx_driver::Status;
 use std::test::Fail;
 
@@ -90,11 +90,6 @@ const FAULTS: [(&str, Status, &str); 6] = [
 ];
 
 #[test]
-fn turns(rt: HostRuntime) -> Result<(), Fail> {
-    ends(&rt, rt.alloc(), (CELLS, WIRES, ""), &TURNS)
-}
-
-#[test]
-fn faults(rt: HostRuntime) -> Result<(), Fail> {
-    stops(&rt, rt.alloc(), (CELLS, WIRES, ""), 77, &FAULTS)
+fn parallel(rt: HostRuntime) -> Result<(), Fail> {
+    turns(&rt, rt.alloc(), (CELLS, WIRES, ""), &TURNS, (77, &FAULTS))
 }

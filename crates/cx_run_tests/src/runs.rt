@@ -113,30 +113,21 @@ pub(crate) fn stores(
     interprets(rt, alloc, parts, (data, turns), (Status::Done, &out, ""))
 }
 
-/// Each control ends after so many turns with this word in `mem`, which was 5, and not with one turn less.
-pub(crate) fn ends(
+/// Each control ends after so many turns with this word in `mem`, which was 5, and not with one turn less. Within a budget each of others
+/// comes to this status and line.
+pub(crate) fn turns(
     rt: &impl Abort,
     alloc: Global,
     (cells, wires, behind): (&str, &str, &str),
-    rows: &[(&str, u64, u64)],
+    ends: &[(&str, u64, u64)],
+    (budget, stops): (u64, &[(&str, Status, &str)]),
 ) -> Result<(), Fail> {
-    for (control, turns, word) in rows.iter() {
+    for (control, turns, word) in ends.iter() {
         let parts = (cells, wires, *control, behind);
         stores(rt, alloc, parts, FIVE, (*turns, *word))?;
         wants_more(rt, alloc, parts, (FIVE, turns.saturating_sub(1)))?;
     }
-    Ok(())
-}
-
-/// Each control comes to this status and line within a budget.
-pub(crate) fn stops(
-    rt: &impl Abort,
-    alloc: Global,
-    (cells, wires, behind): (&str, &str, &str),
-    budget: u64,
-    rows: &[(&str, Status, &str)],
-) -> Result<(), Fail> {
-    for (control, status, err) in rows.iter() {
+    for (control, status, err) in stops.iter() {
         let parts = (cells, wires, *control, behind);
         interprets(rt, alloc, parts, (FIVE, budget), (*status, "", *err))?;
     }
