@@ -1,7 +1,7 @@
 use Rattle.std.proofs.Common.{rules, ◌≡◌, ◌<◌, length, sym, ◌∙◌, subst}
 use Rattle.std.proofs.lemmas.List.{length-map}
 use Rattle.cx_graphs.specs.Graphs.{In, edges_of, targets_of}
-use Rattle.cx_graphs.proofs.Ways.{targets_are}
+use Rattle.cx_graphs.proofs.EdgeLemmas.{targets_are}
 use Rattle.cx_graphs.proofs.WalkLemmas.{targets_within}
 use Rattle.cx_comb.specs.Pruning.{AreMarked}
 use Rattle.cx_comb.proofs.TargetLemmas.{IsKeptSo, none_kept, more_kept, all_kept}
@@ -15,7 +15,7 @@ marked-requires c =
     let lists = c.args.graph.now in
     let node = c.loop-node.node in
     let here : node < length lists = search rules in
-    let same : targets_of (edges_of lists) node ≡ c.as_slice.result.now = targets_are lists node c.index-graph-node.result here c.index-graph-node.is ∙ sym c.as_slice.ensures.value in
+    let same : targets_of (edges_of lists) node ≡ c.as_slice.result.now = sym (targets_are lists node c.index-graph-node.result here c.index-graph-node.is) ∙ sym c.as_slice.ensures.value in
     record { within = λ n i. subst (λ k. n < k) (length-map lists (λ v. v.items) ∙ sym c.requires.marks) (c.requires.graph node n (subst (λ l. In l n) (sym same) i)) }
 
 pub loop-node-preserved : goal.loop-node-preserved
@@ -23,7 +23,7 @@ loop-node-preserved c =
     let lists = c.args.graph.now in
     let node = c.loop-node.node in
     let here : node < length lists = search rules in
-    let same : targets_of (edges_of lists) node ≡ c.as_slice.result.now = targets_are lists node c.index-graph-node.result here c.index-graph-node.is ∙ sym c.as_slice.ensures.value in
+    let same : targets_of (edges_of lists) node ≡ c.as_slice.result.now = sym (targets_are lists node c.index-graph-node.result here c.index-graph-node.is) ∙ sym c.as_slice.ensures.value in
     more_kept (edges_of lists) c.args.marks.now node c.loop-node.kept.items c.push.new.self.items c.in_ok-list.list c.in_ok-push.ensures.items c.loop-node.invariant
     (subst (λ l. AreMarked l c.args.marks.now c.in_ok-list.list.items) (sym same) c.in_ok-list.ensures.value)
 
