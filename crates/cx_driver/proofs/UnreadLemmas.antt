@@ -53,28 +53,18 @@ one_stage_one (no_tree text tokens a lexed f) (no_tree _ others b again g) = one
 -- what is told of a token that cannot be read
 pub no_token : (fault : LexFault) (rule : Rule) (bytes : List ℕ) (stop : Stop) → bytes ≡ [] → rule_of fault.kind ≡ Some rule →
     ((stop ≡ stops.Memory) ⊎ (stop ≡ stops.Rule (record { rule = rule; place = fault.place; name = bytes }))) → IsNoToken fault stop
-no_token fault rule bytes stop none is (inl e) = subst (IsNoToken fault) (sym e) tt
-no_token fault rule bytes stop none is (inr e) = subst (IsNoToken fault) (sym e) (rule, is, ap (λ b. record { rule = rule; place = fault.place; name = b }) none)
+no_token fault rule bytes stop none is (inl e) = inl e
+no_token fault rule bytes stop none is (inr e) = inr (record { rule = rule; place = fault.place; name = bytes }, (rule, is, ap (λ b. record { rule = rule; place = fault.place; name = b }) none), e)
 
 pub lexical_fault : (text : List ℕ) (fault : LexFault) (stop : Stop) → ((fault ≡ memory_fault) ⊎ FirstFault text fault.kind fault.place) → IsNoToken fault stop → IsNoTree text stop
-lexical_fault text fault (stops.Rule told) (inl memory) k = absurd (let none : rule_of fault.kind ≡ None = ap (λ (f : LexFault). rule_of f.kind) memory in let some = k.1 in cc)
-lexical_fault text fault (stops.Rule told) (inr first) k = subst (StageOneFault text) (sym k.2) (no_tokens text fault.kind k.0 fault.place first k.1)
-lexical_fault text fault (stops.Json data_fault) first k = k
-lexical_fault text fault (stops.More budget) first k = k
-lexical_fault text fault (stops.Verilog refused) first k = k
-lexical_fault text fault (stops.Fault kind path turn) first k = k
-lexical_fault text fault (stops.Loop path) first k = k
-lexical_fault text fault stops.Memory first k = tt
+lexical_fault text fault stop first (inl memory) = inl memory
+lexical_fault text fault stop (inl memory) (inr k) = absurd (let none : rule_of fault.kind ≡ None = ap (λ (f : LexFault). rule_of f.kind) memory in let some = k.1.1 in cc)
+lexical_fault text fault stop (inr first) (inr k) = inr (k.0, subst (StageOneFault text) (sym k.1.2) (no_tokens text fault.kind k.1.0 fault.place first k.1.1), k.2)
 
 -- what is told of tokens that are no file
 file_fault : (text : List ℕ) (tokens : List Token) (stop : Stop) → Lex text tokens → IsNoFile tokens stop → IsNoTree text stop
-file_fault text tokens (stops.Rule told) lexed k = no_tree text tokens told lexed k
-file_fault text tokens (stops.Json data_fault) lexed k = k
-file_fault text tokens (stops.More budget) lexed k = k
-file_fault text tokens (stops.Verilog refused) lexed k = k
-file_fault text tokens (stops.Fault kind path turn) lexed k = k
-file_fault text tokens (stops.Loop path) lexed k = k
-file_fault text tokens stops.Memory lexed k = tt
+file_fault text tokens stop lexed (inl memory) = inl memory
+file_fault text tokens stop lexed (inr k) = inr (k.0, no_tree text tokens k.0 lexed k.1, k.2)
 
 pub read_tree_of : (text : List ℕ) (tokens : List Token) (r : Result Tree Stop) → Lex text tokens → IfOk r (λ tree. Parse tokens (plain_tree tree)) → IfOk r (λ tree. HasTree text (plain_tree tree))
 read_tree_of text tokens (Ok tree) lexed p = (tokens, lexed, p)
@@ -92,24 +82,24 @@ pub no_file_unexpected : (tokens : List Token) (why : Unread) (left : ℕ) (plac
     why ≡ unread.Unexpected left → ((why ≡ unread.Memory) ⊎ IsStop tokens why) →
     place ≡ place_left_of tokens left → bytes ≡ name_at (drop (length tokens - left) tokens) →
     ((stop ≡ stops.Memory) ⊎ (stop ≡ stops.Rule (record { rule = rules.Unexpected; place = place; name = bytes }))) → IsNoFile tokens stop
-no_file_unexpected tokens why left place bytes stop why_is s at named (inl e) = subst (IsNoFile tokens) (sym e) tt
+no_file_unexpected tokens why left place bytes stop why_is s at named (inl e) = inl e
 no_file_unexpected tokens why left place bytes stop why_is (inl none) at named (inr e) = absurd (cc)
 no_file_unexpected tokens why left place bytes stop why_is (inr l) at named (inr e) =
     let k : IsStop tokens (unread.Unexpected left) = subst (IsStop tokens) why_is l in
     let back : drop (length tokens - left) tokens ≡ k.1 = drop_back tokens k.0 k.1 left k.2.whole k.3 in
     let there : place_at k.1 tokens ≡ place = sym (at ∙ ap (λ us. place_at us tokens) back) in
     let called : name_at k.1 ≡ bytes = sym (named ∙ ap name_at back) in
-    subst (IsNoFile tokens) (sym e) (subst (TokensFault tokens) (fault_same rules.Unexpected there called) (unexpected tokens k.0 k.1 k.2))
+    inr (record { rule = rules.Unexpected; place = place; name = bytes }, subst (TokensFault tokens) (fault_same rules.Unexpected there called) (unexpected tokens k.0 k.1 k.2), e)
 
 pub no_file_deep : (tokens : List Token) (why : Unread) (left : ℕ) (place : Place) (bytes : List ℕ) (stop : Stop) →
     why ≡ unread.TooDeep left → ((why ≡ unread.Memory) ⊎ IsStop tokens why) →
     place ≡ place_left_of tokens left → bytes ≡ [] →
     ((stop ≡ stops.Memory) ⊎ (stop ≡ stops.Rule (record { rule = rules.TooDeep; place = place; name = bytes }))) → IsNoFile tokens stop
-no_file_deep tokens why left place bytes stop why_is s at named (inl e) = subst (IsNoFile tokens) (sym e) tt
+no_file_deep tokens why left place bytes stop why_is s at named (inl e) = inl e
 no_file_deep tokens why left place bytes stop why_is (inl none) at named (inr e) = absurd (cc)
 no_file_deep tokens why left place bytes stop why_is (inr l) at named (inr e) =
     let k : IsStop tokens (unread.TooDeep left) = subst (IsStop tokens) why_is l in
     let back : drop (length tokens - left) tokens ≡ k.1 = drop_back tokens k.0 k.1 left k.2.whole k.3 in
     let there : place_at k.1 tokens ≡ place = sym (at ∙ ap (λ us. place_at us tokens) back) in
     let called : [] ≡ bytes = sym named in
-    subst (IsNoFile tokens) (sym e) (subst (TokensFault tokens) (fault_same rules.TooDeep there called) (too_deep tokens k.0 k.1 k.2))
+    inr (record { rule = rules.TooDeep; place = place; name = bytes }, subst (TokensFault tokens) (fault_same rules.TooDeep there called) (too_deep tokens k.0 k.1 k.2), e)

@@ -1,6 +1,7 @@
 -- What the words after the program's name ask for.
-use Rattle.std.specs.Prelude.{◌≡◌, ℕ, ◌≤◌, List, [], ◌∷◌, codes, Contains}
+use Rattle.std.specs.Prelude.{◌≡◌, ℕ, ◌≤◌, List, [], ◌∷◌, codes, Contains, map}
 use Rattle.std.specs.Str.Parse.{IsNumeral, digits_value}
+use Rattle.cx_text.specs.declared.limits.TheConstants.{BUDGET, DESIGN_BYTES, DATA_BYTES, VERILOG_BYTES}
 
 -- a command: which files it reads, and its budget where it has one
 pub data Asked : Type 0 where
@@ -12,7 +13,7 @@ pub data Asked : Type 0 where
 pub record IsBudget (digits : List ℕ) (budget : ℕ) : Type 0 where
   pub numeral : IsNumeral 10 digits
   pub value : digits_value 10 digits ≡ budget
-  pub limit : budget ≤ 1000000000000
+  pub limit : budget ≤ BUDGET
 
 -- the words are this name, two files and the digits of a budget
 abbrev pub AsksRun : List (List ℕ) → List ℕ → List ℕ → List ℕ → ℕ → Type 0
@@ -33,11 +34,19 @@ pub record AsksNoRun (words : List (List ℕ)) : Type 0 where
 abbrev pub AsksNothing : List (List ℕ) → Type 0
 AsksNothing words = (command : Asked) → Asks words command → ⊥
 
--- the files that a command reads, in their order
+-- a file that a command reads, and the most bytes that it may have
+pub record Wanted : Type 0 where
+  pub file : List ℕ
+  pub most : ℕ
+
+-- the files that a command reads, in the order of the words
+abbrev pub wanted_by : Asked → List Wanted
+wanted_by (interp design json budget) = record { file = design; most = DESIGN_BYTES } ∷ record { file = json; most = DATA_BYTES } ∷ []
+wanted_by (check design) = record { file = design; most = DESIGN_BYTES } ∷ []
+wanted_by (sim verilog json budget) = record { file = verilog; most = VERILOG_BYTES } ∷ record { file = json; most = DATA_BYTES } ∷ []
+
 abbrev pub files_of : Asked → List (List ℕ)
-files_of (interp design json budget) = design ∷ json ∷ []
-files_of (check design) = design ∷ []
-files_of (sim verilog json budget) = verilog ∷ json ∷ []
+files_of command = map (λ w. w.file) (wanted_by command)
 
 -- the words ask for a command that reads this file
 abbrev pub IsFileOf : List (List ℕ) → List ℕ → Type 0

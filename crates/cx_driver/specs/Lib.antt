@@ -1,10 +1,14 @@
 pub mod Commands
+pub mod Reads
+pub mod Stopping
 pub mod Unread
 pub mod Texts
 pub mod Loads
 pub mod Interpreted
 pub mod Simulated
-pub mod Dumps
+pub mod Laws
+pub mod Outcomes
 pub mod Causes
 pub mod Asked
 pub mod Messages
+pub mod Statuses

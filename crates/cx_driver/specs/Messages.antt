@@ -67,7 +67,7 @@ stop_line stops.Memory = codes "memory"
 -- without its line feed
 abbrev pub text_line : Refusal → List ℕ
 text_line (refusals.TooLong file seen) = codes "too-long" ++ part file.now ++ number seen
-text_line (refusals.ReadFault file) = codes "read-fault " ++ file.now
+text_line (refusals.ReadFault file) = codes "read-fault" ++ part file.now
 text_line (refusals.Stop stop) = stop_line stop
 
 abbrev pub line_of : Refusal → List ℕ

@@ -1,6 +1,6 @@
 -- What is refused in a text before any of its names is looked up: the first token that cannot be read, or the first place
 -- at which its tokens are no file.
-use Rattle.std.specs.Prelude.{◌≡◌, ◌⊎◌, ℕ, List, [], ◌∷◌, Option, Some, None}
+use Rattle.std.specs.Prelude.{◌≡◌, ℕ, List, [], ◌∷◌, Option, Some, None}
 use Rattle.cx_text.specs.declared.diagnostics.Diagnostic.{Diagnostic}
 use Rattle.cx_text.specs.declared.places.Place.{Place}
 use Rattle.cx_text.specs.declared.rules.Rule.{Rule}
@@ -16,7 +16,7 @@ use Rattle.cx_lex.specs.Lex.{Lex, FirstFault}
 use Rattle.cx_grammar.specs.Parsing.{Parse, IsUnexpected, IsDeep}
 use Rattle.cx_parse.specs.Whole.{place_at}
 use Rattle.cx_driver.specs.declared.stops.Stop.{Stop}
-use Rattle.cx_driver.specs.declared.stops.Stop.TheVariants as stops
+use Rattle.cx_driver.specs.Stopping.{TellsBreak}
 
 -- the rule of a token that cannot be read
 abbrev pub rule_of : LexKind → Option Rule
@@ -53,35 +53,17 @@ pub data StageOneFault : List ℕ → Diagnostic → Type 0 where
 abbrev pub HasTree : List ℕ → PlainTree → Type 0
 HasTree text tree = (tokens : List Token) × Lex text tokens × Parse tokens tree
 
--- what is told of a token that cannot be read, unless memory is wanting
+-- what is told of a token that cannot be read
 abbrev pub IsNoToken : LexFault → Stop → Type 0
-IsNoToken fault (stops.Rule told) = (rule : Rule) × (rule_of fault.kind ≡ Some rule) × (told ≡ record { rule = rule; place = fault.place; name = [] })
-IsNoToken fault (stops.Verilog refused) = ⊥
-IsNoToken fault (stops.Json data_fault) = ⊥
-IsNoToken fault (stops.More budget) = ⊥
-IsNoToken fault (stops.Fault kind path turn) = ⊥
-IsNoToken fault (stops.Loop path) = ⊥
-IsNoToken fault stops.Memory = Unit {0}
+IsNoToken fault stop = TellsBreak (λ told. (rule : Rule) × (rule_of fault.kind ≡ Some rule) × (told ≡ record { rule = rule; place = fault.place; name = [] })) stop
 
--- what is told of tokens that are no file, unless memory is wanting
+-- what is told of tokens that are no file
 abbrev pub IsNoFile : List Token → Stop → Type 0
-IsNoFile tokens (stops.Rule fault) = TokensFault tokens fault
-IsNoFile tokens (stops.Verilog refused) = ⊥
-IsNoFile tokens (stops.Json data_fault) = ⊥
-IsNoFile tokens (stops.More budget) = ⊥
-IsNoFile tokens (stops.Fault kind path turn) = ⊥
-IsNoFile tokens (stops.Loop path) = ⊥
-IsNoFile tokens stops.Memory = Unit {0}
+IsNoFile tokens stop = TellsBreak (TokensFault tokens) stop
 
--- what is told of a text without a tree, unless memory is wanting
+-- what is told of a text without a tree
 abbrev pub IsNoTree : List ℕ → Stop → Type 0
-IsNoTree text (stops.Rule fault) = StageOneFault text fault
-IsNoTree text (stops.Verilog refused) = ⊥
-IsNoTree text (stops.Json data_fault) = ⊥
-IsNoTree text (stops.More budget) = ⊥
-IsNoTree text (stops.Fault kind path turn) = ⊥
-IsNoTree text (stops.Loop path) = ⊥
-IsNoTree text stops.Memory = Unit {0}
+IsNoTree text stop = TellsBreak (StageOneFault text) stop
 
 -- the text has a tree
 abbrev pub IsRead : List ℕ → Type 0

@@ -5,6 +5,7 @@ mod accepting;
 mod commands;
 mod faults;
 mod interpreting;
+pub mod laws;
 mod memories;
 mod messages;
 mod reading;

@@ -32,18 +32,9 @@ fn push_refusal(line: &mut Vec<u8>, refusal: &Refusal<'_>) -> Result<(), Memory>
             push_part(line, file)?;
             push_number(line, *seen)
         }
-        Refusal::ReadFault { file } => push_both(line, b"read-fault ", file),
+        Refusal::ReadFault { file } => push_behind(line, b"read-fault", file),
         Refusal::Stop(stop) => push_stop(line, stop),
     }
-}
-
-/// Appends two texts.
-fn push_both(line: &mut Vec<u8>, first: &[u8], second: &[u8]) -> Result<(), Memory>
-    ensures value { IfOk result (λ _. line.new.items ≡ line.old.items ++ (first.now ++ second.now)) }
-{
-    line.extend_from_slice(first)?;
-    line.extend_from_slice(second)?;
-    Ok(())
 }
 
 fn push_stop(line: &mut Vec<u8>, stop: &Stop) -> Result<(), Memory>

@@ -35,7 +35,7 @@ pub(crate) enum Refusal<'a> {
 }
 
 impl Refusal<'_> {
-    ghost use Rattle.cx_driver.specs.Causes.{status_of};
+    ghost use Rattle.cx_driver.specs.Statuses.{status_of};
 
     /// The status with which the program ends.
     pub(crate) fn status(&self) -> Status
