@@ -1,19 +1,19 @@
 -- Why a command has no answer.
 use Rattle.std.proofs.Common.{◌≡◌, ◌⊎◌, inl, inr, ⊎_elim, ℕ, List, [], ◌∷◌, ◌++◌, Option, Some, None, Contains, Result, Ok, Err, IfOk, IfErr, OnOk, OnErr, codes, refl, sym, ap, ◌∙◌, subst}
 use Rattle.cx_text.specs.declared.limits.TheConstants.{DESIGN_BYTES}
-use Rattle.cx_driver.specs.Commands.{Asked, check, files_of, wanted_by}
-use Rattle.cx_driver.specs.Reads.{HoldsWithin, IsReadFault}
+use Rattle.cx_commands.specs.Commands.{Asked, check, files_of, wanted_by}
+use Rattle.cx_commands.specs.Reads.{HoldsWithin, IsReadFault}
 use Rattle.cx_driver.specs.Texts.{IsAcceptedText, IsTextRefusal}
 use Rattle.cx_driver.specs.Outcomes.{IsAnswer, StopsCommand}
-use Rattle.cx_driver.specs.declared.refusals.Refusal.{Refusal}
-use Rattle.cx_driver.specs.declared.refusals.Refusal.TheVariants as refusals
-use Rattle.cx_driver.specs.declared.refusals.Status.{Status}
-use Rattle.cx_driver.specs.declared.refusals.Status.TheVariants as statuses
-use Rattle.cx_driver.specs.declared.stops.Stop.{Stop}
-use Rattle.cx_driver.specs.declared.stops.Stop.TheVariants as stops
+use Rattle.cx_commands.specs.declared.refusals.Refusal.{Refusal}
+use Rattle.cx_commands.specs.declared.refusals.Refusal.TheVariants as refusals
+use Rattle.cx_commands.specs.declared.refusals.Status.{Status}
+use Rattle.cx_commands.specs.declared.refusals.Status.TheVariants as statuses
+use Rattle.cx_commands.specs.declared.stops.Stop.{Stop}
+use Rattle.cx_commands.specs.declared.stops.Stop.TheVariants as stops
 use Rattle.cx_driver.specs.Causes.{IsMemory, HasCause, ToldWhy}
-use Rattle.cx_driver.specs.Statuses.{IsRefusing, ReceivesLine, fixed_line, status_of}
-use Rattle.cx_driver.specs.Messages.{line_of}
+use Rattle.cx_commands.specs.Statuses.{IsRefusing, ReceivesLine, fixed_line, status_of}
+use Rattle.cx_commands.specs.Messages.{line_of}
 use Rattle.cx_driver.proofs.ReadLemmas.{Held, unread_in}
 
 done_tells_nothing : (status : Status) → status ≡ statuses.Done → IsRefusing status → ⊥

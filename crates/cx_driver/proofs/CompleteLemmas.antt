@@ -2,19 +2,19 @@
 use Rattle.std.proofs.Common.{◌≡◌, ◌⊎◌, inl, inr, ℕ, List, Option, Some, None, Ok, Err, IsSomeAnd, codes, sym, ap, ◌∙◌, subst}
 use Rattle.cx_outside.specs.Counts.{HasRisen}
 use Rattle.cx_text.specs.declared.limits.TheConstants.{DESIGN_BYTES, DATA_BYTES, VERILOG_BYTES}
-use Rattle.cx_driver.specs.Commands.{Asked, interp, check, sim, wanted_by}
+use Rattle.cx_commands.specs.Commands.{Asked, interp, check, sim, wanted_by}
 use Rattle.cx_driver.specs.Interpreted.{Interprets}
 use Rattle.cx_driver.specs.Outcomes.{Checks, Does, IsAnswer, CanAnswer}
-use Rattle.cx_driver.specs.Reads.{HoldsWithin, OfFile}
+use Rattle.cx_commands.specs.Reads.{HoldsWithin, OfFile}
 use Rattle.cx_driver.specs.Simulated.{Simulates}
 use Rattle.cx_driver.specs.Causes.{HasCause}
-use Rattle.cx_driver.specs.Statuses.{status_of}
-use Rattle.cx_driver.specs.declared.refusals.Refusal.{Refusal}
-use Rattle.cx_driver.specs.declared.refusals.Refusal.TheVariants as refusals
-use Rattle.cx_driver.specs.declared.refusals.Status.{Status}
-use Rattle.cx_driver.specs.declared.refusals.Status.TheVariants as statuses
-use Rattle.cx_driver.specs.declared.stops.Stop.{Stop}
-use Rattle.cx_driver.specs.declared.stops.Stop.TheVariants as stops
+use Rattle.cx_commands.specs.Statuses.{status_of}
+use Rattle.cx_commands.specs.declared.refusals.Refusal.{Refusal}
+use Rattle.cx_commands.specs.declared.refusals.Refusal.TheVariants as refusals
+use Rattle.cx_commands.specs.declared.refusals.Status.{Status}
+use Rattle.cx_commands.specs.declared.refusals.Status.TheVariants as statuses
+use Rattle.cx_commands.specs.declared.stops.Stop.{Stop}
+use Rattle.cx_commands.specs.declared.stops.Stop.TheVariants as stops
 use Rattle.cx_driver.proofs.Once.{not_both}
 use Rattle.cx_driver.proofs.TextLemmas.{accepted_once}
 use Rattle.cx_driver.proofs.InterpLemmas.{one_result}

@@ -4,8 +4,8 @@ use Rattle.cx_text.specs.Loading.{PlainRow, PlainMemory}
 use Rattle.cx_data.specs.Load.{load_of}
 use Rattle.cx_meaning.specs.Designs.{PlainDesign}
 use Rattle.cx_rules.specs.Externals.{external_rows}
-use Rattle.cx_driver.specs.declared.stops.Stop.{Stop}
-use Rattle.cx_driver.specs.declared.stops.Stop.TheVariants as stops
+use Rattle.cx_commands.specs.declared.stops.Stop.{Stop}
+use Rattle.cx_commands.specs.declared.stops.Stop.TheVariants as stops
 use Rattle.cx_driver.specs.Loads.{IsUnloaded}
 use Rattle.cx_driver.specs.Texts.{IsDesignOf, IsTextRefusal}
 use Rattle.cx_driver.specs.Interpreted.{loaded_result, design_result, Interprets, IsInterpAnswer, IsInterpStop, StopsText, IsDesignAnswer, IsDesignStop, IsRunAnswer, StopsRun}

@@ -1,14 +1,10 @@
 pub mod RowWidths
 pub mod ReadLemmas
-pub mod Four
 pub mod Once
-pub mod UnreadLemmas
 pub mod TextLemmas
 pub mod InterpLemmas
 pub mod FaultLemmas
 pub mod RanLemmas
-pub mod MessageLemmas
 pub mod SimLemmas
 pub mod CauseLemmas
 pub mod CompleteLemmas
-pub mod CommandLemmas

@@ -1,7 +1,7 @@
 -- Where what something does is one thing, an answer that there is is given and what stops it is told, unless memory is wanting.
 use Rattle.std.proofs.Common.{◌≡◌, ◌⊎◌, inl, inr, ℕ, List, Result, Ok, Err, IfOk, IfErr, MatchResult, sym, ap}
-use Rattle.cx_driver.specs.declared.stops.Stop.{Stop}
-use Rattle.cx_driver.specs.declared.stops.Stop.TheVariants as stops
+use Rattle.cx_commands.specs.declared.stops.Stop.{Stop}
+use Rattle.cx_commands.specs.declared.stops.Stop.TheVariants as stops
 
 abbrev pub Told : Type 0
 Told = Result (List ℕ) Stop

@@ -2,11 +2,11 @@
 use Rattle.std.proofs.Common.{ℕ, suc, ◌+◌, ◌<◌, ◌≤◌, ◌≡◌, ◌⊎◌, inl, inr, List, [], ◌∷◌, Option, Some, None, map, length, Contains, refl, sym, ap, ◌∙◌, subst, arith}
 use Rattle.cx_outside.specs.Counts.{HasRisen}
 use Rattle.cx_outside.specs.Reading.{Holds, IsAbsent, HasLength}
-use Rattle.cx_driver.specs.declared.refusals.Refusal.{Refusal}
-use Rattle.cx_driver.specs.declared.refusals.Refusal.TheVariants as refusals
+use Rattle.cx_commands.specs.declared.refusals.Refusal.{Refusal}
+use Rattle.cx_commands.specs.declared.refusals.Refusal.TheVariants as refusals
 use Rattle.cx_driver.specs.Causes.{IsOfFile, HasCause}
-use Rattle.cx_driver.specs.Commands.{Asked, Wanted, wanted_by, files_of}
-use Rattle.cx_driver.specs.Reads.{HoldsWithin, OfFile, FirstOf, here, later, IsOver, IsUnread, IsReadFault}
+use Rattle.cx_commands.specs.Commands.{Asked, Wanted, wanted_by, files_of}
+use Rattle.cx_commands.specs.Reads.{HoldsWithin, OfFile, FirstOf, here, later, IsOver, IsUnread, IsReadFault}
 
 abbrev pub Held : Type 0
 Held = Option (List ℕ → Option (List ℕ))

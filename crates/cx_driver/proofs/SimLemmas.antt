@@ -26,8 +26,8 @@ use Rattle.cx_vread.proofs.HeldSources.{sound_held}
 use Rattle.cx_vread.proofs.SourceAgain.{source_again}
 use Rattle.cx_vsim.specs.Answers.{IsDone, answer_of, final_words}
 use Rattle.cx_vsim.specs.declared.answers.SimAnswer.TheVariants.{Done, Loop, More}
-use Rattle.cx_driver.specs.declared.stops.Stop.{Stop}
-use Rattle.cx_driver.specs.declared.stops.Stop.TheVariants as stops
+use Rattle.cx_commands.specs.declared.stops.Stop.{Stop}
+use Rattle.cx_commands.specs.declared.stops.Stop.TheVariants as stops
 use Rattle.cx_driver.specs.Loads.{IsUnloaded}
 use Rattle.cx_driver.specs.Simulated.{IsVerilogOf, IsVerilogRefusal, told_outcome, RunDoes, LoadedDoes, SourceDoes, Spells, Simulates, IsSimAnswer, IsSimStop, IsSourceStop, StopsRun, IsNoSource, read_stop}
 use Rattle.cx_driver.proofs.Once.{Told, not_both}

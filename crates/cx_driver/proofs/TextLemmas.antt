@@ -20,11 +20,11 @@ use Rattle.cx_check.specs.Acceptance.{IsAcceptedTree, IsTreeRefusal, TreeBreak, 
 use Rattle.cx_check.proofs.Verdicts as verdicts
 use Rattle.cx_design.specs.declared.refusals.Refusal.{Refusal}
 use Rattle.cx_design.specs.declared.refusals.Refusal.TheVariants as refusals
-use Rattle.cx_driver.specs.declared.stops.Stop.{Stop}
-use Rattle.cx_driver.specs.declared.stops.Stop.TheVariants as stops
-use Rattle.cx_driver.specs.Unread.{StageOneFault, HasTree, IsNoTree}
+use Rattle.cx_commands.specs.declared.stops.Stop.{Stop}
+use Rattle.cx_commands.specs.declared.stops.Stop.TheVariants as stops
+use Rattle.cx_commands.specs.Unread.{StageOneFault, HasTree, IsNoTree}
 use Rattle.cx_driver.specs.Texts.{IsAcceptedText, IsDesignOf, TextBreak, IsTreeStop, IsTextRefusal, tree_stop}
-use Rattle.cx_driver.proofs.UnreadLemmas.{read_no_fault, one_stage_one}
+use Rattle.cx_commands.proofs.UnreadLemmas.{read_no_fault, one_stage_one}
 
 one_text_tree : (text : List ℕ) (a b : PlainTree) → HasTree text a → HasTree text b → a ≡ b
 one_text_tree text a b h k = one_tree h.0 a b h.2 (subst (λ ts. Parse ts b) (one_tokens text k.0 h.0 k.1 h.1) k.2)

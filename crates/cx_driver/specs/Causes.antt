@@ -1,14 +1,14 @@
 -- Why a command has no answer.
 use Rattle.std.specs.Prelude.{◌≡◌, ℕ, List, Option}
-use Rattle.cx_driver.specs.Messages.{line_of}
-use Rattle.cx_driver.specs.Commands.{Asked, Wanted}
-use Rattle.cx_driver.specs.Reads.{IsOver, IsUnread, IsTooLong, IsUnreadFile}
+use Rattle.cx_commands.specs.Messages.{line_of}
+use Rattle.cx_commands.specs.Commands.{Asked, Wanted}
+use Rattle.cx_commands.specs.Reads.{IsOver, IsUnread, IsTooLong, IsUnreadFile}
 use Rattle.cx_driver.specs.Outcomes.{StopsCommand}
-use Rattle.cx_driver.specs.Statuses.{ReceivesLine, status_of}
-use Rattle.cx_driver.specs.declared.refusals.Refusal.{Refusal}
-use Rattle.cx_driver.specs.declared.refusals.Refusal.TheVariants as refusals
-use Rattle.cx_driver.specs.declared.refusals.Status.{Status}
-use Rattle.cx_driver.specs.declared.stops.Stop.TheVariants as stops
+use Rattle.cx_commands.specs.Statuses.{ReceivesLine, status_of}
+use Rattle.cx_commands.specs.declared.refusals.Refusal.{Refusal}
+use Rattle.cx_commands.specs.declared.refusals.Refusal.TheVariants as refusals
+use Rattle.cx_commands.specs.declared.refusals.Status.{Status}
+use Rattle.cx_commands.specs.declared.stops.Stop.TheVariants as stops
 
 -- what is told of a file that was not read within its limit
 abbrev pub IsOfFile : Option (List ℕ → Option (List ℕ)) → ℕ → ℕ → Wanted → Refusal → Type 0

@@ -1,7 +1,3 @@
-pub mod Commands
-pub mod Reads
-pub mod Stopping
-pub mod Unread
 pub mod Texts
 pub mod Loads
 pub mod Interpreted
@@ -9,6 +5,3 @@ pub mod Simulated
 pub mod Laws
 pub mod Outcomes
 pub mod Causes
-pub mod Asked
-pub mod Messages
-pub mod Statuses

@@ -3,8 +3,8 @@ use Rattle.std.specs.Prelude.{◌≡◌, ◌⊎◌, ℕ, List, Err}
 use Rattle.cx_text.specs.Loading.{PlainRow}
 use Rattle.cx_data.specs.Load.{load_of}
 use Rattle.cx_data.specs.declared.faults.DataFault.{DataFault}
-use Rattle.cx_driver.specs.declared.stops.Stop.{Stop}
-use Rattle.cx_driver.specs.declared.stops.Stop.TheVariants as stops
+use Rattle.cx_commands.specs.declared.stops.Stop.{Stop}
+use Rattle.cx_commands.specs.declared.stops.Stop.TheVariants as stops
 
 -- its first fault, unless memory is wanting
 abbrev pub IsUnloaded : List PlainRow → List ℕ → Stop → Type 0

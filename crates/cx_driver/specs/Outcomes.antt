@@ -2,13 +2,13 @@
 use Rattle.std.specs.Prelude.{◌≡◌, ◌⊎◌, ℕ, List, Option, Result, Ok, Err, codes}
 use Rattle.cx_text.specs.declared.diagnostics.Diagnostic.{Diagnostic}
 use Rattle.cx_text.specs.declared.limits.TheConstants.{DESIGN_BYTES, DATA_BYTES, VERILOG_BYTES}
-use Rattle.cx_driver.specs.Commands.{Asked, interp, check, sim, Asks}
-use Rattle.cx_driver.specs.Reads.{OfFile}
+use Rattle.cx_commands.specs.Commands.{Asked, interp, check, sim, Asks}
+use Rattle.cx_commands.specs.Reads.{OfFile}
 use Rattle.cx_driver.specs.Texts.{IsAcceptedText, TextBreak}
 use Rattle.cx_driver.specs.Interpreted.{Interprets}
 use Rattle.cx_driver.specs.Simulated.{Simulates}
-use Rattle.cx_driver.specs.declared.stops.Stop.{Stop}
-use Rattle.cx_driver.specs.declared.stops.Stop.TheVariants as stops
+use Rattle.cx_commands.specs.declared.stops.Stop.{Stop}
+use Rattle.cx_commands.specs.declared.stops.Stop.TheVariants as stops
 
 -- WHAT THE CHECKS SAY OF A TEXT: it is accepted; or it breaks a rule, and that is told
 abbrev pub Checks : List ℕ → Result (List ℕ) Stop → Type 0

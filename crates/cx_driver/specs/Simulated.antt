@@ -16,8 +16,8 @@ use Rattle.cx_vread.specs.Held.{is_held}
 use Rattle.cx_vread.specs.ReadAnswers.{Answers}
 use Rattle.cx_vread.specs.declared.refusals.ReadRefusal.{ReadRefusal}
 use Rattle.cx_vread.specs.declared.refusals.ReadRefusal.TheVariants as unread
-use Rattle.cx_driver.specs.declared.stops.Stop.{Stop}
-use Rattle.cx_driver.specs.declared.stops.Stop.TheVariants as stops
+use Rattle.cx_commands.specs.declared.stops.Stop.{Stop}
+use Rattle.cx_commands.specs.declared.stops.Stop.TheVariants as stops
 
 -- the text spells this sound source
 pub record IsVerilogOf (text : List ℕ) (source : PlainSource) : Type 0 where

@@ -7,10 +7,10 @@ use Rattle.cx_numbering.specs.DesignOf.{design_of}
 use Rattle.cx_check.specs.Acceptance.{IsAcceptedTree, TreeBreak}
 use Rattle.cx_design.specs.declared.refusals.Refusal.{Refusal}
 use Rattle.cx_design.specs.declared.refusals.Refusal.TheVariants as refusals
-use Rattle.cx_driver.specs.Unread.{StageOneFault, HasTree}
-use Rattle.cx_driver.specs.declared.stops.Stop.{Stop}
-use Rattle.cx_driver.specs.declared.stops.Stop.TheVariants as stops
-use Rattle.cx_driver.specs.Stopping.{TellsBreak}
+use Rattle.cx_commands.specs.Unread.{StageOneFault, HasTree}
+use Rattle.cx_commands.specs.declared.stops.Stop.{Stop}
+use Rattle.cx_commands.specs.declared.stops.Stop.TheVariants as stops
+use Rattle.cx_commands.specs.Stopping.{TellsBreak}
 
 -- ACCEPTED: the text has a tree, and the tree is accepted
 abbrev pub IsAcceptedText : List ℕ → Type 0

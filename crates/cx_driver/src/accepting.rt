@@ -8,12 +8,11 @@ ghost use Rattle.cx_design.specs.PlainDesigns.{plain_design};
 ghost use Rattle.cx_names.specs.Targets.{HasTargets};
 ghost use Rattle.cx_check.specs.Acceptance.{IsAcceptedTree};
 ghost use Rattle.cx_driver.specs.Texts.{IsAcceptedText, IsDesignOf, IsTextRefusal, IsTreeStop, TextBreak, tree_stop};
-ghost use Rattle.cx_driver.specs.declared.stops.Stop.TheVariants as stops;
+ghost use Rattle.cx_commands.specs.declared.stops.Stop.TheVariants as stops;
 
-use crate::reading::tree_of;
-use crate::stops::Stop;
 use cx_ast::Tree;
 use cx_check::accept;
+use cx_commands::{Stop, tree_of};
 use cx_design::{Checked, Refusal};
 use std::alloc::Global;
 

@@ -7,9 +7,9 @@ ghost use Rattle.cx_data.specs.Load.{load_of};
 ghost use Rattle.cx_data.specs.Widths.{HasWordWidth};
 ghost use Rattle.cx_driver.specs.Loads.{IsUnloaded};
 ghost use Rattle.cx_data.specs.declared.faults.DataFault.TheVariants as faults;
-ghost use Rattle.cx_driver.specs.declared.stops.Stop.TheVariants as stops;
+ghost use Rattle.cx_commands.specs.declared.stops.Stop.TheVariants as stops;
 
-use crate::stops::Stop;
+use cx_commands::Stop;
 use cx_data::DataFault;
 use cx_text::{Loaded, Memory, MemoryRow};
 use std::alloc::Global;

@@ -10,11 +10,11 @@ ghost use Rattle.cx_vtree.specs.SimRun.{SimRun};
 ghost use Rattle.cx_velab.specs.Paths.{path_of};
 ghost use Rattle.cx_vsim.specs.Answers.{IsDone, final_words};
 ghost use Rattle.cx_driver.specs.Simulated.{IsNoSource, IsSimAnswer, IsSimStop, IsSourceStop, IsVerilogOf, RunDoes, SourceDoes, Spells, StopsRun, read_stop};
-ghost use Rattle.cx_driver.specs.declared.stops.Stop.{Stop as StopValue};
-ghost use Rattle.cx_driver.specs.declared.stops.Stop.TheVariants as stops;
+ghost use Rattle.cx_commands.specs.declared.stops.Stop.{Stop as StopValue};
+ghost use Rattle.cx_commands.specs.declared.stops.Stop.TheVariants as stops;
 
 use crate::memories::{dump_of, load};
-use crate::stops::Stop;
+use cx_commands::Stop;
 use cx_text::Loaded;
 use cx_velab::loop_path;
 use cx_vread::{ReadRefusal, read};

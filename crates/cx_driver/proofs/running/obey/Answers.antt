@@ -1,8 +1,8 @@
 use Rattle.std.proofs.Common.{List, ℕ, sym, subst}
 use Rattle.cx_outside.specs.Writing.{GrowsByPart}
 use Rattle.cx_driver.specs.Outcomes.{IsAnswer}
-use Rattle.cx_driver.specs.Asked.{asked_of}
-use Rattle.cx_driver.specs.Statuses.{ReceivesLine}
+use Rattle.cx_commands.specs.Asked.{asked_of}
+use Rattle.cx_commands.specs.Statuses.{ReceivesLine}
 use Rattle.cx_driver.proofs.CauseLemmas.{delivered, part_taken, quiet_delivered, refused_not_done, said_delivered, said_refused, told_why, unread_file}
 use Rattle.cx_driver.proofs.CompleteLemmas.{complete_delivered, complete_refused}
 use Rattle.cx_driver.proofs.running.obey.Goals as goal

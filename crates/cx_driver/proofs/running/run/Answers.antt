@@ -1,9 +1,9 @@
 use Rattle.std.proofs.Common.{List, ℕ, refl}
-use Rattle.cx_driver.specs.Statuses.{ReceivesLine}
-use Rattle.cx_driver.specs.Asked.{asked_of}
-use Rattle.cx_driver.specs.declared.refusals.Status.TheVariants as statuses
+use Rattle.cx_commands.specs.Statuses.{ReceivesLine}
+use Rattle.cx_commands.specs.Asked.{asked_of}
+use Rattle.cx_commands.specs.declared.refusals.Status.TheVariants as statuses
 use Rattle.cx_driver.proofs.CauseLemmas.{said_words, words_tell_nothing}
-use Rattle.cx_driver.proofs.CommandLemmas.{one_command}
+use Rattle.cx_commands.proofs.CommandLemmas.{one_command}
 use Rattle.cx_driver.proofs.CompleteLemmas.{complete_asked}
 use Rattle.cx_driver.proofs.running.run.Goals as goal
 
