@@ -7,8 +7,8 @@ use Rattle.cx_design.specs.declared.actives.PortFault.{PortFault}
 use Rattle.cx_design.specs.PlainActives.{TellsFault}
 use Rattle.cx_state.specs.Paths.{TellsPort, full_path}
 use Rattle.cx_driver.specs.Interpreted.{fault_stop}
-use Rattle.cx_driver.specs.declared.stops.Stop.{Stop}
-use Rattle.cx_driver.specs.declared.stops.Stop.TheVariants as stops
+use Rattle.cx_commands.specs.declared.stops.Stop.{Stop}
+use Rattle.cx_commands.specs.declared.stops.Stop.TheVariants as stops
 
 -- the port of a fault by its path
 pub told_fault : (d : PlainDesign) (told : PortFault) (fault : Fault) (turn : ℕ) (name : List ℕ) → TellsFault (tree_of d) fault told → TellsPort (tree_of d) told.instance told.port name

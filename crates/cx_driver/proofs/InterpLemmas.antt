@@ -4,53 +4,19 @@ use Rattle.cx_text.specs.Loading.{PlainRow, PlainMemory}
 use Rattle.cx_data.specs.Load.{load_of}
 use Rattle.cx_meaning.specs.Designs.{PlainDesign}
 use Rattle.cx_rules.specs.Externals.{external_rows}
-use Rattle.cx_driver.specs.declared.stops.Stop.{Stop}
-use Rattle.cx_driver.specs.declared.stops.Stop.TheVariants as stops
+use Rattle.cx_commands.specs.declared.stops.Stop.{Stop}
+use Rattle.cx_commands.specs.declared.stops.Stop.TheVariants as stops
 use Rattle.cx_driver.specs.Loads.{IsUnloaded}
 use Rattle.cx_driver.specs.Texts.{IsDesignOf, IsTextRefusal}
 use Rattle.cx_driver.specs.Interpreted.{loaded_result, design_result, Interprets, IsInterpAnswer, IsInterpStop, StopsText, IsDesignAnswer, IsDesignStop, IsRunAnswer, StopsRun}
 use Rattle.cx_driver.proofs.TextLemmas.{one_design, text_of_design, accepted_once, break_once}
 
 -- WHAT A TEXT DOES is one thing
-one_result : (text json : List ℕ) (budget : ℕ) (a b : Result (List ℕ) Stop) → Interprets text json budget a → Interprets text json budget b → a ≡ b
+pub one_result : (text json : List ℕ) (budget : ℕ) (a b : Result (List ℕ) Stop) → Interprets text json budget a → Interprets text json budget b → a ≡ b
 one_result text json budget a b (inl h) (inl k) = h.2 ∙ ap (λ d. design_result d json budget) (one_design text h.0 k.0 h.1 k.1) ∙ sym k.2
 one_result text json budget a b (inl h) (inr k) = absurd (accepted_once text k.0 (text_of_design text h.0 h.1) k.1)
 one_result text json budget a b (inr h) (inl k) = absurd (accepted_once text h.0 (text_of_design text k.0 k.1) h.1)
 one_result text json budget a b (inr h) (inr k) = h.2 ∙ ap (λ d. Err (stops.Rule d)) (break_once text h.0 k.0 h.1 k.1) ∙ sym k.2
-
-abbrev Told : Type 0
-Told = Result (List ℕ) Stop
-
-abbrev ok_or : List ℕ → Told → List ℕ
-ok_or bytes (Ok answer) = answer
-ok_or bytes (Err stop) = bytes
-
-abbrev err_or : Stop → Told → Stop
-err_or stop (Ok answer) = stop
-err_or stop (Err why) = why
-
-one_answer : (text json : List ℕ) (budget : ℕ) (a b : List ℕ) → IsInterpAnswer text json budget a → IsInterpAnswer text json budget b → a ≡ b
-one_answer text json budget a b h k = ap (ok_or a) (one_result text json budget (Ok a) (Ok b) h k)
-
-one_stop : (text json : List ℕ) (budget : ℕ) (a b : Stop) → StopsText text json budget a → StopsText text json budget b → a ≡ b
-one_stop text json budget a b h k = ap (err_or a) (one_result text json budget (Err a) (Err b) h k)
-
-no_stop : (text json : List ℕ) (budget : ℕ) (answer : List ℕ) (stop : Stop) → IsInterpAnswer text json budget answer → StopsText text json budget stop → ⊥
-no_stop text json budget answer stop h k = let both = one_result text json budget (Ok answer) (Err stop) h k in cc
-
--- an answer comes of each run that ends, unless memory is wanting
-pub all_answered : {X : Type 0} (bytes : X → List ℕ) (text json : List ℕ) (budget : ℕ) (r : Result X Stop) → IfOk r (λ x. IsInterpAnswer text json budget (bytes x)) → IfErr r (IsInterpStop text json budget)
-    → (answer : List ℕ) → IsInterpAnswer text json budget answer → MatchResult r (λ x. bytes x ≡ answer) (λ stop. stop ≡ stops.Memory)
-all_answered bytes text json budget (Ok x) h k answer i = one_answer text json budget (bytes x) answer h i
-all_answered bytes text json budget (Err stop) h (inl memory) answer i = memory
-all_answered bytes text json budget (Err stop) h (inr own) answer i = absurd (no_stop text json budget answer stop i own)
-
--- what stops a text is told, unless memory is wanting
-pub all_stopped : {X : Type 0} (bytes : X → List ℕ) (text json : List ℕ) (budget : ℕ) (r : Result X Stop) → IfOk r (λ x. IsInterpAnswer text json budget (bytes x)) → IfErr r (IsInterpStop text json budget)
-    → (why : Stop) → StopsText text json budget why → MatchResult r (λ _. ⊥) (λ stop. (stop ≡ stops.Memory) ⊎ (stop ≡ why))
-all_stopped bytes text json budget (Ok x) h k why i = no_stop text json budget (bytes x) why h i
-all_stopped bytes text json budget (Err stop) h (inl memory) why i = inl memory
-all_stopped bytes text json budget (Err stop) h (inr own) why i = inr (one_stop text json budget stop why own i)
 
 -- from a design to its text
 pub text_answers : {X : Type 0} (bytes : X → List ℕ) (text json : List ℕ) (d : PlainDesign) (budget : ℕ) (r : Result X Stop) → IsDesignOf text d
@@ -66,13 +32,8 @@ text_stops text json d budget (Err stop) is (inr h) = inr (inl (d, is, sym h))
 
 -- from a text that is refused
 pub refused_stops : (text json : List ℕ) (budget : ℕ) (stop : Stop) → IsTextRefusal text stop → IsInterpStop text json budget stop
-refused_stops text json budget (stops.Rule told) h = inr (inr (told, h, refl))
-refused_stops text json budget (stops.Verilog refused) h = absurd h
-refused_stops text json budget (stops.Json fault) h = absurd h
-refused_stops text json budget (stops.More told) h = absurd h
-refused_stops text json budget (stops.Fault kind path turn) h = absurd h
-refused_stops text json budget (stops.Loop path) h = absurd h
-refused_stops text json budget stops.Memory h = inl refl
+refused_stops text json budget stop (inl memory) = inl memory
+refused_stops text json budget stop (inr h) = inr (inr (h.0, h.1, ap (λ s. Err s) h.2))
 
 -- from a run to its design
 loads_as : (d : PlainDesign) (json : List ℕ) (budget : ℕ) (ms : List PlainMemory) → load_of json (external_rows d) ≡ Ok ms → design_result d json budget ≡ loaded_result d budget (Ok ms)
@@ -91,10 +52,5 @@ design_stops d json ms budget (Err stop) loads (inr h) = inr (loads_as d json bu
 
 -- from a data file that is not loaded to its design
 pub unloaded_stops : (d : PlainDesign) (rows : List PlainRow) (json : List ℕ) (budget : ℕ) (stop : Stop) → rows ≡ external_rows d → IsUnloaded rows json stop → IsDesignStop d json budget stop
-unloaded_stops d rows json budget (stops.Rule told) e h = absurd h
-unloaded_stops d rows json budget (stops.Verilog refused) e h = absurd h
-unloaded_stops d rows json budget (stops.Json fault) e h = inr (ap (λ r. loaded_result d budget r) (ap (λ x. load_of json x) (sym e) ∙ h))
-unloaded_stops d rows json budget (stops.More told) e h = absurd h
-unloaded_stops d rows json budget (stops.Fault kind path turn) e h = absurd h
-unloaded_stops d rows json budget (stops.Loop path) e h = absurd h
-unloaded_stops d rows json budget stops.Memory e h = inl refl
+unloaded_stops d rows json budget stop e (inl memory) = inl memory
+unloaded_stops d rows json budget stop e (inr h) = inr (ap (λ r. loaded_result d budget r) (ap (λ x. load_of json x) (sym e) ∙ h.1) ∙ ap (λ s. Err s) (sym h.2))

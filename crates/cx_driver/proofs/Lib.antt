@@ -1,12 +1,10 @@
 pub mod RowWidths
-pub mod Counted
-pub mod Four
-pub mod UnreadLemmas
+pub mod ReadLemmas
+pub mod Once
 pub mod TextLemmas
 pub mod InterpLemmas
 pub mod FaultLemmas
 pub mod RanLemmas
-pub mod MessageLemmas
-pub mod CauseLemmas
-mod CommandLemmas
 pub mod SimLemmas
+pub mod CauseLemmas
+pub mod CompleteLemmas

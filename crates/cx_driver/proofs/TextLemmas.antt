@@ -16,13 +16,15 @@ use Rattle.cx_names.specs.Targets.{HasTargets}
 use Rattle.cx_names.proofs.TargetLemmas.{targets_in_text}
 use Rattle.cx_names.proofs.Placed as placed
 use Rattle.cx_check.specs.Unbuilt.{first_unbuilt}
-use Rattle.cx_check.specs.Acceptance.{IsAcceptedTree, TreeBreak, left_out}
+use Rattle.cx_check.specs.Acceptance.{IsAcceptedTree, IsTreeRefusal, TreeBreak, left_out}
 use Rattle.cx_check.proofs.Verdicts as verdicts
-use Rattle.cx_driver.specs.declared.stops.Stop.{Stop}
-use Rattle.cx_driver.specs.declared.stops.Stop.TheVariants as stops
-use Rattle.cx_driver.specs.Unread.{StageOneFault, HasTree, IsNoTree}
-use Rattle.cx_driver.specs.Texts.{IsAcceptedText, IsDesignOf, TextBreak, IsTreeStop, IsTextRefusal}
-use Rattle.cx_driver.proofs.UnreadLemmas.{read_no_fault, one_stage_one}
+use Rattle.cx_design.specs.declared.refusals.Refusal.{Refusal}
+use Rattle.cx_design.specs.declared.refusals.Refusal.TheVariants as refusals
+use Rattle.cx_commands.specs.declared.stops.Stop.{Stop}
+use Rattle.cx_commands.specs.declared.stops.Stop.TheVariants as stops
+use Rattle.cx_commands.specs.Unread.{StageOneFault, HasTree, IsNoTree}
+use Rattle.cx_driver.specs.Texts.{IsAcceptedText, IsDesignOf, TextBreak, IsTreeStop, IsTextRefusal, tree_stop}
+use Rattle.cx_commands.proofs.UnreadLemmas.{read_no_fault, one_stage_one}
 
 one_text_tree : (text : List ℕ) (a b : PlainTree) → HasTree text a → HasTree text b → a ≡ b
 one_text_tree text a b h k = one_tree h.0 a b h.2 (subst (λ ts. Parse ts b) (one_tokens text k.0 h.0 k.1 h.1) k.2)
@@ -79,23 +81,18 @@ break_once text a b (inr h) (inr k) = tree_break_once text k.1.0 k.0 a b k.1.1 k
 
 -- a text that breaks a rule is refused for it, unless memory is wanting
 pub text_stop : (text : List ℕ) (told : Diagnostic) (stop : Stop) → TextBreak text told → IsTextRefusal text stop → (stop ≡ stops.Memory) ⊎ (stop ≡ stops.Rule told)
-text_stop text told (stops.Rule own) b h = inr (ap (λ d. stops.Rule d) (break_once text own told h b))
-text_stop text told (stops.Json fault) b h = absurd h
-text_stop text told (stops.More budget) b h = absurd h
-text_stop text told (stops.Verilog refused) b h = absurd h
-text_stop text told (stops.Fault kind path turn) b h = absurd h
-text_stop text told (stops.Loop path) b h = absurd h
-text_stop text told stops.Memory b h = inl refl
+text_stop text told stop b (inl memory) = inl memory
+text_stop text told stop b (inr own) = inr (own.2 ∙ ap (λ d. stops.Rule d) (break_once text own.0 told own.1 b))
+
+-- what is told of a tree that is refused
+pub refused_tree : (tree : PlainTree) (refusal : Refusal) (stop : Stop) → stop ≡ tree_stop refusal → IsTreeRefusal tree refusal → IsTreeStop tree stop
+refused_tree tree (refusals.Rule told) stop e h = inr (told, h, e)
+refused_tree tree refusals.Memory stop e h = inl e
 
 -- from a tree to its text
 of_tree : (text : List ℕ) (tree : PlainTree) (stop : Stop) → HasTree text tree → IsTreeStop tree stop → IsTextRefusal text stop
-of_tree text tree (stops.Rule told) h k = inr (tree, h, k)
-of_tree text tree (stops.Json fault) h k = k
-of_tree text tree (stops.More budget) h k = k
-of_tree text tree (stops.Verilog refused) h k = k
-of_tree text tree (stops.Fault kind path turn) h k = k
-of_tree text tree (stops.Loop path) h k = k
-of_tree text tree stops.Memory h k = tt
+of_tree text tree stop h (inl memory) = inl memory
+of_tree text tree stop h (inr k) = inr (k.0, inr (tree, h, k.1), k.2)
 
 pub tree_design : {X : Type 0} (design : X → PlainDesign) (text : List ℕ) (tree : PlainTree) (r : Result X Stop) → HasTree text tree → IfOk r (λ _. IsAcceptedTree tree)
     → IfOk r (λ x. design x ≡ design_of tree) → IfOk r (λ x. IsDesignOf text (design x))
@@ -107,10 +104,5 @@ tree_refused text tree (Ok x) h k = tt
 tree_refused text tree (Err stop) h k = of_tree text tree stop h k
 
 pub no_tree_refused : (text : List ℕ) (stop : Stop) → IsNoTree text stop → IsTextRefusal text stop
-no_tree_refused text (stops.Rule told) k = inl k
-no_tree_refused text (stops.Json fault) k = k
-no_tree_refused text (stops.More budget) k = k
-no_tree_refused text (stops.Verilog refused) k = k
-no_tree_refused text (stops.Fault kind path turn) k = k
-no_tree_refused text (stops.Loop path) k = k
-no_tree_refused text stops.Memory k = tt
+no_tree_refused text stop (inl memory) = inl memory
+no_tree_refused text stop (inr k) = inr (k.0, inl k.1, k.2)

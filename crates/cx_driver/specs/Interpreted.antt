@@ -13,8 +13,8 @@ use Rattle.cx_meaning.specs.Running.{run_main}
 use Rattle.cx_rules.specs.Externals.{external_rows}
 use Rattle.cx_state.specs.Paths.{full_path}
 use Rattle.cx_driver.specs.Texts.{IsDesignOf, TextBreak}
-use Rattle.cx_driver.specs.declared.stops.Stop.{Stop}
-use Rattle.cx_driver.specs.declared.stops.Stop.TheVariants as stops
+use Rattle.cx_commands.specs.declared.stops.Stop.{Stop}
+use Rattle.cx_commands.specs.declared.stops.Stop.TheVariants as stops
 
 -- a fault as it is told: its kind, its port as messages name it from main on, and its turn, counted from 0
 abbrev pub fault_stop : PlainDesign → Fault → ℕ → Stop

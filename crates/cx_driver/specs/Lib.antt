@@ -1,10 +1,7 @@
-pub mod Commands
-pub mod Unread
 pub mod Texts
 pub mod Loads
 pub mod Interpreted
 pub mod Simulated
-pub mod Dumps
+pub mod Laws
+pub mod Outcomes
 pub mod Causes
-pub mod Asked
-pub mod Messages

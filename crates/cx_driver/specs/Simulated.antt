@@ -1,22 +1,23 @@
 -- What a Verilog text does on a data file, and what stops it.
-use Rattle.std.specs.Prelude.{◌≡◌, ◌≢◌, ℕ, List, Result, Ok, Err, true}
+use Rattle.std.specs.Prelude.{◌≡◌, ◌≢◌, ◌⊎◌, ℕ, List, Result, Ok, Err, true}
 use Rattle.cx_text.specs.Loading.{PlainMemory, words_loaded, with_words}
 use Rattle.cx_data.specs.Load.{load_of}
 use Rattle.cx_data.specs.Dump.{dump_text}
+use Rattle.cx_data.specs.declared.faults.DataFault.{DataFault}
 use Rattle.cx_vtree.specs.Plain.{PlainSource}
 use Rattle.cx_vtree.specs.PlainParts.{rows_of}
 use Rattle.cx_vtree.specs.InstanceTree.{instances_of}
 use Rattle.cx_vtree.specs.Layout.{is_laid_out}
 use Rattle.cx_vtree.specs.Sound.{is_sound}
 use Rattle.cx_vtree.specs.Spelling.{text_of}
-use Rattle.cx_vtree.specs.SimRun.{DoneAt, LoopAt, NotDone, SimRun}
+use Rattle.cx_vtree.specs.SimRun.{Outcome, DoneAt, LoopAt, NotDone, SimRun}
 use Rattle.cx_velab.specs.Paths.{path_of}
 use Rattle.cx_vread.specs.Held.{is_held}
 use Rattle.cx_vread.specs.ReadAnswers.{Answers}
 use Rattle.cx_vread.specs.declared.refusals.ReadRefusal.{ReadRefusal}
 use Rattle.cx_vread.specs.declared.refusals.ReadRefusal.TheVariants as unread
-use Rattle.cx_driver.specs.declared.stops.Stop.{Stop}
-use Rattle.cx_driver.specs.declared.stops.Stop.TheVariants as stops
+use Rattle.cx_commands.specs.declared.stops.Stop.{Stop}
+use Rattle.cx_commands.specs.declared.stops.Stop.TheVariants as stops
 
 -- the text spells this sound source
 pub record IsVerilogOf (text : List ℕ) (source : PlainSource) : Type 0 where
@@ -30,70 +31,54 @@ pub record IsVerilogRefusal (text : List ℕ) (refused : ReadRefusal) : Type 0 w
   pub no_source : (source : PlainSource) → IsVerilogOf text source → ⊥
   pub first : (source : PlainSource) → text ≡ text_of source → is_laid_out source ≡ true → is_held source ≡ true → Answers source (Err refused)
 
--- the run of the source with these memories loaded, in which the cycles 0 to `budget` may be looked at, is done, and this is the
--- dump of its last cycle
-abbrev pub IsRunAnswer : PlainSource → List PlainMemory → ℕ → List ℕ → Type 0
-IsRunAnswer source memories budget answer =
-    (cycle : ℕ) × (words : List (List ℕ)) × SimRun source (words_loaded memories) budget (DoneAt cycle words) × (answer ≡ dump_text cycle (with_words memories words))
+-- what an outcome is told as: the dump of its cycle and of the words in which it leaves the memories; the net without a value;
+-- or that `done` is 0 in all these cycles
+abbrev pub told_outcome : PlainSource → List PlainMemory → ℕ → Outcome → Result (List ℕ) Stop
+told_outcome source memories budget (DoneAt cycle words) = Ok (dump_text cycle (with_words memories words))
+told_outcome source memories budget (LoopAt instance net) = Err (stops.Loop (path_of (instances_of source) instance net))
+told_outcome source memories budget NotDone = Err (stops.More budget)
 
--- `done` is 0 in all these cycles, or the net of this path is the first without a value
-abbrev pub StopsRun : PlainSource → List PlainMemory → ℕ → Stop → Type 0
-StopsRun source memories budget (stops.Rule told) = ⊥
-StopsRun source memories budget (stops.Verilog refused) = ⊥
-StopsRun source memories budget (stops.Json fault) = ⊥
-StopsRun source memories budget (stops.More told) = (told ≡ budget) × SimRun source (words_loaded memories) budget NotDone
-StopsRun source memories budget (stops.Fault kind path turn) = ⊥
-StopsRun source memories budget (stops.Loop path) =
-    (instance : ℕ) × (net : ℕ) × SimRun source (words_loaded memories) budget (LoopAt instance net) × (path ≡ path_of (instances_of source) instance net)
-StopsRun source memories budget stops.Memory = Unit {0}
+-- THE RUN OF A SOURCE with these memories loaded
+abbrev pub RunDoes : PlainSource → List PlainMemory → ℕ → Result (List ℕ) Stop → Type 0
+RunDoes source memories budget result = (o : Outcome) × SimRun source (words_loaded memories) budget o × (result ≡ told_outcome source memories budget o)
 
--- what is written of a source
-abbrev pub IsSourceAnswer : PlainSource → List ℕ → ℕ → List ℕ → Type 0
-IsSourceAnswer source json budget answer =
-    (memories : List PlainMemory) × (load_of json (rows_of source.externals) ≡ Ok memories) × IsRunAnswer source memories budget answer
+abbrev pub LoadedDoes : PlainSource → ℕ → Result (List PlainMemory) DataFault → Result (List ℕ) Stop → Type 0
+LoadedDoes source budget (Ok memories) result = RunDoes source memories budget result
+LoadedDoes source budget (Err fault) result = result ≡ Err (stops.Json fault)
 
--- the data file loads, and this stops the run
-abbrev pub StopsLoaded : PlainSource → List ℕ → ℕ → Stop → Type 0
-StopsLoaded source json budget stop =
-    (memories : List PlainMemory) × (load_of json (rows_of source.externals) ≡ Ok memories) × StopsRun source memories budget stop
+-- WHAT A SOURCE DOES ON A DATA FILE: its run with the words of the file, or the first fault of the file
+abbrev pub SourceDoes : PlainSource → List ℕ → ℕ → Result (List ℕ) Stop → Type 0
+SourceDoes source json budget result = LoadedDoes source budget (load_of json (rows_of source.externals)) result
 
--- what is told of a source without an answer
-abbrev pub IsSourceStop : PlainSource → List ℕ → ℕ → Stop → Type 0
-IsSourceStop source json budget (stops.Rule told) = ⊥
-IsSourceStop source json budget (stops.Verilog refused) = ⊥
-IsSourceStop source json budget (stops.Json fault) = load_of json (rows_of source.externals) ≡ Err fault
-IsSourceStop source json budget (stops.More told) = StopsLoaded source json budget (stops.More told)
-IsSourceStop source json budget (stops.Fault kind path turn) = ⊥
-IsSourceStop source json budget (stops.Loop path) = StopsLoaded source json budget (stops.Loop path)
-IsSourceStop source json budget stops.Memory = Unit {0}
+-- the text spells a sound source, which does this
+abbrev pub Spells : List ℕ → List ℕ → ℕ → Result (List ℕ) Stop → Type 0
+Spells verilog json budget result = (source : PlainSource) × IsVerilogOf verilog source × SourceDoes source json budget result
 
--- what is written of a Verilog text
+-- WHAT A VERILOG TEXT DOES ON A DATA FILE: it spells a sound source, which does this; or it spells none, and that is told
+abbrev pub Simulates : List ℕ → List ℕ → ℕ → Result (List ℕ) Stop → Type 0
+Simulates verilog json budget result =
+    Spells verilog json budget result
+    ⊎ ((refused : ReadRefusal) × IsVerilogRefusal verilog refused × (result ≡ Err (stops.Verilog refused)))
+
+-- what is written of a text
 abbrev pub IsSimAnswer : List ℕ → List ℕ → ℕ → List ℕ → Type 0
-IsSimAnswer text json budget answer = (source : PlainSource) × IsVerilogOf text source × IsSourceAnswer source json budget answer
+IsSimAnswer verilog json budget answer = Simulates verilog json budget (Ok answer)
 
--- the text spells a sound source, and this stops it
-abbrev pub StopsSource : List ℕ → List ℕ → ℕ → Stop → Type 0
-StopsSource text json budget stop = (source : PlainSource) × IsVerilogOf text source × IsSourceStop source json budget stop
-
--- what is told of a Verilog text without an answer
+-- what is told of a text without an answer
 abbrev pub IsSimStop : List ℕ → List ℕ → ℕ → Stop → Type 0
-IsSimStop text json budget (stops.Rule told) = ⊥
-IsSimStop text json budget (stops.Verilog refused) = IsVerilogRefusal text refused
-IsSimStop text json budget (stops.Json fault) = StopsSource text json budget (stops.Json fault)
-IsSimStop text json budget (stops.More told) = StopsSource text json budget (stops.More told)
-IsSimStop text json budget (stops.Fault kind path turn) = ⊥
-IsSimStop text json budget (stops.Loop path) = StopsSource text json budget (stops.Loop path)
-IsSimStop text json budget stops.Memory = Unit {0}
+IsSimStop verilog json budget stop = (stop ≡ stops.Memory) ⊎ Simulates verilog json budget (Err stop)
+
+-- the same of a source
+abbrev pub IsSourceStop : PlainSource → List ℕ → ℕ → Stop → Type 0
+IsSourceStop source json budget stop = (stop ≡ stops.Memory) ⊎ SourceDoes source json budget (Err stop)
+
+-- the same of a run
+abbrev pub StopsRun : PlainSource → List PlainMemory → ℕ → Stop → Type 0
+StopsRun source memories budget stop = (stop ≡ stops.Memory) ⊎ RunDoes source memories budget (Err stop)
 
 -- what is told of a text that is not read
-abbrev pub IsUnread : List ℕ → Stop → Type 0
-IsUnread text (stops.Rule told) = ⊥
-IsUnread text (stops.Verilog refused) = IsVerilogRefusal text refused
-IsUnread text (stops.Json fault) = ⊥
-IsUnread text (stops.More budget) = ⊥
-IsUnread text (stops.Fault kind path turn) = ⊥
-IsUnread text (stops.Loop path) = ⊥
-IsUnread text stops.Memory = Unit {0}
+abbrev pub IsNoSource : List ℕ → Stop → Type 0
+IsNoSource text stop = (stop ≡ stops.Memory) ⊎ ((refused : ReadRefusal) × IsVerilogRefusal text refused × (stop ≡ stops.Verilog refused))
 
 -- why a text is not read
 abbrev pub read_stop : ReadRefusal → Stop

@@ -5,9 +5,12 @@ use Rattle.cx_ast.specs.PlainTree.{PlainTree}
 use Rattle.cx_meaning.specs.Designs.{PlainDesign}
 use Rattle.cx_numbering.specs.DesignOf.{design_of}
 use Rattle.cx_check.specs.Acceptance.{IsAcceptedTree, TreeBreak}
-use Rattle.cx_driver.specs.Unread.{StageOneFault, HasTree}
-use Rattle.cx_driver.specs.declared.stops.Stop.{Stop}
-use Rattle.cx_driver.specs.declared.stops.Stop.TheVariants as stops
+use Rattle.cx_design.specs.declared.refusals.Refusal.{Refusal}
+use Rattle.cx_design.specs.declared.refusals.Refusal.TheVariants as refusals
+use Rattle.cx_commands.specs.Unread.{StageOneFault, HasTree}
+use Rattle.cx_commands.specs.declared.stops.Stop.{Stop}
+use Rattle.cx_commands.specs.declared.stops.Stop.TheVariants as stops
+use Rattle.cx_commands.specs.Stopping.{TellsBreak}
 
 -- ACCEPTED: the text has a tree, and the tree is accepted
 abbrev pub IsAcceptedText : List ℕ → Type 0
@@ -23,20 +26,13 @@ TextBreak text told = StageOneFault text told ⊎ ((tree : PlainTree) × HasTree
 
 -- what is told of a tree that is refused, unless memory is wanting
 abbrev pub IsTreeStop : PlainTree → Stop → Type 0
-IsTreeStop tree (stops.Rule told) = TreeBreak tree told
-IsTreeStop tree (stops.Verilog refused) = ⊥
-IsTreeStop tree (stops.Json fault) = ⊥
-IsTreeStop tree (stops.More budget) = ⊥
-IsTreeStop tree (stops.Fault kind path turn) = ⊥
-IsTreeStop tree (stops.Loop path) = ⊥
-IsTreeStop tree stops.Memory = Unit {0}
+IsTreeStop tree stop = TellsBreak (TreeBreak tree) stop
+
+-- a refusal of a tree as it is told
+abbrev pub tree_stop : Refusal → Stop
+tree_stop (refusals.Rule told) = stops.Rule told
+tree_stop refusals.Memory = stops.Memory
 
 -- what is told of a text that is refused, unless memory is wanting
 abbrev pub IsTextRefusal : List ℕ → Stop → Type 0
-IsTextRefusal text (stops.Rule told) = TextBreak text told
-IsTextRefusal text (stops.Verilog refused) = ⊥
-IsTextRefusal text (stops.Json fault) = ⊥
-IsTextRefusal text (stops.More budget) = ⊥
-IsTextRefusal text (stops.Fault kind path turn) = ⊥
-IsTextRefusal text (stops.Loop path) = ⊥
-IsTextRefusal text stops.Memory = Unit {0}
+IsTextRefusal text stop = TellsBreak (TextBreak text) stop

@@ -7,13 +7,12 @@ ghost use Rattle.cx_numbering.specs.DesignOf.{design_of};
 ghost use Rattle.cx_design.specs.PlainDesigns.{plain_design};
 ghost use Rattle.cx_names.specs.Targets.{HasTargets};
 ghost use Rattle.cx_check.specs.Acceptance.{IsAcceptedTree};
-ghost use Rattle.cx_driver.specs.Texts.{IsAcceptedText, IsDesignOf, IsTextRefusal, IsTreeStop, TextBreak};
-ghost use Rattle.cx_driver.specs.declared.stops.Stop.TheVariants as stops;
+ghost use Rattle.cx_driver.specs.Texts.{IsAcceptedText, IsDesignOf, IsTextRefusal, IsTreeStop, TextBreak, tree_stop};
+ghost use Rattle.cx_commands.specs.declared.stops.Stop.TheVariants as stops;
 
-use crate::reading::tree_of;
-use crate::stops::Stop;
 use cx_ast::Tree;
 use cx_check::accept;
+use cx_commands::{Stop, tree_of};
 use cx_design::{Checked, Refusal};
 use std::alloc::Global;
 
@@ -53,7 +52,16 @@ fn tried(alloc: Global, tree: &Tree) -> Result<Checked, Stop>
 {
     match accept(alloc, tree) {
         Ok(checked) => Ok(checked),
-        Err(Refusal::Rule(told)) => Err(Stop::Rule(told)),
-        Err(Refusal::Memory) => Err(Stop::Memory),
+        Err(refusal) => Err(of_accept(refusal)),
+    }
+}
+
+/// What a refusal of a tree is told as.
+fn of_accept(refusal: Refusal) -> Stop
+    ensures { result ≡ tree_stop refusal }
+{
+    match refusal {
+        Refusal::Rule(told) => Stop::Rule(told),
+        Refusal::Memory => Stop::Memory,
     }
 }

@@ -6,9 +6,9 @@ ghost use Rattle.cx_meaning.specs.Instances.{paths_of, tree_of};
 ghost use Rattle.cx_design.specs.PlainActives.{TellsFault};
 ghost use Rattle.cx_design.specs.PlainDesigns.{plain_design};
 ghost use Rattle.cx_driver.specs.Interpreted.{fault_stop};
-ghost use Rattle.cx_driver.specs.declared.stops.Stop.TheVariants as stops;
+ghost use Rattle.cx_commands.specs.declared.stops.Stop.TheVariants as stops;
 
-use crate::stops::Stop;
+use cx_commands::Stop;
 use cx_design::{Checked, PortFault};
 use cx_state::port_path;
 use std::alloc::Global;

@@ -10,13 +10,13 @@ ghost use Rattle.cx_rules.specs.Externals.{external_rows};
 ghost use Rattle.cx_design.specs.PlainDesigns.{plain_design};
 ghost use Rattle.cx_interp.specs.Runs.{HasRun};
 ghost use Rattle.cx_driver.specs.Interpreted.{IsDesignAnswer, IsDesignStop, IsInterpAnswer, IsInterpStop, IsRunAnswer, StopsRun, StopsText};
-ghost use Rattle.cx_driver.specs.declared.stops.Stop.{Stop as StopValue};
-ghost use Rattle.cx_driver.specs.declared.stops.Stop.TheVariants as stops;
+ghost use Rattle.cx_commands.specs.declared.stops.Stop.{Stop as StopValue};
+ghost use Rattle.cx_commands.specs.declared.stops.Stop.TheVariants as stops;
 
 use crate::accepting::accepted_design;
 use crate::faults::faulted;
 use crate::memories::{dump_of, load};
-use crate::stops::Stop;
+use cx_commands::Stop;
 use cx_design::Checked;
 use cx_interp::{Answer, Interp, Ran};
 use cx_text::Loaded;

@@ -1,13 +1,15 @@
 //! The words of external memories: from a data file, and to a dump.
 
-ghost use Rattle.std.specs.Prelude.{◌≡◌, All, Ok, IfOk, IfErr, map};
+ghost use Rattle.std.specs.Prelude.{◌≡◌, ◌≢◌, ◌⊎◌, All, Ok, IfOk, IfErr, map};
 ghost use Rattle.cx_text.specs.Loading.{FitsRows, FitsShape, plain_loaded, plain_rows};
 ghost use Rattle.cx_data.specs.Dump.{dump_text};
 ghost use Rattle.cx_data.specs.Load.{load_of};
 ghost use Rattle.cx_data.specs.Widths.{HasWordWidth};
 ghost use Rattle.cx_driver.specs.Loads.{IsUnloaded};
+ghost use Rattle.cx_data.specs.declared.faults.DataFault.TheVariants as faults;
+ghost use Rattle.cx_commands.specs.declared.stops.Stop.TheVariants as stops;
 
-use crate::stops::Stop;
+use cx_commands::Stop;
 use cx_data::DataFault;
 use cx_text::{Loaded, Memory, MemoryRow};
 use std::alloc::Global;
@@ -21,8 +23,17 @@ pub(crate) fn load(alloc: Global, json: &[u8], rows: &[MemoryRow]) -> Result<Loa
 {
     match cx_data::load(alloc, json, rows) {
         Ok(loaded) => Ok(loaded),
-        Err(DataFault::Memory) => Err(Stop::Memory),
-        Err(fault) => Err(Stop::Json(fault)),
+        Err(fault) => Err(of_load(fault)),
+    }
+}
+
+/// Why a data file is not loaded.
+fn of_load(fault: DataFault) -> Stop
+    ensures { (result ≡ stops.Memory) ⊎ ((fault ≢ faults.Memory) × (result ≡ stops.Json fault)) }
+{
+    match fault {
+        DataFault::Memory => Stop::Memory,
+        fault => Stop::Json(fault),
     }
 }
 

@@ -1,23 +1,22 @@
 //! The top call.
 
-ghost use Rattle.std.specs.Prelude.{◌≡◌, ◌≢◌, ◌⊎◌, ◌↔◌, ◌≤◌, ℕ, List, [], ◌∷◌, Contains, codes, length, IfOk, IfErr};
+ghost use Rattle.std.specs.Prelude.{◌≡◌, ◌≢◌, ◌⊎◌, ◌↔◌, ◌≤◌, ℕ, List, [], ◌∷◌, Some, Contains, codes, length, IfOk, IfErr, IsSomeAnd};
 ghost use Rattle.cx_outside.specs.Counts.{HasRisen};
-ghost use Rattle.cx_outside.specs.Reading.{Holds};
 ghost use Rattle.cx_outside.specs.Writing.{grown, GrowsByPart};
-ghost use Rattle.cx_driver.specs.Commands.{Asked, Asks, AsksNothing, IsFileOf, files_of};
-ghost use Rattle.cx_driver.specs.Asked.{asked_of};
-ghost use Rattle.cx_driver.specs.Commands as asked;
-ghost use Rattle.cx_driver.specs.Messages.{line_of};
-ghost use Rattle.cx_driver.specs.Dumps.{IsAnswer, IsAnswerTo};
-ghost use Rattle.cx_driver.specs.Causes.{HasCause, IsMemory, IsOfFile, IsReadFault, IsRefusing, ReceivesLine, ToldWhy, status_of};
+ghost use Rattle.cx_commands.specs.Commands.{Asked, Asks, AsksNothing, IsFileOf, files_of};
+ghost use Rattle.cx_commands.specs.Asked.{asked_of};
+ghost use Rattle.cx_commands.specs.Commands as asked;
+ghost use Rattle.cx_commands.specs.Messages.{line_of};
+ghost use Rattle.cx_driver.specs.Outcomes.{CanAnswer, IsAnswer, IsAnswerTo};
+ghost use Rattle.cx_commands.specs.Reads.{HoldsWithin, IsReadFault};
+ghost use Rattle.cx_commands.specs.declared.refusals.Status.TheVariants as statuses;
+ghost use Rattle.cx_driver.specs.Causes.{HasCause, IsMemory, IsOfFile, ToldWhy};
+ghost use Rattle.cx_commands.specs.Statuses.{IsRefusing, ReceivesLine, fixed_line, status_of};
 
 use crate::accepting::check_text;
-use crate::commands::{Command, command_of};
 use crate::interpreting::interp;
-use crate::messages::line;
-use crate::refusals::{Refusal, Status};
 use crate::simulating::sim;
-use crate::stops::Stop;
+use cx_commands::{Command, Refusal, Status, Stop, command_of, line};
 use cx_outside::{FileAnswer, Files, Sink, Word, write_all};
 use cx_text::{DATA_BYTES, DESIGN_BYTES, VERILOG_BYTES};
 use std::alloc::Global;
@@ -31,21 +30,27 @@ pub fn run<F: Files, O: Sink, E: Sink>(
     out: &mut O,
     err: &mut E,
 ) -> Status
-    ensures done { result ≡ Status.Done →
+    ensures done { result ≡ statuses.Done →
         (text : List ℕ) × IsAnswerTo (F.held files.old) words.now text × (O.written out.new ≡ grown (O.written out.old) text) }
 
-    ensures words { (result ≡ Status.Words) ↔ AsksNothing words.now }
-    ensures read_fault { result ≡ Status.ReadFault → (file : List ℕ) × IsFileOf words.now file
+    ensures words { (result ≡ statuses.Words) ↔ AsksNothing words.now }
+    ensures read_fault { result ≡ statuses.ReadFault → (file : List ℕ) × IsFileOf words.now file
         × IsReadFault (F.held files.old) (F.faults files.old) (F.faults files.new) file }
-    ensures write_fault { result ≡ Status.WriteFault → HasRisen (O.faults out.old) (O.faults out.new) }
+    ensures write_fault { result ≡ statuses.WriteFault → HasRisen (O.faults out.old) (O.faults out.new) }
 
-    ensures part { result ≡ Status.WriteFault →
+    ensures part { result ≡ statuses.WriteFault →
         (text : List ℕ) × IsAnswerTo (F.held files.old) words.now text × GrowsByPart (O.written out.old) text (O.written out.new) }
-    ensures nothing { result ≢ Status.Done → result ≢ Status.WriteFault →
+    ensures nothing { result ≢ statuses.Done → result ≢ statuses.WriteFault →
         O.written out.new ≡ O.written out.old }
 
     ensures cause { IsRefusing result → (command : Asked) × Asks words.now command
         × ToldWhy command (F.held files.old) (F.faults files.old) (F.faults files.new) result (E.written err.old) (E.faults err.old) (E.written err.new) (E.faults err.new) }
+    ensures quiet { result ≡ statuses.Done → E.written err.new ≡ E.written err.old }
+    ensures said { (told : List ℕ) → fixed_line result ≡ Some told → ReceivesLine (E.written err.old) (E.faults err.old) told (E.written err.new) (E.faults err.new) }
+
+    // Where the files are told and give an answer, and no read failed, it is written, but for a failing output and want of memory.
+    ensures completes { (command : Asked) → Asks words.now command → IsSomeAnd (F.held files.old) (λ holds. CanAnswer (Some holds) command)
+        → (HasRisen (F.faults files.old) (F.faults files.new) → ⊥) → (result ≡ statuses.Done) ⊎ (result ≡ statuses.WriteFault) ⊎ (result ≡ statuses.Memory) }
 {
     match command_of(words) {
         Some(command) => obey(alloc, command, files, out, err),
@@ -64,21 +69,26 @@ fn obey<F: Files, O: Sink, E: Sink>(
     out: &mut O,
     err: &mut E,
 ) -> Status
-    ensures done { result ≡ Status.Done →
+    ensures done { result ≡ statuses.Done →
         (text : List ℕ) × IsAnswer (F.held files.old) (asked_of command.entry) text × (O.written out.new ≡ grown (O.written out.old) text) }
 
-    ensures words { result ≢ Status.Words }
-    ensures read_fault { result ≡ Status.ReadFault → (file : List ℕ) × Contains (files_of (asked_of command.entry)) file
+    ensures words { result ≢ statuses.Words }
+    ensures read_fault { result ≡ statuses.ReadFault → (file : List ℕ) × Contains (files_of (asked_of command.entry)) file
         × IsReadFault (F.held files.old) (F.faults files.old) (F.faults files.new) file }
-    ensures write_fault { result ≡ Status.WriteFault → HasRisen (O.faults out.old) (O.faults out.new) }
+    ensures write_fault { result ≡ statuses.WriteFault → HasRisen (O.faults out.old) (O.faults out.new) }
 
-    ensures part { result ≡ Status.WriteFault →
+    ensures part { result ≡ statuses.WriteFault →
         (text : List ℕ) × IsAnswer (F.held files.old) (asked_of command.entry) text × GrowsByPart (O.written out.old) text (O.written out.new) }
-    ensures nothing { result ≢ Status.Done → result ≢ Status.WriteFault →
+    ensures nothing { result ≢ statuses.Done → result ≢ statuses.WriteFault →
         O.written out.new ≡ O.written out.old }
 
     ensures cause { IsRefusing result → ToldWhy (asked_of command.entry) (F.held files.old) (F.faults files.old) (F.faults files.new) result
         (E.written err.old) (E.faults err.old) (E.written err.new) (E.faults err.new) }
+    ensures quiet { result ≡ statuses.Done → E.written err.new ≡ E.written err.old }
+    ensures said { (told : List ℕ) → fixed_line result ≡ Some told → ReceivesLine (E.written err.old) (E.faults err.old) told (E.written err.new) (E.faults err.new) }
+
+    ensures completes { IsSomeAnd (F.held files.old) (λ holds. CanAnswer (Some holds) (asked_of command.entry))
+        → (HasRisen (F.faults files.old) (F.faults files.new) → ⊥) → (result ≡ statuses.Done) ⊎ (result ≡ statuses.WriteFault) ⊎ (result ≡ statuses.Memory) }
 {
     match answer(alloc, command, files) {
         Ok(text) => deliver(&text, out, err),
@@ -88,9 +98,10 @@ fn obey<F: Files, O: Sink, E: Sink>(
 
 /// Writes the answer, or says that it could not be written.
 fn deliver<O: Sink, E: Sink>(text: &[u8], out: &mut O, err: &mut E) -> Status
-    ensures cases { ((result ≡ Status.Done) × (O.written out.new ≡ grown (O.written out.old) text.now))
-        ⊎ ((result ≡ Status.WriteFault) × HasRisen (O.faults out.old) (O.faults out.new)
-        × GrowsByPart (O.written out.old) text.now (O.written out.new)) }
+    ensures cases { ((result ≡ statuses.Done) × (O.written out.new ≡ grown (O.written out.old) text.now) × (E.written err.new ≡ E.written err.old))
+        ⊎ ((result ≡ statuses.WriteFault) × HasRisen (O.faults out.old) (O.faults out.new)
+        × GrowsByPart (O.written out.old) text.now (O.written out.new)
+        × ReceivesLine (E.written err.old) (E.faults err.old) (codes "write-fault\n") (E.written err.new) (E.faults err.new)) }
 {
     match write_all(out, text) {
         Ok(()) => Status::Done,
@@ -104,7 +115,7 @@ fn deliver<O: Sink, E: Sink>(text: &[u8], out: &mut O, err: &mut E) -> Status
 /// Says why there is no answer.
 fn refuse<E: Sink>(alloc: Global, refusal: &Refusal<'_>, err: &mut E) -> Status
     ensures { ((result ≡ status_of refusal.now) × ReceivesLine (E.written err.old) (E.faults err.old) (line_of refusal.now) (E.written err.new) (E.faults err.new))
-        ⊎ (result ≡ Status.Memory) }
+        ⊎ ((result ≡ statuses.Memory) × ReceivesLine (E.written err.old) (E.faults err.old) (codes "memory\n") (E.written err.new) (E.faults err.new)) }
 {
     match line(alloc, refusal) {
         Ok(line) => {
@@ -221,9 +232,9 @@ fn read<'a, F: Files>(
     file: &'a [u8],
     limit: usize,
 ) -> Result<Vec<u8>, Refusal<'a>>
-    ensures held { IfOk result (λ bytes. Holds (F.held files.old) file.now bytes.items) }
+    ensures held { IfOk result (λ bytes. HoldsWithin (F.held files.old) limit file.now bytes.items) }
     ensures within { IfOk result (λ bytes. length bytes.items ≤ limit) }
-    ensures cause { IfErr result (IsOfFile (F.held files.old) (F.faults files.old) (F.faults files.new) file.now) }
+    ensures cause { IfErr result (IsOfFile (F.held files.old) (F.faults files.old) (F.faults files.new) (record { file = file.now; most = limit })) }
 
     ensures kept { F.held files.new ≡ F.held files.old }
     ensures count { F.faults files.old ≤ F.faults files.new }

@@ -1,6 +1,6 @@
 //! The simulator on texts: a Verilog text, a data file and a budget give a dump.
 
-ghost use Rattle.std.specs.Prelude.{◌≡◌, ◌<◌, ◌⊎◌, IfOk, IfErr, length};
+ghost use Rattle.std.specs.Prelude.{◌≡◌, ◌<◌, ◌⊎◌, ℕ, List, Ok, Err, IfOk, IfErr, MatchResult, length};
 ghost use Rattle.cx_text.specs.Loading.{FitsRows, plain_loaded, with_words, words_loaded};
 ghost use Rattle.cx_data.specs.Dump.{dump_text};
 ghost use Rattle.cx_vtree.specs.InstanceTree.{instances_of, nets_at};
@@ -9,11 +9,12 @@ ghost use Rattle.cx_vtree.specs.PlainSources.{plain_source};
 ghost use Rattle.cx_vtree.specs.SimRun.{SimRun};
 ghost use Rattle.cx_velab.specs.Paths.{path_of};
 ghost use Rattle.cx_vsim.specs.Answers.{IsDone, final_words};
-ghost use Rattle.cx_driver.specs.Simulated.{IsRunAnswer, IsSimAnswer, IsSimStop, IsSourceAnswer, IsSourceStop, IsUnread, IsVerilogOf, StopsRun, read_stop};
-ghost use Rattle.cx_driver.specs.declared.stops.Stop.TheVariants as stops;
+ghost use Rattle.cx_driver.specs.Simulated.{IsNoSource, IsSimAnswer, IsSimStop, IsSourceStop, IsVerilogOf, RunDoes, SourceDoes, Spells, StopsRun, read_stop};
+ghost use Rattle.cx_commands.specs.declared.stops.Stop.{Stop as StopValue};
+ghost use Rattle.cx_commands.specs.declared.stops.Stop.TheVariants as stops;
 
 use crate::memories::{dump_of, load};
-use crate::stops::Stop;
+use cx_commands::Stop;
 use cx_text::Loaded;
 use cx_velab::loop_path;
 use cx_vread::{ReadRefusal, read};
@@ -26,6 +27,14 @@ use std::alloc::Global;
 pub fn sim(alloc: Global, verilog: &[u8], json: &[u8], cycles: u64) -> Result<Vec<u8>, Stop>
     ensures answer { IfOk result (λ dump. IsSimAnswer verilog.now json.now cycles dump.items) }
     ensures cause { IfErr result (IsSimStop verilog.now json.now cycles) }
+
+    // Where `done` comes within the budget the dump of its cycle is the answer, unless memory is wanting.
+    ensures all_answers { (answer : List ℕ) → IsSimAnswer verilog.now json.now cycles answer
+        → MatchResult result (λ dump. dump.items ≡ answer) (λ stop. stop ≡ stops.Memory) }
+
+    // What stops a sound source that the text spells is told, unless memory is wanting.
+    ensures all_stops { (why : StopValue) → Spells verilog.now json.now cycles (Err why)
+        → MatchResult result (λ _. ⊥) (λ stop. (stop ≡ stops.Memory) ⊎ (stop ≡ why)) }
 {
     match source_of(alloc, verilog) {
         Ok(source) => run_source(alloc, &source, json, cycles),
@@ -36,7 +45,7 @@ pub fn sim(alloc: Global, verilog: &[u8], json: &[u8], cycles: u64) -> Result<Ve
 /// The source that a text spells.
 fn source_of(alloc: Global, verilog: &[u8]) -> Result<Source, Stop>
     ensures source { IfOk result (λ source. IsVerilogOf verilog.now (plain_source source)) }
-    ensures cause { IfErr result (IsUnread verilog.now) }
+    ensures cause { IfErr result (IsNoSource verilog.now) }
 {
     match read(alloc, verilog) {
         Ok(source) => {
@@ -62,7 +71,7 @@ fn of_read(refusal: ReadRefusal) -> Stop
 
 /// Runs a source on a data file.
 fn run_source(alloc: Global, source: &Source, json: &[u8], cycles: u64) -> Result<Vec<u8>, Stop>
-    ensures answer { IfOk result (λ dump. IsSourceAnswer (plain_source source.now) json.now cycles dump.items) }
+    ensures answer { IfOk result (λ dump. SourceDoes (plain_source source.now) json.now cycles (Ok dump.items)) }
     ensures cause { IfErr result (IsSourceStop (plain_source source.now) json.now cycles) }
 {
     source_is_sound(source);
@@ -76,7 +85,7 @@ fn run_source(alloc: Global, source: &Source, json: &[u8], cycles: u64) -> Resul
 /// Runs a source with these words loaded.
 fn run_loaded(alloc: Global, source: &Source, loaded: Loaded, cycles: u64) -> Result<Vec<u8>, Stop>
     requires fits { FitsRows (rows_of (plain_source source.now).externals) (plain_loaded loaded) }
-    ensures answer { IfOk result (λ dump. IsRunAnswer (plain_source source.now) (plain_loaded loaded) cycles dump.items) }
+    ensures answer { IfOk result (λ dump. RunDoes (plain_source source.now) (plain_loaded loaded) cycles (Ok dump.items)) }
     ensures cause { IfErr result (StopsRun (plain_source source.now) (plain_loaded loaded) cycles) }
 {
     let mut sim = Sim::new(alloc, source)?;
@@ -96,7 +105,7 @@ fn end(
     requires source { ran.now.source ≡ source.now }
     requires run { SimRun (plain_source source.now) (words_loaded (plain_loaded loaded)) cycles ran.now.outcome }
     requires fits { FitsRows (rows_of (plain_source source.now).externals) (plain_loaded loaded) }
-    ensures answer { IfOk result (λ dump. IsRunAnswer (plain_source source.now) (plain_loaded loaded) cycles dump.items) }
+    ensures answer { IfOk result (λ dump. RunDoes (plain_source source.now) (plain_loaded loaded) cycles (Ok dump.items)) }
     ensures cause { IfErr result (StopsRun (plain_source source.now) (plain_loaded loaded) cycles) }
 {
     match ran.answer() {

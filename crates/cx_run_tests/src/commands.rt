@@ -61,7 +61,7 @@ const UNNAMED: &str =
     "module main(\n  input wire [0:0] clk,\n  input wire [0:0] reset,\n  input wire [0:0] go,\n  output wire [0:0] done\n);\n  assign done = other;\nendmodule\n";
 
 /// The words of a line, the write to standard output and that to standard error which fail, counted from 1, and what is told.
-const LINES: [(&str, (u64, u64), (Status, &str, &str)); 48] = [
+const LINES: [(&str, (u64, u64), (Status, &str, &str)); 51] = [
     (
         "interp add five 1000",
         (0, 0),
@@ -277,8 +277,28 @@ const LINES: [(&str, (u64, u64), (Status, &str, &str)); 48] = [
         (0, 0),
         (Status::Refused, "", "data not-json\n"),
     ),
+    // A part that is empty goes with the space before it.
+    ("check ", (0, 0), (Status::ReadFault, "", "read-fault\n")),
     // A sink for messages that fails changes no status.
     ("interp add five 5", (0, 1), (Status::More, "", "")),
+    ("check", (0, 1), (Status::Words, "", "")),
+    ("check add", (1, 1), (Status::WriteFault, "", "")),
+];
+
+/// The words of a line over files that are full or one byte longer, and what is told: the first file that is too long or absent decides.
+const LENGTHS: [(&str, &str); 12] = [
+    ("check full", "refused 1:1 unexpected\n"),
+    ("interp full five 9", "refused 1:1 unexpected\n"),
+    ("interp other data 9", "data not-json\n"),
+    ("check long", "too-long long 1048577\n"),
+    ("interp long five 9", "too-long long 1048577\n"),
+    ("interp long absent 9", "too-long long 1048577\n"),
+    ("interp long wide 9", "too-long long 1048577\n"),
+    ("interp other wide 9", "too-long wide 16777217\n"),
+    ("interp full wide 9", "too-long wide 16777217\n"),
+    ("sim text five 9", "too-long text 83886081\n"),
+    ("sim text absent 9", "too-long text 83886081\n"),
+    ("sim counter wide 9", "too-long wide 16777217\n"),
 ];
 
 #[test]
@@ -324,4 +344,35 @@ fn cut_texts(rt: HostRuntime) {
             _ => panic!(rt; "cut at {length}"),
         }
     }
+}
+
+#[test]
+fn lengths(rt: HostRuntime) -> Result<(), Fail> {
+    let alloc = rt.alloc();
+    let long = vec![in alloc; b' '; 1_048_577]?;
+    let wide = vec![in alloc; b' '; 16_777_217]?;
+    let text = vec![in alloc; b' '; 83_886_081]?;
+    let files: [(&str, &[u8]); 8] = [
+        (
+            "other",
+            b"component main() -> () { cells { } wires { } control { } }",
+        ),
+        ("five", FIVE.as_bytes()),
+        ("counter", COUNTER.as_bytes()),
+        ("full", &long[1..]),
+        ("long", long.as_slice()),
+        ("data", &wide[1..]),
+        ("wide", wide.as_slice()),
+        ("text", text.as_slice()),
+    ];
+    for (line, told) in LENGTHS {
+        tells(
+            &rt,
+            alloc,
+            (line, (0, 0)),
+            &files,
+            (Status::Refused, "", told),
+        )?;
+    }
+    Ok(())
 }

@@ -1,13 +1,15 @@
 use Rattle.std.proofs.Common.{[], Err}
 use Rattle.cx_design.specs.PlainDesigns.{plain_design}
-use Rattle.cx_driver.specs.Interpreted.{IsInterpStop}
-use Rattle.cx_driver.proofs.InterpLemmas.{all_answered, all_stopped, text_answers, text_stops, refused_stops}
+use Rattle.cx_driver.specs.Interpreted.{IsInterpStop, Interprets}
+use Rattle.cx_driver.proofs.InterpLemmas.{one_result, text_answers, text_stops, refused_stops}
+use Rattle.cx_driver.proofs.Once.{Told, all_answered, all_stopped}
 use Rattle.cx_driver.proofs.interpreting.interp.Goals as goal
 
 pub returns-in-Ok : goal.returns-in-Ok
 returns-in-Ok c =
     let text = c.args.text.now in
     let json = c.args.json.now in
+    let does : Told → Type 0 = Interprets text json c.args.turns in
     let d = plain_design c.in-Ok.design in
     let r = c.run_design.result in
     let answer = text_answers (λ v. v.items) text json d c.args.turns r c.in-Ok.ensures.design c.run_design.ensures.answer in
@@ -15,18 +17,19 @@ returns-in-Ok c =
     record {
       answer = answer;
       cause = cause;
-      all_answers = λ bytes i. all_answered (λ v. v.items) text json c.args.turns r answer cause bytes i;
-      all_stops = λ why i. all_stopped (λ v. v.items) text json c.args.turns r answer cause why i;
+      all_answers = λ bytes i. all_answered (λ v. v.items) does does (one_result text json c.args.turns) r answer cause bytes i;
+      all_stops = λ why i. all_stopped (λ v. v.items) does does (one_result text json c.args.turns) r answer cause why i;
     }
 
 pub returns-in-Err : goal.returns-in-Err
 returns-in-Err c =
     let text = c.args.text.now in
     let json = c.args.json.now in
+    let does : Told → Type 0 = Interprets text json c.args.turns in
     let cause : IsInterpStop text json c.args.turns c.in-Err.stop = refused_stops text json c.args.turns c.in-Err.stop c.in-Err.ensures.cause in
     record {
       answer = tt;
       cause = cause;
-      all_answers = λ bytes i. all_answered {X = Unit {0}} (λ _. []) text json c.args.turns (Err c.in-Err.stop) tt cause bytes i;
-      all_stops = λ why i. all_stopped {X = Unit {0}} (λ _. []) text json c.args.turns (Err c.in-Err.stop) tt cause why i;
+      all_answers = λ bytes i. all_answered {X = Unit {0}} (λ _. []) does does (one_result text json c.args.turns) (Err c.in-Err.stop) tt cause bytes i;
+      all_stops = λ why i. all_stopped {X = Unit {0}} (λ _. []) does does (one_result text json c.args.turns) (Err c.in-Err.stop) tt cause why i;
     }

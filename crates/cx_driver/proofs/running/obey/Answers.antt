@@ -1,8 +1,10 @@
 use Rattle.std.proofs.Common.{List, ℕ, sym, subst}
 use Rattle.cx_outside.specs.Writing.{GrowsByPart}
-use Rattle.cx_driver.specs.Dumps.{IsAnswer}
-use Rattle.cx_driver.specs.Asked.{asked_of}
-use Rattle.cx_driver.proofs.CauseLemmas.{delivered, part_taken, told_why, unread_file}
+use Rattle.cx_driver.specs.Outcomes.{IsAnswer}
+use Rattle.cx_commands.specs.Asked.{asked_of}
+use Rattle.cx_commands.specs.Statuses.{ReceivesLine}
+use Rattle.cx_driver.proofs.CauseLemmas.{delivered, part_taken, quiet_delivered, refused_not_done, said_delivered, said_refused, told_why, unread_file}
+use Rattle.cx_driver.proofs.CompleteLemmas.{complete_delivered, complete_refused}
 use Rattle.cx_driver.proofs.running.obey.Goals as goal
 
 pub returns-in-Ok-clause-part : goal.returns-in-Ok-clause-part
@@ -22,3 +24,26 @@ pub returns-in-Err-clause-cause : goal.returns-in-Err-clause-cause
 returns-in-Err-clause-cause g c = λ r.
     told_why (asked_of c.args.command) (g.F.Files.held c.args.files.now) (g.F.Files.faults c.args.files.now) (g.F.Files.faults c.answer.new.files) c.refuse.result
     (g.E.Sink.written c.args.err.now) (g.E.Sink.faults c.args.err.now) (g.E.Sink.written c.refuse.new.err) (g.E.Sink.faults c.refuse.new.err) c.in-Err.refusal c.refuse.ensures c.in-Err.ensures.cause r
+
+pub returns-in-Ok-clause-quiet : goal.returns-in-Ok-clause-quiet
+returns-in-Ok-clause-quiet g c = λ e. quiet_delivered c.deliver.result c.deliver.ensures.cases e
+
+pub returns-in-Ok-clause-said : goal.returns-in-Ok-clause-said
+returns-in-Ok-clause-said g c =
+    let Received : List ℕ → Type 0 = λ l. ReceivesLine (g.E.Sink.written c.args.err.now) (g.E.Sink.faults c.args.err.now) l (g.E.Sink.written c.deliver.new.err) (g.E.Sink.faults c.deliver.new.err) in
+    λ told e. said_delivered Received c.deliver.result c.deliver.ensures.cases told e
+
+pub returns-in-Ok-clause-completes : goal.returns-in-Ok-clause-completes
+returns-in-Ok-clause-completes g c = λ can never. complete_delivered c.deliver.result c.deliver.ensures.cases
+
+pub returns-in-Err-clause-quiet : goal.returns-in-Err-clause-quiet
+returns-in-Err-clause-quiet g c = λ e. absurd (refused_not_done c.refuse.result c.in-Err.refusal c.refuse.ensures e)
+
+pub returns-in-Err-clause-said : goal.returns-in-Err-clause-said
+returns-in-Err-clause-said g c =
+    let Received : List ℕ → Type 0 = λ l. ReceivesLine (g.E.Sink.written c.args.err.now) (g.E.Sink.faults c.args.err.now) l (g.E.Sink.written c.refuse.new.err) (g.E.Sink.faults c.refuse.new.err) in
+    λ told e. said_refused Received c.refuse.result c.in-Err.refusal c.refuse.ensures told e
+
+pub returns-in-Err-clause-completes : goal.returns-in-Err-clause-completes
+returns-in-Err-clause-completes g c = λ can never.
+    complete_refused (g.F.Files.held c.args.files.now) (asked_of c.args.command) (g.F.Files.faults c.args.files.now) (g.F.Files.faults c.answer.new.files) c.refuse.result c.in-Err.refusal c.refuse.ensures c.in-Err.ensures.cause can never

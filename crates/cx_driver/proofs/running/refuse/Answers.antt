@@ -1,5 +1,5 @@
 use Rattle.std.proofs.Common.{inl, subst, ◌∙◌}
-use Rattle.cx_driver.specs.Causes.{ReceivesLine}
+use Rattle.cx_commands.specs.Statuses.{ReceivesLine}
 use Rattle.cx_driver.proofs.running.refuse.Goals as goal
 
 pub returns-in-Ok : goal.returns-in-Ok

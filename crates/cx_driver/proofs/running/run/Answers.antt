@@ -1,7 +1,10 @@
-use Rattle.std.proofs.Common.{refl}
-use Rattle.cx_driver.specs.Asked.{asked_of}
-use Rattle.cx_driver.specs.declared.refusals.Status.TheVariants as statuses
-use Rattle.cx_driver.proofs.CauseLemmas.{words_tell_nothing}
+use Rattle.std.proofs.Common.{List, ℕ, refl}
+use Rattle.cx_commands.specs.Statuses.{ReceivesLine}
+use Rattle.cx_commands.specs.Asked.{asked_of}
+use Rattle.cx_commands.specs.declared.refusals.Status.TheVariants as statuses
+use Rattle.cx_driver.proofs.CauseLemmas.{said_words, words_tell_nothing}
+use Rattle.cx_commands.proofs.CommandLemmas.{one_command}
+use Rattle.cx_driver.proofs.CompleteLemmas.{complete_asked}
 use Rattle.cx_driver.proofs.running.run.Goals as goal
 
 pub returns-in-Some-clause-done : goal.returns-in-Some-clause-done
@@ -15,3 +18,16 @@ returns-in-Some-clause-cause g c = λ r. (asked_of c.in-Some.command, c.in-Some.
 
 pub returns-in-None-clause-cause : goal.returns-in-None-clause-cause
 returns-in-None-clause-cause g c = λ r. absurd (words_tell_nothing statuses.Words refl r)
+
+pub returns-in-Some-clause-completes : goal.returns-in-Some-clause-completes
+returns-in-Some-clause-completes g c = λ command asks can never.
+    let own = asked_of c.in-Some.command in
+    c.obey.ensures.completes (complete_asked (g.F.Files.held c.args.files.now) command own (one_command c.args.words.now command own asks c.in-Some.ensures) can) never
+
+pub returns-in-None-clause-completes : goal.returns-in-None-clause-completes
+returns-in-None-clause-completes g c = λ command asks can never. absurd (c.in-None.ensures command asks)
+
+pub returns-in-None-clause-said : goal.returns-in-None-clause-said
+returns-in-None-clause-said g c =
+    let Received : List ℕ → Type 0 = λ l. ReceivesLine (g.E.Sink.written c.args.err.now) (g.E.Sink.faults c.args.err.now) l (g.E.Sink.written c.tell.new.err) (g.E.Sink.faults c.tell.new.err) in
+    λ told e. said_words Received told c.tell.ensures e

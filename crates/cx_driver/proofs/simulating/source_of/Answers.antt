@@ -1,6 +1,6 @@
 use Rattle.std.proofs.Common.{sym, subst}
-use Rattle.cx_driver.specs.Simulated.{IsUnread}
-use Rattle.cx_driver.specs.declared.stops.Stop.{Stop}
+use Rattle.cx_driver.specs.Simulated.{IsNoSource}
+use Rattle.cx_commands.specs.declared.stops.Stop.{Stop}
 use Rattle.cx_driver.proofs.SimLemmas.{unread_text}
 use Rattle.cx_driver.proofs.simulating.source_of.Goals as goal
 
@@ -12,7 +12,7 @@ returns-in-Ok c = record {
 
 pub returns-in-Err : goal.returns-in-Err
 returns-in-Err c =
-    let Unread : Stop → Type 0 = IsUnread c.args.verilog.now in
+    let Unread : Stop → Type 0 = IsNoSource c.args.verilog.now in
     record {
       source = tt;
       cause = subst Unread (sym c.of_read.ensures) (unread_text c.args.verilog.now c.in-Err.refusal c.in-Err.ensures.sound c.in-Err.ensures.spelled);

@@ -1,0 +1,4 @@
+pub mod Four
+pub mod CommandLemmas
+pub mod MessageLemmas
+pub mod UnreadLemmas

@@ -1,0 +1,53 @@
+-- What the words after the program's name ask for.
+use Rattle.std.specs.Prelude.{◌≡◌, ℕ, ◌≤◌, List, [], ◌∷◌, codes, Contains, map}
+use Rattle.std.specs.Str.Parse.{IsNumeral, digits_value}
+use Rattle.cx_text.specs.declared.limits.TheConstants.{BUDGET, DESIGN_BYTES, DATA_BYTES, VERILOG_BYTES}
+
+-- a command: which files it reads, and its budget where it has one
+pub data Asked : Type 0 where
+  interp : (design json : List ℕ) (budget : ℕ) → Asked
+  check : (design : List ℕ) → Asked
+  sim : (verilog json : List ℕ) (budget : ℕ) → Asked
+
+-- one decimal digit or more, with a value of at most 10^12; zeros may stand before
+pub record IsBudget (digits : List ℕ) (budget : ℕ) : Type 0 where
+  pub numeral : IsNumeral 10 digits
+  pub value : digits_value 10 digits ≡ budget
+  pub limit : budget ≤ BUDGET
+
+-- the words are this name, two files and the digits of a budget
+abbrev pub AsksRun : List (List ℕ) → List ℕ → List ℕ → List ℕ → ℕ → Type 0
+AsksRun words name first second budget = (digits : List ℕ) × (words ≡ name ∷ first ∷ second ∷ digits ∷ []) × IsBudget digits budget
+
+-- the words ask for this command
+abbrev pub Asks : List (List ℕ) → Asked → Type 0
+Asks words (interp design json budget) = AsksRun words (codes "interp") design json budget
+Asks words (check design) = words ≡ codes "check" ∷ design ∷ []
+Asks words (sim verilog json budget) = AsksRun words (codes "sim") verilog json budget
+
+-- the words ask for no run
+pub record AsksNoRun (words : List (List ℕ)) : Type 0 where
+  pub interprets : (design json : List ℕ) (budget : ℕ) → Asks words (interp design json budget) → ⊥
+  pub simulates : (verilog json : List ℕ) (budget : ℕ) → Asks words (sim verilog json budget) → ⊥
+
+-- the words are none of a command
+abbrev pub AsksNothing : List (List ℕ) → Type 0
+AsksNothing words = (command : Asked) → Asks words command → ⊥
+
+-- a file that a command reads, and the most bytes that it may have
+pub record Wanted : Type 0 where
+  pub file : List ℕ
+  pub most : ℕ
+
+-- the files that a command reads, in the order of the words
+abbrev pub wanted_by : Asked → List Wanted
+wanted_by (interp design json budget) = record { file = design; most = DESIGN_BYTES } ∷ record { file = json; most = DATA_BYTES } ∷ []
+wanted_by (check design) = record { file = design; most = DESIGN_BYTES } ∷ []
+wanted_by (sim verilog json budget) = record { file = verilog; most = VERILOG_BYTES } ∷ record { file = json; most = DATA_BYTES } ∷ []
+
+abbrev pub files_of : Asked → List (List ℕ)
+files_of command = map (λ w. w.file) (wanted_by command)
+
+-- the words ask for a command that reads this file
+abbrev pub IsFileOf : List (List ℕ) → List ℕ → Type 0
+IsFileOf words file = (command : Asked) × Asks words command × Contains (files_of command) file

@@ -1,0 +1,7 @@
+pub mod Commands
+pub mod Asked
+pub mod Reads
+pub mod Stopping
+pub mod Unread
+pub mod Statuses
+pub mod Messages

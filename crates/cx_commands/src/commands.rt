@@ -1,0 +1,108 @@
+//! The commands that the words on the command line spell.
+
+ghost use Rattle.std.specs.Prelude.{ℕ, List, MatchOption};
+ghost use Rattle.cx_commands.specs.Commands.{Asks, AsksNoRun, AsksNothing, AsksRun, IsBudget, check, interp, sim};
+ghost use Rattle.cx_commands.specs.Asked.{asked_of};
+
+use cx_outside::Word;
+use cx_text::{BUDGET, decimal};
+
+/// What is asked for. File names are lent from the words.
+#[derive(Clone, Copy, Debug)]
+pub enum Command<'a> {
+    /// Runs the design of a file on a data file with a budget in turns.
+    Interp {
+        design: &'a [u8],
+        json: &'a [u8],
+        budget: u64,
+    },
+    /// Tries all rules on the design of a file.
+    Check {
+        design: &'a [u8],
+    },
+    /// Runs the Verilog text of a file on a data file with a budget in cycles.
+    Sim {
+        verilog: &'a [u8],
+        json: &'a [u8],
+        budget: u64,
+    },
+}
+
+/// The command of the words after the program's name.
+#[tactic(auto, using(crate::proofs::CommandLemmas::neither))]
+pub fn command_of(words: &[Word]) -> Option<Command<'_>>
+    ensures { MatchOption result (AsksNothing words.now) (λ command. Asks words.now (asked_of command)) }
+{
+    match design_to_check(words) {
+        Some(design) => Some(Command::Check { design }),
+        None => run_of(words),
+    }
+}
+
+/// The file of the words `check FILE`.
+fn design_to_check(words: &[Word]) -> Option<&[u8]>
+    ensures { MatchOption result ((design : List ℕ) → Asks words.now (check design) → ⊥) (λ design. Asks words.now (check design.now)) }
+{
+    match words {
+        [name, file] if name.bytes() == b"check".as_slice() => Some(file.bytes()),
+        _ => None,
+    }
+}
+
+/// The command of the words `interp FILE FILE BUDGET` or `sim FILE FILE BUDGET`.
+fn run_of(words: &[Word]) -> Option<Command<'_>>
+    ensures { MatchOption result (AsksNoRun words.now) (λ command. Asks words.now (asked_of command)) }
+{
+    match interpreter_of(words) {
+        Some(command) => Some(command),
+        None => simulator_of(words),
+    }
+}
+
+fn interpreter_of(words: &[Word]) -> Option<Command<'_>>
+    ensures { MatchOption result ((design json : List ℕ) (budget : ℕ) → Asks words.now (interp design json budget) → ⊥) (λ command. Asks words.now (asked_of command)) }
+{
+    match run_on_files(words, b"interp".as_slice()) {
+        Some((design, json, budget)) => Some(Command::Interp {
+            design,
+            json,
+            budget,
+        }),
+        None => None,
+    }
+}
+
+fn simulator_of(words: &[Word]) -> Option<Command<'_>>
+    ensures { MatchOption result ((verilog json : List ℕ) (budget : ℕ) → Asks words.now (sim verilog json budget) → ⊥) (λ command. Asks words.now (asked_of command)) }
+{
+    match run_on_files(words, b"sim".as_slice()) {
+        Some((verilog, json, budget)) => Some(Command::Sim {
+            verilog,
+            json,
+            budget,
+        }),
+        None => None,
+    }
+}
+
+/// The files and the budget of the words `NAME FILE FILE BUDGET`.
+fn run_on_files<'a>(words: &'a [Word], name: &[u8]) -> Option<(&'a [u8], &'a [u8], u64)>
+    ensures { MatchOption result ((first second : List ℕ) (budget : ℕ) → AsksRun words.now name.now first second budget → ⊥)
+        (λ found. AsksRun words.now name.now found.0.now found.1.now found.2) }
+{
+    match words {
+        [word, first, second, digits] if word.bytes() == name => {
+            let budget = number(digits.bytes())?;
+            Some((first.bytes(), second.bytes(), budget))
+        }
+        _ => None,
+    }
+}
+
+/// A budget: one decimal digit or more, with a value of at most 10^12.
+fn number(digits: &[u8]) -> Option<u64>
+    ensures { MatchOption result ((budget : ℕ) → IsBudget digits.now budget → ⊥) (IsBudget digits.now) }
+{
+    let value = u64::try_from(decimal(digits)?).ok()?;
+    if value > BUDGET { None } else { Some(value) }
+}

@@ -1,0 +1,41 @@
+-- What a command does with its files: what it writes, or why it stops.
+use Rattle.std.specs.Prelude.{◌≡◌, ◌⊎◌, ℕ, List, Option, Result, Ok, Err, codes}
+use Rattle.cx_text.specs.declared.diagnostics.Diagnostic.{Diagnostic}
+use Rattle.cx_text.specs.declared.limits.TheConstants.{DESIGN_BYTES, DATA_BYTES, VERILOG_BYTES}
+use Rattle.cx_commands.specs.Commands.{Asked, interp, check, sim, Asks}
+use Rattle.cx_commands.specs.Reads.{OfFile}
+use Rattle.cx_driver.specs.Texts.{IsAcceptedText, TextBreak}
+use Rattle.cx_driver.specs.Interpreted.{Interprets}
+use Rattle.cx_driver.specs.Simulated.{Simulates}
+use Rattle.cx_commands.specs.declared.stops.Stop.{Stop}
+use Rattle.cx_commands.specs.declared.stops.Stop.TheVariants as stops
+
+-- WHAT THE CHECKS SAY OF A TEXT: it is accepted; or it breaks a rule, and that is told
+abbrev pub Checks : List ℕ → Result (List ℕ) Stop → Type 0
+Checks text result =
+    (IsAcceptedText text × (result ≡ Ok (codes "accepted\n")))
+    ⊎ ((told : Diagnostic) × TextBreak text told × (result ≡ Err (stops.Rule told)))
+
+-- WHAT A COMMAND DOES, by what its files hold where that is told; in any case each is within its limit
+abbrev pub Does : Option (List ℕ → Option (List ℕ)) → Asked → Result (List ℕ) Stop → Type 0
+Does held (interp design json budget) result =
+    OfFile held DESIGN_BYTES design (λ text. OfFile held DATA_BYTES json (λ bytes. Interprets text bytes budget result))
+Does held (check design) result = OfFile held DESIGN_BYTES design (λ text. Checks text result)
+Does held (sim verilog json budget) result =
+    OfFile held VERILOG_BYTES verilog (λ text. OfFile held DATA_BYTES json (λ bytes. Simulates text bytes budget result))
+
+-- what it writes
+abbrev pub IsAnswer : Option (List ℕ → Option (List ℕ)) → Asked → List ℕ → Type 0
+IsAnswer held command answer = Does held command (Ok answer)
+
+-- the words ask for a command that writes this
+abbrev pub IsAnswerTo : Option (List ℕ → Option (List ℕ)) → List (List ℕ) → List ℕ → Type 0
+IsAnswerTo held words answer = (command : Asked) × Asks words command × IsAnswer held command answer
+
+-- there is an answer to what the files hold
+abbrev pub CanAnswer : Option (List ℕ → Option (List ℕ)) → Asked → Type 0
+CanAnswer held command = (answer : List ℕ) × IsAnswer held command answer
+
+-- why it stops, unless memory is wanting
+abbrev pub StopsCommand : Asked → Option (List ℕ → Option (List ℕ)) → Stop → Type 0
+StopsCommand command held stop = (stop ≡ stops.Memory) ⊎ Does held command (Err stop)
