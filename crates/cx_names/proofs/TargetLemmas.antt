@@ -41,20 +41,20 @@ RefersTo f = (n : List ℕ) → is_literal (f n) ≡ false
 abbrev Assigns : PlainAssign → Type 0
 Assigns a = NoLiteral a.target
 
-abbrev pub AssignsWith : (List Attribute → PlainAssign) → Type 0
+abbrev AssignsWith : (List Attribute → PlainAssign) → Type 0
 AssignsWith f = (attrs : List Attribute) → Assigns (f attrs)
 
 abbrev Groups : PlainGroup → Type 0
 Groups g = All Assigns g.assigns
 
-abbrev pub GroupsWith : (List Attribute → PlainGroup) → Type 0
+abbrev GroupsWith : (List Attribute → PlainGroup) → Type 0
 GroupsWith f = (attrs : List Attribute) → Groups (f attrs)
 
 abbrev Wires : PlainWire → Type 0
 Wires (ast.Group g) = Groups g
 Wires (ast.Assign a) = Assigns a
 
-abbrev pub WiresWith : (List Attribute → PlainWire) → Type 0
+abbrev WiresWith : (List Attribute → PlainWire) → Type 0
 WiresWith f = (attrs : List Attribute) → Wires (f attrs)
 
 abbrev HasWires : PlainComponent → Type 0

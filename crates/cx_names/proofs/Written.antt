@@ -14,7 +14,6 @@ use Rattle.cx_grammar.specs.Calyx.{sign, name, number, behind, before, within, p
 use Rattle.cx_grammar.specs.Parsing.{Parse}
 use Rattle.cx_names.proofs.Rising.{Before, NoLater, here, then_later, Rises}
 use Rattle.cx_names.proofs.Spelled.{Chain, chain_earlier, chain_join, chain_later, in_guard, in_guards, Between, Passes, Guards, Nests, Keeps, Gives, gives_empty, gives_one, gives_pair, gives_choice, gives_several, passes}
-use Rattle.cx_names.proofs.TargetLemmas.{AssignsWith, GroupsWith, WiresWith}
 
 -- operands of conjunctions and disjunctions
 abbrev in_each : List PlainGuard → List OperandItem
@@ -67,6 +66,9 @@ Follows p f q = (os : List OperandItem) × Chain p os q × ((o : OperandItem) �
 abbrev pub Assigns : PlainAssign → Type 0
 Assigns a = (p q : Place) × Chain p (in_assign a) q
 
+abbrev AssignsWith : (List Attribute → PlainAssign) → Type 0
+AssignsWith f = (attrs : List Attribute) → Assigns (f attrs)
+
 abbrev pub Each : {A : Type 0} → (A → Type 0) → List A → Type 0
 Each P [] = Unit {0}
 Each P (x ∷ xs) = P x × Each P xs
@@ -74,9 +76,15 @@ Each P (x ∷ xs) = P x × Each P xs
 abbrev Groups : PlainGroup → Type 0
 Groups g = Each Assigns g.assigns
 
+abbrev GroupsWith : (List Attribute → PlainGroup) → Type 0
+GroupsWith f = (attrs : List Attribute) → Groups (f attrs)
+
 abbrev pub Wires : PlainWire → Type 0
 Wires (ast.Group g) = Each Assigns g.assigns
 Wires (ast.Assign a) = Assigns a
+
+abbrev WiresWith : (List Attribute → PlainWire) → Type 0
+WiresWith f = (attrs : List Attribute) → Wires (f attrs)
 
 abbrev pub HasWires : PlainComponent → Type 0
 HasWires part = Each Wires part.wires
