@@ -8,3 +8,5 @@ pub mod RanLemmas
 pub mod SimLemmas
 pub mod CauseLemmas
 pub mod CompleteLemmas
+pub mod BelowLemmas
+pub mod PromiseLemmas

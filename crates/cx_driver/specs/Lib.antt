@@ -5,3 +5,5 @@ pub mod Simulated
 pub mod Laws
 pub mod Outcomes
 pub mod Causes
+pub mod Compiled
+pub mod Promise

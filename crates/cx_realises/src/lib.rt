@@ -1,0 +1,2 @@
+//! That what stands for a design does from reset what the run of the design does.
+#![tactic(auto)]
