@@ -6,7 +6,7 @@ use Rattle.cx_meaning.specs.declared.ports.PortRef.TheVariants.{Cell, Input, Don
 use Rattle.cx_meaning.specs.declared.ports.PortRef.TheVariants as ports
 use Rattle.cx_meaning.specs.declared.sights.FaultKind.{FaultKind}
 use Rattle.cx_meaning.specs.declared.sights.FaultKind.TheVariants as faults
-use Rattle.cx_meaning.specs.Designs.{PlainDesign, PlainComponent, PlainCell, PlainGroup, Negation, Atom, Within, PlainForm, Seq, If, While, Repeat, Empty, StaticIf, StaticRepeat, PlainStatement, statements_of}
+use Rattle.cx_meaning.specs.Designs.{PlainDesign, PlainComponent, PlainCell, PlainGroup, PlainGuard, Negation, Atom, Any, Within, a_guard, no_guards, PlainForm, Seq, If, While, Repeat, Empty, StaticSeq, StaticIf, StaticRepeat, PlainStatement, statements_of}
 use Rattle.cx_meaning.specs.Instances.{State, tree_of, words_of}
 use Rattle.cx_meaning.specs.Cycles.{Fault}
 use Rattle.cx_meaning.specs.Answers.{Answer, End, More}
@@ -171,3 +171,25 @@ known_capture = refl
 -- an input that is not bound is a fault of the child, in the turn in which the child looks at it
 pub known_unbound : run_told (calling (plain_group (assign (Cell 1 0) (one_bit 1) 1 ∷ assign (Done 0) (Cell 1 3) 1 ∷ []) ∷ []) (enable 0)) five 1000 ≡ Faults faults.Undefined (1 ∷ []) (Cell 0 0) 0
 known_unbound = refl
+
+-- wire 2 is driven by nothing; a register takes 1 without a guard, and 1 where a guard is 1
+abbrev nothing_out : PlainGuard
+nothing_out = Atom (placed (Cell 2 1))
+
+abbrev guarded_by : PlainGuard → PlainDesign
+guarded_by guard = design (mem ∷ reg 32 ∷ cell primitives.Wire (1 ∷ []) ∷ [])
+    (plain_group (assign (Cell 1 0) (number 1) 1 ∷ guarded (Cell 1 0) guard (number 1) 2 ∷ assign (Cell 1 1) (one_bit 1) 3 ∷ assign (Done 0) (Cell 1 3) 4 ∷ []) ∷ [])
+    [] (enable 0)
+
+-- nothing | 1 is 1
+pub known_nothing_or_one : run_told (guarded_by (Any (a_guard nothing_out (a_guard (Atom (placed (one_bit 1))) no_guards)))) five 1000 ≡ Ends 2 five
+known_nothing_or_one = refl
+
+-- a guard that is nothing is looked at behind one that is 1
+pub known_guard_of_nothing : run_told (guarded_by nothing_out) five 1000 ≡ Faults faults.Undefined [] (Cell 1 0) 0
+known_guard_of_nothing = refl
+
+-- a static group of one cycle, and a static if of what nothing drives: a fault in the second turn
+pub known_sample_of_nothing : run_told (design (mem ∷ reg 32 ∷ cell primitives.Wire (1 ∷ []) ∷ []) (timed_group 1 [] ∷ [])
+    [] (st (StaticSeq None (statements_of (enable 0 ∷ st (StaticIf None (placed (Cell 2 1)) (enable 0) (st Empty)) ∷ []))))) five 1000 ≡ Faults faults.Undefined [] (Cell 2 1) 1
+known_sample_of_nothing = refl
