@@ -77,8 +77,8 @@ module _ (d : PlainDesign) (source : PlainSource) (is : Realises d source) (ms :
       let g = grows c budget (cycle_within source (words_loaded ms) budget c left r) (answers.End after t) e in
       let same : DoneAt t (words_of (tree_of d) after) ≡ DoneAt c left = one_outcome (is.runs.ends ms budget t after fits g.1) r in
       let dumps : dump_text t (with_words ms (words_of (tree_of d) after)) ≡ dump_text c (with_words ms left) =
-          ap (λ n. dump_text n (with_words ms (words_of (tree_of d) after))) (done_turns t c (words_of (tree_of d) after) left same)
-          ∙ ap (λ ws. dump_text c (with_words ms ws)) (done_words t c (words_of (tree_of d) after) left same) in
+      ap (λ n. dump_text n (with_words ms (words_of (tree_of d) after))) (done_turns t c (words_of (tree_of d) after) left same)
+      ∙ ap (λ ws. dump_text c (with_words ms ws)) (done_words t c (words_of (tree_of d) after) left same) in
       ends_so (inl (d, stands, sym (ap (loaded_result d c) ok ∙ ap (told_of d ms c) e ∙ ap Ok dumps)))
   back text json stands ok budget c left r (answers.Fault f t) e = faults _ (a_fault _ _ _) (inl (d, stands, sym (ap (loaded_result d c) ok ∙ ap (told_of d ms c) e)))
   back text json stands ok budget c left r answers.More e = absurd (is.runs.ends_only ms budget c left fits r e)
@@ -127,13 +127,15 @@ module _ (d : PlainDesign) (source : PlainSource) (is : Realises d source) (json
       → Ok dump ≡ told_outcome source ms budget o → (cycle : ℕ) × IsRunIn text json budget cycle dump
   dump_in text stands dump ms ok (DoneAt c left) r told =
       let fits = loaded_fits json (external_rows d) ms ok in
-      let is_dump : dump ≡ dump_text c (with_words ms left) = cc in
-      (c, record {
-        memories = with_words ms left;
-        tells = is_dump;
-        within = cycle_within source (words_loaded ms) budget c left r;
-        run = subst (EndsOrFaults text json c) (sym is_dump) (back d source is ms fits text json stands ok budget c left r (run_main d (words_loaded ms) c) refl);
-      })
+      let is_dump : dump ≡ dump_text c (with_words ms left) = cc in (
+        c,
+        record {
+          memories = with_words ms left;
+          tells = is_dump;
+          within = cycle_within source (words_loaded ms) budget c left r;
+          run = subst (EndsOrFaults text json c) (sym is_dump) (back d source is ms fits text json stands ok budget c left r (run_main d (words_loaded ms) c) refl);
+        },
+      )
   dump_in text stands dump ms ok (LoopAt i k) r told = absurd (cc)
   dump_in text stands dump ms ok NotDone r told = absurd (cc)
 
@@ -167,9 +169,10 @@ module _ (text verilog : List ℕ) (d : PlainDesign) (source : PlainSource) (sta
     same_dump = λ json budget dump h. does json budget (Ok dump) (does_dump d source is json budget dump (load_of json (external_rows d)) refl (of_design text d stands json budget (Ok dump) h));
     no_other_dump = λ json budget dump h. other_dump d source is json budget text stands dump (load_of json (external_rows d)) refl (did json budget (Ok dump) h);
     no_sooner = λ json budget h. does json budget (Err (stops.More budget)) (does_wait d source is json budget (load_of json (external_rows d)) refl (of_design text d stands json budget (Err (stops.More budget)) h));
-    same_data = λ json budget fault.
-        (λ h. does json budget (Err (stops.Json fault)) (does_refuse d source is json budget fault (load_of json (external_rows d)) (of_design text d stands json budget (Err (stops.Json fault)) h)),
-         λ h. inl (d, stands, is_refused d source is json budget fault (load_of json (external_rows d)) (did json budget (Err (stops.Json fault)) h)));
+    same_data = λ json budget fault. (
+      λ h. does json budget (Err (stops.Json fault)) (does_refuse d source is json budget fault (load_of json (external_rows d)) (of_design text d stands json budget (Err (stops.Json fault)) h)),
+      λ h. inl (d, stands, is_refused d source is json budget fault (load_of json (external_rows d)) (did json budget (Err (stops.Json fault)) h)),
+    );
     no_loop = λ json budget net h. no_loop_does d source is json budget net (load_of json (external_rows d)) refl (did json budget (Err (stops.Loop net)) h);
   }
 
