@@ -1,0 +1,6 @@
+pub mod Nets
+pub mod NetTree
+pub mod NetMeaning
+pub mod NetEdges
+pub mod NetRuns
+pub mod PlainNets

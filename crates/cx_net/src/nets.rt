@@ -1,0 +1,43 @@
+//! Nets.
+
+ghost use Rattle.std.specs.Prelude.{◌≡◌, map};
+ghost use Rattle.cx_net.specs.PlainNets.{net_of_parts, plain_net, plain_net_component};
+
+use crate::components::NetComponent;
+
+/// A net: components of guarded drivers, and the number of the one that is `main`.
+#[derive(Debug, Drop)]
+pub struct Net {
+    components: Vec<NetComponent>,
+    main: u32,
+}
+
+impl Net {
+    /// Keeps components and the number of `main`.
+    pub fn new(components: Vec<NetComponent>, main: u32) -> Net
+        ensures value { plain_net result ≡ net_of_parts components.items main }
+    {
+        Net { components, main }
+    }
+
+    /// The components.
+    pub fn components(&self) -> &[NetComponent]
+        ensures value { map plain_net_component result.now ≡ (plain_net self.now).components }
+    {
+        &self.components
+    }
+
+    /// The number of `main`.
+    pub fn main(&self) -> u32
+        ensures value { result ≡ (plain_net self.now).main }
+    {
+        self.main
+    }
+
+    /// Gives up the components.
+    pub fn into_components(self) -> Vec<NetComponent>
+        ensures value { map plain_net_component result.items ≡ (plain_net self).components }
+    {
+        self.components
+    }
+}

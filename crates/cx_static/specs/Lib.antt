@@ -1,0 +1,3 @@
+pub mod Islands
+pub mod Lowering
+pub mod PlainLowered
