@@ -44,10 +44,16 @@ pub(crate) fn tells(
     let mut out = MemSink::new(8, vec![in alloc; fails.0]?, vec![in alloc; 0; 512]?);
     let mut err = MemSink::new(64, vec![in alloc; fails.1]?, vec![in alloc; 0; 64]?);
     let status = run(alloc, &words, &mut files, &mut out, &mut err);
-    assert_eq!(rt; status, want.0, "{line} {want:?}");
-    assert_eq!(rt; out.bytes(), want.1.as_bytes(), "{line} {want:?}");
-    assert_eq!(rt; err.bytes(), want.2.as_bytes(), "{line} {want:?}");
+    let is_told = status == want.0
+        && are_same(out.bytes(), want.1)
+        && are_same(err.bytes(), want.2);
+    assert!(rt; is_told, "{want:?}");
     Ok(())
+}
+
+/// Whether these bytes are those of a text.
+fn are_same(bytes: &[u8], text: &str) -> bool {
+    bytes == text.as_bytes()
 }
 
 /// A command on a text and a data file, with a budget.
