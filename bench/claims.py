@@ -94,7 +94,7 @@ def unknown_crates(root):
     for pattern in NAMING:
         for page in sorted(glob.glob(f'{root}/{pattern}')):
             with open(page, encoding='utf-8') as file:
-                names = set(re.findall(r'\bcx_\w+|\bcalyx_cli\b', file.read()))
+                names = set(re.findall(r'\bcx_[a-z_]+\b|\bcalyx_cli\b', file.read()))
             yield from ((os.path.relpath(page, root), name) for name in sorted(names) if not os.path.isdir(f'{root}/crates/{name}'))
 
 

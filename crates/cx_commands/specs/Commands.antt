@@ -5,6 +5,7 @@ use Rattle.cx_text.specs.declared.limits.TheConstants.{BUDGET, DESIGN_BYTES, DAT
 
 -- a command: which files it reads, and its budget where it has one
 pub data Asked : Type 0 where
+  compile : (design : List ℕ) → Asked
   interp : (design json : List ℕ) (budget : ℕ) → Asked
   check : (design : List ℕ) → Asked
   sim : (verilog json : List ℕ) (budget : ℕ) → Asked
@@ -19,11 +20,21 @@ pub record IsBudget (digits : List ℕ) (budget : ℕ) : Type 0 where
 abbrev pub AsksRun : List (List ℕ) → List ℕ → List ℕ → List ℕ → ℕ → Type 0
 AsksRun words name first second budget = (digits : List ℕ) × (words ≡ name ∷ first ∷ second ∷ digits ∷ []) × IsBudget digits budget
 
+-- the words are this name and a file
+abbrev pub AsksDesign : List (List ℕ) → List ℕ → List ℕ → Type 0
+AsksDesign words name design = words ≡ name ∷ design ∷ []
+
 -- the words ask for this command
 abbrev pub Asks : List (List ℕ) → Asked → Type 0
+Asks words (compile design) = AsksDesign words (codes "compile") design
 Asks words (interp design json budget) = AsksRun words (codes "interp") design json budget
-Asks words (check design) = words ≡ codes "check" ∷ design ∷ []
+Asks words (check design) = AsksDesign words (codes "check") design
 Asks words (sim verilog json budget) = AsksRun words (codes "sim") verilog json budget
+
+-- the words ask for nothing on one file
+pub record AsksNoDesign (words : List (List ℕ)) : Type 0 where
+  pub compiles : (design : List ℕ) → Asks words (compile design) → ⊥
+  pub checks : (design : List ℕ) → Asks words (check design) → ⊥
 
 -- the words ask for no run
 pub record AsksNoRun (words : List (List ℕ)) : Type 0 where
@@ -41,6 +52,7 @@ pub record Wanted : Type 0 where
 
 -- the files that a command reads, in the order of the words
 abbrev pub wanted_by : Asked → List Wanted
+wanted_by (compile design) = record { file = design; most = DESIGN_BYTES } ∷ []
 wanted_by (interp design json budget) = record { file = design; most = DESIGN_BYTES } ∷ record { file = json; most = DATA_BYTES } ∷ []
 wanted_by (check design) = record { file = design; most = DESIGN_BYTES } ∷ []
 wanted_by (sim verilog json budget) = record { file = verilog; most = VERILOG_BYTES } ∷ record { file = json; most = DATA_BYTES } ∷ []

@@ -1,7 +1,7 @@
 //! The commands that the words on the command line spell.
 
 ghost use Rattle.std.specs.Prelude.{ℕ, List, MatchOption};
-ghost use Rattle.cx_commands.specs.Commands.{Asks, AsksNoRun, AsksNothing, AsksRun, IsBudget, check, interp, sim};
+ghost use Rattle.cx_commands.specs.Commands.{Asks, AsksDesign, AsksNoDesign, AsksNoRun, AsksNothing, AsksRun, IsBudget, check, compile, interp, sim};
 ghost use Rattle.cx_commands.specs.Asked.{asked_of};
 
 use cx_outside::Word;
@@ -10,6 +10,10 @@ use cx_text::{BUDGET, decimal};
 /// What is asked for. File names are lent from the words.
 #[derive(Clone, Copy, Debug)]
 pub enum Command<'a> {
+    /// Writes the Verilog text of the design of a file.
+    Compile {
+        design: &'a [u8],
+    },
     /// Runs the design of a file on a data file with a budget in turns.
     Interp {
         design: &'a [u8],
@@ -33,18 +37,46 @@ pub enum Command<'a> {
 pub fn command_of(words: &[Word]) -> Option<Command<'_>>
     ensures { MatchOption result (AsksNothing words.now) (λ command. Asks words.now (asked_of command)) }
 {
-    match design_to_check(words) {
-        Some(design) => Some(Command::Check { design }),
+    match command_on_design(words) {
+        Some(command) => Some(command),
         None => run_of(words),
     }
 }
 
-/// The file of the words `check FILE`.
-fn design_to_check(words: &[Word]) -> Option<&[u8]>
-    ensures { MatchOption result ((design : List ℕ) → Asks words.now (check design) → ⊥) (λ design. Asks words.now (check design.now)) }
+/// The command of the words `compile FILE` or `check FILE`.
+fn command_on_design(words: &[Word]) -> Option<Command<'_>>
+    ensures { MatchOption result (AsksNoDesign words.now) (λ command. Asks words.now (asked_of command)) }
+{
+    match compiler_of(words) {
+        Some(command) => Some(command),
+        None => checker_of(words),
+    }
+}
+
+fn compiler_of(words: &[Word]) -> Option<Command<'_>>
+    ensures { MatchOption result ((design : List ℕ) → Asks words.now (compile design) → ⊥) (λ command. Asks words.now (asked_of command)) }
+{
+    match design_of(words, b"compile".as_slice()) {
+        Some(design) => Some(Command::Compile { design }),
+        None => None,
+    }
+}
+
+fn checker_of(words: &[Word]) -> Option<Command<'_>>
+    ensures { MatchOption result ((design : List ℕ) → Asks words.now (check design) → ⊥) (λ command. Asks words.now (asked_of command)) }
+{
+    match design_of(words, b"check".as_slice()) {
+        Some(design) => Some(Command::Check { design }),
+        None => None,
+    }
+}
+
+/// The file of the words `NAME FILE`.
+fn design_of<'a>(words: &'a [Word], name: &[u8]) -> Option<&'a [u8]>
+    ensures { MatchOption result ((design : List ℕ) → AsksDesign words.now name.now design → ⊥) (λ design. AsksDesign words.now name.now design.now) }
 {
     match words {
-        [name, file] if name.bytes() == b"check".as_slice() => Some(file.bytes()),
+        [word, file] if word.bytes() == name => Some(file.bytes()),
         _ => None,
     }
 }

@@ -2,7 +2,8 @@
 use Rattle.std.proofs.Common.{◌≡◌, ◌⊎◌, inl, inr, ℕ, List, Option, Some, None, Ok, Err, IsSomeAnd, codes, sym, ap, ◌∙◌, subst}
 use Rattle.cx_outside.specs.Counts.{HasRisen}
 use Rattle.cx_text.specs.declared.limits.TheConstants.{DESIGN_BYTES, DATA_BYTES, VERILOG_BYTES}
-use Rattle.cx_commands.specs.Commands.{Asked, interp, check, sim, wanted_by}
+use Rattle.cx_commands.specs.Commands.{Asked, compile, interp, check, sim, wanted_by}
+use Rattle.cx_driver.specs.Compiled.{Compiles}
 use Rattle.cx_driver.specs.Interpreted.{Interprets}
 use Rattle.cx_driver.specs.Outcomes.{Checks, Does, IsAnswer, CanAnswer}
 use Rattle.cx_commands.specs.Reads.{HoldsWithin, OfFile}
@@ -18,6 +19,7 @@ use Rattle.cx_commands.specs.declared.stops.Stop.TheVariants as stops
 use Rattle.cx_driver.proofs.Once.{not_both}
 use Rattle.cx_driver.proofs.TextLemmas.{accepted_once}
 use Rattle.cx_driver.proofs.InterpLemmas.{one_result}
+use Rattle.cx_driver.proofs.CompileLemmas.{compiles_once}
 use Rattle.cx_driver.proofs.SimLemmas.{no_stop}
 use Rattle.cx_driver.proofs.ReadLemmas.{Held, Readable, same_bytes, none_over, none_unread}
 
@@ -29,6 +31,7 @@ checks_once text answer stop (inr h) k = not_both answer (stops.Rule h.0) h.2
 module _ (holds : List ℕ → Option (List ℕ)) where
   -- the files of an answer are within their limits
   can_read : (command : Asked) (answer : List ℕ) → IsAnswer (Some holds) command answer → Readable holds (wanted_by command)
+  can_read (compile design) answer h = ((h.bytes, h.reads), tt)
   can_read (interp design json budget) answer h = ((h.bytes, h.reads), ((h.is.bytes, h.is.reads), tt))
   can_read (check design) answer h = ((h.bytes, h.reads), tt)
   can_read (sim verilog json budget) answer h = ((h.bytes, h.reads), ((h.is.bytes, h.is.reads), tt))
@@ -39,6 +42,7 @@ module _ (holds : List ℕ → Option (List ℕ)) where
 
   -- what a command does is one thing
   does_once : (command : Asked) (answer : List ℕ) (stop : Stop) → Does (Some holds) command (Ok answer) → Does (Some holds) command (Err stop) → ⊥
+  does_once (compile design) answer stop h k = of_one (λ text. Compiles text (Ok answer)) (λ text. Compiles text (Err stop)) DESIGN_BYTES design (λ text. compiles_once text answer stop) h k
   does_once (interp design json budget) answer stop h k =
       of_one (λ text. OfFile (Some holds) DATA_BYTES json (λ bytes. Interprets text bytes budget (Ok answer))) (λ text. OfFile (Some holds) DATA_BYTES json (λ bytes. Interprets text bytes budget (Err stop)))
       DESIGN_BYTES design

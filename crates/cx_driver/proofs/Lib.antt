@@ -6,6 +6,7 @@ pub mod InterpLemmas
 pub mod FaultLemmas
 pub mod RanLemmas
 pub mod SimLemmas
+pub mod CompileLemmas
 pub mod CauseLemmas
 pub mod CompleteLemmas
 pub mod BelowLemmas

@@ -2,8 +2,8 @@ pub mod Texts
 pub mod Loads
 pub mod Interpreted
 pub mod Simulated
+pub mod Compiled
 pub mod Laws
 pub mod Outcomes
 pub mod Causes
-pub mod Compiled
 pub mod Promise

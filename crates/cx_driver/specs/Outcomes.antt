@@ -2,9 +2,10 @@
 use Rattle.std.specs.Prelude.{◌≡◌, ◌⊎◌, ℕ, List, Option, Result, Ok, Err, codes}
 use Rattle.cx_text.specs.declared.diagnostics.Diagnostic.{Diagnostic}
 use Rattle.cx_text.specs.declared.limits.TheConstants.{DESIGN_BYTES, DATA_BYTES, VERILOG_BYTES}
-use Rattle.cx_commands.specs.Commands.{Asked, interp, check, sim, Asks}
+use Rattle.cx_commands.specs.Commands.{Asked, compile, interp, check, sim, Asks}
 use Rattle.cx_commands.specs.Reads.{OfFile}
 use Rattle.cx_driver.specs.Texts.{IsAcceptedText, TextBreak}
+use Rattle.cx_driver.specs.Compiled.{Compiles}
 use Rattle.cx_driver.specs.Interpreted.{Interprets}
 use Rattle.cx_driver.specs.Simulated.{Simulates}
 use Rattle.cx_commands.specs.declared.stops.Stop.{Stop}
@@ -18,6 +19,7 @@ Checks text result =
 
 -- WHAT A COMMAND DOES, by what its files hold where that is told; in any case each is within its limit
 abbrev pub Does : Option (List ℕ → Option (List ℕ)) → Asked → Result (List ℕ) Stop → Type 0
+Does held (compile design) result = OfFile held DESIGN_BYTES design (λ text. Compiles text result)
 Does held (interp design json budget) result =
     OfFile held DESIGN_BYTES design (λ text. OfFile held DATA_BYTES json (λ bytes. Interprets text bytes budget result))
 Does held (check design) result = OfFile held DESIGN_BYTES design (λ text. Checks text result)

@@ -2,14 +2,17 @@
 #![tactic(auto)]
 
 mod accepting;
+mod compiling;
 mod faults;
 mod interpreting;
 pub mod laws;
 mod memories;
 mod running;
 mod simulating;
+mod sizes;
 
 pub use accepting::check_text;
+pub use compiling::compile;
 pub use cx_commands::{Status, Stop};
 pub use interpreting::interp;
 pub use running::run;

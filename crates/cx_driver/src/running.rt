@@ -14,6 +14,7 @@ ghost use Rattle.cx_driver.specs.Causes.{HasCause, IsMemory, IsOfFile, ToldWhy};
 ghost use Rattle.cx_commands.specs.Statuses.{IsRefusing, ReceivesLine, fixed_line, status_of};
 
 use crate::accepting::check_text;
+use crate::compiling::compile;
 use crate::interpreting::interp;
 use crate::simulating::sim;
 use cx_commands::{Command, Refusal, Status, Stop, command_of, line};
@@ -146,6 +147,7 @@ fn answer<'a, F: Files>(
     ensures cause { IfErr result (HasCause (asked_of command.entry) (F.held files.old) (F.faults files.old) (F.faults files.new)) }
 {
     match command {
+        Command::Compile { design } => compiled(alloc, design, files),
         Command::Interp {
             design,
             json,
@@ -157,6 +159,22 @@ fn answer<'a, F: Files>(
             json,
             budget,
         } => simulated(alloc, verilog, json, budget, files),
+    }
+}
+
+/// The answer of the compiler on a file.
+fn compiled<'a, F: Files>(
+    alloc: Global,
+    design: &'a [u8],
+    files: &mut F,
+) -> Result<Vec<u8>, Refusal<'a>>
+    ensures answer { IfOk result (λ text. IsAnswer (F.held files.old) (asked.compile design.now) text.items) }
+    ensures cause { IfErr result (HasCause (asked.compile design.now) (F.held files.old) (F.faults files.old) (F.faults files.new)) }
+{
+    let text = read(alloc, files, design, DESIGN_BYTES)?;
+    match compile(alloc, &text) {
+        Ok(verilog) => Ok(verilog),
+        Err(why) => Err(Refusal::Stop(why)),
     }
 }
 

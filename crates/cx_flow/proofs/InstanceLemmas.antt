@@ -96,7 +96,7 @@ instance_within d path = reached_within d (reached d path (length d.components) 
 pub go_narrow : (i : Instance) (c p : ℕ) (child : Instance) → cell_at (cells_of i) c ≡ OfInstance child → part_port (part_of child) p ≡ Go → width_of i (ports.Cell c p) ≡ Some 1
 go_narrow i c p child at is_go = ap (λ x. cell_width x p) at ∙ ap (part_width (part_of child)) is_go
 
-number_in : {A : Type 0} (xs : List A) (x : A) → In xs x → (n : ℕ) × (slice_get xs n ≡ Some x)
+pub number_in : {A : Type 0} (xs : List A) (x : A) → In xs x → (n : ℕ) × (slice_get xs n ≡ Some x)
 number_in [] x i = absurd i
 number_in (y ∷ ys) x (inl e) = (0, ap Some e)
 number_in (y ∷ ys) x (inr i) = let r = number_in ys x i in (suc r.0, r.1)
@@ -114,7 +114,7 @@ owner_of part o i =
     (split (owned None part.always) (owned_by_groups 0 part.groups) o (sorted_among (owned None part.always ++ owned_by_groups 0 part.groups) o i))
 
 -- ASSIGNMENTS of an instance stand in its component, and each keeps the rule Keeps, where those of the components do
-there_below : (part : PlainComponent) (g : ℕ) → (g < length part.groups) ⊎ (group_at part g ≡ no_group)
+pub there_below : (part : PlainComponent) (g : ℕ) → (g < length part.groups) ⊎ (group_at part g ≡ no_group)
 there_below part g = ⊎_elim (λ h. inl h) (λ h. inr (get_or_past part.groups g no_group h)) (cases_lt g (length part.groups))
 
 abbrev AllKeep : (Owned → Type 0) → PlainComponent → Type 0

@@ -43,6 +43,32 @@ acting_stands act p (x ∷ rest) a i = by_target (λ j. later (acting_stands act
     by_target deeper true e i = by_offset deeper (same_is x.assign.target p e) (offset_of act x.owner) refl i
     by_target deeper false e i = deeper i
 
+-- what leads from a port is told by what its active assignments mention
+module _ (part : PlainComponent) (one other : Active) (c p : ℕ) (mentions : (q : PortRef) → Mentions (drivers part one (ports.Cell c p)) q → Mentions (drivers part other (ports.Cell c p)) q) where
+  side_by : (row : Row) (side : Side) (q : PortRef) → SideLeads part one row c p side q → SideLeads part other row c p side q
+  side_by row sides.Enable q l = mentions q l
+  side_by row sides.Plain q l = mentions q l
+  side_by row sides.Output q l = l
+  side_by row sides.Registered q l = l
+
+  part_by : (port : PartPort) (q : PortRef) → PartLeads part one c p port q → PartLeads part other c p port q
+  part_by Go q l = mentions q l
+  part_by (AnInput n) q l = mentions q l
+  part_by (AnOutput n) q l = l
+  part_by ItsDone q l = l
+
+  cell_by : (at : At) (q : PortRef) → CellLeads part one c p at q → CellLeads part other c p at q
+  cell_by Nothing q l = l
+  cell_by (OfRow row) q l = side_by row (side_of row p) q l
+  cell_by (OfInstance child) q l = part_by (part_port (part_of child) p) q l
+
+pub leads_by : (i : Instance) (one other : Active) (p : PortRef) → ((q : PortRef) → Mentions (drivers (part_of i) one p) q → Mentions (drivers (part_of i) other p) q) → (q : PortRef) → Leads i one p q → Leads i other p q
+leads_by i one other (ports.Cell c p) mentions q l = cell_by (part_of i) one other c p mentions (cell_at (cells_of i) c) q l
+leads_by i one other (ports.Input n) mentions q l = l
+leads_by i one other (ports.Output n) mentions q l = mentions q l
+leads_by i one other (ports.Done g) mentions q l = mentions q l
+leads_by i one other (ports.Literal w v) mentions q l = l
+
 -- A SMALLER SET leads nowhere else
 module _ (less more : Active) (has : HasLess less more) where
   active_too : (owner : Option ℕ) (o : ℕ) → offset_of less owner ≡ Some o → (u : ℕ) × (offset_of more owner ≡ Some u)
@@ -88,30 +114,8 @@ module _ (less more : Active) (has : HasLess less more) where
   mentions_more : (part : PlainComponent) (p q : PortRef) → Mentions (drivers part less p) q → Mentions (drivers part more p) q
   mentions_more part p q (a, i, n) = let it = acting_more p (source_order part) a i in (it.other, it.is_in, subst (λ x. AssignNames x q) (sym it.assign) n)
 
-  module _ (part : PlainComponent) where
-    side_more : (row : Row) (c p : ℕ) (side : Side) (q : PortRef) → SideLeads part less row c p side q → SideLeads part more row c p side q
-    side_more row c p sides.Enable q l = mentions_more part (ports.Cell c p) q l
-    side_more row c p sides.Plain q l = mentions_more part (ports.Cell c p) q l
-    side_more row c p sides.Output q l = l
-    side_more row c p sides.Registered q l = l
-
-    part_more : (c p : ℕ) (port : PartPort) (q : PortRef) → PartLeads part less c p port q → PartLeads part more c p port q
-    part_more c p Go q l = mentions_more part (ports.Cell c p) q l
-    part_more c p (AnInput n) q l = mentions_more part (ports.Cell c p) q l
-    part_more c p (AnOutput n) q l = l
-    part_more c p ItsDone q l = l
-
-    cell_more : (c p : ℕ) (at : At) (q : PortRef) → CellLeads part less c p at q → CellLeads part more c p at q
-    cell_more c p Nothing q l = l
-    cell_more c p (OfRow row) q l = side_more row c p (side_of row p) q l
-    cell_more c p (OfInstance child) q l = part_more c p (part_port (part_of child) p) q l
-
   leads_more : (i : Instance) (p q : PortRef) → Leads i less p q → Leads i more p q
-  leads_more i (ports.Cell c p) q l = cell_more (part_of i) c p (cell_at (cells_of i) c) q l
-  leads_more i (ports.Input n) q l = l
-  leads_more i (ports.Output n) q l = mentions_more (part_of i) (ports.Output n) q l
-  leads_more i (ports.Done g) q l = mentions_more (part_of i) (ports.Done g) q l
-  leads_more i (ports.Literal w v) q l = l
+  leads_more i p q l = leads_by i less more p (λ r m. mentions_more (part_of i) p r m) q l
 
   depends_more : (i : Instance) {p q : PortRef} → Depends i less p q → Depends i more p q
   depends_more i {p} {q} (at_once l) = at_once (leads_more i p q l)
@@ -124,7 +128,7 @@ module _ (less more : Active) (has : HasLess less more) where
 module _ (i : Instance) (s : PlainStatement) (act go : Active) (apart : IsApart (part_of i) s act go) (keeps : (o : Owned) → In (source_order (part_of i)) o → KeepsPorts o)
     (no_output : (o : Owned) → In (source_order (part_of i)) o → (n : ℕ) → AssignNames o.assign (ports.Output n) → ⊥) where
   -- where what is followed may stand
-  abbrev Inside : PortRef → Type 0
+  abbrev pub Inside : PortRef → Type 0
   Inside (ports.Cell c p) = Reads (part_of i) s c
   Inside (ports.Input n) = Unit {0}
   Inside (ports.Output n) = ⊥
@@ -189,7 +193,7 @@ module _ (i : Instance) (s : PlainStatement) (act go : Active) (apart : IsApart 
   cell_inside c p read (OfRow row) q l = side_inside row c p read (side_of row p) q l
   cell_inside c p read (OfInstance child) q l = part_inside c p read (part_port (part_of child) p) q l
 
-  leads_inside : (p q : PortRef) → Inside p → Leads i act p q → Inside q
+  pub leads_inside : (p q : PortRef) → Inside p → Leads i act p q → Inside q
   leads_inside (ports.Cell c p) q read l = cell_inside c p read (cell_at (cells_of i) c) q l
   leads_inside (ports.Input n) q read l = absurd l
   leads_inside (ports.Output n) q read l = absurd read

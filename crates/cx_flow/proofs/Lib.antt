@@ -4,4 +4,6 @@ pub mod TargetFlows
 pub mod PortFlows
 pub mod CellLemmas
 pub mod LeadsLemmas
+pub mod UnionLemmas
+pub mod TogetherLemmas
 mod SeenLaw

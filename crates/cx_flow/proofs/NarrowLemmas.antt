@@ -71,7 +71,7 @@ there_below (x ∷ list) (suc p) port e = let h : p < length list = there_below 
 pub cells_below : (i : Instance) → AreAcyclic i → AcyclicBelow (cells_of i)
 cells_below (Node part cells) acyclic = acyclic.1
 
-itself_acyclic : (i : Instance) → AreAcyclic i → IsAcyclic i nothing
+pub itself_acyclic : (i : Instance) → AreAcyclic i → IsAcyclic i nothing
 itself_acyclic (Node part cells) acyclic = acyclic.0
 
 -- no continuous assignment drives an enabling port, and values have the widths of their ports

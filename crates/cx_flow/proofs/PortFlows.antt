@@ -44,7 +44,7 @@ of_option_is : (o : Option BitVector) (b : BitVector) → of_option o ≡ Value 
 of_option_is None b e = absurd (undefined_value b e)
 of_option_is (Some c) b e = ap Some (value_is c b e)
 
-acting_alike : (act other : Active) (p : PortRef) (list : List Owned) → ((o : Owned) → In list o → o.assign.target ≡ p → offset_of act o.owner ≡ offset_of other o.owner) → acting act p list ≡ acting other p list
+pub acting_alike : (act other : Active) (p : PortRef) (list : List Owned) → ((o : Owned) → In list o → o.assign.target ≡ p → offset_of act o.owner ≡ offset_of other o.owner) → acting act p list ≡ acting other p list
 acting_alike act other p [] h = refl
 acting_alike act other p (o ∷ rest) h = go (same_port o.assign.target p) refl (acting_alike act other p rest (λ x i e. h x (inr i) e))
   where

@@ -17,6 +17,7 @@ ghost use Rattle.cx_rules.specs.Circles.{IsAcyclic};
 ghost use Rattle.cx_rules.specs.Wellformed.{IsDesign};
 ghost use Rattle.cx_frames.specs.Rests.{IsUndriven};
 ghost use Rattle.cx_flow.specs.Apart.{HasLess, IsApart, IsOf};
+ghost use Rattle.cx_flow.specs.Together.{IsTogether};
 ghost use Rattle.cx_flow.specs.Flows.{Around, Reaches, Solves, Undisturbed, Values, given};
 
 use cx_frames::apart_laws::accepted_always_enables_nothing;
@@ -81,4 +82,12 @@ pub fn apart_is_undisturbed()
 /// Where nothing leads in a circle under an active set, nothing does under one with less in it.
 pub fn less_is_acyclic()
     ensures { (i : Instance) (act less : Active) → IsAcyclic i act → HasLess less act → IsAcyclic i less }
+{}
+
+/// In an accepted design nothing leads in a circle under what the control of an instance may have active at once: of a `par` and
+/// of a static `par` one set of each arm, each timer with a count of its own, whatever cells hold.
+pub fn together_is_acyclic()
+    ensures { (d : PlainDesign) (path : Path) (act : Active)
+        → IsDesign d → IsAccepted d → IsTogether (part_of (instance_at (tree_of d) path)).control act
+        → IsAcyclic (instance_at (tree_of d) path) act }
 {}

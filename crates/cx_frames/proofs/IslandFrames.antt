@@ -160,7 +160,8 @@ module _ (i : Instance) (held : Held) (set : ℕ → Type 0) (kept : IsKept i) (
         cycle_alike i held (entries (active_in h t list)) set (map (λ e. e.group) (active_in h t list)) kept through (entries_among (active_in h t list))
         (λ g j. (active_good (IsGood i held set kept through deeper) (InFrame set) h t list fine g j).within) s s2 agree (acyclic h t) deeper
 
-    same_turn : (t : ℕ) (h : History) (s s2 : State) → Agree set s s2 → AlikeTurn set (island_turn i held list t h s) (island_turn i held list t h s2)
+    -- a cycle of an island
+    pub same_turn : (t : ℕ) (h : History) (s s2 : State) → Agree set s s2 → AlikeTurn set (island_turn i held list t h s) (island_turn i held list t h s2)
     same_turn t h s s2 agree =
         unclear_alike (first_unclear (seen i held nothing s) (looked_at h t list)) (first_unclear (seen i held nothing s2) (looked_at h t list)) _ _
         (unclear_same (seen i held nothing s) (seen i held nothing s2) (looked_at h t list) (λ q j. bare_seen i held set kept through deeper bare s s2 agree q (looked_good (IsGood i held set kept through deeper) (InFrame set) h t list fine q j)))

@@ -36,7 +36,8 @@ some_inj a b e = cc
 pub nothing_among : IsAmong nothing []
 nothing_among g k e = none_some k e
 
-only_among : (g h k : ℕ) → only_at g h ≡ Some k → In (g ∷ []) h
+-- where one group is active no other is
+pub only_among : (g h k : ℕ) → only_at g h ≡ Some k → In (g ∷ []) h
 only_among g h k e = go (nat_eq g h) refl e
   where
     go : (b : Bool) → nat_eq g h ≡ b → ◌≡◌ {A = Option ℕ} (if b then Some 0 else None) (Some k) → In (g ∷ []) h
@@ -44,7 +45,7 @@ only_among g h k e = go (nat_eq g h) refl e
     go false differ e = absurd (none_some k e)
 
 -- a cell of which a group drives a port is called by it
-called_drives : (cells : Cells) (list : List PlainAssign) (c : ℕ) → called_in cells list ≡ Some c → assigns_drive list c ≡ true
+pub called_drives : (cells : Cells) (list : List PlainAssign) (c : ℕ) → called_in cells list ≡ Some c → assigns_drive list c ≡ true
 called_drives cells [] c e = absurd (none_some c e)
 called_drives cells (a ∷ rest) c e = of_target a.target e (called_drives cells rest c)
   where
@@ -82,12 +83,12 @@ module _ (i : Instance) (held : Held) (set : ℕ → Type 0) (kept : IsKept i) (
     pub within : IsWithin (part_of i) set g
     pub acyclic : IsAcyclic i (group g)
 
-  alone : (g : ℕ) → IsGood g → (h : ℕ) → In (g ∷ []) h → IsWithin (part_of i) set h
+  pub alone : (g : ℕ) → IsGood g → (h : ℕ) → In (g ∷ []) h → IsWithin (part_of i) set h
   alone g good h (inl e) = subst (IsWithin (part_of i) set) e good.within
   alone g good h (inr none) = absurd none
 
   -- sights and cycles with a group, and with nothing
-  group_seen : (g : ℕ) → IsGood g → (s t : State) → Agree set s t → (p : PortRef) → InFrame set p → seen i held (group g) s p ≡ seen i held (group g) t p
+  pub group_seen : (g : ℕ) → IsGood g → (s t : State) → Agree set s t → (p : PortRef) → InFrame set p → seen i held (group g) s p ≡ seen i held (group g) t p
   group_seen g good s t agree p inside = seen_alike i held (group g) set (g ∷ []) kept through (only_among g) (alone g good) s t agree good.acyclic deeper p inside
 
   pub bare_seen : IsAcyclic i nothing → (s t : State) → Agree set s t → (p : PortRef) → InFrame set p → seen i held nothing s p ≡ seen i held nothing t p
@@ -102,7 +103,8 @@ module _ (i : Instance) (held : Held) (set : ℕ → Type 0) (kept : IsKept i) (
       one Clash = refl
       one Unknown = refl
 
-  group_alike : (g : ℕ) → IsGood g → (s t : State) → Agree set s t → AlikeTurn set (group_turn i held g s) (group_turn i held g t)
+  -- a turn of a group
+  pub group_alike : (g : ℕ) → IsGood g → (s t : State) → Agree set s t → AlikeTurn set (group_turn i held g s) (group_turn i held g t)
   group_alike g good s t agree =
       hole_alike g (truth_of (seen i held (group g) s (ports.Done g))) (truth_of (seen i held (group g) t (ports.Done g))) (cycle i held (group g) s) (cycle i held (group g) t)
       (ap truth_of (group_seen g good s t agree (ports.Done g) tt))
@@ -112,12 +114,16 @@ module _ (i : Instance) (held : Held) (set : ℕ → Type 0) (kept : IsKept i) (
   test_alike bare port inside None good s t agree = ap (λ x. test_of port (truth_of x)) (bare_seen bare s t agree port inside)
   test_alike bare port inside (Some g) good s t agree = ap (λ x. test_of port (truth_of x)) (group_seen g (good g refl) s t agree port inside)
 
+  -- a capture cycle
+  pub capture_alike : (g c : ℕ) → IsGood g → (s t : State) → Agree set s t → AlikeTurn set (turn_of (cycle i held (capture g c) s)) (turn_of (cycle i held (capture g c) t))
+  capture_alike g c good s t agree = cycle_alike i held (capture g c) set (g ∷ []) kept through (only_among g) (alone g good) s t agree (capture_acyclic i g c good.acyclic) deeper
+
   -- calls
   module _ (children : Children) (g : ℕ) (good : IsGood g) where
     after_frames : (c : ℕ) (capturing : Bool) → Frames set (after_child i held g c capturing)
     after_frames c true s t n h =
         one_frames set (idle i) (idle_agree set i) (λ s1. turn_of (cycle i held (capture g c) s1))
-        (λ s1 t1 k. cycle_alike i held (capture g c) set (g ∷ []) kept through (only_among g) (alone g good) s1 t1 k (capture_acyclic i g c good.acyclic) deeper)
+        (λ s1 t1 k. capture_alike g c good s1 t1 k)
         (idle_turn (idle i)) (idle_frames set (idle i) (idle_agree set i)) s t n h
     after_frames c false s t n h = idle_frames set (idle i) (idle_agree set i) s t n h
 

@@ -2,19 +2,19 @@ mod QuietLemmas
 mod EnableLemmas
 mod CycleLemmas
 mod KeepLemmas
-mod RunLemmas
-mod AlikeLemmas
-mod ControlFrames
+pub mod RunLemmas
+pub mod AlikeLemmas
+pub mod ControlFrames
 mod StillLemmas
 mod ArmQuietLemmas
-mod RuleLemmas
-mod SightFrames
-mod CircleFrames
-mod LeafFrames
-mod IslandFrames
-mod StatementFrames
+pub mod RuleLemmas
+pub mod SightFrames
+pub mod CircleFrames
+pub mod LeafFrames
+pub mod IslandFrames
+pub mod StatementFrames
 mod BothLemmas
-mod ShareLemmas
+pub mod ShareLemmas
 mod ArmLemmas
 mod NextLemmas
 pub mod KnownOutcomes

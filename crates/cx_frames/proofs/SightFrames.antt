@@ -193,7 +193,8 @@ module _ (i : Instance) (held : Held) (act : Active) (set : ℕ → Type 0) (gs 
   cell_closed c p q (OfRow row) inside l = side_closed c p q row (side_of row p) inside l
   cell_closed c p q (OfInstance child) inside l = part_closed c p q (part_port (part_of child) p) inside l
 
-  closed : (p q : PortRef) → InFrame set p → Leads i act p q → InFrame set q
+  -- what leads from a port in the frame is in it
+  pub closed : (p q : PortRef) → InFrame set p → Leads i act p q → InFrame set q
   closed (ports.Cell c p) q inside l = cell_closed c p q (cell_at (cells_of i) c) inside l
   closed (ports.Input n) q inside l = absurd l
   closed (ports.Output n) q inside l = absurd inside

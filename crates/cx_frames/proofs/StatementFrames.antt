@@ -118,13 +118,14 @@ group_in part (x ∷ xs) g c (inr i) e = or_right (group_drives part x c) (group
 module _ (i : Instance) (held : Held) (kept : IsKept i) (circles : AreAcyclic i) (groups : (g : ℕ) → g < length (part_of i).groups → IsAcyclic i (group g))
     (islands : (v : Visited) (h : History) (t : ℕ) → In (statements_in (part_of i)) v → IsAcyclic i (entries (active_in h t (form_flat (part_of i) v.form 0 []))))
     (v : Visited) (stands : In (statements_in (part_of i)) v) (set : ℕ → Type 0) (closed : IsClosed (part_of i) (Placed v.form v.place) set) where
-  through : IsThrough (part_of i) set
+  pub through : IsThrough (part_of i) set
   through c p e q a inside j t n = closed.through c p e q a inside j t n
 
-  abbrev Good : ℕ → Type 0
+  abbrev pub Good : ℕ → Type 0
   Good = IsGood i held set kept through (deeper_acyclic i circles)
 
-  good : (g : ℕ) → In (groups_of (Placed v.form v.place)) g → Good g
+  -- its groups drive and name nothing outside the set
+  pub good : (g : ℕ) → In (groups_of (Placed v.form v.place)) g → Good g
   good g j = record {
     within = record {
       drives = λ c e. closed.driven c (group_in (part_of i) (groups_of (Placed v.form v.place)) g c j e);
@@ -134,11 +135,11 @@ module _ (i : Instance) (held : Held) (kept : IsKept i) (circles : AreAcyclic i)
   }
 
   -- a form whose island has no circle, and whose test is in the frame
-  record IsReady (form : PlainForm) : Type 0 where
-    acyclic : (h : History) (t : ℕ) → IsAcyclic i (entries (active_in h t (form_flat (part_of i) form 0 [])))
-    tests : (p : PlacedPort) → test_in form ≡ Some p → InFrame set p.port
+  pub record IsReady (form : PlainForm) : Type 0 where
+    pub acyclic : (h : History) (t : ℕ) → IsAcyclic i (entries (active_in h t (form_flat (part_of i) form 0 [])))
+    pub tests : (p : PlacedPort) → test_in form ≡ Some p → InFrame set p.port
 
-  ready : (w : Visited) → In (visits v) w → IsReady w.form
+  pub ready : (w : Visited) → In (visits v) w → IsReady w.form
   ready w k =
       let j : In (statements_in (part_of i)) w = visited Dynamic (part_of i).control v w stands k in
       record {

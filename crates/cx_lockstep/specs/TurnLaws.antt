@@ -7,22 +7,22 @@ use Rattle.cx_lockstep.specs.Doing.{After, EndsAs, GoesOn, Meets, Does}
 use Rattle.cx_lockstep.specs.FollowLaws.{ends_respects, goes_respects, one_cycle, meets_done}
 
 module _ {X : Type 0} {V : X → Type 0} {E S : Type 0} (W : World X V E S) (Rests : (x : X) → V x → Type 0) where
-  -- a cycle that comes to the state `after`, and then the rest
-  pub meets_cycle : {F : Type 0} (M : Machine X V) (R : X → Type 0) (e : E) (D : X → Bool) (c : M.Place) (next : Control M.Place) (s after : S) (n : ℕ)
-      → ((w : Store X V) → Agree R w (W.shown e s) → M.faults c w ≡ false) → ((w : Store X V) → Agree R w (W.shown e s) → M.step c w ≡ next)
-      → ((w : Store X V) → Agree R w (W.shown e s) → Agree R (edge W.idle M (At c) w) (W.shown e after)) → ((x : X) → R x → D x ≡ false → W.shown e after x ≡ W.shown e s x)
-      → (o : Answer S F) → Meets W Rests M R e D next (W.shown e after) n o → Meets W Rests M R e D (At c) (W.shown e s) (suc n) (after_turns 1 o)
+  -- a cycle from any store that comes to the state `after`, and then the rest
+  pub meets_cycle : {F : Type 0} (M : Machine X V) (R : X → Type 0) (e : E) (D : X → Bool) (c : M.Place) (next : Control M.Place) (s : Store X V) (after : S) (n : ℕ)
+      → ((w : Store X V) → Agree R w s → M.faults c w ≡ false) → ((w : Store X V) → Agree R w s → M.step c w ≡ next)
+      → ((w : Store X V) → Agree R w s → Agree R (edge W.idle M (At c) w) (W.shown e after)) → ((x : X) → R x → D x ≡ false → W.shown e after x ≡ s x)
+      → (o : Answer S F) → Meets W Rests M R e D next (W.shown e after) n o → Meets W Rests M R e D (At c) s (suc n) (after_turns 1 o)
   meets_cycle M R e D c next s after n clean steps same kept (End last t) met = record {
     in_budget = (let less : t ≤ n = met.in_budget in omega arith);
     keeps = λ x i free. met.keeps x i free ∙ kept x i free;
     settled = met.settled;
     ends = (let turns : suc t ≡ 1 + t = omega arith in
-        subst (λ k. After W Rests M R k (EndsAs W Rests M R (W.shown e last)) (At c) (W.shown e s)) turns
-        (one_cycle W Rests M R (EndsAs W Rests M R (W.shown e last)) (ends_respects W Rests M R (W.shown e last)) c next (W.shown e s) (W.shown e after) t clean steps same met.ends));
+        subst (λ k. After W Rests M R k (EndsAs W Rests M R (W.shown e last)) (At c) s) turns
+        (one_cycle W Rests M R (EndsAs W Rests M R (W.shown e last)) (ends_respects W Rests M R (W.shown e last)) c next s (W.shown e after) t clean steps same met.ends));
   }
   meets_cycle M R e D c next s after n clean steps same kept (answers.Fault f t) met = tt
   meets_cycle M R e D c next s after n clean steps same kept More met =
-      one_cycle W Rests M R (GoesOn W Rests M R) (goes_respects W Rests M R) c next (W.shown e s) (W.shown e after) n clean steps same met
+      one_cycle W Rests M R (GoesOn W Rests M R) (goes_respects W Rests M R) c next s (W.shown e after) n clean steps same met
 
   module _ (M : Machine X V) (c : M.Place) (drives : X → Bool) (rest : E → S → S) where
     -- a cycle with store w is the last turn, from state s
@@ -79,7 +79,7 @@ module _ {X : Type 0} {V : X → Type 0} {E S : Type 0} (W : World X V E S) (Res
                   → Meets W Rests M R e D (At c) (W.shown e s) (suc n) (turn_then (rest e) s t (λ after. turns_of (rest e) (turn e) after n))
               by_turn Ends is_last later =
                   let here = last (W.shown e s) (λ x i. refl) in
-                  meets_cycle {F = F} M R e D c Done s (rest e s) n (λ w agree. (last w agree).clean) (λ w agree. (last w agree).is_over) (λ w agree. last_edge R e s calm here w agree (last w agree))
+                  meets_cycle {F = F} M R e D c Done (W.shown e s) (rest e s) n (λ w agree. (last w agree).clean) (λ w agree. (last w agree).is_over) (λ w agree. last_edge R e s calm here w agree (last w agree))
                   (λ x i free. rested e s x (calm x i (less x free))) (End (rest e s) 0)
                   (meets_done W Rests M R e D (rest e s) n (λ x i. either_way R e (drives x) (λ d. here.settles x d) (λ d. subst (Rests x) (sym (rested e s x (calm x i d))) (calm x i d))))
                 where
@@ -87,7 +87,7 @@ module _ {X : Type 0} {V : X → Type 0} {E S : Type 0} (W : World X V E S) (Res
                   last w agree = subst (Takes e s w) is_last (near w agree)
               by_turn (Goes after) goes later =
                   let here = taken (W.shown e s) (λ x i. refl) in
-                  meets_cycle M R e D c (At c) s after n (λ w agree. (taken w agree).clean) (λ w agree. (taken w agree).stays) (λ w agree. turn_edge R e s after calm w agree (taken w agree))
+                  meets_cycle M R e D c (At c) (W.shown e s) after n (λ w agree. (taken w agree).clean) (λ w agree. (taken w agree).stays) (λ w agree. turn_edge R e s after calm w agree (taken w agree))
                   (λ x i free. here.keeps x (less x free) (calm x i (less x free))) (turns_of (rest e) (turn e) after n)
                   (later after (λ x i d. subst (Rests x) (sym (here.keeps x d (calm x i d))) (calm x i d)))
                 where

@@ -61,7 +61,7 @@ const UNNAMED: &str =
     "module main(\n  input wire [0:0] clk,\n  input wire [0:0] reset,\n  input wire [0:0] go,\n  output wire [0:0] done\n);\n  assign done = other;\nendmodule\n";
 
 /// The words of a line, the write to standard output and that to standard error which fail, counted from 1, and what is told.
-const LINES: [(&str, (u64, u64), (Status, &str, &str)); 51] = [
+const LINES: [(&str, (u64, u64), (Status, &str, &str)); 58] = [
     (
         "interp add five 1000",
         (0, 0),
@@ -226,6 +226,30 @@ const LINES: [(&str, (u64, u64), (Status, &str, &str)); 51] = [
         (1, 0),
         (Status::WriteFault, "", "write-fault\n"),
     ),
+    (
+        "compile wide",
+        (0, 0),
+        (Status::Refused, "", "refused 1:70 width r.in\n"),
+    ),
+    (
+        "compile end",
+        (0, 0),
+        (Status::Refused, "", "refused 1:1 unexpected\n"),
+    ),
+    (
+        "compile absent",
+        (0, 0),
+        (Status::ReadFault, "", "read-fault absent\n"),
+    ),
+    // The text begins with the line of its external memory, and the sink takes eight bytes at a time.
+    (
+        "compile add",
+        (2, 0),
+        (Status::WriteFault, "// exter", "write-fault\n"),
+    ),
+    ("compile add", (1, 1), (Status::WriteFault, "", "")),
+    ("compile", (0, 0), (Status::Words, "", "words\n")),
+    ("compile add five", (0, 0), (Status::Words, "", "words\n")),
     ("check", (0, 0), (Status::Words, "", "words\n")),
     ("check add five", (0, 0), (Status::Words, "", "words\n")),
     ("interp add five", (0, 0), (Status::Words, "", "words\n")),
@@ -286,11 +310,13 @@ const LINES: [(&str, (u64, u64), (Status, &str, &str)); 51] = [
 ];
 
 /// The words of a line over files that are full or one byte longer, and what is told: the first file that is too long or absent decides.
-const LENGTHS: [(&str, &str); 12] = [
+const LENGTHS: [(&str, &str); 14] = [
     ("check full", "refused 1:1 unexpected\n"),
     ("interp full five 9", "refused 1:1 unexpected\n"),
     ("interp other data 9", "data not-json\n"),
     ("check long", "too-long long 1048577\n"),
+    ("compile full", "refused 1:1 unexpected\n"),
+    ("compile long", "too-long long 1048577\n"),
     ("interp long five 9", "too-long long 1048577\n"),
     ("interp long absent 9", "too-long long 1048577\n"),
     ("interp long wide 9", "too-long long 1048577\n"),

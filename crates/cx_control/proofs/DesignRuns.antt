@@ -1,0 +1,76 @@
+-- THE MACHINE OF AN ACCEPTED DESIGN runs as its main, and the invariant of every instance's control is kept.
+use Rattle.std.proofs.Common.{◌≡◌, ℕ, zero, suc, ◌<◌, List, [], ◌∷◌, ◌++◌, refl, ◌∙◌, sym, subst}
+use Rattle.cx_meaning.specs.Designs.{PlainDesign, PlainForm, Placed, no_component}
+use Rattle.cx_meaning.specs.Instances.{Instance, Node, Cells, no_cells, a_primitive, an_instance, part_of, tree_of, Path, instance_at, child_at, idle_at, start, IsSettled}
+use Rattle.cx_meaning.specs.Sights.{In}
+use Rattle.cx_meaning.specs.Islands.{History, active_in, looked_at, form_flat, form_length}
+use Rattle.cx_rules.specs.Items.{Visited, statements_in}
+use Rattle.cx_laws.specs.Positions.{HasNoEmptyIf, active_at, begun_at}
+use Rattle.cx_laws.specs.Samples.{Samples, AreKept, active_by, begun_by}
+use Rattle.cx_control.specs.DesignRuns.{MachineRuns}
+use Rattle.cx_control.specs.Leaves.{Coded}
+use Rattle.cx_control.specs.Controls.{coded_control}
+use Rattle.cx_control.specs.Numbers.{number_idle_at}
+use Rattle.cx_control.specs.Standing.{good_control}
+use Rattle.cx_control.specs.Keeping.{Keeps}
+use Rattle.cx_control.specs.ControlRules.{ControlRules}
+use Rattle.cx_control.specs.IslandRules.{IslandRules}
+use Rattle.cx_control.specs.IslandLaws.{island_leaf}
+use Rattle.cx_control.specs.StatementCodingLaws.{IsRegion}
+use Rattle.cx_control.specs.ControlLaws.{IslandsDo, control_coded, control_does}
+use Rattle.cx_control.specs.KeepLaws.{control_keeps}
+use Rattle.cx_control.specs.DesignLaws as design_laws
+use Rattle.cx_control.specs.StandLaws.{as_visited}
+
+-- the samples and timers of every instance
+pub islands_keep : (i : Instance)
+    → ((form : PlainForm) (h : History) (t : ℕ) (kept : Samples) → AreKept (part_of i) h t form kept → active_by (part_of i) kept t form ≡ active_at (part_of i) h t form)
+    → ((form : PlainForm) (h : History) (t : ℕ) (kept : Samples) → AreKept (part_of i) h t form kept → begun_by (part_of i) kept t form ≡ begun_at (part_of i) h t form)
+    → ((form : PlainForm) (h : History) (t : ℕ) → t < form_length (part_of i) form → active_in h t (form_flat (part_of i) form 0 []) ≡ active_at (part_of i) h t form)
+    → ((form : PlainForm) (h : History) (t : ℕ) → HasNoEmptyIf (part_of i) form → t < form_length (part_of i) form → looked_at h t (form_flat (part_of i) form 0 []) ≡ begun_at (part_of i) h t form)
+    → ((v : Visited) → In (statements_in (part_of i)) v → HasNoEmptyIf (part_of i) v.form) → IslandRules i
+islands_keep i by_active by_begun timed_active timed_begun no_empty = record {
+  active = λ form h t kept are inside. by_active form h t kept are ∙ sym (timed_active form h t inside);
+  begun = λ form place stands h t kept are inside. by_begun form h t kept are ∙ sym (timed_begun form h t (no_empty (as_visited (Placed form place)) stands) inside);
+}
+
+-- in an instance whose islands keep theirs
+pub islands_do : (i : Instance) → ControlRules i → IslandRules i → IslandsDo i
+islands_do i control island form place stands is_one = island_leaf i control.rules island form place stands
+
+-- what stands at a path of a path
+no_part_at : (path : Path) → instance_at (Node no_component no_cells) path ≡ Node no_component no_cells
+no_part_at [] = refl
+no_part_at (c ∷ path) = refl
+
+mutual
+  joined : (i : Instance) (path more : Path) → instance_at (instance_at i path) more ≡ instance_at i (path ++ more)
+  joined (Node part cells) [] more = refl
+  joined (Node part cells) (c ∷ path) more = joined_below cells c path more
+
+  joined_below : (cells : Cells) (c : ℕ) (path more : Path) → instance_at (child_at cells c path) more ≡ child_at cells c (path ++ more)
+  joined_below no_cells c path more = no_part_at more
+  joined_below (a_primitive row rest) zero path more = no_part_at more
+  joined_below (a_primitive row rest) (suc c) path more = joined_below rest c path more
+  joined_below (an_instance child rest) zero path more = joined child path more
+  joined_below (an_instance child rest) (suc c) path more = joined_below rest c path more
+
+-- THE CONTROL of every instance, where all keep their rules
+module _ (d : PlainDesign) (rules : (path : Path) → ControlRules (instance_at (tree_of d) path)) (islands : (path : Path) → IslandRules (instance_at (tree_of d) path)) where
+  rules_below : (path more : Path) → ControlRules (instance_at (instance_at (tree_of d) path) more)
+  rules_below path more = subst ControlRules (sym (joined (tree_of d) path more)) (rules (path ++ more))
+
+  islands_below : (path more : Path) → IslandRules (instance_at (instance_at (tree_of d) path) more)
+  islands_below path more = subst IslandRules (sym (joined (tree_of d) path more)) (islands (path ++ more))
+
+  pub codes_at : (path : Path) → IsRegion (Coded.machine (coded_control (instance_at (tree_of d) path))) (Coded.coding (coded_control (instance_at (tree_of d) path)))
+  codes_at path = control_coded (instance_at (tree_of d) path) (rules path)
+
+  pub keeps_at : (path : Path) → Keeps (coded_control (instance_at (tree_of d) path)) (good_control (instance_at (tree_of d) path))
+      (λ below cell. idle_at (instance_at (tree_of d) path) below cell) (λ below n v. number_idle_at (instance_at (tree_of d) path) below n v)
+  keeps_at path =
+      control_keeps (instance_at (tree_of d) path) (rules_below path)
+      (λ more. islands_do (instance_at (instance_at (tree_of d) path) more) (rules_below path more) (islands_below path more))
+
+  pub design_runs : ((words : List (List ℕ)) → IsSettled (tree_of d) (start (tree_of d) words)) → MachineRuns d
+  design_runs settled = design_laws.machine_runs d (control_does (tree_of d) rules (λ path. islands_do (instance_at (tree_of d) path) (rules path) (islands path))) settled

@@ -1,0 +1,10 @@
+pub mod BesideLemmas
+pub mod ConjunctLemmas
+pub mod TargetLemmas
+pub mod ShapeLemmas
+pub mod HeldLemmas
+pub mod RegisterLemmas
+pub mod HoleLemmas
+pub mod StaticLemmas
+pub mod DesignRules
+pub mod DesignRuns

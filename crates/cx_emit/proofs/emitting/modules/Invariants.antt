@@ -1,0 +1,12 @@
+use Rattle.std.proofs.Common.{◌≡◌, ◌++◌, drop, map}
+use Rattle.cx_net.specs.PlainNets.{plain_net, plain_net_component}
+use Rattle.cx_vtree.specs.PlainParts.{plain_modules}
+use Rattle.cx_emit.specs.Numbered.{lists_from}
+use Rattle.cx_emit.specs.Sources.{component_modules}
+use Rattle.cx_emit.proofs.emitting.modules.Given as goal
+
+-- those so far, and those of the components that are left, are all
+abbrev pub invariant-loop-number : goal.invariant-loop-number
+invariant-loop-number l =
+    plain_modules l.modules.items ++ lists_from (component_modules (plain_net l.net)) l.number (map plain_net_component (drop l.number l.part-items))
+    ≡ lists_from (component_modules (plain_net l.net)) 0 (map plain_net_component l.part-items)

@@ -1,0 +1,11 @@
+use Rattle.std.proofs.Common.{◌≡◌, ◌++◌, drop, map}
+use Rattle.cx_vtree.specs.PlainParts.{plain_assign}
+use Rattle.cx_emit.specs.Sources.{register_reset}
+use Rattle.cx_emit.specs.Numbered.{numbered_from}
+use Rattle.cx_emit.proofs.kept.reset.Given as goal
+
+-- those so far, and those that are left, are all
+abbrev pub invariant-loop-number : goal.invariant-loop-number
+invariant-loop-number l =
+    map plain_assign l.sets.items ++ numbered_from register_reset l.number (drop l.number l.widths)
+    ≡ numbered_from register_reset 0 l.widths

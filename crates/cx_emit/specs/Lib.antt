@@ -1,0 +1,13 @@
+pub mod Names
+pub mod Exprs
+pub mod Numbered
+pub mod Signatures
+pub mod Chains
+pub mod Sources
+pub mod Places
+pub mod Fits
+pub mod States
+pub mod RunsAs
+pub mod Driven
+pub mod PlainForms
+pub mod Numbers

@@ -1,0 +1,59 @@
+-- The ports of modules.
+use Rattle.std.specs.Prelude.{ℕ, true, false, List, [], ◌∷◌, ◌++◌, Option, Some, None, drop, slice_get, codes}
+use Rattle.cx_meaning.specs.declared.kinds.PortDecl.{PortDecl}
+use Rattle.cx_meaning.specs.Designs.{PlainKind, OfPrimitive, OfComponent, PlainCell}
+use Rattle.cx_vtree.specs.Plain.{PlainPort, PlainModule}
+use Rattle.cx_vmods.specs.Modules.{module_of}
+use Rattle.cx_net.specs.Nets.{PlainNetComponent, PlainNet}
+use Rattle.cx_emit.specs.Names.{input_name, output_name, module_name, cell_module_name}
+use Rattle.cx_emit.specs.Numbered.{with_numbers}
+
+abbrev pub one_bit : List ℕ → PlainPort
+one_bit name = record { output = false; name = name; width = 1 }
+
+abbrev pub input_port : ℕ → PortDecl → PlainPort
+input_port n d = record { output = false; name = input_name n; width = d.width }
+
+abbrev pub output_port : ℕ → PortDecl → PlainPort
+output_port n d = record { output = true; name = output_name n; width = d.width }
+
+-- go, the inputs, the outputs and done
+abbrev pub signature_of : PlainNetComponent → List PlainPort
+signature_of part =
+    one_bit (codes "go") ∷ with_numbers input_port part.inputs ++ with_numbers output_port part.outputs
+    ++ record { output = true; name = codes "done"; width = 1 } ∷ []
+
+-- those of a component's module
+abbrev pub module_ports : PlainNetComponent → List PlainPort
+module_ports part = one_bit (codes "clk") ∷ one_bit (codes "reset") ∷ signature_of part
+
+-- the module of a cell, and its ports behind the clock and the reset
+pub record PlainCellPorts : Type 0 where
+  pub kind : List ℕ
+  pub ports : List PlainPort
+
+abbrev pub signature_at : Option PlainNetComponent → List PlainPort
+signature_at None = []
+signature_at (Some part) = signature_of part
+
+abbrev pub kind_ports : PlainNet → ℕ → ℕ → PlainKind → PlainCellPorts
+kind_ports net k c (OfPrimitive p) = record {
+  kind = cell_module_name k c;
+  ports = drop 2 (module_of p (cell_module_name k c)).ports;
+}
+kind_ports net k c (OfComponent j) = record {
+  kind = module_name net.main j;
+  ports = signature_at (slice_get net.components j);
+}
+
+-- of cell c of component k
+abbrev pub cell_ports : PlainNet → ℕ → ℕ → PlainCell → PlainCellPorts
+cell_ports net k c cell = kind_ports net k c cell.kind
+
+-- the modules of primitive cells
+abbrev pub kind_modules : ℕ → ℕ → PlainKind → List PlainModule
+kind_modules k c (OfPrimitive p) = module_of p (cell_module_name k c) ∷ []
+kind_modules k c (OfComponent j) = []
+
+abbrev pub cell_modules : ℕ → ℕ → PlainCell → List PlainModule
+cell_modules k c cell = kind_modules k c cell.kind

@@ -1,0 +1,17 @@
+//! Verilog sources of nets.
+#![tactic(auto)]
+
+mod cells;
+mod components;
+mod driven;
+mod emitting;
+mod exprs;
+mod externals;
+mod folding;
+mod kept;
+mod laws;
+mod names;
+mod signatures;
+
+pub use emitting::emit;
+pub use laws::{edges_carry, values_carry};

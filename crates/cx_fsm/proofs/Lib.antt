@@ -1,0 +1,12 @@
+mod ListLemmas
+mod PartLemmas
+mod StandLemmas
+mod ControlLemmas
+mod StableSorts
+mod TargetOrder
+mod ChainLemmas
+mod RoundLemmas
+mod RestedLemmas
+mod OrderingLemmas
+mod PlanLemmas
+mod ComponentLemmas

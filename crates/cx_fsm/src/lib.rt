@@ -1,0 +1,21 @@
+//! From lowered designs to nets: control as registers and wires.
+#![tactic(auto)]
+
+mod assigns;
+mod building;
+mod components;
+mod control;
+mod copies;
+mod drivers;
+mod exprs;
+mod guards;
+mod islands;
+mod numbers;
+mod ordering;
+mod plans;
+mod registers;
+mod rests;
+mod stands;
+mod widths;
+
+pub use building::build;

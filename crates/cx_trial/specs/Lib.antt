@@ -1,0 +1,3 @@
+pub mod TrialParts
+pub mod TrialControl
+pub mod TrialTree

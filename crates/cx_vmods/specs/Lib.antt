@@ -1,0 +1,13 @@
+pub mod Spelling
+pub mod Parts
+pub mod Combinational
+pub mod BitCounts
+pub mod Clocked
+pub mod Addresses
+pub mod Memories
+pub mod Modules
+pub mod Stands
+pub mod Built
+pub mod Inside
+pub mod Shown
+pub mod Laws

@@ -1,0 +1,4 @@
+pub mod Open
+pub mod Leaves
+pub mod Steps
+pub mod Woven

@@ -1,0 +1,124 @@
+-- Where the nodes of a component in its net have what their own rules give, its control has one cycle of its own drivers.
+use Rattle.std.proofs.Common.{◌≡◌, ℕ, zero, suc, ◌+◌, ◌<◌, ◌≤◌, Bool, true, if◌then◌else◌, List, [], ◌∷◌, ◌++◌, length, Option, Some, None, option_map, option_and_then, unwrap_or, slice_get, refl, sym, ap, ◌∙◌, subst, arith, length-append}
+use Rattle.std.proofs.lemmas.Bool.{lt-ltb}
+use Rattle.cx_bits.specs.BitVector.{BitVector}
+use Rattle.cx_prim.specs.MemoryLaws.{slice_get-append}
+use Rattle.cx_meaning.specs.declared.ports.PortRef.{PortRef}
+use Rattle.cx_meaning.specs.Designs.{PlainComponent}
+use Rattle.cx_net.specs.Nets.{ToRegister, ToWire, ToHole, ToDone}
+use Rattle.cx_net.specs.NetTree.{NetCells}
+use Rattle.cx_net.specs.NetMeaning.{NetState, Node, AWire, AHole, TheDone, NetLook, NetAround, truth_bit, zero_wide, drivers_to, registers_of, own_step, is_own_node, chain as first_true}
+use Rattle.cx_net.specs.NetEdges.{own_register}
+use Rattle.cx_static.specs.Islands.{PlainLowereds}
+use Rattle.cx_static.specs.Lowering.{lowered, lowered_component, unlowered}
+use Rattle.cx_wiring.specs.Bounds.{AllDrive, IslandsName}
+use Rattle.cx_wiring.specs.Chains.{rest_widths}
+use Rattle.cx_wiring.specs.Wiring.{groups, first_of_assigns, bits, plain_wires, plain_drivers, component_registers, component_driven, target_width, net_component}
+use Rattle.cx_wiring.specs.Standing.{StatementBits}
+use Rattle.cx_wiring.specs.Shown.{wide}
+use Rattle.cx_wiring.specs.Takings.{AreRegisters}
+use Rattle.cx_wiring.proofs.TakingLemmas.{register_takes}
+use Rattle.cx_wiring.proofs.NetTargets.{plain_wires_count}
+use Rattle.cx_wiring.proofs.ConnectLaws.{Reads}
+use Rattle.cx_wiring.proofs.ComponentLaws.{PlainCycle}
+use Rattle.cx_wiring.proofs.RestReads.{AreRests}
+use Rattle.cx_wiring.proofs.ComponentTakes.{IsPlain, target_takes, register_takes_all}
+use Rattle.cx_wiring.proofs.AwayLaws.{differs}
+
+in_front : {A : Type 0} (xs ys : List A) (n : ℕ) (x : A) → slice_get xs n ≡ Some x → slice_get (xs ++ ys) n ≡ Some x
+in_front [] ys n x e = absurd cc
+in_front (y ∷ xs) ys zero x e = e
+in_front (y ∷ xs) ys (suc n) x e = in_front xs ys n x e
+
+some_at : {A : Type 0} (xs : List A) (n : ℕ) → n < length xs → (x : A) × (slice_get xs n ≡ Some x)
+some_at [] n less = absurd (omega arith)
+some_at (x ∷ xs) zero less = (x, refl)
+some_at (x ∷ xs) (suc n) less = some_at xs n (omega arith)
+
+module _ (d : PlainLowereds) (part : PlainComponent) (named : IslandsName (groups (lowered_component part)) (lowered_component part).islands) (cells : NetCells) (around : NetAround) (s : NetState) (look : NetLook)
+    (solves : (n : Node) → is_own_node (net_component d (lowered_component part)) cells n ≡ true
+    → look [] n ≡ own_step (net_component d (lowered_component part)) cells around s (look []) (λ c. look (c ∷ [])) n)
+    (has_value : (n : Node) → is_own_node (net_component d (lowered_component part)) cells n ≡ true → (x : BitVector) × (look [] n ≡ Some x))
+    (plain : AllDrive (IsPlain (length (plain_wires (lowered_component part)))) (plain_drivers (lowered_component part))) where
+  abbrev R : ℕ → Option BitVector
+  R = registers_of (net_component d (lowered_component part)) cells around s (look []) (λ c. look (c ∷ []))
+
+  wire_there : (n w : ℕ) → slice_get (net_component d (lowered_component part)).wires n ≡ Some w → n < length (net_component d (lowered_component part)).wires
+      → look [] (AWire n) ≡ first_true around (registers_of (net_component d (lowered_component part)) cells around s (look []) (λ c. look (c ∷ []))) (look []) (zero_wide w) (drivers_to (ToWire n) (net_component d (lowered_component part)).drivers)
+  wire_there n w is less =
+      solves (AWire n) (lt-ltb n (length (net_component d (lowered_component part)).wires) less)
+      ∙ ap (λ o. option_and_then (λ w. first_true around (registers_of (net_component d (lowered_component part)) cells around s (look []) (λ c. look (c ∷ []))) (look []) (zero_wide w) (drivers_to (ToWire n) (net_component d (lowered_component part)).drivers)) o) is
+
+  all_wires : length (net_component d (lowered_component part)).wires ≡ length (plain_wires (lowered_component part)) + length (rest_widths (target_width d (lowered_component part)) (component_driven (lowered_component part)))
+  all_wires = length-append (plain_wires (lowered_component part)) (rest_widths (target_width d (lowered_component part)) (component_driven (lowered_component part)))
+
+  -- the wires of the rests
+  rests_from : (ws : List ℕ) (n : ℕ) → ((i w : ℕ) → slice_get ws i ≡ Some w → i < length ws → look [] (AWire (n + i)) ≡ first_true around (registers_of (net_component d (lowered_component part)) cells around s (look []) (λ c. look (c ∷ []))) (look []) (zero_wide w)
+      (drivers_to (ToWire (n + i)) (net_component d (lowered_component part)).drivers))
+      → AreRests around (registers_of (net_component d (lowered_component part)) cells around s (look []) (λ c. look (c ∷ []))) (look []) n ws (net_component d (lowered_component part)).drivers
+  rests_from [] n h = tt
+  rests_from (w ∷ ws) n h =
+      let none : n + 0 ≡ n = omega arith in (
+        subst (λ m. look [] (AWire m) ≡ first_true around (registers_of (net_component d (lowered_component part)) cells around s (look []) (λ c. look (c ∷ []))) (look []) (zero_wide w) (drivers_to (ToWire m) (net_component d (lowered_component part)).drivers)) none (h 0 w refl (omega arith)),
+        rests_from ws (suc n) (λ i v e less. let more : n + suc i ≡ suc n + i = omega arith in
+            subst (λ m. look [] (AWire m) ≡ first_true around (registers_of (net_component d (lowered_component part)) cells around s (look []) (λ c. look (c ∷ []))) (look []) (zero_wide v) (drivers_to (ToWire m) (net_component d (lowered_component part)).drivers)) more (h (suc i) v e (omega arith))),
+      )
+
+  reads : AreRests around (registers_of (net_component d (lowered_component part)) cells around s (look []) (λ c. look (c ∷ []))) (look []) (length (plain_wires (lowered_component part)))
+      (rest_widths (target_width d (lowered_component part)) (component_driven (lowered_component part))) (net_component d (lowered_component part)).drivers
+  reads = rests_from (rest_widths (target_width d (lowered_component part)) (component_driven (lowered_component part))) (length (plain_wires (lowered_component part)))
+      (λ i w e less. let all : length (net_component d (lowered_component part)).wires ≡ length (plain_wires (lowered_component part)) + length (rest_widths (target_width d (lowered_component part)) (component_driven (lowered_component part))) = all_wires in
+      wire_there (length (plain_wires (lowered_component part)) + i) w
+      (slice_get-append (plain_wires (lowered_component part)) (rest_widths (target_width d (lowered_component part)) (component_driven (lowered_component part))) (length (plain_wires (lowered_component part)) + i) i refl ∙ e) (omega arith))
+
+  -- registers have the values of the state
+  registers_from : (ws : List ℕ) (n : ℕ) → ((i w : ℕ) → slice_get ws i ≡ Some w → slice_get (component_registers (lowered_component part)) (n + i) ≡ Some w)
+      → AreRegisters around (registers_of (net_component d (lowered_component part)) cells around s (look []) (λ c. look (c ∷ []))) (look []) (s.register []) n ws
+  registers_from [] n h = tt
+  registers_from (w ∷ ws) n h =
+      let none : n + 0 ≡ n = omega arith in (
+        ap (λ o. option_map (λ v. record { width = v; value = s.register [] n }) o) (ap (slice_get (component_registers (lowered_component part))) (sym none) ∙ h 0 w refl),
+        registers_from ws (suc n) (λ i v e. let more : n + suc i ≡ suc n + i = omega arith in ap (slice_get (component_registers (lowered_component part))) (sym more) ∙ h (suc i) v e),
+      )
+
+  register_at : (m : ℕ) → m < length (component_registers (lowered_component part)) → (w : ℕ) × (registers_of (net_component d (lowered_component part)) cells around s (look []) (λ c. look (c ∷ [])) m ≡ Some (record { width = w; value = s.register [] m }))
+  register_at m less = let k = some_at (component_registers (lowered_component part)) m less in (k.0, ap (λ o. option_map (λ v. record { width = v; value = s.register [] m }) o) k.1)
+
+  rest_known : (m : ℕ) → length (plain_wires (lowered_component part)) ≤ m → m < length (plain_wires (lowered_component part)) + length (rest_widths (target_width d (lowered_component part)) (component_driven (lowered_component part)))
+      → (b : BitVector) × (look [] (AWire m) ≡ Some b)
+  rest_known m low high = has_value (AWire m) (lt-ltb m (length (net_component d (lowered_component part)).wires) (subst (λ n. m < n) (sym all_wires) high))
+
+  -- ONE CYCLE of control
+  pub plain_cycle : (hole : ℕ → Bool) (port : PortRef → Bool) (acting : Bool) → around.go ≡ Some (truth_bit acting)
+      → StatementBits around (registers_of (net_component d (lowered_component part)) cells around s (look []) (λ c. look (c ∷ []))) (look []) hole port (lowered part part.control (unlowered part))
+      → PlainCycle part named around (registers_of (net_component d (lowered_component part)) cells around s (look []) (λ c. look (c ∷ []))) (look []) (s.register []) (own_register (net_component d (lowered_component part)) cells around s look) hole port acting
+  plain_cycle hole port acting go test_bits = record {
+    acts = go;
+    wires = wires_are;
+    registers_are = registers_from (component_registers (lowered_component part)) 0 (λ i w e. let same : 0 + i ≡ i = omega arith in ap (slice_get (component_registers (lowered_component part))) same ∙ e);
+    nexts = λ m v there e. let k = register_at m there in
+        register_takes_all d (lowered_component part) around (registers_of (net_component d (lowered_component part)) cells around s (look []) (λ c. look (c ∷ []))) (look []) plain reads m (record { width = k.0; value = s.register [] m }) k.1 rest_known
+        ∙ register_takes around (registers_of (net_component d (lowered_component part)) cells around s (look []) (λ c. look (c ∷ []))) (look []) (wide (s.register [] m)) (ToRegister m) (wide v) (plain_drivers (lowered_component part)) e;
+    goes = λ g there. let holes : groups (lowered_component part) + g < groups (lowered_component part) + groups (lowered_component part) = omega arith in
+        let is = lt-ltb (groups (lowered_component part) + g) (groups (lowered_component part) + groups (lowered_component part)) holes in
+        solves (AHole (groups (lowered_component part) + g)) is
+        ∙ ap (λ b. if b then first_true around (registers_of (net_component d (lowered_component part)) cells around s (look []) (λ c. look (c ∷ []))) (look []) (zero_wide 1) (drivers_to (ToHole (groups (lowered_component part) + g)) (net_component d (lowered_component part)).drivers) else None) is
+        ∙ target_takes d (lowered_component part) around (registers_of (net_component d (lowered_component part)) cells around s (look []) (λ c. look (c ∷ []))) (look []) plain reads (ToHole (groups (lowered_component part) + g)) tt (λ m from. refl) (λ at. refl);
+    done = solves TheDone refl
+        ∙ target_takes d (lowered_component part) around (registers_of (net_component d (lowered_component part)) cells around s (look []) (λ c. look (c ∷ []))) (look []) plain reads ToDone tt (λ m from. refl) (λ at. refl);
+    bits = test_bits;
+  }
+    where
+      wires_are : (n : ℕ) → n < first_of_assigns (lowered_component part)
+          → Reads (groups (lowered_component part)) (lowered_component part).islands named around (registers_of (net_component d (lowered_component part)) cells around s (look []) (λ c. look (c ∷ []))) (look []) n (plain_drivers (lowered_component part))
+      wires_are n less =
+          let count : length (plain_wires (lowered_component part)) ≡ groups (lowered_component part) + bits (lowered_component part) = plain_wires_count (lowered_component part) in
+          let all : length (net_component d (lowered_component part)).wires ≡ length (plain_wires (lowered_component part)) + length (rest_widths (target_width d (lowered_component part)) (component_driven (lowered_component part))) = all_wires in
+          let there : n < length (plain_wires (lowered_component part)) = omega arith in
+          let k = some_at (plain_wires (lowered_component part)) n there in
+          record {
+            behind_them = Some (zero_wide (target_width d (lowered_component part) (ToWire n)));
+            reads = wire_there n k.0 (in_front (plain_wires (lowered_component part)) _ n k.0 k.1) (omega arith)
+                ∙ ap (λ w. first_true around (registers_of (net_component d (lowered_component part)) cells around s (look []) (λ c. look (c ∷ []))) (look []) (zero_wide w) (drivers_to (ToWire n) (net_component d (lowered_component part)).drivers)) (sym (ap (λ o. unwrap_or o 1) k.1))
+                ∙ target_takes d (lowered_component part) around (registers_of (net_component d (lowered_component part)) cells around s (look []) (λ c. look (c ∷ []))) (look []) plain reads (ToWire n) tt (λ m from. differs m n (λ e. omega arith)) (λ at. refl);
+          }

@@ -1,0 +1,28 @@
+-- The net of a component alone, and the rows of its timers: what the tree of a design's net is made of, by structure of the
+-- design's tree. Components that are equal have equal nets, so that a component gives its net, and no number is asked for.
+use Rattle.std.specs.Prelude.{List, [], ◌∷◌, length, drop, flat_map}
+use Rattle.cx_prim.specs.Rows.{Row}
+use Rattle.cx_prim.specs.Table.{row_of}
+use Rattle.cx_meaning.specs.Designs.{PlainKind, OfPrimitive, OfComponent, PlainCell, PlainComponent, PlainDesign}
+use Rattle.cx_net.specs.Nets.{PlainNetComponent}
+use Rattle.cx_static.specs.Lowering.{lowered_component, lowered_of}
+use Rattle.cx_wiring.specs.Wiring.{net_component}
+
+abbrev pub row_of_kind : PlainKind → List Row
+row_of_kind (OfPrimitive primitive) = row_of primitive ∷ []
+row_of_kind (OfComponent k) = []
+
+-- the rows of the cells that are primitives
+abbrev pub rows_among : List PlainCell → List Row
+rows_among cells = flat_map (λ cell. row_of_kind cell.kind) cells
+
+-- the cells that lowering puts behind those of a component
+abbrev pub timer_cells : PlainComponent → List PlainCell
+timer_cells part = drop (length part.cells) (lowered_component part).part.cells
+
+abbrev pub timers_of : PlainComponent → List Row
+timers_of part = rows_among (timer_cells part)
+
+-- the net of a component of a design
+abbrev pub wired_in : PlainDesign → PlainComponent → PlainNetComponent
+wired_in d part = net_component (lowered_of d) (lowered_component part)
