@@ -23,7 +23,7 @@ module _ (P : PlainNetTarget → Type 0) where
       guard_drives (Compared c x y) wire own = tt
       guard_drives (Within from to) wire own = tt
 
-      part_drives : (g : PlainGuard) (wire : ℕ) → Wires P wire (part_wires g) → AllDrive P (part_drivers offset wire g)
+      pub part_drives : (g : PlainGuard) (wire : ℕ) → Wires P wire (part_wires g) → AllDrive P (part_drivers offset wire g)
       part_drives Always wire own = (first_wire P {w = wire} {n = 0} own, tt)
       part_drives (Atom p) wire own = tt
       part_drives (Negation g) wire own = drive_both P _ _ (part_drives g (suc wire) (later_wires P own)) (first_wire P own, tt)
@@ -32,12 +32,12 @@ module _ (P : PlainNetTarget → Type 0) where
       part_drives (Compared c x y) wire own = (first_wire P {w = wire} {n = 0} own, tt)
       part_drives (Within from to) wire own = (first_wire P {w = wire} {n = 0} own, tt)
 
-      parts_drive : (gs : PlainGuards) (wire : ℕ) → Wires P wire (parts_wires gs) → AllDrive P (parts_drivers offset wire gs)
+      pub parts_drive : (gs : PlainGuards) (wire : ℕ) → Wires P wire (parts_wires gs) → AllDrive P (parts_drivers offset wire gs)
       parts_drive no_guards wire own = tt
       parts_drive (a_guard g gs) wire own = drive_both P _ _ (part_drives g wire (first_wires P (part_wires g) (parts_wires gs) own)) (parts_drive gs (wire + part_wires g) (rest_wires P (part_wires g) (parts_wires gs) own))
 
   module _ (port : (p : PortRef) → P (ToPort p)) (groups : ℕ) (hole : (g : ℕ) → g < groups → P (ToHole g)) where
-    target_drives : (p : PortRef) → TargetNames groups p → P (target_of p)
+    pub target_drives : (p : PortRef) → TargetNames groups p → P (target_of p)
     target_drives (ports.Cell c p) named = port _
     target_drives (ports.Input n) named = port _
     target_drives (ports.Output n) named = port _
@@ -57,7 +57,7 @@ module _ (P : PlainNetTarget → Type 0) where
     gated_drives g (Compared c x y) wire target source is own = drive_both P (gate_drivers groups g wire (Compared c x y)) (drive target (OfWire wire) source ∷ []) (gate_drives g (Compared c x y) wire own) (is, tt)
     gated_drives g (Within from to) wire target source is own = drive_both P (gate_drivers groups g wire (Within from to)) (drive target (OfWire wire) source ∷ []) (gate_drives g (Within from to) wire own) (is, tt)
 
-    looking_drives : (l : Looks) (a : PlainAssign) (wire : ℕ) → TargetNames groups a.target → Wires P wire (looking_wires l a.guard) → AllDrive P (looking_drivers groups l wire a)
+    pub looking_drives : (l : Looks) (a : PlainAssign) (wire : ℕ) → TargetNames groups a.target → Wires P wire (looking_wires l a.guard) → AllDrive P (looking_drivers groups l wire a)
     looking_drives (LooksAlways offset) a wire named own = drive_both P _ _ (guard_drives offset a.guard wire own) (target_drives a.target named, tt)
     looking_drives (LooksIn g) a wire named own = gated_drives g a.guard wire (target_of a.target) (OfPort a.source.port) (target_drives a.target named) own
 

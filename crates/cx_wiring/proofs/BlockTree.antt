@@ -13,7 +13,7 @@ no_child child e = absurd cc
 no_row : {A : Type 0} (row : Row) (child : Instance) → OfRow row ≡ OfInstance child → A
 no_row row child e = absurd cc
 
-module _ (wired : PlainComponent → PlainNetComponent) (timers : PlainComponent → List Row) (numbers : PlainComponent → NetState → ℕ → ℕ) where
+module _ (wired : PlainComponent → PlainNetComponent) (timers : PlainComponent → List Row) (numbers : Instance → NetState → ℕ → ℕ) where
   -- Fine is what each node of a tree must be like
   module _ (Fine : PlainComponent → Cells → Type 0) (nodes : (part : PlainComponent) (cells : Cells) → Fine part cells → NodeLaws wired timers numbers part cells) where
     abbrev mutual

@@ -47,13 +47,13 @@ module _ (groups : ℕ) (islands : List PlainIsland) (named : IslandsName groups
   pub read_before : (n : ℕ) (xs ys : List PlainNetDriver) → Reads n (xs ++ ys) → Reads n xs
   read_before n xs ys h = record { behind_them = takes around registers look (ToWire n) h.behind_them ys; reads = h.reads ∙ takes_append around registers look (ToWire n) h.behind_them xs ys }
 
-  read_behind : (n : ℕ) (xs ys : List PlainNetDriver) → Skips n xs → Reads n (xs ++ ys) → Reads n ys
+  pub read_behind : (n : ℕ) (xs ys : List PlainNetDriver) → Skips n xs → Reads n (xs ++ ys) → Reads n ys
   read_behind n xs ys s h = record {
     behind_them = h.behind_them;
     reads = h.reads ∙ takes_append around registers look (ToWire n) h.behind_them xs ys ∙ others_pass around registers look (ToWire n) (takes around registers look (ToWire n) h.behind_them ys) xs s;
   }
 
-  read_here : (n : ℕ) (source : PlainNetExpr) (ds : List PlainNetDriver) → Reads n (connect n source ∷ ds) → look (AWire n) ≡ value around registers look source
+  pub read_here : (n : ℕ) (source : PlainNetExpr) (ds : List PlainNetDriver) → Reads n (connect n source ∷ ds) → look (AWire n) ≡ value around registers look source
   read_here n source ds h = h.reads ∙ ap (λ s. takes_of around registers look s (connect n source) (takes around registers look (ToWire n) h.behind_them ds)) (eq-eqb n n refl)
 
   -- past a driver of another target

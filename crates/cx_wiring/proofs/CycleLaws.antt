@@ -25,12 +25,12 @@ use Rattle.cx_wiring.proofs.RestReads.{AreRests}
 use Rattle.cx_wiring.proofs.ComponentTakes.{IsPlain, target_takes, register_takes_all}
 use Rattle.cx_wiring.proofs.AwayLaws.{differs}
 
-in_front : {A : Type 0} (xs ys : List A) (n : ℕ) (x : A) → slice_get xs n ≡ Some x → slice_get (xs ++ ys) n ≡ Some x
+pub in_front : {A : Type 0} (xs ys : List A) (n : ℕ) (x : A) → slice_get xs n ≡ Some x → slice_get (xs ++ ys) n ≡ Some x
 in_front [] ys n x e = absurd cc
 in_front (y ∷ xs) ys zero x e = e
 in_front (y ∷ xs) ys (suc n) x e = in_front xs ys n x e
 
-some_at : {A : Type 0} (xs : List A) (n : ℕ) → n < length xs → (x : A) × (slice_get xs n ≡ Some x)
+pub some_at : {A : Type 0} (xs : List A) (n : ℕ) → n < length xs → (x : A) × (slice_get xs n ≡ Some x)
 some_at [] n less = absurd (omega arith)
 some_at (x ∷ xs) zero less = (x, refl)
 some_at (x ∷ xs) (suc n) less = some_at xs n (omega arith)
@@ -43,7 +43,7 @@ module _ (d : PlainLowereds) (part : PlainComponent) (named : IslandsName (group
   abbrev R : ℕ → Option BitVector
   R = registers_of (net_component d (lowered_component part)) cells around s (look []) (λ c. look (c ∷ []))
 
-  wire_there : (n w : ℕ) → slice_get (net_component d (lowered_component part)).wires n ≡ Some w → n < length (net_component d (lowered_component part)).wires
+  pub wire_there : (n w : ℕ) → slice_get (net_component d (lowered_component part)).wires n ≡ Some w → n < length (net_component d (lowered_component part)).wires
       → look [] (AWire n) ≡ first_true around (registers_of (net_component d (lowered_component part)) cells around s (look []) (λ c. look (c ∷ []))) (look []) (zero_wide w) (drivers_to (ToWire n) (net_component d (lowered_component part)).drivers)
   wire_there n w is less =
       solves (AWire n) (lt-ltb n (length (net_component d (lowered_component part)).wires) less)
@@ -64,7 +64,7 @@ module _ (d : PlainLowereds) (part : PlainComponent) (named : IslandsName (group
             subst (λ m. look [] (AWire m) ≡ first_true around (registers_of (net_component d (lowered_component part)) cells around s (look []) (λ c. look (c ∷ []))) (look []) (zero_wide v) (drivers_to (ToWire m) (net_component d (lowered_component part)).drivers)) more (h (suc i) v e (omega arith))),
       )
 
-  reads : AreRests around (registers_of (net_component d (lowered_component part)) cells around s (look []) (λ c. look (c ∷ []))) (look []) (length (plain_wires (lowered_component part)))
+  pub reads : AreRests around (registers_of (net_component d (lowered_component part)) cells around s (look []) (λ c. look (c ∷ []))) (look []) (length (plain_wires (lowered_component part)))
       (rest_widths (target_width d (lowered_component part)) (component_driven (lowered_component part))) (net_component d (lowered_component part)).drivers
   reads = rests_from (rest_widths (target_width d (lowered_component part)) (component_driven (lowered_component part))) (length (plain_wires (lowered_component part)))
       (λ i w e less. let all : length (net_component d (lowered_component part)).wires ≡ length (plain_wires (lowered_component part)) + length (rest_widths (target_width d (lowered_component part)) (component_driven (lowered_component part))) = all_wires in

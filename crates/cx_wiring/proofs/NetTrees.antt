@@ -10,6 +10,7 @@ use Rattle.cx_prim.specs.Table.{row_of}
 use Rattle.cx_meaning.specs.Designs.{PlainKind, OfPrimitive, OfComponent, PlainCell, PlainComponent, PlainDesign, no_component, component_at}
 use Rattle.cx_meaning.specs.Instances.{Instance, Cells, add_cell, cells_for, tree_within, tree_of}
 use Rattle.cx_meaning.specs.Sights.{In}
+use Rattle.cx_rules.proofs.Finite.{Distinct}
 use Rattle.cx_rules.specs.Wellformed.{IsKind, LeadsTo, by_cell, by_way_of, IsDesign}
 use Rattle.cx_net.specs.Nets.{PlainNetComponent, PlainNet}
 use Rattle.cx_net.specs.NetMeaning.{NetState}
@@ -21,10 +22,10 @@ use Rattle.cx_wiring.specs.Wiring.{kind_in, cell_in, net_component, net_of}
 use Rattle.cx_wiring.specs.PartNets.{row_of_kind, rows_among, timer_cells, timers_of, wired_in}
 use Rattle.cx_wiring.specs.Blocks.{rows_alone, net_of_instance, net_of_cells}
 use Rattle.cx_wiring.proofs.MainLaws.{Tells, or_right, number_left, number_right, number_flat_map, number_from, reaches_itself, order_below, order_reached, order_main, net_component_at-place_in}
-use Rattle.cx_wiring.proofs.NumberLemmas.{StandApart, few_apart, length-numbers_from}
+use Rattle.cx_wiring.proofs.NumberLemmas.{in_number, few_apart, length-numbers_from}
 use Rattle.cx_wiring.proofs.TimerCells.{cells-lowered_component, components_of-timer_cells}
 
-module _ (wired : PlainComponent → PlainNetComponent) (timers : PlainComponent → List Row) (numbers : PlainComponent → NetState → ℕ → ℕ) (places : List ℕ) where
+module _ (wired : PlainComponent → PlainNetComponent) (timers : PlainComponent → List Row) (numbers : Instance → NetState → ℕ → ℕ) (places : List ℕ) where
   abbrev row_cells : List Row → NetCells
   row_cells = rows_alone wired timers numbers
 
@@ -80,7 +81,7 @@ module _ {A : Type 0} (xs : List A) where
         length_one k ks (get_or xs k d) (slice_get-get_or xs k d (within k (ap (λ b. b || has_number k ks) (eq-eqb k k refl))))
         (length-named ks (λ j there. within j (or_right (nat_eq j k) (has_number j ks) there)))
 
-module _ (d : PlainDesign) (rules : IsDesign d) (numbers : PlainComponent → NetState → ℕ → ℕ) where
+module _ (d : PlainDesign) (rules : IsDesign d) (numbers : Instance → NetState → ℕ → ℕ) where
   abbrev low : PlainLowereds
   low = lowered_of d
 
@@ -122,7 +123,7 @@ module _ (d : PlainDesign) (rules : IsDesign d) (numbers : PlainComponent → Ne
 
   -- the components on the way from main to a component, each of which leads to it
   record IsWay (k : ℕ) (seen : List ℕ) : Type 0 where
-    apart : StandApart (k ∷ seen)
+    apart : Distinct (k ∷ seen)
     among : (j : ℕ) → has_number j (k ∷ seen) ≡ true → has_number j places ≡ true
     leads : (j : ℕ) → has_number j seen ≡ true → LeadsTo d j k
 
@@ -146,16 +147,12 @@ module _ (d : PlainDesign) (rules : IsDesign d) (numbers : PlainComponent → Ne
     all_lead : (m : ℕ) → has_number m (k ∷ seen) ≡ true → LeadsTo d m j
     all_lead m h = leads_on m (eqb_tells m k) (way.leads m) h
 
-    fresh : (b : Bool) → has_number j (k ∷ seen) ≡ b → has_number j (k ∷ seen) ≡ false
-    fresh true e = absurd (rules.not_recursive j (all_lead j e))
-    fresh false e = e
-
     among_on : (m : ℕ) → Tells m j → has_number m (j ∷ k ∷ seen) ≡ true → has_number m places ≡ true
     among_on m (inl e) h = ap (λ x. has_number x places) e.1 ∙ here
     among_on m (inr e) h = way.among m (ap (λ b. b || has_number m (k ∷ seen)) (sym e.0) ∙ h)
 
     way_on : IsWay j (k ∷ seen)
-    way_on = record { apart = (fresh (has_number j (k ∷ seen)) refl, way.apart); among = λ m h. among_on m (eqb_tells m j) h; leads = all_lead }
+    way_on = record { apart = ((λ i. rules.not_recursive j (all_lead j (in_number j (k ∷ seen) i))), way.apart); among = λ m h. among_on m (eqb_tells m j) h; leads = all_lead }
 
   abbrev Reaches : ℕ → ℕ → Type 0
   Reaches n k = (x : ℕ) → has_number x (reached_from low n k) ≡ true → has_number x (reached_from low (count low) low.main) ≡ true
@@ -198,7 +195,7 @@ module _ (d : PlainDesign) (rules : IsDesign d) (numbers : PlainComponent → Ne
       within_alike levels (length net.components) d.main [] (start here) (omega arith) (omega (arith, net_long)) (λ x h. subst (λ n. has_number x (reached_from low n d.main) ≡ true) (sym count_is) h)
     where
       start : has_number d.main places ≡ true → IsWay d.main []
-      start here = record { apart = (refl, tt); among = λ m h. only m (eqb_tells m d.main) h here; leads = λ j h. absurd (cc) }
+      start here = record { apart = ((λ i. i), tt); among = λ m h. only m (eqb_tells m d.main) h here; leads = λ j h. absurd (cc) }
         where
           only : (m : ℕ) → Tells m d.main → has_number m (d.main ∷ []) ≡ true → has_number d.main places ≡ true → has_number m places ≡ true
           only m (inl e) h here = ap (λ x. has_number x places) e.1 ∙ here

@@ -5,7 +5,7 @@ use Rattle.cx_bits.specs.BitVector.{BitVector}
 use Rattle.cx_prim.specs.Rows.{Row}
 use Rattle.cx_meaning.specs.declared.sights.Seen.TheVariants.{Value}
 use Rattle.cx_meaning.specs.Designs.{PlainComponent, PlainDesign}
-use Rattle.cx_meaning.specs.Instances.{Path, tree_of, start, words_of, idle_at}
+use Rattle.cx_meaning.specs.Instances.{Instance, Path, tree_of, start, words_of, idle_at}
 use Rattle.cx_meaning.specs.Sights.{unheld}
 use Rattle.cx_lockstep.specs.Worlds.{Control, At, Machine, edge, edge_of}
 use Rattle.cx_control.specs.Codings.{Coding, at_fine}
@@ -25,7 +25,7 @@ use Rattle.cx_net.specs.NetRuns.{IsWholeLook, AreWords, net_start, net_words}
 use Rattle.cx_wiring.specs.Blocks.{block, net_of_instance, Shows, Solves, has_cell, BlockLaws}
 use Rattle.cx_wiring.proofs.EdgeRuns.{EdgeKeeps}
 
-module _ (wired : PlainComponent → PlainNetComponent) (timers : PlainComponent → List Row) (numbers : PlainComponent → NetState → ℕ → ℕ) (d : PlainDesign) where
+module _ (wired : PlainComponent → PlainNetComponent) (timers : PlainComponent → List Row) (numbers : Instance → NetState → ℕ → ℕ) (d : PlainDesign) where
   abbrev pub root_tree : NetInstance
   root_tree = net_of_instance wired timers numbers (tree_of d)
 

@@ -35,6 +35,7 @@ use Rattle.cx_wiring.proofs.TakingLemmas.{says_both, says_either, says_not, says
 use Rattle.cx_wiring.proofs.AwayLaws.{here, at_false, away, away_parts}
 use Rattle.cx_wiring.proofs.TurnLemmas.{beside_same, beside_first, beside_later, beside_zero, zero_first, zero_later, behind_idle, then_first, then_second}
 use Rattle.cx_wiring.proofs.FormTurns.{go_known, region_known, told_append, if_drivers}
+use Rattle.cx_wiring.proofs.SizeLaws as sizes
 use Rattle.cx_wiring.proofs.StayLaws.{beside_pointwise, stays, parts_stay}
 use Rattle.cx_wiring.proofs.TestTurns.{if_begins, if_then, if_else, while_begins, while_goes_on}
 use Rattle.cx_wiring.proofs.RoundTurns.{round_goes, rounds_end, round_begins}
@@ -194,35 +195,11 @@ module _ (groups : ℕ) (islands : List PlainIsland) (around : NetAround) (regis
     abbrev Next : PlainStatement → Lowering → ℕ → ℕ → ℕ
     Next = number_of leaves codings part islands next next_island
 
-    -- a statement has as many positions as places
-    mutual
-      form_size : (form : PlainForm) (place : Place) (l : Lowering) → Coding.size (form_coding leaves codings form) ≡ positions_of (lowered part (Placed form place) l)
-      form_size Empty place l = refl
-      form_size (Enable g) place l = enable_one g ∙ kind (group_length part g)
-        where
-          kind : (o : Option ℕ) → 1 ≡ positions_of (Placed (lowered_enable part g o l) place)
-          kind None = refl
-          kind (Some cycles) = refl
-      form_size (Seq no_statements) place l = refl
-      form_size (Seq (a_statement s ss)) place l = ap₂ (λ a b. a + b) (size_is s l) (parts_size ss (after part s l))
-      form_size (Par no_statements) place l = refl
-      form_size (Par (a_statement s ss)) place l = refl
-      form_size (If test comb a b) place l = ap₂ (λ m n. suc (m + n)) (size_is a l) (size_is b (after part a l))
-      form_size (While test comb a) place l = ap suc (size_is a l)
-      form_size (Repeat zero a) place l = refl
-      form_size (Repeat (suc k) a) place l = size_is a l
-      form_size (StaticSeq written parts) place l = island_one (StaticSeq written parts)
-      form_size (StaticPar written arms) place l = island_one (StaticPar written arms)
-      form_size (StaticIf written test a b) place l = island_one (StaticIf written test a b)
-      form_size (StaticRepeat written count a) place l = island_one (StaticRepeat written count a)
-      form_size (Timed k) place l = refl
+    size_is : (s : PlainStatement) (l : Lowering) → Coding.size (statement_coding leaves codings s) ≡ positions_of (lowered part s l)
+    size_is s l = sizes.size_is leaves codings part enable_one island_one s l
 
-      pub size_is : (s : PlainStatement) (l : Lowering) → Coding.size (statement_coding leaves codings s) ≡ positions_of (lowered part s l)
-      size_is (Placed form place) l = form_size form place l
-
-      parts_size : (ss : PlainStatements) (l : Lowering) → Coding.size (parts_coding leaves codings ss) ≡ positions_in (lowered_parts part ss l)
-      parts_size no_statements l = refl
-      parts_size (a_statement s ss) l = ap₂ (λ a b. a + b) (size_is s l) (parts_size ss (after part s l))
+    parts_size : (ss : PlainStatements) (l : Lowering) → Coding.size (parts_coding leaves codings ss) ≡ positions_in (lowered_parts part ss l)
+    parts_size ss l = sizes.parts_size leaves codings part enable_one island_one ss l
 
     -- a statement where control is not: its numbers are 0 after the edge too
     still_zero : (s : PlainStatement) (l : Lowering) (x : Stand) (count : ℕ) → Away around registers look x (D x (lowered part s l)) → W x (lowered part s l)

@@ -17,8 +17,9 @@ use Rattle.cx_control.specs.Numbers.{idle_by, number_idle_at, number_idle_below}
 use Rattle.cx_control.specs.Standing.{Bare, bare, good_control, good_below}
 use Rattle.cx_net.specs.Nets.{PlainNetComponent}
 use Rattle.cx_net.specs.NetTree.{NetInstance, NetNode, NetCells, no_net_cells, a_row, a_child}
-use Rattle.cx_net.specs.NetMeaning.{NetState, below_cell, Node, TheDone, NetLook, NetAround, is_node, is_node_below, is_true, net_step, child_step}
+use Rattle.cx_net.specs.NetMeaning.{NetState, below_cell, Node, TheDone, NetLook, NetAround, is_node, is_node_below, is_true, truth_bit, net_step, child_step}
 use Rattle.cx_net.specs.NetEdges.{cell_after, register_after, register_below}
+use Rattle.cx_wiring.specs.NetBits.{is_bit, is_bit_below, input_width, input_width_below}
 
 pub record Block : Type 1 where
   pub coded : Coded
@@ -27,8 +28,11 @@ pub record Block : Type 1 where
   pub has_cell : Path → Bool
   pub cell_idle : Path → CellState → CellState
   pub number_idle : Path → ℕ → ℕ → ℕ
-  -- the net: which nodes are there, the rule of each, an edge of registers and of cells, and where its state has a number
+  -- the net: which nodes are there, which of them are of one bit, how wide the inputs are, the rule of each node, an edge of registers
+  -- and of cells, and where its state has a number
   pub is_there : Path → Node → Bool
+  pub is_bit : Path → Node → Bool
+  pub input_width : ℕ → Option ℕ
   pub rule : NetAround → NetState → NetLook → Path → Node → Option BitVector
   pub register_after : NetAround → NetState → NetLook → Path → ℕ → ℕ
   pub cell_after : NetLook → Path → CellState → CellState
@@ -54,10 +58,14 @@ module _ (B : Block) where
     pub own : (n : ℕ) → B.number_in v [] n ≡ code_of B.coded p n
     pub below : (c : ℕ) (path : Path) (n : ℕ) → B.number_in v (c ∷ path) n ≡ s (Number (c ∷ path) n)
 
-  -- a value of each node, by its own rule: what a whole look has
+  -- a value of each node, by its own rule, and of one bit where the node is: what a whole look has. So do the go and the inputs
   pub record Solves (around : NetAround) (v : NetState) (look : NetLook) : Type 0 where
     pub whole : (path : Path) (n : Node) → B.is_there path n ≡ true → (x : BitVector) × (look path n ≡ Some x)
     pub by_rule : (path : Path) (n : Node) → B.is_there path n ≡ true → look path n ≡ B.rule around v look path n
+    pub bits : (path : Path) (n : Node) → B.is_bit path n ≡ true → (b : Bool) × (look path n ≡ Some (truth_bit b))
+    pub go : (b : Bool) × (around.go ≡ Some (truth_bit b))
+    pub inputs : (n w : ℕ) → B.input_width n ≡ Some w → (x : BitVector) × (around.input n ≡ Some x)
+    pub bit_inputs : (n : ℕ) → B.input_width n ≡ Some 1 → (b : Bool) × (around.input n ≡ Some (truth_bit b))
 
   abbrev pub HasGo : NetAround → Bool → Type 0
   HasGo around b = (x : BitVector) × (around.go ≡ Some x) × (is_true x ≡ b)
@@ -101,7 +109,7 @@ pub record BlockLaws (B : Block) : Type 0 where
 
 -- THE NET'S TREE by structure of the design's: the net of each component, its cells and behind them its timers. `numbers` says
 -- where the net's state has the numbers of a component: registers, and of an island the count and the done of its first timer
-module _ (wired : PlainComponent → PlainNetComponent) (timers : PlainComponent → List Row) (numbers : PlainComponent → NetState → ℕ → ℕ) where
+module _ (wired : PlainComponent → PlainNetComponent) (timers : PlainComponent → List Row) (numbers : Instance → NetState → ℕ → ℕ) where
   abbrev pub rows_alone : List Row → NetCells
   rows_alone [] = no_net_cells
   rows_alone (row ∷ rest) = a_row row (rows_alone rest)
@@ -117,7 +125,7 @@ module _ (wired : PlainComponent → PlainNetComponent) (timers : PlainComponent
 
   abbrev mutual
     pub numbers_at : Instance → NetState → Path → ℕ → ℕ
-    numbers_at (instances.Node part cells) v [] n = numbers part v n
+    numbers_at (instances.Node part cells) v [] n = numbers (instances.Node part cells) v n
     numbers_at (instances.Node part cells) v (c ∷ path) n = numbers_below cells c (below_cell c v) path n
 
     pub numbers_below : Cells → ℕ → NetState → Path → ℕ → ℕ
@@ -143,6 +151,8 @@ module _ (wired : PlainComponent → PlainNetComponent) (timers : PlainComponent
     cell_idle = idle_at i;
     number_idle = number_idle_at i;
     is_there = is_node (net_of_instance i);
+    is_bit = is_bit (net_of_instance i);
+    input_width = input_width (net_of_instance i);
     rule = net_step (net_of_instance i);
     register_after = register_after (net_of_instance i);
     cell_after = cell_after false (net_of_instance i);
@@ -158,6 +168,8 @@ module _ (wired : PlainComponent → PlainNetComponent) (timers : PlainComponent
     cell_idle = idle_below cells c;
     number_idle = number_idle_below cells c;
     is_there = is_node_below (net_of_cells cells more) c;
+    is_bit = is_bit_below (net_of_cells cells more) c;
+    input_width = input_width_below (net_of_cells cells more) c;
     rule = child_step (net_of_cells cells more) c;
     register_after = register_below (net_of_cells cells more) c;
     cell_after = child_cell_after (net_of_cells cells more) c;

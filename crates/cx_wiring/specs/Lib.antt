@@ -16,5 +16,9 @@ pub mod Standing
 pub mod Shown
 pub mod Turning
 pub mod Wired
+pub mod GuardPorts
 pub mod InNet
+pub mod NetBits
 pub mod Blocks
+pub mod BlockNumbers
+pub mod PortValues
