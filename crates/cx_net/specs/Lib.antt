@@ -4,3 +4,4 @@ pub mod NetMeaning
 pub mod NetEdges
 pub mod NetRuns
 pub mod PlainNets
+pub mod NetFits
