@@ -49,5 +49,15 @@ pub mod ExternalLaws
 pub mod MainLaws
 pub mod NumberLemmas
 pub mod TimerCells
+pub mod WayLemmas
 pub mod NetTrees
 pub mod DesignNames
+pub mod FitLemmas
+pub mod OrderHeights
+pub mod FitGuards
+pub mod FitIslands
+pub mod FitControl
+pub mod FitChains
+pub mod FitLowering
+pub mod FitPorts
+pub mod FitRules
