@@ -1,7 +1,11 @@
 -- Lowering keeps what fits: timers are cells of 1 to 2 ^ 32 - 1 cycles, and every count in an island is one of the timer that it names.
 use Rattle.std.proofs.Common.{◌≡◌, inl, inr, ℕ, zero, suc, ◌+◌, ◌*◌, ◌<◌, ◌≤◌, Bool, true, false, List, [], ◌∷◌, ◌++◌, length, Option, Some, None, slice_get, refl, ap, sym, ◌∙◌, subst, arith, length-append, zero-mul, mul-zero, suc-mul}
-use Rattle.std.specs.Prelude.{◌^◌, max}
+use Rattle.std.specs.Prelude.{◌^◌, ◌&&◌, max, nat_lt, if◌then◌else◌, IsSome}
+use Rattle.std.proofs.lemmas.Bool.{le-leb, lt-ltb}
 use Rattle.cx_text.specs.declared.places.Place.{Place}
+use Rattle.cx_prim.specs.declared.names.PrimitiveName.TheVariants as primitives
+use Rattle.cx_prim.specs.PipeRows.{timer_row}
+use Rattle.cx_prim.specs.Table.{HasRow}
 use Rattle.cx_meaning.specs.declared.ports.PlacedPort.{PlacedPort}
 use Rattle.cx_meaning.specs.Designs.{PlainCell, PlainComponent, PlainForm, Empty, Enable, Seq, Par, If, While, Repeat, StaticSeq, StaticPar, StaticIf, StaticRepeat, Timed, PlainStatement, Placed, PlainStatements, no_statements, a_statement}
 use Rattle.cx_meaning.specs.Islands.{group_length, or_zero, form_length, length_of, sum_length, max_length}
@@ -18,13 +22,19 @@ use Rattle.cx_static.specs.declared.islands.Sample.{Sample}
 use Rattle.cx_static.specs.declared.islands.IslandTimer.{IslandTimer}
 use Rattle.cx_static.specs.Islands.{PlainPoint, PlainOccurrence, PlainIsland}
 use Rattle.cx_static.specs.Lowering.{Gathered, Begin, begin_at, later, sampled, if_sampled, timer_cell, with_timer, with_point, with_occurrence, form_gathered, gathered, parts_gathered, arms_gathered, island_gathered, island_of, Lowering, with_island, after_enable, lowered_enable, form_after, after, parts_after, lowered_form, lowered, lowered_parts}
-use Rattle.cx_wiring.specs.Fitting.{Are, IsTimer, OuterFits, TimerFits, SampleFits, OccurrenceFits, PointFits, IslandFits, FormFits, StatementFits, PartsFit}
+use Rattle.cx_wiring.specs.Fitting.{Are, CellFits, IsTimer, OuterFits, TimerFits, SampleFits, OccurrenceFits, PointFits, IslandFits, FormFits, StatementFits, PartsFit}
 use Rattle.cx_wiring.proofs.FitLemmas.{are_both, are_more, slice_left, slice_right}
 
 factor_some : (c n : ℕ) → 0 < c * n → (1 ≤ n) × (n ≤ c * n)
 factor_some zero n h = absurd (omega (arith, zero-mul n))
 factor_some (suc m) zero h = absurd (omega (arith, mul-zero (suc m)))
 factor_some (suc m) (suc k) h = (omega arith, omega (arith, suc-mul m (suc k)))
+
+timer_row_there : (n : ℕ) → 1 ≤ n → n < 2 ^ 32 → HasRow (record { name = primitives.Timer; numbers = n ∷ [] })
+timer_row_there n some few = subst (λ b. IsSome (if b && nat_lt n (2 ^ 32) then Some (timer_row n) else None)) (sym (le-leb 1 n some)) (subst (λ b. IsSome (if b then Some (timer_row n) else None)) (sym (lt-ltb n (2 ^ 32) few)) refl)
+
+never : false ≡ true → ⊥
+never e = cc
 
 -- the cells of one list stand in another
 abbrev StandIn : List PlainCell → List PlainCell → Type 0
@@ -88,6 +98,7 @@ module _ (net : PlainNet) (npart : PlainNetComponent) (part : PlainComponent) wh
 
   -- WHAT IS GATHERED fits
   record Gathers (g : Gathered) : Type 0 where
+    cells : Are CellFits g.cells
     timers : Are (TimerFits g.cells (length g.timers)) g.timers
     points : Are (PointFits net npart (length g.timers) (length g.points)) g.points
     occurrences : Are (OccurrenceFits groups (length g.timers) (length g.points)) g.occurrences
@@ -143,6 +154,7 @@ module _ (net : PlainNet) (npart : PlainNetComponent) (part : PlainComponent) wh
       let same : length g.points ≤ length g.points = omega arith in
       record {
         gathers = record {
+          cells = are_both CellFits g.cells (timer_cell place n ∷ []) fits.cells (record { row = timer_row_there n some few; memory = λ e. absurd (never e) }, tt);
           timers = are_both (TimerFits (g.cells ++ timer_cell place n ∷ []) (length (g.timers ++ timer ∷ []))) g.timers (timer ∷ [])
               (timers_in g.cells (g.cells ++ timer_cell place n ∷ []) (length g.timers) (length (g.timers ++ timer ∷ [])) stand more g.timers fits.timers)
               (record { cell = timer_there place n g.cells some few; outer = outer_in (length g.timers) (length (g.timers ++ timer ∷ [])) more outer out; from = low; to = high }, tt);
@@ -164,6 +176,7 @@ module _ (net : PlainNet) (npart : PlainNetComponent) (part : PlainComponent) wh
       let at : x.at < 2 ^ 32 = omega arith in
       record {
         gathers = record {
+          cells = fits.cells;
           timers = fits.timers;
           points = are_both (PointFits net npart (length g.timers) (length (g.points ++ point ∷ []))) g.points (point ∷ [])
               (points_in (length g.timers) (length g.timers) (length g.points) (length (g.points ++ point ∷ [])) same more g.points fits.points)
@@ -185,6 +198,7 @@ module _ (net : PlainNet) (npart : PlainNetComponent) (part : PlainComponent) wh
       let long : n < 2 ^ 32 = omega arith in
       record {
         gathers = record {
+          cells = fits.cells;
           timers = fits.timers;
           points = fits.points;
           occurrences = are_both (OccurrenceFits groups (length g.timers) (length g.points)) g.occurrences (occurrence ∷ []) fits.occurrences
@@ -288,8 +302,9 @@ module _ (net : PlainNet) (npart : PlainNetComponent) (part : PlainComponent) wh
     pub fits : IslandFits net npart groups cells island
     pub short : Are IsShort island.occurrences
 
-  abbrev pub IslandsHold : Lowering → Type 0
-  IslandsHold l = Are (IslandHolds l.cells) l.islands
+  pub record IslandsHold (l : Lowering) : Type 0 where
+    pub cells : Are CellFits l.cells
+    pub islands : Are (IslandHolds l.cells) l.islands
 
   island_in : (xs ys : List PlainCell) → StandIn xs ys → (island : PlainIsland) → IslandHolds xs island → IslandHolds ys island
   island_in xs ys stand island h =
@@ -308,26 +323,29 @@ module _ (net : PlainNet) (npart : PlainNetComponent) (part : PlainComponent) wh
   island_holds : (form : PlainForm) (place : Place) (l : Lowering) → AllFine (visit Dynamic (Placed form place)) → 1 ≤ form_length part form → form_length part form < 2 ^ 32 → IslandsHold l → IslandsHold (with_island part form l)
   island_holds form place l fine some few holds =
       let bare : Gathered = record { cells = l.cells; timers = []; points = []; occurrences = [] } in
-      let start = timer_keeps part.place (form_length part form) None 0 (form_length part form) bare (record { timers = tt; points = tt; occurrences = tt; short = tt }) some few tt (omega arith) few in
+      let start = timer_keeps part.place (form_length part form) None 0 (form_length part form) bare (record { cells = holds.cells; timers = tt; points = tt; occurrences = tt; short = tt }) some few tt (omega arith) few in
       let from_0 : 0 + form_length part form < 2 ^ 32 = omega arith in
       let one : 0 < 1 = omega arith in
       let all = form_keeps form Dynamic place (begin_at 0 0 []) (with_timer part.place (form_length part form) None 0 (form_length part form) bare) fine start.gathers (record { timer = one; few = from_0; samples = tt }) in
       let whole = keeps_on start all in
-      are_both (IslandHolds (island_gathered part form l.cells).cells) l.islands (island_of (form_length part form) (island_gathered part form l.cells) ∷ [])
-      (are_more (IslandHolds l.cells) (IslandHolds (island_gathered part form l.cells).cells) (island_in l.cells (island_gathered part form l.cells).cells whole.cells) l.islands holds)
-      (
-        record {
-          fits = record {
-            length_few = few;
-            first = (let t : 1 ≤ length (island_gathered part form l.cells).timers = all.timers in t);
-            timers = whole.gathers.timers;
-            points = whole.gathers.points;
-            occurrences = whole.gathers.occurrences;
-          };
-          short = whole.gathers.short;
-        },
-        tt,
-      )
+      record {
+        cells = whole.gathers.cells;
+        islands = are_both (IslandHolds (island_gathered part form l.cells).cells) l.islands (island_of (form_length part form) (island_gathered part form l.cells) ∷ [])
+            (are_more (IslandHolds l.cells) (IslandHolds (island_gathered part form l.cells).cells) (island_in l.cells (island_gathered part form l.cells).cells whole.cells) l.islands holds.islands)
+            (
+              record {
+                fits = record {
+                  length_few = few;
+                  first = (let t : 1 ≤ length (island_gathered part form l.cells).timers = all.timers in t);
+                  timers = whole.gathers.timers;
+                  points = whole.gathers.points;
+                  occurrences = whole.gathers.occurrences;
+                };
+                short = whole.gathers.short;
+              },
+              tt,
+            );
+      }
 
   module _ (lasting : (g n : ℕ) → g < length part.groups → group_length part g ≡ Some n → 0 < n) where
     abbrev here : PlainForm → Place → Visited

@@ -28,7 +28,7 @@ use Rattle.cx_wiring.specs.PartNets.{timer_cells, wired_in}
 use Rattle.cx_wiring.proofs.TimerCells.{cells-lowered_component}
 use Rattle.cx_wiring.proofs.WayLemmas.{there, placed}
 use Rattle.cx_wiring.proofs.OrderHeights.{in_slice, closed}
-use Rattle.cx_wiring.proofs.FitLemmas.{there_at, slice_left, slice_right}
+use Rattle.cx_wiring.proofs.FitLemmas.{there_at, slice_left, slice_right, slice_below}
 
 other : {A : Type 0} → false ≡ true → A
 other e = absurd cc
@@ -202,3 +202,15 @@ width_some i (ports.Input n) is good = declared_some (part_of i).inputs n is
 width_some i (ports.Output n) is good = declared_some (part_of i).outputs n is
 width_some i (ports.Done g) is good = (1, refl)
 width_some i (ports.Literal u v) is good = literal_some u v (keeps_literal u v) refl good
+
+-- what the list of the signature has is the width of the port
+pub part_back : (component : PlainComponent) (p w : ℕ) → slice_get (1 ∷ widths component.inputs ++ widths component.outputs ++ 1 ∷ []) p ≡ Some w → part_width component (part_port component p) ≡ Some w
+part_back component p w e =
+    let v = part_some component p in
+    let below : p < length (1 ∷ widths component.inputs ++ widths component.outputs ++ 1 ∷ []) = slice_below (1 ∷ widths component.inputs ++ widths component.outputs ++ 1 ∷ []) p w e in
+    let inputs : length (widths component.inputs) ≡ length component.inputs = length-map component.inputs (λ (decl : PortDecl). decl.width) in
+    let outputs : length (widths component.outputs) ≡ length component.outputs = length-map component.outputs (λ (decl : PortDecl). decl.width) in
+    let first : length (1 ∷ widths component.inputs ++ widths component.outputs) ≡ length (1 ∷ widths component.inputs) + length (widths component.outputs) = length-append (1 ∷ widths component.inputs) (widths component.outputs) in
+    let all : length (1 ∷ widths component.inputs ++ widths component.outputs ++ 1 ∷ []) ≡ length (1 ∷ widths component.inputs ++ widths component.outputs) + 1 = length-append (1 ∷ widths component.inputs ++ widths component.outputs) (1 ∷ []) in
+    let less : p < 2 + length component.inputs + length component.outputs = omega arith in
+    v.1 ∙ sym (signature_at component p v.0 less v.1) ∙ e

@@ -61,3 +61,4 @@ pub mod FitChains
 pub mod FitLowering
 pub mod FitPorts
 pub mod FitRules
+pub mod FitNets

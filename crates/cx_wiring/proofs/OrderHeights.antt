@@ -171,7 +171,7 @@ module _ (d : PlainDesign) (rules : IsDesign d) where
   abbrev levels : ℕ
   levels = length d.components
 
-  no_timer : (k c : ℕ) (cell : PlainCell) → In (timer_cells (component_at d k)) cell → cell.kind ≡ OfComponent c → ⊥
+  pub no_timer : (k c : ℕ) (cell : PlainCell) → In (timer_cells (component_at d k)) cell → cell.kind ≡ OfComponent c → ⊥
   no_timer k c cell i is =
       let among : has_number c (components_of (timer_cells (component_at d k) ++ [])) ≡ true = number_of_cell c cell (timer_cells (component_at d k)) [] is i in
       let none : has_number c (components_of (timer_cells (component_at d k) ++ [])) ≡ false =

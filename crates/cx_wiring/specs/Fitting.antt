@@ -1,12 +1,12 @@
 -- What the parts of a lowered component keep where its net fits: the ports that they name are there and as wide as they have to be, and
 -- their numbers have at most 32 bits.
-use Rattle.std.specs.Prelude.{◌≡◌, ℕ, ◌+◌, ◌<◌, ◌≤◌, ◌^◌, List, [], ◌∷◌, length, Option, Some, None, slice_get}
+use Rattle.std.specs.Prelude.{◌≡◌, ℕ, ◌+◌, ◌<◌, ◌≤◌, ◌^◌, List, [], ◌∷◌, length, Option, Some, None, slice_get, true}
 use Rattle.cx_prim.specs.declared.names.PrimitiveName.TheVariants as primitives
-use Rattle.cx_meaning.specs.declared.ports.PortRef.TheVariants as ports
-use Rattle.cx_meaning.specs.Designs.{PlainGuard, Always, Atom, Negation, All, Any, Compared, Within, PlainGuards, no_guards, a_guard, PlainAssign, OfPrimitive, PlainCell, PlainForm, Empty, Enable, Seq, Par, If, While, Repeat, StaticSeq, StaticPar, StaticIf, StaticRepeat, Timed, PlainStatement, Placed, PlainStatements, no_statements, a_statement}
+use Rattle.cx_prim.specs.Table.{HasRow}
+use Rattle.cx_meaning.specs.Designs.{PlainGuard, Always, Atom, Negation, All, Any, Compared, Within, PlainGuards, no_guards, a_guard, PlainAssign, PlainKind, OfPrimitive, OfComponent, PlainCell, PlainForm, Empty, Enable, Seq, Par, If, While, Repeat, StaticSeq, StaticPar, StaticIf, StaticRepeat, Timed, PlainStatement, Placed, PlainStatements, no_statements, a_statement}
 use Rattle.cx_meaning.specs.Active.{Owned}
 use Rattle.cx_net.specs.Nets.{PlainNetDriver, PlainNetComponent, PlainNet}
-use Rattle.cx_net.specs.NetFits.{HasPortWidth, HasWidth, target_width}
+use Rattle.cx_net.specs.NetFits.{HasPortWidth, HasWidth, target_width, IsExternalKind}
 use Rattle.cx_static.specs.declared.islands.Sample.{Sample}
 use Rattle.cx_static.specs.declared.islands.IslandTimer.{IslandTimer}
 use Rattle.cx_static.specs.Islands.{PlainPoint, PlainOccurrence, PlainIsland}
@@ -29,6 +29,15 @@ pub record IsTimer (cells : List PlainCell) (c : ℕ) : Type 0 where
   pub is : cell.kind ≡ OfPrimitive (record { name = primitives.Timer; numbers = cycles ∷ [] })
   pub some : 1 ≤ cycles
   pub few : cycles < 2 ^ 32
+
+-- a primitive has a row, and an external cell is a memory
+abbrev pub HasRowKind : PlainKind → Type 0
+HasRowKind (OfPrimitive primitive) = HasRow primitive
+HasRowKind (OfComponent k) = Unit {0}
+
+pub record CellFits (cell : PlainCell) : Type 0 where
+  pub row : HasRowKind cell.kind
+  pub memory : cell.external ≡ true → IsExternalKind cell.kind
 
 -- ISLANDS, of a component of so many groups: timers, points and occurrences name what is there, at numbers of 32 bits
 abbrev pub OuterFits : ℕ → Option ℕ → Type 0
