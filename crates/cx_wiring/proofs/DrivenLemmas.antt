@@ -10,7 +10,6 @@ pub use Rattle.cx_wiring.specs.Bounds.{IsProper}
 use Rattle.cx_wiring.proofs.TargetRanks.{same_rank}
 use Rattle.cx_wiring.proofs.RankLemmas.{NotBefore, one_rank, behind_both, NoneBefore, IsSorted}
 
-
 both_are : (a b : Bool) → (a && b) ≡ (if a then b else false)
 both_are true b = refl
 both_are false b = refl

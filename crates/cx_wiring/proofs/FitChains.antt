@@ -1,14 +1,14 @@
 -- Chains fit where their drivers do, and each rest is as wide as its target.
-use Rattle.std.proofs.Common.{◌≡◌, ℕ, zero, suc, ◌+◌, ◌-◌, Bool, true, false, not, if◌then◌else◌, List, [], ◌∷◌, ◌++◌, Option, Some, None, length, replicate, slice_get, refl, ap, sym, ◌∙◌, subst}
+use Rattle.std.proofs.Common.{◌≡◌, ℕ, zero, suc, ◌+◌, ◌-◌, Bool, true, false, not, if◌then◌else◌, List, [], ◌∷◌, Some, replicate, refl, ap, sym, subst}
 use Rattle.std.proofs.lemmas.Bool.{eqb-true}
 use Rattle.std.proofs.lemmas.List.{length-replicate}
 use Rattle.cx_rules.proofs.FoundLemmas.{same_is}
-use Rattle.cx_net.specs.Nets.{OfRegister, OfWire, PlainNetTarget, ToPort, ToRegister, ToWire, ToHole, ToDone, PlainNetDriver, PlainNetComponent, PlainNet}
+use Rattle.cx_net.specs.Nets.{PlainNetTarget, ToPort, ToRegister, ToWire, ToHole, ToDone, PlainNetDriver, PlainNetComponent, PlainNet}
 use Rattle.cx_net.specs.NetFits.{HasWidth, target_width}
 use Rattle.cx_wiring.specs.Chains.{is_same, goes_before, placed_among, by_target, Driven, with_driver, driven, together, rests, closing, chain, chains, rest_widths}
 use Rattle.cx_wiring.specs.Bounds.{IsProper, AllDrive}
 use Rattle.cx_wiring.specs.Fitting.{Are, HasFrom, Drives}
-use Rattle.cx_wiring.proofs.FitLemmas.{are_both, are_more, from_first, from_later, from_left, from_right}
+use Rattle.cx_wiring.proofs.FitLemmas.{are_both, from_first, from_later, from_left, from_right}
 use Rattle.cx_wiring.proofs.FitGuards.{one_fits}
 
 other : {A : Type 0} → false ≡ true → A

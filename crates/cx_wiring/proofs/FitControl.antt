@@ -1,20 +1,19 @@
 -- The drivers of control fit: wires of statements are bits, registers of regions and rounds have 32 bits, and no position or round is a
 -- greater number than there are of 32 bits.
-use Rattle.std.proofs.Common.{◌≡◌, ℕ, zero, suc, ◌+◌, ◌<◌, ◌≤◌, List, [], ◌∷◌, ◌++◌, length, map, replicate, take, Option, Some, None, slice_get, refl, ap, ◌∙◌, arith, length-append}
+use Rattle.std.proofs.Common.{◌≡◌, ℕ, zero, suc, ◌+◌, ◌<◌, ◌≤◌, List, [], ◌∷◌, ◌++◌, length, map, take, Option, Some, None, slice_get, refl, arith, length-append}
 use Rattle.std.specs.Prelude.{◌^◌}
-use Rattle.cx_meaning.specs.declared.ports.Comparison.TheVariants.{NotEqual}
 use Rattle.cx_meaning.specs.Designs.{PlainCell, PlainForm, Empty, Enable, Seq, Par, If, While, Repeat, StaticSeq, StaticPar, StaticIf, StaticRepeat, Timed, PlainStatement, Placed, PlainStatements, no_statements, a_statement}
 use Rattle.cx_rules.specs.Items.{Dynamic, visit, visit_parts, visit_all}
-use Rattle.cx_net.specs.Nets.{PlainNetExpr, OfRegister, OfHole, Inverse, AllOf, Sum, exprs_of, PlainNetTarget, ToRegister, ToWire, ToHole, ToDone, PlainNetDriver, PlainNetComponent, PlainNet}
-use Rattle.cx_net.specs.NetFits.{HasWidth, target_width}
+use Rattle.cx_net.specs.Nets.{PlainNetExpr, OfRegister, OfHole, AllOf, exprs_of, ToRegister, ToWire, PlainNetComponent, PlainNet}
+use Rattle.cx_net.specs.NetFits.{HasWidth}
 use Rattle.cx_static.specs.Islands.{PlainIsland}
-use Rattle.cx_wiring.specs.Parts.{word, one, both, either, equals, drive, connect}
-use Rattle.cx_wiring.specs.Counts.{positions_of, positions_in, sample_registers, form_wires, wires_of, wires_in, form_registers, registers_of, registers_in, arms_registers}
-use Rattle.cx_wiring.specs.Stands.{Stand, at, end_of, stands, ends, goes, inside, past_test, behind}
-use Rattle.cx_wiring.specs.IslandDrivers.{wires_of_island, island_wires, first_of_island}
-use Rattle.cx_wiring.specs.Control.{one_turn, found_one, found_zero, arm_stand, arm_over, arm_restarts, arm_finishes, in_last_round, in_earlier_round, counted_inside, counting, whole_stand, finishing, enabled, comb_goes, timed_drivers, arms_over, form_drivers, drivers_of, parts_drivers, arms_drivers, control_drivers}
+use Rattle.cx_wiring.specs.Parts.{word, both, either, equals, drive}
+use Rattle.cx_wiring.specs.Counts.{positions_of, sample_registers, form_wires, wires_of, wires_in, form_registers, registers_of, registers_in, arms_registers}
+use Rattle.cx_wiring.specs.Stands.{Stand, at, end_of, stands, ends, inside, past_test, behind}
+use Rattle.cx_wiring.specs.IslandDrivers.{island_wires, first_of_island}
+use Rattle.cx_wiring.specs.Control.{one_turn, found_one, found_zero, arm_stand, in_last_round, in_earlier_round, counted_inside, counting, whole_stand, finishing, comb_goes, timed_drivers, arms_over, form_drivers, drivers_of, parts_drivers, arms_drivers, control_drivers}
 use Rattle.cx_wiring.specs.Wiring.{cell_in}
-use Rattle.cx_wiring.specs.Bounds.{IslandsName, CombNames, FormNames, StatementNames, PartsName}
+use Rattle.cx_wiring.specs.Bounds.{CombNames, FormNames, StatementNames, PartsName}
 use Rattle.cx_wiring.specs.Fitting.{Are, HasFrom, IslandFits, FormFits, StatementFits, PartsFit, Drives}
 use Rattle.cx_wiring.proofs.RoomLemmas.{Wires, first_wire, later_wires, first_wires, rest_wires}
 use Rattle.cx_wiring.proofs.CountLaws.{positions_of_few}
@@ -115,8 +114,7 @@ module _ (net : PlainNet) (part : PlainNetComponent) where
           let standing = at_bit {w = x.wire} {n = wires_in arms} room.own in (
             stands_fits x {n = wires_in arms} (arms_registers islands arms) (suc (length (visit_all Dynamic arms))) room,
             are_both (Drives net part) (arms_drivers groups islands x (suc (suc x.wire)) x.register arms) (ends x (AllOf (exprs_of (at x ∷ arms_over groups islands (suc (suc x.wire)) x.register arms))) ∷ [])
-                (arms_fit x (suc (suc x.wire)) x.register arms named fits standing (end_bit {w = x.wire} {n = wires_in arms} room.own) inner room.kept few)
-                (
+                (arms_fit x (suc (suc x.wire)) x.register arms named fits standing (end_bit {w = x.wire} {n = wires_in arms} room.own) inner room.kept few) (
                   ends_fits x {n = wires_in arms} (AllOf (exprs_of (at x ∷ arms_over groups islands (suc (suc x.wire)) x.register arms))) room.own
                       (refl, bits_of net part (at x ∷ arms_over groups islands (suc (suc x.wire)) x.register arms) (standing, over_fits (suc (suc x.wire)) x.register arms inner room.kept few)),
                   tt,
@@ -138,21 +136,18 @@ module _ (net : PlainNet) (part : PlainNetComponent) where
           let first = past_test x in
           let second = behind islands a (past_test x) in (
             stands_fits x {n = wires_of a + wires_of b} (rs ++ qs) (suc (length (visit Dynamic a ++ visit Dynamic b))) room,
-            are_both (Drives net part) (comb_goes groups islands x comb) _ (comb_fits x comb named.0 standing)
-                (
-                  sets x.region first.position (found_one x test.port) room.region (refl, (standing, (fits.0, tt))) first_there,
-                  are_both (Drives net part) (drivers_of groups islands first a) _ (drivers_fit a first named.1.0 fits.1 (record { own = first_own; kept = from_left part.registers x.register rs qs room.kept; region = room.region; acts = room.acts; few = here }))
-                      (
-                        sets x.region second.position (found_zero x test.port) room.region (refl, (standing, (fits.0, tt))) second_there,
-                        are_both (Drives net part) (drivers_of groups islands second b) _
-                            (drivers_fit b second named.1.1 fits.2 (record { own = second_own; kept = from_right part.registers x.register rs qs room.kept; region = room.region; acts = room.acts; few = later }))
-                            (
-                              ends_fits x {n = wires_of a + wires_of b} (either (end_of first.wire) (end_of second.wire)) room.own
-                                  (refl, (end_own a (suc (suc x.wire)) first_own, (end_own b (suc (suc x.wire) + wires_of a) second_own, tt))),
-                              tt,
-                            ),
-                      ),
-                ),
+            are_both (Drives net part) (comb_goes groups islands x comb) _ (comb_fits x comb named.0 standing) (
+              sets x.region first.position (found_one x test.port) room.region (refl, (standing, (fits.0, tt))) first_there,
+              are_both (Drives net part) (drivers_of groups islands first a) _ (drivers_fit a first named.1.0 fits.1 (record { own = first_own; kept = from_left part.registers x.register rs qs room.kept; region = room.region; acts = room.acts; few = here })) (
+                sets x.region second.position (found_zero x test.port) room.region (refl, (standing, (fits.0, tt))) second_there,
+                are_both (Drives net part) (drivers_of groups islands second b) _
+                    (drivers_fit b second named.1.1 fits.2 (record { own = second_own; kept = from_right part.registers x.register rs qs room.kept; region = room.region; acts = room.acts; few = later })) (
+                      ends_fits x {n = wires_of a + wires_of b} (either (end_of first.wire) (end_of second.wire)) room.own
+                          (refl, (end_own a (suc (suc x.wire)) first_own, (end_own b (suc (suc x.wire) + wires_of a) second_own, tt))),
+                      tt,
+                    ),
+              ),
+            ),
           )
       form_fits (While test comb a) x named fits room =
           let least : x.position + suc (length (visit Dynamic a)) < 2 ^ 32 = room.few in
@@ -163,15 +158,14 @@ module _ (net : PlainNet) (part : PlainNetComponent) where
           let standing = at_bit {w = x.wire} {n = wires_of a} room.own in
           let body = past_test x in (
             stands_fits x {n = wires_of a} (registers_of islands a) (suc (length (visit Dynamic a))) room,
-            are_both (Drives net part) (comb_goes groups islands x comb) _ (comb_fits x comb named.0 standing)
-                (
-                  ends_fits x {n = wires_of a} (found_zero x test.port) room.own (refl, (standing, (fits.0, tt))),
-                  (
-                    sets x.region body.position (found_one x test.port) room.region (refl, (standing, (fits.0, tt))) there,
-                    are_both (Drives net part) (drivers_of groups islands body a) _ (drivers_fit a body named.1 fits.1 (record { own = inner; kept = room.kept; region = room.region; acts = room.acts; few = here }))
-                        (sets x.region x.position (end_of body.wire) room.region (end_own a (suc (suc x.wire)) inner) back, tt),
-                  ),
-                ),
+            are_both (Drives net part) (comb_goes groups islands x comb) _ (comb_fits x comb named.0 standing) (
+              ends_fits x {n = wires_of a} (found_zero x test.port) room.own (refl, (standing, (fits.0, tt))),
+              (
+                sets x.region body.position (found_one x test.port) room.region (refl, (standing, (fits.0, tt))) there,
+                are_both (Drives net part) (drivers_of groups islands body a) _ (drivers_fit a body named.1 fits.1 (record { own = inner; kept = room.kept; region = room.region; acts = room.acts; few = here }))
+                    (sets x.region x.position (end_of body.wire) room.region (end_own a (suc (suc x.wire)) inner) back, tt),
+              ),
+            ),
           )
       form_fits (Repeat zero a) x named fits room = turn_fits x {n = 0} [] (suc (length (visit Dynamic a))) room
       form_fits (Repeat (suc n) a) x named fits room =
@@ -184,8 +178,7 @@ module _ (net : PlainNet) (part : PlainNetComponent) where
           let over : IsBit net part (ToWire (suc (suc (suc x.wire)))) = end_own a (suc (suc x.wire)) inner in
           let register : slice_get part.registers x.register ≡ Some 32 = from_first part.registers x.register 32 (registers_of islands a) room.kept in
           are_both (Drives net part) (drivers_of groups islands (counted_inside x) a) (counting x n)
-          (drivers_fit a (counted_inside x) named fits.1 (record { own = inner; kept = from_later part.registers x.register 32 (registers_of islands a) room.kept; region = room.region; acts = room.acts; few = here }))
-          (
+          (drivers_fit a (counted_inside x) named fits.1 (record { own = inner; kept = from_later part.registers x.register 32 (registers_of islands a) room.kept; region = room.region; acts = room.acts; few = here })) (
             ends_fits x {n = wires_of a} (both (end_of (suc (suc x.wire))) (in_last_round x n)) room.own (refl, (over, (is_at x.register n register round, tt))),
             (
               sets x.region x.position (both (end_of (suc (suc x.wire))) (in_earlier_round x n)) room.region (refl, (over, ((refl, (32, register, word_width n round)), tt))) back,
@@ -242,8 +235,7 @@ module _ (net : PlainNet) (part : PlainNetComponent) where
           let rest = from_later part.registers register 32 (rs ++ qs) kept in (
             sets register 0 (end_of par.wire) region ending (omega arith),
             are_both (Drives net part) (drivers_of groups islands (arm_stand par wire register) s) _
-                (drivers_fit s (arm_stand par wire register) named.0 fits.0 (record { own = first; kept = from_left part.registers (suc register) rs qs rest; region = region; acts = standing; few = from_0 }))
-                (
+                (drivers_fit s (arm_stand par wire register) named.0 fits.0 (record { own = first; kept = from_left part.registers (suc register) rs qs rest; region = region; acts = standing; few = from_0 })) (
                   sets register (positions_of s) (end_of wire) region (end_own s wire first) end_there,
                   arms_fit par (wire + wires_of s) (suc register + length rs) ss named.1 fits.1 standing ending (rest_wires (IsBit net part) (wires_of s) (wires_in ss) own)
                       (from_right part.registers (suc register) rs qs rest) later,
@@ -274,8 +266,7 @@ module _ (net : PlainNet) (part : PlainNetComponent) where
         let there : positions_of s < 2 ^ 32 = omega arith in
         let from_0 : 0 + length (visit Dynamic s) < 2 ^ 32 = omega arith in
         are_both (Drives net part) (drivers_of groups islands (whole_stand wire) s) (finishing wire s)
-        (drivers_fit s (whole_stand wire) named fits (record { own = own; kept = from_later part.registers 0 32 (registers_of islands s) kept; region = region; acts = refl; few = from_0 }))
-        (
+        (drivers_fit s (whole_stand wire) named fits (record { own = own; kept = from_later part.registers 0 32 (registers_of islands s) kept; region = region; acts = refl; few = from_0 })) (
           sets 0 (positions_of s) (end_of wire) region (end_own s wire own) there,
           (
             sets 0 0 (equals (OfRegister 0) (positions_of s)) region (is_at 0 (positions_of s) region there) (omega arith),

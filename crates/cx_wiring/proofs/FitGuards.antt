@@ -1,13 +1,12 @@
 -- The drivers of guards and assignments fit where their ports do.
-use Rattle.std.proofs.Common.{◌≡◌, ℕ, suc, ◌+◌, ◌<◌, List, [], ◌∷◌, ◌++◌, Option, Some, None, slice_get, refl, ap, ◌∙◌, subst, arith}
-use Rattle.std.specs.Prelude.{◌^◌}
+use Rattle.std.proofs.Common.{◌≡◌, ℕ, suc, ◌+◌, ◌<◌, List, [], ◌∷◌, ◌++◌, Option, Some, None, slice_get, refl, arith}
 use Rattle.cx_meaning.specs.declared.ports.PortRef.{PortRef}
 use Rattle.cx_meaning.specs.declared.ports.PortRef.TheVariants as ports
 use Rattle.cx_meaning.specs.Designs.{PlainGuard, Always, Atom, Negation, All, Any, Compared, Within, PlainGuards, no_guards, a_guard, PlainAssign}
 use Rattle.cx_meaning.specs.Active.{Owned}
 use Rattle.cx_net.specs.Nets.{PlainNetExpr, OfPort, OfWire, PlainNetTarget, ToWire, PlainNetDriver, PlainNetComponent, PlainNet}
-use Rattle.cx_net.specs.NetFits.{HasPortWidth, HasWidth, AreBits, target_width}
-use Rattle.cx_wiring.specs.Parts.{one, drive, connect, word}
+use Rattle.cx_net.specs.NetFits.{HasWidth, AreBits, target_width}
+use Rattle.cx_wiring.specs.Parts.{one, drive, connect}
 use Rattle.cx_wiring.specs.Guards.{guard_wires, part_wires, parts_wires, part_expr, parts_exprs, guard_expr, guard_drivers, part_drivers, parts_drivers}
 use Rattle.cx_wiring.specs.Assignments.{target_of, Looks, LooksAlways, LooksIn, looks_of, gate_wires, looking_wires, assign_wires, assigns_wires, go, gate_drivers, gated_drivers, looking_drivers, assign_drivers, assigns_drivers}
 use Rattle.cx_wiring.specs.Bounds.{IsProper}

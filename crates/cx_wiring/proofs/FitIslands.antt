@@ -1,18 +1,16 @@
 -- The drivers of an island fit where what it names does.
-use Rattle.std.proofs.Common.{◌≡◌, ℕ, suc, ◌+◌, ◌-◌, ◌<◌, ◌≤◌, Bool, true, false, if◌then◌else◌, List, [], ◌∷◌, ◌++◌, Option, Some, None, length, map, slice_get, refl, ap, sym, ◌∙◌, subst, arith}
+use Rattle.std.proofs.Common.{◌≡◌, ℕ, suc, ◌+◌, ◌-◌, ◌<◌, ◌≤◌, Bool, true, false, if◌then◌else◌, List, [], ◌∷◌, ◌++◌, Option, Some, None, length, map, slice_get, refl, ap, sym, subst, arith}
 use Rattle.std.specs.Prelude.{◌^◌, ◌%◌, option_map, unwrap_or}
 use Rattle.std.proofs.lemmas.Bool.{lt-ltb}
 use Rattle.std.proofs.lemmas.Nat.{mod_below}
-use Rattle.cx_meaning.specs.declared.ports.PortRef.TheVariants as ports
-use Rattle.cx_meaning.specs.declared.ports.Comparison.TheVariants.{Less, AtLeast}
 use Rattle.cx_meaning.specs.Designs.{PlainCell}
-use Rattle.cx_net.specs.Nets.{PlainNetExpr, OfPort, OfRegister, OfWire, Inverse, Compares, PlainNetTarget, ToPort, ToRegister, ToWire, ToHole, PlainNetDriver, PlainNetComponent, PlainNet}
-use Rattle.cx_net.specs.NetFits.{HasWidth, port_width, target_width}
+use Rattle.cx_net.specs.Nets.{OfRegister, OfWire, Inverse, ToWire, ToHole, PlainNetComponent, PlainNet}
+use Rattle.cx_net.specs.NetFits.{HasWidth, target_width}
 use Rattle.cx_static.specs.declared.islands.Sample.{Sample}
 use Rattle.cx_static.specs.declared.islands.IslandTimer.{IslandTimer}
 use Rattle.cx_static.specs.Islands.{PlainPoint, PlainOccurrence, PlainIsland}
-use Rattle.cx_wiring.specs.Parts.{literal, word, one, both, equals, drive, connect}
-use Rattle.cx_wiring.specs.Stands.{Stand, at, ends}
+use Rattle.cx_wiring.specs.Parts.{both}
+use Rattle.cx_wiring.specs.Stands.{Stand, at}
 use Rattle.cx_wiring.specs.IslandDrivers.{wires_of_island, timer_cell, runs, count, island_done, sample_wire, active_wire, in_range, timer_runs, timer_drivers, begins, in_last_cycle, point_drivers, as_wanted, is_active, offset_from, occurrence_drivers, island_drivers}
 use Rattle.cx_wiring.specs.Wiring.{cell_in}
 use Rattle.cx_wiring.specs.Fitting.{Are, IsTimer, TimerFits, SampleFits, OccurrenceFits, OuterFits, PointFits, IslandFits, Drives}
@@ -59,7 +57,7 @@ module _ (net : PlainNet) (part : PlainNetComponent) where
         let less : t < timers = omega arith in
         let next : suc t + length rest ≤ timers = omega arith in (
           connects net part (first + t) (timer_runs groups x first island timer.cell timer.outer timer.from timer.to) (runs_fits t less)
-          (runs_when timer.cell timer.outer timer.from timer.to fit.0.cell fit.0.outer fit.0.from fit.0.to),
+              (runs_when timer.cell timer.outer timer.from timer.to fit.0.cell fit.0.outer fit.0.from fit.0.to),
           (
             record { proper = tt; guard = runs_fits t less; width = 1; target = timer_port net part numbers cells same timer.cell 0 1 fit.0.cell refl; source = one_fits net part },
             timers_fit (suc t) rest next fit.1,
@@ -108,10 +106,12 @@ module _ (net : PlainNet) (part : PlainNetComponent) where
     samples_fit (s ∷ ss) fit = (wanted s.wanted (sample_wire groups x first island s.point) (sample_fits s.point fit.0), samples_fit ss fit.1)
 
     active_fits : (o : PlainOccurrence) → OccurrenceFits groups timers (length island.points) o → HasWidth net part (is_active groups x first island o) 1
-    active_fits o fit =
-        (refl, bits_of net part (in_range groups x first island o.timer o.from o.to ++ map (as_wanted groups x first island) o.samples)
-        (are_both (λ e. HasWidth net part e 1) (in_range groups x first island o.timer o.from o.to) (map (as_wanted groups x first island) o.samples) (range_fits o.timer o.from o.to fit.timer fit.from fit.to)
-        (samples_fit o.samples fit.samples)))
+    active_fits o fit = (
+      refl,
+      bits_of net part (in_range groups x first island o.timer o.from o.to ++ map (as_wanted groups x first island) o.samples)
+          (are_both (λ e. HasWidth net part e 1) (in_range groups x first island o.timer o.from o.to) (map (as_wanted groups x first island) o.samples) (range_fits o.timer o.from o.to fit.timer fit.from fit.to)
+          (samples_fit o.samples fit.samples)),
+    )
 
     offset_fits : (o : PlainOccurrence) → OccurrenceFits groups timers (length island.points) o → HasWidth net part (offset_from groups x first island o) 32
     offset_fits o fit = (count_fits o.timer fit.timer, word_width ((2 ^ 32 - o.from) % 2 ^ 32) (mod_below (2 ^ 32 - o.from) (2 ^ 32) (omega arith)))
@@ -140,7 +140,7 @@ module _ (net : PlainNet) (part : PlainNetComponent) where
         let no_occurrence : 0 + length island.occurrences ≤ length island.occurrences = omega arith in (
           connects net part (suc x.wire) (both (at x) (island_done groups x first island)) ending (refl, (standing, (done, tt))),
           are_both (Drives net part) (timer_drivers groups x first island 0 island.timers) (point_drivers groups x first island 0 island.points ++ occurrence_drivers groups x first island 0 island.occurrences)
-          (timers_fit 0 island.timers no_timer fits.timers)
-          (are_both (Drives net part) (point_drivers groups x first island 0 island.points) (occurrence_drivers groups x first island 0 island.occurrences) (points_fit 0 island.points no_point fits.points)
-          (occurrences_fit 0 island.occurrences no_occurrence fits.occurrences)),
+              (timers_fit 0 island.timers no_timer fits.timers)
+              (are_both (Drives net part) (point_drivers groups x first island 0 island.points) (occurrence_drivers groups x first island 0 island.occurrences) (points_fit 0 island.points no_point fits.points)
+              (occurrences_fit 0 island.occurrences no_occurrence fits.occurrences)),
         )

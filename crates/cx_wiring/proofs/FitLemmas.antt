@@ -1,21 +1,20 @@
 -- What holds of all in a list, entries of a list from one on, and widths of expressions.
-use Rattle.std.proofs.Common.{◌≡◌, inl, inr, ℕ, zero, suc, ◌+◌, ◌<◌, ◌≤◌, Bool, true, false, ◌&&◌, if◌then◌else◌, List, [], ◌∷◌, ◌++◌, Option, Some, None, length, map, replicate, slice_get, refl, ap, sym, ◌∙◌, subst, arith}
-use Rattle.std.specs.Prelude.{◌^◌, nat_lt, nat_le, option_map, option_and_then, unwrap_or}
+use Rattle.std.proofs.Common.{◌≡◌, inl, inr, ℕ, zero, suc, ◌+◌, ◌<◌, ◌≤◌, ◌&&◌, if◌then◌else◌, List, [], ◌∷◌, ◌++◌, Some, None, length, map, replicate, slice_get, refl, ap, sym, ◌∙◌, subst, arith}
+use Rattle.std.specs.Prelude.{◌^◌, nat_lt, option_map, option_and_then, unwrap_or}
 use Rattle.std.proofs.lemmas.Bool.{le-leb, lt-ltb}
 use Rattle.std.proofs.lemmas.Option.{slice_get-map}
-use Rattle.cx_bits.specs.BitVector.{BitVector, Fits}
+use Rattle.cx_bits.specs.BitVector.{BitVector}
 use Rattle.cx_prim.specs.declared.names.PrimitiveName.TheVariants as primitives
-use Rattle.cx_prim.specs.Rows.{Row, IsOfWidth}
+use Rattle.cx_prim.specs.Rows.{IsOfWidth}
 use Rattle.cx_prim.specs.PipeRows.{timer_row}
 use Rattle.cx_prim.specs.Table.{no_row, row_of}
-use Rattle.cx_meaning.specs.declared.ports.PortRef.{PortRef}
 use Rattle.cx_meaning.specs.declared.ports.PortRef.TheVariants as ports
-use Rattle.cx_meaning.specs.Designs.{PlainKind, OfPrimitive, PlainCell}
+use Rattle.cx_meaning.specs.Designs.{PlainCell}
 use Rattle.cx_meaning.specs.Sights.{In}
-use Rattle.cx_net.specs.Nets.{PlainNetExpr, exprs_of, PlainNetTarget, ToWire, PlainNetDriver, PlainNetComponent, PlainNet}
-use Rattle.cx_net.specs.NetFits.{kind_width, port_width, HasPortWidth, HasWidth, AreBits, target_width}
+use Rattle.cx_net.specs.Nets.{PlainNetExpr, exprs_of, PlainNetComponent, PlainNet}
+use Rattle.cx_net.specs.NetFits.{kind_width, port_width, HasPortWidth, HasWidth, AreBits}
 use Rattle.cx_wiring.specs.Wiring.{kind_in, cell_in}
-use Rattle.cx_wiring.specs.Fitting.{Are, HasFrom, IsTimer, Drives}
+use Rattle.cx_wiring.specs.Fitting.{Are, HasFrom, IsTimer}
 
 pub in_joined : {A B : Type 0} (xs ys : List A) (x : A) → In (xs ++ ys) x → (In xs x → B) → (In ys x → B) → B
 in_joined [] ys x i f g = g i

@@ -331,8 +331,7 @@ module _ (net : PlainNet) (npart : PlainNetComponent) (part : PlainComponent) wh
       record {
         cells = whole.gathers.cells;
         islands = are_both (IslandHolds (island_gathered part form l.cells).cells) l.islands (island_of (form_length part form) (island_gathered part form l.cells) ∷ [])
-            (are_more (IslandHolds l.cells) (IslandHolds (island_gathered part form l.cells).cells) (island_in l.cells (island_gathered part form l.cells).cells whole.cells) l.islands holds.islands)
-            (
+            (are_more (IslandHolds l.cells) (IslandHolds (island_gathered part form l.cells).cells) (island_in l.cells (island_gathered part form l.cells).cells whole.cells) l.islands holds.islands) (
               record {
                 fits = record {
                   length_few = few;

@@ -1,31 +1,27 @@
 -- THE NET OF AN ACCEPTED DESIGN fits.
-use Rattle.std.proofs.Common.{◌≡◌, ℕ, zero, suc, ◌+◌, ◌-◌, ◌<◌, ◌≤◌, Bool, true, false, List, [], ◌∷◌, ◌++◌, length, map, replicate, Option, Some, None, slice_get, refl, ap, sym, ◌∙◌, subst, arith, length-append}
+use Rattle.std.proofs.Common.{◌≡◌, ℕ, zero, suc, ◌+◌, ◌-◌, ◌<◌, ◌≤◌, Bool, true, false, List, [], ◌∷◌, length, replicate, Option, Some, None, slice_get, refl, ap, sym, ◌∙◌, subst, arith}
 use Rattle.std.specs.Prelude.{◌^◌, option_map, option_and_then, unwrap_or, nat_lt, nat_eq, if◌then◌else◌}
-use Rattle.std.proofs.lemmas.Bool.{lt-ltb}
-use Rattle.std.proofs.lemmas.List.{length-replicate, length-map}
+use Rattle.std.proofs.lemmas.List.{length-replicate}
 use Rattle.std.proofs.lemmas.Option.{slice_get-map, slice_get-get_or}
-use Rattle.cx_prim.specs.Table.{HasRow, row_of}
 use Rattle.cx_meaning.specs.declared.ports.PortRef.TheVariants as ports
 use Rattle.cx_meaning.specs.Designs.{PlainKind, OfPrimitive, OfComponent, PlainCell, PlainComponent, PlainDesign, no_component, component_at}
-use Rattle.cx_meaning.specs.Sights.{In, part_port}
+use Rattle.cx_meaning.specs.Sights.{In}
 use Rattle.cx_rules.specs.Accepted.{IsAccepted}
-use Rattle.cx_rules.specs.Items.{Dynamic, visit, statements_in}
-use Rattle.cx_rules.specs.Ports.{part_width}
+use Rattle.cx_rules.specs.Items.{Dynamic, visit}
 use Rattle.cx_rules.specs.Sizes.{size_of, sizes_of, design_size}
-use Rattle.cx_rules.specs.Wellformed.{IsKind, IsExternal, IsDesign, is_memory}
+use Rattle.cx_rules.specs.Wellformed.{IsKind, IsExternal, IsDesign}
 use Rattle.cx_net.specs.Nets.{PlainNetTarget, ToPort, ToRegister, ToWire, ToHole, ToDone, PlainNetDriver, PlainNetComponent, PlainNet}
 use Rattle.cx_net.specs.NetFits as fits
 use Rattle.cx_net.specs.NetFits.{IsFitDriver, IsFitKind, IsFitComponent, IsExternalKind, IsFit}
-use Rattle.cx_net.specs.NetTree.{net_component_at}
-use Rattle.cx_static.specs.Islands.{PlainIsland, PlainLowered, PlainLowereds}
+use Rattle.cx_static.specs.Islands.{PlainLowered}
 use Rattle.cx_static.specs.Lowering.{after, unlowered, lowered_component, lowered_of}
 use Rattle.cx_wiring.specs.Counts.{wires_of, registers_of}
 use Rattle.cx_wiring.specs.IslandDrivers.{island_wires}
 use Rattle.cx_wiring.specs.Control.{control_drivers}
 use Rattle.cx_wiring.specs.Assignments.{driven_assigns, assigns_wires, assigns_drivers}
-use Rattle.cx_wiring.specs.Chains.{by_target, driven, chains, rest_widths}
+use Rattle.cx_wiring.specs.Chains.{rest_widths}
 use Rattle.cx_wiring.specs.Reached.{has_number, place_in, order}
-use Rattle.cx_wiring.specs.Wiring.{groups, first_of_control, first_of_assigns, bits, plain_wires, component_registers, plain_drivers, component_driven, width_in_part, kind_width, port_width, known_width, target_width, kind_in, cell_in, net_component, net_of}
+use Rattle.cx_wiring.specs.Wiring.{groups, first_of_control, first_of_assigns, bits, plain_wires, component_registers, plain_drivers, component_driven, width_in_part, kind_width, port_width, known_width, target_width, kind_in, cell_in, net_of}
 use Rattle.cx_wiring.specs.PartNets.{timer_cells, wired_in}
 use Rattle.cx_wiring.specs.Bounds.{IsProper, AllDrive}
 use Rattle.cx_wiring.specs.Fitting.{Are, HasFrom, HasRowKind, CellFits, IslandFits, Drives}
@@ -38,7 +34,7 @@ use Rattle.cx_wiring.proofs.NumberLemmas.{in_number}
 use Rattle.cx_wiring.proofs.TimerCells.{cells-lowered_component}
 use Rattle.cx_wiring.proofs.WayLemmas.{count_is, part_there, there, placed, net_long}
 use Rattle.cx_wiring.proofs.DesignNames.{control_named, islands_named, assigns_named}
-use Rattle.cx_wiring.proofs.FitLemmas.{are_both, are_at, are_each, are_more, there_at, slice_left, slice_right, slice_replicate, slice_below, from_whole, in_joined}
+use Rattle.cx_wiring.proofs.FitLemmas.{are_both, are_at, are_each, are_more, there_at, slice_left, slice_right, slice_replicate, from_whole, in_joined}
 use Rattle.cx_wiring.proofs.OrderHeights.{in_slice, closed, cell_first, stands_at, no_timer}
 use Rattle.cx_wiring.proofs.FitGuards.{IsBit, assigns_fit}
 use Rattle.cx_wiring.proofs.FitControl.{control_fits}

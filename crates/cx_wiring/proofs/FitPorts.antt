@@ -1,7 +1,7 @@
 -- A port that is there is as wide in the net of its component as in the design.
-use Rattle.std.proofs.Common.{◌≡◌, ℕ, zero, suc, ◌+◌, ◌-◌, ◌<◌, ◌≤◌, Bool, true, false, ◌&&◌, not, if◌then◌else◌, List, [], ◌∷◌, ◌++◌, length, map, Option, Some, None, slice_get, refl, ap, sym, ◌∙◌, subst, arith, length-append}
-use Rattle.std.specs.Prelude.{◌^◌, nat_lt, nat_le, nat_eq, option_map, option_and_then}
-use Rattle.std.proofs.lemmas.Bool.{ltb-true, leb-true, eqb-true}
+use Rattle.std.proofs.Common.{◌≡◌, ℕ, zero, suc, ◌+◌, ◌-◌, ◌<◌, ◌≤◌, Bool, true, false, ◌&&◌, if◌then◌else◌, List, [], ◌∷◌, ◌++◌, length, map, Some, None, slice_get, refl, ap, sym, ◌∙◌, subst, arith, length-append}
+use Rattle.std.specs.Prelude.{◌^◌, nat_lt, nat_le, option_map, option_and_then}
+use Rattle.std.proofs.lemmas.Bool.{ltb-true, leb-true}
 use Rattle.std.proofs.lemmas.Bool.Decides.{nat_tests}
 use Rattle.std.proofs.lemmas.List.{append_assoc, length-map}
 use Rattle.std.proofs.lemmas.Option.{slice_get-map}
@@ -12,7 +12,7 @@ use Rattle.cx_meaning.specs.declared.ports.PortRef.TheVariants as ports
 use Rattle.cx_meaning.specs.declared.kinds.PortDecl.{PortDecl}
 use Rattle.cx_meaning.specs.Designs.{PlainKind, OfPrimitive, OfComponent, PlainCell, PlainComponent, PlainDesign, component_at}
 use Rattle.cx_meaning.specs.Instances.{Instance, Cells, At, Nothing, OfRow, OfInstance, part_of, cells_of, cell_at, add_cell, cells_for, tree_within}
-use Rattle.cx_meaning.specs.Sights.{In, PartPort, Go, AnInput, AnOutput, ItsDone, output_port, part_port}
+use Rattle.cx_meaning.specs.Sights.{AnInput, AnOutput, ItsDone, output_port, part_port}
 use Rattle.cx_rules.specs.Ports.{component_of, keeps_literal, declared_width, part_width, cell_width, width_of}
 use Rattle.cx_rules.specs.ShapeRules.{is_hole}
 use Rattle.cx_rules.specs.Wellformed.{IsDesign, IsThere, port_count}
@@ -20,9 +20,8 @@ use Rattle.cx_rules.specs.WidthRules.{IsBadLiteral}
 use Rattle.cx_rules.proofs.CircleLemmas.{same_part}
 use Rattle.cx_net.specs.Nets.{PlainNetComponent, PlainNet}
 use Rattle.cx_net.specs.NetFits.{signature_widths, kind_width, port_width, HasPortWidth}
-use Rattle.cx_static.specs.Islands.{PlainLowereds}
 use Rattle.cx_static.specs.Lowering.{lowered_component, lowered_of}
-use Rattle.cx_wiring.specs.Reached.{has_number, place_in, order}
+use Rattle.cx_wiring.specs.Reached.{has_number, order}
 use Rattle.cx_wiring.specs.Wiring.{kind_in, cell_in, net_of}
 use Rattle.cx_wiring.specs.PartNets.{timer_cells, wired_in}
 use Rattle.cx_wiring.proofs.TimerCells.{cells-lowered_component}
@@ -76,6 +75,7 @@ signature_at part (suc m) w less e =
         let long : length (widths part.outputs) ≡ length part.outputs = length-map part.outputs (λ (decl : PortDecl). decl.width) in
         let past : r ≡ length (widths part.outputs) + 0 = (let h : length part.outputs ≤ r = not_less r (length part.outputs) out in omega (arith, long)) in
         ap (slice_get (tail part)) past ∙ slice_right (widths part.outputs) (1 ∷ []) 0
+
     by_output : (r : ℕ) (b : Bool) → r < suc (length part.outputs) → nat_lt r (length part.outputs) ≡ b → part_width part (if b then AnOutput r else ItsDone) ≡ Some w → slice_get (tail part) r ≡ Some w
     by_output r true few is f = slice_left (widths part.outputs) (1 ∷ []) r w (slice_widths part.outputs r w f)
     by_output r false few is f = done_at r few is ∙ f
@@ -92,6 +92,7 @@ signature_at part (suc m) w less e =
         ap (slice_get (widths part.inputs ++ (tail part))) same
         ∙ slice_right (widths part.inputs) (tail part) (m - length part.inputs)
         ∙ by_output (m - length part.inputs) (nat_lt (m - length part.inputs) (length part.outputs)) few refl f
+
 -- LITERALS
 literal_parts : (a b c : Bool) → (a && b && c) ≡ true → (a ≡ true) × (b ≡ true) × (c ≡ true)
 literal_parts true true true e = (refl, refl, refl)

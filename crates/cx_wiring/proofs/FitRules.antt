@@ -1,6 +1,6 @@
 -- What the rules say of the statements and the assignments of an accepted design, in its net: tests and atoms are bits, targets and
 -- sources, and what is compared, are equally wide, and lengths, counts and ranges are numbers of 32 bits.
-use Rattle.std.proofs.Common.{◌≡◌, inl, inr, ℕ, zero, suc, ◌+◌, ◌<◌, ◌≤◌, Bool, true, false, ◌&&◌, ◌||◌, not, cond, if◌then◌else◌, List, [], ◌∷◌, ◌++◌, length, Option, Some, None, slice_get, get_or, refl, ap, sym, ◌∙◌, subst, arith}
+use Rattle.std.proofs.Common.{◌≡◌, inl, inr, ℕ, ◌+◌, ◌<◌, ◌≤◌, Bool, true, false, ◌&&◌, ◌||◌, not, cond, if◌then◌else◌, List, [], ◌∷◌, length, Option, Some, None, slice_get, get_or, refl, ap, sym, ◌∙◌, subst, arith}
 use Rattle.std.specs.Prelude.{◌^◌, nat_lt, nat_le, nat_eq, filter, option_map}
 use Rattle.std.proofs.lemmas.Bool.{ltb-true, eqb-true}
 use Rattle.std.proofs.lemmas.Bool.Decides.{nat_tests}
@@ -12,7 +12,7 @@ use Rattle.cx_meaning.specs.declared.ports.PortRef.TheVariants as ports
 use Rattle.cx_meaning.specs.declared.ports.PlacedPort.{PlacedPort}
 use Rattle.cx_meaning.specs.declared.kinds.GroupKind.{GroupKind}
 use Rattle.cx_meaning.specs.declared.kinds.GroupKind.TheVariants as kinds
-use Rattle.cx_meaning.specs.Designs.{PlainGuard, Always, Atom, Negation, All, Any, Compared, Within, PlainGuards, no_guards, a_guard, PlainAssign, PlainGroup, PlainComponent, PlainDesign, component_at, group_at, no_group}
+use Rattle.cx_meaning.specs.Designs.{PlainGuard, Always, Atom, Negation, All, Any, Compared, Within, PlainGuards, no_guards, a_guard, PlainAssign, PlainGroup, PlainComponent, PlainDesign, component_at, no_group}
 use Rattle.cx_meaning.specs.Instances.{Instance, part_of}
 use Rattle.cx_meaning.specs.Active.{Owned, source_order}
 use Rattle.cx_meaning.specs.Islands.{kind_length, group_length, form_length}
@@ -20,8 +20,8 @@ use Rattle.cx_meaning.specs.Sights.{In}
 use Rattle.cx_rules.specs.Accepted.{IsAccepted}
 use Rattle.cx_rules.specs.Items.{Pair, atoms_of, atoms_in, comparisons_of, comparisons_in, operands_of, operands_in, Range, ranges_of, ranges_in, sources_of, Visited, statements_in, test_in}
 use Rattle.cx_rules.specs.LimitRule.{Limited, OnRepeat, OnOccurrences, OnLatency, word_of, count_in, is_too_many, statement_limit}
-use Rattle.cx_rules.specs.Ports.{component_of, keeps_literal, width_of, written_width, is_source_only, path_of}
-use Rattle.cx_rules.specs.ShapeRules.{is_hole, owner_length, is_bad_range}
+use Rattle.cx_rules.specs.Ports.{keeps_literal, width_of, written_width, is_source_only, path_of}
+use Rattle.cx_rules.specs.ShapeRules.{owner_length, is_bad_range}
 use Rattle.cx_rules.specs.Spots.{AnAssign, AStatement}
 use Rattle.cx_rules.specs.StaticControl.{is_island, form_occurrences}
 use Rattle.cx_rules.specs.Wellformed.{IsDesign, IsThere, IsAssign, StandsIn, IsStatement, IsForm}
@@ -29,7 +29,7 @@ use Rattle.cx_rules.specs.WidthRules.{differ, pairs_of, first_unequal, is_wide, 
 use Rattle.cx_rules.proofs.Finite.{in_left, in_right}
 use Rattle.cx_control.proofs.StaticLemmas.{all_may, static_lasts, group_lasts}
 use Rattle.cx_net.specs.NetFits.{HasPortWidth, target_width}
-use Rattle.cx_static.specs.Islands.{PlainOccurrence, PlainIsland, PlainLowered}
+use Rattle.cx_static.specs.Islands.{PlainOccurrence, PlainIsland}
 use Rattle.cx_static.specs.Lowering.{lowered_component, lowered_of}
 use Rattle.cx_wiring.specs.Assignments.{occurs_among, occurs_in, kind_drives, owner_drives, is_driven, driven_assigns, target_of}
 use Rattle.cx_wiring.specs.Reached.{has_number, order}
@@ -37,11 +37,10 @@ use Rattle.cx_wiring.specs.Bounds.{IsProper}
 use Rattle.cx_wiring.specs.Fitting.{Are, GuardFits, GuardsFit, AssignFits, OwnerFits, OwnedFits}
 use Rattle.cx_wiring.proofs.DesignNames.{in_filter, stands_in}
 use Rattle.cx_wiring.proofs.WayLemmas.{there}
-use Rattle.cx_wiring.proofs.OrderHeights.{in_slice}
 use Rattle.cx_wiring.proofs.FitLemmas.{number_of, are_each}
 use Rattle.cx_wiring.proofs.FitIslands.{hole_width}
 use Rattle.cx_wiring.proofs.FitLowering.{Fine, IsShort}
-use Rattle.cx_wiring.proofs.FitPorts.{whole, net, npart, part_is, cell_wide, port_wide, width_some}
+use Rattle.cx_wiring.proofs.FitPorts.{whole, net, npart, part_is, port_wide, width_some}
 
 other : {A : Type 0} → false ≡ true → A
 other e = absurd cc

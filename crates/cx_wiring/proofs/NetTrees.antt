@@ -11,7 +11,7 @@ use Rattle.cx_net.specs.NetMeaning.{NetState}
 use Rattle.cx_net.specs.NetTree.{NetInstance, NetNode, NetCells, a_row, a_child, add_net_cell, net_cells_for, net_within, net_tree}
 use Rattle.cx_static.specs.Islands.{PlainLowereds}
 use Rattle.cx_static.specs.Lowering.{lowered_of}
-use Rattle.cx_wiring.specs.Reached.{has_number, place_in, component_of_kind, components_of, reached_from, count, order}
+use Rattle.cx_wiring.specs.Reached.{has_number, place_in, component_of_kind, components_of, reached_from, order}
 use Rattle.cx_wiring.specs.Wiring.{kind_in, cell_in, net_of}
 use Rattle.cx_wiring.specs.PartNets.{row_of_kind, rows_among, timer_cells, timers_of, wired_in}
 use Rattle.cx_wiring.specs.Blocks.{rows_alone, net_of_instance, net_of_cells}

@@ -4,18 +4,16 @@ use Rattle.std.specs.Prelude.{filter, flat_map, filter_map}
 use Rattle.std.specs.List.{cons_option}
 use Rattle.std.proofs.lemmas.Bool.{eqb-true}
 use Rattle.std.proofs.lemmas.List.{append-nil}
-use Rattle.std.proofs.lemmas.Option.{slice_get-get_or}
-use Rattle.cx_meaning.specs.Designs.{PlainKind, OfPrimitive, OfComponent, PlainCell, PlainDesign, component_at, no_component}
+use Rattle.cx_meaning.specs.Designs.{PlainKind, OfPrimitive, OfComponent, PlainCell, PlainDesign, component_at}
 use Rattle.cx_meaning.specs.Sights.{In}
 use Rattle.cx_rules.specs.Wellformed.{by_cell, IsDesign}
-use Rattle.cx_net.specs.Nets.{PlainNet}
 use Rattle.cx_net.specs.NetTree.{no_net_component, net_component_at}
 use Rattle.cx_static.specs.Islands.{PlainLowereds}
 use Rattle.cx_static.specs.Lowering.{lowered_component, lowered_of}
 use Rattle.cx_wiring.specs.Reached.{numbers_from, has_number, place_in, component_of_kind, components_of, cells_at, below, reached_from, highest, height_of, height, count, reached, order}
 use Rattle.cx_wiring.specs.Wiring.{net_component, net_of}
 use Rattle.cx_wiring.specs.PartNets.{timer_cells, wired_in}
-use Rattle.cx_wiring.proofs.MainLaws.{order_below, order_main, get_or_map}
+use Rattle.cx_wiring.proofs.MainLaws.{order_main, get_or_map}
 use Rattle.cx_wiring.proofs.NumberLemmas.{number_in, in_number}
 use Rattle.cx_wiring.proofs.TimerCells.{cells-lowered_component, components_of-timer_cells}
 use Rattle.cx_wiring.proofs.WayLemmas.{number_of_cell, count_is, part_there, there, IsWay, here_of, few_of_design, way_on, Reaches, step_on, alone}
