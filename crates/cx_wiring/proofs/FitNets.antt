@@ -11,6 +11,7 @@ use Rattle.cx_rules.specs.Items.{Dynamic, visit}
 use Rattle.cx_rules.specs.Sizes.{size_of, sizes_of, design_size}
 use Rattle.cx_rules.specs.Wellformed.{IsKind, IsExternal, IsDesign}
 use Rattle.cx_net.specs.Nets.{PlainNetTarget, ToPort, ToRegister, ToWire, ToHole, ToDone, PlainNetDriver, PlainNetComponent, PlainNet}
+use Rattle.cx_net.specs.NetMeaning.{drivers_to}
 use Rattle.cx_net.specs.NetFits as fits
 use Rattle.cx_net.specs.NetFits.{IsFitDriver, IsFitKind, IsFitComponent, IsExternalKind, IsFit}
 use Rattle.cx_static.specs.Islands.{PlainLowered}
@@ -19,7 +20,7 @@ use Rattle.cx_wiring.specs.Counts.{wires_of, registers_of}
 use Rattle.cx_wiring.specs.IslandDrivers.{island_wires}
 use Rattle.cx_wiring.specs.Control.{control_drivers}
 use Rattle.cx_wiring.specs.Assignments.{driven_assigns, assigns_wires, assigns_drivers}
-use Rattle.cx_wiring.specs.Chains.{rest_widths}
+use Rattle.cx_wiring.specs.Chains.{by_target, rest_widths}
 use Rattle.cx_wiring.specs.Reached.{has_number, place_in, order}
 use Rattle.cx_wiring.specs.Wiring.{groups, first_of_control, first_of_assigns, bits, plain_wires, component_registers, plain_drivers, component_driven, width_in_part, kind_width, port_width, known_width, target_width, kind_in, cell_in, net_of}
 use Rattle.cx_wiring.specs.PartNets.{timer_cells, wired_in}
@@ -28,7 +29,13 @@ use Rattle.cx_wiring.specs.Fitting.{Are, HasFrom, HasRowKind, CellFits, IslandFi
 use Rattle.cx_wiring.proofs.RoomLemmas.{drive_both, Room, Wires}
 use Rattle.cx_wiring.proofs.ControlTargets.{control_drives}
 use Rattle.cx_wiring.proofs.AssignTargets.{assigns_drive}
+use Rattle.cx_wiring.proofs.ChainTargets.{by_target_drive, all_driven}
 use Rattle.cx_wiring.proofs.NetTargets.{plain_wires_count}
+use Rattle.cx_wiring.proofs.AwayLaws.{differs}
+use Rattle.cx_wiring.proofs.RankLemmas.{by_target_sorted}
+use Rattle.cx_wiring.proofs.DrivenLemmas.{driven_entries}
+use Rattle.cx_wiring.proofs.ComponentTakes.{IsPlain, plain_both, not_wires}
+use Rattle.cx_wiring.proofs.ChainCounts.{chains_few}
 use Rattle.cx_wiring.proofs.MainLaws.{order_main}
 use Rattle.cx_wiring.proofs.NumberLemmas.{in_number}
 use Rattle.cx_wiring.proofs.TimerCells.{cells-lowered_component}
@@ -219,6 +226,39 @@ module _ (d : PlainDesign) (rules : IsDesign d) (accepted : IsAccepted d) (k : �
       })
       (plain_drivers low) plain_drive plain_before)
       rest_wire
+
+  -- the drivers without rests drive what may be driven, and no rest
+  plain_all : (ds : List PlainNetDriver) → Are (Drives N C) ds → AllDrive IsBefore ds → AllDrive (IsPlain (length (plain_wires low))) ds
+  plain_all [] fit before = tt
+  plain_all (driver ∷ ds) fit before = (plain_one driver.target fit.0.proper before.0, plain_all ds fit.1 before.1)
+    where
+      plain_one : (t : PlainNetTarget) → IsProper t → IsBefore t → IsPlain (length (plain_wires low)) t
+      plain_one (ToPort (ports.Cell c p)) proper earlier = (tt, λ m from. refl)
+      plain_one (ToPort (ports.Output n)) proper earlier = (tt, λ m from. refl)
+      plain_one (ToPort (ports.Input n)) proper earlier = absurd proper
+      plain_one (ToPort (ports.Done g)) proper earlier = absurd proper
+      plain_one (ToPort (ports.Literal u v)) proper earlier = absurd proper
+      plain_one (ToRegister n) proper earlier = (tt, λ m from. refl)
+      plain_one (ToWire n) proper earlier = (tt, λ m from. differs n m (λ e. omega arith))
+      plain_one (ToHole n) proper earlier = (tt, λ m from. refl)
+      plain_one ToDone proper earlier = (tt, λ m from. refl)
+
+  pub drivers_plain : AllDrive (IsPlain (length (plain_wires low))) (plain_drivers low)
+  drivers_plain = plain_all (plain_drivers low) plain_drive plain_before
+
+  all_proper : (ds : List PlainNetDriver) → Are (Drives N C) ds → AllDrive IsProper ds
+  all_proper [] fit = tt
+  all_proper (driver ∷ ds) fit = (fit.0.proper, all_proper ds fit.1)
+
+  -- NO TARGET has more than 17 drivers
+  pub targets_few : (t : PlainNetTarget) → length (drivers_to t C.drivers) ≤ 17
+  targets_few =
+      let proper = plain_both (length (plain_wires low)) (plain_drivers low) drivers_plain in
+      chains_few (component_driven low) (length (plain_wires low))
+      (driven_entries (by_target (plain_drivers low)) (by_target_drive IsProper (plain_drivers low) proper) (by_target_sorted (plain_drivers low))).0
+      (not_wires (length (plain_wires low)) (component_driven low)
+      (all_driven (IsPlain (length (plain_wires low))) (by_target (plain_drivers low)) (by_target_drive (IsPlain (length (plain_wires low))) (plain_drivers low) drivers_plain)))
+      (all_proper C.drivers component_drives)
 
   -- CELLS
   kind_fits : (kind : PlainKind) → HasRowKind kind → (n : ℕ) → ((j : ℕ) → kind ≡ OfComponent j → place_in j (order (lowered_of d)) < n) → IsFitKind n (kind_in (order (lowered_of d)) kind)

@@ -61,4 +61,6 @@ pub mod FitChains
 pub mod FitLowering
 pub mod FitPorts
 pub mod FitRules
+pub mod MainOrder
+pub mod ChainCounts
 pub mod FitNets

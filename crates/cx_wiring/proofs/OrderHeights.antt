@@ -21,7 +21,7 @@ use Rattle.cx_wiring.proofs.DesignNames.{in_filter}
 use Rattle.cx_wiring.proofs.FitLemmas.{in_joined}
 
 -- LISTS of numbers
-in_flat_map : (f : ℕ → List ℕ) (hs : List ℕ) (x : ℕ) → In (flat_map f hs) x → (h : ℕ) × In hs h × In (f h) x
+pub in_flat_map : (f : ℕ → List ℕ) (hs : List ℕ) (x : ℕ) → In (flat_map f hs) x → (h : ℕ) × In hs h × In (f h) x
 in_flat_map f [] x i = absurd i
 in_flat_map f (h ∷ hs) x i = in_joined (f h) (flat_map f hs) x i (λ j. (h, inl refl, j)) (λ j. let r = in_flat_map f hs x j in (r.0, inr r.1, r.2))
 
@@ -66,22 +66,22 @@ module _ (d : PlainLowereds) where
   highest_has (n ∷ rest) x (inr i) = let h : x ≤ highest d rest = highest_has rest x i in omega arith
 
   -- BY HEIGHT: none of a list is lower than a height, each is as high, none is lower than one before it
-  abbrev NoneLower : ℕ → List ℕ → Type 0
+  abbrev pub NoneLower : ℕ → List ℕ → Type 0
   NoneLower h [] = Unit {0}
   NoneLower h (n ∷ rest) = (h ≤ height d n) × NoneLower h rest
 
-  abbrev AreOf : ℕ → List ℕ → Type 0
+  abbrev pub AreOf : ℕ → List ℕ → Type 0
   AreOf h [] = Unit {0}
   AreOf h (n ∷ rest) = (height d n ≡ h) × AreOf h rest
 
-  abbrev Ascends : List ℕ → Type 0
+  abbrev pub Ascends : List ℕ → Type 0
   Ascends [] = Unit {0}
   Ascends (n ∷ rest) = NoneLower (height d n) rest × Ascends rest
 
-  abbrev level : ℕ → List ℕ → List ℕ
+  abbrev pub level : ℕ → List ℕ → List ℕ
   level h ns = filter (λ k. nat_eq (height d k) h) ns
 
-  level_of : (h : ℕ) (ns : List ℕ) → AreOf h (level h ns)
+  pub level_of : (h : ℕ) (ns : List ℕ) → AreOf h (level h ns)
   level_of h [] = tt
   level_of h (n ∷ ns) = one (nat_eq (height d n) h) refl (level_of h ns)
     where
@@ -101,12 +101,12 @@ module _ (d : PlainLowereds) where
   none_both h [] ys none nor = nor
   none_both h (x ∷ xs) ys none nor = (none.0, none_both h xs ys none.1 nor)
 
-  none_in : (h : ℕ) (xs : List ℕ) (x : ℕ) → NoneLower h xs → In xs x → h ≤ height d x
+  pub none_in : (h : ℕ) (xs : List ℕ) (x : ℕ) → NoneLower h xs → In xs x → h ≤ height d x
   none_in h [] x none i = absurd i
   none_in h (y ∷ xs) x none (inl e) = subst (λ z. h ≤ height d z) e none.0
   none_in h (y ∷ xs) x none (inr i) = none_in h xs x none.1 i
 
-  levels_none : (a n : ℕ) (ns : List ℕ) → NoneLower a (flat_map (λ h. level h ns) (numbers_from a n))
+  pub levels_none : (a n : ℕ) (ns : List ℕ) → NoneLower a (flat_map (λ h. level h ns) (numbers_from a n))
   levels_none a zero ns = tt
   levels_none a (suc n) ns =
       none_both a (level a ns) (flat_map (λ h. level h ns) (numbers_from (suc a) n)) (none_of_level a a (level a ns) (omega arith) (level_of a ns))
@@ -125,7 +125,7 @@ module _ (d : PlainLowereds) where
       ascends_both a (level a ns) (flat_map (λ h. level h ns) (numbers_from (suc a) n)) (level_of a ns)
       (none_less a (suc a) (flat_map (λ h. level h ns) (numbers_from (suc a) n)) (omega arith) (levels_none (suc a) n ns)) (levels_ascend (suc a) n ns)
 
-  order_ascends : Ascends (order d)
+  pub order_ascends : Ascends (order d)
   order_ascends = levels_ascend 0 (suc (count d)) (reached d)
 
   placed_before : (c k : ℕ) (rest : List ℕ) (same here : Bool) → (here ≡ true → place_in c rest < k) → (if same then 0 else (if here then suc (place_in c rest) else 0)) < suc k
@@ -148,10 +148,10 @@ kind_named (OfPrimitive primitive) c i = absurd i
 kind_named (OfComponent k) c (inl e) = ap OfComponent e
 kind_named (OfComponent k) c (inr none) = absurd none
 
-record IsCellOf (cells : List PlainCell) (c : ℕ) : Type 0 where
-  cell : PlainCell
-  stands : In cells cell
-  is : cell.kind ≡ OfComponent c
+pub record IsCellOf (cells : List PlainCell) (c : ℕ) : Type 0 where
+  pub cell : PlainCell
+  pub stands : In cells cell
+  pub is : cell.kind ≡ OfComponent c
 
 cell_named : (c : ℕ) (cells : List PlainCell) → In (components_of cells) c → IsCellOf cells c
 cell_named c [] i = absurd i
@@ -177,7 +177,7 @@ module _ (d : PlainDesign) (rules : IsDesign d) where
       cc
 
   -- the components below one are those of its cells
-  cell_below : (k c : ℕ) → k < levels → In (below low k) c → IsCellOf (component_at d k).cells c
+  pub cell_below : (k c : ℕ) → k < levels → In (below low k) c → IsCellOf (component_at d k).cells c
   cell_below k c within i =
       let all : below low k ≡ components_of ((component_at d k).cells ++ timer_cells (component_at d k)) =
       ap (λ o. components_of (cells_at o)) (part_there d rules k within) ∙ ap components_of (cells-lowered_component (component_at d k)) in
@@ -198,7 +198,7 @@ module _ (d : PlainDesign) (rules : IsDesign d) where
       closed_from n r.0 (k ∷ seen) step.way (omega (arith, left)) step.reach x (in_number x (reached_from low n r.0) r.2) cell j i is)
       (number_in x (reached_from low (suc n) k) h)
 
-  from_main : (k : ℕ) → has_number k places ≡ true → has_number k (reached_from low (count low) low.main) ≡ true
+  pub from_main : (k : ℕ) → has_number k places ≡ true → has_number k (reached_from low (count low) low.main) ≡ true
   from_main k here =
       let r = in_flat_map (λ h. level low h (reached low)) (numbers_from 0 (suc (count low))) k (number_in k places here) in
       passes (λ j. has_number j (reached_from low (count low) low.main)) (numbers_from 0 (count low)) k (in_filter (λ j. nat_eq (height low j) r.0) (reached low) k r.2)
@@ -231,7 +231,7 @@ module _ (d : PlainDesign) (rules : IsDesign d) where
   some_level zero k h = absurd (omega arith)
   some_level (suc n) k h = (n, refl)
 
-  lower : (k : ℕ) → has_number k places ≡ true → (cell : PlainCell) (c : ℕ) → In (component_at d k).cells cell → cell.kind ≡ OfComponent c → height low c < height low k
+  pub lower : (k : ℕ) → has_number k places ≡ true → (cell : PlainCell) (c : ℕ) → In (component_at d k).cells cell → cell.kind ≡ OfComponent c → height low c < height low k
   lower k here cell c i is =
       let within : k < levels = there d rules k here in
       let on = subst (λ x. k < x) (sym (count_is d rules)) within in
