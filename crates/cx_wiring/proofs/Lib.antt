@@ -63,4 +63,6 @@ pub mod FitPorts
 pub mod FitRules
 pub mod MainOrder
 pub mod ChainCounts
+pub mod RowPorts
+pub mod WireWidths
 pub mod FitNets
