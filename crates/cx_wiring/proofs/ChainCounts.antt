@@ -1,6 +1,6 @@
 -- No target has more than 17 drivers in the net of a component: 16 of its own, or 16 at a rest, and one that leads to the next rest or
 -- closes the chain.
-use Rattle.std.proofs.Common.{◌≡◌, inl, inr, ⊎_elim, ℕ, zero, suc, ◌+◌, ◌-◌, ◌<◌, ◌≤◌, Bool, true, false, if◌then◌else◌, List, [], ◌∷◌, ◌++◌, length, refl, sym, ap, ◌∙◌, subst, arith, length-append}
+use Rattle.std.proofs.Common.{◌≡◌, ⊎_elim, ℕ, zero, suc, ◌+◌, ◌-◌, ◌≤◌, Bool, true, false, if◌then◌else◌, List, [], ◌∷◌, length, refl, ap, ◌∙◌, arith, length-append}
 use Rattle.std.specs.Prelude.{nat_eq}
 use Rattle.std.proofs.lemmas.Bool.{eqb-true, cases_lt}
 use Rattle.cx_meaning.specs.declared.ports.PortRef.TheVariants as ports
@@ -13,7 +13,7 @@ use Rattle.cx_wiring.proofs.AwayLaws.{differs}
 use Rattle.cx_wiring.proofs.RestLaws.{standing}
 use Rattle.cx_wiring.proofs.RestTargets.{drop_head, to_append, chain_dropped, chain_kept}
 use Rattle.cx_wiring.proofs.RestReads.{NotWires, chains_below}
-use Rattle.cx_wiring.proofs.ChainLaws.{NoWireFrom, all_dropped, stand_of, chains_stand}
+use Rattle.cx_wiring.proofs.ChainLaws.{all_dropped, stand_of, chains_stand}
 use Rattle.cx_wiring.proofs.DrivenLemmas.{AreEntries}
 
 closing_few : (whole at : PlainNetTarget) → length (closing whole at) ≤ 1
@@ -88,7 +88,7 @@ chains_wire_few : (ts : List Driven) (base n wire : ℕ) → base ≤ wire → w
 chains_wire_few [] base n wire low from free = omega arith
 chains_wire_few (u ∷ us) base n wire low from free =
     let parts : length (drivers_to (ToWire n) (chains wire (u ∷ us)))
-        ≡ length (drivers_to (ToWire n) (chain u.target u.target wire together u.drivers)) + length (drivers_to (ToWire n) (chains (wire + rests together u.drivers) us)) =
+    ≡ length (drivers_to (ToWire n) (chain u.target u.target wire together u.drivers)) + length (drivers_to (ToWire n) (chains (wire + rests together u.drivers) us)) =
     ap length (to_append (ToWire n) (chain u.target u.target wire together u.drivers) (chains (wire + rests together u.drivers) us))
     ∙ length-append (drivers_to (ToWire n) (chain u.target u.target wire together u.drivers)) (drivers_to (ToWire n) (chains (wire + rests together u.drivers) us)) in
     let there : base ≤ n = omega arith in

@@ -63,6 +63,7 @@ pub mod FitPorts
 pub mod FitRules
 pub mod MainOrder
 pub mod ChainCounts
+pub mod NestDrivers
 pub mod RowPorts
 pub mod WireWidths
 pub mod FitNets

@@ -1,5 +1,5 @@
 -- The registers and wires of the net of a component have 1 to 128 bits.
-use Rattle.std.proofs.Common.{◌≡◌, inl, inr, ℕ, zero, suc, ◌+◌, ◌-◌, ◌<◌, ◌≤◌, Bool, true, false, if◌then◌else◌, List, [], ◌∷◌, ◌++◌, length, map, replicate, Option, Some, None, slice_get, refl, ap, sym, ◌∙◌, subst, arith}
+use Rattle.std.proofs.Common.{◌≡◌, inl, inr, ℕ, zero, suc, ◌-◌, ◌<◌, Bool, true, false, if◌then◌else◌, List, [], ◌∷◌, ◌++◌, length, replicate, Option, Some, None, slice_get, refl, ap, sym, ◌∙◌, subst, arith}
 use Rattle.std.specs.Prelude.{nat_lt, option_map, unwrap_or, All}
 use Rattle.std.proofs.lemmas.List.Elements.{All-nil, All-cons}
 use Rattle.std.proofs.lemmas.Option.{slice_get-map, slice_get-get_or}
@@ -9,18 +9,17 @@ use Rattle.cx_prim.specs.Table.{row_of}
 use Rattle.cx_meaning.specs.declared.ports.PortRef.TheVariants as ports
 use Rattle.cx_meaning.specs.declared.kinds.PortDecl.{PortDecl}
 use Rattle.cx_meaning.specs.Designs.{PlainKind, OfPrimitive, OfComponent, PlainCell, PlainComponent, PlainDesign, no_component, component_at, PlainForm, Empty, Enable, Seq, Par, If, While, Repeat, StaticSeq, StaticPar, StaticIf, StaticRepeat, Timed, PlainStatement, Placed, PlainStatements, no_statements, a_statement}
-use Rattle.cx_meaning.specs.Sights.{In, AnInput, AnOutput, ItsDone, output_port, part_port}
+use Rattle.cx_meaning.specs.Sights.{AnInput, AnOutput, ItsDone, output_port, part_port}
 use Rattle.cx_rules.specs.Ports.{declared_width, part_width}
 use Rattle.cx_rules.specs.Wellformed.{IsSignature, IsDesign}
 use Rattle.cx_net.specs.Nets.{PlainNetTarget, ToPort, ToRegister, ToWire, ToHole, ToDone}
-use Rattle.cx_static.specs.Islands.{PlainIsland, PlainLowered, PlainLowereds}
+use Rattle.cx_static.specs.Islands.{PlainIsland, PlainLowered}
 use Rattle.cx_static.specs.Lowering.{lowered_component, lowered_of}
 use Rattle.cx_wiring.specs.Counts.{sample_registers, form_registers, registers_of, registers_in, arms_registers}
 use Rattle.cx_wiring.specs.Chains.{Driven, together, rests, rest_widths}
 use Rattle.cx_wiring.specs.Wiring.{groups, bits, plain_wires, component_registers, component_driven, width_in_part, kind_width, port_width, known_width, target_width}
 use Rattle.cx_wiring.specs.Fitting.{Are}
 use Rattle.cx_wiring.proofs.OrderHeights.{in_slice}
-use Rattle.cx_wiring.proofs.WayLemmas.{part_there}
 use Rattle.cx_wiring.proofs.FitLemmas.{are_both, are_at, slice_below}
 use Rattle.cx_wiring.proofs.RowPorts.{ports_wide}
 
