@@ -1,11 +1,11 @@
 #!/usr/bin/env python3
-"""Runs the commands of docs/TUTORIAL.md, and compares what they print with the page.
+"""Runs the commands of docs/TUTORIAL.md and docs/VERILOG.md, and compares what they print with the pages.
 
     bench/pages.py PROGRAM [--write]
 
 PROGRAM is the built calyx_cli. A block that is fenced as `file NAME` is written to that file, one that is fenced as `console` has commands behind `$ `, each
-followed by what it prints, on either stream. They run in one new folder, with the program on the path and YARNCHERT as this repository. A command
-with a tool that is not installed is left out, which is told. With --write the page gets what the commands print.
+followed by what it prints, on either stream. Those of a page run in one new folder, with the program on the path and YARNCHERT as this repository. A command
+with a tool that is not installed is left out, which is told. With --write the pages get what the commands print.
 """
 import os
 import re
@@ -15,7 +15,7 @@ import sys
 import tempfile
 
 TOP = os.path.abspath(os.path.join(os.path.dirname(os.path.abspath(__file__)), '..'))
-PAGE = os.path.join(TOP, 'docs', 'TUTORIAL.md')
+PAGES = [os.path.join(TOP, 'docs', name) for name in ('TUTORIAL.md', 'VERILOG.md')]
 TOOLS = ('iverilog', 'vvp', 'verilator', 'yosys')
 
 
@@ -51,11 +51,11 @@ def told(block, folder, program, wrong):
     return made
 
 
-def main():
-    program = os.path.abspath(sys.argv[1])
-    with open(PAGE, encoding='utf-8') as file:
-        page = file.read()
-    wrong, blocks = [], re.split(r'(^```.*?^```$)', page, flags=re.M | re.S)
+def follow(path, program, writes):
+    """How many commands a page has, and those that print something else."""
+    with open(path, encoding='utf-8') as file:
+        blocks = re.split(r'(^```.*?^```$)', file.read(), flags=re.M | re.S)
+    wrong = []
     with tempfile.TemporaryDirectory(prefix='pages_') as folder:
         for number, block in enumerate(blocks):
             named = re.match(r'```file (\S+)\n(.*)```$', block, flags=re.S)
@@ -65,14 +65,22 @@ def main():
                     to.write(named.group(2))
             elif typed:
                 blocks[number] = '```console\n' + told(typed.group(1), folder, program, wrong) + '```'
-    if sys.argv[2:] == ['--write']:
-        with open(PAGE, 'w', encoding='utf-8') as file:
+    if writes:
+        with open(path, 'w', encoding='utf-8') as file:
             file.write(''.join(blocks))
-    else:
+    return sum(block.count('\n$ ') for block in blocks if block.startswith('```console')), wrong
+
+
+def main():
+    program, writes = os.path.abspath(sys.argv[1]), sys.argv[2:] == ['--write']
+    commands, wrong = 0, []
+    for path in PAGES:
+        count, others = follow(path, program, writes)
+        commands, wrong = commands + count, wrong + others
+    if not writes:
         print(*wrong, sep='\n')
-    commands = sum(block.count('\n$ ') for block in blocks if block.startswith('```console'))
     print(f'{commands - len(wrong)} passed, {len(wrong)} failed')
-    return 1 if wrong else 0
+    return 1 if wrong or not commands else 0
 
 
 if __name__ == '__main__':
