@@ -1,18 +1,17 @@
 -- The edge, the start and the words of a net without holes.
-use Rattle.std.proofs.Common.{◌≡◌, ℕ, zero, suc, ◌+◌, Bool, true, false, if◌then◌else◌, List, [], ◌∷◌, ◌++◌, length, map, Option, Some, None, unwrap_or, refl, sym, ap, ap₂, ◌∙◌, subst}
+use Rattle.std.proofs.Common.{◌≡◌, ℕ, zero, suc, Bool, true, false, if◌then◌else◌, List, [], ◌∷◌, length, map, Some, unwrap_or, refl, ap, ap₂, ◌∙◌, subst}
 use Rattle.std.specs.Option.{option_map_or}
 use Rattle.std.proofs.Math.Path.{fun_ext}
-use Rattle.cx_bits.specs.BitVector.{BitVector}
-use Rattle.cx_prim.specs.CellStates.{CellState, Stateless}
+use Rattle.cx_prim.specs.CellStates.{CellState}
 use Rattle.cx_prim.specs.declared.ports.PortRow.{PortRow}
-use Rattle.cx_prim.specs.Rows.{Inputs, Row, reset}
+use Rattle.cx_prim.specs.Rows.{Row}
 use Rattle.cx_meaning.specs.declared.ports.PortRef.{PortRef}
 use Rattle.cx_meaning.specs.declared.ports.PortRef.TheVariants as ports
 use Rattle.cx_meaning.specs.Instances.{Path, loaded_at}
 use Rattle.cx_net.specs.Nets.{PlainNetDriver, PlainNetComponent, ToRegister}
 use Rattle.cx_net.specs.NetTree.{NetInstance, NetNode, NetCells, no_net_cells, a_row, a_child, net_part}
-use Rattle.cx_net.specs.NetMeaning.{NetState, below_cell, Node, APort, NetLook, NetAround, around_child, outside, drivers_to, is_true, net_expr, registers_of, zero_wide}
-use Rattle.cx_net.specs.NetEdges.{port_or_zero, inputs_from, row_after, cell_after, cell_below, taken, value_in, guard_in, own_register, register_after, register_below, net_after}
+use Rattle.cx_net.specs.NetMeaning.{NetState, below_cell, APort, NetLook, NetAround, around_child, outside, drivers_to, is_true, registers_of, zero_wide}
+use Rattle.cx_net.specs.NetEdges.{inputs_from, row_after, cell_after, cell_below, taken, value_in, guard_in, own_register, register_after, register_below, net_after}
 use Rattle.cx_net.specs.NetRuns.{net_start_at, net_start_below, net_externals, started, net_start, net_words}
 use Rattle.cx_holes.specs.Inlining.{inlined_driver, inlined_component}
 use Rattle.cx_holes.specs.Names.{DriversName}

@@ -1,5 +1,5 @@
 -- A net without holes fits where the net does.
-use Rattle.std.proofs.Common.{◌≡◌, ℕ, zero, suc, ◌+◌, ◌<◌, Bool, if◌then◌else◌, List, [], ◌∷◌, ◌++◌, length, map, replicate, Option, Some, None, option_and_then, slice_get, nat_lt, true, sym, ap, ◌∙◌, subst, refl}
+use Rattle.std.proofs.Common.{◌≡◌, ℕ, zero, suc, ◌<◌, if◌then◌else◌, List, [], ◌∷◌, length, map, replicate, Some, None, option_and_then, slice_get, true, sym, ap, ◌∙◌, subst, refl}
 use Rattle.std.proofs.Math.Path.{fun_ext}
 use Rattle.std.proofs.lemmas.Bool.{lt-ltb}
 use Rattle.std.proofs.lemmas.List.{length-map}
@@ -48,7 +48,7 @@ module _ (net : PlainNet) where
       expr_fits (AllOf es) w h = (h.0, exprs_fit es h.1)
       expr_fits (AnyOf es) w h = (h.0, exprs_fit es h.1)
       expr_fits (Sum a b) w h = (expr_fits a w h.0, expr_fits b w h.1)
-      expr_fits (Compares c a b) w h = (h.0, h.1, expr_fits a h.1 h.2, expr_fits b h.1 h.3)
+      expr_fits (Compares c a b) w h = (h.0, (h.1.0, expr_fits a h.1.0 h.1.1, expr_fits b h.1.0 h.1.2))
 
       exprs_fit : (es : PlainNetExprs) → AreBits net part es → AreBits (inlined net) (inlined_component part) (inlined_exprs (length part.wires) es)
       exprs_fit no_exprs h = tt

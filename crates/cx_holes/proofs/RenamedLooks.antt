@@ -1,16 +1,12 @@
 -- What is known of the nodes of a net, and of those that stand for them, either way.
-use Rattle.std.proofs.Common.{◌≡◌, ℕ, zero, suc, ◌+◌, ◌-◌, ◌<◌, ◌≤◌, Bool, true, false, if◌then◌else◌, List, [], ◌∷◌, ◌++◌, length, replicate, Option, Some, None, option_and_then, IsSome, slice_get, nat_lt, refl, sym, ap, ◌∙◌, subst, arith, true≢false, length-append}
+use Rattle.std.proofs.Common.{◌≡◌, ℕ, zero, suc, ◌+◌, ◌-◌, ◌<◌, ◌≤◌, Bool, true, false, if◌then◌else◌, List, [], ◌∷◌, length, Option, Some, None, option_and_then, slice_get, nat_lt, refl, sym, ap, ◌∙◌, subst, arith}
 use Rattle.std.proofs.lemmas.Bool.{lt-ltb, le-ltb, ltb-true, ltb-false}
-use Rattle.std.proofs.lemmas.List.{length-replicate}
 use Rattle.cx_bits.specs.BitVector.{BitVector}
-use Rattle.cx_meaning.specs.declared.ports.PortRef.{PortRef}
-use Rattle.cx_meaning.specs.declared.ports.PortRef.TheVariants as ports
 use Rattle.cx_meaning.specs.Instances.{Path}
 use Rattle.cx_net.specs.Nets.{PlainNetComponent}
-use Rattle.cx_net.specs.NetTree.{NetInstance, NetNode, NetCells, no_net_cells, a_row, a_child, NetAt, NoCell, ARow, AChild, net_cell_at}
-use Rattle.cx_net.specs.NetMeaning.{NetState, Node, APort, AWire, AHole, TheDone, NetLook, NetAround, outside, own_step, net_step, child_step, NetHas, by_rule, is_port_of, is_own_node, is_node, is_node_below}
-use Rattle.cx_holes.specs.Inlining.{inlined_component}
-use Rattle.cx_holes.specs.Renamed.{inlined_tree, inlined_cells, TreeNames, renamed, IsInside, Alike, renamed_at, renamed_below, InsideAt, InsideBelow, AlikeAt, AlikeBelow}
+use Rattle.cx_net.specs.NetTree.{NetInstance, NetNode, NetCells, no_net_cells, a_row, a_child}
+use Rattle.cx_net.specs.NetMeaning.{NetState, Node, APort, AWire, AHole, TheDone, NetLook, NetAround, outside, net_step, child_step, NetHas, by_rule}
+use Rattle.cx_holes.specs.Renamed.{inlined_tree, TreeNames, renamed, IsInside, Alike, renamed_at, renamed_below, InsideAt, InsideBelow, AlikeAt, AlikeBelow}
 use Rattle.cx_holes.proofs.RenamedNodes.{step_same}
 
 nothing : {A : Type 0} (v : BitVector) → None ≡ Some v → A
@@ -29,9 +25,9 @@ module _ (part : PlainNetComponent) (look : Node → Option BitVector) where
     ports = λ p. refl;
     wires = λ n h. ap (λ b. if b then look (AWire n) else look (AHole (n - length part.wires))) (lt-ltb n (length part.wires) h);
     holes = λ n h.
-      let past : length part.wires ≤ length part.wires + n = omega arith in
-      let same : length part.wires + n - length part.wires ≡ n = omega arith in
-      ap (λ b. if b then look (AWire (length part.wires + n)) else look (AHole (length part.wires + n - length part.wires))) (le-ltb (length part.wires + n) (length part.wires) past) ∙ ap (λ k. look (AHole k)) same;
+        let past : length part.wires ≤ length part.wires + n = omega arith in
+        let same : length part.wires + n - length part.wires ≡ n = omega arith in
+        ap (λ b. if b then look (AWire (length part.wires + n)) else look (AHole (length part.wires + n - length part.wires))) (le-ltb (length part.wires + n) (length part.wires) past) ∙ ap (λ k. look (AHole k)) same;
     done = refl;
   }
 

@@ -3,7 +3,7 @@ use Rattle.std.proofs.Common.{◌≡◌, ℕ, ◌+◌, ◌<◌, List, [], ◌∷
 use Rattle.std.proofs.lemmas.List.{length-replicate}
 use Rattle.cx_net.specs.Nets.{PlainNetExpr, OfPort, OfRegister, OfWire, OfHole, OfGo, Fixed, Inverse, AllOf, AnyOf, Sum, Compares, PlainNetExprs, no_exprs, an_expr, PlainNetTarget, ToPort, ToRegister, ToWire, ToHole, ToDone, PlainNetDriver, PlainNetComponent, PlainNet}
 use Rattle.cx_holes.specs.Inlining.{inlined_expr, inlined_exprs, inlined_target, inlined_driver, inlined_component, inlined}
-use Rattle.cx_holes.specs.Names.{ExprNames, ExprsName, TargetNames, DriverNames, DriversName, ComponentNames, ComponentsName, NetNames}
+use Rattle.cx_holes.specs.Names.{ExprNames, ExprsName, TargetNames, DriversName, ComponentNames, ComponentsName, NetNames}
 
 module _ (wires holes : ℕ) where
   mutual

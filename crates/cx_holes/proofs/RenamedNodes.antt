@@ -1,5 +1,5 @@
 -- The rule of each node of an instance, and of the node that stands for it.
-use Rattle.std.proofs.Common.{◌≡◌, ℕ, zero, suc, ◌+◌, ◌<◌, ◌≤◌, Bool, true, false, if◌then◌else◌, List, [], ◌∷◌, ◌++◌, length, map, replicate, Option, Some, None, option_map, option_and_then, unwrap_or, slice_get, nat_lt, refl, sym, ap, ap₂, ◌∙◌, arith}
+use Rattle.std.proofs.Common.{◌≡◌, ℕ, zero, suc, ◌+◌, ◌<◌, if◌then◌else◌, List, [], ◌∷◌, ◌++◌, length, replicate, Option, Some, None, option_map, option_and_then, unwrap_or, slice_get, refl, sym, ap, ap₂, ◌∙◌, arith}
 use Rattle.std.proofs.Math.Path.{fun_ext}
 use Rattle.std.proofs.lemmas.Bool.{lt-ltb}
 use Rattle.cx_bits.specs.BitVector.{BitVector}
@@ -13,8 +13,8 @@ use Rattle.cx_meaning.specs.Sights.{PartPort, Go, AnInput, AnOutput, ItsDone}
 use Rattle.cx_meaning.specs.Instances.{Path}
 use Rattle.cx_net.specs.Nets.{PlainNetTarget, ToPort, ToWire, ToHole, ToDone, PlainNetComponent}
 use Rattle.cx_net.specs.NetTree.{NetInstance, NetNode, NetCells, no_net_cells, a_row, a_child, NetAt, NoCell, ARow, AChild, net_part, net_cell_at}
-use Rattle.cx_net.specs.NetMeaning.{chain, NetState, below_cell, Node, APort, AWire, AHole, TheDone, NetLook, NetAround, net_part_port, decl_width, child_port_width, net_at_width, gather_known, zero_wide, drivers_to, registers_of, driven_node, row_node, child_node, cell_node, own_step, around_child, net_step, child_step}
-use Rattle.cx_holes.specs.Inlining.{inlined_target, inlined_driver, inlined_component}
+use Rattle.cx_net.specs.NetMeaning.{chain, NetState, below_cell, Node, APort, AWire, AHole, TheDone, NetLook, NetAround, net_part_port, decl_width, net_at_width, gather_known, zero_wide, drivers_to, registers_of, driven_node, row_node, child_node, cell_node, own_step, around_child, net_step, child_step}
+use Rattle.cx_holes.specs.Inlining.{inlined_target, inlined_component}
 use Rattle.cx_holes.specs.Names.{TargetNames, ComponentNames}
 use Rattle.cx_holes.specs.Renamed.{inlined_tree, inlined_cells, TreeNames, CellsName, renamed, IsInside, Alike, renamed_at, renamed_below, InsideAt, InsideBelow, AlikeAt, AlikeBelow}
 use Rattle.cx_holes.proofs.RenamedSteps.{chain_same, drivers_same, drivers_name}

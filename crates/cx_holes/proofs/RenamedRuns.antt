@@ -1,25 +1,22 @@
 -- The runs of a net without holes are those of the net.
-use Rattle.std.proofs.Common.{◌≡◌, ◌↔◌, ℕ, zero, suc, ◌+◌, ◌-◌, ◌<◌, ◌≤◌, Bool, true, false, if◌then◌else◌, List, [], ◌∷◌, ◌++◌, length, map, get_or, replicate, Option, Some, None, IsSome, is_some, nat_lt, refl, sym, ap, ap₂, ◌∙◌, subst, arith, true≢false, length-append}
-use Rattle.std.specs.Option.{option_map_or}
+use Rattle.std.proofs.Common.{◌≡◌, ◌↔◌, ℕ, zero, suc, ◌+◌, ◌-◌, ◌<◌, ◌≤◌, Bool, true, false, List, [], ◌∷◌, length, map, get_or, replicate, IsSome, nat_lt, refl, sym, ap, ap₂, ◌∙◌, subst, arith, true≢false, length-append}
 use Rattle.std.proofs.lemmas.Bool.{lt-ltb, ltb-true, ltb-false}
 use Rattle.std.proofs.Math.Path.{fun_ext}
 use Rattle.std.proofs.lemmas.List.{length-map, length-replicate}
-use Rattle.cx_bits.specs.BitVector.{BitVector}
-use Rattle.cx_meaning.specs.declared.ports.PortRef.{PortRef}
 use Rattle.cx_meaning.specs.declared.ports.PortRef.TheVariants as ports
 use Rattle.cx_meaning.specs.Designs.{PlainKind, OfPrimitive, OfComponent, PlainCell}
 use Rattle.cx_meaning.specs.Instances.{Path}
-use Rattle.cx_vtree.specs.SimRun.{Outcome, DoneAt, NotDone}
+use Rattle.cx_vtree.specs.SimRun.{Outcome, DoneAt}
 use Rattle.cx_net.specs.Nets.{PlainNetComponent, PlainNet}
 use Rattle.cx_net.specs.NetTree.{NetInstance, NetNode, NetCells, no_net_cells, a_row, a_child, NetAt, NoCell, ARow, AChild, net_cell_at, no_net_component, net_component_at, add_net_cell, net_cells_for, net_within, net_tree}
-use Rattle.cx_net.specs.NetMeaning.{NetState, Node, APort, AWire, AHole, TheDone, NetLook, NetHas, is_port_of, is_own_node, is_node, is_node_below, is_true}
+use Rattle.cx_net.specs.NetMeaning.{NetState, Node, APort, AWire, AHole, TheDone, NetLook, NetHas, is_port_of, is_node, is_node_below}
 use Rattle.cx_net.specs.NetEdges.{net_after}
-use Rattle.cx_net.specs.NetRuns.{net_start, net_words, IsWholeLook, is_done, NetRunsFrom, ends, spent, goes_on, NetRun, after_reset, Comes, at_reset, at_first, at_next, IsGrounded}
+use Rattle.cx_net.specs.NetRuns.{net_start, IsWholeLook, is_done, NetRunsFrom, ends, spent, goes_on, NetRun, after_reset, Comes, at_reset, at_first, at_next, IsGrounded}
 use Rattle.cx_holes.specs.Inlining.{inlined_component, inlined}
 use Rattle.cx_holes.specs.Names.{ComponentNames, ComponentsName, NetNames}
-use Rattle.cx_holes.specs.Renamed.{inlined_tree, inlined_cells, TreeNames, CellsName, renamed, renamed_at, renamed_below, IsInside, InsideAt, InsideBelow}
+use Rattle.cx_holes.specs.Renamed.{inlined_tree, inlined_cells, TreeNames, CellsName, renamed_at, renamed_below, InsideAt, InsideBelow}
 use Rattle.cx_holes.proofs.RenamedNodes.{at_same, inlined_at}
-use Rattle.cx_holes.proofs.RenamedLooks.{forth_node, forth, forth_below, forth_alike, origin, back_node, back, back_below, back_alike, goal_of, has_forth, has_back}
+use Rattle.cx_holes.proofs.RenamedLooks.{forth, forth_below, forth_alike, origin, back, back_below, back_alike, goal_of, has_forth, has_back}
 use Rattle.cx_holes.proofs.RenamedEdges.{after_same, start_same, words_same}
 
 -- NODES: one that is there stands for one that is there
@@ -140,7 +137,7 @@ module _ (tree : NetInstance) (names : TreeNames tree) where
   whole_forth go s look w = record {
     right = λ path n v e. let r = origin tree look path n v e in subst (λ m. NetHas (inlined_tree tree) go s path m v) r.1 (has_forth tree names go s path r.0 v (w.right path r.0 v r.2));
     whole = λ path n e. let r = source_of tree path n e in
-    subst (λ m. IsSome (forth tree look path m)) r.1 (subst IsSome (sym (forth_at tree look path r.0 r.3)) (w.whole path r.0 r.2));
+        subst (λ m. IsSome (forth tree look path m)) r.1 (subst IsSome (sym (forth_at tree look path r.0 r.3)) (w.whole path r.0 r.2));
   }
 
   whole_back : (go : Bool) (s : NetState) (new : NetLook) → IsWholeLook (inlined_tree tree) go s new → IsWholeLook tree go s (back tree new)

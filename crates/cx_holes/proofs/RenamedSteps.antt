@@ -1,16 +1,15 @@
 -- One rule of a node gives what the rule of the node gives that stands for it.
-use Rattle.std.proofs.Common.{◌≡◌, ℕ, zero, suc, ◌+◌, ◌-◌, ◌<◌, ◌≤◌, ◌==◌, Bool, true, false, cond, if◌then◌else◌, List, [], ◌∷◌, ◌++◌, length, map, replicate, Option, Some, None, option_map, option_and_then, slice_get, nat_lt, refl, sym, ap, ap₂, ◌∙◌, ⊎_elim, arith}
-use Rattle.std.proofs.Math.Path.{fun_ext}
-use Rattle.std.proofs.lemmas.Bool.{lt-ltb, eq-eqb, ne_eqb, cases_eq}
+use Rattle.std.proofs.Common.{◌≡◌, ℕ, ◌+◌, ◌<◌, ◌==◌, Bool, true, false, if◌then◌else◌, List, [], ◌∷◌, length, map, Option, option_map, option_and_then, refl, sym, ap, ap₂, ◌∙◌, ⊎_elim, arith}
+use Rattle.std.proofs.lemmas.Bool.{eq-eqb, ne_eqb, cases_eq}
 use Rattle.cx_bits.specs.BitVector.{BitVector}
 use Rattle.cx_bits.specs.Operators.{sum_of, and_of, or_of, complement_of}
 use Rattle.cx_meaning.specs.declared.ports.PortRef.{PortRef}
 use Rattle.cx_meaning.specs.declared.ports.PortRef.TheVariants as ports
 use Rattle.cx_meaning.specs.Truths.{compares}
 use Rattle.cx_net.specs.Nets.{PlainNetExpr, OfPort, OfRegister, OfWire, OfHole, OfGo, Fixed, Inverse, AllOf, AnyOf, Sum, Compares, PlainNetExprs, no_exprs, an_expr, PlainNetTarget, ToPort, ToRegister, ToWire, ToHole, ToDone, PlainNetDriver, PlainNetComponent}
-use Rattle.cx_net.specs.NetMeaning.{Node, APort, AWire, AHole, TheDone, NetAround, both_known, truth_bit, is_true, net_expr, all_expr, any_expr, chain, same_target, drivers_to}
+use Rattle.cx_net.specs.NetMeaning.{Node, NetAround, both_known, truth_bit, is_true, net_expr, all_expr, any_expr, chain, same_target, drivers_to}
 use Rattle.cx_holes.specs.Inlining.{inlined_expr, inlined_exprs, inlined_target, inlined_driver}
-use Rattle.cx_holes.specs.Names.{ExprNames, ExprsName, TargetNames, DriverNames, DriversName}
+use Rattle.cx_holes.specs.Names.{ExprNames, ExprsName, TargetNames, DriversName}
 use Rattle.cx_holes.specs.Renamed.{Alike}
 
 module _ (part : PlainNetComponent) (around : NetAround) (registers : ℕ → Option BitVector) (look new : Node → Option BitVector) (alike : Alike part look new) where
