@@ -16,6 +16,7 @@ pub mod Standing
 pub mod Shown
 pub mod Turning
 pub mod Wired
+pub mod Fitting
 pub mod GuardPorts
 pub mod InNet
 pub mod NetBits
