@@ -2,6 +2,7 @@ pub mod GrowLemmas
 pub mod WholeLooks
 pub mod TakingLemmas
 pub mod AwayLaws
+pub mod IslandReads
 pub mod TurnLemmas
 pub mod FormTurns
 pub mod StayLaws

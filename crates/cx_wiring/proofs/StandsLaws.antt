@@ -31,6 +31,7 @@ use Rattle.cx_wiring.specs.Standing.{IsStopped, IsIn, Away}
 use Rattle.cx_wiring.specs.Shown.{wide, Going, told, leads, counted, comb_going, number_of, parts_number, arms_number, FormAgrees, StatementAgrees, PartsAgree, ArmsAgree, enable_agrees, enable_going, enable_number, going, parts_going, arms_going}
 use Rattle.cx_wiring.specs.Turning.{Turns, Enters, Moves, entered}
 use Rattle.cx_wiring.specs.Wired.{IsWired, PartsWired, ArmsWired}
+use Rattle.cx_wiring.specs.IslandTakes.{IslandNexts}
 use Rattle.cx_wiring.proofs.TakingLemmas.{says_both, says_either, says_not, says_all, connect_both, registers_both, takes_append, idle_passes}
 use Rattle.cx_wiring.proofs.AwayLaws.{here, at_false, away, away_parts}
 use Rattle.cx_wiring.proofs.TurnLemmas.{beside_same, beside_first, beside_later, beside_zero, zero_first, zero_later, behind_idle, then_first, then_second}
@@ -53,7 +54,7 @@ none_below n less = absurd (omega arith)
 module _ (groups : ℕ) (islands : List PlainIsland) (around : NetAround) (registers : ℕ → Option BitVector) (look : Node → Option BitVector) (bound : ℕ) (kept next : ℕ → ℕ) (hole : ℕ → Bool) (port : PortRef → Bool)
     (timed : (k : ℕ) (x : Stand) (acting : Bool) (r : ℕ) → IsIn around registers look x.acts x.region acting r → IsStopped acting r x.position 1 → bound ≤ x.wire
     → AllConnect around registers look bound (form_drivers groups islands x (Timed k)) → AreRegisters around registers look kept x.register (sample_registers (slice_get islands k))
-    → Away around registers look x (form_drivers groups islands x (Timed k))) where
+    → IslandNexts groups islands around registers look kept next k x → Away around registers look x (form_drivers groups islands x (Timed k))) where
   abbrev D : Stand → PlainStatement → List PlainNetDriver
   D = drivers_of groups islands
 
@@ -73,7 +74,7 @@ module _ (groups : ℕ) (islands : List PlainIsland) (around : NetAround) (regis
   WA = ArmsWired groups islands around registers look bound kept next hole port
 
   away_wired : (s : PlainStatement) (x : Stand) (acting : Bool) (r : ℕ) → IsIn around registers look x.acts x.region acting r → IsStopped acting r x.position (positions_of s) → W x s → Away around registers look x (D x s)
-  away_wired s x acting r i o w = away groups islands around registers look bound kept hole port timed s x acting r i o w.low w.connects w.registers_are w.bits
+  away_wired s x acting r i o w = away groups islands around registers look bound kept hole port next timed s x acting r i o w.low w.connects w.registers_are w.bits w.nexts
 
   at_true : (x : Stand) (r : ℕ) → Acts x r → r ≡ x.position → bound ≤ x.wire → Connects around registers look bound (ToWire x.wire) (both x.acts (equals (OfRegister x.region) x.position)) → It (at x) true
   at_true x r i e low c = here groups islands around registers look bound kept hole port x true r i low c ∙ ap (λ b. Some (truth_bit b)) (eq-eqb r x.position e)
@@ -183,7 +184,7 @@ module _ (groups : ℕ) (islands : List PlainIsland) (around : NetAround) (regis
       }
 
   module _ {X : Type 0} {V : X → Type 0} {F : Type 0} (leaves : LeafMachines X V F) (codings : LeafCodings leaves) (part : PlainComponent) (now_island next_island : ℕ → ℕ → ℕ → ℕ)
-      (island_rests : (k : ℕ) (x : Stand) → AllIdle around registers look (form_drivers groups islands x (Timed k)) → (n : ℕ) → now_island x.register k n ≡ 0 → next_island x.register k n ≡ 0)
+      (island_rests : (k : ℕ) (x : Stand) → AllIdle around registers look (form_drivers groups islands x (Timed k)) → IslandNexts groups islands around registers look kept next k x → (n : ℕ) → now_island x.register k n ≡ 0 → next_island x.register k n ≡ 0)
       (Stands : PlainStatement → Type 0) (law : AreCoded leaves codings Stands) (enable_one : (g : ℕ) → Coding.size (LeafCodings.enable codings g) ≡ 1) (island_one : (form : PlainForm) → Coding.size (LeafCodings.island codings form) ≡ 1)
       (plain_extra : (g : ℕ) → group_length part g ≡ None → Coding.extra (LeafCodings.enable codings g) ≡ 0) where
     abbrev K : (s : PlainStatement) → Coding (Machine.Place (machine_of leaves s))
@@ -239,7 +240,7 @@ module _ (groups : ℕ) (islands : List PlainIsland) (around : NetAround) (regis
           let v = wired_parts seq before x (lowered part s l) (lowered_parts part ss (after part s l)) w in
           let a = away_wired (lowered part s l) x true r i (inr (inl less)) v.0 in
           let later : r < x.position + positions_of (lowered part s l) = omega arith in
-          let b = away_parts groups islands around registers look bound kept hole port timed seq x.wire (behind islands (lowered part s l) x) (lowered_parts part ss (after part s l)) true r i (inr (inl later)) v.1.low v.1.base a.ends v.1.connects v.1.registers_are v.1.bits in
+          let b = away_parts groups islands around registers look bound kept hole port next timed seq x.wire (behind islands (lowered part s l) x) (lowered_parts part ss (after part s l)) true r i (inr (inl later)) v.1.low v.1.base a.ends v.1.connects v.1.registers_are v.1.bits v.1.nexts in
           let starts : Machine.start (parts_machine leaves (a_statement s ss)) ≡ At (First region.front.first) =
           ap (within First (second_start (machine_of leaves s) (parts_machine leaves ss))) region.front.starts in
           record {
