@@ -20,6 +20,7 @@ use Rattle.cx_wiring.specs.Assignments.{driven_assigns, assigns_drivers}
 use Rattle.cx_wiring.specs.Wiring.{groups, first_of_control, first_of_assigns, plain_drivers, component_registers}
 use Rattle.cx_wiring.specs.Bounds.{AllDrive, IslandsName, StatementNames, AssignsName}
 use Rattle.cx_wiring.specs.Takings.{Says, takes, AllConnect, AreRegisters}
+use Rattle.cx_wiring.specs.IslandTakes.{StatementIslands, TakesIsland, IslandNexts}
 use Rattle.cx_wiring.specs.Standing.{IsStopped, IsIn, Away, StatementBits}
 use Rattle.cx_wiring.specs.Shown.{wide, Going, told}
 use Rattle.cx_wiring.specs.Turning.{Turns, Moves}
@@ -59,9 +60,8 @@ module _ (part : PlainComponent) (named : IslandsName (groups (lowered_component
     pub registers_are : AreRegisters around registers look kept 0 (component_registers (lowered_component part))
     pub nexts : (m : ℕ) (old new : BitVector) → m < length (component_registers (lowered_component part)) → old.value ≡ kept m → takes around registers look (ToRegister m) (Some old) (plain_drivers (lowered_component part)) ≡ Some new
         → next m ≡ new.value
-    pub timers_go : (k : ℕ) (island : PlainIsland) → slice_get (lowered_component part).islands k ≡ Some island → (t : ℕ) (timer : IslandTimer) → slice_get island.timers t ≡ Some timer
-        → look (APort (ports.Cell timer.cell 0)) ≡ takes around registers look (ToPort (ports.Cell timer.cell 0)) (Some (truth_bit false)) (drivers_of (groups (lowered_component part)) (lowered_component part).islands
-        (whole_stand (first_of_control (lowered_component part))) (lowered part part.control (unlowered part)))
+    pub islands : StatementIslands (TakesIsland (groups (lowered_component part)) (lowered_component part).islands around registers look) (lowered_component part).islands
+        (whole_stand (first_of_control (lowered_component part))) (lowered part part.control (unlowered part))
     pub goes : (g : ℕ) → g < groups (lowered_component part) → look (AHole (groups (lowered_component part) + g)) ≡ takes around registers look (ToHole (groups (lowered_component part) + g)) (Some (truth_bit false)) (plain_drivers (lowered_component part))
     pub done : look TheDone ≡ takes around registers look ToDone (Some (truth_bit false)) (plain_drivers (lowered_component part))
     pub bits : StatementBits around registers look hole port (lowered part part.control (unlowered part))
@@ -141,7 +141,7 @@ module _ (part : PlainComponent) (named : IslandsName (groups (lowered_component
           (whole_stand (first_of_control (lowered_component part))) (lowered part part.control (unlowered part))
       knows = known (groups (lowered_component part)) (lowered_component part).islands named around registers look (first_of_control (lowered_component part)) kept next hole port timed_known (lowered part part.control (unlowered part))
           (whole_stand (first_of_control (lowered_component part))) acting (kept 0) names (omega arith) region_in low connects cycle.registers_are.1 cycle.bits
-          taken (λ m old new l h is e. cycle.nexts m old new (omega arith) is (later_register m (Some old) l ∙ e))
+          cycle.islands (λ m old new l h is e. cycle.nexts m old new (omega arith) is (later_register m (Some old) l ∙ e))
 
       pub wired : IsWired (groups (lowered_component part)) (lowered_component part).islands around registers look (first_of_control (lowered_component part)) kept next hole port
           (whole_stand (first_of_control (lowered_component part))) (lowered part part.control (unlowered part))

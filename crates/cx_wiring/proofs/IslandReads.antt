@@ -180,124 +180,126 @@ module _ (part : PlainComponent) (groups : ℕ) (islands : List PlainIsland) (bo
       )
 
   -- WHAT AN ISLAND'S TARGETS TAKE, where it stands; each target has a value, and takes it with something of a kind behind all drivers
-  module _ (around : NetAround) (registers : ℕ → Option BitVector) (look : Node → Option BitVector) (value : PlainNetTarget → Option BitVector) (Base : PlainNetTarget → Option BitVector → Type 0) where
+  module _ (around : NetAround) (registers : ℕ → Option BitVector) (look : Node → Option BitVector) (value : PlainNetTarget → Option BitVector) (Base : PlainNetTarget → Option BitVector → Type 0)
+      (Mine : ℕ → PlainNetTarget → Type 0) (of_mine : (j : ℕ) (t : PlainNetTarget) → Mine j t → OfIsland j t) where
     abbrev pub TakesIts : PlainNetTarget → List PlainNetDriver → Type 0
     TakesIts t ds = (o : Option BitVector) × Base t o × (value t ≡ takes around registers look t o ds)
 
     -- each target of islands from one number to before another
     abbrev pub AllTake : (from to : ℕ) → List PlainNetDriver → Type 0
-    AllTake from to ds = (j : ℕ) (t : PlainNetTarget) → OfIsland j t → from ≤ j → j < to → TakesIts t ds
+    AllTake from to ds = (j : ℕ) (t : PlainNetTarget) → Mine j t → from ≤ j → j < to → TakesIts t ds
 
     abbrev pub TakesItsIsland : ℕ → Stand → Type 0
-    TakesItsIsland j y = (t : PlainNetTarget) → OfIsland j t → TakesIts t (timed_drivers groups islands y j (slice_get islands j))
+    TakesItsIsland j y = (t : PlainNetTarget) → Mine j t → TakesIts t (timed_drivers groups islands y j (slice_get islands j))
 
     in_front : (t : PlainNetTarget) (xs ys : List PlainNetDriver) → AllDrive (λ u. same_target u t ≡ false) ys → TakesIts t (xs ++ ys) → TakesIts t xs
-    in_front t xs ys skip h = (h.0, (h.1, h.2 ∙ takes_append around registers look t h.0 xs ys ∙ ap (λ z. takes around registers look t z xs) (others_pass around registers look t h.0 ys skip)))
+    in_front t xs ys skip h = (h.0, h.1, h.2 ∙ takes_append around registers look t h.0 xs ys ∙ ap (λ z. takes around registers look t z xs) (others_pass around registers look t h.0 ys skip))
 
     at_back : (t : PlainNetTarget) (xs ys : List PlainNetDriver) → AllDrive (λ u. same_target u t ≡ false) xs → TakesIts t (xs ++ ys) → TakesIts t ys
-    at_back t xs ys skip h = (h.0, (h.1, h.2 ∙ takes_append around registers look t h.0 xs ys ∙ others_pass around registers look t (takes around registers look t h.0 ys) xs skip))
+    at_back t xs ys skip h = (h.0, h.1, h.2 ∙ takes_append around registers look t h.0 xs ys ∙ others_pass around registers look t (takes around registers look t h.0 ys) xs skip)
 
     past : (t : PlainNetTarget) (d : PlainNetDriver) (ds : List PlainNetDriver) → same_target d.target t ≡ false → TakesIts t (d ∷ ds) → TakesIts t ds
-    past t d ds other h = (h.0, (h.1, h.2 ∙ ap (λ s. takes_of around registers look s d (takes around registers look t h.0 ds)) other))
+    past t d ds other h = (h.0, h.1, h.2 ∙ ap (λ s. takes_of around registers look s d (takes around registers look t h.0 ds)) other)
 
-    island_takes : (x : Stand) (k : ℕ) (to : ℕ) → bound ≤ x.wire → k < to → AllTake k to (form_drivers groups islands x (Timed k)) → TakesItsIsland k x
-    island_takes x k to low less h t own = past t _ _ (own.wire x.wire low) (h k t own (omega arith) less)
+    module _ (Q : ℕ → Stand → Type 0) (each : (j : ℕ) (y : Stand) → bound ≤ y.wire → TakesItsIsland j y → Q j y) where
+      island_takes : (x : Stand) (k : ℕ) (to : ℕ) → bound ≤ x.wire → k < to → AllTake k to (form_drivers groups islands x (Timed k)) → Q k x
+      island_takes x k to low less h = each k x low (λ t mine. past t _ _ ((of_mine k t mine).wire x.wire low) (h k t mine (omega arith) less))
 
-    enable_takes : (g : ℕ) (o : Option ℕ) (l : Lowering) (x : Stand) → bound ≤ x.wire → AllTake (length l.islands) (length (after_enable part g o l).islands) (form_drivers groups islands x (lowered_enable part g o l))
-        → FormIslands TakesItsIsland islands x (lowered_enable part g o l)
-    enable_takes g None l x low h = tt
-    enable_takes g (Some n) l x low h = island_takes x (length l.islands) _ low (island_more part (Enable g) l) h
+      enable_takes : (g : ℕ) (o : Option ℕ) (l : Lowering) (x : Stand) → bound ≤ x.wire → AllTake (length l.islands) (length (after_enable part g o l).islands) (form_drivers groups islands x (lowered_enable part g o l))
+          → FormIslands Q islands x (lowered_enable part g o l)
+      enable_takes g None l x low h = tt
+      enable_takes g (Some n) l x low h = island_takes x (length l.islands) _ low (island_more part (Enable g) l) h
 
-    -- of the parts of a statement
-    first_take : (from mid to : ℕ) (xs ys : List PlainNetDriver) → mid ≤ to → ((j : ℕ) (t : PlainNetTarget) → OfIsland j t → j < mid → AllDrive (λ u. same_target u t ≡ false) ys) → AllTake from to (xs ++ ys) → AllTake from mid xs
-    first_take from mid to xs ys l skip h j t own low high = in_front t xs ys (skip j t own high) (h j t own low (omega arith))
+      -- of the parts of a statement
+      first_take : (from mid to : ℕ) (xs ys : List PlainNetDriver) → mid ≤ to → ((j : ℕ) (t : PlainNetTarget) → OfIsland j t → j < mid → AllDrive (λ u. same_target u t ≡ false) ys) → AllTake from to (xs ++ ys) → AllTake from mid xs
+      first_take from mid to xs ys l skip h j t mine low high = in_front t xs ys (skip j t (of_mine j t mine) high) (h j t mine low (omega arith))
 
-    later_take : (from mid to : ℕ) (xs ys : List PlainNetDriver) → from ≤ mid → ((j : ℕ) (t : PlainNetTarget) → OfIsland j t → mid ≤ j → AllDrive (λ u. same_target u t ≡ false) xs) → AllTake from to (xs ++ ys) → AllTake mid to ys
-    later_take from mid to xs ys l skip h j t own low high = at_back t xs ys (skip j t own low) (h j t own (omega arith) high)
+      later_take : (from mid to : ℕ) (xs ys : List PlainNetDriver) → from ≤ mid → ((j : ℕ) (t : PlainNetTarget) → OfIsland j t → mid ≤ j → AllDrive (λ u. same_target u t ≡ false) xs) → AllTake from to (xs ++ ys) → AllTake mid to ys
+      later_take from mid to xs ys l skip h j t mine low high = at_back t xs ys (skip j t (of_mine j t mine) low) (h j t mine (omega arith) high)
 
-    past_one : (from to : ℕ) (d : PlainNetDriver) (ds : List PlainNetDriver) → ((j : ℕ) (t : PlainNetTarget) → OfIsland j t → same_target d.target t ≡ false) → AllTake from to (d ∷ ds) → AllTake from to ds
-    past_one from to d ds skip h j t own low high = past t d ds (skip j t own) (h j t own low high)
+      past_one : (from to : ℕ) (d : PlainNetDriver) (ds : List PlainNetDriver) → ((j : ℕ) (t : PlainNetTarget) → OfIsland j t → same_target d.target t ≡ false) → AllTake from to (d ∷ ds) → AllTake from to ds
+      past_one from to d ds skip h j t mine low high = past t d ds (skip j t (of_mine j t mine)) (h j t mine low high)
 
-    mutual
-      form_takes : (form : PlainForm) (l : Lowering) (x : Stand) → NoTimed form → bound ≤ x.wire → AllTake (length l.islands) (length (form_after part form l).islands) (form_drivers groups islands x (lowered_form part form l))
-          → FormIslands TakesItsIsland islands x (lowered_form part form l)
-      form_takes Empty l x u low h = tt
-      form_takes (Enable g) l x u low h = enable_takes g (group_length part g) l x low h
-      form_takes (Seq no_statements) l x u low h = tt
-      form_takes (Seq (a_statement s ss)) l x u low h =
-          let a = length l.islands in
-          let b = length (after part s l).islands in
-          let c = length (parts_after part ss (after part s l)).islands in (
-            statement_takes s l (inside x) u.0 (omega arith)
-                (first_take a b c (drivers_of groups islands (inside x) (lowered part s l)) _ (parts_more part ss (after part s l)) (λ j t own less. parts_skip j t own ss (after part s l) x (inside x).wire (behind islands (lowered part s l) (inside x)) u.1 low (omega arith) (inl less)) h),
-            parts_take ss (after part s l) x (inside x).wire (behind islands (lowered part s l) (inside x)) u.1 low (omega arith)
-                (later_take a b c (drivers_of groups islands (inside x) (lowered part s l)) _ (more part s l) (λ j t own past. statement_skips j t own s l (inside x) u.0 (omega arith) (inr past)) h),
-          )
-      form_takes (Par arms) l x u low h =
-          arms_take arms l x (suc (suc x.wire)) x.register u (omega arith)
-          (first_take _ _ _ (arms_drivers groups islands x (suc (suc x.wire)) x.register (lowered_parts part arms l)) _ (omega arith) (λ j t own less. (own.wire (suc x.wire) (omega arith), tt))
-          (past_one _ _ _ _ (λ j t own. own.wire x.wire low) h))
-      form_takes (If test comb a b) l x u low h =
-          let at = length l.islands in
-          let mid = length (after part a l).islands in
-          let to = length (after part b (after part a l)).islands in
-          let inner = past_one at to _ _ (λ j t own. own.register _) (later_take at at to (comb_goes groups islands x comb) _ (omega arith) (λ j t own p. comb_skips j t own x comb) (past_one at to _ _ (λ j t own. own.wire x.wire low) h)) in (
-            statement_takes a l (past_test x) u.0 (omega arith)
-                (first_take at mid to (drivers_of groups islands (past_test x) (lowered part a l)) _ (more part b (after part a l))
-                (λ j t own less. (own.register _, drive_both (λ v. same_target v t ≡ false) (drivers_of groups islands (behind islands (lowered part a l) (past_test x)) (lowered part b (after part a l))) _
-                (statement_skips j t own b (after part a l) (behind islands (lowered part a l) (past_test x)) u.1 (omega arith) (inl less)) (own.wire (suc x.wire) (omega arith), tt))) inner),
-            statement_takes b (after part a l) (behind islands (lowered part a l) (past_test x)) u.1 (omega arith)
-                (first_take mid to to (drivers_of groups islands (behind islands (lowered part a l) (past_test x)) (lowered part b (after part a l))) _ (omega arith) (λ j t own less. (own.wire (suc x.wire) (omega arith), tt))
-                (past_one mid to _ _ (λ j t own. own.register _)
-                (later_take at mid to (drivers_of groups islands (past_test x) (lowered part a l)) _ (more part a l) (λ j t own p. statement_skips j t own a l (past_test x) u.0 (omega arith) (inr p)) inner))),
-          )
-      form_takes (While test comb a) l x u low h =
-          let at = length l.islands in
-          let to = length (after part a l).islands in
-          let inner = past_one at to _ _ (λ j t own. own.register _) (past_one at to _ _ (λ j t own. own.wire (suc x.wire) (omega arith))
-          (later_take at at to (comb_goes groups islands x comb) _ (omega arith) (λ j t own p. comb_skips j t own x comb) (past_one at to _ _ (λ j t own. own.wire x.wire low) h))) in
-          statement_takes a l (past_test x) u (omega arith)
-          (first_take at to to (drivers_of groups islands (past_test x) (lowered part a l)) _ (omega arith) (λ j t own less. (own.register _, tt)) inner)
-      form_takes (Repeat zero a) l x u low h = tt
-      form_takes (Repeat (suc n) a) l x u low h =
-          statement_takes a l (counted_inside x) u (omega arith)
-          (first_take _ _ _ (drivers_of groups islands (counted_inside x) (lowered part a l)) (counting x n) (omega arith) (λ j t own less. (own.wire (suc x.wire) (omega arith), (own.register _, (own.register _, (own.register _, tt))))) h)
-      form_takes (StaticSeq written parts) l x u low h = island_takes x (length l.islands) _ low (island_more part (StaticSeq written parts) l) h
-      form_takes (StaticPar written arms) l x u low h = island_takes x (length l.islands) _ low (island_more part (StaticPar written arms) l) h
-      form_takes (StaticIf written test a b) l x u low h = island_takes x (length l.islands) _ low (island_more part (StaticIf written test a b) l) h
-      form_takes (StaticRepeat written count a) l x u low h = island_takes x (length l.islands) _ low (island_more part (StaticRepeat written count a) l) h
-      form_takes (Timed k) l x u low h = absurd u
+      mutual
+        form_takes : (form : PlainForm) (l : Lowering) (x : Stand) → NoTimed form → bound ≤ x.wire → AllTake (length l.islands) (length (form_after part form l).islands) (form_drivers groups islands x (lowered_form part form l))
+            → FormIslands Q islands x (lowered_form part form l)
+        form_takes Empty l x u low h = tt
+        form_takes (Enable g) l x u low h = enable_takes g (group_length part g) l x low h
+        form_takes (Seq no_statements) l x u low h = tt
+        form_takes (Seq (a_statement s ss)) l x u low h =
+            let a = length l.islands in
+            let b = length (after part s l).islands in
+            let c = length (parts_after part ss (after part s l)).islands in (
+              statement_takes s l (inside x) u.0 (omega arith)
+                  (first_take a b c (drivers_of groups islands (inside x) (lowered part s l)) _ (parts_more part ss (after part s l)) (λ j t own less. parts_skip j t own ss (after part s l) x (inside x).wire (behind islands (lowered part s l) (inside x)) u.1 low (omega arith) (inl less)) h),
+              parts_take ss (after part s l) x (inside x).wire (behind islands (lowered part s l) (inside x)) u.1 low (omega arith)
+                  (later_take a b c (drivers_of groups islands (inside x) (lowered part s l)) _ (more part s l) (λ j t own past. statement_skips j t own s l (inside x) u.0 (omega arith) (inr past)) h),
+            )
+        form_takes (Par arms) l x u low h =
+            arms_take arms l x (suc (suc x.wire)) x.register u (omega arith)
+            (first_take _ _ _ (arms_drivers groups islands x (suc (suc x.wire)) x.register (lowered_parts part arms l)) _ (omega arith) (λ j t own less. (own.wire (suc x.wire) (omega arith), tt))
+            (past_one _ _ _ _ (λ j t own. own.wire x.wire low) h))
+        form_takes (If test comb a b) l x u low h =
+            let at = length l.islands in
+            let mid = length (after part a l).islands in
+            let to = length (after part b (after part a l)).islands in
+            let inner = past_one at to _ _ (λ j t own. own.register _) (later_take at at to (comb_goes groups islands x comb) _ (omega arith) (λ j t own p. comb_skips j t own x comb) (past_one at to _ _ (λ j t own. own.wire x.wire low) h)) in (
+              statement_takes a l (past_test x) u.0 (omega arith)
+                  (first_take at mid to (drivers_of groups islands (past_test x) (lowered part a l)) _ (more part b (after part a l))
+                  (λ j t own less. (own.register _, drive_both (λ v. same_target v t ≡ false) (drivers_of groups islands (behind islands (lowered part a l) (past_test x)) (lowered part b (after part a l))) _
+                  (statement_skips j t own b (after part a l) (behind islands (lowered part a l) (past_test x)) u.1 (omega arith) (inl less)) (own.wire (suc x.wire) (omega arith), tt))) inner),
+              statement_takes b (after part a l) (behind islands (lowered part a l) (past_test x)) u.1 (omega arith)
+                  (first_take mid to to (drivers_of groups islands (behind islands (lowered part a l) (past_test x)) (lowered part b (after part a l))) _ (omega arith) (λ j t own less. (own.wire (suc x.wire) (omega arith), tt))
+                  (past_one mid to _ _ (λ j t own. own.register _)
+                  (later_take at mid to (drivers_of groups islands (past_test x) (lowered part a l)) _ (more part a l) (λ j t own p. statement_skips j t own a l (past_test x) u.0 (omega arith) (inr p)) inner))),
+            )
+        form_takes (While test comb a) l x u low h =
+            let at = length l.islands in
+            let to = length (after part a l).islands in
+            let inner = past_one at to _ _ (λ j t own. own.register _) (past_one at to _ _ (λ j t own. own.wire (suc x.wire) (omega arith))
+            (later_take at at to (comb_goes groups islands x comb) _ (omega arith) (λ j t own p. comb_skips j t own x comb) (past_one at to _ _ (λ j t own. own.wire x.wire low) h))) in
+            statement_takes a l (past_test x) u (omega arith)
+            (first_take at to to (drivers_of groups islands (past_test x) (lowered part a l)) _ (omega arith) (λ j t own less. (own.register _, tt)) inner)
+        form_takes (Repeat zero a) l x u low h = tt
+        form_takes (Repeat (suc n) a) l x u low h =
+            statement_takes a l (counted_inside x) u (omega arith)
+            (first_take _ _ _ (drivers_of groups islands (counted_inside x) (lowered part a l)) (counting x n) (omega arith) (λ j t own less. (own.wire (suc x.wire) (omega arith), (own.register _, (own.register _, (own.register _, tt))))) h)
+        form_takes (StaticSeq written parts) l x u low h = island_takes x (length l.islands) _ low (island_more part (StaticSeq written parts) l) h
+        form_takes (StaticPar written arms) l x u low h = island_takes x (length l.islands) _ low (island_more part (StaticPar written arms) l) h
+        form_takes (StaticIf written test a b) l x u low h = island_takes x (length l.islands) _ low (island_more part (StaticIf written test a b) l) h
+        form_takes (StaticRepeat written count a) l x u low h = island_takes x (length l.islands) _ low (island_more part (StaticRepeat written count a) l) h
+        form_takes (Timed k) l x u low h = absurd u
 
-      pub statement_takes : (s : PlainStatement) (l : Lowering) (x : Stand) → IsUntimed s → bound ≤ x.wire → AllTake (length l.islands) (length (after part s l).islands) (drivers_of groups islands x (lowered part s l))
-          → StatementIslands TakesItsIsland islands x (lowered part s l)
-      statement_takes (Placed form place) l x u low h = form_takes form l x u low h
+        pub statement_takes : (s : PlainStatement) (l : Lowering) (x : Stand) → IsUntimed s → bound ≤ x.wire → AllTake (length l.islands) (length (after part s l).islands) (drivers_of groups islands x (lowered part s l))
+            → StatementIslands Q islands x (lowered part s l)
+        statement_takes (Placed form place) l x u low h = form_takes form l x u low h
 
-      parts_take : (ss : PlainStatements) (l : Lowering) (seq : Stand) (before : ℕ) (x : Stand) → NoneTimed ss → bound ≤ seq.wire → bound ≤ x.wire
-          → AllTake (length l.islands) (length (parts_after part ss l).islands) (parts_drivers groups islands seq before x (lowered_parts part ss l)) → PartsIslands TakesItsIsland islands x (lowered_parts part ss l)
-      parts_take no_statements l seq before x u base low h = tt
-      parts_take (a_statement s ss) l seq before x u base low h =
-          let a = length l.islands in
-          let b = length (after part s l).islands in
-          let c = length (parts_after part ss (after part s l)).islands in
-          let inner = past_one a c _ _ (λ j t own. own.register _) h in (
-            statement_takes s l x u.0 low
-                (first_take a b c (drivers_of groups islands x (lowered part s l)) _ (parts_more part ss (after part s l)) (λ j t own less. parts_skip j t own ss (after part s l) seq x.wire (behind islands (lowered part s l) x) u.1 base (omega arith) (inl less)) inner),
-            parts_take ss (after part s l) seq x.wire (behind islands (lowered part s l) x) u.1 base (omega arith)
-                (later_take a b c (drivers_of groups islands x (lowered part s l)) _ (more part s l) (λ j t own past. statement_skips j t own s l x u.0 low (inr past)) inner),
-          )
+        parts_take : (ss : PlainStatements) (l : Lowering) (seq : Stand) (before : ℕ) (x : Stand) → NoneTimed ss → bound ≤ seq.wire → bound ≤ x.wire
+            → AllTake (length l.islands) (length (parts_after part ss l).islands) (parts_drivers groups islands seq before x (lowered_parts part ss l)) → PartsIslands Q islands x (lowered_parts part ss l)
+        parts_take no_statements l seq before x u base low h = tt
+        parts_take (a_statement s ss) l seq before x u base low h =
+            let a = length l.islands in
+            let b = length (after part s l).islands in
+            let c = length (parts_after part ss (after part s l)).islands in
+            let inner = past_one a c _ _ (λ j t own. own.register _) h in (
+              statement_takes s l x u.0 low
+                  (first_take a b c (drivers_of groups islands x (lowered part s l)) _ (parts_more part ss (after part s l)) (λ j t own less. parts_skip j t own ss (after part s l) seq x.wire (behind islands (lowered part s l) x) u.1 base (omega arith) (inl less)) inner),
+              parts_take ss (after part s l) seq x.wire (behind islands (lowered part s l) x) u.1 base (omega arith)
+                  (later_take a b c (drivers_of groups islands x (lowered part s l)) _ (more part s l) (λ j t own past. statement_skips j t own s l x u.0 low (inr past)) inner),
+            )
 
-      arms_take : (arms : PlainStatements) (l : Lowering) (par : Stand) (wire register : ℕ) → NoneTimed arms → bound ≤ wire
-          → AllTake (length l.islands) (length (parts_after part arms l).islands) (arms_drivers groups islands par wire register (lowered_parts part arms l)) → ArmsIslands TakesItsIsland islands par wire register (lowered_parts part arms l)
-      arms_take no_statements l par wire register u low h = tt
-      arms_take (a_statement s ss) l par wire register u low h =
-          let a = length l.islands in
-          let b = length (after part s l).islands in
-          let c = length (parts_after part ss (after part s l)).islands in
-          let inner = past_one a c _ _ (λ j t own. own.register _) h in (
-            statement_takes s l (arm_stand par wire register) u.0 low
-                (first_take a b c (drivers_of groups islands (arm_stand par wire register) (lowered part s l)) _ (parts_more part ss (after part s l))
-                (λ j t own less. (own.register _, arms_skip j t own ss (after part s l) par (wire + wires_of (lowered part s l)) (suc register + length (registers_of islands (lowered part s l))) u.1 (omega arith) (inl less))) inner),
-            arms_take ss (after part s l) par (wire + wires_of (lowered part s l)) (suc register + length (registers_of islands (lowered part s l))) u.1 (omega arith)
-                (past_one b c _ _ (λ j t own. own.register _)
-                (later_take a b c (drivers_of groups islands (arm_stand par wire register) (lowered part s l)) _ (more part s l) (λ j t own past. statement_skips j t own s l (arm_stand par wire register) u.0 low (inr past)) inner)),
-          )
+        arms_take : (arms : PlainStatements) (l : Lowering) (par : Stand) (wire register : ℕ) → NoneTimed arms → bound ≤ wire
+            → AllTake (length l.islands) (length (parts_after part arms l).islands) (arms_drivers groups islands par wire register (lowered_parts part arms l)) → ArmsIslands Q islands par wire register (lowered_parts part arms l)
+        arms_take no_statements l par wire register u low h = tt
+        arms_take (a_statement s ss) l par wire register u low h =
+            let a = length l.islands in
+            let b = length (after part s l).islands in
+            let c = length (parts_after part ss (after part s l)).islands in
+            let inner = past_one a c _ _ (λ j t own. own.register _) h in (
+              statement_takes s l (arm_stand par wire register) u.0 low
+                  (first_take a b c (drivers_of groups islands (arm_stand par wire register) (lowered part s l)) _ (parts_more part ss (after part s l))
+                  (λ j t own less. (own.register _, arms_skip j t own ss (after part s l) par (wire + wires_of (lowered part s l)) (suc register + length (registers_of islands (lowered part s l))) u.1 (omega arith) (inl less))) inner),
+              arms_take ss (after part s l) par (wire + wires_of (lowered part s l)) (suc register + length (registers_of islands (lowered part s l))) u.1 (omega arith)
+                  (past_one b c _ _ (λ j t own. own.register _)
+                  (later_take a b c (drivers_of groups islands (arm_stand par wire register) (lowered part s l)) _ (more part s l) (λ j t own past. statement_skips j t own s l (arm_stand par wire register) u.0 low (inr past)) inner)),
+            )

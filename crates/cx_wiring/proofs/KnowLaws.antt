@@ -1,6 +1,6 @@
 -- Whatever the registers hold, each statement's end wire is a bit, and what the drivers of a register give it is a number of 32 bits:
 -- so each register of control comes to what its own drivers give it.
-use Rattle.std.proofs.Common.{◌≡◌, ℕ, zero, suc, ◌+◌, ◌<◌, ◌≤◌, ◌⊎◌, inl, inr, ◌==◌, ◌%◌, ◌^◌, Bool, true, false, not, ◌&&◌, ◌||◌, if◌then◌else◌, List, [], ◌∷◌, ◌++◌, length, replicate, Option, Some, slice_get, refl, sym, ap, ◌∙◌, subst, arith, length-append}
+use Rattle.std.proofs.Common.{◌≡◌, ℕ, zero, suc, ◌+◌, ◌<◌, ◌≤◌, ◌⊎◌, inl, inr, ◌==◌, ◌%◌, ◌^◌, Bool, true, false, not, ◌&&◌, ◌||◌, if◌then◌else◌, List, [], ◌∷◌, ◌++◌, length, Option, Some, slice_get, refl, sym, ap, ◌∙◌, subst, arith, length-append}
 use Rattle.std.proofs.lemmas.List.{length-replicate}
 use Rattle.std.proofs.lemmas.Bool.{eq-eqb}
 use Rattle.cx_text.specs.declared.places.Place.{Place}
@@ -246,7 +246,7 @@ module _ (groups : ℕ) (islands : List PlainIsland) (named : IslandsName groups
       → (m : ℕ) (old new : BitVector) → x.register ≤ m → m < x.register + length island.points → old.value ≡ kept m
       → takes around registers look (ToRegister m) (Some old) (island_drivers groups x (first_of_island groups islands n) island) ≡ Some new → next m ≡ new.value
   samples_come n x island is comes m old new l h same e =
-      let count : length (replicate (length island.points) 1) ≡ length island.points = length-replicate (length island.points) 1 in
+      let count : length (sample_registers (Some island)) ≡ length island.points = length-replicate (length island.points) 1 in
       subst (λ o. Comes x.register (length (sample_registers o)) (stands x ∷ timed_drivers groups islands x n o)) is comes m old new l (omega arith) same e
 
   module _ (timed : (k : ℕ) (place : Place) (x : Stand) (acting : Bool) (r : ℕ) → IsIn around registers look x.acts x.region acting r → bound ≤ x.wire → x.region < x.register

@@ -2,7 +2,6 @@ pub mod GrowLemmas
 pub mod WholeLooks
 pub mod TakingLemmas
 pub mod AwayLaws
-pub mod IslandReads
 pub mod TurnLemmas
 pub mod FormTurns
 pub mod StayLaws
@@ -13,6 +12,10 @@ pub mod SizeLaws
 pub mod StandsLaws
 pub mod ConnectLaws
 pub mod KnowLaws
+pub mod GatherLaws
+pub mod IslandCells
+pub mod IslandReads
+pub mod IslandStands
 pub mod GuardLaws
 pub mod AssignLaws
 pub mod ComponentLaws
