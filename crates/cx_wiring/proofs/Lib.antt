@@ -14,6 +14,7 @@ pub mod ConnectLaws
 pub mod KnowLaws
 pub mod GuardLaws
 pub mod AssignLaws
+pub mod HoleLaws
 pub mod ComponentLaws
 pub mod KnownNets
 pub mod RoomLemmas
@@ -42,6 +43,7 @@ pub mod BlockTells
 pub mod IdleNumbers
 pub mod BlockIdles
 pub mod ControlPorts
+pub mod TimerPlaces
 pub mod PortLaws
 pub mod ChildLooks
 pub mod NodeIdles
@@ -51,3 +53,6 @@ pub mod NumberLemmas
 pub mod TimerCells
 pub mod NetTrees
 pub mod DesignNames
+pub mod WholeInstances
+pub mod InstancePorts
+pub mod NodeRules
