@@ -18,6 +18,7 @@ pub mod IslandReads
 pub mod IslandStands
 pub mod GuardLaws
 pub mod AssignLaws
+pub mod HoleLaws
 pub mod ComponentLaws
 pub mod KnownNets
 pub mod RoomLemmas
@@ -46,12 +47,18 @@ pub mod BlockTells
 pub mod IdleNumbers
 pub mod BlockIdles
 pub mod ControlPorts
+pub mod TimerPlaces
 pub mod PortLaws
 pub mod ChildLooks
 pub mod NodeIdles
+pub mod NodeRuns
+pub mod CellEdges
 pub mod ExternalLaws
 pub mod MainLaws
 pub mod NumberLemmas
 pub mod TimerCells
 pub mod NetTrees
 pub mod DesignNames
+pub mod WholeInstances
+pub mod InstancePorts
+pub mod NodeRules
