@@ -119,3 +119,31 @@ module _ (part : PlainComponent) where
       gathered_aligned (length cells) form (begin_at 0 0 []) _
       (timer_aligned (length cells) (form_length part form) None 0 (form_length part form) part.place (record { cells = cells; timers = []; points = []; occurrences = [] })
       (record { cells = omega arith; timers = λ t timer e. absurd cc }))
+
+  -- what was among the cells stays there
+  abbrev KeepCells : List PlainCell → Gathered → Type 0
+  KeepCells cells g = (c : ℕ) (cell : PlainCell) → slice_get cells c ≡ Some cell → slice_get g.cells c ≡ Some cell
+
+  pub gathered_keeps : (cells : List PlainCell) (form : PlainForm) (x : Begin) (g : Gathered) → KeepCells cells g → KeepCells cells (form_gathered part form x g)
+  gathered_keeps cells form x g h =
+      form_grows part (KeepCells cells) (λ p outer from to k b c cell e. get_front k.cells (timer_cell part.place p ∷ []) c cell (b c cell e)) (λ port y k b. b) (λ group y n k b. b) form x g h
+
+  pub island_keeps : (form : PlainForm) (cells : List PlainCell) → KeepCells cells (island_gathered part form cells)
+  island_keeps form cells =
+      gathered_keeps cells form (begin_at 0 0 []) _ (λ c cell e. get_front cells (timer_cell part.place (form_length part form) ∷ []) c cell e)
+
+  -- THE CELL of each timer is that of a timer
+  abbrev pub TimersThere : Gathered → Type 0
+  TimersThere g = (t : ℕ) (timer : IslandTimer) → slice_get g.timers t ≡ Some timer → (p : ℕ) × (slice_get g.cells timer.cell ≡ Some (timer_cell part.place p))
+
+  timer_there : (p : ℕ) (outer : Option ℕ) (from to : ℕ) (g : Gathered) → TimersThere g → TimersThere (with_timer part.place p outer from to g)
+  timer_there p outer from to g h t timer e = one (found g.timers (record { cell = length g.cells; outer = outer; from = from; to = to }) t timer e)
+    where
+      one : IsFound g.timers (record { cell = length g.cells; outer = outer; from = from; to = to }) t timer → (q : ℕ) × (slice_get (g.cells ++ timer_cell part.place p ∷ []) timer.cell ≡ Some (timer_cell part.place q))
+      one (earlier f) = let k = h t timer f in (k.0, get_front g.cells (timer_cell part.place p ∷ []) timer.cell (timer_cell part.place k.0) k.1)
+      one (last f same) = (p, ap (λ (z : IslandTimer). slice_get (g.cells ++ timer_cell part.place p ∷ []) z.cell) same ∙ get_end g.cells (timer_cell part.place p))
+
+  pub island_there : (form : PlainForm) (cells : List PlainCell) → TimersThere (island_gathered part form cells)
+  island_there form cells =
+      form_grows part TimersThere (λ p outer from to g h. timer_there p (Some outer) from to g h) (λ port y g h. h) (λ group y n g h. h) form (begin_at 0 0 []) _
+      (timer_there (form_length part form) None 0 (form_length part form) (record { cells = cells; timers = []; points = []; occurrences = [] }) (λ t timer e. absurd cc))

@@ -4,8 +4,8 @@ use Rattle.cx_meaning.specs.Designs.{PlainComponent, PlainForm, Empty, Enable, S
 use Rattle.cx_meaning.specs.Islands.{group_length, form_length}
 use Rattle.cx_static.specs.declared.islands.IslandTimer.{IslandTimer}
 use Rattle.cx_static.specs.Islands.{PlainIsland}
-use Rattle.cx_static.specs.Lowering.{Lowering, island_gathered, island_of, with_island, after_enable, form_after, after, parts_after, unlowered, lowered_component}
-use Rattle.cx_wiring.proofs.GatherLaws.{AreAligned, island_aligned, get_below}
+use Rattle.cx_static.specs.Lowering.{timer_cell, Lowering, island_gathered, island_of, with_island, after_enable, form_after, after, parts_after, unlowered, lowered_component}
+use Rattle.cx_wiring.proofs.GatherLaws.{AreAligned, island_aligned, get_below, IsFound, earlier, last, found, island_keeps, island_there}
 
 -- the timers of the first islands
 abbrev pub timers_before : List PlainIsland → ℕ → ℕ
@@ -94,3 +94,45 @@ module _ (part : PlainComponent) where
 
   pub timers_stand : StandFrom (length part.cells) (lowered_component part).islands (length (lowered_component part).part.cells)
   timers_stand = statement_stands part.control (unlowered part) refl
+
+  -- AND THE CELL of each of their timers is that of a timer
+  abbrev AllThere : Lowering → Type 0
+  AllThere l = (k : ℕ) (island : PlainIsland) → slice_get l.islands k ≡ Some island → (t : ℕ) (timer : IslandTimer) → slice_get island.timers t ≡ Some timer
+      → (p : ℕ) × (slice_get l.cells timer.cell ≡ Some (timer_cell part.place p))
+
+  island_lies : (form : PlainForm) (l : Lowering) → AllThere l → AllThere (with_island part form l)
+  island_lies form l h k island is t timer at = one (found l.islands (island_of (form_length part form) (island_gathered part form l.cells)) k island is)
+    where
+      one : IsFound l.islands (island_of (form_length part form) (island_gathered part form l.cells)) k island → (p : ℕ) × (slice_get (island_gathered part form l.cells).cells timer.cell ≡ Some (timer_cell part.place p))
+      one (earlier f) = let e = h k island f t timer at in (e.0, island_keeps part form l.cells timer.cell (timer_cell part.place e.0) e.1)
+      one (last f same) = island_there part form l.cells t timer (subst (λ (i : PlainIsland). slice_get i.timers t ≡ Some timer) same at)
+
+  enable_lies : (g : ℕ) (o : Option ℕ) (l : Lowering) → AllThere l → AllThere (after_enable part g o l)
+  enable_lies g None l h = h
+  enable_lies g (Some n) l h = island_lies (Enable g) l h
+
+  mutual
+    form_lies : (form : PlainForm) (l : Lowering) → AllThere l → AllThere (form_after part form l)
+    form_lies Empty l h = h
+    form_lies (Enable g) l h = enable_lies g (group_length part g) l h
+    form_lies (Seq parts) l h = parts_lie parts l h
+    form_lies (Par arms) l h = parts_lie arms l h
+    form_lies (If test comb a b) l h = statement_lies b (after part a l) (statement_lies a l h)
+    form_lies (While test comb a) l h = statement_lies a l h
+    form_lies (Repeat count a) l h = statement_lies a l h
+    form_lies (StaticSeq written parts) l h = island_lies (StaticSeq written parts) l h
+    form_lies (StaticPar written arms) l h = island_lies (StaticPar written arms) l h
+    form_lies (StaticIf written test a b) l h = island_lies (StaticIf written test a b) l h
+    form_lies (StaticRepeat written count a) l h = island_lies (StaticRepeat written count a) l h
+    form_lies (Timed k) l h = h
+
+    statement_lies : (s : PlainStatement) (l : Lowering) → AllThere l → AllThere (after part s l)
+    statement_lies (Placed form place) l h = form_lies form l h
+
+    parts_lie : (ss : PlainStatements) (l : Lowering) → AllThere l → AllThere (parts_after part ss l)
+    parts_lie no_statements l h = h
+    parts_lie (a_statement s ss) l h = parts_lie ss (after part s l) (statement_lies s l h)
+
+  pub timers_lie : (k : ℕ) (island : PlainIsland) → slice_get (lowered_component part).islands k ≡ Some island → (t : ℕ) (timer : IslandTimer) → slice_get island.timers t ≡ Some timer
+      → (p : ℕ) × (slice_get (lowered_component part).part.cells timer.cell ≡ Some (timer_cell part.place p))
+  timers_lie = statement_lies part.control (unlowered part) (λ k island is. absurd cc)

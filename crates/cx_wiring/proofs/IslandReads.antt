@@ -4,13 +4,14 @@ use Rattle.std.proofs.Common.{◌≡◌, ℕ, zero, suc, ◌+◌, ◌<◌, ◌�
 use Rattle.cx_bits.specs.BitVector.{BitVector}
 use Rattle.cx_meaning.specs.Designs.{PlainComponent, PlainForm, Empty, Enable, Seq, Par, If, While, Repeat, StaticSeq, StaticPar, StaticIf, StaticRepeat, Timed, PlainStatement, Placed, PlainStatements, no_statements, a_statement}
 use Rattle.cx_meaning.specs.Islands.{group_length, form_length}
-use Rattle.cx_net.specs.Nets.{PlainNetTarget, ToPort, ToRegister, ToWire, ToHole, ToDone, PlainNetDriver}
+use Rattle.cx_net.specs.Nets.{PlainNetExpr, AllOf, exprs_of, PlainNetTarget, ToPort, ToRegister, ToWire, ToHole, ToDone, PlainNetDriver}
 use Rattle.cx_net.specs.NetMeaning.{Node, NetAround, same_target}
 use Rattle.cx_static.specs.Islands.{PlainIsland}
 use Rattle.cx_static.specs.Lowering.{Lowering, after_enable, form_after, after, parts_after, lowered_enable, lowered_form, lowered, lowered_parts, island_gathered, island_of}
 use Rattle.cx_wiring.specs.Counts.{wires_of, wires_in, registers_of}
-use Rattle.cx_wiring.specs.Stands.{Stand, inside, past_test, behind}
-use Rattle.cx_wiring.specs.Control.{comb_goes, timed_drivers, arm_stand, counted_inside, counting, form_drivers, drivers_of, parts_drivers, arms_drivers}
+use Rattle.cx_wiring.specs.Stands.{Stand, at, end_of, stands, ends, goes, inside, past_test, behind}
+use Rattle.cx_wiring.specs.Parts.{either}
+use Rattle.cx_wiring.specs.Control.{found_one, found_zero, comb_goes, timed_drivers, arm_stand, arm_restarts, arm_finishes, arms_over, counted_inside, counting, form_drivers, drivers_of, parts_drivers, arms_drivers}
 use Rattle.cx_wiring.specs.Bounds.{AllDrive}
 use Rattle.cx_wiring.specs.Takings.{takes, takes_of}
 use Rattle.cx_wiring.specs.IslandTakes.{FormIslands, StatementIslands, PartsIslands, ArmsIslands}
@@ -179,6 +180,27 @@ module _ (part : PlainComponent) (groups : ℕ) (islands : List PlainIsland) (bo
         ),
       )
 
+    end_skips : (x : Stand) (when : PlainNetExpr) → bound ≤ x.wire → Skips t (ends x when ∷ [])
+    end_skips x when low = ((two x low).1, tt)
+
+    goes_skips : (x : Stand) (guard : PlainNetExpr) (position : ℕ) → Skips t (goes x guard position ∷ [])
+    goes_skips x guard position = (own.register _, tt)
+
+    counting_skips : (x : Stand) (n : ℕ) → bound ≤ x.wire → Skips t (counting x n)
+    counting_skips x n low = ((two x low).1, (own.register _, (own.register _, (own.register _, tt))))
+
+    -- what is behind the first branch, or behind an arm
+    else_skips : (a b : PlainStatement) (l : Lowering) (x : Stand) (guard when : PlainNetExpr) → IsUntimed b → bound ≤ x.wire → (j < length (after part a l).islands) ⊎ (length (after part b (after part a l)).islands ≤ j)
+        → Skips t (goes x guard (behind islands (lowered part a l) (past_test x)).position ∷ (drivers_of groups islands (behind islands (lowered part a l) (past_test x)) (lowered part b (after part a l)) ++ ends x when ∷ []))
+    else_skips a b l x guard when u low out =
+        (own.register _, drive_both (λ v. same_target v t ≡ false) (drivers_of groups islands (behind islands (lowered part a l) (past_test x)) (lowered part b (after part a l))) (ends x when ∷ [])
+        (statement_skips b (after part a l) (behind islands (lowered part a l) (past_test x)) u (omega arith) out) (end_skips x when low))
+
+    rest_skips : (s : PlainStatement) (ss : PlainStatements) (l : Lowering) (par : Stand) (wire register : ℕ) → NoneTimed ss → bound ≤ wire → (j < length (after part s l).islands) ⊎ (length (parts_after part ss (after part s l)).islands ≤ j)
+        → Skips t (arm_finishes wire register (lowered part s l) ∷ arms_drivers groups islands par (wire + wires_of (lowered part s l)) (suc register + length (registers_of islands (lowered part s l))) (lowered_parts part ss (after part s l)))
+    rest_skips s ss l par wire register u low out =
+        (own.register _, arms_skip ss (after part s l) par (wire + wires_of (lowered part s l)) (suc register + length (registers_of islands (lowered part s l))) u (omega arith) out)
+
   -- WHAT AN ISLAND'S TARGETS TAKE, where it stands; each target has a value, and takes it with something of a kind behind all drivers
   module _ (around : NetAround) (registers : ℕ → Option BitVector) (look : Node → Option BitVector) (value : PlainNetTarget → Option BitVector) (Base : PlainNetTarget → Option BitVector → Type 0)
       (Mine : ℕ → PlainNetTarget → Type 0) (of_mine : (j : ℕ) (t : PlainNetTarget) → Mine j t → OfIsland j t) where
@@ -203,7 +225,7 @@ module _ (part : PlainComponent) (groups : ℕ) (islands : List PlainIsland) (bo
 
     module _ (Q : ℕ → Stand → Type 0) (each : (j : ℕ) (y : Stand) → bound ≤ y.wire → TakesItsIsland j y → Q j y) where
       island_takes : (x : Stand) (k : ℕ) (to : ℕ) → bound ≤ x.wire → k < to → AllTake k to (form_drivers groups islands x (Timed k)) → Q k x
-      island_takes x k to low less h = each k x low (λ t mine. past t _ _ ((of_mine k t mine).wire x.wire low) (h k t mine (omega arith) less))
+      island_takes x k to low less h = each k x low (λ t mine. past t (stands x) (timed_drivers groups islands x k (slice_get islands k)) ((of_mine k t mine).wire x.wire low) (h k t mine (omega arith) less))
 
       enable_takes : (g : ℕ) (o : Option ℕ) (l : Lowering) (x : Stand) → bound ≤ x.wire → AllTake (length l.islands) (length (after_enable part g o l).islands) (form_drivers groups islands x (lowered_enable part g o l))
           → FormIslands Q islands x (lowered_enable part g o l)
@@ -211,14 +233,14 @@ module _ (part : PlainComponent) (groups : ℕ) (islands : List PlainIsland) (bo
       enable_takes g (Some n) l x low h = island_takes x (length l.islands) _ low (island_more part (Enable g) l) h
 
       -- of the parts of a statement
-      first_take : (from mid to : ℕ) (xs ys : List PlainNetDriver) → mid ≤ to → ((j : ℕ) (t : PlainNetTarget) → OfIsland j t → j < mid → AllDrive (λ u. same_target u t ≡ false) ys) → AllTake from to (xs ++ ys) → AllTake from mid xs
-      first_take from mid to xs ys l skip h j t mine low high = in_front t xs ys (skip j t (of_mine j t mine) high) (h j t mine low (omega arith))
+      first_take : (from mid to : ℕ) (xs ys : List PlainNetDriver) → AllTake from to (xs ++ ys) → mid ≤ to → ((j : ℕ) (t : PlainNetTarget) → OfIsland j t → j < mid → AllDrive (λ u. same_target u t ≡ false) ys) → AllTake from mid xs
+      first_take from mid to xs ys h l skip j t mine low high = in_front t xs ys (skip j t (of_mine j t mine) high) (h j t mine low (omega arith))
 
-      later_take : (from mid to : ℕ) (xs ys : List PlainNetDriver) → from ≤ mid → ((j : ℕ) (t : PlainNetTarget) → OfIsland j t → mid ≤ j → AllDrive (λ u. same_target u t ≡ false) xs) → AllTake from to (xs ++ ys) → AllTake mid to ys
-      later_take from mid to xs ys l skip h j t mine low high = at_back t xs ys (skip j t (of_mine j t mine) low) (h j t mine (omega arith) high)
+      later_take : (from mid to : ℕ) (xs ys : List PlainNetDriver) → AllTake from to (xs ++ ys) → from ≤ mid → ((j : ℕ) (t : PlainNetTarget) → OfIsland j t → mid ≤ j → AllDrive (λ u. same_target u t ≡ false) xs) → AllTake mid to ys
+      later_take from mid to xs ys h l skip j t mine low high = at_back t xs ys (skip j t (of_mine j t mine) low) (h j t mine (omega arith) high)
 
-      past_one : (from to : ℕ) (d : PlainNetDriver) (ds : List PlainNetDriver) → ((j : ℕ) (t : PlainNetTarget) → OfIsland j t → same_target d.target t ≡ false) → AllTake from to (d ∷ ds) → AllTake from to ds
-      past_one from to d ds skip h j t mine low high = past t d ds (skip j t (of_mine j t mine)) (h j t mine low high)
+      past_one : (from to : ℕ) (d : PlainNetDriver) (ds : List PlainNetDriver) → AllTake from to (d ∷ ds) → ((j : ℕ) (t : PlainNetTarget) → OfIsland j t → same_target d.target t ≡ false) → AllTake from to ds
+      past_one from to d ds h skip j t mine low high = past t d ds (skip j t (of_mine j t mine)) (h j t mine low high)
 
       mutual
         form_takes : (form : PlainForm) (l : Lowering) (x : Stand) → NoTimed form → bound ≤ x.wire → AllTake (length l.islands) (length (form_after part form l).islands) (form_drivers groups islands x (lowered_form part form l))
@@ -229,41 +251,62 @@ module _ (part : PlainComponent) (groups : ℕ) (islands : List PlainIsland) (bo
         form_takes (Seq (a_statement s ss)) l x u low h =
             let a = length l.islands in
             let b = length (after part s l).islands in
-            let c = length (parts_after part ss (after part s l)).islands in (
+            let c = length (parts_after part ss (after part s l)).islands in
+            let xs = drivers_of groups islands (inside x) (lowered part s l) in
+            let ys = parts_drivers groups islands x (inside x).wire (behind islands (lowered part s l) (inside x)) (lowered_parts part ss (after part s l)) in (
               statement_takes s l (inside x) u.0 (omega arith)
-                  (first_take a b c (drivers_of groups islands (inside x) (lowered part s l)) _ (parts_more part ss (after part s l)) (λ j t own less. parts_skip j t own ss (after part s l) x (inside x).wire (behind islands (lowered part s l) (inside x)) u.1 low (omega arith) (inl less)) h),
+                  (first_take a b c xs ys h (parts_more part ss (after part s l)) (λ j t own less. parts_skip j t own ss (after part s l) x (inside x).wire (behind islands (lowered part s l) (inside x)) u.1 low (omega arith) (inl less))),
               parts_take ss (after part s l) x (inside x).wire (behind islands (lowered part s l) (inside x)) u.1 low (omega arith)
-                  (later_take a b c (drivers_of groups islands (inside x) (lowered part s l)) _ (more part s l) (λ j t own past. statement_skips j t own s l (inside x) u.0 (omega arith) (inr past)) h),
+                  (later_take a b c xs ys h (more part s l) (λ j t own past. statement_skips j t own s l (inside x) u.0 (omega arith) (inr past))),
             )
         form_takes (Par arms) l x u low h =
+            let a = length l.islands in
+            let c = length (parts_after part arms l).islands in
+            let xs = arms_drivers groups islands x (suc (suc x.wire)) x.register (lowered_parts part arms l) in
+            let when = AllOf (exprs_of (at x ∷ arms_over groups islands (suc (suc x.wire)) x.register (lowered_parts part arms l))) in
             arms_take arms l x (suc (suc x.wire)) x.register u (omega arith)
-            (first_take _ _ _ (arms_drivers groups islands x (suc (suc x.wire)) x.register (lowered_parts part arms l)) _ (omega arith) (λ j t own less. (own.wire (suc x.wire) (omega arith), tt))
-            (past_one _ _ _ _ (λ j t own. own.wire x.wire low) h))
+            (first_take a c c xs (ends x when ∷ []) (past_one a c (stands x) (xs ++ ends x when ∷ []) h (λ j t own. own.wire x.wire low)) (omega arith) (λ j t own less. end_skips j t own x when low))
         form_takes (If test comb a b) l x u low h =
-            let at = length l.islands in
+            let at_first = length l.islands in
             let mid = length (after part a l).islands in
             let to = length (after part b (after part a l)).islands in
-            let inner = past_one at to _ _ (λ j t own. own.register _) (later_take at at to (comb_goes groups islands x comb) _ (omega arith) (λ j t own p. comb_skips j t own x comb) (past_one at to _ _ (λ j t own. own.wire x.wire low) h)) in (
-              statement_takes a l (past_test x) u.0 (omega arith)
-                  (first_take at mid to (drivers_of groups islands (past_test x) (lowered part a l)) _ (more part b (after part a l))
-                  (λ j t own less. (own.register _, drive_both (λ v. same_target v t ≡ false) (drivers_of groups islands (behind islands (lowered part a l) (past_test x)) (lowered part b (after part a l))) _
-                  (statement_skips j t own b (after part a l) (behind islands (lowered part a l) (past_test x)) u.1 (omega arith) (inl less)) (own.wire (suc x.wire) (omega arith), tt))) inner),
-              statement_takes b (after part a l) (behind islands (lowered part a l) (past_test x)) u.1 (omega arith)
-                  (first_take mid to to (drivers_of groups islands (behind islands (lowered part a l) (past_test x)) (lowered part b (after part a l))) _ (omega arith) (λ j t own less. (own.wire (suc x.wire) (omega arith), tt))
-                  (past_one mid to _ _ (λ j t own. own.register _)
-                  (later_take at mid to (drivers_of groups islands (past_test x) (lowered part a l)) _ (more part a l) (λ j t own p. statement_skips j t own a l (past_test x) u.0 (omega arith) (inr p)) inner))),
+            let first = past_test x in
+            let second = behind islands (lowered part a l) first in
+            let xs = drivers_of groups islands first (lowered part a l) in
+            let ys = drivers_of groups islands second (lowered part b (after part a l)) in
+            let when = either (end_of first.wire) (end_of second.wire) in
+            let last = ends x when ∷ [] in
+            let one = goes x (found_one x test.port) first.position in
+            let other = goes x (found_zero x test.port) second.position in
+            let inner = past_one at_first to one (xs ++ other ∷ (ys ++ last))
+            (later_take at_first at_first to (comb_goes groups islands x comb) (one ∷ (xs ++ other ∷ (ys ++ last)))
+            (past_one at_first to (stands x) (comb_goes groups islands x comb ++ one ∷ (xs ++ other ∷ (ys ++ last))) h (λ j t own. own.wire x.wire low)) (omega arith) (λ j t own p. comb_skips j t own x comb))
+            (λ j t own. own.register _) in (
+              statement_takes a l first u.0 (omega arith)
+                  (first_take at_first mid to xs (other ∷ (ys ++ last)) inner (more part b (after part a l)) (λ j t own less. else_skips j t own a b l x (found_zero x test.port) when u.1 low (inl less))),
+              statement_takes b (after part a l) second u.1 (omega arith)
+                  (first_take mid to to ys last
+                  (past_one mid to other (ys ++ last) (later_take at_first mid to xs (other ∷ (ys ++ last)) inner (more part a l) (λ j t own p. statement_skips j t own a l first u.0 (omega arith) (inr p))) (λ j t own. own.register _))
+                  (omega arith) (λ j t own less. end_skips j t own x when low)),
             )
         form_takes (While test comb a) l x u low h =
-            let at = length l.islands in
+            let at_first = length l.islands in
             let to = length (after part a l).islands in
-            let inner = past_one at to _ _ (λ j t own. own.register _) (past_one at to _ _ (λ j t own. own.wire (suc x.wire) (omega arith))
-            (later_take at at to (comb_goes groups islands x comb) _ (omega arith) (λ j t own p. comb_skips j t own x comb) (past_one at to _ _ (λ j t own. own.wire x.wire low) h))) in
-            statement_takes a l (past_test x) u (omega arith)
-            (first_take at to to (drivers_of groups islands (past_test x) (lowered part a l)) _ (omega arith) (λ j t own less. (own.register _, tt)) inner)
+            let body = past_test x in
+            let xs = drivers_of groups islands body (lowered part a l) in
+            let again = goes x (end_of body.wire) x.position in
+            let over = ends x (found_zero x test.port) in
+            let one = goes x (found_one x test.port) body.position in
+            let inner = past_one at_first to one (xs ++ again ∷ []) (past_one at_first to over (one ∷ (xs ++ again ∷ []))
+            (later_take at_first at_first to (comb_goes groups islands x comb) (over ∷ one ∷ (xs ++ again ∷ []))
+            (past_one at_first to (stands x) (comb_goes groups islands x comb ++ over ∷ one ∷ (xs ++ again ∷ [])) h (λ j t own. own.wire x.wire low)) (omega arith) (λ j t own p. comb_skips j t own x comb))
+            (λ j t own. own.wire (suc x.wire) (omega arith))) (λ j t own. own.register _) in
+            statement_takes a l body u (omega arith) (first_take at_first to to xs (again ∷ []) inner (omega arith) (λ j t own less. goes_skips j t own x (end_of body.wire) x.position))
         form_takes (Repeat zero a) l x u low h = tt
         form_takes (Repeat (suc n) a) l x u low h =
             statement_takes a l (counted_inside x) u (omega arith)
-            (first_take _ _ _ (drivers_of groups islands (counted_inside x) (lowered part a l)) (counting x n) (omega arith) (λ j t own less. (own.wire (suc x.wire) (omega arith), (own.register _, (own.register _, (own.register _, tt))))) h)
+            (first_take (length l.islands) (length (after part a l).islands) (length (after part a l).islands) (drivers_of groups islands (counted_inside x) (lowered part a l)) (counting x n) h (omega arith)
+            (λ j t own less. counting_skips j t own x n low))
         form_takes (StaticSeq written parts) l x u low h = island_takes x (length l.islands) _ low (island_more part (StaticSeq written parts) l) h
         form_takes (StaticPar written arms) l x u low h = island_takes x (length l.islands) _ low (island_more part (StaticPar written arms) l) h
         form_takes (StaticIf written test a b) l x u low h = island_takes x (length l.islands) _ low (island_more part (StaticIf written test a b) l) h
@@ -281,11 +324,13 @@ module _ (part : PlainComponent) (groups : ℕ) (islands : List PlainIsland) (bo
             let a = length l.islands in
             let b = length (after part s l).islands in
             let c = length (parts_after part ss (after part s l)).islands in
-            let inner = past_one a c _ _ (λ j t own. own.register _) h in (
+            let xs = drivers_of groups islands x (lowered part s l) in
+            let ys = parts_drivers groups islands seq x.wire (behind islands (lowered part s l) x) (lowered_parts part ss (after part s l)) in
+            let inner = past_one a c (goes x (end_of before) x.position) (xs ++ ys) h (λ j t own. own.register _) in (
               statement_takes s l x u.0 low
-                  (first_take a b c (drivers_of groups islands x (lowered part s l)) _ (parts_more part ss (after part s l)) (λ j t own less. parts_skip j t own ss (after part s l) seq x.wire (behind islands (lowered part s l) x) u.1 base (omega arith) (inl less)) inner),
+                  (first_take a b c xs ys inner (parts_more part ss (after part s l)) (λ j t own less. parts_skip j t own ss (after part s l) seq x.wire (behind islands (lowered part s l) x) u.1 base (omega arith) (inl less))),
               parts_take ss (after part s l) seq x.wire (behind islands (lowered part s l) x) u.1 base (omega arith)
-                  (later_take a b c (drivers_of groups islands x (lowered part s l)) _ (more part s l) (λ j t own past. statement_skips j t own s l x u.0 low (inr past)) inner),
+                  (later_take a b c xs ys inner (more part s l) (λ j t own past. statement_skips j t own s l x u.0 low (inr past))),
             )
 
         arms_take : (arms : PlainStatements) (l : Lowering) (par : Stand) (wire register : ℕ) → NoneTimed arms → bound ≤ wire
@@ -295,11 +340,12 @@ module _ (part : PlainComponent) (groups : ℕ) (islands : List PlainIsland) (bo
             let a = length l.islands in
             let b = length (after part s l).islands in
             let c = length (parts_after part ss (after part s l)).islands in
-            let inner = past_one a c _ _ (λ j t own. own.register _) h in (
+            let xs = drivers_of groups islands (arm_stand par wire register) (lowered part s l) in
+            let finish = arm_finishes wire register (lowered part s l) in
+            let ys = arms_drivers groups islands par (wire + wires_of (lowered part s l)) (suc register + length (registers_of islands (lowered part s l))) (lowered_parts part ss (after part s l)) in
+            let inner = past_one a c (arm_restarts par register) (xs ++ finish ∷ ys) h (λ j t own. own.register _) in (
               statement_takes s l (arm_stand par wire register) u.0 low
-                  (first_take a b c (drivers_of groups islands (arm_stand par wire register) (lowered part s l)) _ (parts_more part ss (after part s l))
-                  (λ j t own less. (own.register _, arms_skip j t own ss (after part s l) par (wire + wires_of (lowered part s l)) (suc register + length (registers_of islands (lowered part s l))) u.1 (omega arith) (inl less))) inner),
+                  (first_take a b c xs (finish ∷ ys) inner (parts_more part ss (after part s l)) (λ j t own less. rest_skips j t own s ss l par wire register u.1 low (inl less))),
               arms_take ss (after part s l) par (wire + wires_of (lowered part s l)) (suc register + length (registers_of islands (lowered part s l))) u.1 (omega arith)
-                  (past_one b c _ _ (λ j t own. own.register _)
-                  (later_take a b c (drivers_of groups islands (arm_stand par wire register) (lowered part s l)) _ (more part s l) (λ j t own past. statement_skips j t own s l (arm_stand par wire register) u.0 low (inr past)) inner)),
+                  (past_one b c finish ys (later_take a b c xs (finish ∷ ys) inner (more part s l) (λ j t own past. statement_skips j t own s l (arm_stand par wire register) u.0 low (inr past))) (λ j t own. own.register _)),
             )

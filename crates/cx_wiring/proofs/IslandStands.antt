@@ -1,5 +1,5 @@
 -- The wires of a component's islands, and the goes of their timers, take what the drivers of their own islands give them.
-use Rattle.std.proofs.Common.{◌≡◌, ℕ, zero, suc, ◌+◌, ◌<◌, ◌≤◌, inl, inr, false, if◌then◌else◌, List, [], ◌∷◌, ◌++◌, length, take, Option, Some, None, slice_get, refl, sym, ap, ◌∙◌, subst, arith}
+use Rattle.std.proofs.Common.{◌≡◌, ◌⊎◌, ◌==◌, ℕ, zero, suc, ◌+◌, ◌<◌, ◌≤◌, inl, inr, false, if◌then◌else◌, List, [], ◌∷◌, ◌++◌, length, take, Option, Some, None, slice_get, refl, sym, ap, ◌∙◌, subst, arith}
 use Rattle.std.proofs.lemmas.Bool.{cases_order}
 use Rattle.cx_bits.specs.BitVector.{BitVector}
 use Rattle.cx_meaning.specs.declared.ports.PortRef.{PortRef}
@@ -14,7 +14,7 @@ use Rattle.cx_wiring.specs.Stands.{Stand}
 use Rattle.cx_wiring.specs.IslandDrivers.{wires_of_island, island_wires, first_of_island, timer_drivers, point_drivers, occurrence_drivers, island_drivers}
 use Rattle.cx_wiring.specs.Control.{timed_drivers, whole_stand, drivers_of}
 use Rattle.cx_wiring.specs.Wiring.{groups, first_of_control}
-use Rattle.cx_wiring.specs.Bounds.{AllDrive, OccurrencesName, IslandsName}
+use Rattle.cx_wiring.specs.Bounds.{AllDrive, IslandNames, IslandsName}
 use Rattle.cx_wiring.specs.Takings.{takes}
 use Rattle.cx_wiring.specs.IslandTakes.{StatementIslands, TakesIsland}
 use Rattle.cx_wiring.proofs.RoomLemmas.{drive_both}
@@ -44,7 +44,7 @@ module _ (c groups : ℕ) (x : Stand) (first : ℕ) (island : PlainIsland) where
 
   timers_skip : (n : ℕ) (rest : List IslandTimer) → ((t : ℕ) (timer : IslandTimer) → slice_get rest t ≡ Some timer → timer.cell ≡ c → ⊥) → Skip (timer_drivers groups x first island n rest)
   timers_skip n [] other = tt
-  timers_skip n (timer ∷ rest) other = (refl, (ap (λ b. if b then (0 ◌==◌ 0) else false) (differs timer.cell c (other 0 timer refl)), timers_skip (suc n) rest (λ t late e. other (suc t) late e)))
+  timers_skip n (timer ∷ rest) other = (refl, (ap (λ b. if b then 0 == 0 else false) (differs timer.cell c (other 0 timer refl)), timers_skip (suc n) rest (λ t late e. other (suc t) late e)))
 
   points_skip : (n : ℕ) (rest : List PlainPoint) → Skip (point_drivers groups x first island n rest)
   points_skip n [] = tt
@@ -109,18 +109,14 @@ module _ (part : PlainComponent) (named : IslandsName (groups (lowered_component
         others = λ i other y from. at_island (λ u. same_target u (ToWire n) ≡ false) y i (slice_get I i) refl
             (λ late at. island_drives (λ u. same_target u (ToWire n) ≡ false) (no_port G I named around registers look n) G y (first_of_island G I i) late
             (λ m from to. differs m n (λ e. disjoint i other late at m from to e)) (differs (suc y.wire) n (λ e. omega arith)) (λ m from to. refl) (λ g less. differs g n (λ e. omega arith)) (λ g less. refl)
-            (subst (λ o. OccurrencesNamed o) at (names_at G I i named)));
+            (subst (IslandNames G) at (names_at G I i named)));
       }
     where
-      abbrev OccurrencesNamed : Option PlainIsland → Type 0
-      OccurrencesNamed None = Unit {0}
-      OccurrencesNamed (Some late) = OccurrencesName (groups (lowered_component part)) late.occurrences
-
       disjoint : (i : ℕ) → (i ≡ j → ⊥) → (late : PlainIsland) → slice_get (lowered_component part).islands i ≡ Some late → (m : ℕ) → first_of_island (groups (lowered_component part)) (lowered_component part).islands i ≤ m
           → m < first_of_island (groups (lowered_component part)) (lowered_component part).islands i + wires_of_island late → m ≡ n → ⊥
       disjoint i other late at m from to e = by (cases_order i j)
         where
-          by : _ → ⊥
+          by : (i ≡ j) ⊎ ((i < j) ⊎ (j < i)) → ⊥
           by (inl same) = other same
           by (inr (inl less)) = let h : island_wires (take i I) + wires_of_island late ≤ island_wires (take j I) = wires_later I i j late at less in omega arith
           by (inr (inr more)) = let h : island_wires (take j I) + wires_of_island island ≤ island_wires (take i I) = wires_later I j i island is more in omega arith
@@ -139,7 +135,7 @@ module _ (part : PlainComponent) (named : IslandsName (groups (lowered_component
       distinct : (i : ℕ) → (i ≡ j → ⊥) → (late : PlainIsland) → slice_get (lowered_component part).islands i ≡ Some late → (u : ℕ) (second : IslandTimer) → slice_get late.timers u ≡ Some second → second.cell ≡ timer.cell → ⊥
       distinct i other late there u second e f = by (cases_order i j)
         where
-          by : _ → ⊥
+          by : (i ≡ j) ⊎ ((i < j) ⊎ (j < i)) → ⊥
           by (inl alike) = other alike
           by (inr (inl less)) = let h : second.cell < timer.cell = apart _ _ I (timers_stand part) i j late island there is less u t second timer e at in omega arith
           by (inr (inr more)) = let h : timer.cell < second.cell = apart _ _ I (timers_stand part) j i island late is there more t u timer second at e in omega arith

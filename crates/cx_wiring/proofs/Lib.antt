@@ -16,6 +16,7 @@ pub mod GatherLaws
 pub mod IslandCells
 pub mod IslandReads
 pub mod IslandStands
+pub mod TimerRows
 pub mod GuardLaws
 pub mod AssignLaws
 pub mod HoleLaws
