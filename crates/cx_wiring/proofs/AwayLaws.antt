@@ -29,7 +29,7 @@ and_false : (a : Bool) → (a && false) ≡ false
 and_false true = refl
 and_false false = refl
 
-not_here : (acting : Bool) (r p n : ℕ) → 1 ≤ n → IsStopped acting r p n → (acting && (r == p)) ≡ false
+pub not_here : (acting : Bool) (r p n : ℕ) → 1 ≤ n → IsStopped acting r p n → (acting && (r == p)) ≡ false
 not_here acting r p n some (inl e) = ap (λ b. b && (r == p)) e
 not_here acting r p n some (inr (inl l)) = ap (λ b. acting && b) (differs r p (λ e. omega arith)) ∙ and_false acting
 not_here acting r p n some (inr (inr l)) = ap (λ b. acting && b) (differs r p (λ e. omega arith)) ∙ and_false acting

@@ -108,6 +108,25 @@ module _ (d : PlainLowereds) (part : PlainComponent) (named : IslandsName (group
   abbrev AD : List PlainNetDriver
   AD = assigns_drivers (groups (lowered_component part)) (first_of_assigns (lowered_component part)) (driven_assigns (lowered_component part))
 
+  -- the goes of timers take what control gives them
+  pub timer_goes : ((o : Owned) → In (driven_assigns (lowered_component part)) o → IsOwnTarget part o.assign.target) → EachTimer part (IsTimerIn part cells)
+      → EachTimer part (λ timer. look [] (APort (ports.Cell timer.cell 0)) ≡ takes around (registers_of (net_component d (lowered_component part)) cells around s (look []) (λ c. look (c ∷ []))) (look [])
+      (ToPort (ports.Cell timer.cell 0)) (Some (truth_bit false))
+      (drivers_of (groups (lowered_component part)) (lowered_component part).islands (whole_stand (first_of_control (lowered_component part))) (lowered part part.control (unlowered part))))
+  timer_goes own timers k island is t timer at =
+      let row = timers k island is t timer at in
+      let R = registers_of (net_component d (lowered_component part)) cells around s (look []) (λ c. look (c ∷ [])) in
+      let width : target_width d (lowered_component part) (ToPort (ports.Cell timer.cell 0)) ≡ 1 =
+      ap (λ o. unwrap_or (port_width d (lowered_component part) o 0) 1) row.there ∙ ap (λ (r : Row). unwrap_or (option_map (λ (x : PortRow). x.width) (slice_get r.ports 0)) 1) (row_of_timer row.cycles row.some row.few) in
+      solves (APort (ports.Cell timer.cell 0)) (ap (λ a. is_port_of a 0) row.in_net)
+      ∙ ap (λ a. cell_node (net_component d (lowered_component part)) cells around s (look []) (λ c. look (c ∷ [])) timer.cell 0 a) row.in_net
+      ∙ ap (λ w. first_true around R (look []) (zero_wide w) (drivers_to (ToPort (ports.Cell timer.cell 0)) (net_component d (lowered_component part)).drivers)) (sym width)
+      ∙ target_takes d (lowered_component part) around R (look []) plain reads (ToPort (ports.Cell timer.cell 0)) tt (λ m from. refl) (λ at. refl)
+      ∙ ap (λ w. takes around R (look []) (ToPort (ports.Cell timer.cell 0)) (Some (zero_wide w)) (plain_drivers (lowered_component part))) width
+      ∙ takes_append around R (look []) (ToPort (ports.Cell timer.cell 0)) (Some (zero_wide 1)) (CD ++ FD) AD
+      ∙ ap (λ z. takes around R (look []) (ToPort (ports.Cell timer.cell 0)) z (CD ++ FD)) (others_pass around R (look []) (ToPort (ports.Cell timer.cell 0)) (Some (zero_wide 1)) AD (assigns_skip part own k island is t timer at))
+      ∙ takes_append around R (look []) (ToPort (ports.Cell timer.cell 0)) (Some (zero_wide 1)) CD FD
+
   -- ONE CYCLE of control
   pub plain_cycle : IsUntimed part.control → ((o : Owned) → In (driven_assigns (lowered_component part)) o → IsOwnTarget part o.assign.target)
       → EachTimer part (IsTimerIn part cells)
@@ -126,7 +145,7 @@ module _ (d : PlainLowereds) (part : PlainComponent) (named : IslandsName (group
         (λ n less. let h : n < first_of_assigns (lowered_component part) = omega arith in
         read_before (groups (lowered_component part)) (lowered_component part).islands named around (registers_of (net_component d (lowered_component part)) cells around s (look []) (λ c. look (c ∷ []))) (look []) n CD FD
         (read_before (groups (lowered_component part)) (lowered_component part).islands named around (registers_of (net_component d (lowered_component part)) cells around s (look []) (λ c. look (c ∷ []))) (look []) n (CD ++ FD) AD (wires_are n h)))
-        go_takes;
+        (timer_goes own timers);
     goes = λ g there. let holes : groups (lowered_component part) + g < groups (lowered_component part) + groups (lowered_component part) = omega arith in
         let is = lt-ltb (groups (lowered_component part) + g) (groups (lowered_component part) + groups (lowered_component part)) holes in
         solves (AHole (groups (lowered_component part) + g)) is
@@ -137,21 +156,6 @@ module _ (d : PlainLowereds) (part : PlainComponent) (named : IslandsName (group
     bits = test_bits;
   }
     where
-      go_takes : EachTimer part (λ timer. look [] (APort (ports.Cell timer.cell 0)) ≡ takes around (registers_of (net_component d (lowered_component part)) cells around s (look []) (λ c. look (c ∷ []))) (look [])
-          (ToPort (ports.Cell timer.cell 0)) (Some (truth_bit false)) CD)
-      go_takes k island is t timer at =
-          let row = timers k island is t timer at in
-          let R = registers_of (net_component d (lowered_component part)) cells around s (look []) (λ c. look (c ∷ [])) in
-          let width : target_width d (lowered_component part) (ToPort (ports.Cell timer.cell 0)) ≡ 1 =
-          ap (λ o. unwrap_or (port_width d (lowered_component part) o 0) 1) row.there ∙ ap (λ (r : Row). unwrap_or (option_map (λ (x : PortRow). x.width) (slice_get r.ports 0)) 1) (row_of_timer row.cycles row.some row.few) in
-          solves (APort (ports.Cell timer.cell 0)) (ap (λ a. is_port_of a 0) row.in_net)
-          ∙ ap (λ a. cell_node (net_component d (lowered_component part)) cells around s (look []) (λ c. look (c ∷ [])) timer.cell 0 a) row.in_net
-          ∙ ap (λ w. first_true around R (look []) (zero_wide w) (drivers_to (ToPort (ports.Cell timer.cell 0)) (net_component d (lowered_component part)).drivers)) (sym width)
-          ∙ target_takes d (lowered_component part) around R (look []) plain reads (ToPort (ports.Cell timer.cell 0)) tt (λ m from. refl) (λ at. refl)
-          ∙ ap (λ w. takes around R (look []) (ToPort (ports.Cell timer.cell 0)) (Some (zero_wide w)) (plain_drivers (lowered_component part))) width
-          ∙ takes_append around R (look []) (ToPort (ports.Cell timer.cell 0)) (Some (zero_wide 1)) (CD ++ FD) AD
-          ∙ ap (λ z. takes around R (look []) (ToPort (ports.Cell timer.cell 0)) z (CD ++ FD)) (others_pass around R (look []) (ToPort (ports.Cell timer.cell 0)) (Some (zero_wide 1)) AD (assigns_skip part own k island is t timer at))
-          ∙ takes_append around R (look []) (ToPort (ports.Cell timer.cell 0)) (Some (zero_wide 1)) CD FD
       wires_are : (n : ℕ) → n < first_of_assigns (lowered_component part)
           → Reads (groups (lowered_component part)) (lowered_component part).islands named around (registers_of (net_component d (lowered_component part)) cells around s (look []) (λ c. look (c ∷ []))) (look []) n (plain_drivers (lowered_component part))
       wires_are n less =

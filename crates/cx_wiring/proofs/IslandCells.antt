@@ -1,11 +1,14 @@
 -- The timers of a component's islands stand behind its cells, island by island.
 use Rattle.std.proofs.Common.{◌≡◌, ℕ, zero, suc, ◌+◌, ◌<◌, ◌≤◌, List, [], ◌∷◌, ◌++◌, length, Option, Some, None, slice_get, refl, sym, ap, ◌∙◌, subst, arith}
-use Rattle.cx_meaning.specs.Designs.{PlainComponent, PlainForm, Empty, Enable, Seq, Par, If, While, Repeat, StaticSeq, StaticPar, StaticIf, StaticRepeat, Timed, PlainStatement, Placed, PlainStatements, no_statements, a_statement}
+use Rattle.cx_meaning.specs.Sights.{In}
+use Rattle.cx_meaning.specs.Designs.{PlainCell, PlainComponent, PlainForm, Empty, Enable, Seq, Par, If, While, Repeat, StaticSeq, StaticPar, StaticIf, StaticRepeat, Timed, PlainStatement, Placed, PlainStatements, no_statements, a_statement}
 use Rattle.cx_meaning.specs.Islands.{group_length, form_length}
 use Rattle.cx_static.specs.declared.islands.IslandTimer.{IslandTimer}
-use Rattle.cx_static.specs.Islands.{PlainIsland}
+use Rattle.cx_static.specs.declared.islands.Sample.{Sample}
+use Rattle.cx_static.specs.Islands.{PlainPoint, PlainOccurrence, PlainIsland}
 use Rattle.cx_static.specs.Lowering.{timer_cell, Lowering, island_gathered, island_of, with_island, after_enable, form_after, after, parts_after, unlowered, lowered_component}
-use Rattle.cx_wiring.proofs.GatherLaws.{AreAligned, island_aligned, get_below, IsFound, earlier, last, found, island_keeps, island_there}
+use Rattle.cx_wiring.proofs.GatherLaws.{get_front, get_below, IsFound, earlier, last, found, island_aligned, island_keeps, island_there}
+use Rattle.cx_wiring.proofs.ListedLaws.{island_listed}
 
 -- the timers of the first islands
 abbrev pub timers_before : List PlainIsland → ℕ → ℕ
@@ -56,8 +59,75 @@ apart a b islands h k j one other is also less t u timer late at there =
     let e : timers_before islands k + length one.timers ≤ timers_before islands j = before_later islands k j one is less in
     let f : t < length one.timers = get_below one.timers t timer at in omega arith
 
--- AND SO DO those of a lowered component
+-- WHAT EACH ISLAND KEEPS all of control keeps
+module _ (part : PlainComponent) (Q : Lowering → Type 0) (of_island : (form : PlainForm) (l : Lowering) → Q l → Q (with_island part form l)) where
+  enable_lowers : (g : ℕ) (o : Option ℕ) (l : Lowering) → Q l → Q (after_enable part g o l)
+  enable_lowers g None l q = q
+  enable_lowers g (Some n) l q = of_island (Enable g) l q
+
+  mutual
+    form_lowers : (form : PlainForm) (l : Lowering) → Q l → Q (form_after part form l)
+    form_lowers Empty l q = q
+    form_lowers (Enable g) l q = enable_lowers g (group_length part g) l q
+    form_lowers (Seq parts) l q = parts_lower parts l q
+    form_lowers (Par arms) l q = parts_lower arms l q
+    form_lowers (If test comb a b) l q = lowers b (after part a l) (lowers a l q)
+    form_lowers (While test comb a) l q = lowers a l q
+    form_lowers (Repeat count a) l q = lowers a l q
+    form_lowers (StaticSeq written parts) l q = of_island (StaticSeq written parts) l q
+    form_lowers (StaticPar written arms) l q = of_island (StaticPar written arms) l q
+    form_lowers (StaticIf written test a b) l q = of_island (StaticIf written test a b) l q
+    form_lowers (StaticRepeat written count a) l q = of_island (StaticRepeat written count a) l q
+    form_lowers (Timed k) l q = q
+
+    pub lowers : (s : PlainStatement) (l : Lowering) → Q l → Q (after part s l)
+    lowers (Placed form place) l q = form_lowers form l q
+
+    pub parts_lower : (ss : PlainStatements) (l : Lowering) → Q l → Q (parts_after part ss l)
+    parts_lower no_statements l q = q
+    parts_lower (a_statement s ss) l q = parts_lower ss (after part s l) (lowers s l q)
+
+-- islands and cells stay when more is lowered
+pub record IsBefore (first final : Lowering) : Type 0 where
+  pub islands : (k : ℕ) (island : PlainIsland) → slice_get first.islands k ≡ Some island → slice_get final.islands k ≡ Some island
+  pub cells : (c : ℕ) (cell : PlainCell) → slice_get first.cells c ≡ Some cell → slice_get final.cells c ≡ Some cell
+
+-- an island is made of a form, whose cells stay
+pub record IsMade (part : PlainComponent) (l : Lowering) (island : PlainIsland) : Type 0 where
+  pub form : PlainForm
+  pub cells : List PlainCell
+  pub is : island ≡ island_of (form_length part form) (island_gathered part form cells)
+  pub stay : (c : ℕ) (cell : PlainCell) → slice_get (island_gathered part form cells).cells c ≡ Some cell → slice_get l.cells c ≡ Some cell
+
 module _ (part : PlainComponent) where
+  island_before : (first : Lowering) (form : PlainForm) (l : Lowering) → IsBefore first l → IsBefore first (with_island part form l)
+  island_before first form l b = record {
+    islands = λ k island e. get_front l.islands (island_of (form_length part form) (island_gathered part form l.cells) ∷ []) k island (b.islands k island e);
+    cells = λ c cell e. island_keeps part form l.cells c cell (b.cells c cell e);
+  }
+
+  pub itself : (l : Lowering) → IsBefore l l
+  itself l = record { islands = λ k island e. e; cells = λ c cell e. e }
+
+  pub both_before : (a b c : Lowering) → IsBefore a b → IsBefore b c → IsBefore a c
+  both_before a b c f g = record { islands = λ k island e. g.islands k island (f.islands k island e); cells = λ n cell e. g.cells n cell (f.cells n cell e) }
+
+  pub before_after : (s : PlainStatement) (l : Lowering) → IsBefore l (after part s l)
+  before_after s l = lowers part (IsBefore l) (λ form k b. island_before l form k b) s l (itself l)
+
+  pub before_parts : (ss : PlainStatements) (l : Lowering) → IsBefore l (parts_after part ss l)
+  before_parts ss l = parts_lower part (IsBefore l) (λ form k b. island_before l form k b) ss l (itself l)
+
+  abbrev AllMade : Lowering → Type 0
+  AllMade l = (k : ℕ) (island : PlainIsland) → slice_get l.islands k ≡ Some island → IsMade part l island
+
+  island_made : (form : PlainForm) (l : Lowering) → AllMade l → AllMade (with_island part form l)
+  island_made form l h k island is = one (found l.islands (island_of (form_length part form) (island_gathered part form l.cells)) k island is)
+    where
+      one : IsFound l.islands (island_of (form_length part form) (island_gathered part form l.cells)) k island → IsMade part (with_island part form l) island
+      one (earlier f) = let m = h k island f in record { form = m.form; cells = m.cells; is = m.is; stay = λ c cell e. island_keeps part form l.cells c cell (m.stay c cell e) }
+      one (last f same) = record { form = form; cells = l.cells; is = same; stay = λ c cell e. e }
+
   abbrev Stand : Lowering → Type 0
   Stand l = StandFrom (length part.cells) l.islands (length l.cells)
 
@@ -66,73 +136,34 @@ module _ (part : PlainComponent) where
       let g = island_aligned part form l.cells in
       one_behind (length part.cells) (length l.cells) _ l.islands (island_of (form_length part form) (island_gathered part form l.cells)) h g.timers g.cells
 
-  enable_stands : (g : ℕ) (o : Option ℕ) (l : Lowering) → Stand l → Stand (after_enable part g o l)
-  enable_stands g None l h = h
-  enable_stands g (Some n) l h = island_stands (Enable g) l h
+  -- OF A LOWERED COMPONENT
+  abbrev pub final : Lowering
+  final = after part part.control (unlowered part)
 
-  mutual
-    form_stands : (form : PlainForm) (l : Lowering) → Stand l → Stand (form_after part form l)
-    form_stands Empty l h = h
-    form_stands (Enable g) l h = enable_stands g (group_length part g) l h
-    form_stands (Seq parts) l h = parts_stand parts l h
-    form_stands (Par arms) l h = parts_stand arms l h
-    form_stands (If test comb a b) l h = statement_stands b (after part a l) (statement_stands a l h)
-    form_stands (While test comb a) l h = statement_stands a l h
-    form_stands (Repeat count a) l h = statement_stands a l h
-    form_stands (StaticSeq written parts) l h = island_stands (StaticSeq written parts) l h
-    form_stands (StaticPar written arms) l h = island_stands (StaticPar written arms) l h
-    form_stands (StaticIf written test a b) l h = island_stands (StaticIf written test a b) l h
-    form_stands (StaticRepeat written count a) l h = island_stands (StaticRepeat written count a) l h
-    form_stands (Timed k) l h = h
-
-    statement_stands : (s : PlainStatement) (l : Lowering) → Stand l → Stand (after part s l)
-    statement_stands (Placed form place) l h = form_stands form l h
-
-    parts_stand : (ss : PlainStatements) (l : Lowering) → Stand l → Stand (parts_after part ss l)
-    parts_stand no_statements l h = h
-    parts_stand (a_statement s ss) l h = parts_stand ss (after part s l) (statement_stands s l h)
+  pub made : (k : ℕ) (island : PlainIsland) → slice_get (lowered_component part).islands k ≡ Some island → IsMade part (after part part.control (unlowered part)) island
+  made = lowers part AllMade island_made part.control (unlowered part) (λ k island is. absurd cc)
 
   pub timers_stand : StandFrom (length part.cells) (lowered_component part).islands (length (lowered_component part).part.cells)
-  timers_stand = statement_stands part.control (unlowered part) refl
-
-  -- AND THE CELL of each of their timers is that of a timer
-  abbrev AllThere : Lowering → Type 0
-  AllThere l = (k : ℕ) (island : PlainIsland) → slice_get l.islands k ≡ Some island → (t : ℕ) (timer : IslandTimer) → slice_get island.timers t ≡ Some timer
-      → (p : ℕ) × (slice_get l.cells timer.cell ≡ Some (timer_cell part.place p))
-
-  island_lies : (form : PlainForm) (l : Lowering) → AllThere l → AllThere (with_island part form l)
-  island_lies form l h k island is t timer at = one (found l.islands (island_of (form_length part form) (island_gathered part form l.cells)) k island is)
-    where
-      one : IsFound l.islands (island_of (form_length part form) (island_gathered part form l.cells)) k island → (p : ℕ) × (slice_get (island_gathered part form l.cells).cells timer.cell ≡ Some (timer_cell part.place p))
-      one (earlier f) = let e = h k island f t timer at in (e.0, island_keeps part form l.cells timer.cell (timer_cell part.place e.0) e.1)
-      one (last f same) = island_there part form l.cells t timer (subst (λ (i : PlainIsland). slice_get i.timers t ≡ Some timer) same at)
-
-  enable_lies : (g : ℕ) (o : Option ℕ) (l : Lowering) → AllThere l → AllThere (after_enable part g o l)
-  enable_lies g None l h = h
-  enable_lies g (Some n) l h = island_lies (Enable g) l h
-
-  mutual
-    form_lies : (form : PlainForm) (l : Lowering) → AllThere l → AllThere (form_after part form l)
-    form_lies Empty l h = h
-    form_lies (Enable g) l h = enable_lies g (group_length part g) l h
-    form_lies (Seq parts) l h = parts_lie parts l h
-    form_lies (Par arms) l h = parts_lie arms l h
-    form_lies (If test comb a b) l h = statement_lies b (after part a l) (statement_lies a l h)
-    form_lies (While test comb a) l h = statement_lies a l h
-    form_lies (Repeat count a) l h = statement_lies a l h
-    form_lies (StaticSeq written parts) l h = island_lies (StaticSeq written parts) l h
-    form_lies (StaticPar written arms) l h = island_lies (StaticPar written arms) l h
-    form_lies (StaticIf written test a b) l h = island_lies (StaticIf written test a b) l h
-    form_lies (StaticRepeat written count a) l h = island_lies (StaticRepeat written count a) l h
-    form_lies (Timed k) l h = h
-
-    statement_lies : (s : PlainStatement) (l : Lowering) → AllThere l → AllThere (after part s l)
-    statement_lies (Placed form place) l h = form_lies form l h
-
-    parts_lie : (ss : PlainStatements) (l : Lowering) → AllThere l → AllThere (parts_after part ss l)
-    parts_lie no_statements l h = h
-    parts_lie (a_statement s ss) l h = parts_lie ss (after part s l) (statement_lies s l h)
+  timers_stand = lowers part Stand island_stands part.control (unlowered part) refl
 
   pub timers_lie : (k : ℕ) (island : PlainIsland) → slice_get (lowered_component part).islands k ≡ Some island → (t : ℕ) (timer : IslandTimer) → slice_get island.timers t ≡ Some timer
       → (p : ℕ) × (slice_get (lowered_component part).part.cells timer.cell ≡ Some (timer_cell part.place p))
-  timers_lie = statement_lies part.control (unlowered part) (λ k island is. absurd cc)
+  timers_lie k island is t timer at =
+      let m = made k island is in
+      let there = island_there part m.form m.cells t timer (subst (λ (i : PlainIsland). slice_get i.timers t ≡ Some timer) m.is at) in (there.0, m.stay timer.cell (timer_cell part.place there.0) there.1)
+
+  -- an island's lists, with the cells of the component
+  pub record IsListed (island : PlainIsland) : Type 0 where
+    pub some : 0 < length island.timers
+    pub first : (timer : IslandTimer) → slice_get island.timers 0 ≡ Some timer → timer.outer ≡ None
+    pub within : (n : ℕ) (timer : IslandTimer) → slice_get island.timers n ≡ Some timer → 0 < n → (outer : ℕ) × (timer.outer ≡ Some outer) × (outer < n)
+    pub points : (n : ℕ) (p : PlainPoint) → slice_get island.points n ≡ Some p → (p.timer < length island.timers) × ((s : Sample) → In p.samples s → s.point < n)
+    pub occurrences : (n : ℕ) (o : PlainOccurrence) → slice_get island.occurrences n ≡ Some o → (o.timer < length island.timers) × ((s : Sample) → In o.samples s → s.point < length island.points)
+
+  listed_made : (form : PlainForm) (cells : List PlainCell) → IsListed (island_of (form_length part form) (island_gathered part form cells))
+  listed_made form cells =
+      let h = island_listed part form cells in
+      record { some = h.some; first = h.first; within = λ n timer e later. let k = h.within n timer e later in (k.0, k.1, k.2.before); points = h.points; occurrences = h.occurrences }
+
+  pub listed : (k : ℕ) (island : PlainIsland) → slice_get (lowered_component part).islands k ≡ Some island → IsListed island
+  listed k island is = let m = made k island is in subst IsListed (sym m.is) (listed_made m.form m.cells)

@@ -203,16 +203,16 @@ module _ (part : PlainComponent) (groups : ℕ) (islands : List PlainIsland) (bo
 
   -- WHAT AN ISLAND'S TARGETS TAKE, where it stands; each target has a value, and takes it with something of a kind behind all drivers
   module _ (around : NetAround) (registers : ℕ → Option BitVector) (look : Node → Option BitVector) (value : PlainNetTarget → Option BitVector) (Base : PlainNetTarget → Option BitVector → Type 0)
-      (Mine : ℕ → PlainNetTarget → Type 0) (of_mine : (j : ℕ) (t : PlainNetTarget) → Mine j t → OfIsland j t) where
+      (Has : ℕ → Type 0) (Mine : ℕ → PlainNetTarget → Type 0) (of_mine : (j : ℕ) (t : PlainNetTarget) → Mine j t → OfIsland j t) where
     abbrev pub TakesIts : PlainNetTarget → List PlainNetDriver → Type 0
     TakesIts t ds = (o : Option BitVector) × Base t o × (value t ≡ takes around registers look t o ds)
 
     -- each target of islands from one number to before another
     abbrev pub AllTake : (from to : ℕ) → List PlainNetDriver → Type 0
-    AllTake from to ds = (j : ℕ) (t : PlainNetTarget) → Mine j t → from ≤ j → j < to → TakesIts t ds
+    AllTake from to ds = (j : ℕ) → from ≤ j → j < to → Has j × ((t : PlainNetTarget) → Mine j t → TakesIts t ds)
 
     abbrev pub TakesItsIsland : ℕ → Stand → Type 0
-    TakesItsIsland j y = (t : PlainNetTarget) → Mine j t → TakesIts t (timed_drivers groups islands y j (slice_get islands j))
+    TakesItsIsland j y = Has j × ((t : PlainNetTarget) → Mine j t → TakesIts t (timed_drivers groups islands y j (slice_get islands j)))
 
     in_front : (t : PlainNetTarget) (xs ys : List PlainNetDriver) → AllDrive (λ u. same_target u t ≡ false) ys → TakesIts t (xs ++ ys) → TakesIts t xs
     in_front t xs ys skip h = (h.0, h.1, h.2 ∙ takes_append around registers look t h.0 xs ys ∙ ap (λ z. takes around registers look t z xs) (others_pass around registers look t h.0 ys skip))
@@ -225,7 +225,7 @@ module _ (part : PlainComponent) (groups : ℕ) (islands : List PlainIsland) (bo
 
     module _ (Q : ℕ → Stand → Type 0) (each : (j : ℕ) (y : Stand) → bound ≤ y.wire → TakesItsIsland j y → Q j y) where
       island_takes : (x : Stand) (k : ℕ) (to : ℕ) → bound ≤ x.wire → k < to → AllTake k to (form_drivers groups islands x (Timed k)) → Q k x
-      island_takes x k to low less h = each k x low (λ t mine. past t (stands x) (timed_drivers groups islands x k (slice_get islands k)) ((of_mine k t mine).wire x.wire low) (h k t mine (omega arith) less))
+      island_takes x k to low less h = let i = h k (omega arith) less in each k x low (i.0, λ t mine. past t (stands x) (timed_drivers groups islands x k (slice_get islands k)) ((of_mine k t mine).wire x.wire low) (i.1 t mine))
 
       enable_takes : (g : ℕ) (o : Option ℕ) (l : Lowering) (x : Stand) → bound ≤ x.wire → AllTake (length l.islands) (length (after_enable part g o l).islands) (form_drivers groups islands x (lowered_enable part g o l))
           → FormIslands Q islands x (lowered_enable part g o l)
@@ -234,13 +234,13 @@ module _ (part : PlainComponent) (groups : ℕ) (islands : List PlainIsland) (bo
 
       -- of the parts of a statement
       first_take : (from mid to : ℕ) (xs ys : List PlainNetDriver) → AllTake from to (xs ++ ys) → mid ≤ to → ((j : ℕ) (t : PlainNetTarget) → OfIsland j t → j < mid → AllDrive (λ u. same_target u t ≡ false) ys) → AllTake from mid xs
-      first_take from mid to xs ys h l skip j t mine low high = in_front t xs ys (skip j t (of_mine j t mine) high) (h j t mine low (omega arith))
+      first_take from mid to xs ys h l skip j low high = let k = h j low (omega arith) in (k.0, λ t mine. in_front t xs ys (skip j t (of_mine j t mine) high) (k.1 t mine))
 
       later_take : (from mid to : ℕ) (xs ys : List PlainNetDriver) → AllTake from to (xs ++ ys) → from ≤ mid → ((j : ℕ) (t : PlainNetTarget) → OfIsland j t → mid ≤ j → AllDrive (λ u. same_target u t ≡ false) xs) → AllTake mid to ys
-      later_take from mid to xs ys h l skip j t mine low high = at_back t xs ys (skip j t (of_mine j t mine) low) (h j t mine (omega arith) high)
+      later_take from mid to xs ys h l skip j low high = let k = h j (omega arith) high in (k.0, λ t mine. at_back t xs ys (skip j t (of_mine j t mine) low) (k.1 t mine))
 
       past_one : (from to : ℕ) (d : PlainNetDriver) (ds : List PlainNetDriver) → AllTake from to (d ∷ ds) → ((j : ℕ) (t : PlainNetTarget) → OfIsland j t → same_target d.target t ≡ false) → AllTake from to ds
-      past_one from to d ds h skip j t mine low high = past t d ds (skip j t (of_mine j t mine)) (h j t mine low high)
+      past_one from to d ds h skip j low high = let k = h j low high in (k.0, λ t mine. past t d ds (skip j t (of_mine j t mine)) (k.1 t mine))
 
       mutual
         form_takes : (form : PlainForm) (l : Lowering) (x : Stand) → NoTimed form → bound ≤ x.wire → AllTake (length l.islands) (length (form_after part form l).islands) (form_drivers groups islands x (lowered_form part form l))

@@ -22,6 +22,7 @@ use Rattle.cx_wiring.proofs.AwayLaws.{differs}
 use Rattle.cx_wiring.proofs.IslandTargets.{wires_at, island_within, island_drives}
 use Rattle.cx_wiring.proofs.ControlTargets.{names_at}
 use Rattle.cx_wiring.proofs.ConnectLaws.{no_port, Reads}
+use Rattle.cx_wiring.proofs.GatherLaws.{get_some}
 use Rattle.cx_wiring.proofs.IslandCells.{timers_stand, apart}
 use Rattle.cx_wiring.proofs.IslandReads.{IsUntimed, OfIsland, TakesIts, TakesItsIsland, AllTake, statement_takes}
 
@@ -77,6 +78,9 @@ module _ (part : PlainComponent) (named : IslandsName (groups (lowered_component
   Mine j (ToRegister n) = ⊥
   Mine j (ToHole n) = ⊥
   Mine j ToDone = ⊥
+
+  abbrev HasIt : ℕ → Type 0
+  HasIt j = (island : PlainIsland) × (slice_get (lowered_component part).islands j ≡ Some island)
 
   abbrev value_of : PlainNetTarget → Option BitVector
   value_of (ToWire n) = look (AWire n)
@@ -148,12 +152,13 @@ module _ (part : PlainComponent) (named : IslandsName (groups (lowered_component
   of_mine j ToDone mine = absurd mine
 
   each_island : (j : ℕ) (y : Stand) → first_of_control (lowered_component part) ≤ y.wire
-      → TakesItsIsland part (groups (lowered_component part)) (lowered_component part).islands (first_of_control (lowered_component part)) around registers look value_of Base Mine of_mine j y
+      → TakesItsIsland part (groups (lowered_component part)) (lowered_component part).islands (first_of_control (lowered_component part)) around registers look value_of Base HasIt Mine of_mine j y
       → TakesIsland (groups (lowered_component part)) (lowered_component part).islands around registers look j y
   each_island j y low h = record {
-    wires = λ island is n from to. let k = h (ToWire n) (island, is, from, to) in
+    there = h.0;
+    wires = λ island is n from to. let k = h.1 (ToWire n) (island, is, from, to) in
         (k.0, k.2 ∙ ap (λ o. takes around registers look (ToWire n) k.0 (timed_drivers G I y j o)) is);
-    goes = λ island is t timer at. let k = h (ToPort (ports.Cell timer.cell 0)) (island, is, t, timer, at, refl) in
+    goes = λ island is t timer at. let k = h.1 (ToPort (ports.Cell timer.cell 0)) (island, is, t, timer, at, refl) in
         k.2 ∙ ap (λ o. takes around registers look (ToPort (ports.Cell timer.cell 0)) k.0 (timed_drivers G I y j o)) is
         ∙ ap (λ o. takes around registers look (ToPort (ports.Cell timer.cell 0)) o (island_drivers G y (first_of_island G I j) island)) k.1;
   }
@@ -169,16 +174,20 @@ module _ (part : PlainComponent) (named : IslandsName (groups (lowered_component
       → StatementIslands (TakesIsland (groups (lowered_component part)) (lowered_component part).islands around registers look) (lowered_component part).islands
       (whole_stand (first_of_control (lowered_component part))) (lowered part part.control (unlowered part))
   islands_take untimed wires goes =
-      statement_takes part G I B around registers look value_of Base Mine of_mine (TakesIsland G I around registers look) each_island part.control (unlowered part) (whole_stand B) untimed (omega arith) all
+      statement_takes part G I B around registers look value_of Base HasIt Mine of_mine (TakesIsland G I around registers look) each_island part.control (unlowered part) (whole_stand B) untimed (omega arith) all
     where
-      all : AllTake part (groups (lowered_component part)) (lowered_component part).islands (first_of_control (lowered_component part)) around registers look value_of Base Mine of_mine 0 (length (lowered_component part).islands)
+      all : AllTake part (groups (lowered_component part)) (lowered_component part).islands (first_of_control (lowered_component part)) around registers look value_of Base HasIt Mine of_mine 0 (length (lowered_component part).islands)
           (drivers_of (groups (lowered_component part)) (lowered_component part).islands (whole_stand (first_of_control (lowered_component part))) (lowered part part.control (unlowered part)))
-      all j (ToWire n) (island, is, from, to) low high =
-          let within : island_wires (take j I) + wires_at (slice_get I j) ≤ island_wires I = island_within I j in
-          let own : wires_at (slice_get I j) ≡ wires_of_island island = ap wires_at is in
-          let r = wires n (omega arith) in (r.behind_them, tt, r.reads)
-      all j (ToPort p) (island, is, t, timer, at, same) low high =
-          (Some (truth_bit false), refl, ap (λ q. look (APort q)) same ∙ goes j island is t timer at ∙ ap (λ q. takes around registers look (ToPort q) (Some (truth_bit false)) (drivers_of G I (whole_stand B) (lowered part part.control (unlowered part)))) (sym same))
-      all j (ToRegister n) mine low high = absurd mine
-      all j (ToHole n) mine low high = absurd mine
-      all j ToDone mine low high = absurd mine
+      all j low high = (get_some I j high, at_target j)
+        where
+          at_target : (j : ℕ) (t : PlainNetTarget) → Mine j t → TakesIts part (groups (lowered_component part)) (lowered_component part).islands (first_of_control (lowered_component part)) around registers look value_of Base HasIt Mine of_mine t
+              (drivers_of (groups (lowered_component part)) (lowered_component part).islands (whole_stand (first_of_control (lowered_component part))) (lowered part part.control (unlowered part)))
+          at_target j (ToWire n) (island, is, from, to) =
+              let within : island_wires (take j I) + wires_at (slice_get I j) ≤ island_wires I = island_within I j in
+              let own : wires_at (slice_get I j) ≡ wires_of_island island = ap wires_at is in
+              let r = wires n (omega arith) in (r.behind_them, tt, r.reads)
+          at_target j (ToPort p) (island, is, t, timer, at, same) =
+              (Some (truth_bit false), refl, ap (λ q. look (APort q)) same ∙ goes j island is t timer at ∙ ap (λ q. takes around registers look (ToPort q) (Some (truth_bit false)) (drivers_of G I (whole_stand B) (lowered part part.control (unlowered part)))) (sym same))
+          at_target j (ToRegister n) mine = absurd mine
+          at_target j (ToHole n) mine = absurd mine
+          at_target j ToDone mine = absurd mine

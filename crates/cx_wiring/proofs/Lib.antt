@@ -13,10 +13,13 @@ pub mod StandsLaws
 pub mod ConnectLaws
 pub mod KnowLaws
 pub mod GatherLaws
+pub mod ListedLaws
 pub mod IslandCells
 pub mod IslandReads
 pub mod IslandStands
 pub mod TimerRows
+pub mod IslandValues
+pub mod IslandAway
 pub mod GuardLaws
 pub mod AssignLaws
 pub mod HoleLaws
@@ -45,7 +48,9 @@ pub mod NetRealises
 pub mod BlockTree
 pub mod RootEdges
 pub mod BlockTells
+pub mod NodeTimers
 pub mod IdleNumbers
+pub mod IslandIdles
 pub mod BlockIdles
 pub mod ControlPorts
 pub mod TimerPlaces

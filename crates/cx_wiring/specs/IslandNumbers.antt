@@ -1,6 +1,6 @@
 -- The numbers of an island in the state of a net: the count and the done of its first timer, and the registers of its samples. The
 -- timers within have no numbers. They follow from the first one's count, so that count says too that they do.
-use Rattle.std.specs.Prelude.{ℕ, zero, suc, ◌+◌, nat_lt, Bool, List, [], ◌∷◌, length, Option, Some, None, slice_get, option_map, unwrap_or, if◌then◌else◌}
+use Rattle.std.specs.Prelude.{ℕ, zero, suc, ◌+◌, nat_lt, Bool, false, List, [], ◌∷◌, length, Option, Some, None, slice_get, option_map, unwrap_or, if◌then◌else◌}
 use Rattle.cx_prim.specs.CellStates.{CellState, Timer}
 use Rattle.cx_meaning.specs.Designs.{PlainCell, PlainComponent}
 use Rattle.cx_net.specs.NetMeaning.{NetState}
@@ -13,9 +13,12 @@ abbrev pub count_in : CellState → ℕ
 count_in (Timer count done) = count
 count_in other = 0
 
+abbrev pub done_bit : CellState → Bool
+done_bit (Timer count done) = done
+done_bit other = false
+
 abbrev pub done_in : CellState → ℕ
-done_in (Timer count done) = if done then 1 else 0
-done_in other = 0
+done_in state = if done_bit state then 1 else 0
 
 abbrev pub cell_of_timer : List IslandTimer → ℕ → ℕ
 cell_of_timer timers t = unwrap_or (option_map (λ timer. timer.cell) (slice_get timers t)) 0

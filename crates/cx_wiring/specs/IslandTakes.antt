@@ -48,6 +48,7 @@ module _ (P : ℕ → Stand → Type 0) (islands : List PlainIsland) where
 module _ (groups : ℕ) (islands : List PlainIsland) (around : NetAround) (registers : ℕ → Option BitVector) (look : Node → Option BitVector) where
   -- THE WIRES of island k, and the goes of its timers
   pub record TakesIsland (k : ℕ) (x : Stand) : Type 0 where
+    pub there : (island : PlainIsland) × (slice_get islands k ≡ Some island)
     pub wires : (island : PlainIsland) → slice_get islands k ≡ Some island → (n : ℕ) → first_of_island groups islands k ≤ n → n < first_of_island groups islands k + wires_of_island island
         → (o : Option BitVector) × (look (AWire n) ≡ takes around registers look (ToWire n) o (island_drivers groups x (first_of_island groups islands k) island))
     pub goes : (island : PlainIsland) → slice_get islands k ≡ Some island → (t : ℕ) (timer : IslandTimer) → slice_get island.timers t ≡ Some timer
