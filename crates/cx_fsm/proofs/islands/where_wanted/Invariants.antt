@@ -8,4 +8,4 @@ use Rattle.cx_fsm.proofs.islands.where_wanted.Given as goal
 abbrev pub invariant-loop-sample : goal.invariant-loop-sample
 invariant-loop-sample l =
     map plain_net_expr l.parts.items ++ map (at_place as_wanted l.place) (drop l.sample-index l.samples)
-    ≡ map plain_net_expr l.args.parts.items ++ map (at_place as_wanted l.place) l.samples
+    ≡ map plain_net_expr l.fn.parts.items ++ map (at_place as_wanted l.place) l.samples
