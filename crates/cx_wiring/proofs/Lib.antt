@@ -49,6 +49,7 @@ pub mod ChildLooks
 pub mod NodeIdles
 pub mod NodeRuns
 pub mod CellEdges
+pub mod CallStands
 pub mod ExternalLaws
 pub mod MainLaws
 pub mod NumberLemmas
