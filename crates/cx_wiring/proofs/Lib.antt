@@ -50,6 +50,7 @@ pub mod NodeIdles
 pub mod NodeRuns
 pub mod CellEdges
 pub mod CallStands
+pub mod GoingLaws
 pub mod ExternalLaws
 pub mod MainLaws
 pub mod NumberLemmas
