@@ -47,6 +47,8 @@ pub mod TimerPlaces
 pub mod PortLaws
 pub mod ChildLooks
 pub mod NodeIdles
+pub mod NodeRuns
+pub mod CellEdges
 pub mod ExternalLaws
 pub mod MainLaws
 pub mod NumberLemmas

@@ -15,7 +15,7 @@ use Rattle.cx_wiring.specs.Blocks.{block, block_below, net_of_instance, net_of_c
 use Rattle.cx_wiring.proofs.ChildLooks.{child_stands, child_solves}
 
 module _ (wired : PlainComponent → PlainNetComponent) (timers : PlainComponent → List Row) (numbers : Instance → NetState → ℕ → ℕ) where
-  cell_of_child : (cells : NetCells) (at c : ℕ) (child : NetInstance) → net_cell_at cells at ≡ AChild child → (look : NetLook) (path : Path) (d : CellState)
+  pub cell_of_child : (cells : NetCells) (at c : ℕ) (child : NetInstance) → net_cell_at cells at ≡ AChild child → (look : NetLook) (path : Path) (d : CellState)
       → cell_below false cells at c look path d ≡ child_cell_after wired timers numbers cells at (λ q. look (c ∷ q)) path d
   cell_of_child no_net_cells at c child is look path d = absurd cc
   cell_of_child (a_row row rest) zero c child is look path d = absurd cc
