@@ -9,12 +9,13 @@ use Rattle.cx_prim.specs.Table.{PrimitiveRow, row_of}
 use Rattle.cx_meaning.specs.declared.ports.PortRef.{PortRef}
 use Rattle.cx_meaning.specs.declared.ports.PortRef.TheVariants as ports
 use Rattle.cx_meaning.specs.declared.ports.PlacedPort.{PlacedPort}
+use Rattle.cx_meaning.specs.declared.kinds.PortDecl.{PortDecl}
 use Rattle.cx_meaning.specs.Designs.{PlainGuard, Always, Atom, Negation, All, Any, Compared, Within, PlainGuards, no_guards, a_guard, PlainAssign, PlainKind, OfPrimitive, OfComponent, PlainCell, PlainComponent, PlainDesign, no_component, component_at, group_at}
 use Rattle.cx_meaning.specs.Instances.{Instance, Node, Cells, no_cells, At, Nothing, OfRow, OfInstance, cell_at, cells_of, part_of, add_cell, cells_for, tree_within, tree_of, Path, instance_at}
 use Rattle.cx_meaning.specs.Active.{Owned, source_order}
 use Rattle.cx_meaning.specs.Sights.{In, PartPort, Go, AnInput, AnOutput, ItsDone, output_port, part_port}
 use Rattle.cx_meaning.specs.Islands.{group_length}
-use Rattle.cx_rules.specs.Ports.{component_of, part_width, cell_width, width_of, written_width, is_source_only, path_of}
+use Rattle.cx_rules.specs.Ports.{component_of, declared_width, part_width, cell_width, width_of, written_width, is_source_only, path_of}
 use Rattle.cx_rules.specs.Items.{atoms_of, atoms_in, operands_of, operands_in, Range, ranges_of, sources_of, Visited, statements_in, test_in}
 use Rattle.cx_rules.specs.WidthRules.{differ, is_wide, first_wide, IsBadLiteral}
 use Rattle.cx_rules.specs.ShapeRules.{is_hole, some_target, owner_length, is_bad_range}
@@ -23,9 +24,9 @@ use Rattle.cx_rules.specs.Accepted.{IsAccepted}
 use Rattle.cx_rules.specs.Wellformed.{IsThere, IsAssign, IsDesign, IsKind, StandsIn, port_count}
 use Rattle.cx_rules.proofs.Finite.{in_left, in_right}
 use Rattle.cx_rules.proofs.CircleLemmas.{same_part}
-use Rattle.cx_laws.proofs.TreeLemmas.{there_at, declared_there, output_there}
-use Rattle.cx_frames.proofs.RuleLemmas.{number_in, OwnerOf, continuous, of_group, owner_of, bare_test}
+use Rattle.cx_flow.proofs.InstanceLemmas.{number_in}
 use Rattle.cx_wiring.proofs.WholeInstances.{IsWhole, of_component, of_nothing, instance_whole, cells_alike, alike_there, alike_written}
+use Rattle.cx_wiring.proofs.CycleLaws.{some_at}
 use Rattle.cx_wiring.proofs.DesignNames.{stands_in}
 
 -- a port that a statement or an assignment names
@@ -123,6 +124,24 @@ module _ (d : PlainDesign) (n : ℕ) where
       by_kind (OfComponent k) is has (suc m) f later = later m child f
 
 -- WIDTHS: a port that is there has one as it is written
+pub declared_there : (decls : List PortDecl) (n : ℕ) → n < length decls → (w : ℕ) × (declared_width decls n ≡ Some w)
+declared_there decls n h = let r = some_at decls n h in (r.0.width, ap (option_map (λ decl. decl.width)) r.1)
+
+output_is : (outputs m n : ℕ) → output_port outputs m ≡ AnOutput n → n < outputs
+output_is outputs m n e = by (nat_lt m outputs) refl e
+  where
+    by : (t : Bool) → nat_lt m outputs ≡ t → (if t then AnOutput m else ItsDone) ≡ AnOutput n → n < outputs
+    by true f g = let same : m ≡ n = cc in subst (λ k. k < outputs) same (ltb-true m outputs f)
+    by false f g = absurd (cc)
+
+output_there : (part : PlainComponent) (p n : ℕ) → part_port part p ≡ AnOutput n → n < length part.outputs
+output_there part zero n e = absurd (cc)
+output_there part (suc m) n e = by (nat_lt m (length part.inputs)) e
+  where
+    by : (t : Bool) → (if t then AnInput m else output_port (length part.outputs) (m - length part.inputs)) ≡ AnOutput n → n < length part.outputs
+    by true f = absurd (cc)
+    by false f = output_is (length part.outputs) (m - length part.inputs) n f
+
 output_is_none : (outputs m n : ℕ) → output_port outputs m ≡ AnInput n → ⊥
 output_is_none outputs m n e = by (nat_lt m outputs) e
   where
@@ -146,7 +165,7 @@ part_has part p ItsDone e = (1, refl)
 
 cell_has : (at : At) (p : ℕ) → p < port_count at → (w : ℕ) × (cell_width at p ≡ Some w)
 cell_has Nothing p h = absurd (omega arith)
-cell_has (OfRow row) p h = let r = there_at row.ports p h in (r.0.width, ap (option_map (λ port. port.width)) r.1)
+cell_has (OfRow row) p h = let r = some_at row.ports p h in (r.0.width, ap (option_map (λ port. port.width)) r.1)
 cell_has (OfInstance child) p h = part_has (part_of child) p (part_port (part_of child) p) refl
 
 pub written_there : (i : Instance) (p : PortRef) → IsThere i p → (w : ℕ) × (written_width i p ≡ Some w)
@@ -333,6 +352,13 @@ some_components : (k n : ℕ) → k < n → (m : ℕ) × (n ≡ suc m)
 some_components k zero h = absurd (omega arith)
 some_components k (suc m) h = (m, refl)
 
+no_test : (v : Visited) (p : PlacedPort) → In (statements_in no_component) v → test_in v.form ≡ Some p → ⊥
+no_test v p (inl e) f = none_port (ap (λ w. test_in w.form) e ∙ f)
+  where
+    none_port : ◌≡◌ {A = Option PlacedPort} None (Some p) → ⊥
+    none_port g = cc
+no_test v p (inr i) f = absurd i
+
 -- EVERY INSTANCE of an accepted design's tree
 pub port_rules : (d : PlainDesign) → IsDesign d → IsAccepted d → (path : Path) → PortRules d (instance_at (tree_of d) path)
 port_rules d design accepted path = by (instance_whole d design path)
@@ -341,7 +367,7 @@ port_rules d design accepted path = by (instance_whole d design path)
     by (of_component m k within) = let n = some_components k (length d.components) within in tree_rules d design accepted k within m n.0 n.1
     by of_nothing = record {
       assigns = λ o i. absurd i;
-      tests = λ v p i e. absurd (bare_test v p i e);
+      tests = λ v p i e. absurd (no_test v p i e);
       rows = λ c row e. absurd (cc);
       children = λ c child e. absurd (cc);
     }

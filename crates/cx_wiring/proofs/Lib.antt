@@ -60,3 +60,5 @@ pub mod DesignNames
 pub mod WholeInstances
 pub mod InstancePorts
 pub mod NodeRules
+pub mod NodePorts
+pub mod WireSolves
