@@ -62,3 +62,4 @@ pub mod InstancePorts
 pub mod NodeRules
 pub mod NodePorts
 pub mod WireSolves
+pub mod NodeCells
