@@ -10,6 +10,7 @@ pub mod RoundTurns
 pub mod ArmTurns
 pub mod SizeLaws
 pub mod StandsLaws
+pub mod GoesLaws
 pub mod ConnectLaws
 pub mod KnowLaws
 pub mod GuardLaws
