@@ -57,6 +57,9 @@ pub mod NetTrees
 pub mod DesignNames
 pub mod WholeInstances
 pub mod InstancePorts
+pub mod RowPorts
 pub mod NodeRules
 pub mod NodePorts
 pub mod WireSolves
+pub mod StillPorts
+pub mod SeamRules
