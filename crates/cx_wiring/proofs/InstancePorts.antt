@@ -25,7 +25,7 @@ use Rattle.cx_rules.specs.Wellformed.{IsThere, IsAssign, IsDesign, IsKind, Stand
 use Rattle.cx_rules.proofs.Finite.{in_left, in_right}
 use Rattle.cx_rules.proofs.CircleLemmas.{same_part}
 use Rattle.cx_flow.proofs.InstanceLemmas.{number_in}
-use Rattle.cx_wiring.proofs.WholeInstances.{IsWhole, of_component, of_nothing, instance_whole, cells_alike, alike_there, alike_written}
+use Rattle.cx_wiring.proofs.WholeInstances.{IsWhole, of_component, of_nothing, instance_whole, cells_alike, alike_there, alike_written, alike_source}
 use Rattle.cx_wiring.proofs.CycleLaws.{some_at}
 use Rattle.cx_wiring.proofs.DesignNames.{stands_in}
 
@@ -54,6 +54,7 @@ pub record IsStatic (part : PlainComponent) (owner : Option ℕ) : Type 0 where
 pub record AssignRules (i : Instance) (o : Owned) : Type 0 where
   pub target : IsThere i o.assign.target
   pub is_target : IsTarget o.assign.target
+  pub no_source : is_source_only i o.assign.target ≡ false
   pub owner : (g : ℕ) → o.owner ≡ Some g → g < length (part_of i).groups
   pub own_hole : (g : ℕ) → o.assign.target ≡ ports.Done g → o.owner ≡ Some g
   pub source : (p : PlacedPort) → In (sources_of o.assign) p → IsNamed i p.port
@@ -250,10 +251,17 @@ module _ (d : PlainDesign) (design : IsDesign d) (accepted : IsAccepted d) (k : 
             absurd (accepted.widths rules.GuardWidth (record { component = k; part = AnAssign number.0 }) o.assign.place (path_of (component_of d k) first.0) refl
             (inl (record { within = within; number = number.0; is = refl; assign = o; stands = number.1; breaks = (first.0, first.1, (refl, refl)) })))
 
+    no_source : is_source_only (component_of d k) o.assign.target ≡ false
+    no_source = by (is_source_only (component_of d k) o.assign.target) refl
+      where
+        by : (b : Bool) → is_source_only (component_of d k) o.assign.target ≡ b → b ≡ false
+        by false e = refl
+        by true e =
+            absurd (accepted.widths rules.NotATarget (record { component = k; part = AnAssign number.0 }) o.assign.place (path_of (component_of d k) o.assign.target) refl
+            (record { within = within; number = number.0; is = refl; assign = o; stands = number.1; breaks = (e, (refl, refl)) }))
+
     no_input : (n : ℕ) → o.assign.target ≡ ports.Input n → ⊥
-    no_input n e =
-        accepted.widths rules.NotATarget (record { component = k; part = AnAssign number.0 }) o.assign.place (path_of (component_of d k) o.assign.target) refl
-        (record { within = within; number = number.0; is = refl; assign = o; stands = number.1; breaks = (ap (is_source_only (component_of d k)) e, (refl, refl)) })
+    no_input n e = let no = sym no_source ∙ ap (is_source_only (component_of d k)) e in absurd cc
 
     is_target : (p : PortRef) → o.assign.target ≡ p → IsTarget p
     is_target (ports.Cell c p) e = tt
@@ -326,6 +334,11 @@ module _ (d : PlainDesign) (design : IsDesign d) (accepted : IsAccepted d) (k : 
         alike_written (component_at d k) (cells_for (tree_within d m) (component_at d k).cells) (cells_for (tree_within d n) (component_at d k).cells)
         (cells_alike (tree_within d m) (tree_within d n) (λ j. same_part d m j ∙ sym (same_part d n j)) (component_at d k).cells) p ∙ subst (λ x. written_width (tree_within d x k) p ≡ Some 1) count h
 
+    source_too : (p : PortRef) → is_source_only (component_of d k) p ≡ false → is_source_only (tree_within d (suc m) k) p ≡ false
+    source_too p h =
+        alike_source (component_at d k) (cells_for (tree_within d m) (component_at d k).cells) (cells_for (tree_within d n) (component_at d k).cells)
+        (cells_alike (tree_within d m) (tree_within d n) (λ j. same_part d m j ∙ sym (same_part d n j)) (component_at d k).cells) p ∙ subst (λ x. is_source_only (tree_within d x k) p ≡ false) count h
+
     named_too : (p : PortRef) → IsNamed (component_of d k) p → IsNamed (tree_within d (suc m) k) p
     named_too p h = record { there = there_too p h.there; no_hole = h.no_hole; literal = h.literal }
 
@@ -334,6 +347,7 @@ module _ (d : PlainDesign) (design : IsDesign d) (accepted : IsAccepted d) (k : 
       assigns = λ o i. record {
         target = there_too o.assign.target (is o i).target;
         is_target = is_target o i o.assign.target refl;
+        no_source = source_too o.assign.target (no_source o i);
         owner = λ g e. (owner_there o i g e).0;
         own_hole = (is o i).own_hole;
         source = λ p j. named_too p.port (named o i p j);
@@ -348,7 +362,7 @@ module _ (d : PlainDesign) (design : IsDesign d) (accepted : IsAccepted d) (k : 
           record { cell = r.0; component = r.1; stands = r.2; kind = r.3; within = r.4; is = r.5 };
     }
 
-some_components : (k n : ℕ) → k < n → (m : ℕ) × (n ≡ suc m)
+pub some_components : (k n : ℕ) → k < n → (m : ℕ) × (n ≡ suc m)
 some_components k zero h = absurd (omega arith)
 some_components k (suc m) h = (m, refl)
 

@@ -60,7 +60,10 @@ pub mod NetTrees
 pub mod DesignNames
 pub mod WholeInstances
 pub mod InstancePorts
+pub mod RowPorts
 pub mod NodeRules
 pub mod NodePorts
 pub mod WireSolves
 pub mod NodeCells
+pub mod StillPorts
+pub mod SeamRules

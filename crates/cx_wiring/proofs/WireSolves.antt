@@ -14,17 +14,17 @@ use Rattle.cx_meaning.specs.declared.ports.PortRef.{PortRef}
 use Rattle.cx_meaning.specs.declared.ports.PortRef.TheVariants as ports
 use Rattle.cx_meaning.specs.declared.kinds.GroupKind.{GroupKind}
 use Rattle.cx_meaning.specs.declared.kinds.GroupKind.TheVariants as kinds
-use Rattle.cx_meaning.specs.Islands.{kind_length}
+use Rattle.cx_meaning.specs.Islands.{kind_length, group_length}
 use Rattle.cx_meaning.specs.Rows.{side_from, side_of}
 use Rattle.cx_meaning.specs.Designs.{PlainCell, PlainComponent, PlainDesign, component_at, no_component, group_at, no_group}
 use Rattle.cx_meaning.specs.Instances.{Instance, Node, Cells, At, Nothing, OfRow, OfInstance, cell_at, part_of}
-use Rattle.cx_meaning.specs.Active.{Active, group, Owned, acting, offset_of, if_target, same_port, source_order, drivers}
+use Rattle.cx_meaning.specs.Active.{Active, group, Owned, Acting, acting, offset_of, if_acting, if_target, same_port, source_order, drivers}
 use Rattle.cx_meaning.specs.Sights.{In, PartPort, Go, AnInput, AnOutput, ItsDone, output_port, later_port, part_port}
 use Rattle.cx_rules.specs.Ports.{declared_width, part_width, cell_width, width_of}
 use Rattle.cx_rules.specs.ShapeRules.{is_hole}
 use Rattle.cx_rules.specs.Wellformed.{IsThere}
 use Rattle.cx_rules.proofs.FoundLemmas.{same_is}
-use Rattle.cx_flow.specs.Flows.{Values, zero_of, first_on, given, side_flow, part_flow, cell_flow, flow}
+use Rattle.cx_flow.specs.Flows.{Values, zero_of, guard_on, first_on, given, side_flow, part_flow, cell_flow, flow}
 use Rattle.cx_net.specs.Nets.{ToPort, ToHole}
 use Rattle.cx_net.specs.NetTree.{ARow, AChild}
 use Rattle.cx_net.specs.NetMeaning.{NetState, Node as NetNodes, APort, AHole, TheDone, NetLook, NetAround, zero_wide, net_at_width, gather_known, is_port_of, is_own_node, same_target, drivers_to, registers_of, row_node, child_node, cell_node, chain as first_true}
@@ -35,7 +35,7 @@ use Rattle.cx_wiring.specs.Wiring.{groups, width_in_part, kind_width, port_width
 use Rattle.cx_wiring.specs.PartNets.{timer_cells, wired_in, timers_of}
 use Rattle.cx_wiring.specs.GuardPorts.{going_set}
 use Rattle.cx_wiring.specs.Blocks.{block, net_of_instance, net_of_cells, Solves}
-use Rattle.cx_wiring.specs.PortValues.{around_of, has_port, value_beyond, port_value, goes_now, offset_now, active_now, WiresSolve}
+use Rattle.cx_wiring.specs.PortValues.{own_offset, around_of, has_port, value_beyond, port_value, goes_now, offset_now, active_now, WiresSolve}
 use Rattle.cx_wiring.proofs.TimerCells.{cells-lowered_component}
 use Rattle.cx_wiring.proofs.CycleLaws.{in_front}
 use Rattle.cx_wiring.proofs.DrivenLemmas.{IsProper}
@@ -45,7 +45,7 @@ use Rattle.cx_wiring.proofs.TimerPlaces.{cell_no_timer, output_no_timer}
 use Rattle.cx_wiring.proofs.PortLaws.{driven_port, driven_hole}
 use Rattle.cx_wiring.proofs.InstancePorts.{RowOf, ChildOf, PortRules}
 use Rattle.cx_wiring.proofs.NodeRules.{NodeRules}
-use Rattle.cx_wiring.proofs.NodePorts.{known, row_stands, part_port_same, child_wide, child_here, port_stands, assigns_hold, holes_fit}
+use Rattle.cx_wiring.proofs.NodePorts.{known, any_offset, row_stands, part_port_same, child_wide, child_here, port_stands, assigns_hold, holes_fit}
 
 -- what is known, whatever stands where it is not
 settled : (o k : Option BitVector) (z y x : BitVector) → o ≡ Some x → o ≡ k → unwrap_or o z ≡ unwrap_or k y
@@ -170,16 +170,57 @@ module _ (d : PlainDesign) (numbers : Instance → NetState → ℕ → ℕ) (pa
     act = active_now (Node part cells) around s look
 
     -- a group whose assignments are left out does not go
-    left_out : (a : Owned) → In (source_order part) a → is_driven (lowered_component part) a ≡ false → offset_of (active_now (Node part cells) around s look) a.owner ≡ None
+    left_out : (a : Owned) → In (source_order part) a → is_driven (lowered_component part) a ≡ false → offset_of (going_set (goes_now (Node part cells) around s look) (offset_now (Node part cells) around s look)) a.owner ≡ None
     left_out a i e = by a.owner e
       where
         and_false : (b c : Bool) → c ≡ false → (b && c) ≡ false
         and_false true c f = f
         and_false false c f = refl
 
-        by : (o : Option ℕ) → owner_drives (lowered_component part) o ≡ false → offset_of (active_now (Node part cells) around s look) o ≡ None
+        by : (o : Option ℕ) → owner_drives (lowered_component part) o ≡ false → offset_of (going_set (goes_now (Node part cells) around s look) (offset_now (Node part cells) around s look)) o ≡ None
         by None f = absurd cc
         by (Some g) f = ap (λ b. if b then Some (offset_now (Node part cells) around s look g).value else None) (and_false _ (owner_drives (lowered_component part) (Some g)) f)
+
+    -- guards of what is not static look at no offset
+    module _ (z : BitVector) (a : Owned) (i : In (source_order part) a) (one other : List Acting) (later : first_on V z one ≡ first_on V z other) where
+      offset_free : (g n : ℕ) → a.owner ≡ Some g → (cycles : Option ℕ) → group_length part g ≡ cycles
+          → first_on V z (record { offset = n; assign = a.assign } ∷ one) ≡ first_on V z (record { offset = own_offset cycles (record { width = 32; value = n }); assign = a.assign } ∷ other)
+      offset_free g n owner (Some cycles) is = ap (λ x. if guard_on V n a.assign.guard then V a.assign.source.port else x) later
+      offset_free g n owner None is =
+          ap (λ x. if guard_on V n a.assign.guard then V a.assign.source.port else x) later
+          ∙ ap (λ b. if b then V a.assign.source.port else first_on V z other)
+          (any_offset V n 0 a.assign.guard (λ r j. let static = (rules.ports.assigns a i).range r j in none_static g static.group static.cycles (sym owner ∙ static.owns) (sym is) static.is))
+        where
+          none_static : (g h n : ℕ) → ◌≡◌ {A = Option ℕ} (Some g) (Some h) → None ≡ group_length part g → group_length part h ≡ Some n → ⊥
+          none_static g h n e f k = let same : g ≡ h = cc in let no : ◌≡◌ {A = Option ℕ} None (Some n) = f ∙ ap (group_length part) same ∙ k in clash n no
+            where
+              clash : (n : ℕ) → ◌≡◌ {A = Option ℕ} None (Some n) → ⊥
+              clash n q = cc
+
+      goes_alike : (g : ℕ) → a.owner ≡ Some g → (b : Bool) (w : BitVector)
+          → first_on V z (if_acting (if b then Some w.value else None) a.assign one) ≡ first_on V z (if_acting (if b then Some (own_offset (group_length part g) w) else None) a.assign other)
+      goes_alike g owner true w = offset_free g w.value owner (group_length part g) refl ∙ ap (λ n. first_on V z (record { offset = n; assign = a.assign } ∷ other)) (same_value (group_length part g) w)
+        where
+          same_value : (cycles : Option ℕ) (w : BitVector) → own_offset cycles (record { width = 32; value = w.value }) ≡ own_offset cycles w
+          same_value None w = refl
+          same_value (Some n) w = refl
+      goes_alike g owner false w = later
+
+      owner_alike : (o : Option ℕ) → a.owner ≡ o
+          → first_on V z (if_acting (offset_of (going_set (goes_now (Node part cells) around s look) (offset_now (Node part cells) around s look)) o) a.assign one) ≡ first_on V z (if_acting (offset_of act o) a.assign other)
+      owner_alike None e = ap (λ x. if guard_on V 0 a.assign.guard then V a.assign.source.port else x) later
+      owner_alike (Some g) e = goes_alike g e (goes_now (Node part cells) around s look g) (offset_now (Node part cells) around s look g)
+
+      one_alike : (t : Bool) → first_on V z (if_target t (going_set (goes_now (Node part cells) around s look) (offset_now (Node part cells) around s look)) a one) ≡ first_on V z (if_target t act a other)
+      one_alike true = owner_alike a.owner refl
+      one_alike false = later
+
+    first_alike : (z : BitVector) (p : PortRef) (list : List Owned) → ((a : Owned) → In list a → In (source_order part) a)
+        → first_on V z (acting (going_set (goes_now (Node part cells) around s look) (offset_now (Node part cells) around s look)) p list) ≡ first_on V z (acting act p list)
+    first_alike z p [] each = refl
+    first_alike z p (a ∷ rest) each =
+        one_alike z a (each a (inl refl)) (acting (going_set (goes_now (Node part cells) around s look) (offset_now (Node part cells) around s look)) p rest) (acting act p rest)
+        (first_alike z p rest (λ b i. each b (inr i))) (same_port a.assign.target p)
 
     driven_at : (p : PortRef) → IsProper (ToPort p) → ((q : PortRef) → same_target (target_of q) (ToPort p) ≡ same_port q p)
         → ((k : ℕ) (island : PlainIsland) → slice_get (lowered_component part).islands k ≡ Some island → OfTimers (λ u. same_target u (ToPort p) ≡ false) island.timers)
@@ -189,6 +230,7 @@ module _ (d : PlainDesign) (numbers : Instance → NetState → ℕ → ℕ) (pa
         driven_port (lowered_of d) part rules.islands_named (net_of_cells (wired_in d) timers_of numbers cells (timers_of part)) around s look (λ n t. solves.by_rule [] n t) (λ n t. solves.whole [] n t)
         rules.plain rules.control_named rules.assigns_named (port_value (Node part cells) around s look) (goes_now (Node part cells) around s look) (offset_now (Node part cells) around s look)
         (assigns_hold d numbers part cells rules.ports around s look solves) left_out p proper same no_timer
+        ∙ ap Some (first_alike (zero_wide (target_width (lowered_of d) (lowered_component part) (ToPort p))) p (source_order part) (λ a i. i))
 
     -- what drives a port of a cell gives it what its active assignments do
     driven_cell : (c p w : ℕ) → c < length part.cells → target_width (lowered_of d) (lowered_component part) (ToPort (ports.Cell c p)) ≡ w
