@@ -65,5 +65,6 @@ pub mod NodeRules
 pub mod NodePorts
 pub mod WireSolves
 pub mod NodeCells
+pub mod ChildSteps
 pub mod StillPorts
 pub mod SeamRules
