@@ -37,6 +37,7 @@ pub mod CycleLaws
 pub mod GroundedRuns
 pub mod EdgeRuns
 pub mod NetRealises
+pub mod TreeRules
 pub mod BlockTree
 pub mod RootEdges
 pub mod BlockTells
@@ -63,3 +64,6 @@ pub mod NodePorts
 pub mod WireSolves
 pub mod StillPorts
 pub mod SeamRules
+pub mod SeamFlows
+pub mod OutputFlows
+pub mod GoingApart
