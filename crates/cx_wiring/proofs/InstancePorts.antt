@@ -135,7 +135,7 @@ output_is outputs m n e = by (nat_lt m outputs) refl e
     by true f g = let same : m ≡ n = cc in subst (λ k. k < outputs) same (ltb-true m outputs f)
     by false f g = absurd (cc)
 
-output_there : (part : PlainComponent) (p n : ℕ) → part_port part p ≡ AnOutput n → n < length part.outputs
+pub output_there : (part : PlainComponent) (p n : ℕ) → part_port part p ≡ AnOutput n → n < length part.outputs
 output_there part zero n e = absurd (cc)
 output_there part (suc m) n e = by (nat_lt m (length part.inputs)) e
   where

@@ -38,6 +38,7 @@ pub mod CycleLaws
 pub mod GroundedRuns
 pub mod EdgeRuns
 pub mod NetRealises
+pub mod TreeRules
 pub mod BlockTree
 pub mod RootEdges
 pub mod BlockTells
@@ -68,3 +69,6 @@ pub mod NodeCells
 pub mod ChildSteps
 pub mod StillPorts
 pub mod SeamRules
+pub mod SeamFlows
+pub mod OutputFlows
+pub mod GoingApart
