@@ -13,6 +13,7 @@ use Rattle.cx_meaning.specs.Designs.{PlainComponent, PlainGroup, group_at, no_gr
 use Rattle.cx_meaning.specs.Instances.{Instance, OfRow, OfInstance, part_of, cells_of, cell_at}
 use Rattle.cx_meaning.specs.Active.{Active, Owned, Acting, source_order, drivers, acting, offset_of, same_port, if_target, if_acting}
 use Rattle.cx_meaning.specs.Sights.{In}
+use Rattle.cx_meaning.specs.Islands.{group_length}
 use Rattle.cx_meaning.specs.Control.{assigns_drive, group_drives}
 use Rattle.cx_rules.specs.Ports.{width_of}
 use Rattle.cx_rules.proofs.FoundLemmas.{same_is}
@@ -25,7 +26,7 @@ use Rattle.cx_net.specs.NetMeaning.{NetState, NetLook, NetAround, APort, AHole, 
 use Rattle.cx_net.specs.NetEdges.{inputs_from}
 use Rattle.cx_static.specs.Lowering.{lowered_component}
 use Rattle.cx_wiring.specs.Assignments.{owner_drives}
-use Rattle.cx_wiring.specs.PortValues.{has_port, around_of, value_beyond, port_value, offset_now, active_now, WiresSolve}
+use Rattle.cx_wiring.specs.PortValues.{has_port, around_of, value_beyond, port_value, own_offset, offset_now, active_now, WiresSolve}
 use Rattle.cx_wiring.proofs.TakingLemmas.{true_bit}
 
 -- assignments of a target do not act where none of their owners is active
@@ -52,7 +53,7 @@ module _ (i : Instance) (around : NetAround) (s : NetState) (look : NetLook) whe
   -- where no group goes none drives a cell
   pub none_drives : ((g : ℕ) → g < length (part_of i).groups → look [] (AHole (length (part_of i).groups + g)) ≡ Some (truth_bit false)) → (c : ℕ) → IsUndriven (part_of i) (active_now i around s look) c
   none_drives stopped c g drives =
-      ap (λ o. if is_true (unwrap_or o (zero_of (Some 1))) && owner_drives (lowered_component (part_of i)) (Some g) then Some (offset_now i around s look g).value else None) (stopped g (driver_there (part_of i) g c drives))
+      ap (λ o. if is_true (unwrap_or o (zero_of (Some 1))) && owner_drives (lowered_component (part_of i)) (Some g) then Some (own_offset (group_length (part_of i) g) (offset_now i around s look g)) else None) (stopped g (driver_there (part_of i) g c drives))
 
   -- what a primitive looks at
   module _ (c : ℕ) (row : Row) (at : cell_at (cells_of i) c ≡ OfRow row) (known : (p : ℕ) → p < length row.ports → (x : BitVector) × (look [] (APort (ports.Cell c p)) ≡ Some x)) where

@@ -13,7 +13,7 @@ use Rattle.cx_static.specs.Islands.{PlainIsland}
 use Rattle.cx_wiring.specs.Parts.{word}
 use Rattle.cx_wiring.specs.Assignments.{looks_of, assign_wires, assigns_wires, assign_drivers, assigns_drivers}
 use Rattle.cx_wiring.specs.GuardPorts.{AssignHolds, AssignsHold}
-use Rattle.cx_wiring.specs.Bounds.{IslandsName, AssignsName}
+use Rattle.cx_wiring.specs.Bounds.{AllDrive, IslandsName, AssignsName}
 use Rattle.cx_wiring.specs.Takings.{value, takes}
 use Rattle.cx_wiring.specs.Shown.{wide}
 use Rattle.cx_wiring.specs.IslandDrivers.{island_wires}
@@ -109,8 +109,8 @@ module _ (groups : ℕ) (islands : List PlainIsland) (named : IslandsName groups
       (hole_takes rest (wire + assign_wires a) (omega arith) names.1 (λ n l m. bit_behind groups islands named around registers look n (assign_drivers groups wire a) _ (own_skip n l) (reads n (omega arith) (omega arith))) h.1 fits.1)
       ∙ hole_one a.owner a.assign.target a.assign.guard a.assign.source a.assign.place wire rest low (λ n l m. bit_before groups islands named around registers look n (assign_drivers groups wire a) _ (rest_skip n m) (reads n l (omega arith))) h.0 fits.0
     where
-      own_skip : (n : ℕ) → wire + assign_wires a ≤ n → _
+      own_skip : (n : ℕ) → wire + assign_wires a ≤ n → AllDrive (λ u. same_target u (ToWire n) ≡ false) (assign_drivers groups wire a)
       own_skip n l = looking_drives (λ u. same_target u (ToWire n) ≡ false) (no_port_wire n) groups (λ k less. refl) (looks_of a.owner a.assign.target) a.assign wire names.0 (record { among = λ m x y. differs m n (λ e. omega arith) })
 
-      rest_skip : (n : ℕ) → n < wire + assign_wires a → _
+      rest_skip : (n : ℕ) → n < wire + assign_wires a → AllDrive (λ u. same_target u (ToWire n) ≡ false) (assigns_drivers groups (wire + assign_wires a) rest)
       rest_skip n l = assigns_drive (λ u. same_target u (ToWire n) ≡ false) (no_port_wire n) groups (λ k less. refl) rest (wire + assign_wires a) names.1 (record { among = λ m x y. differs m n (λ e. omega arith) })

@@ -9,12 +9,13 @@ use Rattle.cx_prim.specs.Table.{PrimitiveRow, row_of}
 use Rattle.cx_meaning.specs.declared.ports.PortRef.{PortRef}
 use Rattle.cx_meaning.specs.declared.ports.PortRef.TheVariants as ports
 use Rattle.cx_meaning.specs.declared.ports.PlacedPort.{PlacedPort}
+use Rattle.cx_meaning.specs.declared.kinds.PortDecl.{PortDecl}
 use Rattle.cx_meaning.specs.Designs.{PlainGuard, Always, Atom, Negation, All, Any, Compared, Within, PlainGuards, no_guards, a_guard, PlainAssign, PlainKind, OfPrimitive, OfComponent, PlainCell, PlainComponent, PlainDesign, no_component, component_at, group_at}
 use Rattle.cx_meaning.specs.Instances.{Instance, Node, Cells, no_cells, At, Nothing, OfRow, OfInstance, cell_at, cells_of, part_of, add_cell, cells_for, tree_within, tree_of, Path, instance_at}
 use Rattle.cx_meaning.specs.Active.{Owned, source_order}
 use Rattle.cx_meaning.specs.Sights.{In, PartPort, Go, AnInput, AnOutput, ItsDone, output_port, part_port}
 use Rattle.cx_meaning.specs.Islands.{group_length}
-use Rattle.cx_rules.specs.Ports.{component_of, part_width, cell_width, width_of, written_width, is_source_only, path_of}
+use Rattle.cx_rules.specs.Ports.{component_of, declared_width, part_width, cell_width, width_of, written_width, is_source_only, path_of}
 use Rattle.cx_rules.specs.Items.{atoms_of, atoms_in, operands_of, operands_in, Range, ranges_of, sources_of, Visited, statements_in, test_in}
 use Rattle.cx_rules.specs.WidthRules.{differ, is_wide, first_wide, IsBadLiteral}
 use Rattle.cx_rules.specs.ShapeRules.{is_hole, some_target, owner_length, is_bad_range}
@@ -23,9 +24,9 @@ use Rattle.cx_rules.specs.Accepted.{IsAccepted}
 use Rattle.cx_rules.specs.Wellformed.{IsThere, IsAssign, IsDesign, IsKind, StandsIn, port_count}
 use Rattle.cx_rules.proofs.Finite.{in_left, in_right}
 use Rattle.cx_rules.proofs.CircleLemmas.{same_part}
-use Rattle.cx_laws.proofs.TreeLemmas.{there_at, declared_there, output_there}
-use Rattle.cx_frames.proofs.RuleLemmas.{number_in, OwnerOf, continuous, of_group, owner_of, bare_test}
-use Rattle.cx_wiring.proofs.WholeInstances.{IsWhole, of_component, of_nothing, instance_whole, cells_alike, alike_there, alike_written}
+use Rattle.cx_flow.proofs.InstanceLemmas.{number_in}
+use Rattle.cx_wiring.proofs.WholeInstances.{IsWhole, of_component, of_nothing, instance_whole, cells_alike, alike_there, alike_written, alike_source}
+use Rattle.cx_wiring.proofs.CycleLaws.{some_at}
 use Rattle.cx_wiring.proofs.DesignNames.{stands_in}
 
 -- a port that a statement or an assignment names
@@ -53,6 +54,7 @@ pub record IsStatic (part : PlainComponent) (owner : Option ℕ) : Type 0 where
 pub record AssignRules (i : Instance) (o : Owned) : Type 0 where
   pub target : IsThere i o.assign.target
   pub is_target : IsTarget o.assign.target
+  pub no_source : is_source_only i o.assign.target ≡ false
   pub owner : (g : ℕ) → o.owner ≡ Some g → g < length (part_of i).groups
   pub own_hole : (g : ℕ) → o.assign.target ≡ ports.Done g → o.owner ≡ Some g
   pub source : (p : PlacedPort) → In (sources_of o.assign) p → IsNamed i p.port
@@ -123,6 +125,24 @@ module _ (d : PlainDesign) (n : ℕ) where
       by_kind (OfComponent k) is has (suc m) f later = later m child f
 
 -- WIDTHS: a port that is there has one as it is written
+pub declared_there : (decls : List PortDecl) (n : ℕ) → n < length decls → (w : ℕ) × (declared_width decls n ≡ Some w)
+declared_there decls n h = let r = some_at decls n h in (r.0.width, ap (option_map (λ decl. decl.width)) r.1)
+
+output_is : (outputs m n : ℕ) → output_port outputs m ≡ AnOutput n → n < outputs
+output_is outputs m n e = by (nat_lt m outputs) refl e
+  where
+    by : (t : Bool) → nat_lt m outputs ≡ t → (if t then AnOutput m else ItsDone) ≡ AnOutput n → n < outputs
+    by true f g = let same : m ≡ n = cc in subst (λ k. k < outputs) same (ltb-true m outputs f)
+    by false f g = absurd (cc)
+
+pub output_there : (part : PlainComponent) (p n : ℕ) → part_port part p ≡ AnOutput n → n < length part.outputs
+output_there part zero n e = absurd (cc)
+output_there part (suc m) n e = by (nat_lt m (length part.inputs)) e
+  where
+    by : (t : Bool) → (if t then AnInput m else output_port (length part.outputs) (m - length part.inputs)) ≡ AnOutput n → n < length part.outputs
+    by true f = absurd (cc)
+    by false f = output_is (length part.outputs) (m - length part.inputs) n f
+
 output_is_none : (outputs m n : ℕ) → output_port outputs m ≡ AnInput n → ⊥
 output_is_none outputs m n e = by (nat_lt m outputs) e
   where
@@ -146,7 +166,7 @@ part_has part p ItsDone e = (1, refl)
 
 cell_has : (at : At) (p : ℕ) → p < port_count at → (w : ℕ) × (cell_width at p ≡ Some w)
 cell_has Nothing p h = absurd (omega arith)
-cell_has (OfRow row) p h = let r = there_at row.ports p h in (r.0.width, ap (option_map (λ port. port.width)) r.1)
+cell_has (OfRow row) p h = let r = some_at row.ports p h in (r.0.width, ap (option_map (λ port. port.width)) r.1)
 cell_has (OfInstance child) p h = part_has (part_of child) p (part_port (part_of child) p) refl
 
 pub written_there : (i : Instance) (p : PortRef) → IsThere i p → (w : ℕ) × (written_width i p ≡ Some w)
@@ -231,10 +251,17 @@ module _ (d : PlainDesign) (design : IsDesign d) (accepted : IsAccepted d) (k : 
             absurd (accepted.widths rules.GuardWidth (record { component = k; part = AnAssign number.0 }) o.assign.place (path_of (component_of d k) first.0) refl
             (inl (record { within = within; number = number.0; is = refl; assign = o; stands = number.1; breaks = (first.0, first.1, (refl, refl)) })))
 
+    no_source : is_source_only (component_of d k) o.assign.target ≡ false
+    no_source = by (is_source_only (component_of d k) o.assign.target) refl
+      where
+        by : (b : Bool) → is_source_only (component_of d k) o.assign.target ≡ b → b ≡ false
+        by false e = refl
+        by true e =
+            absurd (accepted.widths rules.NotATarget (record { component = k; part = AnAssign number.0 }) o.assign.place (path_of (component_of d k) o.assign.target) refl
+            (record { within = within; number = number.0; is = refl; assign = o; stands = number.1; breaks = (e, (refl, refl)) }))
+
     no_input : (n : ℕ) → o.assign.target ≡ ports.Input n → ⊥
-    no_input n e =
-        accepted.widths rules.NotATarget (record { component = k; part = AnAssign number.0 }) o.assign.place (path_of (component_of d k) o.assign.target) refl
-        (record { within = within; number = number.0; is = refl; assign = o; stands = number.1; breaks = (ap (is_source_only (component_of d k)) e, (refl, refl)) })
+    no_input n e = let no = sym no_source ∙ ap (is_source_only (component_of d k)) e in absurd cc
 
     is_target : (p : PortRef) → o.assign.target ≡ p → IsTarget p
     is_target (ports.Cell c p) e = tt
@@ -307,6 +334,11 @@ module _ (d : PlainDesign) (design : IsDesign d) (accepted : IsAccepted d) (k : 
         alike_written (component_at d k) (cells_for (tree_within d m) (component_at d k).cells) (cells_for (tree_within d n) (component_at d k).cells)
         (cells_alike (tree_within d m) (tree_within d n) (λ j. same_part d m j ∙ sym (same_part d n j)) (component_at d k).cells) p ∙ subst (λ x. written_width (tree_within d x k) p ≡ Some 1) count h
 
+    source_too : (p : PortRef) → is_source_only (component_of d k) p ≡ false → is_source_only (tree_within d (suc m) k) p ≡ false
+    source_too p h =
+        alike_source (component_at d k) (cells_for (tree_within d m) (component_at d k).cells) (cells_for (tree_within d n) (component_at d k).cells)
+        (cells_alike (tree_within d m) (tree_within d n) (λ j. same_part d m j ∙ sym (same_part d n j)) (component_at d k).cells) p ∙ subst (λ x. is_source_only (tree_within d x k) p ≡ false) count h
+
     named_too : (p : PortRef) → IsNamed (component_of d k) p → IsNamed (tree_within d (suc m) k) p
     named_too p h = record { there = there_too p h.there; no_hole = h.no_hole; literal = h.literal }
 
@@ -315,6 +347,7 @@ module _ (d : PlainDesign) (design : IsDesign d) (accepted : IsAccepted d) (k : 
       assigns = λ o i. record {
         target = there_too o.assign.target (is o i).target;
         is_target = is_target o i o.assign.target refl;
+        no_source = source_too o.assign.target (no_source o i);
         owner = λ g e. (owner_there o i g e).0;
         own_hole = (is o i).own_hole;
         source = λ p j. named_too p.port (named o i p j);
@@ -329,9 +362,16 @@ module _ (d : PlainDesign) (design : IsDesign d) (accepted : IsAccepted d) (k : 
           record { cell = r.0; component = r.1; stands = r.2; kind = r.3; within = r.4; is = r.5 };
     }
 
-some_components : (k n : ℕ) → k < n → (m : ℕ) × (n ≡ suc m)
+pub some_components : (k n : ℕ) → k < n → (m : ℕ) × (n ≡ suc m)
 some_components k zero h = absurd (omega arith)
 some_components k (suc m) h = (m, refl)
+
+no_test : (v : Visited) (p : PlacedPort) → In (statements_in no_component) v → test_in v.form ≡ Some p → ⊥
+no_test v p (inl e) f = none_port (ap (λ w. test_in w.form) e ∙ f)
+  where
+    none_port : ◌≡◌ {A = Option PlacedPort} None (Some p) → ⊥
+    none_port g = cc
+no_test v p (inr i) f = absurd i
 
 -- EVERY INSTANCE of an accepted design's tree
 pub port_rules : (d : PlainDesign) → IsDesign d → IsAccepted d → (path : Path) → PortRules d (instance_at (tree_of d) path)
@@ -341,7 +381,7 @@ port_rules d design accepted path = by (instance_whole d design path)
     by (of_component m k within) = let n = some_components k (length d.components) within in tree_rules d design accepted k within m n.0 n.1
     by of_nothing = record {
       assigns = λ o i. absurd i;
-      tests = λ v p i e. absurd (bare_test v p i e);
+      tests = λ v p i e. absurd (no_test v p i e);
       rows = λ c row e. absurd (cc);
       children = λ c child e. absurd (cc);
     }

@@ -37,7 +37,7 @@ use Rattle.cx_wiring.proofs.KnowLaws.{Known}
 use Rattle.cx_wiring.proofs.GatherLaws.{get_below, get_some}
 use Rattle.cx_wiring.proofs.IslandCells.{IsListed, listed}
 use Rattle.cx_wiring.proofs.TimerRows.{EachTimer}
-use Rattle.cx_wiring.proofs.IslandValues.{IslandLooks, live, says_live, says_active, count_is, live_first, live_within, says_begins, active_is, active}
+use Rattle.cx_wiring.proofs.IslandValues.{IslandLooks, live, says_live, says_active, count_is, live_first, live_within, says_begins, active_is, active, all_wanted}
 
 named_at : (groups : ℕ) (list : List PlainOccurrence) → OccurrencesName groups list → (j : ℕ) (v : PlainOccurrence) → slice_get list j ≡ Some v → v.group < groups
 named_at groups [] names j v e = absurd cc
@@ -145,7 +145,8 @@ module _ (part : PlainComponent) (named : IslandsName (groups (lowered_component
       timers_idle t [] l = tt
       timers_idle t (timer ∷ rest) l = (tt, (says_off t (omega arith), timers_idle (suc t) rest (omega arith)))
 
-      points_idle : (m : ℕ) (rest : List PlainPoint) → ((j : ℕ) (p : PlainPoint) → slice_get rest j ≡ Some p → p.timer < length n.taken.there.0.timers)
+      points_idle : (m : ℕ) (rest : List PlainPoint)
+          → ((j : ℕ) (p : PlainPoint) → slice_get rest j ≡ Some p → (p.timer < length n.taken.there.0.timers) × ((s : Sample) → In p.samples s → s.point < length n.taken.there.0.points))
           → AllIdle around registers look (point_drivers G y (first_of_island G I k) n.taken.there.0 m rest)
       points_idle m [] there = tt
       points_idle m (p ∷ rest) there =
@@ -158,7 +159,8 @@ module _ (part : PlainComponent) (named : IslandsName (groups (lowered_component
                     (says_equals around registers look (wired.count G y (first_of_island G I k) n.taken.there.0 0) (wide (its_count 0)) _
                     (count_is G y (first_of_island G I k) n.taken.there.0 around registers look its_count its_done its_looks 0 lists.some)),
                 (
-                  says_begins G y (first_of_island G I k) n.taken.there.0 around registers look its_count its_done its_looks p less ∙ ap (λ b. Some (truth_bit (b && (its_count p.timer == p.at)))) (not_live p.timer less),
+                  says_begins G y (first_of_island G I k) n.taken.there.0 around registers look its_count its_done its_looks p less.0 less.1
+                      ∙ ap (λ b. Some (truth_bit (b && ((its_count p.timer == p.at) && all_wanted G y (first_of_island G I k) n.taken.there.0 around registers look its_count its_done its_looks p.samples)))) (not_live p.timer less.0),
                   points_idle (suc m) rest (λ j q e. there (suc j) q e),
                 ),
               ),
@@ -184,7 +186,7 @@ module _ (part : PlainComponent) (named : IslandsName (groups (lowered_component
           (tt, idle_both around registers look (timer_drivers G y F island 0 island.timers) (point_drivers G y F island 0 island.points ++ occurrence_drivers G y F island 0 island.occurrences)
           (timers_idle 0 island.timers (omega arith))
           (idle_both around registers look (point_drivers G y F island 0 island.points) (occurrence_drivers G y F island 0 island.occurrences)
-          (points_idle 0 island.points (λ j p e. (lists.points j p e).0))
+          (points_idle 0 island.points (λ j p e. let l = lists.points j p e in let below : j < length island.points = get_below island.points j p e in (l.0, λ s i. let h : s.point < j = l.1 s i in omega arith)))
           (occurrences_idle 0 island.occurrences (λ j o e. let none : 0 + j ≡ j = omega arith in ap (slice_get island.occurrences) none ∙ e)))))
 
   -- AWAY FROM AN ISLAND

@@ -228,12 +228,6 @@ module _ (groups : ℕ) (x : Stand) (first : ℕ) (island : PlainIsland) (around
         ∙ ap (λ o. value around registers look (wired.timer_runs groups x first island timer.cell o timer.from timer.to)) around_it
         ∙ says_range outer timer.from timer.to [] true less refl)
 
-    -- A STATIC IF begins at a count of a timer that runs
-    pub says_begins : (p : PlainPoint) → p.timer < length island.timers → Says around registers look (wired.begins groups x first island p) (live p.timer && (count p.timer == p.at))
-    says_begins p less =
-        says_both around registers look (wired.runs groups x first island p.timer) (equals (wired.count groups x first island p.timer) p.at) (live p.timer) (count p.timer == p.at) (says_live p.timer less)
-        (says_equals around registers look (wired.count groups x first island p.timer) (wide (count p.timer)) p.at (count_is p.timer less))
-
     -- AN ENABLE is active in a range, where the samples are as wanted
     abbrev pub as_wanted : Sample → Bool
     as_wanted s = if s.wanted then sample s.point else not (sample s.point)
@@ -253,6 +247,16 @@ module _ (groups : ℕ) (x : Stand) (first : ℕ) (island : PlainIsland) (around
     says_all_wanted [] there = refl
     says_all_wanted (s ∷ rest) there =
         says_all around registers look (wired.as_wanted groups x first island s) (exprs_of (map (wired.as_wanted groups x first island) rest)) (as_wanted s) (all_wanted rest) (says_wanted s (there s (inl refl))) (says_all_wanted rest (λ z i. there z (inr i)))
+
+    -- A STATIC IF begins at a count of a timer that runs, where the samples are as wanted
+    pub says_begins : (p : PlainPoint) → p.timer < length island.timers → ((s : Sample) → In p.samples s → s.point < length island.points)
+        → Says around registers look (wired.begins groups x first island p) (live p.timer && ((count p.timer == p.at) && all_wanted p.samples))
+    says_begins p less there =
+        let at_it = equals (wired.count groups x first island p.timer) p.at in
+        let wanted = map (wired.as_wanted groups x first island) p.samples in
+        says_all around registers look (wired.runs groups x first island p.timer) (exprs_of (at_it ∷ wanted)) (live p.timer) ((count p.timer == p.at) && all_wanted p.samples) (says_live p.timer less)
+        (says_all around registers look at_it (exprs_of wanted) (count p.timer == p.at) (all_wanted p.samples) (says_equals around registers look (wired.count groups x first island p.timer) (wide (count p.timer)) p.at (count_is p.timer less))
+        (says_all_wanted p.samples there))
 
     pub active_is : (n : ℕ) (u : PlainOccurrence) → slice_get island.occurrences n ≡ Some u → u.timer < length island.timers → ((s : Sample) → In u.samples s → s.point < length island.points)
         → active n ≡ live u.timer && (not (nat_lt (count u.timer) u.from) && (nat_lt (count u.timer) u.to && all_wanted u.samples))

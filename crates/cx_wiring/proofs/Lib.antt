@@ -10,6 +10,7 @@ pub mod RoundTurns
 pub mod ArmTurns
 pub mod SizeLaws
 pub mod StandsLaws
+pub mod GoesLaws
 pub mod ConnectLaws
 pub mod KnowLaws
 pub mod GatherLaws
@@ -45,6 +46,7 @@ pub mod CycleLaws
 pub mod GroundedRuns
 pub mod EdgeRuns
 pub mod NetRealises
+pub mod TreeRules
 pub mod BlockTree
 pub mod RootEdges
 pub mod BlockTells
@@ -59,6 +61,8 @@ pub mod ChildLooks
 pub mod NodeIdles
 pub mod NodeRuns
 pub mod CellEdges
+pub mod CallStands
+pub mod GoingLaws
 pub mod ExternalLaws
 pub mod MainLaws
 pub mod NumberLemmas
@@ -67,4 +71,14 @@ pub mod NetTrees
 pub mod DesignNames
 pub mod WholeInstances
 pub mod InstancePorts
+pub mod RowPorts
 pub mod NodeRules
+pub mod NodePorts
+pub mod WireSolves
+pub mod NodeCells
+pub mod ChildSteps
+pub mod StillPorts
+pub mod SeamRules
+pub mod SeamFlows
+pub mod OutputFlows
+pub mod GoingApart

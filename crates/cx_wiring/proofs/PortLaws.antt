@@ -41,10 +41,10 @@ no_port_hole n (ports.Output i) = refl
 no_port_hole n (ports.Done g) = refl
 no_port_hole n (ports.Literal w v) = refl
 
-one_of : (k j : ℕ) → j < k → slice_get (replicate k 1) j ≡ Some 1
-one_of zero j less = absurd (omega arith)
-one_of (suc k) zero less = refl
-one_of (suc k) (suc j) less = one_of k j (omega arith)
+one_of : (w k j : ℕ) → j < k → slice_get (replicate k w) j ≡ Some w
+one_of w zero j less = absurd (omega arith)
+one_of w (suc k) zero less = refl
+one_of w (suc k) (suc j) less = one_of w k j (omega arith)
 
 module _ (d : PlainLowereds) (part : PlainComponent) (named : IslandsName (groups (lowered_component part)) (lowered_component part).islands) (cells : NetCells) (around : NetAround) (s : NetState) (look : NetLook)
     (solves : (n : Node) → is_own_node (net_component d (lowered_component part)) cells n ≡ true
@@ -63,9 +63,11 @@ module _ (d : PlainLowereds) (part : PlainComponent) (named : IslandsName (group
 
   wide_one : (n : ℕ) → groups (lowered_component part) ≤ n → n < groups (lowered_component part) + bits (lowered_component part) → slice_get (plain_wires (lowered_component part)) n ≡ Some 1
   wide_one n low high =
-      let count : length (replicate (groups (lowered_component part)) 32) ≡ groups (lowered_component part) = length-replicate (groups (lowered_component part)) 32 in
-      slice_get-append (replicate (groups (lowered_component part)) 32) (replicate (bits (lowered_component part)) 1) n (n - groups (lowered_component part)) (omega arith)
-      ∙ one_of (bits (lowered_component part)) (n - groups (lowered_component part)) (omega arith)
+      let wide : ℕ = 32 in
+      let count : length (replicate (groups (lowered_component part)) wide) ≡ groups (lowered_component part) = length-replicate (groups (lowered_component part)) wide in
+      let at : n ≡ length (replicate (groups (lowered_component part)) 32) + (n - groups (lowered_component part)) = omega (arith, count, low) in
+      slice_get-append (replicate (groups (lowered_component part)) 32) (replicate (bits (lowered_component part)) 1) n (n - groups (lowered_component part)) at
+      ∙ one_of 1 (bits (lowered_component part)) (n - groups (lowered_component part)) (omega arith)
 
   -- the wires of assignments take what the drivers of assignments give them
   assign_reads : (n : ℕ) → first_of_assigns (lowered_component part) ≤ n → n < first_of_assigns (lowered_component part) + assigns_wires (driven_assigns (lowered_component part))
@@ -99,7 +101,7 @@ module _ (d : PlainLowereds) (part : PlainComponent) (named : IslandsName (group
         → first_true around R (look []) (zero_wide (target_width d (lowered_component part) (ToPort p))) (drivers_to (ToPort p) (net_component d (lowered_component part)).drivers)
         ≡ Some (first_on v (zero_wide (target_width d (lowered_component part) (ToPort p))) (drivers part (going_set goes at) p))
     driven_port left_out p proper same no_timer =
-        target_takes d (lowered_component part) around R (look []) plain (reads d part named cells around s look solves has_value plain) (ToPort p) proper (λ m from. no_port_wire m p) (λ x. refl)
+        target_takes d (lowered_component part) around R (look []) plain (reads d part named cells around s look solves has_value plain) (ToPort p) proper (λ m from. refl) (λ x. refl)
         ∙ takes_append around R (look []) (ToPort p) _ CD AD
         ∙ others_pass around R (look []) (ToPort p) _ CD
         (control_free (λ u. same_target u (ToPort p) ≡ false) (λ n. refl) (λ n. refl) (λ n. refl) refl (groups (lowered_component part)) (lowered_component part).islands no_timer (first_of_control (lowered_component part)) (lowered part part.control (unlowered part)))

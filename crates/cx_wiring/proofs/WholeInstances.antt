@@ -9,7 +9,7 @@ use Rattle.cx_meaning.specs.Designs.{PlainKind, OfPrimitive, OfComponent, PlainC
 use Rattle.cx_meaning.specs.Instances.{Instance, Node, Cells, no_cells, At, Nothing, OfRow, OfInstance, cell_at, cells_of, part_of, add_cell, cells_for, tree_within, tree_of, Path, instance_at, child_at}
 use Rattle.cx_meaning.specs.Sights.{In, part_port}
 use Rattle.cx_prim.specs.Table.{row_of}
-use Rattle.cx_rules.specs.Ports.{part_width, cell_width, width_of, written_width}
+use Rattle.cx_rules.specs.Ports.{is_part_output, is_cell_output, is_source_only, part_width, cell_width, width_of, written_width}
 use Rattle.cx_rules.specs.Wellformed.{IsKind, IsThere, LeadsTo, by_cell, by_way_of, IsDesign, port_count}
 use Rattle.cx_rules.proofs.Finite.{Distinct, distinct_few}
 use Rattle.cx_rules.proofs.CircleLemmas.{same_part}
@@ -107,7 +107,12 @@ same_count nothings = refl
 same_count (rows row) = refl
 same_count (instances a b e) = ap (λ (x : PlainComponent). 2 + length x.inputs + length x.outputs) e
 
--- so ports are there in both, with one width
+same_output : {a b : At} → AreAlike a b → (p : ℕ) → is_cell_output a p ≡ is_cell_output b p
+same_output nothings p = refl
+same_output (rows row) p = refl
+same_output (instances a b e) p = ap (λ (x : PlainComponent). is_part_output (part_port x p)) e
+
+-- so ports are there in both, with one width, and are outputs in both
 module _ (part : PlainComponent) (cells more : Cells) (alike : (c : ℕ) → AreAlike (cell_at cells c) (cell_at more c)) where
   pub alike_there : (p : PortRef) → IsThere (Node part more) p → IsThere (Node part cells) p
   alike_there (ports.Cell c p) h = (h.0, subst (λ n. p < n) (sym (same_count (alike c))) h.1)
@@ -122,3 +127,10 @@ module _ (part : PlainComponent) (cells more : Cells) (alike : (c : ℕ) → Are
   alike_written (ports.Output n) = refl
   alike_written (ports.Done g) = refl
   alike_written (ports.Literal w v) = refl
+
+  pub alike_source : (p : PortRef) → is_source_only (Node part cells) p ≡ is_source_only (Node part more) p
+  alike_source (ports.Cell c p) = same_output (alike c) p
+  alike_source (ports.Input n) = refl
+  alike_source (ports.Output n) = refl
+  alike_source (ports.Done g) = refl
+  alike_source (ports.Literal w v) = refl
