@@ -19,6 +19,7 @@ pub mod IslandCells
 pub mod IslandReads
 pub mod IslandStands
 pub mod TimerRows
+pub mod TimerRules
 pub mod IslandValues
 pub mod IslandAway
 pub mod GuardLaws

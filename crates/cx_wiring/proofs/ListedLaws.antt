@@ -94,9 +94,56 @@ module _ (part : PlainComponent) where
           let more : length (g.points ++ record { port = port; timer = x.timer; at = x.at; samples = x.samples } ∷ []) ≡ suc (length g.points) = one_more g.points (record { port = port; timer = x.timer; at = x.at; samples = x.samples }) in
           let same : length g.points ≡ s.point = ap (λ (z : Sample). z.point) e in omega arith
 
+  -- of each static repeat, its count and the cycles of its body
+  module _ (R : ℕ → ℕ → Type 0) where
+    abbrev mutual
+      pub FormRepeats : PlainForm → Type 0
+      FormRepeats Empty = Unit {0}
+      FormRepeats (Enable g) = Unit {0}
+      FormRepeats (Seq parts) = Unit {0}
+      FormRepeats (Par arms) = Unit {0}
+      FormRepeats (If test comb a b) = Unit {0}
+      FormRepeats (While test comb a) = Unit {0}
+      FormRepeats (Repeat count a) = Unit {0}
+      FormRepeats (StaticSeq written parts) = AllRepeats parts
+      FormRepeats (StaticPar written arms) = AllRepeats arms
+      FormRepeats (StaticIf written test a b) = StatementRepeats a × StatementRepeats b
+      FormRepeats (StaticRepeat written count a) = R count (length_of part a) × StatementRepeats a
+      FormRepeats (Timed k) = Unit {0}
+
+      pub StatementRepeats : PlainStatement → Type 0
+      StatementRepeats (Placed form place) = FormRepeats form
+
+      pub AllRepeats : PlainStatements → Type 0
+      AllRepeats no_statements = Unit {0}
+      AllRepeats (a_statement s ss) = StatementRepeats s × AllRepeats ss
+
+    module _ (each : (count p : ℕ) → R count p) where
+      mutual
+        form_repeats : (form : PlainForm) → FormRepeats form
+        form_repeats Empty = tt
+        form_repeats (Enable g) = tt
+        form_repeats (Seq parts) = tt
+        form_repeats (Par arms) = tt
+        form_repeats (If test comb a b) = tt
+        form_repeats (While test comb a) = tt
+        form_repeats (Repeat count a) = tt
+        form_repeats (StaticSeq written parts) = all_repeats parts
+        form_repeats (StaticPar written arms) = all_repeats arms
+        form_repeats (StaticIf written test a b) = (statement_repeats a, statement_repeats b)
+        form_repeats (StaticRepeat written count a) = (each count (length_of part a), statement_repeats a)
+        form_repeats (Timed k) = tt
+
+        statement_repeats : (s : PlainStatement) → StatementRepeats s
+        statement_repeats (Placed form place) = form_repeats form
+
+        all_repeats : (ss : PlainStatements) → AllRepeats ss
+        all_repeats no_statements = tt
+        all_repeats (a_statement s ss) = (statement_repeats s, all_repeats ss)
+
   -- WHAT EACH STEP KEEPS where its statement begins so
-  module _ (Q : Gathered → Type 0)
-      (of_timer : (x : Begin) (p count : ℕ) (g : Gathered) → Begins x (count * p) g → Q g → Q (with_timer part.place p (Some x.timer) x.at (x.at + count * p) g))
+  module _ (R : ℕ → ℕ → Type 0) (Q : Gathered → Type 0)
+      (of_timer : (x : Begin) (p count : ℕ) (g : Gathered) → R count p → Begins x (count * p) g → Q g → Q (with_timer part.place p (Some x.timer) x.at (x.at + count * p) g))
       (of_point : (x : Begin) (n : ℕ) (port : PortRef) (g : Gathered) → Begins x n g → Q g → Q (with_point port x g))
       (of_occurrence : (x : Begin) (n group : ℕ) (g : Gathered) → Begins x n g → Q g → Q (with_occurrence group x (Some n) g)) where
     enable_keeps : (group : ℕ) (x : Begin) (o : Option ℕ) (g : Gathered) → Begins x (or_zero o) g → Q g → Q (with_occurrence group x o g)
@@ -104,41 +151,41 @@ module _ (part : PlainComponent) where
     enable_keeps group x (Some n) g b q = of_occurrence x n group g b q
 
     mutual
-      pub form_keeps : (form : PlainForm) (x : Begin) (g : Gathered) → Begins x (form_length part form) g → Q g → Q (form_gathered part form x g)
-      form_keeps Empty x g b q = q
-      form_keeps (Enable group) x g b q = enable_keeps group x (group_length part group) g b q
-      form_keeps (Seq parts) x g b q = q
-      form_keeps (Par arms) x g b q = q
-      form_keeps (If test comb a c) x g b q = q
-      form_keeps (While test comb a) x g b q = q
-      form_keeps (Repeat count a) x g b q = q
-      form_keeps (StaticSeq written parts) x g b q = parts_keep parts x g b q
-      form_keeps (StaticPar written arms) x g b q = arms_keep arms x (max_length part arms) g (omega arith) b q
-      form_keeps (StaticIf written test a c) x g b q =
-          keeps c (if_sampled (length g.points) false x) (gathered part a (if_sampled (length g.points) true x) (with_point test.port x g))
+      pub form_keeps : (form : PlainForm) (x : Begin) (g : Gathered) → FormRepeats R form → Begins x (form_length part form) g → Q g → Q (form_gathered part form x g)
+      form_keeps Empty x g r b q = q
+      form_keeps (Enable group) x g r b q = enable_keeps group x (group_length part group) g b q
+      form_keeps (Seq parts) x g r b q = q
+      form_keeps (Par arms) x g r b q = q
+      form_keeps (If test comb a c) x g r b q = q
+      form_keeps (While test comb a) x g r b q = q
+      form_keeps (Repeat count a) x g r b q = q
+      form_keeps (StaticSeq written parts) x g r b q = parts_keep parts x g r b q
+      form_keeps (StaticPar written arms) x g r b q = arms_keep arms x (max_length part arms) g (omega arith) r b q
+      form_keeps (StaticIf written test a c) x g r b q =
+          keeps c (if_sampled (length g.points) false x) (gathered part a (if_sampled (length g.points) true x) (with_point test.port x g)) r.1
           (begins_still (if_sampled (length g.points) false x) (length_of part c) a (if_sampled (length g.points) true x) (with_point test.port x g)
           (begins_branch x (length_of part c) test.port false g (begins_short x _ (length_of part c) g (omega arith) b)))
-          (keeps a (if_sampled (length g.points) true x) (with_point test.port x g) (begins_branch x (length_of part a) test.port true g (begins_short x _ (length_of part a) g (omega arith) b)) (of_point x _ test.port g b q))
-      form_keeps (StaticRepeat written count a) x g b q =
-          keeps a (begin_at (length g.timers) 0 x.samples) (with_timer part.place (length_of part a) (Some x.timer) x.at (x.at + count * length_of part a) g)
-          (begins_round x _ (length_of part a) x.at (x.at + count * length_of part a) (Some x.timer) g b) (of_timer x (length_of part a) count g b q)
-      form_keeps (Timed k) x g b q = q
+          (keeps a (if_sampled (length g.points) true x) (with_point test.port x g) r.0 (begins_branch x (length_of part a) test.port true g (begins_short x _ (length_of part a) g (omega arith) b)) (of_point x _ test.port g b q))
+      form_keeps (StaticRepeat written count a) x g r b q =
+          keeps a (begin_at (length g.timers) 0 x.samples) (with_timer part.place (length_of part a) (Some x.timer) x.at (x.at + count * length_of part a) g) r.1
+          (begins_round x _ (length_of part a) x.at (x.at + count * length_of part a) (Some x.timer) g b) (of_timer x (length_of part a) count g r.0 b q)
+      form_keeps (Timed k) x g r b q = q
 
-      pub keeps : (s : PlainStatement) (x : Begin) (g : Gathered) → Begins x (length_of part s) g → Q g → Q (gathered part s x g)
-      keeps (Placed form place) x g b q = form_keeps form x g b q
+      pub keeps : (s : PlainStatement) (x : Begin) (g : Gathered) → StatementRepeats R s → Begins x (length_of part s) g → Q g → Q (gathered part s x g)
+      keeps (Placed form place) x g r b q = form_keeps form x g r b q
 
-      parts_keep : (ss : PlainStatements) (x : Begin) (g : Gathered) → Begins x (sum_length part ss) g → Q g → Q (parts_gathered part ss x g)
-      parts_keep no_statements x g b q = q
-      parts_keep (a_statement s ss) x g b q =
-          parts_keep ss (later (length_of part s) x) (gathered part s x g)
+      parts_keep : (ss : PlainStatements) (x : Begin) (g : Gathered) → AllRepeats R ss → Begins x (sum_length part ss) g → Q g → Q (parts_gathered part ss x g)
+      parts_keep no_statements x g r b q = q
+      parts_keep (a_statement s ss) x g r b q =
+          parts_keep ss (later (length_of part s) x) (gathered part s x g) r.1
           (begins_later x (length_of part s) (sum_length part ss) _ (begins_still x (length_of part s + sum_length part ss) s x g b))
-          (keeps s x g (begins_short x _ (length_of part s) g (omega arith) b) q)
+          (keeps s x g r.0 (begins_short x _ (length_of part s) g (omega arith) b) q)
 
-      arms_keep : (ss : PlainStatements) (x : Begin) (n : ℕ) (g : Gathered) → max_length part ss ≤ n → Begins x n g → Q g → Q (arms_gathered part ss x g)
-      arms_keep no_statements x n g less b q = q
-      arms_keep (a_statement s ss) x n g less b q =
+      arms_keep : (ss : PlainStatements) (x : Begin) (n : ℕ) (g : Gathered) → max_length part ss ≤ n → AllRepeats R ss → Begins x n g → Q g → Q (arms_gathered part ss x g)
+      arms_keep no_statements x n g less r b q = q
+      arms_keep (a_statement s ss) x n g less r b q =
           let m : max (length_of part s) (max_length part ss) ≤ n = less in
-          arms_keep ss x n (gathered part s x g) (omega arith) (begins_still x n s x g b) (keeps s x g (begins_short x n (length_of part s) g (omega arith) b) q)
+          arms_keep ss x n (gathered part s x g) (omega arith) r.1 (begins_still x n s x g b) (keeps s x g r.0 (begins_short x n (length_of part s) g (omega arith) b) q)
 
   -- THE LISTS
   pub record TimerFits (g : Gathered) (n : ℕ) (timer : IslandTimer) (outer : ℕ) : Type 0 where
@@ -170,8 +217,8 @@ module _ (part : PlainComponent) where
     within = h.within;
   }
 
-  listed_timer : (x : Begin) (p count : ℕ) (g : Gathered) → Begins x (count * p) g → AreListed g → AreListed (with_timer part.place p (Some x.timer) x.at (x.at + count * p) g)
-  listed_timer x p count g b h =
+  listed_timer : (x : Begin) (p count : ℕ) (g : Gathered) → Unit {0} → Begins x (count * p) g → AreListed g → AreListed (with_timer part.place p (Some x.timer) x.at (x.at + count * p) g)
+  listed_timer x p count g any b h =
       let more : length (with_timer part.place p (Some x.timer) x.at (x.at + count * p) g).timers ≡ suc (length g.timers) = one_more g.timers (record { cell = length g.cells; outer = Some x.timer; from = x.at; to = x.at + count * p }) in
       let some : 0 < length g.timers = h.some in
       record {
@@ -258,7 +305,7 @@ module _ (part : PlainComponent) where
 
   pub island_listed : (form : PlainForm) (cells : List PlainCell) → AreListed (island_gathered part form cells)
   island_listed form cells =
-      form_keeps AreListed listed_timer listed_point listed_occurrence form (begin_at 0 0 []) (only_timer form cells) (island_begins form cells) (record {
+      form_keeps (λ c p. Unit {0}) AreListed listed_timer listed_point listed_occurrence form (begin_at 0 0 []) (only_timer form cells) (form_repeats (λ c p. Unit {0}) (λ c p. tt) form) (island_begins form cells) (record {
         some = omega arith;
         first = λ timer e. first_is timer e;
         within = λ n timer e later. absurd (none n timer e later);
@@ -272,3 +319,35 @@ module _ (part : PlainComponent) where
       none : (n : ℕ) (timer : IslandTimer) → slice_get (only_timer form cells).timers n ≡ Some timer → 0 < n → ⊥
       none zero timer e later = omega arith
       none (suc n) timer e later = cc
+
+  -- the first timer counts the whole island
+  pub first_has : (form : PlainForm) (cells : List PlainCell) → HasTimer (island_gathered part form cells) 0 (form_length part form)
+  first_has form cells =
+      form_grows part (λ g. HasTimer g 0 (form_length part form)) (λ p outer from to k b. has_timer p (Some outer) from to k 0 (form_length part form) b)
+      (λ port z k b. record { timer = b.timer; listed = b.listed; cell = b.cell }) (λ group z m k b. record { timer = b.timer; listed = b.listed; cell = b.cell }) form (begin_at 0 0 []) (only_timer form cells)
+      (record { timer = record { cell = length cells; outer = None; from = 0; to = form_length part form }; listed = refl; cell = get_end cells (timer_cell part.place (form_length part form)) })
+
+  -- where each repeat takes some cycles, so does the range of each timer within
+  abbrev SomeCycles : ℕ → ℕ → Type 0
+  SomeCycles count p = 0 < count * p
+
+  abbrev AllRun : Gathered → Type 0
+  AllRun g = (n : ℕ) (timer : IslandTimer) → slice_get g.timers n ≡ Some timer → 0 < n → timer.from < timer.to
+
+  pub island_runs : (form : PlainForm) (cells : List PlainCell) → FormRepeats (λ count p. 0 < count * p) form → AllRun (island_gathered part form cells)
+  island_runs form cells r =
+      form_keeps SomeCycles AllRun (λ x p count g some b h. one x p count g some h) (λ x n port g b h. h) (λ x n group g b h. h) form (begin_at 0 0 []) (only_timer form cells) r (island_begins form cells) none
+    where
+      one : (x : Begin) (p count : ℕ) (g : Gathered) → 0 < count * p → AllRun g → AllRun (with_timer part.place p (Some x.timer) x.at (x.at + count * p) g)
+      one x p count g some h n timer e later = by (found g.timers (record { cell = length g.cells; outer = Some x.timer; from = x.at; to = x.at + count * p }) n timer e)
+        where
+          by : IsFound g.timers (record { cell = length g.cells; outer = Some x.timer; from = x.at; to = x.at + count * p }) n timer → timer.from < timer.to
+          by (earlier f) = h n timer f later
+          by (last f same) =
+              let from : timer.from ≡ x.at = ap (λ (z : IslandTimer). z.from) same in
+              let to : timer.to ≡ x.at + count * p = ap (λ (z : IslandTimer). z.to) same in omega arith
+
+      none : AllRun (only_timer form cells)
+      none zero timer e later = absurd (omega arith)
+      none (suc n) timer e later = absurd cc
+
