@@ -67,3 +67,4 @@ pub mod SeamRules
 pub mod SeamFlows
 pub mod OutputFlows
 pub mod GoingApart
+pub mod NodeAgrees

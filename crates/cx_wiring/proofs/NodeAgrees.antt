@@ -18,7 +18,7 @@ use Rattle.cx_meaning.specs.Designs.{PlainComponent, PlainDesign, PlainForm, Emp
 use Rattle.cx_meaning.specs.Instances.{Instance, Node, Cells, OfRow, OfInstance, cell_at, part_of, State, under}
 use Rattle.cx_meaning.specs.Active.{Active, nothing, group, comb, only_at}
 use Rattle.cx_meaning.specs.Truths.{Truth, One, Zero, Clash, Unknown, truth_of}
-use Rattle.cx_meaning.specs.Sights.{Held, In, Sees, seen, AnOutput, ItsDone, part_port}
+use Rattle.cx_meaning.specs.Sights.{Held, unheld, In, Sees, seen, AnOutput, ItsDone, part_port}
 use Rattle.cx_meaning.specs.Cycles.{Ended, Goes, Faults, Fault, cycle}
 use Rattle.cx_meaning.specs.Islands.{kind_length, group_length, turn_of}
 use Rattle.cx_meaning.specs.Answers.{Test}
@@ -39,7 +39,7 @@ use Rattle.cx_lockstep.specs.Statements.{LeafMachines, machine_of}
 use Rattle.cx_lockstep.specs.Running.{Running, AGroup, AnIsland, leaf_of, running}
 use Rattle.cx_lockstep.specs.EndLaws.{is_done}
 use Rattle.cx_control.specs.StatementCodings.{LeafCodings}
-use Rattle.cx_control.specs.Spots.{Cell, Number, Input, Kept, cells_in, held_in}
+use Rattle.cx_control.specs.Spots.{Spot, Cell, Number, Input, Holds, Kept, cells_in, held_in}
 use Rattle.cx_control.specs.Leaves.{Coded, turn_next, turn_faults, called_machine, kind_machine, leaf_machines}
 use Rattle.cx_control.specs.Controls.{coded_control, coded_below, leaf_codings}
 use Rattle.cx_control.specs.Standing.{RestsAt, GoodAt, good_control, bare}
@@ -124,7 +124,7 @@ module _ (d : PlainDesign) (of_island : PlainComponent → NetState → ℕ → 
     (of_form : (form : PlainForm) → Machine.Place (LeafMachines.island (leaf_machines (Node part cells) (coded_below cells)) form) → List Going)
     (names_enable : (g : ℕ) (q : Machine.Place (LeafMachines.enable (leaf_machines (Node part cells) (coded_below cells)) g)) (x : Going) → In (of_enable g q) x → x.group ≡ g)
     (names_form : (form : PlainForm) (q : Machine.Place (LeafMachines.island (leaf_machines (Node part cells) (coded_below cells)) form)) (x : Going) → In (of_form form q) x → In (groups_in form) x.group) where
-  abbrev P : LeafMachines _ _ Fault
+  abbrev P : LeafMachines Spot Holds Fault
   P = leaf_machines (Node part cells) (coded_below cells)
 
   abbrev hole : ℕ → Bool
@@ -185,7 +185,7 @@ module _ (d : PlainDesign) (of_island : PlainComponent → NetState → ℕ → 
 
     -- WHAT IS NEAR a leaf that calls nothing, or a test
     rests_seen : (c : ℕ) → RestsAt cells c (bare s) → (q n : ℕ) (child : Instance) (b : BitVector) → cell_at cells c ≡ OfInstance child → part_port (part_of child) q ≡ AnOutput n
-        → Sees child _ nothing (under c (cells_in s)) (ports.Output n) (Value b) → look (c ∷ []) (APort (ports.Output n)) ≡ Some b
+        → Sees child unheld nothing (under c (cells_in s)) (ports.Output n) (Value b) → look (c ∷ []) (APort (ports.Output n)) ≡ Some b
     rests_seen c rests q n child b at port sees =
         child_outputs d of_island cells (timers_of part) below c child at (below_cell c v) (around_child c (look [])) (λ path. look (c ∷ path))
         (child_solves (wired_in d) timers_of (component_numbers of_island) part cells around v look solves c child at) (under c (cells_in s)) (λ path there. shows.cells (c ∷ path) there)
@@ -196,7 +196,7 @@ module _ (d : PlainDesign) (of_island : PlainComponent → NetState → ℕ → 
         done_below d of_island cells (timers_of part) below c child at (below_cell c v) (around_child c (look [])) (λ path. look (c ∷ path))
         (child_solves (wired_in d) timers_of (component_numbers of_island) part cells around v look solves c child at) (shows.below c [] 0 ∙ rests.numbers_rest [] 0)
 
-    same_cells : (c : ℕ) (row : Row) → cell_at cells c ≡ OfRow row → v.cell (c ∷ []) ≡ s (Cell (c ∷ []))
+    pub same_cells : (c : ℕ) (row : Row) → cell_at cells c ≡ OfRow row → v.cell (c ∷ []) ≡ s (Cell (c ∷ []))
     same_cells c row at = shows.cells (c ∷ []) (row_cell cells c row at)
 
     abbrev Near : Active → (ℕ → ℕ → Type 0) → Type 0
