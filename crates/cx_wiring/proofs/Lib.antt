@@ -71,4 +71,3 @@ pub mod StillPorts
 pub mod SeamRules
 pub mod SeamFlows
 pub mod OutputFlows
-pub mod GoingApart
