@@ -71,3 +71,4 @@ pub mod StillPorts
 pub mod SeamRules
 pub mod SeamFlows
 pub mod OutputFlows
+pub mod NodeEdges
