@@ -21,7 +21,7 @@ use Rattle.cx_rules.specs.WidthRules.{differ, is_wide, first_wide, IsBadLiteral}
 use Rattle.cx_rules.specs.ShapeRules.{is_hole, some_target, owner_length, is_bad_range}
 use Rattle.cx_rules.specs.Spots.{AnAssign, AStatement, AGroup}
 use Rattle.cx_rules.specs.Accepted.{IsAccepted}
-use Rattle.cx_rules.specs.Wellformed.{IsThere, IsAssign, IsDesign, IsKind, StandsIn, port_count}
+use Rattle.cx_rules.specs.Wellformed.{IsThere, IsAssign, IsForm, IsDesign, IsKind, StandsIn, port_count}
 use Rattle.cx_rules.proofs.Finite.{in_left, in_right}
 use Rattle.cx_rules.proofs.CircleLemmas.{same_part}
 use Rattle.cx_flow.proofs.InstanceLemmas.{number_in}
@@ -84,6 +84,7 @@ pub record ChildOf (d : PlainDesign) (part : PlainComponent) (c : ℕ) (child : 
   pub is : part_of child ≡ component_at d component
 
 pub record PortRules (d : PlainDesign) (i : Instance) : Type 0 where
+  pub forms : (v : Visited) → In (statements_in (part_of i)) v → IsForm (part_of i) v.form
   pub assigns : (o : Owned) → In (source_order (part_of i)) o → AssignRules i o
   pub tests : (v : Visited) (p : PlacedPort) → In (statements_in (part_of i)) v → test_in v.form ≡ Some p → TestRules i p.port
   pub rows : (c : ℕ) (row : Row) → cell_at (cells_of i) c ≡ OfRow row → RowOf (part_of i) c row
@@ -344,6 +345,7 @@ module _ (d : PlainDesign) (design : IsDesign d) (accepted : IsAccepted d) (k : 
 
     tree_rules : PortRules d (tree_within d (suc m) k)
     tree_rules = record {
+      forms = λ v i. subst (λ x. IsForm x v.form) (same_part d (length d.components) k) ((design.components k within).statements v i).form;
       assigns = λ o i. record {
         target = there_too o.assign.target (is o i).target;
         is_target = is_target o i o.assign.target refl;
@@ -373,6 +375,10 @@ no_test v p (inl e) f = none_port (ap (λ w. test_in w.form) e ∙ f)
     none_port g = cc
 no_test v p (inr i) f = absurd i
 
+no_form : (v : Visited) → In (statements_in no_component) v → IsForm no_component v.form
+no_form v (inl e) = subst (λ w. IsForm no_component w.form) e tt
+no_form v (inr i) = absurd i
+
 -- EVERY INSTANCE of an accepted design's tree
 pub port_rules : (d : PlainDesign) → IsDesign d → IsAccepted d → (path : Path) → PortRules d (instance_at (tree_of d) path)
 port_rules d design accepted path = by (instance_whole d design path)
@@ -380,6 +386,7 @@ port_rules d design accepted path = by (instance_whole d design path)
     by : {i : Instance} → IsWhole d i → PortRules d i
     by (of_component m k within) = let n = some_components k (length d.components) within in tree_rules d design accepted k within m n.0 n.1
     by of_nothing = record {
+      forms = no_form;
       assigns = λ o i. absurd i;
       tests = λ v p i e. absurd (no_test v p i e);
       rows = λ c row e. absurd (cc);

@@ -72,3 +72,4 @@ pub mod SeamRules
 pub mod SeamFlows
 pub mod OutputFlows
 pub mod NodeEdges
+pub mod GoingApart
