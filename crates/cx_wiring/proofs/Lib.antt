@@ -10,6 +10,7 @@ pub mod RoundTurns
 pub mod ArmTurns
 pub mod SizeLaws
 pub mod StandsLaws
+pub mod GoesLaws
 pub mod ConnectLaws
 pub mod KnowLaws
 pub mod GuardLaws
@@ -50,6 +51,8 @@ pub mod ChildLooks
 pub mod NodeIdles
 pub mod NodeRuns
 pub mod CellEdges
+pub mod CallStands
+pub mod GoingLaws
 pub mod ExternalLaws
 pub mod MainLaws
 pub mod NumberLemmas
@@ -62,9 +65,12 @@ pub mod RowPorts
 pub mod NodeRules
 pub mod NodePorts
 pub mod WireSolves
+pub mod NodeCells
+pub mod ChildSteps
 pub mod StillPorts
 pub mod SeamRules
 pub mod SeamFlows
 pub mod OutputFlows
+pub mod NodeEdges
 pub mod GoingApart
 pub mod NodeAgrees
