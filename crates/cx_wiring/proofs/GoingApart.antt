@@ -124,7 +124,7 @@ module _ (i : Instance) (children : ℕ → Coded) (codings : LeafCodings (leaf_
       → (p : InPar A B) (x : Going) → In (par_runs f h p) x → In (groups_of s ++ groups_in_all ss) x.group
   par_named f h s ss left right p x k =
       elim (in_either (at_control f (left_of p)) (at_control h (right_of p)) x k) [
-        inl j ↦ in_left (groups_of s) (groups_in_all ss) x.group (at_named f (groups_of s) left (left_of p) x j)
+        | inl j ↦ in_left (groups_of s) (groups_in_all ss) x.group (at_named f (groups_of s) left (left_of p) x j)
         | inr j ↦ in_right (groups_of s) (groups_in_all ss) x.group (at_named h (groups_in_all ss) right (right_of p) x j)
       ]
 
@@ -378,7 +378,7 @@ module _ (i : Instance) (children : ℕ → Coded) (codings : LeafCodings (leaf_
           → In (par_runs (running (leaf_machines i children) s) (arms_run (leaf_machines i children) ss) p) r → LeafStands r
       par_leaf s ss first later apart p goes j =
           elim (in_either (at_control (running (leaf_machines i children) s) (left_of p)) (at_control (arms_run (leaf_machines i children) ss) (right_of p)) r j) [
-            inl k ↦ at_leaves (running (leaf_machines i children) s) (GoesFor s) (goes_at s) r first (left_of p)
+            | inl k ↦ at_leaves (running (leaf_machines i children) s) (GoesFor s) (goes_at s) r first (left_of p)
                 (left_arm s ss (at_control (goes_at s) (left_of p)) (at_control (arms_go ss) (right_of p)) apart.0 (at_right ss (right_of p)) goes) k
             | inr k ↦ at_leaves (arms_run (leaf_machines i children) ss) (GoesForAll ss) (arms_go ss) r later (right_of p)
                 (right_arms s ss (at_control (goes_at s) (left_of p)) (at_control (arms_go ss) (right_of p)) apart.0 (at_left s (left_of p)) (at_right ss (right_of p)) goes) k
