@@ -21,7 +21,7 @@ use Rattle.cx_rules.specs.WidthRules.{differ, is_wide, first_wide, IsBadLiteral}
 use Rattle.cx_rules.specs.ShapeRules.{is_hole, some_target, owner_length, is_bad_range}
 use Rattle.cx_rules.specs.Spots.{AnAssign, AStatement, AGroup}
 use Rattle.cx_rules.specs.Accepted.{IsAccepted}
-use Rattle.cx_rules.specs.Wellformed.{IsThere, IsAssign, IsDesign, IsKind, StandsIn, port_count}
+use Rattle.cx_rules.specs.Wellformed.{IsThere, IsAssign, IsForm, IsDesign, IsKind, StandsIn, port_count}
 use Rattle.cx_rules.proofs.Finite.{in_left, in_right}
 use Rattle.cx_rules.proofs.CircleLemmas.{same_part}
 use Rattle.cx_flow.proofs.InstanceLemmas.{number_in}
@@ -84,6 +84,7 @@ pub record ChildOf (d : PlainDesign) (part : PlainComponent) (c : ℕ) (child : 
   pub is : part_of child ≡ component_at d component
 
 pub record PortRules (d : PlainDesign) (i : Instance) : Type 0 where
+  pub forms : (v : Visited) → In (statements_in (part_of i)) v → IsForm (part_of i) v.form
   pub assigns : (o : Owned) → In (source_order (part_of i)) o → AssignRules i o
   pub tests : (v : Visited) (p : PlacedPort) → In (statements_in (part_of i)) v → test_in v.form ≡ Some p → TestRules i p.port
   pub rows : (c : ℕ) (row : Row) → cell_at (cells_of i) c ≡ OfRow row → RowOf (part_of i) c row
@@ -276,8 +277,14 @@ module _ (d : PlainDesign) (design : IsDesign d) (accepted : IsAccepted d) (k : 
         breaks : is_bad_range (owner_length (component_at d k) o.owner) r ≡ true → ⊥
         breaks bad =
             accepted.shapes rules.StaticGuard (record { component = k; part = AnAssign number.0 }) o.assign.place (path_of (component_of d k) o.assign.target) refl
-            (record { within = within; number = number.0; is = refl; assign = o; stands = number.1;
-            breaks = (r, j, ap (λ x. is_bad_range (owner_length x o.owner) r) (same_part d (length d.components) k) ∙ bad, (refl, refl)) })
+            (record {
+              within = within;
+              number = number.0;
+              is = refl;
+              assign = o;
+              stands = number.1;
+              breaks = (r, j, ap (λ x. is_bad_range (owner_length x o.owner) r) (same_part d (length d.components) k) ∙ bad, (refl, refl));
+            })
 
         by_length : (g : ℕ) → o.owner ≡ Some g → (n : Option ℕ) → group_length (component_at d k) g ≡ n → IsStatic (component_at d k) o.owner
         by_length g e None f = absurd (breaks (ap (λ w. is_bad_range (owner_length (component_at d k) w) r) e ∙ ap (λ n. is_bad_range n r) f))
@@ -294,9 +301,19 @@ module _ (d : PlainDesign) (design : IsDesign d) (accepted : IsAccepted d) (k : 
     static_hole static e =
         let there = owner_there static.group static.owns in
         accepted.shapes rules.StaticShape (record { component = k; part = AGroup static.group }) (group_at (part_of (component_of d k)) static.group).place (group_at (part_of (component_of d k)) static.group).name refl
-        (inl (record { within = within; number = static.group; is = refl; stands = there.0; breaks = (static.cycles, ap (λ x. group_length x static.group) (same_part d (length d.components) k) ∙ static.is,
-        ap (λ x. some_target is_hole (group_at x static.group).assigns || nat_eq static.cycles 0) (same_part d (length d.components) k)
-        ∙ ap (λ b. b || nat_eq static.cycles 0) (target_among is_hole (group_at (component_at d k) static.group).assigns o.assign there.1 e), (refl, refl)) }))
+        (inl (record {
+          within = within;
+          number = static.group;
+          is = refl;
+          stands = there.0;
+          breaks = (
+            static.cycles,
+            ap (λ x. group_length x static.group) (same_part d (length d.components) k) ∙ static.is,
+            ap (λ x. some_target is_hole (group_at x static.group).assigns || nat_eq static.cycles 0) (same_part d (length d.components) k)
+                ∙ ap (λ b. b || nat_eq static.cycles 0) (target_among is_hole (group_at (component_at d k) static.group).assigns o.assign there.1 e),
+            (refl, refl),
+          );
+        }))
 
   module _ (v : Visited) (p : PlacedPort) (i : In (statements_in (component_at d k)) v) (e : test_in v.form ≡ Some p) where
     place : (n : ℕ) × (slice_get (statements_in (component_at d k)) n ≡ Some v)
@@ -344,6 +361,7 @@ module _ (d : PlainDesign) (design : IsDesign d) (accepted : IsAccepted d) (k : 
 
     tree_rules : PortRules d (tree_within d (suc m) k)
     tree_rules = record {
+      forms = λ v i. subst (λ x. IsForm x v.form) (same_part d (length d.components) k) ((design.components k within).statements v i).form;
       assigns = λ o i. record {
         target = there_too o.assign.target (is o i).target;
         is_target = is_target o i o.assign.target refl;
@@ -373,6 +391,10 @@ no_test v p (inl e) f = none_port (ap (λ w. test_in w.form) e ∙ f)
     none_port g = cc
 no_test v p (inr i) f = absurd i
 
+no_form : (v : Visited) → In (statements_in no_component) v → IsForm no_component v.form
+no_form v (inl e) = subst (λ w. IsForm no_component w.form) e tt
+no_form v (inr i) = absurd i
+
 -- EVERY INSTANCE of an accepted design's tree
 pub port_rules : (d : PlainDesign) → IsDesign d → IsAccepted d → (path : Path) → PortRules d (instance_at (tree_of d) path)
 port_rules d design accepted path = by (instance_whole d design path)
@@ -380,6 +402,7 @@ port_rules d design accepted path = by (instance_whole d design path)
     by : {i : Instance} → IsWhole d i → PortRules d i
     by (of_component m k within) = let n = some_components k (length d.components) within in tree_rules d design accepted k within m n.0 n.1
     by of_nothing = record {
+      forms = no_form;
       assigns = λ o i. absurd i;
       tests = λ v p i e. absurd (no_test v p i e);
       rows = λ c row e. absurd (cc);

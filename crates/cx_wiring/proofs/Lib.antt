@@ -82,4 +82,6 @@ pub mod StillPorts
 pub mod SeamRules
 pub mod SeamFlows
 pub mod OutputFlows
+pub mod NodeEdges
 pub mod GoingApart
+pub mod NodeAgrees

@@ -26,6 +26,7 @@ use Rattle.cx_wiring.proofs.TakingLemmas.{true_bit}
 use Rattle.cx_wiring.proofs.CountLaws.{positions_of_some}
 use Rattle.cx_wiring.proofs.BlockTells.{IsFineNode, end_is, block_tells}
 use Rattle.cx_wiring.proofs.ChildLooks.{child_solves}
+use Rattle.cx_wiring.proofs.InstancePorts.{output_there}
 use Rattle.cx_wiring.proofs.NodeRules.{NodeRules, control_tests}
 use Rattle.cx_wiring.proofs.NodePorts.{known, bit_port}
 use Rattle.cx_wiring.proofs.TreeRules.{AllNodes, CellsNodes, FineAt, all_nodes}
@@ -109,9 +110,9 @@ module _ (d : PlainDesign) (of_island : PlainComponent → NetState → ℕ → 
         ∙ ap Some (output_seen d (component_numbers of_island) part cells fine.0 around v look solves st (λ c row e. same (c ∷ []) (row_cell cells c row e)) n b
         (record {
           inputs = λ m y e. absurd (undefined_value y e);
-          outputs = λ c m child y near at few seen_so. child_outputs cells (timers_of part) fine.1 c child at (below_cell c v) (around_child c (look [])) (λ q. look (c ∷ q))
-              (child_solves (wired_in d) timers_of (component_numbers of_island) part cells around v look solves c child at) (under c st) (λ path there. same (c ∷ path) there) (λ e path k. zeros c (e ∷ path) k) m y few seen_so;
-          dones = λ c child near at. done_below cells (timers_of part) fine.1 c child at (below_cell c v) (around_child c (look [])) (λ q. look (c ∷ q))
+          outputs = λ c q m child y near at port seen_so. child_outputs cells (timers_of part) fine.1 c child at (below_cell c v) (around_child c (look [])) (λ q. look (c ∷ q))
+              (child_solves (wired_in d) timers_of (component_numbers of_island) part cells around v look solves c child at) (under c st) (λ path there. same (c ∷ path) there) (λ e path k. zeros c (e ∷ path) k) m y (output_there (part_of child) q m port) seen_so;
+          dones = λ c q child near at port. done_below cells (timers_of part) fine.1 c child at (below_cell c v) (around_child c (look [])) (λ q. look (c ∷ q))
               (child_solves (wired_in d) timers_of (component_numbers of_island) part cells around v look solves c child at) (zeros c [] 0);
         }) sees)
 

@@ -1,6 +1,6 @@
 -- THE SEAM: a port that a leaf looks at has in the net the value that the leaf sees there, where what else goes drives no cell that the leaf
 -- reads. The hole of a group has it whatever goes, and so has an output, since they hang on what rests on state.
-use Rattle.std.proofs.Common.{◌≡◌, ◌⊎◌, inl, inr, ℕ, zero, suc, ◌<◌, Bool, true, false, List, [], ◌∷◌, length, Option, Some, None, option_map, unwrap_or, slice_get, refl, sym, ap, ◌∙◌, subst}
+use Rattle.std.proofs.Common.{◌≡◌, ◌⊎◌, inl, inr, ℕ, zero, suc, Bool, true, false, List, [], ◌∷◌, Option, Some, None, option_map, unwrap_or, slice_get, refl, sym, ap, ◌∙◌, subst}
 use Rattle.std.specs.Prelude.{nat_eq, if◌then◌else◌}
 use Rattle.std.proofs.lemmas.Bool.{eq-eqb, eqb-true}
 use Rattle.cx_bits.specs.BitVector.{BitVector}
@@ -34,7 +34,6 @@ use Rattle.cx_net.specs.NetMeaning.{NetState, APort, TheDone, NetLook, NetAround
 use Rattle.cx_wiring.specs.PartNets.{wired_in, timers_of}
 use Rattle.cx_wiring.specs.Blocks.{block, Solves}
 use Rattle.cx_wiring.specs.PortValues.{around_of, port_value, active_now}
-use Rattle.cx_wiring.proofs.InstancePorts.{output_there}
 use Rattle.cx_wiring.proofs.RowPorts.{enable_width}
 use Rattle.cx_wiring.proofs.StillPorts.{Still, resting, depends_still, hole_moves, still_continuous}
 use Rattle.cx_wiring.proofs.SeamRules.{SeamRules, row_lawful, row_has_ports}
@@ -44,7 +43,7 @@ done_bit : (b : Bool) → Value (truth_bit b) ≡ bit_of b
 done_bit true = refl
 done_bit false = refl
 
-only_self : (g : ℕ) → only_at g g ≡ Some 0
+pub only_self : (g : ℕ) → only_at g g ≡ Some 0
 only_self g = ap (λ b. if b then Some 0 else None) (eq-eqb g g refl)
 
 module _ (d : PlainDesign) (numbers : Instance → NetState → ℕ → ℕ) (part : PlainComponent) (cells : Cells) (rules : SeamRules d (Node part cells)) (around : NetAround) (v : NetState) (look : NetLook)
@@ -97,20 +96,20 @@ module _ (d : PlainDesign) (numbers : Instance → NetState → ℕ → ℕ) (pa
           ap (λ x. cell_width x p) at ∙ ap (option_map (λ port. port.width)) w.1 ∙ ap Some w.2
 
   -- what stands around the node is what a set takes it for, at cells that are near
-  pub record Nearby (held : Held) (act : Active) (Near : ℕ → Type 0) : Type 0 where
+  pub record Nearby (held : Held) (act : Active) (Near : ℕ → ℕ → Type 0) : Type 0 where
     pub inputs : (n : ℕ) (b : BitVector) → held n ≡ Value b → around.input n ≡ Some b
-    pub outputs : (c n : ℕ) (child : Instance) (b : BitVector) → Near c → cell_at cells c ≡ OfInstance child → n < length (part_of child).outputs → Sees child unheld nothing (under c st) (ports.Output n) (Value b) → look (c ∷ []) (APort (ports.Output n)) ≡ Some b
-    pub dones : (c : ℕ) (child : Instance) → Near c → cell_at cells c ≡ OfInstance child → look (c ∷ []) TheDone ≡ Some (truth_bit (is_done_cell act.done_cell c))
+    pub outputs : (c q n : ℕ) (child : Instance) (b : BitVector) → Near c q → cell_at cells c ≡ OfInstance child → part_port (part_of child) q ≡ AnOutput n → Sees child unheld nothing (under c st) (ports.Output n) (Value b) → look (c ∷ []) (APort (ports.Output n)) ≡ Some b
+    pub dones : (c q : ℕ) (child : Instance) → Near c q → cell_at cells c ≡ OfInstance child → part_port (part_of child) q ≡ ItsDone → look (c ∷ []) TheDone ≡ Some (truth_bit (is_done_cell act.done_cell c))
 
-  module _ (held : Held) (act : Active) (Near : ℕ → Type 0) (near : Nearby held act Near) (p : PortRef) (near_of : (c q : ℕ) → Reaches (Node part cells) act p (ports.Cell c q) → Near c) where
+  module _ (held : Held) (act : Active) (Near : ℕ → ℕ → Type 0) (near : Nearby held act Near) (p : PortRef) (near_of : (c q : ℕ) → Reaches (Node part cells) act p (ports.Cell c q) → Near c q) where
     around_is : ((c q : ℕ) (o : Owned) → Reaches (Node part cells) act p (ports.Cell c q) → In (source_order part) o → o.assign.target ≡ ports.Cell c q → offset_of act o.owner ≡ offset_of now o.owner)
         → ((g : ℕ) → Reaches (Node part cells) act p (ports.Done g) → act.offset g ≡ Some 0) → Undisturbed (Node part cells) held act now st (around_of (Node part cells) around v look) p
     around_is assigns holes = record {
       assigns = assigns;
       holes = holes;
       inputs = λ n b reach e. ap (λ o. unwrap_or o (zero_of (declared_width part.inputs n))) (near.inputs n b e);
-      outputs = λ c q n child b reach at port sees. ap (λ o. unwrap_or o (zero_of None)) (near.outputs c n child b (near_of c q reach) at (output_there (part_of child) q n port) sees);
-      dones = λ c q child reach at port. ap (λ o. Value (unwrap_or o (zero_of (Some 1)))) (near.dones c child (near_of c q reach) at) ∙ done_bit (is_done_cell act.done_cell c);
+      outputs = λ c q n child b reach at port sees. ap (λ o. unwrap_or o (zero_of None)) (near.outputs c q n child b (near_of c q reach) at port sees);
+      dones = λ c q child reach at port. ap (λ o. Value (unwrap_or o (zero_of (Some 1)))) (near.dones c q child (near_of c q reach) at port) ∙ done_bit (is_done_cell act.done_cell c);
     }
 
     after_first : {x : PortRef} → Depends (Node part cells) act p x → (r : PortRef) × Leads (Node part cells) act p r × ((r ≡ x) ⊎ Depends (Node part cells) act r x)
@@ -183,18 +182,28 @@ module _ (d : PlainDesign) (numbers : Instance → NetState → ℕ → ℕ) (pa
         hole_named x e f = let no = sym (ap is_hole e) ∙ f in cc
     named_inner o j g i stands (ports.Literal w n) names = tt
 
+  -- A PORT that a leaf reads and whatever it reaches, with what is near those alone
+  pub reached_seen : (held : Held) (s : PlainStatement) (act : Active) → IsApart part s act (active_now (Node part cells) around v look) → (c m : ℕ) → Reads part s c
+      → Nearby held act (λ e q. Reaches (Node part cells) act (ports.Cell c m) (ports.Cell e q)) → (b : BitVector) → Sees (Node part cells) held act st (ports.Cell c m) (Value b)
+      → port_value (Node part cells) around v look (ports.Cell c m) ≡ b
+  reached_seen held s act apart c m read near b sees =
+      seen_value held act (ports.Cell c m) b
+      (around_is held act (λ e q. Reaches (Node part cells) act (ports.Cell c m) (ports.Cell e q)) near (ports.Cell c m) (λ e q reach. reach)
+      (apart_assigns (Node part cells) s act now apart rules.keeps no_output (ports.Cell c m) (of_cell read)) (apart_holes (Node part cells) s act now apart rules.keeps no_output (ports.Cell c m) (of_cell read)))
+      sees
+
   -- A PORT OF A CELL that a leaf reads
-  module _ (held : Held) (s : PlainStatement) (act : Active) (apart : IsApart part s act (active_now (Node part cells) around v look)) (near : Nearby held act (Reads part s)) where
+  module _ (held : Held) (s : PlainStatement) (act : Active) (apart : IsApart part s act (active_now (Node part cells) around v look)) (near : Nearby held act (λ c q. Reads part s c)) where
     pub cell_undisturbed : (c m : ℕ) → Reads part s c → Undisturbed (Node part cells) held act (active_now (Node part cells) around v look) st (around_of (Node part cells) around v look) (ports.Cell c m)
     cell_undisturbed c m read =
-        around_is held act (Reads part s) near (ports.Cell c m) (λ e q reach. reach_reads s act apart.its_own c m read e q reach)
+        around_is held act (λ e q. Reads part s e) near (ports.Cell c m) (λ e q reach. reach_reads s act apart.its_own c m read e q reach)
         (apart_assigns (Node part cells) s act now apart rules.keeps no_output (ports.Cell c m) (of_cell read)) (apart_holes (Node part cells) s act now apart rules.keeps no_output (ports.Cell c m) (of_cell read))
 
     pub cell_seen : (c m : ℕ) → Reads part s c → (b : BitVector) → Sees (Node part cells) held act st (ports.Cell c m) (Value b) → port_value (Node part cells) around v look (ports.Cell c m) ≡ b
     cell_seen c m read b sees = seen_value held act (ports.Cell c m) b (cell_undisturbed c m read) sees
 
     input_undisturbed : (n : ℕ) → Undisturbed (Node part cells) held act now st (around_of (Node part cells) around v look) (ports.Input n)
-    input_undisturbed n = around_is held act (Reads part s) near (ports.Input n) (λ e q reach. absurd (nowhere (ports.Cell e q) (λ f. cell_apart e q f) reach)) (λ c q o reach j target. absurd (nowhere (ports.Cell c q) (λ f. cell_apart c q f) reach))
+    input_undisturbed n = around_is held act (λ e q. Reads part s e) near (ports.Input n) (λ e q reach. absurd (nowhere (ports.Cell e q) (λ f. cell_apart e q f) reach)) (λ c q o reach j target. absurd (nowhere (ports.Cell c q) (λ f. cell_apart c q f) reach))
         (λ g reach. absurd (nowhere (ports.Done g) (λ f. done_apart g f) reach))
       where
         cell_apart : (e q : ℕ) → ports.Input n ≡ ports.Cell e q → ⊥
@@ -230,7 +239,7 @@ module _ (d : PlainDesign) (numbers : Instance → NetState → ℕ → ℕ) (pa
         after outcome
 
   -- THE HOLE of a group, whatever goes
-  module _ (held : Held) (s : PlainStatement) (g : ℕ) (its : In (groups_of s) g) (near : Nearby held (group g) (Reads part s)) where
+  module _ (held : Held) (s : PlainStatement) (g : ℕ) (its : In (groups_of s) g) (near : Nearby held (group g) (λ c q. Reads part s c)) where
     group_own : (h o : ℕ) → (group g).offset h ≡ Some o → In (groups_of s) h
     group_own h o e = by (nat_eq g h) refl e
       where
@@ -279,7 +288,7 @@ module _ (d : PlainDesign) (numbers : Instance → NetState → ℕ → ℕ) (pa
     pub hole_seen : (b : BitVector) → Sees (Node part cells) held (group g) st (ports.Done g) (Value b) → port_value (Node part cells) around v look (ports.Done g) ≡ b
     hole_seen b sees =
         seen_value held (group g) (ports.Done g) b
-        (still_undisturbed held (group g) (Reads part s) near (ports.Done g) near_of_hole (λ c q e. no_cell c q e) (λ r l none. let h = hole_leads r l in rules.rests.dones h.of g r h.is_in h.target h.names none)
+        (still_undisturbed held (group g) (λ c q. Reads part s c) near (ports.Done g) near_of_hole (λ c q e. no_cell c q e) (λ r l none. let h = hole_leads r l in rules.rests.dones h.of g r h.is_in h.target h.names none)
         (λ h e. ap (only_at g) (sym (same_group h e)) ∙ only_self g))
         sees
       where
@@ -290,10 +299,10 @@ module _ (d : PlainDesign) (numbers : Instance → NetState → ℕ → ℕ) (pa
         same_group h e = cc
 
   -- AN OUTPUT of the instance, whatever goes
-  pub output_seen : (n : ℕ) (b : BitVector) → Nearby unheld nothing (λ c. Unit {0}) → Sees (Node part cells) unheld nothing st (ports.Output n) (Value b) → port_value (Node part cells) around v look (ports.Output n) ≡ b
+  pub output_seen : (n : ℕ) (b : BitVector) → Nearby unheld nothing (λ c q. Unit {0}) → Sees (Node part cells) unheld nothing st (ports.Output n) (Value b) → port_value (Node part cells) around v look (ports.Output n) ≡ b
   output_seen n b near sees =
       seen_value unheld nothing (ports.Output n) b
-      (still_undisturbed unheld nothing (λ c. Unit {0}) near (ports.Output n) (λ c q reach. tt) no_cell rest (λ g e. absurd (no_done g e))) sees
+      (still_undisturbed unheld nothing (λ c q. Unit {0}) near (ports.Output n) (λ c q reach. tt) no_cell rest (λ g e. absurd (no_done g e))) sees
     where
       no_cell : (c q : ℕ) → ports.Output n ≡ ports.Cell c q → ⊥
       no_cell c q e = cc
