@@ -72,4 +72,5 @@ pub mod SeamRules
 pub mod SeamFlows
 pub mod OutputFlows
 pub mod NodeEdges
+pub mod DesignEdges
 pub mod GoingApart
