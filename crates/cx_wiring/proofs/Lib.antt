@@ -73,4 +73,5 @@ pub mod SeamFlows
 pub mod OutputFlows
 pub mod NodeEdges
 pub mod DesignEdges
+pub mod ZeroNumbers
 pub mod GoingApart
