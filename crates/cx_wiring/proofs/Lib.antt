@@ -74,4 +74,5 @@ pub mod OutputFlows
 pub mod NodeEdges
 pub mod DesignEdges
 pub mod ZeroNumbers
+pub mod StartCells
 pub mod GoingApart
