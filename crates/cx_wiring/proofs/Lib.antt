@@ -83,5 +83,8 @@ pub mod SeamRules
 pub mod SeamFlows
 pub mod OutputFlows
 pub mod NodeEdges
+pub mod DesignEdges
+pub mod ZeroNumbers
+pub mod StartCells
 pub mod GoingApart
 pub mod NodeAgrees
