@@ -40,7 +40,7 @@ module _ (i : Instance) (children : ℕ → Coded) where
   called_count g (Some c) = refl
 
   island_count : (form : PlainForm) → length (island_numbers (part_of i) form) ≡ Coding.extra (LeafCodings.island (leaf_codings i children) form)
-  island_count form = ap (λ n. suc (suc n)) (length-replicate (form_ifs form) OfSample)
+  island_count form = let two : suc (suc (form_ifs form)) ≡ 2 + form_ifs form = omega arith in ap (λ n. suc (suc n)) (length-replicate (form_ifs form) OfSample) ∙ two
 
   kind_count : (g : ℕ) (kind : GroupKind) → length (group_numbers (part_of i) g kind) ≡ Coding.extra (kind_coding i children g kind)
   kind_count g kinds.Plain = called_count g (called i g)

@@ -125,6 +125,8 @@ module _ (d : PlainDesign) (of_island : PlainComponent → NetState → ℕ → 
   block_tells fine = record {
     told = λ v around look solves. (
       truth_bit (v.register [] 0 == positions_of (lowered part part.control (unlowered part))),
-      (done_node fine v around look solves, ((λ e. true_bit _ ∙ eq-eqb (v.register [] 0) _ (e ∙ end_is)), (λ apart. true_bit _ ∙ differs (v.register [] 0) _ (λ e. apart (e ∙ sym end_is))))),
+      done_node fine v around look solves,
+      (λ e. true_bit _ ∙ eq-eqb (v.register [] 0) _ (e ∙ end_is)),
+      (λ apart. true_bit _ ∙ differs (v.register [] 0) _ (λ e. apart (e ∙ sym end_is))),
     );
   }

@@ -72,13 +72,13 @@ module _ (groups : ℕ) (islands : List PlainIsland) (around : NetAround) (regis
   abbrev WA : Stand → ℕ → ℕ → PlainStatements → Type 0
   WA = ArmsWired groups islands around registers look bound kept next hole port
 
-  away_wired : (s : PlainStatement) (x : Stand) (acting : Bool) (r : ℕ) → IsIn around registers look x.acts x.region acting r → IsStopped acting r x.position (positions_of s) → W x s → Away around registers look x (D x s)
+  pub away_wired : (s : PlainStatement) (x : Stand) (acting : Bool) (r : ℕ) → IsIn around registers look x.acts x.region acting r → IsStopped acting r x.position (positions_of s) → W x s → Away around registers look x (D x s)
   away_wired s x acting r i o w = away groups islands around registers look bound kept hole port timed s x acting r i o w.low w.connects w.registers_are w.bits
 
-  at_true : (x : Stand) (r : ℕ) → Acts x r → r ≡ x.position → bound ≤ x.wire → Connects around registers look bound (ToWire x.wire) (both x.acts (equals (OfRegister x.region) x.position)) → It (at x) true
+  pub at_true : (x : Stand) (r : ℕ) → Acts x r → r ≡ x.position → bound ≤ x.wire → Connects around registers look bound (ToWire x.wire) (both x.acts (equals (OfRegister x.region) x.position)) → It (at x) true
   at_true x r i e low c = here groups islands around registers look bound kept hole port x true r i low c ∙ ap (λ b. Some (truth_bit b)) (eq-eqb r x.position e)
 
-  at_behind : (x : Stand) (r : ℕ) → Acts x r → x.position + 1 ≤ r → bound ≤ x.wire → Connects around registers look bound (ToWire x.wire) (both x.acts (equals (OfRegister x.region) x.position)) → It (at x) false
+  pub at_behind : (x : Stand) (r : ℕ) → Acts x r → x.position + 1 ≤ r → bound ≤ x.wire → Connects around registers look bound (ToWire x.wire) (both x.acts (equals (OfRegister x.region) x.position)) → It (at x) false
   at_behind x r i l low c = at_false groups islands around registers look bound kept hole port x true r 1 i (omega arith) (inr (inr l)) low c
 
   turn_one : (x : Stand) (r : ℕ) (after_it : ℕ → ℕ) → Acts x r → r ≡ x.position + 0 → bound ≤ x.wire → AllConnect around registers look bound (one_turn x)
@@ -89,7 +89,7 @@ module _ (groups : ℕ) (islands : List PlainIsland) (around : NetAround) (regis
       record { ends = c.1.0 high ∙ at_true x r i place low c.0; moves = λ o. refl; others = λ n less. none_below n less; goes_so = λ g o. refl }
 
   -- WHAT A FORM IS WIRED AS gives it of its parts
-  wired_seq : (x : Stand) (s : PlainStatement) (ss : PlainStatements) (place : Place) → W x (Placed (Seq (a_statement s ss)) place)
+  pub wired_seq : (x : Stand) (s : PlainStatement) (ss : PlainStatements) (place : Place) → W x (Placed (Seq (a_statement s ss)) place)
       → W (inside x) s × WP x (inside x).wire (behind islands s (inside x)) ss
   wired_seq x s ss place w =
       let c = connect_both around registers look bound (D (inside x) s) (parts_drivers groups islands x (inside x).wire (behind islands s (inside x)) ss) w.connects in
@@ -101,7 +101,7 @@ module _ (groups : ℕ) (islands : List PlainIsland) (around : NetAround) (regis
         record { base = low; low = low_behind; connects = c.1; registers_are = k.1; bits = w.bits.1; nexts = w.nexts.1 },
       )
 
-  wired_parts : (seq : Stand) (before : ℕ) (x : Stand) (s : PlainStatement) (ss : PlainStatements) → WP seq before x (a_statement s ss) → W x s × WP seq x.wire (behind islands s x) ss
+  pub wired_parts : (seq : Stand) (before : ℕ) (x : Stand) (s : PlainStatement) (ss : PlainStatements) → WP seq before x (a_statement s ss) → W x s × WP seq x.wire (behind islands s x) ss
   wired_parts seq before x s ss w =
       let c = connect_both around registers look bound (D x s) (parts_drivers groups islands seq x.wire (behind islands s x) ss) w.connects.1 in
       let k = registers_both around registers look kept x.register (registers_of islands s) (registers_in islands ss) w.registers_are in
@@ -111,7 +111,7 @@ module _ (groups : ℕ) (islands : List PlainIsland) (around : NetAround) (regis
         record { base = w.base; low = low_behind; connects = c.1; registers_are = k.1; bits = w.bits.1; nexts = w.nexts.1 },
       )
 
-  wired_arms : (par : Stand) (wire register : ℕ) (s : PlainStatement) (ss : PlainStatements) → WA par wire register (a_statement s ss)
+  pub wired_arms : (par : Stand) (wire register : ℕ) (s : PlainStatement) (ss : PlainStatements) → WA par wire register (a_statement s ss)
       → W (arm_stand par wire register) s × WA par (wire + wires_of s) (suc register + length (registers_of islands s)) ss
   wired_arms par wire register s ss w =
       let c = connect_both around registers look bound (D (arm_stand par wire register) s) _ w.connects.1 in
@@ -129,7 +129,7 @@ module _ (groups : ℕ) (islands : List PlainIsland) (around : NetAround) (regis
     pub bit : It (OfPort test) (port test)
     pub ends_so : look (AWire (suc x.wire)) ≡ value around registers look (either (end_of (past_test x).wire) (end_of (behind islands a (past_test x)).wire))
 
-  wired_if : (x : Stand) (test : _) (comb : Option ℕ) (a b : PlainStatement) (place : Place) → W x (Placed (If test comb a b) place) → IfWired x test.port a b
+  pub wired_if : (x : Stand) (test : _) (comb : Option ℕ) (a b : PlainStatement) (place : Place) → W x (Placed (If test comb a b) place) → IfWired x test.port a b
   wired_if x test comb a b place w =
       let k = registers_both around registers look kept x.register (registers_of islands a) (registers_of islands b) w.registers_are in
       let low : bound ≤ x.wire = w.low in
@@ -153,7 +153,7 @@ module _ (groups : ℕ) (islands : List PlainIsland) (around : NetAround) (regis
     pub bit : It (OfPort test) (port test)
     pub ends_so : look (AWire (suc x.wire)) ≡ value around registers look (found_zero x test)
 
-  wired_while : (x : Stand) (test : _) (comb : Option ℕ) (a : PlainStatement) (place : Place) → W x (Placed (While test comb a) place) → WhileWired x test.port a
+  pub wired_while : (x : Stand) (test : _) (comb : Option ℕ) (a : PlainStatement) (place : Place) → W x (Placed (While test comb a) place) → WhileWired x test.port a
   wired_while x test comb a place w =
       let low : bound ≤ x.wire = w.low in
       let high : bound ≤ suc x.wire = omega arith in
@@ -171,7 +171,7 @@ module _ (groups : ℕ) (islands : List PlainIsland) (around : NetAround) (regis
     pub body : W (counted_inside x) a
     pub ends_so : look (AWire (suc x.wire)) ≡ value around registers look (both (end_of (suc (suc x.wire))) (in_last_round x n))
 
-  wired_repeat : (x : Stand) (n : ℕ) (a : PlainStatement) (place : Place) → W x (Placed (Repeat (suc n) a) place) → RepeatWired x n a
+  pub wired_repeat : (x : Stand) (n : ℕ) (a : PlainStatement) (place : Place) → W x (Placed (Repeat (suc n) a) place) → RepeatWired x n a
   wired_repeat x n a place w =
       let low : bound ≤ x.wire = w.low in
       let high : bound ≤ suc x.wire = omega arith in
