@@ -22,3 +22,4 @@ pub mod NetBits
 pub mod Blocks
 pub mod BlockNumbers
 pub mod PortValues
+pub mod IslandTakes
