@@ -1,6 +1,6 @@
 -- Which drivers of assignments are fed: those in a group that does not go, and those whose ports have values. So a target has a value
 -- where the ports that its active assignments name have values.
-use Rattle.std.proofs.Common.{◌≡◌, ℕ, suc, ◌+◌, ◌<◌, ◌≤◌, ◌==◌, inl, inr, Bool, true, false, if◌then◌else◌, List, [], ◌∷◌, ◌++◌, Option, Some, None, option_and_then, refl, sym, ap, ◌∙◌, arith}
+use Rattle.std.proofs.Common.{◌≡◌, ℕ, suc, ◌+◌, ◌<◌, ◌≤◌, inl, inr, Bool, true, false, if◌then◌else◌, List, [], ◌∷◌, ◌++◌, Option, Some, option_and_then, refl, sym, ap, ◌∙◌, arith}
 use Rattle.std.proofs.lemmas.Bool.{eq-eqb}
 use Rattle.cx_bits.specs.BitVector.{BitVector}
 use Rattle.cx_meaning.specs.declared.ports.PortRef.{PortRef}
@@ -9,7 +9,7 @@ use Rattle.cx_meaning.specs.Designs.{PlainGuard, Always, Atom, Negation, All, An
 use Rattle.cx_meaning.specs.Active.{Owned}
 use Rattle.cx_meaning.specs.Sights.{In, GuardNames}
 use Rattle.cx_rules.specs.Footprints.{AssignNames}
-use Rattle.cx_net.specs.Nets.{PlainNetExpr, OfPort, OfWire, OfHole, PlainNetTarget, ToPort, ToRegister, ToWire, ToHole, ToDone, PlainNetDriver}
+use Rattle.cx_net.specs.Nets.{PlainNetExpr, OfPort, OfWire, PlainNetTarget, ToPort, ToRegister, ToWire, ToHole, ToDone, PlainNetDriver}
 use Rattle.cx_net.specs.NetMeaning.{Node, AWire, AHole, NetAround, is_true, truth_bit, same_target}
 use Rattle.cx_static.specs.Islands.{PlainIsland}
 use Rattle.cx_wiring.specs.Parts.{drive}
@@ -20,10 +20,10 @@ use Rattle.cx_wiring.specs.Takings.{value, takes_of, AllConnect, IsNoWire}
 use Rattle.cx_wiring.specs.IslandDrivers.{island_wires}
 use Rattle.cx_wiring.proofs.AssignTargets.{guard_drives, looking_drives_to, looking_drives, assigns_drive}
 use Rattle.cx_wiring.proofs.AwayLaws.{differs}
-use Rattle.cx_wiring.proofs.ConnectLaws.{Reads, read_before}
+use Rattle.cx_wiring.proofs.ConnectLaws.{read_before}
 use Rattle.cx_wiring.proofs.GuardLaws.{guard_connects}
 use Rattle.cx_wiring.proofs.AssignLaws.{ReadsBit, bit_before, bit_behind, no_port_wire}
-use Rattle.cx_wiring.proofs.KnownLemmas.{Known, known_as, KnownExpr, On, Fed, AllTo, all_to_append, all_to_other, AllOfThem, all_append}
+use Rattle.cx_wiring.proofs.KnownLemmas.{known_as, KnownExpr, On, Fed, AllTo, all_to_append, all_to_other, AllOfThem, all_append}
 use Rattle.cx_wiring.proofs.GuardsKnown.{guard_known}
 
 wire_apart : (n : ℕ) (t : PlainNetTarget) → IsNoWire t → same_target (ToWire n) t ≡ false

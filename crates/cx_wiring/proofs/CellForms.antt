@@ -1,15 +1,14 @@
 -- The cells of a net keep the forms of their rows, from the start on and at every edge.
-use Rattle.std.proofs.Common.{◌≡◌, ℕ, zero, suc, Bool, true, false, if◌then◌else◌, List, [], ◌∷◌, Option, Some, None, refl, sym, ap, ◌∙◌, subst}
+use Rattle.std.proofs.Common.{◌≡◌, ℕ, zero, suc, Bool, true, false, if◌then◌else◌, List, [], ◌∷◌, refl, ap, ◌∙◌, subst}
 use Rattle.cx_prim.specs.CellStates.{CellState, with_words, StateShape}
 use Rattle.cx_prim.specs.Rows.{Row}
-use Rattle.cx_prim.specs.Table.{PrimitiveRow, row_of}
 use Rattle.cx_meaning.specs.Designs.{PlainKind, OfPrimitive, OfComponent, PlainCell}
 use Rattle.cx_meaning.specs.Instances.{Path, just, loaded_at}
 use Rattle.cx_net.specs.Nets.{PlainNet}
-use Rattle.cx_net.specs.NetTree.{NetInstance, NetNode, NetCells, no_net_cells, a_row, a_child, NetAt, NoCell, ARow, AChild, net_part, net_cell_at, add_net_cell, net_cells_for, net_within, net_tree, net_component_at}
+use Rattle.cx_net.specs.NetTree.{NetInstance, NetNode, NetCells, no_net_cells, a_row, a_child, ARow, AChild, net_cell_at, add_net_cell, net_cells_for, net_within, net_tree, net_component_at}
 use Rattle.cx_net.specs.NetMeaning.{NetState, NetLook}
-use Rattle.cx_net.specs.NetEdges.{row_after, cell_after, cell_below, net_after}
-use Rattle.cx_net.specs.NetRuns.{net_start_at, net_start_below, net_externals, started, net_start, Comes, at_reset, at_first, at_next}
+use Rattle.cx_net.specs.NetEdges.{row_after, cell_after, cell_below}
+use Rattle.cx_net.specs.NetRuns.{net_start_at, net_start_below, net_externals, started, Comes, at_reset, at_first, at_next}
 use Rattle.cx_flow.proofs.InstanceLemmas.{OfTable}
 use Rattle.cx_wiring.proofs.StateForms.{has_form, KeepsForm, words_keep, reset_keeps, row_of_forms}
 

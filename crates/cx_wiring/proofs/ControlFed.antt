@@ -1,15 +1,15 @@
 -- All drivers of control are fed where the holes of groups and the ports of tests have values, and the wires of control have values.
-use Rattle.std.proofs.Common.{◌≡◌, ℕ, zero, suc, ◌+◌, ◌<◌, ◌≤◌, true, List, [], ◌∷◌, ◌++◌, length, Option, Some, None, refl, arith}
+use Rattle.std.proofs.Common.{ℕ, zero, suc, ◌+◌, ◌<◌, ◌≤◌, true, List, ◌∷◌, ◌++◌, length, Option, Some, None, refl, arith}
 use Rattle.cx_bits.specs.BitVector.{BitVector}
 use Rattle.cx_bits.specs.Operators.{and_of, sum_of}
 use Rattle.cx_meaning.specs.Designs.{PlainForm, Empty, Enable, Seq, Par, If, While, Repeat, StaticSeq, StaticPar, StaticIf, StaticRepeat, Timed, PlainStatement, Placed, PlainStatements, no_statements, a_statement}
-use Rattle.cx_net.specs.Nets.{PlainNetExpr, OfPort, OfRegister, OfHole, Inverse, AllOf, Sum, Compares, exprs_of, PlainNetTarget, ToHole, ToRegister, PlainNetDriver}
+use Rattle.cx_net.specs.Nets.{PlainNetExpr, OfPort, OfRegister, OfHole, Inverse, AllOf, Sum, exprs_of, PlainNetTarget, ToHole, ToRegister, PlainNetDriver}
 use Rattle.cx_net.specs.NetMeaning.{Node, NetAround, truth_bit, all_expr}
 use Rattle.cx_static.specs.Islands.{PlainIsland}
-use Rattle.cx_wiring.specs.Parts.{word, one, both, either, equals, drive}
+use Rattle.cx_wiring.specs.Parts.{word, one, both, equals, drive}
 use Rattle.cx_wiring.specs.Counts.{positions_of, wires_of, form_registers, registers_of, registers_in, arms_registers}
 use Rattle.cx_wiring.specs.Stands.{Stand, at, end_of, goes, inside, past_test, behind}
-use Rattle.cx_wiring.specs.Control.{one_turn, found_one, found_zero, arm_stand, arm_over, arm_restarts, arm_finishes, counted_inside, counting, in_last_round, in_earlier_round, comb_goes, arms_over, form_drivers, drivers_of, parts_drivers, arms_drivers}
+use Rattle.cx_wiring.specs.Control.{one_turn, found_one, found_zero, arm_stand, counted_inside, counting, in_last_round, in_earlier_round, comb_goes, arms_over, form_drivers, drivers_of, parts_drivers, arms_drivers}
 use Rattle.cx_wiring.specs.Bounds.{FormNames, StatementNames, PartsName}
 use Rattle.cx_wiring.specs.Takings.{value, AllConnect, AreRegisters}
 use Rattle.cx_wiring.specs.NetBits.{FormTests, StatementTests, PartsTests}
@@ -207,7 +207,7 @@ module _ (groups : ℕ) (islands : List PlainIsland) (around : NetAround) (regis
           record {
             over = known_both and_of _ _ over (ArmsWhole.over later);
             fed = λ e. (
-                fed_drive (ToRegister register) (end_of par.wire) (word 0) e (word_known 0),
-                both_fed (drivers_of groups islands (arm_stand par wire register) t) _ (Whole.fed first) (fed_drive (ToRegister register) (end_of wire) (word (positions_of t)) (Whole.ends first) (word_known (positions_of t)), ArmsWhole.fed later e),
-              );
+              fed_drive (ToRegister register) (end_of par.wire) (word 0) e (word_known 0),
+              both_fed (drivers_of groups islands (arm_stand par wire register) t) _ (Whole.fed first) (fed_drive (ToRegister register) (end_of wire) (word (positions_of t)) (Whole.ends first) (word_known (positions_of t)), ArmsWhole.fed later e),
+            );
           }

@@ -1,9 +1,9 @@
 -- In an accepted design what an assignment of an output names is no input of the signature and leads to none, in each instance.
-use Rattle.std.proofs.Common.{◌≡◌, ◌⊎◌, inl, inr, ℕ, ◌<◌, List, [], ◌∷◌, length, refl, sym, ap, ◌∙◌, subst}
+use Rattle.std.proofs.Common.{◌≡◌, ◌⊎◌, inl, inr, ℕ, ◌<◌, length, refl, ◌∙◌, subst}
 use Rattle.cx_text.specs.declared.rules.Rule.TheVariants as rules
 use Rattle.cx_meaning.specs.declared.ports.PortRef.{PortRef}
 use Rattle.cx_meaning.specs.declared.ports.PortRef.TheVariants as ports
-use Rattle.cx_meaning.specs.Designs.{PlainComponent, PlainDesign, component_at, no_component}
+use Rattle.cx_meaning.specs.Designs.{PlainComponent, PlainDesign, component_at}
 use Rattle.cx_meaning.specs.Instances.{Instance, part_of, tree_of, Path, instance_at}
 use Rattle.cx_meaning.specs.Active.{nothing, Owned, source_order}
 use Rattle.cx_meaning.specs.Sights.{In}

@@ -1,12 +1,8 @@
 -- In a look that solves the rules of a design's net every node of the tree has a value: first dones and outputs, from the leaves up, and
 -- then all nodes, from the root down.
-use Rattle.std.proofs.Common.{◌≡◌, ℕ, zero, suc, ◌+◌, ◌<◌, ◌≤◌, Bool, true, false, List, [], ◌∷◌, length, Option, Some, None, nat_lt, refl, sym, ap, ◌∙◌, subst, arith}
-use Rattle.std.proofs.lemmas.Bool.{lt-ltb, ltb-true}
-use Rattle.cx_bits.specs.BitVector.{BitVector}
-use Rattle.cx_prim.specs.CellStates.{CellState}
+use Rattle.std.proofs.Common.{◌≡◌, ℕ, zero, suc, ◌+◌, ◌<◌, true, List, [], ◌∷◌, length, refl, sym, ap, ◌∙◌, subst, arith}
+use Rattle.std.proofs.lemmas.Bool.{lt-ltb}
 use Rattle.cx_prim.specs.Rows.{Row}
-use Rattle.cx_prim.specs.declared.ports.PortRow.{PortRow}
-use Rattle.cx_prim.specs.declared.ports.Side.TheVariants as sides
 use Rattle.cx_meaning.specs.declared.ports.PortRef.TheVariants as ports
 use Rattle.cx_meaning.specs.Designs.{PlainComponent, PlainDesign}
 use Rattle.cx_meaning.specs.Instances as instances
@@ -14,9 +10,8 @@ use Rattle.cx_meaning.specs.Instances.{Instance, Cells, no_cells, a_primitive, a
 use Rattle.cx_meaning.specs.Active.{Active}
 use Rattle.cx_rules.specs.Circles.{IsAcyclic}
 use Rattle.cx_flow.specs.Together.{IsTogether}
-use Rattle.cx_flow.proofs.InstanceLemmas.{OfTable}
 use Rattle.cx_net.specs.Nets.{PlainNetComponent}
-use Rattle.cx_net.specs.NetTree.{NetInstance, NetNode, NetCells, no_net_cells, a_row, a_child, NetAt, NoCell, ARow, AChild, net_part, net_cell_at}
+use Rattle.cx_net.specs.NetTree.{NetInstance, NetNode, NetCells, no_net_cells, a_row, a_child, AChild, net_part, net_cell_at}
 use Rattle.cx_net.specs.NetMeaning.{NetState, below_cell, Node, APort, TheDone, NetLook, NetAround, around_child, net_step, child_step, own_step, is_port_of, is_own_node, is_node, is_node_below}
 use Rattle.cx_wiring.specs.PartNets.{timers_of, wired_in}
 use Rattle.cx_wiring.specs.Blocks.{rows_alone, net_of_instance, net_of_cells}

@@ -1,6 +1,6 @@
 -- The net of every accepted design is grounded: in every state that comes every node has a value.
-use Rattle.std.proofs.Common.{◌≡◌, ℕ, ◌<◌, Bool, true, List, [], ◌∷◌, length, Option, Some, refl, sym, ap, ◌∙◌, subst, arith}
-use Rattle.cx_meaning.specs.Designs.{PlainComponent, PlainDesign, component_at}
+use Rattle.std.proofs.Common.{◌≡◌, ℕ, ◌<◌, true, [], ◌∷◌, length, refl, sym, ap, ◌∙◌, subst, arith}
+use Rattle.cx_meaning.specs.Designs.{PlainComponent, PlainDesign}
 use Rattle.cx_meaning.specs.Instances as instances
 use Rattle.cx_meaning.specs.Instances.{Instance, Cells, Path, part_of, tree_of, instance_at}
 use Rattle.cx_meaning.specs.Active.{Active}
@@ -27,7 +27,7 @@ use Rattle.cx_wiring.proofs.KnownLemmas.{Known}
 use Rattle.cx_wiring.proofs.SettledLooks.{IsSettled, settled_look}
 use Rattle.cx_wiring.proofs.CellForms.{TableTree, net_table, forms_come}
 use Rattle.cx_wiring.proofs.NodeKnown.{NetShows, IslandsOwe}
-use Rattle.cx_wiring.proofs.GroundTree.{GroundRules, Ruled, tree_known}
+use Rattle.cx_wiring.proofs.GroundTree.{Ruled, tree_known}
 
 module _ (d : PlainDesign) (design : IsDesign d) (accepted : IsAccepted d) where
   -- nothing leads in a circle under what control may have active at once

@@ -1,5 +1,5 @@
 -- Where the ports that a guard names have values, and its offset has one, the guard has a value in the net, and all its drivers are fed.
-use Rattle.std.proofs.Common.{◌≡◌, ℕ, suc, ◌+◌, ◌≤◌, inl, inr, true, false, List, [], ◌∷◌, ◌++◌, Option, Some, refl, arith}
+use Rattle.std.proofs.Common.{ℕ, suc, ◌+◌, ◌≤◌, inl, inr, true, false, List, Option, Some, refl, arith}
 use Rattle.cx_bits.specs.BitVector.{BitVector}
 use Rattle.cx_bits.specs.Operators.{and_of, or_of}
 use Rattle.cx_meaning.specs.declared.ports.PortRef.{PortRef}

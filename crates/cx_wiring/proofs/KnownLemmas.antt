@@ -1,12 +1,12 @@
 -- Which expressions and targets of a net have a value: those whose nodes have one, as far as they are looked at.
-use Rattle.std.proofs.Common.{◌≡◌, ℕ, ◌≤◌, ◌==◌, Bool, true, false, not, if◌then◌else◌, List, [], ◌∷◌, ◌++◌, Option, Some, None, option_map, option_and_then, refl, sym, ap, ap₂, ◌∙◌, subst, arith}
+use Rattle.std.proofs.Common.{◌≡◌, ℕ, ◌≤◌, ◌==◌, Bool, true, false, not, if◌then◌else◌, List, [], ◌∷◌, ◌++◌, Option, Some, None, option_map, option_and_then, refl, sym, ap, ap₂, ◌∙◌, arith}
 use Rattle.std.proofs.lemmas.Bool.{eqb-true}
 use Rattle.std.proofs.lemmas.Nat.{and_le_l, and_le_r}
 use Rattle.std.specs.Prelude.{bit_and}
 use Rattle.cx_bits.specs.BitVector.{BitVector}
 use Rattle.cx_bits.specs.Operators.{and_of, or_of, complement_of}
-use Rattle.cx_net.specs.Nets.{PlainNetExpr, Inverse, PlainNetExprs, PlainNetTarget, PlainNetDriver}
-use Rattle.cx_net.specs.NetMeaning.{Node, NetAround, both_known, is_true, truth_bit, all_expr, any_expr, same_target, chain, drivers_to}
+use Rattle.cx_net.specs.Nets.{PlainNetExpr, Inverse, PlainNetTarget, PlainNetDriver}
+use Rattle.cx_net.specs.NetMeaning.{Node, NetAround, both_known, is_true, truth_bit, same_target, chain}
 use Rattle.cx_wiring.specs.Parts.{both, either, equals}
 use Rattle.cx_wiring.specs.Bounds.{AllDrive}
 use Rattle.cx_wiring.specs.Takings.{value, takes, takes_of}

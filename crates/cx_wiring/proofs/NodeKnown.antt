@@ -1,5 +1,5 @@
 -- Every node of an instance has a value, where its go and its inputs have, its cells show theirs, and its islands are as they owe.
-use Rattle.std.proofs.Common.{◌≡◌, ℕ, zero, suc, ◌+◌, ◌<◌, ◌≤◌, ◌⊎◌, inl, inr, ◌==◌, Bool, true, false, List, [], ◌∷◌, ◌++◌, length, Option, Some, None, option_map, option_and_then, unwrap_or, slice_get, nat_lt, if◌then◌else◌, refl, sym, ap, ◌∙◌, subst, arith}
+use Rattle.std.proofs.Common.{◌≡◌, ℕ, suc, ◌+◌, ◌<◌, inl, inr, true, false, List, [], ◌∷◌, length, Option, Some, None, option_map, unwrap_or, slice_get, refl, sym, ap, ◌∙◌, subst, arith}
 use Rattle.std.proofs.lemmas.Bool.{eqb-true, lt-ltb, ltb-true, cases_lt}
 use Rattle.cx_bits.specs.BitVector.{BitVector}
 use Rattle.cx_prim.specs.declared.ports.PortRow.{PortRow}
@@ -8,28 +8,25 @@ use Rattle.cx_prim.specs.declared.ports.Side.TheVariants as sides
 use Rattle.cx_prim.specs.Rows.{Row}
 use Rattle.cx_meaning.specs.declared.ports.PortRef.{PortRef}
 use Rattle.cx_meaning.specs.declared.ports.PortRef.TheVariants as ports
-use Rattle.cx_meaning.specs.declared.ports.PlacedPort.{PlacedPort}
 use Rattle.cx_meaning.specs.Rows.{side_of}
 use Rattle.cx_meaning.specs.Designs.{PlainComponent, PlainDesign, PlainStatement, Timed}
 use Rattle.cx_meaning.specs.Instances as instances
 use Rattle.cx_meaning.specs.Instances.{Instance, Cells, part_of}
-use Rattle.cx_meaning.specs.Active.{Active, nothing, Owned, source_order, offset_of}
+use Rattle.cx_meaning.specs.Active.{Active, Owned, source_order}
 use Rattle.cx_meaning.specs.Sights.{In, PartPort, Go, AnInput, AnOutput, ItsDone}
-use Rattle.cx_rules.specs.Footprints.{AssignNames, Rests, Depends}
 use Rattle.cx_rules.specs.Circles.{IsAcyclic}
-use Rattle.cx_rules.specs.Items.{Visited, test_in}
 use Rattle.cx_flow.specs.Together.{IsTogether}
-use Rattle.cx_net.specs.Nets.{PlainNetExpr, OfPort, OfWire, OfHole, OfGo, OfRegister, PlainNetTarget, ToPort, ToRegister, ToWire, ToHole, ToDone, PlainNetDriver}
+use Rattle.cx_net.specs.Nets.{PlainNetExpr, OfPort, OfWire, OfHole, OfGo, OfRegister, PlainNetTarget, ToPort, ToWire, ToHole, ToDone, PlainNetDriver}
 use Rattle.cx_net.specs.NetTree.{NetInstance, NetCells, NetAt, NoCell, ARow, AChild, net_part, net_cell_at}
 use Rattle.cx_net.specs.NetMeaning.{NetState, Node, APort, AWire, AHole, TheDone, NetLook, NetAround, is_true, truth_bit, zero_wide, same_target, own_step, is_port_of, is_own_node, driven_node, row_node, child_node, cell_node, decl_width, net_at_width, net_part_port}
 use Rattle.cx_static.specs.Islands.{PlainIsland}
 use Rattle.cx_static.specs.Lowering.{lowered, lowered_component, lowered_of, unlowered}
-use Rattle.cx_wiring.specs.Parts.{word, one, equals, drive}
-use Rattle.cx_wiring.specs.Counts.{positions_of, wires_of, registers_of}
+use Rattle.cx_wiring.specs.Parts.{equals}
+use Rattle.cx_wiring.specs.Counts.{positions_of}
 use Rattle.cx_wiring.specs.Stands.{Stand, end_of}
 use Rattle.cx_wiring.specs.IslandDrivers.{island_wires}
 use Rattle.cx_wiring.specs.Control.{whole_stand, finishing, control_drivers, form_drivers, drivers_of}
-use Rattle.cx_wiring.specs.Assignments.{target_of, Looks, LooksAlways, LooksIn, looks_of, is_driven, driven_assigns, assigns_wires, assigns_drivers}
+use Rattle.cx_wiring.specs.Assignments.{target_of, looks_of, driven_assigns, assigns_drivers}
 use Rattle.cx_wiring.specs.Bounds.{AllDrive}
 use Rattle.cx_wiring.specs.Wiring.{groups, first_of_control, first_of_assigns, bits, plain_wires, plain_drivers, component_registers}
 use Rattle.cx_wiring.specs.PartNets.{timers_of, wired_in}
@@ -45,18 +42,17 @@ use Rattle.cx_wiring.proofs.TakingLemmas.{no_port_done, no_port_hole}
 use Rattle.cx_wiring.proofs.ControlTargets.{control_drives, drivers_drive}
 use Rattle.cx_wiring.proofs.AssignTargets.{assigns_drive}
 use Rattle.cx_wiring.proofs.NetTargets.{plain_wires_count}
-use Rattle.cx_wiring.proofs.ConnectLaws.{Reads, read_before, statement_connects}
-use Rattle.cx_wiring.proofs.DesignNames.{in_filter}
+use Rattle.cx_wiring.proofs.ConnectLaws.{read_before, statement_connects}
 use Rattle.cx_wiring.proofs.InstancePorts.{IsNamed, TestRules, AssignRules, PortRules}
 use Rattle.cx_wiring.proofs.NodeRules.{NodeRules, control_tests}
 use Rattle.cx_wiring.proofs.SeamRules.{RestRules, SeamRules}
 use Rattle.cx_flow.proofs.InstanceLemmas.{KeepsPorts}
 use Rattle.cx_wiring.proofs.FreeOutputs.{OutputsFree}
 use Rattle.cx_wiring.proofs.KnownLemmas.{Known, known_as, KnownExpr, On, Fed, known_equals, AllTo, all_to_append, all_to_other, all_to_map, AllOfThem, all_append, all_any_target, fed_takes, on_takes}
-use Rattle.cx_wiring.proofs.NodeReads.{target_known, wire_takes, hole_takes, done_takes, register_known, rest_wires_known, all_wires, CanClose}
-use Rattle.cx_wiring.proofs.AssignsKnown.{LookFed, GoesKnown, NamesKnown, assigns_fed, assigns_all}
-use Rattle.cx_wiring.proofs.TogetherGoes.{IsOn, GoesIn, Goes, IsAt, StatementIsles, statement_goes}
-use Rattle.cx_wiring.proofs.ControlFed.{Stood, Whole, Timers, statement_whole}
+use Rattle.cx_wiring.proofs.NodeReads.{target_known, wire_takes, hole_takes, done_takes, register_known, rest_wires_known, CanClose}
+use Rattle.cx_wiring.proofs.AssignsKnown.{LookFed, NamesKnown, assigns_fed, assigns_all}
+use Rattle.cx_wiring.proofs.TogetherGoes.{IsOn, Goes, StatementIsles, statement_goes}
+use Rattle.cx_wiring.proofs.ControlFed.{Whole, statement_whole}
 use Rattle.cx_wiring.specs.IslandTakes.{StatementIslands}
 use Rattle.cx_wiring.proofs.PortsKnown.{R, IsFed, all_read, CellsShow, rests_known, named_there, stands, always_fed, output_driven, known_stable, ports_known, row_at, child_at_cell, gathered, port_of}
 use Rattle.cx_wiring.proofs.RowPorts.{HasRowPorts}
@@ -208,10 +204,12 @@ module _ (d : PlainDesign) (part : PlainComponent) (cells : Cells) (numbers : In
         let j = stands d part cells numbers (SeamRules.node seam) around s look solves shows a i in
         let owner : a.owner ≡ Some g = KeepsPorts.own_done (SeamRules.keeps seam a j) g target in
         subst (λ t. LookFed (groups (lowered_component part)) (lowered_component part).islands (NodeRules.islands_named (SeamRules.node seam)) around Reg (look []) (looks_of a.owner t) a.assign) (sym target)
-        (subst (λ o. LookFed (groups (lowered_component part)) (lowered_component part).islands (NodeRules.islands_named (SeamRules.node seam)) around Reg (look []) (looks_of o (ports.Done g)) a.assign) (sym owner)
-        (IslandsOwe.offsets owe g less, (λ q names. known_stable _ (λ no. RestRules.dones (SeamRules.rests seam) a g q j target names (λ rests.
-        let named = named_there d part cells numbers (SeamRules.node seam) around s look solves shows a j q names in
-        no (rests_known d part cells numbers (SeamRules.node seam) around s look solves shows q rests (IsNamed.there named) (λ n small leads. inputs n small)))))))
+        (subst (λ o. LookFed (groups (lowered_component part)) (lowered_component part).islands (NodeRules.islands_named (SeamRules.node seam)) around Reg (look []) (looks_of o (ports.Done g)) a.assign) (sym owner) (
+          IslandsOwe.offsets owe g less,
+          (λ q names. known_stable _ (λ no. RestRules.dones (SeamRules.rests seam) a g q j target names (λ rests.
+              let named = named_there d part cells numbers (SeamRules.node seam) around s look solves shows a j q names in
+              no (rests_known d part cells numbers (SeamRules.node seam) around s look solves shows q rests (IsNamed.there named) (λ n small leads. inputs n small))))),
+        ))
 
     done_hole : (g : ℕ) → g < groups (lowered_component part) → KE (OfHole g)
     done_hole g less =
@@ -238,10 +236,12 @@ module _ (d : PlainDesign) (part : PlainComponent) (cells : Cells) (numbers : In
     go_hole : (g : ℕ) → g < groups (lowered_component part) → (b : BitVector) × (look [] (AHole (groups (lowered_component part) + g)) ≡ Some b) × (is_true b ≡ true → IsOn (Goes.act what_goes) g)
     go_hole g less =
         let value = hole_takes (lowered_of d) part NC around s look solves (NodeRules.plain (SeamRules.node seam)) (groups (lowered_component part) + g) (omega arith) in
-        let known = fed_takes around Reg (look []) (ToHole (groups (lowered_component part) + g)) (Some (zero_wide 1)) (plain_drivers (lowered_component part)) (all_to_map Both FedHere (ToHole (groups (lowered_component part) + g)) (λ x h. h.0) (plain_drivers (lowered_component part)) all) (_, refl) in
-        (known.0, value ∙ known.1,
-        (λ on. on_takes around Reg (look []) (ToHole (groups (lowered_component part) + g)) (zero_wide 1) refl (plain_drivers (lowered_component part))
-        (all_to_map Both (λ x. KE x.guard × (On around Reg (look []) x.guard → IsOn (Goes.act what_goes) g)) (ToHole (groups (lowered_component part) + g)) (λ x h. (Fed.guard h.0, h.1)) (plain_drivers (lowered_component part)) all) known.0 known.1 on))
+        let known = fed_takes around Reg (look []) (ToHole (groups (lowered_component part) + g)) (Some (zero_wide 1)) (plain_drivers (lowered_component part)) (all_to_map Both FedHere (ToHole (groups (lowered_component part) + g)) (λ x h. h.0) (plain_drivers (lowered_component part)) all) (_, refl) in (
+          known.0,
+          value ∙ known.1,
+          (λ on. on_takes around Reg (look []) (ToHole (groups (lowered_component part) + g)) (zero_wide 1) refl (plain_drivers (lowered_component part))
+              (all_to_map Both (λ x. KE x.guard × (On around Reg (look []) x.guard → IsOn (Goes.act what_goes) g)) (ToHole (groups (lowered_component part) + g)) (λ x h. (Fed.guard h.0, h.1)) (plain_drivers (lowered_component part)) all) known.0 known.1 on),
+        )
       where
         Both : PlainNetDriver → Type 0
         Both x = FedHere x × (On around Reg (look []) x.guard → IsOn (Goes.act what_goes) g)
@@ -357,7 +357,7 @@ module _ (d : PlainDesign) (part : PlainComponent) (cells : Cells) (numbers : In
     wire_known : (n : ℕ) → n < length (wired_in d part).wires → Known (look [] (AWire n))
     wire_known n less =
         elim (cases_lt n (length (plain_wires (lowered_component part)))) [
-          inl there ↦
+          | inl there ↦
               known_as _ _ (wire_takes (lowered_of d) part NC around s look solves (NodeRules.plain (SeamRules.node seam)) n there)
               (fed_takes around Reg (look []) (ToWire n) (Some _) (plain_drivers (lowered_component part)) (all_any_target FedHere (ToWire n) (plain_drivers (lowered_component part)) all_drivers_fed) (_, refl))
           | inr past ↦ rest_wires_known (lowered_of d) part NC around s look solves (NodeRules.plain (SeamRules.node seam)) all_drivers_fed all_close n past less

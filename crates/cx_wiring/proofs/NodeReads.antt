@@ -5,20 +5,18 @@ use Rattle.std.proofs.lemmas.Bool.{lt-ltb, cases_lt}
 use Rattle.std.proofs.lemmas.List.{length-replicate}
 use Rattle.cx_bits.specs.BitVector.{BitVector}
 use Rattle.cx_prim.specs.MemoryLaws.{slice_get-append}
-use Rattle.cx_meaning.specs.declared.ports.PortRef.{PortRef}
 use Rattle.cx_meaning.specs.Designs.{PlainComponent}
-use Rattle.cx_net.specs.Nets.{PlainNetExpr, OfWire, OfRegister, PlainNetTarget, ToPort, ToRegister, ToWire, ToHole, ToDone, PlainNetDriver}
+use Rattle.cx_net.specs.Nets.{OfRegister, PlainNetTarget, ToPort, ToRegister, ToWire, ToHole, ToDone, PlainNetDriver}
 use Rattle.cx_net.specs.NetTree.{NetCells}
-use Rattle.cx_net.specs.NetMeaning.{NetState, Node, AWire, AHole, TheDone, NetLook, NetAround, is_true, truth_bit, zero_wide, same_target, drivers_to, registers_of, own_step, is_own_node, chain as first_true}
+use Rattle.cx_net.specs.NetMeaning.{NetState, Node, AWire, AHole, TheDone, NetLook, NetAround, is_true, truth_bit, zero_wide, drivers_to, registers_of, own_step, is_own_node, chain as first_true}
 use Rattle.cx_static.specs.Islands.{PlainLowereds}
 use Rattle.cx_static.specs.Lowering.{lowered_component}
-use Rattle.cx_wiring.specs.Parts.{one, drive, connect}
+use Rattle.cx_wiring.specs.Parts.{drive, connect}
 use Rattle.cx_wiring.specs.Bounds.{AllDrive}
-use Rattle.cx_wiring.specs.Chains.{Driven, together, rests, closing, goes_before, placed_among, by_target, driven, rest_widths}
-use Rattle.cx_wiring.specs.Wiring.{groups, bits, plain_wires, plain_drivers, component_registers, component_driven, target_width, net_component}
+use Rattle.cx_wiring.specs.Chains.{Driven, together, rests, closing, goes_before, placed_among, by_target, rest_widths}
+use Rattle.cx_wiring.specs.Wiring.{groups, plain_wires, plain_drivers, component_registers, component_driven, target_width, net_component}
 use Rattle.cx_wiring.specs.Takings.{value, takes}
 use Rattle.cx_wiring.proofs.OrderLaws.{driven_keeps}
-use Rattle.cx_wiring.proofs.NetTargets.{plain_wires_count}
 use Rattle.cx_wiring.proofs.ChainTargets.{AllDriven, by_target_drive, all_driven}
 use Rattle.cx_wiring.proofs.RestLaws.{standing, RestsHold}
 use Rattle.cx_wiring.proofs.DrivenLemmas.{IsProper}
@@ -27,7 +25,7 @@ use Rattle.cx_wiring.proofs.RestReads.{AreRests}
 use Rattle.cx_wiring.proofs.ComponentTakes.{IsPlain, target_takes, rests_all_hold}
 use Rattle.cx_wiring.proofs.CycleLaws.{in_front, some_at}
 use Rattle.cx_wiring.proofs.AwayLaws.{differs}
-use Rattle.cx_wiring.proofs.KnownLemmas.{Known, known_as, AllTo, AllOfThem, KnownExpr, Fed, fed_takes, any_undriven}
+use Rattle.cx_wiring.proofs.KnownLemmas.{Known, known_as, AllTo, AllOfThem, Fed, fed_takes, any_undriven}
 
 -- what holds of all drivers holds of those in the order of targets, and of those of each target
 module _ (P : PlainNetDriver → Type 0) where

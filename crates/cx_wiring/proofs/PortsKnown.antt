@@ -1,6 +1,6 @@
 -- The ports of an instance have values where what they hang on has: those that rest on state by how they rest, and all of them under what
 -- goes, since nothing leads in a circle under it.
-use Rattle.std.proofs.Common.{◌≡◌, ℕ, zero, suc, ◌+◌, ◌-◌, ◌<◌, ◌≤◌, ◌⊎◌, inl, inr, ◌==◌, Bool, true, false, if◌then◌else◌, List, [], ◌∷◌, ◌++◌, length, replicate, Option, Some, None, option_map, option_and_then, unwrap_or, slice_get, nat_lt, nat_eq, refl, sym, ap, ◌∙◌, subst, arith}
+use Rattle.std.proofs.Common.{◌≡◌, ℕ, zero, suc, ◌+◌, ◌-◌, ◌<◌, ◌≤◌, ◌⊎◌, inl, inr, Bool, true, false, if◌then◌else◌, List, [], ◌∷◌, ◌++◌, length, replicate, Option, Some, None, option_map, option_and_then, unwrap_or, slice_get, refl, sym, ap, ◌∙◌, subst, arith}
 use Rattle.std.proofs.lemmas.Bool.{lt-ltb, ltb-true}
 use Rattle.std.proofs.lemmas.Bool.Decides.{nat_tests}
 use Rattle.std.proofs.lemmas.List.{length-replicate}
@@ -13,30 +13,27 @@ use Rattle.cx_prim.specs.Rows.{Inputs, Row}
 use Rattle.cx_meaning.specs.declared.ports.PortRef.{PortRef}
 use Rattle.cx_meaning.specs.declared.ports.PortRef.TheVariants as ports
 use Rattle.cx_meaning.specs.Rows.{side_from, side_of}
-use Rattle.cx_meaning.specs.Designs.{PlainAssign, PlainComponent, PlainDesign, group_at}
+use Rattle.cx_meaning.specs.Designs.{PlainComponent, PlainDesign}
 use Rattle.cx_meaning.specs.Instances as instances
 use Rattle.cx_meaning.specs.Instances.{Instance, Cells, no_cells, a_primitive, an_instance, At, Nothing, OfRow, OfInstance, part_of, cells_of, cell_at}
 use Rattle.cx_meaning.specs.Active.{Active, nothing, Owned, source_order, offset_of, same_port, drivers}
 use Rattle.cx_meaning.specs.Sights.{In, PartPort, Go, AnInput, AnOutput, ItsDone, part_port}
 use Rattle.cx_rules.specs.Footprints.{AssignNames, Mentions, Rests, literal_rests, input_rests, registered_rests, output_rests, done_rests, combinational_rests, SideLeads, PartLeads, CellLeads, Leads, Depends, at_once, by_way_of}
 use Rattle.cx_rules.specs.Circles.{IsAcyclic}
-use Rattle.cx_rules.specs.ShapeRules.{is_hole}
 use Rattle.cx_rules.specs.Wellformed.{IsThere, port_count}
 use Rattle.cx_rules.proofs.FoundLemmas.{same_is}
 use Rattle.cx_rules.proofs.Finite.{in_left, in_right}
 use Rattle.cx_flow.proofs.InstanceLemmas.{OwnerOf, continuous, of_group, owner_of, source_in}
 use Rattle.cx_flow.proofs.UnionLemmas.{stands_acting}
-use Rattle.cx_net.specs.Nets.{PlainNetExpr, OfPort, OfWire, PlainNetTarget, ToPort, ToWire, PlainNetDriver, PlainNetComponent}
-use Rattle.cx_net.specs.NetTree.{NetInstance, NetCells, NetAt, NoCell, ARow, AChild, net_part, net_cell_at}
-use Rattle.cx_net.specs.NetMeaning.{NetState, Node, APort, AWire, AHole, TheDone, NetLook, NetAround, is_true, truth_bit, zero_wide, same_target, drivers_to, gather_known, registers_of, driven_node, row_node, child_node, cell_node, own_step, is_port_of, is_own_node, is_node, net_part_port, net_at_width}
+use Rattle.cx_net.specs.Nets.{PlainNetExpr, OfPort, OfWire, ToPort, ToWire, PlainNetDriver, PlainNetComponent}
+use Rattle.cx_net.specs.NetTree.{NetCells, ARow, AChild, net_part, net_cell_at}
+use Rattle.cx_net.specs.NetMeaning.{NetState, Node, APort, AHole, TheDone, NetLook, NetAround, is_true, zero_wide, same_target, gather_known, registers_of, driven_node, row_node, child_node, cell_node, own_step, is_port_of, is_own_node, net_part_port, net_at_width}
 use Rattle.cx_static.specs.Islands.{PlainIsland}
 use Rattle.cx_static.specs.Lowering.{lowered, lowered_component, lowered_of, unlowered}
-use Rattle.cx_wiring.specs.Parts.{word}
-use Rattle.cx_wiring.specs.IslandDrivers.{island_wires}
 use Rattle.cx_wiring.specs.Control.{control_drivers}
-use Rattle.cx_wiring.specs.Assignments.{target_of, Looks, looks_of, is_driven, driven_assigns, assigns_wires, assigns_drivers}
+use Rattle.cx_wiring.specs.Assignments.{target_of, looks_of, is_driven, driven_assigns, assigns_wires, assigns_drivers}
 use Rattle.cx_wiring.specs.Bounds.{AllDrive}
-use Rattle.cx_wiring.specs.Wiring.{groups, first_of_control, first_of_assigns, bits, plain_wires, plain_drivers, target_width, net_component}
+use Rattle.cx_wiring.specs.Wiring.{groups, first_of_control, first_of_assigns, bits, plain_wires, plain_drivers, target_width}
 use Rattle.cx_wiring.specs.PartNets.{timers_of, wired_in}
 use Rattle.cx_wiring.specs.Blocks.{net_of_instance, net_of_cells}
 use Rattle.cx_wiring.specs.Takings.{takes}
@@ -52,7 +49,7 @@ use Rattle.cx_wiring.proofs.DesignNames.{in_filter}
 use Rattle.cx_wiring.proofs.WholeLooks.{part_output}
 use Rattle.cx_wiring.proofs.InstancePorts.{IsNamed, AssignRules, PortRules}
 use Rattle.cx_wiring.proofs.NodeRules.{NodeRules}
-use Rattle.cx_wiring.proofs.KnownLemmas.{Known, known_as, known_map, KnownExpr, Fed, AllTo, all_to_append, all_to_other}
+use Rattle.cx_wiring.proofs.KnownLemmas.{Known, known_as, KnownExpr, Fed, AllTo, all_to_append, all_to_other}
 use Rattle.cx_wiring.proofs.CircleInduction.{acyclic_induction}
 use Rattle.cx_wiring.proofs.RowPorts.{HasRowPorts}
 use Rattle.cx_wiring.proofs.NodeReads.{target_known, wire_takes}
@@ -80,12 +77,16 @@ gathered look wanted p [] h = ([], refl)
 gathered look wanted p (row ∷ rest) h = choice (wanted p) refl (gathered look wanted (suc p) rest (λ q low high. h q (omega arith) (omega arith))) (h p (omega arith) (omega arith))
   where
     choice : (b : Bool) → wanted p ≡ b → ((inputs : Inputs) × (gather_known look wanted (suc p) rest ≡ Some inputs)) → (wanted p ≡ true → Known (look p)) → (inputs : Inputs) × (gather_known look wanted p (row ∷ rest) ≡ Some inputs)
-    choice true e later own = let k = own e in (Some k.0 ∷ later.0,
+    choice true e later own = let k = own e in (
+      Some k.0 ∷ later.0,
       ap (λ b. if b then option_and_then (λ x. option_map (λ more. Some x ∷ more) (gather_known look wanted (suc p) rest)) (look p) else option_map (λ more. None ∷ more) (gather_known look wanted (suc p) rest)) e
-          ∙ ap (λ o. option_and_then (λ x. option_map (λ more. Some x ∷ more) (gather_known look wanted (suc p) rest)) o) k.1 ∙ ap (option_map (λ more. Some k.0 ∷ more)) later.1)
-    choice false e later own = (None ∷ later.0,
+          ∙ ap (λ o. option_and_then (λ x. option_map (λ more. Some x ∷ more) (gather_known look wanted (suc p) rest)) o) k.1 ∙ ap (option_map (λ more. Some k.0 ∷ more)) later.1,
+    )
+    choice false e later own = (
+      None ∷ later.0,
       ap (λ b. if b then option_and_then (λ x. option_map (λ more. Some x ∷ more) (gather_known look wanted (suc p) rest)) (look p) else option_map (λ more. None ∷ more) (gather_known look wanted (suc p) rest)) e
-          ∙ ap (option_map (λ more. None ∷ more)) later.1)
+          ∙ ap (option_map (λ more. None ∷ more)) later.1,
+    )
 
 -- what is not unknown is known
 pub known_stable : (o : Option BitVector) → ((Known o → ⊥) → ⊥) → Known o

@@ -1,5 +1,5 @@
 -- What a state needs for its registered outputs to have values: the form of its row. Every edge keeps it, whatever stands at the ports.
-use Rattle.std.proofs.Common.{◌≡◌, ℕ, ◌+◌, ◌*◌, ◌^◌, ◌<◌, ◌≤◌, ◌==◌, Bool, true, false, ◌&&◌, if◌then◌else◌, List, [], ◌∷◌, length, take, drop, Option, Some, None, unwrap_or, slice_get, nat_lt, nat_le, refl, sym, ap, ◌∙◌, arith}
+use Rattle.std.proofs.Common.{◌≡◌, ℕ, ◌+◌, ◌*◌, ◌^◌, ◌≤◌, ◌==◌, Bool, true, false, ◌&&◌, if◌then◌else◌, List, [], ◌∷◌, length, take, drop, Option, Some, None, unwrap_or, slice_get, nat_lt, nat_le, refl, sym, ap, ◌∙◌, arith}
 use Rattle.std.proofs.lemmas.Bool.Decides.{nat_tests}
 use Rattle.std.specs.List.{list_all}
 use Rattle.cx_bits.specs.BitVector.{BitVector}
@@ -12,9 +12,9 @@ use Rattle.cx_prim.specs.declared.ports.Side.TheVariants.{Output, Registered}
 use Rattle.cx_prim.specs.Widths.{is_width}
 use Rattle.cx_prim.specs.CellStates as states
 use Rattle.cx_prim.specs.CellStates.{CellState, StateShape, with_words, words_of}
-use Rattle.cx_prim.specs.Rows.{Inputs, is_output_side, is_on, value_at, Row, reset}
-use Rattle.cx_prim.specs.CombinationalRows.{constant_row, unary_row, binary_row, mux_row, combinational_row}
-use Rattle.cx_prim.specs.CombinationalLaws.{and_left, and_right, passes_at}
+use Rattle.cx_prim.specs.Rows.{Inputs, is_output_side, is_on, Row, reset}
+use Rattle.cx_prim.specs.CombinationalRows.{constant_row, unary_row, combinational_row}
+use Rattle.cx_prim.specs.CombinationalLaws.{passes_at}
 use Rattle.cx_prim.specs.RegisterRow.{register_row, register_output, register_next}
 use Rattle.cx_prim.specs.MemoryRows.{IsLayout, are_sizes, is_address_width, memory_row, memory_output, memory_read, sequential_memory_row, sequential_output}
 use Rattle.cx_prim.specs.MemoryLaws.{MemoryOutput, is_read, is_done, memory_outputs}

@@ -1,6 +1,6 @@
 -- What goes in a component is what its control may have active at once, whatever the registers hold: each region is at one position, and
 -- of a par each arm has a region.
-use Rattle.std.proofs.Common.{◌≡◌, ℕ, zero, suc, ◌+◌, ◌<◌, ◌≤◌, ◌⊎◌, inl, inr, ◌==◌, Bool, true, false, List, [], ◌∷◌, ◌++◌, length, Option, Some, None, nat_eq, if◌then◌else◌, refl, sym, ap, ◌∙◌, subst, arith}
+use Rattle.std.proofs.Common.{◌≡◌, ℕ, zero, suc, ◌+◌, ◌<◌, ◌≤◌, ◌⊎◌, inl, inr, ◌==◌, true, false, List, ◌++◌, length, Option, Some, None, if◌then◌else◌, refl, sym, ap, ◌∙◌, subst, arith}
 use Rattle.std.proofs.lemmas.Bool.{eqb-true, eq-eqb, cases_lt}
 use Rattle.cx_bits.specs.BitVector.{BitVector}
 use Rattle.cx_text.specs.declared.places.Place.{Place}
@@ -9,18 +9,18 @@ use Rattle.cx_meaning.specs.Active.{Active, nothing, group, comb}
 use Rattle.cx_meaning.specs.Sights.{In}
 use Rattle.cx_meaning.specs.Islands.{group_length}
 use Rattle.cx_flow.specs.Together.{or_else, union, IsTogether, at_rest, enabled, in_seq, at_if, in_then, in_else, at_while, in_while, in_repeat, in_par, AreTogether, no_arm, an_arm}
-use Rattle.cx_net.specs.Nets.{PlainNetExpr, OfHole, OfRegister, Inverse, PlainNetTarget, ToWire, ToHole, PlainNetDriver}
-use Rattle.cx_net.specs.NetMeaning.{Node, NetAround, is_true, truth_bit}
+use Rattle.cx_net.specs.Nets.{PlainNetExpr, OfHole, OfRegister, Inverse, ToWire, ToHole, PlainNetDriver}
+use Rattle.cx_net.specs.NetMeaning.{Node, NetAround, truth_bit}
 use Rattle.cx_static.specs.Islands.{PlainIsland}
-use Rattle.cx_static.specs.Lowering.{Lowering, after, lowered_enable, lowered_form, lowered, lowered_parts, timed}
+use Rattle.cx_static.specs.Lowering.{Lowering, after, lowered_enable, lowered_form, lowered, lowered_parts}
 use Rattle.cx_wiring.specs.Parts.{one, both, equals, drive}
 use Rattle.cx_wiring.specs.Counts.{positions_of, positions_in, form_positions, wires_of, form_registers, registers_of, registers_in, arms_registers}
 use Rattle.cx_wiring.specs.Stands.{Stand, at, inside, past_test, behind}
-use Rattle.cx_wiring.specs.Control.{one_turn, arm_stand, counted_inside, counting, comb_goes, enabled as enabled_drivers, form_drivers, drivers_of, parts_drivers, arms_drivers}
-use Rattle.cx_wiring.specs.Bounds.{FormNames, StatementNames, PartsName, CombNames}
-use Rattle.cx_wiring.specs.Takings.{value, Connects, AllConnect, AreRegisters}
+use Rattle.cx_wiring.specs.Control.{one_turn, arm_stand, counted_inside, counting, comb_goes, form_drivers, drivers_of, parts_drivers, arms_drivers}
+use Rattle.cx_wiring.specs.Bounds.{FormNames, StatementNames, PartsName}
+use Rattle.cx_wiring.specs.Takings.{Connects, AllConnect, AreRegisters}
 use Rattle.cx_wiring.proofs.TakingLemmas.{true_bit, says_equals, connect_both, registers_both}
-use Rattle.cx_wiring.proofs.KnownLemmas.{Known, known_as, KnownExpr, On, Fed, known_two, known_equals, known_inverse, two_true, AllTo, all_to_append, all_to_map}
+use Rattle.cx_wiring.proofs.KnownLemmas.{known_as, KnownExpr, On, Fed, known_two, known_equals, known_inverse, two_true, AllTo, all_to_append, all_to_map}
 
 untrue : {A : Type 0} → false ≡ true → A
 untrue e = absurd cc
@@ -83,12 +83,13 @@ module _ (part : PlainComponent) (groups : ℕ) (islands : List PlainIsland) (ar
       → KnownExpr around registers look (at x) × (On around registers look (at x) → On around registers look x.acts × (r ≡ x.position))
   at_is x r i low c =
       let same = c low in
-      let e = known_equals around registers look (OfRegister x.region) x.position (_, IsAt.is i) in
-      (known_as _ _ same (known_two around registers look x.acts (equals (OfRegister x.region) x.position) (IsAt.acts_known i) e),
-      (λ on.
-      let t = two_true around registers look x.acts (equals (OfRegister x.region) x.position) on.0 (IsAt.acts_known i) e (sym same ∙ on.1) on.2 in
-      let p : (r == x.position) ≡ true = sym (true_bit (r == x.position)) ∙ t.1 (truth_bit (r == x.position)) (says_equals around registers look (OfRegister x.region) (record { width = IsAt.width i; value = r }) x.position (IsAt.is i)) in
-      (((IsAt.acts_known i).0, (IsAt.acts_known i).1, t.0 (IsAt.acts_known i).0 (IsAt.acts_known i).1), eqb-true r x.position p)))
+      let e = known_equals around registers look (OfRegister x.region) x.position (_, IsAt.is i) in (
+        known_as _ _ same (known_two around registers look x.acts (equals (OfRegister x.region) x.position) (IsAt.acts_known i) e),
+        (λ on.
+            let t = two_true around registers look x.acts (equals (OfRegister x.region) x.position) on.0 (IsAt.acts_known i) e (sym same ∙ on.1) on.2 in
+            let p : (r == x.position) ≡ true = sym (true_bit (r == x.position)) ∙ t.1 (truth_bit (r == x.position)) (says_equals around registers look (OfRegister x.region) (record { width = IsAt.width i; value = r }) x.position (IsAt.is i)) in
+            (((IsAt.acts_known i).0, (IsAt.acts_known i).1, t.0 (IsAt.acts_known i).0 (IsAt.acts_known i).1), eqb-true r x.position p)),
+      )
 
   off_at : (x : Stand) (r size : ℕ) → IsAt x.acts x.region r → bound ≤ x.wire → Connects around registers look bound (ToWire x.wire) (both x.acts (equals (OfRegister x.region) x.position)) → 1 ≤ size
       → IsOff x.acts r x.position size → On around registers look (at x) → ⊥
@@ -257,8 +258,10 @@ module _ (part : PlainComponent) (groups : ℕ) (islands : List PlainIsland) (ar
           act = ArmsGo.act all;
           together = in_par (ArmsGo.together all);
           goes = λ g. ((λ e. untrue e), all_to_append (GoesIn (ArmsGo.act all) g) (ToHole (groups + g)) (arms_drivers groups islands x (suc (suc x.wire)) x.register (lowered_parts part arms l)) _ (ArmsGo.goes all g) ((λ e. untrue e), tt));
-          quiet = λ off g. ((λ e. untrue e),
-              all_to_append (GoesIn nothing g) (ToHole (groups + g)) (arms_drivers groups islands x (suc (suc x.wire)) x.register (lowered_parts part arms l)) _ (ArmsGo.quiet all (off_at x r 1 i low c.0 (omega arith) off) g) ((λ e. untrue e), tt));
+          quiet = λ off g. (
+            (λ e. untrue e),
+            all_to_append (GoesIn nothing g) (ToHole (groups + g)) (arms_drivers groups islands x (suc (suc x.wire)) x.register (lowered_parts part arms l)) _ (ArmsGo.quiet all (off_at x r 1 i low c.0 (omega arith) off) g) ((λ e. untrue e), tt),
+          );
         }
     form_goes (If test cg a b) place l x r i low c k names isles =
         let at_here = at_is x r i low c.0 in
@@ -273,10 +276,14 @@ module _ (part : PlainComponent) (groups : ℕ) (islands : List PlainIsland) (ar
       where
         gather : (act : Active) → Holes act (comb_goes groups islands x cg) → Holes act (drivers_of groups islands (past_test x) (lowered part a l)) → Holes act (drivers_of groups islands (behind islands (lowered part a l) (past_test x)) (lowered part b (after part a l)))
             → Holes act (form_drivers groups islands x (If test cg (lowered part a l) (lowered part b (after part a l))))
-        gather act h f s g = ((λ e. untrue e),
-          all_to_append (GoesIn act g) (ToHole (groups + g)) (comb_goes groups islands x cg) _ (h g)
-              ((λ e. untrue e), all_to_append (GoesIn act g) (ToHole (groups + g)) (drivers_of groups islands (past_test x) (lowered part a l)) _ (f g)
-              ((λ e. untrue e), all_to_append (GoesIn act g) (ToHole (groups + g)) (drivers_of groups islands (behind islands (lowered part a l) (past_test x)) (lowered part b (after part a l))) _ (s g) ((λ e. untrue e), tt))))
+        gather act h f s g = (
+          (λ e. untrue e),
+          all_to_append (GoesIn act g) (ToHole (groups + g)) (comb_goes groups islands x cg) _ (h g) (
+            (λ e. untrue e),
+            all_to_append (GoesIn act g) (ToHole (groups + g)) (drivers_of groups islands (past_test x) (lowered part a l)) _ (f g)
+                ((λ e. untrue e), all_to_append (GoesIn act g) (ToHole (groups + g)) (drivers_of groups islands (behind islands (lowered part a l) (past_test x)) (lowered part b (after part a l))) _ (s g) ((λ e. untrue e), tt)),
+          ),
+        )
 
         choice : KnownExpr around registers look (at x) → Goes a x.acts r (x.position + 1) (positions_of (lowered part a l)) (drivers_of groups islands (past_test x) (lowered part a l))
             → Goes b x.acts r (x.position + 1 + positions_of (lowered part a l)) (positions_of (lowered part b (after part a l))) (drivers_of groups islands (behind islands (lowered part a l) (past_test x)) (lowered part b (after part a l)))
@@ -319,9 +326,11 @@ module _ (part : PlainComponent) (groups : ℕ) (islands : List PlainIsland) (ar
         choice at_here.0 body (cases_lt r (x.position + 1)) (λ on. (at_here.1 on).1) (λ off. off_at x r (suc (positions_of (lowered part a l))) i low c.0 (omega arith) off)
       where
         gather : (act : Active) → Holes act (comb_goes groups islands x cg) → Holes act (drivers_of groups islands (past_test x) (lowered part a l)) → Holes act (form_drivers groups islands x (While test cg (lowered part a l)))
-        gather act h f g = ((λ e. untrue e),
+        gather act h f g = (
+          (λ e. untrue e),
           all_to_append (GoesIn act g) (ToHole (groups + g)) (comb_goes groups islands x cg) _ (h g)
-              ((λ e. untrue e), ((λ e. untrue e), all_to_append (GoesIn act g) (ToHole (groups + g)) (drivers_of groups islands (past_test x) (lowered part a l)) _ (f g) ((λ e. untrue e), tt))))
+              ((λ e. untrue e), ((λ e. untrue e), all_to_append (GoesIn act g) (ToHole (groups + g)) (drivers_of groups islands (past_test x) (lowered part a l)) _ (f g) ((λ e. untrue e), tt))),
+        )
 
         choice : KnownExpr around registers look (at x) → Goes a x.acts r (x.position + 1) (positions_of (lowered part a l)) (drivers_of groups islands (past_test x) (lowered part a l)) → (r < x.position + 1) ⊎ (x.position + 1 ≤ r)
             → (On around registers look (at x) → r ≡ x.position) → (IsOff x.acts r x.position (suc (positions_of (lowered part a l))) → On around registers look (at x) → ⊥)
@@ -386,9 +395,15 @@ module _ (part : PlainComponent) (groups : ℕ) (islands : List PlainIsland) (ar
         record {
           act = union (Goes.act first) (ArmsGo.act later);
           together = an_arm (Goes.together first) (ArmsGo.together later);
-          goes = λ g. ((λ e. untrue e), all_to_append (GoesIn both_act g) (ToHole (groups + g)) (drivers_of groups islands (arm_stand par wire register) (lowered part s l)) _
-              (holes_map (Goes.act first) (union (Goes.act first) (ArmsGo.act later)) (λ h on. union_left (Goes.act first) (ArmsGo.act later) h on) (drivers_of groups islands (arm_stand par wire register) (lowered part s l)) (Goes.goes first) g)
-              ((λ e. untrue e), holes_map (ArmsGo.act later) (union (Goes.act first) (ArmsGo.act later)) (λ h on. union_right (Goes.act first) (ArmsGo.act later) h on) _ (ArmsGo.goes later) g));
-          quiet = λ off g. ((λ e. untrue e), all_to_append (GoesIn nothing g) (ToHole (groups + g)) (drivers_of groups islands (arm_stand par wire register) (lowered part s l)) _ (Goes.quiet first (inl off) g)
-              ((λ e. untrue e), ArmsGo.quiet later off g));
+          goes = λ g. (
+            (λ e. untrue e),
+            all_to_append (GoesIn both_act g) (ToHole (groups + g)) (drivers_of groups islands (arm_stand par wire register) (lowered part s l)) _
+                (holes_map (Goes.act first) (union (Goes.act first) (ArmsGo.act later)) (λ h on. union_left (Goes.act first) (ArmsGo.act later) h on) (drivers_of groups islands (arm_stand par wire register) (lowered part s l)) (Goes.goes first) g)
+                ((λ e. untrue e), holes_map (ArmsGo.act later) (union (Goes.act first) (ArmsGo.act later)) (λ h on. union_right (Goes.act first) (ArmsGo.act later) h on) _ (ArmsGo.goes later) g),
+          );
+          quiet = λ off g. (
+            (λ e. untrue e),
+            all_to_append (GoesIn nothing g) (ToHole (groups + g)) (drivers_of groups islands (arm_stand par wire register) (lowered part s l)) _ (Goes.quiet first (inl off) g)
+                ((λ e. untrue e), ArmsGo.quiet later off g),
+          );
         }
