@@ -26,3 +26,4 @@ pub mod BlockNumbers
 pub mod TimerCounts
 pub mod IslandNumbers
 pub mod PortValues
+pub mod IslandTakes
