@@ -75,4 +75,5 @@ pub mod NodeEdges
 pub mod DesignEdges
 pub mod ZeroNumbers
 pub mod StartCells
+pub mod DesignRoots
 pub mod GoingApart
