@@ -43,8 +43,8 @@ input_bit : (child : NetInstance) (n : ℕ) → input_width child n ≡ Some 1 �
 input_bit child n e =
     let less : n < length (net_part child).inputs = declared_there (net_part child).inputs n 1 e in
     let wide : child_port_width (net_part child) (net_part_port (net_part child) (suc n)) ≡ 1 =
-        ap (λ b. child_port_width (net_part child) (if b then AnInput n else output_port (length (net_part child).outputs) (n - length (net_part child).inputs))) (lt-ltb n (length (net_part child).inputs) less)
-        ∙ ap (λ o. unwrap_or o 1) e in
+    ap (λ b. child_port_width (net_part child) (if b then AnInput n else output_port (length (net_part child).outputs) (n - length (net_part child).inputs))) (lt-ltb n (length (net_part child).inputs) less)
+    ∙ ap (λ o. unwrap_or o 1) e in
     ap₂ (λ a b. a && (b == 1)) (input_port child n 1 e) wide
 
 module _ (wired : PlainComponent → PlainNetComponent) (timers : PlainComponent → List Row) (numbers : Instance → NetState → ℕ → ℕ) where

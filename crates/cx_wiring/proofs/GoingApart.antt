@@ -12,6 +12,7 @@ use Rattle.cx_meaning.specs.Sights.{In}
 use Rattle.cx_meaning.specs.Cycles.{Fault}
 use Rattle.cx_meaning.specs.Control.{with_comb, groups_in, groups_of, groups_in_all, group_drives, groups_drive, drives}
 use Rattle.cx_meaning.specs.Islands.{group_length}
+use Rattle.cx_rules.specs.Wellformed.{IsForm, IsWith}
 use Rattle.cx_rules.specs.Items.{Dynamic, statements_in, test_in}
 use Rattle.cx_rules.specs.StaticControl.{is_static}
 use Rattle.cx_rules.specs.Footprints.{Reads, driven}
@@ -111,7 +112,7 @@ module _ (i : Instance) (children : ℕ → Coded) (codings : LeafCodings (leaf_
   comb_named (Some g) gs x (inl e) = inl (ap (λ (y : Going). y.group) e)
   comb_named (Some g) gs x (inr k) = absurd k
 
-  enable_named : (g : ℕ) (o : Option ℕ) (p : Machine.Place (LeafMachines.enable (leaf_machines i children) g)) (x : Going) → In (enable_going (leaf_machines i children) codings (part_of i) islands hole of_enable of_island g o p) x → In (g ∷ []) x.group
+  pub enable_named : (g : ℕ) (o : Option ℕ) (p : Machine.Place (LeafMachines.enable (leaf_machines i children) g)) (x : Going) → In (enable_going (leaf_machines i children) codings (part_of i) islands hole of_enable of_island g o p) x → In (g ∷ []) x.group
   enable_named g None p x (inl e) = inl (ap (λ (y : Going). y.group) e)
   enable_named g None p x (inr k) = absurd k
   enable_named g (Some cycles) p x k = inl (sym (names_enable g p x k))
@@ -124,7 +125,7 @@ module _ (i : Instance) (children : ℕ → Coded) (codings : LeafCodings (leaf_
       → (p : InPar A B) (x : Going) → In (par_runs f h p) x → In (groups_of s ++ groups_in_all ss) x.group
   par_named f h s ss left right p x k =
       elim (in_either (at_control f (left_of p)) (at_control h (right_of p)) x k) [
-        inl j ↦ in_left (groups_of s) (groups_in_all ss) x.group (at_named f (groups_of s) left (left_of p) x j)
+        | inl j ↦ in_left (groups_of s) (groups_in_all ss) x.group (at_named f (groups_of s) left (left_of p) x j)
         | inr j ↦ in_right (groups_of s) (groups_in_all ss) x.group (at_named h (groups_in_all ss) right (right_of p) x j)
       ]
 
@@ -256,10 +257,11 @@ module _ (i : Instance) (children : ℕ → Coded) (codings : LeafCodings (leaf_
     arms_apart arms place stands = are_apart (part_of i) (list_of arms) (λ c shared. control.unshared (record { context = Dynamic; form = Par arms; place = place }) stands c shared)
 
     -- WHAT THE MACHINE SEES, where each leaf and each test owes its own
-    module _ (seen : Kept) (port : PortRef → Bool)
-        (enable_owes : (g : ℕ) (place : Place) → Stands i (Placed (Enable g) place) → (p : Machine.Place (LeafMachines.enable (leaf_machines i children) g)) → Machine.faults (LeafMachines.enable (leaf_machines i children) g) p seen ≡ false
+    module _ (seen : Kept) (port : PortRef → Bool) (Runs : Running (leaf_machines i children) → Type 0)
+        (enable_owes : (g : ℕ) (place : Place) → Stands i (Placed (Enable g) place) → (p : Machine.Place (LeafMachines.enable (leaf_machines i children) g)) → Runs (AGroup g place p)
+        → GoesFor (Placed (Enable g) place) (enable_going (leaf_machines i children) codings (part_of i) islands hole of_enable of_island g (group_length (part_of i) g) p) → Machine.faults (LeafMachines.enable (leaf_machines i children) g) p seen ≡ false
         → (o : Option ℕ) → group_length (part_of i) g ≡ o → enable_agrees (leaf_machines i children) codings (part_of i) islands seen hole port g o p)
-        (test_owes : (form : PlainForm) (place : Place) (test : PlacedPort) (comb : Option ℕ) → Stands i (Placed form place) → test_in form ≡ Some test → ((g : ℕ) → comb ≡ Some g → In (groups_in form) g)
+        (test_owes : (form : PlainForm) (place : Place) (test : PlacedPort) (comb : Option ℕ) → Stands i (Placed form place) → test_in form ≡ Some test → ((g : ℕ) → comb ≡ Some g → In (groups_in form) g) → (IsForm (part_of i) form → IsWith (part_of i) comb)
         → GoesFor (Placed form place) (comb_going comb) → unclear (LeafMachines.test (leaf_machines i children) test.port comb seen) ≡ false
         → TestAgrees (leaf_machines i children) codings (part_of i) islands seen hole port test.port comb) where
       abbrev Agrees : (t : PlainStatement) → Machine.Place (machine_of (leaf_machines i children) t) → Type 0
@@ -268,77 +270,83 @@ module _ (i : Instance) (children : ℕ → Coded) (codings : LeafCodings (leaf_
       of_comb : (comb : Option ℕ) (gs : List ℕ) (g : ℕ) → comb ≡ Some g → In (with_comb comb gs) g
       of_comb comb gs g e = subst (λ o. In (with_comb o gs) g) (sym e) (inl refl)
 
-      at_agrees : (t : PlainStatement) → ((p : Machine.Place (machine_of (leaf_machines i children) t)) → GoesFor t (goes_at t p) → Machine.faults (machine_of (leaf_machines i children) t) p seen ≡ false → Agrees t p)
-          → (k : Control (Machine.Place (machine_of (leaf_machines i children) t))) → GoesFor t (at_control (goes_at t) k) → faults (machine_of (leaf_machines i children) t) k seen ≡ false → at_fine (Agrees t) k
-      at_agrees t each (At p) goes clean = each p goes clean
-      at_agrees t each Done goes clean = tt
+      abbrev AllRun : List (Running (leaf_machines i children)) → Type 0
+      AllRun rs = (r : Running (leaf_machines i children)) → In rs r → Runs r
 
-      rest_agree : (ss : PlainStatements) → ((p : Machine.Place (arms_machine (leaf_machines i children) ss)) → GoesForAll ss (arms_go ss p) → Machine.faults (arms_machine (leaf_machines i children) ss) p seen ≡ false
+      at_agrees : (t : PlainStatement)
+          → ((p : Machine.Place (machine_of (leaf_machines i children) t)) → AllRun (running (leaf_machines i children) t p) → GoesFor t (goes_at t p) → Machine.faults (machine_of (leaf_machines i children) t) p seen ≡ false → Agrees t p)
+          → (k : Control (Machine.Place (machine_of (leaf_machines i children) t))) → AllRun (at_control (running (leaf_machines i children) t) k) → GoesFor t (at_control (goes_at t) k)
+          → faults (machine_of (leaf_machines i children) t) k seen ≡ false → at_fine (Agrees t) k
+      at_agrees t each (At p) run goes clean = each p run goes clean
+      at_agrees t each Done run goes clean = tt
+
+      rest_agree : (ss : PlainStatements) → ((p : Machine.Place (arms_machine (leaf_machines i children) ss)) → AllRun (arms_run (leaf_machines i children) ss p) → GoesForAll ss (arms_go ss p) → Machine.faults (arms_machine (leaf_machines i children) ss) p seen ≡ false
           → ArmsAgree (leaf_machines i children) codings (part_of i) islands seen hole port ss p)
-          → (k : Control (Machine.Place (arms_machine (leaf_machines i children) ss))) → GoesForAll ss (at_control (arms_go ss) k) → faults (arms_machine (leaf_machines i children) ss) k seen ≡ false
+          → (k : Control (Machine.Place (arms_machine (leaf_machines i children) ss))) → AllRun (at_control (arms_run (leaf_machines i children) ss) k) → GoesForAll ss (at_control (arms_go ss) k) → faults (arms_machine (leaf_machines i children) ss) k seen ≡ false
           → at_fine (ArmsAgree (leaf_machines i children) codings (part_of i) islands seen hole port ss) k
-      rest_agree ss each (At p) goes clean = each p goes clean
-      rest_agree ss each Done goes clean = tt
+      rest_agree ss each (At p) run goes clean = each p run goes clean
+      rest_agree ss each Done run goes clean = tt
 
       -- of two arms, from each of them
       par_agree : (s : PlainStatement) (ss : PlainStatements)
-          → ((p : Machine.Place (machine_of (leaf_machines i children) s)) → GoesFor s (goes_at s p) → Machine.faults (machine_of (leaf_machines i children) s) p seen ≡ false → Agrees s p)
-          → ((p : Machine.Place (arms_machine (leaf_machines i children) ss)) → GoesForAll ss (arms_go ss p) → Machine.faults (arms_machine (leaf_machines i children) ss) p seen ≡ false
+          → ((p : Machine.Place (machine_of (leaf_machines i children) s)) → AllRun (running (leaf_machines i children) s p) → GoesFor s (goes_at s p) → Machine.faults (machine_of (leaf_machines i children) s) p seen ≡ false → Agrees s p)
+          → ((p : Machine.Place (arms_machine (leaf_machines i children) ss)) → AllRun (arms_run (leaf_machines i children) ss p) → GoesForAll ss (arms_go ss p) → Machine.faults (arms_machine (leaf_machines i children) ss) p seen ≡ false
           → ArmsAgree (leaf_machines i children) codings (part_of i) islands seen hole port ss p)
           → AreApart Drives ReadsAt (s ∷ list_of ss)
-          → (p : InPar (Machine.Place (machine_of (leaf_machines i children) s)) (Machine.Place (arms_machine (leaf_machines i children) ss))) → GoesForAll (a_statement s ss) (par_runs (goes_at s) (arms_go ss) p)
+          → (p : InPar (Machine.Place (machine_of (leaf_machines i children) s)) (Machine.Place (arms_machine (leaf_machines i children) ss)))
+          → AllRun (par_runs (running (leaf_machines i children) s) (arms_run (leaf_machines i children) ss) p) → GoesForAll (a_statement s ss) (par_runs (goes_at s) (arms_go ss) p)
           → Machine.faults (par_machine (machine_of (leaf_machines i children) s) (arms_machine (leaf_machines i children) ss)) p seen ≡ false
           → in_par (Agrees s) (ArmsAgree (leaf_machines i children) codings (part_of i) islands seen hole port ss) p
-      par_agree s ss first later apart p goes clean = (
-        at_agrees s first (left_of p)
+      par_agree s ss first later apart p run goes clean = (
+        at_agrees s first (left_of p) (λ r j. run r (in_left (at_control (running (leaf_machines i children) s) (left_of p)) (at_control (arms_run (leaf_machines i children) ss) (right_of p)) r j))
             (left_arm s ss (at_control (goes_at s) (left_of p)) (at_control (arms_go ss) (right_of p)) apart.0 (at_right ss (right_of p)) goes)
             (arm_laws.or_left (faults (machine_of (leaf_machines i children) s) (left_of p) seen) (faults (arms_machine (leaf_machines i children) ss) (right_of p) seen) clean),
-        rest_agree ss later (right_of p)
+        rest_agree ss later (right_of p) (λ r j. run r (in_right (at_control (running (leaf_machines i children) s) (left_of p)) (at_control (arms_run (leaf_machines i children) ss) (right_of p)) r j))
             (right_arms s ss (at_control (goes_at s) (left_of p)) (at_control (arms_go ss) (right_of p)) apart.0 (at_left s (left_of p)) (at_right ss (right_of p)) goes)
             (arm_laws.or_right (faults (machine_of (leaf_machines i children) s) (left_of p) seen) (faults (arms_machine (leaf_machines i children) ss) (right_of p) seen) clean),
       )
 
       mutual
-        pub agrees : (t : PlainStatement) → Stands i t → (p : Machine.Place (machine_of (leaf_machines i children) t)) → GoesFor t (goes_at t p) → Machine.faults (machine_of (leaf_machines i children) t) p seen ≡ false → Agrees t p
-        agrees (Placed Empty place) stands p goes clean = tt
-        agrees (Placed (Enable g) place) stands p goes clean = enable_owes g place stands p clean (group_length (part_of i) g) refl
-        agrees (Placed (Seq no_statements) place) stands p goes clean = tt
-        agrees (Placed (Seq (a_statement s ss)) place) stands (First p) goes clean =
-            agrees s (parts_stand i s (Placed (Seq (a_statement s ss)) place) (of_seq (inl refl)) stands) p (narrower s (Placed (Seq (a_statement s ss)) place) (of_seq (inl refl)) (goes_at s p) goes) clean
-        agrees (Placed (Seq (a_statement s ss)) place) stands (Second p) goes clean =
-            parts_agree ss (λ t j. parts_stand i t (Placed (Seq (a_statement s ss)) place) (of_seq (inr j)) stands) p (all_narrower ss (Placed (Seq (a_statement s ss)) place) (λ t j. of_seq (inr j)) (parts_go ss p) goes) clean
-        agrees (Placed (Par no_statements) place) stands p goes clean = tt
-        agrees (Placed (Par (a_statement s ss)) place) stands p goes clean =
+        pub agrees : (t : PlainStatement) → Stands i t → (p : Machine.Place (machine_of (leaf_machines i children) t)) → AllRun (running (leaf_machines i children) t p) → GoesFor t (goes_at t p) → Machine.faults (machine_of (leaf_machines i children) t) p seen ≡ false → Agrees t p
+        agrees (Placed Empty place) stands p run goes clean = tt
+        agrees (Placed (Enable g) place) stands p run goes clean = enable_owes g place stands p (run (AGroup g place p) (inl refl)) goes clean (group_length (part_of i) g) refl
+        agrees (Placed (Seq no_statements) place) stands p run goes clean = tt
+        agrees (Placed (Seq (a_statement s ss)) place) stands (First p) run goes clean =
+            agrees s (parts_stand i s (Placed (Seq (a_statement s ss)) place) (of_seq (inl refl)) stands) p run (narrower s (Placed (Seq (a_statement s ss)) place) (of_seq (inl refl)) (goes_at s p) goes) clean
+        agrees (Placed (Seq (a_statement s ss)) place) stands (Second p) run goes clean =
+            parts_agree ss (λ t j. parts_stand i t (Placed (Seq (a_statement s ss)) place) (of_seq (inr j)) stands) p run (all_narrower ss (Placed (Seq (a_statement s ss)) place) (λ t j. of_seq (inr j)) (parts_go ss p) goes) clean
+        agrees (Placed (Par no_statements) place) stands p run goes clean = tt
+        agrees (Placed (Par (a_statement s ss)) place) stands p run goes clean =
             par_agree s ss (agrees s (parts_stand i s (Placed (Par (a_statement s ss)) place) (of_par (inl refl)) stands))
-            (arms_agree ss (λ t j. parts_stand i t (Placed (Par (a_statement s ss)) place) (of_par (inr j)) stands) (arms_apart (a_statement s ss) place stands).1) (arms_apart (a_statement s ss) place stands) p
+            (arms_agree ss (λ t j. parts_stand i t (Placed (Par (a_statement s ss)) place) (of_par (inr j)) stands) (arms_apart (a_statement s ss) place stands).1) (arms_apart (a_statement s ss) place stands) p run
             (all_narrower (a_statement s ss) (Placed (Par (a_statement s ss)) place) (λ t j. of_par j) (par_runs (goes_at s) (arms_go ss) p) goes) clean
-        agrees (Placed (If test comb a b) place) stands AtTest goes clean = test_owes (If test comb a b) place test comb stands refl (of_comb comb (groups_of a ++ groups_of b)) goes clean
-        agrees (Placed (If test comb a b) place) stands (InThen p) goes clean =
-            agrees a (parts_stand i a (Placed (If test comb a b) place) then_branch stands) p (narrower a (Placed (If test comb a b) place) then_branch (goes_at a p) goes) clean
-        agrees (Placed (If test comb a b) place) stands (InElse p) goes clean =
-            agrees b (parts_stand i b (Placed (If test comb a b) place) else_branch stands) p (narrower b (Placed (If test comb a b) place) else_branch (goes_at b p) goes) clean
-        agrees (Placed (While test comb a) place) stands AtHead goes clean = test_owes (While test comb a) place test comb stands refl (of_comb comb (groups_of a)) goes clean
-        agrees (Placed (While test comb a) place) stands (InBody p) goes clean =
-            agrees a (parts_stand i a (Placed (While test comb a) place) of_while stands) p (narrower a (Placed (While test comb a) place) of_while (goes_at a p) goes) clean
-        agrees (Placed (Repeat zero a) place) stands p goes clean = tt
-        agrees (Placed (Repeat (suc n) a) place) stands p goes clean =
-            agrees a (parts_stand i a (Placed (Repeat (suc n) a) place) of_repeat stands) p.place (narrower a (Placed (Repeat (suc n) a) place) of_repeat (goes_at a p.place) goes) clean
-        agrees (Placed (StaticSeq written parts) place) stands p goes clean = tt
-        agrees (Placed (StaticPar written arms) place) stands p goes clean = tt
-        agrees (Placed (StaticIf written test a b) place) stands p goes clean = tt
-        agrees (Placed (StaticRepeat written count a) place) stands p goes clean = tt
-        agrees (Placed (Timed n) place) stands p goes clean = tt
+        agrees (Placed (If test comb a b) place) stands AtTest run goes clean = test_owes (If test comb a b) place test comb stands refl (of_comb comb (groups_of a ++ groups_of b)) (λ h. h) goes clean
+        agrees (Placed (If test comb a b) place) stands (InThen p) run goes clean =
+            agrees a (parts_stand i a (Placed (If test comb a b) place) then_branch stands) p run (narrower a (Placed (If test comb a b) place) then_branch (goes_at a p) goes) clean
+        agrees (Placed (If test comb a b) place) stands (InElse p) run goes clean =
+            agrees b (parts_stand i b (Placed (If test comb a b) place) else_branch stands) p run (narrower b (Placed (If test comb a b) place) else_branch (goes_at b p) goes) clean
+        agrees (Placed (While test comb a) place) stands AtHead run goes clean = test_owes (While test comb a) place test comb stands refl (of_comb comb (groups_of a)) (λ h. h) goes clean
+        agrees (Placed (While test comb a) place) stands (InBody p) run goes clean =
+            agrees a (parts_stand i a (Placed (While test comb a) place) of_while stands) p run (narrower a (Placed (While test comb a) place) of_while (goes_at a p) goes) clean
+        agrees (Placed (Repeat zero a) place) stands p run goes clean = tt
+        agrees (Placed (Repeat (suc n) a) place) stands p run goes clean =
+            agrees a (parts_stand i a (Placed (Repeat (suc n) a) place) of_repeat stands) p.place run (narrower a (Placed (Repeat (suc n) a) place) of_repeat (goes_at a p.place) goes) clean
+        agrees (Placed (StaticSeq written parts) place) stands p run goes clean = tt
+        agrees (Placed (StaticPar written arms) place) stands p run goes clean = tt
+        agrees (Placed (StaticIf written test a b) place) stands p run goes clean = tt
+        agrees (Placed (StaticRepeat written count a) place) stands p run goes clean = tt
+        agrees (Placed (Timed n) place) stands p run goes clean = tt
 
-        parts_agree : (ss : PlainStatements) → ((t : PlainStatement) → In (list_of ss) t → Stands i t) → (p : Machine.Place (parts_machine (leaf_machines i children) ss)) → GoesForAll ss (parts_go ss p)
+        parts_agree : (ss : PlainStatements) → ((t : PlainStatement) → In (list_of ss) t → Stands i t) → (p : Machine.Place (parts_machine (leaf_machines i children) ss)) → AllRun (parts_run (leaf_machines i children) ss p) → GoesForAll ss (parts_go ss p)
             → Machine.faults (parts_machine (leaf_machines i children) ss) p seen ≡ false → PartsAgree (leaf_machines i children) codings (part_of i) islands seen hole port ss p
-        parts_agree no_statements stand p goes clean = tt
-        parts_agree (a_statement s ss) stand (First p) goes clean = agrees s (stand s (inl refl)) p (first_of s ss (goes_at s p) goes) clean
-        parts_agree (a_statement s ss) stand (Second p) goes clean = parts_agree ss (λ t j. stand t (inr j)) p (rest_of s ss (parts_go ss p) goes) clean
+        parts_agree no_statements stand p run goes clean = tt
+        parts_agree (a_statement s ss) stand (First p) run goes clean = agrees s (stand s (inl refl)) p run (first_of s ss (goes_at s p) goes) clean
+        parts_agree (a_statement s ss) stand (Second p) run goes clean = parts_agree ss (λ t j. stand t (inr j)) p run (rest_of s ss (parts_go ss p) goes) clean
 
-        arms_agree : (ss : PlainStatements) → ((t : PlainStatement) → In (list_of ss) t → Stands i t) → AreApart Drives ReadsAt (list_of ss) → (p : Machine.Place (arms_machine (leaf_machines i children) ss)) → GoesForAll ss (arms_go ss p)
+        arms_agree : (ss : PlainStatements) → ((t : PlainStatement) → In (list_of ss) t → Stands i t) → AreApart Drives ReadsAt (list_of ss) → (p : Machine.Place (arms_machine (leaf_machines i children) ss)) → AllRun (arms_run (leaf_machines i children) ss p) → GoesForAll ss (arms_go ss p)
             → Machine.faults (arms_machine (leaf_machines i children) ss) p seen ≡ false → ArmsAgree (leaf_machines i children) codings (part_of i) islands seen hole port ss p
-        arms_agree no_statements stand apart p goes clean = tt
-        arms_agree (a_statement s ss) stand apart p goes clean = par_agree s ss (agrees s (stand s (inl refl))) (arms_agree ss (λ t j. stand t (inr j)) apart.1) apart p goes clean
+        arms_agree no_statements stand apart p run goes clean = tt
+        arms_agree (a_statement s ss) stand apart p run goes clean = par_agree s ss (agrees s (stand s (inl refl))) (arms_agree ss (λ t j. stand t (inr j)) apart.1) apart p run goes clean
 
     -- OF EACH LEAF THAT RUNS: what goes is its own, or drives no cell that it reads
     abbrev pub leaf_goes : Running (leaf_machines i children) → List Going
@@ -371,7 +379,7 @@ module _ (i : Instance) (children : ℕ → Coded) (codings : LeafCodings (leaf_
           → In (par_runs (running (leaf_machines i children) s) (arms_run (leaf_machines i children) ss) p) r → LeafStands r
       par_leaf s ss first later apart p goes j =
           elim (in_either (at_control (running (leaf_machines i children) s) (left_of p)) (at_control (arms_run (leaf_machines i children) ss) (right_of p)) r j) [
-            inl k ↦ at_leaves (running (leaf_machines i children) s) (GoesFor s) (goes_at s) r first (left_of p)
+            | inl k ↦ at_leaves (running (leaf_machines i children) s) (GoesFor s) (goes_at s) r first (left_of p)
                 (left_arm s ss (at_control (goes_at s) (left_of p)) (at_control (arms_go ss) (right_of p)) apart.0 (at_right ss (right_of p)) goes) k
             | inr k ↦ at_leaves (arms_run (leaf_machines i children) ss) (GoesForAll ss) (arms_go ss) r later (right_of p)
                 (right_arms s ss (at_control (goes_at s) (left_of p)) (at_control (arms_go ss) (right_of p)) apart.0 (at_left s (left_of p)) (at_right ss (right_of p)) goes) k

@@ -277,8 +277,14 @@ module _ (d : PlainDesign) (design : IsDesign d) (accepted : IsAccepted d) (k : 
         breaks : is_bad_range (owner_length (component_at d k) o.owner) r ≡ true → ⊥
         breaks bad =
             accepted.shapes rules.StaticGuard (record { component = k; part = AnAssign number.0 }) o.assign.place (path_of (component_of d k) o.assign.target) refl
-            (record { within = within; number = number.0; is = refl; assign = o; stands = number.1;
-            breaks = (r, j, ap (λ x. is_bad_range (owner_length x o.owner) r) (same_part d (length d.components) k) ∙ bad, (refl, refl)) })
+            (record {
+              within = within;
+              number = number.0;
+              is = refl;
+              assign = o;
+              stands = number.1;
+              breaks = (r, j, ap (λ x. is_bad_range (owner_length x o.owner) r) (same_part d (length d.components) k) ∙ bad, (refl, refl));
+            })
 
         by_length : (g : ℕ) → o.owner ≡ Some g → (n : Option ℕ) → group_length (component_at d k) g ≡ n → IsStatic (component_at d k) o.owner
         by_length g e None f = absurd (breaks (ap (λ w. is_bad_range (owner_length (component_at d k) w) r) e ∙ ap (λ n. is_bad_range n r) f))
@@ -295,9 +301,19 @@ module _ (d : PlainDesign) (design : IsDesign d) (accepted : IsAccepted d) (k : 
     static_hole static e =
         let there = owner_there static.group static.owns in
         accepted.shapes rules.StaticShape (record { component = k; part = AGroup static.group }) (group_at (part_of (component_of d k)) static.group).place (group_at (part_of (component_of d k)) static.group).name refl
-        (inl (record { within = within; number = static.group; is = refl; stands = there.0; breaks = (static.cycles, ap (λ x. group_length x static.group) (same_part d (length d.components) k) ∙ static.is,
-        ap (λ x. some_target is_hole (group_at x static.group).assigns || nat_eq static.cycles 0) (same_part d (length d.components) k)
-        ∙ ap (λ b. b || nat_eq static.cycles 0) (target_among is_hole (group_at (component_at d k) static.group).assigns o.assign there.1 e), (refl, refl)) }))
+        (inl (record {
+          within = within;
+          number = static.group;
+          is = refl;
+          stands = there.0;
+          breaks = (
+            static.cycles,
+            ap (λ x. group_length x static.group) (same_part d (length d.components) k) ∙ static.is,
+            ap (λ x. some_target is_hole (group_at x static.group).assigns || nat_eq static.cycles 0) (same_part d (length d.components) k)
+                ∙ ap (λ b. b || nat_eq static.cycles 0) (target_among is_hole (group_at (component_at d k) static.group).assigns o.assign there.1 e),
+            (refl, refl),
+          );
+        }))
 
   module _ (v : Visited) (p : PlacedPort) (i : In (statements_in (component_at d k)) v) (e : test_in v.form ≡ Some p) where
     place : (n : ℕ) × (slice_get (statements_in (component_at d k)) n ≡ Some v)

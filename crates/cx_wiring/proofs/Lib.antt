@@ -77,3 +77,4 @@ pub mod ZeroNumbers
 pub mod StartCells
 pub mod DesignRoots
 pub mod GoingApart
+pub mod NodeAgrees

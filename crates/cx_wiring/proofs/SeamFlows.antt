@@ -43,7 +43,7 @@ done_bit : (b : Bool) → Value (truth_bit b) ≡ bit_of b
 done_bit true = refl
 done_bit false = refl
 
-only_self : (g : ℕ) → only_at g g ≡ Some 0
+pub only_self : (g : ℕ) → only_at g g ≡ Some 0
 only_self g = ap (λ b. if b then Some 0 else None) (eq-eqb g g refl)
 
 module _ (d : PlainDesign) (numbers : Instance → NetState → ℕ → ℕ) (part : PlainComponent) (cells : Cells) (rules : SeamRules d (Node part cells)) (around : NetAround) (v : NetState) (look : NetLook)
