@@ -99,6 +99,7 @@ pub mod NodeEdges
 pub mod DesignEdges
 pub mod ZeroNumbers
 pub mod StartCells
+pub mod DesignRoots
 pub mod GoingApart
 pub mod NodeAgrees
 pub mod KnownLemmas

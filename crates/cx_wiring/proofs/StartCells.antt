@@ -1,13 +1,15 @@
 -- After the edge with reset the cells of a design's net are those of the start, and the words of its memories are those of the design.
-use Rattle.std.proofs.Common.{◌≡◌, inl, inr, ℕ, zero, suc, ◌+◌, Bool, true, false, if◌then◌else◌, List, [], ◌∷◌, ◌++◌, length, map, refl, sym, ap, ◌∙◌, subst, arith, length-append}
+use Rattle.std.proofs.Common.{◌≡◌, inl, inr, slice_get, Some, ℕ, zero, suc, ◌+◌, ◌<◌, Bool, true, false, if◌then◌else◌, List, [], ◌∷◌, ◌++◌, length, map, refl, sym, ap, ◌∙◌, subst, arith, length-append}
 use Rattle.cx_text.specs.Loading.{PlainRow}
 use Rattle.cx_prim.specs.CellStates as cell_states
 use Rattle.cx_prim.specs.CellStates.{CellState, Stateless, Register, Memory, SequentialMemory, Multiplier, Divider, Timer, with_words}
 use Rattle.cx_prim.specs.Rows.{Row, reset}
-use Rattle.cx_meaning.specs.Designs.{PlainKind, OfPrimitive, OfComponent, PlainCell, PlainComponent, PlainDesign}
+use Rattle.cx_prim.specs.Table.{PrimitiveRow}
+use Rattle.cx_meaning.specs.Designs.{PlainKind, OfPrimitive, OfComponent, PlainCell, PlainComponent, PlainDesign, component_at}
 use Rattle.cx_meaning.specs.Instances as instances
-use Rattle.cx_meaning.specs.Instances.{Instance, Cells, no_cells, a_primitive, an_instance, Path, State, just, start, start_at, start_below, loaded_at, externals_from, words_of, part_of}
+use Rattle.cx_meaning.specs.Instances.{Instance, Cells, no_cells, a_primitive, an_instance, Path, State, just, start, start_at, start_below, loaded_at, externals_from, words_of, part_of, add_cell, cells_for, tree_within, tree_of}
 use Rattle.cx_meaning.specs.Sights.{In}
+use Rattle.cx_rules.specs.Wellformed.{IsExternal, IsDesign}
 use Rattle.cx_rules.specs.Externals.{if_external, rows_of, row_for}
 use Rattle.cx_net.specs.Nets.{PlainNetComponent}
 use Rattle.cx_net.specs.NetTree.{NetInstance, NetCells, net_part}
@@ -135,3 +137,55 @@ module _ (d : PlainDesign) (numbers : Instance → NetState → ℕ → ℕ) whe
   words_same (instances.Node part cells) s v external same =
       ap (λ es. map (λ c. cell_states.words_of (v.cell (c ∷ []))) es) (externals_same part)
       ∙ words_alike (externals_from 0 part.cells) (λ c. v.cell (c ∷ [])) (λ c. s (c ∷ [])) (λ c m. same (c ∷ []) (external c m))
+
+-- AN EXTERNAL CELL of a design is a memory of its main
+external_in : (xs : List PlainCell) (from c : ℕ) → In (externals_from from xs) c → (n : ℕ) × (c ≡ from + n) × ((cell : PlainCell) × (slice_get xs n ≡ Some cell) × (cell.external ≡ true))
+external_in [] from c i = absurd i
+external_in (x ∷ xs) from c i = by x.external refl i (λ j. external_in xs (suc from) c j)
+  where
+    one_later : (n : ℕ) → c ≡ suc from + n → c ≡ from + suc n
+    one_later n e = omega arith
+
+    later : (n : ℕ) × (c ≡ suc from + n) × ((cell : PlainCell) × (slice_get xs n ≡ Some cell) × (cell.external ≡ true)) → (n : ℕ) × (c ≡ from + n) × ((cell : PlainCell) × (slice_get (x ∷ xs) n ≡ Some cell) × (cell.external ≡ true))
+    later (n, e, r) = (suc n, one_later n e, r)
+
+    first : from ≡ c → c ≡ from + 0
+    first e = omega arith
+
+    by : (b : Bool) → x.external ≡ b → In (instances.if_external b from (externals_from (suc from) xs)) c
+        → (In (externals_from (suc from) xs) c → (n : ℕ) × (c ≡ suc from + n) × ((cell : PlainCell) × (slice_get xs n ≡ Some cell) × (cell.external ≡ true)))
+        → (n : ℕ) × (c ≡ from + n) × ((cell : PlainCell) × (slice_get (x ∷ xs) n ≡ Some cell) × (cell.external ≡ true))
+    by true is (inl e) deeper = (0, first e, (x, refl, is))
+    by true is (inr j) deeper = later (deeper j)
+    by false is j deeper = later (deeper j)
+
+memory_there : (child : ℕ → Instance) (xs : List PlainCell) (n : ℕ) (cell : PlainCell) (primitive : PrimitiveRow) → slice_get xs n ≡ Some cell → cell.kind ≡ OfPrimitive primitive → has_cell_below (cells_for child xs) n [] ≡ true
+memory_there child [] n cell primitive e is = absurd cc
+memory_there child (x ∷ xs) zero cell primitive e is = let same : x ≡ cell = cc in ap (λ k. has_cell_below (add_cell child k (cells_for child xs)) zero []) (ap (λ (y : PlainCell). y.kind) same ∙ is)
+memory_there child (x ∷ xs) (suc n) cell primitive e is = by x.kind ∙ memory_there child xs n cell primitive e is
+  where
+    by : (k : PlainKind) → has_cell_below (add_cell child k (cells_for child xs)) (suc n) [] ≡ has_cell_below (cells_for child xs) n []
+    by (OfPrimitive p) = refl
+    by (OfComponent k) = refl
+
+member : {A : Type 0} (xs : List A) (n : ℕ) (x : A) → slice_get xs n ≡ Some x → In xs x
+member {A} [] n x e = absurd cc
+member {A} (y ∷ ys) zero x e = let same : y ≡ x = cc in inl same
+member {A} (y ∷ ys) (suc n) x e = inr (member ys n x e)
+
+pub external_there : (d : PlainDesign) → IsDesign d → (c : ℕ) → In (externals_from 0 (PlainComponent.cells (part_of (tree_of d)))) c → has_cell (tree_of d) (c ∷ []) ≡ true
+external_there d design = by (length d.components) design.main_there
+  where
+    of_kind : (k : PlainKind) → IsExternal d d.main k → (primitive : PrimitiveRow) × (k ≡ OfPrimitive primitive)
+    of_kind (OfPrimitive p) h = (p, refl)
+    of_kind (OfComponent j) h = absurd h
+
+    by : (n : ℕ) → d.main < n → (c : ℕ) → In (externals_from 0 (PlainComponent.cells (part_of (tree_within d n d.main)))) c → has_cell (tree_within d n d.main) (c ∷ []) ≡ true
+    by zero less c i = absurd (omega arith)
+    by (suc n) less c i =
+        let e = external_in (component_at d d.main).cells 0 c i in
+        let at : c ≡ e.0 = e.1 ∙ omega arith in
+        let cell = e.2.0 in
+        let stands = e.2.1 in
+        let p = of_kind cell.kind (((design.components d.main design.main_there).cells cell (member (component_at d d.main).cells e.0 cell stands)).external e.2.2) in
+        ap (λ k. has_cell_below (cells_for (tree_within d n) (component_at d d.main).cells) k []) at ∙ memory_there (tree_within d n) (component_at d d.main).cells e.0 cell p.0 stands p.1
