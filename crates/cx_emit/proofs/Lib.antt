@@ -14,6 +14,13 @@ pub mod TextWholes
 pub mod NetWholes
 pub mod EdgeLemmas
 pub mod EdgeValues
+pub mod Situations
+pub mod Reached
+pub mod AllValued
+pub mod ExternalLemmas
+pub mod LoadLemmas
+pub mod StartValues
+pub mod RunLemmas
 pub mod PairingLemmas
 pub mod DrivenLemmas
 pub mod RowLemmas
@@ -21,3 +28,5 @@ pub mod NameLaws
 pub mod FaultLaws
 pub mod ApartLaws
 pub mod ModuleNames
+pub mod ModulesApart
+pub mod ReadLemmas

@@ -5,3 +5,4 @@ pub mod NetEdges
 pub mod NetRuns
 pub mod PlainNets
 pub mod NetFits
+pub mod NetLimits

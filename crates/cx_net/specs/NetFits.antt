@@ -1,10 +1,12 @@
--- WHICH NETS FIT: numbers name parts, widths agree, a component comes behind those of its cells, and its primitives have rows.
+-- WHICH NETS FIT: numbers name parts, widths agree, a component comes behind those of its cells, its primitives have rows, and
+-- external cells of main are memories.
 use Rattle.std.specs.Prelude.{◌≡◌, ℕ, ◌<◌, nat_lt, true, List, [], ◌∷◌, ◌++◌, length, map, Option, Some, None, option_map, option_and_then, slice_get, if◌then◌else◌}
-use Rattle.cx_prim.specs.Rows.{Row, IsOfWidth}
+use Rattle.cx_prim.specs.Rows.{IsOfWidth}
 use Rattle.cx_prim.specs.Table.{HasRow, row_of}
 use Rattle.cx_meaning.specs.declared.ports.PortRef.{PortRef}
 use Rattle.cx_meaning.specs.declared.ports.PortRef.TheVariants as ports
 use Rattle.cx_meaning.specs.Designs.{PlainKind, OfPrimitive, OfComponent, PlainCell}
+use Rattle.cx_rules.specs.Wellformed.{is_memory}
 use Rattle.cx_net.specs.Nets.{PlainNetExpr, OfPort, OfRegister, OfWire, OfHole, OfGo, Fixed, Inverse, AllOf, AnyOf, Sum, Compares, PlainNetExprs, no_exprs, an_expr, PlainNetTarget, ToPort, ToRegister, ToWire, ToHole, ToDone, PlainNetDriver, PlainNetComponent, PlainNet}
 use Rattle.cx_net.specs.NetTree.{net_component_at}
 
@@ -64,21 +66,23 @@ pub record IsFitDriver (net : PlainNet) (part : PlainNetComponent) (d : PlainNet
   pub guard : HasWidth net part d.guard 1
   pub source : (w : ℕ) → target_width net part d.target ≡ Some w → HasWidth net part d.source w
 
--- an output reads ports that are there
-abbrev pub ReadsPorts : Row → Type 0
-ReadsPorts row = (n k : ℕ) → row.reads n k ≡ true → k < length row.ports
-
 -- a cell of component k
 abbrev pub IsFitKind : ℕ → PlainKind → Type 0
-IsFitKind k (OfPrimitive primitive) = HasRow primitive × ReadsPorts (row_of primitive)
+IsFitKind k (OfPrimitive primitive) = HasRow primitive
 IsFitKind k (OfComponent child) = child < k
 
 pub record IsFitComponent (net : PlainNet) (k : ℕ) : Type 0 where
   pub drivers : (n : ℕ) (d : PlainNetDriver) → slice_get (net_component_at net k).drivers n ≡ Some d → IsFitDriver net (net_component_at net k) d
   pub cells : (c : ℕ) (cell : PlainCell) → slice_get (net_component_at net k).cells c ≡ Some cell → IsFitKind k cell.kind
 
+-- an external cell is a memory
+abbrev pub IsExternalKind : PlainKind → Type 0
+IsExternalKind (OfPrimitive primitive) = is_memory (row_of primitive).shape ≡ true
+IsExternalKind (OfComponent child) = ⊥
+
 pub record IsFit (net : PlainNet) : Type 0 where
   pub has_main : net.main < length net.components
+  pub externals : (c : ℕ) (cell : PlainCell) → slice_get (net_component_at net net.main).cells c ≡ Some cell → cell.external ≡ true → IsExternalKind cell.kind
   pub components : (k : ℕ) → k < length net.components → IsFitComponent net k
 
 -- what is left where holes are wires
