@@ -26,4 +26,3 @@ pub mod BlockNumbers
 pub mod TimerCounts
 pub mod IslandNumbers
 pub mod PortValues
-pub mod IslandTakes
