@@ -88,7 +88,7 @@ chains_wire_few : (ts : List Driven) (base n wire : ℕ) → base ≤ wire → w
 chains_wire_few [] base n wire low from free = omega arith
 chains_wire_few (u ∷ us) base n wire low from free =
     let parts : length (drivers_to (ToWire n) (chains wire (u ∷ us)))
-        ≡ length (drivers_to (ToWire n) (chain u.target u.target wire together u.drivers)) + length (drivers_to (ToWire n) (chains (wire + rests together u.drivers) us)) =
+    ≡ length (drivers_to (ToWire n) (chain u.target u.target wire together u.drivers)) + length (drivers_to (ToWire n) (chains (wire + rests together u.drivers) us)) =
     ap length (to_append (ToWire n) (chain u.target u.target wire together u.drivers) (chains (wire + rests together u.drivers) us))
     ∙ length-append (drivers_to (ToWire n) (chain u.target u.target wire together u.drivers)) (drivers_to (ToWire n) (chains (wire + rests together u.drivers) us)) in
     let there : base ≤ n = omega arith in
