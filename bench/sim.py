@@ -5,8 +5,8 @@
 
 PROGRAM is the built calyx_cli. Icarus Verilog is installed where it is not there (Debian's package iverilog); where that fails only `sim` is
 timed. Both have to end in the same cycle with the same words, which is asserted. Printed are the cycles, the best time of three in
-seconds, that of `vvp`, and how many times as long `sim` takes. The time of a run that ends in cycle 1 is left out of both. Then texts of
-5, 20 and 80 MB are read and looked at for a cycle: printed are the seconds, and the peak of memory in MiB and for each byte of the text.
+seconds, that of `vvp`, and how many times as long `sim` takes. The time of a run that ends in cycle 1 is left out of both. Then come texts that
+`compile` writes: of these all of a run is timed, and `vvp` without `iverilog`. Last texts of 5, 20 and 80 MB are read and looked at for a cycle: printed are the seconds, and the peak of memory in MiB and for each byte of the text.
 """
 import json
 import os
@@ -18,6 +18,7 @@ import tempfile
 import time
 
 ROUNDS = 3
+TESTBENCH = os.path.join(os.path.dirname(os.path.abspath(__file__)), '..', 'tools', 'testbench.py')
 BUDGET = '1000000000000'
 PORTS = '(\n  input wire [0:0] clk,\n  input wire [0:0] reset,\n'
 MAIN = 'module main' + PORTS + '  input wire [0:0] go,\n  output wire [0:0] done\n);\n'
@@ -156,6 +157,69 @@ def by_sim(program, folder, text, words):
     return told['cycles'], told['memories'].get('mem', []), took
 
 
+def enables(count):
+    """A seq of so many enables of four groups that write registers."""
+    cells = ''.join(f'r{k} = std_reg(32); ' for k in range(4))
+    groups = ''.join(f"group g{k} {{ r{k}.in = r{(k + 1) % 4}.out; r{k}.write_en = 1'd1; g{k}[done] = r{k}.done; }} " for k in range(4))
+    parts = ' '.join(f'g{k % 4};' for k in range(count))
+    return f'component main() -> () {{ cells {{ {cells} }} wires {{ {groups} }} control {{ seq {{ {parts} }} }} }}\n', '{}'
+
+
+def occurrences(count):
+    """An island of so many enables of a static group, one after the other."""
+    parts = ' '.join('g;' for _ in range(count))
+    group = "static<1> group g { r.in = a.out; r.write_en = 1'd1; a.left = r.out; a.right = 32'd1; }"
+    return f'component main() -> () {{ cells {{ r = std_reg(32); a = std_add(32); }} wires {{ {group} }} control {{ static seq {{ {parts} }} }} }}\n', '{}'
+
+
+def loops(count):
+    """Loops in the arms of a par, each to a thousand."""
+    cells = ''.join(f'r{k} = std_reg(32); a{k} = std_add(32); l{k} = std_lt(32); ' for k in range(count))
+    groups = ''.join(f"group g{k} {{ a{k}.left = r{k}.out; a{k}.right = 32'd1; r{k}.in = a{k}.out; r{k}.write_en = 1'd1; g{k}[done] = r{k}.done; }} "
+                     f"comb group c{k} {{ l{k}.left = r{k}.out; l{k}.right = 32'd1000; }} " for k in range(count))
+    arms = ' '.join(f'while l{k}.out with c{k} {{ g{k}; }}' for k in range(count))
+    return f'component main() -> () {{ cells {{ {cells} }} wires {{ {groups} }} control {{ par {{ {arms} }} }} }}\n', '{}'
+
+
+def product(_):
+    """The 8 by 8 matrix product of examples/."""
+    at = os.path.join(os.path.dirname(os.path.abspath(__file__)), '..', 'examples', 'matrix_product')
+    with open(at + '.futil', encoding='utf-8') as design, open(at + '.json', encoding='utf-8') as data:
+        return design.read(), data.read()
+
+
+COMPILED = (
+    ('the matrix product', product, 8),
+    ('64 loops in a par', loops, 64),
+    ('a seq of 1,000 enables', enables, 1_000),
+    ('a seq of 4,000 enables', enables, 4_000),
+    ('an island of 4,096 enables', occurrences, 4_096),
+)
+
+
+def compiled(program, folder, design, data):
+    """The cycle, the seconds of `sim`, and those of `vvp` where it is there, of what `compile` writes."""
+    for name, text in (('d.futil', design), ('d.json', data)):
+        with open(f'{folder}/{name}', 'w', encoding='ascii') as file:
+            file.write(text)
+    made = subprocess.run([program, 'compile', folder + '/d.futil'], capture_output=True, check=True)
+    with open(folder + '/d.v', 'wb') as file:
+        file.write(made.stdout)
+    wanted = subprocess.run([program, 'interp', folder + '/d.futil', folder + '/d.json', BUDGET], capture_output=True, check=True, text=True).stdout
+    out, took = best([program, 'sim', folder + '/d.v', folder + '/d.json', BUDGET])
+    assert out == wanted, (out, wanted)
+    cycles = json.loads(out)['cycles']
+    if not shutil.which('vvp'):
+        return cycles, took, None
+    bench = subprocess.run([TESTBENCH, folder + '/d.v', folder + '/d.json', str(cycles + 1)], capture_output=True, check=True)
+    with open(folder + '/b.v', 'wb') as file:
+        file.write(bench.stdout)
+    subprocess.run(['iverilog', '-g2005', '-s', 'bench', '-o', folder + '/b.vvp', folder + '/b.v', folder + '/d.v'], check=True)
+    told, other = best(['vvp', '-n', folder + '/b.vvp'])
+    assert told == wanted, (told, wanted)
+    return cycles, took, other
+
+
 def long_text(size):
     """Wires that each add 1 to the one before, in a text of about so many bytes."""
     lines = size // 62
@@ -200,6 +264,9 @@ def main():
                 other = theirs[2] - by_icarus(folder, make(1), words)[2]
                 line += f' {other:8.3f} s {seconds / other:6.2f}'
             print(line)
+        for name, make, count in COMPILED:
+            cycles, seconds, other = compiled(program, folder, *make(count))
+            print(f'{name:28} {cycles:9} cycles {seconds:8.3f} s' + (f' {other:8.3f} s {seconds / other:6.2f}' if other else ''))
         for size in (5_000_000, 20_000_000, 80_000_000):
             length, seconds, peak = read(program, folder, size)
             print(f'a text of {length:11,} bytes {seconds:8.3f} s {peak / 2**20:6.0f} MiB {peak / length:6.1f}')

@@ -44,7 +44,7 @@ no_part_at [] = refl
 no_part_at (c ∷ path) = refl
 
 mutual
-  joined : (i : Instance) (path more : Path) → instance_at (instance_at i path) more ≡ instance_at i (path ++ more)
+  pub joined : (i : Instance) (path more : Path) → instance_at (instance_at i path) more ≡ instance_at i (path ++ more)
   joined (Node part cells) [] more = refl
   joined (Node part cells) (c ∷ path) more = joined_below cells c path more
 
@@ -57,10 +57,10 @@ mutual
 
 -- THE CONTROL of every instance, where all keep their rules
 module _ (d : PlainDesign) (rules : (path : Path) → ControlRules (instance_at (tree_of d) path)) (islands : (path : Path) → IslandRules (instance_at (tree_of d) path)) where
-  rules_below : (path more : Path) → ControlRules (instance_at (instance_at (tree_of d) path) more)
+  pub rules_below : (path more : Path) → ControlRules (instance_at (instance_at (tree_of d) path) more)
   rules_below path more = subst ControlRules (sym (joined (tree_of d) path more)) (rules (path ++ more))
 
-  islands_below : (path more : Path) → IslandRules (instance_at (instance_at (tree_of d) path) more)
+  pub islands_below : (path more : Path) → IslandRules (instance_at (instance_at (tree_of d) path) more)
   islands_below path more = subst IslandRules (sym (joined (tree_of d) path more)) (islands (path ++ more))
 
   pub codes_at : (path : Path) → IsRegion (Coded.machine (coded_control (instance_at (tree_of d) path))) (Coded.coding (coded_control (instance_at (tree_of d) path)))

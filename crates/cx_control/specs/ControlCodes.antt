@@ -13,7 +13,7 @@ use Rattle.cx_meaning.specs.Calls.{called}
 use Rattle.cx_laws.specs.Samples.{Samples, form_ifs, ifs_of, ifs_in}
 use Rattle.cx_lockstep.specs.Worlds.{Control, At}
 use Rattle.cx_control.specs.Codings.{at_fine}
-use Rattle.cx_control.specs.Sampling.{within_length, behind_length, taken, form_now, statement_now, parts_now, arms_now}
+use Rattle.cx_control.specs.Sampling.{within_length, behind_length, taken, form_now, statement_now, parts_now, arms_now, where_so}
 use Rattle.cx_control.specs.Spots.{Kept}
 use Rattle.cx_control.specs.Leaves.{Coded, InIsland, Cycle, LastTurn, no_samples, island_start, sampled_now, island_step, island_machine, called_machine, kind_machine}
 use Rattle.cx_control.specs.Controls.{bit, island_other, island_place, IsFineCycle, island_fine, island_coding, called_coding, kind_coding}
@@ -38,8 +38,8 @@ module _ (part : PlainComponent) (now : PortRef → Bool) (kept : Samples) where
     form_beyond (StaticPar length arms) n live m beyond = arms_beyond arms n live m beyond
     form_beyond (StaticIf length test a b) n live m beyond =
         choose_later (taken (now test.port) (kept n) live) _ (nat_eq m n) (ne_eqb m n (λ e. absurd (omega arith)))
-        (choose_later (statement_now part now kept a (suc n) live m) _ (nat_lt m (suc n + ifs_of a)) (le-ltb m (suc n + ifs_of a) (omega arith))
-        (statement_beyond b (suc n + ifs_of a) live m (omega arith)))
+        (choose_later (statement_now part now kept a (suc n) (where_so (taken (now test.port) (kept n) live) live) m) _ (nat_lt m (suc n + ifs_of a)) (le-ltb m (suc n + ifs_of a) (omega arith))
+        (statement_beyond b (suc n + ifs_of a) (where_so (not (taken (now test.port) (kept n) live)) live) m (omega arith)))
     form_beyond (StaticRepeat length count a) n live m beyond = statement_beyond a n (option_map (λ j. j % length_of part a) live) m beyond
     form_beyond (Timed k) n live m beyond = refl
 

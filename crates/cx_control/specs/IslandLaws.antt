@@ -1,6 +1,6 @@
 -- THE LAW OF AN ISLAND: its machine does what the island means.
 use Rattle.std.proofs.Common.{◌≡◌, ℕ, zero, suc, ◌+◌, ◌<◌, inl, inr, Bool, true, false, nat_lt, List, [], Option, Some, None, if◌then◌else◌, refl, sym, ap, ◌∙◌, subst, arith}
-use Rattle.std.specs.Prelude.{option_map, option_and_then, nat_eq, ◌%◌}
+use Rattle.std.specs.Prelude.{not, option_map, option_and_then, nat_eq, ◌%◌}
 use Rattle.std.proofs.Math.Path.{fun_ext}
 use Rattle.std.proofs.lemmas.Bool.{lt-ltb, le-ltb}
 use Rattle.cx_text.specs.declared.places.Place.{Place}
@@ -30,7 +30,7 @@ use Rattle.cx_lockstep.specs.Worlds.{Control, At, Done, Machine, edge_of, edge, 
 use Rattle.cx_lockstep.specs.Doing.{Meets, Does}
 use Rattle.cx_lockstep.specs.FollowLaws.{meets_done}
 use Rattle.cx_lockstep.specs.TurnLaws.{meets_cycle}
-use Rattle.cx_control.specs.Sampling.{within_length, behind_length, taken, form_now, statement_now, parts_now, arms_now, samples_now}
+use Rattle.cx_control.specs.Sampling.{within_length, behind_length, taken, where_so, form_now, statement_now, parts_now, arms_now, samples_now}
 use Rattle.cx_control.specs.SamplingLaws.{first_sampled, next_sampled}
 use Rattle.cx_control.specs.Spots.{Spot, Holds, Kept, cells_in, shown, spots_of, reads_spot}
 use Rattle.cx_control.specs.Numbers.{spot_idle, world_of, Rests}
@@ -57,12 +57,12 @@ module _ (part : PlainComponent) (one other : PortRef → Bool) (kept : Samples)
     form_same context (StaticSeq length parts) place n live m same = parts_same parts n live m (λ v i. same v (inr i))
     form_same context (StaticPar length arms) place n live m same = arms_same arms n live m (λ v i. same v (inr i))
     form_same context (StaticIf length test a b) place n live m same =
-        ap (λ x. if nat_eq m n then taken x (kept n) live else (if nat_lt m (suc n + ifs_of a) then statement_now part one kept a (suc n) live m else statement_now part one kept b (suc n + ifs_of a) live m))
+        ap (λ x. if nat_eq m n then taken x (kept n) live else (if nat_lt m (suc n + ifs_of a) then statement_now part one kept a (suc n) (where_so (taken x (kept n) live) live) m else statement_now part one kept b (suc n + ifs_of a) (where_so (not (taken x (kept n) live)) live) m))
         (same (record { context = context; form = StaticIf length test a b; place = place }) (inl refl) test refl)
-        ∙ ap (λ x. if nat_eq m n then taken (other test.port) (kept n) live else (if nat_lt m (suc n + ifs_of a) then x else statement_now part one kept b (suc n + ifs_of a) live m))
-        (statement_same Branch a (suc n) live m (λ v i. same v (inr (in_left (visit Branch a) (visit Branch b) v i))))
-        ∙ ap (λ x. if nat_eq m n then taken (other test.port) (kept n) live else (if nat_lt m (suc n + ifs_of a) then statement_now part other kept a (suc n) live m else x))
-        (statement_same Branch b (suc n + ifs_of a) live m (λ v i. same v (inr (in_right (visit Branch a) (visit Branch b) v i))))
+        ∙ ap (λ x. if nat_eq m n then taken (other test.port) (kept n) live else (if nat_lt m (suc n + ifs_of a) then x else statement_now part one kept b (suc n + ifs_of a) (where_so (not (taken (other test.port) (kept n) live)) live) m))
+        (statement_same Branch a (suc n) (where_so (taken (other test.port) (kept n) live) live) m (λ v i. same v (inr (in_left (visit Branch a) (visit Branch b) v i))))
+        ∙ ap (λ x. if nat_eq m n then taken (other test.port) (kept n) live else (if nat_lt m (suc n + ifs_of a) then statement_now part other kept a (suc n) (where_so (taken (other test.port) (kept n) live) live) m else x))
+        (statement_same Branch b (suc n + ifs_of a) (where_so (not (taken (other test.port) (kept n) live)) live) m (λ v i. same v (inr (in_right (visit Branch a) (visit Branch b) v i))))
     form_same context (StaticRepeat length count a) place n live m same = statement_same InStatic a n (option_map (λ j. j % length_of part a) live) m (λ v i. same v (inr i))
     form_same context (Timed k) place n live m same = refl
 

@@ -47,7 +47,7 @@ abbrev pub KeepsBelow : Cells → ℕ → Type 0
 KeepsBelow cells c = Keeps (coded_below cells c) (good_below cells c) (λ path d. idle_below cells c path d) (λ path n v. number_idle_below cells c path n v)
 
 -- below what is no component numbers stay
-number_stays : (cells : Cells) (c : ℕ) → ((child : Instance) → cell_at cells c ≡ OfInstance child → ⊥) → (path : Path) (n v : ℕ) → number_idle_below cells c path n v ≡ v
+pub number_stays : (cells : Cells) (c : ℕ) → ((child : Instance) → cell_at cells c ≡ OfInstance child → ⊥) → (path : Path) (n v : ℕ) → number_idle_below cells c path n v ≡ v
 number_stays no_cells c none path n v = refl
 number_stays (a_primitive row rest) zero none path n v = refl
 number_stays (a_primitive row rest) (suc c) none path n v = number_stays rest c none path n v
@@ -55,7 +55,7 @@ number_stays (an_instance child rest) zero none path n v = absurd (none child re
 number_stays (an_instance child rest) (suc c) none path n v = number_stays rest c none path n v
 
 -- a cell is a component's, or it is not
-is_child : (cells : Cells) (c : ℕ) → ((child : Instance) × (cell_at cells c ≡ OfInstance child)) ⊎ ((child : Instance) → cell_at cells c ≡ OfInstance child → ⊥)
+pub is_child : (cells : Cells) (c : ℕ) → ((child : Instance) × (cell_at cells c ≡ OfInstance child)) ⊎ ((child : Instance) → cell_at cells c ≡ OfInstance child → ⊥)
 is_child no_cells c = inr (λ child e. absurd (cc))
 is_child (a_primitive row rest) zero = inr (λ child e. absurd (cc))
 is_child (a_primitive row rest) (suc c) = is_child rest c
@@ -79,7 +79,7 @@ module _ (part : PlainComponent) (cells : Cells) (control : ControlRules (Node p
   abbrev kid : ℕ → Coded
   kid c = coded_below cells c
 
-  root : Stands i part.control
+  pub root : Stands i part.control
   root = stands_at i part.control refl
 
   abbrev spots : PlainStatement → Spot → Bool
@@ -88,7 +88,7 @@ module _ (part : PlainComponent) (cells : Cells) (control : ControlRules (Node p
   abbrev seen_spots : PlainStatement → Spot → Type 0
   seen_spots t = reads_spot (Reads part t)
 
-  law : AreLawful (world_of i) (Rests i) (leaves i (control_below cells)) P spots seen_spots (Stands i)
+  pub law : AreLawful (world_of i) (Rests i) (leaves i (control_below cells)) P spots seen_spots (Stands i)
   law = leaves_are_lawful part cells control islands below
 
   abbrev GoodOf : List (Running P) → Bare → Type 0
@@ -98,35 +98,35 @@ module _ (part : PlainComponent) (cells : Cells) (control : ControlRules (Node p
   CallingOf g c b = Calling i (coded_below cells) (good_below cells) g c b
 
   -- the leaves that run stand in the control
-  run_stands : (k : Control M.Place) (r : Running P) → In (at_control (running P part.control) k) r → Stands i (leaf_of P r)
+  pub run_stands : (k : Control M.Place) (r : Running P) → In (at_control (running P part.control) k) r → Stands i (leaf_of P r)
   run_stands (At p) r m = IsWithin.stands (runs_within (world_of i) (Rests i) (leaves i (control_below cells)) P spots seen_spots (Stands i) law r part.control root p m)
   run_stands Done r m = absurd m
 
-  run_leaf : (k : Control M.Place) (r : Running P) → In (at_control (running P part.control) k) r → IsLeaf P r
+  pub run_leaf : (k : Control M.Place) (r : Running P) → In (at_control (running P part.control) k) r → IsLeaf P r
   run_leaf (At p) r m = runs_leaf P r part.control p m
   run_leaf Done r m = absurd m
 
   -- A CALL
   module _ (g : ℕ) (place : Place) (c : ℕ) (stands : Stands i (Placed (Enable g) place)) (e : called i g ≡ Some c) where
-    call : CallRules i g c
+    pub call : CallRules i g c
     call = control.calls g place c stands e
 
-    its_child : Instance
+    pub its_child : Instance
     its_child = (called_child cells (group_at part g).assigns c e).0
 
-    at_child : cell_at cells c ≡ OfInstance (called_child cells (group_at part g).assigns c e).0
+    pub at_child : cell_at cells c ≡ OfInstance (called_child cells (group_at part g).assigns c e).0
     at_child = (called_child cells (group_at part g).assigns c e).1
 
-    it : ChildLaws cells c (kid c)
+    pub it : ChildLaws cells c (kid c)
     it = below c (called_child cells (group_at part g).assigns c e).0 at_child
 
-    keeps : KeepsBelow cells c
+    pub keeps : KeepsBelow cells c
     keeps = kept c (called_child cells (group_at part g).assigns c e).0 at_child
 
-    bank : IsBank (Coded.machine (kid c)) (region_bank (Coded.coding (kid c)))
+    pub bank : IsBank (Coded.machine (kid c)) (region_bank (Coded.coding (kid c)))
     bank = region_bank_is (Coded.machine (kid c)) (Coded.coding (kid c)) it.region.coded it.region.front
 
-    drives_it : drives part (Placed (Enable g) place) c ≡ true
+    pub drives_it : drives part (Placed (Enable g) place) c ≡ true
     drives_it = ap (λ b. b || false) (called_drives cells (group_at part g).assigns c e)
 
     hole_opens : (b : Bare) → captures i g ≡ true → ((d : ℕ) → leaf_drives part (Enable g) d ≡ true → (d ≡ c → ⊥) → idle_at i (d ∷ []) (b.cell (d ∷ [])) ≡ b.cell (d ∷ []))
@@ -144,7 +144,7 @@ module _ (part : PlainComponent) (cells : Cells) (control : ControlRules (Node p
         hole
 
     -- at its end an idle edge leaves nothing under way
-    end_rests : (b : Bare) → ((n : ℕ) → b.number c [] n ≡ code_of (kid c) Done n) → good_below cells c Done (bare_under c b) → (path : Path) → idle_below cells c path (b.cell (c ∷ path)) ≡ b.cell (c ∷ path)
+    pub end_rests : (b : Bare) → ((n : ℕ) → b.number c [] n ≡ code_of (kid c) Done n) → good_below cells c Done (bare_under c b) → (path : Path) → idle_below cells c path (b.cell (c ∷ path)) ≡ b.cell (c ∷ path)
     end_rests b code good path = AllRest.cells (keeps.ended (bare_under c b) good) path
 
     end_numbers : (b : Bare) → ((n : ℕ) → b.number c [] n ≡ code_of (kid c) Done n) → good_below cells c Done (bare_under c b) → (path : Path) (n : ℕ) → number_idle_below cells c path n (b.number c path n) ≡ 0
@@ -152,7 +152,7 @@ module _ (part : PlainComponent) (cells : Cells) (control : ControlRules (Node p
     end_numbers b code good [] (suc n) = ap (number_idle_below cells c [] (suc n)) (code (suc n)) ∙ number_idle_below-zero cells c [] (suc n)
     end_numbers b code good (d ∷ path) n = ap (number_idle_below cells c (d ∷ path) n) (AllRest.numbers (keeps.ended (bare_under c b) good) d path n) ∙ number_idle_below-zero cells c (d ∷ path) n
 
-    decoded : (s : Kept) (k : Control (Machine.Place (Coded.machine (kid c)))) → at_fine (Coding.IsFine (Coded.coding (kid c))) k → ((n : ℕ) → s (Number (c ∷ []) n) ≡ code_of (kid c) k n) → child_at (kid c) c s ≡ k
+    pub decoded : (s : Kept) (k : Control (Machine.Place (Coded.machine (kid c)))) → at_fine (Coding.IsFine (Coded.coding (kid c))) k → ((n : ℕ) → s (Number (c ∷ []) n) ≡ code_of (kid c) k n) → child_at (kid c) c s ≡ k
     decoded s k fine code = ap (Bank.decode (region_bank (Coded.coding (kid c)))) (fun_ext code) ∙ bank.decoded k fine
 
   -- where all rests each list of leaves that stand is good
@@ -183,15 +183,15 @@ module _ (part : PlainComponent) (cells : Cells) (control : ControlRules (Node p
     abbrev Quiet : ℕ → Type 0
     Quiet c = (r : Running P) → In R r → drives part (leaf_of P r) c ≡ true → (q : Running P) → In (leaf_next P r s) q → ⊥
 
-    group_done : (g : ℕ) (place : Place) (k : Control (Machine.Place (LeafMachines.enable P g))) → ((q : Running P) → In (group_next P g place k) q → ⊥) → is_done k ≡ true
+    pub group_done : (g : ℕ) (place : Place) (k : Control (Machine.Place (LeafMachines.enable P g))) → ((q : Running P) → In (group_next P g place k) q → ⊥) → is_done k ≡ true
     group_done g place (At stand) never = absurd (never (AGroup g place stand) (inl refl))
     group_done g place Done never = refl
 
-    island_done : (form : PlainForm) (place : Place) (k : Control (Machine.Place (LeafMachines.island P form))) → ((q : Running P) → In (island_next P form place k) q → ⊥) → is_done k ≡ true
+    pub island_done : (form : PlainForm) (place : Place) (k : Control (Machine.Place (LeafMachines.island P form))) → ((q : Running P) → In (island_next P form place k) q → ⊥) → is_done k ≡ true
     island_done form place (At stand) never = absurd (never (AnIsland form place stand) (inl refl))
     island_done form place Done never = refl
 
-    ends_none : (r : Running P) → ((q : Running P) → In (leaf_next P r s) q → ⊥) → (x : Spot) → leaf_writes P r s x ≡ None
+    pub ends_none : (r : Running P) → ((q : Running P) → In (leaf_next P r s) q → ⊥) → (x : Spot) → leaf_writes P r s x ≡ None
     ends_none (AGroup g place stand) never x = IsQuietEnd.nothing (kind_ends i (coded_below cells) s g (group_at part g).kind stand) (group_done g place _ never) x
     ends_none (AnIsland form place stand) never x = IsQuietEnd.nothing (island_ends i (coded_below cells) s form stand) (island_done form place _ never) x
 
@@ -199,7 +199,7 @@ module _ (part : PlainComponent) (cells : Cells) (control : ControlRules (Node p
     group_of (AGroup g place stand) = Some g
     group_of (AnIsland form place stand) = None
 
-    group_goes : (g : ℕ) (place : Place) (k : Control (Machine.Place (LeafMachines.enable P g))) (q : Running P) → In (group_next P g place k) q → (is_done k ≡ false) × (leaf_of P q ≡ Placed (Enable g) place) × (group_of q ≡ Some g)
+    pub group_goes : (g : ℕ) (place : Place) (k : Control (Machine.Place (LeafMachines.enable P g))) (q : Running P) → In (group_next P g place k) q → (is_done k ≡ false) × (leaf_of P q ≡ Placed (Enable g) place) × (group_of q ≡ Some g)
     group_goes g place (At stand) q (inl e) = (refl, ap (leaf_of P) (sym e), ap group_of (sym e))
     group_goes g place (At stand) q (inr m) = absurd m
     group_goes g place Done q m = absurd m
@@ -214,7 +214,7 @@ module _ (part : PlainComponent) (cells : Cells) (control : ControlRules (Node p
     same_leaf (AnIsland form place stand) q m = (island_goes form place _ q m).0
 
     -- a driver of a cell among leaves, and one that goes on
-    driver_of : (c : ℕ) (rs : List (Running P)) → ((r : Running P) × In rs r × (drives part (leaf_of P r) c ≡ true)) ⊎ ((r : Running P) → In rs r → drives part (leaf_of P r) c ≡ false)
+    pub driver_of : (c : ℕ) (rs : List (Running P)) → ((r : Running P) × In rs r × (drives part (leaf_of P r) c ≡ true)) ⊎ ((r : Running P) → In rs r → drives part (leaf_of P r) c ≡ false)
     driver_of c [] = inr (λ r m. absurd m)
     driver_of c (r ∷ rs) = either (drives part (leaf_of P r) c) refl (driver_of c rs)
       where
@@ -253,17 +253,17 @@ module _ (part : PlainComponent) (cells : Cells) (control : ControlRules (Node p
         either false d l f (inr later) = inr (with_first (λ q e m. true_false (drives part (leaf_of P r) c) e d) later)
 
     -- WHAT IS WRITTEN
-    written_by : (x : Spot) (r : Running P) → In R r → spots (leaf_of P r) x ≡ true → M.writes p s x ≡ leaf_writes P r s x
+    pub written_by : (x : Spot) (r : Running P) → In R r → spots (leaf_of P r) x ≡ true → M.writes p s x ≡ leaf_writes P r s x
     written_by x r m d = Alone.writes_it (alone (world_of i) (Rests i) (leaves i (control_below cells)) P spots seen_spots (Stands i) law s x r d part.control root p m)
 
     one_next : (k : Control M.Place) (x : Spot) (r q : Running P) → In (at_control (running P part.control) k) r → In (at_control (running P part.control) k) q → spots (leaf_of P r) x ≡ true → spots (leaf_of P q) x ≡ true → r ≡ q
     one_next (At p2) x r q m n d f = Alone.is_only (alone (world_of i) (Rests i) (leaves i (control_below cells)) P spots seen_spots (Stands i) law s x r d part.control root p2 m) q n f
     one_next Done x r q m n d f = absurd m
 
-    none_written : (x : Spot) → ((r : Running P) → In R r → spots (leaf_of P r) x ≡ false) → M.writes p s x ≡ None
+    pub none_written : (x : Spot) → ((r : Running P) → In R r → spots (leaf_of P r) x ≡ false) → M.writes p s x ≡ None
     none_written x free = writes_none (world_of i) (Rests i) (leaves i (control_below cells)) P spots seen_spots (Stands i) law s x part.control root p free
 
-    quiet_writes : (c : ℕ) → Quiet c → (x : Spot) → ((r : Running P) → spots (leaf_of P r) x ≡ drives part (leaf_of P r) c) → M.writes p s x ≡ None
+    pub quiet_writes : (c : ℕ) → Quiet c → (x : Spot) → ((r : Running P) → spots (leaf_of P r) x ≡ drives part (leaf_of P r) c) → M.writes p s x ≡ None
     quiet_writes c quiet x at_c = either (driver_of c R)
       where
         either : ((r : Running P) × In R r × (drives part (leaf_of P r) c ≡ true)) ⊎ ((r : Running P) → In R r → drives part (leaf_of P r) c ≡ false) → M.writes p s x ≡ None
@@ -275,10 +275,10 @@ module _ (part : PlainComponent) (cells : Cells) (control : ControlRules (Node p
 
     -- CALLS in this cycle
     module _ (g : ℕ) (place : Place) (stand : Machine.Place (LeafMachines.enable P g)) (c : ℕ) (m : In R (AGroup g place stand)) (e : called i g ≡ Some c) where
-      its_stands : Stands i (Placed (Enable g) place)
+      pub its_stands : Stands i (Placed (Enable g) place)
       its_stands = run_stands (At p) (AGroup g place stand) m
 
-      acts : ActsAs i (coded_below cells) g c s (LeafMachines.enable P g) stand
+      pub acts : ActsAs i (coded_below cells) g c s (LeafMachines.enable P g) stand
       acts = kind_acts i (coded_below cells) g c s (group_at part g).kind (CallRules.plain (call g place c its_stands e)) e stand
 
       abbrev hole : Bool
@@ -287,11 +287,11 @@ module _ (part : PlainComponent) (cells : Cells) (control : ControlRules (Node p
       abbrev inputs : Held
       inputs = inputs_now i (kid c) g c (captures i g) s
 
-      hole_at : (k : Control (Machine.Place (Coded.machine (kid c)))) (b : Bool) → child_at (kid c) c s ≡ k → captures i g ≡ b → hole ≡ (if b then captured_now i (kid c) g c (captures i g) s else is_done k)
+      pub hole_at : (k : Control (Machine.Place (Coded.machine (kid c)))) (b : Bool) → child_at (kid c) c s ≡ k → captures i g ≡ b → hole ≡ (if b then captured_now i (kid c) g c (captures i g) s else is_done k)
       hole_at k b at caps =
           ap (λ q. hole_now i (kid c) g c (captures i g) q s) at ∙ ap (λ t. if t then captured_now i (kid c) g c (captures i g) s else is_done k) caps
 
-      open_low : ((held : Held) → truth_of (seen i held (group g) (cells_in s) (ports.Done g)) ≡ One → ⊥) → captured_now i (kid c) g c (captures i g) s ≡ true → ⊥
+      pub open_low : ((held : Held) → truth_of (seen i held (group g) (cells_in s) (ports.Done g)) ≡ One → ⊥) → captured_now i (kid c) g c (captures i g) s ≡ true → ⊥
       open_low is_open is_set = is_open (held_in s) (is_one_of (truth_of (seen i (held_in s) (group g) (cells_in s) (ports.Done g))) is_set)
 
       -- where it ends its numbers go to 0
@@ -313,16 +313,16 @@ module _ (part : PlainComponent) (cells : Cells) (control : ControlRules (Node p
 
       -- IT GOES ON
       module _ (goes_on : hole ≡ false) where
-        writes_so : (x : Spot) → spots (Placed (Enable g) place) x ≡ true → M.writes p s x ≡ child_writes i (kid c) g c (captures i g) (child_at (kid c) c s) s x
+        pub writes_so : (x : Spot) → spots (Placed (Enable g) place) x ≡ true → M.writes p s x ≡ child_writes i (kid c) g c (captures i g) (child_at (kid c) c s) s x
         writes_so x d =
             written_by x (AGroup g place stand) m d ∙ acts.writes x ∙ ap (λ b. if b then None else child_writes i (kid c) g c (captures i g) (child_at (kid c) c s) s x) goes_on
 
-        no_fault : child_faults i (kid c) g c (captures i g) (child_at (kid c) c s) s ≡ false
+        pub no_fault : child_faults i (kid c) g c (captures i g) (child_at (kid c) c s) s ≡ false
         no_fault =
             sym (ap (λ b. if b then false else child_faults i (kid c) g c (captures i g) (child_at (kid c) c s) s) goes_on)
             ∙ sym acts.faults ∙ no_faults P s (AGroup g place stand) part.control p ok m
 
-        here : {A : Type 0} (v : Option A) → (if just c c then v else None) ≡ v
+        pub here : {A : Type 0} (v : Option A) → (if just c c then v else None) ≡ v
         here v = ap (λ b. if b then v else None) (just_self c)
 
         -- the child moves

@@ -1,6 +1,6 @@
--- The samples of an island as hardware takes them: every static if that begins takes its port, in branches that are not taken
--- too, and keeps it until it begins again.
-use Rattle.std.specs.Prelude.{ℕ, zero, suc, ◌+◌, ◌-◌, ◌%◌, nat_lt, nat_eq, Bool, false, Option, Some, None, option_and_then, option_map, if◌then◌else◌}
+-- The samples of an island as hardware takes them: a static if that begins takes its port, where those around it go to it, and
+-- keeps it until it begins again.
+use Rattle.std.specs.Prelude.{ℕ, zero, suc, ◌+◌, ◌-◌, ◌%◌, nat_lt, nat_eq, Bool, false, not, Option, Some, None, option_and_then, option_map, if◌then◌else◌}
 use Rattle.cx_meaning.specs.declared.ports.PortRef.{PortRef}
 use Rattle.cx_meaning.specs.Designs.{PlainComponent, PlainForm, Empty, Enable, Seq, Par, If, While, Repeat, StaticSeq, StaticPar, StaticIf, StaticRepeat, Timed, PlainStatement, Placed, PlainStatements, no_statements, a_statement}
 use Rattle.cx_meaning.specs.Islands.{length_of}
@@ -20,6 +20,10 @@ taken now kept None = kept
 taken now kept (Some zero) = now
 taken now kept (Some (suc j)) = kept
 
+-- a branch is live where its static if goes to it
+abbrev pub where_so : Bool → Option ℕ → Option ℕ
+where_so so live = if so then live else None
+
 module _ (part : PlainComponent) (now : PortRef → Bool) (kept : Samples) where
   abbrev mutual
     -- sample m, of a statement whose first static if has number n and which is at an offset, where it is live
@@ -35,7 +39,8 @@ module _ (part : PlainComponent) (now : PortRef → Bool) (kept : Samples) where
     form_now (StaticPar length arms) n live m = arms_now arms n live m
     form_now (StaticIf length test a b) n live m =
         if nat_eq m n then taken (now test.port) (kept n) live
-        else if nat_lt m (suc n + ifs_of a) then statement_now a (suc n) live m else statement_now b (suc n + ifs_of a) live m
+        else if nat_lt m (suc n + ifs_of a) then statement_now a (suc n) (where_so (taken (now test.port) (kept n) live) live) m
+        else statement_now b (suc n + ifs_of a) (where_so (not (taken (now test.port) (kept n) live)) live) m
     form_now (StaticRepeat length count a) n live m = statement_now a n (option_map (λ j. j % length_of part a) live) m
     form_now (Timed k) n live m = false
 

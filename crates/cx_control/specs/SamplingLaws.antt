@@ -1,5 +1,5 @@
 -- THE SAMPLES THAT HARDWARE KEEPS are what the samples of an island have to be, in every cycle.
-use Rattle.std.proofs.Common.{◌≡◌, ℕ, zero, suc, ◌+◌, ◌-◌, ◌*◌, ◌%◌, ◌<◌, ◌≤◌, ⊎_elim, Bool, false, nat_lt, nat_eq, Some, None, if◌then◌else◌, refl, sym, ap, ◌∙◌, subst, arith}
+use Rattle.std.proofs.Common.{◌≡◌, ℕ, zero, suc, ◌+◌, ◌-◌, ◌*◌, ◌%◌, ◌<◌, ◌≤◌, ⊎_elim, Bool, true, false, not, nat_lt, nat_eq, Some, None, if◌then◌else◌, refl, sym, ap, ◌∙◌, subst, arith}
 use Rattle.std.specs.Prelude.{option_and_then}
 use Rattle.std.proofs.lemmas.Bool.{cases_lt, lt-ltb, le-ltb, eq-eqb, ne_eqb}
 use Rattle.std.proofs.lemmas.Nat.{mod_below}
@@ -121,46 +121,56 @@ module _ (part : PlainComponent) (h later : History) (t next : ℕ) (now : PortR
     form_step (StaticSeq length parts) n j less k = parts_step parts n j less k
     form_step (StaticPar length arms) n j less k = arms_step arms n j k
     form_step (StaticIf length test a b) n zero less k = (
-      (λ p. own ∙ taken_now test.port ∙ ap (later test.port) first),
-      (λ e l. statement_alike part later next (statement_now part now kept a (suc n) (Some 0)) _ a (suc n) 0 (λ m f g. sym (in_first m f g)) (statement_step a (suc n) 0 l tt)),
-      (λ e l. statement_alike part later next (statement_now part now kept b (suc n + ifs_of a) (Some 0)) _ b (suc n + ifs_of a) 0 (λ m f g. sym (in_second m f)) (statement_step b (suc n + ifs_of a) 0 l tt)),
+      (λ p. own ∙ so),
+      (λ e l. statement_alike part later next (statement_now part now kept a (suc n) (Some 0)) _ a (suc n) 0 (λ m f g. sym (in_first (so ∙ e) m f g)) (statement_step a (suc n) 0 l tt)),
+      (λ e l. statement_alike part later next (statement_now part now kept b (suc n + ifs_of a) (Some 0)) _ b (suc n + ifs_of a) 0 (λ m f g. sym (in_second (so ∙ e) m f)) (statement_step b (suc n + ifs_of a) 0 l tt)),
     )
       where
         first : next ≡ next - 0
         first = omega arith
 
+        so : now test.port ≡ later test.port (next - 0)
+        so = taken_now test.port ∙ ap (later test.port) first
+
         own : form_now part now kept (StaticIf length test a b) n (Some 0) n ≡ now test.port
-        own = ap (λ c. if c then now test.port else (if nat_lt n (suc n + ifs_of a) then statement_now part now kept a (suc n) (Some 0) n else statement_now part now kept b (suc n + ifs_of a) (Some 0) n)) (eq-eqb n n refl)
+        own = ap (λ c. if c then now test.port else (if nat_lt n (suc n + ifs_of a) then statement_now part now kept a (suc n) (if now test.port then Some 0 else None) n else statement_now part now kept b (suc n + ifs_of a) (if not (now test.port) then Some 0 else None) n)) (eq-eqb n n refl)
 
-        in_first : (m : ℕ) → suc n ≤ m → m < suc n + ifs_of a → form_now part now kept (StaticIf length test a b) n (Some 0) m ≡ statement_now part now kept a (suc n) (Some 0) m
-        in_first m f g =
-            ap (λ c. if c then now test.port else (if nat_lt m (suc n + ifs_of a) then statement_now part now kept a (suc n) (Some 0) m else statement_now part now kept b (suc n + ifs_of a) (Some 0) m)) (other_if m n (omega arith))
-            ∙ ap (λ c. if c then statement_now part now kept a (suc n) (Some 0) m else statement_now part now kept b (suc n + ifs_of a) (Some 0) m) (lt-ltb m (suc n + ifs_of a) g)
+        in_first : now test.port ≡ true → (m : ℕ) → suc n ≤ m → m < suc n + ifs_of a → form_now part now kept (StaticIf length test a b) n (Some 0) m ≡ statement_now part now kept a (suc n) (Some 0) m
+        in_first on m f g =
+            ap (λ c. if c then now test.port else (if nat_lt m (suc n + ifs_of a) then statement_now part now kept a (suc n) (if now test.port then Some 0 else None) m else statement_now part now kept b (suc n + ifs_of a) (if not (now test.port) then Some 0 else None) m)) (other_if m n (omega arith))
+            ∙ ap (λ c. if c then statement_now part now kept a (suc n) (if now test.port then Some 0 else None) m else statement_now part now kept b (suc n + ifs_of a) (if not (now test.port) then Some 0 else None) m) (lt-ltb m (suc n + ifs_of a) g)
+            ∙ ap (λ c. statement_now part now kept a (suc n) (if c then Some 0 else None) m) on
 
-        in_second : (m : ℕ) → suc n + ifs_of a ≤ m → form_now part now kept (StaticIf length test a b) n (Some 0) m ≡ statement_now part now kept b (suc n + ifs_of a) (Some 0) m
-        in_second m f =
-            ap (λ c. if c then now test.port else (if nat_lt m (suc n + ifs_of a) then statement_now part now kept a (suc n) (Some 0) m else statement_now part now kept b (suc n + ifs_of a) (Some 0) m)) (other_if m n (omega arith))
-            ∙ ap (λ c. if c then statement_now part now kept a (suc n) (Some 0) m else statement_now part now kept b (suc n + ifs_of a) (Some 0) m) (le-ltb m (suc n + ifs_of a) f)
+        in_second : now test.port ≡ false → (m : ℕ) → suc n + ifs_of a ≤ m → form_now part now kept (StaticIf length test a b) n (Some 0) m ≡ statement_now part now kept b (suc n + ifs_of a) (Some 0) m
+        in_second off m f =
+            ap (λ c. if c then now test.port else (if nat_lt m (suc n + ifs_of a) then statement_now part now kept a (suc n) (if now test.port then Some 0 else None) m else statement_now part now kept b (suc n + ifs_of a) (if not (now test.port) then Some 0 else None) m)) (other_if m n (omega arith))
+            ∙ ap (λ c. if c then statement_now part now kept a (suc n) (if now test.port then Some 0 else None) m else statement_now part now kept b (suc n + ifs_of a) (if not (now test.port) then Some 0 else None) m) (le-ltb m (suc n + ifs_of a) f)
+            ∙ ap (λ c. statement_now part now kept b (suc n + ifs_of a) (if not c then Some 0 else None) m) off
     form_step (StaticIf length test a b) n (suc j) less (late, k) = (
-      (λ p. own ∙ k.0 tt ∙ sym (same late test.port j)),
-      (λ e l. statement_alike part later next (statement_now part now kept a (suc n) (Some (suc j))) _ a (suc n) (suc j) (λ m f g. sym (in_first m f g))
+      (λ p. own ∙ so),
+      (λ e l. statement_alike part later next (statement_now part now kept a (suc n) (Some (suc j))) _ a (suc n) (suc j) (λ m f g. sym (in_first (so ∙ e) m f g))
           (statement_step a (suc n) (suc j) l (late, k.1 (sym (same late test.port j) ∙ e) (omega arith)))),
-      (λ e l. statement_alike part later next (statement_now part now kept b (suc n + ifs_of a) (Some (suc j))) _ b (suc n + ifs_of a) (suc j) (λ m f g. sym (in_second m f))
+      (λ e l. statement_alike part later next (statement_now part now kept b (suc n + ifs_of a) (Some (suc j))) _ b (suc n + ifs_of a) (suc j) (λ m f g. sym (in_second (so ∙ e) m f))
           (statement_step b (suc n + ifs_of a) (suc j) l (late, k.2 (sym (same late test.port j) ∙ e) (omega arith)))),
     )
       where
+        so : kept n ≡ later test.port (next - suc j)
+        so = k.0 tt ∙ sym (same late test.port j)
+
         own : form_now part now kept (StaticIf length test a b) n (Some (suc j)) n ≡ kept n
-        own = ap (λ c. if c then kept n else (if nat_lt n (suc n + ifs_of a) then statement_now part now kept a (suc n) (Some (suc j)) n else statement_now part now kept b (suc n + ifs_of a) (Some (suc j)) n)) (eq-eqb n n refl)
+        own = ap (λ c. if c then kept n else (if nat_lt n (suc n + ifs_of a) then statement_now part now kept a (suc n) (if kept n then Some (suc j) else None) n else statement_now part now kept b (suc n + ifs_of a) (if not (kept n) then Some (suc j) else None) n)) (eq-eqb n n refl)
 
-        in_first : (m : ℕ) → suc n ≤ m → m < suc n + ifs_of a → form_now part now kept (StaticIf length test a b) n (Some (suc j)) m ≡ statement_now part now kept a (suc n) (Some (suc j)) m
-        in_first m f g =
-            ap (λ c. if c then kept n else (if nat_lt m (suc n + ifs_of a) then statement_now part now kept a (suc n) (Some (suc j)) m else statement_now part now kept b (suc n + ifs_of a) (Some (suc j)) m)) (other_if m n (omega arith))
-            ∙ ap (λ c. if c then statement_now part now kept a (suc n) (Some (suc j)) m else statement_now part now kept b (suc n + ifs_of a) (Some (suc j)) m) (lt-ltb m (suc n + ifs_of a) g)
+        in_first : kept n ≡ true → (m : ℕ) → suc n ≤ m → m < suc n + ifs_of a → form_now part now kept (StaticIf length test a b) n (Some (suc j)) m ≡ statement_now part now kept a (suc n) (Some (suc j)) m
+        in_first on m f g =
+            ap (λ c. if c then kept n else (if nat_lt m (suc n + ifs_of a) then statement_now part now kept a (suc n) (if kept n then Some (suc j) else None) m else statement_now part now kept b (suc n + ifs_of a) (if not (kept n) then Some (suc j) else None) m)) (other_if m n (omega arith))
+            ∙ ap (λ c. if c then statement_now part now kept a (suc n) (if kept n then Some (suc j) else None) m else statement_now part now kept b (suc n + ifs_of a) (if not (kept n) then Some (suc j) else None) m) (lt-ltb m (suc n + ifs_of a) g)
+            ∙ ap (λ c. statement_now part now kept a (suc n) (if c then Some (suc j) else None) m) on
 
-        in_second : (m : ℕ) → suc n + ifs_of a ≤ m → form_now part now kept (StaticIf length test a b) n (Some (suc j)) m ≡ statement_now part now kept b (suc n + ifs_of a) (Some (suc j)) m
-        in_second m f =
-            ap (λ c. if c then kept n else (if nat_lt m (suc n + ifs_of a) then statement_now part now kept a (suc n) (Some (suc j)) m else statement_now part now kept b (suc n + ifs_of a) (Some (suc j)) m)) (other_if m n (omega arith))
-            ∙ ap (λ c. if c then statement_now part now kept a (suc n) (Some (suc j)) m else statement_now part now kept b (suc n + ifs_of a) (Some (suc j)) m) (le-ltb m (suc n + ifs_of a) f)
+        in_second : kept n ≡ false → (m : ℕ) → suc n + ifs_of a ≤ m → form_now part now kept (StaticIf length test a b) n (Some (suc j)) m ≡ statement_now part now kept b (suc n + ifs_of a) (Some (suc j)) m
+        in_second off m f =
+            ap (λ c. if c then kept n else (if nat_lt m (suc n + ifs_of a) then statement_now part now kept a (suc n) (if kept n then Some (suc j) else None) m else statement_now part now kept b (suc n + ifs_of a) (if not (kept n) then Some (suc j) else None) m)) (other_if m n (omega arith))
+            ∙ ap (λ c. if c then statement_now part now kept a (suc n) (if kept n then Some (suc j) else None) m else statement_now part now kept b (suc n + ifs_of a) (if not (kept n) then Some (suc j) else None) m) (le-ltb m (suc n + ifs_of a) f)
+            ∙ ap (λ c. statement_now part now kept b (suc n + ifs_of a) (if not c then Some (suc j) else None) m) off
     form_step (StaticRepeat length count a) n j less k = statement_step a n (j % length_of part a) (mod_below j (length_of part a) (some_cycles j count (length_of part a) less)) (round j k)
       where
         round : (i : ℕ) → Before (λ u. StatementKept Every part h t kept a n (u % length_of part a)) i → Before (StatementKept Every part h t kept a n) (i % length_of part a)

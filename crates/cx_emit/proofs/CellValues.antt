@@ -1,16 +1,15 @@
 -- What stands at the ports of a primitive cell stands at its module's, and its outputs have the values of the row.
-use Rattle.std.proofs.Common.{◌≡◌, ℕ, zero, suc, ◌+◌, ◌<◌, ◌≤◌, Bool, true, false, List, [], ◌∷◌, length, map, Option, Some, None, option_map, slice_get, refl, ap, sym, ◌∙◌, subst, arith}
-use Rattle.std.specs.Prelude.{IsSome, unwrap_or, slice_index}
+use Rattle.std.proofs.Common.{◌≡◌, ℕ, suc, ◌+◌, ◌<◌, ◌≤◌, true, List, [], length, map, Option, Some, None, option_map, slice_get, refl, ap, sym, ◌∙◌, subst, arith}
+use Rattle.std.specs.Prelude.{IsSome, unwrap_or}
 use Rattle.std.proofs.lemmas.Nat.{pow_pos}
 use Rattle.std.proofs.lemmas.Option.{slice_get-map}
 use Rattle.cx_bits.specs.BitVector.{BitVector}
 use Rattle.cx_prim.specs.CellStates.{CellState, IsState}
 use Rattle.cx_prim.specs.declared.ports.PortRow.{PortRow}
-use Rattle.cx_prim.specs.PortNames.{text_of}
-use Rattle.cx_prim.specs.Rows.{Inputs, Row, input, is_output_side, IsOfWidth, FitsPorts, IsLawful}
+use Rattle.cx_prim.specs.Rows.{Inputs, Row, input, is_output_side, IsOfWidth, IsLawful}
 use Rattle.cx_prim.specs.Table.{PrimitiveRow, row_of}
 use Rattle.cx_prim.specs.TableLaws.{row_of_lawful}
-use Rattle.cx_meaning.specs.Designs.{PlainKind, OfPrimitive, PlainCell}
+use Rattle.cx_meaning.specs.Designs.{OfPrimitive, PlainCell}
 use Rattle.cx_vtree.specs.Plain.{PlainPort, PlainModule}
 use Rattle.cx_vtree.specs.InstanceTree.{Placed}
 use Rattle.cx_vtree.specs.Meaning.{Moment, HasValue}
@@ -23,11 +22,12 @@ use Rattle.cx_emit.specs.Names.{cell_port_name, cell_module_name}
 use Rattle.cx_emit.specs.Signatures.{kind_ports}
 use Rattle.cx_emit.specs.Sources.{source_of}
 use Rattle.cx_emit.specs.Places.{cell_number}
-use Rattle.cx_emit.specs.Fits.{stand_for, IsFit, AreBuilt}
+use Rattle.cx_vmods.specs.Laws.{EachIsBuilt}
+use Rattle.cx_emit.specs.Fits.{IsFlat, stand_for}
 use Rattle.cx_emit.proofs.Evals.{value_tied}
 use Rattle.cx_emit.proofs.Standing.{tree, comp, IsPlaced, ports_of_cell, IsCell, primitive_placed, primitive_fits}
 use Rattle.cx_emit.proofs.Origins.{IsWide, port_is_wide, cell_input_tied, cell_output_ties}
-use Rattle.cx_emit.proofs.GatherLemmas.{input_within, there_within}
+use Rattle.cx_net.proofs.GatherLemmas.{input_within, there_within}
 
 -- a net of an instance has this value, which is this wide
 abbrev pub Carried : List Placed → Moment → ℕ → List ℕ → ℕ → BitVector → Type 0
@@ -39,7 +39,7 @@ zero_fits w wide =
     let some : 1 ≤ w = omega arith in
     record { same_width = refl; fits = record { some_bits = some; few_bits = wide.1; in_range = pow_pos w } }
 
-module _ (net : PlainNet) (sound : is_sound (source_of net) ≡ true) (fit : IsFit net) (built : AreBuilt) (now : Moment) (k i c : ℕ) (cell : PlainCell) (p : PrimitiveRow)
+module _ (net : PlainNet) (sound : is_sound (source_of net) ≡ true) (fit : IsFlat net) (built : EachIsBuilt) (now : Moment) (k i c : ℕ) (cell : PlainCell) (p : PrimitiveRow)
     (here : IsPlaced net sound fit k i) (there : slice_get (comp net sound fit k).cells c ≡ Some cell) (is : cell.kind ≡ OfPrimitive p) (h : IsCell net sound fit k i c cell) where
   abbrev the_tree : List Placed
   the_tree = tree net sound fit
@@ -57,7 +57,7 @@ module _ (net : PlainNet) (sound : is_sound (source_of net) ≡ true) (fit : IsF
   lawful = row_of_lawful p
 
   pub is_built : IsBuilt its_module row (stand_for p)
-  is_built = built p (primitive_fits net sound fit k i c cell p here there is).0 (cell_module_name k c)
+  is_built = built p (cell_module_name k c) (primitive_fits net sound fit k i c cell p here there is)
 
   pub cell_stands : Stands its_module the_tree j
   cell_stands = record { inner = h.inner; placed = h.place; there = h.at; is = primitive_placed net sound fit k i c cell p here there is h }

@@ -1,6 +1,5 @@
 -- What an edge sets in a component's module.
-use Rattle.std.proofs.Common.{◌≡◌, ℕ, zero, suc, ◌==◌, ◌<◌, List, [], ◌∷◌, true, false, length, map, Option, Some, None, slice_get, option_map, option_and_then, refl, ap, sym, ◌∙◌, subst, if◌then◌else◌, arith}
-use Rattle.std.specs.Option.{option_map_or}
+use Rattle.std.proofs.Common.{◌≡◌, ℕ, suc, ◌==◌, List, [], ◌∷◌, true, length, map, Option, Some, None, slice_get, option_map, option_and_then, refl, ap, sym, ◌∙◌, arith}
 use Rattle.std.proofs.lemmas.Bool.{ne_eqb, both_ways, cond-false}
 use Rattle.std.proofs.lemmas.Option.{slice_get-map, slice_get_within}
 use Rattle.cx_prim.specs.CellStates.{CellState, Stateless, Register, Memory, SequentialMemory, Multiplier, Divider, Timer, StateShape, NoState, RegisterOf, MemoryOf, SequentialMemoryOf, MultiplierOf, DividerOf, TimerOf, IsState, AreWords, words_of, with_words}
@@ -13,14 +12,14 @@ use Rattle.cx_vlaws.proofs.Fresh.{has_each}
 use Rattle.cx_vlaws.proofs.OriginLemmas.{assigned_found, assigned_none}
 use Rattle.cx_vlaws.proofs.EdgeLemmas.{edge_at_keeps}
 use Rattle.cx_net.specs.Nets.{PlainNetDriver, PlainNetComponent, PlainNet, ToRegister}
+use Rattle.cx_emit.specs.Fits.{IsFlat}
 use Rattle.cx_emit.specs.Names.{register_name}
 use Rattle.cx_emit.specs.Numbered.{numbered_from, with_numbers}
 use Rattle.cx_emit.specs.Exprs.{literal}
 use Rattle.cx_emit.specs.Chains.{chain_to}
-use Rattle.cx_emit.specs.Sources.{assign, register_reset, register_step, edge_of, source_of}
-use Rattle.cx_emit.specs.Fits.{IsFit}
+use Rattle.cx_emit.specs.Sources.{assign, register_reset, register_step, source_of}
 use Rattle.cx_emit.proofs.NumberedLemmas.{in_numbered}
-use Rattle.cx_emit.proofs.Standing.{tree, comp, own, IsPlaced}
+use Rattle.cx_emit.proofs.Standing.{tree, comp, IsPlaced}
 
 -- a set of names that are apart is found
 assigned_apart : (xs : List PlainAssign) → AreApart (map (λ a. a.name) xs) → (k : ℕ) (a : PlainAssign) → slice_get xs k ≡ Some a → assigned xs a.name ≡ Some a.value
@@ -45,7 +44,7 @@ sets-steps : (ds : List PlainNetDriver) (b : ℕ) (ws : List ℕ) → sets_in (n
 sets-steps ds b [] = refl
 sets-steps ds b (w ∷ ws) = ap (λ l. assign (register_name b) (chain_to (ToRegister b) (Named (register_name b)) ds) ∷ l) (sets-steps ds (suc b) ws)
 
-module _ (net : PlainNet) (sound : is_sound (source_of net) ≡ true) (fit : IsFit net) (k i : ℕ) (here : IsPlaced net sound fit k i) (n w : ℕ) (there : slice_get (comp net sound fit k).registers n ≡ Some w) where
+module _ (net : PlainNet) (sound : is_sound (source_of net) ≡ true) (fit : IsFlat net) (k i : ℕ) (here : IsPlaced net sound fit k i) (n w : ℕ) (there : slice_get (comp net sound fit k).registers n ≡ Some w) where
   abbrev part : PlainNetComponent
   part = comp net sound fit k
 
@@ -77,11 +76,11 @@ module _ (net : PlainNet) (sound : is_sound (source_of net) ≡ true) (fit : IsF
       ∙ in_numbered (λ n w. assign (register_name n) (chain_to (ToRegister n) (Named (register_name n)) part.drivers)) part.registers n w there)
 
 -- a state with the words of another one of its shape
-words_fit : (w c : ℕ) (d : CellState) → IsState (MemoryOf w c) d → AreWords w c (words_of d)
+pub words_fit : (w c : ℕ) (d : CellState) → IsState (MemoryOf w c) d → AreWords w c (words_of d)
 words_fit w c (Memory words done) h = h
 words_fit w c d h = absurd h
 
-sequential_words_fit : (w c : ℕ) (d : CellState) → IsState (SequentialMemoryOf w c) d → AreWords w c (words_of d)
+pub sequential_words_fit : (w c : ℕ) (d : CellState) → IsState (SequentialMemoryOf w c) d → AreWords w c (words_of d)
 sequential_words_fit w c (SequentialMemory words read_data done) h = h.0
 sequential_words_fit w c d h = absurd h
 

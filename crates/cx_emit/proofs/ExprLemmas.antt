@@ -15,10 +15,11 @@ use Rattle.cx_vtree.specs.Plain.{PlainExpr, Named, Number, Chosen}
 use Rattle.cx_vtree.specs.Operators.{operate}
 use Rattle.cx_net.specs.Nets.{PlainNetExpr, OfPort, OfRegister, OfWire, OfHole, OfGo, Fixed, Inverse, AllOf, AnyOf, Sum, Compares, PlainNetExprs, no_exprs, an_expr, PlainNetDriver, PlainNetComponent, PlainNet}
 use Rattle.cx_net.specs.NetMeaning.{Node, NetAround, truth_bit, both_known, is_true, net_expr, all_expr, any_expr, chain}
-use Rattle.cx_emit.specs.Exprs.{literal, port_expr, operator_of, expr_of, exprs_to, folded}
+use Rattle.cx_net.proofs.DriverLemmas.{AreFitDrivers}
+use Rattle.cx_emit.specs.Exprs.{literal, port_expr, operator_of, expr_of, exprs_to}
 use Rattle.cx_emit.specs.Names.{wire_name, register_name}
 use Rattle.cx_emit.specs.Chains.{is_one, before, chain_of}
-use Rattle.cx_emit.specs.Fits.{HasWidth, HasPortWidth, AreBits}
+use Rattle.cx_net.specs.NetFits.{HasWidth, HasPortWidth, AreBits}
 use Rattle.cx_emit.proofs.Evals.{IsReading}
 use Rattle.cx_emit.proofs.FoldLemmas.{Folds, last_part, a_part, folds-folded}
 
@@ -101,12 +102,7 @@ compared comparisons.Greater x y = refl
 compared comparisons.AtMost x y = opposite_bit (nat_lt y.value x.value)
 compared comparisons.AtLeast x y = opposite_bit (nat_lt x.value y.value)
 
--- drivers of a target of this width
-abbrev pub AreFitDrivers : PlainNet → PlainNetComponent → ℕ → List PlainNetDriver → Type 0
-AreFitDrivers net part w [] = Unit {0}
-AreFitDrivers net part w (d ∷ ds) = HasWidth net part d.guard 1 × HasWidth net part d.source w × AreFitDrivers net part w ds
-
-module _ (net : PlainNet) (part : PlainNetComponent) (E : PlainExpr → BitVector → Type 0) (reads : IsReading E)
+module _ (net : PlainNet) (part : PlainNetComponent) (no_holes : part.holes ≡ 0) (E : PlainExpr → BitVector → Type 0) (reads : IsReading E)
     (around : NetAround) (registers : ℕ → Option BitVector) (look : Node → Option BitVector)
     (ports_read : (p : PortRef) (w : ℕ) (v : BitVector) → HasPortWidth net part p w → net_expr around registers look (OfPort p) ≡ Some v → Reads E (port_expr p) w v)
     (registers_read : (n w : ℕ) (v : BitVector) → slice_get part.registers n ≡ Some w → registers n ≡ Some v → Reads E (Named (register_name n)) w v)
@@ -157,7 +153,7 @@ module _ (net : PlainNet) (part : PlainNetComponent) (E : PlainExpr → BitVecto
     reads_expr (OfPort p) w v h e = ports_read p w v h e
     reads_expr (OfRegister n) w v h e = registers_read n w v h e
     reads_expr (OfWire n) w v h e = wires_read n w v h e
-    reads_expr (OfHole n) w v h e = absurd h
+    reads_expr (OfHole n) w v h e = absurd (let lower = h.0 in omega arith)
     reads_expr OfGo w v h e = subst (λ u. Reads E (Named (codes "go")) u v) (sym h) (go_reads v e)
     reads_expr (Fixed b) w v h e = let same : b ≡ v = cc in subst (λ u. Reads E (Number b) w u) same (reads.number b, h)
     reads_expr (Inverse a) w v h e =

@@ -1,5 +1,5 @@
 -- Bits under one operator have the value of their fold, however they are paired.
-use Rattle.std.proofs.Common.{◌≡◌, ℕ, zero, suc, Bool, true, false, List, [], ◌∷◌, length, refl, sym, subst, if◌then◌else◌}
+use Rattle.std.proofs.Common.{◌≡◌, ℕ, zero, suc, Bool, true, false, List, [], ◌∷◌, length, sym, subst, if◌then◌else◌}
 use Rattle.std.specs.Prelude.{nat_lt}
 use Rattle.cx_bits.specs.BitVector.{BitVector}
 use Rattle.cx_vtree.specs.declared.operators.Operator.{Operator}

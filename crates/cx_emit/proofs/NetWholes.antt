@@ -1,5 +1,5 @@
 -- Where all that is there has a value, each expression has one, and a register takes what its chain gives.
-use Rattle.std.proofs.Common.{◌≡◌, ℕ, zero, suc, ◌+◌, ◌<◌, ◌==◌, Bool, true, false, List, [], ◌∷◌, ◌++◌, length, map, length-append, Option, Some, None, option_and_then, option_map, slice_get, refl, ap, sym, ◌∙◌, subst, if◌then◌else◌, arith}
+use Rattle.std.proofs.Common.{◌≡◌, ℕ, zero, suc, ◌+◌, ◌<◌, Bool, true, false, List, [], ◌∷◌, ◌++◌, length, map, length-append, Option, Some, None, option_and_then, option_map, slice_get, refl, ap, sym, ◌∙◌, subst, if◌then◌else◌, arith}
 use Rattle.std.specs.Prelude.{nat_lt}
 use Rattle.std.specs.Option.{option_map_or}
 use Rattle.std.proofs.lemmas.Bool.{lt-ltb}
@@ -16,13 +16,14 @@ use Rattle.cx_meaning.specs.Designs.{PlainKind, OfPrimitive, OfComponent, PlainC
 use Rattle.cx_meaning.specs.Instances.{Path}
 use Rattle.cx_meaning.specs.Truths.{compares}
 use Rattle.cx_net.specs.Nets.{PlainNetExpr, OfPort, OfRegister, OfWire, OfHole, OfGo, Fixed, Inverse, AllOf, AnyOf, Sum, Compares, PlainNetExprs, no_exprs, an_expr, PlainNetDriver, PlainNetComponent, PlainNet}
-use Rattle.cx_net.specs.NetTree.{NetInstance, NetCells, net_part, net_component_at, add_net_cell, net_cells_for, net_within}
-use Rattle.cx_net.specs.NetMeaning.{Node, APort, AWire, AHole, TheDone, NetAround, truth_bit, both_known, is_true, net_expr, all_expr, any_expr, chain, is_port_of, is_own_node, is_node, is_node_below}
+use Rattle.cx_net.specs.NetTree.{net_component_at, net_cells_for, net_within}
+use Rattle.cx_net.specs.NetMeaning.{Node, APort, AWire, AHole, TheDone, NetAround, truth_bit, both_known, is_true, net_expr, all_expr, any_expr, chain, is_port_of, is_own_node, is_node}
 use Rattle.cx_net.specs.NetEdges.{taken}
-use Rattle.cx_emit.specs.Places.{LeadsTo}
-use Rattle.cx_emit.specs.Fits.{signature_widths, kind_width, port_width, node_width, HasPortWidth, HasWidth, AreBits, IsFitKind, IsFit}
-use Rattle.cx_emit.proofs.ExprLemmas.{AreFitDrivers}
-use Rattle.cx_emit.proofs.DriverLemmas.{at_kind, part-within, cell-at, there-at}
+use Rattle.cx_net.specs.NetPaths.{LeadsTo}
+use Rattle.cx_net.specs.NetFits.{signature_widths, kind_width, port_width, HasPortWidth, HasWidth, AreBits, IsFitKind}
+use Rattle.cx_emit.specs.Fits.{IsFlat, node_width}
+use Rattle.cx_net.proofs.DriverLemmas.{AreFitDrivers}
+use Rattle.cx_net.proofs.DriverLemmas.{at_kind, part-within, cell-at, there-at}
 
 -- it has a value
 abbrev pub Has : Option BitVector → Type 0
@@ -34,7 +35,7 @@ has_map f o (v, e) = (f v, ap (option_map f) e)
 has_both : (f : BitVector → BitVector → BitVector) (a b : Option BitVector) → Has a → Has b → Has (both_known f a b)
 has_both f a b (x, e) (y, g) = (f x y, ap (option_and_then (λ x. option_map (f x) b)) e ∙ ap (option_map (f x)) g)
 
-module _ (net : PlainNet) (part : PlainNetComponent) (around : NetAround) (registers : ℕ → Option BitVector) (look : Node → Option BitVector)
+module _ (net : PlainNet) (part : PlainNetComponent) (no_holes : part.holes ≡ 0) (around : NetAround) (registers : ℕ → Option BitVector) (look : Node → Option BitVector)
     (nodes : (node : Node) (w : ℕ) → node_width net part node ≡ Some w → Has (look node)) (kept : (n w : ℕ) → slice_get part.registers n ≡ Some w → Has (registers n))
     (goes : Has around.go) (given : (n w : ℕ) → port_width net part (ports.Input n) ≡ Some w → Has (around.input n)) where
   abbrev value : PlainNetExpr → Option BitVector
@@ -52,7 +53,7 @@ module _ (net : PlainNet) (part : PlainNetComponent) (around : NetAround) (regis
     expr_has (OfPort p) w h = port_has p w h
     expr_has (OfRegister n) w h = kept n w h
     expr_has (OfWire n) w h = nodes (AWire n) w h
-    expr_has (OfHole n) w h = absurd h
+    expr_has (OfHole n) w h = absurd (let lower = h.0 in omega arith)
     expr_has OfGo w h = goes
     expr_has (Fixed b) w h = (b, refl)
     expr_has (Inverse a) w h = has_map complement_of (value a) (expr_has a w h)
@@ -104,7 +105,7 @@ bind_some : {A B : Type 0} (f : A → Option B) (o : Option A) (y : B) → optio
 bind_some f None y e = absurd (cc)
 bind_some f (Some x) y e = (x, refl, e)
 
-length-signature : (part : PlainNetComponent) → length (signature_widths part) ≡ 2 + length part.inputs + length part.outputs
+pub length-signature : (part : PlainNetComponent) → length (signature_widths part) ≡ 2 + length part.inputs + length part.outputs
 length-signature part =
     let inputs = length-map part.inputs (λ (d : PortDecl). d.width) in
     let outputs = length-map part.outputs (λ (d : PortDecl). d.width) in
@@ -113,7 +114,7 @@ length-signature part =
     omega arith
 
 -- a node that has a width is there
-module _ (net : PlainNet) (fit : IsFit net) where
+module _ (net : PlainNet) (fit : IsFlat net) where
   port_there : (levels : ℕ) (kind : PlainKind) (p w : ℕ) → kind_width net kind p ≡ Some w → is_port_of (at_kind (net_within net levels) kind) p ≡ true
   port_there levels (OfPrimitive primitive) p w e =
       let (port, at, same) = map_some (λ (x : PortRow). x.width) (slice_get (row_of primitive).ports p) w e in
@@ -144,6 +145,6 @@ module _ (net : PlainNet) (fit : IsFit net) where
   node_there path zero k lower lt h node w leads e = absurd (omega arith)
   node_there [] (suc levels) k lower lt h node w leads e = own_there levels k node w (subst (λ x. node_width net (net_component_at net x) node ≡ Some w) (sym leads) e)
   node_there (c ∷ path) (suc levels) k lower lt h node w (cell, child, there, is, leads) e =
-      let less : child < k = subst (IsFitKind k) is ((fit.components k lt).cells c cell there) in
+      let less : child < k = subst (IsFitKind k) is ((fit.fits.components k lt).cells c cell there) in
       there-at (net_within net levels) path (net_component_at net k).cells c cell child there is node
       ∙ node_there path levels child (omega arith) (omega arith) h node w leads e

@@ -1,6 +1,6 @@
 -- A node of a net that has a value has it in the source too.
-use Rattle.std.proofs.Common.{◌≡◌, ℕ, zero, suc, ◌+◌, ◌<◌, ◌≤◌, ◌^◌, Bool, true, false, List, [], ◌∷◌, ◌++◌, length, map, Option, Some, None, option_map, option_and_then, slice_get, refl, ap, sym, ◌∙◌, subst, if◌then◌else◌, arith}
-use Rattle.std.specs.Prelude.{IsSome, unwrap_or, codes}
+use Rattle.std.proofs.Common.{◌≡◌, ℕ, zero, suc, ◌<◌, ◌≤◌, Bool, true, false, List, [], ◌∷◌, length, Option, Some, None, option_map, option_and_then, slice_get, refl, ap, sym, ◌∙◌, subst, if◌then◌else◌, arith}
+use Rattle.std.specs.Prelude.{unwrap_or, codes}
 use Rattle.std.specs.Option.{option_map_or}
 use Rattle.cx_bits.specs.BitVector.{BitVector}
 use Rattle.cx_bits.specs.OperatorLaws.{Fits-bit_of}
@@ -16,16 +16,15 @@ use Rattle.cx_meaning.specs.declared.ports.PortRef.TheVariants as ports
 use Rattle.cx_meaning.specs.declared.kinds.PortDecl.{PortDecl}
 use Rattle.cx_meaning.specs.Designs.{PlainKind, OfPrimitive, OfComponent, PlainCell}
 use Rattle.cx_meaning.specs.Instances.{Path}
-use Rattle.cx_meaning.specs.Rows.{side_of}
 use Rattle.cx_meaning.specs.Sights.{PartPort, Go, AnInput, AnOutput, ItsDone}
-use Rattle.cx_vtree.specs.Plain.{PlainExpr, Named, Number, PlainPort, PlainModule, PlainSource}
+use Rattle.cx_vtree.specs.Plain.{PlainExpr, Named, PlainPort, PlainModule, PlainSource}
 use Rattle.cx_vtree.specs.InstanceTree.{Placed, ports_at, Given, origin_of}
 use Rattle.cx_vtree.specs.Meaning.{Moment, HasValue, Eval}
 use Rattle.cx_vtree.specs.Sound.{is_sound}
 use Rattle.cx_vlaws.proofs.Ties.{input_outside}
 use Rattle.cx_vmods.specs.Modules.{port_of, module_of}
 use Rattle.cx_vmods.specs.Built.{IsAt}
-use Rattle.cx_net.specs.Nets.{PlainNetExpr, OfPort, OfRegister, OfWire, PlainNetTarget, ToPort, ToRegister, ToWire, ToDone, PlainNetComponent, PlainNet}
+use Rattle.cx_net.specs.Nets.{OfPort, OfWire, PlainNetTarget, ToPort, ToRegister, ToWire, ToDone, PlainNetComponent, PlainNet}
 use Rattle.cx_net.specs.NetTree.{NetInstance, NetCells, no_net_cells, ARow, AChild, net_part, net_component_at, net_cells_for, net_within, net_tree}
 use Rattle.cx_net.specs.NetMeaning.{NetState, below_cell, Node, APort, AWire, AHole, TheDone, NetLook, NetAround, net_part_port, around_child, outside, truth_bit, net_expr, child_port_width, net_at_width, gather_known, zero_wide, decl_width, drivers_to, chain, registers_of, driven_node, row_node, child_node, cell_node, own_step, net_step, NetHas, by_rule}
 use Rattle.cx_emit.specs.Names.{input_name, output_name, cell_port_name, wire_name, register_name, cell_module_name}
@@ -33,17 +32,22 @@ use Rattle.cx_emit.specs.Exprs.{literal, port_expr}
 use Rattle.cx_emit.specs.Chains.{chain_to}
 use Rattle.cx_emit.specs.Signatures.{one_bit, input_port, output_port, signature_of, signature_at, kind_ports}
 use Rattle.cx_emit.specs.Sources.{source_of}
-use Rattle.cx_emit.specs.Places.{cell_number, number_at, LeadsTo, node_name}
-use Rattle.cx_emit.specs.Fits.{signature_widths, kind_width, port_width, node_width, HasPortWidth, target_width, stand_for, IsFit, AreBuilt}
+use Rattle.cx_net.specs.NetPaths.{LeadsTo}
+use Rattle.cx_emit.specs.Places.{cell_number, number_at, node_name}
+use Rattle.cx_vmods.specs.Laws.{EachIsBuilt}
+use Rattle.cx_vmods.proofs.TableLaws.{each_is_built}
+use Rattle.cx_net.specs.NetFits.{signature_widths, kind_width, port_width, HasPortWidth, target_width, IsFit, HasNoHoles}
+use Rattle.cx_emit.specs.Fits.{IsFlat, node_width, stand_for}
 use Rattle.cx_emit.specs.States.{StatesStand}
 use Rattle.cx_emit.specs.RunsAs.{ValuesCarry}
 use Rattle.cx_emit.proofs.Evals.{IsReading, eval_reading, eval_named, value_tied, value_held, value_outside, value_given}
-use Rattle.cx_emit.proofs.ExprLemmas.{Reads, reads_expr, reads_chain}
-use Rattle.cx_emit.proofs.Standing.{tree, comp, comp_there, IsPlaced, main_placed, ports_of_cell, IsCell, cell_placed, child_placed, child_lower, primitive_fits}
+use Rattle.cx_emit.proofs.ExprLemmas.{Reads, reads_chain}
+use Rattle.cx_emit.proofs.Standing.{tree, comp_there, IsPlaced, main_placed, ports_of_cell, IsCell, cell_placed, child_placed, child_lower}
 use Rattle.cx_emit.proofs.Origins.{IsWide, port_is_wide, port_given, cell_input_tied, cell_output_ties, wire_is_wide, wire_given, register_is_wide, register_is_held, output_is_wide, output_given, done_given}
-use Rattle.cx_emit.proofs.GatherLemmas.{gathered, no_inputs, length-no_inputs, input-no_inputs, side-at}
+use Rattle.cx_emit.proofs.ReadLemmas.{row_of_reads}
+use Rattle.cx_net.proofs.GatherLemmas.{gathered, no_inputs, length-no_inputs, input-no_inputs, side-at}
 use Rattle.cx_emit.proofs.CellValues.{Carried, zero_fits, text_port, inputs_stand, output_carried}
-use Rattle.cx_emit.proofs.DriverLemmas.{drivers_fit, primitive_width, component_width, at_kind, part-within, cell-at, step-at}
+use Rattle.cx_net.proofs.DriverLemmas.{drivers_fit, primitive_width, component_width, at_kind, part-within, cell-at, step-at}
 use Rattle.cx_emit.proofs.PortPlaces.{done_port, PortIs, is_go, is_input, is_output, is_done, port_is, input_place}
 
 map_some : {A B : Type 0} (f : A → B) (o : Option A) (y : B) → option_map f o ≡ Some y → (x : A) × (o ≡ Some x) × (f x ≡ y)
@@ -57,7 +61,7 @@ bind_some f (Some x) y e = (x, refl, e)
 some_is : {A : Type 0} (x y : A) → Some x ≡ Some y → x ≡ y
 some_is x y e = cc
 
-module _ (net : PlainNet) (sound : is_sound (source_of net) ≡ true) (fit : IsFit net) (built : AreBuilt) (now : Moment) where
+module _ (net : PlainNet) (sound : is_sound (source_of net) ≡ true) (fit : IsFlat net) (built : EachIsBuilt) (now : Moment) where
   abbrev the_source : PlainSource
   the_source = source_of net
 
@@ -90,6 +94,9 @@ module _ (net : PlainNet) (sound : is_sound (source_of net) ≡ true) (fit : IsF
 
     named : (name : List ℕ) (w : ℕ) (v : BitVector) → Carries i name w v → Reads E (Named name) w v
     named name w v h = (eval_named the_tree now i name v h.0, h.1)
+
+    no_holes : part.holes ≡ 0
+    no_holes = fit.no_holes k
 
     module _ (cells : NetCells) where
       abbrev registers : ℕ → Option BitVector
@@ -125,8 +132,8 @@ module _ (net : PlainNet) (sound : is_sound (source_of net) ≡ true) (fit : IsF
       driven : (name : List ℕ) (t : PlainNetTarget) (w : ℕ) (v : BitVector) → IsWide w → target_width net part t ≡ Some w
           → origin_of the_tree i name ≡ Some (Given (chain_to t (literal w 0) part.drivers)) → driven_node part cells around s (look []) (λ c. look (c ∷ [])) w t ≡ Some v → Carries i name w v
       driven name t w v wide is_target origin e =
-          let fits = drivers_fit net part t w is_target part.drivers (fit.components k here.within).drivers in
-          let r = reads_chain net part E reads around registers (look []) ports_read registers_read wires_read go_reads (literal w 0) (zero_wide w) w (reads.number (zero_wide w), zero_fits w wide) _ fits v e in
+          let fits = drivers_fit net part t w is_target part.drivers (fit.fits.components k here.within).drivers in
+          let r = reads_chain net part no_holes E reads around registers (look []) ports_read registers_read wires_read go_reads (literal w 0) (zero_wide w) w (reads.number (zero_wide w), zero_fits w wide) _ fits v e in
           (value_given the_tree now i name _ v origin r.0, r.1)
 
       -- what its drivers give a register
@@ -135,9 +142,9 @@ module _ (net : PlainNet) (sound : is_sound (source_of net) ≡ true) (fit : IsF
           → Reads E (chain_to (ToRegister n) (Named (register_name n)) part.drivers) w v
       register_reads n w v there e =
           let old : BitVector = record { width = w; value = s.register [] n } in
-          reads_chain net part E reads around registers (look []) ports_read registers_read wires_read go_reads (Named (register_name n)) old w
+          reads_chain net part no_holes E reads around registers (look []) ports_read registers_read wires_read go_reads (Named (register_name n)) old w
           (registers_read n w old there (ap (option_map (λ w. record { width = w; value = s.register [] n })) there)) (drivers_to (ToRegister n) part.drivers)
-          (drivers_fit net part (ToRegister n) w there part.drivers (fit.components k here.within).drivers) v e
+          (drivers_fit net part (ToRegister n) w there part.drivers (fit.fits.components k here.within).drivers) v e
 
       -- a port of a primitive cell
       module _ (c : ℕ) (cell : PlainCell) (p : PrimitiveRow) (there : slice_get part.cells c ≡ Some cell) (is : cell.kind ≡ OfPrimitive p) where
@@ -180,7 +187,7 @@ module _ (net : PlainNet) (sound : is_sound (source_of net) ≡ true) (fit : IsF
               (gather_known (λ q. look [] (APort (ports.Cell c q))) (row.reads n) 0 row.ports) v f in
               let g = gathered (λ q. look [] (APort (ports.Cell c q))) (row.reads n) row.ports inputs known in
               let at_row = stands inputs g.0 (λ m q x at_q x_is. looked [] k (APort (ports.Cell c m)) q.width x refl (primitive_width net part c cell p m q there is at_q) (g.1 m x x_is)) in
-              let reads_ports = (primitive_fits net sound fit k i c cell p here there is).1 in
+              let reads_ports = row_of_reads p in
               let out = output_carried net sound fit built now k i c cell p here there is h (s.cell (c ∷ [])) inputs at_row n port at (ap is_output_side is_side) (λ q r. g.2 q (reads_ports n q r) r) in
               subst (Carries i (cell_port_name c n) port.width) (ap (λ u. unwrap_or (row.output (s.cell (c ∷ [])) inputs n) (zero_wide u)) (sym width_is) ∙ value) out
           go sides.Registered is_side f =
@@ -340,8 +347,9 @@ module _ (net : PlainNet) (sound : is_sound (source_of net) ≡ true) (fit : IsF
     pub node_has : {path : Path} {node : Node} {v : BitVector} → NetHas (net_tree net) go s path node v → (h w : ℕ) → LeadsTo net net.main path h → node_width net (net_component_at net h) node ≡ Some w
         → Carries (number_at the_source 0 path) (node_name node) w v
     node_has {path} {node} {v} (by_rule look right e) h w leads wide =
-        node_carries path (length net.components) net.main 0 (main_placed net sound fit) fit.has_main (outside go) s look stand main_around
+        node_carries path (length net.components) net.main 0 (main_placed net sound fit) fit.fits.has_main (outside go) s look stand main_around
         (λ q g inner u x below width known. node_has (right q inner x known) g u below width) h node w v leads wide e
 
-pub values_carry : (net : PlainNet) → IsFit net → is_sound (source_of net) ≡ true → AreBuilt → ValuesCarry net
-values_carry net fit sound built go s now path h w node v stand goes leads wide has = (node_has net sound fit built now go s stand goes has h w leads wide).0
+pub values_carry : (net : PlainNet) → IsFit net → HasNoHoles net → is_sound (source_of net) ≡ true → ValuesCarry net
+values_carry net fits no_holes sound go s now path h w node v stand goes leads wide has =
+    (node_has net sound (record { fits = fits; no_holes = no_holes }) each_is_built now go s stand goes has h w leads wide).0

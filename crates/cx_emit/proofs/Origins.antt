@@ -1,35 +1,33 @@
 -- What gives each net of a component's module its value.
-use Rattle.std.proofs.Common.{◌≡◌, ℕ, zero, suc, ◌<◌, ◌≤◌, List, [], ◌∷◌, ◌++◌, true, false, Option, Some, slice_get, refl, ap, sym, ◌∙◌, subst, if◌then◌else◌, arith}
+use Rattle.std.proofs.Common.{◌≡◌, ℕ, zero, suc, ◌<◌, ◌≤◌, List, [], ◌∷◌, ◌++◌, true, false, Option, Some, slice_get, refl, ap, sym, ◌∙◌, subst, if◌then◌else◌}
 use Rattle.std.specs.Prelude.{codes}
 use Rattle.std.specs.Option.{option_map_or}
 use Rattle.cx_meaning.specs.declared.ports.PortRef.TheVariants as ports
 use Rattle.cx_meaning.specs.declared.kinds.PortDecl.{PortDecl}
 use Rattle.cx_meaning.specs.Designs.{PlainCell}
-use Rattle.cx_vtree.specs.declared.meanings.Meaning.TheVariants as meant
-use Rattle.cx_vtree.specs.Plain.{PlainExpr, Named, PlainPort, PlainDecl, WireOf, RegisterOf, PlainAssign, PlainConn, PlainModule}
-use Rattle.cx_vtree.specs.InstanceTree.{Placed, ports_at, decls_at, Outside, Tied, Held, Given, origin_of}
-use Rattle.cx_vtree.specs.Sound.{decl_name, decl_meaning, width_of, is_sound}
-use Rattle.cx_vlaws.specs.Widths.{scope_at}
+use Rattle.cx_vtree.specs.Plain.{PlainPort, PlainDecl, WireOf, RegisterOf, PlainAssign, PlainConn, PlainModule}
+use Rattle.cx_vtree.specs.InstanceTree.{Placed, decls_at, Tied, Held, Given, origin_of}
+use Rattle.cx_vtree.specs.Sound.{decl_meaning, width_of, is_sound}
 use Rattle.cx_vlaws.proofs.Holders.{some_same}
 use Rattle.cx_vlaws.proofs.MeaningLemmas.{decl-means, decl_wide, port_wide}
-use Rattle.cx_vlaws.proofs.Ties.{input_tied, output_tied, assigned_given, register_held, input_outside}
+use Rattle.cx_vlaws.proofs.Ties.{input_tied, output_tied, assigned_given, register_held}
 use Rattle.cx_net.specs.Nets.{PlainNetComponent, PlainNet, ToPort, ToWire, ToDone}
+use Rattle.cx_emit.specs.Fits.{IsFlat}
 use Rattle.cx_emit.specs.Names.{output_name, cell_port_name, wire_name, register_name}
 use Rattle.cx_emit.specs.Numbered.{with_numbers, lists_from}
 use Rattle.cx_emit.specs.Exprs.{literal}
 use Rattle.cx_emit.specs.Chains.{chain_to}
 use Rattle.cx_emit.specs.Signatures.{PlainCellPorts, one_bit, input_port, output_port, cell_ports}
-use Rattle.cx_emit.specs.Sources.{assign, conn, port_decl, cell_decls, port_assigns, cell_assigns, port_conn, wire_decl, wire_assign, output_assign, done_assign, register_decl, source_of}
+use Rattle.cx_emit.specs.Sources.{assign, port_decl, cell_decls, port_assigns, cell_assigns, port_conn, wire_decl, wire_assign, output_assign, done_assign, register_decl, source_of}
 use Rattle.cx_emit.specs.Places.{cell_number}
-use Rattle.cx_emit.specs.Fits.{IsFit}
 use Rattle.cx_emit.proofs.NumberedLemmas.{In, in_left, in_right, in_numbered, in_lists}
-use Rattle.cx_emit.proofs.Standing.{source, tree, comp, own, IsPlaced, ports_of_cell, IsCell, cell_module_ports}
+use Rattle.cx_emit.proofs.Standing.{tree, comp, own, IsPlaced, ports_of_cell, IsCell, cell_module_ports}
 
 -- 1 to 128
 abbrev pub IsWide : ℕ → Type 0
 IsWide w = (0 < w) × (w ≤ 128)
 
-module _ (net : PlainNet) (sound : is_sound (source_of net) ≡ true) (fit : IsFit net) (k i : ℕ) (here : IsPlaced net sound fit k i) where
+module _ (net : PlainNet) (sound : is_sound (source_of net) ≡ true) (fit : IsFlat net) (k i : ℕ) (here : IsPlaced net sound fit k i) where
   abbrev the_tree : List Placed
   the_tree = tree net sound fit
 

@@ -1,18 +1,18 @@
 -- Which port of a component stands at which place of its signature.
-use Rattle.std.proofs.Common.{◌≡◌, ℕ, zero, suc, ◌+◌, ◌-◌, ◌<◌, ◌≤◌, Bool, true, false, List, [], ◌∷◌, ◌++◌, length, map, Option, Some, None, option_map, slice_get, append_assoc, refl, ap, sym, ◌∙◌, subst, if◌then◌else◌, arith}
+use Rattle.std.proofs.Common.{◌≡◌, ℕ, zero, suc, ◌-◌, ◌<◌, ◌≤◌, Bool, true, false, List, [], ◌∷◌, ◌++◌, length, map, Option, Some, None, option_map, slice_get, append_assoc, refl, ap, sym, ◌∙◌, subst, if◌then◌else◌, arith}
 use Rattle.std.specs.Prelude.{nat_lt, codes}
 use Rattle.std.proofs.lemmas.Bool.{ltb-true, ltb-false}
 use Rattle.std.proofs.lemmas.List.{length-map}
 use Rattle.std.proofs.lemmas.Option.{slice_get-map, slice_get_within}
 use Rattle.cx_meaning.specs.declared.kinds.PortDecl.{PortDecl}
-use Rattle.cx_meaning.specs.Sights.{PartPort, Go, AnInput, AnOutput, ItsDone, later_port, output_port}
+use Rattle.cx_meaning.specs.Sights.{Go, AnInput, AnOutput, ItsDone, later_port, output_port}
 use Rattle.cx_vtree.specs.Plain.{PlainPort}
 use Rattle.cx_net.specs.Nets.{PlainNetComponent}
 use Rattle.cx_net.specs.NetMeaning.{net_part_port}
 use Rattle.cx_emit.specs.Numbered.{numbered_from, with_numbers}
 use Rattle.cx_emit.specs.Signatures.{one_bit, input_port, signature_of}
 use Rattle.cx_emit.specs.Signatures as signatures
-use Rattle.cx_emit.specs.Fits.{signature_widths}
+use Rattle.cx_net.specs.NetFits.{signature_widths}
 use Rattle.cx_emit.proofs.NumberedLemmas.{in_numbered}
 
 abbrev pub done_port : PlainPort
@@ -40,7 +40,7 @@ map_of : {A B : Type 0} (f : A → B) (o : Option A) (y : B) → option_map f o 
 map_of f None y e = absurd (cc)
 map_of f (Some x) y e = (x, refl, cc)
 
-length-numbered : {A B : Type 0} (f : ℕ → A → B) (b : ℕ) (xs : List A) → length (numbered_from f b xs) ≡ length xs
+pub length-numbered : {A B : Type 0} (f : ℕ → A → B) (b : ℕ) (xs : List A) → length (numbered_from f b xs) ≡ length xs
 length-numbered f b [] = refl
 length-numbered f b (x ∷ xs) = ap suc (length-numbered f (suc b) xs)
 

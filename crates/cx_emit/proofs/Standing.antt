@@ -1,14 +1,14 @@
 -- Where the components and cells of a net stand among the instances of its source.
-use Rattle.std.proofs.Common.{◌≡◌, ◌≢◌, ℕ, zero, suc, ◌+◌, ◌<◌, ◌==◌, List, [], ◌∷◌, ◌++◌, Bool, true, false, map, length, reverse, Option, Some, None, slice_get, option_map, refl, ap, sym, ◌∙◌, subst, if◌then◌else◌, arith}
+use Rattle.std.proofs.Common.{◌≡◌, ℕ, zero, suc, ◌+◌, ◌<◌, List, [], ◌∷◌, ◌++◌, Bool, true, false, map, length, reverse, Option, Some, slice_get, refl, ap, sym, ◌∙◌, subst, if◌then◌else◌, arith}
 use Rattle.std.specs.Prelude.{codes}
 use Rattle.std.specs.Option.{option_map_or}
 use Rattle.std.proofs.lemmas.Bool.{both_ways, false_from_ne_true, eq-eqb, cond-true, cond-false}
 use Rattle.std.proofs.lemmas.Option.{slice_get-get_or}
-use Rattle.cx_prim.specs.Table.{PrimitiveRow, HasRow, row_of}
+use Rattle.cx_prim.specs.Table.{PrimitiveRow, HasRow}
 use Rattle.cx_meaning.specs.declared.kinds.PortDecl.{PortDecl}
 use Rattle.cx_meaning.specs.Designs.{PlainKind, OfPrimitive, OfComponent, PlainCell}
 use Rattle.cx_meaning.specs.Instances.{Path}
-use Rattle.cx_vtree.specs.Plain.{PlainPort, PlainConn, PlainInstance, PlainModule, PlainSource}
+use Rattle.cx_vtree.specs.Plain.{PlainPort, PlainInstance, PlainModule, PlainSource}
 use Rattle.cx_vtree.specs.InstanceTree.{same_name, Placed, tree_from, main_instance, instances_of}
 use Rattle.cx_vtree.specs.Sound.{module_named, has_name, is_sound}
 use Rattle.cx_vlaws.proofs.Fresh.{same_is, is_same, has_each}
@@ -20,12 +20,14 @@ use Rattle.cx_vlaws.proofs.Mains.{main_at, main-ports}
 use Rattle.cx_vmods.specs.Modules.{module_of}
 use Rattle.cx_net.specs.Nets.{PlainNetComponent, PlainNet}
 use Rattle.cx_net.specs.NetTree.{no_net_component, net_component_at}
+use Rattle.cx_emit.specs.Fits.{IsFlat}
 use Rattle.cx_emit.specs.Names.{numbered, instance_name, module_name, cell_module_name}
 use Rattle.cx_emit.specs.Numbered.{with_numbers, lists_from}
 use Rattle.cx_emit.specs.Signatures.{one_bit, input_port, output_port, signature_at, kind_ports, cell_ports, kind_modules, cell_modules}
 use Rattle.cx_emit.specs.Sources.{conn, port_conn, cell_instance, component_module, component_modules, source_of}
-use Rattle.cx_emit.specs.Places.{part_number, parts_at, cell_number, number_at, LeadsTo}
-use Rattle.cx_emit.specs.Fits.{ReadsPorts, IsFitKind, IsFit}
+use Rattle.cx_net.specs.NetPaths.{LeadsTo}
+use Rattle.cx_emit.specs.Places.{part_number, cell_number, number_at}
+use Rattle.cx_net.specs.NetFits.{IsFitKind}
 use Rattle.cx_emit.proofs.NumberedLemmas.{In, in_left, in_right, in_numbered, in_lists}
 
 in_reverse : {A : Type 0} (x : A) (xs : List A) → In x xs → In x (reverse xs)
@@ -47,12 +49,12 @@ named_at is_main (x ∷ ms) keeps m (suc k, e) =
     (has_each (λ (y : PlainModule). y.name) (reverse ms) later.0 m later.1)) in
     cond-false (same_name x.name m.name) (Some x) (module_named ms m.name) other ∙ named_at false ms keeps.1 m (k, e)
 
-number-same : (source : PlainSource) (holder n : ℕ) (xs : List PlainInstance) (s : ℕ) → part_number source holder n xs s ≡ number_of (tree_from (reverse source.modules)) holder n xs s
+pub number-same : (source : PlainSource) (holder n : ℕ) (xs : List PlainInstance) (s : ℕ) → part_number source holder n xs s ≡ number_of (tree_from (reverse source.modules)) holder n xs s
 number-same source holder n [] s = refl
 number-same source holder n (x ∷ xs) zero = refl
 number-same source holder n (x ∷ xs) (suc s) = number-same source holder (n + length (tree_from (reverse source.modules) x holder n)) xs s
 
-module _ (net : PlainNet) (sound : is_sound (source_of net) ≡ true) (fit : IsFit net) where
+module _ (net : PlainNet) (sound : is_sound (source_of net) ≡ true) (fit : IsFlat net) where
   abbrev pub source : PlainSource
   source = source_of net
 
@@ -102,10 +104,10 @@ module _ (net : PlainNet) (sound : is_sound (source_of net) ≡ true) (fit : IsF
       let found : module_named modules (codes "main") ≡ Some r.m = subst (λ ms. module_named ms (codes "main") ≡ Some r.m) (sym r.are) (main_named r.m r.before (r.kept, r.earlier)) in
       let name : module_name net.main net.main ≡ codes "main" = ap (λ b. if b then codes "main" else numbered (codes "m") net.main) (eq-eqb net.main net.main refl) in
       record {
-        within = fit.has_main;
+        within = fit.fits.has_main;
         place = placed main_instance 0 r.m;
         at = r.first;
-        is = some_same (module_named modules (codes "main")) r.m (own net.main) found (ap (module_named modules) (sym name) ∙ own_known net.main fit.has_main);
+        is = some_same (module_named modules (codes "main")) r.m (own net.main) found (ap (module_named modules) (sym name) ∙ own_known net.main fit.fits.has_main);
       }
 
   -- main has no inputs but go
@@ -164,7 +166,7 @@ module _ (net : PlainNet) (sound : is_sound (source_of net) ≡ true) (fit : IsF
       }
 
   fit_kind : (k c : ℕ) (cell : PlainCell) (kind : PlainKind) → k < length net.components → slice_get (comp k).cells c ≡ Some cell → cell.kind ≡ kind → IsFitKind k kind
-  fit_kind k c cell kind lt there is = subst (IsFitKind k) is ((fit.components k lt).cells c cell there)
+  fit_kind k c cell kind lt there is = subst (IsFitKind k) is ((fit.fits.components k lt).cells c cell there)
 
   -- the instance of a primitive cell is of its module
   pub primitive_placed : (k i c : ℕ) (cell : PlainCell) (p : PrimitiveRow) → IsPlaced k i → slice_get (comp k).cells c ≡ Some cell → cell.kind ≡ OfPrimitive p
@@ -173,7 +175,7 @@ module _ (net : PlainNet) (sound : is_sound (source_of net) ≡ true) (fit : IsF
       some_same (module_named modules (cell_module_name k c)) h.place.part (module_of p (cell_module_name k c))
       (subst (λ kind. module_named modules (kind_ports net k c kind).kind ≡ Some h.place.part) is h.kind) (primitive_known k c cell p placing.within there is)
 
-  pub primitive_fits : (k i c : ℕ) (cell : PlainCell) (p : PrimitiveRow) → IsPlaced k i → slice_get (comp k).cells c ≡ Some cell → cell.kind ≡ OfPrimitive p → HasRow p × ReadsPorts (row_of p)
+  pub primitive_fits : (k i c : ℕ) (cell : PlainCell) (p : PrimitiveRow) → IsPlaced k i → slice_get (comp k).cells c ≡ Some cell → cell.kind ≡ OfPrimitive p → HasRow p
   primitive_fits k i c cell p placing there is = fit_kind k c cell (OfPrimitive p) placing.within there is
 
   -- components come behind those of their cells

@@ -1,35 +1,17 @@
--- What a net has to keep for its source to run as it does: numbers name parts, widths agree, no holes are left, a component
--- comes behind those of its cells, and its primitives have rows.
-use Rattle.std.specs.Prelude.{◌≡◌, ℕ, ◌<◌, true, List, [], ◌∷◌, ◌++◌, length, map, Option, Some, None, option_map, option_and_then, slice_get, slice_index}
+-- Which nets have a source that runs as they do; widths of their nodes; what the module of a primitive keeps of its cell's state.
+use Rattle.std.specs.Prelude.{ℕ, Option, Some, None, slice_get, slice_index}
 use Rattle.cx_prim.specs.CellStates.{CellState}
-use Rattle.cx_prim.specs.Rows.{Row, IsOfWidth}
-use Rattle.cx_prim.specs.Table.{PrimitiveRow, HasRow, row_of}
-use Rattle.cx_meaning.specs.declared.ports.PortRef.{PortRef}
+use Rattle.cx_prim.specs.Table.{PrimitiveRow}
 use Rattle.cx_meaning.specs.declared.ports.PortRef.TheVariants as ports
-use Rattle.cx_meaning.specs.Designs.{PlainKind, OfPrimitive, OfComponent, PlainCell}
 use Rattle.cx_vmods.specs.Stands.{Kept, StandsFor}
-use Rattle.cx_vmods.specs.Modules.{module_of}
-use Rattle.cx_vmods.specs.Built.{IsBuilt}
-use Rattle.cx_net.specs.Nets.{PlainNetExpr, OfPort, OfRegister, OfWire, OfHole, OfGo, Fixed, Inverse, AllOf, AnyOf, Sum, Compares, PlainNetExprs, no_exprs, an_expr, PlainNetTarget, ToPort, ToRegister, ToWire, ToHole, ToDone, PlainNetDriver, PlainNetComponent, PlainNet}
-use Rattle.cx_net.specs.NetTree.{net_component_at}
+use Rattle.cx_net.specs.Nets.{PlainNetComponent, PlainNet}
 use Rattle.cx_net.specs.NetMeaning.{Node, APort, AWire, AHole, TheDone}
+use Rattle.cx_net.specs.NetFits.{port_width, IsFit, HasNoHoles}
 
--- the widths of a component's ports: go, the inputs, the outputs and done
-abbrev pub signature_widths : PlainNetComponent → List ℕ
-signature_widths part = 1 ∷ map (λ d. d.width) part.inputs ++ map (λ d. d.width) part.outputs ++ 1 ∷ []
-
--- the width of port p of a cell; None where it has no such port
-abbrev pub kind_width : PlainNet → PlainKind → ℕ → Option ℕ
-kind_width net (OfPrimitive primitive) p = option_map (λ port. port.width) (slice_get (row_of primitive).ports p)
-kind_width net (OfComponent k) p = slice_get (signature_widths (net_component_at net k)) p
-
--- the width of a port of a component; None where it is not there
-abbrev pub port_width : PlainNet → PlainNetComponent → PortRef → Option ℕ
-port_width net part (ports.Cell c p) = option_and_then (λ cell. kind_width net cell.kind p) (slice_get part.cells c)
-port_width net part (ports.Input n) = option_map (λ d. d.width) (slice_get part.inputs n)
-port_width net part (ports.Output n) = option_map (λ d. d.width) (slice_get part.outputs n)
-port_width net part (ports.Done g) = None
-port_width net part (ports.Literal w v) = None
+-- a fit net without holes
+pub record IsFlat (net : PlainNet) : Type 0 where
+  pub fits : IsFit net
+  pub no_holes : HasNoHoles net
 
 -- the width of a node; None where it is not there
 abbrev pub node_width : PlainNet → PlainNetComponent → Node → Option ℕ
@@ -42,70 +24,6 @@ node_width net part (AWire n) = slice_get part.wires n
 node_width net part (AHole n) = None
 node_width net part TheDone = Some 1
 
--- the width of a port in an expression, where a literal fits its own
-abbrev pub HasPortWidth : PlainNet → PlainNetComponent → PortRef → ℕ → Type 0
-HasPortWidth net part (ports.Cell c p) w = port_width net part (ports.Cell c p) ≡ Some w
-HasPortWidth net part (ports.Input n) w = port_width net part (ports.Input n) ≡ Some w
-HasPortWidth net part (ports.Output n) w = port_width net part (ports.Output n) ≡ Some w
-HasPortWidth net part (ports.Done g) w = ⊥
-HasPortWidth net part (ports.Literal u v) w = IsOfWidth w (record { width = u; value = v })
-
--- an expression names what is there, its widths agree, and it has this width
-abbrev mutual
-  pub HasWidth : PlainNet → PlainNetComponent → PlainNetExpr → ℕ → Type 0
-  HasWidth net part (OfPort p) w = HasPortWidth net part p w
-  HasWidth net part (OfRegister n) w = slice_get part.registers n ≡ Some w
-  HasWidth net part (OfWire n) w = slice_get part.wires n ≡ Some w
-  HasWidth net part (OfHole n) w = ⊥
-  HasWidth net part OfGo w = w ≡ 1
-  HasWidth net part (Fixed b) w = IsOfWidth w b
-  HasWidth net part (Inverse e) w = HasWidth net part e w
-  HasWidth net part (AllOf es) w = (w ≡ 1) × AreBits net part es
-  HasWidth net part (AnyOf es) w = (w ≡ 1) × AreBits net part es
-  HasWidth net part (Sum a b) w = HasWidth net part a w × HasWidth net part b w
-  HasWidth net part (Compares c a b) w = (w ≡ 1) × ((v : ℕ) × HasWidth net part a v × HasWidth net part b v)
-
-  pub AreBits : PlainNet → PlainNetComponent → PlainNetExprs → Type 0
-  AreBits net part no_exprs = Unit {0}
-  AreBits net part (an_expr e es) = HasWidth net part e 1 × AreBits net part es
-
-abbrev pub target_width : PlainNet → PlainNetComponent → PlainNetTarget → Option ℕ
-target_width net part (ToPort p) = port_width net part p
-target_width net part (ToRegister n) = slice_get part.registers n
-target_width net part (ToWire n) = slice_get part.wires n
-target_width net part (ToHole n) = None
-target_width net part ToDone = Some 1
-
--- a guard has one bit, and a source is as wide as its target
-pub record IsFitDriver (net : PlainNet) (part : PlainNetComponent) (d : PlainNetDriver) : Type 0 where
-  pub guard : HasWidth net part d.guard 1
-  pub source : (w : ℕ) → target_width net part d.target ≡ Some w → HasWidth net part d.source w
-
 -- what the registers and words of a primitive's module stand for; the first number of those that have a width is the width
 abbrev pub stand_for : PrimitiveRow → Kept → CellState → Type 0
 stand_for primitive = StandsFor (slice_index primitive.numbers 0)
-
--- the module of a primitive does what its row says, under whatever name
-abbrev pub IsBuiltPrimitive : PrimitiveRow → Type 0
-IsBuiltPrimitive primitive = (name : List ℕ) → IsBuilt (module_of primitive name) (row_of primitive) (stand_for primitive)
-
--- an output reads ports that are there
-abbrev pub ReadsPorts : Row → Type 0
-ReadsPorts row = (n k : ℕ) → row.reads n k ≡ true → k < length row.ports
-
--- a cell of component k
-abbrev pub IsFitKind : ℕ → PlainKind → Type 0
-IsFitKind k (OfPrimitive primitive) = HasRow primitive × ReadsPorts (row_of primitive)
-IsFitKind k (OfComponent child) = child < k
-
-pub record IsFitComponent (net : PlainNet) (k : ℕ) : Type 0 where
-  pub drivers : (n : ℕ) (d : PlainNetDriver) → slice_get (net_component_at net k).drivers n ≡ Some d → IsFitDriver net (net_component_at net k) d
-  pub cells : (c : ℕ) (cell : PlainCell) → slice_get (net_component_at net k).cells c ≡ Some cell → IsFitKind k cell.kind
-
-pub record IsFit (net : PlainNet) : Type 0 where
-  pub has_main : net.main < length net.components
-  pub components : (k : ℕ) → k < length net.components → IsFitComponent net k
-
--- what is owed by the modules of primitives
-abbrev pub AreBuilt : Type 0
-AreBuilt = (primitive : PrimitiveRow) → HasRow primitive → IsBuiltPrimitive primitive

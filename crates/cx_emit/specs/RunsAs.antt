@@ -5,16 +5,20 @@ use Rattle.cx_meaning.specs.Instances.{Path}
 use Rattle.cx_vtree.specs.InstanceTree.{instances_of}
 use Rattle.cx_vtree.specs.Meaning.{Moment, Look, HasValue}
 use Rattle.cx_vtree.specs.Edges.{state_after}
-use Rattle.cx_vtree.specs.SimRun.{IsWhole}
+use Rattle.cx_vtree.specs.Plain.{PlainSource}
+use Rattle.cx_vtree.specs.PlainParts.{rows_of}
+use Rattle.cx_vtree.specs.SimRun.{IsWhole, SimRun}
 use Rattle.cx_vtree.specs.Sound.{is_sound}
 use Rattle.cx_net.specs.Nets.{PlainNet}
 use Rattle.cx_net.specs.NetTree.{net_component_at, net_tree}
 use Rattle.cx_net.specs.NetMeaning.{NetState, Node, NetLook, NetHas}
 use Rattle.cx_net.specs.NetEdges.{net_after}
-use Rattle.cx_net.specs.NetRuns.{IsWholeLook}
+use Rattle.cx_net.specs.NetRuns.{IsWholeLook, NetRun}
+use Rattle.cx_realises.specs.Realises.{Follows}
 use Rattle.cx_emit.specs.Sources.{source_of}
-use Rattle.cx_emit.specs.Places.{number_at, LeadsTo, node_name}
-use Rattle.cx_emit.specs.Fits.{node_width, IsFit, AreBuilt}
+use Rattle.cx_net.specs.NetPaths.{LeadsTo}
+use Rattle.cx_emit.specs.Places.{number_at, node_name}
+use Rattle.cx_emit.specs.Fits.{node_width}
 use Rattle.cx_emit.specs.States.{StatesStand}
 
 -- a node that is there and has a value in the net has it in the source, at its instance and under its name, where the states
@@ -32,3 +36,12 @@ EdgesCarry net =
     → now.go ≡ (if go then 1 else 0) → now.reset ≡ (if with_reset then 1 else 0)
     → IsWholeLook (net_tree net) go s look → IsWhole (instances_of (source_of net)) now text
     → StatesStand net net.main 0 (net_after (net_tree net) with_reset go s look) (state_after (instances_of (source_of net)) now text)
+
+-- what the net comes to, with words that fit the external memories, the source comes to
+abbrev pub Runs : PlainNet → Type 0
+Runs net = Follows (rows_of (source_of net).externals) (NetRun (net_tree net)) (SimRun (source_of net))
+
+-- A SOURCE RUNS AS A NET: it is sound, and what the net comes to it comes to
+pub record RunsAs (net : PlainNet) (source : PlainSource) : Type 0 where
+  pub sound : is_sound source ≡ true
+  pub runs : Follows (rows_of source.externals) (NetRun (net_tree net)) (SimRun source)

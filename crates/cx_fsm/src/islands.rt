@@ -3,7 +3,7 @@
 
 ghost use Rattle.std.specs.Prelude.{◌≡◌, ◌+◌, ◌++◌, ◌∷◌, [], IfOk, OnOk, map, slice_get};
 ghost use Rattle.cx_meaning.specs.declared.ports.PortRef.TheVariants as ports;
-ghost use Rattle.cx_net.specs.Nets.{OfPort};
+ghost use Rattle.cx_net.specs.Nets.{AllOf, OfPort, exprs_of};
 ghost use Rattle.cx_net.specs.PlainNets.{plain_net_drivers, plain_net_expr};
 ghost use Rattle.cx_static.specs.PlainLowered.{plain_occurrence, plain_point};
 ghost use Rattle.cx_wiring.specs.Control as control;
@@ -196,13 +196,15 @@ fn timer_drivers(
     drive(drivers, go, place.runs(at)?, bit(true))
 }
 
-/// A `static if` begins.
+/// A `static if` begins, and those around it go to it.
 fn begins(alloc: Global, place: &Place<'_>, point: &SamplePoint) -> Result<NetExpr, Memory>
     ensures value { IfOk result (λ e. plain_net_expr e ≡ at_place wired.begins place.now (plain_point point.now)) }
 {
+    let mut parts = Vec::new(alloc);
+    parts.push(place.runs(point.timer)?)?;
     let count = place.timer_port(point.timer, 1);
-    let there = equals(alloc, count, cycles(point.at)?)?;
-    both(alloc, place.runs(point.timer)?, there)
+    parts.push(equals(alloc, count, cycles(point.at)?)?)?;
+    where_wanted(alloc, place, parts, point.samples.as_slice())
 }
 
 /// The last active cycle of an island.
@@ -259,16 +261,28 @@ fn as_wanted(alloc: Global, place: &Place<'_>, sample: Sample) -> Result<NetExpr
     }
 }
 
+/// These parts, where the samples are as wanted.
+fn where_wanted(
+    alloc: Global,
+    place: &Place<'_>,
+    mut parts: Vec<NetExpr>,
+    samples: &[Sample],
+) -> Result<NetExpr, Memory>
+    ensures value { IfOk result (λ e. plain_net_expr e ≡ AllOf (exprs_of (map plain_net_expr parts.items ++ map (at_place wired.as_wanted place.now) samples.now))) }
+{
+    for sample in samples {
+        parts.push(as_wanted(alloc, place, *sample)?)?;
+    }
+    Ok(NetExpr::And(parts))
+}
+
 /// A group is active in the range of its timer where the samples are as wanted.
 fn is_active(alloc: Global, place: &Place<'_>, occurrence: &Occurrence) -> Result<NetExpr, Memory>
     ensures value { IfOk result (λ e. plain_net_expr e ≡ at_place wired.is_active place.now (plain_occurrence occurrence.now)) }
 {
     let timer = occurrence.timer;
-    let mut parts = in_range(alloc, place, timer, occurrence.from, occurrence.to)?;
-    for sample in occurrence.samples.as_slice() {
-        parts.push(as_wanted(alloc, place, *sample)?)?;
-    }
-    Ok(NetExpr::And(parts))
+    let parts = in_range(alloc, place, timer, occurrence.from, occurrence.to)?;
+    where_wanted(alloc, place, parts, occurrence.samples.as_slice())
 }
 
 /// The offset of a group, which is counted from the begin of its range.

@@ -1,2 +1,9 @@
 pub mod CellLemmas
 pub mod ExprLemmas
+pub mod RenamedSteps
+pub mod RenamedNodes
+pub mod RenamedLooks
+pub mod RenamedEdges
+pub mod RenamedRuns
+pub mod RenamedNames
+pub mod RenamedFits

@@ -1,5 +1,5 @@
 -- A net without holes, as plain data: each hole of a component becomes a wire behind its wires.
-use Rattle.std.specs.Prelude.{ℕ, ◌+◌, ◌++◌, List, length, map, replicate}
+use Rattle.std.specs.Prelude.{ℕ, ◌+◌, ◌++◌, length, map, replicate}
 use Rattle.cx_net.specs.Nets.{PlainNetExpr, OfPort, OfRegister, OfWire, OfHole, OfGo, Fixed, Inverse, AllOf, AnyOf, Sum, Compares, PlainNetExprs, no_exprs, an_expr, PlainNetTarget, ToPort, ToRegister, ToWire, ToHole, ToDone, PlainNetDriver, PlainNetComponent, PlainNet}
 
 -- wires from the first on in place of the holes

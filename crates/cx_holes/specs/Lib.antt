@@ -1,1 +1,3 @@
 pub mod Inlining
+pub mod Names
+pub mod Renamed

@@ -3,5 +3,9 @@
 
 mod exprs;
 mod inlining;
+mod laws;
 
 pub use inlining::inline;
+pub use laws::{
+    inlining_keeps_fit, inlining_keeps_runs, inlining_keeps_values, inlining_leaves_no_hole,
+};

@@ -68,7 +68,8 @@ same_output n (ports.Done g) = refl
 same_output n (ports.Literal w v) = refl
 
 -- the assignments that stand in the net are those that can act
-pub acting_filter : (act : Active) (p : PortRef) (stays : Owned → Bool) (list : List Owned) → ((a : Owned) → In list a → stays a ≡ false → offset_of act a.owner ≡ None) → acting act p (filter stays list) ≡ acting act p list
+pub acting_filter : (act : Active) (p : PortRef) (stays : Owned → Bool) (list : List Owned) → ((a : Owned) → In list a → same_port a.assign.target p ≡ true → stays a ≡ false → offset_of act a.owner ≡ None)
+    → acting act p (filter stays list) ≡ acting act p list
 acting_filter act p stays [] h = refl
 acting_filter act p stays (a ∷ rest) h = choice (stays a) refl (acting_filter act p stays rest (λ b i. h b (inr i)))
   where
@@ -76,14 +77,14 @@ acting_filter act p stays (a ∷ rest) h = choice (stays a) refl (acting_filter 
     dropped None more e = refl
     dropped (Some n) more e = absurd cc
 
-    off_target : (s : Bool) (more : List Acting) → offset_of act a.owner ≡ None → more ≡ if_target s act a more
-    off_target true more e = dropped (offset_of act a.owner) more e
+    off_target : (s : Bool) (more : List Acting) → (s ≡ true → offset_of act a.owner ≡ None) → more ≡ if_target s act a more
+    off_target true more e = dropped (offset_of act a.owner) more (e refl)
     off_target false more e = refl
 
     choice : (b : Bool) → stays a ≡ b → acting act p (filter stays rest) ≡ acting act p rest
         → acting act p (cond b (a ∷ filter stays rest) (filter stays rest)) ≡ if_target (same_port a.assign.target p) act a (acting act p rest)
     choice true e ih = ap (if_target (same_port a.assign.target p) act a) ih
-    choice false e ih = ih ∙ off_target (same_port a.assign.target p) (acting act p rest) (h a (inl refl) e)
+    choice false e ih = ih ∙ off_target (same_port a.assign.target p) (acting act p rest) (λ t. h a (inl refl) t e)
 
 module _ (groups : ℕ) (islands : List PlainIsland) (named : IslandsName groups islands) (around : NetAround) (registers : ℕ → Option BitVector) (look : Node → Option BitVector) where
   -- a wire of one bit has what these drivers give it, and 0 without one
@@ -107,13 +108,13 @@ module _ (groups : ℕ) (islands : List PlainIsland) (named : IslandsName groups
   driver_takes true d on later h = takes_known around registers look d on later h
   driver_takes false d on later h = refl
 
-  module _ (v : Values) (goes : ℕ → Bool) (at : ℕ → ℕ) where
+  module _ (v : Values) (goes : ℕ → Bool) (at : ℕ → BitVector) where
     abbrev V : PlainNetExpr → Option BitVector
     V = value around registers look
 
     -- A GATE says its guard where the group goes
     gate_says : (g : ℕ) (guard : PlainGuard) (wire : ℕ) → groups + island_wires islands ≤ wire → ((n : ℕ) → wire ≤ n → n < wire + suc (guard_wires guard) → ReadsBit n (gate_drivers groups g wire guard))
-        → GuardPorts around registers look v guard → GroupSays around registers look groups goes at g → Says around registers look (OfWire wire) (if goes g then guard_on v (at g) guard else false)
+        → GuardPorts around registers look v guard → GroupSays around registers look groups goes at g → Says around registers look (OfWire wire) (if goes g then guard_on v (at g).value guard else false)
     gate_says g guard wire low reads ports_are so =
         let skip = guard_drives (λ u. same_target u (ToWire wire) ≡ false) (OfWire g) guard (suc wire) (record { among = λ m l h. differs m wire (λ e. omega arith) }) in
         let connects = guard_connects groups islands named around registers look (OfWire g) guard (suc wire)
@@ -123,7 +124,7 @@ module _ (groups : ℕ) (islands : List PlainIsland) (named : IslandsName groups
         ∙ ap (λ s. takes_of around registers look s (drive (ToWire wire) (go groups g) (guard_expr (OfWire g) (suc wire) guard)) (Some (truth_bit false))) (eq-eqb wire wire refl)
         ∙ takes_known around registers look (drive (ToWire wire) (go groups g) (guard_expr (OfWire g) (suc wire) guard)) (goes g) (Some (truth_bit false)) so.0
         ∙ ap (λ o. if goes g then o else Some (truth_bit false)) on
-        ∙ gated_bit (goes g) (guard_on v (at g) guard)
+        ∙ gated_bit (goes g) (guard_on v (at g).value guard)
 
     module _ (t : PlainNetTarget) (off : IsNoWire t) where
       abbrev T : Option BitVector → List PlainNetDriver → Option BitVector
@@ -140,13 +141,13 @@ module _ (groups : ℕ) (islands : List PlainIsland) (named : IslandsName groups
           ∙ others_pass around registers look t _ xs skip
           ∙ driver_takes (same_target (target_of a.target) t) (drive (target_of a.target) e (OfPort a.source.port)) on later says
 
-      always_takes : (offset : PlainNetExpr) (o : ℕ) (a : PlainAssign) (wire : ℕ) (later : Option BitVector) → groups + island_wires islands ≤ wire
+      pub always_takes : (offset : PlainNetExpr) (o : BitVector) (a : PlainAssign) (wire : ℕ) (later : Option BitVector) → groups + island_wires islands ≤ wire
           → ((n : ℕ) → wire ≤ n → n < wire + guard_wires a.guard → ReadsBit n (looking_drivers groups (LooksAlways offset) wire a))
-          → GuardPorts around registers look v a.guard → V offset ≡ Some (wide o) → T later (looking_drivers groups (LooksAlways offset) wire a) ≡ given_by (guard_on v o a.guard) a later
+          → GuardPorts around registers look v a.guard → V offset ≡ Some o → T later (looking_drivers groups (LooksAlways offset) wire a) ≡ given_by (guard_on v o.value a.guard) a later
       always_takes offset o a wire later low reads ports_are known =
           let connects = guard_connects groups islands named around registers look offset a.guard wire
           (λ n l m. read_before groups islands named around registers look n (guard_drivers offset wire a.guard) _ (bit_reads n _ (reads n l m))) in
-          behind_wires (guard_drivers offset wire a.guard) a (guard_expr offset wire a.guard) (guard_on v o a.guard) later
+          behind_wires (guard_drivers offset wire a.guard) a (guard_expr offset wire a.guard) (guard_on v o.value a.guard) later
           (guard_drives (λ u. same_target u t ≡ false) offset a.guard wire (record { among = λ m l h. no_wire m t off }))
           (guard_says around registers look v (groups + island_wires islands) o offset known a.guard wire low connects ports_are)
 
@@ -154,16 +155,16 @@ module _ (groups : ℕ) (islands : List PlainIsland) (named : IslandsName groups
       in_group : (g : ℕ) (guard : PlainGuard) (a : PlainAssign) (wire : ℕ) (later : Option BitVector) → groups + island_wires islands ≤ wire
           → ((n : ℕ) → wire ≤ n → n < wire + suc (guard_wires guard) → ReadsBit n (gate_drivers groups g wire guard ++ drive (target_of a.target) (OfWire wire) (OfPort a.source.port) ∷ []))
           → ((n : ℕ) → same_target (target_of a.target) (ToWire n) ≡ false) → GuardPorts around registers look v guard → GroupSays around registers look groups goes at g
-          → T later (gate_drivers groups g wire guard ++ drive (target_of a.target) (OfWire wire) (OfPort a.source.port) ∷ []) ≡ given_by (if goes g then guard_on v (at g) guard else false) a later
+          → T later (gate_drivers groups g wire guard ++ drive (target_of a.target) (OfWire wire) (OfPort a.source.port) ∷ []) ≡ given_by (if goes g then guard_on v (at g).value guard else false) a later
       in_group g guard a wire later low reads apart ports_are so =
-          behind_wires (gate_drivers groups g wire guard) a (OfWire wire) (if goes g then guard_on v (at g) guard else false) later
+          behind_wires (gate_drivers groups g wire guard) a (OfWire wire) (if goes g then guard_on v (at g).value guard else false) later
           (drive_both (λ u. same_target u t ≡ false) (guard_drivers (OfWire g) (suc wire) guard) _ (guard_drives (λ u. same_target u t ≡ false) (OfWire g) guard (suc wire) (record { among = λ m l h. no_wire m t off })) (no_wire wire t off, tt))
           (gate_says g guard wire low (λ n l h. bit_before n (gate_drivers groups g wire guard) _ (apart n, tt) (reads n l h)) ports_are so)
 
-      gated_takes : (g : ℕ) (guard : PlainGuard) (a : PlainAssign) (wire : ℕ) (later : Option BitVector) → groups + island_wires islands ≤ wire
+      pub gated_takes : (g : ℕ) (guard : PlainGuard) (a : PlainAssign) (wire : ℕ) (later : Option BitVector) → groups + island_wires islands ≤ wire
           → ((n : ℕ) → wire ≤ n → n < wire + gate_wires guard → ReadsBit n (gated_drivers groups g wire guard (target_of a.target) (OfPort a.source.port)))
           → ((n : ℕ) → same_target (target_of a.target) (ToWire n) ≡ false) → GuardPorts around registers look v guard → GroupSays around registers look groups goes at g
-          → T later (gated_drivers groups g wire guard (target_of a.target) (OfPort a.source.port)) ≡ given_by (if goes g then guard_on v (at g) guard else false) a later
+          → T later (gated_drivers groups g wire guard (target_of a.target) (OfPort a.source.port)) ≡ given_by (if goes g then guard_on v (at g).value guard else false) a later
       gated_takes g Always a wire later low reads apart ports_are so =
           driver_takes (same_target (target_of a.target) t) (drive (target_of a.target) (go groups g) (OfPort a.source.port)) (goes g) later so.0 ∙ ap (λ b. given_by b a later) (itself (goes g))
       gated_takes g (Atom p) a wire later low reads apart ports_are so = in_group g (Atom p) a wire later low reads apart ports_are so
@@ -189,15 +190,15 @@ module _ (groups : ℕ) (islands : List PlainIsland) (named : IslandsName groups
           → let a : Owned = record { owner = owner; assign = record { target = target; guard = guard; source = source; place = place } } in
           ((n : ℕ) → wire ≤ n → n < wire + assign_wires a → ReadsBit n (assign_drivers groups wire a)) → AssignHolds around registers look groups goes at v a → TP later (assign_drivers groups wire a) ≡ Given a later
       one_takes None target guard source place wire later low reads h =
-          always_takes (ToPort p) tt (word 0) 0 (record { target = target; guard = guard; source = source; place = place }) wire later low reads h.guard refl
+          always_takes (ToPort p) tt (word 0) (wide 0) (record { target = target; guard = guard; source = source; place = place }) wire later low reads h.guard refl
       one_takes (Some g) (ports.Cell c q) guard source place wire later low reads h =
-          gated_takes (ToPort p) tt g guard (record { target = ports.Cell c q; guard = guard; source = source; place = place }) wire later low reads (λ n. refl) h.guard h.owner ∙ ap (λ b. given_by (ToPort p) tt b (record { target = ports.Cell c q; guard = guard; source = source; place = place }) later) (in_set (goes g) (at g) guard)
+          gated_takes (ToPort p) tt g guard (record { target = ports.Cell c q; guard = guard; source = source; place = place }) wire later low reads (λ n. refl) h.guard h.owner ∙ ap (λ b. given_by (ToPort p) tt b (record { target = ports.Cell c q; guard = guard; source = source; place = place }) later) (in_set (goes g) (at g).value guard)
       one_takes (Some g) (ports.Input q) guard source place wire later low reads h =
-          gated_takes (ToPort p) tt g guard (record { target = ports.Input q; guard = guard; source = source; place = place }) wire later low reads (λ n. refl) h.guard h.owner ∙ ap (λ b. given_by (ToPort p) tt b (record { target = ports.Input q; guard = guard; source = source; place = place }) later) (in_set (goes g) (at g) guard)
+          gated_takes (ToPort p) tt g guard (record { target = ports.Input q; guard = guard; source = source; place = place }) wire later low reads (λ n. refl) h.guard h.owner ∙ ap (λ b. given_by (ToPort p) tt b (record { target = ports.Input q; guard = guard; source = source; place = place }) later) (in_set (goes g) (at g).value guard)
       one_takes (Some g) (ports.Output q) guard source place wire later low reads h =
-          gated_takes (ToPort p) tt g guard (record { target = ports.Output q; guard = guard; source = source; place = place }) wire later low reads (λ n. refl) h.guard h.owner ∙ ap (λ b. given_by (ToPort p) tt b (record { target = ports.Output q; guard = guard; source = source; place = place }) later) (in_set (goes g) (at g) guard)
+          gated_takes (ToPort p) tt g guard (record { target = ports.Output q; guard = guard; source = source; place = place }) wire later low reads (λ n. refl) h.guard h.owner ∙ ap (λ b. given_by (ToPort p) tt b (record { target = ports.Output q; guard = guard; source = source; place = place }) later) (in_set (goes g) (at g).value guard)
       one_takes (Some g) (ports.Literal w x) guard source place wire later low reads h =
-          gated_takes (ToPort p) tt g guard (record { target = ports.Literal w x; guard = guard; source = source; place = place }) wire later low reads (λ n. refl) h.guard h.owner ∙ ap (λ b. given_by (ToPort p) tt b (record { target = ports.Literal w x; guard = guard; source = source; place = place }) later) (in_set (goes g) (at g) guard)
+          gated_takes (ToPort p) tt g guard (record { target = ports.Literal w x; guard = guard; source = source; place = place }) wire later low reads (λ n. refl) h.guard h.owner ∙ ap (λ b. given_by (ToPort p) tt b (record { target = ports.Literal w x; guard = guard; source = source; place = place }) later) (in_set (goes g) (at g).value guard)
       one_takes (Some g) (ports.Done q) guard source place wire later low reads h =
           always_takes (ToPort p) tt (OfWire g) (at g) (record { target = ports.Done q; guard = guard; source = source; place = place }) wire later low reads h.guard h.owner.1
 

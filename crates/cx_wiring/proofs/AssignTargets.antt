@@ -1,9 +1,10 @@
 -- What the drivers of guards and assignments drive: wires of their own, and the targets of the assignments.
-use Rattle.std.proofs.Common.{ℕ, suc, ◌+◌, ◌<◌, List, [], ◌∷◌}
+use Rattle.std.proofs.Common.{inl, inr, ℕ, suc, ◌+◌, ◌<◌, List, [], ◌∷◌, refl}
 use Rattle.cx_meaning.specs.declared.ports.PortRef.{PortRef}
 use Rattle.cx_meaning.specs.declared.ports.PortRef.TheVariants as ports
 use Rattle.cx_meaning.specs.Designs.{PlainGuard, Always, Atom, Negation, All, Any, Compared, Within, PlainGuards, no_guards, a_guard, PlainAssign}
 use Rattle.cx_meaning.specs.Active.{Owned}
+use Rattle.cx_meaning.specs.Sights.{In}
 use Rattle.cx_net.specs.Nets.{PlainNetExpr, OfPort, OfWire, PlainNetTarget, ToPort, ToHole}
 use Rattle.cx_wiring.specs.Parts.{drive}
 use Rattle.cx_wiring.specs.Guards.{guard_wires, part_wires, parts_wires, guard_drivers, part_drivers, parts_drivers}
@@ -36,14 +37,7 @@ module _ (P : PlainNetTarget → Type 0) where
       parts_drive no_guards wire own = tt
       parts_drive (a_guard g gs) wire own = drive_both P _ _ (part_drives g wire (first_wires P (part_wires g) (parts_wires gs) own)) (parts_drive gs (wire + part_wires g) (rest_wires P (part_wires g) (parts_wires gs) own))
 
-  module _ (port : (p : PortRef) → P (ToPort p)) (groups : ℕ) (hole : (g : ℕ) → g < groups → P (ToHole g)) where
-    pub target_drives : (p : PortRef) → TargetNames groups p → P (target_of p)
-    target_drives (ports.Cell c p) named = port _
-    target_drives (ports.Input n) named = port _
-    target_drives (ports.Output n) named = port _
-    target_drives (ports.Done g) named = hole g named
-    target_drives (ports.Literal w v) named = port _
-
+  module _ (groups : ℕ) where
     gate_drives : (g : ℕ) (guard : PlainGuard) (wire : ℕ) → Wires P wire (suc (guard_wires guard)) → AllDrive P (gate_drivers groups g wire guard)
     gate_drives g guard wire own = drive_both P _ _ (guard_drives (OfWire g) guard (suc wire) (later_wires P own)) (first_wire P own, tt)
 
@@ -57,9 +51,27 @@ module _ (P : PlainNetTarget → Type 0) where
     gated_drives g (Compared c x y) wire target source is own = drive_both P (gate_drivers groups g wire (Compared c x y)) (drive target (OfWire wire) source ∷ []) (gate_drives g (Compared c x y) wire own) (is, tt)
     gated_drives g (Within from to) wire target source is own = drive_both P (gate_drivers groups g wire (Within from to)) (drive target (OfWire wire) source ∷ []) (gate_drives g (Within from to) wire own) (is, tt)
 
+    pub looking_drives_to : (l : Looks) (a : PlainAssign) (wire : ℕ) → P (target_of a.target) → Wires P wire (looking_wires l a.guard) → AllDrive P (looking_drivers groups l wire a)
+    looking_drives_to (LooksAlways offset) a wire is own = drive_both P _ _ (guard_drives offset a.guard wire own) (is, tt)
+    looking_drives_to (LooksIn g) a wire is own = gated_drives g a.guard wire (target_of a.target) (OfPort a.source.port) is own
+
+    -- assignments drive what holds of each one's target
+    pub assigns_drive_to : (list : List Owned) (wire : ℕ) → ((a : Owned) → In list a → P (target_of a.assign.target)) → Wires P wire (assigns_wires list) → AllDrive P (assigns_drivers groups wire list)
+    assigns_drive_to [] wire is own = tt
+    assigns_drive_to (a ∷ rest) wire is own =
+        drive_both P _ _ (looking_drives_to (looks_of a.owner a.assign.target) a.assign wire (is a (inl refl)) (first_wires P (assign_wires a) (assigns_wires rest) own))
+        (assigns_drive_to rest (wire + assign_wires a) (λ b i. is b (inr i)) (rest_wires P (assign_wires a) (assigns_wires rest) own))
+
+  module _ (port : (p : PortRef) → P (ToPort p)) (groups : ℕ) (hole : (g : ℕ) → g < groups → P (ToHole g)) where
+    pub target_drives : (p : PortRef) → TargetNames groups p → P (target_of p)
+    target_drives (ports.Cell c p) named = port _
+    target_drives (ports.Input n) named = port _
+    target_drives (ports.Output n) named = port _
+    target_drives (ports.Done g) named = hole g named
+    target_drives (ports.Literal w v) named = port _
+
     pub looking_drives : (l : Looks) (a : PlainAssign) (wire : ℕ) → TargetNames groups a.target → Wires P wire (looking_wires l a.guard) → AllDrive P (looking_drivers groups l wire a)
-    looking_drives (LooksAlways offset) a wire named own = drive_both P _ _ (guard_drives offset a.guard wire own) (target_drives a.target named, tt)
-    looking_drives (LooksIn g) a wire named own = gated_drives g a.guard wire (target_of a.target) (OfPort a.source.port) (target_drives a.target named) own
+    looking_drives l a wire named own = looking_drives_to groups l a wire (target_drives a.target named) own
 
     -- THE ASSIGNMENTS of a component
     pub assigns_drive : (list : List Owned) (wire : ℕ) → AssignsName groups list → Wires P wire (assigns_wires list) → AllDrive P (assigns_drivers groups wire list)

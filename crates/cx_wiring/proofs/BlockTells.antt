@@ -1,6 +1,6 @@
 -- One cycle of a node of the tree: what a look that solves the rules gives its control, and that its done says whether its place is
 -- the end.
-use Rattle.std.proofs.Common.{◌≡◌, ℕ, zero, suc, ◌+◌, ◌<◌, ◌==◌, Bool, true, false, List, [], ◌∷◌, length, Option, Some, None, unwrap_or, refl, sym, ap, ◌∙◌, arith}
+use Rattle.std.proofs.Common.{◌≡◌, ℕ, zero, suc, ◌+◌, ◌<◌, ◌==◌, Bool, [], ◌∷◌, length, Option, Some, unwrap_or, sym, ap, ◌∙◌, arith}
 use Rattle.std.proofs.lemmas.Bool.{eq-eqb, lt-ltb}
 use Rattle.cx_bits.specs.BitVector.{BitVector}
 use Rattle.cx_meaning.specs.declared.ports.PortRef.{PortRef}
@@ -15,7 +15,6 @@ use Rattle.cx_net.specs.Nets.{OfPort, OfHole, PlainNetComponent}
 use Rattle.cx_net.specs.NetTree.{NetCells}
 use Rattle.cx_net.specs.NetMeaning.{NetState, Node, APort, AHole, TheDone, NetLook, NetAround, is_true, truth_bit, zero_wide, registers_of}
 use Rattle.cx_net.specs.NetEdges.{own_register}
-use Rattle.cx_static.specs.Islands.{PlainLowered}
 use Rattle.cx_static.specs.Lowering.{lowered, lowered_component, lowered_of, unlowered}
 use Rattle.cx_wiring.specs.Counts.{positions_of}
 use Rattle.cx_wiring.specs.Wiring.{groups, plain_wires, plain_drivers}
@@ -33,6 +32,10 @@ use Rattle.cx_wiring.proofs.ComponentTakes.{IsPlain}
 use Rattle.cx_wiring.proofs.ComponentLaws as laws
 use Rattle.cx_wiring.proofs.ComponentLaws.{PlainCycle}
 use Rattle.cx_wiring.proofs.CycleLaws.{plain_cycle}
+use Rattle.cx_wiring.proofs.IslandReads.{IsUntimed}
+use Rattle.cx_wiring.proofs.TimerRows.{cell_count, TimersFit, IsOwnTarget, timer_rows}
+use Rattle.cx_meaning.specs.Active.{Owned}
+use Rattle.cx_meaning.specs.Sights.{In}
 use Rattle.cx_wiring.proofs.SizeLaws.{size_is, enable_one, island_one}
 
 -- the tests of a statement and the holes of its groups are bits, where ports of one bit and all holes are
@@ -78,6 +81,10 @@ module _ (d : PlainDesign) (of_island : PlainComponent → NetState → ℕ → 
     pub control_named : StatementNames (groups (lowered_component part)) (lowered part part.control (unlowered part))
     pub assigns_named : AssignsName (groups (lowered_component part)) (driven_assigns (lowered_component part))
     pub plain : AllDrive (IsPlain (length (plain_wires (lowered_component part)))) (plain_drivers (lowered_component part))
+    pub untimed : IsUntimed part.control
+    pub cell_count : cell_count cells ≡ length part.cells
+    pub timers_fit : TimersFit part
+    pub targets : (o : Owned) → In (driven_assigns (lowered_component part)) o → IsOwnTarget part o.assign.target
     pub tests : StatementTests (IsBitPort (wired_in d part) (net_of_cells (wired_in d) timers_of (component_numbers of_island) cells (timers_of part))) (lowered part part.control (unlowered part))
 
   module _ (fine : IsFineNode) (v : NetState) (around : NetAround) (look : NetLook)
@@ -107,7 +114,7 @@ module _ (d : PlainDesign) (of_island : PlainComponent → NetState → ℕ → 
     pub node_cycle : PlainCycle part fine.islands_named around R (look []) (v.register []) (own_register (wired_in d part) (net_of_cells (wired_in d) timers_of (component_numbers of_island) cells (timers_of part)) around v look) hole_now port_now solves.go.0
     node_cycle =
         plain_cycle (lowered_of d) part fine.islands_named (net_of_cells (wired_in d) timers_of (component_numbers of_island) cells (timers_of part)) around v look (λ n t. solves.by_rule [] n t) (λ n t. solves.whole [] n t) fine.plain
-        hole_now port_now solves.go.0 solves.go.1
+        fine.untimed fine.targets (timer_rows part (wired_in d) timers_of (component_numbers of_island) cells fine.cell_count fine.timers_fit) hole_now port_now solves.go.0 solves.go.1
         (statement_bits (groups (lowered_component part)) around R (look []) hole_now port_now (IsBitPort (wired_in d part) (net_of_cells (wired_in d) timers_of (component_numbers of_island) cells (timers_of part))) port_says hole_says (lowered part part.control (unlowered part)) fine.control_named fine.tests)
 
     pub done_node : look [] TheDone ≡ Some (truth_bit (v.register [] 0 == positions_of (lowered part part.control (unlowered part))))
@@ -125,6 +132,8 @@ module _ (d : PlainDesign) (of_island : PlainComponent → NetState → ℕ → 
   block_tells fine = record {
     told = λ v around look solves. (
       truth_bit (v.register [] 0 == positions_of (lowered part part.control (unlowered part))),
-      (done_node fine v around look solves, ((λ e. true_bit _ ∙ eq-eqb (v.register [] 0) _ (e ∙ end_is)), (λ apart. true_bit _ ∙ differs (v.register [] 0) _ (λ e. apart (e ∙ sym end_is))))),
+      done_node fine v around look solves,
+      (λ e. true_bit _ ∙ eq-eqb (v.register [] 0) _ (e ∙ end_is)),
+      (λ apart. true_bit _ ∙ differs (v.register [] 0) _ (λ e. apart (e ∙ sym end_is))),
     );
   }

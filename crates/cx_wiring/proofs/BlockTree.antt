@@ -6,6 +6,7 @@ use Rattle.cx_meaning.specs.Instances.{Instance, Node, Cells, no_cells, a_primit
 use Rattle.cx_net.specs.Nets.{PlainNetComponent}
 use Rattle.cx_net.specs.NetMeaning.{NetState}
 use Rattle.cx_wiring.specs.Blocks.{block, block_below, BlockLaws, NodeLaws}
+use Rattle.cx_wiring.proofs.TreeRules.{AllNodes, CellsNodes}
 
 no_child : {A : Type 0} (child : Instance) → Nothing ≡ OfInstance child → A
 no_child child e = absurd cc
@@ -16,20 +17,11 @@ no_row row child e = absurd cc
 module _ (wired : PlainComponent → PlainNetComponent) (timers : PlainComponent → List Row) (numbers : Instance → NetState → ℕ → ℕ) where
   -- Fine is what each node of a tree must be like
   module _ (Fine : PlainComponent → Cells → Type 0) (nodes : (part : PlainComponent) (cells : Cells) → Fine part cells → NodeLaws wired timers numbers part cells) where
-    abbrev mutual
-      pub AllFine : Instance → Type 0
-      AllFine (Node part cells) = Fine part cells × CellsFine cells
-
-      pub CellsFine : Cells → Type 0
-      CellsFine no_cells = Unit {0}
-      CellsFine (a_primitive row rest) = CellsFine rest
-      CellsFine (an_instance child rest) = AllFine child × CellsFine rest
-
     mutual
-      pub block_laws : (i : Instance) → AllFine i → BlockLaws (block wired timers numbers i)
+      pub block_laws : (i : Instance) → AllNodes Fine i → BlockLaws (block wired timers numbers i)
       block_laws (Node part cells) fine = nodes part cells fine.0 (λ c child e. laws_below cells (timers part) fine.1 c child e)
 
-      pub laws_below : (cells : Cells) (more : List Row) → CellsFine cells → (c : ℕ) (child : Instance) → cell_at cells c ≡ OfInstance child → BlockLaws (block_below wired timers numbers cells more c)
+      pub laws_below : (cells : Cells) (more : List Row) → CellsNodes Fine cells → (c : ℕ) (child : Instance) → cell_at cells c ≡ OfInstance child → BlockLaws (block_below wired timers numbers cells more c)
       laws_below no_cells more fine c child e = no_child child e
       laws_below (a_primitive row rest) more fine zero child e = no_row row child e
       laws_below (a_primitive row rest) more fine (suc c) child e = laws_below rest more fine c child e

@@ -71,8 +71,19 @@ module _ (net : PlainNet) (part : PlainNetComponent) where
         let high : first + length island.timers + n < first + wires_of_island island = omega arith in
         wires (first + length island.timers + n) low high
 
-    begins_fits : (p : PlainPoint) → p.timer < timers → p.at < 2 ^ 32 → HasWidth net part (begins groups x first island p) 1
-    begins_fits p less few = (refl, (runs_fits p.timer less, ((refl, (32, count_fits p.timer less, word_width p.at few)), tt)))
+    wanted : (b : Bool) (wire : ℕ) → IsBit net part (ToWire wire) → HasWidth net part (if b then OfWire wire else Inverse (OfWire wire)) 1
+    wanted true wire bit = bit
+    wanted false wire bit = bit
+
+    samples_fit : (ss : List Sample) → Are (SampleFits (length island.points)) ss → Are (λ e. HasWidth net part e 1) (map (as_wanted groups x first island) ss)
+    samples_fit [] fit = tt
+    samples_fit (s ∷ ss) fit = (wanted s.wanted (sample_wire groups x first island s.point) (sample_fits s.point fit.0), samples_fit ss fit.1)
+
+    begins_fits : (p : PlainPoint) → PointFits net part timers (length island.points) p → HasWidth net part (begins groups x first island p) 1
+    begins_fits p fit = (
+      refl,
+      (runs_fits p.timer fit.timer, ((refl, (32, count_fits p.timer fit.timer, word_width p.at fit.at)), bits_of net part (map (as_wanted groups x first island) p.samples) (samples_fit p.samples fit.samples))),
+    )
 
     last_fits : HasWidth net part (in_last_cycle groups x first island) 1
     last_fits =
@@ -86,25 +97,17 @@ module _ (net : PlainNet) (part : PlainNetComponent) where
     points_fit n (p ∷ rest) few fit =
         let less : n < length island.points = omega arith in
         let next : suc n + length rest ≤ length island.points = omega arith in (
-          record { proper = tt; guard = begins_fits p fit.0.timer fit.0.at; width = 1; target = sample_fits n less; source = fit.0.port },
+          record { proper = tt; guard = begins_fits p fit.0; width = 1; target = sample_fits n less; source = fit.0.port },
           (
             connects net part (sample_wire groups x first island n) (OfRegister (x.register + n)) (sample_fits n less) (kept n less),
             (
               record { proper = tt; guard = last_fits; width = 1; target = kept n less; source = bit_width (record { width = 1; value = 0 }) refl (omega arith) },
-              (record { proper = tt; guard = begins_fits p fit.0.timer fit.0.at; width = 1; target = kept n less; source = fit.0.port }, points_fit (suc n) rest next fit.1),
+              (record { proper = tt; guard = begins_fits p fit.0; width = 1; target = kept n less; source = fit.0.port }, points_fit (suc n) rest next fit.1),
             ),
           ),
         )
 
     -- ENABLES
-    wanted : (b : Bool) (wire : ℕ) → IsBit net part (ToWire wire) → HasWidth net part (if b then OfWire wire else Inverse (OfWire wire)) 1
-    wanted true wire bit = bit
-    wanted false wire bit = bit
-
-    samples_fit : (ss : List Sample) → Are (SampleFits (length island.points)) ss → Are (λ e. HasWidth net part e 1) (map (as_wanted groups x first island) ss)
-    samples_fit [] fit = tt
-    samples_fit (s ∷ ss) fit = (wanted s.wanted (sample_wire groups x first island s.point) (sample_fits s.point fit.0), samples_fit ss fit.1)
-
     active_fits : (o : PlainOccurrence) → OccurrenceFits groups timers (length island.points) o → HasWidth net part (is_active groups x first island o) 1
     active_fits o fit = (
       refl,

@@ -38,31 +38,31 @@ module _ (around : NetAround) (registers : ℕ → Option BitVector) (look : Nod
   says_any e es a b h k = ap₂ (both_known or_of) h k ∙ ap Some (or_two a b)
 
   -- WHAT A GUARD SAYS at an offset
-  module _ (v : Values) (bound at : ℕ) (offset : PlainNetExpr) (known : value around registers look offset ≡ Some (wide at)) where
-    within_says : (from to : ℕ) → Says around registers look (guard_expr offset 0 (Within from to)) (nat_le from at && nat_lt at to)
+  module _ (v : Values) (bound : ℕ) (at : BitVector) (offset : PlainNetExpr) (known : value around registers look offset ≡ Some at) where
+    within_says : (from to : ℕ) → Says around registers look (guard_expr offset 0 (Within from to)) (nat_le from at.value && nat_lt at.value to)
     within_says from to =
-        says_both around registers look (Compares AtLeast offset (word from)) (Compares Less offset (word to)) (nat_le from at) (nat_lt at to)
-        (ap (λ o. both_known (λ x y. truth_bit (compares AtLeast x.value y.value)) o (Some (wide from))) known ∙ ap (λ b. Some (truth_bit b)) (not_less from at))
+        says_both around registers look (Compares AtLeast offset (word from)) (Compares Less offset (word to)) (nat_le from at.value) (nat_lt at.value to)
+        (ap (λ o. both_known (λ x y. truth_bit (compares AtLeast x.value y.value)) o (Some (wide from))) known ∙ ap (λ b. Some (truth_bit b)) (not_less from at.value))
         (ap (λ o. both_known (λ x y. truth_bit (compares Less x.value y.value)) o (Some (wide to))) known)
 
     mutual
       pub guard_says : (g : PlainGuard) (wire : ℕ) → bound ≤ wire → AllConnect around registers look bound (guard_drivers offset wire g) → GuardPorts around registers look v g
-          → Says around registers look (guard_expr offset wire g) (guard_on v at g)
+          → Says around registers look (guard_expr offset wire g) (guard_on v at.value g)
       guard_says Always wire low c h = refl
       guard_says (Atom p) wire low c h = h
-      guard_says (Negation g) wire low c h = says_not around registers look (part_expr wire g) (guard_on v at g) (part_says g wire low c h)
+      guard_says (Negation g) wire low c h = says_not around registers look (part_expr wire g) (guard_on v at.value g) (part_says g wire low c h)
       guard_says (All gs) wire low c h = all_says gs wire low c h
       guard_says (Any gs) wire low c h = any_says gs wire low c h
       guard_says (Compared k a b) wire low c h = ap₂ (both_known (λ x y. truth_bit (compares k x.value y.value))) h.0 h.1
       guard_says (Within from to) wire low c h = within_says from to
 
       part_says : (g : PlainGuard) (wire : ℕ) → bound ≤ wire → AllConnect around registers look bound (part_drivers offset wire g) → GuardPorts around registers look v g
-          → Says around registers look (part_expr wire g) (guard_on v at g)
+          → Says around registers look (part_expr wire g) (guard_on v at.value g)
       part_says Always wire low c h = c.0 low
       part_says (Atom p) wire low c h = h
       part_says (Negation g) wire low c h =
           let k = connect_both around registers look bound (part_drivers offset (suc wire) g) _ c in
-          k.1.0 low ∙ says_not around registers look (part_expr (suc wire) g) (guard_on v at g) (part_says g (suc wire) (omega arith) k.0 h)
+          k.1.0 low ∙ says_not around registers look (part_expr (suc wire) g) (guard_on v at.value g) (part_says g (suc wire) (omega arith) k.0 h)
       part_says (All gs) wire low c h =
           let k = connect_both around registers look bound (parts_drivers offset (suc wire) gs) _ c in k.1.0 low ∙ all_says gs (suc wire) (omega arith) k.0 h
       part_says (Any gs) wire low c h =
@@ -71,18 +71,18 @@ module _ (around : NetAround) (registers : ℕ → Option BitVector) (look : Nod
       part_says (Within from to) wire low c h = c.0 low ∙ within_says from to
 
       all_says : (gs : PlainGuards) (wire : ℕ) → bound ≤ wire → AllConnect around registers look bound (parts_drivers offset wire gs) → PartsPorts around registers look v gs
-          → all_expr around registers look (parts_exprs wire gs) ≡ Some (truth_bit (all_on v at gs))
+          → all_expr around registers look (parts_exprs wire gs) ≡ Some (truth_bit (all_on v at.value gs))
       all_says no_guards wire low c h = refl
       all_says (a_guard g gs) wire low c h =
           let k = connect_both around registers look bound (part_drivers offset wire g) (parts_drivers offset (wire + part_wires g) gs) c in
-          says_all around registers look (part_expr wire g) (parts_exprs (wire + part_wires g) gs) (guard_on v at g) (all_on v at gs) (part_says g wire low k.0 h.0) (all_says gs (wire + part_wires g) (omega arith) k.1 h.1)
+          says_all around registers look (part_expr wire g) (parts_exprs (wire + part_wires g) gs) (guard_on v at.value g) (all_on v at.value gs) (part_says g wire low k.0 h.0) (all_says gs (wire + part_wires g) (omega arith) k.1 h.1)
 
       any_says : (gs : PlainGuards) (wire : ℕ) → bound ≤ wire → AllConnect around registers look bound (parts_drivers offset wire gs) → PartsPorts around registers look v gs
-          → any_expr around registers look (parts_exprs wire gs) ≡ Some (truth_bit (any_on v at gs))
+          → any_expr around registers look (parts_exprs wire gs) ≡ Some (truth_bit (any_on v at.value gs))
       any_says no_guards wire low c h = refl
       any_says (a_guard g gs) wire low c h =
           let k = connect_both around registers look bound (part_drivers offset wire g) (parts_drivers offset (wire + part_wires g) gs) c in
-          says_any (part_expr wire g) (parts_exprs (wire + part_wires g) gs) (guard_on v at g) (any_on v at gs) (part_says g wire low k.0 h.0) (any_says gs (wire + part_wires g) (omega arith) k.1 h.1)
+          says_any (part_expr wire g) (parts_exprs (wire + part_wires g) gs) (guard_on v at.value g) (any_on v at.value gs) (part_says g wire low k.0 h.0) (any_says gs (wire + part_wires g) (omega arith) k.1 h.1)
 
 -- EACH WIRE of a guard has one driver
 module _ (groups : ℕ) (islands : List PlainIsland) (named : IslandsName groups islands) (around : NetAround) (registers : ℕ → Option BitVector) (look : Node → Option BitVector) (offset : PlainNetExpr) where

@@ -14,13 +14,13 @@ use Rattle.cx_static.specs.Islands.{PlainPoint, PlainOccurrence, PlainIsland}
 use Rattle.cx_wiring.specs.Parts.{drive, connect}
 use Rattle.cx_wiring.specs.Counts.{wires_of, registers_of}
 use Rattle.cx_wiring.specs.Stands.{Stand, at, stands, inside, past_test, behind, ends}
-use Rattle.cx_wiring.specs.IslandDrivers.{first_of_island, in_range, timer_runs, timer_drivers, point_drivers, as_wanted, is_active, occurrence_drivers, island_drivers}
+use Rattle.cx_wiring.specs.IslandDrivers.{first_of_island, in_range, timer_runs, timer_drivers, begins, point_drivers, as_wanted, is_active, occurrence_drivers, island_drivers}
 use Rattle.cx_wiring.specs.Guards.{part_expr, parts_exprs, guard_expr, guard_drivers, part_drivers, parts_drivers}
 use Rattle.cx_wiring.specs.Assignments.{target_of, Looks, LooksAlways, LooksIn, looks_of, go, gate_drivers, gated_drivers, looking_drivers, assign_wires, assign_drivers, assigns_drivers}
 use Rattle.cx_wiring.specs.Control.{one_turn, arm_stand, counted_inside, counting, whole_stand, finishing, comb_goes, timed_drivers, arms_over, form_drivers, drivers_of, parts_drivers as sequence_drivers, arms_drivers, control_drivers}
 use Rattle.cx_wiring.specs.Chains.{Driven, driven, with_driver, is_same, by_target, together, rests, closing, chain, chains}
 use Rattle.cx_wiring.specs.Fitting.{Are}
-use Rattle.cx_wiring.specs.Nesting.{most, guards_count, GuardNests, GuardsNest, OwnedNests, FormNests, StatementNests, PartsNest, IslandNests}
+use Rattle.cx_wiring.specs.Nesting.{most, guards_count, GuardNests, GuardsNest, OwnedNests, PointNests, FormNests, StatementNests, PartsNest, IslandNests}
 use Rattle.cx_wiring.proofs.FitLemmas.{are_both, are_at}
 use Rattle.cx_wiring.proofs.FitChains.{by_target_are}
 
@@ -159,19 +159,6 @@ module _ (groups : ℕ) where
     timers_nest t (timer ∷ rest) =
         (connected (first + t) (timer_runs groups x first island timer.cell timer.outer timer.from timer.to) (run_stands timer.cell timer.outer timer.from timer.to), (record { guard = tt; source = tt }, timers_nest (suc t) rest))
 
-    points_nest : (n : ℕ) (rest : List PlainPoint) → Are (λ (p : PlainPoint). IsRead p.port) rest → Nest (point_drivers groups x first island n rest)
-    points_nest n [] h = tt
-    points_nest n (p ∷ rest) h = (
-      record { guard = (1, omega arith, omega arith, omega arith, (tt, ((omega arith, tt, tt), tt))); source = h.0 },
-      (
-        record { guard = tt; source = tt },
-        (
-          record { guard = (1, omega arith, omega arith, omega arith, (tt, ((omega arith, tt, tt), tt))); source = tt },
-          (record { guard = (1, omega arith, omega arith, omega arith, (tt, ((omega arith, tt, tt), tt))); source = h.0 }, points_nest (suc n) rest h.1),
-        ),
-      ),
-    )
-
     wanted_stands : (b : Bool) (wire : ℕ) → StandsIn 33 (if b then OfWire wire else Inverse (OfWire wire))
     wanted_stands true wire = tt
     wanted_stands false wire = (omega arith, tt)
@@ -179,6 +166,26 @@ module _ (groups : ℕ) where
     samples_stand : (ss : List Sample) → Are (StandsIn 33) (map (as_wanted groups x first island) ss)
     samples_stand [] = tt
     samples_stand (s ∷ ss) = (wanted_stands s.wanted _, samples_stand ss)
+
+    begins_stand : (p : PlainPoint) → 3 + length p.samples ≤ most → StandsIn 47 (begins groups x first island p)
+    begins_stand p few =
+        let wants : List PlainNetExpr = map (as_wanted groups x first island) p.samples in
+        let count : parts_of (exprs_of wants) ≡ length wants = exprs_count wants in
+        let mapped : length wants ≡ length p.samples = length-map p.samples (as_wanted groups x first island) in
+        (14, omega arith, omega arith, omega arith, (tt, ((omega arith, tt, tt), all_stand 33 wants (samples_stand p.samples))))
+
+    points_nest : (n : ℕ) (rest : List PlainPoint) → Are PointNests rest → Nest (point_drivers groups x first island n rest)
+    points_nest n [] h = tt
+    points_nest n (p ∷ rest) h = (
+      record { guard = begins_stand p h.0.few; source = h.0.port },
+      (
+        record { guard = tt; source = tt },
+        (
+          record { guard = (1, omega arith, omega arith, omega arith, (tt, ((omega arith, tt, tt), tt))); source = tt },
+          (record { guard = begins_stand p h.0.few; source = h.0.port }, points_nest (suc n) rest h.1),
+        ),
+      ),
+    )
 
     active_stands : (o : PlainOccurrence) → 3 + length o.samples ≤ most → StandsIn 47 (is_active groups x first island o)
     active_stands o few =

@@ -1,5 +1,5 @@
 -- An idle edge of a node, from its own numbers, the primitives at its cells, and the laws of the children, whose go is 0.
-use Rattle.std.proofs.Common.{◌≡◌, ℕ, zero, suc, Bool, true, false, inl, List, [], ◌∷◌, refl, ap, ◌∙◌}
+use Rattle.std.proofs.Common.{◌≡◌, ℕ, zero, suc, true, false, inl, List, [], ◌∷◌, refl, ap, ◌∙◌}
 use Rattle.std.proofs.Math.Path.{fun_ext}
 use Rattle.cx_prim.specs.CellStates.{CellState}
 use Rattle.cx_prim.specs.Rows.{Row}
@@ -15,7 +15,7 @@ use Rattle.cx_wiring.specs.Blocks.{block, block_below, net_of_instance, net_of_c
 use Rattle.cx_wiring.proofs.ChildLooks.{child_stands, child_solves}
 
 module _ (wired : PlainComponent → PlainNetComponent) (timers : PlainComponent → List Row) (numbers : Instance → NetState → ℕ → ℕ) where
-  cell_of_child : (cells : NetCells) (at c : ℕ) (child : NetInstance) → net_cell_at cells at ≡ AChild child → (look : NetLook) (path : Path) (d : CellState)
+  pub cell_of_child : (cells : NetCells) (at c : ℕ) (child : NetInstance) → net_cell_at cells at ≡ AChild child → (look : NetLook) (path : Path) (d : CellState)
       → cell_below false cells at c look path d ≡ child_cell_after wired timers numbers cells at (λ q. look (c ∷ q)) path d
   cell_of_child no_net_cells at c child is look path d = absurd cc
   cell_of_child (a_row row rest) zero c child is look path d = absurd cc
@@ -45,14 +45,15 @@ module _ (wired : PlainComponent → PlainNetComponent) (timers : PlainComponent
   below_cells (an_instance child rest) more zero c look path d there row_idles child_idles = child_idles child refl
   below_cells (an_instance child rest) more (suc at) c look path d there row_idles child_idles = below_cells rest more at c look path d there row_idles child_idles
 
-  module _ (part : PlainComponent) (cells : Cells) (children : (c : ℕ) (child : Instance) → cell_at cells c ≡ OfInstance child → BlockLaws (block_below wired timers numbers cells (timers part) c)) where
+  module _ (part : PlainComponent) (cells : Cells) where
     -- what is owed of one idle edge
     pub record OwesIdle (v : NetState) (around : NetAround) (look : NetLook) : Type 0 where
       pub own : (n : ℕ) → numbers (instances.Node part cells) (after_edge (block wired timers numbers (instances.Node part cells)) around v look) n ≡ number_idle (instances.Node part cells) n (numbers (instances.Node part cells) v n)
       pub rows : (c : ℕ) (row : Row) → cell_at cells c ≡ OfRow row → row.next (v.cell (c ∷ [])) (inputs_from look c 0 row.ports) ≡ row.idle (v.cell (c ∷ []))
       pub no_go : (c : ℕ) (child : Instance) → cell_at cells c ≡ OfInstance child → HasGo (block_below wired timers numbers cells (timers part) c) (around_child c (look [])) false
 
-    module _ (owes : (v : NetState) (around : NetAround) (look : NetLook) → IsIdle (block wired timers numbers (instances.Node part cells)) around v → Solves (block wired timers numbers (instances.Node part cells)) around v look → OwesIdle v around look) where
+    module _ (children : (c : ℕ) (child : Instance) → cell_at cells c ≡ OfInstance child → BlockLaws (block_below wired timers numbers cells (timers part) c))
+        (owes : (v : NetState) (around : NetAround) (look : NetLook) → IsIdle (block wired timers numbers (instances.Node part cells)) around v → Solves (block wired timers numbers (instances.Node part cells)) around v look → OwesIdle v around look) where
       child_cells : (v : NetState) (around : NetAround) (look : NetLook) → OwesIdle v around look → Solves (block wired timers numbers (instances.Node part cells)) around v look → (c : ℕ) (child : Instance) → cell_at cells c ≡ OfInstance child
           → (path : Path) → has_cell_below cells c path ≡ true → cell_below false (net_of_cells wired timers numbers cells (timers part)) c c look path (v.cell (c ∷ path)) ≡ idle_below cells c path (v.cell (c ∷ path))
       child_cells v around look o solves c child is path there =

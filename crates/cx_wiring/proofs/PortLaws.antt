@@ -1,11 +1,13 @@
--- In the net of a component a port of a cell, or an output, has what the first of its active assignments with a true guard gives it.
+-- In the net of a component a port of a cell, or an output, has what the first of its active assignments with a true guard gives it; so
+-- has a hole, of the assignments of its group's done.
 use Rattle.std.proofs.Common.{◌≡◌, ℕ, zero, suc, ◌+◌, ◌-◌, ◌<◌, ◌≤◌, Bool, true, false, List, [], ◌∷◌, ◌++◌, length, replicate, Option, Some, None, unwrap_or, slice_get, refl, sym, ap, ◌∙◌, arith, length-append}
 use Rattle.std.proofs.lemmas.List.{length-replicate}
 use Rattle.cx_bits.specs.BitVector.{BitVector}
 use Rattle.cx_prim.specs.MemoryLaws.{slice_get-append}
 use Rattle.cx_meaning.specs.declared.ports.PortRef.{PortRef}
+use Rattle.cx_meaning.specs.declared.ports.PortRef.TheVariants as ports
 use Rattle.cx_meaning.specs.Designs.{PlainComponent}
-use Rattle.cx_meaning.specs.Active.{Owned, offset_of, same_port, source_order, drivers}
+use Rattle.cx_meaning.specs.Active.{group, Owned, offset_of, same_port, source_order, drivers}
 use Rattle.cx_meaning.specs.Sights.{In}
 use Rattle.cx_flow.specs.Flows.{Values, first_on}
 use Rattle.cx_net.specs.Nets.{PlainNetTarget, ToPort, ToRegister, ToWire, ToHole, ToDone, PlainNetDriver}
@@ -29,12 +31,20 @@ use Rattle.cx_wiring.proofs.DrivenLemmas.{IsProper}
 use Rattle.cx_wiring.proofs.NetTargets.{plain_wires_count}
 use Rattle.cx_wiring.proofs.ComponentTakes.{IsPlain, target_takes}
 use Rattle.cx_wiring.proofs.CycleLaws.{in_front, wire_there, reads}
+use Rattle.cx_wiring.proofs.HoleLaws.{HolesFit, hole_takes}
 use Rattle.cx_wiring.proofs.AssignLaws.{ReadsBit, acting_filter, no_port_wire, port_takes}
 
-one_of : (k j : ℕ) → j < k → slice_get (replicate k 1) j ≡ Some 1
-one_of zero j less = absurd (omega arith)
-one_of (suc k) zero less = refl
-one_of (suc k) (suc j) less = one_of k j (omega arith)
+no_port_hole : (n : ℕ) (p : PortRef) → same_target (ToPort p) (ToHole n) ≡ false
+no_port_hole n (ports.Cell c p) = refl
+no_port_hole n (ports.Input i) = refl
+no_port_hole n (ports.Output i) = refl
+no_port_hole n (ports.Done g) = refl
+no_port_hole n (ports.Literal w v) = refl
+
+one_of : (w k j : ℕ) → j < k → slice_get (replicate k w) j ≡ Some w
+one_of w zero j less = absurd (omega arith)
+one_of w (suc k) zero less = refl
+one_of w (suc k) (suc j) less = one_of w k j (omega arith)
 
 module _ (d : PlainLowereds) (part : PlainComponent) (named : IslandsName (groups (lowered_component part)) (lowered_component part).islands) (cells : NetCells) (around : NetAround) (s : NetState) (look : NetLook)
     (solves : (n : Node) → is_own_node (net_component d (lowered_component part)) cells n ≡ true
@@ -53,9 +63,11 @@ module _ (d : PlainLowereds) (part : PlainComponent) (named : IslandsName (group
 
   wide_one : (n : ℕ) → groups (lowered_component part) ≤ n → n < groups (lowered_component part) + bits (lowered_component part) → slice_get (plain_wires (lowered_component part)) n ≡ Some 1
   wide_one n low high =
-      let count : length (replicate (groups (lowered_component part)) 32) ≡ groups (lowered_component part) = length-replicate (groups (lowered_component part)) 32 in
-      slice_get-append (replicate (groups (lowered_component part)) 32) (replicate (bits (lowered_component part)) 1) n (n - groups (lowered_component part)) (omega arith)
-      ∙ one_of (bits (lowered_component part)) (n - groups (lowered_component part)) (omega arith)
+      let wide : ℕ = 32 in
+      let count : length (replicate (groups (lowered_component part)) wide) ≡ groups (lowered_component part) = length-replicate (groups (lowered_component part)) wide in
+      let at : n ≡ length (replicate (groups (lowered_component part)) 32) + (n - groups (lowered_component part)) = omega (arith, count, low) in
+      slice_get-append (replicate (groups (lowered_component part)) 32) (replicate (bits (lowered_component part)) 1) n (n - groups (lowered_component part)) at
+      ∙ one_of 1 (bits (lowered_component part)) (n - groups (lowered_component part)) (omega arith)
 
   -- the wires of assignments take what the drivers of assignments give them
   assign_reads : (n : ℕ) → first_of_assigns (lowered_component part) ≤ n → n < first_of_assigns (lowered_component part) + assigns_wires (driven_assigns (lowered_component part))
@@ -80,18 +92,33 @@ module _ (d : PlainLowereds) (part : PlainComponent) (named : IslandsName (group
           control_drives (λ u. same_target u (ToWire n) ≡ false) (no_port_wire n) (groups (lowered_component part)) (lowered_component part).islands (λ m less. differs m n (λ e. omega arith)) (λ g less. refl) named refl
           (first_of_control (lowered_component part)) (lowered part part.control (unlowered part)) names (record { wire_in = λ m l h. differs m n (λ e. omega arith); register_in = λ m l h. refl })
 
-  -- A PORT, where what its assignments look at is known
-  module _ (v : Values) (goes : ℕ → Bool) (at : ℕ → ℕ) (holds : AssignsHold around R (look []) (groups (lowered_component part)) goes at v (driven_assigns (lowered_component part)))
-      (left_out : (a : Owned) → In (source_order part) a → is_driven (lowered_component part) a ≡ false → offset_of (going_set goes at) a.owner ≡ None)
-      (p : PortRef) (proper : IsProper (ToPort p)) (same : (q : PortRef) → same_target (target_of q) (ToPort p) ≡ same_port q p)
-      (no_timer : (k : ℕ) (island : PlainIsland) → slice_get (lowered_component part).islands k ≡ Some island → OfTimers (λ u. same_target u (ToPort p) ≡ false) island.timers) where
-    pub driven_port : first_true around R (look []) (zero_wide (target_width d (lowered_component part) (ToPort p))) (drivers_to (ToPort p) (net_component d (lowered_component part)).drivers)
+  -- where what assignments look at is known
+  module _ (v : Values) (goes : ℕ → Bool) (at : ℕ → BitVector) (holds : AssignsHold around R (look []) (groups (lowered_component part)) goes at v (driven_assigns (lowered_component part))) where
+    -- A PORT
+    pub driven_port : ((a : Owned) → In (source_order part) a → is_driven (lowered_component part) a ≡ false → offset_of (going_set goes at) a.owner ≡ None)
+        → (p : PortRef) → IsProper (ToPort p) → ((q : PortRef) → same_target (target_of q) (ToPort p) ≡ same_port q p)
+        → ((k : ℕ) (island : PlainIsland) → slice_get (lowered_component part).islands k ≡ Some island → OfTimers (λ u. same_target u (ToPort p) ≡ false) island.timers)
+        → first_true around R (look []) (zero_wide (target_width d (lowered_component part) (ToPort p))) (drivers_to (ToPort p) (net_component d (lowered_component part)).drivers)
         ≡ Some (first_on v (zero_wide (target_width d (lowered_component part) (ToPort p))) (drivers part (going_set goes at) p))
-    driven_port =
-        target_takes d (lowered_component part) around R (look []) plain (reads d part named cells around s look solves has_value plain) (ToPort p) proper (λ m from. no_port_wire m p) (λ x. refl)
+    driven_port left_out p proper same no_timer =
+        target_takes d (lowered_component part) around R (look []) plain (reads d part named cells around s look solves has_value plain) (ToPort p) proper (λ m from. refl) (λ x. refl)
         ∙ takes_append around R (look []) (ToPort p) _ CD AD
         ∙ others_pass around R (look []) (ToPort p) _ CD
         (control_free (λ u. same_target u (ToPort p) ≡ false) (λ n. refl) (λ n. refl) (λ n. refl) refl (groups (lowered_component part)) (lowered_component part).islands no_timer (first_of_control (lowered_component part)) (lowered part part.control (unlowered part)))
         ∙ port_takes (groups (lowered_component part)) (lowered_component part).islands named around R (look []) v goes at p same (zero_wide (target_width d (lowered_component part) (ToPort p)))
         (driven_assigns (lowered_component part)) (first_of_assigns (lowered_component part)) (omega arith) assigned assign_reads holds
-        ∙ ap (λ list. Some (first_on v (zero_wide (target_width d (lowered_component part) (ToPort p))) list)) (acting_filter (going_set goes at) p (is_driven (lowered_component part)) (source_order part) left_out)
+        ∙ ap (λ list. Some (first_on v (zero_wide (target_width d (lowered_component part) (ToPort p))) list)) (acting_filter (going_set goes at) p (is_driven (lowered_component part)) (source_order part) (λ a i t e. left_out a i e))
+
+    -- A HOLE of a group's done
+    pub driven_hole : (g : ℕ) → g < groups (lowered_component part) → HolesFit v at g (driven_assigns (lowered_component part))
+        → ((a : Owned) → In (source_order part) a → same_port a.assign.target (ports.Done g) ≡ true → is_driven (lowered_component part) a ≡ false → ⊥)
+        → first_true around R (look []) (zero_wide 1) (drivers_to (ToHole g) (net_component d (lowered_component part)).drivers) ≡ Some (first_on v (zero_wide 1) (drivers part (group g) (ports.Done g)))
+    driven_hole g there fits all_driven =
+        target_takes d (lowered_component part) around R (look []) plain (reads d part named cells around s look solves has_value plain) (ToHole g) tt (λ m from. refl) (λ x. refl)
+        ∙ takes_append around R (look []) (ToHole g) _ CD AD
+        ∙ others_pass around R (look []) (ToHole g) _ CD
+        (control_drives (λ u. same_target u (ToHole g) ≡ false) (no_port_hole g) (groups (lowered_component part)) (lowered_component part).islands (λ m less. refl) (λ h less. differs (groups (lowered_component part) + h) g (λ e. omega arith))
+        named refl (first_of_control (lowered_component part)) (lowered part part.control (unlowered part)) names (record { wire_in = λ m l h. refl; register_in = λ m l h. refl }))
+        ∙ hole_takes (groups (lowered_component part)) (lowered_component part).islands named around R (look []) v goes at g (zero_wide 1)
+        (driven_assigns (lowered_component part)) (first_of_assigns (lowered_component part)) (omega arith) assigned assign_reads holds fits
+        ∙ ap (λ list. Some (first_on v (zero_wide 1) list)) (acting_filter (group g) (ports.Done g) (is_driven (lowered_component part)) (source_order part) (λ a i t e. absurd (all_driven a i t e)))

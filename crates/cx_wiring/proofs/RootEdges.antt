@@ -25,7 +25,8 @@ use Rattle.cx_net.specs.NetRuns.{IsWholeLook, AreWords, net_start, net_words}
 use Rattle.cx_wiring.specs.Blocks.{block, net_of_instance, Shows, Solves, has_cell, BlockLaws}
 use Rattle.cx_wiring.proofs.EdgeRuns.{EdgeKeeps}
 
-module _ (wired : PlainComponent → PlainNetComponent) (timers : PlainComponent → List Row) (numbers : Instance → NetState → ℕ → ℕ) (d : PlainDesign) where
+-- Holds says that the cells of a state hold what their rows can hold, so that values have their widths
+module _ (wired : PlainComponent → PlainNetComponent) (timers : PlainComponent → List Row) (numbers : Instance → NetState → ℕ → ℕ) (d : PlainDesign) (Holds : NetState → Type 0) where
   abbrev pub root_tree : NetInstance
   root_tree = net_of_instance wired timers numbers (tree_of d)
 
@@ -35,16 +36,18 @@ module _ (wired : PlainComponent → PlainNetComponent) (timers : PlainComponent
     pub good : good_control (tree_of d) c (bare s)
     pub no_input : (n : ℕ) (x : BitVector) → s (Input n) ≡ Value x → ⊥
 
-  abbrev pub ShowsRoot : Control (Machine.Place (design_machine d)) → Kept → NetState → Type 0
-  ShowsRoot c s v = Shows (block wired timers numbers (tree_of d)) c s v
+  pub record ShowsRoot (c : Control (Machine.Place (design_machine d))) (s : Kept) (v : NetState) : Type 0 where
+    pub shown_so : Shows (block wired timers numbers (tree_of d)) c s v
+    pub holds : Holds v
 
-  -- what is left: the laws of the root's block and of its control, that a whole look solves the rules, that the first state shows the
-  -- start, and that the words are those of cells
+  -- what is left: the laws of the root's block and of its control, that a whole look solves the rules, that cells go on to hold what
+  -- they can, that the first state shows the start, and that the words are those of cells
   pub record RootLaws : Type 0 where
     pub block_laws : BlockLaws (block wired timers numbers (tree_of d))
     pub keeps : Keeps (coded_control (tree_of d)) (good_control (tree_of d)) (λ path v. idle_at (tree_of d) path v) (λ path n v. number_idle_at (tree_of d) path n v)
     pub below : (p : Machine.Place (design_machine d)) → Coding.number (Coded.coding (coded_control (tree_of d))) p < Coding.size (Coded.coding (coded_control (tree_of d)))
-    pub whole_solves : (v : NetState) (look : NetLook) → IsWholeLook (net_of_instance wired timers numbers (tree_of d)) true v look → Solves (block wired timers numbers (tree_of d)) (outside true) v look
+    pub whole_solves : (v : NetState) (look : NetLook) → Holds v → IsWholeLook (net_of_instance wired timers numbers (tree_of d)) true v look → Solves (block wired timers numbers (tree_of d)) (outside true) v look
+    pub holds_on : (v : NetState) (look : NetLook) → Holds v → IsWholeLook (net_of_instance wired timers numbers (tree_of d)) true v look → Holds (net_after (net_of_instance wired timers numbers (tree_of d)) false true v look)
     pub starts : (words : List (List ℕ)) (look : NetLook) → AreWords d words → IsWholeLook (net_of_instance wired timers numbers (tree_of d)) false (net_start (net_of_instance wired timers numbers (tree_of d)) words) look
         → GoodRoot (Machine.start (design_machine d)) (shown unheld (start (tree_of d) words))
         × ShowsRoot (Machine.start (design_machine d)) (shown unheld (start (tree_of d) words)) (net_after (net_of_instance wired timers numbers (tree_of d)) true false (net_start (net_of_instance wired timers numbers (tree_of d)) words) look)
@@ -58,10 +61,13 @@ module _ (wired : PlainComponent → PlainNetComponent) (timers : PlainComponent
     edge_of_blocks = record {
       starts = λ words look fits whole. law.starts words look fits whole;
       good = λ p s g ok. record { fine = law.keeps.fine p s g.fine; good = law.keeps.kept p s g.fine g.good ok; no_input = stays p s g.no_input };
-      keeps = λ p s v look g ok shows whole. law.block_laws.runs p s v (outside true) look g.fine g.good ok shows (truth_bit true, refl, refl) (λ n x e. absurd (g.no_input n x e)) (law.whole_solves v look whole);
-      waits = λ p s v look shows whole. let t = law.block_laws.done.told v (outside true) look (law.whole_solves v look whole) in done_is look t.0 false t.1 (t.3 (λ e. apart p (law.below p) (sym (shows.own 0) ∙ e)));
-      done = λ s v look shows whole. let t = law.block_laws.done.told v (outside true) look (law.whole_solves v look whole) in done_is look t.0 true t.1 (t.2 (shows.own 0));
-      words = λ c s v shows. law.words s v shows.cells;
+      keeps = λ p s v look g ok shows whole. record {
+        shown_so = law.block_laws.runs p s v (outside true) look g.fine g.good ok shows.shown_so (truth_bit true, refl, refl) (λ n x e. absurd (g.no_input n x e)) (law.whole_solves v look shows.holds whole);
+        holds = law.holds_on v look shows.holds whole;
+      };
+      waits = λ p s v look shows whole. let t = law.block_laws.done.told v (outside true) look (law.whole_solves v look shows.holds whole) in done_is look t.0 false t.1 (t.3 (λ e. apart p (law.below p) (sym (shows.shown_so.own 0) ∙ e)));
+      done = λ s v look shows whole. let t = law.block_laws.done.told v (outside true) look (law.whole_solves v look shows.holds whole) in done_is look t.0 true t.1 (t.2 (shows.shown_so.own 0));
+      words = λ c s v shows. law.words s v shows.shown_so.cells;
     }
       where
         apart : (p : Machine.Place (design_machine d)) → Coding.number (Coded.coding (coded_control (tree_of d))) p < Coding.size (Coded.coding (coded_control (tree_of d))) → Coding.number (Coded.coding (coded_control (tree_of d))) p ≡ Coding.size (Coded.coding (coded_control (tree_of d))) → ⊥

@@ -21,7 +21,7 @@ use Rattle.cx_wiring.specs.Wiring.{groups, bits, plain_wires, component_register
 use Rattle.cx_wiring.specs.Fitting.{Are}
 use Rattle.cx_wiring.proofs.OrderHeights.{in_slice}
 use Rattle.cx_wiring.proofs.FitLemmas.{are_both, are_at, slice_below}
-use Rattle.cx_wiring.proofs.RowPorts.{ports_wide}
+use Rattle.cx_wiring.proofs.PortWidths.{ports_wide}
 
 one_bit : IsWidth 1
 one_bit = record { some_bits = omega arith; few_bits = omega arith }

@@ -8,11 +8,10 @@ use Rattle.cx_flow.specs.Flows.{Values, is_set, guard_on}
 use Rattle.cx_net.specs.Nets.{OfPort, OfWire, OfHole}
 use Rattle.cx_net.specs.NetMeaning.{Node, NetAround}
 use Rattle.cx_wiring.specs.Takings.{value, Says}
-use Rattle.cx_wiring.specs.Shown.{wide}
 
--- the groups that go, each at its offset
-abbrev pub going_set : (ℕ → Bool) → (ℕ → ℕ) → Active
-going_set goes at = record { offset = λ g. if goes g then Some (at g) else None; done_cell = None }
+-- the groups that go, each at the offset that is the value of its wire
+abbrev pub going_set : (ℕ → Bool) → (ℕ → BitVector) → Active
+going_set goes at = record { offset = λ g. if goes g then Some (at g).value else None; done_cell = None }
 
 -- a guard of an assignment that may act at an offset
 abbrev pub acts_on : Values → Option ℕ → PlainGuard → Bool
@@ -36,9 +35,9 @@ module _ (around : NetAround) (registers : ℕ → Option BitVector) (look : Nod
       PartsPorts (a_guard g gs) = GuardPorts g × PartsPorts gs
 
   -- of so many groups
-  module _ (groups : ℕ) (goes : ℕ → Bool) (at : ℕ → ℕ) where
+  module _ (groups : ℕ) (goes : ℕ → Bool) (at : ℕ → BitVector) where
     abbrev pub GroupSays : ℕ → Type 0
-    GroupSays g = Says around registers look (OfHole (groups + g)) (goes g) × (value around registers look (OfWire g) ≡ Some (wide (at g)))
+    GroupSays g = Says around registers look (OfHole (groups + g)) (goes g) × (value around registers look (OfWire g) ≡ Some (at g))
 
     abbrev pub OwnerSays : Option ℕ → Type 0
     OwnerSays None = Unit {0}

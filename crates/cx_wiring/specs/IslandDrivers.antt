@@ -59,10 +59,13 @@ module _ (groups : ℕ) (x : Stand) (first : ℕ) (island : PlainIsland) where
       ∷ drive (ToPort (ports.Cell timer.cell 0)) (runs t) one
       ∷ timer_drivers (suc t) rest
 
-  -- SAMPLES. Where a static if begins its sample is its port, and later what the register has kept of it, which forgets it in
-  -- the last active cycle of the island
+  -- SAMPLES. Where a static if begins, and those around it go to it, its sample is its port, and later what the register has kept of
+  -- it, which forgets it in the last active cycle of the island
+  abbrev pub as_wanted : Sample → PlainNetExpr
+  as_wanted s = if s.wanted then OfWire (sample_wire s.point) else Inverse (OfWire (sample_wire s.point))
+
   abbrev pub begins : PlainPoint → PlainNetExpr
-  begins p = both (runs p.timer) (equals (count p.timer) p.at)
+  begins p = AllOf (exprs_of (runs p.timer ∷ equals (count p.timer) p.at ∷ map as_wanted p.samples))
 
   abbrev pub in_last_cycle : PlainNetExpr
   in_last_cycle = both (at x) (equals (count 0) (island.length - 1))
@@ -78,9 +81,6 @@ module _ (groups : ℕ) (x : Stand) (first : ℕ) (island : PlainIsland) where
 
   -- ENABLES. A group is active in a range of a timer where the samples are as wanted; its offset is counted from the first
   -- count of the range, modulo 2 to the 32
-  abbrev pub as_wanted : Sample → PlainNetExpr
-  as_wanted s = if s.wanted then OfWire (sample_wire s.point) else Inverse (OfWire (sample_wire s.point))
-
   abbrev pub is_active : PlainOccurrence → PlainNetExpr
   is_active o = AllOf (exprs_of (in_range o.timer o.from o.to ++ map as_wanted o.samples))
 

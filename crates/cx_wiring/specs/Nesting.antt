@@ -56,9 +56,14 @@ abbrev mutual
   PartsNest no_statements = Unit {0}
   PartsNest (a_statement s ss) = StatementNests s × PartsNest ss
 
+-- a static if reads no output, and begins where its timer has a count, of two parts, and its samples are as wanted
+pub record PointNests (p : PlainPoint) : Type 0 where
+  pub port : IsRead p.port
+  pub few : 3 + length p.samples ≤ most
+
 -- an occurrence is active where its timer is in a range, of three parts, and its samples are as wanted
 pub record IslandNests (island : PlainIsland) : Type 0 where
-  pub points : Are (λ (p : PlainPoint). IsRead p.port) island.points
+  pub points : Are PointNests island.points
   pub occurrences : Are (λ (o : PlainOccurrence). 3 + length o.samples ≤ most) island.occurrences
 
 -- PARTS OF GUARDS. Always stands for an assignment without a guard, and is no part of one

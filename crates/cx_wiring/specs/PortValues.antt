@@ -1,20 +1,27 @@
 -- What a look of the net makes of an instance: a value of each port, what is around it and below it, and which groups go.
-use Rattle.std.specs.Prelude.{ℕ, ◌+◌, Bool, false, nat_lt, List, [], ◌∷◌, length, Option, Some, None, unwrap_or, if◌then◌else◌}
+use Rattle.std.specs.Prelude.{ℕ, ◌+◌, ◌&&◌, Bool, false, nat_lt, List, [], ◌∷◌, length, Option, Some, None, unwrap_or, if◌then◌else◌}
 use Rattle.cx_bits.specs.BitVector.{BitVector}
 use Rattle.cx_meaning.specs.declared.ports.PortRef.{PortRef}
 use Rattle.cx_meaning.specs.declared.ports.PortRef.TheVariants as ports
 use Rattle.cx_meaning.specs.Instances.{Instance, At, Nothing, OfRow, OfInstance, part_of, cells_of, cell_at}
 use Rattle.cx_meaning.specs.Active.{Active}
+use Rattle.cx_meaning.specs.Islands.{group_length}
 use Rattle.cx_rules.specs.Ports.{declared_width, width_of}
 use Rattle.cx_flow.specs.Flows.{Values, Around, Solves, zero_of}
 use Rattle.cx_net.specs.NetMeaning.{NetState, APort, AWire, AHole, TheDone, NetLook, NetAround, is_true}
-use Rattle.cx_wiring.specs.GuardPorts.{going_set}
+use Rattle.cx_static.specs.Lowering.{lowered_component}
+use Rattle.cx_wiring.specs.Assignments.{owner_drives}
 
 -- whether a port stands at a cell
 abbrev pub has_port : At → ℕ → Bool
 has_port Nothing p = false
 has_port (OfRow row) p = nat_lt p (length row.ports)
 has_port (OfInstance child) p = nat_lt p (2 + length (part_of child).inputs + length (part_of child).outputs)
+
+-- the offset of a group, which is that of its wire where the group is static
+abbrev pub own_offset : Option ℕ → BitVector → ℕ
+own_offset None b = 0
+own_offset (Some cycles) b = b.value
 
 module _ (i : Instance) (around : NetAround) (s : NetState) (look : NetLook) where
   abbrev pub around_of : Around
@@ -37,15 +44,16 @@ module _ (i : Instance) (around : NetAround) (s : NetState) (look : NetLook) whe
   port_value (ports.Done g) = if nat_lt g (length (part_of i).groups) then unwrap_or (look [] (AHole g)) (zero_of (Some 1)) else zero_of (Some 1)
   port_value (ports.Literal w n) = record { width = w; value = n }
 
-  -- the groups that go, each at the offset that its wire has
+  -- the groups that go. A static group of which no island has an occurrence does not stand in
+  -- the net
   abbrev pub goes_now : ℕ → Bool
-  goes_now g = is_true (unwrap_or (look [] (AHole (length (part_of i).groups + g))) (zero_of (Some 1)))
+  goes_now g = is_true (unwrap_or (look [] (AHole (length (part_of i).groups + g))) (zero_of (Some 1))) && owner_drives (lowered_component (part_of i)) (Some g)
 
-  abbrev pub offset_now : ℕ → ℕ
-  offset_now g = (unwrap_or (look [] (AWire g)) (zero_of (Some 32))).value
+  abbrev pub offset_now : ℕ → BitVector
+  offset_now g = unwrap_or (look [] (AWire g)) (zero_of (Some 32))
 
   abbrev pub active_now : Active
-  active_now = going_set goes_now offset_now
+  active_now = record { offset = λ g. if goes_now g then Some (own_offset (group_length (part_of i) g) (offset_now g)) else None; done_cell = None }
 
   -- THE PORTS SOLVE their equations
   abbrev pub WiresSolve : Type 0

@@ -1,7 +1,6 @@
 -- The drivers of a target, and the cells of a component in the tree of a net.
-use Rattle.std.proofs.Common.{◌≡◌, ℕ, zero, suc, ◌==◌, Bool, true, false, List, [], ◌∷◌, Option, Some, None, option_and_then, option_map, slice_get, refl, ap, sym, ◌∙◌, subst, if◌then◌else◌}
+use Rattle.std.proofs.Common.{◌≡◌, ℕ, zero, suc, ◌==◌, Bool, true, false, List, [], ◌∷◌, Some, option_and_then, option_map, slice_get, refl, ap, ◌∙◌, if◌then◌else◌}
 use Rattle.std.proofs.lemmas.Bool.{eqb-true}
-use Rattle.cx_bits.specs.BitVector.{BitVector}
 use Rattle.cx_prim.specs.declared.ports.PortRow.{PortRow}
 use Rattle.cx_prim.specs.Table.{PrimitiveRow, row_of}
 use Rattle.cx_meaning.specs.declared.ports.PortRef.TheVariants as ports
@@ -11,9 +10,14 @@ use Rattle.cx_net.specs.Nets.{PlainNetTarget, ToPort, ToRegister, ToWire, ToHole
 use Rattle.cx_net.specs.NetTree.{NetInstance, NetCells, no_net_cells, NetAt, ARow, AChild, net_part, net_cell_at, net_component_at, add_net_cell, net_cells_for, net_within}
 use Rattle.cx_net.specs.NetMeaning.{NetState, Node, NetLook, NetAround, same_target, drivers_to, net_step, child_step, is_node, is_node_below}
 use Rattle.cx_net.specs.NetEdges.{register_after, register_below, cell_below}
+use Rattle.cx_net.specs.NetRuns.{net_start_below}
 use Rattle.cx_prim.specs.CellStates.{CellState}
-use Rattle.cx_emit.specs.Fits.{signature_widths, kind_width, port_width, target_width, IsFitDriver}
-use Rattle.cx_emit.proofs.ExprLemmas.{AreFitDrivers}
+use Rattle.cx_net.specs.NetFits.{signature_widths, kind_width, port_width, HasWidth, target_width, IsFitDriver}
+
+-- drivers of a target of this width
+abbrev pub AreFitDrivers : PlainNet → PlainNetComponent → ℕ → List PlainNetDriver → Type 0
+AreFitDrivers net part w [] = Unit {0}
+AreFitDrivers net part w (d ∷ ds) = HasWidth net part d.guard 1 × HasWidth net part d.source w × AreFitDrivers net part w ds
 
 both_tests : (a b : Bool) → (if a then b else false) ≡ true → (a ≡ true) × (b ≡ true)
 both_tests true b e = (refl, e)
@@ -114,6 +118,23 @@ module _ (child : ℕ → NetInstance) where
         let same : x ≡ cell = cc in
         ap (λ kind. register_below (add_net_cell child kind (net_cells_for child cells)) zero around s look path n) (ap (λ (y : PlainCell). y.kind) same ∙ is)
     register-at (x ∷ cells) (suc c) cell h e is n = next-register x.kind (net_cells_for child cells) c n ∙ register-at cells c cell h e is n
+
+  next-start : (kind : PlainKind) (rest : NetCells) (c : ℕ) (path : Path) → net_start_below (add_net_cell child kind rest) (suc c) path ≡ net_start_below rest c path
+  next-start (OfPrimitive p) rest c path = refl
+  next-start (OfComponent h) rest c path = refl
+
+  -- the start of a cell of this kind
+  pub start-at : (kind : PlainKind) (cells : List PlainCell) (c : ℕ) (cell : PlainCell) (path : Path) → slice_get cells c ≡ Some cell → cell.kind ≡ kind
+      → net_start_below (net_cells_for child cells) c path ≡ net_start_below (add_net_cell child kind no_net_cells) 0 path
+  start-at kind [] c cell path e is = absurd (cc)
+  start-at kind (x ∷ cells) zero cell path e is =
+      let same : x ≡ cell = cc in
+      ap (λ y. net_start_below (add_net_cell child y (net_cells_for child cells)) zero path) (ap (λ (y : PlainCell). y.kind) same ∙ is) ∙ alone kind (net_cells_for child cells)
+    where
+      alone : (y : PlainKind) (rest : NetCells) → net_start_below (add_net_cell child y rest) zero path ≡ net_start_below (add_net_cell child y no_net_cells) 0 path
+      alone (OfPrimitive p) rest = refl
+      alone (OfComponent h) rest = refl
+  start-at kind (x ∷ cells) (suc c) cell path e is = next-start x.kind (net_cells_for child cells) c path ∙ start-at kind cells c cell path e is
 
   module _ (with_reset : Bool) (look : NetLook) (d : CellState) where
     next-state : (kind : PlainKind) (rest : NetCells) (at c : ℕ) (path : Path) → cell_below with_reset (add_net_cell child kind rest) (suc at) c look path d ≡ cell_below with_reset rest at c look path d

@@ -1,0 +1,87 @@
+#!/usr/bin/env python3
+"""Runs the commands of docs/TUTORIAL.md and docs/VERILOG.md, and compares what they print with the pages.
+
+    bench/pages.py PROGRAM [--write]
+
+PROGRAM is the built calyx_cli. A block that is fenced as `file NAME` is written to that file, one that is fenced as `console` has commands behind `$ `, each
+followed by what it prints, on either stream. Those of a page run in one new folder, with the program on the path and YARNCHERT as this repository. A command
+with a tool that is not installed is left out, which is told. With --write the pages get what the commands print.
+"""
+import os
+import re
+import shutil
+import subprocess
+import sys
+import tempfile
+
+TOP = os.path.abspath(os.path.join(os.path.dirname(os.path.abspath(__file__)), '..'))
+PAGES = [os.path.join(TOP, 'docs', name) for name in ('TUTORIAL.md', 'VERILOG.md')]
+TOOLS = ('iverilog', 'vvp', 'verilator', 'yosys')
+
+
+def ran(command, folder, program):
+    kept = {**os.environ, 'PATH': os.path.dirname(program) + ':' + os.environ['PATH'], 'YARNCHERT': TOP, 'CALYX_CLI': program}
+    made = subprocess.run(['bash', '-c', command], cwd=folder, env=kept, stdout=subprocess.PIPE, stderr=subprocess.STDOUT, check=False)
+    return made.stdout.decode()
+
+
+def steps(block):
+    """The commands of a block, each with what it printed."""
+    for part in re.split(r'^\$ ', block, flags=re.M)[1:]:
+        command, _, printed = part.partition('\n')
+        yield command, printed
+
+
+def lacking(command):
+    return [tool for tool in TOOLS if re.search(rf'\b{tool}\b', command) and not shutil.which(tool)]
+
+
+def told(block, folder, program, wrong):
+    """The block as the commands print it now."""
+    made = ''
+    for command, printed in steps(block):
+        if lacking(command):
+            print(f'left out, for want of {lacking(command)[0]}: {command}')
+            now = printed
+        else:
+            now = ran(command, folder, program)
+        if now != printed:
+            wrong.append(f'$ {command}\n{now}')
+        made += f'$ {command}\n{now}'
+    return made
+
+
+def follow(path, program, writes):
+    """How many commands a page has, and those that print something else."""
+    with open(path, encoding='utf-8') as file:
+        blocks = re.split(r'(^```.*?^```$)', file.read(), flags=re.M | re.S)
+    wrong = []
+    with tempfile.TemporaryDirectory(prefix='pages_') as folder:
+        for number, block in enumerate(blocks):
+            named = re.match(r'```file (\S+)\n(.*)```$', block, flags=re.S)
+            typed = re.match(r'```console\n(.*)```$', block, flags=re.S)
+            if named:
+                with open(os.path.join(folder, named.group(1)), 'w', encoding='utf-8') as to:
+                    to.write(named.group(2))
+            elif typed:
+                blocks[number] = '```console\n' + told(typed.group(1), folder, program, wrong) + '```'
+    if writes:
+        with open(path, 'w', encoding='utf-8') as file:
+            file.write(''.join(blocks))
+    return sum(block.count('\n$ ') for block in blocks if block.startswith('```console')), wrong
+
+
+def main():
+    program, writes = os.path.abspath(sys.argv[1]), sys.argv[2:] == ['--write']
+    commands, wrong = 0, []
+    for path in PAGES:
+        count, others = follow(path, program, writes)
+        commands, wrong = commands + count, wrong + others
+    if not writes:
+        print(*wrong, sep='\n')
+    print(f'{commands - len(wrong)} passed, {len(wrong)} failed')
+    return 1 if wrong or not commands else 0
+
+
+if __name__ == '__main__':
+    sys.exit(main())

@@ -1,0 +1,410 @@
+-- What the rules of acceptance say of the ports of an instance: those that its assignments and tests name are there and no holes, its
+-- literals fit, what stands alone in a guard or a test is of one bit, and a guard looks at the offset of its group where that is static.
+use Rattle.std.proofs.Common.{◌≡◌, inl, inr, ⊎_elim, ℕ, zero, suc, ◌+◌, ◌-◌, ◌<◌, Bool, true, false, not, ◌||◌, if◌then◌else◌, List, [], ◌∷◌, ◌++◌, length, Option, Some, None, refl, sym, ap, ◌∙◌, subst, arith}
+use Rattle.std.specs.Prelude.{nat_lt, nat_eq, slice_get, option_map}
+use Rattle.std.proofs.lemmas.Bool.{eqb-true, ltb-true}
+use Rattle.cx_text.specs.declared.rules.Rule.TheVariants as rules
+use Rattle.cx_prim.specs.Rows.{Row}
+use Rattle.cx_prim.specs.Table.{PrimitiveRow, row_of}
+use Rattle.cx_meaning.specs.declared.ports.PortRef.{PortRef}
+use Rattle.cx_meaning.specs.declared.ports.PortRef.TheVariants as ports
+use Rattle.cx_meaning.specs.declared.ports.PlacedPort.{PlacedPort}
+use Rattle.cx_meaning.specs.declared.kinds.PortDecl.{PortDecl}
+use Rattle.cx_meaning.specs.Designs.{PlainGuard, Always, Atom, Negation, All, Any, Compared, Within, PlainGuards, no_guards, a_guard, PlainAssign, PlainKind, OfPrimitive, OfComponent, PlainCell, PlainComponent, PlainDesign, no_component, component_at, group_at}
+use Rattle.cx_meaning.specs.Instances.{Instance, Node, Cells, no_cells, At, Nothing, OfRow, OfInstance, cell_at, cells_of, part_of, add_cell, cells_for, tree_within, tree_of, Path, instance_at}
+use Rattle.cx_meaning.specs.Active.{Owned, source_order}
+use Rattle.cx_meaning.specs.Sights.{In, PartPort, Go, AnInput, AnOutput, ItsDone, output_port, part_port}
+use Rattle.cx_meaning.specs.Islands.{group_length}
+use Rattle.cx_rules.specs.Ports.{component_of, declared_width, part_width, cell_width, width_of, written_width, is_source_only, path_of}
+use Rattle.cx_rules.specs.Items.{atoms_of, atoms_in, operands_of, operands_in, Range, ranges_of, sources_of, Visited, statements_in, test_in}
+use Rattle.cx_rules.specs.WidthRules.{differ, is_wide, first_wide, IsBadLiteral}
+use Rattle.cx_rules.specs.ShapeRules.{is_hole, some_target, owner_length, is_bad_range}
+use Rattle.cx_rules.specs.Spots.{AnAssign, AStatement, AGroup}
+use Rattle.cx_rules.specs.Accepted.{IsAccepted}
+use Rattle.cx_rules.specs.Wellformed.{IsThere, IsAssign, IsForm, IsDesign, IsKind, StandsIn, port_count}
+use Rattle.cx_rules.proofs.Finite.{in_left, in_right}
+use Rattle.cx_rules.proofs.CircleLemmas.{same_part}
+use Rattle.cx_flow.proofs.InstanceLemmas.{number_in}
+use Rattle.cx_wiring.proofs.WholeInstances.{IsWhole, of_component, of_nothing, instance_whole, cells_alike, alike_there, alike_written, alike_source}
+use Rattle.cx_wiring.proofs.CycleLaws.{some_at}
+use Rattle.cx_wiring.proofs.DesignNames.{stands_in}
+
+-- a port that a statement or an assignment names
+pub record IsNamed (i : Instance) (p : PortRef) : Type 0 where
+  pub there : IsThere i p
+  pub no_hole : is_hole p ≡ false
+  pub literal : IsBadLiteral p → ⊥
+
+-- a port of a cell, an output, a done
+abbrev pub IsTarget : PortRef → Type 0
+IsTarget (ports.Cell c p) = Unit {0}
+IsTarget (ports.Input n) = ⊥
+IsTarget (ports.Output n) = Unit {0}
+IsTarget (ports.Done g) = Unit {0}
+IsTarget (ports.Literal w v) = ⊥
+
+-- the group is static, and goes so many cycles
+pub record IsStatic (part : PlainComponent) (owner : Option ℕ) : Type 0 where
+  pub group : ℕ
+  pub cycles : ℕ
+  pub owns : owner ≡ Some group
+  pub is : group_length part group ≡ Some cycles
+
+-- OF AN ASSIGNMENT
+pub record AssignRules (i : Instance) (o : Owned) : Type 0 where
+  pub target : IsThere i o.assign.target
+  pub is_target : IsTarget o.assign.target
+  pub no_source : is_source_only i o.assign.target ≡ false
+  pub owner : (g : ℕ) → o.owner ≡ Some g → g < length (part_of i).groups
+  pub own_hole : (g : ℕ) → o.assign.target ≡ ports.Done g → o.owner ≡ Some g
+  pub source : (p : PlacedPort) → In (sources_of o.assign) p → IsNamed i p.port
+  pub atom : (p : PlacedPort) → In (atoms_of o.assign.guard) p → written_width i p.port ≡ Some 1
+  pub range : (r : Range) → In (ranges_of o.assign.guard) r → IsStatic (part_of i) o.owner
+  pub static_hole : IsStatic (part_of i) o.owner → is_hole o.assign.target ≡ true → ⊥
+
+-- OF A TEST
+pub record TestRules (i : Instance) (p : PortRef) : Type 0 where
+  pub named : IsNamed i p
+  pub one_bit : written_width i p ≡ Some 1
+
+-- a cell is what its component names
+pub record RowOf (part : PlainComponent) (c : ℕ) (row : Row) : Type 0 where
+  pub cell : PlainCell
+  pub primitive : PrimitiveRow
+  pub stands : slice_get part.cells c ≡ Some cell
+  pub kind : cell.kind ≡ OfPrimitive primitive
+  pub is : row_of primitive ≡ row
+
+pub record ChildOf (d : PlainDesign) (part : PlainComponent) (c : ℕ) (child : Instance) : Type 0 where
+  pub cell : PlainCell
+  pub component : ℕ
+  pub stands : slice_get part.cells c ≡ Some cell
+  pub kind : cell.kind ≡ OfComponent component
+  pub within : component < length d.components
+  pub is : part_of child ≡ component_at d component
+
+pub record PortRules (d : PlainDesign) (i : Instance) : Type 0 where
+  pub forms : (v : Visited) → In (statements_in (part_of i)) v → IsForm (part_of i) v.form
+  pub assigns : (o : Owned) → In (source_order (part_of i)) o → AssignRules i o
+  pub tests : (v : Visited) (p : PlacedPort) → In (statements_in (part_of i)) v → test_in v.form ≡ Some p → TestRules i p.port
+  pub rows : (c : ℕ) (row : Row) → cell_at (cells_of i) c ≡ OfRow row → RowOf (part_of i) c row
+  pub children : (c : ℕ) (child : Instance) → cell_at (cells_of i) c ≡ OfInstance child → ChildOf d (part_of i) c child
+
+-- CELLS
+module _ (d : PlainDesign) (n : ℕ) where
+  row_is : (a b : Row) → OfRow a ≡ OfRow b → a ≡ b
+  row_is a b e = cc
+
+  instance_is : (a b : Instance) → OfInstance a ≡ OfInstance b → a ≡ b
+  instance_is a b e = cc
+
+  row_at : (cells : List PlainCell) (c : ℕ) (row : Row) → cell_at (cells_for (tree_within d n) cells) c ≡ OfRow row
+      → (cell : PlainCell) × (p : PrimitiveRow) × (slice_get cells c ≡ Some cell) × (cell.kind ≡ OfPrimitive p) × (row_of p ≡ row)
+  row_at [] c row e = absurd (cc)
+  row_at (cell ∷ cells) c row e = by_kind cell.kind refl c e (row_at cells)
+    where
+      by_kind : (kind : PlainKind) → cell.kind ≡ kind → (c : ℕ) → cell_at (add_cell (tree_within d n) kind (cells_for (tree_within d n) cells)) c ≡ OfRow row
+          → ((m : ℕ) (r : Row) → cell_at (cells_for (tree_within d n) cells) m ≡ OfRow r → (x : PlainCell) × (p : PrimitiveRow) × (slice_get cells m ≡ Some x) × (x.kind ≡ OfPrimitive p) × (row_of p ≡ r))
+          → (x : PlainCell) × (p : PrimitiveRow) × (slice_get (cell ∷ cells) c ≡ Some x) × (x.kind ≡ OfPrimitive p) × (row_of p ≡ row)
+      by_kind (OfPrimitive p) is zero f later = (cell, p, refl, is, row_is (row_of p) row f)
+      by_kind (OfPrimitive p) is (suc m) f later = later m row f
+      by_kind (OfComponent k) is zero f later = absurd (cc)
+      by_kind (OfComponent k) is (suc m) f later = later m row f
+
+  child_at_cell : (cells : List PlainCell) (c : ℕ) (child : Instance) → cell_at (cells_for (tree_within d n) cells) c ≡ OfInstance child → ((cell : PlainCell) → In cells cell → IsKind d cell.kind)
+      → (cell : PlainCell) × (k : ℕ) × (slice_get cells c ≡ Some cell) × (cell.kind ≡ OfComponent k) × (k < length d.components) × (part_of child ≡ component_at d k)
+  child_at_cell [] c child e each = absurd (cc)
+  child_at_cell (cell ∷ cells) c child e each = by_kind cell.kind refl (each cell (inl refl)) c e (λ m x f. child_at_cell cells m x f (λ y i. each y (inr i)))
+    where
+      by_kind : (kind : PlainKind) → cell.kind ≡ kind → IsKind d kind → (c : ℕ) → cell_at (add_cell (tree_within d n) kind (cells_for (tree_within d n) cells)) c ≡ OfInstance child
+          → ((m : ℕ) (x : Instance) → cell_at (cells_for (tree_within d n) cells) m ≡ OfInstance x
+          → (y : PlainCell) × (k : ℕ) × (slice_get cells m ≡ Some y) × (y.kind ≡ OfComponent k) × (k < length d.components) × (part_of x ≡ component_at d k))
+          → (y : PlainCell) × (k : ℕ) × (slice_get (cell ∷ cells) c ≡ Some y) × (y.kind ≡ OfComponent k) × (k < length d.components) × (part_of child ≡ component_at d k)
+      by_kind (OfPrimitive p) is has zero f later = absurd (cc)
+      by_kind (OfPrimitive p) is has (suc m) f later = later m child f
+      by_kind (OfComponent k) is has zero f later = (cell, k, refl, is, has, ap part_of (sym (instance_is (tree_within d n k) child f)) ∙ same_part d n k)
+      by_kind (OfComponent k) is has (suc m) f later = later m child f
+
+-- WIDTHS: a port that is there has one as it is written
+pub declared_there : (decls : List PortDecl) (n : ℕ) → n < length decls → (w : ℕ) × (declared_width decls n ≡ Some w)
+declared_there decls n h = let r = some_at decls n h in (r.0.width, ap (option_map (λ decl. decl.width)) r.1)
+
+output_is : (outputs m n : ℕ) → output_port outputs m ≡ AnOutput n → n < outputs
+output_is outputs m n e = by (nat_lt m outputs) refl e
+  where
+    by : (t : Bool) → nat_lt m outputs ≡ t → (if t then AnOutput m else ItsDone) ≡ AnOutput n → n < outputs
+    by true f g = let same : m ≡ n = cc in subst (λ k. k < outputs) same (ltb-true m outputs f)
+    by false f g = absurd (cc)
+
+pub output_there : (part : PlainComponent) (p n : ℕ) → part_port part p ≡ AnOutput n → n < length part.outputs
+output_there part zero n e = absurd (cc)
+output_there part (suc m) n e = by (nat_lt m (length part.inputs)) e
+  where
+    by : (t : Bool) → (if t then AnInput m else output_port (length part.outputs) (m - length part.inputs)) ≡ AnOutput n → n < length part.outputs
+    by true f = absurd (cc)
+    by false f = output_is (length part.outputs) (m - length part.inputs) n f
+
+output_is_none : (outputs m n : ℕ) → output_port outputs m ≡ AnInput n → ⊥
+output_is_none outputs m n e = by (nat_lt m outputs) e
+  where
+    by : (t : Bool) → (if t then AnOutput m else ItsDone) ≡ AnInput n → ⊥
+    by true f = cc
+    by false f = cc
+
+input_there : (part : PlainComponent) (p n : ℕ) → part_port part p ≡ AnInput n → n < length part.inputs
+input_there part zero n e = absurd (cc)
+input_there part (suc m) n e = by (nat_lt m (length part.inputs)) refl e
+  where
+    by : (t : Bool) → nat_lt m (length part.inputs) ≡ t → (if t then AnInput m else output_port (length part.outputs) (m - length part.inputs)) ≡ AnInput n → n < length part.inputs
+    by true f g = let same : m ≡ n = cc in subst (λ k. k < length part.inputs) same (ltb-true m (length part.inputs) f)
+    by false f g = absurd (output_is_none (length part.outputs) (m - length part.inputs) n g)
+
+part_has : (part : PlainComponent) (p : ℕ) (kind : PartPort) → part_port part p ≡ kind → (w : ℕ) × (part_width part kind ≡ Some w)
+part_has part p Go e = (1, refl)
+part_has part p (AnInput n) e = declared_there part.inputs n (input_there part p n e)
+part_has part p (AnOutput n) e = declared_there part.outputs n (output_there part p n e)
+part_has part p ItsDone e = (1, refl)
+
+cell_has : (at : At) (p : ℕ) → p < port_count at → (w : ℕ) × (cell_width at p ≡ Some w)
+cell_has Nothing p h = absurd (omega arith)
+cell_has (OfRow row) p h = let r = some_at row.ports p h in (r.0.width, ap (option_map (λ port. port.width)) r.1)
+cell_has (OfInstance child) p h = part_has (part_of child) p (part_port (part_of child) p) refl
+
+pub written_there : (i : Instance) (p : PortRef) → IsThere i p → (w : ℕ) × (written_width i p ≡ Some w)
+written_there i (ports.Cell c p) h = cell_has (cell_at (cells_of i) c) p h.1
+written_there i (ports.Input n) h = declared_there (part_of i).inputs n h
+written_there i (ports.Output n) h = declared_there (part_of i).outputs n h
+written_there i (ports.Done g) h = (1, refl)
+written_there i (ports.Literal w v) h = (w, refl)
+
+narrow : (o : Option ℕ) (w : ℕ) → o ≡ Some w → differ o (Some 1) ≡ false → o ≡ Some 1
+narrow o w e f = let equal : w ≡ 1 = eqb-true w 1 (unnot (nat_eq w 1) (ap (λ x. differ x (Some 1)) (sym e) ∙ f)) in e ∙ ap Some equal
+  where
+    unnot : (b : Bool) → not b ≡ false → b ≡ true
+    unnot true g = refl
+    unnot false g = absurd (cc)
+
+-- a port alone in a guard is one of its operands
+mutual
+  atom_operand : (g : PlainGuard) (p : PlacedPort) → In (atoms_of g) p → In (operands_of g) p
+  atom_operand Always p i = absurd i
+  atom_operand (Atom q) p i = i
+  atom_operand (Negation g) p i = atom_operand g p i
+  atom_operand (All gs) p i = atoms_operand gs p i
+  atom_operand (Any gs) p i = atoms_operand gs p i
+  atom_operand (Compared c a b) p i = absurd i
+  atom_operand (Within from to) p i = absurd i
+
+  atoms_operand : (gs : PlainGuards) (p : PlacedPort) → In (atoms_in gs) p → In (operands_in gs) p
+  atoms_operand no_guards p i = absurd i
+  atoms_operand (a_guard g gs) p i = either (atoms_of g) i (λ j. in_left (operands_of g) (operands_in gs) p (atom_operand g p j)) (λ j. in_right (operands_of g) (operands_in gs) p (atoms_operand gs p j))
+    where
+      either : (xs : List PlacedPort) → In (xs ++ atoms_in gs) p → (In xs p → In (operands_of g ++ operands_in gs) p) → (In (atoms_in gs) p → In (operands_of g ++ operands_in gs) p) → In (operands_of g ++ operands_in gs) p
+      either [] j f h = h j
+      either (x ∷ xs) (inl e) f h = f (inl e)
+      either (x ∷ xs) (inr j) f h = either xs j (λ k. f (inr k)) h
+
+wide_among : (i : Instance) (ps : List PlacedPort) (p : PlacedPort) → In ps p → is_wide i p.port ≡ true → (q : PortRef) × (first_wide i ps ≡ Some q)
+wide_among i [] p j e = absurd j
+wide_among i (x ∷ xs) p (inl same) e = (x.port, ap (λ b. if b then Some x.port else first_wide i xs) (ap (λ y. is_wide i y.port) same ∙ e))
+wide_among i (x ∷ xs) p (inr j) e = by (is_wide i x.port) (wide_among i xs p j e)
+  where
+    by : (b : Bool) → (q : PortRef) × (first_wide i xs ≡ Some q) → (q : PortRef) × ((if b then Some x.port else first_wide i xs) ≡ Some q)
+    by true later = (x.port, refl)
+    by false later = later
+
+target_among : (test : PortRef → Bool) (list : List PlainAssign) (a : PlainAssign) → In list a → test a.target ≡ true → some_target test list ≡ true
+target_among test [] a j e = absurd j
+target_among test (x ∷ xs) a (inl same) e = ap (λ b. b || some_target test xs) (ap (λ y. test y.target) same ∙ e)
+target_among test (x ∷ xs) a (inr j) e = by (test x.target) (target_among test xs a j e)
+  where
+    by : (b : Bool) → some_target test xs ≡ true → (b || some_target test xs) ≡ true
+    by true later = refl
+    by false later = later
+
+-- A COMPONENT of an accepted design
+module _ (d : PlainDesign) (design : IsDesign d) (accepted : IsAccepted d) (k : ℕ) (within : k < length d.components) where
+  whole : Instance
+  whole = component_of d k
+
+  module _ (o : Owned) (i : In (source_order (component_at d k)) o) where
+    is : IsAssign (component_of d k) o.owner o.assign
+    is = (design.components k within).assigns o.owner o.assign (stands_in (component_at d k) o i)
+
+    number : (n : ℕ) × (slice_get (source_order (component_at d k)) n ≡ Some o)
+    number = number_in (source_order (component_at d k)) o i
+
+    named : (p : PlacedPort) → In (sources_of o.assign) p → IsNamed (component_of d k) p.port
+    named p j = record {
+      there = is.sources p j;
+      no_hole = is.no_hole p j;
+      literal = λ bad. accepted.widths rules.Literal (record { component = k; part = AnAssign number.0 }) p.place [] refl
+          (inl (record { within = within; number = number.0; is = refl; assign = o; stands = number.1; breaks = (p, j, bad, (refl, refl)) }));
+    }
+
+    atom : (p : PlacedPort) → In (atoms_of o.assign.guard) p → written_width (component_of d k) p.port ≡ Some 1
+    atom p j = let w = written_there (component_of d k) p.port (is.sources p (inr (atom_operand o.assign.guard p j))) in narrow (written_width (component_of d k) p.port) w.0 w.1 (by (is_wide (component_of d k) p.port) refl)
+      where
+        by : (b : Bool) → is_wide (component_of d k) p.port ≡ b → b ≡ false
+        by false e = refl
+        by true e =
+            let first = wide_among (component_of d k) (atoms_of o.assign.guard) p j e in
+            absurd (accepted.widths rules.GuardWidth (record { component = k; part = AnAssign number.0 }) o.assign.place (path_of (component_of d k) first.0) refl
+            (inl (record { within = within; number = number.0; is = refl; assign = o; stands = number.1; breaks = (first.0, first.1, (refl, refl)) })))
+
+    no_source : is_source_only (component_of d k) o.assign.target ≡ false
+    no_source = by (is_source_only (component_of d k) o.assign.target) refl
+      where
+        by : (b : Bool) → is_source_only (component_of d k) o.assign.target ≡ b → b ≡ false
+        by false e = refl
+        by true e =
+            absurd (accepted.widths rules.NotATarget (record { component = k; part = AnAssign number.0 }) o.assign.place (path_of (component_of d k) o.assign.target) refl
+            (record { within = within; number = number.0; is = refl; assign = o; stands = number.1; breaks = (e, (refl, refl)) }))
+
+    no_input : (n : ℕ) → o.assign.target ≡ ports.Input n → ⊥
+    no_input n e = let no = sym no_source ∙ ap (is_source_only (component_of d k)) e in absurd cc
+
+    is_target : (p : PortRef) → o.assign.target ≡ p → IsTarget p
+    is_target (ports.Cell c p) e = tt
+    is_target (ports.Input n) e = no_input n e
+    is_target (ports.Output n) e = tt
+    is_target (ports.Done g) e = tt
+    is_target (ports.Literal w v) e = is.no_literal w v e
+
+    range : (r : Range) → In (ranges_of o.assign.guard) r → IsStatic (component_at d k) o.owner
+    range r j = by_owner o.owner refl
+      where
+        breaks : is_bad_range (owner_length (component_at d k) o.owner) r ≡ true → ⊥
+        breaks bad =
+            accepted.shapes rules.StaticGuard (record { component = k; part = AnAssign number.0 }) o.assign.place (path_of (component_of d k) o.assign.target) refl
+            (record {
+              within = within;
+              number = number.0;
+              is = refl;
+              assign = o;
+              stands = number.1;
+              breaks = (r, j, ap (λ x. is_bad_range (owner_length x o.owner) r) (same_part d (length d.components) k) ∙ bad, (refl, refl));
+            })
+
+        by_length : (g : ℕ) → o.owner ≡ Some g → (n : Option ℕ) → group_length (component_at d k) g ≡ n → IsStatic (component_at d k) o.owner
+        by_length g e None f = absurd (breaks (ap (λ w. is_bad_range (owner_length (component_at d k) w) r) e ∙ ap (λ n. is_bad_range n r) f))
+        by_length g e (Some n) f = record { group = g; cycles = n; owns = e; is = f }
+
+        by_owner : (w : Option ℕ) → o.owner ≡ w → IsStatic (component_at d k) o.owner
+        by_owner None e = absurd (breaks (ap (λ w. is_bad_range (owner_length (component_at d k) w) r) e))
+        by_owner (Some g) e = by_length g e (group_length (component_at d k) g) refl
+
+    owner_there : (g : ℕ) → o.owner ≡ Some g → (g < length (component_at d k).groups) × In (group_at (component_at d k) g).assigns o.assign
+    owner_there g e = subst (λ w. StandsIn (component_at d k) w o.assign) e (stands_in (component_at d k) o i)
+
+    static_hole : IsStatic (component_at d k) o.owner → is_hole o.assign.target ≡ true → ⊥
+    static_hole static e =
+        let there = owner_there static.group static.owns in
+        accepted.shapes rules.StaticShape (record { component = k; part = AGroup static.group }) (group_at (part_of (component_of d k)) static.group).place (group_at (part_of (component_of d k)) static.group).name refl
+        (inl (record {
+          within = within;
+          number = static.group;
+          is = refl;
+          stands = there.0;
+          breaks = (
+            static.cycles,
+            ap (λ x. group_length x static.group) (same_part d (length d.components) k) ∙ static.is,
+            ap (λ x. some_target is_hole (group_at x static.group).assigns || nat_eq static.cycles 0) (same_part d (length d.components) k)
+                ∙ ap (λ b. b || nat_eq static.cycles 0) (target_among is_hole (group_at (component_at d k) static.group).assigns o.assign there.1 e),
+            (refl, refl),
+          );
+        }))
+
+  module _ (v : Visited) (p : PlacedPort) (i : In (statements_in (component_at d k)) v) (e : test_in v.form ≡ Some p) where
+    place : (n : ℕ) × (slice_get (statements_in (component_at d k)) n ≡ Some v)
+    place = number_in (statements_in (component_at d k)) v i
+
+    test_named : IsNamed (component_of d k) p.port
+    test_named = record {
+      there = ((design.components k within).statements v i).test p e;
+      no_hole = ((design.components k within).statements v i).no_hole p e;
+      literal = λ bad. accepted.widths rules.Literal (record { component = k; part = AStatement place.0 }) p.place [] refl
+          (inr (record { within = within; number = place.0; is = refl; statement = v; stands = place.1; breaks = (p, e, bad, (refl, refl)) }));
+    }
+
+    test_narrow : written_width (component_of d k) p.port ≡ Some 1
+    test_narrow = let w = written_there (component_of d k) p.port test_named.there in narrow (written_width (component_of d k) p.port) w.0 w.1 (by (is_wide (component_of d k) p.port) refl)
+      where
+        by : (b : Bool) → is_wide (component_of d k) p.port ≡ b → b ≡ false
+        by false f = refl
+        by true f =
+            absurd (accepted.widths rules.GuardWidth (record { component = k; part = AStatement place.0 }) v.place (path_of (component_of d k) p.port) refl
+            (inr (record { within = within; number = place.0; is = refl; statement = v; stands = place.1; breaks = (p, e, f, (refl, refl)) })))
+
+  -- AN INSTANCE of it
+  module _ (m n : ℕ) (count : length d.components ≡ suc n) where
+    abbrev I : Instance
+    I = tree_within d (suc m) k
+
+    there_too : (p : PortRef) → IsThere (component_of d k) p → IsThere (tree_within d (suc m) k) p
+    there_too p h =
+        alike_there (component_at d k) (cells_for (tree_within d m) (component_at d k).cells) (cells_for (tree_within d n) (component_at d k).cells)
+        (cells_alike (tree_within d m) (tree_within d n) (λ j. same_part d m j ∙ sym (same_part d n j)) (component_at d k).cells) p (subst (λ x. IsThere (tree_within d x k) p) count h)
+
+    written_too : (p : PortRef) → written_width (component_of d k) p ≡ Some 1 → written_width (tree_within d (suc m) k) p ≡ Some 1
+    written_too p h =
+        alike_written (component_at d k) (cells_for (tree_within d m) (component_at d k).cells) (cells_for (tree_within d n) (component_at d k).cells)
+        (cells_alike (tree_within d m) (tree_within d n) (λ j. same_part d m j ∙ sym (same_part d n j)) (component_at d k).cells) p ∙ subst (λ x. written_width (tree_within d x k) p ≡ Some 1) count h
+
+    source_too : (p : PortRef) → is_source_only (component_of d k) p ≡ false → is_source_only (tree_within d (suc m) k) p ≡ false
+    source_too p h =
+        alike_source (component_at d k) (cells_for (tree_within d m) (component_at d k).cells) (cells_for (tree_within d n) (component_at d k).cells)
+        (cells_alike (tree_within d m) (tree_within d n) (λ j. same_part d m j ∙ sym (same_part d n j)) (component_at d k).cells) p ∙ subst (λ x. is_source_only (tree_within d x k) p ≡ false) count h
+
+    named_too : (p : PortRef) → IsNamed (component_of d k) p → IsNamed (tree_within d (suc m) k) p
+    named_too p h = record { there = there_too p h.there; no_hole = h.no_hole; literal = h.literal }
+
+    tree_rules : PortRules d (tree_within d (suc m) k)
+    tree_rules = record {
+      forms = λ v i. subst (λ x. IsForm x v.form) (same_part d (length d.components) k) ((design.components k within).statements v i).form;
+      assigns = λ o i. record {
+        target = there_too o.assign.target (is o i).target;
+        is_target = is_target o i o.assign.target refl;
+        no_source = source_too o.assign.target (no_source o i);
+        owner = λ g e. (owner_there o i g e).0;
+        own_hole = (is o i).own_hole;
+        source = λ p j. named_too p.port (named o i p j);
+        atom = λ p j. written_too p.port (atom o i p j);
+        range = range o i;
+        static_hole = static_hole o i;
+      };
+      tests = λ v p i e. record { named = named_too p.port (test_named v p i e); one_bit = written_too p.port (test_narrow v p i e) };
+      rows = λ c row e. let r = row_at d m (component_at d k).cells c row e in record { cell = r.0; primitive = r.1; stands = r.2; kind = r.3; is = r.4 };
+      children = λ c child e.
+          let r = child_at_cell d m (component_at d k).cells c child e (λ cell j. ((design.components k within).cells cell j).kind) in
+          record { cell = r.0; component = r.1; stands = r.2; kind = r.3; within = r.4; is = r.5 };
+    }
+
+pub some_components : (k n : ℕ) → k < n → (m : ℕ) × (n ≡ suc m)
+some_components k zero h = absurd (omega arith)
+some_components k (suc m) h = (m, refl)
+
+no_test : (v : Visited) (p : PlacedPort) → In (statements_in no_component) v → test_in v.form ≡ Some p → ⊥
+no_test v p (inl e) f = none_port (ap (λ w. test_in w.form) e ∙ f)
+  where
+    none_port : ◌≡◌ {A = Option PlacedPort} None (Some p) → ⊥
+    none_port g = cc
+no_test v p (inr i) f = absurd i
+
+no_form : (v : Visited) → In (statements_in no_component) v → IsForm no_component v.form
+no_form v (inl e) = subst (λ w. IsForm no_component w.form) e tt
+no_form v (inr i) = absurd i
+
+-- EVERY INSTANCE of an accepted design's tree
+pub port_rules : (d : PlainDesign) → IsDesign d → IsAccepted d → (path : Path) → PortRules d (instance_at (tree_of d) path)
+port_rules d design accepted path = by (instance_whole d design path)
+  where
+    by : {i : Instance} → IsWhole d i → PortRules d i
+    by (of_component m k within) = let n = some_components k (length d.components) within in tree_rules d design accepted k within m n.0 n.1
+    by of_nothing = record {
+      forms = no_form;
+      assigns = λ o i. absurd i;
+      tests = λ v p i e. absurd (no_test v p i e);
+      rows = λ c row e. absurd (cc);
+      children = λ c child e. absurd (cc);
+    }
