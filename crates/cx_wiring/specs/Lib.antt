@@ -25,3 +25,4 @@ pub mod BlockNumbers
 pub mod TimerCounts
 pub mod IslandNumbers
 pub mod PortValues
+pub mod IslandTakes
