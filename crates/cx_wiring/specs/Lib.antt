@@ -25,4 +25,3 @@ pub mod BlockNumbers
 pub mod TimerCounts
 pub mod IslandNumbers
 pub mod PortValues
-pub mod IslandTakes
