@@ -68,10 +68,10 @@ go_is o b e x f off = sym (true_bit b) ∙ ap is_true (same (truth_bit b) x (sym
 
 module _ (d : PlainDesign) (of_island : PlainComponent → NetState → ℕ → ℕ → ℕ → ℕ) (part : PlainComponent) (cells : Cells) (fine : IsFineNode d of_island part cells) (v : NetState) (around : NetAround) (look : NetLook)
     (solves : Solves (block (wired_in d) timers_of (component_numbers of_island) (instances.Node part cells)) around v look) where
-  abbrev next : ℕ → ℕ
+  abbrev pub next : ℕ → ℕ
   next = own_register (wired_in d part) (net_of_cells (wired_in d) timers_of (component_numbers of_island) cells (timers_of part)) around v look
 
-  abbrev now_R : ℕ → Option BitVector
+  abbrev pub now_R : ℕ → Option BitVector
   now_R = R d of_island part cells fine v around look solves
 
   module _ (idle : IsIdle (block (wired_in d) timers_of (component_numbers of_island) (instances.Node part cells)) around v) where

@@ -5,14 +5,17 @@ use Rattle.cx_meaning.specs.Instances as instances
 use Rattle.cx_meaning.specs.Instances.{Instance, Cells, OfInstance, cell_at, Path, State, tree_of, instance_at, words_of}
 use Rattle.cx_rules.specs.Accepted.{IsAccepted}
 use Rattle.cx_rules.specs.Wellformed.{IsDesign}
-use Rattle.cx_control.specs.Controls.{coded_below}
+use Rattle.cx_control.specs.Controls.{coded_control, coded_below}
 use Rattle.cx_control.specs.ControlRules.{ControlRules}
 use Rattle.cx_control.specs.IslandRules.{IslandRules}
 use Rattle.cx_control.specs.CallLaws.{ChildLaws}
 use Rattle.cx_control.specs.ControlLaws.{child_does}
 use Rattle.cx_control.specs.KeepLaws.{KeepsBelow, child_keeps}
 use Rattle.cx_control.proofs.DesignRuns.{islands_do, rules_below, islands_below}
-use Rattle.cx_net.specs.NetMeaning.{NetState}
+use Rattle.cx_lockstep.specs.Worlds.{Machine}
+use Rattle.cx_control.specs.Leaves.{Coded}
+use Rattle.cx_control.specs.Spots.{Kept}
+use Rattle.cx_net.specs.NetMeaning.{NetState, NetLook, NetAround}
 use Rattle.cx_wiring.specs.PartNets.{wired_in, timers_of}
 use Rattle.cx_wiring.specs.BlockNumbers.{component_numbers}
 use Rattle.cx_wiring.specs.Blocks.{block, block_below, NodeLaws, BlockLaws}
@@ -22,7 +25,9 @@ use Rattle.cx_wiring.proofs.NodeRules.{NodeRules, node_rules}
 use Rattle.cx_wiring.proofs.NodeCells.{CellRules, cell_rules}
 use Rattle.cx_wiring.proofs.NodeEdges.{ControlGives, PortsGive, node_laws}
 
-module _ (d : PlainDesign) (of_island : PlainComponent → NetState → ℕ → ℕ → ℕ → ℕ) where
+-- Begun says of a node that the ports of the static ifs that begin have in the net what the machine takes
+module _ (d : PlainDesign) (of_island : PlainComponent → NetState → ℕ → ℕ → ℕ → ℕ)
+    (Begun : (part : PlainComponent) (cells : Cells) → Machine.Place (Coded.machine (coded_control (instances.Node part cells))) → Kept → NetState → NetAround → NetLook → Type 0) where
   -- what the rules of acceptance give a node and all below it
   pub record NodeGiven (part : PlainComponent) (cells : Cells) : Type 0 where
     pub rules : NodeRules d (instances.Node part cells)
@@ -32,15 +37,15 @@ module _ (d : PlainDesign) (of_island : PlainComponent → NetState → ℕ → 
 
   -- WHAT IS LEFT of each node: its control and its ports
   pub record NodeGives (part : PlainComponent) (cells : Cells) (rules : NodeRules d (instances.Node part cells)) (own : CellRules (instances.Node part cells)) : Type 0 where
-    pub gives : ControlGives d of_island part cells rules own
-    pub ported : PortsGive d of_island part cells rules own gives
+    pub gives : ControlGives d of_island part cells rules own (Begun part cells)
+    pub ported : PortsGive d of_island part cells rules own (Begun part cells) gives
 
   module _ (nodes : (part : PlainComponent) (cells : Cells) (given : NodeGiven part cells) → ((c : ℕ) (child : Instance) → cell_at cells c ≡ OfInstance child → BlockLaws (block_below (wired_in d) timers_of (component_numbers of_island) cells (timers_of part) c))
       → NodeGives part cells given.rules given.own) where
     laws_of : (part : PlainComponent) (cells : Cells) → NodeGiven part cells → NodeLaws (wired_in d) timers_of (component_numbers of_island) part cells
     laws_of part cells given children =
         let n = nodes part cells given children in
-        node_laws d of_island part cells given.rules given.own n.gives (given.control []) (islands_do (instances.Node part cells) (given.control []) (given.islands [])) below kept children n.ported
+        node_laws d of_island part cells given.rules given.own (Begun part cells) n.gives (given.control []) (islands_do (instances.Node part cells) (given.control []) (given.islands [])) below kept children n.ported
       where
         below : (c : ℕ) (child : Instance) → cell_at cells c ≡ OfInstance child → ChildLaws cells c (coded_below cells c)
         below c child at = child_does cells c (λ path. given.control (c ∷ path)) (λ path. islands_do (instance_at (instances.Node part cells) (c ∷ path)) (given.control (c ∷ path)) (given.islands (c ∷ path))) child at

@@ -10,7 +10,7 @@ use Rattle.cx_rules.specs.Wellformed.{IsDesign}
 use Rattle.cx_lockstep.specs.Worlds.{Machine}
 use Rattle.cx_control.specs.CodingLaws.{region_bank_is}
 use Rattle.cx_control.specs.StatementCodingLaws.{IsRegion}
-use Rattle.cx_control.specs.Spots.{Cell, shown}
+use Rattle.cx_control.specs.Spots.{Cell, Kept, shown}
 use Rattle.cx_control.specs.Leaves.{Coded, code_of}
 use Rattle.cx_control.specs.Controls.{coded_control}
 use Rattle.cx_control.specs.Numbers.{number_idle_at}
@@ -22,7 +22,7 @@ use Rattle.cx_control.specs.ControlLaws.{control_coded}
 use Rattle.cx_control.specs.KeepLaws.{control_keeps}
 use Rattle.cx_control.specs.DesignRuns.{MachineRuns}
 use Rattle.cx_control.proofs.DesignRuns.{islands_do}
-use Rattle.cx_net.specs.NetMeaning.{NetState, NetLook, outside}
+use Rattle.cx_net.specs.NetMeaning.{NetState, NetLook, NetAround, outside}
 use Rattle.cx_net.specs.NetTree.{net_tree}
 use Rattle.cx_net.specs.NetEdges.{net_after}
 use Rattle.cx_net.specs.NetRuns.{IsWholeLook, AreWords, IsGrounded, net_start}
@@ -43,9 +43,10 @@ use Rattle.cx_wiring.proofs.DesignEdges.{NodeGiven, NodeGives, design_blocks}
 itself : (i : Instance) → instance_at i [] ≡ i
 itself (instances.Node part cells) = refl
 
-module _ (d : PlainDesign) (of_island : PlainComponent → NetState → ℕ → ℕ → ℕ → ℕ) (Holds : NetState → Type 0)
-    (nodes : (part : PlainComponent) (cells : Cells) (given : NodeGiven d of_island part cells)
-    → ((c : ℕ) (child : Instance) → cell_at cells c ≡ OfInstance child → BlockLaws (block_below (wired_in d) timers_of (component_numbers of_island) cells (timers_of part) c)) → NodeGives d of_island part cells given.rules given.own)
+module _ (d : PlainDesign) (of_island : PlainComponent → NetState → ℕ → ℕ → ℕ → ℕ)
+    (Begun : (part : PlainComponent) (cells : Cells) → Machine.Place (Coded.machine (coded_control (instances.Node part cells))) → Kept → NetState → NetAround → NetLook → Type 0) (Holds : NetState → Type 0)
+    (nodes : (part : PlainComponent) (cells : Cells) (given : NodeGiven d of_island Begun part cells)
+    → ((c : ℕ) (child : Instance) → cell_at cells c ≡ OfInstance child → BlockLaws (block_below (wired_in d) timers_of (component_numbers of_island) cells (timers_of part) c)) → NodeGives d of_island Begun part cells given.rules given.own)
     (design : IsDesign d) (accepted : IsAccepted d) (rules : (path : Path) → ControlRules (instance_at (tree_of d) path)) (islands : (path : Path) → IslandRules (instance_at (tree_of d) path))
     (settled : (words : List (List ℕ)) → IsSettled (tree_of d) (start (tree_of d) words)) where
   -- WHAT CELLS HOLD, so that each node of one bit is a bit; and islands rest after the reset
@@ -75,7 +76,7 @@ module _ (d : PlainDesign) (of_island : PlainComponent → NetState → ℕ → 
 
     root_laws : RootLaws (wired_in d) timers_of (component_numbers of_island) d Holds
     root_laws = record {
-      block_laws = design_blocks d of_island nodes design accepted rules islands;
+      block_laws = design_blocks d of_island Begun nodes design accepted rules islands;
       keeps = keeps_it;
       below = region.coded.below;
       whole_solves = cells_hold.whole_solves;

@@ -99,6 +99,7 @@ pub mod SeamRules
 pub mod SeamFlows
 pub mod OutputFlows
 pub mod NodeEdges
+pub mod NodeWaits
 pub mod DesignEdges
 pub mod ZeroNumbers
 pub mod StartCells
