@@ -89,3 +89,4 @@ pub mod StartCells
 pub mod DesignRoots
 pub mod GoingApart
 pub mod NodeAgrees
+pub mod CallValues
