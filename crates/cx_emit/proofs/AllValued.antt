@@ -29,7 +29,8 @@ use Rattle.cx_emit.specs.Names.{cell_module_name, register_name}
 use Rattle.cx_emit.specs.Numbered.{with_numbers, lists_from}
 use Rattle.cx_emit.specs.Signatures.{PlainCellPorts, one_bit, input_port, output_port, signature_of, signature_at, kind_ports, cell_ports}
 use Rattle.cx_emit.specs.Sources.{conn, port_decl, cell_decls, wire_decl, register_decl, source_of}
-use Rattle.cx_emit.specs.Places.{cell_number, number_at, LeadsTo, node_name}
+use Rattle.cx_net.specs.NetPaths.{LeadsTo}
+use Rattle.cx_emit.specs.Places.{cell_number, number_at, node_name}
 use Rattle.cx_vmods.specs.Laws.{EachIsBuilt}
 use Rattle.cx_net.specs.NetFits.{signature_widths, port_width}
 use Rattle.cx_emit.specs.Fits.{IsFlat, node_width}
@@ -38,9 +39,9 @@ use Rattle.cx_emit.proofs.NumberedLemmas.{In, in_either, numbered_in, lists_in}
 use Rattle.cx_emit.proofs.Evals.{value_tied, value_held, value_outside}
 use Rattle.cx_emit.proofs.Standing.{tree, comp_there, own, IsPlaced, main_placed, IsCell, cell_placed, child_placed, cell_module_ports, primitive_placed}
 use Rattle.cx_emit.proofs.Origins.{register_is_held}
-use Rattle.cx_emit.proofs.GatherLemmas.{there_within, input-from_look}
+use Rattle.cx_net.proofs.GatherLemmas.{there_within, input-from_look}
 use Rattle.cx_emit.proofs.CellValues.{is_built}
-use Rattle.cx_emit.proofs.DriverLemmas.{primitive_width, component_width}
+use Rattle.cx_net.proofs.DriverLemmas.{primitive_width, component_width}
 use Rattle.cx_emit.proofs.PortPlaces.{done_port, length-numbered}
 use Rattle.cx_emit.proofs.NetWholes.{length-signature}
 use Rattle.cx_emit.proofs.Situations.{Situation, situation_below, primitive_at, main_situation}

@@ -26,7 +26,8 @@ use Rattle.cx_emit.specs.Names.{register_name}
 use Rattle.cx_emit.specs.Exprs.{literal}
 use Rattle.cx_emit.specs.Chains.{chain_to}
 use Rattle.cx_emit.specs.Sources.{source_of}
-use Rattle.cx_emit.specs.Places.{cell_number, number_at, LeadsTo}
+use Rattle.cx_net.specs.NetPaths.{LeadsTo}
+use Rattle.cx_emit.specs.Places.{cell_number, number_at}
 use Rattle.cx_vmods.specs.Laws.{EachIsBuilt}
 use Rattle.cx_vmods.proofs.TableLaws.{each_is_built}
 use Rattle.cx_net.specs.NetFits.{IsFit, HasNoHoles}
@@ -34,9 +35,9 @@ use Rattle.cx_emit.specs.Fits.{IsFlat, stand_for}
 use Rattle.cx_emit.specs.States.{StatesStand}
 use Rattle.cx_emit.specs.RunsAs.{EdgesCarry}
 use Rattle.cx_emit.proofs.Standing.{tree, main_placed, cell_placed, child_lower, placed_at}
-use Rattle.cx_emit.proofs.GatherLemmas.{input-from_look}
+use Rattle.cx_net.proofs.GatherLemmas.{input-from_look}
 use Rattle.cx_emit.proofs.CellValues.{is_built, cell_stands}
-use Rattle.cx_emit.proofs.DriverLemmas.{drivers_fit, register-at, state-at}
+use Rattle.cx_net.proofs.DriverLemmas.{drivers_fit, register-at, state-at}
 use Rattle.cx_emit.proofs.NodeValues.{register_reads}
 use Rattle.cx_emit.proofs.Situations.{Situation, situation_below, primitive_at, main_situation}
 use Rattle.cx_emit.proofs.TextWholes.{eval_whole}

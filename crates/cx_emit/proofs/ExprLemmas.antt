@@ -15,6 +15,7 @@ use Rattle.cx_vtree.specs.Plain.{PlainExpr, Named, Number, Chosen}
 use Rattle.cx_vtree.specs.Operators.{operate}
 use Rattle.cx_net.specs.Nets.{PlainNetExpr, OfPort, OfRegister, OfWire, OfHole, OfGo, Fixed, Inverse, AllOf, AnyOf, Sum, Compares, PlainNetExprs, no_exprs, an_expr, PlainNetDriver, PlainNetComponent, PlainNet}
 use Rattle.cx_net.specs.NetMeaning.{Node, NetAround, truth_bit, both_known, is_true, net_expr, all_expr, any_expr, chain}
+use Rattle.cx_net.proofs.DriverLemmas.{AreFitDrivers}
 use Rattle.cx_emit.specs.Exprs.{literal, port_expr, operator_of, expr_of, exprs_to}
 use Rattle.cx_emit.specs.Names.{wire_name, register_name}
 use Rattle.cx_emit.specs.Chains.{is_one, before, chain_of}
@@ -100,11 +101,6 @@ compared comparisons.Less x y = refl
 compared comparisons.Greater x y = refl
 compared comparisons.AtMost x y = opposite_bit (nat_lt y.value x.value)
 compared comparisons.AtLeast x y = opposite_bit (nat_lt x.value y.value)
-
--- drivers of a target of this width
-abbrev pub AreFitDrivers : PlainNet → PlainNetComponent → ℕ → List PlainNetDriver → Type 0
-AreFitDrivers net part w [] = Unit {0}
-AreFitDrivers net part w (d ∷ ds) = HasWidth net part d.guard 1 × HasWidth net part d.source w × AreFitDrivers net part w ds
 
 module _ (net : PlainNet) (part : PlainNetComponent) (no_holes : part.holes ≡ 0) (E : PlainExpr → BitVector → Type 0) (reads : IsReading E)
     (around : NetAround) (registers : ℕ → Option BitVector) (look : Node → Option BitVector)

@@ -5,9 +5,7 @@ pub mod FoldLemmas
 pub mod ExprLemmas
 pub mod Standing
 pub mod Origins
-pub mod GatherLemmas
 pub mod CellValues
-pub mod DriverLemmas
 pub mod PortPlaces
 pub mod NodeValues
 pub mod TextWholes

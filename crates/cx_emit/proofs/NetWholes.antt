@@ -19,11 +19,11 @@ use Rattle.cx_net.specs.Nets.{PlainNetExpr, OfPort, OfRegister, OfWire, OfHole, 
 use Rattle.cx_net.specs.NetTree.{net_component_at, net_cells_for, net_within}
 use Rattle.cx_net.specs.NetMeaning.{Node, APort, AWire, AHole, TheDone, NetAround, truth_bit, both_known, is_true, net_expr, all_expr, any_expr, chain, is_port_of, is_own_node, is_node}
 use Rattle.cx_net.specs.NetEdges.{taken}
-use Rattle.cx_emit.specs.Places.{LeadsTo}
+use Rattle.cx_net.specs.NetPaths.{LeadsTo}
 use Rattle.cx_net.specs.NetFits.{signature_widths, kind_width, port_width, HasPortWidth, HasWidth, AreBits, IsFitKind}
 use Rattle.cx_emit.specs.Fits.{IsFlat, node_width}
-use Rattle.cx_emit.proofs.ExprLemmas.{AreFitDrivers}
-use Rattle.cx_emit.proofs.DriverLemmas.{at_kind, part-within, cell-at, there-at}
+use Rattle.cx_net.proofs.DriverLemmas.{AreFitDrivers}
+use Rattle.cx_net.proofs.DriverLemmas.{at_kind, part-within, cell-at, there-at}
 
 -- it has a value
 abbrev pub Has : Option BitVector → Type 0

@@ -32,7 +32,8 @@ use Rattle.cx_emit.specs.Exprs.{literal, port_expr}
 use Rattle.cx_emit.specs.Chains.{chain_to}
 use Rattle.cx_emit.specs.Signatures.{one_bit, input_port, output_port, signature_of, signature_at, kind_ports}
 use Rattle.cx_emit.specs.Sources.{source_of}
-use Rattle.cx_emit.specs.Places.{cell_number, number_at, LeadsTo, node_name}
+use Rattle.cx_net.specs.NetPaths.{LeadsTo}
+use Rattle.cx_emit.specs.Places.{cell_number, number_at, node_name}
 use Rattle.cx_vmods.specs.Laws.{EachIsBuilt}
 use Rattle.cx_vmods.proofs.TableLaws.{each_is_built}
 use Rattle.cx_net.specs.NetFits.{signature_widths, kind_width, port_width, HasPortWidth, target_width, IsFit, HasNoHoles}
@@ -44,9 +45,9 @@ use Rattle.cx_emit.proofs.ExprLemmas.{Reads, reads_chain}
 use Rattle.cx_emit.proofs.Standing.{tree, comp_there, IsPlaced, main_placed, ports_of_cell, IsCell, cell_placed, child_placed, child_lower}
 use Rattle.cx_emit.proofs.Origins.{IsWide, port_is_wide, port_given, cell_input_tied, cell_output_ties, wire_is_wide, wire_given, register_is_wide, register_is_held, output_is_wide, output_given, done_given}
 use Rattle.cx_emit.proofs.ReadLemmas.{row_of_reads}
-use Rattle.cx_emit.proofs.GatherLemmas.{gathered, no_inputs, length-no_inputs, input-no_inputs, side-at}
+use Rattle.cx_net.proofs.GatherLemmas.{gathered, no_inputs, length-no_inputs, input-no_inputs, side-at}
 use Rattle.cx_emit.proofs.CellValues.{Carried, zero_fits, text_port, inputs_stand, output_carried}
-use Rattle.cx_emit.proofs.DriverLemmas.{drivers_fit, primitive_width, component_width, at_kind, part-within, cell-at, step-at}
+use Rattle.cx_net.proofs.DriverLemmas.{drivers_fit, primitive_width, component_width, at_kind, part-within, cell-at, step-at}
 use Rattle.cx_emit.proofs.PortPlaces.{done_port, PortIs, is_go, is_input, is_output, is_done, port_is, input_place}
 
 map_some : {A B : Type 0} (f : A → B) (o : Option A) (y : B) → option_map f o ≡ Some y → (x : A) × (o ≡ Some x) × (f x ≡ y)

@@ -14,7 +14,8 @@ use Rattle.cx_emit.specs.Fits.{IsFlat}
 use Rattle.cx_emit.specs.Numbered.{with_numbers}
 use Rattle.cx_emit.specs.Signatures.{cell_ports}
 use Rattle.cx_emit.specs.Sources.{cell_instance, source_of}
-use Rattle.cx_emit.specs.Places.{part_number, cell_number, number_at, LeadsTo}
+use Rattle.cx_net.specs.NetPaths.{LeadsTo}
+use Rattle.cx_emit.specs.Places.{part_number, cell_number, number_at}
 use Rattle.cx_emit.proofs.NumberedLemmas.{numbered_in}
 use Rattle.cx_emit.proofs.Standing.{number-same, tree, own, main_placed, cell_placed, primitive_placed, placed_at}
 

@@ -35,7 +35,7 @@ use Rattle.cx_emit.specs.RunsAs.{Runs, RunsAs}
 use Rattle.cx_emit.proofs.ExprLemmas.{bit_is}
 use Rattle.cx_emit.proofs.Standing.{tree, main_placed, cell_placed}
 use Rattle.cx_emit.proofs.CellValues.{is_built}
-use Rattle.cx_emit.proofs.DriverLemmas.{part-within}
+use Rattle.cx_net.proofs.DriverLemmas.{part-within}
 use Rattle.cx_emit.proofs.TextWholes.{whole_has}
 use Rattle.cx_emit.proofs.EdgeValues.{edge_carries}
 use Rattle.cx_emit.proofs.Situations.{main_situation}

@@ -18,15 +18,16 @@ use Rattle.cx_net.specs.NetEdges.{inputs_from}
 use Rattle.cx_net.specs.NetRuns.{IsWholeLook}
 use Rattle.cx_emit.specs.Names.{cell_module_name}
 use Rattle.cx_emit.specs.Sources.{source_of}
-use Rattle.cx_emit.specs.Places.{cell_number, LeadsTo}
+use Rattle.cx_net.specs.NetPaths.{LeadsTo}
+use Rattle.cx_emit.specs.Places.{cell_number}
 use Rattle.cx_vmods.specs.Laws.{EachIsBuilt}
 use Rattle.cx_net.specs.NetFits.{port_width}
 use Rattle.cx_emit.specs.Fits.{IsFlat, node_width, stand_for}
 use Rattle.cx_emit.specs.States.{StatesStand}
 use Rattle.cx_emit.proofs.Standing.{tree, IsPlaced, main_placed, main_inputs, cell_placed, child_placed}
-use Rattle.cx_emit.proofs.GatherLemmas.{length-inputs_from, input-from_look}
+use Rattle.cx_net.proofs.GatherLemmas.{length-inputs_from, input-from_look}
 use Rattle.cx_emit.proofs.CellValues.{inputs_stand}
-use Rattle.cx_emit.proofs.DriverLemmas.{primitive_width, component_width}
+use Rattle.cx_net.proofs.DriverLemmas.{primitive_width, component_width}
 use Rattle.cx_emit.proofs.NodeValues.{HasAround, IsLooked, stand_below, around_below, main_around, node_has}
 use Rattle.cx_emit.proofs.NetWholes.{Has, node_there}
 use Rattle.cx_emit.proofs.PortPlaces.{input_place}

@@ -25,7 +25,8 @@ use Rattle.cx_emit.specs.Names.{numbered, instance_name, module_name, cell_modul
 use Rattle.cx_emit.specs.Numbered.{with_numbers, lists_from}
 use Rattle.cx_emit.specs.Signatures.{one_bit, input_port, output_port, signature_at, kind_ports, cell_ports, kind_modules, cell_modules}
 use Rattle.cx_emit.specs.Sources.{conn, port_conn, cell_instance, component_module, component_modules, source_of}
-use Rattle.cx_emit.specs.Places.{part_number, cell_number, number_at, LeadsTo}
+use Rattle.cx_net.specs.NetPaths.{LeadsTo}
+use Rattle.cx_emit.specs.Places.{part_number, cell_number, number_at}
 use Rattle.cx_net.specs.NetFits.{IsFitKind}
 use Rattle.cx_emit.proofs.NumberedLemmas.{In, in_left, in_right, in_numbered, in_lists}
 

@@ -30,14 +30,15 @@ use Rattle.cx_net.specs.NetRuns.{net_start_at, net_externals, started, net_start
 use Rattle.cx_emit.specs.Names.{cell_module_name}
 use Rattle.cx_emit.specs.Numbered.{lists_from}
 use Rattle.cx_emit.specs.Sources.{external_of, cell_externals, source_of}
-use Rattle.cx_emit.specs.Places.{cell_number, number_at, LeadsTo}
+use Rattle.cx_net.specs.NetPaths.{LeadsTo}
+use Rattle.cx_emit.specs.Places.{cell_number, number_at}
 use Rattle.cx_vmods.specs.Laws.{EachIsBuilt}
 use Rattle.cx_net.specs.NetFits.{IsExternalKind}
 use Rattle.cx_emit.specs.Fits.{IsFlat, stand_for}
 use Rattle.cx_emit.specs.States.{StatesStand}
 use Rattle.cx_emit.proofs.Standing.{tree, IsPlaced, main_placed, cell_placed, primitive_placed, child_placed, child_lower, placed_at}
 use Rattle.cx_emit.proofs.CellValues.{is_built}
-use Rattle.cx_emit.proofs.DriverLemmas.{part-within, start-at}
+use Rattle.cx_net.proofs.DriverLemmas.{part-within, start-at}
 use Rattle.cx_emit.proofs.Reached.{number-end}
 use Rattle.cx_emit.proofs.ExternalLemmas.{externals_are, same_cell, memory, found_at, takes_words, state_with}
 use Rattle.cx_emit.proofs.LoadLemmas.{none_loaded, one_loaded}

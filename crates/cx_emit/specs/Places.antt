@@ -29,12 +29,6 @@ abbrev pub number_at : PlainSource → ℕ → Path → ℕ
 number_at source i [] = i
 number_at source i (c ∷ path) = number_at source (cell_number source i c) path
 
--- the path leads from component k down to component h
-abbrev pub LeadsTo : PlainNet → ℕ → Path → ℕ → Type 0
-LeadsTo net k [] h = k ≡ h
-LeadsTo net k (c ∷ path) h =
-    (cell : PlainCell) × (child : ℕ) × (slice_get (net_component_at net k).cells c ≡ Some cell) × (cell.kind ≡ OfComponent child) × LeadsTo net child path h
-
 -- the net of a node in the module of its component
 abbrev pub node_name : Node → List ℕ
 node_name (APort (ports.Cell c p)) = cell_port_name c p

@@ -16,7 +16,8 @@ use Rattle.cx_net.specs.NetEdges.{net_after}
 use Rattle.cx_net.specs.NetRuns.{IsWholeLook, NetRun}
 use Rattle.cx_realises.specs.Realises.{Follows}
 use Rattle.cx_emit.specs.Sources.{source_of}
-use Rattle.cx_emit.specs.Places.{number_at, LeadsTo, node_name}
+use Rattle.cx_net.specs.NetPaths.{LeadsTo}
+use Rattle.cx_emit.specs.Places.{number_at, node_name}
 use Rattle.cx_emit.specs.Fits.{node_width}
 use Rattle.cx_emit.specs.States.{StatesStand}
 

@@ -11,7 +11,8 @@ use Rattle.cx_net.specs.NetTree.{net_component_at}
 use Rattle.cx_net.specs.NetMeaning.{NetState}
 use Rattle.cx_emit.specs.Names.{register_name}
 use Rattle.cx_emit.specs.Sources.{source_of}
-use Rattle.cx_emit.specs.Places.{number_at, LeadsTo}
+use Rattle.cx_net.specs.NetPaths.{LeadsTo}
+use Rattle.cx_emit.specs.Places.{number_at}
 use Rattle.cx_emit.specs.Fits.{stand_for}
 
 -- below instance i, which is of component k: registers have the net's values, which fit their widths, and the module of each

@@ -6,3 +6,5 @@ pub mod NetRuns
 pub mod PlainNets
 pub mod NetFits
 pub mod NetLimits
+pub mod NetPaths
+pub mod NetHolds

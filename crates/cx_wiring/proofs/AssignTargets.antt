@@ -51,7 +51,7 @@ module _ (P : PlainNetTarget → Type 0) where
     gated_drives g (Compared c x y) wire target source is own = drive_both P (gate_drivers groups g wire (Compared c x y)) (drive target (OfWire wire) source ∷ []) (gate_drives g (Compared c x y) wire own) (is, tt)
     gated_drives g (Within from to) wire target source is own = drive_both P (gate_drivers groups g wire (Within from to)) (drive target (OfWire wire) source ∷ []) (gate_drives g (Within from to) wire own) (is, tt)
 
-    looking_drives_to : (l : Looks) (a : PlainAssign) (wire : ℕ) → P (target_of a.target) → Wires P wire (looking_wires l a.guard) → AllDrive P (looking_drivers groups l wire a)
+    pub looking_drives_to : (l : Looks) (a : PlainAssign) (wire : ℕ) → P (target_of a.target) → Wires P wire (looking_wires l a.guard) → AllDrive P (looking_drivers groups l wire a)
     looking_drives_to (LooksAlways offset) a wire is own = drive_both P _ _ (guard_drives offset a.guard wire own) (is, tt)
     looking_drives_to (LooksIn g) a wire is own = gated_drives g a.guard wire (target_of a.target) (OfPort a.source.port) is own
 

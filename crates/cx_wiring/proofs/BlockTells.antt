@@ -1,6 +1,6 @@
 -- One cycle of a node of the tree: what a look that solves the rules gives its control, and that its done says whether its place is
 -- the end.
-use Rattle.std.proofs.Common.{◌≡◌, ℕ, zero, suc, ◌+◌, ◌<◌, ◌==◌, Bool, true, false, List, [], ◌∷◌, length, Option, Some, None, unwrap_or, refl, sym, ap, ◌∙◌, arith}
+use Rattle.std.proofs.Common.{◌≡◌, ℕ, zero, suc, ◌+◌, ◌<◌, ◌==◌, Bool, [], ◌∷◌, length, Option, Some, unwrap_or, sym, ap, ◌∙◌, arith}
 use Rattle.std.proofs.lemmas.Bool.{eq-eqb, lt-ltb}
 use Rattle.cx_bits.specs.BitVector.{BitVector}
 use Rattle.cx_meaning.specs.declared.ports.PortRef.{PortRef}
@@ -15,7 +15,6 @@ use Rattle.cx_net.specs.Nets.{OfPort, OfHole, PlainNetComponent}
 use Rattle.cx_net.specs.NetTree.{NetCells}
 use Rattle.cx_net.specs.NetMeaning.{NetState, Node, APort, AHole, TheDone, NetLook, NetAround, is_true, truth_bit, zero_wide, registers_of}
 use Rattle.cx_net.specs.NetEdges.{own_register}
-use Rattle.cx_static.specs.Islands.{PlainLowered}
 use Rattle.cx_static.specs.Lowering.{lowered, lowered_component, lowered_of, unlowered}
 use Rattle.cx_wiring.specs.Counts.{positions_of}
 use Rattle.cx_wiring.specs.Wiring.{groups, plain_wires, plain_drivers}

@@ -3,14 +3,14 @@ use Rattle.std.proofs.Common.{◌≡◌, ℕ, zero, suc, ◌<◌, Bool, true, fa
 use Rattle.cx_text.specs.declared.places.Place.{Place}
 use Rattle.cx_bits.specs.BitVector.{BitVector}
 use Rattle.cx_prim.specs.Rows.{Row}
-use Rattle.cx_meaning.specs.Designs.{PlainComponent, PlainStatement, Enable, Placed}
+use Rattle.cx_meaning.specs.Designs.{PlainComponent, Enable, Placed}
 use Rattle.cx_meaning.specs.Instances as instances
 use Rattle.cx_meaning.specs.Instances.{Instance, Cells, no_cells, a_primitive, an_instance, OfRow, OfInstance, cell_at}
 use Rattle.cx_meaning.specs.Sights.{In}
 use Rattle.cx_meaning.specs.Calls.{called}
 use Rattle.cx_lockstep.specs.Worlds.{Control, At, Done, Machine}
 use Rattle.cx_lockstep.specs.Statements.{LeafMachines}
-use Rattle.cx_lockstep.specs.Running.{Running, AGroup, running}
+use Rattle.cx_lockstep.specs.Running.{AGroup, running}
 use Rattle.cx_lockstep.specs.EndLaws.{is_done}
 use Rattle.cx_control.specs.Codings.{Coding, at_fine}
 use Rattle.cx_control.specs.Spots.{Number, Kept}
@@ -25,7 +25,7 @@ use Rattle.cx_control.specs.KeepLaws.{KeepsBelow, run_stands, at_child, bank, de
 use Rattle.cx_net.specs.Nets.{PlainNetComponent}
 use Rattle.cx_net.specs.NetMeaning.{NetState, below_cell, NetLook, NetAround, TheDone, around_child, is_true, truth_bit}
 use Rattle.cx_wiring.specs.NetBits.{is_bit, is_bit_below}
-use Rattle.cx_wiring.specs.Blocks.{block, block_below, net_of_instance, net_of_cells, numbers_below, Shows, Solves, BlockLaws}
+use Rattle.cx_wiring.specs.Blocks.{block, block_below, net_of_instance, net_of_cells, numbers_below, Solves, BlockLaws}
 use Rattle.cx_wiring.proofs.TakingLemmas.{true_bit}
 use Rattle.cx_wiring.proofs.ChildLooks.{child_solves}
 

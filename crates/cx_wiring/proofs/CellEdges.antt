@@ -1,6 +1,6 @@
 -- The cells of a node in one cycle in which its ports solve their equations: what a primitive looks at is what stands at its ports, a
 -- primitive that no group drives which goes makes its idle step, and a component cell that none drives has no go.
-use Rattle.std.proofs.Common.{◌≡◌, ℕ, zero, suc, ◌+◌, ◌<◌, inl, inr, ◌⊎◌, Bool, true, false, ◌&&◌, if◌then◌else◌, List, [], ◌∷◌, length, Option, Some, None, unwrap_or, nat_lt, refl, sym, ap, ◌∙◌, subst, arith}
+use Rattle.std.proofs.Common.{◌≡◌, ℕ, suc, ◌+◌, ◌<◌, inl, inr, ◌⊎◌, Bool, true, false, ◌&&◌, if◌then◌else◌, List, [], ◌∷◌, length, Some, None, unwrap_or, refl, sym, ap, ◌∙◌, arith}
 use Rattle.std.proofs.lemmas.Bool.{lt-ltb}
 use Rattle.cx_bits.specs.BitVector.{BitVector}
 use Rattle.cx_prim.specs.declared.ports.PortRow.{PortRow}
@@ -11,7 +11,7 @@ use Rattle.cx_meaning.specs.declared.ports.PortRef.TheVariants as ports
 use Rattle.cx_meaning.specs.Rows.{side_of}
 use Rattle.cx_meaning.specs.Designs.{PlainComponent, PlainGroup, group_at, no_group}
 use Rattle.cx_meaning.specs.Instances.{Instance, OfRow, OfInstance, part_of, cells_of, cell_at}
-use Rattle.cx_meaning.specs.Active.{Active, Owned, Acting, source_order, drivers, acting, offset_of, same_port, if_target, if_acting}
+use Rattle.cx_meaning.specs.Active.{Active, Owned, source_order, drivers, acting, offset_of, same_port, if_target, if_acting}
 use Rattle.cx_meaning.specs.Sights.{In}
 use Rattle.cx_meaning.specs.Islands.{group_length}
 use Rattle.cx_meaning.specs.Control.{assigns_drive, group_drives}
@@ -19,7 +19,7 @@ use Rattle.cx_rules.specs.Ports.{width_of}
 use Rattle.cx_rules.proofs.FoundLemmas.{same_is}
 use Rattle.cx_rules.proofs.ForeignLemmas.{assigns_drive_in}
 use Rattle.cx_frames.specs.Rests.{IsUndriven}
-use Rattle.cx_flow.specs.Flows.{Values, zero_of, first_on, given, cell_flow, part_flow}
+use Rattle.cx_flow.specs.Flows.{zero_of, first_on, given, cell_flow}
 use Rattle.cx_flow.proofs.InstanceLemmas.{OwnerOf, continuous, of_group, owner_of, there_below}
 use Rattle.cx_flow.proofs.CellLemmas.{idle_step}
 use Rattle.cx_net.specs.NetMeaning.{NetState, NetLook, NetAround, APort, AHole, is_true, truth_bit, zero_wide}
@@ -27,7 +27,6 @@ use Rattle.cx_net.specs.NetEdges.{inputs_from}
 use Rattle.cx_static.specs.Lowering.{lowered_component}
 use Rattle.cx_wiring.specs.Assignments.{owner_drives}
 use Rattle.cx_wiring.specs.PortValues.{has_port, around_of, value_beyond, port_value, own_offset, offset_now, active_now, WiresSolve}
-use Rattle.cx_wiring.proofs.TakingLemmas.{true_bit}
 
 -- assignments of a target do not act where none of their owners is active
 pub none_act : (act : Active) (p : PortRef) (list : List Owned) → ((o : Owned) → In list o → o.assign.target ≡ p → offset_of act o.owner ≡ None) → acting act p list ≡ []

@@ -1,5 +1,5 @@
 -- What stands at a cell solves its rules under what the node's look has around it.
-use Rattle.std.proofs.Common.{◌≡◌, ℕ, zero, suc, ◌+◌, ◌-◌, ◌<◌, ◌==◌, ◌&&◌, Bool, true, false, if◌then◌else◌, List, [], ◌∷◌, length, Option, Some, None, option_map, unwrap_or, slice_get, nat_lt, refl, sym, ap, ap₂, ◌∙◌, arith}
+use Rattle.std.proofs.Common.{◌≡◌, ℕ, zero, suc, ◌+◌, ◌-◌, ◌<◌, ◌==◌, ◌&&◌, true, if◌then◌else◌, List, [], ◌∷◌, length, Some, unwrap_or, sym, ap, ap₂, ◌∙◌, arith}
 use Rattle.std.proofs.lemmas.Bool.{lt-ltb}
 use Rattle.cx_prim.specs.Rows.{Row}
 use Rattle.cx_meaning.specs.declared.kinds.PortDecl.{PortDecl}
@@ -7,12 +7,12 @@ use Rattle.cx_meaning.specs.declared.ports.PortRef.TheVariants as ports
 use Rattle.cx_meaning.specs.Designs.{PlainComponent}
 use Rattle.cx_meaning.specs.Instances as instances
 use Rattle.cx_meaning.specs.Instances.{Instance, Cells, no_cells, a_primitive, an_instance, Nothing, OfRow, OfInstance, cell_at}
-use Rattle.cx_meaning.specs.Sights.{PartPort, AnInput, later_port, output_port}
+use Rattle.cx_meaning.specs.Sights.{AnInput, output_port}
 use Rattle.cx_rules.specs.Ports.{declared_width}
 use Rattle.cx_net.specs.Nets.{PlainNetComponent}
-use Rattle.cx_net.specs.NetTree.{NetInstance, NetAt, AChild, net_part, net_cell_at, NetCells, no_net_cells, a_row, a_child}
+use Rattle.cx_net.specs.NetTree.{NetInstance, AChild, net_part, net_cell_at, NetCells, no_net_cells, a_row, a_child}
 use Rattle.cx_net.specs.NetMeaning.{NetState, below_cell, NetLook, NetAround, APort, around_child, child_port_width, net_at_width, net_part_port, is_port_of}
-use Rattle.cx_wiring.specs.NetBits.{own_bit, input_width, input_width_below}
+use Rattle.cx_wiring.specs.NetBits.{input_width, input_width_below}
 use Rattle.cx_wiring.specs.Blocks.{block, block_below, net_of_instance, net_of_cells, Solves}
 
 declared_there : (decls : List PortDecl) (n w : ℕ) → declared_width decls n ≡ Some w → n < length decls

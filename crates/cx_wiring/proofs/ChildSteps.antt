@@ -11,7 +11,7 @@ use Rattle.cx_meaning.specs.declared.kinds.GroupKind.TheVariants as kinds
 use Rattle.cx_meaning.specs.Designs.{PlainComponent, PlainDesign, PlainForm, Empty, Enable, Seq, Par, If, While, Repeat, StaticSeq, StaticPar, StaticIf, StaticRepeat, Timed, PlainStatement, Placed, group_at}
 use Rattle.cx_meaning.specs.Instances as instances
 use Rattle.cx_meaning.specs.Instances.{Instance, Cells, OfInstance, cell_at, Path, State, idle_below}
-use Rattle.cx_meaning.specs.Active.{Active, capture}
+use Rattle.cx_meaning.specs.Active.{capture}
 use Rattle.cx_meaning.specs.Sights.{In}
 use Rattle.cx_meaning.specs.Cycles.{Fault, Ended, Goes, Faults, cycle}
 use Rattle.cx_meaning.specs.Control.{group_drives, drives, groups_in, groups_drive}
@@ -44,7 +44,6 @@ use Rattle.cx_control.specs.KeepLaws as keeps
 use Rattle.cx_control.specs.KeepLaws.{KeepsBelow}
 use Rattle.cx_net.specs.NetMeaning.{NetState, NetLook, NetAround, APort, AHole, is_true, truth_bit, around_child}
 use Rattle.cx_flow.specs.Flows.{zero_of}
-use Rattle.cx_static.specs.Islands.{PlainIsland}
 use Rattle.cx_static.specs.Lowering.{lowered_component}
 use Rattle.cx_wiring.specs.Assignments.{owner_drives}
 use Rattle.cx_wiring.specs.PartNets.{wired_in, timers_of}
@@ -55,7 +54,7 @@ use Rattle.cx_wiring.proofs.TakingLemmas.{true_bit}
 use Rattle.cx_wiring.proofs.NodeRules.{NodeRules}
 use Rattle.cx_wiring.proofs.CellEdges.{driver_there}
 use Rattle.cx_wiring.proofs.NodeCells.{CellRules, child_waits}
-use Rattle.cx_wiring.proofs.NodeRuns.{ChildMoves, ChildWaits, ChildSteps, moves, waits}
+use Rattle.cx_wiring.proofs.NodeRuns.{ChildMoves, ChildSteps, moves, waits}
 use Rattle.cx_wiring.proofs.GoingLaws.{told_in, HoleAgrees, HasComb, Source, of_group, of_timed, of_static, of_comb, going_source}
 
 -- a group is not both plain and comb

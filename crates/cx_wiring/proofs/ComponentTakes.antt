@@ -25,11 +25,11 @@ use Rattle.cx_wiring.proofs.RestReads.{NotWires, AreRests, all_hold}
 abbrev pub IsPlain : ℕ → PlainNetTarget → Type 0
 IsPlain base t = IsProper t × ((m : ℕ) → base ≤ m → same_target t (ToWire m) ≡ false)
 
-plain_both : (base : ℕ) (ds : List PlainNetDriver) → AllDrive (IsPlain base) ds → AllDrive IsProper ds
+pub plain_both : (base : ℕ) (ds : List PlainNetDriver) → AllDrive (IsPlain base) ds → AllDrive IsProper ds
 plain_both base [] h = tt
 plain_both base (d ∷ ds) h = (h.0.0, plain_both base ds h.1)
 
-not_wires : (base : ℕ) (ts : List Driven) → AllDriven (IsPlain base) ts → NotWires base ts
+pub not_wires : (base : ℕ) (ts : List Driven) → AllDriven (IsPlain base) ts → NotWires base ts
 not_wires base [] h = tt
 not_wires base (u ∷ us) h = (h.0.1, not_wires base us h.1)
 

@@ -1,26 +1,22 @@
 -- What one edge owes, in the net of an accepted design: from what control and ports give each node, by the tree.
-use Rattle.std.proofs.Common.{◌≡◌, ℕ, zero, suc, ◌<◌, Bool, true, List, [], ◌∷◌, refl, sym, subst}
+use Rattle.std.proofs.Common.{◌≡◌, ℕ, [], ◌∷◌}
 use Rattle.cx_meaning.specs.Designs.{PlainComponent, PlainDesign}
 use Rattle.cx_meaning.specs.Instances as instances
 use Rattle.cx_meaning.specs.Instances.{Instance, Cells, OfInstance, cell_at, Path, State, tree_of, instance_at, words_of}
 use Rattle.cx_rules.specs.Accepted.{IsAccepted}
 use Rattle.cx_rules.specs.Wellformed.{IsDesign}
-use Rattle.cx_control.specs.Spots.{Cell, Kept, cells_in}
 use Rattle.cx_control.specs.Controls.{coded_below}
 use Rattle.cx_control.specs.ControlRules.{ControlRules}
 use Rattle.cx_control.specs.IslandRules.{IslandRules}
 use Rattle.cx_control.specs.CallLaws.{ChildLaws}
 use Rattle.cx_control.specs.ControlLaws.{child_does}
 use Rattle.cx_control.specs.KeepLaws.{KeepsBelow, child_keeps}
-use Rattle.cx_control.proofs.DesignRuns.{islands_do, rules_below, islands_below, codes_at, keeps_at}
+use Rattle.cx_control.proofs.DesignRuns.{islands_do, rules_below, islands_below}
 use Rattle.cx_net.specs.NetMeaning.{NetState}
-use Rattle.cx_net.specs.NetTree.{net_tree}
-use Rattle.cx_static.specs.Lowering.{lowered_of}
-use Rattle.cx_wiring.specs.Wiring.{net_of}
 use Rattle.cx_wiring.specs.PartNets.{wired_in, timers_of}
 use Rattle.cx_wiring.specs.BlockNumbers.{component_numbers}
 use Rattle.cx_wiring.specs.Blocks.{block, block_below, NodeLaws, BlockLaws}
-use Rattle.cx_wiring.proofs.TreeRules.{AllNodes, FineAt, all_nodes}
+use Rattle.cx_wiring.proofs.TreeRules.{FineAt, all_nodes}
 use Rattle.cx_wiring.proofs.BlockTree.{block_laws}
 use Rattle.cx_wiring.proofs.NodeRules.{NodeRules, node_rules}
 use Rattle.cx_wiring.proofs.NodeCells.{CellRules, cell_rules}

@@ -1,8 +1,6 @@
 -- What one edge owes, in the net of an accepted design, and so that the net realises it: from what control and ports give each node, and
 -- that the net is grounded.
-use Rattle.std.proofs.Common.{◌≡◌, ℕ, zero, suc, ◌<◌, Bool, true, false, List, [], ◌∷◌, refl, sym, ap, ◌∙◌, subst}
-use Rattle.cx_bits.specs.BitVector.{BitVector}
-use Rattle.cx_meaning.specs.declared.sights.Seen.TheVariants.{Value}
+use Rattle.std.proofs.Common.{◌≡◌, ℕ, true, false, List, [], ◌∷◌, refl, sym, ◌∙◌, subst}
 use Rattle.cx_meaning.specs.Designs.{PlainComponent, PlainDesign}
 use Rattle.cx_meaning.specs.Instances as instances
 use Rattle.cx_meaning.specs.Instances.{Instance, Cells, OfInstance, cell_at, Path, idle_at, tree_of, instance_at, start, IsSettled}
@@ -10,7 +8,6 @@ use Rattle.cx_meaning.specs.Sights.{unheld}
 use Rattle.cx_rules.specs.Accepted.{IsAccepted}
 use Rattle.cx_rules.specs.Wellformed.{IsDesign}
 use Rattle.cx_lockstep.specs.Worlds.{Machine}
-use Rattle.cx_control.specs.Codings.{region_bank}
 use Rattle.cx_control.specs.CodingLaws.{region_bank_is}
 use Rattle.cx_control.specs.StatementCodingLaws.{IsRegion}
 use Rattle.cx_control.specs.Spots.{Cell, shown}
@@ -18,7 +15,7 @@ use Rattle.cx_control.specs.Leaves.{Coded, code_of}
 use Rattle.cx_control.specs.Controls.{coded_control}
 use Rattle.cx_control.specs.Numbers.{number_idle_at}
 use Rattle.cx_control.specs.Standing.{bare, good_control}
-use Rattle.cx_control.specs.Keeping.{AllRest, Keeps}
+use Rattle.cx_control.specs.Keeping.{Keeps}
 use Rattle.cx_control.specs.ControlRules.{ControlRules}
 use Rattle.cx_control.specs.IslandRules.{IslandRules}
 use Rattle.cx_control.specs.ControlLaws.{control_coded}

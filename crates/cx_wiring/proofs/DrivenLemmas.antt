@@ -6,20 +6,9 @@ use Rattle.cx_net.specs.Nets.{PlainNetTarget, ToPort, ToRegister, ToWire, ToHole
 use Rattle.cx_net.specs.NetMeaning.{same_target}
 use Rattle.cx_wiring.specs.Chains.{is_same, rank_of, Driven, with_driver, driven}
 use Rattle.cx_wiring.specs.Bounds.{AllDrive}
+pub use Rattle.cx_wiring.specs.Bounds.{IsProper}
 use Rattle.cx_wiring.proofs.TargetRanks.{same_rank}
 use Rattle.cx_wiring.proofs.RankLemmas.{NotBefore, one_rank, behind_both, NoneBefore, IsSorted}
-
--- a target that has a rank of its own
-abbrev pub IsProper : PlainNetTarget → Type 0
-IsProper (ToPort (ports.Cell c p)) = Unit {0}
-IsProper (ToPort (ports.Output n)) = Unit {0}
-IsProper (ToPort (ports.Input n)) = ⊥
-IsProper (ToPort (ports.Done g)) = ⊥
-IsProper (ToPort (ports.Literal w v)) = ⊥
-IsProper (ToRegister n) = Unit {0}
-IsProper (ToWire n) = Unit {0}
-IsProper (ToHole n) = Unit {0}
-IsProper ToDone = Unit {0}
 
 both_are : (a b : Bool) → (a && b) ≡ (if a then b else false)
 both_are true b = refl

@@ -1,6 +1,6 @@
 -- Where the registers show a place of a statement and its region acts, the goes are those of the place: that a hole or a test is what the
 -- machine saw is not asked, so the goes can be used to show it.
-use Rattle.std.proofs.Common.{◌≡◌, ℕ, zero, suc, ◌+◌, ◌<◌, ◌≤◌, ◌==◌, inl, inr, Bool, true, false, not, List, [], ◌∷◌, ◌++◌, length, Option, Some, None, slice_get, refl, sym, ap, ◌∙◌, subst, arith}
+use Rattle.std.proofs.Common.{◌≡◌, ℕ, zero, suc, ◌+◌, ◌<◌, ◌≤◌, inl, inr, Bool, true, false, not, List, length, Option, Some, None, slice_get, refl, sym, ap, ◌∙◌, subst, arith}
 use Rattle.cx_text.specs.declared.places.Place.{Place}
 use Rattle.cx_bits.specs.BitVector.{BitVector}
 use Rattle.cx_meaning.specs.declared.ports.PortRef.{PortRef}
@@ -8,18 +8,18 @@ use Rattle.cx_meaning.specs.Designs.{PlainComponent, PlainForm, Empty, Enable, S
 use Rattle.cx_meaning.specs.Sights.{In}
 use Rattle.cx_meaning.specs.Islands.{group_length}
 use Rattle.cx_lockstep.specs.Worlds.{Control, At, Done, Machine}
-use Rattle.cx_lockstep.specs.Machines.{First, Second, InPar, AtTest, InThen, InElse, AtHead, InBody}
+use Rattle.cx_lockstep.specs.Machines.{First, Second, AtTest, InThen, InElse, AtHead, InBody}
 use Rattle.cx_lockstep.specs.Statements.{LeafMachines, form_machine, machine_of, parts_machine, arms_machine}
 use Rattle.cx_lockstep.specs.Running.{at_control}
 use Rattle.cx_lockstep.specs.Lawful.{IsPart, of_seq, of_par, then_branch, else_branch, of_while, of_repeat}
 use Rattle.cx_control.specs.Codings.{Coding, Bank, bank_code, zeros, region_bank, left_control, right_control, at_fine}
 use Rattle.cx_control.specs.StatementCodings.{LeafCodings, form_coding, statement_coding, parts_coding, arms_bank}
-use Rattle.cx_control.specs.StatementCodingLaws.{IsRegion, AreCoded, statement_coded}
+use Rattle.cx_control.specs.StatementCodingLaws.{AreCoded, statement_coded}
 use Rattle.cx_net.specs.Nets.{PlainNetExpr, OfHole, Inverse, ToHole, PlainNetDriver}
-use Rattle.cx_net.specs.NetMeaning.{Node, NetAround, truth_bit}
+use Rattle.cx_net.specs.NetMeaning.{Node, NetAround}
 use Rattle.cx_static.specs.Islands.{PlainIsland}
 use Rattle.cx_static.specs.Lowering.{Lowering, after_enable, form_after, after, parts_after, lowered, lowered_parts, lowered_enable}
-use Rattle.cx_wiring.specs.Counts.{positions_of, positions_in, wires_of, sample_registers, registers_of}
+use Rattle.cx_wiring.specs.Counts.{positions_of, wires_of, sample_registers, registers_of}
 use Rattle.cx_wiring.specs.Stands.{Stand, at, inside, past_test, behind}
 use Rattle.cx_wiring.specs.Control.{arm_stand, counted_inside, comb_goes, form_drivers, drivers_of, parts_drivers, arms_drivers}
 use Rattle.cx_wiring.specs.Takings.{Says, takes, AllConnect, AreRegisters}

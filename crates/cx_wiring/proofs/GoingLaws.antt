@@ -1,6 +1,6 @@
 -- Which groups go where control stands, by the leaves that run there: a group that goes is one that runs and whose hole is not 1, one of
 -- an island, or the comb group of a test.
-use Rattle.std.proofs.Common.{◌≡◌, ℕ, zero, suc, ◌⊎◌, inl, inr, ◌==◌, not, Bool, true, false, if◌then◌else◌, List, [], ◌∷◌, ◌++◌, Option, Some, None, refl, sym, ap, ◌∙◌, subst}
+use Rattle.std.proofs.Common.{◌≡◌, ℕ, zero, suc, ◌⊎◌, inl, inr, ◌==◌, not, Bool, true, false, if◌then◌else◌, List, [], ◌∷◌, Option, Some, None, refl, sym, subst}
 use Rattle.std.proofs.lemmas.Bool.{eqb-true}
 use Rattle.cx_text.specs.declared.places.Place.{Place}
 use Rattle.cx_bits.specs.BitVector.{BitVector}
@@ -19,7 +19,7 @@ use Rattle.cx_control.specs.Codings.{at_fine}
 use Rattle.cx_control.specs.StatementCodings.{LeafCodings}
 use Rattle.cx_net.specs.NetMeaning.{truth_bit}
 use Rattle.cx_static.specs.Islands.{PlainIsland}
-use Rattle.cx_wiring.specs.Shown.{Going, told, comb_going, enable_going, form_going, going, parts_going, arms_going, in_par, enable_agrees, StatementAgrees, PartsAgree, ArmsAgree}
+use Rattle.cx_wiring.specs.Shown.{Going, told, comb_going, enable_going, going, parts_going, arms_going, in_par, enable_agrees, StatementAgrees, PartsAgree, ArmsAgree}
 
 -- what is told of a group is the last word, or that of one of the list
 pub told_in : (g : ℕ) (later : Option BitVector) (xs : List Going) → (told g later xs ≡ later) ⊎ ((x : Going) × In xs x × (x.group ≡ g) × (told g later xs ≡ Some (truth_bit x.goes)))

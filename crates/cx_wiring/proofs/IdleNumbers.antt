@@ -1,5 +1,5 @@
 -- Where the registers of a statement stay, its numbers move as an idle edge moves them: those of timers go to 0, and others stay.
-use Rattle.std.proofs.Common.{◌≡◌, ℕ, zero, suc, ◌+◌, ◌-◌, ◌<◌, ◌≤◌, Bool, true, false, if◌then◌else◌, List, [], ◌∷◌, ◌++◌, length, replicate, Option, Some, None, slice_get, nat_lt, refl, sym, ap, ap₂, ◌∙◌, arith, length-append}
+use Rattle.std.proofs.Common.{◌≡◌, ℕ, zero, suc, ◌+◌, ◌-◌, ◌<◌, ◌≤◌, Bool, true, false, if◌then◌else◌, List, [], ◌∷◌, ◌++◌, length, replicate, Some, slice_get, nat_lt, refl, sym, ap, ap₂, ◌∙◌, arith, length-append}
 use Rattle.std.proofs.lemmas.Bool.{ltb-true, ltb-false}
 use Rattle.cx_text.specs.declared.places.Place.{Place}
 use Rattle.cx_prim.specs.MemoryLaws.{slice_get-append}
@@ -11,7 +11,7 @@ use Rattle.cx_laws.specs.Samples.{form_ifs}
 use Rattle.cx_lockstep.specs.Statements.{LeafMachines}
 use Rattle.cx_control.specs.Codings.{Coding, Bank, beside}
 use Rattle.cx_control.specs.StatementCodings.{LeafCodings, form_coding, statement_coding, parts_coding, arms_bank}
-use Rattle.cx_control.specs.Numbers.{Role, PlaceOfArm, RoundsOver, OfTimer, OfSample, role_idle, island_numbers, group_numbers, form_numbers, numbers_of, parts_numbers, arms_numbers}
+use Rattle.cx_control.specs.Numbers.{Role, PlaceOfArm, RoundsOver, OfSample, role_idle, island_numbers, group_numbers, form_numbers, numbers_of, parts_numbers, arms_numbers}
 use Rattle.cx_static.specs.Islands.{PlainIsland}
 use Rattle.cx_static.specs.Lowering.{Lowering, after, lowered, lowered_parts, lowered_enable}
 use Rattle.cx_wiring.specs.Counts.{sample_registers, form_registers, registers_of, registers_in, arms_registers}

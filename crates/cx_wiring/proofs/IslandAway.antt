@@ -181,13 +181,17 @@ module _ (part : PlainComponent) (named : IslandsName (groups (lowered_component
       pub island_idle : AllIdle around registers look (form_drivers G I y (Timed k))
       island_idle =
           let F = first_of_island G I k in
-          let island = n.taken.there.0 in
-          (tt, subst (λ o. AllIdle around registers look (timed_drivers G I y k o)) (sym n.taken.there.1)
-          (tt, idle_both around registers look (timer_drivers G y F island 0 island.timers) (point_drivers G y F island 0 island.points ++ occurrence_drivers G y F island 0 island.occurrences)
-          (timers_idle 0 island.timers (omega arith))
-          (idle_both around registers look (point_drivers G y F island 0 island.points) (occurrence_drivers G y F island 0 island.occurrences)
-          (points_idle 0 island.points (λ j p e. let l = lists.points j p e in let below : j < length island.points = get_below island.points j p e in (l.0, λ s i. let h : s.point < j = l.1 s i in omega arith)))
-          (occurrences_idle 0 island.occurrences (λ j o e. let none : 0 + j ≡ j = omega arith in ap (slice_get island.occurrences) none ∙ e)))))
+          let island = n.taken.there.0 in (
+            tt,
+            subst (λ o. AllIdle around registers look (timed_drivers G I y k o)) (sym n.taken.there.1) (
+              tt,
+              idle_both around registers look (timer_drivers G y F island 0 island.timers) (point_drivers G y F island 0 island.points ++ occurrence_drivers G y F island 0 island.occurrences)
+                  (timers_idle 0 island.timers (omega arith))
+                  (idle_both around registers look (point_drivers G y F island 0 island.points) (occurrence_drivers G y F island 0 island.occurrences)
+                  (points_idle 0 island.points (λ j p e. let l = lists.points j p e in let below : j < length island.points = get_below island.points j p e in (l.0, λ s i. let h : s.point < j = l.1 s i in omega arith)))
+                  (occurrences_idle 0 island.occurrences (λ j o e. let none : 0 + j ≡ j = omega arith in ap (slice_get island.occurrences) none ∙ e))),
+            ),
+          )
 
   -- AWAY FROM AN ISLAND
   pub timed_away : (k : ℕ) (y : Stand) (acts : Bool) (r : ℕ) → IsIn around registers look y.acts y.region acts r → IsStopped acts r y.position 1 → first_of_control (lowered_component part) ≤ y.wire
@@ -219,7 +223,9 @@ module _ (part : PlainComponent) (named : IslandsName (groups (lowered_component
     where
       drives : AllDrive (λ u. same_target u (ToRegister y.region) ≡ false) (form_drivers (groups (lowered_component part)) (lowered_component part).islands y (Timed k))
       drives =
-          let island = n.taken.there.0 in
-          (refl, subst (λ o. AllDrive (λ u. same_target u (ToRegister y.region) ≡ false) (timed_drivers G I y k o)) (sym n.taken.there.1)
-          (island_drives (λ u. same_target u (ToRegister y.region) ≡ false) (no_port_register y.region) G y (first_of_island G I k) island (λ m l h. refl) refl (λ m l h. differs m y.region (λ e. omega arith)) (λ g less. refl) (λ g less. refl)
-          (subst (IslandNames G) n.taken.there.1 (names_at G I k named))))
+          let island = n.taken.there.0 in (
+            refl,
+            subst (λ o. AllDrive (λ u. same_target u (ToRegister y.region) ≡ false) (timed_drivers G I y k o)) (sym n.taken.there.1)
+                (island_drives (λ u. same_target u (ToRegister y.region) ≡ false) (no_port_register y.region) G y (first_of_island G I k) island (λ m l h. refl) refl (λ m l h. differs m y.region (λ e. omega arith)) (λ g less. refl) (λ g less. refl)
+                (subst (IslandNames G) n.taken.there.1 (names_at G I k named))),
+          )

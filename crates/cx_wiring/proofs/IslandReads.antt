@@ -127,9 +127,11 @@ module _ (part : PlainComponent) (groups : ℕ) (islands : List PlainIsland) (bo
           drive_both (λ v. same_target v t ≡ false) (drivers_of groups islands (inside x) (lowered part s l)) _
           (statement_skips s l (inside x) u.0 (omega arith) (first_out _ _ _ (parts_more part ss (after part s l)) out))
           (parts_skip ss (after part s l) x (inside x).wire (behind islands (lowered part s l) (inside x)) u.1 low (omega arith) (later_out _ _ _ (more part s l) out))
-      form_skips (Par arms) l x u low out =
-          ((two x low).0, drive_both (λ v. same_target v t ≡ false) (arms_drivers groups islands x (suc (suc x.wire)) x.register (lowered_parts part arms l)) _
-          (arms_skip arms l x (suc (suc x.wire)) x.register u (omega arith) out) ((two x low).1, tt))
+      form_skips (Par arms) l x u low out = (
+        (two x low).0,
+        drive_both (λ v. same_target v t ≡ false) (arms_drivers groups islands x (suc (suc x.wire)) x.register (lowered_parts part arms l)) _
+            (arms_skip arms l x (suc (suc x.wire)) x.register u (omega arith) out) ((two x low).1, tt),
+      )
       form_skips (If test comb a b) l x u low out = (
         (two x low).0,
         drive_both (λ v. same_target v t ≡ false) (comb_goes groups islands x comb) _ (comb_skips x comb) (
@@ -192,9 +194,11 @@ module _ (part : PlainComponent) (groups : ℕ) (islands : List PlainIsland) (bo
     -- what is behind the first branch, or behind an arm
     else_skips : (a b : PlainStatement) (l : Lowering) (x : Stand) (guard when : PlainNetExpr) → IsUntimed b → bound ≤ x.wire → (j < length (after part a l).islands) ⊎ (length (after part b (after part a l)).islands ≤ j)
         → Skips t (goes x guard (behind islands (lowered part a l) (past_test x)).position ∷ (drivers_of groups islands (behind islands (lowered part a l) (past_test x)) (lowered part b (after part a l)) ++ ends x when ∷ []))
-    else_skips a b l x guard when u low out =
-        (own.register _, drive_both (λ v. same_target v t ≡ false) (drivers_of groups islands (behind islands (lowered part a l) (past_test x)) (lowered part b (after part a l))) (ends x when ∷ [])
-        (statement_skips b (after part a l) (behind islands (lowered part a l) (past_test x)) u (omega arith) out) (end_skips x when low))
+    else_skips a b l x guard when u low out = (
+      own.register _,
+      drive_both (λ v. same_target v t ≡ false) (drivers_of groups islands (behind islands (lowered part a l) (past_test x)) (lowered part b (after part a l))) (ends x when ∷ [])
+          (statement_skips b (after part a l) (behind islands (lowered part a l) (past_test x)) u (omega arith) out) (end_skips x when low),
+    )
 
     rest_skips : (s : PlainStatement) (ss : PlainStatements) (l : Lowering) (par : Stand) (wire register : ℕ) → NoneTimed ss → bound ≤ wire → (j < length (after part s l).islands) ⊎ (length (parts_after part ss (after part s l)).islands ≤ j)
         → Skips t (arm_finishes wire register (lowered part s l) ∷ arms_drivers groups islands par (wire + wires_of (lowered part s l)) (suc register + length (registers_of islands (lowered part s l))) (lowered_parts part ss (after part s l)))

@@ -56,9 +56,11 @@ module _ (c groups : ℕ) (x : Stand) (first : ℕ) (island : PlainIsland) where
   occurrences_skip n (o ∷ rest) = (refl, (refl, (refl, occurrences_skip (suc n) rest)))
 
   pub go_skips : ((t : ℕ) (timer : IslandTimer) → slice_get island.timers t ≡ Some timer → timer.cell ≡ c → ⊥) → Skip (island_drivers groups x first island)
-  go_skips other =
-      (refl, drive_both (λ u. same_target u (ToPort (ports.Cell c 0)) ≡ false) (timer_drivers groups x first island 0 island.timers) _ (timers_skip 0 island.timers other)
-      (drive_both (λ u. same_target u (ToPort (ports.Cell c 0)) ≡ false) (point_drivers groups x first island 0 island.points) _ (points_skip 0 island.points) (occurrences_skip 0 island.occurrences)))
+  go_skips other = (
+    refl,
+    drive_both (λ u. same_target u (ToPort (ports.Cell c 0)) ≡ false) (timer_drivers groups x first island 0 island.timers) _ (timers_skip 0 island.timers other)
+        (drive_both (λ u. same_target u (ToPort (ports.Cell c 0)) ≡ false) (point_drivers groups x first island 0 island.points) _ (points_skip 0 island.points) (occurrences_skip 0 island.occurrences)),
+  )
 
 module _ (part : PlainComponent) (named : IslandsName (groups (lowered_component part)) (lowered_component part).islands) (around : NetAround) (registers : ℕ → Option BitVector) (look : Node → Option BitVector) where
   abbrev G : ℕ

@@ -350,4 +350,3 @@ module _ (part : PlainComponent) where
       none : AllRun (only_timer form cells)
       none zero timer e later = absurd (omega arith)
       none (suc n) timer e later = absurd cc
-

@@ -1,6 +1,6 @@
 -- What an accepted design gives the cells of each node: rows are lawful, nothing continuous enables a primitive or drives a component
 -- cell. So in a cycle in which no group goes each primitive makes its idle step and no child has go.
-use Rattle.std.proofs.Common.{◌≡◌, ℕ, ◌+◌, ◌<◌, inl, inr, Bool, true, false, List, [], ◌∷◌, length, Option, Some, None, refl, sym, ap, ◌∙◌, subst, arith}
+use Rattle.std.proofs.Common.{◌≡◌, ℕ, ◌+◌, ◌<◌, inl, inr, true, false, [], ◌∷◌, length, Some, None, sym, ap, ◌∙◌, subst, arith}
 use Rattle.cx_bits.specs.BitVector.{BitVector}
 use Rattle.cx_prim.specs.declared.ports.Side.TheVariants as sides
 use Rattle.cx_prim.specs.Rows.{Row, IsLawful}
@@ -19,7 +19,7 @@ use Rattle.cx_rules.specs.Ports.{component_of}
 use Rattle.cx_rules.specs.Wellformed.{IsForm, IsDesign, port_count}
 use Rattle.cx_rules.proofs.CircleLemmas.{same_part}
 use Rattle.cx_frames.specs.Rests.{IsUndriven}
-use Rattle.cx_frames.proofs.RuleLemmas.{IsKept, kept_instance}
+use Rattle.cx_frames.proofs.RuleLemmas.{kept_instance}
 use Rattle.cx_flow.proofs.InstanceLemmas.{instance_rows}
 use Rattle.cx_control.proofs.BesideLemmas.{StandsFor, of_component, of_nothing, instance_stands, keeps_calls}
 use Rattle.cx_control.proofs.ShapeLemmas.{drives_driving, none_outside, plain_group}

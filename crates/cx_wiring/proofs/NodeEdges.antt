@@ -1,5 +1,5 @@
 -- The laws of a node, from what its control and its ports give it in one cycle.
-use Rattle.std.proofs.Common.{◌≡◌, ℕ, suc, ◌+◌, ◌<◌, Bool, true, false, List, [], ◌∷◌, length, Option, Some}
+use Rattle.std.proofs.Common.{◌≡◌, ℕ, suc, ◌+◌, ◌<◌, Bool, true, false, List, [], ◌∷◌, length, Some}
 use Rattle.cx_text.specs.declared.places.Place.{Place}
 use Rattle.cx_bits.specs.BitVector.{BitVector}
 use Rattle.cx_prim.specs.Rows.{Row}
@@ -15,13 +15,13 @@ use Rattle.cx_meaning.specs.Control.{groups_in}
 use Rattle.cx_meaning.specs.Calls.{called, captures}
 use Rattle.cx_lockstep.specs.Worlds.{At, Machine, edge_of}
 use Rattle.cx_lockstep.specs.Statements.{LeafMachines}
-use Rattle.cx_lockstep.specs.Running.{Running, AGroup, running}
+use Rattle.cx_lockstep.specs.Running.{AGroup, running}
 use Rattle.cx_lockstep.specs.EndLaws.{is_done}
 use Rattle.cx_control.specs.Codings.{Coding}
 use Rattle.cx_control.specs.Spots.{Spot, Cell, Holds, Kept}
 use Rattle.cx_control.specs.Leaves.{Coded, code_of, child_at, inputs_now, leaf_machines}
 use Rattle.cx_control.specs.Controls.{coded_control, coded_below, leaf_codings}
-use Rattle.cx_control.specs.Standing.{bare, GoodAt, good_control, good_below}
+use Rattle.cx_control.specs.Standing.{bare, GoodAt, good_below}
 use Rattle.cx_control.specs.ControlRules.{ControlRules}
 use Rattle.cx_control.specs.CallLaws.{ChildLaws}
 use Rattle.cx_control.specs.ControlLaws.{IslandsDo}

@@ -1,6 +1,6 @@
 -- An edge of a node with go, from its own numbers, the primitives at its cells, and how each child stands: it makes its own step, or
 -- its edge is idle.
-use Rattle.std.proofs.Common.{◌≡◌, ℕ, zero, suc, Bool, true, false, List, [], ◌∷◌, Option, Some, None, refl, sym, ap, ◌∙◌}
+use Rattle.std.proofs.Common.{◌≡◌, ℕ, zero, suc, true, false, List, [], ◌∷◌, Option, Some, None, refl, sym, ap, ◌∙◌}
 use Rattle.std.proofs.Math.Path.{fun_ext}
 use Rattle.cx_bits.specs.BitVector.{BitVector}
 use Rattle.cx_prim.specs.CellStates.{CellState}
@@ -11,13 +11,13 @@ use Rattle.cx_meaning.specs.Designs.{PlainComponent}
 use Rattle.cx_meaning.specs.Instances as instances
 use Rattle.cx_meaning.specs.Instances.{Instance, Cells, no_cells, a_primitive, an_instance, OfRow, OfInstance, cell_at, Path, idle_below}
 use Rattle.cx_meaning.specs.Sights.{Held}
-use Rattle.cx_lockstep.specs.Worlds.{Control, At, Machine, edge_of, edge}
+use Rattle.cx_lockstep.specs.Worlds.{At, Machine, edge_of, edge}
 use Rattle.cx_control.specs.Codings.{Coding}
 use Rattle.cx_control.specs.Spots.{Spot, Cell, Number, Holds, Kept, pull}
 use Rattle.cx_control.specs.Numbers.{number_idle_below}
 use Rattle.cx_control.specs.Leaves.{Coded, code_of}
 use Rattle.cx_control.specs.Controls.{coded_control, coded_below}
-use Rattle.cx_control.specs.Standing.{Bare, bare, bare_under, good_control, good_below}
+use Rattle.cx_control.specs.Standing.{bare, bare_under, good_control, good_below}
 use Rattle.cx_net.specs.Nets.{PlainNetComponent}
 use Rattle.cx_net.specs.NetMeaning.{NetState, below_cell, NetLook, NetAround, APort, around_child}
 use Rattle.cx_net.specs.NetEdges.{cell_after, cell_below, inputs_from}

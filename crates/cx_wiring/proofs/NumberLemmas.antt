@@ -6,7 +6,7 @@ use Rattle.cx_rules.proofs.Finite.{Distinct, distinct_few}
 use Rattle.cx_wiring.specs.Reached.{numbers_from, has_number}
 use Rattle.cx_wiring.proofs.MainLaws.{Tells, or_right}
 
-number_in : (k : ℕ) (ns : List ℕ) → has_number k ns ≡ true → In ns k
+pub number_in : (k : ℕ) (ns : List ℕ) → has_number k ns ≡ true → In ns k
 number_in k [] h = absurd (cc)
 number_in k (n ∷ rest) h = one (eqb_tells k n) (number_in k rest) h
   where

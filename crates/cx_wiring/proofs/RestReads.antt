@@ -14,7 +14,7 @@ abbrev pub NotWires : ℕ → List Driven → Type 0
 NotWires base [] = Unit {0}
 NotWires base (u ∷ us) = ((m : ℕ) → base ≤ m → same_target u.target (ToWire m) ≡ false) × NotWires base us
 
-chains_below : (ts : List Driven) (base wire m : ℕ) → base ≤ m → m < wire → NotWires base ts → drivers_to (ToWire m) (chains wire ts) ≡ []
+pub chains_below : (ts : List Driven) (base wire m : ℕ) → base ≤ m → m < wire → NotWires base ts → drivers_to (ToWire m) (chains wire ts) ≡ []
 chains_below [] base wire m low less free = refl
 chains_below (u ∷ us) base wire m low less free =
     to_append (ToWire m) (chain u.target u.target wire together u.drivers) (chains (wire + rests together u.drivers) us)

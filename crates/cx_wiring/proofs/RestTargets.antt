@@ -12,7 +12,7 @@ use Rattle.cx_wiring.proofs.RestLaws.{standing, RestsHold}
 keep_head : (t : PlainNetTarget) (d : PlainNetDriver) (ds : List PlainNetDriver) → same_target d.target t ≡ true → drivers_to t (d ∷ ds) ≡ d ∷ drivers_to t ds
 keep_head t d ds e = ap (λ b. if b then d ∷ drivers_to t ds else drivers_to t ds) e
 
-drop_head : (t : PlainNetTarget) (d : PlainNetDriver) (ds : List PlainNetDriver) → same_target d.target t ≡ false → drivers_to t (d ∷ ds) ≡ drivers_to t ds
+pub drop_head : (t : PlainNetTarget) (d : PlainNetDriver) (ds : List PlainNetDriver) → same_target d.target t ≡ false → drivers_to t (d ∷ ds) ≡ drivers_to t ds
 drop_head t d ds e = ap (λ b. if b then d ∷ drivers_to t ds else drivers_to t ds) e
 
 pub to_append : (t : PlainNetTarget) (xs ys : List PlainNetDriver) → drivers_to t (xs ++ ys) ≡ drivers_to t xs ++ drivers_to t ys

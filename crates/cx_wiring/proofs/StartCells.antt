@@ -1,23 +1,22 @@
 -- After the edge with reset the cells of a design's net are those of the start, and the words of its memories are those of the design.
-use Rattle.std.proofs.Common.{◌≡◌, inl, inr, slice_get, Some, ℕ, zero, suc, ◌+◌, ◌<◌, Bool, true, false, if◌then◌else◌, List, [], ◌∷◌, ◌++◌, length, map, refl, sym, ap, ◌∙◌, subst, arith, length-append}
+use Rattle.std.proofs.Common.{◌≡◌, inl, inr, slice_get, Some, ℕ, zero, suc, ◌+◌, ◌<◌, Bool, true, false, if◌then◌else◌, List, [], ◌∷◌, ◌++◌, length, map, refl, sym, ap, ◌∙◌, arith, length-append}
 use Rattle.cx_text.specs.Loading.{PlainRow}
 use Rattle.cx_prim.specs.CellStates as cell_states
 use Rattle.cx_prim.specs.CellStates.{CellState, Stateless, Register, Memory, SequentialMemory, Multiplier, Divider, Timer, with_words}
-use Rattle.cx_prim.specs.Rows.{Row, reset}
+use Rattle.cx_prim.specs.Rows.{Row}
 use Rattle.cx_prim.specs.Table.{PrimitiveRow}
 use Rattle.cx_meaning.specs.Designs.{PlainKind, OfPrimitive, OfComponent, PlainCell, PlainComponent, PlainDesign, component_at}
 use Rattle.cx_meaning.specs.Instances as instances
 use Rattle.cx_meaning.specs.Instances.{Instance, Cells, no_cells, a_primitive, an_instance, Path, State, just, start, start_at, start_below, loaded_at, externals_from, words_of, part_of, add_cell, cells_for, tree_within, tree_of}
 use Rattle.cx_meaning.specs.Sights.{In}
 use Rattle.cx_rules.specs.Wellformed.{IsExternal, IsDesign}
-use Rattle.cx_rules.specs.Externals.{if_external, rows_of, row_for}
-use Rattle.cx_net.specs.Nets.{PlainNetComponent}
-use Rattle.cx_net.specs.NetTree.{NetInstance, NetCells, net_part}
+use Rattle.cx_rules.specs.Externals.{if_external, rows_of}
+use Rattle.cx_net.specs.NetTree.{NetInstance}
 use Rattle.cx_net.specs.NetMeaning.{NetState, NetLook}
 use Rattle.cx_net.specs.NetEdges.{cell_after, cell_below}
 use Rattle.cx_net.specs.NetRuns.{net_start_at, net_start_below, net_externals, started, net_words}
 use Rattle.cx_static.specs.Lowering.{lowered_component, lowered_of}
-use Rattle.cx_wiring.specs.Wiring.{kind_in, cell_in}
+use Rattle.cx_wiring.specs.Wiring.{cell_in}
 use Rattle.cx_wiring.specs.Reached.{order}
 use Rattle.cx_wiring.specs.PartNets.{timer_cells, wired_in, timers_of}
 use Rattle.cx_wiring.specs.Blocks.{net_of_instance, net_of_cells, has_cell, has_cell_below}

@@ -247,8 +247,13 @@ module _ (d : PlainDesign) (design : IsDesign d) (accepted : IsAccepted d) (k : 
       (λ l. let none : n ≡ 0 = omega arith in
       let there : IsForm (component_at d k) (Enable g) = subst (IsForm (component_at d k)) e (formed v i) in
       absurd (accepted.shapes StaticShape (record { component = k; part = AGroup g }) (group_at (part_of (component_of d k)) g).place (group_at (part_of (component_of d k)) g).name refl
-      (inl (record { within = within; number = g; is = refl; stands = there.0;
-      breaks = (n, ap (λ x. group_length x g) (same_part d (length d.components) k) ∙ f, or_right (some_target is_hole (group_at (part_of (component_of d k)) g).assigns) (nat_eq n 0) (eq-eqb n 0 none), (refl, refl)) }))))
+      (inl (record {
+        within = within;
+        number = g;
+        is = refl;
+        stands = there.0;
+        breaks = (n, ap (λ x. group_length x g) (same_part d (length d.components) k) ∙ f, or_right (some_target is_hole (group_at (part_of (component_of d k)) g).assigns) (nat_eq n 0) (eq-eqb n 0 none), (refl, refl));
+      }))))
       (cases_lt 0 n)
     where
       formed : (v : Visited) → In (statements_in (component_at d k)) v → IsForm (component_at d k) v.form

@@ -40,7 +40,7 @@ later_output inputs outputs n m e = choice (nat_lt n inputs) e
     choice true f = absurd (other f)
     choice false f = output_there outputs (n - inputs) m f
 
-part_output : (part : PlainNetComponent) (p m : ℕ) → net_part_port part p ≡ AnOutput m → nat_lt m (length part.outputs) ≡ true
+pub part_output : (part : PlainNetComponent) (p m : ℕ) → net_part_port part p ≡ AnOutput m → nat_lt m (length part.outputs) ≡ true
 part_output part zero m e = absurd (other e)
   where
     other : Go ≡ AnOutput m → ⊥

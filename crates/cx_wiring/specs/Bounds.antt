@@ -19,6 +19,18 @@ IsThere b (ToWire n) = n < b.wires
 IsThere b (ToHole n) = n < b.holes
 IsThere b ToDone = Unit {0}
 
+-- a target that has a rank of its own
+abbrev pub IsProper : PlainNetTarget → Type 0
+IsProper (ToPort (ports.Cell c p)) = Unit {0}
+IsProper (ToPort (ports.Output n)) = Unit {0}
+IsProper (ToPort (ports.Input n)) = ⊥
+IsProper (ToPort (ports.Done g)) = ⊥
+IsProper (ToPort (ports.Literal w v)) = ⊥
+IsProper (ToRegister n) = Unit {0}
+IsProper (ToWire n) = Unit {0}
+IsProper (ToHole n) = Unit {0}
+IsProper ToDone = Unit {0}
+
 -- all drivers drive what a condition holds of
 abbrev pub AllDrive : (PlainNetTarget → Type 0) → List PlainNetDriver → Type 0
 AllDrive P [] = Unit {0}

@@ -17,6 +17,7 @@ pub mod IslandTakes
 pub mod Shown
 pub mod Turning
 pub mod Wired
+pub mod Fitting
 pub mod GuardPorts
 pub mod InNet
 pub mod NetBits

@@ -12,8 +12,12 @@ use Rattle.cx_net.specs.NetMeaning.{NetState, Node, NetLook, NetAround, same_tar
 use Rattle.cx_net.specs.NetEdges.{register_after, register_below, cell_below}
 use Rattle.cx_net.specs.NetRuns.{net_start_below}
 use Rattle.cx_prim.specs.CellStates.{CellState}
-use Rattle.cx_net.specs.NetFits.{signature_widths, kind_width, port_width, target_width, IsFitDriver}
-use Rattle.cx_emit.proofs.ExprLemmas.{AreFitDrivers}
+use Rattle.cx_net.specs.NetFits.{signature_widths, kind_width, port_width, HasWidth, target_width, IsFitDriver}
+
+-- drivers of a target of this width
+abbrev pub AreFitDrivers : PlainNet → PlainNetComponent → ℕ → List PlainNetDriver → Type 0
+AreFitDrivers net part w [] = Unit {0}
+AreFitDrivers net part w (d ∷ ds) = HasWidth net part d.guard 1 × HasWidth net part d.source w × AreFitDrivers net part w ds
 
 both_tests : (a b : Bool) → (if a then b else false) ≡ true → (a ≡ true) × (b ≡ true)
 both_tests true b e = (refl, e)

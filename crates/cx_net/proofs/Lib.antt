@@ -1,0 +1,5 @@
+pub mod DriverLemmas
+pub mod GatherLemmas
+pub mod PortWidths
+pub mod WidthLaws
+pub mod HoldLaws
