@@ -50,11 +50,11 @@ use Rattle.cx_flow.proofs.InstanceLemmas.{KeepsPorts, instance_ports}
 use Rattle.cx_control.specs.Spots.{input_count}
 use Rattle.cx_control.specs.Leaves.{leaf_drives}
 use Rattle.cx_control.specs.InstanceRules.{InstanceRules, Stands}
-use Rattle.cx_control.specs.CallRules.{CallRules}
+use Rattle.cx_control.specs.CallRules.{CallForm, CallRules}
 use Rattle.cx_control.specs.ControlRules.{ControlRules}
 use Rattle.cx_control.specs.GroupLaws.{false_true}
 use Rattle.cx_control.proofs.BesideLemmas.{KeepsCalls, StandsFor, of_component, of_nothing, instance_stands, keeps_calls}
-use Rattle.cx_control.proofs.ShapeLemmas.{drives_driving, in_some, none_outside, plain_group, calls_what_it_drives, child, is_a_plain_group, no_output, right_enable, right_done}
+use Rattle.cx_control.proofs.ShapeLemmas.{drives_driving, in_some, none_outside, plain_group, calls_what_it_drives, child, is_a_plain_group, no_output, right_enable, right_go, right_done}
 use Rattle.cx_control.proofs.TargetLemmas.{group_acts}
 use Rattle.cx_control.proofs.HeldLemmas.{IsGiven, held_same}
 use Rattle.cx_control.proofs.RegisterLemmas.{register_is_row, Captured, captured_is}
@@ -164,9 +164,22 @@ module _ (part : PlainComponent) (cells more : Cells) (keeps : KeepsCalls (Node 
         λ same. no_row (child i whole keeps g c e).0 (register_row (Register.width (register i g c capture_rules cap r j))) (sym (child i whole keeps g c e).1 ∙ ap (cell_at cells) (sym same) ∙ Register.at (register i g c capture_rules cap r j)),
       )
 
+  call_form : CallForm (Node part cells) g c
+  call_form = record {
+    child = (child i whole keeps g c e).0;
+    at_child = (child i whole keeps g c e).1;
+    no_bare = λ o p stands owner target. no_bare p o stands owner target;
+    right_go = right_go i whole keeps g c e there;
+    right_done = right_done i whole keeps g c e there;
+    right_enable = λ a j r p row target at enables. right_enable i whole keeps g c e a j r p row target at enables;
+    registers = λ r cell stands is_reg. CaptureRules.registers capture_rules r cell stands is_reg;
+    no_given = λ n q input given_so reach. no_given n input q given_so reach;
+  }
+
   pub call_rules : CallRules (Node part cells) g c
   call_rules = record {
     calls = e;
+    form = call_form;
     plain = plain_is (group_at part g).kind (is_a_plain_group i whole keeps g c e);
     held = λ held s t outside n less.
         held_same i (group g) (acyclic g) (deeper_acyclic i circles) c (child i whole keeps g c e).0 (child i whole keeps g c e).1 held s t outside (ports.Cell c (suc n)) (no_given n (input_at n less));

@@ -84,7 +84,7 @@ own_offset : (g : ℕ) → only_at g g ≡ Some 0
 own_offset g = ap (λ b. if b then Some 0 else None) (equal g)
 
 -- the last port of a component cell is its done
-last_is_done : (part : PlainComponent) → part_port part (suc (length part.inputs + length part.outputs)) ≡ ItsDone
+pub last_is_done : (part : PlainComponent) → part_port part (suc (length part.inputs + length part.outputs)) ≡ ItsDone
 last_is_done part =
     let back : (length part.inputs + length part.outputs) - length part.inputs ≡ length part.outputs = omega arith in
     ap (λ b. if b then AnInput (length part.inputs + length part.outputs) else output_port (length part.outputs) ((length part.inputs + length part.outputs) - length part.inputs))
@@ -110,10 +110,10 @@ module _ (i : Instance) (g c : ℕ) (rules : CaptureRules i g c) (captures : cap
   abbrev assigns : List PlainAssign
   assigns = (group_at (part_of i) g).assigns
 
-  abbrev registers_now : List ℕ
+  abbrev pub registers_now : List ℕ
   registers_now = captured (part_of i) assigns
 
-  abbrev wanted : List PortRef
+  abbrev pub wanted : List PortRef
   wanted = wanted_dones (done_port c rules.child) (captured (part_of i) assigns)
 
   -- some register is captured
@@ -143,7 +143,7 @@ module _ (i : Instance) (g c : ℕ) (rules : CaptureRules i g c) (captures : cap
       driven list a j r p e f = some_in (same_port (write_en_of r)) list a j (ap (same_port (write_en_of r)) f ∙ e)
 
   -- what is wanted are the dones of the captured registers
-  wanted_are : wanted ≡ map register_done registers_now
+  pub wanted_are : wanted ≡ map register_done registers_now
   wanted_are = of_list registers_now some_captured.1
     where
       of_list : (rs : List ℕ) → In rs some_captured.0 → wanted_dones (done_port c rules.child) rs ≡ map register_done rs
@@ -178,7 +178,7 @@ module _ (i : Instance) (g c : ℕ) (rules : CaptureRules i g c) (captures : cap
       of_list (a ∷ b ∷ rest) e f = absurd (false_true f)
 
   -- WHAT IS SEEN at a register's done, and at the hole
-  done_seen : (held : Held) (s : State) (r w : ℕ) → cell_at (cells_of i) r ≡ OfRow (register_row w) → seen i held (group g) s (register_done r) ≡ of_option (register_output w (s (r ∷ [])) 3)
+  pub done_seen : (held : Held) (s : State) (r w : ℕ) → cell_at (cells_of i) r ≡ OfRow (register_row w) → seen i held (group g) s (register_done r) ≡ of_option (register_output w (s (r ∷ [])) 3)
   done_seen held s r w at =
       seen_solves i held (group g) s rules.acyclic rules.deeper (register_done r)
       ∙ ap (λ k. cell_step (part_of i) (group g) s (seen i held (group g) s) (outputs_below (cells_of i) (λ d. under d s)) r 3 k) at
@@ -190,11 +190,11 @@ module _ (i : Instance) (g c : ℕ) (rules : CaptureRules i g c) (captures : cap
   hole_seen held s = seen_solves i held (group g) s rules.acyclic rules.deeper (ports.Done g)
 
   module _ (held : Held) (s : State) where
-    abbrev look : Look
+    abbrev pub look : Look
     look = seen i held (group g) s
 
     -- where the hole is 1 all captured registers are done
-    all_done : truth_of (look (ports.Done g)) ≡ One → (w : PortRef) → In wanted w → truth_of (look w) ≡ One
+    pub all_done : truth_of (look (ports.Done g)) ≡ One → (w : PortRef) → In wanted w → truth_of (look w) ≡ One
     all_done is_set = of_assign from_is (or_either (is_always (TheDone.assign the_done).guard && are_dones wanted (Some ((TheDone.assign the_done).source.port ∷ []))) (same_port (TheDone.assign the_done).source.port one && are_dones wanted (conjuncts (TheDone.assign the_done).guard)) (TheDone.right the_done))
       where
         from : TakenFrom look (drivers (part_of i) (group g) (ports.Done g))

@@ -7,7 +7,7 @@ use Rattle.cx_meaning.specs.declared.ports.PortRef.{PortRef}
 use Rattle.cx_meaning.specs.declared.ports.PortRef.TheVariants as ports
 use Rattle.cx_meaning.specs.Designs.{PlainAssign, PlainComponent, group_at}
 use Rattle.cx_meaning.specs.Instances.{Instance, Cells, At, Nothing, OfRow, OfInstance, cell_at, cells_of, part_of, just}
-use Rattle.cx_meaning.specs.Active.{Owned, group, source_order}
+use Rattle.cx_meaning.specs.Active.{Owned, group, same_port, source_order}
 use Rattle.cx_meaning.specs.Sights.{In, AnInput, AnOutput, ItsDone, part_port}
 use Rattle.cx_meaning.specs.Control.{targets_cell, assigns_drive, group_drives}
 use Rattle.cx_meaning.specs.Calls.{if_instance, called_by, called_in}
@@ -15,7 +15,8 @@ use Rattle.cx_rules.specs.Ports.{enables_cell, is_primitive_enable, is_instance,
 use Rattle.cx_rules.specs.Items.{is_plain}
 use Rattle.cx_rules.specs.Footprints.{Depends}
 use Rattle.cx_rules.specs.ShapeRules.{is_hole_of, some_target}
-use Rattle.cx_rules.specs.CallShape.{is_port_of, Calls, done_port, is_register_enable, with_target, is_right_enable, captured, wanted_dones, is_right_done, CallBreak, another_cell, input_by_output, wrong_enable, wrong_done}
+use Rattle.cx_rules.proofs.FoundLemmas.{same_is}
+use Rattle.cx_rules.specs.CallShape.{is_port_of, Calls, go_port, is_right_go, wrong_go, done_port, is_register_enable, with_target, is_right_enable, captured, wanted_dones, is_right_done, CallBreak, another_cell, input_by_output, wrong_enable, wrong_done}
 use Rattle.cx_control.proofs.BesideLemmas.{IsBeside, depends_too, group_stands, KeepsCalls}
 use Rattle.cx_control.specs.CallLaws.{just_is}
 use Rattle.cx_control.specs.ControlLaws.{called_child as called_instance}
@@ -215,6 +216,19 @@ module _ (i whole : Instance) (keeps : KeepsCalls i whole) where
           true_or_false _ (λ none. no_break a j (wrong_enable
           (ap (is_primitive_enable whole) target ∙ ap (λ k. enables_cell k p) ((KeepsCalls.beside keeps).rows r row at) ∙ enables)
           (ap (λ d. is_register_enable part a.target && is_right_enable d (with_target a.target assigns)) same_done ∙ none)))
+
+      -- its go is 1 while the cell is not done
+      pub right_go : g < length (PlainComponent.groups part) → is_right_go (done_port c child.0) (with_target (go_port c) assigns) ≡ true
+      right_go there =
+          let driven = true_or_false _ (λ lacks. keeps.driven g there is_a_plain_group c calls lacks) in
+          let go = in_some (same_port (go_port c)) assigns (and_first (some_target (same_port (go_port c)) assigns) _ driven) in
+          true_or_false _ (λ none. no_break go.0 go.1
+          (subst (CallBreak whole g c (Calls.child calls)) (same_is (go_port c) go.0.target go.2)
+          (wrong_go (ap (λ d. is_right_go d (with_target (go_port c) assigns)) same_done ∙ none))))
+        where
+          and_first : (a b : Bool) → (a && b) ≡ true → a ≡ true
+          and_first true b f = refl
+          and_first false b f = absurd (cc)
 
       -- and its done is that of the cell or of the captured registers
       pub right_done : g < length (PlainComponent.groups part) → is_right_done (wanted_dones (done_port c child.0) (captured part assigns)) (with_target (ports.Done g) assigns) ≡ true

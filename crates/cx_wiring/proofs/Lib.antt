@@ -106,6 +106,7 @@ pub mod StartCells
 pub mod DesignRoots
 pub mod GoingApart
 pub mod NodeAgrees
+pub mod CallValues
 pub mod KnownLemmas
 pub mod CircleInduction
 pub mod RiseLemmas
