@@ -20,18 +20,27 @@ use Rattle.cx_net.specs.NetEdges.{own_register}
 use Rattle.cx_static.specs.Lowering.{lowered, lowered_component, unlowered}
 use Rattle.cx_wiring.specs.Counts.{positions_of, sample_registers, registers_of}
 use Rattle.cx_wiring.specs.Stands.{Stand}
-use Rattle.cx_wiring.specs.Control.{form_drivers}
+use Rattle.cx_wiring.specs.Control.{whole_stand, drivers_of}
 use Rattle.cx_wiring.specs.Wiring.{groups, first_of_control}
 use Rattle.cx_wiring.specs.PartNets.{wired_in, timers_of}
 use Rattle.cx_wiring.specs.Takings.{AllConnect, AreRegisters}
 use Rattle.cx_wiring.specs.Standing.{IsIn, IsStopped, Away}
 use Rattle.cx_wiring.specs.BlockNumbers.{component_numbers}
 use Rattle.cx_wiring.specs.Blocks.{block, net_of_cells, Solves, HasGo, IsIdle, after_edge}
-use Rattle.cx_wiring.proofs.TakingLemmas.{true_bit}
+use Rattle.cx_wiring.proofs.TakingLemmas.{true_bit, idle_passes}
 use Rattle.cx_wiring.proofs.ComponentLaws as laws
 use Rattle.cx_wiring.proofs.KnowLaws.{Known}
 use Rattle.cx_wiring.proofs.BlockTells.{IsFineNode, R, hole_now, port_now, node_cycle, end_is}
 use Rattle.cx_wiring.proofs.IdleNumbers.{IslandIdled, idled}
+use Rattle.cx_wiring.proofs.IslandCells.{IsListed, listed}
+use Rattle.cx_wiring.proofs.TimerRows.{EachTimer}
+use Rattle.cx_wiring.proofs.NodeTimers.{IsTimer, timer_is, timer_edge, node_away, node_known, go_takes}
+use Rattle.cx_wiring.proofs.IslandIdles.{numbers_idle}
+use Rattle.cx_wiring.specs.IslandNumbers as numbers
+use Rattle.cx_net.specs.Nets.{ToPort}
+use Rattle.cx_prim.specs.CellStates.{Timer}
+use Rattle.cx_prim.specs.PipeRows.{timer_idle}
+use Rattle.cx_meaning.specs.declared.ports.PortRef.TheVariants as ports
 
 -- the leaves of an instance have as many numbers as their codings
 module _ (i : Instance) (children : ℕ → Coded) where
@@ -65,21 +74,7 @@ module _ (d : PlainDesign) (of_island : PlainComponent → NetState → ℕ → 
   abbrev now_R : ℕ → Option BitVector
   now_R = R d of_island part cells fine v around look solves
 
-  -- WHAT ISLANDS OWE: nothing of theirs acts where control is not there, what their end and their samples come to is known, and their
-  -- numbers move as an idle edge moves them where their registers stay
-  pub record IslandsOwe : Type 0 where
-    pub away : (k : ℕ) (y : Stand) (acts : Bool) (r : ℕ) → IsIn around now_R (look []) y.acts y.region acts r → IsStopped acts r y.position 1 → first_of_control (lowered_component part) ≤ y.wire
-        → AllConnect around now_R (look []) (first_of_control (lowered_component part)) (form_drivers (groups (lowered_component part)) (lowered_component part).islands y (Timed k))
-        → AreRegisters around now_R (look []) (v.register []) y.register (sample_registers (slice_get (lowered_component part).islands k)) → Away around now_R (look []) y (form_drivers (groups (lowered_component part)) (lowered_component part).islands y (Timed k))
-    pub known : (k : ℕ) (place : Place) (y : Stand) (acts : Bool) (r : ℕ) → IsIn around now_R (look []) y.acts y.region acts r → first_of_control (lowered_component part) ≤ y.wire → y.region < y.register
-        → AllConnect around now_R (look []) (first_of_control (lowered_component part)) (form_drivers (groups (lowered_component part)) (lowered_component part).islands y (Timed k))
-        → AreRegisters around now_R (look []) (v.register []) y.register (sample_registers (slice_get (lowered_component part).islands k))
-        → Known (groups (lowered_component part)) (lowered_component part).islands fine.islands_named around now_R (look []) (first_of_control (lowered_component part)) (v.register []) next
-        (hole_now d of_island part cells fine v around look solves) (port_now d of_island part cells fine v around look solves) y (Placed (Timed k) place)
-    pub idle : (k first : ℕ) → ((m : ℕ) → first ≤ m → m < first + length (sample_registers (slice_get (lowered_component part).islands k)) → next m ≡ v.register [] m)
-        → IslandIdled (of_island part v first k) (of_island part (after_edge (block (wired_in d) timers_of (component_numbers of_island) (instances.Node part cells)) around v look) first k)
-
-  module _ (owe : IslandsOwe) (idle : IsIdle (block (wired_in d) timers_of (component_numbers of_island) (instances.Node part cells)) around v) where
+  module _ (idle : IsIdle (block (wired_in d) timers_of (component_numbers of_island) (instances.Node part cells)) around v) where
     stopped : (solves.go.0 ≡ false) ⊎ (v.register [] 0 ≡ positions_of (lowered part part.control (unlowered part)))
     stopped = by_case idle
       where
@@ -87,20 +82,51 @@ module _ (d : PlainDesign) (of_island : PlainComponent → NetState → ℕ → 
         by_case (inl h) = inl (go_is around.go solves.go.0 solves.go.1 h.0 h.1 h.2)
         by_case (inr e) = inr (e ∙ end_is d of_island part cells)
 
+    -- nothing of control acts
+    pub control_away : Away around now_R (look []) (whole_stand (first_of_control (lowered_component part)))
+        (drivers_of (groups (lowered_component part)) (lowered_component part).islands (whole_stand (first_of_control (lowered_component part))) (lowered part part.control (unlowered part)))
+    control_away =
+        laws.is_away part fine.islands_named around now_R (look []) (v.register []) next (hole_now d of_island part cells fine v around look solves) (port_now d of_island part cells fine v around look solves)
+        fine.control_named fine.assigns_named solves.go.0 (node_cycle d of_island part cells fine v around look solves)
+        (node_away d of_island part cells fine v around look solves) (node_known d of_island part cells fine v around look solves) stopped
+
     registers_stay : (m : ℕ) → 1 ≤ m → m < 1 + length (registers_of (lowered_component part).islands (lowered part part.control (unlowered part))) → next m ≡ v.register [] m
     registers_stay m low high =
         laws.registers_rest part fine.islands_named around now_R (look []) (v.register []) next (hole_now d of_island part cells fine v around look solves) (port_now d of_island part cells fine v around look solves)
-        fine.control_named fine.assigns_named solves.go.0 (node_cycle d of_island part cells fine v around look solves) owe.away owe.known stopped m low (omega arith)
+        fine.control_named fine.assigns_named solves.go.0 (node_cycle d of_island part cells fine v around look solves)
+        (node_away d of_island part cells fine v around look solves) (node_known d of_island part cells fine v around look solves) stopped m low (omega arith)
 
-    -- THE OWN NUMBERS of a node
-    pub own_numbers_idle : (n : ℕ) → component_numbers of_island (instances.Node part cells) (after_edge (block (wired_in d) timers_of (component_numbers of_island) (instances.Node part cells)) around v look) n
+    -- so its timers come to rest
+    pub timers_rest : EachTimer part (λ timer. (NetState.cell (after_edge (block (wired_in d) timers_of (component_numbers of_island) (instances.Node part cells)) around v look)) (timer.cell ∷ []) ≡ Timer 0 false)
+    timers_rest k island is t timer at =
+        timer_edge d of_island part cells fine v around look solves false k island is t timer at
+        (go_takes d of_island part cells fine v around look solves k island is t timer at ∙ idle_passes around now_R (look []) (ToPort (ports.Cell timer.cell 0)) tt (Some (truth_bit false)) _ control_away.idle)
+        ∙ ap timer_idle (IsTimer.is (timer_is d of_island part cells fine v around look solves k island is t timer at))
+
+    -- THE OWN NUMBERS of a node, where those of its islands move as an idle edge moves them
+    pub own_numbers_idle : ((k first : ℕ) → ((m : ℕ) → first ≤ m → m < first + length (sample_registers (slice_get (lowered_component part).islands k)) → next m ≡ v.register [] m)
+        → IslandIdled (of_island part v first k) (of_island part (after_edge (block (wired_in d) timers_of (component_numbers of_island) (instances.Node part cells)) around v look) first k))
+        → (n : ℕ) → component_numbers of_island (instances.Node part cells) (after_edge (block (wired_in d) timers_of (component_numbers of_island) (instances.Node part cells)) around v look) n
         ≡ number_idle (instances.Node part cells) n (component_numbers of_island (instances.Node part cells) v n)
-    own_numbers_idle zero =
+    own_numbers_idle islands zero =
         laws.place_rests part fine.islands_named around now_R (look []) (v.register []) next (hole_now d of_island part cells fine v around look solves) (port_now d of_island part cells fine v around look solves)
-        fine.control_named fine.assigns_named solves.go.0 (node_cycle d of_island part cells fine v around look solves) owe.away owe.known stopped
+        fine.control_named fine.assigns_named solves.go.0 (node_cycle d of_island part cells fine v around look solves)
+        (node_away d of_island part cells fine v around look solves) (node_known d of_island part cells fine v around look solves) stopped
         ∙ ap (λ e. if v.register [] 0 == e then 0 else v.register [] 0) (sym (end_is d of_island part cells))
-    own_numbers_idle (suc n) =
+    own_numbers_idle islands (suc n) =
         idled (leaf_machines (instances.Node part cells) (coded_below cells)) (leaf_codings (instances.Node part cells) (coded_below cells)) part
         (enable_count (instances.Node part cells) (coded_below cells)) (island_count (instances.Node part cells) (coded_below cells)) (lowered_component part).islands (v.register []) next
-        (of_island part v) (of_island part (after_edge (block (wired_in d) timers_of (component_numbers of_island) (instances.Node part cells)) around v look)) (λ k first stay. owe.idle k first stay)
+        (of_island part v) (of_island part (after_edge (block (wired_in d) timers_of (component_numbers of_island) (instances.Node part cells)) around v look)) islands
         part.control (unlowered part) 1 registers_stay n
+
+-- WITHOUT GO, or at the end, the own numbers of a node move as an idle edge moves them, whatever its registers and its timers hold
+pub node_numbers_idle : (d : PlainDesign) (part : PlainComponent) (cells : Cells) (fine : IsFineNode d numbers.of_island part cells) (v : NetState) (around : NetAround) (look : NetLook)
+    (solves : Solves (block (wired_in d) timers_of (component_numbers numbers.of_island) (instances.Node part cells)) around v look) → IsIdle (block (wired_in d) timers_of (component_numbers numbers.of_island) (instances.Node part cells)) around v
+    → (n : ℕ) → component_numbers numbers.of_island (instances.Node part cells) (after_edge (block (wired_in d) timers_of (component_numbers numbers.of_island) (instances.Node part cells)) around v look) n
+    ≡ number_idle (instances.Node part cells) n (component_numbers numbers.of_island (instances.Node part cells) v n)
+node_numbers_idle d part cells fine v around look solves idle =
+    own_numbers_idle d numbers.of_island part cells fine v around look solves idle
+    (λ k first stay. numbers_idle (lowered_component part).part.cells (λ c. v.cell (c ∷ [])) (λ c. (NetState.cell (after_edge (block (wired_in d) timers_of (component_numbers numbers.of_island) (instances.Node part cells)) around v look)) (c ∷ []))
+    (v.register []) (next d numbers.of_island part cells fine v around look solves) (slice_get (lowered_component part).islands k) first
+    (λ island is. IsListed.some (listed part k island is)) (λ island is. timers_rest d numbers.of_island part cells fine v around look solves idle k island is)
+    (λ island is m low high. stay m low (omega (arith, high, ap (λ o. length (sample_registers o)) is, length-replicate {A = ℕ} (length island.points) 1))))

@@ -33,6 +33,10 @@ use Rattle.cx_wiring.proofs.ComponentTakes.{IsPlain}
 use Rattle.cx_wiring.proofs.ComponentLaws as laws
 use Rattle.cx_wiring.proofs.ComponentLaws.{PlainCycle}
 use Rattle.cx_wiring.proofs.CycleLaws.{plain_cycle}
+use Rattle.cx_wiring.proofs.IslandReads.{IsUntimed}
+use Rattle.cx_wiring.proofs.TimerRows.{cell_count, TimersFit, IsOwnTarget, timer_rows}
+use Rattle.cx_meaning.specs.Active.{Owned}
+use Rattle.cx_meaning.specs.Sights.{In}
 use Rattle.cx_wiring.proofs.SizeLaws.{size_is, enable_one, island_one}
 
 -- the tests of a statement and the holes of its groups are bits, where ports of one bit and all holes are
@@ -78,6 +82,10 @@ module _ (d : PlainDesign) (of_island : PlainComponent → NetState → ℕ → 
     pub control_named : StatementNames (groups (lowered_component part)) (lowered part part.control (unlowered part))
     pub assigns_named : AssignsName (groups (lowered_component part)) (driven_assigns (lowered_component part))
     pub plain : AllDrive (IsPlain (length (plain_wires (lowered_component part)))) (plain_drivers (lowered_component part))
+    pub untimed : IsUntimed part.control
+    pub cell_count : cell_count cells ≡ length part.cells
+    pub timers_fit : TimersFit part
+    pub targets : (o : Owned) → In (driven_assigns (lowered_component part)) o → IsOwnTarget part o.assign.target
     pub tests : StatementTests (IsBitPort (wired_in d part) (net_of_cells (wired_in d) timers_of (component_numbers of_island) cells (timers_of part))) (lowered part part.control (unlowered part))
 
   module _ (fine : IsFineNode) (v : NetState) (around : NetAround) (look : NetLook)
@@ -107,7 +115,7 @@ module _ (d : PlainDesign) (of_island : PlainComponent → NetState → ℕ → 
     pub node_cycle : PlainCycle part fine.islands_named around R (look []) (v.register []) (own_register (wired_in d part) (net_of_cells (wired_in d) timers_of (component_numbers of_island) cells (timers_of part)) around v look) hole_now port_now solves.go.0
     node_cycle =
         plain_cycle (lowered_of d) part fine.islands_named (net_of_cells (wired_in d) timers_of (component_numbers of_island) cells (timers_of part)) around v look (λ n t. solves.by_rule [] n t) (λ n t. solves.whole [] n t) fine.plain
-        hole_now port_now solves.go.0 solves.go.1
+        fine.untimed fine.targets (timer_rows part (wired_in d) timers_of (component_numbers of_island) cells fine.cell_count fine.timers_fit) hole_now port_now solves.go.0 solves.go.1
         (statement_bits (groups (lowered_component part)) around R (look []) hole_now port_now (IsBitPort (wired_in d part) (net_of_cells (wired_in d) timers_of (component_numbers of_island) cells (timers_of part))) port_says hole_says (lowered part part.control (unlowered part)) fine.control_named fine.tests)
 
     pub done_node : look [] TheDone ≡ Some (truth_bit (v.register [] 0 == positions_of (lowered part part.control (unlowered part))))

@@ -20,6 +20,7 @@ use Rattle.cx_wiring.specs.Assignments.{driven_assigns, assigns_drivers}
 use Rattle.cx_wiring.specs.Wiring.{groups, first_of_control, first_of_assigns, plain_drivers, component_registers}
 use Rattle.cx_wiring.specs.Bounds.{AllDrive, IslandsName, StatementNames, AssignsName}
 use Rattle.cx_wiring.specs.Takings.{Says, takes, AllConnect, AreRegisters}
+use Rattle.cx_wiring.specs.IslandTakes.{StatementIslands, TakesIsland, IslandNexts}
 use Rattle.cx_wiring.specs.Standing.{IsStopped, IsIn, Away, StatementBits}
 use Rattle.cx_wiring.specs.Shown.{wide, Going, told}
 use Rattle.cx_wiring.specs.Turning.{Turns, Moves}
@@ -57,7 +58,10 @@ module _ (part : PlainComponent) (named : IslandsName (groups (lowered_component
     pub acts : around.go ≡ Some (truth_bit acting)
     pub wires : (n : ℕ) → n < first_of_assigns (lowered_component part) → Reads (groups (lowered_component part)) (lowered_component part).islands named around registers look n (plain_drivers (lowered_component part))
     pub registers_are : AreRegisters around registers look kept 0 (component_registers (lowered_component part))
-    pub nexts : (m v : ℕ) → m < length (component_registers (lowered_component part)) → takes around registers look (ToRegister m) (Some (wide (kept m))) (plain_drivers (lowered_component part)) ≡ Some (wide v) → next m ≡ v
+    pub nexts : (m : ℕ) (old new : BitVector) → m < length (component_registers (lowered_component part)) → old.value ≡ kept m → takes around registers look (ToRegister m) (Some old) (plain_drivers (lowered_component part)) ≡ Some new
+        → next m ≡ new.value
+    pub islands : StatementIslands (TakesIsland (groups (lowered_component part)) (lowered_component part).islands around registers look) (lowered_component part).islands
+        (whole_stand (first_of_control (lowered_component part))) (lowered part part.control (unlowered part))
     pub goes : (g : ℕ) → g < groups (lowered_component part) → look (AHole (groups (lowered_component part) + g)) ≡ takes around registers look (ToHole (groups (lowered_component part) + g)) (Some (truth_bit false)) (plain_drivers (lowered_component part))
     pub done : look TheDone ≡ takes around registers look ToDone (Some (truth_bit false)) (plain_drivers (lowered_component part))
     pub bits : StatementBits around registers look hole port (lowered part part.control (unlowered part))
@@ -126,16 +130,18 @@ module _ (part : PlainComponent) (named : IslandsName (groups (lowered_component
     -- what islands owe: that nothing of theirs acts where control is not there, and that their end is known
     module _ (timed_away : (k : ℕ) (y : Stand) (acts : Bool) (r : ℕ) → IsIn around registers look y.acts y.region acts r → IsStopped acts r y.position 1 → first_of_control (lowered_component part) ≤ y.wire
         → AllConnect around registers look (first_of_control (lowered_component part)) (form_drivers (groups (lowered_component part)) (lowered_component part).islands y (Timed k))
-        → AreRegisters around registers look kept y.register (sample_registers (slice_get (lowered_component part).islands k)) → Away around registers look y (form_drivers (groups (lowered_component part)) (lowered_component part).islands y (Timed k)))
+        → AreRegisters around registers look kept y.register (sample_registers (slice_get (lowered_component part).islands k))
+        → IslandNexts (groups (lowered_component part)) (lowered_component part).islands around registers look kept next k y → Away around registers look y (form_drivers (groups (lowered_component part)) (lowered_component part).islands y (Timed k)))
         (timed_known : (k : ℕ) (place : Place) (y : Stand) (acts : Bool) (r : ℕ) → IsIn around registers look y.acts y.region acts r → first_of_control (lowered_component part) ≤ y.wire → y.region < y.register
         → AllConnect around registers look (first_of_control (lowered_component part)) (form_drivers (groups (lowered_component part)) (lowered_component part).islands y (Timed k))
         → AreRegisters around registers look kept y.register (sample_registers (slice_get (lowered_component part).islands k))
+        → IslandNexts (groups (lowered_component part)) (lowered_component part).islands around registers look kept next k y
         → Known (groups (lowered_component part)) (lowered_component part).islands named around registers look (first_of_control (lowered_component part)) kept next hole port y (Placed (Timed k) place)) where
       knows : Known (groups (lowered_component part)) (lowered_component part).islands named around registers look (first_of_control (lowered_component part)) kept next hole port
           (whole_stand (first_of_control (lowered_component part))) (lowered part part.control (unlowered part))
       knows = known (groups (lowered_component part)) (lowered_component part).islands named around registers look (first_of_control (lowered_component part)) kept next hole port timed_known (lowered part part.control (unlowered part))
           (whole_stand (first_of_control (lowered_component part))) acting (kept 0) names (omega arith) region_in low connects cycle.registers_are.1 cycle.bits
-          (λ m v l h e. cycle.nexts m v (omega arith) (later_register m (Some (wide (kept m))) l ∙ e))
+          cycle.islands (λ m old new l h is e. cycle.nexts m old new (omega arith) is (later_register m (Some old) l ∙ e))
 
       pub wired : IsWired (groups (lowered_component part)) (lowered_component part).islands around registers look (first_of_control (lowered_component part)) kept next hole port
           (whole_stand (first_of_control (lowered_component part))) (lowered part part.control (unlowered part))
@@ -151,18 +157,18 @@ module _ (part : PlainComponent) (named : IslandsName (groups (lowered_component
             by_case (inr e) = inr (inr (omega arith))
 
         pub is_away : Away around registers look (whole_stand (first_of_control (lowered_component part))) D
-        is_away = away (groups (lowered_component part)) (lowered_component part).islands around registers look (first_of_control (lowered_component part)) kept hole port timed_away (lowered part part.control (unlowered part))
-            (whole_stand (first_of_control (lowered_component part))) acting (kept 0) region_in is_stopped low connects cycle.registers_are.1 cycle.bits
+        is_away = away (groups (lowered_component part)) (lowered_component part).islands around registers look (first_of_control (lowered_component part)) kept hole port next timed_away (lowered part part.control (unlowered part))
+            (whole_stand (first_of_control (lowered_component part))) acting (kept 0) region_in is_stopped low connects cycle.registers_are.1 cycle.bits knows.nexts
 
         pub place_rests : next 0 ≡ (if kept 0 == positions_of (lowered part part.control (unlowered part)) then 0 else kept 0)
-        place_rests = cycle.nexts 0 _ (omega arith) (place_takes false is_away.ends ∙ idle_passes around registers look (ToRegister 0) tt _ D is_away.idle ∙ out (kept 0 == positions_of (lowered part part.control (unlowered part))))
+        place_rests = cycle.nexts 0 (wide (kept 0)) (wide _) (omega arith) refl (place_takes false is_away.ends ∙ idle_passes around registers look (ToRegister 0) tt _ D is_away.idle ∙ out (kept 0 == positions_of (lowered part part.control (unlowered part))))
           where
             out : (b : Bool) → ◌≡◌ {A = Option BitVector} (if b then Some (wide 0) else Some (wide (kept 0))) (Some (wide (if b then 0 else kept 0)))
             out true = refl
             out false = refl
 
         pub registers_rest : (m : ℕ) → 1 ≤ m → m < length (component_registers (lowered_component part)) → next m ≡ kept m
-        registers_rest m later there = cycle.nexts m (kept m) there (later_register m (Some (wide (kept m))) later ∙ idle_passes around registers look (ToRegister m) tt (Some (wide (kept m))) D is_away.idle)
+        registers_rest m later there = cycle.nexts m (wide (kept m)) (wide (kept m)) there refl (later_register m (Some (wide (kept m))) later ∙ idle_passes around registers look (ToRegister m) tt (Some (wide (kept m))) D is_away.idle)
 
         pub no_go : (g : ℕ) → g < groups (lowered_component part) → look (AHole (groups (lowered_component part) + g)) ≡ Some (truth_bit false)
         no_go g there = goes_are g there ∙ idle_passes around registers look (ToHole (groups (lowered_component part) + g)) tt (Some (truth_bit false)) D is_away.idle
@@ -182,8 +188,8 @@ module _ (part : PlainComponent) (named : IslandsName (groups (lowered_component
             by_step : (k : Control P) → Says around registers look (end_of (first_of_control (lowered_component part))) (is_done k) → Moves (groups (lowered_component part)) around registers look coding 0 0 (kept 0) D k → next 0 ≡ bank_code coding k 0
             by_step (At q) ends moves =
                 let none : 0 + coding.number q ≡ coding.number q = omega arith in
-                cycle.nexts 0 (coding.number q) (omega arith) (place_takes false ends ∙ ap (λ b. takes around registers look (ToRegister 0) (if b then Some (wide 0) else Some (wide (kept 0))) D) not_end ∙ moves ∙ ap (λ n. Some (wide n)) none)
-            by_step Done ends moves = cycle.nexts 0 coding.size (omega arith) (place_takes true ends ∙ moves (Some (wide (positions_of (lowered part part.control (unlowered part))))) ∙ ap (λ n. Some (wide n)) (sym size))
+                cycle.nexts 0 (wide (kept 0)) (wide (coding.number q)) (omega arith) refl (place_takes false ends ∙ ap (λ b. takes around registers look (ToRegister 0) (if b then Some (wide 0) else Some (wide (kept 0))) D) not_end ∙ moves ∙ ap (λ n. Some (wide n)) none)
+            by_step Done ends moves = cycle.nexts 0 (wide (kept 0)) (wide coding.size) (omega arith) refl (place_takes true ends ∙ moves (Some (wide (positions_of (lowered part part.control (unlowered part))))) ∙ ap (λ n. Some (wide n)) (sym size))
 
         pub numbers_move : (n : ℕ) → n < coding.extra → after_numbers n ≡ bank_code coding k (suc n)
         numbers_move = t.others

@@ -63,7 +63,7 @@ module _ (groups : ℕ) (islands : List PlainIsland) (named : IslandsName groups
   read_next : (m n : ℕ) (source : PlainNetExpr) (ds : List PlainNetDriver) → (m ≡ n → ⊥) → Reads n (connect m source ∷ ds) → Reads n ds
   read_next m n source ds apart h = read_past n (connect m source) ds (differs m n apart) h
 
-  no_port : (n : ℕ) (p : PortRef) → same_target (ToPort p) (ToWire n) ≡ false
+  pub no_port : (n : ℕ) (p : PortRef) → same_target (ToPort p) (ToWire n) ≡ false
   no_port n (ports.Cell c p) = refl
   no_port n (ports.Input i) = refl
   no_port n (ports.Output i) = refl

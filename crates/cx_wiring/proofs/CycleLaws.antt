@@ -1,25 +1,35 @@
 -- Where the nodes of a component in its net have what their own rules give, its control has one cycle of its own drivers.
-use Rattle.std.proofs.Common.{◌≡◌, ℕ, zero, suc, ◌+◌, ◌<◌, ◌≤◌, Bool, true, if◌then◌else◌, List, [], ◌∷◌, ◌++◌, length, Option, Some, None, option_map, option_and_then, unwrap_or, slice_get, refl, sym, ap, ◌∙◌, subst, arith, length-append}
+use Rattle.std.proofs.Common.{◌≡◌, ℕ, zero, suc, ◌+◌, ◌<◌, ◌≤◌, Bool, true, false, if◌then◌else◌, List, [], ◌∷◌, ◌++◌, length, Option, Some, None, option_map, option_and_then, unwrap_or, slice_get, refl, sym, ap, ◌∙◌, subst, arith, length-append}
 use Rattle.std.proofs.lemmas.Bool.{lt-ltb}
 use Rattle.cx_bits.specs.BitVector.{BitVector}
 use Rattle.cx_prim.specs.MemoryLaws.{slice_get-append}
 use Rattle.cx_meaning.specs.declared.ports.PortRef.{PortRef}
+use Rattle.cx_meaning.specs.declared.ports.PortRef.TheVariants as ports
 use Rattle.cx_meaning.specs.Designs.{PlainComponent}
-use Rattle.cx_net.specs.Nets.{ToRegister, ToWire, ToHole, ToDone}
+use Rattle.cx_meaning.specs.Active.{Owned}
+use Rattle.cx_meaning.specs.Sights.{In}
+use Rattle.cx_prim.specs.declared.ports.PortRow.{PortRow}
+use Rattle.cx_prim.specs.Rows.{Row}
+use Rattle.cx_net.specs.Nets.{ToPort, ToRegister, ToWire, ToHole, ToDone, PlainNetDriver}
 use Rattle.cx_net.specs.NetTree.{NetCells}
-use Rattle.cx_net.specs.NetMeaning.{NetState, Node, AWire, AHole, TheDone, NetLook, NetAround, truth_bit, zero_wide, drivers_to, registers_of, own_step, is_own_node, chain as first_true}
-use Rattle.cx_net.specs.NetEdges.{own_register}
+use Rattle.cx_net.specs.NetMeaning.{NetState, Node, APort, AWire, AHole, TheDone, NetLook, NetAround, truth_bit, zero_wide, drivers_to, registers_of, cell_node, own_step, is_own_node, is_port_of, chain as first_true}
+use Rattle.cx_net.specs.NetEdges.{taken, value_in, guard_in, own_register}
 use Rattle.cx_static.specs.Islands.{PlainLowereds}
 use Rattle.cx_static.specs.Lowering.{lowered, lowered_component, unlowered}
 use Rattle.cx_wiring.specs.Bounds.{AllDrive, IslandsName}
 use Rattle.cx_wiring.specs.Chains.{rest_widths}
-use Rattle.cx_wiring.specs.Wiring.{groups, first_of_assigns, bits, plain_wires, plain_drivers, component_registers, component_driven, target_width, net_component}
+use Rattle.cx_wiring.specs.Control.{whole_stand, finishing, drivers_of}
+use Rattle.cx_wiring.specs.Assignments.{driven_assigns, assigns_drivers}
+use Rattle.cx_wiring.specs.Wiring.{groups, first_of_control, first_of_assigns, bits, plain_wires, plain_drivers, component_registers, component_driven, port_width, target_width, net_component}
 use Rattle.cx_wiring.specs.Standing.{StatementBits}
 use Rattle.cx_wiring.specs.Shown.{wide}
-use Rattle.cx_wiring.specs.Takings.{AreRegisters}
-use Rattle.cx_wiring.proofs.TakingLemmas.{register_takes}
+use Rattle.cx_wiring.specs.Takings.{takes, AreRegisters}
+use Rattle.cx_wiring.proofs.TakingLemmas.{takes_append, others_pass, register_takes}
 use Rattle.cx_wiring.proofs.NetTargets.{plain_wires_count}
-use Rattle.cx_wiring.proofs.ConnectLaws.{Reads}
+use Rattle.cx_wiring.proofs.ConnectLaws.{Reads, read_before}
+use Rattle.cx_wiring.proofs.IslandReads.{IsUntimed}
+use Rattle.cx_wiring.proofs.IslandStands.{islands_take}
+use Rattle.cx_wiring.proofs.TimerRows.{EachTimer, IsTimerIn, IsOwnTarget, assigns_skip, row_of_timer}
 use Rattle.cx_wiring.proofs.ComponentLaws.{PlainCycle}
 use Rattle.cx_wiring.proofs.RestReads.{AreRests}
 use Rattle.cx_wiring.proofs.ComponentTakes.{IsPlain, target_takes, register_takes_all}
@@ -88,17 +98,54 @@ module _ (d : PlainLowereds) (part : PlainComponent) (named : IslandsName (group
       → (b : BitVector) × (look [] (AWire m) ≡ Some b)
   rest_known m low high = has_value (AWire m) (lt-ltb m (length (net_component d (lowered_component part)).wires) (subst (λ n. m < n) (sym all_wires) high))
 
+  -- the drivers of control, of its end, and of assignments
+  abbrev CD : List PlainNetDriver
+  CD = drivers_of (groups (lowered_component part)) (lowered_component part).islands (whole_stand (first_of_control (lowered_component part))) (lowered part part.control (unlowered part))
+
+  abbrev FD : List PlainNetDriver
+  FD = finishing (first_of_control (lowered_component part)) (lowered part part.control (unlowered part))
+
+  abbrev AD : List PlainNetDriver
+  AD = assigns_drivers (groups (lowered_component part)) (first_of_assigns (lowered_component part)) (driven_assigns (lowered_component part))
+
+  -- the goes of timers take what control gives them
+  pub timer_goes : ((o : Owned) → In (driven_assigns (lowered_component part)) o → IsOwnTarget part o.assign.target) → EachTimer part (IsTimerIn part cells)
+      → EachTimer part (λ timer. look [] (APort (ports.Cell timer.cell 0)) ≡ takes around (registers_of (net_component d (lowered_component part)) cells around s (look []) (λ c. look (c ∷ []))) (look [])
+      (ToPort (ports.Cell timer.cell 0)) (Some (truth_bit false))
+      (drivers_of (groups (lowered_component part)) (lowered_component part).islands (whole_stand (first_of_control (lowered_component part))) (lowered part part.control (unlowered part))))
+  timer_goes own timers k island is t timer at =
+      let row = timers k island is t timer at in
+      let R = registers_of (net_component d (lowered_component part)) cells around s (look []) (λ c. look (c ∷ [])) in
+      let width : target_width d (lowered_component part) (ToPort (ports.Cell timer.cell 0)) ≡ 1 =
+      ap (λ o. unwrap_or (port_width d (lowered_component part) o 0) 1) row.there ∙ ap (λ (r : Row). unwrap_or (option_map (λ (x : PortRow). x.width) (slice_get r.ports 0)) 1) (row_of_timer row.cycles row.some row.few) in
+      solves (APort (ports.Cell timer.cell 0)) (ap (λ a. is_port_of a 0) row.in_net)
+      ∙ ap (λ a. cell_node (net_component d (lowered_component part)) cells around s (look []) (λ c. look (c ∷ [])) timer.cell 0 a) row.in_net
+      ∙ ap (λ w. first_true around R (look []) (zero_wide w) (drivers_to (ToPort (ports.Cell timer.cell 0)) (net_component d (lowered_component part)).drivers)) (sym width)
+      ∙ target_takes d (lowered_component part) around R (look []) plain reads (ToPort (ports.Cell timer.cell 0)) tt (λ m from. refl) (λ at. refl)
+      ∙ ap (λ w. takes around R (look []) (ToPort (ports.Cell timer.cell 0)) (Some (zero_wide w)) (plain_drivers (lowered_component part))) width
+      ∙ takes_append around R (look []) (ToPort (ports.Cell timer.cell 0)) (Some (zero_wide 1)) (CD ++ FD) AD
+      ∙ ap (λ z. takes around R (look []) (ToPort (ports.Cell timer.cell 0)) z (CD ++ FD)) (others_pass around R (look []) (ToPort (ports.Cell timer.cell 0)) (Some (zero_wide 1)) AD (assigns_skip part own k island is t timer at))
+      ∙ takes_append around R (look []) (ToPort (ports.Cell timer.cell 0)) (Some (zero_wide 1)) CD FD
+
   -- ONE CYCLE of control
-  pub plain_cycle : (hole : ℕ → Bool) (port : PortRef → Bool) (acting : Bool) → around.go ≡ Some (truth_bit acting)
+  pub plain_cycle : IsUntimed part.control → ((o : Owned) → In (driven_assigns (lowered_component part)) o → IsOwnTarget part o.assign.target)
+      → EachTimer part (IsTimerIn part cells)
+      → (hole : ℕ → Bool) (port : PortRef → Bool) (acting : Bool) → around.go ≡ Some (truth_bit acting)
       → StatementBits around (registers_of (net_component d (lowered_component part)) cells around s (look []) (λ c. look (c ∷ []))) (look []) hole port (lowered part part.control (unlowered part))
       → PlainCycle part named around (registers_of (net_component d (lowered_component part)) cells around s (look []) (λ c. look (c ∷ []))) (look []) (s.register []) (own_register (net_component d (lowered_component part)) cells around s look) hole port acting
-  plain_cycle hole port acting go test_bits = record {
+  plain_cycle untimed own timers hole port acting go test_bits = record {
     acts = go;
     wires = wires_are;
     registers_are = registers_from (component_registers (lowered_component part)) 0 (λ i w e. let same : 0 + i ≡ i = omega arith in ap (slice_get (component_registers (lowered_component part))) same ∙ e);
-    nexts = λ m v there e. let k = register_at m there in
+    nexts = λ m old new there same e. let k = register_at m there in
         register_takes_all d (lowered_component part) around (registers_of (net_component d (lowered_component part)) cells around s (look []) (λ c. look (c ∷ []))) (look []) plain reads m (record { width = k.0; value = s.register [] m }) k.1 rest_known
-        ∙ register_takes around (registers_of (net_component d (lowered_component part)) cells around s (look []) (λ c. look (c ∷ []))) (look []) (wide (s.register [] m)) (ToRegister m) (wide v) (plain_drivers (lowered_component part)) e;
+        ∙ ap (λ v. taken (guard_in (net_component d (lowered_component part)) cells around s look) (value_in (net_component d (lowered_component part)) cells around s look) v (drivers_to (ToRegister m) (plain_drivers (lowered_component part)))) (sym same)
+        ∙ register_takes around (registers_of (net_component d (lowered_component part)) cells around s (look []) (λ c. look (c ∷ []))) (look []) old (ToRegister m) new (plain_drivers (lowered_component part)) e;
+    islands = islands_take part named around (registers_of (net_component d (lowered_component part)) cells around s (look []) (λ c. look (c ∷ []))) (look []) untimed
+        (λ n less. let h : n < first_of_assigns (lowered_component part) = omega arith in
+        read_before (groups (lowered_component part)) (lowered_component part).islands named around (registers_of (net_component d (lowered_component part)) cells around s (look []) (λ c. look (c ∷ []))) (look []) n CD FD
+        (read_before (groups (lowered_component part)) (lowered_component part).islands named around (registers_of (net_component d (lowered_component part)) cells around s (look []) (λ c. look (c ∷ []))) (look []) n (CD ++ FD) AD (wires_are n h)))
+        (timer_goes own timers);
     goes = λ g there. let holes : groups (lowered_component part) + g < groups (lowered_component part) + groups (lowered_component part) = omega arith in
         let is = lt-ltb (groups (lowered_component part) + g) (groups (lowered_component part) + groups (lowered_component part)) holes in
         solves (AHole (groups (lowered_component part) + g)) is

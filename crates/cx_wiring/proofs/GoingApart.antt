@@ -12,6 +12,7 @@ use Rattle.cx_meaning.specs.Sights.{In}
 use Rattle.cx_meaning.specs.Cycles.{Fault}
 use Rattle.cx_meaning.specs.Control.{with_comb, groups_in, groups_of, groups_in_all, group_drives, groups_drive, drives}
 use Rattle.cx_meaning.specs.Islands.{group_length}
+use Rattle.cx_rules.specs.Wellformed.{IsForm, IsWith}
 use Rattle.cx_rules.specs.Items.{Dynamic, statements_in, test_in}
 use Rattle.cx_rules.specs.StaticControl.{is_static}
 use Rattle.cx_rules.specs.Footprints.{Reads, driven}
@@ -260,7 +261,7 @@ module _ (i : Instance) (children : ℕ → Coded) (codings : LeafCodings (leaf_
         (enable_owes : (g : ℕ) (place : Place) → Stands i (Placed (Enable g) place) → (p : Machine.Place (LeafMachines.enable (leaf_machines i children) g)) → Runs (AGroup g place p)
         → GoesFor (Placed (Enable g) place) (enable_going (leaf_machines i children) codings (part_of i) islands hole of_enable of_island g (group_length (part_of i) g) p) → Machine.faults (LeafMachines.enable (leaf_machines i children) g) p seen ≡ false
         → (o : Option ℕ) → group_length (part_of i) g ≡ o → enable_agrees (leaf_machines i children) codings (part_of i) islands seen hole port g o p)
-        (test_owes : (form : PlainForm) (place : Place) (test : PlacedPort) (comb : Option ℕ) → Stands i (Placed form place) → test_in form ≡ Some test → ((g : ℕ) → comb ≡ Some g → In (groups_in form) g)
+        (test_owes : (form : PlainForm) (place : Place) (test : PlacedPort) (comb : Option ℕ) → Stands i (Placed form place) → test_in form ≡ Some test → ((g : ℕ) → comb ≡ Some g → In (groups_in form) g) → (IsForm (part_of i) form → IsWith (part_of i) comb)
         → GoesFor (Placed form place) (comb_going comb) → unclear (LeafMachines.test (leaf_machines i children) test.port comb seen) ≡ false
         → TestAgrees (leaf_machines i children) codings (part_of i) islands seen hole port test.port comb) where
       abbrev Agrees : (t : PlainStatement) → Machine.Place (machine_of (leaf_machines i children) t) → Type 0
@@ -319,12 +320,12 @@ module _ (i : Instance) (children : ℕ → Coded) (codings : LeafCodings (leaf_
             par_agree s ss (agrees s (parts_stand i s (Placed (Par (a_statement s ss)) place) (of_par (inl refl)) stands))
             (arms_agree ss (λ t j. parts_stand i t (Placed (Par (a_statement s ss)) place) (of_par (inr j)) stands) (arms_apart (a_statement s ss) place stands).1) (arms_apart (a_statement s ss) place stands) p run
             (all_narrower (a_statement s ss) (Placed (Par (a_statement s ss)) place) (λ t j. of_par j) (par_runs (goes_at s) (arms_go ss) p) goes) clean
-        agrees (Placed (If test comb a b) place) stands AtTest run goes clean = test_owes (If test comb a b) place test comb stands refl (of_comb comb (groups_of a ++ groups_of b)) goes clean
+        agrees (Placed (If test comb a b) place) stands AtTest run goes clean = test_owes (If test comb a b) place test comb stands refl (of_comb comb (groups_of a ++ groups_of b)) (λ h. h) goes clean
         agrees (Placed (If test comb a b) place) stands (InThen p) run goes clean =
             agrees a (parts_stand i a (Placed (If test comb a b) place) then_branch stands) p run (narrower a (Placed (If test comb a b) place) then_branch (goes_at a p) goes) clean
         agrees (Placed (If test comb a b) place) stands (InElse p) run goes clean =
             agrees b (parts_stand i b (Placed (If test comb a b) place) else_branch stands) p run (narrower b (Placed (If test comb a b) place) else_branch (goes_at b p) goes) clean
-        agrees (Placed (While test comb a) place) stands AtHead run goes clean = test_owes (While test comb a) place test comb stands refl (of_comb comb (groups_of a)) goes clean
+        agrees (Placed (While test comb a) place) stands AtHead run goes clean = test_owes (While test comb a) place test comb stands refl (of_comb comb (groups_of a)) (λ h. h) goes clean
         agrees (Placed (While test comb a) place) stands (InBody p) run goes clean =
             agrees a (parts_stand i a (Placed (While test comb a) place) of_while stands) p run (narrower a (Placed (While test comb a) place) of_while (goes_at a p) goes) clean
         agrees (Placed (Repeat zero a) place) stands p run goes clean = tt

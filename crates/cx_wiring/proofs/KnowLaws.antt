@@ -1,6 +1,7 @@
 -- Whatever the registers hold, each statement's end wire is a bit, and what the drivers of a register give it is a number of 32 bits:
 -- so each register of control comes to what its own drivers give it.
-use Rattle.std.proofs.Common.{◌≡◌, ℕ, zero, suc, ◌+◌, ◌<◌, ◌≤◌, ◌⊎◌, inl, inr, ◌==◌, ◌%◌, ◌^◌, Bool, true, false, not, ◌&&◌, ◌||◌, if◌then◌else◌, List, [], ◌∷◌, ◌++◌, length, Option, Some, slice_get, refl, sym, ap, ◌∙◌, arith, length-append}
+use Rattle.std.proofs.Common.{◌≡◌, ℕ, zero, suc, ◌+◌, ◌<◌, ◌≤◌, ◌⊎◌, inl, inr, ◌==◌, ◌%◌, ◌^◌, Bool, true, false, not, ◌&&◌, ◌||◌, if◌then◌else◌, List, [], ◌∷◌, ◌++◌, length, Option, Some, slice_get, refl, sym, ap, ◌∙◌, subst, arith, length-append}
+use Rattle.std.proofs.lemmas.List.{length-replicate}
 use Rattle.std.proofs.lemmas.Bool.{eq-eqb}
 use Rattle.cx_text.specs.declared.places.Place.{Place}
 use Rattle.cx_bits.specs.BitVector.{BitVector}
@@ -12,10 +13,12 @@ use Rattle.cx_net.specs.NetMeaning.{Node, NetAround, truth_bit, both_known, all_
 use Rattle.cx_static.specs.Islands.{PlainIsland}
 use Rattle.cx_wiring.specs.Parts.{word, drive, both, either, equals}
 use Rattle.cx_wiring.specs.Counts.{positions_of, wires_of, sample_registers, form_registers, registers_of, registers_in, arms_registers}
-use Rattle.cx_wiring.specs.Stands.{Stand, at, end_of, goes, inside, past_test, behind}
-use Rattle.cx_wiring.specs.Control.{one_turn, found_one, found_zero, arm_stand, arm_over, arm_restarts, arm_finishes, in_last_round, in_earlier_round, counted_inside, counting, comb_goes, arms_over, form_drivers, drivers_of, parts_drivers, arms_drivers}
+use Rattle.cx_wiring.specs.Stands.{Stand, stands, at, end_of, goes, inside, past_test, behind}
+use Rattle.cx_wiring.specs.Control.{one_turn, found_one, found_zero, arm_stand, arm_over, arm_restarts, arm_finishes, in_last_round, in_earlier_round, counted_inside, counting, comb_goes, arms_over, timed_drivers, form_drivers, drivers_of, parts_drivers, arms_drivers}
 use Rattle.cx_wiring.specs.Bounds.{AllDrive, IslandsName, FormNames, StatementNames, PartsName}
 use Rattle.cx_wiring.specs.Takings.{value, Says, takes, takes_of, AllConnect, AreRegisters}
+use Rattle.cx_wiring.specs.IslandTakes.{FormIslands, StatementIslands, PartsIslands, ArmsIslands, TakesIsland, IslandNexts}
+use Rattle.cx_wiring.specs.IslandDrivers.{first_of_island, island_drivers}
 use Rattle.cx_wiring.specs.Standing.{IsIn, FormBits, StatementBits, PartsBits}
 use Rattle.cx_wiring.specs.Shown.{wide, FormNexts, StatementNexts, PartsNext, ArmsNext}
 use Rattle.cx_wiring.proofs.ControlTargets.{drivers_drive, parts_drive, arms_drive}
@@ -46,7 +49,10 @@ module _ (groups : ℕ) (islands : List PlainIsland) (named : IslandsName groups
 
   -- registers from one on come to what these drivers give them
   abbrev pub Comes : ℕ → ℕ → List PlainNetDriver → Type 0
-  Comes first count ds = (m v : ℕ) → first ≤ m → m < first + count → takes around registers look (ToRegister m) (Some (wide (kept m))) ds ≡ Some (wide v) → next m ≡ v
+  Comes first count ds = (m : ℕ) (old new : BitVector) → first ≤ m → m < first + count → old.value ≡ kept m → takes around registers look (ToRegister m) (Some old) ds ≡ Some new → next m ≡ new.value
+
+  abbrev Taken : ℕ → Stand → Type 0
+  Taken = TakesIsland groups islands around registers look
 
   passes : (s : PlainStatement) (x : Stand) (m : ℕ) → StatementNames groups s → (m ≡ x.region → ⊥) → (m < x.register) ⊎ (x.register + length (registers_of islands s) ≤ m) → Passes m (drivers_of groups islands x s)
   passes s x m names apart out =
@@ -137,23 +143,23 @@ module _ (groups : ℕ) (islands : List PlainIsland) (named : IslandsName groups
   seq_first : (s : PlainStatement) (y : Stand) (ss : PlainStatements) (seq : Stand) (before : ℕ) → StatementNames groups s × PartsName groups ss → y.region < y.register
       → Comes y.register (length (registers_of islands s ++ registers_in islands ss)) (drivers_of groups islands y s ++ parts_drivers groups islands seq before (behind islands s y) ss)
       → Comes y.register (length (registers_of islands s)) (drivers_of groups islands y s)
-  seq_first s y ss seq before names apart comes m v l h e =
+  seq_first s y ss seq before names apart comes m old new l h is e =
       let n : length (registers_of islands s ++ registers_in islands ss) ≡ length (registers_of islands s) + length (registers_in islands ss) = length-append (registers_of islands s) (registers_in islands ss) in
-      comes m v l (omega arith)
-      (before_it m (Some (wide (kept m))) (drivers_of groups islands y s) (parts_drivers groups islands seq before (behind islands s y) ss) (parts_pass ss seq before (behind islands s y) m names.1 (λ z. omega arith) h) ∙ e)
+      comes m old new l (omega arith) is
+      (before_it m (Some old) (drivers_of groups islands y s) (parts_drivers groups islands seq before (behind islands s y) ss) (parts_pass ss seq before (behind islands s y) m names.1 (λ z. omega arith) h) ∙ e)
 
   seq_later : (s : PlainStatement) (y : Stand) (ss : PlainStatements) (seq : Stand) (before : ℕ) → StatementNames groups s × PartsName groups ss → y.region < y.register
       → Comes y.register (length (registers_of islands s ++ registers_in islands ss)) (drivers_of groups islands y s ++ parts_drivers groups islands seq before (behind islands s y) ss)
       → Comes (y.register + length (registers_of islands s)) (length (registers_in islands ss)) (parts_drivers groups islands seq before (behind islands s y) ss)
-  seq_later s y ss seq before names apart comes m v l h e =
+  seq_later s y ss seq before names apart comes m old new l h is e =
       let n : length (registers_of islands s ++ registers_in islands ss) ≡ length (registers_of islands s) + length (registers_in islands ss) = length-append (registers_of islands s) (registers_in islands ss) in
-      comes m v (omega arith) (omega arith)
-      (behind_it m (Some (wide (kept m))) (drivers_of groups islands y s) (parts_drivers groups islands seq before (behind islands s y) ss) (passes s y m names.0 (λ z. omega arith) (inr l)) ∙ e)
+      comes m old new (omega arith) (omega arith) is
+      (behind_it m (Some old) (drivers_of groups islands y s) (parts_drivers groups islands seq before (behind islands s y) ss) (passes s y m names.0 (λ z. omega arith) (inr l)) ∙ e)
 
   parts_inner : (s : PlainStatement) (ss : PlainStatements) (seq : Stand) (before : ℕ) (x : Stand) → x.region < x.register
       → Comes x.register (length (registers_of islands s ++ registers_in islands ss)) (parts_drivers groups islands seq before x (a_statement s ss))
       → Comes x.register (length (registers_of islands s ++ registers_in islands ss)) (drivers_of groups islands x s ++ parts_drivers groups islands seq x.wire (behind islands s x) ss)
-  parts_inner s ss seq before x apart comes m v l h e = comes m v l h (passes_by x.region m (goes x (end_of before) x.position) _ (λ z. omega arith) ∙ e)
+  parts_inner s ss seq before x apart comes m old new l h is e = comes m old new l h is (passes_by x.region m (goes x (end_of before) x.position) _ (λ z. omega arith) ∙ e)
 
   abbrev IfList : Stand → PortRef → Option ℕ → PlainStatement → PlainStatement → List PlainNetDriver
   IfList x test comb a b = if_drivers around registers look groups islands x test comb (past_test x).position (behind islands a (past_test x)).position (drivers_of groups islands (past_test x) a)
@@ -161,39 +167,39 @@ module _ (groups : ℕ) (islands : List PlainIsland) (named : IslandsName groups
 
   if_first : (x : Stand) (test : PortRef) (comb : Option ℕ) (a b : PlainStatement) → StatementNames groups a × StatementNames groups b → x.region < x.register
       → Comes x.register (length (registers_of islands a ++ registers_of islands b)) (IfList x test comb a b) → Comes x.register (length (registers_of islands a)) (drivers_of groups islands (past_test x) a)
-  if_first x test comb a b names apart comes m v l h e =
+  if_first x test comb a b names apart comes m old new l h is e =
       let n : length (registers_of islands a ++ registers_of islands b) ≡ length (registers_of islands a) + length (registers_of islands b) = length-append (registers_of islands a) (registers_of islands b) in
-      comes m v l (omega arith)
-      (if_register x test comb _ _ (drivers_of groups islands (past_test x) a) (drivers_of groups islands (behind islands a (past_test x)) b) _ m (Some (wide (kept m))) (λ z. omega arith)
+      comes m old new l (omega arith) is
+      (if_register x test comb _ _ (drivers_of groups islands (past_test x) a) (drivers_of groups islands (behind islands a (past_test x)) b) _ m (Some old) (λ z. omega arith)
       ∙ ap (λ z. takes around registers look (ToRegister m) z (drivers_of groups islands (past_test x) a))
-      (others_pass around registers look (ToRegister m) (Some (wide (kept m))) (drivers_of groups islands (behind islands a (past_test x)) b) (passes b (behind islands a (past_test x)) m names.1 (λ z. omega arith) (inl h))) ∙ e)
+      (others_pass around registers look (ToRegister m) (Some old) (drivers_of groups islands (behind islands a (past_test x)) b) (passes b (behind islands a (past_test x)) m names.1 (λ z. omega arith) (inl h))) ∙ e)
 
   if_later : (x : Stand) (test : PortRef) (comb : Option ℕ) (a b : PlainStatement) → StatementNames groups a × StatementNames groups b → x.region < x.register
       → Comes x.register (length (registers_of islands a ++ registers_of islands b)) (IfList x test comb a b)
       → Comes (x.register + length (registers_of islands a)) (length (registers_of islands b)) (drivers_of groups islands (behind islands a (past_test x)) b)
-  if_later x test comb a b names apart comes m v l h e =
+  if_later x test comb a b names apart comes m old new l h is e =
       let n : length (registers_of islands a ++ registers_of islands b) ≡ length (registers_of islands a) + length (registers_of islands b) = length-append (registers_of islands a) (registers_of islands b) in
-      comes m v (omega arith) (omega arith)
-      (if_register x test comb _ _ (drivers_of groups islands (past_test x) a) (drivers_of groups islands (behind islands a (past_test x)) b) _ m (Some (wide (kept m))) (λ z. omega arith)
+      comes m old new (omega arith) (omega arith) is
+      (if_register x test comb _ _ (drivers_of groups islands (past_test x) a) (drivers_of groups islands (behind islands a (past_test x)) b) _ m (Some old) (λ z. omega arith)
       ∙ others_pass around registers look (ToRegister m) _ (drivers_of groups islands (past_test x) a) (passes a (past_test x) m names.0 (λ z. omega arith) (inr l)) ∙ e)
 
   arm_first : (s : PlainStatement) (ss : PlainStatements) (par : Stand) (wire register : ℕ) → StatementNames groups s × PartsName groups ss
       → Comes register (suc (length (registers_of islands s ++ arms_registers islands ss))) (arms_drivers groups islands par wire register (a_statement s ss))
       → Comes (suc register) (length (registers_of islands s)) (drivers_of groups islands (arm_stand par wire register) s)
-  arm_first s ss par wire register names comes m v l h e =
+  arm_first s ss par wire register names comes m old new l h is e =
       let n : length (registers_of islands s ++ arms_registers islands ss) ≡ length (registers_of islands s) + length (arms_registers islands ss) = length-append (registers_of islands s) (arms_registers islands ss) in
-      comes m v (omega arith) (omega arith)
+      comes m old new (omega arith) (omega arith) is
       (passes_by register m (arm_restarts par register) _ (λ z. omega arith)
-      ∙ before_it m (Some (wide (kept m))) (drivers_of groups islands (arm_stand par wire register) s) _ (differs register m (λ z. omega arith), arms_pass ss par (wire + wires_of s) (suc register + length (registers_of islands s)) m names.1 h) ∙ e)
+      ∙ before_it m (Some old) (drivers_of groups islands (arm_stand par wire register) s) _ (differs register m (λ z. omega arith), arms_pass ss par (wire + wires_of s) (suc register + length (registers_of islands s)) m names.1 h) ∙ e)
 
   arm_later : (s : PlainStatement) (ss : PlainStatements) (par : Stand) (wire register : ℕ) → StatementNames groups s × PartsName groups ss
       → Comes register (suc (length (registers_of islands s ++ arms_registers islands ss))) (arms_drivers groups islands par wire register (a_statement s ss))
       → Comes (suc register + length (registers_of islands s)) (length (arms_registers islands ss)) (arms_drivers groups islands par (wire + wires_of s) (suc register + length (registers_of islands s)) ss)
-  arm_later s ss par wire register names comes m v l h e =
+  arm_later s ss par wire register names comes m old new l h is e =
       let n : length (registers_of islands s ++ arms_registers islands ss) ≡ length (registers_of islands s) + length (arms_registers islands ss) = length-append (registers_of islands s) (arms_registers islands ss) in
-      comes m v (omega arith) (omega arith)
+      comes m old new (omega arith) (omega arith) is
       (passes_by register m (arm_restarts par register) _ (λ z. omega arith)
-      ∙ behind_it m (Some (wide (kept m))) (drivers_of groups islands (arm_stand par wire register) s) _ (passes s (arm_stand par wire register) m names.0 (λ z. omega arith) (inr l))
+      ∙ behind_it m (Some old) (drivers_of groups islands (arm_stand par wire register) s) _ (passes s (arm_stand par wire register) m names.0 (λ z. omega arith) (inr l))
       ∙ passes_by register m (arm_finishes wire register s) _ (λ z. omega arith) ∙ e)
 
   -- the register of an arm
@@ -201,7 +207,7 @@ module _ (groups : ℕ) (islands : List PlainIsland) (named : IslandsName groups
       → Comes register (suc (length (registers_of islands s ++ arms_registers islands ss))) (arms_drivers groups islands par wire register (a_statement s ss)) → It (end_of par.wire) e
       → (f : Bool) → It (end_of wire) f → KeepsWide register (drivers_of groups islands (arm_stand par wire register) s)
       → takes around registers look (ToRegister register) (Some (wide (kept register))) (arm_restarts par register ∷ (drivers_of groups islands (arm_stand par wire register) s ++ arm_finishes wire register s ∷ [])) ≡ Some (wide (next register))
-  arm_next s ss par wire register e names comes h f k keeps = w.1 ∙ ap (λ v. Some (wide v)) (sym (comes register w.0 (omega arith) (omega arith) (whole ∙ w.1)))
+  arm_next s ss par wire register e names comes h f k keeps = w.1 ∙ ap (λ v. Some (wide v)) (sym (comes register (wide (kept register)) (wide w.0) (omega arith) (omega arith) refl (whole ∙ w.1)))
     where
       w : IsWide (takes around registers look (ToRegister register) (Some (wide (kept register))) (arm_restarts par register ∷ (drivers_of groups islands (arm_stand par wire register) s ++ arm_finishes wire register s ∷ [])))
       w = wide_as _ _ (region_known around registers look register 0 (end_of par.wire) e _ h)
@@ -235,14 +241,22 @@ module _ (groups : ℕ) (islands : List PlainIsland) (named : IslandsName groups
       either_wide true = ((kept x.register + 1) % 2 ^ 32, ap (λ o. both_known sum_of o (Some (wide 1))) is)
       either_wide false = (kept x.register, refl)
 
+  -- the registers of an island's samples
+  samples_come : (n : ℕ) (x : Stand) (island : PlainIsland) → slice_get islands n ≡ Some island → Comes x.register (length (sample_registers (slice_get islands n))) (form_drivers groups islands x (Timed n))
+      → (m : ℕ) (old new : BitVector) → x.register ≤ m → m < x.register + length island.points → old.value ≡ kept m
+      → takes around registers look (ToRegister m) (Some old) (island_drivers groups x (first_of_island groups islands n) island) ≡ Some new → next m ≡ new.value
+  samples_come n x island is comes m old new l h same e =
+      let count : length (sample_registers (Some island)) ≡ length island.points = length-replicate (length island.points) 1 in
+      subst (λ o. Comes x.register (length (sample_registers o)) (stands x ∷ timed_drivers groups islands x n o)) is comes m old new l (omega arith) same e
+
   module _ (timed : (k : ℕ) (place : Place) (x : Stand) (acting : Bool) (r : ℕ) → IsIn around registers look x.acts x.region acting r → bound ≤ x.wire → x.region < x.register
-      → AllConnect around registers look bound (form_drivers groups islands x (Timed k)) → AreRegisters around registers look kept x.register (sample_registers (slice_get islands k)) → Known x (Placed (Timed k) place)) where
+      → AllConnect around registers look bound (form_drivers groups islands x (Timed k)) → AreRegisters around registers look kept x.register (sample_registers (slice_get islands k)) → IslandNexts groups islands around registers look kept next k x → Known x (Placed (Timed k) place)) where
     mutual
       form_known : (form : PlainForm) (place : Place) (x : Stand) (acting : Bool) (r : ℕ) → FormNames groups form → x.region < x.register → IsIn around registers look x.acts x.region acting r → bound ≤ x.wire
           → AllConnect around registers look bound (form_drivers groups islands x form) → AreRegisters around registers look kept x.register (form_registers islands form) → FormBits around registers look hole port form
-          → Comes x.register (length (form_registers islands form)) (form_drivers groups islands x form) → Known x (Placed form place)
-      form_known Empty place x acting r names apart i low c k bits comes = turn_known Empty place x acting r i low c refl tt
-      form_known (Enable g) place x acting r names apart i low c k bits comes =
+          → FormIslands (TakesIsland groups islands around registers look) islands x form → Comes x.register (length (form_registers islands form)) (form_drivers groups islands x form) → Known x (Placed form place)
+      form_known Empty place x acting r names apart i low c k bits taken comes = turn_known Empty place x acting r i low c refl tt
+      form_known (Enable g) place x acting r names apart i low c k bits taken comes =
           let high : bound ≤ suc x.wire = omega arith in
           record {
             over = (acting && (r == x.position)) && hole g;
@@ -250,15 +264,15 @@ module _ (groups : ℕ) (islands : List PlainIsland) (named : IslandsName groups
             region_wide = λ o. (o, refl);
             nexts = tt;
           }
-      form_known (Seq no_statements) place x acting r names apart i low c k bits comes = turn_known (Seq no_statements) place x acting r i low c refl tt
-      form_known (Seq (a_statement s ss)) place x acting r names apart i low c k bits comes =
+      form_known (Seq no_statements) place x acting r names apart i low c k bits taken comes = turn_known (Seq no_statements) place x acting r i low c refl tt
+      form_known (Seq (a_statement s ss)) place x acting r names apart i low c k bits taken comes =
           let cs = connect_both around registers look bound (drivers_of groups islands (inside x) s) (parts_drivers groups islands x (inside x).wire (behind islands s (inside x)) ss) c in
           let ks = registers_both around registers look kept x.register (registers_of islands s) (registers_in islands ss) k in
           let low_in : bound ≤ suc (suc x.wire) = omega arith in
           let low_behind : bound ≤ suc (suc x.wire) + wires_of s = omega arith in
           let apart_behind : x.region < x.register + length (registers_of islands s) = omega arith in
-          let a = known s (inside x) acting r names.0 apart i low_in cs.0 ks.0 bits.0 (seq_first s (inside x) ss x (inside x).wire names apart comes) in
-          let b = parts_known ss x (inside x).wire (behind islands s (inside x)) acting r names.1 apart_behind i low_behind low cs.1 ks.1 bits.1 a.over a.ends (seq_later s (inside x) ss x (inside x).wire names apart comes) in
+          let a = known s (inside x) acting r names.0 apart i low_in cs.0 ks.0 bits.0 taken.0 (seq_first s (inside x) ss x (inside x).wire names apart comes) in
+          let b = parts_known ss x (inside x).wire (behind islands s (inside x)) acting r names.1 apart_behind i low_behind low cs.1 ks.1 bits.1 a.over a.ends taken.1 (seq_later s (inside x) ss x (inside x).wire names apart comes) in
           record {
             over = b.over;
             ends = b.ends;
@@ -266,13 +280,13 @@ module _ (groups : ℕ) (islands : List PlainIsland) (named : IslandsName groups
                 (wide_through x.region (drivers_of groups islands (inside x) s) a.region_wide _ (b.region_wide o));
             nexts = (a.nexts, b.nexts);
           }
-      form_known (Par arms) place x acting r names apart i low c k bits comes =
+      form_known (Par arms) place x acting r names apart i low c k bits taken comes =
           let cs = connect_both around registers look bound (arms_drivers groups islands x (suc (suc x.wire)) x.register arms) _ c.1 in
           let high : bound ≤ suc x.wire = omega arith in
           let low_in : bound ≤ suc (suc x.wire) = omega arith in
           let on = here groups islands around registers look bound kept hole port x acting r i low c.0 in
-          let a = arms_known arms x (suc (suc x.wire)) x.register (acting && (r == x.position)) names on low_in cs.0 k bits
-          (λ m v l h e. comes m v l h (takes_append around registers look (ToRegister m) (Some (wide (kept m))) (arms_drivers groups islands x (suc (suc x.wire)) x.register arms) _ ∙ e)) in
+          let a = arms_known arms x (suc (suc x.wire)) x.register (acting && (r == x.position)) names on low_in cs.0 k bits taken
+          (λ m old new l h is e. comes m old new l h is (takes_append around registers look (ToRegister m) (Some old) (arms_drivers groups islands x (suc (suc x.wire)) x.register arms) _ ∙ e)) in
           let over = cs.1.0 high ∙ says_all around registers look (at x) (exprs_of (arms_over groups islands (suc (suc x.wire)) x.register arms)) (acting && (r == x.position)) a.over on a.knows in
           record {
             over = (acting && (r == x.position)) && a.over;
@@ -287,7 +301,7 @@ module _ (groups : ℕ) (islands : List PlainIsland) (named : IslandsName groups
               a.nexts ((acting && (r == x.position)) && a.over) over,
             );
           }
-      form_known (If test comb a b) place x acting r names apart i low c k bits comes =
+      form_known (If test comb a b) place x acting r names apart i low c k bits taken comes =
           let ks = registers_both around registers look kept x.register (registers_of islands a) (registers_of islands b) k in
           let high : bound ≤ suc x.wire = omega arith in
           let low_in : bound ≤ suc (suc x.wire) = omega arith in
@@ -297,8 +311,8 @@ module _ (groups : ℕ) (islands : List PlainIsland) (named : IslandsName groups
           let c_a = connect_both around registers look bound (drivers_of groups islands (past_test x) a) _ c_comb.1.1 in
           let c_b = connect_both around registers look bound (drivers_of groups islands (behind islands a (past_test x)) b) _ c_a.1.1 in
           let on = here groups islands around registers look bound kept hole port x acting r i low c.0 in
-          let f = known a (past_test x) acting r names.1.0 apart i low_in c_a.0 ks.0 bits.1.0 (if_first x test.port comb a b names.1 apart comes) in
-          let g = known b (behind islands a (past_test x)) acting r names.1.1 apart_behind i low_behind c_b.0 ks.1 bits.1.1 (if_later x test.port comb a b names.1 apart comes) in
+          let f = known a (past_test x) acting r names.1.0 apart i low_in c_a.0 ks.0 bits.1.0 taken.0 (if_first x test.port comb a b names.1 apart comes) in
+          let g = known b (behind islands a (past_test x)) acting r names.1.1 apart_behind i low_behind c_b.0 ks.1 bits.1.1 taken.1 (if_later x test.port comb a b names.1 apart comes) in
           record {
             over = f.over || g.over;
             ends = c_b.1.0 high ∙ says_either around registers look (end_of (past_test x).wire) (end_of (behind islands a (past_test x)).wire) f.over g.over f.ends g.ends;
@@ -308,14 +322,14 @@ module _ (groups : ℕ) (islands : List PlainIsland) (named : IslandsName groups
                 (wide_if _ _ _ (wide_through x.region (drivers_of groups islands (past_test x) a) f.region_wide _ (wide_if _ _ _ (g.region_wide o))));
             nexts = (f.nexts, g.nexts);
           }
-      form_known (While test comb a) place x acting r names apart i low c k bits comes =
+      form_known (While test comb a) place x acting r names apart i low c k bits taken comes =
           let high : bound ≤ suc x.wire = omega arith in
           let low_in : bound ≤ suc (suc x.wire) = omega arith in
           let c_comb = connect_both around registers look bound (comb_goes groups islands x comb) _ c.1 in
           let c_a = connect_both around registers look bound (drivers_of groups islands (past_test x) a) _ c_comb.1.1.1 in
           let on = here groups islands around registers look bound kept hole port x acting r i low c.0 in
-          let f = known a (past_test x) acting r names.1 apart i low_in c_a.0 k bits.1
-          (λ m v l h e. comes m v l h (while_register x test.port comb (past_test x).position (past_test x).wire (drivers_of groups islands (past_test x) a) m (Some (wide (kept m))) (λ z. omega arith) ∙ e)) in
+          let f = known a (past_test x) acting r names.1 apart i low_in c_a.0 k bits.1 taken
+          (λ m old new l h is e. comes m old new l h is (while_register x test.port comb (past_test x).position (past_test x).wire (drivers_of groups islands (past_test x) a) m (Some old) (λ z. omega arith) ∙ e)) in
           record {
             over = (acting && (r == x.position)) && not (port test.port);
             ends = c_comb.1.0 high ∙ says_both around registers look (at x) (Inverse (OfPort test.port)) (acting && (r == x.position)) (not (port test.port)) on (says_not around registers look (OfPort test.port) (port test.port) bits.0);
@@ -324,14 +338,14 @@ module _ (groups : ℕ) (islands : List PlainIsland) (named : IslandsName groups
                 (wide_if _ _ _ (wide_through x.region (drivers_of groups islands (past_test x) a) f.region_wide _ (wide_if _ _ _ (o, refl))));
             nexts = f.nexts;
           }
-      form_known (Repeat zero a) place x acting r names apart i low c k bits comes = turn_known (Repeat zero a) place x acting r i low c refl tt
-      form_known (Repeat (suc n) a) place x acting r names apart i low c k bits comes =
+      form_known (Repeat zero a) place x acting r names apart i low c k bits taken comes = turn_known (Repeat zero a) place x acting r i low c refl tt
+      form_known (Repeat (suc n) a) place x acting r names apart i low c k bits taken comes =
           let high : bound ≤ suc x.wire = omega arith in
           let low_in : bound ≤ suc (suc x.wire) = omega arith in
           let apart_in : x.region < suc x.register = omega arith in
           let cs = connect_both around registers look bound (drivers_of groups islands (counted_inside x) a) (counting x n) c in
-          let f = known a (counted_inside x) acting r names apart_in i low_in cs.0 k.1 bits
-          (λ m v l h e. comes m v (omega arith) (omega arith) (before_it m (Some (wide (kept m))) (drivers_of groups islands (counted_inside x) a) (counting x n)
+          let f = known a (counted_inside x) acting r names apart_in i low_in cs.0 k.1 bits taken
+          (λ m old new l h is e. comes m old new (omega arith) (omega arith) is (before_it m (Some old) (drivers_of groups islands (counted_inside x) a) (counting x n)
           (refl, (differs x.region m (λ z. omega arith), (differs x.register m (λ z. omega arith), (differs x.register m (λ z. omega arith), tt)))) ∙ e)) in
           let last : It (in_last_round x n) (kept x.register == n) = says_equals around registers look (OfRegister x.register) (wide (kept x.register)) n k.0 in
           let earlier : It (in_earlier_round x n) (not (kept x.register == n)) = says_differs around registers look (OfRegister x.register) (wide (kept x.register)) n k.0 in
@@ -346,35 +360,35 @@ module _ (groups : ℕ) (islands : List PlainIsland) (named : IslandsName groups
                 (wide_through x.region (drivers_of groups islands (counted_inside x) a) f.region_wide _ (wide_if _ _ _ (o, refl)));
             nexts = (
               other,
-              w.1 ∙ ap (λ v. Some (wide v)) (sym (comes x.register w.0 (omega arith) (omega arith)
+              w.1 ∙ ap (λ v. Some (wide v)) (sym (comes x.register (wide (kept x.register)) (wide w.0) (omega arith) (omega arith) refl
                   (behind_it x.register (Some (wide (kept x.register))) (drivers_of groups islands (counted_inside x) a) (counting x n) (passes a (counted_inside x) x.register names (λ z. omega arith) (inl (omega arith)))
                   ∙ passes_by x.region x.register (goes x (both (end_of (suc (suc x.wire))) (in_earlier_round x n)) x.position) _ (λ z. omega arith) ∙ w.1))),
               f.nexts,
             );
           }
-      form_known (StaticSeq written parts) place x acting r names apart i low c k bits comes = turn_known (StaticSeq written parts) place x acting r i low c refl tt
-      form_known (StaticPar written arms) place x acting r names apart i low c k bits comes = turn_known (StaticPar written arms) place x acting r i low c refl tt
-      form_known (StaticIf written test a b) place x acting r names apart i low c k bits comes = turn_known (StaticIf written test a b) place x acting r i low c refl tt
-      form_known (StaticRepeat written count a) place x acting r names apart i low c k bits comes = turn_known (StaticRepeat written count a) place x acting r i low c refl tt
-      form_known (Timed n) place x acting r names apart i low c k bits comes = timed n place x acting r i low apart c k
+      form_known (StaticSeq written parts) place x acting r names apart i low c k bits taken comes = turn_known (StaticSeq written parts) place x acting r i low c refl tt
+      form_known (StaticPar written arms) place x acting r names apart i low c k bits taken comes = turn_known (StaticPar written arms) place x acting r i low c refl tt
+      form_known (StaticIf written test a b) place x acting r names apart i low c k bits taken comes = turn_known (StaticIf written test a b) place x acting r i low c refl tt
+      form_known (StaticRepeat written count a) place x acting r names apart i low c k bits taken comes = turn_known (StaticRepeat written count a) place x acting r i low c refl tt
+      form_known (Timed n) place x acting r names apart i low c k bits taken comes = timed n place x acting r i low apart c k (record { taken = taken; samples = λ island is. samples_come n x island is comes })
 
       pub known : (s : PlainStatement) (x : Stand) (acting : Bool) (r : ℕ) → StatementNames groups s → x.region < x.register → IsIn around registers look x.acts x.region acting r → bound ≤ x.wire
           → AllConnect around registers look bound (drivers_of groups islands x s) → AreRegisters around registers look kept x.register (registers_of islands s) → StatementBits around registers look hole port s
-          → Comes x.register (length (registers_of islands s)) (drivers_of groups islands x s) → Known x s
-      known (Placed form place) x acting r names apart i low c k bits comes = form_known form place x acting r names apart i low c k bits comes
+          → StatementIslands (TakesIsland groups islands around registers look) islands x s → Comes x.register (length (registers_of islands s)) (drivers_of groups islands x s) → Known x s
+      known (Placed form place) x acting r names apart i low c k bits taken comes = form_known form place x acting r names apart i low c k bits taken comes
 
       parts_known : (ss : PlainStatements) (seq : Stand) (before : ℕ) (x : Stand) (acting : Bool) (r : ℕ) → PartsName groups ss → x.region < x.register → IsIn around registers look x.acts x.region acting r → bound ≤ x.wire → bound ≤ seq.wire
           → AllConnect around registers look bound (parts_drivers groups islands seq before x ss) → AreRegisters around registers look kept x.register (registers_in islands ss) → PartsBits around registers look hole port ss
-          → (e : Bool) → It (end_of before) e → Comes x.register (length (registers_in islands ss)) (parts_drivers groups islands seq before x ss) → PartsKnown seq before x ss
-      parts_known no_statements seq before x acting r names apart i low base c k bits e h comes =
+          → (e : Bool) → It (end_of before) e → PartsIslands (TakesIsland groups islands around registers look) islands x ss → Comes x.register (length (registers_in islands ss)) (parts_drivers groups islands seq before x ss) → PartsKnown seq before x ss
+      parts_known no_statements seq before x acting r names apart i low base c k bits e h taken comes =
           let high : bound ≤ suc seq.wire = omega arith in record { over = e; ends = c.0 high ∙ h; region_wide = λ o. (o, refl); nexts = tt }
-      parts_known (a_statement s ss) seq before x acting r names apart i low base c k bits e h comes =
+      parts_known (a_statement s ss) seq before x acting r names apart i low base c k bits e h taken comes =
           let cs = connect_both around registers look bound (drivers_of groups islands x s) (parts_drivers groups islands seq x.wire (behind islands s x) ss) c.1 in
           let ks = registers_both around registers look kept x.register (registers_of islands s) (registers_in islands ss) k in
           let low_behind : bound ≤ x.wire + wires_of s = omega arith in
           let apart_behind : x.region < x.register + length (registers_of islands s) = omega arith in
-          let a = known s x acting r names.0 apart i low cs.0 ks.0 bits.0 (seq_first s x ss seq x.wire names apart (parts_inner s ss seq before x apart comes)) in
-          let b = parts_known ss seq x.wire (behind islands s x) acting r names.1 apart_behind i low_behind base cs.1 ks.1 bits.1 a.over a.ends (seq_later s x ss seq x.wire names apart (parts_inner s ss seq before x apart comes)) in
+          let a = known s x acting r names.0 apart i low cs.0 ks.0 bits.0 taken.0 (seq_first s x ss seq x.wire names apart (parts_inner s ss seq before x apart comes)) in
+          let b = parts_known ss seq x.wire (behind islands s x) acting r names.1 apart_behind i low_behind base cs.1 ks.1 bits.1 a.over a.ends taken.1 (seq_later s x ss seq x.wire names apart (parts_inner s ss seq before x apart comes)) in
           record {
             over = b.over;
             ends = b.ends;
@@ -386,15 +400,15 @@ module _ (groups : ℕ) (islands : List PlainIsland) (named : IslandsName groups
 
       arms_known : (arms : PlainStatements) (par : Stand) (wire register : ℕ) (acting : Bool) → PartsName groups arms → It (at par) acting → bound ≤ wire
           → AllConnect around registers look bound (arms_drivers groups islands par wire register arms) → AreRegisters around registers look kept register (arms_registers islands arms) → PartsBits around registers look hole port arms
-          → Comes register (length (arms_registers islands arms)) (arms_drivers groups islands par wire register arms) → ArmsKnown par wire register arms
-      arms_known no_statements par wire register acting names on low c k bits comes = record { over = true; knows = refl; nexts = λ e h. tt }
-      arms_known (a_statement s ss) par wire register acting names on low c k bits comes =
+          → ArmsIslands (TakesIsland groups islands around registers look) islands par wire register arms → Comes register (length (arms_registers islands arms)) (arms_drivers groups islands par wire register arms) → ArmsKnown par wire register arms
+      arms_known no_statements par wire register acting names on low c k bits taken comes = record { over = true; knows = refl; nexts = λ e h. tt }
+      arms_known (a_statement s ss) par wire register acting names on low c k bits taken comes =
           let cs = connect_both around registers look bound (drivers_of groups islands (arm_stand par wire register) s) _ c.1 in
           let ks = registers_both around registers look kept (suc register) (registers_of islands s) (arms_registers islands ss) k.1 in
           let low_behind : bound ≤ wire + wires_of s = omega arith in
           let less : register < suc register = omega arith in
-          let a = known s (arm_stand par wire register) acting (kept register) names.0 less (record { acts_so = on; width = 32; at_position = k.0 }) low cs.0 ks.0 bits.0 (arm_first s ss par wire register names comes) in
-          let b = arms_known ss par (wire + wires_of s) (suc register + length (registers_of islands s)) acting names.1 on low_behind cs.1.1 ks.1 bits.1 (arm_later s ss par wire register names comes) in
+          let a = known s (arm_stand par wire register) acting (kept register) names.0 less (record { acts_so = on; width = 32; at_position = k.0 }) low cs.0 ks.0 bits.0 taken.0 (arm_first s ss par wire register names comes) in
+          let b = arms_known ss par (wire + wires_of s) (suc register + length (registers_of islands s)) acting names.1 on low_behind cs.1.1 ks.1 bits.1 taken.1 (arm_later s ss par wire register names comes) in
           record {
             over = ((kept register == positions_of s) || a.over) && b.over;
             knows = says_all around registers look (arm_over wire register s) (exprs_of (arms_over groups islands (wire + wires_of s) (suc register + length (registers_of islands s)) ss)) ((kept register == positions_of s) || a.over) b.over

@@ -13,6 +13,15 @@ pub mod StandsLaws
 pub mod GoesLaws
 pub mod ConnectLaws
 pub mod KnowLaws
+pub mod GatherLaws
+pub mod ListedLaws
+pub mod IslandCells
+pub mod IslandReads
+pub mod IslandStands
+pub mod TimerRows
+pub mod TimerRules
+pub mod IslandValues
+pub mod IslandAway
 pub mod GuardLaws
 pub mod AssignLaws
 pub mod HoleLaws
@@ -42,7 +51,9 @@ pub mod TreeRules
 pub mod BlockTree
 pub mod RootEdges
 pub mod BlockTells
+pub mod NodeTimers
 pub mod IdleNumbers
+pub mod IslandIdles
 pub mod BlockIdles
 pub mod ControlPorts
 pub mod TimerPlaces
@@ -72,6 +83,9 @@ pub mod SeamRules
 pub mod SeamFlows
 pub mod OutputFlows
 pub mod NodeEdges
+pub mod DesignEdges
+pub mod ZeroNumbers
+pub mod StartCells
 pub mod GoingApart
 pub mod NodeAgrees
 pub mod KnownLemmas

@@ -23,16 +23,16 @@ use Rattle.cx_meaning.specs.Cycles.{Ended, Goes, Faults, Fault, cycle}
 use Rattle.cx_meaning.specs.Islands.{kind_length, group_length, turn_of}
 use Rattle.cx_meaning.specs.Answers.{Test}
 use Rattle.cx_meaning.specs.Control.{with_comb, groups_in, groups_of, group_drives, drives}
-use Rattle.cx_meaning.specs.Calls.{hole_turn, group_turn, test_of, called}
+use Rattle.cx_meaning.specs.Calls.{hole_turn, group_turn, test, test_of, called}
 use Rattle.cx_rules.specs.Items.{Dynamic, Visited, visit, visit_parts, statements_in, test_in, option_list, tests_of, is_comb}
 use Rattle.cx_rules.specs.ShapeRules.{is_hole}
 use Rattle.cx_rules.specs.Footprints.{Reads, tested}
-use Rattle.cx_rules.specs.Wellformed.{IsForm}
+use Rattle.cx_rules.specs.Wellformed.{IsForm, IsWith}
 use Rattle.cx_rules.specs.Circles.{IsAcyclic, AreAcyclic, AcyclicBelow}
 use Rattle.cx_rules.proofs.Finite.{in_left}
 use Rattle.cx_rules.proofs.FoundLemmas.{seen_found}
 use Rattle.cx_flow.specs.Apart.{IsApart}
-use Rattle.cx_flow.specs.Flows.{zero_of}
+use Rattle.cx_flow.specs.Flows.{zero_of, is_set}
 use Rattle.cx_lockstep.specs.Worlds.{Control, At, Done, Machine}
 use Rattle.cx_lockstep.specs.Machines.{unclear}
 use Rattle.cx_lockstep.specs.Statements.{LeafMachines, machine_of}
@@ -47,25 +47,26 @@ use Rattle.cx_control.specs.InstanceRules.{Stands}
 use Rattle.cx_control.specs.ControlRules.{ControlRules}
 use Rattle.cx_control.specs.CallRules.{CallRules}
 use Rattle.cx_net.specs.Nets.{OfPort}
-use Rattle.cx_net.specs.NetMeaning.{NetState, below_cell, APort, AHole, TheDone, NetLook, NetAround, around_child, is_true, truth_bit, zero_wide}
+use Rattle.cx_net.specs.NetMeaning.{NetState, below_cell, APort, AHole, TheDone, NetLook, NetAround, around_child, is_true, truth_bit, zero_wide, registers_of}
 use Rattle.cx_static.specs.Lowering.{lowered_component}
 use Rattle.cx_wiring.specs.Assignments.{kind_drives, occurs_in, owner_drives}
 use Rattle.cx_wiring.specs.PartNets.{wired_in, timers_of}
 use Rattle.cx_wiring.specs.BlockNumbers.{component_numbers}
-use Rattle.cx_wiring.specs.Blocks.{block, Shows, Solves, FitsInputs}
+use Rattle.cx_wiring.specs.Blocks.{block, net_of_cells, Shows, Solves, FitsInputs}
 use Rattle.cx_wiring.specs.PortValues.{own_offset, port_value, goes_now, offset_now, active_now}
 use Rattle.cx_wiring.specs.Takings.{value}
 use Rattle.cx_wiring.specs.Shown.{Going, told, leads, comb_going, enable_going, going, enable_agrees, TestAgrees, StatementAgrees}
 use Rattle.cx_wiring.proofs.TakingLemmas.{true_bit}
 use Rattle.cx_wiring.proofs.BlockTells.{hole_now, port_now}
 use Rattle.cx_wiring.proofs.ChildLooks.{child_solves}
+use Rattle.cx_wiring.proofs.CellEdges.{driver_there}
 use Rattle.cx_wiring.proofs.InstancePorts.{output_there}
 use Rattle.cx_wiring.proofs.NodePorts.{named_value, bit_says}
 use Rattle.cx_wiring.proofs.TreeRules.{CellsNodes}
 use Rattle.cx_wiring.proofs.SeamRules.{SeamRules}
 use Rattle.cx_wiring.proofs.SeamFlows.{Nearby, tested_seen, hole_seen, only_self}
 use Rattle.cx_wiring.proofs.OutputFlows.{SeamAt, fine_node, row_cell, done_below, child_outputs}
-use Rattle.cx_wiring.proofs.GoingApart.{IsGoing, GoesFor, DrivesNone, LeafStands, leaf_goes, leaf_stands, agrees}
+use Rattle.cx_wiring.proofs.GoingApart.{enable_named, IsGoing, GoesFor, DrivesNone, LeafStands, leaf_goes, leaf_stands, agrees}
 
 -- a bit that is one of two truths
 bit_truth : (b : Bool) (x : BitVector) → truth_bit b ≡ x → truth_of (Value x) ≡ One → b ≡ true
@@ -126,6 +127,9 @@ module _ (d : PlainDesign) (of_island : PlainComponent → NetState → ℕ → 
     (names_form : (form : PlainForm) (q : Machine.Place (LeafMachines.island (leaf_machines (Node part cells) (coded_below cells)) form)) (x : Going) → In (of_form form q) x → In (groups_in form) x.group) where
   abbrev P : LeafMachines Spot Holds Fault
   P = leaf_machines (Node part cells) (coded_below cells)
+
+  abbrev R : ℕ → Option BitVector
+  R = registers_of (wired_in d part) (net_of_cells (wired_in d) timers_of (component_numbers of_island) cells (timers_of part)) around v (look []) (λ c. look (c ∷ []))
 
   abbrev hole : ℕ → Bool
   hole g = is_true (unwrap_or (look [] (AHole g)) (zero_wide 1))
@@ -208,3 +212,253 @@ module _ (d : PlainDesign) (of_island : PlainComponent → NetState → ℕ → 
       outputs = λ c q n child b reads at port sees. rests_seen c (rests c child reads at) q n child b at port sees;
       dones = λ c q child reads at port. rests_done c child (rests c child reads at) at;
     }
+
+    -- WHAT GOES
+    abbrev Now : Active
+    Now = active_now (Node part cells) around v look
+
+    now_acts : (g : ℕ) → g < length part.groups → goes_now (Node part cells) around v look g ≡ true → acts g
+    now_acts g there e =
+        told_named g (zero_of (Some 1)) root
+        (ap (λ o. is_true (unwrap_or o (zero_of (Some 1)))) (sym (goes g there))
+        ∙ and_left (is_true (unwrap_or (look [] (AHole (length part.groups + g))) (zero_of (Some 1)))) (owner_drives (lowered_component part) (Some g)) e)
+
+    none_at : (g c : ℕ) → group_drives part g c ≡ true → (acts g → ⊥) → Now.offset g ≡ None
+    none_at g c drives_it never = by (goes_now (Node part cells) around v look g) refl
+      where
+        by : (b : Bool) → goes_now (Node part cells) around v look g ≡ b → (if b then Some (own_offset (group_length part g) (offset_now (Node part cells) around v look g)) else None) ≡ None
+        by true e = absurd (never (now_acts g (driver_there part g c drives_it) e))
+        by false e = refl
+
+    -- a test without a group
+    pub no_apart : (t : PlainStatement) → For t [] → IsApart part t nothing Now
+    no_apart t for = record {
+      its_own = λ g o e. absurd (none_some o e);
+      same = λ g c reads drives_it. sym (none_at g c drives_it (λ k. ⊎_elim (λ named. absurd named.is_in) (λ never. never c reads drives_it) (for.actors g k)));
+    }
+      where
+        none_some : (o : ℕ) → ◌≡◌ {A = Option ℕ} None (Some o) → ⊥
+        none_some o e = cc
+
+    kind_stands : (occurs : Bool) (k : GroupKind) → kind_length k ≡ None → kind_drives occurs (Some k) ≡ true
+    kind_stands occurs kinds.Plain e = refl
+    kind_stands occurs kinds.Comb e = refl
+    kind_stands occurs (kinds.Timed n) e = absurd cc
+
+    pub owner_plain : (g : ℕ) → g < length part.groups → kind_length (group_at part g).kind ≡ None → owner_drives (lowered_component part) (Some g) ≡ true
+    owner_plain g there plain =
+        ap (λ o. kind_drives (occurs_in g (lowered_component part).islands) (option_map (λ group. group.kind) o)) (slice_get-get_or part.groups g no_group there)
+        ∙ kind_stands (occurs_in g (lowered_component part).islands) (group_at part g).kind plain
+
+    abbrev one_going : ℕ → Bool → List Going
+    one_going g b = record { group = g; goes = b } ∷ []
+
+    at_zero : (t : PlainStatement) (g : ℕ) → g < length part.groups → kind_length (group_at part g).kind ≡ None → For t (record { group = g; goes = true } ∷ []) → (c : ℕ) → group_drives part g c ≡ true → Some 0 ≡ Now.offset g
+    at_zero t g there plain for c drives_it =
+        let says_so : look [] (AHole (length part.groups + g)) ≡ Some (truth_bit true) =
+        goes g there ∙ for.told_so g c drives_it (record { one = record { group = g; goes = true }; is_in = inl refl; named = refl }) ∙ ap (λ (b : Bool). if b then Some (truth_bit true) else Some (truth_bit false)) (eq-eqb g g refl) in
+        sym
+        (ap₂ (λ (x : Option BitVector) (y : Bool). if is_true (unwrap_or x (zero_of (Some 1))) && y then Some (own_offset (group_length part g) (offset_now (Node part cells) around v look g)) else None) says_so (owner_plain g there plain)
+        ∙ ap (λ o. Some (own_offset o (offset_now (Node part cells) around v look g))) plain)
+
+    -- one group that is not timed goes
+    pub one_apart : (t : PlainStatement) (g : ℕ) → In (groups_of t) g → g < length part.groups → kind_length (group_at part g).kind ≡ None → For t (record { group = g; goes = true } ∷ []) → IsApart part t (group g) Now
+    one_apart t g its there plain for = record { its_own = λ h o e. own h o (nat_eq g h) refl e; same = λ h c reads drives_it. by h c reads drives_it (nat_eq g h) refl }
+      where
+        own : (h o : ℕ) (q : Bool) → nat_eq g h ≡ q → (if q then Some 0 else None) ≡ Some o → In (groups_of t) h
+        own h o true f k = subst (In (groups_of t)) (eqb-true g h f) its
+        own h o false f k = absurd cc
+
+        differ : (h : ℕ) → nat_eq g h ≡ false → IsGoing h (record { group = g; goes = true } ∷ []) → ⊥
+        differ h f k = among k.is_in
+          where
+            among : In (record { group = g; goes = true } ∷ []) k.one → ⊥
+            among (inl e) = true_false (sym (eq-eqb g h (ap (λ (x : Going). x.group) e ∙ k.named)) ∙ f)
+            among (inr never) = never
+
+        by : (h c : ℕ) → Reads part t c → group_drives part h c ≡ true → (q : Bool) → nat_eq g h ≡ q → (if q then Some 0 else None) ≡ Now.offset h
+        by h c reads drives_it true e = subst (λ x. Some 0 ≡ Now.offset x) (eqb-true g h e) (at_zero t g there plain for c (subst (λ x. group_drives part x c ≡ true) (sym (eqb-true g h e)) drives_it))
+        by h c reads drives_it false e = sym (none_at h c drives_it (λ k. ⊎_elim (λ named. differ h e named) (λ never. never c reads drives_it) (for.actors h k)))
+
+    -- THE HOLE OF A GROUP in the net
+    pub hole_stands : (g : ℕ) → g < length part.groups → port_value (Node part cells) around v look (ports.Done g) ≡ truth_bit (is_true (unwrap_or (look [] (AHole g)) (zero_wide 1)))
+    hole_stands g there =
+        let holes : g < length part.groups + length part.groups = omega arith in
+        let b = solves.bits [] (AHole g) (lt-ltb g (length part.groups + length part.groups) holes) in
+        ap (λ (t : Bool). if t then unwrap_or (look [] (AHole g)) (zero_of (Some 1)) else zero_of (Some 1)) (lt-ltb g (length part.groups) there)
+        ∙ ap (λ o. unwrap_or o (zero_of (Some 1))) b.1
+        ∙ ap truth_bit (sym (ap (λ o. is_true (unwrap_or o (zero_wide 1))) b.1 ∙ true_bit b.0))
+
+    -- A GROUP THAT CALLS NOTHING
+    module _ (g : ℕ) (place : Place) (stands : Stands (Node part cells) (Placed (Enable g) place)) (xs : List Going) (for : For (Placed (Enable g) place) xs) (only : (h : ℕ) → IsGoing h xs → h ≡ g) (none : called (Node part cells) g ≡ None) where
+      there : g < length part.groups
+      there = (rules.node.ports.forms (record { context = Dynamic; form = Enable g; place = place }) stands).0
+
+      rests_here : (c : ℕ) (child : Instance) → Reads part (Placed (Enable g) place) c → cell_at cells c ≡ OfInstance child → RestsAt cells c (bare s)
+      rests_here c child reads at = rests_apart (Placed (Enable g) place) xs for c child reads at (λ h k plain calls. calls_none c (sym none ∙ ap (called (Node part cells)) (sym (only h k)) ∙ calls))
+        where
+          calls_none : (c : ℕ) → ◌≡◌ {A = Option ℕ} None (Some c) → ⊥
+          calls_none c e = cc
+
+      pub hole_is : (b : BitVector) → Sees (Node part cells) (held_in s) (group g) (cells_in s) (ports.Done g) (Value b) → port_value (Node part cells) around v look (ports.Done g) ≡ b
+      hole_is b sees =
+          hole_seen d (component_numbers of_island) part cells rules around v look solves (cells_in s) same_cells (held_in s) (Placed (Enable g) place) g (inl refl)
+          (near_rests (only_at g) (Placed (Enable g) place) rests_here) b sees
+
+      sees_hole : Sees (Node part cells) (held_in s) (group g) (cells_in s) (ports.Done g) (seen (Node part cells) (held_in s) (group g) (cells_in s) (ports.Done g))
+      sees_hole = seen_found (Node part cells) (held_in s) (group g) (cells_in s) (control.rules.groups g there) (control.rules.circles).1 (ports.Done g)
+
+      never_ends : (e : Ended) → is_done (turn_next (turn_of e)) ≡ false
+      never_ends (Goes after) = refl
+      never_ends (Faults fault) = refl
+
+      turn_agrees : (o : Truth) → truth_of (seen (Node part cells) (held_in s) (group g) (cells_in s) (ports.Done g)) ≡ o → turn_faults (hole_turn g (cycle (Node part cells) (held_in s) (group g) (cells_in s)) o) ≡ false
+          → hole g ≡ is_done (turn_next (hole_turn g (cycle (Node part cells) (held_in s) (group g) (cells_in s)) o))
+      turn_agrees One e clean =
+          let w = one_is_value (seen (Node part cells) (held_in s) (group g) (cells_in s) (ports.Done g)) e in
+          bit_truth (hole g) w.0 (sym (hole_stands g there) ∙ hole_is w.0 (subst (Sees (Node part cells) (held_in s) (group g) (cells_in s) (ports.Done g)) w.1 sees_hole)) (sym (ap truth_of w.1) ∙ e)
+      turn_agrees Zero e clean =
+          let w = zero_is_value (seen (Node part cells) (held_in s) (group g) (cells_in s) (ports.Done g)) e in
+          bit_untruth (hole g) w.0 (sym (hole_stands g there) ∙ hole_is w.0 (subst (Sees (Node part cells) (held_in s) (group g) (cells_in s) (ports.Done g)) w.1 sees_hole)) (sym (ap truth_of w.1) ∙ e)
+          ∙ sym (never_ends (cycle (Node part cells) (held_in s) (group g) (cells_in s)))
+      turn_agrees Clash e clean = absurd (true_false clean)
+      turn_agrees Unknown e clean = absurd (true_false clean)
+
+      of_called : (o : Option ℕ) → o ≡ None → (q : Machine.Place (called_machine (Node part cells) (coded_below cells) g o)) → Machine.faults (called_machine (Node part cells) (coded_below cells) g o) q s ≡ false
+          → hole g ≡ is_done (Machine.step (called_machine (Node part cells) (coded_below cells) g o) q s)
+      of_called None e q clean = turn_agrees (truth_of (seen (Node part cells) (held_in s) (group g) (cells_in s) (ports.Done g))) refl clean
+      of_called (Some c) e q clean = absurd cc
+
+      of_kind : (k : GroupKind) → kind_length k ≡ None → (q : Machine.Place (kind_machine (Node part cells) (coded_below cells) g k)) → Machine.faults (kind_machine (Node part cells) (coded_below cells) g k) q s ≡ false
+          → hole g ≡ is_done (Machine.step (kind_machine (Node part cells) (coded_below cells) g k) q s)
+      of_kind kinds.Plain e q clean = of_called (called (Node part cells) g) none q clean
+      of_kind kinds.Comb e q clean = of_called (called (Node part cells) g) none q clean
+      of_kind (kinds.Timed n) e q clean = absurd cc
+
+      pub plain_hole : kind_length (group_at part g).kind ≡ None → (q : Machine.Place (LeafMachines.enable (leaf_machines (Node part cells) (coded_below cells)) g)) → Machine.faults (LeafMachines.enable (leaf_machines (Node part cells) (coded_below cells)) g) q s ≡ false
+          → hole g ≡ is_done (Machine.step (LeafMachines.enable (leaf_machines (Node part cells) (coded_below cells)) g) q s)
+      plain_hole plain q clean = of_kind (group_at part g).kind plain q clean
+
+    -- A TEST
+    module _ (form : PlainForm) (place : Place) (test_port : PlacedPort) (comb_of : Option ℕ) (stands : Stands (Node part cells) (Placed form place)) (has : test_in form ≡ Some test_port) (among : (g : ℕ) → comb_of ≡ Some g → In (groups_in form) g)
+        (is_with : IsForm part form → IsWith part comb_of) (for : For (Placed form place) (comb_going comb_of)) where
+      comb_there : (o : Option ℕ) → comb_of ≡ o → IsWith part o
+      comb_there o e = subst (IsWith part) e (is_with (rules.node.ports.forms (record { context = Dynamic; form = form; place = place }) stands))
+
+      comb_plain : (k : GroupKind) → is_comb k ≡ true → k ≡ kinds.Plain → ⊥
+      comb_plain k e f = true_false (sym e ∙ ap is_comb f)
+
+      untimed : (k : GroupKind) → is_comb k ≡ true → kind_length k ≡ None
+      untimed kinds.Plain e = refl
+      untimed kinds.Comb e = refl
+      untimed (kinds.Timed n) e = absurd (true_false (sym e))
+
+      comb_only : (o : Option ℕ) (h : ℕ) → IsGoing h (comb_going o) → o ≡ Some h
+      comb_only None h k = absurd k.is_in
+      comb_only (Some g) h k = by k.is_in
+        where
+          by : In (comb_going (Some g)) k.one → Some g ≡ Some h
+          by (inl e) = ap Some (ap (λ (x : Going). x.group) e ∙ k.named)
+          by (inr never) = absurd never
+
+      rests_test : (c : ℕ) (child : Instance) → Reads part (Placed form place) c → cell_at cells c ≡ OfInstance child → RestsAt cells c (bare s)
+      rests_test c child reads at =
+          rests_apart (Placed form place) (comb_going comb_of) for c child reads at
+          (λ h k plain calls. comb_plain (group_at part h).kind (comb_there (Some h) (comb_only comb_of h k)).1 plain)
+
+      -- its set of groups that go
+      test_apart : (o : Option ℕ) → comb_of ≡ o → IsApart part (Placed form place) (comb o) Now
+      test_apart None e = no_apart (Placed form place) (subst (λ o. For (Placed form place) (comb_going o)) e for)
+      test_apart (Some g) e =
+          let its = comb_there (Some g) e in
+          one_apart (Placed form place) g (among g e) its.0 (untimed (group_at part g).kind its.1) (subst (λ o. For (Placed form place) (comb_going o)) e for)
+
+      test_near : (o : Option ℕ) → Near (comb o) (λ c q. Reads part (Placed form place) c)
+      test_near None = near_rests (λ g. None) (Placed form place) rests_test
+      test_near (Some g) = near_rests (only_at g) (Placed form place) rests_test
+
+      test_acyclic : (o : Option ℕ) → comb_of ≡ o → IsAcyclic (Node part cells) (comb o)
+      test_acyclic None e = (control.rules.circles).0
+      test_acyclic (Some g) e = control.rules.groups g (comb_there (Some g) e).0
+
+      abbrev tested_now : Seen
+      tested_now = seen (Node part cells) (held_in s) (comb comb_of) (cells_in s) test_port.port
+
+      test_value : (b : BitVector) → seen (Node part cells) (held_in s) (comb comb_of) (cells_in s) test_port.port ≡ Value b → port_value (Node part cells) around v look test_port.port ≡ b
+      test_value b e =
+          let kept = rules.node.ports.tests (record { context = Dynamic; form = form; place = place }) test_port stands has in
+          tested_seen d (component_numbers of_island) part cells rules around v look solves (cells_in s) same_cells (held_in s) (Placed form place) (comb comb_of) (test_apart comb_of refl) (test_near comb_of) test_port.port kept.named.no_hole
+          (λ n f. rules.kept.tests (record { context = Dynamic; form = form; place = place }) test_port n stands has f) (λ c m f. tested m test_port (test_among form place test_port has) f) b
+          (subst (Sees (Node part cells) (held_in s) (comb comb_of) (cells_in s) test_port.port) e
+          (seen_found (Node part cells) (held_in s) (comb comb_of) (cells_in s) (test_acyclic comb_of refl) (control.rules.circles).1 test_port.port))
+
+      abbrev test_bit : Bool
+      test_bit = is_set (port_value (Node part cells) around v look test_port.port)
+
+      -- its port in the net
+      test_says : value around R (look []) (OfPort test_port.port) ≡ Some (truth_bit (is_set (port_value (Node part cells) around v look test_port.port)))
+      test_says =
+          let kept = rules.node.ports.tests (record { context = Dynamic; form = form; place = place }) test_port stands has in
+          bit_says d (component_numbers of_island) part cells rules.node.ports around v look solves test_port.port kept.named kept.one_bit
+
+      test_known : port_value (Node part cells) around v look test_port.port ≡ truth_bit (is_set (port_value (Node part cells) around v look test_port.port))
+      test_known =
+          let kept = rules.node.ports.tests (record { context = Dynamic; form = form; place = place }) test_port stands has in
+          some_is (port_value (Node part cells) around v look test_port.port) (truth_bit (is_set (port_value (Node part cells) around v look test_port.port)))
+          (sym (named_value d (component_numbers of_island) part cells rules.node.ports around v look solves test_port.port kept.named) ∙ test_says)
+
+      test_leads : (o : Truth) → truth_of (seen (Node part cells) (held_in s) (comb comb_of) (cells_in s) test_port.port) ≡ o → unclear (test_of test_port.port o) ≡ false
+          → is_set (port_value (Node part cells) around v look test_port.port) ≡ leads (test_of test_port.port o)
+      test_leads One e clean =
+          let w = one_is_value (seen (Node part cells) (held_in s) (comb comb_of) (cells_in s) test_port.port) e in
+          bit_truth (is_set (port_value (Node part cells) around v look test_port.port)) w.0 (sym test_known ∙ test_value w.0 w.1) (sym (ap truth_of w.1) ∙ e)
+      test_leads Zero e clean =
+          let w = zero_is_value (seen (Node part cells) (held_in s) (comb comb_of) (cells_in s) test_port.port) e in
+          bit_untruth (is_set (port_value (Node part cells) around v look test_port.port)) w.0 (sym test_known ∙ test_value w.0 w.1) (sym (ap truth_of w.1) ∙ e)
+      test_leads Clash e clean = absurd (true_false clean)
+      test_leads Unknown e clean = absurd (true_false clean)
+
+      pub test_agrees : unclear (test (Node part cells) (held_in s) test_port.port comb_of (cells_in s)) ≡ false
+          → is_true (unwrap_or (value around R (look []) (OfPort test_port.port)) (zero_wide 1)) ≡ leads (test (Node part cells) (held_in s) test_port.port comb_of (cells_in s))
+      test_agrees clean =
+          ap (λ o. is_true (unwrap_or o (zero_wide 1))) test_says ∙ true_bit (is_set (port_value (Node part cells) around v look test_port.port))
+          ∙ test_leads (truth_of (seen (Node part cells) (held_in s) (comb comb_of) (cells_in s) test_port.port)) refl clean
+
+    -- ALL OF THEM, where calls agree
+    abbrev port : PortRef → Bool
+    port q = is_true (unwrap_or (value around R (look []) (OfPort q)) (zero_wide 1))
+
+    module _ (calls : (g : ℕ) (place : Place) (stand : Machine.Place (LeafMachines.enable (leaf_machines (Node part cells) (coded_below cells)) g)) (c : ℕ) → In (running (leaf_machines (Node part cells) (coded_below cells)) part.control p) (AGroup g place stand)
+        → called (Node part cells) g ≡ Some c → Machine.faults (LeafMachines.enable (leaf_machines (Node part cells) (coded_below cells)) g) stand s ≡ false
+        → hole g ≡ is_done (Machine.step (LeafMachines.enable (leaf_machines (Node part cells) (coded_below cells)) g) stand s)) where
+      enable_owes : (g : ℕ) (place : Place) → Stands (Node part cells) (Placed (Enable g) place) → (q : Machine.Place (LeafMachines.enable (leaf_machines (Node part cells) (coded_below cells)) g))
+          → In (running (leaf_machines (Node part cells) (coded_below cells)) part.control p) (AGroup g place q)
+          → For (Placed (Enable g) place) (enable_going (leaf_machines (Node part cells) (coded_below cells)) (leaf_codings (Node part cells) (coded_below cells)) part (lowered_component part).islands hole of_enable of_form g (group_length part g) q)
+          → Machine.faults (LeafMachines.enable (leaf_machines (Node part cells) (coded_below cells)) g) q s ≡ false → (o : Option ℕ) → group_length part g ≡ o
+          → enable_agrees (leaf_machines (Node part cells) (coded_below cells)) (leaf_codings (Node part cells) (coded_below cells)) part (lowered_component part).islands s hole port g o q
+      enable_owes g place stands q run for clean (Some cycles) e = tt
+      enable_owes g place stands q run for clean None e = by (called (Node part cells) g) refl
+        where
+          only : (h : ℕ)
+              → IsGoing h (enable_going (leaf_machines (Node part cells) (coded_below cells)) (leaf_codings (Node part cells) (coded_below cells)) part (lowered_component part).islands hole of_enable of_form g (group_length part g) q) → h ≡ g
+          only h k =
+              among
+              (enable_named (Node part cells) (coded_below cells) (leaf_codings (Node part cells) (coded_below cells)) control (lowered_component part).islands hole of_enable of_form names_enable names_form g (group_length part g) q k.one k.is_in)
+            where
+              among : In (g ∷ []) k.one.group → h ≡ g
+              among (inl f) = sym k.named ∙ sym f
+              among (inr never) = absurd never
+
+          by : (o : Option ℕ) → called (Node part cells) g ≡ o → hole g ≡ is_done (Machine.step (LeafMachines.enable (leaf_machines (Node part cells) (coded_below cells)) g) q s)
+          by (Some c) f = calls g place q c run f clean
+          by None f =
+              plain_hole g place stands
+              (enable_going (leaf_machines (Node part cells) (coded_below cells)) (leaf_codings (Node part cells) (coded_below cells)) part (lowered_component part).islands hole of_enable of_form g (group_length part g) q)
+              for only f e q clean
+
+      pub node_agrees : Machine.faults (machine_of (leaf_machines (Node part cells) (coded_below cells)) part.control) p s ≡ false
+          → StatementAgrees (leaf_machines (Node part cells) (coded_below cells)) (leaf_codings (Node part cells) (coded_below cells)) part (lowered_component part).islands s hole port part.control p
+      node_agrees clean =
+          agrees (Node part cells) (coded_below cells) (leaf_codings (Node part cells) (coded_below cells)) control (lowered_component part).islands hole of_enable of_form names_enable names_form acts says s port
+          (λ r. In (running (leaf_machines (Node part cells) (coded_below cells)) part.control p) r) enable_owes
+          (λ form place t c stands has among is_with for clear. test_agrees form place t c stands has among is_with for clear) part.control (control_stands (Node part cells) part.control refl) p (λ r j. j) root_goes clean

@@ -5,7 +5,7 @@ use Rattle.cx_meaning.specs.declared.ports.PortRef.{PortRef}
 use Rattle.cx_meaning.specs.declared.ports.PortRef.TheVariants as ports
 use Rattle.cx_meaning.specs.declared.ports.PlacedPort.{PlacedPort}
 use Rattle.cx_meaning.specs.Designs.{PlainDesign, PlainComponent, no_component, component_at, PlainForm, Empty, Enable, Seq, Par, If, While, Repeat, StaticSeq, StaticPar, StaticIf, StaticRepeat, Timed, PlainStatement, Placed, PlainStatements, no_statements, a_statement}
-use Rattle.cx_meaning.specs.Instances.{Instance, part_of, Path, tree_of, instance_at}
+use Rattle.cx_meaning.specs.Instances.{Instance, cells_of, part_of, Path, tree_within, tree_of, instance_at}
 use Rattle.cx_meaning.specs.Active.{Owned, source_order}
 use Rattle.cx_meaning.specs.Sights.{In}
 use Rattle.cx_meaning.specs.Islands.{group_length}
@@ -35,6 +35,7 @@ use Rattle.cx_wiring.proofs.NetTargets.{plain_wires_count}
 use Rattle.cx_wiring.proofs.DrivenLemmas.{IsProper}
 use Rattle.cx_wiring.proofs.ComponentTakes.{IsPlain}
 use Rattle.cx_wiring.proofs.DesignNames.{control_named, islands_named, assigns_named, in_filter}
+use Rattle.cx_wiring.proofs.TimerRules.{TimerRules, timer_rules, no_timer_rules}
 use Rattle.cx_wiring.proofs.WholeInstances.{IsWhole, of_component, of_nothing, instance_whole}
 use Rattle.cx_wiring.proofs.InstancePorts.{IsTarget, TestRules, PortRules, port_rules}
 
@@ -96,6 +97,7 @@ pub record NodeRules (d : PlainDesign) (i : Instance) : Type 0 where
   pub control_named : StatementNames (groups (lowered_component (part_of i))) (lowered (part_of i) (part_of i).control (unlowered (part_of i)))
   pub assigns_named : AssignsName (groups (lowered_component (part_of i))) (driven_assigns (lowered_component (part_of i)))
   pub plain : AllDrive (IsPlain (length (plain_wires (lowered_component (part_of i))))) (plain_drivers (lowered_component (part_of i)))
+  pub timers : TimerRules (part_of i) (cells_of i)
 
 -- of every instance of an accepted design's tree
 pub node_rules : (d : PlainDesign) → IsDesign d → IsAccepted d → (path : Path) → NodeRules d (instance_at (tree_of d) path)
@@ -108,8 +110,9 @@ node_rules d design accepted path = by (instance_whole d design path) (port_rule
       control_named = control_named d design k within;
       assigns_named = assigns_named d design k within;
       plain = plain_targets (component_at d k) (islands_named d design k within) (control_named d design k within) (λ o i. (rules.assigns o i).is_target);
+      timers = timer_rules d design accepted k within (tree_within d m) (λ o i. (rules.assigns o i).target);
     }
-    by of_nothing rules = record { ports = rules; islands_named = tt; control_named = tt; assigns_named = tt; plain = plain_targets no_component tt tt (λ o i. absurd i) }
+    by of_nothing rules = record { ports = rules; islands_named = tt; control_named = tt; assigns_named = tt; plain = plain_targets no_component tt tt (λ o i. absurd i); timers = no_timer_rules (λ o i. absurd i) }
 
 -- TESTS of a lowered statement are those of the statement
 module _ (part : PlainComponent) (P : PortRef → Type 0) where

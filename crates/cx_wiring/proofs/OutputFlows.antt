@@ -40,6 +40,10 @@ fine_node d of_island part cells rules = record {
   control_named = rules.control_named;
   assigns_named = rules.assigns_named;
   plain = rules.plain;
+  untimed = rules.timers.untimed;
+  cell_count = rules.timers.count;
+  timers_fit = rules.timers.fit;
+  targets = rules.timers.targets;
   tests = control_tests part (IsBitPort (wired_in d part) (net_of_cells (wired_in d) timers_of (component_numbers of_island) cells (timers_of part)))
       (λ v p i e. let t = rules.ports.tests v p i e in bit_port d (component_numbers of_island) part cells p.port t.named t.one_bit);
 }

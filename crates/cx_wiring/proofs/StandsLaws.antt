@@ -21,7 +21,7 @@ use Rattle.cx_control.specs.StatementCodingLaws.{IsRegion, AreCoded, statement_c
 use Rattle.cx_net.specs.Nets.{PlainNetExpr, OfPort, OfRegister, OfHole, Inverse, AllOf, Sum, exprs_of, no_exprs, ToRegister, ToWire, ToHole, PlainNetDriver}
 use Rattle.cx_net.specs.NetMeaning.{Node, AWire, NetAround, truth_bit, all_expr}
 use Rattle.cx_static.specs.Islands.{PlainIsland}
-use Rattle.cx_static.specs.Lowering.{Lowering, after, lowered, lowered_parts, lowered_enable}
+use Rattle.cx_static.specs.Lowering.{Lowering, after_enable, form_after, after, parts_after, lowered, lowered_parts, lowered_enable}
 use Rattle.cx_wiring.specs.Parts.{word, drive, both, either, equals}
 use Rattle.cx_wiring.specs.Counts.{positions_of, positions_in, wires_of, sample_registers, registers_of, registers_in, arms_registers}
 use Rattle.cx_wiring.specs.Stands.{Stand, at, end_of, inside, past_test, behind}
@@ -31,6 +31,7 @@ use Rattle.cx_wiring.specs.Standing.{IsStopped, IsIn, Away}
 use Rattle.cx_wiring.specs.Shown.{wide, Going, told, leads, counted, comb_going, number_of, parts_number, arms_number, FormAgrees, StatementAgrees, PartsAgree, ArmsAgree, enable_agrees, enable_going, enable_number, going, parts_going, arms_going}
 use Rattle.cx_wiring.specs.Turning.{Turns, Enters, Moves, entered}
 use Rattle.cx_wiring.specs.Wired.{IsWired, PartsWired, ArmsWired}
+use Rattle.cx_wiring.specs.IslandTakes.{IslandNexts}
 use Rattle.cx_wiring.proofs.TakingLemmas.{says_both, says_either, says_not, says_all, connect_both, registers_both, takes_append, idle_passes}
 use Rattle.cx_wiring.proofs.AwayLaws.{here, at_false, away, away_parts}
 use Rattle.cx_wiring.proofs.TurnLemmas.{beside_same, beside_first, beside_later, beside_zero, zero_first, zero_later, behind_idle, then_first, then_second}
@@ -53,7 +54,7 @@ none_below n less = absurd (omega arith)
 module _ (groups : ℕ) (islands : List PlainIsland) (around : NetAround) (registers : ℕ → Option BitVector) (look : Node → Option BitVector) (bound : ℕ) (kept next : ℕ → ℕ) (hole : ℕ → Bool) (port : PortRef → Bool)
     (timed : (k : ℕ) (x : Stand) (acting : Bool) (r : ℕ) → IsIn around registers look x.acts x.region acting r → IsStopped acting r x.position 1 → bound ≤ x.wire
     → AllConnect around registers look bound (form_drivers groups islands x (Timed k)) → AreRegisters around registers look kept x.register (sample_registers (slice_get islands k))
-    → Away around registers look x (form_drivers groups islands x (Timed k))) where
+    → IslandNexts groups islands around registers look kept next k x → Away around registers look x (form_drivers groups islands x (Timed k))) where
   abbrev D : Stand → PlainStatement → List PlainNetDriver
   D = drivers_of groups islands
 
@@ -73,7 +74,7 @@ module _ (groups : ℕ) (islands : List PlainIsland) (around : NetAround) (regis
   WA = ArmsWired groups islands around registers look bound kept next hole port
 
   pub away_wired : (s : PlainStatement) (x : Stand) (acting : Bool) (r : ℕ) → IsIn around registers look x.acts x.region acting r → IsStopped acting r x.position (positions_of s) → W x s → Away around registers look x (D x s)
-  away_wired s x acting r i o w = away groups islands around registers look bound kept hole port timed s x acting r i o w.low w.connects w.registers_are w.bits
+  away_wired s x acting r i o w = away groups islands around registers look bound kept hole port next timed s x acting r i o w.low w.connects w.registers_are w.bits w.nexts
 
   pub at_true : (x : Stand) (r : ℕ) → Acts x r → r ≡ x.position → bound ≤ x.wire → Connects around registers look bound (ToWire x.wire) (both x.acts (equals (OfRegister x.region) x.position)) → It (at x) true
   at_true x r i e low c = here groups islands around registers look bound kept hole port x true r i low c ∙ ap (λ b. Some (truth_bit b)) (eq-eqb r x.position e)
@@ -183,7 +184,7 @@ module _ (groups : ℕ) (islands : List PlainIsland) (around : NetAround) (regis
       }
 
   module _ {X : Type 0} {V : X → Type 0} {F : Type 0} (leaves : LeafMachines X V F) (codings : LeafCodings leaves) (part : PlainComponent) (now_island next_island : ℕ → ℕ → ℕ → ℕ)
-      (island_rests : (k : ℕ) (x : Stand) → AllIdle around registers look (form_drivers groups islands x (Timed k)) → (n : ℕ) → now_island x.register k n ≡ 0 → next_island x.register k n ≡ 0)
+      (island_rests : (k : ℕ) (x : Stand) → AllIdle around registers look (form_drivers groups islands x (Timed k)) → IslandNexts groups islands around registers look kept next k x → (n : ℕ) → now_island x.register k n ≡ 0 → next_island x.register k n ≡ 0)
       (Stands : PlainStatement → Type 0) (law : AreCoded leaves codings Stands) (enable_one : (g : ℕ) → Coding.size (LeafCodings.enable codings g) ≡ 1) (island_one : (form : PlainForm) → Coding.size (LeafCodings.island codings form) ≡ 1)
       (plain_extra : (g : ℕ) → group_length part g ≡ None → Coding.extra (LeafCodings.enable codings g) ≡ 0) where
     abbrev K : (s : PlainStatement) → Coding (Machine.Place (machine_of leaves s))
@@ -239,7 +240,7 @@ module _ (groups : ℕ) (islands : List PlainIsland) (around : NetAround) (regis
           let v = wired_parts seq before x (lowered part s l) (lowered_parts part ss (after part s l)) w in
           let a = away_wired (lowered part s l) x true r i (inr (inl less)) v.0 in
           let later : r < x.position + positions_of (lowered part s l) = omega arith in
-          let b = away_parts groups islands around registers look bound kept hole port timed seq x.wire (behind islands (lowered part s l) x) (lowered_parts part ss (after part s l)) true r i (inr (inl later)) v.1.low v.1.base a.ends v.1.connects v.1.registers_are v.1.bits in
+          let b = away_parts groups islands around registers look bound kept hole port next timed seq x.wire (behind islands (lowered part s l) x) (lowered_parts part ss (after part s l)) true r i (inr (inl later)) v.1.low v.1.base a.ends v.1.connects v.1.registers_are v.1.bits v.1.nexts in
           let starts : Machine.start (parts_machine leaves (a_statement s ss)) ≡ At (First region.front.first) =
           ap (within First (second_start (machine_of leaves s) (parts_machine leaves ss))) region.front.starts in
           record {
@@ -268,7 +269,8 @@ module _ (groups : ℕ) (islands : List PlainIsland) (around : NetAround) (regis
 
     -- ONE CYCLE of what the machine saw
     module _ (seen : Store X V) (of_enable : (g : ℕ) → Machine.Place (LeafMachines.enable leaves g) → List Going) (of_island : (form : PlainForm) → Machine.Place (LeafMachines.island leaves form) → List Going)
-        (rounds : (k : ℕ) (a : PlainStatement) (place : Place) → Stands (Placed (Repeat (suc k) a) place) → k < 2 ^ 32) where
+        (rounds : (k : ℕ) (a : PlainStatement) (place : Place) → Stands (Placed (Repeat (suc k) a) place) → k < 2 ^ 32)
+        (Low : Lowering → Type 0) (low_back : (s : PlainStatement) (l : Lowering) → Low (after part s l) → Low l) (low_parts : (ss : PlainStatements) (l : Lowering) → Low (parts_after part ss l) → Low l) where
       abbrev M : (s : PlainStatement) → Machine X V
       M s = machine_of leaves s
 
@@ -284,8 +286,8 @@ module _ (groups : ℕ) (islands : List PlainIsland) (around : NetAround) (regis
       abbrev Saw : (s : PlainStatement) → Machine.Place (machine_of leaves s) → Type 0
       Saw s p = StatementAgrees leaves codings part islands seen hole port s p
 
-      -- WHAT ISLANDS OWE, in the place of the statements that they were lowered from
-      module _ (islands_turn : (s : PlainStatement) → Stands s → (l : Lowering) (place : Place) → lowered part s l ≡ Placed (Timed (length l.islands)) place
+      -- WHAT ISLANDS OWE, in the place of the statements that they were lowered from, at each stage of the lowering that comes before its end
+      module _ (islands_turn : (s : PlainStatement) → Stands s → (l : Lowering) → Low (after part s l) → (place : Place) → lowered part s l ≡ Placed (Timed (length l.islands)) place
           → (x : Stand) (r : ℕ) (p : Machine.Place (machine_of leaves s)) → Coding.IsFine (statement_coding leaves codings s) p → Acts x r → Shows s l x r p → W x (lowered part s l) → Turned s l x r p) where
         -- the enable of a group that is no island
         enable_turns : (g : ℕ) (place : Place) → Stands (Placed (Enable g) place) → group_length part g ≡ None → (l : Lowering) (x : Stand) (r : ℕ) (p : Machine.Place (LeafMachines.enable leaves g)) → Acts x r
@@ -316,15 +318,15 @@ module _ (groups : ℕ) (islands : List PlainIsland) (around : NetAround) (regis
                 let e : r ≡ x.position + Coding.number (LeafCodings.enable codings g) q = omega arith in ap (λ n. Some (wide n)) e
             moved Done = λ o. refl
 
-        enable_kind : (g : ℕ) (o : Option ℕ) → group_length part g ≡ o → (place : Place) → Stands (Placed (Enable g) place) → (l : Lowering) (x : Stand) (r : ℕ) (p : Machine.Place (LeafMachines.enable leaves g))
+        enable_kind : (g : ℕ) (o : Option ℕ) → group_length part g ≡ o → (place : Place) → Stands (Placed (Enable g) place) → (l : Lowering) → Low (after_enable part g o l) → (x : Stand) (r : ℕ) (p : Machine.Place (LeafMachines.enable leaves g))
             → Coding.IsFine (LeafCodings.enable codings g) p → Acts x r → Shows (Placed (Enable g) place) l x r p → W x (Placed (lowered_enable part g o l) place) → enable_agrees leaves codings part islands seen hole port g o p
             → Turns groups around registers look (LeafCodings.enable codings g) x.wire x.region x.position r (D x (Placed (lowered_enable part g o l) place)) (enable_number leaves codings part islands next next_island o l x.register)
             (enable_going leaves codings part islands hole of_enable of_island g o p) (Machine.step (LeafMachines.enable leaves g) p seen)
-        enable_kind g None is place u l x r p fine i shows w saw = enable_turns g place u is l x r p i shows.0 w saw
-        enable_kind g (Some cycles) is place u l x r p fine i shows w saw =
+        enable_kind g None is place u l stage x r p fine i shows w saw = enable_turns g place u is l x r p i shows.0 w saw
+        enable_kind g (Some cycles) is place u l stage x r p fine i shows w saw =
             subst (λ o. W x (Placed (lowered_enable part g o l) place) → Turns groups around registers look (LeafCodings.enable codings g) x.wire x.region x.position r (D x (Placed (lowered_enable part g o l) place))
             (enable_number leaves codings part islands next next_island o l x.register) (enable_going leaves codings part islands hole of_enable of_island g o p) (Machine.step (LeafMachines.enable leaves g) p seen)) is
-            (λ v. islands_turn (Placed (Enable g) place) u l place (ap (λ o. Placed (lowered_enable part g o l) place) is) x r p fine i shows v) w
+            (λ v. islands_turn (Placed (Enable g) place) u l (subst (λ o. Low (after_enable part g o l)) (sym is) stage) place (ap (λ o. Placed (lowered_enable part g o l) place) is) x r p fine i shows v) w
 
         abbrev PK : (ss : PlainStatements) → Coding (Machine.Place (parts_machine leaves ss))
         PK = parts_coding leaves codings
@@ -517,18 +519,18 @@ module _ (groups : ℕ) (islands : List PlainIsland) (around : NetAround) (regis
 
         -- THE LAW: a step of the machine in a cycle of the net, for every form
         mutual
-          form_turns : (form : PlainForm) (place : Place) → Stands (Placed form place) → (l : Lowering) (x : Stand) (r : ℕ) (p : Machine.Place (form_machine leaves form)) → Coding.IsFine (form_coding leaves codings form) p → Acts x r
+          form_turns : (form : PlainForm) (place : Place) → Stands (Placed form place) → (l : Lowering) → Low (form_after part form l) → (x : Stand) (r : ℕ) (p : Machine.Place (form_machine leaves form)) → Coding.IsFine (form_coding leaves codings form) p → Acts x r
               → Shows (Placed form place) l x r p → W x (lowered part (Placed form place) l) → FormAgrees leaves codings part islands seen hole port form p → Turned (Placed form place) l x r p
-          form_turns Empty place u l x r p fine i shows w saw = turn_one x r _ i shows.0 w.low w.connects
-          form_turns (Enable g) place u l x r p fine i shows w saw = enable_kind g (group_length part g) refl place u l x r p fine i shows w saw
-          form_turns (Seq no_statements) place u l x r p fine i shows w saw = turn_one x r _ i shows.0 w.low w.connects
-          form_turns (Seq (a_statement s ss)) place u l x r (First p) fine i shows w saw =
+          form_turns Empty place u l stage x r p fine i shows w saw = turn_one x r _ i shows.0 w.low w.connects
+          form_turns (Enable g) place u l stage x r p fine i shows w saw = enable_kind g (group_length part g) refl place u l stage x r p fine i shows w saw
+          form_turns (Seq no_statements) place u l stage x r p fine i shows w saw = turn_one x r _ i shows.0 w.low w.connects
+          form_turns (Seq (a_statement s ss)) place u l stage x r (First p) fine i shows w saw =
               let v = wired_seq x (lowered part s l) (lowered_parts part ss (after part s l)) place w in
               let us = law.parts_stand s (Placed (Seq (a_statement s ss)) place) (of_seq (inl refl)) u in
               seq_first s ss (Placed (Seq (a_statement s ss)) place) u (λ t e. of_seq (inr e)) us l x (inside x) r p i shows.0
               (beside_later (Coding.extra (statement_coding leaves codings s)) (Coding.extra (parts_coding leaves codings ss)) (number_of leaves codings part islands kept now_island s l x.register) (parts_number leaves codings part islands kept now_island ss (after part s l) (x.register + length (registers_of islands (lowered part s l)))) (Coding.other (statement_coding leaves codings s) p) zeros shows.1) v.1
-              (turns s us l (inside x) r p fine i (shows.0, beside_first (Coding.extra (statement_coding leaves codings s)) (Coding.extra (parts_coding leaves codings ss)) (number_of leaves codings part islands kept now_island s l x.register) (parts_number leaves codings part islands kept now_island ss (after part s l) (x.register + length (registers_of islands (lowered part s l)))) (Coding.other (statement_coding leaves codings s) p) zeros shows.1) v.0 saw)
-          form_turns (Seq (a_statement s ss)) place u l x r (Second p) fine i shows w saw =
+              (turns s us l (low_parts ss (after part s l) stage) (inside x) r p fine i (shows.0, beside_first (Coding.extra (statement_coding leaves codings s)) (Coding.extra (parts_coding leaves codings ss)) (number_of leaves codings part islands kept now_island s l x.register) (parts_number leaves codings part islands kept now_island ss (after part s l) (x.register + length (registers_of islands (lowered part s l)))) (Coding.other (statement_coding leaves codings s) p) zeros shows.1) v.0 saw)
+          form_turns (Seq (a_statement s ss)) place u l stage x r (Second p) fine i shows w saw =
               let v = wired_seq x (lowered part s l) (lowered_parts part ss (after part s l)) place w in
               let size : Coding.size (statement_coding leaves codings s) ≡ positions_of (lowered part s l) = size_is s l in
               let so : r ≡ x.position + (Coding.size (statement_coding leaves codings s) + Coding.number (parts_coding leaves codings ss) p) = shows.0 in
@@ -537,16 +539,16 @@ module _ (groups : ℕ) (islands : List PlainIsland) (around : NetAround) (regis
               let a = away_wired (lowered part s l) (inside x) true r i (inr (inr past)) v.0 in
               seq_second s ss l x (inside x) r p a
               (still_zero s l (inside x) (Coding.extra (statement_coding leaves codings s)) a v.0 (beside_first (Coding.extra (statement_coding leaves codings s)) (Coding.extra (parts_coding leaves codings ss)) (number_of leaves codings part islands kept now_island s l x.register) (parts_number leaves codings part islands kept now_island ss (after part s l) (x.register + length (registers_of islands (lowered part s l)))) zeros (Coding.other (parts_coding leaves codings ss) p) shows.1))
-              (parts_turn ss (Placed (Seq (a_statement s ss)) place) u (λ t e. of_seq (inr e)) (after part s l) x (inside x).wire (behind islands (lowered part s l) (inside x)) r p fine i
+              (parts_turn ss (Placed (Seq (a_statement s ss)) place) u (λ t e. of_seq (inr e)) (after part s l) stage x (inside x).wire (behind islands (lowered part s l) (inside x)) r p fine i
               (so_behind, beside_later (Coding.extra (statement_coding leaves codings s)) (Coding.extra (parts_coding leaves codings ss)) (number_of leaves codings part islands kept now_island s l x.register) (parts_number leaves codings part islands kept now_island ss (after part s l) (x.register + length (registers_of islands (lowered part s l)))) zeros (Coding.other (parts_coding leaves codings ss) p) shows.1) v.1 a.ends saw)
-          form_turns (Par no_statements) place u l x r p fine i shows w saw =
+          form_turns (Par no_statements) place u l stage x r p fine i shows w saw =
               let low : bound ≤ x.wire = w.low in
               let high : bound ≤ suc x.wire = omega arith in
               let so : r ≡ x.position + 0 = shows.0 in
               let here_so : r ≡ x.position = omega arith in
               let on : It (at x) true = at_true x r i here_so low w.connects.0 in
               record { ends = w.connects.1.0 high ∙ says_all around registers look (at x) no_exprs true true on refl; moves = λ o. refl; others = λ n less. none_below n less; goes_so = λ g o. refl }
-          form_turns (Par (a_statement s ss)) place u l x r p fine i shows w saw =
+          form_turns (Par (a_statement s ss)) place u l stage x r p fine i shows w saw =
               let c = connect_both around registers look bound (arms_drivers groups islands x (suc (suc x.wire)) x.register (lowered_parts part (a_statement s ss) l)) _ w.connects.1 in
               let low : bound ≤ x.wire = w.low in
               let high : bound ≤ suc x.wire = omega arith in
@@ -555,9 +557,9 @@ module _ (groups : ℕ) (islands : List PlainIsland) (around : NetAround) (regis
               let here_so : r ≡ x.position = omega arith in
               let on : It (at x) true = at_true x r i here_so low w.connects.0 in
               par_turns (a_statement s ss) l x r (At p) (Machine.step (arms_machine leaves (a_statement s ss)) p seen) so on (c.1.0 high) w.nexts.0
-              (arms_turn (a_statement s ss) (Placed (Par (a_statement s ss)) place) u (λ t e. of_par e) l x (suc (suc x.wire)) x.register (At p) fine on shows.1
+              (arms_turn (a_statement s ss) (Placed (Par (a_statement s ss)) place) u (λ t e. of_par e) l stage x (suc (suc x.wire)) x.register (At p) fine on shows.1
               (record { low = low_in; connects = c.0; registers_are = w.registers_are; bits = w.bits; nexts = w.nexts.1 }) saw)
-          form_turns (If test comb a b) place u l x r AtTest fine i shows w saw =
+          form_turns (If test comb a b) place u l stage x r AtTest fine i shows w saw =
               let v = wired_if x test comb (lowered part a l) (lowered part b (after part a l)) place w in
               let ua = statement_coded leaves codings Stands law a (law.parts_stand a (Placed (If test comb a b) place) then_branch u) in
               let ub = statement_coded leaves codings Stands law b (law.parts_stand b (Placed (If test comb a b) place) else_branch u) in
@@ -579,7 +581,7 @@ module _ (groups : ℕ) (islands : List PlainIsland) (around : NetAround) (regis
               (D (behind islands (lowered part a l) (past_test x)) (lowered part b (after part a l))) _ _ _ (port test.port) v.bit ua.front.first ub.front.first
               (ua.coded.zero_at ua.front.first ua.front.starts) (ua.coded.zeros_at ua.front.first ua.front.starts) (ub.coded.zero_at ub.front.first ub.front.starts) (ub.coded.zeros_at ub.front.first ub.front.starts)
               rest_a rest_b on ends aw.idle bw.idle (port test.port) refl))
-          form_turns (If test comb a b) place u l x r (InThen p) fine i shows w saw =
+          form_turns (If test comb a b) place u l stage x r (InThen p) fine i shows w saw =
               let v = wired_if x test comb (lowered part a l) (lowered part b (after part a l)) place w in
               let us = law.parts_stand a (Placed (If test comb a b) place) then_branch u in
               let so : r ≡ x.position + suc (Coding.number (statement_coding leaves codings a) p) = shows.0 in
@@ -592,13 +594,13 @@ module _ (groups : ℕ) (islands : List PlainIsland) (around : NetAround) (regis
               let bw = away_wired (lowered part b (after part a l)) (behind islands (lowered part a l) (past_test x)) true r i (inr (inl less)) v.other in
               let rest_b = still_zero b (after part a l) (behind islands (lowered part a l) (past_test x)) (Coding.extra (statement_coding leaves codings b)) bw v.other
               (beside_later (Coding.extra (statement_coding leaves codings a)) (Coding.extra (statement_coding leaves codings b)) (number_of leaves codings part islands kept now_island a l x.register) (number_of leaves codings part islands kept now_island b (after part a l) (x.register + length (registers_of islands (lowered part a l)))) (Coding.other (statement_coding leaves codings a) p) zeros shows.1) in
-              let t = turns a us l (past_test x) r p fine i (so_in, beside_first (Coding.extra (statement_coding leaves codings a)) (Coding.extra (statement_coding leaves codings b)) (number_of leaves codings part islands kept now_island a l x.register) (number_of leaves codings part islands kept now_island b (after part a l) (x.register + length (registers_of islands (lowered part a l)))) (Coding.other (statement_coding leaves codings a) p) zeros shows.1) v.one saw in
+              let t = turns a us l (low_back b (after part a l) stage) (past_test x) r p fine i (so_in, beside_first (Coding.extra (statement_coding leaves codings a)) (Coding.extra (statement_coding leaves codings b)) (number_of leaves codings part islands kept now_island a l x.register) (number_of leaves codings part islands kept now_island b (after part a l) (x.register + length (registers_of islands (lowered part a l)))) (Coding.other (statement_coding leaves codings a) p) zeros shows.1) v.one saw in
               let ends = v.ends_so ∙ says_either around registers look (end_of (past_test x).wire) (end_of (behind islands (lowered part a l) (past_test x)).wire) (is_done (Machine.step (machine_of leaves a) p seen)) false t.ends bw.ends in
               if_sized test.port comb a b l x r _ _
               (if_then groups islands around registers look (statement_coding leaves codings a) (statement_coding leaves codings b) x test.port comb r (D (past_test x) (lowered part a l))
               (D (behind islands (lowered part a l) (past_test x)) (lowered part b (after part a l))) _ _ _ (port test.port) v.bit off _ (past_test x).wire (Machine.step (machine_of leaves a) p seen) bw.idle rest_b
               (ends ∙ ap (λ c. Some (truth_bit c)) (or_false (is_done (Machine.step (machine_of leaves a) p seen)))) t)
-          form_turns (If test comb a b) place u l x r (InElse p) fine i shows w saw =
+          form_turns (If test comb a b) place u l stage x r (InElse p) fine i shows w saw =
               let v = wired_if x test comb (lowered part a l) (lowered part b (after part a l)) place w in
               let us = law.parts_stand b (Placed (If test comb a b) place) else_branch u in
               let so : r ≡ x.position + suc (Coding.size (statement_coding leaves codings a) + Coding.number (statement_coding leaves codings b) p) = shows.0 in
@@ -609,7 +611,7 @@ module _ (groups : ℕ) (islands : List PlainIsland) (around : NetAround) (regis
               let off : It (at x) false = at_behind x r i past w.low v.stands_so in
               let aw = away_wired (lowered part a l) (past_test x) true r i (inr (inr past_a)) v.one in
               let rest_a = still_zero a l (past_test x) (Coding.extra (statement_coding leaves codings a)) aw v.one (beside_first (Coding.extra (statement_coding leaves codings a)) (Coding.extra (statement_coding leaves codings b)) (number_of leaves codings part islands kept now_island a l x.register) (number_of leaves codings part islands kept now_island b (after part a l) (x.register + length (registers_of islands (lowered part a l)))) zeros (Coding.other (statement_coding leaves codings b) p) shows.1) in
-              let t = turns b us (after part a l) (behind islands (lowered part a l) (past_test x)) r p fine i
+              let t = turns b us (after part a l) stage (behind islands (lowered part a l) (past_test x)) r p fine i
               (so_in, beside_later (Coding.extra (statement_coding leaves codings a)) (Coding.extra (statement_coding leaves codings b)) (number_of leaves codings part islands kept now_island a l x.register) (number_of leaves codings part islands kept now_island b (after part a l) (x.register + length (registers_of islands (lowered part a l)))) zeros (Coding.other (statement_coding leaves codings b) p) shows.1) v.other saw in
               let ends = v.ends_so ∙ says_either around registers look (end_of (past_test x).wire) (end_of (behind islands (lowered part a l) (past_test x)).wire) false (is_done (Machine.step (machine_of leaves b) p seen)) aw.ends t.ends in
               if_sized test.port comb a b l x r _ _
@@ -617,7 +619,7 @@ module _ (groups : ℕ) (islands : List PlainIsland) (around : NetAround) (regis
               (D (behind islands (lowered part a l) (past_test x)) (lowered part b (after part a l))) _ _ _ (port test.port) v.bit off _ (behind islands (lowered part a l) (past_test x)).wire (Machine.step (machine_of leaves b) p seen) aw.idle rest_a ends
               (subst (λ m. Turns groups around registers look (statement_coding leaves codings b) (behind islands (lowered part a l) (past_test x)).wire x.region (x.position + 1 + m) r
               (D (behind islands (lowered part a l) (past_test x)) (lowered part b (after part a l))) (number_of leaves codings part islands next next_island b (after part a l) (x.register + length (registers_of islands (lowered part a l)))) (going leaves codings part islands hole of_enable of_island b p) (Machine.step (machine_of leaves b) p seen)) (sym size) t))
-          form_turns (While test comb a) place u l x r AtHead fine i shows w saw =
+          form_turns (While test comb a) place u l stage x r AtHead fine i shows w saw =
               let v = wired_while x test comb (lowered part a l) place w in
               let ua = statement_coded leaves codings Stands law a (law.parts_stand a (Placed (While test comb a) place) of_while u) in
               let so : r ≡ x.position + 0 = shows.0 in
@@ -631,48 +633,48 @@ module _ (groups : ℕ) (islands : List PlainIsland) (around : NetAround) (regis
               (while_step (port test.port) (LeafMachines.test leaves test.port comb seen) saw (Machine.start (machine_of leaves a)) ua.front.first ua.front.starts)
               (while_begins groups islands around registers look (statement_coding leaves codings a) x test.port comb r (past_test x).wire (D (past_test x) (lowered part a l)) _ (port test.port) v.bit ua.front.first
               (ua.coded.zero_at ua.front.first ua.front.starts) (ua.coded.zeros_at ua.front.first ua.front.starts) rest on ends aw.ends aw.idle (port test.port) refl)
-          form_turns (While test comb a) place u l x r (InBody p) fine i shows w saw =
+          form_turns (While test comb a) place u l stage x r (InBody p) fine i shows w saw =
               let v = wired_while x test comb (lowered part a l) place w in
               let so : r ≡ x.position + suc (Coding.number (statement_coding leaves codings a) p) = shows.0 in
               let past : x.position + 1 ≤ r = omega arith in
               let so_in : r ≡ x.position + 1 + Coding.number (statement_coding leaves codings a) p = omega arith in
               let off : It (at x) false = at_behind x r i past w.low v.stands_so in
-              let t = turns a (law.parts_stand a (Placed (While test comb a) place) of_while u) l (past_test x) r p fine i (so_in, shows.1) v.body saw in
+              let t = turns a (law.parts_stand a (Placed (While test comb a) place) of_while u) l stage (past_test x) r p fine i (so_in, shows.1) v.body saw in
               let ends = v.ends_so ∙ says_both around registers look (at x) (Inverse (OfPort test.port)) false (not (port test.port)) off (says_not around registers look (OfPort test.port) (port test.port) v.bit) in
               while_goes_on groups islands around registers look (statement_coding leaves codings a) x test.port comb r (past_test x).wire (D (past_test x) (lowered part a l)) _ (port test.port) v.bit
               (Machine.step (machine_of leaves a) p seen) _ off ends t
-          form_turns (Repeat zero a) place u l x r p fine i shows w saw = turn_one x r _ i shows.0 w.low w.connects
-          form_turns (Repeat (suc k) a) place u l x r p fine i shows w saw =
+          form_turns (Repeat zero a) place u l stage x r p fine i shows w saw = turn_one x r _ i shows.0 w.low w.connects
+          form_turns (Repeat (suc k) a) place u l stage x r p fine i shows w saw =
               let v = wired_repeat x k (lowered part a l) place w in
               let us = law.parts_stand a (Placed (Repeat (suc k) a) place) of_repeat u in
               let ua = statement_coded leaves codings Stands law a us in
               round_turns a ua l x k r p.left (rounds k a place u) fine.less v.ends_so w.nexts.0 w.registers_are.0 w.nexts.1 (shows.1 0 (omega arith)) _ (Machine.step (machine_of leaves a) p.place seen)
-              (turns a us l (counted_inside x) r p.place fine.body i (shows.0, λ j less. shows.1 (suc j) (omega arith)) v.body saw)
-          form_turns (StaticSeq written parts) place u l x r p fine i shows w saw = islands_turn (Placed (StaticSeq written parts) place) u l place refl x r p fine i shows w
-          form_turns (StaticPar written arms) place u l x r p fine i shows w saw = islands_turn (Placed (StaticPar written arms) place) u l place refl x r p fine i shows w
-          form_turns (StaticIf written test a b) place u l x r p fine i shows w saw = islands_turn (Placed (StaticIf written test a b) place) u l place refl x r p fine i shows w
-          form_turns (StaticRepeat written count a) place u l x r p fine i shows w saw = islands_turn (Placed (StaticRepeat written count a) place) u l place refl x r p fine i shows w
-          form_turns (Timed k) place u l x r p fine i shows w saw = absurd (law.is_untimed k place u)
+              (turns a us l stage (counted_inside x) r p.place fine.body i (shows.0, λ j less. shows.1 (suc j) (omega arith)) v.body saw)
+          form_turns (StaticSeq written parts) place u l stage x r p fine i shows w saw = islands_turn (Placed (StaticSeq written parts) place) u l stage place refl x r p fine i shows w
+          form_turns (StaticPar written arms) place u l stage x r p fine i shows w saw = islands_turn (Placed (StaticPar written arms) place) u l stage place refl x r p fine i shows w
+          form_turns (StaticIf written test a b) place u l stage x r p fine i shows w saw = islands_turn (Placed (StaticIf written test a b) place) u l stage place refl x r p fine i shows w
+          form_turns (StaticRepeat written count a) place u l stage x r p fine i shows w saw = islands_turn (Placed (StaticRepeat written count a) place) u l stage place refl x r p fine i shows w
+          form_turns (Timed k) place u l stage x r p fine i shows w saw = absurd (law.is_untimed k place u)
 
-          pub turns : (s : PlainStatement) → Stands s → (l : Lowering) (x : Stand) (r : ℕ) (p : Machine.Place (machine_of leaves s)) → Coding.IsFine (statement_coding leaves codings s) p → Acts x r
+          pub turns : (s : PlainStatement) → Stands s → (l : Lowering) → Low (after part s l) → (x : Stand) (r : ℕ) (p : Machine.Place (machine_of leaves s)) → Coding.IsFine (statement_coding leaves codings s) p → Acts x r
               → Shows s l x r p → W x (lowered part s l) → StatementAgrees leaves codings part islands seen hole port s p → Turned s l x r p
-          turns (Placed form place) u l x r p fine i shows w saw = form_turns form place u l x r p fine i shows w saw
+          turns (Placed form place) u l stage x r p fine i shows w saw = form_turns form place u l stage x r p fine i shows w saw
 
-          parts_turn : (ss : PlainStatements) (whole : PlainStatement) → Stands whole → ((t : PlainStatement) → In (list_of ss) t → IsPart t whole) → (l : Lowering) (seq : Stand) (before : ℕ) (x : Stand) (r : ℕ) (p : Machine.Place (parts_machine leaves ss))
+          parts_turn : (ss : PlainStatements) (whole : PlainStatement) → Stands whole → ((t : PlainStatement) → In (list_of ss) t → IsPart t whole) → (l : Lowering) → Low (parts_after part ss l) → (seq : Stand) (before : ℕ) (x : Stand) (r : ℕ) (p : Machine.Place (parts_machine leaves ss))
               → Coding.IsFine (parts_coding leaves codings ss) p → Acts x r
               → (r ≡ x.position + Coding.number (parts_coding leaves codings ss) p) × ((n : ℕ) → n < Coding.extra (parts_coding leaves codings ss) → parts_number leaves codings part islands kept now_island ss l x.register n ≡ Coding.other (parts_coding leaves codings ss) p n)
               → WP seq before x (lowered_parts part ss l) → It (end_of before) false → PartsAgree leaves codings part islands seen hole port ss p
               → Turns groups around registers look (parts_coding leaves codings ss) seq.wire x.region x.position r (parts_drivers groups islands seq before x (lowered_parts part ss l))
               (parts_number leaves codings part islands next next_island ss l x.register) (parts_going leaves codings part islands hole of_enable of_island ss p) (Machine.step (parts_machine leaves ss) p seen)
-          parts_turn no_statements whole u inside_whole l seq before x r p fine i shows w off saw = absurd p
-          parts_turn (a_statement s ss) whole u inside_whole l seq before x r (First p) fine i shows w off saw =
+          parts_turn no_statements whole u inside_whole l stage seq before x r p fine i shows w off saw = absurd p
+          parts_turn (a_statement s ss) whole u inside_whole l stage seq before x r (First p) fine i shows w off saw =
               let v = wired_parts seq before x (lowered part s l) (lowered_parts part ss (after part s l)) w in
               let us = law.parts_stand s whole (inside_whole s (inl refl)) u in
               behind_idle groups around registers look _ seq.wire x.region x.position r _ _ _ _ _ off
               (seq_first s ss whole u (λ t e. inside_whole t (inr e)) us l seq x r p i shows.0
               (beside_later (Coding.extra (statement_coding leaves codings s)) (Coding.extra (parts_coding leaves codings ss)) (number_of leaves codings part islands kept now_island s l x.register) (parts_number leaves codings part islands kept now_island ss (after part s l) (x.register + length (registers_of islands (lowered part s l)))) (Coding.other (statement_coding leaves codings s) p) zeros shows.1) v.1
-              (turns s us l x r p fine i (shows.0, beside_first (Coding.extra (statement_coding leaves codings s)) (Coding.extra (parts_coding leaves codings ss)) (number_of leaves codings part islands kept now_island s l x.register) (parts_number leaves codings part islands kept now_island ss (after part s l) (x.register + length (registers_of islands (lowered part s l)))) (Coding.other (statement_coding leaves codings s) p) zeros shows.1) v.0 saw))
-          parts_turn (a_statement s ss) whole u inside_whole l seq before x r (Second p) fine i shows w off saw =
+              (turns s us l (low_parts ss (after part s l) stage) x r p fine i (shows.0, beside_first (Coding.extra (statement_coding leaves codings s)) (Coding.extra (parts_coding leaves codings ss)) (number_of leaves codings part islands kept now_island s l x.register) (parts_number leaves codings part islands kept now_island ss (after part s l) (x.register + length (registers_of islands (lowered part s l)))) (Coding.other (statement_coding leaves codings s) p) zeros shows.1) v.0 saw))
+          parts_turn (a_statement s ss) whole u inside_whole l stage seq before x r (Second p) fine i shows w off saw =
               let v = wired_parts seq before x (lowered part s l) (lowered_parts part ss (after part s l)) w in
               let size : Coding.size (statement_coding leaves codings s) ≡ positions_of (lowered part s l) = size_is s l in
               let so : r ≡ x.position + (Coding.size (statement_coding leaves codings s) + Coding.number (parts_coding leaves codings ss) p) = shows.0 in
@@ -682,16 +684,16 @@ module _ (groups : ℕ) (islands : List PlainIsland) (around : NetAround) (regis
               behind_idle groups around registers look _ seq.wire x.region x.position r _ _ _ _ _ off
               (seq_second s ss l seq x r p a
               (still_zero s l x (Coding.extra (statement_coding leaves codings s)) a v.0 (beside_first (Coding.extra (statement_coding leaves codings s)) (Coding.extra (parts_coding leaves codings ss)) (number_of leaves codings part islands kept now_island s l x.register) (parts_number leaves codings part islands kept now_island ss (after part s l) (x.register + length (registers_of islands (lowered part s l)))) zeros (Coding.other (parts_coding leaves codings ss) p) shows.1))
-              (parts_turn ss whole u (λ t e. inside_whole t (inr e)) (after part s l) seq x.wire (behind islands (lowered part s l) x) r p fine i
+              (parts_turn ss whole u (λ t e. inside_whole t (inr e)) (after part s l) stage seq x.wire (behind islands (lowered part s l) x) r p fine i
               (so_behind, beside_later (Coding.extra (statement_coding leaves codings s)) (Coding.extra (parts_coding leaves codings ss)) (number_of leaves codings part islands kept now_island s l x.register) (parts_number leaves codings part islands kept now_island ss (after part s l) (x.register + length (registers_of islands (lowered part s l)))) zeros (Coding.other (parts_coding leaves codings ss) p) shows.1) v.1 a.ends saw))
 
-          arms_turn : (arms : PlainStatements) (whole : PlainStatement) → Stands whole → ((t : PlainStatement) → In (list_of arms) t → IsPart t whole) → (l : Lowering) (par : Stand) (wire register : ℕ) (k : Control (Machine.Place (arms_machine leaves arms)))
+          arms_turn : (arms : PlainStatements) (whole : PlainStatement) → Stands whole → ((t : PlainStatement) → In (list_of arms) t → IsPart t whole) → (l : Lowering) → Low (parts_after part arms l) → (par : Stand) (wire register : ℕ) (k : Control (Machine.Place (arms_machine leaves arms)))
               → at_fine (Bank.IsFine (arms_bank leaves codings arms)) k → It (at par) true
               → ((n : ℕ) → n < Bank.count (arms_bank leaves codings arms) → arms_number leaves codings part islands kept now_island arms l register n ≡ Bank.code (arms_bank leaves codings arms) k n)
               → WA par wire register (lowered_parts part arms l) → at_fine (ArmsAgree leaves codings part islands seen hole port arms) k → ArmsTurn arms l par wire register k (step (arms_machine leaves arms) k seen)
-          arms_turn no_statements whole u inside_whole l par wire register (At p) fine on nums w saw = absurd p
-          arms_turn no_statements whole u inside_whole l par wire register Done fine on nums w saw = record { over = refl; goes_so = λ g o. refl; nexts = λ e h all n less. none_below n less }
-          arms_turn (a_statement s ss) whole u inside_whole l par wire register k fine on nums w saw =
+          arms_turn no_statements whole u inside_whole l stage par wire register (At p) fine on nums w saw = absurd p
+          arms_turn no_statements whole u inside_whole l stage par wire register Done fine on nums w saw = record { over = refl; goes_so = λ g o. refl; nexts = λ e h all n less. none_below n less }
+          arms_turn (a_statement s ss) whole u inside_whole l stage par wire register k fine on nums w saw =
               let v = wired_arms par wire register (lowered part s l) (lowered_parts part ss (after part s l)) w in
               let us = law.parts_stand s whole (inside_whole s (inl refl)) u in
               let ea = suc (Coding.extra (statement_coding leaves codings s)) in
@@ -701,8 +703,8 @@ module _ (groups : ℕ) (islands : List PlainIsland) (around : NetAround) (regis
               (arm_of s us l par wire register (left_control k) (left_fine (region_bank (statement_coding leaves codings s)) (arms_bank leaves codings ss) k fine) on
               (beside_first (suc (Coding.extra (statement_coding leaves codings s))) (Bank.count (arms_bank leaves codings ss)) (counted (kept register) (number_of leaves codings part islands kept now_island s l (suc register))) (arms_number leaves codings part islands kept now_island ss (after part s l) (suc register + length (registers_of islands (lowered part s l)))) (bank_code (statement_coding leaves codings s) (left_control k)) (Bank.code (arms_bank leaves codings ss) (right_control k)) nums) v.0 w.registers_are.0 w.nexts.0
               (left_says (StatementAgrees leaves codings part islands seen hole port s) (ArmsAgree leaves codings part islands seen hole port ss) k saw)
-              (λ p f shows_it saw_it. turns s us l (arm_stand par wire register) (kept register) p f (record { acts_so = on; width = 32; at_position = w.registers_are.0 }) shows_it v.0 saw_it))
-              (arms_turn ss whole u (λ t e. inside_whole t (inr e)) (after part s l) par (wire + wires_of (lowered part s l)) (suc register + length (registers_of islands (lowered part s l))) (right_control k)
+              (λ p f shows_it saw_it. turns s us l (low_parts ss (after part s l) stage) (arm_stand par wire register) (kept register) p f (record { acts_so = on; width = 32; at_position = w.registers_are.0 }) shows_it v.0 saw_it))
+              (arms_turn ss whole u (λ t e. inside_whole t (inr e)) (after part s l) stage par (wire + wires_of (lowered part s l)) (suc register + length (registers_of islands (lowered part s l))) (right_control k)
               (right_fine (region_bank (statement_coding leaves codings s)) (arms_bank leaves codings ss) k fine) on
               (beside_later (suc (Coding.extra (statement_coding leaves codings s))) (Bank.count (arms_bank leaves codings ss)) (counted (kept register) (number_of leaves codings part islands kept now_island s l (suc register))) (arms_number leaves codings part islands kept now_island ss (after part s l) (suc register + length (registers_of islands (lowered part s l)))) (bank_code (statement_coding leaves codings s) (left_control k)) (Bank.code (arms_bank leaves codings ss) (right_control k)) nums) v.1
               (right_says (StatementAgrees leaves codings part islands seen hole port s) (ArmsAgree leaves codings part islands seen hole port ss) k saw)))

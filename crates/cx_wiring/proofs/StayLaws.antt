@@ -16,7 +16,8 @@ use Rattle.cx_wiring.specs.Parts.{word, drive}
 use Rattle.cx_wiring.specs.Stands.{Stand, end_of, inside, past_test, behind}
 use Rattle.cx_wiring.specs.Control.{arm_stand, arm_restarts, arm_finishes, counted_inside, counting, comb_goes, form_drivers, drivers_of, parts_drivers, arms_drivers}
 use Rattle.cx_wiring.specs.Takings.{takes, AllIdle}
-use Rattle.cx_wiring.specs.Shown.{wide, enable_number, counted, form_number, number_of, parts_number, arms_number, StatementNexts, PartsNext, ArmsNext}
+use Rattle.cx_wiring.specs.IslandTakes.{IslandNexts}
+use Rattle.cx_wiring.specs.Shown.{wide, enable_number, counted, form_number, number_of, parts_number, arms_number, FormNexts, StatementNexts, PartsNext, ArmsNext}
 use Rattle.cx_wiring.proofs.TakingLemmas.{idle_passes, idle_both, idle_split}
 
 pub beside_pointwise : (c : ℕ) (a b f g : ℕ → ℕ) → ((j : ℕ) → a j ≡ 0 → f j ≡ 0) → ((j : ℕ) → b j ≡ 0 → g j ≡ 0) → (n : ℕ) → beside c a b n ≡ 0 → beside c f g n ≡ 0
@@ -35,11 +36,11 @@ module _ (groups : ℕ) (islands : List PlainIsland) (around : NetAround) (regis
   keeps n ds idle e = wide_is (kept n) (next n) (sym (idle_passes around registers look (ToRegister n) tt (Some (wide (kept n))) ds idle) ∙ e)
 
   module _ {X : Type 0} {V : X → Type 0} {F : Type 0} (leaves : LeafMachines X V F) (codings : LeafCodings leaves) (part : PlainComponent) (now_island next_island : ℕ → ℕ → ℕ → ℕ)
-      (island_rests : (k : ℕ) (x : Stand) → AllIdle around registers look (form_drivers groups islands x (Timed k)) → (n : ℕ) → now_island x.register k n ≡ 0 → next_island x.register k n ≡ 0) where
-    enable_stays : (g : ℕ) (o : Option ℕ) (l : Lowering) (x : Stand) → AllIdle around registers look (form_drivers groups islands x (lowered_enable part g o l)) → (n : ℕ)
+      (island_rests : (k : ℕ) (x : Stand) → AllIdle around registers look (form_drivers groups islands x (Timed k)) → IslandNexts groups islands around registers look kept next k x → (n : ℕ) → now_island x.register k n ≡ 0 → next_island x.register k n ≡ 0) where
+    enable_stays : (g : ℕ) (o : Option ℕ) (l : Lowering) (x : Stand) → AllIdle around registers look (form_drivers groups islands x (lowered_enable part g o l)) → FormNexts groups islands around registers look kept next x (lowered_enable part g o l) → (n : ℕ)
         → enable_number leaves codings part islands kept now_island o l x.register n ≡ 0 → enable_number leaves codings part islands next next_island o l x.register n ≡ 0
-    enable_stays g None l x idle n e = refl
-    enable_stays g (Some cycles) l x idle n e = island_rests _ x idle n e
+    enable_stays g None l x idle h n e = refl
+    enable_stays g (Some cycles) l x idle h n e = island_rests _ x idle h n e
 
     counted_stays : (a b : ℕ) (f g : ℕ → ℕ) → a ≡ b → ((n : ℕ) → f n ≡ 0 → g n ≡ 0) → (n : ℕ) → counted a f n ≡ 0 → counted b g n ≡ 0
     counted_stays a b f g same later zero e = sym same ∙ e
@@ -50,7 +51,7 @@ module _ (groups : ℕ) (islands : List PlainIsland) (around : NetAround) (regis
           → StatementNexts groups islands around registers look kept next x (lowered part (Placed form (record { line = 1; column = 1 })) l) → (n : ℕ)
           → form_number leaves codings part islands kept now_island form l x.register n ≡ 0 → form_number leaves codings part islands next next_island form l x.register n ≡ 0
       form_stays Empty l x idle h n e = refl
-      form_stays (Enable g) l x idle h n e = enable_stays g (group_length part g) l x idle n e
+      form_stays (Enable g) l x idle h n e = enable_stays g (group_length part g) l x idle h n e
       form_stays (Seq no_statements) l x idle h n e = refl
       form_stays (Seq (a_statement s ss)) l x idle h n e =
           let i = idle_split around registers look (drivers_of groups islands (inside x) (lowered part s l)) _ idle in
@@ -71,10 +72,10 @@ module _ (groups : ℕ) (islands : List PlainIsland) (around : NetAround) (regis
       form_stays (Repeat (suc k) a) l x idle h n e =
           let i = idle_split around registers look (drivers_of groups islands (counted_inside x) (lowered part a l)) (counting x k) idle in
           counted_stays _ _ _ _ (keeps x.register (drive (ToRegister x.register) (end_of x.wire) (word 0) ∷ drive (ToRegister x.register) (end_of (suc (suc x.wire))) (Sum (OfRegister x.register) (word 1)) ∷ []) (i.1.1.1.0, (i.1.1.1.1.0, tt)) h.1) (λ j. stays a l (counted_inside x) i.0 h.2 j) n e
-      form_stays (StaticSeq written parts) l x idle h n e = island_rests _ x idle n e
-      form_stays (StaticPar written arms) l x idle h n e = island_rests _ x idle n e
-      form_stays (StaticIf written test a b) l x idle h n e = island_rests _ x idle n e
-      form_stays (StaticRepeat written count a) l x idle h n e = island_rests _ x idle n e
+      form_stays (StaticSeq written parts) l x idle h n e = island_rests _ x idle h n e
+      form_stays (StaticPar written arms) l x idle h n e = island_rests _ x idle h n e
+      form_stays (StaticIf written test a b) l x idle h n e = island_rests _ x idle h n e
+      form_stays (StaticRepeat written count a) l x idle h n e = island_rests _ x idle h n e
       form_stays (Timed k) l x idle h n e = refl
 
       pub stays : (s : PlainStatement) (l : Lowering) (x : Stand) → AllIdle around registers look (drivers_of groups islands x (lowered part s l))

@@ -13,6 +13,7 @@ pub mod Bounds
 pub mod NetNames
 pub mod Takings
 pub mod Standing
+pub mod IslandTakes
 pub mod Shown
 pub mod Turning
 pub mod Wired
@@ -21,5 +22,6 @@ pub mod InNet
 pub mod NetBits
 pub mod Blocks
 pub mod BlockNumbers
+pub mod TimerCounts
+pub mod IslandNumbers
 pub mod PortValues
-pub mod IslandTakes

@@ -22,6 +22,7 @@ use Rattle.cx_wiring.specs.Control.{arm_stand, arm_restarts, arm_finishes, count
 use Rattle.cx_wiring.specs.Parts.{word, drive}
 use Rattle.cx_net.specs.Nets as nets
 use Rattle.cx_wiring.specs.Takings.{takes}
+use Rattle.cx_wiring.specs.IslandTakes.{IslandNexts}
 
 -- a number of 32 bits
 abbrev pub wide : ℕ → BitVector
@@ -190,7 +191,7 @@ module _ {X : Type 0} {V : X → Type 0} {F : Type 0} (leaves : LeafMachines X V
       arms_going no_statements p = []
       arms_going (a_statement s ss) p = par_runs (going s) (arms_going ss) p
 
--- NEXT VALUES of the registers of arms and rounds, each by its own drivers
+-- NEXT VALUES of the registers of arms and rounds, each by its own drivers, and all that an island takes
 module _ (groups : ℕ) (islands : List PlainIsland) (around : NetAround) (registers : ℕ → Option BitVector) (look : Node → Option BitVector) (kept next : ℕ → ℕ) where
   abbrev mutual
     pub FormNexts : Stand → PlainForm → Type 0
@@ -213,7 +214,7 @@ module _ (groups : ℕ) (islands : List PlainIsland) (around : NetAround) (regis
     FormNexts x (StaticPar written arms) = Unit {0}
     FormNexts x (StaticIf written test a b) = Unit {0}
     FormNexts x (StaticRepeat written count a) = Unit {0}
-    FormNexts x (Timed k) = Unit {0}
+    FormNexts x (Timed k) = IslandNexts groups islands around registers look kept next k x
 
     pub StatementNexts : Stand → PlainStatement → Type 0
     StatementNexts x (Placed form place) = FormNexts x form
