@@ -104,3 +104,4 @@ pub mod NodeKnown
 pub mod CellForms
 pub mod GroundTree
 pub mod GroundedNets
+pub mod StaticGoes

@@ -31,10 +31,10 @@ IsOn act g = (u : ℕ) × (act.offset g ≡ Some u)
 only_on : (g h : ℕ) → g ≡ h → IsOn (group g) h
 only_on g h e = (0, ap (λ b. if b then Some 0 else None) (eq-eqb g h e))
 
-union_left : (act other : Active) (g : ℕ) → IsOn act g → IsOn (union act other) g
+pub union_left : (act other : Active) (g : ℕ) → IsOn act g → IsOn (union act other) g
 union_left act other g on = (on.0, ap (λ o. or_else o (other.offset g)) on.1)
 
-union_right : (act other : Active) (g : ℕ) → IsOn other g → IsOn (union act other) g
+pub union_right : (act other : Active) (g : ℕ) → IsOn other g → IsOn (union act other) g
 union_right act other g on = by (act.offset g) refl
   where
     by : (o : Option ℕ) → act.offset g ≡ o → (u : ℕ) × (or_else (act.offset g) (other.offset g) ≡ Some u)
