@@ -105,3 +105,5 @@ pub mod CellForms
 pub mod GroundTree
 pub mod GroundedNets
 pub mod StaticGoes
+pub mod IslandKnown
+pub mod IslandGoes
