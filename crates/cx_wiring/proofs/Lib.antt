@@ -123,3 +123,6 @@ pub mod NodeKnown
 pub mod CellForms
 pub mod GroundTree
 pub mod GroundedNets
+pub mod StaticGoes
+pub mod IslandKnown
+pub mod IslandGoes

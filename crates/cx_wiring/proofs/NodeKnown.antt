@@ -191,8 +191,7 @@ module _ (d : PlainDesign) (part : PlainComponent) (cells : Cells) (numbers : In
 
   pub record IslandsOwe : Type 0 where
     pub offsets : (g : ℕ) → g < groups (lowered_component part) → KE (OfWire g)
-    pub goes : (holes : (g : ℕ) → g < groups (lowered_component part) → KE (OfHole g))
-        → StatementIsles part (groups (lowered_component part)) (lowered_component part).islands around Reg (look []) (groups (lowered_component part) + island_wires (lowered_component part).islands) (s.register []) holes part.control (unlowered part)
+    pub goes : StatementIsles part (groups (lowered_component part)) (lowered_component part).islands around Reg (look []) (groups (lowered_component part) + island_wires (lowered_component part).islands) (s.register []) part.control (unlowered part)
         (whole_stand (first_of_control (lowered_component part)))
     pub isles : StatementIslands IsleFed (lowered_component part).islands (whole_stand (first_of_control (lowered_component part))) (lowered part part.control (unlowered part))
 
@@ -226,12 +225,12 @@ module _ (d : PlainDesign) (part : PlainComponent) (cells : Cells) (numbers : In
             (NodeRules.islands_named (SeamRules.node seam)) refl (first_of_control (lowered_component part)) control (NodeRules.control_named (SeamRules.node seam)) (record { wire_in = λ n low high. refl; register_in = λ n low high. refl })
 
     -- WHAT GOES
-    what_goes : Goes part (groups (lowered_component part)) (lowered_component part).islands around Reg (look []) (groups (lowered_component part) + island_wires (lowered_component part).islands) (s.register []) done_hole
+    what_goes : Goes part (groups (lowered_component part)) (lowered_component part).islands around Reg (look []) (groups (lowered_component part) + island_wires (lowered_component part).islands) (s.register [])
         part.control OfGo (s.register [] 0) 0 (positions_of control) SD
     what_goes =
         statement_goes part (groups (lowered_component part)) (lowered_component part).islands around Reg (look []) (groups (lowered_component part) + island_wires (lowered_component part).islands) (s.register []) done_hole part.control (unlowered part)
         (whole_stand (first_of_control (lowered_component part))) (s.register [] 0) (record { acts_known = go_known; width = 32; is = registers_are.0 }) (omega arith) control_connects registers_are.1 (NodeRules.control_named (SeamRules.node seam))
-        (IslandsOwe.goes owe done_hole)
+        (IslandsOwe.goes owe)
 
     go_hole : (g : ℕ) → g < groups (lowered_component part) → (b : BitVector) × (look [] (AHole (groups (lowered_component part) + g)) ≡ Some b) × (is_true b ≡ true → IsOn (Goes.act what_goes) g)
     go_hole g less =
