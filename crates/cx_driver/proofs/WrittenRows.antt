@@ -27,7 +27,7 @@ pub written_rows : (d : PlainDesign) (lowered : PlainLowereds) (net holeless : P
     → rows ≡ rows_of (net_component_at holeless holeless.main).cells → rows ≡ external_rows d
 written_rows d lowered net holeless rows keeps l n h r =
     let whole = net_of (lowered_of d) in
-    r ∙ ap (λ made. rows_of (net_component_at made made.main).cells) (h ∙ ap (λ made. inlined made) (n ∙ ap (λ made. net_of made) l))
+    r ∙ ap (λ (made : PlainNet). rows_of (net_component_at made made.main).cells) (h ∙ ap (λ made. inlined made) (n ∙ ap (λ made. net_of made) l))
     ∙ ap (λ cells. rows_of cells) (cells-inlined whole whole.main)
     ∙ rows_of-net_of d (main_within d keeps)
 
