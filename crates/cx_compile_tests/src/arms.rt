@@ -26,14 +26,26 @@ const TURNS: [(&str, u64, u64); 7] = [
     ("par { seq { } par { } seq { } }", 1, 5),
     ("seq { par { p; seq { s; u; s; } } sum; }", 8, 4),
     ("seq { repeat 3 { par { ix; s; } } sum; }", 8, 6),
-    ("seq { par { while lx.out with cx { ix; } repeat 2 { s; } } sum; }", 21, 9),
+    (
+        "seq { par { while lx.out with cx { ix; } repeat 2 { s; } } sum; }",
+        21,
+        9,
+    ),
     (
         "seq { fx; par { if bx.out { p; q; } else { p; } if by.out { s; } else { u; s; } } sum; }",
         9,
         5,
     ),
-    ("seq { repeat 2 { par { ix; s; } } par { ix; repeat 3 { u; } } sum; }", 12, 8),
-    ("seq { par { par { par { ix; s; } t; } fx; } par { seq { ix; ix; } u; } sum; }", 8, 8),
+    (
+        "seq { repeat 2 { par { ix; s; } } par { ix; repeat 3 { u; } } sum; }",
+        12,
+        8,
+    ),
+    (
+        "seq { par { par { par { ix; s; } t; } fx; } par { seq { ix; ix; } u; } sum; }",
+        8,
+        8,
+    ),
 ];
 
 /// Each control that meets a fault, with its turn.

@@ -38,8 +38,16 @@ component acc(x: 32) -> (y: 32) { cells { r = std_reg(32); a = std_add(32); } wi
 /// Each control, its turns, and the word that it leaves.
 const TURNS: [(&str, u64, u64); 9] = [
     ("seq { invoke n()(); invoke n()(); }", 4, 5),
-    ("seq { invoke c(x = 32'd3)(); invoke c(x = 32'd5)(); sc; }", 12, 10),
-    ("seq { invoke q(x = 32'd3)(y = k.in, odd = b.in); if b.out { sk; } }", 19, 12),
+    (
+        "seq { invoke c(x = 32'd3)(); invoke c(x = 32'd5)(); sc; }",
+        12,
+        10,
+    ),
+    (
+        "seq { invoke q(x = 32'd3)(y = k.in, odd = b.in); if b.out { sk; } }",
+        19,
+        12,
+    ),
     (
         "seq { invoke e(x = 32'd3)(); invoke e(x = 32'd4)(); repeat 3 { invoke e(x = 32'd10)(); } se; }",
         17,
@@ -48,7 +56,11 @@ const TURNS: [(&str, u64, u64); 9] = [
     ("seq { k7; g; sc; }", 9, 14),
     ("seq { two; sk; }", 8, 10),
     ("seq { k7; mix; sk; }", 10, 21),
-    ("seq { par { invoke c(x = 32'd3)(); invoke d(x = 32'd4)(y = k.in); } sc; }", 8, 6),
+    (
+        "seq { par { invoke c(x = 32'd3)(); invoke d(x = 32'd4)(y = k.in); } sc; }",
+        8,
+        6,
+    ),
     ("seq { k7; invoke k(in = 32'd9)(out = l.in); sk; }", 7, 9),
 ];
 

@@ -24,11 +24,19 @@ const TURNS: [(&str, u64, u64); 9] = [
     ("seq { inc; now; st; }", 5, 1),
     ("seq { if b.out { inc; } else { inc; inc; } st; }", 7, 2),
     ("seq { inc; if r.done { inc; } st; }", 6, 1),
-    ("seq { while lt.out with c7 { while lt.out with c3 { inc; } inc; } st; }", 28, 7),
+    (
+        "seq { while lt.out with c7 { while lt.out with c3 { inc; } inc; } st; }",
+        28,
+        7,
+    ),
     ("seq { repeat 0 { inc; } repeat 3 { inc; } st; }", 9, 3),
     ("seq { repeat 5 { } st; }", 7, 0),
     ("seq { repeat 3 { repeat 2 { inc; } inc; } st; }", 20, 9),
-    ("seq { repeat 2 { z; while lt.out with c3 { repeat 2 { inc; } } } st; }", 28, 4),
+    (
+        "seq { repeat 2 { z; while lt.out with c3 { repeat 2 { inc; } } } st; }",
+        28,
+        4,
+    ),
 ];
 
 /// Each control that meets a fault, with its turn.

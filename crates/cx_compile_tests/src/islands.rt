@@ -30,15 +30,27 @@ const TURNS: [(&str, u64, u64); 11] = [
         13,
         6,
     ),
-    ("seq { z; static if b.out { i; } else { i; w; i; } i; st; }", 12, 2),
-    ("seq { static repeat 5 { static if b.out { f; } else { f; i; } } st; }", 13, 3),
+    (
+        "seq { z; static if b.out { i; } else { i; w; i; } i; st; }",
+        12,
+        2,
+    ),
+    (
+        "seq { static repeat 5 { static if b.out { f; } else { f; i; } } st; }",
+        13,
+        3,
+    ),
     (
         "seq { z; static if b.out { static if v.out { f; static if b.out { i; } else { i; i; } } else { w; } } st; }",
         8,
         2,
     ),
     ("seq { static seq { i; mu; mu; } st; }", 12, 49),
-    ("seq { par { static repeat 4 { i; } seq { z; z; } } st; }", 7, 4),
+    (
+        "seq { par { static repeat 4 { i; } seq { z; z; } } st; }",
+        7,
+        4,
+    ),
     ("seq { z; while b.out { static seq { i; f; } } st; }", 9, 1),
     (
         "seq { static<8> seq { static<4> repeat 2 { static<2> seq { i; i; } } static<3> par { w; } static<1> if b.out { i; } } st; }",

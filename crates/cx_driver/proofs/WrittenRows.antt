@@ -23,13 +23,19 @@ main_within : (d : PlainDesign) → ∥ IsDesign d ∥₁ → d.main < length d.
 main_within d keeps = ∥∥₁_elim keeps (hlevel props) (λ k. k.main_there)
 
 -- pass by pass
-pub written_rows : (d : PlainDesign) (lowered : PlainLowereds) (net holeless : PlainNet) (rows : List PlainRow) → ∥ IsDesign d ∥₁ → lowered ≡ lowered_of d → net ≡ net_of lowered → holeless ≡ inlined net
-    → rows ≡ rows_of (net_component_at holeless holeless.main).cells → rows ≡ external_rows d
-written_rows d lowered net holeless rows keeps l n h r =
+passed : (d : PlainDesign) (lowered : PlainLowereds) (net holeless : PlainNet) → ∥ IsDesign d ∥₁ → lowered ≡ lowered_of d → net ≡ net_of lowered → holeless ≡ inlined net
+    → rows_of (net_component_at holeless holeless.main).cells ≡ external_rows d
+passed d lowered net holeless keeps l n h =
     let whole = net_of (lowered_of d) in
-    r ∙ ap (λ (made : PlainNet). rows_of (net_component_at made made.main).cells) (h ∙ ap (λ made. inlined made) (n ∙ ap (λ made. net_of made) l))
+    ap (λ (made : PlainNet). rows_of (net_component_at made made.main).cells) (h ∙ ap (λ made. inlined made) (n ∙ ap (λ made. net_of made) l))
     ∙ ap (λ cells. rows_of cells) (cells-inlined whole whole.main)
     ∙ rows_of-net_of d (main_within d keeps)
+
+pub written_rows : {X F : Type 0} (rows : X → List PlainRow) (d : PlainDesign) (lowered : PlainLowereds) (net holeless : PlainNet) (r : Result X F) → ∥ IsDesign d ∥₁
+    → lowered ≡ lowered_of d → net ≡ net_of lowered → holeless ≡ inlined net
+    → IfOk r (λ x. rows x ≡ rows_of (net_component_at holeless holeless.main).cells) → IfOk r (λ x. rows x ≡ external_rows d)
+written_rows rows d lowered net holeless (Ok x) keeps l n h own = own ∙ passed d lowered net holeless keeps l n h
+written_rows rows d lowered net holeless (Err fault) keeps l n h own = tt
 
 -- and the text that spells it
 pub spelt_for : {X F : Type 0} (bytes : X → List ℕ) (d : PlainDesign) (source : PlainSource) (r : Result X F) → text.rows_of source.externals ≡ external_rows d
