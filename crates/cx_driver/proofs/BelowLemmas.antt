@@ -1,5 +1,5 @@
 -- A cycle within the bound, budgets of main, and data that loads fits.
-use Rattle.std.proofs.Common.{◌≡◌, ℕ, ◌+◌, ◌≤◌, List, Option, Some, None, Result, Ok, Err, refl, arith}
+use Rattle.std.proofs.Common.{◌≡◌, ℕ, ◌+◌, ◌≤◌, List, Option, Some, None, Ok, refl, arith}
 use Rattle.cx_text.specs.Loading.{PlainRow, PlainMemory, FitsRows}
 use Rattle.serde_json.specs.Data.{Data}
 use Rattle.cx_data.specs.Load.{top_of, from_top, load_of}

@@ -1,5 +1,5 @@
 -- Why a command has no answer.
-use Rattle.std.proofs.Common.{◌≡◌, ◌⊎◌, inl, inr, ⊎_elim, ℕ, List, [], ◌∷◌, ◌++◌, Option, Some, None, Contains, Result, Ok, Err, IfOk, IfErr, OnOk, OnErr, codes, refl, sym, ap, ◌∙◌, subst}
+use Rattle.std.proofs.Common.{◌≡◌, ◌⊎◌, inl, inr, ⊎_elim, ℕ, List, Option, Some, None, Contains, Result, Ok, Err, IfOk, IfErr, OnOk, OnErr, codes, sym, ap, ◌∙◌, subst}
 use Rattle.cx_text.specs.declared.limits.TheConstants.{DESIGN_BYTES}
 use Rattle.cx_commands.specs.Commands.{Asked, check, files_of, wanted_by}
 use Rattle.cx_commands.specs.Reads.{HoldsWithin, IsReadFault}

@@ -1,5 +1,5 @@
 -- A text is compiled or refused, and not both; and what is told of it is one thing.
-use Rattle.std.proofs.Common.{◌≡◌, ◌⊎◌, inl, inr, ℕ, ◌<◌, ◌≤◌, List, Result, Ok, Err, IfOk, IfErr, MatchResult, refl, sym, ap, ◌∙◌, arith}
+use Rattle.std.proofs.Common.{◌≡◌, ◌⊎◌, inl, inr, ℕ, ◌≤◌, List, Result, Ok, Err, IfOk, IfErr, MatchResult, refl, sym, ap, ◌∙◌, arith}
 use Rattle.cx_text.specs.declared.diagnostics.Diagnostic.{Diagnostic}
 use Rattle.cx_text.specs.declared.limits.TheConstants.{COMPILE_SIZE}
 use Rattle.cx_meaning.specs.Designs.{PlainDesign}

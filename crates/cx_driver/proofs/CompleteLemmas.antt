@@ -6,7 +6,7 @@ use Rattle.cx_commands.specs.Commands.{Asked, compile, interp, check, sim, wante
 use Rattle.cx_driver.specs.Compiled.{Compiles}
 use Rattle.cx_driver.specs.Interpreted.{Interprets}
 use Rattle.cx_driver.specs.Outcomes.{Checks, Does, IsAnswer, CanAnswer}
-use Rattle.cx_commands.specs.Reads.{HoldsWithin, OfFile}
+use Rattle.cx_commands.specs.Reads.{OfFile}
 use Rattle.cx_driver.specs.Simulated.{Simulates}
 use Rattle.cx_driver.specs.Causes.{HasCause}
 use Rattle.cx_commands.specs.Statuses.{status_of}

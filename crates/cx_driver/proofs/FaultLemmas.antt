@@ -1,5 +1,5 @@
 -- A fault that is told by the number of its instance, as messages name it.
-use Rattle.std.proofs.Common.{◌≡◌, ◌⊎◌, inl, inr, ℕ, List, Result, Ok, Err, sym, ap, ◌∙◌, subst}
+use Rattle.std.proofs.Common.{◌≡◌, ℕ, List, ap, ◌∙◌}
 use Rattle.cx_meaning.specs.Cycles.{Fault}
 use Rattle.cx_meaning.specs.Designs.{PlainDesign}
 use Rattle.cx_meaning.specs.Instances.{tree_of}
@@ -7,7 +7,6 @@ use Rattle.cx_design.specs.declared.actives.PortFault.{PortFault}
 use Rattle.cx_design.specs.PlainActives.{TellsFault}
 use Rattle.cx_state.specs.Paths.{TellsPort, full_path}
 use Rattle.cx_driver.specs.Interpreted.{fault_stop}
-use Rattle.cx_commands.specs.declared.stops.Stop.{Stop}
 use Rattle.cx_commands.specs.declared.stops.Stop.TheVariants as stops
 
 -- the port of a fault by its path

@@ -1,5 +1,5 @@
 -- What a text does on a data file is one thing, and it is made of what its parts do.
-use Rattle.std.proofs.Common.{◌≡◌, ◌⊎◌, inl, inr, ⊎_elim, ℕ, List, Result, Ok, Err, IfOk, IfErr, MatchResult, refl, sym, ap, ◌∙◌, subst}
+use Rattle.std.proofs.Common.{◌≡◌, inl, inr, ℕ, List, Result, Ok, Err, IfOk, IfErr, sym, ap, ◌∙◌}
 use Rattle.cx_text.specs.Loading.{PlainRow, PlainMemory}
 use Rattle.cx_data.specs.Load.{load_of}
 use Rattle.cx_meaning.specs.Designs.{PlainDesign}
@@ -8,7 +8,7 @@ use Rattle.cx_commands.specs.declared.stops.Stop.{Stop}
 use Rattle.cx_commands.specs.declared.stops.Stop.TheVariants as stops
 use Rattle.cx_driver.specs.Loads.{IsUnloaded}
 use Rattle.cx_driver.specs.Texts.{IsDesignOf, IsTextRefusal}
-use Rattle.cx_driver.specs.Interpreted.{loaded_result, design_result, Interprets, IsInterpAnswer, IsInterpStop, StopsText, IsDesignAnswer, IsDesignStop, IsRunAnswer, StopsRun}
+use Rattle.cx_driver.specs.Interpreted.{loaded_result, design_result, Interprets, IsInterpAnswer, IsInterpStop, IsDesignAnswer, IsDesignStop, IsRunAnswer, StopsRun}
 use Rattle.cx_driver.proofs.TextLemmas.{one_design, text_of_design, accepted_once, break_once}
 
 -- WHAT A TEXT DOES is one thing

@@ -7,6 +7,7 @@ pub mod FaultLemmas
 pub mod RanLemmas
 pub mod SimLemmas
 pub mod CompileLemmas
+pub mod WrittenRows
 pub mod CauseLemmas
 pub mod CompleteLemmas
 pub mod BelowLemmas

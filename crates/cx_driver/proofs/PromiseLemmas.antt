@@ -1,6 +1,6 @@
 -- The promise is kept by whatever `compile` writes.
-use Rattle.std.proofs.Common.{◌≡◌, ◌≢◌, ◌⊎◌, inl, inr, ◌↔◌, ℕ, ◌≤◌, List, Result, Ok, Err, refl, sym, ap, ◌∙◌, subst, arith}
-use Rattle.cx_text.specs.Loading.{PlainRow, PlainMemory, FitsRows, words_loaded, with_words}
+use Rattle.std.proofs.Common.{◌≡◌, ◌≢◌, inl, inr, ℕ, ◌≤◌, List, Result, Ok, Err, refl, sym, ap, ◌∙◌, subst}
+use Rattle.cx_text.specs.Loading.{PlainMemory, FitsRows, words_loaded, with_words}
 use Rattle.cx_data.specs.Dump.{dump_text}
 use Rattle.cx_data.specs.Load.{load_of}
 use Rattle.cx_data.specs.declared.faults.DataFault.{DataFault}
@@ -13,17 +13,14 @@ use Rattle.cx_meaning.specs.Running.{run_main}
 use Rattle.cx_meaning.specs.Budgets.{Grows}
 use Rattle.cx_rules.specs.Externals.{external_rows}
 use Rattle.cx_vtree.specs.Plain.{PlainSource}
-use Rattle.cx_vtree.specs.PlainParts.{rows_of}
 use Rattle.cx_vtree.specs.SimRun.{Outcome, DoneAt, LoopAt, NotDone, SimRun}
 use Rattle.cx_vtree.proofs.Runs.{one_outcome}
 use Rattle.cx_driver.specs.Texts.{IsDesignOf}
 use Rattle.cx_driver.specs.Interpreted.{told_of, loaded_result, design_result, Interprets}
-use Rattle.cx_commands.specs.declared.stops.Stop.{Stop}
 use Rattle.cx_commands.specs.declared.stops.Stop.TheVariants as stops
 use Rattle.cx_realises.specs.Realises.{HasOutcome, comes, waits, Realises}
 use Rattle.cx_driver.specs.Simulated.{IsVerilogOf, told_outcome, LoadedDoes, SourceDoes, Simulates}
-use Rattle.cx_driver.specs.Compiled.{IsCompiled}
-use Rattle.cx_driver.specs.Promise.{IsFault, a_fault, EndsOrFaults, ends_so, faults, IsRunIn, KeepsPromise, PromiseIsKept}
+use Rattle.cx_driver.specs.Promise.{a_fault, EndsOrFaults, ends_so, faults, IsRunIn, KeepsPromise, PromiseIsKept}
 use Rattle.cx_driver.proofs.Once.{Told}
 use Rattle.cx_driver.proofs.TextLemmas.{accepted_once, one_design, text_of_design}
 use Rattle.cx_driver.proofs.SimLemmas.{one_source_of}

@@ -1,11 +1,11 @@
 -- What the reads of a command tell.
-use Rattle.std.proofs.Common.{ℕ, suc, ◌+◌, ◌<◌, ◌≤◌, ◌≡◌, ◌⊎◌, inl, inr, List, [], ◌∷◌, Option, Some, None, map, length, Contains, refl, sym, ap, ◌∙◌, subst, arith}
+use Rattle.std.proofs.Common.{ℕ, suc, ◌<◌, ◌≤◌, ◌≡◌, inl, inr, List, [], ◌∷◌, Option, Some, map, length, Contains, sym, ap, ◌∙◌, subst, arith}
 use Rattle.cx_outside.specs.Counts.{HasRisen}
-use Rattle.cx_outside.specs.Reading.{Holds, IsAbsent, HasLength}
+use Rattle.cx_outside.specs.Reading.{IsAbsent, HasLength}
 use Rattle.cx_commands.specs.declared.refusals.Refusal.{Refusal}
 use Rattle.cx_commands.specs.declared.refusals.Refusal.TheVariants as refusals
 use Rattle.cx_driver.specs.Causes.{IsOfFile, HasCause}
-use Rattle.cx_commands.specs.Commands.{Asked, Wanted, wanted_by, files_of}
+use Rattle.cx_commands.specs.Commands.{Asked, Wanted, wanted_by}
 use Rattle.cx_commands.specs.Reads.{HoldsWithin, OfFile, FirstOf, here, later, IsOver, IsUnread, IsReadFault}
 
 abbrev pub Held : Type 0

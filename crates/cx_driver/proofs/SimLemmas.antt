@@ -29,7 +29,7 @@ use Rattle.cx_vsim.specs.declared.answers.SimAnswer.TheVariants.{Done, Loop, Mor
 use Rattle.cx_commands.specs.declared.stops.Stop.{Stop}
 use Rattle.cx_commands.specs.declared.stops.Stop.TheVariants as stops
 use Rattle.cx_driver.specs.Loads.{IsUnloaded}
-use Rattle.cx_driver.specs.Simulated.{IsVerilogOf, IsVerilogRefusal, told_outcome, RunDoes, LoadedDoes, SourceDoes, Spells, Simulates, IsSimAnswer, IsSimStop, IsSourceStop, StopsRun, IsNoSource, read_stop}
+use Rattle.cx_driver.specs.Simulated.{IsVerilogOf, told_outcome, RunDoes, LoadedDoes, SourceDoes, Spells, Simulates, IsSimAnswer, IsSimStop, IsSourceStop, StopsRun, IsNoSource, read_stop}
 use Rattle.cx_driver.proofs.Once.{Told, not_both}
 
 -- A TEXT SPELLS one sound source: what is read of the text of a sound source is that source

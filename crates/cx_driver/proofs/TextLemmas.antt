@@ -1,5 +1,5 @@
 -- A text has one verdict, and what is told of it is that verdict.
-use Rattle.std.proofs.Common.{◌≡◌, ◌⊎◌, inl, inr, ℕ, List, Option, Some, None, Result, Ok, Err, IfOk, IfErr, refl, sym, ap, ◌∙◌, subst}
+use Rattle.std.proofs.Common.{◌≡◌, ◌⊎◌, inl, inr, ℕ, List, Option, Some, None, Result, Ok, Err, IfOk, IfErr, sym, ap, ◌∙◌, subst}
 use Rattle.cx_text.specs.declared.diagnostics.Diagnostic.{Diagnostic}
 use Rattle.cx_text.specs.declared.places.Place.{Place}
 use Rattle.cx_text.specs.declared.rules.Rule.{Rule}
@@ -22,7 +22,7 @@ use Rattle.cx_design.specs.declared.refusals.Refusal.{Refusal}
 use Rattle.cx_design.specs.declared.refusals.Refusal.TheVariants as refusals
 use Rattle.cx_commands.specs.declared.stops.Stop.{Stop}
 use Rattle.cx_commands.specs.declared.stops.Stop.TheVariants as stops
-use Rattle.cx_commands.specs.Unread.{StageOneFault, HasTree, IsNoTree}
+use Rattle.cx_commands.specs.Unread.{HasTree, IsNoTree}
 use Rattle.cx_driver.specs.Texts.{IsAcceptedText, IsDesignOf, TextBreak, IsTreeStop, IsTextRefusal, tree_stop}
 use Rattle.cx_commands.proofs.UnreadLemmas.{read_no_fault, one_stage_one}
 

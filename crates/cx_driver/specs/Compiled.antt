@@ -5,8 +5,10 @@ use Rattle.cx_text.specs.declared.rules.Rule.TheVariants.{TooLarge}
 use Rattle.cx_text.specs.declared.limits.TheConstants.{COMPILE_SIZE}
 use Rattle.cx_meaning.specs.Designs.{PlainDesign, no_place}
 use Rattle.cx_rules.specs.Sizes.{design_size}
+use Rattle.cx_rules.specs.Externals.{external_rows}
 use Rattle.cx_realises.specs.Realises.{Realises}
 use Rattle.cx_vtree.specs.Plain.{PlainSource}
+use Rattle.cx_vtree.specs.PlainParts.{rows_of}
 use Rattle.cx_commands.specs.Stopping.{TellsBreak}
 use Rattle.cx_commands.specs.declared.stops.Stop.{Stop}
 use Rattle.cx_commands.specs.declared.stops.Stop.TheVariants as stops
@@ -26,10 +28,11 @@ pub record IsCompiled (text answer : List ℕ) : Type 0 where
   pub within : design_size design ≤ COMPILE_SIZE
   pub written : IsTextOf design answer
 
--- WHAT IS WRITTEN of a design, as far as it is proved: it spells a sound source
+-- WHAT IS WRITTEN of a design, as far as it is proved: it spells a sound source, which has the design's external memories in order
 pub record IsSpeltFor (d : PlainDesign) (answer : List ℕ) : Type 0 where
   pub source : PlainSource
   pub spelled : IsVerilogOf answer source
+  pub rows : rows_of source.externals ≡ external_rows d
 
 -- and of a text: it is accepted, and its design is within the size that compile takes
 pub record IsWritten (text answer : List ℕ) : Type 0 where

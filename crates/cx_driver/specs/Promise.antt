@@ -1,5 +1,5 @@
 -- What the interpreter and the simulator tell of a design and of its written text.
-use Rattle.std.specs.Prelude.{◌≡◌, ◌⊎◌, ◌↔◌, ℕ, ◌≤◌, List, Ok, Err}
+use Rattle.std.specs.Prelude.{◌≡◌, ◌↔◌, ℕ, ◌≤◌, List, Ok, Err}
 use Rattle.cx_text.specs.Loading.{PlainMemory}
 use Rattle.cx_data.specs.Dump.{dump_text}
 use Rattle.cx_data.specs.declared.faults.DataFault.{DataFault}

@@ -5,6 +5,8 @@ ghost use Rattle.cx_text.specs.declared.diagnostics.Diagnostic.{Diagnostic as Di
 ghost use Rattle.cx_text.specs.declared.rules.Rule.TheVariants as rules;
 ghost use Rattle.cx_meaning.specs.Designs.{no_place};
 ghost use Rattle.cx_design.specs.PlainDesigns.{plain_design};
+ghost use Rattle.cx_rules.specs.Externals.{external_rows};
+ghost use Rattle.cx_vtree.specs.PlainParts.{rows_of};
 ghost use Rattle.cx_vtree.specs.PlainSources.{plain_source};
 ghost use Rattle.cx_driver.specs.Simulated.{IsVerilogOf};
 ghost use Rattle.cx_driver.specs.Compiled.{CompileBreak, IsCompilable, IsCompileStop, IsDesignTooLarge, IsDesignWritten, IsSpeltFor, IsWritten};
@@ -81,7 +83,9 @@ fn verilog_of(alloc: Global, design: &Checked) -> Result<Vec<u8>, Memory>
 }
 
 /// The Verilog source of a design, pass by pass.
-fn source_of(alloc: Global, design: &Checked) -> Result<Source, Memory> {
+fn source_of(alloc: Global, design: &Checked) -> Result<Source, Memory>
+    ensures rows { IfOk result (λ source. rows_of (plain_source source).externals ≡ external_rows (plain_design design.now)) }
+{
     let lowered = lower(alloc, design)?;
     let net = inline(alloc, build(alloc, &lowered)?)?;
     emit(alloc, &net)

@@ -1,4 +1,4 @@
-use Rattle.std.proofs.Common.{◌≡◌, ◌<◌, List, ℕ, inl, inr, length, sym, ap, ◌∙◌, subst}
+use Rattle.std.proofs.Common.{◌<◌, inr, length, sym, subst}
 use Rattle.cx_meaning.specs.Instances.{paths_of, tree_of}
 use Rattle.cx_design.specs.declared.designs.Design.{Design}
 use Rattle.cx_design.specs.PlainDesigns.{plain_design}

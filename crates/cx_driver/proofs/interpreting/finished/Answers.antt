@@ -1,7 +1,6 @@
-use Rattle.std.proofs.Common.{All, sym, ap, ◌∙◌, subst}
+use Rattle.std.proofs.Common.{sym, ap, ◌∙◌, subst}
 use Rattle.cx_text.specs.Loading.{FitsRows, plain_loaded}
 use Rattle.cx_data.specs.Dump.{dump_text}
-use Rattle.cx_data.specs.Widths.{HasWordWidth}
 use Rattle.cx_rules.specs.Externals.{external_rows}
 use Rattle.cx_design.specs.declared.designs.Design.{Design}
 use Rattle.cx_design.specs.PlainDesigns.{plain_design}

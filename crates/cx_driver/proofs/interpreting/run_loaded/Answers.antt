@@ -1,5 +1,4 @@
-use Rattle.std.proofs.Common.{◌≡◌, ℕ, List, refl, sym, ap, ◌∙◌, subst}
-use Rattle.cx_text.specs.Loading.{plain_loaded, words_loaded}
+use Rattle.std.proofs.Common.{ℕ, List, subst}
 use Rattle.cx_state.specs.States.{words_in}
 use Rattle.cx_interp.specs.Runs.{HasRun}
 use Rattle.cx_driver.proofs.RanLemmas.{words_of_loaded}

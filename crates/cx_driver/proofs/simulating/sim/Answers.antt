@@ -1,4 +1,4 @@
-use Rattle.std.proofs.Common.{List, ℕ, [], Ok, Err}
+use Rattle.std.proofs.Common.{[], Err}
 use Rattle.cx_vtree.specs.PlainSources.{plain_source}
 use Rattle.cx_driver.specs.Simulated.{IsSimStop, Simulates, Spells}
 use Rattle.cx_driver.proofs.Once.{Told, all_answered, all_stopped}
