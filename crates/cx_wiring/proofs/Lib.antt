@@ -16,6 +16,11 @@ pub mod KnowLaws
 pub mod GatherLaws
 pub mod ListedLaws
 pub mod IslandCells
+pub mod IslandOffsets
+pub mod EntryLaws
+pub mod WireSamples
+pub mod TimerSteps
+pub mod TimerHolds
 pub mod IslandReads
 pub mod IslandStands
 pub mod TimerRows
