@@ -107,3 +107,4 @@ pub mod GroundedNets
 pub mod StaticGoes
 pub mod IslandKnown
 pub mod IslandGoes
+pub mod IslesOwe
