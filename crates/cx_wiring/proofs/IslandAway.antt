@@ -39,7 +39,7 @@ use Rattle.cx_wiring.proofs.IslandCells.{IsListed, listed}
 use Rattle.cx_wiring.proofs.TimerRows.{EachTimer}
 use Rattle.cx_wiring.proofs.IslandValues.{IslandLooks, live, says_live, says_active, count_is, live_first, live_within, says_begins, active_is, active, all_wanted}
 
-named_at : (groups : ℕ) (list : List PlainOccurrence) → OccurrencesName groups list → (j : ℕ) (v : PlainOccurrence) → slice_get list j ≡ Some v → v.group < groups
+pub named_at : (groups : ℕ) (list : List PlainOccurrence) → OccurrencesName groups list → (j : ℕ) (v : PlainOccurrence) → slice_get list j ≡ Some v → v.group < groups
 named_at groups [] names j v e = absurd cc
 named_at groups (o ∷ rest) names zero v e = subst (λ (z : PlainOccurrence). z.group < groups) (same o v e) names.0
   where

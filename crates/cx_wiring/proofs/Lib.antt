@@ -131,3 +131,4 @@ pub mod GroundedNets
 pub mod StaticGoes
 pub mod IslandKnown
 pub mod IslandGoes
+pub mod IslesOwe

@@ -124,7 +124,7 @@ module _ (part : PlainComponent) (groups : ℕ) (islands : List PlainIsland) (ar
     pub goes : Holes act (form_drivers groups islands x (Timed k))
     pub quiet : (On around registers look (at x) → ⊥) → Holes nothing (form_drivers groups islands x (Timed k))
 
-  abbrev IsleEnable : ℕ → Place → Option ℕ → Lowering → Stand → Type 0
+  abbrev pub IsleEnable : ℕ → Place → Option ℕ → Lowering → Stand → Type 0
   IsleEnable g place None l x = Unit {0}
   IsleEnable g place (Some n) l x = IsleGoes (Enable g) place (length l.islands) x
 
