@@ -60,9 +60,9 @@ module _ (groups : ℕ) (x : Stand) (first : ℕ) (island : PlainIsland) (around
   wire_known : (n : ℕ) → first ≤ n → n < first + wires_of_island island → Known (look (AWire n))
   wire_known n low high =
       elim (cases_lt n (first + length island.timers)) [
-        inl l ↦ let t : first + (n - first) ≡ n = omega arith in subst (λ m. Known (look (AWire m))) t (runs_known groups x first island around registers look given (n - first) (omega arith))
+        | inl l ↦ let t : first + (n - first) ≡ n = omega arith in subst (λ m. Known (look (AWire m))) t (runs_known groups x first island around registers look given (n - first) (omega arith))
         | inr l ↦ elim (cases_lt n (first + length island.timers + length island.points)) [
-          inl h ↦ let t : first + length island.timers + (n - (first + length island.timers)) ≡ n = omega arith in
+          | inl h ↦ let t : first + length island.timers + (n - (first + length island.timers)) ≡ n = omega arith in
               subst (λ m. Known (look (AWire m))) t (sample_known groups x first island around registers look given (n - (first + length island.timers)) (omega arith))
           | inr h ↦ let t : first + length island.timers + length island.points + (n - (first + length island.timers + length island.points)) ≡ n = omega arith in
               subst (λ m. Known (look (AWire m))) t (active_known groups x first island around registers look given (n - (first + length island.timers + length island.points)) (omega arith))
@@ -161,8 +161,10 @@ module _ (groups : ℕ) (x : Stand) (first : ℕ) (island : PlainIsland) (around
         let k = active_known groups x first island around registers look given n less in (
           (λ f. untrue f),
           (
-            (λ f. (record { guard = k; source = λ on. (truth_bit true, refl) },
-                (λ on. subst (IsOn act) (hole_is o.group g f) (in_set o (in_at island.occurrences n o e) (acts_of part n o e (is_on n on)))))),
+            (λ f. (
+              record { guard = k; source = λ on. (truth_bit true, refl) },
+              (λ on. subst (IsOn act) (hole_is o.group g f) (in_set o (in_at island.occurrences n o e) (acts_of part n o e (is_on n on)))),
+            )),
             ((λ f. untrue f), occurrences_go g (suc n) rest (λ j v f. let next : suc n + j ≡ n + suc j = omega arith in ap (slice_get island.occurrences) next ∙ there (suc j) v f)),
           ),
         )
@@ -171,10 +173,12 @@ module _ (groups : ℕ) (x : Stand) (first : ℕ) (island : PlainIsland) (around
         is_on n on = ap (λ o. is_true (unwrap_or o (record { width = 1; value = 0 }))) on.1 ∙ on.2
 
     island_go : (g : ℕ) → AllTo (P g) (ToHole (groups + g)) (island_drivers groups x first island)
-    island_go g =
-        ((λ e. untrue e), all_to_append (P g) (ToHole (groups + g)) (timer_drivers groups x first island 0 island.timers) _ (timers_go g 0 island.timers)
-        (all_to_append (P g) (ToHole (groups + g)) (point_drivers groups x first island 0 island.points) _ (points_go g 0 island.points)
-        (occurrences_go g 0 island.occurrences (λ j v e. let none : 0 + j ≡ j = omega arith in ap (slice_get island.occurrences) none ∙ e))))
+    island_go g = (
+      (λ e. untrue e),
+      all_to_append (P g) (ToHole (groups + g)) (timer_drivers groups x first island 0 island.timers) _ (timers_go g 0 island.timers)
+          (all_to_append (P g) (ToHole (groups + g)) (point_drivers groups x first island 0 island.points) _ (points_go g 0 island.points)
+          (occurrences_go g 0 island.occurrences (λ j v e. let none : 0 + j ≡ j = omega arith in ap (slice_get island.occurrences) none ∙ e))),
+    )
 
   -- WHERE THE FIRST TIMER runs control stands at the island
   stands_there : live 0 ≡ true → On around registers look (at x)
@@ -183,8 +187,8 @@ module _ (groups : ℕ) (x : Stand) (first : ℕ) (island : PlainIsland) (around
       let r = IslandGiven.reads given (first + 0) (omega arith) (let s = IslandGiven.some given in omega arith) in
       let known = runs_known groups x first island around registers look given 0 (IslandGiven.some given) in
       let source : look (AWire (first + 0)) ≡ value around registers look (both (at x) (Inverse (OfPort (ports.Cell k.0.cell 2)))) =
-          r.1 ∙ values.timer_wire groups x first island around registers look (IslandGiven.high given) (IslandGiven.groups_low given) r.0 0 k.0 k.1
-          ∙ ap (λ o. value around registers look (wired.timer_runs groups x first island k.0.cell o k.0.from k.0.to)) (IslandGiven.first_timer given k.0 k.1) in
+      r.1 ∙ values.timer_wire groups x first island around registers look (IslandGiven.high given) (IslandGiven.groups_low given) r.0 0 k.0 k.1
+      ∙ ap (λ o. value around registers look (wired.timer_runs groups x first island k.0.cell o k.0.from k.0.to)) (IslandGiven.first_timer given k.0 k.1) in
       let is_on : is_true known.0 ≡ true = sym (ap (λ o. is_true (unwrap_or o (record { width = 1; value = 0 }))) known.1) ∙ on in
       let t = two_true around registers look (at x) (Inverse (OfPort (ports.Cell k.0.cell 2))) known.0 (IslandGiven.at_known given) (known_inverse around registers look (OfPort (ports.Cell k.0.cell 2)) (IslandGiven.dones given 0 k.0 k.1)) (sym source ∙ known.1) is_on in
       ((IslandGiven.at_known given).0, (IslandGiven.at_known given).1, t.0 (IslandGiven.at_known given).0 (IslandGiven.at_known given).1)
@@ -204,8 +208,11 @@ module _ (groups : ℕ) (x : Stand) (first : ℕ) (island : PlainIsland) (around
     its o i = subst (λ (z : PlainIsland). In z.occurrences o) made i
 
     to_drivers : (act : Active) → Holes part groups islands around registers look bound kept act (island_drivers groups x first island) → Holes part groups islands around registers look bound kept act (form_drivers groups islands x (Timed k))
-    to_drivers act h g = ((λ e. untrue e), subst (λ o. AllTo (GoesIn part groups islands around registers look bound kept act g) (ToHole (groups + g)) (timed_drivers groups islands x k o)) (sym is)
-        (subst (λ n. AllTo (GoesIn part groups islands around registers look bound kept act g) (ToHole (groups + g)) (island_drivers groups x n island)) (sym first_is) (h g)))
+    to_drivers act h g = (
+      (λ e. untrue e),
+      subst (λ o. AllTo (GoesIn part groups islands around registers look bound kept act g) (ToHole (groups + g)) (timed_drivers groups islands x k o)) (sym is)
+          (subst (λ n. AllTo (GoesIn part groups islands around registers look bound kept act g) (ToHole (groups + g)) (island_drivers groups x n island)) (sym first_is) (h g)),
+    )
 
     pub isle_goes : IsleGoes part groups islands around registers look bound kept form place k x
     isle_goes = record {

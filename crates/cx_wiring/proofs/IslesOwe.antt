@@ -258,10 +258,14 @@ module _ (part : PlainComponent) (named : IslandsName (groups (lowered_component
         record {
           isles = (Passed.isles one, Passed.isles other);
           fits = (Passed.fits one, Passed.fits other);
-          offsets = λ g less. ((λ e. far x.wire g less low e),
-              all_to_append F (ToWire g) (comb_goes G I x cg) _ (comb_far x cg g less)
-              ((λ e. untrue e), all_to_append F (ToWire g) (drivers_of G I (past_test x) (lowered part a l)) _ (Passed.offsets one g less)
-              ((λ e. untrue e), all_to_append F (ToWire g) (drivers_of G I (behind I (lowered part a l) (past_test x)) (lowered part d (after part a l))) _ (Passed.offsets other g less) ((λ e. far (suc x.wire) g less (omega arith) e), tt))));
+          offsets = λ g less. (
+            (λ e. far x.wire g less low e),
+            all_to_append F (ToWire g) (comb_goes G I x cg) _ (comb_far x cg g less) (
+              (λ e. untrue e),
+              all_to_append F (ToWire g) (drivers_of G I (past_test x) (lowered part a l)) _ (Passed.offsets one g less)
+                  ((λ e. untrue e), all_to_append F (ToWire g) (drivers_of G I (behind I (lowered part a l) (past_test x)) (lowered part d (after part a l))) _ (Passed.offsets other g less) ((λ e. far (suc x.wire) g less (omega arith) e), tt)),
+            ),
+          );
         }
     form_pass (While test cg a) place l x u s low c k b isles =
         let c_comb = connect_both around registers look B (comb_goes G I x cg) _ c.1 in
@@ -270,9 +274,11 @@ module _ (part : PlainComponent) (named : IslandsName (groups (lowered_component
         record {
           isles = Passed.isles body;
           fits = Passed.fits body;
-          offsets = λ g less. ((λ e. far x.wire g less low e),
-              all_to_append F (ToWire g) (comb_goes G I x cg) _ (comb_far x cg g less)
-              ((λ e. far (suc x.wire) g less (omega arith) e), ((λ e. untrue e), all_to_append F (ToWire g) (drivers_of G I (past_test x) (lowered part a l)) _ (Passed.offsets body g less) ((λ e. untrue e), tt))));
+          offsets = λ g less. (
+            (λ e. far x.wire g less low e),
+            all_to_append F (ToWire g) (comb_goes G I x cg) _ (comb_far x cg g less)
+                ((λ e. far (suc x.wire) g less (omega arith) e), ((λ e. untrue e), all_to_append F (ToWire g) (drivers_of G I (past_test x) (lowered part a l)) _ (Passed.offsets body g less) ((λ e. untrue e), tt))),
+          );
         }
     form_pass (Repeat zero a) place l x u s low c k b isles = record { isles = tt; fits = tt; offsets = turn_far x low }
     form_pass (Repeat (suc n) a) place l x u s low c k b isles =

@@ -126,13 +126,13 @@ module _ (part : PlainComponent) (live : ℕ → Bool) (count : ℕ → ℕ) (sa
 
         goes : Goes (entries (record { group = group; offset = 0 } ∷ [])) g (with_occurrence group x (Some n) g)
         goes o i = elim (split_in g.occurrences (record { group = group; timer = x.timer; from = x.at; to = x.at + n; samples = x.samples } ∷ []) o i) [
-          inl j ↦ inl j
+          | inl j ↦ inl j
           | inr j ↦ elim j [ inl e ↦ inr (λ acts. subst (λ (v : PlainOccurrence). IsOn (entries (record { group = group; offset = 0 } ∷ [])) v.group) e (on_offset group 0)) | inr none ↦ absurd none ]
         ]
 
         quiet : (Begun x n → ⊥) → Quiet g (with_occurrence group x (Some n) g)
         quiet off o i = elim (split_in g.occurrences (record { group = group; timer = x.timer; from = x.at; to = x.at + n; samples = x.samples } ∷ []) o i) [
-          inl j ↦ inl j
+          | inl j ↦ inl j
           | inr j ↦ elim j [ inl e ↦ inr (λ acts. off (subst (λ (v : PlainOccurrence). Acts v) (sym e) acts)) | inr none ↦ absurd none ]
         ]
 
