@@ -90,11 +90,12 @@ def named(page):
 
 
 def unknown_crates(root):
-    """The crates that the pages name and that are not there, with the page."""
+    """The crates that the prose of the pages names and that are not there, with the page."""
     for pattern in NAMING:
         for page in sorted(glob.glob(f'{root}/{pattern}')):
             with open(page, encoding='utf-8') as file:
-                names = set(re.findall(r'\bcx_[a-z_]+\b|\bcalyx_cli\b', file.read()))
+                prose = re.sub(r'^```.*?^```$', '', file.read(), flags=re.M | re.S)
+            names = set(re.findall(r'\bcx_[a-z_]+\b|\bcalyx_cli\b', prose))
             yield from ((os.path.relpath(page, root), name) for name in sorted(names) if not os.path.isdir(f'{root}/crates/{name}'))
 
 

@@ -206,11 +206,10 @@ class Reader:
         if word == 'invoke':
             cell = self.next()
             self.inside(';')
-            group = f'invoke {cell}'
-            while group in groups:
-                group += "'"
-            groups[group] = None
-            return Statement('invoke', name=group.removeprefix('invoke '))
+            count = 1 + sum(name.split(' ')[:2] == ['invoke', cell] for name in groups)
+            name = cell if count == 1 else f'{cell} {count}'
+            groups[f'invoke {name}'] = None
+            return Statement('invoke', name=name)
         self.marks()
         self.next()
         return Statement('enable', name=word, static=groups[word] is not None)

@@ -3,13 +3,14 @@
 
     tools/names.py DESIGN TEXT [MODULE]
 
-DESIGN is the design, TEXT what `calyx_cli compile` wrote of it; of one module alone where MODULE is given. A line for each name: the module, the
+DESIGN is the design, TEXT what `calyx_cli compile` wrote of it; of one component alone where MODULE, its name in the design or in the text, is given. A line for each name: the module, the
 name, and what it is. Of wires behind those of control, which are the parts of guards and the rests of long choices, no line is told.
 """
 import re
 import sys
 
 import calyx
+import given
 
 
 def modules_of(text):
@@ -48,17 +49,25 @@ def names(part, number, body, by_name):
 
 
 def main():
-    with open(sys.argv[1], encoding='utf-8') as design, open(sys.argv[2], encoding='ascii') as text:
-        parts, modules = calyx.read(design.read()), modules_of(text.read())
-    by_name = {part.name: part for part in parts}
+    design, text, *wanted = given.words(__doc__, 2, 3)
+    parts, modules = calyx.read(given.text_of(design)), modules_of(given.text_of(text, 'ascii'))
+    by_name, known = {part.name: part for part in parts}, False
     for number, part in enumerate(calyx.ordered(parts)):
         module = 'main' if part.name == 'main' else f'cx_m{number}'
-        if sys.argv[3:] in ([], [module]):
+        if module not in modules:
+            sys.exit(f'{text} has no module {module}: it is not of {design}')
+        if wanted in ([], [module], [part.name]):
+            known = True
             print(f'{module}: component {part.name}')
             for name, told in names(part, number, modules[module], by_name):
                 if name in modules[module]:
                     print(f'{module} {name}: {told}')
+    if not known:
+        sys.exit(f'{design} has no component {wanted[0]} that main reaches')
 
 
 if __name__ == '__main__':
-    main()
+    try:
+        main()
+    except BrokenPipeError:
+        sys.stderr.close()

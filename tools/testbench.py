@@ -9,9 +9,9 @@ TEXT is a file that `compile` wrote, DATA the data file that `interp` takes. Whe
 the line `more CYCLES` is printed. In the standard registers and words of arrays begin unknown; the edge with reset sets the registers, and the
 testbench sets all words, to 0 where no data file gives them.
 """
-import json
 import re
-import sys
+
+import given
 
 BENCH = """`timescale 1ns / 1ns
 module bench;
@@ -62,16 +62,12 @@ class Text:
             yield from self.words(kind, f'{path}.{name}')
 
 
-def flat(words):
-    return [word for part in words for word in flat(part)] if isinstance(words, list) else [words]
-
-
 def loads(text, data):
     """Sets the words of all arrays."""
     for path, array, width, count in text.words():
         yield f"    for (k = 0; k < {count}; k = k + 1) {path}.{array}[k] = {width}'d0;"
         name, _ = text.externals.get(path.removeprefix('dut.'), (None, None))
-        held = flat(data[name]['data']) if name else []
+        held = given.flat(data[name]['data']) if name else []
         yield from (f"    {path}.{array}[{k}] = {width}'d{word % 2**width};" for k, word in enumerate(held) if word)
 
 
@@ -102,11 +98,9 @@ def dumps(text, data):
 
 
 def main():
-    with open(sys.argv[1], encoding='ascii') as file:
-        text = Text(file.read())
-    with open(sys.argv[2], encoding='utf-8') as file:
-        data = json.load(file)
-    cycles = sys.argv[3] if len(sys.argv) > 3 else '1000000'
+    path, data_path, *more = given.words(__doc__, 2, 3)
+    written = given.text_of(path, 'ascii')
+    text, data, cycles = Text(written), given.memories(data_path, written), more[0] if more else '1000000'
     print(BENCH.format(cycles=cycles, words='\n'.join(loads(text, data)), dumps='\n'.join(dumps(text, data))), end='')
 
 

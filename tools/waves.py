@@ -4,42 +4,37 @@
     tools/waves.py DESIGN DATA [CYCLES] > run.vcd
     gtkwave run.vcd
 
-DESIGN and DATA are the files that `interp` takes. The text is that of `calyx_cli compile`; the program is crates/calyx_cli/out/calyx_cli of this
-repository, or what CALYX_CLI names. The run ends in the cycle in which `done` is 1, or after cycle CYCLES (1,000 if left out). Shown are, of each
+DESIGN and DATA are the files that `interp` takes. The text is that of `calyx_cli compile`; the program is what CALYX_CLI names, else calyx_cli on the PATH,
+else crates/calyx_cli/out/calyx_cli of this repository. The run ends in the cycle in which `done` is 1, or after cycle CYCLES (1,000 if left out). Shown are, of each
 instance of a component: which groups go, the position of control and of each arm, the rounds of each `repeat`, and each `std_reg`; and `done` of the
 whole. A cycle is 10 ns, and begins with the rising edge of `clk`. `sim` is not used: the text is run here (tools/verilog.py), slowly.
 """
-import json
 import os
 import re
+import shutil
 import subprocess
 import sys
 import tempfile
 
 import calyx
+import given
 import names
 import verilog
 
-PROGRAM = os.environ.get('CALYX_CLI') or os.path.join(os.path.dirname(os.path.abspath(__file__)), '..', 'crates', 'calyx_cli', 'out', 'calyx_cli')
+BUILT = os.path.join(os.path.dirname(os.path.abspath(__file__)), '..', 'crates', 'calyx_cli', 'out', 'calyx_cli')
 
 
 def compiled(design):
+    program = os.environ.get('CALYX_CLI') or shutil.which('calyx_cli') or BUILT
+    if not os.path.exists(program):
+        sys.exit(f'there is no program {program}: build it as README.md says, or name it in CALYX_CLI')
     with tempfile.TemporaryDirectory() as folder:
         with open(f'{folder}/d.futil', 'wb') as to:
-            to.write(design)
-        ran = subprocess.run([os.path.abspath(PROGRAM), 'compile', 'd.futil'], cwd=folder, capture_output=True, check=False)
+            to.write(design.encode())
+        ran = subprocess.run([os.path.abspath(program), 'compile', 'd.futil'], cwd=folder, capture_output=True, check=False)
     if ran.returncode:
         sys.exit(ran.stderr.decode().strip())
     return ran.stdout.decode()
-
-
-def flat(words):
-    return [word for part in words for word in flat(part)] if isinstance(words, list) else [words]
-
-
-def held(data):
-    """The words of each memory, as its bits."""
-    return {name: [word % (1 << memory['format']['width']) for word in flat(memory['data'])] for name, memory in data.items()}
 
 
 def word_of(told):
@@ -96,12 +91,13 @@ class Waves:
 
 
 def main():
-    with open(sys.argv[1], 'rb') as design, open(sys.argv[2], encoding='utf-8') as data:
-        written, words = design.read(), held(json.load(data))
-    cycles = int(sys.argv[3]) if sys.argv[3:] else 1000
+    path, data_path, *more = given.words(__doc__, 2, 3)
+    written, cycles = given.text_of(path), int(more[0]) if more else 1000
     text = compiled(written)
+    data = given.memories(data_path, text)
+    words = {name: [word % (1 << width) for word in given.flat(data[name]['data'])] for name, _, width, _ in given.externals(text)}
     run = verilog.Run(text, words)
-    waves = Waves(run, calyx.ordered(calyx.read(written.decode())), names.modules_of(text))
+    waves = Waves(run, calyx.ordered(calyx.read(written)), names.modules_of(text))
     print('$timescale 1ns $end')
     print('$var wire 1 clk clk $end')
     waves.declare(run.main, 'main')
@@ -117,4 +113,7 @@ def main():
 
 
 if __name__ == '__main__':
-    main()
+    try:
+        main()
+    except BrokenPipeError:
+        sys.stderr.close()
