@@ -29,7 +29,7 @@ use Rattle.cx_lockstep.specs.Statements.{machine_of}
 use Rattle.cx_lockstep.specs.Lawful.{IsLeaf, enable, static_seq, static_par, static_if, static_repeat, AreLawful}
 use Rattle.cx_lockstep.specs.PartLaws.{does_within}
 use Rattle.cx_lockstep.specs.StatementLaws.{statement_does}
-use Rattle.cx_control.specs.StatementCodingLaws.{IsRegion, statement_coded}
+use Rattle.cx_control.specs.StatementCodingLaws.{IsRegion, AreCoded, statement_coded}
 use Rattle.cx_control.specs.Spots.{Spot, Kept, cells_in, held_in, shown, spots_of, reads_spot}
 use Rattle.cx_control.specs.Numbers.{number_idle_at, world_of, Rests}
 use Rattle.cx_control.specs.Leaves.{Coded, island_machine, called_machine, kind_machine, leaf_machines}
@@ -91,17 +91,20 @@ static_island part (Timed k) e = e
 timed_island : (part : PlainComponent) (g n : ℕ) → (group_at part g).kind ≡ kinds.Timed n → is_island_form part (Enable g) ≡ true
 timed_island part g n is = ap (λ k. is_some (kind_length k)) is
 
--- THE PLACES of an instance's control are numbers
+-- THE PLACES of an instance's control are numbers, as those of its leaves are
+pub leaves_coded : (part : PlainComponent) (cells : Cells) → ControlRules (Node part cells)
+    → AreCoded (leaf_machines (Node part cells) (coded_below cells)) (leaf_codings (Node part cells) (coded_below cells)) (Stands (Node part cells))
+leaves_coded part cells control = record {
+  parts_stand = parts_stand (Node part cells);
+  is_untimed = control.is_untimed;
+  enable = λ g place stands. kind_coded (Node part cells) (coded_below cells) g (group_at part g).kind (λ n is. control.lasts (Enable g) place stands (timed_island part g n is));
+  island = λ form place is_one stands. island_coded (Node part cells) form (control.lasts form place stands (static_island part form is_one));
+}
+
 pub control_coded : (i : Instance) → ControlRules i → IsRegion (Coded.machine (coded_control i)) (Coded.coding (coded_control i))
 control_coded (Node part cells) control =
     statement_coded (leaf_machines (Node part cells) (coded_below cells)) (leaf_codings (Node part cells) (coded_below cells)) (Stands (Node part cells))
-    (record {
-      parts_stand = parts_stand (Node part cells);
-      is_untimed = control.is_untimed;
-      enable = λ g place stands. kind_coded (Node part cells) (coded_below cells) g (group_at part g).kind (λ n is. control.lasts (Enable g) place stands (timed_island part g n is));
-      island = λ form place is_one stands. island_coded (Node part cells) form (control.lasts form place stands (static_island part form is_one));
-    })
-    part.control (stands_at (Node part cells) part.control refl)
+    (leaves_coded part cells control) part.control (stands_at (Node part cells) part.control refl)
 
 -- an idle edge leads from the end of an instance's control to its start
 end_is : (n : ℕ) → (n == n) ≡ true

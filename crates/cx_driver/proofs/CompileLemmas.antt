@@ -7,7 +7,9 @@ use Rattle.cx_rules.specs.Sizes.{design_size}
 use Rattle.cx_commands.specs.declared.stops.Stop.{Stop}
 use Rattle.cx_commands.specs.declared.stops.Stop.TheVariants as stops
 use Rattle.cx_driver.specs.Texts.{IsDesignOf, IsTextRefusal}
-use Rattle.cx_driver.specs.Compiled.{IsWritten, IsCompilable, too_large, CompileBreak, Compiles, IsCompileStop, IsDesignWritten, IsDesignTooLarge}
+use Rattle.cx_driver.specs.Compiled.{IsWritten, IsCompilable, too_large, CompileBreak, Compiles, IsCompileStop, IsDesignWritten, IsDesignTooLarge, written_source}
+use Rattle.cx_driver.proofs.TextLayers.{text_rules, text_realises}
+use Rattle.cx_driver.proofs.WrittenRows.{written_rows}
 use Rattle.cx_driver.proofs.TextLemmas.{one_design, text_of_design, accepted_once, break_once}
 
 -- an accepted text whose design is within the size is not refused
@@ -36,7 +38,13 @@ compile_stop text told stop b (inr own) = inr (own.2 ∙ ap (λ d. stops.Rule d)
 -- from a design to its text
 pub text_written : {X : Type 0} (bytes : X → List ℕ) (text : List ℕ) (d : PlainDesign) (r : Result X Stop) → IsDesignOf text d
     → IfOk r (λ x. IsDesignWritten d (bytes x)) → IfOk r (λ x. IsWritten text (bytes x))
-text_written bytes text d (Ok x) stands h = record { design = d; stands = stands; within = h.0; written = h.1 }
+text_written bytes text d (Ok x) stands h = record {
+  design = d;
+  stands = stands;
+  within = h.0;
+  written = record { source = written_source d; spelled = h.1; rows = written_rows d (text_rules text d stands h.0).0.main_there };
+  does = λ below. record { source = written_source d; spelled = h.1; realises = text_realises text d stands h.0 h.1.sound below };
+}
 text_written bytes text d (Err stop) stands h = tt
 
 pub text_too_large : {X : Type 0} (text : List ℕ) (d : PlainDesign) (r : Result X Stop) → IsDesignOf text d → IfErr r (IsDesignTooLarge d) → IfErr r (IsCompileStop text)

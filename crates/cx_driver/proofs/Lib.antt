@@ -6,8 +6,11 @@ pub mod InterpLemmas
 pub mod FaultLemmas
 pub mod RanLemmas
 pub mod SimLemmas
-pub mod CompileLemmas
 pub mod WrittenRows
+pub mod DriverTargets
+pub mod Layers
+pub mod TextLayers
+pub mod CompileLemmas
 pub mod CauseLemmas
 pub mod CompleteLemmas
 pub mod BelowLemmas

@@ -9,6 +9,12 @@ use Rattle.cx_rules.specs.Externals.{external_rows}
 use Rattle.cx_realises.specs.Realises.{Realises}
 use Rattle.cx_vtree.specs.Plain.{PlainSource}
 use Rattle.cx_vtree.specs.PlainParts.{rows_of}
+use Rattle.cx_net.specs.NetTree.{net_tree}
+use Rattle.cx_static.specs.Lowering.{lowered_of}
+use Rattle.cx_wiring.specs.Wiring.{net_of}
+use Rattle.cx_wiring.specs.InNet.{RealisesInNet}
+use Rattle.cx_holes.specs.Inlining.{inlined}
+use Rattle.cx_emit.specs.Sources.{source_of}
 use Rattle.cx_commands.specs.Stopping.{TellsBreak}
 use Rattle.cx_commands.specs.declared.stops.Stop.{Stop}
 use Rattle.cx_commands.specs.declared.stops.Stop.TheVariants as stops
@@ -28,18 +34,28 @@ pub record IsCompiled (text answer : List ℕ) : Type 0 where
   pub within : design_size design ≤ COMPILE_SIZE
   pub written : IsTextOf design answer
 
+-- the net that a design comes down to does what the design means
+abbrev pub NetDoes : PlainDesign → Type 0
+NetDoes d = RealisesInNet d (net_tree (net_of (lowered_of d)))
+
+-- the source that the passes make of a design
+abbrev pub written_source : PlainDesign → PlainSource
+written_source d = source_of (inlined (net_of (lowered_of d)))
+
 -- WHAT IS WRITTEN of a design, as far as it is proved: it spells a sound source, which has the design's external memories in order
 pub record IsSpeltFor (d : PlainDesign) (answer : List ℕ) : Type 0 where
   pub source : PlainSource
   pub spelled : IsVerilogOf answer source
   pub rows : rows_of source.externals ≡ external_rows d
 
--- and of a text: it is accepted, and its design is within the size that compile takes
+-- and of a text: it is accepted, its design is within the size that compile takes, and where the net of the design does what the
+-- design means, the source realises it
 pub record IsWritten (text answer : List ℕ) : Type 0 where
   pub design : PlainDesign
   pub stands : IsDesignOf text design
   pub within : design_size design ≤ COMPILE_SIZE
   pub written : IsSpeltFor design answer
+  pub does : NetDoes design → IsTextOf design answer
 
 -- the text is accepted, and its design is within the size
 abbrev pub IsCompilable : List ℕ → Type 0
@@ -68,7 +84,7 @@ IsCompileStop text stop = TellsBreak (CompileBreak text) stop
 
 -- the same of a design
 abbrev pub IsDesignWritten : PlainDesign → List ℕ → Type 0
-IsDesignWritten d answer = (design_size d ≤ COMPILE_SIZE) × IsSpeltFor d answer
+IsDesignWritten d answer = (design_size d ≤ COMPILE_SIZE) × IsVerilogOf answer (written_source d)
 
 abbrev pub IsDesignTooLarge : PlainDesign → Stop → Type 0
 IsDesignTooLarge d stop = (stop ≡ stops.Memory) ⊎ ((COMPILE_SIZE < design_size d) × (stop ≡ stops.Rule (too_large d)))

@@ -5,11 +5,9 @@ ghost use Rattle.cx_text.specs.declared.diagnostics.Diagnostic.{Diagnostic as Di
 ghost use Rattle.cx_text.specs.declared.rules.Rule.TheVariants as rules;
 ghost use Rattle.cx_meaning.specs.Designs.{no_place};
 ghost use Rattle.cx_design.specs.PlainDesigns.{plain_design};
-ghost use Rattle.cx_rules.specs.Externals.{external_rows};
-ghost use Rattle.cx_vtree.specs.PlainParts.{rows_of};
 ghost use Rattle.cx_vtree.specs.PlainSources.{plain_source};
 ghost use Rattle.cx_driver.specs.Simulated.{IsVerilogOf};
-ghost use Rattle.cx_driver.specs.Compiled.{CompileBreak, IsCompilable, IsCompileStop, IsDesignTooLarge, IsDesignWritten, IsSpeltFor, IsWritten};
+ghost use Rattle.cx_driver.specs.Compiled.{CompileBreak, IsCompilable, IsCompileStop, IsDesignTooLarge, IsDesignWritten, IsWritten, written_source};
 ghost use Rattle.cx_commands.specs.declared.stops.Stop.TheVariants as stops;
 
 use crate::accepting::accepted_design;
@@ -76,7 +74,7 @@ fn too_large(alloc: Global, size: u64) -> Stop
 
 /// The Verilog text of a design.
 fn verilog_of(alloc: Global, design: &Checked) -> Result<Vec<u8>, Memory>
-    ensures { IfOk result (λ text. IsSpeltFor (plain_design design.now) text.items) }
+    ensures { IfOk result (λ text. IsVerilogOf text.items (written_source (plain_design design.now))) }
 {
     let source = source_of(alloc, design)?;
     spelled(alloc, &source)
@@ -84,7 +82,7 @@ fn verilog_of(alloc: Global, design: &Checked) -> Result<Vec<u8>, Memory>
 
 /// The Verilog source of a design, pass by pass.
 fn source_of(alloc: Global, design: &Checked) -> Result<Source, Memory>
-    ensures rows { IfOk result (λ source. rows_of (plain_source source).externals ≡ external_rows (plain_design design.now)) }
+    ensures value { IfOk result (λ source. plain_source source ≡ written_source (plain_design design.now)) }
 {
     let lowered = lower(alloc, design)?;
     let net = inline(alloc, build(alloc, &lowered)?)?;

@@ -60,7 +60,7 @@ abbrev pub LackLetters : List ℕ → List (List ℕ) → Type 0
 LackLetters l [] = Unit {0}
 LackLetters l (n ∷ ns) = (letters_in n ≡ l → ⊥) × LackLetters l ns
 
-lack_other : (l m : List ℕ) (ns : List (List ℕ)) → (l ≡ m → ⊥) → HaveLetters m ns → LackLetters l ns
+pub lack_other : (l m : List ℕ) (ns : List (List ℕ)) → (l ≡ m → ⊥) → HaveLetters m ns → LackLetters l ns
 lack_other l m [] other h = tt
 lack_other l m (n ∷ ns) other h = ((λ e. other (sym e ∙ h.0)), lack_other l m ns other h.1)
 
@@ -68,7 +68,7 @@ lack_both : (l : List ℕ) (ns ms : List (List ℕ)) → LackLetters l ns → La
 lack_both l [] ms h k = k
 lack_both l (n ∷ ns) ms h k = (h.0, lack_both l ns ms h.1 k)
 
-lacks_name : (l : List ℕ) (ns : List (List ℕ)) (m : List ℕ) → LackLetters l ns → letters_in m ≡ l → has_name ns m ≡ false
+pub lacks_name : (l : List ℕ) (ns : List (List ℕ)) (m : List ℕ) → LackLetters l ns → letters_in m ≡ l → has_name ns m ≡ false
 lacks_name l [] m h is = refl
 lacks_name l (n ∷ ns) m h is =
     or_from (same_name n m) (has_name ns m) (false_from_ne_true (same_name n m) (λ same. h.0 (ap letters_in (same_is n m same) ∙ is))) (lacks_name l ns m h.1 is)

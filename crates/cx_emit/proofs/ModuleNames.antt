@@ -7,13 +7,13 @@ use Rattle.cx_vtree.specs.Sound.{decl_name}
 use Rattle.cx_vlaws.proofs.Fresh.{Fresh}
 use Rattle.cx_net.specs.Nets.{PlainNetComponent}
 use Rattle.cx_emit.specs.Numbered.{numbered_from, with_numbers, lists_from}
-use Rattle.cx_emit.specs.Numbers.{AreFew, HaveFewPorts, HasFewParts}
+use Rattle.cx_emit.specs.Numbers.{AreFew, HasFewParts}
 use Rattle.cx_emit.specs.Names.{numbered, input_name, output_name, wire_name, register_name, instance_name}
 use Rattle.cx_emit.specs.Signatures.{PlainCellPorts, input_port, output_port, module_ports}
 use Rattle.cx_emit.specs.Sources.{port_decl, cell_decls, wire_decl, register_decl, decls_with, cell_instance, module_with}
 use Rattle.cx_emit.proofs.ApartLaws.{letters_in, Kin, names_of, port_names, have_numbered, fresh_numbered, have_twice, fresh_twice, fresh_kins}
 
-map-numbered : {A B C : Type 0} (g : B → C) (f : ℕ → A → B) (k : ℕ) (xs : List A) → map g (numbered_from f k xs) ≡ numbered_from (λ j x. g (f j x)) k xs
+pub map-numbered : {A B C : Type 0} (g : B → C) (f : ℕ → A → B) (k : ℕ) (xs : List A) → map g (numbered_from f k xs) ≡ numbered_from (λ j x. g (f j x)) k xs
 map-numbered g f k [] = refl
 map-numbered g f k (x ∷ xs) = ap (λ ys. g (f k x) ∷ ys) (map-numbered g f (suc k) xs)
 
@@ -25,10 +25,10 @@ decl_names-cells k (cell ∷ cells) =
     ∙ ap (λ rest. with_numbers (λ p port. decl_name (port_decl k p port)) cell.ports ++ rest) (decl_names-cells (suc k) cells)
 
 -- one name without digits
-one_kin : (name : List ℕ) → letters_in name ≡ name → Kin
+unfoldable pub one_kin : (name : List ℕ) → letters_in name ≡ name → Kin
 one_kin name own = record { letters = name; names = name ∷ []; have = (own, tt); apart = (refl, tt) }
 
-numbered_kin : {A : Type 0} (letters : List ℕ) → letters_in (codes "cx_" ++ letters) ≡ codes "cx_" ++ letters → (xs : List A) → AreFew xs → Kin
+unfoldable pub numbered_kin : {A : Type 0} (letters : List ℕ) → letters_in (codes "cx_" ++ letters) ≡ codes "cx_" ++ letters → (xs : List A) → AreFew xs → Kin
 numbered_kin letters own xs few = record { letters = codes "cx_" ++ letters; names = with_numbers (λ j x. numbered letters j) xs; have = have_numbered letters own xs few; apart = fresh_numbered letters xs few }
 
 -- all names of a module: its ports, its declarations and its instances

@@ -5,6 +5,7 @@ ghost use Rattle.cx_vtree.specs.Sound.{is_sound};
 ghost use Rattle.cx_net.specs.Nets.{PlainNet};
 ghost use Rattle.cx_emit.specs.Sources.{source_of};
 ghost use Rattle.cx_net.specs.NetFits.{HasNoHoles, IsFit};
+ghost use Rattle.cx_net.specs.NetLimits.{IsWritable};
 ghost use Rattle.cx_emit.specs.RunsAs.{EdgesCarry, RunsAs, ValuesCarry};
 
 /// What has a value in a net has it in its source, if the net is fit, no hole is left in it, and its source is sound.
@@ -23,4 +24,10 @@ pub fn edges_carry()
 #[tactic(auto, using(crate::proofs::RunLemmas::source_runs_as))]
 pub fn source_runs_as()
     ensures { (net : PlainNet) → IsFit net → HasNoHoles net → is_sound (source_of net) ≡ true → RunsAs net (source_of net) }
+{}
+
+/// The source of a net that can be written keeps every rule of a source.
+#[tactic(auto, using(crate::proofs::Soundness::source_is_sound))]
+pub fn source_is_sound()
+    ensures { (net : PlainNet) → IsFit net → HasNoHoles net → IsWritable net → is_sound (source_of net) ≡ true }
 {}

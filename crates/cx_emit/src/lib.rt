@@ -14,4 +14,4 @@ mod names;
 mod signatures;
 
 pub use emitting::emit;
-pub use laws::{edges_carry, source_runs_as, values_carry};
+pub use laws::{edges_carry, source_is_sound, source_runs_as, values_carry};

@@ -95,7 +95,17 @@ module _ (look : Look) (v : Values) (c : ℕ) (row : Row) (state : CellState) (l
   pub cell_step : (after : CellState) → cell_outcome look c row state ≡ Next after → row.next state Whole ≡ after
   cell_step after h = by_enabling (gather (λ q. look (ports.Cell c q)) (enables row) 0 row.ports) refl after h
 
--- AN IDLE STEP
+-- AN IDLE STEP, where no enabling port is 1
+pub quiet_step : (v : Values) (c : ℕ) (row : Row) (state : CellState) → IsLawful row → ((p : ℕ) → side_of row p ≡ sides.Enable → (v (ports.Cell c p)).value ≡ 0) → row.next state (given v c 0 row.ports) ≡ row.idle state
+quiet_step v c row state lawful low = edge_next (row.out_of_range (given v c 0 row.ports)) (row.next state (given v c 0 row.ports)) (row.idle state) (lawful.quiet_is_idle state (given v c 0 row.ports) quiet)
+  where
+    quiet : IsQuiet row (given v c 0 row.ports)
+    quiet n port there side = ap number_of (given_at v c row.ports 0 n port there) ∙ zero_there
+      where
+        zero_there : (v (ports.Cell c (0 + n))).value ≡ 0
+        zero_there = let k : n ≡ 0 + n = omega arith in subst (λ j. (v (ports.Cell c j)).value ≡ 0) k (low n (side_at row.ports n port there ∙ side))
+
+-- so where nothing active drives it
 none_act : (act : Active) (p : PortRef) (list : List Owned) → ((o : Owned) → In list o → o.assign.target ≡ p → offset_of act o.owner ≡ None) → acting act p list ≡ []
 none_act act p [] never = refl
 none_act act p (o ∷ rest) never =
@@ -121,11 +131,4 @@ module _ (i : Instance) (go : Active) (s : State) (around : Around) (v : Values)
       ∙ ap (first_on v (zero_of (width_of i (ports.Cell c p)))) (no_driver p side))
 
   pub idle_step : row.next (s (c ∷ [])) (given v c 0 row.ports) ≡ row.idle (s (c ∷ []))
-  idle_step =
-      edge_next (row.out_of_range (given v c 0 row.ports)) (row.next (s (c ∷ [])) (given v c 0 row.ports)) (row.idle (s (c ∷ []))) (lawful.quiet_is_idle (s (c ∷ [])) (given v c 0 row.ports) quiet)
-    where
-      quiet : IsQuiet row (given v c 0 row.ports)
-      quiet n port there side = ap number_of (given_at v c row.ports 0 n port there) ∙ zero_there
-        where
-          zero_there : (v (ports.Cell c (0 + n))).value ≡ 0
-          zero_there = let k : n ≡ 0 + n = omega arith in subst (λ j. (v (ports.Cell c j)).value ≡ 0) k (enable_zero n (side_at row.ports n port there ∙ side))
+  idle_step = quiet_step v c row (s (c ∷ [])) lawful enable_zero

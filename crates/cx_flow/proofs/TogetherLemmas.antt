@@ -64,7 +64,7 @@ record OfArm (arms : List PlainStatement) (g : ℕ) : Type 0 where
   has : In (groups_of arm) g
 
 mutual
-  together_groups : {s : PlainStatement} {act : Active} → IsTogether s act → (g o : ℕ) → act.offset g ≡ Some o → In (groups_of s) g
+  pub together_groups : {s : PlainStatement} {act : Active} → IsTogether s act → (g o : ℕ) → act.offset g ≡ Some o → In (groups_of s) g
   together_groups at_rest g o e = absurd (none_some o e)
   together_groups (enabled {g}) k o e = inl (only_is g k o e)
   together_groups (in_seq {parts} {place} {s} i t) g o e = all_in parts s g i (together_groups t g o e)

@@ -7,3 +7,4 @@ pub mod RenamedEdges
 pub mod RenamedRuns
 pub mod RenamedNames
 pub mod RenamedFits
+pub mod FitNames

@@ -8,7 +8,7 @@ ghost use Rattle.cx_net.specs.NetTree.{net_tree};
 ghost use Rattle.cx_net.specs.Nets.{PlainNet};
 ghost use Rattle.cx_vtree.specs.SimRun.{Outcome};
 ghost use Rattle.cx_holes.specs.Inlining.{inlined};
-ghost use Rattle.cx_holes.specs.Names.{NetNames};
+ghost use Rattle.cx_holes.specs.Names.{HasTargets, NetNames};
 
 /// The net without holes comes to what the net comes to, where this names wires and holes that are there.
 pub fn inlining_keeps_runs()
@@ -29,4 +29,9 @@ pub fn inlining_leaves_no_hole()
 /// It fits where the net fits.
 pub fn inlining_keeps_fit()
     ensures { (n : PlainNet) → NetNames n → IsFit n → IsFit (inlined n) }
+{}
+
+/// A net that fits names wires and holes that are there, where the targets of its drivers are there.
+pub fn fitting_nets_name_parts()
+    ensures { (n : PlainNet) → IsFit n → HasTargets n → NetNames n }
 {}

@@ -4,22 +4,24 @@ use Rattle.std.proofs.Common.{◌≡◌, ℕ, inl, inr, ◌⊎◌, Bool, true, f
 use Rattle.std.specs.Prelude.{map}
 use Rattle.std.proofs.lemmas.Bool.{eq-eqb}
 use Rattle.cx_bits.specs.BitVector.{BitVector}
+use Rattle.cx_prim.specs.Rows.{Row, is_enable_side}
 use Rattle.cx_meaning.specs.declared.ports.PortRef.{PortRef}
 use Rattle.cx_meaning.specs.declared.ports.PortRef.TheVariants as ports
 use Rattle.cx_meaning.specs.declared.sights.Seen.TheVariants.{Value}
 use Rattle.cx_meaning.specs.Designs.{PlainGuard, Always, Atom, Negation, All, Any, Compared, Within, PlainGuards, no_guards, a_guard, PlainAssign, group_at}
-use Rattle.cx_meaning.specs.Instances.{Instance, part_of}
+use Rattle.cx_meaning.specs.Rows.{side_of}
+use Rattle.cx_meaning.specs.Instances.{Instance, OfRow, cell_at, cells_of, part_of}
 use Rattle.cx_meaning.specs.Active.{Active, Owned, Acting, group, only_at, same_port, offset_of, source_order, drivers}
 use Rattle.cx_meaning.specs.Truths.{Truth, One, Zero, truth_of, truth_of_bit, not_truth, and_truth, or_truth}
 use Rattle.cx_meaning.specs.Sights.{Look, In, guard_truth, all_truth, any_truth}
-use Rattle.cx_rules.specs.CallShape.{go_port, done_port, register_done, one, is_atom, is_always, is_negated, is_right_go, with_target, captured, wanted_dones, conjuncts, are_dones, is_right_done_assign, is_right_done}
+use Rattle.cx_rules.specs.CallShape.{go_port, done_port, register_done, one, is_atom, is_always, is_negated, is_right_go, is_right_enable, is_register_enable, with_target, captured, wanted_dones, conjuncts, are_dones, is_right_done_assign, is_right_done}
 use Rattle.cx_rules.proofs.FoundLemmas.{same_is}
 use Rattle.cx_flow.specs.Flows.{Values, zero_of, is_set, guard_on, all_on, any_on, first_on}
 use Rattle.cx_flow.proofs.PortFlows.{acting_alike}
 use Rattle.cx_net.specs.NetMeaning.{truth_bit}
 use Rattle.cx_control.specs.CallRules.{CallForm}
 use Rattle.cx_control.proofs.ConjunctLemmas.{AreOnce, conjuncts_hold, conjunction_holds, wanted_are_in, wanted_are_all}
-use Rattle.cx_control.proofs.TargetLemmas.{of_filter, ActsAlone, acts_alone}
+use Rattle.cx_control.proofs.TargetLemmas.{in_filter, of_filter, group_acts, ActsAlone, acts_alone}
 use Rattle.cx_control.proofs.RegisterLemmas.{dones_once}
 
 true_false : true ≡ false → ⊥
@@ -120,6 +122,17 @@ first_set v z (a ∷ rest) e f = by (guard_on v a.offset a.assign.guard) refl f 
     by : (b : Bool) → guard_on v a.offset a.assign.guard ≡ b → is_set (if b then v a.assign.source.port else first_on v z rest) ≡ true → (is_set (first_on v z rest) ≡ true → OnFrom v rest) → OnFrom v (a ∷ rest)
     by true g h later = record { from = a; acts_so = inl refl; guard = g; source = h }
     by false g h later = let k = later h in record { from = k.from; acts_so = inr k.acts_so; guard = k.guard; source = k.source }
+
+-- and 0 where no source is whose guard is 1
+all_low : (v : Values) (z : BitVector) (acts : List Acting) → z.value ≡ 0 → ((x : Acting) → In acts x → (guard_on v x.offset x.assign.guard ≡ false) ⊎ ((v x.assign.source.port).value ≡ 0)) → (first_on v z acts).value ≡ 0
+all_low v z [] low each = low
+all_low v z (a ∷ rest) low each = by (guard_on v a.offset a.assign.guard) refl (each a (inl refl)) (all_low v z rest low (λ x j. each x (inr j)))
+  where
+    by : (b : Bool) → guard_on v a.offset a.assign.guard ≡ b → (guard_on v a.offset a.assign.guard ≡ false) ⊎ ((v a.assign.source.port).value ≡ 0) → (first_on v z rest).value ≡ 0
+        → (if b then v a.assign.source.port else first_on v z rest).value ≡ 0
+    by false e k later = later
+    by true e (inl off) later = absurd (true_false (sym e ∙ off))
+    by true e (inr zero_so) later = zero_so
 
 wanted_once : (rs : List ℕ) (done : PortRef) → AreOnce (map register_done rs) → AreOnce (wanted_dones done rs)
 wanted_once [] done once = ((λ i. i), tt)
@@ -259,3 +272,35 @@ module _ (i : Instance) (g c : ℕ) (form : CallForm i g c) (v : Values) (own_ho
 
           source_now : v (ActsAlone.first acts_go).assign.source.port ≡ truth_bit true
           source_now = ap (λ (x : PlainAssign). v x.source.port) first_is ∙ ap v (same_is a.source.port one both.0) ∙ one_is
+
+  -- THE ENABLES, while the cell is not done
+  low_source : (a : PlainAssign) (at : ℕ) → v (done_port c form.child) ≡ truth_bit false
+      → ((same_port a.source.port (done_port c form.child) && is_always a.guard) || (same_port a.source.port one && is_atom (done_port c form.child) a.guard)) ≡ true
+      → (guard_on v at a.guard ≡ false) ⊎ ((v a.source.port).value ≡ 0)
+  low_source a at none e = of_right (or_either (same_port a.source.port (done_port c form.child) && is_always a.guard) (same_port a.source.port one && is_atom (done_port c form.child) a.guard) e)
+    where
+      of_right : ((same_port a.source.port (done_port c form.child) && is_always a.guard) ≡ true) ⊎ ((same_port a.source.port one && is_atom (done_port c form.child) a.guard) ≡ true) → (guard_on v at a.guard ≡ false) ⊎ ((v a.source.port).value ≡ 0)
+      of_right (inl k) =
+          inr (ap (λ p. (v p).value) (same_is a.source.port (done_port c form.child) (and_both (same_port a.source.port (done_port c form.child)) (is_always a.guard) k).0) ∙ ap (λ (b : BitVector). b.value) none)
+      of_right (inr k) = inl (atom_on v at (done_port c form.child) a.guard (and_both (same_port a.source.port one) (is_atom (done_port c form.child) a.guard) k).1 ∙ ap is_set none)
+
+  pub call_enables_none : (act : Active) (z : BitVector) (r q : ℕ) (row : Row) → ((o : Owned) → In (source_order (part_of i)) o → o.assign.target ≡ ports.Cell r q → offset_of act o.owner ≡ offset_of (group g) o.owner)
+      → ((o : Owned) → In (source_order (part_of i)) o → o.owner ≡ None → o.assign.target ≡ ports.Cell r q → ⊥) → cell_at (cells_of i) r ≡ OfRow row → is_enable_side (side_of row q) ≡ true
+      → v (ports.Cell r q) ≡ first_on v z (drivers (part_of i) act (ports.Cell r q)) → z.value ≡ 0 → v (done_port c form.child) ≡ truth_bit false → (v (ports.Cell r q)).value ≡ 0
+  call_enables_none act z r q row same bare at enables value low none =
+      ap (λ (b : BitVector). b.value) (value ∙ ap (first_on v z) (acting_alike act (group g) (ports.Cell r q) (source_order (part_of i)) same))
+      ∙ all_low v z (drivers (part_of i) (group g) (ports.Cell r q)) low (λ x j. one_low x (group_acts (part_of i) g (group g) (λ h. refl) (ports.Cell r q) bare x j))
+    where
+      of_list : (x : Acting) (l : List PlainAssign) → In l x.assign → is_right_enable (done_port c form.child) l ≡ true → (guard_on v x.offset x.assign.guard ≡ false) ⊎ ((v x.assign.source.port).value ≡ 0)
+      of_list x [] j e = absurd j
+      of_list x (a ∷ []) (inl f) e = subst (λ (y : PlainAssign). (guard_on v x.offset y.guard ≡ false) ⊎ ((v y.source.port).value ≡ 0)) f (low_source a x.offset none e)
+      of_list x (a ∷ []) (inr j) e = absurd j
+      of_list x (a ∷ b ∷ rest) j e = absurd (false_true e)
+
+      itself : (a : PlainAssign) → a.target ≡ ports.Cell r q → same_port a.target a.target ≡ true
+      itself a e = ap (λ p. same_port p p) e ∙ ap₂ (λ x y. x && y) (eq-eqb r r refl) (eq-eqb q q refl)
+
+      one_low : (x : Acting) → In (group_at (part_of i) g).assigns x.assign × (x.assign.target ≡ ports.Cell r q) → (guard_on v x.offset x.assign.guard ≡ false) ⊎ ((v x.assign.source.port).value ≡ 0)
+      one_low x k =
+          of_list x (with_target x.assign.target (group_at (part_of i) g).assigns) (in_filter x.assign.target (group_at (part_of i) g).assigns x.assign k.0 (itself x.assign k.1))
+          (and_both (is_register_enable (part_of i) x.assign.target) (is_right_enable (done_port c form.child) (with_target x.assign.target (group_at (part_of i) g).assigns)) (form.right_enable x.assign k.0 r q row k.1 at enables)).1

@@ -55,7 +55,7 @@ use Rattle.cx_wiring.proofs.NodeRules.{NodeRules}
 use Rattle.cx_wiring.proofs.CellEdges.{driver_there}
 use Rattle.cx_wiring.proofs.NodeCells.{CellRules, child_waits}
 use Rattle.cx_wiring.proofs.NodeRuns.{ChildMoves, ChildSteps, moves, waits}
-use Rattle.cx_wiring.proofs.GoingLaws.{told_in, HoleAgrees, HasComb, Source, of_group, of_timed, of_static, of_comb, going_source}
+use Rattle.cx_wiring.proofs.GoingLaws.{told_in, HoleAgrees, HasComb, Source, of_group, of_timed, of_static, of_comb, going_source, comb_is}
 
 -- a group is not both plain and comb
 plain_comb : {A : Type 0} (kind : GroupKind) → is_plain kind ≡ true → is_comb kind ≡ true → A
@@ -146,29 +146,6 @@ module _ (d : PlainDesign) (numbers : Instance → NetState → ℕ → ℕ) (pa
         or_later true b f = refl
         or_later false b f = f
 
-    comb_is : (t : PlainStatement) (g : ℕ) → Stands (instances.Node part cells) t → HasComb (leaf_machines (instances.Node part cells) (coded_below cells)) (leaf_codings (instances.Node part cells) (coded_below cells)) part (lowered_component part).islands hole of_enable of_island t g
-        → is_comb (group_at part g).kind ≡ true
-    comb_is (Placed Empty place) g u h = absurd h
-    comb_is (Placed (Enable k) place) g u h = absurd h
-    comb_is (Placed (Seq parts) place) g u h = absurd h
-    comb_is (Placed (Par arms) place) g u h = absurd h
-    comb_is (Placed (If test comb a b) place) g u h = by comb (own.forms _ u) h
-      where
-        by : (o : Option ℕ) → IsWith part o → o ≡ Some g → is_comb (group_at part g).kind ≡ true
-        by None w e = absurd cc
-        by (Some k) w e = let same : k ≡ g = cc in subst (λ n. is_comb (group_at part n).kind ≡ true) same w.1
-    comb_is (Placed (While test comb a) place) g u h = by comb (own.forms _ u) h
-      where
-        by : (o : Option ℕ) → IsWith part o → o ≡ Some g → is_comb (group_at part g).kind ≡ true
-        by None w e = absurd cc
-        by (Some k) w e = let same : k ≡ g = cc in subst (λ n. is_comb (group_at part n).kind ≡ true) same w.1
-    comb_is (Placed (Repeat count a) place) g u h = absurd h
-    comb_is (Placed (StaticSeq length parts) place) g u h = absurd h
-    comb_is (Placed (StaticPar length arms) place) g u h = absurd h
-    comb_is (Placed (StaticIf length test a b) place) g u h = absurd h
-    comb_is (Placed (StaticRepeat length count a) place) g u h = absurd h
-    comb_is (Placed (Timed k) place) g u h = absurd h
-
     -- A COMPONENT CELL that only leaves drive which end has no group that goes
     module _ (c : ℕ) (child : Instance) (at : cell_at cells c ≡ OfInstance child) (ended : (r : Running P) → In R r → drives part (leaf_of P r) c ≡ true → EndsNow r) where
       never : (h : ℕ) → group_drives part h c ≡ true → GoesBy h → ⊥
@@ -196,7 +173,8 @@ module _ (d : PlainDesign) (numbers : Instance → NetState → ℕ → ℕ) (pa
               (group_among (groups_in form) by.going_it.group c (static_own form stand by.going_it k) (driven_by by.going_it.group by.group_is))
           of_source (of_comb g t stands has is) =
               let group_so : g ≡ h = sym (ap (λ (x : Going). x.group) is) ∙ by.group_is in
-              plain_comb (group_at part g).kind (own.plain_part g c child at (driven_by g group_so)) (comb_is t g stands has)
+              plain_comb (group_at part g).kind (own.plain_part g c child at (driven_by g group_so)) (comb_is (leaf_machines (instances.Node part cells) (coded_below cells)) (leaf_codings (instances.Node part cells) (coded_below cells)) part (lowered_component part).islands hole of_enable of_island
+              (Stands (instances.Node part cells)) (λ form place u. own.forms _ u) t g stands has)
 
       pub undriven : IsUndriven part (active_now (instances.Node part cells) around v look) c
       undriven h driven = by (goes_now (instances.Node part cells) around v look h) refl

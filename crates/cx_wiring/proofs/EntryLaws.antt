@@ -198,7 +198,7 @@ module _ (part : PlainComponent) where
         by false = sym (while_is b (suc n + ifs_of a) (Live x len) ∙ ap (λ o. by_live o (statement_by part kept entry_at no_entry b (suc n + ifs_of a))) (live_short counts kept x len (length_of part b) lb))
 
     mutual
-      form_entries : (form : PlainForm) (x : Begin) (g : Gathered) → Extends (form_gathered part form x g) final
+      pub form_entries : (form : PlainForm) (x : Begin) (g : Gathered) → Extends (form_gathered part form x g) final
           → active_among (form_gathered part form x g).occurrences ≡ active_among g.occurrences ++ by_live (live_in counts kept x (form_length part form)) (form_by part kept entry_at no_entry form (length g.points))
       form_entries Empty x g e = behind_nothing (active_among g.occurrences) (Live x 0)
       form_entries (Enable group) x g e = enable_entries group x g (group_length part group)

@@ -51,7 +51,7 @@ use Rattle.cx_wiring.proofs.FitPorts.{net, npart, part_back}
 use Rattle.cx_wiring.proofs.FitRules.{statement_fine, groups_last, assigns_fine}
 
 -- the size of a component is no more than that of its design
-size_among : (parts : List PlainComponent) (k : ℕ) (part : PlainComponent) → slice_get parts k ≡ Some part → size_of part < sizes_of parts
+pub size_among : (parts : List PlainComponent) (k : ℕ) (part : PlainComponent) → slice_get parts k ≡ Some part → size_of part < sizes_of parts
 size_among [] k part e = absurd cc
 size_among (x ∷ parts) zero part e =
     let same : x ≡ part = cc in

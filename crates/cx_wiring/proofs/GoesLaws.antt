@@ -26,13 +26,14 @@ use Rattle.cx_wiring.specs.Takings.{Says, takes, AllConnect, AreRegisters}
 use Rattle.cx_wiring.specs.Standing.{IsStopped, IsIn, Away}
 use Rattle.cx_wiring.specs.Shown.{wide, Going, told, counted, number_of, parts_number, arms_number, enable_going, going, parts_going, arms_going}
 use Rattle.cx_wiring.specs.IslandTakes.{IslandNexts}
+use Rattle.cx_wiring.specs.AtLeaves.{AnyTest, AnyGroup, IslandsHold, enable_holds, StatementHolds, PartsHold, ArmsHold}
 use Rattle.cx_wiring.specs.Wired.{IsWired, PartsWired, ArmsWired}
 use Rattle.cx_wiring.proofs.TakingLemmas.{says_not, connect_both, takes_append, idle_passes}
 use Rattle.cx_wiring.proofs.AwayLaws.{comb_idle}
 use Rattle.cx_wiring.proofs.TurnLemmas.{beside_first, beside_later}
 use Rattle.cx_wiring.proofs.FormTurns.{go_known, told_append, comb_hole, if_hole, while_hole, repeat_hole}
 use Rattle.cx_wiring.proofs.SizeLaws as sizes
-use Rattle.cx_wiring.proofs.ArmTurns.{left_fine, right_fine, runs_both}
+use Rattle.cx_wiring.proofs.ArmTurns.{left_fine, right_fine, left_says, right_says, runs_both}
 use Rattle.cx_wiring.proofs.StandsLaws as stands
 
 module _ (groups : ℕ) (islands : List PlainIsland) (around : NetAround) (registers : ℕ → Option BitVector) (look : Node → Option BitVector) (bound : ℕ) (kept next : ℕ → ℕ) (hole : ℕ → Bool) (port : PortRef → Bool)
@@ -106,13 +107,14 @@ module _ (groups : ℕ) (islands : List PlainIsland) (around : NetAround) (regis
     Goes s l x p = (g : ℕ) (o : Option BitVector) → takes around registers look (ToHole (groups + g)) o (drivers_of groups islands x (lowered part s l)) ≡ told g o (going leaves codings part islands hole of_enable of_island s p)
 
     -- of an island as it is said
-    module _ (Low : Lowering → Type 0) (low_back : (s : PlainStatement) (l : Lowering) → Low (after part s l) → Low l) (low_parts : (ss : PlainStatements) (l : Lowering) → Low (parts_after part ss l) → Low l)
+    module _ (timed_saw : (g : ℕ) → Machine.Place (LeafMachines.enable leaves g) → Type 0) (island_saw : (form : PlainForm) → Machine.Place (LeafMachines.island leaves form) → Type 0)
+        (Low : Lowering → Type 0) (low_back : (s : PlainStatement) (l : Lowering) → Low (after part s l) → Low l) (low_parts : (ss : PlainStatements) (l : Lowering) → Low (parts_after part ss l) → Low l)
         (islands_go : (s : PlainStatement) → Stands s → (l : Lowering) → Low (after part s l) → (place : Place) → lowered part s l ≡ Placed (Timed (length l.islands)) place
-        → (x : Stand) (r : ℕ) (p : Machine.Place (machine_of leaves s)) → Coding.IsFine (statement_coding leaves codings s) p → Acts x r → Shows s l x r p → W x (lowered part s l) → Goes s l x p) where
+        → (x : Stand) (r : ℕ) (p : Machine.Place (machine_of leaves s)) → Coding.IsFine (statement_coding leaves codings s) p → Acts x r → Shows s l x r p → W x (lowered part s l) → IslandsHold leaves part timed_saw island_saw s p → Goes s l x p) where
       enable_goes : (g : ℕ) (o : Option ℕ) → group_length part g ≡ o → (place : Place) → Stands (Placed (Enable g) place) → (l : Lowering) → Low (after_enable part g o l) → (x : Stand) (r : ℕ) (p : Machine.Place (LeafMachines.enable leaves g))
-          → Coding.IsFine (LeafCodings.enable codings g) p → Acts x r → Shows (Placed (Enable g) place) l x r p → W x (Placed (lowered_enable part g o l) place) → (h : ℕ) (later : Option BitVector)
+          → Coding.IsFine (LeafCodings.enable codings g) p → Acts x r → Shows (Placed (Enable g) place) l x r p → W x (Placed (lowered_enable part g o l) place) → enable_holds leaves part AnyTest (AnyGroup leaves) timed_saw island_saw g o p → (h : ℕ) (later : Option BitVector)
           → takes around registers look (ToHole (groups + h)) later (drivers_of groups islands x (Placed (lowered_enable part g o l) place)) ≡ told h later (enable_going leaves codings part islands hole of_enable of_island g o p)
-      enable_goes g None is place u l stage x r p fine i shows w h later =
+      enable_goes g None is place u l stage x r p fine i shows w has h later =
           go_known around registers look groups g h (at x) (Inverse (OfHole g)) (not (hole g)) later (stands.at_true groups islands around registers look bound kept next hole port timed x r i here_so w.low w.connects.0)
           (says_not around registers look (OfHole g) (hole g) w.bits)
         where
@@ -121,22 +123,22 @@ module _ (groups : ℕ) (islands : List PlainIsland) (around : NetAround) (regis
               let less : Coding.number (LeafCodings.enable codings g) p < Coding.size (LeafCodings.enable codings g) = (statement_coded leaves codings Stands law (Placed (Enable g) place) u).coded.below p in
               let one : Coding.size (LeafCodings.enable codings g) ≡ 1 = enable_one g in
               let so : r ≡ x.position + Coding.number (LeafCodings.enable codings g) p = shows.0 in omega arith
-      enable_goes g (Some cycles) is place u l stage x r p fine i shows w h later =
+      enable_goes g (Some cycles) is place u l stage x r p fine i shows w has h later =
           subst (λ o. W x (Placed (lowered_enable part g o l) place) → (h : ℕ) (later : Option BitVector) → takes around registers look (ToHole (groups + h)) later (drivers_of groups islands x (Placed (lowered_enable part g o l) place))
           ≡ told h later (enable_going leaves codings part islands hole of_enable of_island g o p)) is
-          (λ v. islands_go (Placed (Enable g) place) u l (subst (λ o. Low (after_enable part g o l)) (sym is) stage) place (ap (λ o. Placed (lowered_enable part g o l) place) is) x r p fine i shows v) w h later
+          (λ v. islands_go (Placed (Enable g) place) u l (subst (λ o. Low (after_enable part g o l)) (sym is) stage) place (ap (λ o. Placed (lowered_enable part g o l) place) is) x r p fine i shows v (subst (λ o. enable_holds leaves part AnyTest (AnyGroup leaves) timed_saw island_saw g o p) (sym is) has)) w h later
 
       -- one arm, where it stands or has ended
       arm_goes : (s : PlainStatement) → Stands s → (l : Lowering) (par : Stand) (wire register : ℕ) (k : Control (Machine.Place (machine_of leaves s))) → at_fine (Coding.IsFine (statement_coding leaves codings s)) k → It (at par) true
           → ((n : ℕ) → n < suc (Coding.extra (statement_coding leaves codings s)) → counted (kept register) (number_of leaves codings part islands kept now_island s l (suc register)) n ≡ bank_code (statement_coding leaves codings s) k n)
-          → W (arm_stand par wire register) (lowered part s l) → registers register ≡ Some (wide (kept register))
-          → ((p : Machine.Place (machine_of leaves s)) → Coding.IsFine (statement_coding leaves codings s) p → Shows s l (arm_stand par wire register) (kept register) p → Goes s l (arm_stand par wire register) p) → (g : ℕ) (o : Option BitVector)
+          → W (arm_stand par wire register) (lowered part s l) → registers register ≡ Some (wide (kept register)) → at_fine (IslandsHold leaves part timed_saw island_saw s) k
+          → ((p : Machine.Place (machine_of leaves s)) → Coding.IsFine (statement_coding leaves codings s) p → Shows s l (arm_stand par wire register) (kept register) p → IslandsHold leaves part timed_saw island_saw s p → Goes s l (arm_stand par wire register) p) → (g : ℕ) (o : Option BitVector)
           → takes around registers look (ToHole (groups + g)) o (drivers_of groups islands (arm_stand par wire register) (lowered part s l)) ≡ told g o (at_control (going leaves codings part islands hole of_enable of_island s) k)
-      arm_goes s us l par wire register (At p) fine on nums w is ih g o =
+      arm_goes s us l par wire register (At p) fine on nums w is has ih g o =
           let so : kept register ≡ Coding.number (statement_coding leaves codings s) p = nums 0 (omega arith) in
           let zero_so : kept register ≡ 0 + Coding.number (statement_coding leaves codings s) p = omega arith in
-          ih p fine (zero_so, λ j less. nums (suc j) (omega arith)) g o
-      arm_goes s us l par wire register Done fine on nums w is ih g o =
+          ih p fine (zero_so, λ j less. nums (suc j) (omega arith)) has g o
+      arm_goes s us l par wire register Done fine on nums w is has ih g o =
           let so : kept register ≡ Coding.size (statement_coding leaves codings s) = nums 0 (omega arith) in
           let size : Coding.size (statement_coding leaves codings s) ≡ positions_of (lowered part s l) = size_is s l in
           let past : 0 + positions_of (lowered part s l) ≤ kept register = omega arith in
@@ -144,11 +146,11 @@ module _ (groups : ℕ) (islands : List PlainIsland) (around : NetAround) (regis
 
       mutual
         form_goes : (form : PlainForm) (place : Place) → Stands (Placed form place) → (l : Lowering) → Low (form_after part form l) → (x : Stand) (r : ℕ) (p : Machine.Place (form_machine leaves form)) → Coding.IsFine (form_coding leaves codings form) p → Acts x r
-            → Shows (Placed form place) l x r p → W x (lowered part (Placed form place) l) → Goes (Placed form place) l x p
-        form_goes Empty place u l stage x r p fine i shows w g o = refl
-        form_goes (Enable h) place u l stage x r p fine i shows w g o = enable_goes h (group_length part h) refl place u l stage x r p fine i shows w g o
-        form_goes (Seq no_statements) place u l stage x r p fine i shows w g o = refl
-        form_goes (Seq (a_statement s ss)) place u l stage x r (First p) fine i shows w g o =
+            → Shows (Placed form place) l x r p → W x (lowered part (Placed form place) l) → IslandsHold leaves part timed_saw island_saw (Placed form place) p → Goes (Placed form place) l x p
+        form_goes Empty place u l stage x r p fine i shows w has g o = refl
+        form_goes (Enable h) place u l stage x r p fine i shows w has g o = enable_goes h (group_length part h) refl place u l stage x r p fine i shows w has g o
+        form_goes (Seq no_statements) place u l stage x r p fine i shows w has g o = refl
+        form_goes (Seq (a_statement s ss)) place u l stage x r (First p) fine i shows w has g o =
             let v = stands.wired_seq groups islands around registers look bound kept next hole port timed x (lowered part s l) (lowered_parts part ss (after part s l)) place w in
             let us = law.parts_stand s (Placed (Seq (a_statement s ss)) place) (of_seq (inl refl)) u in
             let below : Coding.number (statement_coding leaves codings s) p < Coding.size (statement_coding leaves codings s) = (statement_coded leaves codings Stands law s us).coded.below p in
@@ -158,8 +160,8 @@ module _ (groups : ℕ) (islands : List PlainIsland) (around : NetAround) (regis
             takes_append around registers look (ToHole (groups + g)) o (D (inside x) (lowered part s l)) _
             ∙ ap (λ z. takes around registers look (ToHole (groups + g)) z (D (inside x) (lowered part s l))) (parts_silent (lowered_parts part ss (after part s l)) x (inside x).wire (behind islands (lowered part s l) (inside x)) r g o i less v.1)
             ∙ statement_goes s us l (low_parts ss (after part s l) stage) (inside x) r p fine i
-            (so, beside_first (Coding.extra (statement_coding leaves codings s)) (Coding.extra (parts_coding leaves codings ss)) (Now s l x.register) (NowParts ss (after part s l) (x.register + length (registers_of islands (lowered part s l)))) (Coding.other (statement_coding leaves codings s) p) zeros shows.1) v.0 g o
-        form_goes (Seq (a_statement s ss)) place u l stage x r (Second p) fine i shows w g o =
+            (so, beside_first (Coding.extra (statement_coding leaves codings s)) (Coding.extra (parts_coding leaves codings ss)) (Now s l x.register) (NowParts ss (after part s l) (x.register + length (registers_of islands (lowered part s l)))) (Coding.other (statement_coding leaves codings s) p) zeros shows.1) v.0 has g o
+        form_goes (Seq (a_statement s ss)) place u l stage x r (Second p) fine i shows w has g o =
             let v = stands.wired_seq groups islands around registers look bound kept next hole port timed x (lowered part s l) (lowered_parts part ss (after part s l)) place w in
             let size : Coding.size (statement_coding leaves codings s) ≡ positions_of (lowered part s l) = size_is s l in
             let so : r ≡ x.position + (Coding.size (statement_coding leaves codings s) + Coding.number (parts_coding leaves codings ss) p) = shows.0 in
@@ -168,9 +170,9 @@ module _ (groups : ℕ) (islands : List PlainIsland) (around : NetAround) (regis
             takes_append around registers look (ToHole (groups + g)) o (D (inside x) (lowered part s l)) _
             ∙ silent (lowered part s l) (inside x) true r g _ i (inr (inr past)) v.0
             ∙ parts_go ss (Placed (Seq (a_statement s ss)) place) u (λ t e. of_seq (inr e)) (after part s l) stage x (inside x).wire (behind islands (lowered part s l) (inside x)) r p fine i
-            (so_behind, beside_later (Coding.extra (statement_coding leaves codings s)) (Coding.extra (parts_coding leaves codings ss)) (Now s l x.register) (NowParts ss (after part s l) (x.register + length (registers_of islands (lowered part s l)))) zeros (Coding.other (parts_coding leaves codings ss) p) shows.1) v.1 g o
-        form_goes (Par no_statements) place u l stage x r p fine i shows w g o = refl
-        form_goes (Par (a_statement s ss)) place u l stage x r p fine i shows w g o =
+            (so_behind, beside_later (Coding.extra (statement_coding leaves codings s)) (Coding.extra (parts_coding leaves codings ss)) (Now s l x.register) (NowParts ss (after part s l) (x.register + length (registers_of islands (lowered part s l)))) zeros (Coding.other (parts_coding leaves codings ss) p) shows.1) v.1 has g o
+        form_goes (Par no_statements) place u l stage x r p fine i shows w has g o = refl
+        form_goes (Par (a_statement s ss)) place u l stage x r p fine i shows w has g o =
             let c = connect_both around registers look bound (arms_drivers groups islands x (suc (suc x.wire)) x.register (lowered_parts part (a_statement s ss) l)) _ w.connects.1 in
             let low : bound ≤ x.wire = w.low in
             let low_in : bound ≤ suc (suc x.wire) = omega arith in
@@ -179,8 +181,8 @@ module _ (groups : ℕ) (islands : List PlainIsland) (around : NetAround) (regis
             let on : It (at x) true = stands.at_true groups islands around registers look bound kept next hole port timed x r i here_so low w.connects.0 in
             takes_append around registers look (ToHole (groups + g)) o (arms_drivers groups islands x (suc (suc x.wire)) x.register (lowered_parts part (a_statement s ss) l)) _
             ∙ arms_go (a_statement s ss) (Placed (Par (a_statement s ss)) place) u (λ t e. of_par e) l stage x (suc (suc x.wire)) x.register (At p) fine on shows.1
-            (record { low = low_in; connects = c.0; registers_are = w.registers_are; bits = w.bits; nexts = w.nexts.1 }) g o
-        form_goes (If test comb a b) place u l stage x r AtTest fine i shows w g o =
+            (record { low = low_in; connects = c.0; registers_are = w.registers_are; bits = w.bits; nexts = w.nexts.1 }) has g o
+        form_goes (If test comb a b) place u l stage x r AtTest fine i shows w has g o =
             let v = stands.wired_if groups islands around registers look bound kept next hole port timed x test comb (lowered part a l) (lowered part b (after part a l)) place w in
             let so : r ≡ x.position + 0 = shows.0 in
             let here_so : r ≡ x.position = omega arith in
@@ -192,7 +194,7 @@ module _ (groups : ℕ) (islands : List PlainIsland) (around : NetAround) (regis
             (silent (lowered part b (after part a l)) (behind islands (lowered part a l) (past_test x)) true r g o i (inr (inl less_too)) v.other)
             ∙ ap (λ z. takes around registers look (ToHole (groups + g)) z (comb_goes groups islands x comb)) (silent (lowered part a l) (past_test x) true r g o i (inr (inl less)) v.one)
             ∙ comb_hole around registers look groups islands x comb g o on
-        form_goes (If test comb a b) place u l stage x r (InThen p) fine i shows w g o =
+        form_goes (If test comb a b) place u l stage x r (InThen p) fine i shows w has g o =
             let v = stands.wired_if groups islands around registers look bound kept next hole port timed x test comb (lowered part a l) (lowered part b (after part a l)) place w in
             let us = law.parts_stand a (Placed (If test comb a b) place) then_branch u in
             let so : r ≡ x.position + suc (Coding.number (statement_coding leaves codings a) p) = shows.0 in
@@ -206,8 +208,8 @@ module _ (groups : ℕ) (islands : List PlainIsland) (around : NetAround) (regis
             ∙ comb_off x comb g _ off
             ∙ ap (λ z. takes around registers look (ToHole (groups + g)) z (D (past_test x) (lowered part a l))) (silent (lowered part b (after part a l)) (behind islands (lowered part a l) (past_test x)) true r g o i (inr (inl less)) v.other)
             ∙ statement_goes a us l (low_back b (after part a l) stage) (past_test x) r p fine i
-            (so_in, beside_first (Coding.extra (statement_coding leaves codings a)) (Coding.extra (statement_coding leaves codings b)) (Now a l x.register) (Now b (after part a l) (x.register + length (registers_of islands (lowered part a l)))) (Coding.other (statement_coding leaves codings a) p) zeros shows.1) v.one g o
-        form_goes (If test comb a b) place u l stage x r (InElse p) fine i shows w g o =
+            (so_in, beside_first (Coding.extra (statement_coding leaves codings a)) (Coding.extra (statement_coding leaves codings b)) (Now a l x.register) (Now b (after part a l) (x.register + length (registers_of islands (lowered part a l)))) (Coding.other (statement_coding leaves codings a) p) zeros shows.1) v.one has g o
+        form_goes (If test comb a b) place u l stage x r (InElse p) fine i shows w has g o =
             let v = stands.wired_if groups islands around registers look bound kept next hole port timed x test comb (lowered part a l) (lowered part b (after part a l)) place w in
             let us = law.parts_stand b (Placed (If test comb a b) place) else_branch u in
             let so : r ≡ x.position + suc (Coding.size (statement_coding leaves codings a) + Coding.number (statement_coding leaves codings b) p) = shows.0 in
@@ -220,8 +222,8 @@ module _ (groups : ℕ) (islands : List PlainIsland) (around : NetAround) (regis
             ∙ comb_off x comb g _ off
             ∙ silent (lowered part a l) (past_test x) true r g _ i (inr (inr past_a)) v.one
             ∙ statement_goes b us (after part a l) stage (behind islands (lowered part a l) (past_test x)) r p fine i
-            (so_in, beside_later (Coding.extra (statement_coding leaves codings a)) (Coding.extra (statement_coding leaves codings b)) (Now a l x.register) (Now b (after part a l) (x.register + length (registers_of islands (lowered part a l)))) zeros (Coding.other (statement_coding leaves codings b) p) shows.1) v.other g o
-        form_goes (While test comb a) place u l stage x r AtHead fine i shows w g o =
+            (so_in, beside_later (Coding.extra (statement_coding leaves codings a)) (Coding.extra (statement_coding leaves codings b)) (Now a l x.register) (Now b (after part a l) (x.register + length (registers_of islands (lowered part a l)))) zeros (Coding.other (statement_coding leaves codings b) p) shows.1) v.other has g o
+        form_goes (While test comb a) place u l stage x r AtHead fine i shows w has g o =
             let v = stands.wired_while groups islands around registers look bound kept next hole port timed x test comb (lowered part a l) place w in
             let so : r ≡ x.position + 0 = shows.0 in
             let here_so : r ≡ x.position = omega arith in
@@ -230,7 +232,7 @@ module _ (groups : ℕ) (islands : List PlainIsland) (around : NetAround) (regis
             while_hole around registers look groups islands x test.port comb _ (past_test x).wire (D (past_test x) (lowered part a l)) (groups + g) o
             ∙ ap (λ z. takes around registers look (ToHole (groups + g)) z (comb_goes groups islands x comb)) (silent (lowered part a l) (past_test x) true r g o i (inr (inl less)) v.body)
             ∙ comb_hole around registers look groups islands x comb g o on
-        form_goes (While test comb a) place u l stage x r (InBody p) fine i shows w g o =
+        form_goes (While test comb a) place u l stage x r (InBody p) fine i shows w has g o =
             let v = stands.wired_while groups islands around registers look bound kept next hole port timed x test comb (lowered part a l) place w in
             let so : r ≡ x.position + suc (Coding.number (statement_coding leaves codings a) p) = shows.0 in
             let past : x.position + 1 ≤ r = omega arith in
@@ -238,29 +240,29 @@ module _ (groups : ℕ) (islands : List PlainIsland) (around : NetAround) (regis
             let off : It (at x) false = stands.at_behind groups islands around registers look bound kept next hole port timed x r i past w.low v.stands_so in
             while_hole around registers look groups islands x test.port comb _ (past_test x).wire (D (past_test x) (lowered part a l)) (groups + g) o
             ∙ comb_off x comb g _ off
-            ∙ statement_goes a (law.parts_stand a (Placed (While test comb a) place) of_while u) l stage (past_test x) r p fine i (so_in, shows.1) v.body g o
-        form_goes (Repeat zero a) place u l stage x r p fine i shows w g o = refl
-        form_goes (Repeat (suc k) a) place u l stage x r p fine i shows w g o =
+            ∙ statement_goes a (law.parts_stand a (Placed (While test comb a) place) of_while u) l stage (past_test x) r p fine i (so_in, shows.1) v.body has g o
+        form_goes (Repeat zero a) place u l stage x r p fine i shows w has g o = refl
+        form_goes (Repeat (suc k) a) place u l stage x r p fine i shows w has g o =
             let v = stands.wired_repeat groups islands around registers look bound kept next hole port timed x k (lowered part a l) place w in
             repeat_hole around registers look x k (D (counted_inside x) (lowered part a l)) (groups + g) o
-            ∙ statement_goes a (law.parts_stand a (Placed (Repeat (suc k) a) place) of_repeat u) l stage (counted_inside x) r p.place fine.body i (shows.0, λ j less. shows.1 (suc j) (omega arith)) v.body g o
-        form_goes (StaticSeq written parts) place u l stage x r p fine i shows w g o = islands_go (Placed (StaticSeq written parts) place) u l stage place refl x r p fine i shows w g o
-        form_goes (StaticPar written arms) place u l stage x r p fine i shows w g o = islands_go (Placed (StaticPar written arms) place) u l stage place refl x r p fine i shows w g o
-        form_goes (StaticIf written test a b) place u l stage x r p fine i shows w g o = islands_go (Placed (StaticIf written test a b) place) u l stage place refl x r p fine i shows w g o
-        form_goes (StaticRepeat written count a) place u l stage x r p fine i shows w g o = islands_go (Placed (StaticRepeat written count a) place) u l stage place refl x r p fine i shows w g o
-        form_goes (Timed k) place u l stage x r p fine i shows w g o = absurd (law.is_untimed k place u)
+            ∙ statement_goes a (law.parts_stand a (Placed (Repeat (suc k) a) place) of_repeat u) l stage (counted_inside x) r p.place fine.body i (shows.0, λ j less. shows.1 (suc j) (omega arith)) v.body has g o
+        form_goes (StaticSeq written parts) place u l stage x r p fine i shows w has g o = islands_go (Placed (StaticSeq written parts) place) u l stage place refl x r p fine i shows w has g o
+        form_goes (StaticPar written arms) place u l stage x r p fine i shows w has g o = islands_go (Placed (StaticPar written arms) place) u l stage place refl x r p fine i shows w has g o
+        form_goes (StaticIf written test a b) place u l stage x r p fine i shows w has g o = islands_go (Placed (StaticIf written test a b) place) u l stage place refl x r p fine i shows w has g o
+        form_goes (StaticRepeat written count a) place u l stage x r p fine i shows w has g o = islands_go (Placed (StaticRepeat written count a) place) u l stage place refl x r p fine i shows w has g o
+        form_goes (Timed k) place u l stage x r p fine i shows w has g o = absurd (law.is_untimed k place u)
 
         -- THE GOES of a statement
-        pub statement_goes : (s : PlainStatement) → Stands s → (l : Lowering) → Low (after part s l) → (x : Stand) (r : ℕ) (p : Machine.Place (machine_of leaves s)) → Coding.IsFine (statement_coding leaves codings s) p → Acts x r → Shows s l x r p → W x (lowered part s l) → Goes s l x p
-        statement_goes (Placed form place) u l stage x r p fine i shows w = form_goes form place u l stage x r p fine i shows w
+        pub statement_goes : (s : PlainStatement) → Stands s → (l : Lowering) → Low (after part s l) → (x : Stand) (r : ℕ) (p : Machine.Place (machine_of leaves s)) → Coding.IsFine (statement_coding leaves codings s) p → Acts x r → Shows s l x r p → W x (lowered part s l) → IslandsHold leaves part timed_saw island_saw s p → Goes s l x p
+        statement_goes (Placed form place) u l stage x r p fine i shows w has = form_goes form place u l stage x r p fine i shows w has
 
         parts_go : (ss : PlainStatements) (whole : PlainStatement) → Stands whole → ((t : PlainStatement) → In (list_of ss) t → IsPart t whole) → (l : Lowering) → Low (parts_after part ss l) → (seq : Stand) (before : ℕ) (x : Stand) (r : ℕ) (p : Machine.Place (parts_machine leaves ss))
             → Coding.IsFine (parts_coding leaves codings ss) p → Acts x r
             → (r ≡ x.position + Coding.number (parts_coding leaves codings ss) p) × ((n : ℕ) → n < Coding.extra (parts_coding leaves codings ss) → parts_number leaves codings part islands kept now_island ss l x.register n ≡ Coding.other (parts_coding leaves codings ss) p n)
-            → WP seq before x (lowered_parts part ss l) → (g : ℕ) (o : Option BitVector)
+            → WP seq before x (lowered_parts part ss l) → PartsHold leaves part AnyTest (AnyGroup leaves) timed_saw island_saw ss p → (g : ℕ) (o : Option BitVector)
             → takes around registers look (ToHole (groups + g)) o (parts_drivers groups islands seq before x (lowered_parts part ss l)) ≡ told g o (parts_going leaves codings part islands hole of_enable of_island ss p)
-        parts_go no_statements whole u inside_whole l stage seq before x r p fine i shows w g o = absurd p
-        parts_go (a_statement s ss) whole u inside_whole l stage seq before x r (First p) fine i shows w g o =
+        parts_go no_statements whole u inside_whole l stage seq before x r p fine i shows w has g o = absurd p
+        parts_go (a_statement s ss) whole u inside_whole l stage seq before x r (First p) fine i shows w has g o =
             let v = stands.wired_parts groups islands around registers look bound kept next hole port timed seq before x (lowered part s l) (lowered_parts part ss (after part s l)) w in
             let us = law.parts_stand s whole (inside_whole s (inl refl)) u in
             let below : Coding.number (statement_coding leaves codings s) p < Coding.size (statement_coding leaves codings s) = (statement_coded leaves codings Stands law s us).coded.below p in
@@ -270,8 +272,8 @@ module _ (groups : ℕ) (islands : List PlainIsland) (around : NetAround) (regis
             takes_append around registers look (ToHole (groups + g)) o (D x (lowered part s l)) _
             ∙ ap (λ z. takes around registers look (ToHole (groups + g)) z (D x (lowered part s l))) (parts_silent (lowered_parts part ss (after part s l)) seq x.wire (behind islands (lowered part s l) x) r g o i less v.1)
             ∙ statement_goes s us l (low_parts ss (after part s l) stage) x r p fine i
-            (so, beside_first (Coding.extra (statement_coding leaves codings s)) (Coding.extra (parts_coding leaves codings ss)) (Now s l x.register) (NowParts ss (after part s l) (x.register + length (registers_of islands (lowered part s l)))) (Coding.other (statement_coding leaves codings s) p) zeros shows.1) v.0 g o
-        parts_go (a_statement s ss) whole u inside_whole l stage seq before x r (Second p) fine i shows w g o =
+            (so, beside_first (Coding.extra (statement_coding leaves codings s)) (Coding.extra (parts_coding leaves codings ss)) (Now s l x.register) (NowParts ss (after part s l) (x.register + length (registers_of islands (lowered part s l)))) (Coding.other (statement_coding leaves codings s) p) zeros shows.1) v.0 has g o
+        parts_go (a_statement s ss) whole u inside_whole l stage seq before x r (Second p) fine i shows w has g o =
             let v = stands.wired_parts groups islands around registers look bound kept next hole port timed seq before x (lowered part s l) (lowered_parts part ss (after part s l)) w in
             let size : Coding.size (statement_coding leaves codings s) ≡ positions_of (lowered part s l) = size_is s l in
             let so : r ≡ x.position + (Coding.size (statement_coding leaves codings s) + Coding.number (parts_coding leaves codings ss) p) = shows.0 in
@@ -280,25 +282,25 @@ module _ (groups : ℕ) (islands : List PlainIsland) (around : NetAround) (regis
             takes_append around registers look (ToHole (groups + g)) o (D x (lowered part s l)) _
             ∙ silent (lowered part s l) x true r g _ i (inr (inr past)) v.0
             ∙ parts_go ss whole u (λ t e. inside_whole t (inr e)) (after part s l) stage seq x.wire (behind islands (lowered part s l) x) r p fine i
-            (so_behind, beside_later (Coding.extra (statement_coding leaves codings s)) (Coding.extra (parts_coding leaves codings ss)) (Now s l x.register) (NowParts ss (after part s l) (x.register + length (registers_of islands (lowered part s l)))) zeros (Coding.other (parts_coding leaves codings ss) p) shows.1) v.1 g o
+            (so_behind, beside_later (Coding.extra (statement_coding leaves codings s)) (Coding.extra (parts_coding leaves codings ss)) (Now s l x.register) (NowParts ss (after part s l) (x.register + length (registers_of islands (lowered part s l)))) zeros (Coding.other (parts_coding leaves codings ss) p) shows.1) v.1 has g o
 
         arms_go : (arms : PlainStatements) (whole : PlainStatement) → Stands whole → ((t : PlainStatement) → In (list_of arms) t → IsPart t whole) → (l : Lowering) → Low (parts_after part arms l) → (par : Stand) (wire register : ℕ) (k : Control (Machine.Place (arms_machine leaves arms)))
             → at_fine (Bank.IsFine (arms_bank leaves codings arms)) k → It (at par) true
             → ((n : ℕ) → n < Bank.count (arms_bank leaves codings arms) → arms_number leaves codings part islands kept now_island arms l register n ≡ Bank.code (arms_bank leaves codings arms) k n)
-            → WA par wire register (lowered_parts part arms l) → (g : ℕ) (o : Option BitVector)
+            → WA par wire register (lowered_parts part arms l) → at_fine (ArmsHold leaves part AnyTest (AnyGroup leaves) timed_saw island_saw arms) k → (g : ℕ) (o : Option BitVector)
             → takes around registers look (ToHole (groups + g)) o (arms_drivers groups islands par wire register (lowered_parts part arms l)) ≡ told g o (at_control (arms_going leaves codings part islands hole of_enable of_island arms) k)
-        arms_go no_statements whole u inside_whole l stage par wire register (At p) fine on nums w g o = absurd p
-        arms_go no_statements whole u inside_whole l stage par wire register Done fine on nums w g o = refl
-        arms_go (a_statement s ss) whole u inside_whole l stage par wire register k fine on nums w g o =
+        arms_go no_statements whole u inside_whole l stage par wire register (At p) fine on nums w has g o = absurd p
+        arms_go no_statements whole u inside_whole l stage par wire register Done fine on nums w has g o = refl
+        arms_go (a_statement s ss) whole u inside_whole l stage par wire register k fine on nums w has g o =
             let v = stands.wired_arms groups islands around registers look bound kept next hole port timed par wire register (lowered part s l) (lowered_parts part ss (after part s l)) w in
             let us = law.parts_stand s whole (inside_whole s (inl refl)) u in
             takes_append around registers look (ToHole (groups + g)) o (D (arm_stand par wire register) (lowered part s l)) _
             ∙ ap (λ z. takes around registers look (ToHole (groups + g)) z (D (arm_stand par wire register) (lowered part s l)))
             (arms_go ss whole u (λ t e. inside_whole t (inr e)) (after part s l) stage par (wire + wires_of (lowered part s l)) (suc register + length (registers_of islands (lowered part s l))) (right_control k)
             (right_fine (region_bank (statement_coding leaves codings s)) (arms_bank leaves codings ss) k fine) on
-            (beside_later (suc (Coding.extra (statement_coding leaves codings s))) (Bank.count (arms_bank leaves codings ss)) (counted (kept register) (Now s l (suc register))) (arms_number leaves codings part islands kept now_island ss (after part s l) (suc register + length (registers_of islands (lowered part s l)))) (bank_code (statement_coding leaves codings s) (left_control k)) (Bank.code (arms_bank leaves codings ss) (right_control k)) nums) v.1 g o)
+            (beside_later (suc (Coding.extra (statement_coding leaves codings s))) (Bank.count (arms_bank leaves codings ss)) (counted (kept register) (Now s l (suc register))) (arms_number leaves codings part islands kept now_island ss (after part s l) (suc register + length (registers_of islands (lowered part s l)))) (bank_code (statement_coding leaves codings s) (left_control k)) (Bank.code (arms_bank leaves codings ss) (right_control k)) nums) v.1 (right_says (StatementHolds leaves part AnyTest (AnyGroup leaves) timed_saw island_saw s) (ArmsHold leaves part AnyTest (AnyGroup leaves) timed_saw island_saw ss) k has) g o)
             ∙ arm_goes s us l par wire register (left_control k) (left_fine (region_bank (statement_coding leaves codings s)) (arms_bank leaves codings ss) k fine) on
             (beside_first (suc (Coding.extra (statement_coding leaves codings s))) (Bank.count (arms_bank leaves codings ss)) (counted (kept register) (Now s l (suc register))) (arms_number leaves codings part islands kept now_island ss (after part s l) (suc register + length (registers_of islands (lowered part s l)))) (bank_code (statement_coding leaves codings s) (left_control k)) (Bank.code (arms_bank leaves codings ss) (right_control k)) nums)
-            v.0 w.registers_are.0 (λ p f shows_it. statement_goes s us l (low_parts ss (after part s l) stage) (arm_stand par wire register) (kept register) p f (record { acts_so = on; width = 32; at_position = w.registers_are.0 }) shows_it v.0) g _
+            v.0 w.registers_are.0 (left_says (StatementHolds leaves part AnyTest (AnyGroup leaves) timed_saw island_saw s) (ArmsHold leaves part AnyTest (AnyGroup leaves) timed_saw island_saw ss) k has) (λ p f shows_it has_it. statement_goes s us l (low_parts ss (after part s l) stage) (arm_stand par wire register) (kept register) p f (record { acts_so = on; width = 32; at_position = w.registers_are.0 }) shows_it v.0 has_it) g _
             ∙ sym (told_append g o (at_control (going leaves codings part islands hole of_enable of_island s) (left_control k)) (at_control (arms_going leaves codings part islands hole of_enable of_island ss) (right_control k)))
             ∙ ap (told g o) (runs_both (going leaves codings part islands hole of_enable of_island s) (arms_going leaves codings part islands hole of_enable of_island ss) k)

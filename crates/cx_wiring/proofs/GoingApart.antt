@@ -85,7 +85,7 @@ group_among (a_statement s ss) g i = by (in_either (groups_of s) (groups_in_all 
     by (inl k) later = (s, inl refl, k)
     by (inr k) later = let r = later k in (r.0, inr r.1, r.2)
 
-group_within : (part : PlainComponent) (gs : List ℕ) (g c : ℕ) → In gs g → group_drives part g c ≡ true → groups_drive part gs c ≡ true
+pub group_within : (part : PlainComponent) (gs : List ℕ) (g c : ℕ) → In gs g → group_drives part g c ≡ true → groups_drive part gs c ≡ true
 group_within part [] g c i e = absurd i
 group_within part (x ∷ xs) g c (inl same) e = ap (λ b. b || groups_drive part xs c) (ap (λ y. group_drives part y c) same ∙ e)
 group_within part (x ∷ xs) g c (inr i) e = or_right (group_drives part x c) (groups_drive part xs c) (group_within part xs g c i e)

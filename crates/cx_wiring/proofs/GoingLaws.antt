@@ -5,7 +5,9 @@ use Rattle.std.proofs.lemmas.Bool.{eqb-true}
 use Rattle.cx_text.specs.declared.places.Place.{Place}
 use Rattle.cx_bits.specs.BitVector.{BitVector}
 use Rattle.cx_meaning.specs.declared.ports.PortRef.{PortRef}
-use Rattle.cx_meaning.specs.Designs.{PlainComponent, PlainForm, Empty, Enable, Seq, Par, If, While, Repeat, StaticSeq, StaticPar, StaticIf, StaticRepeat, Timed, PlainStatement, Placed, PlainStatements, no_statements, a_statement, list_of}
+use Rattle.cx_rules.specs.Items.{is_comb}
+use Rattle.cx_rules.specs.Wellformed.{IsForm, IsWith}
+use Rattle.cx_meaning.specs.Designs.{group_at, PlainComponent, PlainForm, Empty, Enable, Seq, Par, If, While, Repeat, StaticSeq, StaticPar, StaticIf, StaticRepeat, Timed, PlainStatement, Placed, PlainStatements, no_statements, a_statement, list_of}
 use Rattle.cx_meaning.specs.Islands.{group_length}
 use Rattle.cx_meaning.specs.Sights.{In}
 use Rattle.cx_lockstep.specs.Worlds.{Store, Control, At, Done, Machine}
@@ -106,6 +108,26 @@ module _ {X : Type 0} {V : X → Type 0} {F : Type 0} (leaves : LeafMachines X V
     HasComb (Placed (StaticIf length test a b) place) g = ⊥
     HasComb (Placed (StaticRepeat length count a) place) g = ⊥
     HasComb (Placed (Timed k) place) g = ⊥
+
+    -- the group of a test is a comb group
+    module _ (Stands : PlainStatement → Type 0) (forms : (form : PlainForm) (place : Place) → Stands (Placed form place) → IsForm part form) where
+      with_comb_is : (o : Option ℕ) (g : ℕ) → IsWith part o → o ≡ Some g → is_comb (group_at part g).kind ≡ true
+      with_comb_is None g w e = absurd cc
+      with_comb_is (Some k) g w e = let same : k ≡ g = cc in subst (λ n. is_comb (group_at part n).kind ≡ true) same w.1
+
+      pub comb_is : (t : PlainStatement) (g : ℕ) → Stands t → HasComb t g → is_comb (group_at part g).kind ≡ true
+      comb_is (Placed Empty place) g u h = absurd h
+      comb_is (Placed (Enable k) place) g u h = absurd h
+      comb_is (Placed (Seq parts) place) g u h = absurd h
+      comb_is (Placed (Par arms) place) g u h = absurd h
+      comb_is (Placed (If test comb a b) place) g u h = with_comb_is comb g (forms (If test comb a b) place u) h
+      comb_is (Placed (While test comb a) place) g u h = with_comb_is comb g (forms (While test comb a) place u) h
+      comb_is (Placed (Repeat count a) place) g u h = absurd h
+      comb_is (Placed (StaticSeq length parts) place) g u h = absurd h
+      comb_is (Placed (StaticPar length arms) place) g u h = absurd h
+      comb_is (Placed (StaticIf length test a b) place) g u h = absurd h
+      comb_is (Placed (StaticRepeat length count a) place) g u h = absurd h
+      comb_is (Placed (Timed k) place) g u h = absurd h
 
     module _ (Stands : PlainStatement → Type 0) (parts_stand : (s whole : PlainStatement) → IsPart s whole → Stands whole → Stands s) (x : Going) where
       pub data Source (rs : List (Running leaves)) : Type 0 where

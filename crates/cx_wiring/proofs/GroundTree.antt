@@ -1,18 +1,21 @@
 -- In a look that solves the rules of a design's net every node of the tree has a value: first dones and outputs, from the leaves up, and
 -- then all nodes, from the root down.
-use Rattle.std.proofs.Common.{◌≡◌, ℕ, zero, suc, ◌+◌, ◌<◌, true, List, [], ◌∷◌, length, refl, sym, ap, ◌∙◌, subst, arith}
+use Rattle.std.proofs.Common.{◌≡◌, ℕ, zero, suc, ◌+◌, ◌<◌, ◌≤◌, Bool, true, Some, List, [], ◌∷◌, length, Option, refl, sym, ap, ◌∙◌, subst, arith}
 use Rattle.std.proofs.lemmas.Bool.{lt-ltb}
+use Rattle.cx_bits.specs.BitVector.{BitVector}
 use Rattle.cx_prim.specs.Rows.{Row}
 use Rattle.cx_meaning.specs.declared.ports.PortRef.TheVariants as ports
 use Rattle.cx_meaning.specs.Designs.{PlainComponent, PlainDesign}
 use Rattle.cx_meaning.specs.Instances as instances
-use Rattle.cx_meaning.specs.Instances.{Instance, Cells, no_cells, a_primitive, an_instance, OfInstance, part_of, cell_at, Path, instance_at, child_at, tree_of}
+use Rattle.cx_meaning.specs.Instances.{Instance, Cells, no_cells, a_primitive, an_instance, OfInstance, part_of, cells_of, cell_at, Path, instance_at, child_at, tree_of}
 use Rattle.cx_meaning.specs.Active.{Active}
 use Rattle.cx_rules.specs.Circles.{IsAcyclic}
 use Rattle.cx_flow.specs.Together.{IsTogether}
 use Rattle.cx_net.specs.Nets.{PlainNetComponent}
 use Rattle.cx_net.specs.NetTree.{NetInstance, NetNode, NetCells, no_net_cells, a_row, a_child, AChild, net_part, net_cell_at}
-use Rattle.cx_net.specs.NetMeaning.{NetState, below_cell, Node, APort, TheDone, NetLook, NetAround, around_child, net_step, child_step, own_step, is_port_of, is_own_node, is_node, is_node_below}
+use Rattle.cx_net.specs.NetMeaning.{NetState, below_cell, Node, APort, AWire, TheDone, NetLook, NetAround, around_child, net_step, child_step, is_port_of, is_own_node, is_node, is_node_below, truth_bit}
+use Rattle.cx_static.specs.Lowering.{lowered_component}
+use Rattle.cx_wiring.specs.Wiring.{groups, first_of_control}
 use Rattle.cx_wiring.specs.PartNets.{timers_of, wired_in}
 use Rattle.cx_wiring.specs.Blocks.{rows_alone, net_of_instance, net_of_cells}
 use Rattle.cx_wiring.proofs.RowPorts.{HasRowPorts, row_ports}
@@ -21,7 +24,8 @@ use Rattle.cx_wiring.proofs.FreeOutputs.{OutputsFree}
 use Rattle.cx_wiring.proofs.KnownLemmas.{Known}
 use Rattle.cx_wiring.proofs.StateForms.{KeepsForm, row_of_forms}
 use Rattle.cx_wiring.proofs.CellForms.{AreForms, row_forms, child_forms}
-use Rattle.cx_wiring.proofs.NodeKnown.{NetShows, IslandsOwe, done_known, outputs_known, node_known}
+use Rattle.cx_wiring.proofs.NodeKnown.{NetShows, done_known, outputs_known, node_known}
+use Rattle.cx_wiring.proofs.NodeIslands.{islands_owe}
 
 -- WHAT STANDS AT A CELL of a net
 at_child : (cells : NetCells) (c : ℕ) (child : NetInstance) → net_cell_at cells c ≡ AChild child → (q : Path) (n : Node) → is_node_below cells c q n ≡ is_node child q n
@@ -133,45 +137,51 @@ module _ (d : PlainDesign) (numbers : Instance → NetState → ℕ → ℕ) whe
     told_below (an_instance k rest) zero kid is = let f : k ≡ kid = cc in subst ToldAt f (told k)
     told_below (an_instance k rest) (suc c) kid is = told_below rest c kid is
 
-  -- ALL NODES, where the go and the inputs have values, and islands are as they owe
-  module _ (islands : (part : PlainComponent) (cells : Cells) (seam : SeamRules d (instances.Node part cells)) (around : NetAround) (s : NetState) (look : NetLook)
-      (solves : (n : Node) → is_own_node (wired_in d part) (net_of_cells (wired_in d) timers_of numbers cells (timers_of part)) n ≡ true
-      → look [] n ≡ own_step (wired_in d part) (net_of_cells (wired_in d) timers_of numbers cells (timers_of part)) around s (look []) (λ c. look (c ∷ [])) n)
-      (shows : NetShows (net_of_cells (wired_in d) timers_of numbers cells (timers_of part)) s look) → Known around.go → ((n : ℕ) → n < length part.inputs → Known (around.input n))
-      → IslandsOwe d part cells numbers seam around s look solves shows) where
-    abbrev KnownAt : Instance → Type 0
-    KnownAt i = Ruled i → (around : NetAround) (s : NetState) (look : NetLook) → SolvesTree (T i) around s look → AreForms (T i) s.cell → Known around.go → ((n : ℕ) → n < length (net_part (T i)).inputs → Known (around.input n))
-        → (path : Path) (n : Node) → is_node (T i) path n ≡ true → Known (look path n)
+  -- ALL NODES, where the go and the inputs have values, and the wires of islands have bits
+  abbrev pub Narrow : PlainComponent → (Node → Option BitVector) → Type 0
+  Narrow part look = (n : ℕ) (v : BitVector) → groups (lowered_component part) ≤ n → n < first_of_control (lowered_component part) → look (AWire n) ≡ Some v → (b : Bool) × (v ≡ truth_bit b)
 
-    mutual
-      pub tree_known : (i : Instance) → KnownAt i
-      tree_known (instances.Node part cells) ruled around s look solves forms go inputs [] n there =
-          let shown = node_shows part cells (told_below cells) ruled around s look solves forms in
-          node_known d part cells numbers (GroundRules.seam (ruled [])) around s look (solves []) shown go inputs (GroundRules.free (ruled [])) (GroundRules.acyclic (ruled []))
-          (islands part cells (GroundRules.seam (ruled [])) around s look (solves []) shown go inputs) n there
-      tree_known (instances.Node part cells) ruled around s look solves forms go inputs (c ∷ path) n there =
-          let k = some_child NC c path n there in
-          let kid = child_of cells (timers_of part) c k.0 k.1 in
-          let is : net_cell_at NC c ≡ AChild (T kid.0) = k.1 ∙ ap AChild (sym kid.2) in
-          known_below cells c kid.0 kid.1 (child_ruled part cells ruled c kid.0 kid.1) (around_child c (look [])) (below_cell c s) (λ q. look (c ∷ q))
-          (child_solves (wired_in d part) NC around s look solves c (T kid.0) is)
-          (child_forms NC (λ e p. s.cell (e ∷ p)) forms c (T kid.0) is)
-          (own (APort (ports.Cell c 0)) (ap (λ x. is_port_of x 0) is ∙ lt-ltb 0 (2 + length (net_part (T kid.0)).inputs + length (net_part (T kid.0)).outputs) (omega arith)))
-          (λ m less. own (APort (ports.Cell c (suc m))) (ap (λ x. is_port_of x (suc m)) is ∙ lt-ltb (suc m) (2 + length (net_part (T kid.0)).inputs + length (net_part (T kid.0)).outputs) (omega arith)))
-          path n (sym (at_child NC c (T kid.0) is path n) ∙ there)
-        where
-          NC : NetCells
-          NC = net_of_cells (wired_in d) timers_of numbers cells (timers_of part)
+  -- an instance stands below another one
+  abbrev pub Down : Instance → Path → Instance → Type 0
+  Down i [] j = i ≡ j
+  Down i (c ∷ path) j = (kid : Instance) × (cell_at (cells_of i) c ≡ OfInstance kid) × Down kid path j
 
-          own : (m : Node) → is_own_node (wired_in d part) (net_of_cells (wired_in d) timers_of numbers cells (timers_of part)) m ≡ true → Known (look [] m)
-          own m here =
-              let shown = node_shows part cells (told_below cells) ruled around s look solves forms in
-              node_known d part cells numbers (GroundRules.seam (ruled [])) around s look (solves []) shown go inputs (GroundRules.free (ruled [])) (GroundRules.acyclic (ruled []))
-              (islands part cells (GroundRules.seam (ruled [])) around s look (solves []) shown go inputs) m here
+  abbrev pub NarrowTree : Instance → NetLook → Type 0
+  NarrowTree i look = (path : Path) (part : PlainComponent) (cells : Cells) → Down i path (instances.Node part cells) → Narrow part (look path)
 
-      known_below : (cells : Cells) (c : ℕ) (kid : Instance) → cell_at cells c ≡ OfInstance kid → KnownAt kid
-      known_below no_cells c kid is = absurd cc
-      known_below (a_primitive row rest) zero kid is = absurd cc
-      known_below (a_primitive row rest) (suc c) kid is = known_below rest c kid is
-      known_below (an_instance k rest) zero kid is = let f : k ≡ kid = cc in subst KnownAt f (tree_known k)
-      known_below (an_instance k rest) (suc c) kid is = known_below rest c kid is
+  abbrev KnownAt : Instance → Type 0
+  KnownAt i = Ruled i → (around : NetAround) (s : NetState) (look : NetLook) → SolvesTree (T i) around s look → AreForms (T i) s.cell → Known around.go → ((n : ℕ) → n < length (net_part (T i)).inputs → Known (around.input n))
+      → NarrowTree i look → (path : Path) (n : Node) → is_node (T i) path n ≡ true → Known (look path n)
+
+  mutual
+    pub tree_known : (i : Instance) → KnownAt i
+    tree_known (instances.Node part cells) ruled around s look solves forms go inputs narrow [] n there =
+        let shown = node_shows part cells (told_below cells) ruled around s look solves forms in
+        node_known d part cells numbers (GroundRules.seam (ruled [])) around s look (solves []) shown go inputs (GroundRules.free (ruled [])) (GroundRules.acyclic (ruled []))
+        (islands_owe d part cells numbers (GroundRules.seam (ruled [])) around s look (solves []) shown go inputs (narrow [] part cells refl)) n there
+    tree_known (instances.Node part cells) ruled around s look solves forms go inputs narrow (c ∷ path) n there =
+        let k = some_child NC c path n there in
+        let kid = child_of cells (timers_of part) c k.0 k.1 in
+        let is : net_cell_at NC c ≡ AChild (T kid.0) = k.1 ∙ ap AChild (sym kid.2) in
+        known_below cells c kid.0 kid.1 (child_ruled part cells ruled c kid.0 kid.1) (around_child c (look [])) (below_cell c s) (λ q. look (c ∷ q))
+        (child_solves (wired_in d part) NC around s look solves c (T kid.0) is)
+        (child_forms NC (λ e p. s.cell (e ∷ p)) forms c (T kid.0) is)
+        (own (APort (ports.Cell c 0)) (ap (λ x. is_port_of x 0) is ∙ lt-ltb 0 (2 + length (net_part (T kid.0)).inputs + length (net_part (T kid.0)).outputs) (omega arith)))
+        (λ m less. own (APort (ports.Cell c (suc m))) (ap (λ x. is_port_of x (suc m)) is ∙ lt-ltb (suc m) (2 + length (net_part (T kid.0)).inputs + length (net_part (T kid.0)).outputs) (omega arith)))
+        (λ q p cs down. narrow (c ∷ q) p cs (kid.0, kid.1, down)) path n (sym (at_child NC c (T kid.0) is path n) ∙ there)
+      where
+        NC : NetCells
+        NC = net_of_cells (wired_in d) timers_of numbers cells (timers_of part)
+
+        own : (m : Node) → is_own_node (wired_in d part) (net_of_cells (wired_in d) timers_of numbers cells (timers_of part)) m ≡ true → Known (look [] m)
+        own m here =
+            let shown = node_shows part cells (told_below cells) ruled around s look solves forms in
+            node_known d part cells numbers (GroundRules.seam (ruled [])) around s look (solves []) shown go inputs (GroundRules.free (ruled [])) (GroundRules.acyclic (ruled []))
+            (islands_owe d part cells numbers (GroundRules.seam (ruled [])) around s look (solves []) shown go inputs (narrow [] part cells refl)) m here
+
+    known_below : (cells : Cells) (c : ℕ) (kid : Instance) → cell_at cells c ≡ OfInstance kid → KnownAt kid
+    known_below no_cells c kid is = absurd cc
+    known_below (a_primitive row rest) zero kid is = absurd cc
+    known_below (a_primitive row rest) (suc c) kid is = known_below rest c kid is
+    known_below (an_instance k rest) zero kid is = let f : k ≡ kid = cc in subst KnownAt f (tree_known k)
+    known_below (an_instance k rest) (suc c) kid is = known_below rest c kid is

@@ -1,7 +1,7 @@
 -- What goes in an island of the net is together, where its statement stands: the enables that are active are those of one cycle, and none
 -- is where control does not stand there.
-use Rattle.std.proofs.Common.{◌≡◌, ℕ, zero, suc, ◌+◌, ◌-◌, ◌<◌, ◌≤◌, ◌⊎◌, inl, inr, ◌==◌, ◌&&◌, not, nat_lt, Bool, true, false, if◌then◌else◌, List, [], ◌∷◌, ◌++◌, length, Option, Some, None, unwrap_or, slice_get, refl, sym, ap, ◌∙◌, subst, arith}
-use Rattle.std.proofs.lemmas.Bool.{and_left, and_right, eqb-true, ltb-true, cases_lt}
+use Rattle.std.proofs.Common.{◌≡◌, ℕ, zero, suc, ◌+◌, ◌-◌, ◌<◌, ◌≤◌, inl, inr, ◌==◌, ◌&&◌, not, nat_lt, Bool, true, false, if◌then◌else◌, List, [], ◌∷◌, length, Option, Some, None, unwrap_or, slice_get, refl, sym, ap, ◌∙◌, subst, arith}
+use Rattle.std.proofs.lemmas.Bool.{eqb-true, ltb-true, cases_lt}
 use Rattle.std.proofs.lemmas.Bool.Decides.{nat_tests}
 use Rattle.cx_bits.specs.BitVector.{BitVector}
 use Rattle.cx_text.specs.declared.places.Place.{Place}
@@ -10,24 +10,23 @@ use Rattle.cx_meaning.specs.Designs.{PlainComponent, PlainCell, PlainForm, Timed
 use Rattle.cx_meaning.specs.Islands.{form_length}
 use Rattle.cx_meaning.specs.Active.{Active, nothing}
 use Rattle.cx_meaning.specs.Sights.{In}
-use Rattle.cx_net.specs.Nets.{PlainNetExpr, OfPort, OfWire, Inverse, ToHole, PlainNetDriver}
+use Rattle.cx_net.specs.Nets.{OfPort, OfWire, Inverse, ToHole, PlainNetDriver}
 use Rattle.cx_net.specs.NetMeaning.{Node, APort, AWire, NetAround, is_true, truth_bit}
 use Rattle.cx_static.specs.declared.islands.Sample.{Sample}
 use Rattle.cx_static.specs.declared.islands.IslandTimer.{IslandTimer}
 use Rattle.cx_static.specs.Islands.{PlainPoint, PlainOccurrence, PlainIsland}
-use Rattle.cx_static.specs.Lowering.{Gathered, begin_at, with_timer, form_gathered, island_gathered, island_of}
-use Rattle.cx_wiring.specs.Parts.{one, both}
+use Rattle.cx_static.specs.Lowering.{Gathered, begin_at, with_timer, island_gathered, island_of}
+use Rattle.cx_wiring.specs.Parts.{both}
 use Rattle.cx_wiring.specs.Stands.{Stand, at}
 use Rattle.cx_wiring.specs.IslandDrivers as wired
 use Rattle.cx_wiring.specs.IslandDrivers.{wires_of_island, timer_drivers, point_drivers, occurrence_drivers, island_drivers, first_of_island}
 use Rattle.cx_wiring.specs.Control.{timed_drivers, form_drivers}
 use Rattle.cx_wiring.specs.Takings.{value}
 use Rattle.cx_wiring.specs.Shown.{wide}
-use Rattle.cx_wiring.proofs.TakingLemmas.{true_bit}
 use Rattle.cx_wiring.proofs.GatherLaws.{get_below, get_some}
 use Rattle.cx_wiring.proofs.IslandValues as values
 use Rattle.cx_wiring.proofs.IslandValues.{IslandLooks}
-use Rattle.cx_wiring.proofs.KnownLemmas.{Known, known_as, KnownExpr, On, Fed, two_true, known_inverse, AllTo, all_to_append, all_to_other}
+use Rattle.cx_wiring.proofs.KnownLemmas.{Known, On, two_true, known_inverse, AllTo, all_to_append}
 use Rattle.cx_wiring.proofs.TogetherGoes.{IsOn, GoesIn, Holes, IsleGoes}
 use Rattle.cx_wiring.proofs.StaticGoes as static
 use Rattle.cx_wiring.proofs.IslandKnown.{IslandGiven, runs_known, sample_known, active_known}

@@ -26,7 +26,7 @@ within_zero : (cycles : ℕ → ℕ) (first : Option ℕ) (known : ℕ → Optio
 within_zero cycles first known cell None from to e h = e
 within_zero cycles first known cell (Some outer) from to e h = nested_zero from to (cycles cell) (known outer) (h outer)
 
-counts_zero : (cycles : ℕ → ℕ) (first : Option ℕ) → or_zero first ≡ 0 → (timers : List IslandTimer) (known : ℕ → Option ℕ) (n : ℕ) → ((m : ℕ) → or_zero (known m) ≡ 0) → (m : ℕ) → or_zero (counts_from cycles first known n timers m) ≡ 0
+pub counts_zero : (cycles : ℕ → ℕ) (first : Option ℕ) → or_zero first ≡ 0 → (timers : List IslandTimer) (known : ℕ → Option ℕ) (n : ℕ) → ((m : ℕ) → or_zero (known m) ≡ 0) → (m : ℕ) → or_zero (counts_from cycles first known n timers m) ≡ 0
 counts_zero cycles first e [] known n h m = h m
 counts_zero cycles first e (timer ∷ rest) known n h m =
     counts_zero cycles first e rest (λ k. if nat_eq k n then timer_count cycles first known timer else known k) (suc n) (λ k. by (nat_eq k n) k) m
@@ -35,7 +35,7 @@ counts_zero cycles first e (timer ∷ rest) known n h m =
     by true k = within_zero cycles first known timer.cell timer.outer timer.from timer.to e h
     by false k = h k
 
-all_zero : (count : ℕ → ℕ) (counts : ℕ → Option ℕ) (n : ℕ) → ((m : ℕ) → m < n → count m ≡ 0) → ((m : ℕ) → or_zero (counts m) ≡ 0) → all_count count counts n ≡ true
+pub all_zero : (count : ℕ → ℕ) (counts : ℕ → Option ℕ) (n : ℕ) → ((m : ℕ) → m < n → count m ≡ 0) → ((m : ℕ) → or_zero (counts m) ≡ 0) → all_count count counts n ≡ true
 all_zero count counts zero h k = refl
 all_zero count counts (suc n) h k =
     ap (λ b. b && all_count count counts n) (eq-eqb (count n) (or_zero (counts n)) (h n (omega arith) ∙ sym (k n))) ∙ all_zero count counts n (λ m less. h m (omega arith)) k

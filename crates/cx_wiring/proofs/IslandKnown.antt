@@ -1,26 +1,25 @@
 -- The wires of an island have values where control's wire at its statement has one, its timers show their counts, and its samples and the
 -- ports of its static ifs have values; so its drivers are fed.
-use Rattle.std.proofs.Common.{◌≡◌, ℕ, zero, suc, ◌+◌, ◌-◌, ◌^◌, ◌%◌, ◌<◌, ◌≤◌, inl, inr, Bool, true, false, if◌then◌else◌, List, [], ◌∷◌, ◌++◌, length, map, Option, Some, None, option_map, option_and_then, unwrap_or, slice_get, refl, sym, ap, ◌∙◌, subst, arith}
+use Rattle.std.proofs.Common.{◌≡◌, ℕ, zero, suc, ◌+◌, ◌-◌, ◌^◌, ◌%◌, ◌<◌, ◌≤◌, inl, inr, Bool, true, false, if◌then◌else◌, List, [], ◌∷◌, ◌++◌, length, map, Option, Some, None, option_map, unwrap_or, slice_get, refl, sym, ap, ◌∙◌, subst, arith}
 use Rattle.cx_bits.specs.BitVector.{BitVector}
 use Rattle.cx_bits.specs.Operators.{and_of, sum_of}
 use Rattle.cx_meaning.specs.declared.ports.PortRef.TheVariants as ports
 use Rattle.cx_meaning.specs.declared.ports.Comparison.TheVariants.{Less, AtLeast}
 use Rattle.cx_meaning.specs.Sights.{In}
 use Rattle.cx_meaning.specs.Truths.{compares}
-use Rattle.cx_net.specs.Nets.{PlainNetExpr, OfPort, OfWire, OfRegister, Inverse, AllOf, Sum, Compares, exprs_of, PlainNetTarget, ToPort, ToRegister, ToWire, ToHole, PlainNetDriver}
-use Rattle.cx_net.specs.NetMeaning.{Node, APort, AWire, NetAround, is_true, truth_bit, all_expr}
+use Rattle.cx_net.specs.Nets.{PlainNetExpr, OfPort, OfWire, OfRegister, Inverse, AllOf, Compares, exprs_of, PlainNetTarget, ToPort, ToRegister, ToWire, ToHole, PlainNetDriver}
+use Rattle.cx_net.specs.NetMeaning.{Node, APort, AWire, NetAround, truth_bit, all_expr}
 use Rattle.cx_static.specs.declared.islands.Sample.{Sample}
 use Rattle.cx_static.specs.declared.islands.IslandTimer.{IslandTimer}
 use Rattle.cx_static.specs.Islands.{PlainPoint, PlainOccurrence, PlainIsland}
-use Rattle.cx_wiring.specs.Parts.{literal, word, one, both, equals, drive, connect}
-use Rattle.cx_wiring.specs.Stands.{Stand, at, end_of}
+use Rattle.cx_wiring.specs.Parts.{literal, word, one, both, equals, drive}
+use Rattle.cx_wiring.specs.Stands.{Stand, at}
 use Rattle.cx_wiring.specs.IslandDrivers as wired
 use Rattle.cx_wiring.specs.IslandDrivers.{wires_of_island, timer_drivers, point_drivers, occurrence_drivers, island_drivers}
-use Rattle.cx_wiring.specs.Takings.{value, takes, takes_of}
+use Rattle.cx_wiring.specs.Takings.{value, takes}
 use Rattle.cx_wiring.proofs.GatherLaws.{get_below, get_some}
-use Rattle.cx_wiring.proofs.IslandCells.{IsListed}
 use Rattle.cx_wiring.proofs.IslandValues as values
-use Rattle.cx_wiring.proofs.KnownLemmas.{Known, known_as, known_both, KnownExpr, On, Fed, known_two, known_equals, known_inverse, AllOfThem, all_append, AllTo, all_any_target, fed_takes}
+use Rattle.cx_wiring.proofs.KnownLemmas.{Known, known_as, known_both, KnownExpr, Fed, known_two, known_equals, known_inverse, AllOfThem, all_append, fed_takes}
 use Rattle.cx_wiring.proofs.GuardsKnown.{fed_connect}
 
 module _ (groups : ℕ) (x : Stand) (first : ℕ) (island : PlainIsland) (around : NetAround) (registers : ℕ → Option BitVector) (look : Node → Option BitVector) where

@@ -1,6 +1,6 @@
 -- What the islands of a component owe, where each stands: their drivers are fed, what goes in them is together, and no other driver of
 -- control drives the offset of a group.
-use Rattle.std.proofs.Common.{◌≡◌, ℕ, zero, suc, ◌+◌, ◌<◌, ◌≤◌, ◌==◌, inl, inr, Bool, true, false, List, [], ◌∷◌, ◌++◌, length, replicate, take, Option, Some, None, option_map, unwrap_or, slice_get, refl, sym, ap, ◌∙◌, subst, arith}
+use Rattle.std.proofs.Common.{◌≡◌, ℕ, zero, suc, ◌+◌, ◌<◌, ◌≤◌, ◌==◌, Bool, true, false, List, length, replicate, take, Option, Some, None, option_map, unwrap_or, slice_get, refl, sym, ap, ◌∙◌, subst, arith}
 use Rattle.std.proofs.lemmas.Bool.{eqb-true}
 use Rattle.cx_bits.specs.BitVector.{BitVector}
 use Rattle.cx_text.specs.declared.places.Place.{Place}
@@ -8,19 +8,18 @@ use Rattle.cx_meaning.specs.declared.ports.PortRef.TheVariants as ports
 use Rattle.cx_meaning.specs.Designs.{PlainComponent, PlainForm, Empty, Enable, Seq, Par, If, While, Repeat, StaticSeq, StaticPar, StaticIf, StaticRepeat, Timed, PlainStatement, Placed, PlainStatements, no_statements, a_statement}
 use Rattle.cx_meaning.specs.Islands.{group_length, form_length}
 use Rattle.cx_net.specs.Nets.{PlainNetExpr, OfPort, OfRegister, ToWire, PlainNetDriver}
-use Rattle.cx_net.specs.NetMeaning.{Node, APort, AWire, NetAround, truth_bit, same_target}
+use Rattle.cx_net.specs.NetMeaning.{Node, APort, AWire, NetAround, truth_bit}
 use Rattle.cx_static.specs.declared.islands.IslandTimer.{IslandTimer}
-use Rattle.cx_static.specs.Islands.{PlainPoint, PlainOccurrence, PlainIsland}
+use Rattle.cx_static.specs.Islands.{PlainPoint, PlainIsland}
 use Rattle.cx_static.specs.Lowering.{Lowering, with_island, form_after, after, parts_after, lowered_enable, after_enable, lowered_form, lowered, lowered_parts, lowered_component, unlowered, island_gathered, island_of}
 use Rattle.cx_wiring.specs.Parts.{both, equals}
 use Rattle.cx_wiring.specs.Counts.{wires_of, sample_registers, form_registers, registers_of, registers_in, arms_registers}
 use Rattle.cx_wiring.specs.Stands.{Stand, at, end_of, inside, past_test, behind}
-use Rattle.cx_wiring.specs.IslandDrivers as wired
 use Rattle.cx_wiring.specs.IslandDrivers.{wires_of_island, island_wires, first_of_island, island_drivers}
 use Rattle.cx_wiring.specs.Control.{one_turn, arm_stand, counted_inside, counting, comb_goes, timed_drivers, form_drivers, drivers_of, parts_drivers, arms_drivers}
 use Rattle.cx_wiring.specs.Wiring.{groups, first_of_control}
-use Rattle.cx_wiring.specs.Bounds.{OccurrencesName, IslandNames, IslandsName}
-use Rattle.cx_wiring.specs.Takings.{value, Connects, AllConnect, AreRegisters}
+use Rattle.cx_wiring.specs.Bounds.{IslandNames, IslandsName}
+use Rattle.cx_wiring.specs.Takings.{AllConnect, AreRegisters}
 use Rattle.cx_wiring.specs.Shown.{wide}
 use Rattle.cx_wiring.specs.IslandNumbers.{cell_of_timer}
 use Rattle.cx_wiring.specs.IslandTakes.{FormIslands, StatementIslands, PartsIslands, ArmsIslands, TakesIsland}
@@ -28,7 +27,7 @@ use Rattle.cx_wiring.proofs.TakingLemmas.{connect_both, registers_both}
 use Rattle.cx_wiring.proofs.IslandTargets.{wires_at, island_within}
 use Rattle.cx_wiring.proofs.ControlTargets.{names_at}
 use Rattle.cx_wiring.proofs.GatherLaws.{get_end}
-use Rattle.cx_wiring.proofs.IslandCells.{IsBefore, both_before, before_after, before_parts, IsListed, listed}
+use Rattle.cx_wiring.proofs.IslandCells.{IsBefore, both_before, before_after, before_parts, listed}
 use Rattle.cx_wiring.proofs.IslandReads.{NoTimed, IsUntimed, NoneTimed}
 use Rattle.cx_wiring.proofs.IslandAway.{named_at}
 use Rattle.cx_wiring.proofs.TimerRows.{EachTimer}

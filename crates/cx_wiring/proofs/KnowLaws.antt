@@ -370,7 +370,7 @@ module _ (groups : ℕ) (islands : List PlainIsland) (named : IslandsName groups
       form_known (StaticPar written arms) place x acting r names apart i low c k bits taken comes = turn_known (StaticPar written arms) place x acting r i low c refl tt
       form_known (StaticIf written test a b) place x acting r names apart i low c k bits taken comes = turn_known (StaticIf written test a b) place x acting r i low c refl tt
       form_known (StaticRepeat written count a) place x acting r names apart i low c k bits taken comes = turn_known (StaticRepeat written count a) place x acting r i low c refl tt
-      form_known (Timed n) place x acting r names apart i low c k bits taken comes = timed n place x acting r i low apart c k (record { taken = taken; samples = λ island is. samples_come n x island is comes })
+      form_known (Timed n) place x acting r names apart i low c k bits taken comes = timed n place x acting r i low apart c k (record { taken = taken; apart = apart; samples = λ island is. samples_come n x island is comes })
 
       pub known : (s : PlainStatement) (x : Stand) (acting : Bool) (r : ℕ) → StatementNames groups s → x.region < x.register → IsIn around registers look x.acts x.region acting r → bound ≤ x.wire
           → AllConnect around registers look bound (drivers_of groups islands x s) → AreRegisters around registers look kept x.register (registers_of islands s) → StatementBits around registers look hole port s

@@ -54,7 +54,7 @@ module _ (d : PlainLowereds) where
       let high : suc a ≤ height d x = none_in d (suc a) (flat_map (λ h. level d h ns) (numbers_from (suc a) n)) x (levels_none d (suc a) n ns) j in
       omega arith)
 
-  distinct_order : Distinct (order d)
+  pub distinct_order : Distinct (order d)
   distinct_order = distinct_levels 0 (suc (count d)) (reached d) (distinct_filter (λ k. has_number k (reached_from d (count d) d.main)) (numbers_from 0 (count d)) (distinct_from 0 (count d)))
 
   nothing_behind : (m : ℕ) (rest : List ℕ) → NoneLower d (height d m) rest → (In rest m → ⊥) → ((k : ℕ) → In rest k → (k ≡ m) ⊎ (height d k < height d m)) → length rest ≡ 0

@@ -1,7 +1,7 @@
 -- In a cycle without a fault a node's net has what its machine sees: the holes of the groups that run, and the ports of tests. What is said of
 -- groups that call is a premise here.
 use Rattle.std.proofs.Common.{◌≡◌, ◌⊎◌, inl, inr, ⊎_elim, ℕ, zero, suc, ◌+◌, ◌<◌, ◌≤◌, ◌==◌, Bool, true, false, ◌&&◌, ◌||◌, not, if◌then◌else◌, List, [], ◌∷◌, ◌++◌, length, Option, Some, None, unwrap_or, refl, sym, ap, ap₂, ◌∙◌, subst, arith}
-use Rattle.std.specs.Prelude.{nat_eq, nat_lt, slice_get, option_map, flat_map}
+use Rattle.std.specs.Prelude.{is_some, nat_eq, nat_lt, slice_get, option_map, flat_map}
 use Rattle.std.proofs.lemmas.Bool.{lt-ltb, eq-eqb, eqb-true}
 use Rattle.std.proofs.lemmas.Option.{slice_get-get_or}
 use Rattle.cx_text.specs.declared.places.Place.{Place}
@@ -15,8 +15,8 @@ use Rattle.cx_meaning.specs.declared.sights.Seen.TheVariants.{Value, Conflict, U
 use Rattle.cx_meaning.specs.declared.kinds.GroupKind.{GroupKind}
 use Rattle.cx_meaning.specs.declared.kinds.GroupKind.TheVariants as kinds
 use Rattle.cx_meaning.specs.Designs.{PlainComponent, PlainDesign, PlainForm, Empty, Enable, Seq, Par, If, While, Repeat, StaticSeq, StaticPar, StaticIf, StaticRepeat, Timed, PlainStatement, Placed, group_at, no_group}
-use Rattle.cx_meaning.specs.Instances.{Instance, Node, Cells, OfRow, OfInstance, cell_at, part_of, State, under}
-use Rattle.cx_meaning.specs.Active.{Active, nothing, group, comb, only_at}
+use Rattle.cx_meaning.specs.Instances.{Instance, Node, Cells, OfRow, OfInstance, cell_at, part_of, Path, State, under}
+use Rattle.cx_meaning.specs.Active.{Active, Entry, nothing, group, comb, only_at, entries, offset_in}
 use Rattle.cx_meaning.specs.Truths.{Truth, One, Zero, Clash, Unknown, truth_of}
 use Rattle.cx_meaning.specs.Sights.{Held, unheld, In, Sees, seen, AnOutput, ItsDone, part_port}
 use Rattle.cx_meaning.specs.Cycles.{Ended, Goes, Faults, Fault, cycle}
@@ -40,11 +40,14 @@ use Rattle.cx_lockstep.specs.Running.{Running, AGroup, AnIsland, leaf_of, runnin
 use Rattle.cx_lockstep.specs.EndLaws.{is_done}
 use Rattle.cx_control.specs.StatementCodings.{LeafCodings}
 use Rattle.cx_control.specs.Spots.{Spot, Cell, Number, Input, Holds, Kept, cells_in, held_in}
-use Rattle.cx_control.specs.Leaves.{Coded, turn_next, turn_faults, called_machine, kind_machine, leaf_machines}
+use Rattle.cx_control.specs.Leaves.{Coded, InIsland, Cycle, LastTurn, sampled_now, turn_next, turn_faults, called_machine, kind_machine, leaf_machines}
 use Rattle.cx_control.specs.Controls.{coded_control, coded_below, leaf_codings}
 use Rattle.cx_control.specs.Standing.{RestsAt, GoodAt, good_control, bare}
 use Rattle.cx_control.specs.InstanceRules.{Stands}
+use Rattle.cx_control.specs.StandLaws.{parts_stand}
 use Rattle.cx_control.specs.ControlRules.{ControlRules}
+use Rattle.cx_control.proofs.ShapeLemmas.{Driving, called_driving}
+use Rattle.cx_rules.proofs.ForeignLemmas.{assigns_drive_in}
 use Rattle.cx_control.specs.CallRules.{CallRules}
 use Rattle.cx_net.specs.Nets.{OfPort}
 use Rattle.cx_net.specs.NetMeaning.{NetState, below_cell, APort, AHole, TheDone, NetLook, NetAround, around_child, is_true, truth_bit, zero_wide, registers_of}
@@ -55,7 +58,7 @@ use Rattle.cx_wiring.specs.BlockNumbers.{component_numbers}
 use Rattle.cx_wiring.specs.Blocks.{block, net_of_cells, Shows, Solves, FitsInputs}
 use Rattle.cx_wiring.specs.PortValues.{own_offset, port_value, goes_now, offset_now, active_now}
 use Rattle.cx_wiring.specs.Takings.{value}
-use Rattle.cx_wiring.specs.Shown.{Going, told, leads, comb_going, enable_going, going, enable_agrees, TestAgrees, StatementAgrees}
+use Rattle.cx_wiring.specs.Shown.{wide, Going, told, leads, comb_going, enable_going, going, enable_agrees, TestAgrees, StatementAgrees}
 use Rattle.cx_wiring.proofs.TakingLemmas.{true_bit}
 use Rattle.cx_wiring.proofs.BlockTells.{hole_now, port_now}
 use Rattle.cx_wiring.proofs.ChildLooks.{child_solves}
@@ -64,9 +67,12 @@ use Rattle.cx_wiring.proofs.InstancePorts.{output_there}
 use Rattle.cx_wiring.proofs.NodePorts.{named_value, bit_says}
 use Rattle.cx_wiring.proofs.TreeRules.{CellsNodes}
 use Rattle.cx_wiring.proofs.SeamRules.{SeamRules}
-use Rattle.cx_wiring.proofs.SeamFlows.{Nearby, tested_seen, hole_seen, only_self}
+use Rattle.cx_wiring.proofs.SeamFlows.{Nearby, tested_seen, hole_seen, hole_stands}
 use Rattle.cx_wiring.proofs.OutputFlows.{SeamAt, fine_node, row_cell, done_below, child_outputs}
-use Rattle.cx_wiring.proofs.GoingApart.{enable_named, IsGoing, GoesFor, DrivesNone, LeafStands, leaf_goes, leaf_stands, agrees}
+use Rattle.cx_wiring.proofs.GoingLaws.{HasComb, Source, of_group, of_timed, of_static, of_comb, going_source, comb_is}
+use Rattle.cx_wiring.proofs.NodeSeam.{NodeRest, NodeSeam, entries_at, KindGoes, LeafGoes, SaysActive, KindSays, LeafSays}
+use Rattle.cx_wiring.proofs.IslandSets.{active_own}
+use Rattle.cx_wiring.proofs.GoingApart.{group_within, enable_named, IsGoing, GoesFor, DrivesNone, LeafStands, leaf_goes, leaf_stands, agrees}
 
 -- a bit that is one of two truths
 bit_truth : (b : Bool) (x : BitVector) → truth_bit b ≡ x → truth_of (Value x) ≡ One → b ≡ true
@@ -137,82 +143,111 @@ module _ (d : PlainDesign) (of_island : PlainComponent → NetState → ℕ → 
   abbrev root : List Going
   root = going (leaf_machines (Node part cells) (coded_below cells)) (leaf_codings (Node part cells) (coded_below cells)) part (lowered_component part).islands hole of_enable of_form part.control p
 
+  abbrev acts : ℕ → Type 0
+  acts g = IsGoing g root
+
+  abbrev says : ℕ → Option BitVector
+  says g = told g (Some (truth_bit false)) root
+
+  abbrev For : PlainStatement → List Going → Type 0
+  For t xs = GoesFor (Node part cells) (coded_below cells) (leaf_codings (Node part cells) (coded_below cells)) control (lowered_component part).islands hole of_enable of_form names_enable names_form acts says t xs
+
+  root_goes : For part.control root
+  root_goes = record { inside = λ g k. k; actors = λ g k. inl k; told_so = λ g c drives_it k. refl }
+
+  -- each leaf that runs
+  abbrev Stood : Running (leaf_machines (Node part cells) (coded_below cells)) → Type 0
+  Stood r = LeafStands (Node part cells) (coded_below cells) (leaf_codings (Node part cells) (coded_below cells)) control (lowered_component part).islands hole of_enable of_form names_enable names_form acts says r
+
+  pub stood : (r : Running (leaf_machines (Node part cells) (coded_below cells))) → In (running (leaf_machines (Node part cells) (coded_below cells)) part.control p) r → Stood r
+  stood r j =
+      leaf_stands (Node part cells) (coded_below cells) (leaf_codings (Node part cells) (coded_below cells)) control (lowered_component part).islands hole of_enable of_form names_enable names_form acts says r
+      part.control (control_stands (Node part cells) part.control refl) p root_goes j
+
+  -- WHAT RESTS: a component cell that no group drives which runs
+  plain_drives : (g : ℕ) (place : Place) (stand : Machine.Place (LeafMachines.enable (leaf_machines (Node part cells) (coded_below cells)) g)) (c : ℕ) (child : Instance) → Stood (AGroup g place stand) → cell_at cells c ≡ OfInstance child
+      → drives part (Placed (Enable g) place) c ≡ true → ((group_at part g).kind ≡ kinds.Plain) × (called (Node part cells) g ≡ Some c)
+  plain_drives g place stand c child stands at drives_it =
+      let calls = control.calls_it g place c child stands.stands at drives_it in ((control.calls g place c stands.stands calls).plain, calls)
+
+  group_goes : (g : ℕ) (place : Place) (stand : Machine.Place (LeafMachines.enable (leaf_machines (Node part cells) (coded_below cells)) g)) → (group_at part g).kind ≡ kinds.Plain → Stood (AGroup g place stand) → acts g
+  group_goes g place stand plain stands =
+      stands.goes_for.inside g
+      (subst (λ o. IsGoing g (enable_going (leaf_machines (Node part cells) (coded_below cells)) (leaf_codings (Node part cells) (coded_below cells)) part (lowered_component part).islands hole of_enable of_form g o stand)) (sym (ap kind_length plain))
+      (record { one = record { group = g; goes = not (hole g) }; is_in = inl refl; named = refl }))
+
+  one_drives : (c : ℕ) (b : Bool) → (b || false) ≡ true → b ≡ true
+  one_drives c true e = refl
+  one_drives c false e = absurd cc
+
+  pub rests_apart : (t : PlainStatement) (xs : List Going) → For t xs → (c : ℕ) (child : Instance) → Reads part t c → cell_at cells c ≡ OfInstance child
+      → ((g : ℕ) → IsGoing g xs → (group_at part g).kind ≡ kinds.Plain → called (Node part cells) g ≡ Some c → ⊥) → RestsAt cells c (bare s)
+  rests_apart t xs for c child reads at free = good.rests c (λ r j. none r (stood r j) (drives part (leaf_of (leaf_machines (Node part cells) (coded_below cells)) r) c) refl)
+    where
+      none : (r : Running (leaf_machines (Node part cells) (coded_below cells))) → Stood r → (b : Bool) → drives part (leaf_of (leaf_machines (Node part cells) (coded_below cells)) r) c ≡ b → b ≡ false
+      none r stands false e = refl
+      none (AnIsland form place stand) stands true e = absurd (control.no_island_calls form place c child stands.stands stands.static at e)
+      none (AGroup g place stand) stands true e =
+          let k = plain_drives g place stand c child stands at e in
+          let drives_it = one_drives c (group_drives part g c) e in
+          absurd (⊎_elim (λ named. free g named k.0 k.1) (λ never. never c reads drives_it) (for.actors g (group_goes g place stand k.0 stands)))
+
+  -- WHAT IS NEAR a leaf that calls nothing, or a test
+  child_seen : (c : ℕ) → ((e : ℕ) (path : Path) (n : ℕ) → s (Number (c ∷ e ∷ path) n) ≡ 0) → (q n : ℕ) (child : Instance) (b : BitVector) → cell_at cells c ≡ OfInstance child → part_port (part_of child) q ≡ AnOutput n
+      → Sees child unheld nothing (under c (cells_in s)) (ports.Output n) (Value b) → look (c ∷ []) (APort (ports.Output n)) ≡ Some b
+  child_seen c zeros q n child b at port sees =
+      child_outputs d of_island cells (timers_of part) below c child at (below_cell c v) (around_child c (look [])) (λ path. look (c ∷ path))
+      (child_solves (wired_in d) timers_of (component_numbers of_island) part cells around v look solves c child at) (under c (cells_in s)) (λ path there. shows.cells (c ∷ path) there)
+      (λ e path k. shows.below c (e ∷ path) k ∙ zeros e path k) n b (output_there (part_of child) q n port) sees
+
+  rests_done : (c : ℕ) (child : Instance) → RestsAt cells c (bare s) → cell_at cells c ≡ OfInstance child → look (c ∷ []) TheDone ≡ Some (truth_bit false)
+  rests_done c child rests at =
+      done_below d of_island cells (timers_of part) below c child at (below_cell c v) (around_child c (look [])) (λ path. look (c ∷ path))
+      (child_solves (wired_in d) timers_of (component_numbers of_island) part cells around v look solves c child at) (shows.below c [] 0 ∙ rests.numbers_rest [] 0)
+
+  pub same_cells : (c : ℕ) (row : Row) → cell_at cells c ≡ OfRow row → v.cell (c ∷ []) ≡ s (Cell (c ∷ []))
+  same_cells c row at = shows.cells (c ∷ []) (row_cell cells c row at)
+
+  abbrev Near : Active → (ℕ → ℕ → Type 0) → Type 0
+  Near act near = Nearby d (component_numbers of_island) part cells rules around v look solves (cells_in s) same_cells (held_in s) act near
+
+  pub near_rests : (o : ℕ → Option ℕ) (t : PlainStatement) → ((c : ℕ) (child : Instance) → Reads part t c → cell_at cells c ≡ OfInstance child → RestsAt cells c (bare s)) → Near (record { offset = o; done_cell = None }) (λ c q. Reads part t c)
+  near_rests o t rests = record {
+    inputs = fits;
+    outputs = λ c q n child b reads at port sees. child_seen c (λ e path k. (rests c child reads at).numbers_rest (e ∷ path) k) q n child b at port sees;
+    dones = λ c q child reads at port. rests_done c child (rests c child reads at) at;
+  }
+
+  -- of a group that runs it alone goes
+  its_going : (g : ℕ) (q : Machine.Place (LeafMachines.enable (leaf_machines (Node part cells) (coded_below cells)) g)) (h : ℕ)
+      → IsGoing h (enable_going (leaf_machines (Node part cells) (coded_below cells)) (leaf_codings (Node part cells) (coded_below cells)) part (lowered_component part).islands hole of_enable of_form g (group_length part g) q) → h ≡ g
+  its_going g q h k =
+      among (enable_named (Node part cells) (coded_below cells) (leaf_codings (Node part cells) (coded_below cells)) control (lowered_component part).islands hole of_enable of_form names_enable names_form g (group_length part g) q k.one k.is_in)
+    where
+      among : In (g ∷ []) k.one.group → h ≡ g
+      among (inl f) = sym k.named ∙ sym f
+      among (inr never) = absurd never
+
+  called_drives_it : (h c : ℕ) → called (Node part cells) h ≡ Some c → group_drives part h c ≡ true
+  called_drives_it h c calls = let it = called_driving cells (group_at part h).assigns c calls in assigns_drive_in (group_at part h).assigns it.assign c it.port it.is_in it.target
+
+  island_rest : (form : PlainForm) (place : Place) (stand : Machine.Place (LeafMachines.island (leaf_machines (Node part cells) (coded_below cells)) form))
+      → In (running (leaf_machines (Node part cells) (coded_below cells)) part.control p) (AnIsland form place stand) → (c : ℕ) (child : Instance) → Reads part (Placed form place) c → cell_at cells c ≡ OfInstance child → RestsAt cells c (bare s)
+  island_rest form place stand j c child reads at =
+      rests_apart (Placed form place) (of_form form stand) (stood (AnIsland form place stand) j).goes_for c child reads at
+      (λ h k plain calls. control.no_island_calls form place c child (stood (AnIsland form place stand) j).stands (stood (AnIsland form place stand) j).static at
+      (group_within part (groups_in form) h c (subst (In (groups_in form)) k.named (names_form form stand k.one k.is_in)) (called_drives_it h c calls)))
+
+  -- WHAT RESTS, whatever goes
+  pub node_rest : NodeRest part cells around v look s p
+  node_rest = record {
+    stands = λ r j. (stood r j).stands;
+    island_rests = island_rest;
+    child_seen = λ c zeros q n child b at port sees. child_seen c zeros q n child b at port sees;
+    rests_done = λ c child rests at. rests_done c child rests at;
+  }
+
   module _ (goes : (g : ℕ) → g < length part.groups → look [] (AHole (length part.groups + g)) ≡ told g (Some (truth_bit false)) root) where
-    abbrev acts : ℕ → Type 0
-    acts g = IsGoing g root
-
-    abbrev says : ℕ → Option BitVector
-    says g = told g (Some (truth_bit false)) root
-
-    abbrev For : PlainStatement → List Going → Type 0
-    For t xs = GoesFor (Node part cells) (coded_below cells) (leaf_codings (Node part cells) (coded_below cells)) control (lowered_component part).islands hole of_enable of_form names_enable names_form acts says t xs
-
-    root_goes : For part.control root
-    root_goes = record { inside = λ g k. k; actors = λ g k. inl k; told_so = λ g c drives_it k. refl }
-
-    -- each leaf that runs
-    abbrev Stood : Running (leaf_machines (Node part cells) (coded_below cells)) → Type 0
-    Stood r = LeafStands (Node part cells) (coded_below cells) (leaf_codings (Node part cells) (coded_below cells)) control (lowered_component part).islands hole of_enable of_form names_enable names_form acts says r
-
-    pub stood : (r : Running (leaf_machines (Node part cells) (coded_below cells))) → In (running (leaf_machines (Node part cells) (coded_below cells)) part.control p) r → Stood r
-    stood r j =
-        leaf_stands (Node part cells) (coded_below cells) (leaf_codings (Node part cells) (coded_below cells)) control (lowered_component part).islands hole of_enable of_form names_enable names_form acts says r
-        part.control (control_stands (Node part cells) part.control refl) p root_goes j
-
-    -- WHAT RESTS: a component cell that no group drives which runs
-    plain_drives : (g : ℕ) (place : Place) (stand : Machine.Place (LeafMachines.enable (leaf_machines (Node part cells) (coded_below cells)) g)) (c : ℕ) (child : Instance) → Stood (AGroup g place stand) → cell_at cells c ≡ OfInstance child
-        → drives part (Placed (Enable g) place) c ≡ true → ((group_at part g).kind ≡ kinds.Plain) × (called (Node part cells) g ≡ Some c)
-    plain_drives g place stand c child stands at drives_it =
-        let calls = control.calls_it g place c child stands.stands at drives_it in ((control.calls g place c stands.stands calls).plain, calls)
-
-    group_goes : (g : ℕ) (place : Place) (stand : Machine.Place (LeafMachines.enable (leaf_machines (Node part cells) (coded_below cells)) g)) → (group_at part g).kind ≡ kinds.Plain → Stood (AGroup g place stand) → acts g
-    group_goes g place stand plain stands =
-        stands.goes_for.inside g
-        (subst (λ o. IsGoing g (enable_going (leaf_machines (Node part cells) (coded_below cells)) (leaf_codings (Node part cells) (coded_below cells)) part (lowered_component part).islands hole of_enable of_form g o stand)) (sym (ap kind_length plain))
-        (record { one = record { group = g; goes = not (hole g) }; is_in = inl refl; named = refl }))
-
-    one_drives : (c : ℕ) (b : Bool) → (b || false) ≡ true → b ≡ true
-    one_drives c true e = refl
-    one_drives c false e = absurd cc
-
-    pub rests_apart : (t : PlainStatement) (xs : List Going) → For t xs → (c : ℕ) (child : Instance) → Reads part t c → cell_at cells c ≡ OfInstance child
-        → ((g : ℕ) → IsGoing g xs → (group_at part g).kind ≡ kinds.Plain → called (Node part cells) g ≡ Some c → ⊥) → RestsAt cells c (bare s)
-    rests_apart t xs for c child reads at free = good.rests c (λ r j. none r (stood r j) (drives part (leaf_of (leaf_machines (Node part cells) (coded_below cells)) r) c) refl)
-      where
-        none : (r : Running (leaf_machines (Node part cells) (coded_below cells))) → Stood r → (b : Bool) → drives part (leaf_of (leaf_machines (Node part cells) (coded_below cells)) r) c ≡ b → b ≡ false
-        none r stands false e = refl
-        none (AnIsland form place stand) stands true e = absurd (control.no_island_calls form place c child stands.stands stands.static at e)
-        none (AGroup g place stand) stands true e =
-            let k = plain_drives g place stand c child stands at e in
-            let drives_it = one_drives c (group_drives part g c) e in
-            absurd (⊎_elim (λ named. free g named k.0 k.1) (λ never. never c reads drives_it) (for.actors g (group_goes g place stand k.0 stands)))
-
-    -- WHAT IS NEAR a leaf that calls nothing, or a test
-    rests_seen : (c : ℕ) → RestsAt cells c (bare s) → (q n : ℕ) (child : Instance) (b : BitVector) → cell_at cells c ≡ OfInstance child → part_port (part_of child) q ≡ AnOutput n
-        → Sees child unheld nothing (under c (cells_in s)) (ports.Output n) (Value b) → look (c ∷ []) (APort (ports.Output n)) ≡ Some b
-    rests_seen c rests q n child b at port sees =
-        child_outputs d of_island cells (timers_of part) below c child at (below_cell c v) (around_child c (look [])) (λ path. look (c ∷ path))
-        (child_solves (wired_in d) timers_of (component_numbers of_island) part cells around v look solves c child at) (under c (cells_in s)) (λ path there. shows.cells (c ∷ path) there)
-        (λ e path k. shows.below c (e ∷ path) k ∙ rests.numbers_rest (e ∷ path) k) n b (output_there (part_of child) q n port) sees
-
-    rests_done : (c : ℕ) (child : Instance) → RestsAt cells c (bare s) → cell_at cells c ≡ OfInstance child → look (c ∷ []) TheDone ≡ Some (truth_bit false)
-    rests_done c child rests at =
-        done_below d of_island cells (timers_of part) below c child at (below_cell c v) (around_child c (look [])) (λ path. look (c ∷ path))
-        (child_solves (wired_in d) timers_of (component_numbers of_island) part cells around v look solves c child at) (shows.below c [] 0 ∙ rests.numbers_rest [] 0)
-
-    pub same_cells : (c : ℕ) (row : Row) → cell_at cells c ≡ OfRow row → v.cell (c ∷ []) ≡ s (Cell (c ∷ []))
-    same_cells c row at = shows.cells (c ∷ []) (row_cell cells c row at)
-
-    abbrev Near : Active → (ℕ → ℕ → Type 0) → Type 0
-    Near act near = Nearby d (component_numbers of_island) part cells rules around v look solves (cells_in s) same_cells (held_in s) act near
-
-    pub near_rests : (o : ℕ → Option ℕ) (t : PlainStatement) → ((c : ℕ) (child : Instance) → Reads part t c → cell_at cells c ≡ OfInstance child → RestsAt cells c (bare s)) → Near (record { offset = o; done_cell = None }) (λ c q. Reads part t c)
-    near_rests o t rests = record {
-      inputs = fits;
-      outputs = λ c q n child b reads at port sees. rests_seen c (rests c child reads at) q n child b at port sees;
-      dones = λ c q child reads at port. rests_done c child (rests c child reads at) at;
-    }
-
     -- WHAT GOES
     abbrev Now : Active
     Now = active_now (Node part cells) around v look
@@ -280,14 +315,150 @@ module _ (d : PlainDesign) (of_island : PlainComponent → NetState → ℕ → 
         by h c reads drives_it true e = subst (λ x. Some 0 ≡ Now.offset x) (eqb-true g h e) (at_zero t g there plain for c (subst (λ x. group_drives part x c ≡ true) (sym (eqb-true g h e)) drives_it))
         by h c reads drives_it false e = sym (none_at h c drives_it (λ k. ⊎_elim (λ named. differ h e named) (λ never. never c reads drives_it) (for.actors h k)))
 
-    -- THE HOLE OF A GROUP in the net
-    pub hole_stands : (g : ℕ) → g < length part.groups → port_value (Node part cells) around v look (ports.Done g) ≡ truth_bit (is_true (unwrap_or (look [] (AHole g)) (zero_wide 1)))
-    hole_stands g there =
-        let holes : g < length part.groups + length part.groups = omega arith in
-        let b = solves.bits [] (AHole g) (lt-ltb g (length part.groups + length part.groups) holes) in
-        ap (λ (t : Bool). if t then unwrap_or (look [] (AHole g)) (zero_of (Some 1)) else zero_of (Some 1)) (lt-ltb g (length part.groups) there)
-        ∙ ap (λ o. unwrap_or o (zero_of (Some 1))) b.1
-        ∙ ap truth_bit (sym (ap (λ o. is_true (unwrap_or o (zero_wide 1))) b.1 ∙ true_bit b.0))
+    -- the entries of an island go
+    says_some : (o : Option ℕ) (k : ℕ) → o ≡ Some k → is_some o ≡ true
+    says_some o k e = ap is_some e
+
+    says_none : (o : Option ℕ) → o ≡ None → is_some o ≡ false
+    says_none o e = ap is_some e
+
+    static_offset : (o : Option ℕ) (k : ℕ) → is_some o ≡ true → own_offset o (unwrap_or (Some (wide k)) (zero_of (Some 32))) ≡ k
+    static_offset None k e = absurd (true_false (sym e))
+    static_offset (Some n) k e = refl
+
+    set_apart : (t : PlainStatement) (xs : List Going) → For t xs → (os : List Entry) → ((g o : ℕ) → offset_in os g ≡ Some o → In (groups_of t) g) → ((g o : ℕ) → offset_in os g ≡ Some o → is_some (group_length part g) ≡ true) → SaysActive part cells around v look s p xs os → IsApart part t (entries os) Now
+    set_apart t xs for os own static says_so = record { its_own = own; same = λ g c reads drives_it. by g c reads drives_it (offset_in os g) refl }
+      where
+        told_is : (g c : ℕ) → group_drives part g c ≡ true → IsGoing g xs → look [] (AHole (length part.groups + g)) ≡ Some (truth_bit (is_some (offset_in os g)))
+        told_is g c drives_it k = goes g (driver_there part g c drives_it) ∙ for.told_so g c drives_it k ∙ says_so.goes g
+
+        by : (g c : ℕ) → Reads part t c → group_drives part g c ≡ true → (o : Option ℕ) → offset_in os g ≡ o → o ≡ Now.offset g
+        by g c reads drives_it (Some k) e =
+            let told_on = says_so.goes g ∙ ap (λ b. Some (truth_bit b)) (says_some (offset_in os g) k e) in
+            let named : IsGoing g xs = told_named g (zero_of (Some 1)) xs (ap (λ o. is_true (unwrap_or o (zero_of (Some 1)))) told_on) in
+            let on : look [] (AHole (length part.groups + g)) ≡ Some (truth_bit true) = told_is g c drives_it named ∙ ap (λ b. Some (truth_bit b)) (says_some (offset_in os g) k e) in
+            sym
+            (ap₂ (λ (x : Option BitVector) (y : Bool). if is_true (unwrap_or x (zero_of (Some 1))) && y then Some (own_offset (group_length part g) (offset_now (Node part cells) around v look g)) else None) on (says_so.stands g c k drives_it e)
+            ∙ ap Some (ap (λ o. own_offset (group_length part g) (unwrap_or o (zero_of (Some 32)))) (says_so.wire g c k drives_it e) ∙ static_offset (group_length part g) k (static g k e)))
+        by g c reads drives_it None e = sym (by_goes (goes_now (Node part cells) around v look g) refl)
+          where
+            off : IsGoing g xs → goes_now (Node part cells) around v look g ≡ false
+            off k = ap (λ (x : Option BitVector). is_true (unwrap_or x (zero_of (Some 1))) && owner_drives (lowered_component part) (Some g)) (told_is g c drives_it k ∙ ap (λ b. Some (truth_bit b)) (says_none (offset_in os g) e))
+
+            by_goes : (b : Bool) → goes_now (Node part cells) around v look g ≡ b → (if b then Some (own_offset (group_length part g) (offset_now (Node part cells) around v look g)) else None) ≡ None
+            by_goes false f = refl
+            by_goes true f = absurd (⊎_elim (λ named. true_false (sym f ∙ off named)) (λ never. never c reads drives_it) (for.actors g (now_acts g (driver_there part g c drives_it) f)))
+
+    -- of a leaf of an island that runs
+    form_own : (form : PlainForm) (place : Place) (stand : InIsland) (g o : ℕ) → offset_in (entries_at part cells around v look s p form stand) g ≡ Some o → In (groups_of (Placed form place)) g
+    form_own form place (Cycle t kept) g o e = active_own part (sampled_now (Node part cells) form t kept s) form place t g o e
+    form_own form place LastTurn g o e = absurd (none_has e)
+      where
+        none_has : ◌≡◌ {A = Option ℕ} None (Some o) → ⊥
+        none_has f = cc
+
+    pub leaf_says : (r : Running (leaf_machines (Node part cells) (coded_below cells))) → In (running (leaf_machines (Node part cells) (coded_below cells)) part.control p) r → LeafSays part cells around v look s p of_enable of_form r → LeafGoes part cells around v look s p r
+    leaf_says (AnIsland form place stand) j says_so =
+        set_apart (Placed form place) (of_form form stand) (stood (AnIsland form place stand) j).goes_for (entries_at part cells around v look s p form stand) (form_own form place stand)
+        (λ g o e. rules.rests.statics form place (stood (AnIsland form place stand) j).stands (stood (AnIsland form place stand) j).static g (form_own form place stand g o e)) says_so
+    leaf_says (AGroup g place stand) j says_so = of_kind (group_at part g).kind refl stand (of_enable g stand) (λ n e. timed n e (stood (AGroup g place stand) j).goes_for) says_so
+      where
+        timed : (n : ℕ) → group_length part g ≡ Some n
+            → For (Placed (Enable g) place) (enable_going (leaf_machines (Node part cells) (coded_below cells)) (leaf_codings (Node part cells) (coded_below cells)) part (lowered_component part).islands hole of_enable of_form g (group_length part g) stand)
+            → For (Placed (Enable g) place) (of_enable g stand)
+        timed n e for =
+            subst
+            (λ o. For (Placed (Enable g) place) (enable_going (leaf_machines (Node part cells) (coded_below cells)) (leaf_codings (Node part cells) (coded_below cells)) part (lowered_component part).islands hole of_enable of_form g o stand)) e for
+
+        its_length : (h n : ℕ) → (group_at part g).kind ≡ kinds.Timed n → In (g ∷ []) h → is_some (group_length part h) ≡ true
+        its_length h n e (inl f) = ap (λ x. is_some (group_length part x)) (sym f) ∙ ap (λ k. is_some (kind_length k)) e
+        its_length h n e (inr never) = absurd never
+
+        of_kind : (k : GroupKind) → (group_at part g).kind ≡ k → (q : Machine.Place (kind_machine (Node part cells) (coded_below cells) g k)) (xs : List Going) → ((n : ℕ) → group_length part g ≡ Some n → For (Placed (Enable g) place) xs)
+            → KindSays part cells around v look s p of_enable of_form g xs k q → KindGoes part cells around v look s p g place k q
+        of_kind kinds.Plain e q xs for says_now = tt
+        of_kind kinds.Comb e q xs for says_now = tt
+        of_kind (kinds.Timed n) e q xs for says_now =
+            set_apart (Placed (Enable g) place) xs (for n (ap kind_length e)) (entries_at part cells around v look s p (Enable g) q) (form_own (Enable g) place q) (λ h o f. its_length h n e (form_own (Enable g) place q h o f)) says_now
+
+    -- the hole of a group in the net
+    hole_is_bit : (g : ℕ) → g < length part.groups → port_value (Node part cells) around v look (ports.Done g) ≡ truth_bit (is_true (unwrap_or (look [] (AHole g)) (zero_wide 1)))
+    hole_is_bit = hole_stands d (component_numbers of_island) part cells rules around v look solves (cells_in s) same_cells
+
+    -- THE SEAM of the node
+    runs_apart : (g : ℕ) (place : Place) (stand : Machine.Place (LeafMachines.enable (leaf_machines (Node part cells) (coded_below cells)) g)) → Stood (AGroup g place stand) → kind_length (group_at part g).kind ≡ None → hole g ≡ false
+        → IsApart part (Placed (Enable g) place) (group g) Now
+    runs_apart g place stand it plain is_open =
+        one_apart (Placed (Enable g) place) g (inl refl) (rules.node.ports.forms (record { context = Dynamic; form = Enable g; place = place }) it.stands).0 plain
+        (subst (λ b. For (Placed (Enable g) place) (record { group = g; goes = b } ∷ [])) (ap not is_open)
+        (subst
+        (λ o. For (Placed (Enable g) place) (enable_going (leaf_machines (Node part cells) (coded_below cells)) (leaf_codings (Node part cells) (coded_below cells)) part (lowered_component part).islands hole of_enable of_form g o stand)) plain
+        it.goes_for))
+
+    -- where it ends, nothing goes that drives what it reads
+    at_rest : (g : ℕ) (place : Place) (stand : Machine.Place (LeafMachines.enable (leaf_machines (Node part cells) (coded_below cells)) g)) → Stood (AGroup g place stand) → kind_length (group_at part g).kind ≡ None → hole g ≡ true
+        → (c : ℕ) → group_drives part g c ≡ true → Now.offset g ≡ None
+    at_rest g place stand it plain shut c drives_it =
+        let for : For (Placed (Enable g) place) (record { group = g; goes = false } ∷ []) =
+        subst (λ b. For (Placed (Enable g) place) (record { group = g; goes = b } ∷ [])) (ap not shut)
+        (subst
+        (λ o. For (Placed (Enable g) place) (enable_going (leaf_machines (Node part cells) (coded_below cells)) (leaf_codings (Node part cells) (coded_below cells)) part (lowered_component part).islands hole of_enable of_form g o stand)) plain
+        it.goes_for) in
+        let says_so : look [] (AHole (length part.groups + g)) ≡ Some (truth_bit false) =
+        goes g (rules.node.ports.forms (record { context = Dynamic; form = Enable g; place = place }) it.stands).0
+        ∙ for.told_so g c drives_it (record { one = record { group = g; goes = false }; is_in = inl refl; named = refl }) ∙ ap (λ (b : Bool). if b then Some (truth_bit false) else Some (truth_bit false)) (eq-eqb g g refl) in
+        ap
+        (λ (x : Option BitVector). if is_true (unwrap_or x (zero_of (Some 1))) && owner_drives (lowered_component part) (Some g) then Some (own_offset (group_length part g) (offset_now (Node part cells) around v look g)) else None)
+        says_so
+
+    ended_goes : (g : ℕ) (place : Place) (stand : Machine.Place (LeafMachines.enable (leaf_machines (Node part cells) (coded_below cells)) g)) → Stood (AGroup g place stand) → kind_length (group_at part g).kind ≡ None → hole g ≡ true
+        → (c h : ℕ) → Reads part (Placed (Enable g) place) c → group_drives part h c ≡ true → (q : Bool) → nat_eq g h ≡ q → Now.offset h ≡ None
+    ended_goes g place stand it plain shut c h reads drives_it true e =
+        subst (λ x. Now.offset x ≡ None) (eqb-true g h e) (at_rest g place stand it plain shut c (subst (λ x. group_drives part x c ≡ true) (sym (eqb-true g h e)) drives_it))
+    ended_goes g place stand it plain shut c h reads drives_it false e =
+        none_at h c drives_it
+        (λ k. ⊎_elim (λ named. true_false (sym (eq-eqb g h (sym (its_going g stand h named))) ∙ e)) (λ never. never c reads drives_it) (it.goes_for.actors h k))
+
+    -- of a cell that no leaf drives that runs
+    free_goes : (c : ℕ) → ((r : Running (leaf_machines (Node part cells) (coded_below cells))) → In (running (leaf_machines (Node part cells) (coded_below cells)) part.control p) r → drives part (leaf_of (leaf_machines (Node part cells) (coded_below cells)) r) c ≡ false)
+        → (h : ℕ) → group_drives part h c ≡ true → (Now.offset h ≡ None) ⊎ (is_comb (group_at part h).kind ≡ true)
+    free_goes c free h drives_it = by (goes_now (Node part cells) around v look h) refl
+      where
+        driven_by : (g : ℕ) → g ≡ h → (group_drives part g c || false) ≡ true
+        driven_by g e = ap (λ k. group_drives part k c || false) e ∙ ap (λ b. b || false) drives_it
+
+        of_source : (x : Going) → x.group ≡ h → Source (leaf_machines (Node part cells) (coded_below cells)) (leaf_codings (Node part cells) (coded_below cells)) part (lowered_component part).islands hole of_enable of_form
+            (Stands (Node part cells)) (parts_stand (Node part cells)) x (running (leaf_machines (Node part cells) (coded_below cells)) part.control p) → is_comb (group_at part h).kind ≡ true
+        of_source x named (of_group g place stand m plain is) = absurd (true_false (sym (driven_by g (sym (ap (λ (y : Going). y.group) is) ∙ named)) ∙ free (AGroup g place stand) m))
+        of_source x named (of_timed g place stand m cycles is k) = absurd (true_false (sym (driven_by g (sym (names_enable g stand x k) ∙ named)) ∙ free (AGroup g place stand) m))
+        of_source x named (of_static form place stand m k) =
+            absurd (true_false (sym (group_within part (groups_in form) h c (subst (In (groups_in form)) named (names_form form stand x k)) drives_it) ∙ free (AnIsland form place stand) m))
+        of_source x named (of_comb g t stands has is) = subst (λ k. is_comb (group_at part k).kind ≡ true) (sym (ap (λ (y : Going). y.group) is) ∙ named) (comb_is (leaf_machines (Node part cells) (coded_below cells)) (leaf_codings (Node part cells) (coded_below cells)) part (lowered_component part).islands hole of_enable of_form
+            (Stands (Node part cells)) (λ form place u. rules.node.ports.forms (record { context = Dynamic; form = form; place = place }) u) t g stands has)
+
+        by : (b : Bool) → goes_now (Node part cells) around v look h ≡ b
+            → ((if b then Some (own_offset (group_length part h) (offset_now (Node part cells) around v look h)) else None) ≡ None) ⊎ (is_comb (group_at part h).kind ≡ true)
+        by false e = inl refl
+        by true e =
+            let k = now_acts h (driver_there part h c drives_it) e in
+            inr (of_source k.one k.named
+            (going_source (leaf_machines (Node part cells) (coded_below cells)) (leaf_codings (Node part cells) (coded_below cells)) part (lowered_component part).islands hole of_enable of_form (Stands (Node part cells)) (parts_stand (Node part cells)) k.one
+            part.control (control_stands (Node part cells) part.control refl) p k.is_in))
+
+    pub node_seam : NodeSeam part cells around v look s p
+    node_seam = record {
+      stands = λ r j. (stood r j).stands;
+      group_apart = λ g place stand j plain is_open. runs_apart g place stand (stood (AGroup g place stand) j) plain is_open;
+      group_rests = λ g place stand j c child reads at none.
+          rests_apart (Placed (Enable g) place)
+          (enable_going (leaf_machines (Node part cells) (coded_below cells)) (leaf_codings (Node part cells) (coded_below cells)) part (lowered_component part).islands hole of_enable of_form g (group_length part g) stand)
+          (stood (AGroup g place stand) j).goes_for c child reads at (λ h k plain calls. none (ap (called (Node part cells)) (sym (its_going g stand h k)) ∙ calls));
+      island_rests = island_rest;
+      child_seen = λ c zeros q n child b at port sees. child_seen c zeros q n child b at port sees;
+      rests_done = λ c child rests at. rests_done c child rests at;
+      ended_group = λ g place stand j plain shut c h reads drives_it. ended_goes g place stand (stood (AGroup g place stand) j) plain shut c h reads drives_it (nat_eq g h) refl;
+      free_cell = λ c free h drives_it. free_goes c free h drives_it;
+    }
 
     -- A GROUP THAT CALLS NOTHING
     module _ (g : ℕ) (place : Place) (stands : Stands (Node part cells) (Placed (Enable g) place)) (xs : List Going) (for : For (Placed (Enable g) place) xs) (only : (h : ℕ) → IsGoing h xs → h ≡ g) (none : called (Node part cells) g ≡ None) where
@@ -316,10 +487,10 @@ module _ (d : PlainDesign) (of_island : PlainComponent → NetState → ℕ → 
           → hole g ≡ is_done (turn_next (hole_turn g (cycle (Node part cells) (held_in s) (group g) (cells_in s)) o))
       turn_agrees One e clean =
           let w = one_is_value (seen (Node part cells) (held_in s) (group g) (cells_in s) (ports.Done g)) e in
-          bit_truth (hole g) w.0 (sym (hole_stands g there) ∙ hole_is w.0 (subst (Sees (Node part cells) (held_in s) (group g) (cells_in s) (ports.Done g)) w.1 sees_hole)) (sym (ap truth_of w.1) ∙ e)
+          bit_truth (hole g) w.0 (sym (hole_is_bit g there) ∙ hole_is w.0 (subst (Sees (Node part cells) (held_in s) (group g) (cells_in s) (ports.Done g)) w.1 sees_hole)) (sym (ap truth_of w.1) ∙ e)
       turn_agrees Zero e clean =
           let w = zero_is_value (seen (Node part cells) (held_in s) (group g) (cells_in s) (ports.Done g)) e in
-          bit_untruth (hole g) w.0 (sym (hole_stands g there) ∙ hole_is w.0 (subst (Sees (Node part cells) (held_in s) (group g) (cells_in s) (ports.Done g)) w.1 sees_hole)) (sym (ap truth_of w.1) ∙ e)
+          bit_untruth (hole g) w.0 (sym (hole_is_bit g there) ∙ hole_is w.0 (subst (Sees (Node part cells) (held_in s) (group g) (cells_in s) (ports.Done g)) w.1 sees_hole)) (sym (ap truth_of w.1) ∙ e)
           ∙ sym (never_ends (cycle (Node part cells) (held_in s) (group g) (cells_in s)))
       turn_agrees Clash e clean = absurd (true_false clean)
       turn_agrees Unknown e clean = absurd (true_false clean)
@@ -439,22 +610,12 @@ module _ (d : PlainDesign) (of_island : PlainComponent → NetState → ℕ → 
       enable_owes g place stands q run for clean (Some cycles) e = tt
       enable_owes g place stands q run for clean None e = by (called (Node part cells) g) refl
         where
-          only : (h : ℕ)
-              → IsGoing h (enable_going (leaf_machines (Node part cells) (coded_below cells)) (leaf_codings (Node part cells) (coded_below cells)) part (lowered_component part).islands hole of_enable of_form g (group_length part g) q) → h ≡ g
-          only h k =
-              among
-              (enable_named (Node part cells) (coded_below cells) (leaf_codings (Node part cells) (coded_below cells)) control (lowered_component part).islands hole of_enable of_form names_enable names_form g (group_length part g) q k.one k.is_in)
-            where
-              among : In (g ∷ []) k.one.group → h ≡ g
-              among (inl f) = sym k.named ∙ sym f
-              among (inr never) = absurd never
-
           by : (o : Option ℕ) → called (Node part cells) g ≡ o → hole g ≡ is_done (Machine.step (LeafMachines.enable (leaf_machines (Node part cells) (coded_below cells)) g) q s)
           by (Some c) f = calls g place q c run f clean
           by None f =
               plain_hole g place stands
               (enable_going (leaf_machines (Node part cells) (coded_below cells)) (leaf_codings (Node part cells) (coded_below cells)) part (lowered_component part).islands hole of_enable of_form g (group_length part g) q)
-              for only f e q clean
+              for (its_going g q) f e q clean
 
       pub node_agrees : Machine.faults (machine_of (leaf_machines (Node part cells) (coded_below cells)) part.control) p s ≡ false
           → StatementAgrees (leaf_machines (Node part cells) (coded_below cells)) (leaf_codings (Node part cells) (coded_below cells)) part (lowered_component part).islands s hole port part.control p

@@ -1,26 +1,33 @@
 -- What an accepted design gives the cells of each node: rows are lawful, nothing continuous enables a primitive or drives a component
 -- cell. So in a cycle in which no group goes each primitive makes its idle step and no child has go.
-use Rattle.std.proofs.Common.{◌≡◌, ℕ, ◌+◌, ◌<◌, inl, inr, true, false, [], ◌∷◌, length, Some, None, sym, ap, ◌∙◌, subst, arith}
+use Rattle.std.proofs.Common.{◌≡◌, ℕ, ◌+◌, ◌<◌, ◌^◌, ◌&&◌, nat_lt, nat_le, if◌then◌else◌, inl, inr, ⊎_elim, true, false, List, [], ◌∷◌, length, Option, Some, None, refl, sym, ap, ◌∙◌, subst, arith}
 use Rattle.cx_bits.specs.BitVector.{BitVector}
 use Rattle.cx_prim.specs.declared.ports.Side.TheVariants as sides
 use Rattle.cx_prim.specs.Rows.{Row, IsLawful}
 use Rattle.cx_prim.specs.TableLaws.{row_of_lawful}
 use Rattle.cx_meaning.specs.declared.ports.PortRef.TheVariants as ports
 use Rattle.cx_meaning.specs.Rows.{side_of}
-use Rattle.cx_meaning.specs.Designs.{PlainComponent, PlainDesign, no_component, group_at}
+use Rattle.cx_meaning.specs.Designs.{PlainComponent, PlainDesign, no_component, component_at, group_at}
 use Rattle.cx_meaning.specs.Instances as instances
 use Rattle.cx_meaning.specs.Instances.{Instance, Cells, At, OfRow, OfInstance, part_of, cells_of, cell_at, Path, tree_of, instance_at}
 use Rattle.cx_meaning.specs.Active.{Owned, source_order}
 use Rattle.cx_meaning.specs.Sights.{In}
 use Rattle.cx_meaning.specs.Control.{group_drives}
+use Rattle.cx_meaning.specs.Islands.{form_length}
 use Rattle.cx_rules.specs.Items.{Visited, statements_in, is_plain}
+use Rattle.cx_rules.specs.StaticControl.{is_island, form_occurrences}
+use Rattle.cx_rules.specs.LimitRule.{Limited, OnRepeat, OnOccurrences, OnLatency, word_of, count_in, is_too_many}
+use Rattle.cx_rules.specs.Spots.{AStatement}
+use Rattle.cx_text.specs.declared.rules.Rule.TheVariants.{Limit}
+use Rattle.cx_text.specs.declared.limits.TheConstants.{OCCURRENCES, REPETITIONS}
+use Rattle.std.proofs.lemmas.Bool.{cases_lt, le-leb}
 use Rattle.cx_rules.specs.Accepted.{IsAccepted}
 use Rattle.cx_rules.specs.Ports.{component_of}
 use Rattle.cx_rules.specs.Wellformed.{IsForm, IsDesign, port_count}
 use Rattle.cx_rules.proofs.CircleLemmas.{same_part}
 use Rattle.cx_frames.specs.Rests.{IsUndriven}
 use Rattle.cx_frames.proofs.RuleLemmas.{kept_instance}
-use Rattle.cx_flow.proofs.InstanceLemmas.{instance_rows}
+use Rattle.cx_flow.proofs.InstanceLemmas.{instance_rows, number_in}
 use Rattle.cx_control.proofs.BesideLemmas.{StandsFor, of_component, of_nothing, instance_stands, keeps_calls}
 use Rattle.cx_control.proofs.ShapeLemmas.{drives_driving, none_outside, plain_group}
 use Rattle.cx_control.proofs.DesignRules.{instance_part}
@@ -43,6 +50,8 @@ pub record CellRules (i : Instance) : Type 0 where
   -- plain groups alone drive component cells, and the group of a test is a comb group
   pub plain_part : (g c : ℕ) (child : Instance) → cell_at (cells_of i) c ≡ OfInstance child → group_drives (part_of i) g c ≡ true → is_plain (group_at (part_of i) g).kind ≡ true
   pub forms : (v : Visited) → In (statements_in (part_of i)) v → IsForm (part_of i) v.form
+  -- rounds are numbers of 32 bits
+  pub rounds : (v : Visited) → In (statements_in (part_of i)) v → (n : ℕ) → count_in v.form ≡ Some n → n < 2 ^ 32
 
 -- of every instance of an accepted design's tree
 pub cell_rules : (d : PlainDesign) → IsDesign d → IsAccepted d → (path : Path) → CellRules (instance_at (tree_of d) path)
@@ -52,8 +61,15 @@ cell_rules d design accepted path = record {
   no_part = λ o c p child i owner target at. outside (instance_stands d path) o c p child i owner target at;
   plain_part = λ g c child at drives. plain_if_driven (instance_stands d path) g c child at drives;
   forms = instance_part d design accepted (λ part. (v : Visited) → In (statements_in part) v → IsForm part v.form) (λ k within v i. subst (λ part. IsForm part v.form) (same_part d (length d.components) k) ((design.components k within).statements v i).form) (λ v i. nothing v i) path;
+  rounds = instance_part d design accepted (λ part. (v : Visited) → In (statements_in part) v → (n : ℕ) → count_in v.form ≡ Some n → n < 2 ^ 32) (λ k within v i n e. few k within v i n e) (λ v i n e. no_rounds v i n e) path;
 }
   where
+    other_limit : ℕ → Visited → Option Limited
+    other_limit k v =
+        if is_island (part_of (component_of d k)) v && nat_lt OCCURRENCES (form_occurrences (part_of (component_of d k)) v.form) then Some OnOccurrences
+        else if is_island (part_of (component_of d k)) v && nat_le REPETITIONS (form_length (part_of (component_of d k)) v.form) then Some OnLatency
+        else None
+
     outside : StandsFor d (instance_at (tree_of d) path) → (o : Owned) (c p : ℕ) (child : Instance) → In (source_order (part_of (instance_at (tree_of d) path))) o → o.owner ≡ None → o.assign.target ≡ ports.Cell c p
         → cell_at (cells_of (instance_at (tree_of d) path)) c ≡ OfInstance child → ⊥
     outside (of_component k l beside) o c p child i owner target at =
@@ -70,6 +86,31 @@ cell_rules d design accepted path = record {
         ap (λ part. is_plain (group_at part g).kind) beside.same
         ∙ plain_group (instance_at (tree_of d) path) (component_of d k) (keeps_calls d accepted k l (instance_at (tree_of d) path) beside) g it.assign it.is_in c it.port child it.target at
     plain_if_driven (of_nothing none) g c child at drives = untrue (sym (ap (λ part. group_drives part g c) none) ∙ drives)
+
+    -- too many rounds break the limit
+    few : (k : ℕ) → k < length d.components → (v : Visited) → In (statements_in (component_at d k)) v → (n : ℕ) → count_in v.form ≡ Some n → n < 2 ^ 32
+    few k within v i n e =
+        ⊎_elim
+        (λ l. l)
+        (λ l. let m = number_in (statements_in (component_at d k)) v i in
+        let over : is_too_many (count_in v.form) ≡ true = ap is_too_many e ∙ le-leb REPETITIONS n l in
+        absurd (accepted.limits Limit (record { component = k; part = AStatement m.0 }) v.place (word_of OnRepeat) refl
+        (inr (inr (inl (record {
+          within = within;
+          number = m.0;
+          is = refl;
+          statement = v;
+          stands = m.1;
+          breaks = (OnRepeat, ap (λ b. if b then Some OnRepeat else other_limit k v) over, (refl, refl));
+        }))))))
+        (cases_lt n (2 ^ 32))
+
+    no_rounds : (v : Visited) → In (statements_in no_component) v → (n : ℕ) → count_in v.form ≡ Some n → n < 2 ^ 32
+    no_rounds v (inl same) n e = none (ap (λ (x : Visited). count_in x.form) same ∙ e)
+      where
+        none : {A : Type 0} → ◌≡◌ {A = Option ℕ} None (Some n) → A
+        none f = absurd cc
+    no_rounds v (inr i) n e = absurd i
 
     nothing : (v : Visited) → In (statements_in no_component) v → IsForm no_component v.form
     nothing v (inl e) = subst (λ (x : Visited). IsForm no_component x.form) e tt

@@ -159,7 +159,7 @@ module _ (d : PlainLowereds) (part : PlainComponent) (cells : NetCells) (around 
       (slice_get-append (plain_wires (lowered_component part)) (rest_widths (target_width d (lowered_component part)) (component_driven (lowered_component part))) (length (plain_wires (lowered_component part)) + i) i refl ∙ e) (omega arith))
 
   -- A TARGET that is no register and no rest takes what its drivers other than rests give it
-  takes_all : (t : PlainNetTarget) → IsProper t → NoWireFrom t (length (plain_wires (lowered_component part))) → ((at : PlainNetTarget) → closing t at ≡ [])
+  pub takes_all : (t : PlainNetTarget) → IsProper t → NoWireFrom t (length (plain_wires (lowered_component part))) → ((at : PlainNetTarget) → closing t at ≡ [])
       → G t (zero_wide (target_width d (lowered_component part) t)) ≡ takes around R (look []) t (Some (zero_wide (target_width d (lowered_component part) t))) (plain_drivers (lowered_component part))
   takes_all t proper free open_end = target_takes d (lowered_component part) around R (look []) plain reads t proper free open_end
 

@@ -46,7 +46,7 @@ pub record IsTimer (state : CellState) : Type 0 where
   pub counts : timer_output state 1 ≡ Some (wide (count_in state))
   pub dones : timer_output state 2 ≡ Some (truth_bit (done_bit state))
 
-is_timer : (state : CellState) (x : BitVector) → timer_output state 1 ≡ Some x → IsTimer state
+pub is_timer : (state : CellState) (x : BitVector) → timer_output state 1 ≡ Some x → IsTimer state
 is_timer (Timer count done) x e = record { is = refl; counts = refl; dones = refl }
 is_timer Stateless x e = absurd cc
 is_timer (Register value done) x e = absurd cc
@@ -78,7 +78,7 @@ one_bit (suc k) zero less w = refl
 one_bit (suc k) (suc j) less w = one_bit k j (omega arith) w
 
 -- the wires behind those of 32 bits
-bit_wire : (wide_ones narrow n : ℕ) → wide_ones ≤ n → n < wide_ones + narrow → slice_get {X = ℕ} (replicate wide_ones 32 ++ replicate narrow 1) n ≡ Some 1
+pub bit_wire : (wide_ones narrow n : ℕ) → wide_ones ≤ n → n < wide_ones + narrow → slice_get {X = ℕ} (replicate wide_ones 32 ++ replicate narrow 1) n ≡ Some 1
 bit_wire wide_ones narrow n low high =
     let count : length (replicate {A = ℕ} wide_ones 32) ≡ wide_ones = length-replicate wide_ones 32 in
     let behind : n ≡ length (replicate {A = ℕ} wide_ones 32) + (n - wide_ones) = omega (arith, count) in

@@ -1,6 +1,6 @@
 -- The nodes of an accepted design's tree are fine. Where the control of all that is below an instance rests, its outputs have in the net the
 -- values that they are seen as.
-use Rattle.std.proofs.Common.{◌≡◌, ℕ, zero, suc, ◌<◌, Bool, true, false, List, [], ◌∷◌, length, Option, Some, None, unwrap_or, refl, sym, ap, ◌∙◌, subst, arith, if◌then◌else◌}
+use Rattle.std.proofs.Common.{◌≡◌, ℕ, zero, suc, ◌<◌, Bool, true, false, List, [], ◌∷◌, ◌++◌, length, Option, Some, None, unwrap_or, refl, sym, ap, ◌∙◌, subst, arith, if◌then◌else◌}
 use Rattle.std.proofs.lemmas.Bool.{lt-ltb}
 use Rattle.cx_bits.specs.BitVector.{BitVector}
 use Rattle.cx_prim.specs.Rows.{Row}
@@ -14,6 +14,7 @@ use Rattle.cx_rules.specs.Accepted.{IsAccepted}
 use Rattle.cx_rules.specs.Wellformed.{IsDesign}
 use Rattle.cx_rules.specs.Ports.{declared_width}
 use Rattle.cx_flow.specs.Flows.{zero_of}
+use Rattle.cx_control.proofs.DesignRuns.{joined}
 use Rattle.cx_net.specs.NetMeaning.{NetState, below_cell, APort, TheDone, NetLook, NetAround, around_child, is_true, truth_bit}
 use Rattle.cx_static.specs.Lowering.{lowered, unlowered}
 use Rattle.cx_wiring.specs.Counts.{positions_of}
@@ -51,12 +52,18 @@ fine_node d of_island part cells rules = record {
 abbrev pub SeamAt : PlainDesign → PlainComponent → Cells → Type 0
 SeamAt d part cells = SeamRules d (Node part cells)
 
+at_node : (d : PlainDesign) (i : Instance) → SeamRules d i → FineAt (SeamAt d) i
+at_node d (Node part cells) rules = rules
+
 -- ALL NODES of its tree keep the rules
 pub all_seams : (d : PlainDesign) → IsDesign d → IsAccepted d → AllNodes (SeamAt d) (tree_of d)
-all_seams d design accepted = all_nodes (SeamAt d) (tree_of d) (λ path. at (instance_at (tree_of d) path) (seam_rules d design accepted path))
-  where
-    at : (i : Instance) → SeamRules d i → FineAt (SeamAt d) i
-    at (Node part cells) rules = rules
+all_seams d design accepted = all_nodes (SeamAt d) (tree_of d) (λ path. at_node d (instance_at (tree_of d) path) (seam_rules d design accepted path))
+
+-- and all at and below an instance of it
+pub seams_at : (d : PlainDesign) → IsDesign d → IsAccepted d → (path : Path) → AllNodes (SeamAt d) (instance_at (tree_of d) path)
+seams_at d design accepted path =
+    all_nodes (SeamAt d) (instance_at (tree_of d) path)
+    (λ more. at_node d (instance_at (instance_at (tree_of d) path) more) (subst (SeamRules d) (sym (joined (tree_of d) path more)) (seam_rules d design accepted (path ++ more))))
 
 -- a primitive's cell is one of the design
 pub row_cell : (cells : Cells) (c : ℕ) (row : Row) → cell_at cells c ≡ OfRow row → has_cell_below cells c [] ≡ true

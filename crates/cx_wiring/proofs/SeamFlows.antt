@@ -1,8 +1,8 @@
 -- THE SEAM: a port that a leaf looks at has in the net the value that the leaf sees there, where what else goes drives no cell that the leaf
 -- reads. The hole of a group has it whatever goes, and so has an output, since they hang on what rests on state.
-use Rattle.std.proofs.Common.{◌≡◌, ◌⊎◌, inl, inr, ℕ, zero, suc, Bool, true, false, List, [], ◌∷◌, Option, Some, None, option_map, unwrap_or, slice_get, refl, sym, ap, ◌∙◌, subst}
+use Rattle.std.proofs.Common.{◌≡◌, ◌⊎◌, inl, inr, ℕ, zero, suc, ◌+◌, ◌<◌, Bool, true, false, List, [], ◌∷◌, length, arith, Option, Some, None, option_map, unwrap_or, slice_get, refl, sym, ap, ◌∙◌, subst}
 use Rattle.std.specs.Prelude.{nat_eq, if◌then◌else◌}
-use Rattle.std.proofs.lemmas.Bool.{eq-eqb, eqb-true}
+use Rattle.std.proofs.lemmas.Bool.{eq-eqb, eqb-true, lt-ltb}
 use Rattle.cx_bits.specs.BitVector.{BitVector}
 use Rattle.cx_prim.specs.declared.ports.Side.{Side}
 use Rattle.cx_prim.specs.declared.ports.Side.TheVariants as sides
@@ -30,10 +30,11 @@ use Rattle.cx_flow.proofs.CellLemmas.{cell_step}
 use Rattle.cx_eval_cycle.proofs.DemandLemmas.{DemandsAlike, EdgeFacts, row_facts}
 use Rattle.cx_flow.proofs.LeadsLemmas.{Stands, acting_stands, Inside, leads_inside, apart_assigns, apart_holes}
 use Rattle.cx_flow.proofs.PortFlows.{seen_flows}
-use Rattle.cx_net.specs.NetMeaning.{NetState, APort, TheDone, NetLook, NetAround, truth_bit}
+use Rattle.cx_net.specs.NetMeaning.{NetState, APort, AHole, TheDone, NetLook, NetAround, is_true, truth_bit, zero_wide}
 use Rattle.cx_wiring.specs.PartNets.{wired_in, timers_of}
 use Rattle.cx_wiring.specs.Blocks.{block, Solves}
 use Rattle.cx_wiring.specs.PortValues.{around_of, port_value, active_now}
+use Rattle.cx_wiring.proofs.TakingLemmas.{true_bit}
 use Rattle.cx_wiring.proofs.RowPorts.{enable_width}
 use Rattle.cx_wiring.proofs.StillPorts.{Still, resting, depends_still, hole_moves, still_continuous}
 use Rattle.cx_wiring.proofs.SeamRules.{SeamRules, row_lawful, row_has_ports}
@@ -83,6 +84,15 @@ module _ (d : PlainDesign) (numbers : Instance → NetState → ℕ → ℕ) (pa
   pub st_solves : FlowSolves (Node part cells) (active_now (Node part cells) around v look) st (around_of (Node part cells) around v look) (port_value (Node part cells) around v look)
   st_solves p = wires_solve d numbers part cells rules.node around v look solves p ∙ flow_same p
 
+  -- the hole of a group is a bit
+  pub hole_stands : (g : ℕ) → g < length part.groups → port_value (Node part cells) around v look (ports.Done g) ≡ truth_bit (is_true (unwrap_or (look [] (AHole g)) (zero_wide 1)))
+  hole_stands g there =
+      let holes : g < length part.groups + length part.groups = omega arith in
+      let b = solves.bits [] (AHole g) (lt-ltb g (length part.groups + length part.groups) holes) in
+      ap (λ (t : Bool). if t then unwrap_or (look [] (AHole g)) (zero_of (Some 1)) else zero_of (Some 1)) (lt-ltb g (length part.groups) there)
+      ∙ ap (λ o. unwrap_or o (zero_of (Some 1))) b.1
+      ∙ ap truth_bit (sym (ap (λ o. is_true (unwrap_or o (zero_wide 1))) b.1 ∙ true_bit b.0))
+
   -- WHAT IS SEEN AS A VALUE is the value in the net, where nothing disturbs the port
   pub seen_value : (held : Held) (act : Active) (p : PortRef) (b : BitVector) → Undisturbed (Node part cells) held act (active_now (Node part cells) around v look) st (around_of (Node part cells) around v look) p
       → Sees (Node part cells) held act st p (Value b) → port_value (Node part cells) around v look p ≡ b
@@ -116,23 +126,42 @@ module _ (d : PlainDesign) (numbers : Instance → NetState → ℕ → ℕ) (pa
     after_first {x} (at_once l) = (x, l, inl refl)
     after_first {x} (by_way_of r l deeper) = (r, l, inr deeper)
 
+    source : (o : Owned) → In (source_order part) o → is_source_only (Node part cells) o.assign.target ≡ false
+    source o j = (rules.node.ports.assigns o j).no_source
+
+    plain : (c : ℕ) (row : Row) → cell_at cells c ≡ OfRow row → (n m : ℕ) → row.reads n m ≡ true → side_of row m ≡ sides.Plain
+    plain c row at n m w = (row_has_ports d (Node part cells) rules c row at).reads_plain n m w
+
+    none_some : (h : ℕ) → ◌≡◌ {A = Option ℕ} None (Some h) → ⊥
+    none_some h e = cc
+
+    -- A PORT THAT IS STILL hangs on no group
+    still_port : ((Still (Node part cells) p → ⊥) → ⊥) → Undisturbed (Node part cells) held act now st (around_of (Node part cells) around v look) p
+    still_port still =
+        around_is (λ c q o reach j target. assigns c q o (reached (ports.Cell c q) reach) j target) (λ g reach. absurd (reached (ports.Done g) reach (λ it. hole_moves (Node part cells) source plain g it)))
+      where
+        further : (x : PortRef) → Reaches (Node part cells) act p x → Still (Node part cells) p → Still (Node part cells) x
+        further x (inl e) it = subst (Still (Node part cells)) e it
+        further x (inr dep) it = depends_still (Node part cells) source plain act it dep
+
+        reached : (x : PortRef) → Reaches (Node part cells) act p x → (Still (Node part cells) x → ⊥) → ⊥
+        reached x reach never = still (λ it. never (further x reach it))
+
+        assigns : (c q : ℕ) (o : Owned) → ((Still (Node part cells) (ports.Cell c q) → ⊥) → ⊥) → In (source_order part) o → o.assign.target ≡ ports.Cell c q → offset_of act o.owner ≡ offset_of now o.owner
+        assigns c q o it j target = by o.owner refl
+          where
+            by : (w : Option ℕ) → o.owner ≡ w → offset_of act w ≡ offset_of now w
+            by None e = refl
+            by (Some h) e = absurd (it (λ is_still. none_some h (sym (still_continuous (Node part cells) source plain c q is_still o j target) ∙ e)))
+
     -- A PORT WHOSE NAMES REST hangs on no group
     module _ (no_cell : (c q : ℕ) → p ≡ ports.Cell c q → ⊥) (first : (r : PortRef) → Leads (Node part cells) act p r → (Rests (Node part cells) r → ⊥) → ⊥) (own : (g : ℕ) → p ≡ ports.Done g → act.offset g ≡ Some 0) where
-      source : (o : Owned) → In (source_order part) o → is_source_only (Node part cells) o.assign.target ≡ false
-      source o j = (rules.node.ports.assigns o j).no_source
-
-      plain : (c : ℕ) (row : Row) → cell_at cells c ≡ OfRow row → (n m : ℕ) → row.reads n m ≡ true → side_of row m ≡ sides.Plain
-      plain c row at n m w = (row_has_ports d (Node part cells) rules c row at).reads_plain n m w
-
       still_behind : (r x : PortRef) → Rests (Node part cells) r → (r ≡ x) ⊎ Depends (Node part cells) act r x → Still (Node part cells) x
       still_behind r x rests (inl e) = subst (Still (Node part cells)) e (resting rests)
       still_behind r x rests (inr dep) = depends_still (Node part cells) source plain act (resting rests) dep
 
       against : (x : PortRef) → Depends (Node part cells) act p x → (Still (Node part cells) x → ⊥) → ⊥
       against x dep never = let f = after_first dep in first f.0 f.1 (λ rests. never (still_behind f.0 x rests f.2))
-
-      none_some : (h : ℕ) → ◌≡◌ {A = Option ℕ} None (Some h) → ⊥
-      none_some h e = cc
 
       assigns : (c q : ℕ) (o : Owned) → Reaches (Node part cells) act p (ports.Cell c q) → In (source_order part) o → o.assign.target ≡ ports.Cell c q → offset_of act o.owner ≡ offset_of now o.owner
       assigns c q o reach j target = by o.owner refl reach
@@ -297,6 +326,12 @@ module _ (d : PlainDesign) (numbers : Instance → NetState → ℕ → ℕ) (pa
 
         same_group : (h : ℕ) → ports.Done g ≡ ports.Done h → g ≡ h
         same_group h e = cc
+
+  -- A PORT THAT RESTS ON STATE, whatever goes
+  pub rested_seen : (held : Held) (act : Active) (p : PortRef) → ((Rests (Node part cells) p → ⊥) → ⊥) → Nearby held act (λ c q. Reaches (Node part cells) act p (ports.Cell c q)) → (b : BitVector)
+      → Sees (Node part cells) held act st p (Value b) → port_value (Node part cells) around v look p ≡ b
+  rested_seen held act p rests near b sees =
+      seen_value held act p b (still_port held act (λ c q. Reaches (Node part cells) act p (ports.Cell c q)) near p (λ c q reach. reach) (λ never. rests (λ it. never (resting it)))) sees
 
   -- AN OUTPUT of the instance, whatever goes
   pub output_seen : (n : ℕ) (b : BitVector) → Nearby unheld nothing (λ c q. Unit {0}) → Sees (Node part cells) unheld nothing st (ports.Output n) (Value b) → port_value (Node part cells) around v look (ports.Output n) ≡ b

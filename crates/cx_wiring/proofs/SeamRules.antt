@@ -1,23 +1,33 @@
 -- What the rules of acceptance give an instance so that its net has what its leaves see: beside the rules of its ports, lawful rows, where
 -- names may lead, and that what a done or an output looks at rests on state.
-use Rattle.std.proofs.Common.{◌≡◌, ◌⊎◌, inl, inr, ℕ, zero, suc, ◌<◌, Bool, true, false, List, [], ◌∷◌, length, Option, Some, None, refl, sym, ap, ◌∙◌, subst, arith}
+use Rattle.std.specs.Prelude.{is_some}
+use Rattle.std.proofs.Common.{◌≡◌, ◌⊎◌, inl, inr, ℕ, zero, suc, ◌<◌, Bool, true, false, ◌||◌, List, [], ◌∷◌, length, Option, Some, None, refl, sym, ap, ◌∙◌, subst, arith}
 use Rattle.cx_text.specs.declared.rules.Rule.TheVariants as rules
-use Rattle.cx_prim.specs.Rows.{Row, IsLawful}
+use Rattle.cx_prim.specs.Rows.{Row, is_enable_side, IsLawful}
 use Rattle.cx_prim.specs.TableLaws.{row_of_lawful}
 use Rattle.cx_prim.specs.declared.ports.Side.TheVariants as sides
 use Rattle.cx_meaning.specs.declared.ports.PortRef.{PortRef}
 use Rattle.cx_meaning.specs.declared.ports.PortRef.TheVariants as ports
 use Rattle.cx_meaning.specs.Rows.{side_of}
-use Rattle.cx_meaning.specs.Designs.{PlainAssign, PlainComponent, PlainDesign, component_at, group_at, no_component}
+use Rattle.cx_meaning.specs.Designs.{PlainAssign, PlainComponent, PlainDesign, component_at, group_at, no_component, PlainForm, Empty, StaticIf, PlainStatement}
+use Rattle.cx_text.specs.declared.places.Place.{Place}
+use Rattle.cx_meaning.specs.Islands.{group_length}
+use Rattle.cx_meaning.specs.Control.{groups_in}
+use Rattle.cx_meaning.specs.declared.ports.PlacedPort.{PlacedPort}
 use Rattle.cx_meaning.specs.Instances.{Instance, Node, Cells, no_cells, OfRow, OfInstance, cell_at, cells_of, part_of, cells_for, tree_within, tree_of, Path, instance_at}
 use Rattle.cx_meaning.specs.Active.{Owned, source_order}
 use Rattle.cx_meaning.specs.Sights.{In, AnOutput, ItsDone, part_port}
-use Rattle.cx_rules.specs.Ports.{component_of, path_of}
+use Rattle.cx_rules.specs.Ports.{enables_cell, is_primitive_enable, is_part_port, component_of, path_of}
+use Rattle.cx_rules.specs.StaticControl.{is_static}
+use Rattle.cx_rules.specs.Items.{Dynamic, Visited, statements_in, is_comb}
+use Rattle.cx_rules.specs.ShapeRules.{is_hole}
 use Rattle.cx_rules.specs.Footprints.{AssignNames, Rests, literal_rests, input_rests, registered_rests, output_rests, done_rests, combinational_rests}
-use Rattle.cx_rules.specs.Spots.{AnAssign}
+use Rattle.cx_rules.specs.Spots.{AStatement, AnAssign}
 use Rattle.cx_rules.specs.Accepted.{IsAccepted}
 use Rattle.cx_rules.specs.Wellformed.{IsDesign}
 use Rattle.cx_rules.proofs.CircleLemmas.{same_part}
+use Rattle.cx_frames.proofs.StatementFrames.{visited}
+use Rattle.cx_control.proofs.StaticLemmas.{IsStatic, static_form, static_may, all_may}
 use Rattle.cx_frames.proofs.RuleLemmas.{IsKept, kept_instance}
 use Rattle.cx_flow.proofs.InstanceLemmas.{KeepsPorts, instance_ports, number_in}
 use Rattle.cx_wiring.proofs.WholeInstances.{IsWhole, of_component, of_nothing, instance_whole, AreAlike, nothings, rows, instances, cells_alike}
@@ -29,6 +39,12 @@ use Rattle.cx_wiring.proofs.RowPorts.{HasRowPorts, row_ports}
 pub record RestRules (i : Instance) : Type 0 where
   pub dones : (o : Owned) (g : ℕ) (q : PortRef) → In (source_order (part_of i)) o → o.assign.target ≡ ports.Done g → AssignNames o.assign q → (Rests i q → ⊥) → ⊥
   pub outputs : (o : Owned) (n : ℕ) (q : PortRef) → In (source_order (part_of i)) o → o.assign.target ≡ ports.Output n → AssignNames o.assign q → (Rests i q → ⊥) → ⊥
+  -- the port of a static if rests on state
+  pub tests : (v : Visited) (written : Option ℕ) (test : PlacedPort) (a b : PlainStatement) → In (statements_in (part_of i)) v → v.form ≡ StaticIf written test a b → (Rests i test.port → ⊥) → ⊥
+  -- the groups of static control are static
+  pub statics : (form : PlainForm) (place : Place) → In (statements_in (part_of i)) (record { context = Dynamic; form = form; place = place }) → is_static form ≡ true → (g : ℕ) → In (groups_in form) g → is_some (group_length (part_of i) g) ≡ true
+  -- a comb group enables no primitive
+  pub combs : (o : Owned) (g c p : ℕ) (row : Row) → In (source_order (part_of i)) o → o.owner ≡ Some g → is_comb (group_at (part_of i) g).kind ≡ true → o.assign.target ≡ ports.Cell c p → cell_at (cells_of i) c ≡ OfRow row → side_of row p ≡ sides.Enable → ⊥
 
 pub record SeamRules (d : PlainDesign) (i : Instance) : Type 0 where
   pub node : NodeRules d i
@@ -84,7 +100,36 @@ module _ (d : PlainDesign) (accepted : IsAccepted d) (k : ℕ) (within : k < len
         accepted.shapes rules.OutputNotState (record { component = k; part = AnAssign n.0 }) o.assign.place (path_of (component_of d k) o.assign.target) refl
         (record { within = within; number = n.0; is = refl; assign = o; stands = n.1; breaks = (m, target, (q, names, inl none), (refl, refl)) })
 
+    comb_rests : (g c p : ℕ) (row : Row) → o.owner ≡ Some g → is_comb (group_at (part_of (component_of d k)) g).kind ≡ true → o.assign.target ≡ ports.Cell c p → cell_at (cells_of (component_of d k)) c ≡ OfRow row → side_of row p ≡ sides.Enable → ⊥
+    comb_rests g c p row owner comb target at side =
+        let n = number_in (source_order (component_at d k)) o i in
+        accepted.shapes rules.CombEnable (record { component = k; part = AnAssign n.0 }) o.assign.place (path_of (component_of d k) o.assign.target) refl
+        (record { within = within; number = n.0; is = refl; assign = o; stands = n.1; breaks = (g, owner, comb, enables, (refl, refl)) })
+      where
+        enables : (is_primitive_enable (component_of d k) o.assign.target || is_part_port (component_of d k) o.assign.target || is_hole o.assign.target) ≡ true
+        enables =
+            ap (λ b. b || is_part_port (component_of d k) o.assign.target || is_hole o.assign.target)
+            (ap (is_primitive_enable (component_of d k)) target ∙ ap (λ x. enables_cell x p) at ∙ ap is_enable_side side)
+
+  test_rest : (v : Visited) (written : Option ℕ) (test : PlacedPort) (a b : PlainStatement) → In (statements_in (component_at d k)) v → v.form ≡ StaticIf written test a b → (Rests (component_of d k) test.port → ⊥) → ⊥
+  test_rest v written test a b i form none =
+      let n = number_in (statements_in (component_at d k)) v i in
+      accepted.shapes rules.StaticShape (record { component = k; part = AStatement n.0 }) v.place [] refl
+      (inr (inr (inr (record { within = within; number = n.0; is = refl; statement = v; stands = n.1; breaks = (written, test, a, b, form, none, (refl, refl)) }))))
+
+  static_groups : (form : PlainForm) (place : Place) → In (statements_in (component_at d k)) (record { context = Dynamic; form = form; place = place }) → is_static form ≡ true → (g : ℕ) → In (groups_in form) g
+      → is_some (group_length (component_at d k) g) ≡ true
+  static_groups form place i static =
+      IsStatic.static
+      (static_form (component_at d k) Dynamic form (static_may (component_at d k) form static)
+      (λ w j. all_may d accepted k within w (visited Dynamic (component_at d k).control (record { context = Dynamic; form = form; place = place }) w i (inr j))))
+
   module _ (m n : ℕ) (count : length d.components ≡ suc n) where
+    row_too : (c : ℕ) (row : Row) → cell_at (cells_of (tree_within d (suc m) k)) c ≡ OfRow row → cell_at (cells_of (component_of d k)) c ≡ OfRow row
+    row_too c row e =
+        subst (λ x. cell_at (cells_of (tree_within d x k)) c ≡ OfRow row) (sym count)
+        (row_alike (cells_alike (tree_within d m) (tree_within d n) (λ j. same_part d m j ∙ sym (same_part d n j)) (component_at d k).cells c) row e)
+
     rests_too : (q : PortRef) → Rests (component_of d k) q → Rests (tree_within d (suc m) k) q
     rests_too q h =
         rests_alike (component_at d k) (cells_for (tree_within d n) (component_at d k).cells) (cells_for (tree_within d m) (component_at d k).cells)
@@ -94,7 +139,25 @@ module _ (d : PlainDesign) (accepted : IsAccepted d) (k : ℕ) (within : k < len
     tree_rests = record {
       dones = λ o g q i target names none. done_rest o i g q target names (λ h. none (rests_too q h));
       outputs = λ o j q i target names none. output_rest o i j q target names (λ h. none (rests_too q h));
+      statics = static_groups;
+      tests = λ v written test a b i form none. test_rest v written test a b i form (λ h. none (rests_too test.port h));
+      combs = λ o g c p row i owner comb target at side.
+          comb_rests o i g c p row owner (ap (λ x. is_comb (group_at x g).kind) (same_part d (length d.components) k) ∙ comb) target (row_too c row at) side;
     }
+
+no_static : (v : Visited) → In (statements_in no_component) v → (written : Option ℕ) (test : PlacedPort) (a b : PlainStatement) → v.form ≡ StaticIf written test a b → ⊥
+no_static v (inl e) written test a b form = differ (ap (λ (w : Visited). w.form) e ∙ form)
+  where
+    differ : Empty ≡ StaticIf written test a b → ⊥
+    differ f = cc
+no_static v (inr i) written test a b form = absurd i
+
+bare_form : (form : PlainForm) (place : Place) → In (statements_in no_component) (record { context = Dynamic; form = form; place = place }) → is_static form ≡ true → ⊥
+bare_form form place (inl e) static = differ (ap (λ (w : Visited). is_static w.form) e ∙ static)
+  where
+    differ : false ≡ true → ⊥
+    differ f = cc
+bare_form form place (inr i) static = absurd i
 
 -- EVERY INSTANCE of an accepted design's tree
 pub seam_rules : (d : PlainDesign) → IsDesign d → IsAccepted d → (path : Path) → SeamRules d (instance_at (tree_of d) path)
@@ -102,4 +165,4 @@ seam_rules d design accepted path = record { node = node_rules d design accepted
   where
     by : {i : Instance} → IsWhole d i → RestRules i
     by (of_component m k within) = let n = some_components k (length d.components) within in tree_rests d accepted k within m n.0 n.1
-    by of_nothing = record { dones = λ o g q i. absurd i; outputs = λ o n q i. absurd i }
+    by of_nothing = record { dones = λ o g q i. absurd i; outputs = λ o n q i. absurd i; tests = λ v written test a b i form none. no_static v i written test a b form; statics = λ form place i static. absurd (bare_form form place i static); combs = λ o g c p row i. absurd i }

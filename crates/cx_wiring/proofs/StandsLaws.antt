@@ -28,7 +28,8 @@ use Rattle.cx_wiring.specs.Stands.{Stand, at, end_of, inside, past_test, behind}
 use Rattle.cx_wiring.specs.Control.{one_turn, found_zero, in_last_round, arm_stand, arm_over, arm_restarts, arm_finishes, counted_inside, counting, comb_goes, arms_over, form_drivers, drivers_of, parts_drivers, arms_drivers}
 use Rattle.cx_wiring.specs.Takings.{value, Says, takes, Connects, AllConnect, AllIdle, AreRegisters}
 use Rattle.cx_wiring.specs.Standing.{IsStopped, IsIn, Away}
-use Rattle.cx_wiring.specs.Shown.{wide, Going, told, leads, counted, comb_going, number_of, parts_number, arms_number, FormAgrees, StatementAgrees, PartsAgree, ArmsAgree, enable_agrees, enable_going, enable_number, going, parts_going, arms_going}
+use Rattle.cx_wiring.specs.Shown.{wide, Going, told, leads, counted, comb_going, number_of, parts_number, arms_number, enable_going, enable_number, going, parts_going, arms_going}
+use Rattle.cx_wiring.specs.AtLeaves.{AnyTest, AnyGroup, IslandsHold, enable_holds, enable_saw, FormSaw, StatementSaw, PartsSaw, ArmsSaw}
 use Rattle.cx_wiring.specs.Turning.{Turns, Enters, Moves, entered}
 use Rattle.cx_wiring.specs.Wired.{IsWired, PartsWired, ArmsWired}
 use Rattle.cx_wiring.specs.IslandTakes.{IslandNexts}
@@ -270,7 +271,8 @@ module _ (groups : ℕ) (islands : List PlainIsland) (around : NetAround) (regis
     -- ONE CYCLE of what the machine saw
     module _ (seen : Store X V) (of_enable : (g : ℕ) → Machine.Place (LeafMachines.enable leaves g) → List Going) (of_island : (form : PlainForm) → Machine.Place (LeafMachines.island leaves form) → List Going)
         (rounds : (k : ℕ) (a : PlainStatement) (place : Place) → Stands (Placed (Repeat (suc k) a) place) → k < 2 ^ 32)
-        (Low : Lowering → Type 0) (low_back : (s : PlainStatement) (l : Lowering) → Low (after part s l) → Low l) (low_parts : (ss : PlainStatements) (l : Lowering) → Low (parts_after part ss l) → Low l) where
+        (Low : Lowering → Type 0) (low_back : (s : PlainStatement) (l : Lowering) → Low (after part s l) → Low l) (low_parts : (ss : PlainStatements) (l : Lowering) → Low (parts_after part ss l) → Low l)
+        (timed_saw : (g : ℕ) → Machine.Place (LeafMachines.enable leaves g) → Type 0) (island_saw : (form : PlainForm) → Machine.Place (LeafMachines.island leaves form) → Type 0) where
       abbrev M : (s : PlainStatement) → Machine X V
       M s = machine_of leaves s
 
@@ -284,11 +286,11 @@ module _ (groups : ℕ) (islands : List PlainIsland) (around : NetAround) (regis
           (going leaves codings part islands hole of_enable of_island s p) (Machine.step (machine_of leaves s) p seen)
 
       abbrev Saw : (s : PlainStatement) → Machine.Place (machine_of leaves s) → Type 0
-      Saw s p = StatementAgrees leaves codings part islands seen hole port s p
+      Saw s p = StatementSaw leaves part timed_saw island_saw codings islands seen hole port s p
 
       -- WHAT ISLANDS OWE, in the place of the statements that they were lowered from, at each stage of the lowering that comes before its end
       module _ (islands_turn : (s : PlainStatement) → Stands s → (l : Lowering) → Low (after part s l) → (place : Place) → lowered part s l ≡ Placed (Timed (length l.islands)) place
-          → (x : Stand) (r : ℕ) (p : Machine.Place (machine_of leaves s)) → Coding.IsFine (statement_coding leaves codings s) p → Acts x r → Shows s l x r p → W x (lowered part s l) → Turned s l x r p) where
+          → (x : Stand) (r : ℕ) (p : Machine.Place (machine_of leaves s)) → Coding.IsFine (statement_coding leaves codings s) p → Acts x r → Shows s l x r p → W x (lowered part s l) → IslandsHold leaves part timed_saw island_saw s p → Turned s l x r p) where
         -- the enable of a group that is no island
         enable_turns : (g : ℕ) (place : Place) → Stands (Placed (Enable g) place) → group_length part g ≡ None → (l : Lowering) (x : Stand) (r : ℕ) (p : Machine.Place (LeafMachines.enable leaves g)) → Acts x r
             → r ≡ x.position + Coding.number (LeafCodings.enable codings g) p → W x (Placed (Enable g) place) → hole g ≡ is_done (Machine.step (LeafMachines.enable leaves g) p seen)
@@ -319,14 +321,15 @@ module _ (groups : ℕ) (islands : List PlainIsland) (around : NetAround) (regis
             moved Done = λ o. refl
 
         enable_kind : (g : ℕ) (o : Option ℕ) → group_length part g ≡ o → (place : Place) → Stands (Placed (Enable g) place) → (l : Lowering) → Low (after_enable part g o l) → (x : Stand) (r : ℕ) (p : Machine.Place (LeafMachines.enable leaves g))
-            → Coding.IsFine (LeafCodings.enable codings g) p → Acts x r → Shows (Placed (Enable g) place) l x r p → W x (Placed (lowered_enable part g o l) place) → enable_agrees leaves codings part islands seen hole port g o p
+            → Coding.IsFine (LeafCodings.enable codings g) p → Acts x r → Shows (Placed (Enable g) place) l x r p → W x (Placed (lowered_enable part g o l) place) → enable_saw leaves part timed_saw island_saw codings islands seen hole port g o p
             → Turns groups around registers look (LeafCodings.enable codings g) x.wire x.region x.position r (D x (Placed (lowered_enable part g o l) place)) (enable_number leaves codings part islands next next_island o l x.register)
             (enable_going leaves codings part islands hole of_enable of_island g o p) (Machine.step (LeafMachines.enable leaves g) p seen)
         enable_kind g None is place u l stage x r p fine i shows w saw = enable_turns g place u is l x r p i shows.0 w saw
         enable_kind g (Some cycles) is place u l stage x r p fine i shows w saw =
             subst (λ o. W x (Placed (lowered_enable part g o l) place) → Turns groups around registers look (LeafCodings.enable codings g) x.wire x.region x.position r (D x (Placed (lowered_enable part g o l) place))
             (enable_number leaves codings part islands next next_island o l x.register) (enable_going leaves codings part islands hole of_enable of_island g o p) (Machine.step (LeafMachines.enable leaves g) p seen)) is
-            (λ v. islands_turn (Placed (Enable g) place) u l (subst (λ o. Low (after_enable part g o l)) (sym is) stage) place (ap (λ o. Placed (lowered_enable part g o l) place) is) x r p fine i shows v) w
+            (λ v. islands_turn (Placed (Enable g) place) u l (subst (λ o. Low (after_enable part g o l)) (sym is) stage) place (ap (λ o. Placed (lowered_enable part g o l) place) is) x r p fine i shows v
+            (subst (λ o. enable_holds leaves part AnyTest (AnyGroup leaves) timed_saw island_saw g o p) (sym is) saw)) w
 
         abbrev PK : (ss : PlainStatements) → Coding (Machine.Place (parts_machine leaves ss))
         PK = parts_coding leaves codings
@@ -384,7 +387,7 @@ module _ (groups : ℕ) (islands : List PlainIsland) (around : NetAround) (regis
             → ((n : ℕ) → n < suc (Coding.extra (statement_coding leaves codings s)) → counted (kept register) (number_of leaves codings part islands kept now_island s l (suc register)) n ≡ bank_code (statement_coding leaves codings s) k n)
             → W (arm_stand par wire register) (lowered part s l) → registers register ≡ Some (wide (kept register))
             → takes around registers look (ToRegister register) (Some (wide (kept register))) (arm_restarts par register ∷ (D (arm_stand par wire register) (lowered part s l) ++ arm_finishes wire register (lowered part s l) ∷ [])) ≡ Some (wide (next register))
-            → at_fine (StatementAgrees leaves codings part islands seen hole port s) k
+            → at_fine (StatementSaw leaves part timed_saw island_saw codings islands seen hole port s) k
             → ((p : Machine.Place (machine_of leaves s)) → Coding.IsFine (statement_coding leaves codings s) p → Shows s l (arm_stand par wire register) (kept register) p → Saw s p → Turned s l (arm_stand par wire register) (kept register) p)
             → ArmTurns groups around registers look (statement_coding leaves codings s) par wire register (lowered part s l) (D (arm_stand par wire register) (lowered part s l))
             (counted (next register) (number_of leaves codings part islands next next_island s l (suc register))) (at_control (going leaves codings part islands hole of_enable of_island s) k) (step (machine_of leaves s) k seen)
@@ -520,7 +523,7 @@ module _ (groups : ℕ) (islands : List PlainIsland) (around : NetAround) (regis
         -- THE LAW: a step of the machine in a cycle of the net, for every form
         mutual
           form_turns : (form : PlainForm) (place : Place) → Stands (Placed form place) → (l : Lowering) → Low (form_after part form l) → (x : Stand) (r : ℕ) (p : Machine.Place (form_machine leaves form)) → Coding.IsFine (form_coding leaves codings form) p → Acts x r
-              → Shows (Placed form place) l x r p → W x (lowered part (Placed form place) l) → FormAgrees leaves codings part islands seen hole port form p → Turned (Placed form place) l x r p
+              → Shows (Placed form place) l x r p → W x (lowered part (Placed form place) l) → FormSaw leaves part timed_saw island_saw codings islands seen hole port form p → Turned (Placed form place) l x r p
           form_turns Empty place u l stage x r p fine i shows w saw = turn_one x r _ i shows.0 w.low w.connects
           form_turns (Enable g) place u l stage x r p fine i shows w saw = enable_kind g (group_length part g) refl place u l stage x r p fine i shows w saw
           form_turns (Seq no_statements) place u l stage x r p fine i shows w saw = turn_one x r _ i shows.0 w.low w.connects
@@ -650,20 +653,20 @@ module _ (groups : ℕ) (islands : List PlainIsland) (around : NetAround) (regis
               let ua = statement_coded leaves codings Stands law a us in
               round_turns a ua l x k r p.left (rounds k a place u) fine.less v.ends_so w.nexts.0 w.registers_are.0 w.nexts.1 (shows.1 0 (omega arith)) _ (Machine.step (machine_of leaves a) p.place seen)
               (turns a us l stage (counted_inside x) r p.place fine.body i (shows.0, λ j less. shows.1 (suc j) (omega arith)) v.body saw)
-          form_turns (StaticSeq written parts) place u l stage x r p fine i shows w saw = islands_turn (Placed (StaticSeq written parts) place) u l stage place refl x r p fine i shows w
-          form_turns (StaticPar written arms) place u l stage x r p fine i shows w saw = islands_turn (Placed (StaticPar written arms) place) u l stage place refl x r p fine i shows w
-          form_turns (StaticIf written test a b) place u l stage x r p fine i shows w saw = islands_turn (Placed (StaticIf written test a b) place) u l stage place refl x r p fine i shows w
-          form_turns (StaticRepeat written count a) place u l stage x r p fine i shows w saw = islands_turn (Placed (StaticRepeat written count a) place) u l stage place refl x r p fine i shows w
+          form_turns (StaticSeq written parts) place u l stage x r p fine i shows w saw = islands_turn (Placed (StaticSeq written parts) place) u l stage place refl x r p fine i shows w saw
+          form_turns (StaticPar written arms) place u l stage x r p fine i shows w saw = islands_turn (Placed (StaticPar written arms) place) u l stage place refl x r p fine i shows w saw
+          form_turns (StaticIf written test a b) place u l stage x r p fine i shows w saw = islands_turn (Placed (StaticIf written test a b) place) u l stage place refl x r p fine i shows w saw
+          form_turns (StaticRepeat written count a) place u l stage x r p fine i shows w saw = islands_turn (Placed (StaticRepeat written count a) place) u l stage place refl x r p fine i shows w saw
           form_turns (Timed k) place u l stage x r p fine i shows w saw = absurd (law.is_untimed k place u)
 
           pub turns : (s : PlainStatement) → Stands s → (l : Lowering) → Low (after part s l) → (x : Stand) (r : ℕ) (p : Machine.Place (machine_of leaves s)) → Coding.IsFine (statement_coding leaves codings s) p → Acts x r
-              → Shows s l x r p → W x (lowered part s l) → StatementAgrees leaves codings part islands seen hole port s p → Turned s l x r p
+              → Shows s l x r p → W x (lowered part s l) → StatementSaw leaves part timed_saw island_saw codings islands seen hole port s p → Turned s l x r p
           turns (Placed form place) u l stage x r p fine i shows w saw = form_turns form place u l stage x r p fine i shows w saw
 
           parts_turn : (ss : PlainStatements) (whole : PlainStatement) → Stands whole → ((t : PlainStatement) → In (list_of ss) t → IsPart t whole) → (l : Lowering) → Low (parts_after part ss l) → (seq : Stand) (before : ℕ) (x : Stand) (r : ℕ) (p : Machine.Place (parts_machine leaves ss))
               → Coding.IsFine (parts_coding leaves codings ss) p → Acts x r
               → (r ≡ x.position + Coding.number (parts_coding leaves codings ss) p) × ((n : ℕ) → n < Coding.extra (parts_coding leaves codings ss) → parts_number leaves codings part islands kept now_island ss l x.register n ≡ Coding.other (parts_coding leaves codings ss) p n)
-              → WP seq before x (lowered_parts part ss l) → It (end_of before) false → PartsAgree leaves codings part islands seen hole port ss p
+              → WP seq before x (lowered_parts part ss l) → It (end_of before) false → PartsSaw leaves part timed_saw island_saw codings islands seen hole port ss p
               → Turns groups around registers look (parts_coding leaves codings ss) seq.wire x.region x.position r (parts_drivers groups islands seq before x (lowered_parts part ss l))
               (parts_number leaves codings part islands next next_island ss l x.register) (parts_going leaves codings part islands hole of_enable of_island ss p) (Machine.step (parts_machine leaves ss) p seen)
           parts_turn no_statements whole u inside_whole l stage seq before x r p fine i shows w off saw = absurd p
@@ -690,7 +693,7 @@ module _ (groups : ℕ) (islands : List PlainIsland) (around : NetAround) (regis
           arms_turn : (arms : PlainStatements) (whole : PlainStatement) → Stands whole → ((t : PlainStatement) → In (list_of arms) t → IsPart t whole) → (l : Lowering) → Low (parts_after part arms l) → (par : Stand) (wire register : ℕ) (k : Control (Machine.Place (arms_machine leaves arms)))
               → at_fine (Bank.IsFine (arms_bank leaves codings arms)) k → It (at par) true
               → ((n : ℕ) → n < Bank.count (arms_bank leaves codings arms) → arms_number leaves codings part islands kept now_island arms l register n ≡ Bank.code (arms_bank leaves codings arms) k n)
-              → WA par wire register (lowered_parts part arms l) → at_fine (ArmsAgree leaves codings part islands seen hole port arms) k → ArmsTurn arms l par wire register k (step (arms_machine leaves arms) k seen)
+              → WA par wire register (lowered_parts part arms l) → at_fine (ArmsSaw leaves part timed_saw island_saw codings islands seen hole port arms) k → ArmsTurn arms l par wire register k (step (arms_machine leaves arms) k seen)
           arms_turn no_statements whole u inside_whole l stage par wire register (At p) fine on nums w saw = absurd p
           arms_turn no_statements whole u inside_whole l stage par wire register Done fine on nums w saw = record { over = refl; goes_so = λ g o. refl; nexts = λ e h all n less. none_below n less }
           arms_turn (a_statement s ss) whole u inside_whole l stage par wire register k fine on nums w saw =
@@ -702,9 +705,9 @@ module _ (groups : ℕ) (islands : List PlainIsland) (around : NetAround) (regis
               (arms_both s ss l par wire register k (step (machine_of leaves s) (left_control k) seen) (step (arms_machine leaves ss) (right_control k) seen)
               (arm_of s us l par wire register (left_control k) (left_fine (region_bank (statement_coding leaves codings s)) (arms_bank leaves codings ss) k fine) on
               (beside_first (suc (Coding.extra (statement_coding leaves codings s))) (Bank.count (arms_bank leaves codings ss)) (counted (kept register) (number_of leaves codings part islands kept now_island s l (suc register))) (arms_number leaves codings part islands kept now_island ss (after part s l) (suc register + length (registers_of islands (lowered part s l)))) (bank_code (statement_coding leaves codings s) (left_control k)) (Bank.code (arms_bank leaves codings ss) (right_control k)) nums) v.0 w.registers_are.0 w.nexts.0
-              (left_says (StatementAgrees leaves codings part islands seen hole port s) (ArmsAgree leaves codings part islands seen hole port ss) k saw)
+              (left_says (StatementSaw leaves part timed_saw island_saw codings islands seen hole port s) (ArmsSaw leaves part timed_saw island_saw codings islands seen hole port ss) k saw)
               (λ p f shows_it saw_it. turns s us l (low_parts ss (after part s l) stage) (arm_stand par wire register) (kept register) p f (record { acts_so = on; width = 32; at_position = w.registers_are.0 }) shows_it v.0 saw_it))
               (arms_turn ss whole u (λ t e. inside_whole t (inr e)) (after part s l) stage par (wire + wires_of (lowered part s l)) (suc register + length (registers_of islands (lowered part s l))) (right_control k)
               (right_fine (region_bank (statement_coding leaves codings s)) (arms_bank leaves codings ss) k fine) on
               (beside_later (suc (Coding.extra (statement_coding leaves codings s))) (Bank.count (arms_bank leaves codings ss)) (counted (kept register) (number_of leaves codings part islands kept now_island s l (suc register))) (arms_number leaves codings part islands kept now_island ss (after part s l) (suc register + length (registers_of islands (lowered part s l)))) (bank_code (statement_coding leaves codings s) (left_control k)) (Bank.code (arms_bank leaves codings ss) (right_control k)) nums) v.1
-              (right_says (StatementAgrees leaves codings part islands seen hole port s) (ArmsAgree leaves codings part islands seen hole port ss) k saw)))
+              (right_says (StatementSaw leaves part timed_saw island_saw codings islands seen hole port s) (ArmsSaw leaves part timed_saw island_saw codings islands seen hole port ss) k saw)))

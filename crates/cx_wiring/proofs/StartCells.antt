@@ -24,7 +24,7 @@ use Rattle.cx_wiring.proofs.TimerCells.{cells-lowered_component}
 use Rattle.cx_wiring.proofs.ExternalLaws.{rows_of-lowered_component}
 
 -- A RESET leaves a start that was loaded
-with_own : (words : List ℕ) (s : CellState) → with_words (cell_states.words_of (with_words words s)) s ≡ with_words words s
+pub with_own : (words : List ℕ) (s : CellState) → with_words (cell_states.words_of (with_words words s)) s ≡ with_words words s
 with_own words Stateless = refl
 with_own words (Register value done) = refl
 with_own words (Memory old done) = refl
@@ -33,7 +33,7 @@ with_own words (Multiplier run product) = refl
 with_own words (Divider run quotient remainder) = refl
 with_own words (Timer count done) = refl
 
-itself : (s : CellState) → with_words (cell_states.words_of s) s ≡ s
+pub itself : (s : CellState) → with_words (cell_states.words_of s) s ≡ s
 itself Stateless = refl
 itself (Register value done) = refl
 itself (Memory old done) = refl

@@ -23,6 +23,8 @@ use Rattle.cx_rules.specs.Accepted.{IsAccepted}
 use Rattle.cx_rules.specs.Wellformed.{IsDesign, IsForm, IsThere}
 use Rattle.cx_rules.proofs.Finite.{in_left, in_right}
 use Rattle.cx_rules.proofs.CircleLemmas.{same_part}
+use Rattle.cx_laws.specs.Positions.{FormIfs, StatementIfs, AllIfs}
+use Rattle.cx_frames.proofs.StatementFrames.{visited}
 use Rattle.cx_flow.proofs.InstanceLemmas.{number_in}
 use Rattle.cx_static.specs.Lowering.{lowered_component}
 use Rattle.cx_wiring.specs.Assignments.{is_driven, driven_assigns}
@@ -37,6 +39,8 @@ pub record TimerRules (part : PlainComponent) (cells : Cells) : Type 0 where
   pub count : cell_count cells ≡ length part.cells
   pub fit : TimersFit part
   pub targets : (o : Owned) → In (driven_assigns (lowered_component part)) o → IsOwnTarget part o.assign.target
+  -- each static if takes some cycles
+  pub ifs : (v : Visited) → In (statements_in part) v → FormIfs (λ n. 0 < n) part v.form
 
 -- WHAT HOLDS of a visited statement: it may stand where it stands, takes some cycles where it is static, and as an island no more than
 -- 32 bits number
@@ -138,6 +142,33 @@ module _ (part : PlainComponent) where
     all_run no_statements w = tt
     all_run (a_statement s ss) w = (statement_runs InStatic s (first_well (visit InStatic s) (visit_all InStatic ss) w), all_run ss (rest_well (visit InStatic s) (visit_all InStatic ss) w))
 
+  -- and so does each static if
+  mutual
+    form_lasts : (context : Context) (form : PlainForm) (place : Place) → AllWell (visit context (Placed form place)) → FormIfs (λ n. 0 < n) part form
+    form_lasts context Empty place w = tt
+    form_lasts context (Enable g) place w = tt
+    form_lasts context (Seq parts) place w = tt
+    form_lasts context (Par arms) place w = tt
+    form_lasts context (If test comb a b) place w = tt
+    form_lasts context (While test comb a) place w = tt
+    form_lasts context (Repeat count a) place w = tt
+    form_lasts context (StaticSeq written parts) place w = all_last parts (λ v i. w v (inr i))
+    form_lasts context (StaticPar written arms) place w = all_last arms (λ v i. w v (inr i))
+    form_lasts context (StaticIf written test a b) place w = (
+      (w (record { context = context; form = StaticIf written test a b; place = place }) (inl refl)).lasts refl (long_form context (StaticIf written test a b) refl (λ v i. w v (inr i))),
+      statement_lasts Branch a (λ v i. w v (inr (in_left (visit Branch a) (visit Branch b) v i))),
+      statement_lasts Branch b (λ v i. w v (inr (in_right (visit Branch a) (visit Branch b) v i))),
+    )
+    form_lasts context (StaticRepeat written count a) place w = statement_lasts InStatic a (λ v i. w v (inr i))
+    form_lasts context (Timed k) place w = tt
+
+    statement_lasts : (context : Context) (s : PlainStatement) → AllWell (visit context s) → StatementIfs (λ n. 0 < n) part s
+    statement_lasts context (Placed form place) w = form_lasts context form place w
+
+    all_last : (ss : PlainStatements) → AllWell (visit_all InStatic ss) → AllIfs (λ n. 0 < n) part ss
+    all_last no_statements w = tt
+    all_last (a_statement s ss) w = (statement_lasts InStatic s (first_well (visit InStatic s) (visit_all InStatic ss) w), all_last ss (rest_well (visit InStatic s) (visit_all InStatic ss) w))
+
   -- so does each island, and no more than 32 bits number
   static_makes : (form : PlainForm) (place : Place) → is_static form ≡ true → may_stand part Dynamic form ≡ true → is_island part (record { context = Dynamic; form = form; place = place }) ≡ true → AllWell (visit Dynamic (Placed form place))
       → RunsWell part (2 ^ 32) form
@@ -197,6 +228,7 @@ timer_rules_by part cells well count there = record {
   count = count;
   fit = timers_fit part (2 ^ 32) (statement_makes part part.control well);
   targets = λ o i. own_target (Node part cells) o.assign.target (there o (in_filter (is_driven (lowered_component part)) (source_order part) o i));
+  ifs = λ v i. form_lasts part v.context v.form v.place (λ w j. well w (visited Dynamic part.control v w i j));
 }
 
 -- the first limit of three, of which the last is exceeded
@@ -280,4 +312,9 @@ no_timer_rules there = record {
   count = refl;
   fit = λ k island is. absurd cc;
   targets = λ o i. own_target (Node no_component no_cells) o.assign.target (there o (in_filter (is_driven (lowered_component no_component)) (source_order no_component) o i));
+  ifs = bare_ifs;
 }
+  where
+    bare_ifs : (v : Visited) → In (statements_in no_component) v → FormIfs (λ n. 0 < n) no_component v.form
+    bare_ifs v (inl f) = subst (λ w. FormIfs (λ n. 0 < n) no_component w.form) f tt
+    bare_ifs v (inr none) = absurd none

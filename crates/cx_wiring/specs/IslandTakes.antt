@@ -57,5 +57,6 @@ module _ (groups : ℕ) (islands : List PlainIsland) (around : NetAround) (regis
   -- and the registers of its samples, which have so far what is kept and next what comes
   pub record IslandNexts (kept next : ℕ → ℕ) (k : ℕ) (x : Stand) : Type 0 where
     pub taken : TakesIsland k x
+    pub apart : x.region < x.register
     pub samples : (island : PlainIsland) → slice_get islands k ≡ Some island → (m : ℕ) (old new : BitVector) → x.register ≤ m → m < x.register + length island.points → old.value ≡ kept m
         → takes around registers look (ToRegister m) (Some old) (island_drivers groups x (first_of_island groups islands k) island) ≡ Some new → next m ≡ new.value

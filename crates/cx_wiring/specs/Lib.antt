@@ -14,6 +14,7 @@ pub mod NetNames
 pub mod Takings
 pub mod Standing
 pub mod IslandTakes
+pub mod AtLeaves
 pub mod Shown
 pub mod Turning
 pub mod Wired

@@ -1,2 +1,4 @@
-//! The net of a lowered design, as a definition: all laws of nets are about it.
+//! The net of a lowered design, as a definition, and that it realises the design.
 #![tactic(auto)]
+
+pub mod laws;
