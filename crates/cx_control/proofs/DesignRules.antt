@@ -52,7 +52,7 @@ use Rattle.cx_control.specs.Leaves.{leaf_drives}
 use Rattle.cx_control.specs.InstanceRules.{InstanceRules, Stands}
 use Rattle.cx_control.specs.CallRules.{CallForm, CallRules}
 use Rattle.cx_control.specs.ControlRules.{ControlRules}
-use Rattle.cx_control.specs.GroupLaws.{false_true}
+use Rattle.cx_control.proofs.GroupLaws.{false_true}
 use Rattle.cx_control.proofs.BesideLemmas.{KeepsCalls, StandsFor, of_component, of_nothing, instance_stands, keeps_calls}
 use Rattle.cx_control.proofs.ShapeLemmas.{drives_driving, in_some, none_outside, plain_group, calls_what_it_drives, child, is_a_plain_group, no_output, right_enable, right_go, right_done}
 use Rattle.cx_control.proofs.TargetLemmas.{group_acts}

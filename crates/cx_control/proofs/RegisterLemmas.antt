@@ -22,7 +22,7 @@ use Rattle.cx_meaning.specs.Sights.{Look, Held, In, of_option, Given, with_entry
 use Rattle.cx_meaning.specs.Cycles.{Fault, Outcome, Next, Stops, enables, after_data, after_enabling, cell_outcome, first_of, first_fault, stepped, cell_after, state_after, Ended, Goes, Faults, unless_fault, every_cell, cycle}
 use Rattle.cx_rules.specs.ShapeRules.{some_target}
 use Rattle.cx_rules.specs.CallShape.{is_reg_name, is_reg_kind, write_en_of, register_done, captured_from}
-use Rattle.cx_control.specs.GroupLaws.{false_true}
+use Rattle.cx_control.proofs.GroupLaws.{false_true}
 use Rattle.cx_control.proofs.ConjunctLemmas.{AreOnce}
 
 -- THE ROW

@@ -18,8 +18,8 @@ use Rattle.cx_rules.specs.ShapeRules.{is_hole_of, some_target}
 use Rattle.cx_rules.proofs.FoundLemmas.{same_is}
 use Rattle.cx_rules.specs.CallShape.{is_port_of, Calls, go_port, is_right_go, wrong_go, done_port, is_register_enable, with_target, is_right_enable, captured, wanted_dones, is_right_done, CallBreak, another_cell, input_by_output, wrong_enable, wrong_done}
 use Rattle.cx_control.proofs.BesideLemmas.{IsBeside, depends_too, group_stands, KeepsCalls}
-use Rattle.cx_control.specs.CallLaws.{just_is}
-use Rattle.cx_control.specs.ControlLaws.{called_child as called_instance}
+use Rattle.cx_control.proofs.CallLaws.{just_is}
+use Rattle.cx_control.proofs.ControlLaws.{called_child as called_instance}
 
 true_or_false : (b : Bool) → (b ≡ false → ⊥) → b ≡ true
 true_or_false true never = refl

@@ -4,7 +4,7 @@ use Rattle.cx_meaning.specs.Answers.{End, Meaning, then_do, stay, idle_turn, Tes
 use Rattle.cx_lockstep.specs.Worlds.{Store, World, At, Done, Machine, Agree}
 use Rattle.cx_lockstep.specs.Doing.{Settles, Meets, Does, KeepsRest}
 use Rattle.cx_lockstep.specs.Machines.{within, idle_machine, done_machine, InSeq, First, Second, second_start, seq_machine, InIf, AtTest, InThen, InElse, if_machine, InWhile, AtHead, InBody, while_machine, in_round, next_round, repeat_machine, by_test, unclear}
-use Rattle.cx_lockstep.specs.FollowLaws.{meets_then, meets_last, meets_done, still_settled, idle_cycle, meets_test}
+use Rattle.cx_lockstep.proofs.FollowLaws.{meets_then, meets_last, meets_done, still_settled, idle_cycle, meets_test}
 
 not_true : (b : Bool) → (b ≡ true → ⊥) → b ≡ false
 not_true true never = absurd (never refl)

@@ -27,8 +27,8 @@ use Rattle.cx_lockstep.specs.Worlds.{Agree}
 use Rattle.cx_lockstep.specs.Doing.{Does}
 use Rattle.cx_lockstep.specs.Statements.{machine_of}
 use Rattle.cx_lockstep.specs.Lawful.{IsLeaf, enable, static_seq, static_par, static_if, static_repeat, AreLawful}
-use Rattle.cx_lockstep.specs.PartLaws.{does_within}
-use Rattle.cx_lockstep.specs.StatementLaws.{statement_does}
+use Rattle.cx_lockstep.proofs.PartLaws.{does_within}
+use Rattle.cx_lockstep.proofs.StatementLaws.{statement_does}
 use Rattle.cx_control.specs.StatementCodingLaws.{IsRegion, AreCoded, statement_coded}
 use Rattle.cx_control.specs.Spots.{Spot, Kept, cells_in, held_in, shown, spots_of, reads_spot}
 use Rattle.cx_control.specs.Numbers.{number_idle_at, world_of, Rests}
@@ -37,10 +37,10 @@ use Rattle.cx_control.specs.Controls.{leaf_codings, coded_control, coded_below, 
 use Rattle.cx_control.specs.InstanceRules.{InstanceRules, Stands}
 use Rattle.cx_control.specs.ControlRules.{ControlRules}
 use Rattle.cx_control.specs.ControlCodes.{island_coded, kind_coded}
-use Rattle.cx_control.specs.RestLaws.{rest_is_kept}
-use Rattle.cx_control.specs.StandLaws.{as_visited, parts_stand, part_drives, part_reads, spots_wider, reads_wider, are_apart, merge_is_shown}
-use Rattle.cx_control.specs.GroupLaws.{false_true, spots_within, near_inputs, near_cells, group_leaf}
-use Rattle.cx_control.specs.CallLaws.{ChildLaws, call_leaf}
+use Rattle.cx_control.proofs.RestLaws.{rest_is_kept}
+use Rattle.cx_control.proofs.StandLaws.{as_visited, parts_stand, part_drives, part_reads, spots_wider, reads_wider, are_apart, merge_is_shown}
+use Rattle.cx_control.proofs.GroupLaws.{false_true, spots_within, near_inputs, near_cells, group_leaf}
+use Rattle.cx_control.proofs.CallLaws.{ChildLaws, call_leaf}
 
 -- the islands of an instance do what they mean
 abbrev pub IslandsDo : Instance → Type 1
