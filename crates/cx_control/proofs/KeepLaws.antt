@@ -39,7 +39,8 @@ use Rattle.cx_control.proofs.RestLaws.{number_idle_at-zero, number_idle_below-ze
 use Rattle.cx_control.proofs.CallLaws.{ChildLaws, not_just}
 use Rattle.cx_control.proofs.StaticRuns.{IsLeaf, runs_leaf}
 use Rattle.cx_control.proofs.LeafLaws.{true_false, is_one_of, not_one_of, ActsAs, kind_acts, IsQuietEnd, turn_number, island_ends, kind_ends, island_number, kind_number}
-use Rattle.cx_control.proofs.ControlLaws.{IslandsDo, called_child, control_coded, leaves_end, stands_at, leaves_are_lawful, node_does, nothing_is, row_is, child_does}
+use Rattle.cx_control.proofs.ControlLaws.{IslandsDo, called_child, control_coded, leaves_end, stands_at, leaves_are_lawful, node_does, nothing_is, child_does}
+use Rattle.cx_control.proofs.BesideLemmas.{no_part}
 
 -- the invariant of what stands at a cell
 abbrev pub KeepsBelow : Cells → ℕ → Type 0
@@ -544,7 +545,7 @@ mutual
   -- and of what stands at a cell
   pub child_keeps : (cells : Cells) (c : ℕ) → ((path : Path) → ControlRules (instances.child_at cells c path)) → ((path : Path) → IslandsDo (instances.child_at cells c path)) → (child : Instance) → cell_at cells c ≡ OfInstance child → KeepsBelow cells c
   child_keeps no_cells c all_rules all_islands child at = absurd (nothing_is child at)
-  child_keeps (a_primitive row rest) zero all_rules all_islands child at = absurd (row_is row child at)
+  child_keeps (a_primitive row rest) zero all_rules all_islands child at = absurd (no_part row child at)
   child_keeps (a_primitive row rest) (suc c) all_rules all_islands child at =
       let inner = child_keeps rest c all_rules all_islands child at in
       record { kept = inner.kept; fine = inner.fine; started = inner.started; ended = inner.ended; zero_stays = inner.zero_stays; leaves_end = inner.leaves_end; inputs = inner.inputs }
