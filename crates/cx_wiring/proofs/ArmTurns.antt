@@ -21,7 +21,7 @@ use Rattle.cx_wiring.proofs.TakingLemmas.{takes_append, says_either, says_equals
 use Rattle.cx_wiring.proofs.AwayLaws.{differs}
 use Rattle.cx_wiring.proofs.FormTurns.{region_known}
 
-wide_value : (a b : ℕ) → ◌≡◌ {A = Option BitVector} (Some (wide a)) (Some (wide b)) → a ≡ b
+pub wide_value : (a b : ℕ) → ◌≡◌ {A = Option BitVector} (Some (wide a)) (Some (wide b)) → a ≡ b
 wide_value a b e = ap (λ o. option_map_or (λ x. x.value) o 0) e
 
 -- BOTH SIDES of a par

@@ -34,7 +34,7 @@ itself : (b : Bool) → b ≡ (if b then true else false)
 itself true = refl
 itself false = refl
 
-no_wire : (n : ℕ) (t : PlainNetTarget) → IsNoWire t → same_target (ToWire n) t ≡ false
+pub no_wire : (n : ℕ) (t : PlainNetTarget) → IsNoWire t → same_target (ToWire n) t ≡ false
 no_wire n (ToWire m) h = absurd h
 no_wire n (ToPort p) h = refl
 no_wire n (ToRegister m) h = refl

@@ -22,16 +22,9 @@ use Rattle.cx_wiring.proofs.AssignTargets.{guard_drives, looking_drives_to, look
 use Rattle.cx_wiring.proofs.AwayLaws.{differs}
 use Rattle.cx_wiring.proofs.ConnectLaws.{read_before}
 use Rattle.cx_wiring.proofs.GuardLaws.{guard_connects}
-use Rattle.cx_wiring.proofs.AssignLaws.{ReadsBit, bit_before, bit_behind, no_port_wire}
+use Rattle.cx_wiring.proofs.AssignLaws.{ReadsBit, bit_before, bit_behind, no_port_wire, no_wire}
 use Rattle.cx_wiring.proofs.KnownLemmas.{known_as, KnownExpr, On, Fed, AllTo, all_to_append, all_to_other, AllOfThem, all_append}
 use Rattle.cx_wiring.proofs.GuardsKnown.{guard_known}
-
-wire_apart : (n : ℕ) (t : PlainNetTarget) → IsNoWire t → same_target (ToWire n) t ≡ false
-wire_apart n (ToWire m) h = absurd h
-wire_apart n (ToPort p) h = refl
-wire_apart n (ToRegister m) h = refl
-wire_apart n (ToHole m) h = refl
-wire_apart n ToDone h = refl
 
 target_no_wire : (n : ℕ) (q : PortRef) → same_target (target_of q) (ToWire n) ≡ false
 target_no_wire n (ports.Cell c p) = refl
@@ -162,8 +155,8 @@ module _ (groups : ℕ) (islands : List PlainIsland) (named : IslandsName groups
       gated_fed t off reads =
           all_to_append F t (gate_drivers groups g wire guard) _
           (all_to_append F t (guard_drivers (OfWire g) (suc wire) guard) _
-          (all_to_other F t _ (guard_drives (λ u. same_target u t ≡ false) (OfWire g) guard (suc wire) (record { among = λ m l x. wire_apart m t off })))
-          (all_to_other F t (drive (ToWire wire) (go groups g) (guard_expr (OfWire g) (suc wire) guard) ∷ []) (wire_apart wire t off, tt)))
+          (all_to_other F t _ (guard_drives (λ u. same_target u t ≡ false) (OfWire g) guard (suc wire) (record { among = λ m l x. no_wire m t off })))
+          (all_to_other F t (drive (ToWire wire) (go groups g) (guard_expr (OfWire g) (suc wire) guard) ∷ []) (no_wire wire t off, tt)))
           ((λ e. gate_fed reads), tt)
 
       -- where the ports have values also if the group does not go, so do all of its wires
@@ -200,7 +193,7 @@ module _ (groups : ℕ) (islands : List PlainIsland) (named : IslandsName groups
   look_fed : (l : Looks) (a : PlainAssign) (wire : ℕ) → groups + island_wires islands ≤ wire → (t : PlainNetTarget) → IsNoWire t → LookReads l wire a.guard → LookFed l a → AllTo F t (looking_drivers groups l wire a)
   look_fed (LooksAlways offset) a wire low t off reads h =
       all_to_append F t (guard_drivers offset wire a.guard) _
-      (all_to_other F t _ (guard_drives (λ u. same_target u t ≡ false) offset a.guard wire (record { among = λ m l x. wire_apart m t off })))
+      (all_to_other F t _ (guard_drives (λ u. same_target u t ≡ false) offset a.guard wire (record { among = λ m l x. no_wire m t off })))
       ((λ e. record { guard = (guard_known around registers look offset (groups + island_wires islands) h.0 a.guard wire low reads (λ q n. h.1 q (inl n))).0; source = λ on. h.1 a.source.port (inr refl) }), tt)
   look_fed (LooksIn g) a wire low t off reads h =
       group_fed g h.0 (GoesKnown.hole h.1) (GoesKnown.is h.1) a.source.port (λ on. GoesKnown.names h.1 on a.source.port (inr refl)) wire low (target_of a.target) a.guard (λ on q n. GoesKnown.names h.1 on q (inl n)) t off reads
@@ -221,7 +214,7 @@ module _ (groups : ℕ) (islands : List PlainIsland) (named : IslandsName groups
     where
       choice : (b : Bool) → same_target (target_of a.assign.target) t ≡ b → (same_target (target_of a.assign.target) t ≡ true → LookFed (looks_of a.owner a.assign.target) a.assign) → AllTo F t (assign_drivers groups wire a)
       choice true e f = look_fed (looks_of a.owner a.assign.target) a.assign wire low t off reads.0 (f e)
-      choice false e f = all_to_other F t _ (looking_drives_to (λ u. same_target u t ≡ false) groups (looks_of a.owner a.assign.target) a.assign wire e (record { among = λ m l x. wire_apart m t off }))
+      choice false e f = all_to_other F t _ (looking_drives_to (λ u. same_target u t ≡ false) groups (looks_of a.owner a.assign.target) a.assign wire e (record { among = λ m l x. no_wire m t off }))
 
   pub assigns_all : (list : List Owned) (wire : ℕ) → groups + island_wires islands ≤ wire → AssignsRead wire list → ((a : Owned) → In list a → LookFed (looks_of a.owner a.assign.target) a.assign × NamesKnown a.assign)
       → AllOfThem F (assigns_drivers groups wire list)

@@ -41,7 +41,7 @@ only_then : {A : Type 0} (b : Bool) (xs ys : List A) (x : A) → In (if b then x
 only_then true xs ys x i = i
 only_then false xs ys x i = absurd i
 
-in_then : {A : Type 0} (b : Bool) (xs : List A) (x : A) → In (if b then xs else []) x → In xs x
+pub in_then : {A : Type 0} (b : Bool) (xs : List A) (x : A) → In (if b then xs else []) x → In xs x
 in_then true xs x i = i
 in_then false xs x i = absurd i
 

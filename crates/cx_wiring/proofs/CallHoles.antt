@@ -45,13 +45,10 @@ use Rattle.cx_wiring.specs.PortValues.{around_of, port_value, active_now}
 use Rattle.cx_wiring.proofs.SeamRules.{SeamRules}
 use Rattle.cx_wiring.proofs.SeamFlows.{st_solves, hole_stands}
 use Rattle.cx_wiring.proofs.CallValues.{wanted_now, hole_wants, wants_hole}
+use Rattle.cx_wiring.proofs.NodePorts.{set_bit}
 
-true_false : {A : Type 0} → true ≡ false → A
+pub true_false : {A : Type 0} → true ≡ false → A
 true_false e = absurd cc
-
-set_bit : (b : Bool) → is_set (truth_bit b) ≡ b
-set_bit true = refl
-set_bit false = refl
 
 never_set : (b : Bool) → (b ≡ true → ⊥) → b ≡ false
 never_set true never = absurd (never refl)

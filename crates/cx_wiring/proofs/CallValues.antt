@@ -24,7 +24,7 @@ use Rattle.cx_control.proofs.ConjunctLemmas.{AreOnce, conjuncts_hold, conjunctio
 use Rattle.cx_control.proofs.TargetLemmas.{in_filter, of_filter, group_acts, ActsAlone, acts_alone}
 use Rattle.cx_control.proofs.RegisterLemmas.{dones_once}
 
-true_false : true ≡ false → ⊥
+pub true_false : true ≡ false → ⊥
 true_false e = cc
 
 false_true : false ≡ true → ⊥
@@ -138,7 +138,7 @@ wanted_once : (rs : List ℕ) (done : PortRef) → AreOnce (map register_done rs
 wanted_once [] done once = ((λ i. i), tt)
 wanted_once (r ∷ rs) done once = once
 
-own_offset : (g : ℕ) → only_at g g ≡ Some 0
+pub own_offset : (g : ℕ) → only_at g g ≡ Some 0
 own_offset g = ap (λ b. if b then Some 0 else None) (eq-eqb g g refl)
 
 module _ (i : Instance) (g c : ℕ) (form : CallForm i g c) (v : Values) (own_hole : (o : Owned) → In (source_order (part_of i)) o → o.owner ≡ None → o.assign.target ≡ ports.Done g → ⊥)

@@ -11,7 +11,7 @@ use Rattle.cx_wiring.proofs.RestLaws.{standing, RestsHold, rests_take}
 use Rattle.cx_wiring.proofs.RestTargets.{to_append, chain_dropped, chain_kept}
 use Rattle.cx_wiring.proofs.DrivenLemmas.{IsProper, NoneHas, AreEntries}
 
-untrue : {A : Type 0} → false ≡ true → A
+pub untrue : {A : Type 0} → false ≡ true → A
 untrue e = absurd cc
 
 one_cell : (c p d q : ℕ) (t : Bool) → (c == d) ≡ t → (if t then p == q else false) ≡ true → ◌≡◌ {A = PlainNetTarget} (ToPort (ports.Cell c p)) (ToPort (ports.Cell d q))

@@ -34,16 +34,8 @@ use Rattle.cx_wiring.proofs.ComponentLaws.{PlainCycle}
 use Rattle.cx_wiring.proofs.RestReads.{AreRests}
 use Rattle.cx_wiring.proofs.ComponentTakes.{IsPlain, target_takes, register_takes_all}
 use Rattle.cx_wiring.proofs.AwayLaws.{differs}
-
-pub in_front : {A : Type 0} (xs ys : List A) (n : ℕ) (x : A) → slice_get xs n ≡ Some x → slice_get (xs ++ ys) n ≡ Some x
-in_front [] ys n x e = absurd cc
-in_front (y ∷ xs) ys zero x e = e
-in_front (y ∷ xs) ys (suc n) x e = in_front xs ys n x e
-
-pub some_at : {A : Type 0} (xs : List A) (n : ℕ) → n < length xs → (x : A) × (slice_get xs n ≡ Some x)
-some_at [] n less = absurd (omega arith)
-some_at (x ∷ xs) zero less = (x, refl)
-some_at (x ∷ xs) (suc n) less = some_at xs n (omega arith)
+use Rattle.cx_wiring.proofs.FitLemmas.{slice_left}
+use Rattle.cx_wiring.proofs.FitTrees.{some_at}
 
 module _ (d : PlainLowereds) (part : PlainComponent) (named : IslandsName (groups (lowered_component part)) (lowered_component part).islands) (cells : NetCells) (around : NetAround) (s : NetState) (look : NetLook)
     (solves : (n : Node) → is_own_node (net_component d (lowered_component part)) cells n ≡ true
@@ -165,7 +157,7 @@ module _ (d : PlainLowereds) (part : PlainComponent) (named : IslandsName (group
           let k = some_at (plain_wires (lowered_component part)) n there in
           record {
             behind_them = Some (zero_wide (target_width d (lowered_component part) (ToWire n)));
-            reads = wire_there n k.0 (in_front (plain_wires (lowered_component part)) _ n k.0 k.1) (omega arith)
+            reads = wire_there n k.0 (slice_left (plain_wires (lowered_component part)) _ n k.0 k.1) (omega arith)
                 ∙ ap (λ w. first_true around (registers_of (net_component d (lowered_component part)) cells around s (look []) (λ c. look (c ∷ []))) (look []) (zero_wide w) (drivers_to (ToWire n) (net_component d (lowered_component part)).drivers)) (sym (ap (λ o. unwrap_or o 1) k.1))
                 ∙ target_takes d (lowered_component part) around (registers_of (net_component d (lowered_component part)) cells around s (look []) (λ c. look (c ∷ []))) (look []) plain reads (ToWire n) tt (λ m from. differs m n (λ e. omega arith)) (λ at. refl);
           }

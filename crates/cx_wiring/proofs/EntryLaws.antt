@@ -14,8 +14,9 @@ use Rattle.cx_static.specs.declared.islands.IslandTimer.{IslandTimer}
 use Rattle.cx_static.specs.Islands.{PlainPoint, PlainOccurrence}
 use Rattle.cx_static.specs.Lowering.{Gathered, Begin, begin_at, later, if_sampled, timer_cell, with_timer, with_point, with_occurrence, form_gathered, gathered, parts_gathered, arms_gathered}
 use Rattle.cx_wiring.specs.TimerCounts.{nested, kind_cycles, cycles_at}
-use Rattle.cx_wiring.proofs.GatherLaws.{get_front, get_end, one_more, form_grows, grows, parts_grow, arms_grow}
+use Rattle.cx_wiring.proofs.GatherLaws.{get_end, one_more, form_grows, grows, parts_grow, arms_grow}
 use Rattle.cx_wiring.proofs.IslandOffsets.{range_in, lies, before, in_it, behind, at_before, at_in, at_behind, are_wanted, live_in, live_short, live_behind, live_round, live_true, live_false}
+use Rattle.cx_wiring.proofs.FitLemmas.{slice_left}
 
 -- what stands at an offset, where there is one
 abbrev pub by_live : {A : Type 0} → Option ℕ → (ℕ → List A) → List A
@@ -102,8 +103,8 @@ module _ (part : PlainComponent) where
   -- what is gathered is extended by what is gathered behind it
   step_timer : (h : Gathered) (p outer from to : ℕ) (g : Gathered) → Extends h g → Extends h (with_timer part.place p (Some outer) from to g)
   step_timer h p outer from to g e = record {
-    timers = λ n timer f. get_front g.timers (record { cell = length g.cells; outer = Some outer; from = from; to = to } ∷ []) n timer (e.timers n timer f);
-    cells = λ c cell f. get_front g.cells (timer_cell part.place p ∷ []) c cell (e.cells c cell f);
+    timers = λ n timer f. slice_left g.timers (record { cell = length g.cells; outer = Some outer; from = from; to = to } ∷ []) n timer (e.timers n timer f);
+    cells = λ c cell f. slice_left g.cells (timer_cell part.place p ∷ []) c cell (e.cells c cell f);
     points = e.points;
   }
 
@@ -111,7 +112,7 @@ module _ (part : PlainComponent) where
   step_point h port x g e = record {
     timers = e.timers;
     cells = e.cells;
-    points = λ n p f. get_front g.points (record { port = port; timer = x.timer; at = x.at; samples = x.samples } ∷ []) n p (e.points n p f);
+    points = λ n p f. slice_left g.points (record { port = port; timer = x.timer; at = x.at; samples = x.samples } ∷ []) n p (e.points n p f);
   }
 
   step_occurrence : (h : Gathered) (group : ℕ) (x : Begin) (n : ℕ) (g : Gathered) → Extends h g → Extends h (with_occurrence group x (Some n) g)

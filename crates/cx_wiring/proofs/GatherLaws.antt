@@ -10,12 +10,8 @@ use Rattle.cx_static.specs.declared.islands.IslandTimer.{IslandTimer}
 use Rattle.cx_static.specs.Islands.{PlainPoint, PlainOccurrence, PlainIsland}
 use Rattle.cx_static.specs.Lowering.{Gathered, Begin, begin_at, later, sampled, if_sampled, timer_cell, with_timer, with_point, with_occurrence, form_gathered, gathered, parts_gathered, arms_gathered, island_gathered}
 use Rattle.cx_wiring.specs.TimerCounts.{cycles_at}
-
--- elements of a list stay where more are put behind
-pub get_front : {A : Type 0} (xs ys : List A) (n : ℕ) (x : A) → slice_get xs n ≡ Some x → slice_get (xs ++ ys) n ≡ Some x
-get_front [] ys n x e = absurd cc
-get_front (y ∷ xs) ys zero x e = e
-get_front (y ∷ xs) ys (suc n) x e = get_front xs ys n x e
+use Rattle.cx_wiring.proofs.FitLemmas.{slice_left}
+use Rattle.cx_wiring.proofs.FitTrees.{some_at}
 
 pub get_end : {A : Type 0} (xs : List A) (y : A) → slice_get (xs ++ y ∷ []) (length xs) ≡ Some y
 get_end [] y = refl
@@ -25,11 +21,6 @@ pub get_below : {A : Type 0} (xs : List A) (n : ℕ) (x : A) → slice_get xs n 
 get_below [] n x e = absurd cc
 get_below (y ∷ xs) zero x e = omega arith
 get_below (y ∷ xs) (suc n) x e = let h = get_below xs n x e in omega arith
-
-pub get_some : {A : Type 0} (xs : List A) (n : ℕ) → n < length xs → (x : A) × (slice_get xs n ≡ Some x)
-get_some [] n less = absurd (omega arith)
-get_some (x ∷ xs) zero less = (x, refl)
-get_some (x ∷ xs) (suc n) less = get_some xs n (omega arith)
 
 pub one_more : {A : Type 0} (xs : List A) (y : A) → length (xs ++ y ∷ []) ≡ suc (length xs)
 one_more [] y = refl
@@ -126,11 +117,11 @@ module _ (part : PlainComponent) where
 
   pub gathered_keeps : (cells : List PlainCell) (form : PlainForm) (x : Begin) (g : Gathered) → KeepCells cells g → KeepCells cells (form_gathered part form x g)
   gathered_keeps cells form x g h =
-      form_grows part (KeepCells cells) (λ p outer from to k b c cell e. get_front k.cells (timer_cell part.place p ∷ []) c cell (b c cell e)) (λ port y k b. b) (λ group y n k b. b) form x g h
+      form_grows part (KeepCells cells) (λ p outer from to k b c cell e. slice_left k.cells (timer_cell part.place p ∷ []) c cell (b c cell e)) (λ port y k b. b) (λ group y n k b. b) form x g h
 
   pub island_keeps : (form : PlainForm) (cells : List PlainCell) → KeepCells cells (island_gathered part form cells)
   island_keeps form cells =
-      gathered_keeps cells form (begin_at 0 0 []) _ (λ c cell e. get_front cells (timer_cell part.place (form_length part form) ∷ []) c cell e)
+      gathered_keeps cells form (begin_at 0 0 []) _ (λ c cell e. slice_left cells (timer_cell part.place (form_length part form) ∷ []) c cell e)
 
   -- THE CELL of each timer is that of a timer
   abbrev pub TimersThere : Gathered → Type 0
@@ -140,7 +131,7 @@ module _ (part : PlainComponent) where
   timer_there p outer from to g h t timer e = one (found g.timers (record { cell = length g.cells; outer = outer; from = from; to = to }) t timer e)
     where
       one : IsFound g.timers (record { cell = length g.cells; outer = outer; from = from; to = to }) t timer → (q : ℕ) × (slice_get (g.cells ++ timer_cell part.place p ∷ []) timer.cell ≡ Some (timer_cell part.place q))
-      one (earlier f) = let k = h t timer f in (k.0, get_front g.cells (timer_cell part.place p ∷ []) timer.cell (timer_cell part.place k.0) k.1)
+      one (earlier f) = let k = h t timer f in (k.0, slice_left g.cells (timer_cell part.place p ∷ []) timer.cell (timer_cell part.place k.0) k.1)
       one (last f same) = (p, ap (λ (z : IslandTimer). slice_get (g.cells ++ timer_cell part.place p ∷ []) z.cell) same ∙ get_end g.cells (timer_cell part.place p))
 
   pub island_there : (form : PlainForm) (cells : List PlainCell) → TimersThere (island_gathered part form cells)

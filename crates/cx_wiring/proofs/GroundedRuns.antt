@@ -13,7 +13,7 @@ use Rattle.cx_net.specs.NetRuns.{IsWholeLook, is_done, NetRunsFrom, ends, spent,
 none_some : (v : BitVector) → ◌≡◌ {A = Option BitVector} None (Some v) → ⊥
 none_some v e = cc
 
-some_is : (v w : BitVector) → ◌≡◌ {A = Option BitVector} (Some v) (Some w) → v ≡ w
+pub some_is : (v w : BitVector) → ◌≡◌ {A = Option BitVector} (Some v) (Some w) → v ≡ w
 some_is v w e = cc
 
 pub record HasLook (tree : NetInstance) (go : Bool) (s : NetState) : Type 0 where

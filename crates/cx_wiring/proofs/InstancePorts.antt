@@ -26,8 +26,8 @@ use Rattle.cx_rules.proofs.Finite.{in_left, in_right}
 use Rattle.cx_rules.proofs.CircleLemmas.{same_part}
 use Rattle.cx_flow.proofs.InstanceLemmas.{number_in}
 use Rattle.cx_wiring.proofs.WholeInstances.{IsWhole, of_component, of_nothing, instance_whole, cells_alike, alike_there, alike_written, alike_source}
-use Rattle.cx_wiring.proofs.CycleLaws.{some_at}
 use Rattle.cx_wiring.proofs.DesignNames.{stands_in}
+use Rattle.cx_wiring.proofs.FitTrees.{some_at}
 
 -- a port that a statement or an assignment names
 pub record IsNamed (i : Instance) (p : PortRef) : Type 0 where

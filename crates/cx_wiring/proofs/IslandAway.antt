@@ -34,10 +34,11 @@ use Rattle.cx_wiring.proofs.AwayLaws.{differs}
 use Rattle.cx_wiring.proofs.IslandTargets.{wires_at, island_within, island_drives}
 use Rattle.cx_wiring.proofs.ControlTargets.{names_at}
 use Rattle.cx_wiring.proofs.KnowLaws.{Known}
-use Rattle.cx_wiring.proofs.GatherLaws.{get_below, get_some}
+use Rattle.cx_wiring.proofs.GatherLaws.{get_below}
 use Rattle.cx_wiring.proofs.IslandCells.{IsListed, listed}
 use Rattle.cx_wiring.proofs.TimerRows.{EachTimer}
 use Rattle.cx_wiring.proofs.IslandValues.{IslandLooks, live, says_live, says_active, count_is, live_first, live_within, says_begins, active_is, active, all_wanted}
+use Rattle.cx_wiring.proofs.FitTrees.{some_at}
 
 pub named_at : (groups : ℕ) (list : List PlainOccurrence) → OccurrencesName groups list → (j : ℕ) (v : PlainOccurrence) → slice_get list j ≡ Some v → v.group < groups
 named_at groups [] names j v e = absurd cc
@@ -74,7 +75,7 @@ module _ (part : PlainComponent) (named : IslandsName (groups (lowered_component
     lists = listed part k n.taken.there.0 n.taken.there.1
 
     its_timer : (t : ℕ) → t < length n.taken.there.0.timers → (timer : IslandTimer) × (slice_get n.taken.there.0.timers t ≡ Some timer)
-    its_timer t less = get_some n.taken.there.0.timers t less
+    its_timer t less = some_at n.taken.there.0.timers t less
 
     -- the counts of its timers, and whether the first one is done
     abbrev pub its_count : ℕ → ℕ

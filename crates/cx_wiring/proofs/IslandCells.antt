@@ -8,9 +8,10 @@ use Rattle.cx_static.specs.declared.islands.Sample.{Sample}
 use Rattle.cx_static.specs.Islands.{PlainPoint, PlainOccurrence, PlainIsland}
 use Rattle.cx_text.specs.declared.places.Place.{Place}
 use Rattle.cx_static.specs.Lowering.{Gathered, timer_cell, Lowering, island_gathered, island_of, with_island, after_enable, form_after, after, parts_after, unlowered, lowered_component}
-use Rattle.cx_wiring.proofs.GatherLaws.{get_front, get_below, IsFound, earlier, last, found, island_aligned, island_keeps, island_there}
+use Rattle.cx_wiring.proofs.GatherLaws.{get_below, IsFound, earlier, last, found, island_aligned, island_keeps, island_there}
 use Rattle.cx_wiring.specs.TimerCounts.{kind_cycles}
 use Rattle.cx_wiring.proofs.ListedLaws.{HasTimer, FormRepeats, TimerFits, AreListed, island_listed, first_has, island_runs}
+use Rattle.cx_wiring.proofs.FitLemmas.{slice_left}
 
 -- the timers of the first islands
 abbrev pub timers_before : List PlainIsland → ℕ → ℕ
@@ -104,7 +105,7 @@ pub record IsMade (part : PlainComponent) (l : Lowering) (island : PlainIsland) 
 module _ (part : PlainComponent) where
   island_before : (first : Lowering) (form : PlainForm) (l : Lowering) → IsBefore first l → IsBefore first (with_island part form l)
   island_before first form l b = record {
-    islands = λ k island e. get_front l.islands (island_of (form_length part form) (island_gathered part form l.cells) ∷ []) k island (b.islands k island e);
+    islands = λ k island e. slice_left l.islands (island_of (form_length part form) (island_gathered part form l.cells) ∷ []) k island (b.islands k island e);
     cells = λ c cell e. island_keeps part form l.cells c cell (b.cells c cell e);
   }
 

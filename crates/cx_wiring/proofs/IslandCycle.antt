@@ -25,7 +25,7 @@ use Rattle.cx_wiring.specs.IslandDrivers.{island_drivers}
 use Rattle.cx_wiring.specs.Takings.{value, Says, takes, takes_of}
 use Rattle.cx_wiring.specs.TimerCounts.{nested, cycles_at, counts_in}
 use Rattle.cx_wiring.proofs.TakingLemmas.{true_bit, takes_known}
-use Rattle.cx_wiring.proofs.GatherLaws.{get_below, get_some}
+use Rattle.cx_wiring.proofs.GatherLaws.{get_below}
 use Rattle.cx_wiring.proofs.ListedLaws.{AreListed, TimerFits, only_timer, island_listed}
 use Rattle.cx_wiring.proofs.IslandOffsets.{range_in, at_in, are_wanted, live_in}
 use Rattle.cx_wiring.proofs.EntryLaws as entries
@@ -34,6 +34,7 @@ use Rattle.cx_wiring.proofs.WireSamples.{form_sampled}
 use Rattle.cx_wiring.proofs.TimerHolds.{counts_hold, counts_first}
 use Rattle.cx_wiring.proofs.CycleBits.{is_there, nested_there, taken_there, active_there}
 use Rattle.cx_wiring.proofs.IslandValues.{IslandLooks, live, sample, active, all_wanted, sample_wire, live_first, live_within, says_begins, active_is}
+use Rattle.cx_wiring.proofs.FitTrees.{some_at}
 
 -- a timer within comes behind the one around it
 pub outer_before : (part : PlainComponent) (form : PlainForm) (front : List PlainCell) (n : ℕ) (timer : IslandTimer) → slice_get (island_gathered part form front).timers n ≡ Some timer → (o : ℕ) → timer.outer ≡ Some o → o < n
@@ -71,7 +72,7 @@ module _ (part : PlainComponent) (form : PlainForm) (front : List PlainCell) (gr
 
   pub first_is : counts 0 ≡ Some t
   first_is =
-      let k = get_some final.timers 0 lists.some in
+      let k = some_at final.timers 0 lists.some in
       counts_first cycles (Some t) final.timers (outer_before part form front) k.0 k.1 (lists.first k.0 k.1)
 
   count_so : (m : ℕ) → m < length (island_gathered part form front).timers → (c : ℕ) → counts m ≡ Some c → count m ≡ c
@@ -93,11 +94,11 @@ module _ (part : PlainComponent) (form : PlainForm) (front : List PlainCell) (gr
   runs_below : (bound m : ℕ) → m < bound → m < length (island_gathered part form front).timers → runs m ≡ is_there (counts m)
   runs_below zero m low there = absurd (omega arith)
   runs_below (suc bound) zero low there =
-      let k = get_some final.timers 0 there in
+      let k = some_at final.timers 0 there in
       live_first groups x first (island_of (form_length part form) final) around registers look count done looks k.0 true k.1 (lists.first k.0 k.1) here
       ∙ ap not undone ∙ sym (ap is_there first_is)
   runs_below (suc bound) (suc m) low there =
-      let k = get_some final.timers (suc m) there in
+      let k = some_at final.timers (suc m) there in
       let w = lists.within (suc m) k.0 k.1 (omega arith) in
       let before : w.0 < suc m = TimerFits.before w.2 in
       let around_there : w.0 < length final.timers = omega arith in

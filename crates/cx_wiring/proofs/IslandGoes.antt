@@ -23,16 +23,15 @@ use Rattle.cx_wiring.specs.IslandDrivers.{wires_of_island, timer_drivers, point_
 use Rattle.cx_wiring.specs.Control.{timed_drivers, form_drivers}
 use Rattle.cx_wiring.specs.Takings.{value}
 use Rattle.cx_wiring.specs.Shown.{wide}
-use Rattle.cx_wiring.proofs.GatherLaws.{get_below, get_some}
+use Rattle.cx_wiring.proofs.GatherLaws.{get_below}
 use Rattle.cx_wiring.proofs.IslandValues as values
 use Rattle.cx_wiring.proofs.IslandValues.{IslandLooks}
 use Rattle.cx_wiring.proofs.KnownLemmas.{Known, On, two_true, known_inverse, AllTo, all_to_append}
 use Rattle.cx_wiring.proofs.TogetherGoes.{IsOn, GoesIn, Holes, IsleGoes}
 use Rattle.cx_wiring.proofs.StaticGoes as static
 use Rattle.cx_wiring.proofs.IslandKnown.{IslandGiven, runs_known, sample_known, active_known}
-
-untrue : {A : Type 0} → false ≡ true → A
-untrue e = absurd cc
+use Rattle.cx_wiring.proofs.ChainLaws.{untrue}
+use Rattle.cx_wiring.proofs.FitTrees.{some_at}
 
 some_is : (x y : BitVector) → ◌≡◌ {A = Option BitVector} (Some x) (Some y) → x ≡ y
 some_is x y e = cc
@@ -182,7 +181,7 @@ module _ (groups : ℕ) (x : Stand) (first : ℕ) (island : PlainIsland) (around
   -- WHERE THE FIRST TIMER runs control stands at the island
   stands_there : live 0 ≡ true → On around registers look (at x)
   stands_there on =
-      let k = get_some island.timers 0 (IslandGiven.some given) in
+      let k = some_at island.timers 0 (IslandGiven.some given) in
       let r = IslandGiven.reads given (first + 0) (omega arith) (let s = IslandGiven.some given in omega arith) in
       let known = runs_known groups x first island around registers look given 0 (IslandGiven.some given) in
       let source : look (AWire (first + 0)) ≡ value around registers look (both (at x) (Inverse (OfPort (ports.Cell k.0.cell 2)))) =

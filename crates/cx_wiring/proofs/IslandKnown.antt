@@ -17,10 +17,11 @@ use Rattle.cx_wiring.specs.Stands.{Stand, at}
 use Rattle.cx_wiring.specs.IslandDrivers as wired
 use Rattle.cx_wiring.specs.IslandDrivers.{wires_of_island, timer_drivers, point_drivers, occurrence_drivers, island_drivers}
 use Rattle.cx_wiring.specs.Takings.{value, takes}
-use Rattle.cx_wiring.proofs.GatherLaws.{get_below, get_some}
+use Rattle.cx_wiring.proofs.GatherLaws.{get_below}
 use Rattle.cx_wiring.proofs.IslandValues as values
 use Rattle.cx_wiring.proofs.KnownLemmas.{Known, known_as, known_both, KnownExpr, Fed, known_two, known_equals, known_inverse, AllOfThem, all_append, fed_takes}
 use Rattle.cx_wiring.proofs.GuardsKnown.{fed_connect}
+use Rattle.cx_wiring.proofs.FitTrees.{some_at}
 
 module _ (groups : ℕ) (x : Stand) (first : ℕ) (island : PlainIsland) (around : NetAround) (registers : ℕ → Option BitVector) (look : Node → Option BitVector) where
   abbrev V : PlainNetExpr → Option BitVector
@@ -51,10 +52,10 @@ module _ (groups : ℕ) (x : Stand) (first : ℕ) (island : PlainIsland) (around
     its_port t q timer e k = known_as _ _ (ap (λ (o : Option IslandTimer). look (APort (ports.Cell (unwrap_or (option_map (λ timer. timer.cell) o) 0) q))) e) k
 
     count_known : (t : ℕ) → t < length island.timers → K (wired.count groups x first island t)
-    count_known t less = let k = get_some island.timers t less in its_port t 1 k.0 k.1 (given.counts t k.0 k.1)
+    count_known t less = let k = some_at island.timers t less in its_port t 1 k.0 k.1 (given.counts t k.0 k.1)
 
     done_known : K (wired.island_done groups x first island)
-    done_known = let k = get_some island.timers 0 given.some in its_port 0 2 k.0 k.1 (given.dones 0 k.0 k.1)
+    done_known = let k = some_at island.timers 0 given.some in its_port 0 2 k.0 k.1 (given.dones 0 k.0 k.1)
 
     -- a conjunction of parts
     all_known : (e : PlainNetExpr) (es : List PlainNetExpr) → K e → Known (all_expr around registers look (exprs_of es)) → Known (all_expr around registers look (exprs_of (e ∷ es)))
@@ -88,7 +89,7 @@ module _ (groups : ℕ) (x : Stand) (first : ℕ) (island : PlainIsland) (around
     runs_below : (m t : ℕ) → t < m → t < length island.timers → K (wired.runs groups x first island t)
     runs_below zero t l less = absurd (omega arith)
     runs_below (suc m) t l less =
-        let k = get_some island.timers t less in
+        let k = some_at island.timers t less in
         let r = given.reads (first + t) (omega arith) (omega arith) in
         known_as _ _ (r.1 ∙ values.timer_wire groups x first island around registers look given.high given.groups_low r.0 t k.0 k.1)
         (runs_source t k.0 k.1 (λ u small. runs_below m u (omega arith) (omega arith)))
@@ -115,7 +116,7 @@ module _ (groups : ℕ) (x : Stand) (first : ℕ) (island : PlainIsland) (around
     sample_below : (m n : ℕ) → n < m → n < length island.points → K (OfWire (wired.sample_wire groups x first island n))
     sample_below zero n l less = absurd (omega arith)
     sample_below (suc m) n l less =
-        let k = get_some island.points n less in
+        let k = some_at island.points n less in
         let r = given.reads (first + length island.timers + n) (omega arith) (omega arith) in
         let begins = begins_source n k.0 k.1 (λ u small. sample_below m u (omega arith) (omega arith)) in
         known_as _ _ (r.1 ∙ values.sample_wire groups x first island around registers look given.high given.groups_low r.0 n k.0 k.1)
@@ -136,7 +137,7 @@ module _ (groups : ℕ) (x : Stand) (first : ℕ) (island : PlainIsland) (around
 
     pub active_known : (n : ℕ) → n < length island.occurrences → K (OfWire (wired.active_wire groups x first island n))
     active_known n less =
-        let k = get_some island.occurrences n less in
+        let k = some_at island.occurrences n less in
         let r = given.reads (first + length island.timers + length island.points + n) (omega arith) (omega arith) in
         known_as _ _ (r.1 ∙ values.active_wire groups x first island around registers look given.high given.groups_low r.0 n k.0 k.1) (active_source n k.0 k.1)
 

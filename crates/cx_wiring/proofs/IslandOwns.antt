@@ -19,6 +19,7 @@ use Rattle.cx_control.specs.Leaves.{InIsland, Cycle, LastTurn, sampled_now, kind
 use Rattle.cx_control.specs.Controls.{coded_below}
 use Rattle.cx_net.specs.NetMeaning.{truth_bit}
 use Rattle.cx_wiring.specs.Shown.{Going, told}
+use Rattle.cx_wiring.proofs.BegunSamples.{in_then}
 
 -- the groups of entries go
 abbrev pub goings : List Entry → List Going
@@ -57,10 +58,6 @@ chosen : {A : Type 0} (b : Bool) (xs ys : List A) (x : A) → In (if b then xs e
 chosen true xs ys x i = inl i
 chosen false xs ys x i = inr i
 
-where_runs : {A : Type 0} (b : Bool) (xs : List A) (x : A) → In (if b then xs else []) x → In xs x
-where_runs true xs x i = i
-where_runs false xs x i = absurd i
-
 -- WHAT IS ACTIVE are groups of the form
 module _ (part : PlainComponent) (kept : Samples) where
   branch_owns : (a b : PlainStatement) (x : Entry) → ((In (groups_of a) x.group) ⊎ (In (groups_of b) x.group)) → In (groups_of a ++ groups_of b) x.group
@@ -94,7 +91,7 @@ module _ (part : PlainComponent) (kept : Samples) where
     statement_owns (Placed form place) n j x i = form_owns form n j x i
 
     while_owns : (s : PlainStatement) (n j : ℕ) (x : Entry) → In (while_by part kept entry_at no_entry s n j) x → In (groups_of s) x.group
-    while_owns (Placed form place) n j x i = form_owns form n j x (where_runs (nat_lt j (length_of part (Placed form place))) (form_by part kept entry_at no_entry form n j) x i)
+    while_owns (Placed form place) n j x i = form_owns form n j x (in_then (nat_lt j (length_of part (Placed form place))) (form_by part kept entry_at no_entry form n j) x i)
 
     parts_own : (ss : PlainStatements) (n j : ℕ) (x : Entry) → In (parts_by part kept entry_at no_entry ss n j) x → In (groups_in_all ss) x.group
     parts_own no_statements n j x i = absurd i

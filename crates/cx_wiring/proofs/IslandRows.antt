@@ -44,9 +44,7 @@ use Rattle.cx_wiring.proofs.SeamFlows.{Nearby, cell_steps}
 use Rattle.cx_wiring.proofs.RowSteps.{enable_low}
 use Rattle.cx_wiring.proofs.IslandSets.{active_together}
 use Rattle.cx_wiring.proofs.NodeSeam.{Runs, NodeSeam, StepsTo, IsStaticLeaf, IslandGoes, KindGoes, LeafGoes}
-
-true_false : {A : Type 0} → true ≡ false → A
-true_false e = absurd cc
+use Rattle.cx_wiring.proofs.CallHoles.{true_false}
 
 module _ (d : PlainDesign) (numbers : Instance → NetState → ℕ → ℕ) (part : PlainComponent) (cells : Cells) (rules : SeamRules d (Node part cells)) (control : ControlRules (Node part cells)) (around : NetAround) (v : NetState) (look : NetLook)
     (solves : Solves (block (wired_in d) timers_of numbers (Node part cells)) around v look) (s : Kept) (same : (c : ℕ) (row : Row) → cell_at cells c ≡ OfRow row → v.cell (c ∷ []) ≡ s (Cell (c ∷ [])))

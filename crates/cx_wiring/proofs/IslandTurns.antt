@@ -29,7 +29,7 @@ use Rattle.cx_wiring.specs.Shown.{wide, told}
 use Rattle.cx_wiring.specs.TimerCounts.{cycles_at, counts_in}
 use Rattle.cx_wiring.specs.IslandNumbers.{count_in, done_bit, done_in, cell_of_timer, timer_counts, are_in_step, island_number}
 use Rattle.cx_wiring.proofs.TakingLemmas.{says_both, says_equals}
-use Rattle.cx_wiring.proofs.GatherLaws.{get_below, get_some}
+use Rattle.cx_wiring.proofs.GatherLaws.{get_below}
 use Rattle.cx_wiring.proofs.ListedLaws.{AreListed, TimerFits, island_listed, only_timer}
 use Rattle.cx_wiring.proofs.EntryLaws as entries
 use Rattle.cx_wiring.proofs.EntryLaws.{form_points}
@@ -44,6 +44,7 @@ use Rattle.cx_wiring.proofs.IslandWires.{live_from, nested_small, wires_so}
 use Rattle.cx_wiring.proofs.IslandSteps as steps_laws
 use Rattle.cx_wiring.proofs.IslandKeeps.{register_is}
 use Rattle.cx_wiring.proofs.IslandIdles.{count_rests, done_rests}
+use Rattle.cx_wiring.proofs.FitTrees.{some_at}
 
 -- a count that is one of a cycle is in step
 counted_so : (b : Bool) (c len t : ℕ) → (if b then c else suc len) ≡ t → t < len → (b ≡ true) × (c ≡ t)
@@ -172,7 +173,7 @@ module _ (part : PlainComponent) (form : PlainForm) (front cells : List PlainCel
         of_some : (a b : ℕ) → ◌≡◌ {A = Option ℕ} (Some a) (Some b) → a ≡ b
         of_some a b f = cc
     counts_few low few (suc m) there c e =
-        let k = get_some final.timers (suc m) there in
+        let k = some_at final.timers (suc m) there in
         let w = lists.within (suc m) k.0 k.1 (omega arith) in
         let p = cycles_are (suc m) k.0 k.1 in
         let below : c < cycles_at final.cells k.0.cell = nested_small k.0.from k.0.to (cycles_at final.cells k.0.cell) (counts_in (cycles_at cells) (Some t) final.timers w.0) c (subst (λ n. 0 < n) p (some (suc m) k.0 k.1))
@@ -200,7 +201,7 @@ module _ (part : PlainComponent) (form : PlainForm) (front cells : List PlainCel
     later_sample m low =
         let points : length final.points ≡ form_ifs form = points_are in
         let there : m < length final.points = omega arith in
-        let p = get_some final.points m there in
+        let p = some_at final.points m there in
         samples m (truth_bit (sampled m)) (truth_bit (if t == form_length part form - 1 then false else S m)) there (sym (kept_is m there))
         (register_is groups y first island around registers look m p.0 (Some (truth_bit (sampled m))) (t == form_length part form - 1)
         (cycle.begins_now part form front groups y first around registers look count done looks t less (cycles_at cells) cycles_are here undone in_step sampled kept_so p.0) (S m) p.1 (last_says t counted.1)
@@ -238,10 +239,10 @@ module _ (part : PlainComponent) (form : PlainForm) (front cells : List PlainCel
     none_below : (bound m : ℕ) → m < bound → m < length (island_gathered part form front).timers → runs m ≡ false
     none_below zero m low there = absurd (omega arith)
     none_below (suc bound) zero low there =
-        let k = get_some final.timers 0 there in
+        let k = some_at final.timers 0 there in
         live_first groups y first island around registers look count done looks k.0 true k.1 (lists.first k.0 k.1) here ∙ ap not its_done
     none_below (suc bound) (suc m) low there =
-        let k = get_some final.timers (suc m) there in
+        let k = some_at final.timers (suc m) there in
         let w = lists.within (suc m) k.0 k.1 (omega arith) in
         let before : w.0 < suc m = TimerFits.before w.2 in
         let around_there : w.0 < length final.timers = omega arith in
@@ -271,7 +272,7 @@ module _ (part : PlainComponent) (form : PlainForm) (front cells : List PlainCel
 
     later_zero : (m : ℕ) → m < length (island_gathered part form front).points → later (y.register + m) ≡ 0
     later_zero m there =
-        let p = get_some final.points m there in
+        let p = some_at final.points m there in
         let l = lists.points m p.0 p.1 in
         let begun = runs p.0.timer && ((count p.0.timer == p.0.at) && all_wanted groups y first island around registers look count done looks p.0.samples) in
         let none : begun ≡ false = and_left (runs p.0.timer) _ (none_runs p.0.timer l.0) in

@@ -23,7 +23,8 @@ use Rattle.cx_wiring.specs.Shown.{wide}
 use Rattle.cx_wiring.proofs.RoomLemmas.{drive_both}
 use Rattle.cx_wiring.proofs.AwayLaws.{differs}
 use Rattle.cx_wiring.proofs.TakingLemmas.{true_bit, says_both, says_not, says_all, says_equals, takes_append, others_pass}
-use Rattle.cx_wiring.proofs.GatherLaws.{get_below, get_some}
+use Rattle.cx_wiring.proofs.GatherLaws.{get_below}
+use Rattle.cx_wiring.proofs.FitTrees.{some_at}
 
 -- WHICH DRIVER of an island's list a wire has
 module _ (groups : ℕ) (x : Stand) (first : ℕ) (island : PlainIsland) (around : NetAround) (registers : ℕ → Option BitVector) (look : Node → Option BitVector) where
@@ -190,7 +191,7 @@ module _ (groups : ℕ) (x : Stand) (first : ℕ) (island : PlainIsland) (around
 
     pub count_is : (t : ℕ) → t < length island.timers → value around registers look (wired.count groups x first island t) ≡ Some (wide (count t))
     count_is t less =
-        let k = get_some island.timers t less in
+        let k = some_at island.timers t less in
         ap (λ (o : Option IslandTimer). look (APort (ports.Cell (unwrap_or (option_map (λ timer. timer.cell) o) 0) 1))) k.1 ∙ looks.counts t k.0 k.1
 
     says_compare : (c : Comparison) (e : PlainNetExpr) (b : BitVector) (m : ℕ) → value around registers look e ≡ Some b → Says around registers look (Compares c e (word m)) (compares c b.value m)

@@ -11,6 +11,7 @@ use Rattle.cx_wiring.specs.Parts.{both, either, equals}
 use Rattle.cx_wiring.specs.Bounds.{AllDrive}
 use Rattle.cx_wiring.specs.Takings.{value, takes, takes_of}
 use Rattle.cx_wiring.proofs.TakingLemmas.{says_equals}
+use Rattle.cx_wiring.proofs.ChainLaws.{untrue}
 
 abbrev pub Known : Option BitVector → Type 0
 Known o = (b : BitVector) × (o ≡ Some b)
@@ -54,9 +55,6 @@ AllTo P t (d ∷ ds) = (same_target d.target t ≡ true → P d) × AllTo P t ds
 pub all_to_append : (P : PlainNetDriver → Type 0) (t : PlainNetTarget) (xs ys : List PlainNetDriver) → AllTo P t xs → AllTo P t ys → AllTo P t (xs ++ ys)
 all_to_append P t [] ys h k = k
 all_to_append P t (d ∷ xs) ys h k = (h.0, all_to_append P t xs ys h.1 k)
-
-untrue : {A : Type 0} → false ≡ true → A
-untrue e = absurd cc
 
 pub all_to_other : (P : PlainNetDriver → Type 0) (t : PlainNetTarget) (ds : List PlainNetDriver) → AllDrive (λ u. same_target u t ≡ false) ds → AllTo P t ds
 all_to_other P t [] h = tt

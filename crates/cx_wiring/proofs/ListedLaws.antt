@@ -11,7 +11,8 @@ use Rattle.cx_static.specs.declared.islands.Sample.{Sample}
 use Rattle.cx_static.specs.declared.islands.IslandTimer.{IslandTimer}
 use Rattle.cx_static.specs.Islands.{PlainPoint, PlainOccurrence, PlainIsland}
 use Rattle.cx_static.specs.Lowering.{Gathered, Begin, begin_at, later, sampled, if_sampled, timer_cell, with_timer, with_point, with_occurrence, form_gathered, gathered, parts_gathered, arms_gathered, island_gathered, island_of}
-use Rattle.cx_wiring.proofs.GatherLaws.{get_front, get_end, get_below, one_more, IsFound, earlier, last, found, form_grows, grows}
+use Rattle.cx_wiring.proofs.GatherLaws.{get_end, get_below, one_more, IsFound, earlier, last, found, form_grows, grows}
+use Rattle.cx_wiring.proofs.FitLemmas.{slice_left}
 
 in_more : (xs : List Sample) (y s : Sample) → In (xs ++ y ∷ []) s → In xs s ⊎ (y ≡ s)
 in_more [] y s (inl e) = inr e
@@ -40,8 +41,8 @@ module _ (part : PlainComponent) where
   has_timer : (p : ℕ) (outer : Option ℕ) (from to : ℕ) (g : Gathered) (n q : ℕ) → HasTimer g n q → HasTimer (with_timer part.place p outer from to g) n q
   has_timer p outer from to g n q h = record {
     timer = h.timer;
-    listed = get_front g.timers (record { cell = length g.cells; outer = outer; from = from; to = to } ∷ []) n h.timer h.listed;
-    cell = get_front g.cells (timer_cell part.place p ∷ []) (HasTimer.timer h).cell (timer_cell part.place q) h.cell;
+    listed = slice_left g.timers (record { cell = length g.cells; outer = outer; from = from; to = to } ∷ []) n h.timer h.listed;
+    cell = slice_left g.cells (timer_cell part.place p ∷ []) (HasTimer.timer h).cell (timer_cell part.place q) h.cell;
   }
 
   begins_timer : (x : Begin) (n p : ℕ) (outer : Option ℕ) (from to : ℕ) (g : Gathered) → Begins x n g → Begins x n (with_timer part.place p outer from to g)
@@ -209,7 +210,7 @@ module _ (part : PlainComponent) where
   fits_still p by from to g n timer outer h = record {
     before = h.before;
     own = h.own;
-    own_cell = get_front g.cells (timer_cell part.place p ∷ []) timer.cell (timer_cell part.place h.own) h.own_cell;
+    own_cell = slice_left g.cells (timer_cell part.place p ∷ []) timer.cell (timer_cell part.place h.own) h.own_cell;
     rounds = h.rounds;
     whole = h.whole;
     around = h.around;

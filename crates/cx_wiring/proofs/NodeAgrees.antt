@@ -63,7 +63,7 @@ use Rattle.cx_wiring.proofs.BlockTells.{hole_now, port_now}
 use Rattle.cx_wiring.proofs.ChildLooks.{child_solves}
 use Rattle.cx_wiring.proofs.CellEdges.{driver_there}
 use Rattle.cx_wiring.proofs.InstancePorts.{output_there}
-use Rattle.cx_wiring.proofs.NodePorts.{named_value, bit_says}
+use Rattle.cx_wiring.proofs.NodePorts.{named_value, bit_says, some_is}
 use Rattle.cx_wiring.proofs.TreeRules.{CellsNodes}
 use Rattle.cx_wiring.proofs.SeamRules.{SeamRules}
 use Rattle.cx_wiring.proofs.SeamFlows.{Nearby, tested_seen, hole_seen, hole_stands}
@@ -72,6 +72,7 @@ use Rattle.cx_wiring.proofs.GoingLaws.{HasComb, Source, of_group, of_timed, of_s
 use Rattle.cx_wiring.proofs.NodeSeam.{NodeRest, NodeSeam, entries_at, KindGoes, LeafGoes, SaysActive, KindSays, LeafSays}
 use Rattle.cx_wiring.proofs.IslandSets.{active_own}
 use Rattle.cx_wiring.proofs.GoingApart.{group_within, enable_named, IsGoing, GoesFor, DrivesNone, LeafStands, leaf_goes, leaf_stands, agrees}
+use Rattle.cx_wiring.proofs.CallValues.{true_false}
 
 -- a bit that is one of two truths
 bit_truth : (b : Bool) (x : BitVector) → truth_bit b ≡ x → truth_of (Value x) ≡ One → b ≡ true
@@ -92,12 +93,6 @@ zero_is_value : (x : Seen) → truth_of x ≡ Zero → (b : BitVector) × (x ≡
 zero_is_value (Value b) e = (b, refl)
 zero_is_value Conflict e = absurd cc
 zero_is_value Undefined e = absurd cc
-
-some_is : (a b : BitVector) → ◌≡◌ {A = Option BitVector} (Some a) (Some b) → a ≡ b
-some_is a b e = cc
-
-true_false : true ≡ false → ⊥
-true_false e = cc
 
 and_left : (a b : Bool) → (a && b) ≡ true → a ≡ true
 and_left true b e = refl

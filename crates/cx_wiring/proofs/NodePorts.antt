@@ -34,19 +34,19 @@ use Rattle.cx_wiring.specs.Blocks.{block, net_of_instance, net_of_cells, Solves}
 use Rattle.cx_wiring.specs.PortValues.{has_port, value_beyond, port_value, goes_now, offset_now}
 use Rattle.cx_wiring.proofs.TakingLemmas.{true_bit}
 use Rattle.cx_wiring.proofs.NetTargets.{plain_wires_count}
-use Rattle.cx_wiring.proofs.CycleLaws.{some_at}
 use Rattle.cx_wiring.proofs.DesignNames.{in_filter}
 use Rattle.cx_wiring.proofs.ChildLooks.{child_stands}
 use Rattle.cx_wiring.proofs.HoleLaws.{HoleFits, HolesFit}
 use Rattle.cx_wiring.proofs.InstancePorts.{IsNamed, IsStatic, AssignRules, PortRules, declared_there}
+use Rattle.cx_wiring.proofs.FitTrees.{some_at}
 
-some_is : (a b : BitVector) → ◌≡◌ {A = Option BitVector} (Some a) (Some b) → a ≡ b
+pub some_is : (a b : BitVector) → ◌≡◌ {A = Option BitVector} (Some a) (Some b) → a ≡ b
 some_is a b e = cc
 
 pub known : (o : Option BitVector) (z x : BitVector) → o ≡ Some x → o ≡ Some (unwrap_or o z)
 known o z x e = e ∙ ap Some (sym (ap (λ k. unwrap_or k z) e))
 
-set_bit : (b : Bool) → is_set (truth_bit b) ≡ b
+pub set_bit : (b : Bool) → is_set (truth_bit b) ≡ b
 set_bit true = refl
 set_bit false = refl
 

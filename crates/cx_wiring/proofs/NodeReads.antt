@@ -23,9 +23,10 @@ use Rattle.cx_wiring.proofs.DrivenLemmas.{IsProper}
 use Rattle.cx_wiring.proofs.ChainLaws.{NoWireFrom, AllHold}
 use Rattle.cx_wiring.proofs.RestReads.{AreRests}
 use Rattle.cx_wiring.proofs.ComponentTakes.{IsPlain, target_takes, rests_all_hold}
-use Rattle.cx_wiring.proofs.CycleLaws.{in_front, some_at}
 use Rattle.cx_wiring.proofs.AwayLaws.{differs}
 use Rattle.cx_wiring.proofs.KnownLemmas.{Known, known_as, AllTo, AllOfThem, Fed, fed_takes, any_undriven}
+use Rattle.cx_wiring.proofs.FitLemmas.{slice_left}
+use Rattle.cx_wiring.proofs.FitTrees.{some_at}
 
 -- what holds of all drivers holds of those in the order of targets, and of those of each target
 module _ (P : PlainNetDriver → Type 0) where
@@ -176,7 +177,7 @@ module _ (d : PlainLowereds) (part : PlainComponent) (cells : NetCells) (around 
   wire_takes n there =
       let all : length (net_component d (lowered_component part)).wires ≡ length (plain_wires (lowered_component part)) + length (rest_widths (target_width d (lowered_component part)) (component_driven (lowered_component part))) = all_wires in
       let k = some_at (plain_wires (lowered_component part)) n there in
-      wire_has n k.0 (in_front (plain_wires (lowered_component part)) _ n k.0 k.1) (omega arith)
+      wire_has n k.0 (slice_left (plain_wires (lowered_component part)) _ n k.0 k.1) (omega arith)
       ∙ ap (λ w. G (ToWire n) (zero_wide w)) (sym (ap (λ o. unwrap_or o 1) k.1))
       ∙ takes_all (ToWire n) tt (λ m from. differs m n (λ e. omega arith)) (λ at. refl)
 

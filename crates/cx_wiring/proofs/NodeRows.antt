@@ -65,10 +65,7 @@ use Rattle.cx_wiring.proofs.SeamRules.{SeamRules, row_lawful}
 use Rattle.cx_wiring.proofs.SeamFlows.{st_solves, Nearby, cell_steps}
 use Rattle.cx_wiring.proofs.NodeSeam.{Runs, NodeSeam, StepsTo, IsStaticLeaf}
 use Rattle.cx_wiring.proofs.CallValues.{call_enables_none}
-use Rattle.cx_wiring.proofs.CallHoles.{done_value}
-
-true_false : {A : Type 0} → true ≡ false → A
-true_false e = absurd cc
+use Rattle.cx_wiring.proofs.CallHoles.{done_value, true_false}
 
 enable_is : (side : _) → side ≡ sides.Enable → is_enable_side side ≡ true
 enable_is side e = ap is_enable_side e

@@ -35,10 +35,11 @@ use Rattle.cx_wiring.specs.IslandNumbers.{count_in, done_bit}
 use Rattle.cx_wiring.specs.Blocks.{block, net_of_cells, Solves, after_edge}
 use Rattle.cx_wiring.proofs.NetTargets.{plain_wires_count}
 use Rattle.cx_wiring.proofs.TimerRows.{EachTimer, IsTimerIn, timer_rows}
-use Rattle.cx_wiring.proofs.CycleLaws.{in_front, timer_goes}
+use Rattle.cx_wiring.proofs.CycleLaws.{timer_goes}
 use Rattle.cx_wiring.proofs.KnowLaws.{Known}
 use Rattle.cx_wiring.proofs.IslandAway as islands
 use Rattle.cx_wiring.proofs.BlockTells.{IsFineNode, R, hole_now, port_now}
+use Rattle.cx_wiring.proofs.FitLemmas.{slice_left}
 
 -- a state whose count is there is one of a timer
 pub record IsTimer (state : CellState) : Type 0 where
@@ -131,7 +132,7 @@ module _ (d : PlainDesign) (of_island : PlainComponent → NetState → ℕ → 
   pub island_bits : (n : ℕ) → groups (lowered_component part) ≤ n → n < first_of_control (lowered_component part) → (b : Bool) × (look [] (AWire n) ≡ Some (truth_bit b))
   island_bits n low high =
       let is = bit_wire (groups (lowered_component part)) (bits (lowered_component part)) n low (omega arith) in
-      solves.bits [] (AWire n) (ap (λ o. option_map_or (λ w. w == 1) o false) (in_front (plain_wires (lowered_component part)) _ n 1 is))
+      solves.bits [] (AWire n) (ap (λ o. option_map_or (λ w. w == 1) o false) (slice_left (plain_wires (lowered_component part)) _ n 1 is))
 
   -- AN EDGE of a timer
   pub timer_edge : (go : Bool) → (k : ℕ) (island : PlainIsland) (is : slice_get (lowered_component part).islands k ≡ Some island) (t : ℕ) (timer : IslandTimer) (at : slice_get island.timers t ≡ Some timer)

@@ -30,9 +30,10 @@ use Rattle.cx_wiring.proofs.ControlPorts.{OfTimers, control_free}
 use Rattle.cx_wiring.proofs.DrivenLemmas.{IsProper}
 use Rattle.cx_wiring.proofs.NetTargets.{plain_wires_count}
 use Rattle.cx_wiring.proofs.ComponentTakes.{IsPlain, target_takes}
-use Rattle.cx_wiring.proofs.CycleLaws.{in_front, wire_there, reads}
+use Rattle.cx_wiring.proofs.CycleLaws.{wire_there, reads}
 use Rattle.cx_wiring.proofs.HoleLaws.{HolesFit, hole_takes}
 use Rattle.cx_wiring.proofs.AssignLaws.{ReadsBit, acting_filter, no_port_wire, port_takes}
+use Rattle.cx_wiring.proofs.FitLemmas.{slice_left}
 
 no_port_hole : (n : ℕ) (p : PortRef) → same_target (ToPort p) (ToHole n) ≡ false
 no_port_hole n (ports.Cell c p) = refl
@@ -77,7 +78,7 @@ module _ (d : PlainLowereds) (part : PlainComponent) (named : IslandsName (group
       let width : target_width d (lowered_component part) (ToWire n) ≡ 1 = ap (λ o. unwrap_or o 1) one in
       let count : length (plain_wires (lowered_component part)) ≡ groups (lowered_component part) + bits (lowered_component part) = plain_wires_count (lowered_component part) in
       let there : n < length (plain_wires (lowered_component part)) = omega arith in
-      wire_there d part named cells around s look solves has_value plain n 1 (in_front (plain_wires (lowered_component part)) _ n 1 one) (within n there)
+      wire_there d part named cells around s look solves has_value plain n 1 (slice_left (plain_wires (lowered_component part)) _ n 1 one) (within n there)
       ∙ ap (λ w. first_true around R (look []) (zero_wide w) (drivers_to (ToWire n) (net_component d (lowered_component part)).drivers)) (sym width)
       ∙ target_takes d (lowered_component part) around R (look []) plain (reads d part named cells around s look solves has_value plain) (ToWire n) tt (λ m from. differs m n (λ e. omega arith)) (λ at. refl)
       ∙ ap (λ w. takes around R (look []) (ToWire n) (Some (zero_wide w)) (plain_drivers (lowered_component part))) width

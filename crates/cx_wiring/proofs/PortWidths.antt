@@ -28,10 +28,10 @@ IsWide port = IsWidth port.width
 abbrev AreWide : Row → Type 0
 AreWide row = Are IsWide row.ports
 
-one_bit : IsWidth 1
+pub one_bit : IsWidth 1
 one_bit = record { some_bits = omega arith; few_bits = omega arith }
 
-count_bits : IsWidth 32
+pub count_bits : IsWidth 32
 count_bits = record { some_bits = omega arith; few_bits = omega arith }
 
 wide_where : (r : Row) (b : Bool) → (b ≡ true → AreWide r) → AreWide (unwrap_or (if b then Some r else None) no_row)

@@ -7,7 +7,7 @@ use Rattle.cx_net.specs.NetMeaning.{Node, AWire, NetAround, same_target, drivers
 use Rattle.cx_wiring.specs.Chains.{Driven, together, rests, chain, chains, rest_widths}
 use Rattle.cx_wiring.proofs.AwayLaws.{differs}
 use Rattle.cx_wiring.proofs.RestTargets.{to_append, chain_dropped, rests_hold}
-use Rattle.cx_wiring.proofs.ChainLaws.{AllHold}
+use Rattle.cx_wiring.proofs.ChainLaws.{AllHold, append_none}
 
 -- no target is a wire from one on
 abbrev pub NotWires : ℕ → List Driven → Type 0
@@ -21,10 +21,6 @@ chains_below (u ∷ us) base wire m low less free =
     ∙ ap (λ l. l ++ drivers_to (ToWire m) (chains (wire + rests together u.drivers) us))
     (chain_dropped u.target u.drivers u.target (ToWire m) wire together (free.0 m low) (λ n from to. differs n m (λ e. omega arith)))
     ∙ chains_below us base (wire + rests together u.drivers) m low (omega arith) free.1
-
-none_behind : {A : Type 0} (xs ys : List A) → ys ≡ [] → xs ++ ys ≡ xs
-none_behind [] ys e = e
-none_behind (x ∷ xs) ys e = ap (λ l. x ∷ l) (none_behind xs ys e)
 
 module _ (around : NetAround) (registers : ℕ → Option BitVector) (look : Node → Option BitVector) where
   -- wires from one on, of these widths, take their drivers in a list
@@ -67,7 +63,7 @@ module _ (around : NetAround) (registers : ℕ → Option BitVector) (look : Nod
               (λ n from to. rest_at (rests together u.drivers) (width u.target) wire n all k.0 from to
               ∙ ap (first_true around registers look (zero_wide (width u.target))) (same n from
               ∙ to_append (ToWire n) (chain u.target u.target wire together u.drivers) (chains (wire + rests together u.drivers) us)
-              ∙ none_behind (drivers_to (ToWire n) (chain u.target u.target wire together u.drivers)) (drivers_to (ToWire n) (chains (wire + rests together u.drivers) us))
+              ∙ append_none (drivers_to (ToWire n) (chain u.target u.target wire together u.drivers)) (drivers_to (ToWire n) (chains (wire + rests together u.drivers) us))
               (chains_below us base (wire + rests together u.drivers) n (omega arith) to free.1))),
           all_hold us (wire + rests together u.drivers) (omega arith) free.1 (subst (λ n. AreRests n (rest_widths width us) all) place k.1)
               (λ m from. same m (omega arith) ∙ to_append (ToWire m) (chain u.target u.target wire together u.drivers) (chains (wire + rests together u.drivers) us)

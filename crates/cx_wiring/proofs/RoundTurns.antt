@@ -19,12 +19,10 @@ use Rattle.cx_wiring.specs.Turning.{Turns}
 use Rattle.cx_wiring.proofs.TakingLemmas.{takes_known, says_both, says_equals, says_differs}
 use Rattle.cx_wiring.proofs.AwayLaws.{differs}
 use Rattle.cx_wiring.proofs.FormTurns.{region_known, repeat_region, repeat_hole}
+use Rattle.cx_wiring.proofs.ArmTurns.{wide_value}
 
 turned_is : {A : Type 0} (a : Coding A) (count left : ℕ) → left < count → turned a count left ≡ count - suc left
 turned_is a count left less = ap (λ t. if t then count - suc left else left) (lt-ltb left count less)
-
-wide_value : (a b : ℕ) → ◌≡◌ {A = Option BitVector} (Some (wide a)) (Some (wide b)) → a ≡ b
-wide_value a b e = ap (λ o. option_map_or (λ x. x.value) o 0) e
 
 module _ (groups : ℕ) (around : NetAround) (registers : ℕ → Option BitVector) (look : Node → Option BitVector) where
   -- THE COUNT: cleared with the last round, one more where another round ends

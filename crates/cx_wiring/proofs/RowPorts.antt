@@ -19,6 +19,7 @@ use Rattle.cx_prim.specs.PipeRows.{multiplier_row, divider_row, timer_row}
 use Rattle.cx_prim.specs.Table.{PrimitiveRow, at_width, constant_at, slice_at, pad_at, memory_at, timer_at, row_at, no_row, row_of}
 use Rattle.cx_prim.specs.TableLaws.{is_layout_tells}
 use Rattle.cx_meaning.specs.Rows.{side_from, side_of}
+use Rattle.cx_wiring.proofs.ChainLaws.{untrue}
 
 abbrev AreNarrow : List PortRow → Type 0
 AreNarrow [] = Unit {0}
@@ -36,9 +37,6 @@ output_apart e = cc
 
 registered_apart : sides.Registered ≡ sides.Enable → ⊥
 registered_apart e = cc
-
-no_read : {A : Type 0} → false ≡ true → A
-no_read e = absurd cc
 
 -- rows
 constant_has : (w v : ℕ) → HasRowPorts (constant_row w v)
@@ -77,23 +75,23 @@ mux_has w = record {
 register_has : (w : ℕ) → HasRowPorts (register_row w)
 register_has w = record {
   narrow = ((λ e. absurd (plain_apart e)), ((λ e. refl), ((λ e. absurd (registered_apart e)), ((λ e. absurd (registered_apart e)), tt))));
-  reads_plain = λ n m e. no_read e;
+  reads_plain = λ n m e. untrue e;
 }
 
 multiplier_has : (w : ℕ) → HasRowPorts (multiplier_row w)
 multiplier_has w = record {
   narrow = ((λ e. refl), ((λ e. absurd (plain_apart e)), ((λ e. absurd (plain_apart e)), ((λ e. absurd (registered_apart e)), ((λ e. absurd (registered_apart e)), tt)))));
-  reads_plain = λ n m e. no_read e;
+  reads_plain = λ n m e. untrue e;
 }
 
 divider_has : (w : ℕ) → HasRowPorts (divider_row w)
 divider_has w = record {
   narrow = ((λ e. refl), ((λ e. absurd (plain_apart e)), ((λ e. absurd (plain_apart e)), ((λ e. absurd (registered_apart e)), ((λ e. absurd (registered_apart e)), ((λ e. absurd (registered_apart e)), tt))))));
-  reads_plain = λ n m e. no_read e;
+  reads_plain = λ n m e. untrue e;
 }
 
 timer_has : (n : ℕ) → HasRowPorts (timer_row n)
-timer_has n = record { narrow = ((λ e. refl), ((λ e. absurd (registered_apart e)), ((λ e. absurd (registered_apart e)), tt))); reads_plain = λ k m e. no_read e }
+timer_has n = record { narrow = ((λ e. refl), ((λ e. absurd (registered_apart e)), ((λ e. absurd (registered_apart e)), tt))); reads_plain = λ k m e. untrue e }
 
 none_has : HasRowPorts no_row
 none_has = record { narrow = tt; reads_plain = λ n m e. let less : m < 0 = ltb-true m 0 e in absurd (omega (arith, less)) }
@@ -112,7 +110,7 @@ named_plain (name ∷ list) (w ∷ widths) rest (suc m) less few = named_plain l
 
 and_right : (a b : Bool) → (a && b) ≡ true → b ≡ true
 and_right true b e = e
-and_right false b e = no_read e
+and_right false b e = untrue e
 
 memory_has : (w : ℕ) (sizes address_widths : List ℕ) → IsLayout w sizes address_widths → HasRowPorts (memory_row w sizes address_widths)
 memory_has w sizes address_widths layout = record {
@@ -128,7 +126,7 @@ sequential_has : (w : ℕ) (sizes address_widths : List ℕ) → IsLayout w size
 sequential_has w sizes address_widths layout = record {
   narrow = named_narrow (names.Addr0 ∷ names.Addr1 ∷ names.Addr2 ∷ names.Addr3 ∷ []) address_widths _
       ((λ e. refl), ((λ e. refl), ((λ e. absurd (plain_apart e)), ((λ e. absurd (registered_apart e)), ((λ e. absurd (registered_apart e)), tt)))));
-  reads_plain = λ n m e. no_read e;
+  reads_plain = λ n m e. untrue e;
 }
 
 -- the table

@@ -39,13 +39,11 @@ use Rattle.cx_wiring.proofs.RowPorts.{enable_width}
 use Rattle.cx_wiring.proofs.StillPorts.{Still, resting, depends_still, hole_moves, still_continuous}
 use Rattle.cx_wiring.proofs.SeamRules.{SeamRules, row_lawful, row_has_ports}
 use Rattle.cx_wiring.proofs.WireSolves.{wires_solve}
+use Rattle.cx_wiring.proofs.CallValues.{own_offset}
 
 done_bit : (b : Bool) → Value (truth_bit b) ≡ bit_of b
 done_bit true = refl
 done_bit false = refl
-
-pub only_self : (g : ℕ) → only_at g g ≡ Some 0
-only_self g = ap (λ b. if b then Some 0 else None) (eq-eqb g g refl)
 
 module _ (d : PlainDesign) (numbers : Instance → NetState → ℕ → ℕ) (part : PlainComponent) (cells : Cells) (rules : SeamRules d (Node part cells)) (around : NetAround) (v : NetState) (look : NetLook)
     (solves : Solves (block (wired_in d) timers_of numbers (Node part cells)) around v look) (st : State) (same : (c : ℕ) (row : Row) → cell_at cells c ≡ OfRow row → v.cell (c ∷ []) ≡ st (c ∷ [])) where
@@ -318,7 +316,7 @@ module _ (d : PlainDesign) (numbers : Instance → NetState → ℕ → ℕ) (pa
     hole_seen b sees =
         seen_value held (group g) (ports.Done g) b
         (still_undisturbed held (group g) (λ c q. Reads part s c) near (ports.Done g) near_of_hole (λ c q e. no_cell c q e) (λ r l none. let h = hole_leads r l in rules.rests.dones h.of g r h.is_in h.target h.names none)
-        (λ h e. ap (only_at g) (sym (same_group h e)) ∙ only_self g))
+        (λ h e. ap (only_at g) (sym (same_group h e)) ∙ own_offset g))
         sees
       where
         no_cell : (c q : ℕ) → ports.Done g ≡ ports.Cell c q → ⊥

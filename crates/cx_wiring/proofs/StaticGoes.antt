@@ -14,8 +14,9 @@ use Rattle.cx_static.specs.declared.islands.Sample.{Sample}
 use Rattle.cx_static.specs.declared.islands.IslandTimer.{IslandTimer}
 use Rattle.cx_static.specs.Islands.{PlainOccurrence}
 use Rattle.cx_static.specs.Lowering.{Gathered, Begin, begin_at, later, sampled, if_sampled, with_timer, with_point, with_occurrence, form_gathered, gathered, parts_gathered, arms_gathered}
-use Rattle.cx_wiring.proofs.GatherLaws.{get_front, get_end, grows, parts_grow, arms_grow}
+use Rattle.cx_wiring.proofs.GatherLaws.{get_end, grows, parts_grow, arms_grow}
 use Rattle.cx_wiring.proofs.TogetherGoes.{IsOn, union_left, union_right}
+use Rattle.cx_wiring.proofs.FitLemmas.{slice_left}
 
 split_in : {A : Type 0} (xs ys : List A) (x : A) → In (xs ++ ys) x → In xs x ⊎ In ys x
 split_in [] ys x i = inr i
@@ -103,16 +104,16 @@ module _ (part : PlainComponent) (live : ℕ → Bool) (count : ℕ → ℕ) (sa
     before_parts : (ss : PlainStatements) (x : Begin) (g : Gathered) → Stage (parts_gathered part ss x g) → Stage g
     before_parts ss x g stage t timer e =
         stage t timer
-        (parts_grow part (λ h. slice_get h.timers t ≡ Some timer) (λ p outer from to h k. get_front h.timers _ t timer k) (λ port y h k. k) (λ group y n h k. k) ss x g e)
+        (parts_grow part (λ h. slice_get h.timers t ≡ Some timer) (λ p outer from to h k. slice_left h.timers _ t timer k) (λ port y h k. k) (λ group y n h k. k) ss x g e)
 
     before_arms : (ss : PlainStatements) (x : Begin) (g : Gathered) → Stage (arms_gathered part ss x g) → Stage g
     before_arms ss x g stage t timer e =
         stage t timer
-        (arms_grow part (λ h. slice_get h.timers t ≡ Some timer) (λ p outer from to h k. get_front h.timers _ t timer k) (λ port y h k. k) (λ group y n h k. k) ss x g e)
+        (arms_grow part (λ h. slice_get h.timers t ≡ Some timer) (λ p outer from to h k. slice_left h.timers _ t timer k) (λ port y h k. k) (λ group y n h k. k) ss x g e)
 
     before_one : (s : PlainStatement) (x : Begin) (g : Gathered) → Stage (gathered part s x g) → Stage g
     before_one s x g stage t timer e =
-        stage t timer (grows part (λ h. slice_get h.timers t ≡ Some timer) (λ p outer from to h k. get_front h.timers _ t timer k) (λ port y h k. k) (λ group y n h k. k) s x g e)
+        stage t timer (grows part (λ h. slice_get h.timers t ≡ Some timer) (λ p outer from to h k. slice_left h.timers _ t timer k) (λ port y h k. k) (λ group y n h k. k) s x g e)
 
     on_offset : (g o : ℕ) → IsOn (entries (record { group = g; offset = o } ∷ [])) g
     on_offset g o = (o, ap (λ b. if b then Some o else None) (eq-eqb g g refl))

@@ -19,6 +19,7 @@ use Rattle.cx_wiring.specs.Takings.{takes, AllIdle}
 use Rattle.cx_wiring.specs.IslandTakes.{IslandNexts}
 use Rattle.cx_wiring.specs.Shown.{wide, enable_number, counted, form_number, number_of, parts_number, arms_number, FormNexts, StatementNexts, PartsNext, ArmsNext}
 use Rattle.cx_wiring.proofs.TakingLemmas.{idle_passes, idle_both, idle_split}
+use Rattle.cx_wiring.proofs.ArmTurns.{wide_value}
 
 pub beside_pointwise : (c : ℕ) (a b f g : ℕ → ℕ) → ((j : ℕ) → a j ≡ 0 → f j ≡ 0) → ((j : ℕ) → b j ≡ 0 → g j ≡ 0) → (n : ℕ) → beside c a b n ≡ 0 → beside c f g n ≡ 0
 beside_pointwise c a b f g first later n e = choice (nat_lt n c) e
@@ -27,13 +28,10 @@ beside_pointwise c a b f g first later n e = choice (nat_lt n c) e
     choice true e = first n e
     choice false e = later (n - c) e
 
-wide_is : (a b : ℕ) → ◌≡◌ {A = Option BitVector} (Some (wide a)) (Some (wide b)) → a ≡ b
-wide_is a b e = ap (λ o. option_map_or (λ x. x.value) o 0) e
-
 module _ (groups : ℕ) (islands : List PlainIsland) (around : NetAround) (registers : ℕ → Option BitVector) (look : Node → Option BitVector) (kept next : ℕ → ℕ) where
   -- a register whose drivers do not act keeps its value
   keeps : (n : ℕ) (ds : List PlainNetDriver) → AllIdle around registers look ds → takes around registers look (ToRegister n) (Some (wide (kept n))) ds ≡ Some (wide (next n)) → kept n ≡ next n
-  keeps n ds idle e = wide_is (kept n) (next n) (sym (idle_passes around registers look (ToRegister n) tt (Some (wide (kept n))) ds idle) ∙ e)
+  keeps n ds idle e = wide_value (kept n) (next n) (sym (idle_passes around registers look (ToRegister n) tt (Some (wide (kept n))) ds idle) ∙ e)
 
   module _ {X : Type 0} {V : X → Type 0} {F : Type 0} (leaves : LeafMachines X V F) (codings : LeafCodings leaves) (part : PlainComponent) (now_island next_island : ℕ → ℕ → ℕ → ℕ)
       (island_rests : (k : ℕ) (x : Stand) → AllIdle around registers look (form_drivers groups islands x (Timed k)) → IslandNexts groups islands around registers look kept next k x → (n : ℕ) → now_island x.register k n ≡ 0 → next_island x.register k n ≡ 0) where

@@ -21,9 +21,7 @@ use Rattle.cx_wiring.specs.Bounds.{FormNames, StatementNames, PartsName}
 use Rattle.cx_wiring.specs.Takings.{Connects, AllConnect, AreRegisters}
 use Rattle.cx_wiring.proofs.TakingLemmas.{true_bit, says_equals, connect_both, registers_both}
 use Rattle.cx_wiring.proofs.KnownLemmas.{known_as, KnownExpr, On, Fed, known_two, known_equals, known_inverse, two_true, AllTo, all_to_append, all_to_map}
-
-untrue : {A : Type 0} → false ≡ true → A
-untrue e = absurd cc
+use Rattle.cx_wiring.proofs.ChainLaws.{untrue}
 
 abbrev pub IsOn : Active → ℕ → Type 0
 IsOn act g = (u : ℕ) × (act.offset g ≡ Some u)

@@ -15,6 +15,7 @@ use Rattle.cx_net.specs.NetMeaning.{NetState, below_cell, Node, APort, AWire, AH
 use Rattle.cx_net.specs.NetRuns.{IsWholeLook}
 use Rattle.cx_wiring.specs.NetNames.{DriversName, TreeNames, CellsName}
 use Rattle.cx_wiring.proofs.GrowLemmas.{Less, less_self, none_is_some, grows_map, grows_then, gather_grows, AroundLess, chain_grows, names_to}
+use Rattle.cx_wiring.proofs.GroundedRuns.{some_is}
 
 -- an output of a component cell is one of the component
 output_there : (outputs n m : ℕ) → output_port outputs n ≡ AnOutput m → nat_lt m outputs ≡ true
@@ -146,9 +147,6 @@ first_less (Some v) b x e = e
 second_less : {A : Type 0} (a b : Option A) → ((x y : A) → a ≡ Some x → b ≡ Some y → x ≡ y) → Less b (first_known a b)
 second_less None b h y e = e
 second_less (Some x) b h y e = ap Some (h x y refl e)
-
-some_is : (v w : BitVector) → ◌≡◌ {A = Option BitVector} (Some v) (Some w) → v ≡ w
-some_is v w e = cc
 
 abbrev joined : NetLook → NetLook → NetLook
 joined look more q n = first_known (look q n) (more q n)

@@ -21,13 +21,7 @@ use Rattle.cx_wiring.specs.Wiring.{groups, bits, plain_wires, component_register
 use Rattle.cx_wiring.specs.Fitting.{Are}
 use Rattle.cx_wiring.proofs.OrderHeights.{in_slice}
 use Rattle.cx_wiring.proofs.FitLemmas.{are_both, are_at, slice_below}
-use Rattle.cx_wiring.proofs.PortWidths.{ports_wide}
-
-one_bit : IsWidth 1
-one_bit = record { some_bits = omega arith; few_bits = omega arith }
-
-word_bits : IsWidth 32
-word_bits = record { some_bits = omega arith; few_bits = omega arith }
+use Rattle.cx_wiring.proofs.PortWidths.{ports_wide, one_bit, count_bits}
 
 are_replicated : (w n : ℕ) → IsWidth w → Are IsWidth (replicate n w)
 are_replicated w zero wide = tt
@@ -52,7 +46,7 @@ module _ (islands : List PlainIsland) where
     form_wide (If test comb a b) = are_both IsWidth (registers_of islands a) (registers_of islands b) (registers_wide a) (registers_wide b)
     form_wide (While test comb a) = registers_wide a
     form_wide (Repeat zero a) = tt
-    form_wide (Repeat (suc n) a) = (word_bits, registers_wide a)
+    form_wide (Repeat (suc n) a) = (count_bits, registers_wide a)
     form_wide (StaticSeq written parts) = tt
     form_wide (StaticPar written arms) = tt
     form_wide (StaticIf written test a b) = tt
@@ -68,10 +62,10 @@ module _ (islands : List PlainIsland) where
 
     arms_wide : (ss : PlainStatements) → Are IsWidth (arms_registers islands ss)
     arms_wide no_statements = tt
-    arms_wide (a_statement s ss) = (word_bits, are_both IsWidth (registers_of islands s) (arms_registers islands ss) (registers_wide s) (arms_wide ss))
+    arms_wide (a_statement s ss) = (count_bits, are_both IsWidth (registers_of islands s) (arms_registers islands ss) (registers_wide s) (arms_wide ss))
 
 pub component_registers_wide : (lowered : PlainLowered) → Are IsWidth (component_registers lowered)
-component_registers_wide lowered = (word_bits, registers_wide lowered.islands lowered.part.control)
+component_registers_wide lowered = (count_bits, registers_wide lowered.islands lowered.part.control)
 
 -- PORTS of signatures
 declared_wide : (decls : List PortDecl) → IsSignature decls → (n w : ℕ) → declared_width decls n ≡ Some w → IsWidth w
@@ -137,7 +131,7 @@ module _ (d : PlainDesign) (rules : IsDesign d) (k : ℕ) (within : k < length d
   cell_wide (Some cell) p w e = kind_wide cell.kind p w e
 
   plain_wide : Are IsWidth (plain_wires low)
-  plain_wide = are_both IsWidth (replicate (groups low) 32) (replicate (bits low) 1) (are_replicated 32 (groups low) word_bits) (are_replicated 1 (bits low) one_bit)
+  plain_wide = are_both IsWidth (replicate (groups low) 32) (replicate (bits low) 1) (are_replicated 32 (groups low) count_bits) (are_replicated 1 (bits low) one_bit)
 
   known_wide : (t : PlainNetTarget) (w : ℕ) → known_width (lowered_of d) low t ≡ Some w → IsWidth w
   known_wide (ToPort (ports.Cell c p)) w e = cell_wide (slice_get low.part.cells c) p w e
