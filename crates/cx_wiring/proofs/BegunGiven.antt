@@ -1,5 +1,5 @@
 -- Where the ports of the static ifs that begin are the same in the net as the machine sees them, its islands take the same samples.
-use Rattle.std.proofs.Common.{◌≡◌, ℕ, Bool, List, Option, Some, None}
+use Rattle.std.proofs.Common.{◌≡◌, ℕ, Bool, Option, Some, None}
 use Rattle.cx_meaning.specs.declared.kinds.GroupKind.{GroupKind}
 use Rattle.cx_meaning.specs.declared.kinds.GroupKind.TheVariants as kinds
 use Rattle.cx_meaning.specs.declared.ports.PortRef.{PortRef}
@@ -11,7 +11,6 @@ use Rattle.cx_meaning.specs.Sights.{In, seen}
 use Rattle.cx_meaning.specs.Islands.{group_length}
 use Rattle.cx_laws.specs.Samples.{says, begun_by}
 use Rattle.cx_lockstep.specs.Worlds.{Machine}
-use Rattle.cx_lockstep.specs.Statements.{LeafMachines}
 use Rattle.cx_lockstep.specs.Running.{Running, AGroup, AnIsland, running}
 use Rattle.cx_control.specs.Spots.{Kept, cells_in, held_in}
 use Rattle.cx_control.specs.Leaves.{InIsland, Cycle, LastTurn, Coded, sampled_now, kind_machine, leaf_machines}

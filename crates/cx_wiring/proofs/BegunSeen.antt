@@ -1,8 +1,6 @@
 -- In a cycle without a fault the ports of the static ifs that begin have in the net of a node what its machine takes, whatever goes there.
-use Rattle.std.proofs.Common.{◌≡◌, ℕ, Bool, false, List, [], ◌∷◌, unwrap_or}
+use Rattle.std.proofs.Common.{◌≡◌, ℕ, [], ◌∷◌}
 use Rattle.cx_text.specs.declared.places.Place.{Place}
-use Rattle.cx_bits.specs.BitVector.{BitVector}
-use Rattle.cx_prim.specs.Rows.{Row}
 use Rattle.cx_meaning.specs.declared.ports.PortRef.{PortRef}
 use Rattle.cx_meaning.specs.Designs.{PlainComponent, PlainDesign, PlainForm}
 use Rattle.cx_meaning.specs.Instances as instances
@@ -13,7 +11,7 @@ use Rattle.cx_laws.specs.Samples.{Samples, says, begun_by}
 use Rattle.cx_lockstep.specs.Worlds.{Machine}
 use Rattle.cx_lockstep.specs.Running.{AnIsland, running}
 use Rattle.cx_lockstep.proofs.RunningLaws.{no_faults}
-use Rattle.cx_control.specs.Spots.{Cell, Kept, cells_in, held_in}
+use Rattle.cx_control.specs.Spots.{Kept, cells_in, held_in}
 use Rattle.cx_control.specs.Leaves.{Coded, Cycle, sampled_now, leaf_machines}
 use Rattle.cx_control.specs.Controls.{coded_control, coded_below}
 use Rattle.cx_control.specs.ControlRules.{ControlRules}

@@ -1,5 +1,5 @@
 -- Behind its last number a statement has 0, in the machine's coding of a fine place and in the net.
-use Rattle.std.proofs.Common.{◌≡◌, ℕ, zero, suc, ◌+◌, ◌-◌, ◌<◌, ◌≤◌, nat_lt, Bool, true, false, if◌then◌else◌, List, [], ◌∷◌, length, Option, Some, None, refl, sym, ap, ◌∙◌, arith}
+use Rattle.std.proofs.Common.{◌≡◌, ℕ, zero, suc, ◌+◌, ◌-◌, ◌≤◌, if◌then◌else◌, List, length, Option, Some, None, refl, ap, ◌∙◌, arith}
 use Rattle.std.proofs.lemmas.Bool.{le-ltb}
 use Rattle.cx_text.specs.declared.places.Place.{Place}
 use Rattle.cx_meaning.specs.declared.kinds.GroupKind.{GroupKind}
@@ -10,12 +10,12 @@ use Rattle.cx_meaning.specs.Islands.{group_length}
 use Rattle.cx_meaning.specs.Calls.{called}
 use Rattle.cx_laws.specs.Samples.{form_ifs}
 use Rattle.cx_lockstep.specs.Worlds.{Control, At, Done, Machine}
-use Rattle.cx_lockstep.specs.Machines.{First, Second, InPar, AtTest, InThen, InElse, AtHead, InBody}
+use Rattle.cx_lockstep.specs.Machines.{First, Second, AtTest, InThen, InElse, AtHead, InBody}
 use Rattle.cx_lockstep.specs.Statements.{LeafMachines, form_machine, machine_of, parts_machine, arms_machine}
 use Rattle.cx_control.specs.Codings.{Coding, Bank, beside, zeros, region_bank, left_control, right_control, at_fine}
 use Rattle.cx_control.specs.StatementCodings.{LeafCodings, form_coding, statement_coding, parts_coding, arms_bank}
-use Rattle.cx_control.specs.Leaves.{Coded, InIsland, Cycle, LastTurn, called_machine, kind_machine, leaf_machines}
-use Rattle.cx_control.specs.Controls.{bit, island_fine, island_coding, called_coding, kind_coding, leaf_codings}
+use Rattle.cx_control.specs.Leaves.{Coded, Cycle, LastTurn}
+use Rattle.cx_control.specs.Controls.{bit, island_coding, called_coding, kind_coding, leaf_codings}
 use Rattle.cx_static.specs.Islands.{PlainIsland}
 use Rattle.cx_static.specs.Lowering.{Lowering, after, parts_after, lowered, lowered_enable}
 use Rattle.cx_wiring.specs.Counts.{registers_of}

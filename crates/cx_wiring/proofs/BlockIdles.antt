@@ -1,11 +1,10 @@
 -- Without go, or at the end, the own numbers of a node move as an idle edge moves them, with what islands owe as a premise.
-use Rattle.std.proofs.Common.{◌≡◌, ℕ, zero, suc, ◌+◌, ◌<◌, ◌≤◌, ◌⊎◌, inl, inr, ◌==◌, Bool, true, false, if◌then◌else◌, List, [], ◌∷◌, length, replicate, Option, Some, None, slice_get, refl, sym, ap, ◌∙◌, arith}
+use Rattle.std.proofs.Common.{◌≡◌, ℕ, zero, suc, ◌+◌, ◌<◌, ◌≤◌, ◌⊎◌, inl, inr, ◌==◌, Bool, false, if◌then◌else◌, [], ◌∷◌, length, Option, Some, None, slice_get, refl, sym, ap, ◌∙◌, arith}
 use Rattle.std.proofs.lemmas.List.{length-replicate}
-use Rattle.cx_text.specs.declared.places.Place.{Place}
 use Rattle.cx_bits.specs.BitVector.{BitVector}
 use Rattle.cx_meaning.specs.declared.kinds.GroupKind.{GroupKind}
 use Rattle.cx_meaning.specs.declared.kinds.GroupKind.TheVariants as kinds
-use Rattle.cx_meaning.specs.Designs.{PlainComponent, PlainDesign, PlainForm, Enable, Timed, Placed, group_at}
+use Rattle.cx_meaning.specs.Designs.{PlainComponent, PlainDesign, PlainForm, Enable, group_at}
 use Rattle.cx_meaning.specs.Instances as instances
 use Rattle.cx_meaning.specs.Instances.{Instance, Cells, part_of}
 use Rattle.cx_meaning.specs.Calls.{called}
@@ -13,23 +12,20 @@ use Rattle.cx_laws.specs.Samples.{form_ifs}
 use Rattle.cx_control.specs.Codings.{Coding}
 use Rattle.cx_control.specs.StatementCodings.{LeafCodings}
 use Rattle.cx_control.specs.Leaves.{Coded, leaf_machines}
-use Rattle.cx_control.specs.Controls.{coded_control, coded_below, called_coding, kind_coding, leaf_codings}
-use Rattle.cx_control.specs.Numbers.{OfSample, island_numbers, group_numbers, number_idle, number_idle_at}
+use Rattle.cx_control.specs.Controls.{coded_below, called_coding, kind_coding, leaf_codings}
+use Rattle.cx_control.specs.Numbers.{OfSample, island_numbers, group_numbers, number_idle}
 use Rattle.cx_net.specs.NetMeaning.{NetState, NetLook, NetAround, is_true, truth_bit}
 use Rattle.cx_net.specs.NetEdges.{own_register}
 use Rattle.cx_static.specs.Lowering.{lowered, lowered_component, unlowered}
 use Rattle.cx_wiring.specs.Counts.{positions_of, sample_registers, registers_of}
-use Rattle.cx_wiring.specs.Stands.{Stand}
 use Rattle.cx_wiring.specs.Control.{whole_stand, drivers_of}
 use Rattle.cx_wiring.specs.Wiring.{groups, first_of_control}
 use Rattle.cx_wiring.specs.PartNets.{wired_in, timers_of}
-use Rattle.cx_wiring.specs.Takings.{AllConnect, AreRegisters}
-use Rattle.cx_wiring.specs.Standing.{IsIn, IsStopped, Away}
+use Rattle.cx_wiring.specs.Standing.{Away}
 use Rattle.cx_wiring.specs.BlockNumbers.{component_numbers}
-use Rattle.cx_wiring.specs.Blocks.{block, net_of_cells, Solves, HasGo, IsIdle, after_edge}
+use Rattle.cx_wiring.specs.Blocks.{block, net_of_cells, Solves, IsIdle, after_edge}
 use Rattle.cx_wiring.proofs.TakingLemmas.{true_bit, idle_passes}
 use Rattle.cx_wiring.proofs.ComponentLaws as laws
-use Rattle.cx_wiring.proofs.KnowLaws.{Known}
 use Rattle.cx_wiring.proofs.BlockTells.{IsFineNode, R, hole_now, port_now, node_cycle, end_is}
 use Rattle.cx_wiring.proofs.IdleNumbers.{IslandIdled, idled}
 use Rattle.cx_wiring.proofs.IslandCells.{IsListed, listed}

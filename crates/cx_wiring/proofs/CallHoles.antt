@@ -1,6 +1,6 @@
 -- THE HOLE OF A GROUP THAT CALLS is in the net what its machine takes it for, where the done of the cell that it calls is.
 use Rattle.std.proofs.Common.{◌≡◌, ℕ, suc, ◌+◌, ◌<◌, inl, inr, Bool, true, false, ◌||◌, if◌then◌else◌, List, [], ◌∷◌, length, Option, Some, None, unwrap_or, refl, sym, ap, ◌∙◌, subst, arith}
-use Rattle.std.specs.Prelude.{map, slice_get}
+use Rattle.std.specs.Prelude.{slice_get}
 use Rattle.cx_text.specs.declared.places.Place.{Place}
 use Rattle.cx_bits.specs.BitVector.{BitVector}
 use Rattle.cx_prim.specs.Rows.{Row, is_enable_side}
@@ -13,19 +13,17 @@ use Rattle.cx_meaning.specs.declared.ports.PortRef.{PortRef}
 use Rattle.cx_meaning.specs.declared.ports.PortRef.TheVariants as ports
 use Rattle.cx_meaning.specs.declared.sights.Seen.TheVariants.{Value}
 use Rattle.cx_meaning.specs.Rows.{side_of}
-use Rattle.cx_meaning.specs.Designs.{PlainAssign, PlainCell, PlainComponent, PlainDesign, Enable, Placed, group_at}
-use Rattle.cx_meaning.specs.Instances.{Instance, Node, Cells, OfRow, OfInstance, cell_at, part_of}
+use Rattle.cx_meaning.specs.Designs.{PlainAssign, PlainComponent, PlainDesign, Enable, Placed, group_at}
+use Rattle.cx_meaning.specs.Instances.{Instance, Node, Cells, OfRow, cell_at, part_of}
 use Rattle.cx_meaning.specs.Active.{Owned, group, same_port, source_order}
 use Rattle.cx_meaning.specs.Truths.{One, truth_of}
-use Rattle.cx_meaning.specs.Sights.{In, of_option, part_port, seen}
-use Rattle.cx_meaning.specs.Islands.{is_one}
+use Rattle.cx_meaning.specs.Sights.{In, of_option, seen}
 use Rattle.cx_meaning.specs.Calls.{enables_at, enables_primitive, captures_in, called, captures}
 use Rattle.cx_rules.specs.Items.{Dynamic}
 use Rattle.cx_rules.specs.Ports.{width_of}
-use Rattle.cx_rules.specs.ShapeRules.{some_target}
 use Rattle.cx_rules.specs.CallShape.{done_port, write_en_of, register_done, captured, wanted_dones}
 use Rattle.cx_rules.proofs.FoundLemmas.{same_is}
-use Rattle.cx_flow.specs.Flows.{Values, zero_of, is_set, cell_flow, side_flow, part_flow, Solves as FlowSolves}
+use Rattle.cx_flow.specs.Flows.{Values, zero_of, is_set, cell_flow, part_flow, Solves as FlowSolves}
 use Rattle.cx_lockstep.specs.Worlds.{Machine, is_done}
 use Rattle.cx_lockstep.specs.Statements.{LeafMachines}
 use Rattle.cx_control.specs.Spots.{Cell, Kept, cells_in, held_in}
@@ -44,7 +42,7 @@ use Rattle.cx_wiring.specs.Blocks.{block, Solves}
 use Rattle.cx_wiring.specs.PortValues.{around_of, port_value, active_now}
 use Rattle.cx_wiring.proofs.SeamRules.{SeamRules}
 use Rattle.cx_wiring.proofs.SeamFlows.{st_solves, hole_stands}
-use Rattle.cx_wiring.proofs.CallValues.{wanted_now, hole_wants, wants_hole}
+use Rattle.cx_wiring.proofs.CallValues.{hole_wants, wants_hole}
 use Rattle.cx_wiring.proofs.NodePorts.{set_bit}
 
 pub true_false : {A : Type 0} → true ≡ false → A

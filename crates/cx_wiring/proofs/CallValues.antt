@@ -12,7 +12,7 @@ use Rattle.cx_meaning.specs.Designs.{PlainGuard, Always, Atom, Negation, All, An
 use Rattle.cx_meaning.specs.Rows.{side_of}
 use Rattle.cx_meaning.specs.Instances.{Instance, OfRow, cell_at, cells_of, part_of}
 use Rattle.cx_meaning.specs.Active.{Active, Owned, Acting, group, only_at, same_port, offset_of, source_order, drivers}
-use Rattle.cx_meaning.specs.Truths.{Truth, One, Zero, truth_of, truth_of_bit, not_truth, and_truth, or_truth}
+use Rattle.cx_meaning.specs.Truths.{One, Zero, truth_of, truth_of_bit, not_truth, and_truth, or_truth}
 use Rattle.cx_meaning.specs.Sights.{Look, In, guard_truth, all_truth, any_truth}
 use Rattle.cx_rules.specs.CallShape.{go_port, done_port, register_done, one, is_atom, is_always, is_negated, is_right_go, is_right_enable, is_register_enable, with_target, captured, wanted_dones, conjuncts, are_dones, is_right_done_assign, is_right_done}
 use Rattle.cx_rules.proofs.FoundLemmas.{same_is}

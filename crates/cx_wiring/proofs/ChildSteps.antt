@@ -8,7 +8,7 @@ use Rattle.cx_meaning.specs.declared.ports.PortRef.TheVariants as ports
 use Rattle.cx_meaning.specs.declared.sights.Seen.TheVariants.{Value}
 use Rattle.cx_meaning.specs.declared.kinds.GroupKind.{GroupKind}
 use Rattle.cx_meaning.specs.declared.kinds.GroupKind.TheVariants as kinds
-use Rattle.cx_meaning.specs.Designs.{PlainComponent, PlainDesign, PlainForm, Empty, Enable, Seq, Par, If, While, Repeat, StaticSeq, StaticPar, StaticIf, StaticRepeat, Timed, PlainStatement, Placed, group_at}
+use Rattle.cx_meaning.specs.Designs.{PlainComponent, PlainDesign, PlainForm, Enable, Placed, group_at}
 use Rattle.cx_meaning.specs.Instances as instances
 use Rattle.cx_meaning.specs.Instances.{Instance, Cells, OfInstance, cell_at, Path, State, idle_below}
 use Rattle.cx_meaning.specs.Active.{capture}
@@ -20,7 +20,6 @@ use Rattle.cx_meaning.specs.Calls.{called, captures}
 use Rattle.cx_meaning.specs.Running.{leaves, control_below}
 use Rattle.cx_rules.specs.Items.{is_plain, is_comb}
 use Rattle.cx_rules.specs.Footprints.{Reads}
-use Rattle.cx_rules.specs.Wellformed.{IsWith}
 use Rattle.cx_frames.specs.Rests.{IsUndriven}
 use Rattle.cx_lockstep.specs.Worlds.{Control, At, Done, Machine, edge_of, is_done}
 use Rattle.cx_lockstep.specs.Statements.{LeafMachines}
@@ -54,7 +53,7 @@ use Rattle.cx_wiring.proofs.NodeRules.{NodeRules}
 use Rattle.cx_wiring.proofs.CellEdges.{driver_there}
 use Rattle.cx_wiring.proofs.NodeCells.{CellRules, child_waits}
 use Rattle.cx_wiring.proofs.NodeRuns.{ChildMoves, ChildSteps, moves, waits}
-use Rattle.cx_wiring.proofs.GoingLaws.{told_in, HoleAgrees, HasComb, Source, of_group, of_timed, of_static, of_comb, going_source, comb_is}
+use Rattle.cx_wiring.proofs.GoingLaws.{told_in, HoleAgrees, Source, of_group, of_timed, of_static, of_comb, going_source, comb_is}
 
 -- a group is not both plain and comb
 plain_comb : {A : Type 0} (kind : GroupKind) → is_plain kind ≡ true → is_comb kind ≡ true → A

@@ -1,5 +1,5 @@
 -- Where the nodes of a component in its net have what their own rules give, its control has one cycle of its own drivers.
-use Rattle.std.proofs.Common.{◌≡◌, ℕ, zero, suc, ◌+◌, ◌<◌, ◌≤◌, Bool, true, false, if◌then◌else◌, List, [], ◌∷◌, ◌++◌, length, Option, Some, None, option_map, option_and_then, unwrap_or, slice_get, refl, sym, ap, ◌∙◌, subst, arith, length-append}
+use Rattle.std.proofs.Common.{◌≡◌, ℕ, suc, ◌+◌, ◌<◌, ◌≤◌, Bool, true, false, if◌then◌else◌, List, [], ◌∷◌, ◌++◌, length, Option, Some, None, option_map, option_and_then, unwrap_or, slice_get, refl, sym, ap, ◌∙◌, subst, arith, length-append}
 use Rattle.std.proofs.lemmas.Bool.{lt-ltb}
 use Rattle.cx_bits.specs.BitVector.{BitVector}
 use Rattle.cx_prim.specs.MemoryLaws.{slice_get-append}
@@ -22,7 +22,6 @@ use Rattle.cx_wiring.specs.Control.{whole_stand, finishing, drivers_of}
 use Rattle.cx_wiring.specs.Assignments.{driven_assigns, assigns_drivers}
 use Rattle.cx_wiring.specs.Wiring.{groups, first_of_control, first_of_assigns, bits, plain_wires, plain_drivers, component_registers, component_driven, port_width, target_width, net_component}
 use Rattle.cx_wiring.specs.Standing.{StatementBits}
-use Rattle.cx_wiring.specs.Shown.{wide}
 use Rattle.cx_wiring.specs.Takings.{takes, AreRegisters}
 use Rattle.cx_wiring.proofs.TakingLemmas.{takes_append, others_pass, register_takes}
 use Rattle.cx_wiring.proofs.NetTargets.{plain_wires_count}

@@ -1,5 +1,5 @@
 -- The net of an accepted design is grounded: the wires of its islands are bits in every state that comes.
-use Rattle.std.proofs.Common.{◌≡◌, ℕ, zero, suc, ◌+◌, ◌<◌, ◌≤◌, ◌==◌, Bool, true, false, List, [], ◌∷◌, refl, sym, ap, ◌∙◌, subst, arith}
+use Rattle.std.proofs.Common.{◌≡◌, ℕ, zero, suc, ◌<◌, ◌≤◌, ◌==◌, true, false, List, [], ◌∷◌, sym, ap, ◌∙◌, subst, arith}
 use Rattle.std.specs.Option.{option_map_or}
 use Rattle.cx_prim.specs.Rows.{Row}
 use Rattle.cx_meaning.specs.Designs.{PlainComponent, PlainDesign}

@@ -1,15 +1,15 @@
 -- The net of an accepted design holds what its rows and registers can, from the reset on, so that a whole look of it solves the equations.
-use Rattle.std.proofs.Common.{◌≡◌, ℕ, ◌<◌, Bool, true, false, List, [], ◌∷◌, length, map, Option, Some, None, IsSome, refl, sym, ap, ◌∙◌, subst}
+use Rattle.std.proofs.Common.{◌≡◌, ℕ, ◌<◌, Bool, true, false, List, [], length, Option, Some, None, IsSome, refl, sym, ap, ◌∙◌, subst}
 use Rattle.cx_bits.specs.BitVector.{BitVector}
-use Rattle.cx_text.specs.Loading.{PlainMemory, FitsRows}
+use Rattle.cx_text.specs.Loading.{FitsRows}
 use Rattle.cx_meaning.specs.declared.kinds.PortDecl.{PortDecl}
-use Rattle.cx_meaning.specs.Designs.{PlainDesign, component_at}
+use Rattle.cx_meaning.specs.Designs.{PlainDesign}
 use Rattle.cx_meaning.specs.Instances.{Path, tree_of}
 use Rattle.cx_rules.specs.Accepted.{IsAccepted}
 use Rattle.cx_rules.specs.Wellformed.{IsDesign}
 use Rattle.cx_rules.specs.Ports.{declared_width}
 use Rattle.cx_net.specs.Nets.{PlainNetComponent, PlainNet}
-use Rattle.cx_net.specs.NetTree.{NetInstance, net_part, net_component_at, net_tree}
+use Rattle.cx_net.specs.NetTree.{NetInstance, net_part, net_tree}
 use Rattle.cx_net.specs.NetMeaning.{NetState, Node, NetLook, NetHas, outside, truth_bit}
 use Rattle.cx_net.specs.NetEdges.{net_after}
 use Rattle.cx_net.specs.NetRuns.{IsWholeLook, AreWords, net_start, Comes, at_reset, at_first, at_next}

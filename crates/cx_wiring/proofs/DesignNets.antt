@@ -1,7 +1,6 @@
 -- THE NET OF AN ACCEPTED DESIGN REALISES IT, from what the machine of its control and the first state of its cells keep.
-use Rattle.std.proofs.Common.{◌≡◌, ℕ, List, []}
+use Rattle.std.proofs.Common.{◌≡◌, ℕ, List}
 use Rattle.cx_meaning.specs.Designs.{PlainComponent, PlainDesign}
-use Rattle.cx_meaning.specs.Instances as instances
 use Rattle.cx_meaning.specs.Instances.{Instance, Cells, OfInstance, cell_at, Path, tree_of, instance_at, start, IsSettled}
 use Rattle.cx_rules.specs.Accepted.{IsAccepted}
 use Rattle.cx_rules.specs.Wellformed.{IsDesign}

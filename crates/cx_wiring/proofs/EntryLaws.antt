@@ -1,9 +1,8 @@
 -- THE LISTS GIVE THE ENTRIES: in a cycle of an island the occurrences whose timer runs, whose range holds its count and whose samples
 -- are as wanted are the groups that are active by the samples, in their order, each at its offset.
-use Rattle.std.proofs.Common.{◌≡◌, ℕ, zero, suc, ◌+◌, ◌-◌, ◌*◌, ◌%◌, ◌<◌, ◌≤◌, max, ⊎_elim, not, nat_le, nat_lt, ◌&&◌, Bool, true, false, if◌then◌else◌, List, [], ◌∷◌, ◌++◌, length, Option, Some, None, option_map, option_and_then, unwrap_or, slice_get, refl, sym, ap, ◌∙◌, subst, arith, length-append}
-use Rattle.std.proofs.lemmas.Bool.{cases_lt, lt-ltb, le-ltb}
+use Rattle.std.proofs.Common.{◌≡◌, ℕ, suc, ◌+◌, ◌-◌, ◌*◌, ◌%◌, ◌≤◌, max, ⊎_elim, not, nat_lt, Bool, true, false, if◌then◌else◌, List, [], ◌∷◌, ◌++◌, length, Option, Some, None, option_map, option_and_then, unwrap_or, slice_get, refl, sym, ap, ◌∙◌, arith}
+use Rattle.std.proofs.lemmas.Bool.{cases_lt}
 use Rattle.std.proofs.lemmas.List.{append_assoc, append-nil}
-use Rattle.cx_text.specs.declared.places.Place.{Place}
 use Rattle.cx_meaning.specs.Designs.{PlainCell, PlainComponent, PlainForm, Empty, Enable, Seq, Par, If, While, Repeat, StaticSeq, StaticPar, StaticIf, StaticRepeat, Timed, PlainStatement, Placed, PlainStatements, no_statements, a_statement}
 use Rattle.cx_meaning.specs.Active.{Entry}
 use Rattle.cx_meaning.specs.Islands.{or_zero, group_length, form_length, length_of, sum_length, max_length}
@@ -14,8 +13,8 @@ use Rattle.cx_static.specs.declared.islands.IslandTimer.{IslandTimer}
 use Rattle.cx_static.specs.Islands.{PlainPoint, PlainOccurrence}
 use Rattle.cx_static.specs.Lowering.{Gathered, Begin, begin_at, later, if_sampled, timer_cell, with_timer, with_point, with_occurrence, form_gathered, gathered, parts_gathered, arms_gathered}
 use Rattle.cx_wiring.specs.TimerCounts.{nested, kind_cycles, cycles_at}
-use Rattle.cx_wiring.proofs.GatherLaws.{get_end, one_more, form_grows, grows, parts_grow, arms_grow}
-use Rattle.cx_wiring.proofs.IslandOffsets.{range_in, lies, before, in_it, behind, at_before, at_in, at_behind, are_wanted, live_in, live_short, live_behind, live_round, live_true, live_false}
+use Rattle.cx_wiring.proofs.GatherLaws.{get_end, one_more, grows, parts_grow, arms_grow}
+use Rattle.cx_wiring.proofs.IslandOffsets.{range_in, at_before, at_behind, are_wanted, live_in, live_short, live_behind, live_round, live_true, live_false}
 use Rattle.cx_wiring.proofs.FitLemmas.{slice_left}
 
 -- what stands at an offset, where there is one

@@ -1,26 +1,25 @@
 -- In the tree of a net that fits expressions name what is there, and each node of one bit is a node of that width on a path from main.
-use Rattle.std.proofs.Common.{◌≡◌, ℕ, zero, suc, ◌+◌, ◌-◌, ◌<◌, ◌≤◌, ◌==◌, ◌&&◌, Bool, true, false, List, [], ◌∷◌, ◌++◌, length, map, Option, Some, None, option_map, option_and_then, unwrap_or, slice_get, nat_lt, if◌then◌else◌, append_assoc, length-append, IsSome, refl, sym, ap, ap₂, ◌∙◌, subst, arith}
+use Rattle.std.proofs.Common.{◌≡◌, ℕ, zero, suc, ◌+◌, ◌-◌, ◌<◌, ◌≤◌, ◌==◌, ◌&&◌, Bool, true, false, List, [], ◌∷◌, ◌++◌, length, map, Option, Some, None, option_map, option_and_then, unwrap_or, slice_get, nat_lt, if◌then◌else◌, append_assoc, length-append, IsSome, refl, sym, ap, ◌∙◌, subst, arith}
 use Rattle.std.specs.Option.{option_map_or}
-use Rattle.std.proofs.lemmas.Bool.{eqb-true, lt-ltb, le-ltb, ltb-true, ltb-false}
+use Rattle.std.proofs.lemmas.Bool.{eqb-true, lt-ltb, ltb-true, ltb-false}
 use Rattle.std.proofs.lemmas.List.{length-map}
 use Rattle.std.proofs.lemmas.Option.{slice_get-map, slice_get_within}
 use Rattle.cx_bits.specs.BitVector.{BitVector}
 use Rattle.cx_prim.specs.declared.ports.PortRow.{PortRow}
-use Rattle.cx_prim.specs.Rows.{Row}
 use Rattle.cx_prim.specs.Table.{row_of}
 use Rattle.cx_meaning.specs.declared.kinds.PortDecl.{PortDecl}
 use Rattle.cx_meaning.specs.declared.ports.PortRef.{PortRef}
 use Rattle.cx_meaning.specs.declared.ports.PortRef.TheVariants as ports
 use Rattle.cx_meaning.specs.Designs.{PlainKind, OfPrimitive, OfComponent, PlainCell}
 use Rattle.cx_meaning.specs.Instances.{Path}
-use Rattle.cx_meaning.specs.Sights.{PartPort, Go, AnInput, AnOutput, ItsDone, later_port, output_port}
-use Rattle.cx_net.specs.Nets.{PlainNetExpr, OfPort, OfRegister, OfWire, OfHole, OfGo, Fixed, Inverse, AllOf, AnyOf, Sum, Compares, PlainNetExprs, no_exprs, an_expr, PlainNetTarget, ToPort, ToRegister, ToWire, ToHole, ToDone, PlainNetDriver, PlainNetComponent, PlainNet}
-use Rattle.cx_net.specs.NetTree.{NetInstance, NetNode, NetCells, no_net_cells, a_row, a_child, NetAt, NoCell, ARow, AChild, net_part, net_cell_at, net_component_at, add_net_cell, net_cells_for, net_within, net_tree}
+use Rattle.cx_meaning.specs.Sights.{AnInput, AnOutput, ItsDone, output_port}
+use Rattle.cx_net.specs.Nets.{PlainNetExpr, OfPort, OfRegister, OfWire, OfHole, OfGo, Fixed, Inverse, AllOf, AnyOf, Sum, Compares, PlainNetExprs, no_exprs, an_expr, PlainNetDriver, PlainNetComponent, PlainNet}
+use Rattle.cx_net.specs.NetTree.{NetInstance, NetCells, NetAt, NoCell, net_part, net_cell_at, net_component_at, add_net_cell, net_cells_for, net_within, net_tree}
 use Rattle.cx_net.specs.NetMeaning.{NetState, Node, APort, AWire, AHole, TheDone, NetLook, NetHas, truth_bit, decl_width, child_port_width, net_at_width, net_part_port, is_port_of, is_own_node, is_node}
 use Rattle.cx_net.specs.NetRuns.{IsWholeLook}
 use Rattle.cx_net.specs.NetPaths.{LeadsTo, width_of_node}
 use Rattle.cx_net.specs.NetHolds.{Holds, IsWide, RowsAreWide}
-use Rattle.cx_net.specs.NetFits.{target_width, signature_widths, kind_width, port_width, HasPortWidth, HasWidth, AreBits, IsFitDriver, IsFitKind, IsFitComponent, IsFit}
+use Rattle.cx_net.specs.NetFits.{target_width, signature_widths, kind_width, HasPortWidth, HasWidth, AreBits, IsFitKind, IsFit}
 use Rattle.cx_net.proofs.DriverLemmas.{at_kind, cell-at, part-within, there-at}
 use Rattle.cx_net.proofs.WidthLaws.{bit_is, values_wide}
 use Rattle.cx_net.proofs.PortWidths.{append-front, append-back}

@@ -1,17 +1,12 @@
 -- What is gathered of an island, by what each timer, point and occurrence adds.
-use Rattle.std.proofs.Common.{◌≡◌, ℕ, zero, suc, ◌+◌, ◌*◌, ◌<◌, ◌≤◌, max, true, false, List, [], ◌∷◌, ◌++◌, length, Option, Some, None, slice_get, refl, sym, ap, ◌∙◌, subst, arith, length-append}
-use Rattle.std.specs.Prelude.{option_map, unwrap_or}
+use Rattle.std.proofs.Common.{◌≡◌, ℕ, zero, suc, ◌+◌, ◌*◌, ◌<◌, true, false, List, [], ◌∷◌, ◌++◌, length, Option, Some, None, slice_get, refl, ap, ◌∙◌, arith}
 use Rattle.cx_text.specs.declared.places.Place.{Place}
 use Rattle.cx_meaning.specs.declared.ports.PortRef.{PortRef}
 use Rattle.cx_meaning.specs.Designs.{PlainCell, PlainComponent, PlainForm, Empty, Enable, Seq, Par, If, While, Repeat, StaticSeq, StaticPar, StaticIf, StaticRepeat, Timed, PlainStatement, Placed, PlainStatements, no_statements, a_statement}
-use Rattle.cx_meaning.specs.Islands.{group_length, form_length, length_of, sum_length, max_length}
-use Rattle.cx_static.specs.declared.islands.Sample.{Sample}
+use Rattle.cx_meaning.specs.Islands.{group_length, form_length, length_of}
 use Rattle.cx_static.specs.declared.islands.IslandTimer.{IslandTimer}
-use Rattle.cx_static.specs.Islands.{PlainPoint, PlainOccurrence, PlainIsland}
-use Rattle.cx_static.specs.Lowering.{Gathered, Begin, begin_at, later, sampled, if_sampled, timer_cell, with_timer, with_point, with_occurrence, form_gathered, gathered, parts_gathered, arms_gathered, island_gathered}
-use Rattle.cx_wiring.specs.TimerCounts.{cycles_at}
+use Rattle.cx_static.specs.Lowering.{Gathered, Begin, begin_at, later, if_sampled, timer_cell, with_timer, with_point, with_occurrence, form_gathered, gathered, parts_gathered, arms_gathered, island_gathered}
 use Rattle.cx_wiring.proofs.FitLemmas.{slice_left}
-use Rattle.cx_wiring.proofs.FitTrees.{some_at}
 
 pub get_end : {A : Type 0} (xs : List A) (y : A) → slice_get (xs ++ y ∷ []) (length xs) ≡ Some y
 get_end [] y = refl

@@ -13,15 +13,15 @@ use Rattle.cx_meaning.specs.Cycles.{Fault}
 use Rattle.cx_meaning.specs.Control.{with_comb, groups_in, groups_of, groups_in_all, group_drives, groups_drive, drives}
 use Rattle.cx_meaning.specs.Islands.{group_length}
 use Rattle.cx_rules.specs.Wellformed.{IsForm, IsWith}
-use Rattle.cx_rules.specs.Items.{Dynamic, statements_in, test_in}
+use Rattle.cx_rules.specs.Items.{Dynamic, test_in}
 use Rattle.cx_rules.specs.StaticControl.{is_static}
 use Rattle.cx_rules.specs.Footprints.{Reads, driven}
 use Rattle.cx_rules.proofs.ForeignLemmas.{or_right}
 use Rattle.cx_lockstep.specs.Worlds.{Control, At, Done, Machine, faults}
-use Rattle.cx_lockstep.specs.Machines.{InSeq, First, Second, InPar, left_of, right_of, InIf, AtTest, InThen, InElse, InWhile, AtHead, InBody, unclear, par_machine}
-use Rattle.cx_lockstep.specs.Statements.{LeafMachines, machine_of, form_machine, parts_machine, arms_machine}
+use Rattle.cx_lockstep.specs.Machines.{First, Second, InPar, left_of, right_of, AtTest, InThen, InElse, AtHead, InBody, unclear, par_machine}
+use Rattle.cx_lockstep.specs.Statements.{LeafMachines, machine_of, parts_machine, arms_machine}
 use Rattle.cx_lockstep.specs.Lawful.{IsPart, of_seq, of_par, then_branch, else_branch, of_while, of_repeat, Apart, AreApart}
-use Rattle.cx_lockstep.specs.Running.{Running, AGroup, AnIsland, at_control, seq_runs, par_runs, leaf_of, running, parts_run, arms_run}
+use Rattle.cx_lockstep.specs.Running.{Running, AGroup, AnIsland, at_control, par_runs, leaf_of, running, parts_run, arms_run}
 use Rattle.cx_lockstep.proofs.RunningLaws.{in_either, in_left, in_right}
 use Rattle.cx_lockstep.proofs.ArmLaws as arm_laws
 use Rattle.cx_control.specs.Codings.{at_fine}
@@ -30,10 +30,10 @@ use Rattle.cx_control.specs.Spots.{Spot, Cell, Holds, Kept, spots_of, reads_spot
 use Rattle.cx_control.specs.Leaves.{Coded, leaf_machines}
 use Rattle.cx_control.specs.InstanceRules.{Stands}
 use Rattle.cx_control.specs.ControlRules.{ControlRules}
-use Rattle.cx_control.proofs.StandLaws.{stands_visited, parts_stand, part_reads, are_apart}
+use Rattle.cx_control.proofs.StandLaws.{parts_stand, part_reads, are_apart}
 use Rattle.cx_net.specs.NetMeaning.{truth_bit}
 use Rattle.cx_static.specs.Islands.{PlainIsland}
-use Rattle.cx_wiring.specs.Shown.{Going, told, comb_going, in_seq, in_par, in_if, in_while, if_going, while_going, enable_going, form_going, going, parts_going, arms_going, enable_agrees, TestAgrees, FormAgrees, StatementAgrees, PartsAgree, ArmsAgree}
+use Rattle.cx_wiring.specs.Shown.{Going, told, comb_going, in_par, enable_going, going, parts_going, arms_going, enable_agrees, TestAgrees, StatementAgrees, PartsAgree, ArmsAgree}
 
 -- the group is among these
 pub record IsGoing (g : ℕ) (xs : List Going) : Type 0 where

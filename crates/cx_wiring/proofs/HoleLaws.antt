@@ -1,11 +1,11 @@
 -- A hole takes what the assignments of its group's done give it, whether the group goes or not: holes rest on states alone.
-use Rattle.std.proofs.Common.{◌≡◌, inl, inr, ℕ, ◌+◌, ◌≤◌, ◌<◌, ◌==◌, Bool, true, false, if◌then◌else◌, List, [], ◌∷◌, Option, Some, None, refl, sym, ap, ◌∙◌, subst, arith}
+use Rattle.std.proofs.Common.{◌≡◌, ℕ, ◌+◌, ◌≤◌, ◌<◌, ◌==◌, Bool, true, false, if◌then◌else◌, List, [], ◌∷◌, Option, Some, None, refl, sym, ap, ◌∙◌, arith}
 use Rattle.std.proofs.lemmas.Bool.{eq-eqb, eqb-true}
 use Rattle.cx_bits.specs.BitVector.{BitVector}
 use Rattle.cx_meaning.specs.declared.ports.PortRef.{PortRef}
 use Rattle.cx_meaning.specs.declared.ports.PortRef.TheVariants as ports
 use Rattle.cx_meaning.specs.Designs.{PlainGuard}
-use Rattle.cx_meaning.specs.Active.{group, Owned, Acting, offset_of, if_target, if_acting, acting}
+use Rattle.cx_meaning.specs.Active.{group, Owned, offset_of, if_target, if_acting, acting}
 use Rattle.cx_flow.specs.Flows.{Values, guard_on, first_on}
 use Rattle.cx_net.specs.Nets.{PlainNetExpr, OfPort, OfWire, ToHole, ToWire, PlainNetDriver}
 use Rattle.cx_net.specs.NetMeaning.{Node, NetAround, same_target}

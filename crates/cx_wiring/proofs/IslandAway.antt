@@ -1,6 +1,6 @@
 -- Where control does not stand at an island, or its region does not act, no timer of it runs and nothing of it acts, whatever its
 -- counts and samples are; and its end is known in every cycle.
-use Rattle.std.proofs.Common.{◌≡◌, ℕ, zero, suc, ◌+◌, ◌-◌, ◌<◌, ◌≤◌, ◌==◌, ◌&&◌, inl, inr, not, nat_lt, Bool, true, false, List, [], ◌∷◌, ◌++◌, length, take, Option, Some, None, option_map, unwrap_or, slice_get, refl, sym, ap, ◌∙◌, subst, arith}
+use Rattle.std.proofs.Common.{◌≡◌, ℕ, zero, suc, ◌+◌, ◌<◌, ◌≤◌, ◌==◌, ◌&&◌, not, Bool, false, List, [], ◌∷◌, ◌++◌, length, take, Option, Some, option_map, unwrap_or, slice_get, refl, sym, ap, ◌∙◌, subst, arith}
 use Rattle.std.proofs.lemmas.Bool.{and_left}
 use Rattle.cx_text.specs.declared.places.Place.{Place}
 use Rattle.cx_bits.specs.BitVector.{BitVector}
@@ -8,26 +8,25 @@ use Rattle.cx_meaning.specs.declared.ports.PortRef.{PortRef}
 use Rattle.cx_meaning.specs.declared.ports.PortRef.TheVariants as ports
 use Rattle.cx_meaning.specs.Designs.{PlainComponent, Timed, Placed}
 use Rattle.cx_meaning.specs.Sights.{In}
-use Rattle.cx_net.specs.Nets.{OfPort, OfRegister, OfWire, ToRegister, PlainNetDriver}
+use Rattle.cx_net.specs.Nets.{OfWire, ToRegister}
 use Rattle.cx_net.specs.NetMeaning.{Node, APort, AWire, NetAround, truth_bit, same_target}
 use Rattle.cx_static.specs.declared.islands.Sample.{Sample}
 use Rattle.cx_static.specs.declared.islands.IslandTimer.{IslandTimer}
 use Rattle.cx_static.specs.Islands.{PlainPoint, PlainOccurrence, PlainIsland}
 use Rattle.cx_static.specs.Lowering.{lowered_component}
-use Rattle.cx_wiring.specs.Parts.{both, equals}
+use Rattle.cx_wiring.specs.Parts.{equals}
 use Rattle.cx_wiring.specs.Counts.{sample_registers}
-use Rattle.cx_wiring.specs.Stands.{Stand, at, ends, stands}
+use Rattle.cx_wiring.specs.Stands.{Stand, at}
 use Rattle.cx_wiring.specs.IslandDrivers as wired
 use Rattle.cx_wiring.specs.IslandDrivers.{wires_of_island, island_wires, first_of_island, timer_drivers, point_drivers, occurrence_drivers, island_drivers}
 use Rattle.cx_wiring.specs.Control.{timed_drivers, form_drivers}
 use Rattle.cx_wiring.specs.Wiring.{groups, first_of_control}
 use Rattle.cx_wiring.specs.Bounds.{AllDrive, OccurrencesName, IslandNames, IslandsName}
-use Rattle.cx_wiring.specs.Takings.{value, Says, takes, AllConnect, AllIdle, AreRegisters}
+use Rattle.cx_wiring.specs.Takings.{Says, AllConnect, AllIdle, AreRegisters}
 use Rattle.cx_wiring.specs.Standing.{IsStopped, IsIn, Away}
-use Rattle.cx_wiring.specs.IslandTakes.{TakesIsland, IslandNexts}
+use Rattle.cx_wiring.specs.IslandTakes.{IslandNexts}
 use Rattle.cx_wiring.specs.Shown.{wide}
 use Rattle.cx_wiring.specs.IslandNumbers.{cell_of_timer}
-use Rattle.cx_wiring.proofs.RoomLemmas.{drive_both}
 use Rattle.cx_wiring.proofs.TakingLemmas.{no_port_register, says_both, says_equals, others_pass, idle_both}
 use Rattle.cx_wiring.proofs.AwayLaws as away
 use Rattle.cx_wiring.proofs.AwayLaws.{differs}
@@ -37,7 +36,7 @@ use Rattle.cx_wiring.proofs.KnowLaws.{Known}
 use Rattle.cx_wiring.proofs.GatherLaws.{get_below}
 use Rattle.cx_wiring.proofs.IslandCells.{IsListed, listed}
 use Rattle.cx_wiring.proofs.TimerRows.{EachTimer}
-use Rattle.cx_wiring.proofs.IslandValues.{IslandLooks, live, says_live, says_active, count_is, live_first, live_within, says_begins, active_is, active, all_wanted}
+use Rattle.cx_wiring.proofs.IslandValues.{IslandLooks, live, says_live, says_active, count_is, live_first, live_within, says_begins, active_is, all_wanted}
 use Rattle.cx_wiring.proofs.FitTrees.{some_at}
 
 pub named_at : (groups : ℕ) (list : List PlainOccurrence) → OccurrencesName groups list → (j : ℕ) (v : PlainOccurrence) → slice_get list j ≡ Some v → v.group < groups

@@ -1,28 +1,25 @@
 -- The wires of an island in one of its cycles: which timers run, the samples that are taken, the enables that are active.
-use Rattle.std.proofs.Common.{◌≡◌, ℕ, zero, suc, ◌+◌, ◌-◌, ◌<◌, ◌≤◌, ◌==◌, ◌&&◌, inl, inr, not, nat_lt, Bool, true, false, if◌then◌else◌, List, [], ◌∷◌, ◌++◌, length, Option, Some, None, unwrap_or, slice_get, refl, sym, ap, ap₂, ◌∙◌, subst, arith}
-use Rattle.std.proofs.lemmas.Bool.{lt-ltb, eq-eqb, ne_eqb}
+use Rattle.std.proofs.Common.{◌≡◌, ℕ, zero, suc, ◌+◌, ◌-◌, ◌<◌, ◌==◌, ◌&&◌, inl, inr, not, nat_lt, Bool, true, false, if◌then◌else◌, List, [], ◌∷◌, length, Option, Some, None, unwrap_or, slice_get, refl, sym, ap, ap₂, ◌∙◌, arith}
 use Rattle.cx_bits.specs.BitVector.{BitVector}
 use Rattle.cx_meaning.specs.declared.ports.PortRef.{PortRef}
-use Rattle.cx_meaning.specs.declared.ports.PortRef.TheVariants as ports
 use Rattle.cx_meaning.specs.Designs.{PlainCell, PlainComponent, PlainForm}
 use Rattle.cx_meaning.specs.Islands.{or_zero, form_length}
 use Rattle.cx_meaning.specs.Active.{Entry}
 use Rattle.cx_meaning.specs.Sights.{In}
 use Rattle.cx_control.specs.Sampling.{taken, form_now}
-use Rattle.cx_control.specs.Controls.{bit}
 use Rattle.cx_laws.specs.Positions.{FormIfs, entry_at, no_entry}
 use Rattle.cx_laws.specs.Samples.{form_ifs, form_by}
-use Rattle.cx_net.specs.Nets.{PlainNetExpr, OfPort, OfRegister, ToWire}
-use Rattle.cx_net.specs.NetMeaning.{Node, AWire, NetAround, is_true, truth_bit, zero_wide}
+use Rattle.cx_net.specs.Nets.{OfPort, ToWire}
+use Rattle.cx_net.specs.NetMeaning.{Node, NetAround, is_true, truth_bit, zero_wide}
 use Rattle.cx_static.specs.declared.islands.Sample.{Sample}
 use Rattle.cx_static.specs.declared.islands.IslandTimer.{IslandTimer}
 use Rattle.cx_static.specs.Islands.{PlainPoint, PlainOccurrence}
-use Rattle.cx_static.specs.Lowering.{Gathered, begin_at, form_gathered, island_gathered, island_of}
+use Rattle.cx_static.specs.Lowering.{Gathered, begin_at, island_gathered, island_of}
 use Rattle.cx_wiring.specs.Parts.{drive}
 use Rattle.cx_wiring.specs.Stands.{Stand, at}
 use Rattle.cx_wiring.specs.IslandDrivers as wired
 use Rattle.cx_wiring.specs.IslandDrivers.{island_drivers}
-use Rattle.cx_wiring.specs.Takings.{value, Says, takes, takes_of}
+use Rattle.cx_wiring.specs.Takings.{value, Says}
 use Rattle.cx_wiring.specs.TimerCounts.{nested, cycles_at, counts_in}
 use Rattle.cx_wiring.proofs.TakingLemmas.{true_bit, takes_known}
 use Rattle.cx_wiring.proofs.GatherLaws.{get_below}

@@ -1,10 +1,9 @@
 -- An island has no number behind the samples of its static ifs.
-use Rattle.std.proofs.Common.{◌≡◌, ℕ, zero, suc, ◌+◌, ◌<◌, ◌≤◌, nat_lt, Bool, true, false, if◌then◌else◌, List, [], ◌∷◌, ◌++◌, length, Option, Some, None, slice_get, refl, sym, ap, ◌∙◌, subst, arith}
+use Rattle.std.proofs.Common.{◌≡◌, ℕ, zero, suc, ◌+◌, ◌≤◌, if◌then◌else◌, List, [], ◌∷◌, ◌++◌, length, Option, Some, None, slice_get, refl, ap, ◌∙◌, arith}
 use Rattle.std.proofs.lemmas.Bool.{le-ltb}
-use Rattle.cx_text.specs.declared.places.Place.{Place}
 use Rattle.cx_meaning.specs.declared.kinds.GroupKind.{GroupKind}
 use Rattle.cx_meaning.specs.declared.kinds.GroupKind.TheVariants as kinds
-use Rattle.cx_meaning.specs.Designs.{PlainComponent, PlainDesign, PlainForm, Empty, Enable, Seq, Par, If, While, Repeat, StaticSeq, StaticPar, StaticIf, StaticRepeat, Timed, PlainStatement, Placed, group_at}
+use Rattle.cx_meaning.specs.Designs.{PlainComponent, PlainDesign, PlainForm, Empty, Enable, Seq, Par, If, While, Repeat, StaticSeq, StaticPar, StaticIf, StaticRepeat, Timed, Placed, group_at}
 use Rattle.cx_meaning.specs.Instances as instances
 use Rattle.cx_meaning.specs.Instances.{Cells}
 use Rattle.cx_meaning.specs.Islands.{group_length, kind_length, form_length}
@@ -14,7 +13,7 @@ use Rattle.cx_control.specs.Controls.{kind_coding, coded_below}
 use Rattle.cx_control.specs.ControlRules.{ControlRules}
 use Rattle.cx_net.specs.NetMeaning.{NetState}
 use Rattle.cx_static.specs.Islands.{PlainIsland}
-use Rattle.cx_static.specs.Lowering.{Gathered, island_of, island_gathered, begin_at, with_timer, Lowering, with_island, after_enable, lowered_enable, after, lowered, lowered_component, unlowered}
+use Rattle.cx_static.specs.Lowering.{island_of, island_gathered, begin_at, with_timer, Lowering, with_island, after_enable, lowered_enable, after, lowered_component, unlowered}
 use Rattle.cx_wiring.specs.IslandNumbers.{island_number, of_island}
 use Rattle.cx_wiring.proofs.IslandCells.{IsBefore}
 use Rattle.cx_wiring.proofs.EntryLaws.{form_points}

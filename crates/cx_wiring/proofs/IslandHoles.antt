@@ -1,21 +1,21 @@
 -- Which goes an island gives in one cycle: those of the groups that are active, and those of its timers that run.
-use Rattle.std.proofs.Common.{◌≡◌, ℕ, zero, suc, ◌+◌, ◌<◌, ◌≤◌, ◌==◌, Bool, true, false, if◌then◌else◌, List, [], ◌∷◌, ◌++◌, length, Option, Some, None, slice_get, refl, sym, ap, ◌∙◌, subst, arith}
+use Rattle.std.proofs.Common.{◌≡◌, ℕ, zero, suc, ◌+◌, ◌<◌, ◌==◌, Bool, true, false, if◌then◌else◌, List, [], ◌∷◌, ◌++◌, length, Option, Some, None, slice_get, refl, sym, ap, ◌∙◌, subst, arith}
 use Rattle.std.proofs.lemmas.Bool.{eq-eqb}
 use Rattle.cx_bits.specs.BitVector.{BitVector}
 use Rattle.cx_meaning.specs.declared.ports.PortRef.TheVariants as ports
 use Rattle.cx_meaning.specs.Active.{Entry}
 use Rattle.cx_laws.specs.Positions.{entry_at}
-use Rattle.cx_net.specs.Nets.{OfWire, ToPort, ToRegister, ToWire, ToHole, PlainNetTarget, PlainNetDriver}
+use Rattle.cx_net.specs.Nets.{OfWire, ToPort, ToHole}
 use Rattle.cx_net.specs.NetMeaning.{Node, NetAround, truth_bit, same_target}
 use Rattle.cx_static.specs.declared.islands.IslandTimer.{IslandTimer}
 use Rattle.cx_static.specs.Islands.{PlainPoint, PlainOccurrence, PlainIsland}
-use Rattle.cx_wiring.specs.Parts.{one, both, drive}
-use Rattle.cx_wiring.specs.Stands.{Stand, at, ends}
+use Rattle.cx_wiring.specs.Parts.{one, drive}
+use Rattle.cx_wiring.specs.Stands.{Stand}
 use Rattle.cx_wiring.specs.IslandDrivers as wired
 use Rattle.cx_wiring.specs.IslandDrivers.{timer_drivers, point_drivers, occurrence_drivers, island_drivers}
 use Rattle.cx_wiring.specs.Bounds.{AllDrive}
-use Rattle.cx_wiring.specs.Takings.{value, Says, takes, takes_of}
-use Rattle.cx_wiring.specs.Shown.{Going, told}
+use Rattle.cx_wiring.specs.Takings.{Says, takes, takes_of}
+use Rattle.cx_wiring.specs.Shown.{told}
 use Rattle.cx_wiring.proofs.TakingLemmas.{takes_append, takes_known, passes, others_pass}
 use Rattle.cx_wiring.proofs.FormTurns.{go_known, told_append}
 use Rattle.cx_wiring.proofs.AwayLaws.{differs}

@@ -1,6 +1,6 @@
 -- Where nothing of a component's control acts, its timers go to the start: so the counts and dones of its islands are 0, and samples
 -- stay where their registers do.
-use Rattle.std.proofs.Common.{◌≡◌, ℕ, zero, suc, ◌+◌, ◌-◌, ◌%◌, ◌<◌, ◌≤◌, ◌==◌, ◌&&◌, nat_le, nat_lt, nat_eq, Bool, true, false, if◌then◌else◌, List, [], ◌∷◌, length, Option, Some, None, option_map, unwrap_or, slice_get, refl, sym, ap, ◌∙◌, subst, arith}
+use Rattle.std.proofs.Common.{◌≡◌, ℕ, zero, suc, ◌+◌, ◌-◌, ◌%◌, ◌<◌, ◌≤◌, ◌&&◌, nat_le, nat_lt, nat_eq, Bool, true, false, if◌then◌else◌, List, [], ◌∷◌, length, Option, Some, None, option_map, unwrap_or, slice_get, refl, sym, ap, ◌∙◌, arith}
 use Rattle.std.proofs.lemmas.Bool.{eq-eqb, ltb-true}
 use Rattle.std.proofs.Math.Nat.{zero-mod}
 use Rattle.cx_prim.specs.CellStates.{CellState, Timer}
@@ -9,7 +9,7 @@ use Rattle.cx_meaning.specs.Islands.{or_zero}
 use Rattle.cx_static.specs.declared.islands.IslandTimer.{IslandTimer}
 use Rattle.cx_static.specs.Islands.{PlainIsland}
 use Rattle.cx_wiring.specs.TimerCounts.{nested, cycles_at, timer_within, timer_count, counts_from, counts_in, all_count}
-use Rattle.cx_wiring.specs.IslandNumbers.{count_in, done_in, cell_of_timer, timer_counts, are_in_step, island_count, island_number}
+use Rattle.cx_wiring.specs.IslandNumbers.{count_in, done_in, cell_of_timer, timer_counts, island_count, island_number}
 use Rattle.cx_wiring.proofs.IdleNumbers.{IslandIdled}
 use Rattle.cx_wiring.proofs.FitTrees.{some_at}
 

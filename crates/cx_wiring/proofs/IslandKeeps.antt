@@ -1,8 +1,8 @@
 -- What the registers of an island's samples take: 0 in its last cycle, the port where its static if begins, and else what they have.
-use Rattle.std.proofs.Common.{◌≡◌, ℕ, zero, suc, ◌+◌, ◌-◌, ◌<◌, ◌≤◌, ◌==◌, Bool, true, false, if◌then◌else◌, List, [], ◌∷◌, ◌++◌, length, Option, Some, None, slice_get, refl, sym, ap, ◌∙◌, subst, arith}
+use Rattle.std.proofs.Common.{◌≡◌, ℕ, zero, suc, ◌+◌, ◌<◌, Bool, true, false, if◌then◌else◌, List, [], ◌∷◌, ◌++◌, Option, Some, slice_get, refl, ap, ◌∙◌, arith}
 use Rattle.std.proofs.lemmas.Bool.{eq-eqb}
 use Rattle.cx_bits.specs.BitVector.{BitVector}
-use Rattle.cx_net.specs.Nets.{PlainNetExpr, OfPort, ToPort, ToRegister, PlainNetDriver}
+use Rattle.cx_net.specs.Nets.{OfPort, ToRegister, PlainNetDriver}
 use Rattle.cx_net.specs.NetMeaning.{Node, NetAround, truth_bit, same_target}
 use Rattle.cx_static.specs.declared.islands.IslandTimer.{IslandTimer}
 use Rattle.cx_static.specs.Islands.{PlainPoint, PlainOccurrence, PlainIsland}
@@ -12,7 +12,7 @@ use Rattle.cx_wiring.specs.IslandDrivers as wired
 use Rattle.cx_wiring.specs.IslandDrivers.{timer_drivers, point_drivers, occurrence_drivers, island_drivers}
 use Rattle.cx_wiring.specs.Bounds.{AllDrive}
 use Rattle.cx_wiring.specs.Takings.{value, Says, takes, takes_of}
-use Rattle.cx_wiring.proofs.TakingLemmas.{takes_append, takes_known, others_pass, no_port_register}
+use Rattle.cx_wiring.proofs.TakingLemmas.{takes_append, takes_known, others_pass}
 use Rattle.cx_wiring.proofs.AwayLaws.{differs}
 
 module _ (groups : ℕ) (x : Stand) (first : ℕ) (island : PlainIsland) (around : NetAround) (registers : ℕ → Option BitVector) (look : Node → Option BitVector) where

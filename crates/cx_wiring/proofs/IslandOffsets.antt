@@ -1,9 +1,9 @@
 -- Where a statement of an island is in a cycle: its offset, from the counts of timers and the samples.
-use Rattle.std.proofs.Common.{◌≡◌, ℕ, zero, suc, ◌+◌, ◌-◌, ◌*◌, ◌%◌, ◌<◌, ◌≤◌, ◌⊎◌, inl, inr, ⊎_elim, ◌&&◌, not, nat_le, nat_lt, Bool, true, false, if◌then◌else◌, List, [], ◌∷◌, ◌++◌, length, Option, Some, None, option_map, option_and_then, slice_get, refl, sym, ap, ◌∙◌, subst, arith}
-use Rattle.std.proofs.lemmas.Bool.{cases_lt, lt-ltb, le-ltb, le-leb, lt-leb, ltb-true, leb-true}
+use Rattle.std.proofs.Common.{◌≡◌, ℕ, zero, suc, ◌+◌, ◌-◌, ◌*◌, ◌%◌, ◌<◌, ◌≤◌, ⊎_elim, ◌&&◌, not, nat_le, nat_lt, Bool, true, false, if◌then◌else◌, List, [], ◌∷◌, ◌++◌, Option, Some, None, option_map, option_and_then, refl, sym, ap, ◌∙◌, arith}
+use Rattle.std.proofs.lemmas.Bool.{cases_lt, lt-ltb, le-ltb, le-leb, lt-leb}
 use Rattle.std.proofs.lemmas.Nat.{mod_below}
 use Rattle.cx_static.specs.declared.islands.Sample.{Sample}
-use Rattle.cx_static.specs.Lowering.{Begin, begin_at, later, sampled, if_sampled}
+use Rattle.cx_static.specs.Lowering.{Begin, begin_at, later, if_sampled}
 use Rattle.cx_control.specs.Sampling.{within_length, behind_length, where_so}
 use Rattle.cx_wiring.specs.TimerCounts.{nested}
 

@@ -1,14 +1,14 @@
 -- Each target of an island is driven by that island alone: so where it takes what all of control gives it, it takes what the drivers of
 -- its island give it, where the island's statement stands.
-use Rattle.std.proofs.Common.{◌≡◌, ℕ, zero, suc, ◌+◌, ◌<◌, ◌≤◌, ◌⊎◌, inl, inr, false, List, [], ◌∷◌, ◌++◌, length, Option, Some, None, slice_get, refl, ap, ◌∙◌, arith, length-append}
+use Rattle.std.proofs.Common.{◌≡◌, ℕ, zero, suc, ◌+◌, ◌<◌, ◌≤◌, ◌⊎◌, inl, inr, false, List, [], ◌∷◌, ◌++◌, length, Option, Some, None, slice_get, ap, ◌∙◌, arith, length-append}
 use Rattle.cx_bits.specs.BitVector.{BitVector}
 use Rattle.cx_meaning.specs.Designs.{PlainComponent, PlainForm, Empty, Enable, Seq, Par, If, While, Repeat, StaticSeq, StaticPar, StaticIf, StaticRepeat, Timed, PlainStatement, Placed, PlainStatements, no_statements, a_statement}
 use Rattle.cx_meaning.specs.Islands.{group_length, form_length}
-use Rattle.cx_net.specs.Nets.{PlainNetExpr, AllOf, exprs_of, PlainNetTarget, ToPort, ToRegister, ToWire, ToHole, ToDone, PlainNetDriver}
+use Rattle.cx_net.specs.Nets.{PlainNetExpr, AllOf, exprs_of, PlainNetTarget, ToRegister, ToWire, ToHole, PlainNetDriver}
 use Rattle.cx_net.specs.NetMeaning.{Node, NetAround, same_target}
 use Rattle.cx_static.specs.Islands.{PlainIsland}
 use Rattle.cx_static.specs.Lowering.{Lowering, after_enable, form_after, after, parts_after, lowered_enable, lowered_form, lowered, lowered_parts, island_gathered, island_of}
-use Rattle.cx_wiring.specs.Counts.{wires_of, wires_in, registers_of}
+use Rattle.cx_wiring.specs.Counts.{wires_of, registers_of}
 use Rattle.cx_wiring.specs.Stands.{Stand, at, end_of, stands, ends, goes, inside, past_test, behind}
 use Rattle.cx_wiring.specs.Parts.{either}
 use Rattle.cx_wiring.specs.Control.{found_one, found_zero, comb_goes, timed_drivers, arm_stand, arm_restarts, arm_finishes, arms_over, counted_inside, counting, form_drivers, drivers_of, parts_drivers, arms_drivers}

@@ -1,5 +1,5 @@
 -- An island of which nothing acts goes on to rest: numbers of it that are 0 are 0 after the edge.
-use Rattle.std.proofs.Common.{◌≡◌, ℕ, zero, suc, ◌+◌, ◌<◌, ◌≤◌, false, List, [], ◌∷◌, length, Option, Some, None, slice_get, refl, sym, ap, ◌∙◌, subst}
+use Rattle.std.proofs.Common.{◌≡◌, ℕ, zero, suc, ◌+◌, ◌<◌, ◌≤◌, false, [], ◌∷◌, length, Option, Some, slice_get, refl, ap, ◌∙◌, subst}
 use Rattle.cx_bits.specs.BitVector.{BitVector}
 use Rattle.cx_prim.specs.CellStates.{Timer}
 use Rattle.cx_prim.specs.PipeRows.{timer_idle}

@@ -1,19 +1,17 @@
 -- The primitives that an island drives make at the edge the step that its machine writes, where what goes in the net is what is active in
 -- its cycle.
-use Rattle.std.proofs.Common.{◌≡◌, inl, inr, ℕ, suc, Bool, true, false, List, [], ◌∷◌, Option, Some, None, refl, sym, ap, ◌∙◌}
+use Rattle.std.proofs.Common.{◌≡◌, inl, ℕ, true, false, List, [], ◌∷◌, Option, Some, None, refl, sym, ap, ◌∙◌}
 use Rattle.cx_text.specs.declared.places.Place.{Place}
-use Rattle.cx_bits.specs.BitVector.{BitVector}
 use Rattle.cx_prim.specs.Rows.{Row}
-use Rattle.cx_prim.specs.declared.ports.Side.TheVariants as sides
 use Rattle.cx_meaning.specs.declared.kinds.GroupKind.{GroupKind}
 use Rattle.cx_meaning.specs.declared.kinds.GroupKind.TheVariants as kinds
 use Rattle.cx_meaning.specs.Designs.{PlainComponent, PlainDesign, PlainForm, Enable, Placed, group_at}
 use Rattle.cx_meaning.specs.Instances.{Instance, Node, Cells, OfRow, OfInstance, cell_at}
-use Rattle.cx_meaning.specs.Active.{Active, Entry, entries, group, nothing}
+use Rattle.cx_meaning.specs.Active.{Active, Entry, entries, nothing}
 use Rattle.cx_meaning.specs.Sights.{seen}
 use Rattle.cx_meaning.specs.Cycles.{Ended, Goes, Faults, Fault, cycle}
-use Rattle.cx_meaning.specs.Islands.{kind_length, group_length, turn_of, first_unclear, unless_unclear}
-use Rattle.cx_meaning.specs.Control.{group_drives, drives}
+use Rattle.cx_meaning.specs.Islands.{kind_length, turn_of, first_unclear, unless_unclear}
+use Rattle.cx_meaning.specs.Control.{drives}
 use Rattle.cx_rules.specs.Items.{Dynamic}
 use Rattle.cx_rules.specs.Footprints.{Reads, driven}
 use Rattle.cx_rules.specs.Circles.{IsAcyclic}
@@ -25,7 +23,6 @@ use Rattle.cx_flow.specs.Flows.{Values}
 use Rattle.cx_flow.proofs.CellLemmas.{quiet_step}
 use Rattle.cx_flow.proofs.TogetherLemmas.{together_acyclic}
 use Rattle.cx_lockstep.specs.Worlds.{Machine, edge_of}
-use Rattle.cx_lockstep.specs.Statements.{LeafMachines}
 use Rattle.cx_lockstep.specs.Running.{Running, AGroup, AnIsland, leaf_of, leaf_writes, leaf_faults}
 use Rattle.cx_control.specs.Spots.{Cell, Kept, cells_in, held_in}
 use Rattle.cx_control.specs.Leaves.{Coded, InIsland, Cycle, LastTurn, turn_writes, turn_faults, written, leaf_drives, sampled_now, island_writes, island_faults, kind_machine, leaf_machines}

@@ -1,11 +1,9 @@
 -- After the edge with reset all timers are at 0, so islands rest: their numbers are 0.
-use Rattle.std.proofs.Common.{◌≡◌, ℕ, zero, suc, ◌+◌, ◌-◌, ◌<◌, ◌≤◌, ◌%◌, ◌&&◌, nat_eq, nat_lt, nat_le, Bool, true, false, if◌then◌else◌, List, [], ◌∷◌, length, Option, Some, None, slice_get, option_map, unwrap_or, refl, sym, ap, ◌∙◌, subst, arith}
-use Rattle.std.proofs.Math.Nat.{zero-mod}
-use Rattle.cx_prim.specs.CellStates.{CellState, Timer, words_of, with_words}
+use Rattle.std.proofs.Common.{◌≡◌, ℕ, zero, suc, ◌+◌, ◌<◌, nat_lt, Bool, true, false, if◌then◌else◌, List, [], ◌∷◌, length, Option, Some, None, slice_get, refl, ap, ◌∙◌, arith}
+use Rattle.cx_prim.specs.CellStates.{CellState, Timer, with_words}
 use Rattle.cx_prim.specs.Rows.{Row, reset}
 use Rattle.cx_prim.specs.PipeRows.{timer_row}
 use Rattle.cx_meaning.specs.Designs.{PlainComponent, PlainDesign}
-use Rattle.cx_meaning.specs.Islands.{or_zero}
 use Rattle.cx_meaning.specs.Instances as instances
 use Rattle.cx_meaning.specs.Instances.{Instance, Cells, no_cells, a_primitive, an_instance, Path, just, loaded_at, instance_at, tree_of}
 use Rattle.cx_rules.specs.Accepted.{IsAccepted}
@@ -14,16 +12,14 @@ use Rattle.cx_net.specs.NetTree.{NetInstance, NetNode, net_part, NetCells, no_ne
 use Rattle.cx_net.specs.NetMeaning.{NetState, below_cell, NetLook}
 use Rattle.cx_net.specs.NetEdges.{cell_after, cell_below, net_after}
 use Rattle.cx_net.specs.NetRuns.{net_start_at, net_start_below, net_externals, started, net_start}
-use Rattle.cx_static.specs.declared.islands.IslandTimer.{IslandTimer}
 use Rattle.cx_static.specs.Islands.{PlainIsland}
 use Rattle.cx_static.specs.Lowering.{lowered_component}
 use Rattle.cx_wiring.specs.PartNets.{wired_in, timers_of}
-use Rattle.cx_wiring.specs.TimerCounts.{nested, cycles_at, timer_count, counts_from, counts_in}
-use Rattle.cx_wiring.specs.IslandNumbers.{count_in, done_in, cell_of_timer, timer_counts, island_number, of_island}
+use Rattle.cx_wiring.specs.IslandNumbers.{island_number, of_island}
 use Rattle.cx_wiring.specs.BlockNumbers.{component_numbers}
 use Rattle.cx_wiring.specs.Blocks.{net_of_instance, net_of_cells}
 use Rattle.cx_wiring.proofs.TreeRules.{AllNodes, CellsNodes, FineAt, all_nodes}
-use Rattle.cx_wiring.proofs.TimerRows.{EachTimer, IsTimerIn, timer_rows}
+use Rattle.cx_wiring.proofs.TimerRows.{EachTimer, timer_rows}
 use Rattle.cx_wiring.proofs.TimerRules.{TimerRules}
 use Rattle.cx_wiring.proofs.IslandIdles.{count_rests, done_rests}
 use Rattle.cx_wiring.proofs.IslandCells.{listed}

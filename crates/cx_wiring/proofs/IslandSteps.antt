@@ -1,7 +1,6 @@
 -- What an edge makes of the timers of an island in one of its cycles: they come to the counts of the next cycle, and after the last one
 -- to 0, with the first one done.
-use Rattle.std.proofs.Common.{◌≡◌, ℕ, zero, suc, ◌+◌, ◌*◌, ◌<◌, ◌≤◌, ◌==◌, Bool, true, false, if◌then◌else◌, List, [], ◌∷◌, length, Option, Some, None, option_map, unwrap_or, slice_get, refl, sym, ap, ◌∙◌, subst, arith}
-use Rattle.std.proofs.lemmas.Bool.{eq-eqb, ne_eqb}
+use Rattle.std.proofs.Common.{◌≡◌, ℕ, suc, ◌+◌, ◌*◌, ◌<◌, ◌≤◌, ◌==◌, Bool, true, false, if◌then◌else◌, List, length, Option, Some, None, option_map, unwrap_or, slice_get, refl, sym, ap, ◌∙◌, subst}
 use Rattle.cx_prim.specs.CellStates.{CellState, Timer}
 use Rattle.cx_prim.specs.PipeRows.{timer_idle, timer_go}
 use Rattle.cx_meaning.specs.Designs.{PlainCell, PlainComponent, PlainForm}
@@ -9,9 +8,9 @@ use Rattle.cx_meaning.specs.Islands.{or_zero, form_length}
 use Rattle.cx_static.specs.declared.islands.IslandTimer.{IslandTimer}
 use Rattle.cx_static.specs.Islands.{PlainIsland}
 use Rattle.cx_static.specs.Lowering.{Gathered, timer_cell, island_gathered, island_of}
-use Rattle.cx_wiring.specs.TimerCounts.{nested, kind_cycles, cycles_at, counts_in, all_count}
+use Rattle.cx_wiring.specs.TimerCounts.{nested, kind_cycles, cycles_at, counts_in}
 use Rattle.cx_wiring.specs.IslandNumbers.{count_in, done_bit, done_in, cell_of_timer, timer_counts, island_count}
-use Rattle.cx_wiring.proofs.ListedLaws.{AreListed, HasTimer, TimerFits, island_listed, first_has}
+use Rattle.cx_wiring.proofs.ListedLaws.{AreListed, HasTimer, island_listed, first_has}
 use Rattle.cx_wiring.proofs.TimerHolds.{counts_hold, counts_first, counts_all}
 use Rattle.cx_wiring.proofs.TimerSteps.{Follows, goes, ends, stepped, timers_step}
 use Rattle.cx_wiring.proofs.CycleBits.{is_there}

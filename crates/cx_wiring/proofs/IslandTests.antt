@@ -1,6 +1,6 @@
 -- The ports of the static ifs that begin in a cycle of an island have in the net what the machine takes, where it has no fault: they rest on
 -- state, so no group that goes disturbs them.
-use Rattle.std.proofs.Common.{◌≡◌, ◌⊎◌, inl, inr, ℕ, zero, suc, ◌+◌, ◌-◌, ◌%◌, Bool, true, false, if◌then◌else◌, List, [], ◌∷◌, ◌++◌, Option, Some, None, unwrap_or, refl, sym, ap, ◌∙◌, subst}
+use Rattle.std.proofs.Common.{◌≡◌, ◌⊎◌, inl, inr, ℕ, zero, suc, ◌+◌, ◌-◌, ◌%◌, Bool, true, false, if◌then◌else◌, List, [], ◌∷◌, Option, Some, None, unwrap_or, refl, sym, ap, ◌∙◌, subst}
 use Rattle.std.specs.Prelude.{nat_lt, flat_map}
 use Rattle.cx_text.specs.declared.places.Place.{Place}
 use Rattle.cx_bits.specs.BitVector.{BitVector}
@@ -13,12 +13,12 @@ use Rattle.cx_meaning.specs.declared.sights.Seen.TheVariants.{Value, Conflict, U
 use Rattle.cx_meaning.specs.Designs.{PlainComponent, PlainDesign, PlainForm, Empty, Enable, Seq, Par, If, While, Repeat, StaticSeq, StaticPar, StaticIf, StaticRepeat, Timed, PlainStatement, Placed, PlainStatements, no_statements, a_statement}
 use Rattle.cx_meaning.specs.Instances.{Instance, Node, Cells, OfRow, OfInstance, cell_at}
 use Rattle.cx_meaning.specs.Active.{nothing, entries}
-use Rattle.cx_meaning.specs.Truths.{Truth, truth_of, truth_of_bit}
+use Rattle.cx_meaning.specs.Truths.{truth_of, truth_of_bit}
 use Rattle.cx_meaning.specs.Sights.{Look, In, Sees, seen}
 use Rattle.cx_meaning.specs.Cycles.{Ended, Fault, cycle}
 use Rattle.cx_meaning.specs.Control.{groups_of}
 use Rattle.cx_meaning.specs.Islands.{length_of, is_one, fault_of, first_unclear, unless_unclear}
-use Rattle.cx_rules.specs.Items.{Context, Dynamic, InStatic, Branch, Visited, visit, visit_parts, visit_all, statements_in, test_in, option_list, tests_of}
+use Rattle.cx_rules.specs.Items.{Context, Dynamic, InStatic, Branch, Visited, visit, visit_all, statements_in, test_in, option_list}
 use Rattle.cx_rules.specs.ShapeRules.{is_hole}
 use Rattle.cx_rules.specs.Footprints.{Reads, tested, at_once, by_way_of}
 use Rattle.cx_rules.proofs.Finite.{in_left, in_right}
@@ -30,13 +30,13 @@ use Rattle.cx_flow.specs.Flows.{Values, Reaches, is_set}
 use Rattle.cx_lockstep.specs.Worlds.{Machine}
 use Rattle.cx_lockstep.proofs.RunningLaws.{in_either}
 use Rattle.cx_control.specs.Spots.{Cell, Kept, cells_in, held_in}
-use Rattle.cx_control.specs.Leaves.{Coded, InIsland, Cycle, turn_faults, sampled_now, island_faults}
+use Rattle.cx_control.specs.Leaves.{Coded, Cycle, turn_faults, sampled_now, island_faults}
 use Rattle.cx_control.specs.Controls.{coded_control}
 use Rattle.cx_control.specs.Standing.{RestsAt, bare}
 use Rattle.cx_control.specs.InstanceRules.{Stands}
 use Rattle.cx_control.specs.ControlRules.{ControlRules}
 use Rattle.cx_net.specs.Nets.{OfPort}
-use Rattle.cx_net.specs.NetMeaning.{NetState, NetLook, NetAround, is_true, truth_bit, zero_wide, registers_of}
+use Rattle.cx_net.specs.NetMeaning.{NetState, NetLook, NetAround, is_true, zero_wide, registers_of}
 use Rattle.cx_wiring.specs.PartNets.{wired_in, timers_of}
 use Rattle.cx_wiring.specs.Blocks.{block, net_of_cells, Solves, FitsInputs}
 use Rattle.cx_wiring.specs.PortValues.{port_value}

@@ -1,5 +1,5 @@
 -- ONE CYCLE OF AN ISLAND where control stands at it: what goes, and its numbers after the edge.
-use Rattle.std.proofs.Common.{◌≡◌, ℕ, zero, suc, ◌+◌, ◌-◌, ◌^◌, ◌<◌, ◌≤◌, ◌==◌, ◌&&◌, not, nat_lt, Bool, true, false, if◌then◌else◌, List, [], ◌∷◌, ◌++◌, length, Option, Some, None, unwrap_or, slice_get, refl, sym, ap, ap₂, ◌∙◌, subst, arith}
+use Rattle.std.proofs.Common.{◌≡◌, ℕ, zero, suc, ◌+◌, ◌-◌, ◌^◌, ◌<◌, ◌≤◌, ◌==◌, ◌&&◌, not, Bool, true, false, if◌then◌else◌, List, [], ◌∷◌, ◌++◌, length, Option, Some, None, unwrap_or, slice_get, refl, sym, ap, ◌∙◌, subst, arith}
 use Rattle.std.proofs.lemmas.Bool.{eq-eqb, ne_eqb, lt-ltb, and_left}
 use Rattle.cx_bits.specs.BitVector.{BitVector}
 use Rattle.cx_prim.specs.CellStates.{CellState, Timer}
@@ -7,8 +7,6 @@ use Rattle.cx_prim.specs.PipeRows.{timer_idle, timer_go}
 use Rattle.cx_meaning.specs.Designs.{PlainCell, PlainComponent, PlainForm}
 use Rattle.cx_meaning.specs.Islands.{or_zero, form_length}
 use Rattle.cx_meaning.specs.Active.{Entry}
-use Rattle.cx_meaning.specs.Sights.{In}
-use Rattle.cx_meaning.specs.declared.ports.PortRef.{PortRef}
 use Rattle.cx_laws.specs.Positions.{FormIfs}
 use Rattle.cx_laws.specs.Samples.{Samples, form_ifs, active_by}
 use Rattle.cx_control.specs.Sampling.{form_now}
@@ -16,7 +14,6 @@ use Rattle.cx_control.specs.Leaves.{Cycle, LastTurn}
 use Rattle.cx_control.specs.Controls.{bit, island_other}
 use Rattle.cx_net.specs.Nets.{OfPort, ToRegister, ToWire, ToHole}
 use Rattle.cx_net.specs.NetMeaning.{Node, NetAround, is_true, truth_bit, zero_wide}
-use Rattle.cx_static.specs.declared.islands.Sample.{Sample}
 use Rattle.cx_static.specs.declared.islands.IslandTimer.{IslandTimer}
 use Rattle.cx_static.specs.Islands.{PlainOccurrence, PlainIsland}
 use Rattle.cx_static.specs.Lowering.{Gathered, begin_at, island_gathered, island_of}
@@ -27,7 +24,7 @@ use Rattle.cx_wiring.specs.IslandDrivers.{island_drivers}
 use Rattle.cx_wiring.specs.Takings.{value, Says, takes}
 use Rattle.cx_wiring.specs.Shown.{wide, told}
 use Rattle.cx_wiring.specs.TimerCounts.{cycles_at, counts_in}
-use Rattle.cx_wiring.specs.IslandNumbers.{count_in, done_bit, done_in, cell_of_timer, timer_counts, are_in_step, island_number}
+use Rattle.cx_wiring.specs.IslandNumbers.{count_in, done_bit, cell_of_timer, timer_counts, are_in_step, island_number}
 use Rattle.cx_wiring.proofs.TakingLemmas.{says_both, says_equals}
 use Rattle.cx_wiring.proofs.GatherLaws.{get_below}
 use Rattle.cx_wiring.proofs.ListedLaws.{AreListed, TimerFits, island_listed, only_timer}
@@ -35,7 +32,7 @@ use Rattle.cx_wiring.proofs.EntryLaws as entries
 use Rattle.cx_wiring.proofs.EntryLaws.{form_points}
 use Rattle.cx_wiring.proofs.TimerHolds.{all_counts}
 use Rattle.cx_wiring.proofs.CycleBits.{is_there}
-use Rattle.cx_wiring.proofs.IslandValues.{IslandLooks, live, sample, active, all_wanted, count_is, live_first, live_within, says_begins, active_is}
+use Rattle.cx_wiring.proofs.IslandValues.{IslandLooks, live, sample, all_wanted, count_is, live_first, live_within, says_begins, active_is}
 use Rattle.cx_wiring.proofs.IslandCycle as cycle
 use Rattle.cx_wiring.proofs.IslandHoles.{among, holes_so}
 use Rattle.cx_wiring.proofs.IslandOwns.{goings}

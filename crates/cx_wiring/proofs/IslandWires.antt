@@ -5,10 +5,8 @@ use Rattle.std.proofs.Math.Nat.{mod-eq_of_lt}
 use Rattle.std.proofs.lemmas.Nat.{mod_below, mod-mul-add}
 use Rattle.cx_bits.specs.BitVector.{BitVector}
 use Rattle.cx_bits.specs.Operators.{sum_of}
-use Rattle.cx_meaning.specs.declared.ports.PortRef.TheVariants as ports
-use Rattle.cx_meaning.specs.Active.{Entry}
 use Rattle.cx_laws.specs.Positions.{entry_at}
-use Rattle.cx_net.specs.Nets.{OfWire, ToPort, ToRegister, ToWire, ToHole, PlainNetTarget, PlainNetDriver}
+use Rattle.cx_net.specs.Nets.{OfWire, ToWire}
 use Rattle.cx_net.specs.NetMeaning.{Node, NetAround, truth_bit, same_target, both_known}
 use Rattle.cx_static.specs.declared.islands.IslandTimer.{IslandTimer}
 use Rattle.cx_static.specs.Lowering.{Begin}
@@ -16,8 +14,8 @@ use Rattle.cx_control.specs.Sampling.{where_so}
 use Rattle.cx_wiring.specs.TimerCounts.{nested}
 use Rattle.cx_wiring.proofs.IslandOffsets.{range_in, Lies, lies, before, in_it, behind, at_before, at_in, at_behind, are_wanted, live_in}
 use Rattle.cx_static.specs.Islands.{PlainPoint, PlainOccurrence, PlainIsland}
-use Rattle.cx_wiring.specs.Parts.{one, both, drive, connect}
-use Rattle.cx_wiring.specs.Stands.{Stand, at, ends, stands}
+use Rattle.cx_wiring.specs.Parts.{both, drive, connect}
+use Rattle.cx_wiring.specs.Stands.{Stand, at, ends}
 use Rattle.cx_wiring.specs.IslandDrivers as wired
 use Rattle.cx_wiring.specs.IslandDrivers.{timer_drivers, point_drivers, occurrence_drivers, island_drivers}
 use Rattle.cx_wiring.specs.Bounds.{AllDrive}

@@ -1,6 +1,6 @@
 -- WHAT ISLANDS GIVE each node: which groups of theirs go, and their turns, where the ports of the static ifs that begin have in the net
 -- what the machine takes.
-use Rattle.std.proofs.Common.{◌≡◌, ℕ, zero, suc, ◌+◌, ◌^◌, ◌<◌, ◌≤◌, ◌==◌, ◌&&◌, nat_lt, ⊎_elim, inl, inr, Bool, true, false, if◌then◌else◌, List, [], ◌∷◌, ◌++◌, length, replicate, Option, Some, None, option_map, unwrap_or, slice_get, refl, sym, ap, ◌∙◌, subst, arith}
+use Rattle.std.proofs.Common.{◌≡◌, ℕ, zero, suc, ◌+◌, ◌^◌, ◌<◌, ◌≤◌, ◌&&◌, ⊎_elim, Bool, true, false, if◌then◌else◌, List, [], ◌∷◌, ◌++◌, length, replicate, Option, Some, None, option_map, unwrap_or, slice_get, refl, sym, ap, ◌∙◌, subst, arith}
 use Rattle.std.proofs.lemmas.Bool.{cases_lt, lt-ltb, le-ltb, eq-eqb, ne_eqb}
 use Rattle.cx_text.specs.declared.places.Place.{Place}
 use Rattle.cx_bits.specs.BitVector.{BitVector}
@@ -9,21 +9,18 @@ use Rattle.cx_prim.specs.PipeRows.{timer_idle, timer_go}
 use Rattle.cx_meaning.specs.declared.kinds.GroupKind.{GroupKind}
 use Rattle.cx_meaning.specs.declared.kinds.GroupKind.TheVariants as kinds
 use Rattle.cx_meaning.specs.declared.ports.PortRef.{PortRef}
-use Rattle.cx_meaning.specs.declared.ports.PortRef.TheVariants as ports
 use Rattle.cx_meaning.specs.Designs.{PlainCell, PlainComponent, PlainDesign, PlainForm, Empty, Enable, Seq, Par, If, While, Repeat, StaticSeq, StaticPar, StaticIf, StaticRepeat, Timed, PlainStatement, Placed, group_at}
 use Rattle.cx_meaning.specs.Instances as instances
 use Rattle.cx_meaning.specs.Instances.{Instance, Cells, OfInstance, cell_at}
 use Rattle.cx_meaning.specs.Active.{Entry}
-use Rattle.cx_meaning.specs.Sights.{In}
 use Rattle.cx_meaning.specs.Cycles.{Fault}
-use Rattle.cx_meaning.specs.Control.{groups_in}
 use Rattle.cx_meaning.specs.Islands.{group_length, kind_length, form_length}
 use Rattle.cx_laws.specs.Positions.{FormIfs}
-use Rattle.cx_laws.specs.Samples.{form_ifs, active_by}
-use Rattle.cx_lockstep.specs.Worlds.{Control, At, Done, Machine, is_done}
+use Rattle.cx_laws.specs.Samples.{form_ifs}
+use Rattle.cx_lockstep.specs.Worlds.{Control, At, Machine}
 use Rattle.cx_lockstep.specs.Statements.{LeafMachines, machine_of}
-use Rattle.cx_control.specs.Codings.{Coding, bank_code}
-use Rattle.cx_control.specs.StatementCodings.{LeafCodings, statement_coding}
+use Rattle.cx_control.specs.Codings.{Coding}
+use Rattle.cx_control.specs.StatementCodings.{statement_coding}
 use Rattle.cx_control.specs.Sampling.{form_now}
 use Rattle.cx_control.specs.Spots.{Spot, Holds, Kept}
 use Rattle.cx_control.specs.Leaves.{InIsland, Cycle, LastTurn, Coded, sampled_now, island_step, kind_machine, leaf_machines}
@@ -33,8 +30,8 @@ use Rattle.cx_control.specs.ControlRules.{ControlRules}
 use Rattle.cx_control.proofs.CallLaws.{ChildLaws}
 use Rattle.cx_control.proofs.ControlLaws.{IslandsDo}
 use Rattle.cx_control.proofs.KeepLaws.{KeepsBelow}
-use Rattle.cx_net.specs.Nets.{OfPort, ToPort, ToRegister, ToWire, ToHole}
-use Rattle.cx_net.specs.NetMeaning.{NetState, NetLook, NetAround, Node, APort, is_true, truth_bit, zero_wide, registers_of}
+use Rattle.cx_net.specs.Nets.{OfPort, ToRegister, ToWire, ToHole}
+use Rattle.cx_net.specs.NetMeaning.{NetState, NetLook, NetAround, Node, is_true, truth_bit, zero_wide, registers_of}
 use Rattle.cx_static.specs.declared.islands.IslandTimer.{IslandTimer}
 use Rattle.cx_static.specs.Islands.{PlainIsland}
 use Rattle.cx_static.specs.Lowering.{Gathered, timer_cell, Lowering, island_gathered, island_of, with_island, after_enable, lowered_enable, after, lowered, lowered_component, unlowered}
@@ -44,20 +41,19 @@ use Rattle.cx_wiring.specs.IslandDrivers.{first_of_island, island_drivers}
 use Rattle.cx_wiring.specs.Control.{timed_drivers, form_drivers, drivers_of}
 use Rattle.cx_wiring.specs.Wiring.{groups, first_of_control}
 use Rattle.cx_wiring.specs.PartNets.{wired_in, timers_of}
-use Rattle.cx_wiring.specs.Takings.{value, Says, takes, takes_of, AllIdle, AreRegisters}
+use Rattle.cx_wiring.specs.Takings.{value, Says, takes, takes_of, AreRegisters}
 use Rattle.cx_wiring.specs.Standing.{IsIn}
 use Rattle.cx_wiring.specs.IslandTakes.{IslandNexts}
 use Rattle.cx_wiring.specs.Shown.{wide, Going, told, number_of, enable_going, enable_number, going}
 use Rattle.cx_wiring.specs.AtLeaves.{AnyTest, AnyGroup, IslandsHold, enable_holds}
-use Rattle.cx_wiring.specs.Turning.{Turns, Moves}
+use Rattle.cx_wiring.specs.Turning.{Turns}
 use Rattle.cx_wiring.specs.Wired.{IsWired}
 use Rattle.cx_wiring.specs.TimerCounts.{kind_cycles, cycles_at}
 use Rattle.cx_wiring.specs.IslandNumbers.{count_in, done_bit, cell_of_timer, island_number, of_island}
 use Rattle.cx_wiring.specs.BlockNumbers.{component_numbers}
 use Rattle.cx_wiring.specs.Blocks.{block, net_of_cells, after_edge}
-use Rattle.cx_wiring.proofs.TakingLemmas.{idle_passes}
-use Rattle.cx_wiring.proofs.GatherLaws.{get_end, get_below, island_aligned, island_there}
-use Rattle.cx_wiring.proofs.IslandCells.{IsBefore, IsListed, listed}
+use Rattle.cx_wiring.proofs.GatherLaws.{get_end, island_aligned, island_there}
+use Rattle.cx_wiring.proofs.IslandCells.{IsBefore}
 use Rattle.cx_wiring.proofs.TimerRows.{IsTimerIn}
 use Rattle.cx_wiring.proofs.IslandValues.{IslandLooks, live}
 use Rattle.cx_wiring.proofs.IslandAway as away

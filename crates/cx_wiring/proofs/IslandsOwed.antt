@@ -1,6 +1,6 @@
 -- WHAT THE ISLANDS OF A NODE OWE in a good cycle: the ports that begin are as the machine sees them, so its islands take the same samples,
 -- and their groups go at the same offsets.
-use Rattle.std.proofs.Common.{◌≡◌, ℕ, false, List, [], Some, refl}
+use Rattle.std.proofs.Common.{◌≡◌, ℕ, false, [], Some, refl}
 use Rattle.std.specs.Prelude.{is_some}
 use Rattle.cx_text.specs.declared.places.Place.{Place}
 use Rattle.cx_meaning.specs.declared.kinds.GroupKind.{GroupKind}
@@ -12,7 +12,6 @@ use Rattle.cx_meaning.specs.Active.{offset_in}
 use Rattle.cx_meaning.specs.Sights.{In}
 use Rattle.cx_laws.specs.Samples.{active_by}
 use Rattle.cx_lockstep.specs.Worlds.{Machine}
-use Rattle.cx_lockstep.specs.Statements.{LeafMachines}
 use Rattle.cx_lockstep.specs.Running.{Running, AGroup, AnIsland, running}
 use Rattle.cx_control.specs.Spots.{Kept}
 use Rattle.cx_control.specs.Leaves.{InIsland, Cycle, LastTurn, Coded, sampled_now, kind_machine, leaf_machines}

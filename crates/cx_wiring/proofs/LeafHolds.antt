@@ -1,24 +1,19 @@
 -- What holds at the leaves that run holds where control stands.
-use Rattle.std.proofs.Common.{◌≡◌, ℕ, zero, suc, ◌+◌, ◌-◌, ◌%◌, ◌⊎◌, inl, inr, nat_lt, Bool, true, false, if◌then◌else◌, List, [], ◌∷◌, ◌++◌, Option, Some, None, refl, sym, ap, subst}
+use Rattle.std.proofs.Common.{ℕ, zero, suc, inl, Bool, List, Option, Some, None, refl}
 use Rattle.cx_meaning.specs.declared.ports.PortRef.{PortRef}
 use Rattle.cx_meaning.specs.Designs.{PlainComponent, PlainForm, Empty, Enable, Seq, Par, If, While, Repeat, StaticSeq, StaticPar, StaticIf, StaticRepeat, Timed, PlainStatement, Placed, PlainStatements, no_statements, a_statement}
-use Rattle.cx_meaning.specs.Active.{Entry}
 use Rattle.cx_meaning.specs.Sights.{In}
-use Rattle.cx_meaning.specs.Control.{groups_in, groups_of, groups_in_all}
-use Rattle.cx_meaning.specs.Islands.{group_length, length_of}
+use Rattle.cx_meaning.specs.Islands.{group_length}
 use Rattle.cx_rules.proofs.Finite.{in_left, in_right}
-use Rattle.cx_laws.specs.Positions.{entry_at, no_entry}
-use Rattle.cx_laws.specs.Samples.{Samples, ifs_of, form_by, statement_by, while_by, parts_by, arms_by}
 use Rattle.cx_lockstep.specs.Worlds.{Store, Control, At, Done, Machine}
-use Rattle.cx_lockstep.specs.Machines.{First, Second, InPar, left_of, right_of, AtTest, InThen, InElse, AtHead, InBody}
+use Rattle.cx_lockstep.specs.Machines.{First, Second, left_of, right_of, AtTest, InThen, InElse, AtHead, InBody}
 use Rattle.cx_lockstep.specs.Statements.{LeafMachines, form_machine, machine_of, parts_machine, arms_machine}
-use Rattle.cx_lockstep.specs.Running.{Running, AGroup, AnIsland, at_control, par_runs, form_runs, running, parts_run, arms_run}
-use Rattle.cx_lockstep.proofs.RunningLaws.{in_either}
+use Rattle.cx_lockstep.specs.Running.{Running, AGroup, AnIsland, at_control, form_runs, running, parts_run, arms_run}
 use Rattle.cx_control.specs.Codings.{at_fine}
 use Rattle.cx_control.specs.StatementCodings.{LeafCodings}
 use Rattle.cx_static.specs.Islands.{PlainIsland}
-use Rattle.cx_wiring.specs.Shown.{Going, FormAgrees, StatementAgrees, PartsAgree, ArmsAgree, enable_agrees}
-use Rattle.cx_wiring.specs.AtLeaves.{AnyTest, AnyGroup, enable_holds, FormHolds, StatementHolds, PartsHold, ArmsHold, IslandsHold, enable_saw, FormSaw, StatementSaw, PartsSaw, ArmsSaw}
+use Rattle.cx_wiring.specs.Shown.{FormAgrees, StatementAgrees, PartsAgree, ArmsAgree, enable_agrees}
+use Rattle.cx_wiring.specs.AtLeaves.{AnyTest, AnyGroup, enable_holds, FormHolds, PartsHold, ArmsHold, IslandsHold, enable_saw, FormSaw, StatementSaw, PartsSaw, ArmsSaw}
 
 at_both : {P : Type 0} (f g h : P → Type 0) → ((p : P) → f p → g p → h p) → (k : Control P) → at_fine f k → at_fine g k → at_fine h k
 at_both f g h e (At p) a b = e p a b

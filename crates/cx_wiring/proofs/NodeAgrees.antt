@@ -1,8 +1,8 @@
 -- In a cycle without a fault a node's net has what its machine sees: the holes of the groups that run, and the ports of tests. What is said of
 -- groups that call is a premise here.
-use Rattle.std.proofs.Common.{◌≡◌, ◌⊎◌, inl, inr, ⊎_elim, ℕ, zero, suc, ◌+◌, ◌<◌, ◌≤◌, ◌==◌, Bool, true, false, ◌&&◌, ◌||◌, not, if◌then◌else◌, List, [], ◌∷◌, ◌++◌, length, Option, Some, None, unwrap_or, refl, sym, ap, ap₂, ◌∙◌, subst, arith}
-use Rattle.std.specs.Prelude.{is_some, nat_eq, nat_lt, slice_get, option_map, flat_map}
-use Rattle.std.proofs.lemmas.Bool.{lt-ltb, eq-eqb, eqb-true}
+use Rattle.std.proofs.Common.{◌≡◌, ◌⊎◌, inl, inr, ⊎_elim, ℕ, ◌+◌, ◌<◌, ◌==◌, Bool, true, false, ◌&&◌, ◌||◌, not, if◌then◌else◌, List, [], ◌∷◌, length, Option, Some, None, unwrap_or, refl, sym, ap, ap₂, ◌∙◌, subst}
+use Rattle.std.specs.Prelude.{is_some, nat_eq, option_map, flat_map}
+use Rattle.std.proofs.lemmas.Bool.{eq-eqb, eqb-true}
 use Rattle.std.proofs.lemmas.Option.{slice_get-get_or}
 use Rattle.cx_text.specs.declared.places.Place.{Place}
 use Rattle.cx_bits.specs.BitVector.{BitVector}
@@ -14,40 +14,36 @@ use Rattle.cx_meaning.specs.declared.sights.Seen.{Seen}
 use Rattle.cx_meaning.specs.declared.sights.Seen.TheVariants.{Value, Conflict, Undefined}
 use Rattle.cx_meaning.specs.declared.kinds.GroupKind.{GroupKind}
 use Rattle.cx_meaning.specs.declared.kinds.GroupKind.TheVariants as kinds
-use Rattle.cx_meaning.specs.Designs.{PlainComponent, PlainDesign, PlainForm, Empty, Enable, Seq, Par, If, While, Repeat, StaticSeq, StaticPar, StaticIf, StaticRepeat, Timed, PlainStatement, Placed, group_at, no_group}
-use Rattle.cx_meaning.specs.Instances.{Instance, Node, Cells, OfRow, OfInstance, cell_at, part_of, Path, State, under}
+use Rattle.cx_meaning.specs.Designs.{PlainComponent, PlainDesign, PlainForm, Enable, PlainStatement, Placed, group_at, no_group}
+use Rattle.cx_meaning.specs.Instances.{Instance, Node, Cells, OfRow, OfInstance, cell_at, part_of, Path, under}
 use Rattle.cx_meaning.specs.Active.{Active, Entry, nothing, group, comb, only_at, entries, offset_in}
 use Rattle.cx_meaning.specs.Truths.{Truth, One, Zero, Clash, Unknown, truth_of}
-use Rattle.cx_meaning.specs.Sights.{Held, unheld, In, Sees, seen, AnOutput, ItsDone, part_port}
+use Rattle.cx_meaning.specs.Sights.{unheld, In, Sees, seen, AnOutput, part_port}
 use Rattle.cx_meaning.specs.Cycles.{Ended, Goes, Faults, Fault, cycle}
 use Rattle.cx_meaning.specs.Islands.{kind_length, group_length, turn_of}
-use Rattle.cx_meaning.specs.Answers.{Test}
-use Rattle.cx_meaning.specs.Control.{with_comb, groups_in, groups_of, group_drives, drives}
-use Rattle.cx_meaning.specs.Calls.{hole_turn, group_turn, test, test_of, called}
-use Rattle.cx_rules.specs.Items.{Dynamic, Visited, visit, visit_parts, statements_in, test_in, option_list, tests_of, is_comb}
-use Rattle.cx_rules.specs.ShapeRules.{is_hole}
+use Rattle.cx_meaning.specs.Control.{groups_in, groups_of, group_drives, drives}
+use Rattle.cx_meaning.specs.Calls.{hole_turn, test, test_of, called}
+use Rattle.cx_rules.specs.Items.{Dynamic, visit, visit_parts, test_in, option_list, tests_of, is_comb}
 use Rattle.cx_rules.specs.Footprints.{Reads, tested}
 use Rattle.cx_rules.specs.Wellformed.{IsForm, IsWith}
-use Rattle.cx_rules.specs.Circles.{IsAcyclic, AreAcyclic, AcyclicBelow}
+use Rattle.cx_rules.specs.Circles.{IsAcyclic}
 use Rattle.cx_rules.proofs.Finite.{in_left}
 use Rattle.cx_rules.proofs.FoundLemmas.{seen_found}
 use Rattle.cx_flow.specs.Apart.{IsApart}
 use Rattle.cx_flow.specs.Flows.{zero_of, is_set}
-use Rattle.cx_lockstep.specs.Worlds.{Control, At, Done, Machine, is_done}
+use Rattle.cx_lockstep.specs.Worlds.{At, Machine, is_done}
 use Rattle.cx_lockstep.specs.Machines.{unclear}
 use Rattle.cx_lockstep.specs.Statements.{LeafMachines, machine_of}
 use Rattle.cx_lockstep.specs.Running.{Running, AGroup, AnIsland, leaf_of, running}
-use Rattle.cx_control.specs.StatementCodings.{LeafCodings}
-use Rattle.cx_control.specs.Spots.{Spot, Cell, Number, Input, Holds, Kept, cells_in, held_in}
+use Rattle.cx_control.specs.Spots.{Spot, Cell, Number, Holds, Kept, cells_in, held_in}
 use Rattle.cx_control.specs.Leaves.{Coded, InIsland, Cycle, LastTurn, sampled_now, turn_next, turn_faults, called_machine, kind_machine, leaf_machines}
 use Rattle.cx_control.specs.Controls.{coded_control, coded_below, leaf_codings}
-use Rattle.cx_control.specs.Standing.{RestsAt, GoodAt, good_control, bare}
+use Rattle.cx_control.specs.Standing.{RestsAt, good_control, bare}
 use Rattle.cx_control.specs.InstanceRules.{Stands}
 use Rattle.cx_control.proofs.StandLaws.{parts_stand}
 use Rattle.cx_control.specs.ControlRules.{ControlRules}
-use Rattle.cx_control.proofs.ShapeLemmas.{Driving, called_driving}
+use Rattle.cx_control.proofs.ShapeLemmas.{called_driving}
 use Rattle.cx_rules.proofs.ForeignLemmas.{assigns_drive_in}
-use Rattle.cx_control.specs.CallRules.{CallRules}
 use Rattle.cx_net.specs.Nets.{OfPort}
 use Rattle.cx_net.specs.NetMeaning.{NetState, below_cell, APort, AHole, TheDone, NetLook, NetAround, around_child, is_true, truth_bit, zero_wide, registers_of}
 use Rattle.cx_static.specs.Lowering.{lowered_component}
@@ -57,9 +53,8 @@ use Rattle.cx_wiring.specs.BlockNumbers.{component_numbers}
 use Rattle.cx_wiring.specs.Blocks.{block, net_of_cells, Shows, Solves, FitsInputs}
 use Rattle.cx_wiring.specs.PortValues.{own_offset, port_value, goes_now, offset_now, active_now}
 use Rattle.cx_wiring.specs.Takings.{value}
-use Rattle.cx_wiring.specs.Shown.{wide, Going, told, leads, comb_going, enable_going, going, enable_agrees, TestAgrees, StatementAgrees}
+use Rattle.cx_wiring.specs.Shown.{wide, Going, told, leads, comb_going, enable_going, going, enable_agrees, StatementAgrees}
 use Rattle.cx_wiring.proofs.TakingLemmas.{true_bit}
-use Rattle.cx_wiring.proofs.BlockTells.{hole_now, port_now}
 use Rattle.cx_wiring.proofs.ChildLooks.{child_solves}
 use Rattle.cx_wiring.proofs.CellEdges.{driver_there}
 use Rattle.cx_wiring.proofs.InstancePorts.{output_there}
@@ -67,11 +62,11 @@ use Rattle.cx_wiring.proofs.NodePorts.{named_value, bit_says, some_is}
 use Rattle.cx_wiring.proofs.TreeRules.{CellsNodes}
 use Rattle.cx_wiring.proofs.SeamRules.{SeamRules}
 use Rattle.cx_wiring.proofs.SeamFlows.{Nearby, tested_seen, hole_seen, hole_stands}
-use Rattle.cx_wiring.proofs.OutputFlows.{SeamAt, fine_node, row_cell, done_below, child_outputs}
-use Rattle.cx_wiring.proofs.GoingLaws.{HasComb, Source, of_group, of_timed, of_static, of_comb, going_source, comb_is}
+use Rattle.cx_wiring.proofs.OutputFlows.{SeamAt, row_cell, done_below, child_outputs}
+use Rattle.cx_wiring.proofs.GoingLaws.{Source, of_group, of_timed, of_static, of_comb, going_source, comb_is}
 use Rattle.cx_wiring.proofs.NodeSeam.{NodeRest, NodeSeam, entries_at, KindGoes, LeafGoes, SaysActive, KindSays, LeafSays}
 use Rattle.cx_wiring.proofs.IslandSets.{active_own}
-use Rattle.cx_wiring.proofs.GoingApart.{group_within, enable_named, IsGoing, GoesFor, DrivesNone, LeafStands, leaf_goes, leaf_stands, agrees}
+use Rattle.cx_wiring.proofs.GoingApart.{group_within, enable_named, IsGoing, GoesFor, LeafStands, leaf_stands, agrees}
 use Rattle.cx_wiring.proofs.CallValues.{true_false}
 
 -- a bit that is one of two truths

@@ -6,28 +6,25 @@ use Rattle.std.proofs.lemmas.Bool.Decides.{eqb_tells}
 use Rattle.cx_text.specs.declared.places.Place.{Place}
 use Rattle.cx_bits.specs.BitVector.{BitVector}
 use Rattle.cx_prim.specs.Rows.{Row}
-use Rattle.cx_meaning.specs.declared.ports.PortRef.{PortRef}
 use Rattle.cx_meaning.specs.declared.ports.PortRef.TheVariants as ports
-use Rattle.cx_meaning.specs.declared.sights.Seen.{Seen}
 use Rattle.cx_meaning.specs.declared.sights.Seen.TheVariants.{Value, Undefined}
 use Rattle.cx_meaning.specs.Designs.{PlainComponent, PlainDesign, PlainStatement, Enable, Placed, group_at}
 use Rattle.cx_meaning.specs.Instances.{Instance, Node, Cells, OfRow, OfInstance, cell_at, part_of, under}
-use Rattle.cx_meaning.specs.Active.{Active, Owned, nothing, group, only_at, source_order, offset_of}
-use Rattle.cx_meaning.specs.Sights.{Held, unheld, In, Sees, seen, AnInput, AnOutput, ItsDone, part_port, output_port}
+use Rattle.cx_meaning.specs.Active.{Active, Owned, nothing, group, source_order, offset_of}
+use Rattle.cx_meaning.specs.Sights.{unheld, In, Sees, seen, AnInput, AnOutput, ItsDone, part_port, output_port}
 use Rattle.cx_meaning.specs.Islands.{kind_length}
-use Rattle.cx_meaning.specs.Control.{groups_of, group_drives, drives}
+use Rattle.cx_meaning.specs.Control.{groups_of, group_drives}
 use Rattle.cx_meaning.specs.Calls.{called, captures}
 use Rattle.cx_rules.specs.Ports.{width_of}
-use Rattle.cx_rules.specs.CallShape.{done_port}
 use Rattle.cx_rules.specs.Footprints.{Reads, driven}
 use Rattle.cx_rules.proofs.FoundLemmas.{seen_found}
 use Rattle.cx_rules.proofs.ForeignLemmas.{assigns_drive_in}
 use Rattle.cx_flow.specs.Apart.{IsApart}
-use Rattle.cx_flow.specs.Flows.{Values, Reaches, zero_of, is_set, first_on, cell_flow, Solves as FlowSolves}
+use Rattle.cx_flow.specs.Flows.{Values, Reaches, zero_of, is_set, cell_flow, Solves as FlowSolves}
 use Rattle.cx_flow.proofs.InstanceLemmas.{OwnerOf, continuous, of_group, owner_of}
-use Rattle.cx_lockstep.specs.Worlds.{At, Machine, is_done}
+use Rattle.cx_lockstep.specs.Worlds.{Machine, is_done}
 use Rattle.cx_lockstep.specs.Statements.{LeafMachines}
-use Rattle.cx_lockstep.specs.Running.{Running, AGroup, running}
+use Rattle.cx_lockstep.specs.Running.{AGroup}
 use Rattle.cx_control.specs.Spots.{Cell, Kept, cells_in, held_in, input_count}
 use Rattle.cx_control.specs.Leaves.{Coded, child_at, inputs_now, leaf_machines}
 use Rattle.cx_control.specs.Controls.{coded_control, coded_below}
@@ -35,7 +32,7 @@ use Rattle.cx_control.specs.Standing.{RestsAt, bare}
 use Rattle.cx_control.specs.InstanceRules.{Stands}
 use Rattle.cx_control.specs.CallRules.{CallForm, CallRules}
 use Rattle.cx_control.specs.ControlRules.{ControlRules}
-use Rattle.cx_control.proofs.ShapeLemmas.{Driving, called_driving}
+use Rattle.cx_control.proofs.ShapeLemmas.{called_driving}
 use Rattle.cx_net.specs.NetMeaning.{NetState, APort, AHole, TheDone, NetLook, NetAround, is_true, truth_bit, zero_wide, around_child}
 use Rattle.cx_wiring.specs.PartNets.{wired_in, timers_of}
 use Rattle.cx_wiring.specs.Blocks.{block, block_below, Solves, FitsInputs, HasGo}

@@ -1,6 +1,6 @@
 -- What an accepted design gives the cells of each node: rows are lawful, nothing continuous enables a primitive or drives a component
 -- cell. So in a cycle in which no group goes each primitive makes its idle step and no child has go.
-use Rattle.std.proofs.Common.{◌≡◌, ℕ, ◌+◌, ◌<◌, ◌^◌, ◌&&◌, nat_lt, nat_le, if◌then◌else◌, inl, inr, ⊎_elim, true, false, List, [], ◌∷◌, length, Option, Some, None, refl, sym, ap, ◌∙◌, subst, arith}
+use Rattle.std.proofs.Common.{◌≡◌, ℕ, ◌+◌, ◌<◌, ◌^◌, ◌&&◌, nat_lt, nat_le, if◌then◌else◌, inl, inr, ⊎_elim, true, false, [], ◌∷◌, length, Option, Some, None, refl, sym, ap, ◌∙◌, subst, arith}
 use Rattle.cx_bits.specs.BitVector.{BitVector}
 use Rattle.cx_prim.specs.declared.ports.Side.TheVariants as sides
 use Rattle.cx_prim.specs.Rows.{Row, IsLawful}

@@ -1,10 +1,8 @@
 -- What the control of a node gives in a cycle, where its islands make their turns.
-use Rattle.std.proofs.Common.{◌≡◌, ℕ, List}
+use Rattle.std.proofs.Common.{ℕ}
 use Rattle.cx_meaning.specs.Designs.{PlainComponent, PlainDesign, PlainForm}
 use Rattle.cx_meaning.specs.Instances as instances
 use Rattle.cx_meaning.specs.Instances.{Cells}
-use Rattle.cx_meaning.specs.Sights.{In}
-use Rattle.cx_meaning.specs.Control.{groups_in}
 use Rattle.cx_lockstep.specs.Worlds.{Machine}
 use Rattle.cx_lockstep.specs.Statements.{LeafMachines}
 use Rattle.cx_control.specs.Spots.{Kept}

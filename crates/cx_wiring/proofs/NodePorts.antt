@@ -1,7 +1,7 @@
 -- What a look that solves the rules of a node gives the ports that its assignments name: each has its value, is a bit where it stands
 -- alone in a guard, and of each group it is known whether it goes and at which offset.
-use Rattle.std.proofs.Common.{◌≡◌, inl, inr, ℕ, zero, suc, ◌+◌, ◌<◌, ◌≤◌, ◌==◌, Bool, true, false, ◌&&◌, ◌||◌, not, cond, if◌then◌else◌, List, [], ◌∷◌, ◌++◌, length, Option, Some, None, unwrap_or, slice_get, refl, sym, ap, ap₂, ◌∙◌, subst, arith, length-append}
-use Rattle.std.specs.Prelude.{nat_lt, filter}
+use Rattle.std.proofs.Common.{◌≡◌, inl, inr, ℕ, zero, suc, ◌+◌, ◌<◌, ◌==◌, Bool, true, false, ◌&&◌, ◌||◌, not, cond, if◌then◌else◌, List, [], ◌∷◌, length, Option, Some, None, unwrap_or, refl, sym, ap, ap₂, ◌∙◌, arith, length-append}
+use Rattle.std.specs.Prelude.{filter}
 use Rattle.std.proofs.lemmas.Bool.{lt-ltb, ltb-true}
 use Rattle.cx_bits.specs.BitVector.{BitVector}
 use Rattle.cx_prim.specs.Rows.{Row}
@@ -13,15 +13,15 @@ use Rattle.cx_meaning.specs.Instances.{Instance, Node, Cells, no_cells, a_primit
 use Rattle.cx_meaning.specs.Active.{Owned, source_order}
 use Rattle.cx_meaning.specs.Sights.{In, PartPort, Go, AnInput, AnOutput, ItsDone, part_port}
 use Rattle.cx_rules.specs.Ports.{keeps_literal, declared_width, part_width, cell_width, written_width}
-use Rattle.cx_rules.specs.Items.{atoms_of, atoms_in, operands_of, operands_in, Range, ranges_of, ranges_in, sources_of}
+use Rattle.cx_rules.specs.Items.{atoms_of, atoms_in, operands_of, operands_in, Range, ranges_of, ranges_in}
 use Rattle.cx_rules.specs.ShapeRules.{is_hole}
 use Rattle.cx_rules.specs.WidthRules.{IsBadLiteral}
-use Rattle.cx_rules.specs.Wellformed.{IsThere, port_count}
+use Rattle.cx_rules.specs.Wellformed.{port_count}
 use Rattle.cx_rules.proofs.Finite.{in_left, in_right}
 use Rattle.cx_flow.specs.Flows.{Values, is_set, guard_on, all_on, any_on, zero_of}
-use Rattle.cx_net.specs.Nets.{OfPort, OfWire, OfHole}
-use Rattle.cx_net.specs.NetTree.{NetCells, NetAt, ARow, AChild, net_cell_at, net_part}
-use Rattle.cx_net.specs.NetMeaning.{NetState, Node as NetNodes, APort, AWire, AHole, NetLook, NetAround, is_true, truth_bit, child_port_width, net_part_port, net_at_width, is_port_of, registers_of}
+use Rattle.cx_net.specs.Nets.{OfPort}
+use Rattle.cx_net.specs.NetTree.{NetCells, ARow, AChild, net_cell_at, net_part}
+use Rattle.cx_net.specs.NetMeaning.{NetState, APort, AWire, AHole, NetLook, NetAround, is_true, truth_bit, child_port_width, net_part_port, net_at_width, is_port_of, registers_of}
 use Rattle.cx_static.specs.Lowering.{lowered_component, lowered_of}
 use Rattle.cx_wiring.specs.Assignments.{owner_drives, is_driven, driven_assigns}
 use Rattle.cx_wiring.specs.Chains.{rest_widths}
@@ -37,8 +37,7 @@ use Rattle.cx_wiring.proofs.NetTargets.{plain_wires_count}
 use Rattle.cx_wiring.proofs.DesignNames.{in_filter}
 use Rattle.cx_wiring.proofs.ChildLooks.{child_stands}
 use Rattle.cx_wiring.proofs.HoleLaws.{HoleFits, HolesFit}
-use Rattle.cx_wiring.proofs.InstancePorts.{IsNamed, IsStatic, AssignRules, PortRules, declared_there}
-use Rattle.cx_wiring.proofs.FitTrees.{some_at}
+use Rattle.cx_wiring.proofs.InstancePorts.{IsNamed, PortRules, declared_there}
 
 pub some_is : (a b : BitVector) → ◌≡◌ {A = Option BitVector} (Some a) (Some b) → a ≡ b
 some_is a b e = cc

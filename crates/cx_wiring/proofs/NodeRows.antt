@@ -1,6 +1,6 @@
 -- EACH PRIMITIVE of a node makes at the edge of a cycle without a fault the step that the machine writes, or its idle step where nothing is
 -- written. Of islands that is a premise here.
-use Rattle.std.proofs.Common.{◌≡◌, ◌⊎◌, inl, inr, ◌⊎◌, ℕ, zero, suc, ◌<◌, Bool, true, false, ◌||◌, if◌then◌else◌, List, [], ◌∷◌, length, Option, Some, None, unwrap_or, refl, sym, ap, ap₂, ◌∙◌, subst, arith}
+use Rattle.std.proofs.Common.{◌≡◌, ◌⊎◌, inl, inr, ◌⊎◌, ℕ, ◌<◌, Bool, true, false, if◌then◌else◌, [], ◌∷◌, length, Option, Some, None, unwrap_or, refl, sym, ap, ap₂, ◌∙◌, subst}
 use Rattle.std.specs.Prelude.{nat_eq}
 use Rattle.std.proofs.lemmas.Bool.{eq-eqb}
 use Rattle.std.proofs.lemmas.Bool.Decides.{eqb_tells}
@@ -9,17 +9,16 @@ use Rattle.cx_bits.specs.BitVector.{BitVector}
 use Rattle.cx_prim.specs.CellStates.{CellState}
 use Rattle.cx_prim.specs.Rows.{Row, is_enable_side}
 use Rattle.cx_prim.specs.declared.ports.Side.TheVariants as sides
-use Rattle.cx_meaning.specs.declared.ports.PortRef.{PortRef}
 use Rattle.cx_meaning.specs.declared.ports.PortRef.TheVariants as ports
 use Rattle.cx_meaning.specs.declared.kinds.GroupKind.{GroupKind}
 use Rattle.cx_meaning.specs.declared.kinds.GroupKind.TheVariants as kinds
 use Rattle.cx_meaning.specs.declared.sights.Seen.TheVariants.{Value}
 use Rattle.cx_meaning.specs.Rows.{side_of}
 use Rattle.cx_meaning.specs.Designs.{PlainComponent, PlainDesign, PlainStatement, Enable, Placed, group_at}
-use Rattle.cx_meaning.specs.Instances.{Instance, Node, Cells, OfRow, OfInstance, cell_at, part_of, just, under}
-use Rattle.cx_meaning.specs.Active.{Active, Owned, nothing, group, capture, only_at, source_order, offset_of, drivers}
+use Rattle.cx_meaning.specs.Instances.{Instance, Node, Cells, OfRow, OfInstance, cell_at, part_of, under}
+use Rattle.cx_meaning.specs.Active.{Active, Owned, nothing, group, capture, source_order, offset_of, drivers}
 use Rattle.cx_meaning.specs.Truths.{Truth, One, Zero, Clash, Unknown, truth_of}
-use Rattle.cx_meaning.specs.Sights.{unheld, In, Sees, seen, AnOutput, ItsDone, part_port}
+use Rattle.cx_meaning.specs.Sights.{unheld, In, Sees, seen, AnOutput, part_port}
 use Rattle.cx_meaning.specs.Cycles.{Ended, Goes, Faults, Fault, cycle}
 use Rattle.cx_meaning.specs.Islands.{kind_length, group_length, turn_of, is_one}
 use Rattle.cx_meaning.specs.Control.{group_drives, drives}
@@ -27,20 +26,18 @@ use Rattle.cx_meaning.specs.Calls.{hole_turn, called, captures}
 use Rattle.cx_rules.specs.Items.{Dynamic, is_comb}
 use Rattle.cx_rules.specs.Ports.{width_of}
 use Rattle.cx_rules.specs.Footprints.{Reads, driven}
-use Rattle.cx_rules.specs.Circles.{IsAcyclic}
 use Rattle.cx_rules.proofs.ForeignLemmas.{assigns_drive_in}
 use Rattle.cx_frames.proofs.CircleFrames.{capture_acyclic}
 use Rattle.cx_flow.specs.Apart.{IsApart}
-use Rattle.cx_flow.specs.Flows.{Values, zero_of, first_on, given, side_flow, cell_flow, Solves as FlowSolves}
+use Rattle.cx_flow.specs.Flows.{Values, zero_of, first_on, Solves as FlowSolves}
 use Rattle.cx_flow.proofs.InstanceLemmas.{OwnerOf, continuous, of_group, owner_of}
 use Rattle.cx_flow.proofs.CellLemmas.{quiet_step}
 use Rattle.cx_lockstep.specs.Worlds.{At, Done, Machine, edge_of, is_done}
 use Rattle.cx_lockstep.specs.Statements.{LeafMachines}
 use Rattle.cx_lockstep.specs.Running.{Running, AGroup, AnIsland, leaf_of, leaf_writes, running}
 use Rattle.cx_lockstep.proofs.RunningLaws.{no_faults}
-use Rattle.cx_control.specs.Codings.{Coding}
 use Rattle.cx_control.specs.Spots.{Spot, Cell, Number, Holds, Kept, cells_in, held_in, pull}
-use Rattle.cx_control.specs.Leaves.{Coded, code_of, child_at, turn_next, turn_writes, turn_faults, written, leaf_drives, captured_now, inputs_now, hole_now, capture_now, child_writes, child_faults, called_machine, kind_machine, leaf_machines}
+use Rattle.cx_control.specs.Leaves.{Coded, child_at, turn_next, turn_writes, turn_faults, written, leaf_drives, captured_now, inputs_now, hole_now, child_writes, child_faults, called_machine, kind_machine, leaf_machines}
 use Rattle.cx_control.specs.Controls.{coded_control, coded_below}
 use Rattle.cx_control.specs.Standing.{RestsAt, bare, bare_under, Calling, runs, at_end, captured, GoodAt, good_below}
 use Rattle.cx_control.specs.InstanceRules.{Stands}

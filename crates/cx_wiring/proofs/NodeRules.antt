@@ -1,6 +1,6 @@
 -- What an accepted design gives each node of its tree: the rules of its ports, the groups that it names, targets that have ranks of
 -- their own, and tests of one bit.
-use Rattle.std.proofs.Common.{◌≡◌, inl, inr, ℕ, zero, suc, ◌+◌, ◌<◌, ◌≤◌, Bool, true, false, List, [], ◌∷◌, ◌++◌, length, Option, Some, None, refl, arith}
+use Rattle.std.proofs.Common.{◌≡◌, inl, inr, ℕ, zero, suc, ◌+◌, ◌≤◌, false, List, [], ◌∷◌, ◌++◌, length, Option, Some, None, refl, arith}
 use Rattle.cx_meaning.specs.declared.ports.PortRef.{PortRef}
 use Rattle.cx_meaning.specs.declared.ports.PortRef.TheVariants as ports
 use Rattle.cx_meaning.specs.declared.ports.PlacedPort.{PlacedPort}
@@ -13,15 +13,13 @@ use Rattle.cx_rules.specs.Items.{Context, Dynamic, below_dynamic, Visited, visit
 use Rattle.cx_rules.specs.Accepted.{IsAccepted}
 use Rattle.cx_rules.specs.Wellformed.{IsDesign}
 use Rattle.cx_rules.proofs.Finite.{in_left, in_right}
-use Rattle.cx_net.specs.Nets.{PlainNetTarget, ToPort, ToWire, ToHole, PlainNetDriver}
+use Rattle.cx_net.specs.Nets.{PlainNetTarget, ToWire, PlainNetDriver}
 use Rattle.cx_net.specs.NetMeaning.{same_target}
 use Rattle.cx_static.specs.declared.islands.IslandTimer.{IslandTimer}
 use Rattle.cx_static.specs.Lowering.{Lowering, after, lowered_enable, lowered_form, lowered, lowered_parts, unlowered, lowered_component}
-use Rattle.cx_wiring.specs.Assignments.{target_of, is_driven, driven_assigns, assigns_wires}
-use Rattle.cx_wiring.specs.Counts.{wires_of, registers_of}
+use Rattle.cx_wiring.specs.Assignments.{target_of, is_driven, driven_assigns}
 use Rattle.cx_wiring.specs.Control.{control_drivers}
 use Rattle.cx_wiring.specs.Assignments.{assigns_drivers}
-use Rattle.cx_wiring.specs.IslandDrivers.{island_wires}
 use Rattle.cx_wiring.specs.Wiring.{groups, first_of_control, first_of_assigns, bits, plain_wires, plain_drivers}
 use Rattle.cx_wiring.specs.Bounds.{AllDrive, IslandsName, StatementNames, AssignsName}
 use Rattle.cx_wiring.specs.NetBits.{FormTests, StatementTests, PartsTests}
@@ -37,7 +35,7 @@ use Rattle.cx_wiring.proofs.ComponentTakes.{IsPlain}
 use Rattle.cx_wiring.proofs.DesignNames.{control_named, islands_named, assigns_named, in_filter}
 use Rattle.cx_wiring.proofs.TimerRules.{TimerRules, timer_rules, no_timer_rules}
 use Rattle.cx_wiring.proofs.WholeInstances.{IsWhole, of_component, of_nothing, instance_whole}
-use Rattle.cx_wiring.proofs.InstancePorts.{IsTarget, TestRules, PortRules, port_rules}
+use Rattle.cx_wiring.proofs.InstancePorts.{IsTarget, PortRules, port_rules}
 
 -- TARGETS have ranks of their own, and are no wires of rests
 module _ (P Q : PlainNetTarget → Type 0) where

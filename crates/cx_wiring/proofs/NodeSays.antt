@@ -1,20 +1,19 @@
 -- Each leaf of an island that runs has its say in the net: its entries go, their offsets stand in their wires, and their assignments stand in
 -- the net. What one island says is a premise here.
-use Rattle.std.proofs.Common.{◌≡◌, ℕ, ◌<◌, Bool, true, false, inl, inr, List, [], ◌∷◌, length, Option, Some, None, refl, sym, ap, ◌∙◌, subst}
+use Rattle.std.proofs.Common.{◌≡◌, ℕ, ◌<◌, true, false, inl, inr, List, [], ◌∷◌, length, Option, Some, None, refl, sym, ap, ◌∙◌, subst}
 use Rattle.std.specs.Prelude.{is_some}
 use Rattle.cx_text.specs.declared.places.Place.{Place}
 use Rattle.cx_meaning.specs.declared.kinds.GroupKind.{GroupKind}
 use Rattle.cx_meaning.specs.declared.kinds.GroupKind.TheVariants as kinds
-use Rattle.cx_meaning.specs.Designs.{PlainCell, PlainComponent, PlainDesign, PlainForm, Enable, Placed, group_at}
+use Rattle.cx_meaning.specs.Designs.{PlainCell, PlainComponent, PlainDesign, PlainForm, Enable, group_at}
 use Rattle.cx_meaning.specs.Instances as instances
 use Rattle.cx_meaning.specs.Instances.{Instance, Cells, OfInstance, cell_at}
 use Rattle.cx_meaning.specs.Active.{Entry, offset_in}
 use Rattle.cx_meaning.specs.Sights.{In}
 use Rattle.cx_meaning.specs.Islands.{kind_length, group_length}
-use Rattle.cx_meaning.specs.Control.{group_drives}
 use Rattle.cx_lockstep.specs.Worlds.{At, Machine}
 use Rattle.cx_lockstep.specs.Statements.{LeafMachines}
-use Rattle.cx_lockstep.specs.Running.{Running, AGroup, AnIsland, leaf_of, running}
+use Rattle.cx_lockstep.specs.Running.{Running, AGroup, AnIsland, running}
 use Rattle.cx_control.specs.Spots.{Kept}
 use Rattle.cx_control.specs.Leaves.{Coded, InIsland, Cycle, LastTurn, sampled_now, kind_machine, leaf_machines}
 use Rattle.cx_control.specs.Controls.{coded_control, coded_below}
@@ -37,10 +36,10 @@ use Rattle.cx_wiring.proofs.SeamRules.{SeamRules}
 use Rattle.cx_wiring.proofs.NodeEdges.{IsCycle}
 use Rattle.cx_wiring.proofs.NodeSeam.{entries_at, SaysActive, KindSays, LeafSays}
 use Rattle.cx_wiring.proofs.Occurrences.{active_occurs}
-use Rattle.cx_wiring.proofs.RunOccurs.{LeafHas, leaf_stands_in}
+use Rattle.cx_wiring.proofs.RunOccurs.{leaf_stands_in}
 use Rattle.cx_wiring.proofs.OffsetWalk.{timed_entries}
 use Rattle.cx_wiring.proofs.NodeOffsets.{IslandsSay}
-use Rattle.cx_wiring.proofs.NodeWires.{kind_entries, timed_now, static_now, form_own, leaf_entries, leaf_wire}
+use Rattle.cx_wiring.proofs.NodeWires.{kind_entries, timed_now, static_now, form_own, leaf_wire}
 
 module _ (d : PlainDesign) (part : PlainComponent) (cells : Cells) (rules : NodeRules d (instances.Node part cells)) (own : CellRules (instances.Node part cells)) (seams : SeamRules d (instances.Node part cells))
     (control : ControlRules (instances.Node part cells)) (islands : IslandsDo (instances.Node part cells)) (below : (c : ℕ) (child : Instance) → cell_at cells c ≡ OfInstance child → ChildLaws cells c (coded_below cells c))

@@ -1,7 +1,6 @@
 -- The timers of a node of the tree: what their ports show of their states, and what an edge makes of these.
-use Rattle.std.proofs.Common.{◌≡◌, ℕ, zero, suc, ◌+◌, ◌-◌, ◌<◌, ◌≤◌, ◌==◌, Bool, true, false, if◌then◌else◌, List, [], ◌∷◌, ◌++◌, length, replicate, Option, Some, None, unwrap_or, slice_get, refl, sym, ap, ◌∙◌, arith, length-append}
+use Rattle.std.proofs.Common.{◌≡◌, ℕ, zero, suc, ◌+◌, ◌-◌, ◌<◌, ◌≤◌, ◌==◌, Bool, true, false, if◌then◌else◌, [], ◌∷◌, ◌++◌, length, replicate, Option, Some, unwrap_or, slice_get, refl, sym, ap, ◌∙◌, arith}
 use Rattle.std.specs.Option.{option_map_or}
-use Rattle.std.proofs.lemmas.Bool.{lt-ltb}
 use Rattle.std.proofs.lemmas.List.{length-replicate}
 use Rattle.cx_text.specs.declared.places.Place.{Place}
 use Rattle.cx_bits.specs.BitVector.{BitVector}
@@ -15,14 +14,13 @@ use Rattle.cx_meaning.specs.Instances as instances
 use Rattle.cx_meaning.specs.Instances.{Cells}
 use Rattle.cx_net.specs.Nets.{ToPort}
 use Rattle.cx_net.specs.NetTree.{NetCells, no_net_cells, a_row, a_child, ARow, net_cell_at}
-use Rattle.cx_net.specs.NetMeaning.{NetState, Node, APort, AWire, NetLook, NetAround, is_true, truth_bit, zero_wide, cell_node, is_port_of}
+use Rattle.cx_net.specs.NetMeaning.{NetState, APort, AWire, NetLook, NetAround, truth_bit, zero_wide, cell_node, is_port_of}
 use Rattle.cx_net.specs.NetEdges.{cell_below, inputs_from, own_register}
 use Rattle.cx_static.specs.declared.islands.IslandTimer.{IslandTimer}
 use Rattle.cx_static.specs.Islands.{PlainIsland}
 use Rattle.cx_static.specs.Lowering.{lowered, lowered_component, lowered_of, unlowered}
 use Rattle.cx_wiring.specs.Counts.{sample_registers}
 use Rattle.cx_wiring.specs.Stands.{Stand}
-use Rattle.cx_wiring.specs.IslandDrivers.{island_wires}
 use Rattle.cx_wiring.specs.Control.{whole_stand, form_drivers, drivers_of}
 use Rattle.cx_wiring.specs.Wiring.{groups, first_of_control, bits, plain_wires}
 use Rattle.cx_wiring.specs.PartNets.{wired_in, timers_of}
@@ -33,7 +31,6 @@ use Rattle.cx_wiring.specs.Shown.{wide}
 use Rattle.cx_wiring.specs.BlockNumbers.{component_numbers}
 use Rattle.cx_wiring.specs.IslandNumbers.{count_in, done_bit}
 use Rattle.cx_wiring.specs.Blocks.{block, net_of_cells, Solves, after_edge}
-use Rattle.cx_wiring.proofs.NetTargets.{plain_wires_count}
 use Rattle.cx_wiring.proofs.TimerRows.{EachTimer, IsTimerIn, timer_rows}
 use Rattle.cx_wiring.proofs.CycleLaws.{timer_goes}
 use Rattle.cx_wiring.proofs.KnowLaws.{Known}

@@ -1,6 +1,6 @@
 -- With go, where the net shows a place, the goes of a node are those of the place, and its numbers come to those of the machine's step: with
 -- what islands owe as a premise.
-use Rattle.std.proofs.Common.{◌≡◌, ℕ, zero, suc, ◌+◌, ◌<◌, ◌≤◌, ◌⊎◌, inl, inr, ◌^◌, Bool, true, false, List, [], length, Option, Some, None, refl, sym, ap, ◌∙◌, subst, arith}
+use Rattle.std.proofs.Common.{◌≡◌, ℕ, zero, suc, ◌+◌, ◌<◌, ◌≤◌, ◌⊎◌, inl, inr, ◌^◌, Bool, true, false, List, [], length, Option, Some, None, refl, sym, ap, ◌∙◌, arith}
 use Rattle.std.proofs.lemmas.Bool.{cases_lt}
 use Rattle.cx_text.specs.declared.places.Place.{Place}
 use Rattle.cx_bits.specs.BitVector.{BitVector}
@@ -24,8 +24,8 @@ use Rattle.cx_control.specs.Controls.{coded_control, coded_below, called_coding,
 use Rattle.cx_control.specs.InstanceRules.{Stands}
 use Rattle.cx_control.specs.ControlRules.{ControlRules}
 use Rattle.cx_control.proofs.ControlLaws.{stands_at, leaves_coded, control_coded}
-use Rattle.cx_net.specs.Nets.{OfGo, PlainNetDriver}
-use Rattle.cx_net.specs.NetMeaning.{NetState, NetLook, NetAround, Node, truth_bit}
+use Rattle.cx_net.specs.Nets.{OfGo}
+use Rattle.cx_net.specs.NetMeaning.{NetState, NetLook, NetAround, truth_bit}
 use Rattle.cx_static.specs.Islands.{PlainIsland}
 use Rattle.cx_static.specs.Lowering.{Lowering, after, parts_after, lowered, lowered_component, unlowered}
 use Rattle.cx_wiring.specs.Stands.{Stand}
@@ -33,7 +33,7 @@ use Rattle.cx_wiring.specs.Control.{whole_stand, drivers_of}
 use Rattle.cx_wiring.specs.Wiring.{groups, first_of_control}
 use Rattle.cx_wiring.specs.PartNets.{wired_in, timers_of}
 use Rattle.cx_wiring.specs.Standing.{IsIn}
-use Rattle.cx_wiring.specs.Shown.{Going, told, number_of, going}
+use Rattle.cx_wiring.specs.Shown.{Going, number_of, going}
 use Rattle.cx_wiring.specs.AtLeaves.{IslandsHold}
 use Rattle.cx_wiring.specs.Turning.{Turns}
 use Rattle.cx_wiring.specs.Wired.{IsWired}

@@ -1,5 +1,5 @@
 -- The wires of the offsets of the groups that are active in an island that runs: where such a group drives a cell no other leaf that runs has it.
-use Rattle.std.proofs.Common.{◌≡◌, ℕ, ◌<◌, Bool, true, false, ◌||◌, List, [], ◌∷◌, length, Option, Some, None, refl, sym, ap, ◌∙◌, subst}
+use Rattle.std.proofs.Common.{◌≡◌, ℕ, ◌<◌, true, List, [], ◌∷◌, length, Option, Some, None, sym}
 use Rattle.cx_text.specs.declared.places.Place.{Place}
 use Rattle.cx_meaning.specs.declared.kinds.GroupKind.{GroupKind}
 use Rattle.cx_meaning.specs.declared.kinds.GroupKind.TheVariants as kinds
@@ -8,7 +8,7 @@ use Rattle.cx_meaning.specs.Instances as instances
 use Rattle.cx_meaning.specs.Instances.{Cells, OfInstance, Instance, cell_at}
 use Rattle.cx_meaning.specs.Active.{Entry, offset_in}
 use Rattle.cx_meaning.specs.Sights.{In}
-use Rattle.cx_meaning.specs.Islands.{kind_length, group_length}
+use Rattle.cx_meaning.specs.Islands.{group_length}
 use Rattle.cx_meaning.specs.Control.{groups_of, group_drives, drives}
 use Rattle.cx_meaning.specs.Running.{leaves, control_below}
 use Rattle.cx_rules.specs.Footprints.{Reads}

@@ -1,8 +1,7 @@
 -- The groups that are active in a cycle of an island have an occurrence in it, so their assignments stand in the net.
-use Rattle.std.proofs.Common.{◌≡◌, ◌⊎◌, inl, inr, ℕ, zero, suc, ◌+◌, ◌-◌, ◌*◌, ◌%◌, ◌<◌, Bool, true, false, ◌||◌, if◌then◌else◌, List, [], ◌∷◌, ◌++◌, length, Option, Some, None, refl, sym, ap, ◌∙◌, subst}
+use Rattle.std.proofs.Common.{◌≡◌, ◌⊎◌, inl, inr, ℕ, suc, ◌+◌, ◌-◌, ◌*◌, ◌%◌, Bool, true, false, ◌||◌, if◌then◌else◌, List, [], ◌∷◌, ◌++◌, length, Option, Some, None, refl, sym, ap, ◌∙◌, subst}
 use Rattle.std.specs.Prelude.{is_some, nat_eq, nat_lt}
 use Rattle.std.proofs.lemmas.Bool.{eq-eqb, eqb-true}
-use Rattle.cx_text.specs.declared.places.Place.{Place}
 use Rattle.cx_meaning.specs.Designs.{PlainCell, PlainComponent, PlainForm, Empty, Enable, Seq, Par, If, While, Repeat, StaticSeq, StaticPar, StaticIf, StaticRepeat, Timed, PlainStatement, Placed, PlainStatements, no_statements, a_statement}
 use Rattle.cx_meaning.specs.Active.{Entry, offset_in}
 use Rattle.cx_meaning.specs.Sights.{In}
@@ -11,7 +10,7 @@ use Rattle.cx_laws.specs.Positions.{entry_at, no_entry}
 use Rattle.cx_laws.specs.Samples.{Samples, ifs_of, form_by, statement_by, while_by, parts_by, arms_by, active_by}
 use Rattle.cx_lockstep.proofs.RunningLaws.{in_either}
 use Rattle.cx_static.specs.Islands.{PlainOccurrence, PlainIsland}
-use Rattle.cx_static.specs.Lowering.{Begin, Gathered, later, begin_at, if_sampled, with_occurrence, with_point, with_timer, form_gathered, gathered, parts_gathered, arms_gathered, island_gathered, island_of, Lowering, with_island}
+use Rattle.cx_static.specs.Lowering.{Begin, Gathered, later, begin_at, if_sampled, with_occurrence, with_point, with_timer, form_gathered, gathered, parts_gathered, arms_gathered, island_gathered}
 use Rattle.cx_wiring.specs.Assignments.{occurs_among, occurs_in}
 
 occurs_first : (g : ℕ) (xs ys : List PlainOccurrence) → occurs_among g xs ≡ true → occurs_among g (xs ++ ys) ≡ true

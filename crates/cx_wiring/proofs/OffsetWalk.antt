@@ -1,6 +1,6 @@
 -- Where the registers show a place of a statement and its region acts, the wire of a group's offset takes what the islands say that run at the
 -- place: with what one island says as a premise.
-use Rattle.std.proofs.Common.{◌≡◌, ℕ, zero, suc, ◌+◌, ◌<◌, ◌≤◌, ◌==◌, inl, inr, Bool, true, false, if◌then◌else◌, List, [], ◌∷◌, ◌++◌, length, Option, Some, None, slice_get, flat_map, refl, sym, ap, ◌∙◌, subst, arith}
+use Rattle.std.proofs.Common.{◌≡◌, ℕ, zero, suc, ◌+◌, ◌<◌, ◌≤◌, ◌==◌, inl, inr, Bool, true, if◌then◌else◌, List, [], ◌∷◌, ◌++◌, length, Option, Some, None, slice_get, flat_map, refl, sym, ap, ◌∙◌, subst, arith}
 use Rattle.cx_text.specs.declared.places.Place.{Place}
 use Rattle.cx_bits.specs.BitVector.{BitVector}
 use Rattle.cx_meaning.specs.declared.ports.PortRef.{PortRef}
@@ -30,7 +30,7 @@ use Rattle.cx_wiring.specs.IslandTakes.{IslandNexts}
 use Rattle.cx_wiring.specs.Wired.{IsWired, PartsWired, ArmsWired}
 use Rattle.cx_wiring.proofs.TakingLemmas.{connect_both, takes_append}
 use Rattle.cx_wiring.proofs.TurnLemmas.{beside_first, beside_later}
-use Rattle.cx_wiring.proofs.OffsetWires.{form_isles, isles_of, parts_isles, arms_isles, statement_quiet}
+use Rattle.cx_wiring.proofs.OffsetWires.{isles_of, parts_isles, arms_isles, statement_quiet}
 use Rattle.cx_wiring.proofs.SizeLaws as sizes
 use Rattle.cx_wiring.specs.AtLeaves.{AnyTest, AnyGroup, IslandsHold, enable_holds, StatementHolds, PartsHold, ArmsHold}
 use Rattle.cx_wiring.proofs.ArmTurns.{left_fine, right_fine, left_says, right_says, runs_both}

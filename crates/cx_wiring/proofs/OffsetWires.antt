@@ -1,7 +1,6 @@
 -- The wires of the groups' offsets: of a statement's drivers only those of its islands drive them, and none where nothing of the statement
 -- acts.
 use Rattle.std.proofs.Common.{◌≡◌, ℕ, zero, suc, ◌+◌, ◌<◌, ◌≤◌, ◌==◌, Bool, true, false, List, [], ◌∷◌, ◌++◌, length, Option, Some, None, slice_get, refl, sym, ap, ◌∙◌, arith}
-use Rattle.std.specs.Prelude.{take}
 use Rattle.std.proofs.lemmas.Bool.{ne_eqb}
 use Rattle.cx_bits.specs.BitVector.{BitVector}
 use Rattle.cx_meaning.specs.Designs.{PlainForm, Empty, Enable, Seq, Par, If, While, Repeat, StaticSeq, StaticPar, StaticIf, StaticRepeat, Timed, PlainStatement, Placed, PlainStatements, no_statements, a_statement}
@@ -12,7 +11,7 @@ use Rattle.cx_static.specs.Islands.{PlainIsland, PlainPoint, PlainOccurrence}
 use Rattle.cx_wiring.specs.Parts.{both, either, equals, connect, drive}
 use Rattle.cx_wiring.specs.Counts.{wires_of, registers_of}
 use Rattle.cx_wiring.specs.Stands.{Stand, at, end_of, stands, ends, goes, inside, past_test, behind}
-use Rattle.cx_wiring.specs.IslandDrivers.{island_wires, first_of_island, sample_wire, active_wire, timer_runs, begins, is_active, offset_from, island_done, timer_drivers, point_drivers, occurrence_drivers, island_drivers}
+use Rattle.cx_wiring.specs.IslandDrivers.{first_of_island, sample_wire, active_wire, timer_runs, begins, is_active, offset_from, island_done, timer_drivers, point_drivers, occurrence_drivers, island_drivers}
 use Rattle.cx_wiring.specs.Control.{one_turn, found_one, found_zero, arm_stand, arms_over, arm_finishes, in_last_round, counted_inside, counting, comb_goes, timed_drivers, form_drivers, drivers_of, parts_drivers, arms_drivers}
 use Rattle.cx_wiring.specs.Takings.{takes, takes_of, AllIdle}
 use Rattle.cx_wiring.proofs.TakingLemmas.{takes_append, takes_known, idle_split}

@@ -22,7 +22,6 @@ use Rattle.cx_wiring.specs.PartNets.{wired_in, timers_of}
 use Rattle.cx_wiring.specs.NetBits.{IsBitPort}
 use Rattle.cx_wiring.specs.BlockNumbers.{component_numbers}
 use Rattle.cx_wiring.specs.Blocks.{block, block_below, net_of_cells, numbers_at, numbers_below, has_cell, has_cell_below, Solves}
-use Rattle.cx_wiring.specs.PortValues.{port_value}
 use Rattle.cx_wiring.proofs.TakingLemmas.{true_bit}
 use Rattle.cx_wiring.proofs.CountLaws.{positions_of_some}
 use Rattle.cx_wiring.proofs.BlockTells.{IsFineNode, end_is, block_tells}
@@ -32,7 +31,7 @@ use Rattle.cx_wiring.proofs.NodeRules.{NodeRules, control_tests}
 use Rattle.cx_wiring.proofs.NodePorts.{known, bit_port}
 use Rattle.cx_wiring.proofs.TreeRules.{AllNodes, CellsNodes, FineAt, all_nodes}
 use Rattle.cx_wiring.proofs.SeamRules.{SeamRules, seam_rules}
-use Rattle.cx_wiring.proofs.SeamFlows.{Nearby, output_seen}
+use Rattle.cx_wiring.proofs.SeamFlows.{output_seen}
 
 -- A NODE of an accepted design is fine
 pub fine_node : (d : PlainDesign) (of_island : PlainComponent → NetState → ℕ → ℕ → ℕ → ℕ) (part : PlainComponent) (cells : Cells) → NodeRules d (Node part cells) → IsFineNode d of_island part cells

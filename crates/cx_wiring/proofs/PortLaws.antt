@@ -1,6 +1,6 @@
 -- In the net of a component a port of a cell, or an output, has what the first of its active assignments with a true guard gives it; so
 -- has a hole, of the assignments of its group's done.
-use Rattle.std.proofs.Common.{◌≡◌, ℕ, zero, suc, ◌+◌, ◌-◌, ◌<◌, ◌≤◌, Bool, true, false, List, [], ◌∷◌, ◌++◌, length, replicate, Option, Some, None, unwrap_or, slice_get, refl, sym, ap, ◌∙◌, arith, length-append}
+use Rattle.std.proofs.Common.{◌≡◌, ℕ, zero, suc, ◌+◌, ◌-◌, ◌<◌, ◌≤◌, Bool, true, false, List, [], ◌∷◌, length, replicate, Option, Some, None, unwrap_or, slice_get, refl, sym, ap, ◌∙◌, arith, length-append}
 use Rattle.std.proofs.lemmas.List.{length-replicate}
 use Rattle.cx_bits.specs.BitVector.{BitVector}
 use Rattle.cx_prim.specs.MemoryLaws.{slice_get-append}
@@ -10,13 +10,12 @@ use Rattle.cx_meaning.specs.Designs.{PlainComponent}
 use Rattle.cx_meaning.specs.Active.{group, Owned, offset_of, same_port, source_order, drivers}
 use Rattle.cx_meaning.specs.Sights.{In}
 use Rattle.cx_flow.specs.Flows.{Values, first_on}
-use Rattle.cx_net.specs.Nets.{PlainNetTarget, ToPort, ToRegister, ToWire, ToHole, ToDone, PlainNetDriver}
+use Rattle.cx_net.specs.Nets.{ToPort, ToWire, ToHole, PlainNetDriver}
 use Rattle.cx_net.specs.NetTree.{NetCells}
-use Rattle.cx_net.specs.NetMeaning.{NetState, Node, AWire, NetLook, NetAround, zero_wide, same_target, drivers_to, registers_of, own_step, is_own_node, chain as first_true}
+use Rattle.cx_net.specs.NetMeaning.{NetState, Node, NetLook, NetAround, zero_wide, same_target, drivers_to, registers_of, own_step, is_own_node, chain as first_true}
 use Rattle.cx_static.specs.Islands.{PlainIsland, PlainLowereds}
 use Rattle.cx_static.specs.Lowering.{lowered, lowered_component, unlowered}
 use Rattle.cx_wiring.specs.Chains.{rest_widths}
-use Rattle.cx_wiring.specs.IslandDrivers.{island_wires}
 use Rattle.cx_wiring.specs.Control.{control_drivers}
 use Rattle.cx_wiring.specs.Assignments.{target_of, is_driven, driven_assigns, assigns_wires, assigns_drivers}
 use Rattle.cx_wiring.specs.Bounds.{AllDrive, IslandsName, StatementNames, AssignsName}

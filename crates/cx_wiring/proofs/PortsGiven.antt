@@ -1,6 +1,6 @@
 -- WHAT THE PORTS OF A NODE GIVE it in a cycle in which it is known which groups go: holes and tests are what its machine takes them for,
 -- primitives make its steps, and calls that go on have go and their inputs. Of islands that is a premise here.
-use Rattle.std.proofs.Common.{◌≡◌, ℕ, suc, Bool, true, false, [], ◌∷◌, Some, None, unwrap_or, ap, ◌∙◌}
+use Rattle.std.proofs.Common.{◌≡◌, ℕ, suc, true, false, [], ◌∷◌, Some, None, unwrap_or, ap, ◌∙◌}
 use Rattle.cx_text.specs.declared.places.Place.{Place}
 use Rattle.cx_bits.specs.BitVector.{BitVector}
 use Rattle.cx_prim.specs.Rows.{Row}
@@ -19,7 +19,6 @@ use Rattle.cx_lockstep.proofs.RunningLaws.{no_faults}
 use Rattle.cx_control.specs.Spots.{Cell, Kept}
 use Rattle.cx_control.specs.Leaves.{Coded, child_at, inputs_now, leaf_machines}
 use Rattle.cx_control.specs.Controls.{coded_control, coded_below, leaf_codings}
-use Rattle.cx_control.specs.InstanceRules.{Stands}
 use Rattle.cx_control.specs.CallRules.{CallRules}
 use Rattle.cx_control.specs.ControlRules.{ControlRules}
 use Rattle.cx_control.proofs.CallLaws.{ChildLaws}

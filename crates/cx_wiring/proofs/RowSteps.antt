@@ -1,5 +1,5 @@
 -- The enabling ports of a primitive in the net: 0 where no group goes that drives them but comb groups.
-use Rattle.std.proofs.Common.{◌≡◌, ◌⊎◌, inl, inr, ℕ, true, [], ◌∷◌, Option, Some, None, sym, ap, ◌∙◌}
+use Rattle.std.proofs.Common.{◌≡◌, ◌⊎◌, inl, inr, ℕ, true, [], ◌∷◌, None, ap, ◌∙◌}
 use Rattle.cx_bits.specs.BitVector.{BitVector}
 use Rattle.cx_prim.specs.Rows.{Row}
 use Rattle.cx_prim.specs.declared.ports.Side.TheVariants as sides

@@ -1,8 +1,8 @@
 -- THE SEAM: a port that a leaf looks at has in the net the value that the leaf sees there, where what else goes drives no cell that the leaf
 -- reads. The hole of a group has it whatever goes, and so has an output, since they hang on what rests on state.
-use Rattle.std.proofs.Common.{◌≡◌, ◌⊎◌, inl, inr, ℕ, zero, suc, ◌+◌, ◌<◌, Bool, true, false, List, [], ◌∷◌, length, arith, Option, Some, None, option_map, unwrap_or, slice_get, refl, sym, ap, ◌∙◌, subst}
+use Rattle.std.proofs.Common.{◌≡◌, ◌⊎◌, inl, inr, ℕ, ◌+◌, ◌<◌, Bool, true, false, [], ◌∷◌, length, arith, Option, Some, None, option_map, unwrap_or, refl, sym, ap, ◌∙◌, subst}
 use Rattle.std.specs.Prelude.{nat_eq, if◌then◌else◌}
-use Rattle.std.proofs.lemmas.Bool.{eq-eqb, eqb-true, lt-ltb}
+use Rattle.std.proofs.lemmas.Bool.{eqb-true, lt-ltb}
 use Rattle.cx_bits.specs.BitVector.{BitVector}
 use Rattle.cx_prim.specs.declared.ports.Side.{Side}
 use Rattle.cx_prim.specs.declared.ports.Side.TheVariants as sides
@@ -14,7 +14,7 @@ use Rattle.cx_meaning.specs.declared.sights.Seen.TheVariants.{Value}
 use Rattle.cx_meaning.specs.Rows.{side_of}
 use Rattle.cx_meaning.specs.Designs.{PlainComponent, PlainDesign, PlainStatement, group_at}
 use Rattle.cx_meaning.specs.Instances.{Instance, Node, Cells, At, Nothing, OfRow, OfInstance, cell_at, part_of, State, under}
-use Rattle.cx_meaning.specs.Active.{Active, nothing, group, only_at, Owned, source_order, offset_of, drivers}
+use Rattle.cx_meaning.specs.Active.{Active, nothing, group, only_at, Owned, source_order, offset_of}
 use Rattle.cx_meaning.specs.Sights.{Held, unheld, In, Sees, by_step, seen, bit_of, is_done_cell, PartPort, Go, AnInput, AnOutput, ItsDone, part_port}
 use Rattle.cx_meaning.specs.Cycles.{Next, cell_outcome}
 use Rattle.cx_meaning.specs.Control.{groups_of}
@@ -23,7 +23,7 @@ use Rattle.cx_rules.specs.ShapeRules.{is_hole}
 use Rattle.cx_rules.specs.Circles.{IsAcyclic, AcyclicBelow}
 use Rattle.cx_rules.proofs.FoundLemmas.{seen_found}
 use Rattle.cx_rules.specs.Footprints.{AssignNames, Reads, named, Rests, Leads, Depends, at_once, by_way_of}
-use Rattle.cx_flow.specs.Apart.{IsApart, IsOf, of_cell}
+use Rattle.cx_flow.specs.Apart.{IsApart, of_cell}
 use Rattle.cx_flow.specs.Flows.{Values, zero_of, given, side_flow, part_flow, cell_flow, flow, Solves as FlowSolves, Reaches, Undisturbed}
 use Rattle.cx_flow.proofs.InstanceLemmas.{OwnerOf, continuous, of_group, owner_of, source_in, go_narrow}
 use Rattle.cx_flow.proofs.CellLemmas.{cell_step}

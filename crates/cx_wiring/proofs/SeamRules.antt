@@ -1,7 +1,7 @@
 -- What the rules of acceptance give an instance so that its net has what its leaves see: beside the rules of its ports, lawful rows, where
 -- names may lead, and that what a done or an output looks at rests on state.
 use Rattle.std.specs.Prelude.{is_some}
-use Rattle.std.proofs.Common.{◌≡◌, ◌⊎◌, inl, inr, ℕ, zero, suc, ◌<◌, Bool, true, false, ◌||◌, List, [], ◌∷◌, length, Option, Some, None, refl, sym, ap, ◌∙◌, subst, arith}
+use Rattle.std.proofs.Common.{◌≡◌, inl, inr, ℕ, suc, ◌<◌, true, false, ◌||◌, [], length, Option, Some, refl, sym, ap, ◌∙◌, subst}
 use Rattle.cx_text.specs.declared.rules.Rule.TheVariants as rules
 use Rattle.cx_prim.specs.Rows.{Row, is_enable_side, IsLawful}
 use Rattle.cx_prim.specs.TableLaws.{row_of_lawful}
@@ -9,14 +9,14 @@ use Rattle.cx_prim.specs.declared.ports.Side.TheVariants as sides
 use Rattle.cx_meaning.specs.declared.ports.PortRef.{PortRef}
 use Rattle.cx_meaning.specs.declared.ports.PortRef.TheVariants as ports
 use Rattle.cx_meaning.specs.Rows.{side_of}
-use Rattle.cx_meaning.specs.Designs.{PlainAssign, PlainComponent, PlainDesign, component_at, group_at, no_component, PlainForm, Empty, StaticIf, PlainStatement}
+use Rattle.cx_meaning.specs.Designs.{PlainComponent, PlainDesign, component_at, group_at, no_component, PlainForm, Empty, StaticIf, PlainStatement}
 use Rattle.cx_text.specs.declared.places.Place.{Place}
 use Rattle.cx_meaning.specs.Islands.{group_length}
 use Rattle.cx_meaning.specs.Control.{groups_in}
 use Rattle.cx_meaning.specs.declared.ports.PlacedPort.{PlacedPort}
-use Rattle.cx_meaning.specs.Instances.{Instance, Node, Cells, no_cells, OfRow, OfInstance, cell_at, cells_of, part_of, cells_for, tree_within, tree_of, Path, instance_at}
+use Rattle.cx_meaning.specs.Instances.{Instance, Node, Cells, OfRow, OfInstance, cell_at, cells_of, part_of, cells_for, tree_within, tree_of, Path, instance_at}
 use Rattle.cx_meaning.specs.Active.{Owned, source_order}
-use Rattle.cx_meaning.specs.Sights.{In, AnOutput, ItsDone, part_port}
+use Rattle.cx_meaning.specs.Sights.{In, part_port}
 use Rattle.cx_rules.specs.Ports.{enables_cell, is_primitive_enable, is_part_port, component_of, path_of}
 use Rattle.cx_rules.specs.StaticControl.{is_static}
 use Rattle.cx_rules.specs.Items.{Dynamic, Visited, statements_in, is_comb}

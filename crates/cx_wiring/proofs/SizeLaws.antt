@@ -10,7 +10,7 @@ use Rattle.cx_meaning.specs.Calls.{called}
 use Rattle.cx_lockstep.specs.Statements.{LeafMachines}
 use Rattle.cx_control.specs.Codings.{Coding}
 use Rattle.cx_control.specs.StatementCodings.{LeafCodings, form_coding, statement_coding, parts_coding}
-use Rattle.cx_control.specs.Leaves.{Coded, leaf_machines}
+use Rattle.cx_control.specs.Leaves.{Coded}
 use Rattle.cx_control.specs.Controls.{called_coding, kind_coding, leaf_codings}
 use Rattle.cx_static.specs.Lowering.{Lowering, after, lowered, lowered_parts, lowered_enable}
 use Rattle.cx_wiring.specs.Counts.{positions_of, positions_in}

@@ -1,13 +1,13 @@
 -- After the edge with reset a net that fits holds what its rows and registers can, where the words that were loaded fit its external rows.
-use Rattle.std.proofs.Common.{◌≡◌, ◌⊎◌, inl, inr, ℕ, zero, suc, ◌+◌, ◌<◌, ◌≤◌, ◌^◌, Bool, true, false, if◌then◌else◌, List, [], ◌∷◌, ◌++◌, length, map, All, Option, Some, None, slice_get, refl, sym, ap, ◌∙◌, subst, arith}
+use Rattle.std.proofs.Common.{◌≡◌, ◌⊎◌, inl, inr, ℕ, zero, suc, ◌+◌, ◌<◌, ◌^◌, Bool, true, false, if◌then◌else◌, List, [], ◌∷◌, ◌++◌, length, map, All, Some, slice_get, refl, sym, ap, ◌∙◌, subst, arith}
 use Rattle.std.proofs.lemmas.Nat.{pow_pos}
 use Rattle.std.proofs.lemmas.List.Elements.{All-head, All-tail}
 use Rattle.cx_text.specs.Loading.{PlainRow, PlainMemory, FitsShape, FitsRows, word_count, words_loaded}
-use Rattle.cx_prim.specs.CellStates.{CellState, Memory, SequentialMemory, MemoryOf, SequentialMemoryOf, AreWords, IsState, words_of, with_words}
+use Rattle.cx_prim.specs.CellStates.{CellState, Memory, SequentialMemory, MemoryOf, SequentialMemoryOf, AreWords, IsState, with_words}
 use Rattle.cx_prim.specs.Rows.{reset}
 use Rattle.cx_prim.specs.Table.{PrimitiveRow, row_of}
 use Rattle.cx_prim.specs.TableLaws.{row_of_lawful}
-use Rattle.cx_meaning.specs.Designs.{PlainKind, OfPrimitive, OfComponent, PlainCell}
+use Rattle.cx_meaning.specs.Designs.{OfPrimitive, OfComponent, PlainCell}
 use Rattle.cx_meaning.specs.Instances as instances
 use Rattle.cx_meaning.specs.Instances.{Path, just, externals_from, loaded_at}
 use Rattle.cx_rules.specs.Wellformed.{first_number}
@@ -15,7 +15,7 @@ use Rattle.cx_rules.specs.Externals.{sizes_in, numbers_of, row_for, if_external,
 use Rattle.cx_rules.proofs.ForeignLemmas.{just_self}
 use Rattle.cx_state.proofs.Shapes.{IsMemoryOf, memory_shape}
 use Rattle.cx_net.specs.Nets.{PlainNetComponent, PlainNet}
-use Rattle.cx_net.specs.NetTree.{net_part, net_component_at, net_within, net_tree}
+use Rattle.cx_net.specs.NetTree.{net_component_at, net_within, net_tree}
 use Rattle.cx_net.specs.NetMeaning.{NetLook}
 use Rattle.cx_net.specs.NetEdges.{cell_after, net_after}
 use Rattle.cx_net.specs.NetRuns.{net_start_at, started, net_start}

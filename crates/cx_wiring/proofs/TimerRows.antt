@@ -1,6 +1,6 @@
 -- In the net of a component each timer of an island is a cell with the row of a timer, behind the component's own cells, and no
 -- assignment drives it.
-use Rattle.std.proofs.Common.{◌≡◌, inl, inr, ℕ, zero, suc, ◌+◌, ◌<◌, ◌≤◌, ◌==◌, ◌^◌, nat_le, nat_lt, unwrap_or, false, if◌then◌else◌, List, [], ◌∷◌, ◌++◌, length, Option, Some, None, slice_get, refl, sym, ap, ◌∙◌, subst, arith}
+use Rattle.std.proofs.Common.{◌≡◌, ℕ, zero, suc, ◌+◌, ◌<◌, ◌≤◌, ◌==◌, ◌^◌, nat_le, nat_lt, unwrap_or, false, if◌then◌else◌, List, [], ◌∷◌, ◌++◌, length, Option, Some, None, slice_get, refl, sym, ap, ◌∙◌, arith}
 use Rattle.cx_text.specs.declared.places.Place.{Place}
 use Rattle.cx_prim.specs.declared.names.PrimitiveName.TheVariants as primitives
 use Rattle.cx_prim.specs.Rows.{Row}
@@ -14,7 +14,7 @@ use Rattle.cx_meaning.specs.Designs.{PlainKind, OfPrimitive, OfComponent, PlainC
 use Rattle.cx_meaning.specs.Instances.{Instance, Cells, no_cells, a_primitive, an_instance}
 use Rattle.cx_meaning.specs.Active.{Owned}
 use Rattle.cx_meaning.specs.Sights.{In}
-use Rattle.cx_net.specs.Nets.{PlainNetComponent, ToPort, PlainNetDriver}
+use Rattle.cx_net.specs.Nets.{PlainNetComponent, ToPort}
 use Rattle.cx_net.specs.NetTree.{NetCells, ARow, net_cell_at}
 use Rattle.cx_net.specs.NetMeaning.{NetState, same_target}
 use Rattle.cx_static.specs.declared.islands.IslandTimer.{IslandTimer}

@@ -1,6 +1,6 @@
 -- THE PORTS of an instance, as a look that solves the rules of its node has them, solve the equations of its design: the go of each group
 -- is what its hole says, and its offset what its wire says.
-use Rattle.std.proofs.Common.{◌≡◌, inl, inr, ℕ, zero, suc, ◌+◌, ◌-◌, ◌<◌, ◌≤◌, Bool, true, false, ◌&&◌, if◌then◌else◌, List, [], ◌∷◌, ◌++◌, length, map, Option, Some, None, option_map, option_and_then, unwrap_or, slice_get, refl, sym, ap, ◌∙◌, subst, arith}
+use Rattle.std.proofs.Common.{◌≡◌, inl, inr, ℕ, zero, suc, ◌+◌, ◌-◌, ◌<◌, ◌≤◌, Bool, true, false, ◌&&◌, if◌then◌else◌, List, [], ◌∷◌, length, Option, Some, None, option_map, option_and_then, unwrap_or, slice_get, refl, sym, ap, ◌∙◌, subst, arith}
 use Rattle.std.specs.Prelude.{nat_lt}
 use Rattle.std.proofs.lemmas.Bool.{lt-ltb, ltb-true, ltb-false, le-ltb}
 use Rattle.std.proofs.lemmas.Option.{slice_get-map, slice_get-get_or}
@@ -19,19 +19,19 @@ use Rattle.cx_meaning.specs.Rows.{side_from, side_of}
 use Rattle.cx_meaning.specs.Designs.{PlainCell, PlainComponent, PlainDesign, component_at, no_component, group_at, no_group}
 use Rattle.cx_meaning.specs.Instances.{Instance, Node, Cells, At, Nothing, OfRow, OfInstance, cell_at, part_of}
 use Rattle.cx_meaning.specs.Active.{Active, group, Owned, Acting, acting, offset_of, if_acting, if_target, same_port, source_order, drivers}
-use Rattle.cx_meaning.specs.Sights.{In, PartPort, Go, AnInput, AnOutput, ItsDone, output_port, later_port, part_port}
+use Rattle.cx_meaning.specs.Sights.{In, PartPort, Go, AnInput, AnOutput, ItsDone, output_port, part_port}
 use Rattle.cx_rules.specs.Ports.{declared_width, part_width, cell_width, width_of}
 use Rattle.cx_rules.specs.ShapeRules.{is_hole}
 use Rattle.cx_rules.specs.Wellformed.{IsThere}
 use Rattle.cx_rules.proofs.FoundLemmas.{same_is}
-use Rattle.cx_flow.specs.Flows.{Values, zero_of, guard_on, first_on, given, side_flow, part_flow, cell_flow, flow}
+use Rattle.cx_flow.specs.Flows.{Values, zero_of, guard_on, first_on, given, side_flow, part_flow, cell_flow}
 use Rattle.cx_net.specs.Nets.{ToPort, ToHole}
 use Rattle.cx_net.specs.NetTree.{ARow, AChild}
-use Rattle.cx_net.specs.NetMeaning.{NetState, Node as NetNodes, APort, AHole, TheDone, NetLook, NetAround, zero_wide, net_at_width, gather_known, is_port_of, is_own_node, same_target, drivers_to, registers_of, row_node, child_node, cell_node, chain as first_true}
+use Rattle.cx_net.specs.NetMeaning.{NetState, APort, AHole, TheDone, NetLook, NetAround, zero_wide, net_at_width, gather_known, is_port_of, is_own_node, same_target, drivers_to, registers_of, row_node, child_node, cell_node, chain as first_true}
 use Rattle.cx_static.specs.Islands.{PlainIsland}
 use Rattle.cx_static.specs.Lowering.{lowered_component, lowered_of}
 use Rattle.cx_wiring.specs.Assignments.{target_of, occurs_in, kind_drives, owner_drives, is_driven}
-use Rattle.cx_wiring.specs.Wiring.{groups, width_in_part, kind_width, port_width, target_width}
+use Rattle.cx_wiring.specs.Wiring.{width_in_part, kind_width, port_width, target_width}
 use Rattle.cx_wiring.specs.PartNets.{timer_cells, wired_in, timers_of}
 use Rattle.cx_wiring.specs.GuardPorts.{going_set}
 use Rattle.cx_wiring.specs.Blocks.{block, net_of_instance, net_of_cells, Solves}
@@ -42,7 +42,7 @@ use Rattle.cx_wiring.proofs.AssignLaws.{same_cell, same_output}
 use Rattle.cx_wiring.proofs.ControlPorts.{OfTimers}
 use Rattle.cx_wiring.proofs.TimerPlaces.{cell_no_timer, output_no_timer}
 use Rattle.cx_wiring.proofs.PortLaws.{driven_port, driven_hole}
-use Rattle.cx_wiring.proofs.InstancePorts.{RowOf, ChildOf, PortRules}
+use Rattle.cx_wiring.proofs.InstancePorts.{RowOf, ChildOf}
 use Rattle.cx_wiring.proofs.NodeRules.{NodeRules}
 use Rattle.cx_wiring.proofs.NodePorts.{known, any_offset, row_stands, part_port_same, child_wide, child_here, port_stands, assigns_hold, holes_fit}
 use Rattle.cx_wiring.proofs.FitLemmas.{slice_left}

@@ -1,5 +1,5 @@
 -- Which nodes of a net are of one bit, and how wide the inputs of an instance are.
-use Rattle.std.specs.Prelude.{◌≡◌, ℕ, zero, suc, ◌==◌, ◌&&◌, nat_lt, Bool, true, false, List, [], ◌∷◌, length, Option, Some, None, slice_get}
+use Rattle.std.specs.Prelude.{◌≡◌, ℕ, zero, suc, ◌==◌, ◌&&◌, nat_lt, Bool, true, false, [], ◌∷◌, length, Option, Some, None, slice_get}
 use Rattle.std.specs.Option.{option_map_or}
 use Rattle.cx_bits.specs.BitVector.{BitVector}
 use Rattle.cx_meaning.specs.declared.ports.PortRef.{PortRef}
@@ -8,7 +8,7 @@ use Rattle.cx_meaning.specs.Instances.{Path}
 use Rattle.cx_meaning.specs.Designs.{PlainForm, Empty, Enable, Seq, Par, If, While, Repeat, StaticSeq, StaticPar, StaticIf, StaticRepeat, Timed, PlainStatement, Placed, PlainStatements, no_statements, a_statement}
 use Rattle.cx_rules.specs.Ports.{declared_width}
 use Rattle.cx_net.specs.Nets.{PlainNetComponent}
-use Rattle.cx_net.specs.NetTree.{NetInstance, NetNode, NetCells, no_net_cells, a_row, a_child, NetAt, NoCell, ARow, AChild, net_part, net_cell_at}
+use Rattle.cx_net.specs.NetTree.{NetInstance, NetNode, NetCells, no_net_cells, a_row, a_child, net_part, net_cell_at}
 use Rattle.cx_net.specs.NetMeaning.{Node, APort, AWire, AHole, TheDone, truth_bit, decl_width, net_at_width, is_port_of}
 
 abbrev pub own_bit : PlainNetComponent → NetCells → Node → Bool
