@@ -19,7 +19,7 @@ use Rattle.cx_meaning.specs.Instances.{Instance, Node, Cells, no_cells, a_primit
 use Rattle.cx_meaning.specs.Active.{Active, same_port}
 use Rattle.cx_meaning.specs.Truths.{One, Zero, Unknown, truth_of}
 use Rattle.cx_meaning.specs.Sights.{Look, Held, In, of_option, Given, with_entry, gather_one, gather_port, gather, seen}
-use Rattle.cx_meaning.specs.Cycles.{Fault, Outcome, Next, Stops, enables, after_data, after_enabling, cell_outcome, first_of, first_fault, stepped, cell_after, state_after, Ended, Goes, Faults, unless_fault, every_cell, cycle}
+use Rattle.cx_meaning.specs.Cycles.{Fault, Outcome, Next, Stops, enables, after_data, after_enabling, cell_outcome, first_of, first_fault, stepped, cell_after, state_after, Goes, unless_fault, every_cell, cycle}
 use Rattle.cx_rules.specs.ShapeRules.{some_target}
 use Rattle.cx_rules.specs.CallShape.{is_reg_name, is_reg_kind, write_en_of, register_done, captured_from}
 use Rattle.cx_control.proofs.GroupLaws.{false_true}

@@ -1,6 +1,6 @@
 -- A machine that does what is meant, alone and with the whole store: when it is done, and with what.
 use Rattle.std.proofs.Common.{◌≡◌, ℕ, zero, suc, ◌<◌, Bool, true, false, refl, arith}
-use Rattle.cx_lockstep.specs.Worlds.{Store, World, Control, At, Done, Machine, edge, faults, Moment, after_cycles, is_done, IsQuiet}
+use Rattle.cx_lockstep.specs.Worlds.{Store, World, Control, At, Done, Machine, edge, Moment, after_cycles, is_done, IsQuiet}
 use Rattle.cx_lockstep.specs.Doing.{After, EndsAs, GoesOn, Ended}
 
 module _ {X : Type 0} {V : X → Type 0} {E S : Type 0} (W : World X V E S) (Rests : (x : X) → V x → Type 0) (M : Machine X V) where
