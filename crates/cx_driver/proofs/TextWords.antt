@@ -42,7 +42,7 @@ kind_word (name {first = first} {more = more} w short) =
     (and_from (begins_word (first ∷ more)) (list_all is_name_byte (first ∷ more)) letter each) (le-leb (length (first ∷ more)) 255 short)
 kind_word (number numeral fits stop) = tt
 kind_word (literal width letter base digits wide width_fits eb numeral fits stop) = tt
-kind_word (string body each short) = tt
+kind_word (string bytes each short) = tt
 kind_word (sign s longest) = tt
 
 tokens_words : {place : Place} {text : List ℕ} {tokens : List Token} → HasTokens place text tokens → AreWords tokens
