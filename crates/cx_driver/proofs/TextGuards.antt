@@ -1,13 +1,12 @@
 -- No part of a guard of a text's design is Always: that stands for an assignment without a guard, alone.
-use Rattle.std.proofs.Common.{◌≡◌, ℕ, suc, ◌<◌, List, [], ◌∷◌, ◌++◌, Option, Some, None, length, map, flat_map, inl, inr, ⊎_elim, refl, sym, ap, ◌∙◌, subst, arith}
+use Rattle.std.proofs.Common.{◌≡◌, ℕ, suc, ◌<◌, List, [], ◌∷◌, ◌++◌, Option, Some, None, length, map, flat_map, inl, inr, ⊎_elim, sym, subst, arith}
 use Rattle.std.proofs.lemmas.List.{length-map}
 use Rattle.std.proofs.lemmas.Option.{get_or_from_slice_get}
 use Rattle.cx_ast.specs.declared.statements.BindItem.{BindItem}
 use Rattle.cx_ast.specs.PlainGuards as guards
 use Rattle.cx_ast.specs.PlainTree as ast
 use Rattle.cx_ast.specs.PlainTree.{PlainTree}
-use Rattle.cx_meaning.specs.Active.{Owned}
-use Rattle.cx_meaning.specs.Designs.{PlainGuard, Atom, guards_of, PlainAssign, PlainGroup, no_group, component_at, group_at}
+use Rattle.cx_meaning.specs.Designs.{Atom, guards_of, PlainAssign, PlainGroup, no_group, component_at, group_at}
 use Rattle.cx_meaning.specs.Sights.{In}
 use Rattle.cx_rules.specs.Wellformed.{StandsIn}
 use Rattle.cx_numbering.specs.Names.{groups_in, always_in, group_names}

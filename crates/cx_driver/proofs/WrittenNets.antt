@@ -19,7 +19,7 @@ use Rattle.cx_names.proofs.There.{component_is}
 use Rattle.cx_vtree.specs.Layout.{is_word}
 use Rattle.cx_vtree.specs.Sound.{is_sound}
 use Rattle.cx_net.specs.Nets.{PlainNetComponent, PlainNet}
-use Rattle.cx_net.specs.NetLimits.{nets_below, IsWritable}
+use Rattle.cx_net.specs.NetLimits.{nets_below}
 use Rattle.cx_net.specs.NetMeaning.{NetState}
 use Rattle.cx_net.specs.NetTree.{NetNode, a_row, a_child, net_component_at, net_tree}
 use Rattle.cx_static.specs.Lowering.{lowered_of}
