@@ -10,6 +10,9 @@ pub mod WrittenRows
 pub mod DriverTargets
 pub mod Layers
 pub mod TextLayers
+pub mod TextWords
+pub mod TextGuards
+pub mod WrittenNets
 pub mod CompileLemmas
 pub mod CauseLemmas
 pub mod CompleteLemmas

@@ -1,5 +1,5 @@
 -- What `compile` writes of a text, and what a text is refused for.
-use Rattle.std.specs.Prelude.{◌≡◌, ◌⊎◌, ◌<◌, ◌≤◌, ℕ, List, Result, Ok, Err, decimal}
+use Rattle.std.specs.Prelude.{◌≡◌, ◌⊎◌, ◌<◌, ◌≤◌, ℕ, List, Result, Ok, Err, decimal, true}
 use Rattle.cx_text.specs.declared.diagnostics.Diagnostic.{Diagnostic}
 use Rattle.cx_text.specs.declared.rules.Rule.TheVariants.{TooLarge}
 use Rattle.cx_text.specs.declared.limits.TheConstants.{COMPILE_SIZE}
@@ -7,6 +7,7 @@ use Rattle.cx_meaning.specs.Designs.{PlainDesign, no_place}
 use Rattle.cx_rules.specs.Sizes.{design_size}
 use Rattle.cx_realises.specs.Realises.{Realises}
 use Rattle.cx_vtree.specs.Plain.{PlainSource}
+use Rattle.cx_vtree.specs.Sound.{is_sound}
 use Rattle.cx_static.specs.Lowering.{lowered_of}
 use Rattle.cx_wiring.specs.Wiring.{net_of}
 use Rattle.cx_holes.specs.Inlining.{inlined}
@@ -65,3 +66,7 @@ IsDesignWritten d answer = (design_size d ≤ COMPILE_SIZE) × IsVerilogOf answe
 
 abbrev pub IsDesignTooLarge : PlainDesign → Stop → Type 0
 IsDesignTooLarge d stop = (stop ≡ stops.Memory) ⊎ ((COMPILE_SIZE < design_size d) × (stop ≡ stops.Rule (too_large d)))
+
+-- where the design is within the size, its source is sound
+abbrev pub IsSoundWithin : PlainDesign → Type 0
+IsSoundWithin d = design_size d ≤ COMPILE_SIZE → is_sound (written_source d) ≡ true

@@ -1,13 +1,14 @@
 //! The compiler on texts: the text of a design gives a Verilog text.
 
-ghost use Rattle.std.specs.Prelude.{◌≡◌, ◌≤◌, ◌⊎◌, IfOk, IfErr, MatchResult, decimal, length};
+ghost use Rattle.std.specs.Prelude.{◌≡◌, ◌≤◌, ◌⊎◌, IfOk, IfErr, MatchResult, decimal, length, true};
 ghost use Rattle.cx_text.specs.declared.diagnostics.Diagnostic.{Diagnostic as DiagnosticValue};
 ghost use Rattle.cx_text.specs.declared.rules.Rule.TheVariants as rules;
 ghost use Rattle.cx_meaning.specs.Designs.{no_place};
 ghost use Rattle.cx_design.specs.PlainDesigns.{plain_design};
 ghost use Rattle.cx_vtree.specs.PlainSources.{plain_source};
+ghost use Rattle.cx_vtree.specs.Sound.{is_sound};
 ghost use Rattle.cx_driver.specs.Simulated.{IsVerilogOf};
-ghost use Rattle.cx_driver.specs.Compiled.{CompileBreak, IsCompilable, IsCompileStop, IsCompiled, IsDesignTooLarge, IsDesignWritten, written_source};
+ghost use Rattle.cx_driver.specs.Compiled.{CompileBreak, IsCompilable, IsCompileStop, IsCompiled, IsDesignTooLarge, IsDesignWritten, IsSoundWithin, written_source};
 ghost use Rattle.cx_driver.specs.Promise.{KeepsPromise};
 ghost use Rattle.cx_commands.specs.declared.stops.Stop.TheVariants as stops;
 
@@ -20,7 +21,6 @@ use cx_fsm::build;
 use cx_holes::inline;
 use cx_static::lower;
 use cx_text::{COMPILE_SIZE, Diagnostic, Memory, Name, Place, Rule};
-use cx_vsim::source_is_sound;
 use cx_vtree::Source;
 use cx_vwrite::write;
 use cx_wiring::laws::design_is_realised;
@@ -53,6 +53,7 @@ pub fn compile(alloc: Global, text: &[u8]) -> Result<Vec<u8>, Stop>
 
 /// The Verilog text of a design, where its size is within the limit.
 fn compile_design(alloc: Global, design: &Checked) -> Result<Vec<u8>, Stop>
+    requires sound { IsSoundWithin (plain_design design.now) }
     ensures answer { IfOk result (λ verilog. IsDesignWritten (plain_design design.now) verilog.items) }
     ensures cause { IfErr result (IsDesignTooLarge (plain_design design.now)) }
 {
@@ -81,6 +82,7 @@ fn too_large(alloc: Global, size: u64) -> Stop
 
 /// The Verilog text of a design.
 fn verilog_of(alloc: Global, design: &Checked) -> Result<Vec<u8>, Memory>
+    requires sound { is_sound (written_source (plain_design design.now)) ≡ true }
     ensures { IfOk result (λ text. IsVerilogOf text.items (written_source (plain_design design.now))) }
 {
     let source = source_of(alloc, design)?;
@@ -98,9 +100,9 @@ fn source_of(alloc: Global, design: &Checked) -> Result<Source, Memory>
 
 /// The text that spells a source. One that is too long counts as want of memory.
 fn spelled(alloc: Global, source: &Source) -> Result<Vec<u8>, Memory>
+    requires sound { is_sound (plain_source source.now) ≡ true }
     ensures { IfOk result (λ text. IsVerilogOf text.items (plain_source source.now)) }
 {
-    source_is_sound(source);
     match write(alloc, source) {
         Ok(text) => Ok(text),
         Err(_) => Err(Memory),

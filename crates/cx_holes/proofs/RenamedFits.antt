@@ -1,5 +1,5 @@
 -- A net without holes fits where the net does.
-use Rattle.std.proofs.Common.{◌≡◌, ℕ, zero, suc, ◌<◌, if◌then◌else◌, List, [], ◌∷◌, length, map, replicate, Some, None, option_and_then, slice_get, true, sym, ap, ◌∙◌, subst, refl}
+use Rattle.std.proofs.Common.{◌≡◌, ℕ, zero, suc, ◌<◌, if◌then◌else◌, List, [], ◌∷◌, length, map, replicate, Some, None, option_and_then, slice_get, true, IsSome, sym, ap, ◌∙◌, subst, refl}
 use Rattle.std.proofs.Math.Path.{fun_ext}
 use Rattle.std.proofs.lemmas.Bool.{lt-ltb}
 use Rattle.std.proofs.lemmas.List.{length-map}
@@ -11,7 +11,7 @@ use Rattle.cx_net.specs.Nets.{PlainNetExpr, OfPort, OfRegister, OfWire, OfHole, 
 use Rattle.cx_net.specs.NetTree.{net_component_at}
 use Rattle.cx_net.specs.NetFits.{signature_widths, kind_width, port_width, HasPortWidth, HasWidth, AreBits, target_width, IsFitDriver, IsFitKind, IsFitComponent, IsExternalKind, IsFit, HasNoHoles}
 use Rattle.cx_holes.specs.Inlining.{inlined_expr, inlined_exprs, inlined_target, inlined_driver, inlined_component, inlined}
-use Rattle.cx_holes.specs.Names.{TargetNames, DriverNames, DriversName, ComponentNames, NetNames}
+use Rattle.cx_holes.specs.Names.{TargetNames, DriverNames, DriversName, ComponentNames, NetNames, HasTargets}
 use Rattle.cx_holes.proofs.CellLemmas.{cells-inlined}
 use Rattle.cx_holes.proofs.RenamedNodes.{own_wire, hole_wire}
 use Rattle.cx_holes.proofs.RenamedRuns.{part_same, part_names}
@@ -108,6 +108,17 @@ module _ (net : PlainNet) (names : NetNames net) where
         externals = subst ExternalsFit (sym (cells-inlined net net.main)) h.externals;
         components = λ k within. component_fits k (h.components k (subst (λ n. k < n) same within));
       }
+
+-- and what its drivers drive is there
+pub inlined_targets : (net : PlainNet) → NetNames net → HasTargets net → HasTargets (inlined net)
+inlined_targets net names there k within =
+    let own : k < length net.components = subst (λ n. k < n) (length-map net.components inlined_component) within in
+    subst (λ (c : PlainNetComponent). (m : ℕ) (made : PlainNetDriver) → slice_get c.drivers m ≡ Some made → IsSome (target_width (inlined net) c made.target)) (sym (part_same net.components k))
+    (λ m made e.
+    let part = net_component_at net k in
+    let d = source_driver (inlined_driver (length part.wires)) part.drivers m made e in
+    let named = names_at (length part.wires) part.holes part.drivers m d.0 (part_names net.components k names) d.1 in
+    subst (λ (x : PlainNetDriver). IsSome (target_width (inlined net) (inlined_component part) x.target)) d.2 (subst IsSome (target_same net part d.0.target named.target) (there k own m d.0 d.1)))
 
 pub inlined_no_holes : (net : PlainNet) → HasNoHoles (inlined net)
 inlined_no_holes net k = ap (λ part. part.holes) (part_same net.components k)

@@ -25,7 +25,8 @@ port_there NoCell p = refl
 port_there (ARow row) p = refl
 port_there (AChild (NetNode part cells)) p = refl
 
-counted : (part : PlainNetComponent) → length (inlined_component part).wires ≡ length part.wires + part.holes
+-- as many wires as wires and holes
+pub counted : (part : PlainNetComponent) → length (inlined_component part).wires ≡ length part.wires + part.holes
 counted part = length-append part.wires (replicate part.holes 1) ∙ ap (λ n. length part.wires + n) (length-replicate part.holes 1)
 
 -- a node of a net that stands for one of the net without holes

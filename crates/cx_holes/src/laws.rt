@@ -1,14 +1,15 @@
 //! Laws of nets without holes: each function is empty, and its clause is the law.
 
-ghost use Rattle.std.specs.Prelude.{◌↔◌, ℕ, List};
+ghost use Rattle.std.specs.Prelude.{◌↔◌, ◌≤◌, ℕ, List};
 ghost use Rattle.cx_meaning.specs.Designs.{PlainDesign};
 ghost use Rattle.cx_net.specs.NetFits.{HasNoHoles, IsFit};
+ghost use Rattle.cx_net.specs.NetLimits.{IsWritable, nets_below};
 ghost use Rattle.cx_net.specs.NetRuns.{AreWords, IsGrounded, NetRun};
 ghost use Rattle.cx_net.specs.NetTree.{net_tree};
 ghost use Rattle.cx_net.specs.Nets.{PlainNet};
 ghost use Rattle.cx_vtree.specs.SimRun.{Outcome};
 ghost use Rattle.cx_holes.specs.Inlining.{inlined};
-ghost use Rattle.cx_holes.specs.Names.{HasTargets, NetNames};
+ghost use Rattle.cx_holes.specs.Names.{HasFewWires, HasTargets, NetNames};
 
 /// The net without holes comes to what the net comes to, where this names wires and holes that are there.
 pub fn inlining_keeps_runs()
@@ -29,6 +30,16 @@ pub fn inlining_leaves_no_hole()
 /// It fits where the net fits.
 pub fn inlining_keeps_fit()
     ensures { (n : PlainNet) → NetNames n → IsFit n → IsFit (inlined n) }
+{}
+
+/// What its drivers drive is there, where the net's drivers drive what is there.
+pub fn inlining_keeps_targets()
+    ensures { (n : PlainNet) → NetNames n → HasTargets n → HasTargets (inlined n) }
+{}
+
+/// It can be written where the net can, if the wires that stand for its holes have numbers and leave its nets few enough.
+pub fn inlining_keeps_limits()
+    ensures { (n : PlainNet) → NetNames n → HasFewWires n → nets_below (net_tree (inlined n)) ≤ 4194304 → IsWritable n → IsWritable (inlined n) }
 {}
 
 /// A net that fits names wires and holes that are there, where the targets of its drivers are there.

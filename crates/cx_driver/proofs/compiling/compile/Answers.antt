@@ -2,7 +2,11 @@ use Rattle.std.proofs.Common.{[], Err}
 use Rattle.cx_design.specs.PlainDesigns.{plain_design}
 use Rattle.cx_driver.specs.Compiled.{IsCompileStop}
 use Rattle.cx_driver.proofs.CompileLemmas.{all_compiled, all_refused, refused_compile, text_keeps, text_too_large, text_written}
+use Rattle.cx_driver.proofs.WrittenNets.{written_sound}
 use Rattle.cx_driver.proofs.compiling.compile.Goals as goal
+
+pub compile_design-requires : goal.compile_design-requires
+compile_design-requires c = record { sound = written_sound c.args.text.now (plain_design c.in-Ok.design) c.in-Ok.ensures.design }
 
 pub returns-in-Ok : goal.returns-in-Ok
 returns-in-Ok c =

@@ -1,0 +1,134 @@
+-- The net that compile writes for the design of an accepted text within the size can be written, and so its source is sound.
+use Rattle.std.proofs.Common.{◌≡◌, ℕ, ◌+◌, ◌<◌, ◌≤◌, true, List, [], ◌∷◌, length, refl, sym, ap, ap₂, ◌∙◌, subst, arith}
+use Rattle.std.specs.Prelude.{◌^◌}
+use Rattle.std.proofs.lemmas.List.{length-map}
+use Rattle.std.proofs.lemmas.Option.{slice_get-get_or}
+use Rattle.cx_text.specs.declared.limits.TheConstants.{COMPILE_SIZE}
+use Rattle.cx_ast.specs.PlainTree.{PlainTree}
+use Rattle.cx_prim.specs.Rows.{Row}
+use Rattle.cx_meaning.specs.Designs.{PlainCell, PlainComponent, PlainDesign, no_component, component_at}
+use Rattle.cx_meaning.specs.Instances as instances
+use Rattle.cx_meaning.specs.Instances.{Instance, Cells, no_cells, a_primitive, an_instance, tree_of}
+use Rattle.cx_meaning.specs.Sights.{In}
+use Rattle.cx_rules.specs.Accepted.{IsAccepted}
+use Rattle.cx_rules.specs.Sizes.{size_of, design_size}
+use Rattle.cx_rules.specs.Wellformed.{IsDesign}
+use Rattle.cx_numbering.specs.DesignOf.{plain_cell_of, component_of, design_of}
+use Rattle.cx_names.proofs.Base.{in_at, in_map, some_at}
+use Rattle.cx_names.proofs.There.{component_is}
+use Rattle.cx_vtree.specs.Layout.{is_word}
+use Rattle.cx_vtree.specs.Sound.{is_sound}
+use Rattle.cx_net.specs.Nets.{PlainNetComponent, PlainNet}
+use Rattle.cx_net.specs.NetLimits.{nets_below}
+use Rattle.cx_net.specs.NetMeaning.{NetState}
+use Rattle.cx_net.specs.NetTree.{NetNode, a_row, a_child, net_component_at, net_tree}
+use Rattle.cx_static.specs.Lowering.{lowered_of}
+use Rattle.cx_wiring.specs.Blocks.{rows_alone, net_of_instance, net_of_cells}
+use Rattle.cx_wiring.specs.PartNets.{timers_of, wired_in}
+use Rattle.cx_wiring.specs.Reached.{order}
+use Rattle.cx_wiring.specs.Wiring.{net_of}
+use Rattle.cx_wiring.proofs.ComponentCounts.{PartsHold, component_few}
+use Rattle.cx_wiring.proofs.FitLemmas.{there_at}
+use Rattle.cx_wiring.proofs.FitNets.{size_among, net_fits}
+use Rattle.cx_wiring.proofs.NetCounts.{whole_nets, own_few}
+use Rattle.cx_wiring.proofs.NetTrees.{net_tree-net_of}
+use Rattle.cx_wiring.proofs.NumberLemmas.{in_number}
+use Rattle.cx_wiring.proofs.OrderHeights.{in_slice, stands_at}
+use Rattle.cx_wiring.proofs.WayLemmas.{there, net_long}
+use Rattle.cx_wiring.proofs.WritableNets.{CanBeWritten, net_writable}
+use Rattle.cx_holes.specs.Inlining.{inlined_component, inlined}
+use Rattle.cx_holes.specs.Names.{NetNames}
+use Rattle.cx_holes.specs.Renamed.{inlined_tree, inlined_cells}
+use Rattle.cx_holes.proofs.FitNames.{fit_names}
+use Rattle.cx_holes.proofs.RenamedFits.{inlined_fits, inlined_no_holes}
+use Rattle.cx_holes.proofs.RenamedLimits.{inlined_writable}
+use Rattle.cx_holes.proofs.RenamedRuns.{counted, tree_same}
+use Rattle.cx_emit.proofs.Soundness.{source_is_sound}
+use Rattle.cx_commands.specs.Unread.{HasTree}
+use Rattle.cx_driver.specs.Texts.{IsDesignOf}
+use Rattle.cx_driver.specs.Compiled.{written_source}
+use Rattle.cx_driver.proofs.DriverTargets.{targets_there}
+use Rattle.cx_driver.proofs.TextGuards.{guards_hold}
+use Rattle.cx_driver.proofs.TextLayers.{text_rules}
+use Rattle.cx_driver.proofs.TextWords.{cells_named}
+
+-- FROM THE TEXT: no part of a guard is Always, and external memories have words for names
+design_parts : (text : List ℕ) (d : PlainDesign) → IsDesignOf text d → (k : ℕ) → k < length d.components → PartsHold (component_at d k)
+design_parts text d h = subst (λ (e : PlainDesign). (k : ℕ) → k < length e.components → PartsHold (component_at e k)) (sym h.3) (guards_hold h.0)
+
+cells_words : (text : List ℕ) (tree : PlainTree) → HasTree text tree → (k : ℕ) → k < length (design_of tree).components → (cell : PlainCell) → In (component_at (design_of tree) k).cells cell → is_word cell.name ≡ true
+cells_words text tree has k within cell i =
+    let many : length (design_of tree).components ≡ length tree.components = length-map tree.components (component_of tree) in
+    let part = some_at tree.components k (omega (arith, within, many)) in
+    let own : In (component_of tree part.0).cells cell = subst (λ (p : PlainComponent). In p.cells cell) (component_is tree k part.0 part.1) i in
+    let found = in_map (plain_cell_of tree part.0) part.0.cells cell own in
+    subst (λ (c : PlainCell). is_word c.name ≡ true) found.2 (cells_named text tree has part.0 (in_at tree.components k part.0 part.1) found.0 found.1)
+
+design_words : (text : List ℕ) (d : PlainDesign) → IsDesignOf text d → (k : ℕ) → k < length d.components → (cell : PlainCell) → In (component_at d k).cells cell → is_word cell.name ≡ true
+design_words text d h = subst (λ (e : PlainDesign). (k : ℕ) → k < length e.components → (cell : PlainCell) → In (component_at e k).cells cell → is_word cell.name ≡ true) (sym h.3) (cells_words text h.0 h.1)
+
+can_be_written : (text : List ℕ) (d : PlainDesign) → IsDesignOf text d → IsDesign d → design_size d ≤ COMPILE_SIZE → CanBeWritten d
+can_be_written text d h rules within = record {
+  small = (let few : design_size d ≤ 16384 = within in few);
+  parts = design_parts text d h;
+  words = λ cell i external. design_words text d h d.main rules.main_there cell i;
+}
+
+-- THE TREE of the net without holes: the components of the design as they are wired, with wires in place of holes
+abbrev no_numbers : Instance → NetState → ℕ → ℕ
+no_numbers i s n = 0
+
+abbrev made : PlainDesign → PlainComponent → PlainNetComponent
+made d part = inlined_component (wired_in d part)
+
+rows_made : (d : PlainDesign) (rows : List Row) → inlined_cells (rows_alone (wired_in d) timers_of no_numbers rows) ≡ rows_alone (made d) timers_of no_numbers rows
+rows_made d [] = refl
+rows_made d (row ∷ rows) = ap (a_row row) (rows_made d rows)
+
+mutual
+  tree_made : (d : PlainDesign) (i : Instance) → inlined_tree (net_of_instance (wired_in d) timers_of no_numbers i) ≡ net_of_instance (made d) timers_of no_numbers i
+  tree_made d (instances.Node part cells) = ap (NetNode (made d part)) (cells_made d cells (timers_of part))
+
+  cells_made : (d : PlainDesign) (cells : Cells) (rows : List Row) → inlined_cells (net_of_cells (wired_in d) timers_of no_numbers cells rows) ≡ net_of_cells (made d) timers_of no_numbers cells rows
+  cells_made d no_cells rows = rows_made d rows
+  cells_made d (a_primitive row rest) rows = ap (a_row row) (cells_made d rest rows)
+  cells_made d (an_instance child rest) rows = ap₂ a_child (tree_made d child) (cells_made d rest rows)
+
+module _ (d : PlainDesign) (rules : IsDesign d) (accepted : IsAccepted d) (can : CanBeWritten d) where
+  abbrev net : PlainNet
+  net = net_of (lowered_of d)
+
+  names : NetNames net
+  names = fit_names net (net_fits d rules accepted) (targets_there d rules accepted)
+
+  few_nets : nets_below (net_tree (inlined net)) ≤ 4194304
+  few_nets =
+      let made_so = tree_same net ∙ ap inlined_tree (net_tree-net_of d rules no_numbers) ∙ tree_made d (tree_of d) in
+      subst (λ tree. nets_below tree ≤ 4194304) (sym made_so)
+      (whole_nets d rules (made d) no_numbers accepted
+      (own_few d rules can.parts no_numbers (made d) (λ k. refl)
+      (λ k. let count : length (made d (component_at d k)).wires ≡ length (wired_in d (component_at d k)).wires + (wired_in d (component_at d k)).holes = counted (wired_in d (component_at d k)) in omega arith)
+      (λ k. refl)))
+
+  -- the wires and holes of a component are few
+  own_wires : (k : ℕ) → k < length d.components → length (wired_in d (component_at d k)).wires + (wired_in d (component_at d k)).holes < 2 ^ 64
+  own_wires k within =
+      let size : size_of (component_at d k) < design_size d = size_among d.components k (component_at d k) (slice_get-get_or d.components k no_component within) in
+      let small : design_size d < 2 ^ 32 = rules.few_parts in
+      let wired = component_few d rules k within (can.parts k within) in
+      omega (arith, wired)
+
+  few_wires : (n : ℕ) → n < length net.components → length (net_component_at net n).wires + (net_component_at net n).holes < 2 ^ 64
+  few_wires n less =
+      let r = there_at (order (lowered_of d)) n (subst (λ m. n < m) (net_long d rules) less) in
+      let within : r.0 < length d.components = there d rules r.0 (in_number r.0 (order (lowered_of d)) (in_slice (order (lowered_of d)) n r.0 r.1)) in
+      subst (λ (c : PlainNetComponent). length c.wires + c.holes < 2 ^ 64) (sym (stands_at d rules n r.0 r.1)) (own_wires r.0 within)
+
+  net_sound : is_sound (written_source d) ≡ true
+  net_sound =
+      source_is_sound (inlined net) (inlined_fits net names (net_fits d rules accepted)) (inlined_no_holes net)
+      (inlined_writable net names few_wires few_nets (net_writable d rules accepted can))
+
+-- THE SOURCE that is written for an accepted text within the size is sound
+pub written_sound : (text : List ℕ) (d : PlainDesign) → IsDesignOf text d → design_size d ≤ COMPILE_SIZE → is_sound (written_source d) ≡ true
+written_sound text d h within = let rules = text_rules text d h within in net_sound d rules.0 rules.1 (can_be_written text d h rules.0 within)
