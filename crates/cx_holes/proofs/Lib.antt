@@ -8,3 +8,4 @@ pub mod RenamedRuns
 pub mod RenamedNames
 pub mod RenamedFits
 pub mod FitNames
+pub mod KeptLemmas
