@@ -11,4 +11,4 @@ net_of components main = record { components = components; main = main }
 pub returns-clause-meaning : goal.returns-clause-meaning
 returns-clause-meaning c = λ fits targets.
     made_does (plain_net c.args.net) (plain_net c.new.result) fits targets
-    (c.new.ensures.value ∙ ap₂ net_of (c.in_ok-components.ensures.value ∙ ap (map inlined_component) c.into_components.ensures.value) c.main.ensures.value)
+    (c.new.ensures.value ∙ ap₂ net_of (c.in_ok-components.ensures.value ∙ ap (map inlined_component) c.into_components.ensures.value) c.main-main.ensures.value)
