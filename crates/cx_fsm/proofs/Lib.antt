@@ -10,3 +10,4 @@ mod RestedLemmas
 mod OrderingLemmas
 mod PlanLemmas
 mod ComponentLemmas
+mod BuiltLemmas

@@ -6,3 +6,4 @@ pub mod Marks
 pub mod KnownWidths
 pub mod Chaining
 pub mod Rounds
+pub mod Built

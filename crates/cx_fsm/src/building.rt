@@ -1,21 +1,45 @@
 //! The net of a lowered design.
 
 ghost use Rattle.std.specs.Prelude.{◌≡◌, IfOk, filter_map, map, slice_get};
+ghost use Rattle.cx_meaning.specs.Designs.{PlainDesign};
+ghost use Rattle.cx_rules.specs.Accepted.{IsAccepted};
+ghost use Rattle.cx_rules.specs.Wellformed.{IsDesign};
+ghost use Rattle.cx_net.specs.NetLimits.{IsWritable};
 ghost use Rattle.cx_net.specs.PlainNets.{plain_net, plain_net_component};
+ghost use Rattle.cx_static.specs.Lowering.{lowered_of};
 ghost use Rattle.cx_static.specs.PlainLowered.{plain_lowereds};
 ghost use Rattle.cx_wiring.specs.Reached as reached;
 ghost use Rattle.cx_wiring.specs.Wiring.{net_component, net_of};
+ghost use Rattle.cx_wiring.proofs.WritableNets.{CanBeWritten};
+ghost use Rattle.cx_fsm.specs.Built.{IsNetFor};
 
 use crate::components::net_component;
 use crate::ordering::{ordered, place_in};
 use cx_net::{Net, NetComponent};
 use cx_static::Lowered;
 use cx_text::Memory;
+use cx_wiring::laws::design_is_realised;
 use std::alloc::Global;
 
 /// The net of a design: of the components that `main` reaches, each behind those of its cells. It has for each group two
 /// holes, that it is done and, behind those of all groups, that it goes.
 pub fn build(alloc: Global, design: &Lowered) -> Result<Net, Memory>
+    ensures value { IfOk result (λ net. plain_net net ≡ net_of (plain_lowereds design.now)) }
+
+    // The net of what an accepted design is lowered to does what that design means, from reset and for all words and budgets.
+    ensures meaning { (d : PlainDesign) → IsDesign d → IsAccepted d → plain_lowereds design.now ≡ lowered_of d
+        → IfOk result (λ net. IsNetFor d (plain_net net)) }
+
+    // It can be written, where the design is within the size that is compiled.
+    ensures writable { (d : PlainDesign) → IsDesign d → IsAccepted d → plain_lowereds design.now ≡ lowered_of d → CanBeWritten d
+        → IfOk result (λ net. IsWritable (plain_net net)) }
+{
+    design_is_realised();
+    reached_net(alloc, design)
+}
+
+/// The net of the components that `main` reaches.
+fn reached_net(alloc: Global, design: &Lowered) -> Result<Net, Memory>
     ensures value { IfOk result (λ net. plain_net net ≡ net_of (plain_lowereds design.now)) }
 {
     let order = ordered(alloc, design)?;

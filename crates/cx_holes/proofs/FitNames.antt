@@ -1,10 +1,10 @@
 -- A net that fits names wires and holes that are there, where the targets of its drivers are there.
-use Rattle.std.proofs.Common.{◌≡◌, ℕ, zero, suc, ◌<◌, Bool, true, false, if◌then◌else◌, List, [], ◌∷◌, length, get_or, Option, Some, None, IsSome, slice_get, nat_lt, true≢false, refl, sym, arith}
+use Rattle.std.proofs.Common.{◌≡◌, ℕ, suc, ◌<◌, Bool, true, false, if◌then◌else◌, List, [], ◌∷◌, length, get_or, Option, Some, None, IsSome, slice_get, nat_lt, true≢false, refl, sym, arith}
 use Rattle.std.proofs.lemmas.Bool.{ltb-true}
 use Rattle.std.proofs.lemmas.Option.{slice_get_within}
 use Rattle.cx_net.specs.Nets.{PlainNetExpr, OfPort, OfRegister, OfWire, OfHole, OfGo, Fixed, Inverse, AllOf, AnyOf, Sum, Compares, PlainNetExprs, no_exprs, an_expr, PlainNetTarget, ToPort, ToRegister, ToWire, ToHole, ToDone, PlainNetDriver, PlainNetComponent, PlainNet}
 use Rattle.cx_net.specs.NetTree.{no_net_component, net_component_at}
-use Rattle.cx_net.specs.NetFits.{HasWidth, AreBits, target_width, IsFitDriver, IsFitComponent, IsFit}
+use Rattle.cx_net.specs.NetFits.{HasWidth, AreBits, target_width, IsFitDriver, IsFit}
 use Rattle.cx_holes.specs.Names.{ExprNames, ExprsName, TargetNames, DriverNames, DriversName, ComponentNames, ComponentsName, NetNames, HasTargets}
 
 some_value : (o : Option ℕ) → IsSome o → (w : ℕ) × (o ≡ Some w)

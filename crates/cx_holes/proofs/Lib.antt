@@ -9,3 +9,4 @@ pub mod RenamedNames
 pub mod RenamedFits
 pub mod FitNames
 pub mod RenamedLimits
+pub mod KeptLemmas

@@ -1,3 +1,4 @@
 pub mod Inlining
 pub mod Names
 pub mod Renamed
+pub mod Kept

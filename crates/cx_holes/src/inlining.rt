@@ -1,8 +1,11 @@
 //! Nets without holes.
 
 ghost use Rattle.std.specs.Prelude.{◌≡◌, ◌++◌, IfOk, OnOk, map, replicate};
+ghost use Rattle.cx_net.specs.NetFits.{IsFit};
 ghost use Rattle.cx_net.specs.PlainNets.{plain_net, plain_net_component, plain_net_driver, plain_net_target};
 ghost use Rattle.cx_holes.specs.Inlining.{inlined, inlined_component, inlined_driver, inlined_target};
+ghost use Rattle.cx_holes.specs.Kept.{DoesWithoutHoles};
+ghost use Rattle.cx_holes.specs.Names.{HasTargets};
 
 use crate::exprs::{hole_wire, without_holes};
 use cx_net::{Net, NetComponent, NetDriver, NetTarget};
@@ -12,6 +15,9 @@ use std::alloc::Global;
 /// Replaces each hole by a wire of one bit: hole `h` of a component becomes the wire of that number behind its wires.
 pub fn inline(alloc: Global, net: Net) -> Result<Net, Memory>
     ensures value { IfOk result (λ n. plain_net n ≡ inlined (plain_net net)) }
+
+    // What the net does is kept, where it fits and the target of each driver is there.
+    ensures meaning { IsFit (plain_net net) → HasTargets (plain_net net) → IfOk result (λ n. DoesWithoutHoles (plain_net net) (plain_net n)) }
 {
     let main = net.main();
     let components = components_without_holes(alloc, net.into_components())?;

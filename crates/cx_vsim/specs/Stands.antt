@@ -33,7 +33,13 @@ words_by numbers arrays = map (words_at arrays) numbers
 abbrev pub start_moment : PlainSource → List (List ℕ) → Moment
 start_moment s words = record { state = start_state s words; reset = 0; go = 0 }
 
--- the machine is that of the source, with these words in the arrays of its external memories, which have these numbers
+-- the machine is that of the source, with these words in the arrays of its external memories
+pub record BuiltWith (s : PlainSource) (words : List (List ℕ)) (built : Built) : Type 0 where
+  pub machine : MachineStands (instances_of s) built.machine
+  pub ready : IsReady built.machine built.stored built.bench
+  pub stored : StoredStands (instances_of s) (start_moment s words) built.stored
+
+-- and these arrays have these numbers
 pub record SimStands (s : PlainSource) (words : List (List ℕ)) (built : Built) (numbers : List ℕ) (places : List NetPosition) : Type 0 where
   pub machine : MachineStands (instances_of s) built.machine
   pub ready : IsReady built.machine built.stored built.bench

@@ -6,6 +6,7 @@ ghost use Rattle.cx_vtree.specs.PlainParts.{rows_of};
 ghost use Rattle.cx_vtree.specs.PlainSources.{plain_source};
 ghost use Rattle.cx_vtree.specs.SimRun.{SimRun};
 ghost use Rattle.cx_vsim.specs.Answers.{IsDone, NamesNet, answer_of, final_words};
+ghost use Rattle.cx_vsim.specs.Stands.{BuiltWith};
 
 use crate::answers::SimAnswer;
 use crate::loading::load_words;
@@ -101,6 +102,13 @@ impl<'a> Sim<'a> {
         memories_are_arrays();
         load_words(&self.arrays, &mut self.built.stored.arrays, loaded);
         self.loaded = true;
+    }
+
+    /// Gives up the machine, with the words that are loaded.
+    pub fn into_built(self) -> Built
+        ensures { BuiltWith (plain_source self.entry.source) self.entry.words result }
+    {
+        self.built
     }
 
     /// Runs from reset, and looks at the cycles 0 to `cycles` at most.

@@ -1,0 +1,4 @@
+mod InputLemmas
+mod ReadyLemmas
+mod CycleLemmas
+mod StartLemmas
