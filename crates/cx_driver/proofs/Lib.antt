@@ -9,6 +9,9 @@ pub mod SimLemmas
 pub mod WrittenRows
 pub mod DriverTargets
 pub mod Layers
+pub mod LoweredShape
+pub mod WrittenShape
+pub mod WrittenNets
 pub mod TextLayers
 pub mod CompileLemmas
 pub mod CauseLemmas
