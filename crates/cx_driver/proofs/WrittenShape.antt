@@ -44,14 +44,14 @@ get_or_at (m ∷ ns) (suc n) k e = get_or_at ns n k e
 
 place_there : (k : ℕ) (ns : List ℕ) → has_number k ns ≡ true → get_or ns (place_in k ns) 0 ≡ k
 place_there k [] h = absurd (cc)
-place_there k (n ∷ ns) h = by (eqb_tells k n) where
-  by : Tells k n → get_or (n ∷ ns) (place_in k (n ∷ ns)) 0 ≡ k
-  by (inl e) = ap (λ b. get_or (n ∷ ns) (if b then 0 else (if has_number k ns then suc (place_in k ns) else 0)) 0) e.0 ∙ sym e.1
-  by (inr e) =
+place_there k (n ∷ ns) h = by (eqb_tells k n) (place_there k ns) where
+  by : Tells k n → (has_number k ns ≡ true → get_or ns (place_in k ns) 0 ≡ k) → get_or (n ∷ ns) (place_in k (n ∷ ns)) 0 ≡ k
+  by (inl e) later = ap (λ b. get_or (n ∷ ns) (if b then 0 else (if has_number k ns then suc (place_in k ns) else 0)) 0) e.0 ∙ sym e.1
+  by (inr e) later =
       let rest : has_number k ns ≡ true = ap (λ b. b || has_number k ns) (sym e.0) ∙ h in
       ap (λ b. get_or (n ∷ ns) (if b then 0 else (if has_number k ns then suc (place_in k ns) else 0)) 0) e.0
       ∙ ap (λ b. get_or (n ∷ ns) (if b then suc (place_in k ns) else 0) 0) rest
-      ∙ place_there k ns rest
+      ∙ later rest
 
 timer_at : (cells : List PlainCell) (n : ℕ) (cell : PlainCell) → AreTimers cells → slice_get cells n ≡ Some cell → IsTimer cell
 timer_at [] n cell are e = absurd (cc)

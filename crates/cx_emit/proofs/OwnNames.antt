@@ -79,7 +79,7 @@ primitive_own : (p : PrimitiveRow) (name : List ℕ) → IsOwn name → Each IsO
 primitive_own p name own =
     let m : PlainModule = module_of p name in (
       own,
-      each_append (map (λ q. q.name) m.ports) _ (refl, refl, own_map (λ (q : PlainPort). q.name) (map port_of (row_of p).ports) (row_own (row_of p).ports))
+      each_append (map (λ q. q.name) m.ports) _ (refl, (refl, own_map (λ (q : PlainPort). q.name) (map port_of (row_of p).ports) (row_own (row_of p).ports)))
           (each_append (map decl_name m.decls) [] (own_map decl_name m.decls (pieces_own nothing (pieces_of p.name p.numbers) tt)) tt),
     )
 
@@ -101,15 +101,12 @@ decls_own part cells =
     (own_numbered decl_name register_decl (λ n x. refl) 0 part.registers)
 
 ports_own : (part : PlainNetComponent) → Own (λ (p : PlainPort). p.name) (module_ports part)
-ports_own part = (
-  refl,
-  refl,
-  refl,
-  each_append (with_numbers input_port part.inputs ++ with_numbers output_port part.outputs) (done_port ∷ [])
-      (each_append (with_numbers input_port part.inputs) (with_numbers output_port part.outputs) (own_numbered (λ (p : PlainPort). p.name) input_port (λ n x. refl) 0 part.inputs)
-      (own_numbered (λ (p : PlainPort). p.name) output_port (λ n x. refl) 0 part.outputs))
-      (refl, tt),
-)
+ports_own part =
+    let signature = each_append (with_numbers input_port part.inputs ++ with_numbers output_port part.outputs) (done_port ∷ [])
+    (each_append (with_numbers input_port part.inputs) (with_numbers output_port part.outputs) (own_numbered (λ (p : PlainPort). p.name) input_port (λ n x. refl) 0 part.inputs)
+    (own_numbered (λ (p : PlainPort). p.name) output_port (λ n x. refl) 0 part.outputs))
+    (refl, tt) in
+    (refl, (refl, (refl, signature)))
 
 component_own : (net : PlainNet) (k : ℕ) (part : PlainNetComponent) → Each IsOwn (named_in (component_module net k part))
 component_own net k part =

@@ -152,9 +152,10 @@ modules_fresh before counts (m ∷ ms) clean =
     let own : Counts = module_counts before counts m in
     let here : List Faults = lines_faults (length ms == 0) before own m in
     let rest : List Faults = modules_faults (before ++ m ∷ []) (counts ++ own ∷ []) ms in
-    let head = (clean_left here rest clean).0 in
-    ((or_parts _ _ (or_parts _ _ (ap (λ (f : Faults). f.name) head)).0).0,
-      subst (λ ns. Fresh ns (map (λ x. x.name) ms)) (map-append (λ x. x.name) before (m ∷ [])) (modules_fresh (before ++ m ∷ []) (counts ++ own ∷ []) ms (clean_right here rest clean)))
+    let head = (clean_left here rest clean).0 in (
+      (or_parts _ _ (or_parts _ _ (ap (λ (f : Faults). f.name) head)).0).0,
+      subst (λ ns. Fresh ns (map (λ x. x.name) ms)) (map-append (λ x. x.name) before (m ∷ [])) (modules_fresh (before ++ m ∷ []) (counts ++ own ∷ []) ms (clean_right here rest clean)),
+    )
 
 map_of : {A B : Type 0} (f : A → B) (o : Option A) (y : B) → option_map f o ≡ Some y → (x : A) × (o ≡ Some x) × (f x ≡ y)
 map_of f None y e = absurd (cc)

@@ -86,20 +86,21 @@ module _ (net : PlainNet) (sound : is_sound (source_of net) ≡ true) (fit : IsF
       let declared = (component_declared net (comp_there net sound fit) levels k (kinds_there k lt)).0 in
       let long = length-signature (comp k) in
       let inner = nets-in net levels (comp k).cells in
-      let rest = cells_nets levels k 0 (comp k).cells (λ c cell there y h i is. by_kind c cell there cell.kind refl y h i (is ∙ ap (λ j. (cell_ports net k j cell).kind) (place c))) n (n + 1) in
+      let rest = cells_nets levels k 0 (comp k).cells (λ c cell there y h i is. by_kind (component_nets levels) c cell there cell.kind refl y h i (is ∙ ap (λ j. (cell_ports net k j cell).kind) (place c))) n (n + 1) in
       omega (arith, all, declared, long, inner, rest)
     where
       place : (c : ℕ) → 0 + c ≡ c
       place c = omega arith
 
-      by_kind : (c : ℕ) (cell : PlainCell) → slice_get (comp k).cells c ≡ Some cell → (kind : PlainKind) → cell.kind ≡ kind → (y : PlainInstance) (h i : ℕ) → y.kind ≡ (kind_ports net k c cell.kind).kind
+      by_kind : ((j : ℕ) → j < levels → j < length net.components → (y : PlainInstance) (h i : ℕ) → y.kind ≡ module_name net.main j → nets_count (tree y h i) ≤ nets_below (net_within net levels j))
+          → (c : ℕ) (cell : PlainCell) → slice_get (comp k).cells c ≡ Some cell → (kind : PlainKind) → cell.kind ≡ kind → (y : PlainInstance) (h i : ℕ) → y.kind ≡ (kind_ports net k c cell.kind).kind
           → nets_count (tree y h i) ≤ child_nets net levels cell.kind
-      by_kind c cell there (OfPrimitive p) is y h i at =
+      by_kind inner c cell there (OfPrimitive p) is y h i at =
           subst (λ kind. nets_count (tree y h i) ≤ child_nets net levels kind) (sym is) (primitive_nets k c cell p lt there is y h i (at ∙ ap (λ kind. (kind_ports net k c kind).kind) is))
-      by_kind c cell there (OfComponent j) is y h i at =
+      by_kind inner c cell there (OfComponent j) is y h i at =
           let lower : j < k = subst (IsFitKind k) is ((fit.fits.components k lt).cells c cell there) in
           subst (λ kind. nets_count (tree y h i) ≤ child_nets net levels kind) (sym is)
-          (component_nets levels j (omega (arith, lower, enough)) (omega (arith, lower, lt)) y h i (at ∙ ap (λ kind. (kind_ports net k c kind).kind) is))
+          (inner j (omega (arith, lower, enough)) (omega (arith, lower, lt)) y h i (at ∙ ap (λ kind. (kind_ports net k c kind).kind) is))
 
   -- THE NETS of the whole
   pub source_nets : nets_count (instances_of (source_of net)) ≤ nets_below (net_tree net)
