@@ -107,7 +107,7 @@ module _ (part : PlainComponent) where
     form_grows Empty context place x g = adds_nothing g.cells (length g.points) (static_repeats (visit context (Placed Empty place))) (ifs (visit context (Placed Empty place)))
     form_grows (Enable group) context place x g = occurrence_grows group x (group_length part group) g (visit context (Placed (Enable group) place))
     form_grows (Seq parts) context place x g = adds_nothing g.cells (length g.points) (static_repeats (visit context (Placed (Seq parts) place))) (ifs (visit context (Placed (Seq parts) place)))
-    form_grows (Par as) context place x g = adds_nothing g.cells (length g.points) (static_repeats (visit context (Placed (Par as) place))) (ifs (visit context (Placed (Par as) place)))
+    form_grows (Par ss) context place x g = adds_nothing g.cells (length g.points) (static_repeats (visit context (Placed (Par ss) place))) (ifs (visit context (Placed (Par ss) place)))
     form_grows (If test comb a b) context place x g =
         adds_nothing g.cells (length g.points) (static_repeats (visit context (Placed (If test comb a b) place))) (ifs (visit context (Placed (If test comb a b) place)))
     form_grows (While test comb a) context place x g =
@@ -116,8 +116,8 @@ module _ (part : PlainComponent) where
         adds_nothing g.cells (length g.points) (static_repeats (visit context (Placed (Repeat count a) place))) (ifs (visit context (Placed (Repeat count a) place)))
     form_grows (StaticSeq written parts) context place x g =
         adds_more (static_repeats (visit_all InStatic parts)) (ifs (visit_all InStatic parts)) (0 + static_repeats (visit_all InStatic parts)) (0 + ifs (visit_all InStatic parts)) (parts_grow parts x g) (omega arith) (omega arith)
-    form_grows (StaticPar written as) context place x g =
-        adds_more (static_repeats (visit_all InStatic as)) (ifs (visit_all InStatic as)) (0 + static_repeats (visit_all InStatic as)) (0 + ifs (visit_all InStatic as)) (arms_grow as x g) (omega arith) (omega arith)
+    form_grows (StaticPar written ss) context place x g =
+        adds_more (static_repeats (visit_all InStatic ss)) (ifs (visit_all InStatic ss)) (0 + static_repeats (visit_all InStatic ss)) (0 + ifs (visit_all InStatic ss)) (arms_grow ss x g) (omega arith) (omega arith)
     form_grows (StaticIf written test a b) context place x g =
         let first = with_point test.port x g in
         let second = gathered part a (if_sampled (length g.points) true x) first in
@@ -191,14 +191,14 @@ module _ (part : PlainComponent) where
     form_lowers Empty place l = lowers_nothing l (visit Dynamic (Placed Empty place))
     form_lowers (Enable g) place l = enable_lowers g place (group_length part g) l refl
     form_lowers (Seq parts) place l = below_lowers l (parts_after part parts l) (record { context = Dynamic; form = Seq parts; place = place }) (visit_all Dynamic parts) (parts_lower parts l)
-    form_lowers (Par as) place l = below_lowers l (parts_after part as l) (record { context = Dynamic; form = Par as; place = place }) (visit_all Dynamic as) (parts_lower as l)
+    form_lowers (Par ss) place l = below_lowers l (parts_after part ss l) (record { context = Dynamic; form = Par ss; place = place }) (visit_all Dynamic ss) (parts_lower ss l)
     form_lowers (If test comb a b) place l =
         below_lowers l (after part b (after part a l)) (record { context = Dynamic; form = If test comb a b; place = place }) (visit Dynamic a ++ visit Dynamic b)
         (two_lower l (after part a l) (after part b (after part a l)) (visit Dynamic a) (visit Dynamic b) (lowers a l) (lowers b (after part a l)))
     form_lowers (While test comb a) place l = below_lowers l (after part a l) (record { context = Dynamic; form = While test comb a; place = place }) (visit Dynamic a) (lowers a l)
     form_lowers (Repeat count a) place l = below_lowers l (after part a l) (record { context = Dynamic; form = Repeat count a; place = place }) (visit Dynamic a) (lowers a l)
     form_lowers (StaticSeq written parts) place l = island_lowers (StaticSeq written parts) place l refl
-    form_lowers (StaticPar written as) place l = island_lowers (StaticPar written as) place l refl
+    form_lowers (StaticPar written ss) place l = island_lowers (StaticPar written ss) place l refl
     form_lowers (StaticIf written test a b) place l = island_lowers (StaticIf written test a b) place l refl
     form_lowers (StaticRepeat written count a) place l = island_lowers (StaticRepeat written count a) place l refl
     form_lowers (Timed k) place l = lowers_nothing l (visit Dynamic (Placed (Timed k) place))
@@ -248,7 +248,7 @@ module _ (part : PlainComponent) where
       form_registers_few Empty place l = omega arith
       form_registers_few (Enable g) place l = let h = enable_registers g place (group_length part g) l in omega (arith, h)
       form_registers_few (Seq parts) place l = let h : Few (registers_in among (lowered_parts part parts l)) (visit_all Dynamic parts) (visit_all Dynamic (lowered_parts part parts l)) = parts_registers_few parts l in omega (arith, h)
-      form_registers_few (Par as) place l = let h = arms_registers_few as l in omega (arith, h)
+      form_registers_few (Par ss) place l = let h = arms_registers_few ss l in omega (arith, h)
       form_registers_few (If test comb a b) place l =
           let h = two_few (registers_of among (lowered part a l)) (registers_of among (lowered part b (after part a l))) (visit Dynamic a) (visit Dynamic b) (visit Dynamic (lowered part a l)) (visit Dynamic (lowered part b (after part a l)))
           (registers_few a l) (registers_few b (after part a l)) in
@@ -257,7 +257,7 @@ module _ (part : PlainComponent) where
       form_registers_few (Repeat zero a) place l = omega arith
       form_registers_few (Repeat (suc n) a) place l = let h : Few (registers_of among (lowered part a l)) (visit Dynamic a) (visit Dynamic (lowered part a l)) = registers_few a l in omega (arith, h)
       form_registers_few (StaticSeq written parts) place l = omega arith
-      form_registers_few (StaticPar written as) place l = omega arith
+      form_registers_few (StaticPar written ss) place l = omega arith
       form_registers_few (StaticIf written test a b) place l = omega arith
       form_registers_few (StaticRepeat written count a) place l = omega arith
       form_registers_few (Timed k) place l = omega arith
