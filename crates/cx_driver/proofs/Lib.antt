@@ -11,7 +11,6 @@ pub mod DriverTargets
 pub mod Layers
 pub mod LoweredShape
 pub mod WrittenShape
-pub mod WrittenNets
 pub mod TextLayers
 pub mod CompileLemmas
 pub mod CauseLemmas
