@@ -1,5 +1,5 @@
 -- The source that is written of a design hides nothing: its modules, instances, registers and names are those that the design asks for.
-use Rattle.std.proofs.Common.{◌≡◌, ◌⊎◌, inl, inr, ⊎_elim, ℕ, zero, suc, ◌+◌, ◌-◌, ◌<◌, ◌≤◌, true, false, List, [], ◌∷◌, ◌++◌, length, map, get_or, nat_eq, Option, Some, None, option_map, slice_get, refl, sym, ap, ◌∙◌, subst, if◌then◌else◌, arith, lt-ltb, le-ltb, eq-eqb}
+use Rattle.std.proofs.Common.{◌≡◌, ◌⊎◌, inl, inr, ⊎_elim, ℕ, zero, suc, ◌+◌, ◌-◌, ◌<◌, ◌≤◌, true, false, List, [], ◌∷◌, ◌++◌, length, get_or, nat_eq, Option, Some, None, option_map, slice_get, refl, sym, ap, ◌∙◌, subst, if◌then◌else◌, arith, lt-ltb, le-ltb}
 use Rattle.std.specs.Prelude.{nat_lt, ◌||◌}
 use Rattle.std.proofs.lemmas.Bool.{cases_lt}
 use Rattle.std.proofs.lemmas.Bool.Decides.{eqb_tells}
@@ -39,7 +39,7 @@ use Rattle.cx_driver.proofs.LoweredShape.{IsTimer, AreTimers, timers_are, timers
 -- PLACES of numbers in a list
 get_or_at : (ns : List ℕ) (n k : ℕ) → slice_get ns n ≡ Some k → get_or ns n 0 ≡ k
 get_or_at [] n k e = absurd (cc)
-get_or_at (m ∷ ns) zero k e = cc
+get_or_at (m ∷ ns) zero k e = let same : m ≡ k = cc in same
 get_or_at (m ∷ ns) (suc n) k e = get_or_at ns n k e
 
 place_there : (k : ℕ) (ns : List ℕ) → has_number k ns ≡ true → get_or ns (place_in k ns) 0 ≡ k

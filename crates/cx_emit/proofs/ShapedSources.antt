@@ -1,7 +1,7 @@
 -- The source of a net is shaped as a design asks, where each component of the net has the cells and the registers of one of the design.
-use Rattle.std.proofs.Common.{◌≡◌, ◌⊎◌, inl, inr, ⊎_elim, ℕ, zero, suc, ◌+◌, ◌-◌, ◌<◌, ◌≤◌, Bool, true, false, List, [], ◌∷◌, ◌++◌, length, map, All, Option, Some, None, option_map, slice_get, refl, sym, ap, ◌∙◌, subst, if◌then◌else◌, arith, lt-ltb, le-ltb, eq-eqb, ne_eqb}
+use Rattle.std.proofs.Common.{◌≡◌, ◌⊎◌, inl, inr, ⊎_elim, ℕ, zero, suc, ◌+◌, ◌-◌, ◌<◌, ◌≤◌, Bool, true, false, List, [], ◌∷◌, ◌++◌, length, map, All, Option, Some, None, option_map, slice_get, refl, sym, ap, ◌∙◌, subst, if◌then◌else◌, arith, lt-ltb, le-ltb}
 use Rattle.std.specs.Prelude.{codes, nat_lt, ◌==◌}
-use Rattle.std.proofs.lemmas.Bool.{cases_lt, cond-true, cond-false, false_from_ne_true, or_parts}
+use Rattle.std.proofs.lemmas.Bool.{cases_lt, eq-eqb, cond-true, cond-false, false_from_ne_true, or_parts}
 use Rattle.std.proofs.lemmas.List.{map-append}
 use Rattle.std.proofs.lemmas.Option.{slice_get-map, slice_get-get_or, slice_get_within}
 use Rattle.cx_prim.specs.Table.{PrimitiveRow}
@@ -178,31 +178,31 @@ module _ (net : PlainNet) (stands : ℕ → ℕ) where
   abbrev labels : List Labelled
   labels = lists_from part_labels 0 net.components
 
-  cells_same : (k b : ℕ) (cells : List PlainCell) → map (λ x. x.part) (lists_from (cell_labels k) b cells) ≡ lists_from (cell_modules k) b cells
+  cells_same : (k b : ℕ) (cells : List PlainCell) → map (λ (x : Labelled). x.part) (lists_from (cell_labels k) b cells) ≡ lists_from (cell_modules k) b cells
   cells_same k b [] = refl
   cells_same k b (cell ∷ cells) = by_kind cell.kind (cells_same k (suc b) cells) where
-    by_kind : (kind : PlainKind) → map (λ x. x.part) (lists_from (cell_labels k) (suc b) cells) ≡ lists_from (cell_modules k) (suc b) cells
-        → map (λ x. x.part) (kind_labels k b kind ++ lists_from (cell_labels k) (suc b) cells) ≡ kind_modules k b kind ++ lists_from (cell_modules k) (suc b) cells
+    by_kind : (kind : PlainKind) → map (λ (x : Labelled). x.part) (lists_from (cell_labels k) (suc b) cells) ≡ lists_from (cell_modules k) (suc b) cells
+        → map (λ (x : Labelled). x.part) (kind_labels k b kind ++ lists_from (cell_labels k) (suc b) cells) ≡ kind_modules k b kind ++ lists_from (cell_modules k) (suc b) cells
     by_kind (OfPrimitive p) rest = ap (λ ms. module_of p (cell_module_name k b) ∷ ms) rest
     by_kind (OfComponent j) rest = rest
 
-  parts_same : (b : ℕ) (parts : List PlainNetComponent) → map (λ x. x.part) (lists_from part_labels b parts) ≡ lists_from (component_modules net) b parts
+  parts_same : (b : ℕ) (parts : List PlainNetComponent) → map (λ (x : Labelled). x.part) (lists_from part_labels b parts) ≡ lists_from (component_modules net) b parts
   parts_same b [] = refl
   parts_same b (part ∷ parts) =
-      map-append (λ x. x.part) (part_labels b part) (lists_from part_labels (suc b) parts)
-      ∙ ap (λ ms. ms ++ map (λ x. x.part) (lists_from part_labels (suc b) parts))
-      (map-append (λ x. x.part) (lists_from (cell_labels b) 0 part.cells) (own_label b part ∷ []) ∙ ap (λ ms. ms ++ component_module net b part ∷ []) (cells_same b 0 part.cells))
+      map-append (λ (x : Labelled). x.part) (part_labels b part) (lists_from part_labels (suc b) parts)
+      ∙ ap (λ ms. ms ++ map (λ (x : Labelled). x.part) (lists_from part_labels (suc b) parts))
+      (map-append (λ (x : Labelled). x.part) (lists_from (cell_labels b) 0 part.cells) (own_label b part ∷ []) ∙ ap (λ ms. ms ++ component_module net b part ∷ []) (cells_same b 0 part.cells))
       ∙ ap (λ ms. component_modules net b part ++ ms) (parts_same (suc b) parts)
 
-  labels_same : map (λ x. x.part) labels ≡ (source_of net).modules
+  labels_same : map (λ (x : Labelled). x.part) labels ≡ (source_of net).modules
   labels_same = parts_same 0 net.components
 
   module _ (sound : is_sound (source_of net) ≡ true) where
-    names_apart : AreApart (map (λ m. m.name) (map (λ x. x.part) labels))
-    names_apart = subst (λ ms. AreApart (map (λ m. m.name) ms)) (sym labels_same) (fresh_apart [] (map (λ m. m.name) (source_of net).modules) (modules_fresh [] [] (source_of net).modules (sound-faults (source_of net) sound).1))
+    names_apart : AreApart (map (λ (m : PlainModule). m.name) (map (λ (x : Labelled). x.part) labels))
+    names_apart = subst (λ ms. AreApart (map (λ (m : PlainModule). m.name) ms)) (sym labels_same) (fresh_apart [] (map (λ (m : PlainModule). m.name) (source_of net).modules) (modules_fresh [] [] (source_of net).modules (sound-faults (source_of net) sound).1))
 
-    name_at : (k : ℕ) (x : Labelled) → slice_get labels k ≡ Some x → slice_get (map (λ m. m.name) (map (λ y. y.part) labels)) k ≡ Some x.part.name
-    name_at k x e = slice_get-map (λ (m : PlainModule). m.name) (map (λ y. y.part) labels) k ∙ ap (option_map (λ m. m.name)) (slice_get-map (λ (y : Labelled). y.part) labels k ∙ ap (option_map (λ y. y.part)) e)
+    name_at : (k : ℕ) (x : Labelled) → slice_get labels k ≡ Some x → slice_get (map (λ (m : PlainModule). m.name) (map (λ (y : Labelled). y.part) labels)) k ≡ Some x.part.name
+    name_at k x e = slice_get-map (λ (m : PlainModule). m.name) (map (λ (y : Labelled). y.part) labels) k ∙ ap (option_map (λ (m : PlainModule). m.name)) (slice_get-map (λ (y : Labelled). y.part) labels k ∙ ap (option_map (λ (y : Labelled). y.part)) e)
 
     -- each is of the kind that is found by its name
     label_found : (x : Labelled) → In x labels → kind_named labels x.part.name ≡ x.kind
@@ -280,14 +280,14 @@ module _ (net : PlainNet) (stands : ℕ → ℕ) where
           module_shaped m h =
               let e : option_map (λ (x : Labelled). x.part) (slice_get labels h.0) ≡ Some m = sym (slice_get-map (λ (x : Labelled). x.part) labels h.0) ∙ ap (λ ms. slice_get ms h.0) labels_same ∙ h.1 in
               let (x, at, is) = map_of (λ (x : Labelled). x.part) (slice_get labels h.0) m e in
-              subst (λ n. IsOfKind d (kind_named labels) (kind_named labels n.name) n) is
+              subst (λ (n : PlainModule). IsOfKind d (kind_named labels) (kind_named labels n.name) n) is
               (subst (λ kind. IsOfKind d (kind_named labels) kind x.part) (sym (label_found x (h.0, at))) (label_shaped x (h.0, at)))
 
 -- THE SOURCE of such a net is shaped
 pub source_shaped : (d : PlainDesign) (net : PlainNet) → IsFit net → is_sound (source_of net) ≡ true → IsNetFor d net → IsShaped d (source_of net)
 source_shaped d net fit sound for = record {
   kind = kind_named (labels net for.stands);
-  modules = all_from_each (λ m. IsOfKind d (kind_named (labels net for.stands)) (kind_named (labels net for.stands) m.name) m) (source_of net).modules
+  modules = all_from_each (λ (m : PlainModule). IsOfKind d (kind_named (labels net for.stands)) (kind_named (labels net for.stands) m.name) m) (source_of net).modules
       (each_in (source_of net).modules (module_shaped net for.stands sound fit d for.parts));
   main =
       let name : module_name net.main net.main ≡ codes "main" = ap (λ b. if b then codes "main" else numbered (codes "m") net.main) (eq-eqb net.main net.main refl) in

@@ -1,6 +1,7 @@
 -- The source of a net has no more nets than are counted over the tree of the net.
-use Rattle.std.proofs.Common.{◌≡◌, ℕ, zero, suc, ◌+◌, ◌<◌, ◌≤◌, true, List, [], ◌∷◌, ◌++◌, length, reverse, Some, slice_get, refl, sym, ap, ◌∙◌, subst, if◌then◌else◌, arith, eq-eqb}
+use Rattle.std.proofs.Common.{◌≡◌, ℕ, zero, suc, ◌+◌, ◌<◌, ◌≤◌, true, List, [], ◌∷◌, ◌++◌, length, reverse, Some, slice_get, refl, sym, ap, ◌∙◌, subst, if◌then◌else◌, arith}
 use Rattle.std.specs.Prelude.{codes}
+use Rattle.std.proofs.lemmas.Bool.{eq-eqb}
 use Rattle.std.proofs.lemmas.List.{length-map}
 use Rattle.cx_prim.specs.Table.{PrimitiveRow, row_of}
 use Rattle.cx_meaning.specs.Designs.{PlainKind, OfPrimitive, OfComponent, PlainCell}
@@ -82,11 +83,11 @@ module _ (net : PlainNet) (sound : is_sound (source_of net) ≡ true) (fit : IsF
   component_nets zero k enough lt x holder n named = absurd (omega (arith, enough))
   component_nets (suc levels) k enough lt x holder n named =
       let m : PlainModule = component_module net k (comp k) in
-      let all = tree_nets x holder n m (ap (module_named modules) named ∙ own_known net sound fit k lt) in
-      let declared = (component_declared net (comp_there net sound fit) levels k (kinds_there k lt)).0 in
+      let all : nets_count (tree x holder n) ≡ length m.ports + length (declared_nets m.decls) + nets_count (below tree n (n + 1) m.instances) = tree_nets x holder n m (ap (module_named modules) named ∙ own_known net sound fit k lt) in
+      let declared : length (declared_nets m.decls) ≡ all_ports net levels (comp k).cells + length (comp k).wires + length (comp k).registers = (component_declared net (comp_there net sound fit) levels k (kinds_there k lt)).0 in
       let long = length-signature (comp k) in
       let inner = nets-in net levels (comp k).cells in
-      let rest = cells_nets levels k 0 (comp k).cells (λ c cell there y h i is. by_kind (component_nets levels) c cell there cell.kind refl y h i (is ∙ ap (λ j. (cell_ports net k j cell).kind) (place c))) n (n + 1) in
+      let rest : nets_count (below tree n (n + 1) m.instances) ≤ all_nets net levels (comp k).cells = cells_nets levels k 0 (comp k).cells (λ c cell there y h i is. by_kind (component_nets levels) c cell there cell.kind refl y h i (is ∙ ap (λ j. (cell_ports net k j cell).kind) (place c))) n (n + 1) in
       omega (arith, all, declared, long, inner, rest)
     where
       place : (c : ℕ) → 0 + c ≡ c
