@@ -30,9 +30,9 @@ IsOwn name = is_own_name name ≡ true
 abbrev Own : {A : Type 0} → (A → List ℕ) → List A → Type 0
 Own name xs = Each (λ x. IsOwn (name x)) xs
 
-pub each_append : {A : Type 0} {P : A → Type 0} (xs ys : List A) → Each P xs → Each P ys → Each P (xs ++ ys)
-each_append [] ys h k = k
-each_append (x ∷ xs) ys h k = (h.0, each_append xs ys h.1 k)
+pub each_append : {A : Type 0} (P : A → Type 0) (xs ys : List A) → Each P xs → Each P ys → Each P (xs ++ ys)
+each_append P [] ys h k = k
+each_append P (x ∷ xs) ys h k = (h.0, each_append P xs ys h.1 k)
 
 pub all_from_each : {A : Type 0} (P : A → Type 0) (xs : List A) → Each P xs → All P xs
 all_from_each P [] h = All-nil P
@@ -61,10 +61,10 @@ spelled_own name = by_go (same_name name (codes "go")) (same_name name (codes "d
 
 piece_own : (i : Interior) (p : Piece) → Own decl_name i.decls → Own decl_name (with_piece i p).decls
 unfolding with_piece
-piece_own i (Wire name width value) h = each_append i.decls _ h (spelled_own name, tt)
+piece_own i (Wire name width value) h = each_append _ i.decls _ h (spelled_own name, tt)
 piece_own i (Output name value) h = h
-piece_own i (Register name width next) h = each_append i.decls _ h (spelled_own name, tt)
-piece_own i (Array name width size) h = each_append i.decls _ h (spelled_own name, tt)
+piece_own i (Register name width next) h = each_append _ i.decls _ h (spelled_own name, tt)
+piece_own i (Array name width size) h = each_append _ i.decls _ h (spelled_own name, tt)
 piece_own i (Store guard array index value) h = h
 
 pieces_own : (i : Interior) (ps : List Piece) → Own decl_name i.decls → Own decl_name (with_pieces i ps).decls
@@ -79,8 +79,8 @@ primitive_own : (p : PrimitiveRow) (name : List ℕ) → IsOwn name → Each IsO
 primitive_own p name own =
     let m : PlainModule = module_of p name in (
       own,
-      each_append (map (λ q. q.name) m.ports) _ (refl, (refl, own_map (λ (q : PlainPort). q.name) (map port_of (row_of p).ports) (row_own (row_of p).ports)))
-          (each_append (map decl_name m.decls) [] (own_map decl_name m.decls (pieces_own nothing (pieces_of p.name p.numbers) tt)) tt),
+      each_append _ (map (λ q. q.name) m.ports) _ (refl, (refl, own_map (λ (q : PlainPort). q.name) (map port_of (row_of p).ports) (row_own (row_of p).ports)))
+          (each_append _ (map decl_name m.decls) [] (own_map decl_name m.decls (pieces_own nothing (pieces_of p.name p.numbers) tt)) tt),
     )
 
 -- NAMES of the module of a component
@@ -92,18 +92,18 @@ module_own main k = by_main (k == main) where
 
 cells_own : (b : ℕ) (cells : List PlainCellPorts) → Own decl_name (lists_from cell_decls b cells)
 cells_own b [] = tt
-cells_own b (cell ∷ cells) = each_append (cell_decls b cell) (lists_from cell_decls (suc b) cells) (own_numbered decl_name (port_decl b) (λ n x. refl) 0 cell.ports) (cells_own (suc b) cells)
+cells_own b (cell ∷ cells) = each_append _ (cell_decls b cell) (lists_from cell_decls (suc b) cells) (own_numbered decl_name (port_decl b) (λ n x. refl) 0 cell.ports) (cells_own (suc b) cells)
 
 decls_own : (part : PlainNetComponent) (cells : List PlainCellPorts) → Own decl_name (decls_with part cells)
 decls_own part cells =
-    each_append (lists_from cell_decls 0 cells ++ with_numbers wire_decl part.wires) (with_numbers register_decl part.registers)
-    (each_append (lists_from cell_decls 0 cells) (with_numbers wire_decl part.wires) (cells_own 0 cells) (own_numbered decl_name wire_decl (λ n x. refl) 0 part.wires))
+    each_append _ (lists_from cell_decls 0 cells ++ with_numbers wire_decl part.wires) (with_numbers register_decl part.registers)
+    (each_append _ (lists_from cell_decls 0 cells) (with_numbers wire_decl part.wires) (cells_own 0 cells) (own_numbered decl_name wire_decl (λ n x. refl) 0 part.wires))
     (own_numbered decl_name register_decl (λ n x. refl) 0 part.registers)
 
 ports_own : (part : PlainNetComponent) → Own (λ (p : PlainPort). p.name) (module_ports part)
 ports_own part =
-    let signature = each_append (with_numbers input_port part.inputs ++ with_numbers output_port part.outputs) (done_port ∷ [])
-    (each_append (with_numbers input_port part.inputs) (with_numbers output_port part.outputs) (own_numbered (λ (p : PlainPort). p.name) input_port (λ n x. refl) 0 part.inputs)
+    let signature = each_append _ (with_numbers input_port part.inputs ++ with_numbers output_port part.outputs) (done_port ∷ [])
+    (each_append _ (with_numbers input_port part.inputs) (with_numbers output_port part.outputs) (own_numbered (λ (p : PlainPort). p.name) input_port (λ n x. refl) 0 part.inputs)
     (own_numbered (λ (p : PlainPort). p.name) output_port (λ n x. refl) 0 part.outputs))
     (refl, tt) in
     (refl, (refl, (refl, signature)))
@@ -112,8 +112,8 @@ component_own : (net : PlainNet) (k : ℕ) (part : PlainNetComponent) → Each I
 component_own net k part =
     let m : PlainModule = component_module net k part in (
       module_own net.main k,
-      each_append (map (λ p. p.name) m.ports) _ (own_map (λ (p : PlainPort). p.name) m.ports (ports_own part))
-          (each_append (map decl_name m.decls) _ (own_map decl_name m.decls (decls_own part (with_numbers (cell_ports net k) part.cells)))
+      each_append _ (map (λ p. p.name) m.ports) _ (own_map (λ (p : PlainPort). p.name) m.ports (ports_own part))
+          (each_append _ (map decl_name m.decls) _ (own_map decl_name m.decls (decls_own part (with_numbers (cell_ports net k) part.cells)))
           (own_map (λ (i : PlainInstance). i.name) m.instances (own_numbered (λ (i : PlainInstance). i.name) cell_instance (λ n x. refl) 0 (with_numbers (cell_ports net k) part.cells)))),
     )
 
@@ -123,7 +123,7 @@ AreOwn ms = Each (λ m. Each IsOwn (named_in m)) ms
 
 cell_modules_own : (k b : ℕ) (cells : List PlainCell) → AreOwn (lists_from (cell_modules k) b cells)
 cell_modules_own k b [] = tt
-cell_modules_own k b (cell ∷ cells) = each_append (cell_modules k b cell) (lists_from (cell_modules k) (suc b) cells) (by_kind cell.kind) (cell_modules_own k (suc b) cells) where
+cell_modules_own k b (cell ∷ cells) = each_append _ (cell_modules k b cell) (lists_from (cell_modules k) (suc b) cells) (by_kind cell.kind) (cell_modules_own k (suc b) cells) where
   by_kind : (kind : PlainKind) → AreOwn (kind_modules k b kind)
   by_kind (OfPrimitive p) = (primitive_own p (cell_module_name k b) refl, tt)
   by_kind (OfComponent j) = tt
@@ -131,8 +131,8 @@ cell_modules_own k b (cell ∷ cells) = each_append (cell_modules k b cell) (lis
 modules_own : (net : PlainNet) (b : ℕ) (parts : List PlainNetComponent) → AreOwn (lists_from (component_modules net) b parts)
 modules_own net b [] = tt
 modules_own net b (part ∷ parts) =
-    each_append (component_modules net b part) (lists_from (component_modules net) (suc b) parts)
-    (each_append (lists_from (cell_modules b) 0 part.cells) (component_module net b part ∷ []) (cell_modules_own b 0 part.cells) (component_own net b part, tt))
+    each_append _ (component_modules net b part) (lists_from (component_modules net) (suc b) parts)
+    (each_append _ (lists_from (cell_modules b) 0 part.cells) (component_module net b part ∷ []) (cell_modules_own b 0 part.cells) (component_own net b part, tt))
     (modules_own net (suc b) parts)
 
 all_own : (ms : List PlainModule) → AreOwn ms → All (λ m. All IsOwn (named_in m)) ms
