@@ -17,7 +17,6 @@ use Rattle.cx_wiring.specs.Wiring.{component_registers}
 use Rattle.cx_wiring.proofs.ControlCounts.{Untimed, timed_in, lowered_total, samples_are}
 use Rattle.cx_wiring.proofs.CountLaws.{samples_at, samples_in}
 use Rattle.cx_wiring.proofs.LoweringCounts.{total-append, all_points}
-use Rattle.cx_wiring.proofs.TimerCells.{cells-lowered_component}
 use Rattle.cx_emit.specs.Shapes.{summed, arms_in, repeats_in, static_ifs_in, static_repeats_in, most_registers, most_timers}
 
 -- SUMS

@@ -1,19 +1,18 @@
 -- The names of a source are its own, whatever net it is of.
-use Rattle.std.proofs.Common.{◌≡◌, ◌⊎◌, inl, inr, ℕ, suc, Bool, true, false, List, [], ◌∷◌, ◌++◌, map, All, refl, sym, ap, subst, if◌then◌else◌}
+use Rattle.std.proofs.Common.{◌≡◌, ℕ, suc, Bool, true, false, List, [], ◌∷◌, ◌++◌, map, All, refl, sym, subst, if◌then◌else◌}
 use Rattle.std.specs.Prelude.{codes, ◌==◌, ◌||◌}
 use Rattle.std.proofs.lemmas.List.Elements.{All-nil, All-cons}
 use Rattle.cx_prim.specs.PortNames.{text_of}
 use Rattle.cx_prim.specs.declared.ports.PortRow.{PortRow}
 use Rattle.cx_prim.specs.Table.{PrimitiveRow, row_of}
-use Rattle.cx_meaning.specs.declared.kinds.PortDecl.{PortDecl}
 use Rattle.cx_meaning.specs.Designs.{PlainKind, OfPrimitive, OfComponent, PlainCell}
 use Rattle.cx_vtree.specs.InstanceTree.{same_name}
-use Rattle.cx_vtree.specs.Plain.{PlainPort, PlainDecl, PlainInstance, PlainModule}
+use Rattle.cx_vtree.specs.Plain.{PlainPort, PlainInstance, PlainModule}
 use Rattle.cx_vtree.specs.Sound.{decl_name}
 use Rattle.cx_vlaws.proofs.Fresh.{same_is}
 use Rattle.cx_vmods.specs.Spelling.{spelled}
-use Rattle.cx_vmods.specs.Parts.{Piece, Wire, Output, Register, Array, Store, Interior, nothing, with_piece, with_pieces, made_of}
-use Rattle.cx_vmods.specs.Modules.{port_of, ports_of, pieces_of, module_of}
+use Rattle.cx_vmods.specs.Parts.{Piece, Wire, Output, Register, Array, Store, Interior, nothing, with_piece, with_pieces}
+use Rattle.cx_vmods.specs.Modules.{port_of, pieces_of, module_of}
 use Rattle.cx_net.specs.Nets.{PlainNetComponent, PlainNet}
 use Rattle.cx_emit.specs.Names.{numbered, module_name, cell_module_name}
 use Rattle.cx_emit.specs.Numbered.{numbered_from, with_numbers, lists_from}

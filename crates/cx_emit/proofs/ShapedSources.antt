@@ -1,5 +1,5 @@
 -- The source of a net is shaped as a design asks, where each component of the net has the cells and the registers of one of the design.
-use Rattle.std.proofs.Common.{◌≡◌, ◌⊎◌, inl, inr, ⊎_elim, ℕ, zero, suc, ◌+◌, ◌-◌, ◌<◌, ◌≤◌, Bool, true, false, List, [], ◌∷◌, ◌++◌, length, map, All, Option, Some, None, option_map, slice_get, refl, sym, ap, ◌∙◌, subst, if◌then◌else◌, arith, lt-ltb, le-ltb}
+use Rattle.std.proofs.Common.{◌≡◌, ◌⊎◌, inl, inr, ℕ, zero, suc, ◌+◌, ◌-◌, ◌<◌, ◌≤◌, true, false, List, [], ◌∷◌, ◌++◌, length, map, Option, Some, None, option_map, slice_get, refl, sym, ap, ◌∙◌, subst, if◌then◌else◌, arith, lt-ltb, le-ltb}
 use Rattle.std.specs.Prelude.{codes, nat_lt, ◌==◌}
 use Rattle.std.proofs.lemmas.Bool.{cases_lt, eq-eqb, cond-true, cond-false, false_from_ne_true, or_parts}
 use Rattle.std.proofs.lemmas.List.{map-append}
@@ -9,7 +9,7 @@ use Rattle.cx_meaning.specs.Designs.{PlainKind, OfPrimitive, OfComponent, PlainC
 use Rattle.cx_rules.specs.Wellformed.{LeadsTo}
 use Rattle.cx_vtree.specs.InstanceTree.{same_name}
 use Rattle.cx_vtree.specs.Plain.{PlainPort, PlainDecl, WireOf, RegisterOf, ArrayOf, PlainInstance, PlainModule}
-use Rattle.cx_vtree.specs.Sound.{Faults, Counts, no_faults, has_name, arrays_in, module_counts, lines_faults, modules_faults, is_sound}
+use Rattle.cx_vtree.specs.Sound.{Faults, Counts, arrays_in, module_counts, lines_faults, modules_faults, is_sound}
 use Rattle.cx_vlaws.specs.Names.{AreApart}
 use Rattle.cx_vlaws.proofs.Cleans.{Clean, clean_left, clean_right}
 use Rattle.cx_vlaws.proofs.Fresh.{same_is, is_same, Fresh, fresh_apart}

@@ -11,7 +11,6 @@ use Rattle.cx_vtree.specs.Sound.{module_named, is_sound}
 use Rattle.cx_vlaws.specs.Counts.{nets_count}
 use Rattle.cx_vlaws.proofs.Forest.{unfolds}
 use Rattle.cx_vlaws.proofs.Modules.{sound_keeps}
-use Rattle.cx_vlaws.proofs.Trees.{placed}
 use Rattle.cx_vmods.specs.Modules.{port_of, module_of}
 use Rattle.cx_net.specs.Nets.{PlainNetComponent, PlainNet}
 use Rattle.cx_net.specs.NetFits.{IsFitKind}
