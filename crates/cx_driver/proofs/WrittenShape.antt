@@ -30,7 +30,8 @@ use Rattle.cx_wiring.proofs.WayLemmas.{count_is, there, net_long, child_there}
 use Rattle.cx_holes.specs.Inlining.{inlined_component, inlined}
 use Rattle.cx_holes.proofs.FitNames.{fit_names}
 use Rattle.cx_holes.proofs.RenamedFits.{inlined_fits}
-use Rattle.cx_emit.specs.Shapes.{ForCell, ForTimer, IsUse, IsShaped}
+use Rattle.cx_emit.specs.Shapes.{ForCell, ForTimer, IsUse, IsShaped, HasOwnNames}
+use Rattle.cx_emit.proofs.OwnNames.{source_own_names}
 use Rattle.cx_emit.proofs.ShapedSources.{kind_for, use_at, IsPartFor, IsNetFor, source_shaped}
 use Rattle.cx_driver.specs.Compiled.{written_source}
 use Rattle.cx_driver.proofs.DriverTargets.{targets_there}
@@ -170,3 +171,7 @@ module _ (d : PlainDesign) (rules : IsDesign d) where
   written_shape accepted sound =
       let fits = net_fits d rules accepted in
       source_shaped d net (inlined_fits (net_of low) (fit_names (net_of low) fits (targets_there d rules accepted)) fits) sound net_for
+
+-- ITS NAMES
+pub written_names : (d : PlainDesign) → HasOwnNames (written_source d)
+written_names d = source_own_names (inlined (net_of (lowered_of d)))
