@@ -9,6 +9,8 @@ pub mod SimLemmas
 pub mod WrittenRows
 pub mod DriverTargets
 pub mod Layers
+pub mod LoweredShape
+pub mod WrittenShape
 pub mod TextLayers
 pub mod TextWords
 pub mod TextGuards

@@ -109,7 +109,7 @@ module _ (net : PlainNet) where
   all_words levels [] = 0
   all_words levels (cell ∷ cells) = child_words levels cell.kind + all_words levels cells
 
-  nets-in : (levels : ℕ) (cells : List PlainCell) → nets_in (net_cells_for (net_within net levels) cells) ≡ all_ports levels cells + all_nets levels cells
+  pub nets-in : (levels : ℕ) (cells : List PlainCell) → nets_in (net_cells_for (net_within net levels) cells) ≡ all_ports levels cells + all_nets levels cells
   nets-in levels [] = refl
   nets-in levels (cell ∷ cells) = let rest = nets-in levels cells in let first = go cell.kind in omega (arith, rest, first) where
     go : (kind : PlainKind) → nets_in (add_net_cell (net_within net levels) kind (net_cells_for (net_within net levels) cells)) ≡ child_ports levels kind + child_nets levels kind + nets_in (net_cells_for (net_within net levels) cells)
@@ -172,7 +172,7 @@ module _ (net : PlainNet) where
           words_declared own others ∙ ap (λ n. n + declared_words others) first.1 ∙ ap (λ n. 0 + n) rest.1,
         )
 
-    component_declared : (levels k : ℕ) → Each (λ cell. IsThereKind net cell.kind) (net_component_at net k).cells
+    pub component_declared : (levels k : ℕ) → Each (λ cell. IsThereKind net cell.kind) (net_component_at net k).cells
         → (length (declared_nets (decls_with (net_component_at net k) (with_numbers (cell_ports net k) (net_component_at net k).cells)))
         ≡ all_ports levels (net_component_at net k).cells + length (net_component_at net k).wires + length (net_component_at net k).registers)
         × (declared_words (decls_with (net_component_at net k) (with_numbers (cell_ports net k) (net_component_at net k).cells)) ≡ 0)

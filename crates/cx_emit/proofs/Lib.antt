@@ -43,3 +43,6 @@ pub mod Counted
 pub mod ModuleWalk
 pub mod ExternalSound
 pub mod Soundness
+pub mod OwnNames
+pub mod ShapedSources
+pub mod SourceNets

@@ -80,10 +80,11 @@ module _ (net : PlainNet) (sound : is_sound (source_of net) ≡ true) (fit : IsF
   among_own : (k : ℕ) → k < length net.components → (m : PlainModule) → In m (component_modules net k (comp k)) → In m source.modules
   among_own k lt m h = in_lists (component_modules net) net.components k (comp k) m (comp_there k lt) h
 
-  own_known : (k : ℕ) → k < length net.components → module_named modules (module_name net.main k) ≡ Some (own k)
+  -- the module of a component, and that of a primitive cell, are found by their names
+  pub own_known : (k : ℕ) → k < length net.components → module_named modules (module_name net.main k) ≡ Some (own k)
   own_known k lt = known (own k) (among_own k lt (own k) (in_right (own k) (lists_from (cell_modules k) 0 (comp k).cells) (own k ∷ []) (zero, refl)))
 
-  primitive_known : (k c : ℕ) (cell : PlainCell) (p : PrimitiveRow) → k < length net.components → slice_get (comp k).cells c ≡ Some cell → cell.kind ≡ OfPrimitive p
+  pub primitive_known : (k c : ℕ) (cell : PlainCell) (p : PrimitiveRow) → k < length net.components → slice_get (comp k).cells c ≡ Some cell → cell.kind ≡ OfPrimitive p
       → module_named modules (cell_module_name k c) ≡ Some (module_of p (cell_module_name k c))
   primitive_known k c cell p lt there is =
       let m : PlainModule = module_of p (cell_module_name k c) in

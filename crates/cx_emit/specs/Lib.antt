@@ -11,3 +11,4 @@ pub mod RunsAs
 pub mod Driven
 pub mod PlainForms
 pub mod Numbers
+pub mod Shapes

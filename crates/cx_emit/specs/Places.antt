@@ -1,13 +1,10 @@
 -- Where the parts of a net stand among the instances of its text, and under which names.
-use Rattle.std.specs.Prelude.{◌≡◌, ℕ, zero, suc, ◌+◌, List, [], ◌∷◌, length, reverse, Some, slice_get, codes}
+use Rattle.std.specs.Prelude.{ℕ, zero, suc, ◌+◌, List, [], ◌∷◌, length, reverse, slice_get, codes}
 use Rattle.std.specs.Option.{option_map_or}
 use Rattle.cx_meaning.specs.declared.ports.PortRef.TheVariants as ports
-use Rattle.cx_meaning.specs.Designs.{OfComponent, PlainCell}
 use Rattle.cx_meaning.specs.Instances.{Path}
 use Rattle.cx_vtree.specs.Plain.{PlainInstance, PlainSource}
 use Rattle.cx_vtree.specs.InstanceTree.{tree_from, instances_of}
-use Rattle.cx_net.specs.Nets.{PlainNet}
-use Rattle.cx_net.specs.NetTree.{net_component_at}
 use Rattle.cx_net.specs.NetMeaning.{Node, APort, AWire, AHole, TheDone}
 use Rattle.cx_emit.specs.Names.{input_name, output_name, cell_port_name, wire_name, undeclared_name}
 
