@@ -6,6 +6,7 @@ ghost use Rattle.cx_net.specs.NetMeaning.{NetLook, NetState};
 ghost use Rattle.cx_net.specs.NetRuns.{IsWholeLook, is_done};
 ghost use Rattle.cx_net.specs.NetTree.{net_tree};
 ghost use Rattle.cx_net.specs.Nets.{PlainNet};
+ghost use Rattle.cx_vnets.specs.Runs as flat;
 ghost use Rattle.cx_vnets.specs.Runs.{AreValues, IsReady};
 ghost use Rattle.cx_vnets.specs.Search.{IsFirstWithout};
 ghost use Rattle.cx_net_runs.specs.Standing.{StandsIn};
@@ -52,6 +53,14 @@ pub(crate) fn cycle(
     end_cycle(machine, bench, stored, reset);
 }
 
+/// Whether the net `done` has the value 1.
+fn shows_done(machine: &Machine, bench: &Bench, stored: &Stored) -> bool
+    requires ready { IsReady machine.now stored.now bench.now }
+    ensures { result ≡ flat.is_done machine.now bench.now.values.items }
+{
+    bench.values[machine.done as usize].value() == 1
+}
+
 /// Whether `done` is 1 in a cycle without reset and with go.
 pub(crate) fn tells_done(machine: &Machine, bench: &mut Bench, stored: &mut Stored) -> bool
     requires ready { IsReady machine.now stored.old bench.old }
@@ -65,5 +74,5 @@ pub(crate) fn tells_done(machine: &Machine, bench: &mut Bench, stored: &mut Stor
     if let Some(_net) = values(machine, bench, stored) {
         return false;
     }
-    bench.values[machine.done as usize].value() == 1
+    shows_done(machine, bench, stored)
 }

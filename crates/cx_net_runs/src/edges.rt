@@ -19,7 +19,13 @@ fn bit_of(one: bool) -> Bits
 }
 
 /// Sets the inputs of a cycle.
-pub(crate) fn set_inputs(machine: &Machine, bench: &Bench, stored: &mut Stored, reset: bool, go: bool)
+pub(crate) fn set_inputs(
+    machine: &Machine,
+    bench: &Bench,
+    stored: &mut Stored,
+    reset: bool,
+    go: bool,
+)
     requires ready { IsReady machine.now stored.old bench.now }
     ensures inputs { HasInputs machine.now reset go stored.old stored.new }
     ensures ready { IsReady machine.now stored.new bench.now }

@@ -5,7 +5,6 @@ ghost use Rattle.cx_text.specs.Loading.{FitsRows, plain_loaded, words_loaded};
 ghost use Rattle.cx_rules.specs.Externals.{rows_of};
 ghost use Rattle.cx_net.specs.NetEdges.{net_after};
 ghost use Rattle.cx_net.specs.NetFits.{HasNoHoles, IsFit};
-ghost use Rattle.cx_net.specs.NetLimits.{IsWritable};
 ghost use Rattle.cx_net.specs.NetMeaning.{NetLook, NetState as StateOf};
 ghost use Rattle.cx_net.specs.NetRuns.{IsWholeLook, is_done, net_start};
 ghost use Rattle.cx_net.specs.NetTree.{net_component_at, net_tree};
@@ -26,7 +25,6 @@ use std::alloc::Global;
 fn started(alloc: Global, net: &Net, loaded: &Loaded) -> Result<Built, Memory>
     requires fits { IsFit (plain_net net.now) }
     requires no_holes { HasNoHoles (plain_net net.now) }
-    requires writable { IsWritable (plain_net net.now) }
     requires words { FitsRows (rows_of (net_component_at (plain_net net.now) (plain_net net.now).main).cells) (plain_loaded loaded.now) }
     ensures ready { IfOk result (λ b. IsReady b.machine b.stored b.bench) }
     ensures stands { IfOk result (λ b. StandsIn (plain_net net.now) (net_start (net_tree (plain_net net.now)) (words_loaded (plain_loaded loaded.now))) b.machine b.stored) }
@@ -51,7 +49,6 @@ impl NetState {
     pub fn start(alloc: Global, net: &Net, loaded: &Loaded) -> Result<NetState, Memory>
         requires fits { IsFit (plain_net net.now) }
         requires no_holes { HasNoHoles (plain_net net.now) }
-        requires writable { IsWritable (plain_net net.now) }
         requires words { FitsRows (rows_of (net_component_at (plain_net net.now) (plain_net net.now).main).cells) (plain_loaded loaded.now) }
         ensures ready { IfOk result CanStep }
         ensures value { IfOk result (StandsFor (plain_net net.now) (net_start (net_tree (plain_net net.now)) (words_loaded (plain_loaded loaded.now)))) }
@@ -77,7 +74,13 @@ impl NetState {
             → StandsFor net (net_after (net_tree net) reset go s look) self.new }
     {
         let built = &mut self.built;
-        cycle(&built.machine, &mut built.bench, &mut built.stored, reset, go);
+        cycle(
+            &built.machine,
+            &mut built.bench,
+            &mut built.stored,
+            reset,
+            go,
+        );
         self.done = tells_done(&built.machine, &mut built.bench, &mut built.stored);
     }
 }

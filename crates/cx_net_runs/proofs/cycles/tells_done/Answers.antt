@@ -15,3 +15,9 @@ returns-in-Some-clause-value c = λ net s look stands whole.
 pub returns-clause-stands : goal.returns-clause-stands
 returns-clause-stands c = λ net s stands.
     (0, 1, with_inputs net s c.args.machine.now c.trees_can_be_built.ensures false true c.args.stored.now c.set_inputs.new.stored c.set_inputs.ensures.inputs stands)
+
+pub returns-clause-value : goal.returns-clause-value
+returns-clause-value c = λ net s look stands whole.
+    let m = c.args.machine.now in
+    let at = with_inputs net s m c.trees_can_be_built.ensures false true c.args.stored.now c.set_inputs.new.stored c.set_inputs.ensures.inputs stands in
+    c.shows_done.ensures ∙ done_told net s m c.set_inputs.new.stored false true at c.values.new.bench c.in_default.ensures.ready c.in_default.ensures.value look whole

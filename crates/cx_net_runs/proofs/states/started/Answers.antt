@@ -1,4 +1,4 @@
-use Rattle.std.proofs.Common.{◌≡◌, ℕ, List, ap, sym, ◌∙◌, subst}
+use Rattle.std.proofs.Common.{ℕ, List, ap, sym, ◌∙◌, subst}
 use Rattle.cx_text.specs.Loading.{FitsRows, plain_loaded, words_loaded}
 use Rattle.cx_net.specs.PlainNets.{plain_net}
 use Rattle.cx_vtree.specs.declared.sources.Source.{Source}

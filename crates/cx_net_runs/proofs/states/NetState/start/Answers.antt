@@ -9,6 +9,6 @@ returns-clause-value c =
     let net = plain_net c.args.net.now in
     let s = net_start (net_tree net) (words_loaded (plain_loaded c.args.loaded.now)) in
     record {
-      stored = c.tells_done.ensures.stands net s c.in_ok-built.ensures.stands;
-      done = λ look whole. c.tells_done.ensures.value net s look c.in_ok-built.ensures.stands whole;
+      stored = c.tells_done-done.ensures.stands net s c.in_ok-built.ensures.stands;
+      done = λ look whole. c.tells_done-done.ensures.value net s look c.in_ok-built.ensures.stands whole;
     }
