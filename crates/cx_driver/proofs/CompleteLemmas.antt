@@ -2,7 +2,7 @@
 use Rattle.std.proofs.Common.{◌≡◌, ◌⊎◌, inl, inr, ℕ, List, Option, Some, None, Ok, Err, IsSomeAnd, codes, sym, ap, ◌∙◌, subst}
 use Rattle.cx_outside.specs.Counts.{HasRisen}
 use Rattle.cx_text.specs.declared.limits.TheConstants.{DESIGN_BYTES, DATA_BYTES, VERILOG_BYTES}
-use Rattle.cx_commands.specs.Commands.{Asked, compile, interp, check, sim, wanted_by}
+use Rattle.cx_commands.specs.Commands.{Asked, compile, interp, check, sim, trial, wanted_by}
 use Rattle.cx_driver.specs.Compiled.{Compiles}
 use Rattle.cx_driver.specs.Interpreted.{Interprets}
 use Rattle.cx_driver.specs.Outcomes.{Checks, Does, IsAnswer, CanAnswer}
@@ -20,6 +20,7 @@ use Rattle.cx_driver.proofs.Once.{not_both}
 use Rattle.cx_driver.proofs.TextLemmas.{accepted_once}
 use Rattle.cx_driver.proofs.InterpLemmas.{one_result}
 use Rattle.cx_driver.proofs.CompileLemmas.{compiles_once}
+use Rattle.cx_driver.proofs.TrialLemmas.{tries_once}
 use Rattle.cx_driver.proofs.SimLemmas.{no_stop}
 use Rattle.cx_driver.proofs.ReadLemmas.{Held, Readable, same_bytes, none_over, none_unread}
 
@@ -35,6 +36,7 @@ module _ (holds : List ℕ → Option (List ℕ)) where
   can_read (interp design json budget) answer h = ((h.bytes, h.reads), ((h.is.bytes, h.is.reads), tt))
   can_read (check design) answer h = ((h.bytes, h.reads), tt)
   can_read (sim verilog json budget) answer h = ((h.bytes, h.reads), ((h.is.bytes, h.is.reads), tt))
+  can_read (trial seed) answer h = tt
 
   -- of one file
   of_one : (P Q : List ℕ → Type 0) (m : ℕ) (file : List ℕ) → ((text : List ℕ) → P text → Q text → ⊥) → OfFile (Some holds) m file P → OfFile (Some holds) m file Q → ⊥
@@ -54,6 +56,7 @@ module _ (holds : List ℕ → Option (List ℕ)) where
       VERILOG_BYTES verilog
       (λ text. of_one (λ bytes. Simulates text bytes budget (Ok answer)) (λ bytes. Simulates text bytes budget (Err stop)) DATA_BYTES json
       (λ bytes p q. no_stop text bytes budget answer stop p q)) h k
+  does_once (trial seed) answer stop h k = tries_once seed answer stop h k
 
   -- nothing but want of memory is told of files that give an answer
   memory_alone : (command : Asked) (before after : ℕ) (answer : List ℕ) (refusal : Refusal) → IsAnswer (Some holds) command answer → (HasRisen before after → ⊥) → HasCause command (Some holds) before after refusal

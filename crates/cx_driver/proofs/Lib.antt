@@ -11,6 +11,7 @@ pub mod DriverTargets
 pub mod Layers
 pub mod TextLayers
 pub mod CompileLemmas
+pub mod TrialLemmas
 pub mod CauseLemmas
 pub mod CompleteLemmas
 pub mod BelowLemmas

@@ -2,12 +2,13 @@
 use Rattle.std.specs.Prelude.{◌≡◌, ◌⊎◌, ℕ, List, Option, Result, Ok, Err, codes}
 use Rattle.cx_text.specs.declared.diagnostics.Diagnostic.{Diagnostic}
 use Rattle.cx_text.specs.declared.limits.TheConstants.{DESIGN_BYTES, DATA_BYTES, VERILOG_BYTES}
-use Rattle.cx_commands.specs.Commands.{Asked, compile, interp, check, sim, Asks}
+use Rattle.cx_commands.specs.Commands.{Asked, compile, interp, check, sim, trial, Asks}
 use Rattle.cx_commands.specs.Reads.{OfFile}
 use Rattle.cx_driver.specs.Texts.{IsAcceptedText, TextBreak}
 use Rattle.cx_driver.specs.Compiled.{Compiles}
 use Rattle.cx_driver.specs.Interpreted.{Interprets}
 use Rattle.cx_driver.specs.Simulated.{Simulates}
+use Rattle.cx_driver.specs.Tried.{Tries}
 use Rattle.cx_commands.specs.declared.stops.Stop.{Stop}
 use Rattle.cx_commands.specs.declared.stops.Stop.TheVariants as stops
 
@@ -25,6 +26,7 @@ Does held (interp design json budget) result =
 Does held (check design) result = OfFile held DESIGN_BYTES design (λ text. Checks text result)
 Does held (sim verilog json budget) result =
     OfFile held VERILOG_BYTES verilog (λ text. OfFile held DATA_BYTES json (λ bytes. Simulates text bytes budget result))
+Does held (trial seed) result = Tries seed result
 
 -- what it writes
 abbrev pub IsAnswer : Option (List ℕ → Option (List ℕ)) → Asked → List ℕ → Type 0

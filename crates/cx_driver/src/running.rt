@@ -1,6 +1,6 @@
 //! The top call.
 
-ghost use Rattle.std.specs.Prelude.{◌≡◌, ◌≢◌, ◌⊎◌, ◌↔◌, ◌≤◌, ℕ, List, [], ◌∷◌, Some, Contains, codes, length, IfOk, IfErr, IsSomeAnd};
+ghost use Rattle.std.specs.Prelude.{◌≡◌, ◌≢◌, ◌⊎◌, ◌↔◌, ◌≤◌, ℕ, List, Option, [], ◌∷◌, Some, Contains, codes, length, IfOk, IfErr, IsSomeAnd};
 ghost use Rattle.cx_outside.specs.Counts.{HasRisen};
 ghost use Rattle.cx_outside.specs.Writing.{grown, GrowsByPart};
 ghost use Rattle.cx_commands.specs.Commands.{Asked, Asks, AsksNothing, IsFileOf, files_of};
@@ -17,6 +17,7 @@ use crate::accepting::check_text;
 use crate::compiling::compile;
 use crate::interpreting::interp;
 use crate::simulating::sim;
+use crate::trying::trial;
 use cx_commands::{Command, Refusal, Status, Stop, command_of, line};
 use cx_outside::{FileAnswer, Files, Sink, Word, write_all};
 use cx_text::{DATA_BYTES, DESIGN_BYTES, VERILOG_BYTES};
@@ -159,6 +160,7 @@ fn answer<'a, F: Files>(
             json,
             budget,
         } => simulated(alloc, verilog, json, budget, files),
+        Command::Trial { seed } => tried(alloc, seed),
     }
 }
 
@@ -212,6 +214,17 @@ fn simulated<'a, F: Files>(
     let data = read(alloc, files, json, DATA_BYTES)?;
     match sim(alloc, &text, &data, budget) {
         Ok(dump) => Ok(dump),
+        Err(why) => Err(Refusal::Stop(why)),
+    }
+}
+
+/// The answer of a trial, which reads no file.
+fn tried<'a>(alloc: Global, seed: u64) -> Result<Vec<u8>, Refusal<'a>>
+    ensures answer { (held : Option (List ℕ → Option (List ℕ))) → IfOk result (λ line. IsAnswer held (asked.trial seed) line.items) }
+    ensures cause { (held : Option (List ℕ → Option (List ℕ))) (before after : ℕ) → IfErr result (HasCause (asked.trial seed) held before after) }
+{
+    match trial(alloc, seed) {
+        Ok(line) => Ok(line),
         Err(why) => Err(Refusal::Stop(why)),
     }
 }

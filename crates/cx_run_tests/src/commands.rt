@@ -61,7 +61,7 @@ const UNNAMED: &str =
     "module main(\n  input wire [0:0] clk,\n  input wire [0:0] reset,\n  input wire [0:0] go,\n  output wire [0:0] done\n);\n  assign done = other;\nendmodule\n";
 
 /// The words of a line, the write to standard output and that to standard error which fail, counted from 1, and what is told.
-const LINES: [(&str, (u64, u64), (Status, &str, &str)); 58] = [
+const LINES: [(&str, (u64, u64), (Status, &str, &str)); 64] = [
     (
         "interp add five 1000",
         (0, 0),
@@ -248,6 +248,28 @@ const LINES: [(&str, (u64, u64), (Status, &str, &str)); 58] = [
         (Status::WriteFault, "// exter", "write-fault\n"),
     ),
     ("compile add", (1, 1), (Status::WriteFault, "", "")),
+    (
+        "trial 0",
+        (0, 0),
+        (Status::Done, "trial 0 cycles 60 sum 8464\n", ""),
+    ),
+    (
+        "trial 001",
+        (0, 0),
+        (Status::Done, "trial 1 cycles 60 sum 8560\n", ""),
+    ),
+    (
+        "trial 1000000000000",
+        (0, 0),
+        (Status::Done, "trial 1000000000000 cycles 60 sum 8464\n", ""),
+    ),
+    (
+        "trial 1000000000001",
+        (0, 0),
+        (Status::Words, "", "words\n"),
+    ),
+    ("trial", (0, 0), (Status::Words, "", "words\n")),
+    ("trial 0 0", (0, 0), (Status::Words, "", "words\n")),
     ("compile", (0, 0), (Status::Words, "", "words\n")),
     ("compile add five", (0, 0), (Status::Words, "", "words\n")),
     ("check", (0, 0), (Status::Words, "", "words\n")),
