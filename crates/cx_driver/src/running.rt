@@ -7,9 +7,11 @@ ghost use Rattle.cx_commands.specs.Commands.{Asked, Asks, AsksNothing, IsFileOf,
 ghost use Rattle.cx_commands.specs.Asked.{asked_of};
 ghost use Rattle.cx_commands.specs.Commands as asked;
 ghost use Rattle.cx_commands.specs.Messages.{line_of};
-ghost use Rattle.cx_driver.specs.Outcomes.{CanAnswer, IsAnswer, IsAnswerTo};
+ghost use Rattle.cx_driver.specs.Outcomes.{CanAnswer, IsAnswer, IsAnswerTo, IsStopped};
 ghost use Rattle.cx_commands.specs.Reads.{HoldsWithin, IsReadFault};
+ghost use Rattle.cx_commands.specs.declared.refusals.Refusal.TheVariants as refusals;
 ghost use Rattle.cx_commands.specs.declared.refusals.Status.TheVariants as statuses;
+ghost use Rattle.cx_commands.specs.declared.stops.Stop.{Stop as StopValue};
 ghost use Rattle.cx_driver.specs.Causes.{HasCause, IsMemory, IsOfFile, ToldWhy};
 ghost use Rattle.cx_commands.specs.Statuses.{IsRefusing, ReceivesLine, fixed_line, status_of};
 
@@ -53,6 +55,10 @@ pub fn run<F: Files, O: Sink, E: Sink>(
     // Where the files are told and give an answer, and no read failed, it is written, but for a failing output and want of memory.
     ensures completes { (command : Asked) → Asks words.now command → IsSomeAnd (F.held files.old) (λ holds. CanAnswer (Some holds) command)
         → (HasRisen (F.faults files.old) (F.faults files.new) → ⊥) → (result ≡ statuses.Done) ⊎ (result ≡ statuses.WriteFault) ⊎ (result ≡ statuses.Memory) }
+
+    // Where the files are told and stop the command, and no read failed, the status is that of what stops it, but for want of memory.
+    ensures all_stops { (command : Asked) (why : StopValue) → Asks words.now command → IsSomeAnd (F.held files.old) (λ holds. IsStopped (Some holds) command why)
+        → (HasRisen (F.faults files.old) (F.faults files.new) → ⊥) → (result ≡ status_of (refusals.Stop why)) ⊎ (result ≡ statuses.Memory) }
 {
     match command_of(words) {
         Some(command) => obey(alloc, command, files, out, err),
@@ -91,6 +97,8 @@ fn obey<F: Files, O: Sink, E: Sink>(
 
     ensures completes { IsSomeAnd (F.held files.old) (λ holds. CanAnswer (Some holds) (asked_of command.entry))
         → (HasRisen (F.faults files.old) (F.faults files.new) → ⊥) → (result ≡ statuses.Done) ⊎ (result ≡ statuses.WriteFault) ⊎ (result ≡ statuses.Memory) }
+    ensures all_stops { (why : StopValue) → IsSomeAnd (F.held files.old) (λ holds. IsStopped (Some holds) (asked_of command.entry) why)
+        → (HasRisen (F.faults files.old) (F.faults files.new) → ⊥) → (result ≡ status_of (refusals.Stop why)) ⊎ (result ≡ statuses.Memory) }
 {
     match answer(alloc, command, files) {
         Ok(text) => deliver(&text, out, err),
