@@ -26,6 +26,7 @@ use Rattle.cx_rules.specs.Accepted.{IsAccepted}
 use Rattle.cx_rules.proofs.Finite.{in_left, in_right}
 use Rattle.cx_rules.proofs.CircleLemmas.{same_part, Reached, a_tree, no_tree, reached}
 use Rattle.cx_frames.proofs.RuleLemmas.{number_in}
+use Rattle.cx_control.proofs.HeldLemmas.{no_row, instance_is}
 
 pub record IsBeside (i whole : Instance) : Type 0 where
   pub same : part_of i ≡ part_of whole
@@ -35,14 +36,8 @@ pub record IsBeside (i whole : Instance) : Type 0 where
   pub primitives : (c : ℕ) (child : Instance) → cell_at (cells_of i) c ≡ OfInstance child → (r : ℕ) (cell : PlainCell) (p : PrimitiveRow) → slice_get (PlainComponent.cells (part_of i)) r ≡ Some cell → cell.kind ≡ OfPrimitive p
       → cell_at (cells_of i) r ≡ OfRow (row_of p)
 
-no_row : (child : Instance) (row : Row) → OfInstance child ≡ OfRow row → ⊥
-no_row child row e = cc
-
-no_part : (row : Row) (child : Instance) → OfRow row ≡ OfInstance child → ⊥
+pub no_part : (row : Row) (child : Instance) → OfRow row ≡ OfInstance child → ⊥
 no_part row child e = cc
-
-instance_is : (a b : Instance) → OfInstance a ≡ OfInstance b → a ≡ b
-instance_is a b e = cc
 
 -- trees of one component, one deeper
 module _ (d : PlainDesign) (m n : ℕ) where

@@ -101,7 +101,7 @@ module _ (look : Look) (at : ℕ) where
         ∙ all_of gs j.second j.is_second (λ p i. each p (subst (λ l. In l p) j.whole (in_right j.first j.second p i)))
 
 -- AS MANY PORTS as are wanted
-and_both : (a b : Bool) → (a && b) ≡ true → (a ≡ true) × (b ≡ true)
+pub and_both : (a b : Bool) → (a && b) ≡ true → (a ≡ true) × (b ≡ true)
 and_both true true e = (refl, refl)
 and_both true false e = absurd (cc)
 and_both false b e = absurd (cc)

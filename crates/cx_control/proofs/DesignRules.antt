@@ -52,11 +52,11 @@ use Rattle.cx_control.specs.Leaves.{leaf_drives}
 use Rattle.cx_control.specs.InstanceRules.{InstanceRules, Stands}
 use Rattle.cx_control.specs.CallRules.{CallForm, CallRules}
 use Rattle.cx_control.specs.ControlRules.{ControlRules}
-use Rattle.cx_control.specs.GroupLaws.{false_true}
+use Rattle.cx_control.proofs.GroupLaws.{false_true}
 use Rattle.cx_control.proofs.BesideLemmas.{KeepsCalls, StandsFor, of_component, of_nothing, instance_stands, keeps_calls}
 use Rattle.cx_control.proofs.ShapeLemmas.{drives_driving, in_some, none_outside, plain_group, calls_what_it_drives, child, is_a_plain_group, no_output, right_enable, right_go, right_done}
 use Rattle.cx_control.proofs.TargetLemmas.{group_acts}
-use Rattle.cx_control.proofs.HeldLemmas.{IsGiven, held_same}
+use Rattle.cx_control.proofs.HeldLemmas.{IsGiven, held_same, no_row}
 use Rattle.cx_control.proofs.RegisterLemmas.{register_is_row, Captured, captured_is}
 use Rattle.cx_control.proofs.HoleLemmas.{CaptureRules, hole_is_open, captured_hole, Register, register}
 use Rattle.cx_control.proofs.StaticLemmas.{static_form, static_may, driver, all_may, static_lasts, group_lasts}
@@ -65,9 +65,6 @@ plain_is : (kind : GroupKind) → is_plain kind ≡ true → kind ≡ kinds.Plai
 plain_is kinds.Plain e = refl
 plain_is kinds.Comb e = absurd (false_true e)
 plain_is (kinds.Timed n) e = absurd (false_true e)
-
-no_row : (child : Instance) (row : Row) → OfInstance child ≡ OfRow row → ⊥
-no_row child row e = cc
 
 none_some : (g : ℕ) → ◌≡◌ {A = Option ℕ} None (Some g) → ⊥
 none_some g e = cc

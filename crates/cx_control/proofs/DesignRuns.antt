@@ -15,12 +15,12 @@ use Rattle.cx_control.specs.Standing.{good_control}
 use Rattle.cx_control.specs.Keeping.{Keeps}
 use Rattle.cx_control.specs.ControlRules.{ControlRules}
 use Rattle.cx_control.specs.IslandRules.{IslandRules}
-use Rattle.cx_control.specs.IslandLaws.{island_leaf}
+use Rattle.cx_control.proofs.IslandLaws.{island_leaf}
 use Rattle.cx_control.specs.StatementCodingLaws.{IsRegion}
-use Rattle.cx_control.specs.ControlLaws.{IslandsDo, control_coded, control_does}
-use Rattle.cx_control.specs.KeepLaws.{control_keeps}
-use Rattle.cx_control.specs.DesignLaws as design_laws
-use Rattle.cx_control.specs.StandLaws.{as_visited}
+use Rattle.cx_control.proofs.ControlLaws.{IslandsDo, control_coded, control_does}
+use Rattle.cx_control.proofs.KeepLaws.{control_keeps}
+use Rattle.cx_control.proofs.DesignLaws as design_laws
+use Rattle.cx_control.proofs.StandLaws.{as_visited}
 
 -- the samples and timers of every instance
 pub islands_keep : (i : Instance)

@@ -32,10 +32,10 @@ reaches_then i act p q r (inr d) l = inr (depends_then d l)
 abbrev pub IsGiven : Instance → ℕ → Type 0
 IsGiven child q = ((m : ℕ) × (part_port (part_of child) q ≡ AnOutput m)) ⊎ (part_port (part_of child) q ≡ ItsDone)
 
-instance_is : (a b : Instance) → OfInstance a ≡ OfInstance b → a ≡ b
+pub instance_is : (a b : Instance) → OfInstance a ≡ OfInstance b → a ≡ b
 instance_is a b e = cc
 
-no_row : (child : Instance) (row : Row) → OfInstance child ≡ OfRow row → ⊥
+pub no_row : (child : Instance) (row : Row) → OfInstance child ≡ OfRow row → ⊥
 no_row child row e = cc
 
 module _ (i : Instance) (act : Active) (acyclic : IsAcyclic i act) (deeper : AcyclicBelow (cells_of i)) (c : ℕ) (child : Instance) (at_child : cell_at (cells_of i) c ≡ OfInstance child)

@@ -21,8 +21,8 @@ use Rattle.cx_rules.specs.Circles.{IsAcyclic, AcyclicBelow}
 use Rattle.cx_rules.specs.CallShape.{done_port, write_en_of, register_done, is_reg_kind, is_register_cell, is_register, one, is_atom, is_always, is_right_enable, is_register_enable, with_target, captured, wanted_dones, conjuncts, are_dones, is_right_done_assign, is_right_done}
 use Rattle.cx_rules.proofs.FoundLemmas.{same_is, seen_solves}
 use Rattle.cx_frames.proofs.CircleFrames.{capture_acyclic}
-use Rattle.cx_control.specs.GroupLaws.{false_true}
-use Rattle.cx_control.specs.LeafLaws.{is_one_of}
+use Rattle.cx_control.proofs.GroupLaws.{false_true}
+use Rattle.cx_control.proofs.LeafLaws.{is_one_of}
 use Rattle.cx_control.proofs.ConjunctLemmas.{conjuncts_hold, conjunction_holds, AreOnce, wanted_are_in, wanted_are_all}
 use Rattle.cx_control.proofs.ShapeLemmas.{equal, some_in, in_some}
 use Rattle.cx_control.proofs.TargetLemmas.{TakenFrom, target_one, target_all, in_filter, of_filter, group_acts, ActsAlone, acts_alone}

@@ -8,3 +8,14 @@ pub mod HoleLemmas
 pub mod StaticLemmas
 pub mod DesignRules
 pub mod DesignRuns
+pub mod RestLaws
+pub mod GroupLaws
+pub mod CallLaws
+pub mod StandLaws
+pub mod ControlLaws
+pub mod StaticRuns
+pub mod LeafLaws
+pub mod KeepLaws
+pub mod DesignLaws
+pub mod SamplingLaws
+pub mod IslandLaws

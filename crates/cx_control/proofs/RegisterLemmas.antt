@@ -22,8 +22,9 @@ use Rattle.cx_meaning.specs.Sights.{Look, Held, In, of_option, Given, with_entry
 use Rattle.cx_meaning.specs.Cycles.{Fault, Outcome, Next, Stops, enables, after_data, after_enabling, cell_outcome, first_of, first_fault, stepped, cell_after, state_after, Ended, Goes, Faults, unless_fault, every_cell, cycle}
 use Rattle.cx_rules.specs.ShapeRules.{some_target}
 use Rattle.cx_rules.specs.CallShape.{is_reg_name, is_reg_kind, write_en_of, register_done, captured_from}
-use Rattle.cx_control.specs.GroupLaws.{false_true}
-use Rattle.cx_control.proofs.ConjunctLemmas.{AreOnce}
+use Rattle.cx_control.proofs.GroupLaws.{false_true}
+use Rattle.cx_control.proofs.ConjunctLemmas.{AreOnce, and_both}
+use Rattle.cx_control.proofs.RestLaws.{left_by}
 
 -- THE ROW
 pub is_reg : (name : PrimitiveName) → is_reg_name name ≡ true → name ≡ names.Reg
@@ -159,13 +160,9 @@ after_is look c (a_primitive r rest) (suc k) row d at = after_is look c rest k r
 after_is look c (an_instance child rest) zero row d at = absurd (cc)
 after_is look c (an_instance child rest) (suc k) row d at = after_is look c rest k row d at
 
-ended_state : State → Ended → State
-ended_state s (Goes after) = after
-ended_state s (Faults fault) = s
-
 goes_so : (f : Option Fault) (s after : State) → unless_fault f s ≡ Goes after → (f ≡ None) × (s ≡ after)
-unfolding ended_state
-goes_so None s after e = (refl, ap (ended_state s) e)
+unfolding left_by
+goes_so None s after e = (refl, ap (left_by s) e)
 goes_so (Some fault) s after e = absurd (cc)
 
 pub cycle_steps : (i : Instance) (held : Held) (act : Active) (s after : State) (c : ℕ) (row : Row) → cycle i held act s ≡ Goes after → cell_at (cells_of i) c ≡ OfRow row
@@ -200,11 +197,6 @@ pub record Captured (assigns : List PlainAssign) (cells : List PlainCell) (from 
   pub stands : slice_get cells number ≡ Some cell
   pub register : is_reg_kind cell.kind ≡ true
   pub driven : some_target (same_port (write_en_of r)) assigns ≡ true
-
-and_both : (a b : Bool) → (a && b) ≡ true → (a ≡ true) × (b ≡ true)
-and_both true true e = (refl, refl)
-and_both true false e = absurd (cc)
-and_both false b e = absurd (cc)
 
 pub captured_is : (assigns : List PlainAssign) (cells : List PlainCell) (from r : ℕ) → In (captured_from assigns from cells) r → Captured assigns cells from r
 captured_is assigns [] from r i = absurd i

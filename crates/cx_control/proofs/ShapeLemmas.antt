@@ -18,8 +18,8 @@ use Rattle.cx_rules.specs.ShapeRules.{is_hole_of, some_target}
 use Rattle.cx_rules.proofs.FoundLemmas.{same_is}
 use Rattle.cx_rules.specs.CallShape.{is_port_of, Calls, go_port, is_right_go, wrong_go, done_port, is_register_enable, with_target, is_right_enable, captured, wanted_dones, is_right_done, CallBreak, another_cell, input_by_output, wrong_enable, wrong_done}
 use Rattle.cx_control.proofs.BesideLemmas.{IsBeside, depends_too, group_stands, KeepsCalls}
-use Rattle.cx_control.specs.CallLaws.{just_is}
-use Rattle.cx_control.specs.ControlLaws.{called_child as called_instance}
+use Rattle.cx_control.proofs.CallLaws.{just_is}
+use Rattle.cx_control.proofs.ControlLaws.{called_child as called_instance, none_some, some_is}
 
 true_or_false : (b : Bool) → (b ≡ false → ⊥) → b ≡ true
 true_or_false true never = refl
@@ -60,12 +60,6 @@ pub record Driving (cells : Cells) (list : List PlainAssign) (c : ℕ) : Type 0 
 
 more_driving : (cells : Cells) (x : PlainAssign) (list : List PlainAssign) (c : ℕ) → Driving cells list c → Driving cells (x ∷ list) c
 more_driving cells x list c r = record { assign = r.assign; is_in = inr r.is_in; port = r.port; target = r.target }
-
-none_some : (c : ℕ) → ◌≡◌ {A = Option ℕ} None (Some c) → ⊥
-none_some c e = cc
-
-some_is : (a b : ℕ) → ◌≡◌ {A = Option ℕ} (Some a) (Some b) → a ≡ b
-some_is a b e = cc
 
 pub called_driving : (cells : Cells) (list : List PlainAssign) (c : ℕ) → called_in cells list ≡ Some c → Driving cells list c
 called_driving cells [] c e = absurd (none_some c e)

@@ -17,7 +17,7 @@ use Rattle.cx_rules.specs.Accepted.{IsAccepted}
 use Rattle.cx_rules.proofs.Finite.{in_left, in_right}
 use Rattle.cx_rules.proofs.CircleLemmas.{same_part}
 use Rattle.cx_frames.proofs.RuleLemmas.{number_in}
-use Rattle.cx_control.specs.GroupLaws.{false_true}
+use Rattle.cx_control.proofs.GroupLaws.{false_true}
 
 either_in : {A : Type 0} (xs ys : List A) (x : A) → In (xs ++ ys) x → In xs x ⊎ In ys x
 either_in [] ys x i = inr i

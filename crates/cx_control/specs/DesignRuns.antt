@@ -5,8 +5,7 @@ use Rattle.cx_meaning.specs.Instances.{Path, State, tree_of, start}
 use Rattle.cx_meaning.specs.Sights.{unheld}
 use Rattle.cx_meaning.specs.Answers.{End, More}
 use Rattle.cx_meaning.specs.Running.{run_main}
-use Rattle.cx_lockstep.specs.Worlds.{Machine, Moment, after_cycles}
-use Rattle.cx_lockstep.specs.EndLaws.{is_done, IsQuiet}
+use Rattle.cx_lockstep.specs.Worlds.{Machine, Moment, after_cycles, is_done, IsQuiet}
 use Rattle.cx_control.specs.Spots.{Spot, Cell, Holds, shown}
 use Rattle.cx_control.specs.Leaves.{Coded}
 use Rattle.cx_control.specs.Controls.{coded_control}

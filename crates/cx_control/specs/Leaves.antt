@@ -15,10 +15,9 @@ use Rattle.cx_meaning.specs.Control.{groups_drive, groups_in}
 use Rattle.cx_meaning.specs.Islands.{form_length, first_unclear, unless_unclear, turn_of, is_one}
 use Rattle.cx_meaning.specs.Calls.{group_turn, test, called, captures, inputs_of_call}
 use Rattle.cx_laws.specs.Samples.{Samples, says, active_by, begun_by}
-use Rattle.cx_lockstep.specs.Worlds.{Control, At, Done, Machine}
+use Rattle.cx_lockstep.specs.Worlds.{Control, At, Done, Machine, is_done}
 use Rattle.cx_lockstep.specs.Machines.{idle_machine}
 use Rattle.cx_lockstep.specs.Statements.{LeafMachines}
-use Rattle.cx_lockstep.specs.EndLaws.{is_done}
 use Rattle.cx_control.specs.Codings.{Coding, Bank, region_bank, unit_coding}
 use Rattle.cx_control.specs.Sampling.{samples_now}
 use Rattle.cx_control.specs.Spots.{Spot, Cell, Number, Input, Holds, Kept, cells_in, held_in, pull, input_count, own_input, spots_of}

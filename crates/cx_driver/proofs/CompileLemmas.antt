@@ -3,13 +3,20 @@ use Rattle.std.proofs.Common.{◌≡◌, ◌⊎◌, inl, inr, ℕ, ◌≤◌, Li
 use Rattle.cx_text.specs.declared.diagnostics.Diagnostic.{Diagnostic}
 use Rattle.cx_text.specs.declared.limits.TheConstants.{COMPILE_SIZE}
 use Rattle.cx_meaning.specs.Designs.{PlainDesign}
+use Rattle.cx_rules.specs.Accepted.{IsAccepted}
 use Rattle.cx_rules.specs.Sizes.{design_size}
+use Rattle.cx_rules.specs.Wellformed.{IsDesign}
+use Rattle.cx_net.specs.NetTree.{net_tree}
+use Rattle.cx_static.specs.Lowering.{lowered_of}
+use Rattle.cx_wiring.specs.Wiring.{net_of}
+use Rattle.cx_wiring.specs.InNet.{RealisesInNet}
 use Rattle.cx_commands.specs.declared.stops.Stop.{Stop}
 use Rattle.cx_commands.specs.declared.stops.Stop.TheVariants as stops
 use Rattle.cx_driver.specs.Texts.{IsDesignOf, IsTextRefusal}
-use Rattle.cx_driver.specs.Compiled.{IsWritten, IsCompilable, too_large, CompileBreak, Compiles, IsCompileStop, IsDesignWritten, IsDesignTooLarge, written_source}
+use Rattle.cx_driver.specs.Compiled.{IsCompiled, IsCompilable, too_large, CompileBreak, Compiles, IsCompileStop, IsDesignWritten, IsDesignTooLarge, written_source}
+use Rattle.cx_driver.specs.Promise.{KeepsPromise}
+use Rattle.cx_driver.proofs.PromiseLemmas.{promise_is_kept}
 use Rattle.cx_driver.proofs.TextLayers.{text_rules, text_realises}
-use Rattle.cx_driver.proofs.WrittenRows.{written_rows}
 use Rattle.cx_driver.proofs.TextLemmas.{one_design, text_of_design, accepted_once, break_once}
 
 -- an accepted text whose design is within the size is not refused
@@ -39,17 +46,23 @@ compile_stop : (text : List ℕ) (told : Diagnostic) (stop : Stop) → CompileBr
 compile_stop text told stop b (inl memory) = inl memory
 compile_stop text told stop b (inr own) = inr (own.2 ∙ ap (λ d. stops.Rule d) (one_refusal text own.0 told own.1 b))
 
--- from a design to its text
-pub text_written : {X : Type 0} (bytes : X → List ℕ) (text : List ℕ) (d : PlainDesign) (r : Result X Stop) → IsDesignOf text d
-    → IfOk r (λ x. IsDesignWritten d (bytes x)) → IfOk r (λ x. IsWritten text (bytes x))
-text_written bytes text d (Ok x) stands h = record {
-  design = d;
-  stands = stands;
-  within = h.0;
-  written = record { source = written_source d; spelled = h.1; rows = written_rows d (text_rules text d stands h.0).0.main_there };
-  does = λ below. record { source = written_source d; spelled = h.1; realises = text_realises text d stands h.0 h.1.sound below };
-}
-text_written bytes text d (Err stop) stands h = tt
+-- from a design to its text, by the law that the net of every accepted design does what the design means
+pub text_written : {X : Type 0} (bytes : X → List ℕ) (text : List ℕ) (d : PlainDesign) (r : Result X Stop)
+    → ((e : PlainDesign) → IsDesign e → IsAccepted e → RealisesInNet e (net_tree (net_of (lowered_of e)))) → IsDesignOf text d
+    → IfOk r (λ x. IsDesignWritten d (bytes x)) → IfOk r (λ x. IsCompiled text (bytes x))
+text_written bytes text d (Ok x) law stands h =
+    let rules = text_rules text d stands h.0 in record {
+      design = d;
+      stands = stands;
+      within = h.0;
+      written = record { source = written_source d; spelled = h.1; realises = text_realises text d stands h.0 h.1.sound (law d rules.0 rules.1) };
+    }
+text_written bytes text d (Err stop) law stands h = tt
+
+-- and what is written of it keeps the promise
+pub text_keeps : {X : Type 0} (bytes : X → List ℕ) (text : List ℕ) (r : Result X Stop) → IfOk r (λ x. IsCompiled text (bytes x)) → IfOk r (λ x. KeepsPromise text (bytes x))
+text_keeps bytes text (Ok x) h = promise_is_kept text (bytes x) h
+text_keeps bytes text (Err stop) h = tt
 
 pub text_too_large : {X : Type 0} (text : List ℕ) (d : PlainDesign) (r : Result X Stop) → IsDesignOf text d → IfErr r (IsDesignTooLarge d) → IfErr r (IsCompileStop text)
 text_too_large text d (Ok x) stands h = tt
@@ -69,7 +82,7 @@ module _ {X : Type 0} (bytes : X → List ℕ) (text : List ℕ) where
   all_compiled (Err stop) (inr own) can = absurd (fits_not_refused text can.0 own.0 can.1 can.2 own.1)
 
   -- and one that is refused is told so
-  pub all_refused : (r : Result X Stop) → IfOk r (λ x. IsWritten text (bytes x)) → IfErr r (IsCompileStop text) → (told : Diagnostic) → CompileBreak text told
+  pub all_refused : (r : Result X Stop) → IfOk r (λ x. IsCompiled text (bytes x)) → IfErr r (IsCompileStop text) → (told : Diagnostic) → CompileBreak text told
       → MatchResult r (λ _. ⊥) (λ stop. (stop ≡ stops.Memory) ⊎ (stop ≡ stops.Rule told))
   all_refused (Ok x) h k told b = fits_not_refused text h.design told h.stands h.within b
   all_refused (Err stop) h k told b = compile_stop text told stop b k

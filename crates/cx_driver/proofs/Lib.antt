@@ -11,8 +11,9 @@ pub mod DriverTargets
 pub mod Layers
 pub mod TextLayers
 pub mod CompileLemmas
-pub mod TrialLemmas
 pub mod CauseLemmas
 pub mod CompleteLemmas
 pub mod BelowLemmas
 pub mod PromiseLemmas
+pub mod LeftLemmas
+pub mod TrialLemmas

@@ -1,5 +1,5 @@
 -- The promise is kept by whatever `compile` writes.
-use Rattle.std.proofs.Common.{◌≡◌, ◌≢◌, inl, inr, ℕ, ◌≤◌, List, Result, Ok, Err, refl, sym, ap, ◌∙◌, subst}
+use Rattle.std.proofs.Common.{◌≡◌, ◌≢◌, inl, inr, ℕ, ◌≤◌, List, Option, Result, Ok, Err, refl, sym, ap, ◌∙◌, subst}
 use Rattle.cx_text.specs.Loading.{PlainMemory, FitsRows, words_loaded, with_words}
 use Rattle.cx_data.specs.Dump.{dump_text}
 use Rattle.cx_data.specs.Load.{load_of}
@@ -20,17 +20,19 @@ use Rattle.cx_driver.specs.Interpreted.{told_of, loaded_result, design_result, I
 use Rattle.cx_commands.specs.declared.stops.Stop.TheVariants as stops
 use Rattle.cx_realises.specs.Realises.{HasOutcome, comes, waits, Realises}
 use Rattle.cx_driver.specs.Simulated.{IsVerilogOf, told_outcome, LoadedDoes, SourceDoes, Simulates}
-use Rattle.cx_driver.specs.Promise.{a_fault, EndsOrFaults, ends_so, faults, IsRunIn, KeepsPromise, PromiseIsKept}
+use Rattle.cx_commands.specs.Commands.{Asked, compile}
+use Rattle.cx_driver.specs.Outcomes.{IsAnswer}
+use Rattle.cx_driver.specs.Promise.{a_fault, EndsOrFaults, ends_so, faults, IsRunIn, KeepsOfFile, KeepsPromise, PromiseIsKept}
 use Rattle.cx_driver.proofs.Once.{Told}
 use Rattle.cx_driver.proofs.TextLemmas.{accepted_once, one_design, text_of_design}
 use Rattle.cx_driver.proofs.SimLemmas.{one_source_of}
 use Rattle.cx_realises.proofs.FollowLemmas.{never_loops}
 use Rattle.cx_driver.proofs.BelowLemmas.{cycle_within, main_grows, loaded_fits}
 
-done_turns : (t c : ℕ) (ws us : List (List ℕ)) → DoneAt t ws ≡ DoneAt c us → t ≡ c
+pub done_turns : (t c : ℕ) (ws us : List (List ℕ)) → DoneAt t ws ≡ DoneAt c us → t ≡ c
 done_turns t c ws us e = cc
 
-done_words : (t c : ℕ) (ws us : List (List ℕ)) → DoneAt t ws ≡ DoneAt c us → ws ≡ us
+pub done_words : (t c : ℕ) (ws us : List (List ℕ)) → DoneAt t ws ≡ DoneAt c us → ws ≡ us
 done_words t c ws us e = cc
 
 end_not_more : (s : State) (t : ℕ) → ◌≡◌ {A = Answer State Fault} (answers.End s t) answers.More → ⊥
@@ -175,3 +177,9 @@ module _ (text verilog : List ℕ) (d : PlainDesign) (source : PlainSource) (sta
 
 pub promise_is_kept : PromiseIsKept
 promise_is_kept text verilog h = kept_by text verilog h.design h.written.source h.stands h.written.spelled h.written.realises
+
+-- and what is written of a file
+pub kept_of_file : (held : Option (List ℕ → Option (List ℕ))) (file verilog : List ℕ) (command : Asked) → compile file ≡ command → IsAnswer held command verilog → KeepsOfFile held file verilog
+kept_of_file held file verilog command same h =
+    let written : IsAnswer held (compile file) verilog = subst (λ asked. IsAnswer held asked verilog) (sym same) h in
+    record { bytes = written.bytes; reads = written.reads; is = promise_is_kept written.bytes verilog written.is }

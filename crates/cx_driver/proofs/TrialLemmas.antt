@@ -8,7 +8,13 @@ use Rattle.cx_ast.specs.PlainTree as ast
 use Rattle.cx_ast.specs.PlainTree.{PlainTree, PlainComponent, PlainGroup, PlainWire, PlainAssign}
 use Rattle.cx_meaning.specs.Designs.{PlainDesign}
 use Rattle.cx_meaning.specs.Sights.{In}
+use Rattle.cx_rules.specs.Accepted.{IsAccepted}
 use Rattle.cx_rules.specs.Sizes.{design_size}
+use Rattle.cx_rules.specs.Wellformed.{IsDesign}
+use Rattle.cx_net.specs.NetTree.{net_tree}
+use Rattle.cx_static.specs.Lowering.{lowered_of}
+use Rattle.cx_wiring.specs.Wiring.{net_of}
+use Rattle.cx_wiring.specs.InNet.{RealisesInNet}
 use Rattle.cx_numbering.specs.DesignOf.{design_of}
 use Rattle.cx_numbering.specs.Names.{groups_in, always_in}
 use Rattle.cx_numbering.specs.NameRules.{Standing, standing}
@@ -21,10 +27,14 @@ use Rattle.cx_trial.specs.TrialTree.{arm_groups, step_groups, trial_tree}
 use Rattle.cx_commands.specs.declared.stops.Stop.{Stop}
 use Rattle.cx_commands.specs.declared.stops.Stop.TheVariants as stops
 use Rattle.cx_driver.specs.Interpreted.{PlainLeft, design_left, StopsDesign}
-use Rattle.cx_driver.specs.Compiled.{IsDesignTooLarge, too_large}
-use Rattle.cx_driver.specs.Tried.{zeros, line_of, line_result, try_result, TreeTries, Tries, TellsRule, IsSimulatedSo, IsTextAlike}
+use Rattle.cx_driver.specs.Compiled.{IsDesignTooLarge, IsDesignWritten, too_large, written_source}
+use Rattle.cx_driver.specs.Simulated.{IsSimStop, TextLeaves}
+use Rattle.cx_driver.specs.Tried.{zeros, line_of, line_result, try_result, TreeTries, Tries, IsRealised, TellsRule}
 use Rattle.cx_driver.specs.Texts.{IsTreeStop}
 use Rattle.cx_driver.proofs.Once.{Told, not_both, same_stop, all_answered, all_stopped}
+use Rattle.cx_driver.proofs.SimLemmas.{left_answers, no_stop}
+use Rattle.cx_driver.proofs.TextLayers.{design_realises, tree_rules}
+use Rattle.cx_driver.proofs.LeftLemmas.{design_in_text, text_once}
 
 -- TARGETS: all wires are groups, none of whose assignments has a literal as its target
 abbrev Ports : List PlainAssign → Type 0
@@ -138,23 +148,22 @@ module _ (seed : ℕ) (d : PlainDesign) where
   leaves_line left line h e within =
       ap (λ r. line_result seed d r) h ∙ ap (sized (line_of seed left)) (le-ltb COMPILE_SIZE (design_size d) within) ∙ ap (λ l. Ok l) (sym e)
 
-  leaves_large : (left : PlainLeft) (stop : Stop) → design_left d zeros BUDGET ≡ Ok left → IsDesignTooLarge d stop → (stop ≡ stops.Memory) ⊎ (try_result seed d ≡ Err stop)
+  pub leaves_large : (left : PlainLeft) (stop : Stop) → design_left d zeros BUDGET ≡ Ok left → IsDesignTooLarge d stop → (stop ≡ stops.Memory) ⊎ (try_result seed d ≡ Err stop)
   leaves_large left stop h (inl memory) = inl memory
   leaves_large left stop h (inr k) =
       inr (ap (λ r. line_result seed d r) h ∙ ap (sized (line_of seed left)) (lt-ltb COMPILE_SIZE (design_size d) k.0) ∙ ap (λ s. Err s) (sym k.1))
 
-  module _ {X : Type 0} (bytes : X → List ℕ) (left : PlainLeft) (leaves : design_left d zeros BUDGET ≡ Ok left) where
-    pub left_tried : (r : Result X Stop) → IfOk r (λ x. bytes x ≡ line_of seed left) → IfOk r (λ _. design_size d ≤ COMPILE_SIZE) → IfOk r (λ x. try_result seed d ≡ Ok (bytes x))
-    left_tried (Ok x) e within = leaves_line left (bytes x) leaves e within
-    left_tried (Err stop) e within = tt
+  -- by the run of its text
+  module _ (left : PlainLeft) (leaves : design_left d zeros BUDGET ≡ Ok left) (realised : IsRealised d) (verilog : List ℕ) (written : IsDesignWritten d verilog) where
+    text_leaves : TextLeaves verilog zeros BUDGET left
+    text_leaves = design_in_text d (written_source d) (realised written.0 written.1.sound) BUDGET left verilog zeros written.1 leaves
 
-    pub left_large : (r : Result X Stop) → IfErr r (IsDesignTooLarge d) → IfErr r (λ stop. (stop ≡ stops.Memory) ⊎ (try_result seed d ≡ Err stop))
-    left_large (Ok x) k = tt
-    left_large (Err stop) k = leaves_large left stop leaves k
+    pub simulated_line : (own : PlainLeft) (line : List ℕ) → TextLeaves verilog zeros BUDGET own → line ≡ line_of seed own → try_result seed d ≡ Ok line
+    simulated_line own line ran told = leaves_line left line leaves (told ∙ ap (λ l. line_of seed l) (text_once verilog zeros BUDGET own left ran text_leaves)) written.0
 
-    pub left_alike : (r : Result X Stop) → IfOk r (λ _. IsSimulatedSo d (dump_text left.turns left.memories)) → IfOk r (λ _. IsTextAlike d)
-    left_alike (Ok x) h = record { left = left; leaves = leaves; simulated = h }
-    left_alike (Err stop) h = tt
+    pub unsimulated : (stop : Stop) → IsSimStop verilog zeros BUDGET stop → (stop ≡ stops.Memory) ⊎ (try_result seed d ≡ Err stop)
+    unsimulated stop (inl memory) = inl memory
+    unsimulated stop (inr h) = absurd (no_stop verilog zeros BUDGET (dump_text left.turns left.memories) stop (left_answers verilog zeros BUDGET left (dump_text left.turns left.memories) text_leaves refl) h)
 
   pub unleft : (stop : Stop) → StopsDesign d zeros BUDGET stop → (stop ≡ stops.Memory) ⊎ (try_result seed d ≡ Err stop)
   unleft stop (inl memory) = inl memory
@@ -171,29 +180,30 @@ module _ {X : Type 0} (bytes : X → List ℕ) (seed : ℕ) (tree : PlainTree) (
   tree_stopped (Err stop) (inl memory) = inl memory
   tree_stopped (Err stop) (inr h) = inr (inl (accepted, sym h ∙ ap (λ e. try_result seed e) is))
 
-  pub tree_alike : (r : Result X Stop) → IfOk r (λ _. IsTextAlike d) → IfOk r (λ _. IsTextAlike (design_of tree))
-  tree_alike (Ok x) h = subst IsTextAlike is h
-  tree_alike (Err stop) h = tt
-
 pub tree_refused : (seed : ℕ) (tree : PlainTree) (stop : Stop) → IsTreeStop tree stop → (stop ≡ stops.Memory) ⊎ TreeTries seed tree (Err stop)
 tree_refused seed tree stop (inl memory) = inl memory
 tree_refused seed tree stop (inr h) = inr (inr (h.0, h.1, ap (λ s. Err s) h.2))
+
+-- by the law that the net of every accepted design does what the design means
+pub tree_realised : (tree : PlainTree) (d : PlainDesign) → ((e : PlainDesign) → IsDesign e → IsAccepted e → RealisesInNet e (net_tree (net_of (lowered_of e)))) → HasTargets tree → IsAcceptedTree tree → d ≡ design_of tree
+    → IsRealised d
+tree_realised tree d law targets accepted is = λ within sound.
+    let rules = tree_rules tree d targets accepted is within in
+    design_realises d rules.0 rules.1 sound (law d rules.0 rules.1)
 
 -- what is told of a tree that is the one of the seed
 pub record TreeTold {X : Type 0} (bytes : X → List ℕ) (seed : ℕ) (tree : PlainTree) (r : Result X Stop) : Type 0 where
   pub answer : IfOk r (λ x. TreeTries seed tree (Ok (bytes x)))
   pub cause : IfErr r (λ stop. (stop ≡ stops.Memory) ⊎ TreeTries seed tree (Err stop))
-  pub simulated : IfOk r (λ _. IsTextAlike (design_of tree))
   pub all_answers : (line : List ℕ) → TreeTries seed tree (Ok line) → MatchResult r (λ x. bytes x ≡ line) (λ stop. stop ≡ stops.Memory)
   pub all_stops : (why : Stop) → IsAcceptedTree tree × (try_result seed (design_of tree) ≡ Err why) → MatchResult r (λ _. ⊥) (λ stop. (stop ≡ stops.Memory) ⊎ (stop ≡ why))
   pub all_refusals : (told : Diagnostic) → TreeBreak tree told → MatchResult r (λ _. ⊥) (λ stop. (stop ≡ stops.Memory) ⊎ TellsRule told stop)
 
 tree_told : {X : Type 0} (bytes : X → List ℕ) (seed : ℕ) (tree : PlainTree) (r : Result X Stop) → IfOk r (λ x. TreeTries seed tree (Ok (bytes x))) → IfErr r (λ stop. (stop ≡ stops.Memory) ⊎ TreeTries seed tree (Err stop))
-    → IfOk r (λ _. IsTextAlike (design_of tree)) → TreeTold bytes seed tree r
-tree_told bytes seed tree r answer cause alike = record {
+    → TreeTold bytes seed tree r
+tree_told bytes seed tree r answer cause = record {
   answer = answer;
   cause = cause;
-  simulated = alike;
   all_answers = λ line h. all_answered bytes (Accepts seed tree) (TreeTries seed tree) (one_line seed tree) r answer cause line (line_accepts seed tree line h);
   all_stops = λ why h. all_stopped bytes (Accepts seed tree) (TreeTries seed tree) (one_line seed tree) r answer cause why (h.0, sym h.1);
   all_refusals = all_told seed tree bytes r answer cause;
@@ -201,10 +211,10 @@ tree_told bytes seed tree r answer cause alike = record {
 
 -- from the tree that was made to that of the seed
 pub design_told : {X : Type 0} (bytes : X → List ℕ) (seed : ℕ) (tree : PlainTree) (d : PlainDesign) (r : Result X Stop) → tree ≡ trial_tree seed → IsAcceptedTree tree → d ≡ design_of tree
-    → IfOk r (λ x. try_result seed d ≡ Ok (bytes x)) → IfErr r (λ stop. (stop ≡ stops.Memory) ⊎ (try_result seed d ≡ Err stop)) → IfOk r (λ _. IsTextAlike d) → TreeTold bytes seed (trial_tree seed) r
-design_told bytes seed tree d r made accepted is answer cause alike =
+    → IfOk r (λ x. try_result seed d ≡ Ok (bytes x)) → IfErr r (λ stop. (stop ≡ stops.Memory) ⊎ (try_result seed d ≡ Err stop)) → TreeTold bytes seed (trial_tree seed) r
+design_told bytes seed tree d r made accepted is answer cause =
     subst (λ t. TreeTold bytes seed t r) made
-    (tree_told bytes seed tree r (tree_tried bytes seed tree d accepted is r answer) (tree_stopped bytes seed tree d accepted is r cause) (tree_alike bytes seed tree d accepted is r alike))
+    (tree_told bytes seed tree r (tree_tried bytes seed tree d accepted is r answer) (tree_stopped bytes seed tree d accepted is r cause))
 
 abbrev no_bytes : Unit {0} → List ℕ
 no_bytes _ = []
@@ -214,4 +224,4 @@ StoppedTold seed tree stop = TreeTold {X = Unit {0}} no_bytes seed tree (Err sto
 
 pub refusal_told : (seed : ℕ) (tree : PlainTree) (stop : Stop) → tree ≡ trial_tree seed → IsTreeStop tree stop → StoppedTold seed (trial_tree seed) stop
 refusal_told seed tree stop made refused =
-    subst (λ t. StoppedTold seed t stop) made (tree_told {X = Unit {0}} no_bytes seed tree (Err stop) tt (tree_refused seed tree stop refused) tt)
+    subst (λ t. StoppedTold seed t stop) made (tree_told {X = Unit {0}} no_bytes seed tree (Err stop) tt (tree_refused seed tree stop refused))

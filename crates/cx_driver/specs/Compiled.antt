@@ -1,18 +1,14 @@
--- What `compile` writes of a text, and what it is to write; what a text is refused for.
+-- What `compile` writes of a text, and what a text is refused for.
 use Rattle.std.specs.Prelude.{◌≡◌, ◌⊎◌, ◌<◌, ◌≤◌, ℕ, List, Result, Ok, Err, decimal}
 use Rattle.cx_text.specs.declared.diagnostics.Diagnostic.{Diagnostic}
 use Rattle.cx_text.specs.declared.rules.Rule.TheVariants.{TooLarge}
 use Rattle.cx_text.specs.declared.limits.TheConstants.{COMPILE_SIZE}
 use Rattle.cx_meaning.specs.Designs.{PlainDesign, no_place}
 use Rattle.cx_rules.specs.Sizes.{design_size}
-use Rattle.cx_rules.specs.Externals.{external_rows}
 use Rattle.cx_realises.specs.Realises.{Realises}
 use Rattle.cx_vtree.specs.Plain.{PlainSource}
-use Rattle.cx_vtree.specs.PlainParts.{rows_of}
-use Rattle.cx_net.specs.NetTree.{net_tree}
 use Rattle.cx_static.specs.Lowering.{lowered_of}
 use Rattle.cx_wiring.specs.Wiring.{net_of}
-use Rattle.cx_wiring.specs.InNet.{RealisesInNet}
 use Rattle.cx_holes.specs.Inlining.{inlined}
 use Rattle.cx_emit.specs.Sources.{source_of}
 use Rattle.cx_commands.specs.Stopping.{TellsBreak}
@@ -34,28 +30,9 @@ pub record IsCompiled (text answer : List ℕ) : Type 0 where
   pub within : design_size design ≤ COMPILE_SIZE
   pub written : IsTextOf design answer
 
--- the net that a design comes down to does what the design means
-abbrev pub NetDoes : PlainDesign → Type 0
-NetDoes d = RealisesInNet d (net_tree (net_of (lowered_of d)))
-
 -- the source that the passes make of a design
 abbrev pub written_source : PlainDesign → PlainSource
 written_source d = source_of (inlined (net_of (lowered_of d)))
-
--- WHAT IS WRITTEN of a design, as far as it is proved: it spells a sound source, which has the design's external memories in order
-pub record IsSpeltFor (d : PlainDesign) (answer : List ℕ) : Type 0 where
-  pub source : PlainSource
-  pub spelled : IsVerilogOf answer source
-  pub rows : rows_of source.externals ≡ external_rows d
-
--- and of a text: it is accepted, its design is within the size that compile takes, and where the net of the design does what the
--- design means, the source realises it
-pub record IsWritten (text answer : List ℕ) : Type 0 where
-  pub design : PlainDesign
-  pub stands : IsDesignOf text design
-  pub within : design_size design ≤ COMPILE_SIZE
-  pub written : IsSpeltFor design answer
-  pub does : NetDoes design → IsTextOf design answer
 
 -- the text is accepted, and its design is within the size
 abbrev pub IsCompilable : List ℕ → Type 0
@@ -75,7 +52,7 @@ CompileBreak text told = TextBreak text told ⊎ IsTooLarge text told
 
 -- WHAT compile DOES WITH A TEXT: it writes this; or the text is refused, and that is told
 abbrev pub Compiles : List ℕ → Result (List ℕ) Stop → Type 0
-Compiles text (Ok answer) = IsWritten text answer
+Compiles text (Ok answer) = IsCompiled text answer
 Compiles text (Err stop) = (told : Diagnostic) × CompileBreak text told × (stop ≡ stops.Rule told)
 
 -- what is told of a text that is refused, unless memory is wanting

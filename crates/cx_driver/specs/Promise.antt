@@ -1,9 +1,11 @@
 -- What the interpreter and the simulator tell of a design and of its written text.
-use Rattle.std.specs.Prelude.{◌≡◌, ◌↔◌, ℕ, ◌≤◌, List, Ok, Err}
+use Rattle.std.specs.Prelude.{◌≡◌, ◌↔◌, ℕ, ◌≤◌, List, Option, Ok, Err}
 use Rattle.cx_text.specs.Loading.{PlainMemory}
+use Rattle.cx_text.specs.declared.limits.TheConstants.{DESIGN_BYTES}
 use Rattle.cx_data.specs.Dump.{dump_text}
 use Rattle.cx_data.specs.declared.faults.DataFault.{DataFault}
 use Rattle.cx_meaning.specs.declared.sights.FaultKind.{FaultKind}
+use Rattle.cx_commands.specs.Reads.{OfFile}
 use Rattle.cx_driver.specs.Interpreted.{Interprets}
 use Rattle.cx_commands.specs.declared.stops.Stop.{Stop}
 use Rattle.cx_commands.specs.declared.stops.Stop.TheVariants as stops
@@ -42,3 +44,7 @@ pub record KeepsPromise (text verilog : List ℕ) : Type 0 where
 -- THE PROMISE: whatever `compile` writes of a text keeps it
 abbrev pub PromiseIsKept : Type 0
 PromiseIsKept = (text verilog : List ℕ) → IsCompiled text verilog → KeepsPromise text verilog
+
+-- and so does what it writes of a file, as far as it is told what the files hold
+abbrev pub KeepsOfFile : Option (List ℕ → Option (List ℕ)) → List ℕ → List ℕ → Type 0
+KeepsOfFile held file verilog = OfFile held DESIGN_BYTES file (λ text. KeepsPromise text verilog)

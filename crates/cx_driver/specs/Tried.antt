@@ -1,20 +1,20 @@
--- What a trial tells: of the design that a seed gives, what its run leaves, which the run of its text leaves too.
-use Rattle.std.specs.Prelude.{◌≡◌, ◌⊎◌, ℕ, ◌+◌, nat_lt, if◌then◌else◌, List, [], ◌∷◌, ◌++◌, Result, Ok, Err, codes, decimal, sum}
+-- What a trial tells of the design that a seed gives: what its run leaves.
+use Rattle.std.specs.Prelude.{◌≡◌, ◌⊎◌, ℕ, ◌+◌, ◌≤◌, nat_lt, true, if◌then◌else◌, List, [], ◌∷◌, ◌++◌, Result, Ok, Err, codes, decimal, sum}
 use Rattle.cx_text.specs.declared.diagnostics.Diagnostic.{Diagnostic}
 use Rattle.cx_text.specs.declared.limits.TheConstants.{BUDGET, COMPILE_SIZE}
 use Rattle.cx_text.specs.Loading.{PlainMemory}
-use Rattle.cx_data.specs.Dump.{dump_text}
 use Rattle.cx_ast.specs.PlainTree.{PlainTree}
 use Rattle.cx_meaning.specs.Designs.{PlainDesign}
 use Rattle.cx_rules.specs.Sizes.{design_size}
 use Rattle.cx_numbering.specs.DesignOf.{design_of}
 use Rattle.cx_check.specs.Acceptance.{IsAcceptedTree, TreeBreak}
+use Rattle.cx_realises.specs.Realises.{Realises}
+use Rattle.cx_vtree.specs.Sound.{is_sound}
 use Rattle.cx_trial.specs.TrialTree.{trial_tree}
 use Rattle.cx_commands.specs.declared.stops.Stop.{Stop}
 use Rattle.cx_commands.specs.declared.stops.Stop.TheVariants as stops
 use Rattle.cx_driver.specs.Interpreted.{PlainLeft, design_left}
-use Rattle.cx_driver.specs.Simulated.{Simulates}
-use Rattle.cx_driver.specs.Compiled.{IsSpeltFor, too_large}
+use Rattle.cx_driver.specs.Compiled.{too_large, written_source}
 
 -- a data file with zeros for the sixteen words
 abbrev pub zeros : List ℕ
@@ -69,17 +69,10 @@ pub record TellsRule (told : Diagnostic) (stop : Stop) : Type 0 where
   pub rule : own.rule ≡ told.rule
   pub place : own.place ≡ told.place
 
--- a text that is written of a design is simulated on zeros to this dump
-pub record IsSimulatedSo (d : PlainDesign) (dump : List ℕ) : Type 0 where
-  pub verilog : List ℕ
-  pub written : IsSpeltFor d verilog
-  pub runs : Simulates verilog zeros BUDGET (Ok dump)
+-- the run of a design on zeros ends
+abbrev pub EndsOnZeros : PlainDesign → Type 0
+EndsOnZeros d = (left : PlainLeft) × (design_left d zeros BUDGET ≡ Ok left)
 
--- THE TEXT OF A DESIGN LEAVES WHAT THE DESIGN LEAVES, on zeros
-pub record IsTextAlike (d : PlainDesign) : Type 0 where
-  pub left : PlainLeft
-  pub leaves : design_left d zeros BUDGET ≡ Ok left
-  pub simulated : IsSimulatedSo d (dump_text left.turns left.memories)
-
-abbrev pub IsAlike : ℕ → Type 0
-IsAlike seed = IsTextAlike (design_of (trial_tree seed))
+-- the source that is written of a design, where it is sound, realises the design, where this is within the size
+abbrev pub IsRealised : PlainDesign → Type 0
+IsRealised d = design_size d ≤ COMPILE_SIZE → is_sound (written_source d) ≡ true → Realises d (written_source d)

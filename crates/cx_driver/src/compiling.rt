@@ -7,7 +7,8 @@ ghost use Rattle.cx_meaning.specs.Designs.{no_place};
 ghost use Rattle.cx_design.specs.PlainDesigns.{plain_design};
 ghost use Rattle.cx_vtree.specs.PlainSources.{plain_source};
 ghost use Rattle.cx_driver.specs.Simulated.{IsVerilogOf};
-ghost use Rattle.cx_driver.specs.Compiled.{CompileBreak, IsCompilable, IsCompileStop, IsDesignTooLarge, IsDesignWritten, IsWritten, written_source};
+ghost use Rattle.cx_driver.specs.Compiled.{CompileBreak, IsCompilable, IsCompileStop, IsCompiled, IsDesignTooLarge, IsDesignWritten, written_source};
+ghost use Rattle.cx_driver.specs.Promise.{KeepsPromise};
 ghost use Rattle.cx_commands.specs.declared.stops.Stop.TheVariants as stops;
 
 use crate::accepting::accepted_design;
@@ -22,13 +23,16 @@ use cx_text::{COMPILE_SIZE, Diagnostic, Memory, Name, Place, Rule};
 use cx_vsim::source_is_sound;
 use cx_vtree::Source;
 use cx_vwrite::write;
+use cx_wiring::laws::design_is_realised;
 use itoa::Buffer;
 use std::alloc::Global;
 
-/// Writes the Verilog text of a design that is accepted and within the size that is compiled.
+/// Writes the Verilog text of a design that is accepted and within the size that is compiled. What it writes keeps the promise: it is done
+/// first in the cycle, and with the bytes, with which the interpreter ends, and never where the interpreter needs more turns.
 pub fn compile(alloc: Global, text: &[u8]) -> Result<Vec<u8>, Stop>
     requires { length text.now ≤ 1048576 }
-    ensures answer { IfOk result (λ verilog. IsWritten text.now verilog.items) }
+    ensures answer { IfOk result (λ verilog. IsCompiled text.now verilog.items) }
+    ensures promise { IfOk result (λ verilog. KeepsPromise text.now verilog.items) }
     ensures cause { IfErr result (IsCompileStop text.now) }
 
     // A text that is accepted and within the size is compiled, unless memory is wanting.
@@ -39,7 +43,10 @@ pub fn compile(alloc: Global, text: &[u8]) -> Result<Vec<u8>, Stop>
         → MatchResult result (λ _. ⊥) (λ stop. (stop ≡ stops.Memory) ⊎ (stop ≡ stops.Rule told)) }
 {
     match accepted_design(alloc, text) {
-        Ok(design) => compile_design(alloc, &design),
+        Ok(design) => {
+            design_is_realised();
+            compile_design(alloc, &design)
+        }
         Err(stop) => Err(stop),
     }
 }

@@ -8,6 +8,7 @@ ghost use Rattle.cx_commands.specs.Asked.{asked_of};
 ghost use Rattle.cx_commands.specs.Commands as asked;
 ghost use Rattle.cx_commands.specs.Messages.{line_of};
 ghost use Rattle.cx_driver.specs.Outcomes.{CanAnswer, IsAnswer, IsAnswerTo, IsStopped};
+ghost use Rattle.cx_driver.specs.Promise.{KeepsOfFile};
 ghost use Rattle.cx_commands.specs.Reads.{HoldsWithin, IsReadFault};
 ghost use Rattle.cx_commands.specs.declared.refusals.Refusal.TheVariants as refusals;
 ghost use Rattle.cx_commands.specs.declared.refusals.Status.TheVariants as statuses;
@@ -36,6 +37,10 @@ pub fn run<F: Files, O: Sink, E: Sink>(
 ) -> Status
     ensures done { result ≡ statuses.Done →
         (text : List ℕ) × IsAnswerTo (F.held files.old) words.now text × (O.written out.new ≡ grown (O.written out.old) text) }
+
+    // THE PROMISE: what `compile` wrote of a file keeps it.
+    ensures promise { result ≡ statuses.Done → (file : List ℕ) → Asks words.now (asked.compile file)
+        → (verilog : List ℕ) × KeepsOfFile (F.held files.old) file verilog × (O.written out.new ≡ grown (O.written out.old) verilog) }
 
     ensures words { (result ≡ statuses.Words) ↔ AsksNothing words.now }
     ensures read_fault { result ≡ statuses.ReadFault → (file : List ℕ) × IsFileOf words.now file

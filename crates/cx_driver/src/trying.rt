@@ -1,32 +1,27 @@
 //! The trial: the design of a seed is checked, interpreted and compiled, and its text is read back and simulated.
 
-ghost use Rattle.std.specs.Prelude.{◌≡◌, ◌≤◌, ◌⊎◌, ◌++◌, List, ℕ, IfOk, IfErr, Ok, Err, OnOk, MatchResult, map, sum};
+ghost use Rattle.std.specs.Prelude.{◌≡◌, ◌⊎◌, ◌++◌, List, IfOk, IfErr, Ok, Err, MatchResult, map, sum};
 ghost use Rattle.cx_text.specs.declared.diagnostics.Diagnostic.{Diagnostic as DiagnosticValue};
-ghost use Rattle.cx_text.specs.declared.limits.TheConstants.{BUDGET as MOST, COMPILE_SIZE as SIZE};
 ghost use Rattle.cx_text.specs.Loading.{plain_memory};
-ghost use Rattle.cx_data.specs.Dump.{dump_text};
 ghost use Rattle.cx_design.specs.PlainDesigns.{plain_design};
-ghost use Rattle.cx_rules.specs.Sizes as sizes;
 ghost use Rattle.cx_limits.specs.Capped.{capped};
 ghost use Rattle.cx_check.specs.Acceptance.{TreeBreak};
 ghost use Rattle.cx_trial.specs.TrialTree as tree_of;
 ghost use Rattle.cx_commands.specs.declared.stops.Stop.{Stop as StopValue};
 ghost use Rattle.cx_commands.specs.declared.stops.Stop.TheVariants as stops;
-ghost use Rattle.cx_driver.specs.Compiled.{IsDesignTooLarge};
-ghost use Rattle.cx_driver.specs.Leaving.{CanDump, plain_left};
-ghost use Rattle.cx_driver.specs.Simulated.{Simulates};
+ghost use Rattle.cx_driver.specs.Leaving.{plain_left};
 ghost use Rattle.cx_driver.specs.Tried as plain;
-ghost use Rattle.cx_driver.specs.Tried.{IsAlike, IsSimulatedSo, IsTextAlike, IsTrialStop, StopsTrial, TellsRule, Tries, counted, trial_line, try_result, words_sum, zeros};
+ghost use Rattle.cx_driver.specs.Tried.{EndsOnZeros, IsRealised, IsTrialStop, StopsTrial, TellsRule, Tries, counted, trial_line, try_result, words_sum};
 
 use crate::accepting::tried;
 use crate::compiling::compile_design;
 use crate::interpreting::{Left, run_design};
-use crate::memories::dump_of;
-use crate::simulating::sim;
+use crate::simulating::simulate;
 use cx_commands::Stop;
 use cx_design::Checked;
 use cx_text::{BUDGET, LoadedMemory, Memory};
 use cx_trial::trial_tree;
+use cx_wiring::laws::design_is_realised;
 use itoa::Buffer;
 use std::alloc::Global;
 
@@ -34,14 +29,11 @@ use std::alloc::Global;
 const ZEROS: &[u8] =
     b"{\"mem\":{\"data\":[0,0,0,0,0,0,0,0,0,0,0,0,0,0,0,0],\"format\":{\"numeric_type\":\"bitnum\",\"is_signed\":false,\"width\":32}}}";
 
-/// Tries the design of a seed. Answers the line that tells the turns of its run on zeros, and the sum of the words in which this
-/// leaves the memory, where the run of its text leaves them too.
+/// Tries the design of a seed: it is checked and interpreted on zeros, compiled, and its text is read back and simulated. Answers the line that
+/// tells the turns of its run, and the sum of the words in which this leaves the memory.
 pub fn trial(alloc: Global, seed: u64) -> Result<Vec<u8>, Stop>
     ensures answer { IfOk result (λ line. Tries seed (Ok line.items)) }
     ensures cause { IfErr result (IsTrialStop seed) }
-
-    // A text that is written of the design is simulated to the dump of what the design leaves.
-    ensures simulated { IfOk result (λ _. IsAlike seed) }
 
     // Where the design has a line it is the answer, unless memory is wanting.
     ensures all_answers { (line : List ℕ) → Tries seed (Ok line) → MatchResult result (λ own. own.items ≡ line) (λ stop. stop ≡ stops.Memory) }
@@ -55,7 +47,10 @@ pub fn trial(alloc: Global, seed: u64) -> Result<Vec<u8>, Stop>
 {
     match trial_tree(alloc, seed) {
         Ok(tree) => match tried(alloc, &tree) {
-            Ok(design) => try_design(alloc, &design, seed),
+            Ok(design) => {
+                design_is_realised();
+                try_design(alloc, &design, seed)
+            }
             Err(stop) => Err(stop),
         },
         Err(_) => Err(Stop::Memory),
@@ -64,49 +59,32 @@ pub fn trial(alloc: Global, seed: u64) -> Result<Vec<u8>, Stop>
 
 /// The line of a design that a seed gave.
 fn try_design(alloc: Global, design: &Checked, seed: u64) -> Result<Vec<u8>, Stop>
+    requires realised { IsRealised (plain_design design.now) }
     ensures answer { IfOk result (λ line. try_result seed (plain_design design.now) ≡ Ok line.items) }
     ensures cause { IfErr result (λ stop. (stop ≡ stops.Memory) ⊎ (try_result seed (plain_design design.now) ≡ Err stop)) }
-    ensures simulated { IfOk result (λ _. IsTextAlike (plain_design design.now)) }
 {
     match run_design(alloc, design, ZEROS, BUDGET) {
-        Ok(left) => compared(alloc, design, seed, &left),
+        Ok(_) => try_text(alloc, design, seed),
         Err(stop) => Err(stop),
     }
 }
 
-/// The line of what a design leaves, where the run of its text leaves it too.
-fn compared(alloc: Global, design: &Checked, seed: u64, left: &Left) -> Result<Vec<u8>, Stop>
-    requires ready { CanDump left.now }
-    ensures answer { IfOk result (λ line. line.items ≡ plain.line_of seed (plain_left left.now)) }
-    ensures within { IfOk result (λ line. sizes.design_size (plain_design design.now) ≤ SIZE) }
-    ensures simulated { IfOk result (λ line. IsSimulatedSo (plain_design design.now) (dump_text left.now.turns (plain_left left.now).memories)) }
-    ensures cause { IfErr result (IsDesignTooLarge (plain_design design.now)) }
+/// The line of a design whose run ends, by the run of its text.
+fn try_text(alloc: Global, design: &Checked, seed: u64) -> Result<Vec<u8>, Stop>
+    requires realised { IsRealised (plain_design design.now) }
+    requires ends { EndsOnZeros (plain_design design.now) }
+    ensures answer { IfOk result (λ line. try_result seed (plain_design design.now) ≡ Ok line.items) }
+    ensures cause { IfErr result (λ stop. (stop ≡ stops.Memory) ⊎ (try_result seed (plain_design design.now) ≡ Err stop)) }
 {
     match compile_design(alloc, design) {
-        Ok(verilog) => {
-            leaves(alloc, &verilog, left)?;
-            let line = line_of(alloc, seed, left)?;
-            Ok(line)
-        }
-        Err(stop) => Err(stop),
-    }
-}
-
-/// Simulates a text on zeros. One that does not leave this counts as want of memory.
-fn leaves(alloc: Global, verilog: &[u8], left: &Left) -> Result<(), Memory>
-    requires ready { CanDump left.now }
-    ensures { OnOk result (Simulates verilog.now zeros MOST (Ok (dump_text left.now.turns (plain_left left.now).memories))) }
-{
-    let dump = dump_of(alloc, left.turns, &left.loaded)?;
-    match sim(alloc, verilog, ZEROS, BUDGET) {
-        Ok(other) => {
-            if other.as_slice() == dump.as_slice() {
-                Ok(())
-            } else {
-                Err(Memory)
+        Ok(verilog) => match simulate(alloc, &verilog, ZEROS, BUDGET) {
+            Ok(left) => {
+                let line = line_of(alloc, seed, &left)?;
+                Ok(line)
             }
-        }
-        Err(_) => Err(Memory),
+            Err(stop) => Err(stop),
+        },
+        Err(stop) => Err(stop),
     }
 }
 

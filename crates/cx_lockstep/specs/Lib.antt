@@ -3,12 +3,4 @@ pub mod Doing
 pub mod Machines
 pub mod Statements
 pub mod Lawful
-pub mod FollowLaws
-pub mod PartLaws
-pub mod ArmLaws
-pub mod StatementLaws
-pub mod EndLaws
 pub mod Running
-pub mod RunningLaws
-pub mod WriteLaws
-pub mod TurnLaws

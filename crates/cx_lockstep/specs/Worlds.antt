@@ -1,5 +1,5 @@
 -- Machines on one clock over one store: where control stands, what a cycle writes and when it is a fault.
-use Rattle.std.specs.Prelude.{◌≡◌, ℕ, zero, suc, Bool, false, Option, Some, None}
+use Rattle.std.specs.Prelude.{◌≡◌, ℕ, zero, suc, Bool, true, false, Option, Some, None}
 
 -- where values are kept: X are the spots, and V x is what is kept at x
 abbrev pub Store : (X : Type 0) → (X → Type 0) → Type 0
@@ -15,6 +15,10 @@ pub record World (X : Type 0) (V : X → Type 0) (E S : Type 0) : Type 0 where
 pub data Control (C : Type 0) : Type 0 where
   At : (place : C) → Control C
   Done : Control C
+
+abbrev pub is_done : {C : Type 0} → Control C → Bool
+is_done (At c) = false
+is_done Done = true
 
 pub record Machine (X : Type 0) (V : X → Type 0) : Type 1 where
   pub Place : Type 0
@@ -57,3 +61,8 @@ pub record Moment {X : Type 0} {V : X → Type 0} (M : Machine X V) : Type 0 whe
 abbrev pub after_cycles : {X : Type 0} {V : X → Type 0} → ((x : X) → V x → V x) → (M : Machine X V) → ℕ → Moment M → Moment M
 after_cycles idle M zero m = m
 after_cycles idle M (suc n) m = after_cycles idle M n (record { control = step M m.control m.store; store = edge idle M m.control m.store })
+
+-- not done, and no fault
+pub record IsQuiet {X : Type 0} {V : X → Type 0} (M : Machine X V) (m : Moment M) : Type 0 where
+  pub goes : is_done m.control ≡ false
+  pub clean : faults M m.control m.store ≡ false

@@ -4,10 +4,9 @@ use Rattle.std.proofs.lemmas.Bool.{eq-eqb}
 use Rattle.std.specs.Option.{option_map_or}
 use Rattle.cx_bits.specs.BitVector.{BitVector}
 use Rattle.cx_meaning.specs.Designs.{PlainStatement}
-use Rattle.cx_lockstep.specs.Worlds.{Control, At, Done, Machine, Store, step}
+use Rattle.cx_lockstep.specs.Worlds.{Control, At, Done, Machine, Store, step, is_done}
 use Rattle.cx_lockstep.specs.Machines.{InPar, join, par_machine}
 use Rattle.cx_lockstep.specs.Running.{at_control, par_runs}
-use Rattle.cx_lockstep.specs.EndLaws.{is_done}
 use Rattle.cx_control.specs.Codings.{Coding, Bank, bank_code, left_control, right_control, at_fine, AreFine}
 use Rattle.cx_net.specs.Nets.{OfRegister, ToRegister, ToHole, PlainNetDriver}
 use Rattle.cx_net.specs.NetMeaning.{Node, NetAround, truth_bit}

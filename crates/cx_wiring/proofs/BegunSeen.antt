@@ -12,7 +12,7 @@ use Rattle.cx_meaning.specs.Sights.{In, seen}
 use Rattle.cx_laws.specs.Samples.{Samples, says, begun_by}
 use Rattle.cx_lockstep.specs.Worlds.{Machine}
 use Rattle.cx_lockstep.specs.Running.{AnIsland, running}
-use Rattle.cx_lockstep.specs.RunningLaws.{no_faults}
+use Rattle.cx_lockstep.proofs.RunningLaws.{no_faults}
 use Rattle.cx_control.specs.Spots.{Cell, Kept, cells_in, held_in}
 use Rattle.cx_control.specs.Leaves.{Coded, Cycle, sampled_now, leaf_machines}
 use Rattle.cx_control.specs.Controls.{coded_control, coded_below}

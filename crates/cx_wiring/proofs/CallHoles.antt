@@ -26,16 +26,15 @@ use Rattle.cx_rules.specs.ShapeRules.{some_target}
 use Rattle.cx_rules.specs.CallShape.{done_port, write_en_of, register_done, captured, wanted_dones}
 use Rattle.cx_rules.proofs.FoundLemmas.{same_is}
 use Rattle.cx_flow.specs.Flows.{Values, zero_of, is_set, cell_flow, side_flow, part_flow, Solves as FlowSolves}
-use Rattle.cx_lockstep.specs.Worlds.{Machine}
+use Rattle.cx_lockstep.specs.Worlds.{Machine, is_done}
 use Rattle.cx_lockstep.specs.Statements.{LeafMachines}
-use Rattle.cx_lockstep.specs.EndLaws.{is_done}
 use Rattle.cx_control.specs.Spots.{Cell, Kept, cells_in, held_in}
 use Rattle.cx_control.specs.Leaves.{child_at, captured_now, leaf_machines}
 use Rattle.cx_control.specs.Controls.{coded_below}
 use Rattle.cx_control.specs.InstanceRules.{Stands}
 use Rattle.cx_control.specs.CallRules.{CallForm, CallRules}
 use Rattle.cx_control.specs.ControlRules.{ControlRules}
-use Rattle.cx_control.specs.LeafLaws.{is_one_of, ActsAs, kind_acts}
+use Rattle.cx_control.proofs.LeafLaws.{is_one_of, ActsAs, kind_acts}
 use Rattle.cx_control.proofs.ShapeLemmas.{in_some}
 use Rattle.cx_control.proofs.RegisterLemmas.{set, Captured, captured_is, done_of_one, one_of_dones}
 use Rattle.cx_control.proofs.HoleLemmas.{last_is_done, CaptureRules, wanted_are, Register, register, done_seen, all_done, hole_is_set}

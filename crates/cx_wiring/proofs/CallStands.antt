@@ -8,10 +8,9 @@ use Rattle.cx_meaning.specs.Instances as instances
 use Rattle.cx_meaning.specs.Instances.{Instance, Cells, no_cells, a_primitive, an_instance, OfRow, OfInstance, cell_at}
 use Rattle.cx_meaning.specs.Sights.{In}
 use Rattle.cx_meaning.specs.Calls.{called}
-use Rattle.cx_lockstep.specs.Worlds.{Control, At, Done, Machine}
+use Rattle.cx_lockstep.specs.Worlds.{Control, At, Done, Machine, is_done}
 use Rattle.cx_lockstep.specs.Statements.{LeafMachines}
 use Rattle.cx_lockstep.specs.Running.{AGroup, running}
-use Rattle.cx_lockstep.specs.EndLaws.{is_done}
 use Rattle.cx_control.specs.Codings.{Coding, at_fine}
 use Rattle.cx_control.specs.Spots.{Number, Kept}
 use Rattle.cx_control.specs.Leaves.{Coded, code_of, child_at, leaf_machines}
@@ -19,9 +18,9 @@ use Rattle.cx_control.specs.Controls.{coded_control, coded_below}
 use Rattle.cx_control.specs.Standing.{bare, Calling, runs, at_end, captured, GoodAt, good_below}
 use Rattle.cx_control.specs.ControlRules.{ControlRules}
 use Rattle.cx_control.specs.InstanceRules.{Stands}
-use Rattle.cx_control.specs.CallLaws.{ChildLaws}
-use Rattle.cx_control.specs.ControlLaws.{IslandsDo}
-use Rattle.cx_control.specs.KeepLaws.{KeepsBelow, run_stands, at_child, bank, decoded}
+use Rattle.cx_control.proofs.CallLaws.{ChildLaws}
+use Rattle.cx_control.proofs.ControlLaws.{IslandsDo}
+use Rattle.cx_control.proofs.KeepLaws.{KeepsBelow, run_stands, at_child, bank, decoded}
 use Rattle.cx_net.specs.Nets.{PlainNetComponent}
 use Rattle.cx_net.specs.NetMeaning.{NetState, below_cell, NetLook, NetAround, TheDone, around_child, is_true, truth_bit}
 use Rattle.cx_wiring.specs.NetBits.{is_bit, is_bit_below}

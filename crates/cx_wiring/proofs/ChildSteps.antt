@@ -22,11 +22,10 @@ use Rattle.cx_rules.specs.Items.{is_plain, is_comb}
 use Rattle.cx_rules.specs.Footprints.{Reads}
 use Rattle.cx_rules.specs.Wellformed.{IsWith}
 use Rattle.cx_frames.specs.Rests.{IsUndriven}
-use Rattle.cx_lockstep.specs.Worlds.{Control, At, Done, Machine, edge_of}
+use Rattle.cx_lockstep.specs.Worlds.{Control, At, Done, Machine, edge_of, is_done}
 use Rattle.cx_lockstep.specs.Statements.{LeafMachines}
 use Rattle.cx_lockstep.specs.Running.{Running, AGroup, AnIsland, leaf_of, leaf_writes, running}
-use Rattle.cx_lockstep.specs.WriteLaws.{Alone, alone}
-use Rattle.cx_lockstep.specs.EndLaws.{is_done}
+use Rattle.cx_lockstep.proofs.WriteLaws.{Alone, alone}
 use Rattle.cx_control.specs.Codings.{Coding}
 use Rattle.cx_control.specs.Spots.{Spot, Cell, Number, Holds, Kept, cells_in, held_in, spots_of, reads_spot}
 use Rattle.cx_control.specs.Numbers.{world_of, Rests}
@@ -36,12 +35,12 @@ use Rattle.cx_control.specs.Standing.{bare, bare_under, Calling, runs, at_end, c
 use Rattle.cx_control.specs.InstanceRules.{Stands}
 use Rattle.cx_control.specs.CallRules.{CallRules}
 use Rattle.cx_control.specs.ControlRules.{ControlRules}
-use Rattle.cx_control.specs.CallLaws.{ChildLaws, not_just}
-use Rattle.cx_control.specs.LeafLaws.{true_false, ActsAs, IsQuietEnd, turn_number, kind_ends, island_number, kind_number}
-use Rattle.cx_control.specs.ControlLaws.{IslandsDo, called_child}
-use Rattle.cx_control.specs.StandLaws.{parts_stand}
-use Rattle.cx_control.specs.KeepLaws as keeps
-use Rattle.cx_control.specs.KeepLaws.{KeepsBelow}
+use Rattle.cx_control.proofs.CallLaws.{ChildLaws, not_just}
+use Rattle.cx_control.proofs.LeafLaws.{true_false, ActsAs, IsQuietEnd, turn_number, kind_ends, island_number, kind_number}
+use Rattle.cx_control.proofs.ControlLaws.{IslandsDo, called_child}
+use Rattle.cx_control.proofs.StandLaws.{parts_stand}
+use Rattle.cx_control.proofs.KeepLaws as keeps
+use Rattle.cx_control.proofs.KeepLaws.{KeepsBelow}
 use Rattle.cx_net.specs.NetMeaning.{NetState, NetLook, NetAround, APort, AHole, is_true, truth_bit, around_child}
 use Rattle.cx_flow.specs.Flows.{zero_of}
 use Rattle.cx_static.specs.Lowering.{lowered_component}

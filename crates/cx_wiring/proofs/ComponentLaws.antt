@@ -5,8 +5,7 @@ use Rattle.cx_text.specs.declared.places.Place.{Place}
 use Rattle.cx_bits.specs.BitVector.{BitVector}
 use Rattle.cx_meaning.specs.declared.ports.PortRef.{PortRef}
 use Rattle.cx_meaning.specs.Designs.{PlainComponent, Timed, PlainStatement, Placed}
-use Rattle.cx_lockstep.specs.Worlds.{Control, At, Done}
-use Rattle.cx_lockstep.specs.EndLaws.{is_done}
+use Rattle.cx_lockstep.specs.Worlds.{Control, At, Done, is_done}
 use Rattle.cx_control.specs.Codings.{Coding, bank_code}
 use Rattle.cx_net.specs.Nets.{OfRegister, OfGo, PlainNetTarget, ToPort, ToRegister, ToWire, ToHole, ToDone, PlainNetDriver}
 use Rattle.cx_net.specs.NetMeaning.{Node, AHole, TheDone, NetAround, truth_bit, same_target}

@@ -8,9 +8,9 @@ use Rattle.cx_rules.specs.Wellformed.{IsDesign}
 use Rattle.cx_control.specs.Controls.{coded_control, coded_below}
 use Rattle.cx_control.specs.ControlRules.{ControlRules}
 use Rattle.cx_control.specs.IslandRules.{IslandRules}
-use Rattle.cx_control.specs.CallLaws.{ChildLaws}
-use Rattle.cx_control.specs.ControlLaws.{child_does}
-use Rattle.cx_control.specs.KeepLaws.{KeepsBelow, child_keeps}
+use Rattle.cx_control.proofs.CallLaws.{ChildLaws}
+use Rattle.cx_control.proofs.ControlLaws.{child_does}
+use Rattle.cx_control.proofs.KeepLaws.{KeepsBelow, child_keeps}
 use Rattle.cx_control.proofs.DesignRuns.{islands_do, rules_below, islands_below}
 use Rattle.cx_lockstep.specs.Worlds.{Machine}
 use Rattle.cx_control.specs.Leaves.{Coded}

@@ -18,8 +18,8 @@ use Rattle.cx_control.specs.Standing.{bare, good_control}
 use Rattle.cx_control.specs.Keeping.{Keeps}
 use Rattle.cx_control.specs.ControlRules.{ControlRules}
 use Rattle.cx_control.specs.IslandRules.{IslandRules}
-use Rattle.cx_control.specs.ControlLaws.{control_coded}
-use Rattle.cx_control.specs.KeepLaws.{control_keeps}
+use Rattle.cx_control.proofs.ControlLaws.{control_coded}
+use Rattle.cx_control.proofs.KeepLaws.{control_keeps}
 use Rattle.cx_control.specs.DesignRuns.{MachineRuns}
 use Rattle.cx_control.proofs.DesignRuns.{islands_do}
 use Rattle.cx_net.specs.NetMeaning.{NetState, NetLook, NetAround, outside}

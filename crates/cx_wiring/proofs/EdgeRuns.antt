@@ -3,8 +3,7 @@ use Rattle.std.proofs.Common.{◌≡◌, ℕ, zero, suc, ◌+◌, ◌<◌, ◌�
 use Rattle.cx_meaning.specs.Designs.{PlainDesign}
 use Rattle.cx_meaning.specs.Instances.{tree_of, start, words_of}
 use Rattle.cx_meaning.specs.Sights.{unheld}
-use Rattle.cx_lockstep.specs.Worlds.{Control, At, Done, Machine, edge, step, Moment, after_cycles}
-use Rattle.cx_lockstep.specs.EndLaws.{is_done, IsQuiet}
+use Rattle.cx_lockstep.specs.Worlds.{Control, At, Done, Machine, edge, step, Moment, after_cycles, is_done, IsQuiet}
 use Rattle.cx_control.specs.Spots.{Kept, cells_in, shown}
 use Rattle.cx_control.specs.Numbers.{spot_idle}
 use Rattle.cx_control.specs.DesignRuns.{design_machine}

@@ -22,15 +22,15 @@ use Rattle.cx_lockstep.specs.Machines.{InSeq, First, Second, InPar, left_of, rig
 use Rattle.cx_lockstep.specs.Statements.{LeafMachines, machine_of, form_machine, parts_machine, arms_machine}
 use Rattle.cx_lockstep.specs.Lawful.{IsPart, of_seq, of_par, then_branch, else_branch, of_while, of_repeat, Apart, AreApart}
 use Rattle.cx_lockstep.specs.Running.{Running, AGroup, AnIsland, at_control, seq_runs, par_runs, leaf_of, running, parts_run, arms_run}
-use Rattle.cx_lockstep.specs.RunningLaws.{in_either, in_left, in_right}
-use Rattle.cx_lockstep.specs.ArmLaws as arm_laws
+use Rattle.cx_lockstep.proofs.RunningLaws.{in_either, in_left, in_right}
+use Rattle.cx_lockstep.proofs.ArmLaws as arm_laws
 use Rattle.cx_control.specs.Codings.{at_fine}
 use Rattle.cx_control.specs.StatementCodings.{LeafCodings}
 use Rattle.cx_control.specs.Spots.{Spot, Cell, Holds, Kept, spots_of, reads_spot}
 use Rattle.cx_control.specs.Leaves.{Coded, leaf_machines}
 use Rattle.cx_control.specs.InstanceRules.{Stands}
 use Rattle.cx_control.specs.ControlRules.{ControlRules}
-use Rattle.cx_control.specs.StandLaws.{stands_visited, parts_stand, part_reads, are_apart}
+use Rattle.cx_control.proofs.StandLaws.{stands_visited, parts_stand, part_reads, are_apart}
 use Rattle.cx_net.specs.NetMeaning.{truth_bit}
 use Rattle.cx_static.specs.Islands.{PlainIsland}
 use Rattle.cx_wiring.specs.Shown.{Going, told, comb_going, in_seq, in_par, in_if, in_while, if_going, while_going, enable_going, form_going, going, parts_going, arms_going, enable_agrees, TestAgrees, FormAgrees, StatementAgrees, PartsAgree, ArmsAgree}

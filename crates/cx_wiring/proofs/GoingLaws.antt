@@ -10,13 +10,12 @@ use Rattle.cx_rules.specs.Wellformed.{IsForm, IsWith}
 use Rattle.cx_meaning.specs.Designs.{group_at, PlainComponent, PlainForm, Empty, Enable, Seq, Par, If, While, Repeat, StaticSeq, StaticPar, StaticIf, StaticRepeat, Timed, PlainStatement, Placed, PlainStatements, no_statements, a_statement, list_of}
 use Rattle.cx_meaning.specs.Islands.{group_length}
 use Rattle.cx_meaning.specs.Sights.{In}
-use Rattle.cx_lockstep.specs.Worlds.{Store, Control, At, Done, Machine}
+use Rattle.cx_lockstep.specs.Worlds.{Store, Control, At, Done, Machine, is_done}
 use Rattle.cx_lockstep.specs.Machines.{First, Second, InPar, left_of, right_of, AtTest, InThen, InElse, AtHead, InBody}
 use Rattle.cx_lockstep.specs.Statements.{LeafMachines, machine_of, parts_machine, arms_machine}
 use Rattle.cx_lockstep.specs.Running.{Running, AGroup, AnIsland, at_control, par_runs, running, parts_run, arms_run}
-use Rattle.cx_lockstep.specs.RunningLaws.{in_either, in_left, in_right}
+use Rattle.cx_lockstep.proofs.RunningLaws.{in_either, in_left, in_right}
 use Rattle.cx_lockstep.specs.Lawful.{IsPart, of_seq, of_par, then_branch, else_branch, of_while, of_repeat}
-use Rattle.cx_lockstep.specs.EndLaws.{is_done}
 use Rattle.cx_control.specs.Codings.{at_fine}
 use Rattle.cx_control.specs.StatementCodings.{LeafCodings}
 use Rattle.cx_net.specs.NetMeaning.{truth_bit}

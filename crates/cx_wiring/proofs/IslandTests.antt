@@ -28,7 +28,7 @@ use Rattle.cx_laws.specs.Samples.{Samples, says, ifs_of, form_by, statement_by, 
 use Rattle.cx_frames.proofs.StatementFrames.{visited}
 use Rattle.cx_flow.specs.Flows.{Values, Reaches, is_set}
 use Rattle.cx_lockstep.specs.Worlds.{Machine}
-use Rattle.cx_lockstep.specs.RunningLaws.{in_either}
+use Rattle.cx_lockstep.proofs.RunningLaws.{in_either}
 use Rattle.cx_control.specs.Spots.{Cell, Kept, cells_in, held_in}
 use Rattle.cx_control.specs.Leaves.{Coded, InIsland, Cycle, turn_faults, sampled_now, island_faults}
 use Rattle.cx_control.specs.Controls.{coded_control}

@@ -20,9 +20,8 @@ use Rattle.cx_meaning.specs.Control.{groups_in}
 use Rattle.cx_meaning.specs.Islands.{group_length, kind_length, form_length}
 use Rattle.cx_laws.specs.Positions.{FormIfs}
 use Rattle.cx_laws.specs.Samples.{form_ifs, active_by}
-use Rattle.cx_lockstep.specs.Worlds.{Control, At, Done, Machine}
+use Rattle.cx_lockstep.specs.Worlds.{Control, At, Done, Machine, is_done}
 use Rattle.cx_lockstep.specs.Statements.{LeafMachines, machine_of}
-use Rattle.cx_lockstep.specs.EndLaws.{is_done}
 use Rattle.cx_control.specs.Codings.{Coding, bank_code}
 use Rattle.cx_control.specs.StatementCodings.{LeafCodings, statement_coding}
 use Rattle.cx_control.specs.Sampling.{form_now}
@@ -31,9 +30,9 @@ use Rattle.cx_control.specs.Leaves.{InIsland, Cycle, LastTurn, Coded, sampled_no
 use Rattle.cx_control.specs.Controls.{island_other, island_fine, island_coding, kind_coding, coded_control, coded_below, leaf_codings}
 use Rattle.cx_control.specs.InstanceRules.{Stands}
 use Rattle.cx_control.specs.ControlRules.{ControlRules}
-use Rattle.cx_control.specs.CallLaws.{ChildLaws}
-use Rattle.cx_control.specs.ControlLaws.{IslandsDo}
-use Rattle.cx_control.specs.KeepLaws.{KeepsBelow}
+use Rattle.cx_control.proofs.CallLaws.{ChildLaws}
+use Rattle.cx_control.proofs.ControlLaws.{IslandsDo}
+use Rattle.cx_control.proofs.KeepLaws.{KeepsBelow}
 use Rattle.cx_net.specs.Nets.{OfPort, ToPort, ToRegister, ToWire, ToHole}
 use Rattle.cx_net.specs.NetMeaning.{NetState, NetLook, NetAround, Node, APort, is_true, truth_bit, zero_wide, registers_of}
 use Rattle.cx_static.specs.declared.islands.IslandTimer.{IslandTimer}

@@ -17,9 +17,9 @@ use Rattle.cx_lockstep.specs.Running.{Running, AGroup, AnIsland, running}
 use Rattle.cx_control.specs.Spots.{Kept}
 use Rattle.cx_control.specs.Leaves.{InIsland, Cycle, LastTurn, Coded, sampled_now, kind_machine, leaf_machines}
 use Rattle.cx_control.specs.Controls.{coded_control, coded_below}
-use Rattle.cx_control.specs.CallLaws.{ChildLaws}
-use Rattle.cx_control.specs.ControlLaws.{IslandsDo}
-use Rattle.cx_control.specs.KeepLaws.{KeepsBelow}
+use Rattle.cx_control.proofs.CallLaws.{ChildLaws}
+use Rattle.cx_control.proofs.ControlLaws.{IslandsDo}
+use Rattle.cx_control.proofs.KeepLaws.{KeepsBelow}
 use Rattle.cx_control.proofs.DesignRuns.{islands_do}
 use Rattle.cx_net.specs.NetMeaning.{NetState, NetLook, NetAround, truth_bit}
 use Rattle.cx_wiring.specs.IslandNumbers.{of_island}

@@ -13,7 +13,7 @@ use Rattle.cx_lockstep.specs.Worlds.{Store, Control, At, Done, Machine}
 use Rattle.cx_lockstep.specs.Machines.{First, Second, InPar, left_of, right_of, AtTest, InThen, InElse, AtHead, InBody}
 use Rattle.cx_lockstep.specs.Statements.{LeafMachines, form_machine, machine_of, parts_machine, arms_machine}
 use Rattle.cx_lockstep.specs.Running.{Running, AGroup, AnIsland, at_control, par_runs, form_runs, running, parts_run, arms_run}
-use Rattle.cx_lockstep.specs.RunningLaws.{in_either}
+use Rattle.cx_lockstep.proofs.RunningLaws.{in_either}
 use Rattle.cx_control.specs.Codings.{at_fine}
 use Rattle.cx_control.specs.StatementCodings.{LeafCodings}
 use Rattle.cx_static.specs.Islands.{PlainIsland}

@@ -33,18 +33,17 @@ use Rattle.cx_rules.proofs.Finite.{in_left}
 use Rattle.cx_rules.proofs.FoundLemmas.{seen_found}
 use Rattle.cx_flow.specs.Apart.{IsApart}
 use Rattle.cx_flow.specs.Flows.{zero_of, is_set}
-use Rattle.cx_lockstep.specs.Worlds.{Control, At, Done, Machine}
+use Rattle.cx_lockstep.specs.Worlds.{Control, At, Done, Machine, is_done}
 use Rattle.cx_lockstep.specs.Machines.{unclear}
 use Rattle.cx_lockstep.specs.Statements.{LeafMachines, machine_of}
 use Rattle.cx_lockstep.specs.Running.{Running, AGroup, AnIsland, leaf_of, running}
-use Rattle.cx_lockstep.specs.EndLaws.{is_done}
 use Rattle.cx_control.specs.StatementCodings.{LeafCodings}
 use Rattle.cx_control.specs.Spots.{Spot, Cell, Number, Input, Holds, Kept, cells_in, held_in}
 use Rattle.cx_control.specs.Leaves.{Coded, InIsland, Cycle, LastTurn, sampled_now, turn_next, turn_faults, called_machine, kind_machine, leaf_machines}
 use Rattle.cx_control.specs.Controls.{coded_control, coded_below, leaf_codings}
 use Rattle.cx_control.specs.Standing.{RestsAt, GoodAt, good_control, bare}
 use Rattle.cx_control.specs.InstanceRules.{Stands}
-use Rattle.cx_control.specs.StandLaws.{parts_stand}
+use Rattle.cx_control.proofs.StandLaws.{parts_stand}
 use Rattle.cx_control.specs.ControlRules.{ControlRules}
 use Rattle.cx_control.proofs.ShapeLemmas.{Driving, called_driving}
 use Rattle.cx_rules.proofs.ForeignLemmas.{assigns_drive_in}

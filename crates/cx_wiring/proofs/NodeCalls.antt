@@ -25,10 +25,9 @@ use Rattle.cx_rules.proofs.ForeignLemmas.{assigns_drive_in}
 use Rattle.cx_flow.specs.Apart.{IsApart}
 use Rattle.cx_flow.specs.Flows.{Values, Reaches, zero_of, is_set, first_on, cell_flow, Solves as FlowSolves}
 use Rattle.cx_flow.proofs.InstanceLemmas.{OwnerOf, continuous, of_group, owner_of}
-use Rattle.cx_lockstep.specs.Worlds.{At, Machine}
+use Rattle.cx_lockstep.specs.Worlds.{At, Machine, is_done}
 use Rattle.cx_lockstep.specs.Statements.{LeafMachines}
 use Rattle.cx_lockstep.specs.Running.{Running, AGroup, running}
-use Rattle.cx_lockstep.specs.EndLaws.{is_done}
 use Rattle.cx_control.specs.Spots.{Cell, Kept, cells_in, held_in, input_count}
 use Rattle.cx_control.specs.Leaves.{Coded, child_at, inputs_now, leaf_machines}
 use Rattle.cx_control.specs.Controls.{coded_control, coded_below}

@@ -13,19 +13,18 @@ use Rattle.cx_meaning.specs.Sights.{In}
 use Rattle.cx_meaning.specs.Cycles.{Fault}
 use Rattle.cx_meaning.specs.Control.{groups_in}
 use Rattle.cx_meaning.specs.Calls.{called, captures}
-use Rattle.cx_lockstep.specs.Worlds.{At, Machine, edge_of}
+use Rattle.cx_lockstep.specs.Worlds.{At, Machine, edge_of, is_done}
 use Rattle.cx_lockstep.specs.Statements.{LeafMachines}
 use Rattle.cx_lockstep.specs.Running.{AGroup, running}
-use Rattle.cx_lockstep.specs.EndLaws.{is_done}
 use Rattle.cx_control.specs.Codings.{Coding}
 use Rattle.cx_control.specs.Spots.{Spot, Cell, Holds, Kept}
 use Rattle.cx_control.specs.Leaves.{Coded, code_of, child_at, inputs_now, leaf_machines}
 use Rattle.cx_control.specs.Controls.{coded_control, coded_below, leaf_codings}
 use Rattle.cx_control.specs.Standing.{bare, GoodAt, good_below}
 use Rattle.cx_control.specs.ControlRules.{ControlRules}
-use Rattle.cx_control.specs.CallLaws.{ChildLaws}
-use Rattle.cx_control.specs.ControlLaws.{IslandsDo}
-use Rattle.cx_control.specs.KeepLaws.{KeepsBelow}
+use Rattle.cx_control.proofs.CallLaws.{ChildLaws}
+use Rattle.cx_control.proofs.ControlLaws.{IslandsDo}
+use Rattle.cx_control.proofs.KeepLaws.{KeepsBelow}
 use Rattle.cx_net.specs.NetMeaning.{NetState, NetLook, NetAround, APort, AHole, TheDone, truth_bit, around_child}
 use Rattle.cx_net.specs.NetEdges.{inputs_from}
 use Rattle.cx_static.specs.Lowering.{lowered_component}

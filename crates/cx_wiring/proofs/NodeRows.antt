@@ -34,11 +34,10 @@ use Rattle.cx_flow.specs.Apart.{IsApart}
 use Rattle.cx_flow.specs.Flows.{Values, zero_of, first_on, given, side_flow, cell_flow, Solves as FlowSolves}
 use Rattle.cx_flow.proofs.InstanceLemmas.{OwnerOf, continuous, of_group, owner_of}
 use Rattle.cx_flow.proofs.CellLemmas.{quiet_step}
-use Rattle.cx_lockstep.specs.Worlds.{At, Done, Machine, edge_of}
+use Rattle.cx_lockstep.specs.Worlds.{At, Done, Machine, edge_of, is_done}
 use Rattle.cx_lockstep.specs.Statements.{LeafMachines}
 use Rattle.cx_lockstep.specs.Running.{Running, AGroup, AnIsland, leaf_of, leaf_writes, running}
-use Rattle.cx_lockstep.specs.RunningLaws.{no_faults}
-use Rattle.cx_lockstep.specs.EndLaws.{is_done}
+use Rattle.cx_lockstep.proofs.RunningLaws.{no_faults}
 use Rattle.cx_control.specs.Codings.{Coding}
 use Rattle.cx_control.specs.Spots.{Spot, Cell, Number, Holds, Kept, cells_in, held_in, pull}
 use Rattle.cx_control.specs.Leaves.{Coded, code_of, child_at, turn_next, turn_writes, turn_faults, written, leaf_drives, captured_now, inputs_now, hole_now, capture_now, child_writes, child_faults, called_machine, kind_machine, leaf_machines}
@@ -47,11 +46,11 @@ use Rattle.cx_control.specs.Standing.{RestsAt, bare, bare_under, Calling, runs, 
 use Rattle.cx_control.specs.InstanceRules.{Stands}
 use Rattle.cx_control.specs.CallRules.{CallForm, CallRules}
 use Rattle.cx_control.specs.ControlRules.{ControlRules}
-use Rattle.cx_control.specs.CallLaws.{ChildLaws, not_just}
-use Rattle.cx_control.specs.LeafLaws.{ActsAs, IsQuietEnd, kind_ends}
-use Rattle.cx_control.specs.ControlLaws.{IslandsDo}
-use Rattle.cx_control.specs.KeepLaws as keeps
-use Rattle.cx_control.specs.KeepLaws.{KeepsBelow}
+use Rattle.cx_control.proofs.CallLaws.{ChildLaws, not_just}
+use Rattle.cx_control.proofs.LeafLaws.{ActsAs, IsQuietEnd, kind_ends}
+use Rattle.cx_control.proofs.ControlLaws.{IslandsDo}
+use Rattle.cx_control.proofs.KeepLaws as keeps
+use Rattle.cx_control.proofs.KeepLaws.{KeepsBelow}
 use Rattle.cx_control.specs.Keeping.{AllRest, Keeps}
 use Rattle.cx_control.proofs.RegisterLemmas.{cycle_steps}
 use Rattle.cx_net.specs.NetMeaning.{NetState, APort, AHole, TheDone, NetLook, NetAround, is_true, truth_bit, zero_wide}

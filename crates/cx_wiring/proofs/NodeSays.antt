@@ -19,10 +19,10 @@ use Rattle.cx_control.specs.Spots.{Kept}
 use Rattle.cx_control.specs.Leaves.{Coded, InIsland, Cycle, LastTurn, sampled_now, kind_machine, leaf_machines}
 use Rattle.cx_control.specs.Controls.{coded_control, coded_below}
 use Rattle.cx_control.specs.ControlRules.{ControlRules}
-use Rattle.cx_control.specs.CallLaws.{ChildLaws}
-use Rattle.cx_control.specs.ControlLaws.{IslandsDo}
-use Rattle.cx_control.specs.KeepLaws as keeps
-use Rattle.cx_control.specs.KeepLaws.{KeepsBelow}
+use Rattle.cx_control.proofs.CallLaws.{ChildLaws}
+use Rattle.cx_control.proofs.ControlLaws.{IslandsDo}
+use Rattle.cx_control.proofs.KeepLaws as keeps
+use Rattle.cx_control.proofs.KeepLaws.{KeepsBelow}
 use Rattle.cx_net.specs.NetMeaning.{NetState, NetLook, NetAround, truth_bit}
 use Rattle.cx_wiring.specs.IslandNumbers.{of_island}
 use Rattle.cx_wiring.specs.IslandNumbers.{of_island}

@@ -23,7 +23,7 @@ use Rattle.cx_control.specs.Leaves.{Coded, code_of, leaf_machines}
 use Rattle.cx_control.specs.Controls.{coded_control, coded_below, called_coding, kind_coding, leaf_codings}
 use Rattle.cx_control.specs.InstanceRules.{Stands}
 use Rattle.cx_control.specs.ControlRules.{ControlRules}
-use Rattle.cx_control.specs.ControlLaws.{stands_at, leaves_coded, control_coded}
+use Rattle.cx_control.proofs.ControlLaws.{stands_at, leaves_coded, control_coded}
 use Rattle.cx_net.specs.Nets.{OfGo, PlainNetDriver}
 use Rattle.cx_net.specs.NetMeaning.{NetState, NetLook, NetAround, Node, truth_bit}
 use Rattle.cx_static.specs.Islands.{PlainIsland}

@@ -15,17 +15,17 @@ use Rattle.cx_rules.specs.Footprints.{Reads}
 use Rattle.cx_lockstep.specs.Worlds.{Machine}
 use Rattle.cx_lockstep.specs.Statements.{LeafMachines}
 use Rattle.cx_lockstep.specs.Running.{Running, AGroup, AnIsland, leaf_of, running}
-use Rattle.cx_lockstep.specs.WriteLaws.{Alone, alone}
+use Rattle.cx_lockstep.proofs.WriteLaws.{Alone, alone}
 use Rattle.cx_control.specs.Spots.{Cell, Kept, spots_of, reads_spot}
 use Rattle.cx_control.specs.Numbers.{world_of, Rests}
 use Rattle.cx_control.specs.Leaves.{Coded, InIsland, Cycle, LastTurn, sampled_now, kind_machine, leaf_machines}
 use Rattle.cx_control.specs.Controls.{coded_control, coded_below}
 use Rattle.cx_control.specs.InstanceRules.{Stands}
 use Rattle.cx_control.specs.ControlRules.{ControlRules}
-use Rattle.cx_control.specs.CallLaws.{ChildLaws}
-use Rattle.cx_control.specs.ControlLaws.{IslandsDo}
-use Rattle.cx_control.specs.KeepLaws as keeps
-use Rattle.cx_control.specs.KeepLaws.{KeepsBelow}
+use Rattle.cx_control.proofs.CallLaws.{ChildLaws}
+use Rattle.cx_control.proofs.ControlLaws.{IslandsDo}
+use Rattle.cx_control.proofs.KeepLaws as keeps
+use Rattle.cx_control.proofs.KeepLaws.{KeepsBelow}
 use Rattle.cx_net.specs.NetMeaning.{NetState, NetLook, NetAround, AWire}
 use Rattle.cx_wiring.specs.IslandNumbers.{of_island}
 use Rattle.cx_wiring.specs.IslandNumbers.{of_island}

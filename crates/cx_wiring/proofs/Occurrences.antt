@@ -9,7 +9,7 @@ use Rattle.cx_meaning.specs.Sights.{In}
 use Rattle.cx_meaning.specs.Islands.{group_length, length_of, form_length}
 use Rattle.cx_laws.specs.Positions.{entry_at, no_entry}
 use Rattle.cx_laws.specs.Samples.{Samples, ifs_of, form_by, statement_by, while_by, parts_by, arms_by, active_by}
-use Rattle.cx_lockstep.specs.RunningLaws.{in_either}
+use Rattle.cx_lockstep.proofs.RunningLaws.{in_either}
 use Rattle.cx_static.specs.Islands.{PlainOccurrence, PlainIsland}
 use Rattle.cx_static.specs.Lowering.{Begin, Gathered, later, begin_at, if_sampled, with_occurrence, with_point, with_timer, form_gathered, gathered, parts_gathered, arms_gathered, island_gathered, island_of, Lowering, with_island}
 use Rattle.cx_wiring.specs.Assignments.{occurs_among, occurs_in}

@@ -12,20 +12,19 @@ use Rattle.cx_meaning.specs.Instances.{Instance, Cells, OfRow, OfInstance, cell_
 use Rattle.cx_meaning.specs.Sights.{In}
 use Rattle.cx_meaning.specs.Islands.{kind_length, group_length}
 use Rattle.cx_meaning.specs.Calls.{called, captures}
-use Rattle.cx_lockstep.specs.Worlds.{At, Machine, edge_of}
+use Rattle.cx_lockstep.specs.Worlds.{At, Machine, edge_of, is_done}
 use Rattle.cx_lockstep.specs.Statements.{LeafMachines}
 use Rattle.cx_lockstep.specs.Running.{Running, AGroup, leaf_faults, running}
-use Rattle.cx_lockstep.specs.RunningLaws.{no_faults}
-use Rattle.cx_lockstep.specs.EndLaws.{is_done}
+use Rattle.cx_lockstep.proofs.RunningLaws.{no_faults}
 use Rattle.cx_control.specs.Spots.{Cell, Kept}
 use Rattle.cx_control.specs.Leaves.{Coded, child_at, inputs_now, leaf_machines}
 use Rattle.cx_control.specs.Controls.{coded_control, coded_below, leaf_codings}
 use Rattle.cx_control.specs.InstanceRules.{Stands}
 use Rattle.cx_control.specs.CallRules.{CallRules}
 use Rattle.cx_control.specs.ControlRules.{ControlRules}
-use Rattle.cx_control.specs.CallLaws.{ChildLaws}
-use Rattle.cx_control.specs.ControlLaws.{IslandsDo}
-use Rattle.cx_control.specs.KeepLaws.{KeepsBelow}
+use Rattle.cx_control.proofs.CallLaws.{ChildLaws}
+use Rattle.cx_control.proofs.ControlLaws.{IslandsDo}
+use Rattle.cx_control.proofs.KeepLaws.{KeepsBelow}
 use Rattle.cx_net.specs.NetMeaning.{NetState, NetLook, NetAround, AHole, is_true, zero_wide, APort, around_child}
 use Rattle.cx_net.specs.NetEdges.{inputs_from}
 use Rattle.cx_static.specs.Lowering.{lowered_component}

@@ -9,12 +9,11 @@ use Rattle.cx_meaning.specs.Designs.{PlainComponent, PlainForm, Empty, Enable, S
 use Rattle.cx_meaning.specs.Answers.{Test, Holds, Fails, Unclear}
 use Rattle.cx_meaning.specs.Sights.{In}
 use Rattle.cx_meaning.specs.Islands.{group_length}
-use Rattle.cx_lockstep.specs.Worlds.{Store, Control, At, Done, Machine, step}
+use Rattle.cx_lockstep.specs.Worlds.{Store, Control, At, Done, Machine, step, is_done}
 use Rattle.cx_lockstep.specs.Machines.{First, Second, InIf, AtTest, InThen, InElse, AtHead, InBody, in_round, next_round, within, second_start, by_test, join}
 use Rattle.cx_lockstep.specs.Statements.{LeafMachines, form_machine, machine_of, parts_machine, arms_machine}
 use Rattle.cx_lockstep.specs.Running.{at_control}
 use Rattle.cx_lockstep.specs.Lawful.{IsPart, of_seq, of_par, then_branch, else_branch, of_while, of_repeat}
-use Rattle.cx_lockstep.specs.EndLaws.{is_done}
 use Rattle.cx_control.specs.Codings.{Coding, Bank, beside, zeros, turned, bank_code, unit_coding, seq_coding, if_coding, while_coding, repeat_coding, region_bank, bank_coding, left_control, right_control, at_fine}
 use Rattle.cx_control.specs.StatementCodings.{LeafCodings, form_coding, statement_coding, parts_coding, arms_bank}
 use Rattle.cx_control.specs.StatementCodingLaws.{IsRegion, AreCoded, statement_coded, parts_coded}

@@ -2,9 +2,8 @@
 use Rattle.std.proofs.Common.{◌≡◌, ℕ, suc, ◌+◌, ◌<◌, Bool, true, false, not, ◌&&◌, if◌then◌else◌, List, Option, Some, sym, ap, ◌∙◌, arith}
 use Rattle.cx_bits.specs.BitVector.{BitVector}
 use Rattle.cx_meaning.specs.declared.ports.PortRef.{PortRef}
-use Rattle.cx_lockstep.specs.Worlds.{Control, At, Done}
+use Rattle.cx_lockstep.specs.Worlds.{Control, At, Done, is_done}
 use Rattle.cx_lockstep.specs.Machines.{InThen, InElse, AtHead, InBody, within}
-use Rattle.cx_lockstep.specs.EndLaws.{is_done}
 use Rattle.cx_control.specs.Codings.{Coding, beside, zeros, if_coding, while_coding}
 use Rattle.cx_net.specs.Nets.{PlainNetExpr, OfPort, Inverse, ToRegister, ToHole, PlainNetDriver}
 use Rattle.cx_net.specs.NetMeaning.{Node, NetAround, truth_bit}

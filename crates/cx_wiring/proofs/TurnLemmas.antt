@@ -2,9 +2,8 @@
 use Rattle.std.proofs.Common.{◌≡◌, ℕ, ◌+◌, ◌-◌, ◌<◌, ◌≤◌, Bool, true, false, if◌then◌else◌, List, ◌∷◌, ◌++◌, Option, Some, nat_lt, refl, sym, ap, ◌∙◌, arith}
 use Rattle.std.proofs.lemmas.Bool.{ltb-true, ltb-false, lt-ltb, le-ltb}
 use Rattle.cx_bits.specs.BitVector.{BitVector}
-use Rattle.cx_lockstep.specs.Worlds.{Control, At, Done}
+use Rattle.cx_lockstep.specs.Worlds.{Control, At, Done, is_done}
 use Rattle.cx_lockstep.specs.Machines.{First, Second, within}
-use Rattle.cx_lockstep.specs.EndLaws.{is_done}
 use Rattle.cx_control.specs.Codings.{Coding, beside, zeros, seq_coding}
 use Rattle.cx_net.specs.Nets.{ToRegister, ToHole, PlainNetDriver}
 use Rattle.cx_net.specs.NetMeaning.{Node, NetAround}

@@ -3,9 +3,8 @@ use Rattle.std.specs.Prelude.{◌≡◌, ℕ, zero, suc, Bool, List, Option, Som
 use Rattle.cx_meaning.specs.declared.ports.PortRef.{PortRef}
 use Rattle.cx_meaning.specs.Designs.{PlainComponent, PlainForm, Empty, Enable, Seq, Par, If, While, Repeat, StaticSeq, StaticPar, StaticIf, StaticRepeat, Timed, PlainStatement, Placed, PlainStatements, no_statements, a_statement}
 use Rattle.cx_meaning.specs.Islands.{group_length}
-use Rattle.cx_lockstep.specs.Worlds.{Store, Machine}
+use Rattle.cx_lockstep.specs.Worlds.{Store, Machine, is_done}
 use Rattle.cx_lockstep.specs.Statements.{LeafMachines, form_machine, machine_of, parts_machine, arms_machine}
-use Rattle.cx_lockstep.specs.EndLaws.{is_done}
 use Rattle.cx_control.specs.StatementCodings.{LeafCodings}
 use Rattle.cx_static.specs.Islands.{PlainIsland}
 use Rattle.cx_wiring.specs.Shown.{in_seq, in_par, in_if, in_while, TestAgrees}

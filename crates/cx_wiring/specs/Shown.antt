@@ -5,11 +5,10 @@ use Rattle.cx_meaning.specs.declared.ports.PortRef.{PortRef}
 use Rattle.cx_meaning.specs.Designs.{PlainComponent, PlainForm, Empty, Enable, Seq, Par, If, While, Repeat, StaticSeq, StaticPar, StaticIf, StaticRepeat, Timed, PlainStatement, Placed, PlainStatements, no_statements, a_statement}
 use Rattle.cx_meaning.specs.Answers.{Test, Holds, Fails, Unclear}
 use Rattle.cx_meaning.specs.Islands.{group_length}
-use Rattle.cx_lockstep.specs.Worlds.{Store, Machine}
+use Rattle.cx_lockstep.specs.Worlds.{Store, Machine, is_done}
 use Rattle.cx_lockstep.specs.Machines.{InSeq, First, Second, InPar, left_of, right_of, InIf, AtTest, InThen, InElse, InWhile, AtHead, InBody}
 use Rattle.cx_lockstep.specs.Statements.{LeafMachines, form_machine, machine_of, parts_machine, arms_machine}
 use Rattle.cx_lockstep.specs.Running.{seq_runs, par_runs}
-use Rattle.cx_lockstep.specs.EndLaws.{is_done}
 use Rattle.cx_control.specs.Codings.{Coding, beside, at_fine}
 use Rattle.cx_control.specs.StatementCodings.{LeafCodings, statement_coding}
 use Rattle.cx_net.specs.Nets.{OfRegister, ToRegister, ToHole, PlainNetDriver}

@@ -2,8 +2,7 @@
 -- other numbers, and the goes of groups.
 use Rattle.std.specs.Prelude.{◌≡◌, ℕ, suc, ◌+◌, ◌<◌, Bool, false, List, Option, Some, if◌then◌else◌}
 use Rattle.cx_bits.specs.BitVector.{BitVector}
-use Rattle.cx_lockstep.specs.Worlds.{Control, At, Done}
-use Rattle.cx_lockstep.specs.EndLaws.{is_done}
+use Rattle.cx_lockstep.specs.Worlds.{Control, At, Done, is_done}
 use Rattle.cx_control.specs.Codings.{Coding, bank_code}
 use Rattle.cx_net.specs.Nets.{ToRegister, ToHole, PlainNetDriver}
 use Rattle.cx_net.specs.NetMeaning.{Node, NetAround}

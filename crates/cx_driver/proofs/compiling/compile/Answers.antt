@@ -1,7 +1,7 @@
 use Rattle.std.proofs.Common.{[], Err}
 use Rattle.cx_design.specs.PlainDesigns.{plain_design}
 use Rattle.cx_driver.specs.Compiled.{IsCompileStop}
-use Rattle.cx_driver.proofs.CompileLemmas.{all_compiled, all_refused, refused_compile, text_too_large, text_written}
+use Rattle.cx_driver.proofs.CompileLemmas.{all_compiled, all_refused, refused_compile, text_keeps, text_too_large, text_written}
 use Rattle.cx_driver.proofs.compiling.compile.Goals as goal
 
 pub returns-in-Ok : goal.returns-in-Ok
@@ -9,10 +9,11 @@ returns-in-Ok c =
     let text = c.args.text.now in
     let d = plain_design c.in-Ok.design in
     let r = c.compile_design.result in
-    let answer = text_written (λ v. v.items) text d r c.in-Ok.ensures.design c.compile_design.ensures.answer in
+    let answer = text_written (λ v. v.items) text d r c.design_is_realised.ensures c.in-Ok.ensures.design c.compile_design.ensures.answer in
     let cause = text_too_large text d r c.in-Ok.ensures.design c.compile_design.ensures.cause in
     record {
       answer = answer;
+      promise = text_keeps (λ v. v.items) text r answer;
       cause = cause;
       all_answers = λ can. all_compiled (λ v. v.items) text r cause can;
       all_refusals = λ told b. all_refused (λ v. v.items) text r answer cause told b;

@@ -2,7 +2,7 @@ use Rattle.std.proofs.Common.{[], refl, subst}
 use Rattle.std.proofs.lemmas.Result.{err_from_is_err_and}
 use Rattle.cx_text.specs.declared.limits.TheConstants.{DESIGN_BYTES}
 use Rattle.cx_commands.specs.Commands.{Wanted, compile}
-use Rattle.cx_driver.specs.Compiled.{IsCompileStop, IsWritten}
+use Rattle.cx_driver.specs.Compiled.{IsCompileStop, IsCompiled}
 use Rattle.cx_driver.proofs.Once.{or_memory}
 use Rattle.cx_driver.proofs.ReadLemmas.{first_read}
 use Rattle.cx_driver.proofs.running.compiled.Goals as goal
@@ -17,7 +17,7 @@ pub returns-in-Ok-clause-answer : goal.returns-in-Ok-clause-answer
 returns-in-Ok-clause-answer g c = record {
   bytes = c.in_ok-text.text.items;
   reads = c.in_ok-text.ensures.held;
-  is = subst (λ t. IsWritten t c.in-Ok.verilog.items) c.deref.ensures.value c.in-Ok.ensures.answer;
+  is = subst (λ t. IsCompiled t c.in-Ok.verilog.items) c.deref.ensures.value c.in-Ok.ensures.answer;
 }
 
 pub returns-clause-cause : goal.returns-clause-cause

@@ -4,11 +4,19 @@ use Rattle.cx_commands.specs.Asked.{asked_of}
 use Rattle.cx_commands.specs.declared.refusals.Status.TheVariants as statuses
 use Rattle.cx_driver.proofs.CauseLemmas.{said_words, words_tell_nothing}
 use Rattle.cx_commands.proofs.CommandLemmas.{one_command}
+use Rattle.cx_commands.specs.Commands as asked
 use Rattle.cx_driver.proofs.CompleteLemmas.{complete_asked, stopped_asked}
+use Rattle.cx_driver.proofs.PromiseLemmas.{kept_of_file}
 use Rattle.cx_driver.proofs.running.run.Goals as goal
 
 pub returns-in-Some-clause-done : goal.returns-in-Some-clause-done
 returns-in-Some-clause-done g c = λ e. let d = c.obey.ensures.done e in (d.0, (asked_of c.in-Some.command, c.in-Some.ensures, d.1), d.2)
+
+pub returns-in-Some-clause-promise : goal.returns-in-Some-clause-promise
+returns-in-Some-clause-promise g c = λ e file asks.
+    let d = c.obey.ensures.done e in
+    let own = asked_of c.in-Some.command in
+    (d.0, kept_of_file (g.F.Files.held c.args.files.now) file d.0 own (one_command c.args.words.now (asked.compile file) own asks c.in-Some.ensures) d.1, d.2)
 
 pub returns-in-Some-clause-part : goal.returns-in-Some-clause-part
 returns-in-Some-clause-part g c = λ e. let d = c.obey.ensures.part e in (d.0, (asked_of c.in-Some.command, c.in-Some.ensures, d.1), d.2)

@@ -2,19 +2,24 @@ use Rattle.std.proofs.Common.{subst, sym}
 use Rattle.cx_ast.specs.PlainTree.{plain_tree}
 use Rattle.cx_design.specs.PlainDesigns.{plain_design}
 use Rattle.cx_names.specs.Targets.{HasTargets}
-use Rattle.cx_driver.proofs.TrialLemmas.{design_told, refusal_told, trial_targets}
+use Rattle.cx_driver.proofs.TrialLemmas.{design_told, refusal_told, tree_realised, trial_targets}
 use Rattle.cx_driver.proofs.trying.trial.Goals as goal
 
 pub tried-requires : goal.tried-requires
 tried-requires c = record { targets = subst HasTargets (sym c.in-Ok.ensures.value) (trial_targets c.args.seed) }
 
+pub try_design-requires : goal.try_design-requires
+try_design-requires c = record {
+  realised = tree_realised (plain_tree c.in-Ok.tree) (plain_design c.in-Ok-tried.design) c.design_is_realised.ensures (subst HasTargets (sym c.in-Ok.ensures.value) (trial_targets c.args.seed)) c.in-Ok-tried.ensures.accepted c.in-Ok-tried.ensures.value;
+}
+
 pub returns-in-Ok-tried : goal.returns-in-Ok-tried
 returns-in-Ok-tried c =
     let own = c.try_design.ensures in
-    let told = design_told (λ v. v.items) c.args.seed (plain_tree c.in-Ok.tree) (plain_design c.in-Ok-tried.design) c.try_design.result c.in-Ok.ensures.value c.in-Ok-tried.ensures.accepted c.in-Ok-tried.ensures.value own.answer own.cause own.simulated in
-    record { answer = told.answer; cause = told.cause; simulated = told.simulated; all_answers = told.all_answers; all_stops = told.all_stops; all_refusals = told.all_refusals }
+    let told = design_told (λ v. v.items) c.args.seed (plain_tree c.in-Ok.tree) (plain_design c.in-Ok-tried.design) c.try_design.result c.in-Ok.ensures.value c.in-Ok-tried.ensures.accepted c.in-Ok-tried.ensures.value own.answer own.cause in
+    record { answer = told.answer; cause = told.cause; all_answers = told.all_answers; all_stops = told.all_stops; all_refusals = told.all_refusals }
 
 pub returns-in-Ok : goal.returns-in-Ok
 returns-in-Ok c =
     let told = refusal_told c.args.seed (plain_tree c.in-Ok.tree) c.in-Err-tried.stop c.in-Ok.ensures.value c.in-Err-tried.ensures.cause in
-    record { answer = told.answer; cause = told.cause; simulated = told.simulated; all_answers = told.all_answers; all_stops = told.all_stops; all_refusals = told.all_refusals }
+    record { answer = told.answer; cause = told.cause; all_answers = told.all_answers; all_stops = told.all_stops; all_refusals = told.all_refusals }

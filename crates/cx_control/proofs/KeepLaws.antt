@@ -17,14 +17,13 @@ use Rattle.cx_meaning.specs.Running.{leaves, control_below}
 use Rattle.cx_rules.specs.Footprints.{Reads}
 use Rattle.cx_rules.proofs.ForeignLemmas.{just_self}
 use Rattle.cx_frames.proofs.LeafFrames.{called_drives}
-use Rattle.cx_lockstep.specs.Worlds.{Control, At, Done, Machine, edge_of, edge}
+use Rattle.cx_lockstep.specs.Worlds.{Control, At, Done, Machine, edge_of, edge, is_done}
 use Rattle.cx_lockstep.specs.Statements.{LeafMachines, machine_of}
 use Rattle.cx_lockstep.specs.Doing.{Does}
 use Rattle.cx_lockstep.specs.Lawful.{AreLawful}
 use Rattle.cx_lockstep.specs.Running.{Running, AGroup, AnIsland, leaf_of, leaf_writes, leaf_next, group_next, island_next, at_control, running}
-use Rattle.cx_lockstep.specs.RunningLaws.{no_faults, stays}
-use Rattle.cx_lockstep.specs.WriteLaws.{IsWithin, runs_within, writes_none, Alone, alone}
-use Rattle.cx_lockstep.specs.EndLaws.{is_done}
+use Rattle.cx_lockstep.proofs.RunningLaws.{no_faults, stays}
+use Rattle.cx_lockstep.proofs.WriteLaws.{IsWithin, runs_within, writes_none, Alone, alone}
 use Rattle.cx_control.specs.Codings.{Coding, Bank, region_bank, at_fine}
 use Rattle.cx_control.specs.CodingLaws.{IsBank, region_bank_is}
 use Rattle.cx_control.specs.Spots.{Spot, Cell, Number, Input, Holds, Kept, cells_in, held_in, pull, spots_of, reads_spot}
@@ -36,11 +35,12 @@ use Rattle.cx_control.specs.Keeping.{AllRest, Keeps}
 use Rattle.cx_control.specs.InstanceRules.{InstanceRules, Stands}
 use Rattle.cx_control.specs.CallRules.{CallRules}
 use Rattle.cx_control.specs.ControlRules.{ControlRules}
-use Rattle.cx_control.specs.RestLaws.{number_idle_at-zero, number_idle_below-zero}
-use Rattle.cx_control.specs.CallLaws.{ChildLaws, not_just}
-use Rattle.cx_control.specs.StaticRuns.{IsLeaf, runs_leaf}
-use Rattle.cx_control.specs.LeafLaws.{true_false, is_one_of, not_one_of, ActsAs, kind_acts, IsQuietEnd, turn_number, island_ends, kind_ends, island_number, kind_number}
-use Rattle.cx_control.specs.ControlLaws.{IslandsDo, called_child, control_coded, leaves_end, stands_at, leaves_are_lawful, node_does, nothing_is, row_is, child_does}
+use Rattle.cx_control.proofs.RestLaws.{number_idle_at-zero, number_idle_below-zero}
+use Rattle.cx_control.proofs.CallLaws.{ChildLaws, not_just}
+use Rattle.cx_control.proofs.StaticRuns.{IsLeaf, runs_leaf}
+use Rattle.cx_control.proofs.LeafLaws.{true_false, is_one_of, not_one_of, ActsAs, kind_acts, IsQuietEnd, turn_number, island_ends, kind_ends, island_number, kind_number}
+use Rattle.cx_control.proofs.ControlLaws.{IslandsDo, called_child, control_coded, leaves_end, stands_at, leaves_are_lawful, node_does, nothing_is, child_does}
+use Rattle.cx_control.proofs.BesideLemmas.{no_part}
 
 -- the invariant of what stands at a cell
 abbrev pub KeepsBelow : Cells → ℕ → Type 0
@@ -545,7 +545,7 @@ mutual
   -- and of what stands at a cell
   pub child_keeps : (cells : Cells) (c : ℕ) → ((path : Path) → ControlRules (instances.child_at cells c path)) → ((path : Path) → IslandsDo (instances.child_at cells c path)) → (child : Instance) → cell_at cells c ≡ OfInstance child → KeepsBelow cells c
   child_keeps no_cells c all_rules all_islands child at = absurd (nothing_is child at)
-  child_keeps (a_primitive row rest) zero all_rules all_islands child at = absurd (row_is row child at)
+  child_keeps (a_primitive row rest) zero all_rules all_islands child at = absurd (no_part row child at)
   child_keeps (a_primitive row rest) (suc c) all_rules all_islands child at =
       let inner = child_keeps rest c all_rules all_islands child at in
       record { kept = inner.kept; fine = inner.fine; started = inner.started; ended = inner.ended; zero_stays = inner.zero_stays; leaves_end = inner.leaves_end; inputs = inner.inputs }

@@ -24,12 +24,12 @@ use Rattle.cx_frames.proofs.LeafFrames.{group_alike}
 use Rattle.cx_frames.proofs.StatementFrames.{through, good}
 use Rattle.cx_lockstep.specs.Worlds.{Agree, edge_of}
 use Rattle.cx_lockstep.specs.Doing.{Does}
-use Rattle.cx_lockstep.specs.TurnLaws.{Takes, turn_does}
+use Rattle.cx_lockstep.proofs.TurnLaws.{Takes, turn_does}
 use Rattle.cx_control.specs.Spots.{Spot, Cell, Number, Input, Kept, cells_in, held_in, shown, spots_of, reads_spot}
 use Rattle.cx_control.specs.Numbers.{number_idle_at, spot_idle, world_of, Rests}
 use Rattle.cx_control.specs.Leaves.{leaf_drives, written, turn_next, turn_writes, turn_faults, group_machine}
 use Rattle.cx_control.specs.InstanceRules.{InstanceRules, Stands}
-use Rattle.cx_control.specs.RestLaws.{number_idle_at-zero, rest_is_kept, idle_is_shown, idle_rests, cycle_keeps_root, cycle_keeps_at}
+use Rattle.cx_control.proofs.RestLaws.{number_idle_at-zero, rest_is_kept, idle_is_shown, idle_rests, cycle_keeps_root, cycle_keeps_at}
 
 pub false_true : false ≡ true → ⊥
 false_true e = cc

@@ -7,9 +7,9 @@ use Rattle.cx_meaning.specs.Answers.{End, More}
 use Rattle.cx_meaning.specs.Control.{drives}
 use Rattle.cx_meaning.specs.Running.{run_control, run_main}
 use Rattle.cx_rules.specs.Footprints.{Reads}
-use Rattle.cx_lockstep.specs.Worlds.{Machine, Moment}
+use Rattle.cx_lockstep.specs.Worlds.{Machine, Moment, is_done, IsQuiet}
 use Rattle.cx_lockstep.specs.Doing.{Meets, Does}
-use Rattle.cx_lockstep.specs.EndLaws.{is_done, IsQuiet, ended, StillGoes, going}
+use Rattle.cx_lockstep.proofs.EndLaws.{ended, StillGoes, going}
 use Rattle.cx_control.specs.Spots.{Spot, Cell, Number, Input, Kept, shown, spots_of, reads_spot}
 use Rattle.cx_control.specs.Numbers.{world_of, Rests}
 use Rattle.cx_control.specs.DesignRuns.{design_machine, moment_of, EndsSo, GoesOnSo, MachineRuns}

@@ -11,8 +11,7 @@ use Rattle.cx_meaning.specs.Answers.{Turn}
 use Rattle.cx_meaning.specs.Answers as answers
 use Rattle.cx_meaning.specs.Islands.{is_one, form_length}
 use Rattle.cx_meaning.specs.Calls.{called, captures, group_turn}
-use Rattle.cx_lockstep.specs.Worlds.{Control, At, Done, Machine}
-use Rattle.cx_lockstep.specs.EndLaws.{is_done}
+use Rattle.cx_lockstep.specs.Worlds.{Control, At, Done, Machine, is_done}
 use Rattle.cx_control.specs.Spots.{Spot, Number, Holds, Kept, cells_in, held_in, pull, spots_of}
 use Rattle.cx_control.specs.Leaves.{Coded, code_of, child_at, leaf_drives, written, turn_next, turn_writes, InIsland, Cycle, LastTurn, sampled_now, island_machine, inputs_now, hole_now, capture_now, child_writes, call_writes, child_faults, call_machine, called_machine, kind_machine}
 

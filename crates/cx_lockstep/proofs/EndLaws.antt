@@ -1,16 +1,7 @@
 -- A machine that does what is meant, alone and with the whole store: when it is done, and with what.
 use Rattle.std.proofs.Common.{◌≡◌, ℕ, zero, suc, ◌<◌, Bool, true, false, refl, arith}
-use Rattle.cx_lockstep.specs.Worlds.{Store, World, Control, At, Done, Machine, edge, faults, Moment, after_cycles}
+use Rattle.cx_lockstep.specs.Worlds.{Store, World, Control, At, Done, Machine, edge, faults, Moment, after_cycles, is_done, IsQuiet}
 use Rattle.cx_lockstep.specs.Doing.{After, EndsAs, GoesOn, Ended}
-
-abbrev pub is_done : {C : Type 0} → Control C → Bool
-is_done (At c) = false
-is_done Done = true
-
--- not done, and no fault
-pub record IsQuiet {X : Type 0} {V : X → Type 0} (M : Machine X V) (m : Moment M) : Type 0 where
-  pub goes : is_done m.control ≡ false
-  pub clean : faults M m.control m.store ≡ false
 
 module _ {X : Type 0} {V : X → Type 0} {E S : Type 0} (W : World X V E S) (Rests : (x : X) → V x → Type 0) (M : Machine X V) where
   abbrev pub Everywhere : X → Type 0

@@ -4,7 +4,7 @@ use Rattle.cx_meaning.specs.Answers.{Answer, End, More, Turn, Ends, Goes, after_
 use Rattle.cx_meaning.specs.Answers as answers
 use Rattle.cx_lockstep.specs.Worlds.{Store, World, Control, At, Done, Machine, edge_of, edge, Agree}
 use Rattle.cx_lockstep.specs.Doing.{After, EndsAs, GoesOn, Meets, Does}
-use Rattle.cx_lockstep.specs.FollowLaws.{ends_respects, goes_respects, one_cycle, meets_done}
+use Rattle.cx_lockstep.proofs.FollowLaws.{ends_respects, goes_respects, one_cycle, meets_done}
 
 module _ {X : Type 0} {V : X → Type 0} {E S : Type 0} (W : World X V E S) (Rests : (x : X) → V x → Type 0) where
   -- a cycle from any store that comes to the state `after`, and then the rest

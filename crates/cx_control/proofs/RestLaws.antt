@@ -67,7 +67,7 @@ idle_rests i rules held s (Number path n) = refl
 idle_rests i rules held s (Input n) = tt
 
 -- WHAT A CYCLE KEEPS, cell by cell
-left_by : State → Ended → State
+pub left_by : State → Ended → State
 left_by s (Goes after) = after
 left_by s (Faults fault) = s
 

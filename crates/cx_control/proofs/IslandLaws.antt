@@ -28,17 +28,17 @@ use Rattle.cx_frames.proofs.IslandFrames.{form_fine, same_turn}
 use Rattle.cx_frames.proofs.StatementFrames.{through, good, IsReady, ready}
 use Rattle.cx_lockstep.specs.Worlds.{Control, At, Done, Machine, edge_of, edge, Agree}
 use Rattle.cx_lockstep.specs.Doing.{Meets, Does}
-use Rattle.cx_lockstep.specs.FollowLaws.{meets_done}
-use Rattle.cx_lockstep.specs.TurnLaws.{meets_cycle}
+use Rattle.cx_lockstep.proofs.FollowLaws.{meets_done}
+use Rattle.cx_lockstep.proofs.TurnLaws.{meets_cycle}
 use Rattle.cx_control.specs.Sampling.{within_length, behind_length, taken, where_so, form_now, statement_now, parts_now, arms_now, samples_now}
-use Rattle.cx_control.specs.SamplingLaws.{first_sampled, next_sampled}
+use Rattle.cx_control.proofs.SamplingLaws.{first_sampled, next_sampled}
 use Rattle.cx_control.specs.Spots.{Spot, Holds, Kept, cells_in, shown, spots_of, reads_spot}
 use Rattle.cx_control.specs.Numbers.{spot_idle, world_of, Rests}
 use Rattle.cx_control.specs.Leaves.{leaf_drives, turn_writes, turn_faults, InIsland, Cycle, LastTurn, no_samples, island_start, sampled_now, island_now, next_cycle, island_machine}
 use Rattle.cx_control.specs.InstanceRules.{InstanceRules, Stands}
 use Rattle.cx_control.specs.IslandRules.{IslandRules}
-use Rattle.cx_control.specs.RestLaws.{rest_is_kept, idle_is_shown, idle_rests}
-use Rattle.cx_control.specs.GroupLaws.{spots_within, turn_writes-none, turn_written, turn_kept, turn_goes, near_inputs, near_cells}
+use Rattle.cx_control.proofs.RestLaws.{rest_is_kept, idle_is_shown, idle_rests}
+use Rattle.cx_control.proofs.GroupLaws.{spots_within, turn_writes-none, turn_written, turn_kept, turn_goes, near_inputs, near_cells}
 
 -- WHAT IS SAMPLED hangs on the ports that are tested
 module _ (part : PlainComponent) (one other : PortRef → Bool) (kept : Samples) where

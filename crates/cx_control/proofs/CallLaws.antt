@@ -26,12 +26,11 @@ use Rattle.cx_frames.proofs.AlikeLemmas.{AlikeTurn}
 use Rattle.cx_frames.proofs.CircleFrames.{deeper_acyclic}
 use Rattle.cx_frames.proofs.LeafFrames.{called_drives, IsGood, group_seen, capture_alike}
 use Rattle.cx_frames.proofs.StatementFrames.{through, good}
-use Rattle.cx_lockstep.specs.Worlds.{World, Control, At, Done, Machine, edge_of, edge, Agree}
+use Rattle.cx_lockstep.specs.Worlds.{World, Control, At, Done, Machine, edge_of, edge, Agree, is_done}
 use Rattle.cx_lockstep.specs.Doing as doing
 use Rattle.cx_lockstep.specs.Doing.{Settles, After, EndsAs, GoesOn, Meets, Does}
-use Rattle.cx_lockstep.specs.FollowLaws.{Respects, ends_respects, goes_respects, moved, meets_done}
-use Rattle.cx_lockstep.specs.TurnLaws.{meets_cycle}
-use Rattle.cx_lockstep.specs.EndLaws.{is_done}
+use Rattle.cx_lockstep.proofs.FollowLaws.{Respects, ends_respects, goes_respects, moved, meets_done}
+use Rattle.cx_lockstep.proofs.TurnLaws.{meets_cycle}
 use Rattle.cx_control.specs.Codings.{Coding, Bank, region_bank, at_fine}
 use Rattle.cx_control.specs.CodingLaws.{IsBank, region_bank_is}
 use Rattle.cx_control.specs.StatementCodingLaws.{IsRegion}
@@ -40,8 +39,8 @@ use Rattle.cx_control.specs.Numbers.{number_idle_at, number_idle_below, spot_idl
 use Rattle.cx_control.specs.Leaves.{Coded, code_of, child_at, leaf_drives, written, turn_writes, turn_faults, inputs_now, captured_now, hole_now, capture_now, child_writes, call_writes, child_faults, call_machine}
 use Rattle.cx_control.specs.InstanceRules.{InstanceRules, Stands}
 use Rattle.cx_control.specs.CallRules.{CallRules}
-use Rattle.cx_control.specs.RestLaws.{number_idle_at-zero, number_idle_below-zero, rest_is_kept, idle_is_shown, idle_rests, cycle_keeps_root, cycle_keeps_at}
-use Rattle.cx_control.specs.GroupLaws.{false_true, spots_within, turn_writes-none}
+use Rattle.cx_control.proofs.RestLaws.{number_idle_at-zero, number_idle_below-zero, rest_is_kept, idle_is_shown, idle_rests, cycle_keeps_root, cycle_keeps_at}
+use Rattle.cx_control.proofs.GroupLaws.{false_true, spots_within, turn_writes-none}
 
 -- what a caller knows of the control at a cell
 pub record ChildLaws (cells : Cells) (c : ℕ) (child : Coded) : Type 1 where

@@ -6,7 +6,7 @@ use Rattle.cx_meaning.specs.Sights.{In}
 use Rattle.cx_lockstep.specs.Worlds.{Store, Control, At, Done, Machine, step, faults}
 use Rattle.cx_lockstep.specs.Machines.{within, First, Second, second_start, InPar, left_of, right_of, join, par_machine, AtTest, InThen, InElse, AtHead, InBody, in_round, next_round}
 use Rattle.cx_lockstep.specs.Statements.{LeafMachines, machine_of, parts_machine, arms_machine}
-use Rattle.cx_lockstep.specs.ArmLaws.{or_left, or_right}
+use Rattle.cx_lockstep.proofs.ArmLaws.{or_left, or_right}
 use Rattle.cx_lockstep.specs.Running.{Running, AGroup, AnIsland, at_control, par_runs, leaf_faults, leaf_next, group_next, island_next, running, parts_run, arms_run}
 
 pub in_either : {A : Type 0} (xs ys : List A) (r : A) → In (xs ++ ys) r → In xs r ⊎ In ys r

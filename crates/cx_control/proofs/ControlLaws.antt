@@ -27,8 +27,8 @@ use Rattle.cx_lockstep.specs.Worlds.{Agree}
 use Rattle.cx_lockstep.specs.Doing.{Does}
 use Rattle.cx_lockstep.specs.Statements.{machine_of}
 use Rattle.cx_lockstep.specs.Lawful.{IsLeaf, enable, static_seq, static_par, static_if, static_repeat, AreLawful}
-use Rattle.cx_lockstep.specs.PartLaws.{does_within}
-use Rattle.cx_lockstep.specs.StatementLaws.{statement_does}
+use Rattle.cx_lockstep.proofs.PartLaws.{does_within}
+use Rattle.cx_lockstep.proofs.StatementLaws.{statement_does}
 use Rattle.cx_control.specs.StatementCodingLaws.{IsRegion, AreCoded, statement_coded}
 use Rattle.cx_control.specs.Spots.{Spot, Kept, cells_in, held_in, shown, spots_of, reads_spot}
 use Rattle.cx_control.specs.Numbers.{number_idle_at, world_of, Rests}
@@ -37,10 +37,11 @@ use Rattle.cx_control.specs.Controls.{leaf_codings, coded_control, coded_below, 
 use Rattle.cx_control.specs.InstanceRules.{InstanceRules, Stands}
 use Rattle.cx_control.specs.ControlRules.{ControlRules}
 use Rattle.cx_control.specs.ControlCodes.{island_coded, kind_coded}
-use Rattle.cx_control.specs.RestLaws.{rest_is_kept}
-use Rattle.cx_control.specs.StandLaws.{as_visited, parts_stand, part_drives, part_reads, spots_wider, reads_wider, are_apart, merge_is_shown}
-use Rattle.cx_control.specs.GroupLaws.{false_true, spots_within, near_inputs, near_cells, group_leaf}
-use Rattle.cx_control.specs.CallLaws.{ChildLaws, call_leaf}
+use Rattle.cx_control.proofs.RestLaws.{rest_is_kept}
+use Rattle.cx_control.proofs.StandLaws.{as_visited, parts_stand, part_drives, part_reads, spots_wider, reads_wider, are_apart, merge_is_shown}
+use Rattle.cx_control.proofs.GroupLaws.{false_true, spots_within, near_inputs, near_cells, group_leaf}
+use Rattle.cx_control.proofs.CallLaws.{ChildLaws, call_leaf}
+use Rattle.cx_control.proofs.BesideLemmas.{no_part}
 
 -- the islands of an instance do what they mean
 abbrev pub IslandsDo : Instance → Type 1
@@ -48,10 +49,10 @@ IslandsDo i = (form : PlainForm) (place : Place) → Stands i (Placed form place
     → Does (world_of i) (Rests i) (island_machine i form) (spots_of (drives (part_of i) (Placed form place))) (reads_spot (Reads (part_of i) (Placed form place))) (λ held. island i held form)
 
 -- a group calls a component cell
-none_some : (c : ℕ) → ◌≡◌ {A = Option ℕ} None (Some c) → ⊥
+pub none_some : (c : ℕ) → ◌≡◌ {A = Option ℕ} None (Some c) → ⊥
 none_some c e = cc
 
-some_is : (a b : ℕ) → ◌≡◌ {A = Option ℕ} (Some a) (Some b) → a ≡ b
+pub some_is : (a b : ℕ) → ◌≡◌ {A = Option ℕ} (Some a) (Some b) → a ≡ b
 some_is a b e = cc
 
 pub called_child : (cells : Cells) (list : List PlainAssign) (c : ℕ) → called_in cells list ≡ Some c → (child : Instance) × (cell_at cells c ≡ OfInstance child)
@@ -141,14 +142,11 @@ as_child child rest rules does = record {
 pub nothing_is : (child : Instance) → Nothing ≡ OfInstance child → ⊥
 nothing_is child e = cc
 
-pub row_is : (row : Row) (child : Instance) → OfRow row ≡ OfInstance child → ⊥
-row_is row child e = cc
-
 -- and so are those of the control at a cell
 pub child_coded : (cells : Cells) (c : ℕ) → ((path : Path) → ControlRules (child_at cells c path)) → (child : Instance) → cell_at cells c ≡ OfInstance child
     → IsRegion (Coded.machine (coded_below cells c)) (Coded.coding (coded_below cells c))
 child_coded no_cells c all_rules child at = absurd (nothing_is child at)
-child_coded (a_primitive row rest) zero all_rules child at = absurd (row_is row child at)
+child_coded (a_primitive row rest) zero all_rules child at = absurd (no_part row child at)
 child_coded (a_primitive row rest) (suc c) all_rules child at = child_coded rest c all_rules child at
 child_coded (an_instance other rest) zero all_rules child at = control_coded other (subst ControlRules (itself_at other) (all_rules []))
 child_coded (an_instance other rest) (suc c) all_rules child at = child_coded rest c all_rules child at
@@ -237,7 +235,7 @@ mutual
   pub child_does : (cells : Cells) (c : ℕ) → ((path : Path) → ControlRules (child_at cells c path)) → ((path : Path) → IslandsDo (child_at cells c path)) → (child : Instance) → cell_at cells c ≡ OfInstance child
       → ChildLaws cells c (coded_below cells c)
   child_does no_cells c all_rules all_islands child at = absurd (nothing_is child at)
-  child_does (a_primitive row rest) zero all_rules all_islands child at = absurd (row_is row child at)
+  child_does (a_primitive row rest) zero all_rules all_islands child at = absurd (no_part row child at)
   child_does (a_primitive row rest) (suc c) all_rules all_islands child at =
       let it = child_does rest c all_rules all_islands child at in
       record { does = it.does; region = it.region; leaves_end = it.leaves_end; own_inputs = it.own_inputs }

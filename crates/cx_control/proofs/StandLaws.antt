@@ -16,7 +16,7 @@ use Rattle.cx_frames.proofs.StatementFrames.{visited}
 use Rattle.cx_lockstep.specs.Lawful.{IsPart, of_seq, of_par, then_branch, else_branch, of_while, of_repeat, Apart, AreApart}
 use Rattle.cx_control.specs.Spots.{Spot, Cell, Number, Input, shown, spots_of, reads_spot}
 use Rattle.cx_control.specs.InstanceRules.{Stands}
-use Rattle.cx_control.specs.GroupLaws.{false_true}
+use Rattle.cx_control.proofs.GroupLaws.{false_true}
 
 -- the statement as it is visited in dynamic control
 abbrev pub as_visited : PlainStatement → Visited

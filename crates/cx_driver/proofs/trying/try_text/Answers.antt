@@ -1,0 +1,22 @@
+use Rattle.cx_design.specs.PlainDesigns.{plain_design}
+use Rattle.cx_driver.specs.Leaving.{plain_left}
+use Rattle.cx_driver.proofs.TrialLemmas.{simulated_line, leaves_large, unsimulated}
+use Rattle.cx_driver.proofs.trying.try_text.Goals as goal
+
+pub returns-in_ok-line-in-Ok-Ok : goal.returns-in_ok-line-in-Ok-Ok
+returns-in_ok-line-in-Ok-Ok c = record {
+  answer = simulated_line c.args.seed (plain_design c.args.design.now) c.requires.ends.0 c.requires.ends.1 c.requires.realised c.in-Ok.verilog.items c.in-Ok.ensures.answer (plain_left c.in-Ok-Ok.left) c.in_ok-line-in-Ok-Ok.line.items c.in-Ok-Ok.ensures.answer c.in_ok-line-in-Ok-Ok.ensures;
+  cause = tt;
+}
+
+pub returns-in-Ok-Err : goal.returns-in-Ok-Err
+returns-in-Ok-Err c = record {
+  answer = tt;
+  cause = unsimulated c.args.seed (plain_design c.args.design.now) c.requires.ends.0 c.requires.ends.1 c.requires.realised c.in-Ok.verilog.items c.in-Ok.ensures.answer c.in-Ok-Err.stop c.in-Ok-Err.ensures.cause;
+}
+
+pub returns-in-Err : goal.returns-in-Err
+returns-in-Err c = record {
+  answer = tt;
+  cause = leaves_large c.args.seed (plain_design c.args.design.now) c.requires.ends.0 c.in-Err.stop c.requires.ends.1 c.in-Err.ensures.cause;
+}
