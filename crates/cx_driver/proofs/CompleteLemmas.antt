@@ -107,15 +107,15 @@ module _ (holds : List ℕ → Option (List ℕ)) where
   same_status (compile design) a b h k = ap stop_status h.is.2 ∙ sym (ap stop_status k.is.2)
   same_status (interp design json budget) a b h k =
       let text = same_bytes holds DESIGN_BYTES DESIGN_BYTES design h.bytes k.bytes h.reads k.reads in
-      let data = same_bytes holds DATA_BYTES DATA_BYTES json h.is.bytes k.is.bytes h.is.reads k.is.reads in
+      let loaded = same_bytes holds DATA_BYTES DATA_BYTES json h.is.bytes k.is.bytes h.is.reads k.is.reads in
       let own = subst (λ t. Interprets t h.is.bytes budget (Err a)) text h.is.is in
-      ap stop_status (same_stop a b (one_result k.bytes k.is.bytes budget (Err a) (Err b) (subst (λ d. Interprets k.bytes d budget (Err a)) data own) k.is.is))
+      ap stop_status (same_stop a b (one_result k.bytes k.is.bytes budget (Err a) (Err b) (subst (λ d. Interprets k.bytes d budget (Err a)) loaded own) k.is.is))
   same_status (check design) a b h k = checks_status h.bytes k.bytes a b h.is k.is
   same_status (sim verilog json budget) a b h k =
       let text = same_bytes holds VERILOG_BYTES VERILOG_BYTES verilog h.bytes k.bytes h.reads k.reads in
-      let data = same_bytes holds DATA_BYTES DATA_BYTES json h.is.bytes k.is.bytes h.is.reads k.is.reads in
+      let loaded = same_bytes holds DATA_BYTES DATA_BYTES json h.is.bytes k.is.bytes h.is.reads k.is.reads in
       let own = subst (λ t. Simulates t h.is.bytes budget (Err a)) text h.is.is in
-      simulated_status k.bytes k.is.bytes budget a b (subst (λ d. Simulates k.bytes d budget (Err a)) data own) k.is.is
+      simulated_status k.bytes k.is.bytes budget a b (subst (λ d. Simulates k.bytes d budget (Err a)) loaded own) k.is.is
   same_status (trial seed) a b h k = tried_status seed a b h k
 
   -- what is told of files that stop a command has the status of what stops it, or memory is wanting
