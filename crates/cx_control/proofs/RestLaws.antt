@@ -67,7 +67,7 @@ idle_rests i rules held s (Number path n) = refl
 idle_rests i rules held s (Input n) = tt
 
 -- WHAT A CYCLE KEEPS, cell by cell
-pub left_by : State → Ended → State
+unfoldable pub left_by : State → Ended → State
 left_by s (Goes after) = after
 left_by s (Faults fault) = s
 
