@@ -1,5 +1,5 @@
 -- What the run of a design leaves, the run of its text leaves, and this is one thing.
-use Rattle.std.proofs.Common.{◌≡◌, inl, inr, ◌⊎◌, ℕ, List, Result, Ok, Err, refl, sym, ap, ap₂, ◌∙◌, subst}
+use Rattle.std.proofs.Common.{◌≡◌, ℕ, List, Result, Ok, Err, refl, sym, ap, ap₂, ◌∙◌, subst}
 use Rattle.cx_text.specs.Loading.{PlainMemory, FitsRows, words_loaded, with_words}
 use Rattle.cx_data.specs.Load.{load_of}
 use Rattle.cx_data.specs.declared.faults.DataFault.{DataFault}
@@ -11,7 +11,7 @@ use Rattle.cx_meaning.specs.Instances.{State, tree_of, words_of}
 use Rattle.cx_meaning.specs.Running.{run_main}
 use Rattle.cx_rules.specs.Externals.{external_rows}
 use Rattle.cx_vtree.specs.Plain.{PlainSource}
-use Rattle.cx_vtree.specs.SimRun.{DoneAt, SimRun}
+use Rattle.cx_vtree.specs.SimRun.{DoneAt}
 use Rattle.cx_vtree.proofs.Runs.{one_outcome}
 use Rattle.cx_realises.specs.Realises.{Realises}
 use Rattle.cx_commands.specs.declared.stops.Stop.{Stop}
@@ -28,18 +28,16 @@ left_or none (Err stop) = none
 same_left : (a b : PlainLeft) → (let own : Result PlainLeft Stop = Ok a in own ≡ Ok b) → a ≡ b
 same_left a b e = ap (left_or a) e
 
-no_left : (stop : Stop) (left : PlainLeft) → (let own : Result PlainLeft Stop = Err stop in own ≡ Ok left) → ⊥
-no_left stop left e = cc
-
 -- WHAT A DESIGN LEAVES ITS SOURCE LEAVES
 module _ (d : PlainDesign) (source : PlainSource) (is : Realises d source) (budget : ℕ) (left : PlainLeft) where
   run_in_source : (ms : List PlainMemory) → FitsRows (external_rows d) ms → (a : Answer State Fault) → run_main d (words_loaded ms) budget ≡ a → left_of d ms budget a ≡ Ok left → RunLeaves source ms budget left
   run_in_source ms fits (answers.End after turns) e leaves =
       let words = words_of (tree_of d) after in
-      subst (λ l. RunLeaves source ms budget l) (same_left (record { turns = turns; memories = with_words ms words }) left leaves)
-      (record { words = words; run = is.runs.ends ms budget turns after fits e; leaves = refl })
-  run_in_source ms fits (answers.Fault fault turn) e leaves = absurd (no_left _ left leaves)
-  run_in_source ms fits answers.More e leaves = absurd (no_left _ left leaves)
+      let own : PlainLeft = record { turns = turns; memories = with_words ms words } in
+      let run : RunLeaves source ms budget own = record { words = words; run = is.runs.ends ms budget turns after fits e; leaves = refl } in
+      subst (λ l. RunLeaves source ms budget l) (same_left own left leaves) run
+  run_in_source ms fits (answers.Fault fault turn) e leaves = absurd (cc)
+  run_in_source ms fits answers.More e leaves = absurd (cc)
 
   in_source : (json : List ℕ) (loaded : Result (List PlainMemory) DataFault) → load_of json (external_rows d) ≡ loaded → loaded_left d budget loaded ≡ Ok left → SourceLeaves source json budget left
   in_source json (Ok ms) loads leaves = record {
@@ -47,7 +45,7 @@ module _ (d : PlainDesign) (source : PlainSource) (is : Realises d source) (budg
     loads = ap (λ rows. load_of json rows) is.rows ∙ loads;
     run = run_in_source ms (loaded_fits json (external_rows d) ms loads) (run_main d (words_loaded ms) budget) refl leaves;
   }
-  in_source json (Err fault) loads leaves = absurd (no_left _ left leaves)
+  in_source json (Err fault) loads leaves = absurd (cc)
 
   pub design_in_text : (verilog json : List ℕ) → IsVerilogOf verilog source → design_left d json budget ≡ Ok left → TextLeaves verilog json budget left
   design_in_text verilog json spelled leaves = record { source = source; spelled = spelled; leaves = in_source json (load_of json (external_rows d)) refl leaves }

@@ -1,6 +1,6 @@
 //! The trial: the design of a seed is checked, interpreted and compiled, and its text is read back and simulated.
 
-ghost use Rattle.std.specs.Prelude.{◌≡◌, ◌⊎◌, ◌++◌, List, IfOk, IfErr, Ok, Err, MatchResult, map, sum};
+ghost use Rattle.std.specs.Prelude.{◌≡◌, ◌⊎◌, ◌++◌, List, ℕ, IfOk, IfErr, Ok, Err, MatchResult, map, sum};
 ghost use Rattle.cx_text.specs.declared.diagnostics.Diagnostic.{Diagnostic as DiagnosticValue};
 ghost use Rattle.cx_text.specs.Loading.{plain_memory};
 ghost use Rattle.cx_design.specs.PlainDesigns.{plain_design};

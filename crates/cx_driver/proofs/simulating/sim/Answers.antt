@@ -1,8 +1,6 @@
-use Rattle.std.proofs.Common.{[], Ok, Err, inl, refl}
+use Rattle.std.proofs.Common.{[], Ok, Err}
 use Rattle.cx_driver.specs.Leaving.{plain_left}
 use Rattle.cx_driver.specs.Simulated.{IsSimAnswer, IsSimStop, Simulates, Spells}
-use Rattle.cx_driver.specs.declared.interpreting.Left.{Left}
-use Rattle.cx_commands.specs.declared.stops.Stop.TheVariants as stops
 use Rattle.cx_driver.proofs.Once.{Told, all_answered, all_stopped}
 use Rattle.cx_driver.proofs.SimLemmas.{answer_spells, left_answers, spelled_once}
 use Rattle.cx_driver.proofs.simulating.sim.Goals as goal

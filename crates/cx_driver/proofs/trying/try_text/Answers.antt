@@ -1,19 +1,29 @@
+use Rattle.std.proofs.Common.{List, ℕ, subst}
+use Rattle.cx_text.specs.declared.limits.TheConstants.{BUDGET}
 use Rattle.cx_design.specs.PlainDesigns.{plain_design}
 use Rattle.cx_driver.specs.Leaving.{plain_left}
+use Rattle.cx_driver.specs.Simulated.{IsSimStop, TextLeaves}
+use Rattle.cx_driver.specs.Tried.{zeros}
 use Rattle.cx_driver.proofs.TrialLemmas.{simulated_line, leaves_large, unsimulated}
 use Rattle.cx_driver.proofs.trying.try_text.Goals as goal
 
 pub returns-in_ok-line-in-Ok-Ok : goal.returns-in_ok-line-in-Ok-Ok
-returns-in_ok-line-in-Ok-Ok c = record {
-  answer = simulated_line c.args.seed (plain_design c.args.design.now) c.requires.ends.0 c.requires.ends.1 c.requires.realised c.in-Ok.verilog.items c.in-Ok.ensures.answer (plain_left c.in-Ok-Ok.left) c.in_ok-line-in-Ok-Ok.line.items c.in-Ok-Ok.ensures.answer c.in_ok-line-in-Ok-Ok.ensures;
-  cause = tt;
-}
+returns-in_ok-line-in-Ok-Ok c =
+    let Leaves : List ℕ → Type 0 = λ text. TextLeaves text zeros BUDGET (plain_left c.in-Ok-Ok.left) in
+    record {
+      answer = simulated_line c.args.seed (plain_design c.args.design.now) c.requires.ends.0 c.requires.ends.1 c.requires.realised c.in-Ok.verilog.items c.in-Ok.ensures.answer
+          (plain_left c.in-Ok-Ok.left) c.in_ok-line-in-Ok-Ok.line.items (subst Leaves c.deref.ensures.value c.in-Ok-Ok.ensures.answer) c.in_ok-line-in-Ok-Ok.ensures;
+      cause = tt;
+    }
 
 pub returns-in-Ok-Err : goal.returns-in-Ok-Err
-returns-in-Ok-Err c = record {
-  answer = tt;
-  cause = unsimulated c.args.seed (plain_design c.args.design.now) c.requires.ends.0 c.requires.ends.1 c.requires.realised c.in-Ok.verilog.items c.in-Ok.ensures.answer c.in-Ok-Err.stop c.in-Ok-Err.ensures.cause;
-}
+returns-in-Ok-Err c =
+    let Stops : List ℕ → Type 0 = λ text. IsSimStop text zeros BUDGET c.in-Ok-Err.stop in
+    record {
+      answer = tt;
+      cause = unsimulated c.args.seed (plain_design c.args.design.now) c.requires.ends.0 c.requires.ends.1 c.requires.realised c.in-Ok.verilog.items c.in-Ok.ensures.answer c.in-Ok-Err.stop
+          (subst Stops c.deref.ensures.value c.in-Ok-Err.ensures.cause);
+    }
 
 pub returns-in-Err : goal.returns-in-Err
 returns-in-Err c = record {
