@@ -16,4 +16,5 @@ pub mod CompleteLemmas
 pub mod BelowLemmas
 pub mod PromiseLemmas
 pub mod LeftLemmas
+pub mod TrialMemory
 pub mod TrialLemmas

@@ -1,14 +1,17 @@
 -- What a trial tells is one thing, made of what its parts tell; targets of its tree are ports.
-use Rattle.std.proofs.Common.{◌≡◌, ◌⊎◌, inl, inr, ⊎_elim, ℕ, zero, suc, ◌≤◌, if◌then◌else◌, Bool, false, List, [], ◌∷◌, ◌++◌, map, flat_map, Some, None, Result, Ok, Err, IfOk, IfErr, MatchResult, refl, sym, ap, ◌∙◌, subst, codes}
+use Rattle.std.proofs.Common.{◌≡◌, ◌⊎◌, inl, inr, ⊎_elim, ℕ, zero, suc, ◌≤◌, ◌<◌, ◌^◌, All, if◌then◌else◌, Bool, false, List, [], ◌∷◌, ◌++◌, map, flat_map, Some, None, Result, Ok, Err, IfOk, IfErr, MatchResult, refl, sym, ap, ◌∙◌, subst, codes}
 use Rattle.std.proofs.lemmas.Bool.{lt-ltb, le-ltb}
 use Rattle.cx_text.specs.declared.diagnostics.Diagnostic.{Diagnostic}
 use Rattle.cx_text.specs.declared.limits.TheConstants.{BUDGET, COMPILE_SIZE}
+use Rattle.cx_text.specs.Loading.{FitsShape}
 use Rattle.cx_data.specs.Dump.{dump_text}
+use Rattle.cx_vtree.specs.PlainParts.{rows_of}
 use Rattle.cx_ast.specs.PlainTree as ast
 use Rattle.cx_ast.specs.PlainTree.{PlainTree, PlainComponent, PlainGroup, PlainWire, PlainAssign}
 use Rattle.cx_meaning.specs.Designs.{PlainDesign}
 use Rattle.cx_meaning.specs.Sights.{In}
 use Rattle.cx_rules.specs.Accepted.{IsAccepted}
+use Rattle.cx_rules.specs.Externals.{external_rows}
 use Rattle.cx_rules.specs.Sizes.{design_size}
 use Rattle.cx_rules.specs.Wellformed.{IsDesign}
 use Rattle.cx_net.specs.NetTree.{net_tree}
@@ -29,10 +32,12 @@ use Rattle.cx_commands.specs.declared.stops.Stop.TheVariants as stops
 use Rattle.cx_driver.specs.Interpreted.{PlainLeft, design_left, StopsDesign}
 use Rattle.cx_driver.specs.Compiled.{IsDesignTooLarge, IsDesignWritten, too_large, written_source}
 use Rattle.cx_driver.specs.Simulated.{IsSimStop, TextLeaves}
-use Rattle.cx_driver.specs.Tried.{zeros, line_of, line_result, try_result, TreeTries, Tries, IsRealised, TellsRule}
+use Rattle.cx_driver.specs.Tried.{HasTrialMemory, words_sum, zeros, line_of, line_result, try_result, TreeTries, Tries, IsRealised, TellsRule}
 use Rattle.cx_driver.specs.Texts.{IsTreeStop}
 use Rattle.cx_driver.proofs.Once.{Told, not_both, same_stop, all_answered, all_stopped}
-use Rattle.cx_driver.proofs.SimLemmas.{left_answers, no_stop}
+use Rattle.cx_driver.proofs.SimLemmas.{left_answers, no_stop, one_source_of}
+use Rattle.cx_driver.proofs.BelowLemmas.{loaded_fits}
+use Rattle.cx_driver.proofs.TrialMemory.{shapes_stay, small_sum}
 use Rattle.cx_driver.proofs.TextLayers.{design_realises, tree_rules}
 use Rattle.cx_driver.proofs.LeftLemmas.{design_in_text, text_once}
 
@@ -157,6 +162,16 @@ module _ (seed : ℕ) (d : PlainDesign) where
   module _ (left : PlainLeft) (leaves : design_left d zeros BUDGET ≡ Ok left) (realised : IsRealised d) (verilog : List ℕ) (written : IsDesignWritten d verilog) where
     text_leaves : TextLeaves verilog zeros BUDGET left
     text_leaves = design_in_text d (written_source d) (realised written.0 written.1.sound) BUDGET left verilog zeros written.1 leaves
+
+    left_rows : (own : PlainLeft) → TextLeaves verilog zeros BUDGET own → map (λ m. m.shape) own.memories ≡ external_rows d
+    left_rows own ran =
+        let same = one_source_of verilog ran.source (written_source d) ran.spelled written.1 in
+        let fits = loaded_fits zeros (rows_of ran.source.externals) ran.leaves.memories ran.leaves.loads in
+        ap (λ ms. map (λ m. m.shape) ms) ran.leaves.run.leaves ∙ shapes_stay ran.leaves.memories ran.leaves.run.words
+        ∙ fits.same_rows ∙ ap (λ s. rows_of s.externals) same ∙ (realised written.0 written.1.sound).rows
+
+    pub left_small : (own : PlainLeft) → TextLeaves verilog zeros BUDGET own → HasTrialMemory d → All FitsShape own.memories → words_sum own.memories < 2 ^ 64
+    left_small own ran memory fits = small_sum own.memories (left_rows own ran ∙ memory) fits
 
     pub simulated_line : (own : PlainLeft) (line : List ℕ) → TextLeaves verilog zeros BUDGET own → line ≡ line_of seed own → try_result seed d ≡ Ok line
     simulated_line own line ran told = leaves_line left line leaves (told ∙ ap (λ l. line_of seed l) (text_once verilog zeros BUDGET own left ran text_leaves)) written.0

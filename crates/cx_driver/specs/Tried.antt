@@ -2,9 +2,10 @@
 use Rattle.std.specs.Prelude.{◌≡◌, ◌⊎◌, ℕ, ◌+◌, ◌≤◌, nat_lt, true, if◌then◌else◌, List, [], ◌∷◌, ◌++◌, Result, Ok, Err, codes, decimal, sum}
 use Rattle.cx_text.specs.declared.diagnostics.Diagnostic.{Diagnostic}
 use Rattle.cx_text.specs.declared.limits.TheConstants.{BUDGET, COMPILE_SIZE}
-use Rattle.cx_text.specs.Loading.{PlainMemory}
+use Rattle.cx_text.specs.Loading.{PlainMemory, PlainRow}
 use Rattle.cx_ast.specs.PlainTree.{PlainTree}
 use Rattle.cx_meaning.specs.Designs.{PlainDesign}
+use Rattle.cx_rules.specs.Externals.{external_rows}
 use Rattle.cx_rules.specs.Sizes.{design_size}
 use Rattle.cx_numbering.specs.DesignOf.{design_of}
 use Rattle.cx_check.specs.Acceptance.{IsAcceptedTree, TreeBreak}
@@ -68,6 +69,13 @@ pub record TellsRule (told : Diagnostic) (stop : Stop) : Type 0 where
   pub is : stop ≡ stops.Rule own
   pub rule : own.rule ≡ told.rule
   pub place : own.place ≡ told.place
+
+-- the one external memory of a trial: 16 words of 32 bits
+abbrev pub trial_row : PlainRow
+trial_row = record { name = codes "mem"; width = 32; sizes = 16 ∷ [] }
+
+abbrev pub HasTrialMemory : PlainDesign → Type 0
+HasTrialMemory d = external_rows d ≡ trial_row ∷ []
 
 -- the run of a design on zeros ends
 abbrev pub EndsOnZeros : PlainDesign → Type 0

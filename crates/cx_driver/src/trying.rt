@@ -1,6 +1,6 @@
 //! The trial: the design of a seed is checked, interpreted and compiled, and its text is read back and simulated.
 
-ghost use Rattle.std.specs.Prelude.{◌≡◌, ◌⊎◌, ◌++◌, List, ℕ, IfOk, IfErr, Ok, Err, MatchResult, map, sum};
+ghost use Rattle.std.specs.Prelude.{◌≡◌, ◌⊎◌, ◌++◌, ◌<◌, ◌^◌, List, ℕ, IfOk, IfErr, Ok, Err, MatchResult, map, sum};
 ghost use Rattle.cx_text.specs.declared.diagnostics.Diagnostic.{Diagnostic as DiagnosticValue};
 ghost use Rattle.cx_text.specs.Loading.{plain_memory};
 ghost use Rattle.cx_design.specs.PlainDesigns.{plain_design};
@@ -11,7 +11,7 @@ ghost use Rattle.cx_commands.specs.declared.stops.Stop.{Stop as StopValue};
 ghost use Rattle.cx_commands.specs.declared.stops.Stop.TheVariants as stops;
 ghost use Rattle.cx_driver.specs.Leaving.{plain_left};
 ghost use Rattle.cx_driver.specs.Tried as plain;
-ghost use Rattle.cx_driver.specs.Tried.{EndsOnZeros, IsRealised, IsTrialStop, StopsTrial, TellsRule, Tries, counted, trial_line, try_result, words_sum};
+ghost use Rattle.cx_driver.specs.Tried.{EndsOnZeros, HasTrialMemory, IsRealised, IsTrialStop, StopsTrial, TellsRule, Tries, counted, trial_line, try_result, words_sum};
 
 use crate::accepting::tried;
 use crate::compiling::compile_design;
@@ -59,6 +59,7 @@ pub fn trial(alloc: Global, seed: u64) -> Result<Vec<u8>, Stop>
 
 /// The line of a design that a seed gave.
 fn try_design(alloc: Global, design: &Checked, seed: u64) -> Result<Vec<u8>, Stop>
+    requires memory { HasTrialMemory (plain_design design.now) }
     requires realised { IsRealised (plain_design design.now) }
     ensures answer { IfOk result (λ line. try_result seed (plain_design design.now) ≡ Ok line.items) }
     ensures cause { IfErr result (λ stop. (stop ≡ stops.Memory) ⊎ (try_result seed (plain_design design.now) ≡ Err stop)) }
@@ -71,6 +72,7 @@ fn try_design(alloc: Global, design: &Checked, seed: u64) -> Result<Vec<u8>, Sto
 
 /// The line of a design whose run ends, by the run of its text.
 fn try_text(alloc: Global, design: &Checked, seed: u64) -> Result<Vec<u8>, Stop>
+    requires memory { HasTrialMemory (plain_design design.now) }
     requires realised { IsRealised (plain_design design.now) }
     requires ends { EndsOnZeros (plain_design design.now) }
     ensures answer { IfOk result (λ line. try_result seed (plain_design design.now) ≡ Ok line.items) }
@@ -88,14 +90,12 @@ fn try_text(alloc: Global, design: &Checked, seed: u64) -> Result<Vec<u8>, Stop>
     }
 }
 
-/// The line of what a run left. A sum that no 64 bits hold counts as want of memory.
+/// The line of what a run left.
 fn line_of(alloc: Global, seed: u64, left: &Left) -> Result<Vec<u8>, Memory>
+    requires small { words_sum (plain_left left.now).memories < 2 ^ 64 }
     ensures { IfOk result (λ line. line.items ≡ plain.line_of seed (plain_left left.now)) }
 {
     let total = memories_sum(&left.loaded.memories);
-    if total == u64::MAX {
-        return Err(Memory);
-    }
     line_with(alloc, seed, left.turns, total)
 }
 

@@ -1,7 +1,9 @@
-use Rattle.std.proofs.Common.{subst, sym}
+use Rattle.std.proofs.Common.{subst, sym, ap, ◌∙◌}
 use Rattle.cx_ast.specs.PlainTree.{plain_tree}
+use Rattle.cx_numbering.specs.DesignOf.{design_of}
 use Rattle.cx_design.specs.PlainDesigns.{plain_design}
 use Rattle.cx_names.specs.Targets.{HasTargets}
+use Rattle.cx_driver.proofs.TrialMemory.{trial_memory}
 use Rattle.cx_driver.proofs.TrialLemmas.{design_told, refusal_told, tree_realised, trial_targets}
 use Rattle.cx_driver.proofs.trying.trial.Goals as goal
 
@@ -10,6 +12,7 @@ tried-requires c = record { targets = subst HasTargets (sym c.in-Ok.ensures.valu
 
 pub try_design-requires : goal.try_design-requires
 try_design-requires c = record {
+  memory = trial_memory c.args.seed (plain_design c.in-Ok-tried.design) (c.in-Ok-tried.ensures.value ∙ ap (λ t. design_of t) c.in-Ok.ensures.value);
   realised = tree_realised (plain_tree c.in-Ok.tree) (plain_design c.in-Ok-tried.design) c.design_is_realised.ensures (subst HasTargets (sym c.in-Ok.ensures.value) (trial_targets c.args.seed)) c.in-Ok-tried.ensures.accepted c.in-Ok-tried.ensures.value;
 }
 

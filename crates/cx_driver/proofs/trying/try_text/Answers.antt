@@ -4,8 +4,16 @@ use Rattle.cx_design.specs.PlainDesigns.{plain_design}
 use Rattle.cx_driver.specs.Leaving.{plain_left}
 use Rattle.cx_driver.specs.Simulated.{IsSimStop, TextLeaves}
 use Rattle.cx_driver.specs.Tried.{zeros}
-use Rattle.cx_driver.proofs.TrialLemmas.{simulated_line, leaves_large, unsimulated}
+use Rattle.cx_driver.proofs.TrialLemmas.{left_small, leaves_large, simulated_line, unsimulated}
 use Rattle.cx_driver.proofs.trying.try_text.Goals as goal
+
+pub line_of-requires : goal.line_of-requires
+line_of-requires c =
+    let Leaves : List ℕ → Type 0 = λ text. TextLeaves text zeros BUDGET (plain_left c.in-Ok-Ok.left) in
+    record {
+      small = left_small c.args.seed (plain_design c.args.design.now) c.requires.ends.0 c.requires.ends.1 c.requires.realised c.in-Ok.verilog.items c.in-Ok.ensures.answer
+          (plain_left c.in-Ok-Ok.left) (subst Leaves c.deref.ensures.value c.in-Ok-Ok.ensures.answer) c.requires.memory c.in-Ok-Ok.ensures.ready.fits;
+    }
 
 pub returns-in_ok-line-in-Ok-Ok : goal.returns-in_ok-line-in-Ok-Ok
 returns-in_ok-line-in-Ok-Ok c =
