@@ -1,5 +1,5 @@
 -- Of each driver of the net of an accepted design the target is there.
-use Rattle.std.proofs.Common.{◌≡◌, ℕ, ◌<◌, length, Option, Some, IsSome, slice_get, sym, subst}
+use Rattle.std.proofs.Common.{◌≡◌, ℕ, ◌<◌, length, Option, Some, IsSome, slice_get, refl, sym, subst}
 use Rattle.cx_meaning.specs.Designs.{PlainDesign, component_at}
 use Rattle.cx_rules.specs.Accepted.{IsAccepted}
 use Rattle.cx_rules.specs.Wellformed.{IsDesign}
@@ -18,7 +18,7 @@ use Rattle.cx_wiring.proofs.OrderHeights.{in_slice, stands_at}
 use Rattle.cx_wiring.proofs.FitNets.{component_drives}
 
 is_some : (o : Option ℕ) (w : ℕ) → o ≡ Some w → IsSome o
-is_some o w e = subst IsSome (sym e) tt
+is_some o w e = subst IsSome (sym e) refl
 
 module _ (d : PlainDesign) (rules : IsDesign d) (accepted : IsAccepted d) where
   component_targets : (n k : ℕ) → slice_get (order (lowered_of d)) n ≡ Some k → (m : ℕ) (driver : PlainNetDriver) → slice_get (net_component_at (net_of (lowered_of d)) n).drivers m ≡ Some driver

@@ -25,6 +25,7 @@ returns-in-Err c =
     let cause : IsCompileStop text c.in-Err.stop = refused_compile text c.in-Err.stop c.in-Err.ensures.cause in
     record {
       answer = tt;
+      promise = tt;
       cause = cause;
       all_answers = λ can. all_compiled {X = Unit {0}} (λ _. []) text (Err c.in-Err.stop) cause can;
       all_refusals = λ told b. all_refused {X = Unit {0}} (λ _. []) text (Err c.in-Err.stop) tt cause told b;
