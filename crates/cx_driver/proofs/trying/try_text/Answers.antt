@@ -9,32 +9,32 @@ use Rattle.cx_driver.proofs.trying.try_text.Goals as goal
 
 pub line_of-requires : goal.line_of-requires
 line_of-requires c =
-    let Leaves : List ℕ → Type 0 = λ text. TextLeaves text zeros BUDGET (plain_left c.in-Ok-Ok.left) in
+    let Leaves : List ℕ → Type 0 = λ text. TextLeaves text zeros BUDGET (plain_left c.in-Ok-simulate.left) in
     record {
       small = left_small c.args.seed (plain_design c.args.design.now) c.requires.ends.0 c.requires.ends.1 c.requires.realised c.in-Ok.verilog.items c.in-Ok.ensures.answer
-          (plain_left c.in-Ok-Ok.left) (subst Leaves c.deref.ensures.value c.in-Ok-Ok.ensures.answer) c.requires.memory c.in-Ok-Ok.ensures.ready.fits;
+          (plain_left c.in-Ok-simulate.left) (subst Leaves c.deref.ensures.value c.in-Ok-simulate.ensures.answer) c.requires.memory c.in-Ok-simulate.ensures.ready.fits;
     }
 
-pub returns-in_ok-line-in-Ok-Ok : goal.returns-in_ok-line-in-Ok-Ok
-returns-in_ok-line-in-Ok-Ok c =
-    let Leaves : List ℕ → Type 0 = λ text. TextLeaves text zeros BUDGET (plain_left c.in-Ok-Ok.left) in
+pub returns-in-Ok-simulate : goal.returns-in-Ok-simulate
+returns-in-Ok-simulate c =
+    let Leaves : List ℕ → Type 0 = λ text. TextLeaves text zeros BUDGET (plain_left c.in-Ok-simulate.left) in
     record {
       answer = simulated_line c.args.seed (plain_design c.args.design.now) c.requires.ends.0 c.requires.ends.1 c.requires.realised c.in-Ok.verilog.items c.in-Ok.ensures.answer
-          (plain_left c.in-Ok-Ok.left) c.in_ok-line-in-Ok-Ok.line.items (subst Leaves c.deref.ensures.value c.in-Ok-Ok.ensures.answer) c.in_ok-line-in-Ok-Ok.ensures;
+          (plain_left c.in-Ok-simulate.left) c.in_ok-line-in-Ok-simulate.line.items (subst Leaves c.deref.ensures.value c.in-Ok-simulate.ensures.answer) c.in_ok-line-in-Ok-simulate.ensures;
       cause = tt;
     }
 
-pub returns-in-Ok-Err : goal.returns-in-Ok-Err
-returns-in-Ok-Err c =
-    let Stops : List ℕ → Type 0 = λ text. IsSimStop text zeros BUDGET c.in-Ok-Err.stop in
+pub returns-in-Ok : goal.returns-in-Ok
+returns-in-Ok c =
+    let Stops : List ℕ → Type 0 = λ text. IsSimStop text zeros BUDGET c.in-Err-simulate.stop in
     record {
       answer = tt;
-      cause = unsimulated c.args.seed (plain_design c.args.design.now) c.requires.ends.0 c.requires.ends.1 c.requires.realised c.in-Ok.verilog.items c.in-Ok.ensures.answer c.in-Ok-Err.stop
-          (subst Stops c.deref.ensures.value c.in-Ok-Err.ensures.cause);
+      cause = unsimulated c.args.seed (plain_design c.args.design.now) c.requires.ends.0 c.requires.ends.1 c.requires.realised c.in-Ok.verilog.items c.in-Ok.ensures.answer c.in-Err-simulate.stop
+          (subst Stops c.deref.ensures.value c.in-Err-simulate.ensures.cause);
     }
 
-pub returns-in-Err : goal.returns-in-Err
-returns-in-Err c = record {
+pub returns : goal.returns
+returns c = record {
   answer = tt;
   cause = leaves_large c.args.seed (plain_design c.args.design.now) c.requires.ends.0 c.in-Err.stop c.requires.ends.1 c.in-Err.ensures.cause;
 }
