@@ -1,12 +1,27 @@
 -- Words that are none of a command.
-use Rattle.std.proofs.Common.{◌≡◌, ◌<◌, ◌≤◌, ℕ, List, [], ◌∷◌, length, slice_index_or, arith}
-use Rattle.cx_commands.specs.Commands.{Asked, Asks, AsksNothing, AsksNoDesign, AsksNoRun, compile, interp, check, sim}
+use Rattle.std.proofs.Common.{◌≡◌, ◌<◌, ◌≤◌, ℕ, List, [], ◌∷◌, length, slice_index_or, get_or, codes, refl, sym, ap, ◌∙◌, arith}
+use Rattle.cx_commands.specs.Commands.{Asked, Asks, AsksNothing, AsksNoDesign, AsksNoOther, compile, interp, check, sim, trial}
 
-pub neither : (words : List (List ℕ)) → AsksNoDesign words → AsksNoRun words → AsksNothing words
+pub neither : (words : List (List ℕ)) → AsksNoDesign words → AsksNoOther words → AsksNothing words
 neither words d r (compile design) asks = d.compiles design asks
-neither words d r (interp design json budget) asks = r.interprets design json budget asks
+neither words d r (interp design json budget) asks = r.runs.interprets design json budget asks
 neither words d r (check design) asks = d.checks design asks
-neither words d r (sim verilog json budget) asks = r.simulates verilog json budget asks
+neither words d r (sim verilog json budget) asks = r.runs.simulates verilog json budget asks
+neither words d r (trial seed) asks = r.tries seed asks
+
+-- words begin with one word
+abbrev word_or : List ℕ → List (List ℕ) → List ℕ
+word_or none [] = none
+word_or none (w ∷ ws) = w
+
+same_word : (words : List (List ℕ)) (a b : List ℕ) (later others : List (List ℕ)) → words ≡ a ∷ later → words ≡ b ∷ others → a ≡ b
+same_word words a b later others h i = ap (word_or []) (sym h ∙ i)
+
+letters_differ : (a b : ℕ) → a ≡ 99 → b ≡ 116 → a ≡ b → ⊥
+letters_differ a b c t e = omega (arith, c, t, e)
+
+check_no_trial : codes "check" ≡ codes "trial" → ⊥
+check_no_trial e = letters_differ _ _ refl refl (ap (λ bytes. get_or bytes 0 0) e)
 
 -- words ask for one command
 pub one_command : (words : List (List ℕ)) (a b : Asked) → Asks words a → Asks words b → a ≡ b
@@ -14,6 +29,7 @@ one_command words (compile d) (compile e) h i = cc
 one_command words (compile d) (interp e k m) h i = absurd (let second = i.1 in cc)
 one_command words (compile d) (check e) h i = absurd (cc)
 one_command words (compile d) (sim e k m) h i = absurd (let second = i.1 in cc)
+one_command words (compile d) (trial s) h i = absurd (let second = i.1 in cc)
 one_command words (interp d j n) (compile e) h i = absurd (let first = h.1 in cc)
 one_command words (interp d j n) (interp e k m) h i =
     let first = h.1 in
@@ -23,14 +39,27 @@ one_command words (interp d j n) (interp e k m) h i =
     cc
 one_command words (interp d j n) (check e) h i = absurd (let first = h.1 in cc)
 one_command words (interp d j n) (sim e k m) h i = absurd (let first = h.1 in let second = i.1 in cc)
+one_command words (interp d j n) (trial s) h i = absurd (let first = h.1 in let second = i.1 in cc)
 one_command words (check d) (compile e) h i = absurd (cc)
 one_command words (check d) (interp e k m) h i = absurd (let second = i.1 in cc)
 one_command words (check d) (check e) h i = cc
 one_command words (check d) (sim e k m) h i = absurd (let second = i.1 in cc)
+one_command words (check d) (trial s) h i = absurd (check_no_trial (same_word words (codes "check") (codes "trial") (d ∷ []) (i.0 ∷ []) h i.1))
 one_command words (sim d j n) (compile e) h i = absurd (let first = h.1 in cc)
 one_command words (sim d j n) (interp e k m) h i = absurd (let first = h.1 in let second = i.1 in cc)
 one_command words (sim d j n) (check e) h i = absurd (let first = h.1 in cc)
 one_command words (sim d j n) (sim e k m) h i =
+    let first = h.1 in
+    let second = i.1 in
+    let value = h.2.value in
+    let other = i.2.value in
+    cc
+one_command words (sim d j n) (trial s) h i = absurd (let first = h.1 in let second = i.1 in cc)
+one_command words (trial s) (compile e) h i = absurd (let first = h.1 in cc)
+one_command words (trial s) (interp e k m) h i = absurd (let first = h.1 in let second = i.1 in cc)
+one_command words (trial s) (check e) h i = absurd (check_no_trial (same_word words (codes "check") (codes "trial") (e ∷ []) (h.0 ∷ []) i h.1))
+one_command words (trial s) (sim e k m) h i = absurd (let first = h.1 in let second = i.1 in cc)
+one_command words (trial s) (trial t) h i =
     let first = h.1 in
     let second = i.1 in
     let value = h.2.value in

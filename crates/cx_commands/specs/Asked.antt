@@ -1,7 +1,7 @@
 -- The command of the program's own type as what is asked for.
-use Rattle.cx_commands.specs.Commands.{Asked, compile, interp, check, sim}
+use Rattle.cx_commands.specs.Commands.{Asked, compile, interp, check, sim, trial}
 use Rattle.cx_commands.specs.declared.commands.Command.{Command}
-use Rattle.cx_commands.specs.declared.commands.Command.TheVariants.{Compile, Interp, Check, Sim}
+use Rattle.cx_commands.specs.declared.commands.Command.TheVariants.{Compile, Interp, Check, Sim, Trial}
 
 -- what a command asks for
 abbrev pub asked_of : Command → Asked
@@ -9,3 +9,4 @@ asked_of (Compile design) = compile design.now
 asked_of (Interp design json budget) = interp design.now json.now budget
 asked_of (Check design) = check design.now
 asked_of (Sim verilog json budget) = sim verilog.now json.now budget
+asked_of (Trial seed) = trial seed

@@ -3,12 +3,13 @@ use Rattle.std.specs.Prelude.{◌≡◌, ℕ, ◌≤◌, List, [], ◌∷◌, co
 use Rattle.std.specs.Str.Parse.{IsNumeral, digits_value}
 use Rattle.cx_text.specs.declared.limits.TheConstants.{BUDGET, DESIGN_BYTES, DATA_BYTES, VERILOG_BYTES}
 
--- a command: which files it reads, and its budget where it has one
+-- a command: which files it reads, and its budget or its seed where it has one
 pub data Asked : Type 0 where
   compile : (design : List ℕ) → Asked
   interp : (design json : List ℕ) (budget : ℕ) → Asked
   check : (design : List ℕ) → Asked
   sim : (verilog json : List ℕ) (budget : ℕ) → Asked
+  trial : (seed : ℕ) → Asked
 
 -- one decimal digit or more, with a value of at most 10^12; zeros may stand before
 pub record IsBudget (digits : List ℕ) (budget : ℕ) : Type 0 where
@@ -24,12 +25,17 @@ AsksRun words name first second budget = (digits : List ℕ) × (words ≡ name 
 abbrev pub AsksDesign : List (List ℕ) → List ℕ → List ℕ → Type 0
 AsksDesign words name design = words ≡ name ∷ design ∷ []
 
+-- the words are `trial` and the digits of a seed, which is no greater than a budget
+abbrev pub AsksTrial : List (List ℕ) → ℕ → Type 0
+AsksTrial words seed = (digits : List ℕ) × (words ≡ codes "trial" ∷ digits ∷ []) × IsBudget digits seed
+
 -- the words ask for this command
 abbrev pub Asks : List (List ℕ) → Asked → Type 0
 Asks words (compile design) = AsksDesign words (codes "compile") design
 Asks words (interp design json budget) = AsksRun words (codes "interp") design json budget
 Asks words (check design) = AsksDesign words (codes "check") design
 Asks words (sim verilog json budget) = AsksRun words (codes "sim") verilog json budget
+Asks words (trial seed) = AsksTrial words seed
 
 -- the words ask for nothing on one file
 pub record AsksNoDesign (words : List (List ℕ)) : Type 0 where
@@ -40,6 +46,11 @@ pub record AsksNoDesign (words : List (List ℕ)) : Type 0 where
 pub record AsksNoRun (words : List (List ℕ)) : Type 0 where
   pub interprets : (design json : List ℕ) (budget : ℕ) → Asks words (interp design json budget) → ⊥
   pub simulates : (verilog json : List ℕ) (budget : ℕ) → Asks words (sim verilog json budget) → ⊥
+
+-- the words ask for no run on files, and for no trial
+pub record AsksNoOther (words : List (List ℕ)) : Type 0 where
+  pub runs : AsksNoRun words
+  pub tries : (seed : ℕ) → Asks words (trial seed) → ⊥
 
 -- the words are none of a command
 abbrev pub AsksNothing : List (List ℕ) → Type 0
@@ -56,6 +67,7 @@ wanted_by (compile design) = record { file = design; most = DESIGN_BYTES } ∷ [
 wanted_by (interp design json budget) = record { file = design; most = DESIGN_BYTES } ∷ record { file = json; most = DATA_BYTES } ∷ []
 wanted_by (check design) = record { file = design; most = DESIGN_BYTES } ∷ []
 wanted_by (sim verilog json budget) = record { file = verilog; most = VERILOG_BYTES } ∷ record { file = json; most = DATA_BYTES } ∷ []
+wanted_by (trial seed) = []
 
 abbrev pub files_of : Asked → List (List ℕ)
 files_of command = map (λ w. w.file) (wanted_by command)

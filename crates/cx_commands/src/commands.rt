@@ -1,7 +1,7 @@
 //! The commands that the words on the command line spell.
 
 ghost use Rattle.std.specs.Prelude.{ℕ, List, MatchOption};
-ghost use Rattle.cx_commands.specs.Commands.{Asks, AsksDesign, AsksNoDesign, AsksNoRun, AsksNothing, AsksRun, IsBudget, check, compile, interp, sim};
+ghost use Rattle.cx_commands.specs.Commands.{Asks, AsksDesign, AsksNoDesign, AsksNoOther, AsksNoRun, AsksNothing, AsksRun, IsBudget, check, compile, interp, sim, trial};
 ghost use Rattle.cx_commands.specs.Asked.{asked_of};
 
 use cx_outside::Word;
@@ -30,6 +30,10 @@ pub enum Command<'a> {
         json: &'a [u8],
         budget: u64,
     },
+    /// Tries the design of a seed.
+    Trial {
+        seed: u64,
+    },
 }
 
 /// The command of the words after the program's name.
@@ -39,7 +43,17 @@ pub fn command_of(words: &[Word]) -> Option<Command<'_>>
 {
     match command_on_design(words) {
         Some(command) => Some(command),
-        None => run_of(words),
+        None => command_on_other(words),
+    }
+}
+
+/// The command of the words of a run on files, or of a trial.
+fn command_on_other(words: &[Word]) -> Option<Command<'_>>
+    ensures { MatchOption result (AsksNoOther words.now) (λ command. Asks words.now (asked_of command)) }
+{
+    match run_of(words) {
+        Some(command) => Some(command),
+        None => trial_of(words),
     }
 }
 
@@ -126,6 +140,19 @@ fn run_on_files<'a>(words: &'a [Word], name: &[u8]) -> Option<(&'a [u8], &'a [u8
         [word, first, second, digits] if word.bytes() == name => {
             let budget = number(digits.bytes())?;
             Some((first.bytes(), second.bytes(), budget))
+        }
+        _ => None,
+    }
+}
+
+/// The command of the words `trial SEED`.
+fn trial_of(words: &[Word]) -> Option<Command<'_>>
+    ensures { MatchOption result ((seed : ℕ) → Asks words.now (trial seed) → ⊥) (λ command. Asks words.now (asked_of command)) }
+{
+    match words {
+        [name, digits] if name.bytes() == b"trial".as_slice() => {
+            let seed = number(digits.bytes())?;
+            Some(Command::Trial { seed })
         }
         _ => None,
     }

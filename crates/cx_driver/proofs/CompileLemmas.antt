@@ -28,6 +28,10 @@ fits_not_refused text d told stands within (inr b) =
     let over = b.2 in
     omega (arith, same, within, over)
 
+-- a text that can be compiled is not refused
+pub compilable_once : (text : List ℕ) (stop : Stop) → IsCompilable text → Compiles text (Err stop) → ⊥
+compilable_once text stop can k = fits_not_refused text can.0 k.0 can.1 can.2 k.1
+
 -- what compile does with a text is one thing
 pub compiles_once : (text answer : List ℕ) (stop : Stop) → Compiles text (Ok answer) → Compiles text (Err stop) → ⊥
 compiles_once text answer stop h k = fits_not_refused text h.design k.0 h.stands h.within k.1

@@ -1,11 +1,13 @@
--- Files that give an answer stop no command.
-use Rattle.std.proofs.Common.{◌≡◌, ◌⊎◌, inl, inr, ℕ, List, Option, Some, None, Ok, Err, IsSomeAnd, codes, sym, ap, ◌∙◌, subst}
+-- Files that give an answer stop no command, and what stops one has one status.
+use Rattle.std.proofs.Common.{◌≡◌, ◌⊎◌, inl, inr, ⊎_elim, ℕ, List, Option, Some, None, Ok, Err, IsSomeAnd, codes, sym, ap, ◌∙◌, subst}
 use Rattle.cx_outside.specs.Counts.{HasRisen}
 use Rattle.cx_text.specs.declared.limits.TheConstants.{DESIGN_BYTES, DATA_BYTES, VERILOG_BYTES}
-use Rattle.cx_commands.specs.Commands.{Asked, compile, interp, check, sim, wanted_by}
-use Rattle.cx_driver.specs.Compiled.{Compiles}
+use Rattle.cx_commands.specs.Commands.{Asked, compile, interp, check, sim, trial, wanted_by}
+use Rattle.cx_driver.specs.Compiled.{IsCompilable, Compiles}
 use Rattle.cx_driver.specs.Interpreted.{Interprets}
-use Rattle.cx_driver.specs.Outcomes.{Checks, Does, IsAnswer, CanAnswer}
+use Rattle.cx_driver.specs.Outcomes.{Checks, Does, IsAnswer, CanAnswer, IsStopped}
+use Rattle.cx_driver.specs.Tried.{Tries}
+use Rattle.cx_trial.specs.TrialTree.{trial_tree}
 use Rattle.cx_commands.specs.Reads.{OfFile}
 use Rattle.cx_driver.specs.Simulated.{Simulates}
 use Rattle.cx_driver.specs.Causes.{HasCause}
@@ -16,11 +18,12 @@ use Rattle.cx_commands.specs.declared.refusals.Status.{Status}
 use Rattle.cx_commands.specs.declared.refusals.Status.TheVariants as statuses
 use Rattle.cx_commands.specs.declared.stops.Stop.{Stop}
 use Rattle.cx_commands.specs.declared.stops.Stop.TheVariants as stops
-use Rattle.cx_driver.proofs.Once.{not_both}
+use Rattle.cx_driver.proofs.Once.{Told, not_both, same_stop}
 use Rattle.cx_driver.proofs.TextLemmas.{accepted_once}
 use Rattle.cx_driver.proofs.InterpLemmas.{one_result}
-use Rattle.cx_driver.proofs.CompileLemmas.{compiles_once}
-use Rattle.cx_driver.proofs.SimLemmas.{no_stop}
+use Rattle.cx_driver.proofs.CompileLemmas.{compilable_once, compiles_once}
+use Rattle.cx_driver.proofs.TrialLemmas.{one_line, tries_once}
+use Rattle.cx_driver.proofs.SimLemmas.{no_stop, spelled_once}
 use Rattle.cx_driver.proofs.ReadLemmas.{Held, Readable, same_bytes, none_over, none_unread}
 
 checks_once : (text answer : List ℕ) (stop : Stop) → Checks text (Ok answer) → Checks text (Err stop) → ⊥
@@ -28,13 +31,40 @@ checks_once text answer stop (inl h) (inl k) = not_both (codes "accepted\n") sto
 checks_once text answer stop (inl h) (inr k) = accepted_once text k.0 h.0 k.1
 checks_once text answer stop (inr h) k = not_both answer (stops.Rule h.0) h.2
 
+-- the status of what stops a command
+abbrev stop_status : Stop → Status
+stop_status stop = status_of (refusals.Stop stop)
+
+checks_status : (text other : List ℕ) (a b : Stop) → Checks text (Err a) → Checks other (Err b) → stop_status a ≡ stop_status b
+checks_status text other a b (inl h) k = absurd (not_both (codes "accepted\n") a (sym h.1))
+checks_status text other a b (inr h) (inl k) = absurd (not_both (codes "accepted\n") b (sym k.1))
+checks_status text other a b (inr h) (inr k) = ap stop_status (same_stop a (stops.Rule h.0) h.2) ∙ sym (ap stop_status (same_stop b (stops.Rule k.0) k.2))
+
+simulated_status : (text json : List ℕ) (budget : ℕ) (a b : Stop) → Simulates text json budget (Err a) → Simulates text json budget (Err b) → stop_status a ≡ stop_status b
+simulated_status text json budget a b (inl h) k = ap stop_status (same_stop a b (spelled_once text json budget (Err a) (Err b) h k))
+simulated_status text json budget a b (inr h) (inl k) = ap stop_status (same_stop a b (sym (spelled_once text json budget (Err b) (Err a) k (inr h))))
+simulated_status text json budget a b (inr h) (inr k) = ap stop_status (same_stop a (stops.Verilog h.0) h.2) ∙ sym (ap stop_status (same_stop b (stops.Verilog k.0) k.2))
+
+tried_status : (seed : ℕ) (a b : Stop) → Tries seed (Err a) → Tries seed (Err b) → stop_status a ≡ stop_status b
+tried_status seed a b (inl h) k = ap stop_status (same_stop a b (one_line seed (trial_tree seed) (Err a) (Err b) h k))
+tried_status seed a b (inr h) (inl k) = ap stop_status (same_stop a b (sym (one_line seed (trial_tree seed) (Err b) (Err a) k (inr h))))
+tried_status seed a b (inr h) (inr k) = ap stop_status (same_stop a (stops.Rule h.0) h.2) ∙ sym (ap stop_status (same_stop b (stops.Rule k.0) k.2))
+
 module _ (holds : List ℕ → Option (List ℕ)) where
-  -- the files of an answer are within their limits
-  can_read : (command : Asked) (answer : List ℕ) → IsAnswer (Some holds) command answer → Readable holds (wanted_by command)
-  can_read (compile design) answer h = ((h.bytes, h.reads), tt)
-  can_read (interp design json budget) answer h = ((h.bytes, h.reads), ((h.is.bytes, h.is.reads), tt))
-  can_read (check design) answer h = ((h.bytes, h.reads), tt)
-  can_read (sim verilog json budget) answer h = ((h.bytes, h.reads), ((h.is.bytes, h.is.reads), tt))
+  -- where a command does something with its files they are within their limits
+  does_read : (command : Asked) (result : Told) → Does (Some holds) command result → Readable holds (wanted_by command)
+  does_read (compile design) result h = ((h.bytes, h.reads), tt)
+  does_read (interp design json budget) result h = ((h.bytes, h.reads), ((h.is.bytes, h.is.reads), tt))
+  does_read (check design) result h = ((h.bytes, h.reads), tt)
+  does_read (sim verilog json budget) result h = ((h.bytes, h.reads), ((h.is.bytes, h.is.reads), tt))
+  does_read (trial seed) result h = tt
+
+  can_read : (command : Asked) → CanAnswer (Some holds) command → Readable holds (wanted_by command)
+  can_read (compile design) can = ((can.bytes, can.reads), tt)
+  can_read (interp design json budget) can = does_read (interp design json budget) (Ok can.0) can.1
+  can_read (check design) can = does_read (check design) (Ok can.0) can.1
+  can_read (sim verilog json budget) can = does_read (sim verilog json budget) (Ok can.0) can.1
+  can_read (trial seed) can = does_read (trial seed) (Ok can.0) can.1
 
   -- of one file
   of_one : (P Q : List ℕ → Type 0) (m : ℕ) (file : List ℕ) → ((text : List ℕ) → P text → Q text → ⊥) → OfFile (Some holds) m file P → OfFile (Some holds) m file Q → ⊥
@@ -54,21 +84,54 @@ module _ (holds : List ℕ → Option (List ℕ)) where
       VERILOG_BYTES verilog
       (λ text. of_one (λ bytes. Simulates text bytes budget (Ok answer)) (λ bytes. Simulates text bytes budget (Err stop)) DATA_BYTES json
       (λ bytes p q. no_stop text bytes budget answer stop p q)) h k
+  does_once (trial seed) answer stop h k = tries_once seed answer stop h k
+
+  -- nothing stops a command whose files give an answer
+  can_once : (command : Asked) (stop : Stop) → CanAnswer (Some holds) command → IsStopped (Some holds) command stop → ⊥
+  can_once (compile design) stop can k = of_one IsCompilable (λ text. Compiles text (Err stop)) DESIGN_BYTES design (λ text. compilable_once text stop) can k
+  can_once (interp design json budget) stop can k = does_once (interp design json budget) can.0 stop can.1 k
+  can_once (check design) stop can k = does_once (check design) can.0 stop can.1 k
+  can_once (sim verilog json budget) stop can k = does_once (sim verilog json budget) can.0 stop can.1 k
+  can_once (trial seed) stop can k = does_once (trial seed) can.0 stop can.1 k
 
   -- nothing but want of memory is told of files that give an answer
-  memory_alone : (command : Asked) (before after : ℕ) (answer : List ℕ) (refusal : Refusal) → IsAnswer (Some holds) command answer → (HasRisen before after → ⊥) → HasCause command (Some holds) before after refusal
+  memory_alone : (command : Asked) (before after : ℕ) (refusal : Refusal) → CanAnswer (Some holds) command → (HasRisen before after → ⊥) → HasCause command (Some holds) before after refusal
       → status_of refusal ≡ statuses.Memory
-  memory_alone command before after answer (refusals.TooLong file seen) h never cause = absurd (none_over holds file.now seen (wanted_by command) (can_read command answer h) cause)
-  memory_alone command before after answer (refusals.ReadFault file) h never cause = absurd (none_unread holds before after file.now (wanted_by command) never (can_read command answer h) cause)
-  memory_alone command before after answer (refusals.Stop stop) h never (inl memory) = ap (λ s. status_of (refusals.Stop s)) memory
-  memory_alone command before after answer (refusals.Stop stop) h never (inr does) = absurd (does_once command answer stop h does)
+  memory_alone command before after (refusals.TooLong file seen) can never cause = absurd (none_over holds file.now seen (wanted_by command) (can_read command can) cause)
+  memory_alone command before after (refusals.ReadFault file) can never cause = absurd (none_unread holds before after file.now (wanted_by command) never (can_read command can) cause)
+  memory_alone command before after (refusals.Stop stop) can never (inl memory) = ap (λ s. status_of (refusals.Stop s)) memory
+  memory_alone command before after (refusals.Stop stop) can never (inr does) = absurd (can_once command stop can does)
+
+  -- what stops a command has one status
+  same_status : (command : Asked) (a b : Stop) → IsStopped (Some holds) command a → IsStopped (Some holds) command b → stop_status a ≡ stop_status b
+  same_status (compile design) a b h k = ap stop_status h.is.2 ∙ sym (ap stop_status k.is.2)
+  same_status (interp design json budget) a b h k =
+      let text = same_bytes holds DESIGN_BYTES DESIGN_BYTES design h.bytes k.bytes h.reads k.reads in
+      let loaded = same_bytes holds DATA_BYTES DATA_BYTES json h.is.bytes k.is.bytes h.is.reads k.is.reads in
+      let own = subst (λ t. Interprets t h.is.bytes budget (Err a)) text h.is.is in
+      ap stop_status (same_stop a b (one_result k.bytes k.is.bytes budget (Err a) (Err b) (subst (λ d. Interprets k.bytes d budget (Err a)) loaded own) k.is.is))
+  same_status (check design) a b h k = checks_status h.bytes k.bytes a b h.is k.is
+  same_status (sim verilog json budget) a b h k =
+      let text = same_bytes holds VERILOG_BYTES VERILOG_BYTES verilog h.bytes k.bytes h.reads k.reads in
+      let loaded = same_bytes holds DATA_BYTES DATA_BYTES json h.is.bytes k.is.bytes h.is.reads k.is.reads in
+      let own = subst (λ t. Simulates t h.is.bytes budget (Err a)) text h.is.is in
+      simulated_status k.bytes k.is.bytes budget a b (subst (λ d. Simulates k.bytes d budget (Err a)) loaded own) k.is.is
+  same_status (trial seed) a b h k = tried_status seed a b h k
+
+  -- what is told of files that stop a command has the status of what stops it, or memory is wanting
+  stop_alone : (command : Asked) (before after : ℕ) (why : Stop) (refusal : Refusal) → IsStopped (Some holds) command why → (HasRisen before after → ⊥) → HasCause command (Some holds) before after refusal
+      → (status_of refusal ≡ stop_status why) ⊎ (status_of refusal ≡ statuses.Memory)
+  stop_alone command before after why (refusals.TooLong file seen) h never cause = absurd (none_over holds file.now seen (wanted_by command) (does_read command (Err why) h) cause)
+  stop_alone command before after why (refusals.ReadFault file) h never cause = absurd (none_unread holds before after file.now (wanted_by command) never (does_read command (Err why) h) cause)
+  stop_alone command before after why (refusals.Stop stop) h never (inl memory) = inr (ap stop_status memory)
+  stop_alone command before after why (refusals.Stop stop) h never (inr does) = inl (same_status command stop why does h)
 
 -- where there is an answer and none is written, memory is wanting
 pub complete_refused : {L M : Type 0} (held : Held) (command : Asked) (before after : ℕ) (status : Status) (refusal : Refusal) → ((status ≡ status_of refusal) × L) ⊎ ((status ≡ statuses.Memory) × M)
     → HasCause command held before after refusal → IsSomeAnd held (λ holds. CanAnswer (Some holds) command) → (HasRisen before after → ⊥)
     → (status ≡ statuses.Done) ⊎ (status ≡ statuses.WriteFault) ⊎ (status ≡ statuses.Memory)
 complete_refused None command before after status refusal told cause can never = absurd can
-complete_refused (Some holds) command before after status refusal (inl h) cause can never = inr (inr (h.0 ∙ memory_alone holds command before after can.0 refusal can.1 never cause))
+complete_refused (Some holds) command before after status refusal (inl h) cause can never = inr (inr (h.0 ∙ memory_alone holds command before after refusal can never cause))
 complete_refused (Some holds) command before after status refusal (inr h) cause can never = inr (inr h.0)
 
 pub complete_delivered : {P Q S G R : Type 0} (status : Status) → ((status ≡ statuses.Done) × P × Q) ⊎ ((status ≡ statuses.WriteFault) × S × G × R)
@@ -76,6 +139,23 @@ pub complete_delivered : {P Q S G R : Type 0} (status : Status) → ((status ≡
 complete_delivered status (inl h) = inl h.0
 complete_delivered status (inr h) = inr (inl h.0)
 
+-- where something stops a command, nothing is answered
+pub stopped_answered : {G : Type 0} (held : Held) (command : Asked) (answer : List ℕ) (why : Stop) → IsAnswer held command answer → IsSomeAnd held (λ holds. IsStopped (Some holds) command why) → G
+stopped_answered None command answer why h stopped = absurd stopped
+stopped_answered (Some holds) command answer why h stopped = absurd (does_once holds command answer why h stopped)
+
+-- and the status is that of what stops it, or memory is wanting
+pub stopped_refused : {L M : Type 0} (held : Held) (command : Asked) (before after : ℕ) (why : Stop) (status : Status) (refusal : Refusal)
+    → ((status ≡ status_of refusal) × L) ⊎ ((status ≡ statuses.Memory) × M) → HasCause command held before after refusal → IsSomeAnd held (λ holds. IsStopped (Some holds) command why)
+    → (HasRisen before after → ⊥) → (status ≡ stop_status why) ⊎ (status ≡ statuses.Memory)
+stopped_refused None command before after why status refusal told cause stopped never = absurd stopped
+stopped_refused (Some holds) command before after why status refusal (inl h) cause stopped never =
+    ⊎_elim (λ p. inl (h.0 ∙ p)) (λ q. inr (h.0 ∙ q)) (stop_alone holds command before after why refusal stopped never cause)
+stopped_refused (Some holds) command before after why status refusal (inr h) cause stopped never = inr h.0
+
 -- the command of the words is the one that was asked for
 pub complete_asked : (held : Held) (command own : Asked) → command ≡ own → IsSomeAnd held (λ holds. CanAnswer (Some holds) command) → IsSomeAnd held (λ holds. CanAnswer (Some holds) own)
 complete_asked held command own same can = subst (λ c. IsSomeAnd held (λ holds. CanAnswer (Some holds) c)) same can
+
+pub stopped_asked : (held : Held) (command own : Asked) (why : Stop) → command ≡ own → IsSomeAnd held (λ holds. IsStopped (Some holds) command why) → IsSomeAnd held (λ holds. IsStopped (Some holds) own why)
+stopped_asked held command own why same stopped = subst (λ c. IsSomeAnd held (λ holds. IsStopped (Some holds) c why)) same stopped

@@ -1,6 +1,7 @@
 -- What a text does on a data file is one thing, and it is made of what its parts do.
 use Rattle.std.proofs.Common.{◌≡◌, inl, inr, ℕ, List, Result, Ok, Err, IfOk, IfErr, sym, ap, ◌∙◌}
 use Rattle.cx_text.specs.Loading.{PlainRow, PlainMemory}
+use Rattle.cx_data.specs.Dump.{dump_text}
 use Rattle.cx_data.specs.Load.{load_of}
 use Rattle.cx_meaning.specs.Designs.{PlainDesign}
 use Rattle.cx_rules.specs.Externals.{external_rows}
@@ -8,7 +9,7 @@ use Rattle.cx_commands.specs.declared.stops.Stop.{Stop}
 use Rattle.cx_commands.specs.declared.stops.Stop.TheVariants as stops
 use Rattle.cx_driver.specs.Loads.{IsUnloaded}
 use Rattle.cx_driver.specs.Texts.{IsDesignOf, IsTextRefusal}
-use Rattle.cx_driver.specs.Interpreted.{loaded_result, design_result, Interprets, IsInterpAnswer, IsInterpStop, IsDesignAnswer, IsDesignStop, IsRunAnswer, StopsRun}
+use Rattle.cx_driver.specs.Interpreted.{PlainLeft, dumped, loaded_left, design_left, design_result, Interprets, IsInterpAnswer, IsInterpStop, IsDesignAnswer, IsDesignStop, IsDesignLeft, StopsDesign, IsRunLeft, StopsRun}
 use Rattle.cx_driver.proofs.TextLemmas.{one_design, text_of_design, accepted_once, break_once}
 
 -- WHAT A TEXT DOES is one thing
@@ -35,22 +36,30 @@ pub refused_stops : (text json : List ℕ) (budget : ℕ) (stop : Stop) → IsTe
 refused_stops text json budget stop (inl memory) = inl memory
 refused_stops text json budget stop (inr h) = inr (inr (h.0, h.1, ap (λ s. Err s) h.2))
 
--- from a run to its design
-loads_as : (d : PlainDesign) (json : List ℕ) (budget : ℕ) (ms : List PlainMemory) → load_of json (external_rows d) ≡ Ok ms → design_result d json budget ≡ loaded_result d budget (Ok ms)
-loads_as d json budget ms loads = ap (λ r. loaded_result d budget r) loads
+-- from what a design leaves to its dump
+pub left_dumped : (d : PlainDesign) (json : List ℕ) (budget : ℕ) (left : PlainLeft) (dump : List ℕ) → IsDesignLeft d json budget left → dump ≡ dump_text left.turns left.memories → IsDesignAnswer d json budget dump
+left_dumped d json budget left dump h e = ap (λ r. dumped r) h ∙ ap (λ b. Ok b) (sym e)
 
-pub design_answers : {X : Type 0} (bytes : X → List ℕ) (d : PlainDesign) (json : List ℕ) (ms : List PlainMemory) (budget : ℕ) (r : Result X Stop) → load_of json (external_rows d) ≡ Ok ms
-    → IfOk r (λ x. IsRunAnswer d ms budget (bytes x)) → IfOk r (λ x. IsDesignAnswer d json budget (bytes x))
-design_answers bytes d json ms budget (Ok x) loads h = loads_as d json budget ms loads ∙ h
-design_answers bytes d json ms budget (Err stop) loads h = tt
+pub left_stopped : (d : PlainDesign) (json : List ℕ) (budget : ℕ) (stop : Stop) → StopsDesign d json budget stop → IsDesignStop d json budget stop
+left_stopped d json budget stop (inl memory) = inl memory
+left_stopped d json budget stop (inr h) = inr (ap (λ r. dumped r) h)
+
+-- from a run to its design
+loads_as : (d : PlainDesign) (json : List ℕ) (budget : ℕ) (ms : List PlainMemory) → load_of json (external_rows d) ≡ Ok ms → design_left d json budget ≡ loaded_left d budget (Ok ms)
+loads_as d json budget ms loads = ap (λ r. loaded_left d budget r) loads
+
+pub design_leaves : {X : Type 0} (left : X → PlainLeft) (d : PlainDesign) (json : List ℕ) (ms : List PlainMemory) (budget : ℕ) (r : Result X Stop) → load_of json (external_rows d) ≡ Ok ms
+    → IfOk r (λ x. IsRunLeft d ms budget (left x)) → IfOk r (λ x. IsDesignLeft d json budget (left x))
+design_leaves left d json ms budget (Ok x) loads h = loads_as d json budget ms loads ∙ h
+design_leaves left d json ms budget (Err stop) loads h = tt
 
 pub design_stops : {X : Type 0} (d : PlainDesign) (json : List ℕ) (ms : List PlainMemory) (budget : ℕ) (r : Result X Stop) → load_of json (external_rows d) ≡ Ok ms
-    → IfErr r (StopsRun d ms budget) → IfErr r (IsDesignStop d json budget)
+    → IfErr r (StopsRun d ms budget) → IfErr r (StopsDesign d json budget)
 design_stops d json ms budget (Ok x) loads h = tt
 design_stops d json ms budget (Err stop) loads (inl memory) = inl memory
 design_stops d json ms budget (Err stop) loads (inr h) = inr (loads_as d json budget ms loads ∙ h)
 
 -- from a data file that is not loaded to its design
-pub unloaded_stops : (d : PlainDesign) (rows : List PlainRow) (json : List ℕ) (budget : ℕ) (stop : Stop) → rows ≡ external_rows d → IsUnloaded rows json stop → IsDesignStop d json budget stop
+pub unloaded_stops : (d : PlainDesign) (rows : List PlainRow) (json : List ℕ) (budget : ℕ) (stop : Stop) → rows ≡ external_rows d → IsUnloaded rows json stop → StopsDesign d json budget stop
 unloaded_stops d rows json budget stop e (inl memory) = inl memory
-unloaded_stops d rows json budget stop e (inr h) = inr (ap (λ r. loaded_result d budget r) (ap (λ x. load_of json x) (sym e) ∙ h.1) ∙ ap (λ s. Err s) (sym h.2))
+unloaded_stops d rows json budget stop e (inr h) = inr (ap (λ r. loaded_left d budget r) (ap (λ x. load_of json x) (sym e) ∙ h.1) ∙ ap (λ s. Err s) (sym h.2))

@@ -20,3 +20,6 @@ pub mod CauseLemmas
 pub mod CompleteLemmas
 pub mod BelowLemmas
 pub mod PromiseLemmas
+pub mod LeftLemmas
+pub mod TrialMemory
+pub mod TrialLemmas

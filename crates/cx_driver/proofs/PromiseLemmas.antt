@@ -29,10 +29,10 @@ use Rattle.cx_driver.proofs.SimLemmas.{one_source_of}
 use Rattle.cx_realises.proofs.FollowLemmas.{never_loops}
 use Rattle.cx_driver.proofs.BelowLemmas.{cycle_within, main_grows, loaded_fits}
 
-done_turns : (t c : ℕ) (ws us : List (List ℕ)) → DoneAt t ws ≡ DoneAt c us → t ≡ c
+pub done_turns : (t c : ℕ) (ws us : List (List ℕ)) → DoneAt t ws ≡ DoneAt c us → t ≡ c
 done_turns t c ws us e = cc
 
-done_words : (t c : ℕ) (ws us : List (List ℕ)) → DoneAt t ws ≡ DoneAt c us → ws ≡ us
+pub done_words : (t c : ℕ) (ws us : List (List ℕ)) → DoneAt t ws ≡ DoneAt c us → ws ≡ us
 done_words t c ws us e = cc
 
 end_not_more : (s : State) (t : ℕ) → ◌≡◌ {A = Answer State Fault} (answers.End s t) answers.More → ⊥

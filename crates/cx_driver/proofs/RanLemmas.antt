@@ -1,9 +1,8 @@
 -- What a run has come to, as it is told.
-use Rattle.std.proofs.Common.{◌≡◌, ◌⊎◌, inl, inr, ℕ, ◌<◌, List, [], ◌∷◌, map, length, Result, Ok, Err, IfOk, IfErr, refl, sym, ap, ◌∙◌, subst}
+use Rattle.std.proofs.Common.{◌≡◌, ◌⊎◌, inl, inr, ℕ, ◌<◌, List, [], ◌∷◌, map, length, Ok, Err, refl, sym, ap, ap₂, ◌∙◌, subst}
 use Rattle.std.proofs.lemmas.Option.{slice_get_within}
 use Rattle.cx_text.specs.Loading.{PlainMemory, plain_memory, words_loaded, with_words}
 use Rattle.cx_text.specs.declared.loading.LoadedMemory.{LoadedMemory}
-use Rattle.cx_data.specs.Dump.{dump_text}
 use Rattle.cx_meaning.specs.Answers as answers
 use Rattle.cx_meaning.specs.Cycles as cycles
 use Rattle.cx_meaning.specs.Designs.{PlainDesign}
@@ -17,7 +16,7 @@ use Rattle.cx_interp.specs.declared.answers.Answer.TheVariants.{End, Fault, More
 use Rattle.cx_interp.specs.Runs.{Answered}
 use Rattle.cx_commands.specs.declared.stops.Stop.{Stop}
 use Rattle.cx_commands.specs.declared.stops.Stop.TheVariants as stops
-use Rattle.cx_driver.specs.Interpreted.{fault_stop, told_of, IsRunAnswer, StopsRun}
+use Rattle.cx_driver.specs.Interpreted.{PlainLeft, fault_stop, left_of, IsRunLeft, StopsRun}
 
 -- the words of what is loaded are those of its plain memories
 pub words_of_loaded : (ms : List LoadedMemory) → words_in ms ≡ words_loaded (map plain_memory ms)
@@ -49,20 +48,17 @@ unfinished d rows answer x h e =
 pub fault_within : (d : PlainDesign) (fault : cycles.Fault) (told : PortFault) → TellsFault (tree_of d) fault told → told.instance < length (paths_of (tree_of d))
 fault_within d fault told t = slice_get_within (paths_of (tree_of d)) told.instance fault.path t.instance
 
--- a run that ends is answered by its dump
-pub run_answers : {X : Type 0} (bytes : X → List ℕ) (d : PlainDesign) (ms : List PlainMemory) (budget turns : ℕ) (after : State) (r : Result X Stop) → run_main d (words_loaded ms) budget ≡ answers.End after turns
-    → IfOk r (λ x. bytes x ≡ dump_text turns (with_words ms (words_of (tree_of d) after))) → IfOk r (λ x. IsRunAnswer d ms budget (bytes x))
-run_answers bytes d ms budget turns after (Ok x) run h = ap (λ a. told_of d ms budget a) run ∙ ap (λ b. Ok b) (sym h)
-run_answers bytes d ms budget turns after (Err stop) run h = tt
-
-pub memory_stops : {X : Type 0} (d : PlainDesign) (ms : List PlainMemory) (budget : ℕ) (r : Result X Stop) → IfErr r (λ stop. stop ≡ stops.Memory) → IfErr r (StopsRun d ms budget)
-memory_stops d ms budget (Ok x) h = tt
-memory_stops d ms budget (Err stop) h = inl h
+-- a run that ends leaves its turns and words
+pub run_leaves : (d : PlainDesign) (ms : List PlainMemory) (budget turns : ℕ) (after : State) (left : PlainLeft) → run_main d (words_loaded ms) budget ≡ answers.End after turns
+    → left.turns ≡ turns → left.memories ≡ with_words ms (words_of (tree_of d) after) → IsRunLeft d ms budget left
+run_leaves d ms budget turns after left run count words =
+    let leave : ℕ → List PlainMemory → PlainLeft = λ n m. record { turns = n; memories = m } in
+    ap (λ a. left_of d ms budget a) run ∙ ap₂ (λ n m. Ok (leave n m)) (sym count) (sym words)
 
 pub fault_stops : (d : PlainDesign) (ms : List PlainMemory) (budget turn : ℕ) (fault : cycles.Fault) (stop : Stop) → run_main d (words_loaded ms) budget ≡ answers.Fault fault turn
     → (stop ≡ stops.Memory) ⊎ (stop ≡ fault_stop d fault turn) → StopsRun d ms budget stop
 fault_stops d ms budget turn fault stop run (inl memory) = inl memory
-fault_stops d ms budget turn fault stop run (inr told) = inr (ap (λ a. told_of d ms budget a) run ∙ ap (λ s. Err s) (sym told))
+fault_stops d ms budget turn fault stop run (inr told) = inr (ap (λ a. left_of d ms budget a) run ∙ ap (λ s. Err s) (sym told))
 
 pub more_stops : (d : PlainDesign) (ms : List PlainMemory) (budget : ℕ) → run_main d (words_loaded ms) budget ≡ answers.More → StopsRun d ms budget (stops.More budget)
-more_stops d ms budget run = inr (ap (λ a. told_of d ms budget a) run)
+more_stops d ms budget run = inr (ap (λ a. left_of d ms budget a) run)

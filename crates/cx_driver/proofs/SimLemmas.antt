@@ -29,7 +29,8 @@ use Rattle.cx_vsim.specs.declared.answers.SimAnswer.TheVariants.{Done, Loop, Mor
 use Rattle.cx_commands.specs.declared.stops.Stop.{Stop}
 use Rattle.cx_commands.specs.declared.stops.Stop.TheVariants as stops
 use Rattle.cx_driver.specs.Loads.{IsUnloaded}
-use Rattle.cx_driver.specs.Simulated.{IsVerilogOf, told_outcome, RunDoes, LoadedDoes, SourceDoes, Spells, Simulates, IsSimAnswer, IsSimStop, IsSourceStop, StopsRun, IsNoSource, read_stop}
+use Rattle.cx_driver.specs.Interpreted.{PlainLeft}
+use Rattle.cx_driver.specs.Simulated.{IsVerilogOf, told_outcome, RunDoes, LoadedDoes, SourceDoes, Spells, Simulates, RunLeaves, SourceLeaves, TextLeaves, IsSimAnswer, IsSimStop, IsSourceStop, StopsRun, IsNoSource, read_stop}
 use Rattle.cx_driver.proofs.Once.{Told, not_both}
 
 -- A TEXT SPELLS one sound source: what is read of the text of a sound source is that source
@@ -70,23 +71,14 @@ done_is_done (DoneAt t words) cycle e = (t, words, refl)
 done_is_done (LoopAt i k) cycle e = absurd (cc)
 done_is_done NotDone cycle e = absurd (cc)
 
-run_answer : (s : PlainSource) (ms : List PlainMemory) (budget cycle : ℕ) (o : Outcome) (dump : List ℕ) → answer_of o ≡ Done cycle → SimRun s (words_loaded ms) budget o
-    → dump ≡ dump_text cycle (with_words ms (final_words o)) → RunDoes s ms budget (Ok dump)
-run_answer s ms budget cycle (DoneAt t words) dump e run d =
+-- a run that is done leaves its cycle and its words
+pub run_leaves : (s : PlainSource) (ms : List PlainMemory) (budget cycle : ℕ) (o : Outcome) (left : PlainLeft) → answer_of o ≡ Done cycle → SimRun s (words_loaded ms) budget o
+    → left.turns ≡ cycle → left.memories ≡ with_words ms (final_words o) → RunLeaves s ms budget left
+run_leaves s ms budget cycle (DoneAt t words) left e run count leaves =
     let same : t ≡ cycle = cc in
-    (DoneAt t words, run, ap (λ x. Ok x) (d ∙ ap (λ x. dump_text x (with_words ms words)) (sym same)))
-run_answer s ms budget cycle (LoopAt i k) dump e run d = absurd (cc)
-run_answer s ms budget cycle NotDone dump e run d = absurd (cc)
-
--- the dump is the answer of a run that is done
-pub run_answers : {X : Type 0} (bytes : X → List ℕ) (s : PlainSource) (ms : List PlainMemory) (budget cycle : ℕ) (o : Outcome) (r : Result X Stop) → answer_of o ≡ Done cycle → SimRun s (words_loaded ms) budget o
-    → IfOk r (λ x. bytes x ≡ dump_text cycle (with_words ms (final_words o))) → IfOk r (λ x. RunDoes s ms budget (Ok (bytes x)))
-run_answers bytes s ms budget cycle o (Ok x) e run d = run_answer s ms budget cycle o (bytes x) e run d
-run_answers bytes s ms budget cycle o (Err stop) e run d = tt
-
-pub memory_stops : {X : Type 0} (s : PlainSource) (ms : List PlainMemory) (budget : ℕ) (r : Result X Stop) → IfErr r (λ stop. stop ≡ stops.Memory) → IfErr r (StopsRun s ms budget)
-memory_stops s ms budget (Ok x) h = tt
-memory_stops s ms budget (Err stop) h = inl h
+    record { words = words; run = subst (λ n. SimRun s (words_loaded ms) budget (DoneAt n words)) (same ∙ sym count) run; leaves = leaves }
+run_leaves s ms budget cycle (LoopAt i k) left e run count leaves = absurd (cc)
+run_leaves s ms budget cycle NotDone left e run count leaves = absurd (cc)
 
 loop_stop : (s : PlainSource) (ms : List PlainMemory) (budget i k : ℕ) (o : Outcome) (stop : Stop) → answer_of o ≡ Loop i k → SimRun s (words_loaded ms) budget o
     → stop ≡ stops.Loop (path_of (instances_of s) i k) → RunDoes s ms budget (Err stop)
@@ -116,10 +108,10 @@ loads_as : (s : PlainSource) (json : List ℕ) (budget : ℕ) (loaded : Result (
     → SourceDoes s json budget result
 loads_as s json budget loaded result loads h = subst (λ l. LoadedDoes s budget l result) (sym loads) h
 
-pub source_answers : {X : Type 0} (bytes : X → List ℕ) (s : PlainSource) (json : List ℕ) (ms : List PlainMemory) (budget : ℕ) (r : Result X Stop) → load_of json (rows_of s.externals) ≡ Ok ms
-    → IfOk r (λ x. RunDoes s ms budget (Ok (bytes x))) → IfOk r (λ x. SourceDoes s json budget (Ok (bytes x)))
-source_answers bytes s json ms budget (Ok x) loads h = loads_as s json budget (Ok ms) (Ok (bytes x)) loads h
-source_answers bytes s json ms budget (Err stop) loads h = tt
+pub source_leaves : {X : Type 0} (left : X → PlainLeft) (s : PlainSource) (json : List ℕ) (ms : List PlainMemory) (budget : ℕ) (r : Result X Stop) → load_of json (rows_of s.externals) ≡ Ok ms
+    → IfOk r (λ x. RunLeaves s ms budget (left x)) → IfOk r (λ x. SourceLeaves s json budget (left x))
+source_leaves left s json ms budget (Ok x) loads h = record { memories = ms; loads = loads; run = h }
+source_leaves left s json ms budget (Err stop) loads h = tt
 
 pub source_stops : {X : Type 0} (s : PlainSource) (json : List ℕ) (ms : List PlainMemory) (budget : ℕ) (r : Result X Stop) → load_of json (rows_of s.externals) ≡ Ok ms
     → IfErr r (StopsRun s ms budget) → IfErr r (IsSourceStop s json budget)
@@ -133,10 +125,17 @@ unloaded_stops s rows json budget stop e (inl memory) = inl memory
 unloaded_stops s rows json budget stop e (inr h) = inr (loads_as s json budget (Err h.0) (Err stop) (ap (λ x. load_of json x) (sym e) ∙ h.1) (ap (λ x. Err x) h.2))
 
 -- from a source to its text
-pub sim_answers : {X : Type 0} (bytes : X → List ℕ) (text json : List ℕ) (s : PlainSource) (budget : ℕ) (r : Result X Stop) → IsVerilogOf text s
-    → IfOk r (λ x. SourceDoes s json budget (Ok (bytes x))) → IfOk r (λ x. IsSimAnswer text json budget (bytes x))
-sim_answers bytes text json s budget (Ok x) is h = inl (s, is, h)
-sim_answers bytes text json s budget (Err stop) is h = tt
+pub text_leaves : {X : Type 0} (left : X → PlainLeft) (text json : List ℕ) (s : PlainSource) (budget : ℕ) (r : Result X Stop) → IsVerilogOf text s
+    → IfOk r (λ x. SourceLeaves s json budget (left x)) → IfOk r (λ x. TextLeaves text json budget (left x))
+text_leaves left text json s budget (Ok x) is h = record { source = s; spelled = is; leaves = h }
+text_leaves left text json s budget (Err stop) is h = tt
+
+-- what a text leaves is told as its dump
+pub left_answers : (text json : List ℕ) (budget : ℕ) (left : PlainLeft) (dump : List ℕ) → TextLeaves text json budget left → dump ≡ dump_text left.turns left.memories → IsSimAnswer text json budget dump
+left_answers text json budget left dump h e =
+    let run = h.leaves.run in
+    let does : RunDoes h.source h.leaves.memories budget (Ok dump) = (DoneAt left.turns run.words, run.run, ap (λ x. Ok x) (e ∙ ap (λ ms. dump_text left.turns ms) run.leaves)) in
+    inl (h.source, h.spelled, loads_as h.source json budget (Ok h.leaves.memories) (Ok dump) h.leaves.loads does)
 
 pub sim_stops : {X : Type 0} (text json : List ℕ) (s : PlainSource) (budget : ℕ) (r : Result X Stop) → IsVerilogOf text s
     → IfErr r (IsSourceStop s json budget) → IfErr r (IsSimStop text json budget)

@@ -14,6 +14,8 @@ use Rattle.cx_rules.specs.Accepted.{IsAccepted}
 use Rattle.cx_rules.specs.Sizes.{size_of, design_size}
 use Rattle.cx_rules.specs.Wellformed.{IsDesign}
 use Rattle.cx_numbering.specs.DesignOf.{plain_cell_of, component_of, design_of}
+use Rattle.cx_names.specs.Targets.{HasTargets}
+use Rattle.cx_check.specs.Acceptance.{IsAcceptedTree}
 use Rattle.cx_names.proofs.Base.{in_at, in_map, some_at}
 use Rattle.cx_names.proofs.There.{component_is}
 use Rattle.cx_vtree.specs.Layout.{is_word}
@@ -49,12 +51,13 @@ use Rattle.cx_driver.specs.Texts.{IsDesignOf}
 use Rattle.cx_driver.specs.Compiled.{written_source}
 use Rattle.cx_driver.proofs.DriverTargets.{targets_there}
 use Rattle.cx_driver.proofs.TextGuards.{guards_hold}
-use Rattle.cx_driver.proofs.TextLayers.{text_rules}
+use Rattle.cx_driver.proofs.TextLayers.{text_rules, tree_rules}
+use Rattle.cx_driver.proofs.TextLemmas.{text_targets}
 use Rattle.cx_driver.proofs.TextWords.{cells_named}
 
 -- FROM THE TEXT: no part of a guard is Always, and external memories have words for names
-design_parts : (text : List ℕ) (d : PlainDesign) → IsDesignOf text d → (k : ℕ) → k < length d.components → PartsHold (component_at d k)
-design_parts text d h = subst (λ (e : PlainDesign). (k : ℕ) → k < length e.components → PartsHold (component_at e k)) (sym h.3) (guards_hold h.0)
+design_parts : (tree : PlainTree) (d : PlainDesign) → d ≡ design_of tree → (k : ℕ) → k < length d.components → PartsHold (component_at d k)
+design_parts tree d same = subst (λ (e : PlainDesign). (k : ℕ) → k < length e.components → PartsHold (component_at e k)) (sym same) (guards_hold tree)
 
 cells_words : (text : List ℕ) (tree : PlainTree) → HasTree text tree → (k : ℕ) → k < length (design_of tree).components → (cell : PlainCell) → In (component_at (design_of tree) k).cells cell → is_word cell.name ≡ true
 cells_words text tree has k within cell i =
@@ -67,12 +70,9 @@ cells_words text tree has k within cell i =
 design_words : (text : List ℕ) (d : PlainDesign) → IsDesignOf text d → (k : ℕ) → k < length d.components → (cell : PlainCell) → In (component_at d k).cells cell → is_word cell.name ≡ true
 design_words text d h = subst (λ (e : PlainDesign). (k : ℕ) → k < length e.components → (cell : PlainCell) → In (component_at e k).cells cell → is_word cell.name ≡ true) (sym h.3) (cells_words text h.0 h.1)
 
-can_be_written : (text : List ℕ) (d : PlainDesign) → IsDesignOf text d → IsDesign d → design_size d ≤ COMPILE_SIZE → CanBeWritten d
-can_be_written text d h rules within = record {
-  small = (let few : design_size d ≤ 16384 = within in few);
-  parts = design_parts text d h;
-  words = λ cell i external. design_words text d h d.main rules.main_there cell i;
-}
+-- the names of the external memories of a design are words
+abbrev pub HasWords : PlainDesign → Type 0
+HasWords d = (cell : PlainCell) → In (component_at d d.main).cells cell → cell.external ≡ true → is_word cell.name ≡ true
 
 -- THE TREE of the net without holes: the components of the design as they are wired, with wires in place of holes
 abbrev no_numbers : Instance → NetState → ℕ → ℕ
@@ -129,6 +129,14 @@ module _ (d : PlainDesign) (rules : IsDesign d) (accepted : IsAccepted d) (can :
       source_is_sound (inlined net) (inlined_fits net names (net_fits d rules accepted)) (inlined_no_holes net)
       (inlined_writable net names few_wires few_nets (net_writable d rules accepted can))
 
--- THE SOURCE that is written for an accepted text within the size is sound
+-- THE SOURCE that is written for an accepted tree within the size, whose external memories have words for names, is sound
+pub tree_sound : (tree : PlainTree) (d : PlainDesign) → HasTargets tree → IsAcceptedTree tree → d ≡ design_of tree → HasWords d → design_size d ≤ COMPILE_SIZE → is_sound (written_source d) ≡ true
+tree_sound tree d targets accepted same words within =
+    let rules = tree_rules tree d targets accepted same within in
+    let small : design_size d ≤ 16384 = within in
+    net_sound d rules.0 rules.1 (record { small = small; parts = design_parts tree d same; words = words })
+
+-- and so is that for an accepted text
 pub written_sound : (text : List ℕ) (d : PlainDesign) → IsDesignOf text d → design_size d ≤ COMPILE_SIZE → is_sound (written_source d) ≡ true
-written_sound text d h within = let rules = text_rules text d h within in net_sound d rules.0 rules.1 (can_be_written text d h rules.0 within)
+written_sound text d h within =
+    tree_sound h.0 d (text_targets text h.0 h.1) h.2 h.3 (λ cell i external. design_words text d h d.main (text_rules text d h within).0.main_there cell i) within

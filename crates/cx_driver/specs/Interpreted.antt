@@ -20,24 +20,42 @@ use Rattle.cx_commands.specs.declared.stops.Stop.TheVariants as stops
 abbrev pub fault_stop : PlainDesign → Fault → ℕ → Stop
 fault_stop d fault turn = stops.Fault fault.kind (full_path (tree_of d) fault.path fault.port) turn
 
--- what a run within this budget is told as: the dump of its turns and of the words in which it leaves the memories; its
--- fault; or that it needs more turns
+-- what a run leaves: its turns, and the words of the external memories
+pub record PlainLeft : Type 0 where
+  pub turns : ℕ
+  pub memories : List PlainMemory
+
+-- what a run within this budget comes to: what it leaves; its fault; or that it needs more turns
+abbrev pub left_of : PlainDesign → List PlainMemory → ℕ → answers.Answer State Fault → Result PlainLeft Stop
+left_of d memories budget (answers.End after turns) = Ok (record { turns = turns; memories = with_words memories (words_of (tree_of d) after) })
+left_of d memories budget (answers.Fault fault turn) = Err (fault_stop d fault turn)
+left_of d memories budget answers.More = Err (stops.More budget)
+
+-- which is told as the dump of what is left
+abbrev pub dumped : Result PlainLeft Stop → Result (List ℕ) Stop
+dumped (Ok left) = Ok (dump_text left.turns left.memories)
+dumped (Err stop) = Err stop
+
 abbrev pub told_of : PlainDesign → List PlainMemory → ℕ → answers.Answer State Fault → Result (List ℕ) Stop
-told_of d memories budget (answers.End after turns) = Ok (dump_text turns (with_words memories (words_of (tree_of d) after)))
-told_of d memories budget (answers.Fault fault turn) = Err (fault_stop d fault turn)
-told_of d memories budget answers.More = Err (stops.More budget)
+told_of d memories budget answer = dumped (left_of d memories budget answer)
 
 -- THE RUN OF MAIN with these memories loaded
-abbrev pub run_result : PlainDesign → List PlainMemory → ℕ → Result (List ℕ) Stop
-run_result d memories budget = told_of d memories budget (run_main d (words_loaded memories) budget)
+abbrev pub run_left : PlainDesign → List PlainMemory → ℕ → Result PlainLeft Stop
+run_left d memories budget = left_of d memories budget (run_main d (words_loaded memories) budget)
+
+abbrev pub loaded_left : PlainDesign → ℕ → Result (List PlainMemory) DataFault → Result PlainLeft Stop
+loaded_left d budget (Ok memories) = run_left d memories budget
+loaded_left d budget (Err fault) = Err (stops.Json fault)
 
 abbrev pub loaded_result : PlainDesign → ℕ → Result (List PlainMemory) DataFault → Result (List ℕ) Stop
-loaded_result d budget (Ok memories) = run_result d memories budget
-loaded_result d budget (Err fault) = Err (stops.Json fault)
+loaded_result d budget loaded = dumped (loaded_left d budget loaded)
 
 -- WHAT A DESIGN DOES ON A DATA FILE: its run with the words of the file, or the first fault of the file
+abbrev pub design_left : PlainDesign → List ℕ → ℕ → Result PlainLeft Stop
+design_left d json budget = loaded_left d budget (load_of json (external_rows d))
+
 abbrev pub design_result : PlainDesign → List ℕ → ℕ → Result (List ℕ) Stop
-design_result d json budget = loaded_result d budget (load_of json (external_rows d))
+design_result d json budget = dumped (design_left d json budget)
 
 -- WHAT A TEXT DOES ON A DATA FILE: it is accepted, and its design does this; or it breaks a rule, and that is told
 abbrev pub Interprets : List ℕ → List ℕ → ℕ → Result (List ℕ) Stop → Type 0
@@ -64,9 +82,16 @@ IsDesignAnswer d json budget answer = design_result d json budget ≡ Ok answer
 abbrev pub IsDesignStop : PlainDesign → List ℕ → ℕ → Stop → Type 0
 IsDesignStop d json budget stop = (stop ≡ stops.Memory) ⊎ (design_result d json budget ≡ Err stop)
 
+-- what a design leaves, or why it does not
+abbrev pub IsDesignLeft : PlainDesign → List ℕ → ℕ → PlainLeft → Type 0
+IsDesignLeft d json budget left = design_left d json budget ≡ Ok left
+
+abbrev pub StopsDesign : PlainDesign → List ℕ → ℕ → Stop → Type 0
+StopsDesign d json budget stop = (stop ≡ stops.Memory) ⊎ (design_left d json budget ≡ Err stop)
+
 -- the same of a run
-abbrev pub IsRunAnswer : PlainDesign → List PlainMemory → ℕ → List ℕ → Type 0
-IsRunAnswer d memories budget answer = run_result d memories budget ≡ Ok answer
+abbrev pub IsRunLeft : PlainDesign → List PlainMemory → ℕ → PlainLeft → Type 0
+IsRunLeft d memories budget left = run_left d memories budget ≡ Ok left
 
 abbrev pub StopsRun : PlainDesign → List PlainMemory → ℕ → Stop → Type 0
-StopsRun d memories budget stop = (stop ≡ stops.Memory) ⊎ (run_result d memories budget ≡ Err stop)
+StopsRun d memories budget stop = (stop ≡ stops.Memory) ⊎ (run_left d memories budget ≡ Err stop)

@@ -1,8 +1,10 @@
 pub mod Texts
 pub mod Loads
 pub mod Interpreted
+pub mod Leaving
 pub mod Simulated
 pub mod Compiled
+pub mod Tried
 pub mod Laws
 pub mod Outcomes
 pub mod Causes

@@ -2,12 +2,13 @@
 use Rattle.std.specs.Prelude.{◌≡◌, ◌⊎◌, ℕ, List, Option, Result, Ok, Err, codes}
 use Rattle.cx_text.specs.declared.diagnostics.Diagnostic.{Diagnostic}
 use Rattle.cx_text.specs.declared.limits.TheConstants.{DESIGN_BYTES, DATA_BYTES, VERILOG_BYTES}
-use Rattle.cx_commands.specs.Commands.{Asked, compile, interp, check, sim, Asks}
+use Rattle.cx_commands.specs.Commands.{Asked, compile, interp, check, sim, trial, Asks}
 use Rattle.cx_commands.specs.Reads.{OfFile}
 use Rattle.cx_driver.specs.Texts.{IsAcceptedText, TextBreak}
-use Rattle.cx_driver.specs.Compiled.{Compiles}
+use Rattle.cx_driver.specs.Compiled.{IsCompilable, Compiles}
 use Rattle.cx_driver.specs.Interpreted.{Interprets}
 use Rattle.cx_driver.specs.Simulated.{Simulates}
+use Rattle.cx_driver.specs.Tried.{Tries}
 use Rattle.cx_commands.specs.declared.stops.Stop.{Stop}
 use Rattle.cx_commands.specs.declared.stops.Stop.TheVariants as stops
 
@@ -25,6 +26,7 @@ Does held (interp design json budget) result =
 Does held (check design) result = OfFile held DESIGN_BYTES design (λ text. Checks text result)
 Does held (sim verilog json budget) result =
     OfFile held VERILOG_BYTES verilog (λ text. OfFile held DATA_BYTES json (λ bytes. Simulates text bytes budget result))
+Does held (trial seed) result = Tries seed result
 
 -- what it writes
 abbrev pub IsAnswer : Option (List ℕ → Option (List ℕ)) → Asked → List ℕ → Type 0
@@ -35,9 +37,21 @@ abbrev pub IsAnswerTo : Option (List ℕ → Option (List ℕ)) → List (List �
 IsAnswerTo held words answer = (command : Asked) × Asks words command × IsAnswer held command answer
 
 -- there is an answer to what the files hold
+abbrev pub HasAnswer : Option (List ℕ → Option (List ℕ)) → Asked → Type 0
+HasAnswer held command = (answer : List ℕ) × IsAnswer held command answer
+
+-- what the files hold can be answered: of compile, the text is accepted and its design is within the size
 abbrev pub CanAnswer : Option (List ℕ → Option (List ℕ)) → Asked → Type 0
-CanAnswer held command = (answer : List ℕ) × IsAnswer held command answer
+CanAnswer held (compile design) = OfFile held DESIGN_BYTES design IsCompilable
+CanAnswer held (interp design json budget) = HasAnswer held (interp design json budget)
+CanAnswer held (check design) = HasAnswer held (check design)
+CanAnswer held (sim verilog json budget) = HasAnswer held (sim verilog json budget)
+CanAnswer held (trial seed) = HasAnswer held (trial seed)
+
+-- what the files hold stops the command
+abbrev pub IsStopped : Option (List ℕ → Option (List ℕ)) → Asked → Stop → Type 0
+IsStopped held command stop = Does held command (Err stop)
 
 -- why it stops, unless memory is wanting
 abbrev pub StopsCommand : Asked → Option (List ℕ → Option (List ℕ)) → Stop → Type 0
-StopsCommand command held stop = (stop ≡ stops.Memory) ⊎ Does held command (Err stop)
+StopsCommand command held stop = (stop ≡ stops.Memory) ⊎ IsStopped held command stop

@@ -16,6 +16,7 @@ use Rattle.cx_vread.specs.Held.{is_held}
 use Rattle.cx_vread.specs.ReadAnswers.{Answers}
 use Rattle.cx_vread.specs.declared.refusals.ReadRefusal.{ReadRefusal}
 use Rattle.cx_vread.specs.declared.refusals.ReadRefusal.TheVariants as unread
+use Rattle.cx_driver.specs.Interpreted.{PlainLeft}
 use Rattle.cx_commands.specs.declared.stops.Stop.{Stop}
 use Rattle.cx_commands.specs.declared.stops.Stop.TheVariants as stops
 
@@ -59,6 +60,24 @@ abbrev pub Simulates : List ℕ → List ℕ → ℕ → Result (List ℕ) Stop 
 Simulates verilog json budget result =
     Spells verilog json budget result
     ⊎ ((refused : ReadRefusal) × IsVerilogRefusal verilog refused × (result ≡ Err (stops.Verilog refused)))
+
+-- WHAT A RUN LEAVES in the first cycle in which `done` is 1, with these memories loaded
+pub record RunLeaves (source : PlainSource) (memories : List PlainMemory) (budget : ℕ) (left : PlainLeft) : Type 0 where
+  pub words : List (List ℕ)
+  pub run : SimRun source (words_loaded memories) budget (DoneAt left.turns words)
+  pub leaves : left.memories ≡ with_words memories words
+
+-- what a source leaves on a data file
+pub record SourceLeaves (source : PlainSource) (json : List ℕ) (budget : ℕ) (left : PlainLeft) : Type 0 where
+  pub memories : List PlainMemory
+  pub loads : load_of json (rows_of source.externals) ≡ Ok memories
+  pub run : RunLeaves source memories budget left
+
+-- and the sound source that a text spells
+pub record TextLeaves (verilog json : List ℕ) (budget : ℕ) (left : PlainLeft) : Type 0 where
+  pub source : PlainSource
+  pub spelled : IsVerilogOf verilog source
+  pub leaves : SourceLeaves source json budget left
 
 -- what is written of a text
 abbrev pub IsSimAnswer : List ℕ → List ℕ → ℕ → List ℕ → Type 0

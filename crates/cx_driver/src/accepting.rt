@@ -44,7 +44,7 @@ pub(crate) fn accepted_design(alloc: Global, text: &[u8]) -> Result<Checked, Sto
 }
 
 /// The design of a tree that breaks no rule.
-fn tried(alloc: Global, tree: &Tree) -> Result<Checked, Stop>
+pub(crate) fn tried(alloc: Global, tree: &Tree) -> Result<Checked, Stop>
     requires targets { HasTargets (plain_tree tree.now) }
     ensures accepted { IfOk result (λ checked. IsAcceptedTree (plain_tree tree.now)) }
     ensures value { IfOk result (λ checked. plain_design checked ≡ design_of (plain_tree tree.now)) }

@@ -52,7 +52,7 @@ pub fn compile(alloc: Global, text: &[u8]) -> Result<Vec<u8>, Stop>
 }
 
 /// The Verilog text of a design, where its size is within the limit.
-fn compile_design(alloc: Global, design: &Checked) -> Result<Vec<u8>, Stop>
+pub(crate) fn compile_design(alloc: Global, design: &Checked) -> Result<Vec<u8>, Stop>
     requires sound { IsSoundWithin (plain_design design.now) }
     ensures answer { IfOk result (λ verilog. IsDesignWritten (plain_design design.now) verilog.items) }
     ensures cause { IfErr result (IsDesignTooLarge (plain_design design.now)) }

@@ -10,6 +10,7 @@ mod memories;
 mod running;
 mod simulating;
 mod sizes;
+mod trying;
 
 pub use accepting::check_text;
 pub use compiling::compile;
@@ -17,3 +18,4 @@ pub use cx_commands::{Status, Stop};
 pub use interpreting::interp;
 pub use running::run;
 pub use simulating::sim;
+pub use trying::trial;

@@ -1,16 +1,18 @@
 //! The top call.
 
-ghost use Rattle.std.specs.Prelude.{◌≡◌, ◌≢◌, ◌⊎◌, ◌↔◌, ◌≤◌, ℕ, List, [], ◌∷◌, Some, Contains, codes, length, IfOk, IfErr, IsSomeAnd};
+ghost use Rattle.std.specs.Prelude.{◌≡◌, ◌≢◌, ◌⊎◌, ◌↔◌, ◌≤◌, ℕ, List, Option, [], ◌∷◌, Some, Contains, codes, length, IfOk, IfErr, IsSomeAnd};
 ghost use Rattle.cx_outside.specs.Counts.{HasRisen};
 ghost use Rattle.cx_outside.specs.Writing.{grown, GrowsByPart};
 ghost use Rattle.cx_commands.specs.Commands.{Asked, Asks, AsksNothing, IsFileOf, files_of};
 ghost use Rattle.cx_commands.specs.Asked.{asked_of};
 ghost use Rattle.cx_commands.specs.Commands as asked;
 ghost use Rattle.cx_commands.specs.Messages.{line_of};
-ghost use Rattle.cx_driver.specs.Outcomes.{CanAnswer, IsAnswer, IsAnswerTo};
+ghost use Rattle.cx_driver.specs.Outcomes.{CanAnswer, IsAnswer, IsAnswerTo, IsStopped};
 ghost use Rattle.cx_driver.specs.Promise.{KeepsOfFile};
 ghost use Rattle.cx_commands.specs.Reads.{HoldsWithin, IsReadFault};
+ghost use Rattle.cx_commands.specs.declared.refusals.Refusal.TheVariants as refusals;
 ghost use Rattle.cx_commands.specs.declared.refusals.Status.TheVariants as statuses;
+ghost use Rattle.cx_commands.specs.declared.stops.Stop.{Stop as StopValue};
 ghost use Rattle.cx_driver.specs.Causes.{HasCause, IsMemory, IsOfFile, ToldWhy};
 ghost use Rattle.cx_commands.specs.Statuses.{IsRefusing, ReceivesLine, fixed_line, status_of};
 
@@ -18,6 +20,7 @@ use crate::accepting::check_text;
 use crate::compiling::compile;
 use crate::interpreting::interp;
 use crate::simulating::sim;
+use crate::trying::trial;
 use cx_commands::{Command, Refusal, Status, Stop, command_of, line};
 use cx_outside::{FileAnswer, Files, Sink, Word, write_all};
 use cx_text::{DATA_BYTES, DESIGN_BYTES, VERILOG_BYTES};
@@ -57,6 +60,10 @@ pub fn run<F: Files, O: Sink, E: Sink>(
     // Where the files are told and give an answer, and no read failed, it is written, but for a failing output and want of memory.
     ensures completes { (command : Asked) → Asks words.now command → IsSomeAnd (F.held files.old) (λ holds. CanAnswer (Some holds) command)
         → (HasRisen (F.faults files.old) (F.faults files.new) → ⊥) → (result ≡ statuses.Done) ⊎ (result ≡ statuses.WriteFault) ⊎ (result ≡ statuses.Memory) }
+
+    // Where the files are told and stop the command, and no read failed, the status is that of what stops it, but for want of memory.
+    ensures all_stops { (command : Asked) (why : StopValue) → Asks words.now command → IsSomeAnd (F.held files.old) (λ holds. IsStopped (Some holds) command why)
+        → (HasRisen (F.faults files.old) (F.faults files.new) → ⊥) → (result ≡ status_of (refusals.Stop why)) ⊎ (result ≡ statuses.Memory) }
 {
     match command_of(words) {
         Some(command) => obey(alloc, command, files, out, err),
@@ -95,6 +102,8 @@ fn obey<F: Files, O: Sink, E: Sink>(
 
     ensures completes { IsSomeAnd (F.held files.old) (λ holds. CanAnswer (Some holds) (asked_of command.entry))
         → (HasRisen (F.faults files.old) (F.faults files.new) → ⊥) → (result ≡ statuses.Done) ⊎ (result ≡ statuses.WriteFault) ⊎ (result ≡ statuses.Memory) }
+    ensures all_stops { (why : StopValue) → IsSomeAnd (F.held files.old) (λ holds. IsStopped (Some holds) (asked_of command.entry) why)
+        → (HasRisen (F.faults files.old) (F.faults files.new) → ⊥) → (result ≡ status_of (refusals.Stop why)) ⊎ (result ≡ statuses.Memory) }
 {
     match answer(alloc, command, files) {
         Ok(text) => deliver(&text, out, err),
@@ -164,6 +173,7 @@ fn answer<'a, F: Files>(
             json,
             budget,
         } => simulated(alloc, verilog, json, budget, files),
+        Command::Trial { seed } => tried(alloc, seed),
     }
 }
 
@@ -217,6 +227,17 @@ fn simulated<'a, F: Files>(
     let data = read(alloc, files, json, DATA_BYTES)?;
     match sim(alloc, &text, &data, budget) {
         Ok(dump) => Ok(dump),
+        Err(why) => Err(Refusal::Stop(why)),
+    }
+}
+
+/// The answer of a trial, which reads no file.
+fn tried<'a>(alloc: Global, seed: u64) -> Result<Vec<u8>, Refusal<'a>>
+    ensures answer { (held : Option (List ℕ → Option (List ℕ))) → IfOk result (λ line. IsAnswer held (asked.trial seed) line.items) }
+    ensures cause { (held : Option (List ℕ → Option (List ℕ))) (before after : ℕ) → IfErr result (HasCause (asked.trial seed) held before after) }
+{
+    match trial(alloc, seed) {
+        Ok(line) => Ok(line),
         Err(why) => Err(Refusal::Stop(why)),
     }
 }

@@ -2,17 +2,18 @@
 
 ghost use Rattle.std.specs.Prelude.{◌≡◌, ◌<◌, ◌⊎◌, ℕ, List, Ok, Err, IfOk, IfErr, MatchResult, length};
 ghost use Rattle.cx_text.specs.Loading.{FitsRows, plain_loaded, with_words, words_loaded};
-ghost use Rattle.cx_data.specs.Dump.{dump_text};
 ghost use Rattle.cx_vtree.specs.InstanceTree.{instances_of, nets_at};
 ghost use Rattle.cx_vtree.specs.PlainParts.{rows_of};
 ghost use Rattle.cx_vtree.specs.PlainSources.{plain_source};
 ghost use Rattle.cx_vtree.specs.SimRun.{SimRun};
 ghost use Rattle.cx_velab.specs.Paths.{path_of};
 ghost use Rattle.cx_vsim.specs.Answers.{IsDone, final_words};
-ghost use Rattle.cx_driver.specs.Simulated.{IsNoSource, IsSimAnswer, IsSimStop, IsSourceStop, IsVerilogOf, RunDoes, SourceDoes, Spells, StopsRun, read_stop};
+ghost use Rattle.cx_driver.specs.Leaving.{CanDump, plain_left};
+ghost use Rattle.cx_driver.specs.Simulated.{IsNoSource, IsSimAnswer, IsSimStop, IsSourceStop, IsVerilogOf, RunLeaves, SourceLeaves, Spells, StopsRun, TextLeaves, read_stop};
 ghost use Rattle.cx_commands.specs.declared.stops.Stop.{Stop as StopValue};
 ghost use Rattle.cx_commands.specs.declared.stops.Stop.TheVariants as stops;
 
+use crate::interpreting::Left;
 use crate::memories::{dump_of, load};
 use cx_commands::Stop;
 use cx_text::Loaded;
@@ -35,6 +36,26 @@ pub fn sim(alloc: Global, verilog: &[u8], json: &[u8], cycles: u64) -> Result<Ve
     // What stops a sound source that the text spells is told, unless memory is wanting.
     ensures all_stops { (why : StopValue) → Spells verilog.now json.now cycles (Err why)
         → MatchResult result (λ _. ⊥) (λ stop. (stop ≡ stops.Memory) ⊎ (stop ≡ why)) }
+{
+    match simulate(alloc, verilog, json, cycles) {
+        Ok(left) => {
+            let dump = dump_of(alloc, left.turns, &left.loaded)?;
+            Ok(dump)
+        }
+        Err(stop) => Err(stop),
+    }
+}
+
+/// Runs a Verilog text on a data file.
+pub(crate) fn simulate(
+    alloc: Global,
+    verilog: &[u8],
+    json: &[u8],
+    cycles: u64,
+) -> Result<Left, Stop>
+    ensures answer { IfOk result (λ left. TextLeaves verilog.now json.now cycles (plain_left left)) }
+    ensures ready { IfOk result CanDump }
+    ensures cause { IfErr result (IsSimStop verilog.now json.now cycles) }
 {
     match source_of(alloc, verilog) {
         Ok(source) => run_source(alloc, &source, json, cycles),
@@ -70,8 +91,9 @@ fn of_read(refusal: ReadRefusal) -> Stop
 }
 
 /// Runs a source on a data file.
-fn run_source(alloc: Global, source: &Source, json: &[u8], cycles: u64) -> Result<Vec<u8>, Stop>
-    ensures answer { IfOk result (λ dump. SourceDoes (plain_source source.now) json.now cycles (Ok dump.items)) }
+fn run_source(alloc: Global, source: &Source, json: &[u8], cycles: u64) -> Result<Left, Stop>
+    ensures answer { IfOk result (λ left. SourceLeaves (plain_source source.now) json.now cycles (plain_left left)) }
+    ensures ready { IfOk result CanDump }
     ensures cause { IfErr result (IsSourceStop (plain_source source.now) json.now cycles) }
 {
     source_is_sound(source);
@@ -83,9 +105,10 @@ fn run_source(alloc: Global, source: &Source, json: &[u8], cycles: u64) -> Resul
 }
 
 /// Runs a source with these words loaded.
-fn run_loaded(alloc: Global, source: &Source, loaded: Loaded, cycles: u64) -> Result<Vec<u8>, Stop>
+fn run_loaded(alloc: Global, source: &Source, loaded: Loaded, cycles: u64) -> Result<Left, Stop>
     requires fits { FitsRows (rows_of (plain_source source.now).externals) (plain_loaded loaded) }
-    ensures answer { IfOk result (λ dump. RunDoes (plain_source source.now) (plain_loaded loaded) cycles (Ok dump.items)) }
+    ensures answer { IfOk result (λ left. RunLeaves (plain_source source.now) (plain_loaded loaded) cycles (plain_left left)) }
+    ensures ready { IfOk result CanDump }
     ensures cause { IfErr result (StopsRun (plain_source source.now) (plain_loaded loaded) cycles) }
 {
     let mut sim = Sim::new(alloc, source)?;
@@ -101,38 +124,36 @@ fn end(
     ran: &SimRan<'_>,
     loaded: Loaded,
     cycles: u64,
-) -> Result<Vec<u8>, Stop>
+) -> Result<Left, Stop>
     requires source { ran.now.source ≡ source.now }
     requires run { SimRun (plain_source source.now) (words_loaded (plain_loaded loaded)) cycles ran.now.outcome }
     requires fits { FitsRows (rows_of (plain_source source.now).externals) (plain_loaded loaded) }
-    ensures answer { IfOk result (λ dump. RunDoes (plain_source source.now) (plain_loaded loaded) cycles (Ok dump.items)) }
+    ensures answer { IfOk result (λ left. RunLeaves (plain_source source.now) (plain_loaded loaded) cycles (plain_left left)) }
+    ensures ready { IfOk result CanDump }
     ensures cause { IfErr result (StopsRun (plain_source source.now) (plain_loaded loaded) cycles) }
 {
     match ran.answer() {
-        SimAnswer::Done(cycle) => finished(alloc, source, ran, loaded, cycle),
+        SimAnswer::Done(cycle) => Ok(finished(source, ran, loaded, cycle)),
         SimAnswer::Loop { instance, net } => Err(looped(alloc, source, instance, net)),
         SimAnswer::More => Err(Stop::More(cycles)),
     }
 }
 
-/// The dump of the last cycle of a run.
-fn finished(
-    alloc: Global,
-    source: &Source,
-    ran: &SimRan<'_>,
-    mut loaded: Loaded,
-    cycle: u64,
-) -> Result<Vec<u8>, Stop>
+/// What a run leaves in its last cycle.
+fn finished(source: &Source, ran: &SimRan<'_>, mut loaded: Loaded, cycle: u64) -> Left
     requires source { ran.now.source ≡ source.now }
     requires done { IsDone ran.now.outcome }
     requires fits { FitsRows (rows_of (plain_source source.now).externals) (plain_loaded loaded) }
-    ensures answer { IfOk result (λ dump. dump.items ≡ dump_text cycle (with_words (plain_loaded loaded) (final_words ran.now.outcome))) }
-    ensures cause { IfErr result (λ stop. stop ≡ stops.Memory) }
+    ensures count { result.turns ≡ cycle }
+    ensures words { plain_loaded result.loaded ≡ with_words (plain_loaded loaded) (final_words ran.now.outcome) }
+    ensures ready { CanDump result }
 {
     source_is_sound(source);
     ran.memories(&mut loaded);
-    let dump = dump_of(alloc, cycle, &loaded)?;
-    Ok(dump)
+    Left {
+        turns: cycle,
+        loaded,
+    }
 }
 
 /// The path of a net without a value.

@@ -1,6 +1,6 @@
 -- THE DESIGN OF A TRIAL: 16 arms of 8 steps, which add to registers; their sums are stored.
 use Rattle.std.specs.Prelude.{ℕ, List, [], ◌∷◌, ◌++◌, Some, None, codes}
-use Rattle.cx_ast.specs.PlainTree.{PlainCell, PlainTree, PlainWire}
+use Rattle.cx_ast.specs.PlainTree.{PlainCell, PlainComponent, PlainTree, PlainWire}
 use Rattle.cx_trial.specs.TrialParts.{place, up_to, indexed, cell, memory_cell, sum_group, step_group, store_group}
 use Rattle.cx_trial.specs.TrialControl.{whole_control}
 
@@ -22,19 +22,19 @@ arm_groups seed arm = step_groups seed arm ++ sum_group (indexed (codes "h") arm
 abbrev pub all_groups : ℕ → List PlainWire
 all_groups seed = up_to (arm_groups seed) 16
 
-abbrev pub trial_tree : ℕ → PlainTree
-trial_tree seed = record {
-  imports = [];
-  components = record {
-    attributes = [];
-    length = None;
-    name = codes "main";
-    marks = [];
-    inputs = [];
-    outputs = [];
-    cells = all_cells;
-    wires = all_groups seed;
-    control = Some (whole_control seed);
-    place = place;
-  } ∷ [];
+abbrev pub trial_part : ℕ → PlainComponent
+trial_part seed = record {
+  attributes = [];
+  length = None;
+  name = codes "main";
+  marks = [];
+  inputs = [];
+  outputs = [];
+  cells = all_cells;
+  wires = all_groups seed;
+  control = Some (whole_control seed);
+  place = place;
 }
+
+abbrev pub trial_tree : ℕ → PlainTree
+trial_tree seed = record { imports = []; components = trial_part seed ∷ [] }

@@ -1,6 +1,5 @@
-use Rattle.std.proofs.Common.{sym, ap, ◌∙◌, subst}
+use Rattle.std.proofs.Common.{refl, sym, subst}
 use Rattle.cx_text.specs.Loading.{FitsRows, plain_loaded}
-use Rattle.cx_data.specs.Dump.{dump_text}
 use Rattle.cx_rules.specs.Externals.{external_rows}
 use Rattle.cx_design.specs.declared.designs.Design.{Design}
 use Rattle.cx_design.specs.PlainDesigns.{plain_design}
@@ -15,16 +14,14 @@ memories-requires c =
       fits = subst Fit (sym c.requires.run.2.design) c.requires.fits;
     }
 
-pub dump_of-requires : goal.dump_of-requires
-dump_of-requires c =
+pub returns : goal.returns
+returns c =
     let d = c.args.ran.now.design.now in
     record {
-      fits = c.memories.ensures.fits.whole;
-      widths = widths_fit (external_rows (plain_design d)) (plain_loaded c.memories.new.into) (rows_have_width (plain_design d) d.keeps) c.memories.ensures.fits;
+      count = refl;
+      words = λ words budget after run is. c.memories.ensures.words c.args.design.now words budget c.args.turns after run is;
+      ready = record {
+        fits = c.memories.ensures.fits.whole;
+        widths = widths_fit (external_rows (plain_design d)) (plain_loaded c.memories.new.into) (rows_have_width (plain_design d) d.keeps) c.memories.ensures.fits;
+      };
     }
-
-pub returns : goal.returns
-returns c = record {
-  answer = λ words budget after run is. c.in_ok-dump.ensures ∙ ap (λ ms. dump_text c.args.turns ms) (c.memories.ensures.words c.args.design.now words budget c.args.turns after run is);
-  cause = tt;
-}

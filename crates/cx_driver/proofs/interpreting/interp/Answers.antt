@@ -11,9 +11,9 @@ returns-in-Ok c =
     let json = c.args.json.now in
     let does : Told → Type 0 = Interprets text json c.args.turns in
     let d = plain_design c.in-Ok.design in
-    let r = c.run_design.result in
-    let answer = text_answers (λ v. v.items) text json d c.args.turns r c.in-Ok.ensures.design c.run_design.ensures.answer in
-    let cause = text_stops text json d c.args.turns r c.in-Ok.ensures.design c.run_design.ensures.cause in
+    let r = c.design_dump.result in
+    let answer = text_answers (λ v. v.items) text json d c.args.turns r c.in-Ok.ensures.design c.design_dump.ensures.answer in
+    let cause = text_stops text json d c.args.turns r c.in-Ok.ensures.design c.design_dump.ensures.cause in
     record {
       answer = answer;
       cause = cause;

@@ -4,7 +4,8 @@ use Rattle.cx_data.specs.Load.{load_of}
 use Rattle.cx_data.specs.Widths.{HasWordWidth}
 use Rattle.cx_rules.specs.Externals.{external_rows}
 use Rattle.cx_design.specs.PlainDesigns.{plain_design}
-use Rattle.cx_driver.proofs.InterpLemmas.{design_answers, design_stops, unloaded_stops}
+use Rattle.cx_driver.specs.Leaving.{plain_left}
+use Rattle.cx_driver.proofs.InterpLemmas.{design_leaves, design_stops, unloaded_stops}
 use Rattle.cx_driver.proofs.RowWidths.{rows_have_width}
 use Rattle.cx_driver.proofs.interpreting.run_design.Goals as goal
 
@@ -26,12 +27,14 @@ returns-in-Ok c =
     let Loads : List PlainRow → Type 0 = λ rows. load_of json rows ≡ Ok memories in
     let loads : load_of json (external_rows d) ≡ Ok memories = subst Loads (ap (λ rows. plain_rows rows) c.deref.ensures.value ∙ c.in_ok-rows.ensures.value) c.in-Ok.ensures.loaded in
     record {
-      answer = design_answers (λ v. v.items) d json memories c.args.turns c.run_loaded.result loads c.run_loaded.ensures.answer;
+      answer = design_leaves plain_left d json memories c.args.turns c.run_loaded.result loads c.run_loaded.ensures.answer;
+      ready = c.run_loaded.ensures.ready;
       cause = design_stops d json memories c.args.turns c.run_loaded.result loads c.run_loaded.ensures.cause;
     }
 
 pub returns : goal.returns
 returns c = record {
   answer = tt;
+  ready = tt;
   cause = unloaded_stops (plain_design c.args.design.now) (plain_rows c.deref.result.now) c.args.json.now c.args.turns c.in-Err.stop (ap (λ rows. plain_rows rows) c.deref.ensures.value ∙ c.in_ok-rows.ensures.value) c.in-Err.ensures.cause;
 }

@@ -4,7 +4,7 @@ use Rattle.cx_driver.specs.Outcomes.{IsAnswer}
 use Rattle.cx_commands.specs.Asked.{asked_of}
 use Rattle.cx_commands.specs.Statuses.{ReceivesLine}
 use Rattle.cx_driver.proofs.CauseLemmas.{delivered, part_taken, quiet_delivered, refused_not_done, said_delivered, said_refused, told_why, unread_file}
-use Rattle.cx_driver.proofs.CompleteLemmas.{complete_delivered, complete_refused}
+use Rattle.cx_driver.proofs.CompleteLemmas.{complete_delivered, complete_refused, stopped_answered, stopped_refused}
 use Rattle.cx_driver.proofs.running.obey.Goals as goal
 
 pub returns-in-Ok-clause-part : goal.returns-in-Ok-clause-part
@@ -47,3 +47,10 @@ returns-in-Err-clause-said g c =
 pub returns-in-Err-clause-completes : goal.returns-in-Err-clause-completes
 returns-in-Err-clause-completes g c = λ can never.
     complete_refused (g.F.Files.held c.args.files.now) (asked_of c.args.command) (g.F.Files.faults c.args.files.now) (g.F.Files.faults c.answer.new.files) c.refuse.result c.in-Err.refusal c.refuse.ensures c.in-Err.ensures.cause can never
+
+pub returns-in-Ok-clause-all_stops : goal.returns-in-Ok-clause-all_stops
+returns-in-Ok-clause-all_stops g c = λ why stopped never. stopped_answered (g.F.Files.held c.args.files.now) (asked_of c.args.command) c.in-Ok.text.items why c.in-Ok.ensures.answer stopped
+
+pub returns-in-Err-clause-all_stops : goal.returns-in-Err-clause-all_stops
+returns-in-Err-clause-all_stops g c = λ why stopped never.
+    stopped_refused (g.F.Files.held c.args.files.now) (asked_of c.args.command) (g.F.Files.faults c.args.files.now) (g.F.Files.faults c.answer.new.files) why c.refuse.result c.in-Err.refusal c.refuse.ensures c.in-Err.ensures.cause stopped never

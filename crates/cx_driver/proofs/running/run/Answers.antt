@@ -5,7 +5,7 @@ use Rattle.cx_commands.specs.declared.refusals.Status.TheVariants as statuses
 use Rattle.cx_driver.proofs.CauseLemmas.{said_words, words_tell_nothing}
 use Rattle.cx_commands.proofs.CommandLemmas.{one_command}
 use Rattle.cx_commands.specs.Commands as asked
-use Rattle.cx_driver.proofs.CompleteLemmas.{complete_asked}
+use Rattle.cx_driver.proofs.CompleteLemmas.{complete_asked, stopped_asked}
 use Rattle.cx_driver.proofs.PromiseLemmas.{kept_of_file}
 use Rattle.cx_driver.proofs.running.run.Goals as goal
 
@@ -34,6 +34,14 @@ returns-in-Some-clause-completes g c = λ command asks can never.
 
 pub returns-in-None-clause-completes : goal.returns-in-None-clause-completes
 returns-in-None-clause-completes g c = λ command asks can never. absurd (c.in-None.ensures command asks)
+
+pub returns-in-Some-clause-all_stops : goal.returns-in-Some-clause-all_stops
+returns-in-Some-clause-all_stops g c = λ command why asks stopped never.
+    let own = asked_of c.in-Some.command in
+    c.obey.ensures.all_stops why (stopped_asked (g.F.Files.held c.args.files.now) command own why (one_command c.args.words.now command own asks c.in-Some.ensures) stopped) never
+
+pub returns-in-None-clause-all_stops : goal.returns-in-None-clause-all_stops
+returns-in-None-clause-all_stops g c = λ command why asks stopped never. absurd (c.in-None.ensures command asks)
 
 pub returns-in-None-clause-said : goal.returns-in-None-clause-said
 returns-in-None-clause-said g c =

@@ -1,6 +1,5 @@
-use Rattle.std.proofs.Common.{All, sym, ap, ◌∙◌, subst}
+use Rattle.std.proofs.Common.{All, refl, sym, subst}
 use Rattle.cx_text.specs.Loading.{FitsRows, plain_loaded}
-use Rattle.cx_data.specs.Dump.{dump_text}
 use Rattle.cx_data.specs.Widths.{HasWordWidth}
 use Rattle.cx_vtree.specs.declared.sources.Source.{Source}
 use Rattle.cx_vtree.specs.PlainParts.{rows_of}
@@ -13,16 +12,14 @@ memories-requires-clause-fits c =
     let Fit : Source → Type 0 = λ s. FitsRows (rows_of (plain_source s).externals) (plain_loaded c.args.loaded) in
     subst Fit (sym c.requires.source) c.requires.fits
 
-pub dump_of-requires : goal.dump_of-requires
-dump_of-requires c =
+pub returns : goal.returns
+returns c =
     let Wide : Source → Type 0 = λ s. All HasWordWidth (rows_of (plain_source s).externals) in
     record {
-      fits = c.memories.ensures.fits.whole;
-      widths = widths_fit (rows_of (plain_source c.args.ran.now.source).externals) (plain_loaded c.memories.new.into) (subst Wide (sym c.requires.source) c.source_is_sound.ensures.widths) c.memories.ensures.fits;
+      count = refl;
+      words = c.memories.ensures.words;
+      ready = record {
+        fits = c.memories.ensures.fits.whole;
+        widths = widths_fit (rows_of (plain_source c.args.ran.now.source).externals) (plain_loaded c.memories.new.into) (subst Wide (sym c.requires.source) c.source_is_sound.ensures.widths) c.memories.ensures.fits;
+      };
     }
-
-pub returns : goal.returns
-returns c = record {
-  answer = c.in_ok-dump.ensures ∙ ap (λ ms. dump_text c.args.cycle ms) c.memories.ensures.words;
-  cause = tt;
-}

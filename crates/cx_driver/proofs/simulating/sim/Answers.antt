@@ -1,26 +1,24 @@
-use Rattle.std.proofs.Common.{[], Err}
-use Rattle.cx_vtree.specs.PlainSources.{plain_source}
-use Rattle.cx_driver.specs.Simulated.{IsSimStop, Simulates, Spells}
+use Rattle.std.proofs.Common.{[], Ok, Err}
+use Rattle.cx_driver.specs.Leaving.{plain_left}
+use Rattle.cx_driver.specs.Simulated.{IsSimAnswer, IsSimStop, Simulates, Spells}
 use Rattle.cx_driver.proofs.Once.{Told, all_answered, all_stopped}
-use Rattle.cx_driver.proofs.SimLemmas.{answer_spells, sim_answers, sim_stops, spelled_once, unread_stops}
+use Rattle.cx_driver.proofs.SimLemmas.{answer_spells, left_answers, spelled_once}
 use Rattle.cx_driver.proofs.simulating.sim.Goals as goal
 
-pub returns-in-Ok : goal.returns-in-Ok
-returns-in-Ok c =
+pub returns-in_ok-dump-in-Ok : goal.returns-in_ok-dump-in-Ok
+returns-in_ok-dump-in-Ok c =
     let text = c.args.verilog.now in
     let json = c.args.json.now in
     let budget = c.args.cycles in
     let wants : Told → Type 0 = Spells text json budget in
     let does : Told → Type 0 = Simulates text json budget in
-    let s = plain_source c.in-Ok.source in
-    let r = c.run_source.result in
-    let answer = sim_answers (λ v. v.items) text json s budget r c.in-Ok.ensures.source c.run_source.ensures.answer in
-    let cause = sim_stops text json s budget r c.in-Ok.ensures.source c.run_source.ensures.cause in
+    let dump = c.in_ok-dump-in-Ok.dump in
+    let answer : IsSimAnswer text json budget dump.items = left_answers text json budget (plain_left c.in-Ok.left) dump.items c.in-Ok.ensures.answer c.in_ok-dump-in-Ok.ensures in
     record {
       answer = answer;
-      cause = cause;
-      all_answers = λ bytes i. all_answered (λ v. v.items) wants does (spelled_once text json budget) r answer cause bytes (answer_spells text json budget bytes i);
-      all_stops = λ why i. all_stopped (λ v. v.items) wants does (spelled_once text json budget) r answer cause why i;
+      cause = tt;
+      all_answers = λ bytes i. all_answered (λ v. v.items) wants does (spelled_once text json budget) (Ok dump) answer tt bytes (answer_spells text json budget bytes i);
+      all_stops = λ why i. all_stopped (λ v. v.items) wants does (spelled_once text json budget) (Ok dump) answer tt why i;
     }
 
 pub returns-in-Err : goal.returns-in-Err
@@ -30,7 +28,7 @@ returns-in-Err c =
     let budget = c.args.cycles in
     let wants : Told → Type 0 = Spells text json budget in
     let does : Told → Type 0 = Simulates text json budget in
-    let cause : IsSimStop text json budget c.in-Err.stop = unread_stops text json budget c.in-Err.stop c.in-Err.ensures.cause in
+    let cause : IsSimStop text json budget c.in-Err.stop = c.in-Err.ensures.cause in
     record {
       answer = tt;
       cause = cause;

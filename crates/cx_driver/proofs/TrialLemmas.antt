@@ -1,0 +1,242 @@
+-- What a trial tells is one thing, made of what its parts tell; targets of its tree are ports.
+use Rattle.std.proofs.Common.{◌≡◌, ◌⊎◌, inl, inr, ⊎_elim, ℕ, zero, suc, ◌≤◌, ◌<◌, ◌^◌, All, if◌then◌else◌, Bool, false, List, [], ◌∷◌, ◌++◌, map, flat_map, Some, None, Result, Ok, Err, IfOk, IfErr, MatchResult, refl, sym, ap, ◌∙◌, subst, codes}
+use Rattle.std.proofs.lemmas.Bool.{lt-ltb, le-ltb}
+use Rattle.cx_text.specs.declared.diagnostics.Diagnostic.{Diagnostic}
+use Rattle.cx_text.specs.declared.limits.TheConstants.{BUDGET, COMPILE_SIZE}
+use Rattle.cx_text.specs.Loading.{FitsShape}
+use Rattle.cx_data.specs.Dump.{dump_text}
+use Rattle.cx_vtree.specs.PlainParts.{rows_of}
+use Rattle.cx_ast.specs.PlainTree as ast
+use Rattle.cx_ast.specs.PlainTree.{PlainTree, PlainComponent, PlainGroup, PlainWire, PlainAssign}
+use Rattle.cx_meaning.specs.Designs.{PlainDesign}
+use Rattle.cx_meaning.specs.Sights.{In}
+use Rattle.cx_rules.specs.Accepted.{IsAccepted}
+use Rattle.cx_rules.specs.Externals.{external_rows}
+use Rattle.cx_rules.specs.Sizes.{design_size}
+use Rattle.cx_rules.specs.Wellformed.{IsDesign}
+use Rattle.cx_net.specs.NetTree.{net_tree}
+use Rattle.cx_static.specs.Lowering.{lowered_of}
+use Rattle.cx_wiring.specs.Wiring.{net_of}
+use Rattle.cx_wiring.specs.InNet.{RealisesInNet}
+use Rattle.cx_numbering.specs.DesignOf.{design_of}
+use Rattle.cx_numbering.specs.Names.{groups_in, always_in}
+use Rattle.cx_numbering.specs.NameRules.{Standing, standing}
+use Rattle.cx_names.specs.Targets.{is_literal, HasTargets}
+use Rattle.cx_design_parts.proofs.Lists.{in_either, flat_in}
+use Rattle.cx_check.specs.Acceptance.{IsAcceptedTree, TreeBreak}
+use Rattle.cx_check.proofs.Verdicts as verdicts
+use Rattle.cx_trial.specs.TrialParts.{up_to, step_group, sum_group, store_group, indexed}
+use Rattle.cx_trial.specs.TrialTree.{arm_groups, step_groups, trial_tree}
+use Rattle.cx_commands.specs.declared.stops.Stop.{Stop}
+use Rattle.cx_commands.specs.declared.stops.Stop.TheVariants as stops
+use Rattle.cx_driver.specs.Interpreted.{PlainLeft, design_left, StopsDesign}
+use Rattle.cx_driver.specs.Compiled.{IsDesignTooLarge, IsDesignWritten, too_large, written_source}
+use Rattle.cx_driver.specs.Simulated.{IsSimStop, TextLeaves}
+use Rattle.cx_driver.specs.Tried.{HasTrialMemory, words_sum, zeros, line_of, line_result, try_result, TreeTries, Tries, IsRealised, TellsRule}
+use Rattle.cx_driver.specs.Texts.{IsTreeStop}
+use Rattle.cx_driver.proofs.Once.{Told, not_both, same_stop, all_answered, all_stopped}
+use Rattle.cx_driver.proofs.SimLemmas.{left_answers, no_stop, one_source_of}
+use Rattle.cx_driver.proofs.BelowLemmas.{loaded_fits}
+use Rattle.cx_driver.proofs.TrialMemory.{shapes_stay, small_sum}
+use Rattle.cx_driver.proofs.TextLayers.{design_realises, tree_rules}
+use Rattle.cx_driver.proofs.LeftLemmas.{design_in_text, text_once}
+
+-- TARGETS: all wires are groups, none of whose assignments has a literal as its target
+abbrev Ports : List PlainAssign → Type 0
+Ports [] = Unit {0}
+Ports (a ∷ rest) = (is_literal a.target.form ≡ false) × Ports rest
+
+abbrev Grouped : List PlainWire → Type 0
+Grouped [] = Unit {0}
+Grouped (ast.Group g ∷ rest) = Ports g.assigns × Grouped rest
+Grouped (ast.Assign a ∷ rest) = ⊥
+
+both_grouped : (xs ys : List PlainWire) → Grouped xs → Grouped ys → Grouped (xs ++ ys)
+both_grouped [] ys h k = k
+both_grouped (ast.Group g ∷ xs) ys h k = (h.0, both_grouped xs ys h.1 k)
+both_grouped (ast.Assign a ∷ xs) ys h k = absurd h
+
+up_to_grouped : (f : ℕ → List PlainWire) → ((n : ℕ) → Grouped (f n)) → (n : ℕ) → Grouped (up_to f n)
+unfolding up_to
+up_to_grouped f each zero = tt
+up_to_grouped f each (suc n) = both_grouped (up_to f n) (f n) (up_to_grouped f each n) (each n)
+
+arm_grouped : (seed arm : ℕ) → Grouped (arm_groups seed arm)
+arm_grouped seed arm =
+    both_grouped (step_groups seed arm) (sum_group (indexed (codes "h") arm) (indexed (codes "b") arm) (indexed (codes "s") arm) 1 ∷ store_group arm ∷ [])
+    (up_to_grouped (λ step. step_group seed arm step ∷ []) (λ step. ((refl, (refl, (refl, (refl, (refl, tt))))), tt)) 8)
+    ((refl, (refl, (refl, (refl, (refl, tt))))), ((refl, (refl, (refl, (refl, (refl, (refl, tt)))))), tt))
+
+port_in : (assigns : List PlainAssign) (a : PlainAssign) → Ports assigns → In assigns a → is_literal a.target.form ≡ false
+port_in [] a h i = absurd i
+port_in (b ∷ rest) a h (inl e) = subst (λ (x : PlainAssign). is_literal x.target.form ≡ false) e h.0
+port_in (b ∷ rest) a h (inr i) = port_in rest a h.1 i
+
+group_ports : (wires : List PlainWire) (g : PlainGroup) → Grouped wires → In (groups_in wires) g → Ports g.assigns
+group_ports [] g h i = absurd i
+group_ports (ast.Group x ∷ wires) g h (inl e) = subst (λ (v : PlainGroup). Ports v.assigns) e h.0
+group_ports (ast.Group x ∷ wires) g h (inr i) = group_ports wires g h.1 i
+group_ports (ast.Assign a ∷ wires) g h i = absurd h
+
+none_always : (wires : List PlainWire) → Grouped wires → always_in wires ≡ []
+none_always [] h = refl
+none_always (ast.Group x ∷ wires) h = none_always wires h.1
+none_always (ast.Assign a ∷ wires) h = absurd h
+
+abbrev IsPort : Standing → Type 0
+IsPort x = is_literal x.assign.target.form ≡ false
+
+abbrev owned : PlainGroup → PlainAssign → Standing
+owned g a = record { group = Some g.name; assign = a }
+
+abbrev inside : PlainGroup → List Standing
+inside g = map (owned g) g.assigns
+
+abbrev free : PlainAssign → Standing
+free a = record { group = None; assign = a }
+
+owned_port : (g : PlainGroup) (assigns : List PlainAssign) (x : Standing) → Ports assigns → In (map (owned g) assigns) x → IsPort x
+owned_port g [] x h i = absurd i
+owned_port g (a ∷ rest) x h (inl e) = subst IsPort e h.0
+owned_port g (a ∷ rest) x h (inr i) = owned_port g rest x h.1 i
+
+stands_as_port : (part : PlainComponent) (x : Standing) → Grouped part.wires → In (standing part) x → IsPort x
+stands_as_port part x h i =
+    let none : In (map free (always_in part.wires)) x → IsPort x = λ p. absurd (subst (λ assigns. In (map free assigns) x) (none_always part.wires h) p) in
+    let of_group : In (flat_map inside (groups_in part.wires)) x → IsPort x = λ q.
+    (let found = flat_in inside (groups_in part.wires) x q in owned_port found.0 found.0.assigns x (group_ports part.wires found.0 h found.1) found.2) in
+    ⊎_elim none of_group (in_either (map free (always_in part.wires)) (flat_map inside (groups_in part.wires)) x i)
+
+-- in the tree of a trial targets are ports
+pub trial_targets : (seed : ℕ) → HasTargets (trial_tree seed)
+trial_targets seed part (inl e) x i = stands_as_port part x (subst (λ (p : PlainComponent). Grouped p.wires) e (up_to_grouped (arm_groups seed) (arm_grouped seed) 16)) i
+trial_targets seed part (inr none) x i = absurd none
+
+-- WHAT A TRIAL DOES is one thing, where its tree is accepted
+module _ (seed : ℕ) (tree : PlainTree) where
+  abbrev pub Accepts : Told → Type 0
+  Accepts result = IsAcceptedTree tree × (result ≡ try_result seed (design_of tree))
+
+  pub one_line : (a b : Told) → Accepts a → TreeTries seed tree b → a ≡ b
+  one_line a b h (inl k) = h.1 ∙ sym k.1
+  one_line a b h (inr k) = absurd (verdicts.accepted_once tree k.0 h.0 k.1)
+
+  pub line_accepts : (line : List ℕ) → TreeTries seed tree (Ok line) → Accepts (Ok line)
+  line_accepts line (inl h) = h
+  line_accepts line (inr h) = absurd (not_both line (stops.Rule h.0) h.2)
+
+  pub one_trial : (line : List ℕ) (stop : Stop) → TreeTries seed tree (Ok line) → TreeTries seed tree (Err stop) → ⊥
+  one_trial line stop h k = not_both line stop (one_line (Ok line) (Err stop) (line_accepts line h) k)
+
+  -- what is told of a tree that is refused
+  tells_rule : (told : Diagnostic) (stop : Stop) → TreeBreak tree told → TreeTries seed tree (Err stop) → TellsRule told stop
+  tells_rule told stop b (inl k) = absurd (verdicts.accepted_once tree told k.0 b)
+  tells_rule told stop b (inr k) =
+      let same = verdicts.refused_once tree k.0 told k.1 b in
+      record { own = k.0; is = same_stop stop (stops.Rule k.0) k.2; rule = same.0; place = same.1 }
+
+  pub all_told : {X : Type 0} (bytes : X → List ℕ) (r : Result X Stop) → IfOk r (λ x. TreeTries seed tree (Ok (bytes x))) → IfErr r (λ stop. (stop ≡ stops.Memory) ⊎ TreeTries seed tree (Err stop))
+      → (told : Diagnostic) → TreeBreak tree told → MatchResult r (λ _. ⊥) (λ stop. (stop ≡ stops.Memory) ⊎ TellsRule told stop)
+  all_told bytes (Ok x) h k told b = verdicts.accepted_once tree told (line_accepts (bytes x) h).0 b
+  all_told bytes (Err stop) h (inl memory) told b = inl memory
+  all_told bytes (Err stop) h (inr own) told b = inr (tells_rule told stop b own)
+
+pub tries_once : (seed : ℕ) (line : List ℕ) (stop : Stop) → Tries seed (Ok line) → Tries seed (Err stop) → ⊥
+tries_once seed line stop = one_trial seed (trial_tree seed) line stop
+
+-- from what a design leaves to its line
+module _ (seed : ℕ) (d : PlainDesign) where
+  abbrev sized : List ℕ → Bool → Told
+  sized line b = if b then Err (stops.Rule (too_large d)) else Ok line
+
+  leaves_line : (left : PlainLeft) (line : List ℕ) → design_left d zeros BUDGET ≡ Ok left → line ≡ line_of seed left → design_size d ≤ COMPILE_SIZE → try_result seed d ≡ Ok line
+  leaves_line left line h e within =
+      ap (λ r. line_result seed d r) h ∙ ap (sized (line_of seed left)) (le-ltb COMPILE_SIZE (design_size d) within) ∙ ap (λ l. Ok l) (sym e)
+
+  pub leaves_large : (left : PlainLeft) (stop : Stop) → design_left d zeros BUDGET ≡ Ok left → IsDesignTooLarge d stop → (stop ≡ stops.Memory) ⊎ (try_result seed d ≡ Err stop)
+  leaves_large left stop h (inl memory) = inl memory
+  leaves_large left stop h (inr k) =
+      inr (ap (λ r. line_result seed d r) h ∙ ap (sized (line_of seed left)) (lt-ltb COMPILE_SIZE (design_size d) k.0) ∙ ap (λ s. Err s) (sym k.1))
+
+  -- by the run of its text
+  module _ (left : PlainLeft) (leaves : design_left d zeros BUDGET ≡ Ok left) (realised : IsRealised d) (verilog : List ℕ) (written : IsDesignWritten d verilog) where
+    text_leaves : TextLeaves verilog zeros BUDGET left
+    text_leaves = design_in_text d (written_source d) (realised written.0 written.1.sound) BUDGET left verilog zeros written.1 leaves
+
+    left_rows : (own : PlainLeft) → TextLeaves verilog zeros BUDGET own → map (λ m. m.shape) own.memories ≡ external_rows d
+    left_rows own ran =
+        let same = one_source_of verilog ran.source (written_source d) ran.spelled written.1 in
+        let fits = loaded_fits zeros (rows_of ran.source.externals) ran.leaves.memories ran.leaves.loads in
+        ap (λ ms. map (λ m. m.shape) ms) ran.leaves.run.leaves ∙ shapes_stay ran.leaves.memories ran.leaves.run.words
+        ∙ fits.same_rows ∙ ap (λ s. rows_of s.externals) same ∙ (realised written.0 written.1.sound).rows
+
+    pub left_small : (own : PlainLeft) → TextLeaves verilog zeros BUDGET own → HasTrialMemory d → All FitsShape own.memories → words_sum own.memories < 2 ^ 64
+    left_small own ran memory fits = small_sum own.memories (left_rows own ran ∙ memory) fits
+
+    pub simulated_line : (own : PlainLeft) (line : List ℕ) → TextLeaves verilog zeros BUDGET own → line ≡ line_of seed own → try_result seed d ≡ Ok line
+    simulated_line own line ran told = leaves_line left line leaves (told ∙ ap (λ l. line_of seed l) (text_once verilog zeros BUDGET own left ran text_leaves)) written.0
+
+    pub unsimulated : (stop : Stop) → IsSimStop verilog zeros BUDGET stop → (stop ≡ stops.Memory) ⊎ (try_result seed d ≡ Err stop)
+    unsimulated stop (inl memory) = inl memory
+    unsimulated stop (inr h) = absurd (no_stop verilog zeros BUDGET (dump_text left.turns left.memories) stop (left_answers verilog zeros BUDGET left (dump_text left.turns left.memories) text_leaves refl) h)
+
+  pub unleft : (stop : Stop) → StopsDesign d zeros BUDGET stop → (stop ≡ stops.Memory) ⊎ (try_result seed d ≡ Err stop)
+  unleft stop (inl memory) = inl memory
+  unleft stop (inr h) = inr (ap (λ r. line_result seed d r) h)
+
+-- from a design to its tree, and from this to its seed
+module _ {X : Type 0} (bytes : X → List ℕ) (seed : ℕ) (tree : PlainTree) (d : PlainDesign) (accepted : IsAcceptedTree tree) (is : d ≡ design_of tree) where
+  pub tree_tried : (r : Result X Stop) → IfOk r (λ x. try_result seed d ≡ Ok (bytes x)) → IfOk r (λ x. TreeTries seed tree (Ok (bytes x)))
+  tree_tried (Ok x) h = inl (accepted, sym h ∙ ap (λ e. try_result seed e) is)
+  tree_tried (Err stop) h = tt
+
+  pub tree_stopped : (r : Result X Stop) → IfErr r (λ stop. (stop ≡ stops.Memory) ⊎ (try_result seed d ≡ Err stop)) → IfErr r (λ stop. (stop ≡ stops.Memory) ⊎ TreeTries seed tree (Err stop))
+  tree_stopped (Ok x) h = tt
+  tree_stopped (Err stop) (inl memory) = inl memory
+  tree_stopped (Err stop) (inr h) = inr (inl (accepted, sym h ∙ ap (λ e. try_result seed e) is))
+
+pub tree_refused : (seed : ℕ) (tree : PlainTree) (stop : Stop) → IsTreeStop tree stop → (stop ≡ stops.Memory) ⊎ TreeTries seed tree (Err stop)
+tree_refused seed tree stop (inl memory) = inl memory
+tree_refused seed tree stop (inr h) = inr (inr (h.0, h.1, ap (λ s. Err s) h.2))
+
+-- by the law that the net of every accepted design does what the design means
+pub tree_realised : (tree : PlainTree) (d : PlainDesign) → ((e : PlainDesign) → IsDesign e → IsAccepted e → RealisesInNet e (net_tree (net_of (lowered_of e)))) → HasTargets tree → IsAcceptedTree tree → d ≡ design_of tree
+    → IsRealised d
+tree_realised tree d law targets accepted is = λ within sound.
+    let rules = tree_rules tree d targets accepted is within in
+    design_realises d rules.0 rules.1 sound (law d rules.0 rules.1)
+
+-- what is told of a tree that is the one of the seed
+pub record TreeTold {X : Type 0} (bytes : X → List ℕ) (seed : ℕ) (tree : PlainTree) (r : Result X Stop) : Type 0 where
+  pub answer : IfOk r (λ x. TreeTries seed tree (Ok (bytes x)))
+  pub cause : IfErr r (λ stop. (stop ≡ stops.Memory) ⊎ TreeTries seed tree (Err stop))
+  pub all_answers : (line : List ℕ) → TreeTries seed tree (Ok line) → MatchResult r (λ x. bytes x ≡ line) (λ stop. stop ≡ stops.Memory)
+  pub all_stops : (why : Stop) → IsAcceptedTree tree × (try_result seed (design_of tree) ≡ Err why) → MatchResult r (λ _. ⊥) (λ stop. (stop ≡ stops.Memory) ⊎ (stop ≡ why))
+  pub all_refusals : (told : Diagnostic) → TreeBreak tree told → MatchResult r (λ _. ⊥) (λ stop. (stop ≡ stops.Memory) ⊎ TellsRule told stop)
+
+tree_told : {X : Type 0} (bytes : X → List ℕ) (seed : ℕ) (tree : PlainTree) (r : Result X Stop) → IfOk r (λ x. TreeTries seed tree (Ok (bytes x))) → IfErr r (λ stop. (stop ≡ stops.Memory) ⊎ TreeTries seed tree (Err stop))
+    → TreeTold bytes seed tree r
+tree_told bytes seed tree r answer cause = record {
+  answer = answer;
+  cause = cause;
+  all_answers = λ line h. all_answered bytes (Accepts seed tree) (TreeTries seed tree) (one_line seed tree) r answer cause line (line_accepts seed tree line h);
+  all_stops = λ why h. all_stopped bytes (Accepts seed tree) (TreeTries seed tree) (one_line seed tree) r answer cause why (h.0, sym h.1);
+  all_refusals = all_told seed tree bytes r answer cause;
+}
+
+-- from the tree that was made to that of the seed
+pub design_told : {X : Type 0} (bytes : X → List ℕ) (seed : ℕ) (tree : PlainTree) (d : PlainDesign) (r : Result X Stop) → tree ≡ trial_tree seed → IsAcceptedTree tree → d ≡ design_of tree
+    → IfOk r (λ x. try_result seed d ≡ Ok (bytes x)) → IfErr r (λ stop. (stop ≡ stops.Memory) ⊎ (try_result seed d ≡ Err stop)) → TreeTold bytes seed (trial_tree seed) r
+design_told bytes seed tree d r made accepted is answer cause =
+    subst (λ t. TreeTold bytes seed t r) made
+    (tree_told bytes seed tree r (tree_tried bytes seed tree d accepted is r answer) (tree_stopped bytes seed tree d accepted is r cause))
+
+abbrev no_bytes : Unit {0} → List ℕ
+no_bytes _ = []
+
+abbrev pub StoppedTold : ℕ → PlainTree → Stop → Type 0
+StoppedTold seed tree stop = TreeTold {X = Unit {0}} no_bytes seed tree (Err stop)
+
+pub refusal_told : (seed : ℕ) (tree : PlainTree) (stop : Stop) → tree ≡ trial_tree seed → IsTreeStop tree stop → StoppedTold seed (trial_tree seed) stop
+refusal_told seed tree stop made refused =
+    subst (λ t. StoppedTold seed t stop) made (tree_told {X = Unit {0}} no_bytes seed tree (Err stop) tt (tree_refused seed tree stop refused))
