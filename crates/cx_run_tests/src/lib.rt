@@ -12,6 +12,8 @@ mod control;
 #[cfg(test)]
 mod data;
 #[cfg(test)]
+mod hostile;
+#[cfg(test)]
 mod islands;
 #[cfg(test)]
 mod misreadings;
