@@ -144,14 +144,14 @@ child_after d n c number part has path at =
     omega (arith, same)
 
 -- STATES of the child in those of the instance
-append_one : (path : Path) (c : ℕ) (below : Path) → (path ++ c ∷ []) ++ below ≡ path ++ (c ∷ below)
+pub append_one : (path : Path) (c : ℕ) (below : Path) → (path ++ c ∷ []) ++ below ≡ path ++ (c ∷ below)
 append_one [] c below = refl
 append_one (k ∷ path) c below = ap (λ p. k ∷ p) (append_one path c below)
 
-under_child : (path : Path) (c : ℕ) (s : State) → under_path (path ++ c ∷ []) s ≡ under c (under_path path s)
+pub under_child : (path : Path) (c : ℕ) (s : State) → under_path (path ++ c ∷ []) s ≡ under c (under_path path s)
 under_child path c s = fun_ext (λ below. ap s (append_one path c below))
 
-put_child : (path : Path) (c : ℕ) (own s : State) → put_path (path ++ c ∷ []) own s ≡ put_path path (put c own (under_path path s)) s
+pub put_child : (path : Path) (c : ℕ) (own s : State) → put_path (path ++ c ∷ []) own s ≡ put_path path (put c own (under_path path s)) s
 put_child [] c own s = refl
 put_child (k ∷ path) c own s = ap (λ (x : State). put k x s) (put_child path c own (under k s))
 

@@ -36,7 +36,7 @@ use Rattle.cx_interp.proofs.Measures.{instance_child}
 use Rattle.cx_interp.proofs.StandLemmas.{below_length, same_part}
 
 -- NUMBERS are equal or not
-same_or_not : (m n : ℕ) → (m ≡ n) ⊎ (m ≢ n)
+pub same_or_not : (m n : ℕ) → (m ≡ n) ⊎ (m ≢ n)
 same_or_not zero zero = inl refl
 same_or_not zero (suc n) = inr (λ e. absurd (omega (arith, e)))
 same_or_not (suc m) zero = inr (λ e. absurd (omega (arith, e)))
@@ -215,7 +215,7 @@ input_held d rows n g c child k x own at is_child input state sees =
     }
 
 -- the child and the instance that calls it are apart
-append_longer : (path : Path) (c : ℕ) → path ≡ path ++ c ∷ [] → ⊥
+pub append_longer : (path : Path) (c : ℕ) → path ≡ path ++ c ∷ [] → ⊥
 append_longer [] c e = cc
 append_longer (x ∷ path) c e = append_longer path c (cc)
 

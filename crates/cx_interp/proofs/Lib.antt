@@ -23,4 +23,4 @@ pub mod EnableLemmas
 pub mod CaptureLemmas
 pub mod CallLemmas
 pub mod RunLemmas
-mod HoldLemmas
+pub mod HoldLemmas

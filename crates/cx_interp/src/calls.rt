@@ -13,7 +13,7 @@ use cx_design_parts::component;
 use cx_interp_plan::GroupRow;
 
 /// What is known of a group of an instance.
-pub(crate) fn group_row<'p>(plan: &'p Plan<'_>, instance: usize, group: u32) -> &'p GroupRow
+pub fn group_row<'p>(plan: &'p Plan<'_>, instance: usize, group: u32) -> &'p GroupRow
     requires plan { IsPlan plan.now }
     requires instance { IsInstance (design_of plan.now) instance }
     requires group { IsGroupOf (design_of plan.now) instance group }
@@ -34,7 +34,7 @@ fn kind_length(kind: GroupKind) -> Option<u64>
 }
 
 /// The cycles of a group of an instance, if it is static.
-pub(crate) fn group_length(plan: &Plan<'_>, instance: usize, group: u32) -> Option<u64>
+pub fn group_length(plan: &Plan<'_>, instance: usize, group: u32) -> Option<u64>
     requires plan { IsPlan plan.now }
     requires instance { IsInstance (design_of plan.now) instance }
     requires group { IsGroupOf (design_of plan.now) instance group }
@@ -46,7 +46,7 @@ pub(crate) fn group_length(plan: &Plan<'_>, instance: usize, group: u32) -> Opti
 }
 
 /// The component of an instance.
-pub(crate) fn instance_part<'p>(plan: &'p Plan<'_>, instance: usize) -> &'p Component
+pub fn instance_part<'p>(plan: &'p Plan<'_>, instance: usize) -> &'p Component
     requires plan { IsPlan plan.now }
     requires instance { IsInstance (design_of plan.now) instance }
     ensures { HasPart (design_of plan.now) instance (plain_component result.now) }

@@ -15,7 +15,7 @@ use cx_state::alike_laws::rows_stand;
 use cx_state::width_laws::state_seen_has_width;
 
 /// The number of the instance at a component's cell.
-pub(crate) fn child_number(plan: &Plan<'_>, instance: usize, cell: u32) -> usize
+pub fn child_number(plan: &Plan<'_>, instance: usize, cell: u32) -> usize
     requires plan { IsPlan plan.now }
     requires instance { IsInstance (design_of plan.now) instance }
     requires part { IsPart (design_of plan.now) instance cell }
@@ -26,7 +26,7 @@ pub(crate) fn child_number(plan: &Plan<'_>, instance: usize, cell: u32) -> usize
 }
 
 /// The control of an instance.
-pub(crate) fn control_of<'p>(plan: &'p Plan<'_>, instance: usize) -> &'p Statement
+pub fn control_of<'p>(plan: &'p Plan<'_>, instance: usize) -> &'p Statement
     requires plan { IsPlan plan.now }
     requires instance { IsInstance (design_of plan.now) instance }
     ensures { HasControl (design_of plan.now) instance (plain_statement result.now) }
@@ -67,7 +67,7 @@ fn hold_input(
 }
 
 /// Holds the inputs of a child as they are seen under the group that calls it.
-pub(crate) fn hold_inputs(
+pub fn hold_inputs(
     plan: &Plan<'_>,
     machine: &mut Machine<'_>,
     instance: usize,

@@ -44,8 +44,8 @@ fn run_main(plan: &Plan<'_>, machine: &mut Machine<'_>, budget: u64) -> Answer
 /// An accepted design at its start, ready to run.
 #[derive(Drop)]
 pub struct Interp<'a> {
-    pub(crate) plan: Plan<'a>,
-    pub(crate) machine: Machine<'a>,
+    pub plan: Plan<'a>,
+    pub machine: Machine<'a>,
 }
 
 /// What the run of a design has come to.

@@ -32,7 +32,7 @@ use cx_meaning::laws::{designs_keep_idle, idle_settles};
 use cx_state::alike_laws::{rows_stand, states_are_seen_alike};
 
 /// The fault of a port of an instance that was found unclear.
-fn fault_in(instance: usize, unclear: Option<Unclear>) -> Option<PortFault>
+pub fn fault_in(instance: usize, unclear: Option<Unclear>) -> Option<PortFault>
     requires { instance < 2 ^ 32 }
     ensures { TellsUnclear instance result (unclear_fault unclear) }
 {

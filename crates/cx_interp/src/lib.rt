@@ -2,20 +2,20 @@
 #![tactic(auto)]
 
 mod answers;
-mod calls;
+pub mod calls;
 mod captures;
-mod children;
+pub mod children;
 mod control;
 mod groups;
 mod interp;
-mod islands;
-mod machine;
-mod plan;
+pub mod islands;
+pub mod machine;
+pub mod plan;
 mod planning;
-mod rest;
-mod rooms;
-mod sights;
-mod turns;
+pub mod rest;
+pub mod rooms;
+pub mod sights;
+pub mod turns;
 
 pub use answers::Answer;
 pub use interp::{Interp, Ran};

@@ -14,9 +14,9 @@ use cx_eval_drives::{Truth, truth_of};
 
 /// The sight of the state, and the room for the islands of its design.
 #[derive(Drop)]
-pub(crate) struct Machine<'a> {
-    pub(crate) sight: Sight<'a>,
-    pub(crate) room: Room,
+pub struct Machine<'a> {
+    pub sight: Sight<'a>,
+    pub room: Room,
 }
 
 /// A fault of a port of an instance.
@@ -55,7 +55,7 @@ fn verdict(instance: usize, port: PortRef, seen: Seen) -> Result<bool, PortFault
 }
 
 /// Whether a port is 1 under the continuous assignments and a comb group.
-pub(crate) fn test(
+pub fn test(
     plan: &Plan<'_>,
     machine: &mut Machine<'_>,
     instance: usize,

@@ -6,8 +6,8 @@ use cx_state::InstanceTable;
 
 /// A design, the table of its instances, and what is known of the groups of each component.
 #[derive(Drop)]
-pub(crate) struct Plan<'a> {
-    pub(crate) design: &'a Design,
-    pub(crate) table: InstanceTable,
-    pub(crate) groups: Vec<GroupTable>,
+pub struct Plan<'a> {
+    pub design: &'a Design,
+    pub table: InstanceTable,
+    pub groups: Vec<GroupTable>,
 }

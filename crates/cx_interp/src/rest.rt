@@ -48,7 +48,7 @@ pub(crate) fn rest_cells(cells: &[Cell], held: &mut [Option<PrimState>], listed:
 }
 
 /// The idle edges of the listed cells of an instance.
-pub(crate) fn rest(plan: &Plan<'_>, machine: &mut Machine<'_>, instance: usize, listed: &[u32])
+pub fn rest(plan: &Plan<'_>, machine: &mut Machine<'_>, instance: usize, listed: &[u32])
     requires plan { IsPlan plan.now }
     requires machine { IsAt plan.now machine.old }
     requires instance { IsInstance (design_of plan.now) instance }
@@ -77,7 +77,7 @@ fn rest_every(cells: &[Cell], held: &mut [Option<PrimState>])
 }
 
 /// The idle edges of all cells of an instance.
-pub(crate) fn rest_all(plan: &Plan<'_>, machine: &mut Machine<'_>, instance: usize)
+pub fn rest_all(plan: &Plan<'_>, machine: &mut Machine<'_>, instance: usize)
     requires plan { IsPlan plan.now }
     requires machine { IsAt plan.now machine.old }
     requires instance { IsInstance (design_of plan.now) instance }

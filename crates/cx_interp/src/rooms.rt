@@ -16,13 +16,13 @@ use std::alloc::Global;
 
 /// The samples of an island, by the numbers of its static ifs, and the groups that are active in a cycle of it.
 #[derive(Drop)]
-pub(crate) struct Room {
-    pub(crate) samples: Vec<bool>,
-    pub(crate) active: Active,
+pub struct Room {
+    pub samples: Vec<bool>,
+    pub active: Active,
 }
 
 /// Makes as many samples as a statement has static ifs, if there are fewer.
-fn add_samples(form: &Form, samples: &mut Vec<bool>) -> Result<(), Memory>
+pub fn add_samples(form: &Form, samples: &mut Vec<bool>) -> Result<(), Memory>
     ensures room { IfOk result (λ _. form_ifs (plain_form form.now) ≤ vec_len samples.new) }
     ensures grows { IfOk result (λ _. vec_len samples.old ≤ vec_len samples.new) }
 {
@@ -68,13 +68,7 @@ impl Room {
 }
 
 /// Makes the groups that run in a cycle of an island the active ones.
-pub(crate) fn activate(
-    part: &Component,
-    form: &Form,
-    samples: &[bool],
-    cycle: u64,
-    active: &mut Active,
-)
+pub fn activate(part: &Component, form: &Form, samples: &[bool], cycle: u64, active: &mut Active)
     requires cycle { cycle < 2 ^ 64 - 1 }
     requires samples { form_ifs (plain_form form.now) ≤ length samples.now }
     requires holds { HoldsEntries active.old }

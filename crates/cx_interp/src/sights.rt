@@ -14,18 +14,18 @@ use cx_state::State;
 
 /// A port that is no value, and why.
 #[derive(Clone, Copy, Debug, PartialEq, Eq)]
-pub(crate) struct Unclear {
-    pub(crate) kind: FaultKind,
-    pub(crate) port: PortRef,
+pub struct Unclear {
+    pub kind: FaultKind,
+    pub port: PortRef,
 }
 
 /// The state, and the evaluator of its design; while static ifs ask ports of an instance, also the first that is no value.
 #[derive(Drop)]
-pub(crate) struct Sight<'a> {
-    pub(crate) evaluator: Evaluator<'a>,
-    pub(crate) state: State,
-    pub(crate) instance: usize,
-    pub(crate) unclear: Option<Unclear>,
+pub struct Sight<'a> {
+    pub evaluator: Evaluator<'a>,
+    pub state: State,
+    pub instance: usize,
+    pub unclear: Option<Unclear>,
 }
 
 /// The fault of a port that is seen as no value.

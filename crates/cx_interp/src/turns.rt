@@ -18,7 +18,7 @@ use cx_frames::apart_laws::listed_cells_suffice;
 
 /// What a turn of a group comes to.
 #[derive(Clone, Copy, Debug, PartialEq, Eq)]
-pub(crate) enum Turn {
+pub enum Turn {
     /// It is idle, and the last.
     Ends,
     Goes,
@@ -26,7 +26,7 @@ pub(crate) enum Turn {
 }
 
 /// The turn of a group whose done hole is seen so, which is not 0.
-fn hole_turn(instance: usize, group: u32, hole: Seen) -> Turn
+pub fn hole_turn(instance: usize, group: u32, hole: Seen) -> Turn
     requires instance { instance < 2 ^ 32 }
     requires not_zero { truths.truth_of hole ≢ Zero }
     ensures { HoleTurn instance group (truths.truth_of hole) result }
@@ -40,7 +40,7 @@ fn hole_turn(instance: usize, group: u32, hole: Seen) -> Turn
 }
 
 /// The turn of a group in which a cycle ended so.
-fn cycle_turn(ended: Result<(), PortFault>) -> Turn
+pub fn cycle_turn(ended: Result<(), PortFault>) -> Turn
     ensures { result ≡ cycle_as ended }
 {
     match ended {

@@ -13,3 +13,19 @@ pub mod Lawful
 pub mod Halting
 pub mod HaltRuns
 pub mod KnownWoven
+mod TurnsTaken
+mod LeafSteps
+mod PartSteps
+mod CallSteps
+mod RestSteps
+mod OpenSteps
+mod IslandSteps
+mod HeldSteps
+mod CombSteps
+mod CellKinds
+mod WeaveSteps
+mod ArmSteps
+mod StrandFolds
+mod MarkSteps
+mod StrandSizes
+mod EndSteps

@@ -129,7 +129,7 @@ tested_fine part form =
     of_visit v p j e = among_in (tests_of (Placed form no_place)) p (tests_flat (visit Dynamic (Placed form no_place)) v p j e)
 
 -- CALLS: the inputs that are held are those that were seen
-first_length : (h : Held) (n : ℕ) → length (first_inputs h n) ≡ n
+pub first_length : (h : Held) (n : ℕ) → length (first_inputs h n) ≡ n
 first_length h zero = refl
 first_length h (suc n) = one_longer (first_inputs h n) (h n) ∙ ap suc (first_length h n)
   where

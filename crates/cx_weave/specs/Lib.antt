@@ -2,3 +2,9 @@ pub mod Open
 pub mod Leaves
 pub mod Steps
 pub mod Woven
+pub mod Strands
+pub mod Strides
+pub mod Calls
+pub mod Results
+pub mod Marks
+pub mod Deep

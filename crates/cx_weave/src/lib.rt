@@ -1,4 +1,19 @@
 //! Woven runs: the arms of a `par` advance in a chosen order.
 #![tactic(auto)]
 
+mod calls;
+mod driven;
+mod islands;
 pub mod laws;
+mod leaf_turns;
+mod leaves;
+mod opening;
+mod parts;
+mod resting;
+mod static_control;
+mod stepping;
+mod strands;
+mod turns;
+mod weaving;
+
+pub use weaving::{Wove, weave};

@@ -1,0 +1,284 @@
+-- Statements as they are opened, and the strands that show them.
+use Rattle.std.proofs.Common.{◌≡◌, ◌≢◌, ℕ, zero, suc, ◌+◌, ◌-◌, ◌≤◌, ◌<◌, true, false, Bool, List, [], ◌∷◌, ◌++◌, length, get_or, drop, map, Option, Some, None, refl, sym, ap, ◌∙◌, subst, arith}
+use Rattle.std.specs.Prelude.{is_some}
+use Rattle.std.proofs.Math.Seq.{drop-cons}
+use Rattle.cx_text.specs.declared.places.Place.{Place}
+use Rattle.cx_meaning.specs.declared.ports.PlacedPort.{PlacedPort}
+use Rattle.cx_meaning.specs.declared.kinds.GroupKind.{GroupKind}
+use Rattle.cx_meaning.specs.declared.kinds.GroupKind.TheVariants as kinds
+use Rattle.cx_meaning.specs.Designs.{PlainDesign, PlainComponent, PlainForm, Empty, Enable, Seq, Par, If, While, Repeat, StaticSeq, StaticPar, StaticIf, StaticRepeat, Timed, PlainStatement, Placed, no_place, PlainStatements, no_statements, a_statement, statements_of, group_at}
+use Rattle.cx_meaning.specs.Instances.{Instance, Node, Cells, no_cells, a_primitive, an_instance, Nothing, OfRow, OfInstance, cell_at, cells_of, part_of, Path, instance_at, tree_of}
+use Rattle.cx_meaning.specs.Islands.{kind_length}
+use Rattle.cx_meaning.specs.Calls.{called}
+use Rattle.cx_rules.specs.Items.{Dynamic, visit, visit_all}
+use Rattle.cx_rules.specs.StaticControl.{is_island_form}
+use Rattle.cx_rules.proofs.Finite.{in_left, in_right}
+use Rattle.cx_design.specs.declared.statements.Statement.{Statement}
+use Rattle.cx_design.specs.PlainForms.{plain_statement, plain_statements}
+use Rattle.cx_state.specs.Tables.{IsNumber}
+use Rattle.cx_interp.specs.Callees.{IsPart, HasChild, HasControl}
+use Rattle.cx_interp.specs.Groups.{HasLength, IsGroupOf}
+use Rattle.cx_interp.specs.Islands.{IsIsland}
+use Rattle.cx_interp.specs.Machines.{FormStands, StandsIn, StandIn}
+use Rattle.cx_interp.proofs.Measures.{instance_child}
+use Rattle.cx_weave.specs.declared.strands.Strand.{Strand}
+use Rattle.cx_weave.specs.Open.{Open, Idling, InGroup, Choosing, Testing, Waiting, InSeq, InPar, InLoop, InRepeat, InCall, Opens, no_arms, an_arm, open_with, open_form, open_arms, open_island, open_called, open_kind, open_enable, open_control, open_below, open_statement}
+use Rattle.cx_weave.specs.Steps.{seq_left, repeat_left}
+use Rattle.cx_weave.specs.Strands.{PlainStrand, AnIdling, AGroup, AChoice, ATest, AWaiting, ASeq, APar, ARepeat, ALoop, ACall, PlainStrands, strands_of, plain_strand, CallsCell, Shows, ShowsAll}
+use Rattle.cx_weave.specs.Strides.{OpensAs, LeftShown, LeavesAs}
+
+-- a form of an instance, as it is opened
+abbrev pub opens : Instance → PlainForm → Open
+opens i form = open_form (part_of i) (open_enable i (open_below (cells_of i))) form
+
+pub statement_opens : (i : Instance) (form : PlainForm) (place : Place) → open_statement i (Placed form place) ≡ opens i form
+statement_opens (Node part cells) form place = refl
+
+pub with_statement : (i : Instance) (st : PlainStatement) → open_with (part_of i) (open_enable i (open_below (cells_of i))) st ≡ open_statement i st
+with_statement (Node part cells) st = refl
+
+control_opens : (i : Instance) → open_control i ≡ open_statement i (part_of i).control
+control_opens (Node part cells) = refl
+
+child_opens : (cells : Cells) (c : ℕ) (child : Instance) → cell_at cells c ≡ OfInstance child → open_below cells c ≡ open_control child
+child_opens no_cells c child e = absurd (let f : Nothing ≡ OfInstance child = e in cc)
+child_opens (a_primitive row rest) zero child e = absurd (let f : OfRow row ≡ OfInstance child = e in cc)
+child_opens (a_primitive row rest) (suc c) child e = child_opens rest c child e
+child_opens (an_instance own rest) zero child e = let same : own ≡ child = (let f : OfInstance own ≡ OfInstance child = e in cc) in ap open_control same
+child_opens (an_instance own rest) (suc c) child e = child_opens rest c child e
+
+-- a child's control, in the tree
+child_control : (d : PlainDesign) (n c : ℕ) → IsPart d n c → (path : Path) → IsNumber d n path
+    → open_below (cells_of (instance_at (tree_of d) path)) c ≡ open_statement (instance_at (tree_of d) (path ++ c ∷ [])) (part_of (instance_at (tree_of d) (path ++ c ∷ []))).control
+child_control d n c part path number =
+    let p = part path number in
+    child_opens (cells_of (instance_at (tree_of d) path)) c p.0 p.1 ∙ ap open_control (sym (instance_child (tree_of d) path c p.0 p.1)) ∙ control_opens (instance_at (tree_of d) (path ++ c ∷ []))
+
+kind_called : (i : Instance) (child : ℕ → Open) (g : ℕ) (kind : GroupKind) → None ≡ kind_length kind → open_kind i child g kind ≡ open_called child g (called i g)
+kind_called i child g kinds.Plain e = refl
+kind_called i child g kinds.Comb e = refl
+kind_called i child g (kinds.Timed length) e = absurd (let f : ◌≡◌ {A = Option ℕ} None (Some length) = e in cc)
+
+-- the enable of a group that is not static
+enable_opens : (d : PlainDesign) (n g : ℕ) (o : Option ℕ) → HasLength d n g None → (path : Path) → IsNumber d n path → called (instance_at (tree_of d) path) g ≡ o
+    → opens (instance_at (tree_of d) path) (Enable g) ≡ open_called (open_below (cells_of (instance_at (tree_of d) path))) g o
+enable_opens d n g o length path number calls =
+    let i = instance_at (tree_of d) path in
+    kind_called i (open_below (cells_of i)) g (group_at (part_of i) g).kind (length path number) ∙ ap (open_called (open_below (cells_of i)) g) calls
+
+never : {A : Type 0} → false ≡ true → A
+never e = absurd (let f : false ≡ true = e in cc)
+
+kind_opens : (i : Instance) (child : ℕ → Open) (g : ℕ) (kind : GroupKind) → is_some (kind_length kind) ≡ true → open_kind i child g kind ≡ open_island (part_of i) (Enable g)
+kind_opens i child g kinds.Plain e = never e
+kind_opens i child g kinds.Comb e = never e
+kind_opens i child g (kinds.Timed length) e = refl
+
+-- an island of dynamic control
+pub island_opens : (i : Instance) (form : PlainForm) → is_island_form (part_of i) form ≡ true → opens i form ≡ open_island (part_of i) form
+island_opens i Empty e = never e
+island_opens i (Enable g) e = kind_opens i (open_below (cells_of i)) g (group_at (part_of i) g).kind e
+island_opens i (Seq parts) e = never e
+island_opens i (Par arms) e = never e
+island_opens i (If test comb a b) e = never e
+island_opens i (While test comb a) e = never e
+island_opens i (Repeat count a) e = never e
+island_opens i (StaticSeq length parts) e = refl
+island_opens i (StaticPar length arms) e = refl
+island_opens i (StaticIf length test a b) e = refl
+island_opens i (StaticRepeat length count a) e = refl
+island_opens i (Timed k) e = never e
+
+module _ (d : PlainDesign) (n : ℕ) where
+  -- by what is shown of the form
+  pub opens_as : (form : PlainForm) (strand : Strand) (p : PlainStrand) → plain_strand strand ≡ p → ((path : Path) → IsNumber d n path → Shows d n p (opens (instance_at (tree_of d) path) form)) → OpensAs d n (Placed form no_place) strand
+  opens_as form strand p is shows path number =
+      subst (Shows d n (plain_strand strand)) (sym (statement_opens (instance_at (tree_of d) path) form no_place)) (subst (λ q. Shows d n q (opens (instance_at (tree_of d) path) form)) (sym is) (shows path number))
+
+  pub opens_placed : (form : PlainForm) (place : Place) (st : PlainStatement) (strand : Strand) → st ≡ Placed form place → OpensAs d n (Placed form no_place) strand → OpensAs d n st strand
+  opens_placed form place st strand is opens path number =
+      subst (λ x. Shows d n (plain_strand strand) (open_statement (instance_at (tree_of d) path) x)) (sym is)
+      (subst (Shows d n (plain_strand strand)) (statement_opens (instance_at (tree_of d) path) form no_place ∙ sym (statement_opens (instance_at (tree_of d) path) form place)) (opens path number))
+
+  -- of the same form
+  pub opens_form : (form other : PlainForm) (strand : Strand) → form ≡ other → OpensAs d n (Placed other no_place) strand → OpensAs d n (Placed form no_place) strand
+  opens_form form other strand is opens = subst (λ f. OpensAs d n (Placed f no_place) strand) (sym is) opens
+
+  -- A SEQ
+  pub seq_none : (parts : List Statement) (strand : Strand) → parts ≡ [] → plain_strand strand ≡ AnIdling → OpensAs d n (Placed (Seq (plain_statements parts)) no_place) strand
+  seq_none parts strand none is = opens_as (Seq (plain_statements parts)) strand AnIdling is (λ path number. ap (λ (xs : List Statement). opens (instance_at (tree_of d) path) (Seq (plain_statements xs))) none)
+
+  -- a seq of which this part runs
+  pub seq_shown : (later : PlainStatements) (st : PlainStatement) (strand inner : Strand) → plain_strand strand ≡ ASeq (plain_strand inner) later → OpensAs d n st inner → StandIn d n later → (path : Path) → IsNumber d n path
+      → Shows d n (plain_strand strand) (InSeq (open_statement (instance_at (tree_of d) path) st) later)
+  seq_shown later st strand inner is opens stands path number =
+      subst (λ q. Shows d n q (InSeq (open_statement (instance_at (tree_of d) path) st) later)) (sym is) (open_statement (instance_at (tree_of d) path) st, refl, opens path number, stands)
+
+  pub seq_some : (parts later : List Statement) (part : Statement) (strand inner : Strand) → parts ≡ part ∷ later → plain_strand strand ≡ ASeq (plain_strand inner) (plain_statements later) → OpensAs d n (plain_statement part) inner → StandIn d n (plain_statements later)
+      → OpensAs d n (Placed (Seq (plain_statements parts)) no_place) strand
+  seq_some parts later part strand inner are is opened stands =
+      opens_as (Seq (plain_statements parts)) strand (plain_strand strand) refl
+      (λ path number.
+      let i = instance_at (tree_of d) path in
+      let e : opens i (Seq (plain_statements parts)) ≡ InSeq (open_statement i (plain_statement part)) (plain_statements later) =
+      ap (λ (xs : List Statement). opens i (Seq (plain_statements xs))) are ∙ ap (λ o. InSeq o (plain_statements later)) (with_statement i (plain_statement part)) in
+      subst (Shows d n (plain_strand strand)) (sym e) (seq_shown (plain_statements later) (plain_statement part) strand inner is opened stands path number))
+
+  -- A REPEAT
+  pub repeat_zero : (count : ℕ) (body : PlainStatement) (strand : Strand) → count ≡ 0 → plain_strand strand ≡ AnIdling → OpensAs d n (Placed (Repeat count body) no_place) strand
+  repeat_zero count body strand none is = opens_as (Repeat count body) strand AnIdling is (λ path number. ap (λ k. opens (instance_at (tree_of d) path) (Repeat k body)) none)
+
+  pub repeat_shown : (left : ℕ) (body : PlainStatement) (strand inner : Strand) → plain_strand strand ≡ ARepeat (plain_strand inner) left body → OpensAs d n body inner → StandsIn d n body → (path : Path) → IsNumber d n path
+      → Shows d n (plain_strand strand) (InRepeat (open_statement (instance_at (tree_of d) path) body) left body)
+  repeat_shown left body strand inner is opens stands path number =
+      subst (λ q. Shows d n q (InRepeat (open_statement (instance_at (tree_of d) path) body) left body)) (sym is) (open_statement (instance_at (tree_of d) path) body, refl, opens path number, stands)
+
+  pub repeat_some : (count left : ℕ) (body : PlainStatement) (strand inner : Strand) → count ≡ suc left → plain_strand strand ≡ ARepeat (plain_strand inner) left body → OpensAs d n body inner → StandsIn d n body → OpensAs d n (Placed (Repeat count body) no_place) strand
+  repeat_some count left body strand inner some is opened stands =
+      opens_as (Repeat count body) strand (plain_strand strand) refl
+      (λ path number.
+      let i = instance_at (tree_of d) path in
+      let e : opens i (Repeat count body) ≡ InRepeat (open_statement i body) left body = ap (λ k. opens i (Repeat k body)) some ∙ ap (λ o. InRepeat o left body) (with_statement i body) in
+      subst (Shows d n (plain_strand strand)) (sym e) (repeat_shown left body strand inner is opened stands path number))
+
+  -- LEAVES
+  pub if_opens : (port : PlacedPort) (comb : Option ℕ) (a b : PlainStatement) (strand : Strand) → plain_strand strand ≡ AChoice port comb a b → FormStands d n (If port comb a b) → OpensAs d n (Placed (If port comb a b) no_place) strand
+  if_opens port comb a b strand is stands = opens_as (If port comb a b) strand (AChoice port comb a b) is (λ path number. (refl, stands))
+
+  pub while_opens : (port : PlacedPort) (comb : Option ℕ) (body : PlainStatement) (strand : Strand) → plain_strand strand ≡ ATest port comb body → FormStands d n (While port comb body) → OpensAs d n (Placed (While port comb body) no_place) strand
+  while_opens port comb body strand is stands = opens_as (While port comb body) strand (ATest port comb body) is (λ path number. (refl, stands))
+
+  pub empty_opens : (strand : Strand) → plain_strand strand ≡ AnIdling → OpensAs d n (Placed Empty no_place) strand
+  empty_opens strand is = opens_as Empty strand AnIdling is (λ path number. refl)
+
+  pub timed_opens : (k : ℕ) (strand : Strand) → plain_strand strand ≡ AWaiting → OpensAs d n (Placed (Timed k) no_place) strand
+  timed_opens k strand is = opens_as (Timed k) strand AWaiting is (λ path number. refl)
+
+  pub group_opens : (g : ℕ) (strand : Strand) → plain_strand strand ≡ AGroup g → IsGroupOf d n g → HasLength d n g None → ((path : Path) → IsNumber d n path → called (instance_at (tree_of d) path) g ≡ None) → OpensAs d n (Placed (Enable g) no_place) strand
+  group_opens g strand is group length calls = opens_as (Enable g) strand (AGroup g) is (λ path number. (enable_opens d n g None length path number (calls path number), group))
+
+  -- A CALL
+  pub call_opens : (g c m : ℕ) (control : PlainStatement) (strand inner : Strand) → plain_strand strand ≡ ACall g c None (plain_strand inner) → IsGroupOf d n g → HasLength d n g None → CallsCell d n g c → IsPart d n c → HasChild d n c m → HasControl d m control
+      → OpensAs d m control inner → OpensAs d n (Placed (Enable g) no_place) strand
+  call_opens g c m control strand inner is group length calls part has controls opened =
+      opens_as (Enable g) strand (ACall g c None (plain_strand inner)) is
+      (λ path number.
+      let i = instance_at (tree_of d) path in
+      let there = has path number in
+      let below : open_below (cells_of i) c ≡ open_statement (instance_at (tree_of d) (path ++ c ∷ [])) control =
+      child_control d n c part path number ∙ ap (open_statement (instance_at (tree_of d) (path ++ c ∷ []))) (sym (controls (path ++ c ∷ []) there)) in (
+        open_below (cells_of i) c,
+        enable_opens d n g (Some c) length path number (calls path number),
+        group,
+        calls,
+        tt,
+        (m, has, subst (Shows d m (plain_strand inner)) (sym below) (opened (path ++ c ∷ []) there)),
+      ))
+
+  -- A PAR
+  abbrev pub AreOpen : List Statement → List Strand → Type 0
+  AreOpen [] [] = Unit {0}
+  AreOpen [] (x ∷ xs) = ⊥
+  AreOpen (s ∷ ss) [] = ⊥
+  AreOpen (s ∷ ss) (x ∷ xs) = OpensAs d n (plain_statement s) x × AreOpen ss xs
+
+  one_more : (done : List Statement) (opened : List Strand) (s : Statement) (x : Strand) → AreOpen done opened → OpensAs d n (plain_statement s) x → AreOpen (done ++ s ∷ []) (opened ++ x ∷ [])
+  one_more [] [] s x are one = (one, tt)
+  one_more [] (y ∷ ys) s x are one = absurd are
+  one_more (t ∷ ts) [] s x are one = absurd are
+  one_more (t ∷ ts) (y ∷ ys) s x are one = (are.0, one_more ts ys s x are.1 one)
+
+  abbrev pub OpenSoFar : List Statement → ℕ → List Strand → Type 0
+  OpenSoFar arms k opened = (done : List Statement) × (done ++ drop k arms ≡ arms) × AreOpen done opened
+
+  pub none_open : (arms : List Statement) → OpenSoFar arms 0 []
+  none_open arms = ([], refl, tt)
+
+  joined : (xs : List Statement) (y : Statement) (zs : List Statement) → (xs ++ y ∷ []) ++ zs ≡ xs ++ (y ∷ zs)
+  joined [] y zs = refl
+  joined (x ∷ xs) y zs = ap (λ l. x ∷ l) (joined xs y zs)
+
+  ended : (xs : List Statement) → xs ++ [] ≡ xs
+  ended [] = refl
+  ended (x ∷ xs) = ap (λ l. x ∷ l) (ended xs)
+
+  pub arm_open : (arms : List Statement) (k : ℕ) (opened : List Strand) (s : Statement) (x : Strand) → k < length arms → s ≡ get_or arms k s → OpenSoFar arms k opened → OpensAs d n (plain_statement s) x → OpenSoFar arms (k + 1) (opened ++ x ∷ [])
+  arm_open arms k opened s x less is (done, parted, are) one =
+      let split : drop k arms ≡ s ∷ drop (k + 1) arms =
+      drop-cons arms k s less ∙ ap (λ (y : Statement). y ∷ drop (suc k) arms) (sym is) ∙ ap (λ m. s ∷ drop m arms) (let f : suc k ≡ k + 1 = omega arith in f) in
+      (done ++ s ∷ [], joined done s (drop (k + 1) arms) ∙ ap (λ l. done ++ l) (sym split) ∙ parted, one_more done opened s x are one)
+
+  all_shown : (path : Path) → IsNumber d n path → (arms : List Statement) (opened : List Strand) → AreOpen arms opened
+      → ShowsAll d n (strands_of (map plain_strand opened)) (open_arms (part_of (instance_at (tree_of d) path)) (open_enable (instance_at (tree_of d) path) (open_below (cells_of (instance_at (tree_of d) path)))) (plain_statements arms))
+  all_shown path number [] [] are = refl
+  all_shown path number [] (x ∷ xs) are = absurd are
+  all_shown path number (s ∷ ss) [] are = absurd are
+  all_shown path number (s ∷ ss) (x ∷ xs) are =
+      let i = instance_at (tree_of d) path in (
+        open_with (part_of i) (open_enable i (open_below (cells_of i))) (plain_statement s),
+        open_arms (part_of i) (open_enable i (open_below (cells_of i))) (plain_statements ss),
+        refl,
+        subst (Shows d n (plain_strand x)) (sym (with_statement i (plain_statement s))) (are.0 path number),
+        all_shown path number ss xs are.1,
+      )
+
+  pub par_opens : (arms : List Statement) (k : ℕ) (opened : List Strand) (strand : Strand) → length arms ≢ 0 → drop k arms ≡ [] → OpenSoFar arms k opened → plain_strand strand ≡ APar (strands_of (map plain_strand opened)) → OpensAs d n (Placed (Par (plain_statements arms)) no_place) strand
+  par_opens arms k opened strand some past (done, parted, are) is =
+      let all : done ≡ arms = sym (ended done) ∙ ap (λ l. done ++ l) (sym past) ∙ parted in
+      by_arms arms opened some (subst (λ l. AreOpen l opened) all are) is
+    where
+      by_arms : (list : List Statement) (xs : List Strand) → length list ≢ 0 → AreOpen list xs → plain_strand strand ≡ APar (strands_of (map plain_strand xs)) → OpensAs d n (Placed (Par (plain_statements list)) no_place) strand
+      by_arms [] xs some are is = absurd (some refl)
+      by_arms (s ∷ ss) [] some are is = absurd are
+      by_arms (s ∷ ss) (x ∷ xs) some are is =
+          opens_as (Par (plain_statements (s ∷ ss))) strand (APar (strands_of (map plain_strand (x ∷ xs)))) is
+          (λ path number.
+          let i = instance_at (tree_of d) path in
+          (open_arms (part_of i) (open_enable i (open_below (cells_of i))) (plain_statements (s ∷ ss)), refl, all_shown path number (s ∷ ss) (x ∷ xs) are, tt))
+
+  pub par_none : (arms : List Statement) (strand : Strand) → length arms ≡ 0 → plain_strand strand ≡ AnIdling → OpensAs d n (Placed (Par (plain_statements arms)) no_place) strand
+  par_none [] strand none is = opens_as (Par (plain_statements [])) strand AnIdling is (λ path number. refl)
+  par_none (s ∷ ss) strand none is = absurd (let f : suc (length ss) ≡ 0 = none in omega (arith, f))
+
+pub none_are : (xs : List Statement) → length xs ≡ 0 → xs ≡ []
+none_are [] e = refl
+none_are (x ∷ xs) e = absurd (let f : suc (length xs) ≡ 0 = e in omega (arith, f))
+
+-- the first part of a seq stands where all do
+pub first_stands : (d : PlainDesign) (n : ℕ) (parts later : List Statement) (part : Statement) → parts ≡ part ∷ later → StandIn d n (plain_statements parts) → StandsIn d n (plain_statement part)
+first_stands d n parts later part are stands path v number inside =
+    subst (λ (xs : List Statement). StandIn d n (plain_statements xs)) are stands path v number (in_left (visit Dynamic (plain_statement part)) (visit_all Dynamic (plain_statements later)) v inside)
+
+-- the later parts of a seq stand where all do
+pub later_stand : (d : PlainDesign) (n : ℕ) (parts later : List Statement) (part : Statement) → parts ≡ part ∷ later → StandIn d n (plain_statements parts) → StandIn d n (plain_statements later)
+later_stand d n parts later part are stands path v number inside =
+    subst (λ (xs : List Statement). StandIn d n (plain_statements xs)) are stands path v number (in_right (visit Dynamic (plain_statement part)) (visit_all Dynamic (plain_statements later)) v inside)
+
+-- WHAT IS LEFT of a seq and a repeat behind a part
+module _ (d : PlainDesign) (n : ℕ) where
+  pub seq_ended : (later : List Statement) → later ≡ [] → LeavesAs d n None None (λ i. seq_left i (plain_statements later))
+  seq_ended later none path None number shown = subst (λ (xs : List Statement). LeftShown d n None (seq_left (instance_at (tree_of d) path) (plain_statements xs) None)) (sym none) tt
+  seq_ended later none path (Some o) number shown = absurd shown
+
+  pub seq_next : (parts later : List Statement) (part : Statement) (strand inner : Strand) → parts ≡ part ∷ later → plain_strand strand ≡ ASeq (plain_strand inner) (plain_statements later) → OpensAs d n (plain_statement part) inner → StandIn d n (plain_statements later)
+      → LeavesAs d n None (Some strand) (λ i. seq_left i (plain_statements parts))
+  seq_next parts later part strand inner are is opened stands path None number shown =
+      subst (λ (xs : List Statement). LeftShown d n (Some strand) (seq_left (instance_at (tree_of d) path) (plain_statements xs) None)) (sym are) (seq_shown d n (plain_statements later) (plain_statement part) strand inner is opened stands path number)
+  seq_next parts later part strand inner are is opened stands path (Some o) number shown = absurd shown
+
+  pub seq_on : (later : PlainStatements) (strand inner : Strand) → plain_strand strand ≡ ASeq (plain_strand inner) later → StandIn d n later → LeavesAs d n (Some inner) (Some strand) (λ i. seq_left i later)
+  seq_on later strand inner is stands path None number shown = absurd shown
+  seq_on later strand inner is stands path (Some o) number shown = subst (λ q. Shows d n q (InSeq o later)) (sym is) (o, refl, shown, stands)
+
+  pub repeat_ended : (rounds : ℕ) (body : PlainStatement) → rounds ≡ 0 → LeavesAs d n None None (λ i. repeat_left i rounds body)
+  repeat_ended rounds body none path None number shown = subst (λ k. LeftShown d n None (repeat_left (instance_at (tree_of d) path) k body None)) (sym none) tt
+  repeat_ended rounds body none path (Some o) number shown = absurd shown
+
+  pub repeat_next : (rounds left : ℕ) (body : PlainStatement) (strand inner : Strand) → rounds ≡ suc left → plain_strand strand ≡ ARepeat (plain_strand inner) left body → OpensAs d n body inner → StandsIn d n body → LeavesAs d n None (Some strand) (λ i. repeat_left i rounds body)
+  repeat_next rounds left body strand inner some is opened stands path None number shown =
+      subst (λ k. LeftShown d n (Some strand) (repeat_left (instance_at (tree_of d) path) k body None)) (sym some) (repeat_shown d n left body strand inner is opened stands path number)
+  repeat_next rounds left body strand inner some is opened stands path (Some o) number shown = absurd shown
+
+  pub repeat_on : (rounds : ℕ) (body : PlainStatement) (strand inner : Strand) → plain_strand strand ≡ ARepeat (plain_strand inner) rounds body → StandsIn d n body → LeavesAs d n (Some inner) (Some strand) (λ i. repeat_left i rounds body)
+  repeat_on rounds body strand inner is stands path None number shown = absurd shown
+  repeat_on rounds body strand inner is stands path (Some o) number shown = subst (λ q. Shows d n q (InRepeat o rounds body)) (sym is) (o, refl, shown, stands)

@@ -1,0 +1,16 @@
+use Rattle.std.proofs.Common.{rules, ◌≡◌, ◌-◌, suc, sym, subst, arith}
+use Rattle.cx_design.specs.PlainForms.{plain_statement}
+use Rattle.cx_interp.specs.Machines.{design_of}
+use Rattle.cx_weave.specs.declared.strands.Strand.TheVariants as strands
+use Rattle.cx_weave.specs.Strides.{OpensAs}
+use Rattle.cx_weave.proofs.OpenSteps.{repeat_ended, repeat_next}
+use Rattle.cx_weave.proofs.StrandFolds.{is_repeat}
+use Rattle.cx_weave.proofs.parts.next_round.Goals as goal
+
+pub returns : goal.returns
+returns c =
+    let d = design_of c.args.plan.now in
+    let some : c.args.rounds ≡ suc (c.args.rounds - 1) = (let n = c.if-rounds-eq0.false in first_of (omega (arith, n), search (rules, n))) in
+    let same : c.in_ok-run.run'.value ≡ c.in_ok-open_statement.field-0 = search rules in
+    repeat_next d c.args.instance c.args.rounds (c.args.rounds - 1) (plain_statement c.args.body.now) (strands.InRepeat c.in_ok-run.run' (c.args.rounds - 1) c.args.body) c.in_ok-run.run'.value some (is_repeat c.in_ok-run.run' (c.args.rounds - 1) c.args.body)
+    (subst (OpensAs d c.args.instance (plain_statement c.args.body.now)) (sym same) c.in_ok-open_statement.ensures) c.requires.body

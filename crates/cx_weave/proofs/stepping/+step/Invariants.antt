@@ -1,0 +1,22 @@
+use Rattle.std.proofs.Common.{ℕ, ◌+◌, ◌*◌, map}
+use Rattle.cx_weave.specs.Strands.{plain_strand, strands_of}
+use Rattle.cx_weave.proofs.StrandSizes.{size_of, sizes_of}
+use Rattle.cx_weave.proofs.stepping.+step.Given as goal
+
+abbrev pub decreases-step : goal.decreases-step
+decreases-step l = 2 * size_of (plain_strand l.strand)
+
+abbrev pub decreases-step_seq : goal.decreases-step_seq
+decreases-step_seq l = 2 * size_of (plain_strand l.first) + 1
+
+abbrev pub decreases-step_par : goal.decreases-step_par
+decreases-step_par l = 2 * sizes_of (strands_of (map plain_strand l.arms.items)) + 1
+
+abbrev pub decreases-step_loop : goal.decreases-step_loop
+decreases-step_loop l = 2 * size_of (plain_strand l.run) + 1
+
+abbrev pub decreases-step_repeat : goal.decreases-step_repeat
+decreases-step_repeat l = 2 * size_of (plain_strand l.run) + 1
+
+abbrev pub decreases-step_call : goal.decreases-step_call
+decreases-step_call l = 2 * size_of (plain_strand l.child) + 1

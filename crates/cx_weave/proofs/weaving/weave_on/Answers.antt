@@ -1,0 +1,90 @@
+use Rattle.std.proofs.Common.{rules, ◌≡◌, ◌≤◌, ◌<◌, ◌+◌, ◌*◌, ◌%◌, ◌^◌, ℕ, Ok, Err, Some, None, List, [], length, refl, sym, ap, ◌∙◌, subst, arith}
+use Rattle.std.proofs.Math.Nat.{mod-lt}
+use Rattle.cx_meaning.specs.Instances.{instance_at, start, tree_of}
+use Rattle.cx_state.specs.ReadStates.{state_in}
+use Rattle.cx_weave.specs.Strides.{HasStepped}
+use Rattle.cx_design.specs.PlainForms.{plain_statement}
+use Rattle.cx_interp.specs.Machines.{design_of, rows_of}
+use Rattle.cx_interp.proofs.CallLemmas.{control_stands}
+use Rattle.cx_interp.proofs.RunLemmas.{main_first, main_there}
+use Rattle.cx_weave.specs.Open.{open_statement}
+use Rattle.cx_weave.specs.Strands.{IsShown, plain_strand, strand_leaves}
+use Rattle.cx_weave.specs.declared.weaving.Wove.TheVariants.{End}
+use Rattle.cx_weave.specs.Results.{EndsIn}
+use Rattle.cx_weave.specs.Woven.{by_list, woven}
+use Rattle.cx_weave.proofs.PartSteps.{some_leaf}
+use Rattle.cx_weave.proofs.WeaveSteps.{WovenSoFar, capped_leaf, left_shown, weave_ends, weave_goes, weave_halts, weave_more, weave_starts}
+use Rattle.cx_weave.proofs.weaving.weave_on.Goals as goal
+
+pub control_of-control-requires-clause-instance : goal.control_of-control-requires-clause-instance
+control_of-control-requires-clause-instance c = main_there (tree_of (design_of c.args.plan.now))
+
+pub open_statement-requires-clause-statement : goal.open_statement-requires-clause-statement
+open_statement-requires-clause-statement c = control_stands (design_of c.args.plan.now) 0 (plain_statement c.control_of-control.result.now) c.control_of-control.ensures
+
+pub loop-made-init : goal.loop-made-init
+loop-made-init c =
+    let d = design_of c.args.plan.now in (
+      c.requires.machine,
+      (open_statement (instance_at (tree_of d) []) (plain_statement c.control_of-control.result.now), c.in_ok-strand.ensures [] (main_first (tree_of d))),
+      c.requires.unheld 0,
+      λ words stands. weave_starts d words (by_list c.args.list.now) c.args.steps (plain_statement c.control_of-control.result.now) c.in_ok-strand.strand (rows_of c.args.machine.now) c.control_of-control.ensures c.in_ok-strand.ensures stands,
+      omega arith,
+    )
+
+pub chosen_leaf-leaf-requires-clause-leaves : goal.chosen_leaf-leaf-requires-clause-leaves
+chosen_leaf-leaf-requires-clause-leaves c =
+    let shown : IsShown (design_of c.args.plan.now) 0 (plain_strand c.loop-made.strand) = c.loop-made.invariant.1 in
+    some_leaf (design_of c.args.plan.now) 0 (plain_strand c.loop-made.strand) shown.0 shown.1
+
+pub step-requires-clause-instance : goal.step-requires-clause-instance
+step-requires-clause-instance c = main_there (tree_of (design_of c.args.plan.now))
+
+pub step-requires-clause-leaf : goal.step-requires-clause-leaf
+step-requires-clause-leaf c =
+    let shown : IsShown (design_of c.args.plan.now) 0 (plain_strand c.loop-made.strand) = c.loop-made.invariant.1 in
+    let some : 0 < strand_leaves (plain_strand c.loop-made.strand) = some_leaf (design_of c.args.plan.now) 0 (plain_strand c.loop-made.strand) shown.0 shown.1 in
+    subst (λ k. k < strand_leaves (plain_strand c.loop-made.strand)) (sym c.chosen_leaf-leaf.ensures) (mod-lt (by_list c.args.list.now c.loop-made.made) some)
+
+pub returns-in-Ok-None-clause-woven : goal.returns-in-Ok-None-clause-woven
+returns-in-Ok-None-clause-woven c = λ words stands.
+    let d = design_of c.args.plan.now in
+    let x = woven d words (by_list c.args.list.now) c.args.steps in
+    let turn : HasStepped d (rows_of c.loop-made.machine) (rows_of c.step.new.machine) 0 (plain_strand c.loop-made.strand) c.chosen_leaf-leaf.result (Ok None) =
+    subst (λ r. HasStepped d (rows_of c.loop-made.machine) (rows_of c.step.new.machine) 0 (plain_strand c.loop-made.strand) c.chosen_leaf-leaf.result r) (c.in-Ok-None.is ∙ ap (λ o. Ok o) c.in-Ok-None.field-0-is) c.step.ensures.stepped in
+    let same : c.chosen_leaf-leaf.result ≡ c.from.result = (let e = c.from.ensures in first_of (cc, search (rules, e))) in
+    subst (λ m. EndsIn d (rows_of c.step.new.machine) (End (c.loop-made.made + 1) (c.loop-made.sum + m)) x) same
+    (weave_ends d words (by_list c.args.list.now) c.args.steps c.loop-made.made c.loop-made.sum c.chosen_leaf-leaf.result (plain_strand c.loop-made.strand) (rows_of c.loop-made.machine) c.loop-made-test.true c.chosen_leaf-leaf.ensures c.loop-made.invariant.2
+    (c.loop-made.invariant.3 words stands) (rows_of c.step.new.machine) turn)
+
+pub returns-in-Err-clause-woven : goal.returns-in-Err-clause-woven
+returns-in-Err-clause-woven c = λ words stands.
+    let d = design_of c.args.plan.now in
+    let turn : HasStepped d (rows_of c.loop-made.machine) (rows_of c.step.new.machine) 0 (plain_strand c.loop-made.strand) c.chosen_leaf-leaf.result (Err c.in-Err.halt) =
+    subst (λ r. HasStepped d (rows_of c.loop-made.machine) (rows_of c.step.new.machine) 0 (plain_strand c.loop-made.strand) c.chosen_leaf-leaf.result r) c.in-Err.is c.step.ensures.stepped in
+    weave_halts d words (by_list c.args.list.now) c.args.steps c.loop-made.made c.loop-made.sum c.chosen_leaf-leaf.result (plain_strand c.loop-made.strand) (rows_of c.loop-made.machine) c.loop-made-test.true c.chosen_leaf-leaf.ensures c.loop-made.invariant.2
+    (c.loop-made.invariant.3 words stands) (rows_of c.step.new.machine) c.in-Err.halt c.halted.result turn c.halted.ensures
+
+pub loop-made-preserved : goal.loop-made-preserved
+loop-made-preserved c =
+    let d = design_of c.args.plan.now in
+    let turn : HasStepped d (rows_of c.loop-made.machine) (rows_of c.step.new.machine) 0 (plain_strand c.loop-made.strand) c.chosen_leaf-leaf.result (Ok (Some c.in-Ok-Some.left)) =
+    subst (λ r. HasStepped d (rows_of c.loop-made.machine) (rows_of c.step.new.machine) 0 (plain_strand c.loop-made.strand) c.chosen_leaf-leaf.result r) (c.in-Ok-Some.is ∙ ap (λ o. Ok o) c.in-Ok-Some.field-0-is) c.step.ensures.stepped in
+    let bound = c.loop-made.invariant.4 in
+    let small : c.chosen_leaf-leaf.result < 2 ^ 32 = (let r = c.chosen_leaf-leaf.type_inv in first_of (omega (arith, r), search (rules, r))) in
+    let same : c.chosen_leaf-leaf.result ≡ c.from-sum.result = (let e = c.from-sum.ensures in first_of (cc, search (rules, e))) in
+    let stood = c.rows_stand.ensures d c.args.plan.now.table.rows.items c.args.plan.now.table.children.items (rows_of c.loop-made.machine) c.requires.plan.table c.loop-made.invariant.0.state in (
+      c.step.ensures.machine,
+      left_shown d (rows_of c.loop-made.machine) (rows_of c.step.new.machine) 0 c.chosen_leaf-leaf.result (plain_strand c.loop-made.strand) c.in-Ok-Some.left turn [] (state_in (tree_of d) (rows_of c.loop-made.machine)) (main_first (tree_of d)) stood c.loop-made.invariant.1,
+      λ input. c.step.ensures.stepped.held 0 input (omega arith) ∙ c.loop-made.invariant.2 input,
+      λ words stands.
+          subst (λ m. WovenSoFar d words (by_list c.args.list.now) c.args.steps (c.loop-made.made + 1) (c.loop-made.sum + m) (plain_strand c.in-Ok-Some.left) (rows_of c.step.new.machine)) same
+          (weave_goes d words (by_list c.args.list.now) c.args.steps c.loop-made.made c.loop-made.sum c.chosen_leaf-leaf.result (plain_strand c.loop-made.strand) (rows_of c.loop-made.machine) c.loop-made-test.true c.chosen_leaf-leaf.ensures c.loop-made.invariant.2
+          (c.loop-made.invariant.3 words stands) (rows_of c.step.new.machine) c.in-Ok-Some.left turn),
+      omega (arith, bound, small, same),
+    )
+
+pub returns-clause-woven : goal.returns-clause-woven
+returns-clause-woven c = λ words stands.
+    let past = c.loop-made-test.false in
+    weave_more (design_of c.args.plan.now) words (by_list c.args.list.now) c.args.steps c.loop-made.made c.loop-made.sum (plain_strand c.loop-made.strand) (rows_of c.loop-made.machine) (omega (arith, past)) (c.loop-made.invariant.3 words stands)

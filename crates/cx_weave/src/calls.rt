@@ -1,0 +1,137 @@
+//! Calls of components.
+
+ghost use Rattle.std.specs.Prelude.{◌≡◌, ◌≢◌, ◌<◌, ℕ, Option, Some, IfOk, length};
+ghost use Rattle.cx_meaning.specs.Instances.{Path, instance_at, tree_of};
+ghost use Rattle.cx_interp.specs.Callees.{HasChild, IsPart};
+ghost use Rattle.cx_interp.specs.Groups.{IsGroupOf};
+ghost use Rattle.cx_interp.specs.Machines.{design_of, rows_of, IsPlan, IsAt, IsInstance};
+ghost use Rattle.cx_state.specs.Tables.{IsNumber};
+ghost use Rattle.cx_state.specs.States.{inputs_held, instance_state};
+ghost use Rattle.cx_weave.specs.Open.{Open};
+ghost use Rattle.cx_weave.specs.Steps as steps;
+ghost use Rattle.cx_weave.specs.Calls.{HoldsAs, HoldsList};
+ghost use Rattle.cx_weave.specs.Strands.{CallsCell, InputsFit, seen_items};
+ghost use Rattle.cx_weave.specs.Strides.{LeftShown};
+
+use crate::strands::Strand;
+use cx_interp::calls::group_row;
+use cx_interp::children::hold_inputs;
+use cx_interp::machine::Machine;
+use cx_interp::plan::Plan;
+use cx_meaning::Seen;
+use cx_text::Memory;
+use std::alloc::Global;
+
+/// Holds the inputs of a child as they are listed.
+fn hold_listed(
+    plan: &Plan<'_>,
+    machine: &mut Machine<'_>,
+    instance: usize,
+    cell: u32,
+    child: usize,
+    inputs: &[Seen],
+)
+    requires plan { IsPlan plan.now }
+    requires machine { IsAt plan.now machine.old }
+    requires instance { IsInstance (design_of plan.now) instance }
+    requires child { HasChild (design_of plan.now) instance cell child }
+    requires inputs { InputsFit (design_of plan.now) instance cell (Some inputs.now) }
+    ensures machine { IsAt plan.now machine.new }
+    ensures held { HoldsList (design_of plan.now) (rows_of machine.old) (rows_of machine.new) child inputs.now }
+{
+    let _ = plan;
+    let _ = instance;
+    let _ = cell;
+    for input in 0..inputs.len() {
+        machine.sight.state.hold(child, input, inputs[input]);
+    }
+}
+
+/// What the inputs of an instance are held as.
+fn held_inputs(alloc: Global, machine: &Machine<'_>, instance: usize) -> Result<Vec<Seen>, Memory>
+    requires instance { instance < length (rows_of machine.now) }
+    ensures { IfOk result (λ inputs. inputs.items ≡ (instance_state (rows_of machine.now) instance).held) }
+{
+    let mut inputs = Vec::new(alloc);
+    for seen in &machine.sight.state.instances[instance].held {
+        inputs.push(*seen)?;
+    }
+    Ok(inputs)
+}
+
+/// Holds the inputs of a call, which are seen in its first turn.
+pub(crate) fn hold_call(
+    alloc: Global,
+    plan: &Plan<'_>,
+    machine: &mut Machine<'_>,
+    instance: usize,
+    group: u32,
+    cell: u32,
+    child: usize,
+    inputs: Option<Vec<Seen>>,
+) -> Result<Vec<Seen>, Memory>
+    requires plan { IsPlan plan.now }
+    requires machine { IsAt plan.now machine.old }
+    requires instance { IsInstance (design_of plan.now) instance }
+    requires group { IsGroupOf (design_of plan.now) instance group }
+    requires part { IsPart (design_of plan.now) instance cell }
+    requires child { HasChild (design_of plan.now) instance cell child }
+    requires inputs { InputsFit (design_of plan.now) instance cell (seen_items (λ v. v.items) inputs) }
+    ensures machine { IsAt plan.now machine.new }
+    ensures held { IfOk result (λ now. HoldsAs (design_of plan.now) (rows_of machine.old) (rows_of machine.new) instance group cell child (seen_items (λ v. v.items) inputs) now.items) }
+    ensures others { (m input : ℕ) → m ≢ child → inputs_held (rows_of machine.new) m input ≡ inputs_held (rows_of machine.old) m input }
+{
+    match inputs {
+        Some(inputs) => {
+            hold_listed(plan, machine, instance, cell, child, &inputs);
+            Ok(inputs)
+        }
+        None => {
+            hold_inputs(plan, machine, instance, group, cell, child);
+            held_inputs(alloc, machine, child)
+        }
+    }
+}
+
+/// A call: behind the child come the capture cycle, where registers are captured, and an idle turn.
+pub(crate) fn call_left<'a>(
+    alloc: Global,
+    plan: &'a Plan<'_>,
+    instance: usize,
+    group: u32,
+    cell: u32,
+    inputs: Vec<Seen>,
+    left: Option<Strand<'a>>,
+    number: usize,
+) -> Result<Option<Strand<'a>>, Memory>
+    requires plan { IsPlan plan.now }
+    requires instance { IsInstance (design_of plan.now) instance }
+    requires group { IsGroupOf (design_of plan.now) instance group }
+    requires calls { CallsCell (design_of plan.now) instance group cell }
+    requires child { HasChild (design_of plan.now) instance cell number }
+    requires inputs { InputsFit (design_of plan.now) instance cell (Some inputs.items) }
+    ensures { IfOk result (λ after. (path : Path) (o : Option Open) → IsNumber (design_of plan.now) instance path → LeftShown (design_of plan.now) number left.entry o
+        → LeftShown (design_of plan.now) instance after (steps.call_left (instance_at (tree_of (design_of plan.now)) path) group cell inputs.items o)) }
+{
+    let _ = number;
+    match left {
+        Some(child) => {
+            let child = Box::new(alloc, child)?;
+            let inputs = Some(inputs);
+            Ok(Some(Strand::InCall {
+                group,
+                cell,
+                inputs,
+                child,
+            }))
+        }
+        None => {
+            let row = group_row(plan, instance, group);
+            if row.captures {
+                Ok(Some(Strand::Capturing { group, cell }))
+            } else {
+                Ok(Some(Strand::Closing(group)))
+            }
+        }
+    }
+}

@@ -1,0 +1,186 @@
+//! Turns of leaves that are groups, parts of calls, and tests.
+
+ghost use Rattle.std.specs.Prelude.{◌≡◌};
+ghost use Rattle.cx_eval.specs.Evaluated.{CanAct};
+ghost use Rattle.cx_meaning.specs.Designs.{If, While};
+ghost use Rattle.cx_design.specs.PlainForms.{plain_statement};
+ghost use Rattle.cx_interp.specs.Groups.{IsGroupOf};
+ghost use Rattle.cx_interp.specs.Machines.{design_of, rows_of, IsPlan, IsAt, IsInstance, FormStands};
+ghost use Rattle.cx_interp.specs.Tests.{comb_active};
+ghost use Rattle.cx_weave.specs.Leaves.{test_drives};
+ghost use Rattle.cx_weave.specs.Strands.{ACapture, AChoice, AClosing, AGroup, ATest, CallsCell};
+ghost use Rattle.cx_weave.specs.Strides.{HasRested, HasStepped};
+
+use crate::opening::open_statement;
+use crate::parts::open_loop;
+use crate::resting::rest_listed;
+use crate::strands::{Halt, Strand};
+use crate::turns::{take_capture, take_group};
+use cx_design::Statement;
+use cx_interp::calls::group_row;
+use cx_interp::machine::{Machine, test};
+use cx_interp::plan::Plan;
+use cx_interp::turns::Turn;
+use cx_meaning::PlacedPort;
+use cx_state::alike_laws::rows_stand;
+use std::alloc::Global;
+
+/// A turn of a group that calls nothing.
+pub(crate) fn step_group<'a>(
+    plan: &Plan<'_>,
+    machine: &mut Machine<'_>,
+    instance: usize,
+    group: u32,
+    leaf: u32,
+) -> Result<Option<Strand<'a>>, Halt>
+    requires plan { IsPlan plan.now }
+    requires machine { IsAt plan.now machine.old }
+    requires instance { IsInstance (design_of plan.now) instance }
+    requires group { IsGroupOf (design_of plan.now) instance group }
+    ensures machine { IsAt plan.now machine.new }
+    ensures stepped { HasStepped (design_of plan.now) (rows_of machine.old) (rows_of machine.new) instance (AGroup group) leaf result }
+{
+    rows_stand();
+    let _ = leaf;
+    let row = group_row(plan, instance, group);
+    let cells = row.cells.as_slice();
+    match take_group(plan, machine, instance, group, cells) {
+        Turn::Ends => {
+            rest_listed(plan, machine, instance, cells);
+            Ok(None)
+        }
+        Turn::Goes => Ok(Some(Strand::InGroup(group))),
+        Turn::Faults(fault) => Err(Halt::Fault(fault)),
+    }
+}
+
+/// The capture cycle of a call.
+pub(crate) fn step_capture<'a>(
+    plan: &Plan<'_>,
+    machine: &mut Machine<'_>,
+    instance: usize,
+    group: u32,
+    cell: u32,
+    leaf: u32,
+) -> Result<Option<Strand<'a>>, Halt>
+    requires plan { IsPlan plan.now }
+    requires machine { IsAt plan.now machine.old }
+    requires instance { IsInstance (design_of plan.now) instance }
+    requires group { IsGroupOf (design_of plan.now) instance group }
+    requires calls { CallsCell (design_of plan.now) instance group cell }
+    ensures machine { IsAt plan.now machine.new }
+    ensures stepped { HasStepped (design_of plan.now) (rows_of machine.old) (rows_of machine.new) instance (ACapture group cell) leaf result }
+{
+    rows_stand();
+    let _ = leaf;
+    let row = group_row(plan, instance, group);
+    let cells = row.cells.as_slice();
+    match take_capture(plan, machine, instance, group, cell, cells) {
+        Ok(()) => Ok(Some(Strand::Closing(group))),
+        Err(fault) => Err(Halt::Fault(fault)),
+    }
+}
+
+/// The idle turn that ends a call.
+pub(crate) fn step_closing<'a>(
+    plan: &Plan<'_>,
+    machine: &mut Machine<'_>,
+    instance: usize,
+    group: u32,
+    leaf: u32,
+) -> Result<Option<Strand<'a>>, Halt>
+    requires plan { IsPlan plan.now }
+    requires machine { IsAt plan.now machine.old }
+    requires instance { IsInstance (design_of plan.now) instance }
+    requires group { IsGroupOf (design_of plan.now) instance group }
+    ensures machine { IsAt plan.now machine.new }
+    ensures stepped { HasStepped (design_of plan.now) (rows_of machine.old) (rows_of machine.new) instance (AClosing group) leaf result }
+{
+    let _ = leaf;
+    let row = group_row(plan, instance, group);
+    rest_listed(plan, machine, instance, row.cells.as_slice());
+    Ok(None)
+}
+
+/// Makes the idle edges of the cells that the comb group of a test drives.
+fn rest_comb(plan: &Plan<'_>, machine: &mut Machine<'_>, instance: usize, comb: Option<u32>)
+    requires plan { IsPlan plan.now }
+    requires machine { IsAt plan.now machine.old }
+    requires instance { IsInstance (design_of plan.now) instance }
+    requires comb { CanAct (design_of plan.now) instance (comb_active comb) }
+    ensures machine { IsAt plan.now machine.new }
+    ensures rested { HasRested (design_of plan.now) (rows_of machine.old) (rows_of machine.new) instance (λ part. test_drives part comb) }
+{
+    match comb {
+        Some(group) => {
+            let row = group_row(plan, instance, group);
+            rest_listed(plan, machine, instance, row.cells.as_slice());
+        }
+        None => {}
+    }
+}
+
+/// The test of an if: one of its branches is open then.
+pub(crate) fn step_choice<'a>(
+    alloc: Global,
+    plan: &'a Plan<'_>,
+    machine: &mut Machine<'_>,
+    instance: usize,
+    port: PlacedPort,
+    comb: Option<u32>,
+    first: &'a Statement,
+    second: &'a Statement,
+    leaf: u32,
+) -> Result<Option<Strand<'a>>, Halt>
+    requires plan { IsPlan plan.now }
+    requires machine { IsAt plan.now machine.old }
+    requires instance { IsInstance (design_of plan.now) instance }
+    requires stands { FormStands (design_of plan.now) instance (If port comb (plain_statement first.now) (plain_statement second.now)) }
+    ensures machine { IsAt plan.now machine.new }
+    ensures stepped { HasStepped (design_of plan.now) (rows_of machine.old) (rows_of machine.new) instance (AChoice port comb (plain_statement first.now) (plain_statement second.now)) leaf result }
+{
+    let _ = leaf;
+    match test(plan, machine, instance, port.port, comb) {
+        Ok(true) => {
+            rest_comb(plan, machine, instance, comb);
+            Ok(Some(open_statement(alloc, plan, instance, first)?))
+        }
+        Ok(false) => {
+            rest_comb(plan, machine, instance, comb);
+            Ok(Some(open_statement(alloc, plan, instance, second)?))
+        }
+        Err(fault) => Err(Halt::Fault(fault)),
+    }
+}
+
+/// A test of a while: its body is open then, or it has ended.
+pub(crate) fn step_test<'a>(
+    alloc: Global,
+    plan: &'a Plan<'_>,
+    machine: &mut Machine<'_>,
+    instance: usize,
+    port: PlacedPort,
+    comb: Option<u32>,
+    body: &'a Statement,
+    leaf: u32,
+) -> Result<Option<Strand<'a>>, Halt>
+    requires plan { IsPlan plan.now }
+    requires machine { IsAt plan.now machine.old }
+    requires instance { IsInstance (design_of plan.now) instance }
+    requires stands { FormStands (design_of plan.now) instance (While port comb (plain_statement body.now)) }
+    ensures machine { IsAt plan.now machine.new }
+    ensures stepped { HasStepped (design_of plan.now) (rows_of machine.old) (rows_of machine.new) instance (ATest port comb (plain_statement body.now)) leaf result }
+{
+    let _ = leaf;
+    match test(plan, machine, instance, port.port, comb) {
+        Ok(true) => {
+            rest_comb(plan, machine, instance, comb);
+            Ok(Some(open_loop(alloc, plan, instance, port, comb, body)?))
+        }
+        Ok(false) => {
+            rest_comb(plan, machine, instance, comb);
+            Ok(None)
+        }
+        Err(fault) => Err(Halt::Fault(fault)),
+    }
+}

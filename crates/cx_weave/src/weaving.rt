@@ -1,0 +1,117 @@
+//! The woven run of a design.
+
+ghost use Rattle.std.specs.Prelude.{◌≡◌, ◌<◌, ◌≤◌, ◌%◌, ℕ, List, IfErr, IfOk, length};
+ghost use Rattle.cx_text.specs.Loading.{plain_loaded, FitsRows};
+ghost use Rattle.cx_meaning.specs.Instances.{start, tree_of};
+ghost use Rattle.cx_rules.specs.Externals.{external_rows};
+ghost use Rattle.cx_design.specs.PlainDesigns.{plain_design};
+ghost use Rattle.cx_state.specs.States.{words_in, IsUnheld, StandsFor};
+ghost use Rattle.cx_interp.specs.Machines.{design_of, rows_of, IsPlan, IsAt};
+ghost use Rattle.cx_weave.specs.Results.{EndsIn, HaltedAs, LeavesWords, TellsRun, TellsWoven};
+ghost use Rattle.cx_weave.specs.Strands.{plain_strand, strand_leaves};
+ghost use Rattle.cx_weave.specs.Woven.{by_list, woven};
+
+use crate::laws::{run_ends_too, run_faults_too};
+use crate::leaves::count_leaves;
+use crate::opening::open_statement;
+use crate::stepping::step;
+use crate::strands::{Halt, Strand};
+use cx_design::{Checked, PortFault};
+use cx_interp::Interp;
+use cx_interp::children::control_of;
+use cx_interp::machine::Machine;
+use cx_interp::plan::Plan;
+use cx_state::alike_laws::rows_stand;
+use cx_state::external_words;
+use cx_text::{Loaded, Memory};
+use std::alloc::Global;
+
+/// How a woven run ends within its choices: after so many, with the sum of the numbers of the leaves that they advanced; with
+/// the fault of a leaf and the choices made before it; or not while they last.
+#[derive(Clone, Copy, Debug, PartialEq, Eq)]
+pub enum Wove {
+    End(u64, u128),
+    Fault(PortFault, u64),
+    More,
+}
+
+/// The leaf that the choice of a number names.
+fn chosen_leaf(list: &[u32], made: u64, strand: &Strand<'_>) -> u32
+    requires some { 0 < length list.now }
+    requires leaves { 0 < strand_leaves (plain_strand strand.now) }
+    ensures { result ≡ by_list list.now made % strand_leaves (plain_strand strand.now) }
+{
+    let choice = list[(made % list.len() as u64) as usize];
+    let leaf = u64::from(choice) % count_leaves(strand);
+    leaf as u32
+}
+
+/// What is told of a turn that did not come about, behind so many choices.
+fn halted(halt: Halt, made: u64) -> Result<Wove, Memory>
+    ensures { HaltedAs halt made result }
+{
+    match halt {
+        Halt::Fault(fault) => Ok(Wove::Fault(fault, made)),
+        Halt::Memory => Err(Memory),
+    }
+}
+
+/// Makes choices from the start of main's control.
+fn weave_on(
+    alloc: Global,
+    plan: &Plan<'_>,
+    machine: &mut Machine<'_>,
+    list: &[u32],
+    steps: u64,
+) -> Result<Wove, Memory>
+    requires plan { IsPlan plan.now }
+    requires machine { IsAt plan.now machine.old }
+    requires unheld { IsUnheld (rows_of machine.old) }
+    requires some { 0 < length list.now }
+    ensures machine { IsAt plan.now machine.new }
+    ensures woven { (words : List (List ℕ)) → StandsFor (tree_of (design_of plan.now)) (rows_of machine.old) (start (tree_of (design_of plan.now)) words)
+        → IfOk result (λ wove. EndsIn (design_of plan.now) (rows_of machine.new) wove (woven (design_of plan.now) words (by_list list.now) steps)) }
+{
+    rows_stand();
+    let control = control_of(plan, 0);
+    let mut strand = open_statement(alloc, plan, 0, control)?;
+    let mut sum = 0u128;
+    for made in 0..steps {
+        let leaf = chosen_leaf(list, made, &strand);
+        strand = match step(alloc, plan, machine, 0, strand, leaf) {
+            Ok(Some(left)) => left,
+            Ok(None) => return Ok(Wove::End(made + 1, sum + u128::from(leaf))),
+            Err(halt) => return halted(halt, made),
+        };
+        sum += u128::from(leaf);
+    }
+    Ok(Wove::More)
+}
+
+/// Runs a design by choices: choice j is the entry of the list at j modulo its length, and names a leaf modulo their number.
+/// Where the run ends the memories get their words; else they are as they were.
+pub fn weave(
+    alloc: Global,
+    design: &Checked,
+    loaded: &mut Loaded,
+    list: &[u32],
+    steps: u64,
+) -> Result<Wove, Memory>
+    requires fits { FitsRows (external_rows (plain_design design.now)) (plain_loaded loaded.old) }
+    requires some { 0 < length list.now }
+    ensures woven { IfOk result (λ wove. TellsWoven (plain_design design.now) wove (woven (plain_design design.now) (words_in loaded.old.memories.items) (by_list list.now) steps)) }
+    ensures run { IfOk result (λ wove. TellsRun (plain_design design.now) (words_in loaded.old.memories.items) wove (woven (plain_design design.now) (words_in loaded.old.memories.items) (by_list list.now) steps)) }
+    ensures words { IfOk result (λ wove. LeavesWords (plain_design design.now) (plain_loaded loaded.old) (plain_loaded loaded.new) (woven (plain_design design.now) (words_in loaded.old.memories.items) (by_list list.now) steps)) }
+    ensures kept { IfErr result (λ _. plain_loaded loaded.new ≡ plain_loaded loaded.old) }
+    ensures fits { FitsRows (external_rows (plain_design design.now)) (plain_loaded loaded.new) }
+{
+    run_ends_too();
+    run_faults_too();
+    let interp = Interp::new(alloc, design, loaded)?;
+    let Interp { plan, mut machine } = interp;
+    let wove = weave_on(alloc, &plan, &mut machine, list, steps)?;
+    if let Wove::End(_, _) = wove {
+        external_words(plan.design, &machine.sight.state, loaded);
+    }
+    Ok(wove)
+}
