@@ -1,5 +1,5 @@
 -- THE LAYERS JOINED: where the net of a design does what the design means, the source that is written of it realises the design.
-use Rattle.std.proofs.Common.{◌≡◌, ◌<◌, length, true, ap, sym, ◌∙◌, subst}
+use Rattle.std.proofs.Common.{◌≡◌, ◌<◌, length, true, sym, subst}
 use Rattle.cx_text.specs.Loading.{FitsRows, words_loaded}
 use Rattle.cx_meaning.specs.Designs.{PlainDesign}
 use Rattle.cx_rules.specs.Externals.{external_rows}
