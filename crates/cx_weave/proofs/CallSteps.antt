@@ -1,17 +1,13 @@
 -- A turn of the child of a call, as one of the call.
-use Rattle.std.proofs.Common.{◌≡◌, ◌≢◌, ℕ, zero, suc, ◌+◌, ◌≤◌, ◌<◌, true, false, inl, inr, ◌⊎◌, ⊎_elim, List, [], ◌∷◌, ◌++◌, length, get_or, Option, Some, None, Result, Ok, Err, refl, sym, ap, ◌∙◌, subst, arith}
+use Rattle.std.proofs.Common.{◌≡◌, ◌≢◌, ℕ, ◌≤◌, ◌<◌, List, [], ◌∷◌, ◌++◌, get_or, Option, Result, Ok, Err, sym, ◌∙◌, subst, arith}
 use Rattle.cx_meaning.specs.declared.sights.Seen.{Seen}
 use Rattle.cx_meaning.specs.Designs.{PlainDesign}
-use Rattle.cx_meaning.specs.Instances.{Instance, Node, OfInstance, Path, State, put, under, cell_at, cells_of, part_of, instance_at, paths_of, tree_of}
-use Rattle.cx_meaning.specs.Sights.{Held}
-use Rattle.cx_meaning.specs.Cycles.{Fault}
-use Rattle.cx_meaning.specs.Calls.{fault_below}
+use Rattle.cx_meaning.specs.Instances.{Instance, Node, OfInstance, Path, State, under, cell_at, cells_of, instance_at, paths_of, tree_of}
 use Rattle.cx_design.specs.PlainActives.{TellsFault}
 use Rattle.cx_state.specs.Tables.{IsNumber}
-use Rattle.cx_state.specs.States.{PlainInstance, StandsFor, inputs_held, under_path, put_path}
+use Rattle.cx_state.specs.States.{PlainInstance, StandsFor, inputs_held, under_path}
 use Rattle.cx_state.proofs.ChangeLemmas.{one_number}
 use Rattle.cx_interp.specs.Callees.{HasChild, IsPart}
-use Rattle.cx_interp.specs.Groups.{IsGroupOf}
 use Rattle.cx_interp.specs.Machines.{IsInstance}
 use Rattle.cx_interp.proofs.CallLemmas.{append_one, under_child, put_child, child_after, called_is}
 use Rattle.cx_interp.proofs.Measures.{instance_child}
@@ -19,8 +15,8 @@ use Rattle.cx_interp.proofs.RestLemmas.{got}
 use Rattle.cx_weave.specs.declared.strands.Halt.{Halt}
 use Rattle.cx_weave.specs.declared.strands.Halt.TheVariants as halts
 use Rattle.cx_weave.specs.declared.strands.Strand.{Strand}
-use Rattle.cx_weave.specs.Calls.{HoldsList, HoldsAs}
-use Rattle.cx_weave.specs.Open.{Open, InCall}
+use Rattle.cx_weave.specs.Calls.{HoldsAs}
+use Rattle.cx_weave.specs.Open.{Open}
 use Rattle.cx_weave.specs.Steps.{Stepped, Now, Stops, step, lift_step, call_left, held_as, inputs_for, inputs_seen}
 use Rattle.cx_weave.specs.Strands.{PlainStrand, ACall, Shows, IsShown}
 use Rattle.cx_weave.specs.Strides.{LeftShown, StepTold, HasStepped}

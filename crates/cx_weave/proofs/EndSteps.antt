@@ -1,5 +1,5 @@
 -- What a woven run tells, from the rows that it leaves.
-use Rattle.std.proofs.Common.{◌≡◌, ℕ, suc, ◌≤◌, List, refl, sym, ap, ◌∙◌, subst}
+use Rattle.std.proofs.Common.{◌≡◌, ℕ, suc, ◌≤◌, List, refl, sym, subst}
 use Rattle.cx_text.specs.Loading.{PlainMemory, with_words}
 use Rattle.cx_meaning.specs.Answers as answers
 use Rattle.cx_meaning.specs.Cycles as cycles

@@ -1,25 +1,22 @@
 -- A run that ends of what stands in something else: first what stands there ends, and then what is behind it.
-use Rattle.std.proofs.Common.{◌≡◌, ℕ, zero, suc, ◌+◌, ◌<◌, ◌≤◌, Bool, true, false, if◌then◌else◌, List, [], ◌∷◌, Option, Some, None, refl, sym, ap, ◌∙◌, subst, arith}
-use Rattle.std.specs.Prelude.{nat_lt}
+use Rattle.std.proofs.Common.{◌≡◌, ℕ, zero, suc, ◌+◌, ◌<◌, Bool, true, false, if◌then◌else◌, List, [], ◌∷◌, Option, Some, None, refl, sym, ap, ◌∙◌, subst, arith}
 use Rattle.std.proofs.Math.Path.{fun_ext}
-use Rattle.cx_prim.specs.CellStates.{CellState}
 use Rattle.cx_meaning.specs.declared.ports.PortRef.{PortRef}
 use Rattle.cx_meaning.specs.declared.sights.Seen.{Seen}
 use Rattle.cx_meaning.specs.Designs.{PlainStatement, PlainStatements}
-use Rattle.cx_meaning.specs.Instances.{Instance, part_of, Path, State, Set, instance_at, just, beneath, put, under}
+use Rattle.cx_meaning.specs.Instances.{Instance, part_of, Path, State, Set, instance_at, just, put, under}
 use Rattle.cx_meaning.specs.Sights.{Held}
-use Rattle.cx_meaning.specs.Cycles.{Fault}
 use Rattle.cx_meaning.specs.Control.{drives}
 use Rattle.cx_meaning.specs.Calls.{captures}
 use Rattle.cx_weave.specs.Open.{Open, Waiting, InSeq, InPar, InLoop, InRepeat, InCall, Opens, an_arm, leaves_of}
-use Rattle.cx_weave.specs.Steps.{Stepped, Now, Stops, within, seq_left, loop_left, repeat_left, arms_left, par_left, behind_child, call_left, lift_step, inputs_seen, held_as, step, step_arms}
+use Rattle.cx_weave.specs.Steps.{Stepped, Now, Stops, within, seq_left, loop_left, repeat_left, arms_left, par_left, behind_child, call_left, lift_step, inputs_seen, held_as, step}
 use Rattle.cx_weave.proofs.OwnTurns.{OnlyIn, only_same}
 use Rattle.cx_weave.proofs.Inside.{Stands}
 use Rattle.cx_weave.proofs.Fits.{Fits, AllSound}
 use Rattle.cx_weave.proofs.StepFrames.{StepsIn, step_only}
 use Rattle.cx_weave.proofs.StepFits.{LeftFits, StepFits, step_fits}
 use Rattle.cx_weave.proofs.Joins.{in_first, call_again}
-use Rattle.cx_weave.proofs.Orders.{Goes, EndsIn, any_leaf, leaves_some}
+use Rattle.cx_weave.proofs.Orders.{Goes, EndsIn, any_leaf}
 
 -- what is open ends in a state, and then comes what is behind it
 pub record Splits (i : Instance) (held : Held) (m : ℕ) (o : Open) (s : State) (behind : ℕ → State → Type 0) : Type 0 where

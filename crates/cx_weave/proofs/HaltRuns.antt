@@ -1,23 +1,23 @@
 -- Where an order of the leaves comes to a fault, the run has a fault, no later.
-use Rattle.std.proofs.Common.{◌≡◌, ℕ, zero, suc, ◌+◌, ◌-◌, ◌≤◌, ◌<◌, ◌⊎◌, inl, inr, ⊎_elim, Bool, true, false, nat_le, if◌then◌else◌, List, [], ◌∷◌, ◌++◌, length, Option, Some, None, refl, sym, ap, ◌∙◌, subst, arith}
+use Rattle.std.proofs.Common.{◌≡◌, ℕ, zero, suc, ◌+◌, ◌-◌, ◌≤◌, ◌<◌, ◌⊎◌, inl, inr, ⊎_elim, Bool, true, false, nat_le, if◌then◌else◌, List, [], ◌∷◌, ◌++◌, length, Option, Some, None, refl, sym, ap, subst, arith}
 use Rattle.std.specs.Prelude.{nat_lt}
-use Rattle.std.proofs.lemmas.Bool.{ltb-true, ltb-false, leb-true, leb-false}
+use Rattle.std.proofs.lemmas.Bool.{ltb-true, leb-true, leb-false}
 use Rattle.cx_text.specs.declared.places.Place.{Place}
 use Rattle.cx_meaning.specs.declared.ports.PortRef.{PortRef}
 use Rattle.cx_meaning.specs.declared.sights.Seen.{Seen}
 use Rattle.cx_meaning.specs.declared.kinds.GroupKind.{GroupKind}
 use Rattle.cx_meaning.specs.declared.kinds.GroupKind.TheVariants as kinds
 use Rattle.cx_meaning.specs.Designs.{PlainComponent, group_at, PlainForm, Empty, Enable, Seq, Par, If, While, Repeat, StaticSeq, StaticPar, StaticIf, StaticRepeat, Timed, PlainStatement, Placed, PlainStatements, no_statements, a_statement, list_of}
-use Rattle.cx_meaning.specs.Instances.{Instance, Node, Cells, no_cells, a_primitive, an_instance, part_of, Path, State, Set, instance_at, child_at, put, under, idle, merge, IsSettled}
+use Rattle.cx_meaning.specs.Instances.{Instance, Node, Cells, no_cells, a_primitive, an_instance, part_of, Path, State, instance_at, child_at, put, under, idle, merge, IsSettled}
 use Rattle.cx_meaning.specs.Active.{nothing, capture}
-use Rattle.cx_meaning.specs.Sights.{Held, In, seen}
+use Rattle.cx_meaning.specs.Sights.{Held, seen}
 use Rattle.cx_meaning.specs.Cycles.{Fault, Ended, cycle_of}
 use Rattle.cx_meaning.specs.Cycles as cycles
 use Rattle.cx_meaning.specs.Answers.{Answer, End, Meaning, after_turns, then_do, stay, Turn, turn_then, turns_of, idle_turn, Test, Holds, Fails, Unclear, chosen, test_turn, loop, rounds, both}
 use Rattle.cx_meaning.specs.Answers as answers
 use Rattle.cx_meaning.specs.Budgets as budgets
-use Rattle.cx_meaning.specs.Control.{Leaves, groups_in, groups_of, groups_in_all, group_drives, drives, run_form, run, run_parts, run_arms}
-use Rattle.cx_meaning.specs.Islands.{History, island, island_from, island_turn, and_now, form_flat, form_length, no_history, turn_of}
+use Rattle.cx_meaning.specs.Control.{Leaves, groups_in, groups_of, groups_in_all, group_drives, drives, run, run_parts, run_arms}
+use Rattle.cx_meaning.specs.Islands.{History, island, island_from, and_now, form_flat, form_length, no_history, turn_of}
 use Rattle.cx_meaning.specs.Calls.{called, captures, group_turn, fault_below, inputs_of_call, lift_answer, test, after_child, call, call_or_turns, enable_kind}
 use Rattle.cx_meaning.specs.Running.{leaves, run_control, control_below}
 use Rattle.cx_meaning.proofs.RunningLemmas.{idle_settles}
@@ -29,12 +29,12 @@ use Rattle.cx_frames.specs.Arms.{all_drive}
 use Rattle.cx_frames.proofs.AlikeLemmas.{a_fault}
 use Rattle.cx_frames.proofs.IslandFrames.{AllFine}
 use Rattle.cx_frames.proofs.RunLemmas.{capture_undriven}
-use Rattle.cx_weave.specs.Open.{Open, Idling, InGroup, Choosing, Testing, InIsland, Capturing, Closing, InSeq, InPar, InLoop, InRepeat, InCall, Opens, no_arms, an_arm, leaves_of, leaves_of_all, open_form, open_with, open_arms, open_called, open_kind, open_enable, open_control, open_below, open_statement}
-use Rattle.cx_weave.specs.Leaves.{form_drives, test_drives, rested, own_turn, own_island, is_tested, samples_now}
-use Rattle.cx_weave.specs.Steps.{Stepped, Now, Stops, within, turned, tested, seq_left, repeat_left, arms_left, par_left, behind_child, first_or, inputs_seen, held_as, step, step_arms}
-use Rattle.cx_weave.proofs.OwnTurns.{OnlyIn, TurnsIn, turn_only, capture_only, island_only}
-use Rattle.cx_weave.proofs.Inside.{IsSound, Stands, inner_stands, itself, Inside, InsideOne, InsideAll, inside_self, inside_left, inside_right, AnyReads, Apart}
-use Rattle.cx_weave.proofs.Fits.{Fits, ArmsFit, AllSound, with_later, here_again, sound_below, below_fits, par_arms_fit}
+use Rattle.cx_weave.specs.Open.{Open, Idling, InGroup, Choosing, Testing, InIsland, Closing, InSeq, InPar, InLoop, InRepeat, InCall, Opens, no_arms, an_arm, leaves_of, open_arms, open_called, open_kind, open_enable, open_control, open_below, open_statement}
+use Rattle.cx_weave.specs.Leaves.{form_drives, rested, own_turn, own_island, is_tested, samples_now}
+use Rattle.cx_weave.specs.Steps.{Stepped, Now, Stops, within, turned, tested, seq_left, arms_left, par_left, behind_child, first_or, inputs_seen, held_as, step, step_arms}
+use Rattle.cx_weave.proofs.OwnTurns.{OnlyIn, TurnsIn, turn_only, island_only}
+use Rattle.cx_weave.proofs.Inside.{IsSound, Stands, itself, Inside, InsideOne, InsideAll, inside_self, inside_left, inside_right, AnyReads, Apart}
+use Rattle.cx_weave.proofs.Fits.{Fits, ArmsFit, AllSound, with_later, sound_below, below_fits, par_arms_fit}
 use Rattle.cx_weave.proofs.StepFrames.{StepsIn, step_only, arms_only}
 use Rattle.cx_weave.proofs.StepFits.{StepFits, step_fits}
 use Rattle.cx_weave.proofs.Orders.{Goes, EndsIn}

@@ -1,29 +1,25 @@
 -- Runs by choices that come to a fault, and what they are of what stands in something else.
-use Rattle.std.proofs.Common.{◌≡◌, ℕ, zero, suc, ◌+◌, ◌-◌, ◌<◌, ◌≤◌, ◌⊎◌, inl, inr, Bool, true, false, List, [], ◌∷◌, Option, Some, None, refl, sym, ap, ◌∙◌, subst, arith}
-use Rattle.std.specs.Prelude.{nat_lt}
+use Rattle.std.proofs.Common.{◌≡◌, ℕ, zero, suc, ◌+◌, ◌<◌, ◌⊎◌, inl, inr, List, [], ◌∷◌, Option, Some, None, refl, sym, subst, arith}
 use Rattle.std.proofs.lemmas.Nat.{mod_below}
 use Rattle.cx_meaning.specs.declared.ports.PortRef.{PortRef}
 use Rattle.cx_meaning.specs.declared.sights.Seen.{Seen}
 use Rattle.cx_meaning.specs.Designs.{PlainStatement, PlainStatements}
-use Rattle.cx_meaning.specs.Instances.{Instance, part_of, State, instance_at, put, under}
+use Rattle.cx_meaning.specs.Instances.{Instance, part_of, State, instance_at, put}
 use Rattle.cx_meaning.specs.Sights.{Held}
 use Rattle.cx_meaning.specs.Cycles.{Fault}
-use Rattle.cx_meaning.specs.Control.{drives}
 use Rattle.cx_meaning.specs.Calls.{captures}
 use Rattle.cx_rules.specs.Footprints.{Reads}
 use Rattle.cx_frames.specs.Agreeing.{Agree}
-use Rattle.cx_frames.specs.Arms.{all_drive}
-use Rattle.cx_weave.specs.Open.{Open, Waiting, InSeq, InPar, InLoop, InRepeat, InCall, Opens, no_arms, an_arm, leaves_of}
-use Rattle.cx_weave.specs.Steps.{Stepped, Now, Stops, within, seq_left, loop_left, repeat_left, arms_left, par_left, behind_child, call_left, lift_step, inputs_seen, held_as, first_or, step, step_arms}
+use Rattle.cx_weave.specs.Open.{Open, Waiting, InSeq, InLoop, InRepeat, InCall, leaves_of}
+use Rattle.cx_weave.specs.Steps.{Stepped, Now, Stops, within, seq_left, loop_left, repeat_left, behind_child, call_left, lift_step, inputs_seen, held_as, step}
 use Rattle.cx_weave.specs.Woven.{Woven, Ends, Faults, More, Choices, leaf_of, then_weave, weave_from}
-use Rattle.cx_weave.proofs.OwnTurns.{OnlyIn}
-use Rattle.cx_weave.proofs.Inside.{Stands, AnyReads, Apart}
-use Rattle.cx_weave.proofs.Fits.{Fits, ArmsFit, AllSound, sound_here}
-use Rattle.cx_weave.proofs.StepFrames.{StepsIn, AlikeStep, step_only, arms_only, step_alike}
+use Rattle.cx_weave.proofs.Inside.{Stands}
+use Rattle.cx_weave.proofs.Fits.{AllSound, sound_here}
+use Rattle.cx_weave.proofs.StepFrames.{AlikeStep, step_alike}
 use Rattle.cx_weave.proofs.StepFits.{LeftFits, StepFits, step_fits}
 use Rattle.cx_weave.proofs.Joins.{call_again}
 use Rattle.cx_weave.proofs.Orders.{Goes, EndsIn, leaves_some}
-use Rattle.cx_weave.proofs.Ending.{Splits, splits_last, splits_more, CallSplits}
+use Rattle.cx_weave.proofs.Ending.{Splits, splits_last, splits_more}
 
 abbrev pub Stopped : {A : Type 0} → Stepped A → Type 0
 Stopped (Now left after) = ⊥

@@ -1,5 +1,5 @@
 -- The inputs of a call, held one after the other.
-use Rattle.std.proofs.Common.{◌≡◌, ◌≢◌, ℕ, zero, suc, ◌+◌, ◌≤◌, ◌<◌, inl, inr, ◌⊎◌, ⊎_elim, List, [], ◌∷◌, ◌++◌, length, get_or, Option, Some, None, Result, Ok, Err, IfOk, refl, sym, ap, ◌∙◌, subst, arith}
+use Rattle.std.proofs.Common.{◌≡◌, ◌≢◌, ℕ, ◌+◌, ◌≤◌, ◌<◌, ⊎_elim, List, [], ◌∷◌, ◌++◌, length, Some, None, Result, Ok, Err, IfOk, refl, sym, ap, ◌∙◌, subst, arith}
 use Rattle.std.proofs.Math.Path.{fun_ext}
 use Rattle.std.specs.List.{slice_get}
 use Rattle.std.proofs.lemmas.Bool.{cases_lt}
@@ -9,18 +9,17 @@ use Rattle.cx_bits.specs.BitVector.{BitVector}
 use Rattle.cx_meaning.specs.declared.sights.Seen.{Seen}
 use Rattle.cx_meaning.specs.declared.sights.Seen.TheVariants.{Value, Undefined}
 use Rattle.cx_meaning.specs.Designs.{PlainDesign}
-use Rattle.cx_meaning.specs.Instances.{Instance, Path, State, part_of, instance_at, paths_of, tree_of}
+use Rattle.cx_meaning.specs.Instances.{Instance, Path, State, part_of, instance_at, tree_of}
 use Rattle.cx_meaning.specs.Sights.{Held}
 use Rattle.cx_meaning.specs.Calls.{inputs_of_call}
 use Rattle.cx_rules.specs.Ports.{declared_width}
 use Rattle.cx_state.specs.Tables.{IsNumber}
-use Rattle.cx_state.specs.States.{PlainInstance, instance_state, inputs_held, with_held, FitsPart, IsStateOf, StandsFor, under_path}
+use Rattle.cx_state.specs.States.{PlainInstance, instance_state, inputs_held, with_held, IsStateOf, StandsFor, under_path}
 use Rattle.cx_interp.specs.Callees.{HasChild, HoldsCall, IsPart}
-use Rattle.cx_interp.specs.Machines.{IsInstance}
-use Rattle.cx_interp.proofs.HoldLemmas.{held_stands, held_here, held_others, held_fits}
+use Rattle.cx_interp.proofs.HoldLemmas.{held_stands, held_here, held_others}
 use Rattle.cx_weave.specs.Calls.{HoldsList, HoldsAs}
-use Rattle.cx_weave.specs.Steps.{first_inputs, held_as, inputs_for, inputs_seen}
-use Rattle.cx_weave.specs.Strands.{AreInputs, InputsFit}
+use Rattle.cx_weave.specs.Steps.{first_inputs, held_as}
+use Rattle.cx_weave.specs.Strands.{InputsFit}
 use Rattle.cx_weave.proofs.CallSteps.{child_is}
 use Rattle.cx_weave.proofs.Runs.{first_at, first_length}
 

@@ -1,43 +1,40 @@
 -- A cycle of an island of which the samples are kept, as a turn of its strand.
-use Rattle.std.proofs.Common.{◌≡◌, ℕ, zero, suc, ◌+◌, ◌≤◌, ◌<◌, Bool, true, false, ◌&&◌, nat_eq, List, [], ◌∷◌, length, Option, Some, None, Result, Ok, Err, refl, sym, ap, ◌∙◌, subst, arith, if◌then◌else◌}
+use Rattle.std.proofs.Common.{◌≡◌, ℕ, zero, suc, ◌≤◌, Bool, true, false, ◌&&◌, nat_eq, List, [], length, Option, Some, None, Result, Ok, Err, refl, sym, ap, ◌∙◌, subst, arith, if◌then◌else◌}
 use Rattle.std.proofs.Math.Path.{fun_ext}
 use Rattle.cx_meaning.specs.declared.ports.PortRef.{PortRef}
 use Rattle.cx_meaning.specs.Designs.{PlainComponent, PlainDesign, PlainForm}
 use Rattle.cx_meaning.specs.Instances.{Instance, Path, State, Set, part_of, instance_at, tree_of}
 use Rattle.cx_meaning.specs.Active as acting
 use Rattle.cx_meaning.specs.Active.{nothing, entries, Entry}
-use Rattle.cx_meaning.specs.Cycles.{Fault, fault_at, Ended, cycle_of}
+use Rattle.cx_meaning.specs.Cycles.{Fault, fault_at, cycle_of}
 use Rattle.cx_meaning.specs.Sights.{Held, Look, seen}
 use Rattle.cx_meaning.specs.Truths.{truth_of}
 use Rattle.cx_meaning.specs.Answers as answers
-use Rattle.cx_meaning.specs.Islands.{History, and_now, is_one, active_in, looked_at, form_flat, form_length, first_unclear, turn_of, unless_unclear}
+use Rattle.cx_meaning.specs.Islands.{History, and_now, is_one, active_in, looked_at, form_flat, first_unclear, unless_unclear}
 use Rattle.cx_laws.specs.Positions.{active_at, begun_at}
 use Rattle.cx_laws.specs.Samples.{Samples, says, active_by, begun_by, samples_after, AreKept, form_ifs}
 use Rattle.cx_design.specs.declared.actives.PortFault.{PortFault}
 use Rattle.cx_design.specs.declared.actives.Active.{Active}
 use Rattle.cx_design.specs.PlainActives.{plain_active, TellsFault}
 use Rattle.cx_state.specs.Tables.{IsNumber}
-use Rattle.cx_state.specs.States.{PlainInstance, inputs_held, StandsFor, under_path, put_path}
+use Rattle.cx_state.specs.States.{PlainInstance, inputs_held, StandsFor, under_path}
 use Rattle.cx_eval.specs.Evaluated.{Cycled, EndsAs, HeldAlike, fault_along}
-use Rattle.cx_eval_cycle.specs.Passes.{IsAscending, listed_in}
-use Rattle.cx_frames.proofs.IslandFrames.{AllFine, AreSame, active_same, looked_same}
+use Rattle.cx_eval_cycle.specs.Passes.{listed_in}
+use Rattle.cx_frames.proofs.IslandFrames.{active_same, looked_same}
 use Rattle.cx_interp_islands.specs.Rooms.{samples_of}
 use Rattle.cx_interp_islands.specs.Sampled.{AreSampled}
-use Rattle.cx_interp.specs.declared.turns.Turn.{Turn}
-use Rattle.cx_interp.specs.declared.turns.Turn.TheVariants as turns
 use Rattle.cx_interp.specs.Islands.{HasPart, SamplesTaken}
 use Rattle.cx_interp.specs.Rooms.{HasActive}
 use Rattle.cx_interp.specs.Turns.{cycle_as}
 use Rattle.cx_interp.proofs.IslandLemmas.{entries_are}
 use Rattle.cx_interp.proofs.TestLemmas.{tells_own}
-use Rattle.cx_weave.specs.declared.strands.Halt.{Halt}
 use Rattle.cx_weave.specs.declared.strands.Halt.TheVariants as halts
 use Rattle.cx_weave.specs.declared.strands.Strand.{Strand}
-use Rattle.cx_weave.specs.Open.{Open, InIsland}
+use Rattle.cx_weave.specs.Open.{InIsland}
 use Rattle.cx_weave.specs.Steps.{step, turned}
-use Rattle.cx_weave.specs.Leaves.{form_drives, is_tested, sampled_now, samples_now, own_cycle, own_island, rested}
-use Rattle.cx_weave.specs.Strands.{PlainStrand, AnIsland, IsAtCycle, IsShown, KeptBefore, Knows, ListDriven, Shows, plain_strand}
-use Rattle.cx_weave.specs.Strides.{TurnTold, HasRested, HasStepped, IslandTaken, LeftShown, StepTold}
+use Rattle.cx_weave.specs.Leaves.{form_drives, is_tested, sampled_now, samples_now, own_island}
+use Rattle.cx_weave.specs.Strands.{AnIsland, IsAtCycle, IsShown, KeptBefore, Knows, ListDriven, Shows, plain_strand}
+use Rattle.cx_weave.specs.Strides.{TurnTold, HasRested, HasStepped, IslandTaken, StepTold}
 use Rattle.cx_weave.proofs.Runs.{tested_fine}
 use Rattle.cx_weave.proofs.TurnsTaken.{ends_told}
 

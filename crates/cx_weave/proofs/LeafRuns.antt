@@ -1,11 +1,11 @@
 -- Runs of leaves that end: they are the runs of the meaning, where everything else is settled.
-use Rattle.std.proofs.Common.{◌≡◌, ℕ, zero, suc, ◌+◌, ◌≤◌, ◌<◌, Bool, true, false, ◌||◌, ◌&&◌, nat_eq, if◌then◌else◌, List, [], ◌∷◌, ◌++◌, length, Option, Some, None, refl, sym, ap, ◌∙◌, subst, arith}
+use Rattle.std.proofs.Common.{◌≡◌, ℕ, zero, suc, ◌+◌, ◌≤◌, ◌<◌, Bool, true, false, ◌&&◌, nat_eq, if◌then◌else◌, List, [], ◌∷◌, ◌++◌, length, Option, Some, None, refl, sym, ap, ◌∙◌, subst, arith}
 use Rattle.std.proofs.Math.Path.{fun_ext}
 use Rattle.cx_meaning.specs.declared.ports.PortRef.{PortRef}
 use Rattle.cx_meaning.specs.declared.ports.PortRef.TheVariants as ports
 use Rattle.cx_meaning.specs.Rows.{KeepsIdle}
 use Rattle.cx_meaning.specs.Designs.{PlainForm, Par, PlainStatement, PlainStatements, Placed, list_of, no_place}
-use Rattle.cx_meaning.specs.Instances.{Instance, Node, part_of, Path, State, Set, idle, idle_at, merge, IsSettled}
+use Rattle.cx_meaning.specs.Instances.{Instance, Node, part_of, Path, State, Set, idle, idle_at, IsSettled}
 use Rattle.cx_meaning.specs.Active.{Active, nothing, group, capture, entries}
 use Rattle.cx_meaning.specs.Truths.{truth_of}
 use Rattle.cx_meaning.specs.Sights.{Held, In, seen}
@@ -13,23 +13,21 @@ use Rattle.cx_meaning.specs.Cycles.{Fault, Ended, cycle, cycle_of, every_cell}
 use Rattle.cx_meaning.specs.Cycles as cycles
 use Rattle.cx_meaning.specs.Answers.{Answer, End, More, Meaning, after_turns, Turn, turn_then, turns_of, idle_turn, one_turn}
 use Rattle.cx_meaning.specs.Answers as answers
-use Rattle.cx_meaning.specs.Control.{group_drives, groups_of, drives}
-use Rattle.cx_meaning.specs.Islands.{History, Occurrence, form_flat, active_in, looked_at, first_unclear, and_now, is_one, island_turn, island_from, turn_of, unless_unclear}
+use Rattle.cx_meaning.specs.Control.{group_drives, drives}
+use Rattle.cx_meaning.specs.Islands.{History, form_flat, active_in, looked_at, first_unclear, and_now, is_one, island_turn, island_from, turn_of, unless_unclear}
 use Rattle.cx_meaning.specs.Calls.{hole_turn, group_turn, after_child}
 use Rattle.cx_meaning.specs.Laws.{AllRows}
 use Rattle.cx_meaning.specs.Running.{run_control, run_statement}
 use Rattle.cx_rules.specs.Items.{Visited, statements_in}
 use Rattle.cx_frames.specs.Arms.{all_drive, arms_run}
-use Rattle.cx_frames.specs.Ran as ran
 use Rattle.cx_frames.specs.Ran.{Outcome, Ran, limit, joined}
 use Rattle.cx_frames.specs.Rests.{IsUndriven, IsSettledAt}
 use Rattle.cx_frames.proofs.IslandFrames.{AllFine, active_same, looked_same}
 use Rattle.cx_frames.proofs.RunLemmas.{group_undriven, capture_undriven, island_undriven}
-use Rattle.cx_weave.specs.Open.{Open, Idling, InGroup, InIsland, Capturing, Closing}
-use Rattle.cx_weave.specs.Leaves.{form_drives, rested, own_turn, own_capture, own_cycle, own_island, is_tested, samples_now}
-use Rattle.cx_weave.specs.Steps.{Stepped, turned, behind_child}
-use Rattle.cx_weave.proofs.OwnTurns.{OnlyIn, TurnsIn, turn_only, capture_only, island_only, only_same}
-use Rattle.cx_weave.proofs.Inside.{IsSound}
+use Rattle.cx_weave.specs.Open.{Idling, InGroup, InIsland, Closing}
+use Rattle.cx_weave.specs.Leaves.{form_drives, rested, own_turn, own_island, is_tested, samples_now}
+use Rattle.cx_weave.specs.Steps.{turned, behind_child}
+use Rattle.cx_weave.proofs.OwnTurns.{OnlyIn, TurnsIn, turn_only, capture_only, island_only}
 use Rattle.cx_weave.proofs.Orders.{Goes, EndsIn}
 
 -- what the laws say of an instance of an accepted design

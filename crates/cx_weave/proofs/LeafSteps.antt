@@ -1,9 +1,8 @@
 -- Turns of leaves, as turns of their strands.
 use Rattle.std.proofs.Common.{◌≡◌, ℕ, ◌≤◌, true, false, List, Option, Some, None, Result, Ok, Err, refl, sym, ap, ◌∙◌, subst}
-use Rattle.std.proofs.Math.Path.{fun_ext}
 use Rattle.cx_meaning.specs.declared.ports.PortRef.{PortRef}
 use Rattle.cx_meaning.specs.declared.ports.PlacedPort.{PlacedPort}
-use Rattle.cx_meaning.specs.Designs.{PlainDesign, PlainStatement, If, While}
+use Rattle.cx_meaning.specs.Designs.{PlainDesign, PlainStatement}
 use Rattle.cx_meaning.specs.Instances.{Instance, Path, State, part_of, instance_at, tree_of}
 use Rattle.cx_meaning.specs.Sights.{Held}
 use Rattle.cx_meaning.specs.Cycles.{Fault}
@@ -12,22 +11,21 @@ use Rattle.cx_meaning.specs.Answers.{Holds, Fails, Unclear}
 use Rattle.cx_meaning.specs.Calls.{test}
 use Rattle.cx_meaning.specs.Control.{group_drives}
 use Rattle.cx_design.specs.declared.actives.PortFault.{PortFault}
-use Rattle.cx_design.specs.PlainActives.{TellsFault}
 use Rattle.cx_state.specs.Tables.{IsNumber}
-use Rattle.cx_state.specs.States.{PlainInstance, StandsFor, inputs_held, under_path, put_path}
-use Rattle.cx_eval.specs.Evaluated.{HeldAlike, fault_along}
+use Rattle.cx_state.specs.States.{PlainInstance, StandsFor, inputs_held, under_path}
+use Rattle.cx_eval.specs.Evaluated.{HeldAlike}
 use Rattle.cx_interp.specs.declared.turns.Turn.{Turn}
 use Rattle.cx_interp.specs.declared.turns.Turn.TheVariants as turns
-use Rattle.cx_interp.specs.Tests.{Tested, TellsTest}
+use Rattle.cx_interp.specs.Tests.{Tested}
 use Rattle.cx_interp.proofs.PathLemmas.{put_same}
 use Rattle.cx_weave.specs.declared.strands.Halt.{Halt}
 use Rattle.cx_weave.specs.declared.strands.Halt.TheVariants as halts
 use Rattle.cx_weave.specs.declared.strands.Strand.{Strand}
-use Rattle.cx_weave.specs.Open.{Open, Idling, InGroup, Choosing, Testing, Capturing, Closing, Waiting, InLoop, open_statement}
-use Rattle.cx_weave.specs.Steps.{Stepped, Now, Stops, step, turned, tested}
+use Rattle.cx_weave.specs.Open.{Open, InGroup, Choosing, Testing, Capturing, Closing, Waiting, InLoop, open_statement}
+use Rattle.cx_weave.specs.Steps.{Now, step, turned, tested}
 use Rattle.cx_weave.specs.Leaves.{own_turn, own_capture, rested, test_drives}
-use Rattle.cx_weave.specs.Strands.{PlainStrand, AnIdling, AGroup, AChoice, ATest, ACapture, AClosing, AWaiting, plain_strand, Shows, CallsCell}
-use Rattle.cx_weave.specs.Strides.{TurnTold, TakesTurn, HasRested, OpensAs, LeftShown, StepTold, HasStepped}
+use Rattle.cx_weave.specs.Strands.{PlainStrand, AnIdling, AGroup, AChoice, ATest, ACapture, AClosing, AWaiting, plain_strand, Shows}
+use Rattle.cx_weave.specs.Strides.{TakesTurn, HasRested, OpensAs, LeftShown, StepTold, HasStepped}
 
 -- a turn holds every input as before
 pub turn_held : (d : PlainDesign) (old new : List PlainInstance) (n : ℕ) (turn : Turn) (doing : Instance → Held → State → answers.Turn State Fault) → TakesTurn d old new n turn doing → (path : Path) (s : State) → IsNumber d n path → StandsFor (tree_of d) old s → HeldAlike old new

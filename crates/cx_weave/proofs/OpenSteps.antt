@@ -1,12 +1,12 @@
 -- Statements as they are opened, and the strands that show them.
-use Rattle.std.proofs.Common.{◌≡◌, ◌≢◌, ℕ, zero, suc, ◌+◌, ◌-◌, ◌≤◌, ◌<◌, true, false, Bool, List, [], ◌∷◌, ◌++◌, length, get_or, drop, map, Option, Some, None, refl, sym, ap, ◌∙◌, subst, arith}
+use Rattle.std.proofs.Common.{◌≡◌, ◌≢◌, ℕ, zero, suc, ◌+◌, ◌<◌, true, false, List, [], ◌∷◌, ◌++◌, length, get_or, drop, map, Option, Some, None, refl, sym, ap, ◌∙◌, subst, arith}
 use Rattle.std.specs.Prelude.{is_some}
 use Rattle.std.proofs.Math.Seq.{drop-cons}
 use Rattle.cx_text.specs.declared.places.Place.{Place}
 use Rattle.cx_meaning.specs.declared.ports.PlacedPort.{PlacedPort}
 use Rattle.cx_meaning.specs.declared.kinds.GroupKind.{GroupKind}
 use Rattle.cx_meaning.specs.declared.kinds.GroupKind.TheVariants as kinds
-use Rattle.cx_meaning.specs.Designs.{PlainDesign, PlainComponent, PlainForm, Empty, Enable, Seq, Par, If, While, Repeat, StaticSeq, StaticPar, StaticIf, StaticRepeat, Timed, PlainStatement, Placed, no_place, PlainStatements, no_statements, a_statement, statements_of, group_at}
+use Rattle.cx_meaning.specs.Designs.{PlainDesign, PlainForm, Empty, Enable, Seq, Par, If, While, Repeat, StaticSeq, StaticPar, StaticIf, StaticRepeat, Timed, PlainStatement, Placed, no_place, PlainStatements, group_at}
 use Rattle.cx_meaning.specs.Instances.{Instance, Node, Cells, no_cells, a_primitive, an_instance, Nothing, OfRow, OfInstance, cell_at, cells_of, part_of, Path, instance_at, tree_of}
 use Rattle.cx_meaning.specs.Islands.{kind_length}
 use Rattle.cx_meaning.specs.Calls.{called}
@@ -18,13 +18,12 @@ use Rattle.cx_design.specs.PlainForms.{plain_statement, plain_statements}
 use Rattle.cx_state.specs.Tables.{IsNumber}
 use Rattle.cx_interp.specs.Callees.{IsPart, HasChild, HasControl}
 use Rattle.cx_interp.specs.Groups.{HasLength, IsGroupOf}
-use Rattle.cx_interp.specs.Islands.{IsIsland}
 use Rattle.cx_interp.specs.Machines.{FormStands, StandsIn, StandIn}
 use Rattle.cx_interp.proofs.Measures.{instance_child}
 use Rattle.cx_weave.specs.declared.strands.Strand.{Strand}
-use Rattle.cx_weave.specs.Open.{Open, Idling, InGroup, Choosing, Testing, Waiting, InSeq, InPar, InLoop, InRepeat, InCall, Opens, no_arms, an_arm, open_with, open_form, open_arms, open_island, open_called, open_kind, open_enable, open_control, open_below, open_statement}
+use Rattle.cx_weave.specs.Open.{Open, InSeq, InRepeat, open_with, open_form, open_arms, open_island, open_called, open_kind, open_enable, open_control, open_below, open_statement}
 use Rattle.cx_weave.specs.Steps.{seq_left, repeat_left}
-use Rattle.cx_weave.specs.Strands.{PlainStrand, AnIdling, AGroup, AChoice, ATest, AWaiting, ASeq, APar, ARepeat, ALoop, ACall, PlainStrands, strands_of, plain_strand, CallsCell, Shows, ShowsAll}
+use Rattle.cx_weave.specs.Strands.{PlainStrand, AnIdling, AGroup, AChoice, ATest, AWaiting, ASeq, APar, ARepeat, ACall, strands_of, plain_strand, CallsCell, Shows, ShowsAll}
 use Rattle.cx_weave.specs.Strides.{OpensAs, LeftShown, LeavesAs}
 
 -- a form of an instance, as it is opened

@@ -1,5 +1,5 @@
 -- Turns of one leaf change no cell that it does not drive, and hang on a set of cells alone.
-use Rattle.std.proofs.Common.{◌≡◌, ℕ, zero, suc, ◌-◌, inl, inr, Bool, true, false, ◌||◌, ◌&&◌, nat_eq, nat_le, if◌then◌else◌, List, [], ◌∷◌, map, Option, Some, None, refl, ap, ◌∙◌, subst}
+use Rattle.std.proofs.Common.{◌≡◌, ℕ, zero, suc, ◌-◌, inl, inr, Bool, true, false, ◌&&◌, nat_eq, nat_le, if◌then◌else◌, List, [], ◌∷◌, map, Option, Some, None, refl, ap, ◌∙◌, subst}
 use Rattle.std.specs.Prelude.{nat_lt}
 use Rattle.std.proofs.Math.Path.{fun_ext}
 use Rattle.std.proofs.lemmas.Bool.{both_ways, eqb-true}
@@ -9,7 +9,7 @@ use Rattle.cx_meaning.specs.declared.ports.PortRef.{PortRef}
 use Rattle.cx_meaning.specs.declared.ports.PortRef.TheVariants as ports
 use Rattle.cx_meaning.specs.Designs.{PlainForm}
 use Rattle.cx_meaning.specs.Instances.{Instance, Cells, no_cells, a_primitive, an_instance, cells_of, part_of, Path, State, Set, merge, idle}
-use Rattle.cx_meaning.specs.Active.{Active, nothing, only_at, group, capture, Entry, offset_in, entries, same_port}
+use Rattle.cx_meaning.specs.Active.{Active, nothing, only_at, group, capture, Entry, offset_in, entries}
 use Rattle.cx_meaning.specs.Truths.{Truth, One, Zero, Clash, Unknown, truth_of}
 use Rattle.cx_meaning.specs.Sights.{Look, Held, seen, gather, In}
 use Rattle.cx_meaning.specs.Cycles.{Fault, Ended, Outcome, enables, after_enabling, cell_outcome, first_of, where_listed, first_fault, stepped, cell_after, state_after, unless_fault, cycle_of}
@@ -19,7 +19,6 @@ use Rattle.cx_meaning.specs.Control.{group_drives}
 use Rattle.cx_meaning.specs.Islands.{Occurrence, Runs, Looks, History, form_flat, looked_at, first_unclear, active_in, hold, entry_if, is_one, turn_of, unless_unclear}
 use Rattle.cx_meaning.specs.Calls.{hole_turn}
 use Rattle.cx_rules.specs.Circles.{IsAcyclic, AcyclicBelow}
-use Rattle.cx_rules.proofs.FoundLemmas.{same_is}
 use Rattle.cx_frames.specs.Agreeing.{Agree}
 use Rattle.cx_frames.proofs.AlikeLemmas.{AlikeTurn}
 use Rattle.cx_frames.proofs.CircleFrames.{capture_acyclic}

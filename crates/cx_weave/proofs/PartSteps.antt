@@ -1,13 +1,11 @@
 -- A turn of a part, as one of the statement around it.
-use Rattle.std.proofs.Common.{◌≡◌, ℕ, zero, suc, ◌+◌, ◌-◌, ◌≤◌, ◌<◌, Bool, true, false, nat_lt, List, [], ◌∷◌, length, get_or, map, Option, Some, None, Result, Ok, Err, refl, sym, ap, ◌∙◌, subst, arith}
+use Rattle.std.proofs.Common.{◌≡◌, ℕ, zero, suc, ◌+◌, ◌-◌, ◌≤◌, ◌<◌, Bool, true, false, nat_lt, List, [], ◌∷◌, get_or, map, Option, Some, None, Result, Ok, Err, refl, sym, ap, ◌∙◌, subst, arith}
 use Rattle.std.specs.List.{insert, remove}
 use Rattle.std.proofs.lemmas.Bool.{lt-ltb, le-ltb}
 use Rattle.cx_meaning.specs.declared.ports.PlacedPort.{PlacedPort}
 use Rattle.cx_meaning.specs.Designs.{PlainDesign, PlainStatement, PlainStatements}
-use Rattle.cx_meaning.specs.Instances.{Instance, Path, State, part_of, instance_at, tree_of}
+use Rattle.cx_meaning.specs.Instances.{Instance, Path, State, instance_at, tree_of}
 use Rattle.cx_meaning.specs.Sights.{Held}
-use Rattle.cx_meaning.specs.Cycles.{Fault}
-use Rattle.cx_state.specs.Tables.{IsNumber}
 use Rattle.cx_state.specs.States.{PlainInstance, StandsFor, inputs_held, under_path, put_path}
 use Rattle.cx_weave.specs.declared.strands.Halt.{Halt}
 use Rattle.cx_weave.specs.declared.strands.Halt.TheVariants as halts

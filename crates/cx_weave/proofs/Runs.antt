@@ -12,7 +12,7 @@ use Rattle.cx_prim.specs.CellStates.{CellState}
 use Rattle.cx_meaning.specs.declared.kinds.GroupKind.{GroupKind}
 use Rattle.cx_meaning.specs.declared.kinds.GroupKind.TheVariants as kinds
 use Rattle.cx_meaning.specs.Designs.{PlainComponent, group_at, PlainForm, Empty, Enable, Seq, Par, If, While, Repeat, StaticSeq, StaticPar, StaticIf, StaticRepeat, Timed, PlainStatement, Placed, PlainStatements, no_statements, a_statement, list_of, no_place}
-use Rattle.cx_meaning.specs.Instances.{Instance, Node, Cells, no_cells, a_primitive, an_instance, part_of, cells_of, Path, State, Set, instance_at, child_at, just, beneath, put, under, idle, idle_at, idle_below, IsSettled}
+use Rattle.cx_meaning.specs.Instances.{Instance, Node, Cells, no_cells, a_primitive, an_instance, part_of, Path, State, instance_at, child_at, just, put, under, idle, idle_at, idle_below, IsSettled}
 use Rattle.cx_meaning.specs.Active.{same_port}
 use Rattle.cx_meaning.specs.Sights.{Held, In}
 use Rattle.cx_meaning.specs.Cycles.{Fault}
@@ -20,8 +20,8 @@ use Rattle.cx_meaning.specs.Answers.{Answer, End, Meaning, after_turns, then_do,
 use Rattle.cx_meaning.specs.Answers as answers
 use Rattle.cx_meaning.specs.Budgets as budgets
 use Rattle.cx_meaning.specs.Control.{Leaves, groups_in, groups_of, groups_in_all, drives, run_form, run, run_parts}
-use Rattle.cx_meaning.specs.Islands.{island, island_from, form_flat, form_length, no_history}
-use Rattle.cx_meaning.specs.Calls.{called, captures, inputs_of_call, lift_answer, test, after_child, call, call_or_turns, enable_kind, enable}
+use Rattle.cx_meaning.specs.Islands.{island, form_flat, form_length, no_history}
+use Rattle.cx_meaning.specs.Calls.{called, captures, inputs_of_call, lift_answer, test, after_child, call, call_or_turns, enable_kind}
 use Rattle.cx_meaning.specs.Running.{leaves, run_control, control_below, run_statement}
 use Rattle.cx_meaning.proofs.RunningLemmas.{settles_statement, idle_settles}
 use Rattle.cx_rules.specs.Items.{Dynamic, Visited, visit, visit_parts, visit_all, statements_in, test_in, tests_of}
@@ -30,15 +30,15 @@ use Rattle.cx_frames.specs.Arms.{all_drive, arms_run}
 use Rattle.cx_frames.specs.Ran as ran
 use Rattle.cx_frames.specs.Ran.{Ran, AnswersAs}
 use Rattle.cx_frames.proofs.IslandFrames.{AllFine, form_fine}
-use Rattle.cx_weave.specs.Open.{Open, Idling, InGroup, Choosing, Testing, InIsland, Waiting, InSeq, InPar, InLoop, InRepeat, InCall, Opens, no_arms, an_arm, leaves_of, open_form, open_with, open_arms, open_called, open_kind, open_enable, open_control, open_below, open_statement}
+use Rattle.cx_weave.specs.Open.{Open, Choosing, Testing, InIsland, InSeq, InPar, InLoop, InRepeat, InCall, an_arm, leaves_of, open_form, open_with, open_arms, open_called, open_kind, open_enable, open_control, open_below, open_statement}
 use Rattle.cx_weave.specs.Leaves.{test_drives, rested, is_among, is_tested}
-use Rattle.cx_weave.specs.Steps.{Stepped, tested, seq_left, repeat_left, par_left, behind_child, first_inputs, inputs_seen, held_as}
+use Rattle.cx_weave.specs.Steps.{tested, seq_left, par_left, first_inputs, inputs_seen, held_as}
 use Rattle.cx_weave.proofs.OwnTurns.{OnlyIn}
-use Rattle.cx_weave.proofs.Inside.{IsSound, Stands, visited_as, inner_stands, itself, Inside, InsideOne, InsideAll, inside_self, inside_left, inside_right, FormIn, tests_flat, Apart}
-use Rattle.cx_weave.proofs.Fits.{Fits, IsArm, ArmsFit, AllSound, with_later, here_again, sound_below, below_fits, par_arms_fit}
+use Rattle.cx_weave.proofs.Inside.{IsSound, Stands, inner_stands, itself, Inside, InsideOne, InsideAll, inside_self, inside_left, inside_right, tests_flat}
+use Rattle.cx_weave.proofs.Fits.{Fits, ArmsFit, AllSound, with_later, here_again, sound_below, below_fits, par_arms_fit}
 use Rattle.cx_weave.proofs.Orders.{Goes, EndsIn, leaves_some}
 use Rattle.cx_weave.proofs.Ending.{seq_splits, loop_splits, repeat_splits, waiting_stays, par_splits, call_splits, call_begins, just_true, put_same, ends_only}
-use Rattle.cx_weave.proofs.LeafRuns.{IsLawful, Answered, busy_settled, rested_idle, idle_same, group_runs, behind_runs, island_runs, idling_runs}
+use Rattle.cx_weave.proofs.LeafRuns.{IsLawful, Answered, busy_settled, rested_idle, group_runs, behind_runs, island_runs, idling_runs}
 
 -- one run, and then another
 then_answered : (x : Answer State Fault) (middle final : State) (one two m n : ℕ) (go : Meaning State Fault) → m ≡ one + two → m ≤ n → Answered x middle one

@@ -1,9 +1,8 @@
 -- Strands as plain data, variant by variant.
-use Rattle.std.proofs.Common.{rules, ◌≡◌, ℕ, Option, None, map, sym, ap, ◌∙◌}
+use Rattle.std.proofs.Common.{◌≡◌, ℕ, Option, map, sym, ap, ◌∙◌}
 use Rattle.cx_meaning.specs.declared.ports.PlacedPort.{PlacedPort}
 use Rattle.cx_design.specs.PlainForms.{plain_form, plain_statement, plain_statements}
 use Rattle.cx_weave.specs.declared.strands.Island.{Island}
-use Rattle.cx_weave.specs.declared.strands.Strand.{Strand}
 use Rattle.cx_weave.specs.declared.strands.Strand.TheFolds.{fold-roll-Strand}
 use Rattle.cx_weave.specs.declared.strands.Strand.TheVariants as strands
 use Rattle.cx_weave.specs.Strands.{PlainStrand, AnIdling, AGroup, AChoice, ATest, AnIsland, ACapture, AClosing, AWaiting, ASeq, APar, ALoop, ARepeat, ACall, strands_of, seen_items, strand_step, plain_strand}

@@ -1,5 +1,5 @@
 -- A turn of a leaf, as the evaluator tells it.
-use Rattle.std.proofs.Common.{◌≡◌, ℕ, List, Option, Some, None, Result, Ok, Err, refl, sym, ap, ◌∙◌, subst}
+use Rattle.std.proofs.Common.{◌≡◌, ℕ, List, Result, Ok, Err, refl, sym, ap, ◌∙◌, subst}
 use Rattle.std.proofs.Math.Path.{fun_ext}
 use Rattle.cx_meaning.specs.declared.ports.PortRef.TheVariants as ports
 use Rattle.cx_meaning.specs.declared.sights.Seen.{Seen}
@@ -7,21 +7,20 @@ use Rattle.cx_meaning.specs.declared.sights.FaultKind.TheVariants as faults
 use Rattle.cx_meaning.specs.Designs.{PlainDesign}
 use Rattle.cx_meaning.specs.Instances.{Instance, Path, State, Set, part_of, instance_at, tree_of}
 use Rattle.cx_meaning.specs.Truths.{Truth, One, Zero, Clash, Unknown, truth_of}
-use Rattle.cx_meaning.specs.Active.{Active, group, capture}
+use Rattle.cx_meaning.specs.Active.{group, capture}
 use Rattle.cx_meaning.specs.Sights.{Held, seen}
 use Rattle.cx_meaning.specs.Cycles.{Ended, Goes, Faults, cycle_of, fault_at}
 use Rattle.cx_meaning.specs.Islands.{turn_of}
-use Rattle.cx_meaning.specs.Calls.{called, hole_turn}
+use Rattle.cx_meaning.specs.Calls.{hole_turn}
 use Rattle.cx_meaning.specs.Control.{group_drives}
 use Rattle.cx_design.specs.declared.actives.Active.TheVariants as actives
 use Rattle.cx_design.specs.declared.actives.PortFault.{PortFault}
 use Rattle.cx_design.specs.PlainActives.{capture_of}
 use Rattle.cx_state.specs.Tables.{IsNumber}
-use Rattle.cx_state.specs.States.{PlainInstance, inputs_held, StandsFor, under_path}
-use Rattle.cx_eval.specs.Evaluated.{IsSeen, IsSeenAlone, Cycled, HasCycled, EndsAs}
+use Rattle.cx_state.specs.States.{PlainInstance, inputs_held, under_path}
+use Rattle.cx_eval.specs.Evaluated.{IsSeenAlone, Cycled, HasCycled, EndsAs}
 use Rattle.cx_eval_cycle.specs.Passes.{listed_in}
 use Rattle.cx_interp.specs.declared.turns.Turn.{Turn}
-use Rattle.cx_interp.specs.declared.turns.Turn.TheVariants as turns
 use Rattle.cx_interp.specs.Groups.{ListGroup}
 use Rattle.cx_interp.specs.Turns.{HoleTurn, cycle_as}
 use Rattle.cx_interp.proofs.TestLemmas.{tells_own}

@@ -1,16 +1,15 @@
 -- A woven run, choice by choice.
-use Rattle.std.proofs.Common.{◌≡◌, ◌≢◌, ℕ, zero, suc, ◌+◌, ◌-◌, ◌*◌, ◌%◌, ◌^◌, ◌≤◌, ◌<◌, min, ⊎_elim, List, [], ◌∷◌, length, get_or, Option, Some, None, Result, Ok, Err, IfOk, refl, sym, ap, ◌∙◌, subst, arith}
+use Rattle.std.proofs.Common.{◌≡◌, ℕ, zero, suc, ◌+◌, ◌-◌, ◌%◌, ◌^◌, ◌≤◌, ◌<◌, ⊎_elim, List, [], Option, Some, None, Result, Ok, Err, IfOk, refl, sym, ap, ◌∙◌, subst, arith}
 use Rattle.std.proofs.Math.Path.{fun_ext}
 use Rattle.std.proofs.Math.Nat.{mod-eq_of_lt, mod-lt}
 use Rattle.std.proofs.lemmas.Bool.{cases_lt}
 use Rattle.cx_meaning.specs.Designs.{PlainDesign, PlainStatement}
-use Rattle.cx_meaning.specs.Instances.{Instance, Node, Path, State, start, part_of, instance_at, paths_of, tree_of}
+use Rattle.cx_meaning.specs.Instances.{Instance, Node, Path, State, start, part_of, instance_at, tree_of}
 use Rattle.cx_meaning.specs.Sights.{Held, unheld}
-use Rattle.cx_meaning.specs.Cycles as cycles
 use Rattle.cx_limits.specs.Capped.{capped}
 use Rattle.cx_design.specs.declared.actives.PortFault.{PortFault}
 use Rattle.cx_state.specs.Tables.{IsNumber}
-use Rattle.cx_state.specs.States.{PlainInstance, inputs_held, StandsFor, IsUnheld, under_path}
+use Rattle.cx_state.specs.States.{PlainInstance, inputs_held, StandsFor, under_path}
 use Rattle.cx_state.proofs.TreeLemmas.{instance_self}
 use Rattle.cx_interp.specs.Callees.{HasControl}
 use Rattle.cx_interp.proofs.RunLemmas.{main_first}
@@ -19,14 +18,14 @@ use Rattle.cx_weave.specs.declared.strands.Halt.TheVariants as halts
 use Rattle.cx_weave.specs.declared.strands.Strand.{Strand}
 use Rattle.cx_weave.specs.declared.weaving.Wove.{Wove}
 use Rattle.cx_weave.specs.declared.weaving.Wove.TheVariants.{End, Fault, More}
-use Rattle.cx_weave.specs.Open.{Open, leaves_of, open_control, open_statement}
+use Rattle.cx_weave.specs.Open.{Open, open_control, open_statement}
 use Rattle.cx_weave.specs.Results.{EndsIn, HaltedAs}
 use Rattle.cx_weave.specs.Steps.{Stepped, Now, Stops, step}
 use Rattle.cx_weave.specs.Strands.{PlainStrand, plain_strand, strand_leaves, Shows, IsShown}
-use Rattle.cx_weave.specs.Strides.{LeftShown, OpensAs, StepTold, HasStepped}
+use Rattle.cx_weave.specs.Strides.{OpensAs, StepTold, HasStepped}
 use Rattle.cx_weave.specs.Woven as woven
 use Rattle.cx_weave.specs.Woven.{Woven, Choices, leaf_of, then_weave, weave_from, woven, by_list}
-use Rattle.cx_weave.proofs.PartSteps.{leaves_shown, some_leaf}
+use Rattle.cx_weave.proofs.PartSteps.{leaves_shown}
 
 -- a choice of 32 bits names the same leaf where leaves are counted up to a limit
 pub capped_leaf : (choice leaves : ℕ) → choice < 2 ^ 32 → choice % capped leaves ≡ choice % leaves

@@ -1,5 +1,5 @@
 -- Idle edges of cells of an instance, and of all that is below some of its children.
-use Rattle.std.specs.Prelude.{◌≡◌, ℕ, ◌<◌, ◌||◌, nat_eq, List, [], ◌∷◌, length, if◌then◌else◌}
+use Rattle.std.specs.Prelude.{ℕ, ◌<◌, ◌||◌, nat_eq, List, [], ◌∷◌, length, if◌then◌else◌}
 use Rattle.cx_meaning.specs.Designs.{PlainDesign}
 use Rattle.cx_meaning.specs.Instances.{Instance, Path, State, Set, part_of, idle, instance_at, tree_of}
 use Rattle.cx_state.specs.Tables.{IsNumber}

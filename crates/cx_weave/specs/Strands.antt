@@ -6,7 +6,7 @@ use Rattle.cx_meaning.specs.declared.ports.PlacedPort.{PlacedPort}
 use Rattle.cx_meaning.specs.declared.sights.Seen.{Seen}
 use Rattle.cx_meaning.specs.declared.sights.Seen.TheVariants.{Value}
 use Rattle.cx_meaning.specs.Designs.{PlainDesign, PlainComponent, PlainForm, If, While, PlainStatement, PlainStatements}
-use Rattle.cx_meaning.specs.Instances.{Instance, Path, Set, part_of, instance_at, tree_of}
+use Rattle.cx_meaning.specs.Instances.{Path, Set, part_of, instance_at, tree_of}
 use Rattle.cx_meaning.specs.Calls.{called}
 use Rattle.cx_meaning.specs.Islands.{History, form_length}
 use Rattle.cx_rules.specs.Ports.{declared_width}

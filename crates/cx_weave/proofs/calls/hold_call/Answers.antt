@@ -1,4 +1,4 @@
-use Rattle.std.proofs.Common.{◌≡◌, ℕ, None, Some, [], get_or, sym, ap, ◌∙◌, subst}
+use Rattle.std.proofs.Common.{[], get_or, sym, subst}
 use Rattle.cx_meaning.specs.Instances.{Path, paths_of, tree_of}
 use Rattle.cx_state.specs.Tables.{IsNumber}
 use Rattle.cx_interp.specs.Machines.{design_of, rows_of}

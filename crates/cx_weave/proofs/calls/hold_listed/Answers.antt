@@ -1,7 +1,7 @@
-use Rattle.std.proofs.Common.{rules, ◌≡◌, ℕ, ◌+◌, ◌<◌, List, [], ◌∷◌, ◌++◌, get_or, length, sym, ap, ◌∙◌, subst, arith}
-use Rattle.cx_meaning.specs.Instances.{Path, paths_of, tree_of, part_of, instance_at}
+use Rattle.std.proofs.Common.{◌≡◌, ◌+◌, ◌<◌, [], get_or, length, sym, ◌∙◌, subst, arith}
+use Rattle.cx_meaning.specs.Instances.{Path, paths_of, tree_of}
 use Rattle.cx_state.specs.Tables.{IsNumber}
-use Rattle.cx_state.specs.States.{PlainInstance, instance_state, IsStateOf}
+use Rattle.cx_state.specs.States.{instance_state, IsStateOf}
 use Rattle.cx_interp.specs.Machines.{design_of, rows_of}
 use Rattle.cx_meaning.specs.declared.sights.Seen.TheVariants.{Undefined}
 use Rattle.cx_interp.proofs.RestLemmas.{any_default}

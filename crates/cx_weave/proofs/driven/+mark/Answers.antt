@@ -1,4 +1,4 @@
-use Rattle.std.proofs.Common.{rules, ◌≡◌, ◌||◌, ◌+◌, ◌<◌, ℕ, [], ◌++◌, length, refl, sym, ap, ◌∙◌, subst, arith}
+use Rattle.std.proofs.Common.{rules, ◌≡◌, ◌||◌, [], ◌++◌, sym, ap, ◌∙◌, arith}
 use Rattle.cx_meaning.specs.Control.{groups_drive, groups_in, groups_in_all, groups_of, with_comb}
 use Rattle.cx_meaning.specs.Designs.{PlainForm, PlainStatement, If, While, StaticIf}
 use Rattle.cx_meaning.specs.Instances.{part_of, instance_at, tree_of}

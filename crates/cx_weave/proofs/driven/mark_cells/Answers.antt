@@ -1,4 +1,4 @@
-use Rattle.std.proofs.Common.{rules, ◌≡◌, ◌||◌, ◌+◌, ◌<◌, Bool, true, false, nat_eq, ℕ, get_or, length, take, set, sym, ap, ◌∙◌, subst, arith}
+use Rattle.std.proofs.Common.{◌||◌, ◌<◌, true, nat_eq, ℕ, get_or, length, take, sym, ap, ◌∙◌, arith}
 use Rattle.std.proofs.lemmas.List.{length-set}
 use Rattle.cx_eval_cycle.specs.Passes.{listed_in}
 use Rattle.cx_eval_cycle.proofs.PassLemmas.{listed_more}

@@ -1,12 +1,10 @@
-use Rattle.std.proofs.Common.{rules, ◌≡◌, ◌||◌, ◌<◌, ◌≤◌, ℕ, [], ◌∷◌, get_or, length, sym, ap, ◌∙◌, subst, arith}
-use Rattle.cx_meaning.specs.Control.{group_drives}
+use Rattle.std.proofs.Common.{rules, ◌<◌, ℕ, [], get_or, length, sym, subst, arith}
 use Rattle.cx_meaning.specs.Instances.{paths_of, part_of, instance_at, tree_of}
-use Rattle.cx_interp.specs.Groups.{IsGroupOf, ListGroup, ListWithin}
+use Rattle.cx_interp.specs.Groups.{IsGroupOf}
 use Rattle.cx_interp.specs.Machines.{design_of}
-use Rattle.cx_interp.proofs.EnableLemmas.{row_lists, row_within}
+use Rattle.cx_interp.proofs.EnableLemmas.{row_within}
 use Rattle.cx_interp.proofs.HoldLemmas.{own_path}
-use Rattle.cx_weave.specs.Marks.{is_marked}
-use Rattle.cx_weave.proofs.MarkSteps.{groups_are, no_group_drives, or_none}
+use Rattle.cx_weave.proofs.MarkSteps.{groups_are}
 use Rattle.cx_weave.proofs.driven.mark_group.Goals as goal
 
 pub group_row-row-requires-clause-group : goal.group_row-row-requires-clause-group

@@ -1,4 +1,4 @@
-use Rattle.std.proofs.Common.{rules, ◌≡◌, ◌≤◌, ◌<◌, ◌+◌, ℕ, Bool, false, length, get_or, refl, sym, ap, ◌∙◌, subst, arith}
+use Rattle.std.proofs.Common.{◌≡◌, ◌<◌, ◌+◌, false, length, get_or, refl, sym, subst, arith}
 use Rattle.cx_weave.specs.Marks.{is_marked}
 use Rattle.cx_weave.proofs.MarkSteps.{ListsSoFar, lists_next, lists_within}
 use Rattle.cx_weave.proofs.driven.marked_cells.Goals as goal

@@ -1,12 +1,11 @@
-use Rattle.std.proofs.Common.{rules, ◌≡◌, ◌<◌, ◌^◌, ◌-◌, ℕ, None, Some, Ok, Err, [], get_or, sym, ap, ◌∙◌, subst, arith}
+use Rattle.std.proofs.Common.{◌<◌, Err, [], get_or, sym, ap, subst, arith}
 use Rattle.cx_text.specs.declared.limits.TheConstants.{REPETITIONS}
-use Rattle.cx_meaning.specs.Instances.{Path, part_of, instance_at, paths_of, tree_of}
+use Rattle.cx_meaning.specs.Instances.{part_of, instance_at, paths_of, tree_of}
 use Rattle.cx_meaning.specs.Islands.{History, form_length}
 use Rattle.cx_laws.specs.Samples.{active_by}
 use Rattle.cx_design.specs.PlainDesigns.{plain_design}
 use Rattle.cx_design.specs.PlainForms.{plain_component, plain_form}
-use Rattle.cx_state.specs.Tables.{IsNumber}
-use Rattle.cx_state.specs.States.{plain_state, IsStateOf}
+use Rattle.cx_state.specs.States.{plain_state}
 use Rattle.cx_eval.specs.Evaluated.{CanAct, Cycled}
 use Rattle.cx_eval_cycle.specs.Passes.{listed_in}
 use Rattle.cx_interp_islands.specs.Rooms.{samples_of}

@@ -1,13 +1,12 @@
-use Rattle.std.proofs.Common.{◌≡◌, ℕ, Some, refl, sym, subst, ap, arith, ◌+◌, ◌≤◌}
+use Rattle.std.proofs.Common.{◌≡◌, Some, refl, arith, ◌+◌, ◌≤◌}
 use Rattle.cx_meaning.specs.Rows.{KeepsIdle}
 use Rattle.cx_meaning.specs.Designs.{no_place}
-use Rattle.cx_meaning.specs.Instances.{Path, part_of, instance_at, start, tree_of}
+use Rattle.cx_meaning.specs.Instances.{part_of, instance_at, start, tree_of}
 use Rattle.cx_meaning.specs.Sights.{unheld}
 use Rattle.cx_weave.specs.Open.{open_control}
 use Rattle.cx_weave.proofs.Accepted.{design_sound}
 use Rattle.cx_weave.proofs.Fits.{control_fits}
 use Rattle.cx_weave.proofs.Inside.{itself}
-use Rattle.cx_weave.proofs.LeafRuns.{IsLawful, Answered}
 use Rattle.cx_weave.proofs.Lawful.{rows_at}
 use Rattle.cx_weave.proofs.Orders.{ended_so}
 use Rattle.cx_weave.proofs.Runs.{AllLawful, control_runs}

@@ -1,4 +1,4 @@
-use Rattle.std.proofs.Common.{◌≡◌, Ok, Err, [], get_or, refl, sym, ap, ◌∙◌, subst}
+use Rattle.std.proofs.Common.{[], get_or, refl, sym, subst}
 use Rattle.cx_meaning.specs.Instances.{paths_of, tree_of}
 use Rattle.cx_state.specs.ReadStates.{state_in}
 use Rattle.cx_state.specs.Tables.{IsNumber}

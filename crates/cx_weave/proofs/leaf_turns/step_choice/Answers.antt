@@ -1,14 +1,13 @@
-use Rattle.std.proofs.Common.{◌≡◌, ◌≤◌, ℕ, Ok, Err, Some, None, true, false, refl, sym, ap, ◌∙◌, subst}
-use Rattle.cx_meaning.specs.Designs.{If, While}
+use Rattle.std.proofs.Common.{Ok, true, false, refl, subst}
+use Rattle.cx_meaning.specs.Designs.{If}
 use Rattle.cx_design.specs.PlainForms.{plain_statement}
-use Rattle.cx_state.specs.States.{inputs_held}
 use Rattle.cx_interp.specs.Machines.{design_of, rows_of}
 use Rattle.cx_interp.specs.Tests.{Tested}
 use Rattle.cx_interp.proofs.ControlLemmas.{yes_stands, no_stands}
 use Rattle.cx_interp.proofs.StandLemmas.{test_port, test_comb}
 use Rattle.cx_weave.specs.Leaves.{test_drives}
-use Rattle.cx_weave.specs.Strides.{HasRested, HasStepped}
-use Rattle.cx_weave.proofs.LeafSteps.{choice_holds, choice_fails, choice_stops, memory_stops}
+use Rattle.cx_weave.specs.Strides.{HasRested}
+use Rattle.cx_weave.proofs.LeafSteps.{choice_holds, choice_fails}
 use Rattle.cx_weave.proofs.leaf_turns.step_choice.Goals as goal
 
 pub test-requires-clause-port : goal.test-requires-clause-port

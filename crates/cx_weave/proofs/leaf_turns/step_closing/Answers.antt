@@ -1,4 +1,4 @@
-use Rattle.std.proofs.Common.{◌≡◌, sym, subst}
+use Rattle.std.proofs.Common.{sym, subst}
 use Rattle.cx_meaning.specs.Control.{group_drives}
 use Rattle.cx_eval_cycle.specs.Passes.{IsAscending}
 use Rattle.cx_interp.specs.Groups.{ListGroup, ListWithin}

@@ -1,6 +1,5 @@
 use Rattle.std.proofs.Common.{map, refl, arith}
 use Rattle.cx_limits.proofs.Caps.{ended}
-use Rattle.cx_weave.specs.declared.strands.Strand.{Strand}
 use Rattle.cx_weave.specs.Strands.{plain_strand, strands_leaves, strands_of}
 use Rattle.cx_weave.proofs.leaves.+leaves.Goals as goal
 

@@ -1,5 +1,5 @@
-use Rattle.std.proofs.Common.{rules, ◌≡◌, ◌^◌, ◌<◌, ◌≤◌, ◌+◌, ◌-◌, length, get_or, arith}
-use Rattle.cx_weave.proofs.ArmSteps.{find_here, find_next, find_ends, find_starts}
+use Rattle.std.proofs.Common.{rules, ◌<◌, length, arith}
+use Rattle.cx_weave.proofs.ArmSteps.{find_here, find_next, find_starts}
 use Rattle.cx_weave.proofs.leaves.find_arm.Goals as goal
 
 pub returns-then-from-leaves : goal.returns-then-from-leaves

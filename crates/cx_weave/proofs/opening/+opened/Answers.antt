@@ -1,7 +1,7 @@
-use Rattle.std.proofs.Common.{rules, ◌≡◌, ◌≢◌, ◌+◌, ◌-◌, ◌<◌, ℕ, suc, List, [], ◌∷◌, ◌++◌, Some, None, get_or, length, map, refl, sym, ap, ◌∙◌, subst, arith}
+use Rattle.std.proofs.Common.{rules, ◌≡◌, ◌+◌, ◌<◌, List, [], ◌∷◌, ◌++◌, None, get_or, length, sym, ap, ◌∙◌, subst, arith}
 use Rattle.std.proofs.Math.ListN.{drop_of_length-le}
-use Rattle.cx_meaning.specs.Designs.{PlainForm, PlainStatement, Placed, no_place, Enable, Empty, Timed, Seq, Par, Repeat, If, While}
-use Rattle.cx_design.specs.PlainForms.{plain_form, plain_statement, plain_statements, form_step, statement_step}
+use Rattle.cx_meaning.specs.Designs.{PlainForm, PlainStatement, Placed, Enable}
+use Rattle.cx_design.specs.PlainForms.{plain_form, plain_statement, form_step, statement_step}
 use Rattle.cx_design.specs.declared.statements.Form.TheFolds.{fold-roll-Form, fold-roll-Statement}
 use Rattle.cx_design.specs.declared.statements.Form.TheVariants as forms
 use Rattle.cx_interp.specs.Machines.{design_of, FormStands, StandsIn}

@@ -1,5 +1,5 @@
 use Rattle.std.proofs.Common.{rules, ◌≡◌, [], ◌∷◌, length, sym, subst}
-use Rattle.cx_design.specs.PlainForms.{plain_statement, plain_statements}
+use Rattle.cx_design.specs.PlainForms.{plain_statement}
 use Rattle.cx_interp.specs.Machines.{design_of}
 use Rattle.cx_weave.specs.declared.strands.Strand.TheVariants as strands
 use Rattle.cx_weave.specs.Strides.{OpensAs}

@@ -3,7 +3,7 @@ use Rattle.cx_design.specs.PlainForms.{plain_statement}
 use Rattle.cx_interp.specs.Machines.{design_of}
 use Rattle.cx_weave.specs.declared.strands.Strand.TheVariants as strands
 use Rattle.cx_weave.specs.Strides.{OpensAs}
-use Rattle.cx_weave.proofs.OpenSteps.{repeat_ended, repeat_next}
+use Rattle.cx_weave.proofs.OpenSteps.{repeat_next}
 use Rattle.cx_weave.proofs.StrandFolds.{is_repeat}
 use Rattle.cx_weave.proofs.parts.next_round.Goals as goal
 

@@ -1,10 +1,8 @@
-use Rattle.std.proofs.Common.{rules, ◌≡◌, ℕ, ◌+◌, ◌*◌, ◌<◌, ◌≤◌, ◌^◌, nat_lt, true, false, List, [], ◌∷◌, ◌++◌, get_or, length, refl, sym, ap, ◌∙◌, subst, arith}
+use Rattle.std.proofs.Common.{rules, ◌≡◌, ◌<◌, [], get_or, length, refl, sym, ◌∙◌, subst, arith}
 use Rattle.std.proofs.lemmas.Bool.{lt-ltb, le-ltb}
 use Rattle.cx_meaning.specs.Cycles.{every_cell}
-use Rattle.cx_meaning.specs.Instances.{Instance, Path, Set, paths_of, tree_of}
-use Rattle.cx_design.specs.declared.cells.CellKind.{CellKind}
+use Rattle.cx_meaning.specs.Instances.{Set, paths_of, tree_of}
 use Rattle.cx_design.specs.declared.cells.CellKind.TheVariants.{Prim, Part}
-use Rattle.cx_state.specs.Tables.{IsNumber}
 use Rattle.cx_interp.specs.Callees.{IsPart}
 use Rattle.cx_interp.specs.Machines.{design_of, rows_of}
 use Rattle.cx_interp.specs.Rooms.{HasRoom}

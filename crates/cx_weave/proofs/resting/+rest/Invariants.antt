@@ -1,4 +1,4 @@
-use Rattle.std.proofs.Common.{ℕ, ◌+◌, ◌*◌, ◌<◌, ◌^◌}
+use Rattle.std.proofs.Common.{◌+◌, ◌*◌}
 use Rattle.cx_meaning.specs.Cycles.{every_cell}
 use Rattle.cx_interp.specs.Machines.{design_of, rows_of, IsAt}
 use Rattle.cx_interp.proofs.Measures.{below}

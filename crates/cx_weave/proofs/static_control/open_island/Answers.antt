@@ -1,4 +1,4 @@
-use Rattle.std.proofs.Common.{rules, ◌≡◌, ◌≤◌, ◌<◌, ◌+◌, ℕ, length, refl, sym, ap, ◌∙◌, subst, arith}
+use Rattle.std.proofs.Common.{rules, ◌≡◌, ◌≤◌, ◌<◌, length, refl, sym, ap, ◌∙◌, arith}
 use Rattle.cx_text.specs.declared.limits.TheConstants.{REPETITIONS}
 use Rattle.cx_meaning.specs.Instances.{part_of, instance_at, tree_of}
 use Rattle.cx_meaning.specs.Islands.{form_length, no_history}

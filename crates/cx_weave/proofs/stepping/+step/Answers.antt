@@ -1,17 +1,13 @@
-use Rattle.std.proofs.Common.{rules, ◌≡◌, ◌≤◌, ◌<◌, ◌+◌, ◌*◌, ◌-◌, ℕ, Ok, Err, Some, None, List, [], get_or, length, map, refl, sym, ap, ◌∙◌, subst, arith}
-use Rattle.std.specs.List.{remove}
+use Rattle.std.proofs.Common.{rules, ◌≡◌, ◌+◌, Ok, Some, None, List, get_or, length, map, sym, ap, ◌∙◌, subst, arith}
 use Rattle.std.proofs.lemmas.Result.{err_from_is_err_and}
 use Rattle.std.proofs.lemmas.List.Edits.{length-remove}
-use Rattle.cx_meaning.specs.Designs.{While}
-use Rattle.cx_meaning.specs.Instances.{paths_of, tree_of}
 use Rattle.cx_design.specs.PlainForms.{plain_form, plain_statement, plain_statements}
 use Rattle.cx_interp.specs.Callees.{IsPart}
 use Rattle.cx_interp.specs.Machines.{design_of, rows_of}
-use Rattle.cx_interp.proofs.CallLemmas.{called_is, child_instance}
-use Rattle.cx_interp.proofs.HoldLemmas.{own_path}
+use Rattle.cx_interp.proofs.CallLemmas.{child_instance}
 use Rattle.cx_weave.specs.declared.strands.Strand.{Strand}
 use Rattle.cx_weave.specs.declared.strands.Strand.TheVariants as strands
-use Rattle.cx_weave.specs.Strands.{IsArmOf, PlainStrand, AGroup, AChoice, ATest, AnIsland, ACapture, AClosing, AWaiting, ASeq, APar, ALoop, ARepeat, ACall, IsShown, plain_strand, seen_items, strand_leaves, strands_leaves, strands_of}
+use Rattle.cx_weave.specs.Strands.{IsArmOf, PlainStrand, AGroup, AChoice, ATest, AnIsland, ACapture, AClosing, ASeq, APar, ALoop, ARepeat, ACall, IsShown, plain_strand, seen_items, strand_leaves, strands_leaves, strands_of}
 use Rattle.cx_weave.specs.Strides.{HasStepped, IsParAfter}
 use Rattle.cx_weave.proofs.ArmSteps.{arm_there, arm_leaf, arm_of_par}
 use Rattle.cx_weave.proofs.CallSteps.{call_goes, call_stops, call_part, child_shown, held_above, held_below}

@@ -1,4 +1,4 @@
-use Rattle.std.proofs.Common.{ℕ, ◌+◌, ◌*◌, map}
+use Rattle.std.proofs.Common.{◌+◌, ◌*◌, map}
 use Rattle.cx_weave.specs.Strands.{plain_strand, strands_of}
 use Rattle.cx_weave.proofs.StrandSizes.{size_of, sizes_of}
 use Rattle.cx_weave.proofs.stepping.+step.Given as goal

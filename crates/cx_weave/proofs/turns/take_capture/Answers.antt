@@ -5,8 +5,6 @@ use Rattle.cx_state.specs.States.{IsStateOf, plain_state}
 use Rattle.cx_eval.specs.Evaluated.{CanAct, Cycled}
 use Rattle.cx_eval_cycle.specs.Passes.{listed_in}
 use Rattle.cx_interp.specs.Machines.{design_of, rows_of}
-use Rattle.cx_weave.specs.Strides.{TakesTurn}
-use Rattle.cx_weave.specs.Leaves.{own_capture}
 use Rattle.cx_weave.proofs.TurnsTaken.{capture_cycled}
 use Rattle.cx_weave.proofs.turns.take_capture.Goals as goal
 

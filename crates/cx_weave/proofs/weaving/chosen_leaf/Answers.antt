@@ -1,4 +1,4 @@
-use Rattle.std.proofs.Common.{rules, ◌≡◌, ◌<◌, ◌%◌, ◌^◌, ℕ, length, get_or, arith}
+use Rattle.std.proofs.Common.{rules, ◌≡◌, ◌<◌, ◌%◌, ◌^◌, length, get_or, arith}
 use Rattle.std.proofs.Math.Nat.{mod-le}
 use Rattle.cx_weave.specs.Strands.{plain_strand, strand_leaves}
 use Rattle.cx_weave.specs.Woven.{by_list}

@@ -1,6 +1,6 @@
-use Rattle.std.proofs.Common.{◌≡◌, ℕ, List, sym, subst}
+use Rattle.std.proofs.Common.{◌≡◌, sym, subst}
 use Rattle.cx_text.specs.Loading.{FitsRows, plain_loaded, with_words}
-use Rattle.cx_meaning.specs.Instances.{start, tree_of, words_of}
+use Rattle.cx_meaning.specs.Instances.{tree_of, words_of}
 use Rattle.cx_rules.specs.Accepted.{IsAccepted}
 use Rattle.cx_rules.specs.Externals.{external_rows}
 use Rattle.cx_rules.specs.Wellformed.{IsDesign}

@@ -1,6 +1,6 @@
-use Rattle.std.proofs.Common.{rules, ◌≡◌, ◌≤◌, ◌<◌, ◌+◌, ◌*◌, ◌%◌, ◌^◌, ℕ, Ok, Err, Some, None, List, [], length, refl, sym, ap, ◌∙◌, subst, arith}
+use Rattle.std.proofs.Common.{rules, ◌≡◌, ◌<◌, ◌+◌, ◌^◌, Ok, Err, Some, None, [], sym, ap, ◌∙◌, subst, arith}
 use Rattle.std.proofs.Math.Nat.{mod-lt}
-use Rattle.cx_meaning.specs.Instances.{instance_at, start, tree_of}
+use Rattle.cx_meaning.specs.Instances.{instance_at, tree_of}
 use Rattle.cx_state.specs.ReadStates.{state_in}
 use Rattle.cx_weave.specs.Strides.{HasStepped}
 use Rattle.cx_design.specs.PlainForms.{plain_statement}
@@ -13,7 +13,7 @@ use Rattle.cx_weave.specs.declared.weaving.Wove.TheVariants.{End}
 use Rattle.cx_weave.specs.Results.{EndsIn}
 use Rattle.cx_weave.specs.Woven.{by_list, woven}
 use Rattle.cx_weave.proofs.PartSteps.{some_leaf}
-use Rattle.cx_weave.proofs.WeaveSteps.{WovenSoFar, capped_leaf, left_shown, weave_ends, weave_goes, weave_halts, weave_more, weave_starts}
+use Rattle.cx_weave.proofs.WeaveSteps.{WovenSoFar, left_shown, weave_ends, weave_goes, weave_halts, weave_more, weave_starts}
 use Rattle.cx_weave.proofs.weaving.weave_on.Goals as goal
 
 pub control_of-control-requires-clause-instance : goal.control_of-control-requires-clause-instance
