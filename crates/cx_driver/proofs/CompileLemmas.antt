@@ -16,6 +16,7 @@ use Rattle.cx_driver.specs.Texts.{IsDesignOf, IsTextRefusal}
 use Rattle.cx_driver.specs.Compiled.{IsCompiled, IsCompilable, too_large, CompileBreak, Compiles, IsCompileStop, IsDesignWritten, IsDesignTooLarge, written_source}
 use Rattle.cx_driver.specs.Promise.{KeepsPromise}
 use Rattle.cx_driver.proofs.PromiseLemmas.{promise_is_kept}
+use Rattle.cx_driver.proofs.WrittenNets.{written_nets}
 use Rattle.cx_driver.proofs.WrittenShape.{written_shape, written_names}
 use Rattle.cx_driver.proofs.TextLayers.{text_rules, text_realises}
 use Rattle.cx_driver.proofs.TextLemmas.{one_design, text_of_design, accepted_once, break_once}
@@ -62,6 +63,7 @@ text_written bytes text d (Ok x) law stands h =
         realises = text_realises text d stands h.0 h.1.sound (law d rules.0 rules.1);
         shape = written_shape d rules.0 rules.1 h.1.sound;
         names = written_names d;
+        nets = written_nets text d stands h.0;
       };
     }
 text_written bytes text d (Err stop) law stands h = tt

@@ -1,5 +1,5 @@
--- The net that compile writes for the design of an accepted text within the size can be written, and so its source is sound.
-use Rattle.std.proofs.Common.{◌≡◌, ℕ, ◌+◌, ◌<◌, ◌≤◌, true, List, [], ◌∷◌, length, refl, sym, ap, ap₂, ◌∙◌, subst, arith}
+-- The net that compile writes for the design of an accepted text within the size can be written, and so its source is sound; and it has few nets.
+use Rattle.std.proofs.Common.{◌≡◌, ℕ, ◌+◌, ◌*◌, ◌<◌, ◌≤◌, true, List, [], ◌∷◌, length, refl, sym, ap, ap₂, ◌∙◌, subst, arith}
 use Rattle.std.specs.Prelude.{◌^◌}
 use Rattle.std.proofs.lemmas.List.{length-map}
 use Rattle.std.proofs.lemmas.Option.{slice_get-get_or}
@@ -11,7 +11,7 @@ use Rattle.cx_meaning.specs.Instances as instances
 use Rattle.cx_meaning.specs.Instances.{Instance, Cells, no_cells, a_primitive, an_instance, tree_of}
 use Rattle.cx_meaning.specs.Sights.{In}
 use Rattle.cx_rules.specs.Accepted.{IsAccepted}
-use Rattle.cx_rules.specs.Sizes.{size_of, design_size}
+use Rattle.cx_rules.specs.Sizes.{size_of, weight_of, design_size}
 use Rattle.cx_rules.specs.Wellformed.{IsDesign}
 use Rattle.cx_numbering.specs.DesignOf.{plain_cell_of, component_of, design_of}
 use Rattle.cx_names.specs.Targets.{HasTargets}
@@ -32,7 +32,7 @@ use Rattle.cx_wiring.specs.Wiring.{net_of}
 use Rattle.cx_wiring.proofs.ComponentCounts.{PartsHold, component_few}
 use Rattle.cx_wiring.proofs.FitLemmas.{there_at}
 use Rattle.cx_wiring.proofs.FitNets.{size_among, net_fits}
-use Rattle.cx_wiring.proofs.NetCounts.{whole_nets, own_few}
+use Rattle.cx_wiring.proofs.NetCounts.{OwnNets, whole_weighs, whole_nets, own_few}
 use Rattle.cx_wiring.proofs.NetTrees.{net_tree-net_of}
 use Rattle.cx_wiring.proofs.NumberLemmas.{in_number}
 use Rattle.cx_wiring.proofs.OrderHeights.{in_slice, stands_at}
@@ -45,7 +45,9 @@ use Rattle.cx_holes.proofs.FitNames.{fit_names}
 use Rattle.cx_holes.proofs.RenamedFits.{inlined_fits, inlined_no_holes}
 use Rattle.cx_holes.proofs.RenamedLimits.{inlined_writable}
 use Rattle.cx_holes.proofs.RenamedRuns.{counted, tree_same}
+use Rattle.cx_emit.specs.Shapes.{HasFewNets}
 use Rattle.cx_emit.proofs.Soundness.{source_is_sound}
+use Rattle.cx_emit.proofs.SourceNets.{source_nets}
 use Rattle.cx_commands.specs.Unread.{HasTree}
 use Rattle.cx_driver.specs.Texts.{IsDesignOf}
 use Rattle.cx_driver.specs.Compiled.{written_source}
@@ -101,14 +103,17 @@ module _ (d : PlainDesign) (rules : IsDesign d) (accepted : IsAccepted d) (can :
   names : NetNames net
   names = fit_names net (net_fits d rules accepted) (targets_there d rules accepted)
 
-  few_nets : nets_below (net_tree (inlined net)) ≤ 4194304
-  few_nets =
-      let made_so = tree_same net ∙ ap inlined_tree (net_tree-net_of d rules no_numbers) ∙ tree_made d (tree_of d) in
-      subst (λ tree. nets_below tree ≤ 4194304) (sym made_so)
-      (whole_nets d rules (made d) no_numbers accepted
-      (own_few d rules can.parts no_numbers (made d) (λ k. refl)
+  made_so : net_tree (inlined net) ≡ net_of_instance (made d) timers_of no_numbers (tree_of d)
+  made_so = tree_same net ∙ ap inlined_tree (net_tree-net_of d rules no_numbers) ∙ tree_made d (tree_of d)
+
+  own_nets : (k : ℕ) → k < length d.components → OwnNets d rules (made d) no_numbers k
+  own_nets =
+      own_few d rules can.parts no_numbers (made d) (λ k. refl)
       (λ k. let count : length (made d (component_at d k)).wires ≡ length (wired_in d (component_at d k)).wires + (wired_in d (component_at d k)).holes = counted (wired_in d (component_at d k)) in omega arith)
-      (λ k. refl)))
+      (λ k. refl)
+
+  few_nets : nets_below (net_tree (inlined net)) ≤ 4194304
+  few_nets = subst (λ tree. nets_below tree ≤ 4194304) (sym made_so) (whole_nets d rules (made d) no_numbers accepted own_nets)
 
   -- the wires and holes of a component are few
   own_wires : (k : ℕ) → k < length d.components → length (wired_in d (component_at d k)).wires + (wired_in d (component_at d k)).holes < 2 ^ 64
@@ -129,6 +134,13 @@ module _ (d : PlainDesign) (rules : IsDesign d) (accepted : IsAccepted d) (can :
       source_is_sound (inlined net) (inlined_fits net names (net_fits d rules accepted)) (inlined_no_holes net)
       (inlined_writable net names few_wires few_nets (net_writable d rules accepted can))
 
+  -- its nets: 64 for each unit of weight at most
+  nets_weigh : HasFewNets d (written_source d)
+  nets_weigh =
+      let weigh : nets_below (net_tree (inlined net)) ≤ 64 * weight_of d = subst (λ tree. nets_below tree ≤ 64 * weight_of d) (sym made_so) (whole_weighs d rules (made d) no_numbers own_nets) in
+      let nets = source_nets (inlined net) net_sound (record { fits = inlined_fits net names (net_fits d rules accepted); no_holes = inlined_no_holes net }) in
+      omega (arith, weigh, nets)
+
 -- THE SOURCE that is written for an accepted tree within the size, whose external memories have words for names, is sound
 pub tree_sound : (tree : PlainTree) (d : PlainDesign) → HasTargets tree → IsAcceptedTree tree → d ≡ design_of tree → HasWords d → design_size d ≤ COMPILE_SIZE → is_sound (written_source d) ≡ true
 tree_sound tree d targets accepted same words within =
@@ -140,3 +152,10 @@ tree_sound tree d targets accepted same words within =
 pub written_sound : (text : List ℕ) (d : PlainDesign) → IsDesignOf text d → design_size d ≤ COMPILE_SIZE → is_sound (written_source d) ≡ true
 written_sound text d h within =
     tree_sound h.0 d (text_targets text h.0 h.1) h.2 h.3 (λ cell i external. design_words text d h d.main (text_rules text d h within).0.main_there cell i) within
+
+-- and has few nets
+pub written_nets : (text : List ℕ) (d : PlainDesign) → IsDesignOf text d → design_size d ≤ COMPILE_SIZE → HasFewNets d (written_source d)
+written_nets text d h within =
+    let rules = text_rules text d h within in
+    let small : design_size d ≤ 16384 = within in
+    nets_weigh d rules.0 rules.1 (record { small = small; parts = design_parts h.0 d h.3; words = λ cell i external. design_words text d h d.main rules.0.main_there cell i })

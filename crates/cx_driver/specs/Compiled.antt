@@ -11,7 +11,7 @@ use Rattle.cx_vtree.specs.Sound.{is_sound}
 use Rattle.cx_static.specs.Lowering.{lowered_of}
 use Rattle.cx_wiring.specs.Wiring.{net_of}
 use Rattle.cx_holes.specs.Inlining.{inlined}
-use Rattle.cx_emit.specs.Shapes.{IsShaped, HasOwnNames}
+use Rattle.cx_emit.specs.Shapes.{IsShaped, HasOwnNames, HasFewNets}
 use Rattle.cx_emit.specs.Sources.{source_of}
 use Rattle.cx_commands.specs.Stopping.{TellsBreak}
 use Rattle.cx_commands.specs.declared.stops.Stop.{Stop}
@@ -20,13 +20,14 @@ use Rattle.cx_driver.specs.Texts.{IsDesignOf, TextBreak}
 use Rattle.cx_driver.specs.Simulated.{IsVerilogOf}
 
 -- THE TEXT OF A DESIGN: it spells a sound source, which realises the design, in which nothing of the design's control hides, and whose
--- names are no words of Verilog
+-- names are no words of Verilog, and which has few nets
 pub record IsTextOf (d : PlainDesign) (answer : List ℕ) : Type 0 where
   pub source : PlainSource
   pub spelled : IsVerilogOf answer source
   pub realises : Realises d source
   pub shape : IsShaped d source
   pub names : HasOwnNames source
+  pub nets : HasFewNets d source
 
 -- WHAT compile WRITES of a text: it is accepted, and its design is within the size that compile takes
 pub record IsCompiled (text answer : List ℕ) : Type 0 where

@@ -228,6 +228,13 @@ module _ (d : PlainDesign) (rules : IsDesign d) (made : PlainComponent → Plain
       cells_words n (component_at d k).cells (timers_of (component_at d k)) (λ cell j i is. tree_words n j (child_there k within cell j i is)) in
       omega arith
 
+  -- the nets of the whole tree: 64 for each unit of weight
+  pub whole_weighs : ((k : ℕ) → k < length d.components → OwnNets k) → nets_below (net_instance (tree_of d)) ≤ 64 * weight_of d
+  whole_weighs own =
+      let h : signature_size (made (component_at d d.main)) + nets_below (net_instance (tree_within d (length d.components) d.main)) ≤ 64 * weight_below (tree_within d (length d.components) d.main) =
+      tree_nets own (length d.components) d.main rules.main_there in
+      omega arith
+
   module _ (accepted : IsAccepted d) where
     weight_few : weight_of d ≤ 65536
     weight_few = let h : weight_of d ≤ WEIGHT = ⊎_elim (λ more. absurd (over more)) (λ h. h) (cases_lt WEIGHT (weight_of d)) in omega arith
@@ -248,8 +255,7 @@ module _ (d : PlainDesign) (rules : IsDesign d) (made : PlainComponent → Plain
     -- OF THE WHOLE TREE
     pub whole_nets : ((k : ℕ) → k < length d.components → OwnNets k) → nets_below (net_instance (tree_of d)) ≤ 4194304
     whole_nets own =
-        let h : signature_size (made (component_at d d.main)) + nets_below (net_instance (tree_within d (length d.components) d.main)) ≤ 64 * weight_below (tree_within d (length d.components) d.main) =
-        tree_nets own (length d.components) d.main rules.main_there in
+        let h : nets_below (net_instance (tree_of d)) ≤ 64 * weight_of d = whole_weighs own in
         let w : weight_of d ≤ 65536 = weight_few in
         omega arith
 
