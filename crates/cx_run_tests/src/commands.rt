@@ -63,7 +63,7 @@ const UNNAMED: &str =
     "module main(\n  input wire [0:0] clk,\n  input wire [0:0] reset,\n  input wire [0:0] go,\n  output wire [0:0] done\n);\n  assign done = other;\nendmodule\n";
 
 /// The words of a line, the write to standard output and that to standard error which fail, counted from 1, and what is told.
-const LINES: [(&str, (u64, u64), (Status, &str, &str)); 76] = [
+const LINES: [(&str, (u64, u64), (Status, &str, &str)); 58] = [
     (
         "interp add five 1000",
         (0, 0),
@@ -133,16 +133,6 @@ const LINES: [(&str, (u64, u64), (Status, &str, &str)); 76] = [
     ),
     (
         "interp empty five 9",
-        (0, 0),
-        (Status::Refused, "", "refused 1:1 unexpected\n"),
-    ),
-    (
-        "check empty",
-        (0, 0),
-        (Status::Refused, "", "refused 1:1 unexpected\n"),
-    ),
-    (
-        "compile empty",
         (0, 0),
         (Status::Refused, "", "refused 1:1 unexpected\n"),
     ),
@@ -260,28 +250,6 @@ const LINES: [(&str, (u64, u64), (Status, &str, &str)); 76] = [
         (Status::WriteFault, "// exter", "write-fault\n"),
     ),
     ("compile add", (1, 1), (Status::WriteFault, "", "")),
-    (
-        "trial 0",
-        (0, 0),
-        (Status::Done, "trial 0 cycles 60 sum 8464\n", ""),
-    ),
-    (
-        "trial 001",
-        (0, 0),
-        (Status::Done, "trial 1 cycles 60 sum 8560\n", ""),
-    ),
-    (
-        "trial 1000000000000",
-        (0, 0),
-        (Status::Done, "trial 1000000000000 cycles 60 sum 8464\n", ""),
-    ),
-    (
-        "trial 1000000000001",
-        (0, 0),
-        (Status::Words, "", "words\n"),
-    ),
-    ("trial", (0, 0), (Status::Words, "", "words\n")),
-    ("trial 0 0", (0, 0), (Status::Words, "", "words\n")),
     ("compile", (0, 0), (Status::Words, "", "words\n")),
     ("compile add five", (0, 0), (Status::Words, "", "words\n")),
     ("check", (0, 0), (Status::Words, "", "words\n")),
@@ -340,21 +308,6 @@ const LINES: [(&str, (u64, u64), (Status, &str, &str)); 76] = [
     // A sink for messages that fails changes no status.
     ("interp add five 5", (0, 1), (Status::More, "", "")),
     ("check", (0, 1), (Status::Words, "", "")),
-    ("check wide", (0, 1), (Status::Refused, "", "")),
-    ("compile absent", (0, 1), (Status::ReadFault, "", "")),
-    ("interp add bad 9", (0, 1), (Status::Refused, "", "")),
-    ("interp conflict five 9", (0, 1), (Status::Fault, "", "")),
-    ("sim unnamed five 9", (0, 1), (Status::Refused, "", "")),
-    ("sim counter five 9", (0, 1), (Status::More, "", "")),
-    ("trial", (0, 1), (Status::Words, "", "")),
-    // Eight bytes are taken of a message before the next write of it fails.
-    ("interp add five 5", (0, 2), (Status::More, "", "more 5\n")),
-    ("check wide", (0, 2), (Status::Refused, "", "refused ")),
-    (
-        "interp conflict five 9",
-        (0, 2),
-        (Status::Fault, "", "fault co"),
-    ),
     ("check add", (1, 1), (Status::WriteFault, "", "")),
 ];
 
@@ -374,6 +327,57 @@ const LENGTHS: [(&str, &str); 14] = [
     ("sim text five 9", "too-long text 83886081\n"),
     ("sim text absent 9", "too-long text 83886081\n"),
     ("sim counter wide 9", "too-long wide 16777217\n"),
+];
+
+/// The same of trials, and of messages whose write fails: a sink for messages changes no status.
+const MORE_LINES: [(&str, (u64, u64), (Status, &str, &str)); 18] = [
+    (
+        "trial 0",
+        (0, 0),
+        (Status::Done, "trial 0 cycles 60 sum 8464\n", ""),
+    ),
+    (
+        "trial 001",
+        (0, 0),
+        (Status::Done, "trial 1 cycles 60 sum 8560\n", ""),
+    ),
+    (
+        "trial 1000000000000",
+        (0, 0),
+        (Status::Done, "trial 1000000000000 cycles 60 sum 8464\n", ""),
+    ),
+    (
+        "trial 1000000000001",
+        (0, 0),
+        (Status::Words, "", "words\n"),
+    ),
+    ("trial", (0, 0), (Status::Words, "", "words\n")),
+    ("trial 0 0", (0, 0), (Status::Words, "", "words\n")),
+    ("trial", (0, 1), (Status::Words, "", "")),
+    (
+        "check empty",
+        (0, 0),
+        (Status::Refused, "", "refused 1:1 unexpected\n"),
+    ),
+    (
+        "compile empty",
+        (0, 0),
+        (Status::Refused, "", "refused 1:1 unexpected\n"),
+    ),
+    ("check wide", (0, 1), (Status::Refused, "", "")),
+    ("compile absent", (0, 1), (Status::ReadFault, "", "")),
+    ("interp add bad 9", (0, 1), (Status::Refused, "", "")),
+    ("interp conflict five 9", (0, 1), (Status::Fault, "", "")),
+    ("sim unnamed five 9", (0, 1), (Status::Refused, "", "")),
+    ("sim counter five 9", (0, 1), (Status::More, "", "")),
+    // Eight bytes are taken of a message before the next write of it fails.
+    ("interp add five 5", (0, 2), (Status::More, "", "more 5\n")),
+    ("check wide", (0, 2), (Status::Refused, "", "refused ")),
+    (
+        "interp conflict five 9",
+        (0, 2),
+        (Status::Fault, "", "fault co"),
+    ),
 ];
 
 #[test]
@@ -404,6 +408,24 @@ fn lines(rt: HostRuntime) -> Result<(), Fail> {
         ("child", CHILD.as_bytes()),
     ];
     for (line, fails, want) in LINES {
+        tells(&rt, rt.alloc(), (line, fails), &files, want)?;
+    }
+    Ok(())
+}
+
+#[test]
+fn more_lines(rt: HostRuntime) -> Result<(), Fail> {
+    let files: [(&str, &[u8]); 8] = [
+        ("add", ADD_THREE.as_bytes()),
+        ("five", FIVE.as_bytes()),
+        ("bad", b"[]"),
+        ("empty", b""),
+        ("wide", WIDE.as_bytes()),
+        ("counter", COUNTER.as_bytes()),
+        ("unnamed", UNNAMED.as_bytes()),
+        ("conflict", CONFLICT.as_bytes()),
+    ];
+    for (line, fails, want) in MORE_LINES {
         tells(&rt, rt.alloc(), (line, fails), &files, want)?;
     }
     Ok(())
