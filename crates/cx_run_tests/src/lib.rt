@@ -12,8 +12,6 @@ mod control;
 #[cfg(test)]
 mod data;
 #[cfg(test)]
-mod hostile;
-#[cfg(test)]
 mod islands;
 #[cfg(test)]
 mod misreadings;
