@@ -36,6 +36,8 @@ def faults(program, name):
 
 
 def main():
+    if len(sys.argv) < 2:
+        sys.exit(__doc__.strip())
     program = os.path.abspath(sys.argv[1])
     names = sorted(os.path.basename(path)[: -len('.futil')] for path in glob.glob(f'{EXAMPLES}/*.futil'))
     failed = 0

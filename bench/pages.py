@@ -72,12 +72,14 @@ def follow(path, program, writes):
 
 
 def main():
+    if len(sys.argv) < 2:
+        sys.exit(__doc__.strip())
     program, writes = os.path.abspath(sys.argv[1]), sys.argv[2:] == ['--write']
     commands, wrong = 0, []
     for path in PAGES:
         count, others = follow(path, program, writes)
         commands, wrong = commands + count, wrong + others
-    if not writes:
+    if wrong and not writes:
         print(*wrong, sep='\n')
     print(f'{commands - len(wrong)} passed, {len(wrong)} failed')
     return 1 if wrong or not commands else 0

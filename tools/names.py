@@ -3,8 +3,8 @@
 
     tools/names.py DESIGN TEXT [MODULE]
 
-DESIGN is the design, TEXT what `calyx_cli compile` wrote of it; of one component alone where MODULE, its name in the design or in the text, is given. A line for each name: the module, the
-name, and what it is. Of wires behind those of control, which are the parts of guards and the rests of long choices, no line is told.
+DESIGN is the design, TEXT what `calyx_cli compile` wrote of it. A line for each name: the module, the name, and what it is; of one component alone where MODULE, its name in
+the design or in the text, is given. Of wires behind those of control, which are the parts of guards and the rests of long choices, no line is told.
 """
 import re
 import sys
@@ -50,9 +50,14 @@ def names(part, number, body, by_name):
 
 def main():
     design, text, *wanted = given.words(__doc__, 2, 3)
-    parts, modules = calyx.read(given.text_of(design)), modules_of(given.text_of(text, 'ascii'))
+    written, modules = given.text_of(design), modules_of(given.text_of(text, 'ascii'))
+    try:
+        parts = calyx.read(written)
+        ordered = calyx.ordered(parts)
+    except (IndexError, KeyError):
+        sys.exit(f'{design} is no design that check accepts')
     by_name, known = {part.name: part for part in parts}, False
-    for number, part in enumerate(calyx.ordered(parts)):
+    for number, part in enumerate(ordered):
         module = 'main' if part.name == 'main' else f'cx_m{number}'
         if module not in modules:
             sys.exit(f'{text} has no module {module}: it is not of {design}')

@@ -10,6 +10,7 @@ the line `more CYCLES` is printed. In the standard registers and words of arrays
 testbench sets all words, to 0 where no data file gives them.
 """
 import re
+import sys
 
 import given
 
@@ -100,7 +101,10 @@ def dumps(text, data):
 def main():
     path, data_path, *more = given.words(__doc__, 2, 3)
     written = given.text_of(path, 'ascii')
-    text, data, cycles = Text(written), given.memories(data_path, written), more[0] if more else '1000000'
+    text, cycles = Text(written), given.cycles(__doc__, more, 1000000)
+    if 'main' not in text.instances:
+        sys.exit(f'{path} has no module main: it is no text of compile')
+    data = given.memories(data_path, written)
     print(BENCH.format(cycles=cycles, words='\n'.join(loads(text, data)), dumps='\n'.join(dumps(text, data))), end='')
 
 

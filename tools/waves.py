@@ -5,9 +5,10 @@
     gtkwave run.vcd
 
 DESIGN and DATA are the files that `interp` takes. The text is that of `calyx_cli compile`; the program is what CALYX_CLI names, else calyx_cli on the PATH,
-else crates/calyx_cli/out/calyx_cli of this repository. The run ends in the cycle in which `done` is 1, or after cycle CYCLES (1,000 if left out). Shown are, of each
-instance of a component: which groups go, the position of control and of each arm, the rounds of each `repeat`, and each `std_reg`; and `done` of the
-whole. A cycle is 10 ns, and begins with the rising edge of `clk`. `sim` is not used: the text is run here (tools/verilog.py), slowly.
+else crates/calyx_cli/out/calyx_cli of this repository. The run ends in the cycle in which `done` is 1, or after cycle CYCLES (1,000 if left out) with the line
+`more CYCLES` on standard error. Shown are, of each instance of a component: which groups go, the position of control and of each arm, the rounds of each
+`repeat`, and each `std_reg`; and `done` of the whole. A cycle is 10 ns, and begins with the rising edge of `clk`. `sim` is not used: the text is run here
+(tools/verilog.py), slowly.
 """
 import os
 import re
@@ -92,7 +93,7 @@ class Waves:
 
 def main():
     path, data_path, *more = given.words(__doc__, 2, 3)
-    written, cycles = given.text_of(path), int(more[0]) if more else 1000
+    written, cycles = given.text_of(path), given.cycles(__doc__, more, 1000)
     text = compiled(written)
     data = given.memories(data_path, text)
     words = {name: [word % (1 << width) for word in given.flat(data[name]['data'])] for name, _, width, _ in given.externals(text)}
@@ -109,6 +110,8 @@ def main():
         if run.is_done():
             break
         run.step()
+    else:
+        print(f'more {cycles}', file=sys.stderr)
     print(f'#{10 * cycle + 10}')
 
 
