@@ -74,6 +74,8 @@ def row(program, path):
 
 
 def main():
+    if len(sys.argv) < 2:
+        sys.exit(__doc__.strip())
     program = os.path.abspath(sys.argv[1])
     print('| Design | Turns | `interp` | `sim` | `vvp` | Verilator | `check` | `compile` | `yosys read_verilog` |', '|---|---|---|---|---|---|---|---|---|', sep='\n')
     for path in sorted(glob.glob(f'{TOP}/examples/*.futil')):

@@ -110,6 +110,8 @@ def run(program, path):
 
 
 def main():
+    if len(sys.argv) < 2:
+        sys.exit(__doc__.strip())
     program = os.path.abspath(sys.argv[1])
     with tempfile.TemporaryDirectory() as folder:
         path = folder + '/d.futil'

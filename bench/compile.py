@@ -136,6 +136,8 @@ def nets_of(text):
 
 
 def main():
+    if len(sys.argv) < 2:
+        sys.exit(__doc__.strip())
     program = os.path.abspath(sys.argv[1])
     with tempfile.TemporaryDirectory() as folder:
         for name, shape in SHAPES:

@@ -62,6 +62,8 @@ def row(program, folder, mebibytes):
 
 
 def main():
+    if len(sys.argv) < 2:
+        sys.exit(__doc__.strip())
     program = os.path.abspath(sys.argv[1])
     with tempfile.TemporaryDirectory() as folder:
         for mebibytes in (1, 4, 16):

@@ -53,6 +53,8 @@ def by_icarus(folder, text, words):
 
 
 def main():
+    if len(sys.argv) < 2:
+        sys.exit(__doc__.strip())
     program = os.path.abspath(sys.argv[1])
     with tempfile.TemporaryDirectory() as folder:
         for name, text, words in texts():

@@ -169,6 +169,8 @@ def seconds(program, folder, shape):
 
 
 def main():
+    if len(sys.argv) < 2:
+        sys.exit(__doc__.strip())
     program = os.path.abspath(sys.argv[1])
     with tempfile.TemporaryDirectory() as folder:
         for shape in shapes():

@@ -302,6 +302,8 @@ def main():
     if not shutil.which('iverilog') or not shutil.which('vvp'):
         print('skipped: iverilog is not installed')
         return
+    if len(sys.argv) < 2:
+        sys.exit(__doc__.strip())
     with open(sys.argv[1], encoding='ascii') as file:
         modules = split(file.read())
     seed = int(sys.argv[2]) if len(sys.argv) > 2 else 1

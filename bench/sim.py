@@ -251,6 +251,8 @@ def has_icarus():
 
 
 def main():
+    if len(sys.argv) < 2:
+        sys.exit(__doc__.strip())
     program = os.path.abspath(sys.argv[1])
     compares = has_icarus()
     with tempfile.TemporaryDirectory() as folder:

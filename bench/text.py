@@ -52,6 +52,8 @@ def measured(program, folder, text):
 
 
 def main():
+    if len(sys.argv) < 2:
+        sys.exit(__doc__.strip())
     program = os.path.abspath(sys.argv[1])
     with tempfile.TemporaryDirectory() as folder:
         with open(folder + '/d.json', 'w', encoding='ascii') as file:

@@ -135,6 +135,8 @@ def faults(program, name, design, data, tools):
 
 
 def main():
+    if len(sys.argv) < 2:
+        sys.exit(__doc__.strip())
     program = os.path.abspath(sys.argv[1])
     tools = [tool for tool in ('iverilog', 'verilator', 'yosys') if shutil.which(tool)]
     for tool in {'iverilog', 'verilator', 'yosys'} - set(tools):
