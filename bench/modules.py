@@ -1,10 +1,10 @@
 #!/usr/bin/env python3
 """Runs the module of each primitive under Icarus Verilog on random inputs, and compares its outputs with the primitive's row.
 
-    bench/modules.py --cases          prints the primitives, one a line: the name and the numbers
-    bench/modules.py MODULES [SEED]   MODULES has their modules, named m0, m1, .. in this order
+    bench/modules.py PROGRAM [SEED]
 
-Skipped where `iverilog` and `vvp` are not installed (Debian's package iverilog). The rows are written here anew, from their sentences. Inputs
+PROGRAM is the built calyx_cli: the module is the one that `compile` writes of a design with this cell alone, that of the timer of a design
+with a static group of so many cycles. Skipped where `iverilog` and `vvp` are not installed (Debian's package iverilog). The rows are written here anew, from their sentences. Inputs
 are random with their extremes more often; enabling ports fall and the reset rises now and then; addresses go out of range, where a read is 0
 and no word is written. Words begin with 0, which Icarus Verilog is told.
 """
@@ -286,34 +286,40 @@ def compare(folder, number, text, name, numbers, rng):
     return cycles
 
 
-def split(text):
-    """The text of each module, by its name."""
-    modules = {}
-    for part in text.split('endmodule\n')[:-1]:
-        modules[part.split('(')[0].split()[1]] = part + 'endmodule\n'
-    return modules
+def design_of(name, numbers):
+    """A design whose first module is that of the primitive."""
+    if name == 'cx_timer':
+        return f'component main() -> () {{ cells {{ }} wires {{ static<{numbers[0]}> group g {{ }} }} control {{ g; }} }}\n'
+    return f'component main() -> () {{ cells {{ c = {name}({", ".join(map(str, numbers))}); }} wires {{ }} control {{ }} }}\n'
+
+
+def module_of(program, folder, number, name, numbers):
+    """The module of a primitive, as `compile` writes it, under the name of its number."""
+    with open(folder + '/d.futil', 'w', encoding='ascii') as file:
+        file.write(design_of(name, numbers))
+    ran = subprocess.run([program, 'compile', 'd.futil'], cwd=folder, capture_output=True, text=True, check=False)
+    assert ran.returncode == 0, (name, numbers, ran.stderr)
+    first = ran.stdout[ran.stdout.index('module '):]
+    own = first.split('(')[0].split()[1]
+    assert own.startswith('cx_m0_'), (name, numbers, own)
+    return first[:first.index('endmodule\n') + len('endmodule\n')].replace(f'module {own}(', f'module m{number}(', 1)
 
 
 def main():
-    if sys.argv[1:] == ['--cases']:
-        for name, numbers in cases():
-            print(name, *numbers)
-        return
     if not shutil.which('iverilog') or not shutil.which('vvp'):
         print('skipped: iverilog is not installed')
         return
     if len(sys.argv) < 2:
         sys.exit(__doc__.strip())
-    with open(sys.argv[1], encoding='ascii') as file:
-        modules = split(file.read())
+    program = os.path.abspath(sys.argv[1])
     seed = int(sys.argv[2]) if len(sys.argv) > 2 else 1
     cycles = largest = 0
     all_cases = list(cases())
-    assert len(modules) == len(all_cases), (len(modules), len(all_cases))
     with tempfile.TemporaryDirectory() as folder:
         for number, (name, numbers) in enumerate(all_cases):
-            cycles += compare(folder, number, modules[f'm{number}'], name, numbers, random.Random(seed * 100003 + number))
-            largest = max(largest, len(modules[f'm{number}']))
+            text = module_of(program, folder, number, name, numbers)
+            cycles += compare(folder, number, text, name, numbers, random.Random(seed * 100003 + number))
+            largest = max(largest, len(text))
     print(f'{len(all_cases)} modules, {cycles} cycles, no difference; the longest module has {largest} bytes')
 
 

@@ -1,5 +1,5 @@
 #!/usr/bin/env python3
-"""Runs the commands of docs/TUTORIAL.md and docs/VERILOG.md, and compares what they print with the pages.
+"""Runs the commands of docs/TUTORIAL.md, docs/VERILOG.md and docs/MEANING.md, and compares what they print with the pages.
 
     bench/pages.py PROGRAM [--write]
 
@@ -15,7 +15,7 @@ import sys
 import tempfile
 
 TOP = os.path.abspath(os.path.join(os.path.dirname(os.path.abspath(__file__)), '..'))
-PAGES = [os.path.join(TOP, 'docs', name) for name in ('TUTORIAL.md', 'VERILOG.md')]
+PAGES = [os.path.join(TOP, 'docs', name) for name in ('TUTORIAL.md', 'VERILOG.md', 'MEANING.md')]
 TOOLS = ('iverilog', 'vvp', 'verilator', 'yosys')
 
 

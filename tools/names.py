@@ -61,11 +61,14 @@ def main():
         module = 'main' if part.name == 'main' else f'cx_m{number}'
         if module not in modules:
             sys.exit(f'{text} has no module {module}: it is not of {design}')
+        there = set(re.findall(r'\w+', modules[module]))
+        if any(f'cx_i{at}' not in there for at, _ in enumerate(calyx.all_cells(part))):
+            sys.exit(f'{text} lacks a cell of {part.name} in module {module}: it is not of {design}')
         if wanted in ([], [module], [part.name]):
             known = True
             print(f'{module}: component {part.name}')
             for name, told in names(part, number, modules[module], by_name):
-                if name in modules[module]:
+                if name in there:
                     print(f'{module} {name}: {told}')
     if not known:
         sys.exit(f'{design} has no component {wanted[0]} that main reaches')

@@ -8,7 +8,7 @@ DESIGN and DATA are the files that `interp` takes. The text is that of `calyx_cl
 else crates/calyx_cli/out/calyx_cli of this repository. The run ends in the cycle in which `done` is 1, or after cycle CYCLES (1,000 if left out) with the line
 `more CYCLES` on standard error. Shown are, of each instance of a component: which groups go, the position of control and of each arm, the rounds of each
 `repeat`, and each `std_reg`; and `done` of the whole. A cycle is 10 ns, and begins with the rising edge of `clk`. `sim` is not used: the text is run here
-(tools/verilog.py), slowly.
+(tools/verilog.py), slowly. In GTKWave all stands below `main`, and a name with a dot has a `\\` before it.
 """
 import os
 import re
@@ -72,7 +72,9 @@ class Waves:
     def declare(self, scope, title):
         part = self.parts[scope.module.name]
         print(f'$scope module {title} $end')
-        for name, told in [*shown(part, self.bodies[scope.module.name]), *([('done', 'done')] if title == 'main' else [])]:
+        if scope is self.run.main:
+            print('$var wire 1 clk clk $end')
+        for name, told in [*shown(part, self.bodies[scope.module.name]), *([('done', 'done')] if scope is self.run.main else [])]:
             if name in scope.module.widths:
                 mark = self.mark()
                 self.marks.append((mark, scope, name))
@@ -100,7 +102,6 @@ def main():
     run = verilog.Run(text, words)
     waves = Waves(run, calyx.ordered(calyx.read(written)), names.modules_of(text))
     print('$timescale 1ns $end')
-    print('$var wire 1 clk clk $end')
     waves.declare(run.main, 'main')
     print('$enddefinitions $end')
     for cycle in range(cycles + 1):

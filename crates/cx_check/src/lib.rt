@@ -5,10 +5,10 @@
 pub mod accept_laws;
 mod accepting;
 mod checking;
+mod left_out;
 mod shapes;
-mod words;
 
 pub use accepting::accept;
 pub use checking::{Refused, check};
+pub use left_out::first_unbuilt;
 pub use shapes::check_shapes;
-pub use words::first_unbuilt;

@@ -1,4 +1,6 @@
 pub mod Four
+pub mod Five
+pub mod Yielded
 pub mod CommandLemmas
 pub mod MessageLemmas
 pub mod UnreadLemmas

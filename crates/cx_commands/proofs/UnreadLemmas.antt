@@ -13,8 +13,8 @@ use Rattle.cx_lex.specs.Reading.{memory_fault}
 use Rattle.cx_lex.proofs.WholeLemmas.{one_tokens, no_fault, one_fault}
 use Rattle.cx_grammar.specs.Parsing.{Parse}
 use Rattle.cx_grammar.proofs.OneReading.{one_unexpected, one_deep, not_both, tree_expected, tree_within}
-use Rattle.cx_parse_parts.specs.declared.stops.Stop.{Stop as Unread}
-use Rattle.cx_parse_parts.specs.declared.stops.Stop.TheVariants as unread
+use Rattle.cx_parse.specs.declared.stops.Stop.{Stop as Unread}
+use Rattle.cx_parse.specs.declared.stops.Stop.TheVariants as unread
 use Rattle.cx_parse.specs.Whole.{place_at, place_left_of}
 use Rattle.cx_parse.specs.Faults.{IsStop}
 use Rattle.cx_parse.proofs.Trees.{drop_back}

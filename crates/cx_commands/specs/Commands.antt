@@ -1,15 +1,17 @@
 -- What the words after the program's name ask for.
 use Rattle.std.specs.Prelude.{◌≡◌, ℕ, ◌≤◌, List, [], ◌∷◌, codes, Contains, map}
 use Rattle.std.specs.Str.Parse.{IsNumeral, digits_value}
+use Rattle.cx_commands.specs.Lists.{IsList}
 use Rattle.cx_text.specs.declared.limits.TheConstants.{BUDGET, DESIGN_BYTES, DATA_BYTES, VERILOG_BYTES}
 
--- a command: which files it reads, and its budget or its seed where it has one
+-- a command: which files it reads, its budget or its seed where it has one, or its count of choices and the word of their list
 pub data Asked : Type 0 where
   compile : (design : List ℕ) → Asked
   interp : (design json : List ℕ) (budget : ℕ) → Asked
   check : (design : List ℕ) → Asked
   sim : (verilog json : List ℕ) (budget : ℕ) → Asked
   trial : (seed : ℕ) → Asked
+  weave : (design json : List ℕ) (steps : ℕ) (list : List ℕ) → Asked
 
 -- one decimal digit or more, with a value of at most 10^12; zeros may stand before
 pub record IsBudget (digits : List ℕ) (budget : ℕ) : Type 0 where
@@ -29,6 +31,10 @@ AsksDesign words name design = words ≡ name ∷ design ∷ []
 abbrev pub AsksTrial : List (List ℕ) → ℕ → Type 0
 AsksTrial words seed = (digits : List ℕ) × (words ≡ codes "trial" ∷ digits ∷ []) × IsBudget digits seed
 
+-- the words are `weave`, two files, the digits of a count of choices, which is no greater than a budget, and a list
+abbrev pub AsksWeave : List (List ℕ) → List ℕ → List ℕ → ℕ → List ℕ → Type 0
+AsksWeave words design json steps list = (digits : List ℕ) × (words ≡ codes "weave" ∷ design ∷ json ∷ digits ∷ list ∷ []) × IsBudget digits steps × IsList list
+
 -- the words ask for this command
 abbrev pub Asks : List (List ℕ) → Asked → Type 0
 Asks words (compile design) = AsksDesign words (codes "compile") design
@@ -36,6 +42,7 @@ Asks words (interp design json budget) = AsksRun words (codes "interp") design j
 Asks words (check design) = AsksDesign words (codes "check") design
 Asks words (sim verilog json budget) = AsksRun words (codes "sim") verilog json budget
 Asks words (trial seed) = AsksTrial words seed
+Asks words (weave design json steps list) = AsksWeave words design json steps list
 
 -- the words ask for nothing on one file
 pub record AsksNoDesign (words : List (List ℕ)) : Type 0 where
@@ -47,10 +54,15 @@ pub record AsksNoRun (words : List (List ℕ)) : Type 0 where
   pub interprets : (design json : List ℕ) (budget : ℕ) → Asks words (interp design json budget) → ⊥
   pub simulates : (verilog json : List ℕ) (budget : ℕ) → Asks words (sim verilog json budget) → ⊥
 
--- the words ask for no run on files, and for no trial
+-- the words ask for no trial, and for no woven run
+pub record AsksNeither (words : List (List ℕ)) : Type 0 where
+  pub tries : (seed : ℕ) → Asks words (trial seed) → ⊥
+  pub weaves : (design json : List ℕ) (steps : ℕ) (list : List ℕ) → Asks words (weave design json steps list) → ⊥
+
+-- nor for a run on files
 pub record AsksNoOther (words : List (List ℕ)) : Type 0 where
   pub runs : AsksNoRun words
-  pub tries : (seed : ℕ) → Asks words (trial seed) → ⊥
+  pub others : AsksNeither words
 
 -- the words are none of a command
 abbrev pub AsksNothing : List (List ℕ) → Type 0
@@ -68,6 +80,7 @@ wanted_by (interp design json budget) = record { file = design; most = DESIGN_BY
 wanted_by (check design) = record { file = design; most = DESIGN_BYTES } ∷ []
 wanted_by (sim verilog json budget) = record { file = verilog; most = VERILOG_BYTES } ∷ record { file = json; most = DATA_BYTES } ∷ []
 wanted_by (trial seed) = []
+wanted_by (weave design json steps list) = record { file = design; most = DESIGN_BYTES } ∷ record { file = json; most = DATA_BYTES } ∷ []
 
 abbrev pub files_of : Asked → List (List ℕ)
 files_of command = map (λ w. w.file) (wanted_by command)
@@ -75,3 +88,12 @@ files_of command = map (λ w. w.file) (wanted_by command)
 -- the words ask for a command that reads this file
 abbrev pub IsFileOf : List (List ℕ) → List ℕ → Type 0
 IsFileOf words file = (command : Asked) × Asks words command × Contains (files_of command) file
+
+-- where a command is a woven run its last word is a list
+abbrev pub HasList : Asked → Type 0
+HasList (compile design) = Unit {0}
+HasList (interp design json budget) = Unit {0}
+HasList (check design) = Unit {0}
+HasList (sim verilog json budget) = Unit {0}
+HasList (trial seed) = Unit {0}
+HasList (weave design json steps list) = IsList list

@@ -1,5 +1,6 @@
 pub mod Commands
 pub mod Asked
+pub mod Lists
 pub mod Reads
 pub mod Stopping
 pub mod Unread

@@ -1,9 +1,11 @@
 //! The commands that the words on the command line spell.
 
-ghost use Rattle.std.specs.Prelude.{ℕ, List, MatchOption};
-ghost use Rattle.cx_commands.specs.Commands.{Asks, AsksDesign, AsksNoDesign, AsksNoOther, AsksNoRun, AsksNothing, AsksRun, IsBudget, check, compile, interp, sim, trial};
+ghost use Rattle.std.specs.Prelude.{◌≡◌, ℕ, List, MatchOption};
+ghost use Rattle.cx_commands.specs.Commands.{Asks, AsksDesign, AsksNeither, AsksNoDesign, AsksNoOther, AsksNoRun, AsksNothing, AsksRun, IsBudget, check, compile, interp, sim, trial, weave};
 ghost use Rattle.cx_commands.specs.Asked.{asked_of};
+ghost use Rattle.cx_commands.specs.Lists.{IsList};
 
+use crate::lists::is_list;
 use cx_outside::Word;
 use cx_text::{BUDGET, decimal};
 
@@ -34,6 +36,13 @@ pub enum Command<'a> {
     Trial {
         seed: u64,
     },
+    /// Runs the design of a file on a data file by so many choices, those of a list.
+    Weave {
+        design: &'a [u8],
+        json: &'a [u8],
+        steps: u64,
+        list: &'a [u8],
+    },
 }
 
 /// The command of the words after the program's name.
@@ -47,13 +56,23 @@ pub fn command_of(words: &[Word]) -> Option<Command<'_>>
     }
 }
 
-/// The command of the words of a run on files, or of a trial.
+/// The command of the words of a run on files, a trial or a woven run.
 fn command_on_other(words: &[Word]) -> Option<Command<'_>>
     ensures { MatchOption result (AsksNoOther words.now) (λ command. Asks words.now (asked_of command)) }
 {
     match run_of(words) {
         Some(command) => Some(command),
-        None => trial_of(words),
+        None => command_on_numbers(words),
+    }
+}
+
+/// The command of the words of a trial or a woven run.
+fn command_on_numbers(words: &[Word]) -> Option<Command<'_>>
+    ensures { MatchOption result (AsksNeither words.now) (λ command. Asks words.now (asked_of command)) }
+{
+    match trial_of(words) {
+        Some(command) => Some(command),
+        None => weaver_of(words),
     }
 }
 
@@ -155,6 +174,40 @@ fn trial_of(words: &[Word]) -> Option<Command<'_>>
             Some(Command::Trial { seed })
         }
         _ => None,
+    }
+}
+
+/// The command of the words `weave FILE FILE STEPS LIST`.
+fn weaver_of(words: &[Word]) -> Option<Command<'_>>
+    ensures { MatchOption result ((design json : List ℕ) (steps : ℕ) (list : List ℕ) → Asks words.now (weave design json steps list) → ⊥) (λ command. Asks words.now (asked_of command)) }
+{
+    match words {
+        [name, design, json, digits, list] if name.bytes() == b"weave".as_slice() => {
+            let steps = number(digits.bytes())?;
+            weaver_on(design.bytes(), json.bytes(), steps, list.bytes())
+        }
+        _ => None,
+    }
+}
+
+/// The command of a woven run, if its last word is a list.
+fn weaver_on<'a>(
+    design: &'a [u8],
+    json: &'a [u8],
+    steps: u64,
+    list: &'a [u8],
+) -> Option<Command<'a>>
+    ensures { MatchOption result (IsList list.now → ⊥) (λ command. IsList list.now × (asked_of command ≡ weave design.now json.now steps list.now)) }
+{
+    if is_list(list) {
+        Some(Command::Weave {
+            design,
+            json,
+            steps,
+            list,
+        })
+    } else {
+        None
     }
 }
 

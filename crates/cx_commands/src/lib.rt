@@ -2,12 +2,14 @@
 #![tactic(auto)]
 
 mod commands;
+mod lists;
 mod messages;
 mod reading;
 mod refusals;
 mod stops;
 
 pub use commands::{Command, command_of};
+pub use lists::numbers;
 pub use messages::line;
 pub use reading::tree_of;
 pub use refusals::{Refusal, Status};

@@ -3,7 +3,7 @@
 ghost use Rattle.std.specs.Prelude.{◌≡◌, ◌≤◌, ◌⊎◌, ◌-◌, length, drop, IfOk, IfErr};
 ghost use Rattle.cx_ast.specs.PlainTree.{plain_tree};
 ghost use Rattle.cx_grammar.specs.Parsing.{Parse};
-ghost use Rattle.cx_parse_parts.specs.declared.stops.Stop.TheVariants as unread;
+ghost use Rattle.cx_parse.specs.declared.stops.Stop.TheVariants as unread;
 ghost use Rattle.cx_lex.specs.Reading.{memory_fault};
 ghost use Rattle.cx_lex.specs.Lex.{FirstFault};
 ghost use Rattle.cx_parse.specs.Faults.{IsStop};

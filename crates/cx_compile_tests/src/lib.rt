@@ -12,6 +12,8 @@ mod gates;
 #[cfg(test)]
 mod islands;
 #[cfg(test)]
+mod laws;
+#[cfg(test)]
 mod nets;
 #[cfg(test)]
 mod primitives;
@@ -19,3 +21,5 @@ mod primitives;
 mod runs;
 #[cfg(test)]
 mod sizes;
+#[cfg(test)]
+mod stepped;

@@ -1,5 +1,12 @@
 //! A net made by hand, as its text.
 
+ghost use Rattle.std.specs.Prelude.{◌≡◌, IfOk};
+ghost use Rattle.cx_emit.specs.Emitted.{CanBeEmitted};
+ghost use Rattle.cx_meaning.specs.declared.ports.PortRef.TheVariants as ports;
+ghost use Rattle.cx_net.specs.Nets.{ToPort};
+ghost use Rattle.cx_net.specs.PlainNets.{plain_net, plain_net_driver, plain_net_drivers, plain_net_expr};
+ghost use Rattle.cx_compile_tests.specs.HandNet as hand;
+
 use cx_bits::Bits;
 use cx_cells::Primitive;
 use cx_design::{Cell, CellKind};
@@ -43,16 +50,16 @@ const EDGE: &str = "  always @(posedge clk) begin
 endmodule
 ";
 
-fn number(width: u8, value: u128) -> Result<NetExpr, Fail> {
+fn number(width: u8, value: u128) -> Result<NetExpr, Fail>
+    ensures { IfOk result (λ e. plain_net_expr e ≡ hand.number width value) }
+{
     Ok(NetExpr::Literal(Bits::new(width, value).ok_or("no number")?))
 }
 
-fn boxed(alloc: Global, e: NetExpr) -> Result<Box<NetExpr>, Fail> {
-    Ok(Box::new(alloc, e)?)
-}
-
 /// A driver of port `port` of the only cell.
-fn of_port(port: u32, guard: NetExpr, source: NetExpr) -> NetDriver {
+fn of_port(port: u32, guard: NetExpr, source: NetExpr) -> NetDriver
+    ensures { plain_net_driver result ≡ hand.driver (ToPort (ports.Cell 0 port)) (plain_net_expr guard) (plain_net_expr source) }
+{
     NetDriver {
         target: NetTarget::Port(PortRef::Cell(0, port)),
         guard,
@@ -61,20 +68,24 @@ fn of_port(port: u32, guard: NetExpr, source: NetExpr) -> NetDriver {
 }
 
 /// That the component goes, the register is not done, and register 0 is 0.
-fn starts(alloc: Global) -> Result<NetExpr, Fail> {
+fn starts(alloc: Global) -> Result<NetExpr, Fail>
+    ensures { IfOk result (λ e. plain_net_expr e ≡ hand.hand_starts) }
+{
     let done = NetExpr::Port(PortRef::Cell(0, 3));
     let mut parts = Vec::new(alloc);
     parts.push(NetExpr::Go)?;
-    parts.push(NetExpr::Not(boxed(alloc, done)?))?;
+    parts.push(NetExpr::Not(Box::new(alloc, done)?))?;
     parts.push(NetExpr::Compare(
         Comparison::Equal,
-        boxed(alloc, NetExpr::Register(0))?,
-        boxed(alloc, number(32, 0)?)?,
+        Box::new(alloc, NetExpr::Register(0))?,
+        Box::new(alloc, number(32, 0)?)?,
     ))?;
     Ok(NetExpr::And(parts))
 }
 
-fn drivers(alloc: Global) -> Result<Vec<NetDriver>, Fail> {
+fn drivers(alloc: Global) -> Result<Vec<NetDriver>, Fail>
+    ensures { IfOk result (λ drivers. plain_net_drivers drivers.items ≡ hand.hand_drivers) }
+{
     let mut drivers = Vec::new(alloc);
     drivers.push(of_port(0, NetExpr::Go, number(8, 7)?))?;
     drivers.push(of_port(1, NetExpr::Wire(0), number(1, 1)?))?;
@@ -93,8 +104,8 @@ fn drivers(alloc: Global) -> Result<Vec<NetDriver>, Fail> {
         target: NetTarget::Register(0),
         guard: NetExpr::Port(PortRef::Cell(0, 3)),
         source: NetExpr::Add(
-            boxed(alloc, NetExpr::Register(0))?,
-            boxed(alloc, number(32, 1)?)?,
+            Box::new(alloc, NetExpr::Register(0))?,
+            Box::new(alloc, number(32, 1)?)?,
         ),
     })?;
     drivers.push(NetDriver {
@@ -106,7 +117,9 @@ fn drivers(alloc: Global) -> Result<Vec<NetDriver>, Fail> {
 }
 
 /// A net of one register of 8 bits, two wires and a register of the control.
-fn net(alloc: Global) -> Result<Net, Fail> {
+fn net(alloc: Global) -> Result<Net, Fail>
+    ensures { IfOk result (λ net. CanBeEmitted (plain_net net)) }
+{
     let mut cells = Vec::new(alloc);
     cells.push(Cell {
         name: Name::from_bytes(alloc, b"r")?,

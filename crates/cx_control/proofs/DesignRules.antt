@@ -34,7 +34,7 @@ use Rattle.cx_rules.specs.Circles.{IsAcyclic, AreAcyclic}
 use Rattle.cx_rules.specs.StaticControl.{is_static, may_stand, is_island_form}
 use Rattle.cx_rules.specs.CallShape.{is_reg_name, is_reg_kind, write_en_of, captured}
 use Rattle.cx_rules.proofs.FoundLemmas.{same_is}
-use Rattle.cx_flow.specs.Flows.{Reaches}
+use Rattle.cx_control.specs.Flows.{Reaches}
 use Rattle.cx_rules.specs.Accepted.{IsAccepted}
 use Rattle.cx_rules.specs.Wellformed.{IsDesign, IsForm, IsKind}
 use Rattle.cx_rules.proofs.CircleLemmas.{same_part, Reached, a_tree, no_tree, reached, instance_acyclic, instance_group}
@@ -46,7 +46,7 @@ use Rattle.cx_frames.proofs.RuleLemmas.{IsKept, kept_instance}
 use Rattle.cx_frames.proofs.RunLemmas.{undriven_group, group_undriven, capture_undriven, island_undriven}
 use Rattle.cx_frames.proofs.ShareLemmas.{none_shared}
 use Rattle.cx_frames.proofs.StatementFrames.{visits, visited}
-use Rattle.cx_flow.proofs.InstanceLemmas.{KeepsPorts, instance_ports}
+use Rattle.cx_control.proofs.InstanceLemmas.{KeepsPorts, instance_ports}
 use Rattle.cx_control.specs.Spots.{input_count}
 use Rattle.cx_control.specs.Leaves.{leaf_drives}
 use Rattle.cx_control.specs.InstanceRules.{InstanceRules, Stands}

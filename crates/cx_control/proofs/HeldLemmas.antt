@@ -18,7 +18,7 @@ use Rattle.cx_meaning.proofs.SightsLemmas.{one_sight}
 use Rattle.cx_rules.specs.Footprints.{Leads, Depends, at_once, by_way_of}
 use Rattle.cx_rules.specs.Circles.{IsAcyclic, AcyclicBelow}
 use Rattle.cx_rules.proofs.FoundLemmas.{needs_leads, seen_found, below_found}
-use Rattle.cx_flow.specs.Flows.{Reaches}
+use Rattle.cx_control.specs.Flows.{Reaches}
 
 pub depends_then : {i : Instance} {act : Active} {p q r : PortRef} → Depends i act p q → Leads i act q r → Depends i act p r
 depends_then {i} {act} {p} {q} {r} (at_once l) m = by_way_of q l (at_once m)

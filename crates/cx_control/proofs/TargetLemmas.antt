@@ -15,7 +15,7 @@ use Rattle.cx_meaning.specs.Sights.{Look, In, bit_of, guard_truth, Taken, Source
 use Rattle.cx_rules.specs.CallShape.{with_target}
 use Rattle.cx_rules.proofs.FoundLemmas.{same_is}
 use Rattle.cx_frames.proofs.RuleLemmas.{OwnerOf, continuous, of_group, owner_of}
-use Rattle.cx_flow.proofs.LeadsLemmas.{Stands, acting_stands}
+use Rattle.cx_control.proofs.LeadsLemmas.{Stands, acting_stands}
 use Rattle.cx_control.proofs.BesideLemmas.{group_stands}
 
 -- it is 1 only where a source is

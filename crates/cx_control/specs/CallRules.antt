@@ -14,7 +14,7 @@ use Rattle.cx_meaning.specs.Islands.{is_one}
 use Rattle.cx_meaning.specs.Calls.{called, captures}
 use Rattle.cx_rules.specs.Ports.{enables_cell}
 use Rattle.cx_rules.specs.CallShape.{go_port, done_port, is_reg_kind, with_target, is_right_go, is_right_enable, is_register_enable, captured, wanted_dones, is_right_done}
-use Rattle.cx_flow.specs.Flows.{Reaches}
+use Rattle.cx_control.specs.Flows.{Reaches}
 use Rattle.cx_control.specs.Spots.{input_count}
 use Rattle.cx_control.specs.Leaves.{leaf_drives}
 

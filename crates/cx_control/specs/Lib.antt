@@ -1,3 +1,6 @@
+pub mod Flows
+pub mod Apart
+pub mod Together
 pub mod Codings
 pub mod StatementCodings
 pub mod Sampling

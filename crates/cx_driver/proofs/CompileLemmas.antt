@@ -3,22 +3,17 @@ use Rattle.std.proofs.Common.{◌≡◌, ◌⊎◌, inl, inr, ℕ, ◌≤◌, Li
 use Rattle.cx_text.specs.declared.diagnostics.Diagnostic.{Diagnostic}
 use Rattle.cx_text.specs.declared.limits.TheConstants.{COMPILE_SIZE}
 use Rattle.cx_meaning.specs.Designs.{PlainDesign}
-use Rattle.cx_rules.specs.Accepted.{IsAccepted}
 use Rattle.cx_rules.specs.Sizes.{design_size}
-use Rattle.cx_rules.specs.Wellformed.{IsDesign}
-use Rattle.cx_net.specs.NetTree.{net_tree}
-use Rattle.cx_static.specs.Lowering.{lowered_of}
-use Rattle.cx_wiring.specs.Wiring.{net_of}
-use Rattle.cx_wiring.specs.InNet.{RealisesInNet}
 use Rattle.cx_commands.specs.declared.stops.Stop.{Stop}
 use Rattle.cx_commands.specs.declared.stops.Stop.TheVariants as stops
 use Rattle.cx_driver.specs.Texts.{IsDesignOf, IsTextRefusal}
-use Rattle.cx_driver.specs.Compiled.{IsCompiled, IsCompilable, too_large, CompileBreak, Compiles, IsCompileStop, IsDesignWritten, IsDesignTooLarge, written_source}
+use Rattle.cx_driver.specs.Compiled.{IsCompiled, IsCompilable, too_large, CompileBreak, Compiles, IsCompileStop, IsDesignWritten, IsDesignTooLarge, IsRealised, written_source}
 use Rattle.cx_driver.specs.Promise.{KeepsPromise}
 use Rattle.cx_driver.proofs.PromiseLemmas.{promise_is_kept}
 use Rattle.cx_driver.proofs.WrittenNets.{written_nets}
+use Rattle.cx_driver.proofs.WrittenLength.{answer_few}
 use Rattle.cx_driver.proofs.WrittenShape.{written_shape, written_names}
-use Rattle.cx_driver.proofs.TextLayers.{text_rules, text_realises}
+use Rattle.cx_driver.proofs.TextLayers.{text_rules}
 use Rattle.cx_driver.proofs.TextLemmas.{one_design, text_of_design, accepted_once, break_once}
 
 -- an accepted text whose design is within the size is not refused
@@ -48,11 +43,10 @@ compile_stop : (text : List ℕ) (told : Diagnostic) (stop : Stop) → CompileBr
 compile_stop text told stop b (inl memory) = inl memory
 compile_stop text told stop b (inr own) = inr (own.2 ∙ ap (λ d. stops.Rule d) (one_refusal text own.0 told own.1 b))
 
--- from a design to its text, by the law that the net of every accepted design does what the design means
+-- from a design to its text, by what the passes promise
 pub text_written : {X : Type 0} (bytes : X → List ℕ) (text : List ℕ) (d : PlainDesign) (r : Result X Stop)
-    → ((e : PlainDesign) → IsDesign e → IsAccepted e → RealisesInNet e (net_tree (net_of (lowered_of e)))) → IsDesignOf text d
-    → IfOk r (λ x. IsDesignWritten d (bytes x)) → IfOk r (λ x. IsCompiled text (bytes x))
-text_written bytes text d (Ok x) law stands h =
+    → IsDesignOf text d → IfOk r (λ _. IsRealised d) → IfOk r (λ x. IsDesignWritten d (bytes x)) → IfOk r (λ x. IsCompiled text (bytes x))
+text_written bytes text d (Ok x) stands realised h =
     let rules = text_rules text d stands h.0 in record {
       design = d;
       stands = stands;
@@ -60,13 +54,14 @@ text_written bytes text d (Ok x) law stands h =
       written = record {
         source = written_source d;
         spelled = h.1;
-        realises = text_realises text d stands h.0 h.1.sound (law d rules.0 rules.1);
+        realises = realised rules.0 rules.1;
         shape = written_shape d rules.0 rules.1 h.1.sound;
         names = written_names d;
         nets = written_nets text d stands h.0;
+        small = answer_few text (bytes x) d stands h.0 h.1;
       };
     }
-text_written bytes text d (Err stop) law stands h = tt
+text_written bytes text d (Err stop) stands realised h = tt
 
 -- and what is written of it keeps the promise
 pub text_keeps : {X : Type 0} (bytes : X → List ℕ) (text : List ℕ) (r : Result X Stop) → IfOk r (λ x. IsCompiled text (bytes x)) → IfOk r (λ x. KeepsPromise text (bytes x))

@@ -2,14 +2,16 @@
 use Rattle.std.proofs.Common.{◌≡◌, ◌⊎◌, inl, inr, ⊎_elim, ℕ, List, Option, Some, None, Ok, Err, IsSomeAnd, codes, sym, ap, ◌∙◌, subst}
 use Rattle.cx_outside.specs.Counts.{HasRisen}
 use Rattle.cx_text.specs.declared.limits.TheConstants.{DESIGN_BYTES, DATA_BYTES, VERILOG_BYTES}
-use Rattle.cx_commands.specs.Commands.{Asked, compile, interp, check, sim, trial, wanted_by}
+use Rattle.cx_commands.specs.Commands.{Asked, compile, interp, check, sim, trial, weave, wanted_by}
 use Rattle.cx_driver.specs.Compiled.{IsCompilable, Compiles}
 use Rattle.cx_driver.specs.Interpreted.{Interprets}
 use Rattle.cx_driver.specs.Outcomes.{Checks, Does, IsAnswer, CanAnswer, IsStopped}
 use Rattle.cx_driver.specs.Tried.{Tries}
 use Rattle.cx_trial.specs.TrialTree.{trial_tree}
+use Rattle.cx_commands.specs.Lists.{numbers_in}
 use Rattle.cx_commands.specs.Reads.{OfFile}
 use Rattle.cx_driver.specs.Simulated.{Simulates}
+use Rattle.cx_driver.specs.Weaving.{Weaves}
 use Rattle.cx_driver.specs.Causes.{HasCause}
 use Rattle.cx_commands.specs.Statuses.{status_of}
 use Rattle.cx_commands.specs.declared.refusals.Refusal.{Refusal}
@@ -23,6 +25,7 @@ use Rattle.cx_driver.proofs.TextLemmas.{accepted_once}
 use Rattle.cx_driver.proofs.InterpLemmas.{one_result}
 use Rattle.cx_driver.proofs.CompileLemmas.{compilable_once, compiles_once}
 use Rattle.cx_driver.proofs.TrialLemmas.{one_line, tries_once}
+use Rattle.cx_driver.proofs.WovenLemmas.{one_woven}
 use Rattle.cx_driver.proofs.SimLemmas.{no_stop, spelled_once}
 use Rattle.cx_driver.proofs.ReadLemmas.{Held, Readable, same_bytes, none_over, none_unread}
 
@@ -58,6 +61,7 @@ module _ (holds : List ℕ → Option (List ℕ)) where
   does_read (check design) result h = ((h.bytes, h.reads), tt)
   does_read (sim verilog json budget) result h = ((h.bytes, h.reads), ((h.is.bytes, h.is.reads), tt))
   does_read (trial seed) result h = tt
+  does_read (weave design json steps list) result h = ((h.bytes, h.reads), ((h.is.bytes, h.is.reads), tt))
 
   can_read : (command : Asked) → CanAnswer (Some holds) command → Readable holds (wanted_by command)
   can_read (compile design) can = ((can.bytes, can.reads), tt)
@@ -65,6 +69,7 @@ module _ (holds : List ℕ → Option (List ℕ)) where
   can_read (check design) can = does_read (check design) (Ok can.0) can.1
   can_read (sim verilog json budget) can = does_read (sim verilog json budget) (Ok can.0) can.1
   can_read (trial seed) can = does_read (trial seed) (Ok can.0) can.1
+  can_read (weave design json steps list) can = does_read (weave design json steps list) (Ok can.0) can.1
 
   -- of one file
   of_one : (P Q : List ℕ → Type 0) (m : ℕ) (file : List ℕ) → ((text : List ℕ) → P text → Q text → ⊥) → OfFile (Some holds) m file P → OfFile (Some holds) m file Q → ⊥
@@ -85,6 +90,11 @@ module _ (holds : List ℕ → Option (List ℕ)) where
       (λ text. of_one (λ bytes. Simulates text bytes budget (Ok answer)) (λ bytes. Simulates text bytes budget (Err stop)) DATA_BYTES json
       (λ bytes p q. no_stop text bytes budget answer stop p q)) h k
   does_once (trial seed) answer stop h k = tries_once seed answer stop h k
+  does_once (weave design json steps list) answer stop h k =
+      of_one (λ text. OfFile (Some holds) DATA_BYTES json (λ bytes. Weaves text bytes steps (numbers_in list) (Ok answer))) (λ text. OfFile (Some holds) DATA_BYTES json (λ bytes. Weaves text bytes steps (numbers_in list) (Err stop)))
+      DESIGN_BYTES design
+      (λ text. of_one (λ bytes. Weaves text bytes steps (numbers_in list) (Ok answer)) (λ bytes. Weaves text bytes steps (numbers_in list) (Err stop)) DATA_BYTES json
+      (λ bytes p q. not_both answer stop (one_woven text bytes steps (numbers_in list) (Ok answer) (Err stop) p q))) h k
 
   -- nothing stops a command whose files give an answer
   can_once : (command : Asked) (stop : Stop) → CanAnswer (Some holds) command → IsStopped (Some holds) command stop → ⊥
@@ -93,6 +103,7 @@ module _ (holds : List ℕ → Option (List ℕ)) where
   can_once (check design) stop can k = does_once (check design) can.0 stop can.1 k
   can_once (sim verilog json budget) stop can k = does_once (sim verilog json budget) can.0 stop can.1 k
   can_once (trial seed) stop can k = does_once (trial seed) can.0 stop can.1 k
+  can_once (weave design json steps list) stop can k = does_once (weave design json steps list) can.0 stop can.1 k
 
   -- nothing but want of memory is told of files that give an answer
   memory_alone : (command : Asked) (before after : ℕ) (refusal : Refusal) → CanAnswer (Some holds) command → (HasRisen before after → ⊥) → HasCause command (Some holds) before after refusal
@@ -117,6 +128,11 @@ module _ (holds : List ℕ → Option (List ℕ)) where
       let own = subst (λ t. Simulates t h.is.bytes budget (Err a)) text h.is.is in
       simulated_status k.bytes k.is.bytes budget a b (subst (λ d. Simulates k.bytes d budget (Err a)) loaded own) k.is.is
   same_status (trial seed) a b h k = tried_status seed a b h k
+  same_status (weave design json steps list) a b h k =
+      let text = same_bytes holds DESIGN_BYTES DESIGN_BYTES design h.bytes k.bytes h.reads k.reads in
+      let loaded = same_bytes holds DATA_BYTES DATA_BYTES json h.is.bytes k.is.bytes h.is.reads k.is.reads in
+      let own = subst (λ t. Weaves t h.is.bytes steps (numbers_in list) (Err a)) text h.is.is in
+      ap stop_status (same_stop a b (one_woven k.bytes k.is.bytes steps (numbers_in list) (Err a) (Err b) (subst (λ d. Weaves k.bytes d steps (numbers_in list) (Err a)) loaded own) k.is.is))
 
   -- what is told of files that stop a command has the status of what stops it, or memory is wanting
   stop_alone : (command : Asked) (before after : ℕ) (why : Stop) (refusal : Refusal) → IsStopped (Some holds) command why → (HasRisen before after → ⊥) → HasCause command (Some holds) before after refusal

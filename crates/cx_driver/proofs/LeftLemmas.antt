@@ -13,7 +13,7 @@ use Rattle.cx_rules.specs.Externals.{external_rows}
 use Rattle.cx_vtree.specs.Plain.{PlainSource}
 use Rattle.cx_vtree.specs.SimRun.{DoneAt}
 use Rattle.cx_vtree.proofs.Runs.{one_outcome}
-use Rattle.cx_realises.specs.Realises.{Realises}
+use Rattle.cx_net.specs.Realises.{Realises}
 use Rattle.cx_commands.specs.declared.stops.Stop.{Stop}
 use Rattle.cx_driver.specs.Interpreted.{PlainLeft, left_of, loaded_left, design_left}
 use Rattle.cx_driver.specs.Simulated.{IsVerilogOf, RunLeaves, SourceLeaves, TextLeaves}

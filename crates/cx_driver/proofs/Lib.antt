@@ -7,7 +7,6 @@ pub mod FaultLemmas
 pub mod RanLemmas
 pub mod SimLemmas
 pub mod WrittenRows
-pub mod DriverTargets
 pub mod Layers
 pub mod LoweredShape
 pub mod WrittenShape
@@ -15,7 +14,10 @@ pub mod TextLayers
 pub mod TextWords
 pub mod TextGuards
 pub mod WrittenNets
+pub mod TextDepth
+pub mod WrittenLength
 pub mod CompileLemmas
+pub mod NetLemmas
 pub mod CauseLemmas
 pub mod CompleteLemmas
 pub mod BelowLemmas
@@ -23,3 +25,9 @@ pub mod PromiseLemmas
 pub mod LeftLemmas
 pub mod TrialMemory
 pub mod TrialLemmas
+pub mod WovenLemmas
+pub mod TrialDepth
+pub mod ListedBegun
+pub mod ListedSamples
+pub mod ListedRuns
+pub mod ListedControl

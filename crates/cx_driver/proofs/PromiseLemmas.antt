@@ -18,7 +18,7 @@ use Rattle.cx_vtree.proofs.Runs.{one_outcome}
 use Rattle.cx_driver.specs.Texts.{IsDesignOf}
 use Rattle.cx_driver.specs.Interpreted.{told_of, loaded_result, design_result, Interprets}
 use Rattle.cx_commands.specs.declared.stops.Stop.TheVariants as stops
-use Rattle.cx_realises.specs.Realises.{HasOutcome, comes, waits, Realises}
+use Rattle.cx_net.specs.Realises.{HasOutcome, comes, waits, Realises}
 use Rattle.cx_driver.specs.Simulated.{IsVerilogOf, told_outcome, LoadedDoes, SourceDoes, Simulates}
 use Rattle.cx_commands.specs.Commands.{Asked, compile}
 use Rattle.cx_driver.specs.Outcomes.{IsAnswer}
@@ -26,7 +26,7 @@ use Rattle.cx_driver.specs.Promise.{a_fault, EndsOrFaults, ends_so, faults, IsRu
 use Rattle.cx_driver.proofs.Once.{Told}
 use Rattle.cx_driver.proofs.TextLemmas.{accepted_once, one_design, text_of_design}
 use Rattle.cx_driver.proofs.SimLemmas.{one_source_of}
-use Rattle.cx_realises.proofs.FollowLemmas.{never_loops}
+use Rattle.cx_net.proofs.FollowLemmas.{never_loops}
 use Rattle.cx_driver.proofs.BelowLemmas.{cycle_within, main_grows, loaded_fits}
 
 pub done_turns : (t c : ℕ) (ws us : List (List ℕ)) → DoneAt t ws ≡ DoneAt c us → t ≡ c

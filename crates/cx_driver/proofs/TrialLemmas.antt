@@ -10,14 +10,9 @@ use Rattle.cx_ast.specs.PlainTree as ast
 use Rattle.cx_ast.specs.PlainTree.{PlainTree, PlainComponent, PlainGroup, PlainWire, PlainAssign}
 use Rattle.cx_meaning.specs.Designs.{PlainDesign}
 use Rattle.cx_meaning.specs.Sights.{In}
-use Rattle.cx_rules.specs.Accepted.{IsAccepted}
 use Rattle.cx_rules.specs.Externals.{external_rows}
 use Rattle.cx_rules.specs.Sizes.{design_size}
-use Rattle.cx_rules.specs.Wellformed.{IsDesign}
-use Rattle.cx_net.specs.NetTree.{net_tree}
-use Rattle.cx_static.specs.Lowering.{lowered_of}
-use Rattle.cx_wiring.specs.Wiring.{net_of}
-use Rattle.cx_wiring.specs.InNet.{RealisesInNet}
+use Rattle.cx_net.specs.Realises.{Realises}
 use Rattle.cx_numbering.specs.DesignOf.{design_of}
 use Rattle.cx_numbering.specs.Names.{groups_in, always_in}
 use Rattle.cx_numbering.specs.NameRules.{Standing, standing}
@@ -32,13 +27,12 @@ use Rattle.cx_commands.specs.declared.stops.Stop.TheVariants as stops
 use Rattle.cx_driver.specs.Interpreted.{PlainLeft, design_left, StopsDesign}
 use Rattle.cx_driver.specs.Compiled.{IsDesignTooLarge, IsDesignWritten, too_large, written_source}
 use Rattle.cx_driver.specs.Simulated.{IsSimStop, TextLeaves}
-use Rattle.cx_driver.specs.Tried.{HasTrialMemory, words_sum, zeros, line_of, line_result, try_result, TreeTries, Tries, IsRealised, TellsRule}
+use Rattle.cx_driver.specs.Tried.{HasTrialMemory, words_sum, zeros, line_of, line_result, try_result, TreeTries, Tries, TellsRule}
 use Rattle.cx_driver.specs.Texts.{IsTreeStop}
 use Rattle.cx_driver.proofs.Once.{Told, not_both, same_stop, all_answered, all_stopped}
 use Rattle.cx_driver.proofs.SimLemmas.{left_answers, no_stop, one_source_of}
 use Rattle.cx_driver.proofs.BelowLemmas.{loaded_fits}
 use Rattle.cx_driver.proofs.TrialMemory.{shapes_stay, small_sum}
-use Rattle.cx_driver.proofs.TextLayers.{design_realises, tree_rules}
 use Rattle.cx_driver.proofs.LeftLemmas.{design_in_text, text_once}
 
 -- TARGETS: all wires are groups, none of whose assignments has a literal as its target
@@ -159,16 +153,16 @@ module _ (seed : ℕ) (d : PlainDesign) where
       inr (ap (λ r. line_result seed d r) h ∙ ap (sized (line_of seed left)) (lt-ltb COMPILE_SIZE (design_size d) k.0) ∙ ap (λ s. Err s) (sym k.1))
 
   -- by the run of its text
-  module _ (left : PlainLeft) (leaves : design_left d zeros BUDGET ≡ Ok left) (realised : IsRealised d) (verilog : List ℕ) (written : IsDesignWritten d verilog) where
+  module _ (left : PlainLeft) (leaves : design_left d zeros BUDGET ≡ Ok left) (realised : Realises d (written_source d)) (verilog : List ℕ) (written : IsDesignWritten d verilog) where
     text_leaves : TextLeaves verilog zeros BUDGET left
-    text_leaves = design_in_text d (written_source d) (realised written.0 written.1.sound) BUDGET left verilog zeros written.1 leaves
+    text_leaves = design_in_text d (written_source d) realised BUDGET left verilog zeros written.1 leaves
 
     left_rows : (own : PlainLeft) → TextLeaves verilog zeros BUDGET own → map (λ m. m.shape) own.memories ≡ external_rows d
     left_rows own ran =
         let same = one_source_of verilog ran.source (written_source d) ran.spelled written.1 in
         let fits = loaded_fits zeros (rows_of ran.source.externals) ran.leaves.memories ran.leaves.loads in
         ap (λ ms. map (λ m. m.shape) ms) ran.leaves.run.leaves ∙ shapes_stay ran.leaves.memories ran.leaves.run.words
-        ∙ fits.same_rows ∙ ap (λ s. rows_of s.externals) same ∙ (realised written.0 written.1.sound).rows
+        ∙ fits.same_rows ∙ ap (λ s. rows_of s.externals) same ∙ realised.rows
 
     pub left_small : (own : PlainLeft) → TextLeaves verilog zeros BUDGET own → HasTrialMemory d → All FitsShape own.memories → words_sum own.memories < 2 ^ 64
     left_small own ran memory fits = small_sum own.memories (left_rows own ran ∙ memory) fits
@@ -198,13 +192,6 @@ module _ {X : Type 0} (bytes : X → List ℕ) (seed : ℕ) (tree : PlainTree) (
 pub tree_refused : (seed : ℕ) (tree : PlainTree) (stop : Stop) → IsTreeStop tree stop → (stop ≡ stops.Memory) ⊎ TreeTries seed tree (Err stop)
 tree_refused seed tree stop (inl memory) = inl memory
 tree_refused seed tree stop (inr h) = inr (inr (h.0, h.1, ap (λ s. Err s) h.2))
-
--- by the law that the net of every accepted design does what the design means
-pub tree_realised : (tree : PlainTree) (d : PlainDesign) → ((e : PlainDesign) → IsDesign e → IsAccepted e → RealisesInNet e (net_tree (net_of (lowered_of e)))) → HasTargets tree → IsAcceptedTree tree → d ≡ design_of tree
-    → IsRealised d
-tree_realised tree d law targets accepted is = λ within sound.
-    let rules = tree_rules tree d targets accepted is within in
-    design_realises d rules.0 rules.1 sound (law d rules.0 rules.1)
 
 -- what is told of a tree that is the one of the seed
 pub record TreeTold {X : Type 0} (bytes : X → List ℕ) (seed : ℕ) (tree : PlainTree) (r : Result X Stop) : Type 0 where

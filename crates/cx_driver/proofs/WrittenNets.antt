@@ -1,4 +1,4 @@
--- The net that compile writes for the design of an accepted text within the size can be written, and so its source is sound; and it has few nets.
+-- The net that compile writes for the design of an accepted text within the size can be emitted, and so its source is sound; and it has few nets.
 use Rattle.std.proofs.Common.{◌≡◌, ℕ, ◌+◌, ◌*◌, ◌<◌, ◌≤◌, true, List, [], ◌∷◌, length, refl, sym, ap, ap₂, ◌∙◌, subst, arith}
 use Rattle.std.specs.Prelude.{◌^◌}
 use Rattle.std.proofs.lemmas.List.{length-map}
@@ -42,23 +42,24 @@ use Rattle.cx_holes.specs.Inlining.{inlined_component, inlined}
 use Rattle.cx_holes.specs.Names.{NetNames}
 use Rattle.cx_holes.specs.Renamed.{inlined_tree, inlined_cells}
 use Rattle.cx_holes.proofs.FitNames.{fit_names}
-use Rattle.cx_holes.proofs.RenamedFits.{inlined_fits, inlined_no_holes}
+use Rattle.cx_holes.proofs.RenamedFits.{inlined_fits, inlined_targets, inlined_no_holes}
 use Rattle.cx_holes.proofs.RenamedLimits.{inlined_writable}
 use Rattle.cx_holes.proofs.RenamedRuns.{counted, tree_same}
+use Rattle.cx_emit.specs.Emitted.{CanBeEmitted}
 use Rattle.cx_emit.specs.Shapes.{HasFewNets}
-use Rattle.cx_emit.proofs.Soundness.{source_is_sound}
+use Rattle.cx_emit.proofs.Soundness.{emitted_sound}
 use Rattle.cx_emit.proofs.SourceNets.{source_nets}
 use Rattle.cx_commands.specs.Unread.{HasTree}
 use Rattle.cx_driver.specs.Texts.{IsDesignOf}
-use Rattle.cx_driver.specs.Compiled.{written_source}
-use Rattle.cx_driver.proofs.DriverTargets.{targets_there}
+use Rattle.cx_driver.specs.Compiled.{EmitsWithin, written_net, written_source}
+use Rattle.cx_wiring.proofs.FitTargets.{targets_there}
 use Rattle.cx_driver.proofs.TextGuards.{guards_hold}
 use Rattle.cx_driver.proofs.TextLayers.{text_rules, tree_rules}
 use Rattle.cx_driver.proofs.TextLemmas.{text_targets}
 use Rattle.cx_driver.proofs.TextWords.{cells_named}
 
 -- FROM THE TEXT: no part of a guard is Always, and external memories have words for names
-design_parts : (tree : PlainTree) (d : PlainDesign) → d ≡ design_of tree → (k : ℕ) → k < length d.components → PartsHold (component_at d k)
+pub design_parts : (tree : PlainTree) (d : PlainDesign) → d ≡ design_of tree → (k : ℕ) → k < length d.components → PartsHold (component_at d k)
 design_parts tree d same = subst (λ (e : PlainDesign). (k : ℕ) → k < length e.components → PartsHold (component_at e k)) (sym same) (guards_hold tree)
 
 cells_words : (text : List ℕ) (tree : PlainTree) → HasTree text tree → (k : ℕ) → k < length (design_of tree).components → (cell : PlainCell) → In (component_at (design_of tree) k).cells cell → is_word cell.name ≡ true
@@ -129,29 +130,36 @@ module _ (d : PlainDesign) (rules : IsDesign d) (accepted : IsAccepted d) (can :
       let within : r.0 < length d.components = there d rules r.0 (in_number r.0 (order (lowered_of d)) (in_slice (order (lowered_of d)) n r.0 r.1)) in
       subst (λ (c : PlainNetComponent). length c.wires + c.holes < 2 ^ 64) (sym (stands_at d rules n r.0 r.1)) (own_wires r.0 within)
 
-  net_sound : is_sound (written_source d) ≡ true
-  net_sound =
-      source_is_sound (inlined net) (inlined_fits net names (net_fits d rules accepted)) (inlined_no_holes net)
-      (inlined_writable net names few_wires few_nets (net_writable d rules accepted can))
+  net_emitted : CanBeEmitted (written_net d)
+  net_emitted = record {
+    fits = inlined_fits net names (net_fits d rules accepted);
+    targets = inlined_targets net names (targets_there d rules accepted);
+    no_holes = inlined_no_holes net;
+    writable = inlined_writable net names few_wires few_nets (net_writable d rules accepted can);
+  }
 
   -- its nets: 64 for each unit of weight at most
   nets_weigh : HasFewNets d (written_source d)
   nets_weigh =
       let weigh : nets_below (net_tree (inlined net)) ≤ 64 * weight_of d = subst (λ tree. nets_below tree ≤ 64 * weight_of d) (sym made_so) (whole_weighs d rules (made d) no_numbers own_nets) in
-      let nets = source_nets (inlined net) net_sound (record { fits = inlined_fits net names (net_fits d rules accepted); no_holes = inlined_no_holes net }) in
+      let nets = source_nets (inlined net) (emitted_sound (inlined net) net_emitted) (record { fits = net_emitted.fits; no_holes = net_emitted.no_holes }) in
       omega (arith, weigh, nets)
 
--- THE SOURCE that is written for an accepted tree within the size, whose external memories have words for names, is sound
-pub tree_sound : (tree : PlainTree) (d : PlainDesign) → HasTargets tree → IsAcceptedTree tree → d ≡ design_of tree → HasWords d → design_size d ≤ COMPILE_SIZE → is_sound (written_source d) ≡ true
-tree_sound tree d targets accepted same words within =
+-- THE NET of an accepted tree within the size, whose external memories have words for names, can be emitted
+pub tree_emitted : (tree : PlainTree) (d : PlainDesign) → HasTargets tree → IsAcceptedTree tree → d ≡ design_of tree → HasWords d → EmitsWithin d
+tree_emitted tree d targets accepted same words within =
     let rules = tree_rules tree d targets accepted same within in
     let small : design_size d ≤ 16384 = within in
-    net_sound d rules.0 rules.1 (record { small = small; parts = design_parts tree d same; words = words })
+    net_emitted d rules.0 rules.1 (record { small = small; parts = design_parts tree d same; words = words })
 
--- and so is that for an accepted text
+-- and so can that of an accepted text
+pub text_emitted : (text : List ℕ) (d : PlainDesign) → IsDesignOf text d → EmitsWithin d
+text_emitted text d h within =
+    tree_emitted h.0 d (text_targets text h.0 h.1) h.2 h.3 (λ cell i external. design_words text d h d.main (text_rules text d h within).0.main_there cell i) within
+
+-- and its source is sound
 pub written_sound : (text : List ℕ) (d : PlainDesign) → IsDesignOf text d → design_size d ≤ COMPILE_SIZE → is_sound (written_source d) ≡ true
-written_sound text d h within =
-    tree_sound h.0 d (text_targets text h.0 h.1) h.2 h.3 (λ cell i external. design_words text d h d.main (text_rules text d h within).0.main_there cell i) within
+written_sound text d h within = emitted_sound (written_net d) (text_emitted text d h within)
 
 -- and has few nets
 pub written_nets : (text : List ℕ) (d : PlainDesign) → IsDesignOf text d → design_size d ≤ COMPILE_SIZE → HasFewNets d (written_source d)

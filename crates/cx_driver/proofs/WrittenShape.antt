@@ -34,7 +34,7 @@ use Rattle.cx_emit.specs.Shapes.{ForCell, ForTimer, IsUse, IsShaped, HasOwnNames
 use Rattle.cx_emit.proofs.OwnNames.{source_own_names}
 use Rattle.cx_emit.proofs.ShapedSources.{kind_for, use_at, IsPartFor, IsNetFor, source_shaped}
 use Rattle.cx_driver.specs.Compiled.{written_source}
-use Rattle.cx_driver.proofs.DriverTargets.{targets_there}
+use Rattle.cx_wiring.proofs.FitTargets.{targets_there}
 use Rattle.cx_driver.proofs.LoweredShape.{IsTimer, AreTimers, timers_are, timers_few, component_registers_few}
 
 -- PLACES of numbers in a list

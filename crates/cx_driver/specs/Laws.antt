@@ -1,8 +1,20 @@
 -- What is said of the definitions.
-use Rattle.std.specs.Prelude.{◌≡◌, ℕ, List}
+use Rattle.std.specs.Prelude.{◌≡◌, ◌≤◌, ℕ, List}
+use Rattle.cx_text.specs.declared.limits.TheConstants.{COMPILE_SIZE, VERILOG_BYTES}
+use Rattle.cx_meaning.specs.Designs.{PlainDesign}
+use Rattle.cx_rules.specs.Sizes.{design_size}
 use Rattle.cx_vtree.specs.Plain.{PlainSource}
+use Rattle.cx_vtree.specs.Spelling.{text_of}
+use Rattle.cx_vwrite.specs.Refused.{IsTooLong}
+use Rattle.cx_vwrite.specs.declared.refusals.WriteRefusal.TheVariants.{TooLong}
+use Rattle.cx_driver.specs.Compiled.{written_source}
 use Rattle.cx_driver.specs.Simulated.{IsVerilogOf}
+use Rattle.cx_driver.specs.Texts.{IsDesignOf}
 
 -- two sound sources of one text are one
 abbrev pub OneSource : Type 0
 OneSource = (text : List ℕ) (s t : PlainSource) → IsVerilogOf text s → IsVerilogOf text t → s ≡ t
+
+-- the text of the source of an accepted text's design within the size is within the limit of a Verilog text
+abbrev pub NeverTooLong : Type 0
+NeverTooLong = (text : List ℕ) (d : PlainDesign) → IsDesignOf text d → design_size d ≤ COMPILE_SIZE → (n : ℕ) → IsTooLong VERILOG_BYTES (text_of (written_source d)) (TooLong n) → ⊥

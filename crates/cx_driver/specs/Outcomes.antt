@@ -2,13 +2,15 @@
 use Rattle.std.specs.Prelude.{◌≡◌, ◌⊎◌, ℕ, List, Option, Result, Ok, Err, codes}
 use Rattle.cx_text.specs.declared.diagnostics.Diagnostic.{Diagnostic}
 use Rattle.cx_text.specs.declared.limits.TheConstants.{DESIGN_BYTES, DATA_BYTES, VERILOG_BYTES}
-use Rattle.cx_commands.specs.Commands.{Asked, compile, interp, check, sim, trial, Asks}
+use Rattle.cx_commands.specs.Commands.{Asked, compile, interp, check, sim, trial, weave, Asks}
 use Rattle.cx_commands.specs.Reads.{OfFile}
 use Rattle.cx_driver.specs.Texts.{IsAcceptedText, TextBreak}
 use Rattle.cx_driver.specs.Compiled.{IsCompilable, Compiles}
 use Rattle.cx_driver.specs.Interpreted.{Interprets}
 use Rattle.cx_driver.specs.Simulated.{Simulates}
 use Rattle.cx_driver.specs.Tried.{Tries}
+use Rattle.cx_driver.specs.Weaving.{Weaves}
+use Rattle.cx_commands.specs.Lists.{numbers_in}
 use Rattle.cx_commands.specs.declared.stops.Stop.{Stop}
 use Rattle.cx_commands.specs.declared.stops.Stop.TheVariants as stops
 
@@ -27,6 +29,8 @@ Does held (check design) result = OfFile held DESIGN_BYTES design (λ text. Chec
 Does held (sim verilog json budget) result =
     OfFile held VERILOG_BYTES verilog (λ text. OfFile held DATA_BYTES json (λ bytes. Simulates text bytes budget result))
 Does held (trial seed) result = Tries seed result
+Does held (weave design json steps list) result =
+    OfFile held DESIGN_BYTES design (λ text. OfFile held DATA_BYTES json (λ bytes. Weaves text bytes steps (numbers_in list) result))
 
 -- what it writes
 abbrev pub IsAnswer : Option (List ℕ → Option (List ℕ)) → Asked → List ℕ → Type 0
@@ -47,6 +51,7 @@ CanAnswer held (interp design json budget) = HasAnswer held (interp design json 
 CanAnswer held (check design) = HasAnswer held (check design)
 CanAnswer held (sim verilog json budget) = HasAnswer held (sim verilog json budget)
 CanAnswer held (trial seed) = HasAnswer held (trial seed)
+CanAnswer held (weave design json steps list) = HasAnswer held (weave design json steps list)
 
 -- what the files hold stops the command
 abbrev pub IsStopped : Option (List ℕ → Option (List ℕ)) → Asked → Stop → Type 0

@@ -1,5 +1,5 @@
 -- What a trial tells of the design that a seed gives: what its run leaves.
-use Rattle.std.specs.Prelude.{◌≡◌, ◌⊎◌, ℕ, ◌+◌, ◌≤◌, nat_lt, true, if◌then◌else◌, List, [], ◌∷◌, ◌++◌, Result, Ok, Err, codes, decimal, sum}
+use Rattle.std.specs.Prelude.{◌≡◌, ◌⊎◌, ℕ, ◌+◌, nat_lt, if◌then◌else◌, List, [], ◌∷◌, ◌++◌, Result, Ok, Err, codes, decimal, sum}
 use Rattle.cx_text.specs.declared.diagnostics.Diagnostic.{Diagnostic}
 use Rattle.cx_text.specs.declared.limits.TheConstants.{BUDGET, COMPILE_SIZE}
 use Rattle.cx_text.specs.Loading.{PlainMemory, PlainRow}
@@ -9,13 +9,11 @@ use Rattle.cx_rules.specs.Externals.{external_rows}
 use Rattle.cx_rules.specs.Sizes.{design_size}
 use Rattle.cx_numbering.specs.DesignOf.{design_of}
 use Rattle.cx_check.specs.Acceptance.{IsAcceptedTree, TreeBreak}
-use Rattle.cx_realises.specs.Realises.{Realises}
-use Rattle.cx_vtree.specs.Sound.{is_sound}
 use Rattle.cx_trial.specs.TrialTree.{trial_tree}
 use Rattle.cx_commands.specs.declared.stops.Stop.{Stop}
 use Rattle.cx_commands.specs.declared.stops.Stop.TheVariants as stops
 use Rattle.cx_driver.specs.Interpreted.{PlainLeft, design_left}
-use Rattle.cx_driver.specs.Compiled.{too_large, written_source}
+use Rattle.cx_driver.specs.Compiled.{too_large}
 
 -- a data file with zeros for the sixteen words
 abbrev pub zeros : List ℕ
@@ -80,7 +78,3 @@ HasTrialMemory d = external_rows d ≡ trial_row ∷ []
 -- the run of a design on zeros ends
 abbrev pub EndsOnZeros : PlainDesign → Type 0
 EndsOnZeros d = (left : PlainLeft) × (design_left d zeros BUDGET ≡ Ok left)
-
--- the source that is written of a design, where it is sound, realises the design, where this is within the size
-abbrev pub IsRealised : PlainDesign → Type 0
-IsRealised d = design_size d ≤ COMPILE_SIZE → is_sound (written_source d) ≡ true → Realises d (written_source d)

@@ -2,13 +2,17 @@
 
 ghost use Rattle.std.specs.Prelude.{◌≡◌, ◌≤◌, ◌⊎◌, IfOk, IfErr, MatchResult, decimal, length, true};
 ghost use Rattle.cx_text.specs.declared.diagnostics.Diagnostic.{Diagnostic as DiagnosticValue};
+ghost use Rattle.cx_text.specs.declared.limits.TheConstants.{VERILOG_BYTES};
 ghost use Rattle.cx_text.specs.declared.rules.Rule.TheVariants as rules;
 ghost use Rattle.cx_meaning.specs.Designs.{no_place};
 ghost use Rattle.cx_design.specs.PlainDesigns.{plain_design};
+ghost use Rattle.cx_net.specs.PlainNets.{plain_net};
 ghost use Rattle.cx_vtree.specs.PlainSources.{plain_source};
 ghost use Rattle.cx_vtree.specs.Sound.{is_sound};
+ghost use Rattle.cx_vtree.specs.Spelling.{text_of};
+ghost use Rattle.cx_emit.specs.Emitted.{CanBeEmitted};
 ghost use Rattle.cx_driver.specs.Simulated.{IsVerilogOf};
-ghost use Rattle.cx_driver.specs.Compiled.{CompileBreak, IsCompilable, IsCompileStop, IsCompiled, IsDesignTooLarge, IsDesignWritten, IsSoundWithin, written_source};
+ghost use Rattle.cx_driver.specs.Compiled.{CompileBreak, EmitsWithin, HasItsNet, IsCompilable, IsCompileStop, IsCompiled, IsDesignTooLarge, IsDesignWritten, IsRealised, IsShortWithin, written_net, written_source};
 ghost use Rattle.cx_driver.specs.Promise.{KeepsPromise};
 ghost use Rattle.cx_commands.specs.declared.stops.Stop.TheVariants as stops;
 
@@ -19,11 +23,11 @@ use cx_design::Checked;
 use cx_emit::emit;
 use cx_fsm::build;
 use cx_holes::inline;
+use cx_net::Net;
 use cx_static::lower;
 use cx_text::{COMPILE_SIZE, Diagnostic, Memory, Name, Place, Rule};
 use cx_vtree::Source;
-use cx_vwrite::write;
-use cx_wiring::laws::design_is_realised;
+use cx_vwrite::{WriteRefusal, write};
 use itoa::Buffer;
 use std::alloc::Global;
 
@@ -43,18 +47,17 @@ pub fn compile(alloc: Global, text: &[u8]) -> Result<Vec<u8>, Stop>
         → MatchResult result (λ _. ⊥) (λ stop. (stop ≡ stops.Memory) ⊎ (stop ≡ stops.Rule told)) }
 {
     match accepted_design(alloc, text) {
-        Ok(design) => {
-            design_is_realised();
-            compile_design(alloc, &design)
-        }
+        Ok(design) => compile_design(alloc, &design),
         Err(stop) => Err(stop),
     }
 }
 
 /// The Verilog text of a design, where its size is within the limit.
 pub(crate) fn compile_design(alloc: Global, design: &Checked) -> Result<Vec<u8>, Stop>
-    requires sound { IsSoundWithin (plain_design design.now) }
+    requires net { EmitsWithin (plain_design design.now) }
+    requires short { IsShortWithin (plain_design design.now) }
     ensures answer { IfOk result (λ verilog. IsDesignWritten (plain_design design.now) verilog.items) }
+    ensures meaning { IfOk result (λ _. IsRealised (plain_design design.now)) }
     ensures cause { IfErr result (IsDesignTooLarge (plain_design design.now)) }
 {
     let size = design_size(design.design());
@@ -66,7 +69,7 @@ pub(crate) fn compile_design(alloc: Global, design: &Checked) -> Result<Vec<u8>,
 }
 
 /// The rule on sizes, which a design of this size breaks.
-fn too_large(alloc: Global, size: u64) -> Stop
+pub(crate) fn too_large(alloc: Global, size: u64) -> Stop
     ensures { (result ≡ stops.Memory) ⊎ (result ≡ stops.Rule (record { rule = rules.TooLarge; place = no_place; name = decimal size })) }
 {
     let mut buffer = Buffer::new();
@@ -82,29 +85,43 @@ fn too_large(alloc: Global, size: u64) -> Stop
 
 /// The Verilog text of a design.
 fn verilog_of(alloc: Global, design: &Checked) -> Result<Vec<u8>, Memory>
-    requires sound { is_sound (written_source (plain_design design.now)) ≡ true }
-    ensures { IfOk result (λ text. IsVerilogOf text.items (written_source (plain_design design.now))) }
+    requires net { CanBeEmitted (written_net (plain_design design.now)) }
+    requires short { length (text_of (written_source (plain_design design.now))) ≤ VERILOG_BYTES }
+    ensures spelled { IfOk result (λ text. IsVerilogOf text.items (written_source (plain_design design.now))) }
+    ensures meaning { IfOk result (λ _. IsRealised (plain_design design.now)) }
 {
     let source = source_of(alloc, design)?;
     spelled(alloc, &source)
 }
 
-/// The Verilog source of a design, pass by pass.
+/// The Verilog source of a design, by the last pass.
 fn source_of(alloc: Global, design: &Checked) -> Result<Source, Memory>
+    requires net { CanBeEmitted (written_net (plain_design design.now)) }
     ensures value { IfOk result (λ source. plain_source source ≡ written_source (plain_design design.now)) }
+    ensures meaning { IfOk result (λ _. IsRealised (plain_design design.now)) }
 {
-    let lowered = lower(alloc, design)?;
-    let net = inline(alloc, build(alloc, &lowered)?)?;
+    let net = design_net(alloc, design)?;
     emit(alloc, &net)
 }
 
-/// The text that spells a source. One that is too long counts as want of memory.
+/// The net of a design without holes, by the passes before.
+pub(crate) fn design_net(alloc: Global, design: &Checked) -> Result<Net, Memory>
+    ensures value { IfOk result (λ net. plain_net net ≡ written_net (plain_design design.now)) }
+    ensures meaning { IfOk result (λ net. HasItsNet (plain_design design.now) (plain_net net)) }
+{
+    let lowered = lower(alloc, design)?;
+    inline(alloc, build(alloc, &lowered)?)
+}
+
+/// The text that spells a source.
 fn spelled(alloc: Global, source: &Source) -> Result<Vec<u8>, Memory>
     requires sound { is_sound (plain_source source.now) ≡ true }
+    requires short { length (text_of (plain_source source.now)) ≤ VERILOG_BYTES }
     ensures { IfOk result (λ text. IsVerilogOf text.items (plain_source source.now)) }
 {
     match write(alloc, source) {
         Ok(text) => Ok(text),
-        Err(_) => Err(Memory),
+        Err(WriteRefusal::TooLong(_)) => unreachable!(),
+        Err(WriteRefusal::Memory) => Err(Memory),
     }
 }

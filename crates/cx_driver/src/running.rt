@@ -3,9 +3,10 @@
 ghost use Rattle.std.specs.Prelude.{◌≡◌, ◌≢◌, ◌⊎◌, ◌↔◌, ◌≤◌, ℕ, List, Option, [], ◌∷◌, Some, Contains, codes, length, IfOk, IfErr, IsSomeAnd};
 ghost use Rattle.cx_outside.specs.Counts.{HasRisen};
 ghost use Rattle.cx_outside.specs.Writing.{grown, GrowsByPart};
-ghost use Rattle.cx_commands.specs.Commands.{Asked, Asks, AsksNothing, IsFileOf, files_of};
+ghost use Rattle.cx_commands.specs.Commands.{Asked, Asks, AsksNothing, HasList, IsFileOf, files_of};
 ghost use Rattle.cx_commands.specs.Asked.{asked_of};
 ghost use Rattle.cx_commands.specs.Commands as asked;
+ghost use Rattle.cx_commands.specs.Lists.{IsList};
 ghost use Rattle.cx_commands.specs.Messages.{line_of};
 ghost use Rattle.cx_driver.specs.Outcomes.{CanAnswer, IsAnswer, IsAnswerTo, IsStopped};
 ghost use Rattle.cx_driver.specs.Promise.{KeepsOfFile};
@@ -21,6 +22,7 @@ use crate::compiling::compile;
 use crate::interpreting::interp;
 use crate::simulating::sim;
 use crate::trying::trial;
+use crate::weaving::weave_by;
 use cx_commands::{Command, Refusal, Status, Stop, command_of, line};
 use cx_outside::{FileAnswer, Files, Sink, Word, write_all};
 use cx_text::{DATA_BYTES, DESIGN_BYTES, VERILOG_BYTES};
@@ -82,6 +84,7 @@ fn obey<F: Files, O: Sink, E: Sink>(
     out: &mut O,
     err: &mut E,
 ) -> Status
+    requires list { HasList (asked_of command) }
     ensures done { result ≡ statuses.Done →
         (text : List ℕ) × IsAnswer (F.held files.old) (asked_of command.entry) text × (O.written out.new ≡ grown (O.written out.old) text) }
 
@@ -157,6 +160,7 @@ fn answer<'a, F: Files>(
     command: Command<'a>,
     files: &mut F,
 ) -> Result<Vec<u8>, Refusal<'a>>
+    requires list { HasList (asked_of command) }
     ensures answer { IfOk result (λ text. IsAnswer (F.held files.old) (asked_of command.entry) text.items) }
     ensures cause { IfErr result (HasCause (asked_of command.entry) (F.held files.old) (F.faults files.old) (F.faults files.new)) }
 {
@@ -174,6 +178,12 @@ fn answer<'a, F: Files>(
             budget,
         } => simulated(alloc, verilog, json, budget, files),
         Command::Trial { seed } => tried(alloc, seed),
+        Command::Weave {
+            design,
+            json,
+            steps,
+            list,
+        } => woven(alloc, design, json, steps, list, files),
     }
 }
 
@@ -228,6 +238,27 @@ fn simulated<'a, F: Files>(
     match sim(alloc, &text, &data, budget) {
         Ok(dump) => Ok(dump),
         Err(why) => Err(Refusal::Stop(why)),
+    }
+}
+
+/// The answer of a woven run on files.
+fn woven<'a, F: Files>(
+    alloc: Global,
+    design: &'a [u8],
+    json: &'a [u8],
+    steps: u64,
+    list: &[u8],
+    files: &mut F,
+) -> Result<Vec<u8>, Refusal<'a>>
+    requires list { IsList list.now }
+    ensures answer { IfOk result (λ text. IsAnswer (F.held files.old) (asked.weave design.now json.now steps list.now) text.items) }
+    ensures cause { IfErr result (HasCause (asked.weave design.now json.now steps list.now) (F.held files.old) (F.faults files.old) (F.faults files.new)) }
+{
+    let text = read(alloc, files, design, DESIGN_BYTES)?;
+    let data = read(alloc, files, json, DATA_BYTES)?;
+    match weave_by(alloc, &text, &data, steps, list) {
+        Ok(dump) => Ok(dump),
+        Err(stop) => Err(Refusal::Stop(stop)),
     }
 }
 

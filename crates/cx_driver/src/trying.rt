@@ -9,10 +9,10 @@ ghost use Rattle.cx_check.specs.Acceptance.{TreeBreak};
 ghost use Rattle.cx_trial.specs.TrialTree as tree_of;
 ghost use Rattle.cx_commands.specs.declared.stops.Stop.{Stop as StopValue};
 ghost use Rattle.cx_commands.specs.declared.stops.Stop.TheVariants as stops;
-ghost use Rattle.cx_driver.specs.Compiled.{IsSoundWithin};
+ghost use Rattle.cx_driver.specs.Compiled.{EmitsWithin, IsShortWithin, KeepsRulesWithin};
 ghost use Rattle.cx_driver.specs.Leaving.{plain_left};
 ghost use Rattle.cx_driver.specs.Tried as plain;
-ghost use Rattle.cx_driver.specs.Tried.{EndsOnZeros, HasTrialMemory, IsRealised, IsTrialStop, StopsTrial, TellsRule, Tries, counted, trial_line, try_result, words_sum};
+ghost use Rattle.cx_driver.specs.Tried.{EndsOnZeros, HasTrialMemory, IsTrialStop, StopsTrial, TellsRule, Tries, counted, trial_line, try_result, words_sum};
 
 use crate::accepting::tried;
 use crate::compiling::compile_design;
@@ -22,7 +22,6 @@ use cx_commands::Stop;
 use cx_design::Checked;
 use cx_text::{BUDGET, LoadedMemory, Memory};
 use cx_trial::trial_tree;
-use cx_wiring::laws::design_is_realised;
 use itoa::Buffer;
 use std::alloc::Global;
 
@@ -48,10 +47,7 @@ pub fn trial(alloc: Global, seed: u64) -> Result<Vec<u8>, Stop>
 {
     match trial_tree(alloc, seed) {
         Ok(tree) => match tried(alloc, &tree) {
-            Ok(design) => {
-                design_is_realised();
-                try_design(alloc, &design, seed)
-            }
+            Ok(design) => try_design(alloc, &design, seed),
             Err(stop) => Err(stop),
         },
         Err(_) => Err(Stop::Memory),
@@ -61,8 +57,9 @@ pub fn trial(alloc: Global, seed: u64) -> Result<Vec<u8>, Stop>
 /// The line of a design that a seed gave.
 fn try_design(alloc: Global, design: &Checked, seed: u64) -> Result<Vec<u8>, Stop>
     requires memory { HasTrialMemory (plain_design design.now) }
-    requires realised { IsRealised (plain_design design.now) }
-    requires sound { IsSoundWithin (plain_design design.now) }
+    requires rules { KeepsRulesWithin (plain_design design.now) }
+    requires net { EmitsWithin (plain_design design.now) }
+    requires short { IsShortWithin (plain_design design.now) }
     ensures answer { IfOk result (λ line. try_result seed (plain_design design.now) ≡ Ok line.items) }
     ensures cause { IfErr result (λ stop. (stop ≡ stops.Memory) ⊎ (try_result seed (plain_design design.now) ≡ Err stop)) }
 {
@@ -75,8 +72,9 @@ fn try_design(alloc: Global, design: &Checked, seed: u64) -> Result<Vec<u8>, Sto
 /// The line of a design whose run ends, by the run of its text.
 fn try_text(alloc: Global, design: &Checked, seed: u64) -> Result<Vec<u8>, Stop>
     requires memory { HasTrialMemory (plain_design design.now) }
-    requires realised { IsRealised (plain_design design.now) }
-    requires sound { IsSoundWithin (plain_design design.now) }
+    requires rules { KeepsRulesWithin (plain_design design.now) }
+    requires net { EmitsWithin (plain_design design.now) }
+    requires short { IsShortWithin (plain_design design.now) }
     requires ends { EndsOnZeros (plain_design design.now) }
     ensures answer { IfOk result (λ line. try_result seed (plain_design design.now) ≡ Ok line.items) }
     ensures cause { IfErr result (λ stop. (stop ≡ stops.Memory) ⊎ (try_result seed (plain_design design.now) ≡ Err stop)) }

@@ -1,4 +1,3 @@
-pub mod Checks
 pub mod NumberedLemmas
 pub mod Evals
 pub mod FoldLemmas
@@ -46,3 +45,5 @@ pub mod Soundness
 pub mod OwnNames
 pub mod ShapedSources
 pub mod SourceNets
+pub mod EmittedNumbers
+pub mod EmittedParts

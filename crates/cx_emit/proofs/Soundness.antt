@@ -9,6 +9,7 @@ use Rattle.cx_vtree.specs.Sound.{break_of, externals_faults, modules_faults, is_
 use Rattle.cx_net.specs.Nets.{PlainNet}
 use Rattle.cx_net.specs.NetFits.{IsFit, HasNoHoles}
 use Rattle.cx_net.specs.NetLimits.{IsWritable}
+use Rattle.cx_emit.specs.Emitted.{CanBeEmitted}
 use Rattle.cx_emit.specs.Sources.{source_of}
 use Rattle.cx_emit.proofs.FaultLaws.{clean-append, break_of-clean}
 use Rattle.cx_emit.proofs.CleanModules.{each_all}
@@ -24,3 +25,7 @@ source_is_sound net fit no_holes writable =
     (and_from (list_all external_fits (source_of net).externals) (nat_lt 0 (length all)) (each_all external_fits (source_of net).externals (externals_laid net fit no_holes writable)) (lt-ltb 0 (length all) (some_modules net fit no_holes writable)))
     (each_all module_fits all modules.1))
     (ap is_none (break_of-clean (source_of net) (clean-append (externals_faults all _ _ (source_of net).externals) (modules_faults _ _ all) (external_lines net fit no_holes writable) modules.0)))
+
+-- so the source of a net that can be emitted is
+pub emitted_sound : (net : PlainNet) → CanBeEmitted net → is_sound (source_of net) ≡ true
+emitted_sound net can = source_is_sound net can.fits can.no_holes can.writable

@@ -6,6 +6,7 @@ pub mod Chains
 pub mod Sources
 pub mod Places
 pub mod Fits
+pub mod Emitted
 pub mod States
 pub mod RunsAs
 pub mod Driven

@@ -14,7 +14,7 @@ use Rattle.cx_net.specs.NetTree.{net_component_at, net_tree}
 use Rattle.cx_net.specs.NetMeaning.{NetState, Node, NetLook, NetHas}
 use Rattle.cx_net.specs.NetEdges.{net_after}
 use Rattle.cx_net.specs.NetRuns.{IsWholeLook, NetRun}
-use Rattle.cx_realises.specs.Realises.{Follows}
+use Rattle.cx_net.specs.Realises.{Follows}
 use Rattle.cx_emit.specs.Sources.{source_of}
 use Rattle.cx_net.specs.NetPaths.{LeadsTo}
 use Rattle.cx_emit.specs.Places.{number_at, node_name}

@@ -1,8 +1,9 @@
 //! The module of a component.
 
-ghost use Rattle.std.specs.Prelude.{◌≡◌, ◌++◌, ◌∷◌, [], IfOk, OnOk, map};
+ghost use Rattle.std.specs.Prelude.{◌≡◌, ◌++◌, ◌∷◌, [], IfOk, OnOk, Some, map, slice_get};
 ghost use Rattle.cx_net.specs.PlainNets.{plain_net, plain_net_component};
 ghost use Rattle.cx_vtree.specs.PlainParts.{plain_assign, plain_decl, plain_module, plain_modules};
+ghost use Rattle.cx_emit.specs.Emitted.{CanBeEmitted, PartFits};
 ghost use Rattle.cx_emit.specs.Numbered.{lists_from, with_numbers};
 ghost use Rattle.cx_emit.specs.PlainForms.{plain_cell_ports};
 ghost use Rattle.cx_emit.specs.Sources as plain;
@@ -58,6 +59,7 @@ fn module(
     part: &NetComponent,
     cells: &[CellPorts],
 ) -> Result<Module, Memory>
+    requires fits { PartFits (plain_net_component part.now) (map plain_cell_ports cells.now) }
     ensures value { IfOk result (λ made. plain_module made ≡ plain.module_with name (plain_net_component part.now) (map plain_cell_ports cells.now)) }
 {
     let driven = Driven::of(alloc, part, cells)?;
@@ -84,6 +86,8 @@ pub fn add_component(
     part: &NetComponent,
     modules: &mut Vec<Module>,
 ) -> Result<(), Memory>
+    requires net { CanBeEmitted (plain_net net.now) }
+    requires part { slice_get (plain_net net.now).components number ≡ Some (plain_net_component part.now) }
     ensures value { OnOk result (plain_modules modules.new.items ≡ plain_modules modules.old.items ++ plain.component_modules (plain_net net.now) number (plain_net_component part.now)) }
 {
     let cells = all_cell_ports(alloc, net, number, &part.cells, modules)?;

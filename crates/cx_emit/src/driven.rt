@@ -1,17 +1,19 @@
 //! What drives the targets of a component: chains of choices.
 
-ghost use Rattle.std.specs.Prelude.{◌≡◌, [], IfOk, OnOk, map, option_map};
+ghost use Rattle.std.specs.Prelude.{◌≡◌, [], All, IfOk, OnOk, map, option_map};
 ghost use Rattle.cx_net.specs.PlainNets.{plain_net_component, plain_net_driver, plain_net_expr};
+ghost use Rattle.cx_prim.specs.Widths.{IsWidth};
 ghost use Rattle.cx_vtree.specs.Plain.{Named};
 ghost use Rattle.cx_vtree.specs.PlainParts.{plain_assign, plain_expr, plain_port};
 ghost use Rattle.cx_emit.specs.Chains as plain;
 ghost use Rattle.cx_emit.specs.Driven.{cell_driven, changed_at, driven_by, driver_before, port_before, port_driven, target_before};
+ghost use Rattle.cx_emit.specs.Emitted.{DriverFits, PartFits, PortsAreWide};
 ghost use Rattle.cx_emit.specs.Names as plain_name;
 ghost use Rattle.cx_emit.specs.Numbered.{with_numbers};
 ghost use Rattle.cx_emit.specs.PlainForms.{plain_cell_ports, plain_driven, plain_port_driven, plain_ports_driven};
 ghost use Rattle.cx_emit.specs.Sources.{assign, done_assign, output_assign, register_assign, wire_assign};
 
-use crate::exprs::{expr, literal};
+use crate::exprs::{expr, zero};
 use crate::names::{cell_port_name, output_name, register_name, wire_name};
 use crate::signatures::CellPorts;
 use cx_bits::Bits;
@@ -41,6 +43,7 @@ fn undriven_port(
     number: usize,
     port: &ModulePort,
 ) -> Result<Option<NetAssign>, Memory>
+    requires wide { IsWidth (plain_port port.now).width }
     ensures value { IfOk result (λ driven. plain_port_driven driven ≡ port_driven [] cell number (plain_port port.now)) }
 {
     if port.output {
@@ -48,7 +51,7 @@ fn undriven_port(
     }
     Ok(Some(NetAssign {
         name: cell_port_name(alloc, cell, number)?,
-        value: literal(port.width, 0)?,
+        value: zero(port.width),
     }))
 }
 
@@ -58,6 +61,7 @@ fn undriven_ports(
     cell: usize,
     ports: &[ModulePort],
 ) -> Result<Vec<Option<NetAssign>>, Memory>
+    requires wide { All (λ p. IsWidth p.width) (map plain_port ports.now) }
     ensures value { IfOk result (λ driven. map plain_port_driven driven.items ≡ with_numbers (port_driven [] cell) (map plain_port ports.now)) }
 {
     let mut driven = Vec::with_capacity(alloc, ports.len())?;
@@ -69,6 +73,7 @@ fn undriven_ports(
 
 /// The same of all cells.
 fn undriven_cells(alloc: Global, cells: &[CellPorts]) -> Result<Vec<Vec<Option<NetAssign>>>, Memory>
+    requires wide { All PortsAreWide (map plain_cell_ports cells.now) }
     ensures value { IfOk result (λ driven. map plain_ports_driven driven.items ≡ with_numbers (cell_driven []) (map plain_cell_ports cells.now)) }
 {
     let mut driven = Vec::with_capacity(alloc, cells.len())?;
@@ -80,13 +85,14 @@ fn undriven_cells(alloc: Global, cells: &[CellPorts]) -> Result<Vec<Vec<Option<N
 
 /// An output of the signature is 0 where no driver drives it.
 fn undriven_outputs(alloc: Global, outputs: &[PortDecl]) -> Result<Vec<NetAssign>, Memory>
+    requires wide { All (λ d. IsWidth d.width) outputs.now }
     ensures value { IfOk result (λ driven. map plain_assign driven.items ≡ with_numbers (output_assign []) outputs.now) }
 {
     let mut driven = Vec::with_capacity(alloc, outputs.len())?;
     for (number, output) in outputs.iter().enumerate() {
         driven.push(NetAssign {
             name: output_name(alloc, number)?,
-            value: literal(output.width, 0)?,
+            value: zero(output.width),
         })?;
     }
     Ok(driven)
@@ -94,13 +100,14 @@ fn undriven_outputs(alloc: Global, outputs: &[PortDecl]) -> Result<Vec<NetAssign
 
 /// A wire is 0 where no driver drives it.
 fn undriven_wires(alloc: Global, widths: &[u8]) -> Result<Vec<NetAssign>, Memory>
+    requires wide { All IsWidth widths.now }
     ensures value { IfOk result (λ driven. map plain_assign driven.items ≡ with_numbers (wire_assign []) widths.now) }
 {
     let mut driven = Vec::with_capacity(alloc, widths.len())?;
     for (number, width) in widths.iter().enumerate() {
         driven.push(NetAssign {
             name: wire_name(alloc, number)?,
-            value: literal(*width, 0)?,
+            value: zero(*width),
         })?;
     }
     Ok(driven)
@@ -133,7 +140,7 @@ fn undriven_done(alloc: Global) -> Result<NetAssign, Memory>
 {
     Ok(NetAssign {
         name: Name::from_bytes(alloc, b"done")?,
-        value: literal(1, 0)?,
+        value: zero(1),
     })
 }
 
@@ -149,6 +156,7 @@ fn is_one(guard: &NetExpr) -> bool
 
 /// A driver before a chain.
 fn before(alloc: Global, driver: &NetDriver, rest: Expr) -> Result<Expr, Memory>
+    requires fits { DriverFits (plain_net_driver driver.now) }
     ensures value { IfOk result (λ chain. plain_expr chain ≡ plain.before (plain_net_driver driver.now) (plain_expr rest)) }
 {
     let source = expr(alloc, &driver.source)?;
@@ -162,9 +170,10 @@ fn before(alloc: Global, driver: &NetDriver, rest: Expr) -> Result<Expr, Memory>
 
 /// Puts a driver before the chain of a target.
 fn put(alloc: Global, driven: &mut NetAssign, driver: &NetDriver) -> Result<(), Memory>
+    requires fits { DriverFits (plain_net_driver driver.now) }
     ensures value { OnOk result (plain_assign driven.new ≡ driver_before (plain_net_driver driver.now) (plain_assign driven.old)) }
 {
-    let rest = mem::replace(&mut driven.value, literal(1, 0)?);
+    let rest = mem::replace(&mut driven.value, zero(1));
     driven.value = before(alloc, driver, rest)?;
     Ok(())
 }
@@ -176,6 +185,7 @@ fn put_at(
     number: u32,
     driver: &NetDriver,
 ) -> Result<(), Memory>
+    requires fits { DriverFits (plain_net_driver driver.now) }
     ensures value { OnOk result (map plain_assign driven.new ≡ changed_at number (driver_before (plain_net_driver driver.now)) (map plain_assign driven.old)) }
 {
     let at = number as usize;
@@ -187,6 +197,7 @@ fn put_at(
 
 /// Puts a driver before the chain of a port, unless it is an output.
 fn put_port(alloc: Global, driven: &mut Option<NetAssign>, driver: &NetDriver) -> Result<(), Memory>
+    requires fits { DriverFits (plain_net_driver driver.now) }
     ensures value { OnOk result (plain_port_driven driven.new ≡ option_map (driver_before (plain_net_driver driver.now)) (plain_port_driven driven.old)) }
 {
     match driven {
@@ -202,6 +213,7 @@ fn put_port_at(
     port: u32,
     driver: &NetDriver,
 ) -> Result<(), Memory>
+    requires fits { DriverFits (plain_net_driver driver.now) }
     ensures value { OnOk result (map plain_port_driven driven.new.items ≡ changed_at port (option_map (driver_before (plain_net_driver driver.now))) (map plain_port_driven driven.old.items)) }
 {
     let at = port as usize;
@@ -219,6 +231,7 @@ fn put_cell_at(
     port: u32,
     driver: &NetDriver,
 ) -> Result<(), Memory>
+    requires fits { DriverFits (plain_net_driver driver.now) }
     ensures value { OnOk result (map plain_ports_driven driven.new.items ≡ changed_at cell (changed_at port (option_map (driver_before (plain_net_driver driver.now)))) (map plain_ports_driven driven.old.items)) }
 {
     let at = cell as usize;
@@ -231,6 +244,7 @@ fn put_cell_at(
 impl Driven {
     /// What drives the targets where no driver does.
     fn undriven(alloc: Global, part: &NetComponent, cells: &[CellPorts]) -> Result<Driven, Memory>
+        requires fits { PartFits (plain_net_component part.now) (map plain_cell_ports cells.now) }
         ensures value { IfOk result (λ driven. plain_driven driven ≡ driven_by (plain_net_component part.now) (map plain_cell_ports cells.now) []) }
     {
         Ok(Driven {
@@ -249,6 +263,7 @@ impl Driven {
         port: PortRef,
         driver: &NetDriver,
     ) -> Result<(), Memory>
+        requires fits { DriverFits (plain_net_driver driver.now) }
         ensures value { OnOk result (plain_driven self.new ≡ port_before port (plain_net_driver driver.now) (plain_driven self.old)) }
     {
         match port {
@@ -260,6 +275,7 @@ impl Driven {
 
     /// Puts a driver before the chain of its target. Nothing looks at a hole.
     fn put_driver(&mut self, alloc: Global, driver: &NetDriver) -> Result<(), Memory>
+        requires fits { DriverFits (plain_net_driver driver.now) }
         ensures value { OnOk result (plain_driven self.new ≡ target_before (plain_net_driver driver.now).target (plain_net_driver driver.now) (plain_driven self.old)) }
     {
         match driver.target {
@@ -273,6 +289,7 @@ impl Driven {
 
     /// What drives the targets of a component, whose cells have these ports.
     pub fn of(alloc: Global, part: &NetComponent, cells: &[CellPorts]) -> Result<Driven, Memory>
+        requires fits { PartFits (plain_net_component part.now) (map plain_cell_ports cells.now) }
         ensures value { IfOk result (λ driven. plain_driven driven ≡ driven_by (plain_net_component part.now) (map plain_cell_ports cells.now) (plain_net_component part.now).drivers) }
     {
         let mut driven = Driven::undriven(alloc, part, cells)?;

@@ -6,7 +6,8 @@ ghost use Rattle.cx_net.specs.NetTree.{net_component_at};
 ghost use Rattle.cx_net.specs.PlainNets.{plain_net};
 ghost use Rattle.cx_vtree.specs.PlainParts as text;
 ghost use Rattle.cx_vtree.specs.PlainParts.{plain_modules};
-ghost use Rattle.cx_vtree.specs.Sources.{source_of};
+ghost use Rattle.cx_emit.specs.Emitted.{CanBeEmitted};
+ghost use Rattle.cx_emit.specs.RunsAs.{RunsAs};
 ghost use Rattle.cx_emit.specs.Sources as plain;
 ghost use Rattle.cx_vtree.specs.PlainSources.{plain_source};
 
@@ -14,27 +15,12 @@ use crate::components::add_component;
 use crate::externals::externals;
 use cx_net::Net;
 use cx_text::Memory;
-use cx_vscope::is_laid_out;
-use cx_vsound::check;
-use cx_vtree::{External, Module, Source};
+use cx_vtree::{Module, Source};
 use std::alloc::Global;
-
-/// Keeps parts that break no rule.
-#[tactic(auto, using(crate::proofs::Checks::sound_by))]
-fn sound(alloc: Global, externals: Vec<External>, modules: Vec<Module>) -> Result<Source, Memory>
-    ensures value { IfOk result (λ source. plain_source source ≡ source_of externals.items modules.items) }
-{
-    if !is_laid_out(&externals, &modules) {
-        return Err(Memory);
-    }
-    match check(alloc, &externals, &modules)? {
-        Some(_) => Err(Memory),
-        None => Ok(Source::new(externals, modules)),
-    }
-}
 
 /// The modules of all components.
 fn modules(alloc: Global, net: &Net) -> Result<Vec<Module>, Memory>
+    requires net { CanBeEmitted (plain_net net.now) }
     ensures value { IfOk result (λ modules. plain_modules modules.items ≡ (plain.source_of (plain_net net.now)).modules) }
 {
     let mut modules = Vec::new(alloc);
@@ -44,13 +30,14 @@ fn modules(alloc: Global, net: &Net) -> Result<Vec<Module>, Memory>
     Ok(modules)
 }
 
-/// The source of a net without holes.
+/// The source of a net that fits, has no holes, and can be written.
 pub fn emit(alloc: Global, net: &Net) -> Result<Source, Memory>
+    requires net { CanBeEmitted (plain_net net.now) }
     ensures value { IfOk result (λ source. plain_source source ≡ plain.source_of (plain_net net.now)) }
     ensures rows { IfOk result (λ source. text.rows_of (plain_source source).externals ≡ rows_of (net_component_at (plain_net net.now) (plain_net net.now).main).cells) }
+    ensures runs { IfOk result (λ source. RunsAs (plain_net net.now) (plain_source source)) }
 {
     let modules = modules(alloc, net)?;
     let externals = externals(alloc, net)?;
-    let source = sound(alloc, externals, modules)?;
-    Ok(source)
+    Ok(Source::new(externals, modules))
 }

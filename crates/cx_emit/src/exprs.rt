@@ -1,10 +1,13 @@
 //! Expressions.
 
 ghost use Rattle.std.specs.Prelude.{◌≡◌, IfOk, codes, map};
+ghost use Rattle.cx_bits.specs.BitVector.{Fits};
 ghost use Rattle.cx_net.specs.Nets.{exprs_of};
 ghost use Rattle.cx_net.specs.PlainNets.{plain_net_expr};
+ghost use Rattle.cx_prim.specs.Widths.{IsWidth};
 ghost use Rattle.cx_vtree.specs.Plain.{Named};
 ghost use Rattle.cx_vtree.specs.PlainParts.{plain_expr};
+ghost use Rattle.cx_emit.specs.Emitted.{AllLiteralsFit, LiteralsFit, PortFits};
 ghost use Rattle.cx_emit.specs.Exprs as plain;
 ghost use Rattle.cx_emit.specs.Names.{register_name, undeclared_name, wire_name};
 
@@ -18,28 +21,39 @@ use cx_text::{Memory, Name};
 use cx_vtree::{Expr, Operator};
 use std::alloc::Global;
 
-/// A number of a width. No text has one that does not fit.
-pub fn literal(width: u8, value: u128) -> Result<Expr, Memory>
-    ensures value { IfOk result (λ e. plain_expr e ≡ plain.literal width value) }
+/// A number of a width.
+fn literal(width: u8, value: u128) -> Expr
+    requires fits { Fits (record { width = width; value = value }) }
+    ensures value { plain_expr result ≡ plain.literal width value }
 {
     match Bits::new(width, value) {
-        Some(bits) => Ok(Expr::Literal(bits)),
-        None => Err(Memory),
+        Some(bits) => Expr::Literal(bits),
+        None => unreachable!(),
     }
 }
 
-/// A literal in the place of a port. No text has one that does not fit.
-fn literal_port(width: u32, value: u128) -> Result<Expr, Memory>
-    ensures value { IfOk result (λ e. plain_expr e ≡ plain.literal width value) }
+/// The number 0 of a width.
+pub fn zero(width: u8) -> Expr
+    requires wide { IsWidth width }
+    ensures value { plain_expr result ≡ plain.literal width 0 }
+{
+    literal(width, 0)
+}
+
+/// A literal in the place of a port.
+fn literal_port(width: u32, value: u128) -> Expr
+    requires fits { Fits (record { width = width; value = value }) }
+    ensures value { plain_expr result ≡ plain.literal width value }
 {
     match u8::try_from(width) {
         Ok(width) => literal(width, value),
-        Err(_) => Err(Memory),
+        Err(_) => unreachable!(),
     }
 }
 
 /// A port.
 fn port_expr(alloc: Global, port: PortRef) -> Result<Expr, Memory>
+    requires fits { PortFits port }
     ensures value { IfOk result (λ e. plain_expr e ≡ plain.port_expr port) }
 {
     match port {
@@ -49,7 +63,7 @@ fn port_expr(alloc: Global, port: PortRef) -> Result<Expr, Memory>
         PortRef::Input(number) => Ok(Expr::Net(input_name(alloc, number as usize)?)),
         PortRef::Output(number) => Ok(Expr::Net(output_name(alloc, number as usize)?)),
         PortRef::Done(_) => undeclared_expr(alloc),
-        PortRef::Literal(width, value) => literal_port(width, value),
+        PortRef::Literal(width, value) => Ok(literal_port(width, value)),
     }
 }
 
@@ -99,19 +113,20 @@ fn undeclared_expr(alloc: Global) -> Result<Expr, Memory>
 fn all(alloc: Global, parts: Vec<Expr>) -> Result<Expr, Memory>
     ensures value { IfOk result (λ e. plain_expr e ≡ plain.folded Operator.And (plain.literal 1 1) (map plain_expr parts.items)) }
 {
-    folded(alloc, Operator::And, literal(1, 1)?, parts)
+    folded(alloc, Operator::And, literal(1, 1), parts)
 }
 
 /// Whether a part is 1.
 fn any(alloc: Global, parts: Vec<Expr>) -> Result<Expr, Memory>
     ensures value { IfOk result (λ e. plain_expr e ≡ plain.folded Operator.Or (plain.literal 1 0) (map plain_expr parts.items)) }
 {
-    folded(alloc, Operator::Or, literal(1, 0)?, parts)
+    folded(alloc, Operator::Or, zero(1), parts)
 }
 
 /// Expressions of a net.
 #[cycle(expr)]
 fn exprs(alloc: Global, parts: &[NetExpr]) -> Result<Vec<Expr>, Memory>
+    requires fits { AllLiteralsFit (exprs_of (map plain_net_expr parts.now)) }
     ensures value { IfOk result (λ es. map plain_expr es.items ≡ plain.exprs_to (exprs_of (map plain_net_expr parts.now))) }
 {
     let mut made = Vec::with_capacity(alloc, parts.len())?;
@@ -124,6 +139,7 @@ fn exprs(alloc: Global, parts: &[NetExpr]) -> Result<Vec<Expr>, Memory>
 /// An expression of a net.
 #[cycle(expr)]
 pub fn expr(alloc: Global, e: &NetExpr) -> Result<Expr, Memory>
+    requires fits { LiteralsFit (plain_net_expr e.now) }
     ensures value { IfOk result (λ made. plain_expr made ≡ plain.expr_of (plain_net_expr e.now)) }
 {
     match e {

@@ -5,6 +5,7 @@ ghost use Rattle.cx_design.specs.PlainForms.{plain_cell};
 ghost use Rattle.cx_net.specs.PlainNets.{plain_net};
 ghost use Rattle.cx_rules.specs.Externals.{numbers_of};
 ghost use Rattle.cx_vtree.specs.PlainParts.{plain_external, plain_externals};
+ghost use Rattle.cx_emit.specs.Emitted.{CanBeEmitted, ExternalsHaveWords, HasWords};
 ghost use Rattle.cx_emit.specs.Numbered.{lists_from};
 ghost use Rattle.cx_emit.specs.Sources as plain;
 
@@ -25,16 +26,16 @@ fn numbers(cell: &Cell) -> &[u64]
     }
 }
 
-/// An external cell: the width of its words is the first number, and the sizes are the first half of those behind it. No text
-/// has one without a width.
+/// An external cell: the width of its words is the first number, and the sizes are the first half of those behind it.
 fn external(alloc: Global, number: usize, cell: &Cell) -> Result<External, Memory>
+    requires words { HasWords (plain_cell cell.now) }
     ensures value { IfOk result (λ external. plain_external external ≡ plain.external_of number (plain_cell cell.now)) }
 {
     let Some((width, rest)) = numbers(cell).split_first() else {
-        return Err(Memory);
+        unreachable!()
     };
     let Ok(width) = u8::try_from(*width) else {
-        return Err(Memory);
+        unreachable!()
     };
     Ok(External {
         name: Name::from_bytes(alloc, cell.name.bytes())?,
@@ -46,6 +47,7 @@ fn external(alloc: Global, number: usize, cell: &Cell) -> Result<External, Memor
 
 /// The external cells among cells, in cell order.
 fn external_cells(alloc: Global, cells: &[Cell]) -> Result<Vec<External>, Memory>
+    requires words { ExternalsHaveWords (map plain_cell cells.now) }
     ensures value { IfOk result (λ externals. plain_externals externals.items ≡ lists_from plain.cell_externals 0 (map plain_cell cells.now)) }
 {
     let mut externals = Vec::new(alloc);
@@ -59,6 +61,7 @@ fn external_cells(alloc: Global, cells: &[Cell]) -> Result<Vec<External>, Memory
 
 /// The external cells of `main`.
 pub fn externals(alloc: Global, net: &Net) -> Result<Vec<External>, Memory>
+    requires net { CanBeEmitted (plain_net net.now) }
     ensures value { IfOk result (λ externals. plain_externals externals.items ≡ (plain.source_of (plain_net net.now)).externals) }
 {
     match net.components().get(net.main() as usize) {

@@ -1,13 +1,14 @@
 //! Registers.
 
-ghost use Rattle.std.specs.Prelude.{◌≡◌, ◌++◌, IfOk, OnOk, map, option_map};
+ghost use Rattle.std.specs.Prelude.{◌≡◌, ◌++◌, All, IfOk, OnOk, map, option_map};
+ghost use Rattle.cx_prim.specs.Widths.{IsWidth};
 ghost use Rattle.cx_vtree.specs.Plain.{SetTo};
 ghost use Rattle.cx_vtree.specs.PlainParts.{plain_assign, plain_decl, plain_edge, plain_item};
 ghost use Rattle.cx_emit.specs.Driven.{edge_with};
 ghost use Rattle.cx_emit.specs.Numbered.{with_numbers};
 ghost use Rattle.cx_emit.specs.Sources.{register_decl, register_reset};
 
-use crate::exprs::literal;
+use crate::exprs::zero;
 use crate::names::register_name;
 use cx_text::Memory;
 use cx_vtree::{Decl, Edge, EdgeItem, NetAssign};
@@ -28,13 +29,14 @@ pub fn add_registers(alloc: Global, decls: &mut Vec<Decl>, widths: &[u8]) -> Res
 
 /// With reset each register becomes 0.
 fn reset(alloc: Global, widths: &[u8]) -> Result<Vec<NetAssign>, Memory>
+    requires wide { All IsWidth widths.now }
     ensures value { IfOk result (λ sets. map plain_assign sets.items ≡ with_numbers register_reset widths.now) }
 {
     let mut sets = Vec::with_capacity(alloc, widths.len())?;
     for (number, width) in widths.iter().enumerate() {
         sets.push(NetAssign {
             name: register_name(alloc, number)?,
-            value: literal(*width, 0)?,
+            value: zero(*width),
         })?;
     }
     Ok(sets)
@@ -53,6 +55,7 @@ fn step(alloc: Global, driven: Vec<NetAssign>) -> Result<Vec<EdgeItem>, Memory>
 
 /// The edge of a module with registers of these widths, and what drives them.
 pub fn edge(alloc: Global, widths: &[u8], driven: Vec<NetAssign>) -> Result<Option<Edge>, Memory>
+    requires wide { All IsWidth widths.now }
     ensures value { IfOk result (λ edge. option_map plain_edge edge ≡ edge_with widths.now (map plain_assign driven.items)) }
 {
     if widths.is_empty() {

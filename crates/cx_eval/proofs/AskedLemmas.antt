@@ -6,9 +6,9 @@ use Rattle.cx_meaning.specs.Designs.{component_at}
 use Rattle.cx_design.specs.declared.actives.Active.{Active}
 use Rattle.cx_state.specs.Tables.{row_at}
 use Rattle.cx_state.specs.States.{PlainInstance, instance_state}
-use Rattle.cx_eval_demand.specs.Demands.{Ready}
-use Rattle.cx_eval_demand.specs.declared.marks.NodeMark.{NodeMark}
-use Rattle.cx_eval_demand.specs.declared.marks.NodeMark.TheVariants.{Known}
+use Rattle.cx_eval_network.specs.Demands.{Ready}
+use Rattle.cx_eval_network.specs.declared.marks.NodeMark.{NodeMark}
+use Rattle.cx_eval_network.specs.declared.marks.NodeMark.TheVariants.{Known}
 use Rattle.cx_eval_network.specs.declared.numbering.Nodes.{Nodes}
 use Rattle.cx_eval_network.specs.Nodes.{node_count}
 use Rattle.cx_eval_network.specs.Networks.{Asked, look_at, value_at}

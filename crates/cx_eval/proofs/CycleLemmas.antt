@@ -15,7 +15,7 @@ use Rattle.cx_design.specs.PlainActives.{plain_active}
 use Rattle.cx_state.specs.Tables.{IsNumber, row_at}
 use Rattle.cx_state.specs.States.{HoldCells, IsStateOf, PlainInstance, StandsFor, inputs_held, instance_state, put_path, under_path}
 use Rattle.cx_state.proofs.ChangeLemmas.{cycle_changed}
-use Rattle.cx_eval_demand.specs.declared.marks.NodeMark.{NodeMark}
+use Rattle.cx_eval_network.specs.declared.marks.NodeMark.{NodeMark}
 use Rattle.cx_eval_network.specs.Networks.{Asked, path_at, seen_at}
 use Rattle.cx_eval_network.proofs.NetworkLemmas.{get_there}
 use Rattle.cx_eval_cycle.specs.declared.passes.CellFault.{CellFault}

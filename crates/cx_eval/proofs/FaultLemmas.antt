@@ -6,7 +6,7 @@ use Rattle.cx_prim.specs.CellStates.{CellState}
 use Rattle.cx_prim.specs.Table.{PrimitiveRow, row_of}
 use Rattle.cx_meaning.specs.Designs.{PlainKind, OfPrimitive, OfComponent, PlainCell}
 use Rattle.cx_meaning.specs.Sights.{Look}
-use Rattle.cx_eval_demand.specs.declared.marks.NodeMark.{NodeMark}
+use Rattle.cx_eval_network.specs.declared.marks.NodeMark.{NodeMark}
 use Rattle.cx_design.specs.declared.cells.Cell.{Cell}
 use Rattle.cx_design.specs.declared.cells.CellKind.{CellKind}
 use Rattle.cx_design.specs.PlainForms.{plain_cell, plain_kind}

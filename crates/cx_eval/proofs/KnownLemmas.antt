@@ -10,9 +10,9 @@ use Rattle.cx_meaning.specs.declared.sights.Seen.TheVariants.{Value}
 use Rattle.cx_meaning.specs.Designs.{OfPrimitive}
 use Rattle.cx_meaning.specs.Instances.{Set}
 use Rattle.cx_meaning.specs.Sights.{Gathered, gather_port}
-use Rattle.cx_eval_demand.specs.Demands.{Demanded, Ready}
-use Rattle.cx_eval_demand.specs.declared.marks.NodeMark.{NodeMark}
-use Rattle.cx_eval_demand.specs.declared.marks.NodeMark.TheVariants.{Unseen, Open, Known}
+use Rattle.cx_eval_network.specs.Demands.{Demanded, Ready}
+use Rattle.cx_eval_network.specs.declared.marks.NodeMark.{NodeMark}
+use Rattle.cx_eval_network.specs.declared.marks.NodeMark.TheVariants.{Unseen, Open, Known}
 use Rattle.cx_eval_drives.specs.Gathers.{gather_all}
 use Rattle.cx_eval_network.specs.Networks.{shown, node_shown}
 use Rattle.cx_eval_network.proofs.ValueLemmas.{known_shown}

@@ -8,8 +8,8 @@ use Rattle.cx_meaning.specs.Active.{Active}
 use Rattle.cx_meaning.specs.Instances.{Instance, Node, State, tree_of}
 use Rattle.cx_meaning.specs.Sights.{Held, seen}
 use Rattle.cx_rules.specs.Wellformed.{IsThere}
-use Rattle.cx_eval_demand.specs.declared.marks.NodeMark.{NodeMark}
-use Rattle.cx_eval_demand.specs.declared.marks.NodeMark.TheVariants.{Known}
+use Rattle.cx_eval_network.specs.declared.marks.NodeMark.{NodeMark}
+use Rattle.cx_eval_network.specs.declared.marks.NodeMark.TheVariants.{Known}
 use Rattle.cx_state.specs.States.{under_path}
 use Rattle.cx_state.specs.ReadStates.{state_in}
 use Rattle.cx_eval_network.specs.declared.numbering.Nodes.{Nodes}

@@ -5,7 +5,7 @@ use Rattle.cx_prim.specs.Rows.{Inputs, Row}
 use Rattle.cx_meaning.specs.declared.ports.PortRef.TheVariants.{Cell}
 use Rattle.cx_meaning.specs.Sights.{Given, gather}
 use Rattle.cx_meaning.specs.Cycles.{enables, looks_at}
-use Rattle.cx_eval_demand.specs.declared.marks.NodeMark.{NodeMark}
+use Rattle.cx_eval_network.specs.declared.marks.NodeMark.{NodeMark}
 use Rattle.cx_eval_drives.specs.Gathers.{wanted_at}
 use Rattle.cx_eval_network.specs.declared.asking.Asking.{Asking}
 use Rattle.cx_eval_cycle.specs.Stops.{AreMarked}

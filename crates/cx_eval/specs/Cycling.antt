@@ -5,7 +5,7 @@ use Rattle.cx_meaning.specs.Designs.{PlainCell}
 use Rattle.cx_meaning.specs.Instances.{Set}
 use Rattle.cx_meaning.specs.Sights.{Look}
 use Rattle.cx_state.specs.States.{PlainInstance, instance_state}
-use Rattle.cx_eval_demand.specs.declared.marks.NodeMark.{NodeMark}
+use Rattle.cx_eval_network.specs.declared.marks.NodeMark.{NodeMark}
 use Rattle.cx_eval_network.specs.Nodes.{node_at}
 use Rattle.cx_eval_network.specs.Networks.{Asked, look_at, node_shown, seen_at}
 use Rattle.cx_eval_cycle.specs.declared.passes.CellFault.{CellFault}

@@ -12,9 +12,9 @@ use Rattle.cx_meaning.specs.Cycles.{enables, looks_at}
 use Rattle.cx_design.specs.PlainDesigns.{plain_design}
 use Rattle.cx_state.specs.Tables.{row_at}
 use Rattle.cx_state.specs.States.{instance_state, plain_state}
-use Rattle.cx_eval_demand.specs.Demands.{Ready}
-use Rattle.cx_eval_demand.specs.declared.marks.NodeMark.{NodeMark}
-use Rattle.cx_eval_demand.specs.declared.marks.NodeMark.TheVariants.{Known}
+use Rattle.cx_eval_network.specs.Demands.{Ready}
+use Rattle.cx_eval_network.specs.declared.marks.NodeMark.{NodeMark}
+use Rattle.cx_eval_network.specs.declared.marks.NodeMark.TheVariants.{Known}
 use Rattle.cx_eval_network.specs.Nodes.{node_at, node_count}
 use Rattle.cx_eval_network.specs.Networks.{look_at, seen_at, value_at}
 use Rattle.cx_eval_network.specs.declared.asking.Asking.{Asking}

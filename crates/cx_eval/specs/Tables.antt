@@ -11,8 +11,8 @@ use Rattle.cx_design.specs.declared.actives.Active.TheVariants as actives
 use Rattle.cx_design.specs.PlainDesigns.{plain_design}
 use Rattle.cx_state.specs.Tables.{IsTable, row_at}
 use Rattle.cx_state.specs.States.{PlainInstance}
-use Rattle.cx_eval_demand.specs.Demands.{Ready}
-use Rattle.cx_eval_demand.specs.declared.marks.NodeMark.{NodeMark}
+use Rattle.cx_eval_network.specs.Demands.{Ready}
+use Rattle.cx_eval_network.specs.declared.marks.NodeMark.{NodeMark}
 use Rattle.cx_eval_network.specs.Nodes.{IsNodesOf, node_count}
 use Rattle.cx_eval_drives.specs.Drivers.{AreDrivers}
 use Rattle.cx_eval_network.specs.Networks.{Asked, value_at}

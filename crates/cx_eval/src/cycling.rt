@@ -18,8 +18,7 @@ use crate::tables::{Tables, ask};
 use crate::{first_fault, first_fault_among};
 use cx_design::{Active, PortFault, PortRef};
 use cx_eval_cycle::CellFault;
-use cx_eval_demand::Marks;
-use cx_eval_network::Asking;
+use cx_eval_network::{Asking, Marks};
 use cx_state::State;
 
 /// The first fault among the listed cells of the asked instance.

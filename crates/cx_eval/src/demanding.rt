@@ -10,9 +10,8 @@ ghost use Rattle.cx_eval.specs.Looked.{CanDemand, HaveNodes, IsKnownPort, KnowsM
 
 use cx_bits::Bits;
 use cx_design::PortRef;
-use cx_eval_demand::Marks;
 use cx_eval_drives::{Lack, gather};
-use cx_eval_network::{Asking, InstancePorts, MarkedPorts};
+use cx_eval_network::{Asking, InstancePorts, MarkedPorts, Marks};
 
 /// Demands a port of the asked instance, where it is wanted.
 fn demand_wanted(

@@ -16,7 +16,7 @@ use crate::sights::seen_in;
 use crate::tables::Tables;
 use crate::turns::{GroupTurn, turn_in};
 use cx_design::{Active, Checked, PortFault, PortRef, Seen};
-use cx_eval_demand::Marks;
+use cx_eval_network::Marks;
 use cx_state::State;
 use cx_text::Memory;
 use std::alloc::Global;

@@ -16,8 +16,7 @@ use cx_bits::Bits;
 use cx_cells::PrimState;
 use cx_design::{Cell, CellKind};
 use cx_eval_cycle::CellFault;
-use cx_eval_demand::Marks;
-use cx_eval_network::Asking;
+use cx_eval_network::{Asking, Marks};
 use cx_prim::Cycle;
 
 /// The fault of a cell. A component's cell has none, and none has a number that names no cell.

@@ -3,8 +3,8 @@
 ghost use Rattle.std.specs.Prelude.{◌≡◌, ℕ, List, Some};
 ghost use Rattle.cx_prim.specs.Table.{PrimitiveRow, row_of};
 ghost use Rattle.cx_meaning.specs.Designs.{OfPrimitive};
-ghost use Rattle.cx_eval_demand.specs.declared.marks.NodeMark.{NodeMark};
-ghost use Rattle.cx_eval_demand.specs.Demands.{Ready};
+ghost use Rattle.cx_eval_network.specs.declared.marks.NodeMark.{NodeMark};
+ghost use Rattle.cx_eval_network.specs.Demands.{Ready};
 ghost use Rattle.cx_eval_drives.specs.Gathers.{AreWide, ports_seen};
 ghost use Rattle.cx_eval_network.specs.declared.asking.Asking.{Asking};
 ghost use Rattle.cx_eval_network.specs.Askings.{IsAsking};

@@ -11,9 +11,8 @@ ghost use Rattle.cx_eval.specs.Tables.{AreReady, AreTables, design_of};
 
 use crate::tables::{Tables, ask};
 use cx_design::{Active, PortRef, Seen};
-use cx_eval_demand::Marks;
 use cx_eval_drives::Look;
-use cx_eval_network::{Asking, MarkedPorts};
+use cx_eval_network::{Asking, MarkedPorts, Marks};
 use cx_state::State;
 
 /// Finds what a port of the asked instance is seen as, where it has a node.

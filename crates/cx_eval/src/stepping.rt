@@ -11,8 +11,7 @@ use crate::listing::Listed;
 use crate::tables::{Tables, cells_of};
 use cx_cells::PrimState;
 use cx_eval_cycle::{step_cells, step_listed};
-use cx_eval_demand::NodeMark;
-use cx_eval_network::MarkedPorts;
+use cx_eval_network::{MarkedPorts, NodeMark};
 use cx_state::State;
 
 /// Room for the ports of any primitive: the longest row is that of a sequential memory of four dimensions, with nine.

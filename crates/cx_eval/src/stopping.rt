@@ -17,8 +17,7 @@ use cx_cells::{PrimState, Primitive};
 use cx_design::FaultKind;
 use cx_eval_cycle::laws::cells_without_enabling_stay;
 use cx_eval_cycle::{CellStop, has_enabling, mark_enabling, mark_looked, out_of_range, stop_at};
-use cx_eval_demand::Marks;
-use cx_eval_network::Asking;
+use cx_eval_network::{Asking, Marks};
 
 /// The port at which a primitive of the asked instance stops a cycle, if it does. Its enabling ports are demanded, and then
 /// those that it demands at their values. A primitive that has no enabling port is passed over.

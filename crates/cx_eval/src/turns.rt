@@ -16,8 +16,8 @@ use crate::listing::Listed;
 use crate::sights::seen_in;
 use crate::tables::Tables;
 use cx_design::{Active, PortFault, PortRef, Seen};
-use cx_eval_demand::Marks;
 use cx_eval_drives::{Truth, truth_of};
+use cx_eval_network::Marks;
 use cx_state::State;
 
 /// What a turn of a group comes to.

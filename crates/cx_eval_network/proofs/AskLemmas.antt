@@ -27,8 +27,8 @@ use Rattle.cx_state.specs.Tables.{child_of, row_at}
 use Rattle.cx_state.specs.States.{HoldCells, StandsFor, inputs_held, instance_state, under_path}
 use Rattle.cx_state.specs.ReadStates.{state_in}
 use Rattle.cx_eval_drives.specs.Drivers.{AreDrivers}
-use Rattle.cx_eval_demand.specs.declared.marks.NodeMark.{NodeMark}
-use Rattle.cx_eval_demand.specs.Demands.{AreKnown}
+use Rattle.cx_eval_network.specs.declared.marks.NodeMark.{NodeMark}
+use Rattle.cx_eval_network.specs.Demands.{AreKnown}
 use Rattle.cx_design_leads.specs.Nodes.{cell_count, node_of}
 use Rattle.cx_design_leads.proofs.NodeLemmas.{component_cells, component_part}
 use Rattle.cx_eval_network.specs.declared.numbering.NodePort.{NodePort}

@@ -18,9 +18,9 @@ use Rattle.cx_eval_drives.specs.Drives.{acting_of}
 use Rattle.cx_state.specs.declared.tables.InstanceRow.{InstanceRow}
 use Rattle.cx_state.specs.Tables.{child_of}
 use Rattle.cx_eval_drives.specs.Lacks.{first_lack, lack_or}
-use Rattle.cx_eval_demand.specs.declared.marks.NodeMark.{NodeMark}
-use Rattle.cx_eval_demand.specs.declared.marks.NodeMark.TheVariants.{Unseen, Open, Known}
-use Rattle.cx_eval_demand.specs.Demands.{AreKnown, IsRight, is_known, known_at}
+use Rattle.cx_eval_network.specs.declared.marks.NodeMark.{NodeMark}
+use Rattle.cx_eval_network.specs.declared.marks.NodeMark.TheVariants.{Unseen, Open, Known}
+use Rattle.cx_eval_network.specs.Demands.{AreKnown, IsRight, is_known, known_at}
 use Rattle.cx_eval_network.specs.declared.numbering.NodePort.{NodePort}
 use Rattle.cx_eval_network.specs.Nodes.{node_at}
 use Rattle.cx_eval_network.specs.LeadPorts.{lead_ports, named_by}

@@ -1,3 +1,6 @@
+pub mod DemandSteps
+pub mod Touching
+pub mod GroundLemmas
 pub mod PartLemmas
 pub mod NodeLemmas
 pub mod PlaceLemmas

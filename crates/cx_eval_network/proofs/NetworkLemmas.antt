@@ -9,14 +9,14 @@ use Rattle.cx_rules.specs.Footprints.{Leads}
 use Rattle.cx_state.specs.Tables.{IsNumber, child_of, row_at}
 use Rattle.cx_state.proofs.PreOrder.{stands}
 use Rattle.cx_state.proofs.ChangeLemmas.{one_number}
-use Rattle.cx_eval_demand.specs.Demands.{IsGrounded, StaysWithin}
+use Rattle.cx_eval_network.specs.Demands.{IsGrounded, StaysWithin}
 use Rattle.cx_eval_network.specs.declared.numbering.NodePort.{NodePort}
 use Rattle.cx_eval_network.specs.declared.numbering.Nodes.{Nodes}
 use Rattle.cx_eval_network.specs.Nodes.{IsAt, IsPortOf, first_node, found_at, node_at, node_count, part_at}
 use Rattle.cx_eval_network.proofs.FoundLemmas.{found_is}
 use Rattle.cx_eval_network.proofs.NodeLemmas.{nodes_apart, nodes_within}
-use Rattle.cx_eval_demand.specs.Ports.{PortNodes, LeadOn}
-use Rattle.cx_eval_demand.proofs.GroundLemmas.{grounded}
+use Rattle.cx_eval_network.specs.Ports.{PortNodes, LeadOn}
+use Rattle.cx_eval_network.proofs.GroundLemmas.{grounded}
 use Rattle.cx_eval_network.specs.LeadPorts.{lead_ports}
 use Rattle.cx_eval_network.specs.Networks.{Asked, path_at, instance_of, active_at, nodes_of, output_node, child_node, below_nodes, if_asked, asked_port, leads_of, leads_at, IsNetwork}
 use Rattle.cx_eval_network.proofs.LeadLemmas.{lead_ports_are, in_either}

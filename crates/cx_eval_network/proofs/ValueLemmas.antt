@@ -27,9 +27,9 @@ use Rattle.cx_state.proofs.TableLemmas.{further}
 use Rattle.cx_state.specs.States.{inputs_held, under_path}
 use Rattle.cx_state.specs.ReadStates.{state_in}
 use Rattle.cx_eval_drives.proofs.StepLemmas.{decided}
-use Rattle.cx_eval_demand.specs.declared.marks.NodeMark.{NodeMark}
-use Rattle.cx_eval_demand.specs.declared.marks.NodeMark.TheVariants.{Known}
-use Rattle.cx_eval_demand.specs.Demands.{AreKnown}
+use Rattle.cx_eval_network.specs.declared.marks.NodeMark.{NodeMark}
+use Rattle.cx_eval_network.specs.declared.marks.NodeMark.TheVariants.{Known}
+use Rattle.cx_eval_network.specs.Demands.{AreKnown}
 use Rattle.cx_design_leads.specs.Nodes as part
 use Rattle.cx_design_leads.specs.Edges.{ReadsInRow}
 use Rattle.cx_design_leads.proofs.DriverLemmas.{driver_of, of_owner, leads_either}

@@ -12,7 +12,7 @@ use Rattle.cx_design.specs.PlainActives.{plain_active}
 use Rattle.cx_state.specs.declared.tables.InstanceRow.{InstanceRow}
 use Rattle.cx_state.specs.Tables.{child_of}
 use Rattle.cx_state.specs.States.{IsStateOf, PlainInstance, instance_state}
-use Rattle.cx_eval_demand.specs.declared.marks.NodeMark.{NodeMark}
+use Rattle.cx_eval_network.specs.declared.marks.NodeMark.{NodeMark}
 use Rattle.cx_eval_network.specs.declared.numbering.Nodes.{Nodes}
 use Rattle.cx_eval_network.specs.Nodes.{node_at}
 use Rattle.cx_eval_drives.specs.declared.driving.Drivers.{Drivers}

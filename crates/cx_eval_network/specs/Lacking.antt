@@ -3,8 +3,8 @@ use Rattle.std.specs.Prelude.{ℕ, Bool, true, List, [], ◌∷◌, Option, Some
 use Rattle.cx_meaning.specs.declared.ports.PortRef.{PortRef}
 use Rattle.cx_meaning.specs.Active.{Owned}
 use Rattle.cx_rules.specs.Items.{sources_of}
-use Rattle.cx_eval_demand.specs.declared.marks.NodeMark.{NodeMark}
-use Rattle.cx_eval_demand.specs.Demands.{known_at}
+use Rattle.cx_eval_network.specs.declared.marks.NodeMark.{NodeMark}
+use Rattle.cx_eval_network.specs.Demands.{known_at}
 use Rattle.cx_eval_drives.specs.Lacks.{first_lack}
 
 abbrev pub lacking : (PortRef → Bool) → List PortRef → Option PortRef

@@ -1,3 +1,6 @@
+pub mod Demands
+pub mod Touches
+pub mod Ports
 pub mod Parts
 pub mod Nodes
 pub mod LeadPorts

@@ -12,8 +12,8 @@ use Rattle.cx_rules.specs.Circles.{AcyclicBelow, IsAcyclic}
 use Rattle.cx_rules.specs.Footprints.{Leads}
 use Rattle.cx_rules.specs.Ports.{keeps_literal}
 use Rattle.cx_rules.specs.Wellformed.{IsDesign}
-use Rattle.cx_eval_demand.specs.declared.marks.NodeMark.{NodeMark}
-use Rattle.cx_eval_demand.specs.declared.marks.NodeMark.TheVariants.{Unseen, Open, Known}
+use Rattle.cx_eval_network.specs.declared.marks.NodeMark.{NodeMark}
+use Rattle.cx_eval_network.specs.declared.marks.NodeMark.TheVariants.{Unseen, Open, Known}
 use Rattle.cx_state.specs.declared.tables.InstanceRow.{InstanceRow}
 use Rattle.cx_state.specs.Tables.{IsTable, child_of}
 use Rattle.cx_state.specs.States.{PlainInstance, inputs_held, under_path}

@@ -1,6 +1,7 @@
-//! What is asked of a design.
+//! What is asked of a design, as a network.
 
-use crate::Nodes;
+use crate::looking::look_at_node;
+use crate::{Found, Network, NodeMark, Nodes};
 use cx_design::{Active, Design};
 use cx_eval_drives::Drivers;
 use cx_state::{InstanceTable, State};
@@ -17,4 +18,19 @@ pub struct Asking<'a> {
     /// The empty active set, for the instances below.
     pub nothing: &'a Active,
     pub instance: usize,
+}
+
+impl Network for Asking<'_> {
+    ghost use Rattle.cx_eval_network.specs.Networks as networks;
+    ghost use Rattle.cx_eval_network.specs.Askings.{IsAsking, asked_of};
+
+    ghost leads = { λ a. networks.leads_at (asked_of a) a.nodes.now };
+
+    ghost value = { λ a. networks.value_at (asked_of a) a.nodes.now };
+
+    ghost sound = { IsAsking };
+
+    fn look(&self, marks: &[NodeMark], node: usize) -> Found {
+        look_at_node(self, marks, node)
+    }
 }

@@ -3,9 +3,8 @@
 ghost use Rattle.cx_design.specs.PlainDesigns.{plain_design};
 ghost use Rattle.cx_eval_network.specs.Nodes.{ArePortsOf};
 
-use crate::InstancePorts;
+use crate::{InstancePorts, NodeMark, is_known};
 use cx_design::{Design, PortRef};
-use cx_eval_demand::{NodeMark, is_known};
 use cx_eval_drives::Known;
 use cx_state::InstanceTable;
 

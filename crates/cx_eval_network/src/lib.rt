@@ -1,18 +1,23 @@
 //! The ports of all instances of a design as the nodes of one network, under what is active in an instance that is
-//! asked: what each node leads to, and its value by one step from what is known of these.
+//! asked: what each node leads to, its value by one step from what is known of these, and the demand that finds
+//! each value once.
 #![tactic(auto)]
 
 mod asking;
 mod below;
 mod called;
 mod children;
+pub mod demand_laws;
+mod demands;
 mod driven;
+mod finding;
 mod instance_ports;
 mod known;
 mod lacking;
 mod literals;
 mod looking;
 mod marked;
+mod marks;
 mod network;
 mod network_laws;
 mod node_laws;
@@ -23,13 +28,17 @@ mod places;
 mod step_below;
 mod step_places;
 mod steps;
+mod touched;
 mod unknown;
 mod values;
 
 pub use asking::Asking;
+pub use demands::Marks;
 pub use driven::driven_seen;
 pub use instance_ports::InstancePorts;
 pub use marked::MarkedPorts;
+pub use marks::{NodeMark, is_known};
+pub use network::{Found, Network};
 pub use network_laws::{
     accepted_designs_are_networks, known_nodes_decide, lead_ports_lead, networks_are_grounded,
     networks_stay_within,

@@ -1,17 +1,16 @@
 //! What a look at a node finds.
 
 ghost use Rattle.std.specs.Prelude.{Some};
-ghost use Rattle.cx_eval_demand.specs.Demands.{IsRight, Looked};
+ghost use Rattle.cx_eval_network.specs.Demands.{IsRight, Looked};
 ghost use Rattle.cx_eval_network.specs.Networks.{leads_at, leads_of, value_at, value_of};
 ghost use Rattle.cx_eval_network.specs.Askings.{IsAsking, IsFound, asked_of};
 
-use crate::NodePort;
 use crate::asking::Asking;
 use crate::places::{asked_port, place_of};
 use crate::unknown::unknown_from;
 use crate::values::found_value;
+use crate::{Found, NodeMark, NodePort};
 use cx_design::Seen;
-use cx_eval_demand::{Found, NodeMark};
 
 /// The value of a node, or the first node that it leads to and that is not known. It takes no memory.
 pub fn look_at_node(asking: &Asking<'_>, marks: &[NodeMark], node: usize) -> Found

@@ -5,10 +5,9 @@ ghost use Rattle.cx_design.specs.PlainDesigns.{plain_design};
 ghost use Rattle.cx_eval_network.specs.Nodes.{ArePortsOf};
 ghost use Rattle.cx_eval_network.specs.Networks.{node_shown, shown};
 
-use crate::InstancePorts;
 use crate::literals::literal_seen;
+use crate::{InstancePorts, NodeMark};
 use cx_design::{Design, PortRef, Seen};
-use cx_eval_demand::NodeMark;
 use cx_eval_drives::Look;
 use cx_state::InstanceTable;
 

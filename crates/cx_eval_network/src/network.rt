@@ -1,20 +1,33 @@
-//! What is asked, as a network.
+//! Nodes that depend on one another.
 
-use crate::asking::Asking;
-use crate::looking::look_at_node;
-use cx_eval_demand::{Found, Network, NodeMark};
+ghost use Rattle.std.specs.Prelude.{ℕ, List};
+ghost use Rattle.cx_meaning.specs.declared.sights.Seen.{Seen};
+ghost use Rattle.cx_eval_network.specs.Demands.{IsRight, Looked};
 
-impl Network for Asking<'_> {
-    ghost use Rattle.cx_eval_network.specs.Networks as networks;
-    ghost use Rattle.cx_eval_network.specs.Askings.{IsAsking, asked_of};
+use crate::marks::NodeMark;
+use cx_meaning::Seen;
 
-    ghost leads = { λ a. networks.leads_at (asked_of a) a.nodes.now };
+/// What a look at a node finds: its value, or a node that it depends on at once and that is not known.
+#[derive(Clone, Copy, Debug, PartialEq, Eq)]
+pub enum Found {
+    Worth(Seen),
+    Waits(usize),
+}
 
-    ghost value = { λ a. networks.value_at (asked_of a) a.nodes.now };
+/// Nodes by their numbers, each with a value that those that it leads to give.
+pub trait Network {
+    /// The nodes that a node depends on at once.
+    ghost leads: { Self → ℕ → List ℕ };
 
-    ghost sound = { IsAsking };
+    /// The value of each node.
+    ghost value: { Self → ℕ → Seen };
 
-    fn look(&self, marks: &[NodeMark], node: usize) -> Found {
-        look_at_node(self, marks, node)
-    }
+    /// What has to hold where nodes are asked.
+    ghost sound: { Self → Type 0 };
+
+    /// The value of a node; or, where not all nodes that it depends on at once are known, one of these that is not. It takes no memory.
+    fn look(&self, marks: &[NodeMark], node: usize) -> Found
+        requires sound { sound self.now }
+        requires right { IsRight (value self.now) marks.now }
+        ensures found { Looked (leads self.now node) (value self.now node) marks.now result };
 }

@@ -13,10 +13,9 @@ use crate::asking::Asking;
 use crate::children::child_in;
 use crate::known::KnownPorts;
 use crate::lacking::lacking_port;
-use crate::{NodePort, PortContext};
+use crate::{NodeMark, NodePort, PortContext, is_known};
 use cx_design::PortRef;
 use cx_design_parts::{At, PartPort, part_port, stands_at};
-use cx_eval_demand::{NodeMark, is_known};
 
 /// The first node that a port leads to that is found, and that is not known. It takes no memory.
 pub fn unknown_from(

@@ -1,15 +1,14 @@
 //! Values of ports.
 
 ghost use Rattle.std.specs.Prelude.{◌≡◌, Some};
-ghost use Rattle.cx_eval_demand.specs.Demands.{AreKnown};
+ghost use Rattle.cx_eval_network.specs.Demands.{AreKnown};
 ghost use Rattle.cx_eval_network.specs.Networks.{leads_of, seen_at, value_at};
 ghost use Rattle.cx_eval_network.specs.Askings.{IsAsking, IsFound, IsPlaceOf, asked_of};
 
 use crate::asking::Asking;
 use crate::below::MarkedBelow;
-use crate::{MarkedPorts, NodePort, PortContext, step_seen};
+use crate::{MarkedPorts, NodeMark, NodePort, PortContext, step_seen};
 use cx_design::Seen;
-use cx_eval_demand::NodeMark;
 use cx_laws::width_laws::found_has_width;
 use cx_state::alike_laws::rows_stand;
 use cx_state::width_laws::states_hold_widths;

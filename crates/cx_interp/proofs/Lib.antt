@@ -1,4 +1,3 @@
-pub mod DesignProp
 pub mod PlanLemmas
 pub mod PathLemmas
 pub mod RanLemmas

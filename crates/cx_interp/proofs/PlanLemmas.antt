@@ -11,7 +11,7 @@ use Rattle.cx_state.proofs.TableLemmas.{few_instances}
 use Rattle.cx_interp_plan.specs.Groups.{AreGroups}
 use Rattle.cx_interp.specs.declared.plan.Plan.{Plan}
 use Rattle.cx_interp.specs.Machines.{design_of, IsPlan}
-use Rattle.cx_interp.proofs.DesignProp.{design_prop}
+use Rattle.cx_eval.proofs.DesignProp.{design_prop}
 
 pub plan_is : (plan : Plan) → IsAccepted (design_of plan) → IsTable (design_of plan) plan.table.rows.items plan.table.children.items
     → ((rows : List InstanceRow) (children : List ℕ) → IsTable (design_of plan) rows children → AreGroups (design_of plan) rows plan.groups.items) → IsPlan plan

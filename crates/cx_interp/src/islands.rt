@@ -21,13 +21,14 @@ use crate::sights::Unclear;
 use cx_design::{Component, Form, PortFault};
 use cx_frames::apart_laws::{active_groups_within, listed_cells_suffice};
 use cx_interp_islands::{
-    accepted_islands_are_short, form_length, static_tests_are_conditions, take_samples,
+    accepted_islands_are_short, static_tests_are_conditions, take_samples,
     taken_samples_are_of_a_run,
 };
 use cx_laws::laws::{
     accepted_has_no_empty_if, islands_run_by_samples, samples_give_the_cycle,
     timers_give_the_active_groups,
 };
+use cx_limits::form_length;
 use cx_meaning::laws::{designs_keep_idle, idle_settles};
 use cx_state::alike_laws::{rows_stand, states_are_seen_alike};
 

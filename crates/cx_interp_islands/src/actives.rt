@@ -10,9 +10,9 @@ ghost use Rattle.cx_interp_islands.specs.Rooms as rooms;
 ghost use Rattle.cx_interp_islands.specs.Rooms.{samples_of};
 
 use crate::counts::{group_count, sample_count};
-use crate::lengths::length_of;
 use crate::offsets::{is_running, round_offset};
 use cx_design::{ActiveEntry, Component, Form, Statement};
+use cx_limits::length_of;
 use cx_text::Memory;
 
 /// Makes room for the active groups of any one cycle.

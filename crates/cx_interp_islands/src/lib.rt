@@ -4,7 +4,6 @@
 mod actives;
 mod counts;
 mod laws;
-mod lengths;
 mod offsets;
 mod sampler;
 mod samples;
@@ -15,6 +14,5 @@ pub use laws::{
     accepted_islands_are_short, sampled_groups_are_together, static_tests_are_conditions,
     taken_samples_are_of_a_run,
 };
-pub use lengths::form_length;
 pub use sampler::Sampler;
 pub use samples::take_samples;

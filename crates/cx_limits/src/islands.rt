@@ -9,7 +9,7 @@ ghost use Rattle.cx_limits.specs.Capped.{capped};
 use cx_design::{Component, Form, GroupKind, Statement};
 
 /// The length of a static group, in cycles; None for another group.
-fn group_length(part: &Component, group: u32) -> Option<u64>
+pub fn group_length(part: &Component, group: u32) -> Option<u64>
     ensures { result ≡ plain.group_length (plain_component part.now) group }
 {
     let group = part.groups.get(group as usize)?;
@@ -19,7 +19,7 @@ fn group_length(part: &Component, group: u32) -> Option<u64>
     }
 }
 
-/// The length of a form in static control, in cycles.
+/// The length of a form in static control, in cycles; 2^64 - 1 where it is longer.
 #[cycle(length)]
 pub fn form_length(part: &Component, form: &Form) -> u64
     ensures { result ≡ capped (plain.form_length (plain_component part.now) (plain_form form.now)) }
@@ -40,9 +40,9 @@ pub fn form_length(part: &Component, form: &Form) -> u64
     }
 }
 
-/// The length of a statement in static control, in cycles.
+/// The length of a statement in static control, in cycles; 2^64 - 1 where it is longer.
 #[cycle(length)]
-fn length_of(part: &Component, statement: &Statement) -> u64
+pub fn length_of(part: &Component, statement: &Statement) -> u64
     ensures { result ≡ capped (plain.length_of (plain_component part.now) (plain_statement statement.now)) }
 {
     form_length(part, &statement.form)

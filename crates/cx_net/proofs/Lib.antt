@@ -1,3 +1,4 @@
+pub mod FollowLemmas
 pub mod DriverLemmas
 pub mod GatherLemmas
 pub mod PortWidths

@@ -1,3 +1,4 @@
+pub mod Realises
 pub mod Nets
 pub mod NetTree
 pub mod NetMeaning

@@ -4,13 +4,13 @@ ghost use Rattle.std.specs.Prelude.{◌≡◌, true, IfOk};
 ghost use Rattle.cx_text.specs.Loading.{FitsRows, plain_loaded, words_loaded};
 ghost use Rattle.cx_rules.specs.Externals.{rows_of};
 ghost use Rattle.cx_net.specs.NetEdges.{net_after};
-ghost use Rattle.cx_net.specs.NetFits.{HasNoHoles, IsFit};
 ghost use Rattle.cx_net.specs.NetMeaning.{NetLook, NetState as StateOf};
 ghost use Rattle.cx_net.specs.NetRuns.{IsWholeLook, is_done, net_start};
 ghost use Rattle.cx_net.specs.NetTree.{net_component_at, net_tree};
 ghost use Rattle.cx_net.specs.Nets.{PlainNet};
 ghost use Rattle.cx_net.specs.PlainNets.{plain_net};
 ghost use Rattle.cx_vnets.specs.Runs.{IsReady};
+ghost use Rattle.cx_emit.specs.Emitted.{CanBeEmitted};
 ghost use Rattle.cx_net_runs.specs.Standing.{StandsIn};
 ghost use Rattle.cx_net_runs.specs.States.{CanStep, StandsFor};
 
@@ -23,8 +23,7 @@ use std::alloc::Global;
 
 /// The machine of a net's source, with the loaded words.
 fn started(alloc: Global, net: &Net, loaded: &Loaded) -> Result<Built, Memory>
-    requires fits { IsFit (plain_net net.now) }
-    requires no_holes { HasNoHoles (plain_net net.now) }
+    requires net { CanBeEmitted (plain_net net.now) }
     requires words { FitsRows (rows_of (net_component_at (plain_net net.now) (plain_net net.now).main).cells) (plain_loaded loaded.now) }
     ensures ready { IfOk result (λ b. IsReady b.machine b.stored b.bench) }
     ensures stands { IfOk result (λ b. StandsIn (plain_net net.now) (net_start (net_tree (plain_net net.now)) (words_loaded (plain_loaded loaded.now))) b.machine b.stored) }
@@ -47,8 +46,7 @@ impl NetState {
     /// The state before the edge with reset: each cell at its start, but the external memories with the loaded words, and each
     /// register 0.
     pub fn start(alloc: Global, net: &Net, loaded: &Loaded) -> Result<NetState, Memory>
-        requires fits { IsFit (plain_net net.now) }
-        requires no_holes { HasNoHoles (plain_net net.now) }
+        requires net { CanBeEmitted (plain_net net.now) }
         requires words { FitsRows (rows_of (net_component_at (plain_net net.now) (plain_net net.now).main).cells) (plain_loaded loaded.now) }
         ensures ready { IfOk result CanStep }
         ensures value { IfOk result (StandsFor (plain_net net.now) (net_start (net_tree (plain_net net.now)) (words_loaded (plain_loaded loaded.now)))) }

@@ -11,9 +11,9 @@ use Rattle.cx_grammar.proofs.Faults.{unexpected_at, over_at, deep_stop, drop-fro
 use Rattle.cx_parse.specs.declared.files.ParseFault.{ParseFault}
 use Rattle.cx_parse.specs.declared.files.ParseFault.TheVariants as faults
 use Rattle.cx_text.specs.declared.places.Place.{Place}
-use Rattle.cx_parse_parts.specs.declared.stops.Stop.{Stop as Stopped}
-use Rattle.cx_parse_parts.specs.declared.stops.Stop.TheVariants as stops
-use Rattle.cx_parse_parts.specs.Answers.{Fails}
+use Rattle.cx_parse.specs.declared.stops.Stop.{Stop as Stopped}
+use Rattle.cx_parse.specs.declared.stops.Stop.TheVariants as stops
+use Rattle.cx_parse.specs.Answers.{Fails}
 use Rattle.cx_parse.specs.Whole.{then_whole, reading, place_at, place_left_of}
 use Rattle.cx_parse.specs.Faults.{IsUnexpectedAt, IsTooDeepAt, IsStop, IsFault}
 

@@ -3,8 +3,8 @@ use Rattle.std.specs.Prelude.{◌≡◌, List, length}
 use Rattle.cx_text.specs.declared.places.Place.{Place}
 use Rattle.cx_ast.specs.declared.tokens.Token.{Token}
 use Rattle.cx_grammar.specs.Parsing.{IsUnexpected, IsDeep}
-use Rattle.cx_parse_parts.specs.declared.stops.Stop.{Stop}
-use Rattle.cx_parse_parts.specs.declared.stops.Stop.TheVariants as stops
+use Rattle.cx_parse.specs.declared.stops.Stop.{Stop}
+use Rattle.cx_parse.specs.declared.stops.Stop.TheVariants as stops
 use Rattle.cx_parse.specs.Whole.{place_at}
 use Rattle.cx_parse.specs.declared.files.ParseFault.{ParseFault}
 use Rattle.cx_parse.specs.declared.files.ParseFault.TheVariants as faults

@@ -1,14 +1,14 @@
 //! Reading cells.
 
 ghost use Rattle.std.specs.Prelude.{◌≡◌, [], ◌∷◌, map};
-ghost use Rattle.cx_parse_parts.specs.Answers.{Gives, with_front};
+ghost use Rattle.cx_parse.specs.Answers.{Gives, with_front};
 ghost use Rattle.cx_grammar.specs.Reading.{read, one_at};
 ghost use Rattle.cx_grammar.specs.Calyx.{nested_at, next_number, more_numbers, numbers, cell_kind, cell, cell_list, cells};
 ghost use Rattle.cx_ast.specs.PlainTree.{plain_cell};
 
+use crate::{Parser, Stop, attributes, marks, name, next_in, next_is, number, sign};
 use cx_ast::{CellItem, Token};
 use cx_grammar::Terminal;
-use cx_parse_parts::{Parser, Stop, attributes, marks, name, next_in, next_is, number, sign};
 use cx_text::{Name, Place};
 
 /// The terminals that a cell begins with.

@@ -1,7 +1,7 @@
 //! Reading components.
 
 ghost use Rattle.std.specs.Prelude.{◌≡◌, map, option_map};
-ghost use Rattle.cx_parse_parts.specs.Answers.{Gives};
+ghost use Rattle.cx_parse.specs.Answers.{Gives};
 ghost use Rattle.cx_grammar.specs.Reading.{read, one_at};
 ghost use Rattle.cx_grammar.specs.Calyx.{nested_at, component_word, signature, body, component};
 ghost use Rattle.cx_ast.specs.PlainStatements.{plain_block};
@@ -11,9 +11,9 @@ use crate::cells::cells;
 use crate::groups::wires_part;
 use crate::ports::{outputs, ports};
 use crate::statements::control;
+use crate::{Parser, Stop, attributes, length_of, marks, name, next_is, sign};
 use cx_ast::{Block, CellItem, ComponentItem, Mark, PortItem, Token, WireItem};
 use cx_grammar::Terminal;
-use cx_parse_parts::{Parser, Stop, attributes, length_of, marks, name, next_is, sign};
 use cx_text::{Name, Place};
 
 /// Cells, wires and control.

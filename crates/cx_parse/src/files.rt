@@ -1,9 +1,9 @@
 //! Reading a whole file.
 
 ghost use Rattle.std.specs.Prelude.{◌≡◌, ◌<◌, ◌^◌, ◌⊎◌, [], ◌∷◌, length, map, IfOk, IfErr, MatchResult};
-ghost use Rattle.cx_parse_parts.specs.Answers.{Gives, with_front};
-ghost use Rattle.cx_parse_parts.specs.declared.stops.Stop.{Stop as StopValue};
-ghost use Rattle.cx_parse_parts.specs.declared.stops.Stop.TheVariants as stops;
+ghost use Rattle.cx_parse.specs.Answers.{Gives, with_front};
+ghost use Rattle.cx_parse.specs.declared.stops.Stop.{Stop as StopValue};
+ghost use Rattle.cx_parse.specs.declared.stops.Stop.TheVariants as stops;
 ghost use Rattle.cx_parse.specs.declared.files.ParseFault.{ParseFault as FaultValue};
 ghost use Rattle.cx_parse.specs.declared.files.ParseFault.TheVariants as faults;
 ghost use Rattle.cx_parse.specs.Whole.{whole_at, place_left_of, last_place, reading};
@@ -14,9 +14,9 @@ ghost use Rattle.cx_grammar.specs.Parsing.{Parse};
 ghost use Rattle.cx_ast.specs.PlainTree.{PlainTree, plain_tree, plain_component};
 
 use crate::components::component;
+use crate::{Parser, Stop, import, next_in, next_is};
 use cx_ast::{ComponentItem, ImportItem, Token, Tree};
 use cx_grammar::Terminal;
-use cx_parse_parts::{Parser, Stop, import, next_in, next_is};
 use cx_text::{NESTING, Place};
 use std::alloc::Global;
 

@@ -1,16 +1,16 @@
 //! Reading groups and wires.
 
 ghost use Rattle.std.specs.Prelude.{◌≡◌, map};
-ghost use Rattle.cx_parse_parts.specs.Answers.{Gives, given};
+ghost use Rattle.cx_parse.specs.Answers.{Gives, given};
 ghost use Rattle.cx_grammar.specs.Reading.{read, one_at};
 ghost use Rattle.cx_grammar.specs.Calyx.{nested_at, group_word, bare_group, wire, wire_list, wires_part};
 ghost use Rattle.cx_ast.specs.PlainTree.{plain_group, plain_wire};
 
-use cx_ast::{Attribute, GroupItem, GroupWord, Token, WireItem};
-use cx_grammar::Terminal;
-use cx_parse_parts::{
+use crate::{
     Parser, Stop, assigns, attributes, bare_assign, length_of, marks, name, next_in, next_is, sign,
 };
+use cx_ast::{Attribute, GroupItem, GroupWord, Token, WireItem};
+use cx_grammar::Terminal;
 use cx_text::Place;
 
 /// The terminals that a group or a continuous assignment begins with.

@@ -1,15 +1,15 @@
 //! Reading signatures.
 
 ghost use Rattle.std.specs.Prelude.{◌≡◌, [], ◌∷◌, map};
-ghost use Rattle.cx_parse_parts.specs.Answers.{Gives, with_front};
+ghost use Rattle.cx_parse.specs.Answers.{Gives, with_front};
 ghost use Rattle.cx_grammar.specs.Reading.{read, commas_at};
 ghost use Rattle.cx_grammar.specs.Grammar.{starts};
 ghost use Rattle.cx_grammar.specs.Calyx.{nested_at, port, some_ports, ports, outputs};
 ghost use Rattle.cx_ast.specs.PlainTree.{plain_port};
 
+use crate::{Parser, Stop, after_comma, attributes, name, next_in, next_is, number, sign};
 use cx_ast::{PortItem, Token};
 use cx_grammar::Terminal;
-use cx_parse_parts::{Parser, Stop, after_comma, attributes, name, next_in, next_is, number, sign};
 
 /// The terminals that a port begins with.
 const PORT: [Terminal; 2] = [Terminal::At, Terminal::Name];

@@ -1,18 +1,18 @@
 //! Reading control.
 
 ghost use Rattle.std.specs.Prelude.{◌≡◌, [], ◌∷◌, map, option_map};
-ghost use Rattle.cx_parse_parts.specs.Answers.{Gives, with_front, given};
+ghost use Rattle.cx_parse.specs.Answers.{Gives, with_front, given};
 ghost use Rattle.cx_grammar.specs.Reading.{read, commas_at};
 ghost use Rattle.cx_grammar.specs.Grammar.{Braces, starts};
 ghost use Rattle.cx_grammar.specs.Calyx.{nested_at, nest, enable, seq, par, if_form, while_form, repeat, invoke, static_statement, bind, some_binds, binds, block, control, comb, otherwise, marked_block, if_rest, while_rest, repeat_rest, static_if_rest, invoke_rest, static_rest, static_form, form, statement, statements};
 ghost use Rattle.cx_ast.specs.PlainStatements.{plain_block, plain_form, plain_statement};
 
-use cx_ast::{BindItem, Block, Mark, StatementForm, StatementItem, Token};
-use cx_grammar::Terminal;
-use cx_parse_parts::{
+use crate::{
     Parser, Stop, after_comma, attributes, marks, name, next_in, next_is, no_level, number,
     operand, optional_length, sign,
 };
+use cx_ast::{BindItem, Block, Mark, StatementForm, StatementItem, Token};
+use cx_grammar::Terminal;
 use cx_text::{Name, Place};
 
 /// The terminals that a statement begins with.

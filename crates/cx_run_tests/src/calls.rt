@@ -4,13 +4,13 @@ use crate::runs::turns;
 use cx_driver::Status;
 use std::test::Fail;
 
-const CELLS: &str =
+pub(crate) const CELLS: &str =
     "@external mem = std_mem_d1(32, 1, 1); c = dbl(); d = dbl(); n = nop(); q = quad(); e = acc(); f = bad();
     k = std_reg(32); l = std_reg(32); b = std_reg(1); a = std_add(32); w = std_wire(32);";
 
 /// `sc`, `sk` and `se` store an output of `c`, the register `k` and an output of `e`; `k7` sets `k`. `g` calls `c` with a wire;
 /// `two` captures its output and one more; `mix` captures their sum; `clash` captures what conflicts.
-const WIRES: &str =
+pub(crate) const WIRES: &str =
     "group sc { mem.addr0 = 1'd0; mem.write_data = c.y; mem.write_en = 1'd1; sc[done] = mem.done; }
     group sk { mem.addr0 = 1'd0; mem.write_data = k.out; mem.write_en = 1'd1; sk[done] = mem.done; }
     group se { mem.addr0 = 1'd0; mem.write_data = e.y; mem.write_en = 1'd1; se[done] = mem.done; }
@@ -24,7 +24,7 @@ const WIRES: &str =
 
 /// `dbl` doubles in four turns, `nop` takes one, `quad` calls a `dbl` twice, `acc` adds in two, and `bad` has an output that nothing
 /// drives.
-const CHILDREN: &str =
+pub(crate) const CHILDREN: &str =
     "component dbl(x: 32) -> (y: 32) { cells { r = std_reg(32); a = std_add(32); } wires { y = r.out;
     group p { r.in = x; r.write_en = 1'd1; p[done] = r.done; }
     group q { a.left = r.out; a.right = r.out; r.in = a.out; r.write_en = 1'd1; q[done] = r.done; } } control { seq { p; q; } } }

@@ -1,11 +1,11 @@
 //! Whole calls: the words of a line, the statuses, and outputs that fail. The values were worked by hand: each group takes two turns.
 
 use crate::runs::{FIVE, tells};
-use cx_driver::{Status, Stop, interp};
-use cx_text::Rule;
+use cx_driver::Status;
 use std::test::Fail;
 
-const ADD_THREE: &str = "component main() -> () { cells { @external mem = std_mem_d1(32, 1, 1);
+pub(crate) const ADD_THREE: &str =
+    "component main() -> () { cells { @external mem = std_mem_d1(32, 1, 1);
     r = std_reg(32); a = std_add(32); } wires {
     group rd { mem.addr0 = 1'd0; r.in = mem.read_data; r.write_en = 1'd1; rd[done] = r.done; }
     group up { a.left = r.out; a.right = 32'd3; r.in = a.out; r.write_en = 1'd1; up[done] = r.done; }
@@ -13,14 +13,16 @@ const ADD_THREE: &str = "component main() -> () { cells { @external mem = std_me
     } control { seq { rd; up; wr; } } }";
 
 /// The done of a register stays up for one turn after its write: the second `inc` must not see it.
-const STALE_DONE: &str = "component main() -> () { cells { @external mem = std_mem_d1(32, 1, 1);
+pub(crate) const STALE_DONE: &str =
+    "component main() -> () { cells { @external mem = std_mem_d1(32, 1, 1);
     r = std_reg(32); a = std_add(32); } wires {
     group inc { a.left = r.out; a.right = 32'd1; r.in = a.out; r.write_en = 1'd1; inc[done] = r.done; }
     group st { mem.addr0 = 1'd0; mem.write_data = r.out; mem.write_en = 1'd1; st[done] = mem.done; }
     } control { seq { inc; inc; st; } } }";
 
 /// Four tests, three bodies of two turns, and a store.
-const LOOP: &str = "component main() -> () { cells { @external mem = std_mem_d1(32, 1, 1);
+pub(crate) const LOOP: &str =
+    "component main() -> () { cells { @external mem = std_mem_d1(32, 1, 1);
     r = std_reg(32); a = std_add(32); lt = std_lt(32); } wires {
     group inc { a.left = r.out; a.right = 32'd1; r.in = a.out; r.write_en = 1'd1; inc[done] = r.done; }
     group st { mem.addr0 = 1'd0; mem.write_data = r.out; mem.write_en = 1'd1; st[done] = mem.done; }
@@ -28,7 +30,7 @@ const LOOP: &str = "component main() -> () { cells { @external mem = std_mem_d1(
     } control { seq { while lt.out with c { inc; } st; } } }";
 
 /// `r.in` has two values in the first turn.
-const CONFLICT: &str =
+pub(crate) const CONFLICT: &str =
     "component main() -> () { cells { r = std_reg(8); } wires { group g { r.in = 8'd1; r.in = 8'd2; r.write_en = 1'd1; g[done] = r.done; } }
     control { g; } }";
 
@@ -38,7 +40,7 @@ const OUTSIDE: &str =
     group g { mem.addr0 = 1'd1; mem.write_data = 32'd1; mem.write_en = 1'd1; g[done] = mem.done; } } control { g; } }";
 
 /// Behind a group of two turns a call of `c`, whose register is written with nothing.
-const CHILD: &str =
+pub(crate) const CHILD: &str =
     "component bad() -> () { cells { r = std_reg(8); } wires { group g { r.write_en = 1'd1; g[done] = r.done; } } control { g; } }
     component main() -> () { cells { c = bad(); k = std_reg(8); } wires { group one { k.in = 8'd1; k.write_en = 1'd1; one[done] = k.done; } }
     control { seq { one; invoke c()(); } } }";
@@ -53,7 +55,7 @@ const STATIC_CALL: &str =
     "component main() -> () { cells { } wires { } control { static<1> invoke c()(); } }";
 
 /// A counter of four bits whose `done` is 1 at ten.
-const COUNTER: &str =
+pub(crate) const COUNTER: &str =
     "module main(\n  input wire [0:0] clk,\n  input wire [0:0] reset,\n  input wire [0:0] go,\n  output wire [0:0] done\n);\n  reg [3:0] n;\n  assign done = (n == 4'ha);\n  always @(posedge clk) begin\n    if (reset) begin\n      n <= 4'h0;\n    end else begin\n      n <= (n + 4'h1);\n    end\n  end\nendmodule\n";
 
 /// `other` is no net, on line 7.
@@ -327,6 +329,57 @@ const LENGTHS: [(&str, &str); 14] = [
     ("sim counter wide 9", "too-long wide 16777217\n"),
 ];
 
+/// The same of trials, and of messages whose write fails: a sink for messages changes no status.
+const MORE_LINES: [(&str, (u64, u64), (Status, &str, &str)); 18] = [
+    (
+        "trial 0",
+        (0, 0),
+        (Status::Done, "trial 0 cycles 60 sum 8464\n", ""),
+    ),
+    (
+        "trial 001",
+        (0, 0),
+        (Status::Done, "trial 1 cycles 60 sum 8560\n", ""),
+    ),
+    (
+        "trial 1000000000000",
+        (0, 0),
+        (Status::Done, "trial 1000000000000 cycles 60 sum 8464\n", ""),
+    ),
+    (
+        "trial 1000000000001",
+        (0, 0),
+        (Status::Words, "", "words\n"),
+    ),
+    ("trial", (0, 0), (Status::Words, "", "words\n")),
+    ("trial 0 0", (0, 0), (Status::Words, "", "words\n")),
+    ("trial", (0, 1), (Status::Words, "", "")),
+    (
+        "check empty",
+        (0, 0),
+        (Status::Refused, "", "refused 1:1 unexpected\n"),
+    ),
+    (
+        "compile empty",
+        (0, 0),
+        (Status::Refused, "", "refused 1:1 unexpected\n"),
+    ),
+    ("check wide", (0, 1), (Status::Refused, "", "")),
+    ("compile absent", (0, 1), (Status::ReadFault, "", "")),
+    ("interp add bad 9", (0, 1), (Status::Refused, "", "")),
+    ("interp conflict five 9", (0, 1), (Status::Fault, "", "")),
+    ("sim unnamed five 9", (0, 1), (Status::Refused, "", "")),
+    ("sim counter five 9", (0, 1), (Status::More, "", "")),
+    // Eight bytes are taken of a message before the next write of it fails.
+    ("interp add five 5", (0, 2), (Status::More, "", "more 5\n")),
+    ("check wide", (0, 2), (Status::Refused, "", "refused ")),
+    (
+        "interp conflict five 9",
+        (0, 2),
+        (Status::Fault, "", "fault co"),
+    ),
+];
+
 #[test]
 fn lines(rt: HostRuntime) -> Result<(), Fail> {
     let files: [(&str, &[u8]); 17] = [
@@ -360,42 +413,20 @@ fn lines(rt: HostRuntime) -> Result<(), Fail> {
     Ok(())
 }
 
-/// A design that is cut before its last `}` breaks a rule of its text, wherever it is cut.
 #[test]
-fn cut_texts(rt: HostRuntime) {
-    for length in 0..STALE_DONE.len() - 1 {
-        let text = &STALE_DONE.as_bytes()[..length];
-        match interp(rt.alloc(), text, b"{}", 9) {
-            Err(Stop::Rule(told)) => assert_ne!(rt; told.rule, Rule::LeftOut, "cut at {length}"),
-            _ => panic!(rt; "cut at {length}"),
-        }
-    }
-}
-
-/// Trials: the words of a line, and what is told.
-const TRIALS: [(&str, (Status, &str, &str)); 6] = [
-    (
-        "trial 0",
-        (Status::Done, "trial 0 cycles 60 sum 8464\n", ""),
-    ),
-    (
-        "trial 001",
-        (Status::Done, "trial 1 cycles 60 sum 8560\n", ""),
-    ),
-    (
-        "trial 1000000000000",
-        (Status::Done, "trial 1000000000000 cycles 60 sum 8464\n", ""),
-    ),
-    ("trial 1000000000001", (Status::Words, "", "words\n")),
-    ("trial", (Status::Words, "", "words\n")),
-    ("trial 0 0", (Status::Words, "", "words\n")),
-];
-
-#[test]
-fn trials(rt: HostRuntime) -> Result<(), Fail> {
-    let files: [(&str, &[u8]); 1] = [("add", ADD_THREE.as_bytes())];
-    for (line, want) in TRIALS {
-        tells(&rt, rt.alloc(), (line, (0, 0)), &files, want)?;
+fn more_lines(rt: HostRuntime) -> Result<(), Fail> {
+    let files: [(&str, &[u8]); 8] = [
+        ("add", ADD_THREE.as_bytes()),
+        ("five", FIVE.as_bytes()),
+        ("bad", b"[]"),
+        ("empty", b""),
+        ("wide", WIDE.as_bytes()),
+        ("counter", COUNTER.as_bytes()),
+        ("unnamed", UNNAMED.as_bytes()),
+        ("conflict", CONFLICT.as_bytes()),
+    ];
+    for (line, fails, want) in MORE_LINES {
+        tells(&rt, rt.alloc(), (line, fails), &files, want)?;
     }
     Ok(())
 }

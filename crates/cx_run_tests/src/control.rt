@@ -7,11 +7,11 @@ use crate::runs::turns;
 use cx_driver::Status;
 use std::test::Fail;
 
-const CELLS: &str =
+pub(crate) const CELLS: &str =
     "@external mem = std_mem_d1(32, 1, 1); r = std_reg(32); a = std_add(32); lt = std_lt(32); b = std_reg(1);";
 
 /// `inc` adds 1 to the register `r`, `z` clears it, `st` stores it, `sb` sets `b`; `now` is done at once; `c3` and `c7` compare `r`.
-const WIRES: &str =
+pub(crate) const WIRES: &str =
     "group inc { a.left = r.out; a.right = 32'd1; r.in = a.out; r.write_en = 1'd1; inc[done] = r.done; }
     group z { r.in = 32'd0; r.write_en = 1'd1; z[done] = r.done; }
     group st { mem.addr0 = 1'd0; mem.write_data = r.out; mem.write_en = 1'd1; st[done] = mem.done; }

@@ -1,7 +1,9 @@
 //! What stands in data files: words in their order and sign, and files that are refused. The answers were worked out by hand.
 
-use crate::runs::{calls, design, interprets};
+use crate::runs::{WIDE, design, interprets, outcome, tells};
 use cx_driver::Status;
+use std::alloc::Global;
+use std::process::Abort;
 use std::test::Fail;
 
 const ONE: &str = "@external mem = std_mem_d1(32, 1, 1);";
@@ -222,21 +224,239 @@ const LOADS: [(&str, &[u8], Status, &str); 40] = [
     ),
 ];
 
+/// A design without statements is interpreted within one turn, and the text that `compile` writes of it is simulated for one cycle:
+/// both load the same data file, and tell the same.
+fn load(
+    rt: &impl Abort,
+    alloc: Global,
+    cells: &str,
+    data: &[u8],
+    (status, told): (Status, &str),
+) -> Result<(), Fail> {
+    let text = design(alloc, (cells, "", "", ""))?;
+    let compiled = outcome(alloc, "compile text", &[("text", text.as_bytes())], WIDE)?;
+    // A copy, since the files of one list live equally long.
+    let data = Vec::from_slice(alloc, data)?;
+    let files = [
+        ("text", text.as_bytes()),
+        ("verilog", compiled.out.bytes()),
+        ("data", &data[..]),
+    ];
+    let (out, err) = match status {
+        Status::Done => (told, ""),
+        _ => ("", told),
+    };
+    for line in ["interp text data 1", "sim verilog data 1"] {
+        tells(rt, alloc, (line, (0, 0)), &files, (status, out, err))?;
+    }
+    Ok(())
+}
+
 #[test]
 fn loads(rt: HostRuntime) -> Result<(), Fail> {
     for (cells, data, status, told) in LOADS {
-        let text = design(rt.alloc(), (cells, "", "", ""))?;
-        let (out, err) = match status {
-            Status::Done => (told, ""),
-            _ => ("", told),
-        };
-        calls(
+        load(&rt, rt.alloc(), cells, data, (status, told))?;
+    }
+    Ok(())
+}
+
+/// What stands as `data`, `numeric_type`, `is_signed` and `width` for a memory of one word of 32 bits, and what is told.
+const ENTRIES: [(&str, &str, &str, &str, &str); 28] = [
+    (
+        "[5]",
+        "\"fixed_point\"",
+        "false",
+        "32",
+        "data bad-format mem\n",
+    ),
+    ("[5]", "\"Bitnum\"", "false", "32", "data bad-format mem\n"),
+    ("[5]", "1", "false", "32", "data bad-format mem\n"),
+    ("[5]", "\"bitnum\"", "0", "32", "data bad-format mem\n"),
+    (
+        "[5]",
+        "\"bitnum\"",
+        "\"false\"",
+        "32",
+        "data bad-format mem\n",
+    ),
+    ("[5]", "\"bitnum\"", "null", "32", "data bad-format mem\n"),
+    (
+        "[5]",
+        "\"bitnum\"",
+        "false",
+        "\"32\"",
+        "data bad-format mem\n",
+    ),
+    (
+        "[5]",
+        "\"bitnum\"",
+        "false",
+        "null",
+        "data bad-format mem\n",
+    ),
+    (
+        "[5]",
+        "\"bitnum\"",
+        "false",
+        "[32]",
+        "data bad-format mem\n",
+    ),
+    (
+        "[5]",
+        "\"bitnum\"",
+        "false",
+        "32.0",
+        "data width-differs mem\n",
+    ),
+    (
+        "[5]",
+        "\"bitnum\"",
+        "false",
+        "3.2e1",
+        "data width-differs mem\n",
+    ),
+    (
+        "[5]",
+        "\"bitnum\"",
+        "false",
+        "-32",
+        "data width-differs mem\n",
+    ),
+    (
+        "[5]",
+        "\"bitnum\"",
+        "false",
+        "0",
+        "data width-differs mem\n",
+    ),
+    (
+        "[5]",
+        "\"bitnum\"",
+        "false",
+        "33",
+        "data width-differs mem\n",
+    ),
+    (
+        "[5]",
+        "\"bitnum\"",
+        "false",
+        "99999999999999999999999",
+        "data width-differs mem\n",
+    ),
+    ("[5]", "\"bitnum\"", "false", "1e999", "data not-json\n"),
+    // Of two faults the first is told: format, width, shape, range.
+    ("\"x\"", "\"x\"", "false", "31", "data bad-format mem\n"),
+    (
+        "{}",
+        "\"bitnum\"",
+        "false",
+        "31",
+        "data width-differs mem\n",
+    ),
+    (
+        "[-1,\"x\"]",
+        "\"bitnum\"",
+        "false",
+        "32",
+        "data bad-shape mem\n",
+    ),
+    ("5", "\"bitnum\"", "false", "32", "data bad-shape mem\n"),
+    ("\"5\"", "\"bitnum\"", "false", "32", "data bad-shape mem\n"),
+    (
+        "{\"0\":5}",
+        "\"bitnum\"",
+        "false",
+        "32",
+        "data bad-shape mem\n",
+    ),
+    (
+        "[true]",
+        "\"bitnum\"",
+        "false",
+        "32",
+        "data bad-shape mem\n",
+    ),
+    (
+        "[null]",
+        "\"bitnum\"",
+        "false",
+        "32",
+        "data bad-shape mem\n",
+    ),
+    ("[5,]", "\"bitnum\"", "false", "32", "data not-json\n"),
+    ("[+5]", "\"bitnum\"", "false", "32", "data not-json\n"),
+    ("[0x5]", "\"bitnum\"", "false", "32", "data not-json\n"),
+    ("[NaN]", "\"bitnum\"", "false", "32", "data not-json\n"),
+];
+
+#[test]
+fn entries(rt: HostRuntime) -> Result<(), Fail> {
+    for (words, kind, sign, width, told) in ENTRIES {
+        let data = format!(in rt.alloc();
+            "{{\"mem\":{{\"data\":{words},\"format\":{{\"numeric_type\":{kind},\"is_signed\":{sign},\"width\":{width}}}}}}}"
+        )?;
+        load(
             &rt,
             rt.alloc(),
-            ("interp", 1),
-            (&text, data),
-            (status, out, err),
+            ONE,
+            data.as_bytes(),
+            (Status::Refused, told),
         )?;
+    }
+    Ok(())
+}
+
+/// Whole data files for the same memory, and what is told.
+const WHOLES: [(&[u8], &str); 37] = [
+    (b"", "data not-json\n"),
+    (b" \n", "data not-json\n"),
+    (b"null", "data not-json\n"),
+    (b"5", "data not-json\n"),
+    (b"\"mem\"", "data not-json\n"),
+    (b"[]", "data not-json\n"),
+    (b"{", "data not-json\n"),
+    (b"}", "data not-json\n"),
+    (b"{}{}", "data not-json\n"),
+    (b"{\"mem\":5,}", "data not-json\n"),
+    (b"{,}", "data not-json\n"),
+    (b"{\"mem\" 5}", "data not-json\n"),
+    (b"{'mem':5}", "data not-json\n"),
+    (b"{mem:5}", "data not-json\n"),
+    (b"{\"mem\":True}", "data not-json\n"),
+    (b"{\"mem\":tru}", "data not-json\n"),
+    (b"/* */{}", "data not-json\n"),
+    (b"\x0c{}", "data not-json\n"),
+    (b"{}\x00", "data not-json\n"),
+    (b"\xef\xbb\xbf{}", "data not-json\n"),
+    (b"{\"a\x01\":1}", "data not-json\n"),
+    (b"{\"\\ud800\":1}", "data not-json\n"),
+    (b"{\"\\q\":1}", "data not-json\n"),
+    (b"{\"\xff\":1}", "data not-json\n"),
+    (b"{\"\xc0\x80\":1}", "data not-json\n"),
+    (b"{\"\xed\xa0\x80\":1}", "data not-json\n"),
+    (b"{\"z\":1e400}", "data not-json\n"),
+    (b"{}", "data missing mem\n"),
+    (b"{\"Mem\":5}", "data missing mem\n"),
+    (b"{\"z\":1e-400}", "data missing mem\n"),
+    (b"{\"mem\":5}", "data bad-format mem\n"),
+    (b"{\"mem\":null}", "data bad-format mem\n"),
+    (b"{\"mem\":[5]}", "data bad-format mem\n"),
+    (b"{\"\\u006d\\u0065m\":{}}", "data bad-format mem\n"),
+    (b"{\"mem\":{\"data\":[5]}}", "data bad-format mem\n"),
+    (
+        b"{\"mem\":{\"data\":[5],\"format\":[]}}",
+        "data bad-format mem\n",
+    ),
+    (
+        b"{\"mem\":{\"format\":{\"numeric_type\":\"bitnum\",\"is_signed\":false,\"width\":32}}}",
+        "data bad-format mem\n",
+    ),
+];
+
+#[test]
+fn whole_files(rt: HostRuntime) -> Result<(), Fail> {
+    for (data, told) in WHOLES {
+        load(&rt, rt.alloc(), ONE, data, (Status::Refused, told))?;
     }
     Ok(())
 }

@@ -4,13 +4,14 @@ use crate::runs::turns;
 use cx_driver::Status;
 use std::test::Fail;
 
-const CELLS: &str =
+pub(crate) const CELLS: &str =
     "@external mem = std_mem_d1(32, 1, 1); r = std_reg(32); y = std_reg(32); b = std_reg(1); a = std_add(32);
     ay = std_add(32); m = std_mult_pipe(32); v = std_wire(1);";
 
 /// `s` sets `r` to 4 and then to 9, `i` adds 1 to it, `mu` multiplies it by 7; `j` adds 10 to `y`; `w` waits; `f` turns `b` over and
 /// `z` sets it; `late` and `both` have a fault in their second cycle.
-const WIRES: &str = "static<2> group s { r.in = %0 ? 32'd4; r.in = %1 ? 32'd9; r.write_en = 1'd1; }
+pub(crate) const WIRES: &str =
+    "static<2> group s { r.in = %0 ? 32'd4; r.in = %1 ? 32'd9; r.write_en = 1'd1; }
     static<1> group i { a.left = r.out; a.right = 32'd1; r.in = a.out; r.write_en = 1'd1; }
     static<1> group j { ay.left = y.out; ay.right = 32'd10; y.in = ay.out; y.write_en = 1'd1; }
     static<3> group w { }

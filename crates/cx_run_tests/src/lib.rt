@@ -12,6 +12,8 @@ mod control;
 #[cfg(test)]
 mod data;
 #[cfg(test)]
+mod hostile;
+#[cfg(test)]
 mod islands;
 #[cfg(test)]
 mod misreadings;
@@ -35,3 +37,5 @@ mod texts;
 mod trees;
 #[cfg(test)]
 mod verilog_reading;
+#[cfg(test)]
+mod woven;

@@ -4,13 +4,13 @@ use crate::runs::turns;
 use cx_driver::Status;
 use std::test::Fail;
 
-const CELLS: &str =
+pub(crate) const CELLS: &str =
     "@external mem = std_mem_d1(32, 1, 1); x = std_reg(32); y = std_reg(32); z = std_reg(32);
     bx = std_reg(1); by = std_reg(1); a = std_add(32); ax = std_add(32); lx = std_lt(32);";
 
 /// `p` and `q` set `x`, `s` and `u` set `y`, `t` sets `z`, `fx` sets `bx`; `ix` adds 1 to `x`; `sum` stores `x` and `y` added.
 /// `gx`, `gy` and `gz` write what nothing drives.
-const WIRES: &str = "group p { x.in = 32'd1; x.write_en = 1'd1; p[done] = x.done; }
+pub(crate) const WIRES: &str = "group p { x.in = 32'd1; x.write_en = 1'd1; p[done] = x.done; }
     group q { x.in = 32'd2; x.write_en = 1'd1; q[done] = x.done; }
     group s { y.in = 32'd3; y.write_en = 1'd1; s[done] = y.done; }
     group u { y.in = 32'd5; y.write_en = 1'd1; u[done] = y.done; }

@@ -20,18 +20,77 @@ fn words_of(alloc: Global, line: &str) -> Result<Vec<Word>, Memory> {
     Ok(words)
 }
 
-/// Files of these names and bytes.
-fn files_of(alloc: Global, files: &[(&str, &[u8])]) -> Result<MemFiles, Memory> {
+/// Files of these names and bytes, of which the call of this number fails.
+fn files_of(alloc: Global, files: &[(&str, &[u8])], fails: u64) -> Result<MemFiles, Memory> {
     let mut entries = Vec::new(alloc);
     for (name, bytes) in files.iter() {
         let name = Word::from_bytes(alloc, name.as_bytes())?;
         entries.push((name, Word::from_bytes(alloc, bytes)?))?;
     }
-    Ok(MemFiles::new(entries, Vec::new(alloc)))
+    Ok(MemFiles::new(entries, vec![in alloc; fails]?))
 }
 
-/// Runs the words of a line over files, and compares the status and all that was written to standard output and to standard error. A
-/// write to standard output takes 8 bytes; of each output the one of its number in `fails` fails, from 1.
+/// How the outside fails: the call of this number, counted from 1, of the files, of standard output and of standard error; 0 is none.
+/// Standard output has room for so many bytes.
+#[derive(Clone, Copy)]
+pub(crate) struct Outside {
+    pub(crate) reads: u64,
+    pub(crate) writes: u64,
+    pub(crate) room: usize,
+    pub(crate) lines: u64,
+}
+
+/// An outside that does not fail.
+pub(crate) const WELL: Outside = Outside {
+    reads: 0,
+    writes: 0,
+    room: 512,
+    lines: 0,
+};
+
+/// The same with room for a Verilog text.
+pub(crate) const WIDE: Outside = Outside {
+    reads: 0,
+    writes: 0,
+    room: 1_048_576,
+    lines: 0,
+};
+
+/// What a call came to: its status, and what its two outputs took.
+#[derive(Drop)]
+pub(crate) struct Told {
+    pub(crate) status: Status,
+    pub(crate) out: MemSink,
+    pub(crate) err: MemSink,
+}
+
+impl Told {
+    pub(crate) fn is(&self, (status, out, err): (Status, &[u8], &[u8])) -> bool {
+        self.status == status && self.out.bytes() == out && self.err.bytes() == err
+    }
+}
+
+/// Runs the words of a line over files. Each write takes 8 bytes.
+pub(crate) fn outcome(
+    alloc: Global,
+    line: &str,
+    files: &[(&str, &[u8])],
+    outside: Outside,
+) -> Result<Told, Memory> {
+    let words = words_of(alloc, line)?;
+    let mut files = files_of(alloc, files, outside.reads)?;
+    let mut out = MemSink::new(
+        8,
+        vec![in alloc; outside.writes]?,
+        vec![in alloc; 0; outside.room]?,
+    );
+    let mut err = MemSink::new(8, vec![in alloc; outside.lines]?, vec![in alloc; 0; 64]?);
+    let status = run(alloc, &words, &mut files, &mut out, &mut err);
+    Ok(Told { status, out, err })
+}
+
+/// Runs the words of a line over files, and compares the status and all that was written to standard output and to standard error. Of
+/// each output the write of its number in `fails` fails, from 1.
 pub(crate) fn tells(
     rt: &impl Abort,
     alloc: Global,
@@ -39,21 +98,15 @@ pub(crate) fn tells(
     files: &[(&str, &[u8])],
     want: (Status, &str, &str),
 ) -> Result<(), Fail> {
-    let words = words_of(alloc, line)?;
-    let mut files = files_of(alloc, files)?;
-    let mut out = MemSink::new(8, vec![in alloc; fails.0]?, vec![in alloc; 0; 512]?);
-    let mut err = MemSink::new(64, vec![in alloc; fails.1]?, vec![in alloc; 0; 64]?);
-    let status = run(alloc, &words, &mut files, &mut out, &mut err);
-    let is_told = status == want.0
-        && are_same(out.bytes(), want.1)
-        && are_same(err.bytes(), want.2);
+    let outside = Outside {
+        writes: fails.0,
+        lines: fails.1,
+        ..WELL
+    };
+    let told = outcome(alloc, line, files, outside)?;
+    let is_told = told.is((want.0, want.1.as_bytes(), want.2.as_bytes()));
     assert!(rt; is_told, "{want:?}");
     Ok(())
-}
-
-/// Whether these bytes are those of a text.
-fn are_same(bytes: &[u8], text: &str) -> bool {
-    bytes == text.as_bytes()
 }
 
 /// A command on a text and a data file, with a budget.

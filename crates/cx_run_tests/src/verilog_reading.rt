@@ -2,7 +2,7 @@
 
 use crate::runs::calls;
 use cx_driver::Status;
-use cx_vread::{ReadRefusal, read};
+use cx_vread::read;
 use cx_vwrite::write;
 use std::test::Fail;
 
@@ -42,20 +42,12 @@ fn refusals_tell_the_line(rt: HostRuntime) -> Result<(), Fail> {
     Ok(())
 }
 
-/// A counter is read, and written as the same text. Cut at a byte, it is refused where it ends.
+/// A counter is read, and written as the same text.
 #[test]
 fn counter_is_read_and_written(rt: HostRuntime) -> Result<(), Fail> {
     let text = COUNTER.as_bytes();
     let source = read(rt.alloc(), text).ok().ok_or("source")?;
     let written = write(rt.alloc(), &source).ok().ok_or("text")?;
     assert_eq!(rt; written.as_slice(), text);
-    let mut line = 1u32;
-    for n in 0..text.len() {
-        let cut = read(rt.alloc(), &text[..n]).err();
-        assert!(rt; cut == Some(ReadRefusal::Syntax(line)), "{n}");
-        if text[n] == b'\n' {
-            line = line.saturating_add(1);
-        }
-    }
     Ok(())
 }

@@ -6,11 +6,11 @@ ghost use Rattle.cx_static.specs.Lowering.{timed, with_island, form_after, after
 ghost use Rattle.cx_static.specs.PlainLowered.{plain_lowering};
 
 use crate::islands::Island;
-use crate::lengths::{form_length, group_length};
 use crate::lists::gather_island;
 use crate::lowering::Lowering;
-use crate::numbers::number;
+use crate::numbers::{number, static_length};
 use cx_design::{Component, Form, Statement};
+use cx_limits::group_length;
 use cx_text::Memory;
 use std::alloc::Global;
 use std::mem::replace;
@@ -99,7 +99,7 @@ fn add_island(
     ensures after { OnOk result (plain_lowering lowering.new ≡ with_island (plain_component part.now) (plain_form form.now) (plain_lowering lowering.old)) }
 {
     let island = number(lowering.islands.len())?;
-    let length = form_length(part, form)?;
+    let length = static_length(part, form)?;
     let cells = replace(&mut lowering.cells, Vec::new(alloc));
     let lists = gather_island(alloc, part, form, length, cells)?;
     lowering.cells = lists.cells;

@@ -6,7 +6,6 @@ mod control;
 mod copies;
 mod gathering;
 mod islands;
-mod lengths;
 mod lists;
 mod lowered;
 mod lowering;

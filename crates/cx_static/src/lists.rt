@@ -8,9 +8,9 @@ ghost use Rattle.cx_static.specs.PlainLowered.{plain_gathering, plain_start};
 
 use crate::gathering::{Gathering, Start};
 use crate::islands::{IslandTimer, Occurrence, Sample, SamplePoint};
-use crate::lengths::{form_length, group_length, length_of};
-use crate::numbers::{number, product, sum, timer};
+use crate::numbers::{number, product, static_length, sum, timer};
 use cx_design::{Cell, CellKind, Component, Form, Statement};
+use cx_limits::group_length;
 use cx_meaning::PortRef;
 use cx_text::{Memory, Name, Place};
 use std::alloc::Global;
@@ -195,7 +195,7 @@ fn gather_rounds(
     ensures { OnOk result (plain_gathering lists.new ≡ rounds_gathered (plain_component part.now) count (plain_statement body.now) (plain_start start.now) (plain_gathering lists.old)) }
 {
     let timer = number(lists.timers.len())?;
-    let length = length_of(part, body)?;
+    let length = static_length(part, &body.form)?;
     let to = sum(start.at, product(count, length)?)?;
     add_timer(
         alloc,
@@ -233,7 +233,7 @@ fn gather_parts(
             samples: start.samples,
         };
         gather(alloc, part, statement, &begin, lists)?;
-        at = sum(at, length_of(part, statement)?)?;
+        at = sum(at, static_length(part, &statement.form)?)?;
     }
     Ok(())
 }

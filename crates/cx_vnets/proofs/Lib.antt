@@ -23,3 +23,12 @@ pub mod WholeLooks
 pub mod InputLemmas
 pub mod Fitting
 pub mod RunLemmas
+pub mod ReadLemmas
+pub mod RankLemmas
+pub mod StaleLemmas
+pub mod SweepLemmas
+pub mod CurrentLemmas
+pub mod ReaderLemmas
+pub mod DriveLemmas
+pub mod WatchLemmas
+pub mod GateLemmas

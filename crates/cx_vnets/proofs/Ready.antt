@@ -145,6 +145,12 @@ ready-bench m s b c marks stack writes values r = record {
   values = values;
 }
 
+-- a bench with as much room, and the same values, after an edge
+pub ready-edge : (m : Machine) (s t : Stored) (b c : Bench) → KeepsWidths s t → c.marks.items ≡ b.marks.items → c.stack.items ≡ b.stack.items → length c.writes.items ≡ length m.stores.items
+    → c.values.items ≡ b.values.items → IsReady m s b → IsReady m t c
+ready-edge m s t b c widths marks stack writes values ready =
+    ready-bench m t b c (ap length marks) (ap length stack) (writes ∙ sym ready.writes) (λ f. ap (λ l. width_at l f) values ∙ ready.values f ∙ sym (widths.nets f)) (ready-keeps m s t b widths ready)
+
 -- the run ends in a cycle that gives its answer
 pub looked-ends : (m : Machine) (s : Stored) (cycle left : ℕ) (values : List BitVector) (a : RunAnswer) → IsLooked m s cycle values (Some a) → FlatFrom m s cycle left (outcome_of a s)
 looked-ends m s cycle left values (Done t) h = subst (λ c. FlatFrom m s cycle left (DoneIn c (map plain_words s.arrays.items))) (sym h.0) (ends values h.1 h.2)

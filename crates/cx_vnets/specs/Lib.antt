@@ -7,7 +7,13 @@ pub mod Search
 pub mod Edges
 pub mod Stores
 pub mod Widths
+pub mod Reads
+pub mod Stale
 pub mod Machines
+pub mod Readers
+pub mod Written
+pub mod Watches
+pub mod Gates
 pub mod Runs
 pub mod ModuleNumbers
 pub mod ModuleCodes

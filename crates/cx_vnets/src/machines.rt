@@ -1,5 +1,6 @@
 //! What a run works on.
 
+use crate::readers::Readers;
 use crate::{NetMark, Nets, Set, Store, Write};
 use cx_bits::Bits;
 
@@ -9,6 +10,7 @@ pub struct Machine {
     pub nets: Nets,
     /// An order in which nets are tried. Any will do; a run is fast where what a net needs comes before it.
     pub order: Vec<u32>,
+    pub readers: Readers,
     /// What registers take at the edge with reset.
     pub resets: Vec<Set>,
     /// What registers take at an edge without reset, and what is stored.
@@ -20,11 +22,13 @@ pub struct Machine {
     pub done: u32,
 }
 
-/// Room for one cycle: a mark and a value for each net, a list for the search, and what each store writes.
+/// Room for one cycle: a mark and a value for each net, by rank whether it may have changed, a list for the search, and what
+/// each store writes.
 #[derive(Drop)]
 pub struct Bench {
     pub marks: Vec<NetMark>,
     pub values: Vec<Bits>,
+    pub stale: Vec<bool>,
     pub stack: Vec<usize>,
     pub writes: Vec<Option<Write>>,
 }

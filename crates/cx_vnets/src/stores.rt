@@ -3,10 +3,15 @@
 ghost use Rattle.std.specs.Prelude.{◌≡◌, ℕ, ◌<◌, length, map, slice_get, Some};
 ghost use Rattle.cx_vnets.specs.Arrays.{IsEven, array_width};
 ghost use Rattle.cx_vnets.specs.Stores.{StoreFits, StoresFit, WritesFit, plain_words, write_of, written, write_word, after_writes};
+ghost use Rattle.cx_vnets.specs.Readers.{IsListed};
+ghost use Rattle.cx_vnets.specs.Stale.{Tells};
+ghost use Rattle.cx_vnets.specs.Written.{ReadsNoWritten};
+ghost use Rattle.cx_graphs.specs.Graphs.{edges_of};
 ghost use Rattle.cx_vnets.specs.declared.stores.Write.{Write};
 
 use crate::arrays::Words;
 use crate::codes::{Code, NetPosition};
+use crate::stale::{mark_all, mark_row};
 use crate::values::settled;
 use cx_bits::Bits;
 
@@ -97,5 +102,46 @@ pub fn store_words(stores: &[Store], writes: &[Option<Write>], arrays: &mut [Wor
 {
     for (number, store) in stores.iter().enumerate() {
         apply(*store, writes[number], arrays);
+    }
+}
+
+/// Marks all nets that read an array into which a store writes.
+pub(crate) fn mark_written(
+    stores: &[Store],
+    writes: &[Option<Write>],
+    of_arrays: &[Vec<u32>],
+    ranks: &[u32],
+    stale: &mut [bool],
+)
+    requires long { length writes.now ≡ length stores.now }
+    ensures { Tells ranks.now stale.old stale.new (ReadsNoWritten (edges_of of_arrays.now) stores.now writes.now (length stores.now)) }
+{
+    for (number, store) in stores.iter().enumerate() {
+        mark_store(of_arrays, *store, writes[number], ranks, stale);
+    }
+}
+
+/// Marks the nets that read the array of a store that writes.
+fn mark_store(
+    of_arrays: &[Vec<u32>],
+    store: Store,
+    write: Option<Write>,
+    ranks: &[u32],
+    stale: &mut [bool],
+)
+    ensures { Tells ranks.now stale.old stale.new (λ f. (w : Write) → write ≡ Some w → IsListed (edges_of of_arrays.now) f store.array → ⊥) }
+{
+    if write.is_some() {
+        mark_readers(of_arrays, store.array as usize, ranks, stale);
+    }
+}
+
+/// Marks the nets that read an array.
+fn mark_readers(of_arrays: &[Vec<u32>], array: usize, ranks: &[u32], stale: &mut [bool])
+    ensures { Tells ranks.now stale.old stale.new (λ f. IsListed (edges_of of_arrays.now) f array → ⊥) }
+{
+    match of_arrays.get(array) {
+        Some(row) => mark_row(ranks, 0, stale, row),
+        None => mark_all(stale),
     }
 }

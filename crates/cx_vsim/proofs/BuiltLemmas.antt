@@ -10,6 +10,7 @@ use Rattle.cx_vnets.specs.ModuleNumbers.{position}
 use Rattle.cx_vnets.specs.CodeLaws.{net_widths}
 use Rattle.cx_vnets.specs.declared.machines.Machine.{Machine}
 use Rattle.cx_vnets.specs.declared.machines.Bench.{Bench}
+use Rattle.cx_vnets.specs.Readers.{ReadersStand}
 use Rattle.cx_vnets.specs.Runs.{IsReady}
 use Rattle.cx_vnets.specs.Numbers.{nets_before, net_number}
 use Rattle.cx_vnets.specs.Flat.{NetsStand}
@@ -113,5 +114,5 @@ module _ (tree : List Placed) (build : CanBeBuilt tree) (driven : DrivenStand) (
         values = values;
       }
 
-  pub built_stands : BuiltStands tree (record { machine = m; bench = b; stored = s })
-  built_stands = record { machine = machine_stands; ready = ready; zeros = zeros_stand tree s build.apart.names build.wide.bits zeros arrays }
+  pub built_stands : ReadersStand m.nets m.order.items m.readers → length b.stale.items ≡ length s.nets.items → BuiltStands tree (record { machine = m; bench = b; stored = s })
+  built_stands readers stale = record { machine = machine_stands; ready = ready; readers = readers; stale = stale ∙ sym fits.long; zeros = zeros_stand tree s build.apart.names build.wide.bits zeros arrays }

@@ -31,7 +31,7 @@ use Rattle.cx_vsim.proofs.EndLemmas.{ran_stands}
 use Rattle.cx_vsim.proofs.Told.{outcome_is, tells}
 
 pub new_stands : (s : PlainSource) (built : Built) (n : Numbers) → BuiltStands (instances_of s) built → AreNumbersOf s n → SimStands s [] built n.arrays.items n.places.items
-new_stands s built n b are = record { machine = b.machine; ready = b.ready; stored = zeros_start s built.stored b.zeros; arrays_are = are.arrays; places_are = are.places }
+new_stands s built n b are = record { machine = b.machine; ready = b.ready; readers = b.readers; stale = b.stale; stored = zeros_start s built.stored b.zeros; arrays_are = are.arrays; places_are = are.places }
 
 -- once words are loaded
 module _ (s : PlainSource) (words : List (List ℕ)) (built : Built) (numbers : List ℕ) (places : List NetPosition) (stands : SimStands s words built numbers places) (memories : HasMemories s)
@@ -45,6 +45,8 @@ module _ (s : PlainSource) (words : List (List ℕ)) (built : Built) (numbers : 
   load_stands stay = record {
     machine = stands.machine;
     ready = stay built.machine built.stored after built.bench (loaded_keeps s numbers ms stands.arrays_are fits words built.stored memories stands.stored after nets written) stands.ready;
+    readers = stands.readers;
+    stale = stands.stale;
     stored = subst (λ w. StoredStands (instances_of s) (start_moment s w) after) (sym words_are_loaded) (loaded_stands s numbers ms stands.arrays_are fits words built.stored memories stands.stored after nets written);
     arrays_are = stands.arrays_are;
     places_are = stands.places_are;

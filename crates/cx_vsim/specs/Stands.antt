@@ -8,6 +8,7 @@ use Rattle.cx_vtree.specs.Meaning.{Moment}
 use Rattle.cx_vtree.specs.SimRun.{Outcome, DoneAt, LoopAt, NotDone, start_state}
 use Rattle.cx_vnets.specs.declared.codes.NetPosition.{NetPosition}
 use Rattle.cx_vnets.specs.Stores.{PlainWords}
+use Rattle.cx_vnets.specs.Readers.{ReadersStand}
 use Rattle.cx_vnets.specs.Runs.{IsReady}
 use Rattle.cx_vnets.specs.declared.runs.RunAnswer.{RunAnswer}
 use Rattle.cx_vnets.specs.declared.runs.RunAnswer.TheVariants as flat
@@ -43,6 +44,8 @@ pub record BuiltWith (s : PlainSource) (words : List (List ℕ)) (built : Built)
 pub record SimStands (s : PlainSource) (words : List (List ℕ)) (built : Built) (numbers : List ℕ) (places : List NetPosition) : Type 0 where
   pub machine : MachineStands (instances_of s) built.machine
   pub ready : IsReady built.machine built.stored built.bench
+  pub readers : ReadersStand built.machine.nets built.machine.order.items built.machine.readers
+  pub stale : length built.bench.stale.items ≡ length built.machine.nets.drivers.items
   pub stored : StoredStands (instances_of s) (start_moment s words) built.stored
   pub arrays_are : map Some numbers ≡ map (array_of (instances_of s)) s.externals
   pub places_are : places ≡ all_places (instances_of s) (length (instances_of s))

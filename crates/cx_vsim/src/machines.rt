@@ -15,7 +15,7 @@ use crate::stepping::{all_steps, resets};
 use crate::tables::{Table, listed, root};
 use cx_text::Memory;
 use cx_velab::{driven_nets_stand, rows, stored, tables_fit, zeros_stand};
-use cx_vnets::{Bench, Machine, NetMark, Nets, Stored};
+use cx_vnets::{Bench, Machine, NetMark, Nets, Stored, readers_of};
 use cx_vtree::Source;
 use std::alloc::Global;
 
@@ -33,15 +33,18 @@ fn bench(alloc: Global, stored: &Stored, stores: usize) -> Result<Bench, Memory>
     ensures values { IfOk result (λ b. SameWidths b.values.items stored.now.nets.items) }
     ensures stack { IfOk result (λ b. length b.stack.items ≡ length stored.now.nets.items) }
     ensures writes { IfOk result (λ b. length b.writes.items ≡ stores) }
+    ensures stale { IfOk result (λ b. length b.stale.items ≡ length stored.now.nets.items) }
 {
     let count = stored.nets.len();
     let marks = vec![in alloc; NetMark::Unseen; count]?;
     let values = Vec::from_slice(alloc, &stored.nets)?;
+    let stale = vec![in alloc; true; count]?;
     let stack = vec![in alloc; 0; count]?;
     let writes = vec![in alloc; None; stores]?;
     Ok(Bench {
         marks,
         values,
+        stale,
         stack,
         writes,
     })
@@ -66,9 +69,11 @@ fn build(alloc: Global, table: Table<'_>) -> Result<Built, Memory>
         codes: table.codes,
     };
     let order = order(alloc, &nets)?;
+    let readers = readers_of(alloc, &nets, &order, stored.arrays.len())?;
     let machine = Machine {
         nets,
         order,
+        readers,
         resets,
         sets: steps.sets,
         stores: steps.stores,

@@ -62,8 +62,8 @@ arm_leaf (x ∷ xs) k (suc at) leaf arm is same = arm_leaf xs (k - strand_leaves
 -- and is shown
 pub arm_shown : (d : PlainDesign) (n : ℕ) (arms : List Strand) (list : Opens) (at : ℕ) (arm : Strand) → at < length arms → arm ≡ get_or arms at arm → ShowsAll d n (strands_of (map plain_strand arms)) list → IsShown d n (plain_strand arm)
 arm_shown d n [] list at arm less is shown = absurd (let h : at < 0 = less in omega (arith, h))
-arm_shown d n (x ∷ xs) list zero arm less is (first, later, e, one, rest) = (first, subst (λ (y : Strand). Shows d n (plain_strand y) first) (sym is) one)
-arm_shown d n (x ∷ xs) list (suc at) arm less is (first, later, e, one, rest) = arm_shown d n xs later at arm (let l : suc at < suc (length xs) = less in omega (arith, l)) is rest
+arm_shown d n (x ∷ xs) list zero arm less is (v, first, later, e, one, rest) = (first, subst (λ (y : Strand). Shows d n (plain_strand y) first) (sym is) one)
+arm_shown d n (x ∷ xs) list (suc at) arm less is (v, first, later, e, one, rest) = arm_shown d n xs later at arm (let l : suc at < suc (length xs) = less in omega (arith, l)) is rest
 
 pub arm_of_par : (d : PlainDesign) (n : ℕ) (arms : List Strand) (at : ℕ) (arm : Strand) → at < length arms → arm ≡ get_or arms at arm → IsShown d n (APar (strands_of (map plain_strand arms))) → IsShown d n (plain_strand arm)
 arm_of_par d n arms at arm less is (o, (list, e, shown, some)) = arm_shown d n arms list at arm less is shown

@@ -11,7 +11,8 @@ use Rattle.cx_meaning.specs.Running.{run_main}
 use Rattle.cx_state.specs.States.{PlainInstance, StandsFor}
 use Rattle.cx_weave.specs.declared.weaving.Wove.{Wove}
 use Rattle.cx_weave.specs.declared.weaving.Wove.TheVariants.{End, Fault, More}
-use Rattle.cx_weave.specs.Results.{EndsIn, LeavesWords, TellsRun, TellsWoven}
+use Rattle.cx_weave.specs.Results.{EndsIn, LeavesWords, TellsArm, TellsRun, TellsWoven}
+use Rattle.cx_weave.specs.Alone.{LeafHasAlone}
 use Rattle.cx_weave.specs.Woven as woven
 use Rattle.cx_weave.specs.Woven.{Choices, Woven}
 
@@ -27,6 +28,12 @@ module _ (d : PlainDesign) (rows : List PlainInstance) (x : Woven) where
   tells_run words (End made sum) ends faults (after, is, stands) = (after, (ends after made sum is).0, is, (ends after made sum is).1, (ends after made sum is).2)
   tells_run words (Fault told made) ends faults (fault, tells, is) = faults fault made is
   tells_run words More ends faults e = tt
+
+  -- the arm that has the fault alone
+  pub tells_arm : (words : List (List ℕ)) (choice : Choices) (wove : Wove) → ((fault : cycles.Fault) (made : ℕ) → x ≡ woven.Faults fault made → LeafHasAlone d words choice fault made) → EndsIn d rows wove x → TellsArm d words choice wove x
+  tells_arm words choice (End made sum) alone e = tt
+  tells_arm words choice (Fault told made) alone (fault, tells, is) = (fault, is, alone fault made is)
+  tells_arm words choice More alone e = tt
 
   -- the words of an order that ends
   pub words_end : (old new : List PlainMemory) (made sum : ℕ) → ((s : State) → StandsFor (tree_of d) rows s → new ≡ with_words old (words_of (tree_of d) s)) → EndsIn d rows (End made sum) x → LeavesWords d old new x

@@ -84,26 +84,26 @@ module _ (i : Instance) (held : Held) (final : State) where
   waiting_stays (suc m) s (k, less, e) = waiting_stays m s e
 
 -- the first arm before the others
-module _ (i : Instance) (all : AllSound i) (held : Held) (final : State) (st : PlainStatement) (stands : Stands i st) (arms : Opens) where
+module _ (i : Instance) (all : AllSound i) (held : Held) (final : State) (st : PlainStatement) (stands : Stands i st) (v : PlainStatement) (arms : Opens) where
   abbrev Later : ℕ → State → Type 0
   Later n t = EndsIn i held final n (par_left arms) t
 
-  par_turn : (m : ℕ) (o : Open) (s : State) → 0 < leaves_of o → (x : Stepped (Option Open)) → step i held o 0 s ≡ x → StepFits i st (within par_left (within (arms_left arms) x)) → Goes (within par_left (within (arms_left arms) x)) (EndsIn i held final m)
-      → ((p : Open) (a : State) → Fits i st (InPar (an_arm p arms)) → EndsIn i held final m (Some (InPar (an_arm p arms))) a → Splits i held m p a Later) → Splits i held (suc m) o s Later
+  par_turn : (m : ℕ) (o : Open) (s : State) → 0 < leaves_of o → (x : Stepped (Option Open)) → step i held o 0 s ≡ x → StepFits i st (within par_left (within (arms_left v arms) x)) → Goes (within par_left (within (arms_left v arms) x)) (EndsIn i held final m)
+      → ((p : Open) (a : State) → Fits i st (InPar (an_arm v p arms)) → EndsIn i held final m (Some (InPar (an_arm v p arms))) a → Splits i held m p a Later) → Splits i held (suc m) o s Later
   par_turn m o s some (Now None a) same fits e again = splits_last i held Later m o s 0 some a same e
   par_turn m o s some (Now (Some p) a) same fits e again = splits_more i held Later m o s 0 some p a same (again p a fits e)
   par_turn m o s some (Stops g) same fits e again = absurd e
 
-  first_leaf : (o : Open) (s : State) → 0 < leaves_of o → step i held (InPar (an_arm o arms)) 0 s ≡ within par_left (within (arms_left arms) (step i held o 0 s))
-  first_leaf o s some = ap (within par_left) (in_first i held arms o 0 s some)
+  first_leaf : (o : Open) (s : State) → 0 < leaves_of o → step i held (InPar (an_arm v o arms)) 0 s ≡ within par_left (within (arms_left v arms) (step i held o 0 s))
+  first_leaf o s some = ap (within par_left) (in_first i held v arms o 0 s some)
 
-  pub par_splits : (m : ℕ) (o : Open) (s : State) → Fits i st (InPar (an_arm o arms)) → 0 < leaves_of o → ((p : Open) → Fits i st (InPar (an_arm p arms)) → 0 < leaves_of p) → EndsIn i held final m (Some (InPar (an_arm o arms))) s → Splits i held m o s Later
+  pub par_splits : (m : ℕ) (o : Open) (s : State) → Fits i st (InPar (an_arm v o arms)) → 0 < leaves_of o → ((p : Open) → Fits i st (InPar (an_arm v p arms)) → 0 < leaves_of p) → EndsIn i held final m (Some (InPar (an_arm v o arms))) s → Splits i held m o s Later
   par_splits zero o s fits some others e = absurd e
   par_splits (suc m) o s fits some others (k, less, e) =
-      let whole : 0 < leaves_of (InPar (an_arm o arms)) = omega arith in
+      let whole : 0 < leaves_of (InPar (an_arm v o arms)) = omega arith in
       par_turn m o s some (step i held o 0 s) refl
-      (subst (StepFits i st) (first_leaf o s some) (step_fits i all held st stands (InPar (an_arm o arms)) fits 0 s))
-      (subst (λ x. Goes x (EndsIn i held final m)) (first_leaf o s some) (any_leaf i all held st stands final m (InPar (an_arm o arms)) fits s k less e 0 whole))
+      (subst (StepFits i st) (first_leaf o s some) (step_fits i all held st stands (InPar (an_arm v o arms)) fits 0 s))
+      (subst (λ x. Goes x (EndsIn i held final m)) (first_leaf o s some) (any_leaf i all held st stands final m (InPar (an_arm v o arms)) fits s k less e 0 whole))
       (λ p a f h. par_splits m p a f (others p f) others h)
 
 -- the child of a call before what is behind it

@@ -49,9 +49,9 @@ abbrev mutual
 
   pub ArmsFit : Instance → PlainStatement → List PlainStatement → Opens → Type 0
   ArmsFit i st [] no_arms = Unit {0}
-  ArmsFit i st [] (an_arm arm arms) = ⊥
+  ArmsFit i st [] (an_arm v arm arms) = ⊥
   ArmsFit i st (s ∷ ss) no_arms = ⊥
-  ArmsFit i st (s ∷ ss) (an_arm arm arms) = IsArm i st s × Fits i s arm × Apart (part_of i) s ss × ArmsFit i st ss arms
+  ArmsFit i st (s ∷ ss) (an_arm v arm arms) = IsArm i st s × Fits i s arm × Apart (part_of i) s ss × ArmsFit i st ss arms
 
 -- all instances below one, and itself
 abbrev pub AllSound : Instance → Type 0

@@ -112,12 +112,12 @@ joins_repeat i held left body (Stops g) (Stops e) h = tt
 
 joins_par : (i : Instance) (held : Held) (x y : Stepped Opens) → JoinArms i held x y → Joins i held (within par_left x) (within par_left y)
 joins_par i held (Now no_arms a) (Now p b) h = absurd (none_below h.l h.l_within)
-joins_par i held (Now (an_arm o os) a) (Now no_arms b) h = absurd (none_below h.k h.k_within)
-joins_par i held (Now (an_arm o os) a) (Now (an_arm p ps) b) h = met_within (leaves_of_all (an_arm o os)) (leaves_of_all (an_arm p ps)) (λ l. step_arms i held (an_arm o os) l a) (λ k. step_arms i held (an_arm p ps) k b) par_left h
+joins_par i held (Now (an_arm v o os) a) (Now no_arms b) h = absurd (none_below h.k h.k_within)
+joins_par i held (Now (an_arm v o os) a) (Now (an_arm w p ps) b) h = met_within (leaves_of_all (an_arm v o os)) (leaves_of_all (an_arm w p ps)) (λ l. step_arms i held (an_arm v o os) l a) (λ k. step_arms i held (an_arm w p ps) k b) par_left h
 joins_par i held (Now no_arms a) (Stops f) h = absurd (none_below h.l h.l_within)
-joins_par i held (Now (an_arm o os) a) (Stops f) h = halts_within (leaves_of_all (an_arm o os)) (λ l. step_arms i held (an_arm o os) l a) par_left f h
+joins_par i held (Now (an_arm v o os) a) (Stops f) h = halts_within (leaves_of_all (an_arm v o os)) (λ l. step_arms i held (an_arm v o os) l a) par_left f h
 joins_par i held (Stops f) (Now no_arms b) h = absurd (none_below h.l h.l_within)
-joins_par i held (Stops f) (Now (an_arm p ps) b) h = halts_within (leaves_of_all (an_arm p ps)) (λ k. step_arms i held (an_arm p ps) k b) par_left f h
+joins_par i held (Stops f) (Now (an_arm w p ps) b) h = halts_within (leaves_of_all (an_arm w p ps)) (λ k. step_arms i held (an_arm w p ps) k b) par_left f h
 joins_par i held (Stops f) (Stops g) h = tt
 
 -- a child's state put back and looked at again
@@ -164,14 +164,14 @@ module _ (i : Instance) (held : Held) (g c : ℕ) (inputs : List Seen) (s : Stat
   joins_call (Stops f) (Stops e) h = tt
 
 -- IN AN ARM and in the arms after it
-module _ (i : Instance) (held : Held) (arms : Opens) where
-  pub in_first : (o : Open) (l : ℕ) (a : State) → l < leaves_of o → step_arms i held (an_arm o arms) l a ≡ within (arms_left arms) (step i held o l a)
-  in_first o l a h = ap (λ b. first_or b (within (arms_left arms) (step i held o l a)) (within (an_arm o) (step_arms i held arms (l - leaves_of o) a))) (lt-ltb l (leaves_of o) h)
+module _ (i : Instance) (held : Held) (v : PlainStatement) (arms : Opens) where
+  pub in_first : (o : Open) (l : ℕ) (a : State) → l < leaves_of o → step_arms i held (an_arm v o arms) l a ≡ within (arms_left v arms) (step i held o l a)
+  in_first o l a h = ap (λ b. first_or b (within (arms_left v arms) (step i held o l a)) (within (an_arm v o) (step_arms i held arms (l - leaves_of o) a))) (lt-ltb l (leaves_of o) h)
 
-  first_count : (o : Open) (l : ℕ) → l < leaves_of o → l < leaves_of_all (an_arm o arms)
+  first_count : (o : Open) (l : ℕ) → l < leaves_of o → l < leaves_of_all (an_arm v o arms)
   first_count o l h = omega arith
 
-  joins_first : (x y : Stepped (Option Open)) → Joins i held x y → JoinArms i held (within (arms_left arms) x) (within (arms_left arms) y)
+  joins_first : (x y : Stepped (Option Open)) → Joins i held x y → JoinArms i held (within (arms_left v arms) x) (within (arms_left v arms) y)
   joins_first (Now None a) y h = absurd h
   joins_first (Now (Some o) a) (Now None b) h = absurd h
   joins_first (Now (Some o) a) (Now (Some p) b) h = record {
@@ -179,52 +179,52 @@ module _ (i : Instance) (held : Held) (arms : Opens) where
     k = h.k;
     l_within = first_count o h.l h.l_within;
     k_within = first_count p h.k h.k_within;
-    left = arms_left arms h.left;
+    left = arms_left v arms h.left;
     after = h.after;
-    first = in_first o h.l a h.l_within ∙ ap (within (arms_left arms)) h.first;
-    second = in_first p h.k b h.k_within ∙ ap (within (arms_left arms)) h.second;
+    first = in_first o h.l a h.l_within ∙ ap (within (arms_left v arms)) h.first;
+    second = in_first p h.k b h.k_within ∙ ap (within (arms_left v arms)) h.second;
   }
-  joins_first (Now (Some o) a) (Stops f) h = record { l = h.l; l_within = first_count o h.l h.l_within; halts = in_first o h.l a h.l_within ∙ ap (within (arms_left arms)) h.halts }
+  joins_first (Now (Some o) a) (Stops f) h = record { l = h.l; l_within = first_count o h.l h.l_within; halts = in_first o h.l a h.l_within ∙ ap (within (arms_left v arms)) h.halts }
   joins_first (Stops f) (Now None b) h = absurd h
-  joins_first (Stops f) (Now (Some p) b) h = record { l = h.l; l_within = first_count p h.l h.l_within; halts = in_first p h.l b h.l_within ∙ ap (within (arms_left arms)) h.halts }
+  joins_first (Stops f) (Now (Some p) b) h = record { l = h.l; l_within = first_count p h.l h.l_within; halts = in_first p h.l b h.l_within ∙ ap (within (arms_left v arms)) h.halts }
   joins_first (Stops f) (Stops e) h = tt
 
-module _ (i : Instance) (held : Held) (arm : Open) where
-  in_later : (arms : Opens) (l : ℕ) (a : State) → step_arms i held (an_arm arm arms) (leaves_of arm + l) a ≡ within (an_arm arm) (step_arms i held arms l a)
+module _ (i : Instance) (held : Held) (v : PlainStatement) (arm : Open) where
+  in_later : (arms : Opens) (l : ℕ) (a : State) → step_arms i held (an_arm v arm arms) (leaves_of arm + l) a ≡ within (an_arm v arm) (step_arms i held arms l a)
   in_later arms l a =
       let more : leaves_of arm ≤ leaves_of arm + l = omega arith in
       let less : (leaves_of arm + l) - leaves_of arm ≡ l = omega arith in
-      ap (λ b. first_or b (within (arms_left arms) (step i held arm (leaves_of arm + l) a)) (within (an_arm arm) (step_arms i held arms ((leaves_of arm + l) - leaves_of arm) a))) (le-ltb (leaves_of arm + l) (leaves_of arm) more)
-      ∙ ap (λ n. within (an_arm arm) (step_arms i held arms n a)) less
+      ap (λ b. first_or b (within (arms_left v arms) (step i held arm (leaves_of arm + l) a)) (within (an_arm v arm) (step_arms i held arms ((leaves_of arm + l) - leaves_of arm) a))) (le-ltb (leaves_of arm + l) (leaves_of arm) more)
+      ∙ ap (λ n. within (an_arm v arm) (step_arms i held arms n a)) less
 
-  later_count : (arms : Opens) (l : ℕ) → l < leaves_of_all arms → leaves_of arm + l < leaves_of_all (an_arm arm arms)
+  later_count : (arms : Opens) (l : ℕ) → l < leaves_of_all arms → leaves_of arm + l < leaves_of_all (an_arm v arm arms)
   later_count arms l h = omega arith
 
-  joins_later : (x y : Stepped Opens) → JoinArms i held x y → JoinArms i held (within (an_arm arm) x) (within (an_arm arm) y)
+  joins_later : (x y : Stepped Opens) → JoinArms i held x y → JoinArms i held (within (an_arm v arm) x) (within (an_arm v arm) y)
   joins_later (Now o a) (Now p b) h = record {
     l = leaves_of arm + h.l;
     k = leaves_of arm + h.k;
     l_within = later_count o h.l h.l_within;
     k_within = later_count p h.k h.k_within;
-    left = an_arm arm h.left;
+    left = an_arm v arm h.left;
     after = h.after;
-    first = in_later o h.l a ∙ ap (within (an_arm arm)) h.first;
-    second = in_later p h.k b ∙ ap (within (an_arm arm)) h.second;
+    first = in_later o h.l a ∙ ap (within (an_arm v arm)) h.first;
+    second = in_later p h.k b ∙ ap (within (an_arm v arm)) h.second;
   }
-  joins_later (Now o a) (Stops f) h = record { l = leaves_of arm + h.l; l_within = later_count o h.l h.l_within; halts = in_later o h.l a ∙ ap (within (an_arm arm)) h.halts }
-  joins_later (Stops f) (Now p b) h = record { l = leaves_of arm + h.l; l_within = later_count p h.l h.l_within; halts = in_later p h.l b ∙ ap (within (an_arm arm)) h.halts }
+  joins_later (Now o a) (Stops f) h = record { l = leaves_of arm + h.l; l_within = later_count o h.l h.l_within; halts = in_later o h.l a ∙ ap (within (an_arm v arm)) h.halts }
+  joins_later (Stops f) (Now p b) h = record { l = leaves_of arm + h.l; l_within = later_count p h.l h.l_within; halts = in_later p h.l b ∙ ap (within (an_arm v arm)) h.halts }
   joins_later (Stops f) (Stops e) h = tt
 
 -- an arm, and the arms after it, that are apart
-module _ (i : Instance) (held : Held) (x : PlainStatement) (xs : List PlainStatement) (apart : Apart (part_of i) x xs) (arm : Open) (arms : Opens) (k l : ℕ) (k_within : k < leaves_of arm) (l_within : l < leaves_of_all arms) where
+module _ (i : Instance) (held : Held) (x : PlainStatement) (xs : List PlainStatement) (apart : Apart (part_of i) x xs) (v : PlainStatement) (arm : Open) (arms : Opens) (k l : ℕ) (k_within : k < leaves_of arm) (l_within : l < leaves_of_all arms) where
   -- behind the turn of the arm, the turn of a later one; and behind that one, the turn of the arm
-  arm_gone : (left : Option Open) (a : State) (bs : Opens) (b : State) → step_arms i held arms l a ≡ Now bs b → (n : ℕ) × (n < leaves_of_all (arms_left arms left)) × (step_arms i held (arms_left arms left) n a ≡ Now (arms_left bs left) b)
+  arm_gone : (left : Option Open) (a : State) (bs : Opens) (b : State) → step_arms i held arms l a ≡ Now bs b → (n : ℕ) × (n < leaves_of_all (arms_left v arms left)) × (step_arms i held (arms_left v arms left) n a ≡ Now (arms_left v bs left) b)
   arm_gone None a bs b e = (l, l_within, e)
-  arm_gone (Some o) a bs b e = (leaves_of o + l, later_count i held o arms l l_within, in_later i held o arms l a ∙ ap (within (an_arm o)) e)
+  arm_gone (Some o) a bs b e = (leaves_of o + l, later_count i held v o arms l l_within, in_later i held v o arms l a ∙ ap (within (an_arm v o)) e)
 
-  arm_stops : (left : Option Open) (a : State) (f : Fault) → step_arms i held arms l a ≡ Stops f → Halts (leaves_of_all (arms_left arms left)) (λ n. step_arms i held (arms_left arms left) n a) f
+  arm_stops : (left : Option Open) (a : State) (f : Fault) → step_arms i held arms l a ≡ Stops f → Halts (leaves_of_all (arms_left v arms left)) (λ n. step_arms i held (arms_left v arms left) n a) f
   arm_stops None a f e = record { l = l; l_within = l_within; halts = e }
-  arm_stops (Some o) a f e = record { l = leaves_of o + l; l_within = later_count i held o arms l l_within; halts = in_later i held o arms l a ∙ ap (within (an_arm o)) e }
+  arm_stops (Some o) a f e = record { l = leaves_of o + l; l_within = later_count i held v o arms l l_within; halts = in_later i held v o arms l a ∙ ap (within (an_arm v o)) e }
 
   module _ (s : State) where
     one_off : (a : State) → OnlyIn (drives (part_of i) x) s a → Agree (AnyReads (part_of i) xs) s a
@@ -259,7 +259,7 @@ module _ (i : Instance) (held : Held) (x : PlainStatement) (xs : List PlainState
     cross : (y : Stepped (Option Open)) (z : Stepped Opens) → StepsIn (drives (part_of i) x) s y → StepsIn (all_drive (part_of i) xs) s z
         → ((t : State) → Agree (Reads (part_of i) x) s t → AlikeStep (Reads (part_of i) x) y (step i held arm k t)) → ((t : State) → StepsIn (drives (part_of i) x) t (step i held arm k t))
         → ((t : State) → Agree (AnyReads (part_of i) xs) s t → AlikeStep (AnyReads (part_of i) xs) z (step_arms i held arms l t)) → ((t : State) → StepsIn (all_drive (part_of i) xs) t (step_arms i held arms l t))
-        → JoinArms i held (within (arms_left arms) y) (within (an_arm arm) z)
+        → JoinArms i held (within (arms_left v arms) y) (within (an_arm v arm) z)
     cross (Now left a) (Now bs b) only_y only_z alike_y again_y alike_z again_z =
         let (b2, e2, h2) = alike_z a (one_off a only_y) in
         let (a2, e1, h1) = alike_y b (other_off b only_z) in
@@ -271,15 +271,15 @@ module _ (i : Instance) (held : Held) (x : PlainStatement) (xs : List PlainState
           l = gone.0;
           k = k;
           l_within = gone.1;
-          k_within = first_count i held bs arm k k_within;
-          left = arms_left bs left;
+          k_within = first_count i held v bs arm k k_within;
+          left = arms_left v bs left;
           after = a2;
-          first = gone.2 ∙ ap (Now (arms_left bs left)) same;
-          second = in_first i held bs arm k b k_within ∙ ap (within (arms_left bs)) e1;
+          first = gone.2 ∙ ap (Now (arms_left v bs left)) same;
+          second = in_first i held v bs arm k b k_within ∙ ap (within (arms_left v bs)) e1;
         }
     cross (Now left a) (Stops f) only_y only_z alike_y again_y alike_z again_z = arm_stops left a f (alike_z a (one_off a only_y))
     cross (Stops f) (Now bs b) only_y only_z alike_y again_y alike_z again_z =
-        record { l = k; l_within = first_count i held bs arm k k_within; halts = in_first i held bs arm k b k_within ∙ ap (within (arms_left bs)) (alike_y b (other_off b only_z)) }
+        record { l = k; l_within = first_count i held v bs arm k k_within; halts = in_first i held v bs arm k b k_within ∙ ap (within (arms_left v bs)) (alike_y b (other_off b only_z)) }
     cross (Stops f) (Stops g) only_y only_z alike_y again_y alike_z again_z = tt
 
 one_leaf : (k l : ℕ) → k < 1 → l < 1 → (k ≡ l → ⊥) → ⊥
@@ -310,25 +310,25 @@ mutual
   join_arms : (i : Instance) → AllSound i → (held : Held) (st : PlainStatement) (list : List PlainStatement) (arms : Opens) → ArmsFit i st list arms → (k l : ℕ) → k < leaves_of_all arms → l < leaves_of_all arms → (k ≡ l → ⊥) → (s : State)
       → JoinArms i held (step_arms i held arms k s) (step_arms i held arms l s)
   join_arms i all held st [] no_arms fits k l m n differ s = absurd (none_below k m)
-  join_arms i all held st [] (an_arm arm arms) fits k l m n differ s = absurd fits
+  join_arms i all held st [] (an_arm v arm arms) fits k l m n differ s = absurd fits
   join_arms i all held st (x ∷ xs) no_arms fits k l m n differ s = absurd fits
-  join_arms i all held st (x ∷ xs) (an_arm arm arms) (is, one, apart, rest) k l m n differ s =
+  join_arms i all held st (x ∷ xs) (an_arm v arm arms) (is, one, apart, rest) k l m n differ s =
       go (nat_lt k (leaves_of arm)) refl (nat_lt l (leaves_of arm)) refl
       (λ u w. joins i all held x is.stands arm one k l u w differ s)
       (λ u w other. join_arms i all held st xs arms rest (k - leaves_of arm) (l - leaves_of arm) u w other s)
     where
-      beside : (p q : ℕ) → p < leaves_of arm → q < leaves_of_all arms → JoinArms i held (within (arms_left arms) (step i held arm p s)) (within (an_arm arm) (step_arms i held arms q s))
+      beside : (p q : ℕ) → p < leaves_of arm → q < leaves_of_all arms → JoinArms i held (within (arms_left v arms) (step i held arm p s)) (within (an_arm v arm) (step_arms i held arms q s))
       beside p q u w =
-          cross i held x xs apart arm arms p q u w s (step i held arm p s) (step_arms i held arms q s) (step_only i held x arm one p s) (arms_only i held st xs arms rest q s)
+          cross i held x xs apart v arm arms p q u w s (step i held arm p s) (step_arms i held arms q s) (step_only i held x arm one p s) (arms_only i held st xs arms rest q s)
           (λ t agree. step_alike i (sound_here i all) held x is.stands arm one p s t agree) (λ t. step_only i held x arm one p t)
           (λ t agree. arms_alike i (sound_here i all) held st xs arms rest q s t agree) (λ t. arms_only i held st xs arms rest q t)
 
       go : (b : Bool) → nat_lt k (leaves_of arm) ≡ b → (c : Bool) → nat_lt l (leaves_of arm) ≡ c
           → (k < leaves_of arm → l < leaves_of arm → Joins i held (step i held arm k s) (step i held arm l s))
           → (k - leaves_of arm < leaves_of_all arms → l - leaves_of arm < leaves_of_all arms → (k - leaves_of arm ≡ l - leaves_of arm → ⊥) → JoinArms i held (step_arms i held arms (k - leaves_of arm) s) (step_arms i held arms (l - leaves_of arm) s))
-          → JoinArms i held (first_or b (within (arms_left arms) (step i held arm k s)) (within (an_arm arm) (step_arms i held arms (k - leaves_of arm) s)))
-          (first_or c (within (arms_left arms) (step i held arm l s)) (within (an_arm arm) (step_arms i held arms (l - leaves_of arm) s)))
-      go true e true f both later = joins_first i held arms (step i held arm k s) (step i held arm l s) (both (ltb-true k (leaves_of arm) e) (ltb-true l (leaves_of arm) f))
+          → JoinArms i held (first_or b (within (arms_left v arms) (step i held arm k s)) (within (an_arm v arm) (step_arms i held arms (k - leaves_of arm) s)))
+          (first_or c (within (arms_left v arms) (step i held arm l s)) (within (an_arm v arm) (step_arms i held arms (l - leaves_of arm) s)))
+      go true e true f both later = joins_first i held v arms (step i held arm k s) (step i held arm l s) (both (ltb-true k (leaves_of arm) e) (ltb-true l (leaves_of arm) f))
       go true e false f both later =
           let past : leaves_of arm ≤ l = ltb-false l (leaves_of arm) f in
           beside k (l - leaves_of arm) (ltb-true k (leaves_of arm) e) (let h : l - leaves_of arm < leaves_of_all arms = omega arith in h)
@@ -338,6 +338,6 @@ mutual
       go false e false f both later =
           let past : leaves_of arm ≤ k = ltb-false k (leaves_of arm) e in
           let gone : leaves_of arm ≤ l = ltb-false l (leaves_of arm) f in
-          joins_later i held arm (step_arms i held arms (k - leaves_of arm) s) (step_arms i held arms (l - leaves_of arm) s)
+          joins_later i held v arm (step_arms i held arms (k - leaves_of arm) s) (step_arms i held arms (l - leaves_of arm) s)
           (later (let h : k - leaves_of arm < leaves_of_all arms = omega arith in h) (let h : l - leaves_of arm < leaves_of_all arms = omega arith in h)
           (λ same. differ (let h : k ≡ l = omega arith in h)))

@@ -1,13 +1,18 @@
 -- Worked examples, computed from the definitions; each value was worked by hand from the sentence above it.
-use Rattle.std.specs.Prelude.{◌≡◌, ℕ, List, [], ◌∷◌, None, refl}
+use Rattle.std.proofs.Common.{◌≡◌, ◌≤◌, ◌<◌, ℕ, inl, inr, List, [], ◌∷◌, None, refl, arith}
 use Rattle.cx_meaning.specs.declared.ports.PortRef.{PortRef}
 use Rattle.cx_meaning.specs.declared.ports.PortRef.TheVariants.{Cell, Input, Done}
 use Rattle.cx_meaning.specs.declared.ports.PortRef.TheVariants as ports
 use Rattle.cx_meaning.specs.declared.sights.FaultKind.{FaultKind}
 use Rattle.cx_meaning.specs.declared.sights.FaultKind.TheVariants as faults
 use Rattle.cx_meaning.specs.Designs.{PlainDesign, PlainComponent, PlainGroup, Negation, Atom, Within, While, Repeat}
-use Rattle.cx_meaning.specs.Instances.{tree_of, words_of}
+use Rattle.cx_meaning.specs.Answers as answers
+use Rattle.cx_meaning.specs.Cycles.{fault_at}
+use Rattle.cx_meaning.specs.Instances.{start, tree_of, words_of}
+use Rattle.cx_meaning.specs.Running.{run_main}
 use Rattle.cx_meaning.proofs.KnownDesigns.{placed, assign, guarded, plain_group, timed_group, child_cell, mem, reg, adder, st, enable, seq, par, component, design, one_bit, number, write, store}
+use Rattle.cx_weave.specs.Alone.{LeafHasAlone, own, of_arm}
+use Rattle.cx_weave.specs.Open.{InGroup, InPar, no_arms, an_arm, open_control}
 use Rattle.cx_weave.specs.Woven.{Woven, Ends, More, woven, by_list}
 use Rattle.cx_weave.specs.Woven as weaving
 
@@ -47,6 +52,18 @@ known_second_leaf = refl
 pub known_no_choice : weave_told two_bare (0 ∷ []) 0 ≡ GoesOn
 known_no_choice = refl
 
+-- by the list 1 the leaf is in the second arm, which alone has its fault in its first turn; the run of main never tells that one,
+-- but that of the first arm
+pub known_arm_alone : LeafHasAlone two_bare five (by_list (1 ∷ [])) (fault_at faults.Undefined (Cell 1 0)) 0
+known_arm_alone =
+    let behind : 1 ≤ 1 = omega arith in
+    let there : 0 < 1 = omega arith in
+    let at_most : 0 ≤ 0 = omega arith in
+    (open_control (tree_of two_bare), start (tree_of two_bare) five, refl, (0, of_arm (enable 1) (InGroup 1) 0 (inr (inl refl)) (inr (behind, inl (there, refl, refl, refl))) (own 1 tt refl), at_most))
+
+pub known_run_of_two : run_main two_bare five 9 ≡ answers.Fault (fault_at faults.Undefined (Cell 0 0)) 0
+known_run_of_two = refl
+
 -- leaf 2 of two leaves is leaf 0, and leaf 5 is leaf 1
 pub known_modulo : weave_told two_bare (2 ∷ []) 9 ≡ Fault_of faults.Undefined [] (Cell 0 0) 0
 known_modulo = refl
@@ -78,9 +95,20 @@ pub known_ends_of_pars : weave_told (design (mem ∷ reg 32 ∷ reg 32 ∷ []) (
 known_ends_of_pars = refl
 
 -- an arm that has ended is no leaf: of three arms the second takes its two turns, and leaf 1 is then the third
-pub known_ended_arm : weave_told (design (mem ∷ reg 32 ∷ reg 32 ∷ reg 32 ∷ []) (write 1 0 (number 1) ∷ write 2 1 (number 3) ∷ bare_write 3 2 ∷ [])
-    [] (par (enable 0 ∷ enable 1 ∷ enable 2 ∷ []))) (1 ∷ []) 100 ≡ Fault_of faults.Undefined [] (Cell 3 0) 2
+abbrev three_arms : PlainDesign
+three_arms = design (mem ∷ reg 32 ∷ reg 32 ∷ reg 32 ∷ []) (write 1 0 (number 1) ∷ write 2 1 (number 3) ∷ bare_write 3 2 ∷ [])
+    [] (par (enable 0 ∷ enable 1 ∷ enable 2 ∷ []))
+
+pub known_ended_arm : weave_told three_arms (1 ∷ []) 100 ≡ Fault_of faults.Undefined [] (Cell 3 0) 2
 known_ended_arm = refl
+
+-- and it is the third arm that is told to have the fault alone
+pub known_third_alone : LeafHasAlone three_arms five (by_list (1 ∷ [])) (fault_at faults.Undefined (Cell 3 0)) 2
+known_third_alone =
+    let behind : 1 ≤ 1 = omega arith in
+    let there : 0 < 1 = omega arith in
+    let at_most : 0 ≤ 2 = omega arith in
+    (InPar (an_arm (enable 0) (InGroup 0) (an_arm (enable 2) (InGroup 2) no_arms)), _, refl, (0, of_arm (enable 2) (InGroup 2) 0 (inr (inr (inl refl))) (inr (behind, inl (there, refl, refl, refl))) (own 1 tt refl), at_most))
 
 -- a repeat of two rounds of 2 turns beside a while whose test fails at once
 pub known_rounds : weave_told (design (mem ∷ reg 32 ∷ reg 1 ∷ []) (write 1 0 (number 1) ∷ write 2 1 (one_bit 1) ∷ [])

@@ -12,6 +12,7 @@ pub mod Runs
 pub mod Lawful
 pub mod Halting
 pub mod HaltRuns
+pub mod AloneRuns
 pub mod KnownWoven
 mod TurnsTaken
 mod LeafSteps

@@ -214,6 +214,7 @@ module _ (d : PlainDesign) (n : ℕ) where
   all_shown path number (s ∷ ss) [] are = absurd are
   all_shown path number (s ∷ ss) (x ∷ xs) are =
       let i = instance_at (tree_of d) path in (
+        plain_statement s,
         open_with (part_of i) (open_enable i (open_below (cells_of i))) (plain_statement s),
         open_arms (part_of i) (open_enable i (open_below (cells_of i))) (plain_statements ss),
         refl,

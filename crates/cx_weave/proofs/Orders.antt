@@ -76,7 +76,7 @@ mutual
 
   arms_some : (i : Instance) (st x : PlainStatement) (xs : List PlainStatement) (arms : Opens) → ArmsFit i st (x ∷ xs) arms → 0 < leaves_of_all arms
   arms_some i st x xs no_arms fits = absurd fits
-  arms_some i st x xs (an_arm arm arms) (is, one, apart, rest) = let h : 0 < leaves_of arm = leaves_some i x arm one in omega arith
+  arms_some i st x xs (an_arm v arm arms) (is, one, apart, rest) = let h : 0 < leaves_of arm = leaves_some i x arm one in omega arith
 
 none_more : (m : ℕ) → suc m ≤ 0 → ⊥
 none_more m h = absurd (omega arith)

@@ -34,7 +34,7 @@ mutual
 
   all_leaves_shown : (d : PlainDesign) (n : ℕ) (arms : PlainStrands) (list : Opens) → ShowsAll d n arms list → leaves_of_all list ≡ strands_leaves arms
   all_leaves_shown d n no_strands list h = ap leaves_of_all h
-  all_leaves_shown d n (a_strand arm arms) list h = ap leaves_of_all h.2 ∙ ap (λ k. k + leaves_of_all h.1) (leaves_shown d n arm h.0 h.3) ∙ ap (λ k. strand_leaves arm + k) (all_leaves_shown d n arms h.1 h.4)
+  all_leaves_shown d n (a_strand arm arms) list (v, first, later, e, one, rest) = ap leaves_of_all e ∙ ap (λ k. k + leaves_of_all later) (leaves_shown d n arm first one) ∙ ap (λ k. strand_leaves arm + k) (all_leaves_shown d n arms later rest)
 
 -- and at least one
 more_leaves : (a b : ℕ) → 0 < a → 0 < a + b
@@ -51,7 +51,7 @@ some_leaf d n (AClosing g) o h = omega arith
 some_leaf d n AWaiting o h = omega arith
 some_leaf d n (ASeq first later) o h = some_leaf d n first h.0 h.2
 some_leaf d n (APar no_strands) o h = absurd h.3
-some_leaf d n (APar (a_strand arm arms)) o h = more_leaves (strand_leaves arm) (strands_leaves arms) (some_leaf d n arm h.2.0 h.2.3)
+some_leaf d n (APar (a_strand arm arms)) o h = more_leaves (strand_leaves arm) (strands_leaves arms) (some_leaf d n arm h.2.1 h.2.4)
 some_leaf d n (ALoop run port comb body) o h = some_leaf d n run h.0 h.2
 some_leaf d n (ARepeat run left body) o h = some_leaf d n run h.0 h.2
 some_leaf d n (ACall g c inputs child) o (now, is, group, calls, fits, (m, at, shown)) = some_leaf d m child now shown
@@ -135,27 +135,27 @@ module _ (d : PlainDesign) (old new : List PlainInstance) (n : ℕ) where
   ArmsTold path s (Err halt) (Stops fault) = StepTold d n path s new (Err halt) (Stops fault)
 
   -- the arm with the leaf goes on, or ends
-  one_goes : (path : Path) (s : State) (arms : List Strand) (later : Opens) (arm : Strand) (left : Option Strand) (x : Stepped (Option Open)) → ShowsAll d n (strands_of (map plain_strand arms)) later
-      → StepTold d n path s new (Ok left) x → ArmsTold path s (Ok (arms_after (arm ∷ arms) zero left)) (within (arms_left later) x)
-  one_goes path s arms later arm None (Now None t) shown told = (told.0, shown)
-  one_goes path s arms later arm None (Now (Some o) t) shown told = absurd told.1
-  one_goes path s arms later arm (Some l) (Now None t) shown told = absurd told.1
-  one_goes path s arms later arm (Some l) (Now (Some o) t) shown told = (told.0, (o, later, refl, told.1, shown))
-  one_goes path s arms later arm left (Stops fault) shown told = absurd told
+  one_goes : (path : Path) (s : State) (arms : List Strand) (v : PlainStatement) (later : Opens) (arm : Strand) (left : Option Strand) (x : Stepped (Option Open)) → ShowsAll d n (strands_of (map plain_strand arms)) later
+      → StepTold d n path s new (Ok left) x → ArmsTold path s (Ok (arms_after (arm ∷ arms) zero left)) (within (arms_left v later) x)
+  one_goes path s arms v later arm None (Now None t) shown told = (told.0, shown)
+  one_goes path s arms v later arm None (Now (Some o) t) shown told = absurd told.1
+  one_goes path s arms v later arm (Some l) (Now None t) shown told = absurd told.1
+  one_goes path s arms v later arm (Some l) (Now (Some o) t) shown told = (told.0, (v, o, later, refl, told.1, shown))
+  one_goes path s arms v later arm left (Stops fault) shown told = absurd told
 
-  one_stops : (path : Path) (s : State) (later : Opens) (halt : Halt) (x : Stepped (Option Open)) → StepTold d n path s new (Err halt) x → ArmsTold path s (Err halt) (within (arms_left later) x)
-  one_stops path s later (halts.Fault told) (Now o t) bad = absurd bad
-  one_stops path s later halts.Memory (Now o t) tells = tt
-  one_stops path s later halt (Stops fault) tells = tells
+  one_stops : (path : Path) (s : State) (v : PlainStatement) (later : Opens) (halt : Halt) (x : Stepped (Option Open)) → StepTold d n path s new (Err halt) x → ArmsTold path s (Err halt) (within (arms_left v later) x)
+  one_stops path s v later (halts.Fault told) (Now o t) bad = absurd bad
+  one_stops path s v later halts.Memory (Now o t) tells = tt
+  one_stops path s v later halt (Stops fault) tells = tells
 
-  behind_goes : (path : Path) (s : State) (first : Open) (arm : Strand) (arms : List Strand) (x : Stepped Opens) → Shows d n (plain_strand arm) first → ArmsTold path s (Ok arms) x → ArmsTold path s (Ok (arm ∷ arms)) (within (an_arm first) x)
-  behind_goes path s first arm arms (Now list t) shown told = (told.0, (first, list, refl, shown, told.1))
-  behind_goes path s first arm arms (Stops fault) shown told = absurd told
+  behind_goes : (path : Path) (s : State) (v : PlainStatement) (first : Open) (arm : Strand) (arms : List Strand) (x : Stepped Opens) → Shows d n (plain_strand arm) first → ArmsTold path s (Ok arms) x → ArmsTold path s (Ok (arm ∷ arms)) (within (an_arm v first) x)
+  behind_goes path s v first arm arms (Now list t) shown told = (told.0, (v, first, list, refl, shown, told.1))
+  behind_goes path s v first arm arms (Stops fault) shown told = absurd told
 
-  behind_stops : (path : Path) (s : State) (first : Open) (halt : Halt) (x : Stepped Opens) → ArmsTold path s (Err halt) x → ArmsTold path s (Err halt) (within (an_arm first) x)
-  behind_stops path s first (halts.Fault told) (Now list t) bad = absurd bad
-  behind_stops path s first halts.Memory (Now list t) tells = tt
-  behind_stops path s first halt (Stops fault) tells = tells
+  behind_stops : (path : Path) (s : State) (v : PlainStatement) (first : Open) (halt : Halt) (x : Stepped Opens) → ArmsTold path s (Err halt) x → ArmsTold path s (Err halt) (within (an_arm v first) x)
+  behind_stops path s v first (halts.Fault told) (Now list t) bad = absurd bad
+  behind_stops path s v first halts.Memory (Now list t) tells = tt
+  behind_stops path s v first halt (Stops fault) tells = tells
 
   chosen : {A : Type 0} (b : Bool) (x y : A) → b ≡ true → first_or b x y ≡ x
   chosen true x y e = refl
@@ -173,16 +173,16 @@ module _ (d : PlainDesign) (old new : List PlainInstance) (n : ℕ) where
       → ((o : Open) → Shows d n (plain_strand arm) o → StepTold d n path s new (Ok left) (step (instance_at (tree_of d) path) held o leaf (under_path path s)))
       → ArmsTold path s (Ok (arms_after arms at left)) (step_arms (instance_at (tree_of d) path) held list k (under_path path s))
   arms_go path s left held [] list k at leaf arm shown is same told = absurd is
-  arms_go path s left held (x ∷ xs) list k zero leaf arm (first, later, e, one, rest) (here, less) same told =
+  arms_go path s left held (x ∷ xs) list k zero leaf arm (v, first, later, e, one, rest) (here, less) same told =
       let i = instance_at (tree_of d) path in
       let u = under_path path s in
       let lt : k < leaves_of first = subst (λ m. k < m) (sym (leaves_shown d n (plain_strand x) first one)) less in
       let turn : StepTold d n path s new (Ok left) (step i held first k u) = subst (λ m. StepTold d n path s new (Ok left) (step i held first m u)) here (told first (subst (λ y. Shows d n (plain_strand y) first) (sym same) one)) in
       subst (λ l. ArmsTold path s (Ok (arms_after (x ∷ xs) zero left)) (step_arms i held l k u)) (sym e)
       (subst (λ r. ArmsTold path s (Ok (arms_after (x ∷ xs) zero left)) r)
-      (sym (chosen (nat_lt k (leaves_of first)) (within (arms_left later) (step i held first k u)) (within (an_arm first) (step_arms i held later (k - leaves_of first) u)) (lt-ltb k (leaves_of first) lt)))
-      (one_goes path s xs later x left (step i held first k u) rest turn))
-  arms_go path s left held (x ∷ xs) list k (suc at) leaf arm (first, later, e, one, rest) (past, is) same told =
+      (sym (chosen (nat_lt k (leaves_of first)) (within (arms_left v later) (step i held first k u)) (within (an_arm v first) (step_arms i held later (k - leaves_of first) u)) (lt-ltb k (leaves_of first) lt)))
+      (one_goes path s xs v later x left (step i held first k u) rest turn))
+  arms_go path s left held (x ∷ xs) list k (suc at) leaf arm (v, first, later, e, one, rest) (past, is) same told =
       let i = instance_at (tree_of d) path in
       let u = under_path path s in
       let count = leaves_shown d n (plain_strand x) first one in
@@ -190,25 +190,25 @@ module _ (d : PlainDesign) (old new : List PlainInstance) (n : ℕ) where
       let inner = arms_go path s left held xs later (k - strand_leaves (plain_strand x)) at leaf arm rest is same told in
       subst (λ l. ArmsTold path s (Ok (arms_after (x ∷ xs) (suc at) left)) (step_arms i held l k u)) (sym e)
       (subst (λ r. ArmsTold path s (Ok (arms_after (x ∷ xs) (suc at) left)) r)
-      (sym (passed (nat_lt k (leaves_of first)) (within (arms_left later) (step i held first k u)) (within (an_arm first) (step_arms i held later (k - leaves_of first) u)) (le-ltb k (leaves_of first) le)))
-      (subst (λ ys. ArmsTold path s (Ok ys) (within (an_arm first) (step_arms i held later (k - leaves_of first) u))) (sym (told_after at xs x left))
-      (behind_goes path s first x (arms_after xs at left) (step_arms i held later (k - leaves_of first) u) one
+      (sym (passed (nat_lt k (leaves_of first)) (within (arms_left v later) (step i held first k u)) (within (an_arm v first) (step_arms i held later (k - leaves_of first) u)) (le-ltb k (leaves_of first) le)))
+      (subst (λ ys. ArmsTold path s (Ok ys) (within (an_arm v first) (step_arms i held later (k - leaves_of first) u))) (sym (told_after at xs x left))
+      (behind_goes path s v first x (arms_after xs at left) (step_arms i held later (k - leaves_of first) u) one
       (subst (λ m. ArmsTold path s (Ok (arms_after xs at left)) (step_arms i held later (k - m) u)) (sym count) inner))))
 
   pub arms_stop : (path : Path) (s : State) (halt : Halt) (held : Held) (arms : List Strand) (list : Opens) (k at leaf : ℕ) (arm : Strand) → ShowsAll d n (strands_of (map plain_strand arms)) list → IsArmOf (map plain_strand arms) k at leaf → arm ≡ get_or arms at arm
       → ((o : Open) → Shows d n (plain_strand arm) o → StepTold d n path s new (Err halt) (step (instance_at (tree_of d) path) held o leaf (under_path path s)))
       → ArmsTold path s (Err halt) (step_arms (instance_at (tree_of d) path) held list k (under_path path s))
   arms_stop path s halt held [] list k at leaf arm shown is same told = absurd is
-  arms_stop path s halt held (x ∷ xs) list k zero leaf arm (first, later, e, one, rest) (here, less) same told =
+  arms_stop path s halt held (x ∷ xs) list k zero leaf arm (v, first, later, e, one, rest) (here, less) same told =
       let i = instance_at (tree_of d) path in
       let u = under_path path s in
       let lt : k < leaves_of first = subst (λ m. k < m) (sym (leaves_shown d n (plain_strand x) first one)) less in
       let turn : StepTold d n path s new (Err halt) (step i held first k u) = subst (λ m. StepTold d n path s new (Err halt) (step i held first m u)) here (told first (subst (λ y. Shows d n (plain_strand y) first) (sym same) one)) in
       subst (λ l. ArmsTold path s (Err halt) (step_arms i held l k u)) (sym e)
       (subst (λ r. ArmsTold path s (Err halt) r)
-      (sym (chosen (nat_lt k (leaves_of first)) (within (arms_left later) (step i held first k u)) (within (an_arm first) (step_arms i held later (k - leaves_of first) u)) (lt-ltb k (leaves_of first) lt)))
-      (one_stops path s later halt (step i held first k u) turn))
-  arms_stop path s halt held (x ∷ xs) list k (suc at) leaf arm (first, later, e, one, rest) (past, is) same told =
+      (sym (chosen (nat_lt k (leaves_of first)) (within (arms_left v later) (step i held first k u)) (within (an_arm v first) (step_arms i held later (k - leaves_of first) u)) (lt-ltb k (leaves_of first) lt)))
+      (one_stops path s v later halt (step i held first k u) turn))
+  arms_stop path s halt held (x ∷ xs) list k (suc at) leaf arm (v, first, later, e, one, rest) (past, is) same told =
       let i = instance_at (tree_of d) path in
       let u = under_path path s in
       let count = leaves_shown d n (plain_strand x) first one in
@@ -216,18 +216,18 @@ module _ (d : PlainDesign) (old new : List PlainInstance) (n : ℕ) where
       let inner = arms_stop path s halt held xs later (k - strand_leaves (plain_strand x)) at leaf arm rest is same told in
       subst (λ l. ArmsTold path s (Err halt) (step_arms i held l k u)) (sym e)
       (subst (λ r. ArmsTold path s (Err halt) r)
-      (sym (passed (nat_lt k (leaves_of first)) (within (arms_left later) (step i held first k u)) (within (an_arm first) (step_arms i held later (k - leaves_of first) u)) (le-ltb k (leaves_of first) le)))
-      (behind_stops path s first halt (step_arms i held later (k - leaves_of first) u)
+      (sym (passed (nat_lt k (leaves_of first)) (within (arms_left v later) (step i held first k u)) (within (an_arm v first) (step_arms i held later (k - leaves_of first) u)) (le-ltb k (leaves_of first) le)))
+      (behind_stops path s v first halt (step_arms i held later (k - leaves_of first) u)
       (subst (λ m. ArmsTold path s (Err halt) (step_arms i held later (k - m) u)) (sym count) inner)))
 
   -- A PAR
   par_told : (path : Path) (s : State) (arms : List Strand) (after : Option Strand) (x : Stepped Opens) → IsParOf arms after → ArmsTold path s (Ok arms) x → StepTold d n path s new (Ok after) (within par_left x)
   par_told path s [] after (Now no_arms t) is told = subst (λ a. StepTold d n path s new (Ok a) (Now None t)) (sym is) (told.0, tt)
-  par_told path s [] after (Now (an_arm o os) t) is told = absurd (let f : an_arm o os ≡ no_arms = told.1 in cc)
-  par_told path s (y ∷ ys) after (Now no_arms t) is told = absurd (let f : no_arms ≡ an_arm told.1.0 told.1.1 = told.1.2 in cc)
-  par_told path s (y ∷ ys) after (Now (an_arm o os) t) (strand, is, plain) told =
-      subst (λ a. StepTold d n path s new (Ok a) (Now (Some (InPar (an_arm o os))) t)) (sym is)
-      (told.0, subst (λ p. Shows d n p (InPar (an_arm o os))) (sym plain) (an_arm o os, refl, told.1, tt))
+  par_told path s [] after (Now (an_arm v o os) t) is told = absurd (let f : an_arm v o os ≡ no_arms = told.1 in cc)
+  par_told path s (y ∷ ys) after (Now no_arms t) is told = absurd (let f : no_arms ≡ an_arm told.1.0 told.1.1 told.1.2 = told.1.3 in cc)
+  par_told path s (y ∷ ys) after (Now (an_arm v o os) t) (strand, is, plain) told =
+      subst (λ a. StepTold d n path s new (Ok a) (Now (Some (InPar (an_arm v o os))) t)) (sym is)
+      (told.0, subst (λ p. Shows d n p (InPar (an_arm v o os))) (sym plain) (an_arm v o os, refl, told.1, tt))
   par_told path s arms after (Stops fault) is told = absurd told
 
   par_halts : (path : Path) (s : State) (halt : Halt) (x : Stepped Opens) → ArmsTold path s (Err halt) x → StepTold d n path s new (Err halt) (within par_left x)

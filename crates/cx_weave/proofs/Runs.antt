@@ -308,7 +308,7 @@ module _ (part : PlainComponent) (cells : Cells) (all : AllSound (Node part cell
   arms_ran st stands v there arms form done no_statements split runs fits s cur final spent (suc m) n before e enough = absurd e
   arms_ran st stands v there arms form done (a_statement x xs) split (one_runs, runs) (is, one, apart, rest) s cur final spent m n (t, r, less) e enough =
       let o : Open = open_with part (open_enable (Node part cells) (open_below cells)) x in
-      let parts = par_splits (Node part cells) all held final st stands (open_arms part (open_enable (Node part cells) (open_below cells)) xs) m o cur (x, list_of xs, (is, one, apart, rest))
+      let parts = par_splits (Node part cells) all held final st stands x (open_arms part (open_enable (Node part cells) (open_below cells)) xs) m o cur (x, list_of xs, (is, one, apart, rest))
       (leaves_some (Node part cells) x o one) (λ p f. arm_leaves p f) e in
       let sum : m ≡ parts.one + parts.two = parts.sum in
       let answer = one_runs parts.middle parts.one cur r.settled parts.first n (let few : parts.one ≤ n = omega arith in few) in
@@ -320,10 +320,10 @@ module _ (part : PlainComponent) (cells : Cells) (all : AllSound (Node part cell
       let most : (spent + parts.one) + parts.two ≡ spent + m = omega arith in
       subst (ArmsRan (list_of arms) s n final) most whole
     where
-      some_of : (y : PlainStatement) (ys : List PlainStatement) (p : Open) → ArmsFit (Node part cells) st (y ∷ ys) (an_arm p (open_arms part (open_enable (Node part cells) (open_below cells)) xs)) → 0 < leaves_of p
+      some_of : (y : PlainStatement) (ys : List PlainStatement) (p : Open) → ArmsFit (Node part cells) st (y ∷ ys) (an_arm x p (open_arms part (open_enable (Node part cells) (open_below cells)) xs)) → 0 < leaves_of p
       some_of y ys p (is2, one2, apart2, rest2) = leaves_some (Node part cells) y p one2
 
-      arm_leaves : (p : Open) → Fits (Node part cells) st (InPar (an_arm p (open_arms part (open_enable (Node part cells) (open_below cells)) xs))) → 0 < leaves_of p
+      arm_leaves : (p : Open) → Fits (Node part cells) st (InPar (an_arm x p (open_arms part (open_enable (Node part cells) (open_below cells)) xs))) → 0 < leaves_of p
       arm_leaves p (y, ys, f) = some_of y ys p f
 
   ended_answer : (final : State) (t : ℕ) (x : Answer State Fault) → AnswersAs final x (ran.Ended t) → x ≡ End final t

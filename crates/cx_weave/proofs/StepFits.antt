@@ -59,8 +59,8 @@ lift_fits i st g c inputs s j on (Stops fault) h = tt
 
 par_fits : (i : Instance) (st : PlainStatement) (list : List PlainStatement) (x : Stepped Opens) → ArmsStepFit i st list x → StepFits i st (within par_left x)
 par_fits i st list (Now no_arms after) h = tt
-par_fits i st list (Now (an_arm arm arms) after) ([], fits, h, k) = absurd fits
-par_fits i st list (Now (an_arm arm arms) after) (x ∷ xs, fits, h, k) = (x, xs, fits)
+par_fits i st list (Now (an_arm v arm arms) after) ([], fits, h, k) = absurd fits
+par_fits i st list (Now (an_arm v arm arms) after) (x ∷ xs, fits, h, k) = (x, xs, fits)
 par_fits i st list (Stops fault) h = tt
 
 or_right : (a b : Bool) → b ≡ true → (a || b) ≡ true
@@ -71,13 +71,13 @@ or_later : (a b c : Bool) → (b ≡ true → c ≡ true) → (a || b) ≡ true 
 or_later true b c h e = refl
 or_later false b c h e = h e
 
-module _ (i : Instance) (st x : PlainStatement) (xs : List PlainStatement) (arm : Open) (arms : Opens) (fits : ArmsFit i st (x ∷ xs) (an_arm arm arms)) where
-  first_fits : (y : Stepped (Option Open)) → StepFits i x y → ArmsStepFit i st (x ∷ xs) (within (arms_left arms) y)
+module _ (i : Instance) (st x : PlainStatement) (xs : List PlainStatement) (v : PlainStatement) (arm : Open) (arms : Opens) (fits : ArmsFit i st (x ∷ xs) (an_arm v arm arms)) where
+  first_fits : (y : Stepped (Option Open)) → StepFits i x y → ArmsStepFit i st (x ∷ xs) (within (arms_left v arms) y)
   first_fits (Now None after) h = (xs, fits.3, λ c r. inr r, λ c e. or_right (drives (part_of i) x c) (all_drive (part_of i) xs c) e)
   first_fits (Now (Some one) after) h = (x ∷ xs, (fits.0, h, fits.2, fits.3), λ c r. r, λ c e. e)
   first_fits (Stops fault) h = tt
 
-  later_fits : (y : Stepped Opens) → ArmsStepFit i st xs y → ArmsStepFit i st (x ∷ xs) (within (an_arm arm) y)
+  later_fits : (y : Stepped Opens) → ArmsStepFit i st xs y → ArmsStepFit i st (x ∷ xs) (within (an_arm v arm) y)
   later_fits (Now more after) (left, h, reads, drive) = (
     x ∷ left,
     (fits.0, fits.1, record { one = λ c e r. fits.2.one c e (reads c r); other = λ c e r. fits.2.other c (drive c e) r }, h),
@@ -134,9 +134,9 @@ mutual
 
   arms_step_fit : (i : Instance) → AllSound i → (held : Held) (st : PlainStatement) → Stands i st → (list : List PlainStatement) (arms : Opens) → ArmsFit i st list arms → (k : ℕ) (s : State) → ArmsStepFit i st list (step_arms i held arms k s)
   arms_step_fit i all held st stands [] no_arms fits k s = ([], tt, λ c r. r, λ c e. e)
-  arms_step_fit i all held st stands [] (an_arm arm arms) fits k s = absurd fits
+  arms_step_fit i all held st stands [] (an_arm v arm arms) fits k s = absurd fits
   arms_step_fit i all held st stands (x ∷ xs) no_arms fits k s = absurd fits
-  arms_step_fit i all held st stands (x ∷ xs) (an_arm arm arms) (is, one, apart, rest) k s =
-      choose_fits i st x xs arm arms (is, one, apart, rest) (nat_lt k (leaves_of arm)) _ _
-      (first_fits i st x xs arm arms (is, one, apart, rest) (step i held arm k s) (step_fits i all held x is.stands arm one k s))
-      (later_fits i st x xs arm arms (is, one, apart, rest) (step_arms i held arms (k - leaves_of arm) s) (arms_step_fit i all held st stands xs arms rest (k - leaves_of arm) s))
+  arms_step_fit i all held st stands (x ∷ xs) (an_arm v arm arms) (is, one, apart, rest) k s =
+      choose_fits i st x xs v arm arms (is, one, apart, rest) (nat_lt k (leaves_of arm)) _ _
+      (first_fits i st x xs v arm arms (is, one, apart, rest) (step i held arm k s) (step_fits i all held x is.stands arm one k s))
+      (later_fits i st x xs v arm arms (is, one, apart, rest) (step_arms i held arms (k - leaves_of arm) s) (arms_step_fit i all held st stands xs arms rest (k - leaves_of arm) s))

@@ -91,9 +91,9 @@ or_right false b e = e
 
 arms_drive_in : (i : Instance) (st : PlainStatement) (list : List PlainStatement) (arms : Opens) → ArmsFit i st list arms → (c : ℕ) → all_drive (part_of i) list c ≡ true → drives (part_of i) st c ≡ true
 arms_drive_in i st [] no_arms fits c e = absurd (let f : false ≡ true = e in cc)
-arms_drive_in i st [] (an_arm arm arms) fits c e = absurd fits
+arms_drive_in i st [] (an_arm v arm arms) fits c e = absurd fits
 arms_drive_in i st (s ∷ ss) no_arms fits c e = absurd fits
-arms_drive_in i st (s ∷ ss) (an_arm arm arms) (is, one, apart, rest) c e = go (drives (part_of i) s c) refl e (arms_drive_in i st ss arms rest c)
+arms_drive_in i st (s ∷ ss) (an_arm v arm arms) (is, one, apart, rest) c e = go (drives (part_of i) s c) refl e (arms_drive_in i st ss arms rest c)
   where
     go : (b : Bool) → drives (part_of i) s c ≡ b → (b || all_drive (part_of i) ss c) ≡ true → (all_drive (part_of i) ss c ≡ true → drives (part_of i) st c ≡ true) → drives (part_of i) st c ≡ true
     go true here e later = is.drives c here
@@ -134,13 +134,13 @@ module _ (i : Instance) (held : Held) where
 
     pub arms_only : (st : PlainStatement) (list : List PlainStatement) (arms : Opens) → ArmsFit i st list arms → (k : ℕ) (s : State) → StepsIn (all_drive (part_of i) list) s (step_arms i held arms k s)
     arms_only st [] no_arms fits k s = only_same (all_drive (part_of i) []) s
-    arms_only st [] (an_arm arm arms) fits k s = absurd fits
+    arms_only st [] (an_arm v arm arms) fits k s = absurd fits
     arms_only st (x ∷ xs) no_arms fits k s = absurd fits
-    arms_only st (x ∷ xs) (an_arm arm arms) (is, one, apart, rest) k s =
+    arms_only st (x ∷ xs) (an_arm v arm arms) (is, one, apart, rest) k s =
         choose_only (all_drive (part_of i) (x ∷ xs)) s (nat_lt k (leaves_of arm)) _ _
-        (within_only (all_drive (part_of i) (x ∷ xs)) s (arms_left arms) (step i held arm k s)
+        (within_only (all_drive (part_of i) (x ∷ xs)) s (arms_left v arms) (step i held arm k s)
         (steps_wider (drives (part_of i) x) (all_drive (part_of i) (x ∷ xs)) (λ c e. or_left (drives (part_of i) x c) (all_drive (part_of i) xs c) e) s (step i held arm k s) (step_only x arm one k s)))
-        (within_only (all_drive (part_of i) (x ∷ xs)) s (an_arm arm) (step_arms i held arms (k - leaves_of arm) s)
+        (within_only (all_drive (part_of i) (x ∷ xs)) s (an_arm v arm) (step_arms i held arms (k - leaves_of arm) s)
         (steps_wider (all_drive (part_of i) xs) (all_drive (part_of i) (x ∷ xs)) (λ c e. or_right (drives (part_of i) x c) (all_drive (part_of i) xs c) e) s (step_arms i held arms (k - leaves_of arm) s)
         (arms_only st xs arms rest (k - leaves_of arm) s)))
 
@@ -197,8 +197,8 @@ all_drive_reads part (x ∷ xs) c e = go (drives part x c) refl e (all_drive_rea
 pub any_reads_in : (i : Instance) (st : PlainStatement) (list : List PlainStatement) (arms : Opens) → ArmsFit i st list arms → (c : ℕ) → AnyReads (part_of i) list c → Reads (part_of i) st c
 any_reads_in i st [] arms fits c r = absurd r
 any_reads_in i st (s ∷ ss) no_arms fits c r = absurd fits
-any_reads_in i st (s ∷ ss) (an_arm arm arms) (is, one, apart, rest) c (inl r) = is.reads c r
-any_reads_in i st (s ∷ ss) (an_arm arm arms) (is, one, apart, rest) c (inr r) = any_reads_in i st ss arms rest c r
+any_reads_in i st (s ∷ ss) (an_arm v arm arms) (is, one, apart, rest) c (inl r) = is.reads c r
+any_reads_in i st (s ∷ ss) (an_arm v arm arms) (is, one, apart, rest) c (inr r) = any_reads_in i st ss arms rest c r
 
 module _ (i : Instance) (sound : IsSound i) (held : Held) where
   test_frames : (st : PlainStatement) → Stands i st → (port : PortRef) (comb : Option ℕ) → TestFits i st port comb → (s t : State) → Agree (Reads (part_of i) st) s t → test i held port comb s ≡ test i held port comb t
@@ -265,14 +265,14 @@ module _ (i : Instance) (sound : IsSound i) (held : Held) where
     pub arms_alike : (st : PlainStatement) (list : List PlainStatement) (arms : Opens) → ArmsFit i st list arms → (k : ℕ) (s t : State) → Agree (AnyReads (part_of i) list) s t
         → AlikeStep (AnyReads (part_of i) list) (step_arms i held arms k s) (step_arms i held arms k t)
     arms_alike st [] no_arms fits k s t agree = (t, refl, agree)
-    arms_alike st [] (an_arm arm arms) fits k s t agree = absurd fits
+    arms_alike st [] (an_arm v arm arms) fits k s t agree = absurd fits
     arms_alike st (x ∷ xs) no_arms fits k s t agree = absurd fits
-    arms_alike st (x ∷ xs) (an_arm arm arms) (is, one, apart, rest) k s t agree =
+    arms_alike st (x ∷ xs) (an_arm v arm arms) (is, one, apart, rest) k s t agree =
         choose_alike (AnyReads (part_of i) (x ∷ xs)) (nat_lt k (leaves_of arm)) _ _ _ _
-        (within_alike (AnyReads (part_of i) (x ∷ xs)) (arms_left arms) (step i held arm k s) (step i held arm k t)
+        (within_alike (AnyReads (part_of i) (x ∷ xs)) (arms_left v arms) (step i held arm k s) (step i held arm k t)
         (widen (Reads (part_of i) x) (AnyReads (part_of i) (x ∷ xs)) (drives (part_of i) x) (λ c e. footprints.driven e) s t (step i held arm k s) (step i held arm k t) agree
         (step_only i held x arm one k s) (step_only i held x arm one k t) (step_alike x is.stands arm one k s t (λ c below r. agree c below (inl r)))))
-        (within_alike (AnyReads (part_of i) (x ∷ xs)) (an_arm arm) (step_arms i held arms (k - leaves_of arm) s) (step_arms i held arms (k - leaves_of arm) t)
+        (within_alike (AnyReads (part_of i) (x ∷ xs)) (an_arm v arm) (step_arms i held arms (k - leaves_of arm) s) (step_arms i held arms (k - leaves_of arm) t)
         (widen (AnyReads (part_of i) xs) (AnyReads (part_of i) (x ∷ xs)) (all_drive (part_of i) xs) (all_drive_reads (part_of i) xs) s t
         (step_arms i held arms (k - leaves_of arm) s) (step_arms i held arms (k - leaves_of arm) t) agree
         (arms_only i held st xs arms rest (k - leaves_of arm) s) (arms_only i held st xs arms rest (k - leaves_of arm) t)

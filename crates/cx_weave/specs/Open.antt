@@ -36,7 +36,8 @@ mutual
 
   pub data Opens : Type 0 where
     no_arms : Opens
-    an_arm : (arm : Open) (arms : Opens) → Opens
+    -- what is open of an arm, with the arm itself, which says whose it is
+    an_arm : (statement : PlainStatement) (arm : Open) (arms : Opens) → Opens
 
 -- how many leaves are open
 abbrev mutual
@@ -57,7 +58,7 @@ abbrev mutual
 
   pub leaves_of_all : Opens → ℕ
   leaves_of_all no_arms = 0
-  leaves_of_all (an_arm arm arms) = leaves_of arm + leaves_of_all arms
+  leaves_of_all (an_arm statement arm arms) = leaves_of arm + leaves_of_all arms
 
 -- an island that has not begun
 abbrev pub open_island : PlainComponent → PlainForm → Open
@@ -72,7 +73,7 @@ module _ (part : PlainComponent) (enable : ℕ → Open) where
     open_form (Seq no_statements) = Idling
     open_form (Seq (a_statement first later)) = InSeq (open_with first) later
     open_form (Par no_statements) = Idling
-    open_form (Par (a_statement first later)) = InPar (an_arm (open_with first) (open_arms later))
+    open_form (Par (a_statement first later)) = InPar (an_arm first (open_with first) (open_arms later))
     open_form (If test comb a b) = Choosing test.port comb a b
     open_form (While test comb a) = Testing test.port comb a
     open_form (Repeat zero a) = Idling
@@ -88,7 +89,7 @@ module _ (part : PlainComponent) (enable : ℕ → Open) where
 
     pub open_arms : PlainStatements → Opens
     open_arms no_statements = no_arms
-    open_arms (a_statement first later) = an_arm (open_with first) (open_arms later)
+    open_arms (a_statement first later) = an_arm first (open_with first) (open_arms later)
 
 -- the enable of a group: a static group is an island, a call opens the child's control
 abbrev pub open_called : (ℕ → Open) → ℕ → Option ℕ → Open

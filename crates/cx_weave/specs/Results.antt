@@ -12,8 +12,9 @@ use Rattle.cx_weave.specs.declared.strands.Halt.{Halt}
 use Rattle.cx_weave.specs.declared.strands.Halt.TheVariants as halts
 use Rattle.cx_weave.specs.declared.weaving.Wove.{Wove}
 use Rattle.cx_weave.specs.declared.weaving.Wove.TheVariants.{End, Fault, More}
+use Rattle.cx_weave.specs.Alone.{LeafHasAlone}
 use Rattle.cx_weave.specs.Woven as woven
-use Rattle.cx_weave.specs.Woven.{Woven}
+use Rattle.cx_weave.specs.Woven.{Choices, Woven}
 
 -- what is told of a woven run: a fault by its instance
 abbrev pub TellsWoven : PlainDesign → Wove → Woven → Type 0
@@ -44,3 +45,9 @@ abbrev pub TellsRun : PlainDesign → List (List ℕ) → Wove → Woven → Typ
 TellsRun d words (End made sum) x = (after : State) × (turns : ℕ) × (x ≡ woven.Ends after made sum) × (run_main d words made ≡ answers.End after turns) × (turns ≤ made)
 TellsRun d words (Fault told made) x = (first : cycles.Fault) × (turn : ℕ) × (run_main d words (suc made) ≡ answers.Fault first turn) × (turn ≤ made)
 TellsRun d words More x = Unit {0}
+
+-- and the fault is one that the arm of the chosen leaf has alone, in one of as many turns or the next
+abbrev pub TellsArm : PlainDesign → List (List ℕ) → Choices → Wove → Woven → Type 0
+TellsArm d words choice (End made sum) x = Unit {0}
+TellsArm d words choice (Fault told made) x = (fault : cycles.Fault) × (x ≡ woven.Faults fault made) × LeafHasAlone d words choice fault made
+TellsArm d words choice More x = Unit {0}

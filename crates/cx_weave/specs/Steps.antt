@@ -52,13 +52,13 @@ repeat_left i zero body None = None
 repeat_left i (suc left) body None = Some (InRepeat (open_statement i body) left body)
 
 -- an arm that has ended is open no more, and a par ends with its last arm
-abbrev pub arms_left : Opens → Option Open → Opens
-arms_left rest (Some arm) = an_arm arm rest
-arms_left rest None = rest
+abbrev pub arms_left : PlainStatement → Opens → Option Open → Opens
+arms_left statement rest (Some arm) = an_arm statement arm rest
+arms_left statement rest None = rest
 
 abbrev pub par_left : Opens → Option Open
 par_left no_arms = None
-par_left (an_arm arm arms) = Some (InPar (an_arm arm arms))
+par_left (an_arm statement arm arms) = Some (InPar (an_arm statement arm arms))
 
 -- behind the child of a call come the capture cycle, where registers are captured, and an idle turn
 abbrev pub behind_child : Bool → ℕ → ℕ → Open
@@ -119,7 +119,7 @@ abbrev mutual
   -- of the arm in which leaf k is
   pub step_arms : Instance → Held → Opens → ℕ → State → Stepped Opens
   step_arms i held no_arms k s = Now no_arms s
-  step_arms i held (an_arm arm arms) k s =
+  step_arms i held (an_arm statement arm arms) k s =
       first_or (nat_lt k (leaves_of arm))
-      (within (arms_left arms) (step i held arm k s))
-      (within (an_arm arm) (step_arms i held arms (k - leaves_of arm) s))
+      (within (arms_left statement arms) (step i held arm k s))
+      (within (an_arm statement arm) (step_arms i held arms (k - leaves_of arm) s))

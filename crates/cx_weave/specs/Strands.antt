@@ -154,7 +154,7 @@ abbrev mutual
 
   pub ShowsAll : PlainDesign → ℕ → PlainStrands → Opens → Type 0
   ShowsAll d n no_strands list = list ≡ no_arms
-  ShowsAll d n (a_strand arm arms) list = (first : Open) × (later : Opens) × (list ≡ an_arm first later) × Shows d n arm first × ShowsAll d n arms later
+  ShowsAll d n (a_strand arm arms) list = (statement : PlainStatement) × (first : Open) × (later : Opens) × (list ≡ an_arm statement first later) × Shows d n arm first × ShowsAll d n arms later
 
 abbrev pub IsShown : PlainDesign → ℕ → PlainStrand → Type 0
 IsShown d n p = (o : Open) × Shows d n p o

@@ -8,6 +8,7 @@ ghost use Rattle.cx_meaning.specs.Answers as answers;
 ghost use Rattle.cx_meaning.specs.Running.{run_main};
 ghost use Rattle.cx_rules.specs.Accepted.{IsAccepted};
 ghost use Rattle.cx_rules.specs.Wellformed.{IsDesign};
+ghost use Rattle.cx_weave.specs.Alone.{LeafHasAlone};
 ghost use Rattle.cx_weave.specs.Woven.{Choices, Ends, Faults, More, woven};
 
 use cx_frames::apart_laws::listed_cells_suffice;
@@ -47,10 +48,13 @@ pub fn run_ends_too()
     loaded_start_is_settled();
 }
 
-/// In an accepted design, where an order of the leaves comes to a fault after some choices, the run of main has a fault in one
-/// of as many turns and the next one.
+/// In an accepted design, where an order of the leaves comes to a fault after some choices, the fault is one that the arm of the
+/// leaf has, run alone, in one of as many turns and the next one; and in one of these the run of main has a fault.
 pub fn run_faults_too()
-    ensures { (d : PlainDesign) (words : List (List ℕ)) (one : Choices) (n : ℕ) (fault : Fault) (before : ℕ)
+    ensures arm { (d : PlainDesign) (words : List (List ℕ)) (one : Choices) (n : ℕ) (fault : Fault) (before : ℕ)
+        → IsDesign d → IsAccepted d → woven d words one n ≡ Faults fault before
+        → LeafHasAlone d words one fault before }
+    ensures run { (d : PlainDesign) (words : List (List ℕ)) (one : Choices) (n : ℕ) (fault : Fault) (before : ℕ)
         → IsDesign d → IsAccepted d → woven d words one n ≡ Faults fault before
         → (first : Fault) × (turn : ℕ) × (run_main d words (suc before) ≡ answers.Fault first turn) × (turn ≤ before) }
 {

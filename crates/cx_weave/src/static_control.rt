@@ -13,7 +13,8 @@ use cx_design::Form;
 use cx_interp::calls::instance_part;
 use cx_interp::plan::Plan;
 use cx_interp::rooms::add_samples;
-use cx_interp_islands::{accepted_islands_are_short, form_length};
+use cx_interp_islands::accepted_islands_are_short;
+use cx_limits::form_length;
 use cx_text::Memory;
 use std::alloc::Global;
 

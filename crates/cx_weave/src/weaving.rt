@@ -7,7 +7,7 @@ ghost use Rattle.cx_rules.specs.Externals.{external_rows};
 ghost use Rattle.cx_design.specs.PlainDesigns.{plain_design};
 ghost use Rattle.cx_state.specs.States.{words_in, IsUnheld, StandsFor};
 ghost use Rattle.cx_interp.specs.Machines.{design_of, rows_of, IsPlan, IsAt};
-ghost use Rattle.cx_weave.specs.Results.{EndsIn, HaltedAs, LeavesWords, TellsRun, TellsWoven};
+ghost use Rattle.cx_weave.specs.Results.{EndsIn, HaltedAs, LeavesWords, TellsArm, TellsRun, TellsWoven};
 ghost use Rattle.cx_weave.specs.Strands.{plain_strand, strand_leaves};
 ghost use Rattle.cx_weave.specs.Woven.{by_list, woven};
 
@@ -101,6 +101,7 @@ pub fn weave(
     requires some { 0 < length list.now }
     ensures woven { IfOk result (λ wove. TellsWoven (plain_design design.now) wove (woven (plain_design design.now) (words_in loaded.old.memories.items) (by_list list.now) steps)) }
     ensures run { IfOk result (λ wove. TellsRun (plain_design design.now) (words_in loaded.old.memories.items) wove (woven (plain_design design.now) (words_in loaded.old.memories.items) (by_list list.now) steps)) }
+    ensures arm { IfOk result (λ wove. TellsArm (plain_design design.now) (words_in loaded.old.memories.items) (by_list list.now) wove (woven (plain_design design.now) (words_in loaded.old.memories.items) (by_list list.now) steps)) }
     ensures words { IfOk result (λ wove. LeavesWords (plain_design design.now) (plain_loaded loaded.old) (plain_loaded loaded.new) (woven (plain_design design.now) (words_in loaded.old.memories.items) (by_list list.now) steps)) }
     ensures kept { IfErr result (λ _. plain_loaded loaded.new ≡ plain_loaded loaded.old) }
     ensures fits { FitsRows (external_rows (plain_design design.now)) (plain_loaded loaded.new) }

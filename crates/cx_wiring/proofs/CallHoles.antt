@@ -23,7 +23,7 @@ use Rattle.cx_rules.specs.Items.{Dynamic}
 use Rattle.cx_rules.specs.Ports.{width_of}
 use Rattle.cx_rules.specs.CallShape.{done_port, write_en_of, register_done, captured, wanted_dones}
 use Rattle.cx_rules.proofs.FoundLemmas.{same_is}
-use Rattle.cx_flow.specs.Flows.{Values, zero_of, is_set, cell_flow, part_flow, Solves as FlowSolves}
+use Rattle.cx_control.specs.Flows.{Values, zero_of, is_set, cell_flow, part_flow, Solves as FlowSolves}
 use Rattle.cx_lockstep.specs.Worlds.{Machine, is_done}
 use Rattle.cx_lockstep.specs.Statements.{LeafMachines}
 use Rattle.cx_control.specs.Spots.{Cell, Kept, cells_in, held_in}

@@ -16,8 +16,8 @@ use Rattle.cx_meaning.specs.Truths.{One, Zero, truth_of, truth_of_bit, not_truth
 use Rattle.cx_meaning.specs.Sights.{Look, In, guard_truth, all_truth, any_truth}
 use Rattle.cx_rules.specs.CallShape.{go_port, done_port, register_done, one, is_atom, is_always, is_negated, is_right_go, is_right_enable, is_register_enable, with_target, captured, wanted_dones, conjuncts, are_dones, is_right_done_assign, is_right_done}
 use Rattle.cx_rules.proofs.FoundLemmas.{same_is}
-use Rattle.cx_flow.specs.Flows.{Values, zero_of, is_set, guard_on, all_on, any_on, first_on}
-use Rattle.cx_flow.proofs.PortFlows.{acting_alike}
+use Rattle.cx_control.specs.Flows.{Values, zero_of, is_set, guard_on, all_on, any_on, first_on}
+use Rattle.cx_control.proofs.PortFlows.{acting_alike}
 use Rattle.cx_net.specs.NetMeaning.{truth_bit}
 use Rattle.cx_control.specs.CallRules.{CallForm}
 use Rattle.cx_control.proofs.ConjunctLemmas.{AreOnce, conjuncts_hold, conjunction_holds, wanted_are_in, wanted_are_all}

@@ -19,9 +19,9 @@ use Rattle.cx_rules.specs.Ports.{width_of}
 use Rattle.cx_rules.proofs.FoundLemmas.{same_is}
 use Rattle.cx_rules.proofs.ForeignLemmas.{assigns_drive_in}
 use Rattle.cx_frames.specs.Rests.{IsUndriven}
-use Rattle.cx_flow.specs.Flows.{zero_of, first_on, given, cell_flow}
-use Rattle.cx_flow.proofs.InstanceLemmas.{OwnerOf, continuous, of_group, owner_of, there_below}
-use Rattle.cx_flow.proofs.CellLemmas.{idle_step}
+use Rattle.cx_control.specs.Flows.{zero_of, first_on, given, cell_flow}
+use Rattle.cx_control.proofs.InstanceLemmas.{OwnerOf, continuous, of_group, owner_of, there_below}
+use Rattle.cx_control.proofs.CellLemmas.{idle_step}
 use Rattle.cx_net.specs.NetMeaning.{NetState, NetLook, NetAround, APort, AHole, is_true, truth_bit, zero_wide}
 use Rattle.cx_net.specs.NetEdges.{inputs_from}
 use Rattle.cx_static.specs.Lowering.{lowered_component}

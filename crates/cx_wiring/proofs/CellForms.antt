@@ -9,7 +9,7 @@ use Rattle.cx_net.specs.NetTree.{NetInstance, NetNode, NetCells, no_net_cells, a
 use Rattle.cx_net.specs.NetMeaning.{NetState, NetLook}
 use Rattle.cx_net.specs.NetEdges.{row_after, cell_after, cell_below}
 use Rattle.cx_net.specs.NetRuns.{net_start_at, net_start_below, net_externals, started, Comes, at_reset, at_first, at_next}
-use Rattle.cx_flow.proofs.InstanceLemmas.{OfTable}
+use Rattle.cx_control.proofs.InstanceLemmas.{OfTable}
 use Rattle.cx_wiring.proofs.StateForms.{has_form, KeepsForm, words_keep, reset_keeps, row_of_forms}
 
 -- THE ROWS of a tree are those of the table

@@ -41,7 +41,7 @@ use Rattle.cx_control.proofs.StandLaws.{parts_stand}
 use Rattle.cx_control.proofs.KeepLaws as keeps
 use Rattle.cx_control.proofs.KeepLaws.{KeepsBelow}
 use Rattle.cx_net.specs.NetMeaning.{NetState, NetLook, NetAround, APort, AHole, is_true, truth_bit, around_child}
-use Rattle.cx_flow.specs.Flows.{zero_of}
+use Rattle.cx_control.specs.Flows.{zero_of}
 use Rattle.cx_static.specs.Lowering.{lowered_component}
 use Rattle.cx_wiring.specs.Assignments.{owner_drives}
 use Rattle.cx_wiring.specs.PartNets.{wired_in, timers_of}

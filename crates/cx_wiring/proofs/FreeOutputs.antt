@@ -13,7 +13,7 @@ use Rattle.cx_rules.specs.ShapeRules.{LeadsToInput}
 use Rattle.cx_rules.specs.Spots.{AnAssign}
 use Rattle.cx_rules.specs.Accepted.{IsAccepted}
 use Rattle.cx_rules.proofs.CircleLemmas.{same_part}
-use Rattle.cx_flow.proofs.InstanceLemmas.{number_in}
+use Rattle.cx_control.proofs.InstanceLemmas.{number_in}
 use Rattle.cx_control.proofs.BesideLemmas.{IsBeside, StandsFor, of_component, of_nothing, instance_stands, depends_too}
 
 abbrev pub OutputsFree : Instance → Type 0

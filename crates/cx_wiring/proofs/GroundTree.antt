@@ -10,7 +10,7 @@ use Rattle.cx_meaning.specs.Instances as instances
 use Rattle.cx_meaning.specs.Instances.{Instance, Cells, no_cells, a_primitive, an_instance, OfInstance, part_of, cells_of, cell_at, Path, instance_at, child_at, tree_of}
 use Rattle.cx_meaning.specs.Active.{Active}
 use Rattle.cx_rules.specs.Circles.{IsAcyclic}
-use Rattle.cx_flow.specs.Together.{IsTogether}
+use Rattle.cx_control.specs.Together.{IsTogether}
 use Rattle.cx_net.specs.Nets.{PlainNetComponent}
 use Rattle.cx_net.specs.NetTree.{NetInstance, NetNode, NetCells, no_net_cells, a_row, a_child, AChild, net_part, net_cell_at}
 use Rattle.cx_net.specs.NetMeaning.{NetState, below_cell, Node, APort, AWire, TheDone, NetLook, NetAround, around_child, net_step, child_step, is_port_of, is_own_node, is_node, is_node_below, truth_bit}

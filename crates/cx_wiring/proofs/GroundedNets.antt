@@ -10,10 +10,10 @@ use Rattle.cx_rules.specs.Circles.{IsAcyclic}
 use Rattle.cx_rules.specs.Items.{Dynamic}
 use Rattle.cx_rules.specs.Wellformed.{IsDesign}
 use Rattle.cx_rules.proofs.CircleLemmas.{same_part, instance_acyclic, instance_group}
-use Rattle.cx_flow.specs.Together.{IsTogether}
-use Rattle.cx_flow.proofs.InstanceLemmas.{instance_ports, instance_outputs, source_in}
-use Rattle.cx_flow.proofs.NarrowLemmas.{itself_acyclic}
-use Rattle.cx_flow.proofs.TogetherLemmas.{together_acyclic, groups_acyclic, instance_unshared}
+use Rattle.cx_control.specs.Together.{IsTogether}
+use Rattle.cx_control.proofs.InstanceLemmas.{instance_ports, instance_outputs, source_in}
+use Rattle.cx_control.proofs.NarrowLemmas.{itself_acyclic}
+use Rattle.cx_control.proofs.TogetherLemmas.{together_acyclic, groups_acyclic, instance_unshared}
 use Rattle.cx_net.specs.NetTree.{NetInstance, net_part, net_tree}
 use Rattle.cx_net.specs.NetMeaning.{NetState, AWire, NetHas, outside, truth_bit}
 use Rattle.cx_net.specs.NetRuns.{Comes, IsGrounded, AreWords}

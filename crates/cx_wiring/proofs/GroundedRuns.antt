@@ -4,7 +4,7 @@ use Rattle.std.specs.Prelude.{IsSome}
 use Rattle.cx_bits.specs.BitVector.{BitVector}
 use Rattle.cx_meaning.specs.Instances.{Path}
 use Rattle.cx_vtree.specs.SimRun.{Outcome, DoneAt, LoopAt, NotDone}
-use Rattle.cx_realises.specs.Realises.{HasOutcome, comes, waits}
+use Rattle.cx_net.specs.Realises.{HasOutcome, comes, waits}
 use Rattle.cx_net.specs.NetTree.{NetInstance}
 use Rattle.cx_net.specs.NetMeaning.{NetState, Node, NetLook, NetHas, is_node}
 use Rattle.cx_net.specs.NetEdges.{net_after}

@@ -6,7 +6,7 @@ use Rattle.cx_bits.specs.Operators.{or_of}
 use Rattle.cx_meaning.specs.declared.ports.Comparison.TheVariants.{Less, AtLeast}
 use Rattle.cx_meaning.specs.Designs.{PlainGuard, Always, Atom, Negation, All, Any, Compared, Within, PlainGuards, no_guards, a_guard}
 use Rattle.cx_meaning.specs.Truths.{compares}
-use Rattle.cx_flow.specs.Flows.{Values, guard_on, all_on, any_on}
+use Rattle.cx_control.specs.Flows.{Values, guard_on, all_on, any_on}
 use Rattle.cx_net.specs.Nets.{PlainNetExpr, Compares, PlainNetExprs, ToWire, PlainNetDriver}
 use Rattle.cx_net.specs.NetMeaning.{Node, NetAround, both_known, truth_bit, all_expr, any_expr, same_target}
 use Rattle.cx_static.specs.Islands.{PlainIsland}

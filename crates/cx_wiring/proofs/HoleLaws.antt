@@ -6,7 +6,7 @@ use Rattle.cx_meaning.specs.declared.ports.PortRef.{PortRef}
 use Rattle.cx_meaning.specs.declared.ports.PortRef.TheVariants as ports
 use Rattle.cx_meaning.specs.Designs.{PlainGuard}
 use Rattle.cx_meaning.specs.Active.{group, Owned, offset_of, if_target, if_acting, acting}
-use Rattle.cx_flow.specs.Flows.{Values, guard_on, first_on}
+use Rattle.cx_control.specs.Flows.{Values, guard_on, first_on}
 use Rattle.cx_net.specs.Nets.{PlainNetExpr, OfPort, OfWire, ToHole, ToWire, PlainNetDriver}
 use Rattle.cx_net.specs.NetMeaning.{Node, NetAround, same_target}
 use Rattle.cx_static.specs.Islands.{PlainIsland}

@@ -24,7 +24,7 @@ use Rattle.cx_rules.specs.Accepted.{IsAccepted}
 use Rattle.cx_rules.specs.Wellformed.{IsThere, IsAssign, IsForm, IsDesign, IsKind, StandsIn, port_count}
 use Rattle.cx_rules.proofs.Finite.{in_left, in_right}
 use Rattle.cx_rules.proofs.CircleLemmas.{same_part}
-use Rattle.cx_flow.proofs.InstanceLemmas.{number_in}
+use Rattle.cx_control.proofs.InstanceLemmas.{number_in}
 use Rattle.cx_wiring.proofs.WholeInstances.{IsWhole, of_component, of_nothing, instance_whole, cells_alike, alike_there, alike_written, alike_source}
 use Rattle.cx_wiring.proofs.DesignNames.{stands_in}
 use Rattle.cx_wiring.proofs.FitTrees.{some_at}

@@ -18,10 +18,10 @@ use Rattle.cx_rules.specs.Circles.{IsAcyclic}
 use Rattle.cx_laws.specs.Samples.{Samples, active_by, begun_by}
 use Rattle.cx_frames.proofs.StatementFrames.{visited}
 use Rattle.cx_frames.proofs.CircleFrames.{group_acyclic}
-use Rattle.cx_flow.specs.Apart.{IsApart}
-use Rattle.cx_flow.specs.Flows.{Values}
-use Rattle.cx_flow.proofs.CellLemmas.{quiet_step}
-use Rattle.cx_flow.proofs.TogetherLemmas.{together_acyclic}
+use Rattle.cx_control.specs.Apart.{IsApart}
+use Rattle.cx_control.specs.Flows.{Values}
+use Rattle.cx_control.proofs.CellLemmas.{quiet_step}
+use Rattle.cx_control.proofs.TogetherLemmas.{together_acyclic}
 use Rattle.cx_lockstep.specs.Worlds.{Machine, edge_of}
 use Rattle.cx_lockstep.specs.Running.{Running, AGroup, AnIsland, leaf_of, leaf_writes, leaf_faults}
 use Rattle.cx_control.specs.Spots.{Cell, Kept, cells_in, held_in}

@@ -11,8 +11,8 @@ use Rattle.cx_meaning.specs.Islands.{length_of}
 use Rattle.cx_laws.specs.Positions.{entry_at, no_entry}
 use Rattle.cx_laws.specs.Samples.{Samples, ifs_of, form_by, statement_by, while_by, parts_by, arms_by, active_by}
 use Rattle.cx_meaning.specs.Control.{groups_of}
-use Rattle.cx_flow.proofs.TogetherLemmas.{together_groups}
-use Rattle.cx_flow.specs.Together.{or_else, union, IsTogether, at_rest, at_offset, in_static_seq, in_static_par, in_static_then, in_static_else, in_static_repeat, AreTogether, no_arm, an_arm}
+use Rattle.cx_control.proofs.TogetherLemmas.{together_groups}
+use Rattle.cx_control.specs.Together.{or_else, union, IsTogether, at_rest, at_offset, in_static_seq, in_static_par, in_static_then, in_static_else, in_static_repeat, AreTogether, no_arm, an_arm}
 
 -- entries of two lists
 offset_both : (xs ys : List Entry) (g : ℕ) → offset_in (xs ++ ys) g ≡ or_else (offset_in xs g) (offset_in ys g)

@@ -26,7 +26,7 @@ use Rattle.cx_rules.proofs.FoundLemmas.{seen_found}
 use Rattle.cx_laws.specs.Positions.{no_port, port_at}
 use Rattle.cx_laws.specs.Samples.{Samples, says, ifs_of, form_by, statement_by, while_by, parts_by, arms_by, begun_by, active_by}
 use Rattle.cx_frames.proofs.StatementFrames.{visited}
-use Rattle.cx_flow.specs.Flows.{Values, Reaches, is_set}
+use Rattle.cx_control.specs.Flows.{Values, Reaches, is_set}
 use Rattle.cx_lockstep.specs.Worlds.{Machine}
 use Rattle.cx_lockstep.proofs.RunningLaws.{in_either}
 use Rattle.cx_control.specs.Spots.{Cell, Kept, cells_in, held_in}

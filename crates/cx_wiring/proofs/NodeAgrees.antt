@@ -29,8 +29,8 @@ use Rattle.cx_rules.specs.Wellformed.{IsForm, IsWith}
 use Rattle.cx_rules.specs.Circles.{IsAcyclic}
 use Rattle.cx_rules.proofs.Finite.{in_left}
 use Rattle.cx_rules.proofs.FoundLemmas.{seen_found}
-use Rattle.cx_flow.specs.Apart.{IsApart}
-use Rattle.cx_flow.specs.Flows.{zero_of, is_set}
+use Rattle.cx_control.specs.Apart.{IsApart}
+use Rattle.cx_control.specs.Flows.{zero_of, is_set}
 use Rattle.cx_lockstep.specs.Worlds.{At, Machine, is_done}
 use Rattle.cx_lockstep.specs.Machines.{unclear}
 use Rattle.cx_lockstep.specs.Statements.{LeafMachines, machine_of}

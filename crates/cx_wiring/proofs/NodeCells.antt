@@ -27,7 +27,7 @@ use Rattle.cx_rules.specs.Wellformed.{IsForm, IsDesign, port_count}
 use Rattle.cx_rules.proofs.CircleLemmas.{same_part}
 use Rattle.cx_frames.specs.Rests.{IsUndriven}
 use Rattle.cx_frames.proofs.RuleLemmas.{kept_instance}
-use Rattle.cx_flow.proofs.InstanceLemmas.{instance_rows, number_in}
+use Rattle.cx_control.proofs.InstanceLemmas.{instance_rows, number_in}
 use Rattle.cx_control.proofs.BesideLemmas.{StandsFor, of_component, of_nothing, instance_stands, keeps_calls}
 use Rattle.cx_control.proofs.ShapeLemmas.{drives_driving, none_outside, plain_group}
 use Rattle.cx_control.proofs.DesignRules.{instance_part}

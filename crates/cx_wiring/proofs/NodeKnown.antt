@@ -15,7 +15,7 @@ use Rattle.cx_meaning.specs.Instances.{Instance, Cells, part_of}
 use Rattle.cx_meaning.specs.Active.{Active, Owned, source_order}
 use Rattle.cx_meaning.specs.Sights.{In, PartPort, Go, AnInput, AnOutput, ItsDone}
 use Rattle.cx_rules.specs.Circles.{IsAcyclic}
-use Rattle.cx_flow.specs.Together.{IsTogether}
+use Rattle.cx_control.specs.Together.{IsTogether}
 use Rattle.cx_net.specs.Nets.{PlainNetExpr, OfPort, OfWire, OfHole, OfGo, OfRegister, PlainNetTarget, ToPort, ToWire, ToHole, ToDone, PlainNetDriver}
 use Rattle.cx_net.specs.NetTree.{NetInstance, NetCells, NetAt, NoCell, ARow, AChild, net_part, net_cell_at}
 use Rattle.cx_net.specs.NetMeaning.{NetState, Node, APort, AWire, AHole, TheDone, NetLook, NetAround, is_true, truth_bit, zero_wide, same_target, own_step, is_port_of, is_own_node, driven_node, row_node, child_node, cell_node, decl_width, net_at_width, net_part_port}
@@ -46,7 +46,7 @@ use Rattle.cx_wiring.proofs.ConnectLaws.{read_before, statement_connects}
 use Rattle.cx_wiring.proofs.InstancePorts.{IsNamed, TestRules, AssignRules, PortRules}
 use Rattle.cx_wiring.proofs.NodeRules.{NodeRules, control_tests}
 use Rattle.cx_wiring.proofs.SeamRules.{RestRules, SeamRules}
-use Rattle.cx_flow.proofs.InstanceLemmas.{KeepsPorts}
+use Rattle.cx_control.proofs.InstanceLemmas.{KeepsPorts}
 use Rattle.cx_wiring.proofs.FreeOutputs.{OutputsFree}
 use Rattle.cx_wiring.proofs.KnownLemmas.{Known, known_as, KnownExpr, On, Fed, known_equals, AllTo, all_to_append, all_to_other, all_to_map, AllOfThem, all_append, all_any_target, fed_takes, on_takes}
 use Rattle.cx_wiring.proofs.NodeReads.{target_known, wire_takes, hole_takes, done_takes, register_known, rest_wires_known, CanClose}

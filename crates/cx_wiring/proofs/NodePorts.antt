@@ -18,7 +18,7 @@ use Rattle.cx_rules.specs.ShapeRules.{is_hole}
 use Rattle.cx_rules.specs.WidthRules.{IsBadLiteral}
 use Rattle.cx_rules.specs.Wellformed.{port_count}
 use Rattle.cx_rules.proofs.Finite.{in_left, in_right}
-use Rattle.cx_flow.specs.Flows.{Values, is_set, guard_on, all_on, any_on, zero_of}
+use Rattle.cx_control.specs.Flows.{Values, is_set, guard_on, all_on, any_on, zero_of}
 use Rattle.cx_net.specs.Nets.{OfPort}
 use Rattle.cx_net.specs.NetTree.{NetCells, ARow, AChild, net_cell_at, net_part}
 use Rattle.cx_net.specs.NetMeaning.{NetState, APort, AWire, AHole, NetLook, NetAround, is_true, truth_bit, child_port_width, net_part_port, net_at_width, is_port_of, registers_of}

@@ -28,10 +28,10 @@ use Rattle.cx_rules.specs.Ports.{width_of}
 use Rattle.cx_rules.specs.Footprints.{Reads, driven}
 use Rattle.cx_rules.proofs.ForeignLemmas.{assigns_drive_in}
 use Rattle.cx_frames.proofs.CircleFrames.{capture_acyclic}
-use Rattle.cx_flow.specs.Apart.{IsApart}
-use Rattle.cx_flow.specs.Flows.{Values, zero_of, first_on, Solves as FlowSolves}
-use Rattle.cx_flow.proofs.InstanceLemmas.{OwnerOf, continuous, of_group, owner_of}
-use Rattle.cx_flow.proofs.CellLemmas.{quiet_step}
+use Rattle.cx_control.specs.Apart.{IsApart}
+use Rattle.cx_control.specs.Flows.{Values, zero_of, first_on, Solves as FlowSolves}
+use Rattle.cx_control.proofs.InstanceLemmas.{OwnerOf, continuous, of_group, owner_of}
+use Rattle.cx_control.proofs.CellLemmas.{quiet_step}
 use Rattle.cx_lockstep.specs.Worlds.{At, Done, Machine, edge_of, is_done}
 use Rattle.cx_lockstep.specs.Statements.{LeafMachines}
 use Rattle.cx_lockstep.specs.Running.{Running, AGroup, AnIsland, leaf_of, leaf_writes, running}

@@ -19,8 +19,8 @@ use Rattle.cx_meaning.specs.Control.{group_drives, drives}
 use Rattle.cx_meaning.specs.Calls.{called}
 use Rattle.cx_rules.specs.Items.{is_comb}
 use Rattle.cx_rules.specs.Footprints.{Reads}
-use Rattle.cx_flow.specs.Apart.{IsApart}
-use Rattle.cx_flow.specs.Flows.{given}
+use Rattle.cx_control.specs.Apart.{IsApart}
+use Rattle.cx_control.specs.Flows.{given}
 use Rattle.cx_lockstep.specs.Worlds.{Machine, edge_of}
 use Rattle.cx_lockstep.specs.Statements.{LeafMachines}
 use Rattle.cx_lockstep.specs.Running.{Running, AGroup, AnIsland, leaf_of, running}

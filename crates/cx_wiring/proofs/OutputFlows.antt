@@ -13,7 +13,7 @@ use Rattle.cx_meaning.specs.Sights.{unheld, Sees}
 use Rattle.cx_rules.specs.Accepted.{IsAccepted}
 use Rattle.cx_rules.specs.Wellformed.{IsDesign}
 use Rattle.cx_rules.specs.Ports.{declared_width}
-use Rattle.cx_flow.specs.Flows.{zero_of}
+use Rattle.cx_control.specs.Flows.{zero_of}
 use Rattle.cx_control.proofs.DesignRuns.{joined}
 use Rattle.cx_net.specs.NetMeaning.{NetState, below_cell, APort, TheDone, NetLook, NetAround, around_child, is_true, truth_bit}
 use Rattle.cx_static.specs.Lowering.{lowered, unlowered}

@@ -9,7 +9,7 @@ use Rattle.cx_meaning.specs.declared.ports.PortRef.TheVariants as ports
 use Rattle.cx_meaning.specs.Designs.{PlainComponent}
 use Rattle.cx_meaning.specs.Active.{group, Owned, offset_of, same_port, source_order, drivers}
 use Rattle.cx_meaning.specs.Sights.{In}
-use Rattle.cx_flow.specs.Flows.{Values, first_on}
+use Rattle.cx_control.specs.Flows.{Values, first_on}
 use Rattle.cx_net.specs.Nets.{ToPort, ToWire, ToHole, PlainNetDriver}
 use Rattle.cx_net.specs.NetTree.{NetCells}
 use Rattle.cx_net.specs.NetMeaning.{NetState, Node, NetLook, NetAround, zero_wide, same_target, drivers_to, registers_of, own_step, is_own_node, chain as first_true}

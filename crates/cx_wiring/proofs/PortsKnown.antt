@@ -23,8 +23,8 @@ use Rattle.cx_rules.specs.Circles.{IsAcyclic}
 use Rattle.cx_rules.specs.Wellformed.{IsThere, port_count}
 use Rattle.cx_rules.proofs.FoundLemmas.{same_is}
 use Rattle.cx_rules.proofs.Finite.{in_left, in_right}
-use Rattle.cx_flow.proofs.InstanceLemmas.{OwnerOf, continuous, of_group, owner_of, source_in}
-use Rattle.cx_flow.proofs.UnionLemmas.{stands_acting}
+use Rattle.cx_control.proofs.InstanceLemmas.{OwnerOf, continuous, of_group, owner_of, source_in}
+use Rattle.cx_control.proofs.UnionLemmas.{stands_acting}
 use Rattle.cx_net.specs.Nets.{PlainNetExpr, OfPort, OfWire, ToPort, ToWire, PlainNetDriver, PlainNetComponent}
 use Rattle.cx_net.specs.NetTree.{NetCells, ARow, AChild, net_part, net_cell_at}
 use Rattle.cx_net.specs.NetMeaning.{NetState, Node, APort, AHole, TheDone, NetLook, NetAround, is_true, zero_wide, same_target, gather_known, registers_of, driven_node, row_node, child_node, cell_node, own_step, is_port_of, is_own_node, net_part_port, net_at_width}

@@ -23,13 +23,13 @@ use Rattle.cx_rules.specs.ShapeRules.{is_hole}
 use Rattle.cx_rules.specs.Circles.{IsAcyclic, AcyclicBelow}
 use Rattle.cx_rules.proofs.FoundLemmas.{seen_found}
 use Rattle.cx_rules.specs.Footprints.{AssignNames, Reads, named, Rests, Leads, Depends, at_once, by_way_of}
-use Rattle.cx_flow.specs.Apart.{IsApart, of_cell}
-use Rattle.cx_flow.specs.Flows.{Values, zero_of, given, side_flow, part_flow, cell_flow, flow, Solves as FlowSolves, Reaches, Undisturbed}
-use Rattle.cx_flow.proofs.InstanceLemmas.{OwnerOf, continuous, of_group, owner_of, source_in, go_narrow}
-use Rattle.cx_flow.proofs.CellLemmas.{cell_step}
+use Rattle.cx_control.specs.Apart.{IsApart, of_cell}
+use Rattle.cx_control.specs.Flows.{Values, zero_of, given, side_flow, part_flow, cell_flow, flow, Solves as FlowSolves, Reaches, Undisturbed}
+use Rattle.cx_control.proofs.InstanceLemmas.{OwnerOf, continuous, of_group, owner_of, source_in, go_narrow}
+use Rattle.cx_control.proofs.CellLemmas.{cell_step}
 use Rattle.cx_eval_cycle.proofs.DemandLemmas.{DemandsAlike, EdgeFacts, row_facts}
-use Rattle.cx_flow.proofs.LeadsLemmas.{Stands, acting_stands, Inside, leads_inside, apart_assigns, apart_holes}
-use Rattle.cx_flow.proofs.PortFlows.{seen_flows}
+use Rattle.cx_control.proofs.LeadsLemmas.{Stands, acting_stands, Inside, leads_inside, apart_assigns, apart_holes}
+use Rattle.cx_control.proofs.PortFlows.{seen_flows}
 use Rattle.cx_net.specs.NetMeaning.{NetState, APort, AHole, TheDone, NetLook, NetAround, is_true, truth_bit, zero_wide}
 use Rattle.cx_wiring.specs.PartNets.{wired_in, timers_of}
 use Rattle.cx_wiring.specs.Blocks.{block, Solves}

@@ -29,7 +29,7 @@ use Rattle.cx_rules.proofs.CircleLemmas.{same_part}
 use Rattle.cx_frames.proofs.StatementFrames.{visited}
 use Rattle.cx_control.proofs.StaticLemmas.{IsStatic, static_form, static_may, all_may}
 use Rattle.cx_frames.proofs.RuleLemmas.{IsKept, kept_instance}
-use Rattle.cx_flow.proofs.InstanceLemmas.{KeepsPorts, instance_ports, number_in}
+use Rattle.cx_control.proofs.InstanceLemmas.{KeepsPorts, instance_ports, number_in}
 use Rattle.cx_wiring.proofs.WholeInstances.{IsWhole, of_component, of_nothing, instance_whole, AreAlike, nothings, rows, instances, cells_alike}
 use Rattle.cx_wiring.proofs.InstancePorts.{RowOf, some_components}
 use Rattle.cx_wiring.proofs.NodeRules.{NodeRules, node_rules}

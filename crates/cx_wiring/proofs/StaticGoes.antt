@@ -9,7 +9,7 @@ use Rattle.cx_meaning.specs.Active.{Active, nothing, entries}
 use Rattle.cx_meaning.specs.Sights.{In}
 use Rattle.cx_meaning.specs.Islands.{or_zero, group_length, form_length, length_of, sum_length, max_length}
 use Rattle.cx_rules.proofs.Finite.{in_left, in_right}
-use Rattle.cx_flow.specs.Together.{union, IsTogether, at_rest, at_offset, in_static_seq, in_static_par, in_static_then, in_static_else, in_static_repeat, AreTogether, no_arm, an_arm}
+use Rattle.cx_control.specs.Together.{union, IsTogether, at_rest, at_offset, in_static_seq, in_static_par, in_static_then, in_static_else, in_static_repeat, AreTogether, no_arm, an_arm}
 use Rattle.cx_static.specs.declared.islands.Sample.{Sample}
 use Rattle.cx_static.specs.declared.islands.IslandTimer.{IslandTimer}
 use Rattle.cx_static.specs.Islands.{PlainOccurrence}

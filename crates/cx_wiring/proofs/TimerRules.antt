@@ -25,7 +25,7 @@ use Rattle.cx_rules.proofs.Finite.{in_left, in_right}
 use Rattle.cx_rules.proofs.CircleLemmas.{same_part}
 use Rattle.cx_laws.specs.Positions.{FormIfs, StatementIfs, AllIfs}
 use Rattle.cx_frames.proofs.StatementFrames.{visited}
-use Rattle.cx_flow.proofs.InstanceLemmas.{number_in}
+use Rattle.cx_control.proofs.InstanceLemmas.{number_in}
 use Rattle.cx_static.specs.Lowering.{lowered_component}
 use Rattle.cx_wiring.specs.Assignments.{is_driven, driven_assigns}
 use Rattle.cx_wiring.proofs.DesignNames.{in_filter}

@@ -8,7 +8,7 @@ use Rattle.cx_meaning.specs.Designs.{PlainComponent, PlainForm, Empty, Enable, S
 use Rattle.cx_meaning.specs.Active.{Active, nothing, group, comb}
 use Rattle.cx_meaning.specs.Sights.{In}
 use Rattle.cx_meaning.specs.Islands.{group_length}
-use Rattle.cx_flow.specs.Together.{or_else, union, IsTogether, at_rest, enabled, in_seq, at_if, in_then, in_else, at_while, in_while, in_repeat, in_par, AreTogether, no_arm, an_arm}
+use Rattle.cx_control.specs.Together.{or_else, union, IsTogether, at_rest, enabled, in_seq, at_if, in_then, in_else, at_while, in_while, in_repeat, in_par, AreTogether, no_arm, an_arm}
 use Rattle.cx_net.specs.Nets.{PlainNetExpr, OfHole, OfRegister, Inverse, ToWire, ToHole, PlainNetDriver}
 use Rattle.cx_net.specs.NetMeaning.{Node, NetAround, truth_bit}
 use Rattle.cx_static.specs.Islands.{PlainIsland}

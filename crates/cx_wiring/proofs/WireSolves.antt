@@ -24,7 +24,7 @@ use Rattle.cx_rules.specs.Ports.{declared_width, part_width, cell_width, width_o
 use Rattle.cx_rules.specs.ShapeRules.{is_hole}
 use Rattle.cx_rules.specs.Wellformed.{IsThere}
 use Rattle.cx_rules.proofs.FoundLemmas.{same_is}
-use Rattle.cx_flow.specs.Flows.{Values, zero_of, guard_on, first_on, given, side_flow, part_flow, cell_flow}
+use Rattle.cx_control.specs.Flows.{Values, zero_of, guard_on, first_on, given, side_flow, part_flow, cell_flow}
 use Rattle.cx_net.specs.Nets.{ToPort, ToHole}
 use Rattle.cx_net.specs.NetTree.{ARow, AChild}
 use Rattle.cx_net.specs.NetMeaning.{NetState, APort, AHole, TheDone, NetLook, NetAround, zero_wide, net_at_width, gather_known, is_port_of, is_own_node, same_target, drivers_to, registers_of, row_node, child_node, cell_node, chain as first_true}

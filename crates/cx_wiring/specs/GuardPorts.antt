@@ -4,7 +4,7 @@ use Rattle.std.specs.Prelude.{◌≡◌, ℕ, ◌+◌, Bool, false, List, [], �
 use Rattle.cx_bits.specs.BitVector.{BitVector}
 use Rattle.cx_meaning.specs.Designs.{PlainGuard, Always, Atom, Negation, All, Any, Compared, Within, PlainGuards, no_guards, a_guard}
 use Rattle.cx_meaning.specs.Active.{Active, Owned}
-use Rattle.cx_flow.specs.Flows.{Values, is_set, guard_on}
+use Rattle.cx_control.specs.Flows.{Values, is_set, guard_on}
 use Rattle.cx_net.specs.Nets.{OfPort, OfWire, OfHole}
 use Rattle.cx_net.specs.NetMeaning.{Node, NetAround}
 use Rattle.cx_wiring.specs.Takings.{value, Says}

@@ -1,6 +1,6 @@
 -- That a net does what a design means.
 use Rattle.cx_meaning.specs.Designs.{PlainDesign}
-use Rattle.cx_realises.specs.Realises.{RealisesBy}
+use Rattle.cx_net.specs.Realises.{RealisesBy}
 use Rattle.cx_net.specs.NetTree.{NetInstance}
 use Rattle.cx_net.specs.NetRuns.{NetRun, AreWords, IsGrounded}
 

@@ -6,7 +6,7 @@ use Rattle.cx_meaning.specs.Instances.{Instance, At, Nothing, OfRow, OfInstance,
 use Rattle.cx_meaning.specs.Active.{Active}
 use Rattle.cx_meaning.specs.Islands.{group_length}
 use Rattle.cx_rules.specs.Ports.{declared_width, width_of}
-use Rattle.cx_flow.specs.Flows.{Values, Around, Solves, zero_of}
+use Rattle.cx_control.specs.Flows.{Values, Around, Solves, zero_of}
 use Rattle.cx_net.specs.NetMeaning.{NetState, APort, AWire, AHole, TheDone, NetLook, NetAround, is_true}
 use Rattle.cx_static.specs.Lowering.{lowered_component}
 use Rattle.cx_wiring.specs.Assignments.{owner_drives}

@@ -2,18 +2,22 @@ use Rattle.std.proofs.Common.{[], Err}
 use Rattle.cx_design.specs.PlainDesigns.{plain_design}
 use Rattle.cx_driver.specs.Compiled.{IsCompileStop}
 use Rattle.cx_driver.proofs.CompileLemmas.{all_compiled, all_refused, refused_compile, text_keeps, text_too_large, text_written}
-use Rattle.cx_driver.proofs.WrittenNets.{written_sound}
+use Rattle.cx_driver.proofs.WrittenLength.{written_short}
+use Rattle.cx_driver.proofs.WrittenNets.{text_emitted}
 use Rattle.cx_driver.proofs.compiling.compile.Goals as goal
 
 pub compile_design-requires : goal.compile_design-requires
-compile_design-requires c = record { sound = written_sound c.args.text.now (plain_design c.in-Ok.design) c.in-Ok.ensures.design }
+compile_design-requires c =
+    let text = c.args.text.now in
+    let d = plain_design c.in-Ok.design in
+    record { net = text_emitted text d c.in-Ok.ensures.design; short = written_short text d c.in-Ok.ensures.design }
 
 pub returns-in-Ok : goal.returns-in-Ok
 returns-in-Ok c =
     let text = c.args.text.now in
     let d = plain_design c.in-Ok.design in
     let r = c.compile_design.result in
-    let answer = text_written (λ v. v.items) text d r c.design_is_realised.ensures c.in-Ok.ensures.design c.compile_design.ensures.answer in
+    let answer = text_written (λ v. v.items) text d r c.in-Ok.ensures.design c.compile_design.ensures.meaning c.compile_design.ensures.answer in
     let cause = text_too_large text d r c.in-Ok.ensures.design c.compile_design.ensures.cause in
     record {
       answer = answer;

@@ -1,5 +1,6 @@
 use Rattle.std.proofs.Common.{IfErr, IfOk, subst, sym}
 use Rattle.cx_commands.specs.Asked.{asked_of}
+use Rattle.cx_commands.specs.Commands.{HasList}
 use Rattle.cx_commands.specs.declared.commands.Command.{Command}
 use Rattle.cx_driver.specs.Causes.{HasCause}
 use Rattle.cx_driver.specs.Outcomes.{IsAnswer}
@@ -17,3 +18,8 @@ returns-in-Trial-clause-cause g c =
     let faults = g.F.Files.faults c.args.files.now in
     let Causes : Command → Type 0 = λ command. IfErr c.tried.result (HasCause (asked_of command) held faults faults) in
     subst Causes (sym c.in-Trial.is) (c.tried.ensures.cause held faults faults)
+
+pub woven-requires : goal.woven-requires
+woven-requires g c =
+    let Listed : Command → Type 0 = λ command. HasList (asked_of command) in
+    record { list = subst Listed c.in-Weave.is c.requires.list }

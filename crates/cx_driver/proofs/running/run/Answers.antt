@@ -3,7 +3,7 @@ use Rattle.cx_commands.specs.Statuses.{ReceivesLine}
 use Rattle.cx_commands.specs.Asked.{asked_of}
 use Rattle.cx_commands.specs.declared.refusals.Status.TheVariants as statuses
 use Rattle.cx_driver.proofs.CauseLemmas.{said_words, words_tell_nothing}
-use Rattle.cx_commands.proofs.CommandLemmas.{one_command}
+use Rattle.cx_commands.proofs.CommandLemmas.{has_list, one_command}
 use Rattle.cx_commands.specs.Commands as asked
 use Rattle.cx_driver.proofs.CompleteLemmas.{complete_asked, stopped_asked}
 use Rattle.cx_driver.proofs.PromiseLemmas.{kept_of_file}
@@ -47,3 +47,6 @@ pub returns-in-None-clause-said : goal.returns-in-None-clause-said
 returns-in-None-clause-said g c =
     let Received : List ℕ → Type 0 = λ l. ReceivesLine (g.E.Sink.written c.args.err.now) (g.E.Sink.faults c.args.err.now) l (g.E.Sink.written c.tell.new.err) (g.E.Sink.faults c.tell.new.err) in
     λ told e. said_words Received told c.tell.ensures e
+
+pub obey-requires : goal.obey-requires
+obey-requires g c = record { list = has_list c.args.words.now (asked_of c.in-Some.command) c.in-Some.ensures }

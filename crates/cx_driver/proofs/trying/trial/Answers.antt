@@ -3,9 +3,12 @@ use Rattle.cx_ast.specs.PlainTree.{plain_tree}
 use Rattle.cx_numbering.specs.DesignOf.{design_of}
 use Rattle.cx_design.specs.PlainDesigns.{plain_design}
 use Rattle.cx_names.specs.Targets.{HasTargets}
+use Rattle.cx_driver.proofs.TextLayers.{tree_rules}
+use Rattle.cx_driver.proofs.TrialDepth.{trial_shallow}
 use Rattle.cx_driver.proofs.TrialMemory.{trial_memory, trial_words}
-use Rattle.cx_driver.proofs.WrittenNets.{tree_sound}
-use Rattle.cx_driver.proofs.TrialLemmas.{design_told, refusal_told, tree_realised, trial_targets}
+use Rattle.cx_driver.proofs.WrittenLength.{tree_short}
+use Rattle.cx_driver.proofs.WrittenNets.{tree_emitted}
+use Rattle.cx_driver.proofs.TrialLemmas.{design_told, refusal_told, trial_targets}
 use Rattle.cx_driver.proofs.trying.trial.Goals as goal
 
 pub tried-requires : goal.tried-requires
@@ -16,11 +19,13 @@ try_design-requires c =
     let tree = plain_tree c.in-Ok.tree in
     let d = plain_design c.in-Ok-tried.design in
     let targets = subst HasTargets (sym c.in-Ok.ensures.value) (trial_targets c.args.seed) in
-    let memory = trial_memory c.args.seed d (c.in-Ok-tried.ensures.value ∙ ap (λ t. design_of t) c.in-Ok.ensures.value) in
+    let same = c.in-Ok-tried.ensures.value ∙ ap (λ t. design_of t) c.in-Ok.ensures.value in
+    let memory = trial_memory c.args.seed d same in
     record {
       memory = memory;
-      realised = tree_realised tree d c.design_is_realised.ensures targets c.in-Ok-tried.ensures.accepted c.in-Ok-tried.ensures.value;
-      sound = tree_sound tree d targets c.in-Ok-tried.ensures.accepted c.in-Ok-tried.ensures.value (trial_words d memory);
+      rules = tree_rules tree d targets c.in-Ok-tried.ensures.accepted c.in-Ok-tried.ensures.value;
+      net = tree_emitted tree d targets c.in-Ok-tried.ensures.accepted c.in-Ok-tried.ensures.value (trial_words d memory);
+      short = tree_short tree d targets c.in-Ok-tried.ensures.accepted c.in-Ok-tried.ensures.value (trial_words d memory) (trial_shallow c.args.seed d same);
     }
 
 pub returns-in-Ok-tried : goal.returns-in-Ok-tried

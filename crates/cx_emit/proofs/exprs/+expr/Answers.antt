@@ -1,4 +1,4 @@
-use Rattle.std.proofs.Common.{◌≡◌, ◌∙◌, IfOk, ap, map, subst, sym}
+use Rattle.std.proofs.Common.{◌≡◌, ◌∙◌, IfOk, ap, arith, map, subst, sym}
 use Rattle.cx_net.specs.Nets.{AllOf, AnyOf, PlainNetExpr, exprs_of}
 use Rattle.cx_net.specs.PlainNets.{net_expr_step, plain_net_expr}
 use Rattle.cx_net.specs.declared.exprs.NetExpr.TheFolds.{fold-roll-NetExpr}
@@ -7,7 +7,14 @@ use Rattle.cx_vtree.specs.Plain.{PlainExpr}
 use Rattle.cx_vtree.specs.PlainParts.{plain_expr}
 use Rattle.cx_vtree.specs.declared.operators.Operator.TheVariants as operators
 use Rattle.cx_emit.specs.Exprs.{expr_of, exprs_to, folded, literal}
+use Rattle.cx_emit.proofs.EmittedNumbers.{literals_at, part_size}
 use Rattle.cx_emit.proofs.exprs.+expr.Goals as goal
+
+pub exprs-expr-requires : goal.exprs-expr-requires
+exprs-expr-requires t c = (
+  omega (arith, c.decreases, part_size c.args.parts.now c.loop-part.part-index c.part-item.result c.loop-part-test.true c.part-item.is),
+  literals_at plain_net_expr c.args.parts.now c.loop-part.part-index c.part-item.result c.requires.fits c.loop-part-test.true c.part-item.is,
+)
 
 pub expr-returns-in_ok-exprs-in-And : goal.expr-returns-in_ok-exprs-in-And
 expr-returns-in_ok-exprs-in-And t c =

@@ -1,6 +1,6 @@
 use Rattle.std.proofs.Common.{sym, ◌∙◌, subst, arith}
 use Rattle.cx_design.specs.PlainDesigns.{plain_design}
-use Rattle.cx_eval_demand.specs.Demands.{StaysWithin}
+use Rattle.cx_eval_network.specs.Demands.{StaysWithin}
 use Rattle.cx_eval_network.proofs.NodeLemmas.{nodes_within}
 use Rattle.cx_eval_network.specs.Networks.{leads_at}
 use Rattle.cx_eval_network.proofs.NetworkLemmas.{network_grounded, stays_within}

@@ -1,6 +1,6 @@
 use Rattle.std.proofs.Common.{◌<◌, List, ap, length, sym, ◌∙◌, subst}
 use Rattle.cx_meaning.specs.declared.ports.PortRef.TheVariants.{Cell}
-use Rattle.cx_eval_demand.specs.declared.marks.NodeMark.{NodeMark}
+use Rattle.cx_eval_network.specs.declared.marks.NodeMark.{NodeMark}
 use Rattle.cx_eval_drives.specs.Gathers.{gather_all, ports_seen, wanted_at}
 use Rattle.cx_eval.specs.Looked.{marked_look, seen_look}
 use Rattle.cx_eval.proofs.KnownLemmas.{gathered_alike, node_known}

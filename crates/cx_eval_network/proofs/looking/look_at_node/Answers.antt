@@ -1,7 +1,7 @@
 use Rattle.std.proofs.Common.{Option, refl, sym, subst}
 use Rattle.cx_meaning.specs.declared.sights.Seen.TheVariants.{Undefined}
-use Rattle.cx_eval_demand.specs.declared.network.Found.TheVariants.{Worth}
-use Rattle.cx_eval_demand.specs.Demands.{Looked}
+use Rattle.cx_eval_network.specs.declared.network.Found.TheVariants.{Worth}
+use Rattle.cx_eval_network.specs.Demands.{Looked}
 use Rattle.cx_eval_network.specs.declared.numbering.NodePort.{NodePort}
 use Rattle.cx_eval_network.specs.Networks.{leads_of, value_of}
 use Rattle.cx_eval_network.specs.Askings.{asked_of}

@@ -24,7 +24,7 @@ pub returns-clause-stands : goal.returns-clause-stands
 returns-clause-stands c =
     let ms = plain_loaded c.args.loaded.now in
     let source = c.in_ok-source.source in
-    start_stands (plain_net c.args.net.now) c.requires.fits c.requires.no_holes ms c.into_built.result (plain_source source) c.in_ok-source.ensures.value c.source_is_sound.ensures.sound
+    start_stands (plain_net c.args.net.now) c.requires.net.fits c.requires.net.no_holes ms c.into_built.result (plain_source source) c.in_ok-source.ensures.value c.source_is_sound.ensures.sound
     (subst (λ rows. FitsRows rows ms) (sym c.in_ok-source.ensures.rows) c.requires.words)
     (subst (λ (l : Loaded). BuiltWith (plain_source l.source) l.words c.into_built.result)
     (c.load.ensures.value ∙ ap (λ (l : Loaded). loaded_of l.source (words_loaded ms)) c.in_ok-sim.ensures.value) c.into_built.ensures)

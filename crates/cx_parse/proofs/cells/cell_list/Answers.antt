@@ -4,7 +4,7 @@ use Rattle.std.proofs.lemmas.List.{map_push}
 use Rattle.cx_ast.specs.PlainTree.{plain_cell}
 use Rattle.cx_grammar.specs.Calyx.{cell, attributes, attribute, cell_list}
 use Rattle.cx_grammar.proofs.Loops.{shorter_at, front-next, front-end}
-use Rattle.cx_parse_parts.proofs.Fails.{front_fails}
+use Rattle.cx_parse.proofs.Fails.{front_fails}
 use Rattle.cx_parse.proofs.cells.cell_list.Goals as goal
 
 pub returns-in_err-cell : goal.returns-in_err-cell

@@ -4,7 +4,7 @@ use Rattle.cx_grammar.specs.Calyx.{nested_at, next_number, more_numbers}
 use Rattle.cx_grammar.specs.Grammar.{starts}
 use Rattle.cx_grammar.specs.Reading.{read, several_at}
 use Rattle.cx_grammar.proofs.Loops.{shorter_at, front-next, front-end}
-use Rattle.cx_parse_parts.proofs.Fails.{front_fails, front-many}
+use Rattle.cx_parse.proofs.Fails.{front_fails, front-many}
 use Rattle.cx_parse.proofs.cells.more_numbers.Goals as goal
 
 pub returns-in_err-n : goal.returns-in_err-n

@@ -2,7 +2,7 @@ use Rattle.std.proofs.Common.{refl, sym, ◌∙◌}
 use Rattle.std.proofs.lemmas.Result.{err_from_is_err_and}
 use Rattle.cx_grammar.specs.Calyx.{import, imports}
 use Rattle.cx_grammar.proofs.Loops.{shorter_at, front-next, front-end}
-use Rattle.cx_parse_parts.proofs.Fails.{front_fails}
+use Rattle.cx_parse.proofs.Fails.{front_fails}
 use Rattle.cx_parse.proofs.files.imports.Goals as goal
 
 pub returns-in_err-import : goal.returns-in_err-import

@@ -6,7 +6,7 @@ use Rattle.cx_grammar.specs.Calyx.{nested_at, component, attributes, attribute, 
 use Rattle.cx_grammar.specs.Grammar.{starts}
 use Rattle.cx_grammar.specs.Reading.{read, several_at}
 use Rattle.cx_grammar.proofs.Loops.{shorter_at, front-next, front-end}
-use Rattle.cx_parse_parts.proofs.Fails.{front_fails, front-many}
+use Rattle.cx_parse.proofs.Fails.{front_fails, front-many}
 use Rattle.cx_parse.proofs.files.more_components.Goals as goal
 
 pub returns-in_err-component : goal.returns-in_err-component

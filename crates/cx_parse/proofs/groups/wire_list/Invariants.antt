@@ -3,7 +3,7 @@ use Rattle.cx_ast.specs.PlainTree.{plain_wire}
 use Rattle.cx_grammar.specs.Calyx.{nested_at, wire}
 use Rattle.cx_grammar.specs.Grammar.{starts}
 use Rattle.cx_grammar.specs.Reading.{read, several_at}
-use Rattle.cx_parse_parts.specs.Answers.{with_front}
+use Rattle.cx_parse.specs.Answers.{with_front}
 use Rattle.cx_parse.proofs.groups.wire_list.Given as goal
 
 abbrev pub invariant-loop-parser : goal.invariant-loop-parser

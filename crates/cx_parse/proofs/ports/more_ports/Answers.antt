@@ -4,7 +4,7 @@ use Rattle.std.proofs.lemmas.List.{map_push}
 use Rattle.cx_ast.specs.PlainTree.{plain_port}
 use Rattle.cx_grammar.specs.Calyx.{port, attributes, attribute}
 use Rattle.cx_grammar.proofs.Loops.{commas-pass, commas-over, commas-end, commas-shorter}
-use Rattle.cx_parse_parts.proofs.Fails.{commas_fails}
+use Rattle.cx_parse.proofs.Fails.{commas_fails}
 use Rattle.cx_parse.proofs.ports.more_ports.Goals as goal
 
 pub returns-then-not-next_in : goal.returns-then-not-next_in

@@ -3,7 +3,7 @@ use Rattle.cx_ast.specs.PlainTree.{plain_port}
 use Rattle.cx_grammar.specs.Calyx.{nested_at, port}
 use Rattle.cx_grammar.specs.Grammar.{starts}
 use Rattle.cx_grammar.specs.Reading.{read, commas_at}
-use Rattle.cx_parse_parts.specs.Answers.{with_front}
+use Rattle.cx_parse.specs.Answers.{with_front}
 use Rattle.cx_parse.proofs.ports.more_ports.Given as goal
 
 abbrev pub invariant-loop-after : goal.invariant-loop-after

@@ -5,7 +5,7 @@ use Rattle.cx_ast.specs.PlainStatements.{plain_statement}
 use Rattle.cx_grammar.specs.Calyx.{statement, attributes, attribute, form, enable, seq, par, if_form, while_form, repeat, invoke, static_statement, statements}
 use Rattle.cx_grammar.specs.Grammar.{Braces}
 use Rattle.cx_grammar.proofs.Loops.{shorter_at, front-next, front-end, nested_at-suc}
-use Rattle.cx_parse_parts.proofs.Fails.{front_fails, level_zero}
+use Rattle.cx_parse.proofs.Fails.{front_fails, level_zero}
 use Rattle.cx_parse.proofs.statements.+statement.Goals as goal
 
 pub statements-returns-in_err-statement : goal.statements-returns-in_err-statement

@@ -3,7 +3,7 @@ use Rattle.cx_ast.specs.PlainStatements.{plain_statement}
 use Rattle.cx_grammar.specs.Calyx.{nested_at, statement}
 use Rattle.cx_grammar.specs.Grammar.{starts}
 use Rattle.cx_grammar.specs.Reading.{read, several_at}
-use Rattle.cx_parse_parts.specs.Answers.{with_front}
+use Rattle.cx_parse.specs.Answers.{with_front}
 use Rattle.cx_parse.proofs.statements.+statement.Given as goal
 
 abbrev pub invariant-statements-loop-parser : goal.invariant-statements-loop-parser

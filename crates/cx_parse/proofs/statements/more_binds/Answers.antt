@@ -2,7 +2,7 @@ use Rattle.std.proofs.Common.{refl, sym, ◌∙◌}
 use Rattle.std.proofs.lemmas.Result.{err_from_is_err_and}
 use Rattle.cx_grammar.specs.Calyx.{bind}
 use Rattle.cx_grammar.proofs.Loops.{commas-pass, commas-over, commas-end, commas-shorter}
-use Rattle.cx_parse_parts.proofs.Fails.{commas_fails}
+use Rattle.cx_parse.proofs.Fails.{commas_fails}
 use Rattle.cx_parse.proofs.statements.more_binds.Goals as goal
 
 pub returns-then-not-next_is : goal.returns-then-not-next_is

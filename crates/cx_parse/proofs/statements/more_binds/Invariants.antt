@@ -2,7 +2,7 @@ use Rattle.std.proofs.Common.{◌≡◌, [], ◌∷◌, length}
 use Rattle.cx_grammar.specs.Calyx.{nested_at, bind}
 use Rattle.cx_grammar.specs.Grammar.{starts}
 use Rattle.cx_grammar.specs.Reading.{read, commas_at}
-use Rattle.cx_parse_parts.specs.Answers.{with_front}
+use Rattle.cx_parse.specs.Answers.{with_front}
 use Rattle.cx_parse.proofs.statements.more_binds.Given as goal
 
 abbrev pub invariant-loop-after : goal.invariant-loop-after

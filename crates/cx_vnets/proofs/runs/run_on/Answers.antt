@@ -1,7 +1,7 @@
-use Rattle.std.proofs.Common.{◌≡◌, ◌+◌, ◌-◌, length, ap, sym, ◌∙◌, arith}
-use Rattle.cx_vnets.specs.Fits.{width_at}
+use Rattle.std.proofs.Common.{◌≡◌, ◌+◌, ◌-◌, arith}
 use Rattle.cx_vnets.specs.Runs.{outcome_of}
-use Rattle.cx_vnets.proofs.Ready.{keeps-more, ready-keeps, ready-sets, ready-bench, looked-ends, goes-more}
+use Rattle.cx_vnets.proofs.CurrentLemmas.{current_moved}
+use Rattle.cx_vnets.proofs.Ready.{keeps-more, ready-edge, ready-sets, looked-ends, goes-more}
 use Rattle.cx_vnets.proofs.runs.run_on.Goals as goal
 
 pub returns-in-Some : goal.returns-in-Some
@@ -19,10 +19,9 @@ loop-cycle-preserved c =
     let count : c.args.cycles - c.loop-cycle.cycle ≡ (c.args.cycles - (c.loop-cycle.cycle + 1)) + 1 = omega arith in
     record {
       widths = keeps-more c.args.stored.now c.loop-cycle.stored c.edge.new.stored c.loop-cycle.invariant.widths c.edge.ensures.widths;
-      ready = ready-bench c.args.machine.now c.edge.new.stored c.look.new.bench c.edge.new.bench (ap length c.edge.ensures.marks) (ap length c.edge.ensures.stack)
-          (c.edge.ensures.writes ∙ sym c.in_default.ensures.ready.writes)
-          (λ f. ap (λ l. width_at l f) c.edge.ensures.values ∙ c.in_default.ensures.ready.values f ∙ sym (c.edge.ensures.widths.nets f))
-          (ready-keeps c.args.machine.now c.loop-cycle.stored c.edge.new.stored c.look.new.bench c.edge.ensures.widths c.in_default.ensures.ready);
+      ready = ready-edge c.args.machine.now c.loop-cycle.stored c.edge.new.stored c.look.new.bench c.edge.new.bench c.edge.ensures.widths c.edge.ensures.marks c.edge.ensures.stack c.edge.ensures.writes
+          c.edge.ensures.values c.in_default.ensures.ready;
+      current = current_moved c.args.machine.now c.loop-cycle.stored c.edge.new.stored c.look.new.bench c.edge.new.bench c.in_default.ensures.current c.edge.ensures.values c.edge.ensures.tells;
       so_far = λ o run. c.loop-cycle.invariant.so_far o
           (goes-more c.args.machine.now c.loop-cycle.stored c.edge.new.stored c.loop-cycle.cycle (c.args.cycles - c.loop-cycle.cycle) (c.args.cycles - (c.loop-cycle.cycle + 1)) c.look.new.bench.values.items o
           c.in_default.ensures.value c.edge.ensures.after count run);

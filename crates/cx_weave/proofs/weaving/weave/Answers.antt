@@ -10,7 +10,7 @@ use Rattle.cx_interp.specs.Machines.{rows_of}
 use Rattle.cx_state.specs.States.{words_in, StandsFor}
 use Rattle.cx_weave.specs.Results.{EndsIn, LeavesWords}
 use Rattle.cx_weave.specs.Woven.{by_list, woven}
-use Rattle.cx_weave.proofs.EndSteps.{given_ends, tells_woven, tells_run, words_kept, words_wrote}
+use Rattle.cx_weave.proofs.EndSteps.{given_ends, tells_woven, tells_run, tells_arm, words_kept, words_wrote}
 use Rattle.cx_weave.proofs.weaving.weave.Goals as goal
 use Rattle.cx_weave.proofs.weaving.weave.Goals.{in-End, in_default}
 
@@ -40,7 +40,20 @@ returns-clause-run c =
     let design : IsDesign d = subst (λ (e : Design). IsDesign (plain_design e)) ready.design ready.plan.design in
     let accepted : IsAccepted d = subst (λ (e : Design). IsAccepted (plain_design e)) ready.design ready.plan.accepted in
     tells_run d rows x words c.in_ok-wove.wove (λ after made sum is. c.run_ends_too.ensures d words (by_list c.args.list.now) c.args.steps after made sum design accepted is)
-    (λ fault made is. c.run_faults_too.ensures d words (by_list c.args.list.now) c.args.steps fault made design accepted is) ends
+    (λ fault made is. c.run_faults_too.ensures.run d words (by_list c.args.list.now) c.args.steps fault made design accepted is) ends
+
+pub returns-clause-arm : goal.returns-clause-arm
+returns-clause-arm c =
+    let d = plain_design c.args.design.now in
+    let words = words_in c.args.loaded.now.memories.items in
+    let ready = c.in_ok-interp.ensures.ready in
+    let x = woven d words (by_list c.args.list.now) c.args.steps in
+    let rows = rows_of c.weave_on.new.machine in
+    let ends : EndsIn d rows c.in_ok-wove.wove x =
+    given_ends c.in_ok-interp.interp.plan.design.now c.args.design.now ready.design (by_list c.args.list.now) c.args.steps (rows_of c.in_ok-interp.interp.machine) words rows c.in_ok-wove.wove c.in_ok-wove.ensures.woven ready.stands in
+    let design : IsDesign d = subst (λ (e : Design). IsDesign (plain_design e)) ready.design ready.plan.design in
+    let accepted : IsAccepted d = subst (λ (e : Design). IsAccepted (plain_design e)) ready.design ready.plan.accepted in
+    tells_arm d rows x words (by_list c.args.list.now) c.in_ok-wove.wove (λ fault made is. c.run_faults_too.ensures.arm d words (by_list c.args.list.now) c.args.steps fault made design accepted is) ends
 
 pub returns-clause-words : goal.returns-clause-words
 returns-clause-words c =

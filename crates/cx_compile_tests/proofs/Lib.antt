@@ -1,0 +1,3 @@
+pub mod HandNetLemmas
+pub mod HandNetParts
+mod AlikeLemmas

@@ -1,0 +1,2 @@
+pub mod HandNet
+pub mod Alike

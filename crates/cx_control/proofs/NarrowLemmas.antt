@@ -1,0 +1,114 @@
+-- In an accepted design an enabling port of a primitive cell has one bit: where nothing drives it, it is seen as one bit.
+use Rattle.std.proofs.Common.{◌≡◌, ℕ, zero, suc, ◌<◌, true, false, List, [], ◌∷◌, ◌++◌, Some, None, length, refl, sym, ap, ◌∙◌, subst, arith}
+use Rattle.std.specs.Prelude.{slice_get}
+use Rattle.cx_bits.specs.BitVector.{BitVector}
+use Rattle.cx_prim.specs.declared.ports.PortRow.{PortRow}
+use Rattle.cx_prim.specs.declared.ports.Side.TheVariants as sides
+use Rattle.cx_prim.specs.CellStates.{IsState}
+use Rattle.cx_prim.specs.Rows.{Row, IsLawful, KeepsStates, is_enable_side}
+use Rattle.cx_prim.specs.TableLaws.{row_of_lawful}
+use Rattle.cx_meaning.specs.declared.ports.PortRef.{PortRef}
+use Rattle.cx_meaning.specs.declared.ports.PortRef.TheVariants as ports
+use Rattle.cx_meaning.specs.declared.sights.Seen.TheVariants.{Value, Undefined}
+use Rattle.cx_meaning.specs.Rows.{side_of}
+use Rattle.cx_meaning.specs.Designs.{PlainDesign, no_component}
+use Rattle.cx_meaning.specs.Instances.{Instance, Node, Cells, no_cells, a_primitive, an_instance, OfRow, cell_at, cells_of, child_at, part_of, tree_of, Path, State, instance_at, start_at, start_below}
+use Rattle.cx_meaning.specs.Active.{Active, Owned, source_order, nothing}
+use Rattle.cx_meaning.specs.Sights.{Held, In, Sees, bit_of, seen, unheld}
+use Rattle.cx_rules.specs.Ports.{is_primitive_enable, enables_cell, width_of}
+use Rattle.cx_rules.specs.WidthRules.{IsBadLiteral}
+use Rattle.cx_rules.specs.Wellformed.{IsDesign, IsThere, port_count}
+use Rattle.cx_rules.specs.Accepted.{IsAccepted}
+use Rattle.cx_rules.specs.Circles.{IsAcyclic, AreAcyclic, AcyclicBelow}
+use Rattle.cx_rules.proofs.FoundLemmas.{seen_found}
+use Rattle.cx_rules.proofs.CircleLemmas.{instance_acyclic}
+use Rattle.cx_rules.proofs.ForeignLemmas.{foreign_zero}
+use Rattle.cx_laws.specs.Widths.{HoldsStates, HoldsWidths}
+use Rattle.cx_control.proofs.InstanceLemmas.{instance_rows, instance_within, enables_there}
+
+-- at the start each cell holds its row's start
+mutual
+  starts : (i : Instance) (path : Path) (c : ℕ) (row : Row) → cell_at (cells_of (instance_at i path)) c ≡ OfRow row → start_at i (path ++ c ∷ []) ≡ row.start
+  starts (Node part cells) [] c row e = starts_here cells c row e
+  starts (Node part cells) (b ∷ path) c row e = starts_below cells b path c row e
+
+  starts_here : (cells : Cells) (c : ℕ) (row : Row) → cell_at cells c ≡ OfRow row → start_below cells c [] ≡ row.start
+  starts_here no_cells c row e = absurd (cc)
+  starts_here (a_primitive r rest) zero row e = let f : r ≡ row = cc in ap (λ (x : Row). x.start) f
+  starts_here (a_primitive r rest) (suc c) row e = starts_here rest c row e
+  starts_here (an_instance child rest) zero row e = absurd (cc)
+  starts_here (an_instance child rest) (suc c) row e = starts_here rest c row e
+
+  starts_below : (cells : Cells) (b : ℕ) (path : Path) (c : ℕ) (row : Row) → cell_at (cells_of (child_at cells b path)) c ≡ OfRow row → start_below cells b (path ++ c ∷ []) ≡ row.start
+  starts_below no_cells b path c row e = absurd (cc)
+  starts_below (a_primitive r rest) zero path c row e = absurd (cc)
+  starts_below (a_primitive r rest) (suc b) path c row e = starts_below rest b path c row e
+  starts_below (an_instance child rest) zero path c row e = starts child path c row e
+  starts_below (an_instance child rest) (suc b) path c row e = starts_below rest b path c row e
+
+nowhere : (q : Path) → instance_at (Node no_component no_cells) q ≡ Node no_component no_cells
+nowhere [] = refl
+nowhere (c ∷ q) = refl
+
+-- below an instance of the tree stands what stands at the joined path
+mutual
+  joins : (i : Instance) (p q : Path) → instance_at (instance_at i p) q ≡ instance_at i (p ++ q)
+  joins (Node part cells) [] q = refl
+  joins (Node part cells) (c ∷ p) q = joins_below cells c p q
+
+  joins_below : (cells : Cells) (c : ℕ) (p q : Path) → instance_at (child_at cells c p) q ≡ child_at cells c (p ++ q)
+  joins_below no_cells c p q = nowhere q
+  joins_below (a_primitive r rest) zero p q = nowhere q
+  joins_below (a_primitive r rest) (suc c) p q = joins_below rest c p q
+  joins_below (an_instance child rest) zero p q = joins child p q
+  joins_below (an_instance child rest) (suc c) p q = joins_below rest c p q
+
+there_below : (list : List PortRow) (p : ℕ) (port : PortRow) → slice_get list p ≡ Some port → p < length list
+there_below [] p port e = absurd (cc)
+there_below (x ∷ list) zero port e = omega arith
+there_below (x ∷ list) (suc p) port e = let h : p < length list = there_below list p port e in omega arith
+
+pub cells_below : (i : Instance) → AreAcyclic i → AcyclicBelow (cells_of i)
+cells_below (Node part cells) acyclic = acyclic.1
+
+pub itself_acyclic : (i : Instance) → AreAcyclic i → IsAcyclic i nothing
+itself_acyclic (Node part cells) acyclic = acyclic.0
+
+-- no continuous assignment drives an enabling port, and values have the widths of their ports
+module _ (d : PlainDesign) (path : Path) (design : IsDesign d) (accepted : IsAccepted d)
+    (always : (o : Owned) → In (source_order (part_of (instance_at (tree_of d) path))) o → o.owner ≡ None → is_primitive_enable (instance_at (tree_of d) path) o.assign.target ≡ false)
+    (widths : (held : Held) (act : Active) (s : State) (p : PortRef) (b : BitVector) → HoldsWidths (part_of (instance_at (tree_of d) path)) held → HoldsStates (instance_at (tree_of d) path) s
+    → IsThere (instance_at (tree_of d) path) p → (IsBadLiteral p → ⊥) → Sees (instance_at (tree_of d) path) held act s p (Value b) → width_of (instance_at (tree_of d) path) p ≡ Some b.width) where
+  abbrev I : Instance
+  I = instance_at (tree_of d) path
+
+  pub no_bare : (c p : ℕ) (row : Row) → cell_at (cells_of I) c ≡ OfRow row → side_of row p ≡ sides.Enable → (o : Owned) → In (source_order (part_of I)) o → o.owner ≡ None → o.assign.target ≡ ports.Cell c p → ⊥
+  no_bare c p row at side o stands owner target = differ (sym (always o stands owner) ∙ ap (is_primitive_enable I) target ∙ ap (λ x. enables_cell x p) at ∙ ap is_enable_side side)
+    where
+      differ : false ≡ true → ⊥
+      differ e = cc
+
+  always_zero : (c p : ℕ) (row : Row) → cell_at (cells_of I) c ≡ OfRow row → side_of row p ≡ sides.Enable → (s : State) → seen I unheld nothing s (ports.Cell c p) ≡ bit_of false
+  always_zero c p row at side s = foreign_zero I nothing c p (no_bare c p row at side) (λ g drives. refl) row at side unheld s
+
+  no_literal : (c p : ℕ) → IsBadLiteral (ports.Cell c p) → ⊥
+  no_literal c p (w, v, e, f) = cc
+
+  undefined_value : (b : BitVector) → Undefined ≡ Value b → ⊥
+  undefined_value b e = cc
+
+  -- an enabling port has one bit
+  pub enables_narrow : (c p : ℕ) (row : Row) → cell_at (cells_of I) c ≡ OfRow row → side_of row p ≡ sides.Enable → width_of I (ports.Cell c p) ≡ Some 1
+  enables_narrow c p row at side =
+      let port = enables_there row.ports p side in
+      widths unheld nothing (start_at I) (ports.Cell c p) (record { width = 1; value = 0 }) (λ n b e. absurd (undefined_value b e))
+      (λ q e other stands. subst (IsState other.shape) (sym (starts I q e other stands)) (states q e other stands))
+      (instance_within d path c row at, subst (λ x. p < port_count x) (sym at) (there_below row.ports p port.0 port.1))
+      (no_literal c p)
+      (subst (Sees I unheld nothing (start_at I) (ports.Cell c p)) (always_zero c p row at side (start_at I))
+      (seen_found I unheld nothing (start_at I) (itself_acyclic I (instance_acyclic d accepted path)) (cells_below I (instance_acyclic d accepted path)) (ports.Cell c p)))
+    where
+      states : (q : Path) (e : ℕ) (other : Row) → cell_at (cells_of (instance_at I q)) e ≡ OfRow other → IsState other.shape other.start
+      states q e other stands =
+          let p = instance_rows d (path ++ q) e other (ap (λ x. cell_at (cells_of x) e) (sym (joins (tree_of d) path q)) ∙ stands) in
+          KeepsStates.start (IsLawful.states (subst IsLawful p.1 (row_of_lawful p.0)))

@@ -1,0 +1,39 @@
+use Rattle.std.proofs.Common.{[], Err}
+use Rattle.cx_design.specs.PlainDesigns.{plain_design}
+use Rattle.cx_driver.specs.Weaving.{IsWeaveStop, Weaves}
+use Rattle.cx_driver.proofs.WovenLemmas.{one_woven, text_woven, text_stops, refused_stops}
+use Rattle.cx_driver.proofs.Once.{Told, all_answered, all_stopped}
+use Rattle.cx_driver.proofs.weaving.weave.Goals as goal
+
+pub returns-in-Ok : goal.returns-in-Ok
+returns-in-Ok c =
+    let text = c.args.text.now in
+    let json = c.args.json.now in
+    let steps = c.args.steps in
+    let list = c.args.list.now in
+    let does : Told → Type 0 = Weaves text json steps list in
+    let d = plain_design c.in-Ok.design in
+    let r = c.weave_design.result in
+    let answer = text_woven text json steps list (λ v. v.items) d r c.in-Ok.ensures.design c.weave_design.ensures.answer in
+    let cause = text_stops text json steps list d r c.in-Ok.ensures.design c.weave_design.ensures.cause in
+    record {
+      answer = answer;
+      cause = cause;
+      all_answers = λ bytes i. all_answered (λ v. v.items) does does (one_woven text json steps list) r answer cause bytes i;
+      all_stops = λ why i. all_stopped (λ v. v.items) does does (one_woven text json steps list) r answer cause why i;
+    }
+
+pub returns-in-Err : goal.returns-in-Err
+returns-in-Err c =
+    let text = c.args.text.now in
+    let json = c.args.json.now in
+    let steps = c.args.steps in
+    let list = c.args.list.now in
+    let does : Told → Type 0 = Weaves text json steps list in
+    let cause : IsWeaveStop text json steps list c.in-Err.stop = refused_stops text json steps list c.in-Err.stop c.in-Err.ensures.cause in
+    record {
+      answer = tt;
+      cause = cause;
+      all_answers = λ bytes i. all_answered {X = Unit {0}} (λ _. []) does does (one_woven text json steps list) (Err c.in-Err.stop) tt cause bytes i;
+      all_stops = λ why i. all_stopped {X = Unit {0}} (λ _. []) does does (one_woven text json steps list) (Err c.in-Err.stop) tt cause why i;
+    }

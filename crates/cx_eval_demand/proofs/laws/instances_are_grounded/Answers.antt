@@ -1,5 +1,0 @@
-use Rattle.cx_eval_demand.proofs.GroundLemmas.{grounded}
-use Rattle.cx_eval_demand.proofs.laws.instances_are_grounded.Goals as goal
-
-pub returns : goal.returns
-returns c nodes leads acyclic on = grounded nodes leads on acyclic

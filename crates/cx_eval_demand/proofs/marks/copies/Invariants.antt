@@ -1,5 +1,0 @@
-use Rattle.std.proofs.Common.{◌≡◌, replicate}
-use Rattle.cx_eval_demand.proofs.marks.copies.Given as goal
-
-abbrev pub invariant-copies : goal.invariant-copies
-invariant-copies g l = l.all.items ≡ replicate l._copy l.item

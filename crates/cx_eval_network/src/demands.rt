@@ -1,0 +1,87 @@
+//! What is known of the nodes of a network.
+
+ghost use Rattle.std.specs.Prelude.{◌≡◌, ◌<◌, ℕ, IfOk, length};
+ghost use Rattle.cx_meaning.specs.declared.sights.Seen.{Seen};
+ghost use Rattle.cx_eval_network.specs.Demands.{AllUnseen, Demanded, IsGrounded, Ready, StaysWithin};
+
+use crate::finding::find;
+use crate::marks::{NodeMark, unseen_marks};
+use crate::network::Network;
+use crate::touched::Touched;
+use cx_text::Memory;
+use std::alloc::Global;
+use std::marker::Model;
+
+/// What is known of the nodes of a network, with the room that demands need. Contracts see it as its marks.
+#[derive(Debug, Drop)]
+pub struct Marks {
+    marks: Vec<NodeMark>,
+    /// The nodes that wait for one another during a demand. What it holds between demands is of no account.
+    stack: Vec<usize>,
+    touched: Touched,
+}
+
+impl Model for Marks {
+    ghost use Rattle.std.specs.Prelude.{List};
+    ghost use Rattle.cx_eval_network.specs.declared.marks.NodeMark.{NodeMark};
+    ghost use Rattle.cx_eval_network.specs.Touches.{HaveRoom};
+
+    ghost Value = { List NodeMark };
+
+    ghost view = { λ m. m.marks.items };
+
+    ghost invariant = { λ m. HaveRoom m.marks.items m.stack.items m.touched.nodes.items m.touched.count };
+}
+
+impl Marks {
+    /// Marks of so many nodes, of which nothing is known.
+    pub fn new(alloc: Global, count: usize) -> Result<Marks, Memory>
+        ensures unseen { IfOk result AllUnseen }
+        ensures ready { IfOk result (λ marks. (value : ℕ → Seen) → Ready value marks) }
+        ensures count { IfOk result (λ marks. length marks ≡ count) }
+    {
+        Ok(Marks {
+            marks: unseen_marks(alloc, count)?,
+            stack: vec![in alloc; 0usize; count]?,
+            touched: Touched {
+                nodes: vec![in alloc; 0usize; count]?,
+                count: 0,
+            },
+        })
+    }
+
+    /// Forgets all that is known, at the cost of what was known.
+    pub fn forget(&mut self)
+        ensures unseen { AllUnseen self.new }
+        ensures ready { (value : ℕ → Seen) → Ready value self.new }
+        ensures count { length self.new ≡ length self.old }
+    {
+        self.touched.forget(&mut self.marks);
+    }
+
+    /// What is known.
+    pub fn marks(&self) -> &[NodeMark]
+        ensures value { result.now ≡ self.now }
+    {
+        self.marks.as_slice()
+    }
+
+    /// Finds the value of a node, and those of all that it depends on. It takes no memory, and does not recurse from node to node.
+    pub fn demand<N: Network>(&mut self, net: &N, root: usize)
+        requires sound { N.sound net.now }
+        requires root { root < length self.old }
+        requires within { StaysWithin (N.leads net.now) (length self.old) }
+        requires grounded { IsGrounded (N.leads net.now) }
+        requires ready { Ready (N.value net.now) self.old }
+        ensures value { Demanded (N.value net.now) root self.old self.new }
+        ensures count { length self.new ≡ length self.old }
+    {
+        find(
+            net,
+            &mut self.marks,
+            &mut self.stack,
+            &mut self.touched,
+            root,
+        );
+    }
+}

@@ -1,5 +1,0 @@
-use Rattle.cx_flow.proofs.LeadsLemmas.{less_acyclic}
-use Rattle.cx_flow.proofs.laws.less_is_acyclic.Goals as goal
-
-pub returns : goal.returns
-returns c = λ i act less acyclic has. less_acyclic less act has i acyclic

@@ -1,3 +1,0 @@
-pub mod Flows
-pub mod Apart
-pub mod Together

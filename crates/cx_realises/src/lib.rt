@@ -1,2 +1,0 @@
-//! That what stands for a design does from reset what the run of the design does.
-#![tactic(auto)]

@@ -1,0 +1,43 @@
+-- Nets that are 0 where another net, their gate, is 0.
+use Rattle.std.specs.Prelude.{◌≡◌, ◌≢◌, ℕ, ◌+◌, List, Option, Some, slice_get}
+use Rattle.cx_bits.specs.BitVector.{BitVector}
+use Rattle.cx_vtree.specs.declared.operators.Operator.TheVariants.{And}
+use Rattle.cx_vnets.specs.declared.codes.Code.{Code}
+use Rattle.cx_vnets.specs.declared.codes.Code.TheVariants.{Binary'}
+use Rattle.cx_vnets.specs.declared.codes.NetPosition.{NetPosition}
+use Rattle.cx_vnets.specs.declared.nets.Nets.{Nets}
+use Rattle.cx_vnets.specs.declared.nets.Driver.TheVariants.{Given}
+use Rattle.cx_vnets.specs.Watches.{IsNet}
+
+-- the gate of a code is the first operand of an `&`
+abbrev pub IsGate : Code → ℕ → Type 0
+IsGate (Binary' op p a q b) k = (op ≡ And) × IsNet a k
+IsGate c k = ⊥
+
+-- a net has another for its gate
+pub record HasGate (n : Nets) (f gate : ℕ) : Type 0 where
+  pub number : ℕ
+  pub place : NetPosition
+  pub code : Code
+  pub local : ℕ
+  pub driver : slice_get n.drivers.items f ≡ Some (Given number place)
+  pub stands : slice_get n.codes.items number ≡ Some code
+  pub is_gate : IsGate code local
+  pub there : place.nets + local ≡ gate
+
+-- a net that the table gives a gate has it
+abbrev pub GatesStand : Nets → List (Option ℕ) → Type 0
+GatesStand n gates = (f gate : ℕ) → slice_get gates f ≡ Some (Some gate) → HasGate n f gate
+
+-- the net is 0
+pub record IsZero (values : List BitVector) (net : ℕ) : Type 0 where
+  pub value : BitVector
+  pub stands : slice_get values net ≡ Some value
+  pub zero : value.value ≡ 0
+
+-- the net has a gate, which is another than the one that changed, and 0
+pub record IsShut (gates : List (Option ℕ)) (values : List BitVector) (changed f : ℕ) : Type 0 where
+  pub gate : ℕ
+  pub has : slice_get gates f ≡ Some (Some gate)
+  pub other : gate ≢ changed
+  pub is_zero : IsZero values gate

@@ -1,0 +1,65 @@
+//! Marks by the ranks of nets: which nets may have another value than they had.
+
+ghost use Rattle.std.specs.Prelude.{◌≡◌, ◌≢◌, ◌<◌, ◌≤◌, false, length, slice_get, slice_set};
+ghost use Rattle.cx_graphs.specs.Graphs.{In};
+ghost use Rattle.cx_vnets.specs.Stale.{AllStale, SameBelow, Tells, rank_at};
+
+use cx_bits::Bits;
+
+/// Marks a net, where its rank is not below `from`.
+pub(crate) fn mark(ranks: &[u32], from: usize, stale: &mut [bool], net: usize)
+    ensures tells { Tells ranks.now stale.old stale.new (λ f. from ≤ rank_at ranks.now f → f ≢ net) }
+    ensures below { SameBelow from stale.old stale.new }
+{
+    if let Some(rank) = ranks.get(net) {
+        let rank = *rank as usize;
+        if rank >= from && rank < stale.len() {
+            stale[rank] = true;
+        }
+    }
+}
+
+/// Marks the nets of a row whose ranks are not below `from`.
+pub(crate) fn mark_row(ranks: &[u32], from: usize, stale: &mut [bool], row: &[u32])
+    ensures tells { Tells ranks.now stale.old stale.new (λ f. from ≤ rank_at ranks.now f → In row.now f → ⊥) }
+    ensures below { SameBelow from stale.old stale.new }
+{
+    for net in row {
+        mark(ranks, from, stale, *net as usize);
+    }
+}
+
+/// Marks all nets.
+pub(crate) fn mark_all(stale: &mut [bool])
+    ensures long { length stale.new ≡ length stale.old }
+    ensures all { AllStale stale.new }
+{
+    for mark in stale.iter_mut() {
+        *mark = true;
+    }
+}
+
+/// Gives a net a stored value, and marks it where it had another.
+pub(crate) fn put(
+    registers: &mut [Bits],
+    ranks: &[u32],
+    stale: &mut [bool],
+    net: usize,
+    value: Bits,
+)
+    requires within { net < length registers.old }
+    ensures value { registers.new ≡ slice_set registers.old net value }
+    ensures tells { Tells ranks.now stale.old stale.new (λ f. slice_get registers.new f ≡ slice_get registers.old f) }
+{
+    if registers[net] != value {
+        mark(ranks, 0, stale, net);
+        registers[net] = value;
+    }
+}
+
+/// Whether a value is another than before.
+pub(crate) fn is_other(old: Bits, new: Bits) -> bool
+    ensures { result ≡ false → old ≡ new }
+{
+    old != new
+}

@@ -1,0 +1,207 @@
+//! The values of all nets in a cycle, from those of the cycle before: in the order of ranks, marked nets alone.
+
+ghost use Rattle.std.specs.Prelude.{◌≡◌, ◌+◌, ◌<◌, ◌≤◌, true, false, ℕ, List, Some, length, get_or, slice_get};
+ghost use Rattle.cx_vnets.specs.Fits.{Fits};
+ghost use Rattle.cx_graphs.specs.Graphs.{In, edges_of, targets_of};
+ghost use Rattle.cx_vnets.specs.Gates.{IsShut};
+ghost use Rattle.cx_vnets.specs.Readers.{HearsNot, Passes, ReadersStand, Sweeping};
+ghost use Rattle.cx_vnets.specs.Search.{SameWidths};
+ghost use Rattle.cx_vnets.specs.Stale.{SameBelow, Tells, rank_at};
+ghost use Rattle.cx_vnets.specs.Values.{rule};
+
+use crate::gates::mark_open_row;
+use crate::nets::{Driver, Nets, Stored};
+use crate::readers::Readers;
+use crate::stale::{is_other, mark_row};
+use crate::values::settled;
+use crate::watches::{is_next, row_of};
+use cx_bits::Bits;
+
+/// What a net's driver gives it, where all nets have these values.
+fn drive(nets: &Nets, stored: &Stored, values: &[Bits], net: usize) -> Bits
+    requires within { net < length nets.now.drivers.items }
+    requires fits { Fits nets.now stored.now }
+    requires widths { SameWidths values.now stored.now.nets.items }
+    ensures { rule nets.now stored.now (slice_get values.now) net ≡ Some result }
+{
+    match nets.drivers[net] {
+        Driver::Held => stored.nets[net],
+        Driver::Tied(other) => values[other as usize],
+        Driver::Given(code, place) => settled(
+            values,
+            &stored.arrays,
+            place,
+            &nets.codes[code as usize],
+        ),
+    }
+}
+
+/// Marks the nets of ranks from `from` on that read a net, but those whose gate is another net, which is 0.
+fn mark_reading(readers: &Readers, values: &[Bits], net: usize, from: usize, stale: &mut [bool])
+    requires within { net < length readers.now.of_nets.items }
+    ensures tells { Tells readers.now.ranks.items stale.old stale.new (λ f. from ≤ rank_at readers.now.ranks.items f → In (targets_of (edges_of readers.now.of_nets.items) net) f → IsShut readers.now.gates.items values.now net f) }
+    ensures below { SameBelow from stale.old stale.new }
+{
+    mark_open_row(
+        &readers.gates,
+        values,
+        net,
+        &readers.ranks,
+        from,
+        stale,
+        &readers.of_nets[net],
+    );
+}
+
+/// Marks the nets of ranks from `from` on that stand in a row of comparisons.
+fn mark_comparing(readers: &Readers, row: usize, from: usize, stale: &mut [bool])
+    requires within { row < length readers.now.watches.rows.items }
+    ensures tells { Tells readers.now.ranks.items stale.old stale.new (λ f. from ≤ rank_at readers.now.ranks.items f → In (targets_of (edges_of readers.now.watches.rows.items) row) f → ⊥) }
+    ensures below { SameBelow from stale.old stale.new }
+{
+    mark_row(&readers.ranks, from, stale, &readers.watches.rows[row]);
+}
+
+/// Marks the nets of ranks from `from` on that tell on which side of a value a net is, where one lies between what it was and
+/// what it is.
+fn mark_sided(readers: &Readers, net: usize, from: usize, stale: &mut [bool], old: Bits, new: Bits)
+    requires within { net < length readers.now.watches.rows.items }
+    ensures tells { Tells readers.now.ranks.items stale.old stale.new (λ f. from ≤ rank_at readers.now.ranks.items f → In (targets_of (edges_of readers.now.watches.rows.items) net) f → new.value ≡ old.value + 1) }
+    ensures below { SameBelow from stale.old stale.new }
+{
+    if is_next(old, new) {
+        return;
+    }
+    mark_comparing(readers, net, from, stale);
+}
+
+/// Marks the nets of ranks from `from` on that compare a net with a value and may find it otherwise.
+fn mark_rows(
+    readers: &Readers,
+    count: usize,
+    from: usize,
+    stale: &mut [bool],
+    net: usize,
+    old: Bits,
+    new: Bits,
+)
+    requires within { net < count }
+    requires watches { length readers.now.watches.rows.items ≡ count }
+    ensures tells { Tells readers.now.ranks.items stale.old stale.new (λ f. from ≤ rank_at readers.now.ranks.items f → Passes readers.now count net old new f) }
+    ensures below { SameBelow from stale.old stale.new }
+{
+    let lost = row_of(net, old, count);
+    let won = row_of(net, new, count);
+    mark_comparing(readers, lost, from, stale);
+    mark_comparing(readers, won, from, stale);
+    mark_sided(readers, net, from, stale, old, new);
+}
+
+/// Whether a net is compared, by the notes.
+fn is_compared(compared: &[bool], net: usize) -> bool
+    requires within { net < length compared.now }
+    ensures { result ≡ get_or compared.now net false }
+{
+    compared[net]
+}
+
+/// Marks the same nets, where the net is compared at all.
+fn mark_watching(
+    readers: &Readers,
+    count: usize,
+    from: usize,
+    stale: &mut [bool],
+    net: usize,
+    old: Bits,
+    new: Bits,
+)
+    requires within { net < count }
+    requires watches { length readers.now.watches.rows.items ≡ count }
+    requires notes { net < length readers.now.watches.compared.items }
+    ensures tells { Tells readers.now.ranks.items stale.old stale.new (λ f. from ≤ rank_at readers.now.ranks.items f → get_or readers.now.watches.compared.items net false ≡ true → Passes readers.now count net old new f) }
+    ensures below { SameBelow from stale.old stale.new }
+{
+    if is_compared(&readers.watches.compared, net) {
+        mark_rows(readers, count, from, stale, net, old, new);
+    }
+}
+
+/// Marks the nets of ranks from `from` on that read a net, and those that compare it with a value and may find it otherwise.
+fn mark_hearers(
+    readers: &Readers,
+    values: &[Bits],
+    count: usize,
+    from: usize,
+    stale: &mut [bool],
+    net: usize,
+    old: Bits,
+    new: Bits,
+)
+    requires within { net < count }
+    requires rows { length readers.now.of_nets.items ≡ count }
+    requires watches { length readers.now.watches.rows.items ≡ count }
+    requires notes { length readers.now.watches.compared.items ≡ count }
+    ensures tells { Tells readers.now.ranks.items stale.old stale.new (λ f. from ≤ rank_at readers.now.ranks.items f → HearsNot readers.now values.now count net old new f) }
+    ensures below { SameBelow from stale.old stale.new }
+{
+    mark_reading(readers, values, net, from, stale);
+    mark_watching(readers, count, from, stale, net, old, new);
+}
+
+/// Computes the net of a rank again, and marks those that hear of it where it has another value than before.
+fn refresh(
+    nets: &Nets,
+    stored: &Stored,
+    readers: &Readers,
+    stale: &mut [bool],
+    values: &mut [Bits],
+    net: usize,
+    rank: usize,
+)
+    requires within { net < length nets.now.drivers.items }
+    requires place { rank_at readers.now.ranks.items net ≡ rank }
+    requires ranked { readers.now.ranked ≡ true }
+    requires readers { (order : List ℕ) × ReadersStand nets.now order readers.now }
+    requires fits { Fits nets.now stored.now }
+    requires sweeping { Sweeping nets.now stored.now readers.now.ranks.items stale.old values.old rank }
+    ensures { Sweeping nets.now stored.now readers.now.ranks.items stale.new values.new (rank + 1) }
+{
+    let value = drive(nets, stored, values, net);
+    stale[rank] = false;
+    let old = values[net];
+    if is_other(old, value) {
+        values[net] = value;
+        mark_hearers(
+            readers,
+            values,
+            nets.drivers.len(),
+            rank + 1,
+            stale,
+            net,
+            old,
+            value,
+        );
+    }
+}
+
+/// Computes again what may have changed, and what changes with it.
+pub(crate) fn sweep(
+    nets: &Nets,
+    stored: &Stored,
+    order: &[u32],
+    readers: &Readers,
+    stale: &mut [bool],
+    values: &mut [Bits],
+)
+    requires ranked { readers.now.ranked ≡ true }
+    requires readers { ReadersStand nets.now order.now readers.now }
+    requires fits { Fits nets.now stored.now }
+    requires sweeping { Sweeping nets.now stored.now readers.now.ranks.items stale.old values.old 0 }
+    ensures { Sweeping nets.now stored.now readers.now.ranks.items stale.new values.new (length order.now) }
+{
+    for (rank, net) in order.iter().enumerate() {
+        if stale[rank] {
+            refresh(nets, stored, readers, stale, values, *net as usize, rank);
+        }
+    }
+}
