@@ -22,7 +22,6 @@ use Rattle.cx_prim.specs.CombinationalRows.{enable_port, plain_port, output_port
 use Rattle.cx_prim.specs.CombinationalLaws.{not_output, and_left, and_right}
 use Rattle.cx_prim.specs.MemoryRows.{IsLayout, ports_named, address_ports, first_beyond, word_number, have_addresses, word_at, written, memory_read, memory_output, memory_idle, memory_write, memory_row, sequential_output, sequential_idle, sequential_access, sequential_memory_row}
 use Rattle.cx_prim.specs.RowTools.{out_fits, number_fits, if-same_else, if-each, value_at_fits}
-use Rattle.cx_prim.specs.TableCases.{of_row}
 
 -- ports
 

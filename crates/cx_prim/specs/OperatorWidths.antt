@@ -13,7 +13,6 @@ use Rattle.cx_prim.specs.declared.operators.UnaryOperator.{UnaryOperator}
 use Rattle.cx_prim.specs.declared.operators.UnaryOperator.TheVariants.{Wire, Not, Slice, Pad}
 use Rattle.cx_prim.specs.declared.operators.BinaryOperator.{BinaryOperator}
 use Rattle.cx_prim.specs.declared.operators.BinaryOperator.TheVariants.{Add, Sub, And, Or, Xor, Lsh, Rsh, Lt, Gt, Equal, Neq, Le, Ge, Slt, Sgt, Sle, Sge}
-use Rattle.cx_prim.specs.TableCases.{of_row}
 
 pub unary_gives : (operator : UnaryOperator) (w v : ℕ) → IsUnary operator w v → GivesWidth1 w v (apply_unary operator v)
 unary_gives Wire w v takes a fits same = record { same_width = same ∙ eqb-true w v takes.taken; fits = fits }

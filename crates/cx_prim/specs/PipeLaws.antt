@@ -14,7 +14,6 @@ use Rattle.cx_prim.specs.CombinationalLaws.{not_output}
 use Rattle.cx_prim.specs.PipeRows.{holding, is_last, advanced, stopped, left_of, right_of, pipe_demands, multiplier_output, multiplier_idle, multiplied, multiplier_go, multiplier_latency, multiplier_row, divider_output, divider_idle, divided, divider_go, divider_row, timer_output, timer_idle, timer_go, timer_row}
 use Rattle.cx_prim.specs.RowTools.{out_fits, number_fits, if-same_else, if-each, value_at_fits}
 use Rattle.cx_prim.specs.Widths.{IsWidth}
-use Rattle.cx_prim.specs.TableCases.{of_row}
 
 -- operands are looked at in the first cycle alone
 pub holding_same : (run : PipeRun) (inputs others : Inputs) → ((run.count == 0) ≡ true → input inputs 1 ≡ input others 1) → ((run.count == 0) ≡ true → input inputs 2 ≡ input others 2) → holding run inputs ≡ holding run others

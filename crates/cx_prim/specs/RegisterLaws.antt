@@ -12,7 +12,6 @@ use Rattle.cx_prim.specs.CombinationalLaws.{not_output}
 use Rattle.cx_prim.specs.RegisterRow.{register_output, register_idle, register_row}
 use Rattle.cx_prim.specs.RowTools.{out_fits, number_fits, if-same_else, if-each, value_at_fits}
 use Rattle.cx_prim.specs.Widths.{IsWidth}
-use Rattle.cx_prim.specs.TableCases.{of_row}
 
 pub register_idle_once : (state : CellState) → register_idle (register_idle state) ≡ register_idle state
 register_idle_once (Register value done) = refl
