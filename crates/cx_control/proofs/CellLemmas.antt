@@ -18,7 +18,6 @@ use Rattle.cx_rules.specs.Ports.{width_of}
 use Rattle.cx_rules.proofs.FoundLemmas.{same_is}
 use Rattle.cx_rules.proofs.ForeignLemmas.{assigns_drive_in}
 use Rattle.cx_frames.specs.Rests.{IsUndriven}
-use Rattle.cx_eval_cycle.proofs.DemandLemmas.{DemandsAlike}
 use Rattle.cx_control.specs.Flows.{Values, zero_of, first_on, given, Around, side_flow, cell_flow, Solves}
 use Rattle.cx_control.proofs.InstanceLemmas.{OwnerOf, continuous, of_group, owner_of}
 use Rattle.cx_control.proofs.TargetFlows.{Right}
@@ -43,7 +42,7 @@ edge_next (Some n) a b e = absurd (other e)
     other f = cc
 
 -- A STEP
-module _ (look : Look) (v : Values) (c : ℕ) (row : Row) (state : CellState) (lawful : IsLawful row) (demands : DemandsAlike row) (right : (q : ℕ) → Right look v (ports.Cell c q)) where
+module _ (look : Look) (v : Values) (c : ℕ) (row : Row) (state : CellState) (lawful : IsLawful row) (right : (q : ℕ) → Right look v (ports.Cell c q)) where
   abbrev Whole : Inputs
   Whole = given v c 0 row.ports
 
@@ -69,7 +68,7 @@ module _ (look : Look) (v : Values) (c : ℕ) (row : Row) (state : CellState) (l
     enabling = λ n port at side. gathered (looks_at row state first) inputs f n (or_is (enables row n) (row.demands state first n) (is_enabling n port at side));
     demanded = λ n port at side is.
         gathered (looks_at row state first) inputs f n
-        (or_then (enables row n) (row.demands state first n) (demands state first inputs n (record { enabling = agrees }) ∙ is));
+        (or_then (enables row n) (row.demands state first n) (lawful.by_enabling state first inputs n (record { enabling = agrees }) ∙ is));
   })
     where
       agrees : (m : ℕ) (port : PortRow) → slice_get row.ports m ≡ Some port → port.side ≡ sides.Enable → input first m ≡ input inputs m

@@ -6,7 +6,8 @@ use Rattle.std.proofs.lemmas.Bool.{eqb-true}
 use Rattle.cx_meaning.specs.declared.ports.PortRef.{PortRef}
 use Rattle.cx_meaning.specs.Designs.{PlainGuard, Always, Atom, Negation, All, Any, Compared, Within, PlainGuards, no_guards, a_guard}
 use Rattle.cx_meaning.specs.Active.{same_port}
-use Rattle.cx_meaning.specs.Truths.{Truth, One, Zero, Clash, Unknown, truth_of, and_truth}
+use Rattle.cx_meaning.specs.Truths.{Truth, One, Zero, truth_of, and_truth}
+use Rattle.cx_meaning.specs.Truths as truths
 use Rattle.cx_meaning.specs.Sights.{Look, In, guard_truth, all_truth}
 use Rattle.cx_rules.specs.CallShape.{joined, conjuncts, conjuncts_in, are_dones}
 use Rattle.cx_rules.proofs.Finite.{in_left, in_right}
@@ -21,14 +22,14 @@ some_is x y e = cc
 both_one : (a b : Truth) → and_truth a b ≡ One → (a ≡ One) × (b ≡ One)
 both_one One b e = (refl, e)
 both_one Zero b e = absurd (cc)
-both_one Clash One e = absurd (cc)
-both_one Clash Zero e = absurd (cc)
-both_one Clash Clash e = absurd (cc)
-both_one Clash Unknown e = absurd (cc)
-both_one Unknown One e = absurd (cc)
-both_one Unknown Zero e = absurd (cc)
-both_one Unknown Clash e = absurd (cc)
-both_one Unknown Unknown e = absurd (cc)
+both_one truths.Conflict One e = absurd (cc)
+both_one truths.Conflict Zero e = absurd (cc)
+both_one truths.Conflict truths.Conflict e = absurd (cc)
+both_one truths.Conflict truths.Undefined e = absurd (cc)
+both_one truths.Undefined One e = absurd (cc)
+both_one truths.Undefined Zero e = absurd (cc)
+both_one truths.Undefined truths.Conflict e = absurd (cc)
+both_one truths.Undefined truths.Undefined e = absurd (cc)
 
 -- two conjunctions joined
 pub record Joins (a b : Option (List PortRef)) (ps : List PortRef) : Type 0 where

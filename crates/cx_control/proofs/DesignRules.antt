@@ -26,7 +26,7 @@ use Rattle.cx_meaning.specs.Rows.{KeepsIdle}
 use Rattle.cx_meaning.specs.Laws.{AllRows}
 use Rattle.cx_meaning.specs.Running.{run_control}
 use Rattle.cx_meaning.proofs.RunningLemmas.{idle_settles}
-use Rattle.cx_meaning.proofs.TableStarts.{kept_within}
+use Rattle.cx_meaning.proofs.IdleLemmas.{kept_within}
 use Rattle.cx_rules.specs.Ports.{component_of}
 use Rattle.cx_rules.specs.Items.{Dynamic, Visited, statements_in, is_plain}
 use Rattle.cx_rules.specs.Footprints.{Reads, Leads, PartLeads, CellLeads, Depends, at_once, by_way_of}

@@ -6,7 +6,8 @@ use Rattle.cx_meaning.specs.declared.ports.PortRef.TheVariants as ports
 use Rattle.cx_meaning.specs.Designs.{Enable, PlainStatement, Placed}
 use Rattle.cx_meaning.specs.Instances.{Instance, part_of, Path, State, Set, idle}
 use Rattle.cx_meaning.specs.Active.{Active, group}
-use Rattle.cx_meaning.specs.Truths.{Truth, One, Zero, Clash, Unknown, truth_of}
+use Rattle.cx_meaning.specs.Truths.{Truth, One, Zero, truth_of}
+use Rattle.cx_meaning.specs.Truths as truths
 use Rattle.cx_meaning.specs.Sights.{Held, seen}
 use Rattle.cx_meaning.specs.Cycles.{Fault, Ended, Goes, Faults, cycle}
 use Rattle.cx_meaning.specs.Answers.{Turn, turns_of}
@@ -85,8 +86,8 @@ turn_goes (Faults fault) after e = absurd (cc)
 hole_goes : (g : ℕ) (truth : Truth) (ended : Ended) (after : State) → hole_turn g ended truth ≡ answers.Goes after → ended ≡ Goes after
 hole_goes g One ended after e = absurd (cc)
 hole_goes g Zero ended after e = turn_goes ended after e
-hole_goes g Clash ended after e = absurd (cc)
-hole_goes g Unknown ended after e = absurd (cc)
+hole_goes g truths.Conflict ended after e = absurd (cc)
+hole_goes g truths.Undefined ended after e = absurd (cc)
 
 -- WHAT A STATEMENT READS, in the store and in the state that is shown
 module _ (set : ℕ → Type 0) (held : Held) (s : State) (w : Kept) (near : Agree (reads_spot set) w (shown held s)) where

@@ -5,7 +5,8 @@ use Rattle.cx_meaning.specs.declared.kinds.GroupKind.{GroupKind}
 use Rattle.cx_meaning.specs.declared.kinds.GroupKind.TheVariants as kinds
 use Rattle.cx_meaning.specs.Designs.{PlainForm, Enable}
 use Rattle.cx_meaning.specs.Instances.{Instance, part_of, Path, State, Set, just}
-use Rattle.cx_meaning.specs.Truths.{Truth, One, Zero, Clash, Unknown}
+use Rattle.cx_meaning.specs.Truths.{Truth, One, Zero}
+use Rattle.cx_meaning.specs.Truths as truths
 use Rattle.cx_meaning.specs.Cycles.{Fault}
 use Rattle.cx_meaning.specs.Answers.{Turn}
 use Rattle.cx_meaning.specs.Answers as answers
@@ -22,14 +23,14 @@ true_false b e f = absurd (both_ways b f e)
 pub is_one_of : (t : Truth) → is_one t ≡ true → t ≡ One
 is_one_of One e = refl
 is_one_of Zero e = true_false false e refl
-is_one_of Clash e = true_false false e refl
-is_one_of Unknown e = true_false false e refl
+is_one_of truths.Conflict e = true_false false e refl
+is_one_of truths.Undefined e = true_false false e refl
 
 pub not_one_of : (t : Truth) → is_one t ≡ false → t ≡ One → ⊥
 not_one_of One e f = true_false true refl e
 not_one_of Zero e f = absurd (cc)
-not_one_of Clash e f = absurd (cc)
-not_one_of Unknown e f = absurd (cc)
+not_one_of truths.Conflict e f = absurd (cc)
+not_one_of truths.Undefined e f = absurd (cc)
 
 -- A CALL'S MACHINE, whatever kind its group is taken for
 module _ (i : Instance) (children : ℕ → Coded) (g c : ℕ) (s : Kept) where

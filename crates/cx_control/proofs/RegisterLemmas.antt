@@ -17,7 +17,8 @@ use Rattle.cx_meaning.specs.declared.sights.Seen.TheVariants.{Value, Conflict, U
 use Rattle.cx_meaning.specs.Designs.{PlainAssign, PlainCell}
 use Rattle.cx_meaning.specs.Instances.{Instance, Node, Cells, no_cells, a_primitive, an_instance, OfRow, cell_at, cells_of, State, idle_at, idle_below}
 use Rattle.cx_meaning.specs.Active.{Active, same_port}
-use Rattle.cx_meaning.specs.Truths.{One, Zero, Unknown, truth_of}
+use Rattle.cx_meaning.specs.Truths.{One, Zero, truth_of}
+use Rattle.cx_meaning.specs.Truths as truths
 use Rattle.cx_meaning.specs.Sights.{Look, Held, In, of_option, Given, with_entry, gather_one, gather_port, gather, seen}
 use Rattle.cx_meaning.specs.Cycles.{Fault, Outcome, Next, Stops, enables, after_data, after_enabling, cell_outcome, first_of, first_fault, stepped, cell_after, state_after, Goes, unless_fault, every_cell, cycle}
 use Rattle.cx_rules.specs.ShapeRules.{some_target}
@@ -93,7 +94,7 @@ set = record { width = 1; value = 1 }
 zero_is_not_one : Zero ≡ One → ⊥
 zero_is_not_one e = cc
 
-unknown_is_not_one : Unknown ≡ One → ⊥
+unknown_is_not_one : truths.Undefined ≡ One → ⊥
 unknown_is_not_one e = cc
 
 falls : (v : ℕ) → states.Register v false ≡ states.Register v true → ⊥

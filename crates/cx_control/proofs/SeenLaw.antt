@@ -21,7 +21,6 @@ use Rattle.cx_rules.proofs.FoundLemmas.{seen_found}
 use Rattle.cx_rules.proofs.CircleLemmas.{instance_acyclic}
 use Rattle.cx_laws.specs.Widths.{HoldsStates, HoldsWidths}
 use Rattle.cx_frames.specs.Rests.{IsUndriven}
-use Rattle.cx_eval_cycle.proofs.DemandLemmas.{DemandsAlike, EdgeFacts, row_facts}
 use Rattle.cx_control.specs.Flows.{Values, given, Around, Solves, Undisturbed}
 use Rattle.cx_control.proofs.NarrowLemmas.{enables_narrow, no_bare, cells_below}
 use Rattle.cx_control.proofs.CellLemmas.{cell_step, idle_step}
@@ -53,8 +52,7 @@ module _ (d : PlainDesign) (path : Path) (design : IsDesign d) (accepted : IsAcc
   pub cells_step : (held : Held) (act : Active) (c : ℕ) (row : Row) (after : CellState) → IsAcyclic I act → ((p : ℕ) → Undisturbed I held act go s around (ports.Cell c p)) → cell_at (cells_of I) c ≡ OfRow row
       → cell_outcome (seen I held act s) c row (s (c ∷ [])) ≡ Next after → row.next (s (c ∷ [])) (given v c 0 row.ports) ≡ after
   cells_step held act c row after acyclic undisturbed at outcome =
-      let p = instance_rows d path c row at in
-      cell_step (seen I held act s) v c row (s (c ∷ [])) (instance_lawful d path c row at) (subst DemandsAlike p.1 (EdgeFacts.demands (row_facts p.0)))
+      cell_step (seen I held act s) v c row (s (c ∷ [])) (instance_lawful d path c row at)
       (λ q b e. seen_flow held act (ports.Cell c q) b (undisturbed q)
       (subst (Sees I held act s (ports.Cell c q)) e (seen_found I held act s acyclic (cells_below I (instance_acyclic d accepted path)) (ports.Cell c q))))
       after outcome

@@ -8,7 +8,8 @@ use Rattle.cx_meaning.specs.declared.sights.Seen.{Seen}
 use Rattle.cx_meaning.specs.declared.sights.Seen.TheVariants.{Value, Conflict, Undefined}
 use Rattle.cx_meaning.specs.Designs.{PlainGuard, Always, Atom, Negation, All, Any, Compared, Within, PlainGuards, no_guards, a_guard}
 use Rattle.cx_meaning.specs.Active.{Acting}
-use Rattle.cx_meaning.specs.Truths.{Truth, One, Zero, Clash, Unknown, truth_of_bit, truth_of, not_truth, and_truth, or_truth, compares, compared}
+use Rattle.cx_meaning.specs.Truths.{Truth, One, Zero, truth_of_bit, truth_of, not_truth, and_truth, or_truth, compares, compared}
+use Rattle.cx_meaning.specs.Truths as truths
 use Rattle.cx_meaning.specs.Sights.{Look, In, guard_truth, all_truth, any_truth, GuardNames, AnyNames, Taken, Sources, Stopped, with_source, take_guard, taken, agreed, all_agreed, settle, target_seen, TargetNeeds, IsTaken}
 use Rattle.cx_control.specs.Flows.{Values, is_set, guard_on, all_on, any_on, first_on}
 
@@ -19,60 +20,60 @@ value_is a b e = cc
 abbrev pub Says : Truth → Bool → Type 0
 Says One b = b ≡ true
 Says Zero b = b ≡ false
-Says Clash b = Unit {0}
-Says Unknown b = Unit {0}
+Says truths.Conflict b = Unit {0}
+Says truths.Undefined b = Unit {0}
 
 says_not : (t : Truth) (b : Bool) → Says t b → Says (not_truth t) (not b)
 says_not One b h = ap not h
 says_not Zero b h = ap not h
-says_not Clash b h = tt
-says_not Unknown b h = tt
+says_not truths.Conflict b h = tt
+says_not truths.Undefined b h = tt
 
 says_and : (t u : Truth) (a b : Bool) → Says t a → Says u b → Says (and_truth t u) (a && b)
 says_and One One a b h k = ap (λ x. x && b) h ∙ k
 says_and One Zero a b h k = ap (λ x. x && b) h ∙ k
-says_and One Clash a b h k = tt
-says_and One Unknown a b h k = tt
+says_and One truths.Conflict a b h k = tt
+says_and One truths.Undefined a b h k = tt
 says_and Zero u a b h k = ap (λ x. x && b) h
-says_and Clash One a b h k = tt
-says_and Clash Zero a b h k = ap (λ x. a && x) k ∙ never a
+says_and truths.Conflict One a b h k = tt
+says_and truths.Conflict Zero a b h k = ap (λ x. a && x) k ∙ never a
   where
     never : (c : Bool) → (c && false) ≡ false
     never true = refl
     never false = refl
-says_and Clash Clash a b h k = tt
-says_and Clash Unknown a b h k = tt
-says_and Unknown One a b h k = tt
-says_and Unknown Zero a b h k = ap (λ x. a && x) k ∙ never a
+says_and truths.Conflict truths.Conflict a b h k = tt
+says_and truths.Conflict truths.Undefined a b h k = tt
+says_and truths.Undefined One a b h k = tt
+says_and truths.Undefined Zero a b h k = ap (λ x. a && x) k ∙ never a
   where
     never : (c : Bool) → (c && false) ≡ false
     never true = refl
     never false = refl
-says_and Unknown Clash a b h k = tt
-says_and Unknown Unknown a b h k = tt
+says_and truths.Undefined truths.Conflict a b h k = tt
+says_and truths.Undefined truths.Undefined a b h k = tt
 
 says_or : (t u : Truth) (a b : Bool) → Says t a → Says u b → Says (or_truth t u) (a || b)
 says_or One u a b h k = ap (λ x. x || b) h
 says_or Zero One a b h k = ap (λ x. x || b) h ∙ k
 says_or Zero Zero a b h k = ap (λ x. x || b) h ∙ k
-says_or Zero Clash a b h k = tt
-says_or Zero Unknown a b h k = tt
-says_or Clash One a b h k = ap (λ x. a || x) k ∙ ever a
+says_or Zero truths.Conflict a b h k = tt
+says_or Zero truths.Undefined a b h k = tt
+says_or truths.Conflict One a b h k = ap (λ x. a || x) k ∙ ever a
   where
     ever : (c : Bool) → (c || true) ≡ true
     ever true = refl
     ever false = refl
-says_or Clash Zero a b h k = tt
-says_or Clash Clash a b h k = tt
-says_or Clash Unknown a b h k = tt
-says_or Unknown One a b h k = ap (λ x. a || x) k ∙ ever a
+says_or truths.Conflict Zero a b h k = tt
+says_or truths.Conflict truths.Conflict a b h k = tt
+says_or truths.Conflict truths.Undefined a b h k = tt
+says_or truths.Undefined One a b h k = ap (λ x. a || x) k ∙ ever a
   where
     ever : (c : Bool) → (c || true) ≡ true
     ever true = refl
     ever false = refl
-says_or Unknown Zero a b h k = tt
-says_or Unknown Clash a b h k = tt
-says_or Unknown Unknown a b h k = tt
+says_or truths.Undefined Zero a b h k = tt
+says_or truths.Undefined truths.Conflict a b h k = tt
+says_or truths.Undefined truths.Undefined a b h k = tt
 
 says_bit : (b : Bool) → Says (truth_of_bit b) b
 says_bit true = refl
@@ -145,8 +146,8 @@ module _ (look : Look) (v : Values) where
           → (if b then v a.assign.source.port else first_on v undriven rest) ≡ first_source undriven ss
       by_guard k One b h f = ap (λ x. if x then v a.assign.source.port else first_on v undriven rest) h ∙ by_rest (taken look rest) refl f
       by_guard k Zero b h f = ap (λ x. if x then v a.assign.source.port else first_on v undriven rest) h ∙ k f
-      by_guard k Clash b h f = absurd (stopped_sources Conflict ss f)
-      by_guard k Unknown b h f = absurd (stopped_sources Undefined ss f)
+      by_guard k truths.Conflict b h f = absurd (stopped_sources Conflict ss f)
+      by_guard k truths.Undefined b h f = absurd (stopped_sources Undefined ss f)
 
   conflict_value : (b : BitVector) → Conflict ≡ Value b → ⊥
   conflict_value b e = cc
@@ -187,8 +188,8 @@ module _ (look : Look) (v : Values) where
       by_guard : (taken look rest ≡ Stopped x → ⊥) → (t : Truth) → take_guard t a.assign.source.port (taken look rest) ≡ Stopped x → ⊥
       by_guard k One g = by_rest k (taken look rest) refl g
       by_guard k Zero g = k g
-      by_guard k Clash g = let h : Conflict ≡ x = cc in conflict_value b (h ∙ f)
-      by_guard k Unknown g = let h : Undefined ≡ x = cc in undefined_value b (h ∙ f)
+      by_guard k truths.Conflict g = let h : Conflict ≡ x = cc in conflict_value b (h ∙ f)
+      by_guard k truths.Undefined g = let h : Undefined ≡ x = cc in undefined_value b (h ∙ f)
 
   -- a target
   pub target_flows : (undriven : Seen) (zero_bits : BitVector) → ((b : BitVector) → undriven ≡ Value b → zero_bits ≡ b) → (acts : List Acting) → ((q : PortRef) → TargetNeeds look acts q → Right q)

@@ -10,7 +10,8 @@ use Rattle.cx_meaning.specs.declared.sights.Seen.{Seen}
 use Rattle.cx_meaning.specs.declared.sights.Seen.TheVariants.{Value, Conflict, Undefined}
 use Rattle.cx_meaning.specs.Designs.{PlainAssign, PlainComponent, group_at}
 use Rattle.cx_meaning.specs.Active.{Active, Owned, Acting, offset_of, if_acting, if_target, acting, same_port, source_order, drivers, only_at}
-use Rattle.cx_meaning.specs.Truths.{Truth, One, Zero, Clash, Unknown, truth_of}
+use Rattle.cx_meaning.specs.Truths.{Truth, One, Zero, truth_of}
+use Rattle.cx_meaning.specs.Truths as truths
 use Rattle.cx_meaning.specs.Sights.{Look, In, bit_of, guard_truth, Taken, Sources, Stopped, with_source, take_guard, taken, agreed, all_agreed, settle, target_seen}
 use Rattle.cx_rules.specs.CallShape.{with_target}
 use Rattle.cx_rules.proofs.FoundLemmas.{same_is}
@@ -45,8 +46,8 @@ first_taken look (a ∷ acts) s more e = by_guard (guard_truth look a.offset a.a
     by_guard : (t : Truth) → guard_truth look a.offset a.assign.guard ≡ t → take_guard t a.assign.source.port (taken look acts) ≡ Sources (s ∷ more) → (taken look acts ≡ Sources (s ∷ more) → FirstTaken look acts s) → FirstTaken look (a ∷ acts) s
     by_guard One is f later = record { from = a; acts_so = inl refl; guard = is; is = sources_first a.assign.source.port (taken look acts) s more f }
     by_guard Zero is f later = later_taken look a acts s (later f)
-    by_guard Clash is f later = absurd (cc)
-    by_guard Unknown is f later = absurd (cc)
+    by_guard truths.Conflict is f later = absurd (cc)
+    by_guard truths.Undefined is f later = absurd (cc)
 
 -- of sources that agree on 1 the first is
 agreed_one : (x y : Seen) → truth_of (agreed x y) ≡ One → truth_of x ≡ One
@@ -78,8 +79,8 @@ target_one look acts e = by_taken (taken look acts) refl e
             of_guard One (Sources xs) h j later = cc
             of_guard One (Stopped by) h j later = later (h ∙ j)
             of_guard Zero k h j later = later (h ∙ j)
-            of_guard Clash k h j later = cc
-            of_guard Unknown k h j later = cc
+            of_guard truths.Conflict k h j later = cc
+            of_guard truths.Undefined k h j later = cc
     by_taken (Stopped Conflict) is f = absurd (cc)
     by_taken (Stopped Undefined) is f = absurd (cc)
     by_taken (Sources []) is f = absurd (cc)

@@ -15,7 +15,7 @@ use Rattle.cx_prim.specs.CombinationalRows.{constant_row, unary_row, greater_bit
 use Rattle.cx_prim.specs.MemoryRows.{address_ports, are_sizes, is_address_width, memory_row, sequential_memory_row}
 use Rattle.cx_prim.specs.PipeRows.{timer_row}
 use Rattle.cx_prim.specs.Table.{PrimitiveRow, HasRow, row_of, at_width, constant_at, slice_at, pad_at, memory_at, timer_at, row_at, no_row}
-use Rattle.cx_prim.specs.TableLaws.{is_width_tells, is_layout_tells}
+use Rattle.cx_prim.specs.TableCases.{is_width_tells, is_layout_tells}
 use Rattle.cx_rules.specs.Sizes.{shape_words}
 use Rattle.cx_rules.specs.Wellformed.{is_memory}
 use Rattle.cx_rules.specs.Externals.{sizes_in}

@@ -1,18 +1,13 @@
 -- A primitive without an enabling port: a cycle looks at none of its ports, and leaves it as it is.
-use Rattle.std.proofs.Common.{◌≡◌, ℕ, zero, suc, ◌*◌, ◌^◌, ◌<◌, ◌==◌, ◌&&◌, ◌||◌, Bool, true, false, List, [], ◌∷◌, ◌++◌, Option, Some, None, length, take, drop, if◌then◌else◌, refl, sym, ap, ◌∙◌, arith}
-use Rattle.std.specs.Prelude.{unwrap_or, nat_lt, nat_le}
-use Rattle.std.specs.List.{list_all}
+use Rattle.std.proofs.Common.{◌≡◌, ℕ, zero, suc, ◌<◌, ◌||◌, Bool, true, false, List, [], ◌∷◌, ◌++◌, Option, None, length, refl, sym, ap, ◌∙◌, arith}
 use Rattle.cx_bits.specs.BitVector.{BitVector}
-use Rattle.cx_prim.specs.declared.names.PrimitiveName.{PrimitiveName}
-use Rattle.cx_prim.specs.declared.names.PrimitiveName.TheVariants.{Const, Wire, Add, Sub, And, Or, Xor, Not, Lsh, Rsh, Lt, Gt, Equal, Neq, Le, Ge, Slt, Sgt, Seq, Sneq, Sle, Sge, Slice, Pad, Mux, Reg, StdMemD1, StdMemD2, StdMemD3, StdMemD4, CombMemD1, CombMemD2, CombMemD3, CombMemD4, SeqMemD1, SeqMemD2, SeqMemD3, SeqMemD4, MultPipe, DivPipe, Timer}
 use Rattle.cx_prim.specs.declared.ports.PortRow.{PortRow}
 use Rattle.cx_prim.specs.CellStates.{CellState}
 use Rattle.cx_prim.specs.Rows.{Inputs, Row, is_enable_side}
-use Rattle.cx_prim.specs.Widths.{is_width}
 use Rattle.cx_prim.specs.CombinationalRows.{combinational_row}
-use Rattle.cx_prim.specs.MemoryRows.{are_sizes, is_address_width, address_ports, memory_row, sequential_memory_row}
-use Rattle.cx_prim.specs.PipeRows.{timer_row}
-use Rattle.cx_prim.specs.Table.{PrimitiveRow, at_width, constant_at, slice_at, pad_at, memory_at, timer_at, row_at, no_row, row_of}
+use Rattle.cx_prim.specs.MemoryRows.{address_ports, memory_row, sequential_memory_row}
+use Rattle.cx_prim.specs.Table.{PrimitiveRow, no_row, row_of}
+use Rattle.cx_prim.specs.TableCases.{OfEachKind, of_row}
 use Rattle.cx_meaning.specs.declared.ports.PortRef.TheVariants.{Cell}
 use Rattle.cx_meaning.specs.declared.sights.Seen.{Seen}
 use Rattle.cx_meaning.specs.Rows.{side_from}
@@ -77,88 +72,23 @@ none_inert : IsInert no_row
 none_inert = plain_inert _ _ _
 
 -- THE TABLE
-chosen_inert : (r : Row) (b : Bool) → IsInert r → IsInert (unwrap_or (if b then Some r else None) no_row)
-chosen_inert r true h = h
-chosen_inert r false h = none_inert
-
-width_inert : (make : ℕ → Row) → ((w : ℕ) → IsInert (make w)) → (numbers : List ℕ) → IsInert (unwrap_or (at_width make numbers) no_row)
-width_inert make each [] = none_inert
-width_inert make each (w ∷ []) = chosen_inert (make w) (is_width w) (each w)
-width_inert make each (w ∷ x ∷ rest) = none_inert
-
-constant_inert : (numbers : List ℕ) → IsInert (unwrap_or (constant_at numbers) no_row)
-constant_inert [] = none_inert
-constant_inert (w ∷ []) = none_inert
-constant_inert (w ∷ v ∷ []) = chosen_inert _ (is_width w && nat_lt v (2 ^ w)) (plain_inert _ _ _)
-constant_inert (w ∷ v ∷ x ∷ rest) = none_inert
-
-slice_inert : (numbers : List ℕ) → IsInert (unwrap_or (slice_at numbers) no_row)
-slice_inert [] = none_inert
-slice_inert (w ∷ []) = none_inert
-slice_inert (w ∷ v ∷ []) = chosen_inert _ ((is_width w && is_width v) && nat_le v w) (plain_inert _ _ _)
-slice_inert (w ∷ v ∷ x ∷ rest) = none_inert
-
-pad_inert : (numbers : List ℕ) → IsInert (unwrap_or (pad_at numbers) no_row)
-pad_inert [] = none_inert
-pad_inert (w ∷ []) = none_inert
-pad_inert (w ∷ v ∷ []) = chosen_inert _ ((is_width w && is_width v) && nat_le w v) (plain_inert _ _ _)
-pad_inert (w ∷ v ∷ x ∷ rest) = none_inert
-
-dimension_inert : (d : ℕ) (make : ℕ → List ℕ → List ℕ → Row) → ((w : ℕ) (sizes widths : List ℕ) → IsInert (make w sizes widths)) → (numbers : List ℕ) → IsInert (unwrap_or (memory_at d make numbers) no_row)
-dimension_inert d make each [] = none_inert
-dimension_inert d make each (w ∷ rest) =
-    chosen_inert (make w (take d rest) (drop d rest)) ((is_width w && (length rest == 2 * d)) && (are_sizes (take d rest) && list_all is_address_width (drop d rest))) (each w (take d rest) (drop d rest))
-
-timer_inert : (numbers : List ℕ) → IsInert (unwrap_or (timer_at numbers) no_row)
-timer_inert [] = none_inert
-timer_inert (n ∷ []) = chosen_inert (timer_row n) (nat_le 1 n && nat_lt n (2 ^ 32)) (enabled_inert _ refl)
-timer_inert (n ∷ x ∷ rest) = none_inert
-
-row_inert : (name : PrimitiveName) (numbers : List ℕ) → IsInert (unwrap_or (row_at name numbers) no_row)
-row_inert Const numbers = constant_inert numbers
-row_inert Wire numbers = width_inert _ (λ w. plain_inert _ _ _) numbers
-row_inert Add numbers = width_inert _ (λ w. plain_inert _ _ _) numbers
-row_inert Sub numbers = width_inert _ (λ w. plain_inert _ _ _) numbers
-row_inert And numbers = width_inert _ (λ w. plain_inert _ _ _) numbers
-row_inert Or numbers = width_inert _ (λ w. plain_inert _ _ _) numbers
-row_inert Xor numbers = width_inert _ (λ w. plain_inert _ _ _) numbers
-row_inert Not numbers = width_inert _ (λ w. plain_inert _ _ _) numbers
-row_inert Lsh numbers = width_inert _ (λ w. plain_inert _ _ _) numbers
-row_inert Rsh numbers = width_inert _ (λ w. plain_inert _ _ _) numbers
-row_inert Lt numbers = width_inert _ (λ w. plain_inert _ _ _) numbers
-row_inert Gt numbers = width_inert _ (λ w. plain_inert _ _ _) numbers
-row_inert Equal numbers = width_inert _ (λ w. plain_inert _ _ _) numbers
-row_inert Neq numbers = width_inert _ (λ w. plain_inert _ _ _) numbers
-row_inert Le numbers = width_inert _ (λ w. plain_inert _ _ _) numbers
-row_inert Ge numbers = width_inert _ (λ w. plain_inert _ _ _) numbers
-row_inert Slt numbers = width_inert _ (λ w. plain_inert _ _ _) numbers
-row_inert Sgt numbers = width_inert _ (λ w. plain_inert _ _ _) numbers
-row_inert Seq numbers = width_inert _ (λ w. plain_inert _ _ _) numbers
-row_inert Sneq numbers = width_inert _ (λ w. plain_inert _ _ _) numbers
-row_inert Sle numbers = width_inert _ (λ w. plain_inert _ _ _) numbers
-row_inert Sge numbers = width_inert _ (λ w. plain_inert _ _ _) numbers
-row_inert Slice numbers = slice_inert numbers
-row_inert Pad numbers = pad_inert numbers
-row_inert Mux numbers = width_inert _ (λ w. plain_inert _ _ _) numbers
-row_inert Reg numbers = width_inert _ (λ w. enabled_inert _ refl) numbers
-row_inert StdMemD1 numbers = dimension_inert 1 _ memory_inert numbers
-row_inert StdMemD2 numbers = dimension_inert 2 _ memory_inert numbers
-row_inert StdMemD3 numbers = dimension_inert 3 _ memory_inert numbers
-row_inert StdMemD4 numbers = dimension_inert 4 _ memory_inert numbers
-row_inert CombMemD1 numbers = dimension_inert 1 _ memory_inert numbers
-row_inert CombMemD2 numbers = dimension_inert 2 _ memory_inert numbers
-row_inert CombMemD3 numbers = dimension_inert 3 _ memory_inert numbers
-row_inert CombMemD4 numbers = dimension_inert 4 _ memory_inert numbers
-row_inert SeqMemD1 numbers = dimension_inert 1 _ sequential_inert numbers
-row_inert SeqMemD2 numbers = dimension_inert 2 _ sequential_inert numbers
-row_inert SeqMemD3 numbers = dimension_inert 3 _ sequential_inert numbers
-row_inert SeqMemD4 numbers = dimension_inert 4 _ sequential_inert numbers
-row_inert MultPipe numbers = width_inert _ (λ w. enabled_inert _ refl) numbers
-row_inert DivPipe numbers = width_inert _ (λ w. enabled_inert _ refl) numbers
-row_inert Timer numbers = timer_inert numbers
+each_kind_inert : OfEachKind IsInert
+each_kind_inert = record {
+  none = none_inert;
+  constant = λ w v fits. plain_inert _ _ _;
+  unary = λ operator w v takes. plain_inert _ _ _;
+  binary = λ operator w ok. plain_inert _ _ _;
+  mux = λ w ok. plain_inert _ _ _;
+  register = λ w ok. enabled_inert _ refl;
+  memory = λ w sizes widths layout. memory_inert w sizes widths;
+  sequential = λ w sizes widths layout. sequential_inert w sizes widths;
+  multiplier = λ w ok. enabled_inert _ refl;
+  divider = λ w ok. enabled_inert _ refl;
+  timer = λ n some most. enabled_inert _ refl;
+}
 
 primitive_inert : (p : PrimitiveRow) → IsInert (row_of p)
-primitive_inert p = row_inert p.name p.numbers
+primitive_inert p = of_row IsInert each_kind_inert p
 
 -- A CYCLE
 gather_none : (look : ℕ → Seen) (wanted : ℕ → Bool) (p : ℕ) (list : List PortRow) → ((k : ℕ) → wanted k ≡ false) → (xs : Inputs) × (gather look wanted p list ≡ Given xs)

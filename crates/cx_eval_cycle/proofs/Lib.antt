@@ -1,5 +1,4 @@
 pub mod RangeLemmas
-pub mod DemandLemmas
 pub mod LookLemmas
 pub mod PassLemmas
 pub mod FaultLemmas

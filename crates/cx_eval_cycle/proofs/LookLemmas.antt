@@ -3,11 +3,12 @@ use Rattle.std.proofs.Common.{◌≡◌, ℕ, zero, suc, ◌+◌, ◌<◌, ⊎_e
 use Rattle.std.specs.Prelude.{IsSome, slice_get}
 use Rattle.std.proofs.lemmas.Bool.{cases_eq}
 use Rattle.std.proofs.lemmas.List.{get_or-set_same, get_or-set_other}
+use Rattle.std.proofs.lemmas.Option.{slice_get_within}
 use Rattle.cx_bits.specs.BitVector.{BitVector}
 use Rattle.cx_prim.specs.CellStates.{CellState}
 use Rattle.cx_prim.specs.declared.ports.PortRow.{PortRow}
 use Rattle.cx_prim.specs.declared.ports.Side.TheVariants.{Enable}
-use Rattle.cx_prim.specs.Rows.{Inputs, Row, IsLookedAt, is_enable_side, edge_of}
+use Rattle.cx_prim.specs.Rows.{Inputs, Row, IsLookedAt, AgreesWhereEnabling, is_enable_side, edge_of}
 use Rattle.cx_meaning.specs.declared.sights.Seen.{Seen}
 use Rattle.cx_meaning.specs.declared.sights.Seen.TheVariants.{Value, Conflict, Undefined}
 use Rattle.cx_meaning.specs.declared.sights.FaultKind.TheVariants as faults
@@ -17,7 +18,6 @@ use Rattle.cx_meaning.specs.Cycles.{Outcome, Next, Stops, kind_of, enables, look
 use Rattle.cx_eval_drives.specs.Gathers.{gather_all, wanted_at}
 use Rattle.cx_eval_drives.proofs.GatherLemmas.{counts}
 use Rattle.cx_eval_cycle.specs.Stops.{AreMarked}
-use Rattle.cx_eval_cycle.proofs.DemandLemmas.{AgreesWhereEnabling, below_of}
 
 -- MARKS
 pub marked_next : (test : ℕ → Bool) (wanted : List Bool) (port : ℕ) (b : Bool) → port < length wanted → b ≡ test port → ((p : ℕ) → p < port → get_or wanted p false ≡ test p)
@@ -140,14 +140,14 @@ module _ (look : ℕ → Seen) (row : Row) (state : CellState) where
       standing : (n : ℕ) (port : PortRow) → slice_get row.ports n ≡ Some port → looks_at row state xs n ≡ true → Stands look ys n n
       standing n port at wanted =
           let z : n ≡ 0 + n = omega arith in
-          subst (Stands look ys n) (sym z) (given_stands look (looks_at row state xs) 0 row.ports ys f n (below_of row.ports n port at) (ap (looks_at row state xs) (sym z) ∙ wanted))
+          subst (Stands look ys n) (sym z) (given_stands look (looks_at row state xs) 0 row.ports ys f n (slice_get_within row.ports n port at) (ap (looks_at row state xs) (sym z) ∙ wanted))
 
       agree : AgreesWhereEnabling row xs ys
       agree = record {
         enabling = λ n port at side.
             let z : n ≡ 0 + n = omega arith in
             let on = enabled n port at side in
-            let s = given_stands look (enables row) 0 row.ports xs e n (below_of row.ports n port at) (ap (enables row) (sym z) ∙ on) in
+            let s = given_stands look (enables row) 0 row.ports xs e n (slice_get_within row.ports n port at) (ap (enables row) (sym z) ∙ on) in
             let t = standing n port at (or_first (enables row n) (row.demands state xs n) on) in
             s.at ∙ ap Some (same s.value t.value (sym s.seen ∙ ap look (sym z) ∙ t.seen)) ∙ sym t.at;
       }

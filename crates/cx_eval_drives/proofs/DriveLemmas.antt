@@ -5,7 +5,7 @@ use Rattle.cx_meaning.specs.declared.sights.Seen.{Seen}
 use Rattle.cx_meaning.specs.Truths as truths
 use Rattle.cx_meaning.specs.Instances.{Instance}
 use Rattle.cx_meaning.specs.Active as plain
-use Rattle.cx_meaning.specs.Active.{Owned, Acting, same_port, if_acting, if_target, acting, drivers, source_order, offset_of, offset_in, only_at}
+use Rattle.cx_meaning.specs.Active.{Owned, Acting, same_port, if_acting, if_target, acting, drivers, offset_of, offset_in, only_at}
 use Rattle.cx_meaning.specs.Calls.{called}
 use Rattle.cx_meaning.specs.Sights.{Look, guard_truth, Taken, Sources, Stopped, take_guard, taken, all_agreed, settle, target_seen}
 use Rattle.cx_design.specs.declared.actives.Active.{Active}
@@ -29,8 +29,8 @@ driver_taken look truths.One source (Stopped by) = refl
 driver_taken look truths.One source (Sources []) = refl
 driver_taken look truths.One source (Sources (s ∷ ss)) = refl
 driver_taken look truths.Zero source rest = refl
-driver_taken look truths.Clash source rest = refl
-driver_taken look truths.Unknown source rest = refl
+driver_taken look truths.Conflict source rest = refl
+driver_taken look truths.Undefined source rest = refl
 
 module _ (look : Look) (offset : Option ℕ → Option ℕ) where
   assign_taken : (o : Option ℕ) (a : Owned) (rest : List Acting) (d : Drive) → d ≡ come_to look (taken look rest) → with_assign look o a d ≡ come_to look (taken look (if_acting o a.assign rest))

@@ -46,8 +46,8 @@ with_source source (drives.Gives given) = drives.Gives (agreed source given)
 abbrev pub with_driver : truths.Truth → Seen → Drive → Drive
 with_driver truths.One source rest = with_source source rest
 with_driver truths.Zero source rest = rest
-with_driver truths.Clash source rest = drives.Stopped Conflict
-with_driver truths.Unknown source rest = drives.Stopped Undefined
+with_driver truths.Conflict source rest = drives.Stopped Conflict
+with_driver truths.Undefined source rest = drives.Stopped Undefined
 
 abbrev pub with_assign : Look → Option ℕ → Owned → Drive → Drive
 with_assign look None a rest = rest

@@ -99,8 +99,8 @@ fn add_driver<L: Look>(drive: &mut Drive, look: &L, guard: Truth, source: PortRe
     match guard {
         Truth::One => add_source(drive, look.at(source)),
         Truth::Zero => {}
-        Truth::Clash => *drive = Drive::Stopped(Seen::Conflict),
-        Truth::Unknown => *drive = Drive::Stopped(Seen::Undefined),
+        Truth::Conflict => *drive = Drive::Stopped(Seen::Conflict),
+        Truth::Undefined => *drive = Drive::Stopped(Seen::Undefined),
     }
 }
 

@@ -12,8 +12,8 @@ use cx_design::{Comparison, Seen};
 pub enum Truth {
     One,
     Zero,
-    Clash,
-    Unknown,
+    Conflict,
+    Undefined,
 }
 
 /// A bit as a truth.
@@ -29,8 +29,8 @@ pub fn truth_of(seen: Seen) -> Truth
 {
     match seen {
         Seen::Value(bits) => of_bit(bits.value() == 1),
-        Seen::Conflict => Truth::Clash,
-        Seen::Undefined => Truth::Unknown,
+        Seen::Conflict => Truth::Conflict,
+        Seen::Undefined => Truth::Undefined,
     }
 }
 
@@ -41,8 +41,8 @@ pub fn not_truth(truth: Truth) -> Truth
     match truth {
         Truth::One => Truth::Zero,
         Truth::Zero => Truth::One,
-        Truth::Clash => Truth::Clash,
-        Truth::Unknown => Truth::Unknown,
+        Truth::Conflict => Truth::Conflict,
+        Truth::Undefined => Truth::Undefined,
     }
 }
 
@@ -53,8 +53,8 @@ pub fn and_truth(first: Truth, second: Truth) -> Truth
     match (first, second) {
         (Truth::One, second) => second,
         (Truth::Zero, _) | (_, Truth::Zero) => Truth::Zero,
-        (Truth::Clash, _) => Truth::Clash,
-        (Truth::Unknown, _) => Truth::Unknown,
+        (Truth::Conflict, _) => Truth::Conflict,
+        (Truth::Undefined, _) => Truth::Undefined,
     }
 }
 
@@ -65,8 +65,8 @@ pub fn or_truth(first: Truth, second: Truth) -> Truth
     match (first, second) {
         (Truth::Zero, second) => second,
         (Truth::One, _) | (_, Truth::One) => Truth::One,
-        (Truth::Clash, _) => Truth::Clash,
-        (Truth::Unknown, _) => Truth::Unknown,
+        (Truth::Conflict, _) => Truth::Conflict,
+        (Truth::Undefined, _) => Truth::Undefined,
     }
 }
 
@@ -90,8 +90,8 @@ fn compared_value(comparison: Comparison, first: Bits, second: Seen) -> Truth
 {
     match second {
         Seen::Value(second) => of_bit(compares(comparison, first.value(), second.value())),
-        Seen::Conflict => Truth::Clash,
-        Seen::Undefined => Truth::Unknown,
+        Seen::Conflict => Truth::Conflict,
+        Seen::Undefined => Truth::Undefined,
     }
 }
 
@@ -101,7 +101,7 @@ pub fn compared(comparison: Comparison, first: Seen, second: Seen) -> Truth
 {
     match first {
         Seen::Value(first) => compared_value(comparison, first, second),
-        Seen::Conflict => Truth::Clash,
-        Seen::Undefined => Truth::Unknown,
+        Seen::Conflict => Truth::Conflict,
+        Seen::Undefined => Truth::Undefined,
     }
 }

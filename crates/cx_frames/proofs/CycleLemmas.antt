@@ -15,7 +15,7 @@ use Rattle.cx_rules.specs.Ports.{enables_cell, is_primitive_enable}
 use Rattle.cx_rules.proofs.ForeignLemmas.{foreign_zero}
 use Rattle.cx_frames.specs.Rests.{IsUndriven, IsSettledAt, IsKeptAt}
 use Rattle.cx_frames.proofs.QuietLemmas.{cell_outcome-idle, is_enable_side-Enable}
-use Rattle.cx_frames.proofs.EnableLemmas.{row_is, HasQuietRows, BareEnablesNothing}
+use Rattle.cx_frames.proofs.EnableLemmas.{row_is, HasLawfulRows, BareEnablesNothing}
 
 -- the idle turn of a primitive cell
 idle_below-row : (cells : Cells) (c : ℕ) (row : Row) (state : CellState) → cell_at cells c ≡ OfRow row → idle_below cells c [] state ≡ row.idle state
@@ -75,7 +75,7 @@ module _ (i : Instance) (held : Held) (act : Active) (listed : Set) (s after : S
       different : (row : Row) → OfInstance child ≡ OfRow row → ⊥
       different row e = cc
 
-module _ (i : Instance) (quiet : HasQuietRows i) (bare : BareEnablesNothing i) (held : Held) (act : Active) (s : State) (c : ℕ) (undriven : IsUndriven (part_of i) act c) where
+module _ (i : Instance) (quiet : HasLawfulRows i) (bare : BareEnablesNothing i) (held : Held) (act : Active) (s : State) (c : ℕ) (undriven : IsUndriven (part_of i) act c) where
   no_bare : (p : ℕ) (row : Row) → cell_at (cells_of i) c ≡ OfRow row → enables row p ≡ true → (o : Owned) → In (source_order (part_of i)) o → o.owner ≡ None → o.assign.target ≡ ports.Cell c p → ⊥
   no_bare p row stands enabling o j none target =
       let on : is_primitive_enable i o.assign.target ≡ true = ap (is_primitive_enable i) target ∙ ap (λ at. enables_cell at p) stands ∙ enabling in
@@ -130,7 +130,7 @@ module _ (listed : Set) (look : Look) (s : State) (c p : ℕ) (fault : Fault) (a
           not_next look start c row s kind q is same (on 0 row refl first)
   first_fault-elsewhere (an_instance child rest) start on e = first_fault-elsewhere rest (suc start) (λ k r stands number. on (suc k) r stands (omega arith)) e
 
-module _ (i : Instance) (quiet : HasQuietRows i) (bare : BareEnablesNothing i) (held : Held) (act : Active) (s : State) (c : ℕ) (undriven : IsUndriven (part_of i) act c) where
+module _ (i : Instance) (quiet : HasLawfulRows i) (bare : BareEnablesNothing i) (held : Held) (act : Active) (s : State) (c : ℕ) (undriven : IsUndriven (part_of i) act c) where
   pub cycle_faults_elsewhere : (listed : Set) (fault : Fault) (p : ℕ) → cycle_of i held act listed s ≡ Faults fault → fault.port ≡ ports.Cell c p → ⊥
   cycle_faults_elsewhere listed fault p faults at_cell =
       first_fault-elsewhere listed (seen i held act s) s c p fault at_cell (cells_of i) 0
@@ -183,7 +183,7 @@ cycle_by-listed listed look cells s on same =
     from_start : (k : ℕ) (row : Row) → cell_at cells k ≡ OfRow row → GoesOn listed look s (0 + k) row
     from_start k row e = let same_number : k ≡ 0 + k = omega arith in subst (λ n. GoesOn listed look s n row) same_number (on k row e)
 
-module _ (i : Instance) (quiet : HasQuietRows i) (bare : BareEnablesNothing i) (held : Held) (act : Active) (s : State) (listed : Set)
+module _ (i : Instance) (quiet : HasLawfulRows i) (bare : BareEnablesNothing i) (held : Held) (act : Active) (s : State) (listed : Set)
     (undriven : (c : ℕ) → listed c ≡ false → IsUndriven (part_of i) act c) (settled : (c : ℕ) → listed c ≡ false → IsSettledAt i s c) where
   goes_on : (c : ℕ) (row : Row) → cell_at (cells_of i) c ≡ OfRow row → GoesOn listed (seen i held act s) s c row
   unfolding GoesOn

@@ -1,10 +1,11 @@
--- In an accepted design the cells of every instance have rows that rest, and no continuous assignment drives an enabling port.
+-- In an accepted design the cells of every instance have rows that keep the laws, and no continuous assignment drives an enabling port.
 use Rattle.std.proofs.Common.{◌≡◌, ℕ, zero, suc, ◌<◌, ⊎_elim, true, false, None, List, [], ◌∷◌, length, refl, sym, ap, ◌∙◌, subst, arith}
 use Rattle.std.specs.Prelude.{Some, slice_get}
 use Rattle.std.proofs.lemmas.Bool.{cases_lt, false_from_ne_true}
 use Rattle.std.proofs.lemmas.List.{get_or_past}
 use Rattle.cx_text.specs.declared.rules.Rule.TheVariants.{AlwaysEnable}
-use Rattle.cx_prim.specs.Rows.{Row}
+use Rattle.cx_prim.specs.Rows.{Row, IsLawful}
+use Rattle.cx_prim.specs.TableLaws.{row_of_lawful}
 use Rattle.cx_meaning.specs.declared.ports.PortRef.{PortRef}
 use Rattle.cx_meaning.specs.declared.ports.PortRef.TheVariants as ports
 use Rattle.cx_meaning.specs.Designs.{PlainKind, OfPrimitive, OfComponent, PlainCell, PlainDesign, component_at, no_component}
@@ -15,35 +16,34 @@ use Rattle.cx_rules.specs.Ports.{component_of, enables_cell, is_primitive_enable
 use Rattle.cx_rules.specs.Spots.{AnAssign}
 use Rattle.cx_rules.specs.Accepted.{IsAccepted}
 use Rattle.cx_rules.proofs.CircleLemmas.{same_part, Reached, a_tree, no_tree, reached}
-use Rattle.cx_frames.proofs.QuietLemmas.{IsQuietRow, quiet_row}
 
--- every primitive cell has a row that rests
-abbrev pub HasQuietRows : Instance → Type 0
-HasQuietRows i = (c : ℕ) (row : Row) → cell_at (cells_of i) c ≡ OfRow row → IsQuietRow row
+-- every primitive cell has a row of the table, which keeps the laws
+abbrev pub HasLawfulRows : Instance → Type 0
+HasLawfulRows i = (c : ℕ) (row : Row) → cell_at (cells_of i) c ≡ OfRow row → IsLawful row
 
 pub row_is : (a b : Row) → OfRow a ≡ OfRow b → a ≡ b
 row_is a b e = cc
 
-kind_quiet : (child : ℕ → Instance) (kind : PlainKind) (rest : Cells) → ((c : ℕ) (row : Row) → cell_at rest c ≡ OfRow row → IsQuietRow row) → (c : ℕ) (row : Row) → cell_at (add_cell child kind rest) c ≡ OfRow row → IsQuietRow row
-kind_quiet child (OfPrimitive p) rest h zero row e = subst IsQuietRow (row_is _ row e) (quiet_row p)
-kind_quiet child (OfPrimitive p) rest h (suc c) row e = h c row e
-kind_quiet child (OfComponent k) rest h zero row e = absurd (cc)
-kind_quiet child (OfComponent k) rest h (suc c) row e = h c row e
+kind_lawful : (child : ℕ → Instance) (kind : PlainKind) (rest : Cells) → ((c : ℕ) (row : Row) → cell_at rest c ≡ OfRow row → IsLawful row) → (c : ℕ) (row : Row) → cell_at (add_cell child kind rest) c ≡ OfRow row → IsLawful row
+kind_lawful child (OfPrimitive p) rest h zero row e = subst IsLawful (row_is _ row e) (row_of_lawful p)
+kind_lawful child (OfPrimitive p) rest h (suc c) row e = h c row e
+kind_lawful child (OfComponent k) rest h zero row e = absurd (cc)
+kind_lawful child (OfComponent k) rest h (suc c) row e = h c row e
 
-cells_quiet : (child : ℕ → Instance) (cells : List PlainCell) (c : ℕ) (row : Row) → cell_at (cells_for child cells) c ≡ OfRow row → IsQuietRow row
-cells_quiet child [] c row e = absurd (cc)
-cells_quiet child (cell ∷ cells) c row e = kind_quiet child cell.kind (cells_for child cells) (cells_quiet child cells) c row e
+cells_lawful : (child : ℕ → Instance) (cells : List PlainCell) (c : ℕ) (row : Row) → cell_at (cells_for child cells) c ≡ OfRow row → IsLawful row
+cells_lawful child [] c row e = absurd (cc)
+cells_lawful child (cell ∷ cells) c row e = kind_lawful child cell.kind (cells_for child cells) (cells_lawful child cells) c row e
 
-tree_quiet : (d : PlainDesign) (m k : ℕ) → HasQuietRows (tree_within d m k)
-tree_quiet d zero k c row e = absurd (cc)
-tree_quiet d (suc m) k c row e = cells_quiet (tree_within d m) (component_at d k).cells c row e
+pub tree_lawful : (d : PlainDesign) (m k : ℕ) → HasLawfulRows (tree_within d m k)
+tree_lawful d zero k c row e = absurd (cc)
+tree_lawful d (suc m) k c row e = cells_lawful (tree_within d m) (component_at d k).cells c row e
 
-reached_quiet : (d : PlainDesign) {i : Instance} → Reached d i → HasQuietRows i
-reached_quiet d (a_tree m k) = tree_quiet d m k
-reached_quiet d no_tree = λ c row e. absurd (cc)
+reached_lawful : (d : PlainDesign) {i : Instance} → Reached d i → HasLawfulRows i
+reached_lawful d (a_tree m k) = tree_lawful d m k
+reached_lawful d no_tree = λ c row e. absurd (cc)
 
-pub instance_quiet : (d : PlainDesign) (path : Path) → HasQuietRows (instance_at (tree_of d) path)
-instance_quiet d path = reached_quiet d (reached d path (length d.components) d.main)
+pub instance_rows_lawful : (d : PlainDesign) (path : Path) → HasLawfulRows (instance_at (tree_of d) path)
+instance_rows_lawful d path = reached_lawful d (reached d path (length d.components) d.main)
 
 -- a tree of some depth has the enabling ports of its component
 kind_enables : (some other : ℕ → Instance) (kind : PlainKind) (xs ys : Cells) → ((c p : ℕ) → enables_cell (cell_at xs c) p ≡ enables_cell (cell_at ys c) p) → (c p : ℕ) → enables_cell (cell_at (add_cell some kind xs) c) p ≡ enables_cell (cell_at (add_cell other kind ys) c) p

@@ -10,10 +10,11 @@ use Rattle.cx_meaning.specs.declared.kinds.GroupKind.TheVariants as kinds
 use Rattle.cx_meaning.specs.Designs.{PlainAssign, group_at, Enable}
 use Rattle.cx_meaning.specs.Instances.{Instance, Cells, At, Nothing, OfRow, OfInstance, cell_at, cells_of, part_of, State, Set, merge, just, beneath, put, under, idle_at, idle}
 use Rattle.cx_meaning.specs.Active.{nothing, only_at, group, capture}
-use Rattle.cx_meaning.specs.Truths.{Truth, One, Zero, Clash, Unknown, truth_of}
+use Rattle.cx_meaning.specs.Truths.{Truth, One, Zero, truth_of}
+use Rattle.cx_meaning.specs.Truths as truths
 use Rattle.cx_meaning.specs.Sights.{Held, seen, In}
 use Rattle.cx_meaning.specs.Cycles.{Fault, Ended, cycle}
-use Rattle.cx_meaning.specs.Answers.{Answer, End, More, Meaning, idle_turn, one_turn}
+use Rattle.cx_meaning.specs.Answers.{Answer, End, More, idle_turn}
 use Rattle.cx_meaning.specs.Answers as answers
 use Rattle.cx_meaning.specs.Control.{targets_cell, assigns_drive}
 use Rattle.cx_meaning.specs.Islands.{turn_of, island}
@@ -100,8 +101,8 @@ module _ (i : Instance) (held : Held) (set : ℕ → Type 0) (kept : IsKept i) (
       one : (z : Truth) → AlikeTurn set (hole_turn g a z) (hole_turn g b z)
       one One = refl
       one Zero = h
-      one Clash = refl
-      one Unknown = refl
+      one truths.Conflict = refl
+      one truths.Undefined = refl
 
   -- a turn of a group
   pub group_alike : (g : ℕ) → IsGood g → (s t : State) → Agree set s t → AlikeTurn set (group_turn i held g s) (group_turn i held g t)

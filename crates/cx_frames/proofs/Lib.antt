@@ -5,8 +5,6 @@ mod KeepLemmas
 pub mod RunLemmas
 pub mod AlikeLemmas
 pub mod ControlFrames
-mod StillLemmas
-mod ArmQuietLemmas
 pub mod RuleLemmas
 pub mod SightFrames
 pub mod CircleFrames

@@ -23,8 +23,7 @@ use Rattle.cx_rules.specs.Wellformed.{IsDesign}
 use Rattle.cx_rules.proofs.Finite.{in_left, in_right}
 use Rattle.cx_rules.proofs.ForeignLemmas.{sorted_among, owned_among, split, groups_among}
 use Rattle.cx_rules.proofs.CircleLemmas.{same_part, Reached, a_tree, no_tree, reached}
-use Rattle.cx_frames.proofs.StillLemmas.{IsFine, row_is_fine}
-use Rattle.cx_frames.proofs.EnableLemmas.{row_is}
+use Rattle.cx_frames.proofs.EnableLemmas.{HasLawfulRows, tree_lawful}
 
 -- the number of a member of a list
 pub number_in : {A : Type 0} (xs : List A) (x : A) → In xs x → (n : ℕ) × (slice_get xs n ≡ Some x)
@@ -72,16 +71,6 @@ nothing_row row e = cc
 instance_row : (child : Instance) (row : Row) → OfInstance child ≡ OfRow row → ⊥
 instance_row child row e = cc
 
-fine_kind : (child : ℕ → Instance) (kind : PlainKind) (rest : Cells) → ((c : ℕ) (row : Row) → cell_at rest c ≡ OfRow row → IsFine row) → (c : ℕ) (row : Row) → cell_at (add_cell child kind rest) c ≡ OfRow row → IsFine row
-fine_kind child (OfPrimitive p) rest h zero row e = subst IsFine (row_is _ row e) (row_is_fine p)
-fine_kind child (OfPrimitive p) rest h (suc c) row e = h c row e
-fine_kind child (OfComponent k) rest h zero row e = absurd (instance_row (child k) row e)
-fine_kind child (OfComponent k) rest h (suc c) row e = h c row e
-
-fine_cells : (child : ℕ → Instance) (cells : List PlainCell) (c : ℕ) (row : Row) → cell_at (cells_for child cells) c ≡ OfRow row → IsFine row
-fine_cells child [] c row e = absurd (nothing_row row e)
-fine_cells child (cell ∷ cells) c row e = fine_kind child cell.kind (cells_for child cells) (fine_cells child cells) c row e
-
 -- a primitive cell is one whatever stands below the component's other cells
 same_kind : (f g : ℕ → Instance) (kind : PlainKind) (xs ys : Cells) → ((c : ℕ) (row : Row) → cell_at xs c ≡ OfRow row → cell_at ys c ≡ OfRow row) → (c : ℕ) (row : Row) → cell_at (add_cell f kind xs) c ≡ OfRow row → cell_at (add_cell g kind ys) c ≡ OfRow row
 same_kind f g (OfPrimitive p) xs ys h zero row e = e
@@ -100,7 +89,7 @@ in_component d (suc m) (suc n) k c row l e = same_cells (tree_within d m) (tree_
 
 -- what the rules keep in an instance
 pub record IsKept (i : Instance) : Type 0 where
-  pub fine : (c : ℕ) (row : Row) → cell_at (cells_of i) c ≡ OfRow row → IsFine row
+  pub lawful : HasLawfulRows i
   pub quiet : (o : Owned) (c p : ℕ) (row : Row) → In (source_order (part_of i)) o → o.owner ≡ None → o.assign.target ≡ ports.Cell c p → cell_at (cells_of i) c ≡ OfRow row → side_of row p ≡ sides.Enable → ⊥
   pub sources : (o : Owned) (n : ℕ) → In (source_order (part_of i)) o → AssignNames o.assign (ports.Output n) → ⊥
   pub tests : (v : Visited) (p : PlacedPort) (n : ℕ) → In (statements_in (part_of i)) v → test_in v.form ≡ Some p → p.port ≡ ports.Output n → ⊥
@@ -135,16 +124,12 @@ module _ (d : PlainDesign) (design : IsDesign d) (accepted : IsAccepted d) (k : 
 
   kept_tree : (m : ℕ) → IsKept (tree_within d m k)
   kept_tree m = record {
-    fine = fine m;
+    lawful = tree_lawful d m k;
     quiet = λ o c p row i owner target at side. no_enable o c p row (subst (λ x. In (source_order x) o) (same_part d m k) i) owner target (in_component d m (length d.components) k c row within at) side;
     sources = λ o n i names. no_sink o n (subst (λ x. In (source_order x) o) (same_part d m k) i) names;
     tests = λ v p n i e is. no_sunk_test v p n (subst (λ x. In (statements_in x) v) (same_part d m k) i) e is;
     holes = λ a g i e. no_hole a g (subst (λ x. In x.always a) (same_part d m k) i) e;
   }
-    where
-      fine : (m c : ℕ) (row : Row) → cell_at (cells_of (tree_within d m k)) c ≡ OfRow row → IsFine row
-      fine zero c row e = absurd (nothing_row row e)
-      fine (suc m) c row e = fine_cells (tree_within d m) (component_at d k).cells c row e
 
 -- an instance without a component
 pub bare_test : (v : Visited) (p : PlacedPort) → In (statements_in no_component) v → test_in v.form ≡ Some p → ⊥
@@ -157,7 +142,7 @@ bare_test v p (inr i) f = absurd i
 module _ (part : PlainComponent) (cells : Cells) (none : part ≡ no_component) (empty : (c : ℕ) → cell_at cells c ≡ Nothing) where
   pub kept_bare : IsKept (Node part cells)
   kept_bare = record {
-    fine = λ c row e. absurd (nothing_row row (sym (empty c) ∙ e));
+    lawful = λ c row e. absurd (nothing_row row (sym (empty c) ∙ e));
     quiet = λ o c p row i owner target at side. nothing_row row (sym (empty c) ∙ at);
     sources = λ o n i names. let j : In (source_order no_component) o = subst (λ x. In (source_order x) o) none i in j;
     tests = λ v p n i e is. bare_test v p (subst (λ x. In (statements_in x) v) none i) e;

@@ -10,9 +10,10 @@ use Rattle.cx_meaning.specs.Designs.{PlainAssign, PlainComponent, group_at, Plai
 use Rattle.cx_meaning.specs.Instances.{Instance, Node, Cells, At, Nothing, OfRow, OfInstance, cell_at, cells_of, part_of, Path, State, Set, merge, just, beneath, put, under, idle_at, idle}
 use Rattle.cx_meaning.specs.Active.{Active, nothing, group, capture, offset_in, entries}
 use Rattle.cx_meaning.specs.Sights.{Held, In, seen}
-use Rattle.cx_meaning.specs.Truths.{Truth, One, Zero, Clash, Unknown}
+use Rattle.cx_meaning.specs.Truths.{Truth, One, Zero}
+use Rattle.cx_meaning.specs.Truths as truths
 use Rattle.cx_meaning.specs.Cycles.{Fault, Ended, Goes, Faults, cycle, every_cell}
-use Rattle.cx_meaning.specs.Answers.{Answer, End, More, Turn, idle_turn, one_turn, turns_of, turn_then, then_do}
+use Rattle.cx_meaning.specs.Answers.{Answer, End, More, Turn, idle_turn}
 use Rattle.cx_meaning.specs.Answers as answers
 use Rattle.cx_meaning.specs.Control.{groups_in, groups_of, groups_in_all, targets_cell, assigns_drive, group_drives, groups_drive, drives}
 use Rattle.cx_meaning.specs.Islands.{group_length, form_length, length_of, Sample, sample, Occurrence, Runs, Looks, rounds_from, occurrence, form_flat, flat, seq_flat, par_flat, History, no_history, hold, entry_if, active_in, and_now, turn_of, unless_unclear, island_turn, island_from, island}
@@ -22,7 +23,7 @@ use Rattle.cx_meaning.specs.Budgets.{Leaves}
 use Rattle.cx_meaning.proofs.AnswersLemmas.{leaves_then}
 use Rattle.cx_rules.proofs.Finite.{in_left, in_right}
 use Rattle.cx_frames.specs.Rests.{IsUndriven, IsSettledAt, IsKeptAt}
-use Rattle.cx_frames.proofs.EnableLemmas.{HasQuietRows, BareEnablesNothing}
+use Rattle.cx_frames.proofs.EnableLemmas.{HasLawfulRows, BareEnablesNothing}
 use Rattle.cx_frames.proofs.CycleLemmas.{idle_at-root, cycle_keeps_root, cycle_keeps}
 use Rattle.cx_frames.proofs.KeepLemmas.{Keeps, keeps_idle, keeps_turn, keeps_turns, leaves_turn_then, keeps_run}
 
@@ -155,8 +156,8 @@ turn_of-Goes (Faults fault) after e = absurd (cc)
 hole_turn-Goes : (g : ℕ) (ended : Ended) (truth : Truth) (after : State) → hole_turn g ended truth ≡ answers.Goes after → ended ≡ Goes after
 hole_turn-Goes g ended One after e = absurd (cc)
 hole_turn-Goes g ended Zero after e = turn_of-Goes ended after e
-hole_turn-Goes g ended Clash after e = absurd (cc)
-hole_turn-Goes g ended Unknown after e = absurd (cc)
+hole_turn-Goes g ended truths.Conflict after e = absurd (cc)
+hole_turn-Goes g ended truths.Undefined after e = absurd (cc)
 
 unless_unclear-Goes : (unclear : Option Fault) (ended : Ended) (after : State) → unless_unclear unclear ended ≡ answers.Goes after → ended ≡ Goes after
 unless_unclear-Goes (Some fault) ended after e = absurd (cc)
@@ -166,7 +167,7 @@ unless_unclear-Goes None ended after e = turn_of-Goes ended after e
 abbrev pub Stays : (ℕ → Type 0) → State → State → Type 0
 Stays kept first s = (s [] ≡ first []) × ((c : ℕ) → kept c → IsKeptAt first s c)
 
-module _ (i : Instance) (quiet : HasQuietRows i) (bare : BareEnablesNothing i) (kept : ℕ → Type 0) (first : State) (settled : (c : ℕ) → kept c → IsSettledAt i first c) where
+module _ (i : Instance) (quiet : HasLawfulRows i) (bare : BareEnablesNothing i) (kept : ℕ → Type 0) (first : State) (settled : (c : ℕ) → kept c → IsSettledAt i first c) where
   still_settled : (s : State) → Stays kept first s → (c : ℕ) → kept c → IsSettledAt i s c
   still_settled s p c k below = ap (idle_at i (c ∷ below)) (p.1 c k below) ∙ settled c k below ∙ sym (p.1 c k below)
 
@@ -242,7 +243,7 @@ abbrev pub IsSpared : Instance → PlainStatement → State → ℕ → Type 0
 IsSpared i statement s c = (drives (part_of i) statement c ≡ false) × IsSettledAt i s c
 
 -- A RUN leaves them alone
-statement_stays : (i : Instance) → HasQuietRows i → BareEnablesNothing i → (held : Held) (statement : PlainStatement) (s : State) (n : ℕ) → Leaves (Stays (IsSpared i statement s) s) (run_statement i held statement s n)
+statement_stays : (i : Instance) → HasLawfulRows i → BareEnablesNothing i → (held : Held) (statement : PlainStatement) (s : State) (n : ℕ) → Leaves (Stays (IsSpared i statement s) s) (run_statement i held statement s n)
 statement_stays (Node part cells) quiet bare held statement s n =
     keeps_run (leaves (Node part cells) (control_below cells) held) (Stays (IsSpared (Node part cells) statement s) s) (Spares part (IsSpared (Node part cells) statement s))
     (record {
@@ -254,5 +255,5 @@ statement_stays (Node part cells) quiet bare held statement s n =
     })
     statement (λ g j c k. undriven_group part statement c k.0 g j) s n (refl, λ c k below. refl)
 
-pub run_stays : (i : Instance) → HasQuietRows i → BareEnablesNothing i → (held : Held) (statement : PlainStatement) (s after : State) (n t : ℕ) → run_statement i held statement s n ≡ End after t → Stays (IsSpared i statement s) s after
+pub run_stays : (i : Instance) → HasLawfulRows i → BareEnablesNothing i → (held : Held) (statement : PlainStatement) (s after : State) (n t : ℕ) → run_statement i held statement s n ≡ End after t → Stays (IsSpared i statement s) s after
 run_stays i quiet bare held statement s after n t ends = subst (Leaves (Stays (IsSpared i statement s) s)) ends (statement_stays i quiet bare held statement s n)

@@ -23,7 +23,7 @@ use Rattle.cx_rules.proofs.FoundLemmas.{needs_leads, same_is, seen_found}
 use Rattle.cx_rules.proofs.ForeignLemmas.{foreign_zero}
 use Rattle.cx_frames.specs.Agreeing.{Agree}
 use Rattle.cx_frames.proofs.AlikeLemmas.{AlikeTurn}
-use Rattle.cx_frames.proofs.ArmQuietLemmas.{quiet_outcome}
+use Rattle.cx_frames.proofs.QuietLemmas.{quiet_outcome}
 use Rattle.cx_frames.proofs.RuleLemmas.{OwnerOf, continuous, of_group, owner_of, IsKept}
 
 -- the drivers of a port are the active assignments of it
@@ -232,7 +232,7 @@ module _ (i : Instance) (held : Held) (act : Active) (set : ℕ → Type 0) (gs 
       -- no active group drives the cell
       quiet_cell : (c : ℕ) (row : Row) → cell_at (cells_of i) c ≡ OfRow row → groups_drive (part_of i) gs c ≡ false → (state : State) → cell_outcome (seen i held act state) c row (state (c ∷ [])) ≡ Next (row.idle (state (c ∷ [])))
       quiet_cell c row at none state =
-          quiet_outcome row (kept.fine c row at) (seen i held act state) c (state (c ∷ []))
+          quiet_outcome row (kept.lawful c row at) (seen i held act state) c (state (c ∷ []))
           (λ p side. foreign_zero i act c p (λ o j owner target. kept.quiet o c p row j owner target at side) (λ g drives. unused g drives (act.offset g) refl) row at side held state)
         where
           unused : (g : ℕ) → group_drives (part_of i) g c ≡ true → (x : Option ℕ) → act.offset g ≡ x → act.offset g ≡ None

@@ -7,7 +7,8 @@ use Rattle.cx_meaning.specs.declared.sights.Seen.{Seen}
 use Rattle.cx_meaning.specs.declared.sights.FaultKind.TheVariants as faults
 use Rattle.cx_meaning.specs.Designs.{PlainDesign, PlainComponent}
 use Rattle.cx_meaning.specs.Instances.{Instance, Cells, no_cells, a_primitive, an_instance, Path, State, Set, part_of, cells_of, idle_at, instance_at, tree_of, IsSettled}
-use Rattle.cx_meaning.specs.Truths.{Truth, One, Zero, Clash, Unknown, truth_of}
+use Rattle.cx_meaning.specs.Truths.{Truth, One, Zero, truth_of}
+use Rattle.cx_meaning.specs.Truths as truths
 use Rattle.cx_meaning.specs.Active.{Active, group, only_at}
 use Rattle.cx_meaning.specs.Sights.{Look, Held, seen}
 use Rattle.cx_meaning.specs.Cycles.{Fault, Ended, Goes, Faults, cycle_of, cycle, every_cell, unless_fault, first_fault, state_after, cell_after, stepped, cell_outcome, fault_at}
@@ -86,25 +87,25 @@ module _ (d : PlainDesign) (n g : ℕ) where
     fits = fits;
   }
 
-  taken_clash : (rows : List PlainInstance) (x : Seen) → IsStateOf d rows → IsSeen d rows n (actives.Group g) (ports.Done g) x → truth_of x ≡ Clash
+  taken_clash : (rows : List PlainInstance) (x : Seen) → IsStateOf d rows → IsSeen d rows n (actives.Group g) (ports.Done g) x → truth_of x ≡ truths.Conflict
       → Taken d rows rows n g (group_driving g) (turns.Faults (record { kind = faults.Conflict; instance = n; port = ports.Done g }))
   taken_clash rows x fits sees truth = record {
     tells = λ path s now number settled busy stands. (
       fault_at faults.Conflict (ports.Done g),
       tells_own d n path faults.Conflict (ports.Done g) number,
-      sym (turn_is (instance_at (tree_of d) path) (inputs_held rows n) now x Clash (hole rows x path s now sees number stands) truth),
+      sym (turn_is (instance_at (tree_of d) path) (inputs_held rows n) now x truths.Conflict (hole rows x path s now sees number stands) truth),
       refl,
     );
     fits = fits;
   }
 
-  taken_unknown : (rows : List PlainInstance) (x : Seen) → IsStateOf d rows → IsSeen d rows n (actives.Group g) (ports.Done g) x → truth_of x ≡ Unknown
+  taken_unknown : (rows : List PlainInstance) (x : Seen) → IsStateOf d rows → IsSeen d rows n (actives.Group g) (ports.Done g) x → truth_of x ≡ truths.Undefined
       → Taken d rows rows n g (group_driving g) (turns.Faults (record { kind = faults.Undefined; instance = n; port = ports.Done g }))
   taken_unknown rows x fits sees truth = record {
     tells = λ path s now number settled busy stands. (
       fault_at faults.Undefined (ports.Done g),
       tells_own d n path faults.Undefined (ports.Done g) number,
-      sym (turn_is (instance_at (tree_of d) path) (inputs_held rows n) now x Unknown (hole rows x path s now sees number stands) truth),
+      sym (turn_is (instance_at (tree_of d) path) (inputs_held rows n) now x truths.Undefined (hole rows x path s now sees number stands) truth),
       refl,
     );
     fits = fits;
@@ -113,8 +114,8 @@ module _ (d : PlainDesign) (n g : ℕ) where
   taken_hole : (rows : List PlainInstance) (x : Seen) (turn : Turn) → IsStateOf d rows → IsSeen d rows n (actives.Group g) (ports.Done g) x → (t : Truth) → truth_of x ≡ t → HoleTurn n g t turn → Taken d rows rows n g (group_driving g) turn
   taken_hole rows x turn fits sees One truth is = subst (λ y. Taken d rows rows n g (group_driving g) y) (sym is) (taken_ends rows x fits sees truth)
   taken_hole rows x turn fits sees Zero truth is = absurd is
-  taken_hole rows x turn fits sees Clash truth is = subst (λ y. Taken d rows rows n g (group_driving g) y) (sym is) (taken_clash rows x fits sees truth)
-  taken_hole rows x turn fits sees Unknown truth is = subst (λ y. Taken d rows rows n g (group_driving g) y) (sym is) (taken_unknown rows x fits sees truth)
+  taken_hole rows x turn fits sees truths.Conflict truth is = subst (λ y. Taken d rows rows n g (group_driving g) y) (sym is) (taken_clash rows x fits sees truth)
+  taken_hole rows x turn fits sees truths.Undefined truth is = subst (λ y. Taken d rows rows n g (group_driving g) y) (sym is) (taken_unknown rows x fits sees truth)
 
   pub taken_alone : (old new : List PlainInstance) (x : Seen) (turn : Turn) → IsStateOf d old → IsSeenAlone d old new n g x → HoleTurn n g (truth_of x) turn → Taken d old new n g (group_driving g) turn
   taken_alone old new x turn fits alone is = subst (λ rows. Taken d old rows n g (group_driving g) turn) (sym alone.same) (taken_hole old x turn fits alone.seen (truth_of x) refl is)

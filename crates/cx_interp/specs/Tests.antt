@@ -2,7 +2,8 @@
 use Rattle.std.specs.Prelude.{◌≡◌, ℕ, Bool, true, false, List, Option, Some, None, Result, Ok, Err}
 use Rattle.cx_meaning.specs.declared.ports.PortRef.{PortRef}
 use Rattle.cx_meaning.specs.declared.sights.FaultKind.TheVariants as faults
-use Rattle.cx_meaning.specs.Truths.{Truth, One, Zero, Clash, Unknown}
+use Rattle.cx_meaning.specs.Truths.{Truth, One, Zero}
+use Rattle.cx_meaning.specs.Truths as truths
 use Rattle.cx_meaning.specs.Designs.{PlainDesign}
 use Rattle.cx_meaning.specs.Instances.{Path, State, idle, instance_at, tree_of}
 use Rattle.cx_meaning.specs.Cycles.{Fault}
@@ -45,5 +46,5 @@ comb_active (Some g) = actives.Group g
 abbrev pub TellsTruth : ℕ → PortRef → Result Bool PortFault → Truth → Type 0
 TellsTruth n port result One = result ≡ Ok true
 TellsTruth n port result Zero = result ≡ Ok false
-TellsTruth n port result Clash = result ≡ Err (record { kind = faults.Conflict; instance = n; port = port })
-TellsTruth n port result Unknown = result ≡ Err (record { kind = faults.Undefined; instance = n; port = port })
+TellsTruth n port result truths.Conflict = result ≡ Err (record { kind = faults.Conflict; instance = n; port = port })
+TellsTruth n port result truths.Undefined = result ≡ Err (record { kind = faults.Undefined; instance = n; port = port })

@@ -1,12 +1,13 @@
 -- What turns of a group leave, before the idle turn of its cells.
-use Rattle.std.specs.Prelude.{◌≡◌, ℕ, Bool, false, List, [], ◌∷◌, ◌++◌, Result, Ok, Err, if◌then◌else◌}
+use Rattle.std.specs.Prelude.{◌≡◌, ℕ, false, List, [], ◌∷◌, Result, Ok, Err, if◌then◌else◌}
 use Rattle.cx_meaning.specs.declared.ports.PortRef.TheVariants as ports
 use Rattle.cx_meaning.specs.declared.sights.FaultKind.TheVariants as faults
-use Rattle.cx_meaning.specs.Truths.{Truth, One, Zero, Clash, Unknown}
+use Rattle.cx_meaning.specs.Truths.{Truth, One, Zero}
+use Rattle.cx_meaning.specs.Truths as truths
 use Rattle.cx_meaning.specs.Designs.{PlainDesign}
-use Rattle.cx_meaning.specs.Instances.{Instance, Path, State, Set, part_of, idle, instance_at, tree_of, IsSettled}
+use Rattle.cx_meaning.specs.Instances.{Instance, Path, State, Set, idle, instance_at, tree_of, IsSettled}
 use Rattle.cx_meaning.specs.Cycles.{Fault}
-use Rattle.cx_meaning.specs.Answers.{Answer, End, More, Meaning}
+use Rattle.cx_meaning.specs.Answers.{Answer, End, More}
 use Rattle.cx_meaning.specs.Answers as answers
 use Rattle.cx_meaning.specs.Calls.{group_turn}
 use Rattle.cx_design.specs.declared.actives.PortFault.{PortFault}
@@ -19,7 +20,7 @@ use Rattle.cx_interp.specs.declared.answers.Answer as told
 use Rattle.cx_interp.specs.declared.turns.Turn.{Turn}
 use Rattle.cx_interp.specs.declared.turns.Turn.TheVariants as turns
 use Rattle.cx_interp.specs.Doings.{Doing, Driving}
-use Rattle.cx_interp.specs.Done.{Tells, IsWithin, KeepsHeld}
+use Rattle.cx_interp.specs.Done.{Tells, IsWithin}
 
 -- only driven cells of the instance itself differ
 pub record IsBusy (driven : Set) (s now : State) : Type 0 where
@@ -83,5 +84,5 @@ cycle_as (Err fault) = turns.Faults fault
 abbrev pub HoleTurn : ℕ → ℕ → Truth → Turn → Type 0
 HoleTurn n g One turn = turn ≡ turns.Ends
 HoleTurn n g Zero turn = ⊥
-HoleTurn n g Clash turn = turn ≡ turns.Faults (record { kind = faults.Conflict; instance = n; port = ports.Done g })
-HoleTurn n g Unknown turn = turn ≡ turns.Faults (record { kind = faults.Undefined; instance = n; port = ports.Done g })
+HoleTurn n g truths.Conflict turn = turn ≡ turns.Faults (record { kind = faults.Conflict; instance = n; port = ports.Done g })
+HoleTurn n g truths.Undefined turn = turn ≡ turns.Faults (record { kind = faults.Undefined; instance = n; port = ports.Done g })

@@ -49,8 +49,8 @@ fn verdict(instance: usize, port: PortRef, seen: Seen) -> Result<bool, PortFault
     match truth_of(seen) {
         Truth::One => Ok(true),
         Truth::Zero => Ok(false),
-        Truth::Clash => Err(port_fault(FaultKind::Conflict, instance, port)),
-        Truth::Unknown => Err(port_fault(FaultKind::Undefined, instance, port)),
+        Truth::Conflict => Err(port_fault(FaultKind::Conflict, instance, port)),
+        Truth::Undefined => Err(port_fault(FaultKind::Undefined, instance, port)),
     }
 }
 

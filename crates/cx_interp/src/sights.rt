@@ -60,7 +60,7 @@ fn says_one(seen: Seen) -> bool
 {
     match truth_of(seen) {
         Truth::One => true,
-        Truth::Zero | Truth::Clash | Truth::Unknown => false,
+        Truth::Zero | Truth::Conflict | Truth::Undefined => false,
     }
 }
 

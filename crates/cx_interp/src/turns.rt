@@ -34,8 +34,8 @@ pub fn hole_turn(instance: usize, group: u32, hole: Seen) -> Turn
     let done = PortRef::Done(group);
     match truth_of(hole) {
         Truth::One | Truth::Zero => Turn::Ends,
-        Truth::Clash => Turn::Faults(port_fault(FaultKind::Conflict, instance, done)),
-        Truth::Unknown => Turn::Faults(port_fault(FaultKind::Undefined, instance, done)),
+        Truth::Conflict => Turn::Faults(port_fault(FaultKind::Conflict, instance, done)),
+        Truth::Undefined => Turn::Faults(port_fault(FaultKind::Undefined, instance, done)),
     }
 }
 

@@ -1,14 +1,16 @@
 -- Each row of the table gives values of the widths of its outputs, whatever the values at its inputs, and its enabling
 -- ports have one bit.
-use Rattle.std.proofs.Common.{◌≡◌, ℕ, zero, suc, ◌+◌, ◌≤◌, ◌^◌, ◌*◌, ◌==◌, ◌&&◌, Bool, true, false, List, [], ◌∷◌, ◌++◌, Option, Some, None, length, map, take, drop, if◌then◌else◌, refl, sym, ap, ◌∙◌, arith}
-use Rattle.std.specs.Prelude.{slice_get, unwrap_or, nat_lt, nat_le, is_none, option_map, option_and_then}
+use Rattle.std.proofs.Common.{◌≡◌, ℕ, zero, suc, ◌+◌, ◌==◌, ◌&&◌, Bool, true, false, List, [], ◌∷◌, ◌++◌, Option, Some, None, length, map, if◌then◌else◌, refl, sym, ap, ◌∙◌, arith}
+use Rattle.std.specs.Prelude.{slice_get, is_none, option_map, option_and_then}
 use Rattle.std.specs.List.{list_all}
 use Rattle.std.proofs.lemmas.Bool.{eqb-true}
 use Rattle.std.proofs.lemmas.Bool.Decides.{nat_tests}
 use Rattle.cx_bits.specs.BitVector.{BitVector}
 use Rattle.cx_bits.specs.Operators as operators
-use Rattle.cx_prim.specs.declared.names.PrimitiveName.{PrimitiveName}
-use Rattle.cx_prim.specs.declared.names.PrimitiveName.TheVariants.{Const, Wire, Add, Sub, And, Or, Xor, Not, Lsh, Rsh, Lt, Gt, Equal, Neq, Le, Ge, Slt, Sgt, Seq, Sneq, Sle, Sge, Slice, Pad, Mux, Reg, StdMemD1, StdMemD2, StdMemD3, StdMemD4, CombMemD1, CombMemD2, CombMemD3, CombMemD4, SeqMemD1, SeqMemD2, SeqMemD3, SeqMemD4, MultPipe, DivPipe, Timer}
+use Rattle.cx_prim.specs.declared.operators.UnaryOperator.{UnaryOperator}
+use Rattle.cx_prim.specs.declared.operators.UnaryOperator.TheVariants as unary
+use Rattle.cx_prim.specs.declared.operators.BinaryOperator.{BinaryOperator}
+use Rattle.cx_prim.specs.declared.operators.BinaryOperator.TheVariants as binary
 use Rattle.cx_prim.specs.declared.ports.PortName.{PortName}
 use Rattle.cx_prim.specs.declared.ports.PortName.TheVariants as names
 use Rattle.cx_prim.specs.declared.ports.PortRow.{PortRow}
@@ -16,17 +18,19 @@ use Rattle.cx_prim.specs.declared.ports.Side.{Side}
 use Rattle.cx_prim.specs.declared.ports.Side.TheVariants.{Enable}
 use Rattle.cx_prim.specs.CellStates.{CellState, Memory, IsState}
 use Rattle.cx_prim.specs.Rows.{Inputs, input, Row, is_output_side, is_enable_side, IsLawful}
-use Rattle.cx_prim.specs.Widths.{IsWidth, is_width}
+use Rattle.cx_prim.specs.Widths.{IsWidth}
+use Rattle.cx_prim.specs.Operators.{apply_unary, IsUnary, apply_binary, binary_out_width}
 use Rattle.cx_prim.specs.CombinationalRows.{plain_port, output_port, registered_port, constant_row, unary_row, binary_row, mux_row, chosen}
 use Rattle.cx_prim.specs.CombinationalLaws.{not_output, port_width, mapped_some, chained_some, passes_at}
+use Rattle.cx_prim.specs.OperatorWidths.{constant_lawful}
 use Rattle.cx_prim.specs.RegisterRow.{register_row}
 use Rattle.cx_prim.specs.RegisterLaws.{register_lawful}
-use Rattle.cx_prim.specs.MemoryRows.{IsLayout, ports_named, are_sizes, is_address_width, first_beyond, have_addresses, memory_read, memory_row, sequential_memory_row}
+use Rattle.cx_prim.specs.MemoryRows.{IsLayout, ports_named, first_beyond, have_addresses, memory_read, memory_row, sequential_memory_row}
 use Rattle.cx_prim.specs.MemoryLaws.{MemoryOutput, is_read, is_done, memory_outputs, sequential_lawful}
 use Rattle.cx_prim.specs.PipeRows.{multiplier_row, divider_row, timer_row}
-use Rattle.cx_prim.specs.PipeLaws.{multiplier_lawful, divider_lawful}
-use Rattle.cx_prim.specs.Table.{PrimitiveRow, at_width, constant_at, slice_at, pad_at, memory_at, timer_at, row_at, no_row, row_of}
-use Rattle.cx_prim.specs.TableLaws.{is_width_tells, is_layout_tells, constant_at_lawful, timer_at_lawful}
+use Rattle.cx_prim.specs.PipeLaws.{multiplier_lawful, divider_lawful, timer_lawful}
+use Rattle.cx_prim.specs.Table.{PrimitiveRow, no_row, row_of}
+use Rattle.cx_prim.specs.TableCases.{OfEachKind, of_row}
 
 -- each value is as wide as its port
 pub record AreWide (list : List PortRow) (inputs : Inputs) : Type 0 where
@@ -181,93 +185,48 @@ timer_has length lawful = record { outputs = without_inputs (timer_row length) l
 none_has : HasWidths no_row
 none_has = record { outputs = λ state inputs n port b of_row wide at out e. absurd (cc); narrow = refl }
 
+-- operators
+unary_widens : (operator : UnaryOperator) (w v : ℕ) → IsUnary operator w v → Widens w v (apply_unary operator v)
+unary_widens unary.Wire w v takes a e = e ∙ eqb-true w v takes.taken
+unary_widens unary.Not w v takes a e = e ∙ eqb-true w v takes.taken
+unary_widens unary.Slice w v takes a e = refl
+unary_widens unary.Pad w v takes a e = refl
+
+binary_joins : (operator : BinaryOperator) (w : ℕ) → Joins w (binary_out_width operator w) (apply_binary operator)
+binary_joins binary.Add w a b e = e
+binary_joins binary.Sub w a b e = e
+binary_joins binary.And w a b e = e
+binary_joins binary.Or w a b e = e
+binary_joins binary.Xor w a b e = e
+binary_joins binary.Lsh w a b e = e
+binary_joins binary.Rsh w a b e = e
+binary_joins binary.Lt w a b e = refl
+binary_joins binary.Gt w a b e = refl
+binary_joins binary.Equal w a b e = refl
+binary_joins binary.Neq w a b e = refl
+binary_joins binary.Le w a b e = refl
+binary_joins binary.Ge w a b e = refl
+binary_joins binary.Slt w a b e = refl
+binary_joins binary.Sgt w a b e = refl
+binary_joins binary.Sle w a b e = refl
+binary_joins binary.Sge w a b e = refl
+
 -- the table
-has_where : (r : Row) (b : Bool) → (b ≡ true → HasWidths r) → HasWidths (unwrap_or (if b then Some r else None) no_row)
-has_where r true has = has refl
-has_where r false has = none_has
-
-at_width_has : (make : ℕ → Row) → ((w : ℕ) → IsWidth w → HasWidths (make w)) → (numbers : List ℕ) → HasWidths (unwrap_or (at_width make numbers) no_row)
-at_width_has make each [] = none_has
-at_width_has make each (w ∷ []) = has_where (make w) (is_width w) (λ test. each w (is_width_tells w test))
-at_width_has make each (w ∷ x ∷ rest) = none_has
-
-lawful_if : (r : Row) (b : Bool) → b ≡ true → IsLawful (unwrap_or (if b then Some r else None) no_row) → IsLawful r
-lawful_if r true e lawful = lawful
-lawful_if r false e lawful = absurd (cc)
-
-constant_at_has : (numbers : List ℕ) → HasWidths (unwrap_or (constant_at numbers) no_row)
-constant_at_has [] = none_has
-constant_at_has (w ∷ []) = none_has
-constant_at_has (w ∷ v ∷ []) =
-    has_where (constant_row w v) (is_width w && nat_lt v (2 ^ w)) (λ test. constant_has w v (lawful_if (constant_row w v) (is_width w && nat_lt v (2 ^ w)) test (constant_at_lawful (w ∷ v ∷ []))))
-constant_at_has (w ∷ v ∷ x ∷ rest) = none_has
-
-slice_at_has : (numbers : List ℕ) → HasWidths (unwrap_or (slice_at numbers) no_row)
-slice_at_has [] = none_has
-slice_at_has (w ∷ []) = none_has
-slice_at_has (w ∷ v ∷ []) = has_where _ ((is_width w && is_width v) && nat_le v w) (λ test. unary_has w v (λ a. operators.low_bits_of a v) (λ a e. refl))
-slice_at_has (w ∷ v ∷ x ∷ rest) = none_has
-
-pad_at_has : (numbers : List ℕ) → HasWidths (unwrap_or (pad_at numbers) no_row)
-pad_at_has [] = none_has
-pad_at_has (w ∷ []) = none_has
-pad_at_has (w ∷ v ∷ []) = has_where _ ((is_width w && is_width v) && nat_le w v) (λ test. unary_has w v (λ a. operators.zero_extension_of a v) (λ a e. refl))
-pad_at_has (w ∷ v ∷ x ∷ rest) = none_has
-
-memory_at_has : (d : ℕ) → d ≤ 4 → (make : ℕ → List ℕ → List ℕ → Row) → ((w : ℕ) (sizes address_widths : List ℕ) → IsLayout w sizes address_widths → HasWidths (make w sizes address_widths))
-    → (numbers : List ℕ) → HasWidths (unwrap_or (memory_at d make numbers) no_row)
-memory_at_has d few make each [] = none_has
-memory_at_has d few make each (w ∷ rest) =
-    has_where (make w (take d rest) (drop d rest)) ((is_width w && (length rest == 2 * d)) && (are_sizes (take d rest) && list_all is_address_width (drop d rest))) (λ test. each w (take d rest) (drop d rest) (is_layout_tells d w rest few test))
-
-timer_at_has : (numbers : List ℕ) → HasWidths (unwrap_or (timer_at numbers) no_row)
-timer_at_has [] = none_has
-timer_at_has (n ∷ []) = has_where (timer_row n) (nat_le 1 n && nat_lt n (2 ^ 32)) (λ test. timer_has n (lawful_if (timer_row n) (nat_le 1 n && nat_lt n (2 ^ 32)) test (timer_at_lawful (n ∷ []))))
-timer_at_has (n ∷ x ∷ rest) = none_has
-
-row_at_has : (name : PrimitiveName) (numbers : List ℕ) → HasWidths (unwrap_or (row_at name numbers) no_row)
-row_at_has Const numbers = constant_at_has numbers
-row_at_has Wire numbers = at_width_has _ (λ w ok. unary_has w w _ (λ a e. e)) numbers
-row_at_has Not numbers = at_width_has _ (λ w ok. unary_has w w _ (λ a e. e)) numbers
-row_at_has Add numbers = at_width_has _ (λ w ok. binary_has w w _ (λ a b e. e)) numbers
-row_at_has Sub numbers = at_width_has _ (λ w ok. binary_has w w _ (λ a b e. e)) numbers
-row_at_has And numbers = at_width_has _ (λ w ok. binary_has w w _ (λ a b e. e)) numbers
-row_at_has Or numbers = at_width_has _ (λ w ok. binary_has w w _ (λ a b e. e)) numbers
-row_at_has Xor numbers = at_width_has _ (λ w ok. binary_has w w _ (λ a b e. e)) numbers
-row_at_has Lsh numbers = at_width_has _ (λ w ok. binary_has w w _ (λ a b e. e)) numbers
-row_at_has Rsh numbers = at_width_has _ (λ w ok. binary_has w w _ (λ a b e. e)) numbers
-row_at_has Lt numbers = at_width_has _ (λ w ok. binary_has w 1 _ (λ a b e. refl)) numbers
-row_at_has Gt numbers = at_width_has _ (λ w ok. binary_has w 1 _ (λ a b e. refl)) numbers
-row_at_has Equal numbers = at_width_has _ (λ w ok. binary_has w 1 _ (λ a b e. refl)) numbers
-row_at_has Neq numbers = at_width_has _ (λ w ok. binary_has w 1 _ (λ a b e. refl)) numbers
-row_at_has Le numbers = at_width_has _ (λ w ok. binary_has w 1 _ (λ a b e. refl)) numbers
-row_at_has Ge numbers = at_width_has _ (λ w ok. binary_has w 1 _ (λ a b e. refl)) numbers
-row_at_has Slt numbers = at_width_has _ (λ w ok. binary_has w 1 _ (λ a b e. refl)) numbers
-row_at_has Sgt numbers = at_width_has _ (λ w ok. binary_has w 1 _ (λ a b e. refl)) numbers
-row_at_has Sle numbers = at_width_has _ (λ w ok. binary_has w 1 _ (λ a b e. refl)) numbers
-row_at_has Sge numbers = at_width_has _ (λ w ok. binary_has w 1 _ (λ a b e. refl)) numbers
-row_at_has Seq numbers = at_width_has _ (λ w ok. binary_has w 1 _ (λ a b e. refl)) numbers
-row_at_has Sneq numbers = at_width_has _ (λ w ok. binary_has w 1 _ (λ a b e. refl)) numbers
-row_at_has Slice numbers = slice_at_has numbers
-row_at_has Pad numbers = pad_at_has numbers
-row_at_has Mux numbers = at_width_has _ (λ w ok. mux_has w) numbers
-row_at_has Reg numbers = at_width_has _ register_has numbers
-row_at_has StdMemD1 numbers = memory_at_has 1 (omega arith) _ memory_has numbers
-row_at_has StdMemD2 numbers = memory_at_has 2 (omega arith) _ memory_has numbers
-row_at_has StdMemD3 numbers = memory_at_has 3 (omega arith) _ memory_has numbers
-row_at_has StdMemD4 numbers = memory_at_has 4 (omega arith) _ memory_has numbers
-row_at_has CombMemD1 numbers = memory_at_has 1 (omega arith) _ memory_has numbers
-row_at_has CombMemD2 numbers = memory_at_has 2 (omega arith) _ memory_has numbers
-row_at_has CombMemD3 numbers = memory_at_has 3 (omega arith) _ memory_has numbers
-row_at_has CombMemD4 numbers = memory_at_has 4 (omega arith) _ memory_has numbers
-row_at_has SeqMemD1 numbers = memory_at_has 1 (omega arith) _ sequential_has numbers
-row_at_has SeqMemD2 numbers = memory_at_has 2 (omega arith) _ sequential_has numbers
-row_at_has SeqMemD3 numbers = memory_at_has 3 (omega arith) _ sequential_has numbers
-row_at_has SeqMemD4 numbers = memory_at_has 4 (omega arith) _ sequential_has numbers
-row_at_has MultPipe numbers = at_width_has _ multiplier_has numbers
-row_at_has DivPipe numbers = at_width_has _ divider_has numbers
-row_at_has Timer numbers = timer_at_has numbers
+each_kind_has_widths : OfEachKind HasWidths
+each_kind_has_widths = record {
+  none = none_has;
+  constant = λ w v fits. constant_has w v (constant_lawful w v fits);
+  unary = λ operator w v takes. unary_has w v _ (unary_widens operator w v takes);
+  binary = λ operator w ok. binary_has w _ _ (binary_joins operator w);
+  mux = λ w ok. mux_has w;
+  register = register_has;
+  memory = memory_has;
+  sequential = sequential_has;
+  multiplier = multiplier_has;
+  divider = divider_has;
+  timer = λ n some most. timer_has n (timer_lawful n some most);
+}
 
 -- the row of a primitive has widths
 pub row_has : (p : PrimitiveRow) → HasWidths (row_of p)
-row_has p = row_at_has p.name p.numbers
+row_has p = of_row HasWidths each_kind_has_widths p

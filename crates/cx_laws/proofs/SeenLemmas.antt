@@ -1,6 +1,7 @@
 -- In an accepted design each value that is seen has the width of its port.
 use Rattle.std.proofs.Common.{◌≡◌, ℕ, zero, suc, ◌+◌, ◌<◌, inr, Bool, true, false, Some, None, List, [], ◌∷◌, length, if◌then◌else◌, refl, sym, ap, ◌∙◌, subst, arith}
 use Rattle.std.specs.Prelude.{slice_get, option_map}
+use Rattle.std.proofs.lemmas.Option.{slice_get_within}
 use Rattle.cx_bits.specs.BitVector.{BitVector}
 use Rattle.cx_prim.specs.declared.ports.PortRow.{PortRow}
 use Rattle.cx_prim.specs.declared.ports.Side.{Side}
@@ -26,7 +27,7 @@ use Rattle.cx_rules.proofs.CircleLemmas.{instance_acyclic}
 use Rattle.cx_laws.specs.Widths.{HoldsStates, HoldsWidths}
 use Rattle.cx_laws.proofs.RowWidths.{HasWidths, enable_width}
 use Rattle.cx_laws.proofs.SightWidths.{Comes, not_driven, of_source, target_comes, output_comes, option_is, given_found}
-use Rattle.cx_laws.proofs.TreeLemmas.{below_of, output_there, StandsBeside, no_cell, of_row, of_part, InTree, IsBeside, here, into_child, is_beside, path_in_tree}
+use Rattle.cx_laws.proofs.TreeLemmas.{output_there, StandsBeside, no_cell, of_row, of_part, InTree, IsBeside, here, into_child, is_beside, path_in_tree}
 
 bit_width : (t : Bool) (b : BitVector) → bit_of t ≡ Value b → 1 ≡ b.width
 bit_width true b e = let f : record { width = 1; value = 1 } ≡ b = cc in ap (λ (x : BitVector). x.width) f
@@ -89,7 +90,7 @@ module _ (d : PlainDesign) (i whole : Instance) (beside : IsBeside d i whole) (a
           let z : n ≡ 0 + n = omega arith in
           let value = ap (λ q. look (ports.Cell c q)) z ∙ found.value in
           let wanted = ap (row.reads p) z ∙ found.wanted_there in
-          let w = needed (ports.Cell c n) (n, wanted, refl) (in_cells, subst (λ x. n < port_count x) (sym at_cell) (below_of row.ports n port at)) (no_literal_cell c n) v value in
+          let w = needed (ports.Cell c n) (n, wanted, refl) (in_cells, subst (λ x. n < port_count x) (sym at_cell) (slice_get_within row.ports n port at)) (no_literal_cell c n) v value in
           sym (some_is port.width v.width (sym (ap (λ x. cell_width x n) at_cell ∙ ap (option_map (λ (q : PortRow). q.width)) at) ∙ w))
   side_wide row c p at_cell has of_state in_cells there sides.Registered f needed b e =
       let port = side_there row.ports p there in

@@ -7,7 +7,8 @@ use Rattle.cx_meaning.specs.declared.ports.PortRef.{PortRef}
 use Rattle.cx_meaning.specs.declared.sights.Seen.{Seen}
 use Rattle.cx_meaning.specs.declared.sights.Seen.TheVariants.{Value, Conflict, Undefined}
 use Rattle.cx_meaning.specs.Active.{Acting}
-use Rattle.cx_meaning.specs.Truths.{Truth, One, Zero, Clash, Unknown}
+use Rattle.cx_meaning.specs.Truths.{Truth, One, Zero}
+use Rattle.cx_meaning.specs.Truths as truths
 use Rattle.cx_meaning.specs.Sights.{Look, In, IsTaken, Taken, Sources, Stopped, guard_truth, take_guard, taken, agreed, all_agreed, settle, target_seen, Gathered, Given, Lacks, gather_port, gather, of_option, output_seen}
 
 -- a value that several sources agree on is that of the first
@@ -39,8 +40,8 @@ taken_stops look (a ∷ rest) = by (guard_truth look a.offset a.assign.guard) (t
     by One (Sources sources) h = tt
     by One (Stopped x) h = h
     by Zero t h = h
-    by Clash t h = λ b e. cc
-    by Unknown t h = λ b e. cc
+    by truths.Conflict t h = λ b e. cc
+    by truths.Undefined t h = λ b e. cc
 
 -- the first source is that of an active assignment
 taken_source : (look : Look) (acts : List Acting) (s : PortRef) (ss : List PortRef) → taken look acts ≡ Sources (s ∷ ss) → (a : Acting) × In acts a × (a.assign.source.port ≡ s)
@@ -52,8 +53,8 @@ taken_source look (a ∷ rest) s ss e = by (guard_truth look a.offset a.assign.g
     by One (Sources xs) e h = (a, inl refl, cc)
     by One (Stopped x) e h = absurd (cc)
     by Zero t e h = let r = h e in (r.0, inr r.1, r.2)
-    by Clash t e h = absurd (cc)
-    by Unknown t e h = absurd (cc)
+    by truths.Conflict t e h = absurd (cc)
+    by truths.Undefined t e h = absurd (cc)
 
 -- A VALUE OF A TARGET is what it is undriven, or that of the source of an active assignment
 pub data Comes (undriven : Seen) (look : Look) (acts : List Acting) (b : BitVector) : Type 0 where

@@ -1,8 +1,7 @@
 -- An instance of the tree of an accepted design beside its component: the same parts, and widths that its assignments keep.
 use Rattle.std.proofs.Common.{◌≡◌, ℕ, zero, suc, ◌+◌, ◌-◌, ◌<◌, inl, inr, ⊎_elim, Bool, true, false, not, Option, Some, None, List, [], ◌∷◌, ◌++◌, length, if◌then◌else◌, refl, sym, ap, ◌∙◌, subst, arith}
 use Rattle.std.specs.Prelude.{nat_lt, nat_eq, slice_get, option_map}
-use Rattle.std.proofs.lemmas.Bool.{eqb-true, ltb-true, cases_lt}
-use Rattle.std.proofs.lemmas.List.{get_or_past}
+use Rattle.std.proofs.lemmas.Bool.{eqb-true, ltb-true}
 use Rattle.cx_text.specs.declared.rules.Rule.TheVariants as rules
 use Rattle.cx_prim.specs.declared.ports.PortRow.{PortRow}
 use Rattle.cx_prim.specs.Rows.{Row}
@@ -10,7 +9,7 @@ use Rattle.cx_prim.specs.Table.{row_of}
 use Rattle.cx_meaning.specs.declared.ports.PortRef.{PortRef}
 use Rattle.cx_meaning.specs.declared.ports.PortRef.TheVariants as ports
 use Rattle.cx_meaning.specs.declared.kinds.PortDecl.{PortDecl}
-use Rattle.cx_meaning.specs.Designs.{PlainAssign, PlainKind, OfPrimitive, OfComponent, PlainCell, PlainComponent, PlainDesign, component_at, no_component, group_at, no_group}
+use Rattle.cx_meaning.specs.Designs.{PlainKind, OfPrimitive, OfComponent, PlainCell, PlainComponent, PlainDesign, component_at, no_component}
 use Rattle.cx_meaning.specs.Instances.{Instance, Node, Cells, no_cells, a_primitive, an_instance, At, Nothing, OfRow, OfInstance, cell_at, cells_of, part_of, add_cell, cells_for, tree_within, tree_of, Path, instance_at, child_at}
 use Rattle.cx_meaning.specs.Active.{Owned, owned, owned_by_groups, source_order}
 use Rattle.cx_meaning.specs.Sights.{In, PartPort, Go, AnInput, AnOutput, ItsDone, output_port, part_port}
@@ -24,12 +23,6 @@ use Rattle.cx_rules.proofs.CircleLemmas.{same_part}
 use Rattle.cx_rules.proofs.ForeignLemmas.{sorted_among, owned_among, split, groups_among}
 use Rattle.cx_laws.proofs.RowWidths.{HasWidths, row_has}
 use Rattle.cx_laws.proofs.EdgeLemmas.{group_there}
-
--- PORTS
-pub below_of : {A : Type 0} (list : List A) (n : ℕ) (x : A) → slice_get list n ≡ Some x → n < length list
-below_of [] n x e = absurd (cc)
-below_of (y ∷ list) zero x e = omega arith
-below_of (y ∷ list) (suc n) x e = let h : n < length list = below_of list n x e in omega arith
 
 pub there_at : {A : Type 0} (list : List A) (n : ℕ) → n < length list → (x : A) × (slice_get list n ≡ Some x)
 there_at [] n h = absurd (omega arith)

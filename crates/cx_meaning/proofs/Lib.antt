@@ -2,6 +2,6 @@ pub mod SightsLemmas
 pub mod AnswersLemmas
 pub mod ControlLemmas
 pub mod RunningLemmas
-pub mod TableStarts
+pub mod IdleLemmas
 pub mod KnownDesigns
 pub mod KnownRuns

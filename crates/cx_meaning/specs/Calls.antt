@@ -8,7 +8,8 @@ use Rattle.cx_meaning.specs.declared.kinds.GroupKind.TheVariants as kinds
 use Rattle.cx_meaning.specs.Designs.{PlainAssign, group_at, Enable}
 use Rattle.cx_prim.specs.Rows.{is_enable_side}
 use Rattle.cx_meaning.specs.Rows.{side_of}
-use Rattle.cx_meaning.specs.Truths.{Truth, One, Zero, Clash, Unknown, truth_of}
+use Rattle.cx_meaning.specs.Truths.{Truth, One, Zero, truth_of}
+use Rattle.cx_meaning.specs.Truths as truths
 use Rattle.cx_meaning.specs.Instances.{Instance, Cells, At, Nothing, OfRow, OfInstance, cell_at, part_of, cells_of, State, under, put, idle}
 use Rattle.cx_meaning.specs.Active.{group, comb, capture}
 use Rattle.cx_meaning.specs.Sights.{Held, seen}
@@ -22,8 +23,8 @@ use Rattle.cx_meaning.specs.Islands.{island, turn_of}
 abbrev pub hole_turn : ℕ → Ended → Truth → Turn State Fault
 hole_turn g ended One = answers.Ends
 hole_turn g ended Zero = turn_of ended
-hole_turn g ended Clash = answers.Faults (fault_at faults.Conflict (ports.Done g))
-hole_turn g ended Unknown = answers.Faults (fault_at faults.Undefined (ports.Done g))
+hole_turn g ended truths.Conflict = answers.Faults (fault_at faults.Conflict (ports.Done g))
+hole_turn g ended truths.Undefined = answers.Faults (fault_at faults.Undefined (ports.Done g))
 
 abbrev pub group_turn : Instance → Held → ℕ → State → Turn State Fault
 group_turn i held g s = hole_turn g (cycle i held (group g) s) (truth_of (seen i held (group g) s (ports.Done g)))
@@ -32,8 +33,8 @@ group_turn i held g s = hole_turn g (cycle i held (group g) s) (truth_of (seen i
 abbrev pub test_of : PortRef → Truth → Test Fault
 test_of port One = Holds
 test_of port Zero = Fails
-test_of port Clash = Unclear (fault_at faults.Conflict port)
-test_of port Unknown = Unclear (fault_at faults.Undefined port)
+test_of port truths.Conflict = Unclear (fault_at faults.Conflict port)
+test_of port truths.Undefined = Unclear (fault_at faults.Undefined port)
 
 abbrev pub test : Instance → Held → PortRef → Option ℕ → State → Test Fault
 test i held port with_group s = test_of port (truth_of (seen i held (comb with_group) s port))

@@ -7,12 +7,13 @@ use Rattle.cx_meaning.specs.declared.sights.FaultKind.TheVariants as faults
 use Rattle.cx_meaning.specs.declared.kinds.GroupKind.{GroupKind}
 use Rattle.cx_meaning.specs.declared.kinds.GroupKind.TheVariants as kinds
 use Rattle.cx_meaning.specs.Designs.{PlainComponent, group_at, PlainForm, Empty, Enable, Seq, Par, If, While, Repeat, StaticSeq, StaticPar, StaticIf, StaticRepeat, Timed, PlainStatement, Placed, PlainStatements, no_statements, a_statement}
-use Rattle.cx_meaning.specs.Truths.{Truth, One, Zero, Clash, Unknown, truth_of}
+use Rattle.cx_meaning.specs.Truths.{Truth, One, Zero, truth_of}
+use Rattle.cx_meaning.specs.Truths as truths
 use Rattle.cx_meaning.specs.Instances.{Instance, part_of, State, idle}
 use Rattle.cx_meaning.specs.Active.{nothing, Entry, entries}
 use Rattle.cx_meaning.specs.Sights.{Look, Held, seen}
 use Rattle.cx_meaning.specs.Cycles.{Fault, fault_at, Ended, Goes, Faults, cycle}
-use Rattle.cx_meaning.specs.Answers.{Answer, More, Meaning, idle_turn, Turn, turn_then}
+use Rattle.cx_meaning.specs.Answers.{More, Meaning, idle_turn, Turn, turn_then}
 use Rattle.cx_meaning.specs.Answers as answers
 
 -- the cycles of a static group; none for a group that is not static
@@ -149,8 +150,8 @@ looked_at h t (Looks port at samples ∷ rest) = port_if (nat_eq t at && hold h 
 abbrev pub is_one : Truth → Bool
 is_one One = true
 is_one Zero = false
-is_one Clash = false
-is_one Unknown = false
+is_one truths.Conflict = false
+is_one truths.Undefined = false
 
 -- what was seen before, and in cycle t what is seen now
 abbrev pub and_now : History → ℕ → Look → History

@@ -13,7 +13,8 @@ use Rattle.cx_prim.specs.Rows.{Inputs, Row}
 use Rattle.cx_meaning.specs.Rows.{side_of}
 use Rattle.cx_meaning.specs.Instances.{Instance, Node, Cells, no_cells, a_primitive, an_instance, At, Nothing, OfRow, OfInstance, part_of, cells_of, cell_at, State, under}
 use Rattle.cx_meaning.specs.Active.{Active, nothing, Acting, source_order, drivers}
-use Rattle.cx_meaning.specs.Truths.{Truth, One, Zero, Clash, Unknown, truth_of_bit, truth_of, not_truth, and_truth, or_truth, compared}
+use Rattle.cx_meaning.specs.Truths.{Truth, One, Zero, truth_of_bit, truth_of, not_truth, and_truth, or_truth, compared}
+use Rattle.cx_meaning.specs.Truths as truths
 
 -- what the ports of an instance are taken to be seen as
 abbrev pub Look : Type 0
@@ -65,8 +66,8 @@ with_source source (Stopped by) = Stopped by
 abbrev pub take_guard : Truth → PortRef → Taken → Taken
 take_guard One source rest = with_source source rest
 take_guard Zero source rest = rest
-take_guard Clash source rest = Stopped Conflict
-take_guard Unknown source rest = Stopped Undefined
+take_guard truths.Conflict source rest = Stopped Conflict
+take_guard truths.Undefined source rest = Stopped Undefined
 
 abbrev pub taken : Look → List Acting → Taken
 taken look [] = Sources []
@@ -232,16 +233,17 @@ Needs i act look (ports.Output n) q = TargetNeeds look (drivers (part_of i) act 
 Needs i act look (ports.Done g) q = TargetNeeds look (drivers (part_of i) act (ports.Done g)) q
 Needs i act look (ports.Literal w v) q = ⊥
 
--- SEEN AS: by one step from what the ports that it needs are seen as. For a port of a component cell, the child's outputs
--- are seen in the child's state under its continuous assignments; its inputs do not matter there, since outputs rest on state
+-- SEEN AS, a rule of three parts: what the port needs here is seen as the look says; what it needs of a child, the child's outputs,
+-- is seen in the child's state under its continuous assignments as `below` says (the child's inputs do not matter there, since outputs
+-- rest on state); and one step from these gives what the port is seen as
 pub data Sees : Instance → Held → Active → State → PortRef → Seen → Type 0 where
   by_step : {i : Instance} {held : Held} {act : Active} {s : State} {p : PortRef} {x : Seen} (look : Look) (below : Below)
-      → ((q : PortRef) → Needs i act look p q → Sees i held act s q (look q))
-      → ((c port n : ℕ) (child : Instance) → p ≡ ports.Cell c port → cell_at (cells_of i) c ≡ OfInstance child → Sees child unheld nothing (under c s) (ports.Output n) (below c n))
-      → step i held act s look below p ≡ x → Sees i held act s p x
+      → (here : (q : PortRef) → Needs i act look p q → Sees i held act s q (look q))
+      → (of_child : (c port n : ℕ) (child : Instance) → p ≡ ports.Cell c port → cell_at (cells_of i) c ≡ OfInstance child → Sees child unheld nothing (under c s) (ports.Output n) (below c n))
+      → (one_step : step i held act s look below p ≡ x) → Sees i held act s p x
 
--- WHAT A PORT IS SEEN AS, FOUND: after as many steps as there are ports to which something leads, nothing that does not
--- lead in a circle is left to see. In a circle a port is Undefined
+-- WHAT A PORT IS SEEN AS, FOUND: step by step from ports of which nothing is known yet. After steps enough every port is
+-- found that does not need itself; one that does is Undefined
 abbrev pub approach : Instance → Held → Active → State → Below → ℕ → Look
 approach i held act s below zero p = Undefined
 approach i held act s below (suc n) p = step i held act s (approach i held act s below n) below p
@@ -259,9 +261,13 @@ ports_of_cells (an_instance child rest) c = ports_of_cells rest (suc c)
 abbrev pub ports_of : Instance → List PortRef
 ports_of i = ports_of_cells (cells_of i) 0 ++ map (λ a. a.assign.target) (source_order (part_of i))
 
+-- STEPS ENOUGH: a way of needs that meets no port twice passes at most each port to which something can lead, and ends in one more
+abbrev pub steps_enough : Instance → ℕ
+steps_enough i = suc (length (ports_of i))
+
 abbrev mutual
   pub seen : Instance → Held → Active → State → Look
-  seen (Node part cells) held act s p = approach (Node part cells) held act s (outputs_below cells (λ c. under c s)) (suc (length (ports_of (Node part cells)))) p
+  seen (Node part cells) held act s p = approach (Node part cells) held act s (outputs_below cells (λ c. under c s)) (steps_enough (Node part cells)) p
 
   pub outputs_below : Cells → (ℕ → State) → Below
   outputs_below no_cells states c n = Undefined

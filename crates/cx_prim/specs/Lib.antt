@@ -10,6 +10,7 @@ pub mod PipeRows
 pub mod Table
 pub mod Operators
 pub mod CombinationalLaws
+pub mod TableCases
 pub mod OperatorWidths
 pub mod RowTools
 pub mod RegisterLaws

@@ -6,6 +6,7 @@ use Rattle.std.proofs.lemmas.Bool.{eqb-true, ltb-true}
 use Rattle.std.proofs.lemmas.Bool.Decides.{nat_tests}
 use Rattle.std.proofs.Math.ListN.{length-replicate, get_or-replicate, get_or-eq_default}
 use Rattle.std.proofs.lemmas.List.{length-set}
+use Rattle.std.proofs.lemmas.Option.{slice_get_within}
 use Rattle.std.proofs.lemmas.List.Elements.{All-set, All-get_or}
 use Rattle.cx_bits.specs.BitVector.{BitVector}
 use Rattle.cx_bits.specs.Operators.{bit_of}
@@ -16,7 +17,7 @@ use Rattle.cx_prim.specs.declared.ports.PortRow.{PortRow}
 use Rattle.cx_prim.specs.declared.ports.PortName.TheVariants.{Addr0, Addr1, Addr2, Addr3, WriteData, WriteEn, ContentEn, ReadData, Done}
 use Rattle.cx_prim.specs.declared.ports.Side.TheVariants.{Plain, Output, Registered}
 use Rattle.cx_prim.specs.CellStates.{CellState, Memory, SequentialMemory, IsState, MemoryOf, SequentialMemoryOf, AreWords}
-use Rattle.cx_prim.specs.Rows.{Inputs, input, number_of, value_at, is_on, edge_of, AgreesWhereLooked, KeepsRegistered, LooksWhereDemanded, GivesWidths, ReadsOnly, AnswersStrictly, is_output_side, IsOfWidth, IsLawful}
+use Rattle.cx_prim.specs.Rows.{Inputs, input, number_of, value_at, is_on, edge_of, AgreesWhereLooked, KeepsRegistered, LooksWhereDemanded, DemandsByEnabling, RangesArePorts, GivesWidths, ReadsOnly, AnswersStrictly, is_output_side, IsOfWidth, IsLawful}
 use Rattle.cx_prim.specs.CombinationalRows.{enable_port, plain_port, output_port, registered_port}
 use Rattle.cx_prim.specs.CombinationalLaws.{not_output, and_left, and_right}
 use Rattle.cx_prim.specs.MemoryRows.{IsLayout, ports_named, address_ports, first_beyond, word_number, have_addresses, word_at, written, memory_read, memory_output, memory_idle, memory_write, memory_row, sequential_output, sequential_idle, sequential_access, sequential_memory_row}
@@ -344,14 +345,44 @@ pub memory_write_keeps : (w : ℕ) (sizes : List ℕ) (state : CellState) (input
 memory_write_keeps w sizes (Memory words done) inputs of_row below = AreWords-written w (word_count sizes) sizes inputs _ words of_row below
 memory_write_keeps w sizes state inputs of_row below = absurd of_row
 
+-- what is demanded hangs on the enabling ports alone
+pub memory_by_enabling : (w : ℕ) (sizes address_widths : List ℕ) → IsLayout w sizes address_widths → DemandsByEnabling (memory_row w sizes address_widths)
+memory_by_enabling w sizes address_widths layout state inputs others n agree =
+    ap (λ (i : Option BitVector). (number_of i == 1) && nat_lt n (length sizes + 1)) (agree.enabling (length sizes + 1) (enable_port WriteEn) (memory_port w sizes address_widths _ 1 layout refl) refl)
+
+-- an address that is out of range stands at an address port
+pub first_beyond_below : (sizes : List ℕ) (k : ℕ) (inputs : Inputs) (n : ℕ) → first_beyond sizes k inputs ≡ Some n → n < k + length sizes
+first_beyond_below [] k inputs n e = absurd (cc)
+first_beyond_below (size ∷ sizes) k inputs n e = by (nat_lt (value_at inputs k) size) e (first_beyond_below sizes (k + 1) inputs n)
+  where
+    by : (t : Bool) → (if t then first_beyond sizes (k + 1) inputs else Some k) ≡ Some n → (first_beyond sizes (k + 1) inputs ≡ Some n → n < k + 1 + length sizes) → n < k + suc (length sizes)
+    by true e h = let lt : n < k + 1 + length sizes = h e in omega arith
+    by false e h = let same : k ≡ n = cc in omega arith
+
+where_on : (on : Bool) (o : Option ℕ) (n : ℕ) → (if on then o else None) ≡ Some n → o ≡ Some n
+where_on true o n e = e
+where_on false o n e = absurd (cc)
+
+pub memory_ranges : (w : ℕ) (sizes address_widths : List ℕ) → IsLayout w sizes address_widths → RangesArePorts (memory_row w sizes address_widths)
+memory_ranges w sizes address_widths layout inputs n e =
+    let beyond : n < 0 + length sizes = first_beyond_below sizes 0 inputs n (where_on (is_on inputs (length sizes + 1)) (first_beyond sizes 0 inputs) n e) in
+    let z : length sizes ≡ length sizes + 0 = omega arith in
+    let write : length sizes < length (memory_row w sizes address_widths).ports = slice_get_within (memory_row w sizes address_widths).ports (length sizes) (plain_port WriteData w) (memory_port w sizes address_widths _ 0 layout z) in
+    omega arith
+
 pub memory_lawful : (w : ℕ) (sizes address_widths : List ℕ) → IsLayout w sizes address_widths → IsLawful (memory_row w sizes address_widths)
 memory_lawful w sizes address_widths layout = record {
+  starts_settled = refl;
   idle_once = memory_idle_once;
   quiet_is_idle = λ state inputs quiet.
       let off : value_at inputs (length sizes + 1) ≡ 0 = quiet (length sizes + 1) (enable_port WriteEn) (memory_port w sizes address_widths _ 1 layout refl) refl in
       ap (λ (v : ℕ). edge_of (if v == 1 then first_beyond sizes 0 inputs else None) (if v == 1 then memory_write sizes state inputs else memory_idle state)) off;
   registered = memory_registered w sizes address_widths layout;
   looked_at = memory_looks w sizes address_widths layout;
+  by_enabling = memory_by_enabling w sizes address_widths layout;
+  nothing_demanded = λ state inputs n quiet.
+      ap (λ (v : ℕ). (v == 1) && nat_lt n (length sizes + 1)) (quiet (length sizes + 1) (enable_port WriteEn) (memory_port w sizes address_widths _ 1 layout refl) refl);
+  ranges = memory_ranges w sizes address_widths layout;
   widths = memory_widths w sizes address_widths layout;
   reads_only = memory_reads_only w sizes address_widths;
   strict = memory_strict w sizes address_widths layout;
@@ -479,14 +510,34 @@ sequential_access_keeps w sizes (SequentialMemory words read_data done) inputs o
     (AreWords-written w (word_count sizes) sizes inputs _ words of_row.0 below, of_row.1) (of_row.0, word_at_below w (word_count sizes) sizes inputs words of_row.0)
 sequential_access_keeps w sizes state inputs of_row below = absurd of_row
 
+pub sequential_by_enabling : (w : ℕ) (sizes address_widths : List ℕ) → IsLayout w sizes address_widths → DemandsByEnabling (sequential_memory_row w sizes address_widths)
+sequential_by_enabling w sizes address_widths layout state inputs others n agree =
+    let z : length sizes ≡ length sizes + 0 = omega arith in
+    let content = agree.enabling (length sizes) (enable_port ContentEn) (sequential_port w sizes address_widths _ 0 layout z) refl in
+    let write = agree.enabling (length sizes + 1) (enable_port WriteEn) (sequential_port w sizes address_widths _ 1 layout refl) refl in
+    ap (λ (i : Option BitVector). (number_of i == 1) && (nat_lt n (length sizes) || ((n == length sizes + 2) && (number_of (input inputs (length sizes + 1)) == 1)))) content
+    ∙ ap (λ (i : Option BitVector). (number_of (input others (length sizes)) == 1) && (nat_lt n (length sizes) || ((n == length sizes + 2) && (number_of i == 1)))) write
+
+pub sequential_ranges : (w : ℕ) (sizes address_widths : List ℕ) → IsLayout w sizes address_widths → RangesArePorts (sequential_memory_row w sizes address_widths)
+sequential_ranges w sizes address_widths layout inputs n e =
+    let beyond : n < 0 + length sizes = first_beyond_below sizes 0 inputs n (where_on (is_on inputs (length sizes)) (first_beyond sizes 0 inputs) n e) in
+    let z : length sizes ≡ length sizes + 0 = omega arith in
+    let content : length sizes < length (sequential_memory_row w sizes address_widths).ports = slice_get_within (sequential_memory_row w sizes address_widths).ports (length sizes) (enable_port ContentEn) (sequential_port w sizes address_widths _ 0 layout z) in
+    omega arith
+
 pub sequential_lawful : (w : ℕ) (sizes address_widths : List ℕ) → IsLayout w sizes address_widths → IsLawful (sequential_memory_row w sizes address_widths)
 sequential_lawful w sizes address_widths layout = record {
+  starts_settled = refl;
   idle_once = sequential_idle_once;
   quiet_is_idle = λ state inputs quiet.
       let off : value_at inputs (length sizes) ≡ 0 = quiet (length sizes) (enable_port ContentEn) (sequential_port w sizes address_widths _ 0 layout (omega arith)) refl in
       ap (λ (v : ℕ). edge_of (if v == 1 then first_beyond sizes 0 inputs else None) (if v == 1 then sequential_access sizes state inputs else sequential_idle state)) off;
   registered = λ state inputs others n port at registered. refl;
   looked_at = sequential_looks w sizes address_widths layout;
+  by_enabling = sequential_by_enabling w sizes address_widths layout;
+  nothing_demanded = λ state inputs n quiet.
+      ap (λ (v : ℕ). (v == 1) && (nat_lt n (length sizes) || ((n == length sizes + 2) && is_on inputs (length sizes + 1)))) (quiet (length sizes) (enable_port ContentEn) (sequential_port w sizes address_widths _ 0 layout (omega arith)) refl);
+  ranges = sequential_ranges w sizes address_widths layout;
   widths = sequential_widths w sizes address_widths layout;
   reads_only = λ state inputs others n agree. refl;
   strict = λ state inputs n of_row out. record {

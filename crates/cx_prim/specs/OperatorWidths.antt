@@ -1,6 +1,6 @@
 -- What the operators give has the width of their output, so the rows without state keep the laws of a row.
 use Rattle.cx_prim.specs.declared.ports.PortRow.{PortRow}
-use Rattle.std.specs.Prelude.{ℕ, ◌≤◌, List, Option, refl}
+use Rattle.std.specs.Prelude.{◌≡◌, ℕ, ◌≤◌, List, Option, Some, None, refl}
 use Rattle.std.proofs.Common.{sym, ◌∙◌}
 use Rattle.std.proofs.lemmas.Bool.{eqb-true, leb-true}
 use Rattle.cx_bits.specs.BitVector.{BitVector, Fits}
@@ -47,10 +47,14 @@ binary_gives Sge w a b fits_a fits_b same_a same_b = record { same_width = refl;
 pub combinational_lawful : (ports : List PortRow) (input_count : ℕ) (value : Inputs → Option BitVector) → KeepsRegistered (combinational_row ports input_count value) → GivesWidths (combinational_row ports input_count value)
     → ReadsOnly (combinational_row ports input_count value) → AnswersStrictly (combinational_row ports input_count value) → IsLawful (combinational_row ports input_count value)
 combinational_lawful ports input_count value registered widths reads_only strict = record {
+  starts_settled = refl;
   idle_once = λ state. refl;
   quiet_is_idle = λ state inputs quiet. refl;
   registered = registered;
   looked_at = λ state inputs others agree. refl;
+  by_enabling = λ state inputs others n agree. refl;
+  nothing_demanded = λ state inputs n quiet. refl;
+  ranges = λ inputs n beyond. absurd (let none : None ≡ Some n = beyond in cc);
   widths = widths;
   reads_only = reads_only;
   strict = strict;

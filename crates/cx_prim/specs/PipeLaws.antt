@@ -1,5 +1,5 @@
 -- The rows of the multiplier, the divider and the timer keep the laws of a row.
-use Rattle.std.specs.Prelude.{◌≡◌, ℕ, zero, suc, ◌+◌, ◌<◌, ◌≤◌, ◌^◌, ◌==◌, Bool, true, false, Option, Ok, IsSome, if◌then◌else◌, refl}
+use Rattle.std.specs.Prelude.{◌≡◌, ℕ, zero, suc, ◌+◌, ◌<◌, ◌≤◌, ◌^◌, ◌==◌, ◌&&◌, nat_le, Bool, true, false, Option, Some, None, Ok, IsSome, if◌then◌else◌, refl}
 use Rattle.std.proofs.Common.{ap, ◌∙◌, arith}
 use Rattle.std.proofs.lemmas.Nat.{pow_pos}
 use Rattle.std.proofs.lemmas.Bool.Decides.{nat_tests}
@@ -8,10 +8,10 @@ use Rattle.cx_bits.specs.Operators.{product_of, quotient_of, remainder_of}
 use Rattle.cx_bits.specs.OperatorLaws.{Fits-bit_of, Fits-product_of, Fits-quotient_of, Fits-remainder_of}
 use Rattle.cx_prim.specs.declared.ports.PortName.TheVariants.{Go, Left, Right, Out, OutQuotient, OutRemainder, Done}
 use Rattle.cx_prim.specs.CellStates.{CellState, Multiplier, Divider, Timer, IsState, MultiplierOf, DividerOf, TimerOf, PipeRun, IsRun}
-use Rattle.cx_prim.specs.Rows.{Inputs, input, number_of, value_at, is_on, AgreesWhereLooked, LooksWhereDemanded, GivesWidths, IsLawful}
+use Rattle.cx_prim.specs.Rows.{Inputs, input, number_of, value_at, is_on, AgreesWhereLooked, LooksWhereDemanded, DemandsByEnabling, DemandsNothingWhenQuiet, GivesWidths, IsLawful}
 use Rattle.cx_prim.specs.CombinationalRows.{enable_port, plain_port, registered_port}
 use Rattle.cx_prim.specs.CombinationalLaws.{not_output}
-use Rattle.cx_prim.specs.PipeRows.{holding, is_last, advanced, stopped, left_of, right_of, multiplier_output, multiplier_idle, multiplied, multiplier_go, multiplier_latency, multiplier_row, divider_output, divider_idle, divided, divider_go, divider_row, timer_output, timer_idle, timer_go, timer_row}
+use Rattle.cx_prim.specs.PipeRows.{holding, is_last, advanced, stopped, left_of, right_of, pipe_demands, multiplier_output, multiplier_idle, multiplied, multiplier_go, multiplier_latency, multiplier_row, divider_output, divider_idle, divided, divider_go, divider_row, timer_output, timer_idle, timer_go, timer_row}
 use Rattle.cx_prim.specs.RowTools.{out_fits, number_fits, if-same_else, if-each, value_at_fits}
 use Rattle.cx_prim.specs.Widths.{IsWidth}
 
@@ -40,6 +40,13 @@ stopped_keeps w latency run ok = record { under_way = let h = ok.under_way in om
 
 pub left_fits : (w latency : ℕ) (run : PipeRun) → IsWidth w → IsRun w latency run → Fits (left_of w run)
 left_fits w latency run is_width ok = record { some_bits = is_width.some_bits; few_bits = is_width.few_bits; in_range = ok.left_fits }
+
+-- what a pipe demands hangs on `go` alone, and where `go` is 0 it is nothing
+pub pipe_demands_same : (run : PipeRun) (inputs others : Inputs) (n : ℕ) → input inputs 0 ≡ input others 0 → pipe_demands run inputs n ≡ pipe_demands run others n
+pipe_demands_same run inputs others n e = ap (λ (i : Option BitVector). ((number_of i == 1) && (run.count == 0)) && (nat_le 1 n && nat_le n 2)) e
+
+pub pipe_demands_nothing : (run : PipeRun) (inputs : Inputs) (n : ℕ) → value_at inputs 0 ≡ 0 → pipe_demands run inputs n ≡ false
+pipe_demands_nothing run inputs n off = ap (λ (v : ℕ). ((v == 1) && (run.count == 0)) && (nat_le 1 n && nat_le n 2)) off
 
 -- the multiplier
 pub multiplier_idle_once : (state : CellState) → multiplier_idle (multiplier_idle state) ≡ multiplier_idle state
@@ -92,14 +99,27 @@ multiplier_go_keeps w (Multiplier run product) inputs is_width of_row left right
     multiplied_keeps w multiplier_latency (holding run inputs) product is_width (holding_keeps w multiplier_latency run inputs of_row.0 left right) of_row.1
 multiplier_go_keeps w state inputs is_width of_row left right = absurd of_row
 
+-- what a multiplier demands hangs on `go` alone
+pub multiplier_by_enabling : (w : ℕ) → DemandsByEnabling (multiplier_row w)
+multiplier_by_enabling w (Multiplier run product) inputs others n agree = pipe_demands_same run inputs others n (agree.enabling 0 (enable_port Go) refl refl)
+multiplier_by_enabling w state inputs others n agree = refl
+
+pub multiplier_demands_nothing : (w : ℕ) → DemandsNothingWhenQuiet (multiplier_row w)
+multiplier_demands_nothing w (Multiplier run product) inputs n quiet = pipe_demands_nothing run inputs n (quiet 0 (enable_port Go) refl refl)
+multiplier_demands_nothing w state inputs n quiet = refl
+
 pub multiplier_lawful : (w : ℕ) → IsWidth w → IsLawful (multiplier_row w)
 multiplier_lawful w is_width = record {
+  starts_settled = refl;
   idle_once = multiplier_idle_once;
   quiet_is_idle = λ state inputs quiet.
       let off : value_at inputs 0 ≡ 0 = quiet 0 (enable_port Go) refl refl in
       ap (λ (v : ℕ). Ok (if v == 1 then multiplier_go w multiplier_latency state inputs else multiplier_idle state)) off;
   registered = λ state inputs others n port at registered. refl;
   looked_at = multiplier_looks w;
+  by_enabling = multiplier_by_enabling w;
+  nothing_demanded = multiplier_demands_nothing w;
+  ranges = λ inputs n beyond. absurd (let none : None ≡ Some n = beyond in cc);
   widths = multiplier_widths w is_width;
   reads_only = λ state inputs others n agree. refl;
   strict = λ state inputs n of_row out. record {
@@ -170,14 +190,27 @@ divider_go_keeps w (Divider run quotient remainder) inputs is_width of_row left 
     divided_keeps w (holding run inputs) quotient remainder is_width (holding_keeps w w run inputs of_row.0 left right) of_row.1 of_row.2
 divider_go_keeps w state inputs is_width of_row left right = absurd of_row
 
+-- what a divider demands hangs on `go` alone
+pub divider_by_enabling : (w : ℕ) → DemandsByEnabling (divider_row w)
+divider_by_enabling w (Divider run quotient remainder) inputs others n agree = pipe_demands_same run inputs others n (agree.enabling 0 (enable_port Go) refl refl)
+divider_by_enabling w state inputs others n agree = refl
+
+pub divider_demands_nothing : (w : ℕ) → DemandsNothingWhenQuiet (divider_row w)
+divider_demands_nothing w (Divider run quotient remainder) inputs n quiet = pipe_demands_nothing run inputs n (quiet 0 (enable_port Go) refl refl)
+divider_demands_nothing w state inputs n quiet = refl
+
 pub divider_lawful : (w : ℕ) → IsWidth w → IsLawful (divider_row w)
 divider_lawful w is_width = record {
+  starts_settled = refl;
   idle_once = divider_idle_once;
   quiet_is_idle = λ state inputs quiet.
       let off : value_at inputs 0 ≡ 0 = quiet 0 (enable_port Go) refl refl in
       ap (λ (v : ℕ). Ok (if v == 1 then divider_go w w state inputs else divider_idle state)) off;
   registered = λ state inputs others n port at registered. refl;
   looked_at = divider_looks w;
+  by_enabling = divider_by_enabling w;
+  nothing_demanded = divider_demands_nothing w;
+  ranges = λ inputs n beyond. absurd (let none : None ≡ Some n = beyond in cc);
   widths = divider_widths w is_width;
   reads_only = λ state inputs others n agree. refl;
   strict = λ state inputs n of_row out. record {
@@ -229,6 +262,7 @@ timer_go_keeps length state of_row = absurd of_row
 
 pub timer_lawful : (length : ℕ) → 1 ≤ length → length < 2 ^ 32 → IsLawful (timer_row length)
 timer_lawful length some few = record {
+  starts_settled = refl;
   idle_once = timer_idle_once;
   quiet_is_idle = λ state inputs quiet.
       let off : value_at inputs 0 ≡ 0 = quiet 0 (enable_port Go) refl refl in
@@ -236,6 +270,9 @@ timer_lawful length some few = record {
   registered = λ state inputs others n port at registered. refl;
   looked_at = λ state inputs others agree.
       ap (λ (i : Option BitVector). Ok (if number_of i == 1 then timer_go length state else timer_idle state)) (agree.enabling 0 (enable_port Go) refl refl);
+  by_enabling = λ state inputs others n agree. refl;
+  nothing_demanded = λ state inputs n quiet. refl;
+  ranges = λ inputs n beyond. absurd (let none : None ≡ Some n = beyond in cc);
   widths = timer_widths length few;
   reads_only = λ state inputs others n agree. refl;
   strict = λ state inputs n of_row out. record {

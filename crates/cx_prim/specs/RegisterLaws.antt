@@ -1,5 +1,5 @@
 -- The row of a register keeps the laws of a row.
-use Rattle.std.specs.Prelude.{◌≡◌, ℕ, zero, suc, ◌==◌, true, false, Option, Ok, IsSome, if◌then◌else◌, refl}
+use Rattle.std.specs.Prelude.{◌≡◌, ℕ, zero, suc, ◌==◌, true, false, Option, Some, None, Ok, IsSome, if◌then◌else◌, refl}
 use Rattle.std.proofs.Common.{ap, ◌∙◌}
 use Rattle.std.proofs.lemmas.Nat.{pow_pos}
 use Rattle.cx_bits.specs.BitVector.{BitVector}
@@ -44,12 +44,16 @@ register_idle_keeps w state of_row = absurd of_row
 
 pub register_lawful : (w : ℕ) → IsWidth w → IsLawful (register_row w)
 register_lawful w is_width = record {
+  starts_settled = refl;
   idle_once = register_idle_once;
   quiet_is_idle = λ state inputs quiet.
       let off : value_at inputs 1 ≡ 0 = quiet 1 (enable_port WriteEn) refl refl in
       ap (λ (v : ℕ). Ok (if v == 1 then Register (value_at inputs 0) true else register_idle state)) off;
   registered = λ state inputs others n port at registered. refl;
   looked_at = register_looks w;
+  by_enabling = λ state inputs others n agree. ap (λ (i : Option BitVector). if number_of i == 1 then n == 0 else false) (agree.enabling 1 (enable_port WriteEn) refl refl);
+  nothing_demanded = λ state inputs n quiet. ap (λ (v : ℕ). if v == 1 then n == 0 else false) (quiet 1 (enable_port WriteEn) refl refl);
+  ranges = λ inputs n beyond. absurd (let none : None ≡ Some n = beyond in cc);
   widths = register_widths w is_width;
   reads_only = λ state inputs others n agree. refl;
   strict = λ state inputs n of_row out. record {

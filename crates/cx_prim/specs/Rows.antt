@@ -1,5 +1,5 @@
 -- What a primitive is to its users: a row of ports and equations. A cycle looks at the old state and the inputs; its edge gives the next state.
-use Rattle.std.specs.Prelude.{◌≡◌, ℕ, ◌==◌, Bool, true, false, List, Option, Some, None, Result, Ok, Err, IsSome, slice_get, slice_index_or, length}
+use Rattle.std.specs.Prelude.{◌≡◌, ℕ, ◌<◌, ◌==◌, Bool, true, false, List, Option, Some, None, Result, Ok, Err, IsSome, slice_get, slice_index_or, length}
 use Rattle.cx_bits.specs.BitVector.{BitVector, Fits}
 use Rattle.cx_prim.specs.declared.ports.PortRow.{PortRow}
 use Rattle.cx_prim.specs.declared.ports.Side.{Side}
@@ -100,6 +100,14 @@ pub record AgreesWhereLooked (r : Row) (state : CellState) (inputs others : Inpu
   pub enabling : (n : ℕ) (port : PortRow) → slice_get r.ports n ≡ Some port → port.side ≡ Enable → input inputs n ≡ input others n
   pub demanded : (n : ℕ) (port : PortRow) → slice_get r.ports n ≡ Some port → port.side ≡ Plain → r.demands state inputs n ≡ true → input inputs n ≡ input others n
 
+-- the same stands at every enabling port
+pub record AgreesWhereEnabling (r : Row) (inputs others : Inputs) : Type 0 where
+  pub enabling : (n : ℕ) (port : PortRow) → slice_get r.ports n ≡ Some port → port.side ≡ Enable → input inputs n ≡ input others n
+
+-- an idle edge leaves the start as it is
+abbrev pub StartsSettled : Row → Type 0
+StartsSettled r = r.idle r.start ≡ r.start
+
 -- two idle edges are one
 abbrev pub IdlesOnce : Row → Type 0
 IdlesOnce r = (state : CellState) → r.idle (r.idle state) ≡ r.idle state
@@ -115,6 +123,18 @@ KeepsRegistered r = (state : CellState) (inputs others : Inputs) (n : ℕ) (port
 -- an edge depends only on the enabling and the demanded ports
 abbrev pub LooksWhereDemanded : Row → Type 0
 LooksWhereDemanded r = (state : CellState) (inputs others : Inputs) → AgreesWhereLooked r state inputs others → edge r state inputs ≡ edge r state others
+
+-- what is demanded depends on the enabling ports alone
+abbrev pub DemandsByEnabling : Row → Type 0
+DemandsByEnabling r = (state : CellState) (inputs others : Inputs) (n : ℕ) → AgreesWhereEnabling r inputs others → r.demands state inputs n ≡ r.demands state others n
+
+-- nothing is demanded where every enabling port is 0
+abbrev pub DemandsNothingWhenQuiet : Row → Type 0
+DemandsNothingWhenQuiet r = (state : CellState) (inputs : Inputs) (n : ℕ) → IsQuiet r inputs → r.demands state inputs n ≡ false
+
+-- an address that is out of range stands at a port
+abbrev pub RangesArePorts : Row → Type 0
+RangesArePorts r = (inputs : Inputs) (n : ℕ) → r.out_of_range inputs ≡ Some n → n < length r.ports
 
 -- a value of this width
 pub record IsOfWidth (width : ℕ) (b : BitVector) : Type 0 where
@@ -153,10 +173,14 @@ pub record KeepsStates (r : Row) : Type 0 where
 
 -- the laws of a row, which every primitive keeps
 pub record IsLawful (r : Row) : Type 0 where
+  pub starts_settled : StartsSettled r
   pub idle_once : IdlesOnce r
   pub quiet_is_idle : IdlesWhenQuiet r
   pub registered : KeepsRegistered r
   pub looked_at : LooksWhereDemanded r
+  pub by_enabling : DemandsByEnabling r
+  pub nothing_demanded : DemandsNothingWhenQuiet r
+  pub ranges : RangesArePorts r
   pub widths : GivesWidths r
   pub reads_only : ReadsOnly r
   pub strict : AnswersStrictly r

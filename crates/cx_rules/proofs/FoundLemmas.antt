@@ -11,8 +11,9 @@ use Rattle.cx_meaning.specs.Rows.{side_from, side_of}
 use Rattle.cx_meaning.specs.Designs.{PlainAssign, PlainComponent}
 use Rattle.cx_meaning.specs.Instances.{Instance, Node, Cells, no_cells, a_primitive, an_instance, At, Nothing, OfRow, OfInstance, part_of, cells_of, cell_at, State, under}
 use Rattle.cx_meaning.specs.Active.{Active, nothing, Acting, Owned, source_order, offset_of, if_acting, if_target, acting, same_port, drivers}
-use Rattle.cx_meaning.specs.Truths.{Truth, One, Zero, Clash, Unknown}
-use Rattle.cx_meaning.specs.Sights.{Look, Below, Held, unheld, guard_truth, Taken, Sources, Stopped, take_guard, taken, PartPort, Go, AnInput, AnOutput, ItsDone, part_port, step, In, IsTaken, TargetNeeds, SideNeeds, PartNeeds, CellNeeds, Needs, Sees, by_step, approach, numbered, ports_of_cells, ports_of, seen, outputs_below}
+use Rattle.cx_meaning.specs.Truths.{Truth, One, Zero}
+use Rattle.cx_meaning.specs.Truths as truths
+use Rattle.cx_meaning.specs.Sights.{Look, Below, Held, unheld, guard_truth, Taken, Sources, Stopped, take_guard, taken, PartPort, Go, AnInput, AnOutput, ItsDone, part_port, step, In, IsTaken, TargetNeeds, SideNeeds, PartNeeds, CellNeeds, Needs, Sees, by_step, approach, steps_enough, numbered, ports_of_cells, ports_of, seen, outputs_below}
 use Rattle.cx_meaning.proofs.SightsLemmas.{one_sight}
 use Rattle.cx_rules.specs.Footprints.{Mentions, SideLeads, PartLeads, CellLeads, Leads, Depends, at_once, by_way_of}
 use Rattle.cx_rules.specs.Circles.{IsAcyclic, AreAcyclic, AcyclicBelow}
@@ -30,8 +31,8 @@ one_source Zero t a acts q h i = later_source a acts q (h i)
 one_source One (Sources ss) a acts q h (inl e) = (a, inl refl, e)
 one_source One (Sources ss) a acts q h (inr i) = later_source a acts q (h i)
 one_source One (Stopped y) a acts q h i = absurd i
-one_source Clash t a acts q h i = absurd i
-one_source Unknown t a acts q h i = absurd i
+one_source truths.Conflict t a acts q h i = absurd i
+one_source truths.Undefined t a acts q h i = absurd i
 
 source_of : (look : Look) (acts : List Acting) (q : PortRef) → IsTaken (taken look acts) q → IsSource acts q
 source_of look [] q i = absurd i
@@ -212,8 +213,8 @@ module _ (i : Instance) (act : Active) where
         longer : (n k : ℕ) → length (ports_of i) < suc n + k → length (ports_of i) < n + suc k
         longer n k h = omega arith
 
-    pub found : (p : PortRef) → Sees i held act s p (approach i held act s below (suc (length (ports_of i))) p)
-    found p = enough (suc (length (ports_of i))) p [] tt (λ v j. absurd j) (λ v j. absurd j) (omega arith)
+    pub found : (p : PortRef) → Sees i held act s p (approach i held act s below (steps_enough i) p)
+    found p = enough (steps_enough i) p [] tt (λ v j. absurd j) (λ v j. absurd j) (omega arith)
 
     -- and so is every look that is right
     pub solved : (look : Look) → ((q : PortRef) → Sees i held act s q (look q)) → (p : PortRef) → look p ≡ step i held act s look below p

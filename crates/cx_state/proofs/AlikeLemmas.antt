@@ -10,7 +10,7 @@ use Rattle.cx_meaning.specs.Rows.{side_of}
 use Rattle.cx_meaning.specs.Designs.{PlainComponent}
 use Rattle.cx_meaning.specs.Instances.{Instance, Node, Cells, no_cells, a_primitive, an_instance, At, Nothing, OfRow, OfInstance, cell_at, cells_of, part_of, Path, State, under, instance_at, child_at}
 use Rattle.cx_meaning.specs.Active.{Active, nothing}
-use Rattle.cx_meaning.specs.Sights.{Look, Below, Held, unheld, output_seen, gather, of_option, PartPort, Go, AnInput, AnOutput, ItsDone, part_port, side_step, part_step, cell_step, step, approach, ports_of, seen, outputs_below}
+use Rattle.cx_meaning.specs.Sights.{Look, Below, Held, unheld, output_seen, gather, of_option, PartPort, Go, AnInput, AnOutput, ItsDone, part_port, side_step, part_step, cell_step, step, approach, steps_enough, seen, outputs_below}
 use Rattle.cx_state.specs.States.{under_path}
 
 abbrev mutual
@@ -70,7 +70,7 @@ mutual
   pub seen_alike : (i : Instance) (held : Held) (act : Active) (s t : State) → Alike i s t → (p : PortRef) → seen i held act s p ≡ seen i held act t p
   seen_alike (Node part cells) held act s t a p =
       approach_alike (Node part cells) held act s t (outputs_below cells (λ c. under c s)) (outputs_below cells (λ c. under c t)) (λ c row e. at_alike cells (λ k. under k s) (λ k. under k t) a c row e)
-      (λ c n. below_alike cells (λ k. under k s) (λ k. under k t) a c n) (suc (length (ports_of (Node part cells)))) p
+      (λ c n. below_alike cells (λ k. under k s) (λ k. under k t) a c n) (steps_enough (Node part cells)) p
 
   below_alike : (cells : Cells) (s t : ℕ → State) → AlikeBelow cells s t → (c n : ℕ) → outputs_below cells s c n ≡ outputs_below cells t c n
   below_alike no_cells s t a c n = refl

@@ -14,7 +14,7 @@ use Rattle.cx_prim.specs.RegisterRow.{register_row}
 use Rattle.cx_prim.specs.MemoryRows.{IsLayout, are_sizes, is_address_width, memory_row, sequential_memory_row}
 use Rattle.cx_prim.specs.PipeRows.{multiplier_row, divider_row, timer_row}
 use Rattle.cx_prim.specs.Table.{at_width, constant_at, slice_at, pad_at, memory_at, timer_at, row_at}
-use Rattle.cx_prim.specs.TableLaws.{is_width_tells, is_layout_tells}
+use Rattle.cx_prim.specs.TableCases.{is_width_tells, is_layout_tells}
 
 -- the first number is there and is a width
 pub record HasWidth (numbers : List ℕ) : Type 0 where

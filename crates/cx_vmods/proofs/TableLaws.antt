@@ -13,7 +13,7 @@ use Rattle.cx_prim.specs.CombinationalRows.{constant_row, unary_row, greater_bit
 use Rattle.cx_prim.specs.MemoryRows.{are_sizes, is_address_width, memory_row, sequential_memory_row}
 use Rattle.cx_prim.specs.PipeRows.{timer_row}
 use Rattle.cx_prim.specs.Table.{at_width, constant_at, slice_at, pad_at, memory_at, timer_at, row_at, no_row}
-use Rattle.cx_prim.specs.TableLaws.{is_width_tells, is_layout_tells}
+use Rattle.cx_prim.specs.TableCases.{is_width_tells, is_layout_tells}
 use Rattle.cx_vtree.specs.declared.operators.Operator.TheVariants as operators
 use Rattle.cx_vmods.specs.Parts.{Piece, made_of}
 use Rattle.cx_vmods.specs.Modules.{ports_of, module_with, constant_pieces, slice_pieces, pad_pieces, timer_pieces, memory_pieces, sequential_pieces, pieces_of}

@@ -10,7 +10,8 @@ use Rattle.cx_meaning.specs.declared.ports.PortRef.TheVariants as ports
 use Rattle.cx_meaning.specs.Designs.{PlainForm}
 use Rattle.cx_meaning.specs.Instances.{Instance, Cells, no_cells, a_primitive, an_instance, cells_of, part_of, Path, State, Set, merge, idle}
 use Rattle.cx_meaning.specs.Active.{Active, nothing, only_at, group, capture, Entry, offset_in, entries}
-use Rattle.cx_meaning.specs.Truths.{Truth, One, Zero, Clash, Unknown, truth_of}
+use Rattle.cx_meaning.specs.Truths.{Truth, One, Zero, truth_of}
+use Rattle.cx_meaning.specs.Truths as truths
 use Rattle.cx_meaning.specs.Sights.{Look, Held, seen, gather, In}
 use Rattle.cx_meaning.specs.Cycles.{Fault, Ended, Outcome, enables, after_enabling, cell_outcome, first_of, where_listed, first_fault, stepped, cell_after, state_after, unless_fault, cycle_of}
 use Rattle.cx_meaning.specs.Answers.{Turn}
@@ -76,8 +77,8 @@ cycle_only i held act listed s = unless_only listed s _ (first_fault listed (see
 hole_only : (driven : Set) (s : State) (g : ℕ) (ended : Ended) (t : Truth) → TurnsIn driven s (turn_of ended) → TurnsIn driven s (hole_turn g ended t)
 hole_only driven s g ended One h = tt
 hole_only driven s g ended Zero h = h
-hole_only driven s g ended Clash h = tt
-hole_only driven s g ended Unknown h = tt
+hole_only driven s g ended truths.Conflict h = tt
+hole_only driven s g ended truths.Undefined h = tt
 
 unclear_only : (driven : Set) (s : State) (fault : Option Fault) (ended : Ended) → TurnsIn driven s (turn_of ended) → TurnsIn driven s (unless_unclear fault ended)
 unclear_only driven s (Some f) ended h = tt
@@ -175,8 +176,8 @@ module _ (i : Instance) (held : Held) (set : ℕ → Type 0) (kept : IsKept i) (
       one : (z : Truth) → AlikeTurn set (hole_turn g a z) (hole_turn g b z)
       one One = refl
       one Zero = h
-      one Clash = refl
-      one Unknown = refl
+      one truths.Conflict = refl
+      one truths.Undefined = refl
 
   pub turn_frames : (g : ℕ) → IsGood i held set kept through deeper g → (s t : State) → Agree set s t → AlikeTurn set (own_turn i held g s) (own_turn i held g t)
   turn_frames g good s t agree =

@@ -6,7 +6,8 @@ use Rattle.cx_meaning.specs.declared.sights.Seen.{Seen}
 use Rattle.cx_meaning.specs.declared.sights.FaultKind.TheVariants as faults
 use Rattle.cx_meaning.specs.Designs.{PlainDesign}
 use Rattle.cx_meaning.specs.Instances.{Instance, Path, State, Set, part_of, instance_at, tree_of}
-use Rattle.cx_meaning.specs.Truths.{Truth, One, Zero, Clash, Unknown, truth_of}
+use Rattle.cx_meaning.specs.Truths.{Truth, One, Zero, truth_of}
+use Rattle.cx_meaning.specs.Truths as truths
 use Rattle.cx_meaning.specs.Active.{group, capture}
 use Rattle.cx_meaning.specs.Sights.{Held, seen}
 use Rattle.cx_meaning.specs.Cycles.{Ended, Goes, Faults, cycle_of, fault_at}
@@ -44,10 +45,10 @@ module _ (d : PlainDesign) (n g : ℕ) where
   hole_told : (path : Path) (s : State) (rows : List PlainInstance) → IsNumber d n path → (x : Ended) (t : Truth) (turn : Turn) → HoleTurn n g t turn → TurnTold d path s rows rows turn (hole_turn g x t)
   hole_told path s rows number x One turn is = subst (λ y. TurnTold d path s rows rows y (hole_turn g x One)) (sym is) (refl, refl)
   hole_told path s rows number x Zero turn is = absurd is
-  hole_told path s rows number x Clash turn is =
-      subst (λ y. TurnTold d path s rows rows y (hole_turn g x Clash)) (sym is) (fault_at faults.Conflict (ports.Done g), tells_own d n path faults.Conflict (ports.Done g) number, refl, refl)
-  hole_told path s rows number x Unknown turn is =
-      subst (λ y. TurnTold d path s rows rows y (hole_turn g x Unknown)) (sym is) (fault_at faults.Undefined (ports.Done g), tells_own d n path faults.Undefined (ports.Done g) number, refl, refl)
+  hole_told path s rows number x truths.Conflict turn is =
+      subst (λ y. TurnTold d path s rows rows y (hole_turn g x truths.Conflict)) (sym is) (fault_at faults.Conflict (ports.Done g), tells_own d n path faults.Conflict (ports.Done g) number, refl, refl)
+  hole_told path s rows number x truths.Undefined turn is =
+      subst (λ y. TurnTold d path s rows rows y (hole_turn g x truths.Undefined)) (sym is) (fault_at faults.Undefined (ports.Done g), tells_own d n path faults.Undefined (ports.Done g) number, refl, refl)
 
   -- a turn of a group that makes no cycle
   pub group_alone : (old new : List PlainInstance) (x : Seen) (turn : Turn) → IsSeenAlone d old new n g x → HoleTurn n g (truth_of x) turn → TakesTurn d old new n turn (λ i held s. own_turn i held g s)

@@ -17,7 +17,8 @@ use Rattle.cx_meaning.specs.declared.kinds.GroupKind.TheVariants as kinds
 use Rattle.cx_meaning.specs.Designs.{PlainComponent, PlainDesign, PlainForm, Enable, PlainStatement, Placed, group_at, no_group}
 use Rattle.cx_meaning.specs.Instances.{Instance, Node, Cells, OfRow, OfInstance, cell_at, part_of, Path, under}
 use Rattle.cx_meaning.specs.Active.{Active, Entry, nothing, group, comb, only_at, entries, offset_in}
-use Rattle.cx_meaning.specs.Truths.{Truth, One, Zero, Clash, Unknown, truth_of}
+use Rattle.cx_meaning.specs.Truths.{Truth, One, Zero, truth_of}
+use Rattle.cx_meaning.specs.Truths as truths
 use Rattle.cx_meaning.specs.Sights.{unheld, In, Sees, seen, AnOutput, part_port}
 use Rattle.cx_meaning.specs.Cycles.{Ended, Goes, Faults, Fault, cycle}
 use Rattle.cx_meaning.specs.Islands.{kind_length, group_length, turn_of}
@@ -481,8 +482,8 @@ module _ (d : PlainDesign) (of_island : PlainComponent → NetState → ℕ → 
           let w = zero_is_value (seen (Node part cells) (held_in s) (group g) (cells_in s) (ports.Done g)) e in
           bit_untruth (hole g) w.0 (sym (hole_is_bit g there) ∙ hole_is w.0 (subst (Sees (Node part cells) (held_in s) (group g) (cells_in s) (ports.Done g)) w.1 sees_hole)) (sym (ap truth_of w.1) ∙ e)
           ∙ sym (never_ends (cycle (Node part cells) (held_in s) (group g) (cells_in s)))
-      turn_agrees Clash e clean = absurd (true_false clean)
-      turn_agrees Unknown e clean = absurd (true_false clean)
+      turn_agrees truths.Conflict e clean = absurd (true_false clean)
+      turn_agrees truths.Undefined e clean = absurd (true_false clean)
 
       of_called : (o : Option ℕ) → o ≡ None → (q : Machine.Place (called_machine (Node part cells) (coded_below cells) g o)) → Machine.faults (called_machine (Node part cells) (coded_below cells) g o) q s ≡ false
           → hole g ≡ is_done (Machine.step (called_machine (Node part cells) (coded_below cells) g o) q s)
@@ -575,8 +576,8 @@ module _ (d : PlainDesign) (of_island : PlainComponent → NetState → ℕ → 
       test_leads Zero e clean =
           let w = zero_is_value (seen (Node part cells) (held_in s) (comb comb_of) (cells_in s) test_port.port) e in
           bit_untruth (is_set (port_value (Node part cells) around v look test_port.port)) w.0 (sym test_known ∙ test_value w.0 w.1) (sym (ap truth_of w.1) ∙ e)
-      test_leads Clash e clean = absurd (true_false clean)
-      test_leads Unknown e clean = absurd (true_false clean)
+      test_leads truths.Conflict e clean = absurd (true_false clean)
+      test_leads truths.Undefined e clean = absurd (true_false clean)
 
       pub test_agrees : unclear (test (Node part cells) (held_in s) test_port.port comb_of (cells_in s)) ≡ false
           → is_true (unwrap_or (value around R (look []) (OfPort test_port.port)) (zero_wide 1)) ≡ leads (test (Node part cells) (held_in s) test_port.port comb_of (cells_in s))

@@ -17,7 +17,8 @@ use Rattle.cx_meaning.specs.Rows.{side_of}
 use Rattle.cx_meaning.specs.Designs.{PlainComponent, PlainDesign, PlainStatement, Enable, Placed, group_at}
 use Rattle.cx_meaning.specs.Instances.{Instance, Node, Cells, OfRow, OfInstance, cell_at, part_of, under}
 use Rattle.cx_meaning.specs.Active.{Active, Owned, nothing, group, capture, source_order, offset_of, drivers}
-use Rattle.cx_meaning.specs.Truths.{Truth, One, Zero, Clash, Unknown, truth_of}
+use Rattle.cx_meaning.specs.Truths.{Truth, One, Zero, truth_of}
+use Rattle.cx_meaning.specs.Truths as truths
 use Rattle.cx_meaning.specs.Sights.{unheld, In, Sees, seen, AnOutput, part_port}
 use Rattle.cx_meaning.specs.Cycles.{Ended, Goes, Faults, Fault, cycle}
 use Rattle.cx_meaning.specs.Islands.{kind_length, group_length, turn_of, is_one}
@@ -170,8 +171,8 @@ module _ (d : PlainDesign) (numbers : Instance → NetState → ℕ → ℕ) (pa
             → StepsTo part cells around v look s p c row (turn_writes (leaf_drives part (Enable g)) (hole_turn g (cycle (Node part cells) (held_in s) (group g) (cells_in s)) u) (Cell (c ∷ [])))
         of_truth One ends_so fine = ends ends_so
         of_truth Zero ends_so fine = of_cycle (ends_so ∙ never_ends (cycle (Node part cells) (held_in s) (group g) (cells_in s))) (cycle (Node part cells) (held_in s) (group g) (cells_in s)) refl fine
-        of_truth Clash ends_so fine = true_false fine
-        of_truth Unknown ends_so fine = true_false fine
+        of_truth truths.Conflict ends_so fine = true_false fine
+        of_truth truths.Undefined ends_so fine = true_false fine
 
         of_called : (o : Option ℕ) → o ≡ None → (q : Machine.Place (called_machine (Node part cells) (coded_below cells) g o)) → hole ≡ is_done (Machine.step (called_machine (Node part cells) (coded_below cells) g o) q s)
             → Machine.faults (called_machine (Node part cells) (coded_below cells) g o) q s ≡ false → StepsTo part cells around v look s p c row (Machine.writes (called_machine (Node part cells) (coded_below cells) g o) q s (Cell (c ∷ [])))

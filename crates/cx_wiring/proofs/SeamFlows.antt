@@ -27,7 +27,6 @@ use Rattle.cx_control.specs.Apart.{IsApart, of_cell}
 use Rattle.cx_control.specs.Flows.{Values, zero_of, given, side_flow, part_flow, cell_flow, flow, Solves as FlowSolves, Reaches, Undisturbed}
 use Rattle.cx_control.proofs.InstanceLemmas.{OwnerOf, continuous, of_group, owner_of, source_in, go_narrow}
 use Rattle.cx_control.proofs.CellLemmas.{cell_step}
-use Rattle.cx_eval_cycle.proofs.DemandLemmas.{DemandsAlike, EdgeFacts, row_facts}
 use Rattle.cx_control.proofs.LeadsLemmas.{Stands, acting_stands, Inside, leads_inside, apart_assigns, apart_holes}
 use Rattle.cx_control.proofs.PortFlows.{seen_flows}
 use Rattle.cx_net.specs.NetMeaning.{NetState, APort, AHole, TheDone, NetLook, NetAround, is_true, truth_bit, zero_wide}
@@ -260,8 +259,7 @@ module _ (d : PlainDesign) (numbers : Instance → NetState → ℕ → ℕ) (pa
     pub cell_steps : IsAcyclic (Node part cells) act → AcyclicBelow cells → (c : ℕ) (row : Row) (after : CellState) → Reads part s c → cell_at cells c ≡ OfRow row
         → cell_outcome (seen (Node part cells) held act st) c row (st (c ∷ [])) ≡ Next after → row.next (st (c ∷ [])) (given (port_value (Node part cells) around v look) c 0 row.ports) ≡ after
     cell_steps acyclic deeper c row after read at outcome =
-        let r = rules.node.ports.rows c row at in
-        cell_step (seen (Node part cells) held act st) V c row (st (c ∷ [])) (row_lawful d (Node part cells) rules c row at) (subst DemandsAlike r.is (EdgeFacts.demands (row_facts r.primitive)))
+        cell_step (seen (Node part cells) held act st) V c row (st (c ∷ [])) (row_lawful d (Node part cells) rules c row at)
         (λ q b e. cell_seen c q read b (subst (Sees (Node part cells) held act st (ports.Cell c q)) e (seen_found (Node part cells) held act st acyclic deeper (ports.Cell c q))))
         after outcome
 

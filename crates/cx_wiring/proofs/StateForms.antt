@@ -1,26 +1,23 @@
 -- What a state needs for its registered outputs to have values: the form of its row. Every edge keeps it, whatever stands at the ports.
-use Rattle.std.proofs.Common.{◌≡◌, ℕ, ◌+◌, ◌*◌, ◌^◌, ◌≤◌, ◌==◌, Bool, true, false, ◌&&◌, if◌then◌else◌, List, [], ◌∷◌, length, take, drop, Option, Some, None, unwrap_or, slice_get, nat_lt, nat_le, refl, sym, ap, ◌∙◌, arith}
+use Rattle.std.proofs.Common.{◌≡◌, ℕ, ◌+◌, ◌==◌, Bool, true, false, if◌then◌else◌, List, [], length, Option, Some, slice_get, refl, sym, ap, ◌∙◌, arith}
 use Rattle.std.proofs.lemmas.Bool.Decides.{nat_tests}
 use Rattle.std.specs.List.{list_all}
 use Rattle.cx_bits.specs.BitVector.{BitVector}
-use Rattle.cx_bits.specs.Operators.{bit_of, low_bits_of, zero_extension_of, quotient_of, remainder_of}
-use Rattle.cx_prim.specs.declared.names.PrimitiveName.{PrimitiveName}
-use Rattle.cx_prim.specs.declared.names.PrimitiveName.TheVariants.{Const, Wire, Add, Sub, And, Or, Xor, Not, Lsh, Rsh, Lt, Gt, Equal, Neq, Le, Ge, Slt, Sgt, Seq, Sneq, Sle, Sge, Slice, Pad, Mux, Reg, StdMemD1, StdMemD2, StdMemD3, StdMemD4, CombMemD1, CombMemD2, CombMemD3, CombMemD4, SeqMemD1, SeqMemD2, SeqMemD3, SeqMemD4, MultPipe, DivPipe, Timer}
+use Rattle.cx_bits.specs.Operators.{bit_of, quotient_of, remainder_of}
 use Rattle.cx_prim.specs.declared.ports.PortRow.{PortRow}
 use Rattle.cx_prim.specs.declared.ports.Side.{Side}
 use Rattle.cx_prim.specs.declared.ports.Side.TheVariants.{Output, Registered}
-use Rattle.cx_prim.specs.Widths.{is_width}
 use Rattle.cx_prim.specs.CellStates as states
 use Rattle.cx_prim.specs.CellStates.{CellState, StateShape, with_words, words_of}
 use Rattle.cx_prim.specs.Rows.{Inputs, is_output_side, is_on, Row, reset}
-use Rattle.cx_prim.specs.CombinationalRows.{constant_row, unary_row, combinational_row}
+use Rattle.cx_prim.specs.CombinationalRows.{combinational_row}
 use Rattle.cx_prim.specs.CombinationalLaws.{passes_at}
 use Rattle.cx_prim.specs.RegisterRow.{register_row, register_output, register_next}
-use Rattle.cx_prim.specs.MemoryRows.{IsLayout, are_sizes, is_address_width, memory_row, memory_output, memory_read, sequential_memory_row, sequential_output}
+use Rattle.cx_prim.specs.MemoryRows.{IsLayout, memory_row, memory_output, memory_read, sequential_memory_row, sequential_output}
 use Rattle.cx_prim.specs.MemoryLaws.{MemoryOutput, is_read, is_done, memory_outputs}
 use Rattle.cx_prim.specs.PipeRows.{multiplier_row, multiplier_output, left_of, right_of, advanced, holding, divider_row, divider_output, divided, is_last, timer_row, timer_output}
-use Rattle.cx_prim.specs.Table.{PrimitiveRow, at_width, constant_at, slice_at, pad_at, memory_at, timer_at, row_at, no_row, row_of}
-use Rattle.cx_prim.specs.TableLaws.{is_layout_tells}
+use Rattle.cx_prim.specs.Table.{PrimitiveRow, no_row, row_of}
+use Rattle.cx_prim.specs.TableCases.{OfEachKind, of_row}
 use Rattle.cx_wiring.proofs.KnownLemmas.{Known}
 
 abbrev is_unregistered : Side → Bool
@@ -158,87 +155,21 @@ timer_forms l = record { start = refl; next = next; shows = shows }
 no_row_forms : KeepsForm no_row
 no_row_forms = combinational_forms [] 0 _ refl
 
-forms_where : (r : Row) (b : Bool) → (b ≡ true → KeepsForm r) → KeepsForm (unwrap_or (if b then Some r else None) no_row)
-forms_where r true keeps = keeps refl
-forms_where r false keeps = no_row_forms
-
-at_width_forms : (make : ℕ → Row) → ((w : ℕ) → KeepsForm (make w)) → (numbers : List ℕ) → KeepsForm (unwrap_or (at_width make numbers) no_row)
-at_width_forms make each [] = no_row_forms
-at_width_forms make each (w ∷ []) = forms_where (make w) (is_width w) (λ test. each w)
-at_width_forms make each (w ∷ x ∷ rest) = no_row_forms
-
-constant_at_forms : (numbers : List ℕ) → KeepsForm (unwrap_or (constant_at numbers) no_row)
-constant_at_forms [] = no_row_forms
-constant_at_forms (w ∷ []) = no_row_forms
-constant_at_forms (w ∷ v ∷ []) = forms_where (constant_row w v) (is_width w && nat_lt v (2 ^ w)) (λ test. combinational_forms _ _ _ refl)
-constant_at_forms (w ∷ v ∷ x ∷ rest) = no_row_forms
-
-slice_at_forms : (numbers : List ℕ) → KeepsForm (unwrap_or (slice_at numbers) no_row)
-slice_at_forms [] = no_row_forms
-slice_at_forms (w ∷ []) = no_row_forms
-slice_at_forms (w ∷ v ∷ []) = forms_where (unary_row w v (λ a. low_bits_of a v)) ((is_width w && is_width v) && nat_le v w) (λ test. combinational_forms _ _ _ refl)
-slice_at_forms (w ∷ v ∷ x ∷ rest) = no_row_forms
-
-pad_at_forms : (numbers : List ℕ) → KeepsForm (unwrap_or (pad_at numbers) no_row)
-pad_at_forms [] = no_row_forms
-pad_at_forms (w ∷ []) = no_row_forms
-pad_at_forms (w ∷ v ∷ []) = forms_where (unary_row w v (λ a. zero_extension_of a v)) ((is_width w && is_width v) && nat_le w v) (λ test. combinational_forms _ _ _ refl)
-pad_at_forms (w ∷ v ∷ x ∷ rest) = no_row_forms
-
-memory_at_forms : (d : ℕ) → d ≤ 4 → (make : ℕ → List ℕ → List ℕ → Row) → ((w : ℕ) (sizes address_widths : List ℕ) → IsLayout w sizes address_widths → KeepsForm (make w sizes address_widths))
-    → (numbers : List ℕ) → KeepsForm (unwrap_or (memory_at d make numbers) no_row)
-memory_at_forms d few make each [] = no_row_forms
-memory_at_forms d few make each (w ∷ rest) =
-    forms_where (make w (take d rest) (drop d rest)) ((is_width w && (length rest == 2 * d)) && (are_sizes (take d rest) && list_all is_address_width (drop d rest))) (λ test. each w (take d rest) (drop d rest) (is_layout_tells d w rest few test))
-
-timer_at_forms : (numbers : List ℕ) → KeepsForm (unwrap_or (timer_at numbers) no_row)
-timer_at_forms [] = no_row_forms
-timer_at_forms (n ∷ []) = forms_where (timer_row n) (nat_le 1 n && nat_lt n (2 ^ 32)) (λ test. timer_forms n)
-timer_at_forms (n ∷ x ∷ rest) = no_row_forms
-
-row_at_forms : (name : PrimitiveName) (numbers : List ℕ) → KeepsForm (unwrap_or (row_at name numbers) no_row)
-row_at_forms Const numbers = constant_at_forms numbers
-row_at_forms Slice numbers = slice_at_forms numbers
-row_at_forms Pad numbers = pad_at_forms numbers
-row_at_forms Reg numbers = at_width_forms _ register_forms numbers
-row_at_forms StdMemD1 numbers = memory_at_forms 1 (omega arith) _ memory_forms numbers
-row_at_forms StdMemD2 numbers = memory_at_forms 2 (omega arith) _ memory_forms numbers
-row_at_forms StdMemD3 numbers = memory_at_forms 3 (omega arith) _ memory_forms numbers
-row_at_forms StdMemD4 numbers = memory_at_forms 4 (omega arith) _ memory_forms numbers
-row_at_forms CombMemD1 numbers = memory_at_forms 1 (omega arith) _ memory_forms numbers
-row_at_forms CombMemD2 numbers = memory_at_forms 2 (omega arith) _ memory_forms numbers
-row_at_forms CombMemD3 numbers = memory_at_forms 3 (omega arith) _ memory_forms numbers
-row_at_forms CombMemD4 numbers = memory_at_forms 4 (omega arith) _ memory_forms numbers
-row_at_forms SeqMemD1 numbers = memory_at_forms 1 (omega arith) _ sequential_forms numbers
-row_at_forms SeqMemD2 numbers = memory_at_forms 2 (omega arith) _ sequential_forms numbers
-row_at_forms SeqMemD3 numbers = memory_at_forms 3 (omega arith) _ sequential_forms numbers
-row_at_forms SeqMemD4 numbers = memory_at_forms 4 (omega arith) _ sequential_forms numbers
-row_at_forms MultPipe numbers = at_width_forms _ multiplier_forms numbers
-row_at_forms DivPipe numbers = at_width_forms _ divider_forms numbers
-row_at_forms Timer numbers = timer_at_forms numbers
-row_at_forms Wire numbers = at_width_forms _ (λ w. combinational_forms _ _ _ refl) numbers
-row_at_forms Not numbers = at_width_forms _ (λ w. combinational_forms _ _ _ refl) numbers
-row_at_forms Add numbers = at_width_forms _ (λ w. combinational_forms _ _ _ refl) numbers
-row_at_forms Sub numbers = at_width_forms _ (λ w. combinational_forms _ _ _ refl) numbers
-row_at_forms And numbers = at_width_forms _ (λ w. combinational_forms _ _ _ refl) numbers
-row_at_forms Or numbers = at_width_forms _ (λ w. combinational_forms _ _ _ refl) numbers
-row_at_forms Xor numbers = at_width_forms _ (λ w. combinational_forms _ _ _ refl) numbers
-row_at_forms Lsh numbers = at_width_forms _ (λ w. combinational_forms _ _ _ refl) numbers
-row_at_forms Rsh numbers = at_width_forms _ (λ w. combinational_forms _ _ _ refl) numbers
-row_at_forms Lt numbers = at_width_forms _ (λ w. combinational_forms _ _ _ refl) numbers
-row_at_forms Gt numbers = at_width_forms _ (λ w. combinational_forms _ _ _ refl) numbers
-row_at_forms Equal numbers = at_width_forms _ (λ w. combinational_forms _ _ _ refl) numbers
-row_at_forms Neq numbers = at_width_forms _ (λ w. combinational_forms _ _ _ refl) numbers
-row_at_forms Le numbers = at_width_forms _ (λ w. combinational_forms _ _ _ refl) numbers
-row_at_forms Ge numbers = at_width_forms _ (λ w. combinational_forms _ _ _ refl) numbers
-row_at_forms Slt numbers = at_width_forms _ (λ w. combinational_forms _ _ _ refl) numbers
-row_at_forms Sgt numbers = at_width_forms _ (λ w. combinational_forms _ _ _ refl) numbers
-row_at_forms Sle numbers = at_width_forms _ (λ w. combinational_forms _ _ _ refl) numbers
-row_at_forms Sge numbers = at_width_forms _ (λ w. combinational_forms _ _ _ refl) numbers
-row_at_forms Seq numbers = at_width_forms _ (λ w. combinational_forms _ _ _ refl) numbers
-row_at_forms Sneq numbers = at_width_forms _ (λ w. combinational_forms _ _ _ refl) numbers
-row_at_forms Mux numbers = at_width_forms _ (λ w. combinational_forms _ _ _ refl) numbers
+each_kind_keeps_form : OfEachKind KeepsForm
+each_kind_keeps_form = record {
+  none = no_row_forms;
+  constant = λ w v fits. combinational_forms _ _ _ refl;
+  unary = λ operator w v takes. combinational_forms _ _ _ refl;
+  binary = λ operator w ok. combinational_forms _ _ _ refl;
+  mux = λ w ok. combinational_forms _ _ _ refl;
+  register = λ w ok. register_forms w;
+  memory = memory_forms;
+  sequential = sequential_forms;
+  multiplier = λ w ok. multiplier_forms w;
+  divider = λ w ok. divider_forms w;
+  timer = λ n some most. timer_forms n;
+}
 
 -- every row of the table keeps the form of its states
 pub row_of_forms : (p : PrimitiveRow) → KeepsForm (row_of p)
-row_of_forms p = row_at_forms p.name p.numbers
+row_of_forms p = of_row KeepsForm each_kind_keeps_form p

@@ -1,11 +1,11 @@
 use Rattle.std.proofs.Common.{◌<◌, length, sym, ap, ◌∙◌, subst, arith, Some}
 use Rattle.cx_prim.specs.Table.{row_of}
+use Rattle.cx_prim.specs.TableLaws.{row_of_lawful}
 use Rattle.cx_meaning.specs.Cycles.{enables, looks_at}
 use Rattle.cx_eval_drives.specs.Gathers.{gathered, ports_seen, wanted_at}
 use Rattle.cx_eval_drives.proofs.GatherLemmas.{given_fits}
 use Rattle.cx_eval_cycle.specs.declared.looking.CellStop.{CellStop}
 use Rattle.cx_eval_cycle.specs.Stops.{stop_in}
-use Rattle.cx_eval_cycle.proofs.DemandLemmas.{row_facts}
 use Rattle.cx_eval_cycle.proofs.LookLemmas.{marked_gather, lacks_enabling, lacks_demanded, out_of_range_stops, in_range_goes, lacks_below}
 use Rattle.cx_eval.specs.Looked.{seen_look}
 use Rattle.cx_eval.proofs.KnownLemmas.{more_same, more_yet}
@@ -150,7 +150,7 @@ stop_at-requires-in-Some-gather_demanded c =
 pub overflow_cast-result : goal.overflow_cast-result
 overflow_cast-result c =
     let port = c.in-Some-out_of_range.port in
-    let below = (row_facts c.args.primitive.now).ranges c.gather_demanded-2.new.inputs port (sym c.out_of_range.ensures.value ∙ c.in-Some-out_of_range.is) in
+    let below = (row_of_lawful c.args.primitive.now).ranges c.gather_demanded-2.new.inputs port (sym c.out_of_range.ensures.value ∙ c.in-Some-out_of_range.is) in
     let sized = c.requires.sized in
     let few = c.requires.few in
     omega (arith, below, sized, few)

@@ -1,10 +1,10 @@
 use Rattle.std.proofs.Common.{length, sym, ap, ◌∙◌, arith}
 use Rattle.cx_prim.specs.Table.{row_of}
+use Rattle.cx_prim.specs.TableLaws.{row_of_lawful}
 use Rattle.cx_meaning.specs.Cycles.{Stops, enables, looks_at}
 use Rattle.cx_eval_drives.specs.Gathers.{gathered, ports_seen, wanted_at}
 use Rattle.cx_eval_drives.proofs.GatherLemmas.{given_fits}
 use Rattle.cx_eval_cycle.specs.declared.looking.CellStop.{CellStop}
-use Rattle.cx_eval_cycle.proofs.DemandLemmas.{row_facts}
 use Rattle.cx_eval_cycle.proofs.LookLemmas.{marked_gather, lacks_enabling, lacks_demanded, out_of_range_stops, in_range_goes, given_looked, lacks_below}
 use Rattle.cx_eval_cycle.proofs.looking.look_at.Goals as goal
 
@@ -101,7 +101,7 @@ returns-in-None-clause-looked_at g c =
     (c.mark_looked.ensures.sized ∙ c.mark_enabling.ensures.sized ∙ c.requires.wanted) fits.count c.gather-2.ensures.value in
     let ys = c.gather-2.new.inputs in
     let given_all = demanded ∙ ap (λ o. gathered o ys) c.in_default-gather.is in
-    given_looked look row state (λ inputs others n agree. (row_facts c.args.primitive.now).demands state inputs others n agree) xs ys given given_all
+    given_looked look row state (λ inputs others n agree. (row_of_lawful c.args.primitive.now).by_enabling state inputs others n agree) xs ys given given_all
 
 pub stop_at-requires : goal.stop_at-requires
 stop_at-requires g c =
@@ -131,7 +131,7 @@ stop_at-requires-in-Some-gather g c =
 pub overflow_cast-result : goal.overflow_cast-result
 overflow_cast-result g c =
     let port = c.in-Some-out_of_range.port in
-    let below = (row_facts c.args.primitive.now).ranges c.gather-2.new.inputs port (sym c.out_of_range.ensures.value ∙ c.in-Some-out_of_range.is) in
+    let below = (row_of_lawful c.args.primitive.now).ranges c.gather-2.new.inputs port (sym c.out_of_range.ensures.value ∙ c.in-Some-out_of_range.is) in
     let sized = c.requires.sized in
     let few = c.requires.few in
     omega (arith, below, sized, few)

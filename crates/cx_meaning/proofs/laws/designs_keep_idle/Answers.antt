@@ -1,5 +1,5 @@
 use Rattle.std.proofs.Common.{length}
-use Rattle.cx_meaning.proofs.TableStarts.{kept_within}
+use Rattle.cx_meaning.proofs.IdleLemmas.{kept_within}
 use Rattle.cx_meaning.proofs.laws.designs_keep_idle.Goals as goal
 
 pub returns : goal.returns
