@@ -9,98 +9,22 @@ use Rattle.cx_text.specs.declared.diagnostics.Diagnostic.{Diagnostic}
 use Rattle.cx_ast.specs.PlainTree.{PlainTree}
 use Rattle.cx_meaning.specs.Designs.{PlainDesign}
 use Rattle.cx_rules.specs.Spots.{Spot}
-use Rattle.cx_rules.specs.Accepted.{Breaks, number_of, part_key, key_of, comes_before, FirstBreak, IsAccepted}
+use Rattle.cx_rules.specs.Accepted.{Breaks, FirstBreak, IsAccepted}
+use Rattle.cx_rules.proofs.OneBreak.{one_break, one_break_name}
 use Rattle.cx_numbering.specs.DesignOf.{design_of}
 use Rattle.cx_numbering.specs.NameRules.{names_break}
 use Rattle.cx_check.specs.Unbuilt.{first_unbuilt}
 use Rattle.cx_design.specs.declared.refusals.Refusal.{Refusal}
 use Rattle.cx_design.specs.declared.refusals.Refusal.TheVariants as refusals
-use Rattle.cx_check.specs.Verdicts.{IsRefusal}
+use Rattle.cx_check.specs.Verdicts.{IsRefusal, IsSame, TellsAs}
 use Rattle.cx_names.specs.Refused.{IfRule}
-use Rattle.cx_check.specs.Acceptance.{IsAcceptedTree, left_out, TreeBreak, IsTreeRefusal, IsLeftOut, TellsAs}
+use Rattle.cx_check.specs.Acceptance.{IsAcceptedTree, left_out, TreeBreak, IsTreeRefusal, IsLeftOut}
 
--- an order in which neither of two comes before the other
-same_first : (x y : ℕ) (b c : Bool) → nat_lt x y || (nat_eq x y && b) ≡ false → nat_lt y x || (nat_eq y x && c) ≡ false → x ≡ y
-same_first x y b c h k = grind (arith, tests)
-
-rest_first : (x y : ℕ) (b : Bool) → nat_lt x y || (nat_eq x y && b) ≡ false → x ≡ y → b ≡ false
-rest_first x y b h e = grind (arith, tests)
-
--- the rule of a number
-abbrev rule_among : List Rule → ℕ → Rule
-rule_among [] n = rules.TooLarge
-rule_among (r ∷ rs) n = if nat_eq n (number_of r) then r else rule_among rs n
-
-abbrev rule_at : ℕ → Rule
-rule_at = rule_among (rules.BadByte ∷ rules.OpenComment ∷ rules.OpenString ∷ rules.BadLiteral ∷ rules.Unexpected ∷ rules.TooDeep ∷ rules.Duplicate ∷ rules.UnknownName ∷ rules.UnknownPrimitive ∷ rules.BadParameters ∷ rules.Recursive ∷ rules.NoMain ∷ rules.LeftOut ∷ rules.Width ∷ rules.GuardWidth ∷ rules.Literal ∷ rules.NotATarget ∷ rules.NotASource ∷ rules.NoDone ∷ rules.DoneNotState ∷ rules.AlwaysEnable ∷ rules.CombEnable ∷ rules.StaticGuard ∷ rules.StaticShape ∷ rules.CallShape ∷ rules.OutputNotState ∷ rules.CombCycle ∷ rules.Race ∷ rules.Limit ∷ rules.TooLarge ∷ [])
-
-rule_at_number : (r : Rule) → rule_at (number_of r) ≡ r
-rule_at_number rules.BadByte = refl
-rule_at_number rules.OpenComment = refl
-rule_at_number rules.OpenString = refl
-rule_at_number rules.BadLiteral = refl
-rule_at_number rules.Unexpected = refl
-rule_at_number rules.TooDeep = refl
-rule_at_number rules.Duplicate = refl
-rule_at_number rules.UnknownName = refl
-rule_at_number rules.UnknownPrimitive = refl
-rule_at_number rules.BadParameters = refl
-rule_at_number rules.Recursive = refl
-rule_at_number rules.NoMain = refl
-rule_at_number rules.LeftOut = refl
-rule_at_number rules.Width = refl
-rule_at_number rules.GuardWidth = refl
-rule_at_number rules.Literal = refl
-rule_at_number rules.NotATarget = refl
-rule_at_number rules.NotASource = refl
-rule_at_number rules.NoDone = refl
-rule_at_number rules.DoneNotState = refl
-rule_at_number rules.AlwaysEnable = refl
-rule_at_number rules.CombEnable = refl
-rule_at_number rules.StaticGuard = refl
-rule_at_number rules.StaticShape = refl
-rule_at_number rules.CallShape = refl
-rule_at_number rules.OutputNotState = refl
-rule_at_number rules.CombCycle = refl
-rule_at_number rules.Race = refl
-rule_at_number rules.Limit = refl
-rule_at_number rules.TooLarge = refl
-
--- two breaks of which neither comes before the other are of one rule at one place
-same_break : (told other : Diagnostic) (spot beside : Spot) → comes_before (key_of told.rule spot told.place) (key_of other.rule beside other.place) ≡ false
-    → comes_before (key_of other.rule beside other.place) (key_of told.rule spot told.place) ≡ false → (told.rule ≡ other.rule) × (told.place ≡ other.place)
-same_break told other spot beside h k =
-    let line_h : comes_before (told.place.column ∷ number_of told.rule ∷ spot.component ∷ part_key spot.part) (other.place.column ∷ number_of other.rule ∷ beside.component ∷ part_key beside.part) ≡ false =
-    rest_first told.place.line other.place.line _ h line in
-    let line_k : comes_before (other.place.column ∷ number_of other.rule ∷ beside.component ∷ part_key beside.part) (told.place.column ∷ number_of told.rule ∷ spot.component ∷ part_key spot.part) ≡ false =
-    rest_first other.place.line told.place.line _ k (sym line) in
-    let column : told.place.column ≡ other.place.column = same_first told.place.column other.place.column _ _ line_h line_k in
-    let column_h : comes_before (number_of told.rule ∷ spot.component ∷ part_key spot.part) (number_of other.rule ∷ beside.component ∷ part_key beside.part) ≡ false =
-    rest_first told.place.column other.place.column _ line_h column in
-    let column_k : comes_before (number_of other.rule ∷ beside.component ∷ part_key beside.part) (number_of told.rule ∷ spot.component ∷ part_key spot.part) ≡ false =
-    rest_first other.place.column told.place.column _ line_k (sym column) in
-    let number : number_of told.rule ≡ number_of other.rule = same_first (number_of told.rule) (number_of other.rule) _ _ column_h column_k in (
-      sym (rule_at_number told.rule) ∙ ap rule_at number ∙ rule_at_number other.rule,
-      ap (λ n. record { line = n; column = told.place.column }) line ∙ ap (λ n. record { line = other.place.line; column = n }) column,
-    )
-  where
-    line : told.place.line ≡ other.place.line
-    line = same_first told.place.line other.place.line _ _ h k
-
--- THE FIRST BREAK of a design is one rule at one place
-one_stage : (d : PlainDesign) (a b : Diagnostic) (h : FirstBreak d a) (k : FirstBreak d b) → h.stage ≡ k.stage
-one_stage d a b h k =
-    ⊎_elim (λ less. absurd (k.earlier h.stage less a.rule h.first.spot a.place a.name h.first.in_stage h.first.breaks))
-    (λ least. ⊎_elim (λ less. absurd (h.earlier k.stage less b.rule k.first.spot b.place b.name k.first.in_stage k.first.breaks))
-    (λ most. omega (arith, least, most)) (cases_lt k.stage h.stage))
-    (cases_lt h.stage k.stage)
-
-pub one_first : (d : PlainDesign) (a b : Diagnostic) → FirstBreak d a → FirstBreak d b → (a.rule ≡ b.rule) × (a.place ≡ b.place)
+-- THE FIRST BREAK of a design is one
+one_first : (d : PlainDesign) (a b : Diagnostic) → FirstBreak d a → FirstBreak d b → IsSame d a b
 one_first d a b h k =
-    let same : h.stage ≡ k.stage = one_stage d a b h k in
-    same_break a b h.first.spot k.first.spot
-    (k.first.first a.rule h.first.spot a.place a.name (h.first.in_stage ∙ same) h.first.breaks)
-    (h.first.first b.rule k.first.spot b.place b.name (k.first.in_stage ∙ sym same) k.first.breaks)
+    let one = one_break d a b h k in
+    record { rule = one.0; place = one.1; name = λ placed. one_break_name d a b placed h k }
 
 -- an accepted design has no first break
 early : (d : PlainDesign) (rule : Rule) (spot : Spot) (place : Place) (name : List ℕ) → IsAccepted d → Breaks d rule spot place name → ⊥
@@ -135,8 +59,13 @@ early d rules.Race spot place name h b = h.no_races rules.Race spot place name r
 early d rules.Limit spot place name h b = h.limits rules.Limit spot place name refl b
 early d rules.TooLarge spot place name h b = b
 
-none_first : (d : PlainDesign) (told : Diagnostic) → IsAccepted d → FirstBreak d told → ⊥
+pub none_first : (d : PlainDesign) (told : Diagnostic) → IsAccepted d → FirstBreak d told → ⊥
 none_first d told h k = early d told.rule k.first.spot told.place told.name h k.first.breaks
+
+-- a refusal of a design tells each first break of it
+pub first_told : (d : PlainDesign) (told : Diagnostic) (refusal : Refusal) → FirstBreak d told → IsRefusal d refusal → TellsAs d told refusal
+first_told d told (refusals.Rule own) b h = one_first d own told h b
+first_told d told refusals.Memory b h = tt
 
 -- A TREE
 not_both : {A : Type 0} (o : Option A) (x : A) → o ≡ None → o ≡ Some x → ⊥
@@ -154,25 +83,22 @@ some_or y (Some x) = x
 one_value : {A : Type 0} (o : Option A) (x y : A) → o ≡ Some x → o ≡ Some y → x ≡ y
 one_value o x y e f = ap (some_or x) (sym e ∙ f)
 
-abbrev Same : Diagnostic → Diagnostic → Type 0
-Same a b = (a.rule ≡ b.rule) × (a.place ≡ b.place)
+as_one : (d : PlainDesign) (a b : Diagnostic) → a ≡ b → IsSame d a b
+as_one d a b e = record { rule = ap (λ t. t.rule) e; place = ap (λ t. t.place) e; name = λ placed. ap (λ t. t.name) e }
 
-as_one : (a b : Diagnostic) → a ≡ b → Same a b
-as_one a b e = (ap (λ d. d.rule) e, ap (λ d. d.place) e)
-
-pub refused_once : (tree : PlainTree) (a b : Diagnostic) → TreeBreak tree a → TreeBreak tree b → Same a b
-refused_once tree a b (inl h) (inl k) = as_one a b (h.2 ∙ ap left_out (one_value (first_unbuilt tree) h.0 k.0 h.1 k.1) ∙ sym k.2)
+pub refused_once : (tree : PlainTree) (a b : Diagnostic) → TreeBreak tree a → TreeBreak tree b → IsSame (design_of tree) a b
+refused_once tree a b (inl h) (inl k) = as_one (design_of tree) a b (h.2 ∙ ap left_out (one_value (first_unbuilt tree) h.0 k.0 h.1 k.1) ∙ sym k.2)
 refused_once tree a b (inl h) (inr (inl k)) = absurd (not_both (first_unbuilt tree) h.0 k.0 h.1)
 refused_once tree a b (inl h) (inr (inr k)) = absurd (not_both (first_unbuilt tree) h.0 k.0 h.1)
 refused_once tree a b (inr (inl h)) (inl k) = absurd (not_both (first_unbuilt tree) k.0 h.0 k.1)
-refused_once tree a b (inr (inl h)) (inr (inl k)) = as_one a b (one_value (names_break tree) a b h.1 k.1)
+refused_once tree a b (inr (inl h)) (inr (inl k)) = as_one (design_of tree) a b (one_value (names_break tree) a b h.1 k.1)
 refused_once tree a b (inr (inl h)) (inr (inr k)) = absurd (not_both (names_break tree) a k.1 h.1)
 refused_once tree a b (inr (inr h)) (inl k) = absurd (not_both (first_unbuilt tree) k.0 h.0 k.1)
 refused_once tree a b (inr (inr h)) (inr (inl k)) = absurd (not_both (names_break tree) b h.1 k.1)
 refused_once tree a b (inr (inr h)) (inr (inr k)) = one_first (design_of tree) a b h.2 k.2
 
 -- a refusal of a tree tells as each that is true of it
-pub tells_as : (tree : PlainTree) (told : Diagnostic) (refusal : Refusal) → TreeBreak tree told → IsTreeRefusal tree refusal → TellsAs told refusal
+pub tells_as : (tree : PlainTree) (told : Diagnostic) (refusal : Refusal) → TreeBreak tree told → IsTreeRefusal tree refusal → TellsAs (design_of tree) told refusal
 tells_as tree told (refusals.Rule own) b h = refused_once tree own told h b
 tells_as tree told refusals.Memory b h = tt
 
@@ -202,6 +128,6 @@ refused_unbuilt tree place (refusals.Rule told) at h = inl (place, at, h)
 refused_unbuilt tree place refusals.Memory at h = tt
 
 pub all_told : {X : Type 0} (tree : PlainTree) (r : Result X Refusal) → IfOk r (λ _. IsAcceptedTree tree) → IfErr r (IsTreeRefusal tree) → (told : Diagnostic) → TreeBreak tree told
-    → MatchResult r (λ _. ⊥) (TellsAs told)
+    → MatchResult r (λ _. ⊥) (TellsAs (design_of tree) told)
 all_told tree (Ok x) accepted refused told b = accepted_once tree told accepted b
 all_told tree (Err refusal) accepted refused told b = tells_as tree told refusal b refused

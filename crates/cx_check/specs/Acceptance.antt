@@ -36,8 +36,3 @@ IsTreeRefusal tree Memory = Unit {0}
 abbrev pub IsLeftOut : Place → Refusal → Type 0
 IsLeftOut place (Rule told) = told ≡ left_out place
 IsLeftOut place Memory = Unit {0}
-
--- the same rule is told at the same place, unless memory is wanting
-abbrev pub TellsAs : Diagnostic → Refusal → Type 0
-TellsAs wanted (Rule told) = (told.rule ≡ wanted.rule) × (told.place ≡ wanted.place)
-TellsAs wanted Memory = Unit {0}

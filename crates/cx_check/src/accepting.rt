@@ -8,8 +8,8 @@ ghost use Rattle.cx_design.specs.PlainDesigns.{plain_design};
 ghost use Rattle.cx_names.specs.Targets.{HasTargets};
 ghost use Rattle.cx_numbering.specs.DesignOf.{design_of};
 ghost use Rattle.cx_check.specs.Unbuilt as unbuilt;
-ghost use Rattle.cx_check.specs.Verdicts.{IsRefusal};
-ghost use Rattle.cx_check.specs.Acceptance.{IsAcceptedTree, IsLeftOut, IsTreeRefusal, TellsAs, TreeBreak};
+ghost use Rattle.cx_check.specs.Verdicts.{IsRefusal, TellsAs};
+ghost use Rattle.cx_check.specs.Acceptance.{IsAcceptedTree, IsLeftOut, IsTreeRefusal, TreeBreak};
 
 use crate::first_unbuilt;
 use cx_ast::Tree;
@@ -24,8 +24,8 @@ pub fn accept(alloc: Global, tree: &Tree) -> Result<Checked, Refusal>
     ensures accepted { IfOk result (λ checked. IsAcceptedTree (plain_tree tree.now)) }
     ensures value { IfOk result (λ checked. plain_design checked ≡ design_of (plain_tree tree.now)) }
     ensures rule { IfErr result (IsTreeRefusal (plain_tree tree.now)) }
-    // A tree that breaks a rule is refused, and by that rule at that place unless memory is wanting.
-    ensures all_refusals { (told : DiagnosticValue) → TreeBreak (plain_tree tree.now) told → MatchResult result (λ _. ⊥) (TellsAs told) }
+    // A tree that breaks a rule is refused, by that rule at that place and with its name, unless memory is wanting.
+    ensures all_refusals { (told : DiagnosticValue) → TreeBreak (plain_tree tree.now) told → MatchResult result (λ _. ⊥) (TellsAs (design_of (plain_tree tree.now)) told) }
 {
     match first_unbuilt(tree) {
         Some(place) => Err(left_out(alloc, place)),

@@ -1,9 +1,10 @@
 //! The checks of a design.
 
-ghost use Rattle.std.specs.Prelude.{◌≡◌, IfOk, IfErr, OnOk};
-ghost use Rattle.cx_rules.specs.Accepted.{IsAccepted};
+ghost use Rattle.std.specs.Prelude.{◌≡◌, IfOk, IfErr, OnOk, MatchResult};
+ghost use Rattle.cx_text.specs.declared.diagnostics.Diagnostic.{Diagnostic};
+ghost use Rattle.cx_rules.specs.Accepted.{FirstBreak, IsAccepted};
 ghost use Rattle.cx_design.specs.PlainDesigns.{plain_design};
-ghost use Rattle.cx_check.specs.Verdicts.{IsRefusal};
+ghost use Rattle.cx_check.specs.Verdicts.{IsRefusal, TellsAs};
 
 use cx_design::{Checked, Design, Refusal};
 use std::alloc::Global;
@@ -22,6 +23,8 @@ pub fn check(alloc: Global, design: Design) -> Result<Checked, Refused>
     ensures value { IfOk result (λ checked. plain_design checked ≡ plain_design design) }
     ensures rule { IfErr result (λ refused. IsRefusal (plain_design design) refused.refusal) }
     ensures back { IfErr result (λ refused. plain_design refused.design ≡ plain_design design) }
+    // A design that breaks a rule is refused, by its first break and with its name, unless memory is wanting.
+    ensures all_refusals { (told : Diagnostic) → FirstBreak (plain_design design) told → MatchResult result (λ _. ⊥) (λ refused. TellsAs (plain_design design) told refused.refusal) }
 {
     match stages(alloc, &design) {
         Ok(()) => Ok(Checked::new(design)),

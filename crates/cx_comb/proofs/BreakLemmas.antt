@@ -8,7 +8,7 @@ use Rattle.cx_text.specs.declared.rules.Rule.TheVariants as rule
 use Rattle.cx_meaning.specs.Designs.{PlainComponent, PlainDesign, PlainGroup, component_at, group_at}
 use Rattle.cx_meaning.specs.Sights.{In}
 use Rattle.cx_rules.specs.Ports.{component_of}
-use Rattle.cx_rules.specs.Spots.{Part, AGroup, Whole, Spot, OnGroup}
+use Rattle.cx_rules.specs.Spots.{Part, Itself, AGroup, Spot, OnGroup}
 use Rattle.cx_rules.specs.RaceRule.{BreaksCombCycle, GroupBreaksCombCycle}
 use Rattle.cx_rules.specs.Accepted.{Breaks, stage_of, key_of, comes_before}
 use Rattle.cx_design_parts.specs.Breaks.{Broken, key, earlier, first_of}
@@ -110,10 +110,10 @@ module _ (d : PlainDesign) (k : ℕ) (whole : Bool) (flags : List Bool) (within 
 
 -- what is told, where it is found
 pub whole_told : (d : PlainDesign) (k : ℕ) (part : PlainComponent) (found : Bool) (first next : Option Broken) → found ≡ true → part ≡ component_at d k
-    → next ≡ earlier first (record { rule = rule.CombCycle; spot = record { component = k; part = Whole 0 }; place = part.place; name = part.name }) → next ≡ first_of first (told_if found (whole_break d k))
+    → next ≡ earlier first (record { rule = rule.CombCycle; spot = record { component = k; part = Itself 0 }; place = part.place; name = part.name }) → next ≡ first_of first (told_if found (whole_break d k))
 whole_told d k part found first next e is step =
     step
-    ∙ ap (λ (p : PlainComponent). earlier first (record { rule = rule.CombCycle; spot = record { component = k; part = Whole 0 }; place = p.place; name = p.name })) is
+    ∙ ap (λ (p : PlainComponent). earlier first (record { rule = rule.CombCycle; spot = record { component = k; part = Itself 0 }; place = p.place; name = p.name })) is
     ∙ ap (λ b. first_of first (told_if b (whole_break d k))) (sym e)
 
 pub group_told : (d : PlainDesign) (k g : ℕ) (x : PlainGroup) (found : Bool) (first next : Option Broken) → found ≡ true → x ≡ group_at (component_at d k) g

@@ -4,7 +4,7 @@ use Rattle.cx_text.specs.declared.places.Place.{Place}
 use Rattle.cx_text.specs.declared.rules.Rule.{Rule}
 use Rattle.cx_text.specs.declared.rules.Rule.TheVariants.{CombCycle}
 use Rattle.cx_meaning.specs.Designs.{PlainDesign, component_at, group_at}
-use Rattle.cx_rules.specs.Spots.{AGroup, Whole, Spot, OnGroup}
+use Rattle.cx_rules.specs.Spots.{Itself, AGroup, Spot, OnGroup}
 use Rattle.cx_rules.specs.RaceRule.{BreaksCombCycle, GroupBreaksCombCycle}
 use Rattle.cx_design_parts.specs.Breaks.{Broken}
 use Rattle.cx_design_parts.specs.Numbered.{numbered}
@@ -14,7 +14,7 @@ told_if found b = if found then b ∷ [] else []
 
 -- of component k, and of a group of it
 abbrev pub whole_break : PlainDesign → ℕ → Broken
-whole_break d k = record { rule = CombCycle; spot = record { component = k; part = Whole 0 }; place = (component_at d k).place; name = (component_at d k).name }
+whole_break d k = record { rule = CombCycle; spot = record { component = k; part = Itself 0 }; place = (component_at d k).place; name = (component_at d k).name }
 
 abbrev pub group_break : PlainDesign → ℕ → ℕ → Broken
 group_break d k g = record { rule = CombCycle; spot = record { component = k; part = AGroup g }; place = (group_at (component_at d k) g).place; name = (group_at (component_at d k) g).name }

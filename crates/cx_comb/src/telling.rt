@@ -49,7 +49,7 @@ fn add_whole(
     let part = component(design, number);
     let spot = Spot {
         component: number,
-        part: Part::Whole(0),
+        part: Part::Itself(0),
     };
     add_break(alloc, first, spot, part.place, &part.name)?;
     Ok(())

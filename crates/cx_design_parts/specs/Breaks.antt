@@ -17,10 +17,10 @@ pub record Broken : Type 0 where
   pub name : List ℕ
 
 abbrev pub plain_part : Part → spots.Part
+plain_part (parts.Itself n) = spots.Itself n
 plain_part (parts.Assign n) = spots.AnAssign n
 plain_part (parts.Statement n) = spots.AStatement n
 plain_part (parts.Group n) = spots.AGroup n
-plain_part (parts.Whole n) = spots.Whole n
 
 abbrev pub plain_spot : Spot → spots.Spot
 plain_spot s = record { component = s.component; part = plain_part s.part }

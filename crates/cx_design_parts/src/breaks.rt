@@ -12,13 +12,13 @@ use cx_text::{Diagnostic, Name, Place, Rule};
 use std::marker::Model;
 
 /// A part of a component, by its number in the component's list of its kind: an assignment in source order, a statement in
-/// pre-order, a group; or the component, with the number of a word of the rule.
+/// pre-order, a group; or the component itself, with the number of a word of the rule.
 #[derive(Clone, Copy, Debug, PartialEq, Eq)]
 pub enum Part {
+    Itself(usize),
     Assign(usize),
     Statement(usize),
     Group(usize),
-    Whole(usize),
 }
 
 /// A part of a component of a design, both by their numbers.

@@ -27,10 +27,10 @@ fn part_key(part: Part) -> [u64; 2]
     ensures value { result ≡ part_key (plain_part part) }
 {
     match part {
-        Part::Assign(number) => [0, number as u64],
-        Part::Statement(number) => [1, number as u64],
-        Part::Group(number) => [2, number as u64],
-        Part::Whole(word) => [3, word as u64],
+        Part::Itself(word) => [0, word as u64],
+        Part::Assign(number) => [1, number as u64],
+        Part::Statement(number) => [2, number as u64],
+        Part::Group(number) => [3, number as u64],
     }
 }
 

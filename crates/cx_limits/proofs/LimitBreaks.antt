@@ -18,7 +18,7 @@ use Rattle.cx_rules.specs.LimitRule as rule
 use Rattle.cx_rules.specs.LimitRule.{OnCells, OnGroups, OnRepeat, OnOccurrences, OnLatency, OnInstances, OnDepth, OnWords, OnWeight, order_of, word_of, statement_limit, BreaksStatement, BreaksPart, BreaksTree}
 use Rattle.cx_rules.specs.Ports.{component_of}
 use Rattle.cx_rules.specs.Sizes.{weight_of, instances_below, depth_below, words_below}
-use Rattle.cx_rules.specs.Spots.{Part, AStatement, Whole, Spot, OnStatement}
+use Rattle.cx_rules.specs.Spots.{Part, Itself, AStatement, Whole, Spot, OnStatement}
 use Rattle.cx_limits.specs.Capped.{capped}
 use Rattle.cx_limits.specs.declared.found.Limited.{Limited}
 use Rattle.cx_limits.specs.declared.found.Limited.TheVariants as limited
@@ -38,24 +38,37 @@ abbrev statement_tests : PlainComponent → ℕ → ℕ → List Visited → Lis
 statement_tests part k n [] = []
 statement_tests part k n (v ∷ vs) = at_statement part k n v ∷ statement_tests part k (suc n) vs
 
-abbrev at_whole : ℕ → Place → rule.Limited → ℕ → ℕ → Test
-at_whole k place l limit count = record { spot = record { component = k; part = Whole (order_of l) }; place = place; limited = if_over (told l) limit count }
+abbrev at_word : (ℕ → Part) → ℕ → Place → rule.Limited → ℕ → ℕ → Test
+at_word kind k place l limit count = record { spot = record { component = k; part = kind (order_of l) }; place = place; limited = if_over (told l) limit count }
+
+abbrev own_tests : ℕ → PlainComponent → List Test
+own_tests k part = at_word Itself k part.place OnCells CELLS (length part.cells) ∷ at_word Itself k part.place OnGroups GROUPS (length part.groups) ∷ []
 
 abbrev tree_tests : LimitTally → ℕ → Place → List Test
 tree_tests tally k place =
-    at_whole k place OnInstances INSTANCES tally.instances ∷ at_whole k place OnDepth INSTANCE_DEPTH tally.depth
-    ∷ at_whole k place OnWords MEMORY_WORDS tally.words ∷ at_whole k place OnWeight WEIGHT tally.weight ∷ []
+    at_word Whole k place OnInstances INSTANCES tally.instances ∷ at_word Whole k place OnDepth INSTANCE_DEPTH tally.depth
+    ∷ at_word Whole k place OnWords MEMORY_WORDS tally.words ∷ at_word Whole k place OnWeight WEIGHT tally.weight ∷ []
 
 abbrev main_tests : Bool → LimitTally → ℕ → Place → List Test
 main_tests true tally k place = tree_tests tally k place
 main_tests false tally k place = []
 
-abbrev whole_tests : Bool → LimitTally → ℕ → PlainComponent → List Test
-whole_tests is_main tally k part =
-    at_whole k part.place OnCells CELLS (length part.cells) ∷ at_whole k part.place OnGroups GROUPS (length part.groups) ∷ main_tests is_main tally k part.place
+-- those below the component itself
+abbrev lower_tests : Bool → LimitTally → ℕ → PlainComponent → List Test
+lower_tests is_main tally k part = statement_tests part k 0 (statements_in part) ++ main_tests is_main tally k part.place
 
 abbrev part_tests : ℕ → LimitTally → ℕ → PlainComponent → List Test
-part_tests main tally k part = statement_tests part k 0 (statements_in part) ++ whole_tests (nat_eq k main) tally k part
+part_tests main tally k part = own_tests k part ++ lower_tests (nat_eq k main) tally k part
+
+-- a test of a component is of one of the three
+of_three : (is_main : Bool) (tally : LimitTally) (k : ℕ) (part : PlainComponent) (t : Test) → In (own_tests k part ++ lower_tests is_main tally k part) t
+    → In (own_tests k part) t ⊎ In (statement_tests part k 0 (statements_in part)) t ⊎ In (main_tests is_main tally k part.place) t
+of_three is_main tally k part t i = either (in_split (own_tests k part) (lower_tests is_main tally k part) t i)
+  where
+    either : In (own_tests k part) t ⊎ In (lower_tests is_main tally k part) t
+        → In (own_tests k part) t ⊎ In (statement_tests part k 0 (statements_in part)) t ⊎ In (main_tests is_main tally k part.place) t
+    either (inl j) = inl j
+    either (inr j) = inr (in_split (statement_tests part k 0 (statements_in part)) (main_tests is_main tally k part.place) t j)
 
 abbrev tests_from : ℕ → LimitTally → ℕ → List PlainComponent → List Test
 tests_from main tally k [] = []
@@ -70,17 +83,19 @@ past_statement_tests : (part : PlainComponent) (k n : ℕ) (best : Option FoundB
 past_statement_tests part k n best [] = refl
 past_statement_tests part k n best (v ∷ vs) = past_statement_tests part k (suc n) (noted best v.place (option_map told (statement_limit part v))) vs
 
-past_whole : (is_main : Bool) (tally : LimitTally) (k : ℕ) (part : PlainComponent) (best : Option FoundBreak)
-    → past_tests (past_statements part best (statements_in part)) (whole_tests is_main tally k part) ≡ (if is_main then past_tree (past_part best part) part.place tally else past_part best part)
-past_whole true tally k part best = refl
-past_whole false tally k part best = refl
+past_main : (is_main : Bool) (tally : LimitTally) (k : ℕ) (place : Place) (best : Option FoundBreak) → past_tests best (main_tests is_main tally k place) ≡ (if is_main then past_tree best place tally else best)
+past_main true tally k place best = refl
+past_main false tally k place best = refl
+
+past_own : Option FoundBreak → PlainComponent → Option FoundBreak
+past_own best part = noted (noted best part.place (if_over (told OnCells) CELLS (length part.cells))) part.place (if_over (told OnGroups) GROUPS (length part.groups))
 
 past_part_tests : (main : ℕ) (tally : LimitTally) (k : ℕ) (part : PlainComponent) (best : Option FoundBreak)
     → past_tests best (part_tests main tally k part) ≡ (if nat_eq k main then past_tree (past_part best part) part.place tally else past_part best part)
 past_part_tests main tally k part best =
-    past_append best (statement_tests part k 0 (statements_in part)) (whole_tests (nat_eq k main) tally k part)
-    ∙ ap (λ b. past_tests b (whole_tests (nat_eq k main) tally k part)) (past_statement_tests part k 0 best (statements_in part))
-    ∙ past_whole (nat_eq k main) tally k part best
+    past_append (past_own best part) (statement_tests part k 0 (statements_in part)) (main_tests (nat_eq k main) tally k part.place)
+    ∙ ap (λ b. past_tests b (main_tests (nat_eq k main) tally k part.place)) (past_statement_tests part k 0 (past_own best part) (statements_in part))
+    ∙ past_main (nat_eq k main) tally k part.place (past_part best part)
 
 past_all : (main : ℕ) (tally : LimitTally) (k : ℕ) (parts : List PlainComponent) (best : Option FoundBreak) → past_tests best (tests_from main tally k parts) ≡ past_parts main tally best k parts
 past_all main tally k [] best = refl
@@ -129,9 +144,12 @@ statements_rise : (part : PlainComponent) (k n : ℕ) (vs : List Visited) → Is
 statements_rise part k n [] = tt
 statements_rise part k n (v ∷ vs) = (n, refl, omega arith, rising_lower AStatement k n (suc n) (statement_tests part k (suc n) vs) (omega arith) (statements_rise part k (suc n) vs))
 
-wholes_rise : (is_main : Bool) (tally : LimitTally) (k : ℕ) (part : PlainComponent) → IsRising Whole k 0 (whole_tests is_main tally k part)
-wholes_rise true tally k part = (0, refl, omega arith, (1, refl, omega arith, (5, refl, omega arith, (6, refl, omega arith, (7, refl, omega arith, (8, refl, omega arith, tt))))))
-wholes_rise false tally k part = (0, refl, omega arith, (1, refl, omega arith, tt))
+own_rise : (k : ℕ) (part : PlainComponent) → IsRising Itself k 0 (own_tests k part)
+own_rise k part = (0, refl, omega arith, (1, refl, omega arith, tt))
+
+mains_rise : (is_main : Bool) (tally : LimitTally) (k : ℕ) (place : Place) → IsRising Whole k 0 (main_tests is_main tally k place)
+mains_rise true tally k place = (5, refl, omega arith, (6, refl, omega arith, (7, refl, omega arith, (8, refl, omega arith, tt))))
+mains_rise false tally k place = tt
 
 ascending_append : (xs ys : List Test) → IsAscending xs → IsAscending ys → ((s t : Test) → In xs s → In ys t → comes_before (spot_key t.spot) (spot_key s.spot) ≡ false) → IsAscending (xs ++ ys)
 ascending_append [] ys a b h = b
@@ -141,25 +159,56 @@ ascending_append (x ∷ xs) ys (above, a) b h = ((λ s i. either s (in_split xs 
     either s (inl i) = above s i
     either s (inr j) = h x s (inl refl) j
 
+-- of two kinds the spots of the one come before those of the other
+kinds_apart : (one other : ℕ → Part) (a b : ℕ) → ((m : ℕ) → part_key (one m) ≡ a ∷ m ∷ []) → ((m : ℕ) → part_key (other m) ≡ b ∷ m ∷ []) → a < b → (k : ℕ) (xs ys : List Test)
+    → IsRising one k 0 xs → IsRising other k 0 ys → (s t : Test) → In xs s → In ys t → comes_before (spot_key t.spot) (spot_key s.spot) ≡ false
+kinds_apart one other a b of_one of_other less k xs ys up above s t i j =
+    let q = rising_in one k 0 xs s up i in
+    let r = rising_in other k 0 ys t above j in
+    let h : comes_before (k ∷ b ∷ r.0 ∷ []) (k ∷ a ∷ q.0 ∷ []) ≡ false =
+        no_less k k (b ∷ r.0 ∷ []) (a ∷ q.0 ∷ []) (omega arith) (λ e. no_less b a (r.0 ∷ []) (q.0 ∷ []) (omega arith) (λ f. absurd (omega arith))) in
+    ap (λ x. comes_before x (spot_key s.spot)) (ap spot_key r.1 ∙ ap (λ xs. k ∷ xs) (of_other r.0))
+    ∙ ap (comes_before (k ∷ b ∷ r.0 ∷ [])) (ap spot_key q.1 ∙ ap (λ xs. k ∷ xs) (of_one q.0)) ∙ h
+
 part_ascends : (main : ℕ) (tally : LimitTally) (k : ℕ) (part : PlainComponent) → IsAscending (part_tests main tally k part)
 part_ascends main tally k part =
-    ascending_append (statement_tests part k 0 (statements_in part)) (whole_tests (nat_eq k main) tally k part)
-    (rising_ascends AStatement 1 (λ m. refl) k 0 (statement_tests part k 0 (statements_in part)) (statements_rise part k 0 (statements_in part)))
-    (rising_ascends Whole 3 (λ m. refl) k 0 (whole_tests (nat_eq k main) tally k part) (wholes_rise (nat_eq k main) tally k part)) between
+    ascending_append own (lower_tests (nat_eq k main) tally k part) (rising_ascends Itself 0 (λ m. refl) k 0 own own_up)
+    (ascending_append statements mains (rising_ascends AStatement 2 (λ m. refl) k 0 statements statements_up) (rising_ascends Whole 4 (λ m. refl) k 0 mains mains_up)
+    (kinds_apart AStatement Whole 2 4 (λ m. refl) (λ m. refl) (omega arith) k statements mains statements_up mains_up))
+    (λ s t i j. either s t i (in_split statements mains t j))
   where
-    between : (s t : Test) → In (statement_tests part k 0 (statements_in part)) s → In (whole_tests (nat_eq k main) tally k part) t → comes_before (spot_key t.spot) (spot_key s.spot) ≡ false
-    between s t i j =
-        let q = rising_in AStatement k 0 (statement_tests part k 0 (statements_in part)) s (statements_rise part k 0 (statements_in part)) i in
-        let r = rising_in Whole k 0 (whole_tests (nat_eq k main) tally k part) t (wholes_rise (nat_eq k main) tally k part) j in
-        let h : comes_before (k ∷ 3 ∷ r.0 ∷ []) (k ∷ 1 ∷ q.0 ∷ []) ≡ false = no_less k k (3 ∷ r.0 ∷ []) (1 ∷ q.0 ∷ []) (omega arith) (λ e. no_less 3 1 (r.0 ∷ []) (q.0 ∷ []) (omega arith) (λ f. absurd (omega arith))) in
-        ap (λ x. comes_before (spot_key x) (spot_key s.spot)) r.1 ∙ ap (λ x. comes_before (k ∷ 3 ∷ r.0 ∷ []) (spot_key x)) q.1 ∙ h
+    own : List Test
+    own = own_tests k part
+
+    statements : List Test
+    statements = statement_tests part k 0 (statements_in part)
+
+    mains : List Test
+    mains = main_tests (nat_eq k main) tally k part.place
+
+    own_up : IsRising Itself k 0 own
+    own_up = own_rise k part
+
+    statements_up : IsRising AStatement k 0 statements
+    statements_up = statements_rise part k 0 (statements_in part)
+
+    mains_up : IsRising Whole k 0 mains
+    mains_up = mains_rise (nat_eq k main) tally k part.place
+
+    either : (s t : Test) → In own s → In statements t ⊎ In mains t → comes_before (spot_key t.spot) (spot_key s.spot) ≡ false
+    either s t i (inl j) = kinds_apart Itself AStatement 0 2 (λ m. refl) (λ m. refl) (omega arith) k own statements own_up statements_up s t i j
+    either s t i (inr j) = kinds_apart Itself Whole 0 4 (λ m. refl) (λ m. refl) (omega arith) k own mains own_up mains_up s t i j
 
 part_component : (main : ℕ) (tally : LimitTally) (k : ℕ) (part : PlainComponent) (t : Test) → In (part_tests main tally k part) t → t.spot.component ≡ k
-part_component main tally k part t i = either (in_split (statement_tests part k 0 (statements_in part)) (whole_tests (nat_eq k main) tally k part) t i)
+part_component main tally k part t i = either (of_three (nat_eq k main) tally k part t i)
   where
-    either : In (statement_tests part k 0 (statements_in part)) t ⊎ In (whole_tests (nat_eq k main) tally k part) t → t.spot.component ≡ k
-    either (inl j) = let q = rising_in AStatement k 0 (statement_tests part k 0 (statements_in part)) t (statements_rise part k 0 (statements_in part)) j in ap (λ s. s.component) q.1
-    either (inr j) = let q = rising_in Whole k 0 (whole_tests (nat_eq k main) tally k part) t (wholes_rise (nat_eq k main) tally k part) j in ap (λ s. s.component) q.1
+    at : (kind : ℕ → Part) (ts : List Test) → IsRising kind k 0 ts → In ts t → t.spot.component ≡ k
+    at kind ts up j = ap (λ s. s.component) (rising_in kind k 0 ts t up j).1
+
+    either : In (own_tests k part) t ⊎ In (statement_tests part k 0 (statements_in part)) t ⊎ In (main_tests (nat_eq k main) tally k part.place) t → t.spot.component ≡ k
+    either (inl j) = at Itself (own_tests k part) (own_rise k part) j
+    either (inr (inl j)) = at AStatement (statement_tests part k 0 (statements_in part)) (statements_rise part k 0 (statements_in part)) j
+    either (inr (inr j)) = at Whole (main_tests (nat_eq k main) tally k part.place) (mains_rise (nat_eq k main) tally k part.place) j
 
 from_component : (main : ℕ) (tally : LimitTally) (k : ℕ) (parts : List PlainComponent) (t : Test) → In (tests_from main tally k parts) t → k ≤ t.spot.component
 from_component main tally k [] t i = absurd i
@@ -304,9 +353,8 @@ module _ (d : PlainDesign) where
       (inr (inr (inr (inr (inr (inr (record { at_main = main; is = refl; exceeds = over_capped WEIGHT (weight_of d) r.0; tells = (at, word_is OnWeight f r.1) })))))))
   tree_broken n place main at t f (inr (inr (inr (inr i)))) e = absurd i
 
-  whole_broken : (n : ℕ) (part : PlainComponent) (t : Test) (f : Limited) → slice_get d.components n ≡ Some part
-      → In (whole_tests (nat_eq n d.main) tree n part) t → t.limited ≡ Some f → IsBroken t f
-  whole_broken n part t f at (inl same) e =
+  own_broken : (n : ℕ) (part : PlainComponent) (t : Test) (f : Limited) → slice_get d.components n ≡ Some part → In (own_tests n part) t → t.limited ≡ Some f → IsBroken t f
+  own_broken n part t f at (inl same) e =
       let r = if_over_some limited.Cells CELLS (length part.cells) f (ap (λ u. u.limited) same ∙ e) in
       let own : part ≡ component_at d n = sym (at_component n part at) in
       subst (λ u. Breaks d told_rules.Limit u.spot u.place (word_of (limited_of f))) same
@@ -316,7 +364,7 @@ module _ (d : PlainDesign) where
         exceeds = subst (λ p. CELLS < length p.cells) own r.0;
         tells = (ap (λ p. p.place) own, word_is OnCells f r.1);
       }))
-  whole_broken n part t f at (inr (inl same)) e =
+  own_broken n part t f at (inr (inl same)) e =
       let r = if_over_some limited.Groups GROUPS (length part.groups) f (ap (λ u. u.limited) same ∙ e) in
       let own : part ≡ component_at d n = sym (at_component n part at) in
       subst (λ u. Breaks d told_rules.Limit u.spot u.place (word_of (limited_of f))) same
@@ -326,7 +374,11 @@ module _ (d : PlainDesign) where
         exceeds = subst (λ p. GROUPS < length p.groups) own r.0;
         tells = (ap (λ p. p.place) own, word_is OnGroups f r.1);
       })))
-  whole_broken n part t f at (inr (inr i)) e = by (nat_eq n d.main) refl i
+  own_broken n part t f at (inr (inr i)) e = absurd i
+
+  main_broken : (n : ℕ) (part : PlainComponent) (t : Test) (f : Limited) → slice_get d.components n ≡ Some part
+      → In (main_tests (nat_eq n d.main) tree n part.place) t → t.limited ≡ Some f → IsBroken t f
+  main_broken n part t f at i e = by (nat_eq n d.main) refl i
     where
       is_main : nat_eq n d.main ≡ true → n ≡ d.main
       is_main h = eqb-true n d.main h
@@ -346,14 +398,15 @@ module _ (d : PlainDesign) where
   sound t f i e = one (from_part d.main tree 0 d.components t i)
     where
       either : (n : ℕ) (part : PlainComponent) → slice_get d.components n ≡ Some part
-          → In (statement_tests part n 0 (statements_in part)) t ⊎ In (whole_tests (nat_eq n d.main) tree n part) t → IsBroken t f
-      either n part at (inl j) = statement_broken n part t f at j e
-      either n part at (inr j) = whole_broken n part t f at j e
+          → In (own_tests n part) t ⊎ In (statement_tests part n 0 (statements_in part)) t ⊎ In (main_tests (nat_eq n d.main) tree n part.place) t → IsBroken t f
+      either n part at (inl j) = own_broken n part t f at j e
+      either n part at (inr (inl j)) = statement_broken n part t f at j e
+      either n part at (inr (inr j)) = main_broken n part t f at j e
 
       one : (n : ℕ) × (part : PlainComponent) × (slice_get d.components n ≡ Some part) × In (part_tests d.main tree (0 + n) part) t → IsBroken t f
       one (n, part, at, j) =
           let z : 0 + n ≡ n = omega arith in
-          either n part at (in_split (statement_tests part n 0 (statements_in part)) (whole_tests (nat_eq n d.main) tree n part) t (subst (λ x. In (part_tests d.main tree x part) t) z j))
+          either n part at (of_three (nat_eq n d.main) tree n part t (subst (λ x. In (part_tests d.main tree x part) t) z j))
 
   -- a break is found by a test
   abbrev IsFoundAt : Spot → Place → Type 0
@@ -364,12 +417,17 @@ module _ (d : PlainDesign) where
       from_tested d.main tree 0 n d.components (component_at d n) t (slice_get-get_or d.components n no_component lt)
       (subst (λ x. In (part_tests d.main tree x (component_at d n)) t) (let z : n ≡ 0 + n = omega arith in z) i)
 
-  whole_tested : (n : ℕ) (t : Test) → n < length d.components → In (whole_tests (nat_eq n d.main) tree n (component_at d n)) t → In all_tests t
-  whole_tested n t lt i = tested n t lt (in_right (statement_tests (component_at d n) n 0 (statements_in (component_at d n))) (whole_tests (nat_eq n d.main) tree n (component_at d n)) t i)
+  own_tested : (n : ℕ) (t : Test) → n < length d.components → In (own_tests n (component_at d n)) t → In all_tests t
+  own_tested n t lt i = tested n t lt (in_left (own_tests n (component_at d n)) (lower_tests (nat_eq n d.main) tree n (component_at d n)) t i)
+
+  lower_tested : (n : ℕ) (t : Test) → n < length d.components → In (lower_tests (nat_eq n d.main) tree n (component_at d n)) t → In all_tests t
+  lower_tested n t lt i = tested n t lt (in_right (own_tests n (component_at d n)) (lower_tests (nat_eq n d.main) tree n (component_at d n)) t i)
 
   tree_tested : (t : Test) → d.main < length d.components → In (tree_tests tree d.main (component_at d d.main).place) t → In all_tests t
   tree_tested t lt i =
-      whole_tested d.main t lt (inr (inr (subst (λ b. In (main_tests b tree d.main (component_at d d.main).place) t) (sym (eq-eqb d.main d.main refl)) (of_main i))))
+      lower_tested d.main t lt
+      (in_right (statement_tests (component_at d d.main) d.main 0 (statements_in (component_at d d.main))) (main_tests (nat_eq d.main d.main) tree d.main (component_at d d.main).place) t
+      (subst (λ b. In (main_tests b tree d.main (component_at d d.main).place) t) (sym (eq-eqb d.main d.main refl)) (of_main i)))
     where
       of_main : In (tree_tests tree d.main (component_at d d.main).place) t → In (main_tests true tree d.main (component_at d d.main).place) t
       of_main i = i
@@ -377,10 +435,10 @@ module _ (d : PlainDesign) where
   spot_is : (spot : Spot) (c : ℕ) (part : Part) → spot.component ≡ c → spot.part ≡ part → record { component = c; part = part } ≡ spot
   spot_is spot c part e f = λ i. record { component = sym e i; part = sym f i }
 
-  whole_found : (l : rule.Limited) (limit count : ℕ) (spot : Spot) (place : Place) (c : ℕ) → spot.component ≡ c → spot.part ≡ Whole (order_of l) → limit < count
-      → place ≡ (component_at d c).place → In all_tests (at_whole c (component_at d c).place l limit count) → IsFoundAt spot place
-  whole_found l limit count spot place c at is exceeds told_at i =
-      (at_whole c (component_at d c).place l limit count, told l, i, spot_is spot c (Whole (order_of l)) at is, sym told_at, if_over_is (told l) limit count exceeds)
+  word_found : (kind : ℕ → Part) (l : rule.Limited) (limit count : ℕ) (spot : Spot) (place : Place) (c : ℕ) → spot.component ≡ c → spot.part ≡ kind (order_of l) → limit < count
+      → place ≡ (component_at d c).place → In all_tests (at_word kind c (component_at d c).place l limit count) → IsFoundAt spot place
+  word_found kind l limit count spot place c at is exceeds told_at i =
+      (at_word kind c (component_at d c).place l limit count, told l, i, spot_is spot c (kind (order_of l)) at is, sym told_at, if_over_is (told l) limit count exceeds)
 
   statement_found : (spot : Spot) (place : Place) (name : List ℕ) → OnStatement BreaksStatement d spot place name → IsFoundAt spot place
   statement_found spot place name b =
@@ -393,8 +451,8 @@ module _ (d : PlainDesign) where
       (statement_tested (component_at d spot.component) spot.component 0 b.number (statements_in (component_at d spot.component)) b.statement b.stands) in (
         at_statement (component_at d spot.component) spot.component b.number b.statement,
         told b.breaks.0,
-        tested spot.component (at_statement (component_at d spot.component) spot.component b.number b.statement) b.within
-            (in_left (statement_tests (component_at d spot.component) spot.component 0 (statements_in (component_at d spot.component))) (whole_tests (nat_eq spot.component d.main) tree spot.component (component_at d spot.component)) _ i),
+        lower_tested spot.component (at_statement (component_at d spot.component) spot.component b.number b.statement) b.within
+            (in_left (statement_tests (component_at d spot.component) spot.component 0 (statements_in (component_at d spot.component))) (main_tests (nat_eq spot.component d.main) tree spot.component (component_at d spot.component).place) _ i),
         spot_is spot spot.component (AStatement b.number) refl b.is,
         sym b.breaks.2.0,
         ap (option_map told) (subst (λ p. statement_limit p b.statement ≡ Some b.breaks.0) own b.breaks.1),
@@ -405,23 +463,23 @@ module _ (d : PlainDesign) where
 
   complete : d.main < length d.components → (spot : Spot) (place : Place) (name : List ℕ) → Breaks d told_rules.Limit spot place name → IsFoundAt spot place
   complete main spot place name (inl b) =
-      whole_found OnCells CELLS (length (component_at d spot.component).cells) spot place spot.component refl b.is b.exceeds b.tells.0
-      (whole_tested spot.component _ b.within (inl refl))
+      word_found Itself OnCells CELLS (length (component_at d spot.component).cells) spot place spot.component refl b.is b.exceeds b.tells.0
+      (own_tested spot.component _ b.within (inl refl))
   complete main spot place name (inr (inl b)) =
-      whole_found OnGroups GROUPS (length (component_at d spot.component).groups) spot place spot.component refl b.is b.exceeds b.tells.0
-      (whole_tested spot.component _ b.within (inr (inl refl)))
+      word_found Itself OnGroups GROUPS (length (component_at d spot.component).groups) spot place spot.component refl b.is b.exceeds b.tells.0
+      (own_tested spot.component _ b.within (inr (inl refl)))
   complete main spot place name (inr (inr (inl b))) = statement_found spot place name b
   complete main spot place name (inr (inr (inr (inl b)))) =
-      whole_found OnInstances INSTANCES (capped (instances_below (tree_of d))) spot place d.main b.at_main b.is (over_uncapped INSTANCES (instances_below (tree_of d)) (omega arith) b.exceeds) b.tells.0
+      word_found Whole OnInstances INSTANCES (capped (instances_below (tree_of d))) spot place d.main b.at_main b.is (over_uncapped INSTANCES (instances_below (tree_of d)) (omega arith) b.exceeds) b.tells.0
       (tree_tested _ main (inl refl))
   complete main spot place name (inr (inr (inr (inr (inl b))))) =
-      whole_found OnDepth INSTANCE_DEPTH (capped (depth_below (tree_of d))) spot place d.main b.at_main b.is (over_uncapped INSTANCE_DEPTH (depth_below (tree_of d)) (omega arith) b.exceeds) b.tells.0
+      word_found Whole OnDepth INSTANCE_DEPTH (capped (depth_below (tree_of d))) spot place d.main b.at_main b.is (over_uncapped INSTANCE_DEPTH (depth_below (tree_of d)) (omega arith) b.exceeds) b.tells.0
       (tree_tested _ main (inr (inl refl)))
   complete main spot place name (inr (inr (inr (inr (inr (inl b)))))) =
-      whole_found OnWords MEMORY_WORDS (capped (words_below (tree_of d))) spot place d.main b.at_main b.is (over_uncapped MEMORY_WORDS (words_below (tree_of d)) (omega arith) b.exceeds) b.tells.0
+      word_found Whole OnWords MEMORY_WORDS (capped (words_below (tree_of d))) spot place d.main b.at_main b.is (over_uncapped MEMORY_WORDS (words_below (tree_of d)) (omega arith) b.exceeds) b.tells.0
       (tree_tested _ main (inr (inr (inl refl))))
   complete main spot place name (inr (inr (inr (inr (inr (inr b)))))) =
-      whole_found OnWeight WEIGHT (capped (weight_of d)) spot place d.main b.at_main b.is (over_uncapped WEIGHT (weight_of d) (omega arith) b.exceeds) b.tells.0
+      word_found Whole OnWeight WEIGHT (capped (weight_of d)) spot place d.main b.at_main b.is (over_uncapped WEIGHT (weight_of d) (omega arith) b.exceeds) b.tells.0
       (tree_tested _ main (inr (inr (inr (inl refl)))))
 
   -- THE ANSWERS of a scan

@@ -74,11 +74,11 @@ limited_of limited.Weight = OnWeight
 abbrev pub if_over : Limited → ℕ → ℕ → Option Limited
 if_over l limit count = if nat_lt limit count then Some l else None
 
--- past the statements, the cells and the groups of a component
+-- past the cells, the groups and the statements of a component
 abbrev pub past_part : Option FoundBreak → PlainComponent → Option FoundBreak
 past_part best part =
-    noted (noted (past_statements part best (statements_in part)) part.place (if_over limited.Cells CELLS (length part.cells)))
-    part.place (if_over limited.Groups GROUPS (length part.groups))
+    past_statements part (noted (noted best part.place (if_over limited.Cells CELLS (length part.cells))) part.place (if_over limited.Groups GROUPS (length part.groups)))
+    (statements_in part)
 
 -- past the counts over the tree
 abbrev pub past_tree : Option FoundBreak → Place → LimitTally → Option FoundBreak

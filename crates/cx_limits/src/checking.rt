@@ -26,14 +26,14 @@ fn if_over(limited: Limited, limit: u64, count: u64) -> Option<Limited>
     if count > limit { Some(limited) } else { None }
 }
 
-/// The first so far, past the statements, the cells and the groups of a component.
+/// The first so far, past the cells, the groups and the statements of a component.
 fn past_part(best: Option<FoundBreak>, part: &Component) -> Option<FoundBreak>
     ensures { result ≡ scan.past_part best (plain_component part.now) }
 {
     let cells = if_over(Limited::Cells, CELLS as u64, part.cells.len() as u64);
     let groups = if_over(Limited::Groups, GROUPS as u64, part.groups.len() as u64);
-    let best = past_control(part, best);
-    noted(noted(best, part.place, cells), part.place, groups)
+    let best = noted(noted(best, part.place, cells), part.place, groups);
+    past_control(part, best)
 }
 
 /// The first so far, past the counts over the tree.

@@ -11,7 +11,7 @@ use Rattle.cx_meaning.specs.Active.{Active, nothing, group, drivers}
 use Rattle.cx_meaning.specs.Sights.{part_port}
 use Rattle.cx_rules.specs.Ports.{component_of}
 use Rattle.cx_rules.specs.Footprints.{Mentions, PartLeads, CellLeads, Leads, Depends, at_once, by_way_of}
-use Rattle.cx_rules.specs.Spots.{Whole, AGroup}
+use Rattle.cx_rules.specs.Spots.{Itself, AGroup}
 use Rattle.cx_rules.specs.Accepted.{IsAccepted}
 use Rattle.cx_rules.specs.Circles.{IsAcyclic, AreAcyclic, AcyclicBelow}
 
@@ -65,7 +65,7 @@ within_depends d act m n k {p} {q} (by_way_of r l dep) = by_way_of r (within_lea
 module _ (d : PlainDesign) (accepted : IsAccepted d) where
   bare_acyclic : (k : ℕ) → k < length d.components → IsAcyclic (component_of d k) nothing
   bare_acyclic k within cycle =
-      accepted.no_cycles CombCycle (record { component = k; part = Whole 0 }) (component_at d k).place (component_at d k).name refl
+      accepted.no_cycles CombCycle (record { component = k; part = Itself 0 }) (component_at d k).place (component_at d k).name refl
       (inl (record { within = within; is = refl; cycle = cycle; tells = (refl, refl) }))
 
   part_is : (k : ℕ) → part_of (component_of d k) ≡ component_at d k

@@ -1,5 +1,5 @@
 -- Two first breaks of one design are the same.
-use Rattle.std.proofs.Common.{◌≡◌, ℕ, zero, suc, ◌<◌, ◌≤◌, Bool, true, false, inl, inr, ◌⊎◌, List, [], ◌∷◌, length, get_or, Option, Some, codes, refl, sym, ap, ◌∙◌, subst, arith}
+use Rattle.std.proofs.Common.{◌≡◌, ℕ, zero, suc, ◌<◌, ◌≤◌, Bool, true, false, inl, inr, ◌⊎◌, List, [], ◌∷◌, length, get_or, Option, Some, None, codes, refl, sym, ap, ◌∙◌, subst, arith}
 use Rattle.std.specs.List.{slice_get}
 use Rattle.std.proofs.lemmas.Bool.{cases_lt}
 use Rattle.cx_text.specs.declared.places.Place.{Place}
@@ -17,7 +17,7 @@ use Rattle.cx_rules.specs.LimitRule.{Limited, OnCells, OnGroups, OnRepeat, OnOcc
 use Rattle.cx_rules.specs.Ports.{component_of, path_of, cell_name}
 use Rattle.cx_rules.specs.RaceRule.{GroupBreaksCombCycle, BreaksRace}
 use Rattle.cx_rules.specs.ShapeRules.{enabled_name, BreaksNoDone, BreaksDoneNotState, BreaksAlwaysEnable, BreaksCombEnable, BreaksStaticGuard, GroupBreaksStaticShape, BreaksStaticControl, BreaksLength, BreaksStaticTest, BreaksOutputNotState}
-use Rattle.cx_rules.specs.Spots.{Part, AnAssign, AStatement, AGroup, Whole, Spot, AssignRule, StatementRule, GroupRule, OnAssign, OnStatement, OnGroup}
+use Rattle.cx_rules.specs.Spots.{Part, Itself, AnAssign, AStatement, AGroup, Whole, Spot, AssignRule, StatementRule, GroupRule, OnAssign, OnStatement, OnGroup}
 use Rattle.cx_rules.specs.StaticControl.{is_static}
 use Rattle.cx_rules.specs.WidthRules.{BreaksWidth, BreaksGuardWidth, TestBreaksGuardWidth, BreaksLiteral, TestBreaksLiteral, BreaksNotATarget, BreaksNotASource, TestBreaksNotASource}
 use Rattle.cx_rules.specs.OneBreak.{IsPlaced}
@@ -96,13 +96,15 @@ rule_at-number_of Limit = refl
 rule_at-number_of TooLarge = refl
 
 abbrev part_at : List ℕ → Part
-part_at (zero ∷ n ∷ rest) = AnAssign n
-part_at (suc zero ∷ n ∷ rest) = AStatement n
-part_at (suc (suc zero) ∷ n ∷ rest) = AGroup n
-part_at (suc (suc (suc k)) ∷ n ∷ rest) = Whole n
+part_at (zero ∷ n ∷ rest) = Itself n
+part_at (suc zero ∷ n ∷ rest) = AnAssign n
+part_at (suc (suc zero) ∷ n ∷ rest) = AStatement n
+part_at (suc (suc (suc zero)) ∷ n ∷ rest) = AGroup n
+part_at (suc (suc (suc (suc k))) ∷ n ∷ rest) = Whole n
 part_at _ = AnAssign 0
 
 part_at-part_key : (p : Part) → part_at (part_key p) ≡ p
+part_at-part_key (Itself n) = refl
 part_at-part_key (AnAssign n) = refl
 part_at-part_key (AStatement n) = refl
 part_at-part_key (AGroup n) = refl
@@ -112,6 +114,7 @@ key_length : (r : Rule) (s : Spot) (p : Place) → length (key_of r s p) ≡ 6
 key_length r s p = by s.part
   where
     by : (q : Part) → length (p.line ∷ p.column ∷ number_of r ∷ s.component ∷ part_key q) ≡ 6
+    by (Itself n) = refl
     by (AnAssign n) = refl
     by (AStatement n) = refl
     by (AGroup n) = refl
@@ -128,9 +131,6 @@ statement_number n m e = cc
 
 group_number : (n m : ℕ) → AGroup n ≡ AGroup m → n ≡ m
 group_number n m e = cc
-
-whole_number : (n m : ℕ) → Whole n ≡ Whole m → n ≡ m
-whole_number n m e = cc
 
 -- ONE NAME. Two breaks of one rule at one spot and place have one name
 module _ (d : PlainDesign) (spot : Spot) (place : Place) (n m : List ℕ) where
@@ -185,28 +185,36 @@ word_at-order_of OnDepth = refl
 word_at-order_of OnWords = refl
 word_at-order_of OnWeight = refl
 
-one_word : (spot : Spot) (l k : Limited) (n m : List ℕ) → spot.part ≡ Whole (order_of l) → spot.part ≡ Whole (order_of k) → n ≡ word_of l → m ≡ word_of k → n ≡ m
+-- the number of the word of a rule, where the part is a component
+abbrev number_in : Part → Option ℕ
+number_in (Itself n) = Some n
+number_in (AnAssign n) = None
+number_in (AStatement n) = None
+number_in (AGroup n) = None
+number_in (Whole n) = Some n
+
+one_word : (spot : Spot) (l k : Limited) (n m : List ℕ) → number_in spot.part ≡ Some (order_of l) → number_in spot.part ≡ Some (order_of k) → n ≡ word_of l → m ≡ word_of k → n ≡ m
 one_word spot l k n m e f g h =
-    g ∙ sym (word_at-order_of l) ∙ ap word_at (whole_number (order_of l) (order_of k) (sym e ∙ f)) ∙ word_at-order_of k ∙ sym h
+    g ∙ sym (word_at-order_of l) ∙ ap word_at (some_one (number_in spot.part) (order_of l) (order_of k) e f) ∙ word_at-order_of k ∙ sym h
 
 -- a break of a limit is at a statement, or at a component with the number of its word
-abbrev WholeLimit : Spot → List ℕ → Type 0
-WholeLimit spot n = (l : Limited) × (spot.part ≡ Whole (order_of l)) × (n ≡ word_of l)
+abbrev WordLimit : Spot → List ℕ → Type 0
+WordLimit spot n = (l : Limited) × (number_in spot.part ≡ Some (order_of l)) × (n ≡ word_of l)
 
-limit_kind : (d : PlainDesign) (spot : Spot) (place : Place) (n : List ℕ) → Breaks d Limit spot place n → OnStatement BreaksStatement d spot place n ⊎ WholeLimit spot n
-limit_kind d spot place n (inl b) = inr (OnCells, b.is, b.tells.1)
-limit_kind d spot place n (inr (inl b)) = inr (OnGroups, b.is, b.tells.1)
+limit_kind : (d : PlainDesign) (spot : Spot) (place : Place) (n : List ℕ) → Breaks d Limit spot place n → OnStatement BreaksStatement d spot place n ⊎ WordLimit spot n
+limit_kind d spot place n (inl b) = inr (OnCells, ap number_in b.is, b.tells.1)
+limit_kind d spot place n (inr (inl b)) = inr (OnGroups, ap number_in b.is, b.tells.1)
 limit_kind d spot place n (inr (inr (inl b))) = inl b
-limit_kind d spot place n (inr (inr (inr (inl b)))) = inr (OnInstances, b.is, b.tells.1)
-limit_kind d spot place n (inr (inr (inr (inr (inl b))))) = inr (OnDepth, b.is, b.tells.1)
-limit_kind d spot place n (inr (inr (inr (inr (inr (inl b)))))) = inr (OnWords, b.is, b.tells.1)
-limit_kind d spot place n (inr (inr (inr (inr (inr (inr b)))))) = inr (OnWeight, b.is, b.tells.1)
+limit_kind d spot place n (inr (inr (inr (inl b)))) = inr (OnInstances, ap number_in b.is, b.tells.1)
+limit_kind d spot place n (inr (inr (inr (inr (inl b))))) = inr (OnDepth, ap number_in b.is, b.tells.1)
+limit_kind d spot place n (inr (inr (inr (inr (inr (inl b)))))) = inr (OnWords, ap number_in b.is, b.tells.1)
+limit_kind d spot place n (inr (inr (inr (inr (inr (inr b)))))) = inr (OnWeight, ap number_in b.is, b.tells.1)
 
-limit_names : (d : PlainDesign) (spot : Spot) (place : Place) (n m : List ℕ) → OnStatement BreaksStatement d spot place n ⊎ WholeLimit spot n → OnStatement BreaksStatement d spot place m ⊎ WholeLimit spot m → n ≡ m
+limit_names : (d : PlainDesign) (spot : Spot) (place : Place) (n m : List ℕ) → OnStatement BreaksStatement d spot place n ⊎ WordLimit spot n → OnStatement BreaksStatement d spot place m ⊎ WordLimit spot m → n ≡ m
 limit_names d spot place n m (inl a) (inl b) =
     statement_name d spot place n m BreaksStatement BreaksStatement (λ v x y. x.2.1 ∙ ap word_of (some_one _ x.0 y.0 x.1 y.1) ∙ sym y.2.1) a b
-limit_names d spot place n m (inl a) (inr b) = absurd (let e : AStatement a.number ≡ Whole (order_of b.0) = sym a.is ∙ b.1 in cc)
-limit_names d spot place n m (inr a) (inl b) = absurd (let e : AStatement b.number ≡ Whole (order_of a.0) = sym b.is ∙ a.1 in cc)
+limit_names d spot place n m (inl a) (inr b) = absurd (let e : None ≡ Some (order_of b.0) = sym (ap number_in a.is) ∙ b.1 in cc)
+limit_names d spot place n m (inr a) (inl b) = absurd (let e : None ≡ Some (order_of a.0) = sym (ap number_in b.is) ∙ a.1 in cc)
 limit_names d spot place n m (inr a) (inr b) = one_word spot a.0 b.0 n m a.1 b.1 a.2 b.2
 
 least_one : (P : ℕ → Type 0) (x y : ℕ) → P x → P y → ((e : ℕ) → e < x → P e → ⊥) → ((e : ℕ) → e < y → P e → ⊥) → x ≡ y
@@ -235,8 +243,8 @@ group_statement x y e = cc
 assign_group : (x y : ℕ) → AnAssign x ≡ AGroup y → ⊥
 assign_group x y e = cc
 
-whole_group : (x y : ℕ) → Whole x ≡ AGroup y → ⊥
-whole_group x y e = cc
+itself_group : (x y : ℕ) → Itself x ≡ AGroup y → ⊥
+itself_group x y e = cc
 
 module _ (d : PlainDesign) (spot : Spot) (place : Place) (n m : List ℕ) where
   names_of : (r : Rule) → (r ≡ NotASource → IsPlaced d) → Breaks d r spot place n → Breaks d r spot place m → n ≡ m
@@ -299,8 +307,8 @@ module _ (d : PlainDesign) (spot : Spot) (place : Place) (n m : List ℕ) where
   names_of CallShape h (inr a) (inr b) = group_name d spot place n m GroupBreaksCallShape (λ g x y. x.2.1 ∙ sym y.2.1) a b
   names_of OutputNotState h a b = assign_name d spot place n m BreaksOutputNotState (λ k o s x y. x.3.1 ∙ sym y.3.1) a b
   names_of CombCycle h (inl a) (inl b) = a.tells.1 ∙ sym b.tells.1
-  names_of CombCycle h (inl a) (inr b) = absurd_spot spot (Whole 0) (AGroup b.number) a.is b.is (whole_group 0 b.number)
-  names_of CombCycle h (inr a) (inl b) = absurd_spot spot (Whole 0) (AGroup a.number) b.is a.is (whole_group 0 a.number)
+  names_of CombCycle h (inl a) (inr b) = absurd_spot spot (Itself 0) (AGroup b.number) a.is b.is (itself_group 0 b.number)
+  names_of CombCycle h (inr a) (inl b) = absurd_spot spot (Itself 0) (AGroup a.number) b.is a.is (itself_group 0 a.number)
   names_of CombCycle h (inr a) (inr b) = group_name d spot place n m GroupBreaksCombCycle (λ g x y. x.1.1 ∙ sym y.1.1) a b
   names_of Race h a b = statement_name d spot place n m BreaksRace BreaksRace (λ v x y. race_names (component_of d spot.component) v place n m x y) a b
   names_of Limit h a b = limit_names d spot place n m (limit_kind d spot place n a) (limit_kind d spot place m b)

@@ -5,7 +5,7 @@ use Rattle.cx_text.specs.declared.diagnostics.Diagnostic.{Diagnostic}
 use Rattle.cx_text.specs.declared.rules.Rule.{Rule}
 use Rattle.cx_text.specs.declared.rules.Rule.TheVariants.{BadByte, OpenComment, OpenString, BadLiteral, Unexpected, TooDeep, Duplicate, UnknownName, UnknownPrimitive, BadParameters, Recursive, NoMain, LeftOut, Width, GuardWidth, Literal, NotATarget, NotASource, NoDone, DoneNotState, AlwaysEnable, CombEnable, StaticGuard, StaticShape, CallShape, OutputNotState, CombCycle, Race, Limit, TooLarge}
 use Rattle.cx_meaning.specs.Designs.{PlainDesign}
-use Rattle.cx_rules.specs.Spots.{Part, AnAssign, AStatement, AGroup, Whole, Spot, OnAssign, OnStatement, OnGroup}
+use Rattle.cx_rules.specs.Spots.{Part, Itself, AnAssign, AStatement, AGroup, Whole, Spot, OnAssign, OnStatement, OnGroup}
 use Rattle.cx_rules.specs.WidthRules.{BreaksWidth, BreaksGuardWidth, TestBreaksGuardWidth, BreaksLiteral, TestBreaksLiteral, BreaksNotATarget, BreaksNotASource, TestBreaksNotASource}
 use Rattle.cx_rules.specs.ShapeRules.{BreaksNoDone, BreaksDoneNotState, BreaksAlwaysEnable, BreaksCombEnable, BreaksStaticGuard, GroupBreaksStaticShape, BreaksStaticControl, BreaksLength, BreaksStaticTest, BreaksOutputNotState}
 use Rattle.cx_rules.specs.CallShape.{BreaksCallShape, GroupBreaksCallShape}
@@ -104,12 +104,14 @@ stage_of Race = 6
 stage_of Limit = 7
 stage_of TooLarge = 8
 
--- THE ORDER OF BREAKS: by place, then by the rule's number; of one rule at one place by the component and the part in it
+-- THE ORDER OF BREAKS: by place, then by the rule's number; of one rule at one place by the component, and in it what is of the
+-- component by itself, then its assignments, statements and groups, then what is of all below it
 abbrev pub part_key : Part → List ℕ
-part_key (AnAssign n) = 0 ∷ n ∷ []
-part_key (AStatement n) = 1 ∷ n ∷ []
-part_key (AGroup n) = 2 ∷ n ∷ []
-part_key (Whole n) = 3 ∷ n ∷ []
+part_key (Itself n) = 0 ∷ n ∷ []
+part_key (AnAssign n) = 1 ∷ n ∷ []
+part_key (AStatement n) = 2 ∷ n ∷ []
+part_key (AGroup n) = 3 ∷ n ∷ []
+part_key (Whole n) = 4 ∷ n ∷ []
 
 abbrev pub key_of : Rule → Spot → Place → List ℕ
 key_of rule spot place = place.line ∷ place.column ∷ number_of rule ∷ spot.component ∷ part_key spot.part

@@ -8,7 +8,7 @@ use Rattle.cx_meaning.specs.Islands.{form_length}
 use Rattle.cx_rules.specs.StaticControl.{is_island, form_occurrences}
 use Rattle.cx_rules.specs.Sizes.{weight_of, instances_below, depth_below, words_below}
 use Rattle.cx_rules.specs.Items.{Visited}
-use Rattle.cx_rules.specs.Spots.{Whole, Spot, Tells, StatementRule}
+use Rattle.cx_rules.specs.Spots.{Itself, Whole, Spot, Tells, StatementRule}
 
 -- what a limit is on; at one place they are tried in this order
 pub data Limited : Type 0 where
@@ -80,7 +80,7 @@ BreaksStatement i v place name =
 -- at a component: its cells, and its groups with those of its invokes
 pub record BreaksPart (d : PlainDesign) (limited : Limited) (count limit : ℕ) (spot : Spot) (place : Place) (name : List ℕ) : Type 0 where
   pub within : spot.component < length d.components
-  pub is : spot.part ≡ Whole (order_of limited)
+  pub is : spot.part ≡ Itself (order_of limited)
   pub exceeds : limit < count
   pub tells : Tells place name (component_at d spot.component).place (word_of limited)
 

@@ -10,7 +10,7 @@ use Rattle.cx_meaning.specs.Control.{drives}
 use Rattle.cx_rules.specs.Ports.{component_of, cell_name}
 use Rattle.cx_rules.specs.Items.{Dynamic, visit}
 use Rattle.cx_rules.specs.Footprints.{Depends, Reads}
-use Rattle.cx_rules.specs.Spots.{Whole, Spot, Tells, StatementRule, GroupRule}
+use Rattle.cx_rules.specs.Spots.{Itself, Spot, Tells, StatementRule, GroupRule}
 
 -- some port depends on itself under an active set
 abbrev pub HasCycle : Instance → Active → Type 0
@@ -19,7 +19,7 @@ HasCycle i act = (p : PortRef) × Depends i act p p
 -- RULE comb-cycle: a port depends on itself under the continuous assignments
 pub record BreaksCombCycle (d : PlainDesign) (spot : Spot) (place : Place) (name : List ℕ) : Type 0 where
   pub within : spot.component < length d.components
-  pub is : spot.part ≡ Whole 0
+  pub is : spot.part ≡ Itself 0
   pub cycle : HasCycle (component_of d spot.component) nothing
   pub tells : Tells place name (component_at d spot.component).place (component_at d spot.component).name
 

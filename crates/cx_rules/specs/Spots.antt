@@ -8,8 +8,9 @@ use Rattle.cx_rules.specs.Ports.{component_of}
 use Rattle.cx_rules.specs.Items.{Visited, statements_in}
 
 -- a part of a component, by its number in the component's list of its kind: an assignment in source order, a statement in
--- pre-order, a group; or the component, with the number of a word of the rule
+-- pre-order, a group; or the component, by itself or with all below it, with the number of a word of the rule
 pub data Part : Type 0 where
+  Itself : (word : ℕ) → Part
   AnAssign : (number : ℕ) → Part
   AStatement : (number : ℕ) → Part
   AGroup : (number : ℕ) → Part
