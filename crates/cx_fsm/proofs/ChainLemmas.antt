@@ -1,15 +1,15 @@
 -- Chains, driver by driver.
-use Rattle.std.proofs.Common.{◌≡◌, ℕ, zero, suc, ◌+◌, ◌-◌, ◌<◌, Bool, true, false, if◌then◌else◌, List, [], ◌∷◌, ◌++◌, replicate, refl, sym, ap, ap₂, ◌∙◌, append_assoc, append-nil, add-zero, arith, true≢false, eqb-true, eq-eqb}
+use Rattle.std.proofs.Common.{◌≡◌, Bool, true, false, if◌then◌else◌, List, [], ◌∷◌, refl, sym, ap, ap₂, ◌∙◌, true≢false, eqb-true, eq-eqb}
 use Rattle.std.proofs.lemmas.Bool.{and_from, false_from_ne_true}
 use Rattle.cx_meaning.specs.declared.ports.PortRef.{PortRef}
 use Rattle.cx_meaning.specs.declared.ports.PortRef.TheVariants as ports
 use Rattle.cx_meaning.specs.Active.{same_port}
 use Rattle.cx_rules.proofs.FoundLemmas.{same_is}
-use Rattle.cx_net.specs.Nets.{OfWire, PlainNetTarget, ToPort, ToRegister, ToWire, ToHole, ToDone, PlainNetDriver}
+use Rattle.cx_net.specs.Nets.{PlainNetTarget, ToPort, ToRegister, ToWire, ToHole, ToDone, PlainNetDriver}
 use Rattle.cx_net.specs.PlainNets.{plain_net_target}
 use Rattle.cx_net.specs.declared.drivers.NetTarget.{NetTarget}
 use Rattle.cx_net.specs.declared.drivers.NetTarget.TheVariants as targets
-use Rattle.cx_wiring.specs.Chains.{is_same, Driven, with_driver, driven, together, rests, closing, chain, chains, rest_widths}
+use Rattle.cx_wiring.specs.Chains.{is_same, Driven, with_driver, driven}
 use Rattle.cx_fsm.specs.Chaining.{first_drivers, later_groups}
 
 differ : {A : Type 0} → false ≡ true → A
@@ -121,24 +121,3 @@ module _ (d : PlainNetDriver) (ds : List PlainNetDriver) where
       ∙ ap (λ b. if b then later_groups d.target (driven ds) else record { target = d.target; drivers = d ∷ first_drivers d.target (driven ds) } ∷ later_groups d.target (driven ds))
       (false_from_ne_true (is_same t d.target) (λ e. other (same_target t d.target e)))
       ∙ ap₂ (λ l gs. record { target = d.target; drivers = l } ∷ gs) (sym first_same) (sym later_same)
-
--- a chain of nothing before all drivers
-pub none_yet : (t : PlainNetTarget) (wire : ℕ) (gs : List Driven) → closing t t ≡ []
-    → chain t t wire together (first_drivers t gs) ++ chains (wire + rests together (first_drivers t gs)) (later_groups t gs) ≡ chains wire gs
-none_yet t wire [] c = append-nil (closing t t) ∙ c
-none_yet t wire (g ∷ gs) c = choice (is_same t g.target) refl
-  where
-    choice : (same : Bool) → is_same t g.target ≡ same
-        → chain t t wire together (if same then g.drivers else []) ++ chains (wire + rests together (if same then g.drivers else [])) (if same then gs else g ∷ gs) ≡ chains wire (g ∷ gs)
-    choice true e = ap (λ u. chain u u wire together g.drivers ++ chains (wire + rests together g.drivers) gs) (same_target t g.target e)
-    choice false e = ap (λ l. l ++ chains (wire + 0) (g ∷ gs)) c ∙ ap (λ n. chains n (g ∷ gs)) (add-zero wire)
-
-pub no_widths_yet : (width : PlainNetTarget → ℕ) (t : PlainNetTarget) (gs : List Driven)
-    → replicate (rests together (first_drivers t gs)) (width t) ++ rest_widths width (later_groups t gs) ≡ rest_widths width gs
-no_widths_yet width t [] = refl
-no_widths_yet width t (g ∷ gs) = choice (is_same t g.target) refl
-  where
-    choice : (same : Bool) → is_same t g.target ≡ same
-        → replicate (rests together (if same then g.drivers else [])) (width t) ++ rest_widths width (if same then gs else g ∷ gs) ≡ rest_widths width (g ∷ gs)
-    choice true e = ap (λ u. replicate (rests together g.drivers) (width u) ++ rest_widths width gs) (same_target t g.target e)
-    choice false e = refl

@@ -53,7 +53,7 @@ module _ (lowered : PlainLowered) (count first assigns rests : ℕ) (counts : co
       → all ≡ plain_drivers lowered
   drivers_made islands none some all i n s a = rw (a, s, n, i, control, begins, counts) refl
 
-  pub bits_made : rests - count ≡ bits lowered
+  bits_made : rests - count ≡ bits lowered
   bits_made = omega arith
 
   pub wires_made : replicate count 32 ++ replicate (rests - count) 1 ≡ plain_wires lowered

@@ -1,5 +1,5 @@
 -- The drivers of statements with parts, piece by piece.
-use Rattle.std.proofs.Common.{◌≡◌, ℕ, zero, suc, ◌+◌, List, [], ◌∷◌, ◌++◌, Option, Some, None, length, refl, ◌∙◌, append_assoc, append-nil, zero-add}
+use Rattle.std.proofs.Common.{◌≡◌, ℕ, suc, List, [], ◌∷◌, ◌++◌, Option, Some, None, length, refl, ◌∙◌, append_assoc, append-nil, zero-add}
 use Rattle.cx_meaning.specs.Designs.{PlainStatement, PlainStatements, no_statements, a_statement, Seq, Par}
 use Rattle.cx_net.specs.Nets.{PlainNetExpr, AllOf, exprs_of, PlainNetDriver}
 use Rattle.cx_static.specs.Islands.{PlainIsland}

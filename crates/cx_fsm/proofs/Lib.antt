@@ -1,4 +1,3 @@
-mod ListLemmas
 mod PartLemmas
 mod StandLemmas
 mod ControlLemmas

@@ -1,36 +1,14 @@
 -- Marks, places and numbers in order.
-use Rattle.std.proofs.Common.{◌≡◌, ℕ, zero, suc, ◌+◌, ◌-◌, ◌<◌, ◌≤◌, ◌||◌, Bool, true, false, nat_eq, if◌then◌else◌, List, [], ◌∷◌, ◌++◌, filter, flat_map, get_or, set, length, refl, sym, ap, ap₂, ◌∙◌, subst, arith, eq-eqb, ⊎_elim, append-nil, append_assoc, get_or-set_same, get_or-set_other}
-use Rattle.std.proofs.lemmas.Bool.{ne_eqb, cases_eq}
+use Rattle.std.proofs.Common.{◌≡◌, ℕ, zero, suc, ◌+◌, ◌-◌, ◌<◌, ◌≤◌, ◌||◌, Bool, true, false, nat_eq, if◌then◌else◌, List, [], ◌∷◌, ◌++◌, filter, flat_map, get_or, refl, sym, ap, ap₂, ◌∙◌, arith, append-nil, append_assoc}
+use Rattle.std.proofs.lemmas.Bool.{ne_eqb}
 use Rattle.std.proofs.lemmas.List.Concat.{flat_map-append}
 use Rattle.std.proofs.lemmas.List.Elements.{filter_agree}
 use Rattle.cx_static.specs.Islands.{PlainLowereds}
 use Rattle.cx_wiring.specs.Reached.{numbers_from, has_number, place_in, count, height, reached, order}
 use Rattle.cx_fsm.specs.Rounds.{HasHeights}
 
-or_nothing : (a : Bool) → (a || false) ≡ a
-or_nothing true = refl
-or_nothing false = refl
-
-or_true : (a : Bool) → (a || true) ≡ true
-or_true true = refl
-or_true false = refl
-
--- a mark more
-pub marked_set : (marks : List Bool) (c k : ℕ) → k < length marks → get_or (set marks c true) k false ≡ (get_or marks k false || nat_eq k c)
-marked_set marks c k within =
-    ⊎_elim
-    (λ e. ap (λ i. get_or (set marks i true) k false) (sym e) ∙ get_or-set_same marks k true false within ∙ sym (or_true (get_or marks k false)) ∙ ap (λ b. get_or marks k false || b) (sym (eq-eqb k c e)))
-    (λ differs. get_or-set_other marks c k true false differs ∙ sym (or_nothing (get_or marks k false)) ∙ ap (λ b. get_or marks k false || b) (sym (ne_eqb k c differs)))
-    (cases_eq k c)
-
--- no mark more, of one that is not there
-pub marked_not : (marks : List Bool) (c k : ℕ) → length marks ≤ c → k < length marks → get_or marks k false ≡ (get_or marks k false || nat_eq k c)
-marked_not marks c k past within =
-    let no : k ≡ c → ⊥ = λ e. let m : k ≡ c = e in absurd (omega arith) in
-    sym (or_nothing (get_or marks k false)) ∙ ap (λ b. get_or marks k false || b) (sym (ne_eqb k c no))
-
 -- numbers up to a count
-pub numbers_more : (n all : ℕ) → n < all → numbers_from n (all - n) ≡ n ∷ numbers_from (n + 1) (all - (n + 1))
+numbers_more : (n all : ℕ) → n < all → numbers_from n (all - n) ≡ n ∷ numbers_from (n + 1) (all - (n + 1))
 numbers_more n all h =
     let one : all - n ≡ suc (all - (n + 1)) = omega arith in
     let next : suc n ≡ n + 1 = omega arith in
@@ -116,15 +94,3 @@ place_begins k (n ∷ ns) = choice (nat_eq k n) (has_number k ns)
     choice true later = refl
     choice false true = omega arith
     choice false false = refl
-
-pub place_later : (k n place : ℕ) (ns : List ℕ) (whole : ℕ) → (k ≡ n → ⊥) → place_from k place (n ∷ ns) ≡ whole → place_from k (place + 1) ns ≡ whole
-place_later k n place ns whole differs h = choice (has_number k ns) ∙ sym (ap (λ b. if b || has_number k ns then place + (if b then 0 else (if has_number k ns then suc (place_in k ns) else 0)) else 0) (ne_eqb k n differs)) ∙ h
-  where
-    choice : (later : Bool) → (if later then (place + 1) + place_in k ns else 0) ≡ (if false || later then place + (if false then 0 else (if later then suc (place_in k ns) else 0)) else 0)
-    choice true = omega arith
-    choice false = refl
-
-pub place_here : (k n place : ℕ) (ns : List ℕ) (whole : ℕ) → k ≡ n → place_from k place (n ∷ ns) ≡ whole → place ≡ whole
-place_here k n place ns whole e h =
-    let none : place ≡ place + 0 = omega arith in
-    none ∙ sym (ap (λ b. if b || has_number k ns then place + (if b then 0 else (if has_number k ns then suc (place_in k ns) else 0)) else 0) (eq-eqb k n e)) ∙ h

@@ -1,5 +1,5 @@
 -- The parts of a guard, one after the other.
-use Rattle.std.proofs.Common.{◌≡◌, ℕ, ◌+◌, List, [], ◌∷◌, ◌++◌, refl, sym, ap, ap₂, ◌∙◌, append_assoc, arith}
+use Rattle.std.proofs.Common.{◌≡◌, ℕ, ◌+◌, List, [], ◌∷◌, ◌++◌, refl, ap, ap₂, ◌∙◌, append_assoc, arith}
 use Rattle.cx_meaning.specs.Designs.{PlainGuard, PlainGuards, a_guard}
 use Rattle.cx_net.specs.Nets.{PlainNetExpr, PlainNetExprs, no_exprs, an_expr, exprs_of, PlainNetDriver}
 use Rattle.cx_wiring.specs.Guards.{part_wires, parts_wires, part_expr, parts_exprs, part_drivers, parts_drivers}
@@ -15,7 +15,7 @@ joined_none [] = refl
 joined_none (e ∷ es) = ap (an_expr e) (joined_none es)
 
 -- one more before the others
-pub joined_more : (es : List PlainNetExpr) (e : PlainNetExpr) (rest : PlainNetExprs) → joined (es ++ e ∷ []) rest ≡ joined es (an_expr e rest)
+joined_more : (es : List PlainNetExpr) (e : PlainNetExpr) (rest : PlainNetExprs) → joined (es ++ e ∷ []) rest ≡ joined es (an_expr e rest)
 joined_more [] e rest = refl
 joined_more (f ∷ es) e rest = ap (an_expr f) (joined_more es e rest)
 

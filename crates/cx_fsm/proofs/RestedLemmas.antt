@@ -1,7 +1,7 @@
 -- What is left of chains after each step.
-use Rattle.std.proofs.Common.{◌≡◌, ℕ, zero, suc, ◌+◌, ◌-◌, ◌<◌, List, [], ◌∷◌, ◌++◌, replicate, refl, sym, ap, ap₂, ◌∙◌, append_assoc, append-nil, add-zero, subst, arith}
-use Rattle.cx_net.specs.Nets.{OfWire, PlainNetTarget, ToWire, PlainNetDriver}
-use Rattle.cx_wiring.specs.Parts.{one, drive}
+use Rattle.std.proofs.Common.{◌≡◌, ℕ, zero, suc, ◌+◌, ◌-◌, ◌<◌, List, [], ◌∷◌, ◌++◌, replicate, sym, ap, ap₂, ◌∙◌, append_assoc, add-zero, subst, arith}
+use Rattle.cx_net.specs.Nets.{PlainNetTarget, PlainNetDriver}
+use Rattle.cx_wiring.specs.Parts.{drive}
 use Rattle.cx_wiring.specs.Chains.{Driven, driven, together, rests, closing, chain, chains, rest_widths}
 use Rattle.cx_fsm.specs.Chaining.{first_drivers, later_groups}
 use Rattle.cx_fsm.proofs.ChainLemmas.{first_same, later_same, first_other, later_other}
@@ -35,23 +35,6 @@ module _ (whole target : PlainNetTarget) (room : ℕ) (d : PlainNetDriver) (ds :
   begun_widths width before =
       ap (λ t. before ++ going_widths width t together (first_drivers t (driven (d ∷ ds))) (later_groups t (driven (d ∷ ds)))) (sym of)
       ∙ ap₂ (λ l gs. before ++ going_widths width whole room l gs) (sym (first_other d ds whole other)) (sym (later_other d ds whole other))
-
--- a rest: what is left goes on there
-pub rest_drivers : (whole at : PlainNetTarget) (next : ℕ) (d : PlainNetDriver) (ds : List PlainNetDriver) (gs : List Driven) (before now : List PlainNetDriver)
-    → now ≡ before ++ drive at one (OfWire next) ∷ []
-    → now ++ going whole (ToWire next) (next + 1) together (d ∷ ds) gs ≡ before ++ going whole at next 0 (d ∷ ds) gs
-rest_drivers whole at next d ds gs before now e =
-    let next_one : next + 1 ≡ suc next = omega arith in
-    let behind : suc next + rests (together - 1) ds ≡ next + suc (rests (together - 1) ds) = omega arith in
-    ap₂ (λ l n. l ++ (drive (ToWire next) d.guard d.source ∷ chain whole (ToWire next) n (together - 1) ds ++ chains (n + rests (together - 1) ds) gs)) e next_one
-    ∙ append_assoc before (drive at one (OfWire next) ∷ []) _
-    ∙ ap (λ n. before ++ (drive at one (OfWire next) ∷ drive (ToWire next) d.guard d.source ∷ chain whole (ToWire next) (suc next) (together - 1) ds ++ chains n gs)) behind
-
-pub rest_widths_more : (width : PlainNetTarget → ℕ) (whole : PlainNetTarget) (d : PlainNetDriver) (ds : List PlainNetDriver) (gs : List Driven) (before now : List ℕ)
-    → now ≡ before ++ width whole ∷ []
-    → now ++ going_widths width whole together (d ∷ ds) gs ≡ before ++ going_widths width whole 0 (d ∷ ds) gs
-rest_widths_more width whole d ds gs before now e =
-    ap (λ l. l ++ going_widths width whole together (d ∷ ds) gs) e ∙ append_assoc before (width whole ∷ []) (going_widths width whole together (d ∷ ds) gs)
 
 module _ (whole : PlainNetTarget) (d : PlainNetDriver) (ds : List PlainNetDriver) (of : d.target ≡ whole) where
   -- a driver goes on with a chain

@@ -1,5 +1,5 @@
 -- Rounds that mark what is reached, and raise what stands too low, come to what is reached and to the heights.
-use Rattle.std.proofs.Common.{◌≡◌, ℕ, zero, suc, ◌+◌, ◌-◌, ◌<◌, ◌≤◌, ◌||◌, ◌&&◌, Bool, true, false, nat_eq, max, if◌then◌else◌, List, [], ◌∷◌, ◌++◌, length, map, flat_map, get_or, Option, Some, None, slice_get, refl, sym, ap, ap₂, ◌∙◌, subst, arith, true≢false, eqb-true, eq-eqb, ⊎_elim}
+use Rattle.std.proofs.Common.{◌≡◌, ℕ, zero, suc, ◌+◌, ◌-◌, ◌<◌, ◌≤◌, ◌||◌, ◌&&◌, Bool, true, false, nat_eq, max, List, [], ◌∷◌, ◌++◌, length, map, flat_map, get_or, slice_get, refl, sym, ap, ap₂, ◌∙◌, subst, arith, true≢false, eqb-true, eq-eqb, ⊎_elim}
 use Rattle.std.proofs.lemmas.Bool.{or_cases, or_left, or_right, and_parts, and_from}
 use Rattle.std.proofs.lemmas.List.Concat.{flat_map_single}
 use Rattle.std.proofs.lemmas.List.{map-id, length-map}
@@ -155,7 +155,7 @@ module _ (d : PlainLowereds) where
     }
 
   -- where a round marks nothing, none does
-  pub spread_stays : (levels : ℕ) (marks : List Bool) → MarksReached d levels marks → IsSpread d marks marks → (n : ℕ) → MarksReached d (n + levels) marks
+  spread_stays : (levels : ℕ) (marks : List Bool) → MarksReached d levels marks → IsSpread d marks marks → (n : ℕ) → MarksReached d (n + levels) marks
   spread_stays levels marks reached s zero = let at : levels ≡ 0 + levels = omega arith in subst (λ l. MarksReached d l marks) at reached
   spread_stays levels marks reached s (suc n) =
       let at : suc (n + levels) ≡ suc n + levels = omega arith in
@@ -180,7 +180,7 @@ module _ (d : PlainLowereds) where
   }
 
   -- where a round raises nothing, none does
-  pub raised_stays : (levels : ℕ) (heights : List ℕ) → HasHeights d levels heights → heights ≡ raised d heights → (n : ℕ) → HasHeights d (n + levels) heights
+  raised_stays : (levels : ℕ) (heights : List ℕ) → HasHeights d levels heights → heights ≡ raised d heights → (n : ℕ) → HasHeights d (n + levels) heights
   raised_stays levels heights h e zero = let at : levels ≡ 0 + levels = omega arith in subst (λ l. HasHeights d l heights) at h
   raised_stays levels heights h e (suc n) =
       let at : suc (n + levels) ≡ suc n + levels = omega arith in
@@ -199,7 +199,7 @@ module _ (d : PlainLowereds) where
   height_few (suc levels) k = highest_few levels (height_few levels) (below d k)
 
   -- heights that many levels tell are no higher than few levels tell that tell the same
-  pub heights_within : (levels : ℕ) (heights : List ℕ) → HasHeights d levels heights → HasHeights d (count d) heights → (k : ℕ) → height d k ≤ levels
+  heights_within : (levels : ℕ) (heights : List ℕ) → HasHeights d levels heights → HasHeights d (count d) heights → (k : ℕ) → height d k ≤ levels
   heights_within levels heights few all k =
       let same : height_of d levels k ≡ height d k = sym (few.right k) ∙ all.right k in
       let within : height_of d levels k ≤ levels = height_few levels k in
@@ -219,14 +219,6 @@ module _ (d : PlainLowereds) where
       let above : height_above d heights (cell ∷ rest) ≡ height_above d heights rest =
       ap (λ kind. highest d (map (λ c. suc (get_or heights c 0)) (component_of_kind kind ++ components_of rest))) is in
       omega arith
-
-  -- before any round
-  pub marks_begin : (marks : List Bool) → length marks ≡ count d → ((k : ℕ) → k < count d → get_or marks k false ≡ nat_eq k d.main) → MarksReached d 0 marks
-  marks_begin marks all right = record { all = all; right = λ k within. right k within ∙ alone (nat_eq k d.main) }
-    where
-      alone : (b : Bool) → b ≡ (b || false)
-      alone true = refl
-      alone false = refl
 
   -- where a round raises nothing, all levels are told
   pub raised_all : (levels : ℕ) (heights : List ℕ) → HasHeights d levels heights → heights ≡ raised d heights → levels ≤ count d → HasHeights d (count d) heights

@@ -1,11 +1,11 @@
 -- What follows statements in their region.
-use Rattle.std.proofs.Common.{◌≡◌, ℕ, zero, suc, ◌+◌, List, [], ◌∷◌, ◌++◌, length, ap, ◌∙◌, arith, length-append}
+use Rattle.std.proofs.Common.{◌≡◌, ℕ, suc, List, length, ap, ◌∙◌, arith, length-append}
 use Rattle.cx_meaning.specs.Designs.{PlainStatement, PlainStatements, a_statement}
 use Rattle.cx_net.specs.Nets.{PlainNetExpr}
 use Rattle.cx_static.specs.Islands.{PlainIsland}
 use Rattle.cx_wiring.specs.Counts.{wires_in, positions_in, registers_of, registers_in, arms_registers}
-use Rattle.cx_wiring.specs.Stands.{Stand, inside, past_test, behind}
-use Rattle.cx_wiring.specs.Control.{counted_inside, arm_stand}
+use Rattle.cx_wiring.specs.Stands.{Stand, inside, behind}
+use Rattle.cx_wiring.specs.Control.{arm_stand}
 use Rattle.cx_fsm.specs.PlainStands.{past, beside}
 
 abbrev put : ℕ → PlainNetExpr → ℕ → ℕ → ℕ → Stand
@@ -18,23 +18,8 @@ module _ (x : Stand) where
   pub past_none : past x 0 0 0 ≡ x
   past_none = stand_is x.region x.acts (omega arith) (omega arith) (omega arith)
 
-  pub past_is : {a d b e c f : ℕ} → a ≡ d → b ≡ e → c ≡ f → past x a b c ≡ past x d e f
-  past_is a b c = stand_is x.region x.acts (ap (λ n. x.wire + n) a) (ap (λ n. x.register + n) b) (ap (λ n. x.position + n) c)
-
-  pub past_past : (a b c d e f : ℕ) → past (past x a b c) d e f ≡ past x (a + d) (b + e) (c + f)
-  past_past a b c d e f = stand_is x.region x.acts (omega arith) (omega arith) (omega arith)
-
-  pub inside_is : past x 2 0 0 ≡ inside x
-  inside_is = stand_is x.region x.acts (omega arith) (omega arith) (omega arith)
-
   pub past_inside : (a b c : ℕ) → past (inside x) a b c ≡ past x (suc (suc a)) b c
   past_inside a b c = stand_is x.region x.acts (omega arith) (omega arith) (omega arith)
-
-  pub past_test_is : past x 2 0 1 ≡ past_test x
-  past_test_is = stand_is x.region x.acts (omega arith) (omega arith) (omega arith)
-
-  pub counted_inside_is : past x 2 1 0 ≡ counted_inside x
-  counted_inside_is = stand_is x.region x.acts (omega arith) (omega arith) (omega arith)
 
 module _ (islands : List PlainIsland) (x : Stand) (s : PlainStatement) (ss : PlainStatements) where
   -- behind the parts of a seq, one of which is behind

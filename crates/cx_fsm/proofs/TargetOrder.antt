@@ -10,7 +10,7 @@ use Rattle.cx_wiring.specs.Chains.{placed_among, by_target}
 use Rattle.cx_fsm.proofs.StableSorts.{placed, in_order, one_stable}
 use Rattle.cx_fsm.specs.Chaining.{plain_rank}
 
-abbrev pub rank_before : ℕ × (ℕ × ℕ) → ℕ × (ℕ × ℕ) → Bool
+abbrev rank_before : ℕ × (ℕ × ℕ) → ℕ × (ℕ × ℕ) → Bool
 rank_before a b = is_lt (ordering_then (nat_cmp a.0 b.0) (ordering_then (nat_cmp a.1.0 b.1.0) (nat_cmp a.1.1 b.1.1)))
 
 abbrev pub rank_key : NetDriver → ℕ × (ℕ × ℕ)

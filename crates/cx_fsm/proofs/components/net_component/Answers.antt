@@ -1,4 +1,4 @@
-use Rattle.std.proofs.Common.{◌≡◌, ◌∷◌, ◌+◌, ◌++◌, [], ◌∙◌, length, map, sym, ap, ap₂}
+use Rattle.std.proofs.Common.{◌≡◌, ◌∷◌, ◌+◌, ◌++◌, ◌∙◌, length, map, sym, ap, ap₂}
 use Rattle.std.proofs.lemmas.List.{length-map}
 use Rattle.cx_design.specs.PlainForms.{plain_cell, plain_group, plain_statement}
 use Rattle.cx_net.specs.PlainNets.{plain_net_drivers}

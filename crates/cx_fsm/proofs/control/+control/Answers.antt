@@ -1,4 +1,4 @@
-use Rattle.std.proofs.Common.{◌≡◌, ◌∷◌, ◌+◌, ◌++◌, [], ◌∙◌, IfOk, OnOk, length, sym, ap, subst, drop, map, append_assoc, append-nil, suc, arith}
+use Rattle.std.proofs.Common.{◌≡◌, ◌∷◌, ◌+◌, ◌++◌, [], ◌∙◌, IfOk, OnOk, length, sym, ap, subst, drop, map, append_assoc, append-nil, suc}
 use Rattle.std.proofs.lemmas.List.{drop_all, map_push}
 use Rattle.cx_design.specs.PlainForms.{form_step, statement_step, plain_form, plain_statement, plain_statements}
 use Rattle.cx_design.specs.declared.statements.Form.TheFolds.{fold-roll-Form, fold-roll-Statement}
@@ -11,7 +11,7 @@ use Rattle.cx_wiring.specs.Counts.{wires_in, arms_registers}
 use Rattle.cx_wiring.specs.Stands.{behind, ends, stands}
 use Rattle.cx_fsm.specs.ControlPieces.{behind_form}
 use Rattle.cx_fsm.specs.PlainStands.{beside, islands_of, past, plain_stand}
-use Rattle.cx_fsm.proofs.ControlLemmas.{seq_left, seq_begins, seq_step, seq_next, next_begins, next_step, arms_step, over_step, par_made}
+use Rattle.cx_fsm.proofs.ControlLemmas.{seq_begins, seq_step, next_begins, next_step, arms_step, over_step, par_made}
 use Rattle.cx_fsm.proofs.StandLemmas.{past_arm, past_none}
 use Rattle.cx_fsm.proofs.control.+control.Goals as goal
 

@@ -4,9 +4,9 @@ use Rattle.cx_meaning.specs.Designs.{Seq}
 use Rattle.cx_net.specs.PlainNets.{plain_net_drivers, plain_net_expr}
 use Rattle.cx_wiring.specs.Control.{arms_over, form_drivers, arms_drivers}
 use Rattle.cx_wiring.specs.Counts.{wires_in, arms_registers}
-use Rattle.cx_wiring.specs.Stands.{at, stands}
+use Rattle.cx_wiring.specs.Stands.{at}
 use Rattle.cx_fsm.specs.ControlPieces.{behind_form}
-use Rattle.cx_fsm.specs.PlainStands.{HasFirsts, islands_of, past, plain_stand}
+use Rattle.cx_fsm.specs.PlainStands.{islands_of, past, plain_stand}
 use Rattle.cx_fsm.proofs.ControlLemmas.{seq_left, seq_next}
 use Rattle.cx_fsm.proofs.control.+control.Given as goal
 

@@ -1,4 +1,4 @@
-use Rattle.std.proofs.Common.{◌≡◌, ◌++◌, ◌∙◌, length, map, sym, ap, append-nil}
+use Rattle.std.proofs.Common.{◌++◌, ◌∙◌, length, map, sym, ap, append-nil}
 use Rattle.std.proofs.lemmas.List.{length-map, length-replicate}
 use Rattle.cx_net.specs.PlainNets.{plain_net_drivers}
 use Rattle.cx_static.specs.PlainLowered.{plain_island, plain_point}

@@ -1,4 +1,4 @@
-use Rattle.std.proofs.Common.{◌≡◌, ◌++◌, drop, map}
+use Rattle.std.proofs.Common.{◌≡◌, ◌++◌, drop}
 use Rattle.cx_net.specs.PlainNets.{plain_net_drivers}
 use Rattle.cx_wiring.specs.IslandDrivers.{timer_drivers}
 use Rattle.cx_fsm.specs.Places.{at_place}

@@ -1,7 +1,7 @@
-use Rattle.std.proofs.Common.{◌≡◌, ℕ, ◌+◌, ◌-◌, ◌<◌, ◌≤◌, suc, ◌∙◌, length, sym, ap, subst, arith}
+use Rattle.std.proofs.Common.{◌≡◌, ◌+◌, ◌≤◌, suc, ◌∙◌, sym, ap, subst, arith}
 use Rattle.std.proofs.lemmas.Slice.Eq.{bytes_eq-Decides}
 use Rattle.cx_static.specs.PlainLowered.{plain_lowereds}
-use Rattle.cx_wiring.specs.Reached.{count, height, height_of}
+use Rattle.cx_wiring.specs.Reached.{count, height_of}
 use Rattle.cx_fsm.specs.Rounds.{HasHeights, raised}
 use Rattle.cx_fsm.proofs.RoundLemmas.{counted, raised_more, raised_all, height_few, height_within}
 use Rattle.cx_fsm.proofs.ordering.heights.Goals as goal

@@ -1,4 +1,4 @@
-use Rattle.std.proofs.Common.{◌≡◌, ◌∷◌, ℕ, ◌+◌, ◌-◌, ◌++◌, ◌<◌, ◌≤◌, [], ◌∙◌, List, sym, ap, ap₂, arith, nat_eq, filter, flat_map, get_or, append-nil}
+use Rattle.std.proofs.Common.{◌≡◌, ℕ, ◌+◌, ◌-◌, ◌++◌, ◌<◌, [], ◌∙◌, List, sym, ap, ap₂, arith, nat_eq, filter, flat_map, get_or, append-nil}
 use Rattle.cx_static.specs.PlainLowered.{plain_lowereds}
 use Rattle.cx_wiring.specs.Reached.{numbers_from}
 use Rattle.cx_fsm.proofs.OrderingLemmas.{number_flat, numbers_none, order_is}

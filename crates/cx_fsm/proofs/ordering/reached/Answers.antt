@@ -1,4 +1,4 @@
-use Rattle.std.proofs.Common.{◌≡◌, ◌∷◌, ℕ, ◌<◌, Bool, true, false, ◌++◌, [], ◌∙◌, length, sym, ap, arith, filter, get_or, ◌+◌, ◌-◌}
+use Rattle.std.proofs.Common.{◌≡◌, ◌∷◌, ℕ, ◌<◌, false, ◌++◌, [], ◌∙◌, length, sym, ap, arith, filter, get_or, ◌+◌, ◌-◌}
 use Rattle.cx_static.specs.PlainLowered.{plain_lowereds}
 use Rattle.cx_wiring.specs.Reached.{count, has_number, numbers_from, reached_from}
 use Rattle.cx_fsm.proofs.OrderingLemmas.{kept_number, left_number}

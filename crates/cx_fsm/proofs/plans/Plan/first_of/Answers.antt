@@ -1,7 +1,7 @@
-use Rattle.std.proofs.Common.{◌≡◌, ◌<◌, ◌≤◌, ◌∙◌, length, map, get_or, ap, arith}
+use Rattle.std.proofs.Common.{◌≡◌, ◌<◌, ◌≤◌, ◌∙◌, length, get_or, ap, arith}
 use Rattle.std.proofs.lemmas.List.{length-map}
 use Rattle.cx_static.specs.PlainLowered.{plain_island}
-use Rattle.cx_fsm.specs.PlainStands.{firsts_from, islands_of}
+use Rattle.cx_fsm.specs.PlainStands.{islands_of}
 use Rattle.cx_fsm.proofs.PlanLemmas.{first_at, length_firsts}
 use Rattle.cx_fsm.proofs.plans.Plan.first_of.Goals as goal
 
