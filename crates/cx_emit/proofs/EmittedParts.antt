@@ -1,5 +1,5 @@
 -- What holds of the parts of a net that is emitted: all that has a width has 1 to 128 bits, and the numbers in expressions fit.
-use Rattle.std.proofs.Common.{◌≡◌, ℕ, suc, ◌<◌, ◌≤◌, true, List, [], ◌∷◌, length, All, Option, Some, None, IsSome, Result, Ok, Err, IfOk, slice_get, true≢false, refl, sym, ap, ◌∙◌, subst, arith}
+use Rattle.std.proofs.Common.{◌≡◌, ℕ, suc, ◌<◌, ◌≤◌, true, List, [], ◌∷◌, length, All, Option, Some, None, IsSome, slice_get, true≢false, refl, sym, ap, ◌∙◌, subst, arith}
 use Rattle.std.proofs.lemmas.List.Elements.{All-nil, All-cons}
 use Rattle.std.proofs.lemmas.Option.{get_or_from_slice_get, slice_get_within}
 use Rattle.std.specs.Prelude.{codes}
@@ -11,11 +11,9 @@ use Rattle.cx_rules.specs.Externals.{numbers_of, sizes_in}
 use Rattle.cx_net.specs.Nets.{PlainNetExpr, OfPort, OfRegister, OfWire, OfHole, OfGo, Fixed, Inverse, AllOf, AnyOf, Sum, Compares, PlainNetExprs, no_exprs, an_expr, PlainNetDriver, PlainNetComponent, PlainNet}
 use Rattle.cx_net.specs.NetFits.{HasPortWidth, HasWidth, AreBits, target_width, IsFitKind, IsExternalKind}
 use Rattle.cx_net.specs.NetTree.{no_net_component, net_component_at}
-use Rattle.cx_vtree.specs.Plain.{PlainExternal}
-use Rattle.cx_emit.specs.Emitted.{CanBeEmitted, PortFits, LiteralsFit, AllLiteralsFit, DriverFits, PortsAreWide, PartFits, HasWords, ExternalsHaveWords}
-use Rattle.cx_emit.specs.Numbered.{numbered_from, with_numbers, lists_from}
-use Rattle.cx_emit.specs.Signatures.{PlainCellPorts, cell_ports}
-use Rattle.cx_emit.specs.Sources.{cell_externals, externals_at, source_of}
+use Rattle.cx_emit.specs.Emitted.{CanBeEmitted, PortFits, LiteralsFit, AllLiteralsFit, DriverFits, PortsAreWide, PartFits, ExternalsHaveWords}
+use Rattle.cx_emit.specs.Numbered.{numbered_from, with_numbers}
+use Rattle.cx_emit.specs.Signatures.{cell_ports}
 use Rattle.cx_emit.proofs.CleanModules.{Each, each_more}
 use Rattle.cx_emit.proofs.CellPorts.{each_in, comp_there, kind_ports_are}
 use Rattle.cx_emit.proofs.PrimitiveModules.{primitive_owes}
@@ -112,9 +110,3 @@ module _ (net : PlainNet) (can : CanBeEmitted net) where
 
   pub main_has_words : (main : PlainNetComponent) → slice_get net.components net.main ≡ Some main → ExternalsHaveWords main.cells
   main_has_words main e = subst (λ (c : PlainNetComponent). ExternalsHaveWords c.cells) (get_or_from_slice_get net.components net.main main no_net_component e) externals_have_words
-
--- and they are what the source has
-pub externals_are : {X F : Type 0} (view : X → List PlainExternal) (net : PlainNet) (main : PlainNetComponent) (r : Result X F) → slice_get net.components net.main ≡ Some main
-    → IfOk r (λ x. view x ≡ lists_from cell_externals 0 main.cells) → IfOk r (λ x. view x ≡ (source_of net).externals)
-externals_are view net main (Ok x) e own = own ∙ ap externals_at (sym e)
-externals_are view net main (Err fault) e own = tt
