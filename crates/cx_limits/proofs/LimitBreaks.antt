@@ -87,7 +87,7 @@ past_main : (is_main : Bool) (tally : LimitTally) (k : ℕ) (place : Place) (bes
 past_main true tally k place best = refl
 past_main false tally k place best = refl
 
-past_own : Option FoundBreak → PlainComponent → Option FoundBreak
+abbrev past_own : Option FoundBreak → PlainComponent → Option FoundBreak
 past_own best part = noted (noted best part.place (if_over (told OnCells) CELLS (length part.cells))) part.place (if_over (told OnGroups) GROUPS (length part.groups))
 
 past_part_tests : (main : ℕ) (tally : LimitTally) (k : ℕ) (part : PlainComponent) (best : Option FoundBreak)
