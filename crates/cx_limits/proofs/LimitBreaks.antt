@@ -166,7 +166,7 @@ kinds_apart one other a b of_one of_other less k xs ys up above s t i j =
     let q = rising_in one k 0 xs s up i in
     let r = rising_in other k 0 ys t above j in
     let h : comes_before (k ∷ b ∷ r.0 ∷ []) (k ∷ a ∷ q.0 ∷ []) ≡ false =
-        no_less k k (b ∷ r.0 ∷ []) (a ∷ q.0 ∷ []) (omega arith) (λ e. no_less b a (r.0 ∷ []) (q.0 ∷ []) (omega arith) (λ f. absurd (omega arith))) in
+    no_less k k (b ∷ r.0 ∷ []) (a ∷ q.0 ∷ []) (omega arith) (λ e. no_less b a (r.0 ∷ []) (q.0 ∷ []) (omega arith) (λ f. absurd (omega arith))) in
     ap (λ x. comes_before x (spot_key s.spot)) (ap spot_key r.1 ∙ ap (λ xs. k ∷ xs) (of_other r.0))
     ∙ ap (comes_before (k ∷ b ∷ r.0 ∷ [])) (ap spot_key q.1 ∙ ap (λ xs. k ∷ xs) (of_one q.0)) ∙ h
 
