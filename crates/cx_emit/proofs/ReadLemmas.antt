@@ -6,7 +6,10 @@ use Rattle.cx_bits.specs.BitVector.{BitVector}
 use Rattle.cx_prim.specs.declared.ports.PortName.TheVariants.{WriteData, WriteEn, ReadData, Done}
 use Rattle.cx_prim.specs.Rows.{Row}
 use Rattle.cx_prim.specs.CombinationalRows.{constant_row, unary_row, binary_row, mux_row, plain_port, enable_port, output_port, registered_port}
-use Rattle.cx_prim.specs.MemoryRows.{address_ports, memory_row}
+use Rattle.cx_prim.specs.MemoryRows.{address_ports, memory_row, sequential_memory_row}
+use Rattle.cx_prim.specs.Operators.{apply_unary, apply_binary, binary_out_width}
+use Rattle.cx_prim.specs.PipeRows.{multiplier_row, divider_row, timer_row}
+use Rattle.cx_prim.specs.RegisterRow.{register_row}
 use Rattle.cx_prim.specs.Table.{PrimitiveRow, no_row, row_of}
 use Rattle.cx_prim.specs.TableCases.{OfEachKind, of_row}
 
@@ -42,15 +45,15 @@ each_kind_reads_ports : OfEachKind ReadsPorts
 each_kind_reads_ports = record {
   none = nothing_read;
   constant = λ w v fits. constant_reads w v;
-  unary = λ operator w v takes. unary_reads w v _;
-  binary = λ operator w ok. binary_reads w _ _;
+  unary = λ operator w v takes. unary_reads w v (apply_unary operator v);
+  binary = λ operator w ok. binary_reads w (binary_out_width operator w) (apply_binary operator);
   mux = λ w ok. mux_reads w;
-  register = λ w ok. none_read _ (λ n k. refl);
+  register = λ w ok. none_read (register_row w) (λ n k. refl);
   memory = λ w sizes widths layout. memory_reads w sizes widths layout.few;
-  sequential = λ w sizes widths layout. none_read _ (λ n k. refl);
-  multiplier = λ w ok. none_read _ (λ n k. refl);
-  divider = λ w ok. none_read _ (λ n k. refl);
-  timer = λ l some most. none_read _ (λ n k. refl);
+  sequential = λ w sizes widths layout. none_read (sequential_memory_row w sizes widths) (λ n k. refl);
+  multiplier = λ w ok. none_read (multiplier_row w) (λ n k. refl);
+  divider = λ w ok. none_read (divider_row w) (λ n k. refl);
+  timer = λ l some most. none_read (timer_row l) (λ n k. refl);
 }
 
 -- of each primitive
