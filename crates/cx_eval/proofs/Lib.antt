@@ -11,3 +11,4 @@ mod ShownLemmas
 mod AskedLemmas
 mod StepLemmas
 mod CycleLemmas
+mod OrderLemmas

@@ -1,5 +1,6 @@
 pub mod DemandSteps
 pub mod Touching
+pub mod PutLemmas
 pub mod GroundLemmas
 pub mod PartLemmas
 pub mod NodeLemmas
@@ -7,6 +8,7 @@ pub mod PlaceLemmas
 pub mod FoundLemmas
 pub mod LeadLemmas
 pub mod NetworkLemmas
+pub mod OrderLemmas
 pub mod ValueLemmas
 pub mod AcceptedLemmas
 pub mod ShortLemmas

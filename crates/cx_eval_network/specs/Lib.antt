@@ -1,4 +1,5 @@
 pub mod Demands
+pub mod Orders
 pub mod Touches
 pub mod Ports
 pub mod Parts
