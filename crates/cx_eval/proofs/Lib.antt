@@ -11,4 +11,3 @@ mod ShownLemmas
 mod AskedLemmas
 mod StepLemmas
 mod CycleLemmas
-mod OrderLemmas

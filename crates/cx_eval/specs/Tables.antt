@@ -18,7 +18,6 @@ use Rattle.cx_eval_drives.specs.Drivers.{AreDrivers}
 use Rattle.cx_eval_network.specs.Networks.{Asked, value_at}
 use Rattle.cx_eval_network.specs.Asked.{asked}
 use Rattle.cx_eval_cycle.specs.Passes.{IsAscending, listed_in}
-use Rattle.cx_eval.specs.Orders.{AreOrders}
 use Rattle.cx_eval.specs.declared.listing.Listed.{Listed}
 use Rattle.cx_eval.specs.declared.listing.Listed.TheVariants as listings
 use Rattle.cx_eval.specs.declared.tables.Tables.{Tables}
@@ -33,7 +32,6 @@ pub record AreTables (t : Tables) : Type 0 where
   pub table : IsTable (design_of t) t.table.rows.items t.table.children.items
   pub numbered : IsNodesOf (design_of t) t.table.rows.items t.nodes
   pub driven : AreDrivers (design_of t) t.drivers
-  pub orders : AreOrders (design_of t) t.orders.items
   pub nothing : t.nothing ≡ actives.Nothing
 
 -- what is asked of them, and the values of its nodes

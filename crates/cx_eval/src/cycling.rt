@@ -62,7 +62,7 @@ fn fault_in(
 }
 
 /// The fault of a cell of an instance, as it is told.
-pub(crate) fn told(fault: CellFault, instance: usize) -> PortFault
+fn told(fault: CellFault, instance: usize) -> PortFault
     requires few { instance < 2 ^ 32 }
     ensures value { result ≡ record { kind = fault.stop.kind; instance = instance; port = Cell fault.cell fault.stop.port } }
 {

@@ -13,9 +13,8 @@ ghost use Rattle.cx_eval_cycle.specs.Passes.{IsAscending, listed_in};
 use crate::cycling::cycle_in;
 use crate::listing::Listed;
 use crate::sights::seen_in;
-use crate::tables::{Tables, ask};
-use crate::turns::{GroupTurn, island_in, turn_in};
-use crate::walking::{part_of, walk};
+use crate::tables::Tables;
+use crate::turns::{GroupTurn, turn_in};
 use cx_design::{Active, Checked, PortFault, PortRef, Seen};
 use cx_eval_network::Marks;
 use cx_state::State;
@@ -66,11 +65,6 @@ impl<'a> Evaluator<'a> {
         ensures same { self.new ≡ self.old }
     {
         self.marks.forget();
-        if let Active::Group(group) = active {
-            let asking = ask(&self.tables, state, active, instance);
-            let order = &part_of(&self.tables, instance).groups[*group as usize];
-            walk(&asking, &mut self.marks, order.outputs.as_slice());
-        }
         seen_in(&self.tables, &mut self.marks, state, active, instance, port)
     }
 
@@ -90,9 +84,6 @@ impl<'a> Evaluator<'a> {
         ensures same { self.new ≡ self.old }
     {
         self.marks.forget();
-        if let Some(ended) = island_in(&self.tables, &mut self.marks, state, active, instance) {
-            return ended;
-        }
         cycle_in(
             &self.tables,
             &mut self.marks,

@@ -8,14 +8,12 @@ mod evaluator;
 mod faults;
 pub mod laws;
 mod listing;
-mod orders;
 mod owned;
 mod sights;
 mod stepping;
 mod stopping;
 mod tables;
 mod turns;
-mod walking;
 
 pub use evaluator::Evaluator;
 pub use faults::{first_fault, first_fault_among};

@@ -8,7 +8,6 @@ ghost use Rattle.cx_eval_network.specs.Askings.{IsAsking, asked_of};
 ghost use Rattle.cx_eval.specs.Evaluated.{CanAct};
 ghost use Rattle.cx_eval.specs.Tables.{AreTables, asked_in, cells_at, design_of};
 
-use crate::orders::{PartOrders, orders};
 use cx_design::{Active, Cell, Checked, Design};
 use cx_design_parts::component;
 use cx_eval_drives::Drivers;
@@ -24,8 +23,6 @@ pub(crate) struct Tables<'a> {
     pub(crate) table: InstanceTable,
     pub(crate) nodes: Nodes,
     pub(crate) drivers: Drivers<'a>,
-    /// The order in which the ports of each group are wanted.
-    pub(crate) orders: Vec<PartOrders<'a>>,
     /// The empty active set, for the instances below the asked one.
     pub(crate) nothing: Active,
 }
@@ -40,13 +37,11 @@ impl<'a> Tables<'a> {
         let design = design.design();
         let nodes = Nodes::new(alloc, design, &table)?;
         let drivers = Drivers::new(alloc, design)?;
-        let orders = orders(alloc, design, &drivers)?;
         Ok(Tables {
             design,
             table,
             nodes,
             drivers,
-            orders,
             nothing: Active::Nothing,
         })
     }

@@ -11,10 +11,10 @@ ghost use Rattle.cx_eval_cycle.specs.Passes.{IsAscending, listed_in};
 ghost use Rattle.cx_eval.specs.Evaluated.{CanAct, IsPort, Turned};
 ghost use Rattle.cx_eval.specs.Tables.{AreMarksOf, AreReady, AreTables, design_of};
 
-use crate::cycling::told;
+use crate::cycling::cycle_in;
+use crate::listing::Listed;
 use crate::sights::seen_in;
-use crate::tables::{Tables, ask, cells_of};
-use crate::walking::{cycle_along, idle_others, part_of, walk};
+use crate::tables::Tables;
 use cx_design::{Active, PortFault, PortRef, Seen};
 use cx_eval_drives::{Truth, truth_of};
 use cx_eval_network::Marks;
@@ -58,10 +58,6 @@ pub(crate) fn turn_in(
     ensures sized { AreMarksOf tables.now marks.new }
 {
     let active = Active::Group(group);
-    let part = part_of(tables, instance);
-    let order = &part.groups[group as usize];
-    let asking = ask(tables, state, &active, instance);
-    walk(&asking, marks, order.hole.as_slice());
     let hole = seen_in(
         tables,
         marks,
@@ -71,44 +67,9 @@ pub(crate) fn turn_in(
         PortRef::Done(group),
     );
     if is_zero(&hole) {
-        let _ = cells;
-        match cycle_along(tables, marks, state, &active, instance, order) {
-            Some(fault) => GroupTurn::Cycled(Err(told(fault, instance))),
-            None => GroupTurn::Cycled(Ok(())),
-        }
+        let listed = Listed::These(cells);
+        GroupTurn::Cycled(cycle_in(tables, marks, state, &active, instance, listed))
     } else {
         GroupTurn::Seen(hole)
-    }
-}
-
-/// A cycle of an instance under a single static group, along its order.
-pub(crate) fn island_in(
-    tables: &Tables<'_>,
-    marks: &mut Marks,
-    state: &mut State,
-    active: &Active,
-    instance: usize,
-) -> Option<Result<(), PortFault>> {
-    let Active::Entries(entries) = active else {
-        return None;
-    };
-    if entries.len() != 1 {
-        return None;
-    }
-    let part = part_of(tables, instance);
-    let order = &part.groups[entries[0].group as usize];
-    for cell in 0..part.quiet.len() {
-        if !part.quiet[cell] {
-            return None;
-        }
-    }
-    match cycle_along(tables, marks, state, active, instance, order) {
-        Some(fault) => Some(Err(told(fault, instance))),
-        None => {
-            let cells = cells_of(tables, instance);
-            let own = &mut state.instances[instance];
-            idle_others(cells, &mut own.cells, order.numbers.as_slice());
-            Some(Ok(()))
-        }
     }
 }

@@ -56,7 +56,7 @@ further : (leads : ℕ → List ℕ) (n m k : ℕ) → Way leads n m → In (lea
 further leads n m k (at_once i) j = by_way_of m i (at_once j)
 further leads n m k (by_way_of l i w) j = by_way_of l i (further leads l m k w j)
 
-pub is_open_or : (o : Option NodeMark) → is_known o ≡ false → (o ≡ None) ⊎ ((o ≡ Some Unseen) ⊎ (o ≡ Some Open))
+is_open_or : (o : Option NodeMark) → is_known o ≡ false → (o ≡ None) ⊎ ((o ≡ Some Unseen) ⊎ (o ≡ Some Open))
 is_open_or None e = inl refl
 is_open_or (Some Unseen) e = inr (inl refl)
 is_open_or (Some Open) e = inr (inr refl)

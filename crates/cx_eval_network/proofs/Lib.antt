@@ -1,6 +1,5 @@
 pub mod DemandSteps
 pub mod Touching
-pub mod PutLemmas
 pub mod GroundLemmas
 pub mod PartLemmas
 pub mod NodeLemmas
@@ -8,7 +7,6 @@ pub mod PlaceLemmas
 pub mod FoundLemmas
 pub mod LeadLemmas
 pub mod NetworkLemmas
-pub mod OrderLemmas
 pub mod ValueLemmas
 pub mod AcceptedLemmas
 pub mod ShortLemmas

@@ -46,10 +46,10 @@ port_in None = ports.Literal 0 0
 port_in (Some found) = found.port
 
 -- a node that stands for a port of an instance
-pub record ToPort (a : Asked) (n m : ℕ) (qs : List PortRef) : Type 0 where
-  pub port : PortRef
-  pub listed : In qs port
-  pub node : node_at a.design a.rows n port ≡ Some m
+record ToPort (a : Asked) (n m : ℕ) (qs : List PortRef) : Type 0 where
+  port : PortRef
+  listed : In qs port
+  node : node_at a.design a.rows n port ≡ Some m
 
 record ToChild (a : Asked) (n m : ℕ) : Type 0 where
   child : ℕ
@@ -58,7 +58,7 @@ record ToChild (a : Asked) (n m : ℕ) : Type 0 where
   there : child < length a.rows
   node : node_at a.design a.rows child port ≡ Some m
 
-pub nodes_in : (a : Asked) (n m : ℕ) (qs : List PortRef) → In (nodes_of a n qs) m → ToPort a n m qs
+nodes_in : (a : Asked) (n m : ℕ) (qs : List PortRef) → In (nodes_of a n qs) m → ToPort a n m qs
 nodes_in a n m [] i = absurd i
 nodes_in a n m (q ∷ qs) i =
     ⊎_elim
@@ -124,7 +124,7 @@ module _ (a : Asked) (nodes : Nodes) (h : IsNetwork a nodes) where
       choice None past = let below = nodes_within a.design a.rows k q m lt e in absurd (omega (arith, past, below))
       choice (Some found) at = nodes_apart a.design a.rows found.instance k found.port q m (at_is m found at) e
 
-  pub asked_is : (o : Option NodePort) (m : ℕ) → In (leads_of a (asked_port a o)) m → (found : NodePort) × (o ≡ Some found) × In (leads_of a (Some found)) m
+  asked_is : (o : Option NodePort) (m : ℕ) → In (leads_of a (asked_port a o)) m → (found : NodePort) × (o ≡ Some found) × In (leads_of a (Some found)) m
   asked_is None m i = absurd i
   asked_is (Some found) m i = (found, refl, choice (nat_le a.instance found.instance) i)
     where

@@ -1,5 +1,4 @@
 pub mod Demands
-pub mod Orders
 pub mod Touches
 pub mod Ports
 pub mod Parts

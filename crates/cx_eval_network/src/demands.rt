@@ -1,15 +1,13 @@
 //! What is known of the nodes of a network.
 
-ghost use Rattle.std.specs.Prelude.{◌≡◌, ◌<◌, ℕ, false, IfOk, Some, length, slice_get};
+ghost use Rattle.std.specs.Prelude.{◌≡◌, ◌<◌, ℕ, IfOk, length};
 ghost use Rattle.cx_meaning.specs.declared.sights.Seen.{Seen};
-ghost use Rattle.cx_eval_network.specs.Demands.{AllUnseen, Demanded, IsGrounded, Ready, StaysWithin, known_at};
-ghost use Rattle.cx_eval_network.specs.declared.marks.NodeMark.TheVariants.{Open};
+ghost use Rattle.cx_eval_network.specs.Demands.{AllUnseen, Demanded, IsGrounded, Ready, StaysWithin};
 
-use crate::finding::{find, put};
-use crate::marks::{NodeMark, is_known, unseen_marks};
+use crate::finding::find;
+use crate::marks::{NodeMark, unseen_marks};
 use crate::network::Network;
 use crate::touched::Touched;
-use cx_meaning::Seen;
 use cx_text::Memory;
 use std::alloc::Global;
 use std::marker::Model;
@@ -85,23 +83,5 @@ impl Marks {
             &mut self.touched,
             root,
         );
-    }
-
-    /// Whether a node is known.
-    pub fn knows(&self, node: usize) -> bool
-        ensures value { result ≡ known_at self.now node }
-    {
-        is_known(self.marks.as_slice(), node)
-    }
-
-    /// Keeps the value of a node that is not known, where no node waits. It takes no memory.
-    pub fn put(&mut self, node: usize, seen: Seen)
-        requires within { node < length self.old }
-        requires unknown { known_at self.old node ≡ false }
-        requires closed { (n : ℕ) → slice_get self.old n ≡ Some Open → ⊥ }
-        ensures value { (value : ℕ → Seen) → Ready value self.old → seen ≡ value node → Demanded value node self.old self.new }
-        ensures count { length self.new ≡ length self.old }
-    {
-        put(&mut self.marks, &mut self.touched, node, seen);
     }
 }

@@ -1,15 +1,12 @@
 //! The value of a node, found over those that it depends on.
 
-ghost use Rattle.std.specs.Prelude.{◌≡◌, ◌<◌, ℕ, false, Some, length, slice_get};
-ghost use Rattle.cx_meaning.specs.declared.sights.Seen as sights;
-ghost use Rattle.cx_eval_network.specs.declared.marks.NodeMark.TheVariants.{Open};
-ghost use Rattle.cx_eval_network.specs.Demands.{Demanded, IsGrounded, Ready, StaysWithin, known_at};
+ghost use Rattle.std.specs.Prelude.{◌≡◌, ◌<◌, length};
+ghost use Rattle.cx_eval_network.specs.Demands.{Demanded, IsGrounded, Ready, StaysWithin};
 ghost use Rattle.cx_eval_network.specs.Touches.{AreTouched};
 
 use crate::marks::{NodeMark, is_known};
 use crate::network::{Found, Network};
 use crate::touched::Touched;
-use cx_meaning::Seen;
 
 /// Finds the value of a node, and those of all that it depends on. `stack` is as long as `marks`, and what it holds is of no
 /// account. It takes no memory, and does not recurse from node to node.
@@ -52,18 +49,4 @@ pub fn find<N: Network>(
             }
         }
     }
-}
-
-/// Keeps the value of a node that is not known, where no node waits. It takes no memory.
-pub fn put(marks: &mut [NodeMark], touched: &mut Touched, node: usize, seen: Seen)
-    requires within { node < length marks.old }
-    requires unknown { known_at marks.old node ≡ false }
-    requires closed { (n : ℕ) → slice_get marks.old n ≡ Some Open → ⊥ }
-    requires touched { AreTouched touched.old.nodes.items touched.old.count marks.old }
-    ensures value { (value : ℕ → sights.Seen) → Ready value marks.old → seen ≡ value node → Demanded value node marks.old marks.new }
-    ensures count { length marks.new ≡ length marks.old }
-    ensures touched { AreTouched touched.new.nodes.items touched.new.count marks.new }
-{
-    touched.open(marks, node);
-    marks[node] = NodeMark::Known(seen);
 }

@@ -41,7 +41,7 @@ pub use marks::{NodeMark, is_known};
 pub use network::{Found, Network};
 pub use network_laws::{
     accepted_designs_are_networks, known_nodes_decide, lead_ports_lead, networks_are_grounded,
-    networks_stay_within, part_orders_are_orders,
+    networks_stay_within,
 };
 pub use node_laws::{later_nodes_are_greater, nodes_are_apart, nodes_are_within, ports_have_nodes};
 pub use numbering::{InstanceNodes, NodePort, Nodes};

@@ -1,6 +1,6 @@
 //! Laws: each function does nothing, and its clause is the law.
 
-ghost use Rattle.std.specs.Prelude.{◌≡◌, ◌↔◌, ◌<◌, ℕ, List, Some, length};
+ghost use Rattle.std.specs.Prelude.{◌≡◌, ◌↔◌, ℕ, List, Some};
 ghost use Rattle.cx_meaning.specs.declared.ports.PortRef.{PortRef};
 ghost use Rattle.cx_meaning.specs.Active.{Active};
 ghost use Rattle.cx_meaning.specs.Designs.{PlainDesign};
@@ -20,8 +20,7 @@ ghost use Rattle.cx_state.specs.States.{under_path};
 ghost use Rattle.cx_state.specs.ReadStates.{state_in};
 ghost use Rattle.cx_eval_network.specs.declared.numbering.NodePort.{NodePort};
 ghost use Rattle.cx_eval_network.specs.declared.numbering.Nodes.{Nodes};
-ghost use Rattle.cx_eval_network.specs.Nodes.{IsNodesOf, first_node, found_at, node_count, part_at};
-ghost use Rattle.cx_eval_network.specs.Orders.{IsOrder, IsPartOrder};
+ghost use Rattle.cx_eval_network.specs.Nodes.{IsNodesOf, found_at, node_count};
 ghost use Rattle.cx_eval_network.specs.LeadPorts.{lead_ports};
 ghost use Rattle.cx_eval_network.specs.Networks.{Asked, IsNetwork, active_at, asked_port, below_at, held_at, instance_of, leads_at, look_at, path_at, value_at};
 
@@ -48,12 +47,6 @@ pub fn networks_stay_within()
 /// No node leads back to itself.
 pub fn networks_are_grounded()
     ensures { (a : Asked) (nodes : Nodes) → IsNetwork a nodes → IsGrounded (leads_at a nodes) }
-{}
-
-/// An order of the ports of a component is one of the nodes of the asked instance.
-pub fn part_orders_are_orders()
-    ensures { (a : Asked) (nodes : Nodes) (order : List ℕ) → IsNetwork a nodes → a.instance < length a.rows → IsPartOrder (part_at a.design a.rows a.instance) a.active order
-        → IsOrder (leads_at a nodes) (first_node a.design a.rows a.instance) order }
 {}
 
 /// The value of a node is what one step gives of what the marks show, where they show what the node leads to.

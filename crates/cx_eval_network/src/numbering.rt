@@ -5,7 +5,7 @@ ghost use Rattle.cx_meaning.specs.Designs.{PlainDesign};
 ghost use Rattle.cx_design.specs.PlainDesigns.{plain_design};
 ghost use Rattle.cx_state.specs.declared.tables.InstanceRow.{InstanceRow};
 ghost use Rattle.cx_state.specs.Tables.{IsTable, row_at};
-ghost use Rattle.cx_eval_network.specs.Nodes.{ArePortsOf, HaveParts, IsNodesOf, IsPortOf, StandBehind, first_node, found_at, node_at, node_count};
+ghost use Rattle.cx_eval_network.specs.Nodes.{ArePortsOf, HaveParts, IsNodesOf, IsPortOf, StandBehind, found_at, node_at, node_count};
 
 use crate::instance_ports::InstancePorts;
 use crate::parts::PartNodes;
@@ -73,16 +73,6 @@ impl Nodes {
             first: place.first,
         };
         ports.node(port)
-    }
-
-    /// The first node of an instance.
-    pub fn first(&self, instance: usize) -> usize
-        ensures value { (d : PlainDesign) (rows : List InstanceRow) → IsNodesOf d rows self.now → instance < length rows → result ≡ first_node d rows instance }
-    {
-        match instance_nodes(self.instances.as_slice(), instance) {
-            Some(place) => place.first,
-            None => 0,
-        }
     }
 
     /// The ports of an instance of the table of a design that is numbered.

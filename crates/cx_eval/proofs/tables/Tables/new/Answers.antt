@@ -11,6 +11,5 @@ returns-clause-tables c = record {
   table = subst (λ d. IsTable (plain_design d) c.in_ok-table.table.rows.items c.in_ok-table.table.children.items) (sym c.design-design.ensures.value) c.in_ok-table.ensures.value;
   numbered = c.in_ok-nodes.ensures.value;
   driven = c.in_ok-drivers.ensures.value;
-  orders = c.in_ok-orders.ensures.value;
   nothing = refl;
 }
