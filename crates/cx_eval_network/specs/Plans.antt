@@ -59,6 +59,6 @@ abbrev pub instance_of : PlannedPart → Instance
 instance_of part = component_of (plain_design part.design.now) part.component
 
 pub record IsPlannedPart (part : PlannedPart) : Type 0 where
-  pub within : part.component < length (plain_design part.design.now).components
+  pub within : part.component < length part.design.now.components.items
   pub numbered : IsNodesOf (instance_of part) part.numbers.now
   pub driven : AreDrivers (plain_design part.design.now) part.drivers.now

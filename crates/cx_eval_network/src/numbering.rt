@@ -115,7 +115,10 @@ impl Nodes {
         ensures some { IfSome result (λ plan. (d : PlainDesign) (rows : List InstanceRow) (p : refs.PortRef) → IsNodesOf d rows self.now → node_of (component_of d component) p ≡ Some number → IsPlanOf (component_of d component) p plan.now) }
     {
         match part_plans(self.plans.as_slice(), component) {
-            Some(part) => port_plan(part.ports.as_slice(), number),
+            Some(part) => match port_plan(part.ports.as_slice(), number) {
+                Some(plan) => Some(plan),
+                None => None,
+            },
             None => None,
         }
     }

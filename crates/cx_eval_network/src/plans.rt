@@ -27,6 +27,7 @@ ghost use Rattle.cx_eval_network.specs.Parts.{ArePorts};
 ghost use Rattle.cx_eval_network.specs.Plans.{ArePlans, HavePlans, IsPlan, IsPlanOf, IsPlannedPart, instance_of, led_by, numbers_of};
 
 use crate::parts::PartNodes;
+use crate::steps::bit_seen;
 use cx_cells::Primitive;
 use cx_design::{Assign, Design, PlacedPort, PortRef, Seen};
 use cx_design_leads::Nodes as PartNumbers;
@@ -34,7 +35,7 @@ use cx_design_parts::{
     At, OwnedAssign, PartPort, operands, part_port, read_count, side, stands_at,
 };
 use cx_eval_drives::{Drivers, own_assigns_drive};
-use cx_prim::{Side, bit};
+use cx_prim::Side;
 use cx_text::Memory;
 use std::alloc::Global;
 
@@ -85,7 +86,7 @@ pub fn all_plans(
             numbers: &parts[component].numbers,
             drivers: &drivers,
         };
-        let ports = part_plans(alloc, part, parts[component].ports.as_slice())?;
+        let ports = part_plans(alloc, &part, parts[component].ports.as_slice())?;
         plans.push(PartPlans { ports })?;
     }
     Ok(plans)
@@ -94,12 +95,12 @@ pub fn all_plans(
 /// Those of the ports of a component, in the order of their numbers.
 fn part_plans(
     alloc: Global,
-    part: PlannedPart<'_, '_>,
+    part: &PlannedPart<'_, '_>,
     ports: &[PortRef],
 ) -> Result<Vec<PortPlan>, Memory>
-    requires part { IsPlannedPart part }
-    requires ports { ArePorts (instance_of part) (node_count (instance_of part)) ports.now }
-    ensures value { IfOk result (λ plans. ArePlans (instance_of part) plans.items) }
+    requires part { IsPlannedPart part.now }
+    requires ports { ArePorts (instance_of part.now) (node_count (instance_of part.now)) ports.now }
+    ensures value { IfOk result (λ plans. ArePlans (instance_of part.now) plans.items) }
 {
     let mut plans = Vec::new(alloc);
     for number in 0..ports.len() {
@@ -111,33 +112,34 @@ fn part_plans(
 /// The plan of a port, by its number.
 fn plan_of(
     alloc: Global,
-    part: PlannedPart<'_, '_>,
+    part: &PlannedPart<'_, '_>,
     port: PortRef,
     number: usize,
 ) -> Result<PortPlan, Memory>
-    requires part { IsPlannedPart part }
-    requires number { node_of (instance_of part) port ≡ Some number }
-    ensures value { IfOk result (IsPlanOf (instance_of part) port) }
+    requires part { IsPlannedPart part.now }
+    requires number { node_of (instance_of part.now) port ≡ Some number }
+    ensures value { IfOk result (IsPlanOf (instance_of part.now) port) }
 {
     match port {
         PortRef::Cell(cell, port) => cell_plan(alloc, part, cell, port, number),
         PortRef::Output(_) => driven_plan(alloc, part, port, number, Seen::Undefined),
-        PortRef::Done(_) => driven_plan(alloc, part, port, number, Seen::Value(bit(false))),
-        PortRef::Input(_) | PortRef::Literal(_, _) => Ok(no_plan(alloc)),
+        PortRef::Done(_) => driven_plan(alloc, part, port, number, bit_seen(false)),
+        PortRef::Input(_) => Ok(no_plan(alloc)),
+        PortRef::Literal(_, _) => Ok(no_plan(alloc)),
     }
 }
 
 /// The plan of a port of a cell.
 fn cell_plan(
     alloc: Global,
-    part: PlannedPart<'_, '_>,
+    part: &PlannedPart<'_, '_>,
     cell: u32,
     port: u32,
     number: usize,
 ) -> Result<PortPlan, Memory>
-    requires part { IsPlannedPart part }
-    requires number { node_of (instance_of part) (Cell cell port) ≡ Some number }
-    ensures value { IfOk result (IsPlanOf (instance_of part) (Cell cell port)) }
+    requires part { IsPlannedPart part.now }
+    requires number { node_of (instance_of part.now) (Cell cell port) ≡ Some number }
+    ensures value { IfOk result (IsPlanOf (instance_of part.now) (Cell cell port)) }
 {
     match stands_at(part.design, part.component, cell) {
         At::Nothing => Ok(no_plan(alloc)),
@@ -151,21 +153,24 @@ fn cell_plan(
 /// The plan of a port of a primitive.
 fn primitive_plan(
     alloc: Global,
-    part: PlannedPart<'_, '_>,
+    part: &PlannedPart<'_, '_>,
     cell: u32,
     primitive: &Primitive,
     port: u32,
     number: usize,
 ) -> Result<PortPlan, Memory>
-    requires part { IsPlannedPart part }
-    requires number { node_of (instance_of part) (Cell cell port) ≡ Some number }
-    ensures value { IfOk result (IsPlan (instance_of part) (λ act. side_leads (part_of (instance_of part)) act (row_of primitive.now) cell port (side_of (row_of primitive.now) port)) (λ held act s look below. sights.side_step (part_of (instance_of part)) act s look below (row_of primitive.now) cell port (side_of (row_of primitive.now) port)) (Cell cell port)) }
+    requires part { IsPlannedPart part.now }
+    requires number { node_of (instance_of part.now) (Cell cell port) ≡ Some number }
+    ensures value { IfOk result (IsPlan (instance_of part.now) (λ act. side_leads (part_of (instance_of part.now)) act (row_of primitive.now) cell port (side_of (row_of primitive.now) port)) (λ held act s look below. sights.side_step (part_of (instance_of part.now)) act s look below (row_of primitive.now) cell port (side_of (row_of primitive.now) port)) (Cell cell port)) }
 {
     let own = PortRef::Cell(cell, port);
     match side(primitive, port) {
-        Side::Enable => driven_plan(alloc, part, own, number, Seen::Value(bit(false))),
+        Side::Enable => driven_plan(alloc, part, own, number, bit_seen(false)),
         Side::Plain => driven_plan(alloc, part, own, number, Seen::Undefined),
-        Side::Output => inputs_plan(alloc, part, cell, primitive),
+        Side::Output => {
+            let plan = inputs_plan(alloc, part, cell, primitive)?;
+            Ok(plan)
+        }
         Side::Registered => Ok(no_plan(alloc)),
     }
 }
@@ -173,21 +178,22 @@ fn primitive_plan(
 /// The plan of a port of a component cell.
 fn component_plan(
     alloc: Global,
-    part: PlannedPart<'_, '_>,
+    part: &PlannedPart<'_, '_>,
     cell: u32,
     port: u32,
     kind: PartPort,
     number: usize,
 ) -> Result<PortPlan, Memory>
-    requires part { IsPlannedPart part }
-    requires number { node_of (instance_of part) (Cell cell port) ≡ Some number }
-    ensures value { IfOk result (IsPlan (instance_of part) (λ act. part_leads (part_of (instance_of part)) act cell port (plain_part_port kind)) (λ held act s look below. sights.part_step (part_of (instance_of part)) act s look below cell port (plain_part_port kind)) (Cell cell port)) }
+    requires part { IsPlannedPart part.now }
+    requires number { node_of (instance_of part.now) (Cell cell port) ≡ Some number }
+    ensures value { IfOk result (IsPlan (instance_of part.now) (λ act. part_leads (part_of (instance_of part.now)) act cell port (plain_part_port kind)) (λ held act s look below. sights.part_step (part_of (instance_of part.now)) act s look below cell port (plain_part_port kind)) (Cell cell port)) }
 {
     let own = PortRef::Cell(cell, port);
     match kind {
-        PartPort::Go => driven_plan(alloc, part, own, number, Seen::Value(bit(false))),
+        PartPort::Go => driven_plan(alloc, part, own, number, bit_seen(false)),
         PartPort::Input(_) => driven_plan(alloc, part, own, number, Seen::Undefined),
-        PartPort::Output(_) | PartPort::Done => Ok(no_plan(alloc)),
+        PartPort::Output(_) => Ok(no_plan(alloc)),
+        PartPort::Done => Ok(no_plan(alloc)),
     }
 }
 
@@ -204,12 +210,12 @@ fn no_plan(alloc: Global) -> PortPlan
 /// The plan of an output of a primitive: the inputs that the outputs read.
 fn inputs_plan(
     alloc: Global,
-    part: PlannedPart<'_, '_>,
+    part: &PlannedPart<'_, '_>,
     cell: u32,
     primitive: &Primitive,
 ) -> Result<PortPlan, Memory>
-    requires part { IsPlannedPart part }
-    ensures value { IfOk result (λ plan. (steps : Held → plain.Active → State → Look → Below → views.Seen) (p : ports.PortRef) → IsPlan (instance_of part) (λ act. numbered cell (outputs.read_count (row_of primitive.now).ports)) steps p plan) }
+    requires part { IsPlannedPart part.now }
+    ensures value { IfOk result (λ plan. (steps : Held → plain.Active → State → Look → Below → views.Seen) (p : ports.PortRef) → IsPlan (instance_of part.now) (λ act. numbered cell (outputs.read_count (row_of primitive.now).ports)) steps p plan) }
 {
     let numbers = input_numbers(alloc, part.numbers, cell, primitive)?;
     let mut leads = Vec::new(alloc);
@@ -244,14 +250,14 @@ fn input_numbers(
 /// The plan of a port that its drivers decide.
 fn driven_plan(
     alloc: Global,
-    part: PlannedPart<'_, '_>,
+    part: &PlannedPart<'_, '_>,
     port: PortRef,
     number: usize,
     undriven: Seen,
 ) -> Result<PortPlan, Memory>
-    requires part { IsPlannedPart part }
-    requires number { node_of (instance_of part) port ≡ Some number }
-    ensures value { IfOk result (IsPlan (instance_of part) (λ act. named_by (drivers (part_of (instance_of part)) act port)) (λ held act s look below. target_seen undriven look (drivers (part_of (instance_of part)) act port)) port) }
+    requires part { IsPlannedPart part.now }
+    requires number { node_of (instance_of part.now) port ≡ Some number }
+    ensures value { IfOk result (IsPlan (instance_of part.now) (λ act. named_by (drivers (part_of (instance_of part.now)) act port)) (λ held act s look below. target_seen undriven look (drivers (part_of (instance_of part.now)) act port)) port) }
 {
     own_assigns_drive();
     let assigns = part.drivers.assigns_of(part.component, number);

@@ -18,6 +18,7 @@ use cx_state::alike_laws::rows_stand;
 use cx_state::width_laws::states_hold_widths;
 
 /// What a port is seen as that is found, where all that it leads to is known. It takes no memory.
+#[inline(never)]
 pub fn planned_value(
     asking: &Asking<'_>,
     marks: &[NodeMark],
@@ -71,6 +72,7 @@ fn driven_value(
 }
 
 /// The same of any port, by its place.
+#[inline(never)]
 fn found_value(
     asking: &Asking<'_>,
     marks: &[NodeMark],
