@@ -31,7 +31,7 @@ pub fn planned_value(
     requires known { AreKnown (value_at (asked_of asking.now) asking.now.nodes.now) marks.now (leads_of (asked_of asking.now) (Some found)) }
     ensures value { result ≡ seen_at (asked_of asking.now) found.instance found.port }
 {
-    match plan.undriven {
+    match &plan.undriven {
         Some(undriven) => driven_value(asking, marks, found, plan, undriven),
         None => found_value(asking, marks, found, &place_of(asking, found)),
     }
@@ -43,12 +43,12 @@ fn driven_value(
     marks: &[NodeMark],
     found: NodePort,
     _plan: &PortPlan,
-    undriven: Seen,
+    undriven: &Seen,
 ) -> Seen
     requires can { IsAsking asking.now }
     requires found { IsFound (asked_of asking.now) found }
     requires plan { IsPlanOf (part_at (asked_of asking.now).design (asked_of asking.now).rows found.instance) found.port _plan.now }
-    requires undriven { _plan.now.undriven ≡ Some undriven }
+    requires undriven { _plan.now.undriven ≡ Some undriven.now }
     requires known { AreKnown (value_at (asked_of asking.now) asking.now.nodes.now) marks.now (leads_of (asked_of asking.now) (Some found)) }
     ensures value { result ≡ seen_at (asked_of asking.now) found.instance found.port }
 {
@@ -67,7 +67,7 @@ fn driven_value(
         active_of(asking, found.instance),
         found.component as usize,
         found.number,
-        undriven,
+        *undriven,
     )
 }
 

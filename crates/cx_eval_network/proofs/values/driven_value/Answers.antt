@@ -18,5 +18,5 @@ returns c =
       value =
           c.driven_seen.ensures.value a.design (instance_of a found.instance) found.port can.driven (component_within asking can found f)
           (ap (λ m. node_of (component_of a.design m) found.port) f.component ∙ f.number)
-          ∙ planned_seen asking can found f c.args._plan.now c.requires.plan c.args.marks.now c.args.undriven c.requires.undriven c.active_of.result.now c.active_of.ensures.value c.requires.known;
+          ∙ planned_seen asking can found f c.args._plan.now c.requires.plan c.args.marks.now c.args.undriven.now c.requires.undriven c.active_of.result.now c.active_of.ensures.value c.requires.known;
     }
