@@ -32,7 +32,7 @@ use Rattle.cx_eval_network.specs.Places.{active_of}
 use Rattle.cx_eval_network.specs.declared.asking.Asking.{Asking}
 use Rattle.cx_eval_network.specs.Asked.{CanAsk, child_in}
 use Rattle.cx_eval_network.specs.Askings.{IsFound, IsPlaceOf, asked_of}
-use Rattle.cx_eval_network.specs.Lacking.{lacking, owned_lack, port_known, unknown_in}
+use Rattle.cx_eval_network.specs.Lacking.{unknown_in}
 use Rattle.cx_eval_network.proofs.AskLemmas.{active_there, place_instance, there}
 use Rattle.cx_eval_network.proofs.LeadLemmas.{lt_true}
 

@@ -174,7 +174,7 @@ nodes_are a n (q ∷ qs) = choice (node_of (part_at a.design a.rows n) q) (nodes
     choice : (o : Option ℕ) → nodes_of a n qs ≡ map (λ m. first_node a.design a.rows n + m) (numbers_of (part_at a.design a.rows n) qs)
         → option_to_list (option_map (λ m. first_node a.design a.rows n + m) o) ++ nodes_of a n qs ≡ map (λ m. first_node a.design a.rows n + m) (option_to_list o ++ numbers_of (part_at a.design a.rows n) qs)
     choice None e = e
-    choice (Some m) e = ap (λ ns. first_node a.design a.rows n + m ∷ ns) e
+    choice (Some m) e = ap (λ ns. (first_node a.design a.rows n + m) ∷ ns) e
 
 -- THE FIRST that is not known
 module _ (marks : List NodeMark) where

@@ -1,6 +1,6 @@
 //! What is known of each port of a component before any run.
 
-ghost use Rattle.std.specs.Prelude.{◌≡◌, ◌++◌, ◌<◌, ℕ, [], IfOk, List, OnOk, Option, Some, length, map, option_to_list};
+ghost use Rattle.std.specs.Prelude.{◌≡◌, ◌++◌, ◌<◌, ℕ, [], IfOk, List, OnOk, Option, Some, length, map, option_to_list, slice_get};
 ghost use Rattle.cx_prim.specs.Table.{row_of};
 ghost use Rattle.cx_meaning.specs.declared.ports.PortRef as ports;
 ghost use Rattle.cx_meaning.specs.declared.ports.PortRef.TheVariants.{Cell};
@@ -104,9 +104,18 @@ fn part_plans(
 {
     let mut plans = Vec::new(alloc);
     for number in 0..ports.len() {
-        plans.push(plan_of(alloc, part, ports[number], number)?)?;
+        let port = port_at(ports, number);
+        plans.push(plan_of(alloc, part, port, number)?)?;
     }
     Ok(plans)
+}
+
+/// The port of a number.
+fn port_at(ports: &[PortRef], number: usize) -> PortRef
+    requires within { number < length ports.now }
+    ensures value { slice_get ports.now number ≡ Some result }
+{
+    ports[number]
 }
 
 /// The plan of a port, by its number.

@@ -1,10 +1,11 @@
-use Rattle.std.proofs.Common.{rules, ◌≡◌, ◌+◌, ◌<◌, Some, length, slice_get, sym, ap, ◌∙◌, arith}
+use Rattle.std.proofs.Common.{◌+◌, length, ap, ◌∙◌}
 use Rattle.std.proofs.lemmas.List.{length-append}
-use Rattle.cx_design_leads.specs.Nodes.{node_of}
 use Rattle.cx_eval_network.specs.Plans.{instance_of}
-use Rattle.cx_eval_network.proofs.FoundLemmas.{get_some}
 use Rattle.cx_eval_network.proofs.PlanLemmas.{plans_more}
 use Rattle.cx_eval_network.proofs.plans.part_plans.Goals as goal
+
+pub plan_of-requires-clause-number : goal.plan_of-requires-clause-number
+plan_of-requires-clause-number c = c.requires.ports.each c.loop-number.number c.port_at-port.result c.port_at-port.ensures.value
 
 pub loop-number-preserved : goal.loop-number-preserved
 loop-number-preserved c =
@@ -12,6 +13,6 @@ loop-number-preserved c =
     let n = c.loop-number.number in
     record {
       sized = ap length c.in_ok-push.ensures.items ∙ length-append c.loop-number.plans.items _ ∙ ap (λ k. k + 1) c.loop-number.invariant.sized;
-      each = plans_more i c.loop-number.plans.items c.push.new.self.items n c.index.result.now c.in_ok-plan_of.field-0 c.loop-number.invariant.sized
-          (c.requires.ports.each n c.index.result.now (get_some c.args.ports.now n c.index.result.now c.loop-number-test.true c.index.ensures)) c.in_ok-plan_of.ensures.value c.in_ok-push.ensures.items c.loop-number.invariant.each;
+      each = plans_more i c.loop-number.plans.items c.push.new.self.items n c.port_at-port.result c.in_ok-plan_of.field-0 c.loop-number.invariant.sized
+          (c.requires.ports.each n c.port_at-port.result c.port_at-port.ensures.value) c.in_ok-plan_of.ensures.value c.in_ok-push.ensures.items c.loop-number.invariant.each;
     }

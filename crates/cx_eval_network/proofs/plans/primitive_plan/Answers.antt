@@ -19,9 +19,9 @@ returns-in-Plain c = record {
   value = subst (λ side. IfOk c.driven_plan-in-Plain.result (IsSidePlan (instance_of c.args.part.now) (row_of c.args.primitive.now) c.args.cell c.args.port side)) c.in-Plain.ensures.value c.driven_plan-in-Plain.ensures.value;
 }
 
-pub returns-in_ok-plan : goal.returns-in_ok-plan
-returns-in_ok-plan c = record {
-  value = subst (λ side. IsSidePlan (instance_of c.args.part.now) (row_of c.args.primitive.now) c.args.cell c.args.port side c.in_ok-plan.plan) c.in-Output.ensures.value (c.in_ok-plan.ensures.value _ _);
+pub returns-in_ok-plan-in-Output : goal.returns-in_ok-plan-in-Output
+returns-in_ok-plan-in-Output c = record {
+  value = subst (λ side. IsSidePlan (instance_of c.args.part.now) (row_of c.args.primitive.now) c.args.cell c.args.port side c.in_ok-plan-in-Output.plan) c.in-Output.ensures.value (c.in_ok-plan-in-Output.ensures.value _ _);
 }
 
 pub returns-in-Registered : goal.returns-in-Registered

@@ -1,5 +1,5 @@
 use Rattle.std.proofs.Common.{◌≡◌, List, ℕ, ◌+◌, ◌++◌, map, sym, ap, ◌∙◌, subst, arith}
-use Rattle.cx_design.specs.PlainActives.{plain_active}
+use Rattle.cx_meaning.specs.Sights.{In}
 use Rattle.cx_eval_drives.specs.Drives.{offset_by}
 use Rattle.cx_eval_network.specs.Askings.{asked_of}
 use Rattle.cx_eval_network.specs.Asked.{active_in}
@@ -13,7 +13,8 @@ use Rattle.cx_eval_network.proofs.unknown.unknown_from.Goals as goal
 
 pub unknown_led-requires : goal.unknown_led-requires
 unknown_led-requires c = record {
-  fits = λ m i. led_fits c.args.asking.now c.requires.can.can c.args.found c.requires.found c.args.plan.now c.requires.plan c.active_of-active.result.now c.active_of-active.ensures.value c.ports_of-own.result c.ports_of-own.ensures.value m i;
+  fits = λ m i. led_fits c.args.asking.now c.requires.can.can c.args.found c.requires.found c.args.plan.now c.requires.plan c.active_of-active.result.now c.active_of-active.ensures.value c.ports_of-own.result c.ports_of-own.ensures.value m
+      (subst (λ ls. In (led_by (offset_by c.active_of-active.result.now) ls) m) c.as_slice.ensures.value i);
 }
 
 pub returns-in-Some : goal.returns-in-Some
@@ -26,6 +27,7 @@ returns-in-Some c =
       value = unknown_in-append_some c.args.marks.now (nodes_of a k (lead_ports (instance_of a k) (active_at a k) found.port)) (below_nodes a k found.port) c.in-Some.node
           (
           c.in-Some.ensures.value
+          ∙ ap (λ ls. unknown_in c.args.marks.now (map (λ m. c.ports_of-own.result.first + m) (led_by (offset_by c.active_of-active.result.now) ls))) c.as_slice.ensures.value
           ∙ ap (unknown_in c.args.marks.now) (planned_nodes asking c.requires.can.can found c.requires.found c.args.plan.now c.requires.plan c.active_of-active.result.now c.active_of-active.ensures.value c.ports_of-own.result c.ports_of-own.ensures.value)
           );
     }
@@ -42,6 +44,7 @@ returns-in-None c =
           ∙ unknown_in-append_none c.args.marks.now (nodes_of a k (lead_ports (instance_of a k) (active_at a k) found.port)) (below_nodes a k found.port)
           (
           c.in-None.ensures.value
+          ∙ ap (λ ls. unknown_in c.args.marks.now (map (λ m. c.ports_of-own.result.first + m) (led_by (offset_by c.active_of-active.result.now) ls))) c.as_slice.ensures.value
           ∙ ap (unknown_in c.args.marks.now) (planned_nodes asking c.requires.can.can found c.requires.found c.args.plan.now c.requires.plan c.active_of-active.result.now c.active_of-active.ensures.value c.ports_of-own.result c.ports_of-own.ensures.value)
           );
     }

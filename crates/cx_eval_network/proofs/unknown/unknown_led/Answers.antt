@@ -8,7 +8,7 @@ unknown_owned-requires c = record {
   fits = λ m i.
       let ls = c.args.leads.now in
       let k = c.loop-owned.owned-index in
-      let l = c.owned-item.result.now in
+      let l = c.owned-item.result in
       c.requires.fits m (led_in (offset_by c.args.active.now) ls l m (in_at ls k l c.loop-owned-test.true c.owned-item.is) i);
 }
 
@@ -16,11 +16,11 @@ pub returns-in-Some : goal.returns-in-Some
 returns-in-Some c = record {
   value = sym (
       c.loop-owned.invariant
-      ∙ led_unknown c.args.marks.now c.args.first (offset_by c.args.active.now) c.args.leads.now c.loop-owned.owned-index c.owned-item.result.now c.in-Some.node c.loop-owned-test.true c.owned-item.is c.in-Some.ensures.value
+      ∙ led_unknown c.args.marks.now c.args.first (offset_by c.args.active.now) c.args.leads.now c.loop-owned.owned-index c.owned-item.result c.in-Some.node c.loop-owned-test.true c.owned-item.is c.in-Some.ensures.value
       );
 }
 
 pub loop-owned-preserved : goal.loop-owned-preserved
 loop-owned-preserved c =
     c.loop-owned.invariant
-    ∙ led_known c.args.marks.now c.args.first (offset_by c.args.active.now) c.args.leads.now c.loop-owned.owned-index c.owned-item.result.now c.loop-owned-test.true c.owned-item.is c.in_default.ensures.value
+    ∙ led_known c.args.marks.now c.args.first (offset_by c.args.active.now) c.args.leads.now c.loop-owned.owned-index c.owned-item.result c.loop-owned-test.true c.owned-item.is c.in_default.ensures.value
