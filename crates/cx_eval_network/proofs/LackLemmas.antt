@@ -1,39 +1,23 @@
 -- The first node that is not known, and where a found port and the instance at a cell stand.
-use Rattle.std.proofs.Common.{◌≡◌, ℕ, suc, ◌+◌, ◌-◌, ◌<◌, inl, inr, Bool, true, false, Option, Some, None, List, [], ◌∷◌, ◌++◌, drop, get_or, length, map, nat_lt, refl, sym, ap, ◌∙◌, subst, arith}
-use Rattle.std.specs.Prelude.{if◌then◌else◌, option_to_list, slice_get}
-use Rattle.std.proofs.lemmas.List.{drop_more}
-use Rattle.cx_meaning.specs.declared.ports.PortRef.{PortRef}
-use Rattle.cx_meaning.specs.declared.ports.PortRef.TheVariants as ports
-use Rattle.cx_meaning.specs.declared.ports.PlacedPort.{PlacedPort}
+use Rattle.std.proofs.Common.{◌≡◌, ℕ, ◌<◌, inl, inr, Bool, true, false, Option, Some, None, List, [], ◌∷◌, length, nat_lt, refl, sym, ap, ◌∙◌, subst}
+use Rattle.std.specs.Prelude.{if◌then◌else◌, slice_get}
 use Rattle.cx_meaning.specs.declared.sights.Seen.{Seen}
-use Rattle.cx_meaning.specs.Active.{Acting, Owned, if_acting}
 use Rattle.cx_meaning.specs.Instances.{cell_at, cells_of}
-use Rattle.cx_meaning.specs.Sights.{In, numbered}
-use Rattle.cx_rules.specs.Items.{sources_of}
+use Rattle.cx_meaning.specs.Sights.{In}
 use Rattle.cx_rules.specs.Ports.{component_of}
-use Rattle.cx_design.specs.PlainActives.{plain_active}
-use Rattle.cx_design_parts.specs.declared.ordering.OwnedAssign.{OwnedAssign}
-use Rattle.cx_design_parts.specs.Plain.{plain_owned}
-use Rattle.cx_eval_drives.specs.Drives.{acting_of}
 use Rattle.cx_state.specs.declared.tables.InstanceRow.{InstanceRow}
 use Rattle.cx_state.specs.Tables.{child_of}
-use Rattle.cx_eval_drives.specs.Lacks.{first_lack, lack_or}
 use Rattle.cx_eval_network.specs.declared.marks.NodeMark.{NodeMark}
 use Rattle.cx_eval_network.specs.declared.marks.NodeMark.TheVariants.{Unseen, Open, Known}
 use Rattle.cx_eval_network.specs.Demands.{AreKnown, IsRight, is_known, known_at}
 use Rattle.cx_eval_network.specs.declared.numbering.NodePort.{NodePort}
-use Rattle.cx_eval_network.specs.Nodes.{node_at}
-use Rattle.cx_eval_network.specs.LeadPorts.{lead_ports, named_by}
 use Rattle.cx_eval_network.specs.Networks as networks
 use Rattle.cx_eval_network.specs.Networks.{Asked, active_at, nodes_of}
-use Rattle.cx_eval_network.specs.declared.step_places.PortContext.{PortContext}
-use Rattle.cx_eval_network.specs.Places as places
-use Rattle.cx_eval_network.specs.Places.{active_of}
 use Rattle.cx_eval_network.specs.declared.asking.Asking.{Asking}
 use Rattle.cx_eval_network.specs.Asked.{CanAsk, child_in}
-use Rattle.cx_eval_network.specs.Askings.{IsFound, IsPlaceOf, asked_of}
+use Rattle.cx_eval_network.specs.Askings.{IsFound, asked_of}
 use Rattle.cx_eval_network.specs.Lacking.{unknown_in}
-use Rattle.cx_eval_network.proofs.AskLemmas.{active_there, place_instance, there}
+use Rattle.cx_eval_network.proofs.AskLemmas.{there}
 use Rattle.cx_eval_network.proofs.LeadLemmas.{lt_true}
 
 none_some : {A : Type 0} (x : A) → ◌≡◌ {A = Option A} None (Some x) → ⊥

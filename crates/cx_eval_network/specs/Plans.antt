@@ -1,6 +1,6 @@
 -- What is known of each port of a component before any run: the nodes that it leads to in its instance, by the groups whose
 -- assignments name them, and what it is seen as where nothing drives it.
-use Rattle.std.specs.Prelude.{◌≡◌, ℕ, List, [], ◌∷◌, ◌++◌, Option, Some, None, length, map, option_to_list, slice_get, ◌<◌}
+use Rattle.std.specs.Prelude.{◌≡◌, ℕ, List, [], ◌∷◌, ◌++◌, Option, Some, None, length, option_to_list, slice_get, ◌<◌}
 use Rattle.cx_meaning.specs.declared.ports.PortRef.{PortRef}
 use Rattle.cx_meaning.specs.declared.sights.Seen.{Seen}
 use Rattle.cx_meaning.specs.Active as plain

@@ -1,15 +1,10 @@
-use Rattle.std.proofs.Common.{rules, ◌≡◌, ◌+◌, ◌<◌, ⊎_elim, Some, length, slice_get, sym, ap, ◌∙◌, subst, arith}
-use Rattle.std.proofs.lemmas.List.{length-append, length-map}
+use Rattle.std.proofs.Common.{◌≡◌, ◌+◌, ⊎_elim, Some, length, slice_get, sym, ap, ◌∙◌, subst}
+use Rattle.std.proofs.lemmas.List.{length-append}
 use Rattle.cx_graphs.proofs.Lists.{get_last}
 use Rattle.cx_rules.specs.Ports.{component_of}
-use Rattle.cx_design.specs.PlainForms.{plain_component}
 use Rattle.cx_design.specs.PlainDesigns.{plain_design}
-use Rattle.cx_design_leads.specs.Nodes.{node_count}
 use Rattle.cx_eval_network.specs.declared.plans.PartPlans.{PartPlans}
-use Rattle.cx_eval_network.specs.Nodes.{IsPartOf}
-use Rattle.cx_eval_network.specs.Parts.{ArePorts}
 use Rattle.cx_eval_network.specs.Plans.{ArePlans}
-use Rattle.cx_eval_network.proofs.FoundLemmas.{get_some}
 use Rattle.cx_eval_network.proofs.plans.all_plans.Goals as goal
 
 pub loop-component-preserved : goal.loop-component-preserved

@@ -1,7 +1,5 @@
 use Rattle.std.proofs.Common.{sym, ap, ◌∙◌, subst}
 use Rattle.std.specs.Prelude.{IfOk}
-use Rattle.cx_prim.specs.Table.{row_of}
-use Rattle.cx_meaning.specs.declared.ports.PortRef.TheVariants.{Cell}
 use Rattle.cx_meaning.specs.Sights as sights
 use Rattle.cx_eval_network.specs.Plans.{instance_of}
 use Rattle.cx_eval_network.proofs.PlanLemmas.{IsCellPlan, IsPartPlan}

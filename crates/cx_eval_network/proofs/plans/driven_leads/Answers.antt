@@ -1,4 +1,4 @@
-use Rattle.std.proofs.Common.{map, refl, ap, ◌∙◌}
+use Rattle.std.proofs.Common.{refl, ap, ◌∙◌}
 use Rattle.std.proofs.lemmas.List.{take_all}
 use Rattle.cx_eval_network.proofs.PlanLemmas.{leads_more, owned_numbers}
 use Rattle.cx_eval_network.proofs.plans.driven_leads.Goals as goal

@@ -1,7 +1,6 @@
-use Rattle.std.proofs.Common.{◌≡◌, suc, ◌+◌, ◌++◌, refl, sym, ap, ◌∙◌, append_assoc, arith}
+use Rattle.std.proofs.Common.{◌≡◌, ◌++◌, sym, ap, ◌∙◌, arith}
 use Rattle.std.proofs.lemmas.List.{append-nil}
 use Rattle.cx_prim.specs.Table.{row_of}
-use Rattle.cx_meaning.specs.declared.ports.PortRef.TheVariants.{Cell}
 use Rattle.cx_meaning.specs.Sights.{numbered}
 use Rattle.cx_eval_network.proofs.OutputLemmas.{few_read}
 use Rattle.cx_eval_network.proofs.ShortLemmas.{rows_are_short}

@@ -1,9 +1,7 @@
 use Rattle.std.proofs.Common.{false, sym, subst}
 use Rattle.std.specs.Prelude.{IfOk}
-use Rattle.cx_meaning.specs.Active.{drivers}
 use Rattle.cx_meaning.specs.declared.sights.Seen.TheVariants.{Undefined}
-use Rattle.cx_meaning.specs.Instances.{part_of}
-use Rattle.cx_meaning.specs.Sights.{bit_of, target_seen}
+use Rattle.cx_meaning.specs.Sights.{bit_of}
 use Rattle.cx_eval_network.specs.Plans.{IsPlanOf, instance_of}
 use Rattle.cx_eval_network.proofs.PlanLemmas.{IsDrivenPlan}
 use Rattle.cx_eval_network.proofs.plans.plan_of.Goals as goal

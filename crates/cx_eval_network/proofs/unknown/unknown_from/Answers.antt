@@ -1,13 +1,11 @@
-use Rattle.std.proofs.Common.{◌≡◌, List, ℕ, ◌+◌, ◌++◌, map, sym, ap, ◌∙◌, subst, arith}
+use Rattle.std.proofs.Common.{◌+◌, map, ap, ◌∙◌, subst}
 use Rattle.cx_meaning.specs.Sights.{In}
 use Rattle.cx_eval_drives.specs.Drives.{offset_by}
 use Rattle.cx_eval_network.specs.Askings.{asked_of}
-use Rattle.cx_eval_network.specs.Asked.{active_in}
 use Rattle.cx_eval_network.specs.Lacking.{unknown_in}
 use Rattle.cx_eval_network.specs.LeadPorts.{lead_ports}
 use Rattle.cx_eval_network.specs.Networks.{active_at, below_nodes, instance_of, nodes_of}
-use Rattle.cx_eval_network.specs.Nodes.{first_node, part_at}
-use Rattle.cx_eval_network.specs.Plans.{led_by, numbers_of}
+use Rattle.cx_eval_network.specs.Plans.{led_by}
 use Rattle.cx_eval_network.proofs.PlanLemmas.{led_fits, planned_nodes, unknown_in-append_none, unknown_in-append_some}
 use Rattle.cx_eval_network.proofs.unknown.unknown_from.Goals as goal
 

@@ -1,4 +1,4 @@
-use Rattle.std.proofs.Common.{sym, ap, ◌∙◌, subst}
+use Rattle.std.proofs.Common.{ap, ◌∙◌}
 use Rattle.cx_rules.specs.Ports.{component_of}
 use Rattle.cx_design_leads.specs.Nodes.{node_of}
 use Rattle.cx_eval_network.specs.Askings.{asked_of}

@@ -1,4 +1,4 @@
-use Rattle.std.proofs.Common.{◌≡◌, ◌<◌, Some, None, length, slice_get, sym, ap, ◌∙◌, arith}
+use Rattle.std.proofs.Common.{◌≡◌, Some, slice_get, sym, ap, ◌∙◌, arith}
 use Rattle.cx_design_leads.proofs.NodeLemmas.{within}
 use Rattle.cx_rules.specs.Ports.{component_of}
 use Rattle.cx_eval_network.proofs.FoundLemmas.{get_none}
