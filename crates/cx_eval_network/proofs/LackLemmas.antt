@@ -1,39 +1,23 @@
--- What is lacked of the ports that a port depends on, and the nodes that stand for them.
-use Rattle.std.proofs.Common.{◌≡◌, ℕ, suc, ◌+◌, ◌-◌, ◌<◌, inl, inr, Bool, true, false, Option, Some, None, List, [], ◌∷◌, ◌++◌, drop, get_or, length, map, nat_lt, refl, sym, ap, ◌∙◌, subst, arith}
-use Rattle.std.specs.Prelude.{if◌then◌else◌, option_to_list, slice_get}
-use Rattle.std.proofs.lemmas.List.{drop_more}
-use Rattle.cx_meaning.specs.declared.ports.PortRef.{PortRef}
-use Rattle.cx_meaning.specs.declared.ports.PortRef.TheVariants as ports
-use Rattle.cx_meaning.specs.declared.ports.PlacedPort.{PlacedPort}
+-- The first node that is not known, and where a found port and the instance at a cell stand.
+use Rattle.std.proofs.Common.{◌≡◌, ℕ, ◌<◌, inl, inr, Bool, true, false, Option, Some, None, List, [], ◌∷◌, length, nat_lt, refl, sym, ap, ◌∙◌, subst}
+use Rattle.std.specs.Prelude.{if◌then◌else◌, slice_get}
 use Rattle.cx_meaning.specs.declared.sights.Seen.{Seen}
-use Rattle.cx_meaning.specs.Active.{Acting, Owned, if_acting}
 use Rattle.cx_meaning.specs.Instances.{cell_at, cells_of}
-use Rattle.cx_meaning.specs.Sights.{In, numbered}
-use Rattle.cx_rules.specs.Items.{sources_of}
+use Rattle.cx_meaning.specs.Sights.{In}
 use Rattle.cx_rules.specs.Ports.{component_of}
-use Rattle.cx_design.specs.PlainActives.{plain_active}
-use Rattle.cx_design_parts.specs.declared.ordering.OwnedAssign.{OwnedAssign}
-use Rattle.cx_design_parts.specs.Plain.{plain_owned}
-use Rattle.cx_eval_drives.specs.Drives.{acting_of}
 use Rattle.cx_state.specs.declared.tables.InstanceRow.{InstanceRow}
 use Rattle.cx_state.specs.Tables.{child_of}
-use Rattle.cx_eval_drives.specs.Lacks.{first_lack, lack_or}
 use Rattle.cx_eval_network.specs.declared.marks.NodeMark.{NodeMark}
 use Rattle.cx_eval_network.specs.declared.marks.NodeMark.TheVariants.{Unseen, Open, Known}
 use Rattle.cx_eval_network.specs.Demands.{AreKnown, IsRight, is_known, known_at}
 use Rattle.cx_eval_network.specs.declared.numbering.NodePort.{NodePort}
-use Rattle.cx_eval_network.specs.Nodes.{node_at}
-use Rattle.cx_eval_network.specs.LeadPorts.{lead_ports, named_by}
 use Rattle.cx_eval_network.specs.Networks as networks
 use Rattle.cx_eval_network.specs.Networks.{Asked, active_at, nodes_of}
-use Rattle.cx_eval_network.specs.declared.step_places.PortContext.{PortContext}
-use Rattle.cx_eval_network.specs.Places as places
-use Rattle.cx_eval_network.specs.Places.{active_of}
 use Rattle.cx_eval_network.specs.declared.asking.Asking.{Asking}
 use Rattle.cx_eval_network.specs.Asked.{CanAsk, child_in}
-use Rattle.cx_eval_network.specs.Askings.{IsFound, IsPlaceOf, asked_of}
-use Rattle.cx_eval_network.specs.Lacking.{lacking, owned_lack, port_known, unknown_in}
-use Rattle.cx_eval_network.proofs.AskLemmas.{active_there, place_instance, there}
+use Rattle.cx_eval_network.specs.Askings.{IsFound, asked_of}
+use Rattle.cx_eval_network.specs.Lacking.{unknown_in}
+use Rattle.cx_eval_network.proofs.AskLemmas.{there}
 use Rattle.cx_eval_network.proofs.LeadLemmas.{lt_true}
 
 none_some : {A : Type 0} (x : A) → ◌≡◌ {A = Option A} None (Some x) → ⊥
@@ -41,97 +25,6 @@ none_some x e = cc
 
 same_some : {A : Type 0} (x y : A) → Some x ≡ Some y → x ≡ y
 same_some x y e = cc
-
-module _ (known : PortRef → Bool) where
-  -- LISTS one behind the other
-  lacking-append : (xs ys : List PortRef) → lacking known (xs ++ ys) ≡ lack_or (lacking known xs) (lacking known ys)
-  lacking-append [] ys = refl
-  lacking-append (x ∷ xs) ys = choice (known x) (lacking-append xs ys)
-    where
-      choice : (b : Bool) → lacking known (xs ++ ys) ≡ lack_or (lacking known xs) (lacking known ys)
-          → (if b then lacking known (xs ++ ys) else Some x) ≡ lack_or (if b then lacking known xs else Some x) (lacking known ys)
-      choice true e = e
-      choice false e = refl
-
-  named : (ps : List PlacedPort) → first_lack known ps ≡ lacking known (map (λ p. p.port) ps)
-  named [] = refl
-  named (p ∷ ps) = choice (known p.port) (named ps)
-    where
-      choice : (b : Bool) → first_lack known ps ≡ lacking known (map (λ p. p.port) ps)
-          → lack_or (if b then None else Some p.port) (first_lack known ps) ≡ (if b then lacking known (map (λ p. p.port) ps) else Some p.port)
-      choice true e = e
-      choice false e = refl
-
-  -- ASSIGNMENTS, one by one
-  assign_first : (o : Option ℕ) (a : Owned) (rest : List Acting) → lacking known (named_by (if_acting o a.assign rest)) ≡ lack_or (owned_lack known o a) (lacking known (named_by rest))
-  assign_first None a rest = refl
-  assign_first (Some n) a rest =
-      lacking-append (map (λ p. p.port) (sources_of a.assign)) (named_by rest)
-      ∙ ap (λ o. lack_or o (lacking known (named_by rest))) (sym (named (sources_of a.assign)))
-
-  module _ (offset : Option ℕ → Option ℕ) where
-    abbrev lack_of : List OwnedAssign → Option PortRef
-    lack_of xs = lacking known (named_by (acting_of offset (map plain_owned xs)))
-
-    assigns_step : (xs : List OwnedAssign) (i : ℕ) (x : OwnedAssign) → i < length xs → x ≡ get_or xs i x
-        → lack_of (drop i xs) ≡ lack_or (owned_lack known (offset x.owner) (plain_owned x)) (lack_of (drop (i + 1) xs))
-    assigns_step xs i x lt is =
-        ap lack_of (drop_more xs i x lt)
-        ∙ ap (λ y. lack_of (y ∷ drop (i + 1) xs)) (sym is)
-        ∙ assign_first (offset x.owner) (plain_owned x) (acting_of offset (map plain_owned (drop (i + 1) xs)))
-
-    pub assigns_next : (xs : List OwnedAssign) (i : ℕ) (x : OwnedAssign) → i < length xs → x ≡ get_or xs i x → None ≡ owned_lack known (offset x.owner) (plain_owned x)
-        → lack_of (drop i xs) ≡ lack_of (drop (i + 1) xs)
-    assigns_next xs i x lt is e = assigns_step xs i x lt is ∙ ap (λ o. lack_or o (lack_of (drop (i + 1) xs))) (sym e)
-
-    pub assigns_found : (xs : List OwnedAssign) (i : ℕ) (x : OwnedAssign) (q : PortRef) → i < length xs → x ≡ get_or xs i x → Some q ≡ owned_lack known (offset x.owner) (plain_owned x)
-        → lack_of (drop i xs) ≡ Some q
-    assigns_found xs i x q lt is e = assigns_step xs i x lt is ∙ ap (λ o. lack_or o (lack_of (drop (i + 1) xs))) (sym e)
-
-  -- INPUTS of a cell, from the last one on
-  input_step : (c left m : ℕ) → left ≡ suc m → lacking known (numbered c left) ≡ (if known (ports.Cell c m) then lacking known (numbered c m) else Some (ports.Cell c m))
-  input_step c left m e = ap (λ n. lacking known (numbered c n)) e
-
-  pub input_next : (c left : ℕ) → 0 < left → known (ports.Cell c (left - 1)) ≡ true → lacking known (numbered c left) ≡ lacking known (numbered c (left - 1))
-  input_next c left some e =
-      input_step c left (left - 1) (omega (arith, some)) ∙ ap (λ b. if b then lacking known (numbered c (left - 1)) else Some (ports.Cell c (left - 1))) e
-
-  pub input_found : (c left : ℕ) → 0 < left → known (ports.Cell c (left - 1)) ≡ false → lacking known (numbered c left) ≡ Some (ports.Cell c (left - 1))
-  input_found c left some e =
-      input_step c left (left - 1) (omega (arith, some)) ∙ ap (λ b. if b then lacking known (numbered c (left - 1)) else Some (ports.Cell c (left - 1))) e
-
--- NODES of ports
-module _ (a : Asked) (marks : List NodeMark) (n : ℕ) where
-  abbrev pub known_here : PortRef → Bool
-  known_here q = port_known marks (node_at a.design a.rows n q)
-
-  pub lacked : (qs : List PortRef) (rest : List ℕ) (q : PortRef) → lacking known_here qs ≡ Some q → unknown_in marks (nodes_of a n qs ++ rest) ≡ node_at a.design a.rows n q
-  lacked [] rest q e = absurd (none_some q e)
-  lacked (p ∷ qs) rest q e = choice (node_at a.design a.rows n p) refl (λ f. lacked qs rest q f) e
-    where
-      choice : (o : Option ℕ) → node_at a.design a.rows n p ≡ o
-          → (lacking known_here qs ≡ Some q → unknown_in marks (nodes_of a n qs ++ rest) ≡ node_at a.design a.rows n q)
-          → (if port_known marks o then lacking known_here qs else Some p) ≡ Some q
-          → unknown_in marks ((option_to_list o ++ nodes_of a n qs) ++ rest) ≡ node_at a.design a.rows n q
-      choice None is behind f = behind f
-      choice (Some m) is behind f = inner (known_at marks m) f
-        where
-          inner : (b : Bool) → (if b then lacking known_here qs else Some p) ≡ Some q → (if b then unknown_in marks (nodes_of a n qs ++ rest) else Some m) ≡ node_at a.design a.rows n q
-          inner true g = behind g
-          inner false g = sym is ∙ ap (node_at a.design a.rows n) (same_some p q g)
-
-  pub none_lacked : (qs : List PortRef) (rest : List ℕ) → lacking known_here qs ≡ None → unknown_in marks (nodes_of a n qs ++ rest) ≡ unknown_in marks rest
-  none_lacked [] rest e = refl
-  none_lacked (p ∷ qs) rest e = choice (node_at a.design a.rows n p) (λ f. none_lacked qs rest f) e
-    where
-      choice : (o : Option ℕ) → (lacking known_here qs ≡ None → unknown_in marks (nodes_of a n qs ++ rest) ≡ unknown_in marks rest)
-          → (if port_known marks o then lacking known_here qs else Some p) ≡ None → unknown_in marks ((option_to_list o ++ nodes_of a n qs) ++ rest) ≡ unknown_in marks rest
-      choice None behind f = behind f
-      choice (Some m) behind f = inner (known_at marks m) f
-        where
-          inner : (b : Bool) → (if b then lacking known_here qs else Some p) ≡ None → (if b then unknown_in marks (nodes_of a n qs ++ rest) else Some m) ≡ unknown_in marks rest
-          inner true g = behind g
-          inner false g = absurd (none_some p (sym g))
 
 -- THE FIRST that is not known
 module _ (marks : List NodeMark) where
@@ -171,15 +64,6 @@ module _ (asking : Asking) (can : CanAsk (asked_of asking) asking.nodes.now aski
 
   abbrev k : ℕ
   k = found.instance
-
-  pub leads_alike : (place : PortContext) → IsPlaceOf asking found place
-      → lead_ports (places.instance_of place) (active_of place) place.port ≡ lead_ports (networks.instance_of a k) (active_at a k) found.port
-  leads_alike place is =
-      let same = place_instance asking can found f place is in
-      ap (λ i. lead_ports i (active_of place) place.port) same
-      ∙ ap (λ act. lead_ports (networks.instance_of a k) act place.port)
-      (ap (plain_active (places.instance_of place)) is.active ∙ active_there a asking.active.now k refl (places.instance_of place) same)
-      ∙ ap (lead_ports (networks.instance_of a k) (active_at a k)) is.port
 
   pub cells_there : (c : ℕ) → cell_at (cells_of (networks.instance_of a k)) c ≡ cell_at (cells_of (component_of a.design found.component)) c
   cells_there c = ap (λ i. cell_at (cells_of i) c) (there asking can found f ∙ ap (component_of a.design) (sym f.component))

@@ -14,3 +14,4 @@ pub mod OutputLemmas
 pub mod StepLemmas
 pub mod AskLemmas
 pub mod LackLemmas
+pub mod PlanLemmas

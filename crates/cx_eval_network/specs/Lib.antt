@@ -2,8 +2,9 @@ pub mod Demands
 pub mod Touches
 pub mod Ports
 pub mod Parts
-pub mod Nodes
 pub mod LeadPorts
+pub mod Plans
+pub mod Nodes
 pub mod Networks
 pub mod Places
 pub mod Asked

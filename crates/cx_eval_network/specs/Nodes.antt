@@ -12,6 +12,7 @@ use Rattle.cx_eval_network.specs.declared.parts.PartNodes.{PartNodes}
 use Rattle.cx_eval_network.specs.declared.numbering.InstanceNodes.{InstanceNodes}
 use Rattle.cx_eval_network.specs.declared.numbering.NodePort.{NodePort}
 use Rattle.cx_eval_network.specs.declared.numbering.Nodes.{Nodes}
+use Rattle.cx_eval_network.specs.Plans.{HavePlans}
 use Rattle.cx_eval_network.specs.declared.instance_ports.InstancePorts.{InstancePorts}
 
 -- the component of an instance with what is below it, by the rows of the instances
@@ -80,6 +81,7 @@ pub record ArePlaced (d : PlainDesign) (rows : List InstanceRow) (count : ℕ) (
 -- what the numbering of a design keeps
 pub record IsNodesOf (d : PlainDesign) (rows : List InstanceRow) (nodes : Nodes) : Type 0 where
   pub parts : HaveParts d nodes.parts.items
+  pub plans : HavePlans d nodes.plans.items
   pub there : (n : ℕ) → n < length rows → (row_at rows n).component < length d.components
   pub placed : ArePlaced d rows (length rows) nodes.instances.items nodes.ports.items
   pub fits : node_count d rows < 2 ^ 64

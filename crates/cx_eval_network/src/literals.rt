@@ -8,6 +8,7 @@ use cx_bits::Bits;
 use cx_design::{PortRef, Seen};
 
 /// A literal as it is seen, where its value fits its width. Other ports are none.
+#[inline(never)]
 pub fn literal_seen(port: PortRef) -> Seen
     ensures value { result ≡ networks.literal_seen port }
 {

@@ -5,10 +5,15 @@ ghost use Rattle.cx_meaning.specs.Designs.{PlainDesign};
 ghost use Rattle.cx_design.specs.PlainDesigns.{plain_design};
 ghost use Rattle.cx_state.specs.declared.tables.InstanceRow.{InstanceRow};
 ghost use Rattle.cx_state.specs.Tables.{IsTable, row_at};
+ghost use Rattle.cx_meaning.specs.declared.ports.PortRef as refs;
+ghost use Rattle.cx_rules.specs.Ports.{component_of};
+ghost use Rattle.cx_design_leads.specs.Nodes.{node_of};
 ghost use Rattle.cx_eval_network.specs.Nodes.{ArePortsOf, HaveParts, IsNodesOf, IsPortOf, StandBehind, found_at, node_at, node_count};
+ghost use Rattle.cx_eval_network.specs.Plans.{HavePlans, IsPlanOf};
 
 use crate::instance_ports::InstancePorts;
 use crate::parts::PartNodes;
+use crate::plans::{PartPlans, PortPlan, all_plans};
 use cx_design::{Design, PortRef};
 use cx_state::{InstanceRow, InstanceTable};
 use cx_text::Memory;
@@ -36,6 +41,8 @@ pub struct NodePort {
 pub struct Nodes {
     /// The ports of each component.
     parts: Vec<PartNodes>,
+    /// What is known of them before any run.
+    plans: Vec<PartPlans>,
     instances: Vec<InstanceNodes>,
     /// What stands at each node.
     ports: Vec<NodePort>,
@@ -51,7 +58,8 @@ impl Nodes {
         for number in 0..design.components.len() {
             parts.push(PartNodes::new(alloc, design, number)?)?;
         }
-        let nodes = placed(alloc, table.rows.as_slice(), parts)?;
+        let plans = all_plans(alloc, design, parts.as_slice())?;
+        let nodes = placed(alloc, table.rows.as_slice(), parts, plans)?;
         Ok(nodes)
     }
 
@@ -100,6 +108,20 @@ impl Nodes {
     {
         self.ports.get(node).copied()
     }
+
+    /// What is known of a port of a component before any run, by its number there.
+    pub fn plan(&self, component: u32, number: usize) -> Option<&PortPlan>
+        ensures none { IfNone result ((d : PlainDesign) (rows : List InstanceRow) (p : refs.PortRef) → IsNodesOf d rows self.now → component < length d.components → node_of (component_of d component) p ≡ Some number → ⊥) }
+        ensures some { IfSome result (λ plan. (d : PlainDesign) (rows : List InstanceRow) (p : refs.PortRef) → IsNodesOf d rows self.now → node_of (component_of d component) p ≡ Some number → IsPlanOf (component_of d component) p plan.now) }
+    {
+        match part_plans(self.plans.as_slice(), component) {
+            Some(part) => match port_plan(part.ports.as_slice(), number) {
+                Some(plan) => Some(plan),
+                None => None,
+            },
+            None => None,
+        }
+    }
 }
 
 /// The nodes of an instance, where it is there.
@@ -117,10 +139,31 @@ fn part_nodes(parts: &[PartNodes], component: u32) -> Option<&PartNodes>
     parts.get(component as usize)
 }
 
+/// The plans of a component, where it is there.
+fn part_plans(plans: &[PartPlans], component: u32) -> Option<&PartPlans>
+    ensures none { IfNone result (slice_get plans.now component ≡ None) }
+    ensures some { IfSome result (λ part. slice_get plans.now component ≡ Some part.now) }
+{
+    plans.get(component as usize)
+}
+
+/// The plan of a port, where it is there.
+fn port_plan(plans: &[PortPlan], number: usize) -> Option<&PortPlan>
+    ensures none { IfNone result (slice_get plans.now number ≡ None) }
+    ensures some { IfSome result (λ plan. slice_get plans.now number ≡ Some plan.now) }
+{
+    plans.get(number)
+}
+
 /// The numbering over the ports of the components.
-fn placed(alloc: Global, rows: &[InstanceRow], parts: Vec<PartNodes>) -> Result<Nodes, Memory>
+fn placed(
+    alloc: Global,
+    rows: &[InstanceRow],
+    parts: Vec<PartNodes>,
+    plans: Vec<PartPlans>,
+) -> Result<Nodes, Memory>
     requires within { (n : ℕ) → n < length rows.now → (row_at rows.now n).component < length parts.items }
-    ensures value { IfOk result (λ nodes. (d : PlainDesign) → HaveParts d parts.items → IsNodesOf d rows.now nodes) }
+    ensures value { IfOk result (λ nodes. (d : PlainDesign) → HaveParts d parts.items → HavePlans d plans.items → IsNodesOf d rows.now nodes) }
 {
     let mut instances = Vec::new(alloc);
     let mut ports = Vec::new(alloc);
@@ -135,6 +178,7 @@ fn placed(alloc: Global, rows: &[InstanceRow], parts: Vec<PartNodes>) -> Result<
     }
     Ok(Nodes {
         parts,
+        plans,
         instances,
         ports,
     })

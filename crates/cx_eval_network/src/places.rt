@@ -53,7 +53,7 @@ pub fn place_of<'b>(asking: &Asking<'b>, found: NodePort) -> PortContext<'b>
 }
 
 /// What is active in an instance.
-fn active_of<'b>(asking: &Asking<'b>, instance: usize) -> &'b Active
+pub fn active_of<'b>(asking: &Asking<'b>, instance: usize) -> &'b Active
     requires nothing { asking.now.nothing.now ≡ actives.Nothing }
     ensures value { result.now ≡ active_in asking.now.instance asking.now.active.now instance }
 {

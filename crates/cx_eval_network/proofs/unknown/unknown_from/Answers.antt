@@ -1,41 +1,48 @@
-use Rattle.std.proofs.Common.{sym, ap, ◌∙◌}
-use Rattle.cx_eval_network.specs.LeadPorts.{lead_ports}
-use Rattle.cx_eval_network.specs.Networks.{active_at, below_nodes, instance_of}
+use Rattle.std.proofs.Common.{◌+◌, map, ap, ◌∙◌, subst}
+use Rattle.cx_meaning.specs.Sights.{In}
+use Rattle.cx_eval_drives.specs.Drives.{offset_by}
 use Rattle.cx_eval_network.specs.Askings.{asked_of}
-use Rattle.cx_eval_network.specs.Lacking.{lacking}
-use Rattle.cx_eval_network.proofs.AskLemmas.{place_stands}
-use Rattle.cx_eval_network.proofs.LackLemmas.{known_here, lacked, leads_alike, none_lacked}
+use Rattle.cx_eval_network.specs.Lacking.{unknown_in}
+use Rattle.cx_eval_network.specs.LeadPorts.{lead_ports}
+use Rattle.cx_eval_network.specs.Networks.{active_at, below_nodes, instance_of, nodes_of}
+use Rattle.cx_eval_network.specs.Plans.{led_by}
+use Rattle.cx_eval_network.proofs.PlanLemmas.{led_fits, planned_nodes, unknown_in-append_none, unknown_in-append_some}
 use Rattle.cx_eval_network.proofs.unknown.unknown_from.Goals as goal
+
+pub unknown_led-requires : goal.unknown_led-requires
+unknown_led-requires c = record {
+  fits = λ m i. led_fits c.args.asking.now c.requires.can.can c.args.found c.requires.found c.args.plan.now c.requires.plan c.active_of-active.result.now c.active_of-active.ensures.value c.ports_of-own.result c.ports_of-own.ensures.value m
+      (subst (λ ls. In (led_by (offset_by c.active_of-active.result.now) ls) m) c.as_slice.ensures.value i);
+}
 
 pub returns-in-Some : goal.returns-in-Some
 returns-in-Some c =
     let asking = c.args.asking.now in
     let a = asked_of asking in
-    let can = c.requires.can.can in
     let found = c.args.found in
     let k = found.instance in
-    let alike = leads_alike asking can found c.requires.found c.args.place.now c.requires.place in
-    let marks = c.args.marks.now in
     record {
-      value =
-          c.node.ensures.value a.design a.rows k c.ports_of-own.ensures.value
-          ∙ sym (lacked a marks k (lead_ports (instance_of a k) (active_at a k) found.port) (below_nodes a k found.port) c.in-Some.port (sym (c.in-Some.ensures.value ∙ ap (lacking (known_here a marks k)) alike)));
+      value = unknown_in-append_some c.args.marks.now (nodes_of a k (lead_ports (instance_of a k) (active_at a k) found.port)) (below_nodes a k found.port) c.in-Some.node
+          (
+          c.in-Some.ensures.value
+          ∙ ap (λ ls. unknown_in c.args.marks.now (map (λ m. c.ports_of-own.result.first + m) (led_by (offset_by c.active_of-active.result.now) ls))) c.as_slice.ensures.value
+          ∙ ap (unknown_in c.args.marks.now) (planned_nodes asking c.requires.can.can found c.requires.found c.args.plan.now c.requires.plan c.active_of-active.result.now c.active_of-active.ensures.value c.ports_of-own.result c.ports_of-own.ensures.value)
+          );
     }
 
 pub returns-in-None : goal.returns-in-None
 returns-in-None c =
     let asking = c.args.asking.now in
     let a = asked_of asking in
-    let can = c.requires.can.can in
     let found = c.args.found in
     let k = found.instance in
-    let alike = leads_alike asking can found c.requires.found c.args.place.now c.requires.place in
-    let marks = c.args.marks.now in
     record {
       value =
           c.unknown_below.ensures.value
-          ∙ sym (none_lacked a marks k (lead_ports (instance_of a k) (active_at a k) found.port) (below_nodes a k found.port) (sym (c.in-None.ensures.value ∙ ap (lacking (known_here a marks k)) alike)));
+          ∙ unknown_in-append_none c.args.marks.now (nodes_of a k (lead_ports (instance_of a k) (active_at a k) found.port)) (below_nodes a k found.port)
+          (
+          c.in-None.ensures.value
+          ∙ ap (λ ls. unknown_in c.args.marks.now (map (λ m. c.ports_of-own.result.first + m) (led_by (offset_by c.active_of-active.result.now) ls))) c.as_slice.ensures.value
+          ∙ ap (unknown_in c.args.marks.now) (planned_nodes asking c.requires.can.can found c.requires.found c.args.plan.now c.requires.plan c.active_of-active.result.now c.active_of-active.ensures.value c.ports_of-own.result c.ports_of-own.ensures.value)
+          );
     }
-
-pub lacking_port-requires : goal.lacking_port-requires
-lacking_port-requires c = record { place = place_stands c.args.asking.now c.requires.can.can c.args.found c.requires.found c.args.place.now c.requires.place }

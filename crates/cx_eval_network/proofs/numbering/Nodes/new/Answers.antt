@@ -23,6 +23,17 @@ loop-number-preserved c =
           (get_last parts c.in_ok-new.field-0 nodes k (subst (λ xs. slice_get xs k ≡ Some nodes) c.in_ok-push.ensures.items e));
     }
 
+pub all_plans-requires : goal.all_plans-requires
+all_plans-requires c =
+    let d = plain_design c.args.design.now in
+    let all : length c.args.design.now.components.items ≡ c.loop-number.number = search rules in
+    let sized = c.loop-number.invariant.sized in
+    let parts : HaveParts d c.loop-number.parts.items = record {
+      count = sized ∙ sym all ∙ sym (length-map c.args.design.now.components.items plain_component);
+      each = c.loop-number.invariant.each;
+    } in
+    record { parts = subst (HaveParts d) (sym c.as_slice.ensures.value) parts }
+
 pub placed-requires : goal.placed-requires
 placed-requires c = record {
   within = λ n lt.
@@ -31,8 +42,8 @@ placed-requires c = record {
       let all : length c.args.design.now.components.items ≡ c.loop-number.number = search rules in
       let sized = c.loop-number.invariant.sized in
       let many : length (map plain_component c.args.design.now.components.items) ≡ length c.args.design.now.components.items = length-map c.args.design.now.components.items plain_component in
-      let there : (row_at rows n).component < length (map plain_component c.args.design.now.components.items) = c.requires.table.there n (subst (λ xs. n < length xs) c.as_slice.ensures.value lt) in
-      subst (λ xs. (row_at xs n).component < length c.loop-number.parts.items) (sym c.as_slice.ensures.value) (omega (arith, there, many, all, sized));
+      let there : (row_at rows n).component < length (map plain_component c.args.design.now.components.items) = c.requires.table.there n (subst (λ xs. n < length xs) c.as_slice-2.ensures.value lt) in
+      subst (λ xs. (row_at xs n).component < length c.loop-number.parts.items) (sym c.as_slice-2.ensures.value) (omega (arith, there, many, all, sized));
 }
 
 pub returns : goal.returns
@@ -45,5 +56,5 @@ returns c = record {
         count = sized ∙ sym all ∙ sym (length-map c.args.design.now.components.items plain_component);
         each = c.loop-number.invariant.each;
       } in
-      subst (λ xs. IsNodesOf d xs c.in_ok-nodes.nodes) c.as_slice.ensures.value (c.in_ok-nodes.ensures.value d parts);
+      subst (λ xs. IsNodesOf d xs c.in_ok-nodes.nodes) c.as_slice-2.ensures.value (c.in_ok-nodes.ensures.value d parts c.in_ok-plans.ensures.value);
 }
