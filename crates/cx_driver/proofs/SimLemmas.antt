@@ -17,9 +17,9 @@ use Rattle.cx_vtree.proofs.Runs.{one_outcome}
 use Rattle.cx_velab.specs.Paths.{path_of}
 use Rattle.cx_vread_exprs.specs.Places.{Place}
 use Rattle.cx_vread_exprs.proofs.NumberAgain.{clean}
-use Rattle.cx_vread.specs.Held.{is_held}
+use Rattle.cx_vread.specs.Within.{is_within}
 use Rattle.cx_vread.specs.Parts.{source_at}
-use Rattle.cx_vread.specs.ReadAnswers.{Answers, ReadAs}
+use Rattle.cx_vread.specs.ReadAnswers.{Answers, ReadAs, Tells}
 use Rattle.cx_vread.specs.declared.refusals.ReadRefusal.{ReadRefusal}
 use Rattle.cx_vread.specs.declared.refusals.ReadRefusal.TheVariants as unread
 use Rattle.cx_vread.proofs.HeldSources.{sound_held}
@@ -152,12 +152,12 @@ abbrev Misses : List ℕ → ReadRefusal → Type 0
 Misses text r = (s : PlainSource) → text ≡ text_of s → is_sound s ≡ true → ReadAs s (Err r)
 
 abbrev Breaks : List ℕ → ReadRefusal → Type 0
-Breaks text r = (s : PlainSource) → text ≡ text_of s → is_laid_out s ≡ true → is_held s ≡ true → Answers s (Err r)
+Breaks text r = (s : PlainSource) → text ≡ text_of s → is_laid_out s ≡ true → is_within s ≡ true → Answers s (Err r)
 
 -- what the reader tells of a text
-pub unread_text : (text : List ℕ) (r : ReadRefusal) → Misses text r → Breaks text r → IsNoSource text (read_stop r)
-unread_text text (unread.Syntax line) m b = inr (unread.Syntax line, record { told = λ e. cc; no_source = λ s is. m s is.spelled is.sound; first = b }, refl)
-unread_text text (unread.Name line) m b = inr (unread.Name line, record { told = λ e. cc; no_source = λ s is. m s is.spelled is.sound; first = b }, refl)
-unread_text text (unread.Width line) m b = inr (unread.Width line, record { told = λ e. cc; no_source = λ s is. m s is.spelled is.sound; first = b }, refl)
-unread_text text (unread.Limit line) m b = inr (unread.Limit line, record { told = λ e. cc; no_source = λ s is. m s is.spelled is.sound; first = b }, refl)
-unread_text text unread.Memory m b = inl refl
+pub unread_text : (text : List ℕ) (r : ReadRefusal) → Misses text r → Breaks text r → Tells text r → IsNoSource text (read_stop r)
+unread_text text (unread.Syntax line) m b t = inr (unread.Syntax line, record { told = λ e. cc; no_source = λ s is. m s is.spelled is.sound; first = b; tells = t }, refl)
+unread_text text (unread.Name line) m b t = inr (unread.Name line, record { told = λ e. cc; no_source = λ s is. m s is.spelled is.sound; first = b; tells = t }, refl)
+unread_text text (unread.Width line) m b t = inr (unread.Width line, record { told = λ e. cc; no_source = λ s is. m s is.spelled is.sound; first = b; tells = t }, refl)
+unread_text text (unread.Limit line) m b t = inr (unread.Limit line, record { told = λ e. cc; no_source = λ s is. m s is.spelled is.sound; first = b; tells = t }, refl)
+unread_text text unread.Memory m b t = inl refl

@@ -4,6 +4,7 @@ use crate::runs::calls;
 use cx_driver::Status;
 use cx_vread::read;
 use cx_vwrite::write;
+use std::alloc::Global;
 use std::test::Fail;
 
 /// A counter of four bits whose `done` is 1 at ten.
@@ -15,7 +16,7 @@ const HEAD: &str =
     "module main(\n  input wire [0:0] clk,\n  input wire [0:0] reset,\n  input wire [0:0] go,\n  output wire [0:0] done\n);\n";
 
 /// The lines behind the ports, and what is told. Worked by hand from the rules.
-const REFUSED: [(&str, &str); 6] = [
+const REFUSED: [(&str, &str); 23] = [
     ("  assign done = 1'hA;\nendmodule\n", "verilog 7:1 syntax\n"),
     (
         "  assign done = 1'h01;\nendmodule\n",
@@ -25,7 +26,119 @@ const REFUSED: [(&str, &str); 6] = [
     ("  assign done = other;\nendmodule\n", "verilog 7:1 name\n"),
     ("  assign done = 2'h1;\nendmodule\n", "verilog 7:1 width\n"),
     ("endmodule\n", "verilog 5:1 name\n"),
+    ("  assign done = 0'h0;\nendmodule\n", "verilog 7:1 width\n"),
+    ("  assign done = 0'h1;\nendmodule\n", "verilog 7:1 name\n"),
+    (
+        "  assign done = 130'h400000000000000000000000000000000;\nendmodule\n",
+        "verilog 7:1 name\n",
+    ),
+    (
+        "  assign done = 130'h3ffffffffffffffffffffffffffffffff;\nendmodule\n",
+        "verilog 7:1 width\n",
+    ),
+    (
+        "  assign done = 340282366920938463463374607431768211456'h1;\nendmodule\n",
+        "verilog 7:1 width\n",
+    ),
+    (
+        "  wire [340282366920938463463374607431768211456:0] w;\n  assign w = go;\n  assign done = w;\nendmodule\n",
+        "verilog 7:1 width\n",
+    ),
+    (
+        "  assign done = go[340282366920938463463374607431768211456:0];\nendmodule\n",
+        "verilog 7:1 width\n",
+    ),
+    (
+        "  assign done = other;\n  assign done = 1'h01;\nendmodule\n",
+        "verilog 8:1 syntax\n",
+    ),
+    (
+        "  assign done = other;\nendmodule\n\n",
+        "verilog 9:1 syntax\n",
+    ),
+    (
+        "  reg [0:0] m [0:4194304];\n  assign done = go;\nendmodule\n",
+        "verilog 1:1 limit\n",
+    ),
+    (
+        "  reg [0:0] m [0:18446744073709551615];\n  assign done = go;\nendmodule\n",
+        "verilog 1:1 limit\n",
+    ),
+    (
+        "  reg [0:0] m [0:4194304];\n  assign done = go;\nendmodule\nmodule other(\n  input wire [0:0] clk,\n  input wire [0:0] reset\n);\nendmodule\n",
+        "verilog 10:1 name\n",
+    ),
+    (
+        "  assign done = go;\n  wire [0:0] w;\nendmodule\n",
+        "verilog 8:1 syntax\n",
+    ),
+    (
+        "  ram m(.clk(clk));\n  assign done = go;\nendmodule\n",
+        "verilog 8:1 syntax\n",
+    ),
+    (
+        "  always @(posedge clk) begin\n    if (reset) begin\n      if (go) m[go] <= go;\n",
+        "verilog 9:1 syntax\n",
+    ),
+    (
+        "  always @(posedge clk) begin\n    if (reset) begin\n    end else begin\n    end\n  end\n  always @(posedge clk) begin\n",
+        "verilog 12:1 syntax\n",
+    ),
+    ("endmodule\n// external m m 8 1\n", "verilog 8:1 syntax\n"),
 ];
+
+/// Texts of which no line behind the first few stands, and what is told. Worked by hand from the rules.
+const ASTRAY: [(&str, &str); 6] = [
+    ("", "verilog 1:1 syntax\n"),
+    ("\n", "verilog 1:1 syntax\n"),
+    (
+        "module main(\n  input wire [0:0] clk,\n",
+        "verilog 3:1 syntax\n",
+    ),
+    (
+        "module main(\n  input wire [0:0] clk,\n);\n",
+        "verilog 3:1 syntax\n",
+    ),
+    ("// external m m 8 1 1 1 1 1\n", "verilog 1:1 syntax\n"),
+    (
+        "module main(\n  input wire [0:0] clk\n);\nendmodule",
+        "verilog 4:1 syntax\n",
+    ),
+];
+
+/// Brackets around an expression, the expression, and what is told of a line that has it. Worked by hand from the rules: 64
+/// levels are the limit, which comes after a name and a width; the layout comes before all, however deep it is wrong.
+const NESTED: [(usize, &str, &str); 9] = [
+    (65, "go", "verilog 7:1 limit\n"),
+    (65, "2'h1", "verilog 7:1 width\n"),
+    (65, "other", "verilog 7:1 name\n"),
+    (128, "other", "verilog 7:1 name\n"),
+    (128, "1'h01", "verilog 7:1 syntax\n"),
+    (129, "go", "verilog 7:1 limit\n"),
+    (129, "1'h01", "verilog 7:1 syntax\n"),
+    (200, "go]", "verilog 7:1 syntax\n"),
+    (200, "(go)", "verilog 7:1 syntax\n"),
+];
+
+/// A module whose `done` has so many brackets around an expression.
+fn nested(alloc: Global, levels: usize, inner: &str) -> Result<String, Fail> {
+    let mut text = String::new(alloc);
+    text.push_str(HEAD)?;
+    text.push_str("  assign done = ")?;
+    for _ in 0..levels {
+        text.push_str("(~")?;
+    }
+    text.push_str(inner)?;
+    for _ in 0..levels {
+        text.push_str(")")?;
+    }
+    text.push_str(";\nendmodule\n")?;
+    Ok(text)
+}
+
+/// An external memory of 2^64 words, and a module with an array of four.
+const EXTERNAL: &str =
+    "// external m m 8 18446744073709551616\nmodule ram(\n  input wire [0:0] clk,\n  input wire [0:0] reset\n);\n  reg [7:0] w [0:3];\nendmodule\n";
 
 #[test]
 fn refusals_tell_the_line(rt: HostRuntime) -> Result<(), Fail> {
@@ -40,6 +153,50 @@ fn refusals_tell_the_line(rt: HostRuntime) -> Result<(), Fail> {
         )?;
     }
     Ok(())
+}
+
+#[test]
+fn lines_astray_are_told(rt: HostRuntime) -> Result<(), Fail> {
+    for (text, err) in ASTRAY {
+        calls(
+            &rt,
+            rt.alloc(),
+            ("sim", 9),
+            (text, b"{}"),
+            (Status::Refused, "", err),
+        )?;
+    }
+    Ok(())
+}
+
+#[test]
+fn nested_lines_are_told(rt: HostRuntime) -> Result<(), Fail> {
+    for (levels, inner, err) in NESTED {
+        let text = nested(rt.alloc(), levels, inner)?;
+        calls(
+            &rt,
+            rt.alloc(),
+            ("sim", 9),
+            (&text, b"{}"),
+            (Status::Refused, "", err),
+        )?;
+    }
+    Ok(())
+}
+
+/// A size that no array of the text has is told at the line of the memory.
+#[test]
+fn sizes_are_compared(rt: HostRuntime) -> Result<(), Fail> {
+    let text = format!(in rt.alloc();
+        "{EXTERNAL}{HEAD}  assign done = go;\n  ram m(.clk(clk), .reset(reset));\nendmodule\n"
+    )?;
+    calls(
+        &rt,
+        rt.alloc(),
+        ("sim", 9),
+        (&text, b"{}"),
+        (Status::Refused, "", "verilog 1:1 name\n"),
+    )
 }
 
 /// A counter is read, and written as the same text.

@@ -3,6 +3,7 @@ use Rattle.std.proofs.Common.{◌≡◌, ℕ, ◌<◌, not, true, false, ◌&&�
 use Rattle.std.specs.Prelude.{codes, is_some, nat_lt}
 use Rattle.std.specs.List.{list_all}
 use Rattle.std.proofs.lemmas.Bool.{and_parts, ltb-true}
+use Rattle.std.proofs.lemmas.List.{map-id}
 use Rattle.cx_vtree.specs.Layout.{is_name, conn_fits, instance_fits}
 use Rattle.cx_vtree.specs.Lines.{conn_text, more_conns_text, conns_text, InstanceLine, line_text, lines_text}
 use Rattle.cx_vtree.specs.Plain.{PlainConn, PlainInstance}
@@ -30,10 +31,10 @@ one_conn c y h =
     let parts = and_parts (is_name c.port) (is_name c.net) h in
     ap (λ t. conn_at (clean t)) (conn_pieces c y) ∙ conn_again c.port c.net y parts.0 parts.1
 
-abbrev next_text : PlainConn → List ℕ
+abbrev pub next_text : PlainConn → List ℕ
 next_text c = codes ", " ++ conn_text c
 
-conns_so : Again (begins (codes ",")) next_conn_at next_text conn_fits Anything
+conns_so : Again (begins (codes ",")) next_conn_at (λ c. c) next_text conn_fits Anything
 conns_so = record {
   starts_so = λ c y h. refl;
   reads_so = λ c y h ends. one_conn c y h;
@@ -41,7 +42,7 @@ conns_so = record {
   some_text = λ c h. omega arith;
 }
 
-more_joined : (cs : List PlainConn) → more_conns_text cs ≡ joined_text next_text cs
+pub more_joined : (cs : List PlainConn) → more_conns_text cs ≡ joined_text next_text cs
 more_joined [] = refl
 more_joined (c ∷ cs) = ap (λ t. (codes ", " ++ conn_text c) ++ t) (more_joined cs)
 
@@ -52,14 +53,14 @@ conns_again c cs y h =
     let z : List ℕ = codes ");\n" ++ y in
     ap (λ t. conns_at (clean t)) (append_assoc (conn_text c) (more_conns_text cs) z ∙ ap (λ t. conn_text c ++ (t ++ z)) (more_joined cs))
     ∙ ap (λ r. then_reads r (λ x q. then_reads (more_conns_at q) (λ xs r. Some (x ∷ xs, r)))) (one_conn c (joined_text next_text cs ++ z) parts.0)
-    ∙ ap (λ r. then_reads r (λ xs r. Some (c ∷ xs, r))) (all_again conns_so cs z parts.1 tt refl)
+    ∙ ap (λ r. then_reads r (λ xs r. Some (c ∷ xs, r))) (all_again conns_so cs z parts.1 tt refl ∙ ap (λ cs. Some (cs, clean z)) (map-id cs))
 
 -- an instance, from its module on
-instance_pieces : (i : PlainInstance) (y : List ℕ) → (line_text (InstanceLine i) ++ codes "\n") ++ y
+pub instance_pieces : (i : PlainInstance) (y : List ℕ) → (line_text (InstanceLine i) ++ codes "\n") ++ y
     ≡ codes "  " ++ (i.kind ++ (codes " " ++ (i.name ++ (codes "(" ++ (conns_text i.conns ++ (codes ");\n" ++ y))))))
 instance_pieces i y = simp append_assoc
 
-instance_of : (k n : List ℕ) (cs : List PlainConn) (y : List ℕ) → is_name k ≡ true → is_name n ≡ true → 0 < length cs → list_all conn_fits cs ≡ true
+pub instance_of : (k n : List ℕ) (cs : List PlainConn) (y : List ℕ) → is_name k ≡ true → is_name n ≡ true → 0 < length cs → list_all conn_fits cs ≡ true
     → instance_at (clean (codes "  " ++ (k ++ (codes " " ++ (n ++ (codes "(" ++ (conns_text cs ++ (codes ");\n" ++ y)))))))) ≡ Some (record { kind = k; name = n; conns = cs }, clean y)
 instance_of k n [] y f g some h = absurd (omega arith)
 instance_of k n (c ∷ cs) y f g some h =
@@ -88,12 +89,12 @@ instance_parts i h =
 pub not_always : (k x : List ℕ) → is_name k ≡ true → begins (codes "  always ") (clean (codes "  " ++ (k ++ (codes " " ++ x)))) ≡ false
 not_always k x h = ap is_some (other_word (codes "always") [] k x refl h (no_keyword k h).always)
 
-starts_instance : (i : PlainInstance) (y : List ℕ) → instance_fits i ≡ true → is_instance (clean (instance_text_of i ++ y)) ≡ true
+pub starts_instance : (i : PlainInstance) (y : List ℕ) → instance_fits i ≡ true → is_instance (clean (instance_text_of i ++ y)) ≡ true
 starts_instance i y h =
     ap (λ t. is_instance (clean t)) (instance_pieces i y)
     ∙ ap not (not_always i.kind (i.name ++ (codes "(" ++ (conns_text i.conns ++ (codes ");\n" ++ y)))) (instance_parts i h).kind)
 
-instances_so : Again is_instance instance_at instance_text_of instance_fits Anything
+pub instances_so : Again is_instance instance_at (λ i. i) instance_text_of instance_fits Anything
 instances_so = record {
   starts_so = starts_instance;
   reads_so = λ i y h ends.
@@ -106,7 +107,7 @@ instances_so = record {
 pub instances_again : (is : List PlainInstance) (z : List ℕ) → list_all instance_fits is ≡ true → is_instance (clean z) ≡ false
     → instances_at (clean (lines_text (map InstanceLine is) ++ z)) ≡ Some (is, clean z)
 instances_again is z f stops =
-    ap (λ t. instances_at (clean (t ++ z))) (lines_joined InstanceLine is) ∙ all_again instances_so is z f tt stops
+    ap (λ t. instances_at (clean (t ++ z))) (lines_joined InstanceLine is) ∙ all_again instances_so is z f tt stops ∙ ap (λ is. Some (is, clean z)) (map-id is)
 
 -- no declaration or assign begins where the first instance does
 pub instance-not_assign : (i : PlainInstance) (y : List ℕ) → instance_fits i ≡ true → begins (codes "  assign ") (clean (instance_text_of i ++ y)) ≡ false

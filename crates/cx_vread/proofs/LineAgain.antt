@@ -1,17 +1,20 @@
 -- The lines of ports, declarations and assigns that are spelled are read.
-use Rattle.std.proofs.Common.{◌≡◌, ℕ, ◌+◌, ◌-◌, ◌<◌, ◌^◌, inl, not, Bool, true, false, ◌&&◌, List, [], ◌∷◌, ◌++◌, map, length, Some, None, refl, ◌∙◌, ap, arith, append_assoc, append-nil, if◌then◌else◌}
-use Rattle.std.specs.Prelude.{codes, nat_lt}
+use Rattle.std.proofs.Common.{◌≡◌, ℕ, ◌+◌, ◌-◌, ◌<◌, ◌^◌, inl, not, Bool, true, false, ◌&&◌, List, [], ◌∷◌, ◌++◌, map, length, Some, None, refl, ◌∙◌, ap, arith, append_assoc, append-nil, ⊎_elim, if◌then◌else◌}
+use Rattle.std.specs.Prelude.{codes, nat_lt, min}
 use Rattle.std.specs.List.{list_all}
-use Rattle.std.proofs.lemmas.Bool.{and_parts, lt-ltb, ltb-true, ne_eqb}
+use Rattle.std.proofs.lemmas.Bool.{and_parts, lt-ltb, ltb-true, ne_eqb, not-true, cases_lt}
 use Rattle.cx_vtree.specs.Layout.{is_name, is_name_byte, expr_fits, port_fits, decl_fits, assign_fits}
 use Rattle.cx_vtree.specs.Lines.{decimal_text, expr_text, bounds_text, side_text, PortLine, DeclLine, AssignLine, line_text, lines_text}
 use Rattle.cx_vtree.specs.Plain.{PlainExpr, PlainPort, PlainDecl, WireOf, RegisterOf, ArrayOf, PlainAssign}
 use Rattle.cx_vtree.specs.Spelling.{port_lines}
 use Rattle.cx_vread_exprs.specs.Places as places
 use Rattle.cx_vread_exprs.specs.Places.{Place, Reads, unfit, then_reads, then_at, begins, many}
-use Rattle.cx_vread_exprs.specs.Tokens.{name_at, capped, one_more, bounds_at, length_at}
-use Rattle.cx_vread_exprs.specs.Holds.{holds_expr}
-use Rattle.cx_vread.specs.Held.{holds_port, holds_decl, holds_assign}
+use Rattle.cx_vread_exprs.specs.Tokens.{kept_small, name_at, capped, no_more, one_more, bounds_at, length_at}
+use Rattle.cx_vread.specs.Within.{is_flat, is_countable, is_flat_assign}
+use Rattle.cx_vread.proofs.Kept.{kept_port, kept_decl, kept_assign}
+use Rattle.cx_vread_exprs.proofs.Kept.{kept_expr}
+use Rattle.cx_vread_exprs.proofs.Numerals.{capped_some, capped_none}
+use Rattle.cx_vtree.specs.Sound.{nests_over}
 use Rattle.cx_vread.specs.Parts.{port_by, port_at, next_port_at, more_ports_at, ports_at, register_by, decl_at, is_decl, decls_at, assigned_by, assign_at, assigns_at}
 use Rattle.cx_vread_exprs.proofs.ExprAgain.{closed, name_again, whole_again}
 use Rattle.cx_vread.proofs.ManyAgain.{joined_text, Again, all_again, lines_joined, Anything}
@@ -27,46 +30,47 @@ more_again bound w x low high small =
     ∙ ap (λ b. if b then Some (w - 1 + 1, clean x) else Some (bound, unfit (clean x))) (lt-ltb (w - 1) bound high)
     ∙ ap (λ n. Some (n, clean x)) back
 
+-- what is kept of a width that its greatest bit tells
+pub width_kept : (w : ℕ) → 0 < w → no_more 254 (capped (w - 1)) + 1 ≡ kept_small w
+width_kept w low = ⊎_elim
+    (λ lt. let e : min (w - 1) 254 + 1 ≡ min w 255 = omega arith in ap (λ o. no_more 254 o + 1) (capped_some (w - 1) lt) ∙ e)
+    (λ le. let e : 254 + 1 ≡ min w 255 = omega arith in ap (λ o. no_more 254 o + 1) (capped_none (w - 1) le) ∙ e)
+    (cases_lt (w - 1) (2 ^ 128))
+
 -- a width, and what follows it
-pub bounds_again : (w : ℕ) (x : List ℕ) → nat_lt 0 w ≡ true → nat_lt w 256 ≡ true → bounds_at (clean (bounds_text w ++ x)) ≡ Some (w, clean x)
-bounds_again w x l h =
-    let low : 0 < w = ltb-true 0 w l in
-    let high : w < 256 = ltb-true w 256 h in
+pub bounds_again : (w : ℕ) (x : List ℕ) → nat_lt 0 w ≡ true → bounds_at (clean (bounds_text w ++ x)) ≡ Some (kept_small w, clean x)
+bounds_again w x l =
     let e : bounds_text w ++ x ≡ codes "[" ++ (decimal_text (w - 1) ++ (codes ":0] " ++ x)) = simp append_assoc in
     ap (λ t. bounds_at (clean t)) e
-    ∙ ap (λ r. then_reads r (λ n r. then_at (places.after (codes ":0] ") r) (one_more 255 n))) (number_again 10 (w - 1) (codes ":0] " ++ x) (inl refl) refl)
-    ∙ more_again 255 w x low (omega arith) (omega arith)
+    ∙ ap (λ r. then_reads r (λ n r. then_at (places.after (codes ":0] ") r) (λ s. Some (no_more 254 n + 1, s)))) (number_again 10 (w - 1) (codes ":0] " ++ x) (inl refl) refl)
+    ∙ ap (λ n. Some (n, clean x)) (width_kept w (ltb-true 0 w l))
 
 -- a port, from its width to its name
-port_by_again : (output : Bool) (n : List ℕ) (w : ℕ) (x : List ℕ) → is_name n ≡ true → nat_lt 0 w ≡ true → nat_lt w 256 ≡ true → Stops is_name_byte x
-    → port_by output (clean (bounds_text w ++ (n ++ x))) ≡ Some (record { output = output; name = n; width = w }, clean x)
-port_by_again output n w x f l h ends =
-    ap (λ r. then_reads r (λ w q. then_reads (name_at q) (λ n r. Some (record { output = output; name = n; width = w }, r)))) (bounds_again w (n ++ x) l h)
-    ∙ ap (λ r. then_reads r (λ n r. Some (record { output = output; name = n; width = w }, r))) (name_again n x f ends)
+port_by_again : (output : Bool) (n : List ℕ) (w : ℕ) (x : List ℕ) → is_name n ≡ true → nat_lt 0 w ≡ true → Stops is_name_byte x
+    → port_by output (clean (bounds_text w ++ (n ++ x))) ≡ Some (record { output = output; name = n; width = kept_small w }, clean x)
+port_by_again output n w x f l ends =
+    ap (λ r. then_reads r (λ w q. then_reads (name_at q) (λ n r. Some (record { output = output; name = n; width = w }, r)))) (bounds_again w (n ++ x) l)
+    ∙ ap (λ r. then_reads r (λ n r. Some (record { output = output; name = n; width = kept_small w }, r))) (name_again n x f ends)
 
 abbrev port_text : PlainPort → List ℕ
 port_text p = side_text p.output ++ (bounds_text p.width ++ p.name)
 
-port_again : (output : Bool) (n : List ℕ) (w : ℕ) (x : List ℕ) → is_name n ≡ true → nat_lt 0 w ≡ true → nat_lt w 256 ≡ true → Stops is_name_byte x
-    → port_at (clean (side_text output ++ (bounds_text w ++ (n ++ x)))) ≡ Some (record { output = output; name = n; width = w }, clean x)
-port_again true n w x f l h ends = port_by_again true n w x f l h ends
-port_again false n w x f l h ends = port_by_again false n w x f l h ends
+pub port_again : (output : Bool) (n : List ℕ) (w : ℕ) (x : List ℕ) → is_name n ≡ true → nat_lt 0 w ≡ true → Stops is_name_byte x
+    → port_at (clean (side_text output ++ (bounds_text w ++ (n ++ x)))) ≡ Some (record { output = output; name = n; width = kept_small w }, clean x)
+port_again true n w x f l ends = port_by_again true n w x f l ends
+port_again false n w x f l ends = port_by_again false n w x f l ends
 
 -- ports after the first, with the comma before each
-abbrev next_text : PlainPort → List ℕ
+abbrev pub next_text : PlainPort → List ℕ
 next_text p = codes ",\n" ++ (side_text p.output ++ (bounds_text p.width ++ p.name))
 
-abbrev good_port : PlainPort → Bool
-good_port p = port_fits p && holds_port p
-
-next_again : Again (begins (codes ",")) next_port_at next_text good_port (Stops is_name_byte)
+next_again : Again (begins (codes ",")) next_port_at kept_port next_text port_fits (Stops is_name_byte)
 next_again = record {
   starts_so = λ p y h. refl;
   reads_so = λ p y h ends.
-      let parts = and_parts (port_fits p) (holds_port p) h in
-      let fits = and_parts (is_name p.name) (nat_lt 0 p.width) parts.0 in
+      let fits = and_parts (is_name p.name) (nat_lt 0 p.width) h in
       let e : next_text p ++ y ≡ codes ",\n" ++ (side_text p.output ++ (bounds_text p.width ++ (p.name ++ y))) = simp append_assoc in
-      ap (λ t. next_port_at (clean t)) e ∙ port_again p.output p.name p.width y fits.0 fits.1 parts.1 ends;
+      ap (λ t. next_port_at (clean t)) e ∙ port_again p.output p.name p.width y fits.0 fits.1 ends;
   follows_so = λ p y h. refl;
   some_text = λ p h. omega arith;
 }
@@ -82,14 +86,14 @@ first_line side bounds name tail x = simp append_assoc
 last_line : (side bounds name x : List ℕ) → ((((side ++ bounds) ++ name) ++ []) ++ codes "\n" ++ []) ++ x ≡ side ++ (bounds ++ (name ++ (codes "\n" ++ x)))
 last_line side bounds name x = simp (append_assoc, append-nil)
 
-one_more_port : (p q : PlainPort) (qs : List PlainPort) → lines_text (port_lines (p ∷ q ∷ qs)) ≡ lines_text (PortLine p true ∷ port_lines (q ∷ qs))
+pub one_more_port : (p q : PlainPort) (qs : List PlainPort) → lines_text (port_lines (p ∷ q ∷ qs)) ≡ lines_text (PortLine p true ∷ port_lines (q ∷ qs))
 one_more_port p q qs = ap (λ b. lines_text (PortLine p (not b) ∷ port_lines (q ∷ qs))) (ne_eqb (length (q ∷ qs)) 0 (λ e. omega arith))
 
 after_port : (q joined x : List ℕ) → codes ",\n" ++ (q ++ (joined ++ x)) ≡ ((codes ",\n" ++ q) ++ joined) ++ x
 after_port q joined x = simp append_assoc
 
 -- the text of ports, and of the line that ends them
-ports_joined : (ps : List PlainPort) (x : List ℕ) (p : PlainPort)
+pub ports_joined : (ps : List PlainPort) (x : List ℕ) (p : PlainPort)
     → lines_text (port_lines (p ∷ ps)) ++ (codes ");\n" ++ x) ≡ side_text p.output ++ (bounds_text p.width ++ (p.name ++ (joined_text next_text ps ++ (codes "\n" ++ (codes ");\n" ++ x)))))
 ports_joined [] x p = last_line (side_text p.output) (bounds_text p.width) p.name (codes ");\n" ++ x)
 ports_joined (q ∷ qs) x p =
@@ -101,29 +105,21 @@ ports_joined (q ∷ qs) x p =
     ∙ ap (λ t. side_text p.output ++ (bounds_text p.width ++ (p.name ++ (codes ",\n" ++ t)))) (ports_joined qs x q ∙ f)
     ∙ ap (λ t. side_text p.output ++ (bounds_text p.width ++ (p.name ++ t))) (after_port (side_text q.output ++ (bounds_text q.width ++ q.name)) joined (codes "\n" ++ end))
 
-goods : (ps : List PlainPort) → list_all port_fits ps ≡ true → list_all holds_port ps ≡ true → list_all good_port ps ≡ true
-goods [] f h = refl
-goods (p ∷ ps) f h =
-    let fit = and_parts (port_fits p) (list_all port_fits ps) f in
-    let held = and_parts (holds_port p) (list_all holds_port ps) h in
-    ap (λ b. b && list_all good_port ps) (ap (λ b. b && holds_port p) fit.0 ∙ held.0) ∙ goods ps fit.1 held.1
-
 stops_after : (ps : List PlainPort) (x : List ℕ) → Stops is_name_byte (joined_text next_text ps ++ (codes "\n" ++ x))
 stops_after [] x = refl
 stops_after (p ∷ ps) x = refl
 
-pub ports_again : (p : PlainPort) (ps : List PlainPort) (x : List ℕ) → list_all port_fits (p ∷ ps) ≡ true → list_all holds_port (p ∷ ps) ≡ true
-    → ports_at (clean (lines_text (port_lines (p ∷ ps)) ++ (codes ");\n" ++ x))) ≡ Some (p ∷ ps, clean x)
-ports_again p ps x f h =
+pub ports_again : (p : PlainPort) (ps : List PlainPort) (x : List ℕ) → list_all port_fits (p ∷ ps) ≡ true
+    → ports_at (clean (lines_text (port_lines (p ∷ ps)) ++ (codes ");\n" ++ x))) ≡ Some (map kept_port (p ∷ ps), clean x)
+ports_again p ps x f =
     let fit = and_parts (port_fits p) (list_all port_fits ps) f in
-    let held = and_parts (holds_port p) (list_all holds_port ps) h in
     let fits = and_parts (is_name p.name) (nat_lt 0 p.width) fit.0 in
     let end : List ℕ = codes "\n" ++ (codes ");\n" ++ x) in
     ap (λ t. ports_at (clean t)) (ports_joined ps x p)
     ∙ ap (λ r. then_reads r (λ x q. then_reads (more_ports_at q) (λ xs r. then_at (places.after (codes "\n);\n") r) (λ s. Some (x ∷ xs, s)))))
-    (port_again p.output p.name p.width (joined_text next_text ps ++ end) fits.0 fits.1 held.0 (stops_after ps (codes ");\n" ++ x)))
-    ∙ ap (λ r. then_reads r (λ xs r. then_at (places.after (codes "\n);\n") r) (λ s. Some (p ∷ xs, s))))
-    (all_again next_again ps end (goods ps fit.1 held.1) refl refl)
+    (port_again p.output p.name p.width (joined_text next_text ps ++ end) fits.0 fits.1 (stops_after ps (codes ");\n" ++ x)))
+    ∙ ap (λ r. then_reads r (λ xs r. then_at (places.after (codes "\n);\n") r) (λ s. Some (kept_port p ∷ xs, s))))
+    (all_again next_again ps end fit.1 refl refl)
 
 -- Declarations.
 length_again : (k : ℕ) (x : List ℕ) → nat_lt 0 k ≡ true → nat_lt k 18446744073709551616 ≡ true → length_at (clean (decimal_text (k - 1) ++ (codes "];\n" ++ x))) ≡ Some (k, clean (codes "];\n" ++ x))
@@ -133,37 +129,36 @@ length_again k x l h =
     ap (λ r. then_reads r (one_more 18446744073709551615)) (number_again 10 (k - 1) (codes "];\n" ++ x) (inl refl) refl)
     ∙ more_again 18446744073709551615 k (codes "];\n" ++ x) low (omega arith) (omega arith)
 
-abbrev decl_text_of : PlainDecl → List ℕ
+abbrev pub decl_text_of : PlainDecl → List ℕ
 decl_text_of d = line_text (DeclLine d) ++ codes "\n"
 
-decl_again : (d : PlainDecl) (y : List ℕ) → decl_fits d ≡ true → holds_decl d ≡ true → decl_at (clean (decl_text_of d ++ y)) ≡ Some (d, clean y)
+pub decl_again : (d : PlainDecl) (y : List ℕ) → decl_fits d ≡ true → is_countable d ≡ true → decl_at (clean (decl_text_of d ++ y)) ≡ Some (kept_decl d, clean y)
 decl_again (WireOf n w) y f h =
     let fits = and_parts (is_name n) (nat_lt 0 w) f in
     let e : decl_text_of (WireOf n w) ++ y ≡ codes "  wire " ++ (bounds_text w ++ (n ++ (codes ";\n" ++ y))) = simp append_assoc in
     ap (λ t. decl_at (clean t)) e
-    ∙ ap (λ r. then_reads r (λ w q. then_reads (name_at q) (λ n r. then_at (places.after (codes ";\n") r) (λ s. Some (WireOf n w, s))))) (bounds_again w (n ++ (codes ";\n" ++ y)) fits.1 h)
-    ∙ ap (λ r. then_reads r (λ n r. then_at (places.after (codes ";\n") r) (λ s. Some (WireOf n w, s)))) (name_again n (codes ";\n" ++ y) fits.0 refl)
+    ∙ ap (λ r. then_reads r (λ w q. then_reads (name_at q) (λ n r. then_at (places.after (codes ";\n") r) (λ s. Some (WireOf n w, s))))) (bounds_again w (n ++ (codes ";\n" ++ y)) fits.1)
+    ∙ ap (λ r. then_reads r (λ n r. then_at (places.after (codes ";\n") r) (λ s. Some (WireOf n (kept_small w), s)))) (name_again n (codes ";\n" ++ y) fits.0 refl)
 decl_again (RegisterOf n w) y f h =
     let fits = and_parts (is_name n) (nat_lt 0 w) f in
     let e : decl_text_of (RegisterOf n w) ++ y ≡ codes "  reg " ++ (bounds_text w ++ (n ++ (codes ";\n" ++ y))) = simp append_assoc in
     ap (λ t. decl_at (clean t)) e
-    ∙ ap (λ r. then_reads r (λ w q. then_reads (name_at q) (λ n r. register_by n w r))) (bounds_again w (n ++ (codes ";\n" ++ y)) fits.1 h)
-    ∙ ap (λ r. then_reads r (λ n r. register_by n w r)) (name_again n (codes ";\n" ++ y) fits.0 refl)
+    ∙ ap (λ r. then_reads r (λ w q. then_reads (name_at q) (λ n r. register_by n w r))) (bounds_again w (n ++ (codes ";\n" ++ y)) fits.1)
+    ∙ ap (λ r. then_reads r (λ n r. register_by n (kept_small w) r)) (name_again n (codes ";\n" ++ y) fits.0 refl)
 decl_again (ArrayOf n w k) y f h =
     let fit = and_parts (is_name n && nat_lt 0 w) (nat_lt 0 k) f in
     let fits = and_parts (is_name n) (nat_lt 0 w) fit.0 in
-    let held = and_parts (nat_lt w 256) (nat_lt k 18446744073709551616) h in
     let end : List ℕ = decimal_text (k - 1) ++ (codes "];\n" ++ y) in
     let e : decl_text_of (ArrayOf n w k) ++ y ≡ codes "  reg " ++ (bounds_text w ++ (n ++ (codes " [0:" ++ (decimal_text (k - 1) ++ (codes "];\n" ++ y))))) = simp append_assoc in
     ap (λ t. decl_at (clean t)) e
-    ∙ ap (λ r. then_reads r (λ w q. then_reads (name_at q) (λ n r. register_by n w r))) (bounds_again w (n ++ (codes " [0:" ++ end)) fits.1 held.0)
-    ∙ ap (λ r. then_reads r (λ n r. register_by n w r)) (name_again n (codes " [0:" ++ end) fits.0 refl)
-    ∙ ap (λ r. then_reads r (λ k r. then_at (places.after (codes "];\n") r) (λ s. Some (ArrayOf n w k, s)))) (length_again k y fit.1 held.1)
+    ∙ ap (λ r. then_reads r (λ w q. then_reads (name_at q) (λ n r. register_by n w r))) (bounds_again w (n ++ (codes " [0:" ++ end)) fits.1)
+    ∙ ap (λ r. then_reads r (λ n r. register_by n (kept_small w) r)) (name_again n (codes " [0:" ++ end) fits.0 refl)
+    ∙ ap (λ r. then_reads r (λ k r. then_at (places.after (codes "];\n") r) (λ s. Some (ArrayOf n (kept_small w) k, s)))) (length_again k y fit.1 h)
 
 abbrev good_decl : PlainDecl → Bool
-good_decl d = decl_fits d && holds_decl d
+good_decl d = decl_fits d && is_countable d
 
-starts_decl : (d : PlainDecl) (y : List ℕ) → is_decl (clean (decl_text_of d ++ y)) ≡ true
+pub starts_decl : (d : PlainDecl) (y : List ℕ) → is_decl (clean (decl_text_of d ++ y)) ≡ true
 starts_decl (WireOf n w) y = refl
 starts_decl (RegisterOf n w) y = refl
 starts_decl (ArrayOf n w k) y = refl
@@ -173,49 +168,49 @@ some_decl (WireOf n w) = omega arith
 some_decl (RegisterOf n w) = omega arith
 some_decl (ArrayOf n w k) = omega arith
 
-decls_so : Again is_decl decl_at decl_text_of good_decl Anything
+decls_so : Again is_decl decl_at kept_decl decl_text_of good_decl Anything
 decls_so = record {
   starts_so = λ d y h. starts_decl d y;
-  reads_so = λ d y h ends. let parts = and_parts (decl_fits d) (holds_decl d) h in decl_again d y parts.0 parts.1;
+  reads_so = λ d y h ends. let parts = and_parts (decl_fits d) (is_countable d) h in decl_again d y parts.0 parts.1;
   follows_so = λ d y h. tt;
   some_text = λ d h. some_decl d;
 }
 
-good_decls : (ds : List PlainDecl) → list_all decl_fits ds ≡ true → list_all holds_decl ds ≡ true → list_all good_decl ds ≡ true
+good_decls : (ds : List PlainDecl) → list_all decl_fits ds ≡ true → list_all is_countable ds ≡ true → list_all good_decl ds ≡ true
 good_decls [] f h = refl
 good_decls (d ∷ ds) f h =
     let fit = and_parts (decl_fits d) (list_all decl_fits ds) f in
-    let held = and_parts (holds_decl d) (list_all holds_decl ds) h in
-    ap (λ b. b && list_all good_decl ds) (ap (λ b. b && holds_decl d) fit.0 ∙ held.0) ∙ good_decls ds fit.1 held.1
+    let held = and_parts (is_countable d) (list_all is_countable ds) h in
+    ap (λ b. b && list_all good_decl ds) (ap (λ b. b && is_countable d) fit.0 ∙ held.0) ∙ good_decls ds fit.1 held.1
 
-pub decls_again : (ds : List PlainDecl) (z : List ℕ) → list_all decl_fits ds ≡ true → list_all holds_decl ds ≡ true → is_decl (clean z) ≡ false
-    → decls_at (clean (lines_text (map DeclLine ds) ++ z)) ≡ Some (ds, clean z)
+pub decls_again : (ds : List PlainDecl) (z : List ℕ) → list_all decl_fits ds ≡ true → list_all is_countable ds ≡ true → is_decl (clean z) ≡ false
+    → decls_at (clean (lines_text (map DeclLine ds) ++ z)) ≡ Some (map kept_decl ds, clean z)
 decls_again ds z f h stops =
     ap (λ t. decls_at (clean (t ++ z))) (lines_joined DeclLine ds) ∙ all_again decls_so ds z (good_decls ds f h) tt stops
 
 -- the end of the line of an assign
-pub assigned_again : (n : List ℕ) (e : PlainExpr) (y : List ℕ) → expr_fits e ≡ true → holds_expr e ≡ true
-    → assigned_by n (clean (expr_text e ++ (codes ";\n" ++ y))) ≡ Some (record { name = n; value = e }, clean y)
+pub assigned_again : (n : List ℕ) (e : PlainExpr) (y : List ℕ) → expr_fits e ≡ true → is_flat e ≡ true
+    → assigned_by n (clean (expr_text e ++ (codes ";\n" ++ y))) ≡ Some (record { name = n; value = kept_expr e }, clean y)
 assigned_again n e y f h =
-    ap (λ r. then_reads r (λ e q. then_at (places.after (codes ";\n") q) (λ r. Some (record { name = n; value = e }, r)))) (whole_again e (codes ";\n" ++ y) f h (closed 59 _ refl refl))
+    ap (λ r. then_reads r (λ e q. then_at (places.after (codes ";\n") q) (λ r. Some (record { name = n; value = e }, r)))) (whole_again e (codes ";\n" ++ y) f (not-true (nests_over 128 e) h) (closed 59 _ refl refl))
 
 abbrev assign_text_of : PlainAssign → List ℕ
 assign_text_of a = line_text (AssignLine a) ++ codes "\n"
 
 abbrev pub good_assign : PlainAssign → Bool
-good_assign a = assign_fits a && holds_assign a
+good_assign a = assign_fits a && is_flat_assign a
 
-assign_again : (n : List ℕ) (e : PlainExpr) (y : List ℕ) → is_name n ≡ true → expr_fits e ≡ true → holds_expr e ≡ true
-    → assign_at (clean (codes "  assign " ++ (n ++ (codes " = " ++ (expr_text e ++ (codes ";\n" ++ y)))))) ≡ Some (record { name = n; value = e }, clean y)
+assign_again : (n : List ℕ) (e : PlainExpr) (y : List ℕ) → is_name n ≡ true → expr_fits e ≡ true → is_flat e ≡ true
+    → assign_at (clean (codes "  assign " ++ (n ++ (codes " = " ++ (expr_text e ++ (codes ";\n" ++ y)))))) ≡ Some (record { name = n; value = kept_expr e }, clean y)
 assign_again n e y f g h =
     ap (λ r. then_reads r (λ n r. then_at (places.after (codes " = ") r) (assigned_by n))) (name_again n (codes " = " ++ (expr_text e ++ (codes ";\n" ++ y))) f refl)
     ∙ assigned_again n e y g h
 
-assigns_so : Again (begins (codes "  assign ")) assign_at assign_text_of good_assign Anything
+assigns_so : Again (begins (codes "  assign ")) assign_at kept_assign assign_text_of good_assign Anything
 assigns_so = record {
   starts_so = λ a y h. refl;
   reads_so = λ a y h ends.
-      let parts = and_parts (assign_fits a) (holds_assign a) h in
+      let parts = and_parts (assign_fits a) (is_flat_assign a) h in
       let fits = and_parts (is_name a.name) (expr_fits a.value) parts.0 in
       let e : assign_text_of a ++ y ≡ codes "  assign " ++ (a.name ++ (codes " = " ++ (expr_text a.value ++ (codes ";\n" ++ y)))) = simp append_assoc in
       ap (λ t. assign_at (clean t)) e ∙ assign_again a.name a.value y fits.0 fits.1 parts.1;
@@ -223,14 +218,14 @@ assigns_so = record {
   some_text = λ a h. omega arith;
 }
 
-pub good_assigns : (xs : List PlainAssign) → list_all assign_fits xs ≡ true → list_all holds_assign xs ≡ true → list_all good_assign xs ≡ true
+pub good_assigns : (xs : List PlainAssign) → list_all assign_fits xs ≡ true → list_all is_flat_assign xs ≡ true → list_all good_assign xs ≡ true
 good_assigns [] f h = refl
 good_assigns (a ∷ xs) f h =
     let fit = and_parts (assign_fits a) (list_all assign_fits xs) f in
-    let held = and_parts (holds_assign a) (list_all holds_assign xs) h in
-    ap (λ b. b && list_all good_assign xs) (ap (λ b. b && holds_assign a) fit.0 ∙ held.0) ∙ good_assigns xs fit.1 held.1
+    let held = and_parts (is_flat_assign a) (list_all is_flat_assign xs) h in
+    ap (λ b. b && list_all good_assign xs) (ap (λ b. b && is_flat_assign a) fit.0 ∙ held.0) ∙ good_assigns xs fit.1 held.1
 
-pub assigns_again : (xs : List PlainAssign) (z : List ℕ) → list_all assign_fits xs ≡ true → list_all holds_assign xs ≡ true → begins (codes "  assign ") (clean z) ≡ false
-    → assigns_at (clean (lines_text (map AssignLine xs) ++ z)) ≡ Some (xs, clean z)
+pub assigns_again : (xs : List PlainAssign) (z : List ℕ) → list_all assign_fits xs ≡ true → list_all is_flat_assign xs ≡ true → begins (codes "  assign ") (clean z) ≡ false
+    → assigns_at (clean (lines_text (map AssignLine xs) ++ z)) ≡ Some (map kept_assign xs, clean z)
 assigns_again xs z f h stops =
     ap (λ t. assigns_at (clean (t ++ z))) (lines_joined AssignLine xs) ∙ all_again assigns_so xs z (good_assigns xs f h) tt stops

@@ -115,14 +115,14 @@ third_some : (o p q : Option ℕ) (f : ℕ → ℕ → ℕ → Option ℕ) → i
 third_some None p q f h = absurd (cc)
 third_some (Some x) p q f h = (first_some p (λ v. option_and_then (f x v) q) h, second_some p q (f x) h)
 
-literal_held : (w v : ℕ) → nat_le (2 ^ w) v ≡ false → bad_width w ≡ false → fits_bits w v ≡ true
+pub literal_held : (w v : ℕ) → nat_le (2 ^ w) v ≡ false → bad_width w ≡ false → fits_bits w v ≡ true
 literal_held w v over bad =
     let le = small_width w bad in
     let lt = leb-false (2 ^ w) v over in
     let some : w ≢ 0 = eqb-false w 0 (or_parts (w == 0) (nat_lt 128 w) bad).0 in
     and_from (nat_lt 0 w && nat_le w 128) (nat_lt v (2 ^ w)) (and_from (nat_lt 0 w) (nat_le w 128) (lt-ltb 0 w (omega arith)) (le-leb w 128 le)) (lt-ltb v (2 ^ w) lt)
 
-numbers_held : (scope : Scope) (small : (n : List ℕ) → width_of (scope n) < 256) (e : PlainExpr) → misnames scope e ≡ false → is_some (fitting_width scope e) ≡ true → numbers_fit e ≡ true
+pub numbers_held : (scope : Scope) (small : (n : List ℕ) → width_of (scope n) < 256) (e : PlainExpr) → misnames scope e ≡ false → is_some (fitting_width scope e) ≡ true → numbers_fit e ≡ true
 numbers_held scope small (Named n) m f = refl
 numbers_held scope small (Number b) m f = literal_held b.width b.value m (other_some (bad_width b.width) b.width f)
 numbers_held scope small (Part n high low) m f =
@@ -197,11 +197,11 @@ pub not_not : (b : Bool) → not b ≡ false → b ≡ true
 not_not true h = refl
 not_not false h = absurd (cc)
 
-width_some : (o : Option ℕ) (w : ℕ) → not (option_map_or (λ v. v == w) o false) ≡ false → is_some o ≡ true
+pub width_some : (o : Option ℕ) (w : ℕ) → not (option_map_or (λ v. v == w) o false) ≡ false → is_some o ≡ true
 width_some None w h = absurd (cc)
 width_some (Some v) w h = refl
 
-none_some : (o : Option ℕ) → is_none o ≡ false → is_some o ≡ true
+pub none_some : (o : Option ℕ) → is_none o ≡ false → is_some o ≡ true
 none_some None h = absurd (cc)
 none_some (Some v) h = refl
 

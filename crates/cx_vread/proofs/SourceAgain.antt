@@ -11,7 +11,10 @@ use Rattle.cx_vwrite.specs.Pieces.{modules_text}
 use Rattle.cx_vwrite.proofs.LinesText.{lines_text_append, whole_text, modules_text-lines}
 use Rattle.cx_vread_exprs.specs.Places as places
 use Rattle.cx_vread_exprs.specs.Places.{Place, Reads, then_reads, then_at, begins, many}
-use Rattle.cx_vread.specs.Held.{holds_port, holds_decl, holds_assign, holds_edge, holds_module, holds_external, is_held}
+use Rattle.cx_vread.specs.Held.{is_held}
+use Rattle.cx_vread.specs.Within.{is_countable, is_flat_assign, is_flat_edge, module_within, is_within}
+use Rattle.cx_vread.proofs.Kept.{kept_port, kept_decl, kept_assign, kept_module, kept_external, kept_source}
+use Rattle.cx_vread.proofs.KeptSame.{held_within, held_kept}
 use Rattle.cx_vread.specs.Parts.{is_decl, is_instance, ports_at, assigns_at, instances_at, edge_or_none_at, head_at, module_by, module_at, is_left, more_modules_at, modules_at, source_at}
 use Rattle.cx_vread.proofs.EdgeAgain.{edge_again}
 use Rattle.cx_vread_exprs.proofs.ExprAgain.{name_again}
@@ -54,24 +57,24 @@ assigns-not_decl : (xs : List PlainAssign) (z : List ℕ) → is_decl (clean z) 
 assigns-not_decl [] z h = h
 assigns-not_decl (a ∷ xs) z h = refl
 
-head_again : (n : List ℕ) (ps : List PlainPort) (z : List ℕ) → is_name n ≡ true → 0 < length ps → list_all port_fits ps ≡ true → list_all holds_port ps ≡ true
-    → head_at (clean (codes "module " ++ (n ++ (codes "(\n" ++ (lines_text (port_lines ps) ++ (codes ");\n" ++ z)))))) ≡ Some ((n, ps), clean z)
-head_again n [] z f some fits holds = absurd (omega arith)
-head_again n (p ∷ ps) z f some fits holds =
+head_again : (n : List ℕ) (ps : List PlainPort) (z : List ℕ) → is_name n ≡ true → 0 < length ps → list_all port_fits ps ≡ true
+    → head_at (clean (codes "module " ++ (n ++ (codes "(\n" ++ (lines_text (port_lines ps) ++ (codes ");\n" ++ z)))))) ≡ Some ((n, map kept_port ps), clean z)
+head_again n [] z f some fits = absurd (omega arith)
+head_again n (p ∷ ps) z f some fits =
     ap (λ r. then_reads r (λ n r. then_at (places.after (codes "(\n") r) (λ s. then_reads (ports_at s) (λ ps t. Some ((n, ps), t))))) (name_again n (codes "(\n" ++ (lines_text (port_lines (p ∷ ps)) ++ (codes ");\n" ++ z))) f refl)
-    ∙ ap (λ r. then_reads r (λ ps t. Some ((n, ps), t))) (ports_again p ps z fits holds)
+    ∙ ap (λ r. then_reads r (λ ps t. Some ((n, ps), t))) (ports_again p ps z fits)
 
 regroup : (h n o p q d a i e c y : List ℕ) → (((h ++ n ++ o) ++ (p ++ (q ++ d))) ++ (a ++ (i ++ (e ++ c)))) ++ y ≡ h ++ (n ++ (o ++ (p ++ (q ++ (d ++ (a ++ (i ++ (e ++ (c ++ y)))))))))
 regroup h n o p q d a i e c y = simp append_assoc
 
-module_pieces : (m : PlainModule) (y : List ℕ) → lines_text (module_lines m) ++ y
+pub module_pieces : (m : PlainModule) (y : List ℕ) → lines_text (module_lines m) ++ y
     ≡ codes "module " ++ (m.name ++ (codes "(\n" ++ (lines_text (port_lines m.ports) ++ (codes ");\n" ++ (lines_text (map DeclLine m.decls)
     ++ (lines_text (map AssignLine m.assigns) ++ (lines_text (map InstanceLine m.instances) ++ (lines_text (edge_lines m.edge) ++ (codes "endmodule\n" ++ y)))))))))
 module_pieces m y =
     ap (λ t. t ++ y) (whole_text m)
     ∙ regroup (codes "module ") m.name (codes "(\n") (lines_text (port_lines m.ports)) (codes ");\n") (lines_text (map DeclLine m.decls)) (lines_text (map AssignLine m.assigns)) (lines_text (map InstanceLine m.instances)) (lines_text (edge_lines m.edge)) (codes "endmodule\n") y
 
-module_again : (m : PlainModule) (y : List ℕ) → module_fits m ≡ true → holds_module m ≡ true → module_at (clean (lines_text (module_lines m) ++ y)) ≡ Some (m, clean y)
+module_again : (m : PlainModule) (y : List ℕ) → module_fits m ≡ true → module_within m ≡ true → module_at (clean (lines_text (module_lines m) ++ y)) ≡ Some (kept_module m, clean y)
 module_again m y f h =
     let f6 = and_parts (is_name m.name && nat_lt 0 (length m.ports) && list_all port_fits m.ports && list_all decl_fits m.decls && list_all assign_fits m.assigns && list_all instance_fits m.instances) (edge_fits m.edge) f in
     let f5 = and_parts (is_name m.name && nat_lt 0 (length m.ports) && list_all port_fits m.ports && list_all decl_fits m.decls && list_all assign_fits m.assigns) (list_all instance_fits m.instances) f6.0 in
@@ -79,75 +82,76 @@ module_again m y f h =
     let f3 = and_parts (is_name m.name && nat_lt 0 (length m.ports) && list_all port_fits m.ports) (list_all decl_fits m.decls) f4.0 in
     let f2 = and_parts (is_name m.name && nat_lt 0 (length m.ports)) (list_all port_fits m.ports) f3.0 in
     let f1 = and_parts (is_name m.name) (nat_lt 0 (length m.ports)) f2.0 in
-    let h3 = and_parts (list_all holds_port m.ports && list_all holds_decl m.decls && list_all holds_assign m.assigns) (holds_edge m.edge) h in
-    let h2 = and_parts (list_all holds_port m.ports && list_all holds_decl m.decls) (list_all holds_assign m.assigns) h3.0 in
-    let h1 = and_parts (list_all holds_port m.ports) (list_all holds_decl m.decls) h2.0 in
+    let h2 = and_parts (list_all is_countable m.decls && list_all is_flat_assign m.assigns) (is_flat_edge m.edge) h in
+    let h1 = and_parts (list_all is_countable m.decls) (list_all is_flat_assign m.assigns) h2.0 in
     let z4 : List ℕ = codes "endmodule\n" ++ y in
     let z3 : List ℕ = lines_text (edge_lines m.edge) ++ z4 in
     let z2 : List ℕ = lines_text (map InstanceLine m.instances) ++ z3 in
     let z1 : List ℕ = lines_text (map AssignLine m.assigns) ++ z2 in
     ap (λ t. module_at (clean t)) (module_pieces m y)
-    ∙ ap (λ r. then_reads r module_by) (head_again m.name m.ports (lines_text (map DeclLine m.decls) ++ z1) f1.0 (ltb-true 0 (length m.ports) f1.1) f2.1 h1.0)
-    ∙ ap (λ r. then_reads r (λ ds q. then_reads (assigns_at q) (λ assigns r. then_reads (instances_at r) (λ is s. then_reads (edge_or_none_at s) (λ e t. then_at (places.after (codes "endmodule\n") t) (λ u. Some (record { name = m.name; ports = m.ports; decls = ds; assigns = assigns; instances = is; edge = e }, u)))))))
-    (decls_again m.decls z1 f3.1 h1.1 (assigns-not_decl m.assigns z2 (instances-not_decl m.instances m.edge y f5.1)))
-    ∙ ap (λ r. then_reads r (λ assigns r. then_reads (instances_at r) (λ is s. then_reads (edge_or_none_at s) (λ e t. then_at (places.after (codes "endmodule\n") t) (λ u. Some (record { name = m.name; ports = m.ports; decls = m.decls; assigns = assigns; instances = is; edge = e }, u))))))
-    (assigns_again m.assigns z2 f4.1 h2.1 (instances-not_assign m.instances m.edge y f5.1))
-    ∙ ap (λ r. then_reads r (λ is s. then_reads (edge_or_none_at s) (λ e t. then_at (places.after (codes "endmodule\n") t) (λ u. Some (record { name = m.name; ports = m.ports; decls = m.decls; assigns = m.assigns; instances = is; edge = e }, u)))))
+    ∙ ap (λ r. then_reads r module_by) (head_again m.name m.ports (lines_text (map DeclLine m.decls) ++ z1) f1.0 (ltb-true 0 (length m.ports) f1.1) f2.1)
+    ∙ ap (λ r. then_reads r (λ ds q. then_reads (assigns_at q) (λ assigns r. then_reads (instances_at r) (λ is s. then_reads (edge_or_none_at s) (λ e t. then_at (places.after (codes "endmodule\n") t) (λ u. Some (record { name = m.name; ports = map kept_port m.ports; decls = ds; assigns = assigns; instances = is; edge = e }, u)))))))
+    (decls_again m.decls z1 f3.1 h1.0 (assigns-not_decl m.assigns z2 (instances-not_decl m.instances m.edge y f5.1)))
+    ∙ ap (λ r. then_reads r (λ assigns r. then_reads (instances_at r) (λ is s. then_reads (edge_or_none_at s) (λ e t. then_at (places.after (codes "endmodule\n") t) (λ u. Some (record { name = m.name; ports = map kept_port m.ports; decls = map kept_decl m.decls; assigns = assigns; instances = is; edge = e }, u))))))
+    (assigns_again m.assigns z2 f4.1 h1.1 (instances-not_assign m.instances m.edge y f5.1))
+    ∙ ap (λ r. then_reads r (λ is s. then_reads (edge_or_none_at s) (λ e t. then_at (places.after (codes "endmodule\n") t) (λ u. Some (record { name = m.name; ports = map kept_port m.ports; decls = map kept_decl m.decls; assigns = map kept_assign m.assigns; instances = is; edge = e }, u)))))
     (instances_again m.instances z3 f5.1 (edge-not_instance m.edge y))
-    ∙ ap (λ r. then_reads r (λ e t. then_at (places.after (codes "endmodule\n") t) (λ u. Some (record { name = m.name; ports = m.ports; decls = m.decls; assigns = m.assigns; instances = m.instances; edge = e }, u))))
-    (edge_again m.edge z4 f6.1 h3.1 refl)
+    ∙ ap (λ r. then_reads r (λ e t. then_at (places.after (codes "endmodule\n") t) (λ u. Some (record { name = m.name; ports = map kept_port m.ports; decls = map kept_decl m.decls; assigns = map kept_assign m.assigns; instances = m.instances; edge = e }, u))))
+    (edge_again m.edge z4 f6.1 h2.1 refl)
 
 abbrev module_text_of : PlainModule → List ℕ
 module_text_of m = lines_text (module_lines m)
 
 abbrev good_module : PlainModule → Bool
-good_module m = module_fits m && holds_module m
+good_module m = module_fits m && module_within m
 
-modules_so : Again is_left module_at module_text_of good_module Anything
+modules_so : Again is_left module_at kept_module module_text_of good_module Anything
 modules_so = record {
   starts_so = λ m y h. ap not (ne_eqb (length (module_text_of m ++ y)) 0 (λ e. omega arith));
-  reads_so = λ m y h ends. let parts = and_parts (module_fits m) (holds_module m) h in module_again m y parts.0 parts.1;
+  reads_so = λ m y h ends. let parts = and_parts (module_fits m) (module_within m) h in module_again m y parts.0 parts.1;
   follows_so = λ m y h. tt;
   some_text = λ m h. omega arith;
 }
 
-good_modules : (ms : List PlainModule) → list_all module_fits ms ≡ true → list_all holds_module ms ≡ true → list_all good_module ms ≡ true
+good_modules : (ms : List PlainModule) → list_all module_fits ms ≡ true → list_all module_within ms ≡ true → list_all good_module ms ≡ true
 good_modules [] f h = refl
 good_modules (m ∷ ms) f h =
     let fit = and_parts (module_fits m) (list_all module_fits ms) f in
-    let held = and_parts (holds_module m) (list_all holds_module ms) h in
-    ap (λ b. b && list_all good_module ms) (ap (λ b. b && holds_module m) fit.0 ∙ held.0) ∙ good_modules ms fit.1 held.1
+    let held = and_parts (module_within m) (list_all module_within ms) h in
+    ap (λ b. b && list_all good_module ms) (ap (λ b. b && module_within m) fit.0 ∙ held.0) ∙ good_modules ms fit.1 held.1
 
-modules_joined : (ms : List PlainModule) → modules_text ms ≡ joined_text module_text_of ms
+pub modules_joined : (ms : List PlainModule) → modules_text ms ≡ joined_text module_text_of ms
 modules_joined [] = refl
 modules_joined (m ∷ ms) = ap (λ t. lines_text (module_lines m) ++ t) (modules_joined ms)
 
-modules_again : (m : PlainModule) (ms : List PlainModule) → list_all module_fits (m ∷ ms) ≡ true → list_all holds_module (m ∷ ms) ≡ true
-    → modules_at (clean (modules_text (m ∷ ms))) ≡ Some (m ∷ ms, clean [])
+modules_again : (m : PlainModule) (ms : List PlainModule) → list_all module_fits (m ∷ ms) ≡ true → list_all module_within (m ∷ ms) ≡ true
+    → modules_at (clean (modules_text (m ∷ ms))) ≡ Some (map kept_module (m ∷ ms), clean [])
 modules_again m ms f h =
     let fit = and_parts (module_fits m) (list_all module_fits ms) f in
-    let held = and_parts (holds_module m) (list_all holds_module ms) h in
+    let held = and_parts (module_within m) (list_all module_within ms) h in
     let t : List ℕ = joined_text module_text_of ms ++ [] in
     ap (λ t. modules_at (clean (lines_text (module_lines m) ++ t))) (modules_joined ms ∙ sym (append-nil (joined_text module_text_of ms)))
     ∙ ap (λ r. then_reads r (λ m q. then_reads (more_modules_at q) (λ ms r. Some (m ∷ ms, r)))) (module_again m t fit.0 held.0)
-    ∙ ap (λ r. then_reads r (λ ms r. Some (m ∷ ms, r))) (all_again modules_so ms [] (good_modules ms fit.1 held.1) tt refl)
+    ∙ ap (λ r. then_reads r (λ ms r. Some (kept_module m ∷ ms, r))) (all_again modules_so ms [] (good_modules ms fit.1 held.1) tt refl)
 
-source_of_parts : (es : List PlainExternal) (ms : List PlainModule) → list_all external_fits es ≡ true → 0 < length ms → list_all module_fits ms ≡ true
-    → list_all holds_external es ≡ true → list_all holds_module ms ≡ true
-    → source_at (clean (lines_text (map ExternalLine es) ++ modules_text ms)) ≡ Some (record { externals = es; modules = ms }, clean [])
-source_of_parts es [] f some g h k = absurd (omega arith)
-source_of_parts es (m ∷ ms) f some g h k =
-    ap (λ r. then_reads r (λ es q. then_reads (modules_at q) (λ ms r. Some (record { externals = es; modules = ms }, r)))) (externals_again es (modules_text (m ∷ ms)) f h refl)
-    ∙ ap (λ r. then_reads r (λ ms r. Some (record { externals = es; modules = ms }, r))) (modules_again m ms g k)
+source_of_parts : (es : List PlainExternal) (ms : List PlainModule) → list_all external_fits es ≡ true → 0 < length ms → list_all module_fits ms ≡ true → list_all module_within ms ≡ true
+    → source_at (clean (lines_text (map ExternalLine es) ++ modules_text ms)) ≡ Some (record { externals = map kept_external es; modules = map kept_module ms }, clean [])
+source_of_parts es [] f some g k = absurd (omega arith)
+source_of_parts es (m ∷ ms) f some g k =
+    ap (λ r. then_reads r (λ es q. then_reads (modules_at q) (λ ms r. Some (record { externals = es; modules = ms }, r)))) (externals_again es (modules_text (m ∷ ms)) f refl)
+    ∙ ap (λ r. then_reads r (λ ms r. Some (record { externals = map kept_external es; modules = ms }, r))) (modules_again m ms g k)
 
-source_text : (s : PlainSource) → text_of s ≡ lines_text (map ExternalLine s.externals) ++ modules_text s.modules
+pub source_text : (s : PlainSource) → text_of s ≡ lines_text (map ExternalLine s.externals) ++ modules_text s.modules
 source_text s = lines_text_append (map ExternalLine s.externals) (modules_lines s.modules) ∙ ap (λ t. lines_text (map ExternalLine s.externals) ++ t) (sym (modules_text-lines s.modules))
 
--- the text of a source that is laid out, and that a tree holds, is read as it
-pub source_again : (s : PlainSource) → is_laid_out s ≡ true → is_held s ≡ true → source_at (clean (text_of s)) ≡ Some (s, clean [])
-source_again s f h =
+-- the text of a source is read as what a tree keeps of it
+pub source_kept : (s : PlainSource) → is_laid_out s ≡ true → is_within s ≡ true → source_at (clean (text_of s)) ≡ Some (kept_source s, clean [])
+source_kept s f h =
     let f2 = and_parts (list_all external_fits s.externals && nat_lt 0 (length s.modules)) (list_all module_fits s.modules) f in
     let f1 = and_parts (list_all external_fits s.externals) (nat_lt 0 (length s.modules)) f2.0 in
-    let held = and_parts (list_all holds_external s.externals) (list_all holds_module s.modules) h in
     ap (λ t. source_at (clean t)) (source_text s)
-    ∙ source_of_parts s.externals s.modules f1.0 (ltb-true 0 (length s.modules) f1.1) f2.1 held.0 held.1
+    ∙ source_of_parts s.externals s.modules f1.0 (ltb-true 0 (length s.modules) f1.1) f2.1 h
+
+-- so a source that a tree holds is read as it
+pub source_again : (s : PlainSource) → is_laid_out s ≡ true → is_held s ≡ true → source_at (clean (text_of s)) ≡ Some (s, clean [])
+source_again s f h = source_kept s f (held_within s h) ∙ ap (λ t. Some (t, clean [])) (held_kept s h)

@@ -1,4 +1,7 @@
 pub mod Parts
 pub mod Held
+pub mod Within
+pub mod LineSteps
+pub mod Astray
 pub mod ReadAnswers
 pub mod Laws

@@ -74,7 +74,7 @@ fn external_of<'a>(
 }
 
 /// The line of an external memory.
-fn external<'a>(alloc: Global, at: ReadPoint<'a>) -> Result<(External, ReadPoint<'a>), Fault>
+pub fn external<'a>(alloc: Global, at: ReadPoint<'a>) -> Result<(External, ReadPoint<'a>), Fault>
     ensures { Gives (λ x. (plain_external x.0, place_of x.1)) result (parts.external_at (place_of at.entry)) }
 {
     let at = expect(at, b"// external ")?;

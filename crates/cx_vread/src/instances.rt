@@ -84,7 +84,7 @@ fn instance_of<'a>(
 }
 
 /// The line of an instance.
-fn instance<'a>(alloc: Global, at: ReadPoint<'a>) -> Result<(Instance, ReadPoint<'a>), Fault>
+pub fn instance<'a>(alloc: Global, at: ReadPoint<'a>) -> Result<(Instance, ReadPoint<'a>), Fault>
     ensures { Gives (λ x. (plain_instance x.0, place_of x.1)) result (parts.instance_at (place_of at.entry)) }
 {
     let at = expect(at, b"  ")?;
@@ -95,7 +95,7 @@ fn instance<'a>(alloc: Global, at: ReadPoint<'a>) -> Result<(Instance, ReadPoint
 }
 
 /// Whether the line of an instance begins here.
-fn is_instance(at: ReadPoint) -> bool
+pub fn is_instance(at: ReadPoint) -> bool
     ensures { result ≡ parts.is_instance (place_of at.entry) }
 {
     begins(at, b"  ") && !begins(at, b"  always ")

@@ -2,6 +2,7 @@
 //! breaks.
 #![tactic(auto)]
 
+mod astray;
 mod edges;
 mod externals;
 mod instances;

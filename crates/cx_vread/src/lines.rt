@@ -30,7 +30,7 @@ fn port_of<'a>(
 }
 
 /// A port, to its name.
-fn port<'a>(alloc: Global, at: ReadPoint<'a>) -> Result<(ModulePort, ReadPoint<'a>), Fault>
+pub fn port<'a>(alloc: Global, at: ReadPoint<'a>) -> Result<(ModulePort, ReadPoint<'a>), Fault>
     ensures { Gives (λ x. (plain_port x.0, place_of x.1)) result (parts.port_at (place_of at.entry)) }
 {
     if begins(at, b"  output wire ") {
@@ -147,7 +147,7 @@ fn decl<'a>(alloc: Global, at: ReadPoint<'a>) -> Result<(Decl, ReadPoint<'a>), F
 }
 
 /// Whether the line of a declaration begins here.
-fn is_decl(at: ReadPoint) -> bool
+pub fn is_decl(at: ReadPoint) -> bool
     ensures { result ≡ parts.is_decl (place_of at.entry) }
 {
     begins(at, b"  wire ") || begins(at, b"  reg ")

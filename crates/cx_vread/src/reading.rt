@@ -1,6 +1,6 @@
 //! The reading of a whole text.
 
-ghost use Rattle.std.specs.Prelude.{◌≡◌, ◌↔◌, true, IfOk, IsTrue};
+ghost use Rattle.std.specs.Prelude.{◌≡◌, ℕ, false, true, IfOk, IfErr};
 ghost use Rattle.cx_vtree.specs.Layout.{is_laid_out};
 ghost use Rattle.cx_vtree.specs.Plain.{PlainSource};
 ghost use Rattle.cx_vtree.specs.PlainSources.{plain_source};
@@ -8,17 +8,18 @@ ghost use Rattle.cx_vtree.specs.Sound.{is_sound};
 ghost use Rattle.cx_vtree.specs.Sources.{source_of};
 ghost use Rattle.cx_vread_exprs.specs.Answers.{Gives, is_clean, place_of};
 ghost use Rattle.cx_vread.specs.Parts.{source_at};
-ghost use Rattle.cx_vread.specs.Held.{is_held};
-ghost use Rattle.cx_vread.specs.ReadAnswers.{Answers, ReadAs, Stopped, refusal};
+ghost use Rattle.cx_vread.specs.Astray.{IsFirstAstray};
+ghost use Rattle.cx_vread.specs.Within.{is_within};
+ghost use Rattle.cx_vread.specs.ReadAnswers.{Answers, AstrayAt, IsRule, Noted, ReadAs, StandsFor, Stopped, Tells, TellsAstray, TellsParts, refusal};
 ghost use Rattle.cx_vtree.specs.Spelling.{text_of};
 
+use crate::astray::first_astray;
 use crate::refusals::ReadRefusal;
 use crate::{read_externals, read_modules};
+use cx_text::Memory;
 use cx_vread_exprs::{Fault, Notes, ReadPoint};
-use cx_vscope::is_laid_out;
 use cx_vsound::{Break, check};
 use cx_vtree::{External, Module, Source};
-use cx_vwrite::spell;
 use std::alloc::Global;
 
 /// The line on which so many bytes are left of a text: one more than the line feeds before.
@@ -38,53 +39,6 @@ fn line_at(text: &[u8], left: usize) -> u32 {
     line
 }
 
-/// The first line on which two texts differ.
-fn first_difference(text: &[u8], other: &[u8]) -> u32 {
-    let mut line = 1u32;
-    for (a, b) in text.iter().zip(other) {
-        if *a != *b {
-            return line;
-        }
-        if *a == b'\n' {
-            line = line.saturating_add(1);
-        }
-    }
-    line
-}
-
-fn line_of(refusal: ReadRefusal) -> u32 {
-    match refusal {
-        ReadRefusal::Syntax(line)
-        | ReadRefusal::Name(line)
-        | ReadRefusal::Width(line)
-        | ReadRefusal::Limit(line) => line,
-        ReadRefusal::Memory => 0,
-    }
-}
-
-/// At one line a name comes before a width, and that before a limit.
-fn rank(refusal: ReadRefusal) -> u8 {
-    match refusal {
-        ReadRefusal::Syntax(_) | ReadRefusal::Memory => 0,
-        ReadRefusal::Name(_) => 1,
-        ReadRefusal::Width(_) => 2,
-        ReadRefusal::Limit(_) => 3,
-    }
-}
-
-fn comes_before(a: ReadRefusal, b: ReadRefusal) -> bool {
-    line_of(a) < line_of(b) || (line_of(a) == line_of(b) && rank(a) < rank(b))
-}
-
-/// The first of two breaks.
-fn first(a: Option<ReadRefusal>, b: Option<ReadRefusal>) -> Option<ReadRefusal> {
-    match (a, b) {
-        (Some(x), Some(y)) => { if comes_before(y, x) { Some(y) } else { Some(x) } }
-        (None, other) => other,
-        (one, None) => one,
-    }
-}
-
 /// A break as a refusal.
 fn refusal_of(found: Break) -> ReadRefusal
     ensures { result ≡ refusal found }
@@ -96,21 +50,23 @@ fn refusal_of(found: Break) -> ReadRefusal
     }
 }
 
-/// The first of the parts that no tree holds.
-fn noted(text: &[u8], notes: Notes) -> Option<ReadRefusal> {
-    let name = notes
-        .name
-        .map(|left| ReadRefusal::Name(line_at(text, left)));
-    let width = notes
-        .width
-        .map(|left| ReadRefusal::Width(line_at(text, left)));
-    let limit = notes
-        .limit
-        .map(|left| ReadRefusal::Limit(line_at(text, left)));
-    first(first(name, width), limit)
+fn line_of(found: Break) -> u32 {
+    match found {
+        Break::Name(line) | Break::Width(line) | Break::Limit(line) => line,
+    }
 }
 
-/// The parts of a text, and where reading ends. Parts that no tree holds are noted, and others stand for them.
+/// The first of two breaks: that of a limit on a line, and another. On one line a limit comes last.
+fn first(limit: u32, found: Option<Break>) -> ReadRefusal
+    ensures { IsRule result }
+{
+    match found {
+        Some(found) if line_of(found) <= limit => refusal_of(found),
+        _ => ReadRefusal::Limit(limit),
+    }
+}
+
+/// The parts of a text, and where reading ends. Where no tree holds a part, one that breaks the same rules stands for it.
 fn parts<'a>(
     alloc: Global,
     at: ReadPoint<'a>,
@@ -122,76 +78,49 @@ fn parts<'a>(
     Ok(((externals, modules), at))
 }
 
-/// Keeps parts that some text spells, where they break no rule.
-#[tactic(auto, using(crate::proofs::Checks::sound_by, crate::proofs::Checks::break_answers))]
-fn checked(
-    alloc: Global,
-    externals: Vec<External>,
-    modules: Vec<Module>,
-) -> Result<Source, ReadRefusal>
-    requires { is_laid_out (source_of externals.items modules.items) ≡ true }
-    ensures value { IfOk result (λ source. plain_source source ≡ source_of externals.items modules.items) }
-    ensures answer { Answers (source_of externals.items modules.items) result }
+/// The refusal of a text that has so many bytes left where reading stopped, or where a part was noted; `found` is the
+/// first break of what was read. Where the lines are a text, one of them nests too deep or has too long an array.
+#[tactic(auto, using(crate::proofs::WholeTexts::rule_tells))]
+fn astray(alloc: Global, text: &[u8], left: usize, found: Option<Break>) -> ReadRefusal
+    ensures { TellsAstray text.now result }
 {
-    match check(alloc, &externals, &modules)? {
-        Some(found) => Err(refusal_of(found)),
-        None => Ok(Source::new(externals, modules)),
+    match first_astray(alloc, text) {
+        Err(Memory) => ReadRefusal::Memory,
+        Ok(Some(line)) => ReadRefusal::Syntax(line),
+        Ok(None) => first(line_at(text, left), found),
     }
-}
-
-/// Whether two texts are one.
-fn is_same(one: &[u8], other: &[u8]) -> bool
-    ensures { IsTrue result ↔ (one.now ≡ other.now) }
-{
-    one == other
-}
-
-/// Keeps parts that spell the text, where they break no rule.
-fn kept(
-    alloc: Global,
-    text: &[u8],
-    externals: Vec<External>,
-    modules: Vec<Module>,
-) -> Result<Source, ReadRefusal>
-    ensures value { IfOk result (λ source. text.now ≡ text_of (plain_source source)) }
-    ensures answer { text.now ≡ text_of (source_of externals.items modules.items) → is_laid_out (source_of externals.items modules.items) ≡ true → Answers (source_of externals.items modules.items) result }
-{
-    let spelled = spell(alloc, &externals, &modules)?;
-    if !is_same(&spelled, text) {
-        return Err(ReadRefusal::Syntax(first_difference(text, &spelled)));
-    }
-    if !is_laid_out(&externals, &modules) {
-        return Err(ReadRefusal::Syntax(first_difference(text, &spelled)));
-    }
-    checked(alloc, externals, modules)
 }
 
 /// The refusal of a text in which reading stopped.
-fn stopped(text: &[u8], fault: Fault) -> ReadRefusal
-    ensures { Stopped fault result }
+fn stopped(alloc: Global, text: &[u8], fault: Fault) -> ReadRefusal
+    ensures { Stopped text.now fault result }
 {
     match fault {
-        Fault::Syntax(left) => ReadRefusal::Syntax(line_at(text, left)),
+        Fault::Syntax(left) => astray(alloc, text, left, None),
         Fault::Memory => ReadRefusal::Memory,
     }
 }
 
-/// Keeps parts that spell the text, where none was noted and they break no rule.
-fn kept_or_noted(
+/// Tells the first break of parts that were read, or keeps them where there is none.
+#[tactic(auto, using(crate::proofs::Checks::memory_tells, crate::proofs::Checks::break_tells, crate::proofs::Checks::none_tells))]
+fn answer(
     alloc: Global,
     text: &[u8],
     notes: Notes,
     externals: Vec<External>,
     modules: Vec<Module>,
 ) -> Result<Source, ReadRefusal>
+    requires { is_clean notes ≡ true → StandsFor text.now (source_of externals.items modules.items) }
     ensures value { IfOk result (λ source. text.now ≡ text_of (plain_source source)) }
-    ensures answer { is_clean notes ≡ true → text.now ≡ text_of (source_of externals.items modules.items) → is_laid_out (source_of externals.items modules.items) ≡ true → Answers (source_of externals.items modules.items) result }
+    ensures answer { is_clean notes ≡ true → TellsParts text.now (source_of externals.items modules.items) result }
+    ensures noted { is_clean notes ≡ false → Noted text.now result }
 {
-    if notes.is_clean() {
-        return kept(alloc, text, externals, modules);
-    }
     let found = check(alloc, &externals, &modules)?;
-    Err(earliest(text, notes, found))
+    match (notes.limit, found) {
+        (None, None) => Ok(Source::new(externals, modules)),
+        (None, Some(found)) => Err(refusal_of(found)),
+        (Some(left), found) => Err(astray(alloc, text, left, found)),
+    }
 }
 
 /// The source that a text spells.
@@ -200,24 +129,22 @@ pub fn read(alloc: Global, text: &[u8]) -> Result<Source, ReadRefusal>
     ensures value { IfOk result (λ source. text.now ≡ text_of (plain_source source)) }
     // A text that spells a sound source is read as it, unless memory is refused.
     ensures sound { (s : PlainSource) → text.now ≡ text_of s → is_sound s ≡ true → ReadAs s result }
-    // A text that spells a source that a tree holds is read as it, or refused for its first break.
-    ensures spelled { (s : PlainSource) → text.now ≡ text_of s → is_laid_out s ≡ true → is_held s ≡ true → Answers s result }
+    // A text that spells a source with any numbers, in which no line nests deep and no array is too long to count, is read as
+    // it, or refused for its first break.
+    ensures spelled { (s : PlainSource) → text.now ≡ text_of s → is_laid_out s ≡ true → is_within s ≡ true → Answers s result }
+    // Where the layout is wrong the first line is told with which the lines so far begin no text. A text that is refused for a
+    // rule spells a source with that first break, if no line nests deep and no array is too long.
+    ensures told { IfErr result (Tells text.now) }
+    // And where the lines begin no text the first such line is told, unless memory is refused.
+    ensures astray { (line : ℕ) → IsFirstAstray text.now line → AstrayAt line result }
 {
     let notes = Notes::new();
     let start = ReadPoint { rest: text, notes };
     match parts(alloc, start) {
-        Err(fault) => Err(stopped(text, fault)),
+        Err(fault) => Err(stopped(alloc, text, fault)),
         Ok(found) => {
             let ((externals, modules), end) = found;
-            kept_or_noted(alloc, text, end.notes, externals, modules)
+            answer(alloc, text, end.notes, externals, modules)
         }
-    }
-}
-
-/// The first of what was noted and of what the other parts break.
-fn earliest(text: &[u8], notes: Notes, found: Option<Break>) -> ReadRefusal {
-    match first(noted(text, notes), found.map(refusal_of)) {
-        Some(refusal) => refusal,
-        None => ReadRefusal::Syntax(line_at(text, 0)),
     }
 }

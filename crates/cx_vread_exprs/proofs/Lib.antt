@@ -2,6 +2,14 @@ pub mod Spans
 pub mod Texts
 pub mod Numerals
 pub mod Levels
+pub mod Kept
 pub mod NumberAgain
 pub mod ExprAgain
 pub mod WordAgain
+pub mod Literals
+pub mod Found
+pub mod SignsFound
+pub mod ExprFound
+pub mod PassSteps
+pub mod PassAgain
+pub mod PassFound

@@ -78,7 +78,7 @@ text_numeral base (suc n) one =
     ap is_numeral (positive_text base (suc n) (omega arith))
     ∙ glyphs_numeral base (digits_of base (suc n)) one (all_below_base_digits_of base (suc n) (two_least base one)) (first_digits_of base (suc n) (two_least base one) (omega arith))
 
-text_value : (base n : ℕ) → IsBase base → digits_value base (number_text base n) ≡ n
+pub text_value : (base n : ℕ) → IsBase base → digits_value base (number_text base n) ≡ n
 text_value base zero one = zero_value base
 text_value base (suc n) one =
     ap (digits_value base) (positive_text base (suc n) (omega arith))
@@ -86,7 +86,7 @@ text_value base (suc n) one =
     ∙ ap (number_from_digits base) (glyphs_values base (digits_of base (suc n)) one (all_below_base_digits_of base (suc n) (two_least base one)))
     ∙ number_digits_of base (suc n) (two_least base one)
 
-digits_again : (base n : ℕ) (rest : List ℕ) → IsBase base → Stops (is_digit_in base) rest → digits_at base (clean (number_text base n ++ rest)) ≡ Some (number_text base n, clean rest)
+pub digits_again : (base n : ℕ) (rest : List ℕ) → IsBase base → Stops (is_digit_in base) rest → digits_at base (clean (number_text base n ++ rest)) ≡ Some (number_text base n, clean rest)
 digits_again base n rest one ends =
     let f = front_again (is_digit_in base) (number_text base n) rest (text_digits base n one) ends in
     let b = back_again (is_digit_in base) (number_text base n) rest (text_digits base n one) ends in

@@ -21,7 +21,7 @@ digit_below base b one h = ⊎_elim
     (λ sixteen. subst (λ n. digit_value b < n) (sym sixteen) (hexadecimal_digit b (subst (λ n. is_digit_in n b ≡ true) sixteen h)))
     one
 
-all_below : (base : ℕ) (ds : List ℕ) → IsBase base → list_all (is_digit_in base) ds ≡ true → AllDigits base ds
+pub all_below : (base : ℕ) (ds : List ℕ) → IsBase base → list_all (is_digit_in base) ds ≡ true → AllDigits base ds
 all_below base [] one h = tt
 all_below base (d ∷ ds) one h =
     let parts = and_parts (is_digit_in base d) (list_all (is_digit_in base) ds) h in
@@ -31,10 +31,10 @@ some_digit : (ds : List ℕ) → is_numeral ds ≡ true → 0 < length ds
 some_digit [] h = absurd (cc)
 some_digit (d ∷ ds) h = omega arith
 
-capped_some : (n : ℕ) → n < 2 ^ 128 → capped n ≡ Some n
+pub capped_some : (n : ℕ) → n < 2 ^ 128 → capped n ≡ Some n
 capped_some n lt = ap (λ b. if b then Some n else None) (lt-ltb n (2 ^ 128) lt)
 
-capped_none : (n : ℕ) → 2 ^ 128 ≤ n → capped n ≡ None
+pub capped_none : (n : ℕ) → 2 ^ 128 ≤ n → capped n ≡ None
 capped_none n le = ap (λ b. if b then Some n else None) (le-ltb n (2 ^ 128) le)
 
 -- what `numeral` answers of digits of the text

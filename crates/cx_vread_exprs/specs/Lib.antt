@@ -1,6 +1,7 @@
 pub mod Places
 pub mod Tokens
 pub mod Exprs
+pub mod Passing
 pub mod Numbers
 pub mod Answers
 pub mod Holds

@@ -1,7 +1,7 @@
 -- Where reading stands, and how one reading follows another.
 use Rattle.std.specs.Prelude.{ℕ, zero, suc, ◌==◌, Bool, false, List, [], ◌∷◌, ◌++◌, Option, Some, None, is_some, if◌then◌else◌}
 
--- the bytes that are left, and whether all before was such that the tree holds it
+-- the bytes that are left, and whether a tree keeps of all before which rules it breaks
 pub record Place : Type 0 where
   pub rest : List ℕ
   pub fits : Bool
@@ -13,7 +13,7 @@ Reads X = Option (X × Place)
 abbrev pub moved : Place → List ℕ → Place
 moved p rest = record { rest = rest; fits = p.fits }
 
--- the same place, after what no tree holds
+-- the same place, after what breaks a limit that no tree shows
 abbrev pub unfit : Place → Place
 unfit p = record { rest = p.rest; fits = false }
 

@@ -1,8 +1,8 @@
 -- Reading words, numbers and literals.
-use Rattle.std.specs.Prelude.{ℕ, ◌+◌, ◌^◌, ◌==◌, ◌&&◌, ◌||◌, not, nat_lt, nat_le, Bool, true, false, List, [], ◌∷◌, Option, Some, None, codes, if◌then◌else◌}
+use Rattle.std.specs.Prelude.{ℕ, ◌+◌, ◌^◌, ◌==◌, ◌&&◌, ◌||◌, not, nat_lt, nat_le, min, Bool, true, false, List, [], ◌∷◌, Option, Some, None, codes, if◌then◌else◌}
 use Rattle.std.specs.Str.Parse.{digits_value}
 use Rattle.cx_vtree.specs.Layout.{is_name_byte, is_word, is_name}
-use Rattle.cx_vtree.specs.Plain.{PlainExpr, Number}
+use Rattle.cx_vtree.specs.Plain.{PlainExpr, Named, Number, Joined}
 use Rattle.cx_vread_exprs.specs.Places.{Place, Reads, moved, unfit, then_reads, then_at, after}
 
 -- the bytes from the front on that pass a test, and those behind them
@@ -41,21 +41,33 @@ capped n = if nat_lt n (2 ^ 128) then Some n else None
 abbrev pub number_at : ℕ → Place → Reads (Option ℕ)
 number_at base p = then_reads (digits_at base p) (λ ds q. Some (capped (digits_value base ds), q))
 
--- a number that is below a bound, or what stands for it
-abbrev pub bounded : ℕ → ℕ → Option ℕ → Place → Reads ℕ
-bounded bound other None p = Some (other, unfit p)
-bounded bound other (Some n) p = if nat_lt n bound then Some (n, p) else Some (other, unfit p)
-
 -- a number that stands for one more
 abbrev pub one_more : ℕ → Option ℕ → Place → Reads ℕ
 one_more bound None p = Some (bound, unfit p)
 one_more bound (Some n) p = if nat_lt n bound then Some (n + 1, p) else Some (bound, unfit p)
 
+-- What a tree keeps of numbers. A width or a bit's number over 255 is too large for all rules, and 255 stands for it.
+abbrev pub kept_small : ℕ → ℕ
+kept_small n = min n 255
+
+-- a size of 2^64 or more is that of no array with fewer words, and 0 stands for it
+abbrev pub kept_size : ℕ → ℕ
+kept_size n = if nat_lt n 18446744073709551616 then n else 0
+
+-- the same of a number that was read, None where it is 2^128 or more
+abbrev pub no_more : ℕ → Option ℕ → ℕ
+no_more most None = most
+no_more most (Some n) = min n most
+
+abbrev pub size_of : Option ℕ → ℕ
+size_of None = 0
+size_of (Some n) = kept_size n
+
 abbrev pub small_at : Place → Reads ℕ
-small_at p = then_reads (number_at 10 p) (bounded 256 255)
+small_at p = then_reads (number_at 10 p) (λ n q. Some (no_more 255 n, q))
 
 abbrev pub size_at : Place → Reads ℕ
-size_at p = then_reads (number_at 10 p) (bounded 18446744073709551616 18446744073709551615)
+size_at p = then_reads (number_at 10 p) (λ n q. Some (size_of n, q))
 
 -- the length of an array, which is told by its last index
 abbrev pub length_at : Place → Reads ℕ
@@ -64,7 +76,7 @@ length_at p = then_reads (number_at 10 p) (one_more 18446744073709551615)
 -- a width and the space after it, as `[7:0] `
 abbrev pub bounds_at : Place → Reads ℕ
 bounds_at p =
-    then_at (after (codes "[") p) (λ q. then_reads (number_at 10 q) (λ n r. then_at (after (codes ":0] ") r) (one_more 255 n)))
+    then_at (after (codes "[") p) (λ q. then_reads (number_at 10 q) (λ n r. then_at (after (codes ":0] ") r) (λ s. Some (no_more 254 n + 1, s))))
 
 -- a value that has its width
 abbrev pub fits_bits : ℕ → ℕ → Bool
@@ -74,11 +86,22 @@ fits_bits w v = nat_lt 0 w && nat_le w 128 && nat_lt v (2 ^ w)
 abbrev pub stand_in : PlainExpr
 stand_in = Number (record { width = 1; value = 0 })
 
-abbrev pub literal_of : Option ℕ → Option ℕ → Place → Reads PlainExpr
-literal_of None v p = Some (stand_in, unfit p)
-literal_of (Some w) None p = Some (stand_in, unfit p)
-literal_of (Some w) (Some v) p = if fits_bits w v then Some (Number (record { width = w; value = v }), p) else Some (stand_in, unfit p)
+-- what breaks a rule on names wherever it stands: no expression has the clock
+abbrev pub misnamed : PlainExpr
+misnamed = Named (codes "clk")
+
+-- what breaks a rule on widths wherever it stands, and none on names: two literals side by side that have 256 bits
+abbrev pub widest : PlainExpr
+widest = Number (record { width = 128; value = 0 })
+
+abbrev pub miswidened : PlainExpr
+miswidened = Joined widest widest
+
+-- a literal: where it does not fit its width it breaks a rule on names, and else one on widths
+abbrev pub kept_literal : ℕ → ℕ → PlainExpr
+kept_literal w v = if fits_bits w v then Number (record { width = w; value = v }) else (if nat_le (2 ^ w) v then misnamed else miswidened)
 
 abbrev pub literal_at : Place → Reads PlainExpr
 literal_at p =
-    then_reads (number_at 10 p) (λ w q. then_at (after (codes "'h") q) (λ r. then_reads (number_at 16 r) (literal_of w)))
+    then_reads (digits_at 10 p) (λ ws q. then_at (after (codes "'h") q) (λ r. then_reads (digits_at 16 r) (λ vs s.
+    Some (kept_literal (digits_value 10 ws) (digits_value 16 vs), s))))

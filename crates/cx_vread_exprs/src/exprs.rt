@@ -30,7 +30,7 @@ fn fewer(levels: u8) -> Option<u8>
 }
 
 /// The bounds of a part, after its `[`.
-fn part<'a>(net: Name, at: ReadPoint<'a>) -> Result<(Expr, ReadPoint<'a>), Fault>
+pub fn part<'a>(net: Name, at: ReadPoint<'a>) -> Result<(Expr, ReadPoint<'a>), Fault>
     ensures { Gives (λ x. (plain_expr x.0, place_of x.1)) result (exprs.part_by net (place_of at.entry)) }
 {
     let (high, at) = small(at)?;
@@ -41,7 +41,7 @@ fn part<'a>(net: Name, at: ReadPoint<'a>) -> Result<(Expr, ReadPoint<'a>), Fault
 }
 
 /// Whether a digit stands here.
-fn starts_digit(at: ReadPoint) -> bool
+pub fn starts_digit(at: ReadPoint) -> bool
     ensures { result ≡ exprs.starts_digit at.entry.rest.now }
 {
     match at.rest.split_first() {
@@ -79,7 +79,7 @@ fn expr<'a>(alloc: Global, levels: u8, at: ReadPoint<'a>) -> Result<(Expr, ReadP
     if begins(at, b"(") || begins(at, b"{") {
         nested(alloc, levels, at)
     } else if starts_digit(at) {
-        literal(at)
+        literal(alloc, at)
     } else {
         named(alloc, levels, at)
     }

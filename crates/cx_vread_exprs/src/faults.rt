@@ -30,12 +30,9 @@ impl<T: Drop> From<AllocFailed<T>> for Fault {
     }
 }
 
-/// Parts that no tree holds, as numbers that are too large: for each kind of rule that they break, how many bytes were
-/// left at the first of them.
+/// Parts that break a limit that no tree shows, as arrays of 2^64 words: how many bytes were left at the first of them.
 #[derive(Clone, Copy, Debug, PartialEq, Eq)]
 pub struct Notes {
-    pub name: Option<usize>,
-    pub width: Option<usize>,
     pub limit: Option<usize>,
 }
 
@@ -44,53 +41,14 @@ impl Notes {
     pub fn new() -> Notes
         ensures { is_clean result ≡ true }
     {
-        Notes {
-            name: None,
-            width: None,
-            limit: None,
-        }
+        Notes { limit: None }
     }
 
-    /// Whether there is no such part.
-    pub fn is_clean(self) -> bool
-        ensures { result ≡ is_clean self }
-    {
-        self.name.is_none() && self.width.is_none() && self.limit.is_none()
-    }
-
-    /// Notes a part that breaks a rule on names.
-    pub fn with_name(self, left: usize) -> Notes
-        ensures { is_clean result ≡ false }
-    {
-        let first = self.name.unwrap_or(left);
-        Notes {
-            name: Some(first),
-            width: self.width,
-            limit: self.limit,
-        }
-    }
-
-    /// Notes a part that breaks a rule on widths.
-    pub fn with_width(self, left: usize) -> Notes
-        ensures { is_clean result ≡ false }
-    {
-        let first = self.width.unwrap_or(left);
-        Notes {
-            name: self.name,
-            width: Some(first),
-            limit: self.limit,
-        }
-    }
-
-    /// Notes a part that breaks a limit.
+    /// Notes such a part.
     pub fn with_limit(self, left: usize) -> Notes
         ensures { is_clean result ≡ false }
     {
         let first = self.limit.unwrap_or(left);
-        Notes {
-            name: self.name,
-            width: self.width,
-            limit: Some(first),
-        }
+        Notes { limit: Some(first) }
     }
 }

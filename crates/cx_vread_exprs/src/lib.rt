@@ -7,10 +7,12 @@ mod faults;
 mod names;
 mod numbers;
 mod operators;
+mod passing;
 mod places;
 
 pub use exprs::whole_expr;
 pub use faults::{Fault, Notes};
 pub use names::{name, word};
 pub use numbers::{bounds, length, size, small};
+pub use passing::pass_expr;
 pub use places::{ReadPoint, begins, expect};

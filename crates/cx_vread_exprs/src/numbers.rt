@@ -1,21 +1,24 @@
 //! Numbers and literals.
 
-ghost use Rattle.std.specs.Prelude.{◌≡◌, true, IsTrue, IfOk, Some, option_map};
+ghost use Rattle.std.specs.Prelude.{◌≡◌, ◌≤◌, ◌<◌, ◌^◌, true, IsTrue, IfOk, Some, option_map, if◌then◌else◌};
+ghost use Rattle.std.specs.Char.{digit_value};
 ghost use Rattle.std.specs.List.{list_all};
 ghost use Rattle.std.specs.Str.Parse.{digits_value};
+ghost use Rattle.cx_vtree.specs.Plain.{Number};
 ghost use Rattle.cx_vtree.specs.PlainParts.{plain_expr};
 ghost use Rattle.cx_vread_exprs.specs.Answers.{Gives, place_of};
-ghost use Rattle.cx_vread_exprs.specs.Places.{unfit};
 ghost use Rattle.cx_vread_exprs.specs.Exprs.{is_part};
 ghost use Rattle.cx_vread_exprs.specs.Tokens.{length_at};
 ghost use Rattle.cx_vread_exprs.specs.Numbers.{IsBase, literal_value};
+ghost use Rattle.cx_vread_exprs.specs.Numbers as numbers;
 ghost use Rattle.cx_vread_exprs.specs.Tokens as tokens;
 
 use crate::faults::Fault;
-use crate::places::{ReadPoint, begins, expect, misnamed, miswidened, overlimit};
+use crate::places::{ReadPoint, begins, expect, overlimit};
 use cx_bits::Bits;
-use cx_text::numeral;
+use cx_text::{Memory, Name, numeral};
 use cx_vtree::Expr;
+use std::alloc::Global;
 
 /// Whether a byte is a digit in a base: `0` to `9`, and in base 16 `a` to `f`.
 fn is_digit(base: u32, byte: u8) -> bool
@@ -62,6 +65,7 @@ fn is_numeral(digits: &[u8]) -> bool
 #[tactic(auto, using(crate::proofs::Spans::front_passes))]
 fn digits<'a>(base: u32, at: ReadPoint<'a>) -> Result<(&'a [u8], ReadPoint<'a>), Fault>
     ensures digits { IfOk result (λ x. list_all (tokens.is_digit_in base) x.0.now ≡ true) }
+    ensures some { IfOk result (λ x. tokens.is_numeral x.0.now ≡ true) }
     ensures value { Gives (λ x. (x.0.now, place_of x.1)) result (tokens.digits_at base (place_of at.entry)) }
 {
     let (digits, rest) = span(base, at.rest);
@@ -94,38 +98,41 @@ fn value(base: u32, digits: &[u8]) -> Option<u128>
     numeral(base, digits)
 }
 
-/// A number that is a bit's number or a width: 255 stands for one that no `u8` holds.
+/// A number, or the most that is kept of a greater one.
+fn no_more(most: u8, n: Option<u128>) -> u8
+    ensures value { result ≡ tokens.no_more most n }
+    ensures most { result ≤ most }
+{
+    match n {
+        Some(n) if n < most as u128 => n as u8,
+        _ => most,
+    }
+}
+
+/// A number that is a bit's number or a width: 255 stands for a greater one.
 pub fn small<'a>(at: ReadPoint<'a>) -> Result<(u8, ReadPoint<'a>), Fault>
     ensures { Gives (λ x. (x.0, place_of x.1)) result (tokens.small_at (place_of at.entry)) }
 {
     let (n, at) = number(10, at)?;
+    Ok((no_more(255, n), at))
+}
+
+/// A size that a `u64` holds, or 0.
+fn size_of(n: Option<u128>) -> u64
+    ensures { result ≡ tokens.size_of n }
+{
     match n {
-        Some(n) => {
-            if n < 256 {
-                Ok((n as u8, at))
-            } else {
-                Ok((255, miswidened(at)))
-            }
-        }
-        None => Ok((255, miswidened(at))),
+        Some(n) if n < 18_446_744_073_709_551_616 => n as u64,
+        _ => 0,
     }
 }
 
-/// A size of a memory: the greatest `u64` stands for one that none holds.
+/// A size of a memory: 0 stands for one that no `u64` holds.
 pub fn size<'a>(at: ReadPoint<'a>) -> Result<(u64, ReadPoint<'a>), Fault>
     ensures { Gives (λ x. (x.0, place_of x.1)) result (tokens.size_at (place_of at.entry)) }
 {
     let (n, at) = number(10, at)?;
-    match n {
-        Some(n) => {
-            if n < 18_446_744_073_709_551_616 {
-                Ok((n as u64, at))
-            } else {
-                Ok((u64::MAX, misnamed(at)))
-            }
-        }
-        None => Ok((u64::MAX, misnamed(at))),
-    }
+    Ok((size_of(n), at))
 }
 
 /// A number that is one less than the length of an array.
@@ -145,22 +152,6 @@ pub fn length<'a>(at: ReadPoint<'a>) -> Result<(u64, ReadPoint<'a>), Fault>
     }
 }
 
-/// The width that is one more than a number.
-fn width<'a>(n: Option<u128>, at: ReadPoint<'a>) -> (u8, ReadPoint<'a>)
-    ensures { tokens.one_more 255 n (place_of at.entry) ≡ Some (result.0, place_of result.1) }
-{
-    match n {
-        Some(n) => {
-            if n < 255 {
-                (n as u8 + 1, at)
-            } else {
-                (255, miswidened(at))
-            }
-        }
-        None => (255, miswidened(at)),
-    }
-}
-
 /// A width and the space after it, as `[7:0] `.
 pub fn bounds<'a>(at: ReadPoint<'a>) -> Result<(u8, ReadPoint<'a>), Fault>
     ensures { Gives (λ x. (x.0, place_of x.1)) result (tokens.bounds_at (place_of at.entry)) }
@@ -168,7 +159,7 @@ pub fn bounds<'a>(at: ReadPoint<'a>) -> Result<(u8, ReadPoint<'a>), Fault>
     let at = expect(at, b"[")?;
     let (n, at) = number(10, at)?;
     let at = expect(at, b":0] ")?;
-    Ok(width(n, at))
+    Ok((no_more(254, n) + 1, at))
 }
 
 /// The expression that stands for one that no tree holds.
@@ -193,57 +184,114 @@ fn literal_bits(width: Option<u128>, value: Option<u128>) -> Option<Bits>
     Bits::new(w as u8, v)
 }
 
-/// Whether the value of a literal does not fit its width.
-fn overflows(width: Option<u128>, value: Option<u128>) -> bool {
-    match (width, value) {
-        (Some(w), Some(v)) => w < 128 && v >> w != 0,
-        (Some(w), None) => w <= 128,
-        (None, _) => false,
-    }
-}
-
-/// Notes what is wrong with a literal: its width, or that its value does not fit it.
-fn bad_literal<'a>(width: Option<u128>, value: Option<u128>, at: ReadPoint<'a>) -> ReadPoint<'a>
-    ensures { place_of result ≡ unfit (place_of at.entry) }
+/// How many binary digits a hexadecimal digit has.
+fn digit_bits(byte: u8) -> u8
+    requires { IsTrue (tokens.is_digit_in 16 byte) }
+    ensures value { result ≡ numbers.digit_bits (digit_value byte) }
+    ensures most { result ≤ 4 }
 {
-    let bad_width = match width {
-        Some(w) => w == 0 || w > 128,
-        None => true,
-    };
-    let noted = if bad_width {
-        miswidened(at)
-    } else {
-        misnamed(at)
-    };
-    if overflows(width, value) {
-        misnamed(noted)
-    } else {
-        noted
+    match byte {
+        48 => 0,
+        49 => 1,
+        50 | 51 => 2,
+        52..=55 => 3,
+        _ => 4,
     }
 }
 
-/// A literal. One that has no such width, or does not fit it, is noted.
-pub fn literal<'a>(at: ReadPoint<'a>) -> Result<(Expr, ReadPoint<'a>), Fault>
+/// How many binary digits the number has that hexadecimal digits write.
+fn bit_length(digits: &[u8]) -> u128
+    requires { IsTrue (list_all (tokens.is_digit_in 16) digits.now) }
+    ensures value { result ≡ numbers.bit_length digits.now }
+    ensures most { result < 2 ^ 67 }
+{
+    match digits.split_first() {
+        None => 0,
+        Some((first, rest)) => digit_bits(*first) as u128 + 4 * rest.len() as u128,
+    }
+}
+
+/// Whether the number that digits write has more binary digits than a width, None where that is 2^128 or more.
+fn overflows(width: Option<u128>, digits: &[u8]) -> bool
+    requires { IsTrue (list_all (tokens.is_digit_in 16) digits.now) }
+    ensures value { result ≡ numbers.overflows width digits.now }
+    ensures most { numbers.bit_length digits.now < 2 ^ 67 }
+{
+    let bits = bit_length(digits);
+    match width {
+        None => false,
+        Some(width) => width < bits,
+    }
+}
+
+/// The clock, which no expression has.
+fn misnamed(alloc: Global) -> Result<Expr, Memory>
+    ensures { IfOk result (λ e. plain_expr e ≡ tokens.misnamed) }
+{
+    let name = Name::from_bytes(alloc, b"clk")?;
+    Ok(Expr::Net(name))
+}
+
+/// A literal of 128 bits.
+fn widest() -> Expr
+    ensures { plain_expr result ≡ tokens.widest }
+{
+    match Bits::new(128, 0) {
+        Some(bits) => Expr::Literal(bits),
+        None => unreachable!(),
+    }
+}
+
+/// Two literals side by side that have 256 bits.
+fn miswidened(alloc: Global) -> Result<Expr, Memory>
+    ensures { IfOk result (λ e. plain_expr e ≡ tokens.miswidened) }
+{
+    let high = Box::new(alloc, widest())?;
+    Ok(Expr::Cat(high, Box::new(alloc, widest())?))
+}
+
+/// What stands for a literal whose value does not fit its width, or whose width is none.
+fn stand_for(alloc: Global, overflows: bool) -> Result<Expr, Memory>
+    ensures { IfOk result (λ e. plain_expr e ≡ (if overflows then tokens.misnamed else tokens.miswidened)) }
+{
+    if overflows {
+        misnamed(alloc)
+    } else {
+        miswidened(alloc)
+    }
+}
+
+/// A literal that a tree holds.
+fn fitting(bits: Bits) -> Expr
+    ensures { plain_expr result ≡ Number bits }
+{
+    Expr::Literal(bits)
+}
+
+/// The literal that digits write, or what stands for one that no tree holds.
+fn literal_of(alloc: Global, width: &[u8], digits: &[u8]) -> Result<Expr, Memory>
+    requires width { IsTrue (list_all (tokens.is_digit_in 10) width.now) }
+    requires some_width { IsTrue (tokens.is_numeral width.now) }
+    requires digits { IsTrue (list_all (tokens.is_digit_in 16) digits.now) }
+    requires some_digit { IsTrue (tokens.is_numeral digits.now) }
+    ensures { IfOk result (λ e. plain_expr e ≡ tokens.kept_literal (digits_value 10 width.now) (digits_value 16 digits.now)) }
+{
+    let width = value(10, width);
+    match literal_bits(width, value(16, digits)) {
+        Some(bits) => Ok(fitting(bits)),
+        None => stand_for(alloc, overflows(width, digits)),
+    }
+}
+
+/// A literal. One that no tree holds is read as an expression that breaks the same rules.
+pub fn literal<'a>(alloc: Global, at: ReadPoint<'a>) -> Result<(Expr, ReadPoint<'a>), Fault>
     ensures { Gives (λ x. (plain_expr x.0, place_of x.1)) result (tokens.literal_at (place_of at.entry)) }
 {
-    let (width, at) = number(10, at)?;
+    let (width, at) = digits(10, at)?;
     let at = expect(at, b"'h")?;
-    let (value, at) = number(16, at)?;
-    Ok(literal_of(width, value, at))
-}
-
-/// A literal of this width and value.
-fn literal_of<'a>(
-    width: Option<u128>,
-    value: Option<u128>,
-    at: ReadPoint<'a>,
-) -> (Expr, ReadPoint<'a>)
-    ensures { tokens.literal_of width value (place_of at.entry) ≡ Some (plain_expr result.0, place_of result.1) }
-{
-    match literal_bits(width, value) {
-        Some(bits) => (Expr::Literal(bits), at),
-        None => (stand_in(), bad_literal(width, value, at)),
-    }
+    let (value, at) = digits(16, at)?;
+    let literal = literal_of(alloc, width, value)?;
+    Ok((literal, at))
 }
 
 /// Whether a decimal number and a colon stand here, as in the bounds of a part.

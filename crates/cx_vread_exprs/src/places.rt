@@ -59,26 +59,6 @@ pub fn begins(at: ReadPoint, want: &[u8]) -> bool
     after(at, want).is_some()
 }
 
-/// Notes a part that breaks a rule on names.
-pub fn misnamed(at: ReadPoint) -> ReadPoint
-    ensures { place_of result ≡ unfit (place_of at.entry) }
-{
-    ReadPoint {
-        rest: at.rest,
-        notes: at.notes.with_name(at.rest.len()),
-    }
-}
-
-/// Notes a part that breaks a rule on widths.
-pub fn miswidened(at: ReadPoint) -> ReadPoint
-    ensures { place_of result ≡ unfit (place_of at.entry) }
-{
-    ReadPoint {
-        rest: at.rest,
-        notes: at.notes.with_width(at.rest.len()),
-    }
-}
-
 /// Notes a part that breaks a limit.
 pub fn overlimit(at: ReadPoint) -> ReadPoint
     ensures { place_of result ≡ unfit (place_of at.entry) }

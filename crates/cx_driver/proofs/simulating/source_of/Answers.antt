@@ -15,5 +15,5 @@ returns-in-Err c =
     let Unread : Stop → Type 0 = IsNoSource c.args.verilog.now in
     record {
       source = tt;
-      cause = subst Unread (sym c.of_read.ensures) (unread_text c.args.verilog.now c.in-Err.refusal c.in-Err.ensures.sound c.in-Err.ensures.spelled);
+      cause = subst Unread (sym c.of_read.ensures) (unread_text c.args.verilog.now c.in-Err.refusal c.in-Err.ensures.sound c.in-Err.ensures.spelled c.in-Err.ensures.told);
     }

@@ -1,5 +1,7 @@
 use Rattle.std.proofs.Common.{Err}
-use Rattle.cx_vread.proofs.WholeTexts.{stops_for_memory, answers_it, sound_read}
+use Rattle.cx_vread_exprs.specs.Answers.{place_of}
+use Rattle.cx_vread.proofs.WholeTexts.{stops_for_memory, answers_it, sound_read, stands_for, tells_stopped, tells_it, reads_text}
+use Rattle.cx_vread.proofs.AstrayOnce.{astray_at}
 use Rattle.cx_vread.proofs.reading.read.Goals as goal
 
 pub returns-in-Err-clause-spelled : goal.returns-in-Err-clause-spelled
@@ -10,8 +12,25 @@ returns-in-Err-clause-sound c = λ s e sound. sound_read s c.args.text.now (Err 
     (λ t e laid held. stops_for_memory t c.args.text.now _ c.in-Err.fault c.stopped.result c.new-notes.ensures c.in-Err.ensures c.stopped.ensures e laid held) e sound
 
 pub returns-in-Ok-clause-spelled : goal.returns-in-Ok-clause-spelled
-returns-in-Ok-clause-spelled c = λ s e laid held. answers_it s _ c.args.text.now _ _ c.kept_or_noted.result c.new-notes.ensures c.in-Ok.ensures c.kept_or_noted.ensures.answer e laid held
+returns-in-Ok-clause-spelled c = λ s e laid held. answers_it s _ c.args.text.now _ _ c.answer.result c.new-notes.ensures c.in-Ok.ensures c.answer.ensures.answer e laid held
 
 pub returns-in-Ok-clause-sound : goal.returns-in-Ok-clause-sound
-returns-in-Ok-clause-sound c = λ s e sound. sound_read s c.args.text.now c.kept_or_noted.result
-    (λ t e laid held. answers_it t _ c.args.text.now _ _ c.kept_or_noted.result c.new-notes.ensures c.in-Ok.ensures c.kept_or_noted.ensures.answer e laid held) e sound
+returns-in-Ok-clause-sound c = λ s e sound. sound_read s c.args.text.now c.answer.result
+    (λ t e laid held. answers_it t _ c.args.text.now _ _ c.answer.result c.new-notes.ensures c.in-Ok.ensures c.answer.ensures.answer e laid held) e sound
+
+pub returns-in-Err-clause-told : goal.returns-in-Err-clause-told
+returns-in-Err-clause-told c = tells_stopped c.args.text.now _ c.in-Err.fault c.stopped.result c.new-notes.ensures c.in-Err.ensures c.stopped.ensures
+
+pub returns-in-Ok-clause-told : goal.returns-in-Ok-clause-told
+returns-in-Ok-clause-told c = tells_it c.args.text.now _ _ _ c.answer.result c.new-notes.ensures c.in-Ok.ensures c.answer.ensures.answer c.answer.ensures.noted
+
+pub returns-in-Err-clause-astray : goal.returns-in-Err-clause-astray
+returns-in-Err-clause-astray c = λ line first. astray_at c.args.text.now (Err c.stopped.result) tt
+    (tells_stopped c.args.text.now _ c.in-Err.fault c.stopped.result c.new-notes.ensures c.in-Err.ensures c.stopped.ensures) line first
+
+pub returns-in-Ok-clause-astray : goal.returns-in-Ok-clause-astray
+returns-in-Ok-clause-astray c = λ line first. astray_at c.args.text.now c.answer.result (reads_text c.args.text.now _ _ _ c.answer.result c.in-Ok.ensures c.answer.ensures.noted)
+    (tells_it c.args.text.now _ _ _ c.answer.result c.new-notes.ensures c.in-Ok.ensures c.answer.ensures.answer c.answer.ensures.noted) line first
+
+pub answer-requires : goal.answer-requires
+answer-requires c = λ clear. stands_for c.args.text.now _ _ (place_of c.in-Ok.found.1) c.in-Ok.ensures clear

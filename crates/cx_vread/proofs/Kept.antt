@@ -1,0 +1,43 @@
+-- What a tree of `cx_vtree` keeps of a source: the source itself where it holds its numbers, and else one with the same first break.
+use Rattle.std.proofs.Common.{map}
+use Rattle.std.specs.Prelude.{option_map}
+use Rattle.cx_vtree.specs.Plain.{PlainPort, PlainDecl, WireOf, RegisterOf, ArrayOf, PlainAssign, PlainStore, PlainItem, SetTo, StoreTo, PlainEdge, PlainModule, PlainExternal, PlainSource}
+use Rattle.cx_vread_exprs.specs.Tokens.{kept_small, kept_size}
+use Rattle.cx_vread_exprs.proofs.Kept.{kept_expr}
+
+abbrev pub kept_port : PlainPort → PlainPort
+kept_port p = record { output = p.output; name = p.name; width = kept_small p.width }
+
+abbrev pub kept_decl : PlainDecl → PlainDecl
+kept_decl (WireOf n w) = WireOf n (kept_small w)
+kept_decl (RegisterOf n w) = RegisterOf n (kept_small w)
+kept_decl (ArrayOf n w k) = ArrayOf n (kept_small w) k
+
+abbrev pub kept_assign : PlainAssign → PlainAssign
+kept_assign a = record { name = a.name; value = kept_expr a.value }
+
+abbrev pub kept_store : PlainStore → PlainStore
+kept_store s = record { guard = kept_expr s.guard; array = s.array; index = kept_expr s.index; value = kept_expr s.value }
+
+abbrev pub kept_item : PlainItem → PlainItem
+kept_item (SetTo a) = SetTo (kept_assign a)
+kept_item (StoreTo s) = StoreTo (kept_store s)
+
+abbrev pub kept_edge : PlainEdge → PlainEdge
+kept_edge e = record { reset = map kept_assign e.reset; step = map kept_item e.step }
+
+abbrev pub kept_module : PlainModule → PlainModule
+kept_module m = record {
+  name = m.name;
+  ports = map kept_port m.ports;
+  decls = map kept_decl m.decls;
+  assigns = map kept_assign m.assigns;
+  instances = m.instances;
+  edge = option_map kept_edge m.edge;
+}
+
+abbrev pub kept_external : PlainExternal → PlainExternal
+kept_external e = record { name = e.name; instance = e.instance; width = kept_small e.width; sizes = map kept_size e.sizes }
+
+abbrev pub kept_source : PlainSource → PlainSource
+kept_source s = record { externals = map kept_external s.externals; modules = map kept_module s.modules }
