@@ -74,10 +74,15 @@ fn module<'a>(alloc: Global, at: ReadPoint<'a>) -> Result<(Module, ReadPoint<'a>
         instances: Vec::new(alloc),
         edge: None,
     };
-    let (body, at) = body(alloc, &module, at)?;
-    module.assigns = body.assigns;
-    module.instances = body.instances;
-    module.edge = body.edge;
+    let (found, at) = body(alloc, &module, at)?;
+    let Body {
+        assigns,
+        instances,
+        edge,
+    } = found;
+    module.assigns = assigns;
+    module.instances = instances;
+    module.edge = edge;
     Ok((module, at))
 }
 
