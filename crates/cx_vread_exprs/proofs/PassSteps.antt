@@ -1,5 +1,5 @@
 -- One step more past an expression.
-use Rattle.std.proofs.Common.{◌≡◌, ℕ, ◌-◌, ◌<◌, suc, List, [], ◌∷◌, ◌++◌, length, reverse, Option, Some, None, refl, ◌∙◌, ap, sym, arith}
+use Rattle.std.proofs.Common.{◌≡◌, ℕ, ◌-◌, ◌<◌, suc, List, [], ◌∷◌, ◌++◌, length, reverse, Some, None, refl, ◌∙◌, ap, sym, arith}
 use Rattle.std.proofs.lemmas.List.{reverse-append}
 use Rattle.cx_vread_exprs.specs.declared.faults.Fault.{Fault}
 use Rattle.cx_vread_exprs.specs.declared.faults.Fault.TheVariants as faults

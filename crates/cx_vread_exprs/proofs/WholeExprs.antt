@@ -1,5 +1,5 @@
 -- A whole expression of any depth: what is spelled is read, as what a tree keeps of it, and what is read stands in the text.
-use Rattle.std.proofs.Common.{◌≡◌, ◌⊎◌, inl, inr, ⊎_elim, ℕ, ◌-◌, zero, suc, ◌==◌, Bool, true, false, ◌&&◌, ◌||◌, List, ◌++◌, Option, Some, None, refl, ◌∙◌, ap, sym, subst, arith, if◌then◌else◌}
+use Rattle.std.proofs.Common.{◌≡◌, ◌⊎◌, inl, inr, ⊎_elim, ℕ, ◌-◌, zero, suc, ◌==◌, Bool, true, false, ◌&&◌, ◌||◌, List, ◌++◌, Some, None, refl, ◌∙◌, ap, sym, subst, arith, if◌then◌else◌}
 use Rattle.std.specs.Prelude.{codes, is_some}
 use Rattle.std.specs.Option.{option_or}
 use Rattle.std.proofs.lemmas.Bool.{and_parts, or_parts, ne_eqb}
@@ -9,7 +9,7 @@ use Rattle.cx_vtree.specs.Lines.{op_text, expr_text}
 use Rattle.cx_vtree.specs.Plain.{PlainExpr, Named, Number, Part, Word, Applied, Inverted, Chosen, Joined}
 use Rattle.cx_vtree.specs.Sound.{Scope, nests_over}
 use Rattle.cx_vread_exprs.specs.Deep.{stand_for, deep_at, whole_expr_at}
-use Rattle.cx_vread_exprs.specs.Exprs.{operator_at, is_part, part_by, item_by, bracketed_by, named_by, behind_by, applied_by, chosen_by, round_by, inverted_by, brackets_by, expr_at, inner_at, nested_at, too_deep_at, most_levels}
+use Rattle.cx_vread_exprs.specs.Exprs.{part_by, item_by, bracketed_by, named_by, behind_by, applied_by, chosen_by, round_by, inverted_by, brackets_by, expr_at, too_deep_at, most_levels}
 use Rattle.cx_vread_exprs.specs.Passing.{shape_at}
 use Rattle.cx_vread_exprs.specs.Places as Places
 use Rattle.cx_vread_exprs.specs.Places.{Place, Reads, then_reads, then_at, begins}

@@ -1,5 +1,5 @@
 -- What the rules on names and widths look at of an expression, and how it comes from that of its parts.
-use Rattle.std.specs.Prelude.{ℕ, ◌||◌, not, Bool, List, Option, Some, None, option_and_then}
+use Rattle.std.specs.Prelude.{ℕ, ◌||◌, not, List, Option, Some, option_and_then}
 use Rattle.cx_vtree.specs.declared.operators.Operator.{Operator}
 use Rattle.cx_vtree.specs.Plain.{PlainExpr}
 use Rattle.cx_vtree.specs.Sound.{Scope, is_array, width_of, misnames, fitting_width, applied_width, chosen_width, joined_width}

@@ -1,6 +1,7 @@
 //! What nests deeper than a tree is read.
 
 ghost use Rattle.std.specs.Prelude.{◌≡◌, IfOk, option_map};
+ghost use Rattle.cx_vtree.specs.Plain.{Inverted};
 ghost use Rattle.cx_vtree.specs.PlainParts.{plain_expr};
 ghost use Rattle.cx_vscope.specs.ScopeValues.{scope_by};
 ghost use Rattle.cx_vread_exprs.specs.Answers.{Gives, place_of};
@@ -49,14 +50,22 @@ fn leaf(alloc: Global, shape: Shape) -> Result<Expr, Memory>
     }
 }
 
+/// Inverts an expression.
+fn invert(alloc: Global, e: Expr) -> Result<Expr, Memory>
+    ensures { IfOk result (λ not. plain_expr not ≡ Inverted (plain_expr e)) }
+{
+    Ok(Expr::Not(Box::new(alloc, e)?))
+}
+
 /// Inverts an expression so often that it breaks the limit.
+#[tactic(auto, using(crate::proofs::Levels::brackets_are, crate::proofs::Levels::inverted_next, crate::proofs::Levels::inverted_none))]
 fn bracketed(alloc: Global, inner: Expr) -> Result<Expr, Memory>
     ensures { IfOk result (λ e. plain_expr e ≡ deeps.inverted deeps.most_brackets (plain_expr inner)) }
 {
     let mut e = inner;
     let mut left = BRACKETS;
     while left > 0 {
-        e = Expr::Not(Box::new(alloc, e)?);
+        e = invert(alloc, e)?;
         left -= 1;
     }
     Ok(e)

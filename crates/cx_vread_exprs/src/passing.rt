@@ -11,7 +11,7 @@ use crate::names::name;
 use crate::numbers::{is_part, literal};
 use crate::operators::operator;
 use crate::places::{ReadPoint, begins, expect};
-use crate::shapes::{Shape, applied, array_shape, chosen, indexed, joined, shape};
+use crate::shapes::{Shape, applied, array_shape, chosen, indexed, joined, shape_of};
 use cx_text::Name;
 use cx_vscope::ModuleScope;
 use cx_vtree::{Expr, Operator};
@@ -72,7 +72,7 @@ fn want_bracketed<'a>(
     let at = expect(at, b"[")?;
     if is_part(at) {
         let (e, at) = part(net, at)?;
-        return Ok((Found::Ended(shape(scope, &e)), at));
+        return Ok((Found::Ended(shape_of(scope, &e)), at));
     }
     Ok((Found::Within(Await::Index(array_shape(scope, &net))), at))
 }
@@ -89,7 +89,7 @@ fn want_named<'a>(
     if begins(at, b"[") {
         want_bracketed(scope, net, at)
     } else {
-        Ok((Found::Ended(shape(scope, &Expr::Net(net))), at))
+        Ok((Found::Ended(shape_of(scope, &Expr::Net(net))), at))
     }
 }
 
@@ -102,7 +102,7 @@ fn want_literal<'a>(
     ensures { Gives (λ x. (x.0, place_of x.1)) result (passing.want_literal (scope_by scope.now) (place_of at.entry)) }
 {
     let (e, at) = literal(alloc, at)?;
-    Ok((Found::Ended(shape(scope, &e)), at))
+    Ok((Found::Ended(shape_of(scope, &e)), at))
 }
 
 /// Goes on where an expression begins: past all of it, or past what stands before the first that is within it.

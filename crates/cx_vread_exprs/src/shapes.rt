@@ -20,7 +20,7 @@ pub struct Shape {
 }
 
 /// The shape of an expression.
-pub fn shape(scope: &ModuleScope, e: &Expr) -> Shape
+pub fn shape_of(scope: &ModuleScope, e: &Expr) -> Shape
     ensures { result ≡ shapes.shape_of (scope_by scope.now) (plain_expr e.now) }
 {
     Shape {
