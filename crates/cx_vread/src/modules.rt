@@ -40,7 +40,7 @@ pub struct Body {
 }
 
 /// The lines of a module behind its declarations; `front` has its ports and its declarations.
-fn body<'a>(
+fn body_lines<'a>(
     alloc: Global,
     front: &Module,
     at: ReadPoint<'a>,
@@ -74,7 +74,7 @@ fn module<'a>(alloc: Global, at: ReadPoint<'a>) -> Result<(Module, ReadPoint<'a>
         instances: Vec::new(alloc),
         edge: None,
     };
-    let (found, at) = body(alloc, &module, at)?;
+    let (found, at) = body_lines(alloc, &module, at)?;
     let Body {
         assigns,
         instances,
