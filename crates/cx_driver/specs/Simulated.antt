@@ -25,9 +25,9 @@ pub record IsVerilogOf (text : List ℕ) (source : PlainSource) : Type 0 where
   pub spelled : text ≡ text_of source
   pub sound : is_sound source ≡ true
 
--- The text spells no sound source. Where it spells one that is laid out, its first break is told, whatever numbers stand in it, if no line
--- nests more than 128 levels and no array has 2^64 words or more. And what is told is so: the first line with which the lines so far begin
--- no text; or the first break of what the text spells, but where a line of it nests more than 128 levels or an array has 2^64 words or more.
+-- The text spells no sound source. Where it spells one that is laid out, its first break is told, whatever numbers stand in it, if no array
+-- has 2^64 words or more. And what is told is so: the first line with which the lines so far begin no text; or the first break of what the
+-- text spells, but where an array has 2^64 words or more.
 pub record IsVerilogRefusal (text : List ℕ) (refused : ReadRefusal) : Type 0 where
   pub told : refused ≢ unread.Memory
   pub no_source : (source : PlainSource) → IsVerilogOf text source → ⊥

@@ -108,13 +108,20 @@ const ASTRAY: [(&str, &str); 6] = [
 
 /// Brackets around an expression, the expression, and what is told of a line that has it. Worked by hand from the rules: 64
 /// levels are the limit, which comes after a name and a width; the layout comes before all, however deep it is wrong.
-const NESTED: [(usize, &str, &str); 9] = [
+const NESTED: [(usize, &str, &str); 16] = [
     (65, "go", "verilog 7:1 limit\n"),
     (65, "2'h1", "verilog 7:1 width\n"),
     (65, "other", "verilog 7:1 name\n"),
     (128, "other", "verilog 7:1 name\n"),
     (128, "1'h01", "verilog 7:1 syntax\n"),
     (129, "go", "verilog 7:1 limit\n"),
+    (129, "other", "verilog 7:1 name\n"),
+    (129, "clk", "verilog 7:1 name\n"),
+    (129, "2'h1", "verilog 7:1 width\n"),
+    (200, "(go == 1'h1)", "verilog 7:1 limit\n"),
+    (200, "(go + 2'h1)", "verilog 7:1 width\n"),
+    (200, "(go ? {go, go} : other)", "verilog 7:1 name\n"),
+    (200, "{go, go}", "verilog 7:1 width\n"),
     (129, "1'h01", "verilog 7:1 syntax\n"),
     (200, "go]", "verilog 7:1 syntax\n"),
     (200, "(go)", "verilog 7:1 syntax\n"),

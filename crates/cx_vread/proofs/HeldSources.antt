@@ -12,7 +12,7 @@ use Rattle.cx_vtree.specs.Layout.{is_name, port_fits, decl_fits, assign_fits, in
 use Rattle.cx_vtree.specs.Plain.{PlainDecl, WireOf, RegisterOf, ArrayOf, PlainEdge, PlainModule, PlainExternal, PlainSource}
 use Rattle.cx_vtree.specs.Sound.{Break, Faults, no_faults, Scope, Counts, width_of, meant_in, decl_name, drivers_in, module_named, module_counts, module_faults, ports_faults, decls_faults, assigns_faults, instances_faults, edge_faults, sets_faults, items_faults, lines_faults, modules_faults, last_named, instance_kind, memory_module, arrays_in, not_this_memory, memory_arrays, not_this_width, has_name, external_faults, externals_faults, faults_of, break_of, is_sound}
 use Rattle.cx_vread.specs.Held.{holds_port, holds_decl, holds_assign, holds_item, holds_edge, holds_module, holds_external, is_held}
-use Rattle.cx_vread.specs.Within.{is_countable, is_flat_assign, is_flat_edge, module_within}
+use Rattle.cx_vread.specs.Within.{is_countable, module_within}
 use Rattle.cx_vread.proofs.KeptSame.{all_so, module_is_within}
 use Rattle.cx_vread.proofs.SoundHeld.{is_clean, no_break, ports_held, decls_held, meant_small, assigns_held, sets_held, items_held, parts_of, not_not}
 
@@ -84,9 +84,7 @@ module_lengths (m ∷ ms) f h =
     let f5 = and_parts (is_name m.name && nat_lt 0 (length m.ports) && list_all port_fits m.ports && list_all decl_fits m.decls && list_all assign_fits m.assigns) (list_all instance_fits m.instances) f6.0 in
     let f4 = and_parts (is_name m.name && nat_lt 0 (length m.ports) && list_all port_fits m.ports && list_all decl_fits m.decls) (list_all assign_fits m.assigns) f5.0 in
     let f3 = and_parts (is_name m.name && nat_lt 0 (length m.ports) && list_all port_fits m.ports) (list_all decl_fits m.decls) f4.0 in
-    let h2 = and_parts (list_all is_countable m.decls && list_all is_flat_assign m.assigns) (is_flat_edge m.edge) held.0 in
-    let h1 = and_parts (list_all is_countable m.decls) (list_all is_flat_assign m.assigns) h2.0 in
-    ap (λ b. b && list_all has_lengths ms) (lengths_of m.decls f3.1 h1.0) ∙ module_lengths ms fit.1 held.1
+    ap (λ b. b && list_all has_lengths ms) (lengths_of m.decls f3.1 held.0) ∙ module_lengths ms fit.1 held.1
 
 -- what all modules have, the one that is found has
 one_of : (b : Bool) (m : PlainModule) (o : Option PlainModule) → has_lengths m ≡ true → option_map_or has_lengths o true ≡ true → option_map_or has_lengths (if b then Some m else o) true ≡ true

@@ -11,7 +11,7 @@ use Rattle.cx_vread_exprs.proofs.Kept.{kept_expr}
 use Rattle.cx_vread.proofs.SoundHeld.{literal_held, numbers_held}
 
 -- names
-clock_misnames : (scope : Scope) → misnames scope misnamed ≡ true
+pub clock_misnames : (scope : Scope) → misnames scope misnamed ≡ true
 clock_misnames scope = ap not (and_right (is_source (scope (codes "clk"))) (not (same_name (codes "clk") (codes "clk"))) refl)
 
 literal_misnames : (scope : Scope) (fits over : Bool) (w v : ℕ) → nat_le (2 ^ w) v ≡ over

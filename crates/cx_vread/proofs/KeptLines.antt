@@ -6,10 +6,11 @@ use Rattle.std.proofs.lemmas.Bool.{or_parts, lt-ltb, cases_lt, or_right}
 use Rattle.cx_vtree.specs.Plain.{PlainExpr, PlainPort, PlainDecl, WireOf, RegisterOf, ArrayOf, PlainAssign, PlainStore, PlainItem, SetTo, StoreTo, PlainEdge}
 use Rattle.cx_vtree.specs.Sound.{Faults, no_faults, Scope, bad_width, width_of, is_array, is_driven, is_register, misnames, fitting_width, has_width, too_deep, has_name, port_faults, ports_faults, decl_name, decl_faults, decls_faults, assigns_faults, set_faults, sets_faults, store_faults, item_faults, item_name, items_faults, edge_faults}
 use Rattle.cx_vread_exprs.specs.Tokens.{kept_small}
-use Rattle.cx_vread_exprs.proofs.Kept.{kept_expr}
+use Rattle.cx_vread_exprs.proofs.Kept.{kept_by}
 use Rattle.cx_vread.proofs.Alike.{SameKind, Alike, same_kind, alike_refl, alike_append}
 use Rattle.cx_vread.proofs.Kept.{kept_port, kept_decl, kept_assign, kept_store, kept_item, kept_edge}
-use Rattle.cx_vread.proofs.KeptExprs.{misnames_kept, fitting_kept, unbroken_kept}
+use Rattle.cx_vread.proofs.GoodWidths.{is_fine}
+use Rattle.cx_vread.proofs.KeptDeep.{by_misnames, by_fitting, by_depth}
 use Rattle.cx_vread.proofs.SoundHeld.{width_some, none_some}
 
 -- Widths.
@@ -56,30 +57,30 @@ decls_alike drivers earlier (d ∷ ds) =
     (decl_alike drivers earlier d, λ clean. subst (λ n. Alike (decls_faults drivers (earlier ++ decl_name d ∷ []) ds) (decls_faults drivers (earlier ++ n ∷ []) (map kept_decl ds))) (sym (decl_name_kept d)) (decls_alike drivers (earlier ++ decl_name d ∷ []) ds))
 
 -- Lines with an expression.
-module _ (scope : Scope) (small : (n : List ℕ) → width_of (scope n) < 256) where
+module _ (scope : Scope) (small : (n : List ℕ) → width_of (scope n) < 256) (fine : (n : List ℕ) → is_fine (scope n) ≡ true) where
   abbrev line_faults : Bool → ℕ → PlainExpr → Faults
   line_faults front w e = record { name = front || misnames scope e; width = not (has_width scope e w); limit = too_deep e }
 
-  line_alike : (front : Bool) (w : ℕ) (e : PlainExpr) → SameKind (line_faults front w e) (line_faults front w (kept_expr e))
+  line_alike : (front : Bool) (w : ℕ) (e : PlainExpr) → SameKind (line_faults front w e) (line_faults front w (kept_by scope e))
   line_alike front w e =
-      same_kind (line_faults front w e) (line_faults front w (kept_expr e))
-      (ap (λ m. front || m) (sym (misnames_kept scope e)))
-      (λ n. ap (λ o. not (option_map_or (λ v. v == w) o false)) (sym (fitting_kept scope small e (or_parts front (misnames scope e) n).1)))
-      (λ n f. ap too_deep (sym (unbroken_kept scope small e (or_parts front (misnames scope e) n).1 (width_some (fitting_width scope e) w f))))
+      same_kind (line_faults front w e) (line_faults front w (kept_by scope e))
+      (ap (λ m. front || m) (sym (by_misnames scope e)))
+      (λ n. ap (λ o. not (option_map_or (λ v. v == w) o false)) (sym (by_fitting scope small fine e (or_parts front (misnames scope e) n).1)))
+      (λ n f. sym (by_depth scope small fine e (or_parts front (misnames scope e) n).1 (width_some (fitting_width scope e) w f)))
 
-  pub assigns_alike : (earlier : List (List ℕ)) (xs : List PlainAssign) → Alike (assigns_faults scope earlier xs) (assigns_faults scope earlier (map kept_assign xs))
+  pub assigns_alike : (earlier : List (List ℕ)) (xs : List PlainAssign) → Alike (assigns_faults scope earlier xs) (assigns_faults scope earlier (map (kept_assign scope) xs))
   assigns_alike earlier [] = tt
   assigns_alike earlier (a ∷ xs) =
       (line_alike (not (is_driven (scope a.name)) || has_name earlier a.name) (width_of (scope a.name)) a.value, λ clean. assigns_alike (earlier ++ a.name ∷ []) xs)
 
-  set_alike : (earlier : List (List ℕ)) (a : PlainAssign) → SameKind (set_faults scope earlier a) (set_faults scope earlier (kept_assign a))
+  set_alike : (earlier : List (List ℕ)) (a : PlainAssign) → SameKind (set_faults scope earlier a) (set_faults scope earlier (kept_assign scope a))
   set_alike earlier a = line_alike (not (is_register (scope a.name)) || has_name earlier a.name) (width_of (scope a.name)) a.value
 
-  pub sets_alike : (earlier : List (List ℕ)) (xs : List PlainAssign) → Alike (sets_faults scope earlier xs) (sets_faults scope earlier (map kept_assign xs))
+  pub sets_alike : (earlier : List (List ℕ)) (xs : List PlainAssign) → Alike (sets_faults scope earlier xs) (sets_faults scope earlier (map (kept_assign scope) xs))
   sets_alike earlier [] = tt
   sets_alike earlier (a ∷ xs) = (set_alike earlier a, λ clean. sets_alike (earlier ++ a.name ∷ []) xs)
 
-  store_alike : (earlier : List (List ℕ)) (s : PlainStore) → SameKind (store_faults scope earlier s) (store_faults scope earlier (kept_store s))
+  store_alike : (earlier : List (List ℕ)) (s : PlainStore) → SameKind (store_faults scope earlier s) (store_faults scope earlier (kept_store scope s))
   store_alike earlier s =
       let front : Bool = not (is_array (scope s.array)) || has_name earlier s.array in
       let w : ℕ = width_of (scope s.array) in
@@ -88,35 +89,35 @@ module _ (scope : Scope) (small : (n : List ℕ) → width_of (scope n) < 256) w
       let n2 = or_parts (front || misnames scope s.guard) (misnames scope s.index) n3.0 in
       let n1 = or_parts front (misnames scope s.guard) n2.0 in
       (n1.1, n2.1, n3.1) in
-      same_kind (store_faults scope earlier s) (store_faults scope earlier (kept_store s))
-      (ap (λ m. front || m || misnames scope s.index || misnames scope s.value) (sym (misnames_kept scope s.guard))
-      ∙ ap (λ m. front || misnames scope (kept_expr s.guard) || m || misnames scope s.value) (sym (misnames_kept scope s.index))
-      ∙ ap (λ m. front || misnames scope (kept_expr s.guard) || misnames scope (kept_expr s.index) || m) (sym (misnames_kept scope s.value)))
+      same_kind (store_faults scope earlier s) (store_faults scope earlier (kept_store scope s))
+      (ap (λ m. front || m || misnames scope s.index || misnames scope s.value) (sym (by_misnames scope s.guard))
+      ∙ ap (λ m. front || misnames scope (kept_by scope s.guard) || m || misnames scope s.value) (sym (by_misnames scope s.index))
+      ∙ ap (λ m. front || misnames scope (kept_by scope s.guard) || misnames scope (kept_by scope s.index) || m) (sym (by_misnames scope s.value)))
       (λ e.
       let n = named e in
-      ap (λ o. not (option_map_or (λ v. v == 1) o false) || is_none (fitting_width scope s.index) || not (has_width scope s.value w)) (sym (fitting_kept scope small s.guard n.0))
-      ∙ ap (λ o. not (has_width scope (kept_expr s.guard) 1) || is_none o || not (has_width scope s.value w)) (sym (fitting_kept scope small s.index n.1))
-      ∙ ap (λ o. not (has_width scope (kept_expr s.guard) 1) || is_none (fitting_width scope (kept_expr s.index)) || not (option_map_or (λ v. v == w) o false)) (sym (fitting_kept scope small s.value n.2)))
+      ap (λ o. not (option_map_or (λ v. v == 1) o false) || is_none (fitting_width scope s.index) || not (has_width scope s.value w)) (sym (by_fitting scope small fine s.guard n.0))
+      ∙ ap (λ o. not (has_width scope (kept_by scope s.guard) 1) || is_none o || not (has_width scope s.value w)) (sym (by_fitting scope small fine s.index n.1))
+      ∙ ap (λ o. not (has_width scope (kept_by scope s.guard) 1) || is_none (fitting_width scope (kept_by scope s.index)) || not (option_map_or (λ v. v == w) o false)) (sym (by_fitting scope small fine s.value n.2)))
       (λ e f.
       let n = named e in
       let w2 = or_parts (not (has_width scope s.guard 1) || is_none (fitting_width scope s.index)) (not (has_width scope s.value w)) f in
       let w1 = or_parts (not (has_width scope s.guard 1)) (is_none (fitting_width scope s.index)) w2.0 in
-      ap (λ x. too_deep x || too_deep s.index || too_deep s.value) (sym (unbroken_kept scope small s.guard n.0 (width_some (fitting_width scope s.guard) 1 w1.0)))
-      ∙ ap (λ x. too_deep (kept_expr s.guard) || too_deep x || too_deep s.value) (sym (unbroken_kept scope small s.index n.1 (none_some (fitting_width scope s.index) w1.1)))
-      ∙ ap (λ x. too_deep (kept_expr s.guard) || too_deep (kept_expr s.index) || too_deep x) (sym (unbroken_kept scope small s.value n.2 (width_some (fitting_width scope s.value) w w2.1))))
+      ap (λ d. d || too_deep s.index || too_deep s.value) (sym (by_depth scope small fine s.guard n.0 (width_some (fitting_width scope s.guard) 1 w1.0)))
+      ∙ ap (λ d. too_deep (kept_by scope s.guard) || d || too_deep s.value) (sym (by_depth scope small fine s.index n.1 (none_some (fitting_width scope s.index) w1.1)))
+      ∙ ap (λ d. too_deep (kept_by scope s.guard) || too_deep (kept_by scope s.index) || d) (sym (by_depth scope small fine s.value n.2 (width_some (fitting_width scope s.value) w w2.1))))
 
-  item_alike : (earlier : List (List ℕ)) (i : PlainItem) → SameKind (item_faults scope earlier i) (item_faults scope earlier (kept_item i))
+  item_alike : (earlier : List (List ℕ)) (i : PlainItem) → SameKind (item_faults scope earlier i) (item_faults scope earlier (kept_item scope i))
   item_alike earlier (SetTo a) = set_alike earlier a
   item_alike earlier (StoreTo s) = store_alike earlier s
 
-  item_name_kept : (i : PlainItem) → item_name (kept_item i) ≡ item_name i
+  item_name_kept : (i : PlainItem) → item_name (kept_item scope i) ≡ item_name i
   item_name_kept (SetTo a) = refl
   item_name_kept (StoreTo s) = refl
 
-  pub items_alike : (earlier : List (List ℕ)) (xs : List PlainItem) → Alike (items_faults scope earlier xs) (items_faults scope earlier (map kept_item xs))
+  pub items_alike : (earlier : List (List ℕ)) (xs : List PlainItem) → Alike (items_faults scope earlier xs) (items_faults scope earlier (map (kept_item scope) xs))
   items_alike earlier [] = tt
   items_alike earlier (i ∷ xs) =
-      (item_alike earlier i, λ clean. subst (λ n. Alike (items_faults scope (earlier ++ item_name i ∷ []) xs) (items_faults scope (earlier ++ n ∷ []) (map kept_item xs))) (sym (item_name_kept i)) (items_alike (earlier ++ item_name i ∷ []) xs))
+      (item_alike earlier i, λ clean. subst (λ n. Alike (items_faults scope (earlier ++ item_name i ∷ []) xs) (items_faults scope (earlier ++ n ∷ []) (map (kept_item scope) xs))) (sym (item_name_kept i)) (items_alike (earlier ++ item_name i ∷ []) xs))
 
   -- lines that break nothing before others
   one_more : (fs gs : List Faults) → Alike fs gs → Alike (no_faults ∷ fs) (no_faults ∷ gs)
@@ -125,16 +126,16 @@ module _ (scope : Scope) (small : (n : List ℕ) → width_of (scope n) < 256) w
   two_more : (fs gs : List Faults) → Alike fs gs → Alike (no_faults ∷ no_faults ∷ fs) (no_faults ∷ no_faults ∷ gs)
   two_more fs gs a = (λ line later. refl, λ one. (λ line later. refl, λ two. a))
 
-  pub edge_alike : (e : Option PlainEdge) → Alike (edge_faults scope e) (edge_faults scope (option_map kept_edge e))
+  pub edge_alike : (e : Option PlainEdge) → Alike (edge_faults scope e) (edge_faults scope (option_map (kept_edge scope) e))
   edge_alike None = tt
   edge_alike (Some e) =
       let sets : List Faults = no_faults ∷ no_faults ∷ sets_faults scope [] e.reset in
-      let kept_sets : List Faults = no_faults ∷ no_faults ∷ sets_faults scope [] (map kept_assign e.reset) in
+      let kept_sets : List Faults = no_faults ∷ no_faults ∷ sets_faults scope [] (map (kept_assign scope) e.reset) in
       let items : List Faults = no_faults ∷ items_faults scope [] e.step in
-      let kept_items : List Faults = no_faults ∷ items_faults scope [] (map kept_item e.step) in
+      let kept_items : List Faults = no_faults ∷ items_faults scope [] (map (kept_item scope) e.step) in
       let end : List Faults = no_faults ∷ no_faults ∷ [] in
       alike_append (sets ++ items) (kept_sets ++ kept_items) end end
       (alike_append sets kept_sets items kept_items
-      (two_more (sets_faults scope [] e.reset) (sets_faults scope [] (map kept_assign e.reset)) (sets_alike [] e.reset))
-      (λ all. one_more (items_faults scope [] e.step) (items_faults scope [] (map kept_item e.step)) (items_alike [] e.step)))
+      (two_more (sets_faults scope [] e.reset) (sets_faults scope [] (map (kept_assign scope) e.reset)) (sets_alike [] e.reset))
+      (λ all. one_more (items_faults scope [] e.step) (items_faults scope [] (map (kept_item scope) e.step)) (items_alike [] e.step)))
       (λ all. alike_refl end)

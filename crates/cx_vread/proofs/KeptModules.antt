@@ -12,7 +12,8 @@ use Rattle.cx_vtree.specs.Sound.{Faults, no_faults, Scope, Counts, meant_in, has
 use Rattle.cx_vread.specs.Held.{holds_port, holds_decl}
 use Rattle.cx_vread.proofs.Alike.{Alike, alike_refl, alike_append}
 use Rattle.cx_vread.proofs.HeldSources.{split}
-use Rattle.cx_vread.proofs.Kept.{kept_port, kept_decl, kept_assign, kept_edge, kept_module}
+use Rattle.cx_vread.proofs.GoodWidths.{is_fine, ports_good, decls_good, meant_fine}
+use Rattle.cx_vread.proofs.Kept.{kept_port, kept_decl, kept_assign, kept_edge, kept_scope, kept_module}
 use Rattle.cx_vread.proofs.KeptLines.{ports_alike, decls_alike, assigns_alike, edge_alike}
 use Rattle.cx_vread.proofs.KeptSame.{map_same, port_same, decl_same}
 use Rattle.cx_vread.proofs.SoundHeld.{is_clean, ports_held, decls_held, meant_small}
@@ -28,9 +29,9 @@ decls_same : (ds : List PlainDecl) → list_all holds_decl ds ≡ true → map k
 decls_same ds h = map_same kept_decl holds_decl decl_same ds h
 
 -- names
-assign_names : (xs : List PlainAssign) → map (λ a. a.name) (map kept_assign xs) ≡ map (λ a. a.name) xs
-assign_names [] = refl
-assign_names (a ∷ xs) = ap (λ ns. a.name ∷ ns) (assign_names xs)
+assign_names : (scope : Scope) (xs : List PlainAssign) → map (λ a. a.name) (map (kept_assign scope) xs) ≡ map (λ a. a.name) xs
+assign_names scope [] = refl
+assign_names scope (a ∷ xs) = ap (λ ns. a.name ∷ ns) (assign_names scope xs)
 
 module_names : (ms : List PlainModule) → map (λ m. m.name) (map kept_module ms) ≡ map (λ m. m.name) ms
 module_names [] = refl
@@ -73,7 +74,7 @@ driven_kept before (i ∷ is) h =
 
 drivers_kept : (before : List PlainModule) (m : PlainModule) → list_all has_held_ports before ≡ true → drivers_in (map kept_module before) (kept_module m) ≡ drivers_in before m
 drivers_kept before m h =
-    ap (λ ns. ns ++ driven_by_all (map kept_module before) m.instances) (assign_names m.assigns)
+    ap (λ ns. ns ++ driven_by_all (map kept_module before) m.instances) (assign_names (kept_scope m) m.assigns)
     ∙ ap (λ ns. map (λ a. a.name) m.assigns ++ ns) (driven_kept before m.instances h)
 
 -- counts
@@ -148,43 +149,46 @@ front_alike is_main before own m h =
 pub record FrontHeld (m : PlainModule) : Type 0 where
   pub ports : list_all holds_port m.ports ≡ true
   pub decls : list_all holds_decl m.decls ≡ true
+  pub fine : (n : List ℕ) → is_fine (meant_in m.ports m.decls n) ≡ true
 
 pub front_held : (is_main : Bool) (before : List PlainModule) (own : Counts) (m : PlainModule) (drivers names : List (List ℕ))
     → list_all is_clean ((module_faults is_main before own m ∷ ports_faults is_main drivers [] 0 m.ports) ++ (no_faults ∷ decls_faults drivers names m.decls)) ≡ true → FrontHeld m
 front_held is_main before own m drivers names h =
     let both = split (module_faults is_main before own m ∷ ports_faults is_main drivers [] 0 m.ports) (no_faults ∷ decls_faults drivers names m.decls) h in
+    let ports = (and_parts (is_clean (module_faults is_main before own m)) (list_all is_clean (ports_faults is_main drivers [] 0 m.ports)) both.0).1 in
     record {
-      ports = ports_held is_main drivers [] 0 m.ports (and_parts (is_clean (module_faults is_main before own m)) (list_all is_clean (ports_faults is_main drivers [] 0 m.ports)) both.0).1;
+      ports = ports_held is_main drivers [] 0 m.ports ports;
       decls = decls_held drivers names m.decls both.1;
+      fine = λ n. meant_fine m.ports m.decls n (ports_good is_main drivers [] 0 m.ports ports) (decls_good drivers names m.decls both.1);
     }
 
-scope_kept : (m : PlainModule) → FrontHeld m → meant_in (map kept_port m.ports) (map kept_decl m.decls) ≡ meant_in m.ports m.decls
-scope_kept m held = ap (λ ps. meant_in ps (map kept_decl m.decls)) (ports_same m.ports held.ports) ∙ ap (meant_in m.ports) (decls_same m.decls held.decls)
+scope_same : (m : PlainModule) → FrontHeld m → kept_scope m ≡ meant_in m.ports m.decls
+scope_same m held = ap (λ ps. meant_in ps (map kept_decl m.decls)) (ports_same m.ports held.ports) ∙ ap (meant_in m.ports) (decls_same m.decls held.decls)
 
 assigns_part : (m : PlainModule) → FrontHeld m
-    → Alike (assigns_faults (meant_in m.ports m.decls) [] m.assigns) (assigns_faults (meant_in (map kept_port m.ports) (map kept_decl m.decls)) [] (map kept_assign m.assigns))
+    → Alike (assigns_faults (meant_in m.ports m.decls) [] m.assigns) (assigns_faults (kept_scope m) [] (map (kept_assign (kept_scope m)) m.assigns))
 assigns_part m held =
-    subst (λ s. Alike (assigns_faults (meant_in m.ports m.decls) [] m.assigns) (assigns_faults s [] (map kept_assign m.assigns))) (sym (scope_kept m held))
-    (assigns_alike (meant_in m.ports m.decls) (λ n. meant_small m.ports m.decls n held.ports held.decls) [] m.assigns)
+    subst (λ s. Alike (assigns_faults (meant_in m.ports m.decls) [] m.assigns) (assigns_faults s [] (map (kept_assign s) m.assigns))) (sym (scope_same m held))
+    (assigns_alike (meant_in m.ports m.decls) (λ n. meant_small m.ports m.decls n held.ports held.decls) held.fine [] m.assigns)
 
 instances_part : (before : List PlainModule) (m : PlainModule) → list_all has_held_ports before ≡ true → FrontHeld m
     → Alike (instances_faults before (meant_in m.ports m.decls) (map (λ p. p.name) m.ports ++ map decl_name m.decls) (map (λ a. a.name) m.assigns) m.instances)
-    (instances_faults (map kept_module before) (meant_in (map kept_port m.ports) (map kept_decl m.decls)) (map (λ p. p.name) (map kept_port m.ports) ++ map decl_name (map kept_decl m.decls)) (map (λ a. a.name) (map kept_assign m.assigns)) m.instances)
+    (instances_faults (map kept_module before) (meant_in (map kept_port m.ports) (map kept_decl m.decls)) (map (λ p. p.name) (map kept_port m.ports) ++ map decl_name (map kept_decl m.decls)) (map (λ a. a.name) (map (kept_assign (kept_scope m)) m.assigns)) m.instances)
 instances_part before m h held =
     let names : List (List ℕ) = map (λ p. p.name) m.ports ++ map decl_name m.decls in
-    let e : instances_faults (map kept_module before) (meant_in (map kept_port m.ports) (map kept_decl m.decls)) (map (λ p. p.name) (map kept_port m.ports) ++ map decl_name (map kept_decl m.decls)) (map (λ a. a.name) (map kept_assign m.assigns)) m.instances
+    let e : instances_faults (map kept_module before) (meant_in (map kept_port m.ports) (map kept_decl m.decls)) (map (λ p. p.name) (map kept_port m.ports) ++ map decl_name (map kept_decl m.decls)) (map (λ a. a.name) (map (kept_assign (kept_scope m)) m.assigns)) m.instances
     ≡ instances_faults before (meant_in m.ports m.decls) names (map (λ a. a.name) m.assigns) m.instances =
-    ap (λ ps. instances_faults (map kept_module before) (meant_in ps (map kept_decl m.decls)) (map (λ p. p.name) ps ++ map decl_name (map kept_decl m.decls)) (map (λ a. a.name) (map kept_assign m.assigns)) m.instances) (ports_same m.ports held.ports)
-    ∙ ap (λ ds. instances_faults (map kept_module before) (meant_in m.ports ds) (map (λ p. p.name) m.ports ++ map decl_name ds) (map (λ a. a.name) (map kept_assign m.assigns)) m.instances) (decls_same m.decls held.decls)
-    ∙ ap (λ ns. instances_faults (map kept_module before) (meant_in m.ports m.decls) names ns m.instances) (assign_names m.assigns)
+    ap (λ ps. instances_faults (map kept_module before) (meant_in ps (map kept_decl m.decls)) (map (λ p. p.name) ps ++ map decl_name (map kept_decl m.decls)) (map (λ a. a.name) (map (kept_assign (kept_scope m)) m.assigns)) m.instances) (ports_same m.ports held.ports)
+    ∙ ap (λ ds. instances_faults (map kept_module before) (meant_in m.ports ds) (map (λ p. p.name) m.ports ++ map decl_name ds) (map (λ a. a.name) (map (kept_assign (kept_scope m)) m.assigns)) m.instances) (decls_same m.decls held.decls)
+    ∙ ap (λ ns. instances_faults (map kept_module before) (meant_in m.ports m.decls) names ns m.instances) (assign_names (kept_scope m) m.assigns)
     ∙ instances_kept before (meant_in m.ports m.decls) names (map (λ a. a.name) m.assigns) m.instances h in
     subst (λ fs. Alike (instances_faults before (meant_in m.ports m.decls) names (map (λ a. a.name) m.assigns) m.instances) fs) (sym e) (alike_refl (instances_faults before (meant_in m.ports m.decls) names (map (λ a. a.name) m.assigns) m.instances))
 
 edge_part : (m : PlainModule) → FrontHeld m
-    → Alike (edge_faults (meant_in m.ports m.decls) m.edge) (edge_faults (meant_in (map kept_port m.ports) (map kept_decl m.decls)) (option_map kept_edge m.edge))
+    → Alike (edge_faults (meant_in m.ports m.decls) m.edge) (edge_faults (kept_scope m) (option_map (kept_edge (kept_scope m)) m.edge))
 edge_part m held =
-    subst (λ s. Alike (edge_faults (meant_in m.ports m.decls) m.edge) (edge_faults s (option_map kept_edge m.edge))) (sym (scope_kept m held))
-    (edge_alike (meant_in m.ports m.decls) (λ n. meant_small m.ports m.decls n held.ports held.decls) m.edge)
+    subst (λ s. Alike (edge_faults (meant_in m.ports m.decls) m.edge) (edge_faults s (option_map (kept_edge s) m.edge))) (sym (scope_same m held))
+    (edge_alike (meant_in m.ports m.decls) (λ n. meant_small m.ports m.decls n held.ports held.decls) held.fine m.edge)
 
 lines_alike : (is_main : Bool) (before : List PlainModule) (own : Counts) (m : PlainModule) → list_all has_held_ports before ≡ true
     → Alike (lines_faults is_main before own m) (lines_faults is_main (map kept_module before) own (kept_module m))
@@ -197,11 +201,11 @@ lines_alike is_main before own m h =
     let d : List Faults = edge_faults (meant_in m.ports m.decls) m.edge in
     let kept_drivers : List (List ℕ) = drivers_in (map kept_module before) (kept_module m) in
     let kept_names : List (List ℕ) = map (λ p. p.name) (map kept_port m.ports) in
-    let kept_scope : Scope = meant_in (map kept_port m.ports) (map kept_decl m.decls) in
+    let own_scope : Scope = kept_scope m in
     let ka : List Faults = (module_faults is_main (map kept_module before) own (kept_module m) ∷ ports_faults is_main kept_drivers [] 0 (map kept_port m.ports)) ++ (no_faults ∷ decls_faults kept_drivers kept_names (map kept_decl m.decls)) in
-    let kb : List Faults = assigns_faults kept_scope [] (map kept_assign m.assigns) in
-    let kc : List Faults = instances_faults (map kept_module before) kept_scope (kept_names ++ map decl_name (map kept_decl m.decls)) (map (λ a. a.name) (map kept_assign m.assigns)) m.instances in
-    let kd : List Faults = edge_faults kept_scope (option_map kept_edge m.edge) in
+    let kb : List Faults = assigns_faults own_scope [] (map (kept_assign own_scope) m.assigns) in
+    let kc : List Faults = instances_faults (map kept_module before) own_scope (kept_names ++ map decl_name (map kept_decl m.decls)) (map (λ a. a.name) (map (kept_assign (kept_scope m)) m.assigns)) m.instances in
+    let kd : List Faults = edge_faults own_scope (option_map (kept_edge own_scope) m.edge) in
     let held = λ (all : list_all is_clean a ≡ true). front_held is_main before own m drivers names all in
     alike_append (((a ++ b) ++ c) ++ d) (((ka ++ kb) ++ kc) ++ kd) (no_faults ∷ []) (no_faults ∷ [])
     (alike_append ((a ++ b) ++ c) ((ka ++ kb) ++ kc) d kd

@@ -1,16 +1,19 @@
 -- A source that a tree holds is looked at whole, and kept as it is.
-use Rattle.std.proofs.Common.{◌≡◌, ℕ, Bool, true, ◌&&◌, List, [], ◌∷◌, map, Option, Some, None, refl, ◌∙◌, ap, if◌then◌else◌}
+use Rattle.std.proofs.Common.{◌≡◌, ℕ, not, Bool, true, ◌&&◌, List, [], ◌∷◌, map, Option, Some, None, refl, ◌∙◌, ap, if◌then◌else◌}
 use Rattle.std.specs.Prelude.{nat_lt, option_map}
 use Rattle.std.specs.List.{list_all}
-use Rattle.std.proofs.lemmas.Bool.{and_parts, and_from}
+use Rattle.std.proofs.lemmas.Bool.{and_parts, and_from, not-true}
 use Rattle.cx_vtree.specs.Plain.{PlainPort, PlainDecl, WireOf, RegisterOf, ArrayOf, PlainAssign, PlainItem, SetTo, StoreTo, PlainEdge, PlainModule, PlainExternal, PlainSource, PlainExpr}
+use Rattle.cx_vtree.specs.Sound.{Scope, nests_over}
+use Rattle.cx_vread_exprs.specs.Deep.{stand_for}
+use Rattle.cx_vread_exprs.specs.Shapes.{shape_of}
 use Rattle.cx_vread_exprs.specs.Holds.{numbers_fit, holds_expr}
 use Rattle.cx_vread_exprs.specs.Tokens.{kept_size}
 use Rattle.cx_vread_exprs.proofs.ExprAgain.{small_kept, expr_kept}
-use Rattle.cx_vread_exprs.proofs.Kept.{kept_expr}
+use Rattle.cx_vread_exprs.proofs.Kept.{kept_expr, kept_by}
 use Rattle.cx_vread.specs.Held.{holds_port, holds_decl, holds_assign, holds_item, holds_edge, holds_module, holds_external, is_held}
-use Rattle.cx_vread.specs.Within.{is_flat, is_countable, is_flat_assign, is_flat_item, is_flat_edge, module_within, is_within}
-use Rattle.cx_vread.proofs.Kept.{kept_port, kept_decl, kept_assign, kept_item, kept_edge, kept_module, kept_external, kept_source}
+use Rattle.cx_vread.specs.Within.{is_countable, module_within, is_within}
+use Rattle.cx_vread.proofs.Kept.{kept_port, kept_decl, kept_assign, kept_item, kept_edge, kept_scope, kept_module, kept_external, kept_source}
 
 -- lists whose items are kept
 pub map_same : {X : Type 0} (kept : X → X) (good : X → Bool) → ((x : X) → good x ≡ true → kept x ≡ x) → (xs : List X) → list_all good xs ≡ true → map kept xs ≡ xs
@@ -26,11 +29,10 @@ all_so one other so (x ∷ xs) h =
     let both = and_parts (one x) (list_all one xs) h in
     and_from (other x) (list_all other xs) (so x both.0) (all_so one other so xs both.1)
 
-pub expr_same : (e : PlainExpr) → holds_expr e ≡ true → kept_expr e ≡ e
-expr_same e h = expr_kept e (and_parts (numbers_fit e) (is_flat e) h).0
-
-expr_flat : (e : PlainExpr) → holds_expr e ≡ true → is_flat e ≡ true
-expr_flat e h = (and_parts (numbers_fit e) (is_flat e) h).1
+pub expr_same : (scope : Scope) (e : PlainExpr) → holds_expr e ≡ true → kept_by scope e ≡ e
+expr_same scope e h =
+    let both = and_parts (numbers_fit e) (not (nests_over 128 e)) h in
+    ap (λ t. if t then stand_for (shape_of scope (kept_expr e)) else kept_expr e) (not-true (nests_over 128 e) both.1) ∙ expr_kept e both.0
 
 pub port_same : (p : PlainPort) → holds_port p ≡ true → kept_port p ≡ p
 port_same p h = ap (λ w. record { output = p.output; name = p.name; width = w }) (small_kept p.width h)
@@ -45,41 +47,24 @@ decl_countable (WireOf n w) h = refl
 decl_countable (RegisterOf n w) h = refl
 decl_countable (ArrayOf n w k) h = (and_parts (nat_lt w 256) (nat_lt k 18446744073709551616) h).1
 
-assign_same : (a : PlainAssign) → holds_assign a ≡ true → kept_assign a ≡ a
-assign_same a h = ap (λ v. record { name = a.name; value = v }) (expr_same a.value h)
+assign_same : (scope : Scope) (a : PlainAssign) → holds_assign a ≡ true → kept_assign scope a ≡ a
+assign_same scope a h = ap (λ v. record { name = a.name; value = v }) (expr_same scope a.value h)
 
-assign_flat : (a : PlainAssign) → holds_assign a ≡ true → is_flat_assign a ≡ true
-assign_flat a h = expr_flat a.value h
-
-item_same : (i : PlainItem) → holds_item i ≡ true → kept_item i ≡ i
-item_same (SetTo a) h = ap SetTo (assign_same a h)
-item_same (StoreTo s) h =
+item_same : (scope : Scope) (i : PlainItem) → holds_item i ≡ true → kept_item scope i ≡ i
+item_same scope (SetTo a) h = ap SetTo (assign_same scope a h)
+item_same scope (StoreTo s) h =
     let h2 = and_parts (holds_expr s.guard && holds_expr s.index) (holds_expr s.value) h in
     let h1 = and_parts (holds_expr s.guard) (holds_expr s.index) h2.0 in
-    ap (λ g. StoreTo (record { guard = g; array = s.array; index = kept_expr s.index; value = kept_expr s.value })) (expr_same s.guard h1.0)
-    ∙ ap (λ i. StoreTo (record { guard = s.guard; array = s.array; index = i; value = kept_expr s.value })) (expr_same s.index h1.1)
-    ∙ ap (λ v. StoreTo (record { guard = s.guard; array = s.array; index = s.index; value = v })) (expr_same s.value h2.1)
+    ap (λ g. StoreTo (record { guard = g; array = s.array; index = kept_by scope s.index; value = kept_by scope s.value })) (expr_same scope s.guard h1.0)
+    ∙ ap (λ i. StoreTo (record { guard = s.guard; array = s.array; index = i; value = kept_by scope s.value })) (expr_same scope s.index h1.1)
+    ∙ ap (λ v. StoreTo (record { guard = s.guard; array = s.array; index = s.index; value = v })) (expr_same scope s.value h2.1)
 
-item_flat : (i : PlainItem) → holds_item i ≡ true → is_flat_item i ≡ true
-item_flat (SetTo a) h = assign_flat a h
-item_flat (StoreTo s) h =
-    let h2 = and_parts (holds_expr s.guard && holds_expr s.index) (holds_expr s.value) h in
-    let h1 = and_parts (holds_expr s.guard) (holds_expr s.index) h2.0 in
-    and_from (is_flat s.guard && is_flat s.index) (is_flat s.value) (and_from (is_flat s.guard) (is_flat s.index) (expr_flat s.guard h1.0) (expr_flat s.index h1.1)) (expr_flat s.value h2.1)
-
-edge_same : (e : Option PlainEdge) → holds_edge e ≡ true → option_map kept_edge e ≡ e
-edge_same None h = refl
-edge_same (Some e) h =
+edge_same : (scope : Scope) (e : Option PlainEdge) → holds_edge e ≡ true → option_map (kept_edge scope) e ≡ e
+edge_same scope None h = refl
+edge_same scope (Some e) h =
     let both = and_parts (list_all holds_assign e.reset) (list_all holds_item e.step) h in
-    ap (λ r. Some (record { reset = r; step = map kept_item e.step })) (map_same kept_assign holds_assign assign_same e.reset both.0)
-    ∙ ap (λ s. Some (record { reset = e.reset; step = s })) (map_same kept_item holds_item item_same e.step both.1)
-
-edge_flat : (e : Option PlainEdge) → holds_edge e ≡ true → is_flat_edge e ≡ true
-edge_flat None h = refl
-edge_flat (Some e) h =
-    let both = and_parts (list_all holds_assign e.reset) (list_all holds_item e.step) h in
-    and_from (list_all is_flat_assign e.reset) (list_all is_flat_item e.step)
-    (all_so holds_assign is_flat_assign assign_flat e.reset both.0) (all_so holds_item is_flat_item item_flat e.step both.1)
+    ap (λ r. Some (record { reset = r; step = map (kept_item scope) e.step })) (map_same (kept_assign scope) holds_assign (assign_same scope) e.reset both.0)
+    ∙ ap (λ s. Some (record { reset = e.reset; step = s })) (map_same (kept_item scope) holds_item (item_same scope) e.step both.1)
 
 pub record ModuleHeld (m : PlainModule) : Type 0 where
   pub ports : list_all holds_port m.ports ≡ true
@@ -97,18 +82,14 @@ module_held m h =
 module_same : (m : PlainModule) → holds_module m ≡ true → kept_module m ≡ m
 module_same m h =
     let held = module_held m h in
-    ap (λ ps. record { name = m.name; ports = ps; decls = map kept_decl m.decls; assigns = map kept_assign m.assigns; instances = m.instances; edge = option_map kept_edge m.edge }) (map_same kept_port holds_port port_same m.ports held.ports)
-    ∙ ap (λ ds. record { name = m.name; ports = m.ports; decls = ds; assigns = map kept_assign m.assigns; instances = m.instances; edge = option_map kept_edge m.edge }) (map_same kept_decl holds_decl decl_same m.decls held.decls)
-    ∙ ap (λ xs. record { name = m.name; ports = m.ports; decls = m.decls; assigns = xs; instances = m.instances; edge = option_map kept_edge m.edge }) (map_same kept_assign holds_assign assign_same m.assigns held.assigns)
-    ∙ ap (λ e. record { name = m.name; ports = m.ports; decls = m.decls; assigns = m.assigns; instances = m.instances; edge = e }) (edge_same m.edge held.edge)
+    let scope : Scope = kept_scope m in
+    ap (λ ps. record { name = m.name; ports = ps; decls = map kept_decl m.decls; assigns = map (kept_assign scope) m.assigns; instances = m.instances; edge = option_map (kept_edge scope) m.edge }) (map_same kept_port holds_port port_same m.ports held.ports)
+    ∙ ap (λ ds. record { name = m.name; ports = m.ports; decls = ds; assigns = map (kept_assign scope) m.assigns; instances = m.instances; edge = option_map (kept_edge scope) m.edge }) (map_same kept_decl holds_decl decl_same m.decls held.decls)
+    ∙ ap (λ xs. record { name = m.name; ports = m.ports; decls = m.decls; assigns = xs; instances = m.instances; edge = option_map (kept_edge scope) m.edge }) (map_same (kept_assign scope) holds_assign (assign_same scope) m.assigns held.assigns)
+    ∙ ap (λ e. record { name = m.name; ports = m.ports; decls = m.decls; assigns = m.assigns; instances = m.instances; edge = e }) (edge_same scope m.edge held.edge)
 
 pub module_is_within : (m : PlainModule) → holds_module m ≡ true → module_within m ≡ true
-module_is_within m h =
-    let held = module_held m h in
-    and_from (list_all is_countable m.decls && list_all is_flat_assign m.assigns) (is_flat_edge m.edge)
-    (and_from (list_all is_countable m.decls) (list_all is_flat_assign m.assigns)
-    (all_so holds_decl is_countable decl_countable m.decls held.decls) (all_so holds_assign is_flat_assign assign_flat m.assigns held.assigns))
-    (edge_flat m.edge held.edge)
+module_is_within m h = all_so holds_decl is_countable decl_countable m.decls (module_held m h).decls
 
 size_same : (k : ℕ) → nat_lt k 18446744073709551616 ≡ true → kept_size k ≡ k
 size_same k h = ap (λ b. if b then k else 0) h

@@ -12,6 +12,8 @@ pub mod SoundHeld
 pub mod HeldSources
 pub mod Alike
 pub mod KeptExprs
+pub mod GoodWidths
+pub mod KeptDeep
 pub mod KeptLines
 pub mod KeptModules
 pub mod KeptSources

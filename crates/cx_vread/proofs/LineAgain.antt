@@ -10,13 +10,14 @@ use Rattle.cx_vtree.specs.Spelling.{port_lines}
 use Rattle.cx_vread_exprs.specs.Places as places
 use Rattle.cx_vread_exprs.specs.Places.{Place, Reads, unfit, then_reads, then_at, begins, many}
 use Rattle.cx_vread_exprs.specs.Tokens.{kept_small, name_at, capped, no_more, one_more, bounds_at, length_at}
-use Rattle.cx_vread.specs.Within.{is_flat, is_countable, is_flat_assign}
+use Rattle.cx_vread.specs.Within.{is_countable}
 use Rattle.cx_vread.proofs.Kept.{kept_port, kept_decl, kept_assign}
-use Rattle.cx_vread_exprs.proofs.Kept.{kept_expr}
+use Rattle.cx_vread_exprs.proofs.Kept.{kept_by}
 use Rattle.cx_vread_exprs.proofs.Numerals.{capped_some, capped_none}
-use Rattle.cx_vtree.specs.Sound.{nests_over}
+use Rattle.cx_vtree.specs.Sound.{Scope}
 use Rattle.cx_vread.specs.Parts.{port_by, port_at, next_port_at, more_ports_at, ports_at, register_by, decl_at, is_decl, decls_at, assigned_by, assign_at, assigns_at}
-use Rattle.cx_vread_exprs.proofs.ExprAgain.{closed, name_again, whole_again}
+use Rattle.cx_vread_exprs.proofs.ExprAgain.{closed, name_again}
+use Rattle.cx_vread_exprs.proofs.WholeExprs.{whole_again}
 use Rattle.cx_vread.proofs.ManyAgain.{joined_text, Again, all_again, lines_joined, Anything}
 use Rattle.cx_vread_exprs.proofs.NumberAgain.{clean, number_again}
 use Rattle.cx_vread_exprs.proofs.Spans.{Stops}
@@ -188,44 +189,34 @@ pub decls_again : (ds : List PlainDecl) (z : List ℕ) → list_all decl_fits ds
 decls_again ds z f h stops =
     ap (λ t. decls_at (clean (t ++ z))) (lines_joined DeclLine ds) ∙ all_again decls_so ds z (good_decls ds f h) tt stops
 
--- the end of the line of an assign
-pub assigned_again : (n : List ℕ) (e : PlainExpr) (y : List ℕ) → expr_fits e ≡ true → is_flat e ≡ true
-    → assigned_by n (clean (expr_text e ++ (codes ";\n" ++ y))) ≡ Some (record { name = n; value = kept_expr e }, clean y)
-assigned_again n e y f h =
-    ap (λ r. then_reads r (λ e q. then_at (places.after (codes ";\n") q) (λ r. Some (record { name = n; value = e }, r)))) (whole_again e (codes ";\n" ++ y) f (not-true (nests_over 128 e) h) (closed 59 _ refl refl))
+-- Assigns.
+module _ (scope : Scope) where
+  -- the end of the line
+  pub assigned_again : (n : List ℕ) (e : PlainExpr) (y : List ℕ) → expr_fits e ≡ true
+      → assigned_by scope n (clean (expr_text e ++ (codes ";\n" ++ y))) ≡ Some (record { name = n; value = kept_by scope e }, clean y)
+  assigned_again n e y f =
+      ap (λ r. then_reads r (λ e q. then_at (places.after (codes ";\n") q) (λ r. Some (record { name = n; value = e }, r)))) (whole_again scope e (codes ";\n" ++ y) f (closed 59 _ refl refl))
 
-abbrev assign_text_of : PlainAssign → List ℕ
-assign_text_of a = line_text (AssignLine a) ++ codes "\n"
+  abbrev assign_text_of : PlainAssign → List ℕ
+  assign_text_of a = line_text (AssignLine a) ++ codes "\n"
 
-abbrev pub good_assign : PlainAssign → Bool
-good_assign a = assign_fits a && is_flat_assign a
+  assign_again : (n : List ℕ) (e : PlainExpr) (y : List ℕ) → is_name n ≡ true → expr_fits e ≡ true
+      → assign_at scope (clean (codes "  assign " ++ (n ++ (codes " = " ++ (expr_text e ++ (codes ";\n" ++ y)))))) ≡ Some (record { name = n; value = kept_by scope e }, clean y)
+  assign_again n e y f g =
+      ap (λ r. then_reads r (λ n r. then_at (places.after (codes " = ") r) (assigned_by scope n))) (name_again n (codes " = " ++ (expr_text e ++ (codes ";\n" ++ y))) f refl)
+      ∙ assigned_again n e y g
 
-assign_again : (n : List ℕ) (e : PlainExpr) (y : List ℕ) → is_name n ≡ true → expr_fits e ≡ true → is_flat e ≡ true
-    → assign_at (clean (codes "  assign " ++ (n ++ (codes " = " ++ (expr_text e ++ (codes ";\n" ++ y)))))) ≡ Some (record { name = n; value = kept_expr e }, clean y)
-assign_again n e y f g h =
-    ap (λ r. then_reads r (λ n r. then_at (places.after (codes " = ") r) (assigned_by n))) (name_again n (codes " = " ++ (expr_text e ++ (codes ";\n" ++ y))) f refl)
-    ∙ assigned_again n e y g h
+  assigns_so : Again (begins (codes "  assign ")) (assign_at scope) (kept_assign scope) assign_text_of assign_fits Anything
+  assigns_so = record {
+    starts_so = λ a y h. refl;
+    reads_so = λ a y h ends.
+        let fits = and_parts (is_name a.name) (expr_fits a.value) h in
+        let e : assign_text_of a ++ y ≡ codes "  assign " ++ (a.name ++ (codes " = " ++ (expr_text a.value ++ (codes ";\n" ++ y)))) = simp append_assoc in
+        ap (λ t. assign_at scope (clean t)) e ∙ assign_again a.name a.value y fits.0 fits.1;
+    follows_so = λ a y h. tt;
+    some_text = λ a h. omega arith;
+  }
 
-assigns_so : Again (begins (codes "  assign ")) assign_at kept_assign assign_text_of good_assign Anything
-assigns_so = record {
-  starts_so = λ a y h. refl;
-  reads_so = λ a y h ends.
-      let parts = and_parts (assign_fits a) (is_flat_assign a) h in
-      let fits = and_parts (is_name a.name) (expr_fits a.value) parts.0 in
-      let e : assign_text_of a ++ y ≡ codes "  assign " ++ (a.name ++ (codes " = " ++ (expr_text a.value ++ (codes ";\n" ++ y)))) = simp append_assoc in
-      ap (λ t. assign_at (clean t)) e ∙ assign_again a.name a.value y fits.0 fits.1 parts.1;
-  follows_so = λ a y h. tt;
-  some_text = λ a h. omega arith;
-}
-
-pub good_assigns : (xs : List PlainAssign) → list_all assign_fits xs ≡ true → list_all is_flat_assign xs ≡ true → list_all good_assign xs ≡ true
-good_assigns [] f h = refl
-good_assigns (a ∷ xs) f h =
-    let fit = and_parts (assign_fits a) (list_all assign_fits xs) f in
-    let held = and_parts (is_flat_assign a) (list_all is_flat_assign xs) h in
-    ap (λ b. b && list_all good_assign xs) (ap (λ b. b && is_flat_assign a) fit.0 ∙ held.0) ∙ good_assigns xs fit.1 held.1
-
-pub assigns_again : (xs : List PlainAssign) (z : List ℕ) → list_all assign_fits xs ≡ true → list_all is_flat_assign xs ≡ true → begins (codes "  assign ") (clean z) ≡ false
-    → assigns_at (clean (lines_text (map AssignLine xs) ++ z)) ≡ Some (map kept_assign xs, clean z)
-assigns_again xs z f h stops =
-    ap (λ t. assigns_at (clean (t ++ z))) (lines_joined AssignLine xs) ∙ all_again assigns_so xs z (good_assigns xs f h) tt stops
+  pub assigns_again : (xs : List PlainAssign) (z : List ℕ) → list_all assign_fits xs ≡ true → begins (codes "  assign ") (clean z) ≡ false
+      → assigns_at scope (clean (lines_text (map AssignLine xs) ++ z)) ≡ Some (map (kept_assign scope) xs, clean z)
+  assigns_again xs z f stops = ap (λ t. assigns_at scope (clean (t ++ z))) (lines_joined AssignLine xs) ∙ all_again assigns_so xs z f tt stops

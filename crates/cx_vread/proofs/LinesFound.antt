@@ -8,13 +8,15 @@ use Rattle.cx_vtree.specs.Layout.{is_name, is_word, expr_fits, port_fits, decl_f
 use Rattle.cx_vtree.specs.Spelling.{port_lines}
 use Rattle.cx_vtree.specs.Lines.{decimal_text, expr_text, bounds_text, side_text, sizes_text, ExternalLine, DeclLine, AssignLine, line_text, lines_text}
 use Rattle.cx_vtree.specs.Plain.{PlainExpr, PlainPort, PlainDecl, WireOf, RegisterOf, ArrayOf, PlainAssign, PlainExternal}
+use Rattle.cx_vtree.specs.Sound.{Scope}
 use Rattle.cx_vread_exprs.specs.Places.{Place, Reads, unfit, then_reads, then_at, after, begins, many}
 use Rattle.cx_vread_exprs.specs.Tokens.{kept_small, kept_size, word_at, name_at, number_at, capped, no_more, one_more, size_of, small_at, size_at, length_at, bounds_at}
-use Rattle.cx_vread_exprs.specs.Exprs.{whole_expr_at}
+use Rattle.cx_vread_exprs.specs.Deep.{whole_expr_at}
 use Rattle.cx_vread_exprs.proofs.Found.{ends, Stands, WordFound, then_reads_some, step_at, word_found, name_found}
-use Rattle.cx_vread_exprs.proofs.ExprFound.{whole_found}
+use Rattle.cx_vread_exprs.proofs.ExprAgain.{Ends, closed}
+use Rattle.cx_vread_exprs.proofs.WholeExprs.{whole_found}
 use Rattle.cx_vread_exprs.proofs.SignsFound.{number_found, small_found}
-use Rattle.cx_vread.specs.Within.{is_flat, is_countable, is_flat_assign}
+use Rattle.cx_vread.specs.Within.{is_countable}
 use Rattle.cx_vread.specs.Parts.{more_size_at, sizes_at, external_by, external_at, port_by, port_at, next_port_at, more_ports_at, ports_at, array_by, register_by, register_at, wire_at, decl_at, assigned_by, assign_at}
 use Rattle.cx_vread.proofs.LinePieces.{sizes_pieces, external_pieces, bounds_pieces, port_pieces, wire_pieces, register_pieces, array_pieces, assign_pieces}
 use Rattle.cx_vread.proofs.Kept.{kept_port, kept_decl, kept_assign, kept_external}
@@ -328,47 +330,42 @@ decl_found p d q is ok = go (begins (codes "  reg ") p) is
     go false is = let s = step_at (codes "  wire ") p d q wire_at is in wire_found p s.0 d q s.1 s.2 ok
 
 -- Assigns.
-pub record ValueFound (p : Place) (n : List ℕ) (a : PlainAssign) (q : Place) : Type 0 where
-  pub value : PlainExpr
-  pub text_is : p.rest ≡ expr_text value ++ (codes ";\n" ++ q.rest)
-  pub fits_is : p.fits ≡ true
-  pub kept_is : kept_assign (record { name = n; value = value }) ≡ a
-  pub laid : expr_fits value ≡ true
-  pub flat : is_flat value ≡ true
-
-pub assigned_found : (n : List ℕ) (p : Place) (a : PlainAssign) (q : Place) → assigned_by n p ≡ Some (a, q) → q.fits ≡ true → ValueFound p n a q
-assigned_found n p a q is ok =
-    let s1 = then_reads_some (whole_expr_at p) a q (λ e q. then_at (after (codes ";\n") q) (λ r. Some (record { name = n; value = e }, r))) is in
-    let s2 = step_at (codes ";\n") s1.1 a q (λ r. Some (record { name = n; value = s1.0 }, r)) s1.3 in
-    let both = ends a q (record { name = n; value = s1.0 }) s2.0 s2.2 in
-    let e = whole_found p s1.0 s1.1 s1.2 (s2.1.fits_is ∙ ap (λ q. q.fits) both.1 ∙ ok) in
-    record {
-      value = e.one;
-      text_is = e.text_is ∙ ap (λ t. expr_text e.one ++ t) (s2.1.text_is ∙ ap (λ q. codes ";\n" ++ q.rest) both.1);
-      fits_is = e.fits_is;
-      kept_is = ap (λ v. record { name = n; value = v }) e.kept_is ∙ both.0;
-      laid = e.laid;
-      flat = ap not e.flat;
-    }
-
-abbrev pub good_assign : PlainAssign → Bool
-good_assign a = assign_fits a && is_flat_assign a
-
 abbrev pub assign_text_of : PlainAssign → List ℕ
 assign_text_of a = line_text (AssignLine a) ++ codes "\n"
 
-pub assign_found : FindsBy kept_assign assign_text_of good_assign assign_at
-assign_found p a q is ok =
-    let s1 = step_at (codes "  assign ") p a q (λ q. then_reads (name_at q) (λ n r. then_at (after (codes " = ") r) (assigned_by n))) is in
-    let s2 = then_reads_some (name_at s1.0) a q (λ n r. then_at (after (codes " = ") r) (assigned_by n)) s1.2 in
-    let s3 = step_at (codes " = ") s2.1 a q (assigned_by s2.0) s2.3 in
-    let n = name_found s1.0 s2.0 s2.1 s2.2 in
-    let v = assigned_found s2.0 s3.0 a q s3.2 ok in
-    let own : PlainAssign = record { name = s2.0; value = v.value } in
-    record {
-      one = own;
-      text_is = s1.1.text_is ∙ ap (λ t. codes "  assign " ++ t) (n.stands.text_is ∙ ap (λ t. s2.0 ++ t) (s3.1.text_is ∙ ap (λ t. codes " = " ++ t) v.text_is)) ∙ sym (assign_pieces s2.0 (expr_text v.value) q.rest);
-      fits_is = s1.1.fits_is ∙ n.stands.fits_is ∙ s3.1.fits_is ∙ v.fits_is;
-      kept_is = v.kept_is;
-      good_is = and_from (is_name s2.0 && expr_fits v.value) (is_flat v.value) (and_from (is_name s2.0) (expr_fits v.value) n.passes v.laid) v.flat;
-    }
+module _ (scope : Scope) where
+  pub record ValueFound (p : Place) (n : List ℕ) (a : PlainAssign) (q : Place) : Type 0 where
+    pub value : PlainExpr
+    pub text_is : p.rest ≡ expr_text value ++ (codes ";\n" ++ q.rest)
+    pub fits_is : p.fits ≡ true
+    pub kept_is : kept_assign scope (record { name = n; value = value }) ≡ a
+    pub laid : expr_fits value ≡ true
+
+  pub assigned_found : (n : List ℕ) (p : Place) (a : PlainAssign) (q : Place) → assigned_by scope n p ≡ Some (a, q) → q.fits ≡ true → ValueFound p n a q
+  assigned_found n p a q is ok =
+      let s1 = then_reads_some (whole_expr_at scope p) a q (λ e q. then_at (after (codes ";\n") q) (λ r. Some (record { name = n; value = e }, r))) is in
+      let s2 = step_at (codes ";\n") s1.1 a q (λ r. Some (record { name = n; value = s1.0 }, r)) s1.3 in
+      let both = ends a q (record { name = n; value = s1.0 }) s2.0 s2.2 in
+      let e = whole_found scope p s1.0 s1.1 s1.2 (s2.1.fits_is ∙ ap (λ q. q.fits) both.1 ∙ ok) (subst Ends (sym s2.1.text_is) (closed 59 _ refl refl)) in
+      record {
+        value = e.one;
+        text_is = e.text_is ∙ ap (λ t. expr_text e.one ++ t) (s2.1.text_is ∙ ap (λ q. codes ";\n" ++ q.rest) both.1);
+        fits_is = e.fits_is;
+        kept_is = ap (λ v. record { name = n; value = v }) e.kept_is ∙ both.0;
+        laid = e.laid;
+      }
+
+  pub assign_found : FindsBy (kept_assign scope) assign_text_of assign_fits (assign_at scope)
+  assign_found p a q is ok =
+      let s1 = step_at (codes "  assign ") p a q (λ q. then_reads (name_at q) (λ n r. then_at (after (codes " = ") r) (assigned_by scope n))) is in
+      let s2 = then_reads_some (name_at s1.0) a q (λ n r. then_at (after (codes " = ") r) (assigned_by scope n)) s1.2 in
+      let s3 = step_at (codes " = ") s2.1 a q (assigned_by scope s2.0) s2.3 in
+      let n = name_found s1.0 s2.0 s2.1 s2.2 in
+      let v = assigned_found s2.0 s3.0 a q s3.2 ok in
+      record {
+        one = record { name = s2.0; value = v.value };
+        text_is = s1.1.text_is ∙ ap (λ t. codes "  assign " ++ t) (n.stands.text_is ∙ ap (λ t. s2.0 ++ t) (s3.1.text_is ∙ ap (λ t. codes " = " ++ t) v.text_is)) ∙ sym (assign_pieces s2.0 (expr_text v.value) q.rest);
+        fits_is = s1.1.fits_is ∙ n.stands.fits_is ∙ s3.1.fits_is ∙ v.fits_is;
+        kept_is = v.kept_is;
+        good_is = and_from (is_name s2.0) (expr_fits v.value) n.passes v.laid;
+      }

@@ -39,7 +39,7 @@ parts_of n w l h =
     let r = or_parts n w q.0 in
     record { name = r.0; width = r.1; limit = q.1 }
 
-small_width : (w : ℕ) → bad_width w ≡ false → w ≤ 128
+pub small_width : (w : ℕ) → bad_width w ≡ false → w ≤ 128
 small_width w h = ltb-false 128 w (or_parts (w == 0) (nat_lt 128 w) h).1
 
 below_256 : (w : ℕ) → bad_width w ≡ false → nat_lt w 256 ≡ true
@@ -158,7 +158,7 @@ numbers_held scope small (Joined a b) m f =
 not_zero : (l m : ℕ) → (l == 0) ≡ false → l ≤ m → (m == 0) ≡ false
 not_zero l m h le = let ne : l ≢ 0 = eqb-false l 0 h in ne_eqb m 0 (λ e. absurd (ne (omega arith)))
 
-deeper : (l m : ℕ) (e : PlainExpr) → l ≤ m → nests_over l e ≡ false → nests_over m e ≡ false
+pub deeper : (l m : ℕ) (e : PlainExpr) → l ≤ m → nests_over l e ≡ false → nests_over m e ≡ false
 deeper l m (Named n) le h = refl
 deeper l m (Number b) le h = refl
 deeper l m (Part n high low) le h = refl

@@ -1,21 +1,22 @@
 -- A source that is spelled is read.
 use Rattle.std.proofs.Common.{◌≡◌, ℕ, ◌<◌, not, Bool, true, false, ◌&&◌, List, [], ◌∷◌, ◌++◌, map, length, Option, Some, None, refl, ◌∙◌, ap, sym, arith, append_assoc, append-nil}
-use Rattle.std.specs.Prelude.{codes, nat_lt}
+use Rattle.std.specs.Prelude.{codes, nat_lt, option_map}
 use Rattle.std.specs.List.{list_all}
 use Rattle.std.proofs.lemmas.Bool.{and_parts, ltb-true, ne_eqb}
 use Rattle.cx_vtree.specs.Layout.{is_name, port_fits, decl_fits, assign_fits, instance_fits, edge_fits, module_fits, external_fits, is_laid_out}
 use Rattle.cx_vtree.specs.Lines.{ExternalLine, DeclLine, AssignLine, InstanceLine, lines_text}
 use Rattle.cx_vtree.specs.Plain.{PlainPort, PlainAssign, PlainInstance, PlainEdge, PlainModule, PlainExternal, PlainSource}
+use Rattle.cx_vtree.specs.Sound.{Scope, meant_in}
 use Rattle.cx_vtree.specs.Spelling.{port_lines, edge_lines, module_lines, modules_lines, text_of}
 use Rattle.cx_vwrite.specs.Pieces.{modules_text}
 use Rattle.cx_vwrite.proofs.LinesText.{lines_text_append, whole_text, modules_text-lines}
 use Rattle.cx_vread_exprs.specs.Places as places
 use Rattle.cx_vread_exprs.specs.Places.{Place, Reads, then_reads, then_at, begins, many}
 use Rattle.cx_vread.specs.Held.{is_held}
-use Rattle.cx_vread.specs.Within.{is_countable, is_flat_assign, is_flat_edge, module_within, is_within}
-use Rattle.cx_vread.proofs.Kept.{kept_port, kept_decl, kept_assign, kept_module, kept_external, kept_source}
+use Rattle.cx_vread.specs.Within.{module_within, is_within}
+use Rattle.cx_vread.proofs.Kept.{kept_port, kept_decl, kept_assign, kept_edge, kept_scope, kept_module, kept_external, kept_source}
 use Rattle.cx_vread.proofs.KeptSame.{held_within, held_kept}
-use Rattle.cx_vread.specs.Parts.{is_decl, is_instance, ports_at, assigns_at, instances_at, edge_or_none_at, head_at, module_by, module_at, is_left, more_modules_at, modules_at, source_at}
+use Rattle.cx_vread.specs.Parts.{is_decl, is_instance, ports_at, instances_at, edge_or_none_at, head_at, body_at, with_body, module_by, module_at, is_left, more_modules_at, modules_at, source_at}
 use Rattle.cx_vread.proofs.EdgeAgain.{edge_again}
 use Rattle.cx_vread_exprs.proofs.ExprAgain.{name_again}
 use Rattle.cx_vread.proofs.ExternalAgain.{externals_again}
@@ -74,6 +75,21 @@ module_pieces m y =
     ap (λ t. t ++ y) (whole_text m)
     ∙ regroup (codes "module ") m.name (codes "(\n") (lines_text (port_lines m.ports)) (codes ");\n") (lines_text (map DeclLine m.decls)) (lines_text (map AssignLine m.assigns)) (lines_text (map InstanceLine m.instances)) (lines_text (edge_lines m.edge)) (codes "endmodule\n") y
 
+-- the parts behind the declarations, where names have these meanings
+body_again : (scope : Scope) (xs : List PlainAssign) (is : List PlainInstance) (e : Option PlainEdge) (y : List ℕ) → list_all assign_fits xs ≡ true → list_all instance_fits is ≡ true → edge_fits e ≡ true
+    → body_at scope (clean (lines_text (map AssignLine xs) ++ (lines_text (map InstanceLine is) ++ (lines_text (edge_lines e) ++ (codes "endmodule\n" ++ y)))))
+    ≡ Some (record { assigns = map (kept_assign scope) xs; instances = is; edge = option_map (kept_edge scope) e }, clean y)
+body_again scope xs is e y fx fi fe =
+    let z4 : List ℕ = codes "endmodule\n" ++ y in
+    let z3 : List ℕ = lines_text (edge_lines e) ++ z4 in
+    let z2 : List ℕ = lines_text (map InstanceLine is) ++ z3 in
+    ap (λ r. then_reads r (λ xs q. then_reads (instances_at q) (λ is r. then_reads (edge_or_none_at scope r) (λ e s. then_at (places.after (codes "endmodule\n") s) (λ t. Some (record { assigns = xs; instances = is; edge = e }, t))))))
+    (assigns_again scope xs z2 fx (instances-not_assign is e y fi))
+    ∙ ap (λ r. then_reads r (λ is r. then_reads (edge_or_none_at scope r) (λ e s. then_at (places.after (codes "endmodule\n") s) (λ t. Some (record { assigns = map (kept_assign scope) xs; instances = is; edge = e }, t)))))
+    (instances_again is z3 fi (edge-not_instance e y))
+    ∙ ap (λ r. then_reads r (λ e s. then_at (places.after (codes "endmodule\n") s) (λ t. Some (record { assigns = map (kept_assign scope) xs; instances = is; edge = e }, t))))
+    (edge_again scope e z4 fe refl)
+
 module_again : (m : PlainModule) (y : List ℕ) → module_fits m ≡ true → module_within m ≡ true → module_at (clean (lines_text (module_lines m) ++ y)) ≡ Some (kept_module m, clean y)
 module_again m y f h =
     let f6 = and_parts (is_name m.name && nat_lt 0 (length m.ports) && list_all port_fits m.ports && list_all decl_fits m.decls && list_all assign_fits m.assigns && list_all instance_fits m.instances) (edge_fits m.edge) f in
@@ -82,22 +98,14 @@ module_again m y f h =
     let f3 = and_parts (is_name m.name && nat_lt 0 (length m.ports) && list_all port_fits m.ports) (list_all decl_fits m.decls) f4.0 in
     let f2 = and_parts (is_name m.name && nat_lt 0 (length m.ports)) (list_all port_fits m.ports) f3.0 in
     let f1 = and_parts (is_name m.name) (nat_lt 0 (length m.ports)) f2.0 in
-    let h2 = and_parts (list_all is_countable m.decls && list_all is_flat_assign m.assigns) (is_flat_edge m.edge) h in
-    let h1 = and_parts (list_all is_countable m.decls) (list_all is_flat_assign m.assigns) h2.0 in
-    let z4 : List ℕ = codes "endmodule\n" ++ y in
-    let z3 : List ℕ = lines_text (edge_lines m.edge) ++ z4 in
-    let z2 : List ℕ = lines_text (map InstanceLine m.instances) ++ z3 in
+    let z2 : List ℕ = lines_text (map InstanceLine m.instances) ++ (lines_text (edge_lines m.edge) ++ (codes "endmodule\n" ++ y)) in
     let z1 : List ℕ = lines_text (map AssignLine m.assigns) ++ z2 in
+    let h0 : List ℕ × List PlainPort = (m.name, map kept_port m.ports) in
     ap (λ t. module_at (clean t)) (module_pieces m y)
     ∙ ap (λ r. then_reads r module_by) (head_again m.name m.ports (lines_text (map DeclLine m.decls) ++ z1) f1.0 (ltb-true 0 (length m.ports) f1.1) f2.1)
-    ∙ ap (λ r. then_reads r (λ ds q. then_reads (assigns_at q) (λ assigns r. then_reads (instances_at r) (λ is s. then_reads (edge_or_none_at s) (λ e t. then_at (places.after (codes "endmodule\n") t) (λ u. Some (record { name = m.name; ports = map kept_port m.ports; decls = ds; assigns = assigns; instances = is; edge = e }, u)))))))
-    (decls_again m.decls z1 f3.1 h1.0 (assigns-not_decl m.assigns z2 (instances-not_decl m.instances m.edge y f5.1)))
-    ∙ ap (λ r. then_reads r (λ assigns r. then_reads (instances_at r) (λ is s. then_reads (edge_or_none_at s) (λ e t. then_at (places.after (codes "endmodule\n") t) (λ u. Some (record { name = m.name; ports = map kept_port m.ports; decls = map kept_decl m.decls; assigns = assigns; instances = is; edge = e }, u))))))
-    (assigns_again m.assigns z2 f4.1 h1.1 (instances-not_assign m.instances m.edge y f5.1))
-    ∙ ap (λ r. then_reads r (λ is s. then_reads (edge_or_none_at s) (λ e t. then_at (places.after (codes "endmodule\n") t) (λ u. Some (record { name = m.name; ports = map kept_port m.ports; decls = map kept_decl m.decls; assigns = map kept_assign m.assigns; instances = is; edge = e }, u)))))
-    (instances_again m.instances z3 f5.1 (edge-not_instance m.edge y))
-    ∙ ap (λ r. then_reads r (λ e t. then_at (places.after (codes "endmodule\n") t) (λ u. Some (record { name = m.name; ports = map kept_port m.ports; decls = map kept_decl m.decls; assigns = map kept_assign m.assigns; instances = m.instances; edge = e }, u))))
-    (edge_again m.edge z4 f6.1 h2.1 refl)
+    ∙ ap (λ r. then_reads r (λ ds q. then_reads (body_at (meant_in h0.1 ds) q) (λ b r. Some (with_body h0 ds b, r))))
+    (decls_again m.decls z1 f3.1 h (assigns-not_decl m.assigns z2 (instances-not_decl m.instances m.edge y f5.1)))
+    ∙ ap (λ r. then_reads r (λ b r. Some (with_body h0 (map kept_decl m.decls) b, r))) (body_again (kept_scope m) m.assigns m.instances m.edge y f4.1 f5.1 f6.1)
 
 abbrev module_text_of : PlainModule → List ℕ
 module_text_of m = lines_text (module_lines m)

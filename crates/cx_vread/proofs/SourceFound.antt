@@ -7,13 +7,14 @@ use Rattle.std.proofs.lemmas.List.{map-id}
 use Rattle.cx_vtree.specs.Layout.{is_name, port_fits, decl_fits, assign_fits, instance_fits, edge_fits, module_fits, external_fits, is_laid_out}
 use Rattle.cx_vtree.specs.Lines.{Line, ExternalLine, DeclLine, AssignLine, InstanceLine, line_text, lines_text}
 use Rattle.cx_vtree.specs.Plain.{PlainPort, PlainDecl, PlainAssign, PlainInstance, PlainEdge, PlainModule, PlainSource}
+use Rattle.cx_vtree.specs.Sound.{Scope, meant_in}
 use Rattle.cx_vtree.specs.Spelling.{port_lines, edge_lines, module_lines, text_of}
 use Rattle.cx_vwrite.specs.Pieces.{modules_text}
 use Rattle.cx_vread_exprs.specs.Places.{Place, then_reads, then_at, after, begins}
 use Rattle.cx_vread_exprs.specs.Tokens.{name_at}
 use Rattle.cx_vread_exprs.proofs.Found.{ends, then_reads_some, step_at, name_found}
-use Rattle.cx_vread.specs.Within.{is_countable, is_flat_assign, is_flat_edge, module_within, is_within}
-use Rattle.cx_vread.specs.Parts.{externals_at, external_at, ports_at, is_decl, decl_at, decls_at, assign_at, assigns_at, is_instance, instance_at, instances_at, edge_or_none_at, head_at, module_by, module_at, is_left, more_modules_at, modules_at, source_at}
+use Rattle.cx_vread.specs.Within.{is_countable, module_within, is_within}
+use Rattle.cx_vread.specs.Parts.{externals_at, external_at, ports_at, is_decl, decl_at, decls_at, assign_at, assigns_at, is_instance, instance_at, instances_at, edge_or_none_at, head_at, PlainBody, body_at, with_body, module_by, module_at, is_left, more_modules_at, modules_at, source_at}
 use Rattle.cx_vread.proofs.Kept.{kept_port, kept_decl, kept_assign, kept_edge, kept_module, kept_source}
 use Rattle.cx_vread.proofs.ManyAgain.{joined_text, lines_joined}
 use Rattle.cx_vread.proofs.SourceAgain.{module_pieces, modules_joined, source_text}
@@ -36,19 +37,57 @@ record BodyFound (n : List ℕ) (ps : List PlainPort) (p : Place) (y : PlainModu
   kept_is : (ports : List PlainPort) → map kept_port ports ≡ ps → kept_module (one ports) ≡ y
   good_is : (ports : List PlainPort) → is_name n ≡ true → nat_lt 0 (length ports) ≡ true → list_all port_fits ports ≡ true → good_module (one ports) ≡ true
 
+abbrev body_of : List PlainAssign → List PlainInstance → Option PlainEdge → PlainBody
+body_of xs is e = record { assigns = xs; instances = is; edge = e }
+
+same_body : (xs ys : List PlainAssign) (is js : List PlainInstance) (e f : Option PlainEdge) (b : PlainBody)
+    → xs ≡ ys → is ≡ js → e ≡ f → body_of ys js f ≡ b → body_of xs is e ≡ b
+same_body xs ys is js e f b p q r h = ap (λ xs. body_of xs is e) p ∙ ap (λ is. body_of ys is e) q ∙ ap (body_of ys js) r ∙ h
+
 abbrev made : List ℕ → List PlainPort → List PlainDecl → List PlainAssign → List PlainInstance → Option PlainEdge → PlainModule
 made n ps ds xs is e = record { name = n; ports = ps; decls = ds; assigns = xs; instances = is; edge = e }
-
-made_same : (n : List ℕ) (ps : List PlainPort) (ds es : List PlainDecl) (xs ys : List PlainAssign) (is js : List PlainInstance) (e f : Option PlainEdge) (m : PlainModule)
-    → ds ≡ es → xs ≡ ys → is ≡ js → e ≡ f → made n ps es ys js f ≡ m → made n ps ds xs is e ≡ m
-made_same n ps ds es xs ys is js e f m a b c d h = ap (λ ds. made n ps ds xs is e) a ∙ ap (λ xs. made n ps es xs is e) b ∙ ap (λ is. made n ps es ys is e) c ∙ ap (made n ps es ys js) d ∙ h
 
 -- lines of one kind, and texts one behind the other
 lines_there : {X : Type 0} (line : X → Line) (xs : List X) (p r : List ℕ) → p ≡ joined_text (λ x. line_text (line x) ++ codes "\n") xs ++ r → p ≡ lines_text (map line xs) ++ r
 lines_there line xs p r e = e ∙ ap (λ t. t ++ r) (sym (lines_joined line xs))
 
-chained : (p p1 p2 p3 p4 q d a i e m : List ℕ) → p ≡ d ++ p1 → p1 ≡ a ++ p2 → p2 ≡ i ++ p3 → p3 ≡ e ++ p4 → p4 ≡ m ++ q → p ≡ d ++ (a ++ (i ++ (e ++ (m ++ q))))
-chained p p1 p2 p3 p4 q d a i e m f g h k l = f ∙ ap (λ t. d ++ t) (g ∙ ap (λ t. a ++ t) (h ∙ ap (λ t. i ++ t) (k ∙ ap (λ t. e ++ t) l)))
+chained : (p p2 p3 p4 q a i e m : List ℕ) → p ≡ a ++ p2 → p2 ≡ i ++ p3 → p3 ≡ e ++ p4 → p4 ≡ m ++ q → p ≡ a ++ (i ++ (e ++ (m ++ q)))
+chained p p2 p3 p4 q a i e m g h k l = g ∙ ap (λ t. a ++ t) (h ∙ ap (λ t. i ++ t) (k ∙ ap (λ t. e ++ t) l))
+
+-- the parts behind the declarations, where names have these meanings
+record TailFound (scope : Scope) (p : Place) (b : PlainBody) (q : Place) : Type 0 where
+  assigns : List PlainAssign
+  instances : List PlainInstance
+  edge : Option PlainEdge
+  text_is : p.rest ≡ lines_text (map AssignLine assigns) ++ (lines_text (map InstanceLine instances) ++ (lines_text (edge_lines edge) ++ (codes "endmodule\n" ++ q.rest)))
+  fits_is : p.fits ≡ true
+  kept_is : body_of (map (kept_assign scope) assigns) instances (option_map (kept_edge scope) edge) ≡ b
+  good_assigns : list_all assign_fits assigns ≡ true
+  good_instances : list_all instance_fits instances ≡ true
+  edge_laid : edge_fits edge ≡ true
+
+tail_found : (scope : Scope) (p : Place) (b : PlainBody) (q : Place) → body_at scope p ≡ Some (b, q) → q.fits ≡ true → TailFound scope p b q
+tail_found scope p b q is ok =
+    let s2 = then_reads_some (assigns_at scope p) b q (λ xs r. then_reads (instances_at r) (λ is s. then_reads (edge_or_none_at scope s) (λ e t. then_at (after (codes "endmodule\n") t) (λ u. Some (body_of xs is e, u))))) is in
+    let s3 = then_reads_some (instances_at s2.1) b q (λ is s. then_reads (edge_or_none_at scope s) (λ e t. then_at (after (codes "endmodule\n") t) (λ u. Some (body_of s2.0 is e, u)))) s2.3 in
+    let s4 = then_reads_some (edge_or_none_at scope s3.1) b q (λ e t. then_at (after (codes "endmodule\n") t) (λ u. Some (body_of s2.0 s3.0 e, u))) s3.3 in
+    let s5 = step_at (codes "endmodule\n") s4.1 b q (λ u. Some (body_of s2.0 s3.0 s4.0, u)) s4.3 in
+    let both = ends b q (body_of s2.0 s3.0 s4.0) s5.0 s5.2 in
+    let e = edge_found scope s3.1 s4.0 s4.1 s4.2 (s5.1.fits_is ∙ ap (λ q. q.fits) both.1 ∙ ok) in
+    let is = many_found is_instance instance_at instance_found (length s2.1.rest) s2.1 s3.0 s3.1 s3.2 e.fits_is in
+    let xs = many_found (begins (codes "  assign ")) (assign_at scope) (assign_found scope) (length p.rest) p s2.0 s2.1 s2.2 is.fits_is in
+    record {
+      assigns = xs.all;
+      instances = is.all;
+      edge = e.one;
+      text_is = chained p.rest s2.1.rest s3.1.rest s4.1.rest q.rest (lines_text (map AssignLine xs.all)) (lines_text (map InstanceLine is.all)) (lines_text (edge_lines e.one)) (codes "endmodule\n")
+          (lines_there AssignLine xs.all p.rest s2.1.rest xs.text_is) (lines_there InstanceLine is.all s2.1.rest s3.1.rest is.text_is) e.text_is (s5.1.text_is ∙ ap (λ q. codes "endmodule\n" ++ q.rest) both.1);
+      fits_is = xs.fits_is;
+      kept_is = same_body (map (kept_assign scope) xs.all) s2.0 is.all s3.0 (option_map (kept_edge scope) e.one) s4.0 b xs.kept_is (sym (map-id is.all) ∙ is.kept_is) e.kept_is both.0;
+      good_assigns = xs.good_is;
+      good_instances = is.good_is;
+      edge_laid = e.laid;
+    }
 
 record BodyParts (n : List ℕ) (ps : List PlainPort) (p : Place) (y : PlainModule) (q : Place) : Type 0 where
   decls : List PlainDecl
@@ -57,58 +96,51 @@ record BodyParts (n : List ℕ) (ps : List PlainPort) (p : Place) (y : PlainModu
   edge : Option PlainEdge
   text_is : p.rest ≡ lines_text (map DeclLine decls) ++ (lines_text (map AssignLine assigns) ++ (lines_text (map InstanceLine instances) ++ (lines_text (edge_lines edge) ++ (codes "endmodule\n" ++ q.rest))))
   fits_is : p.fits ≡ true
-  kept_is : made n ps (map kept_decl decls) (map kept_assign assigns) instances (option_map kept_edge edge) ≡ y
+  kept_is : made n ps (map kept_decl decls) (map (kept_assign (meant_in ps (map kept_decl decls))) assigns) instances (option_map (kept_edge (meant_in ps (map kept_decl decls))) edge) ≡ y
   good_decls : list_all (λ d. decl_fits d && is_countable d) decls ≡ true
-  good_assigns : list_all (λ a. assign_fits a && is_flat_assign a) assigns ≡ true
+  good_assigns : list_all assign_fits assigns ≡ true
   good_instances : list_all instance_fits instances ≡ true
   edge_laid : edge_fits edge ≡ true
-  edge_flat : is_flat_edge edge ≡ true
 
 body_parts : (n : List ℕ) (ps : List PlainPort) (p : Place) (y : PlainModule) (q : Place) → module_by (n, ps) p ≡ Some (y, q) → q.fits ≡ true → BodyParts n ps p y q
 body_parts n ps p y q is ok =
-    let s1 = then_reads_some (decls_at p) y q (λ ds q. then_reads (assigns_at q) (λ xs r. then_reads (instances_at r) (λ is s. then_reads (edge_or_none_at s) (λ e t. then_at (after (codes "endmodule\n") t) (λ u. Some (made n ps ds xs is e, u)))))) is in
-    let s2 = then_reads_some (assigns_at s1.1) y q (λ xs r. then_reads (instances_at r) (λ is s. then_reads (edge_or_none_at s) (λ e t. then_at (after (codes "endmodule\n") t) (λ u. Some (made n ps s1.0 xs is e, u))))) s1.3 in
-    let s3 = then_reads_some (instances_at s2.1) y q (λ is s. then_reads (edge_or_none_at s) (λ e t. then_at (after (codes "endmodule\n") t) (λ u. Some (made n ps s1.0 s2.0 is e, u)))) s2.3 in
-    let s4 = then_reads_some (edge_or_none_at s3.1) y q (λ e t. then_at (after (codes "endmodule\n") t) (λ u. Some (made n ps s1.0 s2.0 s3.0 e, u))) s3.3 in
-    let s5 = step_at (codes "endmodule\n") s4.1 y q (λ u. Some (made n ps s1.0 s2.0 s3.0 s4.0, u)) s4.3 in
-    let both = ends y q (made n ps s1.0 s2.0 s3.0 s4.0) s5.0 s5.2 in
-    let e = edge_found s3.1 s4.0 s4.1 s4.2 (s5.1.fits_is ∙ ap (λ q. q.fits) both.1 ∙ ok) in
-    let is = many_found is_instance instance_at instance_found (length s2.1.rest) s2.1 s3.0 s3.1 s3.2 e.fits_is in
-    let xs = many_found (begins (codes "  assign ")) assign_at assign_found (length s1.1.rest) s1.1 s2.0 s2.1 s2.2 is.fits_is in
-    let ds = many_found is_decl decl_at decl_found (length p.rest) p s1.0 s1.1 s1.2 xs.fits_is in
+    let s1 = then_reads_some (decls_at p) y q (λ ds q. then_reads (body_at (meant_in ps ds) q) (λ b r. Some (with_body (n, ps) ds b, r))) is in
+    let s2 = then_reads_some (body_at (meant_in ps s1.0) s1.1) y q (λ b r. Some (with_body (n, ps) s1.0 b, r)) s1.3 in
+    let both = ends y q (with_body (n, ps) s1.0 s2.0) s2.1 s2.3 in
+    let t = tail_found (meant_in ps s1.0) s1.1 s2.0 s2.1 s2.2 (ap (λ q. q.fits) both.1 ∙ ok) in
+    let ds = many_found is_decl decl_at decl_found (length p.rest) p s1.0 s1.1 s1.2 t.fits_is in
     record {
       decls = ds.all;
-      assigns = xs.all;
-      instances = is.all;
-      edge = e.one;
-      text_is = chained p.rest s1.1.rest s2.1.rest s3.1.rest s4.1.rest q.rest (lines_text (map DeclLine ds.all)) (lines_text (map AssignLine xs.all)) (lines_text (map InstanceLine is.all)) (lines_text (edge_lines e.one)) (codes "endmodule\n")
-          (lines_there DeclLine ds.all p.rest s1.1.rest ds.text_is) (lines_there AssignLine xs.all s1.1.rest s2.1.rest xs.text_is) (lines_there InstanceLine is.all s2.1.rest s3.1.rest is.text_is) e.text_is (s5.1.text_is ∙ ap (λ q. codes "endmodule\n" ++ q.rest) both.1);
+      assigns = t.assigns;
+      instances = t.instances;
+      edge = t.edge;
+      text_is = lines_there DeclLine ds.all p.rest s1.1.rest ds.text_is ∙ ap (λ t. lines_text (map DeclLine ds.all) ++ t) (t.text_is
+          ∙ ap (λ q. lines_text (map AssignLine t.assigns) ++ (lines_text (map InstanceLine t.instances) ++ (lines_text (edge_lines t.edge) ++ (codes "endmodule\n" ++ q.rest)))) both.1);
       fits_is = ds.fits_is;
-      kept_is = made_same n ps (map kept_decl ds.all) s1.0 (map kept_assign xs.all) s2.0 is.all s3.0 (option_map kept_edge e.one) s4.0 y ds.kept_is xs.kept_is (sym (map-id is.all) ∙ is.kept_is) e.kept_is both.0;
+      kept_is = ap (λ ds. made n ps ds (map (kept_assign (meant_in ps ds)) t.assigns) t.instances (option_map (kept_edge (meant_in ps ds)) t.edge)) ds.kept_is
+          ∙ ap (with_body (n, ps) s1.0) t.kept_is ∙ both.0;
       good_decls = ds.good_is;
-      good_assigns = xs.good_is;
-      good_instances = is.good_is;
-      edge_laid = e.laid;
-      edge_flat = e.flat;
+      good_assigns = t.good_assigns;
+      good_instances = t.good_instances;
+      edge_laid = t.edge_laid;
     }
 
 body_from : (n : List ℕ) (ps : List PlainPort) (p : Place) (y : PlainModule) (q : Place) → BodyParts n ps p y q → BodyFound n ps p y q
 body_from n ps p y q x =
     let own : List PlainPort → PlainModule = λ ports. made n ports x.decls x.assigns x.instances x.edge in
     let fine_decls = both_pass decl_fits is_countable x.decls x.good_decls in
-    let fine_assigns = both_pass assign_fits is_flat_assign x.assigns x.good_assigns in
     record {
       one = own;
       text_is = λ ports. ap (λ t. codes "module " ++ (n ++ (codes "(\n" ++ (lines_text (port_lines ports) ++ (codes ");\n" ++ t))))) x.text_is ∙ sym (module_pieces (own ports) q.rest);
       fits_is = x.fits_is;
-      kept_is = λ ports kept. ap (λ ps. made n ps (map kept_decl x.decls) (map kept_assign x.assigns) x.instances (option_map kept_edge x.edge)) kept ∙ x.kept_is;
+      kept_is = λ ports kept. ap (λ ps. made n ps (map kept_decl x.decls) (map (kept_assign (meant_in ps (map kept_decl x.decls))) x.assigns) x.instances (option_map (kept_edge (meant_in ps (map kept_decl x.decls))) x.edge)) kept ∙ x.kept_is;
       good_is = λ ports name some fits. and_from (module_fits (own ports)) (module_within (own ports))
           (and_from (is_name n && nat_lt 0 (length ports) && list_all port_fits ports && list_all decl_fits x.decls && list_all assign_fits x.assigns && list_all instance_fits x.instances) (edge_fits x.edge)
           (and_from (is_name n && nat_lt 0 (length ports) && list_all port_fits ports && list_all decl_fits x.decls && list_all assign_fits x.assigns) (list_all instance_fits x.instances)
           (and_from (is_name n && nat_lt 0 (length ports) && list_all port_fits ports && list_all decl_fits x.decls) (list_all assign_fits x.assigns)
           (and_from (is_name n && nat_lt 0 (length ports) && list_all port_fits ports) (list_all decl_fits x.decls)
-          (and_from (is_name n && nat_lt 0 (length ports)) (list_all port_fits ports) (and_from (is_name n) (nat_lt 0 (length ports)) name some) fits) fine_decls.0) fine_assigns.0) x.good_instances) x.edge_laid)
-          (and_from (list_all is_countable x.decls && list_all is_flat_assign x.assigns) (is_flat_edge x.edge) (and_from (list_all is_countable x.decls) (list_all is_flat_assign x.assigns) fine_decls.1 fine_assigns.1) x.edge_flat);
+          (and_from (is_name n && nat_lt 0 (length ports)) (list_all port_fits ports) (and_from (is_name n) (nat_lt 0 (length ports)) name some) fits) fine_decls.0) x.good_assigns) x.good_instances) x.edge_laid)
+          fine_decls.1;
     }
 
 body_found : (n : List ℕ) (ps : List PlainPort) (p : Place) (y : PlainModule) (q : Place) → module_by (n, ps) p ≡ Some (y, q) → q.fits ≡ true → BodyFound n ps p y q

@@ -1,4 +1,5 @@
 pub mod Parts
+pub mod Bodies
 pub mod Held
 pub mod Within
 pub mod LineSteps

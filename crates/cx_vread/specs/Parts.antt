@@ -1,9 +1,10 @@
 -- Reading the lines of a text.
 use Rattle.std.specs.Prelude.{ℕ, ◌==◌, ◌&&◌, ◌||◌, not, Bool, true, false, List, ◌∷◌, length, Option, Some, None, codes, if◌then◌else◌}
+use Rattle.cx_vtree.specs.Sound.{Scope, meant_in}
 use Rattle.cx_vtree.specs.Plain.{PlainExpr, PlainPort, PlainDecl, WireOf, RegisterOf, ArrayOf, PlainAssign, PlainConn, PlainInstance, PlainStore, PlainItem, SetTo, StoreTo, PlainEdge, PlainModule, PlainExternal, PlainSource}
 use Rattle.cx_vread_exprs.specs.Places.{Place, Reads, then_reads, then_at, after, begins, many}
 use Rattle.cx_vread_exprs.specs.Tokens.{word_at, name_at, small_at, size_at, length_at, bounds_at}
-use Rattle.cx_vread_exprs.specs.Exprs.{whole_expr_at}
+use Rattle.cx_vread_exprs.specs.Deep.{whole_expr_at}
 
 -- External memories.
 abbrev pub more_size_at : Place → Reads ℕ
@@ -68,14 +69,14 @@ abbrev pub decls_at : Place → Reads (List PlainDecl)
 decls_at p = many is_decl decl_at (length p.rest) p
 
 -- Assigns.
-abbrev pub assigned_by : List ℕ → Place → Reads PlainAssign
-assigned_by n p = then_reads (whole_expr_at p) (λ e q. then_at (after (codes ";\n") q) (λ r. Some (record { name = n; value = e }, r)))
+abbrev pub assigned_by : Scope → List ℕ → Place → Reads PlainAssign
+assigned_by scope n p = then_reads (whole_expr_at scope p) (λ e q. then_at (after (codes ";\n") q) (λ r. Some (record { name = n; value = e }, r)))
 
-abbrev pub assign_at : Place → Reads PlainAssign
-assign_at p = then_at (after (codes "  assign ") p) (λ q. then_reads (name_at q) (λ n r. then_at (after (codes " = ") r) (assigned_by n)))
+abbrev pub assign_at : Scope → Place → Reads PlainAssign
+assign_at scope p = then_at (after (codes "  assign ") p) (λ q. then_reads (name_at q) (λ n r. then_at (after (codes " = ") r) (assigned_by scope n)))
 
-abbrev pub assigns_at : Place → Reads (List PlainAssign)
-assigns_at p = many (begins (codes "  assign ")) assign_at (length p.rest) p
+abbrev pub assigns_at : Scope → Place → Reads (List PlainAssign)
+assigns_at scope p = many (begins (codes "  assign ")) (assign_at scope) (length p.rest) p
 
 -- Instances.
 abbrev pub conn_at : Place → Reads PlainConn
@@ -107,40 +108,40 @@ abbrev pub instances_at : Place → Reads (List PlainInstance)
 instances_at p = many is_instance instance_at (length p.rest) p
 
 -- Edges.
-abbrev pub set_at : Place → Reads PlainAssign
-set_at p = then_at (after (codes "      ") p) (λ q. then_reads (name_at q) (λ n r. then_at (after (codes " <= ") r) (assigned_by n)))
+abbrev pub set_at : Scope → Place → Reads PlainAssign
+set_at scope p = then_at (after (codes "      ") p) (λ q. then_reads (name_at q) (λ n r. then_at (after (codes " <= ") r) (assigned_by scope n)))
 
 -- a store, from its index on
-abbrev pub store_by : (PlainExpr × List ℕ) → Place → Reads PlainStore
-store_by h p =
-    then_reads (whole_expr_at p) (λ i q. then_at (after (codes "] <= ") q) (λ r. then_reads (whole_expr_at r) (λ v s.
+abbrev pub store_by : Scope → (PlainExpr × List ℕ) → Place → Reads PlainStore
+store_by scope h p =
+    then_reads (whole_expr_at scope p) (λ i q. then_at (after (codes "] <= ") q) (λ r. then_reads (whole_expr_at scope r) (λ v s.
     then_at (after (codes ";\n") s) (λ t. Some (record { guard = h.0; array = h.1; index = i; value = v }, t)))))
 
-abbrev pub store_head_at : Place → Reads (PlainExpr × List ℕ)
-store_head_at p =
-    then_at (after (codes "      if (") p) (λ q. then_reads (whole_expr_at q) (λ g r. then_at (after (codes ") ") r) (λ s. then_reads (name_at s) (λ n t.
+abbrev pub store_head_at : Scope → Place → Reads (PlainExpr × List ℕ)
+store_head_at scope p =
+    then_at (after (codes "      if (") p) (λ q. then_reads (whole_expr_at scope q) (λ g r. then_at (after (codes ") ") r) (λ s. then_reads (name_at s) (λ n t.
     then_at (after (codes "[") t) (λ u. Some ((g, n), u))))))
 
-abbrev pub store_at : Place → Reads PlainItem
-store_at p = then_reads (store_head_at p) (λ h q. then_reads (store_by h q) (λ s r. Some (StoreTo s, r)))
+abbrev pub store_at : Scope → Place → Reads PlainItem
+store_at scope p = then_reads (store_head_at scope p) (λ h q. then_reads (store_by scope h q) (λ s r. Some (StoreTo s, r)))
 
-abbrev pub item_at : Place → Reads PlainItem
-item_at p = if begins (codes "      if (") p then store_at p else then_reads (set_at p) (λ a q. Some (SetTo a, q))
+abbrev pub item_at : Scope → Place → Reads PlainItem
+item_at scope p = if begins (codes "      if (") p then store_at scope p else then_reads (set_at scope p) (λ a q. Some (SetTo a, q))
 
-abbrev pub sets_at : Place → Reads (List PlainAssign)
-sets_at p = many (begins (codes "     ")) set_at (length p.rest) p
+abbrev pub sets_at : Scope → Place → Reads (List PlainAssign)
+sets_at scope p = many (begins (codes "     ")) (set_at scope) (length p.rest) p
 
-abbrev pub items_at : Place → Reads (List PlainItem)
-items_at p = many (begins (codes "     ")) item_at (length p.rest) p
+abbrev pub items_at : Scope → Place → Reads (List PlainItem)
+items_at scope p = many (begins (codes "     ")) (item_at scope) (length p.rest) p
 
-abbrev pub edge_at : Place → Reads PlainEdge
-edge_at p =
-    then_at (after (codes "  always @(posedge clk) begin\n    if (reset) begin\n") p) (λ q. then_reads (sets_at q) (λ sets r.
-    then_at (after (codes "    end else begin\n") r) (λ s. then_reads (items_at s) (λ items t.
+abbrev pub edge_at : Scope → Place → Reads PlainEdge
+edge_at scope p =
+    then_at (after (codes "  always @(posedge clk) begin\n    if (reset) begin\n") p) (λ q. then_reads (sets_at scope q) (λ sets r.
+    then_at (after (codes "    end else begin\n") r) (λ s. then_reads (items_at scope s) (λ items t.
     then_at (after (codes "    end\n  end\n") t) (λ u. Some (record { reset = sets; step = items }, u))))))
 
-abbrev pub edge_or_none_at : Place → Reads (Option PlainEdge)
-edge_or_none_at p = if begins (codes "  always ") p then then_reads (edge_at p) (λ e q. Some (Some e, q)) else Some (None, p)
+abbrev pub edge_or_none_at : Scope → Place → Reads (Option PlainEdge)
+edge_or_none_at scope p = if begins (codes "  always ") p then then_reads (edge_at scope p) (λ e q. Some (Some e, q)) else Some (None, p)
 
 -- Modules.
 abbrev pub head_at : Place → Reads (List ℕ × List PlainPort)
@@ -148,10 +149,23 @@ head_at p =
     then_at (after (codes "module ") p) (λ q. then_reads (name_at q) (λ n r. then_at (after (codes "(\n") r) (λ s.
     then_reads (ports_at s) (λ ps t. Some ((n, ps), t)))))
 
+-- what stands in a module behind its declarations
+pub record PlainBody : Type 0 where
+  pub assigns : List PlainAssign
+  pub instances : List PlainInstance
+  pub edge : Option PlainEdge
+
+-- names have these meanings
+abbrev pub body_at : Scope → Place → Reads PlainBody
+body_at scope p =
+    then_reads (assigns_at scope p) (λ xs q. then_reads (instances_at q) (λ is r. then_reads (edge_or_none_at scope r) (λ e s.
+    then_at (after (codes "endmodule\n") s) (λ t. Some (record { assigns = xs; instances = is; edge = e }, t)))))
+
+abbrev pub with_body : (List ℕ × List PlainPort) → List PlainDecl → PlainBody → PlainModule
+with_body h ds b = record { name = h.0; ports = h.1; decls = ds; assigns = b.assigns; instances = b.instances; edge = b.edge }
+
 abbrev pub module_by : (List ℕ × List PlainPort) → Place → Reads PlainModule
-module_by h p =
-    then_reads (decls_at p) (λ ds q. then_reads (assigns_at q) (λ assigns r. then_reads (instances_at r) (λ is s. then_reads (edge_or_none_at s) (λ e t.
-    then_at (after (codes "endmodule\n") t) (λ u. Some (record { name = h.0; ports = h.1; decls = ds; assigns = assigns; instances = is; edge = e }, u))))))
+module_by h p = then_reads (decls_at p) (λ ds q. then_reads (body_at (meant_in h.1 ds) q) (λ b r. Some (with_body h ds b, r)))
 
 abbrev pub module_at : Place → Reads PlainModule
 module_at p = then_reads (head_at p) module_by

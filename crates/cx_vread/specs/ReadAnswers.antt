@@ -83,7 +83,7 @@ pub record StandsFor (text : List ℕ) (read : PlainSource) : Type 0 where
   pub breaks : option_map told_break (break_of read) ≡ option_map told_break (break_of source)
   pub same : option_map told_break (break_of read) ≡ None → read ≡ source
 
--- the text spells a source in which a line nests more than 128 levels or an array has 2^64 words or more
+-- the text spells a source in which an array has 2^64 words or more
 pub record IsBeyond (text : List ℕ) : Type 0 where
   pub source : PlainSource
   pub spelled : text ≡ text_of source

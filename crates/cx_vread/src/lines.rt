@@ -2,12 +2,14 @@
 
 ghost use Rattle.std.specs.Prelude.{◌≡◌, [], ◌∷◌, codes, map};
 ghost use Rattle.cx_vtree.specs.PlainParts.{plain_port, plain_decl, plain_assign};
+ghost use Rattle.cx_vscope.specs.ScopeValues.{scope_by};
 ghost use Rattle.cx_vread_exprs.specs.Answers.{Gives, place_of};
 ghost use Rattle.cx_vread_exprs.specs.Places.{begins, many, with_front};
 ghost use Rattle.cx_vread.specs.Parts as parts;
 
 use cx_text::Name;
 use cx_vread_exprs::{Fault, ReadPoint, begins, bounds, expect, length, name, whole_expr};
+use cx_vscope::ModuleScope;
 use cx_vtree::{Decl, ModulePort, NetAssign};
 use std::alloc::Global;
 
@@ -175,32 +177,38 @@ pub fn decls<'a>(alloc: Global, at: ReadPoint<'a>) -> Result<(Vec<Decl>, ReadPoi
 /// The end of the line of an assign, from its value on.
 pub fn assigned<'a>(
     alloc: Global,
+    scope: &ModuleScope,
     name: Name,
     at: ReadPoint<'a>,
 ) -> Result<(NetAssign, ReadPoint<'a>), Fault>
-    ensures { Gives (λ x. (plain_assign x.0, place_of x.1)) result (parts.assigned_by name (place_of at.entry)) }
+    ensures { Gives (λ x. (plain_assign x.0, place_of x.1)) result (parts.assigned_by (scope_by scope.now) name (place_of at.entry)) }
 {
-    let (value, at) = whole_expr(alloc, at)?;
+    let (value, at) = whole_expr(alloc, scope, at)?;
     let at = expect(at, b";\n")?;
     Ok((NetAssign { name, value }, at))
 }
 
 /// The line of an assign.
-fn assign<'a>(alloc: Global, at: ReadPoint<'a>) -> Result<(NetAssign, ReadPoint<'a>), Fault>
-    ensures { Gives (λ x. (plain_assign x.0, place_of x.1)) result (parts.assign_at (place_of at.entry)) }
+fn assign<'a>(
+    alloc: Global,
+    scope: &ModuleScope,
+    at: ReadPoint<'a>,
+) -> Result<(NetAssign, ReadPoint<'a>), Fault>
+    ensures { Gives (λ x. (plain_assign x.0, place_of x.1)) result (parts.assign_at (scope_by scope.now) (place_of at.entry)) }
 {
     let at = expect(at, b"  assign ")?;
     let (name, at) = name(alloc, at)?;
     let at = expect(at, b" = ")?;
-    assigned(alloc, name, at)
+    assigned(alloc, scope, name, at)
 }
 
 /// The lines of assigns.
 pub fn assigns<'a>(
     alloc: Global,
+    scope: &ModuleScope,
     at: ReadPoint<'a>,
 ) -> Result<(Vec<NetAssign>, ReadPoint<'a>), Fault>
-    ensures { Gives (λ x. (map plain_assign x.0.items, place_of x.1)) result (parts.assigns_at (place_of at.entry)) }
+    ensures { Gives (λ x. (map plain_assign x.0.items, place_of x.1)) result (parts.assigns_at (scope_by scope.now) (place_of at.entry)) }
 {
     let mut list = Vec::new(alloc);
     let mut here = at;
@@ -209,7 +217,7 @@ pub fn assigns<'a>(
         if !begins(here, b"  assign ") {
             return Ok((list, here));
         }
-        let (item, after) = assign(alloc, here)?;
+        let (item, after) = assign(alloc, scope, here)?;
         list.push(item)?;
         here = after;
         left -= 1;

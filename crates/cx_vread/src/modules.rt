@@ -2,8 +2,10 @@
 
 ghost use Rattle.std.specs.Prelude.{◌≡◌, [], ◌∷◌, map};
 ghost use Rattle.cx_vtree.specs.PlainParts.{plain_port, plain_module, plain_modules};
+ghost use Rattle.cx_vscope.specs.Scopes.{scope_of};
 ghost use Rattle.cx_vread_exprs.specs.Answers.{Gives, place_of};
 ghost use Rattle.cx_vread_exprs.specs.Places.{many, with_front};
+ghost use Rattle.cx_vread.specs.Bodies.{plain_body};
 ghost use Rattle.cx_vread.specs.Parts as parts;
 
 use crate::edges::edge;
@@ -11,7 +13,8 @@ use crate::instances::instances;
 use crate::lines::{assigns, decls, ports};
 use cx_text::Name;
 use cx_vread_exprs::{Fault, ReadPoint, expect, name};
-use cx_vtree::{Module, ModulePort};
+use cx_vscope::ModuleScope;
+use cx_vtree::{Edge, Instance, Module, ModulePort, NetAssign};
 use std::alloc::Global;
 
 /// The first line of a module, and its ports.
@@ -28,24 +31,58 @@ fn head<'a>(
     Ok(((name, ports), at))
 }
 
+/// The assigns, the instances and the edge of a module.
+#[derive(Drop)]
+pub struct Body {
+    pub assigns: Vec<NetAssign>,
+    pub instances: Vec<Instance>,
+    pub edge: Option<Edge>,
+}
+
+/// The lines of a module behind its declarations; `front` has its ports and its declarations.
+fn body_lines<'a>(
+    alloc: Global,
+    front: &Module,
+    at: ReadPoint<'a>,
+) -> Result<(Body, ReadPoint<'a>), Fault>
+    ensures { Gives (λ x. (plain_body x.0, place_of x.1)) result (parts.body_at (scope_of front.now) (place_of at.entry)) }
+{
+    let scope = ModuleScope::new(alloc, front)?;
+    let (assigns, at) = assigns(alloc, &scope, at)?;
+    let (instances, at) = instances(alloc, at)?;
+    let (edge, at) = edge(alloc, &scope, at)?;
+    let at = expect(at, b"endmodule\n")?;
+    let body = Body {
+        assigns,
+        instances,
+        edge,
+    };
+    Ok((body, at))
+}
+
 /// The lines of a module.
 fn module<'a>(alloc: Global, at: ReadPoint<'a>) -> Result<(Module, ReadPoint<'a>), Fault>
     ensures { Gives (λ x. (plain_module x.0, place_of x.1)) result (parts.module_at (place_of at.entry)) }
 {
     let ((name, ports), at) = head(alloc, at)?;
     let (decls, at) = decls(alloc, at)?;
-    let (assigns, at) = assigns(alloc, at)?;
-    let (instances, at) = instances(alloc, at)?;
-    let (edge, at) = edge(alloc, at)?;
-    let at = expect(at, b"endmodule\n")?;
-    let module = Module {
+    let mut module = Module {
         name,
         ports,
         decls,
+        assigns: Vec::new(alloc),
+        instances: Vec::new(alloc),
+        edge: None,
+    };
+    let (found, at) = body_lines(alloc, &module, at)?;
+    let Body {
         assigns,
         instances,
         edge,
-    };
+    } = found;
+    module.assigns = assigns;
+    module.instances = instances;
+    module.edge = edge;
     Ok((module, at))
 }
 

@@ -78,8 +78,8 @@ fn parts<'a>(
     Ok(((externals, modules), at))
 }
 
-/// The refusal of a text that has so many bytes left where reading stopped, or where a part was noted; `found` is the
-/// first break of what was read. Where the lines are a text, one of them nests too deep or has too long an array.
+/// The refusal of a text that has so many bytes left where reading stopped, or where an array was noted; `found` is the
+/// first break of what was read. Where the lines are a text, one of them has too long an array.
 #[tactic(auto, using(crate::proofs::WholeTexts::rule_tells))]
 fn astray(alloc: Global, text: &[u8], left: usize, found: Option<Break>) -> ReadRefusal
     ensures { TellsAstray text.now result }
@@ -129,11 +129,11 @@ pub fn read(alloc: Global, text: &[u8]) -> Result<Source, ReadRefusal>
     ensures value { IfOk result (λ source. text.now ≡ text_of (plain_source source)) }
     // A text that spells a sound source is read as it, unless memory is refused.
     ensures sound { (s : PlainSource) → text.now ≡ text_of s → is_sound s ≡ true → ReadAs s result }
-    // A text that spells a source with any numbers, in which no line nests deep and no array is too long to count, is read as
-    // it, or refused for its first break.
+    // A text that spells a source with any numbers, in which no array is too long to count, is read as it, or refused for
+    // its first break.
     ensures spelled { (s : PlainSource) → text.now ≡ text_of s → is_laid_out s ≡ true → is_within s ≡ true → Answers s result }
     // Where the layout is wrong the first line is told with which the lines so far begin no text. A text that is refused for a
-    // rule spells a source with that first break, if no line nests deep and no array is too long.
+    // rule spells a source with that first break, if no array is too long.
     ensures told { IfErr result (Tells text.now) }
     // And where the lines begin no text the first such line is told, unless memory is refused.
     ensures astray { (line : ℕ) → IsFirstAstray text.now line → AstrayAt line result }

@@ -1,5 +1,5 @@
 -- An expression that is spelled is read.
-use Rattle.std.proofs.Common.{◌≡◌, ℕ, ◌-◌, ◌^◌, inl, inr, zero, suc, ◌==◌, not, true, false, ◌&&◌, ◌||◌, List, [], ◌∷◌, ◌++◌, Option, Some, None, refl, ◌∙◌, ap, sym, subst, arith, append_assoc, ⊎_elim, if◌then◌else◌}
+use Rattle.std.proofs.Common.{◌≡◌, ℕ, ◌-◌, ◌^◌, inl, inr, zero, suc, ◌==◌, not, true, false, ◌&&◌, ◌||◌, List, [], ◌∷◌, ◌++◌, Option, Some, None, refl, ◌∙◌, ap, subst, arith, append_assoc, ⊎_elim, if◌then◌else◌}
 use Rattle.std.specs.Prelude.{codes, is_some, nat_lt, nat_le, min}
 use Rattle.std.specs.List.{list_all}
 use Rattle.std.specs.Str.Parse.{digits_value}
@@ -14,11 +14,11 @@ use Rattle.cx_vtree.specs.Sound.{nests_over}
 use Rattle.cx_vread_exprs.specs.Places as Places
 use Rattle.cx_vread_exprs.specs.Places.{Place, Reads, then_reads, then_at, after_text, begins}
 use Rattle.cx_vread_exprs.specs.Tokens.{front, back, name_at, is_digit_in, is_numeral, digits_at, number_at, capped, no_more, kept_small, kept_literal, misnamed, miswidened, small_at, literal_at}
-use Rattle.cx_vread_exprs.specs.Exprs.{operator_at, is_part, part_by, item_by, bracketed_by, named_by, behind_by, applied_by, chosen_by, round_by, inverted_by, brackets_by, by_first, expr_at, inner_at, nested_at, most_levels, whole_expr_at}
+use Rattle.cx_vread_exprs.specs.Exprs.{operator_at, is_part, part_by, item_by, bracketed_by, named_by, behind_by, applied_by, chosen_by, round_by, inverted_by, brackets_by, by_first, expr_at, inner_at, nested_at}
 use Rattle.cx_vread_exprs.specs.Holds.{numbers_fit}
 use Rattle.cx_vread_exprs.proofs.Kept.{kept_expr}
 use Rattle.cx_vread_exprs.proofs.Numerals.{capped_some, capped_none}
-use Rattle.cx_vread_exprs.proofs.Levels.{expr_at_is, levels_are}
+use Rattle.cx_vread_exprs.proofs.Levels.{expr_at_is}
 use Rattle.cx_vread_exprs.proofs.NumberAgain.{clean, digits_again, number_again, text_digits, text_numeral, text_value}
 use Rattle.cx_vread_exprs.proofs.Spans.{Stops, front_again, back_again}
 
@@ -72,7 +72,7 @@ unbracketed nested named c x round curly =
     ap (λ b. if is_some (if b then Some x else None) || is_some (if c == 123 then Some x else None) then nested (clean (c ∷ x)) else (if nat_le 48 c && nat_le c 57 then literal_at (clean (c ∷ x)) else named (clean (c ∷ x)))) round
     ∙ ap (λ b. if is_some (if b then Some x else None) then nested (clean (c ∷ x)) else (if nat_le 48 c && nat_le c 57 then literal_at (clean (c ∷ x)) else named (clean (c ∷ x)))) curly
 
-first_name : (nested named : Place → Reads PlainExpr) (n x : List ℕ) → is_name n ≡ true → by_first nested named (clean (n ++ x)) ≡ named (clean (n ++ x))
+pub first_name : (nested named : Place → Reads PlainExpr) (n x : List ℕ) → is_name n ≡ true → by_first nested named (clean (n ++ x)) ≡ named (clean (n ++ x))
 first_name nested named [] x h = absurd (cc)
 first_name nested named (c ∷ cs) x h =
     let letter : is_letter c ≡ true = (name_parts (c ∷ cs) h).0 in
@@ -231,7 +231,7 @@ item_again inner n i x fits is =
     ∙ ap (λ r. then_reads r (item_by n)) is
 
 -- with what stands in square brackets
-bracketed_again : (inner : Place → Reads PlainExpr) (n x : List ℕ) (o : Option (PlainExpr × Place)) → is_name n ≡ true → bracketed_by inner n (clean (codes "[" ++ x)) ≡ o
+pub bracketed_again : (inner : Place → Reads PlainExpr) (n x : List ℕ) (o : Option (PlainExpr × Place)) → is_name n ≡ true → bracketed_by inner n (clean (codes "[" ++ x)) ≡ o
     → named_by inner (clean (n ++ (codes "[" ++ x))) ≡ o
 bracketed_again inner n x o h is =
     ap (λ r. then_reads r (λ n q. if begins (codes "[") q then bracketed_by inner n q else Some (Named n, q))) (name_again n (codes "[" ++ x) h refl) ∙ is
@@ -255,7 +255,7 @@ inverted_again : (inner : Place → Reads PlainExpr) (a : PlainExpr) (x : List �
 inverted_again inner a x one = ap (λ r. then_reads r (λ a r. then_at (Places.after (codes ")") r) (λ s. Some (Inverted a, s)))) one
 
 -- round brackets without `~`
-round_again : (inner : Place → Reads PlainExpr) (a : PlainExpr) (x : List ℕ) → expr_fits a ≡ true → inner (clean (expr_text a ++ (codes " " ++ x))) ≡ Some (kept_expr a, clean (codes " " ++ x))
+pub round_again : (inner : Place → Reads PlainExpr) (a : PlainExpr) (x : List ℕ) → expr_fits a ≡ true → inner (clean (expr_text a ++ (codes " " ++ x))) ≡ Some (kept_expr a, clean (codes " " ++ x))
     → brackets_by inner (clean (codes "(" ++ (expr_text a ++ (codes " " ++ x)))) ≡ behind_by inner (kept_expr a) (clean x)
 round_again inner a x fits one =
     let p : Place = clean (codes "(" ++ (expr_text a ++ (codes " " ++ x))) in
@@ -302,7 +302,7 @@ pub joined_pieces : (a b x : List ℕ) → (codes "{" ++ a ++ codes ", " ++ b ++
 joined_pieces a b x = simp append_assoc
 
 -- one level fewer
-fewer : (l : ℕ) (e : PlainExpr) → nests_over (suc l - 1) e ≡ false → nests_over l e ≡ false
+pub fewer : (l : ℕ) (e : PlainExpr) → nests_over (suc l - 1) e ≡ false → nests_over l e ≡ false
 fewer l e h = let n : suc l - 1 ≡ l = omega arith in subst (λ k. nests_over k e ≡ false) n h
 
 pub closed : (c : ℕ) (x : List ℕ) → is_name_byte c ≡ false → (c == 91) ≡ false → Ends (c ∷ x)
@@ -365,10 +365,6 @@ expr_again (suc l) (Joined a b) x f d ends =
     ∙ joined_again (expr_at l) a b x
     (expr_again l a (codes ", " ++ (expr_text b ++ (codes "}" ++ x))) fit.0 (fewer l a deep.1) (closed 44 _ refl refl))
     (expr_again l b (codes "}" ++ x) fit.1 (fewer l b deeps.1) (closed 125 x refl refl))
-
--- a whole expression
-pub whole_again : (e : PlainExpr) (x : List ℕ) → expr_fits e ≡ true → nests_over 128 e ≡ false → Ends x → whole_expr_at (clean (expr_text e ++ x)) ≡ Some (kept_expr e, clean x)
-whole_again e x f h ends = expr_again most_levels e x f (subst (λ n. nests_over n e ≡ false) (sym levels_are) h) ends
 
 -- an expression that a tree holds is kept
 pub small_kept : (n : ℕ) → nat_lt n 256 ≡ true → kept_small n ≡ n

@@ -1,20 +1,18 @@
 -- An expression that is read stands there: a tree has what is kept of it.
-use Rattle.std.proofs.Common.{◌≡◌, ℕ, ◌-◌, inl, inr, zero, suc, ◌==◌, Bool, true, false, ◌&&◌, ◌||◌, List, [], ◌∷◌, ◌++◌, Some, refl, ◌∙◌, ap, sym, subst, arith, if◌then◌else◌}
+use Rattle.std.proofs.Common.{◌≡◌, ℕ, ◌-◌, inl, inr, zero, suc, ◌==◌, Bool, true, false, ◌&&◌, ◌||◌, List, ◌++◌, Some, refl, ◌∙◌, ap, sym, subst, arith, if◌then◌else◌}
 use Rattle.std.specs.Prelude.{codes}
 use Rattle.std.specs.Str.Parse.{digits_value}
 use Rattle.std.proofs.lemmas.Bool.{and_from, or_parts, ne_eqb}
-use Rattle.std.proofs.lemmas.Option.{same_Some}
 use Rattle.cx_vtree.specs.Layout.{is_name, expr_fits}
 use Rattle.cx_vtree.specs.Lines.{number_text, decimal_text, op_text, expr_text}
 use Rattle.cx_vtree.specs.Plain.{PlainExpr, Named, Number, Part, Word, Applied, Inverted, Chosen, Joined}
 use Rattle.cx_vtree.specs.Sound.{nests_over}
-use Rattle.cx_vread_exprs.specs.Places.{Place, Reads, moved, unfit, then_reads, then_at, after, begins}
-use Rattle.cx_vread_exprs.specs.Tokens.{name_at, digits_at, kept_small, kept_literal, small_at, stand_in, literal_at}
-use Rattle.cx_vread_exprs.specs.Exprs.{operator_at, skip_text, deep_at, tail_of, tail_at, deep_brackets_at, is_part, part_by, item_by, bracketed_by, named_by, joined_by, inverted_by, chosen_by, applied_by, behind_by, round_by, brackets_by, starts_digit, by_first, expr_at, most_levels, whole_expr_at}
+use Rattle.cx_vread_exprs.specs.Places.{Place, Reads, then_reads, then_at, after, begins}
+use Rattle.cx_vread_exprs.specs.Tokens.{name_at, digits_at, kept_small, kept_literal, small_at, literal_at}
+use Rattle.cx_vread_exprs.specs.Exprs.{operator_at, too_deep_at, is_part, part_by, item_by, bracketed_by, named_by, joined_by, inverted_by, chosen_by, applied_by, behind_by, round_by, brackets_by, starts_digit, by_first, expr_at}
 use Rattle.cx_vread_exprs.proofs.Kept.{kept_expr}
 use Rattle.cx_vread_exprs.proofs.ExprAgain.{number_pieces, part_pieces, word_pieces, applied_pieces, inverted_pieces, chosen_pieces, joined_pieces}
-use Rattle.cx_vread_exprs.proofs.Levels.{levels_are}
-use Rattle.cx_vread_exprs.proofs.Found.{ends, Stands, then_at_some, then_reads_some, step_at, name_found, digits_found, numeral_text}
+use Rattle.cx_vread_exprs.proofs.Found.{ends, Stands, then_reads_some, step_at, name_found, digits_found, numeral_text}
 use Rattle.cx_vread_exprs.proofs.SignsFound.{small_found, operator_found}
 
 -- an expression stands at a place, and a tree has what is kept of it; all up to there fits
@@ -50,26 +48,9 @@ lower l read h p e q is ok =
     let one : l ≡ suc l - 1 = omega arith in
     record { one = x.one; text_is = x.text_is; fits_is = x.fits_is; kept_is = x.kept_is; laid = x.laid; flat = both_false (suc l == 0) (nests_over (suc l - 1) x.one) (ne_eqb (suc l) 0 (λ e. omega arith)) (subst (λ n. nests_over n x.one ≡ false) one x.flat) }
 
--- what nests too deep does not fit
-deep_none : {P : Type 0} (p : Place) (e : PlainExpr) (q : Place) → deep_at p ≡ Some (e, q) → q.fits ≡ true → P
-deep_none p e q is ok =
-    let both = ends e q stand_in (unfit (moved p (skip_text 0 p.rest))) is in
-    let clash : false ≡ true = ap (λ q. q.fits) both.1 ∙ ok in absurd (cc)
-
-tail_fits : (p q : Place) → tail_at p ≡ Some q → p.fits ≡ q.fits
-tail_fits p q e = go p.rest e
-  where
-    go : (bytes : List ℕ) → tail_of p bytes ≡ Some q → p.fits ≡ q.fits
-    go [] e = absurd (cc)
-    go (b ∷ bs) e = ap (λ q. q.fits) (same_Some (moved p bs) q e)
-
-deep_brackets_none : {P : Type 0} (p : Place) (e : PlainExpr) (q : Place) → deep_brackets_at p ≡ Some (e, q) → q.fits ≡ true → P
-deep_brackets_none p e q is ok =
-    let s1 = then_at_some (tail_at p) e q (λ q. then_reads (deep_at q) (λ e r. then_at (tail_at r) (λ s. Some (e, s)))) is in
-    let s2 = then_reads_some (deep_at s1.0) e q (λ e r. then_at (tail_at r) (λ s. Some (e, s))) s1.2 in
-    let s3 = then_at_some (tail_at s2.1) e q (λ s. Some (s2.0, s)) s2.3 in
-    let both = ends e q s2.0 s3.0 s3.2 in
-    deep_none s1.0 s2.0 s2.1 s2.2 (tail_fits s2.1 s3.0 s3.1 ∙ ap (λ q. q.fits) both.1 ∙ ok)
+-- nothing is read where no level is left
+none_found : {P : Type 0} (p : Place) (e : PlainExpr) (q : Place) → too_deep_at p ≡ Some (e, q) → P
+none_found p e q is = absurd (cc)
 
 -- literals
 pub record LiteralFound (p : Place) (e : PlainExpr) (q : Place) : Type 0 where
@@ -300,12 +281,7 @@ first_found l nested named one other p e q is ok = go (begins (codes "(") p || b
     go false false is = other p e q is ok
 
 pub expr_found : (l : ℕ) → Finds l (expr_at l)
-expr_found zero =
-    first_found zero deep_brackets_at (named_by deep_at) (λ p e q is ok. deep_brackets_none p e q is ok) (named_found zero deep_at (λ p e q is ok. deep_none p e q is ok))
+expr_found zero = first_found zero too_deep_at (named_by too_deep_at) (λ p e q is ok. none_found p e q is) (named_found zero too_deep_at (λ p e q is ok. none_found p e q is))
 expr_found (suc l) =
     let inner = lower l (expr_at l) (expr_found l) in
     first_found (suc l) (brackets_by (expr_at l)) (named_by (expr_at l)) (brackets_found (suc l) (expr_at l) inner) (named_found (suc l) (expr_at l) inner)
-
--- a whole expression that is read stands there, and nests at most 128 levels
-pub whole_found : Finds 128 whole_expr_at
-whole_found = subst (λ n. Finds n whole_expr_at) levels_are (expr_found most_levels)

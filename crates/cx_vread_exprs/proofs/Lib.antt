@@ -13,3 +13,4 @@ pub mod ExprFound
 pub mod PassSteps
 pub mod PassAgain
 pub mod PassFound
+pub mod WholeExprs

@@ -1,10 +1,10 @@
 -- Reading expressions.
-use Rattle.std.specs.Prelude.{ℕ, zero, suc, ◌+◌, ◌-◌, ◌==◌, ◌&&◌, ◌||◌, nat_le, Bool, false, List, [], ◌∷◌, Option, Some, None, is_some, codes, if◌then◌else◌}
+use Rattle.std.specs.Prelude.{ℕ, zero, suc, ◌&&◌, ◌||◌, nat_le, Bool, false, List, [], ◌∷◌, Option, Some, None, is_some, codes, if◌then◌else◌}
 use Rattle.cx_vtree.specs.declared.operators.Operator.{Operator}
 use Rattle.cx_vtree.specs.declared.operators.Operator.TheVariants.{Add, Subtract, Multiply, And, Or, Xor, ShiftLeft, ShiftRight, Equal, NotEqual, Less, Greater, AtMost, AtLeast}
 use Rattle.cx_vtree.specs.Plain.{PlainExpr, Named, Part, Word, Applied, Inverted, Chosen, Joined}
-use Rattle.cx_vread_exprs.specs.Places.{Place, Reads, moved, unfit, then_reads, then_at, after, begins}
-use Rattle.cx_vread_exprs.specs.Tokens.{name_at, number_at, small_at, stand_in, literal_at}
+use Rattle.cx_vread_exprs.specs.Places.{Place, Reads, then_reads, then_at, after, begins}
+use Rattle.cx_vread_exprs.specs.Tokens.{name_at, number_at, small_at, literal_at}
 
 -- an operator that stands here, or else another
 abbrev pub or_else : Operator → Option Place → Reads Operator → Reads Operator
@@ -21,32 +21,6 @@ abbrev pub operator_at : Place → Reads Operator
 operator_at p =
     or_else ShiftLeft (after (codes "<<") p) (or_else ShiftRight (after (codes ">>") p) (or_else AtMost (after (codes "<=") p)
     (or_else AtLeast (after (codes ">=") p) (or_else Equal (after (codes "==") p) (or_else NotEqual (after (codes "!=") p) (sign_at p))))))
-
--- what stands nested too deep, to the bracket that closes it, on its line
-abbrev pub opens : ℕ → Bool
-opens c = c == 40 || c == 91 || c == 123
-
-abbrev pub closes : ℕ → Bool
-closes c = c == 41 || c == 93 || c == 125
-
-abbrev pub skip_text : ℕ → List ℕ → List ℕ
-skip_text depth [] = []
-skip_text depth (b ∷ bs) =
-    if opens b then skip_text (depth + 1) bs
-    else (if closes b then (if depth == 0 then b ∷ bs else skip_text (depth - 1) bs) else (if b == 10 then b ∷ bs else skip_text depth bs))
-
-abbrev pub deep_at : Place → Reads PlainExpr
-deep_at p = Some (stand_in, unfit (moved p (skip_text 0 p.rest)))
-
-abbrev pub tail_of : Place → List ℕ → Option Place
-tail_of p [] = None
-tail_of p (b ∷ bs) = Some (moved p bs)
-
-abbrev pub tail_at : Place → Option Place
-tail_at p = tail_of p p.rest
-
-abbrev pub deep_brackets_at : Place → Reads PlainExpr
-deep_brackets_at p = then_at (tail_at p) (λ q. then_reads (deep_at q) (λ e r. then_at (tail_at r) (λ s. Some (e, s))))
 
 abbrev pub is_part : Place → Bool
 is_part p = is_some (then_reads (number_at 10 p) (λ n q. after (codes ":") q))
@@ -101,25 +75,25 @@ abbrev pub by_first : (Place → Reads PlainExpr) → (Place → Reads PlainExpr
 by_first nested named p =
     if begins (codes "(") p || begins (codes "{") p then nested p else (if starts_digit p.rest then literal_at p else named p)
 
+-- what no level is left for
+abbrev pub too_deep_at : Place → Reads PlainExpr
+too_deep_at p = None
+
 -- an expression of at most so many levels of nesting
 abbrev pub expr_at : ℕ → Place → Reads PlainExpr
-expr_at zero p = by_first deep_brackets_at (named_by deep_at) p
+expr_at zero p = by_first too_deep_at (named_by too_deep_at) p
 expr_at (suc levels) p = by_first (brackets_by (expr_at levels)) (named_by (expr_at levels)) p
 
 -- what stands one level deeper
 abbrev pub inner_at : ℕ → Place → Reads PlainExpr
-inner_at zero p = deep_at p
+inner_at zero p = too_deep_at p
 inner_at (suc levels) p = expr_at levels p
 
 -- what begins with a bracket, its level counted
 abbrev pub nested_at : ℕ → Place → Reads PlainExpr
-nested_at zero p = deep_brackets_at p
+nested_at zero p = too_deep_at p
 nested_at (suc levels) p = brackets_by (expr_at levels) p
 
 -- the levels of nesting that are read into a tree
 unfoldable pub most_levels : ℕ
 most_levels = 128
-
--- a whole expression
-abbrev pub whole_expr_at : Place → Reads PlainExpr
-whole_expr_at p = expr_at most_levels p

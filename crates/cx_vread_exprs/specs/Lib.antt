@@ -1,7 +1,9 @@
 pub mod Places
 pub mod Tokens
 pub mod Exprs
+pub mod Shapes
 pub mod Passing
+pub mod Deep
 pub mod Numbers
 pub mod Answers
 pub mod Holds

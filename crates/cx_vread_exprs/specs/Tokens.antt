@@ -82,10 +82,6 @@ bounds_at p =
 abbrev pub fits_bits : ℕ → ℕ → Bool
 fits_bits w v = nat_lt 0 w && nat_le w 128 && nat_lt v (2 ^ w)
 
--- what stands for an expression that no tree holds
-abbrev pub stand_in : PlainExpr
-stand_in = Number (record { width = 1; value = 0 })
-
 -- what breaks a rule on names wherever it stands: no expression has the clock
 abbrev pub misnamed : PlainExpr
 misnamed = Named (codes "clk")

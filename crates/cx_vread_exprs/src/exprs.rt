@@ -3,20 +3,22 @@
 ghost use Rattle.std.specs.Prelude.{◌≡◌, ◌+◌, MatchOption};
 ghost use Rattle.cx_vtree.specs.PlainParts.{plain_expr};
 ghost use Rattle.cx_vread_exprs.specs.Answers.{Gives, place_of};
+ghost use Rattle.cx_vscope.specs.ScopeValues.{scope_by};
+ghost use Rattle.cx_vread_exprs.specs.Deep.{whole_expr_at};
 ghost use Rattle.cx_vread_exprs.specs.Exprs as exprs;
 
-use crate::deep::{deep, deep_brackets};
+use crate::deep::deep;
 use crate::faults::Fault;
 use crate::names::name;
 use crate::numbers::{is_part, literal, small};
 use crate::operators::operator;
 use crate::places::{ReadPoint, begins, expect};
 use cx_text::Name;
+use cx_vscope::ModuleScope;
 use cx_vtree::Expr;
 use std::alloc::Global;
 
-/// Levels of nesting that are read into a tree. They are more than the limit, so that what stands on a line that breaks
-/// it is looked at too.
+/// Levels of nesting that are read into a tree.
 const LEVELS: u8 = 128;
 
 /// One level fewer, if one is left.
@@ -63,11 +65,19 @@ fn item<'a>(
     Ok((Expr::Item(net, Box::new(alloc, index)?), at))
 }
 
-/// A whole expression.
-pub fn whole_expr<'a>(alloc: Global, at: ReadPoint<'a>) -> Result<(Expr, ReadPoint<'a>), Fault>
-    ensures { Gives (λ x. (plain_expr x.0, place_of x.1)) result (exprs.whole_expr_at (place_of at.entry)) }
+/// A whole expression, of any depth. For one that nests deeper than a tree is read another stands that breaks the same rules.
+pub fn whole_expr<'a>(
+    alloc: Global,
+    scope: &ModuleScope,
+    at: ReadPoint<'a>,
+) -> Result<(Expr, ReadPoint<'a>), Fault>
+    ensures { Gives (λ x. (plain_expr x.0, place_of x.1)) result (whole_expr_at (scope_by scope.now) (place_of at.entry)) }
 {
-    expr(alloc, LEVELS, at)
+    match expr(alloc, LEVELS, at) {
+        Ok(found) => Ok(found),
+        Err(Fault::Memory) => Err(Fault::Memory),
+        Err(Fault::Syntax(_)) => deep(alloc, scope, at),
+    }
 }
 
 /// An expression of at most so many levels of nesting.
@@ -91,7 +101,7 @@ fn inner<'a>(alloc: Global, levels: u8, at: ReadPoint<'a>) -> Result<(Expr, Read
     ensures { Gives (λ x. (plain_expr x.0, place_of x.1)) result (exprs.inner_at levels (place_of at.entry)) }
 {
     match fewer(levels) {
-        None => Ok(deep(at)),
+        None => Err(Fault::Syntax(at.rest.len())),
         Some(levels) => expr(alloc, levels, at),
     }
 }
@@ -133,7 +143,7 @@ fn nested<'a>(alloc: Global, levels: u8, at: ReadPoint<'a>) -> Result<(Expr, Rea
     ensures { Gives (λ x. (plain_expr x.0, place_of x.1)) result (exprs.nested_at levels (place_of at.entry)) }
 {
     match fewer(levels) {
-        None => deep_brackets(at),
+        None => Err(Fault::Syntax(at.rest.len())),
         Some(levels) => brackets(alloc, levels, at),
     }
 }

@@ -9,6 +9,7 @@ mod numbers;
 mod operators;
 mod passing;
 mod places;
+mod shapes;
 
 pub use exprs::whole_expr;
 pub use faults::{Fault, Notes};

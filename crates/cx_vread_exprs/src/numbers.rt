@@ -162,16 +162,6 @@ pub fn bounds<'a>(at: ReadPoint<'a>) -> Result<(u8, ReadPoint<'a>), Fault>
     Ok((no_more(254, n) + 1, at))
 }
 
-/// The expression that stands for one that no tree holds.
-pub fn stand_in() -> Expr
-    ensures { plain_expr result ≡ tokens.stand_in }
-{
-    match Bits::new(1, 0) {
-        Some(bits) => Expr::Literal(bits),
-        None => unreachable!(),
-    }
-}
-
 /// The value of a literal that a `Bits` is.
 fn literal_bits(width: Option<u128>, value: Option<u128>) -> Option<Bits>
     ensures { option_map (λ b. b) result ≡ literal_value width value }
@@ -225,7 +215,7 @@ fn overflows(width: Option<u128>, digits: &[u8]) -> bool
 }
 
 /// The clock, which no expression has.
-fn misnamed(alloc: Global) -> Result<Expr, Memory>
+pub fn misnamed(alloc: Global) -> Result<Expr, Memory>
     ensures { IfOk result (λ e. plain_expr e ≡ tokens.misnamed) }
 {
     let name = Name::from_bytes(alloc, b"clk")?;
@@ -243,7 +233,7 @@ fn widest() -> Expr
 }
 
 /// Two literals side by side that have 256 bits.
-fn miswidened(alloc: Global) -> Result<Expr, Memory>
+pub fn miswidened(alloc: Global) -> Result<Expr, Memory>
     ensures { IfOk result (λ e. plain_expr e ≡ tokens.miswidened) }
 {
     let high = Box::new(alloc, widest())?;
@@ -262,7 +252,7 @@ fn stand_for(alloc: Global, overflows: bool) -> Result<Expr, Memory>
 }
 
 /// A literal that a tree holds.
-fn fitting(bits: Bits) -> Expr
+pub fn fitting(bits: Bits) -> Expr
     ensures { plain_expr result ≡ Number bits }
 {
     Expr::Literal(bits)

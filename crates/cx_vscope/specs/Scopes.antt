@@ -17,6 +17,10 @@ use Rattle.cx_vtree.specs.Sound.{Scope, meant_in, has_name}
 abbrev pub scope_of : Module → Scope
 scope_of m = meant_in (map plain_port m.ports.items) (map plain_decl m.decls.items)
 
+-- no name stands for anything
+abbrev pub nothing_meant : Scope
+nothing_meant name = Nothing
+
 -- what each name stands for by a map
 abbrev pub meant_by : BTreeMap (Bor (List ℕ)) Meaning → Scope
 meant_by m name = unwrap_or (tree.get_by (λ k. slice_cmp nat_cmp name k.now) m) Nothing

@@ -84,7 +84,8 @@ fn part_width(width: u8, high: u8, low: u8) -> Option<u8>
     }
 }
 
-fn applied_width(op: Operator, v: u8, w: u8) -> Option<u8>
+/// The width of an operator's result, None where its sides differ in width.
+pub fn applied_width(op: Operator, v: u8, w: u8) -> Option<u8>
     ensures { result ≡ sound.applied_width op v w }
 {
     if v != w {
@@ -93,13 +94,15 @@ fn applied_width(op: Operator, v: u8, w: u8) -> Option<u8>
     Some(if is_comparison(op) { 1 } else { v })
 }
 
-fn chosen_width(t: u8, v: u8, w: u8) -> Option<u8>
+/// The width of a choice, None where the test has not one bit or the sides differ in width.
+pub fn chosen_width(t: u8, v: u8, w: u8) -> Option<u8>
     ensures { result ≡ sound.chosen_width t v w }
 {
     if t == 1 && v == w { Some(v) } else { None }
 }
 
-fn joined_width(v: u8, w: u8) -> Option<u8>
+/// The width of two sides one behind the other, None where it is over 128.
+pub fn joined_width(v: u8, w: u8) -> Option<u8>
     ensures { result ≡ sound.joined_width v w }
 {
     if u16::from(v) + u16::from(w) <= u16::from(WIDTH_BITS) {

@@ -7,7 +7,9 @@ mod meanings;
 mod names;
 mod scopes;
 
-pub use exprs::{fitting_width, has_width, misnames, too_deep};
+pub use exprs::{
+    applied_width, chosen_width, fitting_width, has_width, joined_width, misnames, too_deep,
+};
 pub use layout::{is_keyword, is_laid_out, is_name_byte, is_word};
 pub use meanings::{
     decl_name, is_array, is_driven, is_register, is_source, is_wire, same, width_of,

@@ -3,7 +3,7 @@
 ghost use Rattle.std.specs.Prelude.{◌≡◌, IfOk, [], map, List, ℕ, OnOk};
 ghost use Rattle.cx_vtree.specs.PlainParts.{plain_port, plain_decl};
 ghost use Rattle.cx_vtree.specs.Sound as sound;
-ghost use Rattle.cx_vscope.specs.Scopes.{meant_by, scope_of};
+ghost use Rattle.cx_vscope.specs.Scopes.{meant_by, nothing_meant, scope_of};
 ghost use Rattle.cx_vscope.specs.ScopeValues.{scope_by};
 
 use crate::meanings::{decl_meaning, decl_name, port_meaning};
@@ -54,6 +54,15 @@ fn add_ports<'a>(
 }
 
 impl<'a> ModuleScope<'a> {
+    /// A scope in which no name stands for anything.
+    pub fn empty(alloc: Global) -> ModuleScope<'a>
+        ensures { scope_by result ≡ nothing_meant }
+    {
+        ModuleScope {
+            meanings: BTreeMap::new(alloc),
+        }
+    }
+
     /// The scope of a module.
     pub fn new(alloc: Global, m: &'a Module) -> Result<ModuleScope<'a>, Memory>
         ensures { IfOk result (λ scope. scope_by scope ≡ scope_of m.now) }

@@ -1,0 +1,39 @@
+-- What the rules on names and widths look at of an expression, and how it comes from that of its parts.
+use Rattle.std.specs.Prelude.{ℕ, ◌||◌, not, List, Option, Some, option_and_then}
+use Rattle.cx_vtree.specs.declared.operators.Operator.{Operator}
+use Rattle.cx_vtree.specs.Plain.{PlainExpr}
+use Rattle.cx_vtree.specs.Sound.{Scope, is_array, width_of, misnames, fitting_width, applied_width, chosen_width, joined_width}
+use Rattle.cx_vread_exprs.specs.declared.shapes.Shape.{Shape}
+
+-- whether it breaks a rule on names, and its width where the widths in it fit
+abbrev pub shape_of : Scope → PlainExpr → Shape
+shape_of scope e = record { misnamed = misnames scope e; width = fitting_width scope e }
+
+-- of the words of an array
+abbrev pub array_shape : Scope → List ℕ → Shape
+array_shape scope n = record { misnamed = not (is_array (scope n)); width = Some (width_of (scope n)) }
+
+-- the second of two widths, where the first is one
+abbrev pub width_behind : Option ℕ → Option ℕ → Option ℕ
+width_behind first second = option_and_then (λ v. second) first
+
+abbrev pub indexed : Shape → Shape → Shape
+indexed array index = record { misnamed = array.misnamed || index.misnamed; width = width_behind index.width array.width }
+
+abbrev pub operator_width : Operator → Option ℕ → Option ℕ → Option ℕ
+operator_width op left right = option_and_then (λ v. option_and_then (applied_width op v) right) left
+
+abbrev pub applied : Operator → Shape → Shape → Shape
+applied op left right = record { misnamed = left.misnamed || right.misnamed; width = operator_width op left.width right.width }
+
+abbrev pub choice_width : Option ℕ → Option ℕ → Option ℕ → Option ℕ
+choice_width test one other = option_and_then (λ t. option_and_then (λ v. option_and_then (chosen_width t v) other) one) test
+
+abbrev pub chosen : Shape → Shape → Shape → Shape
+chosen test one other = record { misnamed = test.misnamed || one.misnamed || other.misnamed; width = choice_width test.width one.width other.width }
+
+abbrev pub sides_width : Option ℕ → Option ℕ → Option ℕ
+sides_width high low = option_and_then (λ v. option_and_then (joined_width v) low) high
+
+abbrev pub joined : Shape → Shape → Shape
+joined high low = record { misnamed = high.misnamed || low.misnamed; width = sides_width high.width low.width }
