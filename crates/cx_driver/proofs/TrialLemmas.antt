@@ -127,7 +127,7 @@ module _ (seed : ℕ) (tree : PlainTree) where
   tells_rule told stop b (inl k) = absurd (verdicts.accepted_once tree told k.0 b)
   tells_rule told stop b (inr k) =
       let same = verdicts.refused_once tree k.0 told k.1 b in
-      record { own = k.0; is = same_stop stop (stops.Rule k.0) k.2; rule = same.0; place = same.1 }
+      record { own = k.0; is = same_stop stop (stops.Rule k.0) k.2; rule = same.rule; place = same.place }
 
   pub all_told : {X : Type 0} (bytes : X → List ℕ) (r : Result X Stop) → IfOk r (λ x. TreeTries seed tree (Ok (bytes x))) → IfErr r (λ stop. (stop ≡ stops.Memory) ⊎ TreeTries seed tree (Err stop))
       → (told : Diagnostic) → TreeBreak tree told → MatchResult r (λ _. ⊥) (λ stop. (stop ≡ stops.Memory) ⊎ TellsRule told stop)
