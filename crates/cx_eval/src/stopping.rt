@@ -16,7 +16,9 @@ use cx_bits::Bits;
 use cx_cells::{PrimState, Primitive};
 use cx_design::FaultKind;
 use cx_eval_cycle::laws::cells_without_enabling_stay;
-use cx_eval_cycle::{CellStop, has_enabling, mark_enabling, mark_looked, out_of_range, stop_at};
+use cx_eval_cycle::{
+    CellStop, all_zero, has_enabling, mark_enabling, mark_looked, out_of_range, stop_at,
+};
 use cx_eval_network::{Asking, Marks};
 
 /// The port at which a primitive of the asked instance stops a cycle, if it does. Its enabling ports are demanded, and then
@@ -49,6 +51,9 @@ pub fn stop_of(
     mark_enabling(primitive, wanted);
     if let Some(lack) = gather_demanded(asking, marks, cell, wanted, inputs) {
         return Some(stop_at(lack));
+    }
+    if all_zero(inputs) {
+        return None;
     }
     mark_looked(primitive, state, inputs, wanted);
     if let Some(lack) = gather_demanded(asking, marks, cell, wanted, inputs) {

@@ -5,3 +5,4 @@ pub mod FaultLemmas
 pub mod AlikeLemmas
 pub mod EndLemmas
 pub mod InertLemmas
+pub mod QuietLemmas

@@ -8,7 +8,7 @@ mod passes;
 mod ranges;
 
 pub use looking::{
-    CellStop, has_enabling, look_at, mark_enabling, mark_looked, step_cell, stop_at,
+    CellStop, all_zero, has_enabling, look_at, mark_enabling, mark_looked, step_cell, stop_at,
 };
 pub use passes::{CellFault, step_cells, step_listed};
 pub use ranges::out_of_range;

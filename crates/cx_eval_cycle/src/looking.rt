@@ -1,6 +1,6 @@
 //! A cell in a cycle: what it looks at, and its step.
 
-ghost use Rattle.std.specs.Prelude.{◌≡◌, ◌≤◌, ◌<◌, ◌^◌, OnOk, length};
+ghost use Rattle.std.specs.Prelude.{◌≡◌, ◌≤◌, ◌<◌, ◌^◌, OnOk, length, true};
 ghost use Rattle.cx_prim.specs.CellStates.{IsState};
 ghost use Rattle.cx_prim.specs.Rows.{FitsPorts, IsLookedAt, is_enable_side};
 ghost use Rattle.cx_prim.specs.Table.{row_of};
@@ -8,14 +8,14 @@ ghost use Rattle.cx_meaning.specs.Cycles as cycles;
 ghost use Rattle.cx_meaning.specs.Cycles.{cell_outcome, stepped};
 ghost use Rattle.cx_eval_drives.specs.Gathers.{AreWide, ports_seen};
 ghost use Rattle.cx_eval_cycle.specs.Enabling.{any_enables};
-ghost use Rattle.cx_eval_cycle.specs.Stops.{AreMarked, told};
+ghost use Rattle.cx_eval_cycle.specs.Stops.{AreMarked, AreZero, told};
 
 use crate::out_of_range;
 use cx_bits::Bits;
 use cx_cells::{PrimState, Primitive};
 use cx_design::{FaultKind, Seen};
 use cx_eval_drives::{Lack, Look, gather};
-use cx_prim::{Cycle, Side};
+use cx_prim::{Cycle, Side, number_at};
 
 /// A port at which a cell stops a cycle, by its number in the cell, and why.
 #[derive(Clone, Copy, Debug, PartialEq, Eq)]
@@ -113,6 +113,18 @@ pub fn mark_looked(
     }
 }
 
+/// Whether no port holds more than 0. Where that is so at the enabling ports of a cell, no other is looked at.
+pub fn all_zero(inputs: &[Option<Bits>]) -> bool
+    ensures zeros { result ≡ true → AreZero inputs.now }
+{
+    for port in 0..inputs.len() {
+        if number_at(inputs, port) != 0 {
+            return false;
+        }
+    }
+    true
+}
+
 /// Looks at a cell: at its enabling ports in port order, then at the ports that it demands at their values, then at its
 /// addresses. Where nothing stops it, `inputs` has what stands at its ports. It takes no memory.
 pub fn look_at<L: Look>(
@@ -135,6 +147,9 @@ pub fn look_at<L: Look>(
     mark_enabling(primitive, wanted);
     if let Some(lack) = gather(look, cell, wanted, inputs) {
         return Err(stop_at(lack));
+    }
+    if all_zero(inputs) {
+        return Ok(());
     }
     mark_looked(primitive, state, inputs, wanted);
     if let Some(lack) = gather(look, cell, wanted, inputs) {

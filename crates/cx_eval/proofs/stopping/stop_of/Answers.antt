@@ -1,4 +1,4 @@
-use Rattle.std.proofs.Common.{◌<◌, length, sym, ap, ◌∙◌, subst, arith, Some}
+use Rattle.std.proofs.Common.{◌<◌, length, refl, sym, ap, ◌∙◌, subst, arith, Some}
 use Rattle.cx_prim.specs.Table.{row_of}
 use Rattle.cx_prim.specs.TableLaws.{row_of_lawful}
 use Rattle.cx_meaning.specs.Cycles.{enables, looks_at}
@@ -7,6 +7,7 @@ use Rattle.cx_eval_drives.proofs.GatherLemmas.{given_fits}
 use Rattle.cx_eval_cycle.specs.declared.looking.CellStop.{CellStop}
 use Rattle.cx_eval_cycle.specs.Stops.{stop_in}
 use Rattle.cx_eval_cycle.proofs.LookLemmas.{marked_gather, lacks_enabling, lacks_demanded, out_of_range_stops, in_range_goes, lacks_below}
+use Rattle.cx_eval_cycle.proofs.QuietLemmas.{quiet_marked, quiet_range}
 use Rattle.cx_eval.specs.Looked.{seen_look}
 use Rattle.cx_eval.proofs.KnownLemmas.{more_same, more_yet}
 use Rattle.cx_eval.proofs.OwnLemmas.{port_node}
@@ -154,3 +155,35 @@ overflow_cast-result c =
     let sized = c.requires.sized in
     let few = c.requires.few in
     omega (arith, below, sized, few)
+
+pub returns-then-all_zero-clause-value : goal.returns-then-all_zero-clause-value
+returns-then-all_zero-clause-value c =
+    let look = ports_seen (seen_look c.args.asking.now) c.args.cell in
+    let row = row_of c.args.primitive.now in
+    let state = c.args.state.now in
+    let zeros = c.if-all_zero.ensures.zeros refl in
+    let sized = c.mark_enabling.ensures.sized ∙ c.requires.wanted in
+    let xs = c.gather_demanded.new.inputs in
+    let given = marked_gather look (enables row) c.mark_enabling.new.wanted row.ports (length c.args.inputs.now) (gathered c.gather_demanded.result xs) c.mark_enabling.ensures.marked sized c.requires.sized c.gather_demanded.ensures.value
+    ∙ ap (λ o. gathered o xs) c.in_default.is in
+    let again = marked_gather look (looks_at row state xs) c.mark_enabling.new.wanted row.ports (length c.args.inputs.now) (gathered c.gather_demanded.result xs)
+    (quiet_marked c.args.primitive.now state xs zeros c.mark_enabling.new.wanted c.mark_enabling.ensures.marked) sized c.requires.sized c.gather_demanded.ensures.value
+    ∙ ap (λ o. gathered o xs) c.in_default.is in
+    ap stop_in (in_range_goes look row state xs xs given again (quiet_range c.args.primitive.now state xs zeros))
+
+pub returns-then-all_zero-clause-more : goal.returns-then-all_zero-clause-more
+returns-then-all_zero-clause-more c = c.gather_demanded.ensures.more
+
+pub returns-then-all_zero-clause-known : goal.returns-then-all_zero-clause-known
+returns-then-all_zero-clause-known c =
+    let look = ports_seen (seen_look c.args.asking.now) c.args.cell in
+    let row = row_of c.args.primitive.now in
+    let state = c.args.state.now in
+    let zeros = c.if-all_zero.ensures.zeros refl in
+    let sized = c.mark_enabling.ensures.sized ∙ c.requires.wanted in
+    let xs = c.gather_demanded.new.inputs in
+    let given = marked_gather look (enables row) c.mark_enabling.new.wanted row.ports (length c.args.inputs.now) (gathered c.gather_demanded.result xs) c.mark_enabling.ensures.marked sized c.requires.sized c.gather_demanded.ensures.value
+    ∙ ap (λ o. gathered o xs) c.in_default.is in
+    looked_up c.args.asking.now c.args.cell row state c.mark_enabling.new.wanted c.mark_enabling.new.wanted c.mark_enabling.ensures.marked sized c.gather_demanded.new.marks c.gather_demanded.new.marks xs
+    (record { known = c.gather_demanded.ensures.known }) given (quiet_marked c.args.primitive.now state xs zeros c.mark_enabling.new.wanted c.mark_enabling.ensures.marked) sized (record { known = c.gather_demanded.ensures.known })
+    (more_same c.args.asking.now c.gather_demanded.new.marks c.gather_demanded.ensures.more.can)

@@ -1,4 +1,4 @@
-use Rattle.std.proofs.Common.{length, sym, ap, ◌∙◌, arith}
+use Rattle.std.proofs.Common.{length, refl, sym, ap, ◌∙◌, arith}
 use Rattle.cx_prim.specs.Table.{row_of}
 use Rattle.cx_prim.specs.TableLaws.{row_of_lawful}
 use Rattle.cx_meaning.specs.Cycles.{Stops, enables, looks_at}
@@ -6,6 +6,7 @@ use Rattle.cx_eval_drives.specs.Gathers.{gathered, ports_seen, wanted_at}
 use Rattle.cx_eval_drives.proofs.GatherLemmas.{given_fits}
 use Rattle.cx_eval_cycle.specs.declared.looking.CellStop.{CellStop}
 use Rattle.cx_eval_cycle.proofs.LookLemmas.{marked_gather, lacks_enabling, lacks_demanded, out_of_range_stops, in_range_goes, given_looked, lacks_below}
+use Rattle.cx_eval_cycle.proofs.QuietLemmas.{quiet_marked, quiet_range}
 use Rattle.cx_eval_cycle.proofs.looking.look_at.Goals as goal
 
 pub returns-in-Some-clause-value : goal.returns-in-Some-clause-value
@@ -135,3 +136,38 @@ overflow_cast-result g c =
     let sized = c.requires.sized in
     let few = c.requires.few in
     omega (arith, below, sized, few)
+
+pub returns-then-all_zero-clause-value : goal.returns-then-all_zero-clause-value
+returns-then-all_zero-clause-value g c =
+    let look = ports_seen (g.L.Look.seen c.args.look.now) c.args.cell in
+    let row = row_of c.args.primitive.now in
+    let state = c.args.state.now in
+    let zeros = c.if-all_zero.ensures.zeros refl in
+    let sized = c.mark_enabling.ensures.sized ∙ c.requires.wanted in
+    let xs = c.gather.new.inputs in
+    let given = marked_gather look (enables row) c.mark_enabling.new.wanted row.ports (length c.args.inputs.now) (gathered c.gather.result xs) c.mark_enabling.ensures.marked sized c.requires.sized c.gather.ensures.value
+    ∙ ap (λ o. gathered o xs) c.in_default.is in
+    let again = marked_gather look (looks_at row state xs) c.mark_enabling.new.wanted row.ports (length c.args.inputs.now) (gathered c.gather.result xs)
+    (quiet_marked c.args.primitive.now state xs zeros c.mark_enabling.new.wanted c.mark_enabling.ensures.marked) sized c.requires.sized c.gather.ensures.value
+    ∙ ap (λ o. gathered o xs) c.in_default.is in
+    in_range_goes look row state xs xs given again (quiet_range c.args.primitive.now state xs zeros)
+
+pub returns-then-all_zero-clause-fits : goal.returns-then-all_zero-clause-fits
+returns-then-all_zero-clause-fits g c =
+    given_fits (ports_seen (g.L.Look.seen c.args.look.now) c.args.cell) (wanted_at c.mark_enabling.new.wanted) (row_of c.args.primitive.now).ports (length c.args.inputs.now) c.gather.new.inputs
+    c.requires.sized c.requires.widths (ap (λ o. gathered o c.gather.new.inputs) (sym c.in_default.is) ∙ c.gather.ensures.value)
+
+pub returns-then-all_zero-clause-looked_at : goal.returns-then-all_zero-clause-looked_at
+returns-then-all_zero-clause-looked_at g c =
+    let look = ports_seen (g.L.Look.seen c.args.look.now) c.args.cell in
+    let row = row_of c.args.primitive.now in
+    let state = c.args.state.now in
+    let zeros = c.if-all_zero.ensures.zeros refl in
+    let sized = c.mark_enabling.ensures.sized ∙ c.requires.wanted in
+    let xs = c.gather.new.inputs in
+    let given = marked_gather look (enables row) c.mark_enabling.new.wanted row.ports (length c.args.inputs.now) (gathered c.gather.result xs) c.mark_enabling.ensures.marked sized c.requires.sized c.gather.ensures.value
+    ∙ ap (λ o. gathered o xs) c.in_default.is in
+    let again = marked_gather look (looks_at row state xs) c.mark_enabling.new.wanted row.ports (length c.args.inputs.now) (gathered c.gather.result xs)
+    (quiet_marked c.args.primitive.now state xs zeros c.mark_enabling.new.wanted c.mark_enabling.ensures.marked) sized c.requires.sized c.gather.ensures.value
+    ∙ ap (λ o. gathered o xs) c.in_default.is in
+    given_looked look row state (λ inputs others n agree. (row_of_lawful c.args.primitive.now).by_enabling state inputs others n agree) xs xs given again
