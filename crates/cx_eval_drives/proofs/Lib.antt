@@ -1,6 +1,5 @@
 pub mod DriveLemmas
 pub mod ActiveLemmas
 pub mod StepLemmas
-pub mod LackLemmas
 pub mod GatherLemmas
 pub mod DriverLemmas

@@ -1,6 +1,5 @@
 pub mod Plain
 pub mod Drives
 pub mod Actives
-pub mod Lacks
 pub mod Gathers
 pub mod Drivers

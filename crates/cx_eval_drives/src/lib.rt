@@ -1,5 +1,4 @@
 //! What one port is seen as, where the ports that it depends on are known.
-//! The first port that an assignment names and that is not known.
 //! What stands at the ports of a cell.
 //! The assignments of each port of a component.
 #![tactic(auto)]
@@ -8,8 +7,6 @@ mod driving;
 mod gather_laws;
 mod gathering;
 mod guards;
-mod known;
-mod lacking;
 mod look;
 mod look_laws;
 mod outputs;
@@ -20,8 +17,6 @@ pub use driving::Drivers;
 pub use gather_laws::gather_counts;
 pub use gathering::{Lack, gather};
 pub use guards::guard_truth;
-pub use known::Known;
-pub use lacking::{lack_in_assign, lack_in_guard};
 pub use look::Look;
 pub use look_laws::{active_is_acyclic, known_ports_decide, own_assigns_drive};
 pub use outputs::{output_seen, seen_of};
