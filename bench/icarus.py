@@ -3,13 +3,14 @@
 
     bench/icarus.py PROGRAM
 
-PROGRAM is the built calyx_cli; `iverilog` and `vvp` have to be installed (Debian's package iverilog). The texts are read out of
+PROGRAM is the built calyx_cli; where `iverilog` or `vvp` is not installed (Debian's package iverilog), that is told and nothing is compared. The texts are read out of
 crates/cx_run_tests/src/simulation.rt. Registers begin with 0, which Icarus Verilog is told. The last line is 'N passed, M failed'; the status is 1
 where one failed, or there was no text.
 """
 import json
 import os
 import re
+import shutil
 import subprocess
 import sys
 import tempfile
@@ -56,6 +57,9 @@ def by_icarus(folder, text, words):
 def main():
     if len(sys.argv) < 2:
         sys.exit(__doc__.strip())
+    if not shutil.which('iverilog') or not shutil.which('vvp'):
+        print('skipped: iverilog is not installed')
+        return 0
     program = os.path.abspath(sys.argv[1])
     passed, failed = 0, 0
     with tempfile.TemporaryDirectory() as folder:
