@@ -4,11 +4,11 @@
     bench/alloc.py PROGRAM [--most N]
 
 PROGRAM is the built calyx_cli. A small library, which `cc` compiles and which is loaded before the C library, counts what the program asks of
-`malloc` and `realloc`, and refuses the request of a number. The runs are `check`, `interp` and `compile` of some designs and `sim` of what
+`malloc` and `realloc`, and refuses the request of a number. The runs are `check`, `interp`, `weave` and `compile` of some designs and `sim` of what
 `compile` wrote, `sim` of a hand-written text, and `trial 0`; each is made once for each of its requests, or with `--most` for so many of them that
 lie evenly. It has to end with status 7, with nothing on standard output and `memory` or nothing on standard error, or with its own status and
-output. Request 300 of `trial 0` has to give 7. Printed are the requests of each run, and how many gave 7. The last line is 'N passed, M failed'; the
-status is 1 where one failed.
+output. Request 300 of `trial 0` has to give 7. The choices of `weave` have to take no memory: a run of 100,000 choices, in which statements of all kinds open and end, has as many
+requests as one of 1,000. Printed are the requests of each run, and how many gave 7. The last line is 'N passed, M failed'; the status is 1 where one failed.
 """
 import argparse
 import concurrent.futures
@@ -77,6 +77,18 @@ def call():
 def island():
     wires = "static<2> group s { r.in = %0 ? 32'd4; r.in = %1 ? 32'd9; r.write_en = 1'd1; } "
     return design(f'{ONE} r = std_reg(32);', wires + store('st', 'r.out'), 'seq { s; st; }'), FIVE
+
+
+def endless():
+    """Arms that never end: a call in a seq, rounds, an island, and a par in a choice."""
+    twice = ("component inc(x: 32) -> () { cells { r = std_reg(32); } wires { group p { r.in = x; r.write_en = 1'd1; p[done] = r.done; } } "
+             "control { seq { p; p; } } }\n")
+    wires = ("n.in = k.out; static<2> group s { t.in = %0 ? 32'd4; t.in = %1 ? 32'd9; t.write_en = 1'd1; } "
+             + ' '.join(f"group {name} {{ {cell}.in = 32'd1; {cell}.write_en = 1'd1; {name}[done] = {cell}.done; }}" for name, cell in (('a', 'u'), ('b', 'v'), ('e', 'w'), ('f', 'x'))))
+    control = ("par { while n.out { seq { a; invoke c(x = 32'd3)(); } } while n.out { repeat 3 { b; } } while n.out { s; } "
+               "while n.out { if n.out { par { e; f; } } } }")
+    cells = 'k = std_reg(1); n = std_not(1); c = inc(); t = std_reg(32); u = std_reg(32); v = std_reg(32); w = std_reg(32); x = std_reg(32);'
+    return design(cells, wires, control, twice)
 
 
 def signed_memories():
@@ -154,12 +166,23 @@ def plan(runs):
         for command in ('check', 'compile'):
             yield f'{command}, {name}', [command, 'design']
         yield f'interp, {name}', ['interp', 'design', 'data', '1000']
+        yield f'weave, {name}', ['weave', 'design', 'data', '100000', '1,0']
         runs.write('verilog', runs.outcome(['compile', 'design'])[1])
         yield f'sim, {name}', ['sim', 'verilog', 'data', '1000']
     runs.write('counter', COUNTER)
     runs.write('none', '{}')
     yield 'sim, hand-written', ['sim', 'counter', 'none', '1000']
     yield 'trial 0', ['trial', '0']
+
+
+def grows(runs):
+    """What is wrong with the requests of many choices."""
+    runs.write('design', endless())
+    runs.write('none', '{}')
+    few, many = (runs.whole(['weave', 'design', 'none', choices, '3,1,2,0,5']) for choices in ('1000', '100000'))
+    print(f'weave, endless: {few[1]} requests in 1,000 choices, {many[1]} in 100,000', flush=True)
+    wanted = ((3, b'', b'more 1000\n'), (3, b'', b'more 100000\n'))
+    return [] if (few[0], many[0]) == wanted and few[1] == many[1] else [f'weave, endless: {few}, {many}']
 
 
 def main():
@@ -173,6 +196,8 @@ def main():
         for name, words in plan(runs):
             wrong, well = swept(runs, name, words, options.most, 300 if words[0] == 'trial' else None)
             failed, passed = failed + wrong, passed + well
+        wrong = grows(runs)
+        failed, passed = failed + wrong, passed + (not wrong)
     print(*failed, f'{passed} passed, {len(failed)} failed', sep='\n')
     return 1 if failed else 0
 

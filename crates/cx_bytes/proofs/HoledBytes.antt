@@ -16,7 +16,7 @@ use Rattle.cx_emit.specs.Exprs.{paired, paired_often, to_the_right, joined, fold
 use Rattle.cx_emit.specs.Names.{wire_name, register_name}
 use Rattle.cx_bytes.proofs.TextBytes.{AreNarrow, expr_bytes, sum_over, Each}
 use Rattle.cx_bytes.proofs.NetBytes.{expr_cost, exprs_cost}
-use Rattle.cx_bytes.proofs.ChainBytes.{bare_costs}
+use Rattle.cx_bytes.proofs.TreeBytes.{bare_costs}
 use Rattle.cx_bytes.proofs.DrivenBytes.{before_bytes}
 use Rattle.cx_bytes.proofs.ExprBytes.{padded, sign_few, folded_few}
 

@@ -4,7 +4,7 @@ use Rattle.std.proofs.lemmas.List.{length-replicate}
 use Rattle.cx_net.specs.Nets.{PlainNetExpr, OfPort, OfRegister, OfWire, OfHole, OfGo, Fixed, Inverse, AllOf, AnyOf, Sum, Compares, PlainNetExprs, no_exprs, an_expr, PlainNetDriver, PlainNetComponent}
 use Rattle.cx_holes.specs.Inlining.{inlined_expr, inlined_exprs, inlined_driver, inlined_component}
 use Rattle.cx_bytes.proofs.NetBytes.{expr_cost, exprs_cost}
-use Rattle.cx_bytes.proofs.ChainBytes.{bare_costs}
+use Rattle.cx_bytes.proofs.TreeBytes.{bare_costs}
 
 module _ (first : ℕ) where
   mutual

@@ -3,7 +3,7 @@ pub mod ModuleBytes
 pub mod NarrowLemmas
 pub mod NetBytes
 pub mod ControlBytes
-pub mod ChainBytes
+pub mod TreeBytes
 pub mod AssignBytes
 pub mod PrimitiveBytes
 pub mod LoweringBytes

@@ -1,5 +1,5 @@
--- What the expressions and drivers of a net cost in bytes: an expression at most as many as it costs, with five to spare. A driver costs a
--- little more, for the rests of long chains.
+-- What the expressions and drivers of a net cost in bytes: an expression at most as many as it costs, with five to spare. A driver costs its
+-- guard once more, since a bundle looks at it twice, and a little for the bundles above.
 use Rattle.std.proofs.Common.{◌≡◌, ℕ, ◌+◌, ◌≤◌, List, [], ◌∷◌, ◌++◌, arith}
 use Rattle.cx_net.specs.Nets.{PlainNetExpr, OfPort, OfRegister, OfWire, OfHole, OfGo, Fixed, Inverse, AllOf, AnyOf, Sum, Compares, PlainNetExprs, no_exprs, an_expr, PlainNetDriver}
 
@@ -33,7 +33,7 @@ any_few no_exprs = omega arith
 any_few (an_expr e es) = omega arith
 
 abbrev pub driver_cost : PlainNetDriver → ℕ
-driver_cost d = expr_cost d.guard + (expr_cost d.source + 13)
+driver_cost d = expr_cost d.guard + (expr_cost d.guard + (expr_cost d.source + 81))
 
 abbrev pub drivers_cost : List PlainNetDriver → ℕ
 drivers_cost [] = 0

@@ -27,7 +27,7 @@ use Rattle.cx_emit.proofs.PortPlaces.{length-numbered}
 use Rattle.cx_bytes.specs.Shallow.{Shallow}
 use Rattle.cx_bytes.proofs.TextBytes.{sum_over}
 use Rattle.cx_bytes.proofs.ModuleBytes.{sum_over-append, module_bytes}
-use Rattle.cx_bytes.proofs.ChainBytes.{bare_costs}
+use Rattle.cx_bytes.proofs.TreeBytes.{bare_costs}
 use Rattle.cx_bytes.proofs.DrivenBytes.{before_bytes}
 use Rattle.cx_bytes.proofs.ComponentBytes.{wire_short, register_short, ports_count}
 use Rattle.cx_bytes.proofs.AssignedBytes.{component_bytes}

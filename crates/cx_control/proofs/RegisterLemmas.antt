@@ -15,17 +15,17 @@ use Rattle.cx_meaning.specs.declared.ports.PortRef.TheVariants as ports
 use Rattle.cx_meaning.specs.declared.sights.Seen.{Seen}
 use Rattle.cx_meaning.specs.declared.sights.Seen.TheVariants.{Value, Conflict, Undefined}
 use Rattle.cx_meaning.specs.Designs.{PlainAssign, PlainCell}
-use Rattle.cx_meaning.specs.Instances.{Instance, Node, Cells, no_cells, a_primitive, an_instance, OfRow, cell_at, cells_of, State, idle_at, idle_below}
+use Rattle.cx_meaning.specs.Instances.{Instance, Node, Cells, no_cells, a_primitive, an_instance, OfRow, cell_at, cell_count, cells_of, State, idle_at, idle_below}
 use Rattle.cx_meaning.specs.Active.{Active, same_port}
 use Rattle.cx_meaning.specs.Truths.{One, Zero, truth_of}
 use Rattle.cx_meaning.specs.Truths as truths
 use Rattle.cx_meaning.specs.Sights.{Look, Held, In, of_option, Given, with_entry, gather_one, gather_port, gather, seen}
-use Rattle.cx_meaning.specs.Cycles.{Fault, Outcome, Next, Stops, enables, after_data, after_enabling, cell_outcome, first_of, first_fault, stepped, cell_after, state_after, Goes, unless_fault, every_cell, cycle}
+use Rattle.cx_meaning.specs.Cycles.{Next, enables, after_data, after_enabling, cell_outcome, outcome_of, Goes, every_cell, cycle}
+use Rattle.cx_meaning.proofs.CycleLemmas.{each_steps, row_within, outcome_listed}
 use Rattle.cx_rules.specs.ShapeRules.{some_target}
 use Rattle.cx_rules.specs.CallShape.{is_reg_name, is_reg_kind, write_en_of, register_done, captured_from}
 use Rattle.cx_control.proofs.GroupLaws.{false_true}
 use Rattle.cx_control.proofs.ConjunctLemmas.{AreOnce, and_both}
-use Rattle.cx_control.proofs.RestLaws.{left_by}
 
 -- THE ROW
 pub is_reg : (name : PrimitiveName) → is_reg_name name ≡ true → name ≡ names.Reg
@@ -133,49 +133,16 @@ written_is_done w r look d after on goes =
             last Undefined h = absurd (cc)
 
 -- A CYCLE THAT GOES ON: each primitive cell goes on, to the state after
-none_fault : (c : ℕ) (o : Outcome) (later : Option Fault) → first_of c o later ≡ None → ((d : CellState) × (o ≡ Next d)) × (later ≡ None)
-none_fault c (Next d) later e = ((d, refl), e)
-none_fault c (Stops kind p) later e = absurd (cc)
-
-row_is : (a b : Row) → OfRow a ≡ OfRow b → a ≡ b
-row_is a b e = cc
-
-cells_go : (look : Look) (s : State) (cells : Cells) (n : ℕ) → first_fault every_cell look s cells n ≡ None → (k : ℕ) (row : Row) → cell_at cells k ≡ OfRow row → (d : CellState) × (cell_outcome look (n + k) row (s ((n + k) ∷ [])) ≡ Next d)
-cells_go look s no_cells n e k row at = absurd (cc)
-cells_go look s (a_primitive r rest) n e zero row at =
-    let first = (none_fault n (cell_outcome look n r (s (n ∷ []))) (first_fault every_cell look s rest (suc n)) e).0 in
-    let same : n ≡ n + 0 = omega arith in
-    subst (λ k. (d : CellState) × (cell_outcome look k row (s (k ∷ [])) ≡ Next d)) same (subst (λ x. (d : CellState) × (cell_outcome look n x (s (n ∷ [])) ≡ Next d)) (row_is r row at) first)
-cells_go look s (a_primitive r rest) n e (suc k) row at =
-    let same : suc n + k ≡ n + suc k = omega arith in
-    subst (λ j. (d : CellState) × (cell_outcome look j row (s (j ∷ [])) ≡ Next d)) same (cells_go look s rest (suc n) (none_fault n (cell_outcome look n r (s (n ∷ []))) (first_fault every_cell look s rest (suc n)) e).1 k row at)
-cells_go look s (an_instance child rest) n e zero row at = absurd (cc)
-cells_go look s (an_instance child rest) n e (suc k) row at =
-    let same : suc n + k ≡ n + suc k = omega arith in
-    subst (λ j. (d : CellState) × (cell_outcome look j row (s (j ∷ [])) ≡ Next d)) same (cells_go look s rest (suc n) e k row at)
-
-after_is : (look : Look) (c : ℕ) (cells : Cells) (k : ℕ) (row : Row) (d : CellState) → cell_at cells k ≡ OfRow row → cell_after every_cell look c cells k d ≡ stepped d (cell_outcome look c row d)
-after_is look c no_cells k row d at = absurd (cc)
-after_is look c (a_primitive r rest) zero row d at = ap (λ x. stepped d (cell_outcome look c x d)) (row_is r row at)
-after_is look c (a_primitive r rest) (suc k) row d at = after_is look c rest k row d at
-after_is look c (an_instance child rest) zero row d at = absurd (cc)
-after_is look c (an_instance child rest) (suc k) row d at = after_is look c rest k row d at
-
-goes_so : (f : Option Fault) (s after : State) → unless_fault f s ≡ Goes after → (f ≡ None) × (s ≡ after)
-unfolding left_by
-goes_so None s after e = (refl, ap (left_by s) e)
-goes_so (Some fault) s after e = absurd (cc)
-
 pub cycle_steps : (i : Instance) (held : Held) (act : Active) (s after : State) (c : ℕ) (row : Row) → cycle i held act s ≡ Goes after → cell_at (cells_of i) c ≡ OfRow row
     → cell_outcome (seen i held act s) c row (s (c ∷ [])) ≡ Next (after (c ∷ []))
 cycle_steps i held act s after c row goes at =
-    let it = goes_so (first_fault every_cell (seen i held act s) s (cells_of i) 0) (state_after every_cell (seen i held act s) (cells_of i) s) after goes in
-    let next = cells_go (seen i held act s) s (cells_of i) 0 it.0 c row at in
-    let same : 0 + c ≡ c = omega arith in
-    let steps : (d : CellState) × (cell_outcome (seen i held act s) c row (s (c ∷ [])) ≡ Next d) = subst (λ k. (d : CellState) × (cell_outcome (seen i held act s) k row (s (k ∷ [])) ≡ Next d)) same next in
-    steps.1 ∙ ap Next (sym (ap (λ (t : State). t (c ∷ [])) (sym it.1) ∙ after_is (seen i held act s) c (cells_of i) c row (s (c ∷ [])) at ∙ ap (stepped (s (c ∷ []))) steps.1))
+    sym (outcome_listed every_cell (seen i held act s) (cells_of i) s c row refl at)
+    ∙ each_steps (outcome_of every_cell (seen i held act s) (cells_of i) s) (cell_count (cells_of i)) s after goes c (row_within (cells_of i) c row at)
 
 -- the idle turn of a primitive cell
+row_is : (a b : Row) → OfRow a ≡ OfRow b → a ≡ b
+row_is a b e = cc
+
 idle_of_cells : (cells : Cells) (c : ℕ) (row : Row) (d : CellState) → cell_at cells c ≡ OfRow row → idle_below cells c [] d ≡ row.idle d
 idle_of_cells no_cells c row d at = absurd (cc)
 idle_of_cells (a_primitive r rest) zero row d at = ap (λ x. x.idle d) (row_is r row at)

@@ -5,7 +5,8 @@ use Rattle.cx_prim.specs.CellStates.{CellState}
 use Rattle.cx_meaning.specs.Instances.{Instance, Node, Cells, no_cells, a_primitive, an_instance, At, Nothing, OfRow, OfInstance, cell_at, cells_of, part_of, Path, State, idle_at, idle_below, idle}
 use Rattle.cx_meaning.specs.Active.{Active}
 use Rattle.cx_meaning.specs.Sights.{Held, seen}
-use Rattle.cx_meaning.specs.Cycles.{Fault, first_fault, state_after, Ended, Goes, Faults, unless_fault, every_cell, cycle}
+use Rattle.cx_meaning.specs.Cycles.{outcome_of, state_after, Goes, every_cell, cycle}
+use Rattle.cx_meaning.proofs.CycleLemmas.{goes_to}
 use Rattle.cx_frames.specs.Rests.{IsUndriven, IsSettledAt}
 use Rattle.cx_lockstep.specs.Doing.{KeepsRest}
 use Rattle.cx_control.specs.Spots.{Spot, Cell, Number, Input, Holds, shown}
@@ -67,15 +68,6 @@ idle_rests i rules held s (Number path n) = refl
 idle_rests i rules held s (Input n) = tt
 
 -- WHAT A CYCLE KEEPS, cell by cell
-unfoldable pub left_by : State → Ended → State
-left_by s (Goes after) = after
-left_by s (Faults fault) = s
-
-goes_to : (fault : Option Fault) (s after : State) → unless_fault fault s ≡ Goes after → s ≡ after
-unfolding left_by
-goes_to None s after e = ap (left_by s) e
-goes_to (Some fault) s after e = absurd (cc)
-
 -- below a primitive cell, and where there is no cell, nothing moves
 nothing_moves : (cells : Cells) (c e : ℕ) (path : Path) (d : CellState) → ((child : Instance) → cell_at cells c ≡ OfInstance child → ⊥) → idle_below cells c (e ∷ path) d ≡ d
 nothing_moves no_cells c e path d none = refl
@@ -89,8 +81,8 @@ settled_at (Node part cells) s c none rests [] = rests
 settled_at (Node part cells) s c none rests (e ∷ path) = nothing_moves cells c e path (s (c ∷ e ∷ path)) none
 
 module _ (i : Instance) (rules : InstanceRules i) (held : Held) (act : Active) (s after : State) (goes : cycle i held act s ≡ Goes after) where
-  is_after : state_after every_cell (seen i held act s) (cells_of i) s ≡ after
-  is_after = goes_to (first_fault every_cell (seen i held act s) s (cells_of i) 0) (state_after every_cell (seen i held act s) (cells_of i) s) after goes
+  is_after : state_after (outcome_of every_cell (seen i held act s) (cells_of i) s) s ≡ after
+  is_after = (goes_to _ _ after goes).1
 
   -- at the instance itself nothing is kept
   pub cycle_keeps_root : after [] ≡ s []

@@ -158,7 +158,7 @@ module _ (i whole : Instance) (keeps : KeepsCalls i whole) where
               plain = plain_group a j c n child e at;
               cell = c;
               calls = calls_of a j c n child e at;
-              breaks = another_cell d (calls_of b k d m other f at_other) r.1 (part_port_there b.target d m other f at_other);
+              breaks = another_cell ((d, calls_of b k d m other f at_other, r.1), part_port_there b.target d m other f at_other);
             })))
 
     -- so the cells that it drives are those that it calls
@@ -193,7 +193,7 @@ module _ (i whole : Instance) (keeps : KeepsCalls i whole) where
       no_output a j p q n target input output depends =
           let same = ((KeepsCalls.beside keeps).parts c child.0 child.1).2 in
           no_break a j (subst (CallBreak whole g c (Calls.child calls)) (sym target)
-          (input_by_output p q n (ap (λ x. part_port x p) same ∙ input) (up same output) (depends_too i whole (KeepsCalls.beside keeps) (group g) depends)))
+          (input_by_output p ((n, ap (λ x. part_port x p) same ∙ input), (q, up same output, depends_too i whole (KeepsCalls.beside keeps) (group g) depends))))
         where
           up : part_of (Calls.child calls) ≡ part_of child.0 → ((m : ℕ) × (part_port (part_of child.0) q ≡ AnOutput m)) ⊎ (part_port (part_of child.0) q ≡ ItsDone)
               → ((m : ℕ) × (part_port (part_of (Calls.child calls)) q ≡ AnOutput m)) ⊎ (part_port (part_of (Calls.child calls)) q ≡ ItsDone)

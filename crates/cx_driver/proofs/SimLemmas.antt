@@ -17,7 +17,6 @@ use Rattle.cx_vtree.proofs.Runs.{one_outcome}
 use Rattle.cx_velab.specs.Paths.{path_of}
 use Rattle.cx_vread_exprs.specs.Places.{Place}
 use Rattle.cx_vread_exprs.proofs.NumberAgain.{clean}
-use Rattle.cx_vread.specs.Within.{is_within}
 use Rattle.cx_vread.specs.Parts.{source_at}
 use Rattle.cx_vread.specs.ReadAnswers.{Answers, ReadAs, Tells}
 use Rattle.cx_vread.specs.declared.refusals.ReadRefusal.{ReadRefusal}
@@ -152,7 +151,7 @@ abbrev Misses : List ℕ → ReadRefusal → Type 0
 Misses text r = (s : PlainSource) → text ≡ text_of s → is_sound s ≡ true → ReadAs s (Err r)
 
 abbrev Breaks : List ℕ → ReadRefusal → Type 0
-Breaks text r = (s : PlainSource) → text ≡ text_of s → is_laid_out s ≡ true → is_within s ≡ true → Answers s (Err r)
+Breaks text r = (s : PlainSource) → text ≡ text_of s → is_laid_out s ≡ true → Answers s (Err r)
 
 -- what the reader tells of a text
 pub unread_text : (text : List ℕ) (r : ReadRefusal) → Misses text r → Breaks text r → Tells text r → IsNoSource text (read_stop r)

@@ -12,7 +12,6 @@ use Rattle.cx_vtree.specs.Sound.{is_sound}
 use Rattle.cx_vtree.specs.Spelling.{text_of}
 use Rattle.cx_vtree.specs.SimRun.{Outcome, DoneAt, LoopAt, NotDone, SimRun}
 use Rattle.cx_velab.specs.Paths.{path_of}
-use Rattle.cx_vread.specs.Within.{is_within}
 use Rattle.cx_vread.specs.ReadAnswers.{Answers, Tells}
 use Rattle.cx_vread.specs.declared.refusals.ReadRefusal.{ReadRefusal}
 use Rattle.cx_vread.specs.declared.refusals.ReadRefusal.TheVariants as unread
@@ -25,13 +24,12 @@ pub record IsVerilogOf (text : List ℕ) (source : PlainSource) : Type 0 where
   pub spelled : text ≡ text_of source
   pub sound : is_sound source ≡ true
 
--- The text spells no sound source. Where it spells one that is laid out, its first break is told, whatever numbers stand in it, if no array
--- has 2^64 words or more. And what is told is so: the first line with which the lines so far begin no text; or the first break of what the
--- text spells, but where an array has 2^64 words or more.
+-- The text spells no sound source. Where it spells one that is laid out, its first break is told, whatever numbers stand in it. And what is
+-- told is so: the first line with which the lines so far begin no text; or the first break of what the text spells.
 pub record IsVerilogRefusal (text : List ℕ) (refused : ReadRefusal) : Type 0 where
   pub told : refused ≢ unread.Memory
   pub no_source : (source : PlainSource) → IsVerilogOf text source → ⊥
-  pub first : (source : PlainSource) → text ≡ text_of source → is_laid_out source ≡ true → is_within source ≡ true → Answers source (Err refused)
+  pub first : (source : PlainSource) → text ≡ text_of source → is_laid_out source ≡ true → Answers source (Err refused)
   pub tells : Tells text refused
 
 -- what an outcome is told as: the dump of its cycle and of the words in which it leaves the memories; the net without a value;

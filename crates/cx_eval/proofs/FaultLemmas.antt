@@ -1,89 +1,51 @@
--- The faults of cells, one by one.
-use Rattle.std.proofs.Common.{◌≡◌, ◌≤◌, ℕ, zero, suc, Bool, true, false, ◌||◌, nat_eq, List, [], ◌∷◌, take, length, Option, Some, None, option_map, map, get_or, drop, drop-cons, ◌+◌, ◌-◌, ◌<◌, ◌⊎◌, inl, inr, ⊎_elim, refl, sym, ap, ◌∙◌, subst, arith}
-use Rattle.std.proofs.lemmas.Bool.{eqb-true}
-use Rattle.std.proofs.lemmas.List.{length-map}
+-- The faults of cells, one by one, with what is gathered for those that have none.
+use Rattle.std.proofs.Common.{◌≡◌, ◌≢◌, ◌≤◌, ℕ, zero, suc, Bool, true, false, ◌||◌, nat_eq, List, [], ◌∷◌, take, length, Option, Some, None, option_map, get_or, drop, drop-cons, ◌+◌, ◌<◌, ◌⊎◌, inl, inr, ⊎_elim, refl, sym, ap, ◌∙◌, subst, arith}
+use Rattle.std.proofs.lemmas.Bool.{cases_eq, eqb-true}
 use Rattle.cx_prim.specs.CellStates.{CellState}
 use Rattle.cx_prim.specs.Table.{PrimitiveRow, row_of}
 use Rattle.cx_meaning.specs.Designs.{PlainKind, OfPrimitive, OfComponent, PlainCell}
 use Rattle.cx_meaning.specs.Sights.{Look}
-use Rattle.cx_eval_network.specs.declared.marks.NodeMark.{NodeMark}
-use Rattle.cx_design.specs.declared.cells.Cell.{Cell}
-use Rattle.cx_design.specs.declared.cells.CellKind.{CellKind}
-use Rattle.cx_design.specs.PlainForms.{plain_cell, plain_kind}
-use Rattle.cx_eval_network.specs.declared.asking.Asking.{Asking}
-use Rattle.cx_eval_network.specs.Askings.{IsAsking}
 use Rattle.cx_eval_cycle.specs.declared.looking.CellStop.{CellStop}
 use Rattle.cx_eval_cycle.specs.declared.passes.CellFault.{CellFault}
-use Rattle.cx_eval_cycle.specs.Passes.{cell_held, fault_of, first_among, first_from, first_some, kind_at, listed_in, stop_of_kind}
-use Rattle.cx_eval_cycle.proofs.PassLemmas.{held_is, kind_is, listed_more}
-use Rattle.cx_eval.proofs.OwnLemmas.{own_long}
-use Rattle.cx_eval.specs.Looked.{IsCellKnown, IsLookedUp, own_cells, own_held, seen_look}
+use Rattle.cx_eval_cycle.specs.declared.rooms.CellRoom.{CellRoom}
+use Rattle.cx_eval_cycle.specs.declared.stepping.SteppingCell.{SteppingCell}
+use Rattle.cx_eval_cycle.specs.Passes.{cell_held, fault_of, first_among, first_some, kind_at, listed_in, stop_of_kind}
+use Rattle.cx_eval_cycle.specs.Rooms.{inputs_at}
+use Rattle.cx_eval_cycle.specs.Stepping.{AreStepping, IsKeptOf, kept_at}
+use Rattle.cx_eval_cycle.specs.Steps.{IsGatheredAt}
+use Rattle.cx_eval_cycle.specs.Stops.{stop_in}
+use Rattle.cx_eval_cycle.proofs.InertLemmas.{outcome_same}
+use Rattle.cx_eval_cycle.proofs.PassLemmas.{listed_more}
+use Rattle.cx_eval_cycle.proofs.StepLemmas.{gathered_still}
 
-no_stop : (look : Look) (c : ℕ) (kind : Option PlainKind) (h : Option CellState) → ((p : PrimitiveRow) (d : CellState) → kind ≡ Some (OfPrimitive p) → h ≡ Some d → ⊥) → stop_of_kind look c kind h ≡ None
-no_stop look c None h none = refl
-no_stop look c (Some (OfPrimitive p)) None none = refl
-no_stop look c (Some (OfPrimitive p)) (Some d) none = absurd (none p d refl refl)
-no_stop look c (Some (OfComponent k)) h none = refl
+module _ (look : Look) (cells : List PlainCell) (held : List (Option CellState)) (c : ℕ) where
+  idle_stop : (kind : Option PlainKind) (h : Option CellState) → IsKeptOf kind None → stop_of_kind look c kind h ≡ None
+  idle_stop (Some (OfPrimitive p)) None is = refl
+  idle_stop (Some (OfPrimitive p)) (Some d) is = ap stop_in (outcome_same p is look c d)
+  idle_stop (Some (OfComponent k)) h is = refl
+  idle_stop None h is = refl
 
-same_primitive : (p q : PrimitiveRow) (k : Option PlainKind) → k ≡ Some (OfPrimitive p) → k ≡ Some (OfPrimitive q) → p ≡ q
-same_primitive p q k e f = cc
+  empty_stop : (kind : Option PlainKind) → stop_of_kind look c kind None ≡ None
+  empty_stop (Some (OfPrimitive p)) = refl
+  empty_stop (Some (OfComponent k)) = refl
+  empty_stop None = refl
 
-same_held : (x y : CellState) (h : Option CellState) → h ≡ Some x → h ≡ Some y → x ≡ y
-same_held x y h e f = cc
+  no_fault : stop_of_kind look c (kind_at cells c) (cell_held held c) ≡ None → None ≡ fault_of look cells held c
+  no_fault e = sym (ap (option_map (λ (stop : CellStop). record { cell = c; stop = stop })) e)
 
-module _ (a : Asking) (c : ℕ) where
-  -- there is no primitive at the cell
-  pub record IsIdle : Type 0 where
-    pub none : (p : PrimitiveRow) (d : CellState) → kind_at (own_cells a) c ≡ Some (OfPrimitive p) → cell_held (own_held a) c ≡ Some d → ⊥
+  -- a cell that cannot step has no fault, nor has one that holds nothing
+  pub idle_faults : (kept : List (Option SteppingCell)) → AreStepping cells kept → kept_at kept c ≡ None → None ≡ fault_of look cells held c
+  idle_faults kept are none = no_fault (idle_stop (kind_at cells c) (cell_held held c) (subst (IsKeptOf (kind_at cells c)) none (are.each c)))
 
-  pub idle_faults : IsIdle → None ≡ fault_of (seen_look a) (own_cells a) (own_held a) c
-  idle_faults idle = sym (ap (option_map (λ (stop : CellStop). record { cell = c; stop = stop })) (no_stop (seen_look a) c (kind_at (own_cells a) c) (cell_held (own_held a) c) idle.none))
+  pub empty_faults : cell_held held c ≡ None → None ≡ fault_of look cells held c
+  empty_faults none = no_fault (ap (stop_of_kind look c (kind_at cells c)) none ∙ empty_stop (kind_at cells c))
 
-  pub idle_known : IsIdle → (marks : List NodeMark) → IsCellKnown a marks c
-  idle_known idle marks p d e f = absurd (idle.none p d e f)
+  -- and nothing is gathered for it
+  pub idle_gathered : (kept : List (Option SteppingCell)) (rooms : List CellRoom) → kept_at kept c ≡ None → IsGatheredAt look kept held rooms c
+  idle_gathered kept rooms none stepping d e f = absurd (let wrong : Some stepping ≡ None = sym e ∙ none in cc)
 
-  pub no_kind : kind_at (own_cells a) c ≡ None → IsIdle
-  no_kind is = record { none = λ p d e f. absurd (let wrong : Some (OfPrimitive p) ≡ None = sym e ∙ is in cc) }
-
-  pub a_component : (k : ℕ) → kind_at (own_cells a) c ≡ Some (OfComponent k) → IsIdle
-  a_component k is = record { none = λ p d e f. absurd (let wrong : Some (OfPrimitive p) ≡ Some (OfComponent k) = sym e ∙ is in cc) }
-
-  pub holds_none : cell_held (own_held a) c ≡ None → IsIdle
-  holds_none is = record { none = λ p d e f. absurd (let wrong : Some d ≡ None = sym f ∙ is in cc) }
-
-  pub only_known : (marks : List NodeMark) (p : PrimitiveRow) (d : CellState) → kind_at (own_cells a) c ≡ Some (OfPrimitive p) → cell_held (own_held a) c ≡ Some d → IsLookedUp a marks c (row_of p) d → IsCellKnown a marks c
-  only_known marks p d e f looked q x g h =
-      subst (λ r. IsLookedUp a marks c (row_of r) x) (same_primitive p q (kind_at (own_cells a) c) e g) (subst (IsLookedUp a marks c (row_of p)) (same_held d x (cell_held (own_held a) c) f h) looked)
-
-pub past_kinds : (cells : List PlainCell) (c : ℕ) → length cells ≤ c → kind_at cells c ≡ None
-past_kinds [] c le = refl
-past_kinds (cell ∷ cells) zero le = absurd (omega (arith, le))
-past_kinds (cell ∷ cells) (suc c) le = past_kinds cells c (omega (arith, le))
-
--- the cells and what they hold, as code has them
-module _ (a : Asking) (can : IsAsking a) (cells : List Cell) (held : List (Option CellState)) (are : map plain_cell cells ≡ own_cells a) (is : held ≡ own_held a) (c : ℕ) where
-  pub same_count : length (own_cells a) ≡ length cells
-  same_count = ap length (sym are) ∙ length-map cells plain_cell
-
-  pub past_cells : length cells ≤ c → IsIdle a c
-  past_cells le = no_kind a c (past_kinds (own_cells a) c (let count = same_count in omega (arith, le, count)))
-
-  pub own_kind : (x : Cell) (kind : CellKind) → c < length cells → (get_or cells c x).kind ≡ kind → kind_at (own_cells a) c ≡ Some (plain_kind kind)
-  own_kind x kind lt e = ap (λ (xs : List PlainCell). kind_at xs c) (sym are) ∙ kind_is cells c x kind lt e
-
-  pub held_below : c < length cells → c < length held
-  held_below lt = let count = same_count in let long = own_long a can in let same = ap length is in omega (arith, lt, count, long, same)
-
-  pub holds_it : (x h : Option CellState) → c < length cells → x ≡ get_or held c x → x ≡ h → cell_held (own_held a) c ≡ h
-  holds_it x h lt at e = ap (λ (xs : List (Option CellState)). cell_held xs c) (sym is) ∙ held_is held c x (held_below lt) ∙ sym at ∙ e
-
-pub from_found : (fault : ℕ → Option CellFault) (c n count : ℕ) (found : CellFault) → c < n → fault c ≡ Some found → first_from fault c (n - c) ≡ first_from fault 0 n → n ≡ count → Some found ≡ first_from fault 0 count
-from_found fault c n count found lt is far same =
-    let s : n - c ≡ suc (n - (c + 1)) = omega arith in
-    sym (ap (λ f. first_some f (first_from fault (suc c) (n - (c + 1)))) is)
-    ∙ sym (ap (first_from fault c) s)
-    ∙ far
-    ∙ ap (first_from fault 0) same
+  pub empty_gathered : (kept : List (Option SteppingCell)) (rooms : List CellRoom) → cell_held held c ≡ None → IsGatheredAt look kept held rooms c
+  empty_gathered kept rooms none stepping d e f = absurd (let wrong : Some d ≡ None = sym f ∙ none in cc)
 
 -- LISTED CELLS
 listed_either : (y c : ℕ) (before : Bool) → (nat_eq y c || before) ≡ true → (y ≡ c) ⊎ (before ≡ true)
@@ -93,16 +55,16 @@ listed_either y c before e = choice (nat_eq y c) refl e
     choice true f g = inl (eqb-true y c f)
     choice false f g = inr g
 
-pub listed_known : (a : Asking) (marks : List NodeMark) (xs : List ℕ) (k : ℕ) → k < length xs → ((c : ℕ) → listed_in (take k xs) c ≡ true → IsCellKnown a marks c) → IsCellKnown a marks (get_or xs k 0)
-    → (c : ℕ) → listed_in (take (k + 1) xs) c ≡ true → IsCellKnown a marks c
-listed_known a marks xs k lt before here c on =
-    ⊎_elim (λ e. subst (IsCellKnown a marks) e here) (λ b. before c b) (listed_either (get_or xs k 0) c (listed_in (take k xs) c) (sym (listed_more xs k c lt) ∙ on))
-
-pub all_listed : (xs : List ℕ) (n c : ℕ) → length xs ≤ n → listed_in (take n xs) c ≡ listed_in xs c
-all_listed [] zero c le = refl
-all_listed [] (suc n) c le = refl
-all_listed (x ∷ xs) zero c le = absurd (omega (arith, le))
-all_listed (x ∷ xs) (suc n) c le = ap (λ t. nat_eq x c || t) (all_listed xs n c (omega (arith, le)))
+module _ (look : Look) (kept : List (Option SteppingCell)) (held : List (Option CellState)) (old new : List CellRoom) (xs : List ℕ) (k : ℕ) where
+  pub listed_gathered : k < length xs → ((c : ℕ) → listed_in (take k xs) c ≡ true → IsGatheredAt look kept held old c) → IsGatheredAt look kept held new (get_or xs k 0)
+      → ((c : ℕ) → c ≢ get_or xs k 0 → inputs_at new c ≡ inputs_at old c) → (c : ℕ) → listed_in (take (k + 1) xs) c ≡ true → IsGatheredAt look kept held new c
+  listed_gathered lt before here others c on =
+      ⊎_elim (λ (e : c ≡ get_or xs k 0). subst (IsGatheredAt look kept held new) (sym e) here) (λ differs. earlier differs (listed_either (get_or xs k 0) c (listed_in (take k xs) c) (sym (listed_more xs k c lt) ∙ on)))
+      (cases_eq c (get_or xs k 0))
+    where
+      earlier : c ≢ get_or xs k 0 → (get_or xs k 0 ≡ c) ⊎ (listed_in (take k xs) c ≡ true) → IsGatheredAt look kept held new c
+      earlier differs (inl e) = absurd (differs (sym e))
+      earlier differs (inr b) = gathered_still look kept held old new c (others c differs) (before c b)
 
 pub among_next : (fault : ℕ → Option CellFault) (xs : List ℕ) (k : ℕ) → k < length xs → fault (get_or xs k 0) ≡ None → first_among fault (drop k xs) ≡ first_among fault xs → first_among fault (drop (k + 1) xs) ≡ first_among fault xs
 among_next fault xs k lt none far =

@@ -1,10 +1,10 @@
 mod OwnLemmas
-mod KnownLemmas
-mod StopLemmas
 mod FaultLemmas
+mod SteppingLemmas
 pub mod DesignProp
 mod PartLemmas
 mod TableLemmas
+mod MakingLemmas
 mod CellLemmas
 mod SightLemmas
 mod ShownLemmas

@@ -1,5 +1,5 @@
 -- The cells of the asked instance: their ports have nodes, they are few, and they hold states of their rows.
-use Rattle.std.proofs.Common.{◌≡◌, ℕ, zero, suc, ◌+◌, ◌<◌, ◌^◌, nat_eq, true, List, [], ◌∷◌, Option, Some, None, get_or, length, refl, sym, ap, ◌∙◌, subst, arith}
+use Rattle.std.proofs.Common.{◌≡◌, ℕ, zero, suc, ◌<◌, ◌^◌, nat_eq, true, List, [], ◌∷◌, Option, Some, None, get_or, length, refl, sym, ap, ◌∙◌, subst, arith}
 use Rattle.std.specs.Prelude.{option_map, slice_get, if◌then◌else◌}
 use Rattle.cx_bits.specs.BitVector.{BitVector}
 use Rattle.cx_prim.specs.CellStates.{CellState, IsState}
@@ -8,7 +8,7 @@ use Rattle.cx_prim.specs.declared.ports.PortRow.{PortRow}
 use Rattle.cx_meaning.specs.declared.ports.PortRef.{PortRef}
 use Rattle.cx_meaning.specs.declared.ports.PortRef.TheVariants.{Cell}
 use Rattle.cx_meaning.specs.Designs.{PlainKind, OfPrimitive, OfComponent, PlainCell, PlainComponent, PlainDesign, component_at, no_component}
-use Rattle.cx_meaning.specs.Instances.{Instance, Cells, OfRow, add_cell, cell_at, cells_for, cells_of, part_of, tree_of, tree_within}
+use Rattle.cx_meaning.specs.Instances.{Instance, Cells, OfRow, add_cell, cell_at, cells_for, cells_of, instance_at, part_of, paths_of, tree_of, tree_within}
 use Rattle.cx_meaning.specs.Sights.{seen, unheld}
 use Rattle.cx_rules.specs.Ports.{cell_width, component_of, width_of}
 use Rattle.cx_rules.specs.Sizes.{sizes_of}
@@ -18,14 +18,16 @@ use Rattle.cx_state.specs.declared.tables.InstanceRow.{InstanceRow}
 use Rattle.cx_state.specs.Tables.{row_at}
 use Rattle.cx_state.specs.States.{HoldCells, HoldsKind, inputs_held, plain_state, under_path}
 use Rattle.cx_state.specs.ReadStates.{state_in}
-use Rattle.cx_design_leads.proofs.NodeLemmas.{component_part, has_node}
-use Rattle.cx_eval_network.specs.Nodes.{first_node, part_at}
+use Rattle.cx_design_leads.proofs.NodeLemmas.{component_part}
+use Rattle.cx_eval_network.specs.Nodes.{part_at}
 use Rattle.cx_eval_network.specs.Networks.{active_at, instance_of, path_at}
 use Rattle.cx_eval_network.proofs.NetworkLemmas.{number_at, same_instance}
 use Rattle.cx_eval_network.specs.declared.asking.Asking.{Asking}
 use Rattle.cx_eval_network.specs.Askings.{IsAsking, asked_of}
 use Rattle.cx_eval_cycle.specs.Passes.{cell_held, kind_at}
-use Rattle.cx_eval.specs.Looked.{own_cells, own_held, own_node, seen_look}
+use Rattle.cx_eval.specs.Evaluated.{IsPort}
+use Rattle.cx_eval.specs.Looked.{own_cells, own_held, seen_look}
+use Rattle.cx_eval.proofs.PartLemmas.{get_is}
 
 -- what stands at a cell
 module _ (child : ℕ → Instance) where
@@ -74,7 +76,7 @@ held_fits (cell ∷ cells) [] h c p held e f = absurd h
 held_fits (cell ∷ cells) (x ∷ xs) h zero p held e f = kind_fits cell.kind x h.0 p held e f
 held_fits (cell ∷ cells) (x ∷ xs) h (suc c) p held e f = held_fits cells xs h.1 c p held e f
 
-held_long : (cells : List PlainCell) (xs : List (Option CellState)) → HoldCells cells xs → length xs ≡ length cells
+pub held_long : (cells : List PlainCell) (xs : List (Option CellState)) → HoldCells cells xs → length xs ≡ length cells
 held_long [] [] h = refl
 held_long [] (x ∷ xs) h = absurd h
 held_long (cell ∷ cells) [] h = absurd h
@@ -122,11 +124,6 @@ module _ (a : Asking) (can : IsAsking a) where
     subst (λ at. n < port_count at) (sym (row_there c p e)) lt,
   )
 
-  pub port_node : (c n : ℕ) (p : PrimitiveRow) → kind_at (own_cells a) c ≡ Some (OfPrimitive p) → n < length (row_of p).ports → (node : ℕ) × (own_node a (Cell c n) ≡ Some node)
-  port_node c n p e lt =
-      let m = has_node (part_at design rows a.instance) (Cell c n) (port_there c n p e lt) (λ w v f. cc) in
-      (first_node design rows a.instance + m.0, ap (option_map (λ k. first_node design rows a.instance + k)) m.1)
-
   pub few_own : length (own_cells a) < 2 ^ 32
   few_own =
       let few = can.can.network.design.few_parts in
@@ -158,3 +155,9 @@ module _ (a : Asking) (can : IsAsking a) where
   own_wide c n p port b e at width =
       let stands : cell_at (cells_of (instance_of (asked_of a) a.instance)) c ≡ OfRow (row_of p) = ap (λ i. cell_at (cells_of i) c) own_instance ∙ row_there c p e in
       same_width (ap (option_map (λ (x : PortRow). x.width)) (sym at) ∙ ap (λ z. cell_width z n) (sym stands) ∙ width)
+
+  -- each port of a primitive is one that can be asked for
+  pub own_port : (c n : ℕ) (p : PrimitiveRow) → kind_at (own_cells a) c ≡ Some (OfPrimitive p) → n < length (row_of p).ports → IsPort design a.instance (Cell c n)
+  own_port c n p e lt path number =
+      let at : path ≡ path_at design a.instance = sym (get_is (paths_of (tree_of design)) a.instance path [] number) in
+      (subst (λ i. IsThere i (Cell c n)) (sym own_instance ∙ ap (instance_at (tree_of design)) (sym at)) (port_there c n p e lt), tt)

@@ -1,17 +1,18 @@
 -- What is asked of the tables of a design, and what stands in them.
-use Rattle.std.proofs.Common.{◌≡◌, ℕ, ◌<◌, ◌^◌, List, get_or, length, map, set, Option, sym, ap, ◌∙◌, subst}
+use Rattle.std.proofs.Common.{◌≡◌, ℕ, zero, suc, ◌<◌, ⊎_elim, List, [], ◌∷◌, get_or, length, map, set, Option, Some, None, option_map, refl, sym, ap, ◌∙◌, subst, arith}
+use Rattle.std.specs.Prelude.{slice_get}
+use Rattle.std.specs.declared.vec.Vec.{Vec}
 use Rattle.std.proofs.Math.Logic.{∥∥₁_elim}
-use Rattle.std.proofs.lemmas.List.{get_or-map, length-map, map-set}
+use Rattle.std.proofs.lemmas.Bool.{cases_eq}
+use Rattle.std.proofs.lemmas.List.{get_or-map, length-map, length-set, map-set}
+use Rattle.std.proofs.lemmas.Option.{slice_get-get_or, slice_get-map}
 use Rattle.cx_prim.specs.CellStates.{CellState}
-use Rattle.cx_meaning.specs.Designs.{PlainComponent, component_at}
 use Rattle.cx_meaning.specs.Instances.{paths_of, tree_of}
 use Rattle.cx_rules.specs.Wellformed.{IsDesign}
 use Rattle.cx_design.specs.declared.actives.Active.{Active}
-use Rattle.cx_design.specs.declared.cells.Cell.{Cell}
-use Rattle.cx_design.specs.declared.components.Component.{Component}
 use Rattle.cx_design.specs.declared.designs.Design.{Design}
 use Rattle.cx_design.specs.PlainDesigns.{plain_design}
-use Rattle.cx_design.specs.PlainForms.{plain_cell, plain_component}
+use Rattle.cx_design.specs.PlainForms.{plain_component}
 use Rattle.cx_eval_drives.specs.Actives.{CanBeActive}
 use Rattle.cx_state.specs.declared.tables.InstanceRow.{InstanceRow}
 use Rattle.cx_state.specs.Tables.{no_row, row_at}
@@ -21,21 +22,30 @@ use Rattle.cx_eval_network.proofs.FoundLemmas.{get_same}
 use Rattle.cx_eval_network.specs.Networks.{IsNetwork, instance_of, path_at}
 use Rattle.cx_eval_network.proofs.NetworkLemmas.{get_there}
 use Rattle.cx_eval_network.specs.Asked.{CanAsk}
+use Rattle.cx_eval_cycle.specs.declared.rooms.CellRoom.{CellRoom}
+use Rattle.cx_eval_cycle.specs.declared.stepping.SteppingCells.{SteppingCells}
+use Rattle.cx_eval_cycle.specs.Rooms.{HaveRooms}
+use Rattle.cx_eval_cycle.specs.Stepping.{AreStepping, AreSteppingCells}
+use Rattle.cx_eval_cycle.proofs.RoomLemmas.{set_other, set_same}
 use Rattle.cx_eval.specs.declared.tables.Tables.{Tables}
 use Rattle.cx_eval.specs.Cycling.{with_cells}
 use Rattle.cx_eval.specs.Evaluated.{CanAct}
-use Rattle.cx_eval.specs.Tables.{AreTables, asked_in, cells_at, design_of}
+use Rattle.cx_eval.specs.Tables.{AreRooms, AreTables, asked_in, cells_at, design_of, kept_in, kept_of}
 use Rattle.cx_eval.proofs.DesignProp.{design_prop}
-use Rattle.cx_eval.proofs.PartLemmas.{cells_few}
 
 pub kept_design : (design : Design) → IsDesign (plain_design design)
 kept_design design = ∥∥₁_elim design.keeps (design_prop (plain_design design)) (λ d. d)
 
-module _ (t : Tables) (are : AreTables t) (n : ℕ) (lt : n < length (paths_of (tree_of (design_of t)))) where
-  abbrev rows : List InstanceRow
-  rows = t.table.rows.items
+some_below : {A : Type 0} (xs : List A) (n : ℕ) → n < length xs → slice_get xs n ≡ None → ⊥
+some_below [] n lt e = absurd (omega (arith, lt))
+some_below (x ∷ xs) zero lt e = cc
+some_below (x ∷ xs) (suc n) lt e = some_below xs n (omega (arith, lt)) e
 
-  pub in_rows : n < length rows
+module _ (t : Tables) (are : AreTables t) (n : ℕ) (lt : n < length (paths_of (tree_of (design_of t)))) where
+  abbrev rows_here : List InstanceRow
+  rows_here = t.table.rows.items
+
+  pub in_rows : n < length rows_here
   in_rows = subst (λ m. n < m) (sym are.table.count) lt
 
   -- what is asked
@@ -46,23 +56,79 @@ module _ (t : Tables) (are : AreTables t) (n : ℕ) (lt : n < length (paths_of (
   can_ask state active fits network = record { network = network; within = in_rows; accepted = are.accepted; driven = are.driven; fits = fits }
 
   -- the cells of an instance
-  module _ (row : InstanceRow) (is : row ≡ get_or rows n row) where
-    same_row : row_at rows n ≡ row
-    same_row = get_same rows n no_row row in_rows ∙ sym is
+  module _ (row : InstanceRow) (is : row ≡ get_or rows_here n row) where
+    same_row : row_at rows_here n ≡ row
+    same_row = get_same rows_here n no_row row in_rows ∙ sym is
 
     pub component_there : row.component < length t.design.now.components.items
     component_there =
         subst (λ m. row.component < m) (length-map t.design.now.components.items plain_component)
         (subst (λ (r : InstanceRow). r.component < length (design_of t).components) same_row (are.table.there n in_rows))
 
-    module _ (part : Component) (value : plain_component part ≡ component_at (design_of t) row.component) (cells : List Cell) (all : cells ≡ part.cells.items) where
-      pub cells_are : map plain_cell cells ≡ cells_at t n
-      cells_are =
-          ap (map plain_cell) all ∙ ap (λ (p : PlainComponent). p.cells) value
-          ∙ ap (λ (r : InstanceRow). (component_at (design_of t) r.component).cells) (sym same_row)
+    -- its cells that can step
+    pub part_below : row.component < length t.parts.items
+    part_below =
+        let there = component_there in
+        let count = are.stepping.count in
+        let long : length (design_of t).components ≡ length t.design.now.components.items = length-map t.design.now.components.items plain_component in
+        omega (arith, there, count, long)
 
-      pub few_cells : length cells < 2 ^ 32
-      few_cells = subst (λ m. m < 2 ^ 32) (ap length (sym cells_are) ∙ length-map cells plain_cell) (cells_few (design_of t) (row_at rows n).component are.design)
+    module _ (part : SteppingCells) (at : part ≡ get_or t.parts.items row.component part) where
+      part_stands : slice_get t.parts.items (row_at rows_here n).component ≡ Some part
+      part_stands = ap (λ (r : InstanceRow). slice_get t.parts.items r.component) same_row ∙ slice_get-get_or t.parts.items row.component part part_below ∙ ap Some (sym at)
+
+      pub part_steps : AreSteppingCells (cells_at t n) part
+      part_steps = are.stepping.each (row_at rows_here n).component part part_stands
+
+      pub part_kept : part.cells.items ≡ kept_of t n
+      part_kept = ap kept_in (sym part_stands)
+
+    -- and room for a look at each
+    module _ {A : Type 0} (rooms : List (Vec CellRoom A)) (have : AreRooms t rooms) where
+      abbrev lists : List (List CellRoom)
+      lists = map (λ own. own.items) rooms
+
+      pub rooms_below : row.component < length rooms
+      rooms_below =
+          let below = part_below in
+          let count = have.count in
+          let long : length lists ≡ length rooms = length-map rooms (λ own. own.items) in
+          omega (arith, below, count, long)
+
+      own_list : (own : Vec CellRoom A) → slice_get lists row.component ≡ Some (get_or rooms row.component own).items
+      own_list own = slice_get-map (λ (x : Vec CellRoom A). x.items) rooms row.component ∙ ap (option_map (λ (x : Vec CellRoom A). x.items)) (slice_get-get_or rooms row.component own rooms_below)
+
+      by_part : (o : Option SteppingCells) → slice_get t.parts.items (row_at rows_here n).component ≡ o → (list : List CellRoom) → slice_get lists row.component ≡ Some list → HaveRooms (kept_in o) list
+      by_part (Some part) e list f = have.each row.component part list (ap (λ (r : InstanceRow). slice_get t.parts.items r.component) (sym same_row) ∙ e) f
+      by_part None e list f = absurd (some_below t.parts.items (row_at rows_here n).component (subst (λ (r : InstanceRow). r.component < length t.parts.items) (sym same_row) part_below) e)
+
+      pub own_rooms : (own : Vec CellRoom A) → HaveRooms (kept_of t n) (get_or rooms row.component own).items
+      own_rooms own = by_part (slice_get t.parts.items (row_at rows_here n).component) refl (get_or rooms row.component own).items (own_list own)
+
+      pub rooms_again : (new : Vec CellRoom A) → HaveRooms (kept_of t n) new.items → AreRooms t (set rooms row.component new)
+      rooms_again new has = record {
+        count = ap length (map-set (λ (x : Vec CellRoom A). x.items) rooms row.component new) ∙ length-set lists row.component new.items ∙ have.count;
+        each =
+            λ k part list e f.
+            let g : slice_get (set lists row.component new.items) k ≡ Some list = ap (λ ls. slice_get ls k) (sym (map-set (λ (x : Vec CellRoom A). x.items) rooms row.component new)) ∙ f in
+            ⊎_elim
+            (λ (at : k ≡ row.component).
+            let same : new.items ≡ list = (let h : Some new.items ≡ Some list = sym (set_same lists row.component new.items (let below = rooms_below in let long : length lists ≡ length rooms = length-map rooms (λ own. own.items) in omega (arith, below, long))) ∙ ap (slice_get (set lists row.component new.items)) (sym at) ∙ g in cc) in
+            let kept : kept_of t n ≡ part.cells.items = ap kept_in (ap (λ (r : InstanceRow). slice_get t.parts.items r.component) same_row ∙ ap (slice_get t.parts.items) (sym at) ∙ e) in
+            subst (HaveRooms part.cells.items) same (subst (λ ks. HaveRooms ks new.items) kept has))
+            (λ differs. have.each k part list e (sym (set_other lists row.component k new.items differs) ∙ g))
+            (cases_eq k row.component);
+      }
+
+pub stepping_there : (t : Tables) → AreTables t → (n : ℕ) → n < length (paths_of (tree_of (design_of t))) → AreStepping (cells_at t n) (kept_of t n)
+stepping_there t are n lt = by (slice_get t.parts.items (row_at t.table.rows.items n).component) refl
+  where
+    below : (row_at t.table.rows.items n).component < length t.parts.items
+    below = let there = are.table.there n (in_rows t are n lt) in let count = are.stepping.count in omega (arith, there, count)
+
+    by : (o : Option SteppingCells) → slice_get t.parts.items (row_at t.table.rows.items n).component ≡ o → AreStepping (cells_at t n) (kept_in o)
+    by (Some part) e = (are.stepping.each (row_at t.table.rows.items n).component part e).kept
+    by None e = absurd (some_below t.parts.items (row_at t.table.rows.items n).component below e)
 
 -- one instance of a state holds something else
 pub items_with : (items : List InstanceState) (n : ℕ) (r x : InstanceState) (cells : List (Option CellState)) → n < length (map plain_instance items) → r ≡ get_or items n r → plain_instance x ≡ record { cells = cells; held = r.held.items }

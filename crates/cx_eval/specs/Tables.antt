@@ -1,9 +1,8 @@
 -- What an evaluator keeps of its design, and what it asks of it.
-use Rattle.std.specs.Prelude.{◌≡◌, ℕ, List, length}
+use Rattle.std.specs.Prelude.{◌≡◌, ℕ, List, [], Option, Some, None, length, map, slice_get}
+use Rattle.std.specs.declared.vec.Vec.{Vec}
 use Rattle.cx_meaning.specs.declared.sights.Seen.{Seen}
-use Rattle.cx_meaning.specs.Cycles.{every_cell}
 use Rattle.cx_meaning.specs.Designs.{PlainDesign, PlainCell, component_at}
-use Rattle.cx_meaning.specs.Instances.{Set}
 use Rattle.cx_rules.specs.Accepted.{IsAccepted}
 use Rattle.cx_rules.specs.Wellformed.{IsDesign}
 use Rattle.cx_design.specs.declared.actives.Active.{Active}
@@ -17,13 +16,20 @@ use Rattle.cx_eval_network.specs.Nodes.{IsNodesOf, node_count}
 use Rattle.cx_eval_drives.specs.Drivers.{AreDrivers}
 use Rattle.cx_eval_network.specs.Networks.{Asked, value_at}
 use Rattle.cx_eval_network.specs.Asked.{asked}
-use Rattle.cx_eval_cycle.specs.Passes.{IsAscending, listed_in}
-use Rattle.cx_eval.specs.declared.listing.Listed.{Listed}
-use Rattle.cx_eval.specs.declared.listing.Listed.TheVariants as listings
+use Rattle.cx_eval_cycle.specs.declared.rooms.CellRoom.{CellRoom}
+use Rattle.cx_eval_cycle.specs.declared.stepping.SteppingCell.{SteppingCell}
+use Rattle.cx_eval_cycle.specs.declared.stepping.SteppingCells.{SteppingCells}
+use Rattle.cx_eval_cycle.specs.Rooms.{HaveRooms}
+use Rattle.cx_eval_cycle.specs.Stepping.{AreSteppingCells}
 use Rattle.cx_eval.specs.declared.tables.Tables.{Tables}
 
 abbrev pub design_of : Tables → PlainDesign
 design_of t = plain_design t.design.now
+
+-- the cells of each component that can step
+pub record AreSteppingParts (d : PlainDesign) (parts : List SteppingCells) : Type 0 where
+  pub count : length parts ≡ length d.components
+  pub each : (k : ℕ) (part : SteppingCells) → slice_get parts k ≡ Some part → AreSteppingCells (component_at d k).cells part
 
 -- the tables are those of an accepted design
 pub record AreTables (t : Tables) : Type 0 where
@@ -32,6 +38,7 @@ pub record AreTables (t : Tables) : Type 0 where
   pub table : IsTable (design_of t) t.table.rows.items t.table.children.items
   pub numbered : IsNodesOf (design_of t) t.table.rows.items t.nodes
   pub driven : AreDrivers (design_of t) t.drivers
+  pub stepping : AreSteppingParts (design_of t) t.parts.items
   pub nothing : t.nothing ≡ actives.Nothing
 
 -- what is asked of them, and the values of its nodes
@@ -54,11 +61,18 @@ pub record AreReady (t : Tables) (rows : List PlainInstance) (n : ℕ) (active :
 abbrev pub cells_at : Tables → ℕ → List PlainCell
 cells_at t n = (component_at (design_of t) (row_at t.table.rows.items n).component).cells
 
--- the cells that take part in a cycle
-abbrev pub set_of : Listed → Set
-set_of listings.Every = every_cell
-set_of (listings.These cells) = listed_in cells.now
+-- those of an instance, as they are kept
+abbrev pub kept_in : Option SteppingCells → List (Option SteppingCell)
+kept_in None = []
+kept_in (Some part) = part.cells.items
 
-abbrev pub AreListed : Listed → Type 0
-AreListed listings.Every = Unit {0}
-AreListed (listings.These cells) = IsAscending cells.now
+abbrev pub kept_of : Tables → ℕ → List (Option SteppingCell)
+kept_of t n = kept_in (slice_get t.parts.items (row_at t.table.rows.items n).component)
+
+-- room for a look at each cell of each component that can step
+pub record HaveAllRooms (parts : List SteppingCells) (rooms : List (List CellRoom)) : Type 0 where
+  pub count : length rooms ≡ length parts
+  pub each : (k : ℕ) (part : SteppingCells) (own : List CellRoom) → slice_get parts k ≡ Some part → slice_get rooms k ≡ Some own → HaveRooms part.cells.items own
+
+abbrev pub AreRooms : {A : Type 0} → Tables → List (Vec CellRoom A) → Type 0
+AreRooms t rooms = HaveAllRooms t.parts.items (map (λ own. own.items) rooms)

@@ -1,64 +1,67 @@
 //! Ports that are demanded.
 
-ghost use Rattle.std.specs.Prelude.{◌≡◌, ◌^◌, ◌<◌, ℕ, true, length};
+ghost use Rattle.std.specs.Prelude.{◌≡◌, ◌^◌, ◌<◌, ℕ, length};
 ghost use Rattle.cx_meaning.specs.declared.ports.PortRef.TheVariants.{Cell};
 ghost use Rattle.cx_design.specs.PlainDesigns.{plain_design};
 ghost use Rattle.cx_eval_network.specs.Nodes.{ArePortsOf};
-ghost use Rattle.cx_eval_drives.specs.Gathers.{gather_all, gathered, ports_seen, wanted_at};
+ghost use Rattle.cx_eval_drives.specs.Gathers.{entry_of, gather_all, gathered, ports_seen, slotted, wanted_at};
 ghost use Rattle.cx_eval_network.specs.Askings.{IsAsking};
-ghost use Rattle.cx_eval.specs.Looked.{CanDemand, HaveNodes, IsKnownPort, KnowsMore, seen_look};
+ghost use Rattle.cx_eval.specs.Evaluated.{IsPort};
+ghost use Rattle.cx_eval.specs.Looked.{CanDemand, seen_look};
 
 use cx_bits::Bits;
-use cx_design::PortRef;
-use cx_eval_drives::{Lack, gather};
-use cx_eval_network::{Asking, InstancePorts, MarkedPorts, Marks};
+use cx_design::{PortRef, Seen};
+use cx_eval_drives::Lack;
+use cx_eval_network::{Asking, InstancePorts, Marks, literal_seen};
 
-/// Demands a port of the asked instance, where it is wanted.
-fn demand_wanted(
+/// What a port of the asked instance is seen as: a node is demanded, and a literal is as it is. It takes no memory.
+pub fn demand_port(
+    asking: &Asking<'_>,
+    ports: InstancePorts<'_>,
+    marks: &mut Marks,
+    port: PortRef,
+) -> Seen
+    requires can { IsAsking asking.now }
+    requires own { ArePortsOf (plain_design asking.now.design.now) asking.now.table.now.rows.items asking.now.instance ports }
+    requires ready { CanDemand asking.now marks.old }
+    requires port { IsPort (plain_design asking.now.design.now) asking.now.instance port }
+    ensures value { result ≡ seen_look asking.now port }
+    ensures ready { CanDemand asking.now marks.new }
+{
+    match ports.node(port) {
+        Some(node) => marks.demand(asking, node),
+        None => literal_seen(port),
+    }
+}
+
+/// Puts what stands at a port into its slot: nothing where it is not wanted, and else its value. Where it is no value, the
+/// answer is what the port is seen as.
+fn gather_port(
     asking: &Asking<'_>,
     ports: InstancePorts<'_>,
     marks: &mut Marks,
     port: PortRef,
     wanted: bool,
-)
+    slot: &mut Option<Bits>,
+) -> Option<Seen>
     requires can { IsAsking asking.now }
     requires own { ArePortsOf (plain_design asking.now.design.now) asking.now.table.now.rows.items asking.now.instance ports }
     requires ready { CanDemand asking.now marks.old }
-    ensures more { KnowsMore asking.now marks.old marks.new }
-    ensures known { wanted ≡ true → IsKnownPort asking.now marks.new port }
+    requires port { IsPort (plain_design asking.now.design.now) asking.now.instance port }
+    ensures value { slotted result slot.new ≡ entry_of wanted (seen_look asking.now port) }
+    ensures ready { CanDemand asking.now marks.new }
 {
     if !wanted {
-        return;
+        *slot = None;
+        return None;
     }
-    match ports.node(port) {
-        Some(node) => marks.demand(asking, node),
-        None => {}
-    }
-}
-
-/// Demands the wanted ports of a cell.
-fn demand_ports(
-    asking: &Asking<'_>,
-    ports: InstancePorts<'_>,
-    marks: &mut Marks,
-    cell: u32,
-    wanted: &[bool],
-)
-    requires can { IsAsking asking.now }
-    requires own { ArePortsOf (plain_design asking.now.design.now) asking.now.table.now.rows.items asking.now.instance ports }
-    requires ready { CanDemand asking.now marks.old }
-    requires few { length wanted.now < 2 ^ 32 }
-    ensures more { KnowsMore asking.now marks.old marks.new }
-    ensures known { (p : ℕ) → p < length wanted.now → wanted_at wanted.now p ≡ true → IsKnownPort asking.now marks.new (Cell cell p) }
-{
-    for port in 0..wanted.len() {
-        demand_wanted(
-            asking,
-            ports,
-            marks,
-            PortRef::Cell(cell, port as u32),
-            wanted[port],
-        );
+    match demand_port(asking, ports, marks, port) {
+        Seen::Value(bits) => {
+            *slot = Some(bits);
+            None
+        }
+        Seen::Conflict => Some(Seen::Conflict),
+        Seen::Undefined => Some(Seen::Undefined),
     }
 }
 
@@ -72,23 +75,22 @@ pub fn gather_demanded(
 ) -> Option<Lack>
     requires can { IsAsking asking.now }
     requires ready { CanDemand asking.now marks.old }
-    requires nodes { HaveNodes asking.now cell (length wanted.now) }
+    requires ports { (p : ℕ) → p < length inputs.old → IsPort (plain_design asking.now.design.now) asking.now.instance (Cell cell p) }
     requires sized { length wanted.now ≡ length inputs.old }
     requires few { length inputs.old < 2 ^ 32 }
     ensures value { gathered result inputs.new ≡ gather_all (ports_seen (seen_look asking.now) cell) (wanted_at wanted.now) 0 (length inputs.old) }
-    ensures more { KnowsMore asking.now marks.old marks.new }
-    ensures known { (p : ℕ) → p < length wanted.now → wanted_at wanted.now p ≡ true → IsKnownPort asking.now marks.new (Cell cell p) }
+    ensures ready { CanDemand asking.now marks.new }
+    ensures sized { length inputs.new ≡ length inputs.old }
 {
     let ports = asking
         .nodes
         .ports_of(asking.design, asking.table, asking.instance);
-    demand_ports(asking, ports, marks, cell, wanted);
-    let look = MarkedPorts {
-        design: asking.design,
-        table: asking.table,
-        ports,
-        marks: marks.marks(),
-        instance: asking.instance,
-    };
-    gather(&look, cell, wanted, inputs)
+    for port in 0..inputs.len() {
+        let place = PortRef::Cell(cell, port as u32);
+        let slot = &mut inputs[port];
+        if let Some(seen) = gather_port(asking, ports, marks, place, wanted[port], slot) {
+            return Some(Lack { port, seen });
+        }
+    }
+    None
 }

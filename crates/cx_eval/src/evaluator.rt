@@ -10,12 +10,12 @@ ghost use Rattle.cx_state.specs.States.{IsStateOf, plain_state};
 ghost use Rattle.cx_eval.specs.Evaluated.{CanAct, Cycled, IsPort, IsSeen, Turned};
 ghost use Rattle.cx_eval_cycle.specs.Passes.{IsAscending, listed_in};
 
-use crate::cycling::cycle_in;
-use crate::listing::Listed;
+use crate::cycling::{cycle_all, cycle_listed};
 use crate::sights::seen_in;
-use crate::tables::Tables;
+use crate::tables::{Tables, rooms_of};
 use crate::turns::{GroupTurn, turn_in};
 use cx_design::{Active, Checked, PortFault, PortRef, Seen};
+use cx_eval_cycle::CellRoom;
 use cx_eval_network::Marks;
 use cx_state::State;
 use cx_text::Memory;
@@ -28,13 +28,15 @@ pub struct Evaluator<'a> {
     tables: Tables<'a>,
     /// What is known of the ports of all instances, in one state and under one active set.
     marks: Marks,
+    /// Room for a look at each cell of each component that can step.
+    rooms: Vec<Vec<CellRoom>>,
 }
 
 impl<'a> Model for Evaluator<'a> {
     ghost use Rattle.cx_design.specs.declared.designs.Design.{Design};
     ghost use Rattle.std.specs.Coded.{codes};
     ghost use Rattle.cx_design.specs.contracts.designs.Design as designs;
-    ghost use Rattle.cx_eval.specs.Tables.{AreMarksOf, AreTables};
+    ghost use Rattle.cx_eval.specs.Tables.{AreMarksOf, AreRooms, AreTables};
 
     ghost Value = { Design };
 
@@ -42,7 +44,7 @@ impl<'a> Model for Evaluator<'a> {
 
     ghost view = { λ e. e.tables.design.now };
 
-    ghost invariant = { λ e. AreTables e.tables × AreMarksOf e.tables e.marks };
+    ghost invariant = { λ e. AreTables e.tables × AreMarksOf e.tables e.marks × AreRooms e.tables e.rooms.items };
 }
 
 impl<'a> Evaluator<'a> {
@@ -52,7 +54,12 @@ impl<'a> Evaluator<'a> {
     {
         let tables = Tables::new(alloc, design)?;
         let marks = Marks::new(alloc, tables.nodes.count())?;
-        Ok(Evaluator { tables, marks })
+        let rooms = rooms_of(alloc, &tables)?;
+        Ok(Evaluator {
+            tables,
+            marks,
+            rooms,
+        })
     }
 
     /// What a port of an instance is seen as under an active set. It takes no memory.
@@ -84,13 +91,13 @@ impl<'a> Evaluator<'a> {
         ensures same { self.new ≡ self.old }
     {
         self.marks.forget();
-        cycle_in(
+        cycle_all(
             &self.tables,
             &mut self.marks,
+            &mut self.rooms,
             state,
             active,
             instance,
-            Listed::Every,
         )
     }
 
@@ -111,13 +118,14 @@ impl<'a> Evaluator<'a> {
         ensures same { self.new ≡ self.old }
     {
         self.marks.forget();
-        cycle_in(
+        cycle_listed(
             &self.tables,
             &mut self.marks,
+            &mut self.rooms,
             state,
             active,
             instance,
-            Listed::These(cells),
+            cells,
         )
     }
 
@@ -140,6 +148,14 @@ impl<'a> Evaluator<'a> {
         ensures same { self.new ≡ self.old }
     {
         self.marks.forget();
-        turn_in(&self.tables, &mut self.marks, state, instance, group, cells)
+        turn_in(
+            &self.tables,
+            &mut self.marks,
+            &mut self.rooms,
+            state,
+            instance,
+            group,
+            cells,
+        )
     }
 }

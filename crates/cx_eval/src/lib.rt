@@ -7,14 +7,11 @@ mod demanding;
 mod evaluator;
 mod faults;
 pub mod laws;
-mod listing;
-mod owned;
+mod looking;
 mod sights;
 mod stepping;
-mod stopping;
 mod tables;
 mod turns;
 
 pub use evaluator::Evaluator;
-pub use faults::{first_fault, first_fault_among};
 pub use turns::GroupTurn;

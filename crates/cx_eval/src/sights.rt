@@ -5,28 +5,15 @@ ghost use Rattle.cx_meaning.specs.Instances.{paths_of, tree_of};
 ghost use Rattle.cx_design.specs.PlainDesigns.{plain_design};
 ghost use Rattle.cx_state.specs.States.{IsStateOf, plain_state};
 ghost use Rattle.cx_eval_network.specs.Askings.{IsAsking};
-ghost use Rattle.cx_eval.specs.Looked.{CanDemand, IsKnownPort, KnowsMore, seen_look};
+ghost use Rattle.cx_eval.specs.Looked.{CanDemand, seen_look};
 ghost use Rattle.cx_eval.specs.Evaluated.{CanAct, IsPort, IsSeen};
 ghost use Rattle.cx_eval.specs.Tables.{AreReady, AreTables, design_of};
 
+use crate::demanding::demand_port;
 use crate::tables::{Tables, ask};
 use cx_design::{Active, PortRef, Seen};
-use cx_eval_drives::Look;
-use cx_eval_network::{Asking, MarkedPorts, Marks};
+use cx_eval_network::{Asking, Marks};
 use cx_state::State;
-
-/// Finds what a port of the asked instance is seen as, where it has a node.
-fn demand_port(asking: &Asking<'_>, marks: &mut Marks, port: PortRef)
-    requires can { IsAsking asking.now }
-    requires ready { CanDemand asking.now marks.old }
-    ensures more { KnowsMore asking.now marks.old marks.new }
-    ensures known { IsKnownPort asking.now marks.new port }
-{
-    match asking.nodes.node(asking.instance, port) {
-        Some(node) => marks.demand(asking, node),
-        None => {}
-    }
-}
 
 /// What a port of the asked instance is seen as. It takes no memory.
 fn port_seen(asking: &Asking<'_>, marks: &mut Marks, port: PortRef) -> Seen
@@ -36,17 +23,10 @@ fn port_seen(asking: &Asking<'_>, marks: &mut Marks, port: PortRef) -> Seen
     ensures value { result ≡ seen_look asking.now port }
     ensures ready { CanDemand asking.now marks.new }
 {
-    demand_port(asking, marks, port);
-    let look = MarkedPorts {
-        design: asking.design,
-        table: asking.table,
-        ports: asking
-            .nodes
-            .ports_of(asking.design, asking.table, asking.instance),
-        marks: marks.marks(),
-        instance: asking.instance,
-    };
-    look.at(port)
+    let ports = asking
+        .nodes
+        .ports_of(asking.design, asking.table, asking.instance);
+    demand_port(asking, ports, marks, port)
 }
 
 /// What a port of an instance is seen as under an active set, where what is marked is right. It takes no memory.

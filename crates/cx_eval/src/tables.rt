@@ -1,28 +1,33 @@
 //! What an evaluator knows of its design and never changes.
 
-ghost use Rattle.std.specs.Prelude.{◌≡◌, ◌<◌, ◌^◌, IfOk, length, map};
+ghost use Rattle.std.specs.Prelude.{◌≡◌, ◌<◌, IfOk, length};
 ghost use Rattle.cx_meaning.specs.Instances.{paths_of, tree_of};
-ghost use Rattle.cx_design.specs.PlainForms.{plain_cell};
+ghost use Rattle.cx_rules.specs.Wellformed.{IsDesign};
+ghost use Rattle.cx_design.specs.PlainDesigns.{plain_design};
 ghost use Rattle.cx_state.specs.States.{IsStateOf, plain_state};
 ghost use Rattle.cx_eval_network.specs.Askings.{IsAsking, asked_of};
+ghost use Rattle.cx_eval_cycle.specs.Stepping.{AreSteppingCells};
 ghost use Rattle.cx_eval.specs.Evaluated.{CanAct};
-ghost use Rattle.cx_eval.specs.Tables.{AreTables, asked_in, cells_at, design_of};
+ghost use Rattle.cx_eval.specs.Tables.{AreRooms, AreSteppingParts, AreTables, asked_in, cells_at, design_of, kept_of};
 
-use cx_design::{Active, Cell, Checked, Design};
+use cx_design::{Active, Checked, Design};
 use cx_design_parts::component;
+use cx_eval_cycle::{CellRoom, SteppingCells, rooms_for};
 use cx_eval_drives::Drivers;
 use cx_eval_network::{Asking, Nodes, accepted_designs_are_networks};
 use cx_state::{InstanceTable, State, instances};
 use cx_text::Memory;
 use std::alloc::Global;
 
-/// A design, and the tables of its instances, of their ports and of what drives these.
+/// A design, and the tables of its instances, of their ports and of what drives these, and of the cells that can step.
 #[derive(Drop)]
 pub(crate) struct Tables<'a> {
     pub(crate) design: &'a Design,
     pub(crate) table: InstanceTable,
     pub(crate) nodes: Nodes,
     pub(crate) drivers: Drivers<'a>,
+    /// The cells of each component that can step.
+    pub(crate) parts: Vec<SteppingCells<'a>>,
     /// The empty active set, for the instances below the asked one.
     pub(crate) nothing: Active,
 }
@@ -37,11 +42,13 @@ impl<'a> Tables<'a> {
         let design = design.design();
         let nodes = Nodes::new(alloc, design, &table)?;
         let drivers = Drivers::new(alloc, design)?;
+        let parts = stepping_parts(alloc, design)?;
         Ok(Tables {
             design,
             table,
             nodes,
             drivers,
+            parts,
             nothing: Active::Nothing,
         })
     }
@@ -75,13 +82,37 @@ pub(crate) fn ask<'b, 'a>(
     }
 }
 
-/// The cells of an instance.
-pub(crate) fn cells_of<'b>(tables: &'b Tables<'_>, instance: usize) -> &'b [Cell]
+/// The cells of each component of a design that can step.
+fn stepping_parts<'a>(alloc: Global, design: &'a Design) -> Result<Vec<SteppingCells<'a>>, Memory>
+    requires design { IsDesign (plain_design design.now) }
+    ensures value { IfOk result (λ parts. AreSteppingParts (plain_design design.now) parts.items) }
+{
+    let mut parts = Vec::new(alloc);
+    for number in 0..design.components.len() {
+        let cells = component(design, number).cells.as_slice();
+        parts.push(SteppingCells::new(alloc, cells)?)?;
+    }
+    Ok(parts)
+}
+
+/// Room for a look at each cell of each component that can step.
+pub(crate) fn rooms_of(alloc: Global, tables: &Tables<'_>) -> Result<Vec<Vec<CellRoom>>, Memory>
+    ensures value { IfOk result (λ rooms. AreRooms tables.now rooms.items) }
+{
+    let mut rooms = Vec::new(alloc);
+    for number in 0..tables.parts.len() {
+        rooms.push(rooms_for(alloc, &tables.parts[number].cells)?)?;
+    }
+    Ok(rooms)
+}
+
+/// The cells of an instance that can step.
+pub(crate) fn stepping_of<'b, 'a>(tables: &'b Tables<'a>, instance: usize) -> &'b SteppingCells<'a>
     requires tables { AreTables tables.now }
     requires instance { instance < length (paths_of (tree_of (design_of tables.now))) }
-    ensures value { map plain_cell result.now ≡ cells_at tables.now instance }
-    ensures few { length result.now < 2 ^ 32 }
+    ensures value { AreSteppingCells (cells_at tables.now instance) result.now }
+    ensures kept { result.now.cells.items ≡ kept_of tables.now instance }
 {
-    let number = tables.table.rows[instance].component as usize;
-    component(tables.design, number).cells.as_slice()
+    let part = tables.table.rows[instance].component as usize;
+    &tables.parts[part]
 }

@@ -9,13 +9,13 @@ ghost use Rattle.cx_design.specs.declared.actives.Active.TheVariants.{Group};
 ghost use Rattle.cx_state.specs.States.{IsStateOf, plain_state};
 ghost use Rattle.cx_eval_cycle.specs.Passes.{IsAscending, listed_in};
 ghost use Rattle.cx_eval.specs.Evaluated.{CanAct, IsPort, Turned};
-ghost use Rattle.cx_eval.specs.Tables.{AreMarksOf, AreReady, AreTables, design_of};
+ghost use Rattle.cx_eval.specs.Tables.{AreMarksOf, AreReady, AreRooms, AreTables, design_of};
 
-use crate::cycling::cycle_in;
-use crate::listing::Listed;
+use crate::cycling::cycle_listed;
 use crate::sights::seen_in;
 use crate::tables::Tables;
 use cx_design::{Active, PortFault, PortRef, Seen};
+use cx_eval_cycle::CellRoom;
 use cx_eval_drives::{Truth, truth_of};
 use cx_eval_network::Marks;
 use cx_state::State;
@@ -41,6 +41,7 @@ fn is_zero(seen: &Seen) -> bool
 pub(crate) fn turn_in(
     tables: &Tables<'_>,
     marks: &mut Marks,
+    rooms: &mut [Vec<CellRoom>],
     state: &mut State,
     instance: usize,
     group: u32,
@@ -52,9 +53,11 @@ pub(crate) fn turn_in(
     requires active { CanAct (design_of tables.now) instance (Group group) }
     requires port { IsPort (design_of tables.now) instance (Done group) }
     requires ready { AreReady tables.now (plain_state state.old) instance (Group group) marks.old }
+    requires rooms { AreRooms tables.now rooms.old }
     requires ascending { IsAscending cells.now }
     ensures value { Turned (design_of tables.now) (plain_state state.old) (plain_state state.new) instance group (listed_in cells.now) result }
     ensures fits { IsStateOf (design_of tables.now) (plain_state state.new) }
+    ensures rooms { AreRooms tables.now rooms.new }
     ensures sized { AreMarksOf tables.now marks.new }
 {
     let active = Active::Group(group);
@@ -67,8 +70,7 @@ pub(crate) fn turn_in(
         PortRef::Done(group),
     );
     if is_zero(&hole) {
-        let listed = Listed::These(cells);
-        GroupTurn::Cycled(cycle_in(tables, marks, state, &active, instance, listed))
+        GroupTurn::Cycled(cycle_listed(tables, marks, rooms, state, &active, instance, cells))
     } else {
         GroupTurn::Seen(hole)
     }

@@ -13,7 +13,7 @@ use Rattle.cx_meaning.specs.declared.sights.Seen.{Seen}
 use Rattle.cx_meaning.specs.Rows.{side_from}
 use Rattle.cx_meaning.specs.Sights.{Given, Look, gather, gather_port}
 use Rattle.cx_meaning.specs.Cycles.{Next, cell_outcome, enables, looks_at, stepped}
-use Rattle.cx_eval_cycle.specs.Enabling.{any_enables}
+use Rattle.cx_eval_cycle.specs.Stepping.{any_enables}
 use Rattle.cx_eval_cycle.proofs.LookLemmas.{in_range_goes}
 
 -- PORTS

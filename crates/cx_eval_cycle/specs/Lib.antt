@@ -1,5 +1,6 @@
 pub mod Ranges
 pub mod Stops
 pub mod Passes
-pub mod Alike
-pub mod Enabling
+pub mod Stepping
+pub mod Rooms
+pub mod Steps

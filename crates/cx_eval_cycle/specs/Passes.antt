@@ -1,14 +1,12 @@
 -- Passes over the listed cells of an instance: the first fault, and what each cell holds afterwards.
-use Rattle.std.specs.Prelude.{◌≡◌, ◌<◌, ◌≤◌, ℕ, zero, suc, ◌||◌, nat_eq, false, List, [], ◌∷◌, get_or, length, Option, Some, None, option_map, Result, Ok, Err, slice_get, if◌then◌else◌}
-use Rattle.cx_prim.specs.CellStates.{CellState, IsState}
+use Rattle.std.specs.Prelude.{◌≡◌, ◌<◌, ℕ, suc, ◌||◌, nat_eq, false, List, [], ◌∷◌, get_or, Option, Some, None, option_map, Result, Ok, Err, slice_get, if◌then◌else◌}
+use Rattle.cx_prim.specs.CellStates.{CellState}
 use Rattle.cx_prim.specs.Table.{PrimitiveRow, row_of}
 use Rattle.cx_meaning.specs.declared.ports.PortRef.TheVariants.{Cell}
-use Rattle.cx_meaning.specs.declared.sights.Seen.{Seen}
 use Rattle.cx_meaning.specs.Designs.{PlainKind, OfPrimitive, PlainCell}
 use Rattle.cx_meaning.specs.Instances.{Set, State}
 use Rattle.cx_meaning.specs.Sights.{Look}
 use Rattle.cx_meaning.specs.Cycles.{Fault, fault_at, Ended, Goes, Faults, cell_outcome, stepped}
-use Rattle.cx_eval_drives.specs.Gathers.{AreWide, ports_seen}
 use Rattle.cx_eval_cycle.specs.declared.looking.CellStop.{CellStop}
 use Rattle.cx_eval_cycle.specs.declared.passes.CellFault.{CellFault}
 use Rattle.cx_eval_cycle.specs.Stops.{stop_in}
@@ -19,17 +17,6 @@ kind_at cells c = option_map (λ cell. cell.kind) (slice_get cells c)
 
 abbrev pub cell_held : List (Option CellState) → ℕ → Option CellState
 cell_held held c = get_or held c None
-
--- a primitive holds a state of its row, if anything, the values at its ports are as wide as these, and there is room for its ports
-pub record CanStep (look : ℕ → Seen) (p : PrimitiveRow) (held : Option CellState) (room : ℕ) : Type 0 where
-  pub state : (d : CellState) → held ≡ Some d → IsState (row_of p).shape d
-  pub widths : AreWide look (row_of p).ports
-  pub ports : length (row_of p).ports ≤ room
-
--- so do all primitives among cells, of which each has an entry
-pub record CanCycle (look : Look) (cells : List PlainCell) (held : List (Option CellState)) (room : ℕ) : Type 0 where
-  pub long : length held ≡ length cells
-  pub each : (c : ℕ) (p : PrimitiveRow) → kind_at cells c ≡ Some (OfPrimitive p) → CanStep (ports_seen look c) p (cell_held held c) room
 
 -- the port at which a cell stops, and what it holds after its step
 abbrev pub stop_of_kind : Look → ℕ → Option PlainKind → Option CellState → Option CellStop
@@ -43,17 +30,13 @@ after_kind look c _ h = h
 abbrev pub fault_of : Look → List PlainCell → List (Option CellState) → ℕ → Option CellFault
 fault_of look cells held c = option_map (λ stop. record { cell = c; stop = stop }) (stop_of_kind look c (kind_at cells c) (cell_held held c))
 
-abbrev pub after_of : Look → List PlainCell → List (Option CellState) → ℕ → Option CellState
-after_of look cells held c = after_kind look c (kind_at cells c) (cell_held held c)
+abbrev pub after_of : Look → List PlainCell → ℕ → Option CellState → Option CellState
+after_of look cells c held = after_kind look c (kind_at cells c) held
 
--- the first fault of so many cells from one on, and of listed cells
+-- the first fault of listed cells
 abbrev pub first_some : Option CellFault → Option CellFault → Option CellFault
 first_some None later = later
 first_some (Some fault) later = Some fault
-
-abbrev pub first_from : (ℕ → Option CellFault) → ℕ → ℕ → Option CellFault
-first_from fault c zero = None
-first_from fault c (suc n) = first_some (fault c) (first_from fault (suc c) n)
 
 abbrev pub first_among : (ℕ → Option CellFault) → List ℕ → Option CellFault
 first_among fault [] = None
@@ -63,9 +46,9 @@ abbrev pub listed_in : List ℕ → Set
 listed_in [] c = false
 listed_in (x ∷ xs) c = nat_eq x c || listed_in xs c
 
--- each cell of the set holds what it holds after its step, and each other one what it held
-abbrev pub AreStepped : Set → Look → List PlainCell → List (Option CellState) → List (Option CellState) → Type 0
-AreStepped listed look cells old new = (c : ℕ) → cell_held new c ≡ (if listed c then after_of look cells old c else cell_held old c)
+-- each cell of the set holds what it comes to, by what it held, and each other one what it held
+abbrev pub AreStepped : Set → (ℕ → Option CellState → Option CellState) → List (Option CellState) → List (Option CellState) → Type 0
+AreStepped listed after old new = (c : ℕ) → cell_held new c ≡ (if listed c then after c (cell_held old c) else cell_held old c)
 
 -- each number is greater than the one before
 abbrev pub IsAscending : List ℕ → Type 0

@@ -1,14 +1,17 @@
-//! One cycle of an instance where what its ports are seen as is known: how each cell is looked at, the first fault,
-//! and the steps of all cells at once.
+//! The parts of one cycle of an instance: which ports of a cell are looked at, what stops it, and the steps of all cells at
+//! once, each with what was found to stand at its ports.
 #![tactic(auto)]
 
+mod enabling;
 pub mod laws;
 mod looking;
 mod passes;
 mod ranges;
+mod rooms;
+mod stepping;
 
-pub use looking::{
-    CellStop, all_zero, has_enabling, look_at, mark_enabling, mark_looked, step_cell, stop_at,
-};
-pub use passes::{CellFault, step_cells, step_listed};
+pub use looking::{CellStop, all_zero, mark_looked, stop_at};
+pub use passes::{CellFault, step_listed};
 pub use ranges::out_of_range;
+pub use rooms::{CellRoom, rooms_for};
+pub use stepping::{SteppingCell, SteppingCells, stepping_at};

@@ -1,17 +1,17 @@
 //! The steps of the cells of an instance.
 
-ghost use Rattle.std.specs.Prelude.{◌≡◌, ◌^◌, ◌<◌, Some, length, map, nat_eq};
-ghost use Rattle.cx_meaning.specs.Cycles.{every_cell};
-ghost use Rattle.cx_meaning.specs.Designs.{OfPrimitive};
-ghost use Rattle.cx_design.specs.PlainForms.{plain_cell};
-ghost use Rattle.cx_eval_drives.specs.Gathers.{ports_seen};
-ghost use Rattle.cx_eval_cycle.specs.Passes.{AreStepped, CanCycle, CanStep, IsAscending, after_kind, listed_in};
+ghost use Rattle.std.specs.Prelude.{◌≡◌, ℕ, IfSome, length, nat_eq, true};
+ghost use Rattle.cx_prim.specs.CellStates.{IsState};
+ghost use Rattle.cx_prim.specs.Table.{row_of};
+ghost use Rattle.cx_eval_cycle.specs.Passes.{AreStepped, IsAscending, cell_held, listed_in};
+ghost use Rattle.cx_eval_cycle.specs.Rooms.{HaveRooms};
+ghost use Rattle.cx_eval_cycle.specs.Steps.{CanStep, CanStepAt, HoldFitting, after_room, stepped_with};
 
-use crate::looking::{CellStop, step_cell};
+use crate::looking::CellStop;
+use crate::rooms::CellRoom;
+use crate::stepping::{SteppingCell, stepping_at};
 use cx_bits::Bits;
 use cx_cells::{PrimState, Primitive};
-use cx_design::{Cell, CellKind};
-use cx_eval_drives::Look;
 
 /// A cell at which a cycle stops, by its number, and its port.
 #[derive(Clone, Copy, Debug, PartialEq, Eq)]
@@ -20,96 +20,53 @@ pub struct CellFault {
     pub stop: CellStop,
 }
 
-/// What a primitive holds makes a step.
-fn step_held<L: Look>(
-    look: &L,
-    cell: u32,
-    primitive: &Primitive,
-    held: &mut Option<PrimState>,
-    wanted: &mut [bool],
-    inputs: &mut [Option<Bits>],
-)
-    requires can { CanStep (ports_seen (L.seen look.now) cell) primitive.now held.old (length inputs.old) }
-    requires sized { length wanted.old ≡ length inputs.old }
-    requires few { length inputs.old < 2 ^ 32 }
-    ensures value { held.new ≡ after_kind (L.seen look.now) cell (Some (OfPrimitive primitive.now)) held.old }
-    ensures can { CanStep (ports_seen (L.seen look.now) cell) primitive.now held.new (length inputs.old) }
+/// What a primitive holds makes a step with what stands at its ports.
+fn step_held(primitive: &Primitive, inputs: &[Option<Bits>], held: &mut Option<PrimState>)
+    requires can { CanStep (row_of primitive.now) inputs.now held.old }
+    ensures value { held.new ≡ stepped_with (row_of primitive.now) inputs.now held.old }
+    ensures fits { IfSome held.new (IsState (row_of primitive.now).shape) }
 {
     if let Some(state) = held {
-        step_cell(look, cell, primitive, state, wanted, inputs);
+        primitive.edge(state, inputs);
     }
 }
 
-/// A cell makes its step; a number that names no primitive changes nothing.
-fn step_at<L: Look>(
-    look: &L,
-    cells: &[Cell],
+/// A cell makes its step; a number that names none that can step changes nothing.
+fn step_at(
+    cells: &[Option<SteppingCell<'_>>],
+    rooms: &[CellRoom],
     held: &mut [Option<PrimState>],
     cell: usize,
-    wanted: &mut [bool],
-    inputs: &mut [Option<Bits>],
 )
-    requires can { CanCycle (L.seen look.now) (map plain_cell cells.now) held.old (length inputs.old) }
-    requires sized { length wanted.old ≡ length inputs.old }
-    requires few { length inputs.old < 2 ^ 32 }
-    requires numbered { length cells.now < 2 ^ 32 }
-    ensures value { AreStepped (nat_eq cell) (L.seen look.now) (map plain_cell cells.now) held.old held.new }
-    ensures can { CanCycle (L.seen look.now) (map plain_cell cells.now) held.new (length inputs.old) }
+    requires rooms { HaveRooms cells.now rooms.now }
+    requires long { length held.old ≡ length cells.now }
+    requires can { CanStepAt cells.now rooms.now cell (cell_held held.old cell) }
+    ensures value { AreStepped (nat_eq cell) (after_room cells.now rooms.now) held.old held.new }
+    ensures fits { HoldFitting cells.now held.old → HoldFitting cells.now held.new }
+    ensures long { length held.new ≡ length held.old }
 {
-    if cell >= cells.len() {
-        return;
-    }
-    let CellKind::Prim(primitive) = &cells[cell].kind else {
-        return;
-    };
-    step_held(
-        look,
-        cell as u32,
-        primitive,
-        &mut held[cell],
-        wanted,
-        inputs,
-    );
-}
-
-/// All cells make their steps at once, each by what it held. It takes no memory.
-pub fn step_cells<L: Look>(
-    look: &L,
-    cells: &[Cell],
-    held: &mut [Option<PrimState>],
-    wanted: &mut [bool],
-    inputs: &mut [Option<Bits>],
-)
-    requires can { CanCycle (L.seen look.now) (map plain_cell cells.now) held.old (length inputs.old) }
-    requires sized { length wanted.old ≡ length inputs.old }
-    requires few { length inputs.old < 2 ^ 32 }
-    requires numbered { length cells.now < 2 ^ 32 }
-    ensures value { AreStepped every_cell (L.seen look.now) (map plain_cell cells.now) held.old held.new }
-    ensures can { CanCycle (L.seen look.now) (map plain_cell cells.now) held.new (length inputs.old) }
-{
-    for cell in 0..cells.len() {
-        step_at(look, cells, held, cell, wanted, inputs);
+    if let Some(stepping) = stepping_at(cells, cell) {
+        step_held(stepping.primitive, &rooms[cell].inputs, &mut held[cell]);
     }
 }
 
-/// The listed cells make their steps at once, each by what it held. It takes no memory.
-pub fn step_listed<L: Look>(
-    look: &L,
-    cells: &[Cell],
+/// The listed cells make their steps at once, each by what it held and with what stands at its ports. It takes no memory.
+pub fn step_listed(
+    cells: &[Option<SteppingCell<'_>>],
+    rooms: &[CellRoom],
     held: &mut [Option<PrimState>],
     listed: &[u32],
-    wanted: &mut [bool],
-    inputs: &mut [Option<Bits>],
 )
-    requires can { CanCycle (L.seen look.now) (map plain_cell cells.now) held.old (length inputs.old) }
+    requires rooms { HaveRooms cells.now rooms.now }
+    requires long { length held.old ≡ length cells.now }
+    requires fits { HoldFitting cells.now held.old }
     requires ascending { IsAscending listed.now }
-    requires sized { length wanted.old ≡ length inputs.old }
-    requires few { length inputs.old < 2 ^ 32 }
-    requires numbered { length cells.now < 2 ^ 32 }
-    ensures value { AreStepped (listed_in listed.now) (L.seen look.now) (map plain_cell cells.now) held.old held.new }
-    ensures can { CanCycle (L.seen look.now) (map plain_cell cells.now) held.new (length inputs.old) }
+    requires can { (c : ℕ) → listed_in listed.now c ≡ true → CanStepAt cells.now rooms.now c (cell_held held.old c) }
+    ensures value { AreStepped (listed_in listed.now) (after_room cells.now rooms.now) held.old held.new }
+    ensures fits { HoldFitting cells.now held.new }
+    ensures long { length held.new ≡ length held.old }
 {
     for number in 0..listed.len() {
-        step_at(look, cells, held, listed[number] as usize, wanted, inputs);
+        step_at(cells, rooms, held, listed[number] as usize);
     }
 }

@@ -5,7 +5,8 @@ ghost use Rattle.cx_design.specs.PlainDesigns.{plain_design};
 ghost use Rattle.cx_eval_network.specs.Nodes.{IsNodesOf};
 
 use crate::children::child_in;
-use crate::{Below, MarkedPorts, NodeMark, Nodes};
+use crate::marked::MarkedPorts;
+use crate::{Below, NodeMark, Nodes};
 use cx_design::{Design, PortRef, Seen};
 use cx_eval_drives::Look;
 use cx_state::InstanceTable;

@@ -5,9 +5,11 @@ ghost use Rattle.cx_meaning.specs.declared.sights.Seen.{Seen};
 ghost use Rattle.cx_eval_network.specs.Demands.{AllUnseen, Demanded, IsGrounded, Ready, StaysWithin};
 
 use crate::finding::find;
+use crate::marked::shown_at;
 use crate::marks::{NodeMark, unseen_marks};
 use crate::network::Network;
 use crate::touched::Touched;
+use cx_design::Seen;
 use cx_text::Memory;
 use std::alloc::Global;
 use std::marker::Model;
@@ -59,20 +61,15 @@ impl Marks {
         self.touched.forget(&mut self.marks);
     }
 
-    /// What is known.
-    pub fn marks(&self) -> &[NodeMark]
-        ensures value { result.now ≡ self.now }
-    {
-        self.marks.as_slice()
-    }
-
-    /// Finds the value of a node, and those of all that it depends on. It takes no memory, and does not recurse from node to node.
-    pub fn demand<N: Network>(&mut self, net: &N, root: usize)
+    /// The value of a node, which is found with those of all that it depends on. It takes no memory, and does not recurse from
+    /// node to node.
+    pub fn demand<N: Network>(&mut self, net: &N, root: usize) -> Seen
         requires sound { N.sound net.now }
         requires root { root < length self.old }
         requires within { StaysWithin (N.leads net.now) (length self.old) }
         requires grounded { IsGrounded (N.leads net.now) }
         requires ready { Ready (N.value net.now) self.old }
+        ensures seen { result ≡ N.value net.now root }
         ensures value { Demanded (N.value net.now) root self.old self.new }
         ensures count { length self.new ≡ length self.old }
     {
@@ -83,5 +80,6 @@ impl Marks {
             &mut self.touched,
             root,
         );
+        shown_at(&self.marks, root)
     }
 }

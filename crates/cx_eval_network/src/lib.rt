@@ -35,7 +35,7 @@ pub use asking::Asking;
 pub use demands::Marks;
 pub use driven::driven_seen;
 pub use instance_ports::InstancePorts;
-pub use marked::MarkedPorts;
+pub use literals::literal_seen;
 pub use marks::{NodeMark, is_known};
 pub use network::{Found, Network};
 pub use network_laws::{

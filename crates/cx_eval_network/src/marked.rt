@@ -37,7 +37,7 @@ impl<'a, 'm> Look for MarkedPorts<'a, 'm> {
 }
 
 /// What is known of a node.
-fn shown_at(marks: &[NodeMark], node: usize) -> Seen
+pub fn shown_at(marks: &[NodeMark], node: usize) -> Seen
     ensures value { result ≡ shown (slice_get marks.now node) }
 {
     match marks.get(node) {

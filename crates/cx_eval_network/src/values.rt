@@ -9,15 +9,17 @@ ghost use Rattle.cx_eval_network.specs.Askings.{IsAsking, IsFound, IsPlaceOf, as
 
 use crate::asking::Asking;
 use crate::below::MarkedBelow;
+use crate::marked::MarkedPorts;
 use crate::places::{active_of, place_of};
 use crate::plans::PortPlan;
-use crate::{MarkedPorts, NodeMark, NodePort, PortContext, driven_seen, step_seen};
+use crate::{NodeMark, NodePort, PortContext, driven_seen, step_seen};
 use cx_design::Seen;
 use cx_laws::width_laws::found_has_width;
 use cx_state::alike_laws::rows_stand;
 use cx_state::width_laws::states_hold_widths;
 
 /// What a port is seen as that is found, where all that it leads to is known. It takes no memory.
+// not inlined: a value that is copied in parts and then read whole makes the next look wait (measured)
 #[inline(never)]
 pub fn planned_value(
     asking: &Asking<'_>,
@@ -72,6 +74,7 @@ fn driven_value(
 }
 
 /// The same of any port, by its place.
+// not inlined: a value that is copied in parts and then read whole makes the next look wait (measured)
 #[inline(never)]
 fn found_value(
     asking: &Asking<'_>,

@@ -1,5 +1,5 @@
 -- A cycle leaves alone what nothing active drives.
-use Rattle.std.proofs.Common.{◌≡◌, ℕ, zero, suc, ◌+◌, Bool, true, false, [], ◌∷◌, Option, Some, None, if◌then◌else◌, refl, sym, ap, ◌∙◌, subst, arith}
+use Rattle.std.proofs.Common.{◌≡◌, ℕ, zero, suc, Bool, true, false, [], ◌∷◌, None, if◌then◌else◌, refl, sym, ap, ◌∙◌}
 use Rattle.std.proofs.Math.Path.{fun_ext}
 use Rattle.std.proofs.lemmas.Bool.{both_ways}
 use Rattle.cx_prim.specs.CellStates.{CellState}
@@ -7,10 +7,11 @@ use Rattle.cx_prim.specs.Rows.{Row}
 use Rattle.cx_meaning.specs.declared.ports.PortRef.TheVariants as ports
 use Rattle.cx_meaning.specs.declared.sights.FaultKind.{FaultKind}
 use Rattle.cx_meaning.specs.Rows.{side_of}
-use Rattle.cx_meaning.specs.Instances.{Instance, Node, Cells, no_cells, a_primitive, an_instance, OfRow, OfInstance, cell_at, cells_of, part_of, Path, State, Set, merge, idle_at, idle_below, idle}
+use Rattle.cx_meaning.specs.Instances.{Instance, Node, Cells, no_cells, a_primitive, an_instance, OfRow, OfInstance, cell_at, cell_count, cells_of, part_of, Path, State, Set, merge, idle_at, idle_below, idle}
 use Rattle.cx_meaning.specs.Active.{Active, Owned, source_order}
 use Rattle.cx_meaning.specs.Sights.{Look, Held, In, seen}
-use Rattle.cx_meaning.specs.Cycles.{Fault, fault_at, Outcome, Next, Stops, enables, cell_outcome, first_of, where_listed, first_fault, stepped, cell_after, state_after, Ended, Goes, Faults, unless_fault, cycle_by, cycle_of, every_cell}
+use Rattle.cx_meaning.specs.Cycles.{Fault, Outcome, Next, Stops, enables, cell_outcome, outcome_of, stepped, state_after, Goes, Faults, ended, cycle_of, every_cell}
+use Rattle.cx_meaning.proofs.CycleLemmas.{goes_to, faults_with, one_stops, outcome_cases, state_after-same}
 use Rattle.cx_rules.specs.Ports.{enables_cell, is_primitive_enable}
 use Rattle.cx_rules.proofs.ForeignLemmas.{foreign_zero}
 use Rattle.cx_frames.specs.Rests.{IsUndriven, IsSettledAt, IsKeptAt}
@@ -32,41 +33,19 @@ pub idle_at-root : (i : Instance) (state : CellState) → idle_at i [] state ≡
 idle_at-root (Node part cells) state = refl
 
 -- a cell that does not change where it steps does not change
-if_either : (b : Bool) (x y : CellState) → x ≡ y → (if b then x else y) ≡ y
-if_either true x y e = e
-if_either false x y e = refl
-
-cell_after-same : (listed : Set) (look : Look) (c : ℕ) (cells : Cells) (at : ℕ) (state : CellState) → ((row : Row) → cell_at cells at ≡ OfRow row → stepped state (cell_outcome look c row state) ≡ state) → cell_after listed look c cells at state ≡ state
-cell_after-same listed look c no_cells at state h = refl
-cell_after-same listed look c (a_primitive row rest) zero state h = if_either (listed c) (stepped state (cell_outcome look c row state)) state (h row refl)
-cell_after-same listed look c (a_primitive row rest) (suc at) state h = cell_after-same listed look c rest at state h
-cell_after-same listed look c (an_instance child rest) zero state h = refl
-cell_after-same listed look c (an_instance child rest) (suc at) state h = cell_after-same listed look c rest at state h
-
-state_after-same : (listed : Set) (look : Look) (cells : Cells) (s : State) (c : ℕ) → ((row : Row) → cell_at cells c ≡ OfRow row → stepped (s (c ∷ [])) (cell_outcome look c row (s (c ∷ []))) ≡ s (c ∷ [])) → (below : Path) → state_after listed look cells s (c ∷ below) ≡ s (c ∷ below)
-state_after-same listed look cells s c h [] = cell_after-same listed look c cells c (s (c ∷ [])) h
-state_after-same listed look cells s c h (e ∷ path) = refl
-
--- the state that a cycle leaves
-left_by : State → Ended → State
-left_by s (Goes after) = after
-left_by s (Faults fault) = s
-
-unless_fault-Goes : (fault : Option Fault) (s after : State) → unless_fault fault s ≡ Goes after → s ≡ after
-unfolding left_by
-unless_fault-Goes None s after e = ap (left_by s) e
-unless_fault-Goes (Some fault) s after e = absurd (cc)
+stepped_same : (listed : Set) (look : Look) (cells : Cells) (s : State) (c : ℕ) → ((row : Row) → cell_at cells c ≡ OfRow row → stepped (s (c ∷ [])) (cell_outcome look c row (s (c ∷ []))) ≡ s (c ∷ [])) → stepped (s (c ∷ [])) (outcome_of listed look cells s c) ≡ s (c ∷ [])
+stepped_same listed look cells s c h = outcome_cases (λ o. stepped (s (c ∷ [])) o ≡ s (c ∷ [])) listed look cells s c (λ row at on. h row at) refl
 
 module _ (i : Instance) (held : Held) (act : Active) (listed : Set) (s after : State) (goes : cycle_of i held act listed s ≡ Goes after) where
-  goes_to : state_after listed (seen i held act s) (cells_of i) s ≡ after
-  goes_to = unless_fault-Goes _ _ after goes
+  left : state_after (outcome_of listed (seen i held act s) (cells_of i) s) s ≡ after
+  left = (goes_to _ _ after goes).1
 
   -- there is nothing at the instance itself
   pub cycle_keeps_root : after [] ≡ s []
-  cycle_keeps_root = ap (λ (t : State). t []) (sym goes_to)
+  cycle_keeps_root = ap (λ (t : State). t []) (sym left)
 
   at_cell : (c : ℕ) → ((row : Row) → cell_at (cells_of i) c ≡ OfRow row → stepped (s (c ∷ [])) (cell_outcome (seen i held act s) c row (s (c ∷ []))) ≡ s (c ∷ [])) → IsKeptAt s after c
-  at_cell c h below = ap (λ (t : State). t (c ∷ below)) (sym goes_to) ∙ state_after-same listed (seen i held act s) (cells_of i) s c h below
+  at_cell c h below = ap (λ (t : State). t (c ∷ below)) (sym left) ∙ state_after-same (outcome_of listed (seen i held act s) (cells_of i) s) s c (stepped_same listed (seen i held act s) (cells_of i) s c h) below
 
   -- a component cell stays as it is
   pub cycle_keeps_children : (c : ℕ) (child : Instance) → cell_at (cells_of i) c ≡ OfInstance child → IsKeptAt s after c
@@ -96,103 +75,40 @@ module _ (i : Instance) (quiet : HasLawfulRows i) (bare : BareEnablesNothing i) 
   cycle_keeps listed after settled goes = at_cell i held act listed s after goes c (undriven_stays settled)
 
 -- a fault of a cycle is at a cell that does not go on
-unless_fault-Faults : (found : Option Fault) (s : State) (fault : Fault) → unless_fault found s ≡ Faults fault → found ≡ Some fault
-unless_fault-Faults None s fault e = absurd (cc)
-unless_fault-Faults (Some found) s fault e = let same : found ≡ fault = cc in ap Some same
-
 cell_is : (c d p q : ℕ) → ports.Cell c p ≡ ports.Cell d q → c ≡ d
 cell_is c d p q e = cc
 
-not_next : (look : Look) (c d : ℕ) (row : Row) (s : State) (kind : FaultKind) (q : ℕ) → cell_outcome look c row (s (c ∷ [])) ≡ Stops kind q → c ≡ d → (next : CellState) × (cell_outcome look d row (s (d ∷ [])) ≡ Next next) → ⊥
-not_next look c d row s kind q stops same (next, on) =
-    let goes : cell_outcome look c row (s (c ∷ [])) ≡ Next next = subst (λ n. cell_outcome look n row (s (n ∷ [])) ≡ Next next) (sym same) on in
-    different (sym stops ∙ goes)
-  where
-    different : Stops kind q ≡ Next next → ⊥
-    different e = cc
-
-module _ (listed : Set) (look : Look) (s : State) (c p : ℕ) (fault : Fault) (at_cell : fault.port ≡ ports.Cell c p) where
-  first_fault-elsewhere : (cells : Cells) (start : ℕ) → ((k : ℕ) (row : Row) → cell_at cells k ≡ OfRow row → start + k ≡ c → (next : CellState) × (cell_outcome look c row (s (c ∷ [])) ≡ Next next)) → first_fault listed look s cells start ≡ Some fault → ⊥
-  first_fault-elsewhere no_cells start on e = absurd (cc)
-  first_fault-elsewhere (a_primitive row rest) start on e =
-      found (listed start) (cell_outcome look start row (s (start ∷ []))) refl e
-      (first_fault-elsewhere rest (suc start) (λ k r stands number. on (suc k) r stands (omega arith)))
-    where
-      found : (b : Bool) (outcome : Outcome) → cell_outcome look start row (s (start ∷ [])) ≡ outcome
-          → where_listed b (first_of start outcome (first_fault listed look s rest (suc start))) (first_fault listed look s rest (suc start)) ≡ Some fault
-          → (first_fault listed look s rest (suc start) ≡ Some fault → ⊥) → ⊥
-      found false outcome is e later = later e
-      found true (Next next) is e later = later e
-      found true (Stops kind q) is e later =
-          let told : fault_at kind (ports.Cell start q) ≡ fault = cc in
-          let same : start ≡ c = cell_is start c q p (ap (λ f. f.port) told ∙ at_cell) in
-          let first : start + 0 ≡ c = omega arith in
-          not_next look start c row s kind q is same (on 0 row refl first)
-  first_fault-elsewhere (an_instance child rest) start on e = first_fault-elsewhere rest (suc start) (λ k r stands number. on (suc k) r stands (omega arith)) e
+goes_or_stops : (o : Outcome) (kind : FaultKind) (p : ℕ) → o ≡ Stops kind p → (next : CellState) × (o ≡ Next next) → ⊥
+goes_or_stops o kind p stops (next, goes) = let wrong : Stops kind p ≡ Next next = sym stops ∙ goes in absurd (cc)
 
 module _ (i : Instance) (quiet : HasLawfulRows i) (bare : BareEnablesNothing i) (held : Held) (act : Active) (s : State) (c : ℕ) (undriven : IsUndriven (part_of i) act c) where
+  goes_here : (listed : Set) → (next : CellState) × (outcome_of listed (seen i held act s) (cells_of i) s c ≡ Next next)
+  goes_here listed =
+      outcome_cases (λ o. (next : CellState) × (o ≡ Next next)) listed (seen i held act s) (cells_of i) s c
+      (λ row stands on. (row.idle (s (c ∷ [])), undriven_idles i quiet bare held act s c undriven row stands)) (s (c ∷ []), refl)
+
   pub cycle_faults_elsewhere : (listed : Set) (fault : Fault) (p : ℕ) → cycle_of i held act listed s ≡ Faults fault → fault.port ≡ ports.Cell c p → ⊥
   cycle_faults_elsewhere listed fault p faults at_cell =
-      first_fault-elsewhere listed (seen i held act s) s c p fault at_cell (cells_of i) 0
-      (λ k row stands number. let same : k ≡ c = omega arith in (row.idle (s (c ∷ [])), undriven_idles i quiet bare held act s c undriven row (subst (λ n. cell_at (cells_of i) n ≡ OfRow row) same stands)))
-      (unless_fault-Faults _ _ fault faults)
+      let r = one_stops (outcome_of listed (seen i held act s) (cells_of i) s) 0 (cell_count (cells_of i)) fault (faults_with _ _ fault faults) in
+      let same : r.cell ≡ c = cell_is r.cell c r.port p (ap (λ f. f.port) r.told ∙ at_cell) in
+      goes_or_stops (outcome_of listed (seen i held act s) (cells_of i) s c) r.kind r.port (ap (outcome_of listed (seen i held act s) (cells_of i) s) (sym same) ∙ r.stops) (goes_here listed)
 
--- THE LISTED CELLS SUFFICE where the others go on without a fault and stay as they are
-first_listed : (b : Bool) (c : ℕ) (outcome : Outcome) (some every : Option Fault) → some ≡ every → (b ≡ false → (next : CellState) × (outcome ≡ Next next)) → where_listed b (first_of c outcome some) some ≡ first_of c outcome every
-first_listed true c outcome some every e h = ap (first_of c outcome) e
-first_listed false c outcome some every e h = let r = h refl in e ∙ sym (ap (λ o. first_of c o every) r.1)
-
-GoesOn : Set → Look → State → ℕ → Row → Type 0
-GoesOn listed look s c row = listed c ≡ false → (next : CellState) × (cell_outcome look c row (s (c ∷ [])) ≡ Next next)
-
-first_fault-listed : (listed : Set) (look : Look) (s : State) (cells : Cells) (c : ℕ) → ((k : ℕ) (row : Row) → cell_at cells k ≡ OfRow row → GoesOn listed look s (c + k) row) → first_fault listed look s cells c ≡ first_fault every_cell look s cells c
-unfolding GoesOn
-first_fault-listed listed look s no_cells c h = refl
-first_fault-listed listed look s (a_primitive row rest) c h =
-    let first : c + 0 ≡ c = omega arith in
-    first_listed (listed c) c (cell_outcome look c row (s (c ∷ []))) (first_fault listed look s rest (suc c)) (first_fault every_cell look s rest (suc c))
-    (first_fault-listed listed look s rest (suc c) (λ k r e. let next : c + suc k ≡ suc c + k = omega arith in subst (λ n. GoesOn listed look s n r) next (h (suc k) r e)))
-    (subst (λ n. GoesOn listed look s n row) first (h 0 row refl))
-first_fault-listed listed look s (an_instance child rest) c h =
-    first_fault-listed listed look s rest (suc c) (λ k r e. let next : c + suc k ≡ suc c + k = omega arith in subst (λ n. GoesOn listed look s n r) next (h (suc k) r e))
-
-if_listed : (b : Bool) (x y : CellState) → (b ≡ false → x ≡ y) → (if b then x else y) ≡ x
-if_listed true x y h = refl
-if_listed false x y h = sym (h refl)
-
-cell_after-listed : (listed : Set) (look : Look) (c : ℕ) (cells : Cells) (at : ℕ) (state : CellState) → ((row : Row) → cell_at cells at ≡ OfRow row → listed c ≡ false → stepped state (cell_outcome look c row state) ≡ state) → cell_after listed look c cells at state ≡ cell_after every_cell look c cells at state
-cell_after-listed listed look c no_cells at state h = refl
-cell_after-listed listed look c (a_primitive row rest) zero state h = if_listed (listed c) (stepped state (cell_outcome look c row state)) state (h row refl)
-cell_after-listed listed look c (a_primitive row rest) (suc at) state h = cell_after-listed listed look c rest at state h
-cell_after-listed listed look c (an_instance child rest) zero state h = refl
-cell_after-listed listed look c (an_instance child rest) (suc at) state h = cell_after-listed listed look c rest at state h
-
-state_after-listed : (listed : Set) (look : Look) (cells : Cells) (s : State) → ((c : ℕ) (row : Row) → cell_at cells c ≡ OfRow row → listed c ≡ false → stepped (s (c ∷ [])) (cell_outcome look c row (s (c ∷ []))) ≡ s (c ∷ [])) → (path : Path) → state_after listed look cells s path ≡ state_after every_cell look cells s path
-state_after-listed listed look cells s h [] = refl
-state_after-listed listed look cells s h (c ∷ []) = cell_after-listed listed look c cells c (s (c ∷ [])) (h c)
-state_after-listed listed look cells s h (c ∷ e ∷ path) = refl
-
-cycle_by-listed : (listed : Set) (look : Look) (cells : Cells) (s : State)
-    → ((c : ℕ) (row : Row) → cell_at cells c ≡ OfRow row → GoesOn listed look s c row)
-    → ((c : ℕ) (row : Row) → cell_at cells c ≡ OfRow row → listed c ≡ false → stepped (s (c ∷ [])) (cell_outcome look c row (s (c ∷ []))) ≡ s (c ∷ []))
-    → cycle_by listed look cells s ≡ cycle_by every_cell look cells s
-cycle_by-listed listed look cells s on same =
-    ap (λ fault. unless_fault fault (state_after listed look cells s)) (first_fault-listed listed look s cells 0 from_start)
-    ∙ ap (unless_fault (first_fault every_cell look s cells 0)) (fun_ext (state_after-listed listed look cells s same))
-  where
-    from_start : (k : ℕ) (row : Row) → cell_at cells k ≡ OfRow row → GoesOn listed look s (0 + k) row
-    from_start k row e = let same_number : k ≡ 0 + k = omega arith in subst (λ n. GoesOn listed look s n row) same_number (on k row e)
-
+-- THE LISTED CELLS SUFFICE where the others are undriven and settled: each cell comes to the same
 module _ (i : Instance) (quiet : HasLawfulRows i) (bare : BareEnablesNothing i) (held : Held) (act : Active) (s : State) (listed : Set)
     (undriven : (c : ℕ) → listed c ≡ false → IsUndriven (part_of i) act c) (settled : (c : ℕ) → listed c ≡ false → IsSettledAt i s c) where
-  goes_on : (c : ℕ) (row : Row) → cell_at (cells_of i) c ≡ OfRow row → GoesOn listed (seen i held act s) s c row
-  unfolding GoesOn
-  goes_on c row stands = λ off. (row.idle (s (c ∷ [])), undriven_idles i quiet bare held act s c (undriven c off) row stands)
+  stays : (c : ℕ) → listed c ≡ false → Next (s (c ∷ [])) ≡ outcome_of every_cell (seen i held act s) (cells_of i) s c
+  stays c off =
+      outcome_cases (λ o. Next (s (c ∷ [])) ≡ o) every_cell (seen i held act s) (cells_of i) s c
+      (λ row stands on. sym (undriven_idles i quiet bare held act s c (undriven c off) row stands ∙ ap Next (sym (idle_at-row i c row (s (c ∷ [])) stands) ∙ settled c off []))) refl
+
+  if_listed : (b : Bool) (x y : Outcome) → (b ≡ false → y ≡ x) → (if b then x else y) ≡ x
+  if_listed true x y h = refl
+  if_listed false x y h = h refl
 
   pub listed_suffice : cycle_of i held act listed s ≡ cycle_of i held act every_cell s
   listed_suffice =
-      cycle_by-listed listed (seen i held act s) (cells_of i) s goes_on
-      (λ c row stands off. undriven_stays i quiet bare held act s c (undriven c off) (settled c off) row stands)
+      ap (λ (outcome : ℕ → Outcome). ended outcome (cell_count (cells_of i)) s)
+      (fun_ext (λ c. if_listed (listed c) (outcome_of every_cell (seen i held act s) (cells_of i) s c) (Next (s (c ∷ []))) (stays c)))
 
 -- an idle turn changes listed cells alone
 if_unlisted : (b : Bool) (x y : CellState) → (b ≡ false → x ≡ y) → x ≡ (if b then x else y)

@@ -1,5 +1,5 @@
 -- What an instance does depends on the inputs alone that its component has: what is seen, its cycles, and the leaves of its control.
-use Rattle.std.proofs.Common.{◌≡◌, ℕ, zero, suc, ◌+◌, ◌<◌, Bool, true, false, inl, inr, List, [], ◌∷◌, length, Option, Some, None, refl, sym, ap, ◌∙◌, subst, arith, if◌then◌else◌}
+use Rattle.std.proofs.Common.{◌≡◌, ℕ, suc, ◌<◌, Bool, true, false, [], ◌∷◌, length, Option, Some, None, refl, sym, ap, ◌∙◌, subst}
 use Rattle.std.proofs.Math.Path.{fun_ext}
 use Rattle.cx_prim.specs.CellStates.{CellState}
 use Rattle.cx_prim.specs.Rows.{Row}
@@ -12,15 +12,16 @@ use Rattle.cx_meaning.specs.declared.kinds.GroupKind.{GroupKind}
 use Rattle.cx_meaning.specs.declared.kinds.GroupKind.TheVariants as kinds
 use Rattle.cx_meaning.specs.Rows.{side_of}
 use Rattle.cx_meaning.specs.Designs.{Enable, group_at}
-use Rattle.cx_meaning.specs.Instances.{Instance, Cells, no_cells, a_primitive, an_instance, At, Nothing, OfRow, OfInstance, cell_at, cells_of, part_of, Path, State, idle, under}
-use Rattle.cx_meaning.specs.Active.{Active, nothing, group, capture, Acting, Owned, source_order, drivers}
+use Rattle.cx_meaning.specs.Instances.{Instance, At, Nothing, OfRow, OfInstance, cell_at, cells_of, part_of, State, idle, under}
+use Rattle.cx_meaning.specs.Active.{Active, nothing, group, capture, Owned, source_order, drivers}
 use Rattle.cx_meaning.specs.Truths.{truth_of}
 use Rattle.cx_meaning.specs.Sights.{Look, Below, Held, PartPort, Go, AnInput, AnOutput, ItsDone, part_port, gather, step, In, Sees, by_step, seen}
-use Rattle.cx_meaning.specs.Cycles.{Fault, enables, after_enabling, cell_outcome, first_of, first_fault, stepped, cell_after, state_after, unless_fault, every_cell, cycle}
-use Rattle.cx_meaning.specs.Answers.{Answer, Meaning, then_do, one_turn, turns_of, idle_turn}
+use Rattle.cx_meaning.specs.Cycles.{enables, after_enabling, cell_outcome, every_cell, cycle}
+use Rattle.cx_meaning.specs.Answers.{then_do, one_turn, turns_of, idle_turn}
 use Rattle.cx_meaning.specs.Islands.{island, turn_of}
 use Rattle.cx_meaning.specs.Calls.{hole_turn, group_turn, test_of, test, called, captures, lift_answer, inputs_of_call, after_child, call, call_or_turns, enable_kind, enable}
 use Rattle.cx_meaning.specs.Running.{Children}
+use Rattle.cx_meaning.proofs.CycleLemmas.{cycles_same}
 use Rattle.cx_meaning.proofs.SightsLemmas.{one_sight}
 use Rattle.cx_rules.specs.Footprints.{AssignNames, Mentions, SideLeads, PartLeads, CellLeads, Leads}
 use Rattle.cx_rules.specs.Circles.{IsAcyclic, AcyclicBelow}
@@ -43,32 +44,9 @@ own_there i (ports.Output n) h = tt
 own_there i (ports.Done g) h = tt
 own_there i (ports.Literal w v) h = tt
 
--- cycles by what the ports of cells are seen as
-module _ (look more : Look) (same : (c p : ℕ) → look (ports.Cell c p) ≡ more (ports.Cell c p)) where
-  outcome_same : (c : ℕ) (row : Row) (d : CellState) → cell_outcome look c row d ≡ cell_outcome more c row d
-  outcome_same c row d = ap (λ l. after_enabling l row d (gather l (enables row) 0 row.ports)) (fun_ext (λ p. same c p))
-
-  first_same : (s : State) (cells : Cells) (c : ℕ) → first_fault every_cell look s cells c ≡ first_fault every_cell more s cells c
-  first_same s no_cells c = refl
-  first_same s (a_primitive row rest) c =
-      ap (λ x. first_of c x (first_fault every_cell look s rest (suc c))) (outcome_same c row (s (c ∷ []))) ∙ ap (first_of c (cell_outcome more c row (s (c ∷ [])))) (first_same s rest (suc c))
-  first_same s (an_instance child rest) c = first_same s rest (suc c)
-
-  after_same : (c : ℕ) (cells : Cells) (at : ℕ) (d : CellState) → cell_after every_cell look c cells at d ≡ cell_after every_cell more c cells at d
-  after_same c no_cells at d = refl
-  after_same c (a_primitive row rest) zero d = ap (stepped d) (outcome_same c row d)
-  after_same c (a_primitive row rest) (suc at) d = after_same c rest at d
-  after_same c (an_instance child rest) zero d = refl
-  after_same c (an_instance child rest) (suc at) d = after_same c rest at d
-
-  state_same : (s : State) (cells : Cells) (path : Path) → state_after every_cell look cells s path ≡ state_after every_cell more cells s path
-  state_same s cells [] = refl
-  state_same s cells (c ∷ []) = after_same c cells c (s (c ∷ []))
-  state_same s cells (c ∷ e ∷ path) = refl
-
-  pub cycle_same : (s : State) (cells : Cells) → unless_fault (first_fault every_cell look s cells 0) (state_after every_cell look cells s) ≡ unless_fault (first_fault every_cell more s cells 0) (state_after every_cell more cells s)
-  cycle_same s cells =
-      ap (λ x. unless_fault x (state_after every_cell look cells s)) (first_same s cells 0) ∙ ap (λ (x : State). unless_fault (first_fault every_cell more s cells 0) x) (fun_ext (state_same s cells))
+-- a cell comes to what its ports are seen as
+outcome_same : (look more : Look) → ((c p : ℕ) → look (ports.Cell c p) ≡ more (ports.Cell c p)) → (c : ℕ) (row : Row) (d : CellState) → cell_outcome look c row d ≡ cell_outcome more c row d
+outcome_same look more same c row d = ap (λ l. after_enabling l row d (gather l (enables row) 0 row.ports)) (fun_ext (λ p. same c p))
 
 module _ (i : Instance) (held other : Held) (same : (input : ℕ) → input < length (part_of i).inputs → held input ≡ other input)
     (own : (o : Owned) (q : PortRef) → In (source_order (part_of i)) o → AssignNames o.assign q → Own i q) (deeper : AcyclicBelow (cells_of i)) where
@@ -116,7 +94,9 @@ module _ (i : Instance) (held other : Held) (same : (input : ℕ) → input < le
       seen_own s p h = one_sight (carried h (seen_found i held act s acyclic deeper p)) (seen_found i other act s acyclic deeper p)
 
       pub cycle_own : (s : State) → cycle i held act s ≡ cycle i other act s
-      cycle_own s = cycle_same (seen i held act s) (seen i other act s) (λ c p. seen_own s (ports.Cell c p) tt) s (cells_of i)
+      cycle_own s =
+          cycles_same every_cell (seen i held act s) (seen i other act s) (cells_of i) s
+          (λ c row at on. outcome_same (seen i held act s) (seen i other act s) (λ d p. seen_own s (ports.Cell d p) tt) c row (s (c ∷ [])))
 
   -- the leaves of control
   pub turn_own : (g : ℕ) → IsAcyclic i (group g) → (s : State) → group_turn i held g s ≡ group_turn i other g s

@@ -1,28 +1,25 @@
 -- Islands and statements depend on the inputs alone that their component has.
-use Rattle.std.proofs.Common.{◌≡◌, ℕ, zero, suc, ◌<◌, inl, inr, Bool, true, false, ⊎_elim, List, [], ◌∷◌, ◌++◌, length, Option, Some, None, refl, sym, ap, ◌∙◌, subst, arith}
+use Rattle.std.proofs.Common.{◌≡◌, ℕ, zero, suc, ◌<◌, inl, inr, Bool, true, false, List, [], length, Some, refl, ap, ◌∙◌}
 use Rattle.std.specs.Prelude.{if◌then◌else◌, nat_eq}
 use Rattle.std.proofs.Math.Path.{fun_ext}
-use Rattle.std.proofs.lemmas.Bool.{cases_lt}
 use Rattle.cx_meaning.specs.declared.ports.PortRef.{PortRef}
-use Rattle.cx_meaning.specs.declared.ports.PortRef.TheVariants as ports
 use Rattle.cx_meaning.specs.declared.ports.PlacedPort.{PlacedPort}
-use Rattle.cx_meaning.specs.Designs.{PlainDesign, PlainAssign, PlainComponent, PlainForm, Empty, Enable, Seq, Par, If, While, Repeat, StaticSeq, StaticPar, StaticIf, StaticRepeat, Timed, PlainStatement, Placed, PlainStatements, no_statements, a_statement, component_at, group_at, no_component}
-use Rattle.cx_meaning.specs.Instances.{Instance, Node, State, cells_of, part_of, idle, instance_at, tree_of, tree_within}
+use Rattle.cx_meaning.specs.Designs.{PlainForm, Empty, Enable, Seq, Par, If, While, Repeat, StaticSeq, StaticPar, StaticIf, StaticRepeat, Timed, PlainStatement, Placed, PlainStatements, no_statements, a_statement}
+use Rattle.cx_meaning.specs.Instances.{Instance, Node, State, cells_of, part_of, idle}
 use Rattle.cx_meaning.specs.Active.{nothing, group, entries, Owned, source_order}
 use Rattle.cx_meaning.specs.Truths.{truth_of}
 use Rattle.cx_meaning.specs.Sights.{Held, In, seen}
 use Rattle.cx_meaning.specs.Cycles.{cycle}
 use Rattle.cx_meaning.specs.Answers.{turn_then, then_do, both, test_turn, loop_of, rounds}
-use Rattle.cx_meaning.specs.Control.{Leaves, drives, groups_in, run, run_form, run_parts, run_arms}
+use Rattle.cx_meaning.specs.Control.{drives, run, run_form, run_parts, run_arms}
 use Rattle.cx_meaning.specs.Islands.{Occurrence, History, no_history, and_now, is_one, form_flat, form_length, active_in, looked_at, first_unclear, unless_unclear, island_turn, island_from, island}
 use Rattle.cx_meaning.specs.Running.{Children, leaves, control_below, run_control}
 use Rattle.cx_rules.specs.Circles.{IsAcyclic, AcyclicBelow}
 use Rattle.cx_rules.specs.Footprints.{AssignNames}
-use Rattle.cx_rules.specs.Items.{Context, InStatic, Branch, Dynamic, below_dynamic, Visited, visit, visit_parts, visit_all, test_in}
+use Rattle.cx_rules.specs.Items.{Context, Dynamic, below_dynamic, Visited, visit, visit_parts, visit_all, test_in}
 use Rattle.cx_rules.proofs.Finite.{in_left, in_right}
-use Rattle.cx_frames.proofs.ControlFrames.{Holds}
 use Rattle.cx_frames.proofs.IslandFrames.{AllFine, AreSame, active_same, looked_same, looked_good, unclear_same, form_fine}
-use Rattle.cx_frames.proofs.InputLemmas.{Own, own_there, seen_own, cycle_own, test_own, enable_own}
+use Rattle.cx_frames.proofs.InputLemmas.{Own, seen_own, cycle_own, test_own, enable_own}
 
 abbrev AnyGroup : ℕ → Type 0
 AnyGroup g = Unit {0}

@@ -11,7 +11,7 @@ use Rattle.cx_meaning.specs.Truths.{truth_of}
 use Rattle.cx_meaning.specs.Sights.{Look, Held, seen, In}
 use Rattle.cx_meaning.specs.Cycles.{Fault, Ended, cycle}
 use Rattle.cx_meaning.specs.Control.{groups_in, groups_of, groups_in_all}
-use Rattle.cx_meaning.specs.Islands.{group_length, form_length, length_of, Sample, Occurrence, Runs, Looks, sample, rounds_from, occurrence, form_flat, flat, seq_flat, par_flat, History, no_history, is_wanted, hold, entry_if, active_in, port_if, looked_at, is_one, and_now, fault_of, first_unclear, turn_of, unless_unclear, island_turn, island_from, island}
+use Rattle.cx_meaning.specs.Islands.{group_length, form_length, length_of, Condition, Occurrence, Runs, Looks, condition, rounds_from, occurrence, form_flat, flat, seq_flat, par_flat, History, no_history, is_wanted, hold, entry_if, active_in, port_if, looked_at, is_one, and_now, fault_of, first_unclear, turn_of, unless_unclear, island_turn, island_from, island}
 use Rattle.cx_rules.specs.Items.{Context, InStatic, Branch, visit, visit_parts, visit_all, test_in}
 use Rattle.cx_rules.specs.Circles.{IsAcyclic, AcyclicBelow}
 use Rattle.cx_frames.specs.Agreeing.{Agree, Alike}
@@ -35,14 +35,14 @@ unclear_same look more [] h = refl
 unclear_same look more (p ∷ rest) h = ap (λ x. fault_of p x (first_unclear look rest)) (h p (inl refl)) ∙ ap (fault_of p (more p)) (unclear_same look more rest (λ q i. h q (inr i)))
 
 module _ (G : ℕ → Type 0) (F : PortRef → Type 0) where
-  -- the ports of samples are such, and those of an occurrence and its group
-  abbrev AllSampled : List Sample → Type 0
+  -- the ports of conditions are such, and those of an occurrence and its group
+  abbrev AllSampled : List Condition → Type 0
   AllSampled [] = Unit {0}
   AllSampled (s ∷ rest) = F s.port × AllSampled rest
 
   abbrev IsFineOne : Occurrence → Type 0
-  IsFineOne (Runs g from to samples) = G g × AllSampled samples
-  IsFineOne (Looks port at samples) = F port × AllSampled samples
+  IsFineOne (Runs g from to conditions) = G g × AllSampled conditions
+  IsFineOne (Looks port at conditions) = F port × AllSampled conditions
 
   abbrev pub AllFine : List Occurrence → Type 0
   AllFine [] = Unit {0}
@@ -56,90 +56,90 @@ module _ (G : ℕ → Type 0) (F : PortRef → Type 0) where
   rounds_fine body p zero x h = tt
   rounds_fine body p (suc k) x h = joined (body x) (rounds_from body p k (x + p)) (h x) (rounds_fine body p k (x + p) h)
 
-  occurrence_fine : (g x : ℕ) (samples : List Sample) (n : Option ℕ) → G g → AllSampled samples → AllFine (occurrence g x samples n)
-  occurrence_fine g x samples None good all = tt
-  occurrence_fine g x samples (Some n) good all = ((good, all), tt)
+  occurrence_fine : (g x : ℕ) (conditions : List Condition) (n : Option ℕ) → G g → AllSampled conditions → AllFine (occurrence g x conditions n)
+  occurrence_fine g x conditions None good all = tt
+  occurrence_fine g x conditions (Some n) good all = ((good, all), tt)
 
   -- the flat list of a statement whose groups and tests are such
   module _ (P : PlainForm → Type 0) (tests : (form : PlainForm) (p : PlacedPort) → P form → test_in form ≡ Some p → F p.port) where
     mutual
-      pub form_fine : (part : PlainComponent) (context : Context) (form : PlainForm) (x : ℕ) (samples : List Sample) → P form → Holds G P (groups_in form) (visit_parts context form) → AllSampled samples → AllFine (form_flat part form x samples)
-      form_fine part context Empty x samples p h all = tt
-      form_fine part context (Enable g) x samples p h all = occurrence_fine g x samples (group_length part g) (h.groups g (inl refl)) all
-      form_fine part context (Seq parts) x samples p h all = tt
-      form_fine part context (Par arms) x samples p h all = tt
-      form_fine part context (If test comb a b) x samples p h all = tt
-      form_fine part context (While test comb a) x samples p h all = tt
-      form_fine part context (Repeat count a) x samples p h all = tt
-      form_fine part context (StaticSeq length parts) x samples p h all = seq_fine part parts x samples h all
-      form_fine part context (StaticPar length arms) x samples p h all = par_fine part arms x samples h all
-      form_fine part context (StaticIf length test a b) x samples p h all =
+      pub form_fine : (part : PlainComponent) (context : Context) (form : PlainForm) (x : ℕ) (conditions : List Condition) → P form → Holds G P (groups_in form) (visit_parts context form) → AllSampled conditions → AllFine (form_flat part form x conditions)
+      form_fine part context Empty x conditions p h all = tt
+      form_fine part context (Enable g) x conditions p h all = occurrence_fine g x conditions (group_length part g) (h.groups g (inl refl)) all
+      form_fine part context (Seq parts) x conditions p h all = tt
+      form_fine part context (Par arms) x conditions p h all = tt
+      form_fine part context (If test comb a b) x conditions p h all = tt
+      form_fine part context (While test comb a) x conditions p h all = tt
+      form_fine part context (Repeat count a) x conditions p h all = tt
+      form_fine part context (StaticSeq length parts) x conditions p h all = seq_fine part parts x conditions h all
+      form_fine part context (StaticPar length arms) x conditions p h all = par_fine part arms x conditions h all
+      form_fine part context (StaticIf length test a b) x conditions p h all =
           let inside : F test.port = tests (StaticIf length test a b) test p refl in (
             (inside, all),
-            joined (flat part a x (sample test.port x true ∷ samples)) (flat part b x (sample test.port x false ∷ samples))
-                (statement_fine part Branch a x (sample test.port x true ∷ samples) (left (groups_of a) (groups_of b) (visit Branch a) (visit Branch b) h) (inside, all))
-                (statement_fine part Branch b x (sample test.port x false ∷ samples) (right (groups_of a) (groups_of b) (visit Branch a) (visit Branch b) h) (inside, all)),
+            joined (flat part a x (condition test.port x true ∷ conditions)) (flat part b x (condition test.port x false ∷ conditions))
+                (statement_fine part Branch a x (condition test.port x true ∷ conditions) (left (groups_of a) (groups_of b) (visit Branch a) (visit Branch b) h) (inside, all))
+                (statement_fine part Branch b x (condition test.port x false ∷ conditions) (right (groups_of a) (groups_of b) (visit Branch a) (visit Branch b) h) (inside, all)),
           )
-      form_fine part context (StaticRepeat length count a) x samples p h all = rounds_fine (λ y. flat part a y samples) (length_of part a) count x (λ y. statement_fine part InStatic a y samples h all)
-      form_fine part context (Timed k) x samples p h all = tt
+      form_fine part context (StaticRepeat length count a) x conditions p h all = rounds_fine (λ y. flat part a y conditions) (length_of part a) count x (λ y. statement_fine part InStatic a y conditions h all)
+      form_fine part context (Timed k) x conditions p h all = tt
 
-      statement_fine : (part : PlainComponent) (context : Context) (s : PlainStatement) (x : ℕ) (samples : List Sample) → Holds G P (groups_of s) (visit context s) → AllSampled samples → AllFine (flat part s x samples)
-      statement_fine part context (Placed form place) x samples h all =
-          form_fine part context form x samples (h.forms (record { context = context; form = form; place = place }) (inl refl)) (record { groups = h.groups; forms = λ v i. h.forms v (inr i) }) all
+      statement_fine : (part : PlainComponent) (context : Context) (s : PlainStatement) (x : ℕ) (conditions : List Condition) → Holds G P (groups_of s) (visit context s) → AllSampled conditions → AllFine (flat part s x conditions)
+      statement_fine part context (Placed form place) x conditions h all =
+          form_fine part context form x conditions (h.forms (record { context = context; form = form; place = place }) (inl refl)) (record { groups = h.groups; forms = λ v i. h.forms v (inr i) }) all
 
-      seq_fine : (part : PlainComponent) (ss : PlainStatements) (x : ℕ) (samples : List Sample) → Holds G P (groups_in_all ss) (visit_all InStatic ss) → AllSampled samples → AllFine (seq_flat part ss x samples)
-      seq_fine part no_statements x samples h all = tt
-      seq_fine part (a_statement s ss) x samples h all =
-          joined (flat part s x samples) (seq_flat part ss (x + length_of part s) samples)
-          (statement_fine part InStatic s x samples (left (groups_of s) (groups_in_all ss) (visit InStatic s) (visit_all InStatic ss) h) all)
-          (seq_fine part ss (x + length_of part s) samples (right (groups_of s) (groups_in_all ss) (visit InStatic s) (visit_all InStatic ss) h) all)
+      seq_fine : (part : PlainComponent) (ss : PlainStatements) (x : ℕ) (conditions : List Condition) → Holds G P (groups_in_all ss) (visit_all InStatic ss) → AllSampled conditions → AllFine (seq_flat part ss x conditions)
+      seq_fine part no_statements x conditions h all = tt
+      seq_fine part (a_statement s ss) x conditions h all =
+          joined (flat part s x conditions) (seq_flat part ss (x + length_of part s) conditions)
+          (statement_fine part InStatic s x conditions (left (groups_of s) (groups_in_all ss) (visit InStatic s) (visit_all InStatic ss) h) all)
+          (seq_fine part ss (x + length_of part s) conditions (right (groups_of s) (groups_in_all ss) (visit InStatic s) (visit_all InStatic ss) h) all)
 
-      par_fine : (part : PlainComponent) (ss : PlainStatements) (x : ℕ) (samples : List Sample) → Holds G P (groups_in_all ss) (visit_all InStatic ss) → AllSampled samples → AllFine (par_flat part ss x samples)
-      par_fine part no_statements x samples h all = tt
-      par_fine part (a_statement s ss) x samples h all =
-          joined (flat part s x samples) (par_flat part ss x samples)
-          (statement_fine part InStatic s x samples (left (groups_of s) (groups_in_all ss) (visit InStatic s) (visit_all InStatic ss) h) all)
-          (par_fine part ss x samples (right (groups_of s) (groups_in_all ss) (visit InStatic s) (visit_all InStatic ss) h) all)
+      par_fine : (part : PlainComponent) (ss : PlainStatements) (x : ℕ) (conditions : List Condition) → Holds G P (groups_in_all ss) (visit_all InStatic ss) → AllSampled conditions → AllFine (par_flat part ss x conditions)
+      par_fine part no_statements x conditions h all = tt
+      par_fine part (a_statement s ss) x conditions h all =
+          joined (flat part s x conditions) (par_flat part ss x conditions)
+          (statement_fine part InStatic s x conditions (left (groups_of s) (groups_in_all ss) (visit InStatic s) (visit_all InStatic ss) h) all)
+          (par_fine part ss x conditions (right (groups_of s) (groups_in_all ss) (visit InStatic s) (visit_all InStatic ss) h) all)
 
   -- histories that agree on such ports give the same cycle
   abbrev pub AreSame : History → History → Type 0
   AreSame h k = (port : PortRef) (at : ℕ) → F port → h port at ≡ k port at
 
   module _ (h k : History) (same : AreSame h k) where
-    hold_same : (samples : List Sample) → AllSampled samples → hold h samples ≡ hold k samples
+    hold_same : (conditions : List Condition) → AllSampled conditions → hold h conditions ≡ hold k conditions
     hold_same [] all = refl
     hold_same (s ∷ rest) (inside, all) =
         ap (λ b. is_wanted s.wanted b && hold h rest) (same s.port s.at inside) ∙ ap (λ b. is_wanted s.wanted (k s.port s.at) && b) (hold_same rest all)
 
     pub active_same : (t : ℕ) (list : List Occurrence) → AllFine list → active_in h t list ≡ active_in k t list
     active_same t [] fine = refl
-    active_same t (Runs g from to samples ∷ rest) ((good, all), fine) =
-        ap (λ b. entry_if (nat_le from t && nat_lt t to && b) g (t - from) (active_in h t rest)) (hold_same samples all)
-        ∙ ap (entry_if (nat_le from t && nat_lt t to && hold k samples) g (t - from)) (active_same t rest fine)
-    active_same t (Looks port at samples ∷ rest) (here, fine) = active_same t rest fine
+    active_same t (Runs g from to conditions ∷ rest) ((good, all), fine) =
+        ap (λ b. entry_if (nat_le from t && nat_lt t to && b) g (t - from) (active_in h t rest)) (hold_same conditions all)
+        ∙ ap (entry_if (nat_le from t && nat_lt t to && hold k conditions) g (t - from)) (active_same t rest fine)
+    active_same t (Looks port at conditions ∷ rest) (here, fine) = active_same t rest fine
 
     pub looked_same : (t : ℕ) (list : List Occurrence) → AllFine list → looked_at h t list ≡ looked_at k t list
     looked_same t [] fine = refl
-    looked_same t (Runs g from to samples ∷ rest) (here, fine) = looked_same t rest fine
-    looked_same t (Looks port at samples ∷ rest) ((inside, all), fine) =
-        ap (λ b. port_if (nat_eq t at && b) port (looked_at h t rest)) (hold_same samples all)
-        ∙ ap (port_if (nat_eq t at && hold k samples) port) (looked_same t rest fine)
+    looked_same t (Runs g from to conditions ∷ rest) (here, fine) = looked_same t rest fine
+    looked_same t (Looks port at conditions ∷ rest) ((inside, all), fine) =
+        ap (λ b. port_if (nat_eq t at && b) port (looked_at h t rest)) (hold_same conditions all)
+        ∙ ap (port_if (nat_eq t at && hold k conditions) port) (looked_same t rest fine)
 
   -- what is active and looked at is such
   active_good : (h : History) (t : ℕ) (list : List Occurrence) → AllFine list → (g : ℕ) → In (map (λ e. e.group) (active_in h t list)) g → G g
   active_good h t [] fine g i = absurd i
-  active_good h t (Runs n from to samples ∷ rest) ((good, all), fine) g i = one (nat_le from t && nat_lt t to && hold h samples) i (active_good h t rest fine g)
+  active_good h t (Runs n from to conditions ∷ rest) ((good, all), fine) g i = one (nat_le from t && nat_lt t to && hold h conditions) i (active_good h t rest fine g)
     where
       one : (b : Bool) → In (map (λ e. e.group) (entry_if b n (t - from) (active_in h t rest))) g → (In (map (λ e. e.group) (active_in h t rest)) g → G g) → G g
       one true (inl e) later = subst G e good
       one true (inr j) later = later j
       one false j later = later j
-  active_good h t (Looks port at samples ∷ rest) (here, fine) g i = active_good h t rest fine g i
+  active_good h t (Looks port at conditions ∷ rest) (here, fine) g i = active_good h t rest fine g i
 
   pub looked_good : (h : History) (t : ℕ) (list : List Occurrence) → AllFine list → (q : PortRef) → In (looked_at h t list) q → F q
   looked_good h t [] fine q i = absurd i
-  looked_good h t (Runs n from to samples ∷ rest) (here, fine) q i = looked_good h t rest fine q i
-  looked_good h t (Looks port at samples ∷ rest) ((inside, all), fine) q i = one (nat_eq t at && hold h samples) i (looked_good h t rest fine q)
+  looked_good h t (Runs n from to conditions ∷ rest) (here, fine) q i = looked_good h t rest fine q i
+  looked_good h t (Looks port at conditions ∷ rest) ((inside, all), fine) q i = one (nat_eq t at && hold h conditions) i (looked_good h t rest fine q)
     where
       one : (b : Bool) → In (port_if b port (looked_at h t rest)) q → (In (looked_at h t rest) q → F q) → F q
       one true (inl e) later = subst F e inside

@@ -16,7 +16,7 @@ use Rattle.cx_meaning.specs.Cycles.{Fault, Ended, Goes, Faults, cycle, every_cel
 use Rattle.cx_meaning.specs.Answers.{Answer, End, More, Turn, idle_turn}
 use Rattle.cx_meaning.specs.Answers as answers
 use Rattle.cx_meaning.specs.Control.{groups_in, groups_of, groups_in_all, targets_cell, assigns_drive, group_drives, groups_drive, drives}
-use Rattle.cx_meaning.specs.Islands.{group_length, form_length, length_of, Sample, sample, Occurrence, Runs, Looks, rounds_from, occurrence, form_flat, flat, seq_flat, par_flat, History, no_history, hold, entry_if, active_in, and_now, turn_of, unless_unclear, island_turn, island_from, island}
+use Rattle.cx_meaning.specs.Islands.{group_length, form_length, length_of, Condition, condition, Occurrence, Runs, Looks, rounds_from, occurrence, form_flat, flat, seq_flat, par_flat, History, no_history, hold, entry_if, active_in, and_now, turn_of, unless_unclear, island_turn, island_from, island}
 use Rattle.cx_meaning.specs.Calls.{hole_turn, group_turn, if_instance, called_by, called_in, called, captures, lift_answer, inputs_of_call, after_child, call_or_turns, enable_kind}
 use Rattle.cx_meaning.specs.Running.{Children, leaves, control_below, run_statement}
 use Rattle.cx_meaning.specs.Budgets.{Leaves}
@@ -52,57 +52,57 @@ capture_undriven part g e c off h on = ap (λ b. if b then Some 0 else None) (na
 -- ISLANDS: the groups of the flat list are those of the statement
 abbrev RunsOnly : (ℕ → Type 0) → List Occurrence → Type 0
 RunsOnly allowed [] = Unit {0}
-RunsOnly allowed (Runs g from to samples ∷ rest) = allowed g × RunsOnly allowed rest
-RunsOnly allowed (Looks port at samples ∷ rest) = RunsOnly allowed rest
+RunsOnly allowed (Runs g from to conditions ∷ rest) = allowed g × RunsOnly allowed rest
+RunsOnly allowed (Looks port at conditions ∷ rest) = RunsOnly allowed rest
 
 module _ (part : PlainComponent) (allowed : ℕ → Type 0) where
   runs_join : (xs ys : List Occurrence) → RunsOnly allowed xs → RunsOnly allowed ys → RunsOnly allowed (xs ++ ys)
   runs_join [] ys h k = k
-  runs_join (Runs g from to samples ∷ xs) ys (ok, h) k = (ok, runs_join xs ys h k)
-  runs_join (Looks port at samples ∷ xs) ys h k = runs_join xs ys h k
+  runs_join (Runs g from to conditions ∷ xs) ys (ok, h) k = (ok, runs_join xs ys h k)
+  runs_join (Looks port at conditions ∷ xs) ys h k = runs_join xs ys h k
 
   runs_rounds : (body : ℕ → List Occurrence) (p k x : ℕ) → ((y : ℕ) → RunsOnly allowed (body y)) → RunsOnly allowed (rounds_from body p k x)
   runs_rounds body p zero x h = tt
   runs_rounds body p (suc k) x h = runs_join (body x) (rounds_from body p k (x + p)) (h x) (runs_rounds body p k (x + p) h)
 
-  runs_occurrence : (g x : ℕ) (samples : List Sample) (length : Option ℕ) → allowed g → RunsOnly allowed (occurrence g x samples length)
-  runs_occurrence g x samples None ok = tt
-  runs_occurrence g x samples (Some n) ok = (ok, tt)
+  runs_occurrence : (g x : ℕ) (conditions : List Condition) (length : Option ℕ) → allowed g → RunsOnly allowed (occurrence g x conditions length)
+  runs_occurrence g x conditions None ok = tt
+  runs_occurrence g x conditions (Some n) ok = (ok, tt)
 
   mutual
-    runs_form : (form : PlainForm) → ((g : ℕ) → In (groups_in form) g → allowed g) → (x : ℕ) (samples : List Sample) → RunsOnly allowed (form_flat part form x samples)
-    runs_form Empty all x samples = tt
-    runs_form (Enable g) all x samples = runs_occurrence g x samples (group_length part g) (all g (inl refl))
-    runs_form (Seq parts) all x samples = tt
-    runs_form (Par arms) all x samples = tt
-    runs_form (If test comb a b) all x samples = tt
-    runs_form (While test comb a) all x samples = tt
-    runs_form (Repeat count a) all x samples = tt
-    runs_form (StaticSeq length parts) all x samples = runs_seq parts all x samples
-    runs_form (StaticPar length arms) all x samples = runs_par arms all x samples
-    runs_form (StaticIf length test a b) all x samples =
-        runs_join (flat part a x (sample test.port x true ∷ samples)) (flat part b x (sample test.port x false ∷ samples))
-        (runs_statement a (λ g i. all g (in_left (groups_of a) (groups_of b) g i)) x (sample test.port x true ∷ samples))
-        (runs_statement b (λ g i. all g (in_right (groups_of a) (groups_of b) g i)) x (sample test.port x false ∷ samples))
-    runs_form (StaticRepeat length count a) all x samples = runs_rounds (λ y. flat part a y samples) (length_of part a) count x (λ y. runs_statement a all y samples)
-    runs_form (Timed k) all x samples = tt
+    runs_form : (form : PlainForm) → ((g : ℕ) → In (groups_in form) g → allowed g) → (x : ℕ) (conditions : List Condition) → RunsOnly allowed (form_flat part form x conditions)
+    runs_form Empty all x conditions = tt
+    runs_form (Enable g) all x conditions = runs_occurrence g x conditions (group_length part g) (all g (inl refl))
+    runs_form (Seq parts) all x conditions = tt
+    runs_form (Par arms) all x conditions = tt
+    runs_form (If test comb a b) all x conditions = tt
+    runs_form (While test comb a) all x conditions = tt
+    runs_form (Repeat count a) all x conditions = tt
+    runs_form (StaticSeq length parts) all x conditions = runs_seq parts all x conditions
+    runs_form (StaticPar length arms) all x conditions = runs_par arms all x conditions
+    runs_form (StaticIf length test a b) all x conditions =
+        runs_join (flat part a x (condition test.port x true ∷ conditions)) (flat part b x (condition test.port x false ∷ conditions))
+        (runs_statement a (λ g i. all g (in_left (groups_of a) (groups_of b) g i)) x (condition test.port x true ∷ conditions))
+        (runs_statement b (λ g i. all g (in_right (groups_of a) (groups_of b) g i)) x (condition test.port x false ∷ conditions))
+    runs_form (StaticRepeat length count a) all x conditions = runs_rounds (λ y. flat part a y conditions) (length_of part a) count x (λ y. runs_statement a all y conditions)
+    runs_form (Timed k) all x conditions = tt
 
-    runs_statement : (s : PlainStatement) → ((g : ℕ) → In (groups_of s) g → allowed g) → (x : ℕ) (samples : List Sample) → RunsOnly allowed (flat part s x samples)
-    runs_statement (Placed form place) all x samples = runs_form form all x samples
+    runs_statement : (s : PlainStatement) → ((g : ℕ) → In (groups_of s) g → allowed g) → (x : ℕ) (conditions : List Condition) → RunsOnly allowed (flat part s x conditions)
+    runs_statement (Placed form place) all x conditions = runs_form form all x conditions
 
-    runs_seq : (parts : PlainStatements) → ((g : ℕ) → In (groups_in_all parts) g → allowed g) → (x : ℕ) (samples : List Sample) → RunsOnly allowed (seq_flat part parts x samples)
-    runs_seq no_statements all x samples = tt
-    runs_seq (a_statement s ss) all x samples =
-        runs_join (flat part s x samples) (seq_flat part ss (x + length_of part s) samples)
-        (runs_statement s (λ g i. all g (in_left (groups_of s) (groups_in_all ss) g i)) x samples)
-        (runs_seq ss (λ g i. all g (in_right (groups_of s) (groups_in_all ss) g i)) (x + length_of part s) samples)
+    runs_seq : (parts : PlainStatements) → ((g : ℕ) → In (groups_in_all parts) g → allowed g) → (x : ℕ) (conditions : List Condition) → RunsOnly allowed (seq_flat part parts x conditions)
+    runs_seq no_statements all x conditions = tt
+    runs_seq (a_statement s ss) all x conditions =
+        runs_join (flat part s x conditions) (seq_flat part ss (x + length_of part s) conditions)
+        (runs_statement s (λ g i. all g (in_left (groups_of s) (groups_in_all ss) g i)) x conditions)
+        (runs_seq ss (λ g i. all g (in_right (groups_of s) (groups_in_all ss) g i)) (x + length_of part s) conditions)
 
-    runs_par : (arms : PlainStatements) → ((g : ℕ) → In (groups_in_all arms) g → allowed g) → (x : ℕ) (samples : List Sample) → RunsOnly allowed (par_flat part arms x samples)
-    runs_par no_statements all x samples = tt
-    runs_par (a_statement s ss) all x samples =
-        runs_join (flat part s x samples) (par_flat part ss x samples)
-        (runs_statement s (λ g i. all g (in_left (groups_of s) (groups_in_all ss) g i)) x samples)
-        (runs_par ss (λ g i. all g (in_right (groups_of s) (groups_in_all ss) g i)) x samples)
+    runs_par : (arms : PlainStatements) → ((g : ℕ) → In (groups_in_all arms) g → allowed g) → (x : ℕ) (conditions : List Condition) → RunsOnly allowed (par_flat part arms x conditions)
+    runs_par no_statements all x conditions = tt
+    runs_par (a_statement s ss) all x conditions =
+        runs_join (flat part s x conditions) (par_flat part ss x conditions)
+        (runs_statement s (λ g i. all g (in_left (groups_of s) (groups_in_all ss) g i)) x conditions)
+        (runs_par ss (λ g i. all g (in_right (groups_of s) (groups_in_all ss) g i)) x conditions)
 
 -- a group that drives none of the cells that are kept
 abbrev Spares : PlainComponent → (ℕ → Type 0) → ℕ → Type 0
@@ -110,12 +110,12 @@ Spares part kept g = (c : ℕ) → kept c → group_drives part g c ≡ false
 
 entries_undriven : (part : PlainComponent) (kept : ℕ → Type 0) (c : ℕ) → kept c → (t : ℕ) (h : History) (list : List Occurrence) → RunsOnly (Spares part kept) list → IsUndriven part (entries (active_in h t list)) c
 entries_undriven part kept c k t h [] runs g on = refl
-entries_undriven part kept c k t h (Runs x from to samples ∷ rest) (spares, runs) g on = one (nat_le from t && nat_lt t to && hold h samples) (entries_undriven part kept c k t h rest runs g on)
+entries_undriven part kept c k t h (Runs x from to conditions ∷ rest) (spares, runs) g on = one (nat_le from t && nat_lt t to && hold h conditions) (entries_undriven part kept c k t h rest runs g on)
   where
     one : (b : Bool) → offset_in (active_in h t rest) g ≡ None → offset_in (entry_if b x (t - from) (active_in h t rest)) g ≡ None
     one true e = ap (λ same. if same then Some (t - from) else offset_in (active_in h t rest) g) (nat_eq-differs part c x g (spares c k) on) ∙ e
     one false e = e
-entries_undriven part kept c k t h (Looks port at samples ∷ rest) runs g on = entries_undriven part kept c k t h rest runs g on
+entries_undriven part kept c k t h (Looks port at conditions ∷ rest) runs g on = entries_undriven part kept c k t h rest runs g on
 
 -- what a statement does not drive no group drives that is active in an island of it
 pub island_undriven : (part : PlainComponent) (form : PlainForm) (place : Place) (t : ℕ) (h : History) (c : ℕ) → drives part (Placed form place) c ≡ false → IsUndriven part (entries (active_in h t (form_flat part form 0 []))) c

@@ -1,21 +1,21 @@
 -- Ports whose sights hang on a set of cells alone, and the cycles that do.
-use Rattle.std.proofs.Common.{◌≡◌, ℕ, zero, suc, ◌+◌, inl, inr, ◌⊎◌, Bool, true, false, ◌||◌, Option, Some, None, List, [], ◌∷◌, refl, sym, ap, ◌∙◌, subst, arith}
+use Rattle.std.proofs.Common.{◌≡◌, ℕ, inl, inr, Bool, true, false, ◌||◌, Option, Some, None, List, [], ◌∷◌, refl, sym, ap, ◌∙◌, subst}
 use Rattle.std.proofs.Math.Path.{fun_ext}
 use Rattle.cx_prim.specs.declared.ports.Side.{Side}
 use Rattle.cx_prim.specs.declared.ports.Side.TheVariants as sides
-use Rattle.cx_prim.specs.CellStates.{CellState}
 use Rattle.cx_prim.specs.Rows.{Row}
 use Rattle.cx_meaning.specs.declared.ports.PortRef.{PortRef}
 use Rattle.cx_meaning.specs.declared.ports.PortRef.TheVariants as ports
 use Rattle.cx_meaning.specs.declared.sights.Seen.{Seen}
 use Rattle.cx_meaning.specs.Rows.{side_of}
 use Rattle.cx_meaning.specs.Designs.{PlainAssign, PlainComponent, group_at}
-use Rattle.cx_meaning.specs.Instances.{Instance, Cells, no_cells, a_primitive, an_instance, At, Nothing, OfRow, OfInstance, cell_at, cells_of, part_of, State, under}
+use Rattle.cx_meaning.specs.Instances.{Instance, Cells, At, Nothing, OfRow, OfInstance, cell_at, cell_count, cells_of, part_of, State, Set, under}
 use Rattle.cx_meaning.specs.Active.{Active, nothing, Acting, Owned, source_order, offset_of, if_acting, if_target, acting, same_port, drivers}
 use Rattle.cx_meaning.specs.Sights.{Look, Below, Held, unheld, PartPort, Go, AnInput, AnOutput, ItsDone, part_port, of_option, output_seen, gather, side_step, part_step, cell_step, step, In, Sees, by_step, seen}
-use Rattle.cx_meaning.specs.Cycles.{Fault, Outcome, Next, enables, after_enabling, cell_outcome, first_of, first_fault, stepped, cell_after, state_after, unless_fault, every_cell, cycle}
+use Rattle.cx_meaning.specs.Cycles.{Fault, Next, enables, after_enabling, cell_outcome, outcome_of, first_fault, stepped, state_after, unless_fault, cycle_by, every_cell, cycle}
 use Rattle.cx_meaning.specs.Control.{group_drives, groups_drive}
 use Rattle.cx_meaning.specs.Islands.{turn_of}
+use Rattle.cx_meaning.proofs.CycleLemmas.{IsAlike, faults_alike, outcomes_alike, outcomes_same}
 use Rattle.cx_meaning.proofs.SightsLemmas.{one_sight}
 use Rattle.cx_rules.specs.Footprints.{AssignNames, Mentions, SideLeads, PartLeads, CellLeads, Leads}
 use Rattle.cx_rules.specs.Circles.{IsAcyclic, AcyclicBelow}
@@ -96,40 +96,27 @@ cell_same part act s t look below c p Nothing e = refl
 cell_same part act s t look below c p (OfRow row) e = side_same part act s t look below c p row (side_of row p) e
 cell_same part act s t look below c p (OfInstance child) e = part_same part act s t look below c p (part_port (part_of child) p)
 
--- cells that step alike, and cells that step at all
-abbrev Both : Outcome → Outcome → Type 0
-Both x y = (x ≡ y) ⊎ ((a : CellState) × (b : CellState) × (x ≡ Next a) × (y ≡ Next b))
-
-first_alike : (c : ℕ) (x y : Outcome) (u v : Option Fault) → u ≡ v → Both x y → first_of c x u ≡ first_of c y v
-first_alike c x y u v e (inl same) = ap (λ z. first_of c z u) same ∙ ap (first_of c y) e
-first_alike c x y u v e (inr (a, b, f, g)) = ap (λ z. first_of c z u) f ∙ e ∙ sym (ap (λ z. first_of c z v) g)
-
-module _ (look more : Look) (s t : State) where
-  first_same : (cells : Cells) (c : ℕ) → ((k : ℕ) (row : Row) → cell_at cells k ≡ OfRow row → Both (cell_outcome look (c + k) row (s ((c + k) ∷ []))) (cell_outcome more (c + k) row (t ((c + k) ∷ []))))
-      → first_fault every_cell look s cells c ≡ first_fault every_cell more t cells c
-  first_same no_cells c h = refl
-  first_same (a_primitive row rest) c h =
-      let here : c + 0 ≡ c = omega arith in
-      first_alike c (cell_outcome look c row (s (c ∷ []))) (cell_outcome more c row (t (c ∷ []))) (first_fault every_cell look s rest (suc c)) (first_fault every_cell more t rest (suc c))
-      (first_same rest (suc c) (λ k r e. let same : c + suc k ≡ suc c + k = omega arith in subst (λ n. Both (cell_outcome look n r (s (n ∷ []))) (cell_outcome more n r (t (n ∷ [])))) same (h (suc k) r e)))
-      (subst (λ n. Both (cell_outcome look n row (s (n ∷ []))) (cell_outcome more n row (t (n ∷ [])))) here (h 0 row refl))
-  first_same (an_instance child rest) c h =
-      first_same rest (suc c) (λ k r e. let same : c + suc k ≡ suc c + k = omega arith in subst (λ n. Both (cell_outcome look n r (s (n ∷ []))) (cell_outcome more n r (t (n ∷ [])))) same (h (suc k) r e))
-
-  after_same : (c : ℕ) (cells : Cells) (at : ℕ) (d e : CellState) → d ≡ e → ((row : Row) → cell_at cells at ≡ OfRow row → cell_outcome look c row d ≡ cell_outcome more c row e)
-      → cell_after every_cell look c cells at d ≡ cell_after every_cell more c cells at e
-  after_same c no_cells at d e same h = same
-  after_same c (a_primitive row rest) zero d e same h = ap (stepped d) (h row refl) ∙ ap (λ x. stepped x (cell_outcome more c row e)) same
-  after_same c (a_primitive row rest) (suc at) d e same h = after_same c rest at d e same h
-  after_same c (an_instance child rest) zero d e same h = same
-  after_same c (an_instance child rest) (suc at) d e same h = after_same c rest at d e same h
-
+-- CYCLES THAT END ALIKE: each listed primitive comes to the same or goes on, and those of the set come to the same
 turn_alike : (set : ℕ → Type 0) (x y : Option Fault) (a b : State) → x ≡ y → Agree set a b → AlikeTurn set (turn_of (unless_fault x a)) (turn_of (unless_fault y b))
 turn_alike set x y a b e h = subst (λ z. AlikeTurn set (turn_of (unless_fault x a)) (turn_of (unless_fault z b))) e (one x)
   where
     one : (z : Option Fault) → AlikeTurn set (turn_of (unless_fault z a)) (turn_of (unless_fault z b))
     one None = (b, refl, h)
     one (Some f) = refl
+
+pub ends_alike : (set : ℕ → Type 0) (listed : Set) (look more : Look) (cells : Cells) (s t : State)
+    → ((c : ℕ) (row : Row) → cell_at cells c ≡ OfRow row → listed c ≡ true → IsAlike (cell_outcome look c row (s (c ∷ []))) (cell_outcome more c row (t (c ∷ []))))
+    → ((c : ℕ) (row : Row) → set c → cell_outcome look c row (s (c ∷ [])) ≡ cell_outcome more c row (t (c ∷ [])))
+    → Agree set s t → AlikeTurn set (turn_of (cycle_by listed look cells s)) (turn_of (cycle_by listed more cells t))
+ends_alike set listed look more cells s t alike same agree =
+    turn_alike set (first_fault (outcome_of listed look cells s) 0 (cell_count cells)) (first_fault (outcome_of listed more cells t) 0 (cell_count cells)) _ _
+    (faults_alike (outcome_of listed look cells s) (outcome_of listed more cells t) 0 (cell_count cells) (λ c. outcomes_alike listed look more cells s t c (alike c))) states
+  where
+    states : Agree set (state_after (outcome_of listed look cells s) s) (state_after (outcome_of listed more cells t) t)
+    states c [] inside =
+        ap (stepped (s (c ∷ []))) (outcomes_same listed look more cells s t c (agree c [] inside) (λ row at on. same c row inside))
+        ∙ ap (λ d. stepped d (outcome_of listed more cells t c)) (agree c [] inside)
+    states c (e ∷ path) inside = agree c (e ∷ path) inside
 
 -- which of the groups drives a cell
 driver_in : (part : PlainComponent) (gs : List ℕ) (c : ℕ) → groups_drive part gs c ≡ true → (g : ℕ) × In gs g × (group_drives part g c ≡ true)
@@ -239,21 +226,13 @@ module _ (i : Instance) (held : Held) (act : Active) (set : ℕ → Type 0) (gs 
           unused g drives None e = e
           unused g drives (Some k) e = absurd (none_drives (part_of i) gs g c none (among g k e) drives)
 
-      both_outcomes : (c : ℕ) (row : Row) → cell_at (cells_of i) c ≡ OfRow row → Both (cell_outcome (seen i held act s) c row (s (c ∷ []))) (cell_outcome (seen i held act t) c row (t (c ∷ [])))
+      both_outcomes : (c : ℕ) (row : Row) → cell_at (cells_of i) c ≡ OfRow row → IsAlike (cell_outcome (seen i held act s) c row (s (c ∷ []))) (cell_outcome (seen i held act t) c row (t (c ∷ [])))
       both_outcomes c row at = go (groups_drive (part_of i) gs c) refl
         where
-          go : (b : Bool) → groups_drive (part_of i) gs c ≡ b → Both (cell_outcome (seen i held act s) c row (s (c ∷ []))) (cell_outcome (seen i held act t) c row (t (c ∷ [])))
+          go : (b : Bool) → groups_drive (part_of i) gs c ≡ b → IsAlike (cell_outcome (seen i held act s) c row (s (c ∷ []))) (cell_outcome (seen i held act t) c row (t (c ∷ [])))
           go true e = let r = driver_in (part_of i) gs c e in inl (outcome_alike c row ((looks r.0 r.1).drives c r.2))
           go false e = inr (row.idle (s (c ∷ [])), row.idle (t (c ∷ [])), quiet_cell c row at e s, quiet_cell c row at e t)
 
-      faults_alike : first_fault every_cell (seen i held act s) s (cells_of i) 0 ≡ first_fault every_cell (seen i held act t) t (cells_of i) 0
-      faults_alike = first_same (seen i held act s) (seen i held act t) s t (cells_of i) 0
-          (λ k row at. let same : k ≡ 0 + k = omega arith in subst (λ n. Both (cell_outcome (seen i held act s) n row (s (n ∷ []))) (cell_outcome (seen i held act t) n row (t (n ∷ [])))) same (both_outcomes k row at))
-
-      states_alike : Agree set (state_after every_cell (seen i held act s) (cells_of i) s) (state_after every_cell (seen i held act t) (cells_of i) t)
-      states_alike c [] inside = after_same (seen i held act s) (seen i held act t) s t c (cells_of i) c (s (c ∷ [])) (t (c ∷ [])) (agree c [] inside) (λ row at. outcome_alike c row inside)
-      states_alike c (e ∷ path) inside = agree c (e ∷ path) inside
-
       -- a cycle ends alike
       pub cycle_alike : AlikeTurn set (turn_of (cycle i held act s)) (turn_of (cycle i held act t))
-      cycle_alike = turn_alike set (first_fault every_cell (seen i held act s) s (cells_of i) 0) (first_fault every_cell (seen i held act t) t (cells_of i) 0) _ _ faults_alike states_alike
+      cycle_alike = ends_alike set every_cell (seen i held act s) (seen i held act t) (cells_of i) s t (λ c row at on. both_outcomes c row at) (λ c row inside. outcome_alike c row inside) agree

@@ -9,7 +9,7 @@ use Rattle.cx_static.specs.Islands.{PlainIsland, PlainLowered, PlainLowereds}
 use Rattle.cx_wiring.specs.Counts.{wires_of}
 use Rattle.cx_wiring.specs.Control.{control_drivers}
 use Rattle.cx_wiring.specs.Assignments.{driven_assigns, assigns_wires, assigns_drivers}
-use Rattle.cx_wiring.specs.Chains.{chains, rest_widths}
+use Rattle.cx_wiring.specs.Trees.{trees, tree_widths}
 use Rattle.cx_wiring.specs.Reached.{order}
 use Rattle.cx_wiring.specs.Wiring.{groups, first_of_control, bits, plain_wires, component_registers, plain_drivers, component_driven, target_width, cell_in, net_component}
 
@@ -28,8 +28,8 @@ put name inputs outputs cells registers wires holes drivers = record {
 -- the net of a component, part by part
 pub component_is : (d : PlainLowereds) (lowered : PlainLowered) (n : List ℕ) (i o : List PortDecl) (c : List PlainCell) (r w : List ℕ) (h : ℕ) (ds : List PlainNetDriver)
     → n ≡ lowered.part.name → i ≡ lowered.part.inputs → o ≡ lowered.part.outputs → c ≡ map (cell_in (order d)) lowered.part.cells → r ≡ component_registers lowered
-    → w ≡ plain_wires lowered ++ rest_widths (target_width d lowered) (component_driven lowered) → h ≡ groups lowered + groups lowered
-    → ds ≡ chains (length (plain_wires lowered)) (component_driven lowered)
+    → w ≡ plain_wires lowered ++ tree_widths (target_width d lowered) (component_driven lowered) → h ≡ groups lowered + groups lowered
+    → ds ≡ trees (length (plain_wires lowered)) (component_driven lowered)
     → put n i o c r w h ds ≡ net_component d lowered
 component_is d lowered n i o c r w h ds e₁ e₂ e₃ e₄ e₅ e₆ e₇ e₈ = rw (e₁, e₂, e₃, e₄, e₅, e₆, e₇, e₈) refl
 
@@ -45,23 +45,23 @@ module _ (net : PlainLowered → PlainNetComponent) (at : ℕ → Option PlainLo
   pub net_same : at n ≡ None → made ++ map net (filter_map at (n ∷ rest)) ≡ whole → made ++ map net (filter_map at rest) ≡ whole
   net_same is h = ap (λ o. made ++ map net (cons_option o (filter_map at rest))) (sym is) ∙ h
 
-module _ (lowered : PlainLowered) (count first assigns rests : ℕ) (counts : count ≡ groups lowered) (begins : first ≡ first_of_control lowered)
-    (control : assigns ≡ first + wires_of lowered.part.control) (behind : rests ≡ assigns + assigns_wires (driven_assigns lowered)) where
+module _ (lowered : PlainLowered) (count first assigns free : ℕ) (counts : count ≡ groups lowered) (begins : first ≡ first_of_control lowered)
+    (control : assigns ≡ first + wires_of lowered.part.control) (behind : free ≡ assigns + assigns_wires (driven_assigns lowered)) where
   pub drivers_made : (islands : List PlainIsland) (none some all : List PlainNetDriver) → islands ≡ lowered.islands → none ≡ []
       → some ≡ none ++ control_drivers count islands first lowered.part.control
       → all ≡ some ++ assigns_drivers count assigns (driven_assigns lowered)
       → all ≡ plain_drivers lowered
   drivers_made islands none some all i n s a = rw (a, s, n, i, control, begins, counts) refl
 
-  bits_made : rests - count ≡ bits lowered
+  bits_made : free - count ≡ bits lowered
   bits_made = omega arith
 
-  pub wires_made : replicate count 32 ++ replicate (rests - count) 1 ≡ plain_wires lowered
+  pub wires_made : replicate count 32 ++ replicate (free - count) 1 ≡ plain_wires lowered
   wires_made = ap₂ (λ g b. replicate g 32 ++ replicate b 1) counts bits_made
 
-  pub wires_counted : rests ≡ length (plain_wires lowered)
+  pub wires_counted : free ≡ length (plain_wires lowered)
   wires_counted =
-      let all : rests ≡ groups lowered + bits lowered = omega arith in
+      let all : free ≡ groups lowered + bits lowered = omega arith in
       all
       ∙ ap₂ (λ a b. a + b) (sym (length-replicate (groups lowered) 32)) (sym (length-replicate (bits lowered) 1))
       ∙ sym (length-append (replicate (groups lowered) 32) (replicate (bits lowered) 1))

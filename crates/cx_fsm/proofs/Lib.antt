@@ -3,9 +3,9 @@ mod StandLemmas
 mod ControlLemmas
 mod StableSorts
 mod TargetOrder
-mod ChainLemmas
+mod LeafLemmas
 mod RoundLemmas
-mod RestedLemmas
+mod TreeSteps
 mod OrderingLemmas
 mod PlanLemmas
 mod ComponentLemmas

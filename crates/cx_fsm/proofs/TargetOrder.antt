@@ -6,9 +6,9 @@ use Rattle.std.proofs.lemmas.List.Sorted.{ranks_by}
 use Rattle.std.specs.List.Sorted.{IsSortedBy, IsStableBy}
 use Rattle.cx_net.specs.PlainNets.{plain_net_driver, plain_net_target}
 use Rattle.cx_net.specs.declared.drivers.NetDriver.{NetDriver}
-use Rattle.cx_wiring.specs.Chains.{placed_among, by_target}
+use Rattle.cx_wiring.specs.Trees.{placed_among, by_target}
 use Rattle.cx_fsm.proofs.StableSorts.{placed, in_order, one_stable}
-use Rattle.cx_fsm.specs.Chaining.{plain_rank}
+use Rattle.cx_fsm.specs.Leaves.{plain_rank}
 
 abbrev rank_before : ℕ × (ℕ × ℕ) → ℕ × (ℕ × ℕ) → Bool
 rank_before a b = is_lt (ordering_then (nat_cmp a.0 b.0) (ordering_then (nat_cmp a.1.0 b.1.0) (nat_cmp a.1.1 b.1.1)))

@@ -4,6 +4,6 @@ pub mod ControlPieces
 pub mod Places
 pub mod Marks
 pub mod KnownWidths
-pub mod Chaining
+pub mod Leaves
 pub mod Rounds
 pub mod Built

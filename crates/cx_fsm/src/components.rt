@@ -12,7 +12,7 @@ use crate::copies::ordered_cells;
 use crate::numbers::beyond;
 use crate::plans::plan_of;
 use crate::registers::{add_widths, control_registers};
-use crate::rests::with_rests;
+use crate::trees::with_trees;
 use crate::widths::Widths;
 use cx_net::NetComponent;
 use cx_static::{Lowered, LoweredComponent, copied_name, copied_ports};
@@ -33,17 +33,17 @@ pub(crate) fn net_component(
     let plan = plan_of(alloc, component)?;
     let mut drivers = Vec::new(alloc);
     let assigns = control_drivers(alloc, &plan, &mut drivers, &part.control)?;
-    let rests = assigns_drivers(alloc, plan.groups, &mut drivers, assigns, component)?;
+    let first = assigns_drivers(alloc, plan.groups, &mut drivers, assigns, component)?;
     let registers = control_registers(alloc, &component.islands, &part.control)?;
-    let mut wires = plain_wires(alloc, plan.groups, rests)?;
+    let mut wires = plain_wires(alloc, plan.groups, first)?;
     let widths = Widths {
         design,
         component,
         registers: &registers,
         wires: &wires,
     };
-    let rested = with_rests(alloc, &widths, drivers, rests)?;
-    wires.extend_from_slice(&rested.widths)?;
+    let trees = with_trees(alloc, &widths, drivers, first)?;
+    wires.extend_from_slice(&trees.widths)?;
     Ok(NetComponent {
         name: copied_name(alloc, &part.name)?,
         inputs: copied_ports(alloc, part.inputs.as_slice())?,
@@ -52,7 +52,7 @@ pub(crate) fn net_component(
         registers,
         wires,
         holes: beyond(plan.groups, plan.groups)?,
-        drivers: rested.drivers,
+        drivers: trees.drivers,
     })
 }
 

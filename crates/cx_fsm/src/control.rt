@@ -135,7 +135,7 @@ fn enable(
     stands(alloc, drivers, stand)?;
     let end = both(alloc, stand.at(), NetExpr::Hole(group))?;
     ends(drivers, stand, end)?;
-    let goes_on = inverse(alloc, NetExpr::Hole(group))?;
+    let goes_on = inverse(alloc, end_of(stand.wire)?)?;
     drive(
         drivers,
         NetTarget::Hole(plan.go(group)?),

@@ -93,3 +93,46 @@ pub(crate) fn equals(alloc: Global, expr: NetExpr, number: u32) -> Result<NetExp
 {
     compare(alloc, Comparison::Equal, expr, word(number))
 }
+
+/// The same expression again.
+#[cycle(copies)]
+pub(crate) fn copied(alloc: Global, expr: &NetExpr) -> Result<NetExpr, Memory>
+    ensures value { IfOk result (λ copy. plain_net_expr copy ≡ plain_net_expr expr.now) }
+{
+    match expr {
+        NetExpr::Port(port) => Ok(NetExpr::Port(*port)),
+        NetExpr::Register(register) => Ok(NetExpr::Register(*register)),
+        NetExpr::Wire(wire) => Ok(NetExpr::Wire(*wire)),
+        NetExpr::Hole(hole) => Ok(NetExpr::Hole(*hole)),
+        NetExpr::Go => Ok(NetExpr::Go),
+        NetExpr::Literal(bits) => Ok(NetExpr::Literal(*bits)),
+        NetExpr::Not(inner) => {
+            let inner = copied(alloc, inner)?;
+            Ok(NetExpr::Not(Box::new(alloc, inner)?))
+        }
+        NetExpr::And(parts) => Ok(NetExpr::And(all_copied(alloc, parts)?)),
+        NetExpr::Or(parts) => Ok(NetExpr::Or(all_copied(alloc, parts)?)),
+        NetExpr::Add(one, other) => {
+            let one = Box::new(alloc, copied(alloc, one)?)?;
+            let other = Box::new(alloc, copied(alloc, other)?)?;
+            Ok(NetExpr::Add(one, other))
+        }
+        NetExpr::Compare(comparison, one, other) => {
+            let one = Box::new(alloc, copied(alloc, one)?)?;
+            let other = Box::new(alloc, copied(alloc, other)?)?;
+            Ok(NetExpr::Compare(*comparison, one, other))
+        }
+    }
+}
+
+/// The same expressions again.
+#[cycle(copies)]
+fn all_copied(alloc: Global, exprs: &[NetExpr]) -> Result<Vec<NetExpr>, Memory>
+    ensures value { IfOk result (λ copies. map plain_net_expr copies.items ≡ map plain_net_expr exprs.now) }
+{
+    let mut copies = Vec::with_capacity(alloc, exprs.len())?;
+    for expr in exprs {
+        copies.push(copied(alloc, expr)?)?;
+    }
+    Ok(copies)
+}

@@ -14,8 +14,8 @@ mod numbers;
 mod ordering;
 mod plans;
 mod registers;
-mod rests;
 mod stands;
+mod trees;
 mod widths;
 
 pub use building::build;

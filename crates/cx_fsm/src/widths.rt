@@ -17,7 +17,7 @@ use cx_net::NetTarget;
 use cx_prim::Cycle;
 use cx_static::{Lowered, LoweredComponent};
 
-/// A component of a design, with the widths of its registers, and of its wires but for rests.
+/// A component of a design, with the widths of its registers, and of its wires but for those of trees.
 #[derive(Clone, Copy)]
 pub(crate) struct Widths<'a> {
     pub design: &'a Lowered,

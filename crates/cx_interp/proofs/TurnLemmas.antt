@@ -1,20 +1,20 @@
 -- A turn of a group: a cycle of the cells that it drives is the whole cycle, and changes no other.
-use Rattle.std.proofs.Common.{◌≡◌, ℕ, zero, suc, Bool, true, false, nat_eq, List, [], ◌∷◌, Option, Some, None, Result, Ok, Err, refl, sym, ap, ◌∙◌, subst, if◌then◌else◌}
+use Rattle.std.proofs.Common.{◌≡◌, ℕ, zero, Bool, true, false, nat_eq, List, ◌∷◌, Some, None, Result, Ok, Err, refl, sym, ap, ◌∙◌, subst, if◌then◌else◌}
 use Rattle.std.proofs.lemmas.Bool.{eqb-true}
-use Rattle.cx_prim.specs.CellStates.{CellState}
 use Rattle.cx_meaning.specs.declared.ports.PortRef.TheVariants as ports
 use Rattle.cx_meaning.specs.declared.sights.Seen.{Seen}
 use Rattle.cx_meaning.specs.declared.sights.FaultKind.TheVariants as faults
 use Rattle.cx_meaning.specs.Designs.{PlainDesign, PlainComponent}
-use Rattle.cx_meaning.specs.Instances.{Instance, Cells, no_cells, a_primitive, an_instance, Path, State, Set, part_of, cells_of, idle_at, instance_at, tree_of, IsSettled}
+use Rattle.cx_meaning.specs.Instances.{Instance, Path, State, Set, part_of, cells_of, idle_at, instance_at, tree_of, IsSettled}
 use Rattle.cx_meaning.specs.Truths.{Truth, One, Zero, truth_of}
 use Rattle.cx_meaning.specs.Truths as truths
 use Rattle.cx_meaning.specs.Active.{Active, group, only_at}
-use Rattle.cx_meaning.specs.Sights.{Look, Held, seen}
-use Rattle.cx_meaning.specs.Cycles.{Fault, Ended, Goes, Faults, cycle_of, cycle, every_cell, unless_fault, first_fault, state_after, cell_after, stepped, cell_outcome, fault_at}
+use Rattle.cx_meaning.specs.Sights.{Held, seen}
+use Rattle.cx_meaning.specs.Cycles.{Ended, Goes, Faults, cycle_of, cycle, every_cell, outcome_of, state_after, fault_at}
 use Rattle.cx_meaning.specs.Islands.{turn_of}
 use Rattle.cx_meaning.specs.Calls.{group_turn, hole_turn}
 use Rattle.cx_meaning.specs.Control.{group_drives}
+use Rattle.cx_meaning.proofs.CycleLemmas.{goes_to, unlisted_stays}
 use Rattle.cx_design.specs.declared.actives.Active.TheVariants as actives
 use Rattle.cx_design.specs.declared.actives.PortFault.{PortFault}
 use Rattle.cx_state.specs.Tables.{IsNumber}
@@ -40,29 +40,17 @@ undriven_alone part g c off h on = other (nat_eq g h) refl
         absurd (let f : true ≡ false = sym on ∙ ap (λ x. group_drives part x c) (sym same) ∙ off in cc)
     other false e = ap (λ b. if b then Some 0 else None) e
 
--- a cycle changes no cell that is not listed
-unlisted : (listed : Set) (look : Look) (c : ℕ) (cells : Cells) (at : ℕ) (d : CellState) → listed c ≡ false → cell_after listed look c cells at d ≡ d
-unlisted listed look c no_cells at d e = refl
-unlisted listed look c (a_primitive row rest) zero d e = ap (λ b. if b then stepped d (cell_outcome look c row d) else d) e
-unlisted listed look c (a_primitive row rest) (suc at) d e = unlisted listed look c rest at d e
-unlisted listed look c (an_instance child rest) zero d e = refl
-unlisted listed look c (an_instance child rest) (suc at) d e = unlisted listed look c rest at d e
-
-went : (fault : Option Fault) (u after : State) → unless_fault fault u ≡ Goes after → u ≡ after
-went (Some f) u after e = cc
-went None u after e = let g : Goes u ≡ Goes after = e in cc
-
 -- after a cycle of the listed cells only driven cells differ, as before
 pub still_busy : (i : Instance) (held : Held) (act : Active) (listed driven : Set) (s now after : State) → ((c : ℕ) → driven c ≡ false → listed c ≡ false) → IsBusy driven s now → cycle_of i held act listed now ≡ Goes after → IsBusy driven s after
 still_busy i held act listed driven s now after within busy goes =
-    let next : State = state_after listed (seen i held act now) (cells_of i) now in
-    let same : next ≡ after = went (first_fault listed (seen i held act now) now (cells_of i) 0) next after goes in
+    let next : State = state_after (outcome_of listed (seen i held act now) (cells_of i) now) now in
+    let same : next ≡ after = (goes_to _ next after goes).1 in
     subst (λ (x : State). IsBusy driven s x) same
-    (record { top = busy.top; others = λ c below e. others c below (within c e) ∙ busy.others c below e; deeper = λ c e below. busy.deeper c e below })
-  where
-    others : (c : ℕ) (below : Path) → listed c ≡ false → state_after listed (seen i held act now) (cells_of i) now (c ∷ below) ≡ now (c ∷ below)
-    others c [] e = unlisted listed (seen i held act now) c (cells_of i) c (now (c ∷ [])) e
-    others c (x ∷ below) e = refl
+    (record {
+      top = busy.top;
+      others = λ c below e. unlisted_stays listed (seen i held act now) (cells_of i) now c (within c e) below ∙ busy.others c below e;
+      deeper = λ c e below. busy.deeper c e below;
+    })
 
 -- what is not driven is settled
 pub rest_settled : (i : Instance) (driven : Set) (s now : State) → IsSettled i s → IsBusy driven s now → (c : ℕ) → driven c ≡ false → IsSettledAt i now c

@@ -4,7 +4,7 @@ use Rattle.std.proofs.lemmas.Bool.{lt-ltb, le-ltb, lt-leb, le-leb, eq-eqb, ne_eq
 use Rattle.cx_meaning.specs.declared.ports.PortRef.{PortRef}
 use Rattle.cx_meaning.specs.Designs.{PlainComponent, PlainForm, Empty, Enable, Seq, Par, If, While, Repeat, StaticSeq, StaticPar, StaticIf, StaticRepeat, Timed, PlainStatement, Placed, PlainStatements, no_statements, a_statement}
 use Rattle.cx_meaning.specs.Active.{Entry}
-use Rattle.cx_meaning.specs.Islands.{form_length, Sample, Occurrence, Runs, Looks, form_flat, History, hold, entry_if, active_in, port_if, looked_at}
+use Rattle.cx_meaning.specs.Islands.{form_length, Condition, Occurrence, Runs, Looks, form_flat, History, hold, entry_if, active_in, port_if, looked_at}
 use Rattle.cx_laws.specs.Positions.{FormIfs, StatementIfs, AllIfs, entry_at, no_entry, active_at, no_port, port_at, begun_at, HasNoEmptyIf}
 use Rattle.cx_laws.proofs.PositionLemmas.{Out, Observes, on_island, past_island}
 
@@ -49,24 +49,24 @@ module _ (h : History) (t : ℕ) where
 
   active_joined : (xs ys : List Occurrence) → active_in h t (xs ++ ys) ≡ active_in h t xs ++ active_in h t ys
   active_joined [] ys = refl
-  active_joined (Runs g from to samples ∷ xs) ys =
-      ap (entry_if (nat_le from t && nat_lt t to && hold h samples) g (t - from)) (active_joined xs ys)
-      ∙ joined_entries (nat_le from t && nat_lt t to && hold h samples) g (t - from) (active_in h t xs) (active_in h t ys)
-  active_joined (Looks port at samples ∷ xs) ys = active_joined xs ys
+  active_joined (Runs g from to conditions ∷ xs) ys =
+      ap (entry_if (nat_le from t && nat_lt t to && hold h conditions) g (t - from)) (active_joined xs ys)
+      ∙ joined_entries (nat_le from t && nat_lt t to && hold h conditions) g (t - from) (active_in h t xs) (active_in h t ys)
+  active_joined (Looks port at conditions ∷ xs) ys = active_joined xs ys
 
-  active_runs : (g x n j : ℕ) (samples : List Sample) → t ≡ x + j → j < n → hold h samples ≡ true → active_in h t (Runs g x (x + n) samples ∷ []) ≡ entry_at g j
-  active_runs g x n j samples e l held =
+  active_runs : (g x n j : ℕ) (conditions : List Condition) → t ≡ x + j → j < n → hold h conditions ≡ true → active_in h t (Runs g x (x + n) conditions ∷ []) ≡ entry_at g j
+  active_runs g x n j conditions e l held =
       let begun : t - x ≡ j = omega arith in
-      let holds : (nat_le x t && nat_lt t (x + n) && hold h samples) ≡ true = and_true (nat_le x t && nat_lt t (x + n)) (hold h samples) (and_true (nat_le x t) (nat_lt t (x + n)) (le-leb x t (omega arith)) (lt-ltb t (x + n) (omega arith))) held in
+      let holds : (nat_le x t && nat_lt t (x + n) && hold h conditions) ≡ true = and_true (nat_le x t && nat_lt t (x + n)) (hold h conditions) (and_true (nat_le x t) (nat_lt t (x + n)) (le-leb x t (omega arith)) (lt-ltb t (x + n) (omega arith))) held in
       ap (λ b. entry_if b g (t - x) []) holds ∙ ap (entry_at g) begun
 
-  active_out : (g x n : ℕ) (samples : List Sample) → Out x n t → active_in h t (Runs g x (x + n) samples ∷ []) ≡ []
-  active_out g x n samples (inl l) = ap (λ b. entry_if (b && nat_lt t (x + n) && hold h samples) g (t - x) []) (lt-leb x t l)
-  active_out g x n samples (inr l) = ap (λ b. entry_if b g (t - x) []) (ap (λ b. b && hold h samples) (and_false (nat_le x t) (nat_lt t (x + n)) (le-ltb t (x + n) l)))
+  active_out : (g x n : ℕ) (conditions : List Condition) → Out x n t → active_in h t (Runs g x (x + n) conditions ∷ []) ≡ []
+  active_out g x n conditions (inl l) = ap (λ b. entry_if (b && nat_lt t (x + n) && hold h conditions) g (t - x) []) (lt-leb x t l)
+  active_out g x n conditions (inr l) = ap (λ b. entry_if b g (t - x) []) (ap (λ b. b && hold h conditions) (and_false (nat_le x t) (nat_lt t (x + n)) (le-ltb t (x + n) l)))
 
-  active_unheld : (g x n : ℕ) (samples : List Sample) → hold h samples ≡ false → active_in h t (Runs g x (x + n) samples ∷ []) ≡ []
-  active_unheld g x n samples e =
-      ap (λ b. entry_if b g (t - x) []) (and_false (nat_le x t && nat_lt t (x + n)) (hold h samples) e)
+  active_unheld : (g x n : ℕ) (conditions : List Condition) → hold h conditions ≡ false → active_in h t (Runs g x (x + n) conditions ∷ []) ≡ []
+  active_unheld g x n conditions e =
+      ap (λ b. entry_if b g (t - x) []) (and_false (nat_le x t && nat_lt t (x + n)) (hold h conditions) e)
 
   active_observed : Observes h t Any entry_at no_entry (active_in h t)
   active_observed = record {
@@ -75,9 +75,9 @@ module _ (h : History) (t : ℕ) where
     runs = active_runs;
     runs_out = active_out;
     runs_unheld = active_unheld;
-    looks = λ port x j samples e held. refl;
-    looks_out = λ port x n samples p o. refl;
-    looks_unheld = λ port x samples e. refl;
+    looks = λ port x j conditions e held. refl;
+    looks_out = λ port x n conditions p o. refl;
+    looks_unheld = λ port x conditions e. refl;
   }
 
   pub active_is : (part : PlainComponent) (form : PlainForm) → t < form_length part form → active_in h t (form_flat part form 0 []) ≡ active_at part h t form
@@ -93,35 +93,35 @@ module _ (h : History) (t : ℕ) where
 
   looked_joined : (xs ys : List Occurrence) → looked_at h t (xs ++ ys) ≡ looked_at h t xs ++ looked_at h t ys
   looked_joined [] ys = refl
-  looked_joined (Runs g from to samples ∷ xs) ys = looked_joined xs ys
-  looked_joined (Looks port at samples ∷ xs) ys =
-      ap (port_if (nat_eq t at && hold h samples) port) (looked_joined xs ys)
-      ∙ joined_ports (nat_eq t at && hold h samples) port (looked_at h t xs) (looked_at h t ys)
+  looked_joined (Runs g from to conditions ∷ xs) ys = looked_joined xs ys
+  looked_joined (Looks port at conditions ∷ xs) ys =
+      ap (port_if (nat_eq t at && hold h conditions) port) (looked_joined xs ys)
+      ∙ joined_ports (nat_eq t at && hold h conditions) port (looked_at h t xs) (looked_at h t ys)
 
-  looked_begins : (port : PortRef) (x j : ℕ) (samples : List Sample) → t ≡ x + j → hold h samples ≡ true → looked_at h t (Looks port x samples ∷ []) ≡ port_at port j
-  looked_begins port x zero samples e held = ap (λ b. port_if b port []) (and_true (nat_eq t x) (hold h samples) (eq-eqb t x (omega arith)) held)
-  looked_begins port x (suc j) samples e held = ap (λ b. port_if (b && hold h samples) port []) (ne_eqb t x (λ same. absurd (later same)))
+  looked_begins : (port : PortRef) (x j : ℕ) (conditions : List Condition) → t ≡ x + j → hold h conditions ≡ true → looked_at h t (Looks port x conditions ∷ []) ≡ port_at port j
+  looked_begins port x zero conditions e held = ap (λ b. port_if b port []) (and_true (nat_eq t x) (hold h conditions) (eq-eqb t x (omega arith)) held)
+  looked_begins port x (suc j) conditions e held = ap (λ b. port_if (b && hold h conditions) port []) (ne_eqb t x (λ same. absurd (later same)))
     where
       later : t ≡ x → ⊥
       later same = omega arith
 
-  looked_out : (port : PortRef) (x n : ℕ) (samples : List Sample) → 0 < n → Out x n t → looked_at h t (Looks port x samples ∷ []) ≡ []
-  looked_out port x n samples some o = ap (λ b. port_if (b && hold h samples) port []) (ne_eqb t x (λ same. absurd (never o same)))
+  looked_out : (port : PortRef) (x n : ℕ) (conditions : List Condition) → 0 < n → Out x n t → looked_at h t (Looks port x conditions ∷ []) ≡ []
+  looked_out port x n conditions some o = ap (λ b. port_if (b && hold h conditions) port []) (ne_eqb t x (λ same. absurd (never o same)))
     where
       never : Out x n t → t ≡ x → ⊥
       never (inl m) same = omega arith
       never (inr m) same = omega arith
 
-  looked_unheld : (port : PortRef) (x : ℕ) (samples : List Sample) → hold h samples ≡ false → looked_at h t (Looks port x samples ∷ []) ≡ []
-  looked_unheld port x samples e = ap (λ b. port_if b port []) (and_false (nat_eq t x) (hold h samples) e)
+  looked_unheld : (port : PortRef) (x : ℕ) (conditions : List Condition) → hold h conditions ≡ false → looked_at h t (Looks port x conditions ∷ []) ≡ []
+  looked_unheld port x conditions e = ap (λ b. port_if b port []) (and_false (nat_eq t x) (hold h conditions) e)
 
   looked_observed : Observes h t (λ n. 0 < n) no_port port_at (looked_at h t)
   looked_observed = record {
     none = refl;
     joined = looked_joined;
-    runs = λ g x n j samples e l held. refl;
-    runs_out = λ g x n samples o. refl;
-    runs_unheld = λ g x n samples e. refl;
+    runs = λ g x n j conditions e l held. refl;
+    runs_out = λ g x n conditions o. refl;
+    runs_unheld = λ g x n conditions e. refl;
     looks = looked_begins;
     looks_out = looked_out;
     looks_unheld = looked_unheld;

@@ -1,3 +1,4 @@
+pub mod CycleLemmas
 pub mod SightsLemmas
 pub mod AnswersLemmas
 pub mod ControlLemmas

@@ -1,5 +1,5 @@
 -- A cycle of an instance under an active set: the next state, or exactly its fault.
-use Rattle.std.specs.Prelude.{ℕ, zero, suc, ◌||◌, Bool, true, false, [], ◌∷◌, Option, Some, None, Result, Ok, Err, if◌then◌else◌}
+use Rattle.std.specs.Prelude.{ℕ, zero, suc, ◌||◌, Bool, true, [], ◌∷◌, Option, Some, None, Result, Ok, Err, if◌then◌else◌}
 use Rattle.cx_meaning.specs.declared.ports.PortRef.{PortRef}
 use Rattle.cx_meaning.specs.declared.ports.PortRef.TheVariants as ports
 use Rattle.cx_meaning.specs.declared.sights.Seen.{Seen}
@@ -9,7 +9,7 @@ use Rattle.cx_meaning.specs.declared.sights.FaultKind.TheVariants as faults
 use Rattle.cx_prim.specs.CellStates.{CellState}
 use Rattle.cx_prim.specs.Rows.{Inputs, Row, edge, is_enable_side}
 use Rattle.cx_meaning.specs.Rows.{side_of}
-use Rattle.cx_meaning.specs.Instances.{Instance, Cells, no_cells, a_primitive, an_instance, cells_of, Path, State, Set}
+use Rattle.cx_meaning.specs.Instances.{Instance, Cells, At, Nothing, OfRow, OfInstance, cell_at, cell_count, cells_of, Path, State, Set}
 use Rattle.cx_meaning.specs.Active.{Active}
 use Rattle.cx_meaning.specs.Sights.{Look, Held, seen, Gathered, Given, Lacks, gather}
 
@@ -58,40 +58,35 @@ after_enabling look row state (Lacks p x) = Stops (kind_of x) p
 abbrev pub cell_outcome : Look → ℕ → Row → CellState → Outcome
 cell_outcome look c row state = after_enabling (λ p. look (ports.Cell c p)) row state (gather (λ p. look (ports.Cell c p)) (enables row) 0 row.ports)
 
+-- a primitive cell comes to its outcome; a component's cell stays as it is
+abbrev pub outcome_at : Look → ℕ → At → CellState → Outcome
+outcome_at look c Nothing state = Next state
+outcome_at look c (OfRow row) state = cell_outcome look c row state
+outcome_at look c (OfInstance child) state = Next state
+
+-- WHAT EACH CELL COMES TO, by the old state: one that is not listed is not looked at, and stays as it is
+abbrev pub outcome_of : Set → Look → Cells → State → ℕ → Outcome
+outcome_of listed look cells s c = if listed c then outcome_at look c (cell_at cells c) (s (c ∷ [])) else Next (s (c ∷ []))
+
+-- the fault of cell c, or else a later one
 abbrev pub first_of : ℕ → Outcome → Option Fault → Option Fault
 first_of c (Next after) later = later
 first_of c (Stops kind p) later = Some (fault_at kind (ports.Cell c p))
 
-abbrev pub where_listed : Bool → Option Fault → Option Fault → Option Fault
-where_listed true here later = here
-where_listed false here later = later
-
--- the first fault among the listed primitive cells, in cell order
-abbrev pub first_fault : Set → Look → State → Cells → ℕ → Option Fault
-first_fault listed look s no_cells c = None
-first_fault listed look s (a_primitive row rest) c =
-    where_listed (listed c)
-    (first_of c (cell_outcome look c row (s (c ∷ []))) (first_fault listed look s rest (suc c)))
-    (first_fault listed look s rest (suc c))
-first_fault listed look s (an_instance child rest) c = first_fault listed look s rest (suc c)
+-- the first fault, in cell order, of so many cells from cell c on
+abbrev pub first_fault : (ℕ → Outcome) → ℕ → ℕ → Option Fault
+first_fault outcome c zero = None
+first_fault outcome c (suc more) = first_of c (outcome c) (first_fault outcome (suc c) more)
 
 abbrev pub stepped : CellState → Outcome → CellState
 stepped d (Next after) = after
 stepped d (Stops kind p) = d
 
--- a listed cell after its step; c is the number that counts, at is the cell's place in the rest of the list
-abbrev pub cell_after : Set → Look → ℕ → Cells → ℕ → CellState → CellState
-cell_after listed look c no_cells at d = d
-cell_after listed look c (a_primitive row rest) zero d = if listed c then stepped d (cell_outcome look c row d) else d
-cell_after listed look c (a_primitive row rest) (suc at) d = cell_after listed look c rest at d
-cell_after listed look c (an_instance child rest) zero d = d
-cell_after listed look c (an_instance child rest) (suc at) d = cell_after listed look c rest at d
-
--- all listed cells step at once, each by the old state; children stay as they are
-abbrev pub state_after : Set → Look → Cells → State → State
-state_after listed look cells s [] = s []
-state_after listed look cells s (c ∷ []) = cell_after listed look c cells c (s (c ∷ []))
-state_after listed look cells s (c ∷ e ∷ path) = s (c ∷ e ∷ path)
+-- all cells step at once; what is below a component's cell stays as it is
+abbrev pub state_after : (ℕ → Outcome) → State → State
+state_after outcome s [] = s []
+state_after outcome s (c ∷ []) = stepped (s (c ∷ [])) (outcome c)
+state_after outcome s (c ∷ e ∷ path) = s (c ∷ e ∷ path)
 
 -- the state after a cycle, or its fault
 pub data Ended : Type 0 where
@@ -102,8 +97,12 @@ abbrev pub unless_fault : Option Fault → State → Ended
 unless_fault (Some fault) after = Faults fault
 unless_fault None after = Goes after
 
+-- how a cycle of so many cells ends, by what each of them comes to: with the first fault, or with all the steps
+abbrev pub ended : (ℕ → Outcome) → ℕ → State → Ended
+ended outcome count s = unless_fault (first_fault outcome 0 count) (state_after outcome s)
+
 abbrev pub cycle_by : Set → Look → Cells → State → Ended
-cycle_by listed look cells s = unless_fault (first_fault listed look s cells 0) (state_after listed look cells s)
+cycle_by listed look cells s = ended (outcome_of listed look cells s) (cell_count cells) s
 
 -- A CYCLE OF THE LISTED CELLS: only they are looked at, and only they make a step
 abbrev pub cycle_of : Instance → Held → Active → Set → State → Ended

@@ -35,6 +35,11 @@ cell_at (a_primitive row rest) (suc c) = cell_at rest c
 cell_at (an_instance child rest) zero = OfInstance child
 cell_at (an_instance child rest) (suc c) = cell_at rest c
 
+abbrev pub cell_count : Cells → ℕ
+cell_count no_cells = 0
+cell_count (a_primitive row rest) = suc (cell_count rest)
+cell_count (an_instance child rest) = suc (cell_count rest)
+
 -- THE INSTANCE TREE: a primitive cell has its row, and a component cell an instance
 abbrev pub add_cell : (ℕ → Instance) → PlainKind → Cells → Cells
 add_cell child (OfPrimitive primitive) rest = a_primitive (row_of primitive) rest

@@ -1,4 +1,4 @@
--- Static control: an island is a flat list of occurrences by cycles, and of the samples of static ifs.
+-- Static control: an island is a flat list of occurrences by cycles, each under conditions on samples of the ports of static ifs.
 use Rattle.std.specs.Prelude.{ℕ, zero, suc, ◌+◌, ◌-◌, ◌*◌, max, Bool, true, false, ◌&&◌, nat_lt, nat_le, nat_eq, List, [], ◌∷◌, ◌++◌, Option, Some, None, if◌then◌else◌}
 use Rattle.cx_meaning.specs.declared.ports.PortRef.{PortRef}
 use Rattle.cx_meaning.specs.declared.sights.Seen.{Seen}
@@ -57,60 +57,60 @@ abbrev mutual
   max_length part no_statements = 0
   max_length part (a_statement s ss) = max (length_of part s) (max_length part ss)
 
--- a sample: the port of a static if, the cycle in which it is seen, and whether the value is wanted to be 1
-pub record Sample : Type 0 where
+-- a sample is the port of a static if and the cycle in which it is seen. A condition on it says whether it is wanted to be 1
+pub record Condition : Type 0 where
   pub port : PortRef
   pub at : ℕ
   pub wanted : Bool
 
--- an entry of the flat list, which acts where all its samples hold: a group from one cycle to before another, or the port
+-- an entry of the flat list, which acts where all its conditions hold: a group from one cycle to before another, or the port
 -- of a static if that begins in a cycle
 pub data Occurrence : Type 0 where
-  Runs : (group : ℕ) (from to : ℕ) (samples : List Sample) → Occurrence
-  Looks : (port : PortRef) (at : ℕ) (samples : List Sample) → Occurrence
+  Runs : (group : ℕ) (from to : ℕ) (conditions : List Condition) → Occurrence
+  Looks : (port : PortRef) (at : ℕ) (conditions : List Condition) → Occurrence
 
-abbrev pub sample : PortRef → ℕ → Bool → Sample
-sample port at wanted = record { port = port; at = at; wanted = wanted }
+abbrev pub condition : PortRef → ℕ → Bool → Condition
+condition port at wanted = record { port = port; at = at; wanted = wanted }
 
 -- so many rounds of a body of p cycles, one after the other from cycle x on
 abbrev pub rounds_from : {A : Type 0} → (ℕ → List A) → ℕ → ℕ → ℕ → List A
 rounds_from body p zero x = []
 rounds_from body p (suc k) x = body x ++ rounds_from body p k (x + p)
 
-abbrev pub occurrence : ℕ → ℕ → List Sample → Option ℕ → List Occurrence
-occurrence g x samples None = []
-occurrence g x samples (Some n) = Runs g x (x + n) samples ∷ []
+abbrev pub occurrence : ℕ → ℕ → List Condition → Option ℕ → List Occurrence
+occurrence g x conditions None = []
+occurrence g x conditions (Some n) = Runs g x (x + n) conditions ∷ []
 
--- THE FLAT LIST of a static statement that begins in cycle x where these samples hold, in source order
+-- THE FLAT LIST of a static statement that begins in cycle x where these conditions hold, in source order
 abbrev mutual
-  pub form_flat : PlainComponent → PlainForm → ℕ → List Sample → List Occurrence
-  form_flat part Empty x samples = []
-  form_flat part (Enable g) x samples = occurrence g x samples (group_length part g)
-  form_flat part (Seq parts) x samples = []
-  form_flat part (Par arms) x samples = []
-  form_flat part (If test comb a b) x samples = []
-  form_flat part (While test comb a) x samples = []
-  form_flat part (Repeat count a) x samples = []
-  form_flat part (StaticSeq length parts) x samples = seq_flat part parts x samples
-  form_flat part (StaticPar length arms) x samples = par_flat part arms x samples
-  form_flat part (StaticIf length test a b) x samples =
-      Looks test.port x samples
-      ∷ (flat part a x (sample test.port x true ∷ samples) ++ flat part b x (sample test.port x false ∷ samples))
-  form_flat part (StaticRepeat length count a) x samples = rounds_from (λ y. flat part a y samples) (length_of part a) count x
-  form_flat part (Timed k) x samples = []
+  pub form_flat : PlainComponent → PlainForm → ℕ → List Condition → List Occurrence
+  form_flat part Empty x conditions = []
+  form_flat part (Enable g) x conditions = occurrence g x conditions (group_length part g)
+  form_flat part (Seq parts) x conditions = []
+  form_flat part (Par arms) x conditions = []
+  form_flat part (If test comb a b) x conditions = []
+  form_flat part (While test comb a) x conditions = []
+  form_flat part (Repeat count a) x conditions = []
+  form_flat part (StaticSeq length parts) x conditions = seq_flat part parts x conditions
+  form_flat part (StaticPar length arms) x conditions = par_flat part arms x conditions
+  form_flat part (StaticIf length test a b) x conditions =
+      Looks test.port x conditions
+      ∷ (flat part a x (condition test.port x true ∷ conditions) ++ flat part b x (condition test.port x false ∷ conditions))
+  form_flat part (StaticRepeat length count a) x conditions = rounds_from (λ y. flat part a y conditions) (length_of part a) count x
+  form_flat part (Timed k) x conditions = []
 
-  pub flat : PlainComponent → PlainStatement → ℕ → List Sample → List Occurrence
-  flat part (Placed form place) x samples = form_flat part form x samples
+  pub flat : PlainComponent → PlainStatement → ℕ → List Condition → List Occurrence
+  flat part (Placed form place) x conditions = form_flat part form x conditions
 
-  pub seq_flat : PlainComponent → PlainStatements → ℕ → List Sample → List Occurrence
-  seq_flat part no_statements x samples = []
-  seq_flat part (a_statement s ss) x samples = flat part s x samples ++ seq_flat part ss (x + length_of part s) samples
+  pub seq_flat : PlainComponent → PlainStatements → ℕ → List Condition → List Occurrence
+  seq_flat part no_statements x conditions = []
+  seq_flat part (a_statement s ss) x conditions = flat part s x conditions ++ seq_flat part ss (x + length_of part s) conditions
 
-  pub par_flat : PlainComponent → PlainStatements → ℕ → List Sample → List Occurrence
-  par_flat part no_statements x samples = []
-  par_flat part (a_statement s ss) x samples = flat part s x samples ++ par_flat part ss x samples
+  pub par_flat : PlainComponent → PlainStatements → ℕ → List Condition → List Occurrence
+  par_flat part no_statements x conditions = []
+  par_flat part (a_statement s ss) x conditions = flat part s x conditions ++ par_flat part ss x conditions
 
--- whether a port was 1 in a cycle of the island
+-- the samples taken so far: whether a port was 1 in a cycle of the island
 abbrev pub History : Type 0
 History = PortRef → ℕ → Bool
 
@@ -122,10 +122,10 @@ is_wanted true b = b
 is_wanted false true = false
 is_wanted false false = true
 
--- all the samples hold
-abbrev pub hold : History → List Sample → Bool
+-- all the conditions hold
+abbrev pub hold : History → List Condition → Bool
 hold h [] = true
-hold h (s ∷ rest) = is_wanted s.wanted (h s.port s.at) && hold h rest
+hold h (c ∷ rest) = is_wanted c.wanted (h c.port c.at) && hold h rest
 
 abbrev pub entry_if : Bool → ℕ → ℕ → List Entry → List Entry
 entry_if true g o rest = record { group = g; offset = o } ∷ rest
@@ -134,8 +134,8 @@ entry_if false g o rest = rest
 -- the groups that are active in cycle t, each at the offset since its occurrence began
 abbrev pub active_in : History → ℕ → List Occurrence → List Entry
 active_in h t [] = []
-active_in h t (Runs g from to samples ∷ rest) = entry_if (nat_le from t && nat_lt t to && hold h samples) g (t - from) (active_in h t rest)
-active_in h t (Looks port at samples ∷ rest) = active_in h t rest
+active_in h t (Runs g from to conditions ∷ rest) = entry_if (nat_le from t && nat_lt t to && hold h conditions) g (t - from) (active_in h t rest)
+active_in h t (Looks port at conditions ∷ rest) = active_in h t rest
 
 abbrev pub port_if : Bool → PortRef → List PortRef → List PortRef
 port_if true port rest = port ∷ rest
@@ -144,8 +144,8 @@ port_if false port rest = rest
 -- the ports of the static ifs that begin in cycle t
 abbrev pub looked_at : History → ℕ → List Occurrence → List PortRef
 looked_at h t [] = []
-looked_at h t (Runs g from to samples ∷ rest) = looked_at h t rest
-looked_at h t (Looks port at samples ∷ rest) = port_if (nat_eq t at && hold h samples) port (looked_at h t rest)
+looked_at h t (Runs g from to conditions ∷ rest) = looked_at h t rest
+looked_at h t (Looks port at conditions ∷ rest) = port_if (nat_eq t at && hold h conditions) port (looked_at h t rest)
 
 abbrev pub is_one : Truth → Bool
 is_one One = true
@@ -153,7 +153,7 @@ is_one Zero = false
 is_one truths.Conflict = false
 is_one truths.Undefined = false
 
--- what was seen before, and in cycle t what is seen now
+-- the samples taken before, and those of cycle t by what is seen now
 abbrev pub and_now : History → ℕ → Look → History
 and_now h t look port at = if nat_eq t at then is_one (truth_of (look port)) else h port at
 
@@ -175,20 +175,20 @@ abbrev pub unless_unclear : Option Fault → Ended → Turn State Fault
 unless_unclear (Some fault) ended = answers.Faults fault
 unless_unclear None ended = turn_of ended
 
--- CYCLE t OF AN ISLAND: the ports of the static ifs that begin are seen under the continuous assignments alone, in source
--- order, and then the cycle is made with the groups whose samples hold; h knows the samples, those of this cycle included
+-- CYCLE t OF AN ISLAND, by a history that has the samples of t: each port of a static if that begins has to have a value,
+-- in source order, under the continuous assignments alone; then the cycle is made with the groups whose conditions hold
 abbrev pub island_turn : Instance → Held → List Occurrence → ℕ → History → State → Turn State Fault
 island_turn i held list t h s =
     unless_unclear (first_unclear (seen i held nothing s) (looked_at h t list)) (cycle i held (entries (active_in h t list)) s)
 
--- from cycle t on, with so many cycles left, and after them one idle turn
+-- from cycle t on, with so many cycles left, and after them one idle turn: first the samples of t are taken, and by the
+-- history that has them cycle t is made and the island goes on
 abbrev pub island_from : Instance → Held → List Occurrence → ℕ → ℕ → History → Meaning State Fault
-island_from i held list zero t h s n = idle_turn (idle i) s n
-island_from i held list (suc left) t h s zero = More
-island_from i held list (suc left) t h s (suc n) =
-    turn_then (idle i) s
-    (island_turn i held list t (and_now h t (seen i held nothing s)) s)
-    (λ after. island_from i held list left (suc t) (and_now h t (seen i held nothing s)) after n)
+island_from i held list zero t before s n = idle_turn (idle i) s n
+island_from i held list (suc left) t before s zero = More
+island_from i held list (suc left) t before s (suc n) =
+    let h : History = and_now before t (seen i held nothing s) in
+    turn_then (idle i) s (island_turn i held list t h s) (λ after. island_from i held list left (suc t) h after n)
 
 -- AN ISLAND: a static statement that no static statement holds, or the enable of a static group from dynamic control
 abbrev pub island : Instance → Held → PlainForm → Meaning State Fault

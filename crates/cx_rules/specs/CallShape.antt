@@ -163,21 +163,44 @@ is_right_done wanted [] = false
 is_right_done wanted (a ∷ []) = is_right_done_assign wanted a
 is_right_done wanted (a ∷ b ∷ rest) = false
 
--- the five conditions on a plain group g, asked for a component cell c that it drives; each breaks the assignments that it names
+abbrev pub assigns_of : Instance → ℕ → List PlainAssign
+assigns_of i g = (group_at (part_of i) g).assigns
+
+abbrev pub IsInput : Instance → ℕ → Type 0
+IsInput child p = (n : ℕ) × (part_port (part_of child) p ≡ AnInput n)
+
+abbrev pub IsOutputOrDone : Instance → ℕ → Type 0
+IsOutputOrDone child q = ((m : ℕ) × (part_port (part_of child) q ≡ AnOutput m)) ⊎ (part_port (part_of child) q ≡ ItsDone)
+
+-- THE FIVE CONDITIONS on a plain group g, asked for a component cell c that it drives, which is an instance child.
+-- First, it drives ports of no other component cell. Here it does, and each of its targets on a component cell breaks it
+abbrev pub CallsAnother : Instance → ℕ → ℕ → PortRef → Type 0
+CallsAnother i g c target = ((e : ℕ) × Calls i (assigns_of i g) e × (e ≢ c)) × (is_part_port i target ≡ true)
+
+-- second, it drives the go as said
+abbrev pub has_right_go : Instance → ℕ → ℕ → Instance → Bool
+has_right_go i g c child = is_right_go (done_port c child) (with_target (go_port c) (assigns_of i g))
+
+-- third, no input of c depends on an output or the done of c. Here input p does
+abbrev pub IsFedBack : Instance → ℕ → ℕ → Instance → ℕ → Type 0
+IsFedBack i g c child p = IsInput child p × ((q : ℕ) × IsOutputOrDone child q × Depends i (group g) (ports.Cell c p) (ports.Cell c q))
+
+-- fourth, each enabling port of a primitive cell that it drives is the write_en of a std_reg, driven as said
+abbrev pub has_right_enable : Instance → ℕ → ℕ → Instance → PortRef → Bool
+has_right_enable i g c child port = is_register_enable (part_of i) port && is_right_enable (done_port c child) (with_target port (assigns_of i g))
+
+-- fifth, it drives its done as said, by the registers that it captures
+abbrev pub has_right_done : Instance → ℕ → ℕ → Instance → Bool
+has_right_done i g c child =
+    is_right_done (wanted_dones (done_port c child) (captured (part_of i) (assigns_of i g))) (with_target (ports.Done g) (assigns_of i g))
+
+-- a broken condition, and a port whose assignments break it
 pub data CallBreak (i : Instance) (g : ℕ) (c : ℕ) (child : Instance) : PortRef → Type 0 where
-  -- it drives ports of no other component cell
-  another_cell : {target : PortRef} (e : ℕ) → Calls i (group_at (part_of i) g).assigns e → e ≢ c → is_part_port i target ≡ true → CallBreak i g c child target
-  -- it drives the go as said
-  wrong_go : is_right_go (done_port c child) (with_target (go_port c) (group_at (part_of i) g).assigns) ≡ false → CallBreak i g c child (go_port c)
-  -- no other input of c depends on an output or the done of c
-  input_by_output : (p q n : ℕ) → part_port (part_of child) p ≡ AnInput n → ((m : ℕ) × (part_port (part_of child) q ≡ AnOutput m)) ⊎ (part_port (part_of child) q ≡ ItsDone)
-      → Depends i (group g) (ports.Cell c p) (ports.Cell c q) → CallBreak i g c child (ports.Cell c p)
-  -- each other enabling port is the write_en of a std_reg, driven as said
-  wrong_enable : {target : PortRef} → is_primitive_enable i target ≡ true
-      → (is_register_enable (part_of i) target && is_right_enable (done_port c child) (with_target target (group_at (part_of i) g).assigns)) ≡ false → CallBreak i g c child target
-  -- the done is as said
-  wrong_done : is_right_done (wanted_dones (done_port c child) (captured (part_of i) (group_at (part_of i) g).assigns)) (with_target (ports.Done g) (group_at (part_of i) g).assigns) ≡ false
-      → CallBreak i g c child (ports.Done g)
+  another_cell : {target : PortRef} → CallsAnother i g c target → CallBreak i g c child target
+  wrong_go : has_right_go i g c child ≡ false → CallBreak i g c child (go_port c)
+  input_by_output : (p : ℕ) → IsFedBack i g c child p → CallBreak i g c child (ports.Cell c p)
+  wrong_enable : {target : PortRef} → is_primitive_enable i target ≡ true → has_right_enable i g c child target ≡ false → CallBreak i g c child target
+  wrong_done : has_right_done i g c child ≡ false → CallBreak i g c child (ports.Done g)
 
 -- an assignment that drives a port of a component cell and stands in no plain group
 abbrev pub IsOutside : Instance → Owned → Type 0
@@ -189,7 +212,7 @@ pub record IsMisshapen (i : Instance) (a : Owned) : Type 0 where
   pub owner : a.owner ≡ Some group
   pub plain : is_plain (group_at (part_of i) group).kind ≡ true
   pub cell : ℕ
-  pub calls : Calls i (group_at (part_of i) group).assigns cell
+  pub calls : Calls i (assigns_of i group) cell
   pub breaks : CallBreak i group cell calls.child a.assign.target
 
 abbrev pub BreaksCallShape : AssignRule
@@ -199,6 +222,6 @@ BreaksCallShape i a place name = (IsOutside i a ⊎ IsMisshapen i a) × Tells pl
 abbrev pub GroupBreaksCallShape : GroupRule
 GroupBreaksCallShape i g place name =
     (is_plain (group_at (part_of i) g).kind ≡ true)
-    × ((c : ℕ) × Calls i (group_at (part_of i) g).assigns c
-    × ((some_target (same_port (go_port c)) (group_at (part_of i) g).assigns && some_target (is_hole_of g) (group_at (part_of i) g).assigns) ≡ false))
+    × ((c : ℕ) × Calls i (assigns_of i g) c
+    × ((some_target (same_port (go_port c)) (assigns_of i g) && some_target (is_hole_of g) (assigns_of i g)) ≡ false))
     × Tells place name (group_at (part_of i) g).place (group_at (part_of i) g).name

@@ -16,7 +16,7 @@ const HEAD: &str =
     "module main(\n  input wire [0:0] clk,\n  input wire [0:0] reset,\n  input wire [0:0] go,\n  output wire [0:0] done\n);\n";
 
 /// The lines behind the ports, and what is told. Worked by hand from the rules.
-const REFUSED: [(&str, &str); 23] = [
+const REFUSED: [(&str, &str); 26] = [
     ("  assign done = 1'hA;\nendmodule\n", "verilog 7:1 syntax\n"),
     (
         "  assign done = 1'h01;\nendmodule\n",
@@ -63,6 +63,18 @@ const REFUSED: [(&str, &str); 23] = [
     (
         "  reg [0:0] m [0:18446744073709551615];\n  assign done = go;\nendmodule\n",
         "verilog 1:1 limit\n",
+    ),
+    (
+        "  wire [0:0] w;\n  reg [0:0] m [0:18446744073709551615];\n  assign done = go;\nendmodule\n",
+        "verilog 1:1 limit\n",
+    ),
+    (
+        "  assign done = go;\nendmodule\nmodule other(\n  input wire [0:0] clk,\n  input wire [0:0] reset\n);\n  reg [0:0] m [0:18446744073709551615];\nendmodule\n",
+        "verilog 9:1 name\n",
+    ),
+    (
+        "  reg [0:0] m [0:18446744073709551615];\n  wire [0:0] w;\n  assign done = go;\nendmodule\nmodule other(\n  input wire [0:0] clk,\n  input wire [0:0] reset\n);\nendmodule\n",
+        "verilog 7:1 limit\n",
     ),
     (
         "  reg [0:0] m [0:4194304];\n  assign done = go;\nendmodule\nmodule other(\n  input wire [0:0] clk,\n  input wire [0:0] reset\n);\nendmodule\n",
@@ -143,9 +155,72 @@ fn nested(alloc: Global, levels: usize, inner: &str) -> Result<String, Fail> {
     Ok(text)
 }
 
-/// An external memory of 2^64 words, and a module with an array of four.
-const EXTERNAL: &str =
-    "// external m m 8 18446744073709551616\nmodule ram(\n  input wire [0:0] clk,\n  input wire [0:0] reset\n);\n  reg [7:0] w [0:3];\nendmodule\n";
+/// The sizes of an external memory, the last index of its array, the value of `done`, and what is told. Worked by hand from the
+/// rules: another number of words is told at the line of the memory, and 2^64 words or more at that of the array, before all behind.
+const SIZES: [(&str, &str, &str, &str); 12] = [
+    ("18446744073709551616", "3", "go", "verilog 1:1 name\n"),
+    (
+        "18446744073709551616",
+        "18446744073709551615",
+        "go",
+        "verilog 6:1 limit\n",
+    ),
+    (
+        "18446744073709551616",
+        "18446744073709551615",
+        "other",
+        "verilog 6:1 limit\n",
+    ),
+    (
+        "18446744073709551617",
+        "18446744073709551615",
+        "go",
+        "verilog 1:1 name\n",
+    ),
+    (
+        "18446744073709551616",
+        "18446744073709551616",
+        "go",
+        "verilog 1:1 name\n",
+    ),
+    (
+        "4294967296 4294967296",
+        "18446744073709551615",
+        "go",
+        "verilog 6:1 limit\n",
+    ),
+    (
+        "18446744073709551616 2",
+        "36893488147419103231",
+        "go",
+        "verilog 6:1 limit\n",
+    ),
+    (
+        "18446744073709551616 0",
+        "18446744073709551615",
+        "go",
+        "verilog 1:1 name\n",
+    ),
+    (
+        "340282366920938463463374607431768211456 3 1 5",
+        "5104235503814076951950619111476523171839",
+        "go",
+        "verilog 6:1 limit\n",
+    ),
+    (
+        "340282366920938463463374607431768211456 3 1 5",
+        "5104235503814076951950619111476523171840",
+        "go",
+        "verilog 1:1 name\n",
+    ),
+    (
+        "100000000000000000000000000000000000000001 100000000000000000000000000000000000000001",
+        "10000000000000000000000000000000000000000200000000000000000000000000000000000000000",
+        "go",
+        "verilog 6:1 limit\n",
+    ),
+    ("4", "3", "other", "verilog 14:1 name\n"),
+];
 
 #[test]
 fn refusals_tell_the_line(rt: HostRuntime) -> Result<(), Fail> {
@@ -191,19 +266,25 @@ fn nested_lines_are_told(rt: HostRuntime) -> Result<(), Fail> {
     Ok(())
 }
 
-/// A size that no array of the text has is told at the line of the memory.
+/// The words of an external memory and of its array are compared, however many they are.
 #[test]
 fn sizes_are_compared(rt: HostRuntime) -> Result<(), Fail> {
-    let text = format!(in rt.alloc();
-        "{EXTERNAL}{HEAD}  assign done = go;\n  ram m(.clk(clk), .reset(reset));\nendmodule\n"
-    )?;
-    calls(
-        &rt,
-        rt.alloc(),
-        ("sim", 9),
-        (&text, b"{}"),
-        (Status::Refused, "", "verilog 1:1 name\n"),
-    )
+    for (sizes, last, done, err) in SIZES {
+        let ram = format!(in rt.alloc();
+            "// external m m 8 {sizes}\nmodule ram(\n  input wire [0:0] clk,\n  input wire [0:0] reset\n);\n  reg [7:0] w [0:{last}];\nendmodule\n"
+        )?;
+        let text = format!(in rt.alloc();
+            "{ram}{HEAD}  assign done = {done};\n  ram m(.clk(clk), .reset(reset));\nendmodule\n"
+        )?;
+        calls(
+            &rt,
+            rt.alloc(),
+            ("sim", 9),
+            (&text, b"{}"),
+            (Status::Refused, "", err),
+        )?;
+    }
+    Ok(())
 }
 
 /// A counter is read, and written as the same text.

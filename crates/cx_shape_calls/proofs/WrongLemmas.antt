@@ -115,7 +115,7 @@ module _ (i : Instance) (g : ℕ) where
         record {
           cell = r.cell;
           calls = record { child = r.child; is_component = r.stands; driven = driven_by i assigns a r.cell r.input there r.is };
-          breaks = subst (λ p. CallBreak i g r.cell r.child p) (sym r.is) (input_by_output r.input r.output r.number r.is_input r.is_output r.depends);
+          breaks = subst (λ p. CallBreak i g r.cell r.child p) (sym r.is) (input_by_output r.input ((r.number, r.is_input), (r.output, r.is_output, r.depends)));
         }
     port_sound k t (AnOutput n) e h = absurd (true≢false (sym h))
     port_sound k t ItsDone e h = absurd (true≢false (sym h))
@@ -126,7 +126,7 @@ module _ (i : Instance) (g : ℕ) where
         record {
           cell = k.cell;
           calls = record { child = t.child; is_component = t.stands; driven = driven_by i assigns a k.cell t.port there t.is };
-          breaks = another_cell r.0.cell (called_sound i assigns r.0 r.1).calls (not_same r.0.cell k.cell (from_not (nat_eq r.0.cell k.cell) r.2)) (part_port_is i a.target k e);
+          breaks = another_cell ((r.0.cell, (called_sound i assigns r.0 r.1).calls, not_same r.0.cell k.cell (from_not (nat_eq r.0.cell k.cell) r.2)), part_port_is i a.target k e);
         }
 
     enable_sound : is_primitive_enable i a.target ≡ true → wrong_enable_of (part_of i) called driven a a.target ≡ true → IsBroken a.target
@@ -194,13 +194,13 @@ module _ (i : Instance) (g : ℕ) where
     bare_of t e h = ap (λ o. wrong_for i g called driven dependent is_bad a o t) e ∙ h
 
     pub complete : {t : PortRef} (c : ℕ) (calls : Calls i assigns c) → a.target ≡ t → CallBreak i g c calls.child t → is_wrong i g called driven dependent is_bad a t ≡ true
-    complete {t} c calls at (another_cell e other ne part) =
+    complete {t} c calls at (another_cell ((e, other, ne), part)) =
         let k = part_callee i t part in of_callee k.0 t k.1 (inl (other_of c e k.0.cell calls other ne))
     complete c calls at (wrong_go h) =
         let k = callee c calls.child in
         of_callee k (go_port c) (callee_is i c 0 calls.child calls.is_component)
         (inr (to_not (nat_eq (driven c 0) 1 && is_right_go (done_of k) (a ∷ [])) (sym (go_alone k calls.child refl at) ∙ h)))
-    complete c calls at (input_by_output p q n input output depends) =
+    complete c calls at (input_by_output p ((n, input), (q, output, depends))) =
         let k = callee c calls.child in
         let is : IsDependent i g a.target = record { cell = c; input = p; is = at; child = calls.child; stands = calls.is_component; number = n; is_input = input; output = q; is_output = output; depends = depends } in
         of_callee k (ports.Cell c p) (callee_is i c p calls.child calls.is_component)

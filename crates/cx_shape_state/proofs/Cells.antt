@@ -1,6 +1,6 @@
 -- The cells of a component of a design, and the cells that ports speak of.
-use Rattle.std.proofs.Common.{◌≡◌, ◌<◌, ◌≤◌, ℕ, zero, suc, nat_lt, Bool, true, false, cond, List, [], ◌∷◌, Option, Some, None, length, ⊎_elim, refl, sym, ap, ◌∙◌, subst, arith}
-use Rattle.std.proofs.lemmas.Bool.{cases_lt, ltb-true}
+use Rattle.std.proofs.Common.{◌≡◌, ◌<◌, ◌≤◌, ℕ, zero, suc, nat_lt, Bool, true, false, cond, List, [], ◌∷◌, Option, Some, None, length, refl, ap, ◌∙◌, subst, arith}
+use Rattle.std.proofs.lemmas.Bool.{ltb-true}
 use Rattle.cx_prim.specs.declared.ports.Side.{Side}
 use Rattle.cx_prim.specs.declared.ports.Side.TheVariants as sides
 use Rattle.cx_prim.specs.Rows.{Row}
@@ -8,12 +8,13 @@ use Rattle.cx_meaning.specs.declared.ports.PortRef.{PortRef}
 use Rattle.cx_meaning.specs.declared.ports.PortRef.TheVariants as ports
 use Rattle.cx_meaning.specs.Rows.{side_of}
 use Rattle.cx_meaning.specs.Designs.{PlainKind, OfPrimitive, OfComponent, PlainCell, PlainDesign, component_at}
-use Rattle.cx_meaning.specs.Instances.{Instance, Cells, no_cells, a_primitive, an_instance, At, Nothing, OfRow, OfInstance, part_of, cells_of, cell_at, add_cell, cells_for, tree_within}
+use Rattle.cx_meaning.specs.Instances.{Instance, Cells, At, Nothing, OfRow, OfInstance, part_of, cells_of, cell_at, cell_count, add_cell, cells_for, tree_within}
+use Rattle.cx_meaning.proofs.CycleLemmas.{row_within, count_for}
 use Rattle.cx_meaning.specs.Sights.{PartPort, Go, AnInput, AnOutput, ItsDone, part_port}
 use Rattle.cx_rules.specs.Ports.{component_of}
 use Rattle.cx_design_parts.specs.Outputs.{ReadsFirst, read_count}
 use Rattle.cx_design_parts.proofs.OutputLemmas.{row_of-reads_first}
-use Rattle.cx_shape_state.specs.Waits.{side_basis, part_basis, cell_basis, input_basis, basis_of, reads_at, reader_of, cell_count}
+use Rattle.cx_shape_state.specs.Waits.{side_basis, part_basis, cell_basis, input_basis, basis_of, reads_at, reader_of}
 use Rattle.cx_shape_state.specs.Joining.{IsWithin}
 
 pub part_within : (d : PlainDesign) (n k : ℕ) → part_of (tree_within d n k) ≡ component_at d k
@@ -22,14 +23,6 @@ part_within d (suc n) k = refl
 
 pub part_is : (d : PlainDesign) (k : ℕ) → part_of (component_of d k) ≡ component_at d k
 part_is d k = part_within d (length d.components) k
-
-one_more : (child : ℕ → Instance) (kind : PlainKind) (rest : Cells) → cell_count (add_cell child kind rest) ≡ suc (cell_count rest)
-one_more child (OfPrimitive p) rest = refl
-one_more child (OfComponent k) rest = refl
-
-count_for : (child : ℕ → Instance) (cells : List PlainCell) → cell_count (cells_for child cells) ≡ length cells
-count_for child [] = refl
-count_for child (cell ∷ cells) = one_more child cell.kind (cells_for child cells) ∙ ap suc (count_for child cells)
 
 count_within : (d : PlainDesign) (n k : ℕ) → 0 < n → cell_count (cells_of (tree_within d n k)) ≡ length (component_at d k).cells
 count_within d zero k h = absurd (omega (arith, h))
@@ -60,17 +53,6 @@ for_reads child (cell ∷ cells) c row e = add_reads child cell.kind (cells_for 
 pub all_read : (d : PlainDesign) (n k : ℕ) → AllRead (cells_of (tree_within d n k))
 all_read d zero k c row e = absurd (cc)
 all_read d (suc n) k c row e = for_reads (tree_within d n) (component_at d k).cells c row e
-
--- past the last cell there is nothing
-nothing_past : (cells : Cells) (c : ℕ) → cell_count cells ≤ c → cell_at cells c ≡ Nothing
-nothing_past no_cells c h = refl
-nothing_past (a_primitive row rest) zero h = absurd (omega (arith, h))
-nothing_past (a_primitive row rest) (suc c) h = nothing_past rest c (omega (arith, h))
-nothing_past (an_instance child rest) zero h = absurd (omega (arith, h))
-nothing_past (an_instance child rest) (suc c) h = nothing_past rest c (omega (arith, h))
-
-pub row_there : (cells : Cells) (c : ℕ) (row : Row) → cell_at cells c ≡ OfRow row → c < cell_count cells
-row_there cells c row e = ⊎_elim (λ l. l) (λ past. let wrong : Nothing ≡ OfRow row = sym (nothing_past cells c past) ∙ e in absurd (cc)) (cases_lt c (cell_count cells))
 
 abbrev cell_or : ℕ → Option ℕ → ℕ
 cell_or other None = other
@@ -106,7 +88,7 @@ pub reader_is : (i : Instance) (c m : ℕ) (row : Row) → cell_at (cells_of i) 
 reader_is i c m row e h = ap (λ at. cond (nat_lt m (reads_at at)) (Some c) None) e ∙ ap (λ b. cond b (Some c) None) h
 
 pub reader_within : (i : Instance) (port : PortRef) (c : ℕ) → reader_of i port ≡ Some c → c < cell_count (cells_of i)
-reader_within i port c e = let r = reader i port c e in row_there (cells_of i) c r.row r.row_is
+reader_within i port c e = let r = reader i port c e in row_within (cells_of i) c r.row r.row_is
 
 -- a cell that is waited for is there
 side_within : (bound c : ℕ) (side : Side) → c < bound → IsWithin bound (side_basis c side)
@@ -123,7 +105,7 @@ part_port_within bound ItsDone = tt
 
 at_within : (i : Instance) (c p : ℕ) (at : At) → cell_at (cells_of i) c ≡ at → IsWithin (cell_count (cells_of i)) (cell_basis c p at)
 at_within i c p Nothing e = tt
-at_within i c p (OfRow row) e = side_within (cell_count (cells_of i)) c (side_of row p) (row_there (cells_of i) c row e)
+at_within i c p (OfRow row) e = side_within (cell_count (cells_of i)) c (side_of row p) (row_within (cells_of i) c row e)
 at_within i c p (OfInstance child) e = part_port_within (cell_count (cells_of i)) (part_port (part_of child) p)
 
 input_within : (bound : ℕ) (inputs : Bool) → IsWithin bound (input_basis inputs)

@@ -3,13 +3,13 @@ use Rattle.std.proofs.Common.{◌≡◌, ◌+◌, ◌<◌, ℕ, zero, suc, nat_e
 use Rattle.std.proofs.lemmas.Bool.{eqb-true, eq-eqb}
 use Rattle.cx_meaning.specs.declared.ports.PlacedPort.{PlacedPort}
 use Rattle.cx_meaning.specs.Designs.{PlainAssign, PlainGroup, group_at, no_group}
-use Rattle.cx_meaning.specs.Instances.{Instance, part_of, cells_of}
+use Rattle.cx_meaning.specs.Instances.{Instance, part_of, cell_count, cells_of}
 use Rattle.cx_meaning.specs.Sights as sights
 use Rattle.cx_rules.specs.Items.{sources_of}
 use Rattle.cx_graphs.specs.Graphs.{In, Edges, targets_of, IsGraph}
 use Rattle.cx_shape_state.specs.declared.basis.Basis.{Basis}
 use Rattle.cx_shape_state.specs.declared.basis.Basis.TheVariants as basis
-use Rattle.cx_shape_state.specs.Waits.{basis_of, reader_of, waits_on, if_reader, always_waits, group_waits, waits_of, cell_count, tabled, waits}
+use Rattle.cx_shape_state.specs.Waits.{basis_of, reader_of, waits_on, if_reader, always_waits, group_waits, waits_of, tabled, waits}
 use Rattle.cx_shape_state.specs.Joining.{IsWithin}
 use Rattle.cx_shape_state.proofs.Cells.{reader_within, basis_within}
 

@@ -7,7 +7,8 @@ use Rattle.cx_meaning.specs.declared.ports.PortRef.{PortRef}
 use Rattle.cx_meaning.specs.declared.ports.PortRef.TheVariants as ports
 use Rattle.cx_meaning.specs.Rows.{side_of}
 use Rattle.cx_meaning.specs.Designs.{PlainAssign, group_at}
-use Rattle.cx_meaning.specs.Instances.{Instance, At, Nothing, OfRow, OfInstance, part_of, cells_of, cell_at}
+use Rattle.cx_meaning.specs.Instances.{Instance, At, Nothing, OfRow, OfInstance, part_of, cells_of, cell_at, cell_count}
+use Rattle.cx_meaning.proofs.CycleLemmas.{row_within}
 use Rattle.cx_meaning.specs.Sights.{In, PartPort, Go, AnInput, AnOutput, ItsDone, part_port}
 use Rattle.cx_rules.specs.Items.{sources_of}
 use Rattle.cx_rules.specs.Footprints.{AssignNames, Rests, literal_rests, input_rests, registered_rests, output_rests, done_rests, combinational_rests}
@@ -18,9 +19,9 @@ use Rattle.cx_graphs.proofs.Ends.{ends_are_grounded, grounded_end}
 use Rattle.cx_design_parts.specs.Outputs.{read_count}
 use Rattle.cx_shape_state.specs.declared.basis.Basis.{Basis}
 use Rattle.cx_shape_state.specs.declared.basis.Basis.TheVariants as basis
-use Rattle.cx_shape_state.specs.Waits.{side_basis, part_basis, cell_basis, input_basis, basis_of, reader_of, waits_on, waits_of, cell_count, waits}
+use Rattle.cx_shape_state.specs.Waits.{side_basis, part_basis, cell_basis, input_basis, basis_of, reader_of, waits_on, waits_of, waits}
 use Rattle.cx_shape_state.specs.Resting.{rests_by, rests_at}
-use Rattle.cx_shape_state.proofs.Cells.{AllRead, row_there, reader, reader_is, row_or}
+use Rattle.cx_shape_state.proofs.Cells.{AllRead, reader, reader_is, row_or}
 use Rattle.cx_shape_state.proofs.Graph.{graph_length, targets_are, target_within, AlwaysWaits, GroupWaits, waits_either, always_in, driven_waits}
 use Rattle.cx_shape_state.proofs.Names.{source_in, source_named, group_number}
 
@@ -175,7 +176,7 @@ module _ (i : Instance) (inputs : Bool) where
 
     grounded_rests : (c : ℕ) → IsGrounded (waits i inputs) c → Sound c
     grounded_rests c (grounded within targets) p row at side =
-        grounded_step c (row_there (cells_of i) c row at) (grounded within targets) (λ x j. grounded_rests x (targets x j)) p row at side
+        grounded_step c (row_within (cells_of i) c row at) (grounded within targets) (λ x j. grounded_rests x (targets x j)) p row at side
 
     found_rests : (q : PortRef) (b : Basis) → basis_of i inputs q ≡ b → Found b → RestsBy i inputs q
     found_rests q basis.State e f = state_rests q e
@@ -193,7 +194,7 @@ module _ (i : Instance) (inputs : Bool) where
         → ((m : ℕ) (a : PlainAssign) (q : PortRef) → row.reads p m ≡ true → In (part_of i).always a → a.target ≡ ports.Cell c m → AssignNames a q → Found (basis_of i inputs q))
         → IsGrounded (waits i inputs) c
     combinational_found c p row at side none named =
-        grounded (subst (λ k. c < k) (sym (graph_length i inputs)) (row_there (cells_of i) c row at)) (λ m j. either m (waits_either i inputs c m (from_target c m j)))
+        grounded (subst (λ k. c < k) (sym (graph_length i inputs)) (row_within (cells_of i) c row at)) (λ m j. either m (waits_either i inputs c m (from_target c m j)))
       where
         read : (a : PlainAssign) → reader_of i a.target ≡ Some c → (m : ℕ) × (a.target ≡ ports.Cell c m) × (row.reads p m ≡ true)
         read a e =

@@ -2,12 +2,12 @@
 use Rattle.std.proofs.Common.{◌≡◌, ◌+◌, ℕ, Bool, List, [], ◌∷◌, ◌++◌, Some, None, flat_map, sym, ap, ◌∙◌, arith}
 use Rattle.cx_meaning.specs.declared.ports.PlacedPort.{PlacedPort}
 use Rattle.cx_meaning.specs.Designs.{PlainAssign, PlainComponent}
-use Rattle.cx_meaning.specs.Instances.{Instance, part_of, cells_of}
+use Rattle.cx_meaning.specs.Instances.{Instance, part_of, cell_count, cells_of}
 use Rattle.cx_rules.specs.Items.{sources_of, operands_of}
 use Rattle.cx_graphs.specs.Graphs.{Edges}
 use Rattle.cx_graphs.specs.Edges.{with_edge, no_edges}
 use Rattle.cx_shape_state.specs.declared.basis.Basis.{Basis}
-use Rattle.cx_shape_state.specs.Waits.{basis_of, reader_of, waits_on, if_reader, always_waits, group_waits, cell_count, tabled, waits}
+use Rattle.cx_shape_state.specs.Waits.{basis_of, reader_of, waits_on, if_reader, always_waits, group_waits, tabled, waits}
 use Rattle.cx_shape_state.specs.Joining.{with_edges, joined}
 use Rattle.cx_shape_state.proofs.Joins.{with_edge-edges, with_edges-more, joined-none, joined-same, joined-more, joined-one, joined_no_edges}
 

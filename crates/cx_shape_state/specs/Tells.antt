@@ -1,9 +1,9 @@
 -- What the marks of cells tell.
 use Rattle.std.specs.Prelude.{◌≡◌, ℕ, ◌<◌, Bool, true, false, List, Some, length, slice_get}
-use Rattle.cx_meaning.specs.Instances.{Instance, cells_of}
+use Rattle.cx_meaning.specs.Instances.{Instance, cell_count, cells_of}
 use Rattle.cx_graphs.specs.Grounds.{is_grounded}
 use Rattle.cx_shape_state.specs.declared.resting.Resting.{Resting}
-use Rattle.cx_shape_state.specs.Waits.{waits, cell_count}
+use Rattle.cx_shape_state.specs.Waits.{waits}
 
 -- each cell is marked where it waits for nothing that never rests
 pub record AreMarks (i : Instance) (inputs : Bool) (marks : List Bool) : Type 0 where

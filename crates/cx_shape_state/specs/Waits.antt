@@ -6,7 +6,7 @@ use Rattle.cx_meaning.specs.declared.ports.PortRef.{PortRef}
 use Rattle.cx_meaning.specs.declared.ports.PortRef.TheVariants as ports
 use Rattle.cx_meaning.specs.Rows.{side_of}
 use Rattle.cx_meaning.specs.Designs.{PlainAssign}
-use Rattle.cx_meaning.specs.Instances.{Instance, Cells, no_cells, a_primitive, an_instance, At, Nothing, OfRow, OfInstance, cell_at, cells_of, part_of}
+use Rattle.cx_meaning.specs.Instances.{Instance, At, Nothing, OfRow, OfInstance, cell_at, cell_count, cells_of, part_of}
 use Rattle.cx_meaning.specs.Sights.{PartPort, Go, AnInput, AnOutput, ItsDone, part_port}
 use Rattle.cx_rules.specs.Items.{sources_of}
 use Rattle.cx_graphs.specs.Graphs.{Edges}
@@ -80,11 +80,6 @@ abbrev pub waits_of : Instance → Bool → ℕ → List ℕ
 waits_of i inputs c =
     flat_map (always_waits i inputs c) (part_of i).always
     ++ flat_map (λ g. flat_map (group_waits i c) g.assigns) (part_of i).groups
-
-abbrev pub cell_count : Cells → ℕ
-cell_count no_cells = 0
-cell_count (a_primitive row rest) = suc (cell_count rest)
-cell_count (an_instance child rest) = suc (cell_count rest)
 
 -- for so many numbers from one on
 abbrev pub tabled : (ℕ → List ℕ) → ℕ → ℕ → Edges

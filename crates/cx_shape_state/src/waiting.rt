@@ -2,12 +2,12 @@
 
 ghost use Rattle.std.specs.Prelude.{◌≡◌, ◌<◌, Some, IfOk, OnOk, flat_map, length, map};
 ghost use Rattle.cx_rules.specs.Ports.{component_of};
-ghost use Rattle.cx_meaning.specs.Instances.{cells_of};
+ghost use Rattle.cx_meaning.specs.Instances.{cell_count, cells_of};
 ghost use Rattle.cx_design.specs.PlainForms.{plain_assign, plain_assigns, plain_group};
 ghost use Rattle.cx_design.specs.PlainDesigns.{plain_design};
 ghost use Rattle.cx_graphs.specs.Graphs.{edges_of};
 ghost use Rattle.cx_shape_state.specs.Waits as waits;
-ghost use Rattle.cx_shape_state.specs.Waits.{always_waits, cell_count, group_waits, waits_on};
+ghost use Rattle.cx_shape_state.specs.Waits.{always_waits, group_waits, waits_on};
 ghost use Rattle.cx_shape_state.specs.Joining.{IsWithin, joined, with_edges};
 
 use crate::basis::{Basis, basis_of, reader};

@@ -8,7 +8,8 @@ use Rattle.cx_meaning.specs.Designs.{PlainDesign}
 use Rattle.cx_meaning.specs.Instances.{Instance, Node, Cells, no_cells, a_primitive, an_instance, Path, State, just, beneath, under, paths_of, paths_below, tree_of, Set, cells_of, instance_at}
 use Rattle.cx_meaning.specs.Active.{Active}
 use Rattle.cx_meaning.specs.Sights.{Held, seen}
-use Rattle.cx_meaning.specs.Cycles.{Fault, Goes, unless_fault, first_fault, state_after, cycle_of}
+use Rattle.cx_meaning.specs.Cycles.{Goes, outcome_of, state_after, cycle_of}
+use Rattle.cx_meaning.proofs.CycleLemmas.{goes_to}
 use Rattle.cx_rules.specs.Sizes.{instances_below}
 use Rattle.cx_limits.proofs.Places.{none_is_some}
 use Rattle.cx_state.specs.Tables.{IsNumber}
@@ -130,17 +131,13 @@ append_none : (path : Path) → path ++ [] ≡ path
 append_none [] = refl
 append_none (x ∷ path) = ap (λ p. x ∷ p) (append_none path)
 
-went : (fault : Option Fault) (u after : State) → unless_fault fault u ≡ Goes after → u ≡ after
-went (Some f) u after e = cc
-went None u after e = let g : Goes u ≡ Goes after = e in cc
-
 pub cycle_changed : (d : PlainDesign) (rows : List PlainInstance) (s after : State) (n : ℕ) (path : Path) (new : PlainInstance) (held : Held) (act : Active) (listed : Set) → n < length rows → StandsFor (tree_of d) rows s → IsNumber d n path
     → cycle_of (instance_at (tree_of d) path) held act listed (under_path path s) ≡ Goes after
     → ((c : ℕ) (kept : CellState) → get_or new.cells c None ≡ Some kept → after (c ∷ []) ≡ kept)
     → StandsFor (tree_of d) (set rows n new) (put_path path after s)
 cycle_changed d rows s after n path new held act listed lt stands at goes own =
-    let u : State = state_after listed (seen (instance_at (tree_of d) path) held act (under_path path s)) (cells_of (instance_at (tree_of d) path)) (under_path path s) in
-    let same : u ≡ after = went (first_fault listed (seen (instance_at (tree_of d) path) held act (under_path path s)) (under_path path s) (cells_of (instance_at (tree_of d) path)) 0) u after goes in
+    let u : State = state_after (outcome_of listed (seen (instance_at (tree_of d) path) held act (under_path path s)) (cells_of (instance_at (tree_of d) path)) (under_path path s)) (under_path path s) in
+    let same : u ≡ after = (goes_to _ u after goes).1 in
     changed d rows s after n path new lt stands at own
     (ap (λ (v : State). v []) (sym same) ∙ ap s (append_none path))
     (λ c e below. ap (λ (v : State). v (c ∷ e ∷ below)) (sym same))

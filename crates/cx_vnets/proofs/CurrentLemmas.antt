@@ -1,5 +1,5 @@
 -- Marks after an edge, and after a sweep.
-use Rattle.std.proofs.Common.{◌≡◌, ℕ, ◌+◌, ⊎_elim, Bool, true, List, Option, Some, None, ◌++◌, take, map, length, slice_get, option_map, unwrap_or, refl, ap, sym, ◌∙◌, subst, arith}
+use Rattle.std.proofs.Common.{◌≡◌, ℕ, ◌+◌, ⊎_elim, true, List, Option, Some, None, ◌++◌, take, map, length, slice_get, option_map, unwrap_or, refl, ap, sym, ◌∙◌, subst, arith}
 use Rattle.std.proofs.Math.Seq.{take-append_seam}
 use Rattle.std.proofs.lemmas.Bool.{cases_lt}
 use Rattle.std.proofs.lemmas.Option.{same_Some, slice_get-map, slice_get_within}
@@ -71,7 +71,7 @@ unwritten s t write stores rows f words none a listed i =
         absurd (none h x w (slice_get_within stores h x at) at (slice_get-map write stores h ∙ ap (option_map write) at ∙ ap Some e) (subst (IsListed rows f) (sym is) listed))
 
 -- after a sweep all nets have their values
-pub swept_values : (m : Machine) (s : Stored) (b : Bench) (stale : List Bool) (values : List BitVector) → IsReady m s b → IsCurrent m s b → m.readers.ranked ≡ true
+pub swept_values : (m : Machine) (s : Stored) (b : Bench) (stale : List ℕ) (values : List BitVector) → IsReady m s b → IsCurrent m s b → m.readers.ranked ≡ true
     → Sweeping m.nets s m.readers.ranks.items stale values (length m.order.items) → AreValues m s values
 swept_values m s b stale values ready current is swept =
     let ranked : IsRanked m.nets m.order.items m.readers.ranks.items = current.readers.ranked is in
@@ -94,7 +94,7 @@ inputs_current m s t b c current values arrays tells =
     (λ f e. (sym e, λ a listed i. ap (λ xs. word_at xs a i) (sym arrays))))
 
 -- what an edge tells of registers and of arrays
-pub edge_tells : (ranks : List ℕ) (old mid new : List Bool) (s t : Stored) (write : Store → Option Write) (stores : List Store) (writes : List (Option Write)) (rows : Edges)
+pub edge_tells : (ranks : List ℕ) (old mid new : List ℕ) (s t : Stored) (write : Store → Option Write) (stores : List Store) (writes : List (Option Write)) (rows : Edges)
     → writes ≡ map write stores → map plain_words t.arrays.items ≡ after_writes stores (map write stores) (map plain_words s.arrays.items)
     → Tells ranks old mid (λ f. slice_get t.nets.items f ≡ slice_get s.nets.items f) → Tells ranks mid new (ReadsNoWritten rows stores writes (length stores)) → Tells ranks old new (Stays s t rows)
 edge_tells ranks old mid new s t write stores writes rows are words first then_ =

@@ -32,3 +32,4 @@ pub mod ReaderLemmas
 pub mod DriveLemmas
 pub mod WatchLemmas
 pub mod GateLemmas
+pub mod MarkLemmas

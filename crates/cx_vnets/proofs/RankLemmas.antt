@@ -1,6 +1,7 @@
 -- Where nets are ranked and all agree with what drives them, each has its value.
-use Rattle.std.proofs.Common.{◌≡◌, ℕ, zero, suc, ◌<◌, ◌≤◌, ◌⊎◌, inl, inr, Bool, List, Option, Some, None, length, slice_get, refl, sym, ◌∙◌, subst, arith}
+use Rattle.std.proofs.Common.{◌≡◌, ℕ, zero, suc, ◌<◌, ◌≤◌, ◌⊎◌, inl, inr, List, Option, Some, None, length, get_or, slice_get, refl, sym, ◌∙◌, subst, arith}
 use Rattle.std.proofs.lemmas.Bool.{cases_lt}
+use Rattle.std.proofs.lemmas.Option.{slice_get-get_or}
 use Rattle.std.proofs.lemmas.Option.{slice_get-get_or, slice_get_within, get_or_from_slice_get}
 use Rattle.cx_bits.specs.BitVector.{BitVector}
 use Rattle.cx_vnets.specs.declared.nets.Nets.{Nets}
@@ -47,6 +48,11 @@ module _ (n : Nets) (s : Stored) (order ranks : List ℕ) (ranked : IsRanked n o
   all_ranked_have f lt = has (suc (rank_at ranks f)) f lt (omega arith)
 
 -- each net's rank has a mark
-pub has_place : (n : Nets) (order ranks : List ℕ) (stale : List Bool) → IsRanked n order ranks → length stale ≡ length n.drivers.items → (f : ℕ) → f < length n.drivers.items → HasPlace ranks stale f
+pub has_place : (n : Nets) (order ranks : List ℕ) (stale : List ℕ) → IsRanked n order ranks → length stale ≡ length n.drivers.items → (f : ℕ) → f < length n.drivers.items → HasPlace ranks stale f
 has_place n order ranks stale ranked long f lt =
     (subst (λ k. f < k) (sym ranked.ranks_long) lt, subst (λ k. rank_at ranks f < k) (ranked.long ∙ sym long) (slice_get_within order (rank_at ranks f) f (ranked.placed f lt)))
+
+-- the net of a rank has that rank
+pub net_at : (n : Nets) (order ranks : List ℕ) (stale : List ℕ) → IsRanked n order ranks → length stale ≡ length n.drivers.items → (k : ℕ) → k < length stale
+    → (get_or order k 0 < length n.drivers.items) × (rank_at ranks (get_or order k 0) ≡ k)
+net_at n order ranks stale ranked long k lt = ranked.back k (get_or order k 0) (slice_get-get_or order k 0 (subst (λ l. k < l) (long ∙ sym ranked.long) lt))

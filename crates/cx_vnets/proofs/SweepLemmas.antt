@@ -1,5 +1,5 @@
 -- Nets are computed again in the order of their ranks.
-use Rattle.std.proofs.Common.{◌≡◌, ◌≢◌, ℕ, ◌+◌, ◌*◌, ◌%◌, ◌<◌, ◌≤◌, ⊎_elim, Bool, true, false, List, Option, Some, None, IsSome, is_some, option_and_then, length, set, get_or, slice_get, option_map, refl, ap, sym, ◌∙◌, subst, arith}
+use Rattle.std.proofs.Common.{◌≡◌, ◌≢◌, ℕ, ◌+◌, ◌*◌, ◌%◌, ◌<◌, ◌≤◌, ⊎_elim, Bool, true, false, List, Option, Some, None, IsSome, is_some, nat_eq, option_and_then, length, set, get_or, slice_get, option_map, refl, ap, sym, ◌∙◌, subst, arith}
 use Rattle.std.proofs.lemmas.Bool.{cases_eq}
 use Rattle.std.proofs.lemmas.List.{length-set, length-map, get_or-set_same, get_or-set_other}
 use Rattle.std.proofs.lemmas.Nat.{mod_below}
@@ -58,7 +58,7 @@ module _ (n : Nets) (s : Stored) (fits : Fits n s) (values : List BitVector) (wi
           (ap (λ o. is_some (option_map (λ (b : BitVector). b.width) o)) (slice_get-get_or s.nets.items f no_bits (subst (λ k. f < k) fits.long lt)))
 
 module _ (n : Nets) (s : Stored) (fits : Fits n s) (order : List ℕ) (t : Readers) (stand : ReadersStand n order t) (is : t.ranked ≡ true) (net rank : ℕ)
-    (within : net < length n.drivers.items) (place : rank_at t.ranks.items net ≡ rank) (stale : List Bool) (values : List BitVector) (w : Sweeping n s t.ranks.items stale values rank) where
+    (within : net < length n.drivers.items) (place : rank_at t.ranks.items net ≡ rank) (stale : List ℕ) (values : List BitVector) (w : Sweeping n s t.ranks.items stale values rank) where
   abbrev ranks : List ℕ
   ranks = t.ranks.items
 
@@ -83,16 +83,19 @@ module _ (n : Nets) (s : Stored) (fits : Fits n s) (order : List ℕ) (t : Reade
   of_rank : (f : ℕ) → f < length n.drivers.items → rank_at ranks f ≡ rank → f ≡ net
   of_rank f lt e = same_Some f net (sym (ranked.placed f lt) ∙ ap (slice_get order) (e ∙ sym place) ∙ ranked.placed net within)
 
-  abbrev cleared : List Bool
-  cleared = set stale rank false
+  abbrev cleared : List ℕ
+  cleared = set stale rank 0
+
+  cleared_other : (j : ℕ) → j ≢ rank → is_stale cleared j ≡ is_stale stale j
+  cleared_other j ne = ap (λ b. nat_eq b 1) (get_or-set_other stale rank j 0 0 ne)
 
   cleared_long : length cleared ≡ length n.drivers.items
-  cleared_long = length-set stale rank false ∙ w.long
+  cleared_long = length-set stale rank 0 ∙ w.long
 
   cleared_behind : (j : ℕ) → j < rank + 1 → is_stale cleared j ≡ false
   cleared_behind j lt = ⊎_elim
-      (λ e. ap (is_stale cleared) e ∙ get_or-set_same stale rank false false rank_below)
-      (λ ne. get_or-set_other stale rank j false false ne ∙ w.behind j (omega (arith, lt, ne))) (cases_eq j rank)
+      (λ e. ap (is_stale cleared) e ∙ ap (λ b. nat_eq b 1) (get_or-set_same stale rank 0 0 rank_below))
+      (λ ne. cleared_other j ne ∙ w.behind j (omega (arith, lt, ne))) (cases_eq j rank)
 
   pub refreshed_same : (v : BitVector) → rule n s (slice_get values) net ≡ Some v → get_or values net v ≡ v → Sweeping n s ranks cleared values (rank + 1)
   refreshed_same v e same = record {
@@ -100,11 +103,11 @@ module _ (n : Nets) (s : Stored) (fits : Fits n s) (order : List ℕ) (t : Reade
     widths = w.widths;
     agree = λ f lt free. ⊎_elim
         (λ at. let one = of_rank f lt at in subst (Agrees n s values) (sym one) (e ∙ ap Some (sym same) ∙ sym (slice_get-get_or values net v net_values)))
-        (λ ne. w.agree f lt (sym (get_or-set_other stale rank (rank_at ranks f) false false ne) ∙ free)) (cases_eq (rank_at ranks f) rank);
+        (λ ne. w.agree f lt (sym (cleared_other (rank_at ranks f) ne) ∙ free)) (cases_eq (rank_at ranks f) rank);
     behind = cleared_behind;
   }
 
-  module _ (v : BitVector) (given : rule n s (slice_get values) net ≡ Some v) (old : BitVector) (had : slice_get values net ≡ Some old) (marks : List Bool)
+  module _ (v : BitVector) (given : rule n s (slice_get values) net ≡ Some v) (old : BitVector) (had : slice_get values net ≡ Some old) (marks : List ℕ)
       (tells : Tells ranks cleared marks (λ f. rank + 1 ≤ rank_at ranks f → HearsNot t (set values net v) (length n.drivers.items) net old v f)) (below : SameBelow (rank + 1) cleared marks) where
     abbrev after : List BitVector
     after = set values net v
@@ -174,9 +177,9 @@ module _ (n : Nets) (s : Stored) (fits : Fits n s) (order : List ℕ) (t : Reade
     agree_there : (f : ℕ) → f < length n.drivers.items → rank_at ranks f ≢ rank → is_stale marks (rank_at ranks f) ≡ false → Agrees n s after f
     agree_there f lt ne free =
         let was = tells.kept (rank_at ranks f) free in
-        let was_right = w.agree f lt (sym (get_or-set_other stale rank (rank_at ranks f) false false ne) ∙ was) in
+        let was_right = w.agree f lt (sym (cleared_other (rank_at ranks f) ne) ∙ was) in
         let place' = placed f lt in
-        let hears_not = tells.stays f (place'.0, subst (λ k. rank_at ranks f < k) (sym (length-set stale rank false)) place'.1) free in
+        let hears_not = tells.stays f (place'.0, subst (λ k. rank_at ranks f < k) (sym (length-set stale rank 0)) place'.1) free in
         let other : f ≢ net = λ e. ne (ap (rank_at ranks) e ∙ place) in
         let same_rule : rule n s (slice_get after) f ≡ rule n s (slice_get values) f = ⊎_elim
         (λ shut.

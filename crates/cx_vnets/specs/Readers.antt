@@ -97,7 +97,7 @@ abbrev pub Agrees : Nets → Stored → List BitVector → ℕ → Type 0
 Agrees n s values f = rule n s (slice_get values) f ≡ slice_get values f
 
 -- each net without a mark agrees
-abbrev pub UnmarkedAgree : Nets → Stored → List ℕ → List Bool → List BitVector → Type 0
+abbrev pub UnmarkedAgree : Nets → Stored → List ℕ → List ℕ → List BitVector → Type 0
 UnmarkedAgree n s ranks stale values = (f : ℕ) → f < length n.drivers.items → is_stale stale (rank_at ranks f) ≡ false → Agrees n s values f
 
 abbrev pub SameWords : Stored → Stored → ℕ → Type 0
@@ -108,7 +108,7 @@ abbrev pub Stays : Stored → Stored → Edges → ℕ → Type 0
 Stays s t of_arrays f = (slice_get s.nets.items f ≡ slice_get t.nets.items f) × ((a : ℕ) → IsListed of_arrays f a → SameWords s t a)
 
 -- nets of the ranks below `k` have been looked at
-pub record Sweeping (n : Nets) (s : Stored) (ranks : List ℕ) (stale : List Bool) (values : List BitVector) (k : ℕ) : Type 0 where
+pub record Sweeping (n : Nets) (s : Stored) (ranks : List ℕ) (stale : List ℕ) (values : List BitVector) (k : ℕ) : Type 0 where
   pub long : length stale ≡ length n.drivers.items
   pub widths : SameWidths values s.nets.items
   pub agree : UnmarkedAgree n s ranks stale values

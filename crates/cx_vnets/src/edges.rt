@@ -29,7 +29,7 @@ pub fn set_registers(
     arrays: &[Words],
     registers: &mut [Bits],
     ranks: &[u32],
-    stale: &mut [bool],
+    stale: &mut [u8],
 )
     requires even { IsEven arrays.now }
     requires fits { SetsFit codes.now values.now arrays.now sets.now }

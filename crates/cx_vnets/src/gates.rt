@@ -122,7 +122,7 @@ fn mark_open(
     changed: usize,
     ranks: &[u32],
     from: usize,
-    stale: &mut [bool],
+    stale: &mut [u8],
     net: usize,
 )
     ensures tells { Tells ranks.now stale.old stale.new (λ f. from ≤ rank_at ranks.now f → f ≡ net → IsShut gates.now values.now changed f) }
@@ -141,7 +141,7 @@ pub(crate) fn mark_open_row(
     changed: usize,
     ranks: &[u32],
     from: usize,
-    stale: &mut [bool],
+    stale: &mut [u8],
     row: &[u32],
 )
     ensures tells { Tells ranks.now stale.old stale.new (λ f. from ≤ rank_at ranks.now f → In row.now f → IsShut gates.now values.now changed f) }

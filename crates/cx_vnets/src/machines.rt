@@ -28,7 +28,8 @@ pub struct Machine {
 pub struct Bench {
     pub marks: Vec<NetMark>,
     pub values: Vec<Bits>,
-    pub stale: Vec<bool>,
+    /// 1 for a marked rank, else 0: bytes, so that the next mark is found by a search of bytes.
+    pub stale: Vec<u8>,
     pub stack: Vec<usize>,
     pub writes: Vec<Option<Write>>,
 }

@@ -39,7 +39,7 @@ fn bit_of(one: bool) -> Bits
 fn put_bits(
     registers: &mut [Bits],
     ranks: &[u32],
-    stale: &mut [bool],
+    stale: &mut [u8],
     reset_net: usize,
     go_net: usize,
     reset: bool,

@@ -2,25 +2,26 @@
 
 ghost use Rattle.std.specs.Prelude.{◌≡◌, ◌≢◌, ◌<◌, ◌≤◌, false, length, slice_get, slice_set};
 ghost use Rattle.cx_graphs.specs.Graphs.{In};
-ghost use Rattle.cx_vnets.specs.Stale.{AllStale, SameBelow, Tells, rank_at};
+ghost use Rattle.cx_vnets.specs.Stale.{AllStale, IsNextStale, SameBelow, Tells, rank_at};
 
 use cx_bits::Bits;
+use memchr::memchr;
 
 /// Marks a net, where its rank is not below `from`.
-pub(crate) fn mark(ranks: &[u32], from: usize, stale: &mut [bool], net: usize)
+pub(crate) fn mark(ranks: &[u32], from: usize, stale: &mut [u8], net: usize)
     ensures tells { Tells ranks.now stale.old stale.new (λ f. from ≤ rank_at ranks.now f → f ≢ net) }
     ensures below { SameBelow from stale.old stale.new }
 {
     if let Some(rank) = ranks.get(net) {
         let rank = *rank as usize;
         if rank >= from && rank < stale.len() {
-            stale[rank] = true;
+            stale[rank] = 1;
         }
     }
 }
 
 /// Marks the nets of a row whose ranks are not below `from`.
-pub(crate) fn mark_row(ranks: &[u32], from: usize, stale: &mut [bool], row: &[u32])
+pub(crate) fn mark_row(ranks: &[u32], from: usize, stale: &mut [u8], row: &[u32])
     ensures tells { Tells ranks.now stale.old stale.new (λ f. from ≤ rank_at ranks.now f → In row.now f → ⊥) }
     ensures below { SameBelow from stale.old stale.new }
 {
@@ -30,23 +31,28 @@ pub(crate) fn mark_row(ranks: &[u32], from: usize, stale: &mut [bool], row: &[u3
 }
 
 /// Marks all nets.
-pub(crate) fn mark_all(stale: &mut [bool])
+pub(crate) fn mark_all(stale: &mut [u8])
     ensures long { length stale.new ≡ length stale.old }
     ensures all { AllStale stale.new }
 {
     for mark in stale.iter_mut() {
-        *mark = true;
+        *mark = 1;
+    }
+}
+
+/// The first marked rank from one on.
+pub(crate) fn next_marked(stale: &[u8], from: usize) -> Option<usize>
+    requires { from ≤ length stale.now }
+    ensures { IsNextStale stale.now from result }
+{
+    match memchr(1, &stale[from..]) {
+        Some(steps) => Some(from + steps),
+        None => None,
     }
 }
 
 /// Gives a net a stored value, and marks it where it had another.
-pub(crate) fn put(
-    registers: &mut [Bits],
-    ranks: &[u32],
-    stale: &mut [bool],
-    net: usize,
-    value: Bits,
-)
+pub(crate) fn put(registers: &mut [Bits], ranks: &[u32], stale: &mut [u8], net: usize, value: Bits)
     requires within { net < length registers.old }
     ensures value { registers.new ≡ slice_set registers.old net value }
     ensures tells { Tells ranks.now stale.old stale.new (λ f. slice_get registers.new f ≡ slice_get registers.old f) }

@@ -111,7 +111,7 @@ pub(crate) fn mark_written(
     writes: &[Option<Write>],
     of_arrays: &[Vec<u32>],
     ranks: &[u32],
-    stale: &mut [bool],
+    stale: &mut [u8],
 )
     requires long { length writes.now ≡ length stores.now }
     ensures { Tells ranks.now stale.old stale.new (ReadsNoWritten (edges_of of_arrays.now) stores.now writes.now (length stores.now)) }
@@ -127,7 +127,7 @@ fn mark_store(
     store: Store,
     write: Option<Write>,
     ranks: &[u32],
-    stale: &mut [bool],
+    stale: &mut [u8],
 )
     ensures { Tells ranks.now stale.old stale.new (λ f. (w : Write) → write ≡ Some w → IsListed (edges_of of_arrays.now) f store.array → ⊥) }
 {
@@ -137,7 +137,7 @@ fn mark_store(
 }
 
 /// Marks the nets that read an array.
-fn mark_readers(of_arrays: &[Vec<u32>], array: usize, ranks: &[u32], stale: &mut [bool])
+fn mark_readers(of_arrays: &[Vec<u32>], array: usize, ranks: &[u32], stale: &mut [u8])
     ensures { Tells ranks.now stale.old stale.new (λ f. IsListed (edges_of of_arrays.now) f array → ⊥) }
 {
     match of_arrays.get(array) {

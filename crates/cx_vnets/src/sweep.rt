@@ -12,7 +12,7 @@ ghost use Rattle.cx_vnets.specs.Values.{rule};
 use crate::gates::mark_open_row;
 use crate::nets::{Driver, Nets, Stored};
 use crate::readers::Readers;
-use crate::stale::{is_other, mark_row};
+use crate::stale::{is_other, mark_row, next_marked};
 use crate::values::settled;
 use crate::watches::{is_next, row_of};
 use cx_bits::Bits;
@@ -37,7 +37,7 @@ fn drive(nets: &Nets, stored: &Stored, values: &[Bits], net: usize) -> Bits
 }
 
 /// Marks the nets of ranks from `from` on that read a net, but those whose gate is another net, which is 0.
-fn mark_reading(readers: &Readers, values: &[Bits], net: usize, from: usize, stale: &mut [bool])
+fn mark_reading(readers: &Readers, values: &[Bits], net: usize, from: usize, stale: &mut [u8])
     requires within { net < length readers.now.of_nets.items }
     ensures tells { Tells readers.now.ranks.items stale.old stale.new (λ f. from ≤ rank_at readers.now.ranks.items f → In (targets_of (edges_of readers.now.of_nets.items) net) f → IsShut readers.now.gates.items values.now net f) }
     ensures below { SameBelow from stale.old stale.new }
@@ -54,7 +54,7 @@ fn mark_reading(readers: &Readers, values: &[Bits], net: usize, from: usize, sta
 }
 
 /// Marks the nets of ranks from `from` on that stand in a row of comparisons.
-fn mark_comparing(readers: &Readers, row: usize, from: usize, stale: &mut [bool])
+fn mark_comparing(readers: &Readers, row: usize, from: usize, stale: &mut [u8])
     requires within { row < length readers.now.watches.rows.items }
     ensures tells { Tells readers.now.ranks.items stale.old stale.new (λ f. from ≤ rank_at readers.now.ranks.items f → In (targets_of (edges_of readers.now.watches.rows.items) row) f → ⊥) }
     ensures below { SameBelow from stale.old stale.new }
@@ -64,7 +64,7 @@ fn mark_comparing(readers: &Readers, row: usize, from: usize, stale: &mut [bool]
 
 /// Marks the nets of ranks from `from` on that tell on which side of a value a net is, where one lies between what it was and
 /// what it is.
-fn mark_sided(readers: &Readers, net: usize, from: usize, stale: &mut [bool], old: Bits, new: Bits)
+fn mark_sided(readers: &Readers, net: usize, from: usize, stale: &mut [u8], old: Bits, new: Bits)
     requires within { net < length readers.now.watches.rows.items }
     ensures tells { Tells readers.now.ranks.items stale.old stale.new (λ f. from ≤ rank_at readers.now.ranks.items f → In (targets_of (edges_of readers.now.watches.rows.items) net) f → new.value ≡ old.value + 1) }
     ensures below { SameBelow from stale.old stale.new }
@@ -80,7 +80,7 @@ fn mark_rows(
     readers: &Readers,
     count: usize,
     from: usize,
-    stale: &mut [bool],
+    stale: &mut [u8],
     net: usize,
     old: Bits,
     new: Bits,
@@ -110,7 +110,7 @@ fn mark_watching(
     readers: &Readers,
     count: usize,
     from: usize,
-    stale: &mut [bool],
+    stale: &mut [u8],
     net: usize,
     old: Bits,
     new: Bits,
@@ -132,7 +132,7 @@ fn mark_hearers(
     values: &[Bits],
     count: usize,
     from: usize,
-    stale: &mut [bool],
+    stale: &mut [u8],
     net: usize,
     old: Bits,
     new: Bits,
@@ -153,7 +153,7 @@ fn refresh(
     nets: &Nets,
     stored: &Stored,
     readers: &Readers,
-    stale: &mut [bool],
+    stale: &mut [u8],
     values: &mut [Bits],
     net: usize,
     rank: usize,
@@ -167,7 +167,7 @@ fn refresh(
     ensures { Sweeping nets.now stored.now readers.now.ranks.items stale.new values.new (rank + 1) }
 {
     let value = drive(nets, stored, values, net);
-    stale[rank] = false;
+    stale[rank] = 0;
     let old = values[net];
     if is_other(old, value) {
         values[net] = value;
@@ -190,7 +190,7 @@ pub(crate) fn sweep(
     stored: &Stored,
     order: &[u32],
     readers: &Readers,
-    stale: &mut [bool],
+    stale: &mut [u8],
     values: &mut [Bits],
 )
     requires ranked { readers.now.ranked ≡ true }
@@ -199,9 +199,10 @@ pub(crate) fn sweep(
     requires sweeping { Sweeping nets.now stored.now readers.now.ranks.items stale.old values.old 0 }
     ensures { Sweeping nets.now stored.now readers.now.ranks.items stale.new values.new (length order.now) }
 {
-    for (rank, net) in order.iter().enumerate() {
-        if stale[rank] {
-            refresh(nets, stored, readers, stale, values, *net as usize, rank);
-        }
+    let mut rank = 0;
+    while let Some(marked) = next_marked(stale, rank) {
+        let net = order[marked] as usize;
+        refresh(nets, stored, readers, stale, values, net, marked);
+        rank = marked + 1;
     }
 }

@@ -7,7 +7,7 @@ use Rattle.cx_vsound.specs.Search.{last_line}
 use Rattle.cx_vread.specs.declared.refusals.ReadRefusal.{ReadRefusal}
 use Rattle.cx_vread.specs.declared.refusals.ReadRefusal.TheVariants as refusals
 use Rattle.cx_vread.specs.Astray.{first_lines, feeds_in, IsText, LinesBeginBy, LinesBegin, IsFirstAstray}
-use Rattle.cx_vread.specs.ReadAnswers.{IsBreakOf, IsBeyond, Tells, AstrayAt}
+use Rattle.cx_vread.specs.ReadAnswers.{IsBreakOf, Tells, AstrayAt}
 
 -- fewer lines stand before more
 fewer_lines : (n m : ℕ) (x : List ℕ) → n ≤ m → (y : List ℕ) × (first_lines m x ≡ first_lines n x ++ y)
@@ -53,7 +53,7 @@ text_begins n x h = go (nat_le n (feeds_in x))
     go true = let f = lines_before n x in record { behind = f.0; whole = subst IsText f.1 h }
     go false = h
 
-none_astray : (x : List ℕ) (line : ℕ) → IsText x → IsFirstAstray x line → ⊥
+pub none_astray : (x : List ℕ) (line : ℕ) → IsText x → IsFirstAstray x line → ⊥
 none_astray x line h a = a.astray (text_begins (a.before + 1) x h)
 
 -- the first line astray is one
@@ -65,9 +65,8 @@ one_astray x one other a b = ⊎_elim
     (cases_lt b.before a.before))
     (cases_lt a.before b.before)
 
-break_none : (x : List ℕ) (r : ReadRefusal) (line : ℕ) → IsFirstAstray x line → IsBreakOf x r ⊎ IsBeyond x → ⊥
-break_none x r line a (inl h) = none_astray x line (record { source = h.source; spelled = h.spelled; laid = h.laid }) a
-break_none x r line a (inr h) = none_astray x line (record { source = h.source; spelled = h.spelled; laid = h.laid }) a
+break_none : (x : List ℕ) (r : ReadRefusal) (line : ℕ) → IsFirstAstray x line → IsBreakOf x r → ⊥
+break_none x r line a h = none_astray x line (record { source = h.source; spelled = h.spelled; laid = h.laid }) a
 
 -- so it is told, unless memory is wanting
 pub astray_at : (text : List ℕ) (result : Result Source ReadRefusal) → IfOk result (λ source. IsText text) → IfErr result (Tells text) → (line : ℕ) → IsFirstAstray text line → AstrayAt line result

@@ -2,19 +2,19 @@
 use Rattle.std.proofs.Common.{◌≡◌, ℕ, ◌<◌, ◌≤◌, ◌^◌, inl, Bool, true, false, ◌&&◌, List, [], ◌∷◌, ◌++◌, map, length, Some, None, refl, ◌∙◌, ap, sym, arith, append_assoc, ⊎_elim, if◌then◌else◌}
 use Rattle.std.specs.Prelude.{codes, nat_lt, nat_le}
 use Rattle.std.specs.List.{list_all}
+use Rattle.std.proofs.lemmas.List.{map-id}
 use Rattle.std.proofs.lemmas.Bool.{and_parts, ltb-true, leb-true, le-ltb, cases_lt}
 use Rattle.cx_vtree.specs.Layout.{is_name, is_word, is_name_byte, begins_word, external_fits}
 use Rattle.cx_vtree.specs.Lines.{decimal_text, sizes_text, ExternalLine, line_text, lines_text}
 use Rattle.cx_vtree.specs.Plain.{PlainExternal}
 use Rattle.cx_vread_exprs.specs.Places as places
 use Rattle.cx_vread_exprs.specs.Places.{Place, Reads, then_reads, then_at, begins, many}
-use Rattle.cx_vread_exprs.specs.Tokens.{back, is_digit_in, kept_small, kept_size, word_at, name_at, capped, size_of, size_at}
+use Rattle.cx_vread_exprs.specs.Tokens.{back, is_digit_in, kept_small, word_at, name_at}
 use Rattle.cx_vread.specs.Parts.{more_size_at, sizes_at, external_by, external_at, externals_at}
 use Rattle.cx_vread_exprs.proofs.ExprAgain.{name_again, small_again}
-use Rattle.cx_vread_exprs.proofs.Numerals.{capped_some, capped_none}
 use Rattle.cx_vread.proofs.Kept.{kept_external}
 use Rattle.cx_vread.proofs.ManyAgain.{joined_text, Again, many_again, all_again, lines_joined, Anything}
-use Rattle.cx_vread_exprs.proofs.NumberAgain.{clean, number_again}
+use Rattle.cx_vread_exprs.proofs.NumberAgain.{clean, any_number_again}
 use Rattle.cx_vread_exprs.proofs.Spans.{Stops, front_again, back_again}
 
 word_again : (n rest : List ℕ) → is_word n ≡ true → Stops is_name_byte rest → word_at (clean (n ++ rest)) ≡ Some (n, clean rest)
@@ -24,17 +24,6 @@ word_again n rest h ends =
     ap (λ w. if is_word w then Some (w, clean (back is_name_byte (n ++ rest))) else None) (front_again is_name_byte n rest all ends)
     ∙ ap (λ r. if is_word n then Some (n, clean r) else None) (back_again is_name_byte n rest all ends)
     ∙ ap (λ b. if b then Some (n, clean rest) else None) h
-
-pub size_of_capped : (k : ℕ) → size_of (capped k) ≡ kept_size k
-size_of_capped k = ⊎_elim
-    (λ lt. ap size_of (capped_some k lt))
-    (λ le. ap size_of (capped_none k le) ∙ sym (ap (λ b. if b then k else 0) (le-ltb k 18446744073709551616 (omega arith))))
-    (cases_lt k (2 ^ 128))
-
-size_again : (k : ℕ) (x : List ℕ) → Stops (is_digit_in 10) x → size_at (clean (decimal_text k ++ x)) ≡ Some (kept_size k, clean x)
-size_again k x ends =
-    ap (λ r. then_reads r (λ n q. Some (size_of n, q))) (number_again 10 k x (inl refl) ends)
-    ∙ ap (λ n. Some (n, clean x)) (size_of_capped k)
 
 abbrev pub next_text : ℕ → List ℕ
 next_text k = codes " " ++ decimal_text k
@@ -46,10 +35,10 @@ any_sizes : (ks : List ℕ) → list_all any_size ks ≡ true
 any_sizes [] = refl
 any_sizes (k ∷ ks) = any_sizes ks
 
-sizes_so : Again (begins (codes " ")) more_size_at kept_size next_text any_size (Stops (is_digit_in 10))
+sizes_so : Again (begins (codes " ")) more_size_at (λ k. k) next_text any_size (Stops (is_digit_in 10))
 sizes_so = record {
   starts_so = λ k y h. refl;
-  reads_so = λ k y h ends. size_again k y ends;
+  reads_so = λ k y h ends. any_number_again k y ends;
   follows_so = λ k y h. refl;
   some_text = λ k h. omega arith;
 }
@@ -63,19 +52,20 @@ stops_after [] y = refl
 stops_after (k ∷ ks) y = refl
 
 sizes_again : (k : ℕ) (ks : List ℕ) (y : List ℕ) → length (k ∷ ks) ≤ 4
-    → sizes_at (clean (decimal_text k ++ (sizes_text ks ++ (codes "\n" ++ y)))) ≡ Some (map kept_size (k ∷ ks), clean (codes "\n" ++ y))
+    → sizes_at (clean (decimal_text k ++ (sizes_text ks ++ (codes "\n" ++ y)))) ≡ Some (k ∷ ks, clean (codes "\n" ++ y))
 sizes_again k ks y few =
     let z : List ℕ = codes "\n" ++ y in
     let three : length ks ≤ 3 = omega arith in
     ap (λ t. sizes_at (clean (decimal_text k ++ (t ++ z)))) (sizes_joined ks)
-    ∙ ap (λ r. then_reads r (λ k q. then_reads (many (begins (codes " ")) more_size_at 3 q) (λ ks r. Some (k ∷ ks, r)))) (size_again k (joined_text next_text ks ++ z) (stops_after ks y))
-    ∙ ap (λ r. then_reads r (λ ks r. Some (kept_size k ∷ ks, r))) (many_again sizes_so ks 3 z (any_sizes ks) refl refl three)
+    ∙ ap (λ r. then_reads r (λ k q. then_reads (many (begins (codes " ")) more_size_at 3 q) (λ ks r. Some (k ∷ ks, r)))) (any_number_again k (joined_text next_text ks ++ z) (stops_after ks y))
+    ∙ ap (λ r. then_reads r (λ ks r. Some (k ∷ ks, r))) (many_again sizes_so ks 3 z (any_sizes ks) refl refl three)
+    ∙ ap (λ ks. Some (k ∷ ks, clean z)) (map-id ks)
 
 abbrev external_text_of : PlainExternal → List ℕ
 external_text_of e = line_text (ExternalLine e) ++ codes "\n"
 
 external_of : (n i : List ℕ) (w : ℕ) (ks : List ℕ) (y : List ℕ) → is_word n ≡ true → is_name i ≡ true → 0 < length ks → length ks ≤ 4
-    → external_at (clean ((line_text (ExternalLine (record { name = n; instance = i; width = w; sizes = ks })) ++ codes "\n") ++ y)) ≡ Some (record { name = n; instance = i; width = kept_small w; sizes = map kept_size ks }, clean y)
+    → external_at (clean ((line_text (ExternalLine (record { name = n; instance = i; width = w; sizes = ks })) ++ codes "\n") ++ y)) ≡ Some (record { name = n; instance = i; width = kept_small w; sizes = ks }, clean y)
 external_of n i w [] y f g some few = absurd (omega arith)
 external_of n i w (k ∷ ks) y f g some few =
     let x3 : List ℕ = decimal_text k ++ (sizes_text ks ++ (codes "\n" ++ y)) in

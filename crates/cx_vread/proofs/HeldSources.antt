@@ -12,8 +12,7 @@ use Rattle.cx_vtree.specs.Layout.{is_name, port_fits, decl_fits, assign_fits, in
 use Rattle.cx_vtree.specs.Plain.{PlainDecl, WireOf, RegisterOf, ArrayOf, PlainEdge, PlainModule, PlainExternal, PlainSource}
 use Rattle.cx_vtree.specs.Sound.{Break, Faults, no_faults, Scope, Counts, width_of, meant_in, decl_name, drivers_in, module_named, module_counts, module_faults, ports_faults, decls_faults, assigns_faults, instances_faults, edge_faults, sets_faults, items_faults, lines_faults, modules_faults, last_named, instance_kind, memory_module, arrays_in, not_this_memory, memory_arrays, not_this_width, has_name, external_faults, externals_faults, faults_of, break_of, is_sound}
 use Rattle.cx_vread.specs.Held.{holds_port, holds_decl, holds_assign, holds_item, holds_edge, holds_module, holds_external, is_held}
-use Rattle.cx_vread.specs.Within.{is_countable, module_within}
-use Rattle.cx_vread.proofs.KeptSame.{all_so, module_is_within}
+use Rattle.cx_vread.proofs.KeptSame.{ModuleHeld, module_held as parts_held}
 use Rattle.cx_vread.proofs.SoundHeld.{is_clean, no_break, ports_held, decls_held, meant_small, assigns_held, sets_held, items_held, parts_of, not_not}
 
 pub split : (xs ys : List Faults) → list_all is_clean (xs ++ ys) ≡ true → (list_all is_clean xs ≡ true) × (list_all is_clean ys ≡ true)
@@ -58,33 +57,33 @@ modules_held before counts (m ∷ ms) h =
     ap (λ b. b && list_all holds_module ms) (module_held (length ms == 0) before own m both.0) ∙ modules_held (before ++ m ∷ []) (counts ++ own ∷ []) ms both.1
 
 -- The arrays of a module have from 1 to 2^64 - 1 words.
-abbrev pub is_length : (ℕ × ℕ) → Bool
+abbrev is_length : (ℕ × ℕ) → Bool
 is_length a = nat_lt 0 a.1 && nat_lt a.1 18446744073709551616
 
-abbrev pub has_lengths : PlainModule → Bool
+abbrev has_lengths : PlainModule → Bool
 has_lengths m = list_all is_length (arrays_in m.decls)
 
-lengths_of : (ds : List PlainDecl) → list_all decl_fits ds ≡ true → list_all is_countable ds ≡ true → list_all is_length (arrays_in ds) ≡ true
+lengths_of : (ds : List PlainDecl) → list_all decl_fits ds ≡ true → list_all holds_decl ds ≡ true → list_all is_length (arrays_in ds) ≡ true
 lengths_of [] f h = refl
-lengths_of (WireOf n w ∷ ds) f h = lengths_of ds (and_parts (decl_fits (WireOf n w)) (list_all decl_fits ds) f).1 h
-lengths_of (RegisterOf n w ∷ ds) f h = lengths_of ds (and_parts (decl_fits (RegisterOf n w)) (list_all decl_fits ds) f).1 h
+lengths_of (WireOf n w ∷ ds) f h = lengths_of ds (and_parts (decl_fits (WireOf n w)) (list_all decl_fits ds) f).1 (and_parts (holds_decl (WireOf n w)) (list_all holds_decl ds) h).1
+lengths_of (RegisterOf n w ∷ ds) f h = lengths_of ds (and_parts (decl_fits (RegisterOf n w)) (list_all decl_fits ds) f).1 (and_parts (holds_decl (RegisterOf n w)) (list_all holds_decl ds) h).1
 lengths_of (ArrayOf n w k ∷ ds) f h =
     let fit = and_parts (decl_fits (ArrayOf n w k)) (list_all decl_fits ds) f in
-    let held = and_parts (is_countable (ArrayOf n w k)) (list_all is_countable ds) h in
+    let held = and_parts (holds_decl (ArrayOf n w k)) (list_all holds_decl ds) h in
     and_from (is_length (w, k)) (list_all is_length (arrays_in ds))
-    (and_from (nat_lt 0 k) (nat_lt k 18446744073709551616) (and_parts (is_name n && nat_lt 0 w) (nat_lt 0 k) fit.0).1 held.0)
+    (and_from (nat_lt 0 k) (nat_lt k 18446744073709551616) (and_parts (is_name n && nat_lt 0 w) (nat_lt 0 k) fit.0).1 (and_parts (nat_lt w 256) (nat_lt k 18446744073709551616) held.0).1)
     (lengths_of ds fit.1 held.1)
 
-pub module_lengths : (ms : List PlainModule) → list_all module_fits ms ≡ true → list_all module_within ms ≡ true → list_all has_lengths ms ≡ true
+module_lengths : (ms : List PlainModule) → list_all module_fits ms ≡ true → list_all holds_module ms ≡ true → list_all has_lengths ms ≡ true
 module_lengths [] f h = refl
 module_lengths (m ∷ ms) f h =
     let fit = and_parts (module_fits m) (list_all module_fits ms) f in
-    let held = and_parts (module_within m) (list_all module_within ms) h in
+    let held = and_parts (holds_module m) (list_all holds_module ms) h in
     let f6 = and_parts (is_name m.name && nat_lt 0 (length m.ports) && list_all port_fits m.ports && list_all decl_fits m.decls && list_all assign_fits m.assigns && list_all instance_fits m.instances) (edge_fits m.edge) fit.0 in
     let f5 = and_parts (is_name m.name && nat_lt 0 (length m.ports) && list_all port_fits m.ports && list_all decl_fits m.decls && list_all assign_fits m.assigns) (list_all instance_fits m.instances) f6.0 in
     let f4 = and_parts (is_name m.name && nat_lt 0 (length m.ports) && list_all port_fits m.ports && list_all decl_fits m.decls) (list_all assign_fits m.assigns) f5.0 in
     let f3 = and_parts (is_name m.name && nat_lt 0 (length m.ports) && list_all port_fits m.ports) (list_all decl_fits m.decls) f4.0 in
-    ap (λ b. b && list_all has_lengths ms) (lengths_of m.decls f3.1 held.0) ∙ module_lengths ms fit.1 held.1
+    ap (λ b. b && list_all has_lengths ms) (lengths_of m.decls f3.1 (parts_held m held.0).decls) ∙ module_lengths ms fit.1 held.1
 
 -- what all modules have, the one that is found has
 one_of : (b : Bool) (m : PlainModule) (o : Option PlainModule) → has_lengths m ≡ true → option_map_or has_lengths o true ≡ true → option_map_or has_lengths (if b then Some m else o) true ≡ true
@@ -101,12 +100,12 @@ by_kind : (ms : List PlainModule) (kind : Option (List ℕ)) → list_all has_le
 by_kind ms None h = refl
 by_kind ms (Some k) h = named ms k h
 
-pub by_main : (ms : List PlainModule) (main : Option PlainModule) (name : List ℕ) → list_all has_lengths ms ≡ true
+by_main : (ms : List PlainModule) (main : Option PlainModule) (name : List ℕ) → list_all has_lengths ms ≡ true
     → option_map_or has_lengths (option_and_then (λ m. option_and_then (module_named ms) (instance_kind m.instances name)) main) true ≡ true
 by_main ms None name h = refl
 by_main ms (Some m) name h = by_kind ms (instance_kind m.instances name) h
 
-pub arrays_of : (o : Option PlainModule) → option_map_or has_lengths o true ≡ true → list_all is_length (option_map_or (λ m. arrays_in m.decls) o []) ≡ true
+arrays_of : (o : Option PlainModule) → option_map_or has_lengths o true ≡ true → list_all is_length (option_map_or (λ m. arrays_in m.decls) o []) ≡ true
 arrays_of None h = refl
 arrays_of (Some m) h = h
 
@@ -163,4 +162,10 @@ sound_held s h =
     let parts = split (externals_faults s.modules [] [] s.externals) (modules_faults [] [] s.modules) clean in
     let modules : list_all holds_module s.modules ≡ true = modules_held [] [] s.modules parts.1 in
     and_from (list_all holds_external s.externals) (list_all holds_module s.modules)
-    (externals_held s.modules [] [] s.externals (module_lengths s.modules fits.1 (all_so holds_module module_within module_is_within s.modules modules)) parts.0) modules
+    (externals_held s.modules [] [] s.externals (module_lengths s.modules fits.1 modules) parts.0) modules
+
+pub sound_externals : (s : PlainSource) → is_sound s ≡ true → list_all holds_external s.externals ≡ true
+sound_externals s h = (and_parts (list_all holds_external s.externals) (list_all holds_module s.modules) (sound_held s h)).0
+
+pub sound_modules : (s : PlainSource) → is_sound s ≡ true → list_all holds_module s.modules ≡ true
+sound_modules s h = (and_parts (list_all holds_external s.externals) (list_all holds_module s.modules) (sound_held s h)).1

@@ -3,7 +3,7 @@ use Rattle.std.proofs.Common.{map}
 use Rattle.std.specs.Prelude.{option_map}
 use Rattle.cx_vtree.specs.Plain.{PlainPort, PlainDecl, WireOf, RegisterOf, ArrayOf, PlainAssign, PlainStore, PlainItem, SetTo, StoreTo, PlainEdge, PlainModule, PlainExternal, PlainSource}
 use Rattle.cx_vtree.specs.Sound.{Scope, meant_in}
-use Rattle.cx_vread_exprs.specs.Tokens.{kept_small, kept_size}
+use Rattle.cx_vread_exprs.specs.Tokens.{kept_small}
 use Rattle.cx_vread_exprs.proofs.Kept.{kept_by}
 
 abbrev pub kept_port : PlainPort → PlainPort
@@ -42,7 +42,7 @@ kept_module m = record {
 }
 
 abbrev pub kept_external : PlainExternal → PlainExternal
-kept_external e = record { name = e.name; instance = e.instance; width = kept_small e.width; sizes = map kept_size e.sizes }
+kept_external e = record { name = e.name; instance = e.instance; width = kept_small e.width; sizes = e.sizes }
 
 abbrev pub kept_source : PlainSource → PlainSource
 kept_source s = record { externals = map kept_external s.externals; modules = map kept_module s.modules }

@@ -1,4 +1,4 @@
--- A source that a tree holds is looked at whole, and kept as it is.
+-- A source that a tree holds is kept as it is.
 use Rattle.std.proofs.Common.{◌≡◌, ℕ, not, Bool, true, ◌&&◌, List, [], ◌∷◌, map, Option, Some, None, refl, ◌∙◌, ap, if◌then◌else◌}
 use Rattle.std.specs.Prelude.{nat_lt, option_map}
 use Rattle.std.specs.List.{list_all}
@@ -8,11 +8,9 @@ use Rattle.cx_vtree.specs.Sound.{Scope, nests_over}
 use Rattle.cx_vread_exprs.specs.Deep.{stand_for}
 use Rattle.cx_vread_exprs.specs.Shapes.{shape_of}
 use Rattle.cx_vread_exprs.specs.Holds.{numbers_fit, holds_expr}
-use Rattle.cx_vread_exprs.specs.Tokens.{kept_size}
 use Rattle.cx_vread_exprs.proofs.ExprAgain.{small_kept, expr_kept}
 use Rattle.cx_vread_exprs.proofs.Kept.{kept_expr, kept_by}
 use Rattle.cx_vread.specs.Held.{holds_port, holds_decl, holds_assign, holds_item, holds_edge, holds_module, holds_external, is_held}
-use Rattle.cx_vread.specs.Within.{is_countable, module_within, is_within}
 use Rattle.cx_vread.proofs.Kept.{kept_port, kept_decl, kept_assign, kept_item, kept_edge, kept_scope, kept_module, kept_external, kept_source}
 
 -- lists whose items are kept
@@ -21,13 +19,6 @@ map_same kept good same [] h = refl
 map_same kept good same (x ∷ xs) h =
     let both = and_parts (good x) (list_all good xs) h in
     ap (λ y. y ∷ map kept xs) (same x both.0) ∙ ap (λ ys. x ∷ ys) (map_same kept good same xs both.1)
-
--- what has one property has the other
-pub all_so : {X : Type 0} (one other : X → Bool) → ((x : X) → one x ≡ true → other x ≡ true) → (xs : List X) → list_all one xs ≡ true → list_all other xs ≡ true
-all_so one other so [] h = refl
-all_so one other so (x ∷ xs) h =
-    let both = and_parts (one x) (list_all one xs) h in
-    and_from (other x) (list_all other xs) (so x both.0) (all_so one other so xs both.1)
 
 pub expr_same : (scope : Scope) (e : PlainExpr) → holds_expr e ≡ true → kept_by scope e ≡ e
 expr_same scope e h =
@@ -41,11 +32,6 @@ pub decl_same : (d : PlainDecl) → holds_decl d ≡ true → kept_decl d ≡ d
 decl_same (WireOf n w) h = ap (WireOf n) (small_kept w h)
 decl_same (RegisterOf n w) h = ap (RegisterOf n) (small_kept w h)
 decl_same (ArrayOf n w k) h = ap (λ v. ArrayOf n v k) (small_kept w (and_parts (nat_lt w 256) (nat_lt k 18446744073709551616) h).0)
-
-decl_countable : (d : PlainDecl) → holds_decl d ≡ true → is_countable d ≡ true
-decl_countable (WireOf n w) h = refl
-decl_countable (RegisterOf n w) h = refl
-decl_countable (ArrayOf n w k) h = (and_parts (nat_lt w 256) (nat_lt k 18446744073709551616) h).1
 
 assign_same : (scope : Scope) (a : PlainAssign) → holds_assign a ≡ true → kept_assign scope a ≡ a
 assign_same scope a h = ap (λ v. record { name = a.name; value = v }) (expr_same scope a.value h)
@@ -88,20 +74,10 @@ module_same m h =
     ∙ ap (λ xs. record { name = m.name; ports = m.ports; decls = m.decls; assigns = xs; instances = m.instances; edge = option_map (kept_edge scope) m.edge }) (map_same (kept_assign scope) holds_assign (assign_same scope) m.assigns held.assigns)
     ∙ ap (λ e. record { name = m.name; ports = m.ports; decls = m.decls; assigns = m.assigns; instances = m.instances; edge = e }) (edge_same scope m.edge held.edge)
 
-pub module_is_within : (m : PlainModule) → holds_module m ≡ true → module_within m ≡ true
-module_is_within m h = all_so holds_decl is_countable decl_countable m.decls (module_held m h).decls
-
-size_same : (k : ℕ) → nat_lt k 18446744073709551616 ≡ true → kept_size k ≡ k
-size_same k h = ap (λ b. if b then k else 0) h
-
 external_same : (e : PlainExternal) → holds_external e ≡ true → kept_external e ≡ e
 external_same e h =
     let both = and_parts (nat_lt e.width 256) (list_all (λ k. nat_lt k 18446744073709551616) e.sizes) h in
-    ap (λ w. record { name = e.name; instance = e.instance; width = w; sizes = map kept_size e.sizes }) (small_kept e.width both.0)
-    ∙ ap (λ ks. record { name = e.name; instance = e.instance; width = e.width; sizes = ks }) (map_same kept_size (λ k. nat_lt k 18446744073709551616) size_same e.sizes both.1)
-
-pub held_within : (s : PlainSource) → is_held s ≡ true → is_within s ≡ true
-held_within s h = all_so holds_module module_within module_is_within s.modules (and_parts (list_all holds_external s.externals) (list_all holds_module s.modules) h).1
+    ap (λ w. record { name = e.name; instance = e.instance; width = w; sizes = e.sizes }) (small_kept e.width both.0)
 
 pub held_kept : (s : PlainSource) → is_held s ≡ true → kept_source s ≡ s
 held_kept s h =

@@ -10,10 +10,8 @@ use Rattle.cx_vtree.specs.InstanceTree.{same_name}
 use Rattle.cx_vtree.specs.Layout.{module_fits, is_laid_out, external_fits}
 use Rattle.cx_vtree.specs.Plain.{PlainDecl, WireOf, RegisterOf, ArrayOf, PlainModule, PlainExternal, PlainSource}
 use Rattle.cx_vtree.specs.Sound.{has_name, module_named, last_named, instance_kind, memory_module, arrays_in, not_this_memory, not_this_width, memory_arrays, external_faults, externals_faults, modules_faults, faults_of, break_of}
-use Rattle.cx_vread_exprs.specs.Tokens.{kept_small, kept_size}
-use Rattle.cx_vread.specs.Within.{is_within}
+use Rattle.cx_vread_exprs.specs.Tokens.{kept_small}
 use Rattle.cx_vread.proofs.Alike.{Alike, alike_refl, alike_append, alike_break}
-use Rattle.cx_vread.proofs.HeldSources.{is_length, has_lengths, module_lengths, by_main, arrays_of}
 use Rattle.cx_vread.proofs.Kept.{kept_decl, kept_module, kept_external, kept_source}
 use Rattle.cx_vread.proofs.KeptModules.{module_named_kept, modules_alike}
 
@@ -60,58 +58,11 @@ arrays_of_kept (Some m) = arrays_kept m.decls
 memory_arrays_kept : (ms : List PlainModule) (e : PlainExternal) → memory_arrays (map kept_module ms) (kept_external e) ≡ map kept_array (memory_arrays ms e)
 memory_arrays_kept ms e = ap (λ o. option_map_or (λ m. arrays_in m.decls) o []) (memory_module_kept ms e) ∙ arrays_of_kept (memory_module ms e)
 
--- The number of words: with a size of 2^64 or more it is 0, or no array has as many.
-abbrev IsBeyond : ℕ → Type 0
-IsBeyond n = (n ≡ 0) ⊎ (18446744073709551616 ≤ n)
-
-abbrev CountKept : List ℕ → Type 0
-CountKept ns = (word_count (map kept_size ns) ≡ word_count ns) ⊎ ((word_count (map kept_size ns) ≡ 0) × IsBeyond (word_count ns))
-
-small_size : (n : ℕ) → n < 18446744073709551616 → kept_size n ≡ n
-small_size n lt = ap (λ b. if b then n else 0) (lt-ltb n 18446744073709551616 lt)
-
-large_size : (n : ℕ) → 18446744073709551616 ≤ n → kept_size n ≡ 0
-large_size n le = ap (λ b. if b then n else 0) (le-ltb n 18446744073709551616 le)
-
-beyond_left : (n m : ℕ) → 18446744073709551616 ≤ n → IsBeyond (n * m)
-beyond_left n zero le = let e : n * zero ≡ 0 = omega arith in inl e
-beyond_left n (suc m) le = let more : n ≤ n * suc m = le-mul_of_pos_right n (omega arith) in inr (omega arith)
-
-beyond_right : (n m : ℕ) → IsBeyond m → IsBeyond (n * m)
-beyond_right n m (inl none) = let e : n * m ≡ n * 0 = ap (λ k. n * k) none in let z : n * 0 ≡ 0 = omega arith in inl (e ∙ z)
-beyond_right zero m (inr le) = let e : zero * m ≡ 0 = omega arith in inl e
-beyond_right (suc n) m (inr le) = let more : m ≤ m * suc n = le-mul_of_pos_right m (omega arith) in let comm = mul_comm (suc n) m in inr (omega arith)
-
-count_kept : (ns : List ℕ) → CountKept ns
-count_kept [] = inl refl
-count_kept (n ∷ ns) = ⊎_elim
-    (λ lt. ⊎_elim
-    (λ same. inl (ap (λ k. k * word_count (map kept_size ns)) (small_size n lt) ∙ ap (λ k. n * k) same))
-    (λ beyond.
-    let z : kept_size n * 0 ≡ 0 = omega arith in
-    inr (ap (λ k. kept_size n * k) beyond.0 ∙ z, beyond_right n (word_count ns) beyond.1))
-    (count_kept ns))
-    (λ le.
-    let z : 0 * word_count (map kept_size ns) ≡ 0 = omega arith in
-    inr (ap (λ k. k * word_count (map kept_size ns)) (large_size n le) ∙ z, beyond_left n (word_count ns) le))
-    (cases_lt n 18446744073709551616)
-
-not_beyond : (k n : ℕ) → 0 < k → k < 18446744073709551616 → IsBeyond n → (k == n) ≡ false
-not_beyond k n low high (inl none) = ne_eqb k n (λ e. omega arith)
-not_beyond k n low high (inr le) = ne_eqb k n (λ e. omega arith)
-
-same_count : (k : ℕ) (ns : List ℕ) → 0 < k → k < 18446744073709551616 → (k == word_count (map kept_size ns)) ≡ (k == word_count ns)
-same_count k ns low high = ⊎_elim
-    (λ same. ap (λ n. k == n) same)
-    (λ beyond. not_beyond k (word_count (map kept_size ns)) low high (inl beyond.0) ∙ sym (not_beyond k (word_count ns) low high beyond.1))
-    (count_kept ns)
-
-memory_kept : (arrays : List (ℕ × ℕ)) (e : PlainExternal) → list_all is_length arrays ≡ true → not_this_memory (map kept_array arrays) (kept_external e) ≡ not_this_memory arrays e
-memory_kept [] e h = refl
-memory_kept (a ∷ []) e h =
-    let both = and_parts (nat_lt 0 a.1) (nat_lt a.1 18446744073709551616) (and_parts (is_length a) true h).0 in
-    ap not (same_count a.1 e.sizes (ltb-true 0 a.1 both.0) (ltb-true a.1 18446744073709551616 both.1))
-memory_kept (a ∷ b ∷ rest) e h = refl
+-- The number of words.
+memory_kept : (arrays : List (ℕ × ℕ)) (e : PlainExternal) → not_this_memory (map kept_array arrays) (kept_external e) ≡ not_this_memory arrays e
+memory_kept [] e = refl
+memory_kept (a ∷ []) e = refl
+memory_kept (a ∷ b ∷ rest) e = refl
 
 -- The width.
 same_width : (v w : ℕ) → w ≤ 64 → (kept_small v == kept_small w) ≡ (v == w)
@@ -136,27 +87,24 @@ width_kept arrays e = ⊎_elim
     ∙ ap (λ b. nat_lt 64 e.width || b) (narrow_kept arrays e (omega arith)))
     (cases_lt 64 e.width)
 
-external_kept : (ms : List PlainModule) (names instances : List (List ℕ)) (e : PlainExternal) → list_all has_lengths ms ≡ true
+external_kept : (ms : List PlainModule) (names instances : List (List ℕ)) (e : PlainExternal)
     → external_faults (map kept_module ms) names instances (kept_external e) ≡ external_faults ms names instances e
-external_kept ms names instances e h =
-    let lengths : list_all is_length (memory_arrays ms e) ≡ true = arrays_of (memory_module ms e) (by_main ms (last_named ms (codes "main")) e.instance h) in
+external_kept ms names instances e =
     ap (λ arrays. record { name = has_name names e.name || has_name instances e.instance || not_this_memory arrays (kept_external e); width = nat_lt 64 (kept_small e.width) || not_this_width arrays (kept_external e); limit = false }) (memory_arrays_kept ms e)
-    ∙ ap (λ b. record { name = has_name names e.name || has_name instances e.instance || b; width = nat_lt 64 (kept_small e.width) || not_this_width (map kept_array (memory_arrays ms e)) (kept_external e); limit = false }) (memory_kept (memory_arrays ms e) e lengths)
+    ∙ ap (λ b. record { name = has_name names e.name || has_name instances e.instance || b; width = nat_lt 64 (kept_small e.width) || not_this_width (map kept_array (memory_arrays ms e)) (kept_external e); limit = false }) (memory_kept (memory_arrays ms e) e)
     ∙ ap (λ b. record { name = has_name names e.name || has_name instances e.instance || not_this_memory (memory_arrays ms e) e; width = b; limit = false }) (width_kept (memory_arrays ms e) e)
 
-externals_kept : (ms : List PlainModule) (names instances : List (List ℕ)) (es : List PlainExternal) → list_all has_lengths ms ≡ true
+externals_kept : (ms : List PlainModule) (names instances : List (List ℕ)) (es : List PlainExternal)
     → externals_faults (map kept_module ms) names instances (map kept_external es) ≡ externals_faults ms names instances es
-externals_kept ms names instances [] h = refl
-externals_kept ms names instances (e ∷ es) h =
-    ap (λ f. f ∷ externals_faults (map kept_module ms) (names ++ e.name ∷ []) (instances ++ e.instance ∷ []) (map kept_external es)) (external_kept ms names instances e h)
-    ∙ ap (λ fs. external_faults ms names instances e ∷ fs) (externals_kept ms (names ++ e.name ∷ []) (instances ++ e.instance ∷ []) es h)
+externals_kept ms names instances [] = refl
+externals_kept ms names instances (e ∷ es) =
+    ap (λ f. f ∷ externals_faults (map kept_module ms) (names ++ e.name ∷ []) (instances ++ e.instance ∷ []) (map kept_external es)) (external_kept ms names instances e)
+    ∙ ap (λ fs. external_faults ms names instances e ∷ fs) (externals_kept ms (names ++ e.name ∷ []) (instances ++ e.instance ∷ []) es)
 
 -- the first break
-pub break_kept : (s : PlainSource) → is_laid_out s ≡ true → is_within s ≡ true → break_of (kept_source s) ≡ break_of s
-break_kept s laid within =
-    let fits = and_parts (list_all external_fits s.externals && nat_lt 0 (length s.modules)) (list_all module_fits s.modules) laid in
-    let lengths = module_lengths s.modules fits.1 within in
+pub break_kept : (s : PlainSource) → break_of (kept_source s) ≡ break_of s
+break_kept s =
     sym (alike_break (faults_of s) (faults_of (kept_source s)) 1
     (alike_append (externals_faults s.modules [] [] s.externals) (externals_faults (map kept_module s.modules) [] [] (map kept_external s.externals)) (modules_faults [] [] s.modules) (modules_faults [] [] (map kept_module s.modules))
-    (subst (λ fs. Alike (externals_faults s.modules [] [] s.externals) fs) (sym (externals_kept s.modules [] [] s.externals lengths)) (alike_refl (externals_faults s.modules [] [] s.externals)))
+    (subst (λ fs. Alike (externals_faults s.modules [] [] s.externals) fs) (sym (externals_kept s.modules [] [] s.externals)) (alike_refl (externals_faults s.modules [] [] s.externals)))
     (λ all. modules_alike [] [] s.modules refl)))

@@ -31,3 +31,4 @@ pub mod StepAgain
 pub mod StepFound
 pub mod AstrayLines
 pub mod AstrayOnce
+pub mod SmallNumbers

@@ -1,5 +1,5 @@
 -- The lines of ports, declarations and assigns that are spelled are read.
-use Rattle.std.proofs.Common.{◌≡◌, ℕ, ◌+◌, ◌-◌, ◌<◌, ◌^◌, inl, not, Bool, true, false, ◌&&◌, List, [], ◌∷◌, ◌++◌, map, length, Some, None, refl, ◌∙◌, ap, arith, append_assoc, append-nil, ⊎_elim, if◌then◌else◌}
+use Rattle.std.proofs.Common.{◌≡◌, ℕ, suc, ◌+◌, ◌-◌, ◌<◌, ◌^◌, inl, not, Bool, true, false, ◌&&◌, List, [], ◌∷◌, ◌++◌, map, length, Some, None, refl, ◌∙◌, ap, arith, append_assoc, append-nil, ⊎_elim, if◌then◌else◌}
 use Rattle.std.specs.Prelude.{codes, nat_lt, min}
 use Rattle.std.specs.List.{list_all}
 use Rattle.std.proofs.lemmas.Bool.{and_parts, lt-ltb, ltb-true, ne_eqb, not-true, cases_lt}
@@ -8,28 +8,18 @@ use Rattle.cx_vtree.specs.Lines.{decimal_text, expr_text, bounds_text, side_text
 use Rattle.cx_vtree.specs.Plain.{PlainExpr, PlainPort, PlainDecl, WireOf, RegisterOf, ArrayOf, PlainAssign}
 use Rattle.cx_vtree.specs.Spelling.{port_lines}
 use Rattle.cx_vread_exprs.specs.Places as places
-use Rattle.cx_vread_exprs.specs.Places.{Place, Reads, unfit, then_reads, then_at, begins, many}
-use Rattle.cx_vread_exprs.specs.Tokens.{kept_small, name_at, capped, no_more, one_more, bounds_at, length_at}
-use Rattle.cx_vread.specs.Within.{is_countable}
+use Rattle.cx_vread_exprs.specs.Places.{Place, Reads, then_reads, then_at, begins, many}
+use Rattle.cx_vread_exprs.specs.Tokens.{kept_small, name_at, capped, no_more, bounds_at}
 use Rattle.cx_vread.proofs.Kept.{kept_port, kept_decl, kept_assign}
 use Rattle.cx_vread_exprs.proofs.Kept.{kept_by}
 use Rattle.cx_vread_exprs.proofs.Numerals.{capped_some, capped_none}
 use Rattle.cx_vtree.specs.Sound.{Scope}
-use Rattle.cx_vread.specs.Parts.{port_by, port_at, next_port_at, more_ports_at, ports_at, register_by, decl_at, is_decl, decls_at, assigned_by, assign_at, assigns_at}
+use Rattle.cx_vread.specs.Parts.{port_by, port_at, next_port_at, more_ports_at, ports_at, array_by, register_by, decl_at, is_decl, decls_at, assigned_by, assign_at, assigns_at}
 use Rattle.cx_vread_exprs.proofs.ExprAgain.{closed, name_again}
 use Rattle.cx_vread_exprs.proofs.WholeExprs.{whole_again}
 use Rattle.cx_vread.proofs.ManyAgain.{joined_text, Again, all_again, lines_joined, Anything}
-use Rattle.cx_vread_exprs.proofs.NumberAgain.{clean, number_again}
+use Rattle.cx_vread_exprs.proofs.NumberAgain.{clean, number_again, any_number_again}
 use Rattle.cx_vread_exprs.proofs.Spans.{Stops}
-
--- a number that stands for one more
-more_again : (bound w : ℕ) (x : List ℕ) → 0 < w → w - 1 < bound → bound < 2 ^ 128 → one_more bound (capped (w - 1)) (clean x) ≡ Some (w, clean x)
-more_again bound w x low high small =
-    let fit : capped (w - 1) ≡ Some (w - 1) = ap (λ b. if b then Some (w - 1) else None) (lt-ltb (w - 1) (2 ^ 128) (omega arith)) in
-    let back : w - 1 + 1 ≡ w = omega arith in
-    ap (λ o. one_more bound o (clean x)) fit
-    ∙ ap (λ b. if b then Some (w - 1 + 1, clean x) else Some (bound, unfit (clean x))) (lt-ltb (w - 1) bound high)
-    ∙ ap (λ n. Some (n, clean x)) back
 
 -- what is kept of a width that its greatest bit tells
 pub width_kept : (w : ℕ) → 0 < w → no_more 254 (capped (w - 1)) + 1 ≡ kept_small w
@@ -123,30 +113,31 @@ ports_again p ps x f =
     (all_again next_again ps end fit.1 refl refl)
 
 -- Declarations.
-length_again : (k : ℕ) (x : List ℕ) → nat_lt 0 k ≡ true → nat_lt k 18446744073709551616 ≡ true → length_at (clean (decimal_text (k - 1) ++ (codes "];\n" ++ x))) ≡ Some (k, clean (codes "];\n" ++ x))
-length_again k x l h =
-    let low : 0 < k = ltb-true 0 k l in
-    let high : k < 18446744073709551616 = ltb-true k 18446744073709551616 h in
-    ap (λ r. then_reads r (one_more 18446744073709551615)) (number_again 10 (k - 1) (codes "];\n" ++ x) (inl refl) refl)
-    ∙ more_again 18446744073709551615 k (codes "];\n" ++ x) low (omega arith) (omega arith)
+last_again : (n : List ℕ) (w k : ℕ) (x : List ℕ) → nat_lt 0 k ≡ true
+    → array_by n w (clean (codes " [0:" ++ (decimal_text (k - 1) ++ (codes "];\n" ++ x)))) ≡ Some (ArrayOf n w k, clean x)
+last_again n w k x some =
+    let low : 0 < k = ltb-true 0 k some in
+    let back : suc (k - 1) ≡ k = omega arith in
+    ap (λ r. then_reads r (λ k r. then_at (places.after (codes "];\n") r) (λ s. Some (ArrayOf n w (suc k), s)))) (any_number_again (k - 1) (codes "];\n" ++ x) refl)
+    ∙ ap (λ k. Some (ArrayOf n w k, clean x)) back
 
 abbrev pub decl_text_of : PlainDecl → List ℕ
 decl_text_of d = line_text (DeclLine d) ++ codes "\n"
 
-pub decl_again : (d : PlainDecl) (y : List ℕ) → decl_fits d ≡ true → is_countable d ≡ true → decl_at (clean (decl_text_of d ++ y)) ≡ Some (kept_decl d, clean y)
-decl_again (WireOf n w) y f h =
+pub decl_again : (d : PlainDecl) (y : List ℕ) → decl_fits d ≡ true → decl_at (clean (decl_text_of d ++ y)) ≡ Some (kept_decl d, clean y)
+decl_again (WireOf n w) y f =
     let fits = and_parts (is_name n) (nat_lt 0 w) f in
     let e : decl_text_of (WireOf n w) ++ y ≡ codes "  wire " ++ (bounds_text w ++ (n ++ (codes ";\n" ++ y))) = simp append_assoc in
     ap (λ t. decl_at (clean t)) e
     ∙ ap (λ r. then_reads r (λ w q. then_reads (name_at q) (λ n r. then_at (places.after (codes ";\n") r) (λ s. Some (WireOf n w, s))))) (bounds_again w (n ++ (codes ";\n" ++ y)) fits.1)
     ∙ ap (λ r. then_reads r (λ n r. then_at (places.after (codes ";\n") r) (λ s. Some (WireOf n (kept_small w), s)))) (name_again n (codes ";\n" ++ y) fits.0 refl)
-decl_again (RegisterOf n w) y f h =
+decl_again (RegisterOf n w) y f =
     let fits = and_parts (is_name n) (nat_lt 0 w) f in
     let e : decl_text_of (RegisterOf n w) ++ y ≡ codes "  reg " ++ (bounds_text w ++ (n ++ (codes ";\n" ++ y))) = simp append_assoc in
     ap (λ t. decl_at (clean t)) e
     ∙ ap (λ r. then_reads r (λ w q. then_reads (name_at q) (λ n r. register_by n w r))) (bounds_again w (n ++ (codes ";\n" ++ y)) fits.1)
     ∙ ap (λ r. then_reads r (λ n r. register_by n (kept_small w) r)) (name_again n (codes ";\n" ++ y) fits.0 refl)
-decl_again (ArrayOf n w k) y f h =
+decl_again (ArrayOf n w k) y f =
     let fit = and_parts (is_name n && nat_lt 0 w) (nat_lt 0 k) f in
     let fits = and_parts (is_name n) (nat_lt 0 w) fit.0 in
     let end : List ℕ = decimal_text (k - 1) ++ (codes "];\n" ++ y) in
@@ -154,10 +145,7 @@ decl_again (ArrayOf n w k) y f h =
     ap (λ t. decl_at (clean t)) e
     ∙ ap (λ r. then_reads r (λ w q. then_reads (name_at q) (λ n r. register_by n w r))) (bounds_again w (n ++ (codes " [0:" ++ end)) fits.1)
     ∙ ap (λ r. then_reads r (λ n r. register_by n (kept_small w) r)) (name_again n (codes " [0:" ++ end) fits.0 refl)
-    ∙ ap (λ r. then_reads r (λ k r. then_at (places.after (codes "];\n") r) (λ s. Some (ArrayOf n (kept_small w) k, s)))) (length_again k y fit.1 h)
-
-abbrev good_decl : PlainDecl → Bool
-good_decl d = decl_fits d && is_countable d
+    ∙ last_again n (kept_small w) k y fit.1
 
 pub starts_decl : (d : PlainDecl) (y : List ℕ) → is_decl (clean (decl_text_of d ++ y)) ≡ true
 starts_decl (WireOf n w) y = refl
@@ -169,25 +157,18 @@ some_decl (WireOf n w) = omega arith
 some_decl (RegisterOf n w) = omega arith
 some_decl (ArrayOf n w k) = omega arith
 
-decls_so : Again is_decl decl_at kept_decl decl_text_of good_decl Anything
+decls_so : Again is_decl decl_at kept_decl decl_text_of decl_fits Anything
 decls_so = record {
   starts_so = λ d y h. starts_decl d y;
-  reads_so = λ d y h ends. let parts = and_parts (decl_fits d) (is_countable d) h in decl_again d y parts.0 parts.1;
+  reads_so = λ d y h ends. decl_again d y h;
   follows_so = λ d y h. tt;
   some_text = λ d h. some_decl d;
 }
 
-good_decls : (ds : List PlainDecl) → list_all decl_fits ds ≡ true → list_all is_countable ds ≡ true → list_all good_decl ds ≡ true
-good_decls [] f h = refl
-good_decls (d ∷ ds) f h =
-    let fit = and_parts (decl_fits d) (list_all decl_fits ds) f in
-    let held = and_parts (is_countable d) (list_all is_countable ds) h in
-    ap (λ b. b && list_all good_decl ds) (ap (λ b. b && is_countable d) fit.0 ∙ held.0) ∙ good_decls ds fit.1 held.1
-
-pub decls_again : (ds : List PlainDecl) (z : List ℕ) → list_all decl_fits ds ≡ true → list_all is_countable ds ≡ true → is_decl (clean z) ≡ false
+pub decls_again : (ds : List PlainDecl) (z : List ℕ) → list_all decl_fits ds ≡ true → is_decl (clean z) ≡ false
     → decls_at (clean (lines_text (map DeclLine ds) ++ z)) ≡ Some (map kept_decl ds, clean z)
-decls_again ds z f h stops =
-    ap (λ t. decls_at (clean (t ++ z))) (lines_joined DeclLine ds) ∙ all_again decls_so ds z (good_decls ds f h) tt stops
+decls_again ds z f stops =
+    ap (λ t. decls_at (clean (t ++ z))) (lines_joined DeclLine ds) ∙ all_again decls_so ds z f tt stops
 
 -- Assigns.
 module _ (scope : Scope) where

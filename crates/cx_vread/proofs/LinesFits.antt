@@ -3,9 +3,9 @@ use Rattle.std.proofs.Common.{◌≡◌, ℕ, zero, suc, Bool, true, false, List
 use Rattle.std.specs.Prelude.{codes}
 use Rattle.cx_vtree.specs.Plain.{PlainConn, PlainInstance}
 use Rattle.cx_vread_exprs.specs.Places.{Place, Reads, then_reads, then_at, after, begins, many}
-use Rattle.cx_vread_exprs.specs.Tokens.{word_at, name_at, number_at, small_at, size_of, size_at, bounds_at}
+use Rattle.cx_vread_exprs.specs.Tokens.{word_at, name_at, number_at, any_number_at, small_at, bounds_at}
 use Rattle.cx_vread_exprs.proofs.Found.{ends, then_reads_some, step_at, word_found, name_found}
-use Rattle.cx_vread_exprs.proofs.SignsFound.{number_found, small_found}
+use Rattle.cx_vread_exprs.proofs.SignsFound.{number_found, any_number_found, small_found}
 use Rattle.cx_vread.specs.Parts.{more_size_at, sizes_at, external_by, external_at, port_by, port_at, conn_at, next_conn_at, more_conns_at, conns_at, instance_by, instance_at}
 use Rattle.cx_vread.proofs.LinesFound.{bounds_found}
 
@@ -44,15 +44,15 @@ keeps_small p n q is = (small_found p n q is).stands.fits_is
 keeps_bounds : KeepsFits bounds_at
 keeps_bounds p w q is = (bounds_found p w q is).stands.fits_is
 
-keeps_size : KeepsFits size_at
-keeps_size = keeps_then (number_at 10) (λ n q. Some (size_of n, q)) keeps_number (λ n. keeps_end (size_of n))
+keeps_size : KeepsFits any_number_at
+keeps_size p n q is = (any_number_found p n q is).fits_is
 
 keeps_more_size : KeepsFits more_size_at
-keeps_more_size = keeps_at (codes " ") size_at keeps_size
+keeps_more_size = keeps_at (codes " ") any_number_at keeps_size
 
 keeps_sizes : KeepsFits sizes_at
 keeps_sizes =
-    keeps_then size_at (λ k q. then_reads (many (begins (codes " ")) more_size_at 3 q) (λ ks r. Some (k ∷ ks, r))) keeps_size
+    keeps_then any_number_at (λ k q. then_reads (many (begins (codes " ")) more_size_at 3 q) (λ ks r. Some (k ∷ ks, r))) keeps_size
     (λ k. keeps_then (many (begins (codes " ")) more_size_at 3) (λ ks r. Some (k ∷ ks, r)) (keeps_many (begins (codes " ")) more_size_at keeps_more_size 3) (λ ks. keeps_end (k ∷ ks)))
 
 keeps_external : (n i : List ℕ) → KeepsFits (external_by n i)

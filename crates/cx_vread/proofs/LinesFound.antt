@@ -1,7 +1,8 @@
 -- The lines that are read stand in the text: external memories, ports, declarations and assigns.
-use Rattle.std.proofs.Common.{◌≡◌, ℕ, ◌+◌, ◌-◌, ◌<◌, ◌≤◌, ◌^◌, not, Bool, true, false, ◌&&◌, List, ◌∷◌, ◌++◌, map, length, Option, Some, None, refl, ◌∙◌, ap, sym, subst, arith, append_assoc, if◌then◌else◌}
+use Rattle.std.proofs.Common.{◌≡◌, ℕ, suc, ◌+◌, ◌-◌, ◌<◌, ◌≤◌, ◌^◌, not, Bool, true, false, ◌&&◌, List, ◌∷◌, ◌++◌, map, length, Option, Some, None, refl, ◌∙◌, ap, sym, subst, arith, append_assoc, if◌then◌else◌}
 use Rattle.std.specs.Prelude.{codes, nat_lt, nat_le}
 use Rattle.std.specs.List.{list_all}
+use Rattle.std.proofs.lemmas.List.{map-id}
 use Rattle.std.proofs.lemmas.Bool.{and_from, lt-ltb, le-leb, ltb-true}
 use Rattle.std.proofs.lemmas.Option.{same_Some}
 use Rattle.cx_vtree.specs.Layout.{is_name, is_word, expr_fits, port_fits, decl_fits, assign_fits, external_fits}
@@ -9,39 +10,30 @@ use Rattle.cx_vtree.specs.Spelling.{port_lines}
 use Rattle.cx_vtree.specs.Lines.{decimal_text, expr_text, bounds_text, side_text, sizes_text, ExternalLine, DeclLine, AssignLine, line_text, lines_text}
 use Rattle.cx_vtree.specs.Plain.{PlainExpr, PlainPort, PlainDecl, WireOf, RegisterOf, ArrayOf, PlainAssign, PlainExternal}
 use Rattle.cx_vtree.specs.Sound.{Scope}
-use Rattle.cx_vread_exprs.specs.Places.{Place, Reads, unfit, then_reads, then_at, after, begins, many}
-use Rattle.cx_vread_exprs.specs.Tokens.{kept_small, kept_size, word_at, name_at, number_at, capped, no_more, one_more, size_of, small_at, size_at, length_at, bounds_at}
+use Rattle.cx_vread_exprs.specs.Places.{Place, Reads, then_reads, then_at, after, begins, many}
+use Rattle.cx_vread_exprs.specs.Tokens.{kept_small, word_at, name_at, number_at, any_number_at, capped, no_more, small_at, bounds_at}
 use Rattle.cx_vread_exprs.specs.Deep.{whole_expr_at}
 use Rattle.cx_vread_exprs.proofs.Found.{ends, Stands, WordFound, then_reads_some, step_at, word_found, name_found}
 use Rattle.cx_vread_exprs.proofs.ExprAgain.{Ends, closed}
 use Rattle.cx_vread_exprs.proofs.WholeExprs.{whole_found}
-use Rattle.cx_vread_exprs.proofs.SignsFound.{number_found, small_found}
-use Rattle.cx_vread.specs.Within.{is_countable}
+use Rattle.cx_vread_exprs.proofs.SignsFound.{number_found, any_number_found, small_found}
 use Rattle.cx_vread.specs.Parts.{more_size_at, sizes_at, external_by, external_at, port_by, port_at, next_port_at, more_ports_at, ports_at, array_by, register_by, register_at, wire_at, decl_at, assigned_by, assign_at}
 use Rattle.cx_vread.proofs.LinePieces.{sizes_pieces, external_pieces, bounds_pieces, port_pieces, wire_pieces, register_pieces, array_pieces, assign_pieces}
 use Rattle.cx_vread.proofs.Kept.{kept_port, kept_decl, kept_assign, kept_external}
-use Rattle.cx_vread.proofs.ExternalAgain.{size_of_capped, next_text as size_text, sizes_joined, any_size}
+use Rattle.cx_vread.proofs.ExternalAgain.{next_text as size_text, sizes_joined, any_size}
 use Rattle.cx_vread.proofs.LineAgain.{width_kept, next_text as port_next, ports_joined}
 use Rattle.cx_vread.proofs.ManyAgain.{joined_text}
 use Rattle.cx_vread.proofs.ManyFound.{Found, FindsBy, many_found}
 
 -- a size
-size_found : FindsBy kept_size decimal_text any_size size_at
+size_found : FindsBy (λ k. k) decimal_text any_size any_number_at
 size_found p n q is ok =
-    let s = then_reads_some (number_at 10 p) n q (λ n q. Some (size_of n, q)) is in
-    let both = ends n q (size_of s.0) s.1 s.3 in
-    let f = number_found p s.0 s.1 s.2 in
-    record {
-      one = f.number;
-      text_is = f.stands.text_is ∙ ap (λ q. decimal_text f.number ++ q.rest) both.1;
-      fits_is = f.stands.fits_is ∙ ap (λ q. q.fits) both.1 ∙ ok;
-      kept_is = sym (size_of_capped f.number) ∙ ap size_of f.value_is ∙ both.0;
-      good_is = refl;
-    }
+    let f = any_number_found p n q is in
+    record { one = n; text_is = f.text_is; fits_is = f.fits_is ∙ ok; kept_is = refl; good_is = refl }
 
-more_size_found : FindsBy kept_size size_text any_size more_size_at
+more_size_found : FindsBy (λ k. k) size_text any_size more_size_at
 more_size_found p n q is ok =
-    let s = step_at (codes " ") p n q size_at is in
+    let s = step_at (codes " ") p n q any_number_at is in
     let f = size_found s.0 n q s.2 ok in
     record {
       one = f.one;
@@ -55,13 +47,13 @@ record SizesFound (p : Place) (ns : List ℕ) (q : Place) : Type 0 where
   sizes : List ℕ
   text_is : codes " " ++ p.rest ≡ sizes_text sizes ++ q.rest
   fits_is : p.fits ≡ true
-  kept_is : map kept_size sizes ≡ ns
+  kept_is : sizes ≡ ns
   some : 0 < length sizes
   few : length sizes ≤ 4
 
 sizes_found : (p : Place) (ns : List ℕ) (q : Place) → sizes_at p ≡ Some (ns, q) → q.fits ≡ true → SizesFound p ns q
 sizes_found p ns q is ok =
-    let s1 = then_reads_some (size_at p) ns q (λ k q. then_reads (many (begins (codes " ")) more_size_at 3 q) (λ ks r. Some (k ∷ ks, r))) is in
+    let s1 = then_reads_some (any_number_at p) ns q (λ k q. then_reads (many (begins (codes " ")) more_size_at 3 q) (λ ks r. Some (k ∷ ks, r))) is in
     let s2 = then_reads_some (many (begins (codes " ")) more_size_at 3 s1.1) ns q (λ ks r. Some (s1.0 ∷ ks, r)) s1.3 in
     let both = ends ns q (s1.0 ∷ s2.0) s2.1 s2.3 in
     let more = many_found (begins (codes " ")) more_size_at more_size_found 3 s1.1 s2.0 s2.1 s2.2 (ap (λ q. q.fits) both.1 ∙ ok) in
@@ -71,7 +63,7 @@ sizes_found p ns q is ok =
       sizes = one.one ∷ more.all;
       text_is = ap (λ t. codes " " ++ t) (one.text_is ∙ ap (λ t. decimal_text one.one ++ t) (more.text_is ∙ ap (λ t. t ++ s2.1.rest) (sym (sizes_joined more.all)) ∙ ap (λ q. sizes_text more.all ++ q.rest) both.1)) ∙ sym (sizes_pieces (decimal_text one.one) (sizes_text more.all) q.rest);
       fits_is = one.fits_is;
-      kept_is = ap (λ k. k ∷ map kept_size more.all) one.kept_is ∙ ap (λ ks. s1.0 ∷ ks) more.kept_is ∙ both.0;
+      kept_is = ap (λ k. k ∷ more.all) one.kept_is ∙ ap (λ ks. s1.0 ∷ ks) (sym (map-id more.all) ∙ more.kept_is) ∙ both.0;
       some = omega arith;
       few = omega arith;
     }
@@ -109,7 +101,7 @@ external_by_found n i p e q is ok =
       sizes = ks.sizes;
       text_is = w.stands.text_is ∙ ap (λ t. decimal_text w.number ++ t) (s7.1.text_is ∙ ks.text_is ∙ ap (λ t. sizes_text ks.sizes ++ t) (s9.1.text_is ∙ ap (λ q. codes "\n" ++ q.rest) both.1));
       fits_is = w.stands.fits_is ∙ s7.1.fits_is ∙ ks.fits_is;
-      kept_is = external_same n i (kept_small w.number) s6.0 (map kept_size ks.sizes) s8.0 e w.value_is ks.kept_is both.0;
+      kept_is = external_same n i (kept_small w.number) s6.0 ks.sizes s8.0 e w.value_is ks.kept_is both.0;
       some = ks.some;
       few = ks.few;
     }
@@ -223,46 +215,10 @@ ports_found p ys q is ok =
     }
 
 -- Declarations.
-record LengthFound (p : Place) (k : ℕ) (q : Place) : Type 0 where
-  last : ℕ
-  stands : Stands (decimal_text last) p q
-  length_is : last + 1 ≡ k
-  below : last < 18446744073709551615
-
-one_more_fits : (bound : ℕ) (o : Option ℕ) (m : Place) (k : ℕ) (q : Place) → one_more bound o m ≡ Some (k, q) → q.fits ≡ true → (n : ℕ) × (o ≡ Some n) × (n + 1 ≡ k) × (m ≡ q) × (n < bound)
-one_more_fits bound None m k q is ok =
-    let both = ends k q bound (unfit m) is in
-    let clash : false ≡ true = ap (λ q. q.fits) both.1 ∙ ok in absurd (cc)
-one_more_fits bound (Some n) m k q is ok = go (nat_lt n bound) refl is
-  where
-    go : (t : Bool) → nat_lt n bound ≡ t → if◌then◌else◌ {A = Reads ℕ} t (Some (n + 1, m)) (Some (bound, unfit m)) ≡ Some (k, q) → (x : ℕ) × (Some n ≡ Some x) × (x + 1 ≡ k) × (m ≡ q) × (x < bound)
-    go true lt is = let both = ends k q (n + 1) m is in (n, refl, both.0, both.1, ltb-true n bound lt)
-    go false ge is =
-        let both = ends k q bound (unfit m) is in
-        let clash : false ≡ true = ap (λ q. q.fits) both.1 ∙ ok in absurd (cc)
-
-capped_is : (n m : ℕ) → capped n ≡ Some m → n ≡ m
-capped_is n m is = go (nat_lt n (2 ^ 128)) is
-  where
-    go : (t : Bool) → (if t then Some n else None) ≡ Some m → n ≡ m
-    go true is = same_Some n m is
-    go false is = absurd (cc)
-
-length_found : (p : Place) (k : ℕ) (q : Place) → length_at p ≡ Some (k, q) → q.fits ≡ true → LengthFound p k q
-length_found p k q is ok =
-    let s = then_reads_some (number_at 10 p) k q (one_more 18446744073709551615) is in
-    let f = number_found p s.0 s.1 s.2 in
-    let m = one_more_fits 18446744073709551615 s.0 s.1 k q s.3 ok in
-    let same : f.number ≡ m.0 = capped_is f.number m.0 (f.value_is ∙ m.1) in
-    record { last = m.0; stands = subst (λ q. Stands (decimal_text m.0) p q) m.3 (subst (λ n. Stands (decimal_text n) p s.1) same f.stands); length_is = m.2; below = m.4 }
-
-abbrev pub good_decl : PlainDecl → Bool
-good_decl d = decl_fits d && is_countable d
-
 abbrev pub decl_text_of : PlainDecl → List ℕ
 decl_text_of d = line_text (DeclLine d) ++ codes "\n"
 
-wire_found : (p m : Place) (d : PlainDecl) (q : Place) → Stands (codes "  wire ") p m → wire_at m ≡ Some (d, q) → q.fits ≡ true → Found kept_decl decl_text_of good_decl p d q
+wire_found : (p m : Place) (d : PlainDecl) (q : Place) → Stands (codes "  wire ") p m → wire_at m ≡ Some (d, q) → q.fits ≡ true → Found kept_decl decl_text_of decl_fits p d q
 wire_found p m d q head is ok =
     let s1 = then_reads_some (bounds_at m) d q (λ w q. then_reads (name_at q) (λ n r. then_at (after (codes ";\n") r) (λ s. Some (WireOf n w, s)))) is in
     let s2 = then_reads_some (name_at s1.1) d q (λ n r. then_at (after (codes ";\n") r) (λ s. Some (WireOf n s1.0, s))) s1.3 in
@@ -275,11 +231,11 @@ wire_found p m d q head is ok =
       text_is = head.text_is ∙ ap (λ t. codes "  wire " ++ t) (w.stands.text_is ∙ ap (λ t. bounds_text w.width ++ t) (n.stands.text_is ∙ ap (λ t. s2.0 ++ t) (s3.1.text_is ∙ ap (λ q. codes ";\n" ++ q.rest) both.1))) ∙ sym (wire_pieces (bounds_text w.width) s2.0 q.rest);
       fits_is = head.fits_is ∙ w.stands.fits_is ∙ n.stands.fits_is ∙ s3.1.fits_is ∙ ap (λ q. q.fits) both.1 ∙ ok;
       kept_is = ap (WireOf s2.0) w.kept_is ∙ both.0;
-      good_is = and_from (is_name s2.0 && nat_lt 0 w.width) true (and_from (is_name s2.0) (nat_lt 0 w.width) n.passes w.some) refl;
+      good_is = and_from (is_name s2.0) (nat_lt 0 w.width) n.passes w.some;
     }
 
 plain_register_found : (p m r : Place) (n : List ℕ) (w : ℕ) (d : PlainDecl) (q : Place) → Stands (codes "  reg ") p m → (b : Place) → WidthFound m w b → Stands n b r → is_name n ≡ true
-    → then_at {Y = PlainDecl × Place} (after (codes ";\n") r) (λ q. Some (RegisterOf n w, q)) ≡ Some (d, q) → q.fits ≡ true → Found kept_decl decl_text_of good_decl p d q
+    → then_at {Y = PlainDecl × Place} (after (codes ";\n") r) (λ q. Some (RegisterOf n w, q)) ≡ Some (d, q) → q.fits ≡ true → Found kept_decl decl_text_of decl_fits p d q
 plain_register_found p m r n w d q head b width name h is ok =
     let s = step_at (codes ";\n") r d q (λ q. Some (RegisterOf n w, q)) is in
     let both = ends d q (RegisterOf n w) s.0 s.2 in
@@ -288,39 +244,36 @@ plain_register_found p m r n w d q head b width name h is ok =
       text_is = head.text_is ∙ ap (λ t. codes "  reg " ++ t) (width.stands.text_is ∙ ap (λ t. bounds_text width.width ++ t) (name.text_is ∙ ap (λ t. n ++ t) (s.1.text_is ∙ ap (λ q. codes ";\n" ++ q.rest) both.1))) ∙ sym (register_pieces (bounds_text width.width) n q.rest);
       fits_is = head.fits_is ∙ width.stands.fits_is ∙ name.fits_is ∙ s.1.fits_is ∙ ap (λ q. q.fits) both.1 ∙ ok;
       kept_is = ap (RegisterOf n) width.kept_is ∙ both.0;
-      good_is = and_from (is_name n && nat_lt 0 width.width) true (and_from (is_name n) (nat_lt 0 width.width) h width.some) refl;
+      good_is = and_from (is_name n) (nat_lt 0 width.width) h width.some;
     }
 
 array_found : (p m r : Place) (n : List ℕ) (w : ℕ) (d : PlainDecl) (q : Place) → Stands (codes "  reg ") p m → (b : Place) → WidthFound m w b → Stands n b r → is_name n ≡ true
-    → array_by n w r ≡ Some (d, q) → q.fits ≡ true → Found kept_decl decl_text_of good_decl p d q
+    → array_by n w r ≡ Some (d, q) → q.fits ≡ true → Found kept_decl decl_text_of decl_fits p d q
 array_found p m r n w d q head b width name h is ok =
-    let s1 = step_at (codes " [0:") r d q (λ q. then_reads (length_at q) (λ k r. then_at (after (codes "];\n") r) (λ s. Some (ArrayOf n w k, s)))) is in
-    let s2 = then_reads_some (length_at s1.0) d q (λ k r. then_at (after (codes "];\n") r) (λ s. Some (ArrayOf n w k, s))) s1.2 in
-    let s3 = step_at (codes "];\n") s2.1 d q (λ s. Some (ArrayOf n w s2.0, s)) s2.3 in
-    let both = ends d q (ArrayOf n w s2.0) s3.0 s3.2 in
-    let k = length_found s1.0 s2.0 s2.1 s2.2 (s3.1.fits_is ∙ ap (λ q. q.fits) both.1 ∙ ok) in
-    let last : k.last ≡ s2.0 - 1 = let e = k.length_is in omega arith in
-    let below = k.below in
-    let sum = k.length_is in
+    let s1 = step_at (codes " [0:") r d q (λ q. then_reads (any_number_at q) (λ k r. then_at (after (codes "];\n") r) (λ s. Some (ArrayOf n w (suc k), s)))) is in
+    let s2 = then_reads_some (any_number_at s1.0) d q (λ k r. then_at (after (codes "];\n") r) (λ s. Some (ArrayOf n w (suc k), s))) s1.2 in
+    let s3 = step_at (codes "];\n") s2.1 d q (λ s. Some (ArrayOf n w (suc s2.0), s)) s2.3 in
+    let both = ends d q (ArrayOf n w (suc s2.0)) s3.0 s3.2 in
+    let k = any_number_found s1.0 s2.0 s2.1 s2.2 in
+    let last : s2.0 ≡ suc s2.0 - 1 = omega arith in
     record {
-      one = ArrayOf n width.width s2.0;
+      one = ArrayOf n width.width (suc s2.0);
       text_is = head.text_is ∙ ap (λ t. codes "  reg " ++ t) (width.stands.text_is ∙ ap (λ t. bounds_text width.width ++ t) (name.text_is ∙ ap (λ t. n ++ t) (s1.1.text_is ∙ ap (λ t. codes " [0:" ++ t)
-          (k.stands.text_is ∙ ap (λ k. decimal_text k ++ s2.1.rest) last ∙ ap (λ t. decimal_text (s2.0 - 1) ++ t) (s3.1.text_is ∙ ap (λ q. codes "];\n" ++ q.rest) both.1))))) ∙ sym (array_pieces (bounds_text width.width) n (decimal_text (s2.0 - 1)) q.rest);
-      fits_is = head.fits_is ∙ width.stands.fits_is ∙ name.fits_is ∙ s1.1.fits_is ∙ k.stands.fits_is ∙ s3.1.fits_is ∙ ap (λ q. q.fits) both.1 ∙ ok;
-      kept_is = ap (λ w. ArrayOf n w s2.0) width.kept_is ∙ both.0;
-      good_is = and_from (is_name n && nat_lt 0 width.width && nat_lt 0 s2.0) (nat_lt s2.0 18446744073709551616)
-          (and_from (is_name n && nat_lt 0 width.width) (nat_lt 0 s2.0) (and_from (is_name n) (nat_lt 0 width.width) h width.some) (lt-ltb 0 s2.0 (omega arith))) (lt-ltb s2.0 18446744073709551616 (omega arith));
+          (k.text_is ∙ ap (λ k. decimal_text k ++ s2.1.rest) last ∙ ap (λ t. decimal_text (suc s2.0 - 1) ++ t) (s3.1.text_is ∙ ap (λ q. codes "];\n" ++ q.rest) both.1))))) ∙ sym (array_pieces (bounds_text width.width) n (decimal_text (suc s2.0 - 1)) q.rest);
+      fits_is = head.fits_is ∙ width.stands.fits_is ∙ name.fits_is ∙ s1.1.fits_is ∙ k.fits_is ∙ s3.1.fits_is ∙ ap (λ q. q.fits) both.1 ∙ ok;
+      kept_is = ap (λ w. ArrayOf n w (suc s2.0)) width.kept_is ∙ both.0;
+      good_is = and_from (is_name n && nat_lt 0 width.width) (nat_lt 0 (suc s2.0)) (and_from (is_name n) (nat_lt 0 width.width) h width.some) (lt-ltb 0 (suc s2.0) (omega arith));
     }
 
-pub decl_found : FindsBy kept_decl decl_text_of good_decl decl_at
+pub decl_found : FindsBy kept_decl decl_text_of decl_fits decl_at
 decl_found p d q is ok = go (begins (codes "  reg ") p) is
   where
     kind : (m : Place) (s2 : Place) (n : List ℕ) (w : ℕ) → Stands (codes "  reg ") p m → (b : Place) → WidthFound m w b → Stands n b s2 → is_name n ≡ true → (t : Bool)
-        → (if t then then_at {Y = PlainDecl × Place} (after (codes ";\n") s2) (λ q. Some (RegisterOf n w, q)) else array_by n w s2) ≡ Some (d, q) → Found kept_decl decl_text_of good_decl p d q
+        → (if t then then_at {Y = PlainDecl × Place} (after (codes ";\n") s2) (λ q. Some (RegisterOf n w, q)) else array_by n w s2) ≡ Some (d, q) → Found kept_decl decl_text_of decl_fits p d q
     kind m r n w head b width name h true is = plain_register_found p m r n w d q head b width name h is ok
     kind m r n w head b width name h false is = array_found p m r n w d q head b width name h is ok
 
-    go : (t : Bool) → (if t then then_at (after (codes "  reg ") p) register_at else then_at (after (codes "  wire ") p) wire_at) ≡ Some (d, q) → Found kept_decl decl_text_of good_decl p d q
+    go : (t : Bool) → (if t then then_at (after (codes "  reg ") p) register_at else then_at (after (codes "  wire ") p) wire_at) ≡ Some (d, q) → Found kept_decl decl_text_of decl_fits p d q
     go true is =
         let s0 = step_at (codes "  reg ") p d q register_at is in
         let s1 = then_reads_some (bounds_at s0.0) d q (λ w q. then_reads (name_at q) (λ n r. register_by n w r)) s0.2 in

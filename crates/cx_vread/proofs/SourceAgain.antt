@@ -13,9 +13,8 @@ use Rattle.cx_vwrite.proofs.LinesText.{lines_text_append, whole_text, modules_te
 use Rattle.cx_vread_exprs.specs.Places as places
 use Rattle.cx_vread_exprs.specs.Places.{Place, Reads, then_reads, then_at, begins, many}
 use Rattle.cx_vread.specs.Held.{is_held}
-use Rattle.cx_vread.specs.Within.{module_within, is_within}
 use Rattle.cx_vread.proofs.Kept.{kept_port, kept_decl, kept_assign, kept_edge, kept_scope, kept_module, kept_external, kept_source}
-use Rattle.cx_vread.proofs.KeptSame.{held_within, held_kept}
+use Rattle.cx_vread.proofs.KeptSame.{held_kept}
 use Rattle.cx_vread.specs.Parts.{is_decl, is_instance, ports_at, instances_at, edge_or_none_at, head_at, body_at, with_body, module_by, module_at, is_left, more_modules_at, modules_at, source_at}
 use Rattle.cx_vread.proofs.EdgeAgain.{edge_again}
 use Rattle.cx_vread_exprs.proofs.ExprAgain.{name_again}
@@ -90,8 +89,8 @@ body_again scope xs is e y fx fi fe =
     ∙ ap (λ r. then_reads r (λ e s. then_at (places.after (codes "endmodule\n") s) (λ t. Some (record { assigns = map (kept_assign scope) xs; instances = is; edge = e }, t))))
     (edge_again scope e z4 fe refl)
 
-module_again : (m : PlainModule) (y : List ℕ) → module_fits m ≡ true → module_within m ≡ true → module_at (clean (lines_text (module_lines m) ++ y)) ≡ Some (kept_module m, clean y)
-module_again m y f h =
+module_again : (m : PlainModule) (y : List ℕ) → module_fits m ≡ true → module_at (clean (lines_text (module_lines m) ++ y)) ≡ Some (kept_module m, clean y)
+module_again m y f =
     let f6 = and_parts (is_name m.name && nat_lt 0 (length m.ports) && list_all port_fits m.ports && list_all decl_fits m.decls && list_all assign_fits m.assigns && list_all instance_fits m.instances) (edge_fits m.edge) f in
     let f5 = and_parts (is_name m.name && nat_lt 0 (length m.ports) && list_all port_fits m.ports && list_all decl_fits m.decls && list_all assign_fits m.assigns) (list_all instance_fits m.instances) f6.0 in
     let f4 = and_parts (is_name m.name && nat_lt 0 (length m.ports) && list_all port_fits m.ports && list_all decl_fits m.decls) (list_all assign_fits m.assigns) f5.0 in
@@ -104,62 +103,51 @@ module_again m y f h =
     ap (λ t. module_at (clean t)) (module_pieces m y)
     ∙ ap (λ r. then_reads r module_by) (head_again m.name m.ports (lines_text (map DeclLine m.decls) ++ z1) f1.0 (ltb-true 0 (length m.ports) f1.1) f2.1)
     ∙ ap (λ r. then_reads r (λ ds q. then_reads (body_at (meant_in h0.1 ds) q) (λ b r. Some (with_body h0 ds b, r))))
-    (decls_again m.decls z1 f3.1 h (assigns-not_decl m.assigns z2 (instances-not_decl m.instances m.edge y f5.1)))
+    (decls_again m.decls z1 f3.1 (assigns-not_decl m.assigns z2 (instances-not_decl m.instances m.edge y f5.1)))
     ∙ ap (λ r. then_reads r (λ b r. Some (with_body h0 (map kept_decl m.decls) b, r))) (body_again (kept_scope m) m.assigns m.instances m.edge y f4.1 f5.1 f6.1)
 
 abbrev module_text_of : PlainModule → List ℕ
 module_text_of m = lines_text (module_lines m)
 
-abbrev good_module : PlainModule → Bool
-good_module m = module_fits m && module_within m
-
-modules_so : Again is_left module_at kept_module module_text_of good_module Anything
+modules_so : Again is_left module_at kept_module module_text_of module_fits Anything
 modules_so = record {
   starts_so = λ m y h. ap not (ne_eqb (length (module_text_of m ++ y)) 0 (λ e. omega arith));
-  reads_so = λ m y h ends. let parts = and_parts (module_fits m) (module_within m) h in module_again m y parts.0 parts.1;
+  reads_so = λ m y h ends. module_again m y h;
   follows_so = λ m y h. tt;
   some_text = λ m h. omega arith;
 }
-
-good_modules : (ms : List PlainModule) → list_all module_fits ms ≡ true → list_all module_within ms ≡ true → list_all good_module ms ≡ true
-good_modules [] f h = refl
-good_modules (m ∷ ms) f h =
-    let fit = and_parts (module_fits m) (list_all module_fits ms) f in
-    let held = and_parts (module_within m) (list_all module_within ms) h in
-    ap (λ b. b && list_all good_module ms) (ap (λ b. b && module_within m) fit.0 ∙ held.0) ∙ good_modules ms fit.1 held.1
 
 pub modules_joined : (ms : List PlainModule) → modules_text ms ≡ joined_text module_text_of ms
 modules_joined [] = refl
 modules_joined (m ∷ ms) = ap (λ t. lines_text (module_lines m) ++ t) (modules_joined ms)
 
-modules_again : (m : PlainModule) (ms : List PlainModule) → list_all module_fits (m ∷ ms) ≡ true → list_all module_within (m ∷ ms) ≡ true
+modules_again : (m : PlainModule) (ms : List PlainModule) → list_all module_fits (m ∷ ms) ≡ true
     → modules_at (clean (modules_text (m ∷ ms))) ≡ Some (map kept_module (m ∷ ms), clean [])
-modules_again m ms f h =
+modules_again m ms f =
     let fit = and_parts (module_fits m) (list_all module_fits ms) f in
-    let held = and_parts (module_within m) (list_all module_within ms) h in
     let t : List ℕ = joined_text module_text_of ms ++ [] in
     ap (λ t. modules_at (clean (lines_text (module_lines m) ++ t))) (modules_joined ms ∙ sym (append-nil (joined_text module_text_of ms)))
-    ∙ ap (λ r. then_reads r (λ m q. then_reads (more_modules_at q) (λ ms r. Some (m ∷ ms, r)))) (module_again m t fit.0 held.0)
-    ∙ ap (λ r. then_reads r (λ ms r. Some (kept_module m ∷ ms, r))) (all_again modules_so ms [] (good_modules ms fit.1 held.1) tt refl)
+    ∙ ap (λ r. then_reads r (λ m q. then_reads (more_modules_at q) (λ ms r. Some (m ∷ ms, r)))) (module_again m t fit.0)
+    ∙ ap (λ r. then_reads r (λ ms r. Some (kept_module m ∷ ms, r))) (all_again modules_so ms [] fit.1 tt refl)
 
-source_of_parts : (es : List PlainExternal) (ms : List PlainModule) → list_all external_fits es ≡ true → 0 < length ms → list_all module_fits ms ≡ true → list_all module_within ms ≡ true
+source_of_parts : (es : List PlainExternal) (ms : List PlainModule) → list_all external_fits es ≡ true → 0 < length ms → list_all module_fits ms ≡ true
     → source_at (clean (lines_text (map ExternalLine es) ++ modules_text ms)) ≡ Some (record { externals = map kept_external es; modules = map kept_module ms }, clean [])
-source_of_parts es [] f some g k = absurd (omega arith)
-source_of_parts es (m ∷ ms) f some g k =
+source_of_parts es [] f some g = absurd (omega arith)
+source_of_parts es (m ∷ ms) f some g =
     ap (λ r. then_reads r (λ es q. then_reads (modules_at q) (λ ms r. Some (record { externals = es; modules = ms }, r)))) (externals_again es (modules_text (m ∷ ms)) f refl)
-    ∙ ap (λ r. then_reads r (λ ms r. Some (record { externals = map kept_external es; modules = ms }, r))) (modules_again m ms g k)
+    ∙ ap (λ r. then_reads r (λ ms r. Some (record { externals = map kept_external es; modules = ms }, r))) (modules_again m ms g)
 
 pub source_text : (s : PlainSource) → text_of s ≡ lines_text (map ExternalLine s.externals) ++ modules_text s.modules
 source_text s = lines_text_append (map ExternalLine s.externals) (modules_lines s.modules) ∙ ap (λ t. lines_text (map ExternalLine s.externals) ++ t) (sym (modules_text-lines s.modules))
 
 -- the text of a source is read as what a tree keeps of it
-pub source_kept : (s : PlainSource) → is_laid_out s ≡ true → is_within s ≡ true → source_at (clean (text_of s)) ≡ Some (kept_source s, clean [])
-source_kept s f h =
+pub source_kept : (s : PlainSource) → is_laid_out s ≡ true → source_at (clean (text_of s)) ≡ Some (kept_source s, clean [])
+source_kept s f =
     let f2 = and_parts (list_all external_fits s.externals && nat_lt 0 (length s.modules)) (list_all module_fits s.modules) f in
     let f1 = and_parts (list_all external_fits s.externals) (nat_lt 0 (length s.modules)) f2.0 in
     ap (λ t. source_at (clean t)) (source_text s)
-    ∙ source_of_parts s.externals s.modules f1.0 (ltb-true 0 (length s.modules) f1.1) f2.1 h
+    ∙ source_of_parts s.externals s.modules f1.0 (ltb-true 0 (length s.modules) f1.1) f2.1
 
 -- so a source that a tree holds is read as it
 pub source_again : (s : PlainSource) → is_laid_out s ≡ true → is_held s ≡ true → source_at (clean (text_of s)) ≡ Some (s, clean [])
-source_again s f h = source_kept s f (held_within s h) ∙ ap (λ t. Some (t, clean [])) (held_kept s h)
+source_again s f h = source_kept s f ∙ ap (λ t. Some (t, clean [])) (held_kept s h)

@@ -13,7 +13,6 @@ use Rattle.cx_vwrite.specs.Pieces.{modules_text}
 use Rattle.cx_vread_exprs.specs.Places.{Place, then_reads, then_at, after, begins}
 use Rattle.cx_vread_exprs.specs.Tokens.{name_at}
 use Rattle.cx_vread_exprs.proofs.Found.{ends, then_reads_some, step_at, name_found}
-use Rattle.cx_vread.specs.Within.{is_countable, module_within, is_within}
 use Rattle.cx_vread.specs.Parts.{externals_at, external_at, ports_at, is_decl, decl_at, decls_at, assign_at, assigns_at, is_instance, instance_at, instances_at, edge_or_none_at, head_at, PlainBody, body_at, with_body, module_by, module_at, is_left, more_modules_at, modules_at, source_at}
 use Rattle.cx_vread.proofs.Kept.{kept_port, kept_decl, kept_assign, kept_edge, kept_module, kept_source}
 use Rattle.cx_vread.proofs.ManyAgain.{joined_text, lines_joined}
@@ -21,13 +20,10 @@ use Rattle.cx_vread.proofs.SourceAgain.{module_pieces, modules_joined, source_te
 use Rattle.cx_vread.proofs.ManyFound.{FindsBy, many_found}
 use Rattle.cx_vread.proofs.LinesFound.{external_found, ports_found, decl_found, assign_found}
 use Rattle.cx_vread.proofs.InstancesFound.{instance_found}
-use Rattle.cx_vread.proofs.EdgesFound.{both_pass, edge_found}
+use Rattle.cx_vread.proofs.EdgesFound.{edge_found}
 
 abbrev module_text_of : PlainModule → List ℕ
 module_text_of m = lines_text (module_lines m)
-
-abbrev good_module : PlainModule → Bool
-good_module m = module_fits m && module_within m
 
 -- the parts of a module behind its ports
 record BodyFound (n : List ℕ) (ps : List PlainPort) (p : Place) (y : PlainModule) (q : Place) : Type 0 where
@@ -35,7 +31,7 @@ record BodyFound (n : List ℕ) (ps : List PlainPort) (p : Place) (y : PlainModu
   text_is : (ports : List PlainPort) → codes "module " ++ (n ++ (codes "(\n" ++ (lines_text (port_lines ports) ++ (codes ");\n" ++ p.rest)))) ≡ module_text_of (one ports) ++ q.rest
   fits_is : p.fits ≡ true
   kept_is : (ports : List PlainPort) → map kept_port ports ≡ ps → kept_module (one ports) ≡ y
-  good_is : (ports : List PlainPort) → is_name n ≡ true → nat_lt 0 (length ports) ≡ true → list_all port_fits ports ≡ true → good_module (one ports) ≡ true
+  good_is : (ports : List PlainPort) → is_name n ≡ true → nat_lt 0 (length ports) ≡ true → list_all port_fits ports ≡ true → module_fits (one ports) ≡ true
 
 abbrev body_of : List PlainAssign → List PlainInstance → Option PlainEdge → PlainBody
 body_of xs is e = record { assigns = xs; instances = is; edge = e }
@@ -97,7 +93,7 @@ record BodyParts (n : List ℕ) (ps : List PlainPort) (p : Place) (y : PlainModu
   text_is : p.rest ≡ lines_text (map DeclLine decls) ++ (lines_text (map AssignLine assigns) ++ (lines_text (map InstanceLine instances) ++ (lines_text (edge_lines edge) ++ (codes "endmodule\n" ++ q.rest))))
   fits_is : p.fits ≡ true
   kept_is : made n ps (map kept_decl decls) (map (kept_assign (meant_in ps (map kept_decl decls))) assigns) instances (option_map (kept_edge (meant_in ps (map kept_decl decls))) edge) ≡ y
-  good_decls : list_all (λ d. decl_fits d && is_countable d) decls ≡ true
+  good_decls : list_all decl_fits decls ≡ true
   good_assigns : list_all assign_fits assigns ≡ true
   good_instances : list_all instance_fits instances ≡ true
   edge_laid : edge_fits edge ≡ true
@@ -128,25 +124,23 @@ body_parts n ps p y q is ok =
 body_from : (n : List ℕ) (ps : List PlainPort) (p : Place) (y : PlainModule) (q : Place) → BodyParts n ps p y q → BodyFound n ps p y q
 body_from n ps p y q x =
     let own : List PlainPort → PlainModule = λ ports. made n ports x.decls x.assigns x.instances x.edge in
-    let fine_decls = both_pass decl_fits is_countable x.decls x.good_decls in
     record {
       one = own;
       text_is = λ ports. ap (λ t. codes "module " ++ (n ++ (codes "(\n" ++ (lines_text (port_lines ports) ++ (codes ");\n" ++ t))))) x.text_is ∙ sym (module_pieces (own ports) q.rest);
       fits_is = x.fits_is;
       kept_is = λ ports kept. ap (λ ps. made n ps (map kept_decl x.decls) (map (kept_assign (meant_in ps (map kept_decl x.decls))) x.assigns) x.instances (option_map (kept_edge (meant_in ps (map kept_decl x.decls))) x.edge)) kept ∙ x.kept_is;
-      good_is = λ ports name some fits. and_from (module_fits (own ports)) (module_within (own ports))
-          (and_from (is_name n && nat_lt 0 (length ports) && list_all port_fits ports && list_all decl_fits x.decls && list_all assign_fits x.assigns && list_all instance_fits x.instances) (edge_fits x.edge)
+      good_is = λ ports name some fits.
+          and_from (is_name n && nat_lt 0 (length ports) && list_all port_fits ports && list_all decl_fits x.decls && list_all assign_fits x.assigns && list_all instance_fits x.instances) (edge_fits x.edge)
           (and_from (is_name n && nat_lt 0 (length ports) && list_all port_fits ports && list_all decl_fits x.decls && list_all assign_fits x.assigns) (list_all instance_fits x.instances)
           (and_from (is_name n && nat_lt 0 (length ports) && list_all port_fits ports && list_all decl_fits x.decls) (list_all assign_fits x.assigns)
           (and_from (is_name n && nat_lt 0 (length ports) && list_all port_fits ports) (list_all decl_fits x.decls)
-          (and_from (is_name n && nat_lt 0 (length ports)) (list_all port_fits ports) (and_from (is_name n) (nat_lt 0 (length ports)) name some) fits) fine_decls.0) x.good_assigns) x.good_instances) x.edge_laid)
-          fine_decls.1;
+          (and_from (is_name n && nat_lt 0 (length ports)) (list_all port_fits ports) (and_from (is_name n) (nat_lt 0 (length ports)) name some) fits) x.good_decls) x.good_assigns) x.good_instances) x.edge_laid;
     }
 
 body_found : (n : List ℕ) (ps : List PlainPort) (p : Place) (y : PlainModule) (q : Place) → module_by (n, ps) p ≡ Some (y, q) → q.fits ≡ true → BodyFound n ps p y q
 body_found n ps p y q is ok = body_from n ps p y q (body_parts n ps p y q is ok)
 
-module_found : FindsBy kept_module module_text_of good_module module_at
+module_found : FindsBy kept_module module_text_of module_fits module_at
 module_found p y q is ok =
     let t1 = then_reads_some (head_at p) y q module_by is in
     let s1 = step_at (codes "module ") p t1.0 t1.1 (λ q. then_reads (name_at q) (λ n r. then_at (after (codes "(\n") r) (λ s. then_reads (ports_at s) (λ ps t. Some ((n, ps), t))))) t1.2 in
@@ -197,7 +191,7 @@ record ModulesFound (p : Place) (ys : List PlainModule) (q : Place) : Type 0 whe
   text_is : p.rest ≡ modules_text all
   fits_is : p.fits ≡ true
   kept_is : map kept_module all ≡ ys
-  good_is : list_all good_module all ≡ true
+  good_is : list_all module_fits all ≡ true
   some : nat_lt 0 (length all) ≡ true
 
 modules_found : (p : Place) (ys : List PlainModule) (q : Place) → modules_at p ≡ Some (ys, q) → q.fits ≡ true → ModulesFound p ys q
@@ -213,16 +207,15 @@ modules_found p ys q is ok =
       text_is = one.text_is ∙ ap (λ t. module_text_of one.one ++ t) (more.text_is ∙ ap (λ t. joined_text module_text_of more.all ++ t) none ∙ append-nil (joined_text module_text_of more.all) ∙ sym (modules_joined more.all));
       fits_is = one.fits_is;
       kept_is = ap (λ x. x ∷ map kept_module more.all) one.kept_is ∙ ap (λ xs. s1.0 ∷ xs) more.kept_is ∙ both.0;
-      good_is = and_from (good_module one.one) (list_all good_module more.all) one.good_is more.good_is;
+      good_is = and_from (module_fits one.one) (list_all module_fits more.all) one.good_is more.good_is;
       some = lt-ltb 0 (length (one.one ∷ more.all)) (omega arith);
     }
 
--- what is read stands in the text, where nothing was noted on the way
+-- what is read stands in the text
 pub record SourceFound (text : List ℕ) (read : PlainSource) : Type 0 where
   pub source : PlainSource
   pub spelled : text ≡ text_of source
   pub laid : is_laid_out source ≡ true
-  pub within : is_within source ≡ true
   pub kept_is : kept_source source ≡ read
 
 pub source_found : (p : Place) (read : PlainSource) (q : Place) → source_at p ≡ Some (read, q) → q.fits ≡ true → SourceFound p.rest read
@@ -233,11 +226,9 @@ source_found p read q is ok =
     let ms = modules_found s1.1 s2.0 s2.1 s2.2 (ap (λ q. q.fits) both.1 ∙ ok) in
     let es = many_found (begins (codes "/")) external_at external_found (length p.rest) p s1.0 s1.1 s1.2 ms.fits_is in
     let own : PlainSource = record { externals = es.all; modules = ms.all } in
-    let fine = both_pass module_fits module_within ms.all ms.good_is in
     record {
       source = own;
       spelled = es.text_is ∙ ap (λ t. t ++ s1.1.rest) (sym (lines_joined ExternalLine es.all)) ∙ ap (λ t. lines_text (map ExternalLine es.all) ++ t) ms.text_is ∙ sym (source_text own);
-      laid = and_from (list_all external_fits es.all && nat_lt 0 (length ms.all)) (list_all module_fits ms.all) (and_from (list_all external_fits es.all) (nat_lt 0 (length ms.all)) es.good_is ms.some) fine.0;
-      within = fine.1;
+      laid = and_from (list_all external_fits es.all && nat_lt 0 (length ms.all)) (list_all module_fits ms.all) (and_from (list_all external_fits es.all) (nat_lt 0 (length ms.all)) es.good_is ms.some) ms.good_is;
       kept_is = ap (λ es. record { externals = es; modules = map kept_module ms.all }) es.kept_is ∙ ap (λ ms. record { externals = s1.0; modules = ms }) ms.kept_is ∙ both.0;
     }

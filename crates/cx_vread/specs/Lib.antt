@@ -1,7 +1,6 @@
 pub mod Parts
 pub mod Bodies
 pub mod Held
-pub mod Within
 pub mod LineSteps
 pub mod Astray
 pub mod ReadAnswers

@@ -1,17 +1,17 @@
 -- Reading the lines of a text.
-use Rattle.std.specs.Prelude.{ℕ, ◌==◌, ◌&&◌, ◌||◌, not, Bool, true, false, List, ◌∷◌, length, Option, Some, None, codes, if◌then◌else◌}
+use Rattle.std.specs.Prelude.{ℕ, suc, ◌==◌, ◌&&◌, ◌||◌, not, Bool, true, false, List, ◌∷◌, length, Option, Some, None, codes, if◌then◌else◌}
 use Rattle.cx_vtree.specs.Sound.{Scope, meant_in}
 use Rattle.cx_vtree.specs.Plain.{PlainExpr, PlainPort, PlainDecl, WireOf, RegisterOf, ArrayOf, PlainAssign, PlainConn, PlainInstance, PlainStore, PlainItem, SetTo, StoreTo, PlainEdge, PlainModule, PlainExternal, PlainSource}
 use Rattle.cx_vread_exprs.specs.Places.{Place, Reads, then_reads, then_at, after, begins, many}
-use Rattle.cx_vread_exprs.specs.Tokens.{word_at, name_at, small_at, size_at, length_at, bounds_at}
+use Rattle.cx_vread_exprs.specs.Tokens.{word_at, name_at, small_at, any_number_at, bounds_at}
 use Rattle.cx_vread_exprs.specs.Deep.{whole_expr_at}
 
 -- External memories.
 abbrev pub more_size_at : Place → Reads ℕ
-more_size_at p = then_at (after (codes " ") p) size_at
+more_size_at p = then_at (after (codes " ") p) any_number_at
 
 abbrev pub sizes_at : Place → Reads (List ℕ)
-sizes_at p = then_reads (size_at p) (λ k q. then_reads (many (begins (codes " ")) more_size_at 3 q) (λ ks r. Some (k ∷ ks, r)))
+sizes_at p = then_reads (any_number_at p) (λ k q. then_reads (many (begins (codes " ")) more_size_at 3 q) (λ ks r. Some (k ∷ ks, r)))
 
 abbrev pub external_by : List ℕ → List ℕ → Place → Reads PlainExternal
 external_by n i p =
@@ -45,10 +45,10 @@ abbrev pub ports_at : Place → Reads (List PlainPort)
 ports_at p =
     then_reads (port_at p) (λ x q. then_reads (more_ports_at q) (λ xs r. then_at (after (codes "\n);\n") r) (λ s. Some (x ∷ xs, s))))
 
--- Declarations.
+-- Declarations. The length of an array is told by its last index.
 abbrev pub array_by : List ℕ → ℕ → Place → Reads PlainDecl
 array_by n w p =
-    then_at (after (codes " [0:") p) (λ q. then_reads (length_at q) (λ k r. then_at (after (codes "];\n") r) (λ s. Some (ArrayOf n w k, s))))
+    then_at (after (codes " [0:") p) (λ q. then_reads (any_number_at q) (λ k r. then_at (after (codes "];\n") r) (λ s. Some (ArrayOf n w (suc k), s))))
 
 abbrev pub register_by : List ℕ → ℕ → Place → Reads PlainDecl
 register_by n w p = if begins (codes ";") p then then_at (after (codes ";\n") p) (λ q. Some (RegisterOf n w, q)) else array_by n w p

@@ -9,10 +9,7 @@ use Rattle.cx_vtree.specs.Spelling.{text_of}
 use Rattle.cx_vsound.specs.Search.{told_break}
 use Rattle.cx_vsound.specs.declared.search.Break as told
 use Rattle.cx_vsound.specs.declared.search.Break.TheVariants as breaks
-use Rattle.cx_vread_exprs.specs.declared.faults.Fault.{Fault}
-use Rattle.cx_vread_exprs.specs.declared.faults.Fault.TheVariants as faults
-use Rattle.cx_vread.specs.Within.{is_within}
-use Rattle.cx_vread.specs.Astray.{IsText, IsFirstAstray}
+use Rattle.cx_vread.specs.Astray.{IsFirstAstray}
 use Rattle.cx_vread.specs.declared.refusals.ReadRefusal.{ReadRefusal}
 use Rattle.cx_vread.specs.declared.refusals.ReadRefusal.TheVariants as refusals
 
@@ -48,47 +45,21 @@ TellsBy text read (Some b) result = (result ≡ Err (refusal b)) ⊎ (result ≡
 abbrev pub TellsParts : List ℕ → PlainSource → Result Source ReadRefusal → Type 0
 TellsParts text read result = TellsBy text read (option_map told_break (break_of read)) result
 
--- a refusal for a rule
-abbrev pub IsRule : ReadRefusal → Type 0
-IsRule (refusals.Syntax line) = ⊥
-IsRule (refusals.Name line) = Unit {0}
-IsRule (refusals.Width line) = Unit {0}
-IsRule (refusals.Limit line) = Unit {0}
-IsRule refusals.Memory = ⊥
-
--- where no first break is known: the first line astray, or that the lines are a text
-abbrev pub TellsAstray : List ℕ → ReadRefusal → Type 0
-TellsAstray text (refusals.Syntax line) = IsFirstAstray text line
-TellsAstray text (refusals.Name line) = IsText text
-TellsAstray text (refusals.Width line) = IsText text
-TellsAstray text (refusals.Limit line) = IsText text
-TellsAstray text refusals.Memory = Unit {0}
-
--- the refusal where reading stops
-abbrev pub Stopped : List ℕ → Fault → ReadRefusal → Type 0
-Stopped text (faults.Syntax left) refused = TellsAstray text refused
-Stopped text faults.Memory refused = refused ≡ refusals.Memory
-
--- the same where reading ends, and a part was noted
-abbrev pub Noted : List ℕ → Result Source ReadRefusal → Type 0
-Noted text (Ok source) = ⊥
-Noted text (Err refused) = TellsAstray text refused
+-- a refusal where reading stopped: for the first line astray, unless memory is wanting
+abbrev pub IsAstray : List ℕ → ReadRefusal → Type 0
+IsAstray text (refusals.Syntax line) = IsFirstAstray text line
+IsAstray text (refusals.Name line) = ⊥
+IsAstray text (refusals.Width line) = ⊥
+IsAstray text (refusals.Limit line) = ⊥
+IsAstray text refusals.Memory = Unit {0}
 
 -- What was read of a text stands for the source that the text spells: both have one first break, and where they have none they are one.
 pub record StandsFor (text : List ℕ) (read : PlainSource) : Type 0 where
   pub source : PlainSource
   pub spelled : text ≡ text_of source
   pub laid : is_laid_out source ≡ true
-  pub within : is_within source ≡ true
   pub breaks : option_map told_break (break_of read) ≡ option_map told_break (break_of source)
   pub same : option_map told_break (break_of read) ≡ None → read ≡ source
-
--- the text spells a source in which an array has 2^64 words or more
-pub record IsBeyond (text : List ℕ) : Type 0 where
-  pub source : PlainSource
-  pub spelled : text ≡ text_of source
-  pub laid : is_laid_out source ≡ true
-  pub beyond : is_within source ≡ false
 
 -- the text spells a source, of which this is the first break
 pub record IsBreakOf (text : List ℕ) (refused : ReadRefusal) : Type 0 where
@@ -97,13 +68,12 @@ pub record IsBreakOf (text : List ℕ) (refused : ReadRefusal) : Type 0 where
   pub laid : is_laid_out source ≡ true
   pub first : Answers source (Err refused)
 
--- WHAT A REFUSAL TELLS OF THE TEXT: the first line with which the lines so far begin no text; or the first break of what it spells, but
--- where that is beyond what is looked at
+-- WHAT A REFUSAL TELLS OF THE TEXT: the first line with which the lines so far begin no text; or the first break of what it spells
 abbrev pub Tells : List ℕ → ReadRefusal → Type 0
 Tells text (refusals.Syntax line) = IsFirstAstray text line
-Tells text (refusals.Name line) = IsBreakOf text (refusals.Name line) ⊎ IsBeyond text
-Tells text (refusals.Width line) = IsBreakOf text (refusals.Width line) ⊎ IsBeyond text
-Tells text (refusals.Limit line) = IsBreakOf text (refusals.Limit line) ⊎ IsBeyond text
+Tells text (refusals.Name line) = IsBreakOf text (refusals.Name line)
+Tells text (refusals.Width line) = IsBreakOf text (refusals.Width line)
+Tells text (refusals.Limit line) = IsBreakOf text (refusals.Limit line)
 Tells text refusals.Memory = Unit {0}
 
 -- what is answered where this is the first line with which the lines so far begin no text

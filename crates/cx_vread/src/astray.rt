@@ -10,7 +10,7 @@ use crate::externals::external;
 use crate::instances::{instance, is_instance};
 use crate::lines::{is_decl, port};
 use cx_text::Memory;
-use cx_vread_exprs::{Fault, Notes, ReadPoint, begins, bounds, expect, name, pass_expr, small};
+use cx_vread_exprs::{Fault, ReadPoint, begins, bounds, expect, name, pass_expr, small};
 use std::alloc::Global;
 
 /// What the lines so far await.
@@ -308,8 +308,7 @@ fn line<'a>(
 pub fn first_astray(alloc: Global, text: &[u8]) -> Result<Option<u32>, Memory>
     ensures { IfOk result (FirstAstray text.now) }
 {
-    let notes = Notes::new();
-    let mut here = ReadPoint { rest: text, notes };
+    let mut here = ReadPoint { rest: text };
     let mut between = Between::Externals;
     let mut number = 1u32;
     while !here.rest.is_empty() {

@@ -1,31 +1,31 @@
 //! The lines of external memories.
 
 ghost use Rattle.std.specs.Prelude.{◌≡◌, [], ◌∷◌, codes, map};
-ghost use Rattle.cx_vtree.specs.PlainParts.{plain_external, plain_externals};
+ghost use Rattle.cx_vscope.specs.Drafts.{draft_external, draft_externals, draft_sizes};
 ghost use Rattle.cx_vread_exprs.specs.Answers.{Gives, place_of};
 ghost use Rattle.cx_vread_exprs.specs.Places.{begins, many, with_front};
 ghost use Rattle.cx_vread.specs.Parts as parts;
 
 use cx_text::Name;
-use cx_vread_exprs::{Fault, ReadPoint, begins, expect, name, size, small, word};
-use cx_vtree::External;
+use cx_vread_exprs::{Fault, ReadPoint, any_number, begins, expect, name, small, word};
+use cx_vscope::{DraftExternal, Numeral};
 use std::alloc::Global;
 
 /// A size after the first, with the space before it.
-fn more_size<'a>(at: ReadPoint<'a>) -> Result<(u64, ReadPoint<'a>), Fault>
+fn more_size<'a>(alloc: Global, at: ReadPoint<'a>) -> Result<(Numeral, ReadPoint<'a>), Fault>
     ensures { Gives (λ x. (x.0, place_of x.1)) result (parts.more_size_at (place_of at.entry)) }
 {
     let at = expect(at, b" ")?;
-    size(at)
+    any_number(alloc, at)
 }
 
 /// The sizes of a memory after the first, at most three.
 fn more_sizes<'a>(
     alloc: Global,
-    first: u64,
+    first: Numeral,
     at: ReadPoint<'a>,
-) -> Result<(Vec<u64>, ReadPoint<'a>), Fault>
-    ensures { Gives (λ x. (x.0.items, place_of x.1)) result (with_front (first ∷ []) (many (begins (codes " ")) parts.more_size_at 3 (place_of at.entry))) }
+) -> Result<(Vec<Numeral>, ReadPoint<'a>), Fault>
+    ensures { Gives (λ x. (draft_sizes x.0.items, place_of x.1)) result (with_front (first ∷ []) (many (begins (codes " ")) parts.more_size_at 3 (place_of at.entry))) }
 {
     let mut sizes = Vec::new(alloc);
     sizes.push(first)?;
@@ -35,7 +35,7 @@ fn more_sizes<'a>(
         if !begins(here, b" ") {
             return Ok((sizes, here));
         }
-        let (size, after) = more_size(here)?;
+        let (size, after) = more_size(alloc, here)?;
         sizes.push(size)?;
         here = after;
         left -= 1;
@@ -44,10 +44,10 @@ fn more_sizes<'a>(
 }
 
 /// The sizes of a memory.
-fn sizes<'a>(alloc: Global, at: ReadPoint<'a>) -> Result<(Vec<u64>, ReadPoint<'a>), Fault>
-    ensures { Gives (λ x. (x.0.items, place_of x.1)) result (parts.sizes_at (place_of at.entry)) }
+fn sizes<'a>(alloc: Global, at: ReadPoint<'a>) -> Result<(Vec<Numeral>, ReadPoint<'a>), Fault>
+    ensures { Gives (λ x. (draft_sizes x.0.items, place_of x.1)) result (parts.sizes_at (place_of at.entry)) }
 {
-    let (first, at) = size(at)?;
+    let (first, at) = any_number(alloc, at)?;
     more_sizes(alloc, first, at)
 }
 
@@ -57,14 +57,14 @@ fn external_of<'a>(
     name: Name,
     instance: Name,
     at: ReadPoint<'a>,
-) -> Result<(External, ReadPoint<'a>), Fault>
-    ensures { Gives (λ x. (plain_external x.0, place_of x.1)) result (parts.external_by name instance (place_of at.entry)) }
+) -> Result<(DraftExternal, ReadPoint<'a>), Fault>
+    ensures { Gives (λ x. (draft_external x.0, place_of x.1)) result (parts.external_by name instance (place_of at.entry)) }
 {
     let (width, at) = small(at)?;
     let at = expect(at, b" ")?;
     let (sizes, at) = sizes(alloc, at)?;
     let at = expect(at, b"\n")?;
-    let external = External {
+    let external = DraftExternal {
         name,
         instance,
         width,
@@ -74,8 +74,11 @@ fn external_of<'a>(
 }
 
 /// The line of an external memory.
-pub fn external<'a>(alloc: Global, at: ReadPoint<'a>) -> Result<(External, ReadPoint<'a>), Fault>
-    ensures { Gives (λ x. (plain_external x.0, place_of x.1)) result (parts.external_at (place_of at.entry)) }
+pub fn external<'a>(
+    alloc: Global,
+    at: ReadPoint<'a>,
+) -> Result<(DraftExternal, ReadPoint<'a>), Fault>
+    ensures { Gives (λ x. (draft_external x.0, place_of x.1)) result (parts.external_at (place_of at.entry)) }
 {
     let at = expect(at, b"// external ")?;
     let (memory, at) = word(alloc, at)?;
@@ -89,8 +92,8 @@ pub fn external<'a>(alloc: Global, at: ReadPoint<'a>) -> Result<(External, ReadP
 pub fn read_externals<'a>(
     alloc: Global,
     at: ReadPoint<'a>,
-) -> Result<(Vec<External>, ReadPoint<'a>), Fault>
-    ensures { Gives (λ x. (plain_externals x.0.items, place_of x.1)) result (parts.externals_at (place_of at.entry)) }
+) -> Result<(Vec<DraftExternal>, ReadPoint<'a>), Fault>
+    ensures { Gives (λ x. (draft_externals x.0.items, place_of x.1)) result (parts.externals_at (place_of at.entry)) }
 {
     let mut list = Vec::new(alloc);
     let mut here = at;

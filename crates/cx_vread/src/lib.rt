@@ -5,6 +5,7 @@
 mod astray;
 mod edges;
 mod externals;
+mod finishing;
 mod instances;
 mod laws;
 mod lines;

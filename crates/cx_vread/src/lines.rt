@@ -1,16 +1,17 @@
 //! The lines of ports, declarations and assigns.
 
 ghost use Rattle.std.specs.Prelude.{◌≡◌, [], ◌∷◌, codes, map};
-ghost use Rattle.cx_vtree.specs.PlainParts.{plain_port, plain_decl, plain_assign};
+ghost use Rattle.cx_vtree.specs.PlainParts.{plain_port, plain_assign};
+ghost use Rattle.cx_vscope.specs.Drafts.{draft_decl};
 ghost use Rattle.cx_vscope.specs.ScopeValues.{scope_by};
 ghost use Rattle.cx_vread_exprs.specs.Answers.{Gives, place_of};
 ghost use Rattle.cx_vread_exprs.specs.Places.{begins, many, with_front};
 ghost use Rattle.cx_vread.specs.Parts as parts;
 
 use cx_text::Name;
-use cx_vread_exprs::{Fault, ReadPoint, begins, bounds, expect, length, name, whole_expr};
-use cx_vscope::ModuleScope;
-use cx_vtree::{Decl, ModulePort, NetAssign};
+use cx_vread_exprs::{Fault, ReadPoint, any_number, begins, bounds, expect, name, whole_expr};
+use cx_vscope::{DraftDecl, ModuleScope};
+use cx_vtree::{ModulePort, NetAssign};
 use std::alloc::Global;
 
 /// A port, from its width to its name.
@@ -90,54 +91,60 @@ pub fn ports<'a>(
 }
 
 /// The end of the line of an array, from its length on.
-fn array<'a>(name: Name, width: u8, at: ReadPoint<'a>) -> Result<(Decl, ReadPoint<'a>), Fault>
-    ensures { Gives (λ x. (plain_decl x.0, place_of x.1)) result (parts.array_by name width (place_of at.entry)) }
+fn array<'a>(
+    alloc: Global,
+    name: Name,
+    width: u8,
+    at: ReadPoint<'a>,
+) -> Result<(DraftDecl, ReadPoint<'a>), Fault>
+    ensures { Gives (λ x. (draft_decl x.0, place_of x.1)) result (parts.array_by name width (place_of at.entry)) }
 {
     let at = expect(at, b" [0:")?;
-    let (length, at) = length(at)?;
+    let (last, at) = any_number(alloc, at)?;
     let at = expect(at, b"];\n")?;
-    let decl = Decl::Array {
-        name,
-        width,
-        length,
-    };
+    let decl = DraftDecl::Array { name, width, last };
     Ok((decl, at))
 }
 
 /// The end of the line of a register, which is an array where a length stands.
-fn register_of<'a>(name: Name, width: u8, at: ReadPoint<'a>) -> Result<(Decl, ReadPoint<'a>), Fault>
-    ensures { Gives (λ x. (plain_decl x.0, place_of x.1)) result (parts.register_by name width (place_of at.entry)) }
+fn register_of<'a>(
+    alloc: Global,
+    name: Name,
+    width: u8,
+    at: ReadPoint<'a>,
+) -> Result<(DraftDecl, ReadPoint<'a>), Fault>
+    ensures { Gives (λ x. (draft_decl x.0, place_of x.1)) result (parts.register_by name width (place_of at.entry)) }
 {
     if begins(at, b";") {
         let at = expect(at, b";\n")?;
-        Ok((Decl::Register { name, width }, at))
+        Ok((DraftDecl::Register { name, width }, at))
     } else {
-        array(name, width, at)
+        array(alloc, name, width, at)
     }
 }
 
 /// The line of a register or an array, from its width on.
-fn register<'a>(alloc: Global, at: ReadPoint<'a>) -> Result<(Decl, ReadPoint<'a>), Fault>
-    ensures { Gives (λ x. (plain_decl x.0, place_of x.1)) result (parts.register_at (place_of at.entry)) }
+fn register<'a>(alloc: Global, at: ReadPoint<'a>) -> Result<(DraftDecl, ReadPoint<'a>), Fault>
+    ensures { Gives (λ x. (draft_decl x.0, place_of x.1)) result (parts.register_at (place_of at.entry)) }
 {
     let (width, at) = bounds(at)?;
     let (name, at) = name(alloc, at)?;
-    register_of(name, width, at)
+    register_of(alloc, name, width, at)
 }
 
 /// The line of a wire, from its width on.
-fn wire<'a>(alloc: Global, at: ReadPoint<'a>) -> Result<(Decl, ReadPoint<'a>), Fault>
-    ensures { Gives (λ x. (plain_decl x.0, place_of x.1)) result (parts.wire_at (place_of at.entry)) }
+fn wire<'a>(alloc: Global, at: ReadPoint<'a>) -> Result<(DraftDecl, ReadPoint<'a>), Fault>
+    ensures { Gives (λ x. (draft_decl x.0, place_of x.1)) result (parts.wire_at (place_of at.entry)) }
 {
     let (width, at) = bounds(at)?;
     let (name, at) = name(alloc, at)?;
     let at = expect(at, b";\n")?;
-    Ok((Decl::Wire { name, width }, at))
+    Ok((DraftDecl::Wire { name, width }, at))
 }
 
 /// The line of a declaration.
-fn decl<'a>(alloc: Global, at: ReadPoint<'a>) -> Result<(Decl, ReadPoint<'a>), Fault>
-    ensures { Gives (λ x. (plain_decl x.0, place_of x.1)) result (parts.decl_at (place_of at.entry)) }
+fn decl<'a>(alloc: Global, at: ReadPoint<'a>) -> Result<(DraftDecl, ReadPoint<'a>), Fault>
+    ensures { Gives (λ x. (draft_decl x.0, place_of x.1)) result (parts.decl_at (place_of at.entry)) }
 {
     if begins(at, b"  reg ") {
         let at = expect(at, b"  reg ")?;
@@ -156,8 +163,8 @@ pub fn is_decl(at: ReadPoint) -> bool
 }
 
 /// The lines of declarations.
-pub fn decls<'a>(alloc: Global, at: ReadPoint<'a>) -> Result<(Vec<Decl>, ReadPoint<'a>), Fault>
-    ensures { Gives (λ x. (map plain_decl x.0.items, place_of x.1)) result (parts.decls_at (place_of at.entry)) }
+pub fn decls<'a>(alloc: Global, at: ReadPoint<'a>) -> Result<(Vec<DraftDecl>, ReadPoint<'a>), Fault>
+    ensures { Gives (λ x. (map draft_decl x.0.items, place_of x.1)) result (parts.decls_at (place_of at.entry)) }
 {
     let mut list = Vec::new(alloc);
     let mut here = at;

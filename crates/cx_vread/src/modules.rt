@@ -1,7 +1,8 @@
 //! Modules.
 
 ghost use Rattle.std.specs.Prelude.{◌≡◌, [], ◌∷◌, map};
-ghost use Rattle.cx_vtree.specs.PlainParts.{plain_port, plain_module, plain_modules};
+ghost use Rattle.cx_vtree.specs.PlainParts.{plain_port};
+ghost use Rattle.cx_vscope.specs.Drafts.{draft_module, draft_modules};
 ghost use Rattle.cx_vscope.specs.Scopes.{scope_of};
 ghost use Rattle.cx_vread_exprs.specs.Answers.{Gives, place_of};
 ghost use Rattle.cx_vread_exprs.specs.Places.{many, with_front};
@@ -13,8 +14,8 @@ use crate::instances::instances;
 use crate::lines::{assigns, decls, ports};
 use cx_text::Name;
 use cx_vread_exprs::{Fault, ReadPoint, expect, name};
-use cx_vscope::ModuleScope;
-use cx_vtree::{Edge, Instance, Module, ModulePort, NetAssign};
+use cx_vscope::{DraftModule, ModuleScope};
+use cx_vtree::{Edge, Instance, ModulePort, NetAssign};
 use std::alloc::Global;
 
 /// The first line of a module, and its ports.
@@ -42,7 +43,7 @@ pub struct Body {
 /// The lines of a module behind its declarations; `front` has its ports and its declarations.
 fn body_lines<'a>(
     alloc: Global,
-    front: &Module,
+    front: &DraftModule,
     at: ReadPoint<'a>,
 ) -> Result<(Body, ReadPoint<'a>), Fault>
     ensures { Gives (λ x. (plain_body x.0, place_of x.1)) result (parts.body_at (scope_of front.now) (place_of at.entry)) }
@@ -61,12 +62,12 @@ fn body_lines<'a>(
 }
 
 /// The lines of a module.
-fn module<'a>(alloc: Global, at: ReadPoint<'a>) -> Result<(Module, ReadPoint<'a>), Fault>
-    ensures { Gives (λ x. (plain_module x.0, place_of x.1)) result (parts.module_at (place_of at.entry)) }
+fn module<'a>(alloc: Global, at: ReadPoint<'a>) -> Result<(DraftModule, ReadPoint<'a>), Fault>
+    ensures { Gives (λ x. (draft_module x.0, place_of x.1)) result (parts.module_at (place_of at.entry)) }
 {
     let ((name, ports), at) = head(alloc, at)?;
     let (decls, at) = decls(alloc, at)?;
-    let mut module = Module {
+    let mut module = DraftModule {
         name,
         ports,
         decls,
@@ -96,10 +97,10 @@ fn is_left(at: ReadPoint) -> bool
 /// The modules after the first, behind it, to the end of the text.
 fn more_modules<'a>(
     alloc: Global,
-    first: Module,
+    first: DraftModule,
     at: ReadPoint<'a>,
-) -> Result<(Vec<Module>, ReadPoint<'a>), Fault>
-    ensures { Gives (λ x. (plain_modules x.0.items, place_of x.1)) result (with_front (plain_module first ∷ []) (parts.more_modules_at (place_of at.entry))) }
+) -> Result<(Vec<DraftModule>, ReadPoint<'a>), Fault>
+    ensures { Gives (λ x. (draft_modules x.0.items, place_of x.1)) result (with_front (draft_module first ∷ []) (parts.more_modules_at (place_of at.entry))) }
 {
     let mut list = Vec::new(alloc);
     list.push(first)?;
@@ -121,8 +122,8 @@ fn more_modules<'a>(
 pub fn read_modules<'a>(
     alloc: Global,
     at: ReadPoint<'a>,
-) -> Result<(Vec<Module>, ReadPoint<'a>), Fault>
-    ensures { Gives (λ x. (plain_modules x.0.items, place_of x.1)) result (parts.modules_at (place_of at.entry)) }
+) -> Result<(Vec<DraftModule>, ReadPoint<'a>), Fault>
+    ensures { Gives (λ x. (draft_modules x.0.items, place_of x.1)) result (parts.modules_at (place_of at.entry)) }
 {
     let (first, at) = module(alloc, at)?;
     more_modules(alloc, first, at)

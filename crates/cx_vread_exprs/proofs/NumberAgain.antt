@@ -1,5 +1,5 @@
 -- A number that is spelled is read.
-use Rattle.std.proofs.Common.{◌≡◌, ℕ, ◌+◌, ◌*◌, ◌<◌, ◌≤◌, zero, suc, ◌==◌, not, true, false, List, [], ◌∷◌, ◌++◌, map, get_or, Some, None, refl, ◌∙◌, ap, sym, subst, arith, ⊎_elim, if◌then◌else◌}
+use Rattle.std.proofs.Common.{◌≡◌, inl, ℕ, ◌+◌, ◌*◌, ◌<◌, ◌≤◌, zero, suc, ◌==◌, not, true, false, List, [], ◌∷◌, ◌++◌, map, get_or, Some, None, refl, ◌∙◌, ap, sym, subst, arith, ⊎_elim, if◌then◌else◌}
 use Rattle.std.specs.Prelude.{codes}
 use Rattle.std.specs.Char.{digit_value}
 use Rattle.std.specs.Int.Digits.{digits_of, number_from_digits, AllBelowBase}
@@ -12,7 +12,7 @@ use Rattle.std.proofs.lemmas.Str.{digit_value-digit_char}
 use Rattle.cx_vtree.specs.Lines.{glyph, number_text}
 use Rattle.cx_vread_exprs.specs.Numbers.{IsBase}
 use Rattle.cx_vread_exprs.specs.Places.{Place, then_reads}
-use Rattle.cx_vread_exprs.specs.Tokens.{back, is_digit_in, is_numeral, digits_at, number_at, capped}
+use Rattle.cx_vread_exprs.specs.Tokens.{back, is_digit_in, is_numeral, digits_at, number_at, any_number_at, capped}
 use Rattle.cx_vread_exprs.proofs.Spans.{Stops, front_again, back_again}
 
 -- a place before these bytes, after parts that a tree holds
@@ -99,3 +99,8 @@ pub number_again : (base n : ℕ) (rest : List ℕ) → IsBase base → Stops (i
 number_again base n rest one ends =
     ap (λ r. then_reads r (λ ds q. Some (capped (digits_value base ds), q))) (digits_again base n rest one ends)
     ∙ ap (λ v. Some (capped v, clean rest)) (text_value base n one)
+
+pub any_number_again : (n : ℕ) (rest : List ℕ) → Stops (is_digit_in 10) rest → any_number_at (clean (number_text 10 n ++ rest)) ≡ Some (n, clean rest)
+any_number_again n rest ends =
+    ap (λ r. then_reads r (λ ds q. Some (digits_value 10 ds, q))) (digits_again 10 n rest (inl refl) ends)
+    ∙ ap (λ v. Some (v, clean rest)) (text_value 10 n (inl refl))

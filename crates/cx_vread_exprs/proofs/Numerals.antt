@@ -1,5 +1,5 @@
 -- The number that digits of the text write.
-use Rattle.std.proofs.Common.{◌≡◌, ℕ, ◌<◌, ◌≤◌, ◌^◌, true, List, [], ◌∷◌, length, Option, Some, None, ◌∙◌, ap, sym, subst, arith, ⊎_elim, if◌then◌else◌}
+use Rattle.std.proofs.Common.{◌≡◌, inl, refl, ℕ, ◌<◌, ◌≤◌, ◌^◌, true, List, [], ◌∷◌, length, Option, Some, None, ◌∙◌, ap, sym, subst, arith, ⊎_elim, if◌then◌else◌}
 use Rattle.std.specs.Prelude.{SomeIff}
 use Rattle.std.specs.Char.{digit_value}
 use Rattle.std.specs.List.{list_all}
@@ -49,3 +49,7 @@ capped_numeral base ds None answer one all some =
     go n never = ⊎_elim (λ lt. absurd (never lt)) (λ le. le) (cases_lt n (2 ^ 128))
 capped_numeral base ds (Some n) answer one all some =
     ap Some answer.1 ∙ sym (capped_some (digits_value base ds) answer.0.1)
+
+-- digits of the text are a numeral
+pub numeral_is : (ds : List ℕ) → list_all (is_digit_in 10) ds ≡ true → is_numeral ds ≡ true → IsNumeral 10 ds
+numeral_is ds all some = (some_digit ds some, all_below 10 ds (inl refl) all)

@@ -6,7 +6,7 @@ use Rattle.cx_vtree.specs.declared.operators.Operator.{Operator}
 use Rattle.cx_vtree.specs.declared.operators.Operator.TheVariants.{Add, Subtract, Multiply, And, Or, Xor, ShiftLeft, ShiftRight, Equal, NotEqual, Less, Greater, AtMost, AtLeast}
 use Rattle.cx_vtree.specs.Lines.{decimal_text, op_text}
 use Rattle.cx_vread_exprs.specs.Places.{Place, Reads, after}
-use Rattle.cx_vread_exprs.specs.Tokens.{digits_at, number_at, capped, no_more, kept_small, small_at}
+use Rattle.cx_vread_exprs.specs.Tokens.{digits_at, number_at, any_number_at, capped, no_more, kept_small, small_at}
 use Rattle.cx_vread_exprs.specs.Exprs.{or_else, operator_at}
 use Rattle.cx_vread_exprs.proofs.ExprAgain.{capped_small}
 use Rattle.cx_vread_exprs.proofs.Found.{ends, Stands, after_found, then_reads_some, digits_found, numeral_text}
@@ -27,6 +27,15 @@ number_found p o q e =
       stands = subst (λ t. Stands t p q) (sym (numeral_text 10 s.0 (inl refl) d.digits d.numeral)) (subst (λ q. Stands s.0 p q) both.1 d.stands);
       value_is = both.0;
     }
+
+-- a number, however great
+pub any_number_found : (p : Place) (n : ℕ) (q : Place) → any_number_at p ≡ Some (n, q) → Stands (decimal_text n) p q
+any_number_found p n q e =
+    let s = then_reads_some (digits_at 10 p) n q (λ ds q. Some (digits_value 10 ds, q)) e in
+    let both = ends n q (digits_value 10 s.0) s.1 s.3 in
+    let d = digits_found 10 p s.0 s.1 s.2 in
+    subst (λ m. Stands (decimal_text m) p q) both.0
+    (subst (λ t. Stands t p q) (sym (numeral_text 10 s.0 (inl refl) d.digits d.numeral)) (subst (λ q. Stands s.0 p q) both.1 d.stands))
 
 pub record SmallFound (p : Place) (n : ℕ) (q : Place) : Type 0 where
   pub number : ℕ

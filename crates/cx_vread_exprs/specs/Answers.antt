@@ -1,17 +1,12 @@
 -- What the reading functions of the code answer, in the words of the reading on lists.
-use Rattle.std.specs.Prelude.{◌≡◌, Bool, is_none, Option, Some, None, Result, Ok, Err}
+use Rattle.std.specs.Prelude.{◌≡◌, true, Option, Some, None, Result, Ok, Err}
 use Rattle.cx_vread_exprs.specs.declared.faults.Fault.{Fault}
 use Rattle.cx_vread_exprs.specs.declared.faults.Fault.TheVariants as faults
-use Rattle.cx_vread_exprs.specs.declared.faults.Notes.{Notes}
 use Rattle.cx_vread_exprs.specs.declared.places.ReadPoint.{ReadPoint}
 use Rattle.cx_vread_exprs.specs.Places.{Place}
 
--- nothing was noted
-abbrev pub is_clean : Notes → Bool
-is_clean n = is_none n.limit
-
 abbrev pub place_of : ReadPoint → Place
-place_of a = record { rest = a.rest.now; fits = is_clean a.notes }
+place_of a = record { rest = a.rest.now; fits = true }
 
 -- reading stops, unless memory ran out
 abbrev pub Fails : {Y : Type 0} → Fault → Option Y → Type 0

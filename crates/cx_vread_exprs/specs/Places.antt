@@ -13,10 +13,6 @@ Reads X = Option (X × Place)
 abbrev pub moved : Place → List ℕ → Place
 moved p rest = record { rest = rest; fits = p.fits }
 
--- the same place, after what breaks a limit that no tree shows
-abbrev pub unfit : Place → Place
-unfit p = record { rest = p.rest; fits = false }
-
 abbrev pub then_reads : {X Y : Type 0} → Reads X → (X → Place → Option Y) → Option Y
 then_reads None f = None
 then_reads (Some x) f = f x.0 x.1

@@ -3,7 +3,7 @@ use Rattle.std.specs.Prelude.{ℕ, ◌+◌, ◌^◌, ◌==◌, ◌&&◌, ◌||�
 use Rattle.std.specs.Str.Parse.{digits_value}
 use Rattle.cx_vtree.specs.Layout.{is_name_byte, is_word, is_name}
 use Rattle.cx_vtree.specs.Plain.{PlainExpr, Named, Number, Joined}
-use Rattle.cx_vread_exprs.specs.Places.{Place, Reads, moved, unfit, then_reads, then_at, after}
+use Rattle.cx_vread_exprs.specs.Places.{Place, Reads, moved, then_reads, then_at, after}
 
 -- the bytes from the front on that pass a test, and those behind them
 abbrev pub front : (ℕ → Bool) → List ℕ → List ℕ
@@ -41,37 +41,21 @@ capped n = if nat_lt n (2 ^ 128) then Some n else None
 abbrev pub number_at : ℕ → Place → Reads (Option ℕ)
 number_at base p = then_reads (digits_at base p) (λ ds q. Some (capped (digits_value base ds), q))
 
--- a number that stands for one more
-abbrev pub one_more : ℕ → Option ℕ → Place → Reads ℕ
-one_more bound None p = Some (bound, unfit p)
-one_more bound (Some n) p = if nat_lt n bound then Some (n + 1, p) else Some (bound, unfit p)
+-- a number, however great
+abbrev pub any_number_at : Place → Reads ℕ
+any_number_at p = then_reads (digits_at 10 p) (λ ds q. Some (digits_value 10 ds, q))
 
 -- What a tree keeps of numbers. A width or a bit's number over 255 is too large for all rules, and 255 stands for it.
 abbrev pub kept_small : ℕ → ℕ
 kept_small n = min n 255
-
--- a size of 2^64 or more is that of no array with fewer words, and 0 stands for it
-abbrev pub kept_size : ℕ → ℕ
-kept_size n = if nat_lt n 18446744073709551616 then n else 0
 
 -- the same of a number that was read, None where it is 2^128 or more
 abbrev pub no_more : ℕ → Option ℕ → ℕ
 no_more most None = most
 no_more most (Some n) = min n most
 
-abbrev pub size_of : Option ℕ → ℕ
-size_of None = 0
-size_of (Some n) = kept_size n
-
 abbrev pub small_at : Place → Reads ℕ
 small_at p = then_reads (number_at 10 p) (λ n q. Some (no_more 255 n, q))
-
-abbrev pub size_at : Place → Reads ℕ
-size_at p = then_reads (number_at 10 p) (λ n q. Some (size_of n, q))
-
--- the length of an array, which is told by its last index
-abbrev pub length_at : Place → Reads ℕ
-length_at p = then_reads (number_at 10 p) (one_more 18446744073709551615)
 
 -- a width and the space after it, as `[7:0] `
 abbrev pub bounds_at : Place → Reads ℕ

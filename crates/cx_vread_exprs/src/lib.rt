@@ -12,8 +12,8 @@ mod places;
 mod shapes;
 
 pub use exprs::whole_expr;
-pub use faults::{Fault, Notes};
+pub use faults::Fault;
 pub use names::{name, word};
-pub use numbers::{bounds, length, size, small};
+pub use numbers::{any_number, bounds, small};
 pub use passing::pass_expr;
 pub use places::{ReadPoint, begins, expect};

@@ -43,10 +43,7 @@ pub fn word<'a>(alloc: Global, at: ReadPoint<'a>) -> Result<(Name, ReadPoint<'a>
         return Err(Fault::Syntax(at.rest.len()));
     }
     let name = Name::from_bytes(alloc, word)?;
-    let at = ReadPoint {
-        rest,
-        notes: at.notes,
-    };
+    let at = ReadPoint { rest };
     Ok((name, at))
 }
 
@@ -59,9 +56,6 @@ pub fn name<'a>(alloc: Global, at: ReadPoint<'a>) -> Result<(Name, ReadPoint<'a>
         return Err(Fault::Syntax(at.rest.len()));
     }
     let name = Name::from_bytes(alloc, word)?;
-    let at = ReadPoint {
-        rest,
-        notes: at.notes,
-    };
+    let at = ReadPoint { rest };
     Ok((name, at))
 }

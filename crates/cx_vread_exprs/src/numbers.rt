@@ -8,15 +8,15 @@ ghost use Rattle.cx_vtree.specs.Plain.{Number};
 ghost use Rattle.cx_vtree.specs.PlainParts.{plain_expr};
 ghost use Rattle.cx_vread_exprs.specs.Answers.{Gives, place_of};
 ghost use Rattle.cx_vread_exprs.specs.Exprs.{is_part};
-ghost use Rattle.cx_vread_exprs.specs.Tokens.{length_at};
 ghost use Rattle.cx_vread_exprs.specs.Numbers.{IsBase, literal_value};
 ghost use Rattle.cx_vread_exprs.specs.Numbers as numbers;
 ghost use Rattle.cx_vread_exprs.specs.Tokens as tokens;
 
 use crate::faults::Fault;
-use crate::places::{ReadPoint, begins, expect, overlimit};
+use crate::places::{ReadPoint, begins, expect};
 use cx_bits::Bits;
 use cx_text::{Memory, Name, numeral};
+use cx_vscope::Numeral;
 use cx_vtree::Expr;
 use std::alloc::Global;
 
@@ -72,11 +72,7 @@ fn digits<'a>(base: u32, at: ReadPoint<'a>) -> Result<(&'a [u8], ReadPoint<'a>),
     if !is_numeral(digits) {
         return Err(Fault::Syntax(at.rest.len()));
     }
-    let at = ReadPoint {
-        rest,
-        notes: at.notes,
-    };
-    Ok((digits, at))
+    Ok((digits, ReadPoint { rest }))
 }
 
 /// The number that the bytes begin with, None where it is 2^128 or more.
@@ -117,39 +113,13 @@ pub fn small<'a>(at: ReadPoint<'a>) -> Result<(u8, ReadPoint<'a>), Fault>
     Ok((no_more(255, n), at))
 }
 
-/// A size that a `u64` holds, or 0.
-fn size_of(n: Option<u128>) -> u64
-    ensures { result ≡ tokens.size_of n }
+/// A number of any size.
+#[tactic(auto, using(crate::proofs::Numerals::numeral_is))]
+pub fn any_number<'a>(alloc: Global, at: ReadPoint<'a>) -> Result<(Numeral, ReadPoint<'a>), Fault>
+    ensures { Gives (λ x. (x.0, place_of x.1)) result (tokens.any_number_at (place_of at.entry)) }
 {
-    match n {
-        Some(n) if n < 18_446_744_073_709_551_616 => n as u64,
-        _ => 0,
-    }
-}
-
-/// A size of a memory: 0 stands for one that no `u64` holds.
-pub fn size<'a>(at: ReadPoint<'a>) -> Result<(u64, ReadPoint<'a>), Fault>
-    ensures { Gives (λ x. (x.0, place_of x.1)) result (tokens.size_at (place_of at.entry)) }
-{
-    let (n, at) = number(10, at)?;
-    Ok((size_of(n), at))
-}
-
-/// A number that is one less than the length of an array.
-pub fn length<'a>(at: ReadPoint<'a>) -> Result<(u64, ReadPoint<'a>), Fault>
-    ensures { Gives (λ x. (x.0, place_of x.1)) result (length_at (place_of at.entry)) }
-{
-    let (n, at) = number(10, at)?;
-    match n {
-        Some(n) => {
-            if n < 18_446_744_073_709_551_615 {
-                Ok((n as u64 + 1, at))
-            } else {
-                Ok((u64::MAX, overlimit(at)))
-            }
-        }
-        None => Ok((u64::MAX, overlimit(at))),
-    }
+    let (digits, at) = digits(10, at)?;
+    Ok((Numeral::new(alloc, digits)?, at))
 }
 
 /// A width and the space after it, as `[7:0] `.
@@ -289,9 +259,6 @@ pub fn is_part(at: ReadPoint) -> bool
     ensures { result ≡ is_part (place_of at.entry) }
 {
     let (digits, rest) = span(10, at.rest);
-    let behind = ReadPoint {
-        rest,
-        notes: at.notes,
-    };
+    let behind = ReadPoint { rest };
     is_numeral(digits) && begins(behind, b":")
 }

@@ -1,16 +1,15 @@
 //! Where reading stands in a text.
 
 ghost use Rattle.std.specs.Prelude.{◌≡◌, MatchOption, option_map};
-ghost use Rattle.cx_vread_exprs.specs.Places.{after, begins, unfit};
+ghost use Rattle.cx_vread_exprs.specs.Places.{after, begins};
 ghost use Rattle.cx_vread_exprs.specs.Answers.{Gives, place_of};
 
-use crate::faults::{Fault, Notes};
+use crate::faults::Fault;
 
-/// A place in a text: the bytes that are left there, and what was noted before.
+/// A place in a text: the bytes that are left there.
 #[derive(Clone, Copy, Debug)]
 pub struct ReadPoint<'a> {
     pub rest: &'a [u8],
-    pub notes: Notes,
 }
 
 /// Goes on past a fixed text where it stands here.
@@ -20,10 +19,7 @@ pub fn after<'a>(at: ReadPoint<'a>, want: &[u8]) -> Option<ReadPoint<'a>>
 {
     match at.rest.strip_prefix(want) {
         None => None,
-        Some(rest) => Some(ReadPoint {
-            rest,
-            notes: at.notes,
-        }),
+        Some(rest) => Some(ReadPoint { rest }),
     }
 }
 
@@ -57,14 +53,4 @@ pub fn begins(at: ReadPoint, want: &[u8]) -> bool
     ensures { result ≡ begins want.now (place_of at.entry) }
 {
     after(at, want).is_some()
-}
-
-/// Notes a part that breaks a limit.
-pub fn overlimit(at: ReadPoint) -> ReadPoint
-    ensures { place_of result ≡ unfit (place_of at.entry) }
-{
-    ReadPoint {
-        rest: at.rest,
-        notes: at.notes.with_limit(at.rest.len()),
-    }
 }

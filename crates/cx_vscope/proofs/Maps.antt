@@ -1,22 +1,22 @@
 -- One more name in a map or a set.
-use Rattle.std.proofs.Common.{◌≡◌, ℕ, ◌+◌, ◌<◌, suc, Bool, true, false, ◌||◌, cond, if◌then◌else◌, List, [], ◌∷◌, ◌++◌, map, drop, get_or, length, Option, Some, None, unwrap_or, Ordering, refl, ap, sym, ◌∙◌, drop-cons, add-one}
+use Rattle.std.proofs.Common.{◌≡◌, ℕ, ◌+◌, ◌<◌, suc, Bool, true, false, ◌||◌, cond, if◌then◌else◌, List, [], ◌∷◌, ◌++◌, map, drop, get_or, length, Option, Some, unwrap_or, Ordering, refl, ap, sym, ◌∙◌, drop-cons, add-one}
 use Rattle.std.specs.BTreeMap as tree
-use Rattle.std.specs.BTreeMap.{BTreeMap, is_at}
+use Rattle.std.specs.BTreeMap.{BTreeMap}
 use Rattle.std.specs.BTreeSet as sorted
 use Rattle.std.specs.BTreeSet.{BTreeSet}
 use Rattle.std.specs.Cmp.Lexicographic.{slice_cmp}
-use Rattle.std.specs.List.{list_any}
-use Rattle.std.specs.Ordering.{nat_cmp, is_eq}
+use Rattle.std.specs.Ordering.{nat_cmp}
 use Rattle.std.proofs.lemmas.List.Folds.{list_any-append}
 use Rattle.std.proofs.lemmas.Map.Text.{btree_map_updates_str, is_eq-slice_cmp}
 use denote.Ref.{Bor}
 use Rattle.cx_vtree.specs.declared.meanings.Meaning.{Meaning}
 use Rattle.cx_vtree.specs.declared.meanings.Meaning.TheVariants.{Nothing}
-use Rattle.cx_vtree.specs.declared.modules.Decl.{Decl}
+use Rattle.cx_vscope.specs.declared.drafts.DraftDecl.{DraftDecl}
 use Rattle.cx_vtree.specs.declared.modules.ModulePort.{ModulePort}
 use Rattle.cx_vtree.specs.InstanceTree.{same_name}
 use Rattle.cx_vtree.specs.Plain.{PlainDecl}
-use Rattle.cx_vtree.specs.PlainParts.{plain_port, plain_decl}
+use Rattle.cx_vtree.specs.PlainParts.{plain_port}
+use Rattle.cx_vscope.specs.Drafts.{draft_decl}
 use Rattle.cx_vtree.specs.Sound.{Scope, has_name, decl_name, decl_meaning, port_meaning, meant_decl, meant_in}
 use Rattle.cx_vscope.specs.Scopes.{meant_by, HasAll}
 
@@ -48,16 +48,16 @@ put m n key v up rest had q =
     ap (λ o. unwrap_or o Nothing) (btree_map_updates_str key.now m n (Some v) up q)
     ∙ chosen (same_name key.now q) v (tree.get_by (λ k. slice_cmp nat_cmp q k.now) m) (rest q) (had q)
 
-pub decl_put : (m n : BTreeMap (Bor (List ℕ)) Meaning) (key : Bor (List ℕ)) (v : Meaning) (ds : List Decl) (i : ℕ) (d : Decl)
-    → tree.Updates by_bytes m n key (Some v) → key.now ≡ decl_name (plain_decl d) → v ≡ decl_meaning (plain_decl d) → i < length ds → d ≡ get_or ds i d
-    → ((q : List ℕ) → meant_by m q ≡ meant_decl (map plain_decl (drop (i + 1) ds)) q) → (q : List ℕ) → meant_by n q ≡ meant_decl (map plain_decl (drop i ds)) q
+pub decl_put : (m n : BTreeMap (Bor (List ℕ)) Meaning) (key : Bor (List ℕ)) (v : Meaning) (ds : List DraftDecl) (i : ℕ) (d : DraftDecl)
+    → tree.Updates by_bytes m n key (Some v) → key.now ≡ decl_name (draft_decl d) → v ≡ decl_meaning (draft_decl d) → i < length ds → d ≡ get_or ds i d
+    → ((q : List ℕ) → meant_by m q ≡ meant_decl (map draft_decl (drop (i + 1) ds)) q) → (q : List ℕ) → meant_by n q ≡ meant_decl (map draft_decl (drop i ds)) q
 decl_put m n key v ds i d up is_key is_v lt at had q =
-    put m n key v up (meant_decl (map plain_decl (drop (i + 1) ds))) had q
-    ∙ ap (λ x. if same_name x q then v else meant_decl (map plain_decl (drop (i + 1) ds)) q) is_key
-    ∙ ap (λ x. if same_name (decl_name (plain_decl d)) q then x else meant_decl (map plain_decl (drop (i + 1) ds)) q) is_v
-    ∙ ap (λ xs. if same_name (decl_name (plain_decl d)) q then decl_meaning (plain_decl d) else meant_decl (map plain_decl xs) q) (ap (λ k. drop k ds) (add-one i))
-    ∙ ap (λ x. meant_decl (map plain_decl (x ∷ drop (suc i) ds)) q) at
-    ∙ ap (λ xs. meant_decl (map plain_decl xs) q) (sym (drop-cons ds i d lt))
+    put m n key v up (meant_decl (map draft_decl (drop (i + 1) ds))) had q
+    ∙ ap (λ x. if same_name x q then v else meant_decl (map draft_decl (drop (i + 1) ds)) q) is_key
+    ∙ ap (λ x. if same_name (decl_name (draft_decl d)) q then x else meant_decl (map draft_decl (drop (i + 1) ds)) q) is_v
+    ∙ ap (λ xs. if same_name (decl_name (draft_decl d)) q then decl_meaning (draft_decl d) else meant_decl (map draft_decl xs) q) (ap (λ k. drop k ds) (add-one i))
+    ∙ ap (λ x. meant_decl (map draft_decl (x ∷ drop (suc i) ds)) q) at
+    ∙ ap (λ xs. meant_decl (map draft_decl xs) q) (sym (drop-cons ds i d lt))
 
 pub port_put : (m n : BTreeMap (Bor (List ℕ)) Meaning) (key : Bor (List ℕ)) (v : Meaning) (ps : List ModulePort) (ds : List PlainDecl) (i : ℕ) (p : ModulePort)
     → tree.Updates by_bytes m n key (Some v) → key.now ≡ p.name → v ≡ port_meaning (plain_port p) → i < length ps → p ≡ get_or ps i p

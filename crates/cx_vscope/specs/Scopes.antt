@@ -9,13 +9,14 @@ use Rattle.std.specs.Ordering.{nat_cmp}
 use denote.Ref.{Bor}
 use Rattle.cx_vtree.specs.declared.meanings.Meaning.{Meaning}
 use Rattle.cx_vtree.specs.declared.meanings.Meaning.TheVariants.{Nothing}
-use Rattle.cx_vtree.specs.declared.modules.Module.{Module}
-use Rattle.cx_vtree.specs.PlainParts.{plain_port, plain_decl}
+use Rattle.cx_vtree.specs.PlainParts.{plain_port}
+use Rattle.cx_vscope.specs.declared.drafts.DraftModule.{DraftModule}
+use Rattle.cx_vscope.specs.Drafts.{draft_decl}
 use Rattle.cx_vtree.specs.Sound.{Scope, meant_in, has_name}
 
 -- what each name stands for in a module
-abbrev pub scope_of : Module → Scope
-scope_of m = meant_in (map plain_port m.ports.items) (map plain_decl m.decls.items)
+abbrev pub scope_of : DraftModule → Scope
+scope_of m = meant_in (map plain_port m.ports.items) (map draft_decl m.decls.items)
 
 -- no name stands for anything
 abbrev pub nothing_meant : Scope

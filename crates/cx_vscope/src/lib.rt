@@ -1,12 +1,15 @@
 //! What the names of a Verilog module stand for, the rules on expressions, and the trees that some text spells.
 #![tactic(auto)]
 
+mod drafts;
 mod exprs;
 mod layout;
 mod meanings;
 mod names;
+mod numerals;
 mod scopes;
 
+pub use drafts::{DraftDecl, DraftExternal, DraftModule};
 pub use exprs::{
     applied_width, chosen_width, fitting_width, has_width, joined_width, misnames, too_deep,
 };
@@ -15,4 +18,5 @@ pub use meanings::{
     decl_name, is_array, is_driven, is_register, is_source, is_wire, same, width_of,
 };
 pub use names::Names;
+pub use numerals::Numeral;
 pub use scopes::ModuleScope;

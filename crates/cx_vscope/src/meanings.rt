@@ -2,11 +2,13 @@
 
 ghost use Rattle.std.specs.Prelude.{◌≡◌};
 ghost use Rattle.cx_vtree.specs.InstanceTree.{same_name};
-ghost use Rattle.cx_vtree.specs.PlainParts.{plain_port, plain_decl};
+ghost use Rattle.cx_vtree.specs.PlainParts.{plain_port};
+ghost use Rattle.cx_vscope.specs.Drafts.{draft_decl};
 ghost use Rattle.cx_vtree.specs.Sound as sound;
 
+use crate::drafts::DraftDecl;
 use cx_text::Name;
-use cx_vtree::{Decl, Meaning, ModulePort};
+use cx_vtree::{Meaning, ModulePort};
 
 /// Whether two names are one.
 pub fn same(a: &Name, b: &Name) -> bool
@@ -16,24 +18,24 @@ pub fn same(a: &Name, b: &Name) -> bool
 }
 
 /// The name that a declaration makes.
-pub fn decl_name(d: &Decl) -> &Name
-    ensures { result.now ≡ sound.decl_name (plain_decl d.now) }
+pub fn decl_name(d: &DraftDecl) -> &Name
+    ensures { result.now ≡ sound.decl_name (draft_decl d.now) }
 {
     match d {
-        Decl::Wire { name, .. } => name,
-        Decl::Register { name, .. } => name,
-        Decl::Array { name, .. } => name,
+        DraftDecl::Wire { name, .. } => name,
+        DraftDecl::Register { name, .. } => name,
+        DraftDecl::Array { name, .. } => name,
     }
 }
 
 /// What a declaration makes its name stand for.
-pub fn decl_meaning(d: &Decl) -> Meaning
-    ensures { result ≡ sound.decl_meaning (plain_decl d.now) }
+pub fn decl_meaning(d: &DraftDecl) -> Meaning
+    ensures { result ≡ sound.decl_meaning (draft_decl d.now) }
 {
     match d {
-        Decl::Wire { width, .. } => Meaning::Wire(*width),
-        Decl::Register { width, .. } => Meaning::Register(*width),
-        Decl::Array { width, .. } => Meaning::Array(*width),
+        DraftDecl::Wire { width, .. } => Meaning::Wire(*width),
+        DraftDecl::Register { width, .. } => Meaning::Register(*width),
+        DraftDecl::Array { width, .. } => Meaning::Array(*width),
     }
 }
 

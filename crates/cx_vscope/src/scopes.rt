@@ -1,14 +1,16 @@
 //! What the names of a module stand for.
 
 ghost use Rattle.std.specs.Prelude.{◌≡◌, IfOk, [], map, List, ℕ, OnOk};
-ghost use Rattle.cx_vtree.specs.PlainParts.{plain_port, plain_decl};
+ghost use Rattle.cx_vtree.specs.PlainParts.{plain_port};
+ghost use Rattle.cx_vscope.specs.Drafts.{draft_decl};
 ghost use Rattle.cx_vtree.specs.Sound as sound;
 ghost use Rattle.cx_vscope.specs.Scopes.{meant_by, nothing_meant, scope_of};
 ghost use Rattle.cx_vscope.specs.ScopeValues.{scope_by};
 
+use crate::drafts::{DraftDecl, DraftModule};
 use crate::meanings::{decl_meaning, decl_name, port_meaning};
 use cx_text::{Memory, Name};
-use cx_vtree::{Decl, Meaning, Module, ModulePort};
+use cx_vtree::{Meaning, ModulePort};
 use std::alloc::Global;
 use std::collections::BTreeMap;
 
@@ -21,10 +23,10 @@ pub struct ModuleScope<'a> {
 /// Adds declarations, the last one first, so that the first one of a name decides.
 fn add_decls<'a>(
     meanings: &mut BTreeMap<&'a [u8], Meaning>,
-    decls: &'a [Decl],
+    decls: &'a [DraftDecl],
 ) -> Result<(), Memory>
     requires { (name : List ℕ) → meant_by meanings.old name ≡ sound.meant_decl [] name }
-    ensures { OnOk result ((name : List ℕ) → meant_by meanings.new name ≡ sound.meant_decl (map plain_decl decls.now) name) }
+    ensures { OnOk result ((name : List ℕ) → meant_by meanings.new name ≡ sound.meant_decl (map draft_decl decls.now) name) }
 {
     let mut i = decls.len();
     while i > 0 {
@@ -39,10 +41,10 @@ fn add_decls<'a>(
 fn add_ports<'a>(
     meanings: &mut BTreeMap<&'a [u8], Meaning>,
     ports: &'a [ModulePort],
-    decls: &[Decl],
+    decls: &[DraftDecl],
 ) -> Result<(), Memory>
-    requires { (name : List ℕ) → meant_by meanings.old name ≡ sound.meant_decl (map plain_decl decls.now) name }
-    ensures { OnOk result ((name : List ℕ) → meant_by meanings.new name ≡ sound.meant_in (map plain_port ports.now) (map plain_decl decls.now) name) }
+    requires { (name : List ℕ) → meant_by meanings.old name ≡ sound.meant_decl (map draft_decl decls.now) name }
+    ensures { OnOk result ((name : List ℕ) → meant_by meanings.new name ≡ sound.meant_in (map plain_port ports.now) (map draft_decl decls.now) name) }
 {
     let mut i = ports.len();
     while i > 0 {
@@ -64,7 +66,7 @@ impl<'a> ModuleScope<'a> {
     }
 
     /// The scope of a module.
-    pub fn new(alloc: Global, m: &'a Module) -> Result<ModuleScope<'a>, Memory>
+    pub fn new(alloc: Global, m: &'a DraftModule) -> Result<ModuleScope<'a>, Memory>
         ensures { IfOk result (λ scope. scope_by scope ≡ scope_of m.now) }
     {
         let mut meanings = BTreeMap::new(alloc);

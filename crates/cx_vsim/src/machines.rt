@@ -38,7 +38,7 @@ fn bench(alloc: Global, stored: &Stored, stores: usize) -> Result<Bench, Memory>
     let count = stored.nets.len();
     let marks = vec![in alloc; NetMark::Unseen; count]?;
     let values = Vec::from_slice(alloc, &stored.nets)?;
-    let stale = vec![in alloc; true; count]?;
+    let stale = vec![in alloc; 1; count]?;
     let stack = vec![in alloc; 0; count]?;
     let writes = vec![in alloc; None; stores]?;
     Ok(Bench {

@@ -2,3 +2,4 @@ pub mod Overs
 pub mod Tests
 pub mod Memories
 pub mod ModuleSteps
+pub mod Limbs

@@ -1,7 +1,7 @@
 -- A search over lists of lines.
 use Rattle.std.proofs.Common.{append_assoc, map, ◌≡◌, ℕ, ◌+◌, min, List, [], ◌∷◌, ◌++◌, Bool, true, false, Option, Some, None, option_map, refl, ap, sym, ◌∙◌, arith}
 use Rattle.cx_vtree.specs.Plain.{PlainPort, PlainDecl, PlainAssign, PlainInstance, PlainEdge, PlainModule}
-use Rattle.cx_vtree.specs.Sound.{Counts, Scope, meant_in, decl_name, drivers_in, no_faults, module_faults, ports_faults, decls_faults, assigns_faults, instances_faults, edge_faults, lines_faults, Faults, Break, NameAt, WidthAt, LimitAt, break_at, first_break}
+use Rattle.cx_vtree.specs.Sound.{Counts, Scope, meant_in, decl_name, drivers_in, no_faults, module_faults, ports_faults, decls_faults, assigns_faults, instances_faults, edge_faults, lines_faults, Faults, break_at, first_break}
 use Rattle.cx_vsound.specs.declared.search.Break as told
 use Rattle.cx_vsound.specs.declared.search.Break.TheVariants as breaks
 use Rattle.cx_vsound.specs.declared.search.Search.{Search}

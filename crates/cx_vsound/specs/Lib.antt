@@ -1,3 +1,4 @@
 pub mod Search
 pub mod Parts
 pub mod Arrays
+pub mod Limbs

@@ -1,8 +1,6 @@
 -- What the checks speak of, for the Rust types.
-use Rattle.std.specs.Prelude.{ℕ, List, [], ◌∷◌, ◌++◌, Bool, false, ◌||◌, is_none, map}
-use Rattle.cx_vtree.specs.declared.modules.Module.{Module}
-use Rattle.cx_vtree.specs.PlainParts.{plain_port, plain_decl}
-use Rattle.cx_vtree.specs.Plain.{PlainInstance, PlainModule}
+use Rattle.std.specs.Prelude.{ℕ, nat_lt, List, [], ◌∷◌, ◌++◌, Bool, false, ◌||◌, is_none, map}
+use Rattle.cx_vtree.specs.Plain.{PlainExternal, PlainInstance, PlainModule}
 use Rattle.cx_vtree.specs.Sound.{Scope, meant_in, Counts, Faults, no_faults, has_name, module_named, misconnects, misfits, ports_of, drivers_in, decl_name, module_faults, ports_faults, decls_faults, assigns_faults, instances_faults, edge_faults}
 use Rattle.cx_vsound.specs.declared.counts.Sums.{Sums}
 
@@ -14,6 +12,14 @@ abbrev pub instance_faults_by : Bool → List PlainModule → Scope → List (Li
 instance_faults_by doubled before scope earlier i = record {
   name = has_name earlier i.name || is_none (module_named before i.kind) || misconnects scope (ports_of before i.kind) i.conns || doubled;
   width = misfits scope (ports_of before i.kind) i.conns;
+  limit = false;
+}
+
+-- the faults of an external memory, where it is known whether its length or its width is another's
+abbrev pub external_faults_by : Bool → Bool → List (List ℕ) → List (List ℕ) → PlainExternal → Faults
+external_faults_by other_length other_width names instances e = record {
+  name = has_name names e.name || has_name instances e.instance || other_length;
+  width = nat_lt 64 e.width || other_width;
   limit = false;
 }
 

@@ -1,13 +1,14 @@
 //! Nets, instances and words over the tree of a module.
 
-ghost use Rattle.std.specs.Prelude.{◌≡◌, map};
-ghost use Rattle.cx_vtree.specs.PlainParts.{plain_decl, plain_instance, plain_module, plain_modules};
+ghost use Rattle.std.specs.Prelude.{◌≡◌, ◌^◌, ◌-◌, suc, min, map};
+ghost use Rattle.cx_vtree.specs.PlainParts.{plain_instance};
+ghost use Rattle.cx_vscope.specs.Drafts.{draft_decl, draft_module, draft_modules};
 ghost use Rattle.cx_vtree.specs.Sound as sound;
 ghost use Rattle.cx_vsound.specs.Parts.{counts_in};
 
 use cx_text::{MEMORY_WORDS, Name, VERILOG_INSTANCES, VERILOG_NETS};
-use cx_vscope::same;
-use cx_vtree::{Decl, Instance, Module};
+use cx_vscope::{DraftDecl, DraftModule, Numeral, same};
+use cx_vtree::Instance;
 
 /// Counts over a tree of instances. They stop at 2^64 - 1.
 #[derive(Clone, Copy, Debug, PartialEq, Eq)]
@@ -27,36 +28,49 @@ fn sum(a: Sums, b: Sums) -> Sums
     }
 }
 
-fn decl_counts(d: &Decl) -> Sums
-    ensures { counts_in result ≡ sound.decl_counts (plain_decl d.now) }
+/// The words of an array, or 2^64 - 1 where there are more.
+fn words_to(last: &Numeral) -> u64
+    ensures { result ≡ min (suc last.now) (2 ^ 64 - 1) }
 {
-    match d {
-        Decl::Wire { .. } | Decl::Register { .. } => Sums {
+    match last.small() {
+        None => u64::MAX,
+        Some(last) => last.saturating_add(1),
+    }
+}
+
+/// With the counts of a declaration.
+#[tactic(auto, using(crate::proofs::Memories::sum_capped))]
+fn with_decl(sums: Sums, d: &DraftDecl) -> Sums
+    ensures { counts_in result ≡ sound.sum_counts (counts_in sums) (sound.decl_counts (draft_decl d.now)) }
+{
+    let own = match d {
+        DraftDecl::Wire { .. } | DraftDecl::Register { .. } => Sums {
             nets: 1,
             instances: 0,
             words: 0,
         },
-        Decl::Array { length, .. } => Sums {
+        DraftDecl::Array { last, .. } => Sums {
             nets: 0,
             instances: 0,
-            words: *length,
+            words: words_to(last),
         },
-    }
+    };
+    sum(sums, own)
 }
 
-fn decls_counts(start: Sums, decls: &[Decl]) -> Sums
-    ensures { counts_in result ≡ sound.decls_counts (counts_in start) (map plain_decl decls.now) }
+fn decls_counts(start: Sums, decls: &[DraftDecl]) -> Sums
+    ensures { counts_in result ≡ sound.decls_counts (counts_in start) (map draft_decl decls.now) }
 {
     let mut sums = start;
     for d in decls {
-        sums = sum(sums, decl_counts(d));
+        sums = with_decl(sums, d);
     }
     sums
 }
 
 /// The counts of the module of a name, among those before.
-fn counts_named(before: &[Module], counts: &[Sums], name: &Name) -> Sums
-    ensures { counts_in result ≡ sound.counts_named (plain_modules before.now) (map counts_in counts.now) name.now }
+fn counts_named(before: &[DraftModule], counts: &[Sums], name: &Name) -> Sums
+    ensures { counts_in result ≡ sound.counts_named (draft_modules before.now) (map counts_in counts.now) name.now }
 {
     let mut modules = before;
     let mut counts = counts;
@@ -77,8 +91,13 @@ fn counts_named(before: &[Module], counts: &[Sums], name: &Name) -> Sums
     }
 }
 
-fn instances_counts(before: &[Module], counts: &[Sums], start: Sums, instances: &[Instance]) -> Sums
-    ensures { counts_in result ≡ sound.instances_counts (plain_modules before.now) (map counts_in counts.now) (counts_in start) (map plain_instance instances.now) }
+fn instances_counts(
+    before: &[DraftModule],
+    counts: &[Sums],
+    start: Sums,
+    instances: &[Instance],
+) -> Sums
+    ensures { counts_in result ≡ sound.instances_counts (draft_modules before.now) (map counts_in counts.now) (counts_in start) (map plain_instance instances.now) }
 {
     let mut sums = start;
     for i in instances {
@@ -88,8 +107,8 @@ fn instances_counts(before: &[Module], counts: &[Sums], start: Sums, instances: 
 }
 
 /// The counts of a module, with those of its instances.
-pub fn module_counts(before: &[Module], counts: &[Sums], m: &Module) -> Sums
-    ensures { counts_in result ≡ sound.module_counts (plain_modules before.now) (map counts_in counts.now) (plain_module m.now) }
+pub fn module_counts(before: &[DraftModule], counts: &[Sums], m: &DraftModule) -> Sums
+    ensures { counts_in result ≡ sound.module_counts (draft_modules before.now) (map counts_in counts.now) (draft_module m.now) }
 {
     let own = Sums {
         nets: m.ports.len() as u64,

@@ -1,7 +1,8 @@
 //! The rules on instances.
 
 ghost use Rattle.std.specs.Prelude.{◌≡◌, [], ◌∷◌, ◌++◌, map, IfOk, OnOk};
-ghost use Rattle.cx_vtree.specs.PlainParts.{plain_port, plain_conn, plain_instance, plain_modules};
+ghost use Rattle.cx_vtree.specs.PlainParts.{plain_port, plain_conn, plain_instance};
+ghost use Rattle.cx_vscope.specs.Drafts.{draft_modules};
 ghost use Rattle.cx_vtree.specs.Sound as sound;
 ghost use Rattle.cx_vscope.specs.ScopeValues.{scope_by};
 ghost use Rattle.cx_vsound.specs.Parts.{instance_faults_by};
@@ -10,8 +11,8 @@ ghost use Rattle.cx_vsound.specs.Search.{faults_in, noted, over};
 use crate::nets::{add_driven, module_named, ports_of};
 use crate::search::{LineFaults, Search, after};
 use cx_text::Memory;
-use cx_vscope::{ModuleScope, Names, is_source, is_wire, same, width_of};
-use cx_vtree::{Conn, Instance, Module, ModulePort};
+use cx_vscope::{DraftModule, ModuleScope, Names, is_source, is_wire, same, width_of};
+use cx_vtree::{Conn, Instance, ModulePort};
 
 /// Whether a port is connected to a net that it may not be connected to, or another port stands in its place.
 fn miswired(scope: &ModuleScope, p: &ModulePort, c: &Conn) -> bool
@@ -67,13 +68,13 @@ fn misfits(scope: &ModuleScope, ports: &[ModulePort], conns: &[Conn]) -> bool
 }
 
 fn instance_faults(
-    before: &[Module],
+    before: &[DraftModule],
     scope: &ModuleScope,
     earlier: &Names,
     doubled: bool,
     i: &Instance,
 ) -> LineFaults
-    ensures { faults_in result ≡ instance_faults_by doubled (plain_modules before.now) (scope_by scope.now) earlier.now (plain_instance i.now) }
+    ensures { faults_in result ≡ instance_faults_by doubled (draft_modules before.now) (scope_by scope.now) earlier.now (plain_instance i.now) }
 {
     let ports = ports_of(before, &i.module);
     LineFaults {
@@ -89,15 +90,15 @@ fn instance_faults(
 /// Goes on past the line of an instance. `earlier` has the names before, and `driven` the nets that are driven before.
 fn instance<'a>(
     search: Search,
-    before: &[Module],
+    before: &[DraftModule],
     scope: &ModuleScope,
     earlier: &mut Names<'a>,
     driven: &mut Names<'a>,
     i: &'a Instance,
 ) -> Result<Search, Memory>
-    ensures value { IfOk result (λ s. s ≡ noted search (sound.instance_faults (plain_modules before.now) (scope_by scope.now) earlier.old driven.old (plain_instance i.now))) }
+    ensures value { IfOk result (λ s. s ≡ noted search (sound.instance_faults (draft_modules before.now) (scope_by scope.now) earlier.old driven.old (plain_instance i.now))) }
     ensures names { OnOk result (earlier.new ≡ earlier.old ++ i.now.name ∷ []) }
-    ensures driven { OnOk result (driven.new ≡ driven.old ++ sound.driven_by (sound.ports_of (plain_modules before.now) i.now.module) (map plain_conn i.now.conns.items)) }
+    ensures driven { OnOk result (driven.new ≡ driven.old ++ sound.driven_by (sound.ports_of (draft_modules before.now) i.now.module) (map plain_conn i.now.conns.items)) }
 {
     let doubled = add_driven(driven, ports_of(before, &i.module), &i.conns)?;
     let search = after(search, instance_faults(before, scope, earlier, doubled, i));
@@ -108,13 +109,13 @@ fn instance<'a>(
 /// Goes on past the lines of instances.
 pub fn instances<'a>(
     search: Search,
-    before: &[Module],
+    before: &[DraftModule],
     scope: &ModuleScope,
     earlier: &mut Names<'a>,
     driven: &mut Names<'a>,
     instances: &'a [Instance],
 ) -> Result<Search, Memory>
-    ensures { IfOk result (λ s. s ≡ over search (sound.instances_faults (plain_modules before.now) (scope_by scope.now) earlier.old driven.old (map plain_instance instances.now))) }
+    ensures { IfOk result (λ s. s ≡ over search (sound.instances_faults (draft_modules before.now) (scope_by scope.now) earlier.old driven.old (map plain_instance instances.now))) }
 {
     let mut search = search;
     for i in instances {

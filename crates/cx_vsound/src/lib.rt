@@ -9,6 +9,7 @@ mod instances;
 mod modules;
 mod nets;
 mod parts;
+mod products;
 mod search;
 
 pub use checking::check;

@@ -1,7 +1,8 @@
 //! The rules on modules.
 
 ghost use Rattle.std.specs.Prelude.{◌≡◌, [], ◌++◌, map, IfOk, OnOk};
-ghost use Rattle.cx_vtree.specs.PlainParts.{plain_port, plain_decl, plain_assign, plain_module, plain_modules};
+ghost use Rattle.cx_vtree.specs.PlainParts.{plain_port, plain_assign};
+ghost use Rattle.cx_vscope.specs.Drafts.{draft_decl, draft_module, draft_modules};
 ghost use Rattle.cx_vtree.specs.Sound as sound;
 ghost use Rattle.cx_vsound.specs.Parts.{counts_in, signature_faults, body_faults};
 ghost use Rattle.cx_vsound.specs.Search.{faults_in, over};
@@ -13,12 +14,12 @@ use crate::nets::drivers;
 use crate::parts::{assigns, decls, ports};
 use crate::search::{LineFaults, Search, after, clean};
 use cx_text::{Memory, Name};
-use cx_vscope::{ModuleScope, Names, same};
-use cx_vtree::{Module, ModulePort, NetAssign};
+use cx_vscope::{DraftModule, ModuleScope, Names, same};
+use cx_vtree::{ModulePort, NetAssign};
 use std::alloc::Global;
 
-fn module_faults(is_main: bool, before: &[Module], own: Sums, m: &Module) -> LineFaults
-    ensures { faults_in result ≡ sound.module_faults is_main (plain_modules before.now) (counts_in own) (plain_module m.now) }
+fn module_faults(is_main: bool, before: &[DraftModule], own: Sums, m: &DraftModule) -> LineFaults
+    ensures { faults_in result ≡ sound.module_faults is_main (draft_modules before.now) (counts_in own) (draft_module m.now) }
 {
     let fewest = if is_main { 4usize } else { 2usize };
     LineFaults {
@@ -31,8 +32,8 @@ fn module_faults(is_main: bool, before: &[Module], own: Sums, m: &Module) -> Lin
 }
 
 /// Whether a module of this name is among some.
-fn has_module(modules: &[Module], name: &Name) -> bool
-    ensures { result ≡ sound.has_name (map (λ m. m.name) (plain_modules modules.now)) name.now }
+fn has_module(modules: &[DraftModule], name: &Name) -> bool
+    ensures { result ≡ sound.has_name (map (λ m. m.name) (draft_modules modules.now)) name.now }
 {
     for m in modules {
         if same(&m.name, name) {
@@ -69,14 +70,14 @@ fn signature<'a>(
     alloc: Global,
     search: Search,
     is_main: bool,
-    before: &[Module],
+    before: &[DraftModule],
     own: Sums,
     names: &mut Names<'a>,
-    m: &'a Module,
+    m: &'a DraftModule,
 ) -> Result<Search, Memory>
     requires { names.old ≡ map (λ p. p.name) (map plain_port m.now.ports.items) }
-    ensures value { IfOk result (λ s. s ≡ over search (signature_faults is_main (plain_modules before.now) (counts_in own) (plain_module m.now))) }
-    ensures names { OnOk result (names.new ≡ map (λ p. p.name) (map plain_port m.now.ports.items) ++ map sound.decl_name (map plain_decl m.now.decls.items)) }
+    ensures value { IfOk result (λ s. s ≡ over search (signature_faults is_main (draft_modules before.now) (counts_in own) (draft_module m.now))) }
+    ensures names { OnOk result (names.new ≡ map (λ p. p.name) (map plain_port m.now.ports.items) ++ map sound.decl_name (map draft_decl m.now.decls.items)) }
 {
     let driving = drivers(alloc, before, m)?;
     let search = after(search, module_faults(is_main, before, own, m));
@@ -89,12 +90,12 @@ fn signature<'a>(
 fn body<'a>(
     alloc: Global,
     search: Search,
-    before: &[Module],
+    before: &[DraftModule],
     names: &mut Names<'a>,
-    m: &'a Module,
+    m: &'a DraftModule,
 ) -> Result<Search, Memory>
-    requires { names.old ≡ map (λ p. p.name) (map plain_port m.now.ports.items) ++ map sound.decl_name (map plain_decl m.now.decls.items) }
-    ensures { IfOk result (λ s. s ≡ over search (body_faults (plain_modules before.now) (plain_module m.now))) }
+    requires { names.old ≡ map (λ p. p.name) (map plain_port m.now.ports.items) ++ map sound.decl_name (map draft_decl m.now.decls.items) }
+    ensures { IfOk result (λ s. s ≡ over search (body_faults (draft_modules before.now) (draft_module m.now))) }
 {
     let scope = ModuleScope::new(alloc, m)?;
     let search = assigns(alloc, search, &scope, &m.assigns)?;
@@ -109,11 +110,11 @@ fn module_lines(
     alloc: Global,
     search: Search,
     is_main: bool,
-    before: &[Module],
+    before: &[DraftModule],
     own: Sums,
-    m: &Module,
+    m: &DraftModule,
 ) -> Result<Search, Memory>
-    ensures { IfOk result (λ s. s ≡ over search (sound.lines_faults is_main (plain_modules before.now) (counts_in own) (plain_module m.now))) }
+    ensures { IfOk result (λ s. s ≡ over search (sound.lines_faults is_main (draft_modules before.now) (counts_in own) (draft_module m.now))) }
 {
     let mut names = port_names(alloc, &m.ports)?;
     let declared = signature(alloc, search, is_main, before, own, &mut names, m)?;
@@ -122,8 +123,8 @@ fn module_lines(
 }
 
 /// Goes on past the lines of all modules.
-pub fn modules(alloc: Global, search: Search, modules: &[Module]) -> Result<Search, Memory>
-    ensures { IfOk result (λ s. s ≡ over search (sound.modules_faults [] [] (plain_modules modules.now))) }
+pub fn modules(alloc: Global, search: Search, modules: &[DraftModule]) -> Result<Search, Memory>
+    ensures { IfOk result (λ s. s ≡ over search (sound.modules_faults [] [] (draft_modules modules.now))) }
 {
     let mut search = search;
     let mut counts = Vec::new(alloc);

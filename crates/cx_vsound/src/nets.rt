@@ -2,12 +2,13 @@
 
 ghost use Rattle.std.specs.Prelude.{◌≡◌, [], ◌∷◌, ◌++◌, ◌||◌, map, option_map, IfOk, OnOk};
 ghost use Rattle.std.specs.Option.{option_copied};
-ghost use Rattle.cx_vtree.specs.PlainParts.{plain_port, plain_conn, plain_module, plain_modules};
+ghost use Rattle.cx_vtree.specs.PlainParts.{plain_port, plain_conn};
+ghost use Rattle.cx_vscope.specs.Drafts.{draft_module, draft_modules};
 ghost use Rattle.cx_vtree.specs.Sound as sound;
 
 use cx_text::{Memory, Name};
-use cx_vscope::{Names, same};
-use cx_vtree::{Conn, Module, ModulePort};
+use cx_vscope::{DraftModule, Names, same};
+use cx_vtree::{Conn, ModulePort};
 use std::alloc::Global;
 
 /// Whether a module has an output of this name.
@@ -23,8 +24,8 @@ pub fn has_output(ports: &[ModulePort], name: &Name) -> bool
 }
 
 /// The module of a name, among some.
-pub fn module_named<'a>(modules: &'a [Module], name: &Name) -> Option<&'a Module>
-    ensures { option_map plain_module (option_copied result) ≡ sound.module_named (plain_modules modules.now) name.now }
+pub fn module_named<'a>(modules: &'a [DraftModule], name: &Name) -> Option<&'a DraftModule>
+    ensures { option_map draft_module (option_copied result) ≡ sound.module_named (draft_modules modules.now) name.now }
 {
     for m in modules {
         if same(&m.name, name) {
@@ -35,8 +36,8 @@ pub fn module_named<'a>(modules: &'a [Module], name: &Name) -> Option<&'a Module
 }
 
 /// The ports of the module of a name; none where there is no such module.
-pub fn ports_of<'a>(modules: &'a [Module], name: &Name) -> &'a [ModulePort]
-    ensures { map plain_port result.now ≡ sound.ports_of (plain_modules modules.now) name.now }
+pub fn ports_of<'a>(modules: &'a [DraftModule], name: &Name) -> &'a [ModulePort]
+    ensures { map plain_port result.now ≡ sound.ports_of (draft_modules modules.now) name.now }
 {
     match module_named(modules, name) {
         None => &[],
@@ -74,8 +75,12 @@ pub fn add_driven<'a>(
 }
 
 /// The nets that a module drives.
-pub fn drivers<'a>(alloc: Global, before: &[Module], m: &'a Module) -> Result<Names<'a>, Memory>
-    ensures { IfOk result (λ names. names ≡ sound.drivers_in (plain_modules before.now) (plain_module m.now)) }
+pub fn drivers<'a>(
+    alloc: Global,
+    before: &[DraftModule],
+    m: &'a DraftModule,
+) -> Result<Names<'a>, Memory>
+    ensures { IfOk result (λ names. names ≡ sound.drivers_in (draft_modules before.now) (draft_module m.now)) }
 {
     let mut names = Names::new(alloc);
     for a in &m.assigns {

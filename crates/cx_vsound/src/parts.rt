@@ -1,7 +1,8 @@
 //! The rules on ports, declarations and assigns.
 
-ghost use Rattle.std.specs.Prelude.{◌≡◌, ◌^◌, nat_le, [], ◌++◌, map, IfOk, OnOk};
-ghost use Rattle.cx_vtree.specs.PlainParts.{plain_port, plain_decl, plain_assign};
+ghost use Rattle.std.specs.Prelude.{◌≡◌, ◌^◌, suc, nat_le, [], ◌++◌, map, IfOk, OnOk};
+ghost use Rattle.cx_vtree.specs.PlainParts.{plain_port, plain_assign};
+ghost use Rattle.cx_vscope.specs.Drafts.{draft_decl};
 ghost use Rattle.cx_vtree.specs.Sound as sound;
 ghost use Rattle.cx_vscope.specs.ScopeValues.{scope_by};
 ghost use Rattle.cx_vsound.specs.Search.{faults_in, over};
@@ -9,9 +10,10 @@ ghost use Rattle.cx_vsound.specs.Search.{faults_in, over};
 use crate::search::{LineFaults, Search, after};
 use cx_text::{Memory, WIDTH_BITS};
 use cx_vscope::{
-    ModuleScope, Names, decl_name, has_width, is_driven, misnames, too_deep, width_of,
+    DraftDecl, ModuleScope, Names, Numeral, decl_name, has_width, is_driven, misnames, too_deep,
+    width_of,
 };
-use cx_vtree::{Decl, ModulePort, NetAssign};
+use cx_vtree::{ModulePort, NetAssign};
 use std::alloc::Global;
 
 /// Whether a width is not 1 to 128.
@@ -86,36 +88,34 @@ pub fn ports(
     Ok(search)
 }
 
-/// Whether an array has 2^64 words or more, which no `u64` says.
-fn is_too_long(length: u64) -> bool
-    ensures { result ≡ nat_le (2 ^ 64) length }
+/// Whether an array has 2^64 words or more.
+fn is_too_long(last: &Numeral) -> bool
+    ensures { result ≡ nat_le (2 ^ 64) (suc last.now) }
 {
-    let _words = length;
-    false
+    match last.small() {
+        None => true,
+        Some(last) => last == u64::MAX,
+    }
 }
 
-fn decl_faults(drivers: &Names, earlier: &Names, d: &Decl) -> LineFaults
-    ensures { faults_in result ≡ sound.decl_faults drivers.now earlier.now (plain_decl d.now) }
+fn decl_faults(drivers: &Names, earlier: &Names, d: &DraftDecl) -> LineFaults
+    ensures { faults_in result ≡ sound.decl_faults drivers.now earlier.now (draft_decl d.now) }
 {
     match d {
-        Decl::Wire { name, width } => LineFaults {
+        DraftDecl::Wire { name, width } => LineFaults {
             name: earlier.has(name) || !drivers.has(name),
             width: bad_width(*width),
             limit: false,
         },
-        Decl::Register { name, width } => LineFaults {
+        DraftDecl::Register { name, width } => LineFaults {
             name: earlier.has(name),
             width: bad_width(*width),
             limit: false,
         },
-        Decl::Array {
-            name,
-            width,
-            length,
-        } => LineFaults {
+        DraftDecl::Array { name, width, last } => LineFaults {
             name: earlier.has(name),
             width: bad_width(*width),
-            limit: is_too_long(*length),
+            limit: is_too_long(last),
         },
     }
 }
@@ -125,10 +125,10 @@ pub fn decls<'a>(
     search: Search,
     drivers: &Names,
     earlier: &mut Names<'a>,
-    decls: &'a [Decl],
+    decls: &'a [DraftDecl],
 ) -> Result<Search, Memory>
-    ensures value { IfOk result (λ s. s ≡ over search (sound.decls_faults drivers.now earlier.old (map plain_decl decls.now))) }
-    ensures names { OnOk result (earlier.new ≡ earlier.old ++ map sound.decl_name (map plain_decl decls.now)) }
+    ensures value { IfOk result (λ s. s ≡ over search (sound.decls_faults drivers.now earlier.old (map draft_decl decls.now))) }
+    ensures names { OnOk result (earlier.new ≡ earlier.old ++ map sound.decl_name (map draft_decl decls.now)) }
 {
     let mut search = search;
     for d in decls {

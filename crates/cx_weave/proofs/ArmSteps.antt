@@ -1,69 +1,63 @@
--- The arm of a par in which a leaf is.
-use Rattle.std.proofs.Common.{◌≡◌, ℕ, zero, suc, ◌+◌, ◌-◌, ◌^◌, ◌≤◌, ◌<◌, List, [], ◌∷◌, length, get_or, drop, map, refl, sym, ap, ◌∙◌, subst, arith}
-use Rattle.std.proofs.Math.Seq.{drop-cons}
-use Rattle.std.proofs.Math.ListN.{drop_of_length-le}
-use Rattle.cx_limits.specs.Capped.{capped}
-use Rattle.cx_weave.specs.declared.strands.Strand.{Strand}
-use Rattle.cx_meaning.specs.Designs.{PlainDesign}
-use Rattle.cx_weave.specs.Open.{Opens}
-use Rattle.cx_weave.specs.Strands.{APar, plain_strand, strand_leaves, strands_leaves, strands_of, IsArmOf, IsShown, Shows, ShowsAll}
+-- Some arms of a par beside others.
+use Rattle.std.proofs.Common.{◌≡◌, ℕ, ◌+◌, ◌-◌, ◌≤◌, ◌<◌, ⊎_elim, Bool, true, false, nat_lt, Option, Some, None, refl, sym, ap, ◌∙◌, arith}
+use Rattle.std.proofs.lemmas.Bool.{cases_lt, lt-ltb, le-ltb}
+use Rattle.cx_meaning.specs.Designs.{PlainStatement}
+use Rattle.cx_meaning.specs.Instances.{Instance, State}
+use Rattle.cx_meaning.specs.Sights.{Held}
+use Rattle.cx_weave.specs.Open.{Open, Opens, no_arms, an_arm, beside, leaves_of, leaves_of_all}
+use Rattle.cx_weave.specs.Steps.{Stepped, Now, Stops, step, step_arms, within, arms_left, first_or}
 
--- the leaf is so far behind the arms that were passed
-pub record FoundSoFar (arms : List Strand) (k j leaf : ℕ) : Type 0 where
-  pub later : (at rest : ℕ) → IsArmOf (map plain_strand (drop j arms)) leaf at rest → IsArmOf (map plain_strand arms) k (j + at) rest
-  pub within : leaf < strands_leaves (strands_of (map plain_strand (drop j arms)))
+pub leaves_beside : (front back : Opens) → leaves_of_all (beside front back) ≡ leaves_of_all front + leaves_of_all back
+leaves_beside no_arms back = omega arith
+leaves_beside (an_arm st arm arms) back = (let h = leaves_beside arms back in omega (arith, h))
 
-pub find_starts : (arms : List Strand) (k : ℕ) → k < strands_leaves (strands_of (map plain_strand arms)) → FoundSoFar arms k 0 k
-find_starts arms k less = record { later = λ at rest is. subst (λ m. IsArmOf (map plain_strand arms) k m rest) (let e : at ≡ 0 + at = omega arith in e) is; within = less }
+pub chosen : {A : Type 0} (b : Bool) (x y : A) → b ≡ true → first_or b x y ≡ x
+chosen true x y e = refl
+chosen false x y e = absurd (let f : false ≡ true = e in cc)
 
-module _ (arms : List Strand) (k j leaf leaves : ℕ) (arm : Strand) (inside : j < length arms) (is : arm ≡ get_or arms j arm) (told : leaves ≡ capped (strand_leaves (plain_strand arm))) (so : FoundSoFar arms k j leaf) where
-  parted : drop j arms ≡ arm ∷ drop (j + 1) arms
-  parted = drop-cons arms j arm inside ∙ ap (λ (y : Strand). y ∷ drop (suc j) arms) (sym is) ∙ ap (λ m. arm ∷ drop m arms) (let f : suc j ≡ j + 1 = omega arith in f)
+pub passed : {A : Type 0} (b : Bool) (x y : A) → b ≡ false → first_or b x y ≡ y
+passed true x y e = absurd (let f : true ≡ false = e in cc)
+passed false x y e = refl
 
-  pub find_here : leaf < leaves → IsArmOf (map plain_strand arms) k j leaf
-  find_here less =
-      let own : leaf < strand_leaves (plain_strand arm) = omega (arith, told, less) in
-      let first : IsArmOf (map plain_strand (drop j arms)) leaf zero leaf = subst (λ (xs : List Strand). IsArmOf (map plain_strand xs) leaf zero leaf) (sym parted) (refl, own) in
-      subst (λ m. IsArmOf (map plain_strand arms) k m leaf) (let e : j + 0 ≡ j = omega arith in e) (so.later zero leaf first)
+-- an arm in front of both
+one_beside : (st : PlainStatement) (arms back : Opens) (x : Stepped (Option Open)) → within (arms_left st (beside arms back)) x ≡ within (λ left. beside left back) (within (arms_left st arms) x)
+one_beside st arms back (Now None after) = refl
+one_beside st arms back (Now (Some o) after) = refl
+one_beside st arms back (Stops fault) = refl
 
-  pub find_next : leaf < 2 ^ 32 → leaves ≤ leaf → FoundSoFar arms k (j + 1) (leaf - leaves)
-  find_next small past =
-      let count : leaves ≡ strand_leaves (plain_strand arm) = omega (arith, told, small, past) in
-      let here : strands_leaves (strands_of (map plain_strand (drop j arms))) ≡ strand_leaves (plain_strand arm) + strands_leaves (strands_of (map plain_strand (drop (j + 1) arms))) =
-      ap (λ (xs : List Strand). strands_leaves (strands_of (map plain_strand xs))) parted in
-      let all = so.within in
-      record {
-        later = λ at rest there.
-            let moved : IsArmOf (map plain_strand (drop (j + 1) arms)) (leaf - strand_leaves (plain_strand arm)) at rest = subst (λ m. IsArmOf (map plain_strand (drop (j + 1) arms)) (leaf - m) at rest) count there in
-            let whole : IsArmOf (map plain_strand (drop j arms)) leaf (suc at) rest =
-            subst (λ (xs : List Strand). IsArmOf (map plain_strand xs) leaf (suc at) rest) (sym parted) (omega (arith, count, past), moved) in
-            subst (λ m. IsArmOf (map plain_strand arms) k m rest) (let e : j + suc at ≡ j + 1 + at = omega arith in e) (so.later (suc at) rest whole);
-        within = omega (arith, count, past, here, all);
-      }
+front_beside : (st : PlainStatement) (arm : Open) (back : Opens) (x : Stepped Opens) → within (an_arm st arm) (within (λ left. beside left back) x) ≡ within (λ left. beside left back) (within (an_arm st arm) x)
+front_beside st arm back (Now list after) = refl
+front_beside st arm back (Stops fault) = refl
 
--- behind the last arm there is none
-pub find_ends : (arms : List Strand) (k j leaf : ℕ) → length arms ≤ j → FoundSoFar arms k j leaf → ⊥
-find_ends arms k j leaf past so =
-    let none : strands_leaves (strands_of (map plain_strand (drop j arms))) ≡ 0 = ap (λ (xs : List Strand). strands_leaves (strands_of (map plain_strand xs))) (drop_of_length-le arms past) in
-    let all = so.within in
-    omega (arith, none, all)
+back_beside : (st : PlainStatement) (arm : Open) (arms : Opens) (x : Stepped Opens) → within (an_arm st arm) (within (beside arms) x) ≡ within (beside (an_arm st arm arms)) x
+back_beside st arm arms (Now list after) = refl
+back_beside st arm arms (Stops fault) = refl
 
--- an arm by its number is there
-pub arm_there : (arms : List Strand) (k at leaf : ℕ) → IsArmOf (map plain_strand arms) k at leaf → at < length arms
-arm_there [] k at leaf is = absurd is
-arm_there (x ∷ xs) k zero leaf is = omega arith
-arm_there (x ∷ xs) k (suc at) leaf is = let h = arm_there xs (k - strand_leaves (plain_strand x)) at leaf is.1 in omega (arith, h)
+none_beside : (x : Stepped Opens) → x ≡ within (beside no_arms) x
+none_beside (Now list after) = refl
+none_beside (Stops fault) = refl
 
-pub arm_leaf : (arms : List Strand) (k at leaf : ℕ) (arm : Strand) → IsArmOf (map plain_strand arms) k at leaf → arm ≡ get_or arms at arm → leaf < strand_leaves (plain_strand arm)
-arm_leaf [] k at leaf arm is same = absurd is
-arm_leaf (x ∷ xs) k zero leaf arm is same = let e : x ≡ arm = sym same in subst (λ y. leaf < strand_leaves (plain_strand y)) e (subst (λ m. m < strand_leaves (plain_strand x)) (sym is.0) is.1)
-arm_leaf (x ∷ xs) k (suc at) leaf arm is same = arm_leaf xs (k - strand_leaves (plain_strand x)) at leaf arm is.1 same
+module _ (i : Instance) (held : Held) (s : State) where
+  -- a turn of the first of an arm and more arms, or of one behind it
+  pub step_first : (st : PlainStatement) (arm : Open) (arms : Opens) (k : ℕ) → k < leaves_of arm → step_arms i held (an_arm st arm arms) k s ≡ within (arms_left st arms) (step i held arm k s)
+  step_first st arm arms k less = chosen (nat_lt k (leaves_of arm)) (within (arms_left st arms) (step i held arm k s)) (within (an_arm st arm) (step_arms i held arms (k - leaves_of arm) s)) (lt-ltb k (leaves_of arm) less)
 
--- and is shown
-pub arm_shown : (d : PlainDesign) (n : ℕ) (arms : List Strand) (list : Opens) (at : ℕ) (arm : Strand) → at < length arms → arm ≡ get_or arms at arm → ShowsAll d n (strands_of (map plain_strand arms)) list → IsShown d n (plain_strand arm)
-arm_shown d n [] list at arm less is shown = absurd (let h : at < 0 = less in omega (arith, h))
-arm_shown d n (x ∷ xs) list zero arm less is (v, first, later, e, one, rest) = (first, subst (λ (y : Strand). Shows d n (plain_strand y) first) (sym is) one)
-arm_shown d n (x ∷ xs) list (suc at) arm less is (v, first, later, e, one, rest) = arm_shown d n xs later at arm (let l : suc at < suc (length xs) = less in omega (arith, l)) is rest
+  step_later : (st : PlainStatement) (arm : Open) (arms : Opens) (k : ℕ) → leaves_of arm ≤ k → step_arms i held (an_arm st arm arms) k s ≡ within (an_arm st arm) (step_arms i held arms (k - leaves_of arm) s)
+  step_later st arm arms k past = passed (nat_lt k (leaves_of arm)) (within (arms_left st arms) (step i held arm k s)) (within (an_arm st arm) (step_arms i held arms (k - leaves_of arm) s)) (le-ltb k (leaves_of arm) past)
 
-pub arm_of_par : (d : PlainDesign) (n : ℕ) (arms : List Strand) (at : ℕ) (arm : Strand) → at < length arms → arm ≡ get_or arms at arm → IsShown d n (APar (strands_of (map plain_strand arms))) → IsShown d n (plain_strand arm)
-arm_of_par d n arms at arm less is (o, (list, e, shown, some)) = arm_shown d n arms list at arm less is shown
+  -- A TURN IN FRONT, and one behind
+  pub step_front : (front back : Opens) (k : ℕ) → k < leaves_of_all front → step_arms i held (beside front back) k s ≡ within (λ left. beside left back) (step_arms i held front k s)
+  step_front no_arms back k less = absurd (omega (arith, less))
+  step_front (an_arm st arm arms) back k less = ⊎_elim
+      (λ (here : k < leaves_of arm).
+      step_first st arm (beside arms back) k here ∙ one_beside st arms back (step i held arm k s) ∙ ap (within (λ left. beside left back)) (sym (step_first st arm arms k here)))
+      (λ (past : leaves_of arm ≤ k).
+      step_later st arm (beside arms back) k past ∙ ap (within (an_arm st arm)) (step_front arms back (k - leaves_of arm) (omega (arith, less, past)))
+      ∙ front_beside st arm back (step_arms i held arms (k - leaves_of arm) s) ∙ ap (within (λ left. beside left back)) (sym (step_later st arm arms k past)))
+      (cases_lt k (leaves_of arm))
+
+  pub step_back : (front back : Opens) (k leaf : ℕ) → k ≡ leaves_of_all front + leaf → step_arms i held (beside front back) k s ≡ within (beside front) (step_arms i held back leaf s)
+  step_back no_arms back k leaf is = ap (λ m. step_arms i held back m s) (let e : k ≡ leaf = omega (arith, is) in e) ∙ none_beside (step_arms i held back leaf s)
+  step_back (an_arm st arm arms) back k leaf is =
+      step_later st arm (beside arms back) k (omega (arith, is)) ∙ ap (within (an_arm st arm)) (step_back arms back (k - leaves_of arm) leaf (omega (arith, is)))
+      ∙ back_beside st arm arms (step_arms i held back leaf s)

@@ -19,6 +19,9 @@ mod LeafSteps
 mod PartSteps
 mod CallSteps
 mod RestSteps
+mod RoomSteps
+mod NeedSteps
+mod TakenSteps
 mod OpenSteps
 mod IslandSteps
 mod HeldSteps

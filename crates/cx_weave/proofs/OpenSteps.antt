@@ -1,7 +1,7 @@
 -- Statements as they are opened, and the strands that show them.
-use Rattle.std.proofs.Common.{◌≡◌, ◌≢◌, ℕ, zero, suc, ◌+◌, ◌<◌, true, false, List, [], ◌∷◌, ◌++◌, length, get_or, drop, map, Option, Some, None, refl, sym, ap, ◌∙◌, subst, arith}
+use Rattle.std.proofs.Common.{◌≡◌, ◌≢◌, ℕ, zero, suc, ◌+◌, ◌<◌, true, false, List, [], ◌∷◌, ◌++◌, length, get_or, take, drop, Option, Some, None, refl, sym, ap, ◌∙◌, subst, append_assoc, arith}
 use Rattle.std.specs.Prelude.{is_some}
-use Rattle.std.proofs.Math.Seq.{drop-cons}
+use Rattle.std.proofs.lemmas.List.{take-append-drop}
 use Rattle.cx_text.specs.declared.places.Place.{Place}
 use Rattle.cx_meaning.specs.declared.ports.PlacedPort.{PlacedPort}
 use Rattle.cx_meaning.specs.declared.kinds.GroupKind.{GroupKind}
@@ -10,6 +10,7 @@ use Rattle.cx_meaning.specs.Designs.{PlainDesign, PlainForm, Empty, Enable, Seq,
 use Rattle.cx_meaning.specs.Instances.{Instance, Node, Cells, no_cells, a_primitive, an_instance, Nothing, OfRow, OfInstance, cell_at, cells_of, part_of, Path, instance_at, tree_of}
 use Rattle.cx_meaning.specs.Islands.{kind_length}
 use Rattle.cx_meaning.specs.Calls.{called}
+use Rattle.cx_meaning.specs.Sights.{In}
 use Rattle.cx_rules.specs.Items.{Dynamic, visit, visit_all}
 use Rattle.cx_rules.specs.StaticControl.{is_island_form}
 use Rattle.cx_rules.proofs.Finite.{in_left, in_right}
@@ -19,12 +20,14 @@ use Rattle.cx_state.specs.Tables.{IsNumber}
 use Rattle.cx_interp.specs.Callees.{IsPart, HasChild, HasControl}
 use Rattle.cx_interp.specs.Groups.{HasLength, IsGroupOf}
 use Rattle.cx_interp.specs.Machines.{FormStands, StandsIn, StandIn}
-use Rattle.cx_interp.proofs.Measures.{instance_child}
+use Rattle.cx_interp.proofs.Measures.{all_steps, instance_child, steps}
 use Rattle.cx_weave.specs.declared.strands.Strand.{Strand}
-use Rattle.cx_weave.specs.Open.{Open, InSeq, InRepeat, open_with, open_form, open_arms, open_island, open_called, open_kind, open_enable, open_control, open_below, open_statement}
+use Rattle.cx_weave.specs.declared.strands.Arms.{Arms}
+use Rattle.cx_weave.specs.Open.{Open, InSeq, InRepeat, an_arm, beside, open_with, open_form, open_island, open_called, open_kind, open_enable, open_control, open_below, open_statement, open_statements}
 use Rattle.cx_weave.specs.Steps.{seq_left, repeat_left}
-use Rattle.cx_weave.specs.Strands.{PlainStrand, AnIdling, AGroup, AChoice, ATest, AWaiting, ASeq, APar, ARepeat, ACall, strands_of, plain_strand, CallsCell, Shows, ShowsAll}
-use Rattle.cx_weave.specs.Strides.{OpensAs, LeftShown, LeavesAs}
+use Rattle.cx_weave.specs.Strands.{PlainStrand, AnIdling, AGroup, AChoice, ATest, AWaiting, ASeq, APar, ARepeat, ACall, one_arm, plain_strand, plain_arms, CallsCell, IsBoth, Shows, ShowsAll}
+use Rattle.cx_weave.specs.Strides.{OpensAs, OpenAs, LeftShown, LeavesAs}
+use Rattle.cx_weave.proofs.PartSteps.{both_shown}
 
 -- a form of an instance, as it is opened
 abbrev pub opens : Instance → PlainForm → Open
@@ -174,67 +177,35 @@ module _ (d : PlainDesign) (n : ℕ) where
         (m, has, subst (Shows d m (plain_strand inner)) (sym below) (opened (path ++ c ∷ []) there)),
       ))
 
-  -- A PAR
-  abbrev pub AreOpen : List Statement → List Strand → Type 0
-  AreOpen [] [] = Unit {0}
-  AreOpen [] (x ∷ xs) = ⊥
-  AreOpen (s ∷ ss) [] = ⊥
-  AreOpen (s ∷ ss) (x ∷ xs) = OpensAs d n (plain_statement s) x × AreOpen ss xs
+  -- THE ARMS OF A PAR
+  one_is : (xs : List Statement) (s : Statement) → length xs ≡ 1 → s ≡ get_or xs 0 s → xs ≡ s ∷ []
+  one_is [] s one is = absurd (omega (arith, one))
+  one_is (x ∷ []) s one is = ap (λ (y : Statement). y ∷ []) (sym is)
+  one_is (x ∷ y ∷ xs) s one is = absurd (omega (arith, one))
 
-  one_more : (done : List Statement) (opened : List Strand) (s : Statement) (x : Strand) → AreOpen done opened → OpensAs d n (plain_statement s) x → AreOpen (done ++ s ∷ []) (opened ++ x ∷ [])
-  one_more [] [] s x are one = (one, tt)
-  one_more [] (y ∷ ys) s x are one = absurd are
-  one_more (t ∷ ts) [] s x are one = absurd are
-  one_more (t ∷ ts) (y ∷ ys) s x are one = (are.0, one_more ts ys s x are.1 one)
+  pub arm_opens : (arms : List Statement) (s : Statement) (opened : Arms) (x : Strand) → length arms ≡ 1 → s ≡ get_or arms 0 s → plain_arms opened ≡ one_arm (plain_strand x) → OpensAs d n (plain_statement s) x → OpenAs d n (plain_statements arms) opened
+  arm_opens arms s opened x one first is opens path number =
+      let i = instance_at (tree_of d) path in
+      subst (λ (xs : List Statement). ShowsAll d n (plain_arms opened) (open_statements i (plain_statements xs))) (sym (one_is arms s one first))
+      (subst (λ a. ShowsAll d n a (open_statements i (plain_statements (s ∷ [])))) (sym is)
+      (plain_statement s, open_with (part_of i) (open_enable i (open_below (cells_of i))) (plain_statement s), refl, subst (Shows d n (plain_strand x)) (sym (with_statement i (plain_statement s))) (opens path number)))
 
-  abbrev pub OpenSoFar : List Statement → ℕ → List Strand → Type 0
-  OpenSoFar arms k opened = (done : List Statement) × (done ++ drop k arms ≡ arms) × AreOpen done opened
+  open_beside : (i : Instance) (front back : List Statement) → open_statements i (plain_statements (front ++ back)) ≡ beside (open_statements i (plain_statements front)) (open_statements i (plain_statements back))
+  open_beside i [] back = refl
+  open_beside i (s ∷ ss) back = ap (an_arm (plain_statement s) (open_with (part_of i) (open_enable i (open_below (cells_of i))) (plain_statement s))) (open_beside i ss back)
 
-  pub none_open : (arms : List Statement) → OpenSoFar arms 0 []
-  none_open arms = ([], refl, tt)
+  pub both_open : (arms front back : List Statement) (one other opened : Arms) → front ++ back ≡ arms → IsBoth (plain_arms one) (plain_arms other) (plain_arms opened) → OpenAs d n (plain_statements front) one → OpenAs d n (plain_statements back) other
+      → OpenAs d n (plain_statements arms) opened
+  both_open arms front back one other opened are is first later path number =
+      let i = instance_at (tree_of d) path in
+      subst (λ (xs : List Statement). ShowsAll d n (plain_arms opened) (open_statements i (plain_statements xs))) are
+      (subst (λ l. ShowsAll d n (plain_arms opened) l) (sym (open_beside i front back))
+      (both_shown d n (plain_arms one) (plain_arms other) (plain_arms opened) (open_statements i (plain_statements front)) (open_statements i (plain_statements back)) is (first path number) (later path number)))
 
-  joined : (xs : List Statement) (y : Statement) (zs : List Statement) → (xs ++ y ∷ []) ++ zs ≡ xs ++ (y ∷ zs)
-  joined [] y zs = refl
-  joined (x ∷ xs) y zs = ap (λ l. x ∷ l) (joined xs y zs)
-
-  ended : (xs : List Statement) → xs ++ [] ≡ xs
-  ended [] = refl
-  ended (x ∷ xs) = ap (λ l. x ∷ l) (ended xs)
-
-  pub arm_open : (arms : List Statement) (k : ℕ) (opened : List Strand) (s : Statement) (x : Strand) → k < length arms → s ≡ get_or arms k s → OpenSoFar arms k opened → OpensAs d n (plain_statement s) x → OpenSoFar arms (k + 1) (opened ++ x ∷ [])
-  arm_open arms k opened s x less is (done, parted, are) one =
-      let split : drop k arms ≡ s ∷ drop (k + 1) arms =
-      drop-cons arms k s less ∙ ap (λ (y : Statement). y ∷ drop (suc k) arms) (sym is) ∙ ap (λ m. s ∷ drop m arms) (let f : suc k ≡ k + 1 = omega arith in f) in
-      (done ++ s ∷ [], joined done s (drop (k + 1) arms) ∙ ap (λ l. done ++ l) (sym split) ∙ parted, one_more done opened s x are one)
-
-  all_shown : (path : Path) → IsNumber d n path → (arms : List Statement) (opened : List Strand) → AreOpen arms opened
-      → ShowsAll d n (strands_of (map plain_strand opened)) (open_arms (part_of (instance_at (tree_of d) path)) (open_enable (instance_at (tree_of d) path) (open_below (cells_of (instance_at (tree_of d) path)))) (plain_statements arms))
-  all_shown path number [] [] are = refl
-  all_shown path number [] (x ∷ xs) are = absurd are
-  all_shown path number (s ∷ ss) [] are = absurd are
-  all_shown path number (s ∷ ss) (x ∷ xs) are =
-      let i = instance_at (tree_of d) path in (
-        plain_statement s,
-        open_with (part_of i) (open_enable i (open_below (cells_of i))) (plain_statement s),
-        open_arms (part_of i) (open_enable i (open_below (cells_of i))) (plain_statements ss),
-        refl,
-        subst (Shows d n (plain_strand x)) (sym (with_statement i (plain_statement s))) (are.0 path number),
-        all_shown path number ss xs are.1,
-      )
-
-  pub par_opens : (arms : List Statement) (k : ℕ) (opened : List Strand) (strand : Strand) → length arms ≢ 0 → drop k arms ≡ [] → OpenSoFar arms k opened → plain_strand strand ≡ APar (strands_of (map plain_strand opened)) → OpensAs d n (Placed (Par (plain_statements arms)) no_place) strand
-  par_opens arms k opened strand some past (done, parted, are) is =
-      let all : done ≡ arms = sym (ended done) ∙ ap (λ l. done ++ l) (sym past) ∙ parted in
-      by_arms arms opened some (subst (λ l. AreOpen l opened) all are) is
-    where
-      by_arms : (list : List Statement) (xs : List Strand) → length list ≢ 0 → AreOpen list xs → plain_strand strand ≡ APar (strands_of (map plain_strand xs)) → OpensAs d n (Placed (Par (plain_statements list)) no_place) strand
-      by_arms [] xs some are is = absurd (some refl)
-      by_arms (s ∷ ss) [] some are is = absurd are
-      by_arms (s ∷ ss) (x ∷ xs) some are is =
-          opens_as (Par (plain_statements (s ∷ ss))) strand (APar (strands_of (map plain_strand (x ∷ xs)))) is
-          (λ path number.
-          let i = instance_at (tree_of d) path in
-          (open_arms (part_of i) (open_enable i (open_below (cells_of i))) (plain_statements (s ∷ ss)), refl, all_shown path number (s ∷ ss) (x ∷ xs) are, tt))
+  pub par_opens : (arms : List Statement) (opened : Arms) (strand : Strand) → length arms ≢ 0 → OpenAs d n (plain_statements arms) opened → plain_strand strand ≡ APar (plain_arms opened) → OpensAs d n (Placed (Par (plain_statements arms)) no_place) strand
+  par_opens [] opened strand some arms_open is = absurd (some refl)
+  par_opens (s ∷ ss) opened strand some arms_open is =
+      opens_as (Par (plain_statements (s ∷ ss))) strand (APar (plain_arms opened)) is (λ path number. (open_statements (instance_at (tree_of d) path) (plain_statements (s ∷ ss)), refl, arms_open path number))
 
   pub par_none : (arms : List Statement) (strand : Strand) → length arms ≡ 0 → plain_strand strand ≡ AnIdling → OpensAs d n (Placed (Par (plain_statements arms)) no_place) strand
   par_none [] strand none is = opens_as (Par (plain_statements [])) strand AnIdling is (λ path number. refl)
@@ -253,6 +224,48 @@ first_stands d n parts later part are stands path v number inside =
 pub later_stand : (d : PlainDesign) (n : ℕ) (parts later : List Statement) (part : Statement) → parts ≡ part ∷ later → StandIn d n (plain_statements parts) → StandIn d n (plain_statements later)
 later_stand d n parts later part are stands path v number inside =
     subst (λ (xs : List Statement). StandIn d n (plain_statements xs)) are stands path v number (in_right (visit Dynamic (plain_statement part)) (visit_all Dynamic (plain_statements later)) v inside)
+
+-- HALVES of some arms stand where all do, and are less work
+pub halves : (arms front back : List Statement) (at : ℕ) → front ≡ take at arms → back ≡ drop at arms → front ++ back ≡ arms
+halves arms front back at first later = ap (λ (xs : List Statement). xs ++ back) first ∙ ap (λ (xs : List Statement). take at arms ++ xs) later ∙ take-append-drop at arms
+
+visited : (front back : List Statement) → visit_all Dynamic (plain_statements (front ++ back)) ≡ visit_all Dynamic (plain_statements front) ++ visit_all Dynamic (plain_statements back)
+visited [] back = refl
+visited (s ∷ ss) back =
+    ap (λ l. visit Dynamic (plain_statement s) ++ l) (visited ss back) ∙ sym (append_assoc (visit Dynamic (plain_statement s)) (visit_all Dynamic (plain_statements ss)) (visit_all Dynamic (plain_statements back)))
+
+pub front_stands : (d : PlainDesign) (n : ℕ) (arms front back : List Statement) → front ++ back ≡ arms → StandIn d n (plain_statements arms) → StandIn d n (plain_statements front)
+front_stands d n arms front back are stands path v number inside =
+    subst (λ (xs : List Statement). StandIn d n (plain_statements xs)) (sym are) stands path v number
+    (subst (λ l. In l v) (sym (visited front back)) (in_left (visit_all Dynamic (plain_statements front)) (visit_all Dynamic (plain_statements back)) v inside))
+
+pub back_stands : (d : PlainDesign) (n : ℕ) (arms front back : List Statement) → front ++ back ≡ arms → StandIn d n (plain_statements arms) → StandIn d n (plain_statements back)
+back_stands d n arms front back are stands path v number inside =
+    subst (λ (xs : List Statement). StandIn d n (plain_statements xs)) (sym are) stands path v number
+    (subst (λ l. In l v) (sym (visited front back)) (in_right (visit_all Dynamic (plain_statements front)) (visit_all Dynamic (plain_statements back)) v inside))
+
+some_steps : (st : PlainStatement) → 0 < steps st
+some_steps (Placed form place) = omega arith
+
+more_steps : (xs : List Statement) → 0 < length xs → 0 < all_steps (plain_statements xs)
+more_steps [] some = absurd (omega (arith, some))
+more_steps (x ∷ xs) some = (let h = some_steps (plain_statement x) in omega (arith, h))
+
+steps_beside : (front back : List Statement) → all_steps (plain_statements (front ++ back)) ≡ all_steps (plain_statements front) + all_steps (plain_statements back)
+steps_beside [] back = omega arith
+steps_beside (s ∷ ss) back = (let h = steps_beside ss back in omega (arith, h))
+
+pub front_falls : (arms front back : List Statement) → front ++ back ≡ arms → 0 < length back → all_steps (plain_statements front) < all_steps (plain_statements arms)
+front_falls arms front back are some =
+    let all : all_steps (plain_statements arms) ≡ all_steps (plain_statements front) + all_steps (plain_statements back) = ap (λ (xs : List Statement). all_steps (plain_statements xs)) (sym are) ∙ steps_beside front back in
+    let more = more_steps back some in
+    omega (arith, all, more)
+
+pub back_falls : (arms front back : List Statement) → front ++ back ≡ arms → 0 < length front → all_steps (plain_statements back) < all_steps (plain_statements arms)
+back_falls arms front back are some =
+    let all : all_steps (plain_statements arms) ≡ all_steps (plain_statements front) + all_steps (plain_statements back) = ap (λ (xs : List Statement). all_steps (plain_statements xs)) (sym are) ∙ steps_beside front back in
+    let more = more_steps front some in
+    omega (arith, all, more)
 
 -- WHAT IS LEFT of a seq and a repeat behind a part
 module _ (d : PlainDesign) (n : ℕ) where

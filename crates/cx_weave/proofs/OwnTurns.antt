@@ -1,19 +1,19 @@
 -- Turns of one leaf change no cell that it does not drive, and hang on a set of cells alone.
-use Rattle.std.proofs.Common.{◌≡◌, ℕ, zero, suc, ◌-◌, inl, inr, Bool, true, false, ◌&&◌, nat_eq, nat_le, if◌then◌else◌, List, [], ◌∷◌, map, Option, Some, None, refl, ap, ◌∙◌, subst}
+use Rattle.std.proofs.Common.{◌≡◌, ℕ, ◌-◌, inl, inr, Bool, true, false, ◌&&◌, nat_eq, nat_le, if◌then◌else◌, List, [], ◌∷◌, map, Option, Some, None, refl, ap, ◌∙◌, subst}
 use Rattle.std.specs.Prelude.{nat_lt}
 use Rattle.std.proofs.Math.Path.{fun_ext}
 use Rattle.std.proofs.lemmas.Bool.{both_ways, eqb-true}
-use Rattle.cx_prim.specs.CellStates.{CellState}
 use Rattle.cx_prim.specs.Rows.{Row}
 use Rattle.cx_meaning.specs.declared.ports.PortRef.{PortRef}
 use Rattle.cx_meaning.specs.declared.ports.PortRef.TheVariants as ports
 use Rattle.cx_meaning.specs.Designs.{PlainForm}
-use Rattle.cx_meaning.specs.Instances.{Instance, Cells, no_cells, a_primitive, an_instance, cells_of, part_of, Path, State, Set, merge, idle}
+use Rattle.cx_meaning.specs.Instances.{Instance, Cells, cell_count, cells_of, part_of, Path, State, Set, merge, idle}
 use Rattle.cx_meaning.specs.Active.{Active, nothing, only_at, group, capture, Entry, offset_in, entries}
 use Rattle.cx_meaning.specs.Truths.{Truth, One, Zero, truth_of}
 use Rattle.cx_meaning.specs.Truths as truths
 use Rattle.cx_meaning.specs.Sights.{Look, Held, seen, gather, In}
-use Rattle.cx_meaning.specs.Cycles.{Fault, Ended, Outcome, enables, after_enabling, cell_outcome, first_of, where_listed, first_fault, stepped, cell_after, state_after, unless_fault, cycle_of}
+use Rattle.cx_meaning.specs.Cycles.{Fault, Ended, enables, after_enabling, cell_outcome, outcome_of, first_fault, state_after, unless_fault, cycle_of}
+use Rattle.cx_meaning.proofs.CycleLemmas.{unlisted_stays}
 use Rattle.cx_meaning.specs.Answers.{Turn}
 use Rattle.cx_meaning.specs.Answers as answers
 use Rattle.cx_meaning.specs.Control.{group_drives}
@@ -24,7 +24,7 @@ use Rattle.cx_frames.specs.Agreeing.{Agree}
 use Rattle.cx_frames.proofs.AlikeLemmas.{AlikeTurn}
 use Rattle.cx_frames.proofs.CircleFrames.{capture_acyclic}
 use Rattle.cx_frames.proofs.RuleLemmas.{IsKept}
-use Rattle.cx_frames.proofs.SightFrames.{InFrame, IsThrough, IsWithin, IsAmong, seen_alike}
+use Rattle.cx_frames.proofs.SightFrames.{InFrame, IsThrough, IsWithin, IsAmong, seen_alike, ends_alike}
 use Rattle.cx_frames.proofs.LeafFrames.{none_some, merge_agree, idle_agree, IsGood, bare_seen}
 use Rattle.cx_frames.proofs.IslandFrames.{AllFine, looked_good, unclear_same}
 use Rattle.cx_weave.specs.Leaves.{form_drives, rested, own_turn, own_capture, sampled_now, own_cycle, own_island}
@@ -53,26 +53,15 @@ only_wider small large within s after h = record { top = h.top; others = λ c be
     off c false e f = e
 
 -- CYCLES of listed cells
-unlisted : (listed : Set) (look : Look) (c : ℕ) (cells : Cells) (at : ℕ) (d : CellState) → listed c ≡ false → cell_after listed look c cells at d ≡ d
-unlisted listed look c no_cells at d e = refl
-unlisted listed look c (a_primitive row rest) zero d e = ap (λ b. if b then stepped d (cell_outcome look c row d) else d) e
-unlisted listed look c (a_primitive row rest) (suc at) d e = unlisted listed look c rest at d e
-unlisted listed look c (an_instance child rest) zero d e = refl
-unlisted listed look c (an_instance child rest) (suc at) d e = unlisted listed look c rest at d e
-
-after_only : (listed : Set) (look : Look) (cells : Cells) (s : State) → OnlyIn listed s (state_after listed look cells s)
-after_only listed look cells s = record { top = refl; others = others }
-  where
-    others : (c : ℕ) (below : Path) → listed c ≡ false → state_after listed look cells s (c ∷ below) ≡ s (c ∷ below)
-    others c [] e = unlisted listed look c cells c (s (c ∷ [])) e
-    others c (x ∷ below) e = refl
+after_only : (listed : Set) (look : Look) (cells : Cells) (s : State) → OnlyIn listed s (state_after (outcome_of listed look cells s) s)
+after_only listed look cells s = record { top = refl; others = λ c below e. unlisted_stays listed look cells s c e below }
 
 unless_only : (driven : Set) (s after : State) (fault : Option Fault) → OnlyIn driven s after → TurnsIn driven s (turn_of (unless_fault fault after))
 unless_only driven s after (Some f) h = tt
 unless_only driven s after None h = h
 
 cycle_only : (i : Instance) (held : Held) (act : Active) (listed : Set) (s : State) → TurnsIn listed s (turn_of (cycle_of i held act listed s))
-cycle_only i held act listed s = unless_only listed s _ (first_fault listed (seen i held act s) s (cells_of i) 0) (after_only listed (seen i held act s) (cells_of i) s)
+cycle_only i held act listed s = unless_only listed s _ (first_fault (outcome_of listed (seen i held act s) (cells_of i) s) 0 (cell_count (cells_of i))) (after_only listed (seen i held act s) (cells_of i) s)
 
 hole_only : (driven : Set) (s : State) (g : ℕ) (ended : Ended) (t : Truth) → TurnsIn driven s (turn_of ended) → TurnsIn driven s (hole_turn g ended t)
 hole_only driven s g ended One h = tt
@@ -96,39 +85,6 @@ module _ (i : Instance) (held : Held) where
       unclear_only (form_drives (part_of i) form) s (first_unclear (seen i held nothing s) (looked_at h t (form_flat (part_of i) form 0 []))) _
       (cycle_only i held (entries (active_in h t (form_flat (part_of i) form 0 []))) (form_drives (part_of i) form) s)
 
--- cells that step alike
-module _ (listed : Set) (look more : Look) (s t : State) where
-  first_here : (c : ℕ) (b : Bool) (x y : Outcome) (u v : Option Fault) → u ≡ v → (b ≡ true → x ≡ y) → where_listed b (first_of c x u) u ≡ where_listed b (first_of c y v) v
-  first_here c true x y u v e h = ap (λ z. first_of c z u) (h refl) ∙ ap (first_of c y) e
-  first_here c false x y u v e h = e
-
-  first_same : (cells : Cells) (c : ℕ) → ((k : ℕ) (row : Row) → listed k ≡ true → cell_outcome look k row (s (k ∷ [])) ≡ cell_outcome more k row (t (k ∷ [])))
-      → first_fault listed look s cells c ≡ first_fault listed more t cells c
-  first_same no_cells c h = refl
-  first_same (a_primitive row rest) c h =
-      first_here c (listed c) (cell_outcome look c row (s (c ∷ []))) (cell_outcome more c row (t (c ∷ []))) (first_fault listed look s rest (suc c)) (first_fault listed more t rest (suc c))
-      (first_same rest (suc c) h) (λ e. h c row e)
-  first_same (an_instance child rest) c h = first_same rest (suc c) h
-
-  step_here : (b : Bool) (d e : CellState) (x y : Outcome) → d ≡ e → (b ≡ true → x ≡ y) → (if b then stepped d x else d) ≡ (if b then stepped e y else e)
-  step_here true d e x y same h = ap (stepped d) (h refl) ∙ ap (λ z. stepped z y) same
-  step_here false d e x y same h = same
-
-  after_same : (c : ℕ) (cells : Cells) (at : ℕ) (d e : CellState) → d ≡ e → ((row : Row) → listed c ≡ true → cell_outcome look c row d ≡ cell_outcome more c row e)
-      → cell_after listed look c cells at d ≡ cell_after listed more c cells at e
-  after_same c no_cells at d e same h = same
-  after_same c (a_primitive row rest) zero d e same h = step_here (listed c) d e (cell_outcome look c row d) (cell_outcome more c row e) same (λ on. h row on)
-  after_same c (a_primitive row rest) (suc at) d e same h = after_same c rest at d e same h
-  after_same c (an_instance child rest) zero d e same h = same
-  after_same c (an_instance child rest) (suc at) d e same h = after_same c rest at d e same h
-
-turn_alike : (set : ℕ → Type 0) (x y : Option Fault) (a b : State) → x ≡ y → Agree set a b → AlikeTurn set (turn_of (unless_fault x a)) (turn_of (unless_fault y b))
-turn_alike set x y a b e h = subst (λ z. AlikeTurn set (turn_of (unless_fault x a)) (turn_of (unless_fault z b))) e (one x)
-  where
-    one : (z : Option Fault) → AlikeTurn set (turn_of (unless_fault z a)) (turn_of (unless_fault z b))
-    one None = (b, refl, h)
-    one (Some f) = refl
-
 -- what is active in a cycle
 alone_among : (g h k : ℕ) → only_at g h ≡ Some k → In (g ∷ []) h
 alone_among g h k e = go (nat_eq g h) refl e
@@ -150,18 +106,13 @@ module _ (i : Instance) (held : Held) (set : ℕ → Type 0) (kept : IsKept i) (
   cycle_alike : (act : Active) (gs : List ℕ) → IsAmong act gs → ((g : ℕ) → In gs g → IsWithin (part_of i) set g) → IsAcyclic i act → (listed : Set) → ((c : ℕ) → listed c ≡ true → set c)
       → (s t : State) → Agree set s t → AlikeTurn set (turn_of (cycle_of i held act listed s)) (turn_of (cycle_of i held act listed t))
   cycle_alike act gs among looks acyclic listed inside s t agree =
-      turn_alike set (first_fault listed (seen i held act s) s (cells_of i) 0) (first_fault listed (seen i held act t) t (cells_of i) 0) _ _
-      (first_same listed (seen i held act s) (seen i held act t) s t (cells_of i) 0 (λ k row on. outcome k row (inside k on))) states
+      ends_alike set listed (seen i held act s) (seen i held act t) (cells_of i) s t (λ c row at on. inl (outcome c row (inside c on))) outcome agree
     where
       outcome : (c : ℕ) (row : Row) → set c → cell_outcome (seen i held act s) c row (s (c ∷ [])) ≡ cell_outcome (seen i held act t) c row (t (c ∷ []))
       outcome c row here =
           ap (λ look. after_enabling look row (s (c ∷ [])) (gather look (enables row) 0 row.ports))
           (fun_ext (λ p. seen_alike i held act set gs kept through among looks s t agree acyclic deeper (ports.Cell c p) here))
           ∙ ap (cell_outcome (seen i held act t) c row) (agree c [] here)
-
-      states : Agree set (state_after listed (seen i held act s) (cells_of i) s) (state_after listed (seen i held act t) (cells_of i) t)
-      states c [] here = after_same listed (seen i held act s) (seen i held act t) s t c (cells_of i) c (s (c ∷ [])) (t (c ∷ [])) (agree c [] here) (λ row on. outcome c row here)
-      states c (e ∷ path) here = agree c (e ∷ path) here
 
   own_within : (g : ℕ) → IsGood i held set kept through deeper g → (h : ℕ) → In (g ∷ []) h → IsWithin (part_of i) set h
   own_within g good h (inl e) = subst (IsWithin (part_of i) set) e good.within

@@ -1,19 +1,19 @@
 -- A turn of a part, as one of the statement around it.
-use Rattle.std.proofs.Common.{◌≡◌, ℕ, zero, suc, ◌+◌, ◌-◌, ◌≤◌, ◌<◌, Bool, true, false, nat_lt, List, [], ◌∷◌, get_or, map, Option, Some, None, Result, Ok, Err, refl, sym, ap, ◌∙◌, subst, arith}
-use Rattle.std.specs.List.{insert, remove}
-use Rattle.std.proofs.lemmas.Bool.{lt-ltb, le-ltb}
+use Rattle.std.proofs.Common.{◌≡◌, ℕ, ◌+◌, ◌<◌, List, Option, Some, None, Ok, Err, refl, sym, ap, ◌∙◌, subst, arith}
 use Rattle.cx_meaning.specs.declared.ports.PlacedPort.{PlacedPort}
 use Rattle.cx_meaning.specs.Designs.{PlainDesign, PlainStatement, PlainStatements}
 use Rattle.cx_meaning.specs.Instances.{Instance, Path, State, instance_at, tree_of}
 use Rattle.cx_meaning.specs.Sights.{Held}
-use Rattle.cx_state.specs.States.{PlainInstance, StandsFor, inputs_held, under_path, put_path}
+use Rattle.cx_state.specs.States.{PlainInstance, inputs_held, under_path}
 use Rattle.cx_weave.specs.declared.strands.Halt.{Halt}
 use Rattle.cx_weave.specs.declared.strands.Halt.TheVariants as halts
 use Rattle.cx_weave.specs.declared.strands.Strand.{Strand}
-use Rattle.cx_weave.specs.Open.{Open, InSeq, InPar, InLoop, InRepeat, Opens, no_arms, an_arm, leaves_of, leaves_of_all}
-use Rattle.cx_weave.specs.Steps.{Stepped, Now, Stops, step, step_arms, within, seq_left, loop_left, repeat_left, par_left, arms_left, first_or}
-use Rattle.cx_weave.specs.Strands.{PlainStrand, AnIdling, AGroup, AChoice, ATest, AnIsland, ACapture, AClosing, AWaiting, ASeq, APar, ALoop, ARepeat, ACall, PlainStrands, no_strands, a_strand, strands_of, plain_strand, strand_leaves, strands_leaves, Shows, ShowsAll, IsShown, IsArmOf}
-use Rattle.cx_weave.specs.Strides.{LeftShown, LeavesAs, StepTold, HasStepped, IsParOf, IsParAfter}
+use Rattle.cx_weave.specs.declared.strands.Arms.{Arms}
+use Rattle.cx_weave.specs.Open.{Open, InSeq, InPar, InLoop, InRepeat, Opens, no_arms, an_arm, beside, leaves_of, leaves_of_all}
+use Rattle.cx_weave.specs.Steps.{Stepped, Now, Stops, step, step_arms, within, seq_left, loop_left, repeat_left, par_left, arms_left}
+use Rattle.cx_weave.specs.Strands.{PlainStrand, AnIdling, AGroup, AChoice, ATest, AnIsland, ACapture, AClosing, AWaiting, ASeq, APar, ALoop, ARepeat, ACall, PlainArms, one_arm, both_arms, plain_arms, strand_leaves, arms_leaves, IsCounted, AreCounted, IsBoth, Shows, ShowsAll, IsShown, AreShown}
+use Rattle.cx_weave.specs.Strides.{LeftShown, LeavesAs, StepTold, HasStepped, ArmsTold, HaveStepped, IsArmOf, IsParOf, IsInFront, IsBehind}
+use Rattle.cx_weave.proofs.ArmSteps.{leaves_beside, step_first, step_front, step_back}
 
 -- LEAVES of a strand are those of what it shows
 mutual
@@ -32,29 +32,60 @@ mutual
   leaves_shown d n (ARepeat run left body) o h = ap leaves_of h.1 ∙ leaves_shown d n run h.0 h.2
   leaves_shown d n (ACall g c inputs child) o (now, is, group, calls, fits, (m, at, shown)) = ap leaves_of is ∙ leaves_shown d m child now shown
 
-  all_leaves_shown : (d : PlainDesign) (n : ℕ) (arms : PlainStrands) (list : Opens) → ShowsAll d n arms list → leaves_of_all list ≡ strands_leaves arms
-  all_leaves_shown d n no_strands list h = ap leaves_of_all h
-  all_leaves_shown d n (a_strand arm arms) list (v, first, later, e, one, rest) = ap leaves_of_all e ∙ ap (λ k. k + leaves_of_all later) (leaves_shown d n arm first one) ∙ ap (λ k. strand_leaves arm + k) (all_leaves_shown d n arms later rest)
+  pub all_leaves_shown : (d : PlainDesign) (n : ℕ) (arms : PlainArms) (list : Opens) → ShowsAll d n arms list → leaves_of_all list ≡ arms_leaves arms
+  all_leaves_shown d n (one_arm arm) list (v, first, e, one) = (let count : leaves_of_all list ≡ leaves_of first + 0 = ap leaves_of_all e in let own = leaves_shown d n arm first one in omega (arith, count, own))
+  all_leaves_shown d n (both_arms leaves one other) list (front, back, e, first, later, told) =
+      let count : leaves_of_all list ≡ leaves_of_all front + leaves_of_all back = ap leaves_of_all e ∙ leaves_beside front back in
+      let l = all_leaves_shown d n one front first in
+      let r = all_leaves_shown d n other back later in
+      omega (arith, count, l, r)
 
 -- and at least one
-more_leaves : (a b : ℕ) → 0 < a → 0 < a + b
-more_leaves a b some = omega (arith, some)
+mutual
+  pub some_leaf : (d : PlainDesign) (n : ℕ) (p : PlainStrand) (o : Open) → Shows d n p o → 0 < strand_leaves p
+  some_leaf d n AnIdling o h = omega arith
+  some_leaf d n (AGroup g) o h = omega arith
+  some_leaf d n (AChoice port comb a b) o h = omega arith
+  some_leaf d n (ATest port comb body) o h = omega arith
+  some_leaf d n (AnIsland form t left samples cells) o h = omega arith
+  some_leaf d n (ACapture g c) o h = omega arith
+  some_leaf d n (AClosing g) o h = omega arith
+  some_leaf d n AWaiting o h = omega arith
+  some_leaf d n (ASeq first later) o h = some_leaf d n first h.0 h.2
+  some_leaf d n (APar arms) o h = some_leaf_of d n arms h.0 h.2
+  some_leaf d n (ALoop run port comb body) o h = some_leaf d n run h.0 h.2
+  some_leaf d n (ARepeat run left body) o h = some_leaf d n run h.0 h.2
+  some_leaf d n (ACall g c inputs child) o (now, is, group, calls, fits, (m, at, shown)) = some_leaf d m child now shown
 
-pub some_leaf : (d : PlainDesign) (n : ℕ) (p : PlainStrand) (o : Open) → Shows d n p o → 0 < strand_leaves p
-some_leaf d n AnIdling o h = omega arith
-some_leaf d n (AGroup g) o h = omega arith
-some_leaf d n (AChoice port comb a b) o h = omega arith
-some_leaf d n (ATest port comb body) o h = omega arith
-some_leaf d n (AnIsland form t left samples cells) o h = omega arith
-some_leaf d n (ACapture g c) o h = omega arith
-some_leaf d n (AClosing g) o h = omega arith
-some_leaf d n AWaiting o h = omega arith
-some_leaf d n (ASeq first later) o h = some_leaf d n first h.0 h.2
-some_leaf d n (APar no_strands) o h = absurd h.3
-some_leaf d n (APar (a_strand arm arms)) o h = more_leaves (strand_leaves arm) (strands_leaves arms) (some_leaf d n arm h.2.1 h.2.4)
-some_leaf d n (ALoop run port comb body) o h = some_leaf d n run h.0 h.2
-some_leaf d n (ARepeat run left body) o h = some_leaf d n run h.0 h.2
-some_leaf d n (ACall g c inputs child) o (now, is, group, calls, fits, (m, at, shown)) = some_leaf d m child now shown
+  some_leaf_of : (d : PlainDesign) (n : ℕ) (arms : PlainArms) (list : Opens) → ShowsAll d n arms list → 0 < arms_leaves arms
+  some_leaf_of d n (one_arm arm) list h = some_leaf d n arm h.1 h.3
+  some_leaf_of d n (both_arms leaves one other) list h = (let some = some_leaf_of d n one h.0 h.3 in omega (arith, some))
+
+-- what is shown has its leaves counted
+mutual
+  pub counted_shown : (d : PlainDesign) (n : ℕ) (p : PlainStrand) (o : Open) → Shows d n p o → IsCounted p
+  counted_shown d n AnIdling o h = tt
+  counted_shown d n (AGroup g) o h = tt
+  counted_shown d n (AChoice port comb a b) o h = tt
+  counted_shown d n (ATest port comb body) o h = tt
+  counted_shown d n (AnIsland form t left samples cells) o h = tt
+  counted_shown d n (ACapture g c) o h = tt
+  counted_shown d n (AClosing g) o h = tt
+  counted_shown d n AWaiting o h = tt
+  counted_shown d n (ASeq first later) o h = counted_shown d n first h.0 h.2
+  counted_shown d n (APar arms) o h = all_counted d n arms h.0 h.2
+  counted_shown d n (ALoop run port comb body) o h = counted_shown d n run h.0 h.2
+  counted_shown d n (ARepeat run left body) o h = counted_shown d n run h.0 h.2
+  counted_shown d n (ACall g c inputs child) o (now, is, group, calls, fits, (m, at, shown)) = counted_shown d m child now shown
+
+  pub all_counted : (d : PlainDesign) (n : ℕ) (arms : PlainArms) (list : Opens) → ShowsAll d n arms list → AreCounted arms
+  all_counted d n (one_arm arm) list h = counted_shown d n arm h.1 h.3
+  all_counted d n (both_arms leaves one other) list (front, back, e, first, later, told) = (told, all_counted d n one front first, all_counted d n other back later)
+
+-- and so are two halves, side by side
+pub both_shown : (d : PlainDesign) (n : ℕ) (one other arms : PlainArms) (front back : Opens) → IsBoth one other arms → ShowsAll d n one front → ShowsAll d n other back → ShowsAll d n arms (beside front back)
+both_shown d n one other arms front back (leaves, is, tells) first later =
+    subst (λ x. ShowsAll d n x (beside front back)) (sym is) (front, back, refl, first, later, tells (all_counted d n one front first) (all_counted d n other back later))
 
 module _ (d : PlainDesign) (old new : List PlainInstance) (n k : ℕ) where
   -- what is left of the part tells what is left around it
@@ -122,140 +153,171 @@ part_shown_loop d n p port comb body (o, shown) = (shown.0, shown.2)
 pub part_shown_repeat : (d : PlainDesign) (n : ℕ) (p : PlainStrand) (rounds : ℕ) (body : PlainStatement) → IsShown d n (ARepeat p rounds body) → IsShown d n p
 part_shown_repeat d n p rounds body (o, shown) = (shown.0, shown.2)
 
--- THE ARMS OF A PAR, with what is left of one at its place
-abbrev pub arms_after : List Strand → ℕ → Option Strand → List Strand
-arms_after arms at None = remove arms at
-arms_after arms at (Some arm) = insert (remove arms at) at arm
+-- THE ARMS OF A PAR
+pub arms_of_par : (d : PlainDesign) (n : ℕ) (arms : PlainArms) → IsShown d n (APar arms) → AreShown d n arms
+arms_of_par d n arms (o, shown) = (shown.0, shown.2)
+
+pub one_arm_shown : (d : PlainDesign) (n : ℕ) (arm : PlainStrand) → AreShown d n (one_arm arm) → IsShown d n arm
+one_arm_shown d n arm (list, (v, first, e, shown)) = (first, shown)
+
+pub first_shown : (d : PlainDesign) (n leaves : ℕ) (one other : PlainArms) → AreShown d n (both_arms leaves one other) → AreShown d n one
+first_shown d n leaves one other (list, (front, back, e, first, later, told)) = (front, first)
+
+pub other_shown : (d : PlainDesign) (n leaves : ℕ) (one other : PlainArms) → AreShown d n (both_arms leaves one other) → AreShown d n other
+other_shown d n leaves one other (list, (front, back, e, first, later, told)) = (back, later)
+
+pub first_counted : (d : PlainDesign) (n leaves : ℕ) (one other : PlainArms) → AreShown d n (both_arms leaves one other) → AreCounted one
+first_counted d n leaves one other (list, (front, back, e, first, later, told)) = all_counted d n one front first
 
 module _ (d : PlainDesign) (old new : List PlainInstance) (n : ℕ) where
-  abbrev ArmsTold : Path → State → Result (List Strand) Halt → Stepped Opens → Type 0
-  ArmsTold path s (Ok arms) (Now list after) = StandsFor (tree_of d) new (put_path path after s) × ShowsAll d n (strands_of (map plain_strand arms)) list
-  ArmsTold path s (Ok arms) (Stops fault) = ⊥
-  ArmsTold path s (Err halt) (Now list after) = StepTold d n path s new (Err halt) (Now None after)
-  ArmsTold path s (Err halt) (Stops fault) = StepTold d n path s new (Err halt) (Stops fault)
+  -- ONE ARM goes on, or ends
+  one_goes : (path : Path) (s : State) (v : PlainStatement) (left : Option Strand) (after : Option Arms) (x : Stepped (Option Open)) → IsArmOf left after → StepTold d n path s new (Ok left) x → ArmsTold d n path s new (Ok after) (within (arms_left v no_arms) x)
+  one_goes path s v None after (Now None t) is told = subst (λ a. ArmsTold d n path s new (Ok a) (Now no_arms t)) (sym is) (told.0, refl)
+  one_goes path s v None after (Now (Some o) t) is told = absurd told.1
+  one_goes path s v (Some arm) after (Now None t) is told = absurd told.1
+  one_goes path s v (Some arm) after (Now (Some o) t) (arms, is, plain) told =
+      subst (λ a. ArmsTold d n path s new (Ok a) (Now (an_arm v o no_arms) t)) (sym is) (told.0, subst (λ a. ShowsAll d n a (an_arm v o no_arms)) (sym plain) (v, o, refl, told.1))
+  one_goes path s v left after (Stops fault) is told = absurd told
 
-  -- the arm with the leaf goes on, or ends
-  one_goes : (path : Path) (s : State) (arms : List Strand) (v : PlainStatement) (later : Opens) (arm : Strand) (left : Option Strand) (x : Stepped (Option Open)) → ShowsAll d n (strands_of (map plain_strand arms)) later
-      → StepTold d n path s new (Ok left) x → ArmsTold path s (Ok (arms_after (arm ∷ arms) zero left)) (within (arms_left v later) x)
-  one_goes path s arms v later arm None (Now None t) shown told = (told.0, shown)
-  one_goes path s arms v later arm None (Now (Some o) t) shown told = absurd told.1
-  one_goes path s arms v later arm (Some l) (Now None t) shown told = absurd told.1
-  one_goes path s arms v later arm (Some l) (Now (Some o) t) shown told = (told.0, (v, o, later, refl, told.1, shown))
-  one_goes path s arms v later arm left (Stops fault) shown told = absurd told
+  one_stops : (path : Path) (s : State) (v : PlainStatement) (halt : Halt) (x : Stepped (Option Open)) → StepTold d n path s new (Err halt) x → ArmsTold d n path s new (Err halt) (within (arms_left v no_arms) x)
+  one_stops path s v (halts.Fault told) (Now o t) bad = absurd bad
+  one_stops path s v (halts.Fault told) (Stops fault) tells = tells
+  one_stops path s v halts.Memory x tells = tt
 
-  one_stops : (path : Path) (s : State) (v : PlainStatement) (later : Opens) (halt : Halt) (x : Stepped (Option Open)) → StepTold d n path s new (Err halt) x → ArmsTold path s (Err halt) (within (arms_left v later) x)
-  one_stops path s v later (halts.Fault told) (Now o t) bad = absurd bad
-  one_stops path s v later halts.Memory (Now o t) tells = tt
-  one_stops path s v later halt (Stops fault) tells = tells
+  module _ (arm : PlainStrand) (k : ℕ) (less : k < strand_leaves arm) where
+    arm_turn : (path : Path) (s : State) (list : Opens) (v : PlainStatement) (first : Open) → list ≡ an_arm v first no_arms → Shows d n arm first
+        → step_arms (instance_at (tree_of d) path) (inputs_held old n) list k (under_path path s) ≡ within (arms_left v no_arms) (step (instance_at (tree_of d) path) (inputs_held old n) first k (under_path path s))
+    arm_turn path s list v first e shown =
+        let i = instance_at (tree_of d) path in
+        ap (λ l. step_arms i (inputs_held old n) l k (under_path path s)) e ∙ step_first i (inputs_held old n) (under_path path s) v first no_arms k (subst (λ m. k < m) (sym (leaves_shown d n arm first shown)) less)
 
-  behind_goes : (path : Path) (s : State) (v : PlainStatement) (first : Open) (arm : Strand) (arms : List Strand) (x : Stepped Opens) → Shows d n (plain_strand arm) first → ArmsTold path s (Ok arms) x → ArmsTold path s (Ok (arm ∷ arms)) (within (an_arm v first) x)
-  behind_goes path s v first arm arms (Now list t) shown told = (told.0, (v, first, list, refl, shown, told.1))
-  behind_goes path s v first arm arms (Stops fault) shown told = absurd told
-
-  behind_stops : (path : Path) (s : State) (v : PlainStatement) (first : Open) (halt : Halt) (x : Stepped Opens) → ArmsTold path s (Err halt) x → ArmsTold path s (Err halt) (within (an_arm v first) x)
-  behind_stops path s v first (halts.Fault told) (Now list t) bad = absurd bad
-  behind_stops path s v first halts.Memory (Now list t) tells = tt
-  behind_stops path s v first halt (Stops fault) tells = tells
-
-  chosen : {A : Type 0} (b : Bool) (x y : A) → b ≡ true → first_or b x y ≡ x
-  chosen true x y e = refl
-  chosen false x y e = absurd (let f : false ≡ true = e in cc)
-
-  passed : {A : Type 0} (b : Bool) (x y : A) → b ≡ false → first_or b x y ≡ y
-  passed true x y e = absurd (let f : true ≡ false = e in cc)
-  passed false x y e = refl
-
-  told_after : (at : ℕ) (arms : List Strand) (arm : Strand) (left : Option Strand) → arms_after (arm ∷ arms) (suc at) left ≡ arm ∷ arms_after arms at left
-  told_after at arms arm None = refl
-  told_after at arms arm (Some l) = refl
-
-  pub arms_go : (path : Path) (s : State) (left : Option Strand) (held : Held) (arms : List Strand) (list : Opens) (k at leaf : ℕ) (arm : Strand) → ShowsAll d n (strands_of (map plain_strand arms)) list → IsArmOf (map plain_strand arms) k at leaf → arm ≡ get_or arms at arm
-      → ((o : Open) → Shows d n (plain_strand arm) o → StepTold d n path s new (Ok left) (step (instance_at (tree_of d) path) held o leaf (under_path path s)))
-      → ArmsTold path s (Ok (arms_after arms at left)) (step_arms (instance_at (tree_of d) path) held list k (under_path path s))
-  arms_go path s left held [] list k at leaf arm shown is same told = absurd is
-  arms_go path s left held (x ∷ xs) list k zero leaf arm (v, first, later, e, one, rest) (here, less) same told =
-      let i = instance_at (tree_of d) path in
-      let u = under_path path s in
-      let lt : k < leaves_of first = subst (λ m. k < m) (sym (leaves_shown d n (plain_strand x) first one)) less in
-      let turn : StepTold d n path s new (Ok left) (step i held first k u) = subst (λ m. StepTold d n path s new (Ok left) (step i held first m u)) here (told first (subst (λ y. Shows d n (plain_strand y) first) (sym same) one)) in
-      subst (λ l. ArmsTold path s (Ok (arms_after (x ∷ xs) zero left)) (step_arms i held l k u)) (sym e)
-      (subst (λ r. ArmsTold path s (Ok (arms_after (x ∷ xs) zero left)) r)
-      (sym (chosen (nat_lt k (leaves_of first)) (within (arms_left v later) (step i held first k u)) (within (an_arm v first) (step_arms i held later (k - leaves_of first) u)) (lt-ltb k (leaves_of first) lt)))
-      (one_goes path s xs v later x left (step i held first k u) rest turn))
-  arms_go path s left held (x ∷ xs) list k (suc at) leaf arm (v, first, later, e, one, rest) (past, is) same told =
-      let i = instance_at (tree_of d) path in
-      let u = under_path path s in
-      let count = leaves_shown d n (plain_strand x) first one in
-      let le : leaves_of first ≤ k = subst (λ m. m ≤ k) (sym count) past in
-      let inner = arms_go path s left held xs later (k - strand_leaves (plain_strand x)) at leaf arm rest is same told in
-      subst (λ l. ArmsTold path s (Ok (arms_after (x ∷ xs) (suc at) left)) (step_arms i held l k u)) (sym e)
-      (subst (λ r. ArmsTold path s (Ok (arms_after (x ∷ xs) (suc at) left)) r)
-      (sym (passed (nat_lt k (leaves_of first)) (within (arms_left v later) (step i held first k u)) (within (an_arm v first) (step_arms i held later (k - leaves_of first) u)) (le-ltb k (leaves_of first) le)))
-      (subst (λ ys. ArmsTold path s (Ok ys) (within (an_arm v first) (step_arms i held later (k - leaves_of first) u))) (sym (told_after at xs x left))
-      (behind_goes path s v first x (arms_after xs at left) (step_arms i held later (k - leaves_of first) u) one
-      (subst (λ m. ArmsTold path s (Ok (arms_after xs at left)) (step_arms i held later (k - m) u)) (sym count) inner))))
-
-  pub arms_stop : (path : Path) (s : State) (halt : Halt) (held : Held) (arms : List Strand) (list : Opens) (k at leaf : ℕ) (arm : Strand) → ShowsAll d n (strands_of (map plain_strand arms)) list → IsArmOf (map plain_strand arms) k at leaf → arm ≡ get_or arms at arm
-      → ((o : Open) → Shows d n (plain_strand arm) o → StepTold d n path s new (Err halt) (step (instance_at (tree_of d) path) held o leaf (under_path path s)))
-      → ArmsTold path s (Err halt) (step_arms (instance_at (tree_of d) path) held list k (under_path path s))
-  arms_stop path s halt held [] list k at leaf arm shown is same told = absurd is
-  arms_stop path s halt held (x ∷ xs) list k zero leaf arm (v, first, later, e, one, rest) (here, less) same told =
-      let i = instance_at (tree_of d) path in
-      let u = under_path path s in
-      let lt : k < leaves_of first = subst (λ m. k < m) (sym (leaves_shown d n (plain_strand x) first one)) less in
-      let turn : StepTold d n path s new (Err halt) (step i held first k u) = subst (λ m. StepTold d n path s new (Err halt) (step i held first m u)) here (told first (subst (λ y. Shows d n (plain_strand y) first) (sym same) one)) in
-      subst (λ l. ArmsTold path s (Err halt) (step_arms i held l k u)) (sym e)
-      (subst (λ r. ArmsTold path s (Err halt) r)
-      (sym (chosen (nat_lt k (leaves_of first)) (within (arms_left v later) (step i held first k u)) (within (an_arm v first) (step_arms i held later (k - leaves_of first) u)) (lt-ltb k (leaves_of first) lt)))
-      (one_stops path s v later halt (step i held first k u) turn))
-  arms_stop path s halt held (x ∷ xs) list k (suc at) leaf arm (v, first, later, e, one, rest) (past, is) same told =
-      let i = instance_at (tree_of d) path in
-      let u = under_path path s in
-      let count = leaves_shown d n (plain_strand x) first one in
-      let le : leaves_of first ≤ k = subst (λ m. m ≤ k) (sym count) past in
-      let inner = arms_stop path s halt held xs later (k - strand_leaves (plain_strand x)) at leaf arm rest is same told in
-      subst (λ l. ArmsTold path s (Err halt) (step_arms i held l k u)) (sym e)
-      (subst (λ r. ArmsTold path s (Err halt) r)
-      (sym (passed (nat_lt k (leaves_of first)) (within (arms_left v later) (step i held first k u)) (within (an_arm v first) (step_arms i held later (k - leaves_of first) u)) (le-ltb k (leaves_of first) le)))
-      (behind_stops path s v first halt (step_arms i held later (k - leaves_of first) u)
-      (subst (λ m. ArmsTold path s (Err halt) (step_arms i held later (k - m) u)) (sym count) inner)))
-
-  -- A PAR
-  par_told : (path : Path) (s : State) (arms : List Strand) (after : Option Strand) (x : Stepped Opens) → IsParOf arms after → ArmsTold path s (Ok arms) x → StepTold d n path s new (Ok after) (within par_left x)
-  par_told path s [] after (Now no_arms t) is told = subst (λ a. StepTold d n path s new (Ok a) (Now None t)) (sym is) (told.0, tt)
-  par_told path s [] after (Now (an_arm v o os) t) is told = absurd (let f : an_arm v o os ≡ no_arms = told.1 in cc)
-  par_told path s (y ∷ ys) after (Now no_arms t) is told = absurd (let f : no_arms ≡ an_arm told.1.0 told.1.1 told.1.2 = told.1.3 in cc)
-  par_told path s (y ∷ ys) after (Now (an_arm v o os) t) (strand, is, plain) told =
-      subst (λ a. StepTold d n path s new (Ok a) (Now (Some (InPar (an_arm v o os))) t)) (sym is)
-      (told.0, subst (λ p. Shows d n p (InPar (an_arm v o os))) (sym plain) (an_arm v o os, refl, told.1, tt))
-  par_told path s arms after (Stops fault) is told = absurd told
-
-  par_halts : (path : Path) (s : State) (halt : Halt) (x : Stepped Opens) → ArmsTold path s (Err halt) x → StepTold d n path s new (Err halt) (within par_left x)
-  par_halts path s (halts.Fault told) (Now list t) bad = absurd bad
-  par_halts path s halts.Memory (Now list t) tells = tt
-  par_halts path s halt (Stops fault) tells = tells
-
-  par_arms : (at : ℕ) (arms : List Strand) (left after : Option Strand) → IsParAfter (remove arms at) at left after → IsParOf (arms_after arms at left) after
-  par_arms at arms None after is = is
-  par_arms at arms (Some l) after is = is
-
-  module _ (arms : List Strand) (k at leaf : ℕ) (arm : Strand) (is : IsArmOf (map plain_strand arms) k at leaf) (same : arm ≡ get_or arms at arm) where
-    pub par_goes : (left after : Option Strand) → HasStepped d old new n (plain_strand arm) leaf (Ok left) → IsParAfter (remove arms at) at left after → HasStepped d old new n (APar (strands_of (map plain_strand arms))) k (Ok after)
-    par_goes left after stepped behind = record {
-      tells = λ path s o number stands shown.
-          let i = instance_at (tree_of d) path in
-          subst (λ x. StepTold d n path s new (Ok after) (step i (inputs_held old n) x k (under_path path s))) (sym shown.1)
-          (par_told path s (arms_after arms at left) after (step_arms i (inputs_held old n) shown.0 k (under_path path s)) (par_arms at arms left after behind)
-          (arms_go path s left (inputs_held old n) arms shown.0 k at leaf arm shown.2 is same (λ one there. stepped.tells path s one number stands there)));
+    pub arm_goes : (left : Option Strand) (after : Option Arms) → HasStepped d old new n arm k (Ok left) → IsArmOf left after → HaveStepped d old new n (one_arm arm) k (Ok after)
+    arm_goes left after stepped is = record {
+      tells = λ path s list number stands (v, first, e, shown).
+          subst (λ x. ArmsTold d n path s new (Ok after) x) (sym (arm_turn path s list v first e shown))
+          (one_goes path s v left after (step (instance_at (tree_of d) path) (inputs_held old n) first k (under_path path s)) is (stepped.tells path s first number stands shown));
       held = stepped.held;
     }
 
-    pub par_stops : (halt : Halt) → HasStepped d old new n (plain_strand arm) leaf (Err halt) → HasStepped d old new n (APar (strands_of (map plain_strand arms))) k (Err halt)
-    par_stops halt stepped = record {
-      tells = λ path s o number stands shown.
+    pub arm_stops : (halt : Halt) → HasStepped d old new n arm k (Err halt) → HaveStepped d old new n (one_arm arm) k (Err halt)
+    arm_stops halt stepped = record {
+      tells = λ path s list number stands (v, first, e, shown).
+          subst (λ x. ArmsTold d n path s new (Err halt) x) (sym (arm_turn path s list v first e shown))
+          (one_stops path s v halt (step (instance_at (tree_of d) path) (inputs_held old n) first k (under_path path s)) (stepped.tells path s first number stands shown));
+      held = stepped.held;
+    }
+
+  -- A HALF goes on, or ends
+  front_told : (path : Path) (s : State) (other after : PlainArms) (arms : Arms) (left : Option Arms) (back : Opens) (x : Stepped Opens) → plain_arms arms ≡ after → IsInFront left other after → ShowsAll d n other back
+      → ArmsTold d n path s new (Ok left) x → ArmsTold d n path s new (Ok (Some arms)) (within (λ l. beside l back) x)
+  front_told path s other after arms None back (Now list t) plain is later told =
+      (told.0, subst (λ l. ShowsAll d n (plain_arms arms) (beside l back)) (sym told.1) (subst (λ a. ShowsAll d n a back) (sym (plain ∙ is)) later))
+  front_told path s other after arms (Some one) back (Now list t) plain is later told =
+      (told.0, subst (λ a. ShowsAll d n a (beside list back)) (sym plain) (both_shown d n (plain_arms one) other after list back is told.1 later))
+  front_told path s other after arms left back (Stops fault) plain is later told = absurd told
+
+  none_behind : (front : Opens) → beside front no_arms ≡ front
+  none_behind no_arms = refl
+  none_behind (an_arm v o rest) = ap (an_arm v o) (none_behind rest)
+
+  back_told : (path : Path) (s : State) (one after : PlainArms) (arms : Arms) (left : Option Arms) (front : Opens) (x : Stepped Opens) → plain_arms arms ≡ after → IsBehind left one after → ShowsAll d n one front
+      → ArmsTold d n path s new (Ok left) x → ArmsTold d n path s new (Ok (Some arms)) (within (beside front) x)
+  back_told path s one after arms None front (Now list t) plain is first told =
+      (told.0, subst (λ l. ShowsAll d n (plain_arms arms) l) (sym (ap (beside front) told.1 ∙ none_behind front)) (subst (λ a. ShowsAll d n a front) (sym (plain ∙ is)) first))
+  back_told path s one after arms (Some other) front (Now list t) plain is first told =
+      (told.0, subst (λ a. ShowsAll d n a (beside front list)) (sym plain) (both_shown d n one (plain_arms other) after front list is first told.1))
+  back_told path s one after arms left front (Stops fault) plain is first told = absurd told
+
+  half_stops : (path : Path) (s : State) (halt : Halt) (f : Opens → Opens) (x : Stepped Opens) → ArmsTold d n path s new (Err halt) x → ArmsTold d n path s new (Err halt) (within f x)
+  half_stops path s (halts.Fault told) f (Now o t) bad = absurd bad
+  half_stops path s (halts.Fault told) f (Stops fault) tells = tells
+  half_stops path s halts.Memory f x tells = tt
+
+  module _ (one other : PlainArms) (leaves k : ℕ) where
+    front_turn : (path : Path) (s : State) (list front back : Opens) → k < arms_leaves one → list ≡ beside front back → ShowsAll d n one front
+        → step_arms (instance_at (tree_of d) path) (inputs_held old n) list k (under_path path s) ≡ within (λ l. beside l back) (step_arms (instance_at (tree_of d) path) (inputs_held old n) front k (under_path path s))
+    front_turn path s list front back less e first =
+        let i = instance_at (tree_of d) path in
+        ap (λ l. step_arms i (inputs_held old n) l k (under_path path s)) e ∙ step_front i (inputs_held old n) (under_path path s) front back k (subst (λ m. k < m) (sym (all_leaves_shown d n one front first)) less)
+
+    pub front_goes : k < arms_leaves one → (left : Option Arms) (arms : Arms) → HaveStepped d old new n one k (Ok left) → IsInFront left other (plain_arms arms) → HaveStepped d old new n (both_arms leaves one other) k (Ok (Some arms))
+    front_goes less left arms stepped is = record {
+      tells = λ path s list number stands (front, back, e, first, later, told).
+          subst (λ x. ArmsTold d n path s new (Ok (Some arms)) x) (sym (front_turn path s list front back less e first))
+          (front_told path s other (plain_arms arms) arms left back (step_arms (instance_at (tree_of d) path) (inputs_held old n) front k (under_path path s)) refl is later (stepped.tells path s front number stands first));
+      held = stepped.held;
+    }
+
+    pub front_stops : k < arms_leaves one → (halt : Halt) → HaveStepped d old new n one k (Err halt) → HaveStepped d old new n (both_arms leaves one other) k (Err halt)
+    front_stops less halt stepped = record {
+      tells = λ path s list number stands (front, back, e, first, later, told).
+          subst (λ x. ArmsTold d n path s new (Err halt) x) (sym (front_turn path s list front back less e first))
+          (half_stops path s halt (λ l. beside l back) (step_arms (instance_at (tree_of d) path) (inputs_held old n) front k (under_path path s)) (stepped.tells path s front number stands first));
+      held = stepped.held;
+    }
+
+    back_turn : (path : Path) (s : State) (list front back : Opens) → list ≡ beside front back → ShowsAll d n one front
+        → step_arms (instance_at (tree_of d) path) (inputs_held old n) list (arms_leaves one + k) (under_path path s) ≡ within (beside front) (step_arms (instance_at (tree_of d) path) (inputs_held old n) back k (under_path path s))
+    back_turn path s list front back e first =
+        let i = instance_at (tree_of d) path in
+        ap (λ l. step_arms i (inputs_held old n) l (arms_leaves one + k) (under_path path s)) e
+        ∙ step_back i (inputs_held old n) (under_path path s) front back (arms_leaves one + k) k (ap (λ m. m + k) (sym (all_leaves_shown d n one front first)))
+
+    pub back_goes : (left : Option Arms) (arms : Arms) → HaveStepped d old new n other k (Ok left) → IsBehind left one (plain_arms arms) → HaveStepped d old new n (both_arms leaves one other) (arms_leaves one + k) (Ok (Some arms))
+    back_goes left arms stepped is = record {
+      tells = λ path s list number stands (front, back, e, first, later, told).
+          subst (λ x. ArmsTold d n path s new (Ok (Some arms)) x) (sym (back_turn path s list front back e first))
+          (back_told path s one (plain_arms arms) arms left front (step_arms (instance_at (tree_of d) path) (inputs_held old n) back k (under_path path s)) refl is first (stepped.tells path s back number stands later));
+      held = stepped.held;
+    }
+
+    pub back_stops : (halt : Halt) → HaveStepped d old new n other k (Err halt) → HaveStepped d old new n (both_arms leaves one other) (arms_leaves one + k) (Err halt)
+    back_stops halt stepped = record {
+      tells = λ path s list number stands (front, back, e, first, later, told).
+          subst (λ x. ArmsTold d n path s new (Err halt) x) (sym (back_turn path s list front back e first))
+          (half_stops path s halt (beside front) (step_arms (instance_at (tree_of d) path) (inputs_held old n) back k (under_path path s)) (stepped.tells path s back number stands later));
+      held = stepped.held;
+    }
+
+  -- A PAR goes on, or ends
+  shown_arms : (arms : PlainArms) (list : Opens) → ShowsAll d n arms list → par_left list ≡ Some (InPar list)
+  shown_arms (one_arm arm) list (v, first, e, shown) = ap par_left e ∙ ap (λ l. Some (InPar l)) (sym e)
+  shown_arms (both_arms leaves one other) list (front, back, e, first, later, told) =
+      ap par_left e ∙ some_beside front back (shown_arms one front first) ∙ ap (λ l. Some (InPar l)) (sym e)
+    where
+      some_beside : (front back : Opens) → par_left front ≡ Some (InPar front) → par_left (beside front back) ≡ Some (InPar (beside front back))
+      some_beside no_arms back is = absurd (let f : ◌≡◌ {A = Option Open} None (Some (InPar no_arms)) = is in cc)
+      some_beside (an_arm v o rest) back is = refl
+
+  par_told : (path : Path) (s : State) (left : Option Arms) (after : Option Strand) (x : Stepped Opens) → IsParOf left after → ArmsTold d n path s new (Ok left) x → StepTold d n path s new (Ok after) (within par_left x)
+  par_told path s None after (Now list t) is told =
+      subst (λ a. StepTold d n path s new (Ok a) (Now (par_left list) t)) (sym is) (subst (λ l. StepTold d n path s new (Ok None) (Now (par_left l) t)) (sym told.1) (told.0, tt))
+  par_told path s (Some arms) after (Now list t) (strand, is, plain) told =
+      subst (λ a. StepTold d n path s new (Ok a) (Now (par_left list) t)) (sym is)
+      (subst (λ o. StepTold d n path s new (Ok (Some strand)) (Now o t)) (sym (shown_arms (plain_arms arms) list told.1))
+      (told.0, subst (λ p. Shows d n p (InPar list)) (sym plain) (list, refl, told.1)))
+  par_told path s left after (Stops fault) is told = absurd told
+
+  par_halts : (path : Path) (s : State) (halt : Halt) (x : Stepped Opens) → ArmsTold d n path s new (Err halt) x → StepTold d n path s new (Err halt) (within par_left x)
+  par_halts path s (halts.Fault told) (Now list t) bad = absurd bad
+  par_halts path s (halts.Fault told) (Stops fault) tells = tells
+  par_halts path s halts.Memory x tells = tt
+
+  module _ (arms : PlainArms) (k : ℕ) where
+    pub par_goes : (left : Option Arms) (after : Option Strand) → HaveStepped d old new n arms k (Ok left) → IsParOf left after → HasStepped d old new n (APar arms) k (Ok after)
+    par_goes left after stepped behind = record {
+      tells = λ path s o number stands (list, e, shown).
           let i = instance_at (tree_of d) path in
-          subst (λ x. StepTold d n path s new (Err halt) (step i (inputs_held old n) x k (under_path path s))) (sym shown.1)
-          (par_halts path s halt (step_arms i (inputs_held old n) shown.0 k (under_path path s))
-          (arms_stop path s halt (inputs_held old n) arms shown.0 k at leaf arm shown.2 is same (λ one there. stepped.tells path s one number stands there)));
+          subst (λ x. StepTold d n path s new (Ok after) (step i (inputs_held old n) x k (under_path path s))) (sym e)
+          (par_told path s left after (step_arms i (inputs_held old n) list k (under_path path s)) behind (stepped.tells path s list number stands shown));
+      held = stepped.held;
+    }
+
+    pub par_stops : (halt : Halt) → HaveStepped d old new n arms k (Err halt) → HasStepped d old new n (APar arms) k (Err halt)
+    par_stops halt stepped = record {
+      tells = λ path s o number stands (list, e, shown).
+          let i = instance_at (tree_of d) path in
+          subst (λ x. StepTold d n path s new (Err halt) (step i (inputs_held old n) x k (under_path path s))) (sym e)
+          (par_halts path s halt (step_arms i (inputs_held old n) list k (under_path path s)) (stepped.tells path s list number stands shown));
       held = stepped.held;
     }

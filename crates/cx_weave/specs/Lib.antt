@@ -7,5 +7,8 @@ pub mod Strands
 pub mod Strides
 pub mod Calls
 pub mod Results
+pub mod Takes
+pub mod Rows
+pub mod Spared
 pub mod Marks
 pub mod Deep

@@ -5,7 +5,7 @@ use Rattle.cx_meaning.specs.declared.sights.Seen.{Seen}
 use Rattle.cx_meaning.specs.declared.kinds.GroupKind.{GroupKind}
 use Rattle.cx_meaning.specs.declared.kinds.GroupKind.TheVariants as kinds
 use Rattle.cx_meaning.specs.Designs.{PlainComponent, group_at, PlainForm, Empty, Enable, Seq, Par, If, While, Repeat, StaticSeq, StaticPar, StaticIf, StaticRepeat, Timed, PlainStatement, Placed, PlainStatements, no_statements, a_statement}
-use Rattle.cx_meaning.specs.Instances.{Instance, Node, Cells, no_cells, a_primitive, an_instance, part_of}
+use Rattle.cx_meaning.specs.Instances.{Instance, Node, Cells, no_cells, a_primitive, an_instance, cells_of, part_of}
 use Rattle.cx_meaning.specs.Islands.{History, no_history, form_length}
 use Rattle.cx_meaning.specs.Calls.{called}
 
@@ -119,3 +119,11 @@ abbrev mutual
 -- any statement of an instance
 abbrev pub open_statement : Instance → PlainStatement → Open
 open_statement (Node part cells) statement = open_with part (open_enable (Node part cells) (open_below cells)) statement
+
+-- some arms of a par of an instance, and the arms of two lists
+abbrev pub open_statements : Instance → PlainStatements → Opens
+open_statements i arms = open_arms (part_of i) (open_enable i (open_below (cells_of i))) arms
+
+abbrev pub beside : Opens → Opens → Opens
+beside no_arms more = more
+beside (an_arm statement arm arms) more = an_arm statement arm (beside arms more)

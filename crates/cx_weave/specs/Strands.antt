@@ -1,5 +1,5 @@
 -- Strands as plain data, and the open statements that they show.
-use Rattle.std.specs.Prelude.{◌≡◌, ℕ, zero, suc, ◌+◌, ◌-◌, ◌<◌, ◌≤◌, Bool, true, List, [], ◌∷◌, ◌++◌, length, slice_get, Option, Some, None}
+use Rattle.std.specs.Prelude.{◌≡◌, ℕ, zero, suc, ◌+◌, ◌<◌, ◌≤◌, Bool, true, List, [], ◌∷◌, ◌++◌, length, slice_get, Option, Some, None}
 use Rattle.cx_bits.specs.BitVector.{BitVector}
 use Rattle.cx_meaning.specs.declared.ports.PortRef.{PortRef}
 use Rattle.cx_meaning.specs.declared.ports.PlacedPort.{PlacedPort}
@@ -13,6 +13,7 @@ use Rattle.cx_rules.specs.Ports.{declared_width}
 use Rattle.cx_design.specs.PlainForms.{plain_form, plain_statement, plain_statements}
 use Rattle.cx_state.specs.Tables.{IsNumber}
 use Rattle.cx_eval_cycle.specs.Passes.{IsAscending, listed_in}
+use Rattle.cx_limits.specs.Capped.{capped}
 use Rattle.cx_laws.specs.Samples.{Samples, AreKept, form_ifs}
 use Rattle.cx_interp_islands.specs.Rooms.{samples_of}
 use Rattle.cx_interp.specs.Callees.{HasChild}
@@ -20,8 +21,9 @@ use Rattle.cx_interp.specs.Groups.{IsGroupOf, ListWithin}
 use Rattle.cx_interp.specs.Islands.{IsIsland}
 use Rattle.cx_interp.specs.Machines.{FormStands, StandsIn, StandIn}
 use Rattle.cx_weave.specs.declared.strands.Strand.{Strand, Strand-F, fold-Strand}
-use Rattle.cx_weave.specs.declared.strands.Strand.TheOpen as strands
-use Rattle.cx_weave.specs.Open.{Open, Idling, InGroup, Choosing, Testing, InIsland, Capturing, Closing, Waiting, InSeq, InPar, InLoop, InRepeat, InCall, Opens, no_arms, an_arm}
+use Rattle.cx_weave.specs.declared.strands.Arms.{Arms, Arms-F, fold-Arms}
+use Rattle.cx_weave.specs.declared.strands.Arms.TheOpen as strands
+use Rattle.cx_weave.specs.Open.{Open, Idling, InGroup, Choosing, Testing, InIsland, Capturing, Closing, Waiting, InSeq, InPar, InLoop, InRepeat, InCall, Opens, no_arms, an_arm, beside}
 use Rattle.cx_weave.specs.Leaves.{form_drives, is_tested}
 
 mutual
@@ -35,24 +37,21 @@ mutual
     AClosing : (g : ℕ) → PlainStrand
     AWaiting : PlainStrand
     ASeq : (first : PlainStrand) (later : PlainStatements) → PlainStrand
-    APar : (arms : PlainStrands) → PlainStrand
+    APar : (arms : PlainArms) → PlainStrand
     ALoop : (run : PlainStrand) (port : PlacedPort) (comb : Option ℕ) (body : PlainStatement) → PlainStrand
     ARepeat : (run : PlainStrand) (left : ℕ) (body : PlainStatement) → PlainStrand
     ACall : (g c : ℕ) (inputs : Option (List Seen)) (child : PlainStrand) → PlainStrand
 
-  pub data PlainStrands : Type 0 where
-    no_strands : PlainStrands
-    a_strand : (arm : PlainStrand) (arms : PlainStrands) → PlainStrands
-
-abbrev pub strands_of : List PlainStrand → PlainStrands
-strands_of [] = no_strands
-strands_of (arm ∷ arms) = a_strand arm (strands_of arms)
+  -- one arm, or two halves and the number of leaves that are told for both
+  pub data PlainArms : Type 0 where
+    one_arm : (arm : PlainStrand) → PlainArms
+    both_arms : (leaves : ℕ) (one other : PlainArms) → PlainArms
 
 abbrev pub seen_items : {V : Type 0} → (V → List Seen) → Option V → Option (List Seen)
 seen_items items None = None
 seen_items items (Some v) = Some (items v)
 
-abbrev pub strand_step : Strand-F PlainStrand → PlainStrand
+abbrev pub strand_step : Strand-F PlainArms PlainStrand → PlainStrand
 strand_step strands.Idling = AnIdling
 strand_step (strands.InGroup g) = AGroup g
 strand_step (strands.Choosing port comb a b) = AChoice port comb (plain_statement a.now) (plain_statement b.now)
@@ -62,13 +61,20 @@ strand_step (strands.Capturing g c) = ACapture g c
 strand_step (strands.Closing g) = AClosing g
 strand_step strands.Waiting = AWaiting
 strand_step (strands.InSeq first later) = ASeq first.value (plain_statements later.now)
-strand_step (strands.InPar arms) = APar (strands_of arms.items)
+strand_step (strands.InPar arms) = APar arms.value
 strand_step (strands.InLoop run port comb body) = ALoop run.value port comb (plain_statement body.now)
 strand_step (strands.InRepeat run left body) = ARepeat run.value left (plain_statement body.now)
 strand_step (strands.InCall g c inputs child) = ACall g c (seen_items (λ v. v.items) inputs) child.value
 
+abbrev pub arms_step : Arms-F PlainArms PlainStrand → PlainArms
+arms_step (strands.One arm) = one_arm arm
+arms_step (strands.Both leaves one other) = both_arms leaves one.value other.value
+
 abbrev pub plain_strand : Strand → PlainStrand
-plain_strand = fold-Strand PlainStrand strand_step
+plain_strand = fold-Strand PlainArms PlainStrand arms_step strand_step
+
+abbrev pub plain_arms : Arms → PlainArms
+plain_arms = fold-Arms PlainArms PlainStrand arms_step strand_step
 
 -- how many leaves are open
 abbrev mutual
@@ -82,14 +88,42 @@ abbrev mutual
   strand_leaves (AClosing g) = 1
   strand_leaves AWaiting = 1
   strand_leaves (ASeq first later) = strand_leaves first
-  strand_leaves (APar arms) = strands_leaves arms
+  strand_leaves (APar arms) = arms_leaves arms
   strand_leaves (ALoop run port comb body) = strand_leaves run
   strand_leaves (ARepeat run left body) = strand_leaves run
   strand_leaves (ACall g c inputs child) = strand_leaves child
 
-  pub strands_leaves : PlainStrands → ℕ
-  strands_leaves no_strands = 0
-  strands_leaves (a_strand arm arms) = strand_leaves arm + strands_leaves arms
+  pub arms_leaves : PlainArms → ℕ
+  arms_leaves (one_arm arm) = strand_leaves arm
+  arms_leaves (both_arms leaves one other) = arms_leaves one + arms_leaves other
+
+-- they are told where they are counted, up to a limit
+abbrev pub Tells : ℕ → PlainArms → PlainArms → Type 0
+Tells leaves one other = leaves ≡ capped (arms_leaves one + arms_leaves other)
+
+abbrev mutual
+  pub IsCounted : PlainStrand → Type 0
+  IsCounted AnIdling = Unit {0}
+  IsCounted (AGroup g) = Unit {0}
+  IsCounted (AChoice port comb a b) = Unit {0}
+  IsCounted (ATest port comb body) = Unit {0}
+  IsCounted (AnIsland form t left samples cells) = Unit {0}
+  IsCounted (ACapture g c) = Unit {0}
+  IsCounted (AClosing g) = Unit {0}
+  IsCounted AWaiting = Unit {0}
+  IsCounted (ASeq first later) = IsCounted first
+  IsCounted (APar arms) = AreCounted arms
+  IsCounted (ALoop run port comb body) = IsCounted run
+  IsCounted (ARepeat run left body) = IsCounted run
+  IsCounted (ACall g c inputs child) = IsCounted child
+
+  pub AreCounted : PlainArms → Type 0
+  AreCounted (one_arm arm) = IsCounted arm
+  AreCounted (both_arms leaves one other) = Tells leaves one other × AreCounted one × AreCounted other
+
+-- two halves of some arms
+abbrev pub IsBoth : PlainArms → PlainArms → PlainArms → Type 0
+IsBoth one other arms = (leaves : ℕ) × (arms ≡ both_arms leaves one other) × (AreCounted one → AreCounted other → Tells leaves one other)
 
 -- a group of instance n calls the child at a cell
 abbrev pub CallsCell : PlainDesign → ℕ → ℕ → ℕ → Type 0
@@ -130,10 +164,6 @@ abbrev pub InputsFit : PlainDesign → ℕ → ℕ → Option (List Seen) → Ty
 InputsFit d n c None = Unit {0}
 InputsFit d n c (Some inputs) = (path : Path) → IsNumber d n path → AreInputs (part_of (instance_at (tree_of d) (path ++ c ∷ []))) inputs
 
-abbrev pub HasArm : PlainStrands → Type 0
-HasArm no_strands = ⊥
-HasArm (a_strand arm arms) = Unit {0}
-
 -- THE OPEN STATEMENT that a strand of instance n shows
 abbrev mutual
   pub Shows : PlainDesign → ℕ → PlainStrand → Open → Type 0
@@ -146,24 +176,22 @@ abbrev mutual
   Shows d n (AClosing g) o = (o ≡ Closing g) × IsGroupOf d n g
   Shows d n AWaiting o = o ≡ Waiting
   Shows d n (ASeq first later) o = (run : Open) × (o ≡ InSeq run later) × Shows d n first run × StandIn d n later
-  Shows d n (APar arms) o = (list : Opens) × (o ≡ InPar list) × ShowsAll d n arms list × HasArm arms
+  Shows d n (APar arms) o = (list : Opens) × (o ≡ InPar list) × ShowsAll d n arms list
   Shows d n (ALoop run port comb body) o = (now : Open) × (o ≡ InLoop now port.port comb body) × Shows d n run now × FormStands d n (While port comb body)
   Shows d n (ARepeat run left body) o = (now : Open) × (o ≡ InRepeat now left body) × Shows d n run now × StandsIn d n body
   Shows d n (ACall g c inputs child) o =
       (now : Open) × (o ≡ InCall g c inputs now) × IsGroupOf d n g × CallsCell d n g c × InputsFit d n c inputs × ((m : ℕ) × HasChild d n c m × Shows d m child now)
 
-  pub ShowsAll : PlainDesign → ℕ → PlainStrands → Opens → Type 0
-  ShowsAll d n no_strands list = list ≡ no_arms
-  ShowsAll d n (a_strand arm arms) list = (statement : PlainStatement) × (first : Open) × (later : Opens) × (list ≡ an_arm statement first later) × Shows d n arm first × ShowsAll d n arms later
+  pub ShowsAll : PlainDesign → ℕ → PlainArms → Opens → Type 0
+  ShowsAll d n (one_arm arm) list = (statement : PlainStatement) × (first : Open) × (list ≡ an_arm statement first no_arms) × Shows d n arm first
+  ShowsAll d n (both_arms leaves one other) list =
+      (front : Opens) × (back : Opens) × (list ≡ beside front back) × ShowsAll d n one front × ShowsAll d n other back × Tells leaves one other
 
 abbrev pub IsShown : PlainDesign → ℕ → PlainStrand → Type 0
 IsShown d n p = (o : Open) × Shows d n p o
 
--- the arm in which leaf k is, by its number, and the leaf's number in it
-abbrev pub IsArmOf : List PlainStrand → ℕ → ℕ → ℕ → Type 0
-IsArmOf [] k at leaf = ⊥
-IsArmOf (arm ∷ arms) k zero leaf = (leaf ≡ k) × (k < strand_leaves arm)
-IsArmOf (arm ∷ arms) k (suc at) leaf = (strand_leaves arm ≤ k) × IsArmOf arms (k - strand_leaves arm) at leaf
+abbrev pub AreShown : PlainDesign → ℕ → PlainArms → Type 0
+AreShown d n arms = (list : Opens) × ShowsAll d n arms list
 
 -- a cycle of an island of instance n, and samples before it
 abbrev pub IsWithinIsland : PlainDesign → ℕ → PlainForm → ℕ → Type 0

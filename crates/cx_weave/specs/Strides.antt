@@ -1,7 +1,6 @@
 -- What a turn of a leaf leaves of a strand, and of the rows that stand for the state.
-use Rattle.std.specs.Prelude.{◌≡◌, ℕ, suc, ◌≤◌, List, [], ◌∷◌, map, Option, Some, None, Result, Ok, Err}
-use Rattle.std.specs.List.{insert}
-use Rattle.cx_meaning.specs.Designs.{PlainDesign, PlainComponent, PlainForm, PlainStatement}
+use Rattle.std.specs.Prelude.{◌≡◌, ℕ, suc, ◌≤◌, List, Option, Some, None, Result, Ok, Err}
+use Rattle.cx_meaning.specs.Designs.{PlainDesign, PlainComponent, PlainForm, PlainStatement, PlainStatements}
 use Rattle.cx_meaning.specs.Islands.{History}
 use Rattle.cx_laws.specs.Samples.{Samples}
 use Rattle.cx_design.specs.declared.actives.PortFault.{PortFault}
@@ -19,10 +18,11 @@ use Rattle.cx_interp.specs.declared.turns.Turn.TheVariants as turns
 use Rattle.cx_weave.specs.declared.strands.Halt.{Halt}
 use Rattle.cx_weave.specs.declared.strands.Halt.TheVariants as halts
 use Rattle.cx_weave.specs.declared.strands.Strand.{Strand}
-use Rattle.cx_weave.specs.Open.{Open, open_statement}
+use Rattle.cx_weave.specs.declared.strands.Arms.{Arms}
+use Rattle.cx_weave.specs.Open.{Open, Opens, no_arms, open_statement, open_statements}
 use Rattle.cx_weave.specs.Leaves.{own_island, rested, samples_now}
-use Rattle.cx_weave.specs.Steps.{Stepped, Now, Stops, step}
-use Rattle.cx_weave.specs.Strands.{PlainStrand, APar, Knows, plain_strand, strands_of, Shows}
+use Rattle.cx_weave.specs.Steps.{Stepped, Now, Stops, step, step_arms}
+use Rattle.cx_weave.specs.Strands.{PlainStrand, APar, PlainArms, one_arm, Knows, plain_strand, plain_arms, Shows, ShowsAll, IsBoth}
 
 -- A TURN in instance n, in every state that the rows stand for
 abbrev pub TurnTold : PlainDesign → Path → State → List PlainInstance → List PlainInstance → Turn → answers.Turn State Fault → Type 0
@@ -52,6 +52,10 @@ pub record HasRested (d : PlainDesign) (old new : List PlainInstance) (n : ℕ) 
 abbrev pub OpensAs : PlainDesign → ℕ → PlainStatement → Strand → Type 0
 OpensAs d n st strand = (path : Path) → IsNumber d n path → Shows d n (plain_strand strand) (open_statement (instance_at (tree_of d) path) st)
 
+-- and some arms of a par
+abbrev pub OpenAs : PlainDesign → ℕ → PlainStatements → Arms → Type 0
+OpenAs d n sts arms = (path : Path) → IsNumber d n path → ShowsAll d n (plain_arms arms) (open_statements (instance_at (tree_of d) path) sts)
+
 -- what is left of a statement
 abbrev pub LeftShown : PlainDesign → ℕ → Option Strand → Option Open → Type 0
 LeftShown d n None None = Unit {0}
@@ -76,12 +80,39 @@ pub record HasStepped (d : PlainDesign) (old new : List PlainInstance) (n : ℕ)
       → StepTold d n path s new result (step (instance_at (tree_of d) path) (inputs_held old n) o k (under_path path s))
   pub held : (m input : ℕ) → m ≤ n → inputs_held new m input ≡ inputs_held old m input
 
--- what is left of a par: these arms
-abbrev pub IsParOf : List Strand → Option Strand → Type 0
-IsParOf [] after = after ≡ None
-IsParOf (arm ∷ arms) after = (strand : Strand) × (after ≡ Some strand) × (plain_strand strand ≡ APar (strands_of (map plain_strand (arm ∷ arms))))
+-- what is left of some arms
+abbrev pub ArmsLeft : PlainDesign → ℕ → Option Arms → Opens → Type 0
+ArmsLeft d n None list = list ≡ no_arms
+ArmsLeft d n (Some arms) list = ShowsAll d n (plain_arms arms) list
 
--- the other arms, and at its place what is left of one
-abbrev pub IsParAfter : List Strand → ℕ → Option Strand → Option Strand → Type 0
-IsParAfter arms at None after = IsParOf arms after
-IsParAfter arms at (Some arm) after = IsParOf (insert arms at arm) after
+abbrev pub ArmsTold : PlainDesign → ℕ → Path → State → List PlainInstance → Result (Option Arms) Halt → Stepped Opens → Type 0
+ArmsTold d n path s rows (Ok left) (Now list after) = StandsFor (tree_of d) rows (put_path path after s) × ArmsLeft d n left list
+ArmsTold d n path s rows (Ok left) (Stops fault) = ⊥
+ArmsTold d n path s rows (Err (halts.Fault told)) (Now list after) = ⊥
+ArmsTold d n path s rows (Err (halts.Fault told)) (Stops fault) = TellsFault (tree_of d) (fault_along path fault) told
+ArmsTold d n path s rows (Err halts.Memory) x = Unit {0}
+
+-- a turn of leaf k of some arms of a par of instance n
+pub record HaveStepped (d : PlainDesign) (old new : List PlainInstance) (n : ℕ) (arms : PlainArms) (k : ℕ) (result : Result (Option Arms) Halt) : Type 0 where
+  pub tells : (path : Path) (s : State) (list : Opens) → IsNumber d n path → StandsFor (tree_of d) old s → ShowsAll d n arms list
+      → ArmsTold d n path s new result (step_arms (instance_at (tree_of d) path) (inputs_held old n) list k (under_path path s))
+  pub held : (m input : ℕ) → m ≤ n → inputs_held new m input ≡ inputs_held old m input
+
+-- what is left of an arm, as some arms
+abbrev pub IsArmOf : Option Strand → Option Arms → Type 0
+IsArmOf None after = after ≡ None
+IsArmOf (Some arm) after = (arms : Arms) × (after ≡ Some arms) × (plain_arms arms ≡ one_arm (plain_strand arm))
+
+-- what is left of a par with these arms
+abbrev pub IsParOf : Option Arms → Option Strand → Type 0
+IsParOf None after = after ≡ None
+IsParOf (Some arms) after = (strand : Strand) × (after ≡ Some strand) × (plain_strand strand ≡ APar (plain_arms arms))
+
+-- what is left of the first half in front of the second, and of the second behind the first
+abbrev pub IsInFront : Option Arms → PlainArms → PlainArms → Type 0
+IsInFront None other after = after ≡ other
+IsInFront (Some one) other after = IsBoth (plain_arms one) other after
+
+abbrev pub IsBehind : Option Arms → PlainArms → PlainArms → Type 0
+IsBehind None one after = after ≡ one
+IsBehind (Some other) one after = IsBoth one (plain_arms other) after

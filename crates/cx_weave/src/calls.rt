@@ -13,6 +13,7 @@ ghost use Rattle.cx_weave.specs.Calls.{HoldsAs, HoldsList};
 ghost use Rattle.cx_weave.specs.Strands.{CallsCell, InputsFit, seen_items};
 ghost use Rattle.cx_weave.specs.Strides.{LeftShown};
 
+use crate::spares::{Spares, give_box, give_inputs, refilled, take_inputs};
 use crate::strands::Strand;
 use cx_interp::calls::group_row;
 use cx_interp::children::hold_inputs;
@@ -20,7 +21,6 @@ use cx_interp::machine::Machine;
 use cx_interp::plan::Plan;
 use cx_meaning::Seen;
 use cx_text::Memory;
-use std::alloc::Global;
 
 /// Holds the inputs of a child as they are listed.
 fn hold_listed(
@@ -48,11 +48,15 @@ fn hold_listed(
 }
 
 /// What the inputs of an instance are held as.
-fn held_inputs(alloc: Global, machine: &Machine<'_>, instance: usize) -> Result<Vec<Seen>, Memory>
+fn held_inputs(
+    spares: &mut Spares<'_>,
+    machine: &Machine<'_>,
+    instance: usize,
+) -> Result<Vec<Seen>, Memory>
     requires instance { instance < length (rows_of machine.now) }
     ensures { IfOk result (λ inputs. inputs.items ≡ (instance_state (rows_of machine.now) instance).held) }
 {
-    let mut inputs = Vec::new(alloc);
+    let mut inputs = take_inputs(spares)?;
     for seen in &machine.sight.state.instances[instance].held {
         inputs.push(*seen)?;
     }
@@ -61,7 +65,7 @@ fn held_inputs(alloc: Global, machine: &Machine<'_>, instance: usize) -> Result<
 
 /// Holds the inputs of a call, which are seen in its first turn.
 pub(crate) fn hold_call(
-    alloc: Global,
+    spares: &mut Spares<'_>,
     plan: &Plan<'_>,
     machine: &mut Machine<'_>,
     instance: usize,
@@ -88,19 +92,20 @@ pub(crate) fn hold_call(
         }
         None => {
             hold_inputs(plan, machine, instance, group, cell, child);
-            held_inputs(alloc, machine, child)
+            held_inputs(spares, machine, child)
         }
     }
 }
 
 /// A call: behind the child come the capture cycle, where registers are captured, and an idle turn.
 pub(crate) fn call_left<'a>(
-    alloc: Global,
+    spares: &mut Spares<'a>,
     plan: &'a Plan<'_>,
     instance: usize,
     group: u32,
     cell: u32,
     inputs: Vec<Seen>,
+    room: Box<Strand<'a>>,
     left: Option<Strand<'a>>,
     number: usize,
 ) -> Result<Option<Strand<'a>>, Memory>
@@ -116,7 +121,7 @@ pub(crate) fn call_left<'a>(
     let _ = number;
     match left {
         Some(child) => {
-            let child = Box::new(alloc, child)?;
+            let child = refilled(room, child);
             let inputs = Some(inputs);
             Ok(Some(Strand::InCall {
                 group,
@@ -126,6 +131,8 @@ pub(crate) fn call_left<'a>(
             }))
         }
         None => {
+            give_box(spares, room);
+            give_inputs(spares, inputs);
             let row = group_row(plan, instance, group);
             if row.captures {
                 Ok(Some(Strand::Capturing { group, cell }))

@@ -16,7 +16,6 @@ use cx_design::{Form, Statement};
 use cx_interp::calls::{group_row, instance_part};
 use cx_interp::plan::Plan;
 use cx_text::Memory;
-use std::alloc::Global;
 
 /// Marks listed cells.
 fn mark_cells(marks: &mut [bool], cells: &[u32])
@@ -111,15 +110,15 @@ fn mark_all(plan: &Plan<'_>, instance: usize, parts: &[Statement], marks: &mut [
 }
 
 /// So many marks, none of which is set.
-fn no_marks(alloc: Global, count: usize) -> Result<Vec<bool>, Memory>
-    ensures length { IfOk result (λ marks. length marks.items ≡ count) }
-    ensures none { IfOk result (λ marks. (c : ℕ) → is_marked marks.items c ≡ false) }
+fn clear_marks(count: usize, marks: &mut Vec<bool>) -> Result<(), Memory>
+    ensures length { IfOk result (λ _. length marks.new.items ≡ count) }
+    ensures none { IfOk result (λ _. (c : ℕ) → is_marked marks.new.items c ≡ false) }
 {
-    let mut marks = Vec::new(alloc);
+    marks.clear();
     for _cell in 0..count {
         marks.push(false)?;
     }
-    Ok(marks)
+    Ok(())
 }
 
 /// Lists a cell, if it is marked.
@@ -132,36 +131,37 @@ fn list_marked(marked: bool, cell: u32, cells: &mut Vec<u32>) -> Result<(), Memo
     Ok(())
 }
 
-/// The cells that are marked, ascending.
-fn marked_cells(alloc: Global, marks: &[bool]) -> Result<Vec<u32>, Memory>
+/// Lists the cells that are marked, ascending.
+fn marked_cells(marks: &[bool], cells: &mut Vec<u32>) -> Result<(), Memory>
     requires few { length marks.now < 2 ^ 32 }
-    ensures marked { IfOk result (λ cells. (c : ℕ) → listed_in cells.items c ≡ is_marked marks.now c) }
-    ensures ascending { IfOk result (λ cells. IsAscending cells.items) }
-    ensures within { IfOk result (λ cells. All (λ c. c < length marks.now) cells.items) }
+    ensures marked { IfOk result (λ _. (c : ℕ) → listed_in cells.new.items c ≡ is_marked marks.now c) }
+    ensures ascending { IfOk result (λ _. IsAscending cells.new.items) }
+    ensures within { IfOk result (λ _. All (λ c. c < length marks.now) cells.new.items) }
 {
-    let mut cells = Vec::new(alloc);
+    cells.clear();
     for number in 0..marks.len() {
         let marked = marks[number];
-        list_marked(marked, number as u32, &mut cells)?;
+        list_marked(marked, number as u32, cells)?;
     }
-    Ok(cells)
+    Ok(())
 }
 
-/// The cells of an instance that the groups of a form drive, ascending.
+/// Lists the cells of an instance that the groups of a form drive, ascending.
 pub(crate) fn driven_cells(
-    alloc: Global,
     plan: &Plan<'_>,
     instance: usize,
     form: &Form,
-) -> Result<Vec<u32>, Memory>
+    marks: &mut Vec<bool>,
+    cells: &mut Vec<u32>,
+) -> Result<(), Memory>
     requires plan { IsPlan plan.now }
     requires instance { IsInstance (design_of plan.now) instance }
-    ensures driven { IfOk result (λ cells. ListDriven (design_of plan.now) instance cells.items (λ part. form_drives part (plain_form form.now))) }
-    ensures ascending { IfOk result (λ cells. IsAscending cells.items) }
-    ensures within { IfOk result (λ cells. ListWithin (design_of plan.now) instance cells.items) }
+    ensures driven { IfOk result (λ _. ListDriven (design_of plan.now) instance cells.new.items (λ part. form_drives part (plain_form form.now))) }
+    ensures ascending { IfOk result (λ _. IsAscending cells.new.items) }
+    ensures within { IfOk result (λ _. ListWithin (design_of plan.now) instance cells.new.items) }
 {
     let count = instance_part(plan, instance).cells.len();
-    let mut marks = no_marks(alloc, count)?;
-    mark_form(plan, instance, form, &mut marks);
-    marked_cells(alloc, &marks)
+    clear_marks(count, marks)?;
+    mark_form(plan, instance, form, marks);
+    marked_cells(marks, cells)
 }

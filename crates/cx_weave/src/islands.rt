@@ -15,6 +15,7 @@ ghost use Rattle.cx_weave.specs.Strands.{AnIsland, IsShown, IsSampledBefore, IsW
 ghost use Rattle.cx_weave.specs.Strides.{HasStepped, IslandTaken};
 
 use crate::resting::rest_listed;
+use crate::spares::{Spares, give_island};
 use crate::strands::{Halt, Island, Strand};
 use cx_design::{Component, Form, PortFault};
 use cx_interp::calls::instance_part;
@@ -108,6 +109,7 @@ fn take_cycle(
 
 /// A turn of an island: its next cycle, or its idle turn.
 pub(crate) fn step_island<'a>(
+    spares: &mut Spares<'a>,
     plan: &Plan<'_>,
     machine: &mut Machine<'_>,
     instance: usize,
@@ -133,6 +135,7 @@ pub(crate) fn step_island<'a>(
     } = island;
     if left == 0 {
         rest_listed(plan, machine, instance, cells.as_slice());
+        give_island(spares, samples, cells);
         return Ok(None);
     }
     let mut samples = samples;

@@ -9,6 +9,15 @@ ghost use Rattle.cx_meaning.specs.Running.{run_main};
 ghost use Rattle.cx_rules.specs.Accepted.{IsAccepted};
 ghost use Rattle.cx_rules.specs.Wellformed.{IsDesign};
 ghost use Rattle.cx_weave.specs.Alone.{LeafHasAlone};
+ghost use Rattle.cx_meaning.specs.Designs.{PlainStatement};
+ghost use Rattle.cx_meaning.specs.Instances.{Instance, Path, instance_at, tree_of};
+ghost use Rattle.cx_meaning.specs.Sights.{Held};
+ghost use Rattle.cx_state.specs.Tables.{IsNumber};
+ghost use Rattle.cx_weave.specs.declared.needs.Piece.{Piece};
+ghost use Rattle.cx_weave.specs.Open.{Open, open_statement};
+ghost use Rattle.cx_weave.specs.Steps.{step};
+ghost use Rattle.cx_weave.specs.Strands.{PlainStrand, Shows};
+ghost use Rattle.cx_weave.specs.Takes.{StepsWithin, need, room, taken};
 ghost use Rattle.cx_weave.specs.Woven.{Choices, Ends, Faults, More, woven};
 
 use cx_frames::apart_laws::listed_cells_suffice;
@@ -66,3 +75,13 @@ pub fn run_faults_too()
     designs_keep_idle();
     loaded_start_is_settled();
 }
+
+/// What is open of a statement takes at most what the statement needs, and after a turn no more than before; and a strand has no
+/// more of the spare parts than what it shows takes at most.
+pub fn takes_no_more()
+    ensures opened { (k : Piece) (i : Instance) (st : PlainStatement) → room k i (open_statement i st) ≤ need k i st }
+    ensures turn { (k : Piece) (i : Instance) (held : Held) (o : Open) (leaf : ℕ) (s : State)
+        → StepsWithin k i (room k i o) (step i held o leaf s) }
+    ensures now { (k : Piece) (d : PlainDesign) (n : ℕ) (path : Path) (p : PlainStrand) (o : Open) → IsNumber d n path → Shows d n p o
+        → taken k p ≤ room k (instance_at (tree_of d) path) o }
+{}

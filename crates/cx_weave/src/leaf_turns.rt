@@ -14,6 +14,7 @@ ghost use Rattle.cx_weave.specs.Strides.{HasRested, HasStepped};
 use crate::opening::open_statement;
 use crate::parts::open_loop;
 use crate::resting::rest_listed;
+use crate::spares::Spares;
 use crate::strands::{Halt, Strand};
 use crate::turns::{take_capture, take_group};
 use cx_design::Statement;
@@ -23,7 +24,6 @@ use cx_interp::plan::Plan;
 use cx_interp::turns::Turn;
 use cx_meaning::PlacedPort;
 use cx_state::alike_laws::rows_stand;
-use std::alloc::Global;
 
 /// A turn of a group that calls nothing.
 pub(crate) fn step_group<'a>(
@@ -122,7 +122,7 @@ fn rest_comb(plan: &Plan<'_>, machine: &mut Machine<'_>, instance: usize, comb: 
 
 /// The test of an if: one of its branches is open then.
 pub(crate) fn step_choice<'a>(
-    alloc: Global,
+    spares: &mut Spares<'a>,
     plan: &'a Plan<'_>,
     machine: &mut Machine<'_>,
     instance: usize,
@@ -143,11 +143,11 @@ pub(crate) fn step_choice<'a>(
     match test(plan, machine, instance, port.port, comb) {
         Ok(true) => {
             rest_comb(plan, machine, instance, comb);
-            Ok(Some(open_statement(alloc, plan, instance, first)?))
+            Ok(Some(open_statement(spares, plan, instance, first)?))
         }
         Ok(false) => {
             rest_comb(plan, machine, instance, comb);
-            Ok(Some(open_statement(alloc, plan, instance, second)?))
+            Ok(Some(open_statement(spares, plan, instance, second)?))
         }
         Err(fault) => Err(Halt::Fault(fault)),
     }
@@ -155,7 +155,7 @@ pub(crate) fn step_choice<'a>(
 
 /// A test of a while: its body is open then, or it has ended.
 pub(crate) fn step_test<'a>(
-    alloc: Global,
+    spares: &mut Spares<'a>,
     plan: &'a Plan<'_>,
     machine: &mut Machine<'_>,
     instance: usize,
@@ -175,7 +175,7 @@ pub(crate) fn step_test<'a>(
     match test(plan, machine, instance, port.port, comb) {
         Ok(true) => {
             rest_comb(plan, machine, instance, comb);
-            Ok(Some(open_loop(alloc, plan, instance, port, comb, body)?))
+            Ok(Some(open_loop(spares, plan, instance, port, comb, body)?))
         }
         Ok(false) => {
             rest_comb(plan, machine, instance, comb);

@@ -1,15 +1,15 @@
 //! How many leaves are open.
 
-ghost use Rattle.std.specs.Prelude.{◌≡◌, ◌<◌, map};
+ghost use Rattle.std.specs.Prelude.{◌≡◌};
 ghost use Rattle.cx_limits.specs.Capped.{capped};
-ghost use Rattle.cx_weave.specs.Strands.{IsArmOf, plain_strand, strand_leaves, strands_leaves, strands_of};
+ghost use Rattle.cx_weave.specs.Strands.{AreCounted, IsBoth, IsCounted, arms_leaves, plain_arms, plain_strand, strand_leaves};
 
-use crate::strands::Strand;
+use crate::strands::{Arms, Strand};
 
 /// The open leaves of a strand; 2^64 - 1 where there are more.
 #[cycle(leaves)]
 pub(crate) fn count_leaves(strand: &Strand<'_>) -> u64
-    ensures { result ≡ capped (strand_leaves (plain_strand strand.now)) }
+    ensures { IsCounted (plain_strand strand.now) → result ≡ capped (strand_leaves (plain_strand strand.now)) }
 {
     match strand {
         Strand::InSeq { first, .. } => count_leaves(first),
@@ -28,37 +28,21 @@ pub(crate) fn count_leaves(strand: &Strand<'_>) -> u64
     }
 }
 
-/// Those of all arms.
+/// Those of arms.
 #[cycle(leaves)]
-fn count_arms(arms: &[Strand<'_>]) -> u64
-    ensures { result ≡ capped (strands_leaves (strands_of (map plain_strand arms.now))) }
+pub(crate) fn count_arms(arms: &Arms<'_>) -> u64
+    ensures { AreCounted (plain_arms arms.now) → result ≡ capped (arms_leaves (plain_arms arms.now)) }
 {
-    let mut count = 0u64;
-    for arm in arms {
-        count = count.saturating_add(count_leaves(arm));
+    match arms {
+        Arms::One(strand) => count_leaves(strand),
+        Arms::Both { leaves, .. } => *leaves,
     }
-    count
 }
 
-/// An arm of a par, and a leaf by its number in it.
-#[derive(Clone, Copy, Debug, PartialEq, Eq)]
-pub(crate) struct ArmLeaf {
-    pub(crate) arm: usize,
-    pub(crate) leaf: u32,
-}
-
-/// The arm in which a leaf of a par is.
-pub(crate) fn find_arm(arms: &[Strand<'_>], leaf: u32) -> ArmLeaf
-    requires leaf { leaf < strands_leaves (strands_of (map plain_strand arms.now)) }
-    ensures { IsArmOf (map plain_strand arms.now) leaf result.arm result.leaf }
+/// Two halves of some arms.
+pub(crate) fn both<'a>(one: Box<Arms<'a>>, other: Box<Arms<'a>>) -> Arms<'a>
+    ensures { IsBoth (plain_arms one.entry.value) (plain_arms other.entry.value) (plain_arms result) }
 {
-    let mut leaf = leaf;
-    for arm in 0..arms.len() {
-        let leaves = count_leaves(&arms[arm]);
-        if u64::from(leaf) < leaves {
-            return ArmLeaf { arm, leaf };
-        }
-        leaf -= leaves as u32;
-    }
-    unreachable!()
+    let leaves = count_arms(&one).saturating_add(count_arms(&other));
+    Arms::Both { leaves, one, other }
 }

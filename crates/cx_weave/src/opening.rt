@@ -1,6 +1,6 @@
 //! Strands of statements as they are opened.
 
-ghost use Rattle.std.specs.Prelude.{◌≡◌, None, IfOk};
+ghost use Rattle.std.specs.Prelude.{◌≡◌, ◌<◌, None, IfOk, length};
 ghost use Rattle.cx_meaning.specs.Designs as plain;
 ghost use Rattle.cx_meaning.specs.Designs.{Placed, no_place};
 ghost use Rattle.cx_design.specs.PlainForms.{plain_form, plain_statement, plain_statements};
@@ -9,21 +9,22 @@ ghost use Rattle.cx_interp.specs.Groups.{HasLength, IsGroupOf};
 ghost use Rattle.cx_interp.specs.Islands.{IsIsland};
 ghost use Rattle.cx_interp.specs.Machines.{design_of, IsPlan, IsInstance, FormStands, StandsIn, StandIn};
 ghost use Rattle.cx_weave.specs.Strands.{CallsCell};
-ghost use Rattle.cx_weave.specs.Strides.{OpensAs};
+ghost use Rattle.cx_weave.specs.Strides.{OpenAs, OpensAs};
 
+use crate::leaves::both;
+use crate::spares::{Spares, take_arms, take_box};
 use crate::static_control::open_island;
-use crate::strands::Strand;
+use crate::strands::{Arms, Strand};
 use cx_design::{Form, Statement};
 use cx_interp::calls::{group_length, group_row};
 use cx_interp::children::{child_number, control_of};
 use cx_interp::plan::Plan;
 use cx_text::Memory;
-use std::alloc::Global;
 
 /// A statement of an instance as it is opened.
 #[cycle(opened)]
 pub(crate) fn open_statement<'a>(
-    alloc: Global,
+    spares: &mut Spares<'a>,
     plan: &'a Plan<'_>,
     instance: usize,
     statement: &'a Statement,
@@ -33,12 +34,12 @@ pub(crate) fn open_statement<'a>(
     requires statement { StandsIn (design_of plan.now) instance (plain_statement statement.now) }
     ensures { IfOk result (OpensAs (design_of plan.now) instance (plain_statement statement.now)) }
 {
-    open_form(alloc, plan, instance, &statement.form)
+    open_form(spares, plan, instance, &statement.form)
 }
 
 #[cycle(opened)]
 fn open_form<'a>(
-    alloc: Global,
+    spares: &mut Spares<'a>,
     plan: &'a Plan<'_>,
     instance: usize,
     form: &'a Form,
@@ -50,9 +51,9 @@ fn open_form<'a>(
 {
     match form {
         Form::Empty => Ok(Strand::Idling),
-        Form::Enable(group) => open_enable(alloc, plan, instance, form, *group),
-        Form::Seq(parts) => open_seq(alloc, plan, instance, parts),
-        Form::Par(arms) => open_par(alloc, plan, instance, arms),
+        Form::Enable(group) => open_enable(spares, plan, instance, form, *group),
+        Form::Seq(parts) => open_seq(spares, plan, instance, parts),
+        Form::Par(arms) => open_par(spares, plan, instance, arms),
         Form::If {
             test,
             comb,
@@ -69,11 +70,11 @@ fn open_form<'a>(
             comb: *comb,
             body,
         }),
-        Form::Repeat { count, body } => open_repeat(alloc, plan, instance, *count, body),
-        Form::StaticSeq { .. } => open_island(alloc, plan, instance, form),
-        Form::StaticPar { .. } => open_island(alloc, plan, instance, form),
-        Form::StaticIf { .. } => open_island(alloc, plan, instance, form),
-        Form::StaticRepeat { .. } => open_island(alloc, plan, instance, form),
+        Form::Repeat { count, body } => open_repeat(spares, plan, instance, *count, body),
+        Form::StaticSeq { .. } => open_island(spares, plan, instance, form),
+        Form::StaticPar { .. } => open_island(spares, plan, instance, form),
+        Form::StaticIf { .. } => open_island(spares, plan, instance, form),
+        Form::StaticRepeat { .. } => open_island(spares, plan, instance, form),
         Form::Timed(_) => Ok(Strand::Waiting),
     }
 }
@@ -81,7 +82,7 @@ fn open_form<'a>(
 /// A seq: its first part is open.
 #[cycle(opened)]
 fn open_seq<'a>(
-    alloc: Global,
+    spares: &mut Spares<'a>,
     plan: &'a Plan<'_>,
     instance: usize,
     parts: &'a [Statement],
@@ -94,7 +95,8 @@ fn open_seq<'a>(
     match parts.split_first() {
         None => Ok(Strand::Idling),
         Some((part, later)) => {
-            let first = Box::new(alloc, open_statement(alloc, plan, instance, part)?)?;
+            let run = open_statement(spares, plan, instance, part)?;
+            let first = take_box(spares, run)?;
             Ok(Strand::InSeq { first, later })
         }
     }
@@ -103,7 +105,7 @@ fn open_seq<'a>(
 /// A par: all its arms are open.
 #[cycle(opened)]
 fn open_par<'a>(
-    alloc: Global,
+    spares: &mut Spares<'a>,
     plan: &'a Plan<'_>,
     instance: usize,
     arms: &'a [Statement],
@@ -116,17 +118,41 @@ fn open_par<'a>(
     if arms.is_empty() {
         return Ok(Strand::Idling);
     }
-    let mut opened = Vec::new(alloc);
-    for arm in arms {
-        opened.push(open_statement(alloc, plan, instance, arm)?)?;
+    let opened = open_arms(spares, plan, instance, arms)?;
+    let room = take_arms(spares, opened)?;
+    Ok(Strand::InPar(room))
+}
+
+/// Some arms of a par as they are opened, half by half.
+#[cycle(opened)]
+fn open_arms<'a>(
+    spares: &mut Spares<'a>,
+    plan: &'a Plan<'_>,
+    instance: usize,
+    arms: &'a [Statement],
+) -> Result<Arms<'a>, Memory>
+    requires plan { IsPlan plan.now }
+    requires instance { IsInstance (design_of plan.now) instance }
+    requires arms { StandIn (design_of plan.now) instance (plain_statements arms.now) }
+    requires some { 0 < length arms.now }
+    ensures { IfOk result (OpenAs (design_of plan.now) instance (plain_statements arms.now)) }
+{
+    if arms.len() == 1 {
+        let strand = open_statement(spares, plan, instance, &arms[0])?;
+        return Ok(Arms::One(strand));
     }
-    Ok(Strand::InPar(opened))
+    let (front, back) = arms.split_at(arms.len() / 2);
+    let first = open_arms(spares, plan, instance, front)?;
+    let second = open_arms(spares, plan, instance, back)?;
+    let one = take_arms(spares, first)?;
+    let other = take_arms(spares, second)?;
+    Ok(both(one, other))
 }
 
 /// A repeat: its body is open, for the first round.
 #[cycle(opened)]
 fn open_repeat<'a>(
-    alloc: Global,
+    spares: &mut Spares<'a>,
     plan: &'a Plan<'_>,
     instance: usize,
     count: u64,
@@ -140,7 +166,8 @@ fn open_repeat<'a>(
     if count == 0 {
         return Ok(Strand::Idling);
     }
-    let run = Box::new(alloc, open_statement(alloc, plan, instance, body)?)?;
+    let run = open_statement(spares, plan, instance, body)?;
+    let run = take_box(spares, run)?;
     let left = count - 1;
     Ok(Strand::InRepeat { run, left, body })
 }
@@ -148,7 +175,7 @@ fn open_repeat<'a>(
 /// The enable of a group: a static group is an island.
 #[cycle(opened)]
 fn open_enable<'a>(
-    alloc: Global,
+    spares: &mut Spares<'a>,
     plan: &'a Plan<'_>,
     instance: usize,
     form: &'a Form,
@@ -162,15 +189,15 @@ fn open_enable<'a>(
     ensures { IfOk result (OpensAs (design_of plan.now) instance (Placed (plain.Enable group) no_place)) }
 {
     match group_length(plan, instance, group) {
-        Some(_) => open_island(alloc, plan, instance, form),
-        None => open_dynamic(alloc, plan, instance, group),
+        Some(_) => open_island(spares, plan, instance, form),
+        None => open_dynamic(spares, plan, instance, group),
     }
 }
 
 /// Another group, which may call a child.
 #[cycle(opened)]
 fn open_dynamic<'a>(
-    alloc: Global,
+    spares: &mut Spares<'a>,
     plan: &'a Plan<'_>,
     instance: usize,
     group: u32,
@@ -183,7 +210,7 @@ fn open_dynamic<'a>(
 {
     let row = group_row(plan, instance, group);
     match row.callee {
-        Some(cell) => open_call(alloc, plan, instance, group, cell),
+        Some(cell) => open_call(spares, plan, instance, group, cell),
         None => Ok(Strand::InGroup(group)),
     }
 }
@@ -191,7 +218,7 @@ fn open_dynamic<'a>(
 /// A call: the control of the child is open.
 #[cycle(opened)]
 fn open_call<'a>(
-    alloc: Global,
+    spares: &mut Spares<'a>,
     plan: &'a Plan<'_>,
     instance: usize,
     group: u32,
@@ -207,7 +234,8 @@ fn open_call<'a>(
 {
     let number = child_number(plan, instance, cell);
     let control = control_of(plan, number);
-    let child = Box::new(alloc, open_statement(alloc, plan, number, control)?)?;
+    let run = open_statement(spares, plan, number, control)?;
+    let child = take_box(spares, run)?;
     let inputs = None;
     Ok(Strand::InCall {
         group,

@@ -1,6 +1,6 @@
 //! What is left of a statement behind a turn of its part.
 
-ghost use Rattle.std.specs.Prelude.{◌≡◌, ◌≤◌, None, IfOk, length};
+ghost use Rattle.std.specs.Prelude.{◌≡◌, None, IfOk};
 ghost use Rattle.cx_meaning.specs.Designs as plain;
 ghost use Rattle.cx_meaning.specs.Designs.{While};
 ghost use Rattle.cx_design.specs.PlainForms.{plain_statement, plain_statements};
@@ -9,22 +9,25 @@ ghost use Rattle.cx_meaning.specs.Instances.{Path, instance_at, tree_of};
 ghost use Rattle.cx_state.specs.Tables.{IsNumber};
 ghost use Rattle.cx_weave.specs.Open.{InLoop, open_statement};
 ghost use Rattle.cx_weave.specs.Steps as steps;
-ghost use Rattle.cx_weave.specs.Strands.{plain_strand, Shows};
-ghost use Rattle.cx_weave.specs.Strides.{IsParAfter, LeavesAs};
+ghost use Rattle.cx_weave.specs.Strands.{plain_arms, plain_strand, Shows};
+ghost use Rattle.cx_weave.specs.Strides.{IsArmOf, IsBehind, IsInFront, IsParOf, LeavesAs};
 
+use crate::leaves::both;
 use crate::opening::open_statement;
-use crate::strands::Strand;
+use crate::spares::{Spares, give_arms, give_box, refilled, refilled_arms, take_box};
+use crate::strands::{Arms, Strand};
 use cx_design::Statement;
 use cx_interp::plan::Plan;
 use cx_meaning::PlacedPort;
 use cx_text::Memory;
-use std::alloc::Global;
+use std::mem::replace;
 
 /// A seq: behind a part that has ended comes the next one.
 pub(crate) fn seq_left<'a>(
-    alloc: Global,
+    spares: &mut Spares<'a>,
     plan: &'a Plan<'_>,
     instance: usize,
+    room: Box<Strand<'a>>,
     left: Option<Strand<'a>>,
     later: &'a [Statement],
 ) -> Result<Option<Strand<'a>>, Memory>
@@ -35,17 +38,18 @@ pub(crate) fn seq_left<'a>(
 {
     match left {
         Some(run) => {
-            let first = Box::new(alloc, run)?;
+            let first = refilled(room, run);
             Ok(Some(Strand::InSeq { first, later }))
         }
-        None => next_part(alloc, plan, instance, later),
+        None => next_part(spares, plan, instance, room, later),
     }
 }
 
 fn next_part<'a>(
-    alloc: Global,
+    spares: &mut Spares<'a>,
     plan: &'a Plan<'_>,
     instance: usize,
+    room: Box<Strand<'a>>,
     later: &'a [Statement],
 ) -> Result<Option<Strand<'a>>, Memory>
     requires plan { IsPlan plan.now }
@@ -54,9 +58,13 @@ fn next_part<'a>(
     ensures { IfOk result (λ after. LeavesAs (design_of plan.now) instance None after (λ i. steps.seq_left i (plain_statements later.now))) }
 {
     match later.split_first() {
-        None => Ok(None),
+        None => {
+            give_box(spares, room);
+            Ok(None)
+        }
         Some((part, later)) => {
-            let first = Box::new(alloc, open_statement(alloc, plan, instance, part)?)?;
+            let run = open_statement(spares, plan, instance, part)?;
+            let first = refilled(room, run);
             Ok(Some(Strand::InSeq { first, later }))
         }
     }
@@ -64,9 +72,10 @@ fn next_part<'a>(
 
 /// A while: behind its body comes its test.
 pub(crate) fn loop_left<'a>(
-    alloc: Global,
+    spares: &mut Spares<'a>,
     plan: &'a Plan<'_>,
     instance: usize,
+    room: Box<Strand<'a>>,
     left: Option<Strand<'a>>,
     port: PlacedPort,
     comb: Option<u32>,
@@ -79,7 +88,7 @@ pub(crate) fn loop_left<'a>(
     let _ = instance;
     match left {
         Some(run) => {
-            let run = Box::new(alloc, run)?;
+            let run = refilled(room, run);
             Ok(Some(Strand::InLoop {
                 run,
                 port,
@@ -87,15 +96,19 @@ pub(crate) fn loop_left<'a>(
                 body,
             }))
         }
-        None => Ok(Some(Strand::Testing { port, comb, body })),
+        None => {
+            give_box(spares, room);
+            Ok(Some(Strand::Testing { port, comb, body }))
+        }
     }
 }
 
 /// A repeat: behind a round comes the next one.
 pub(crate) fn repeat_left<'a>(
-    alloc: Global,
+    spares: &mut Spares<'a>,
     plan: &'a Plan<'_>,
     instance: usize,
+    room: Box<Strand<'a>>,
     left: Option<Strand<'a>>,
     rounds: u64,
     body: &'a Statement,
@@ -107,18 +120,19 @@ pub(crate) fn repeat_left<'a>(
 {
     match left {
         Some(run) => {
-            let run = Box::new(alloc, run)?;
+            let run = refilled(room, run);
             let left = rounds;
             Ok(Some(Strand::InRepeat { run, left, body }))
         }
-        None => next_round(alloc, plan, instance, rounds, body),
+        None => next_round(spares, plan, instance, room, rounds, body),
     }
 }
 
 fn next_round<'a>(
-    alloc: Global,
+    spares: &mut Spares<'a>,
     plan: &'a Plan<'_>,
     instance: usize,
+    room: Box<Strand<'a>>,
     rounds: u64,
     body: &'a Statement,
 ) -> Result<Option<Strand<'a>>, Memory>
@@ -128,16 +142,18 @@ fn next_round<'a>(
     ensures { IfOk result (λ after. LeavesAs (design_of plan.now) instance None after (λ i. steps.repeat_left i rounds (plain_statement body.now))) }
 {
     if rounds == 0 {
+        give_box(spares, room);
         return Ok(None);
     }
-    let run = Box::new(alloc, open_statement(alloc, plan, instance, body)?)?;
+    let run = open_statement(spares, plan, instance, body)?;
+    let run = refilled(room, run);
     let left = rounds - 1;
     Ok(Some(Strand::InRepeat { run, left, body }))
 }
 
 /// The body of a while as it is opened.
 pub(crate) fn open_loop<'a>(
-    alloc: Global,
+    spares: &mut Spares<'a>,
     plan: &'a Plan<'_>,
     instance: usize,
     port: PlacedPort,
@@ -150,7 +166,8 @@ pub(crate) fn open_loop<'a>(
     ensures { IfOk result (λ strand. (path : Path) → IsNumber (design_of plan.now) instance path
         → Shows (design_of plan.now) instance (plain_strand strand) (InLoop (open_statement (instance_at (tree_of (design_of plan.now)) path) (plain_statement body.now)) port.port comb (plain_statement body.now))) }
 {
-    let run = Box::new(alloc, open_statement(alloc, plan, instance, body)?)?;
+    let run = open_statement(spares, plan, instance, body)?;
+    let run = take_box(spares, run)?;
     Ok(Strand::InLoop {
         run,
         port,
@@ -159,21 +176,75 @@ pub(crate) fn open_loop<'a>(
     })
 }
 
-/// A par: an arm that has ended is open no more, and a par ends with its last arm.
-pub(crate) fn arms_left<'a>(
-    arms: Vec<Strand<'a>>,
-    arm: usize,
-    left: Option<Strand<'a>>,
-) -> Result<Option<Strand<'a>>, Memory>
-    requires arm { arm ≤ length arms.items }
-    ensures { IfOk result (IsParAfter arms.entry.items arm left.entry) }
+/// An arm that has not ended.
+pub(crate) fn arm_left<'a>(left: Option<Strand<'a>>) -> Option<Arms<'a>>
+    ensures { IsArmOf left.entry result }
 {
-    let mut arms = arms;
-    if let Some(left) = left {
-        arms.insert(arm, left)?;
+    match left {
+        Some(arm) => Some(Arms::One(arm)),
+        None => None,
     }
-    if arms.is_empty() {
-        return Ok(None);
+}
+
+/// A par: it ends with its last arm.
+pub(crate) fn par_left<'a>(
+    spares: &mut Spares<'a>,
+    room: Box<Arms<'a>>,
+    left: Option<Arms<'a>>,
+) -> Option<Strand<'a>>
+    ensures { IsParOf left.entry result }
+{
+    match left {
+        Some(arms) => Some(Strand::InPar(refilled_arms(room, arms))),
+        None => {
+            give_arms(spares, room);
+            None
+        }
     }
-    Ok(Some(Strand::InPar(arms)))
+}
+
+/// The first half of some arms behind a turn: where it has ended, the other alone is open.
+pub(crate) fn front_left<'a>(
+    spares: &mut Spares<'a>,
+    room: Box<Arms<'a>>,
+    left: Option<Arms<'a>>,
+    other: Box<Arms<'a>>,
+) -> Arms<'a>
+    ensures { IsInFront left.entry (plain_arms other.entry.value) (plain_arms result) }
+{
+    match left {
+        Some(one) => both(refilled_arms(room, one), other),
+        None => {
+            give_arms(spares, room);
+            only(spares, other)
+        }
+    }
+}
+
+/// The second half of some arms behind a turn: where it has ended, the first alone is open.
+pub(crate) fn back_left<'a>(
+    spares: &mut Spares<'a>,
+    one: Box<Arms<'a>>,
+    room: Box<Arms<'a>>,
+    left: Option<Arms<'a>>,
+) -> Arms<'a>
+    ensures { IsBehind left.entry (plain_arms one.entry.value) (plain_arms result) }
+{
+    match left {
+        Some(other) => both(one, refilled_arms(room, other)),
+        None => {
+            give_arms(spares, room);
+            only(spares, one)
+        }
+    }
+}
+
+/// The half that alone is open.
+fn only<'a>(spares: &mut Spares<'a>, half: Box<Arms<'a>>) -> Arms<'a>
+    ensures { result ≡ half.entry.value }
+{
+    let mut half = half;
+    let arms = replace(&mut *half, Arms::One(Strand::Waiting));
+    give_arms(spares, half);
+    arms
 }

@@ -8,6 +8,7 @@ ghost use Rattle.cx_interp.specs.Machines.{design_of, IsPlan, IsInstance, FormSt
 ghost use Rattle.cx_weave.specs.Strides.{OpensAs};
 
 use crate::driven::driven_cells;
+use crate::spares::{IslandLists, Spares, take_island};
 use crate::strands::{Island, Strand};
 use cx_design::Form;
 use cx_interp::calls::instance_part;
@@ -16,11 +17,10 @@ use cx_interp::rooms::add_samples;
 use cx_interp_islands::accepted_islands_are_short;
 use cx_limits::form_length;
 use cx_text::Memory;
-use std::alloc::Global;
 
 /// A static statement of dynamic control, or the enable of a static group there, as it is opened.
 pub(crate) fn open_island<'a>(
-    alloc: Global,
+    spares: &mut Spares<'a>,
     plan: &'a Plan<'_>,
     instance: usize,
     form: &'a Form,
@@ -32,9 +32,11 @@ pub(crate) fn open_island<'a>(
     ensures { IfOk result (OpensAs (design_of plan.now) instance (Placed (plain_form form.now) no_place)) }
 {
     accepted_islands_are_short();
-    let mut samples = Vec::new(alloc);
+    let IslandLists { samples, cells } = take_island(spares)?;
+    let mut samples = samples;
+    let mut cells = cells;
     add_samples(form, &mut samples)?;
-    let cells = driven_cells(alloc, plan, instance, form)?;
+    driven_cells(plan, instance, form, &mut spares.marks, &mut cells)?;
     let left = form_length(instance_part(plan, instance), form);
     Ok(Strand::InIsland(Island {
         form,

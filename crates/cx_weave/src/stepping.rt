@@ -1,29 +1,30 @@
 //! A turn of one leaf of what is open.
 
-ghost use Rattle.std.specs.Prelude.{◌≡◌, ◌<◌, map};
+ghost use Rattle.std.specs.Prelude.{◌<◌, ◌+◌, ℕ};
 ghost use Rattle.cx_meaning.specs.Designs.{While};
 ghost use Rattle.cx_design.specs.PlainForms.{plain_statement, plain_statements};
 ghost use Rattle.cx_interp.specs.Machines.{design_of, rows_of, IsPlan, IsAt, IsInstance};
-ghost use Rattle.cx_weave.specs.Strands.{ACall, ALoop, APar, ARepeat, ASeq, IsShown, plain_strand, seen_items, strand_leaves, strands_leaves, strands_of};
-ghost use Rattle.cx_weave.specs.Strides.{HasStepped};
+ghost use Rattle.cx_weave.specs.Strands.{ACall, ALoop, APar, ARepeat, ASeq, AreShown, IsShown, arms_leaves, both_arms, one_arm, plain_arms, plain_strand, seen_items, strand_leaves};
+ghost use Rattle.cx_weave.specs.Strides.{HasStepped, HaveStepped};
 
 use crate::calls::{call_left, hold_call};
 use crate::islands::step_island;
 use crate::leaf_turns::{step_capture, step_choice, step_closing, step_group, step_test};
-use crate::leaves::find_arm;
-use crate::parts::{arms_left, loop_left, repeat_left, seq_left};
-use crate::strands::{Halt, Strand};
+use crate::leaves::count_arms;
+use crate::parts::{arm_left, back_left, front_left, loop_left, par_left, repeat_left, seq_left};
+use crate::spares::Spares;
+use crate::strands::{Arms, Halt, Strand};
 use cx_design::Statement;
 use cx_interp::children::child_number;
 use cx_interp::machine::Machine;
 use cx_interp::plan::Plan;
 use cx_meaning::{PlacedPort, Seen};
-use std::alloc::Global;
+use std::mem::replace;
 
 /// Takes a turn of a leaf of a strand of an instance, by its number: what is left of the strand.
 #[cycle(step)]
 pub(crate) fn step<'a>(
-    alloc: Global,
+    spares: &mut Spares<'a>,
     plan: &'a Plan<'_>,
     machine: &mut Machine<'_>,
     instance: usize,
@@ -47,34 +48,43 @@ pub(crate) fn step<'a>(
             first,
             second,
         } => step_choice(
-            alloc, plan, machine, instance, port, comb, first, second, leaf,
+            spares, plan, machine, instance, port, comb, first, second, leaf,
         ),
         Strand::Testing { port, comb, body } => {
-            step_test(alloc, plan, machine, instance, port, comb, body, leaf)
+            step_test(spares, plan, machine, instance, port, comb, body, leaf)
         }
-        Strand::InIsland(island) => step_island(plan, machine, instance, island, leaf),
+        Strand::InIsland(island) => step_island(spares, plan, machine, instance, island, leaf),
         Strand::Capturing { group, cell } => {
             step_capture(plan, machine, instance, group, cell, leaf)
         }
         Strand::Closing(group) => step_closing(plan, machine, instance, group, leaf),
         Strand::Waiting => Ok(Some(Strand::Waiting)),
         Strand::InSeq { first, later } => {
-            let first = Box::into_inner(first);
-            step_seq(alloc, plan, machine, instance, first, later, leaf)
+            let mut room = first;
+            let first = replace(&mut *room, Strand::Waiting);
+            step_seq(spares, plan, machine, instance, room, first, later, leaf)
         }
-        Strand::InPar(arms) => step_par(alloc, plan, machine, instance, arms, leaf),
+        Strand::InPar(arms) => {
+            let mut room = arms;
+            let arms = replace(&mut *room, Arms::One(Strand::Waiting));
+            step_par(spares, plan, machine, instance, room, arms, leaf)
+        }
         Strand::InLoop {
             run,
             port,
             comb,
             body,
         } => {
-            let run = Box::into_inner(run);
-            step_loop(alloc, plan, machine, instance, run, port, comb, body, leaf)
+            let mut room = run;
+            let run = replace(&mut *room, Strand::Waiting);
+            step_loop(
+                spares, plan, machine, instance, room, run, port, comb, body, leaf,
+            )
         }
         Strand::InRepeat { run, left, body } => {
-            let run = Box::into_inner(run);
-            step_repeat(alloc, plan, machine, instance, run, left, body, leaf)
+            let mut room = run;
+            let run = replace(&mut *room, Strand::Waiting);
+            step_repeat(spares, plan, machine, instance, room, run, left, body, leaf)
         }
         Strand::InCall {
             group,
@@ -82,9 +92,10 @@ pub(crate) fn step<'a>(
             inputs,
             child,
         } => {
-            let child = Box::into_inner(child);
+            let mut room = child;
+            let child = replace(&mut *room, Strand::Waiting);
             step_call(
-                alloc, plan, machine, instance, group, cell, inputs, child, leaf,
+                spares, plan, machine, instance, group, cell, inputs, room, child, leaf,
             )
         }
     }
@@ -93,10 +104,11 @@ pub(crate) fn step<'a>(
 /// That of a seq: of the part that runs.
 #[cycle(step)]
 fn step_seq<'a>(
-    alloc: Global,
+    spares: &mut Spares<'a>,
     plan: &'a Plan<'_>,
     machine: &mut Machine<'_>,
     instance: usize,
+    room: Box<Strand<'a>>,
     first: Strand<'a>,
     later: &'a [Statement],
     leaf: u32,
@@ -109,42 +121,145 @@ fn step_seq<'a>(
     ensures machine { IsAt plan.now machine.new }
     ensures stepped { HasStepped (design_of plan.now) (rows_of machine.old) (rows_of machine.new) instance (ASeq (plain_strand first.entry) (plain_statements later.now)) leaf result }
 {
-    let left = step(alloc, plan, machine, instance, first, leaf)?;
-    Ok(seq_left(alloc, plan, instance, left, later)?)
+    let left = step(spares, plan, machine, instance, first, leaf)?;
+    Ok(seq_left(spares, plan, instance, room, left, later)?)
 }
 
-/// That of a par: of the arm in which the leaf is.
+/// That of a par: of its arms.
 #[cycle(step)]
 fn step_par<'a>(
-    alloc: Global,
+    spares: &mut Spares<'a>,
     plan: &'a Plan<'_>,
     machine: &mut Machine<'_>,
     instance: usize,
-    arms: Vec<Strand<'a>>,
+    room: Box<Arms<'a>>,
+    arms: Arms<'a>,
     leaf: u32,
 ) -> Result<Option<Strand<'a>>, Halt>
     requires plan { IsPlan plan.now }
     requires machine { IsAt plan.now machine.old }
     requires instance { IsInstance (design_of plan.now) instance }
-    requires shown { IsShown (design_of plan.now) instance (APar (strands_of (map plain_strand arms.items))) }
-    requires leaf { leaf < strands_leaves (strands_of (map plain_strand arms.items)) }
+    requires shown { IsShown (design_of plan.now) instance (APar (plain_arms arms)) }
+    requires leaf { leaf < arms_leaves (plain_arms arms) }
     ensures machine { IsAt plan.now machine.new }
-    ensures stepped { HasStepped (design_of plan.now) (rows_of machine.old) (rows_of machine.new) instance (APar (strands_of (map plain_strand arms.entry.items))) leaf result }
+    ensures stepped { HasStepped (design_of plan.now) (rows_of machine.old) (rows_of machine.new) instance (APar (plain_arms arms.entry)) leaf result }
 {
-    let mut arms = arms;
-    let found = find_arm(&arms, leaf);
-    let arm = arms.remove(found.arm);
-    let left = step(alloc, plan, machine, instance, arm, found.leaf)?;
-    Ok(arms_left(arms, found.arm, left)?)
+    let left = step_arms(spares, plan, machine, instance, arms, leaf)?;
+    Ok(par_left(spares, room, left))
+}
+
+/// That of arms: of the half in which the leaf is.
+#[cycle(step)]
+fn step_arms<'a>(
+    spares: &mut Spares<'a>,
+    plan: &'a Plan<'_>,
+    machine: &mut Machine<'_>,
+    instance: usize,
+    arms: Arms<'a>,
+    leaf: u32,
+) -> Result<Option<Arms<'a>>, Halt>
+    requires plan { IsPlan plan.now }
+    requires machine { IsAt plan.now machine.old }
+    requires instance { IsInstance (design_of plan.now) instance }
+    requires shown { AreShown (design_of plan.now) instance (plain_arms arms) }
+    requires leaf { leaf < arms_leaves (plain_arms arms) }
+    ensures machine { IsAt plan.now machine.new }
+    ensures stepped { HaveStepped (design_of plan.now) (rows_of machine.old) (rows_of machine.new) instance (plain_arms arms.entry) leaf result }
+{
+    match arms {
+        Arms::One(strand) => step_arm(spares, plan, machine, instance, strand, leaf),
+        Arms::Both { one, other, .. } => {
+            let leaves = count_arms(&one);
+            if u64::from(leaf) < leaves {
+                step_front(spares, plan, machine, instance, one, other, leaf)
+            } else {
+                let leaf = leaf - leaves as u32;
+                step_back(spares, plan, machine, instance, one, other, leaf)
+            }
+        }
+    }
+}
+
+/// That of an arm.
+#[cycle(step)]
+fn step_arm<'a>(
+    spares: &mut Spares<'a>,
+    plan: &'a Plan<'_>,
+    machine: &mut Machine<'_>,
+    instance: usize,
+    arm: Strand<'a>,
+    leaf: u32,
+) -> Result<Option<Arms<'a>>, Halt>
+    requires plan { IsPlan plan.now }
+    requires machine { IsAt plan.now machine.old }
+    requires instance { IsInstance (design_of plan.now) instance }
+    requires shown { IsShown (design_of plan.now) instance (plain_strand arm) }
+    requires leaf { leaf < strand_leaves (plain_strand arm) }
+    ensures machine { IsAt plan.now machine.new }
+    ensures stepped { HaveStepped (design_of plan.now) (rows_of machine.old) (rows_of machine.new) instance (one_arm (plain_strand arm.entry)) leaf result }
+{
+    let left = step(spares, plan, machine, instance, arm, leaf)?;
+    Ok(arm_left(left))
+}
+
+/// That of the first half of some arms.
+#[cycle(step)]
+fn step_front<'a>(
+    spares: &mut Spares<'a>,
+    plan: &'a Plan<'_>,
+    machine: &mut Machine<'_>,
+    instance: usize,
+    one: Box<Arms<'a>>,
+    other: Box<Arms<'a>>,
+    leaf: u32,
+) -> Result<Option<Arms<'a>>, Halt>
+    requires plan { IsPlan plan.now }
+    requires machine { IsAt plan.now machine.old }
+    requires instance { IsInstance (design_of plan.now) instance }
+    requires shown { AreShown (design_of plan.now) instance (plain_arms one.value) }
+    requires leaf { leaf < arms_leaves (plain_arms one.value) }
+    ensures machine { IsAt plan.now machine.new }
+    ensures stepped { (leaves : ℕ) → HaveStepped (design_of plan.now) (rows_of machine.old) (rows_of machine.new) instance (both_arms leaves (plain_arms one.entry.value) (plain_arms other.entry.value)) leaf result }
+{
+    let mut room = one;
+    let half = replace(&mut *room, Arms::One(Strand::Waiting));
+    let left = step_arms(spares, plan, machine, instance, half, leaf)?;
+    Ok(Some(front_left(spares, room, left, other)))
+}
+
+/// That of the second half, by the number of the leaf in it.
+#[cycle(step)]
+fn step_back<'a>(
+    spares: &mut Spares<'a>,
+    plan: &'a Plan<'_>,
+    machine: &mut Machine<'_>,
+    instance: usize,
+    one: Box<Arms<'a>>,
+    other: Box<Arms<'a>>,
+    leaf: u32,
+) -> Result<Option<Arms<'a>>, Halt>
+    requires plan { IsPlan plan.now }
+    requires machine { IsAt plan.now machine.old }
+    requires instance { IsInstance (design_of plan.now) instance }
+    requires shown { AreShown (design_of plan.now) instance (plain_arms other.value) }
+    requires leaf { leaf < arms_leaves (plain_arms other.value) }
+    ensures machine { IsAt plan.now machine.new }
+    ensures stepped { (leaves : ℕ) → HaveStepped (design_of plan.now) (rows_of machine.old) (rows_of machine.new) instance (both_arms leaves (plain_arms one.entry.value) (plain_arms other.entry.value)) (arms_leaves (plain_arms one.entry.value) + leaf) result }
+{
+    let mut room = other;
+    let half = replace(&mut *room, Arms::One(Strand::Waiting));
+    let left = step_arms(spares, plan, machine, instance, half, leaf)?;
+    Ok(Some(back_left(spares, one, room, left)))
 }
 
 /// That of a while: of its body.
 #[cycle(step)]
 fn step_loop<'a>(
-    alloc: Global,
+    spares: &mut Spares<'a>,
     plan: &'a Plan<'_>,
     machine: &mut Machine<'_>,
     instance: usize,
+    room: Box<Strand<'a>>,
     run: Strand<'a>,
     port: PlacedPort,
     comb: Option<u32>,
@@ -159,17 +274,18 @@ fn step_loop<'a>(
     ensures machine { IsAt plan.now machine.new }
     ensures stepped { HasStepped (design_of plan.now) (rows_of machine.old) (rows_of machine.new) instance (ALoop (plain_strand run.entry) port comb (plain_statement body.now)) leaf result }
 {
-    let left = step(alloc, plan, machine, instance, run, leaf)?;
-    Ok(loop_left(alloc, plan, instance, left, port, comb, body)?)
+    let left = step(spares, plan, machine, instance, run, leaf)?;
+    Ok(loop_left(spares, plan, instance, room, left, port, comb, body)?)
 }
 
 /// That of a repeat: of its body.
 #[cycle(step)]
 fn step_repeat<'a>(
-    alloc: Global,
+    spares: &mut Spares<'a>,
     plan: &'a Plan<'_>,
     machine: &mut Machine<'_>,
     instance: usize,
+    room: Box<Strand<'a>>,
     run: Strand<'a>,
     rounds: u64,
     body: &'a Statement,
@@ -183,20 +299,21 @@ fn step_repeat<'a>(
     ensures machine { IsAt plan.now machine.new }
     ensures stepped { HasStepped (design_of plan.now) (rows_of machine.old) (rows_of machine.new) instance (ARepeat (plain_strand run.entry) rounds (plain_statement body.now)) leaf result }
 {
-    let left = step(alloc, plan, machine, instance, run, leaf)?;
-    Ok(repeat_left(alloc, plan, instance, left, rounds, body)?)
+    let left = step(spares, plan, machine, instance, run, leaf)?;
+    Ok(repeat_left(spares, plan, instance, room, left, rounds, body)?)
 }
 
 /// That of a call: of the child's control, with the inputs of the call held.
 #[cycle(step)]
 fn step_call<'a>(
-    alloc: Global,
+    spares: &mut Spares<'a>,
     plan: &'a Plan<'_>,
     machine: &mut Machine<'_>,
     instance: usize,
     group: u32,
     cell: u32,
     inputs: Option<Vec<Seen>>,
+    room: Box<Strand<'a>>,
     child: Strand<'a>,
     leaf: u32,
 ) -> Result<Option<Strand<'a>>, Halt>
@@ -209,7 +326,9 @@ fn step_call<'a>(
     ensures stepped { HasStepped (design_of plan.now) (rows_of machine.old) (rows_of machine.new) instance (ACall group cell (seen_items (λ v. v.items) inputs) (plain_strand child.entry)) leaf result }
 {
     let number = child_number(plan, instance, cell);
-    let inputs = hold_call(alloc, plan, machine, instance, group, cell, number, inputs)?;
-    let left = step(alloc, plan, machine, number, child, leaf)?;
-    Ok(call_left(alloc, plan, instance, group, cell, inputs, left, number)?)
+    let inputs = hold_call(spares, plan, machine, instance, group, cell, number, inputs)?;
+    let left = step(spares, plan, machine, number, child, leaf)?;
+    Ok(call_left(
+        spares, plan, instance, group, cell, inputs, room, left, number,
+    )?)
 }

@@ -20,6 +20,7 @@ pub(crate) struct Island<'a> {
 
 /// What is open of a statement: a leaf, or what is open of its parts.
 #[derive(Drop)]
+#[cycle(strand)]
 pub(crate) enum Strand<'a> {
     /// One idle turn.
     Idling,
@@ -54,7 +55,7 @@ pub(crate) enum Strand<'a> {
         later: &'a [Statement],
     },
     /// A par, with the arms that have not ended.
-    InPar(Vec<Strand<'a>>),
+    InPar(Box<Arms<'a>>),
     /// A while, while its body runs.
     InLoop {
         run: Box<Strand<'a>>,
@@ -74,6 +75,19 @@ pub(crate) enum Strand<'a> {
         cell: u32,
         inputs: Option<Vec<Seen>>,
         child: Box<Strand<'a>>,
+    },
+}
+
+/// The arms of a par that have not ended, of which there is one at least.
+#[derive(Drop)]
+#[cycle(strand)]
+pub(crate) enum Arms<'a> {
+    One(Strand<'a>),
+    /// Two halves, and how many leaves are open in both; 2^64 - 1 where there are more.
+    Both {
+        leaves: u64,
+        one: Box<Arms<'a>>,
+        other: Box<Arms<'a>>,
     },
 }
 

@@ -8,12 +8,14 @@ ghost use Rattle.cx_design.specs.PlainDesigns.{plain_design};
 ghost use Rattle.cx_state.specs.States.{words_in, IsUnheld, StandsFor};
 ghost use Rattle.cx_interp.specs.Machines.{design_of, rows_of, IsPlan, IsAt};
 ghost use Rattle.cx_weave.specs.Results.{EndsIn, HaltedAs, LeavesWords, TellsArm, TellsRun, TellsWoven};
-ghost use Rattle.cx_weave.specs.Strands.{plain_strand, strand_leaves};
+ghost use Rattle.cx_weave.specs.Strands.{IsCounted, plain_strand, strand_leaves};
 ghost use Rattle.cx_weave.specs.Woven.{by_list, woven};
 
-use crate::laws::{run_ends_too, run_faults_too};
+use crate::laws::{run_ends_too, run_faults_too, takes_no_more};
 use crate::leaves::count_leaves;
+use crate::making::make_spares;
 use crate::opening::open_statement;
+use crate::spares::Spares;
 use crate::stepping::step;
 use crate::strands::{Halt, Strand};
 use cx_design::{Checked, PortFault};
@@ -38,6 +40,7 @@ pub enum Wove {
 /// The leaf that the choice of a number names.
 fn chosen_leaf(list: &[u32], made: u64, strand: &Strand<'_>) -> u32
     requires some { 0 < length list.now }
+    requires counted { IsCounted (plain_strand strand.now) }
     requires leaves { 0 < strand_leaves (plain_strand strand.now) }
     ensures { result ≡ by_list list.now made % strand_leaves (plain_strand strand.now) }
 {
@@ -57,9 +60,9 @@ fn halted(halt: Halt, made: u64) -> Result<Wove, Memory>
 }
 
 /// Makes choices from the start of main's control.
-fn weave_on(
-    alloc: Global,
-    plan: &Plan<'_>,
+fn weave_on<'a>(
+    spares: &mut Spares<'a>,
+    plan: &'a Plan<'_>,
     machine: &mut Machine<'_>,
     list: &[u32],
     steps: u64,
@@ -74,11 +77,11 @@ fn weave_on(
 {
     rows_stand();
     let control = control_of(plan, 0);
-    let mut strand = open_statement(alloc, plan, 0, control)?;
+    let mut strand = open_statement(spares, plan, 0, control)?;
     let mut sum = 0u128;
     for made in 0..steps {
         let leaf = chosen_leaf(list, made, &strand);
-        strand = match step(alloc, plan, machine, 0, strand, leaf) {
+        strand = match step(spares, plan, machine, 0, strand, leaf) {
             Ok(Some(left)) => left,
             Ok(None) => return Ok(Wove::End(made + 1, sum + u128::from(leaf))),
             Err(halt) => return halted(halt, made),
@@ -86,6 +89,27 @@ fn weave_on(
         sum += u128::from(leaf);
     }
     Ok(Wove::More)
+}
+
+/// Makes spare parts, and then choices from the start of main's control.
+fn weave_plan(
+    alloc: Global,
+    plan: &Plan<'_>,
+    machine: &mut Machine<'_>,
+    list: &[u32],
+    steps: u64,
+) -> Result<Wove, Memory>
+    requires plan { IsPlan plan.now }
+    requires machine { IsAt plan.now machine.old }
+    requires unheld { IsUnheld (rows_of machine.old) }
+    requires some { 0 < length list.now }
+    ensures machine { IsAt plan.now machine.new }
+    ensures woven { (words : List (List ℕ)) → StandsFor (tree_of (design_of plan.now)) (rows_of machine.old) (start (tree_of (design_of plan.now)) words)
+        → IfOk result (λ wove. EndsIn (design_of plan.now) (rows_of machine.new) wove (woven (design_of plan.now) words (by_list list.now) steps)) }
+{
+    takes_no_more();
+    let mut spares = make_spares(alloc, plan, machine.room.samples.len())?;
+    weave_on(&mut spares, plan, machine, list, steps)
 }
 
 /// Runs a design by choices: choice j is the entry of the list at j modulo its length, and names a leaf modulo their number.
@@ -110,7 +134,7 @@ pub fn weave(
     run_faults_too();
     let interp = Interp::new(alloc, design, loaded)?;
     let Interp { plan, mut machine } = interp;
-    let wove = weave_on(alloc, &plan, &mut machine, list, steps)?;
+    let wove = weave_plan(alloc, &plan, &mut machine, list, steps)?;
     if let Wove::End(_, _) = wove {
         external_words(plan.design, &machine.sight.state, loaded);
     }

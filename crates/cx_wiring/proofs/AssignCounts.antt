@@ -1,7 +1,6 @@
 -- How many wires and drivers the assignments of a component have: a wire and two drivers for each unit of their size at most.
-use Rattle.std.proofs.Common.{◌≡◌, ℕ, zero, suc, ◌+◌, ◌≤◌, Bool, true, false, cond, not, if◌then◌else◌, List, [], ◌∷◌, ◌++◌, length, replicate, Option, Some, None, refl, ap, arith, length-append}
-use Rattle.std.specs.Prelude.{◌-◌, filter, flat_map}
-use Rattle.std.proofs.lemmas.List.{length-replicate}
+use Rattle.std.proofs.Common.{◌≡◌, ℕ, suc, ◌+◌, ◌≤◌, Bool, true, false, cond, not, if◌then◌else◌, List, [], ◌∷◌, ◌++◌, length, Option, Some, None, refl, ap, arith, length-append}
+use Rattle.std.specs.Prelude.{filter, flat_map}
 use Rattle.cx_meaning.specs.Designs.{PlainGuard, Always, Atom, Negation, All, Any, Compared, Within, PlainGuards, no_guards, a_guard, PlainAssign, PlainGroup, PlainComponent}
 use Rattle.cx_meaning.specs.Active.{Owned, owned, owned_by_groups, no_later, placed_in, by_place, source_order}
 use Rattle.cx_rules.specs.Items.{guard_nodes, nodes_in}
@@ -10,9 +9,11 @@ use Rattle.cx_net.specs.Nets.{PlainNetExpr, OfPort, OfWire, PlainNetTarget, Plai
 use Rattle.cx_wiring.specs.Parts.{drive, connect}
 use Rattle.cx_wiring.specs.Guards.{guard_wires, part_wires, parts_wires, guard_expr, guard_drivers, part_drivers, parts_drivers}
 use Rattle.cx_wiring.specs.Assignments.{target_of, Looks, LooksAlways, LooksIn, looks_of, gate_wires, looking_wires, assign_wires, assigns_wires, gate_drivers, gated_drivers, looking_drivers, assign_drivers, assigns_drivers}
-use Rattle.cx_wiring.specs.Chains.{goes_before, placed_among, by_target, Driven, driven, together, rests, rest_widths}
+use Rattle.cx_wiring.specs.Trees.{goes_before, placed_among, by_target, Driven, driven, pairs, tree_widths}
 use Rattle.cx_wiring.specs.Nesting.{IsPart, AreParts, HasParts}
 use Rattle.cx_wiring.proofs.OrderLaws.{driven_keeps}
+use Rattle.cx_wiring.proofs.TreeDrivers.{entries_long}
+use Rattle.cx_wiring.proofs.PairCounts.{pairs_few}
 
 -- GUARDS: a wire and a driver for each node at most
 mutual
@@ -186,12 +187,7 @@ units_order part =
     let second : length part.groups + units (owned_by_groups 0 part.groups) ≡ groups_size part.groups = units_groups 0 part.groups in
     omega arith
 
--- RESTS are no more than the drivers
-rests_few : (room : ℕ) (ds : List PlainNetDriver) → rests room ds ≤ length ds
-rests_few room [] = omega arith
-rests_few zero (d ∷ ds) = let h : rests (together - 1) ds ≤ length ds = rests_few (together - 1) ds in omega arith
-rests_few (suc room) (d ∷ ds) = let h : rests room ds ≤ length ds = rests_few room ds in omega arith
-
+-- THE WIRES OF TREES are no more than the drivers
 length_placed : (d : PlainNetDriver) (ds : List PlainNetDriver) → length (placed_among d ds) ≡ suc (length ds)
 length_placed d [] = refl
 length_placed d (e ∷ es) = choice (goes_before e d) (length_placed d es)
@@ -207,20 +203,18 @@ length_by_target (d ∷ ds) =
     let k : length (placed_among d (by_target ds)) ≡ suc (length (by_target ds)) = length_placed d (by_target ds) in
     omega arith
 
-rest_widths_few : (width : PlainNetTarget → ℕ) (ts : List Driven) → length (rest_widths width ts) ≤ length (flat_map (λ (t : Driven). t.drivers) ts)
-rest_widths_few width [] = omega arith
-rest_widths_few width (t ∷ ts) =
-    let h : length (rest_widths width ts) ≤ length (flat_map (λ (x : Driven). x.drivers) ts) = rest_widths_few width ts in
-    let own : rests together t.drivers ≤ length t.drivers = rests_few together t.drivers in
-    let long : length (replicate (rests together t.drivers) (width t.target)) ≡ rests together t.drivers = length-replicate (rests together t.drivers) (width t.target) in
-    let left : length (replicate (rests together t.drivers) (width t.target) ++ rest_widths width ts) ≡ length (replicate (rests together t.drivers) (width t.target)) + length (rest_widths width ts) =
-    length-append (replicate (rests together t.drivers) (width t.target)) (rest_widths width ts) in
+tree_widths_few : (width : PlainNetTarget → ℕ) (ts : List Driven) → length (tree_widths width ts) ≤ length (flat_map (λ (t : Driven). t.drivers) ts)
+tree_widths_few width [] = omega arith
+tree_widths_few width (t ∷ ts) =
+    let h : length (tree_widths width ts) ≤ length (flat_map (λ (x : Driven). x.drivers) ts) = tree_widths_few width ts in
+    let own : pairs (length t.drivers) + pairs (length t.drivers) ≤ length t.drivers = pairs_few (length t.drivers) in
+    let left : length (tree_widths width (t ∷ ts)) ≡ (pairs (length t.drivers) + pairs (length t.drivers)) + length (tree_widths width ts) = entries_long width t ts in
     let right : length (t.drivers ++ flat_map (λ (x : Driven). x.drivers) ts) ≡ length t.drivers + length (flat_map (λ (x : Driven). x.drivers) ts) = length-append t.drivers (flat_map (λ (x : Driven). x.drivers) ts) in
     omega arith
 
-pub all_rests_few : (width : PlainNetTarget → ℕ) (ds : List PlainNetDriver) → length (rest_widths width (driven (by_target ds))) ≤ length ds
-all_rests_few width ds =
-    let h : length (rest_widths width (driven (by_target ds))) ≤ length (flat_map (λ (t : Driven). t.drivers) (driven (by_target ds))) = rest_widths_few width (driven (by_target ds)) in
+pub all_trees_few : (width : PlainNetTarget → ℕ) (ds : List PlainNetDriver) → length (tree_widths width (driven (by_target ds))) ≤ length ds
+all_trees_few width ds =
+    let h : length (tree_widths width (driven (by_target ds))) ≤ length (flat_map (λ (t : Driven). t.drivers) (driven (by_target ds))) = tree_widths_few width (driven (by_target ds)) in
     let flat : length (flat_map (λ (t : Driven). t.drivers) (driven (by_target ds))) ≡ length (by_target ds) = ap length (driven_keeps (by_target ds)) in
     let all : length (by_target ds) ≡ length ds = length_by_target ds in
     omega arith

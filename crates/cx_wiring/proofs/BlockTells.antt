@@ -7,7 +7,7 @@ use Rattle.cx_meaning.specs.declared.ports.PortRef.{PortRef}
 use Rattle.cx_meaning.specs.declared.ports.PortRef.TheVariants as ports
 use Rattle.cx_meaning.specs.Designs.{PlainComponent, PlainDesign, PlainForm, Empty, Enable, Seq, Par, If, While, Repeat, StaticSeq, StaticPar, StaticIf, StaticRepeat, Timed, PlainStatement, Placed, PlainStatements, no_statements, a_statement}
 use Rattle.cx_meaning.specs.Instances as instances
-use Rattle.cx_meaning.specs.Instances.{Cells}
+use Rattle.cx_meaning.specs.Instances.{Cells, cell_count}
 use Rattle.cx_control.specs.Codings.{Coding}
 use Rattle.cx_control.specs.Leaves.{Coded, leaf_machines}
 use Rattle.cx_control.specs.Controls.{coded_control, coded_below, leaf_codings}
@@ -33,7 +33,7 @@ use Rattle.cx_wiring.proofs.ComponentLaws as laws
 use Rattle.cx_wiring.proofs.ComponentLaws.{PlainCycle}
 use Rattle.cx_wiring.proofs.CycleLaws.{plain_cycle}
 use Rattle.cx_wiring.proofs.IslandReads.{IsUntimed}
-use Rattle.cx_wiring.proofs.TimerRows.{cell_count, TimersFit, IsOwnTarget, timer_rows}
+use Rattle.cx_wiring.proofs.TimerRows.{TimersFit, IsOwnTarget, timer_rows}
 use Rattle.cx_meaning.specs.Active.{Owned}
 use Rattle.cx_meaning.specs.Sights.{In}
 use Rattle.cx_wiring.proofs.SizeLaws.{size_is, enable_one, island_one}

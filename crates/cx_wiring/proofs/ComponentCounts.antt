@@ -15,7 +15,7 @@ use Rattle.cx_wiring.specs.Counts.{wires_of, registers_of}
 use Rattle.cx_wiring.specs.IslandDrivers.{island_wires}
 use Rattle.cx_wiring.specs.Control.{control_drivers}
 use Rattle.cx_wiring.specs.Assignments.{is_driven, driven_assigns, assigns_wires, assigns_drivers}
-use Rattle.cx_wiring.specs.Chains.{rest_widths}
+use Rattle.cx_wiring.specs.Trees.{tree_widths}
 use Rattle.cx_wiring.specs.Wiring.{groups, first_of_control, first_of_assigns, bits, plain_wires, plain_drivers, component_driven, target_width}
 use Rattle.cx_wiring.specs.PartNets.{wired_in}
 use Rattle.cx_wiring.specs.Nesting.{HasParts}
@@ -25,7 +25,7 @@ use Rattle.cx_wiring.proofs.DesignNames.{in_filter}
 use Rattle.cx_wiring.proofs.FitLowering.{lowered_few}
 use Rattle.cx_wiring.proofs.LoweringCounts.{total, all_timers, all_points, all_occurrences, Adds, statement_adds}
 use Rattle.cx_wiring.proofs.ControlCounts.{timed_in, Untimed, Before, lowered_total, samples_are, island_count, control_count}
-use Rattle.cx_wiring.proofs.AssignCounts.{units, AllParts, assigns_wires_few, assigns_count, units_filter, units_order, all_rests_few}
+use Rattle.cx_wiring.proofs.AssignCounts.{units, AllParts, assigns_wires_few, assigns_count, units_filter, units_order, all_trees_few}
 
 wires_total : (islands : List PlainIsland) → island_wires islands ≡ all_timers islands + all_points islands + all_occurrences islands
 wires_total [] = refl
@@ -94,9 +94,9 @@ module _ (d : PlainDesign) (rules : IsDesign d) (k : ℕ) (within : k < length d
       control_count (groups low) low.islands (first_of_control low) low.part.control in
       let driving : length (plain_drivers low) ≡ length (control_drivers (groups low) low.islands (first_of_control low) low.part.control) + length (assigns_drivers (groups low) (first_of_assigns low) (driven_assigns low)) =
       length-append (control_drivers (groups low) low.islands (first_of_control low) low.part.control) (assigns_drivers (groups low) (first_of_assigns low) (driven_assigns low)) in
-      let rested : length (rest_widths (target_width (lowered_of d) low) (component_driven low)) ≤ length (plain_drivers low) = all_rests_few (target_width (lowered_of d) low) (plain_drivers low) in
-      let wired : length (wired_in d part).wires ≡ length (plain_wires low) + length (rest_widths (target_width (lowered_of d) low) (component_driven low)) =
-      length-append (plain_wires low) (rest_widths (target_width (lowered_of d) low) (component_driven low)) in
+      let branched : length (tree_widths (target_width (lowered_of d) low) (component_driven low)) ≤ length (plain_drivers low) = all_trees_few (target_width (lowered_of d) low) (plain_drivers low) in
+      let wired : length (wired_in d part).wires ≡ length (plain_wires low) + length (tree_widths (target_width (lowered_of d) low) (component_driven low)) =
+      length-append (plain_wires low) (tree_widths (target_width (lowered_of d) low) (component_driven low)) in
       let kept : suc (length (registers_of low.islands low.part.control))
       ≤ length (visit Dynamic low.part.control) + length (visit Dynamic low.part.control) + samples_in low.islands (visit Dynamic low.part.control) = registers_of_few low.islands low.part.control in
       let sampled : samples_in low.islands (visit Dynamic low.part.control) ≡ timed_in (λ i. length i.points) low.islands (visit Dynamic low.part.control) = samples_are low.islands (visit Dynamic low.part.control) in

@@ -93,7 +93,7 @@ module _ (groups : ℕ) (islands : List PlainIsland) (around : NetAround) (regis
           let over : K (both (at x) (OfHole g)) = known_two around registers look (at x) (OfHole g) here (holes g names) in
           record {
             ends = known_as _ _ (c.1.0 (omega arith)) over;
-            fed = (fed_connect around registers look x.wire _ a, (fed_connect around registers look (suc x.wire) _ over, (fed_drive (ToHole (groups + g)) (at x) (Inverse (OfHole g)) here (known_inverse around registers look (OfHole g) (holes g names)), tt)));
+            fed = (fed_connect around registers look x.wire _ a, (fed_connect around registers look (suc x.wire) _ over, (fed_drive (ToHole (groups + g)) (at x) (Inverse (end_of x.wire)) here (known_inverse around registers look (end_of x.wire) (known_as _ _ (c.1.0 (omega arith)) over)), tt)));
           }
       form_whole (Seq no_statements) x s low c k names tests isles = turn_whole x s low c
       form_whole (Seq (a_statement t ts)) x s low c k names tests isles =

@@ -17,7 +17,7 @@ use Rattle.cx_net.specs.NetEdges.{taken, value_in, guard_in, own_register}
 use Rattle.cx_static.specs.Islands.{PlainLowereds}
 use Rattle.cx_static.specs.Lowering.{lowered, lowered_component, unlowered}
 use Rattle.cx_wiring.specs.Bounds.{AllDrive, IslandsName}
-use Rattle.cx_wiring.specs.Chains.{rest_widths}
+use Rattle.cx_wiring.specs.Trees.{tree_widths}
 use Rattle.cx_wiring.specs.Control.{whole_stand, finishing, drivers_of}
 use Rattle.cx_wiring.specs.Assignments.{driven_assigns, assigns_drivers}
 use Rattle.cx_wiring.specs.Wiring.{groups, first_of_control, first_of_assigns, bits, plain_wires, plain_drivers, component_registers, component_driven, port_width, target_width, net_component}
@@ -30,7 +30,7 @@ use Rattle.cx_wiring.proofs.IslandReads.{IsUntimed}
 use Rattle.cx_wiring.proofs.IslandStands.{islands_take}
 use Rattle.cx_wiring.proofs.TimerRows.{EachTimer, IsTimerIn, IsOwnTarget, assigns_skip, row_of_timer}
 use Rattle.cx_wiring.proofs.ComponentLaws.{PlainCycle}
-use Rattle.cx_wiring.proofs.RestReads.{AreRests}
+use Rattle.cx_wiring.proofs.BundleReads.{TakeTheirs}
 use Rattle.cx_wiring.proofs.ComponentTakes.{IsPlain, target_takes, register_takes_all}
 use Rattle.cx_wiring.proofs.AwayLaws.{differs}
 use Rattle.cx_wiring.proofs.FitLemmas.{slice_left}
@@ -50,13 +50,13 @@ module _ (d : PlainLowereds) (part : PlainComponent) (named : IslandsName (group
       solves (AWire n) (lt-ltb n (length (net_component d (lowered_component part)).wires) less)
       ∙ ap (λ o. option_and_then (λ w. first_true around (registers_of (net_component d (lowered_component part)) cells around s (look []) (λ c. look (c ∷ []))) (look []) (zero_wide w) (drivers_to (ToWire n) (net_component d (lowered_component part)).drivers)) o) is
 
-  all_wires : length (net_component d (lowered_component part)).wires ≡ length (plain_wires (lowered_component part)) + length (rest_widths (target_width d (lowered_component part)) (component_driven (lowered_component part)))
-  all_wires = length-append (plain_wires (lowered_component part)) (rest_widths (target_width d (lowered_component part)) (component_driven (lowered_component part)))
+  all_wires : length (net_component d (lowered_component part)).wires ≡ length (plain_wires (lowered_component part)) + length (tree_widths (target_width d (lowered_component part)) (component_driven (lowered_component part)))
+  all_wires = length-append (plain_wires (lowered_component part)) (tree_widths (target_width d (lowered_component part)) (component_driven (lowered_component part)))
 
-  -- the wires of the rests
+  -- the wires of the trees
   rests_from : (ws : List ℕ) (n : ℕ) → ((i w : ℕ) → slice_get ws i ≡ Some w → i < length ws → look [] (AWire (n + i)) ≡ first_true around (registers_of (net_component d (lowered_component part)) cells around s (look []) (λ c. look (c ∷ []))) (look []) (zero_wide w)
       (drivers_to (ToWire (n + i)) (net_component d (lowered_component part)).drivers))
-      → AreRests around (registers_of (net_component d (lowered_component part)) cells around s (look []) (λ c. look (c ∷ []))) (look []) n ws (net_component d (lowered_component part)).drivers
+      → TakeTheirs around (registers_of (net_component d (lowered_component part)) cells around s (look []) (λ c. look (c ∷ []))) (look []) n ws (net_component d (lowered_component part)).drivers
   rests_from [] n h = tt
   rests_from (w ∷ ws) n h =
       let none : n + 0 ≡ n = omega arith in (
@@ -65,12 +65,12 @@ module _ (d : PlainLowereds) (part : PlainComponent) (named : IslandsName (group
             subst (λ m. look [] (AWire m) ≡ first_true around (registers_of (net_component d (lowered_component part)) cells around s (look []) (λ c. look (c ∷ []))) (look []) (zero_wide v) (drivers_to (ToWire m) (net_component d (lowered_component part)).drivers)) more (h (suc i) v e (omega arith))),
       )
 
-  pub reads : AreRests around (registers_of (net_component d (lowered_component part)) cells around s (look []) (λ c. look (c ∷ []))) (look []) (length (plain_wires (lowered_component part)))
-      (rest_widths (target_width d (lowered_component part)) (component_driven (lowered_component part))) (net_component d (lowered_component part)).drivers
-  reads = rests_from (rest_widths (target_width d (lowered_component part)) (component_driven (lowered_component part))) (length (plain_wires (lowered_component part)))
-      (λ i w e less. let all : length (net_component d (lowered_component part)).wires ≡ length (plain_wires (lowered_component part)) + length (rest_widths (target_width d (lowered_component part)) (component_driven (lowered_component part))) = all_wires in
+  pub reads : TakeTheirs around (registers_of (net_component d (lowered_component part)) cells around s (look []) (λ c. look (c ∷ []))) (look []) (length (plain_wires (lowered_component part)))
+      (tree_widths (target_width d (lowered_component part)) (component_driven (lowered_component part))) (net_component d (lowered_component part)).drivers
+  reads = rests_from (tree_widths (target_width d (lowered_component part)) (component_driven (lowered_component part))) (length (plain_wires (lowered_component part)))
+      (λ i w e less. let all : length (net_component d (lowered_component part)).wires ≡ length (plain_wires (lowered_component part)) + length (tree_widths (target_width d (lowered_component part)) (component_driven (lowered_component part))) = all_wires in
       wire_there (length (plain_wires (lowered_component part)) + i) w
-      (slice_get-append (plain_wires (lowered_component part)) (rest_widths (target_width d (lowered_component part)) (component_driven (lowered_component part))) (length (plain_wires (lowered_component part)) + i) i refl ∙ e) (omega arith))
+      (slice_get-append (plain_wires (lowered_component part)) (tree_widths (target_width d (lowered_component part)) (component_driven (lowered_component part))) (length (plain_wires (lowered_component part)) + i) i refl ∙ e) (omega arith))
 
   -- registers have the values of the state
   registers_from : (ws : List ℕ) (n : ℕ) → ((i w : ℕ) → slice_get ws i ≡ Some w → slice_get (component_registers (lowered_component part)) (n + i) ≡ Some w)
@@ -82,12 +82,9 @@ module _ (d : PlainLowereds) (part : PlainComponent) (named : IslandsName (group
         registers_from ws (suc n) (λ i v e. let more : n + suc i ≡ suc n + i = omega arith in ap (slice_get (component_registers (lowered_component part))) (sym more) ∙ h (suc i) v e),
       )
 
-  register_at : (m : ℕ) → m < length (component_registers (lowered_component part)) → (w : ℕ) × (registers_of (net_component d (lowered_component part)) cells around s (look []) (λ c. look (c ∷ [])) m ≡ Some (record { width = w; value = s.register [] m }))
-  register_at m less = let k = some_at (component_registers (lowered_component part)) m less in (k.0, ap (λ o. option_map (λ v. record { width = v; value = s.register [] m }) o) k.1)
-
-  rest_known : (m : ℕ) → length (plain_wires (lowered_component part)) ≤ m → m < length (plain_wires (lowered_component part)) + length (rest_widths (target_width d (lowered_component part)) (component_driven (lowered_component part)))
+  inner_known : (m : ℕ) → length (plain_wires (lowered_component part)) ≤ m → m < length (plain_wires (lowered_component part)) + length (tree_widths (target_width d (lowered_component part)) (component_driven (lowered_component part)))
       → (b : BitVector) × (look [] (AWire m) ≡ Some b)
-  rest_known m low high = has_value (AWire m) (lt-ltb m (length (net_component d (lowered_component part)).wires) (subst (λ n. m < n) (sym all_wires) high))
+  inner_known m low high = has_value (AWire m) (lt-ltb m (length (net_component d (lowered_component part)).wires) (subst (λ n. m < n) (sym all_wires) high))
 
   -- the drivers of control, of its end, and of assignments
   abbrev CD : List PlainNetDriver
@@ -112,7 +109,7 @@ module _ (d : PlainLowereds) (part : PlainComponent) (named : IslandsName (group
       solves (APort (ports.Cell timer.cell 0)) (ap (λ a. is_port_of a 0) row.in_net)
       ∙ ap (λ a. cell_node (net_component d (lowered_component part)) cells around s (look []) (λ c. look (c ∷ [])) timer.cell 0 a) row.in_net
       ∙ ap (λ w. first_true around R (look []) (zero_wide w) (drivers_to (ToPort (ports.Cell timer.cell 0)) (net_component d (lowered_component part)).drivers)) (sym width)
-      ∙ target_takes d (lowered_component part) around R (look []) plain reads (ToPort (ports.Cell timer.cell 0)) tt (λ m from. refl) (λ at. refl)
+      ∙ target_takes d (lowered_component part) around R (look []) plain reads (ToPort (ports.Cell timer.cell 0)) tt (λ m from. refl)
       ∙ ap (λ w. takes around R (look []) (ToPort (ports.Cell timer.cell 0)) (Some (zero_wide w)) (plain_drivers (lowered_component part))) width
       ∙ takes_append around R (look []) (ToPort (ports.Cell timer.cell 0)) (Some (zero_wide 1)) (CD ++ FD) AD
       ∙ ap (λ z. takes around R (look []) (ToPort (ports.Cell timer.cell 0)) z (CD ++ FD)) (others_pass around R (look []) (ToPort (ports.Cell timer.cell 0)) (Some (zero_wide 1)) AD (assigns_skip part own k island is t timer at))
@@ -128,8 +125,8 @@ module _ (d : PlainLowereds) (part : PlainComponent) (named : IslandsName (group
     acts = go;
     wires = wires_are;
     registers_are = registers_from (component_registers (lowered_component part)) 0 (λ i w e. let same : 0 + i ≡ i = omega arith in ap (slice_get (component_registers (lowered_component part))) same ∙ e);
-    nexts = λ m old new there same e. let k = register_at m there in
-        register_takes_all d (lowered_component part) around (registers_of (net_component d (lowered_component part)) cells around s (look []) (λ c. look (c ∷ []))) (look []) plain reads m (record { width = k.0; value = s.register [] m }) k.1 rest_known
+    nexts = λ m old new there same e.
+        register_takes_all d (lowered_component part) around (registers_of (net_component d (lowered_component part)) cells around s (look []) (λ c. look (c ∷ []))) (look []) plain reads m (s.register [] m) inner_known
         ∙ ap (λ v. taken (guard_in (net_component d (lowered_component part)) cells around s look) (value_in (net_component d (lowered_component part)) cells around s look) v (drivers_to (ToRegister m) (plain_drivers (lowered_component part)))) (sym same)
         ∙ register_takes around (registers_of (net_component d (lowered_component part)) cells around s (look []) (λ c. look (c ∷ []))) (look []) old (ToRegister m) new (plain_drivers (lowered_component part)) e;
     islands = islands_take part named around (registers_of (net_component d (lowered_component part)) cells around s (look []) (λ c. look (c ∷ []))) (look []) untimed
@@ -141,9 +138,9 @@ module _ (d : PlainLowereds) (part : PlainComponent) (named : IslandsName (group
         let is = lt-ltb (groups (lowered_component part) + g) (groups (lowered_component part) + groups (lowered_component part)) holes in
         solves (AHole (groups (lowered_component part) + g)) is
         ∙ ap (λ b. if b then first_true around (registers_of (net_component d (lowered_component part)) cells around s (look []) (λ c. look (c ∷ []))) (look []) (zero_wide 1) (drivers_to (ToHole (groups (lowered_component part) + g)) (net_component d (lowered_component part)).drivers) else None) is
-        ∙ target_takes d (lowered_component part) around (registers_of (net_component d (lowered_component part)) cells around s (look []) (λ c. look (c ∷ []))) (look []) plain reads (ToHole (groups (lowered_component part) + g)) tt (λ m from. refl) (λ at. refl);
+        ∙ target_takes d (lowered_component part) around (registers_of (net_component d (lowered_component part)) cells around s (look []) (λ c. look (c ∷ []))) (look []) plain reads (ToHole (groups (lowered_component part) + g)) tt (λ m from. refl);
     done = solves TheDone refl
-        ∙ target_takes d (lowered_component part) around (registers_of (net_component d (lowered_component part)) cells around s (look []) (λ c. look (c ∷ []))) (look []) plain reads ToDone tt (λ m from. refl) (λ at. refl);
+        ∙ target_takes d (lowered_component part) around (registers_of (net_component d (lowered_component part)) cells around s (look []) (λ c. look (c ∷ []))) (look []) plain reads ToDone tt (λ m from. refl);
     bits = test_bits;
   }
     where
@@ -151,12 +148,12 @@ module _ (d : PlainLowereds) (part : PlainComponent) (named : IslandsName (group
           → Reads (groups (lowered_component part)) (lowered_component part).islands named around (registers_of (net_component d (lowered_component part)) cells around s (look []) (λ c. look (c ∷ []))) (look []) n (plain_drivers (lowered_component part))
       wires_are n less =
           let count : length (plain_wires (lowered_component part)) ≡ groups (lowered_component part) + bits (lowered_component part) = plain_wires_count (lowered_component part) in
-          let all : length (net_component d (lowered_component part)).wires ≡ length (plain_wires (lowered_component part)) + length (rest_widths (target_width d (lowered_component part)) (component_driven (lowered_component part))) = all_wires in
+          let all : length (net_component d (lowered_component part)).wires ≡ length (plain_wires (lowered_component part)) + length (tree_widths (target_width d (lowered_component part)) (component_driven (lowered_component part))) = all_wires in
           let there : n < length (plain_wires (lowered_component part)) = omega arith in
           let k = some_at (plain_wires (lowered_component part)) n there in
           record {
             behind_them = Some (zero_wide (target_width d (lowered_component part) (ToWire n)));
             reads = wire_there n k.0 (slice_left (plain_wires (lowered_component part)) _ n k.0 k.1) (omega arith)
                 ∙ ap (λ w. first_true around (registers_of (net_component d (lowered_component part)) cells around s (look []) (λ c. look (c ∷ []))) (look []) (zero_wide w) (drivers_to (ToWire n) (net_component d (lowered_component part)).drivers)) (sym (ap (λ o. unwrap_or o 1) k.1))
-                ∙ target_takes d (lowered_component part) around (registers_of (net_component d (lowered_component part)) cells around s (look []) (λ c. look (c ∷ []))) (look []) plain reads (ToWire n) tt (λ m from. differs m n (λ e. omega arith)) (λ at. refl);
+                ∙ target_takes d (lowered_component part) around (registers_of (net_component d (lowered_component part)) cells around s (look []) (λ c. look (c ∷ []))) (look []) plain reads (ToWire n) tt (λ m from. differs m n (λ e. omega arith));
           }

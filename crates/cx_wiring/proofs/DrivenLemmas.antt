@@ -4,7 +4,7 @@ use Rattle.std.proofs.lemmas.Bool.{eq-eqb}
 use Rattle.cx_meaning.specs.declared.ports.PortRef.TheVariants as ports
 use Rattle.cx_net.specs.Nets.{PlainNetTarget, ToPort, ToRegister, ToWire, ToHole, ToDone, PlainNetDriver}
 use Rattle.cx_net.specs.NetMeaning.{same_target}
-use Rattle.cx_wiring.specs.Chains.{is_same, rank_of, Driven, with_driver, driven}
+use Rattle.cx_wiring.specs.Trees.{is_same, rank_of, Driven, with_driver, driven}
 use Rattle.cx_wiring.specs.Bounds.{AllDrive}
 pub use Rattle.cx_wiring.specs.Bounds.{IsProper}
 use Rattle.cx_wiring.proofs.TargetRanks.{same_rank}

@@ -90,7 +90,7 @@ module _ (net : PlainNet) (part : PlainNetComponent) where
             stands_fits x {n = 0} [] 1 room,
             (
               ends_fits x {n = 0} (both (at x) (OfHole g)) room.own (refl, (standing, ((hole, refl), tt))),
-              (record { proper = tt; guard = standing; width = 1; target = hole_width net part (groups + g) (goes_there g named); source = (hole, refl) }, tt),
+              (record { proper = tt; guard = standing; width = 1; target = hole_width net part (groups + g) (goes_there g named); source = end_bit {w = x.wire} {n = 0} room.own }, tt),
             ),
           )
       form_fits (Seq no_statements) x named fits room = turn_fits x {n = 0} [] 1 room

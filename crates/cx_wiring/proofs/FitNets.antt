@@ -20,7 +20,7 @@ use Rattle.cx_wiring.specs.Counts.{wires_of, registers_of}
 use Rattle.cx_wiring.specs.IslandDrivers.{island_wires}
 use Rattle.cx_wiring.specs.Control.{control_drivers}
 use Rattle.cx_wiring.specs.Assignments.{driven_assigns, assigns_wires, assigns_drivers}
-use Rattle.cx_wiring.specs.Chains.{by_target, rest_widths}
+use Rattle.cx_wiring.specs.Trees.{by_target, tree_widths}
 use Rattle.cx_wiring.specs.Reached.{has_number, place_in, order}
 use Rattle.cx_wiring.specs.Wiring.{groups, first_of_control, first_of_assigns, bits, plain_wires, component_registers, plain_drivers, component_driven, width_in_part, kind_width, port_width, known_width, target_width, kind_in, cell_in, net_of}
 use Rattle.cx_wiring.specs.PartNets.{timer_cells, wired_in}
@@ -29,13 +29,13 @@ use Rattle.cx_wiring.specs.Fitting.{Are, HasFrom, HasRowKind, CellFits, IslandFi
 use Rattle.cx_wiring.proofs.RoomLemmas.{drive_both, Room, Wires}
 use Rattle.cx_wiring.proofs.ControlTargets.{control_drives}
 use Rattle.cx_wiring.proofs.AssignTargets.{assigns_drive}
-use Rattle.cx_wiring.proofs.ChainTargets.{by_target_drive, all_driven}
+use Rattle.cx_wiring.proofs.TreeTargets.{by_target_drive, all_driven}
 use Rattle.cx_wiring.proofs.NetTargets.{plain_wires_count}
 use Rattle.cx_wiring.proofs.AwayLaws.{differs}
 use Rattle.cx_wiring.proofs.RankLemmas.{by_target_sorted}
 use Rattle.cx_wiring.proofs.DrivenLemmas.{driven_entries}
 use Rattle.cx_wiring.proofs.ComponentTakes.{IsPlain, plain_both, not_wires}
-use Rattle.cx_wiring.proofs.ChainCounts.{chains_few}
+use Rattle.cx_wiring.proofs.TreeCounts.{trees_few}
 use Rattle.cx_wiring.proofs.MainLaws.{order_main}
 use Rattle.cx_wiring.proofs.NumberLemmas.{in_number}
 use Rattle.cx_wiring.proofs.TimerCells.{cells-lowered_component}
@@ -45,7 +45,7 @@ use Rattle.cx_wiring.proofs.FitLemmas.{are_both, are_at, are_each, are_more, the
 use Rattle.cx_wiring.proofs.OrderHeights.{in_slice, closed, cell_first, stands_at, no_timer}
 use Rattle.cx_wiring.proofs.FitGuards.{IsBit, assigns_fit}
 use Rattle.cx_wiring.proofs.FitControl.{control_fits}
-use Rattle.cx_wiring.proofs.FitChains.{are_driving, Fits, chains_fit}
+use Rattle.cx_wiring.proofs.FitBundles.{are_driving, Fits, trees_fit}
 use Rattle.cx_wiring.proofs.FitLowering.{IslandHolds, IslandsHold, IsShort, statement_holds, statement_lowers, lowered_few}
 use Rattle.cx_wiring.proofs.FitPorts.{net, npart, part_back}
 use Rattle.cx_wiring.proofs.FitRules.{statement_fine, groups_last, assigns_fine}
@@ -84,23 +84,23 @@ module _ (d : PlainDesign) (rules : IsDesign d) (accepted : IsAccepted d) (k : �
   abbrev narrow_wires : List ℕ
   narrow_wires = replicate (bits low) 1
 
-  abbrev rests : List ℕ
-  rests = rest_widths (target_width (lowered_of d) low) (component_driven low)
+  abbrev inner : List ℕ
+  inner = tree_widths (target_width (lowered_of d) low) (component_driven low)
 
-  -- WIRES: of offsets, of one bit, of rests
+  -- WIRES: of offsets, of one bit, of trees
   offset_wire : (g : ℕ) → g < length part.groups → slice_get C.wires g ≡ Some 32
-  offset_wire g less = slice_left (plain_wires low) rests g 32 (slice_left wide_wires narrow_wires g 32 (slice_replicate 32 (groups low) g less))
+  offset_wire g less = slice_left (plain_wires low) inner g 32 (slice_left wide_wires narrow_wires g 32 (slice_replicate 32 (groups low) g less))
 
   bit_wire : (n : ℕ) → groups low ≤ n → n < groups low + bits low → slice_get C.wires n ≡ Some 1
   bit_wire n from to =
       let long : length wide_wires ≡ groups low = length-replicate (groups low) 32 in
       let same : n ≡ length wide_wires + (n - groups low) = omega (arith, long) in
       let less : n - groups low < bits low = omega arith in
-      slice_left (plain_wires low) rests n 1
+      slice_left (plain_wires low) inner n 1
       (ap (slice_get (plain_wires low)) same ∙ slice_right wide_wires narrow_wires (n - groups low) ∙ slice_replicate 1 (bits low) (n - groups low) less)
 
-  rest_wire : HasFrom C.wires (length (plain_wires low)) rests
-  rest_wire i w e = slice_right (plain_wires low) rests i ∙ e
+  inner_wire : HasFrom C.wires (length (plain_wires low)) inner
+  inner_wire i w e = slice_right (plain_wires low) inner i ∙ e
 
   goes_there : (g : ℕ) → g < length part.groups → length part.groups + g < C.holes
   goes_there g less = omega arith
@@ -150,7 +150,7 @@ module _ (d : PlainDesign) (rules : IsDesign d) (accepted : IsAccepted d) (k : �
       (assigns_fit N C (groups low) offset_wire goes_there (driven_assigns low) (first_of_assigns low)
       (assigns_fine d rules accepted k here (are_more (IslandHolds N C part low.part.cells) (λ island. Are (IsShort N C part) island.occurrences) (λ island h. h.short) low.islands islands_hold.islands)) of_assigns)
 
-  -- no driver of a component, without rests, drives a rest
+  -- no driver of a component, without those of bundles, drives a wire of a tree
   abbrev pub IsBefore : PlainNetTarget → Type 0
   IsBefore (ToPort p) = Unit {0}
   IsBefore (ToRegister n) = Unit {0}
@@ -171,7 +171,7 @@ module _ (d : PlainDesign) (rules : IsDesign d) (accepted : IsAccepted d) (k : �
       (first_of_control low) low.part.control (control_named d rules k within) of_control)
       (assigns_drive IsBefore (λ p. tt) (groups low) (λ g less. tt) (driven_assigns low) (first_of_assigns low) (assigns_named d rules k within) of_assigns)
 
-  -- WIDTHS of targets are those that rests have
+  -- WIDTHS of targets are those that wires of trees have
   cell_component : (cell : PlainCell) (j : ℕ) → In low.part.cells cell → cell.kind ≡ OfComponent j → has_number j (order (lowered_of d)) ≡ true
   cell_component cell j i is =
       in_joined part.cells (timer_cells part) cell (subst (λ cells. In cells cell) (cells-lowered_component part) i)
@@ -208,14 +208,14 @@ module _ (d : PlainDesign) (rules : IsDesign d) (accepted : IsAccepted d) (k : �
   same_width (ToRegister n) proper before w e = some_width (known_width (lowered_of d) low (ToRegister n)) w e
   same_width (ToWire n) proper before w e =
       let r = there_at (plain_wires low) n before in
-      some_width (known_width (lowered_of d) low (ToWire n)) w (r.1 ∙ sym (slice_left (plain_wires low) rests n r.0 r.1) ∙ e)
+      some_width (known_width (lowered_of d) low (ToWire n)) w (r.1 ∙ sym (slice_left (plain_wires low) inner n r.0 r.1) ∙ e)
   same_width (ToHole n) proper before w e = hole_width (nat_lt n C.holes) w e
   same_width ToDone proper before w e = cc
 
   -- ALL DRIVERS of a component drive what is there and may be driven, at one width
   pub component_drives : Are (Drives N C) C.drivers
   component_drives =
-      chains_fit N C (target_width (lowered_of d) low) (plain_drivers low) (length (plain_wires low))
+      trees_fit N C (target_width (lowered_of d) low) (plain_drivers low) (length (plain_wires low))
       (are_driving (Drives N C) (Fits N C (target_width (lowered_of d) low)) IsBefore
       (λ driver a before.
       let same = same_width driver.target a.proper before a.width a.target in
@@ -225,9 +225,9 @@ module _ (d : PlainDesign) (rules : IsDesign d) (accepted : IsAccepted d) (k : �
         sourced = record { guard = a.guard; source = subst (λ w. fits.HasWidth N C driver.source w) (sym same) a.source };
       })
       (plain_drivers low) plain_drive plain_before)
-      rest_wire
+      inner_wire
 
-  -- the drivers without rests drive what may be driven, and no rest
+  -- the drivers without those of bundles drive what may be driven, and no wire of a tree
   plain_all : (ds : List PlainNetDriver) → Are (Drives N C) ds → AllDrive IsBefore ds → AllDrive (IsPlain (length (plain_wires low))) ds
   plain_all [] fit before = tt
   plain_all (driver ∷ ds) fit before = (plain_one driver.target fit.0.proper before.0, plain_all ds fit.1 before.1)
@@ -254,7 +254,7 @@ module _ (d : PlainDesign) (rules : IsDesign d) (accepted : IsAccepted d) (k : �
   pub targets_few : (t : PlainNetTarget) → length (drivers_to t C.drivers) ≤ 17
   targets_few =
       let proper = plain_both (length (plain_wires low)) (plain_drivers low) drivers_plain in
-      chains_few (component_driven low) (length (plain_wires low))
+      trees_few (component_driven low) (length (plain_wires low))
       (driven_entries (by_target (plain_drivers low)) (by_target_drive IsProper (plain_drivers low) proper) (by_target_sorted (plain_drivers low))).0
       (not_wires (length (plain_wires low)) (component_driven low)
       (all_driven (IsPlain (length (plain_wires low))) (by_target (plain_drivers low)) (by_target_drive (IsPlain (length (plain_wires low))) (plain_drivers low) drivers_plain)))

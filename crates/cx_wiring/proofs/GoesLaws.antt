@@ -20,7 +20,7 @@ use Rattle.cx_net.specs.NetMeaning.{Node, NetAround}
 use Rattle.cx_static.specs.Islands.{PlainIsland}
 use Rattle.cx_static.specs.Lowering.{Lowering, after_enable, form_after, after, parts_after, lowered, lowered_parts, lowered_enable}
 use Rattle.cx_wiring.specs.Counts.{positions_of, wires_of, sample_registers, registers_of}
-use Rattle.cx_wiring.specs.Stands.{Stand, at, inside, past_test, behind}
+use Rattle.cx_wiring.specs.Stands.{Stand, at, end_of, inside, past_test, behind}
 use Rattle.cx_wiring.specs.Control.{arm_stand, counted_inside, comb_goes, form_drivers, drivers_of, parts_drivers, arms_drivers}
 use Rattle.cx_wiring.specs.Takings.{Says, takes, AllConnect, AreRegisters}
 use Rattle.cx_wiring.specs.Standing.{IsStopped, IsIn, Away}
@@ -28,7 +28,7 @@ use Rattle.cx_wiring.specs.Shown.{wide, Going, told, counted, number_of, parts_n
 use Rattle.cx_wiring.specs.IslandTakes.{IslandNexts}
 use Rattle.cx_wiring.specs.AtLeaves.{AnyTest, AnyGroup, IslandsHold, enable_holds, StatementHolds, PartsHold, ArmsHold}
 use Rattle.cx_wiring.specs.Wired.{IsWired, PartsWired, ArmsWired}
-use Rattle.cx_wiring.proofs.TakingLemmas.{says_not, connect_both, takes_append, idle_passes}
+use Rattle.cx_wiring.proofs.TakingLemmas.{says_both, says_not, connect_both, takes_append, idle_passes}
 use Rattle.cx_wiring.proofs.AwayLaws.{comb_idle}
 use Rattle.cx_wiring.proofs.TurnLemmas.{beside_first, beside_later}
 use Rattle.cx_wiring.proofs.FormTurns.{go_known, told_append, comb_hole, if_hole, while_hole, repeat_hole}
@@ -115,8 +115,11 @@ module _ (groups : ℕ) (islands : List PlainIsland) (around : NetAround) (regis
           → Coding.IsFine (LeafCodings.enable codings g) p → Acts x r → Shows (Placed (Enable g) place) l x r p → W x (Placed (lowered_enable part g o l) place) → enable_holds leaves part AnyTest (AnyGroup leaves) timed_saw island_saw g o p → (h : ℕ) (later : Option BitVector)
           → takes around registers look (ToHole (groups + h)) later (drivers_of groups islands x (Placed (lowered_enable part g o l) place)) ≡ told h later (enable_going leaves codings part islands hole of_enable of_island g o p)
       enable_goes g None is place u l stage x r p fine i shows w has h later =
-          go_known around registers look groups g h (at x) (Inverse (OfHole g)) (not (hole g)) later (stands.at_true groups islands around registers look bound kept next hole port timed x r i here_so w.low w.connects.0)
-          (says_not around registers look (OfHole g) (hole g) w.bits)
+          let low : bound ≤ x.wire = w.low in
+          let high : bound ≤ suc x.wire = omega arith in
+          let on = stands.at_true groups islands around registers look bound kept next hole port timed x r i here_so w.low w.connects.0 in
+          go_known around registers look groups g h (at x) (Inverse (end_of x.wire)) (not (hole g)) later on
+          (says_not around registers look (end_of x.wire) (hole g) (w.connects.1.0 high ∙ says_both around registers look (at x) (OfHole g) true (hole g) on w.bits))
         where
           here_so : r ≡ x.position
           here_so =

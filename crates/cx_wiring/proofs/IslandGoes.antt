@@ -30,7 +30,7 @@ use Rattle.cx_wiring.proofs.KnownLemmas.{Known, On, two_true, known_inverse, All
 use Rattle.cx_wiring.proofs.TogetherGoes.{IsOn, GoesIn, Holes, IsleGoes}
 use Rattle.cx_wiring.proofs.StaticGoes as static
 use Rattle.cx_wiring.proofs.IslandKnown.{IslandGiven, runs_known, sample_known, active_known}
-use Rattle.cx_wiring.proofs.ChainLaws.{untrue}
+use Rattle.cx_wiring.proofs.TreeLaws.{untrue}
 use Rattle.cx_wiring.proofs.FitTrees.{some_at}
 
 some_is : (x y : BitVector) → ◌≡◌ {A = Option BitVector} (Some x) (Some y) → x ≡ y

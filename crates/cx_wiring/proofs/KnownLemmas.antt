@@ -11,7 +11,7 @@ use Rattle.cx_wiring.specs.Parts.{both, either, equals}
 use Rattle.cx_wiring.specs.Bounds.{AllDrive}
 use Rattle.cx_wiring.specs.Takings.{value, takes, takes_of}
 use Rattle.cx_wiring.proofs.TakingLemmas.{says_equals}
-use Rattle.cx_wiring.proofs.ChainLaws.{untrue}
+use Rattle.cx_wiring.proofs.TreeLaws.{untrue}
 
 abbrev pub Known : Option BitVector → Type 0
 Known o = (b : BitVector) × (o ≡ Some b)

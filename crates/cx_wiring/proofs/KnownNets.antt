@@ -1,6 +1,6 @@
 -- Worked examples, computed from the definitions; each value was worked by hand from the sentence above it.
 use Rattle.std.specs.Prelude.{◌≡◌, ℕ, true, List, [], ◌∷◌, ◌++◌, replicate, Some, None, refl}
-use Rattle.cx_meaning.specs.declared.ports.PortRef.TheVariants.{Cell, Output, Done, Literal}
+use Rattle.cx_meaning.specs.declared.ports.PortRef.TheVariants.{Cell, Done, Literal}
 use Rattle.cx_meaning.specs.declared.ports.Comparison.TheVariants.{NotEqual, Less, AtLeast}
 use Rattle.cx_meaning.specs.Designs.{Atom, Negation, All, Within, guards_of, PlainCell, PlainComponent, If, While, Repeat, Timed, PlainStatement}
 use Rattle.cx_meaning.proofs.KnownDesigns.{placed, assign, guarded, plain_group, child_cell, reg, st, enable, seq, par, component}
@@ -10,7 +10,7 @@ use Rattle.cx_wiring.specs.Parts.{word, literal, one, both, either, equals, driv
 use Rattle.cx_wiring.specs.Counts.{wires_of, registers_of}
 use Rattle.cx_wiring.specs.Control.{drivers_of, whole_stand, control_drivers}
 use Rattle.cx_wiring.specs.Assignments.{assign_drivers}
-use Rattle.cx_wiring.specs.Chains.{chains}
+use Rattle.cx_wiring.specs.Trees.{trees}
 use Rattle.cx_wiring.specs.Reached.{order}
 use Rattle.cx_wiring.specs.Wiring.{net_of}
 
@@ -43,7 +43,7 @@ net_of_one_group = record {
       ∷ connect 1 (both OfGo (equals (OfRegister 0) 0))
       ∷ connect 2 (both (OfWire 1) (OfHole 0))
       ∷ drive (ToHole 0) one (OfPort (Cell 0 3))
-      ∷ drive (ToHole 1) (OfWire 1) (Inverse (OfHole 0))
+      ∷ drive (ToHole 1) (OfWire 1) (Inverse (OfWire 2))
       ∷ drive ToDone one (equals (OfRegister 0) 1)
       ∷ [];
 }
@@ -62,12 +62,12 @@ control_of_par =
     ∷ drive (ToRegister 1) (OfWire 3) (word 0)
     ∷ connect 4 (both (OfWire 2) (equals (OfRegister 1) 0))
     ∷ connect 5 (both (OfWire 4) (OfHole 0))
-    ∷ drive (ToHole 2) (OfWire 4) (Inverse (OfHole 0))
+    ∷ drive (ToHole 2) (OfWire 4) (Inverse (OfWire 5))
     ∷ drive (ToRegister 1) (OfWire 5) (word 1)
     ∷ drive (ToRegister 2) (OfWire 3) (word 0)
     ∷ connect 6 (both (OfWire 2) (equals (OfRegister 2) 0))
     ∷ connect 7 (both (OfWire 6) (OfHole 1))
-    ∷ drive (ToHole 3) (OfWire 6) (Inverse (OfHole 1))
+    ∷ drive (ToHole 3) (OfWire 6) (Inverse (OfWire 7))
     ∷ drive (ToRegister 2) (OfWire 7) (word 1)
     ∷ connect 3 (AllOf (exprs_of (OfWire 2 ∷ either (equals (OfRegister 1) 1) (OfWire 5) ∷ either (equals (OfRegister 2) 1) (OfWire 7) ∷ [])))
     ∷ drive (ToRegister 0) (OfWire 3) (word 1)
@@ -93,7 +93,7 @@ abbrev drivers_of_rounds : List PlainNetDriver
 drivers_of_rounds =
     connect 5 (both OfGo (equals (OfRegister 0) 0))
     ∷ connect 6 (both (OfWire 5) (OfHole 0))
-    ∷ drive (ToHole 1) (OfWire 5) (Inverse (OfHole 0))
+    ∷ drive (ToHole 1) (OfWire 5) (Inverse (OfWire 6))
     ∷ connect 4 (both (OfWire 6) (equals (OfRegister 1) 1))
     ∷ drive (ToRegister 0) (both (OfWire 6) (Compares NotEqual (OfRegister 1) (word 1))) (word 0)
     ∷ drive (ToRegister 1) (OfWire 4) (word 0)
@@ -101,7 +101,7 @@ drivers_of_rounds =
     ∷ drive (ToRegister 0) (OfWire 4) (word 1)
     ∷ connect 7 (both OfGo (equals (OfRegister 0) 1))
     ∷ connect 8 (both (OfWire 7) (OfHole 0))
-    ∷ drive (ToHole 1) (OfWire 7) (Inverse (OfHole 0))
+    ∷ drive (ToHole 1) (OfWire 7) (Inverse (OfWire 8))
     ∷ connect 2 (OfWire 8)
     ∷ []
 
@@ -122,7 +122,7 @@ drivers_of_tests =
     ∷ drive (ToRegister 0) (both (OfWire 3) (OfPort (Cell 0 2))) (word 2)
     ∷ connect 5 (both OfGo (equals (OfRegister 0) 2))
     ∷ connect 6 (both (OfWire 5) (OfHole 0))
-    ∷ drive (ToHole 1) (OfWire 5) (Inverse (OfHole 0))
+    ∷ drive (ToHole 1) (OfWire 5) (Inverse (OfWire 6))
     ∷ drive (ToRegister 0) (both (OfWire 3) (Inverse (OfPort (Cell 0 2)))) (word 3)
     ∷ connect 7 (both OfGo (equals (OfRegister 0) 3))
     ∷ connect 8 (OfWire 7)
@@ -173,18 +173,16 @@ pub known_guard : assign_drivers 1 5 (record { owner = Some 0; assign = guarded 
     ∷ []
 known_guard = refl
 
--- A CHAIN: of 17 drivers of a register one stands behind a rest, which ends in the register; of 17 drivers of an output as well,
--- and its rest ends with the last driver
+-- A TREE: 17 drivers of a register are two bundles, of 16 and of one; the wires of each are whether one of its drivers is on, and what
+-- the first that is on gives
 abbrev first_driver : PlainNetDriver
 first_driver = drive (ToRegister 3) OfGo (word 1)
 
-abbrev output_driver : PlainNetDriver
-output_driver = drive (ToPort (Output 0)) OfGo (word 1)
-
-pub known_rest : chains 9 (record { target = ToRegister 3; drivers = replicate 17 first_driver } ∷ record { target = ToPort (Output 0); drivers = replicate 17 output_driver } ∷ [])
-    ≡ replicate 16 first_driver ++ drive (ToRegister 3) one (OfWire 9) ∷ drive (ToWire 9) OfGo (word 1) ∷ connect 9 (OfRegister 3)
-    ∷ replicate 16 output_driver ++ drive (ToPort (Output 0)) one (OfWire 10) ∷ drive (ToWire 10) OfGo (word 1) ∷ []
-known_rest = refl
+pub known_tree : trees 9 (record { target = ToRegister 3; drivers = replicate 17 first_driver } ∷ [])
+    ≡ replicate 16 (drive (ToWire 9) OfGo one) ++ replicate 16 (drive (ToWire 10) OfGo (word 1))
+    ++ drive (ToWire 11) OfGo one ∷ drive (ToWire 12) OfGo (word 1)
+    ∷ drive (ToRegister 3) (OfWire 9) (OfWire 10) ∷ drive (ToRegister 3) (OfWire 11) (OfWire 12) ∷ []
+known_tree = refl
 
 -- THE ORDER: main is component 0 and has a cell of component 2, which has one of component 3; nothing reaches component 1
 abbrev cells_of_components : List ℕ → List PlainCell

@@ -1,12 +1,12 @@
 -- No expression of the net of a component nests deeply.
-use Rattle.std.proofs.Common.{◌≡◌, ℕ, zero, suc, ◌+◌, ◌-◌, ◌≤◌, Bool, true, false, if◌then◌else◌, List, [], ◌∷◌, ◌++◌, length, map, Option, Some, None, slice_get, refl, ap, arith, length-append}
+use Rattle.std.proofs.Common.{◌≡◌, ℕ, zero, suc, ◌+◌, ◌≤◌, Bool, true, false, if◌then◌else◌, List, [], ◌∷◌, ◌++◌, length, map, Option, Some, None, slice_get, refl, ap, arith, length-append}
 use Rattle.std.proofs.lemmas.List.{length-map}
 use Rattle.cx_meaning.specs.declared.ports.PortRef.{PortRef}
 use Rattle.cx_meaning.specs.declared.ports.PortRef.TheVariants as ports
 use Rattle.cx_meaning.specs.Designs.{PlainGuard, Always, Atom, Negation, All, Any, Compared, Within, PlainGuards, no_guards, a_guard, PlainAssign, PlainForm, Empty, Enable, Seq, Par, If, While, Repeat, StaticSeq, StaticPar, StaticIf, StaticRepeat, Timed, PlainStatement, Placed, PlainStatements, no_statements, a_statement}
 use Rattle.cx_meaning.specs.Active.{Owned}
 use Rattle.cx_rules.specs.Items.{Dynamic, visit, visit_parts, visit_all}
-use Rattle.cx_net.specs.Nets.{PlainNetExpr, OfPort, OfWire, Inverse, AllOf, exprs_of, PlainNetTarget, ToPort, ToRegister, ToWire, ToHole, ToDone, PlainNetDriver}
+use Rattle.cx_net.specs.Nets.{PlainNetExpr, OfPort, OfWire, Inverse, AllOf, exprs_of, PlainNetTarget, ToWire, PlainNetDriver}
 use Rattle.cx_net.specs.NetLimits.{IsRead, parts_of, StandsIn, AllStandIn, IsWritableDriver}
 use Rattle.cx_static.specs.declared.islands.Sample.{Sample}
 use Rattle.cx_static.specs.declared.islands.IslandTimer.{IslandTimer}
@@ -18,11 +18,12 @@ use Rattle.cx_wiring.specs.IslandDrivers.{first_of_island, in_range, timer_runs,
 use Rattle.cx_wiring.specs.Guards.{part_expr, parts_exprs, guard_expr, guard_drivers, part_drivers, parts_drivers}
 use Rattle.cx_wiring.specs.Assignments.{target_of, Looks, LooksAlways, LooksIn, looks_of, go, gate_drivers, gated_drivers, looking_drivers, assign_wires, assign_drivers, assigns_drivers}
 use Rattle.cx_wiring.specs.Control.{one_turn, arm_stand, counted_inside, counting, whole_stand, finishing, comb_goes, timed_drivers, arms_over, form_drivers, drivers_of, parts_drivers as sequence_drivers, arms_drivers, control_drivers}
-use Rattle.cx_wiring.specs.Chains.{Driven, driven, with_driver, is_same, by_target, together, rests, closing, chain, chains}
+use Rattle.cx_wiring.specs.Trees.{Driven, driven, with_driver, is_same, by_target, behind as after, tree, pairs, trees}
 use Rattle.cx_wiring.specs.Fitting.{Are}
 use Rattle.cx_wiring.specs.Nesting.{most, guards_count, GuardNests, GuardsNest, OwnedNests, PointNests, FormNests, StatementNests, PartsNest, IslandNests}
 use Rattle.cx_wiring.proofs.FitLemmas.{are_both, are_at}
-use Rattle.cx_wiring.proofs.FitChains.{by_target_are}
+use Rattle.cx_wiring.proofs.TreeDrivers.{PairsFrom, tree_are}
+use Rattle.cx_wiring.proofs.FitBundles.{by_target_are}
 
 abbrev pub Nest : List PlainNetDriver → Type 0
 Nest ds = Are IsWritableDriver ds
@@ -335,23 +336,15 @@ module _ (groups : ℕ) where
         are_both IsWritableDriver (drivers_of groups islands (whole_stand wire) s) (finishing wire s) (drivers_nest s (whole_stand wire) h tt few)
         (record { guard = tt; source = tt }, (record { guard = (omega arith, tt, tt); source = tt }, (record { guard = tt; source = (omega arith, tt, tt) }, tt)))
 
--- CHAINS
-closing_nest : (whole at : PlainNetTarget) → Nest (closing whole at)
-closing_nest (ToPort p) at = tt
-closing_nest (ToRegister n) (ToPort p) = tt
-closing_nest (ToRegister n) (ToRegister m) = tt
-closing_nest (ToRegister n) (ToWire rest) = (record { guard = tt; source = tt }, tt)
-closing_nest (ToRegister n) (ToHole m) = tt
-closing_nest (ToRegister n) ToDone = tt
-closing_nest (ToWire n) at = tt
-closing_nest (ToHole n) at = tt
-closing_nest ToDone at = tt
+-- TREES
+any_pairs : (wire n : ℕ) → PairsFrom (λ m. Unit {0}) (λ m. Unit {0}) wire n
+any_pairs wire zero = tt
+any_pairs wire (suc n) = (tt, tt, any_pairs (suc (suc wire)) n)
 
-chain_nest : (whole at : PlainNetTarget) (wire room : ℕ) (ds : List PlainNetDriver) → Nest ds → Nest (chain whole at wire room ds)
-chain_nest whole at wire zero [] h = closing_nest whole at
-chain_nest whole at wire (suc room) [] h = closing_nest whole at
-chain_nest whole at wire zero (d ∷ ds) h = (record { guard = tt; source = tt }, (record { guard = h.0.guard; source = h.0.source }, chain_nest whole (ToWire wire) (suc wire) (together - 1) ds h.1))
-chain_nest whole at wire (suc room) (d ∷ ds) h = (record { guard = h.0.guard; source = h.0.source }, chain_nest whole at wire room ds h.1)
+tree_nests : (target : PlainNetTarget) (wire : ℕ) (ds : List PlainNetDriver) → Nest ds → Nest (tree target wire ds)
+tree_nests target wire ds h =
+    tree_are target IsWritableDriver IsWritableDriver (λ m. Unit {0}) (λ m. Unit {0}) (λ n d on k. record { guard = k.guard; source = tt }) (λ n d value k. record { guard = k.guard; source = k.source })
+    (λ n on value. record { guard = tt; source = tt }) (λ d k. record { guard = k.guard; source = k.source }) (length ds) wire ds (any_pairs wire (pairs (length ds))) h
 
 abbrev AllNest : List Driven → Type 0
 AllNest ts = Are (λ (t : Driven). Nest t.drivers) ts
@@ -368,11 +361,11 @@ driven_nest : (ds : List PlainNetDriver) → Nest ds → AllNest (driven ds)
 driven_nest [] h = tt
 driven_nest (d ∷ ds) h = with_driver_nest d (driven ds) h.0 (driven_nest ds h.1)
 
-entries_nest : (ts : List Driven) (wire : ℕ) → AllNest ts → Nest (chains wire ts)
+entries_nest : (ts : List Driven) (wire : ℕ) → AllNest ts → Nest (trees wire ts)
 entries_nest [] wire h = tt
 entries_nest (t ∷ ts) wire h =
-    are_both IsWritableDriver (chain t.target t.target wire together t.drivers) (chains (wire + rests together t.drivers) ts) (chain_nest t.target t.target wire together t.drivers h.0) (entries_nest ts (wire + rests together t.drivers) h.1)
+    are_both IsWritableDriver (tree t.target wire t.drivers) (trees (after wire (pairs (length t.drivers))) ts) (tree_nests t.target wire t.drivers h.0) (entries_nest ts (after wire (pairs (length t.drivers))) h.1)
 
--- ALL CHAINS
-pub chains_nest : (ds : List PlainNetDriver) (wire : ℕ) → Nest ds → Nest (chains wire (driven (by_target ds)))
-chains_nest ds wire h = entries_nest (driven (by_target ds)) wire (driven_nest (by_target ds) (by_target_are IsWritableDriver ds h))
+-- ALL TREES
+pub trees_nest : (ds : List PlainNetDriver) (wire : ℕ) → Nest ds → Nest (trees wire (driven (by_target ds)))
+trees_nest ds wire h = entries_nest (driven (by_target ds)) wire (driven_nest (by_target ds) (by_target_are IsWritableDriver ds h))

@@ -9,13 +9,13 @@ use Rattle.cx_wiring.specs.Stands.{Stand}
 use Rattle.cx_wiring.specs.IslandDrivers.{island_wires}
 use Rattle.cx_wiring.specs.Control.{drivers_of}
 use Rattle.cx_wiring.specs.Assignments.{driven_assigns, assigns_wires}
-use Rattle.cx_wiring.specs.Chains.{by_target, rest_widths}
+use Rattle.cx_wiring.specs.Trees.{by_target, tree_widths}
 use Rattle.cx_wiring.specs.Wiring.{groups, first_of_control, first_of_assigns, bits, plain_wires, plain_drivers, component_driven, target_width, net_component}
 use Rattle.cx_wiring.specs.Bounds.{Bounds, IsThere, AllDrive, AreThere, IslandsName, StatementNames, AssignsName, bounds_of}
 use Rattle.cx_wiring.proofs.RoomLemmas.{drive_both, Room, Wires}
 use Rattle.cx_wiring.proofs.ControlTargets.{drivers_drive, control_drives}
 use Rattle.cx_wiring.proofs.AssignTargets.{assigns_drive}
-use Rattle.cx_wiring.proofs.ChainTargets.{by_target_drive, all_driven, chains_drive}
+use Rattle.cx_wiring.proofs.TreeTargets.{by_target_drive, all_driven, trees_drive}
 
 -- a target is a statement's own: a wire or a register of it, the register of its region, or it is none of control: a port, a go of
 -- a group, a wire before those of control
@@ -35,7 +35,7 @@ drivers_own count islands named s x names =
     } in
     drivers_drive (IsOwn count islands x s) (λ p. tt) count islands (λ n is. inl is) (λ g is. (omega arith)) named s x names own (inl refl)
 
--- how many wires there are beside the rests
+-- how many wires there are beside those of trees
 pub plain_wires_count : (lowered : PlainLowered) → length (plain_wires lowered) ≡ groups lowered + bits lowered
 plain_wires_count lowered =
     length-append (replicate (groups lowered) 32) (replicate (bits lowered) 1)
@@ -46,9 +46,9 @@ module _ (d : PlainLowereds) (lowered : PlainLowered) where
   bounds = bounds_of (net_component d lowered)
 
   abbrev pub widths : List ℕ
-  widths = rest_widths (target_width d lowered) (component_driven lowered)
+  widths = tree_widths (target_width d lowered) (component_driven lowered)
 
-  -- all wires: of groups, islands, control, assignments, rests
+  -- all wires: of groups, islands, control, assignments, trees
   pub wires_there : bounds.wires ≡ length (plain_wires lowered) + length widths
   wires_there = length-append (plain_wires lowered) widths
 
@@ -64,12 +64,12 @@ module _ (d : PlainLowereds) (lowered : PlainLowered) where
         register_in = λ n low high. let there : n < bounds.registers = omega arith in there;
       } in
       let of_assigns : Wires (IsThere bounds) (first_of_assigns lowered) (assigns_wires (driven_assigns lowered)) = record { among = λ n low high. let there : n < bounds.wires = omega arith in there } in
-      let of_rests : Wires (IsThere bounds) (length (plain_wires lowered)) (length widths) = record { among = λ n low high. let there : n < bounds.wires = omega arith in there } in
+      let of_trees : Wires (IsThere bounds) (length (plain_wires lowered)) (length widths) = record { among = λ n low high. let there : n < bounds.wires = omega arith in there } in
       let before : (n : ℕ) → n < groups lowered + island_wires lowered.islands → n < bounds.wires = λ n is. omega arith in
       let go : (g : ℕ) → g < groups lowered → groups lowered + g < bounds.holes = λ g is. omega arith in
       let hole : (g : ℕ) → g < groups lowered → g < bounds.holes = λ g is. omega arith in
       let drivers : AreThere bounds (plain_drivers lowered) = drive_both (IsThere bounds) _ _
       (control_drives (IsThere bounds) (λ p. tt) (groups lowered) lowered.islands before go islands tt (first_of_control lowered) lowered.part.control control of_control)
       (assigns_drive (IsThere bounds) (λ p. tt) (groups lowered) hole (driven_assigns lowered) (first_of_assigns lowered) assigns of_assigns) in
-      chains_drive (IsThere bounds) (target_width d lowered) (component_driven lowered) (length (plain_wires lowered))
-      (all_driven (IsThere bounds) (by_target (plain_drivers lowered)) (by_target_drive (IsThere bounds) (plain_drivers lowered) drivers)) of_rests
+      trees_drive (IsThere bounds) (target_width d lowered) (component_driven lowered) (length (plain_wires lowered))
+      (all_driven (IsThere bounds) (by_target (plain_drivers lowered)) (by_target_drive (IsThere bounds) (plain_drivers lowered) drivers)) of_trees

@@ -113,7 +113,7 @@ module _ (d : PlainDesign) (part : PlainComponent) (cells : Cells) (numbers : In
       solves (APort (ports.Cell timer.cell 0)) (ap (λ a. is_port_of a 0) (IsTimerIn.in_net row))
       ∙ ap (λ a. cell_node (wired_in d part) NC around s (look []) (λ c. look (c ∷ [])) timer.cell 0 a) (IsTimerIn.in_net row)
       ∙ ap (λ w. first_true around Reg (look []) (zero_wide w) (drivers_to (ToPort (ports.Cell timer.cell 0)) (wired_in d part).drivers)) (sym width)
-      ∙ takes_all (lowered_of d) part NC around s look solves (NodeRules.plain (SeamRules.node seam)) (ToPort (ports.Cell timer.cell 0)) tt (λ m from. refl) (λ at. refl)
+      ∙ takes_all (lowered_of d) part NC around s look solves (NodeRules.plain (SeamRules.node seam)) (ToPort (ports.Cell timer.cell 0)) tt (λ m from. refl)
       ∙ ap (λ w. takes around Reg (look []) (ToPort (ports.Cell timer.cell 0)) (Some (zero_wide w)) (plain_drivers (lowered_component part))) width
       ∙ takes_append around Reg (look []) (ToPort (ports.Cell timer.cell 0)) (Some (zero_wide 1)) (SD ++ FD) AD
       ∙ ap (λ z. takes around Reg (look []) (ToPort (ports.Cell timer.cell 0)) z (SD ++ FD))

@@ -33,10 +33,8 @@ use Rattle.cx_wiring.specs.PartNets.{timers_of, wired_in}
 use Rattle.cx_wiring.specs.Blocks.{net_of_instance, net_of_cells}
 use Rattle.cx_wiring.specs.Takings.{AllConnect, AreRegisters}
 use Rattle.cx_wiring.specs.NetBits.{StatementTests}
-use Rattle.cx_wiring.specs.Chains.{closing}
-use Rattle.cx_wiring.proofs.RoomLemmas.{drive_both}
 use Rattle.cx_wiring.proofs.DrivenLemmas.{IsProper}
-use Rattle.cx_wiring.proofs.ChainLaws.{NoWireFrom}
+use Rattle.cx_wiring.proofs.TreeLaws.{NoWireFrom}
 use Rattle.cx_wiring.proofs.AwayLaws.{differs}
 use Rattle.cx_wiring.proofs.TakingLemmas.{no_port_done, no_port_hole}
 use Rattle.cx_wiring.proofs.ControlTargets.{control_drives, drivers_drive}
@@ -49,7 +47,7 @@ use Rattle.cx_wiring.proofs.SeamRules.{RestRules, SeamRules}
 use Rattle.cx_control.proofs.InstanceLemmas.{KeepsPorts}
 use Rattle.cx_wiring.proofs.FreeOutputs.{OutputsFree}
 use Rattle.cx_wiring.proofs.KnownLemmas.{Known, known_as, KnownExpr, On, Fed, known_equals, AllTo, all_to_append, all_to_other, all_to_map, AllOfThem, all_append, all_any_target, fed_takes, on_takes}
-use Rattle.cx_wiring.proofs.NodeReads.{target_known, wire_takes, hole_takes, done_takes, register_known, rest_wires_known, CanClose}
+use Rattle.cx_wiring.proofs.NodeReads.{target_known, wire_takes, hole_takes, done_takes, inner_wires_known}
 use Rattle.cx_wiring.proofs.AssignsKnown.{LookFed, NamesKnown, assigns_fed, assigns_all}
 use Rattle.cx_wiring.proofs.TogetherGoes.{IsOn, Goes, StatementIsles, statement_goes}
 use Rattle.cx_wiring.proofs.ControlFed.{Whole, statement_whole}
@@ -298,18 +296,9 @@ module _ (d : PlainDesign) (part : PlainComponent) (cells : Cells) (numbers : In
         (assigns_all (groups (lowered_component part)) (lowered_component part).islands (NodeRules.islands_named (SeamRules.node seam)) around Reg (look []) (driven_assigns (lowered_component part)) (first_of_assigns (lowered_component part)) (omega arith)
         (all_read d part cells numbers (SeamRules.node seam) around s look solves) (λ a i. (assign_fed a i, names_known a i)))
 
-    -- what can end a rest of a register has a value
-    all_close : AllDrive (CanClose around Reg (look [])) (plain_drivers (lowered_component part))
-    all_close =
-        drive_both (CanClose around Reg (look [])) CD AD
-        (control_drives (CanClose around Reg (look [])) (λ p. tt) (groups (lowered_component part)) (lowered_component part).islands (λ n less. tt) (λ g less. tt) (NodeRules.islands_named (SeamRules.node seam)) tt (first_of_control (lowered_component part)) control
-        (NodeRules.control_named (SeamRules.node seam))
-        (record { wire_in = λ n low high. tt; register_in = λ n low high. register_known (lowered_of d) part NC around s look solves (NodeRules.plain (SeamRules.node seam)) n (omega (arith, high)) }))
-        (assigns_drive (CanClose around Reg (look [])) (λ p. tt) (groups (lowered_component part)) (λ g less. tt) (driven_assigns (lowered_component part)) (first_of_assigns (lowered_component part)) (NodeRules.assigns_named (SeamRules.node seam)) (record { among = λ n low high. tt }))
-
-    any_target : (t : PlainNetTarget) → IsProper t → NoWireFrom t (length (plain_wires (lowered_component part))) → ((x : PlainNetTarget) → closing t x ≡ []) → (w : ℕ) → Known (driven_node (wired_in d part) NC around s (look []) (λ c. look (c ∷ [])) w t)
-    any_target t proper free_of open_end w =
-        target_known (lowered_of d) part NC around s look solves (NodeRules.plain (SeamRules.node seam)) t proper free_of open_end (all_any_target FedHere t (plain_drivers (lowered_component part)) all_drivers_fed) (zero_wide w)
+    any_target : (t : PlainNetTarget) → IsProper t → NoWireFrom t (length (plain_wires (lowered_component part))) → (w : ℕ) → Known (driven_node (wired_in d part) NC around s (look []) (λ c. look (c ∷ [])) w t)
+    any_target t proper free_of w =
+        target_known (lowered_of d) part NC around s look solves (NodeRules.plain (SeamRules.node seam)) t proper free_of (all_any_target FedHere t (plain_drivers (lowered_component part)) all_drivers_fed) (zero_wide w)
 
     -- EVERY NODE
     row_port : (c p : ℕ) (row : Row) → net_cell_at NC c ≡ ARow row → p < length row.ports → (side : Side) → side_of row p ≡ side → ((m : ℕ) → m < length row.ports → row.reads p m ≡ true → Known (look [] (APort (ports.Cell c m)))) → Known (look [] (APort (ports.Cell c p)))
@@ -322,8 +311,8 @@ module _ (d : PlainDesign) (part : PlainComponent) (cells : Cells) (numbers : In
             ∙ ap (row_node (wired_in d part) NC around s (look []) (λ y. look (y ∷ [])) row c p) e
 
         by : (x : Side) → side_of row p ≡ x → Known (row_node (wired_in d part) NC around s (look []) (λ y. look (y ∷ [])) row c p x)
-        by sides.Enable f = any_target (ToPort (ports.Cell c p)) tt (λ m from. refl) (λ x. refl) (net_at_width (ARow row) p)
-        by sides.Plain f = any_target (ToPort (ports.Cell c p)) tt (λ m from. refl) (λ x. refl) (net_at_width (ARow row) p)
+        by sides.Enable f = any_target (ToPort (ports.Cell c p)) tt (λ m from. refl) (net_at_width (ARow row) p)
+        by sides.Plain f = any_target (ToPort (ports.Cell c p)) tt (λ m from. refl) (net_at_width (ARow row) p)
         by sides.Output f =
             let g = gathered (λ q. look [] (APort (ports.Cell c q))) (row.reads p) 0 row.ports (λ q low high wanted. inputs_known q (omega arith) wanted) in
             (_, ap (option_map (λ ins. unwrap_or (row.output (s.cell (c ∷ [])) ins p) (zero_wide (net_at_width (ARow row) p)))) g.1)
@@ -339,7 +328,7 @@ module _ (d : PlainDesign) (part : PlainComponent) (cells : Cells) (numbers : In
         (solves (APort (ports.Cell c m)) (ap (λ x. is_port_of x m) is ∙ lt-ltb m (length row.ports) below)
         ∙ ap (λ x. cell_node (wired_in d part) NC around s (look []) (λ y. look (y ∷ [])) c m x) is
         ∙ ap (row_node (wired_in d part) NC around s (look []) (λ y. look (y ∷ [])) row c m) plain)
-        (any_target (ToPort (ports.Cell c m)) tt (λ n from. refl) (λ x. refl) (net_at_width (ARow row) m)))
+        (any_target (ToPort (ports.Cell c m)) tt (λ n from. refl) (net_at_width (ARow row) m)))
 
     child_port : (c p : ℕ) (child : NetInstance) → net_cell_at NC c ≡ AChild child → is_port_of (AChild child) p ≡ true → Known (look [] (APort (ports.Cell c p)))
     child_port c p child is there =
@@ -348,8 +337,8 @@ module _ (d : PlainDesign) (part : PlainComponent) (cells : Cells) (numbers : In
         (by (net_part_port (net_part child) p) refl)
       where
         by : (port : PartPort) → net_part_port (net_part child) p ≡ port → Known (child_node (wired_in d part) NC around s (look []) (λ y. look (y ∷ [])) child c p port)
-        by Go e = any_target (ToPort (ports.Cell c p)) tt (λ m from. refl) (λ x. refl) 1
-        by (AnInput n) e = any_target (ToPort (ports.Cell c p)) tt (λ m from. refl) (λ x. refl) (net_at_width (AChild child) p)
+        by Go e = any_target (ToPort (ports.Cell c p)) tt (λ m from. refl) 1
+        by (AnInput n) e = any_target (ToPort (ports.Cell c p)) tt (λ m from. refl) (net_at_width (AChild child) p)
         by (AnOutput n) e = NetShows.outputs net_shows c child n is (ltb-true n (length (net_part child).outputs) (part_output (net_part child) p n e))
         by ItsDone e = NetShows.dones net_shows c child is
 
@@ -359,7 +348,7 @@ module _ (d : PlainDesign) (part : PlainComponent) (cells : Cells) (numbers : In
           | inl there ↦
               known_as _ _ (wire_takes (lowered_of d) part NC around s look solves (NodeRules.plain (SeamRules.node seam)) n there)
               (fed_takes around Reg (look []) (ToWire n) (Some _) (plain_drivers (lowered_component part)) (all_any_target FedHere (ToWire n) (plain_drivers (lowered_component part)) all_drivers_fed) (_, refl))
-          | inr past ↦ rest_wires_known (lowered_of d) part NC around s look solves (NodeRules.plain (SeamRules.node seam)) all_drivers_fed all_close n past less
+          | inr past ↦ inner_wires_known (lowered_of d) part NC around s look solves (NodeRules.plain (SeamRules.node seam)) all_drivers_fed n past less
         ]
 
     pub node_known : (n : Node) → is_own_node (wired_in d part) NC n ≡ true → Known (look [] n)

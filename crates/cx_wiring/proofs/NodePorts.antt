@@ -24,7 +24,7 @@ use Rattle.cx_net.specs.NetTree.{NetCells, ARow, AChild, net_cell_at, net_part}
 use Rattle.cx_net.specs.NetMeaning.{NetState, APort, AWire, AHole, NetLook, NetAround, is_true, truth_bit, child_port_width, net_part_port, net_at_width, is_port_of, registers_of}
 use Rattle.cx_static.specs.Lowering.{lowered_component, lowered_of}
 use Rattle.cx_wiring.specs.Assignments.{owner_drives, is_driven, driven_assigns}
-use Rattle.cx_wiring.specs.Chains.{rest_widths}
+use Rattle.cx_wiring.specs.Trees.{tree_widths}
 use Rattle.cx_wiring.specs.Wiring.{groups, bits, plain_wires, component_driven, target_width}
 use Rattle.cx_wiring.specs.PartNets.{wired_in, timers_of}
 use Rattle.cx_wiring.specs.GuardPorts.{GuardPorts, PartsPorts, GroupSays, OwnerSays, AssignHolds, AssignsHold}
@@ -217,8 +217,8 @@ module _ (d : PlainDesign) (numbers : Instance → NetState → ℕ → ℕ) whe
           let holes : length part.groups + g < length part.groups + length part.groups = omega arith in
           let b = solves.bits [] (AHole (length part.groups + g)) (lt-ltb (length part.groups + g) (length part.groups + length part.groups) holes) in
           let count : length (plain_wires (lowered_component part)) ≡ groups (lowered_component part) + bits (lowered_component part) = plain_wires_count (lowered_component part) in
-          let all : length (wired_in d part).wires ≡ length (plain_wires (lowered_component part)) + length (rest_widths (target_width (lowered_of d) (lowered_component part)) (component_driven (lowered_component part))) =
-          length-append (plain_wires (lowered_component part)) (rest_widths (target_width (lowered_of d) (lowered_component part)) (component_driven (lowered_component part))) in
+          let all : length (wired_in d part).wires ≡ length (plain_wires (lowered_component part)) + length (tree_widths (target_width (lowered_of d) (lowered_component part)) (component_driven (lowered_component part))) =
+          length-append (plain_wires (lowered_component part)) (tree_widths (target_width (lowered_of d) (lowered_component part)) (component_driven (lowered_component part))) in
           let wires : g < length (wired_in d part).wires = omega (arith, count, all, there) in
           let x = solves.whole [] (AWire g) (lt-ltb g (length (wired_in d part).wires) wires) in (
             b.1 ∙ ap (λ c. Some (truth_bit c)) (sym (ap₂ (λ x y. x && y) (ap (λ o. is_true (unwrap_or o (zero_of (Some 1)))) b.1 ∙ true_bit b.0) drives ∙ and_true b.0)),

@@ -1,28 +1,28 @@
 -- What each target of a component's net has where its nodes solve their rules, whether they have values or not: what its drivers give it.
--- A target whose drivers are fed has a value, and so have the rests of all targets where all drivers are fed.
-use Rattle.std.proofs.Common.{◌≡◌, ℕ, zero, suc, ◌+◌, ◌-◌, ◌<◌, ◌≤◌, ◌⊎◌, inl, inr, Bool, true, false, not, if◌then◌else◌, List, [], ◌∷◌, ◌++◌, length, replicate, flat_map, Option, Some, None, option_map, option_and_then, unwrap_or, slice_get, refl, sym, ap, ◌∙◌, subst, arith, length-append}
+-- A target whose drivers are fed has a value, and so have the wires of all trees where all drivers are fed.
+use Rattle.std.proofs.Common.{◌≡◌, ℕ, zero, suc, ◌+◌, ◌<◌, ◌≤◌, ◌⊎◌, inl, inr, Bool, true, false, not, if◌then◌else◌, List, [], ◌∷◌, ◌++◌, length, flat_map, Option, Some, None, option_map, option_and_then, unwrap_or, slice_get, refl, sym, ap, ◌∙◌, subst, arith, length-append}
+use Rattle.std.specs.Prelude.{nat_lt}
 use Rattle.std.proofs.lemmas.Bool.{lt-ltb, cases_lt}
-use Rattle.std.proofs.lemmas.List.{length-replicate}
 use Rattle.cx_bits.specs.BitVector.{BitVector}
 use Rattle.cx_prim.specs.MemoryLaws.{slice_get-append}
 use Rattle.cx_meaning.specs.Designs.{PlainComponent}
-use Rattle.cx_net.specs.Nets.{OfRegister, PlainNetTarget, ToPort, ToRegister, ToWire, ToHole, ToDone, PlainNetDriver}
+use Rattle.cx_net.specs.Nets.{PlainNetTarget, ToWire, ToHole, ToDone, PlainNetDriver}
 use Rattle.cx_net.specs.NetTree.{NetCells}
 use Rattle.cx_net.specs.NetMeaning.{NetState, Node, AWire, AHole, TheDone, NetLook, NetAround, is_true, truth_bit, zero_wide, drivers_to, registers_of, own_step, is_own_node, chain as first_true}
 use Rattle.cx_static.specs.Islands.{PlainLowereds}
 use Rattle.cx_static.specs.Lowering.{lowered_component}
-use Rattle.cx_wiring.specs.Parts.{drive, connect}
+use Rattle.cx_wiring.specs.Parts.{one, drive}
 use Rattle.cx_wiring.specs.Bounds.{AllDrive}
-use Rattle.cx_wiring.specs.Chains.{Driven, together, rests, closing, goes_before, placed_among, by_target, rest_widths}
+use Rattle.cx_wiring.specs.Trees.{Driven, goes_before, placed_among, by_target, together, bundles, bundle_count, switches, moved, behind, heads, pairs_within, pairs, tree_widths}
 use Rattle.cx_wiring.specs.Wiring.{groups, plain_wires, plain_drivers, component_registers, component_driven, target_width, net_component}
 use Rattle.cx_wiring.specs.Takings.{value, takes}
 use Rattle.cx_wiring.proofs.OrderLaws.{driven_keeps}
-use Rattle.cx_wiring.proofs.ChainTargets.{AllDriven, by_target_drive, all_driven}
-use Rattle.cx_wiring.proofs.RestLaws.{standing, RestsHold}
+use Rattle.cx_wiring.proofs.BundleLaws.{joined, joined_bundles, bundles_long, later_pairs, pairs_if, WhereTrue, BundlesHold, TreeHolds, KnownFrom}
 use Rattle.cx_wiring.proofs.DrivenLemmas.{IsProper}
-use Rattle.cx_wiring.proofs.ChainLaws.{NoWireFrom, AllHold}
-use Rattle.cx_wiring.proofs.RestReads.{AreRests}
-use Rattle.cx_wiring.proofs.ComponentTakes.{IsPlain, target_takes, rests_all_hold}
+use Rattle.cx_wiring.proofs.TreeDrivers.{entries_long}
+use Rattle.cx_wiring.proofs.TreeLaws.{NoWireFrom, AllHold}
+use Rattle.cx_wiring.proofs.BundleReads.{TakeTheirs}
+use Rattle.cx_wiring.proofs.ComponentTakes.{IsPlain, target_takes, trees_all_hold}
 use Rattle.cx_wiring.proofs.AwayLaws.{differs}
 use Rattle.cx_wiring.proofs.KnownLemmas.{Known, known_as, AllTo, AllOfThem, Fed, fed_takes, any_undriven}
 use Rattle.cx_wiring.proofs.FitLemmas.{slice_left}
@@ -70,57 +70,75 @@ module _ (around : NetAround) (registers : ℕ → Option BitVector) (look : Nod
       choice true g = g refl
       choice false g = k
 
-  -- what ends the last rest of a register has a value
-  abbrev pub CanClose : PlainNetTarget → Type 0
-  CanClose (ToRegister n) = Known (registers n)
-  CanClose (ToPort p) = Unit {0}
-  CanClose (ToWire n) = Unit {0}
-  CanClose (ToHole n) = Unit {0}
-  CanClose ToDone = Unit {0}
+  -- the wires of bundles whose drivers are fed have values, and the bundles are fed as drivers
+  switches_known : (wire : ℕ) (z : BitVector) (b : List PlainNetDriver) → AllOfThem F b → Known (given_by z (switches wire b))
+  switches_known wire z [] fed = (z, refl)
+  switches_known wire z (d ∷ b) fed =
+      fed_first z (drive (ToWire wire) d.guard one) (ToWire wire) (switches wire b) (record { guard = Fed.guard fed.0; source = λ on. (truth_bit true, refl) }) (switches_known wire z b fed.1)
 
-  closed : (whole at : PlainNetTarget) (z : BitVector) → CanClose whole → Known (given_by z (closing whole at))
-  closed (ToPort p) at z h = (z, refl)
-  closed (ToRegister n) (ToPort p) z h = (z, refl)
-  closed (ToRegister n) (ToRegister m) z h = (z, refl)
-  closed (ToRegister n) (ToWire rest) z h = fed_first z (connect rest (OfRegister n)) (ToWire rest) [] (record { guard = (truth_bit true, refl); source = λ on. h }) (z, refl)
-  closed (ToRegister n) (ToHole m) z h = (z, refl)
-  closed (ToRegister n) ToDone z h = (z, refl)
-  closed (ToWire n) at z h = (z, refl)
-  closed (ToHole n) at z h = (z, refl)
-  closed ToDone at z h = (z, refl)
+  moved_known : (t : PlainNetTarget) (z : BitVector) (b : List PlainNetDriver) → AllOfThem F b → Known (given_by z (moved t b))
+  moved_known t z [] fed = (z, refl)
+  moved_known t z (d ∷ b) fed = fed_first z d t (moved t b) fed.0 (moved_known t z b fed.1)
 
-  -- A CHAIN whose drivers are fed has a value where it stands, and so has each of its rests
-  record ChainKnown (z : BitVector) (whole at : PlainNetTarget) (wire room : ℕ) (ds : List PlainNetDriver) : Type 0 where
-    stands : Known (given_by z (standing whole at wire room ds))
-    rest : (m : ℕ) → wire ≤ m → m < wire + rests room ds → Known (look (AWire m))
+  heads_fed : (z : BitVector) (t : PlainNetTarget) (wire : ℕ) (bs : List (List PlainNetDriver)) → AllOfThem F (joined bs) → BundlesHold around registers look z wire bs → AllOfThem F (heads t wire bs)
+  heads_fed z t wire [] fed hold = tt
+  heads_fed z t wire (b ∷ bs) fed hold =
+      let k = all_split F b (joined bs) fed in (
+        record {
+          guard = known_as _ _ hold.0 (switches_known wire (zero_wide 1) b k.0);
+          source = λ on. known_as _ _ hold.1 (moved_known (ToWire (suc wire)) z b k.0);
+        },
+        heads_fed z t (suc (suc wire)) bs k.1 hold.2,
+      )
 
-  chain_known : (z : BitVector) (whole : PlainNetTarget) → CanClose whole → (ds : List PlainNetDriver) (at : PlainNetTarget) (wire room : ℕ) → AllOfThem F ds → RestsHold around registers look z whole wire room ds
-      → ChainKnown z whole at wire room ds
-  chain_known z whole close [] at wire zero fed hold = record { stands = closed whole at z close; rest = λ m low high. absurd (omega arith) }
-  chain_known z whole close [] at wire (suc room) fed hold = record { stands = closed whole at z close; rest = λ m low high. absurd (omega arith) }
-  chain_known z whole close (d ∷ ds) at wire zero fed hold =
-      let later = chain_known z whole close ds (ToWire wire) (suc wire) (together - 1) fed.1 hold.1 in
-      let first : Known (look (AWire wire)) = known_as _ _ hold.0 (fed_first z d (ToWire wire) (standing whole (ToWire wire) (suc wire) (together - 1) ds) fed.0 (ChainKnown.stands later)) in
-      record { stands = first; rest = λ m low high. choice m (cases_lt wire m) low high first (ChainKnown.rest later m) }
+  bundles_known : (z : BitVector) (wire : ℕ) (bs : List (List PlainNetDriver)) → AllOfThem F (joined bs) → BundlesHold around registers look z wire bs → KnownFrom around registers look wire (length bs + length bs)
+  bundles_known z wire [] fed hold m low high = absurd (omega arith)
+  bundles_known z wire (b ∷ bs) fed hold m low high =
+      let k = all_split F b (joined bs) fed in
+      choice (cases_lt wire m) (cases_lt (suc wire) m) (known_as _ _ hold.0 (switches_known wire (zero_wide 1) b k.0)) (known_as _ _ hold.1 (moved_known (ToWire (suc wire)) z b k.0))
+      (λ l. bundles_known z (suc (suc wire)) bs k.1 hold.2 m l (omega arith))
     where
-      choice : (m : ℕ) → (wire < m) ⊎ (m ≤ wire) → wire ≤ m → m < wire + suc (rests (together - 1) ds) → Known (look (AWire wire)) → (suc wire ≤ m → m < suc wire + rests (together - 1) ds → Known (look (AWire m))) → Known (look (AWire m))
-      choice m (inl l) low high first later = later (omega arith) (omega arith)
-      choice m (inr l) low high first later = let e : wire ≡ m = omega arith in subst (λ k. Known (look (AWire k))) e first
-  chain_known z whole close (d ∷ ds) at wire (suc room) fed hold =
-      let later = chain_known z whole close ds at wire room fed.1 hold in
-      record { stands = fed_first z d at (standing whole at wire room ds) fed.0 (ChainKnown.stands later); rest = ChainKnown.rest later }
+      choice : (wire < m) ⊎ (m ≤ wire) → (suc wire < m) ⊎ (m ≤ suc wire) → Known (look (AWire wire)) → Known (look (AWire (suc wire))) → (suc (suc wire) ≤ m → Known (look (AWire m))) → Known (look (AWire m))
+      choice (inr l) other on value later = let e : wire ≡ m = omega arith in subst (λ n. Known (look (AWire n))) e on
+      choice (inl l) (inr r) on value later = let e : suc wire ≡ m = omega arith in subst (λ n. Known (look (AWire n))) e value
+      choice (inl l) (inl r) on value later = later (omega arith)
 
-  rests_known : (width : PlainNetTarget → ℕ) (ts : List Driven) (wire : ℕ) → EachDriven F ts → AllDriven CanClose ts → AllHold around registers look (λ t. zero_wide (width t)) wire ts
-      → (m : ℕ) → wire ≤ m → m < wire + length (rest_widths width ts) → Known (look (AWire m))
-  rests_known width [] wire fed close hold m low high = absurd (omega arith)
-  rests_known width (u ∷ us) wire fed close hold m low high =
-      let count : length (rest_widths width (u ∷ us)) ≡ rests together u.drivers + length (rest_widths width us) =
-      length-append (replicate (rests together u.drivers) (width u.target)) (rest_widths width us) ∙ ap (λ n. n + length (rest_widths width us)) (length-replicate (rests together u.drivers) (width u.target)) in
-      choice (cases_lt m (wire + rests together u.drivers))
-      (λ l. ChainKnown.rest (chain_known (zero_wide (width u.target)) u.target close.0 u.drivers u.target wire together fed.0 hold.0) m low l)
-      (λ l. rests_known width us (wire + rests together u.drivers) fed.1 close.1 hold.1 m l (omega (arith, high, count)))
+  -- A TREE whose drivers are fed has a value on each of its wires
+  tree_known : (z : BitVector) (target : PlainNetTarget) (levels wire : ℕ) (ds : List PlainNetDriver) → AllOfThem F ds → TreeHolds around registers look z target levels wire ds
+      → KnownFrom around registers look wire (pairs_within levels (length ds) + pairs_within levels (length ds))
+  tree_known z target zero wire ds fed hold = λ m low high. absurd (omega arith)
+  tree_known z target (suc levels) wire ds fed hold = choice (nat_lt together (length ds)) hold (tree_known z target levels (behind wire (length (bundles together ds))) (heads target wire (bundles together ds)))
     where
-      choice : (m < wire + rests together u.drivers) ⊎ (wire + rests together u.drivers ≤ m) → (m < wire + rests together u.drivers → Known (look (AWire m))) → (wire + rests together u.drivers ≤ m → Known (look (AWire m))) → Known (look (AWire m))
+      choice : (b : Bool) → WhereTrue b (BundlesHold around registers look z wire (bundles together ds)
+          × TreeHolds around registers look z target levels (behind wire (length (bundles together ds))) (heads target wire (bundles together ds)))
+          → (AllOfThem F (heads target wire (bundles together ds)) → TreeHolds around registers look z target levels (behind wire (length (bundles together ds))) (heads target wire (bundles together ds))
+          → KnownFrom around registers look (behind wire (length (bundles together ds))) (pairs_within levels (length (heads target wire (bundles together ds))) + pairs_within levels (length (heads target wire (bundles together ds)))))
+          → KnownFrom around registers look wire (pairs_if b levels (length ds) + pairs_if b levels (length ds))
+      choice true h above_known m low high =
+          let long : length (bundles together ds) ≡ bundle_count (length ds) = bundles_long ds in
+          let later : pairs_within levels (length (heads target wire (bundles together ds))) ≡ pairs_within levels (bundle_count (length ds)) = later_pairs target levels wire ds in
+          let leaves : AllOfThem F (joined (bundles together ds)) = subst (AllOfThem F) (sym (joined_bundles together ds)) fed in
+          side (cases_lt m (behind wire (length (bundles together ds))))
+          (λ l. bundles_known z wire (bundles together ds) leaves h.0 m low l)
+          (λ l. above_known (heads_fed z target wire (bundles together ds) leaves h.0) h.1 m l (omega arith))
+        where
+          side : (m < behind wire (length (bundles together ds))) ⊎ (behind wire (length (bundles together ds)) ≤ m) → (m < behind wire (length (bundles together ds)) → Known (look (AWire m)))
+              → (behind wire (length (bundles together ds)) ≤ m → Known (look (AWire m))) → Known (look (AWire m))
+          side (inl l) f g = f l
+          side (inr l) f g = g l
+      choice false h above_known m low high = absurd (omega arith)
+
+  trees_known : (width : PlainNetTarget → ℕ) (ts : List Driven) (wire : ℕ) → EachDriven F ts → AllHold around registers look (λ t. zero_wide (width t)) wire ts
+      → KnownFrom around registers look wire (length (tree_widths width ts))
+  trees_known width [] wire fed hold m low high = absurd (omega arith)
+  trees_known width (u ∷ us) wire fed hold m low high =
+      let count : length (tree_widths width (u ∷ us)) ≡ (pairs (length u.drivers) + pairs (length u.drivers)) + length (tree_widths width us) = entries_long width u us in
+      choice (cases_lt m (behind wire (pairs (length u.drivers))))
+      (λ l. tree_known (zero_wide (width u.target)) u.target (length u.drivers) wire u.drivers fed.0 hold.0 m low l)
+      (λ l. trees_known width us (behind wire (pairs (length u.drivers))) fed.1 hold.1 m l (omega arith))
+    where
+      choice : (m < behind wire (pairs (length u.drivers))) ⊎ (behind wire (pairs (length u.drivers)) ≤ m) → (m < behind wire (pairs (length u.drivers)) → Known (look (AWire m)))
+          → (behind wire (pairs (length u.drivers)) ≤ m → Known (look (AWire m))) → Known (look (AWire m))
       choice (inl l) f g = f l
       choice (inr l) f g = g l
 
@@ -140,66 +158,65 @@ module _ (d : PlainLowereds) (part : PlainComponent) (cells : NetCells) (around 
       solves (AWire n) (lt-ltb n (length (net_component d (lowered_component part)).wires) less)
       ∙ ap (λ o. option_and_then (λ w. G (ToWire n) (zero_wide w)) o) is
 
-  pub all_wires : length (net_component d (lowered_component part)).wires ≡ length (plain_wires (lowered_component part)) + length (rest_widths (target_width d (lowered_component part)) (component_driven (lowered_component part)))
-  all_wires = length-append (plain_wires (lowered_component part)) (rest_widths (target_width d (lowered_component part)) (component_driven (lowered_component part)))
+  pub all_wires : length (net_component d (lowered_component part)).wires ≡ length (plain_wires (lowered_component part)) + length (tree_widths (target_width d (lowered_component part)) (component_driven (lowered_component part)))
+  all_wires = length-append (plain_wires (lowered_component part)) (tree_widths (target_width d (lowered_component part)) (component_driven (lowered_component part)))
 
-  rests_from : (ws : List ℕ) (n : ℕ) → ((i w : ℕ) → slice_get ws i ≡ Some w → i < length ws → look [] (AWire (n + i)) ≡ G (ToWire (n + i)) (zero_wide w))
-      → AreRests around (registers_of (net_component d (lowered_component part)) cells around s (look []) (λ c. look (c ∷ []))) (look []) n ws (net_component d (lowered_component part)).drivers
-  rests_from [] n h = tt
-  rests_from (w ∷ ws) n h =
+  widths_from : (ws : List ℕ) (n : ℕ) → ((i w : ℕ) → slice_get ws i ≡ Some w → i < length ws → look [] (AWire (n + i)) ≡ G (ToWire (n + i)) (zero_wide w))
+      → TakeTheirs around (registers_of (net_component d (lowered_component part)) cells around s (look []) (λ c. look (c ∷ []))) (look []) n ws (net_component d (lowered_component part)).drivers
+  widths_from [] n h = tt
+  widths_from (w ∷ ws) n h =
       let none : n + 0 ≡ n = omega arith in (
         subst (λ m. look [] (AWire m) ≡ G (ToWire m) (zero_wide w)) none (h 0 w refl (omega arith)),
-        rests_from ws (suc n) (λ i v e less. let more : n + suc i ≡ suc n + i = omega arith in subst (λ m. look [] (AWire m) ≡ G (ToWire m) (zero_wide v)) more (h (suc i) v e (omega arith))),
+        widths_from ws (suc n) (λ i v e less. let more : n + suc i ≡ suc n + i = omega arith in subst (λ m. look [] (AWire m) ≡ G (ToWire m) (zero_wide v)) more (h (suc i) v e (omega arith))),
       )
 
-  reads : AreRests around (registers_of (net_component d (lowered_component part)) cells around s (look []) (λ c. look (c ∷ []))) (look []) (length (plain_wires (lowered_component part)))
-      (rest_widths (target_width d (lowered_component part)) (component_driven (lowered_component part))) (net_component d (lowered_component part)).drivers
-  reads = rests_from (rest_widths (target_width d (lowered_component part)) (component_driven (lowered_component part))) (length (plain_wires (lowered_component part)))
-      (λ i w e less. let all : length (net_component d (lowered_component part)).wires ≡ length (plain_wires (lowered_component part)) + length (rest_widths (target_width d (lowered_component part)) (component_driven (lowered_component part))) = all_wires in
+  reads : TakeTheirs around (registers_of (net_component d (lowered_component part)) cells around s (look []) (λ c. look (c ∷ []))) (look []) (length (plain_wires (lowered_component part)))
+      (tree_widths (target_width d (lowered_component part)) (component_driven (lowered_component part))) (net_component d (lowered_component part)).drivers
+  reads = widths_from (tree_widths (target_width d (lowered_component part)) (component_driven (lowered_component part))) (length (plain_wires (lowered_component part)))
+      (λ i w e less. let all : length (net_component d (lowered_component part)).wires ≡ length (plain_wires (lowered_component part)) + length (tree_widths (target_width d (lowered_component part)) (component_driven (lowered_component part))) = all_wires in
       wire_has (length (plain_wires (lowered_component part)) + i) w
-      (slice_get-append (plain_wires (lowered_component part)) (rest_widths (target_width d (lowered_component part)) (component_driven (lowered_component part))) (length (plain_wires (lowered_component part)) + i) i refl ∙ e) (omega arith))
+      (slice_get-append (plain_wires (lowered_component part)) (tree_widths (target_width d (lowered_component part)) (component_driven (lowered_component part))) (length (plain_wires (lowered_component part)) + i) i refl ∙ e) (omega arith))
 
-  -- A TARGET that is no register and no rest takes what its drivers other than rests give it
-  pub takes_all : (t : PlainNetTarget) → IsProper t → NoWireFrom t (length (plain_wires (lowered_component part))) → ((at : PlainNetTarget) → closing t at ≡ [])
+  -- A TARGET that is no wire of a tree takes what the leaves of its tree give it
+  pub takes_all : (t : PlainNetTarget) → IsProper t → NoWireFrom t (length (plain_wires (lowered_component part)))
       → G t (zero_wide (target_width d (lowered_component part) t)) ≡ takes around R (look []) t (Some (zero_wide (target_width d (lowered_component part) t))) (plain_drivers (lowered_component part))
-  takes_all t proper free open_end = target_takes d (lowered_component part) around R (look []) plain reads t proper free open_end
+  takes_all t proper free = target_takes d (lowered_component part) around R (look []) plain reads t proper free
 
   -- and has a value where they are fed, whatever stands where none drives
-  pub target_known : (t : PlainNetTarget) → IsProper t → NoWireFrom t (length (plain_wires (lowered_component part))) → ((at : PlainNetTarget) → closing t at ≡ [])
+  pub target_known : (t : PlainNetTarget) → IsProper t → NoWireFrom t (length (plain_wires (lowered_component part)))
       → AllTo (Fed around R (look [])) t (plain_drivers (lowered_component part)) → (z : BitVector) → Known (G t z)
-  target_known t proper free open_end fed z =
+  target_known t proper free fed z =
       any_undriven around R (look []) (zero_wide (target_width d (lowered_component part) t)) z (drivers_to t (net_component d (lowered_component part)).drivers)
-      (known_as _ _ (takes_all t proper free open_end) (fed_takes around R (look []) t (Some (zero_wide (target_width d (lowered_component part) t))) (plain_drivers (lowered_component part)) fed (zero_wide (target_width d (lowered_component part) t), refl)))
+      (known_as _ _ (takes_all t proper free) (fed_takes around R (look []) t (Some (zero_wide (target_width d (lowered_component part) t))) (plain_drivers (lowered_component part)) fed (zero_wide (target_width d (lowered_component part) t), refl)))
 
-  -- a wire that is no rest, a hole, the done
+  -- a wire that is none of a tree, a hole, the done
   pub wire_takes : (n : ℕ) → n < length (plain_wires (lowered_component part))
       → look [] (AWire n) ≡ takes around R (look []) (ToWire n) (Some (zero_wide (target_width d (lowered_component part) (ToWire n)))) (plain_drivers (lowered_component part))
   wire_takes n there =
-      let all : length (net_component d (lowered_component part)).wires ≡ length (plain_wires (lowered_component part)) + length (rest_widths (target_width d (lowered_component part)) (component_driven (lowered_component part))) = all_wires in
+      let all : length (net_component d (lowered_component part)).wires ≡ length (plain_wires (lowered_component part)) + length (tree_widths (target_width d (lowered_component part)) (component_driven (lowered_component part))) = all_wires in
       let k = some_at (plain_wires (lowered_component part)) n there in
       wire_has n k.0 (slice_left (plain_wires (lowered_component part)) _ n k.0 k.1) (omega arith)
       ∙ ap (λ w. G (ToWire n) (zero_wide w)) (sym (ap (λ o. unwrap_or o 1) k.1))
-      ∙ takes_all (ToWire n) tt (λ m from. differs m n (λ e. omega arith)) (λ at. refl)
+      ∙ takes_all (ToWire n) tt (λ m from. differs m n (λ e. omega arith))
 
   pub hole_takes : (n : ℕ) → n < groups (lowered_component part) + groups (lowered_component part) → look [] (AHole n) ≡ takes around R (look []) (ToHole n) (Some (zero_wide 1)) (plain_drivers (lowered_component part))
   hole_takes n there =
       let is = lt-ltb n (groups (lowered_component part) + groups (lowered_component part)) there in
-      solves (AHole n) is ∙ ap (λ b. if b then G (ToHole n) (zero_wide 1) else None) is ∙ takes_all (ToHole n) tt (λ m from. refl) (λ at. refl)
+      solves (AHole n) is ∙ ap (λ b. if b then G (ToHole n) (zero_wide 1) else None) is ∙ takes_all (ToHole n) tt (λ m from. refl)
 
   pub done_takes : look [] TheDone ≡ takes around R (look []) ToDone (Some (zero_wide 1)) (plain_drivers (lowered_component part))
-  done_takes = solves TheDone refl ∙ takes_all ToDone tt (λ m from. refl) (λ at. refl)
+  done_takes = solves TheDone refl ∙ takes_all ToDone tt (λ m from. refl)
 
   -- registers that are there have values
   pub register_known : (n : ℕ) → n < length (component_registers (lowered_component part)) → Known (R n)
   register_known n less = let k = some_at (component_registers (lowered_component part)) n less in (_, ap (λ o. option_map (λ v. record { width = v; value = s.register [] n }) o) k.1)
 
-  -- THE RESTS have values where all drivers are fed
-  pub rest_wires_known : AllOfThem (Fed around R (look [])) (plain_drivers (lowered_component part)) → AllDrive (CanClose around R (look [])) (plain_drivers (lowered_component part))
+  -- THE WIRES OF TREES have values where all drivers are fed
+  pub inner_wires_known : AllOfThem (Fed around R (look [])) (plain_drivers (lowered_component part))
       → (m : ℕ) → length (plain_wires (lowered_component part)) ≤ m → m < length (net_component d (lowered_component part)).wires → Known (look [] (AWire m))
-  rest_wires_known fed close m low high =
-      let all : length (net_component d (lowered_component part)).wires ≡ length (plain_wires (lowered_component part)) + length (rest_widths (target_width d (lowered_component part)) (component_driven (lowered_component part))) = all_wires in
-      rests_known around R (look []) (target_width d (lowered_component part)) (component_driven (lowered_component part)) (length (plain_wires (lowered_component part)))
+  inner_wires_known fed m low high =
+      let all : length (net_component d (lowered_component part)).wires ≡ length (plain_wires (lowered_component part)) + length (tree_widths (target_width d (lowered_component part)) (component_driven (lowered_component part))) = all_wires in
+      trees_known around R (look []) (target_width d (lowered_component part)) (component_driven (lowered_component part)) (length (plain_wires (lowered_component part)))
       (each_driven (Fed around R (look [])) (component_driven (lowered_component part))
       (subst (AllOfThem (Fed around R (look []))) (sym (driven_keeps (by_target (plain_drivers (lowered_component part))))) (by_target_all (Fed around R (look [])) (plain_drivers (lowered_component part)) fed)))
-      (all_driven (CanClose around R (look [])) (by_target (plain_drivers (lowered_component part))) (by_target_drive (CanClose around R (look [])) (plain_drivers (lowered_component part)) close))
-      (rests_all_hold d (lowered_component part) around R (look []) plain reads) m low (omega (arith, high, all))
+      (trees_all_hold d (lowered_component part) around R (look []) plain reads) m low (omega (arith, high, all))

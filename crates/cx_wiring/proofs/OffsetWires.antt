@@ -80,8 +80,8 @@ module _ (groups : ℕ) (islands : List PlainIsland) (around : NetAround) (regis
     form_only : (form : PlainForm) (x : Stand) → bound ≤ x.wire → (o : Option BitVector) → takes around registers look (ToWire g) o (form_drivers groups islands x form) ≡ takes around registers look (ToWire g) o (form_isles groups islands x form)
     form_only Empty x low o = turn x low o
     form_only (Enable h) x low o =
-        stands_pass x low o (ends x (both (at x) (OfHole h)) ∷ drive (ToHole (groups + h)) (at x) (Inverse (OfHole h)) ∷ [])
-        ∙ ends_pass x low (both (at x) (OfHole h)) o (drive (ToHole (groups + h)) (at x) (Inverse (OfHole h)) ∷ [])
+        stands_pass x low o (ends x (both (at x) (OfHole h)) ∷ drive (ToHole (groups + h)) (at x) (Inverse (end_of x.wire)) ∷ [])
+        ∙ ends_pass x low (both (at x) (OfHole h)) o (drive (ToHole (groups + h)) (at x) (Inverse (end_of x.wire)) ∷ [])
     form_only (Seq no_statements) x low o = turn x low o
     form_only (Seq (a_statement s ss)) x low o =
         of_two o (drivers_of groups islands (inside x) s) (parts_drivers groups islands x (inside x).wire (behind islands s (inside x)) ss) (isles_of groups islands (inside x) s) (parts_isles groups islands (behind islands s (inside x)) ss)

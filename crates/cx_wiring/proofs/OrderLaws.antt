@@ -4,7 +4,7 @@ use Rattle.std.specs.Ordering.{is_lt, nat_cmp, ordering_then}
 use Rattle.std.specs.Cmp.{nat_cmp_is}
 use Rattle.cx_net.specs.Nets.{PlainNetTarget, PlainNetDriver}
 use Rattle.cx_net.specs.NetMeaning.{same_target, drivers_to}
-use Rattle.cx_wiring.specs.Chains.{is_same, Rank, rank_of, ranks_before, goes_before, placed_among, by_target, Driven, with_driver, driven}
+use Rattle.cx_wiring.specs.Trees.{is_same, Rank, rank_of, ranks_before, goes_before, placed_among, by_target, Driven, with_driver, driven}
 use Rattle.cx_wiring.proofs.TargetRanks.{same_rank}
 
 no_number_before : (n : ℕ) → nat_cmp n n ≡ Equal

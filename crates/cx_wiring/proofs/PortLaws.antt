@@ -15,7 +15,7 @@ use Rattle.cx_net.specs.NetTree.{NetCells}
 use Rattle.cx_net.specs.NetMeaning.{NetState, Node, NetLook, NetAround, zero_wide, same_target, drivers_to, registers_of, own_step, is_own_node, chain as first_true}
 use Rattle.cx_static.specs.Islands.{PlainIsland, PlainLowereds}
 use Rattle.cx_static.specs.Lowering.{lowered, lowered_component, unlowered}
-use Rattle.cx_wiring.specs.Chains.{rest_widths}
+use Rattle.cx_wiring.specs.Trees.{tree_widths}
 use Rattle.cx_wiring.specs.Control.{control_drivers}
 use Rattle.cx_wiring.specs.Assignments.{target_of, is_driven, driven_assigns, assigns_wires, assigns_drivers}
 use Rattle.cx_wiring.specs.Bounds.{AllDrive, IslandsName, StatementNames, AssignsName}
@@ -79,13 +79,13 @@ module _ (d : PlainLowereds) (part : PlainComponent) (named : IslandsName (group
       let there : n < length (plain_wires (lowered_component part)) = omega arith in
       wire_there d part named cells around s look solves has_value plain n 1 (slice_left (plain_wires (lowered_component part)) _ n 1 one) (within n there)
       ∙ ap (λ w. first_true around R (look []) (zero_wide w) (drivers_to (ToWire n) (net_component d (lowered_component part)).drivers)) (sym width)
-      ∙ target_takes d (lowered_component part) around R (look []) plain (reads d part named cells around s look solves has_value plain) (ToWire n) tt (λ m from. differs m n (λ e. omega arith)) (λ at. refl)
+      ∙ target_takes d (lowered_component part) around R (look []) plain (reads d part named cells around s look solves has_value plain) (ToWire n) tt (λ m from. differs m n (λ e. omega arith))
       ∙ ap (λ w. takes around R (look []) (ToWire n) (Some (zero_wide w)) (plain_drivers (lowered_component part))) width
       ∙ takes_append around R (look []) (ToWire n) (Some (zero_wide 1)) CD AD
       ∙ others_pass around R (look []) (ToWire n) (takes around R (look []) (ToWire n) (Some (zero_wide 1)) AD) CD skip
     where
       within : (m : ℕ) → m < length (plain_wires (lowered_component part)) → m < length (net_component d (lowered_component part)).wires
-      within m less = omega (arith, length-append (plain_wires (lowered_component part)) (rest_widths (target_width d (lowered_component part)) (component_driven (lowered_component part))))
+      within m less = omega (arith, length-append (plain_wires (lowered_component part)) (tree_widths (target_width d (lowered_component part)) (component_driven (lowered_component part))))
 
       skip : AllDrive (λ u. same_target u (ToWire n) ≡ false) CD
       skip =
@@ -101,7 +101,7 @@ module _ (d : PlainLowereds) (part : PlainComponent) (named : IslandsName (group
         → first_true around R (look []) (zero_wide (target_width d (lowered_component part) (ToPort p))) (drivers_to (ToPort p) (net_component d (lowered_component part)).drivers)
         ≡ Some (first_on v (zero_wide (target_width d (lowered_component part) (ToPort p))) (drivers part (going_set goes at) p))
     driven_port left_out p proper same no_timer =
-        target_takes d (lowered_component part) around R (look []) plain (reads d part named cells around s look solves has_value plain) (ToPort p) proper (λ m from. refl) (λ x. refl)
+        target_takes d (lowered_component part) around R (look []) plain (reads d part named cells around s look solves has_value plain) (ToPort p) proper (λ m from. refl)
         ∙ takes_append around R (look []) (ToPort p) _ CD AD
         ∙ others_pass around R (look []) (ToPort p) _ CD
         (control_free (λ u. same_target u (ToPort p) ≡ false) (λ n. refl) (λ n. refl) (λ n. refl) refl (groups (lowered_component part)) (lowered_component part).islands no_timer (first_of_control (lowered_component part)) (lowered part part.control (unlowered part)))
@@ -114,7 +114,7 @@ module _ (d : PlainLowereds) (part : PlainComponent) (named : IslandsName (group
         → ((a : Owned) → In (source_order part) a → same_port a.assign.target (ports.Done g) ≡ true → is_driven (lowered_component part) a ≡ false → ⊥)
         → first_true around R (look []) (zero_wide 1) (drivers_to (ToHole g) (net_component d (lowered_component part)).drivers) ≡ Some (first_on v (zero_wide 1) (drivers part (group g) (ports.Done g)))
     driven_hole g there fits all_driven =
-        target_takes d (lowered_component part) around R (look []) plain (reads d part named cells around s look solves has_value plain) (ToHole g) tt (λ m from. refl) (λ x. refl)
+        target_takes d (lowered_component part) around R (look []) plain (reads d part named cells around s look solves has_value plain) (ToHole g) tt (λ m from. refl)
         ∙ takes_append around R (look []) (ToHole g) _ CD AD
         ∙ others_pass around R (look []) (ToHole g) _ CD
         (control_drives (λ u. same_target u (ToHole g) ≡ false) (no_port_hole g) (groups (lowered_component part)) (lowered_component part).islands (λ m less. refl) (λ h less. differs (groups (lowered_component part) + h) g (λ e. omega arith))

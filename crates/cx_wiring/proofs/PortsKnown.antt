@@ -215,7 +215,7 @@ module _ (d : PlainDesign) (part : PlainComponent) (cells : Cells) (numbers : In
         (λ a i e. fed a i (same_is a.assign.target p (sym (same a.assign.target) ∙ e))))
 
     driven_known : (w : ℕ) → Known (driven_node (wired_in d part) NC around s (look []) (λ c. look (c ∷ [])) w (ToPort p))
-    driven_known w = target_known (lowered_of d) part NC around s look solves (NodeRules.plain rules) (ToPort p) proper (λ m from. refl) (λ x. refl) all_fed (zero_wide w)
+    driven_known w = target_known (lowered_of d) part NC around s look solves (NodeRules.plain rules) (ToPort p) proper (λ m from. refl) all_fed (zero_wide w)
 
   pub cell_driven : (c q : ℕ) → c < length part.cells → ((a : Owned) → In (driven_assigns (lowered_component part)) a → a.assign.target ≡ ports.Cell c q → IsFed a) → (w : ℕ)
       → Known (driven_node (wired_in d part) NC around s (look []) (λ e. look (e ∷ [])) w (ToPort (ports.Cell c q)))

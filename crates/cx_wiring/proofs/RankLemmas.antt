@@ -3,7 +3,7 @@ use Rattle.std.proofs.Common.{◌≡◌, ℕ, zero, suc, ◌<◌, ◌≤◌, ◌
 use Rattle.std.specs.Ordering.{is_lt, nat_cmp, ordering_then}
 use Rattle.std.specs.Cmp.{nat_cmp_is}
 use Rattle.cx_net.specs.Nets.{PlainNetDriver}
-use Rattle.cx_wiring.specs.Chains.{Rank, rank_of, ranks_before, goes_before, placed_among, by_target}
+use Rattle.cx_wiring.specs.Trees.{Rank, rank_of, ranks_before, goes_before, placed_among, by_target}
 
 -- the first stands nowhere before the second
 abbrev pub NotBefore : Rank → Rank → Type 0

@@ -15,7 +15,7 @@ use Rattle.cx_prim.specs.PipeRows.{multiplier_row, divider_row, timer_row}
 use Rattle.cx_prim.specs.Table.{PrimitiveRow, no_row, row_of}
 use Rattle.cx_prim.specs.TableCases.{OfEachKind, of_row}
 use Rattle.cx_meaning.specs.Rows.{side_from, side_of}
-use Rattle.cx_wiring.proofs.ChainLaws.{untrue}
+use Rattle.cx_wiring.proofs.TreeLaws.{untrue}
 
 abbrev AreNarrow : List PortRow → Type 0
 AreNarrow [] = Unit {0}

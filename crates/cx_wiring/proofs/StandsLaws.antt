@@ -303,7 +303,8 @@ module _ (groups : ℕ) (islands : List PlainIsland) (around : NetAround) (regis
               ends = w.connects.1.0 high ∙ says_both around registers look (at x) (OfHole g) true (hole g) on w.bits ∙ ap (λ b. Some (truth_bit b)) saw;
               moves = moved (Machine.step (LeafMachines.enable leaves g) p seen);
               others = λ n less. none_below n (subst (λ m. n < m) (plain_extra g plain) less);
-              goes_so = λ h o. go_known around registers look groups g h (at x) (Inverse (OfHole g)) (not (hole g)) o on (says_not around registers look (OfHole g) (hole g) w.bits);
+              goes_so = λ h o. go_known around registers look groups g h (at x) (Inverse (end_of x.wire)) (not (hole g)) o on
+                  (says_not around registers look (end_of x.wire) (hole g) (w.connects.1.0 high ∙ says_both around registers look (at x) (OfHole g) true (hole g) on w.bits));
             }
           where
             first_place : (q : Machine.Place (LeafMachines.enable leaves g)) → Coding.number (LeafCodings.enable codings g) q ≡ 0

@@ -3,7 +3,7 @@ use Rattle.std.proofs.Common.{◌≡◌, ℕ, Bool, true, false, nat_eq, if◌th
 use Rattle.cx_meaning.specs.declared.ports.PortRef.TheVariants as ports
 use Rattle.cx_net.specs.Nets.{PlainNetTarget, ToPort, ToRegister, ToWire, ToHole, ToDone}
 use Rattle.cx_net.specs.NetMeaning.{same_target}
-use Rattle.cx_wiring.specs.Chains.{rank, rank_of}
+use Rattle.cx_wiring.specs.Trees.{rank, rank_of}
 
 no : {A : Type 0} → false ≡ true → A
 no h = absurd (true≢false (sym h))

@@ -11,7 +11,7 @@ use Rattle.cx_prim.specs.MemoryLaws.{slice_get-append}
 use Rattle.cx_meaning.specs.declared.ports.PortRef.{PortRef}
 use Rattle.cx_meaning.specs.declared.ports.PortRef.TheVariants as ports
 use Rattle.cx_meaning.specs.Designs.{PlainKind, OfPrimitive, OfComponent, PlainCell, PlainComponent}
-use Rattle.cx_meaning.specs.Instances.{Instance, Cells, no_cells, a_primitive, an_instance}
+use Rattle.cx_meaning.specs.Instances.{Instance, Cells, no_cells, a_primitive, an_instance, cell_count}
 use Rattle.cx_meaning.specs.Active.{Owned}
 use Rattle.cx_meaning.specs.Sights.{In}
 use Rattle.cx_net.specs.Nets.{PlainNetComponent, ToPort}
@@ -30,12 +30,6 @@ use Rattle.cx_wiring.proofs.AwayLaws.{differs}
 use Rattle.cx_wiring.proofs.AssignTargets.{assigns_drive_to}
 use Rattle.cx_wiring.proofs.TimerCells.{cells-lowered_component, components_of-timer_cells}
 use Rattle.cx_wiring.proofs.IslandCells.{timers_before, cell_stands, timers_stand, timers_lie}
-
--- as many as there are cells of an instance
-abbrev pub cell_count : Cells → ℕ
-cell_count no_cells = 0
-cell_count (a_primitive row rest) = suc (cell_count rest)
-cell_count (an_instance child rest) = suc (cell_count rest)
 
 -- where none is a component each cell has its row
 none_else : (k : ℕ) (ks : List ℕ) → ◌≡◌ {A = List ℕ} (k ∷ ks) [] → ⊥

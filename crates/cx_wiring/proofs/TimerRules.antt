@@ -1,6 +1,6 @@
 -- What an accepted design gives the timers of a node: its statement is not lowered yet, its cells are all there, each timer counts some
 -- cycles and no more than 32 bits number, and no assignment drives one.
-use Rattle.std.proofs.Common.{◌≡◌, inl, inr, ⊎_elim, ℕ, suc, ◌*◌, ◌<◌, ◌^◌, ◌&&◌, nat_le, Bool, true, false, List, [], ◌∷◌, ◌++◌, length, Some, None, is_some, refl, sym, ap, ◌∙◌, subst, arith}
+use Rattle.std.proofs.Common.{◌≡◌, inl, inr, ⊎_elim, ℕ, ◌*◌, ◌<◌, ◌^◌, ◌&&◌, nat_le, Bool, true, false, List, [], ◌∷◌, ◌++◌, length, Some, None, is_some, refl, sym, ap, ◌∙◌, subst, arith}
 use Rattle.std.specs.Prelude.{if◌then◌else◌, nat_lt, nat_eq}
 use Rattle.std.proofs.lemmas.Bool.{cases_lt, le-leb, or_right, eq-eqb}
 use Rattle.cx_text.specs.declared.places.Place.{Place}
@@ -8,8 +8,9 @@ use Rattle.cx_text.specs.declared.limits.TheConstants.{OCCURRENCES, REPETITIONS}
 use Rattle.cx_text.specs.declared.rules.Rule.TheVariants.{StaticShape, Limit}
 use Rattle.cx_meaning.specs.declared.ports.PortRef.{PortRef}
 use Rattle.cx_meaning.specs.declared.ports.PortRef.TheVariants as ports
-use Rattle.cx_meaning.specs.Designs.{PlainKind, OfPrimitive, OfComponent, PlainCell, PlainComponent, PlainDesign, component_at, no_component, group_at, PlainForm, Empty, Enable, Seq, Par, If, While, Repeat, StaticSeq, StaticPar, StaticIf, StaticRepeat, Timed, PlainStatement, Placed, PlainStatements, no_statements, a_statement}
-use Rattle.cx_meaning.specs.Instances.{Instance, Node, Cells, no_cells, part_of, add_cell, cells_for}
+use Rattle.cx_meaning.specs.Designs.{PlainComponent, PlainDesign, component_at, no_component, group_at, PlainForm, Empty, Enable, Seq, Par, If, While, Repeat, StaticSeq, StaticPar, StaticIf, StaticRepeat, Timed, PlainStatement, Placed, PlainStatements, no_statements, a_statement}
+use Rattle.cx_meaning.specs.Instances.{Instance, Node, Cells, no_cells, part_of, cells_for, cell_count}
+use Rattle.cx_meaning.proofs.CycleLemmas.{count_for}
 use Rattle.cx_meaning.specs.Active.{Owned, source_order}
 use Rattle.cx_meaning.specs.Sights.{In}
 use Rattle.cx_meaning.specs.Islands.{or_zero, group_length, form_length}
@@ -32,7 +33,7 @@ use Rattle.cx_wiring.proofs.DesignNames.{in_filter}
 use Rattle.cx_wiring.proofs.ListedLaws.{FormRepeats, StatementRepeats, AllRepeats}
 use Rattle.cx_wiring.proofs.IslandCells.{StatementMakes, FormMakes, PartsMake, RunsWell, timers_fit}
 use Rattle.cx_wiring.proofs.IslandReads.{NoTimed, IsUntimed, NoneTimed}
-use Rattle.cx_wiring.proofs.TimerRows.{cell_count, TimersFit, IsOwnTarget}
+use Rattle.cx_wiring.proofs.TimerRows.{TimersFit, IsOwnTarget}
 
 pub record TimerRules (part : PlainComponent) (cells : Cells) : Type 0 where
   pub untimed : IsUntimed part.control
@@ -204,15 +205,6 @@ module _ (part : PlainComponent) where
     parts_make no_statements w = tt
     parts_make (a_statement s ss) w = (statement_makes s (first_well (visit Dynamic s) (visit_all Dynamic ss) w), parts_make ss (rest_well (visit Dynamic s) (visit_all Dynamic ss) w))
 
--- THE CELLS of an instance with one level at least are those of its component
-kind_counts : (child : ℕ → Instance) (kind : PlainKind) (rest : Cells) → cell_count (add_cell child kind rest) ≡ suc (cell_count rest)
-kind_counts child (OfPrimitive p) rest = refl
-kind_counts child (OfComponent j) rest = refl
-
-cells_count : (child : ℕ → Instance) (cells : List PlainCell) → cell_count (cells_for child cells) ≡ length cells
-cells_count child [] = refl
-cells_count child (cell ∷ cells) = kind_counts child cell.kind (cells_for child cells) ∙ ap suc (cells_count child cells)
-
 -- A TARGET that is there is one of the component's own
 own_target : (i : Instance) (p : PortRef) → IsThere i p → IsOwnTarget (part_of i) p
 own_target i (ports.Cell c p) there = there.0
@@ -303,7 +295,7 @@ module _ (d : PlainDesign) (design : IsDesign d) (accepted : IsAccepted d) (k : 
   -- OF A COMPONENT'S INSTANCE with one level at least
   pub timer_rules : (child : ℕ → Instance) → ((o : Owned) → In (source_order (component_at d k)) o → IsThere (Node (component_at d k) (cells_for child (component_at d k).cells)) o.assign.target)
       → TimerRules (component_at d k) (cells_for child (component_at d k).cells)
-  timer_rules child there = timer_rules_by (component_at d k) (cells_for child (component_at d k).cells) visit_well (cells_count child (component_at d k).cells) there
+  timer_rules child there = timer_rules_by (component_at d k) (cells_for child (component_at d k).cells) visit_well (count_for child (component_at d k).cells) there
 
 -- and where there is no component
 pub no_timer_rules : ((o : Owned) → In (source_order no_component) o → IsThere (Node no_component no_cells) o.assign.target) → TimerRules no_component no_cells

@@ -15,13 +15,13 @@ use Rattle.cx_static.specs.Islands.{PlainIsland}
 use Rattle.cx_static.specs.Lowering.{Lowering, after, lowered_enable, lowered_form, lowered, lowered_parts}
 use Rattle.cx_wiring.specs.Parts.{one, both, equals, drive}
 use Rattle.cx_wiring.specs.Counts.{positions_of, positions_in, form_positions, wires_of, form_registers, registers_of, registers_in, arms_registers}
-use Rattle.cx_wiring.specs.Stands.{Stand, at, inside, past_test, behind}
+use Rattle.cx_wiring.specs.Stands.{Stand, at, end_of, inside, past_test, behind}
 use Rattle.cx_wiring.specs.Control.{one_turn, arm_stand, counted_inside, counting, comb_goes, form_drivers, drivers_of, parts_drivers, arms_drivers}
 use Rattle.cx_wiring.specs.Bounds.{FormNames, StatementNames, PartsName}
 use Rattle.cx_wiring.specs.Takings.{Connects, AllConnect, AreRegisters}
 use Rattle.cx_wiring.proofs.TakingLemmas.{true_bit, says_equals, connect_both, registers_both}
 use Rattle.cx_wiring.proofs.KnownLemmas.{known_as, KnownExpr, On, Fed, known_two, known_equals, known_inverse, two_true, AllTo, all_to_append, all_to_map}
-use Rattle.cx_wiring.proofs.ChainLaws.{untrue}
+use Rattle.cx_wiring.proofs.TreeLaws.{untrue}
 
 abbrev pub IsOn : Active → ℕ → Type 0
 IsOn act g = (u : ℕ) × (act.offset g ≡ Some u)
@@ -229,7 +229,9 @@ module _ (part : PlainComponent) (groups : ℕ) (islands : List PlainIsland) (ar
               → Goes (Placed (Enable g) place) x.acts r x.position (form_positions (lowered_enable part g o l)) (form_drivers groups islands x (lowered_enable part g o l))
           enable_goes None c names isle =
               let a = at_is x r i low c.0 in
-              let fed : Fed around registers look (drive (ToHole (groups + g)) (at x) (Inverse (OfHole g))) = record { guard = a.0; source = λ on. known_inverse around registers look (OfHole g) (holes g names) } in
+              let over : KnownExpr around registers look (both (at x) (OfHole g)) = known_two around registers look (at x) (OfHole g) a.0 (holes g names) in
+              let ending : KnownExpr around registers look (end_of x.wire) = known_as _ _ (c.1.0 (omega arith)) over in
+              let fed : Fed around registers look (drive (ToHole (groups + g)) (at x) (Inverse (end_of x.wire))) = record { guard = a.0; source = λ on. known_inverse around registers look (end_of x.wire) ending } in
               record {
                 act = group g;
                 together = enabled;

@@ -11,7 +11,7 @@ use Rattle.cx_rules.specs.Wellformed.{IsSignature, IsDesign}
 use Rattle.cx_net.specs.NetHolds.{IsWideComponent, IsWide, RowsAreWide}
 use Rattle.cx_net.specs.NetTree.{no_net_component}
 use Rattle.cx_static.specs.Lowering.{lowered_component, lowered_of}
-use Rattle.cx_wiring.specs.Chains.{rest_widths}
+use Rattle.cx_wiring.specs.Trees.{tree_widths}
 use Rattle.cx_wiring.specs.Reached.{has_number, order}
 use Rattle.cx_wiring.specs.Wiring.{plain_wires, component_registers, component_driven, target_width, net_of}
 use Rattle.cx_wiring.specs.PartNets.{wired_in}
@@ -39,7 +39,7 @@ module _ (d : PlainDesign) (rules : IsDesign d) where
         inputs = declared_are (component_at d k).inputs (rules.components k within).inputs;
         outputs = declared_are (component_at d k).outputs (rules.components k within).outputs;
         registers = are_at IsWidth (component_registers low) (component_registers_wide low);
-        wires = are_at IsWidth (plain_wires low ++ rest_widths (target_width (lowered_of d) low) (component_driven low)) (wires_wide d rules k within);
+        wires = are_at IsWidth (plain_wires low ++ tree_widths (target_width (lowered_of d) low) (component_driven low)) (wires_wide d rules k within);
       }
 
   -- THE NET of a design

@@ -16,7 +16,7 @@ use Rattle.cx_net.specs.Nets.{PlainNetTarget, ToPort, ToRegister, ToWire, ToHole
 use Rattle.cx_static.specs.Islands.{PlainIsland, PlainLowered}
 use Rattle.cx_static.specs.Lowering.{lowered_component, lowered_of}
 use Rattle.cx_wiring.specs.Counts.{sample_registers, form_registers, registers_of, registers_in, arms_registers}
-use Rattle.cx_wiring.specs.Chains.{Driven, together, rests, rest_widths}
+use Rattle.cx_wiring.specs.Trees.{Driven, pairs, pair_widths, tree_widths}
 use Rattle.cx_wiring.specs.Wiring.{groups, bits, plain_wires, component_registers, component_driven, width_in_part, kind_width, port_width, known_width, target_width}
 use Rattle.cx_wiring.specs.Fitting.{Are}
 use Rattle.cx_wiring.proofs.OrderHeights.{in_slice}
@@ -151,15 +151,19 @@ module _ (d : PlainDesign) (rules : IsDesign d) (k : ℕ) (within : k < length d
   target_wide : (t : PlainNetTarget) → IsWidth (target_width (lowered_of d) low t)
   target_wide t = or_one (known_width (lowered_of d) low t) (known_wide t)
 
-  rests_wide : (ts : List Driven) → Are IsWidth (rest_widths (target_width (lowered_of d) low) ts)
-  rests_wide [] = tt
-  rests_wide (t ∷ ts) =
-      are_both IsWidth (replicate (rests together t.drivers) (target_width (lowered_of d) low t.target)) (rest_widths (target_width (lowered_of d) low) ts)
-      (are_replicated (target_width (lowered_of d) low t.target) (rests together t.drivers) (target_wide t.target)) (rests_wide ts)
+  pairs_wide : (w n : ℕ) → IsWidth w → Are IsWidth (pair_widths w n)
+  pairs_wide w zero wide = tt
+  pairs_wide w (suc n) wide = (one_bit, (wide, pairs_wide w n wide))
+
+  trees_wide : (ts : List Driven) → Are IsWidth (tree_widths (target_width (lowered_of d) low) ts)
+  trees_wide [] = tt
+  trees_wide (t ∷ ts) =
+      are_both IsWidth (pair_widths (target_width (lowered_of d) low t.target) (pairs (length t.drivers))) (tree_widths (target_width (lowered_of d) low) ts)
+      (pairs_wide (target_width (lowered_of d) low t.target) (pairs (length t.drivers)) (target_wide t.target)) (trees_wide ts)
 
   -- THE WIRES of a component
-  pub wires_wide : Are IsWidth (plain_wires low ++ rest_widths (target_width (lowered_of d) low) (component_driven low))
-  wires_wide = are_both IsWidth (plain_wires low) (rest_widths (target_width (lowered_of d) low) (component_driven low)) plain_wide (rests_wide (component_driven low))
+  pub wires_wide : Are IsWidth (plain_wires low ++ tree_widths (target_width (lowered_of d) low) (component_driven low))
+  wires_wide = are_both IsWidth (plain_wires low) (tree_widths (target_width (lowered_of d) low) (component_driven low)) plain_wide (trees_wide (component_driven low))
 
 signature_are : (decls : List PortDecl) → IsSignature decls → Are (λ (decl : PortDecl). IsWidth decl.width) decls
 signature_are [] sign = tt

@@ -22,7 +22,7 @@ use Rattle.cx_static.specs.Islands.{PlainLowered}
 use Rattle.cx_static.specs.Lowering.{unlowered, lowered_component, lowered_of}
 use Rattle.cx_wiring.specs.Assignments.{driven_assigns, assigns_drivers}
 use Rattle.cx_wiring.specs.Control.{control_drivers}
-use Rattle.cx_wiring.specs.Chains.{rest_widths}
+use Rattle.cx_wiring.specs.Trees.{tree_widths}
 use Rattle.cx_wiring.specs.Reached.{numbers_from, has_number, order}
 use Rattle.cx_wiring.specs.Wiring.{groups, first_of_control, first_of_assigns, plain_wires, component_registers, plain_drivers, component_driven, target_width, kind_in, cell_in, net_of}
 use Rattle.cx_wiring.specs.PartNets.{timer_cells, wired_in}
@@ -37,7 +37,7 @@ use Rattle.cx_wiring.proofs.MainOrder.{distinct_order, main_last}
 use Rattle.cx_wiring.proofs.FitLowering.{lowered_few}
 use Rattle.cx_wiring.proofs.FitNets.{size_among, targets_few}
 use Rattle.cx_wiring.proofs.WireWidths.{all_of, component_registers_wide, wires_wide, signature_wide}
-use Rattle.cx_wiring.proofs.NestDrivers.{control_nest, assigns_nest, chains_nest}
+use Rattle.cx_wiring.proofs.NestDrivers.{control_nest, assigns_nest, trees_nest}
 use Rattle.cx_wiring.proofs.NestLowering.{islands_nest, lowers}
 use Rattle.cx_wiring.proofs.NestRules.{tests_read, assigns_nests}
 use Rattle.cx_wiring.proofs.LoweringCounts.{cells_cost, cells_cost-append, all_timers, statement_adds}
@@ -121,7 +121,7 @@ module _ (d : PlainDesign) (rules : IsDesign d) (accepted : IsAccepted d) (can :
         let less : size_of part ≤ most = omega arith in
         let read = tests_read d accepted k within in
         all_of IsWritableDriver C.drivers
-        (chains_nest (plain_drivers low) (length (plain_wires low))
+        (trees_nest (plain_drivers low) (length (plain_wires low))
         (are_both IsWritableDriver (control_drivers (groups low) low.islands (first_of_control low) low.part.control) (assigns_drivers (groups low) (first_of_assigns low) (driven_assigns low))
         (control_nest (groups low) low.islands (islands_nest part part.control (unlowered part) read visits tt) (first_of_control low) low.part.control (lowers part part.control (unlowered part) read) few)
         (assigns_nest (groups low) (driven_assigns low) (first_of_assigns low) (assigns_nests d accepted k within less (can.parts k within)))))
@@ -136,7 +136,7 @@ module _ (d : PlainDesign) (rules : IsDesign d) (accepted : IsAccepted d) (can :
           input_widths = signature_wide part.inputs (rules.components k within).inputs;
           output_widths = signature_wide part.outputs (rules.components k within).outputs;
           register_widths = all_of IsWidth (component_registers low) (component_registers_wide low);
-          wire_widths = all_of IsWidth (plain_wires low ++ rest_widths (target_width (lowered_of d) low) (component_driven low)) (wires_wide d rules k within);
+          wire_widths = all_of IsWidth (plain_wires low ++ tree_widths (target_width (lowered_of d) low) (component_driven low)) (wires_wide d rules k within);
           few_ports = (let h : 2 + length part.inputs + length part.outputs < 2 ^ 64 = omega arith in h);
           few_registers = (let h : length C.registers < 2 ^ 64 = omega (arith, wired) in h);
           few_wires = (let h : length C.wires < 2 ^ 64 = omega (arith, wired) in h);

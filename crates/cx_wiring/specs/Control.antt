@@ -68,9 +68,10 @@ finishing wire control =
 
 -- a component of so many groups: hole g says that group g is done, and hole groups + g that it goes
 module _ (groups : ℕ) (islands : List PlainIsland) where
-  -- a group goes until its hole says that it is done
+  -- a group goes until its hole says that it is done. What gives it its go looks at the end of its own turn, which is that hole where control
+  -- stands there, so of all that may give it only one reads what changes
   abbrev pub enabled : Stand → ℕ → List PlainNetDriver
-  enabled x g = stands x ∷ ends x (both (at x) (OfHole g)) ∷ drive (ToHole (groups + g)) (at x) (Inverse (OfHole g)) ∷ []
+  enabled x g = stands x ∷ ends x (both (at x) (OfHole g)) ∷ drive (ToHole (groups + g)) (at x) (Inverse (end_of x.wire)) ∷ []
 
   -- the comb group of a test, where there is one, goes in the turn of the test
   abbrev pub comb_goes : Stand → Option ℕ → List PlainNetDriver

@@ -5,7 +5,7 @@ pub mod IslandDrivers
 pub mod Control
 pub mod Guards
 pub mod Assignments
-pub mod Chains
+pub mod Trees
 pub mod Reached
 pub mod Wiring
 pub mod PartNets

@@ -11,7 +11,7 @@ use Rattle.cx_wiring.specs.Counts.{wires_of, registers_of}
 use Rattle.cx_wiring.specs.IslandDrivers.{island_wires}
 use Rattle.cx_wiring.specs.Control.{control_drivers}
 use Rattle.cx_wiring.specs.Assignments.{driven_assigns, assigns_wires, assigns_drivers}
-use Rattle.cx_wiring.specs.Chains.{Driven, by_target, driven, chains, rest_widths}
+use Rattle.cx_wiring.specs.Trees.{Driven, by_target, driven, trees, tree_widths}
 use Rattle.cx_wiring.specs.Reached.{place_in, order}
 
 module _ (lowered : PlainLowered) where
@@ -35,7 +35,7 @@ module _ (lowered : PlainLowered) where
   abbrev pub component_registers : List ℕ
   component_registers = 32 ∷ registers_of lowered.islands lowered.part.control
 
-  -- all drivers but those of rests: of control, then of the assignments
+  -- all drivers but those of bundles: of control, then of the assignments
   abbrev pub plain_drivers : List PlainNetDriver
   plain_drivers =
       control_drivers groups lowered.islands first_of_control lowered.part.control
@@ -85,9 +85,9 @@ net_component d lowered = record {
   outputs = lowered.part.outputs;
   cells = map (cell_in (order d)) lowered.part.cells;
   registers = component_registers lowered;
-  wires = plain_wires lowered ++ rest_widths (target_width d lowered) (component_driven lowered);
+  wires = plain_wires lowered ++ tree_widths (target_width d lowered) (component_driven lowered);
   holes = groups lowered + groups lowered;
-  drivers = chains (length (plain_wires lowered)) (component_driven lowered);
+  drivers = trees (length (plain_wires lowered)) (component_driven lowered);
 }
 
 -- THE NET: the components that main reaches

@@ -1,118 +1,89 @@
-use Rattle.std.proofs.Common.{◌≤◌, Some, length, option_map, sym, ap, ◌∙◌, arith}
-use Rattle.std.proofs.lemmas.List.{length-take-le}
-use Rattle.cx_design.specs.declared.cells.CellKind.TheVariants.{Prim}
-use Rattle.cx_eval_cycle.specs.declared.looking.CellStop.{CellStop}
+use Rattle.std.proofs.Common.{List, Option, Some, None, sym, ap, ◌∙◌, arith}
+use Rattle.cx_prim.specs.CellStates.{CellState}
+use Rattle.cx_eval_cycle.specs.Passes.{cell_held}
+use Rattle.cx_eval_cycle.specs.Stops.{stop_in}
 use Rattle.cx_eval_cycle.proofs.PassLemmas.{fault_is}
 use Rattle.cx_eval.specs.Looked.{own_cells, own_held, seen_look}
-use Rattle.cx_eval.proofs.FaultLemmas.{held_below, holds_it, idle_faults, idle_known, only_known, own_kind, past_cells, same_count}
-use Rattle.cx_eval.proofs.KnownLemmas.{more_same}
-use Rattle.cx_eval.proofs.OwnLemmas.{few_own, own_state}
+use Rattle.cx_eval.proofs.FaultLemmas.{empty_faults, empty_gathered, idle_faults, idle_gathered}
+use Rattle.cx_eval.proofs.OwnLemmas.{own_state}
+use Rattle.cx_eval.proofs.SteppingLemmas.{gathered_after, has_room, number_few, others_after, own_of, room_below, rooms_after}
 use Rattle.cx_eval.proofs.faults.fault_of.Goals as goal
 
-pub returns-then-cell-cells : goal.returns-then-cell-cells
-returns-then-cell-cells c =
+pub returns-in_default-clause-value : goal.returns-in_default-clause-value
+returns-in_default-clause-value c =
     let a = c.args.asking.now in
-    let cell = c.args.cell in
-    let idle = past_cells a c.requires.can c.args.cells.now c.args.held.now c.requires.cells c.requires.held cell c.if-cell-cells.true in
-    record { value = idle_faults a cell idle; more = more_same a c.args.marks.now c.requires.ready; known = idle_known a cell idle c.args.marks.now }
+    idle_faults (seen_look a) (own_cells a) (own_held a) c.args.cell c.args.cells.now c.requires.cells c.in_default.ensures.none
 
-pub bounds-held-cell : goal.bounds-held-cell
-bounds-held-cell c = held_below c.args.asking.now c.requires.can c.args.cells.now c.args.held.now c.requires.cells c.requires.held c.args.cell c.if-cell-cells.false
+pub returns-in_default-clause-gathered : goal.returns-in_default-clause-gathered
+returns-in_default-clause-gathered c =
+    let a = c.args.asking.now in
+    idle_gathered (seen_look a) (own_cells a) (own_held a) c.args.cell c.args.cells.now c.args.rooms.now c.in_default.ensures.none
+
+pub returns-in_default-held_at-clause-value : goal.returns-in_default-held_at-clause-value
+returns-in_default-held_at-clause-value c =
+    let a = c.args.asking.now in
+    empty_faults (seen_look a) (own_cells a) (own_held a) c.args.cell (ap (λ (held : List (Option CellState)). cell_held held c.args.cell) (sym c.requires.held) ∙ c.in_default-held_at.ensures.none)
+
+pub returns-in_default-held_at-clause-gathered : goal.returns-in_default-held_at-clause-gathered
+returns-in_default-held_at-clause-gathered c =
+    let a = c.args.asking.now in
+    empty_gathered (seen_look a) (own_cells a) (own_held a) c.args.cell c.args.cells.now c.args.rooms.now (ap (λ (held : List (Option CellState)). cell_held held c.args.cell) (sym c.requires.held) ∙ c.in_default-held_at.ensures.none)
 
 pub overflow_cast-number : goal.overflow_cast-number
 overflow_cast-number c =
-    let within = c.if-cell-cells.false in
-    let count = same_count c.args.asking.now c.requires.can c.args.cells.now c.args.held.now c.requires.cells c.requires.held c.args.cell in
-    let few = few_own c.args.asking.now c.requires.can in
-    omega (arith, within, count, few)
+    let few = number_few c.args.asking.now c.requires.can c.args.cells.now c.requires.cells c.args.cell c.in-Some.stepping.now c.in-Some.ensures.some in
+    omega (arith, few)
 
-pub slice_bounds-wanted-end : goal.slice_bounds-wanted-end
-slice_bounds-wanted-end c =
-    let within = c.if-cell-cells.false in
-    let kind = own_kind c.args.asking.now c.requires.can c.args.cells.now c.args.held.now c.requires.cells c.requires.held c.args.cell c.index-cells-cell.result (Prim c.in-Prim.primitive) within c.in-Prim.is in
-    let room = c.requires.room c.args.cell c.in-Prim.primitive kind in
-    let count = c.port_count-count.ensures.value in
-    let sized = c.requires.sized in
-    omega (arith, room, count, sized)
+pub bounds-rooms-cell : goal.bounds-rooms-cell
+bounds-rooms-cell c = room_below c.args.asking.now c.requires.can c.args.cells.now c.requires.cells c.args.cell c.in-Some.stepping.now c.in-Some.ensures.some c.args.rooms.now c.requires.rooms
 
-pub slice_bounds-wanted-end-2 : goal.slice_bounds-wanted-end-2
-slice_bounds-wanted-end-2 c =
-    let within = c.if-cell-cells.false in
-    let kind = own_kind c.args.asking.now c.requires.can c.args.cells.now c.args.held.now c.requires.cells c.requires.held c.args.cell c.index-cells-cell.result (Prim c.in-Prim.primitive) within c.in-Prim.is in
-    let room = c.requires.room c.args.cell c.in-Prim.primitive kind in
-    let count = c.port_count-count.ensures.value in
-    let sized = c.requires.sized in
-    let le : c.port_count-count.result ≤ length c.args.wanted.now = omega (arith, room, count, sized) in
-    sym (length-take-le c.port_count-count.result c.args.wanted.now le)
+pub look_in-requires-clause-own : goal.look_in-requires-clause-own
+look_in-requires-clause-own c = (own_of c.args.asking.now c.requires.can c.args.cells.now c.requires.cells c.args.cell c.in-Some.stepping.now c.in-Some.ensures.some).primitive
 
-pub stop_of-requires-clause-wanted : goal.stop_of-requires-clause-wanted
-stop_of-requires-clause-wanted c =
-    let within = c.if-cell-cells.false in
-    let kind = own_kind c.args.asking.now c.requires.can c.args.cells.now c.args.held.now c.requires.cells c.requires.held c.args.cell c.index-cells-cell.result (Prim c.in-Prim.primitive) within c.in-Prim.is in
-    let room = c.requires.room c.args.cell c.in-Prim.primitive kind in
-    let count = c.port_count-count.ensures.value in
-    let sized = c.requires.sized in
-    let le : c.port_count-count.result ≤ length c.args.wanted.now = omega (arith, room, count, sized) in
-    length-take-le c.port_count-count.result c.args.wanted.now le ∙ count
+pub look_in-requires-clause-stepping : goal.look_in-requires-clause-stepping
+look_in-requires-clause-stepping c = (own_of c.args.asking.now c.requires.can c.args.cells.now c.requires.cells c.args.cell c.in-Some.stepping.now c.in-Some.ensures.some).stepping_is
 
-pub slice_bounds-inputs-end : goal.slice_bounds-inputs-end
-slice_bounds-inputs-end c =
-    let within = c.if-cell-cells.false in
-    let kind = own_kind c.args.asking.now c.requires.can c.args.cells.now c.args.held.now c.requires.cells c.requires.held c.args.cell c.index-cells-cell.result (Prim c.in-Prim.primitive) within c.in-Prim.is in
-    let room = c.requires.room c.args.cell c.in-Prim.primitive kind in
-    let count = c.port_count-count.ensures.value in
-    omega (arith, room, count)
+pub look_in-requires-clause-state : goal.look_in-requires-clause-state
+look_in-requires-clause-state c =
+    let a = c.args.asking.now in
+    let stepping = c.in-Some.stepping.now in
+    let kind = (own_of a c.requires.can c.args.cells.now c.requires.cells c.args.cell stepping c.in-Some.ensures.some).primitive in
+    let holds = ap (λ (held : List (Option CellState)). cell_held held c.args.cell) (sym c.requires.held) ∙ c.in-Some-held_at.ensures.some in
+    own_state a c.requires.can c.args.cell stepping.primitive.now c.in-Some-held_at.state.now kind holds
 
-pub slice_bounds-inputs-end-2 : goal.slice_bounds-inputs-end-2
-slice_bounds-inputs-end-2 c =
-    let within = c.if-cell-cells.false in
-    let kind = own_kind c.args.asking.now c.requires.can c.args.cells.now c.args.held.now c.requires.cells c.requires.held c.args.cell c.index-cells-cell.result (Prim c.in-Prim.primitive) within c.in-Prim.is in
-    let room = c.requires.room c.args.cell c.in-Prim.primitive kind in
-    let count = c.port_count-count.ensures.value in
-    let le : c.port_count-count.result ≤ length c.args.inputs.now = omega (arith, room, count) in
-    sym (length-take-le c.port_count-count.result c.args.inputs.now le)
+pub look_in-requires-clause-room : goal.look_in-requires-clause-room
+look_in-requires-clause-room c = has_room c.args.asking.now c.requires.can c.args.cells.now c.requires.cells c.args.cell c.in-Some.stepping.now c.in-Some.ensures.some c.args.rooms.now c.requires.rooms c.index-rooms-cell.result
 
-pub stop_of-requires-clause-sized : goal.stop_of-requires-clause-sized
-stop_of-requires-clause-sized c =
-    let within = c.if-cell-cells.false in
-    let kind = own_kind c.args.asking.now c.requires.can c.args.cells.now c.args.held.now c.requires.cells c.requires.held c.args.cell c.index-cells-cell.result (Prim c.in-Prim.primitive) within c.in-Prim.is in
-    let room = c.requires.room c.args.cell c.in-Prim.primitive kind in
-    let count = c.port_count-count.ensures.value in
-    let le : c.port_count-count.result ≤ length c.args.inputs.now = omega (arith, room, count) in
-    length-take-le c.port_count-count.result c.args.inputs.now le ∙ count
+pub returns-in-Ok : goal.returns-in-Ok
+returns-in-Ok c =
+    let a = c.args.asking.now in
+    let stepping = c.in-Some.stepping.now in
+    let state = c.in-Some-held_at.state.now in
+    let room = c.look_in.new.room in
+    let kind = (own_of a c.requires.can c.args.cells.now c.requires.cells c.args.cell stepping c.in-Some.ensures.some).primitive in
+    let holds = ap (λ (held : List (Option CellState)). cell_held held c.args.cell) (sym c.requires.held) ∙ c.in-Some-held_at.ensures.some in
+    record {
+      value = fault_is (seen_look a) (own_cells a) c.args.cell stepping.primitive.now (own_held a) state None kind holds (ap stop_in c.in-Ok.ensures.value);
+      ready = c.look_in.ensures.ready;
+      rooms = rooms_after a c.requires.can c.args.cells.now c.requires.cells c.args.cell stepping c.in-Some.ensures.some c.args.rooms.now c.requires.rooms room c.look_in.ensures.room;
+      gathered =
+          gathered_after a c.requires.can c.args.cells.now c.requires.cells c.args.cell stepping c.in-Some.ensures.some c.args.rooms.now c.requires.rooms room state holds
+          (record { outcome = c.in-Ok.ensures.value; fits = c.in-Ok.ensures.fits; looked_at = c.in-Ok.ensures.looked_at });
+      others = others_after a c.requires.can c.args.cells.now c.requires.cells c.args.cell stepping c.in-Some.ensures.some c.args.rooms.now c.requires.rooms room;
+    }
 
-pub stop_of-requires-clause-own : goal.stop_of-requires-clause-own
-stop_of-requires-clause-own c =
-    let within = c.if-cell-cells.false in
-    let kind = own_kind c.args.asking.now c.requires.can c.args.cells.now c.args.held.now c.requires.cells c.requires.held c.args.cell c.index-cells-cell.result (Prim c.in-Prim.primitive) within c.in-Prim.is in
-    kind
-
-pub stop_of-requires-clause-state : goal.stop_of-requires-clause-state
-stop_of-requires-clause-state c =
-    let within = c.if-cell-cells.false in
-    let kind = own_kind c.args.asking.now c.requires.can c.args.cells.now c.args.held.now c.requires.cells c.requires.held c.args.cell c.index-cells-cell.result (Prim c.in-Prim.primitive) within c.in-Prim.is in
-    let holds = holds_it c.args.asking.now c.requires.can c.args.cells.now c.args.held.now c.requires.cells c.requires.held c.args.cell c.index-held-cell.result (Some c.in-Some.state) within c.index-held-cell.is c.in-Some.is in
-    own_state c.args.asking.now c.requires.can c.args.cell c.in-Prim.primitive c.in-Some.state kind holds
-
-pub returns-in-Some-stop_of-clause-value : goal.returns-in-Some-stop_of-clause-value
-returns-in-Some-stop_of-clause-value c =
-    let within = c.if-cell-cells.false in
-    let kind = own_kind c.args.asking.now c.requires.can c.args.cells.now c.args.held.now c.requires.cells c.requires.held c.args.cell c.index-cells-cell.result (Prim c.in-Prim.primitive) within c.in-Prim.is in
-    let holds = holds_it c.args.asking.now c.requires.can c.args.cells.now c.args.held.now c.requires.cells c.requires.held c.args.cell c.index-held-cell.result (Some c.in-Some.state) within c.index-held-cell.is c.in-Some.is in
-    ap (option_map (λ (stop : CellStop). record { cell = c.args.cell; stop = stop })) (sym c.in-Some-stop_of.is)
-    ∙ fault_is (seen_look c.args.asking.now) (own_cells c.args.asking.now) c.args.cell c.in-Prim.primitive (own_held c.args.asking.now) c.in-Some.state c.stop_of.result kind holds c.stop_of.ensures.value
-
-pub returns-in-None-clause-value : goal.returns-in-None-clause-value
-returns-in-None-clause-value c =
-    let within = c.if-cell-cells.false in
-    let kind = own_kind c.args.asking.now c.requires.can c.args.cells.now c.args.held.now c.requires.cells c.requires.held c.args.cell c.index-cells-cell.result (Prim c.in-Prim.primitive) within c.in-Prim.is in
-    let holds = holds_it c.args.asking.now c.requires.can c.args.cells.now c.args.held.now c.requires.cells c.requires.held c.args.cell c.index-held-cell.result (Some c.in-Some.state) within c.index-held-cell.is c.in-Some.is in
-    ap (option_map (λ (stop : CellStop). record { cell = c.args.cell; stop = stop })) (sym c.in-None.is)
-    ∙ fault_is (seen_look c.args.asking.now) (own_cells c.args.asking.now) c.args.cell c.in-Prim.primitive (own_held c.args.asking.now) c.in-Some.state c.stop_of.result kind holds c.stop_of.ensures.value
-
-pub returns-in-None-clause-known : goal.returns-in-None-clause-known
-returns-in-None-clause-known c =
-    let within = c.if-cell-cells.false in
-    let kind = own_kind c.args.asking.now c.requires.can c.args.cells.now c.args.held.now c.requires.cells c.requires.held c.args.cell c.index-cells-cell.result (Prim c.in-Prim.primitive) within c.in-Prim.is in
-    let holds = holds_it c.args.asking.now c.requires.can c.args.cells.now c.args.held.now c.requires.cells c.requires.held c.args.cell c.index-held-cell.result (Some c.in-Some.state) within c.index-held-cell.is c.in-Some.is in
-    only_known c.args.asking.now c.args.cell c.stop_of.new.marks c.in-Prim.primitive c.in-Some.state kind holds c.in-None.ensures.known
+pub returns-in-Err : goal.returns-in-Err
+returns-in-Err c =
+    let a = c.args.asking.now in
+    let stepping = c.in-Some.stepping.now in
+    let state = c.in-Some-held_at.state.now in
+    let room = c.look_in.new.room in
+    let kind = (own_of a c.requires.can c.args.cells.now c.requires.cells c.args.cell stepping c.in-Some.ensures.some).primitive in
+    let holds = ap (λ (held : List (Option CellState)). cell_held held c.args.cell) (sym c.requires.held) ∙ c.in-Some-held_at.ensures.some in
+    record {
+      value = fault_is (seen_look a) (own_cells a) c.args.cell stepping.primitive.now (own_held a) state (Some c.in-Err.stop) kind holds (ap stop_in c.in-Err.ensures.value);
+      ready = c.look_in.ensures.ready;
+      rooms = rooms_after a c.requires.can c.args.cells.now c.requires.cells c.args.cell stepping c.in-Some.ensures.some c.args.rooms.now c.requires.rooms room c.look_in.ensures.room;
+      gathered = tt;
+      others = others_after a c.requires.can c.args.cells.now c.requires.cells c.args.cell stepping c.in-Some.ensures.some c.args.rooms.now c.requires.rooms room;
+    }

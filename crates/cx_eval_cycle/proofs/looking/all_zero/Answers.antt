@@ -1,4 +1,4 @@
-use Rattle.std.proofs.Common.{◌≡◌, ◌≤◌, ℕ, length, below_more, arith}
+use Rattle.std.proofs.Common.{◌≡◌, ◌≤◌, ℕ, length, below_more, refl, arith}
 use Rattle.cx_prim.specs.Rows.{value_at}
 use Rattle.cx_eval_cycle.proofs.QuietLemmas.{zero_all}
 use Rattle.cx_eval_cycle.proofs.looking.all_zero.Goals as goal
@@ -9,4 +9,4 @@ loop-port-preserved c = record {
 }
 
 pub returns : goal.returns
-returns c = record { zeros = λ e. zero_all c.args.inputs.now c.loop-port.port (let past : length c.args.inputs.now ≤ c.loop-port.port = omega arith in past) c.loop-port.invariant.zeros }
+returns c = record { value = (λ e. zero_all c.args.inputs.now c.loop-port.port (let past : length c.args.inputs.now ≤ c.loop-port.port = omega arith in past) c.loop-port.invariant.zeros, λ zeros. refl) }

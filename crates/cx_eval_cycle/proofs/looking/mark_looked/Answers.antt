@@ -15,3 +15,10 @@ loop-port-preserved c =
 
 pub returns-clause-marked : goal.returns-clause-marked
 returns-clause-marked c = λ p lt. let sized = c.loop-port.invariant.sized in c.loop-port.invariant.marked p (omega (arith, sized))
+
+pub looks-requires-clause-enabling : goal.looks-requires-clause-enabling
+looks-requires-clause-enabling c =
+    let sized = c.loop-port.invariant.sized in
+    let wanted = c.requires.sized in
+    let ports = c.requires.ports in
+    c.requires.enabling c.loop-port.port (omega (arith, sized, wanted, ports))

@@ -1,45 +1,51 @@
-use Rattle.std.proofs.Common.{length, map, subst}
-use Rattle.cx_design.specs.declared.cells.CellKind.TheVariants.{Part, Prim}
-use Rattle.cx_design.specs.PlainForms.{plain_cell}
-use Rattle.cx_eval_drives.specs.Gathers.{ports_seen}
-use Rattle.cx_eval_cycle.specs.Passes.{CanStep}
-use Rattle.cx_eval_cycle.proofs.PassLemmas.{can_set, held_is, kind_is, part_stays, primitive_steps, stepped_none, stepped_set, within_held}
+use Rattle.std.proofs.Common.{◌<◌, get_or, length, sym, ap, ◌∙◌, subst, arith}
+use Rattle.std.specs.Prelude.{IfSome}
+use Rattle.cx_prim.specs.CellStates.{IsState}
+use Rattle.cx_prim.specs.Rows.{Inputs}
+use Rattle.cx_prim.specs.Table.{row_of}
+use Rattle.cx_eval_cycle.specs.Passes.{cell_held}
+use Rattle.cx_eval_cycle.specs.Rooms.{inputs_at}
+use Rattle.cx_eval_cycle.specs.Steps.{CanStep, after_kept, after_room, stepped_with}
+use Rattle.cx_eval_cycle.proofs.PassLemmas.{held_is, stepped_set}
+use Rattle.cx_eval_cycle.proofs.RoomLemmas.{room_inputs}
+use Rattle.cx_eval_cycle.proofs.StepLemmas.{still_fitting}
+use Rattle.cx_eval_cycle.proofs.SteppingLemmas.{kept_below}
 use Rattle.cx_eval_cycle.proofs.passes.step_at.Goals as goal
 
-pub returns-in_default-clause-value : goal.returns-in_default-clause-value
-returns-in_default-clause-value g c =
-    let look = g.L.Look.seen c.args.look.now in
-    let cells = map plain_cell c.args.cells.now in
-    let within = c.if-cell-cells.false in
-    let kind = kind_is c.args.cells.now c.args.cell c.index-cells-cell.result (Part c.in_default.field-0) within c.in_default.is in
-    stepped_none look cells c.args.cell c.args.held.now (part_stays look cells c.args.cell c.in_default.field-0 c.args.held.now kind)
+pub step_held-requires : goal.step_held-requires
+step_held-requires c =
+    let row = row_of c.in-Some.stepping.now.primitive.now in
+    let below = kept_below c.args.cells.now c.args.cell c.in-Some.stepping.now c.in-Some.ensures.some in
+    let long = c.requires.long in
+    let count = c.requires.rooms.count in
+    let inside : c.args.cell < length c.args.held.now = omega (arith, below, long) in
+    let within : c.args.cell < length c.args.rooms.now = omega (arith, below, count) in
+    let inputs = room_inputs c.args.rooms.now c.args.cell c.index-rooms-cell.result within ∙ sym c.deref.ensures.value in
+    record {
+      can = subst (λ (xs : Inputs). CanStep row xs (get_or c.args.held.now c.args.cell c.index-held-cell.result)) inputs (subst (CanStep row (inputs_at c.args.rooms.now c.args.cell)) (held_is c.args.held.now c.args.cell c.index-held-cell.result inside) (c.requires.can c.in-Some.stepping.now c.in-Some.ensures.some));
+    }
 
-pub step_held-requires-clause-can : goal.step_held-requires-clause-can
-step_held-requires-clause-can g c =
-    let look = g.L.Look.seen c.args.look.now in
-    let cells = map plain_cell c.args.cells.now in
-    let within = c.if-cell-cells.false in
-    let kind = kind_is c.args.cells.now c.args.cell c.index-cells-cell.result (Prim c.in-Prim.primitive) within c.in-Prim.is in
-    let inside = within_held c.args.held.now c.args.cells.now c.args.cell within c.requires.can.long in
-    let held = held_is c.args.held.now c.args.cell c.index-held-cell.result inside in
-    subst (λ h. CanStep (ports_seen look c.args.cell) c.in-Prim.primitive h (length c.args.inputs.now)) held (c.requires.can.each c.args.cell c.in-Prim.primitive kind)
+pub returns-in-Some-clause-value : goal.returns-in-Some-clause-value
+returns-in-Some-clause-value c =
+    let row = row_of c.in-Some.stepping.now.primitive.now in
+    let rooms = c.args.rooms.now in
+    let cell = c.args.cell in
+    let below = kept_below c.args.cells.now cell c.in-Some.stepping.now c.in-Some.ensures.some in
+    let long = c.requires.long in
+    let count = c.requires.rooms.count in
+    let inside : cell < length c.args.held.now = omega (arith, below, long) in
+    let within : cell < length rooms = omega (arith, below, count) in
+    let inputs = room_inputs rooms cell c.index-rooms-cell.result within ∙ sym c.deref.ensures.value in
+    stepped_set (after_room c.args.cells.now rooms) cell c.args.held.now c.step_held.new.held inside
+    (c.step_held.ensures.value ∙ ap (λ (xs : Inputs). stepped_with row xs (get_or c.args.held.now c.args.cell c.index-held-cell.result)) (sym inputs)
+    ∙ ap (stepped_with row (inputs_at rooms cell)) (sym (held_is c.args.held.now cell c.index-held-cell.result inside))
+    ∙ sym (ap (λ k. after_kept k (inputs_at rooms cell) (cell_held c.args.held.now cell)) c.in-Some.ensures.some))
 
-pub returns-clause-value : goal.returns-clause-value
-returns-clause-value g c =
-    let look = g.L.Look.seen c.args.look.now in
-    let cells = map plain_cell c.args.cells.now in
-    let within = c.if-cell-cells.false in
-    let kind = kind_is c.args.cells.now c.args.cell c.index-cells-cell.result (Prim c.in-Prim.primitive) within c.in-Prim.is in
-    let inside = within_held c.args.held.now c.args.cells.now c.args.cell within c.requires.can.long in
-    let held = held_is c.args.held.now c.args.cell c.index-held-cell.result inside in
-    stepped_set look cells c.args.cell c.args.held.now c.step_held.new.held inside (primitive_steps look cells c.args.cell c.in-Prim.primitive c.args.held.now c.step_held.new.held _ kind held c.step_held.ensures.value)
-
-pub returns-clause-can : goal.returns-clause-can
-returns-clause-can g c =
-    let look = g.L.Look.seen c.args.look.now in
-    let cells = map plain_cell c.args.cells.now in
-    let within = c.if-cell-cells.false in
-    let kind = kind_is c.args.cells.now c.args.cell c.index-cells-cell.result (Prim c.in-Prim.primitive) within c.in-Prim.is in
-    let inside = within_held c.args.held.now c.args.cells.now c.args.cell within c.requires.can.long in
-    let held = held_is c.args.held.now c.args.cell c.index-held-cell.result inside in
-    can_set look cells (length c.args.inputs.now) c.args.cell c.in-Prim.primitive c.args.held.now c.step_held.new.held c.requires.can kind c.step_held.ensures.can inside
+pub returns-in-Some-clause-fits : goal.returns-in-Some-clause-fits
+returns-in-Some-clause-fits c =
+    let stepping = c.in-Some.stepping.now in
+    let below = kept_below c.args.cells.now c.args.cell stepping c.in-Some.ensures.some in
+    let long = c.requires.long in
+    let inside : c.args.cell < length c.args.held.now = omega (arith, below, long) in
+    still_fitting c.args.cells.now c.args.held.now c.args.cell stepping c.step_held.new.held inside c.in-Some.ensures.some
+    (λ d e. subst (λ o. IfSome o (IsState (row_of stepping.primitive.now).shape)) e c.step_held.ensures.fits)

@@ -1,6 +1,6 @@
 use Rattle.std.proofs.Common.{rules, ap, sym, subst, length, ◌≡◌, ◌∙◌, ◌<◌, List, ℕ, flat_map, map}
 use Rattle.std.proofs.lemmas.List.{length-map}
-use Rattle.cx_meaning.specs.Instances.{cells_of}
+use Rattle.cx_meaning.specs.Instances.{cell_count, cells_of}
 use Rattle.cx_rules.specs.Ports.{component_of}
 use Rattle.cx_design.specs.declared.groups.Assign.{Assign}
 use Rattle.cx_design.specs.declared.groups.Group.{Group}
@@ -12,7 +12,7 @@ use Rattle.cx_graphs.specs.Edges.{no_edges}
 use Rattle.cx_graphs.proofs.EdgeLemmas.{length-no_edges}
 use Rattle.cx_meaning.specs.Designs.{PlainDesign, component_at}
 use Rattle.cx_shape_state.specs.Joining.{joined}
-use Rattle.cx_shape_state.specs.Waits.{cell_count, always_waits, group_waits}
+use Rattle.cx_shape_state.specs.Waits.{always_waits, group_waits}
 use Rattle.cx_shape_state.proofs.Cells.{part_is, count_is}
 use Rattle.cx_shape_state.proofs.WaitLemmas.{graph_is}
 use Rattle.cx_shape_state.proofs.waiting.waits.Goals as goal

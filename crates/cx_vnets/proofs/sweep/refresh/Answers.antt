@@ -1,4 +1,4 @@
-use Rattle.std.proofs.Common.{◌+◌, ◌≤◌, false, get_or, set, sym, ap, ◌∙◌, subst}
+use Rattle.std.proofs.Common.{◌+◌, ◌≤◌, get_or, set, sym, ap, ◌∙◌, subst}
 use Rattle.cx_vnets.specs.Readers.{HearsNot}
 use Rattle.cx_vnets.specs.Stale.{Tells, rank_at}
 use Rattle.cx_vnets.proofs.DriveLemmas.{read_there}
@@ -26,7 +26,7 @@ returns-then-is_other c =
     let values = c.args.values.now in
     let lt = net_values n c.args.stored.now r.fits r.readers.0 t r.readers.1 r.ranked c.args.net c.args.rank r.within r.place c.args.stale.now values r.sweeping in
     let old = c.index-values-net.result in
-    let tells = subst (λ k. Tells t.ranks.items (set c.args.stale.now c.args.rank false) c.mark_hearers.new.stale (λ f. c.args.rank + 1 ≤ rank_at t.ranks.items f → HearsNot t (set values c.args.net c.drive-value.result) k c.args.net old c.drive-value.result f))
+    let tells = subst (λ k. Tells t.ranks.items (set c.args.stale.now c.args.rank 0) c.mark_hearers.new.stale (λ f. c.args.rank + 1 ≤ rank_at t.ranks.items f → HearsNot t (set values c.args.net c.drive-value.result) k c.args.net old c.drive-value.result f))
     (c.len.ensures ∙ n.drivers.ok.0) c.mark_hearers.ensures.tells in
     refreshed n c.args.stored.now r.fits r.readers.0 t r.readers.1 r.ranked c.args.net c.args.rank r.within r.place c.args.stale.now values r.sweeping c.drive-value.result
     c.drive-value.ensures old (read_there values c.args.net old lt c.index-values-net.is) c.mark_hearers.new.stale tells c.mark_hearers.ensures.below

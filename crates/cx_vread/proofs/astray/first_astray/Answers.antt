@@ -1,11 +1,11 @@
-use Rattle.std.proofs.Common.{◌≡◌, ◌+◌, ◌∙◌, min, sym, subst, arith}
-use Rattle.cx_vread_exprs.specs.Answers.{Fails, is_clean, place_of}
+use Rattle.std.proofs.Common.{◌≡◌, true, refl, ◌+◌, ◌∙◌, min, sym, subst, arith}
+use Rattle.cx_vread_exprs.specs.Answers.{Fails, place_of}
 use Rattle.cx_vread.specs.LineSteps.{line_at}
 use Rattle.cx_vread.proofs.AstrayLines.{SoFar, so_far_none, so_far_next, astray_here, none_at_end, some_left, none_left, shorter}
 use Rattle.cx_vread.proofs.astray.first_astray.Goals as goal
 
 pub loop-here-init : goal.loop-here-init
-loop-here-init c = so_far_none c.args.text.now (is_clean c.new-notes.result) c.new-notes.ensures
+loop-here-init c = so_far_none c.args.text.now true refl
 
 pub returns-in-Err-Syntax : goal.returns-in-Err-Syntax
 returns-in-Err-Syntax c =

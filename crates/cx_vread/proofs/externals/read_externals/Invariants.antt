@@ -1,13 +1,13 @@
 use Rattle.std.proofs.Common.{◌≡◌, map, length}
 use Rattle.std.specs.Prelude.{codes}
-use Rattle.cx_vtree.specs.PlainParts.{plain_external}
+use Rattle.cx_vscope.specs.Drafts.{draft_external}
 use Rattle.cx_vread_exprs.specs.Answers.{place_of}
 use Rattle.cx_vread_exprs.specs.Places.{begins, many, with_front}
 use Rattle.cx_vread.specs.Parts as parts
 use Rattle.cx_vread.proofs.externals.read_externals.Given as goal
 
 abbrev pub invariant-loop-left : goal.invariant-loop-left
-invariant-loop-left l = with_front (map plain_external l.list.items) (many (begins (codes "/")) parts.external_at l.left (place_of l.here)) ≡ many (begins (codes "/")) parts.external_at (length l.fn.at.rest.now) (place_of l.fn.at)
+invariant-loop-left l = with_front (map draft_external l.list.items) (many (begins (codes "/")) parts.external_at l.left (place_of l.here)) ≡ many (begins (codes "/")) parts.external_at (length l.fn.at.rest.now) (place_of l.fn.at)
 
 abbrev pub decreases-loop-left : goal.decreases-loop-left
 decreases-loop-left l = l.left

@@ -1,4 +1,4 @@
-use Rattle.std.proofs.Common.{◌≡◌, map, drop}
+use Rattle.std.proofs.Common.{◌≡◌, drop}
 use Rattle.std.specs.List.{list_all}
 use Rattle.cx_vtree.specs.Layout as layout
 use Rattle.cx_vtree.specs.PlainParts.{plain_externals}

@@ -1,12 +1,13 @@
 use Rattle.std.proofs.Common.{◌≡◌, ℕ, ◌≤◌, List, map, drop, length}
-use Rattle.cx_vtree.specs.PlainParts.{plain_port, plain_decl}
+use Rattle.cx_vtree.specs.PlainParts.{plain_port}
+use Rattle.cx_vscope.specs.Drafts.{draft_decl}
 use Rattle.cx_vtree.specs.Sound.{meant_in}
 use Rattle.cx_vscope.specs.Scopes.{meant_by}
 use Rattle.cx_vscope.proofs.scopes.add_ports.Given as goal
 
 abbrev pub invariant-loop-i : goal.invariant-loop-i
 invariant-loop-i l = record {
-  meant : (name : List ℕ) → meant_by l.meanings name ≡ meant_in (map plain_port (drop l.i l.ports)) (map plain_decl l.decls) name;
+  meant : (name : List ℕ) → meant_by l.meanings name ≡ meant_in (map plain_port (drop l.i l.ports)) (map draft_decl l.decls) name;
   within : l.i ≤ length l.ports;
 }
 

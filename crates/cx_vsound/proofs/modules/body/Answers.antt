@@ -1,5 +1,6 @@
-use Rattle.std.proofs.Common.{◌≡◌, List, ℕ, map, option_map, refl, ap, ◌∙◌}
-use Rattle.cx_vtree.specs.PlainParts.{plain_assign, plain_instance, plain_edge, plain_module, plain_modules}
+use Rattle.std.proofs.Common.{map, option_map, refl, ap, ◌∙◌}
+use Rattle.cx_vtree.specs.PlainParts.{plain_assign, plain_instance, plain_edge}
+use Rattle.cx_vscope.specs.Drafts.{draft_module, draft_modules}
 use Rattle.cx_vscope.specs.ScopeValues.{scope_by}
 use Rattle.cx_vsound.proofs.Overs.{body_pieces_by}
 use Rattle.cx_vsound.proofs.modules.body.Goals as goal
@@ -7,7 +8,7 @@ use Rattle.cx_vsound.proofs.modules.body.Goals as goal
 pub returns : goal.returns
 returns c =
     let m = c.args.m.now in
-    body_pieces_by (scope_by c.in_ok-scope.scope) (plain_modules c.args.before.now) (plain_module m) c.args.search c.in_ok-search.search c.in_ok-search-2.search c.in_ok-search-3.search c.clean.result
+    body_pieces_by (scope_by c.in_ok-scope.scope) (draft_modules c.args.before.now) (draft_module m) c.args.search c.in_ok-search.search c.in_ok-search-2.search c.in_ok-search-3.search c.clean.result
     (map plain_assign c.deref.result.now) (map plain_instance c.deref-3.result.now) (option_map plain_edge m.edge)
     c.args.names.now c.in_ok-driven.driven
     c.in_ok-scope.ensures c.in_ok-search.ensures c.in_ok-search-2.ensures c.in_ok-search-3.ensures c.clean.ensures

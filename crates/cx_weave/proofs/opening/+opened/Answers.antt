@@ -1,5 +1,4 @@
-use Rattle.std.proofs.Common.{rules, ◌≡◌, ◌+◌, ◌<◌, List, [], ◌∷◌, ◌++◌, None, get_or, length, sym, ap, ◌∙◌, subst, arith}
-use Rattle.std.proofs.Math.ListN.{drop_of_length-le}
+use Rattle.std.proofs.Common.{rules, ◌≡◌, ◌≢◌, ◌+◌, ◌<◌, List, [], ◌∷◌, ◌++◌, None, get_or, length, sym, ap, ◌∙◌, subst, arith}
 use Rattle.cx_meaning.specs.Designs.{PlainForm, PlainStatement, Placed, Enable}
 use Rattle.cx_design.specs.PlainForms.{plain_form, plain_statement, form_step, statement_step}
 use Rattle.cx_design.specs.declared.statements.Form.TheFolds.{fold-roll-Form, fold-roll-Statement}
@@ -11,9 +10,12 @@ use Rattle.cx_interp.proofs.Measures.{form_steps, steps}
 use Rattle.cx_interp.proofs.StandLemmas.{enabled_group}
 use Rattle.cx_design.specs.declared.statements.Statement.{Statement}
 use Rattle.cx_weave.specs.declared.strands.Strand.TheVariants as strands
+use Rattle.cx_weave.specs.declared.strands.Arms.{Arms}
+use Rattle.cx_weave.specs.declared.strands.Arms.TheVariants as parts
+use Rattle.cx_weave.specs.Strands.{APar, IsBoth, plain_arms}
 use Rattle.cx_weave.specs.Strides.{OpensAs}
-use Rattle.cx_weave.proofs.OpenSteps.{OpenSoFar, call_opens, seq_none, seq_some, arm_open, none_are, par_opens, later_stand}
-use Rattle.cx_weave.proofs.StrandFolds.{is_idling, is_seq, is_par, is_call}
+use Rattle.cx_weave.proofs.OpenSteps.{arm_opens, back_falls, back_stands, both_open, call_opens, front_falls, front_stands, halves, later_stand, none_are, par_opens, seq_none, seq_some}
+use Rattle.cx_weave.proofs.StrandFolds.{is_idling, is_seq, is_par, is_call, is_one}
 use Rattle.cx_weave.proofs.opening.+opened.Goals as goal
 
 pub open_statement-open_form-requires : goal.open_statement-open_form-requires
@@ -64,27 +66,64 @@ pub open_seq-returns-in_ok-first-in-Some : goal.open_seq-returns-in_ok-first-in-
 open_seq-returns-in_ok-first-in-Some t c =
     let d = design_of c.args.plan.now in
     let are : c.args.parts.now ≡ c.in-Some.part.now ∷ c.in-Some.later.now = search rules in
-    let same : c.in_ok-first-in-Some.first.value ≡ c.in_ok-open_statement-in-Some.field-0 = search rules in
+    let same : c.in_ok-first-in-Some.first.value ≡ c.in_ok-run-in-Some.run' = search rules in
     seq_some d c.args.instance c.args.parts.now c.in-Some.later.now c.in-Some.part.now (strands.InSeq c.in_ok-first-in-Some.first c.in-Some.later) c.in_ok-first-in-Some.first.value are (is_seq c.in_ok-first-in-Some.first c.in-Some.later)
-    (subst (OpensAs d c.args.instance (plain_statement c.in-Some.part.now)) (sym same) c.in_ok-open_statement-in-Some.ensures) (later_stand d c.args.instance c.args.parts.now c.in-Some.later.now c.in-Some.part.now are c.requires.parts)
+    (subst (OpensAs d c.args.instance (plain_statement c.in-Some.part.now)) (sym same) c.in_ok-run-in-Some.ensures) (later_stand d c.args.instance c.args.parts.now c.in-Some.later.now c.in-Some.part.now are c.requires.parts)
 
-pub open_par-open_statement-requires : goal.open_par-open_statement-requires
-open_par-open_statement-requires t c = (
-  omega (arith, c.decreases, part_falls c.args.arms.now c.loop-arm.arm-index c.arm-item.result (omega arith) c.arm-item.is),
-  (c.requires.plan, (c.requires.instance, part_stands (design_of c.args.plan.now) c.args.instance c.args.arms.now c.loop-arm.arm-index c.arm-item.result (omega arith) c.arm-item.is c.requires.arms)),
-)
-
-pub open_par-loop-arm-preserved : goal.open_par-loop-arm-preserved
-open_par-loop-arm-preserved t c =
-    let d = design_of c.args.plan.now in
-    let items : c.push.new.self.items ≡ c.loop-arm.opened.items ++ c.in_ok-open_statement.field-0 ∷ [] = search rules in
-    subst (λ xs. OpenSoFar d c.args.instance c.args.arms.now (c.loop-arm.arm-index + 1) xs) (sym items)
-    (arm_open d c.args.instance c.args.arms.now c.loop-arm.arm-index c.loop-arm.opened.items c.arm-item.result c.in_ok-open_statement.field-0 (omega arith) c.arm-item.is c.loop-arm.invariant c.in_ok-open_statement.ensures)
+pub open_par-open_arms-requires : goal.open_par-open_arms-requires
+open_par-open_arms-requires t c =
+    let none : length c.args.arms.now ≢ 0 = search rules in
+    (omega (arith, c.decreases), (c.requires.plan, (c.requires.instance, (c.requires.arms, omega (arith, none)))))
 
 pub open_par-returns : goal.open_par-returns
 open_par-returns t c =
+    let same : c.in_ok-room.room.value ≡ c.in_ok-opened.opened = c.in_ok-room.ensures in
+    par_opens (design_of c.args.plan.now) c.args.instance c.args.arms.now c.in_ok-opened.opened (strands.InPar c.in_ok-room.room) (search rules) c.in_ok-opened.ensures (is_par c.in_ok-room.room ∙ ap (λ (x : Arms). APar (plain_arms x)) same)
+
+pub open_arms-open_statement-requires : goal.open_arms-open_statement-requires
+open_arms-open_statement-requires t c = (
+  omega (arith, c.decreases, part_falls c.args.arms.now 0 c.index-arms-0.result c.requires.some c.index-arms-0.is),
+  (c.requires.plan, (c.requires.instance, part_stands (design_of c.args.plan.now) c.args.instance c.args.arms.now 0 c.index-arms-0.result c.requires.some c.index-arms-0.is c.requires.arms)),
+)
+
+pub open_arms-open_arms-requires : goal.open_arms-open_arms-requires
+open_arms-open_arms-requires t c =
+    let front = c.split_at.result.0.now in
+    let back = c.split_at.result.1.now in
+    let all : front ++ back ≡ c.args.arms.now = halves c.args.arms.now front back _ c.split_at.ensures.front c.split_at.ensures.back in
+    let ends = c.split_at.ensures.back_len in
+    let begins = c.split_at.ensures.front_len in
+    let some = c.requires.some in
+    let falls = front_falls c.args.arms.now front back all (omega (arith, ends, some)) in
+    (omega (arith, c.decreases, falls), (c.requires.plan, (c.requires.instance, (front_stands (design_of c.args.plan.now) c.args.instance c.args.arms.now front back all c.requires.arms, omega (arith, begins, some)))))
+
+pub open_arms-open_arms-requires-2 : goal.open_arms-open_arms-requires-2
+open_arms-open_arms-requires-2 t c =
+    let front = c.split_at.result.0.now in
+    let back = c.split_at.result.1.now in
+    let all : front ++ back ≡ c.args.arms.now = halves c.args.arms.now front back _ c.split_at.ensures.front c.split_at.ensures.back in
+    let ends = c.split_at.ensures.back_len in
+    let begins = c.split_at.ensures.front_len in
+    let some = c.requires.some in
+    let falls = back_falls c.args.arms.now front back all (omega (arith, begins, some)) in
+    (omega (arith, c.decreases, falls), (c.requires.plan, (c.requires.instance, (back_stands (design_of c.args.plan.now) c.args.instance c.args.arms.now front back all c.requires.arms, omega (arith, ends, some)))))
+
+pub open_arms-returns-then-arms-eq1 : goal.open_arms-returns-then-arms-eq1
+open_arms-returns-then-arms-eq1 t c =
+    let one : length c.args.arms.now ≡ 1 = (let a = c.if-arms-eq1.true in first_of (omega (arith, a), search (rules, a))) in
+    arm_opens (design_of c.args.plan.now) c.args.instance c.args.arms.now c.index-arms-0.result (parts.One c.in_ok-strand.strand) c.in_ok-strand.strand one c.index-arms-0.is (is_one c.in_ok-strand.strand) c.in_ok-strand.ensures
+
+pub open_arms-returns : goal.open_arms-returns
+open_arms-returns t c =
     let d = design_of c.args.plan.now in
-    par_opens d c.args.instance c.args.arms.now c.loop-arm.arm-index c.loop-arm.opened.items (strands.InPar c.loop-arm.opened) (search rules) (drop_of_length-le c.args.arms.now (omega arith)) c.loop-arm.invariant (is_par c.loop-arm.opened)
+    let front = c.split_at.result.0.now in
+    let back = c.split_at.result.1.now in
+    let all : front ++ back ≡ c.args.arms.now = halves c.args.arms.now front back _ c.split_at.ensures.front c.split_at.ensures.back in
+    let one : c.in_ok-one.one.value ≡ c.in_ok-first.first = c.in_ok-one.ensures in
+    let other : c.in_ok-other.other.value ≡ c.in_ok-second.second = c.in_ok-other.ensures in
+    both_open d c.args.instance c.args.arms.now front back c.in_ok-first.first c.in_ok-second.second c.both.result all
+    (subst (λ (x : Arms). IsBoth (plain_arms x) (plain_arms c.in_ok-second.second) (plain_arms c.both.result)) one
+    (subst (λ (x : Arms). IsBoth (plain_arms c.in_ok-one.one.value) (plain_arms x) (plain_arms c.both.result)) other c.both.ensures)) c.in_ok-first.ensures c.in_ok-second.ensures
 
 pub open_dynamic-open_call-requires : goal.open_dynamic-open_call-requires
 open_dynamic-open_call-requires t c = (
@@ -129,7 +168,7 @@ open_call-open_statement-requires t c = (
 pub open_call-returns : goal.open_call-returns
 open_call-returns t c =
     let d = design_of c.args.plan.now in
-    let same : c.in_ok-child.child.value ≡ c.in_ok-open_statement.field-0 = search rules in
+    let same : c.in_ok-child.child.value ≡ c.in_ok-run.run' = search rules in
     call_opens d c.args.instance c.args.group c.args.cell c.child_number-number.result (plain_statement c.control_of-control.result.now) (strands.InCall c.args.group c.args.cell None c.in_ok-child.child) c.in_ok-child.child.value (is_call c.args.group c.args.cell None c.in_ok-child.child)
     c.requires.group c.requires.dynamic c.requires.calls c.requires.part c.child_number-number.ensures c.control_of-control.ensures
-    (subst (OpensAs d c.child_number-number.result (plain_statement c.control_of-control.result.now)) (sym same) c.in_ok-open_statement.ensures)
+    (subst (OpensAs d c.child_number-number.result (plain_statement c.control_of-control.result.now)) (sym same) c.in_ok-run.ensures)

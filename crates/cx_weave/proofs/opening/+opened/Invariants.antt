@@ -2,7 +2,6 @@ use Rattle.std.proofs.Common.{◌+◌, ◌*◌}
 use Rattle.cx_design.specs.PlainForms.{plain_form, plain_statement, plain_statements}
 use Rattle.cx_interp.specs.Machines.{design_of}
 use Rattle.cx_interp.proofs.Measures.{form_steps, steps, all_steps, below}
-use Rattle.cx_weave.proofs.OpenSteps.{OpenSoFar}
 use Rattle.cx_weave.proofs.opening.+opened.Given as goal
 
 abbrev pub decreases-open_statement : goal.decreases-open_statement
@@ -17,6 +16,9 @@ decreases-open_seq l = 2 * all_steps (plain_statements l.parts.now) + 2 + below 
 abbrev pub decreases-open_par : goal.decreases-open_par
 decreases-open_par l = 2 * all_steps (plain_statements l.arms.now) + 2 + below (design_of l.plan.now) l.instance
 
+abbrev pub decreases-open_arms : goal.decreases-open_arms
+decreases-open_arms l = 2 * all_steps (plain_statements l.arms.now) + 1 + below (design_of l.plan.now) l.instance
+
 abbrev pub decreases-open_repeat : goal.decreases-open_repeat
 decreases-open_repeat l = 2 * steps (plain_statement l.body.now) + 2 + below (design_of l.plan.now) l.instance
 
@@ -28,7 +30,3 @@ decreases-open_dynamic l = 1 + below (design_of l.plan.now) l.instance
 
 abbrev pub decreases-open_call : goal.decreases-open_call
 decreases-open_call l = below (design_of l.plan.now) l.instance
-
--- the arms so far are open
-abbrev pub invariant-open_par-loop-arm : goal.invariant-open_par-loop-arm
-invariant-open_par-loop-arm l = OpenSoFar (design_of l.plan) l.instance l.arms l.arm-index l.opened.items

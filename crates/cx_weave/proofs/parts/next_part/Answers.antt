@@ -12,13 +12,13 @@ open_statement-requires-clause-statement c =
     let are : c.args.later.now ≡ c.in-Some.part.now ∷ c.in-Some.later.now = search rules in
     first_stands (design_of c.args.plan.now) c.args.instance c.args.later.now c.in-Some.later.now c.in-Some.part.now are c.requires.later
 
-pub returns-in_ok-first-in-Some : goal.returns-in_ok-first-in-Some
-returns-in_ok-first-in-Some c =
+pub returns-in_ok-run-in-Some : goal.returns-in_ok-run-in-Some
+returns-in_ok-run-in-Some c =
     let d = design_of c.args.plan.now in
     let are : c.args.later.now ≡ c.in-Some.part.now ∷ c.in-Some.later.now = search rules in
-    let same : c.in_ok-first-in-Some.first.value ≡ c.in_ok-open_statement-in-Some.field-0 = search rules in
-    seq_next d c.args.instance c.args.later.now c.in-Some.later.now c.in-Some.part.now (strands.InSeq c.in_ok-first-in-Some.first c.in-Some.later) c.in_ok-first-in-Some.first.value are (is_seq c.in_ok-first-in-Some.first c.in-Some.later)
-    (subst (OpensAs d c.args.instance (plain_statement c.in-Some.part.now)) (sym same) c.in_ok-open_statement-in-Some.ensures) (later_stand d c.args.instance c.args.later.now c.in-Some.later.now c.in-Some.part.now are c.requires.later)
+    let same : c.refilled-first.result.value ≡ c.in_ok-run-in-Some.run' = search rules in
+    seq_next d c.args.instance c.args.later.now c.in-Some.later.now c.in-Some.part.now (strands.InSeq c.refilled-first.result c.in-Some.later) c.refilled-first.result.value are (is_seq c.refilled-first.result c.in-Some.later)
+    (subst (OpensAs d c.args.instance (plain_statement c.in-Some.part.now)) (sym same) c.in_ok-run-in-Some.ensures) (later_stand d c.args.instance c.args.later.now c.in-Some.later.now c.in-Some.part.now are c.requires.later)
 
 pub returns-in-None : goal.returns-in-None
 returns-in-None c =

@@ -11,6 +11,6 @@ pub returns : goal.returns
 returns c =
     let d = design_of c.args.plan.now in
     let some : c.args.rounds ≡ suc (c.args.rounds - 1) = (let n = c.if-rounds-eq0.false in first_of (omega (arith, n), search (rules, n))) in
-    let same : c.in_ok-run.run'.value ≡ c.in_ok-open_statement.field-0 = search rules in
-    repeat_next d c.args.instance c.args.rounds (c.args.rounds - 1) (plain_statement c.args.body.now) (strands.InRepeat c.in_ok-run.run' (c.args.rounds - 1) c.args.body) c.in_ok-run.run'.value some (is_repeat c.in_ok-run.run' (c.args.rounds - 1) c.args.body)
-    (subst (OpensAs d c.args.instance (plain_statement c.args.body.now)) (sym same) c.in_ok-open_statement.ensures) c.requires.body
+    let same : c.refilled-run.result.value ≡ c.in_ok-run.run' = search rules in
+    repeat_next d c.args.instance c.args.rounds (c.args.rounds - 1) (plain_statement c.args.body.now) (strands.InRepeat c.refilled-run.result (c.args.rounds - 1) c.args.body) c.refilled-run.result.value some (is_repeat c.refilled-run.result (c.args.rounds - 1) c.args.body)
+    (subst (OpensAs d c.args.instance (plain_statement c.args.body.now)) (sym same) c.in_ok-run.ensures) c.requires.body

@@ -1,20 +1,20 @@
-use Rattle.std.proofs.Common.{rules, ◌≡◌, ◌+◌, Ok, Some, None, List, get_or, length, map, sym, ap, ◌∙◌, subst, arith}
+use Rattle.std.proofs.Common.{rules, ◌≡◌, ◌+◌, ◌-◌, ◌≤◌, ◌<◌, Ok, Err, Some, None, sym, ap, ◌∙◌, subst, arith}
 use Rattle.std.proofs.lemmas.Result.{err_from_is_err_and}
-use Rattle.std.proofs.lemmas.List.Edits.{length-remove}
 use Rattle.cx_design.specs.PlainForms.{plain_form, plain_statement, plain_statements}
+use Rattle.cx_limits.specs.Capped.{capped}
 use Rattle.cx_interp.specs.Callees.{IsPart}
 use Rattle.cx_interp.specs.Machines.{design_of, rows_of}
 use Rattle.cx_interp.proofs.CallLemmas.{child_instance}
 use Rattle.cx_weave.specs.declared.strands.Strand.{Strand}
+use Rattle.cx_weave.specs.declared.strands.Arms.{Arms}
 use Rattle.cx_weave.specs.declared.strands.Strand.TheVariants as strands
-use Rattle.cx_weave.specs.Strands.{IsArmOf, PlainStrand, AGroup, AChoice, ATest, AnIsland, ACapture, AClosing, ASeq, APar, ALoop, ARepeat, ACall, IsShown, plain_strand, seen_items, strand_leaves, strands_leaves, strands_of}
-use Rattle.cx_weave.specs.Strides.{HasStepped, IsParAfter}
-use Rattle.cx_weave.proofs.ArmSteps.{arm_there, arm_leaf, arm_of_par}
+use Rattle.cx_weave.specs.Strands.{PlainStrand, AGroup, AChoice, ATest, AnIsland, ACapture, AClosing, ASeq, APar, ALoop, ARepeat, ACall, IsShown, plain_strand, seen_items, strand_leaves, arms_leaves, plain_arms, AreCounted, AreShown, one_arm, both_arms}
+use Rattle.cx_weave.specs.Strides.{HasStepped, HaveStepped}
 use Rattle.cx_weave.proofs.CallSteps.{call_goes, call_stops, call_part, child_shown, held_above, held_below}
 use Rattle.cx_weave.proofs.LeafSteps.{idling_ends, waiting_stays, memory_stops}
-use Rattle.cx_weave.proofs.PartSteps.{seq_goes, seq_stops, loop_goes, loop_stops, repeat_goes, repeat_stops, par_goes, par_stops, part_shown_seq, part_shown_loop, part_shown_repeat}
-use Rattle.cx_weave.proofs.StrandFolds.{is_idling, is_waiting, is_group, is_choice, is_test, is_island, is_capture, is_closing, is_seq, is_par, is_loop, is_repeat, is_call}
-use Rattle.cx_weave.proofs.StrandSizes.{size_of, sizes_of, arm_size}
+use Rattle.cx_weave.proofs.PartSteps.{seq_goes, seq_stops, loop_goes, loop_stops, repeat_goes, repeat_stops, par_goes, par_stops, arms_of_par, one_arm_shown, first_shown, other_shown, first_counted, arm_goes, arm_stops, front_goes, front_stops, back_goes, back_stops, part_shown_seq, part_shown_loop, part_shown_repeat}
+use Rattle.cx_weave.proofs.StrandFolds.{is_idling, is_waiting, is_group, is_choice, is_test, is_island, is_capture, is_closing, is_seq, is_par, is_loop, is_repeat, is_call, is_one, is_both}
+use Rattle.cx_weave.proofs.StrandSizes.{size_of, sizes_of}
 use Rattle.cx_weave.proofs.stepping.+step.Goals as goal
 
 pub step-returns-in-Idling-clause-stepped : goal.step-returns-in-Idling-clause-stepped
@@ -29,9 +29,9 @@ step-returns-in-Waiting-clause-stepped t c =
 
 pub step-step_seq-requires : goal.step-step_seq-requires
 step-step_seq-requires t c =
-    let whole : plain_strand c.args.strand ≡ ASeq (plain_strand c.into_inner-first.result) (plain_statements c.in-InSeq.later.now) = ap plain_strand c.in-InSeq.is ∙ is_seq c.in-InSeq.first c.in-InSeq.later ∙ ap (λ (x : Strand). ASeq (plain_strand x) (plain_statements c.in-InSeq.later.now)) (sym c.into_inner-first.ensures) in
-    let falls : size_of (plain_strand c.args.strand) ≡ 1 + size_of (plain_strand c.into_inner-first.result) = ap size_of whole in
-    let leaves : strand_leaves (plain_strand c.args.strand) ≡ strand_leaves (plain_strand c.into_inner-first.result) = ap strand_leaves whole in
+    let whole : plain_strand c.args.strand ≡ ASeq (plain_strand c.replace-first.result) (plain_statements c.in-InSeq.later.now) = ap plain_strand c.in-InSeq.is ∙ is_seq c.in-InSeq.first c.in-InSeq.later ∙ ap (λ (x : Strand). ASeq (plain_strand x) (plain_statements c.in-InSeq.later.now)) (sym (c.replace-first.ensures.value ∙ c.deref_mut.ensures.value)) in
+    let falls : size_of (plain_strand c.args.strand) ≡ 1 + size_of (plain_strand c.replace-first.result) = ap size_of whole in
+    let leaves : strand_leaves (plain_strand c.args.strand) ≡ strand_leaves (plain_strand c.replace-first.result) = ap strand_leaves whole in
     let less = c.requires.leaf in (
       omega (arith, c.decreases, falls),
       (c.requires.plan, (c.requires.machine, (c.requires.instance, (subst (IsShown (design_of c.args.plan.now) c.args.instance) whole c.requires.shown, omega (arith, less, leaves))))),
@@ -39,9 +39,9 @@ step-step_seq-requires t c =
 
 pub step-step_par-requires : goal.step-step_par-requires
 step-step_par-requires t c =
-    let whole : plain_strand c.args.strand ≡ APar (strands_of (map plain_strand c.in-InPar.arms.items)) = ap plain_strand c.in-InPar.is ∙ is_par c.in-InPar.arms in
-    let falls : size_of (plain_strand c.args.strand) ≡ 1 + sizes_of (strands_of (map plain_strand c.in-InPar.arms.items)) = ap size_of whole in
-    let leaves : strand_leaves (plain_strand c.args.strand) ≡ strands_leaves (strands_of (map plain_strand c.in-InPar.arms.items)) = ap strand_leaves whole in
+    let whole : plain_strand c.args.strand ≡ APar (plain_arms c.replace-arms.result) = ap plain_strand c.in-InPar.is ∙ is_par c.in-InPar.arms ∙ ap (λ (x : Arms). APar (plain_arms x)) (sym (c.replace-arms.ensures.value ∙ c.deref_mut-in-InPar.ensures.value)) in
+    let falls : size_of (plain_strand c.args.strand) ≡ 1 + sizes_of (plain_arms c.replace-arms.result) = ap size_of whole in
+    let leaves : strand_leaves (plain_strand c.args.strand) ≡ arms_leaves (plain_arms c.replace-arms.result) = ap strand_leaves whole in
     let less = c.requires.leaf in (
       omega (arith, c.decreases, falls),
       (c.requires.plan, (c.requires.machine, (c.requires.instance, (subst (IsShown (design_of c.args.plan.now) c.args.instance) whole c.requires.shown, omega (arith, less, leaves))))),
@@ -49,9 +49,9 @@ step-step_par-requires t c =
 
 pub step-step_loop-requires : goal.step-step_loop-requires
 step-step_loop-requires t c =
-    let whole : plain_strand c.args.strand ≡ ALoop (plain_strand c.into_inner-run.result) c.in-InLoop.port c.in-InLoop.comb (plain_statement c.in-InLoop.body.now) = ap plain_strand c.in-InLoop.is ∙ is_loop c.in-InLoop.run' c.in-InLoop.port c.in-InLoop.comb c.in-InLoop.body ∙ ap (λ (x : Strand). ALoop (plain_strand x) c.in-InLoop.port c.in-InLoop.comb (plain_statement c.in-InLoop.body.now)) (sym c.into_inner-run.ensures) in
-    let falls : size_of (plain_strand c.args.strand) ≡ 1 + size_of (plain_strand c.into_inner-run.result) = ap size_of whole in
-    let leaves : strand_leaves (plain_strand c.args.strand) ≡ strand_leaves (plain_strand c.into_inner-run.result) = ap strand_leaves whole in
+    let whole : plain_strand c.args.strand ≡ ALoop (plain_strand c.replace-run.result) c.in-InLoop.port c.in-InLoop.comb (plain_statement c.in-InLoop.body.now) = ap plain_strand c.in-InLoop.is ∙ is_loop c.in-InLoop.run' c.in-InLoop.port c.in-InLoop.comb c.in-InLoop.body ∙ ap (λ (x : Strand). ALoop (plain_strand x) c.in-InLoop.port c.in-InLoop.comb (plain_statement c.in-InLoop.body.now)) (sym (c.replace-run.ensures.value ∙ c.deref_mut-in-InLoop.ensures.value)) in
+    let falls : size_of (plain_strand c.args.strand) ≡ 1 + size_of (plain_strand c.replace-run.result) = ap size_of whole in
+    let leaves : strand_leaves (plain_strand c.args.strand) ≡ strand_leaves (plain_strand c.replace-run.result) = ap strand_leaves whole in
     let less = c.requires.leaf in (
       omega (arith, c.decreases, falls),
       (c.requires.plan, (c.requires.machine, (c.requires.instance, (subst (IsShown (design_of c.args.plan.now) c.args.instance) whole c.requires.shown, omega (arith, less, leaves))))),
@@ -59,9 +59,9 @@ step-step_loop-requires t c =
 
 pub step-step_repeat-requires : goal.step-step_repeat-requires
 step-step_repeat-requires t c =
-    let whole : plain_strand c.args.strand ≡ ARepeat (plain_strand c.into_inner-run-in-InRepeat.result) c.in-InRepeat.left (plain_statement c.in-InRepeat.body.now) = ap plain_strand c.in-InRepeat.is ∙ is_repeat c.in-InRepeat.run' c.in-InRepeat.left c.in-InRepeat.body ∙ ap (λ (x : Strand). ARepeat (plain_strand x) c.in-InRepeat.left (plain_statement c.in-InRepeat.body.now)) (sym c.into_inner-run-in-InRepeat.ensures) in
-    let falls : size_of (plain_strand c.args.strand) ≡ 1 + size_of (plain_strand c.into_inner-run-in-InRepeat.result) = ap size_of whole in
-    let leaves : strand_leaves (plain_strand c.args.strand) ≡ strand_leaves (plain_strand c.into_inner-run-in-InRepeat.result) = ap strand_leaves whole in
+    let whole : plain_strand c.args.strand ≡ ARepeat (plain_strand c.replace-run-in-InRepeat.result) c.in-InRepeat.left (plain_statement c.in-InRepeat.body.now) = ap plain_strand c.in-InRepeat.is ∙ is_repeat c.in-InRepeat.run' c.in-InRepeat.left c.in-InRepeat.body ∙ ap (λ (x : Strand). ARepeat (plain_strand x) c.in-InRepeat.left (plain_statement c.in-InRepeat.body.now)) (sym (c.replace-run-in-InRepeat.ensures.value ∙ c.deref_mut-in-InRepeat.ensures.value)) in
+    let falls : size_of (plain_strand c.args.strand) ≡ 1 + size_of (plain_strand c.replace-run-in-InRepeat.result) = ap size_of whole in
+    let leaves : strand_leaves (plain_strand c.args.strand) ≡ strand_leaves (plain_strand c.replace-run-in-InRepeat.result) = ap strand_leaves whole in
     let less = c.requires.leaf in (
       omega (arith, c.decreases, falls),
       (c.requires.plan, (c.requires.machine, (c.requires.instance, (subst (IsShown (design_of c.args.plan.now) c.args.instance) whole c.requires.shown, omega (arith, less, leaves))))),
@@ -69,9 +69,9 @@ step-step_repeat-requires t c =
 
 pub step-step_call-requires : goal.step-step_call-requires
 step-step_call-requires t c =
-    let whole : plain_strand c.args.strand ≡ ACall c.in-InCall.group c.in-InCall.cell (seen_items (λ v. v.items) c.in-InCall.inputs) (plain_strand c.into_inner-child.result) = ap plain_strand c.in-InCall.is ∙ is_call c.in-InCall.group c.in-InCall.cell c.in-InCall.inputs c.in-InCall.child ∙ ap (λ (x : Strand). ACall c.in-InCall.group c.in-InCall.cell (seen_items (λ v. v.items) c.in-InCall.inputs) (plain_strand x)) (sym c.into_inner-child.ensures) in
-    let falls : size_of (plain_strand c.args.strand) ≡ 1 + size_of (plain_strand c.into_inner-child.result) = ap size_of whole in
-    let leaves : strand_leaves (plain_strand c.args.strand) ≡ strand_leaves (plain_strand c.into_inner-child.result) = ap strand_leaves whole in
+    let whole : plain_strand c.args.strand ≡ ACall c.in-InCall.group c.in-InCall.cell (seen_items (λ v. v.items) c.in-InCall.inputs) (plain_strand c.replace-child.result) = ap plain_strand c.in-InCall.is ∙ is_call c.in-InCall.group c.in-InCall.cell c.in-InCall.inputs c.in-InCall.child ∙ ap (λ (x : Strand). ACall c.in-InCall.group c.in-InCall.cell (seen_items (λ v. v.items) c.in-InCall.inputs) (plain_strand x)) (sym (c.replace-child.ensures.value ∙ c.deref_mut-in-InCall.ensures.value)) in
+    let falls : size_of (plain_strand c.args.strand) ≡ 1 + size_of (plain_strand c.replace-child.result) = ap size_of whole in
+    let leaves : strand_leaves (plain_strand c.args.strand) ≡ strand_leaves (plain_strand c.replace-child.result) = ap strand_leaves whole in
     let less = c.requires.leaf in (
       omega (arith, c.decreases, falls),
       (c.requires.plan, (c.requires.machine, (c.requires.instance, (subst (IsShown (design_of c.args.plan.now) c.args.instance) whole c.requires.shown, omega (arith, less, leaves))))),
@@ -116,50 +116,162 @@ pub step_repeat-returns-clause-stepped : goal.step_repeat-returns-clause-stepped
 step_repeat-returns-clause-stepped t c =
     repeat_goes (design_of c.args.plan.now) (rows_of c.args.machine.now) (rows_of c.step.new.machine) c.args.instance c.args.leaf (plain_strand c.args.run) c.args.rounds (plain_statement c.args.body.now) c.in_ok-left.left c.in_ok-repeat_left.field-0 c.in_ok-left.ensures.stepped c.in_ok-repeat_left.ensures
 
-pub step_par-remove-arm-requires : goal.step_par-remove-arm-requires
-step_par-remove-arm-requires t c =
-    let found : IsArmOf (map plain_strand c.args.arms.items) c.args.leaf c.find_arm-found.result.arm c.find_arm-found.result.leaf = subst (λ (xs : List Strand). IsArmOf (map plain_strand xs) c.args.leaf c.find_arm-found.result.arm c.find_arm-found.result.leaf) c.deref.ensures.value c.find_arm-found.ensures in
-    let there = arm_there c.args.arms.items c.args.leaf c.find_arm-found.result.arm c.find_arm-found.result.leaf found in
-    first_of (omega (arith, there), search (rules, there))
+pub step_par-step_arms-requires : goal.step_par-step_arms-requires
+step_par-step_arms-requires t c = (omega (arith, c.decreases), (c.requires.plan, (c.requires.machine, (c.requires.instance, (arms_of_par (design_of c.args.plan.now) c.args.instance (plain_arms c.args.arms) c.requires.shown, c.requires.leaf)))))
 
-pub step_par-step-requires : goal.step_par-step-requires
-step_par-step-requires t c =
-    let found : IsArmOf (map plain_strand c.args.arms.items) c.args.leaf c.find_arm-found.result.arm c.find_arm-found.result.leaf = subst (λ (xs : List Strand). IsArmOf (map plain_strand xs) c.args.leaf c.find_arm-found.result.arm c.find_arm-found.result.leaf) c.deref.ensures.value c.find_arm-found.ensures in
-    let d = design_of c.args.plan.now in
-    let at = c.find_arm-found.result.arm in
-    let there = arm_there c.args.arms.items c.args.leaf at c.find_arm-found.result.leaf found in
-    let same : c.remove-arm.result ≡ get_or c.args.arms.items at c.remove-arm.result = c.remove-arm.ensures.value in
-    let size = arm_size c.args.arms.items at c.remove-arm.result there same in (
-      omega (arith, c.decreases, size),
+pub step_par-returns-in_err-left-clause-stepped : goal.step_par-returns-in_err-left-clause-stepped
+step_par-returns-in_err-left-clause-stepped t c =
+    let p = err_from_is_err_and c.from_residual.result c.from_residual.ensures.1 in
+    rw (p.1, p.2)
+    (par_stops (design_of c.args.plan.now) (rows_of c.args.machine.now) (rows_of c.step_arms.new.machine) c.args.instance (plain_arms c.args.arms) c.args.leaf c.in_err-left.field-0.0 c.in_err-left.ensures.stepped)
+
+pub step_par-returns-clause-stepped : goal.step_par-returns-clause-stepped
+step_par-returns-clause-stepped t c =
+    par_goes (design_of c.args.plan.now) (rows_of c.args.machine.now) (rows_of c.step_arms.new.machine) c.args.instance (plain_arms c.args.arms) c.args.leaf c.in_ok-left.left c.par_left.result c.in_ok-left.ensures.stepped c.par_left.ensures
+
+pub step_arms-step_arm-requires : goal.step_arms-step_arm-requires
+step_arms-step_arm-requires t c =
+    let whole : plain_arms c.args.arms ≡ one_arm (plain_strand c.in-One.strand) = ap plain_arms c.in-One.is ∙ is_one c.in-One.strand in
+    let falls : sizes_of (plain_arms c.args.arms) ≡ 1 + size_of (plain_strand c.in-One.strand) = ap sizes_of whole in
+    let leaves : arms_leaves (plain_arms c.args.arms) ≡ strand_leaves (plain_strand c.in-One.strand) = ap arms_leaves whole in
+    let less = c.requires.leaf in (
+      omega (arith, c.decreases, falls),
       (
         c.requires.plan,
         (
           c.requires.machine,
           (
             c.requires.instance,
-            (
-              arm_of_par d c.args.instance c.args.arms.items at c.remove-arm.result there same c.requires.shown,
-              arm_leaf c.args.arms.items c.args.leaf at c.find_arm-found.result.leaf c.remove-arm.result found same,
-            ),
+            (one_arm_shown (design_of c.args.plan.now) c.args.instance (plain_strand c.in-One.strand) (subst (AreShown (design_of c.args.plan.now) c.args.instance) whole c.requires.shown), omega (arith, less, leaves)),
           ),
         ),
       ),
     )
 
-pub step_par-returns-in_err-left-clause-stepped : goal.step_par-returns-in_err-left-clause-stepped
-step_par-returns-in_err-left-clause-stepped t c =
-    let found : IsArmOf (map plain_strand c.args.arms.items) c.args.leaf c.find_arm-found.result.arm c.find_arm-found.result.leaf = subst (λ (xs : List Strand). IsArmOf (map plain_strand xs) c.args.leaf c.find_arm-found.result.arm c.find_arm-found.result.leaf) c.deref.ensures.value c.find_arm-found.ensures in
+pub step_arms-step_front-requires : goal.step_arms-step_front-requires
+step_arms-step_front-requires t c =
+    let d = design_of c.args.plan.now in
+    let one = plain_arms c.in-Both.one.value in
+    let other = plain_arms c.in-Both.other.value in
+    let whole : plain_arms c.args.arms ≡ both_arms c.in-Both.leaves one other = ap plain_arms c.in-Both.is ∙ is_both c.in-Both.leaves c.in-Both.one c.in-Both.other in
+    let shown : AreShown d c.args.instance (both_arms c.in-Both.leaves one other) = subst (AreShown d c.args.instance) whole c.requires.shown in
+    let falls : sizes_of (plain_arms c.args.arms) ≡ 1 + sizes_of one + sizes_of other = ap sizes_of whole in
+    let told : c.count_arms-leaves.result ≡ capped (arms_leaves one) =
+    subst (λ (x : Arms). AreCounted (plain_arms x) → c.count_arms-leaves.result ≡ capped (arms_leaves (plain_arms x))) c.deref.ensures c.count_arms-leaves.ensures (first_counted d c.args.instance c.in-Both.leaves one other shown) in
+    let less : c.args.leaf < c.count_arms-leaves.result = (let a = c.if-from-leaves.true in first_of (omega (arith, a), search (rules, a))) in (
+      omega (arith, c.decreases, falls),
+      (c.requires.plan, (c.requires.machine, (c.requires.instance, (first_shown d c.args.instance c.in-Both.leaves one other shown, omega (arith, told, less))))),
+    )
+
+pub step_arms-step_back-requires : goal.step_arms-step_back-requires
+step_arms-step_back-requires t c =
+    let d = design_of c.args.plan.now in
+    let one = plain_arms c.in-Both.one.value in
+    let other = plain_arms c.in-Both.other.value in
+    let whole : plain_arms c.args.arms ≡ both_arms c.in-Both.leaves one other = ap plain_arms c.in-Both.is ∙ is_both c.in-Both.leaves c.in-Both.one c.in-Both.other in
+    let shown : AreShown d c.args.instance (both_arms c.in-Both.leaves one other) = subst (AreShown d c.args.instance) whole c.requires.shown in
+    let falls : sizes_of (plain_arms c.args.arms) ≡ 1 + sizes_of one + sizes_of other = ap sizes_of whole in
+    let leaves : arms_leaves (plain_arms c.args.arms) ≡ arms_leaves one + arms_leaves other = ap arms_leaves whole in
+    let told : c.count_arms-leaves.result ≡ capped (arms_leaves one) =
+    subst (λ (x : Arms). AreCounted (plain_arms x) → c.count_arms-leaves.result ≡ capped (arms_leaves (plain_arms x))) c.deref.ensures c.count_arms-leaves.ensures (first_counted d c.args.instance c.in-Both.leaves one other shown) in
+    let past : c.count_arms-leaves.result ≤ c.args.leaf = (let a = c.if-from-leaves.false in first_of (omega (arith, a), search (rules, a))) in
+    let small = c.ranges.leaf.fits in
+    let less = c.requires.leaf in (
+      omega (arith, c.decreases, falls),
+      (c.requires.plan, (c.requires.machine, (c.requires.instance, (other_shown d c.args.instance c.in-Both.leaves one other shown, omega (arith, told, past, small, less, leaves))))),
+    )
+
+pub step_arms-returns-in-One-clause-stepped : goal.step_arms-returns-in-One-clause-stepped
+step_arms-returns-in-One-clause-stepped t c =
+    let whole : plain_arms c.args.arms ≡ one_arm (plain_strand c.in-One.strand) = ap plain_arms c.in-One.is ∙ is_one c.in-One.strand in
+    subst (λ a. HaveStepped (design_of c.args.plan.now) (rows_of c.args.machine.now) (rows_of c.step_arm.new.machine) c.args.instance a c.args.leaf c.step_arm.result) (sym whole) c.step_arm.ensures.stepped
+
+pub step_arms-returns-then-from-leaves-clause-stepped : goal.step_arms-returns-then-from-leaves-clause-stepped
+step_arms-returns-then-from-leaves-clause-stepped t c =
+    let one = plain_arms c.in-Both.one.value in
+    let other = plain_arms c.in-Both.other.value in
+    let whole : plain_arms c.args.arms ≡ both_arms c.in-Both.leaves one other = ap plain_arms c.in-Both.is ∙ is_both c.in-Both.leaves c.in-Both.one c.in-Both.other in
+    subst (λ a. HaveStepped (design_of c.args.plan.now) (rows_of c.args.machine.now) (rows_of c.step_front.new.machine) c.args.instance a c.args.leaf c.step_front.result) (sym whole) (c.step_front.ensures.stepped c.in-Both.leaves)
+
+pub step_arms-returns-else-from-leaves-clause-stepped : goal.step_arms-returns-else-from-leaves-clause-stepped
+step_arms-returns-else-from-leaves-clause-stepped t c =
+    let d = design_of c.args.plan.now in
+    let one = plain_arms c.in-Both.one.value in
+    let other = plain_arms c.in-Both.other.value in
+    let whole : plain_arms c.args.arms ≡ both_arms c.in-Both.leaves one other = ap plain_arms c.in-Both.is ∙ is_both c.in-Both.leaves c.in-Both.one c.in-Both.other in
+    let shown : AreShown d c.args.instance (both_arms c.in-Both.leaves one other) = subst (AreShown d c.args.instance) whole c.requires.shown in
+    let told : c.count_arms-leaves.result ≡ capped (arms_leaves one) =
+    subst (λ (x : Arms). AreCounted (plain_arms x) → c.count_arms-leaves.result ≡ capped (arms_leaves (plain_arms x))) c.deref.ensures c.count_arms-leaves.ensures (first_counted d c.args.instance c.in-Both.leaves one other shown) in
+    let past : c.count_arms-leaves.result ≤ c.args.leaf = (let a = c.if-from-leaves.false in first_of (omega (arith, a), search (rules, a))) in
+    let small = c.ranges.leaf.fits in
+    let at : arms_leaves one + (c.args.leaf - c.count_arms-leaves.result) ≡ c.args.leaf = omega (arith, told, past, small) in
+    subst (λ a. HaveStepped d (rows_of c.args.machine.now) (rows_of c.step_back.new.machine) c.args.instance a c.args.leaf c.step_back.result) (sym whole)
+    (subst (λ k. HaveStepped d (rows_of c.args.machine.now) (rows_of c.step_back.new.machine) c.args.instance (both_arms c.in-Both.leaves one other) k c.step_back.result) at (c.step_back.ensures.stepped c.in-Both.leaves))
+
+pub step_arm-step-requires : goal.step_arm-step-requires
+step_arm-step-requires t c = (omega (arith, c.decreases), (c.requires.plan, (c.requires.machine, (c.requires.instance, (c.requires.shown, c.requires.leaf)))))
+
+pub step_arm-returns-in_err-left-clause-stepped : goal.step_arm-returns-in_err-left-clause-stepped
+step_arm-returns-in_err-left-clause-stepped t c =
     let p = err_from_is_err_and c.from_residual.result c.from_residual.ensures.1 in
     rw (p.1, p.2)
-    (par_stops (design_of c.args.plan.now) (rows_of c.args.machine.now) (rows_of c.step.new.machine) c.args.instance c.args.arms.items c.args.leaf c.find_arm-found.result.arm c.find_arm-found.result.leaf c.remove-arm.result found
-    c.remove-arm.ensures.value c.in_err-left.field-0.0 c.in_err-left.ensures.stepped)
+    (arm_stops (design_of c.args.plan.now) (rows_of c.args.machine.now) (rows_of c.step.new.machine) c.args.instance (plain_strand c.args.arm) c.args.leaf c.requires.leaf c.in_err-left.field-0.0 c.in_err-left.ensures.stepped)
 
-pub step_par-returns-clause-stepped : goal.step_par-returns-clause-stepped
-step_par-returns-clause-stepped t c =
-    let found : IsArmOf (map plain_strand c.args.arms.items) c.args.leaf c.find_arm-found.result.arm c.find_arm-found.result.leaf = subst (λ (xs : List Strand). IsArmOf (map plain_strand xs) c.args.leaf c.find_arm-found.result.arm c.find_arm-found.result.leaf) c.deref.ensures.value c.find_arm-found.ensures in
-    par_goes (design_of c.args.plan.now) (rows_of c.args.machine.now) (rows_of c.step.new.machine) c.args.instance c.args.arms.items c.args.leaf c.find_arm-found.result.arm c.find_arm-found.result.leaf c.remove-arm.result found
-    c.remove-arm.ensures.value c.in_ok-left.left c.in_ok-arms_left.field-0 c.in_ok-left.ensures.stepped
-    (subst (λ xs. IsParAfter xs c.find_arm-found.result.arm c.in_ok-left.left c.in_ok-arms_left.field-0) c.remove-arm.ensures.items c.in_ok-arms_left.ensures)
+pub step_arm-returns-clause-stepped : goal.step_arm-returns-clause-stepped
+step_arm-returns-clause-stepped t c =
+    arm_goes (design_of c.args.plan.now) (rows_of c.args.machine.now) (rows_of c.step.new.machine) c.args.instance (plain_strand c.args.arm) c.args.leaf c.requires.leaf c.in_ok-left.left c.arm_left.result c.in_ok-left.ensures.stepped c.arm_left.ensures
+
+pub step_front-step_arms-requires : goal.step_front-step_arms-requires
+step_front-step_arms-requires t c =
+    let whole : plain_arms c.replace-half.result ≡ plain_arms c.args.one.value = ap plain_arms (c.replace-half.ensures.value ∙ c.deref_mut.ensures.value) in
+    let size : sizes_of (plain_arms c.replace-half.result) ≡ sizes_of (plain_arms c.args.one.value) = ap sizes_of whole in
+    let leaves : arms_leaves (plain_arms c.replace-half.result) ≡ arms_leaves (plain_arms c.args.one.value) = ap arms_leaves whole in
+    let less = c.requires.leaf in (
+      omega (arith, c.decreases, size),
+      (c.requires.plan, (c.requires.machine, (c.requires.instance, (subst (AreShown (design_of c.args.plan.now) c.args.instance) (sym whole) c.requires.shown, omega (arith, less, leaves))))),
+    )
+
+pub step_front-returns-in_err-left-clause-stepped : goal.step_front-returns-in_err-left-clause-stepped
+step_front-returns-in_err-left-clause-stepped t c leaves =
+    let d = design_of c.args.plan.now in
+    let whole : plain_arms c.replace-half.result ≡ plain_arms c.args.one.value = ap plain_arms (c.replace-half.ensures.value ∙ c.deref_mut.ensures.value) in
+    let p = err_from_is_err_and c.from_residual.result c.from_residual.ensures.1 in
+    rw (p.1, p.2)
+    (front_stops d (rows_of c.args.machine.now) (rows_of c.step_arms.new.machine) c.args.instance (plain_arms c.args.one.value) (plain_arms c.args.other.value) leaves c.args.leaf c.requires.leaf c.in_err-left.field-0.0
+    (subst (λ a. HaveStepped d (rows_of c.args.machine.now) (rows_of c.step_arms.new.machine) c.args.instance a c.args.leaf (Err c.in_err-left.field-0.0)) whole c.in_err-left.ensures.stepped))
+
+pub step_front-returns-clause-stepped : goal.step_front-returns-clause-stepped
+step_front-returns-clause-stepped t c leaves =
+    let d = design_of c.args.plan.now in
+    let whole : plain_arms c.replace-half.result ≡ plain_arms c.args.one.value = ap plain_arms (c.replace-half.ensures.value ∙ c.deref_mut.ensures.value) in
+    front_goes d (rows_of c.args.machine.now) (rows_of c.step_arms.new.machine) c.args.instance (plain_arms c.args.one.value) (plain_arms c.args.other.value) leaves c.args.leaf c.requires.leaf c.in_ok-left.left c.front_left.result
+    (subst (λ a. HaveStepped d (rows_of c.args.machine.now) (rows_of c.step_arms.new.machine) c.args.instance a c.args.leaf (Ok c.in_ok-left.left)) whole c.in_ok-left.ensures.stepped) c.front_left.ensures
+
+pub step_back-step_arms-requires : goal.step_back-step_arms-requires
+step_back-step_arms-requires t c =
+    let whole : plain_arms c.replace-half.result ≡ plain_arms c.args.other.value = ap plain_arms (c.replace-half.ensures.value ∙ c.deref_mut.ensures.value) in
+    let size : sizes_of (plain_arms c.replace-half.result) ≡ sizes_of (plain_arms c.args.other.value) = ap sizes_of whole in
+    let leaves : arms_leaves (plain_arms c.replace-half.result) ≡ arms_leaves (plain_arms c.args.other.value) = ap arms_leaves whole in
+    let less = c.requires.leaf in (
+      omega (arith, c.decreases, size),
+      (c.requires.plan, (c.requires.machine, (c.requires.instance, (subst (AreShown (design_of c.args.plan.now) c.args.instance) (sym whole) c.requires.shown, omega (arith, less, leaves))))),
+    )
+
+pub step_back-returns-in_err-left-clause-stepped : goal.step_back-returns-in_err-left-clause-stepped
+step_back-returns-in_err-left-clause-stepped t c leaves =
+    let d = design_of c.args.plan.now in
+    let whole : plain_arms c.replace-half.result ≡ plain_arms c.args.other.value = ap plain_arms (c.replace-half.ensures.value ∙ c.deref_mut.ensures.value) in
+    let p = err_from_is_err_and c.from_residual.result c.from_residual.ensures.1 in
+    rw (p.1, p.2)
+    (back_stops d (rows_of c.args.machine.now) (rows_of c.step_arms.new.machine) c.args.instance (plain_arms c.args.one.value) (plain_arms c.args.other.value) leaves c.args.leaf c.in_err-left.field-0.0
+    (subst (λ a. HaveStepped d (rows_of c.args.machine.now) (rows_of c.step_arms.new.machine) c.args.instance a c.args.leaf (Err c.in_err-left.field-0.0)) whole c.in_err-left.ensures.stepped))
+
+pub step_back-returns-clause-stepped : goal.step_back-returns-clause-stepped
+step_back-returns-clause-stepped t c leaves =
+    let d = design_of c.args.plan.now in
+    let whole : plain_arms c.replace-half.result ≡ plain_arms c.args.other.value = ap plain_arms (c.replace-half.ensures.value ∙ c.deref_mut.ensures.value) in
+    back_goes d (rows_of c.args.machine.now) (rows_of c.step_arms.new.machine) c.args.instance (plain_arms c.args.one.value) (plain_arms c.args.other.value) leaves c.args.leaf c.in_ok-left.left c.back_left.result
+    (subst (λ a. HaveStepped d (rows_of c.args.machine.now) (rows_of c.step_arms.new.machine) c.args.instance a c.args.leaf (Ok c.in_ok-left.left)) whole c.in_ok-left.ensures.stepped) c.back_left.ensures
 
 pub step_call-child_number-number-requires-clause-part : goal.step_call-child_number-number-requires-clause-part
 step_call-child_number-number-requires-clause-part t c = call_part (design_of c.args.plan.now) c.args.instance c.args.group c.args.cell (seen_items (λ v. v.items) c.args.inputs) (plain_strand c.args.child) c.requires.shown
@@ -219,14 +331,6 @@ step_call-returns-clause-stepped t c =
     let part : IsPart d c.args.instance c.args.cell = call_part d c.args.instance c.args.group c.args.cell (seen_items (λ v. v.items) c.args.inputs) (plain_strand c.args.child) c.requires.shown in
     call_goes d (rows_of c.args.machine.now) (rows_of c.hold_call.new.machine) (rows_of c.step.new.machine) c.args.instance c.args.group c.args.cell c.child_number-number.result c.args.leaf (seen_items (λ v. v.items) c.args.inputs) (plain_strand c.args.child)
     c.in_ok-inputs.inputs.items part c.child_number-number.ensures c.requires.instance c.in_ok-inputs.ensures.held c.in_ok-left.left c.in_ok-call_left.field-0 c.in_ok-left.ensures.stepped c.in_ok-call_left.ensures
-
-pub step_par-arms_left-requires : goal.step_par-arms_left-requires
-step_par-arms_left-requires t c =
-    let found : IsArmOf (map plain_strand c.args.arms.items) c.args.leaf c.find_arm-found.result.arm c.find_arm-found.result.leaf = subst (λ (xs : List Strand). IsArmOf (map plain_strand xs) c.args.leaf c.find_arm-found.result.arm c.find_arm-found.result.leaf) c.deref.ensures.value c.find_arm-found.ensures in
-    let there = arm_there c.args.arms.items c.args.leaf c.find_arm-found.result.arm c.find_arm-found.result.leaf found in
-    let long = length-remove c.args.arms.items c.find_arm-found.result.arm there in
-    let same = ap (λ (xs : List Strand). length xs) c.remove-arm.ensures.items in
-    omega (arith, there, long, same)
 
 pub step-step_group-requires-clause-group : goal.step-step_group-requires-clause-group
 step-step_group-requires-clause-group t c =
@@ -302,25 +406,25 @@ step-returns-in-Closing-clause-stepped t c =
 
 pub step-returns-in-InSeq-clause-stepped : goal.step-returns-in-InSeq-clause-stepped
 step-returns-in-InSeq-clause-stepped t c =
-    let whole : plain_strand c.args.strand ≡ ASeq (plain_strand c.into_inner-first.result) (plain_statements c.in-InSeq.later.now) = ap plain_strand c.in-InSeq.is ∙ is_seq c.in-InSeq.first c.in-InSeq.later ∙ ap (λ (x : Strand). ASeq (plain_strand x) (plain_statements c.in-InSeq.later.now)) (sym c.into_inner-first.ensures) in
+    let whole : plain_strand c.args.strand ≡ ASeq (plain_strand c.replace-first.result) (plain_statements c.in-InSeq.later.now) = ap plain_strand c.in-InSeq.is ∙ is_seq c.in-InSeq.first c.in-InSeq.later ∙ ap (λ (x : Strand). ASeq (plain_strand x) (plain_statements c.in-InSeq.later.now)) (sym (c.replace-first.ensures.value ∙ c.deref_mut.ensures.value)) in
     subst (λ p. HasStepped (design_of c.args.plan.now) (rows_of c.args.machine.now) (rows_of c.step_seq.new.machine) c.args.instance p c.args.leaf c.step_seq.result) (sym whole) c.step_seq.ensures.stepped
 
 pub step-returns-in-InPar-clause-stepped : goal.step-returns-in-InPar-clause-stepped
 step-returns-in-InPar-clause-stepped t c =
-    let whole : plain_strand c.args.strand ≡ APar (strands_of (map plain_strand c.in-InPar.arms.items)) = ap plain_strand c.in-InPar.is ∙ is_par c.in-InPar.arms in
+    let whole : plain_strand c.args.strand ≡ APar (plain_arms c.replace-arms.result) = ap plain_strand c.in-InPar.is ∙ is_par c.in-InPar.arms ∙ ap (λ (x : Arms). APar (plain_arms x)) (sym (c.replace-arms.ensures.value ∙ c.deref_mut-in-InPar.ensures.value)) in
     subst (λ p. HasStepped (design_of c.args.plan.now) (rows_of c.args.machine.now) (rows_of c.step_par.new.machine) c.args.instance p c.args.leaf c.step_par.result) (sym whole) c.step_par.ensures.stepped
 
 pub step-returns-in-InLoop-clause-stepped : goal.step-returns-in-InLoop-clause-stepped
 step-returns-in-InLoop-clause-stepped t c =
-    let whole : plain_strand c.args.strand ≡ ALoop (plain_strand c.into_inner-run.result) c.in-InLoop.port c.in-InLoop.comb (plain_statement c.in-InLoop.body.now) = ap plain_strand c.in-InLoop.is ∙ is_loop c.in-InLoop.run' c.in-InLoop.port c.in-InLoop.comb c.in-InLoop.body ∙ ap (λ (x : Strand). ALoop (plain_strand x) c.in-InLoop.port c.in-InLoop.comb (plain_statement c.in-InLoop.body.now)) (sym c.into_inner-run.ensures) in
+    let whole : plain_strand c.args.strand ≡ ALoop (plain_strand c.replace-run.result) c.in-InLoop.port c.in-InLoop.comb (plain_statement c.in-InLoop.body.now) = ap plain_strand c.in-InLoop.is ∙ is_loop c.in-InLoop.run' c.in-InLoop.port c.in-InLoop.comb c.in-InLoop.body ∙ ap (λ (x : Strand). ALoop (plain_strand x) c.in-InLoop.port c.in-InLoop.comb (plain_statement c.in-InLoop.body.now)) (sym (c.replace-run.ensures.value ∙ c.deref_mut-in-InLoop.ensures.value)) in
     subst (λ p. HasStepped (design_of c.args.plan.now) (rows_of c.args.machine.now) (rows_of c.step_loop.new.machine) c.args.instance p c.args.leaf c.step_loop.result) (sym whole) c.step_loop.ensures.stepped
 
 pub step-returns-in-InRepeat-clause-stepped : goal.step-returns-in-InRepeat-clause-stepped
 step-returns-in-InRepeat-clause-stepped t c =
-    let whole : plain_strand c.args.strand ≡ ARepeat (plain_strand c.into_inner-run-in-InRepeat.result) c.in-InRepeat.left (plain_statement c.in-InRepeat.body.now) = ap plain_strand c.in-InRepeat.is ∙ is_repeat c.in-InRepeat.run' c.in-InRepeat.left c.in-InRepeat.body ∙ ap (λ (x : Strand). ARepeat (plain_strand x) c.in-InRepeat.left (plain_statement c.in-InRepeat.body.now)) (sym c.into_inner-run-in-InRepeat.ensures) in
+    let whole : plain_strand c.args.strand ≡ ARepeat (plain_strand c.replace-run-in-InRepeat.result) c.in-InRepeat.left (plain_statement c.in-InRepeat.body.now) = ap plain_strand c.in-InRepeat.is ∙ is_repeat c.in-InRepeat.run' c.in-InRepeat.left c.in-InRepeat.body ∙ ap (λ (x : Strand). ARepeat (plain_strand x) c.in-InRepeat.left (plain_statement c.in-InRepeat.body.now)) (sym (c.replace-run-in-InRepeat.ensures.value ∙ c.deref_mut-in-InRepeat.ensures.value)) in
     subst (λ p. HasStepped (design_of c.args.plan.now) (rows_of c.args.machine.now) (rows_of c.step_repeat.new.machine) c.args.instance p c.args.leaf c.step_repeat.result) (sym whole) c.step_repeat.ensures.stepped
 
 pub step-returns-in-InCall-clause-stepped : goal.step-returns-in-InCall-clause-stepped
 step-returns-in-InCall-clause-stepped t c =
-    let whole : plain_strand c.args.strand ≡ ACall c.in-InCall.group c.in-InCall.cell (seen_items (λ v. v.items) c.in-InCall.inputs) (plain_strand c.into_inner-child.result) = ap plain_strand c.in-InCall.is ∙ is_call c.in-InCall.group c.in-InCall.cell c.in-InCall.inputs c.in-InCall.child ∙ ap (λ (x : Strand). ACall c.in-InCall.group c.in-InCall.cell (seen_items (λ v. v.items) c.in-InCall.inputs) (plain_strand x)) (sym c.into_inner-child.ensures) in
+    let whole : plain_strand c.args.strand ≡ ACall c.in-InCall.group c.in-InCall.cell (seen_items (λ v. v.items) c.in-InCall.inputs) (plain_strand c.replace-child.result) = ap plain_strand c.in-InCall.is ∙ is_call c.in-InCall.group c.in-InCall.cell c.in-InCall.inputs c.in-InCall.child ∙ ap (λ (x : Strand). ACall c.in-InCall.group c.in-InCall.cell (seen_items (λ v. v.items) c.in-InCall.inputs) (plain_strand x)) (sym (c.replace-child.ensures.value ∙ c.deref_mut-in-InCall.ensures.value)) in
     subst (λ p. HasStepped (design_of c.args.plan.now) (rows_of c.args.machine.now) (rows_of c.step_call.new.machine) c.args.instance p c.args.leaf c.step_call.result) (sym whole) c.step_call.ensures.stepped

@@ -23,7 +23,7 @@ returns-clause-woven c =
     let words = words_in c.args.loaded.now.memories.items in
     let ready = c.in_ok-interp.ensures.ready in
     let x = woven d words (by_list c.args.list.now) c.args.steps in
-    let rows = rows_of c.weave_on.new.machine in
+    let rows = rows_of c.weave_plan.new.machine in
     let ends : EndsIn d rows c.in_ok-wove.wove x =
     given_ends c.in_ok-interp.interp.plan.design.now c.args.design.now ready.design (by_list c.args.list.now) c.args.steps (rows_of c.in_ok-interp.interp.machine) words rows c.in_ok-wove.wove c.in_ok-wove.ensures.woven ready.stands in
     tells_woven d rows x c.in_ok-wove.wove ends
@@ -34,7 +34,7 @@ returns-clause-run c =
     let words = words_in c.args.loaded.now.memories.items in
     let ready = c.in_ok-interp.ensures.ready in
     let x = woven d words (by_list c.args.list.now) c.args.steps in
-    let rows = rows_of c.weave_on.new.machine in
+    let rows = rows_of c.weave_plan.new.machine in
     let ends : EndsIn d rows c.in_ok-wove.wove x =
     given_ends c.in_ok-interp.interp.plan.design.now c.args.design.now ready.design (by_list c.args.list.now) c.args.steps (rows_of c.in_ok-interp.interp.machine) words rows c.in_ok-wove.wove c.in_ok-wove.ensures.woven ready.stands in
     let design : IsDesign d = subst (λ (e : Design). IsDesign (plain_design e)) ready.design ready.plan.design in
@@ -48,7 +48,7 @@ returns-clause-arm c =
     let words = words_in c.args.loaded.now.memories.items in
     let ready = c.in_ok-interp.ensures.ready in
     let x = woven d words (by_list c.args.list.now) c.args.steps in
-    let rows = rows_of c.weave_on.new.machine in
+    let rows = rows_of c.weave_plan.new.machine in
     let ends : EndsIn d rows c.in_ok-wove.wove x =
     given_ends c.in_ok-interp.interp.plan.design.now c.args.design.now ready.design (by_list c.args.list.now) c.args.steps (rows_of c.in_ok-interp.interp.machine) words rows c.in_ok-wove.wove c.in_ok-wove.ensures.woven ready.stands in
     let design : IsDesign d = subst (λ (e : Design). IsDesign (plain_design e)) ready.design ready.plan.design in
@@ -61,7 +61,7 @@ returns-clause-words c =
     let words = words_in c.args.loaded.now.memories.items in
     let ready = c.in_ok-interp.ensures.ready in
     let x = woven d words (by_list c.args.list.now) c.args.steps in
-    let rows = rows_of c.weave_on.new.machine in
+    let rows = rows_of c.weave_plan.new.machine in
     let old = plain_loaded c.args.loaded.now in
     let ends : EndsIn d rows c.in_ok-wove.wove x =
     given_ends c.in_ok-interp.interp.plan.design.now c.args.design.now ready.design (by_list c.args.list.now) c.args.steps (rows_of c.in_ok-interp.interp.machine) words rows c.in_ok-wove.wove c.in_ok-wove.ensures.woven ready.stands in

@@ -12,7 +12,7 @@ use Rattle.cx_weave.specs.Strands.{IsShown, plain_strand, strand_leaves}
 use Rattle.cx_weave.specs.declared.weaving.Wove.TheVariants.{End}
 use Rattle.cx_weave.specs.Results.{EndsIn}
 use Rattle.cx_weave.specs.Woven.{by_list, woven}
-use Rattle.cx_weave.proofs.PartSteps.{some_leaf}
+use Rattle.cx_weave.proofs.PartSteps.{counted_shown, some_leaf}
 use Rattle.cx_weave.proofs.WeaveSteps.{WovenSoFar, left_shown, weave_ends, weave_goes, weave_halts, weave_more, weave_starts}
 use Rattle.cx_weave.proofs.weaving.weave_on.Goals as goal
 
@@ -36,6 +36,11 @@ pub chosen_leaf-leaf-requires-clause-leaves : goal.chosen_leaf-leaf-requires-cla
 chosen_leaf-leaf-requires-clause-leaves c =
     let shown : IsShown (design_of c.args.plan.now) 0 (plain_strand c.loop-made.strand) = c.loop-made.invariant.1 in
     some_leaf (design_of c.args.plan.now) 0 (plain_strand c.loop-made.strand) shown.0 shown.1
+
+pub chosen_leaf-leaf-requires-clause-counted : goal.chosen_leaf-leaf-requires-clause-counted
+chosen_leaf-leaf-requires-clause-counted c =
+    let shown : IsShown (design_of c.args.plan.now) 0 (plain_strand c.loop-made.strand) = c.loop-made.invariant.1 in
+    counted_shown (design_of c.args.plan.now) 0 (plain_strand c.loop-made.strand) shown.0 shown.1
 
 pub step-requires-clause-instance : goal.step-requires-clause-instance
 step-requires-clause-instance c = main_there (tree_of (design_of c.args.plan.now))

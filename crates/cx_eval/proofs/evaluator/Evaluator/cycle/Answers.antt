@@ -1,10 +1,22 @@
-use Rattle.std.proofs.Common.{subst}
+use Rattle.std.proofs.Common.{◌≡◌, length, sym, subst, arith}
+use Rattle.std.proofs.lemmas.List.{with_items_is}
 use Rattle.cx_meaning.specs.Cycles.{every_cell}
 use Rattle.cx_design.specs.PlainDesigns.{plain_design}
 use Rattle.cx_state.specs.States.{plain_state}
 use Rattle.cx_eval.specs.Evaluated.{Cycled}
+use Rattle.cx_eval.specs.Tables.{AreRooms}
 use Rattle.cx_eval.proofs.evaluator.Evaluator.cycle.Goals as goal
 
 pub returns-clause-value : goal.returns-clause-value
 returns-clause-value c =
-    subst (λ design. Cycled (plain_design design) (plain_state c.args.state.now) (plain_state c.cycle_in.new.state) c.args.instance c.args.active.now every_cell c.cycle_in.result) c.self.view_is c.cycle_in.ensures.value
+    subst (λ design. Cycled (plain_design design) (plain_state c.args.state.now) (plain_state c.cycle_all.new.state) c.args.instance c.args.active.now every_cell c.cycle_all.result) c.self.view_is c.cycle_all.ensures.value
+
+pub cycle_all-requires-clause-rooms : goal.cycle_all-requires-clause-rooms
+cycle_all-requires-clause-rooms c = subst (AreRooms c.self.inside.tables) (sym c.deref_mut.ensures.value) c.self.invariant.2
+
+pub invariant_of-self : goal.invariant_of-self
+invariant_of-self c =
+    let old = c.self.inside.rooms in
+    let new = c.cycle_all.new.rooms in
+    let count : length new ≡ old.len = omega (arith, c.cycle_all.auto.rooms, c.deref_mut.ensures.len) in
+    (c.self.invariant.0, c.cycle_all.ensures.count, subst (AreRooms c.self.inside.tables) (sym (with_items_is old new count)) c.cycle_all.ensures.rooms)

@@ -11,5 +11,9 @@ returns-clause-tables c = record {
   table = subst (λ d. IsTable (plain_design d) c.in_ok-table.table.rows.items c.in_ok-table.table.children.items) (sym c.design-design.ensures.value) c.in_ok-table.ensures.value;
   numbered = c.in_ok-nodes.ensures.value;
   driven = c.in_ok-drivers.ensures.value;
+  stepping = c.in_ok-parts.ensures.value;
   nothing = refl;
 }
+
+pub stepping_parts-requires : goal.stepping_parts-requires
+stepping_parts-requires c = record { design = kept_design c.design-design.result.now }

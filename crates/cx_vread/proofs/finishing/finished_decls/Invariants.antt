@@ -1,0 +1,15 @@
+use Rattle.std.proofs.Common.{◌≡◌, true, ◌++◌, length, map}
+use Rattle.std.specs.List.{list_all}
+use Rattle.std.specs.Vec.Iter.{into_iter_items, into_iter_len}
+use Rattle.cx_vtree.specs.PlainParts.{plain_decl}
+use Rattle.cx_vscope.specs.Drafts.{draft_decl}
+use Rattle.cx_vread.specs.Held.{holds_decl}
+use Rattle.cx_vread.proofs.finishing.finished_decls.Given as goal
+
+-- what is finished and what is left is all, and a tree holds what is left
+abbrev pub invariant-loop-draft : goal.invariant-loop-draft
+invariant-loop-draft l = record {
+  all : map plain_decl l.decls.items ++ map draft_decl (into_iter_items l.draft-iterator) ≡ map draft_decl l.fn.drafts.items;
+  held : list_all holds_decl (map draft_decl (into_iter_items l.draft-iterator)) ≡ true;
+  count : into_iter_len l.draft-iterator ≡ length (into_iter_items l.draft-iterator);
+}

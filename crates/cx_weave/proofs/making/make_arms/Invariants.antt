@@ -1,0 +1,5 @@
+use Rattle.std.proofs.Common.{◌≡◌, length}
+use Rattle.cx_weave.proofs.making.make_arms.Given as goal
+
+abbrev pub invariant-loop-box : goal.invariant-loop-box
+invariant-loop-box l = length l.arms.items ≡ l._box
