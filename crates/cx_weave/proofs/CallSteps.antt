@@ -1,5 +1,6 @@
 -- A turn of the child of a call, as one of the call.
 use Rattle.std.proofs.Common.{◌≡◌, ◌≢◌, ℕ, ◌≤◌, ◌<◌, List, [], ◌∷◌, ◌++◌, get_or, Option, Result, Ok, Err, sym, ◌∙◌, subst, arith}
+use Rattle.cx_design.specs.declared.actives.PortFault.{PortFault}
 use Rattle.cx_meaning.specs.declared.sights.Seen.{Seen}
 use Rattle.cx_meaning.specs.Designs.{PlainDesign}
 use Rattle.cx_meaning.specs.Instances.{Instance, Node, OfInstance, Path, State, under, cell_at, cells_of, instance_at, paths_of, tree_of}
@@ -12,8 +13,6 @@ use Rattle.cx_interp.specs.Machines.{IsInstance}
 use Rattle.cx_interp.proofs.CallLemmas.{append_one, under_child, put_child, child_after, called_is}
 use Rattle.cx_interp.proofs.Measures.{instance_child}
 use Rattle.cx_interp.proofs.RestLemmas.{got}
-use Rattle.cx_weave.specs.declared.strands.Halt.{Halt}
-use Rattle.cx_weave.specs.declared.strands.Halt.TheVariants as halts
 use Rattle.cx_weave.specs.declared.strands.Strand.{Strand}
 use Rattle.cx_weave.specs.Calls.{HoldsAs}
 use Rattle.cx_weave.specs.Open.{Open}
@@ -47,14 +46,13 @@ module _ (d : PlainDesign) (new : List PlainInstance) (n c m : ℕ) (path : Path
   lift_goes left after f (Now o own) turn told = (subst (λ (y : State). StandsFor (tree_of d) new y) (put_child path c own s) told.0, turn o told.1)
   lift_goes left after f (Stops fault) turn told = absurd told
 
-  lift_stops : (halt : Halt) (f : Option Open → Option Open) (x : Stepped (Option Open)) → StepTold d m (path ++ c ∷ []) s new (Err halt) x → StepTold d n path s new (Err halt) (lift_step c (under_path path s) f x)
-  lift_stops (halts.Fault told) f (Now o own) bad = absurd bad
-  lift_stops (halts.Fault told) f (Stops fault) tells = subst (λ p. TellsFault (tree_of d) (record { kind = fault.kind; path = p; port = fault.port }) told) (append_one path c fault.path) tells
-  lift_stops halts.Memory f x tells = tt
+  lift_stops : (halt : PortFault) (f : Option Open → Option Open) (x : Stepped (Option Open)) → StepTold d m (path ++ c ∷ []) s new (Err halt) x → StepTold d n path s new (Err halt) (lift_step c (under_path path s) f x)
+  lift_stops told f (Now o own) bad = absurd bad
+  lift_stops told f (Stops fault) tells = subst (λ p. TellsFault (tree_of d) (record { kind = fault.kind; path = p; port = fault.port }) told) (append_one path c fault.path) tells
 
 -- THE CHILD'S TURN, with the inputs of the call held
 module _ (d : PlainDesign) (old mid new : List PlainInstance) (n g c m k : ℕ) (before : Option (List Seen)) (child : PlainStrand) (inputs : List Seen) (part : IsPart d n c) (has : HasChild d n c m) (inside : IsInstance d n) (holds : HoldsAs d old mid n g c m before inputs) where
-  child_turn : (path : Path) (s : State) (o : Open) (r : Result (Option Strand) Halt) → IsNumber d n path → StandsFor (tree_of d) old s → HasStepped d mid new m child k r → (now : Open) (j : ℕ) → HasChild d n c j → Shows d j child now
+  child_turn : (path : Path) (s : State) (o : Open) (r : Result (Option Strand) PortFault) → IsNumber d n path → StandsFor (tree_of d) old s → HasStepped d mid new m child k r → (now : Open) (j : ℕ) → HasChild d n c j → Shows d j child now
       → StepTold d m (path ++ c ∷ []) s new r (step (instance_at (instance_at (tree_of d) path) (c ∷ [])) (held_as inputs) now k (under c (under_path path s)))
   child_turn path s o r number stands stepped now j at shown =
       let shown2 : Shows d m child now = subst (λ x. Shows d x child now) (same_child d n c j m at has path number) shown in
@@ -83,7 +81,7 @@ module _ (d : PlainDesign) (old mid new : List PlainInstance) (n g c m k : ℕ) 
     held = held_above stepped.held;
   }
 
-  pub call_stops : (halt : Halt) → HasStepped d mid new m child k (Err halt) → HasStepped d old new n (ACall g c before child) k (Err halt)
+  pub call_stops : (halt : PortFault) → HasStepped d mid new m child k (Err halt) → HasStepped d old new n (ACall g c before child) k (Err halt)
   call_stops halt stepped = record {
     tells = λ path s o number stands (now, is, group, calls, fits, (j, at, shown)).
         let i = instance_at (tree_of d) path in

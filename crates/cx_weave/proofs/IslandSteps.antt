@@ -28,7 +28,6 @@ use Rattle.cx_interp.specs.Rooms.{HasActive}
 use Rattle.cx_interp.specs.Turns.{cycle_as}
 use Rattle.cx_interp.proofs.IslandLemmas.{entries_are}
 use Rattle.cx_interp.proofs.TestLemmas.{tells_own}
-use Rattle.cx_weave.specs.declared.strands.Halt.TheVariants as halts
 use Rattle.cx_weave.specs.declared.strands.Strand.{Strand}
 use Rattle.cx_weave.specs.Open.{InIsland}
 use Rattle.cx_weave.specs.Steps.{step, turned}
@@ -222,14 +221,14 @@ module _ (d : PlainDesign) (old new : List PlainInstance) (n k : ℕ) (form : Pl
       held = λ m input le. held m input;
     }
 
-    pub island_stops : (told : PortFault) → IslandTaken d old new n form t (samples_of samples) (samples_of next) (Err told) → HasStepped d old new n (AnIsland form t (suc left) samples cells) k (Err (halts.Fault told))
+    pub island_stops : (told : PortFault) → IslandTaken d old new n form t (samples_of samples) (samples_of next) (Err told) → HasStepped d old new n (AnIsland form t (suc left) samples cells) k (Err told)
     island_stops told taken = record {
       tells = λ path s o number stands (h, e, at).
           let i = instance_at (tree_of d) path in
           let u = under_path path s in
           let now = samples_now i (inputs_held old n) form h t u in
           let stopped = (taken path s h number stands (at.knows path number)).1 in
-          subst (λ x. StepTold d n path s new (Err (halts.Fault told)) (step i (inputs_held old n) x k u)) (sym e)
-          (subst (λ x. StepTold d n path s new (Err (halts.Fault told)) (turned x u (InIsland form (suc t) left now))) (sym stopped.2) stopped.1);
+          subst (λ x. StepTold d n path s new (Err told) (step i (inputs_held old n) x k u)) (sym e)
+          (subst (λ x. StepTold d n path s new (Err told) (turned x u (InIsland form (suc t) left now))) (sym stopped.2) stopped.1);
       held = λ m input le. held m input;
     }

@@ -1,5 +1,5 @@
 -- Turns of leaves, as turns of their strands.
-use Rattle.std.proofs.Common.{◌≡◌, ℕ, ◌≤◌, true, false, List, Option, Some, None, Result, Ok, Err, refl, sym, ap, ◌∙◌, subst}
+use Rattle.std.proofs.Common.{◌≡◌, ℕ, true, false, List, Option, Some, None, Result, Ok, Err, refl, sym, ap, ◌∙◌, subst}
 use Rattle.cx_meaning.specs.declared.ports.PortRef.{PortRef}
 use Rattle.cx_meaning.specs.declared.ports.PlacedPort.{PlacedPort}
 use Rattle.cx_meaning.specs.Designs.{PlainDesign, PlainStatement}
@@ -18,8 +18,6 @@ use Rattle.cx_interp.specs.declared.turns.Turn.{Turn}
 use Rattle.cx_interp.specs.declared.turns.Turn.TheVariants as turns
 use Rattle.cx_interp.specs.Tests.{Tested}
 use Rattle.cx_interp.proofs.PathLemmas.{put_same}
-use Rattle.cx_weave.specs.declared.strands.Halt.{Halt}
-use Rattle.cx_weave.specs.declared.strands.Halt.TheVariants as halts
 use Rattle.cx_weave.specs.declared.strands.Strand.{Strand}
 use Rattle.cx_weave.specs.Open.{Open, InGroup, Choosing, Testing, Capturing, Closing, Waiting, InLoop, open_statement}
 use Rattle.cx_weave.specs.Steps.{Now, step, turned, tested}
@@ -54,7 +52,7 @@ module _ (d : PlainDesign) (n k : ℕ) where
   }
 
   -- A LEAF that shows one open statement
-  leaf_steps : (old new : List PlainInstance) (p : PlainStrand) (leaf : Open) (result : Result (Option Strand) Halt) → ((o : Open) → Shows d n p o → o ≡ leaf)
+  leaf_steps : (old new : List PlainInstance) (p : PlainStrand) (leaf : Open) (result : Result (Option Strand) PortFault) → ((o : Open) → Shows d n p o → o ≡ leaf)
       → ((path : Path) (s : State) → IsNumber d n path → StandsFor (tree_of d) old s → StepTold d n path s new result (step (instance_at (tree_of d) path) (inputs_held old n) leaf k (under_path path s)))
       → HeldAlike old new → HasStepped d old new n p k result
   leaf_steps old new p leaf result is told held = record {
@@ -87,11 +85,11 @@ module _ (d : PlainDesign) (n k : ℕ) where
 
   turn_faults : (old new : List PlainInstance) (told : PortFault) (later : Open) (doing : Instance → Held → State → answers.Turn State Fault) (idle : Instance → State → State) → TakesTurn d old new n (turns.Faults told) doing
       → (path : Path) (s : State) → IsNumber d n path → StandsFor (tree_of d) old s
-      → StepTold d n path s new (Err (halts.Fault told)) (turned (doing (instance_at (tree_of d) path) (inputs_held old n) (under_path path s)) (idle (instance_at (tree_of d) path) (under_path path s)) later)
+      → StepTold d n path s new (Err told) (turned (doing (instance_at (tree_of d) path) (inputs_held old n) (under_path path s)) (idle (instance_at (tree_of d) path) (under_path path s)) later)
   turn_faults old new told later doing idle taken path s number stands =
       let i = instance_at (tree_of d) path in
       let stopped = taken path s number stands in
-      subst (λ t. StepTold d n path s new (Err (halts.Fault told)) (turned t (idle i (under_path path s)) later)) (sym stopped.2) stopped.1
+      subst (λ t. StepTold d n path s new (Err told) (turned t (idle i (under_path path s)) later)) (sym stopped.2) stopped.1
 
   -- GROUPS
   module _ (old mid : List PlainInstance) (g : ℕ) (path : Path) (s : State) (number : IsNumber d n path) (stands : StandsFor (tree_of d) old s) where
@@ -106,9 +104,9 @@ module _ (d : PlainDesign) (n k : ℕ) where
         (turn_goes old mid strand (InGroup g) (λ i held t. own_turn i held g t) (λ i t. rested i (group_drives (part_of i) g) t) taken shown)
         (turn_held d old mid n turns.Goes (λ i held t. own_turn i held g t) taken path s number stands)
 
-    pub group_faults : (told : PortFault) → TakesTurn d old mid n (turns.Faults told) (λ i held t. own_turn i held g t) → HasStepped d old mid n (AGroup g) k (Err (halts.Fault told))
+    pub group_faults : (told : PortFault) → TakesTurn d old mid n (turns.Faults told) (λ i held t. own_turn i held g t) → HasStepped d old mid n (AGroup g) k (Err told)
     group_faults told taken =
-        leaf_steps old mid (AGroup g) (InGroup g) (Err (halts.Fault told)) (λ o shown. shown.0)
+        leaf_steps old mid (AGroup g) (InGroup g) (Err told) (λ o shown. shown.0)
         (turn_faults old mid told (InGroup g) (λ i held t. own_turn i held g t) (λ i t. rested i (group_drives (part_of i) g) t) taken)
         (turn_held d old mid n (turns.Faults told) (λ i held t. own_turn i held g t) taken path s number stands)
 
@@ -119,9 +117,9 @@ module _ (d : PlainDesign) (n k : ℕ) where
         (turn_goes old mid strand (Closing g) (λ i held t. own_capture i held g c t) (λ i t. t) taken shown)
         (turn_held d old mid n turns.Goes (λ i held t. own_capture i held g c t) taken path s number stands)
 
-    pub capture_faults : (c : ℕ) (told : PortFault) → TakesTurn d old mid n (turns.Faults told) (λ i held t. own_capture i held g c t) → HasStepped d old mid n (ACapture g c) k (Err (halts.Fault told))
+    pub capture_faults : (c : ℕ) (told : PortFault) → TakesTurn d old mid n (turns.Faults told) (λ i held t. own_capture i held g c t) → HasStepped d old mid n (ACapture g c) k (Err told)
     capture_faults c told taken =
-        leaf_steps old mid (ACapture g c) (Capturing g c) (Err (halts.Fault told)) (λ o shown. shown.0)
+        leaf_steps old mid (ACapture g c) (Capturing g c) (Err told) (λ o shown. shown.0)
         (turn_faults old mid told (Closing g) (λ i held t. own_capture i held g c t) (λ i t. t) taken)
         (turn_held d old mid n (turns.Faults told) (λ i held t. own_capture i held g c t) taken path s number stands)
 
@@ -143,11 +141,11 @@ module _ (d : PlainDesign) (n k : ℕ) where
         subst (λ x. StepTold d n path s new (Ok left) x) (sym (ap (λ t. tested t idle (taken i) (other i)) (is path s number stands) ∙ comes i idle)) (rests.rests path s number stands, shown path number)
 
     test_stops : (told : PortFault) → Tested d old n port comb (Err told) → (path : Path) (s : State) → IsNumber d n path → StandsFor (tree_of d) old s
-        → StepTold d n path s new (Err (halts.Fault told)) (tested (test (instance_at (tree_of d) path) (inputs_held old n) port comb (under_path path s)) (rested (instance_at (tree_of d) path) (test_drives (part_of (instance_at (tree_of d) path)) comb) (under_path path s)) (taken (instance_at (tree_of d) path)) (other (instance_at (tree_of d) path)))
+        → StepTold d n path s new (Err told) (tested (test (instance_at (tree_of d) path) (inputs_held old n) port comb (under_path path s)) (rested (instance_at (tree_of d) path) (test_drives (part_of (instance_at (tree_of d) path)) comb) (under_path path s)) (taken (instance_at (tree_of d) path)) (other (instance_at (tree_of d) path)))
     test_stops told is path s number stands =
         let i = instance_at (tree_of d) path in
         let f = is path s number stands in
-        subst (λ t. StepTold d n path s new (Err (halts.Fault told)) (tested t (rested i (test_drives (part_of i) comb) (under_path path s)) (taken i) (other i))) (sym f.2) f.1
+        subst (λ t. StepTold d n path s new (Err told) (tested t (rested i (test_drives (part_of i) comb) (under_path path s)) (taken i) (other i))) (sym f.2) f.1
 
   module _ (old new : List PlainInstance) (port : PlacedPort) (comb : Option ℕ) (a b : PlainStatement) where
     pub choice_holds : (strand : Strand) → Tested d old n port.port comb (Ok true) → HasRested d old new n (λ part. test_drives part comb) → OpensAs d n a strand → HasStepped d old new n (AChoice port comb a b) k (Ok (Some strand))
@@ -160,9 +158,9 @@ module _ (d : PlainDesign) (n k : ℕ) where
         leaf_steps old new (AChoice port comb a b) (Choosing port.port comb a b) (Ok (Some strand)) (λ o shown. shown.0)
         (test_ends old new port.port comb (λ i. Some (open_statement i a)) (λ i. Some (open_statement i b)) Fails (Some strand) (λ i. Some (open_statement i b)) rests opens is (λ i s. refl)) rests.held
 
-    pub choice_stops : (told : PortFault) → Tested d old n port.port comb (Err told) → HeldAlike old new → HasStepped d old new n (AChoice port comb a b) k (Err (halts.Fault told))
+    pub choice_stops : (told : PortFault) → Tested d old n port.port comb (Err told) → HeldAlike old new → HasStepped d old new n (AChoice port comb a b) k (Err told)
     choice_stops told is held =
-        leaf_steps old new (AChoice port comb a b) (Choosing port.port comb a b) (Err (halts.Fault told)) (λ o shown. shown.0)
+        leaf_steps old new (AChoice port comb a b) (Choosing port.port comb a b) (Err told) (λ o shown. shown.0)
         (test_stops old new port.port comb (λ i. Some (open_statement i a)) (λ i. Some (open_statement i b)) told is) held
 
     pub test_holds : (strand : Strand) → Tested d old n port.port comb (Ok true) → HasRested d old new n (λ part. test_drives part comb)
@@ -176,11 +174,7 @@ module _ (d : PlainDesign) (n k : ℕ) where
         leaf_steps old new (ATest port comb a) (Testing port.port comb a) (Ok None) (λ o shown. shown.0)
         (test_ends old new port.port comb (λ i. Some (InLoop (open_statement i a) port.port comb a)) (λ i. None) Fails None (λ i. None) rests (λ path number. tt) is (λ i s. refl)) rests.held
 
-    pub test_unclear : (told : PortFault) → Tested d old n port.port comb (Err told) → HeldAlike old new → HasStepped d old new n (ATest port comb a) k (Err (halts.Fault told))
+    pub test_unclear : (told : PortFault) → Tested d old n port.port comb (Err told) → HeldAlike old new → HasStepped d old new n (ATest port comb a) k (Err told)
     test_unclear told is held =
-        leaf_steps old new (ATest port comb a) (Testing port.port comb a) (Err (halts.Fault told)) (λ o shown. shown.0)
+        leaf_steps old new (ATest port comb a) (Testing port.port comb a) (Err told) (λ o shown. shown.0)
         (test_stops old new port.port comb (λ i. Some (InLoop (open_statement i a) port.port comb a)) (λ i. None) told is) held
-
-  -- where memory was refused nothing is told
-  pub memory_stops : (old new : List PlainInstance) (p : PlainStrand) → ((m input : ℕ) → m ≤ n → inputs_held new m input ≡ inputs_held old m input) → HasStepped d old new n p k (Err halts.Memory)
-  memory_stops old new p held = record { tells = λ path s o number stands shown. tt; held = held }

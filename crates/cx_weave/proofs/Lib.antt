@@ -22,6 +22,15 @@ mod RestSteps
 mod RoomSteps
 mod NeedSteps
 mod TakenSteps
+mod Amounts
+mod Ledgers
+mod Supplies
+mod OpenSupplies
+mod PartLedgers
+mod IslandSupplies
+mod TurnLedgers
+mod WeaveSupplies
+mod MadeSupplies
 mod OpenSteps
 mod IslandSteps
 mod HeldSteps
@@ -31,5 +40,6 @@ mod WeaveSteps
 mod ArmSteps
 mod StrandFolds
 mod MarkSteps
+mod MarkLists
 mod StrandSizes
 mod EndSteps

@@ -90,7 +90,7 @@ kind_island k i child g cycles kinds.Plain e = absurd (let f : ◌≡◌ {A = Op
 kind_island k i child g cycles kinds.Comb e = absurd (let f : ◌≡◌ {A = Option ℕ} (Some cycles) None = e in cc)
 kind_island k i child g cycles (kinds.Timed length) e = refl
 
-control_is : (k : Piece) (i : Instance) → control_need k i ≡ need k i (part_of i).control
+pub control_is : (k : Piece) (i : Instance) → control_need k i ≡ need k i (part_of i).control
 control_is k (Node part cells) = refl
 
 child_is : (k : Piece) (cells : Cells) (c : ℕ) (child : Instance) → cell_at cells c ≡ OfInstance child → below_need k cells c ≡ control_need k child
@@ -122,6 +122,18 @@ module _ (d : PlainDesign) (n : ℕ) (k : Piece) where
       let e : need k i (Placed (Enable g) no_place) ≡ call_takes k + below_need k (cells_of i) c =
       kind_called k i (below_need k (cells_of i)) g (group_at (part_of i) g).kind (length path number) ∙ ap (called_need k (below_need k (cells_of i))) calls in
       subst (λ x. Covers told x) (sym e) (both (call_takes k) (below_need k (cells_of i) c) (covers_self own (call_takes k) takes) covers)
+
+-- of a call, with the control of the child of a number
+pub needs_call : (d : PlainDesign) (n : ℕ) (k : Piece) (g c m : ℕ) (control : PlainStatement) → HasLength d n g None → IsPart d n c → HasChild d n c m → HasControl d m control → (path : Path) → IsNumber d n path → called (instance_at (tree_of d) path) g ≡ Some c
+    → need k (instance_at (tree_of d) path) (Placed (Enable g) no_place) ≡ call_takes k + need k (instance_at (tree_of d) (path ++ c ∷ [])) control
+needs_call d n k g c m control length part has controls path number calls =
+    let i = instance_at (tree_of d) path in
+    let p = part path number in
+    let child = instance_at (tree_of d) (path ++ c ∷ []) in
+    let below : below_need k (cells_of i) c ≡ need k child control =
+    child_is k (cells_of i) c p.0 p.1
+    ∙ ap (control_need k) (sym (instance_child (tree_of d) path c p.0 p.1)) ∙ control_is k child ∙ ap (need k child) (sym (controls (path ++ c ∷ []) (has path number))) in
+    kind_called k i (below_need k (cells_of i)) g (group_at (part_of i) g).kind (length path number) ∙ ap (called_need k (below_need k (cells_of i))) calls ∙ ap (λ x. call_takes k + x) below
 
 there_below : {A : Type 0} (xs : List A) (n : ℕ) (x : A) → slice_get xs n ≡ Some x → n < length xs
 there_below [] n x e = absurd (let f : ◌≡◌ {A = Option _} None (Some x) = e in cc)

@@ -178,7 +178,7 @@ module _ (d : PlainDesign) (n : ℕ) where
       ))
 
   -- THE ARMS OF A PAR
-  one_is : (xs : List Statement) (s : Statement) → length xs ≡ 1 → s ≡ get_or xs 0 s → xs ≡ s ∷ []
+  pub one_is : (xs : List Statement) (s : Statement) → length xs ≡ 1 → s ≡ get_or xs 0 s → xs ≡ s ∷ []
   one_is [] s one is = absurd (omega (arith, one))
   one_is (x ∷ []) s one is = ap (λ (y : Statement). y ∷ []) (sym is)
   one_is (x ∷ y ∷ xs) s one is = absurd (omega (arith, one))

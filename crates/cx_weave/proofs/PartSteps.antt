@@ -1,12 +1,11 @@
 -- A turn of a part, as one of the statement around it.
 use Rattle.std.proofs.Common.{◌≡◌, ℕ, ◌+◌, ◌<◌, List, Option, Some, None, Ok, Err, refl, sym, ap, ◌∙◌, subst, arith}
+use Rattle.cx_design.specs.declared.actives.PortFault.{PortFault}
 use Rattle.cx_meaning.specs.declared.ports.PlacedPort.{PlacedPort}
 use Rattle.cx_meaning.specs.Designs.{PlainDesign, PlainStatement, PlainStatements}
 use Rattle.cx_meaning.specs.Instances.{Instance, Path, State, instance_at, tree_of}
 use Rattle.cx_meaning.specs.Sights.{Held}
 use Rattle.cx_state.specs.States.{PlainInstance, inputs_held, under_path}
-use Rattle.cx_weave.specs.declared.strands.Halt.{Halt}
-use Rattle.cx_weave.specs.declared.strands.Halt.TheVariants as halts
 use Rattle.cx_weave.specs.declared.strands.Strand.{Strand}
 use Rattle.cx_weave.specs.declared.strands.Arms.{Arms}
 use Rattle.cx_weave.specs.Open.{Open, InSeq, InPar, InLoop, InRepeat, Opens, no_arms, an_arm, beside, leaves_of, leaves_of_all}
@@ -94,10 +93,9 @@ module _ (d : PlainDesign) (old new : List PlainInstance) (n k : ℕ) where
   around_goes path s left after f (Now o t) turn told = (told.0, turn o told.1)
   around_goes path s left after f (Stops fault) turn told = absurd told
 
-  around_stops : (path : Path) (s : State) (halt : Halt) (f : Option Open → Option Open) (x : Stepped (Option Open)) → StepTold d n path s new (Err halt) x → StepTold d n path s new (Err halt) (within f x)
-  around_stops path s (halts.Fault told) f (Now o t) bad = absurd bad
-  around_stops path s (halts.Fault told) f (Stops fault) tells = tells
-  around_stops path s halts.Memory f x tells = tt
+  around_stops : (path : Path) (s : State) (halt : PortFault) (f : Option Open → Option Open) (x : Stepped (Option Open)) → StepTold d n path s new (Err halt) x → StepTold d n path s new (Err halt) (within f x)
+  around_stops path s told f (Now o t) bad = absurd bad
+  around_stops path s told f (Stops fault) tells = tells
 
   -- A STATEMENT OF WHICH ONE PART IS OPEN
   module _ (whole p : PlainStrand) (wrap : Open → Open) (around : Instance → Option Open → Option Open) (parts : (o : Open) → Shows d n whole o → (run : Open) × (o ≡ wrap run) × Shows d n p run)
@@ -112,7 +110,7 @@ module _ (d : PlainDesign) (old new : List PlainInstance) (n k : ℕ) where
       held = stepped.held;
     }
 
-    part_stops : (halt : Halt) → HasStepped d old new n p k (Err halt) → HasStepped d old new n whole k (Err halt)
+    part_stops : (halt : PortFault) → HasStepped d old new n p k (Err halt) → HasStepped d old new n whole k (Err halt)
     part_stops halt stepped = record {
       tells = λ path s o number stands shown.
           let i = instance_at (tree_of d) path in
@@ -126,21 +124,21 @@ module _ (d : PlainDesign) (old new : List PlainInstance) (n k : ℕ) where
     pub seq_goes : (left after : Option Strand) → HasStepped d old new n p k (Ok left) → LeavesAs d n left after (λ i. seq_left i later) → HasStepped d old new n (ASeq p later) k (Ok after)
     seq_goes = part_goes (ASeq p later) p (λ run. InSeq run later) (λ i. seq_left i later) (λ o shown. (shown.0, shown.1, shown.2)) (λ i held run s. refl)
 
-    pub seq_stops : (halt : Halt) → HasStepped d old new n p k (Err halt) → HasStepped d old new n (ASeq p later) k (Err halt)
+    pub seq_stops : (halt : PortFault) → HasStepped d old new n p k (Err halt) → HasStepped d old new n (ASeq p later) k (Err halt)
     seq_stops = part_stops (ASeq p later) p (λ run. InSeq run later) (λ i. seq_left i later) (λ o shown. (shown.0, shown.1, shown.2)) (λ i held run s. refl)
 
   module _ (p : PlainStrand) (port : PlacedPort) (comb : Option ℕ) (body : PlainStatement) where
     pub loop_goes : (left after : Option Strand) → HasStepped d old new n p k (Ok left) → LeavesAs d n left after (λ i. loop_left port.port comb body) → HasStepped d old new n (ALoop p port comb body) k (Ok after)
     loop_goes = part_goes (ALoop p port comb body) p (λ run. InLoop run port.port comb body) (λ i. loop_left port.port comb body) (λ o shown. (shown.0, shown.1, shown.2)) (λ i held run s. refl)
 
-    pub loop_stops : (halt : Halt) → HasStepped d old new n p k (Err halt) → HasStepped d old new n (ALoop p port comb body) k (Err halt)
+    pub loop_stops : (halt : PortFault) → HasStepped d old new n p k (Err halt) → HasStepped d old new n (ALoop p port comb body) k (Err halt)
     loop_stops = part_stops (ALoop p port comb body) p (λ run. InLoop run port.port comb body) (λ i. loop_left port.port comb body) (λ o shown. (shown.0, shown.1, shown.2)) (λ i held run s. refl)
 
   module _ (p : PlainStrand) (rounds : ℕ) (body : PlainStatement) where
     pub repeat_goes : (left after : Option Strand) → HasStepped d old new n p k (Ok left) → LeavesAs d n left after (λ i. repeat_left i rounds body) → HasStepped d old new n (ARepeat p rounds body) k (Ok after)
     repeat_goes = part_goes (ARepeat p rounds body) p (λ run. InRepeat run rounds body) (λ i. repeat_left i rounds body) (λ o shown. (shown.0, shown.1, shown.2)) (λ i held run s. refl)
 
-    pub repeat_stops : (halt : Halt) → HasStepped d old new n p k (Err halt) → HasStepped d old new n (ARepeat p rounds body) k (Err halt)
+    pub repeat_stops : (halt : PortFault) → HasStepped d old new n p k (Err halt) → HasStepped d old new n (ARepeat p rounds body) k (Err halt)
     repeat_stops = part_stops (ARepeat p rounds body) p (λ run. InRepeat run rounds body) (λ i. repeat_left i rounds body) (λ o shown. (shown.0, shown.1, shown.2)) (λ i held run s. refl)
 
 -- the part that is open is shown too
@@ -179,10 +177,9 @@ module _ (d : PlainDesign) (old new : List PlainInstance) (n : ℕ) where
       subst (λ a. ArmsTold d n path s new (Ok a) (Now (an_arm v o no_arms) t)) (sym is) (told.0, subst (λ a. ShowsAll d n a (an_arm v o no_arms)) (sym plain) (v, o, refl, told.1))
   one_goes path s v left after (Stops fault) is told = absurd told
 
-  one_stops : (path : Path) (s : State) (v : PlainStatement) (halt : Halt) (x : Stepped (Option Open)) → StepTold d n path s new (Err halt) x → ArmsTold d n path s new (Err halt) (within (arms_left v no_arms) x)
-  one_stops path s v (halts.Fault told) (Now o t) bad = absurd bad
-  one_stops path s v (halts.Fault told) (Stops fault) tells = tells
-  one_stops path s v halts.Memory x tells = tt
+  one_stops : (path : Path) (s : State) (v : PlainStatement) (halt : PortFault) (x : Stepped (Option Open)) → StepTold d n path s new (Err halt) x → ArmsTold d n path s new (Err halt) (within (arms_left v no_arms) x)
+  one_stops path s v told (Now o t) bad = absurd bad
+  one_stops path s v told (Stops fault) tells = tells
 
   module _ (arm : PlainStrand) (k : ℕ) (less : k < strand_leaves arm) where
     arm_turn : (path : Path) (s : State) (list : Opens) (v : PlainStatement) (first : Open) → list ≡ an_arm v first no_arms → Shows d n arm first
@@ -199,7 +196,7 @@ module _ (d : PlainDesign) (old new : List PlainInstance) (n : ℕ) where
       held = stepped.held;
     }
 
-    pub arm_stops : (halt : Halt) → HasStepped d old new n arm k (Err halt) → HaveStepped d old new n (one_arm arm) k (Err halt)
+    pub arm_stops : (halt : PortFault) → HasStepped d old new n arm k (Err halt) → HaveStepped d old new n (one_arm arm) k (Err halt)
     arm_stops halt stepped = record {
       tells = λ path s list number stands (v, first, e, shown).
           subst (λ x. ArmsTold d n path s new (Err halt) x) (sym (arm_turn path s list v first e shown))
@@ -228,10 +225,9 @@ module _ (d : PlainDesign) (old new : List PlainInstance) (n : ℕ) where
       (told.0, subst (λ a. ShowsAll d n a (beside front list)) (sym plain) (both_shown d n one (plain_arms other) after front list is first told.1))
   back_told path s one after arms left front (Stops fault) plain is first told = absurd told
 
-  half_stops : (path : Path) (s : State) (halt : Halt) (f : Opens → Opens) (x : Stepped Opens) → ArmsTold d n path s new (Err halt) x → ArmsTold d n path s new (Err halt) (within f x)
-  half_stops path s (halts.Fault told) f (Now o t) bad = absurd bad
-  half_stops path s (halts.Fault told) f (Stops fault) tells = tells
-  half_stops path s halts.Memory f x tells = tt
+  half_stops : (path : Path) (s : State) (halt : PortFault) (f : Opens → Opens) (x : Stepped Opens) → ArmsTold d n path s new (Err halt) x → ArmsTold d n path s new (Err halt) (within f x)
+  half_stops path s told f (Now o t) bad = absurd bad
+  half_stops path s told f (Stops fault) tells = tells
 
   module _ (one other : PlainArms) (leaves k : ℕ) where
     front_turn : (path : Path) (s : State) (list front back : Opens) → k < arms_leaves one → list ≡ beside front back → ShowsAll d n one front
@@ -248,7 +244,7 @@ module _ (d : PlainDesign) (old new : List PlainInstance) (n : ℕ) where
       held = stepped.held;
     }
 
-    pub front_stops : k < arms_leaves one → (halt : Halt) → HaveStepped d old new n one k (Err halt) → HaveStepped d old new n (both_arms leaves one other) k (Err halt)
+    pub front_stops : k < arms_leaves one → (halt : PortFault) → HaveStepped d old new n one k (Err halt) → HaveStepped d old new n (both_arms leaves one other) k (Err halt)
     front_stops less halt stepped = record {
       tells = λ path s list number stands (front, back, e, first, later, told).
           subst (λ x. ArmsTold d n path s new (Err halt) x) (sym (front_turn path s list front back less e first))
@@ -271,7 +267,7 @@ module _ (d : PlainDesign) (old new : List PlainInstance) (n : ℕ) where
       held = stepped.held;
     }
 
-    pub back_stops : (halt : Halt) → HaveStepped d old new n other k (Err halt) → HaveStepped d old new n (both_arms leaves one other) (arms_leaves one + k) (Err halt)
+    pub back_stops : (halt : PortFault) → HaveStepped d old new n other k (Err halt) → HaveStepped d old new n (both_arms leaves one other) (arms_leaves one + k) (Err halt)
     back_stops halt stepped = record {
       tells = λ path s list number stands (front, back, e, first, later, told).
           subst (λ x. ArmsTold d n path s new (Err halt) x) (sym (back_turn path s list front back e first))
@@ -298,10 +294,9 @@ module _ (d : PlainDesign) (old new : List PlainInstance) (n : ℕ) where
       (told.0, subst (λ p. Shows d n p (InPar list)) (sym plain) (list, refl, told.1)))
   par_told path s left after (Stops fault) is told = absurd told
 
-  par_halts : (path : Path) (s : State) (halt : Halt) (x : Stepped Opens) → ArmsTold d n path s new (Err halt) x → StepTold d n path s new (Err halt) (within par_left x)
-  par_halts path s (halts.Fault told) (Now list t) bad = absurd bad
-  par_halts path s (halts.Fault told) (Stops fault) tells = tells
-  par_halts path s halts.Memory x tells = tt
+  par_halts : (path : Path) (s : State) (halt : PortFault) (x : Stepped Opens) → ArmsTold d n path s new (Err halt) x → StepTold d n path s new (Err halt) (within par_left x)
+  par_halts path s told (Now list t) bad = absurd bad
+  par_halts path s told (Stops fault) tells = tells
 
   module _ (arms : PlainArms) (k : ℕ) where
     pub par_goes : (left : Option Arms) (after : Option Strand) → HaveStepped d old new n arms k (Ok left) → IsParOf left after → HasStepped d old new n (APar arms) k (Ok after)
@@ -313,7 +308,7 @@ module _ (d : PlainDesign) (old new : List PlainInstance) (n : ℕ) where
       held = stepped.held;
     }
 
-    pub par_stops : (halt : Halt) → HaveStepped d old new n arms k (Err halt) → HasStepped d old new n (APar arms) k (Err halt)
+    pub par_stops : (halt : PortFault) → HaveStepped d old new n arms k (Err halt) → HasStepped d old new n (APar arms) k (Err halt)
     par_stops halt stepped = record {
       tells = λ path s o number stands (list, e, shown).
           let i = instance_at (tree_of d) path in

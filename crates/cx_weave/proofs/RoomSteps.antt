@@ -13,9 +13,9 @@ use Rattle.cx_meaning.specs.Calls.{called, captures, test}
 use Rattle.cx_weave.specs.declared.needs.Piece.{Piece}
 use Rattle.cx_weave.specs.declared.needs.Piece.TheVariants as pieces
 use Rattle.cx_weave.specs.Leaves.{own_turn, own_capture, own_island, samples_now}
-use Rattle.cx_weave.specs.Open.{Open, Idling, InGroup, Choosing, Testing, InIsland, Capturing, Closing, Waiting, InSeq, InPar, InLoop, InRepeat, InCall, Opens, no_arms, an_arm, leaves_of, open_form, open_with, open_arms, open_called, open_kind, open_enable, open_control, open_below, open_statement}
+use Rattle.cx_weave.specs.Open.{Open, Idling, InGroup, Choosing, Testing, InIsland, Capturing, Closing, Waiting, InSeq, InPar, InLoop, InRepeat, InCall, Opens, no_arms, an_arm, leaves_of, open_form, open_with, open_arms, open_called, open_kind, open_enable, open_control, open_below, open_statement, open_statements}
 use Rattle.cx_weave.specs.Steps.{Stepped, Now, Stops, step, step_arms, within, turned, tested, seq_left, loop_left, repeat_left, arms_left, par_left, behind_child, call_left, lift_step, first_or, inputs_for, inputs_seen, held_as}
-use Rattle.cx_weave.specs.Takes.{box_takes, par_takes, island_takes, form_need, with_need, all_need, called_need, kind_need, enable_need, control_need, below_need, need, arms_in, room, rooms, LeavesRoom, StepsWithin}
+use Rattle.cx_weave.specs.Takes.{box_takes, par_takes, island_takes, form_need, with_need, all_need, called_need, kind_need, enable_need, control_need, below_need, need, all_needs, arms_in, room, rooms, LeavesRoom, StepsWithin}
 
 par_grows : (k : Piece) (m n : ℕ) → m ≤ n → par_takes k m ≤ par_takes k n
 par_grows pieces.Boxes m n le = omega arith
@@ -94,6 +94,10 @@ mutual
 
 pub opened_room : (k : Piece) (i : Instance) (st : PlainStatement) → room k i (open_statement i st) ≤ need k i st
 opened_room k (Node part cells) st = with_room k part cells (λ c. below_room k cells c) st
+
+-- and so do arms
+pub all_opened : (k : Piece) (i : Instance) (arms : PlainStatements) → (arms_in (open_statements i arms) ≡ length (list_of arms)) × (rooms k i (open_statements i arms) ≤ all_needs k i arms)
+all_opened k (Node part cells) arms = (arms_opened k part cells (λ c. below_room k cells c) arms, arms_room k part cells (λ c. below_room k cells c) arms)
 
 -- A TURN takes no more from then on
 module _ (k : Piece) (i : Instance) (m : ℕ) where

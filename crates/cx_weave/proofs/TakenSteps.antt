@@ -20,13 +20,13 @@ call_taken pieces.Inputs None x y le = omega (arith, le)
 call_taken pieces.Inputs (Some list) x y le = omega (arith, le)
 
 -- the boxes of arms
-one_takes : (k : Piece) → arms_take k + arms_take k ≡ par_takes k 1
+pub one_takes : (k : Piece) → arms_take k + arms_take k ≡ par_takes k 1
 one_takes pieces.Boxes = refl
 one_takes pieces.Arms = refl
 one_takes pieces.Islands = refl
 one_takes pieces.Inputs = refl
 
-both_take : (k : Piece) (m n : ℕ) → par_takes k (m + n) ≡ par_takes k m + par_takes k n
+pub both_take : (k : Piece) (m n : ℕ) → par_takes k (m + n) ≡ par_takes k m + par_takes k n
 both_take pieces.Boxes m n = refl
 both_take pieces.Arms m n = omega arith
 both_take pieces.Islands m n = refl

@@ -1,5 +1,5 @@
 -- A woven run, choice by choice.
-use Rattle.std.proofs.Common.{◌≡◌, ℕ, zero, suc, ◌+◌, ◌-◌, ◌%◌, ◌^◌, ◌≤◌, ◌<◌, ⊎_elim, List, [], Option, Some, None, Result, Ok, Err, IfOk, refl, sym, ap, ◌∙◌, subst, arith}
+use Rattle.std.proofs.Common.{◌≡◌, ℕ, zero, suc, ◌+◌, ◌-◌, ◌%◌, ◌^◌, ◌≤◌, ◌<◌, ⊎_elim, List, [], Option, Some, None, Result, Ok, Err, refl, sym, ap, ◌∙◌, subst, arith}
 use Rattle.std.proofs.Math.Path.{fun_ext}
 use Rattle.std.proofs.Math.Nat.{mod-eq_of_lt, mod-lt}
 use Rattle.std.proofs.lemmas.Bool.{cases_lt}
@@ -13,13 +13,10 @@ use Rattle.cx_state.specs.States.{PlainInstance, inputs_held, StandsFor, under_p
 use Rattle.cx_state.proofs.TreeLemmas.{instance_self}
 use Rattle.cx_interp.specs.Callees.{HasControl}
 use Rattle.cx_interp.proofs.RunLemmas.{main_first}
-use Rattle.cx_weave.specs.declared.strands.Halt.{Halt}
-use Rattle.cx_weave.specs.declared.strands.Halt.TheVariants as halts
 use Rattle.cx_weave.specs.declared.strands.Strand.{Strand}
-use Rattle.cx_weave.specs.declared.weaving.Wove.{Wove}
 use Rattle.cx_weave.specs.declared.weaving.Wove.TheVariants.{End, Fault, More}
 use Rattle.cx_weave.specs.Open.{Open, open_control, open_statement}
-use Rattle.cx_weave.specs.Results.{EndsIn, HaltedAs}
+use Rattle.cx_weave.specs.Results.{EndsIn}
 use Rattle.cx_weave.specs.Steps.{Stepped, Now, Stops, step}
 use Rattle.cx_weave.specs.Strands.{PlainStrand, plain_strand, strand_leaves, Shows, IsShown}
 use Rattle.cx_weave.specs.Strides.{OpensAs, StepTold, HasStepped}
@@ -83,7 +80,7 @@ module _ (d : PlainDesign) (words : List (List ℕ)) (choice : Choices) (steps :
         ∙ ap (λ m. weave_from (tree_of d) unheld choice m made sum (Some so.shown) so.state) one
         ∙ ap (λ k. then_weave made (step (tree_of d) unheld so.shown k so.state) (weave_from (tree_of d) unheld choice (steps - (made + 1)) (suc made) (sum + k))) same_leaf
 
-    told : (new : List PlainInstance) (r : Result (Option Strand) Halt) → HasStepped d old new 0 p leaf r → StepTold d 0 [] so.state new r (step (tree_of d) unheld so.shown leaf so.state)
+    told : (new : List PlainInstance) (r : Result (Option Strand) PortFault) → HasStepped d old new 0 p leaf r → StepTold d 0 [] so.state new r (step (tree_of d) unheld so.shown leaf so.state)
     told new r stepped =
         let turn = stepped.tells [] so.state so.shown (main_first (tree_of d)) so.stands so.shows in
         subst (λ (h : Held). StepTold d 0 [] so.state new r (step (tree_of d) h so.shown leaf so.state)) (fun_ext none)
@@ -117,10 +114,10 @@ module _ (d : PlainDesign) (words : List (List ℕ)) (choice : Choices) (steps :
         by_turn (Now (Some o) after) t e = absurd t.1
         by_turn (Stops fault) t e = absurd t
 
-    pub weave_faults : (new : List PlainInstance) (fault : PortFault) → HasStepped d old new 0 p leaf (Err (halts.Fault fault)) → EndsIn d new (Fault fault made) (woven d words choice steps)
-    weave_faults new fault stepped = by_turn (step (tree_of d) unheld so.shown leaf so.state) (told new (Err (halts.Fault fault)) stepped) next
+    pub weave_faults : (new : List PlainInstance) (fault : PortFault) → HasStepped d old new 0 p leaf (Err fault) → EndsIn d new (Fault fault made) (woven d words choice steps)
+    weave_faults new fault stepped = by_turn (step (tree_of d) unheld so.shown leaf so.state) (told new (Err fault) stepped) next
       where
-        by_turn : (x : Stepped (Option Open)) → StepTold d 0 [] so.state new (Err (halts.Fault fault)) x → woven d words choice steps ≡ then_weave made x (weave_from (tree_of d) unheld choice (steps - (made + 1)) (suc made) (sum + leaf)) → EndsIn d new (Fault fault made) (woven d words choice steps)
+        by_turn : (x : Stepped (Option Open)) → StepTold d 0 [] so.state new (Err fault) x → woven d words choice steps ≡ then_weave made x (weave_from (tree_of d) unheld choice (steps - (made + 1)) (suc made) (sum + leaf)) → EndsIn d new (Fault fault made) (woven d words choice steps)
         by_turn (Now o after) t e = absurd t
         by_turn (Stops f) t e = (f, t, e)
 
@@ -132,11 +129,3 @@ left_shown d old new n k p left stepped path s number stands (o, shown) = by_tur
     by_turn (Now None after) t = absurd t.1
     by_turn (Now (Some o) after) t = (o, t.1)
     by_turn (Stops fault) t = absurd t
-
--- what is told of a turn that did not come about
-pub weave_halts : {E : Type 0} (d : PlainDesign) (words : List (List ℕ)) (choice : Choices) (steps made sum leaf : ℕ) (p : PlainStrand) (old : List PlainInstance) → made < steps → leaf ≡ choice made % strand_leaves p → ((input : ℕ) → inputs_held old 0 input ≡ unheld input)
-    → WovenSoFar d words choice steps made sum p old → (new : List PlainInstance) (halt : Halt) (result : Result Wove E) → HasStepped d old new 0 p leaf (Err halt) → HaltedAs halt made result → IfOk result (λ wove. EndsIn d new wove (woven d words choice steps))
-weave_halts d words choice steps made sum leaf p old less is_leaf none so new (halts.Fault told) result stepped e =
-    subst (λ r. IfOk r (λ wove. EndsIn d new wove (woven d words choice steps))) (sym e) (weave_faults d words choice steps made sum leaf p old less is_leaf none so new told stepped)
-weave_halts d words choice steps made sum leaf p old less is_leaf none so new halts.Memory (Ok wove) stepped e = absurd e
-weave_halts d words choice steps made sum leaf p old less is_leaf none so new halts.Memory (Err memory) stepped e = tt

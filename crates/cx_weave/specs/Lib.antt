@@ -9,6 +9,7 @@ pub mod Calls
 pub mod Results
 pub mod Takes
 pub mod Rows
-pub mod Spared
+pub mod Ledger
+pub mod Supplied
 pub mod Marks
 pub mod Deep

@@ -1,5 +1,5 @@
 -- What a woven run of a design has come to.
-use Rattle.std.specs.Prelude.{◌≡◌, ◌≤◌, ℕ, suc, List, Result, Ok, IfOk}
+use Rattle.std.specs.Prelude.{◌≡◌, ◌≤◌, ℕ, suc, List}
 use Rattle.cx_text.specs.Loading.{PlainMemory, with_words}
 use Rattle.cx_meaning.specs.Designs.{PlainDesign}
 use Rattle.cx_meaning.specs.Instances.{State, tree_of, words_of}
@@ -8,8 +8,6 @@ use Rattle.cx_meaning.specs.Cycles as cycles
 use Rattle.cx_meaning.specs.Running.{run_main}
 use Rattle.cx_design.specs.PlainActives.{TellsFault}
 use Rattle.cx_state.specs.States.{PlainInstance, StandsFor}
-use Rattle.cx_weave.specs.declared.strands.Halt.{Halt}
-use Rattle.cx_weave.specs.declared.strands.Halt.TheVariants as halts
 use Rattle.cx_weave.specs.declared.weaving.Wove.{Wove}
 use Rattle.cx_weave.specs.declared.weaving.Wove.TheVariants.{End, Fault, More}
 use Rattle.cx_weave.specs.Alone.{LeafHasAlone}
@@ -27,11 +25,6 @@ abbrev pub EndsIn : PlainDesign → List PlainInstance → Wove → Woven → Ty
 EndsIn d rows (End made sum) x = (after : State) × (x ≡ woven.Ends after made sum) × StandsFor (tree_of d) rows after
 EndsIn d rows (Fault told made) x = (fault : cycles.Fault) × TellsFault (tree_of d) fault told × (x ≡ woven.Faults fault made)
 EndsIn d rows More x = x ≡ woven.More
-
--- a fault is told behind so many choices, and want of memory gives no answer
-abbrev pub HaltedAs : {E : Type 0} → Halt → ℕ → Result Wove E → Type 0
-HaltedAs (halts.Fault told) made result = result ≡ Ok (Fault told made)
-HaltedAs halts.Memory made result = IfOk result (λ wove. ⊥)
 
 -- memories get the words of the state in which it ends; after any other they are as they were
 abbrev pub LeavesWords : PlainDesign → List PlainMemory → List PlainMemory → Woven → Type 0

@@ -15,8 +15,6 @@ use Rattle.cx_state.specs.States.{PlainInstance, inputs_held, StandsFor, under_p
 use Rattle.cx_eval.specs.Evaluated.{fault_along, HeldAlike}
 use Rattle.cx_interp.specs.declared.turns.Turn.{Turn}
 use Rattle.cx_interp.specs.declared.turns.Turn.TheVariants as turns
-use Rattle.cx_weave.specs.declared.strands.Halt.{Halt}
-use Rattle.cx_weave.specs.declared.strands.Halt.TheVariants as halts
 use Rattle.cx_weave.specs.declared.strands.Strand.{Strand}
 use Rattle.cx_weave.specs.declared.strands.Arms.{Arms}
 use Rattle.cx_weave.specs.Open.{Open, Opens, no_arms, open_statement, open_statements}
@@ -67,15 +65,14 @@ LeftShown d n (Some strand) (Some o) = Shows d n (plain_strand strand) o
 abbrev pub LeavesAs : PlainDesign → ℕ → Option Strand → Option Strand → (Instance → Option Open → Option Open) → Type 0
 LeavesAs d n left after around = (path : Path) (o : Option Open) → IsNumber d n path → LeftShown d n left o → LeftShown d n after (around (instance_at (tree_of d) path) o)
 
-abbrev pub StepTold : PlainDesign → ℕ → Path → State → List PlainInstance → Result (Option Strand) Halt → Stepped (Option Open) → Type 0
+abbrev pub StepTold : PlainDesign → ℕ → Path → State → List PlainInstance → Result (Option Strand) PortFault → Stepped (Option Open) → Type 0
 StepTold d n path s rows (Ok left) (Now o after) = StandsFor (tree_of d) rows (put_path path after s) × LeftShown d n left o
 StepTold d n path s rows (Ok left) (Stops fault) = ⊥
-StepTold d n path s rows (Err (halts.Fault told)) (Now o after) = ⊥
-StepTold d n path s rows (Err (halts.Fault told)) (Stops fault) = TellsFault (tree_of d) (fault_along path fault) told
-StepTold d n path s rows (Err halts.Memory) x = Unit {0}
+StepTold d n path s rows (Err told) (Now o after) = ⊥
+StepTold d n path s rows (Err told) (Stops fault) = TellsFault (tree_of d) (fault_along path fault) told
 
 -- A TURN OF LEAF k of a strand of instance n; inputs that are held change only below the instance
-pub record HasStepped (d : PlainDesign) (old new : List PlainInstance) (n : ℕ) (p : PlainStrand) (k : ℕ) (result : Result (Option Strand) Halt) : Type 0 where
+pub record HasStepped (d : PlainDesign) (old new : List PlainInstance) (n : ℕ) (p : PlainStrand) (k : ℕ) (result : Result (Option Strand) PortFault) : Type 0 where
   pub tells : (path : Path) (s : State) (o : Open) → IsNumber d n path → StandsFor (tree_of d) old s → Shows d n p o
       → StepTold d n path s new result (step (instance_at (tree_of d) path) (inputs_held old n) o k (under_path path s))
   pub held : (m input : ℕ) → m ≤ n → inputs_held new m input ≡ inputs_held old m input
@@ -85,15 +82,14 @@ abbrev pub ArmsLeft : PlainDesign → ℕ → Option Arms → Opens → Type 0
 ArmsLeft d n None list = list ≡ no_arms
 ArmsLeft d n (Some arms) list = ShowsAll d n (plain_arms arms) list
 
-abbrev pub ArmsTold : PlainDesign → ℕ → Path → State → List PlainInstance → Result (Option Arms) Halt → Stepped Opens → Type 0
+abbrev pub ArmsTold : PlainDesign → ℕ → Path → State → List PlainInstance → Result (Option Arms) PortFault → Stepped Opens → Type 0
 ArmsTold d n path s rows (Ok left) (Now list after) = StandsFor (tree_of d) rows (put_path path after s) × ArmsLeft d n left list
 ArmsTold d n path s rows (Ok left) (Stops fault) = ⊥
-ArmsTold d n path s rows (Err (halts.Fault told)) (Now list after) = ⊥
-ArmsTold d n path s rows (Err (halts.Fault told)) (Stops fault) = TellsFault (tree_of d) (fault_along path fault) told
-ArmsTold d n path s rows (Err halts.Memory) x = Unit {0}
+ArmsTold d n path s rows (Err told) (Now list after) = ⊥
+ArmsTold d n path s rows (Err told) (Stops fault) = TellsFault (tree_of d) (fault_along path fault) told
 
 -- a turn of leaf k of some arms of a par of instance n
-pub record HaveStepped (d : PlainDesign) (old new : List PlainInstance) (n : ℕ) (arms : PlainArms) (k : ℕ) (result : Result (Option Arms) Halt) : Type 0 where
+pub record HaveStepped (d : PlainDesign) (old new : List PlainInstance) (n : ℕ) (arms : PlainArms) (k : ℕ) (result : Result (Option Arms) PortFault) : Type 0 where
   pub tells : (path : Path) (s : State) (list : Opens) → IsNumber d n path → StandsFor (tree_of d) old s → ShowsAll d n arms list
       → ArmsTold d n path s new result (step_arms (instance_at (tree_of d) path) (inputs_held old n) list k (under_path path s))
   pub held : (m input : ℕ) → m ≤ n → inputs_held new m input ≡ inputs_held old m input

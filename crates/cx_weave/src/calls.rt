@@ -1,6 +1,6 @@
 //! Calls of components.
 
-ghost use Rattle.std.specs.Prelude.{◌≡◌, ◌≢◌, ◌<◌, ℕ, Option, Some, IfOk, length};
+ghost use Rattle.std.specs.Prelude.{◌≡◌, ◌≢◌, ◌<◌, ◌≤◌, ◌+◌, ℕ, Option, Some, length, vec_capacity, vec_len};
 ghost use Rattle.cx_meaning.specs.Instances.{Path, instance_at, tree_of};
 ghost use Rattle.cx_interp.specs.Callees.{HasChild, IsPart};
 ghost use Rattle.cx_interp.specs.Groups.{IsGroupOf};
@@ -10,8 +10,11 @@ ghost use Rattle.cx_state.specs.States.{inputs_held, instance_state};
 ghost use Rattle.cx_weave.specs.Open.{Open};
 ghost use Rattle.cx_weave.specs.Steps as steps;
 ghost use Rattle.cx_weave.specs.Calls.{HoldsAs, HoldsList};
+ghost use Rattle.cx_weave.specs.Ledger.{HasPlaces, Lacks, Ledger, Lengths, box_amount, inputs_amount, left_amount, stock};
 ghost use Rattle.cx_weave.specs.Strands.{CallsCell, InputsFit, seen_items};
 ghost use Rattle.cx_weave.specs.Strides.{LeftShown};
+ghost use Rattle.cx_weave.specs.Supplied.{Supplied};
+ghost use Rattle.cx_weave.specs.Takes.{call_takes};
 
 use crate::spares::{Spares, give_box, give_inputs, refilled, take_inputs};
 use crate::strands::Strand;
@@ -20,7 +23,6 @@ use cx_interp::children::hold_inputs;
 use cx_interp::machine::Machine;
 use cx_interp::plan::Plan;
 use cx_meaning::Seen;
-use cx_text::Memory;
 
 /// Holds the inputs of a child as they are listed.
 fn hold_listed(
@@ -48,19 +50,18 @@ fn hold_listed(
 }
 
 /// What the inputs of an instance are held as.
-fn held_inputs(
-    spares: &mut Spares<'_>,
-    machine: &Machine<'_>,
-    instance: usize,
-) -> Result<Vec<Seen>, Memory>
+fn held_inputs(spares: &mut Spares<'_>, machine: &Machine<'_>, instance: usize) -> Vec<Seen>
     requires instance { instance < length (rows_of machine.now) }
-    ensures { IfOk result (λ inputs. inputs.items ≡ (instance_state (rows_of machine.now) instance).held) }
+    requires some { 0 < vec_len spares.old.inputs }
+    requires room { (l : Lengths) × (length (instance_state (rows_of machine.now) instance).held ≤ l.inputs) × (stock (Lacks l) spares.old ≤ 0) }
+    ensures held { result.items ≡ (instance_state (rows_of machine.now) instance).held }
+    ensures ledger { Ledger spares.old spares.new (λ x. 0) (λ x. inputs_amount (λ list. vec_capacity list) x (Some result)) }
 {
-    let mut inputs = take_inputs(spares)?;
+    let mut inputs = take_inputs(spares);
     for seen in &machine.sight.state.instances[instance].held {
-        inputs.push(*seen)?;
+        let _ = inputs.push(*seen);
     }
-    Ok(inputs)
+    inputs
 }
 
 /// Holds the inputs of a call, which are seen in its first turn.
@@ -73,7 +74,7 @@ pub(crate) fn hold_call(
     cell: u32,
     child: usize,
     inputs: Option<Vec<Seen>>,
-) -> Result<Vec<Seen>, Memory>
+) -> Vec<Seen>
     requires plan { IsPlan plan.now }
     requires machine { IsAt plan.now machine.old }
     requires instance { IsInstance (design_of plan.now) instance }
@@ -81,14 +82,16 @@ pub(crate) fn hold_call(
     requires part { IsPart (design_of plan.now) instance cell }
     requires child { HasChild (design_of plan.now) instance cell child }
     requires inputs { InputsFit (design_of plan.now) instance cell (seen_items (λ v. v.items) inputs) }
+    requires supplied { Supplied (design_of plan.now) instance spares.old (λ k i. call_takes k) (λ x. box_amount x + inputs_amount (λ list. vec_capacity list) x inputs) }
     ensures machine { IsAt plan.now machine.new }
-    ensures held { IfOk result (λ now. HoldsAs (design_of plan.now) (rows_of machine.old) (rows_of machine.new) instance group cell child (seen_items (λ v. v.items) inputs) now.items) }
+    ensures held { HoldsAs (design_of plan.now) (rows_of machine.old) (rows_of machine.new) instance group cell child (seen_items (λ v. v.items) inputs) result.items }
+    ensures ledger { Ledger spares.old spares.new (λ x. inputs_amount (λ list. vec_capacity list) x inputs) (λ x. inputs_amount (λ list. vec_capacity list) x (Some result)) }
     ensures others { (m input : ℕ) → m ≢ child → inputs_held (rows_of machine.new) m input ≡ inputs_held (rows_of machine.old) m input }
 {
     match inputs {
         Some(inputs) => {
             hold_listed(plan, machine, instance, cell, child, &inputs);
-            Ok(inputs)
+            inputs
         }
         None => {
             hold_inputs(plan, machine, instance, group, cell, child);
@@ -108,36 +111,38 @@ pub(crate) fn call_left<'a>(
     room: Box<Strand<'a>>,
     left: Option<Strand<'a>>,
     number: usize,
-) -> Result<Option<Strand<'a>>, Memory>
+) -> Option<Strand<'a>>
     requires plan { IsPlan plan.now }
     requires instance { IsInstance (design_of plan.now) instance }
     requires group { IsGroupOf (design_of plan.now) instance group }
     requires calls { CallsCell (design_of plan.now) instance group cell }
     requires child { HasChild (design_of plan.now) instance cell number }
     requires inputs { InputsFit (design_of plan.now) instance cell (Some inputs.items) }
-    ensures { IfOk result (λ after. (path : Path) (o : Option Open) → IsNumber (design_of plan.now) instance path → LeftShown (design_of plan.now) number left.entry o
-        → LeftShown (design_of plan.now) instance after (steps.call_left (instance_at (tree_of (design_of plan.now)) path) group cell inputs.items o)) }
+    requires places { HasPlaces spares.old (λ x. box_amount x + inputs_amount (λ list. vec_capacity list) x (Some inputs) + left_amount x left) }
+    ensures leaves { (path : Path) (o : Option Open) → IsNumber (design_of plan.now) instance path → LeftShown (design_of plan.now) number left.entry o
+        → LeftShown (design_of plan.now) instance result (steps.call_left (instance_at (tree_of (design_of plan.now)) path) group cell inputs.items o) }
+    ensures ledger { Ledger spares.old spares.new (λ x. box_amount x + inputs_amount (λ list. vec_capacity list) x (Some inputs) + left_amount x left.entry) (λ x. left_amount x result) }
 {
     let _ = number;
     match left {
         Some(child) => {
             let child = refilled(room, child);
             let inputs = Some(inputs);
-            Ok(Some(Strand::InCall {
+            Some(Strand::InCall {
                 group,
                 cell,
                 inputs,
                 child,
-            }))
+            })
         }
         None => {
             give_box(spares, room);
             give_inputs(spares, inputs);
             let row = group_row(plan, instance, group);
             if row.captures {
-                Ok(Some(Strand::Capturing { group, cell }))
+                Some(Strand::Capturing { group, cell })
             } else {
-                Ok(Some(Strand::Closing(group)))
+                Some(Strand::Closing(group))
             }
         }
     }

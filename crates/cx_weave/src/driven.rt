@@ -1,6 +1,6 @@
 //! The cells that the groups of a statement drive.
 
-ghost use Rattle.std.specs.Prelude.{◌≡◌, ◌||◌, ◌<◌, ◌^◌, [], ◌∷◌, ℕ, false, All, IfOk, length};
+ghost use Rattle.std.specs.Prelude.{◌≡◌, ◌||◌, ◌&&◌, ◌<◌, ◌≤◌, [], ◌∷◌, ℕ, nat_eq, not, All, length, vec_capacity};
 ghost use Rattle.cx_meaning.specs.Control.{groups_drive, groups_in, groups_in_all, groups_of, with_comb};
 ghost use Rattle.cx_meaning.specs.Instances.{Path, part_of, instance_at, tree_of};
 ghost use Rattle.cx_design.specs.PlainForms.{plain_form, plain_statement, plain_statements};
@@ -9,86 +9,135 @@ ghost use Rattle.cx_interp.specs.Groups.{ListWithin};
 ghost use Rattle.cx_interp.specs.Machines.{design_of, IsPlan, IsInstance};
 ghost use Rattle.cx_state.specs.Tables.{IsNumber};
 ghost use Rattle.cx_weave.specs.Leaves.{form_drives};
-ghost use Rattle.cx_weave.specs.Marks.{HasMarks, is_marked, with_mark};
+ghost use Rattle.cx_weave.specs.Marks.{HasMarks, Lists, is_marked, set_count};
 ghost use Rattle.cx_weave.specs.Strands.{ListDriven};
 
 use cx_design::{Form, Statement};
 use cx_interp::calls::{group_row, instance_part};
 use cx_interp::plan::Plan;
-use cx_text::Memory;
 
-/// Marks listed cells.
-fn mark_cells(marks: &mut [bool], cells: &[u32])
-    requires within { All (λ c. c < length marks.old) cells.now }
+/// Lists a cell that is not marked yet, and marks it.
+fn mark_cell(cell: u32, marks: &mut [bool], cells: &mut Vec<u32>)
+    requires within { cell < length marks.old }
+    requires lists { Lists marks.old cells.old.items }
+    requires room { length marks.old ≤ vec_capacity cells.old }
     ensures length { length marks.new ≡ length marks.old }
-    ensures marked { (c : ℕ) → is_marked marks.new c ≡ (listed_in cells.now c || is_marked marks.old c) }
+    ensures marked { (c : ℕ) → is_marked marks.new c ≡ (nat_eq cell c || is_marked marks.old c) }
+    ensures lists { Lists marks.new cells.new.items }
+    ensures room { vec_capacity cells.old ≤ vec_capacity cells.new }
 {
-    for cell in cells {
-        marks[*cell as usize] = true;
+    if !marks[cell as usize] {
+        marks[cell as usize] = true;
+        let _ = cells.push(cell);
     }
 }
 
-/// Marks the cells that a group of an instance drives.
-fn mark_group(plan: &Plan<'_>, instance: usize, group: u32, marks: &mut [bool])
+/// Those of some cells.
+fn mark_cells(driven: &[u32], marks: &mut [bool], cells: &mut Vec<u32>)
+    requires within { All (λ c. c < length marks.old) driven.now }
+    requires lists { Lists marks.old cells.old.items }
+    requires room { length marks.old ≤ vec_capacity cells.old }
+    ensures length { length marks.new ≡ length marks.old }
+    ensures marked { (c : ℕ) → is_marked marks.new c ≡ (listed_in driven.now c || is_marked marks.old c) }
+    ensures lists { Lists marks.new cells.new.items }
+    ensures room { vec_capacity cells.old ≤ vec_capacity cells.new }
+{
+    for cell in driven {
+        mark_cell(*cell, marks, cells);
+    }
+}
+
+/// Those that a group of an instance drives.
+fn mark_group(
+    plan: &Plan<'_>,
+    instance: usize,
+    group: u32,
+    marks: &mut [bool],
+    cells: &mut Vec<u32>,
+)
     requires plan { IsPlan plan.now }
     requires instance { IsInstance (design_of plan.now) instance }
     requires marks { HasMarks (design_of plan.now) instance marks.old }
+    requires lists { Lists marks.old cells.old.items }
+    requires room { length marks.old ≤ vec_capacity cells.old }
     ensures length { length marks.new ≡ length marks.old }
     ensures marked { (path : Path) (c : ℕ) → IsNumber (design_of plan.now) instance path
         → is_marked marks.new c ≡ (groups_drive (part_of (instance_at (tree_of (design_of plan.now)) path)) (group ∷ []) c || is_marked marks.old c) }
+    ensures lists { Lists marks.new cells.new.items }
+    ensures room { vec_capacity cells.old ≤ vec_capacity cells.new }
 {
     let count = instance_part(plan, instance).groups.len();
     if (group as usize) < count {
         let row = group_row(plan, instance, group);
-        mark_cells(marks, row.cells.as_slice());
+        mark_cells(row.cells.as_slice(), marks, cells);
     }
 }
 
-/// Marks the cells that the comb group of a test drives.
-fn mark_comb(plan: &Plan<'_>, instance: usize, comb: Option<u32>, marks: &mut [bool])
+/// Those that the comb group of a test drives.
+fn mark_comb(
+    plan: &Plan<'_>,
+    instance: usize,
+    comb: Option<u32>,
+    marks: &mut [bool],
+    cells: &mut Vec<u32>,
+)
     requires plan { IsPlan plan.now }
     requires instance { IsInstance (design_of plan.now) instance }
     requires marks { HasMarks (design_of plan.now) instance marks.old }
+    requires lists { Lists marks.old cells.old.items }
+    requires room { length marks.old ≤ vec_capacity cells.old }
     ensures length { length marks.new ≡ length marks.old }
     ensures marked { (path : Path) (c : ℕ) → IsNumber (design_of plan.now) instance path
         → is_marked marks.new c ≡ (groups_drive (part_of (instance_at (tree_of (design_of plan.now)) path)) (with_comb comb []) c || is_marked marks.old c) }
+    ensures lists { Lists marks.new cells.new.items }
+    ensures room { vec_capacity cells.old ≤ vec_capacity cells.new }
 {
     if let Some(group) = comb {
-        mark_group(plan, instance, group, marks);
+        mark_group(plan, instance, group, marks, cells);
     }
 }
 
-/// Marks the cells that the groups of a form drive.
+/// Those that the groups of a form drive.
 #[cycle(mark)]
-fn mark_form(plan: &Plan<'_>, instance: usize, form: &Form, marks: &mut [bool])
+fn mark_form(
+    plan: &Plan<'_>,
+    instance: usize,
+    form: &Form,
+    marks: &mut [bool],
+    cells: &mut Vec<u32>,
+)
     requires plan { IsPlan plan.now }
     requires instance { IsInstance (design_of plan.now) instance }
     requires marks { HasMarks (design_of plan.now) instance marks.old }
+    requires lists { Lists marks.old cells.old.items }
+    requires room { length marks.old ≤ vec_capacity cells.old }
     ensures length { length marks.new ≡ length marks.old }
     ensures marked { (path : Path) (c : ℕ) → IsNumber (design_of plan.now) instance path
         → is_marked marks.new c ≡ (groups_drive (part_of (instance_at (tree_of (design_of plan.now)) path)) (groups_in (plain_form form.now)) c || is_marked marks.old c) }
+    ensures lists { Lists marks.new cells.new.items }
+    ensures room { vec_capacity cells.old ≤ vec_capacity cells.new }
 {
     match form {
-        Form::Enable(group) => mark_group(plan, instance, *group, marks),
-        Form::Seq(parts) => mark_all(plan, instance, parts, marks),
-        Form::Par(parts) => mark_all(plan, instance, parts, marks),
-        Form::StaticSeq { parts, .. } => mark_all(plan, instance, parts, marks),
-        Form::StaticPar { parts, .. } => mark_all(plan, instance, parts, marks),
+        Form::Enable(group) => mark_group(plan, instance, *group, marks, cells),
+        Form::Seq(parts) => mark_all(plan, instance, parts, marks, cells),
+        Form::Par(parts) => mark_all(plan, instance, parts, marks, cells),
+        Form::StaticSeq { parts, .. } => mark_all(plan, instance, parts, marks, cells),
+        Form::StaticPar { parts, .. } => mark_all(plan, instance, parts, marks, cells),
         Form::If { comb, yes, no, .. } => {
-            mark_comb(plan, instance, *comb, marks);
-            mark_form(plan, instance, &yes.form, marks);
-            mark_form(plan, instance, &no.form, marks);
+            mark_comb(plan, instance, *comb, marks, cells);
+            mark_form(plan, instance, &yes.form, marks, cells);
+            mark_form(plan, instance, &no.form, marks, cells);
         }
         Form::StaticIf { yes, no, .. } => {
-            mark_form(plan, instance, &yes.form, marks);
-            mark_form(plan, instance, &no.form, marks);
+            mark_form(plan, instance, &yes.form, marks, cells);
+            mark_form(plan, instance, &no.form, marks, cells);
         }
         Form::While { comb, body, .. } => {
-            mark_comb(plan, instance, *comb, marks);
-            mark_form(plan, instance, &body.form, marks);
+            mark_comb(plan, instance, *comb, marks, cells);
+            mark_form(plan, instance, &body.form, marks, cells);
         }
-        Form::Repeat { body, .. } => mark_form(plan, instance, &body.form, marks),
-        Form::StaticRepeat { body, .. } => mark_form(plan, instance, &body.form, marks),
+        Form::Repeat { body, .. } => mark_form(plan, instance, &body.form, marks, cells),
+        Form::StaticRepeat { body, .. } => mark_form(plan, instance, &body.form, marks, cells),
         Form::Empty => {}
         Form::Timed(_) => {}
     }
@@ -96,72 +145,63 @@ fn mark_form(plan: &Plan<'_>, instance: usize, form: &Form, marks: &mut [bool])
 
 /// Those of all parts.
 #[cycle(mark)]
-fn mark_all(plan: &Plan<'_>, instance: usize, parts: &[Statement], marks: &mut [bool])
+fn mark_all(
+    plan: &Plan<'_>,
+    instance: usize,
+    parts: &[Statement],
+    marks: &mut [bool],
+    cells: &mut Vec<u32>,
+)
     requires plan { IsPlan plan.now }
     requires instance { IsInstance (design_of plan.now) instance }
     requires marks { HasMarks (design_of plan.now) instance marks.old }
+    requires lists { Lists marks.old cells.old.items }
+    requires room { length marks.old ≤ vec_capacity cells.old }
     ensures length { length marks.new ≡ length marks.old }
     ensures marked { (path : Path) (c : ℕ) → IsNumber (design_of plan.now) instance path
         → is_marked marks.new c ≡ (groups_drive (part_of (instance_at (tree_of (design_of plan.now)) path)) (groups_in_all (plain_statements parts.now)) c || is_marked marks.old c) }
+    ensures lists { Lists marks.new cells.new.items }
+    ensures room { vec_capacity cells.old ≤ vec_capacity cells.new }
 {
     for part in parts {
-        mark_form(plan, instance, &part.form, marks);
+        mark_form(plan, instance, &part.form, marks, cells);
     }
 }
 
-/// So many marks, none of which is set.
-fn clear_marks(count: usize, marks: &mut Vec<bool>) -> Result<(), Memory>
-    ensures length { IfOk result (λ _. length marks.new.items ≡ count) }
-    ensures none { IfOk result (λ _. (c : ℕ) → is_marked marks.new.items c ≡ false) }
+/// Takes the marks from listed cells.
+fn clear_marks(cells: &[u32], marks: &mut [bool])
+    requires within { All (λ c. c < length marks.old) cells.now }
+    ensures length { length marks.new ≡ length marks.old }
+    ensures cleared { (c : ℕ) → is_marked marks.new c ≡ (not (listed_in cells.now c) && is_marked marks.old c) }
 {
-    marks.clear();
-    for _cell in 0..count {
-        marks.push(false)?;
+    for cell in cells {
+        marks[*cell as usize] = false;
     }
-    Ok(())
 }
 
-/// Lists a cell, if it is marked.
-fn list_marked(marked: bool, cell: u32, cells: &mut Vec<u32>) -> Result<(), Memory>
-    ensures { IfOk result (λ _. cells.new.items ≡ with_mark marked cell cells.old.items) }
-{
-    if marked {
-        cells.push(cell)?;
-    }
-    Ok(())
-}
-
-/// Lists the cells that are marked, ascending.
-fn marked_cells(marks: &[bool], cells: &mut Vec<u32>) -> Result<(), Memory>
-    requires few { length marks.now < 2 ^ 32 }
-    ensures marked { IfOk result (λ _. (c : ℕ) → listed_in cells.new.items c ≡ is_marked marks.now c) }
-    ensures ascending { IfOk result (λ _. IsAscending cells.new.items) }
-    ensures within { IfOk result (λ _. All (λ c. c < length marks.now) cells.new.items) }
-{
-    cells.clear();
-    for number in 0..marks.len() {
-        let marked = marks[number];
-        list_marked(marked, number as u32, cells)?;
-    }
-    Ok(())
-}
-
-/// Lists the cells of an instance that the groups of a form drive, ascending.
+/// Lists the cells of an instance that the groups of a form drive, ascending. Marks, none of which is set before and after, tell what is listed, so that it takes the time of these groups and not of
+/// all cells.
 pub(crate) fn driven_cells(
     plan: &Plan<'_>,
     instance: usize,
     form: &Form,
-    marks: &mut Vec<bool>,
+    marks: &mut [bool],
     cells: &mut Vec<u32>,
-) -> Result<(), Memory>
+)
     requires plan { IsPlan plan.now }
     requires instance { IsInstance (design_of plan.now) instance }
-    ensures driven { IfOk result (λ _. ListDriven (design_of plan.now) instance cells.new.items (λ part. form_drives part (plain_form form.now))) }
-    ensures ascending { IfOk result (λ _. IsAscending cells.new.items) }
-    ensures within { IfOk result (λ _. ListWithin (design_of plan.now) instance cells.new.items) }
+    requires marks { HasMarks (design_of plan.now) instance marks.old }
+    requires clear { set_count marks.old ≡ 0 }
+    requires room { length marks.old ≤ vec_capacity cells.old }
+    ensures driven { ListDriven (design_of plan.now) instance cells.new.items (λ part. form_drives part (plain_form form.now)) }
+    ensures ascending { IsAscending cells.new.items }
+    ensures within { ListWithin (design_of plan.now) instance cells.new.items }
+    ensures length { length marks.new ≡ length marks.old }
+    ensures clear { set_count marks.new ≡ 0 }
+    ensures room { vec_capacity cells.old ≤ vec_capacity cells.new }
 {
-    let count = instance_part(plan, instance).cells.len();
-    clear_marks(count, marks)?;
-    mark_form(plan, instance, form, marks);
-    marked_cells(marks, cells)
+    cells.clear();
+    mark_form(plan, instance, form, marks, cells);
+    clear_marks(cells.as_slice(), marks);
+    cells.sort_unstable();
 }

@@ -1,7 +1,7 @@
 //! Turns of islands.
 
 ghost use Rattle.std.specs.Prelude.{◌≡◌, ◌≤◌, ◌<◌, ◌-◌, ◌^◌, length};
-ghost use Rattle.std.specs.Vec.{vec_len};
+ghost use Rattle.std.specs.Vec.{vec_capacity, vec_len};
 ghost use Rattle.cx_meaning.specs.Islands as islands;
 ghost use Rattle.cx_laws.specs.Samples.{form_ifs};
 ghost use Rattle.cx_interp_islands.specs.Rooms.{samples_of};
@@ -11,12 +11,13 @@ ghost use Rattle.cx_weave.specs.Leaves.{form_drives};
 ghost use Rattle.cx_design.specs.PlainForms.{plain_component, plain_form};
 ghost use Rattle.cx_interp.specs.Islands.{HasPart, IsIsland, SampledBefore, SamplesTaken};
 ghost use Rattle.cx_interp.specs.Machines.{design_of, rows_of, IsPlan, IsAt, IsInstance, FormStands};
+ghost use Rattle.cx_weave.specs.Ledger.{HasPlaces, Turned, island_amount};
 ghost use Rattle.cx_weave.specs.Strands.{AnIsland, IsShown, IsSampledBefore, IsWithinIsland, ListDriven};
 ghost use Rattle.cx_weave.specs.Strides.{HasStepped, IslandTaken};
 
 use crate::resting::rest_listed;
 use crate::spares::{Spares, give_island};
-use crate::strands::{Halt, Island, Strand};
+use crate::strands::{Island, Strand};
 use cx_design::{Component, Form, PortFault};
 use cx_interp::calls::instance_part;
 use cx_interp::islands::fault_in;
@@ -115,13 +116,15 @@ pub(crate) fn step_island<'a>(
     instance: usize,
     island: Island<'a>,
     leaf: u32,
-) -> Result<Option<Strand<'a>>, Halt>
+) -> Result<Option<Strand<'a>>, PortFault>
     requires plan { IsPlan plan.now }
     requires machine { IsAt plan.now machine.old }
     requires instance { IsInstance (design_of plan.now) instance }
     requires shown { IsShown (design_of plan.now) instance (AnIsland (plain_form island.form.now) island.cycle island.left island.samples.items island.cells.items) }
+    requires places { HasPlaces spares.old (λ x. island_amount x (vec_capacity island.cells) (length island.samples.items)) }
     ensures machine { IsAt plan.now machine.new }
     ensures stepped { HasStepped (design_of plan.now) (rows_of machine.old) (rows_of machine.new) instance (AnIsland (plain_form island.entry.form.now) island.entry.cycle island.entry.left island.entry.samples.items island.entry.cells.items) leaf result }
+    ensures ledger { Turned spares.old spares.new (λ x. island_amount x (vec_capacity island.entry.cells) (length island.entry.samples.items)) result }
 {
     rows_stand();
     accepted_islands_are_short();
@@ -147,6 +150,6 @@ pub(crate) fn step_island<'a>(
             samples,
             cells,
         }))),
-        Err(fault) => Err(Halt::Fault(fault)),
+        Err(fault) => Err(fault),
     }
 }

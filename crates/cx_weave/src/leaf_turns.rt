@@ -1,6 +1,6 @@
 //! Turns of leaves that are groups, parts of calls, and tests.
 
-ghost use Rattle.std.specs.Prelude.{◌≡◌};
+ghost use Rattle.std.specs.Prelude.{◌≡◌, ◌+◌, max};
 ghost use Rattle.cx_eval.specs.Evaluated.{CanAct};
 ghost use Rattle.cx_meaning.specs.Designs.{If, While};
 ghost use Rattle.cx_design.specs.PlainForms.{plain_statement};
@@ -8,16 +8,19 @@ ghost use Rattle.cx_interp.specs.Groups.{IsGroupOf};
 ghost use Rattle.cx_interp.specs.Machines.{design_of, rows_of, IsPlan, IsAt, IsInstance, FormStands};
 ghost use Rattle.cx_interp.specs.Tests.{comb_active};
 ghost use Rattle.cx_weave.specs.Leaves.{test_drives};
+ghost use Rattle.cx_weave.specs.Ledger.{TakesNothing, Turned};
 ghost use Rattle.cx_weave.specs.Strands.{ACapture, AChoice, AClosing, AGroup, ATest, CallsCell};
 ghost use Rattle.cx_weave.specs.Strides.{HasRested, HasStepped};
+ghost use Rattle.cx_weave.specs.Supplied.{Supplied};
+ghost use Rattle.cx_weave.specs.Takes.{box_takes, need};
 
 use crate::opening::open_statement;
 use crate::parts::open_loop;
 use crate::resting::rest_listed;
 use crate::spares::Spares;
-use crate::strands::{Halt, Strand};
+use crate::strands::Strand;
 use crate::turns::{take_capture, take_group};
-use cx_design::Statement;
+use cx_design::{PortFault, Statement};
 use cx_interp::calls::group_row;
 use cx_interp::machine::{Machine, test};
 use cx_interp::plan::Plan;
@@ -32,13 +35,14 @@ pub(crate) fn step_group<'a>(
     instance: usize,
     group: u32,
     leaf: u32,
-) -> Result<Option<Strand<'a>>, Halt>
+) -> Result<Option<Strand<'a>>, PortFault>
     requires plan { IsPlan plan.now }
     requires machine { IsAt plan.now machine.old }
     requires instance { IsInstance (design_of plan.now) instance }
     requires group { IsGroupOf (design_of plan.now) instance group }
     ensures machine { IsAt plan.now machine.new }
     ensures stepped { HasStepped (design_of plan.now) (rows_of machine.old) (rows_of machine.new) instance (AGroup group) leaf result }
+    ensures ledger { TakesNothing result }
 {
     rows_stand();
     let _ = leaf;
@@ -50,7 +54,7 @@ pub(crate) fn step_group<'a>(
             Ok(None)
         }
         Turn::Goes => Ok(Some(Strand::InGroup(group))),
-        Turn::Faults(fault) => Err(Halt::Fault(fault)),
+        Turn::Faults(fault) => Err(fault),
     }
 }
 
@@ -62,7 +66,7 @@ pub(crate) fn step_capture<'a>(
     group: u32,
     cell: u32,
     leaf: u32,
-) -> Result<Option<Strand<'a>>, Halt>
+) -> Result<Option<Strand<'a>>, PortFault>
     requires plan { IsPlan plan.now }
     requires machine { IsAt plan.now machine.old }
     requires instance { IsInstance (design_of plan.now) instance }
@@ -70,6 +74,7 @@ pub(crate) fn step_capture<'a>(
     requires calls { CallsCell (design_of plan.now) instance group cell }
     ensures machine { IsAt plan.now machine.new }
     ensures stepped { HasStepped (design_of plan.now) (rows_of machine.old) (rows_of machine.new) instance (ACapture group cell) leaf result }
+    ensures ledger { TakesNothing result }
 {
     rows_stand();
     let _ = leaf;
@@ -77,7 +82,7 @@ pub(crate) fn step_capture<'a>(
     let cells = row.cells.as_slice();
     match take_capture(plan, machine, instance, group, cell, cells) {
         Ok(()) => Ok(Some(Strand::Closing(group))),
-        Err(fault) => Err(Halt::Fault(fault)),
+        Err(fault) => Err(fault),
     }
 }
 
@@ -88,13 +93,14 @@ pub(crate) fn step_closing<'a>(
     instance: usize,
     group: u32,
     leaf: u32,
-) -> Result<Option<Strand<'a>>, Halt>
+) -> Result<Option<Strand<'a>>, PortFault>
     requires plan { IsPlan plan.now }
     requires machine { IsAt plan.now machine.old }
     requires instance { IsInstance (design_of plan.now) instance }
     requires group { IsGroupOf (design_of plan.now) instance group }
     ensures machine { IsAt plan.now machine.new }
     ensures stepped { HasStepped (design_of plan.now) (rows_of machine.old) (rows_of machine.new) instance (AClosing group) leaf result }
+    ensures ledger { TakesNothing result }
 {
     let _ = leaf;
     let row = group_row(plan, instance, group);
@@ -131,25 +137,27 @@ pub(crate) fn step_choice<'a>(
     first: &'a Statement,
     second: &'a Statement,
     leaf: u32,
-) -> Result<Option<Strand<'a>>, Halt>
+) -> Result<Option<Strand<'a>>, PortFault>
     requires plan { IsPlan plan.now }
     requires machine { IsAt plan.now machine.old }
     requires instance { IsInstance (design_of plan.now) instance }
     requires stands { FormStands (design_of plan.now) instance (If port comb (plain_statement first.now) (plain_statement second.now)) }
+    requires supplied { Supplied (design_of plan.now) instance spares.old (λ k i. max (need k i (plain_statement first.now)) (need k i (plain_statement second.now))) (λ x. 0) }
     ensures machine { IsAt plan.now machine.new }
     ensures stepped { HasStepped (design_of plan.now) (rows_of machine.old) (rows_of machine.new) instance (AChoice port comb (plain_statement first.now) (plain_statement second.now)) leaf result }
+    ensures ledger { Turned spares.old spares.new (λ x. 0) result }
 {
     let _ = leaf;
     match test(plan, machine, instance, port.port, comb) {
         Ok(true) => {
             rest_comb(plan, machine, instance, comb);
-            Ok(Some(open_statement(spares, plan, instance, first)?))
+            Ok(Some(open_statement(spares, plan, instance, first)))
         }
         Ok(false) => {
             rest_comb(plan, machine, instance, comb);
-            Ok(Some(open_statement(spares, plan, instance, second)?))
+            Ok(Some(open_statement(spares, plan, instance, second)))
         }
-        Err(fault) => Err(Halt::Fault(fault)),
+        Err(fault) => Err(fault),
     }
 }
 
@@ -163,24 +171,26 @@ pub(crate) fn step_test<'a>(
     comb: Option<u32>,
     body: &'a Statement,
     leaf: u32,
-) -> Result<Option<Strand<'a>>, Halt>
+) -> Result<Option<Strand<'a>>, PortFault>
     requires plan { IsPlan plan.now }
     requires machine { IsAt plan.now machine.old }
     requires instance { IsInstance (design_of plan.now) instance }
     requires stands { FormStands (design_of plan.now) instance (While port comb (plain_statement body.now)) }
+    requires supplied { Supplied (design_of plan.now) instance spares.old (λ k i. box_takes k + need k i (plain_statement body.now)) (λ x. 0) }
     ensures machine { IsAt plan.now machine.new }
     ensures stepped { HasStepped (design_of plan.now) (rows_of machine.old) (rows_of machine.new) instance (ATest port comb (plain_statement body.now)) leaf result }
+    ensures ledger { Turned spares.old spares.new (λ x. 0) result }
 {
     let _ = leaf;
     match test(plan, machine, instance, port.port, comb) {
         Ok(true) => {
             rest_comb(plan, machine, instance, comb);
-            Ok(Some(open_loop(spares, plan, instance, port, comb, body)?))
+            Ok(Some(open_loop(spares, plan, instance, port, comb, body)))
         }
         Ok(false) => {
             rest_comb(plan, machine, instance, comb);
             Ok(None)
         }
-        Err(fault) => Err(Halt::Fault(fault)),
+        Err(fault) => Err(fault),
     }
 }

@@ -1,7 +1,8 @@
 //! How many leaves are open.
 
-ghost use Rattle.std.specs.Prelude.{◌≡◌};
+ghost use Rattle.std.specs.Prelude.{◌≡◌, ◌+◌};
 ghost use Rattle.cx_limits.specs.Capped.{capped};
+ghost use Rattle.cx_weave.specs.Ledger.{Kind, arms_amount, arms_box_amount};
 ghost use Rattle.cx_weave.specs.Strands.{AreCounted, IsBoth, IsCounted, arms_leaves, plain_arms, plain_strand, strand_leaves};
 
 use crate::strands::{Arms, Strand};
@@ -41,7 +42,8 @@ pub(crate) fn count_arms(arms: &Arms<'_>) -> u64
 
 /// Two halves of some arms.
 pub(crate) fn both<'a>(one: Box<Arms<'a>>, other: Box<Arms<'a>>) -> Arms<'a>
-    ensures { IsBoth (plain_arms one.entry.value) (plain_arms other.entry.value) (plain_arms result) }
+    ensures both { IsBoth (plain_arms one.entry.value) (plain_arms other.entry.value) (plain_arms result) }
+    ensures amount { (x : Kind) → arms_amount x result ≡ (arms_box_amount x + arms_amount x one.entry.value) + (arms_box_amount x + arms_amount x other.entry.value) }
 {
     let leaves = count_arms(&one).saturating_add(count_arms(&other));
     Arms::Both { leaves, one, other }

@@ -1,20 +1,24 @@
 //! Spare parts as they are made.
 
-ghost use Rattle.std.specs.Prelude.{◌≡◌, ◌≤◌, All, IfOk, length};
-ghost use Rattle.std.specs.Vec.{vec_capacity};
+ghost use Rattle.std.specs.Prelude.{◌≡◌, ◌≤◌, ◌<◌, ℕ, All, IfOk, length, vec_capacity, vec_len};
+ghost use Rattle.cx_meaning.specs.Designs.{component_at};
 ghost use Rattle.cx_interp.specs.Machines.{design_of, IsPlan};
-ghost use Rattle.cx_weave.specs.Spared.{Suffices};
+ghost use Rattle.cx_interp.specs.Rooms.{HasRoom};
+ghost use Rattle.cx_weave.specs.Marks.{set_count};
+ghost use Rattle.cx_weave.specs.Supplied.{Supplied};
+ghost use Rattle.cx_weave.specs.Takes.{control_need};
 
 use crate::needs::{Piece, main_need};
 use crate::spares::{IslandLists, Spares};
 use crate::strands::{Arms, Strand};
 use cx_interp::plan::Plan;
+use cx_interp::rooms::Room;
 use cx_meaning::Seen;
 use cx_text::Memory;
 use std::alloc::Global;
 
 fn make_boxes<'a>(alloc: Global, count: usize) -> Result<Vec<Box<Strand<'a>>>, Memory>
-    ensures { IfOk result (λ boxes. length boxes.items ≡ count) }
+    ensures { IfOk result (λ boxes. vec_len boxes ≡ count) }
 {
     let mut boxes = Vec::with_capacity(alloc, count)?;
     for _box in 0..count {
@@ -24,7 +28,7 @@ fn make_boxes<'a>(alloc: Global, count: usize) -> Result<Vec<Box<Strand<'a>>>, M
 }
 
 fn make_arms<'a>(alloc: Global, count: usize) -> Result<Vec<Box<Arms<'a>>>, Memory>
-    ensures { IfOk result (λ arms. length arms.items ≡ count) }
+    ensures { IfOk result (λ arms. vec_len arms ≡ count) }
 {
     let mut arms = Vec::with_capacity(alloc, count)?;
     for _box in 0..count {
@@ -34,7 +38,7 @@ fn make_arms<'a>(alloc: Global, count: usize) -> Result<Vec<Box<Arms<'a>>>, Memo
 }
 
 fn make_inputs(alloc: Global, count: usize, most: usize) -> Result<Vec<Vec<Seen>>, Memory>
-    ensures count { IfOk result (λ inputs. length inputs.items ≡ count) }
+    ensures count { IfOk result (λ inputs. vec_len inputs ≡ count) }
     ensures room { IfOk result (λ inputs. All (λ list. most ≤ vec_capacity list) inputs.items) }
 {
     let mut inputs = Vec::with_capacity(alloc, count)?;
@@ -44,10 +48,14 @@ fn make_inputs(alloc: Global, count: usize, most: usize) -> Result<Vec<Vec<Seen>
     Ok(inputs)
 }
 
-fn make_samples(alloc: Global, count: usize) -> Result<Vec<bool>, Memory> {
-    let mut samples = Vec::new(alloc);
-    samples.resize(count, false)?;
-    Ok(samples)
+/// So many samples, or marks, of which none is set.
+fn make_unset(alloc: Global, count: usize) -> Result<Vec<bool>, Memory>
+    ensures count { IfOk result (λ unset. vec_len unset ≡ count) }
+    ensures unset { IfOk result (λ unset. set_count unset.items ≡ 0) }
+{
+    let mut unset = Vec::new(alloc);
+    unset.resize(count, false)?;
+    Ok(unset)
 }
 
 fn make_islands(
@@ -56,11 +64,13 @@ fn make_islands(
     ifs: usize,
     most: usize,
 ) -> Result<Vec<IslandLists>, Memory>
-    ensures { IfOk result (λ islands. length islands.items ≡ count) }
+    ensures count { IfOk result (λ islands. vec_len islands ≡ count) }
+    ensures cells { IfOk result (λ islands. All (λ lists. most ≤ vec_capacity lists.cells) islands.items) }
+    ensures samples { IfOk result (λ islands. All (λ lists. ifs ≤ vec_len lists.samples) islands.items) }
 {
     let mut islands = Vec::with_capacity(alloc, count)?;
     for _island in 0..count {
-        let samples = make_samples(alloc, ifs)?;
+        let samples = make_unset(alloc, ifs)?;
         let cells = Vec::with_capacity(alloc, most)?;
         islands.push(IslandLists { samples, cells })?;
     }
@@ -68,8 +78,10 @@ fn make_islands(
 }
 
 /// The most cells that a component has.
-fn most_cells(plan: &Plan<'_>) -> usize {
-    let mut most = 0;
+fn most_cells(plan: &Plan<'_>) -> usize
+    ensures { (k : ℕ) → k < length (design_of plan.now).components → length (component_at (design_of plan.now) k).cells ≤ result }
+{
+    let mut most = 0usize;
     for component in &plan.design.components {
         most = most.max(component.cells.len());
     }
@@ -77,23 +89,27 @@ fn most_cells(plan: &Plan<'_>) -> usize {
 }
 
 /// The most inputs that a component has.
-fn most_inputs(plan: &Plan<'_>) -> usize {
-    let mut most = 0;
+fn most_inputs(plan: &Plan<'_>) -> usize
+    ensures { (k : ℕ) → k < length (design_of plan.now).components → length (component_at (design_of plan.now) k).inputs ≤ result }
+{
+    let mut most = 0usize;
     for component in &plan.design.components {
         most = most.max(component.inputs.len());
     }
     most
 }
 
-/// Spare parts for all that the control of main takes, with so many samples for an island.
+/// Spare parts for all that the control of main takes, where there is room for the samples of each island.
 pub(crate) fn make_spares<'a>(
     alloc: Global,
     plan: &Plan<'_>,
-    ifs: usize,
+    room: &Room,
 ) -> Result<Spares<'a>, Memory>
     requires plan { IsPlan plan.now }
-    ensures { IfOk result (Suffices (design_of plan.now)) }
+    requires room { HasRoom (design_of plan.now) room.now }
+    ensures { IfOk result (λ spares. Supplied (design_of plan.now) 0 spares (λ k i. control_need k i) (λ x. 0)) }
 {
+    let ifs = room.samples.len();
     let cells = most_cells(plan);
     let seen = most_inputs(plan);
     let count = main_need(alloc, Piece::Boxes, plan)?;
@@ -104,7 +120,7 @@ pub(crate) fn make_spares<'a>(
     let islands = make_islands(alloc, count, ifs, cells)?;
     let count = main_need(alloc, Piece::Inputs, plan)?;
     let inputs = make_inputs(alloc, count, seen)?;
-    let marks = Vec::with_capacity(alloc, cells)?;
+    let marks = make_unset(alloc, cells)?;
     Ok(Spares {
         boxes,
         arms,

@@ -1,6 +1,6 @@
 //! Strands of statements as they are opened.
 
-ghost use Rattle.std.specs.Prelude.{◌≡◌, ◌<◌, None, IfOk, length};
+ghost use Rattle.std.specs.Prelude.{◌≡◌, ◌<◌, None, length};
 ghost use Rattle.cx_meaning.specs.Designs as plain;
 ghost use Rattle.cx_meaning.specs.Designs.{Placed, no_place};
 ghost use Rattle.cx_design.specs.PlainForms.{plain_form, plain_statement, plain_statements};
@@ -8,8 +8,10 @@ ghost use Rattle.cx_interp.specs.Callees.{IsPart};
 ghost use Rattle.cx_interp.specs.Groups.{HasLength, IsGroupOf};
 ghost use Rattle.cx_interp.specs.Islands.{IsIsland};
 ghost use Rattle.cx_interp.specs.Machines.{design_of, IsPlan, IsInstance, FormStands, StandsIn, StandIn};
+ghost use Rattle.cx_weave.specs.Ledger.{ArmsOpened, Opened};
 ghost use Rattle.cx_weave.specs.Strands.{CallsCell};
 ghost use Rattle.cx_weave.specs.Strides.{OpenAs, OpensAs};
+ghost use Rattle.cx_weave.specs.Supplied.{MayOpen, MayOpenAll};
 
 use crate::leaves::both;
 use crate::spares::{Spares, take_arms, take_box};
@@ -19,7 +21,6 @@ use cx_design::{Form, Statement};
 use cx_interp::calls::{group_length, group_row};
 use cx_interp::children::{child_number, control_of};
 use cx_interp::plan::Plan;
-use cx_text::Memory;
 
 /// A statement of an instance as it is opened.
 #[cycle(opened)]
@@ -28,11 +29,13 @@ pub(crate) fn open_statement<'a>(
     plan: &'a Plan<'_>,
     instance: usize,
     statement: &'a Statement,
-) -> Result<Strand<'a>, Memory>
+) -> Strand<'a>
     requires plan { IsPlan plan.now }
     requires instance { IsInstance (design_of plan.now) instance }
     requires statement { StandsIn (design_of plan.now) instance (plain_statement statement.now) }
-    ensures { IfOk result (OpensAs (design_of plan.now) instance (plain_statement statement.now)) }
+    requires supplied { MayOpen (design_of plan.now) instance spares.old (plain_statement statement.now) }
+    ensures opens { OpensAs (design_of plan.now) instance (plain_statement statement.now) result }
+    ensures ledger { Opened spares.old spares.new result }
 {
     open_form(spares, plan, instance, &statement.form)
 }
@@ -43,14 +46,16 @@ fn open_form<'a>(
     plan: &'a Plan<'_>,
     instance: usize,
     form: &'a Form,
-) -> Result<Strand<'a>, Memory>
+) -> Strand<'a>
     requires plan { IsPlan plan.now }
     requires instance { IsInstance (design_of plan.now) instance }
     requires form { FormStands (design_of plan.now) instance (plain_form form.now) }
-    ensures { IfOk result (OpensAs (design_of plan.now) instance (Placed (plain_form form.now) no_place)) }
+    requires supplied { MayOpen (design_of plan.now) instance spares.old (Placed (plain_form form.now) no_place) }
+    ensures opens { OpensAs (design_of plan.now) instance (Placed (plain_form form.now) no_place) result }
+    ensures ledger { Opened spares.old spares.new result }
 {
     match form {
-        Form::Empty => Ok(Strand::Idling),
+        Form::Empty => Strand::Idling,
         Form::Enable(group) => open_enable(spares, plan, instance, form, *group),
         Form::Seq(parts) => open_seq(spares, plan, instance, parts),
         Form::Par(arms) => open_par(spares, plan, instance, arms),
@@ -59,23 +64,23 @@ fn open_form<'a>(
             comb,
             yes,
             no,
-        } => Ok(Strand::Choosing {
+        } => Strand::Choosing {
             port: *test,
             comb: *comb,
             first: yes,
             second: no,
-        }),
-        Form::While { test, comb, body } => Ok(Strand::Testing {
+        },
+        Form::While { test, comb, body } => Strand::Testing {
             port: *test,
             comb: *comb,
             body,
-        }),
+        },
         Form::Repeat { count, body } => open_repeat(spares, plan, instance, *count, body),
         Form::StaticSeq { .. } => open_island(spares, plan, instance, form),
         Form::StaticPar { .. } => open_island(spares, plan, instance, form),
         Form::StaticIf { .. } => open_island(spares, plan, instance, form),
         Form::StaticRepeat { .. } => open_island(spares, plan, instance, form),
-        Form::Timed(_) => Ok(Strand::Waiting),
+        Form::Timed(_) => Strand::Waiting,
     }
 }
 
@@ -86,18 +91,20 @@ fn open_seq<'a>(
     plan: &'a Plan<'_>,
     instance: usize,
     parts: &'a [Statement],
-) -> Result<Strand<'a>, Memory>
+) -> Strand<'a>
     requires plan { IsPlan plan.now }
     requires instance { IsInstance (design_of plan.now) instance }
     requires parts { StandIn (design_of plan.now) instance (plain_statements parts.now) }
-    ensures { IfOk result (OpensAs (design_of plan.now) instance (Placed (plain.Seq (plain_statements parts.now)) no_place)) }
+    requires supplied { MayOpen (design_of plan.now) instance spares.old (Placed (plain.Seq (plain_statements parts.now)) no_place) }
+    ensures opens { OpensAs (design_of plan.now) instance (Placed (plain.Seq (plain_statements parts.now)) no_place) result }
+    ensures ledger { Opened spares.old spares.new result }
 {
     match parts.split_first() {
-        None => Ok(Strand::Idling),
+        None => Strand::Idling,
         Some((part, later)) => {
-            let run = open_statement(spares, plan, instance, part)?;
-            let first = take_box(spares, run)?;
-            Ok(Strand::InSeq { first, later })
+            let run = open_statement(spares, plan, instance, part);
+            let first = take_box(spares, run);
+            Strand::InSeq { first, later }
         }
     }
 }
@@ -109,18 +116,20 @@ fn open_par<'a>(
     plan: &'a Plan<'_>,
     instance: usize,
     arms: &'a [Statement],
-) -> Result<Strand<'a>, Memory>
+) -> Strand<'a>
     requires plan { IsPlan plan.now }
     requires instance { IsInstance (design_of plan.now) instance }
     requires arms { StandIn (design_of plan.now) instance (plain_statements arms.now) }
-    ensures { IfOk result (OpensAs (design_of plan.now) instance (Placed (plain.Par (plain_statements arms.now)) no_place)) }
+    requires supplied { MayOpen (design_of plan.now) instance spares.old (Placed (plain.Par (plain_statements arms.now)) no_place) }
+    ensures opens { OpensAs (design_of plan.now) instance (Placed (plain.Par (plain_statements arms.now)) no_place) result }
+    ensures ledger { Opened spares.old spares.new result }
 {
     if arms.is_empty() {
-        return Ok(Strand::Idling);
+        return Strand::Idling;
     }
-    let opened = open_arms(spares, plan, instance, arms)?;
-    let room = take_arms(spares, opened)?;
-    Ok(Strand::InPar(room))
+    let opened = open_arms(spares, plan, instance, arms);
+    let room = take_arms(spares, opened);
+    Strand::InPar(room)
 }
 
 /// Some arms of a par as they are opened, half by half.
@@ -130,23 +139,25 @@ fn open_arms<'a>(
     plan: &'a Plan<'_>,
     instance: usize,
     arms: &'a [Statement],
-) -> Result<Arms<'a>, Memory>
+) -> Arms<'a>
     requires plan { IsPlan plan.now }
     requires instance { IsInstance (design_of plan.now) instance }
     requires arms { StandIn (design_of plan.now) instance (plain_statements arms.now) }
     requires some { 0 < length arms.now }
-    ensures { IfOk result (OpenAs (design_of plan.now) instance (plain_statements arms.now)) }
+    requires supplied { MayOpenAll (design_of plan.now) instance spares.old (plain_statements arms.now) }
+    ensures opens { OpenAs (design_of plan.now) instance (plain_statements arms.now) result }
+    ensures ledger { ArmsOpened spares.old spares.new result }
 {
     if arms.len() == 1 {
-        let strand = open_statement(spares, plan, instance, &arms[0])?;
-        return Ok(Arms::One(strand));
+        let strand = open_statement(spares, plan, instance, &arms[0]);
+        return Arms::One(strand);
     }
     let (front, back) = arms.split_at(arms.len() / 2);
-    let first = open_arms(spares, plan, instance, front)?;
-    let second = open_arms(spares, plan, instance, back)?;
-    let one = take_arms(spares, first)?;
-    let other = take_arms(spares, second)?;
-    Ok(both(one, other))
+    let first = open_arms(spares, plan, instance, front);
+    let second = open_arms(spares, plan, instance, back);
+    let one = take_arms(spares, first);
+    let other = take_arms(spares, second);
+    both(one, other)
 }
 
 /// A repeat: its body is open, for the first round.
@@ -157,19 +168,21 @@ fn open_repeat<'a>(
     instance: usize,
     count: u64,
     body: &'a Statement,
-) -> Result<Strand<'a>, Memory>
+) -> Strand<'a>
     requires plan { IsPlan plan.now }
     requires instance { IsInstance (design_of plan.now) instance }
     requires body { StandsIn (design_of plan.now) instance (plain_statement body.now) }
-    ensures { IfOk result (OpensAs (design_of plan.now) instance (Placed (plain.Repeat count (plain_statement body.now)) no_place)) }
+    requires supplied { MayOpen (design_of plan.now) instance spares.old (Placed (plain.Repeat count (plain_statement body.now)) no_place) }
+    ensures opens { OpensAs (design_of plan.now) instance (Placed (plain.Repeat count (plain_statement body.now)) no_place) result }
+    ensures ledger { Opened spares.old spares.new result }
 {
     if count == 0 {
-        return Ok(Strand::Idling);
+        return Strand::Idling;
     }
-    let run = open_statement(spares, plan, instance, body)?;
-    let run = take_box(spares, run)?;
+    let run = open_statement(spares, plan, instance, body);
+    let run = take_box(spares, run);
     let left = count - 1;
-    Ok(Strand::InRepeat { run, left, body })
+    Strand::InRepeat { run, left, body }
 }
 
 /// The enable of a group: a static group is an island.
@@ -180,13 +193,15 @@ fn open_enable<'a>(
     instance: usize,
     form: &'a Form,
     group: u32,
-) -> Result<Strand<'a>, Memory>
+) -> Strand<'a>
     requires plan { IsPlan plan.now }
     requires instance { IsInstance (design_of plan.now) instance }
     requires form { FormStands (design_of plan.now) instance (plain_form form.now) }
     requires enable { plain_form form.now ≡ plain.Enable group }
     requires group { IsGroupOf (design_of plan.now) instance group }
-    ensures { IfOk result (OpensAs (design_of plan.now) instance (Placed (plain.Enable group) no_place)) }
+    requires supplied { MayOpen (design_of plan.now) instance spares.old (Placed (plain.Enable group) no_place) }
+    ensures opens { OpensAs (design_of plan.now) instance (Placed (plain.Enable group) no_place) result }
+    ensures ledger { Opened spares.old spares.new result }
 {
     match group_length(plan, instance, group) {
         Some(_) => open_island(spares, plan, instance, form),
@@ -201,17 +216,19 @@ fn open_dynamic<'a>(
     plan: &'a Plan<'_>,
     instance: usize,
     group: u32,
-) -> Result<Strand<'a>, Memory>
+) -> Strand<'a>
     requires plan { IsPlan plan.now }
     requires instance { IsInstance (design_of plan.now) instance }
     requires group { IsGroupOf (design_of plan.now) instance group }
     requires dynamic { HasLength (design_of plan.now) instance group None }
-    ensures { IfOk result (OpensAs (design_of plan.now) instance (Placed (plain.Enable group) no_place)) }
+    requires supplied { MayOpen (design_of plan.now) instance spares.old (Placed (plain.Enable group) no_place) }
+    ensures opens { OpensAs (design_of plan.now) instance (Placed (plain.Enable group) no_place) result }
+    ensures ledger { Opened spares.old spares.new result }
 {
     let row = group_row(plan, instance, group);
     match row.callee {
         Some(cell) => open_call(spares, plan, instance, group, cell),
-        None => Ok(Strand::InGroup(group)),
+        None => Strand::InGroup(group),
     }
 }
 
@@ -223,24 +240,26 @@ fn open_call<'a>(
     instance: usize,
     group: u32,
     cell: u32,
-) -> Result<Strand<'a>, Memory>
+) -> Strand<'a>
     requires plan { IsPlan plan.now }
     requires instance { IsInstance (design_of plan.now) instance }
     requires group { IsGroupOf (design_of plan.now) instance group }
     requires dynamic { HasLength (design_of plan.now) instance group None }
     requires part { IsPart (design_of plan.now) instance cell }
     requires calls { CallsCell (design_of plan.now) instance group cell }
-    ensures { IfOk result (OpensAs (design_of plan.now) instance (Placed (plain.Enable group) no_place)) }
+    requires supplied { MayOpen (design_of plan.now) instance spares.old (Placed (plain.Enable group) no_place) }
+    ensures opens { OpensAs (design_of plan.now) instance (Placed (plain.Enable group) no_place) result }
+    ensures ledger { Opened spares.old spares.new result }
 {
     let number = child_number(plan, instance, cell);
     let control = control_of(plan, number);
-    let run = open_statement(spares, plan, number, control)?;
-    let child = take_box(spares, run)?;
+    let run = open_statement(spares, plan, number, control);
+    let child = take_box(spares, run);
     let inputs = None;
-    Ok(Strand::InCall {
+    Strand::InCall {
         group,
         cell,
         inputs,
         child,
-    })
+    }
 }

@@ -1,16 +1,19 @@
 //! What is left of a statement behind a turn of its part.
 
-ghost use Rattle.std.specs.Prelude.{◌≡◌, None, IfOk};
+ghost use Rattle.std.specs.Prelude.{◌≡◌, ◌+◌, None};
 ghost use Rattle.cx_meaning.specs.Designs as plain;
 ghost use Rattle.cx_meaning.specs.Designs.{While};
 ghost use Rattle.cx_design.specs.PlainForms.{plain_statement, plain_statements};
 ghost use Rattle.cx_interp.specs.Machines.{design_of, IsPlan, IsInstance, FormStands, StandsIn, StandIn};
 ghost use Rattle.cx_meaning.specs.Instances.{Path, instance_at, tree_of};
 ghost use Rattle.cx_state.specs.Tables.{IsNumber};
+ghost use Rattle.cx_weave.specs.Ledger.{HasPlaces, Kind, Ledger, Opened, amount, arms_amount, arms_box_amount, arms_left_amount, box_amount, left_amount};
 ghost use Rattle.cx_weave.specs.Open.{InLoop, open_statement};
 ghost use Rattle.cx_weave.specs.Steps as steps;
 ghost use Rattle.cx_weave.specs.Strands.{plain_arms, plain_strand, Shows};
 ghost use Rattle.cx_weave.specs.Strides.{IsArmOf, IsBehind, IsInFront, IsParOf, LeavesAs};
+ghost use Rattle.cx_weave.specs.Supplied.{Supplied};
+ghost use Rattle.cx_weave.specs.Takes.{box_takes, need, needs};
 
 use crate::leaves::both;
 use crate::opening::open_statement;
@@ -19,7 +22,6 @@ use crate::strands::{Arms, Strand};
 use cx_design::Statement;
 use cx_interp::plan::Plan;
 use cx_meaning::PlacedPort;
-use cx_text::Memory;
 use std::mem::replace;
 
 /// A seq: behind a part that has ended comes the next one.
@@ -30,16 +32,18 @@ pub(crate) fn seq_left<'a>(
     room: Box<Strand<'a>>,
     left: Option<Strand<'a>>,
     later: &'a [Statement],
-) -> Result<Option<Strand<'a>>, Memory>
+) -> Option<Strand<'a>>
     requires plan { IsPlan plan.now }
     requires instance { IsInstance (design_of plan.now) instance }
     requires later { StandIn (design_of plan.now) instance (plain_statements later.now) }
-    ensures { IfOk result (λ after. LeavesAs (design_of plan.now) instance left.entry after (λ i. steps.seq_left i (plain_statements later.now))) }
+    requires supplied { Supplied (design_of plan.now) instance spares.old (λ k i. box_takes k + needs k i (plain_statements later.now)) (λ x. box_amount x + left_amount x left) }
+    ensures leaves { LeavesAs (design_of plan.now) instance left.entry result (λ i. steps.seq_left i (plain_statements later.now)) }
+    ensures ledger { Ledger spares.old spares.new (λ x. box_amount x + left_amount x left.entry) (λ x. left_amount x result) }
 {
     match left {
         Some(run) => {
             let first = refilled(room, run);
-            Ok(Some(Strand::InSeq { first, later }))
+            Some(Strand::InSeq { first, later })
         }
         None => next_part(spares, plan, instance, room, later),
     }
@@ -51,21 +55,23 @@ fn next_part<'a>(
     instance: usize,
     room: Box<Strand<'a>>,
     later: &'a [Statement],
-) -> Result<Option<Strand<'a>>, Memory>
+) -> Option<Strand<'a>>
     requires plan { IsPlan plan.now }
     requires instance { IsInstance (design_of plan.now) instance }
     requires later { StandIn (design_of plan.now) instance (plain_statements later.now) }
-    ensures { IfOk result (λ after. LeavesAs (design_of plan.now) instance None after (λ i. steps.seq_left i (plain_statements later.now))) }
+    requires supplied { Supplied (design_of plan.now) instance spares.old (λ k i. box_takes k + needs k i (plain_statements later.now)) box_amount }
+    ensures leaves { LeavesAs (design_of plan.now) instance None result (λ i. steps.seq_left i (plain_statements later.now)) }
+    ensures ledger { Ledger spares.old spares.new box_amount (λ x. left_amount x result) }
 {
     match later.split_first() {
         None => {
             give_box(spares, room);
-            Ok(None)
+            None
         }
         Some((part, later)) => {
-            let run = open_statement(spares, plan, instance, part)?;
+            let run = open_statement(spares, plan, instance, part);
             let first = refilled(room, run);
-            Ok(Some(Strand::InSeq { first, later }))
+            Some(Strand::InSeq { first, later })
         }
     }
 }
@@ -80,25 +86,27 @@ pub(crate) fn loop_left<'a>(
     port: PlacedPort,
     comb: Option<u32>,
     body: &'a Statement,
-) -> Result<Option<Strand<'a>>, Memory>
+) -> Option<Strand<'a>>
     requires stands { FormStands (design_of plan.now) instance (While port comb (plain_statement body.now)) }
-    ensures { IfOk result (λ after. LeavesAs (design_of plan.now) instance left.entry after (λ i. steps.loop_left port.port comb (plain_statement body.now))) }
+    requires places { HasPlaces spares.old (λ x. box_amount x + left_amount x left) }
+    ensures leaves { LeavesAs (design_of plan.now) instance left.entry result (λ i. steps.loop_left port.port comb (plain_statement body.now)) }
+    ensures ledger { Ledger spares.old spares.new (λ x. box_amount x + left_amount x left.entry) (λ x. left_amount x result) }
 {
     let _ = plan;
     let _ = instance;
     match left {
         Some(run) => {
             let run = refilled(room, run);
-            Ok(Some(Strand::InLoop {
+            Some(Strand::InLoop {
                 run,
                 port,
                 comb,
                 body,
-            }))
+            })
         }
         None => {
             give_box(spares, room);
-            Ok(Some(Strand::Testing { port, comb, body }))
+            Some(Strand::Testing { port, comb, body })
         }
     }
 }
@@ -112,17 +120,19 @@ pub(crate) fn repeat_left<'a>(
     left: Option<Strand<'a>>,
     rounds: u64,
     body: &'a Statement,
-) -> Result<Option<Strand<'a>>, Memory>
+) -> Option<Strand<'a>>
     requires plan { IsPlan plan.now }
     requires instance { IsInstance (design_of plan.now) instance }
     requires body { StandsIn (design_of plan.now) instance (plain_statement body.now) }
-    ensures { IfOk result (λ after. LeavesAs (design_of plan.now) instance left.entry after (λ i. steps.repeat_left i rounds (plain_statement body.now))) }
+    requires supplied { Supplied (design_of plan.now) instance spares.old (λ k i. box_takes k + need k i (plain_statement body.now)) (λ x. box_amount x + left_amount x left) }
+    ensures leaves { LeavesAs (design_of plan.now) instance left.entry result (λ i. steps.repeat_left i rounds (plain_statement body.now)) }
+    ensures ledger { Ledger spares.old spares.new (λ x. box_amount x + left_amount x left.entry) (λ x. left_amount x result) }
 {
     match left {
         Some(run) => {
             let run = refilled(room, run);
             let left = rounds;
-            Ok(Some(Strand::InRepeat { run, left, body }))
+            Some(Strand::InRepeat { run, left, body })
         }
         None => next_round(spares, plan, instance, room, rounds, body),
     }
@@ -135,20 +145,22 @@ fn next_round<'a>(
     room: Box<Strand<'a>>,
     rounds: u64,
     body: &'a Statement,
-) -> Result<Option<Strand<'a>>, Memory>
+) -> Option<Strand<'a>>
     requires plan { IsPlan plan.now }
     requires instance { IsInstance (design_of plan.now) instance }
     requires body { StandsIn (design_of plan.now) instance (plain_statement body.now) }
-    ensures { IfOk result (λ after. LeavesAs (design_of plan.now) instance None after (λ i. steps.repeat_left i rounds (plain_statement body.now))) }
+    requires supplied { Supplied (design_of plan.now) instance spares.old (λ k i. box_takes k + need k i (plain_statement body.now)) box_amount }
+    ensures leaves { LeavesAs (design_of plan.now) instance None result (λ i. steps.repeat_left i rounds (plain_statement body.now)) }
+    ensures ledger { Ledger spares.old spares.new box_amount (λ x. left_amount x result) }
 {
     if rounds == 0 {
         give_box(spares, room);
-        return Ok(None);
+        return None;
     }
-    let run = open_statement(spares, plan, instance, body)?;
+    let run = open_statement(spares, plan, instance, body);
     let run = refilled(room, run);
     let left = rounds - 1;
-    Ok(Some(Strand::InRepeat { run, left, body }))
+    Some(Strand::InRepeat { run, left, body })
 }
 
 /// The body of a while as it is opened.
@@ -159,26 +171,29 @@ pub(crate) fn open_loop<'a>(
     port: PlacedPort,
     comb: Option<u32>,
     body: &'a Statement,
-) -> Result<Strand<'a>, Memory>
+) -> Strand<'a>
     requires plan { IsPlan plan.now }
     requires instance { IsInstance (design_of plan.now) instance }
     requires stands { FormStands (design_of plan.now) instance (While port comb (plain_statement body.now)) }
-    ensures { IfOk result (λ strand. (path : Path) → IsNumber (design_of plan.now) instance path
-        → Shows (design_of plan.now) instance (plain_strand strand) (InLoop (open_statement (instance_at (tree_of (design_of plan.now)) path) (plain_statement body.now)) port.port comb (plain_statement body.now))) }
+    requires supplied { Supplied (design_of plan.now) instance spares.old (λ k i. box_takes k + need k i (plain_statement body.now)) (λ x. 0) }
+    ensures opens { (path : Path) → IsNumber (design_of plan.now) instance path
+        → Shows (design_of plan.now) instance (plain_strand result) (InLoop (open_statement (instance_at (tree_of (design_of plan.now)) path) (plain_statement body.now)) port.port comb (plain_statement body.now)) }
+    ensures ledger { Opened spares.old spares.new result }
 {
-    let run = open_statement(spares, plan, instance, body)?;
-    let run = take_box(spares, run)?;
-    Ok(Strand::InLoop {
+    let run = open_statement(spares, plan, instance, body);
+    let run = take_box(spares, run);
+    Strand::InLoop {
         run,
         port,
         comb,
         body,
-    })
+    }
 }
 
 /// An arm that has not ended.
 pub(crate) fn arm_left<'a>(left: Option<Strand<'a>>) -> Option<Arms<'a>>
-    ensures { IsArmOf left.entry result }
+    ensures arm { IsArmOf left.entry result }
+    ensures amount { (x : Kind) → arms_left_amount x result ≡ left_amount x left.entry }
 {
     match left {
         Some(arm) => Some(Arms::One(arm)),
@@ -192,7 +207,9 @@ pub(crate) fn par_left<'a>(
     room: Box<Arms<'a>>,
     left: Option<Arms<'a>>,
 ) -> Option<Strand<'a>>
-    ensures { IsParOf left.entry result }
+    requires places { HasPlaces spares.old (λ x. arms_box_amount x + arms_left_amount x left) }
+    ensures par { IsParOf left.entry result }
+    ensures ledger { Ledger spares.old spares.new (λ x. arms_box_amount x + arms_left_amount x left.entry) (λ x. left_amount x result) }
 {
     match left {
         Some(arms) => Some(Strand::InPar(refilled_arms(room, arms))),
@@ -210,7 +227,9 @@ pub(crate) fn front_left<'a>(
     left: Option<Arms<'a>>,
     other: Box<Arms<'a>>,
 ) -> Arms<'a>
-    ensures { IsInFront left.entry (plain_arms other.entry.value) (plain_arms result) }
+    requires places { HasPlaces spares.old (λ x. (arms_box_amount x + arms_left_amount x left) + (arms_box_amount x + arms_amount x other.value)) }
+    ensures front { IsInFront left.entry (plain_arms other.entry.value) (plain_arms result) }
+    ensures ledger { Ledger spares.old spares.new (λ x. (arms_box_amount x + arms_left_amount x left.entry) + (arms_box_amount x + arms_amount x other.entry.value)) (λ x. arms_amount x result) }
 {
     match left {
         Some(one) => both(refilled_arms(room, one), other),
@@ -228,7 +247,9 @@ pub(crate) fn back_left<'a>(
     room: Box<Arms<'a>>,
     left: Option<Arms<'a>>,
 ) -> Arms<'a>
-    ensures { IsBehind left.entry (plain_arms one.entry.value) (plain_arms result) }
+    requires places { HasPlaces spares.old (λ x. (arms_box_amount x + arms_amount x one.value) + (arms_box_amount x + arms_left_amount x left)) }
+    ensures behind { IsBehind left.entry (plain_arms one.entry.value) (plain_arms result) }
+    ensures ledger { Ledger spares.old spares.new (λ x. (arms_box_amount x + arms_amount x one.entry.value) + (arms_box_amount x + arms_left_amount x left.entry)) (λ x. arms_amount x result) }
 {
     match left {
         Some(other) => both(one, refilled_arms(room, other)),
@@ -241,7 +262,9 @@ pub(crate) fn back_left<'a>(
 
 /// The half that alone is open.
 fn only<'a>(spares: &mut Spares<'a>, half: Box<Arms<'a>>) -> Arms<'a>
-    ensures { result ≡ half.entry.value }
+    requires places { HasPlaces spares.old arms_box_amount }
+    ensures value { result ≡ half.entry.value }
+    ensures ledger { Ledger spares.old spares.new arms_box_amount (λ x. 0) }
 {
     let mut half = half;
     let arms = replace(&mut *half, Arms::One(Strand::Waiting));

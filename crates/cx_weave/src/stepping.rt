@@ -1,11 +1,13 @@
 //! A turn of one leaf of what is open.
 
-ghost use Rattle.std.specs.Prelude.{◌<◌, ◌+◌, ℕ};
+ghost use Rattle.std.specs.Prelude.{◌<◌, ◌+◌, ℕ, vec_capacity};
 ghost use Rattle.cx_meaning.specs.Designs.{While};
 ghost use Rattle.cx_design.specs.PlainForms.{plain_statement, plain_statements};
 ghost use Rattle.cx_interp.specs.Machines.{design_of, rows_of, IsPlan, IsAt, IsInstance};
+ghost use Rattle.cx_weave.specs.Ledger.{ArmsTurned, HasPlaces, Turned, amount, arms_amount, arms_box_amount, box_amount, inputs_amount};
 ghost use Rattle.cx_weave.specs.Strands.{ACall, ALoop, APar, ARepeat, ASeq, AreShown, IsShown, arms_leaves, both_arms, one_arm, plain_arms, plain_strand, seen_items, strand_leaves};
 ghost use Rattle.cx_weave.specs.Strides.{HasStepped, HaveStepped};
+ghost use Rattle.cx_weave.specs.Supplied.{MayTurn, MayTurnAll};
 
 use crate::calls::{call_left, hold_call};
 use crate::islands::step_island;
@@ -13,8 +15,8 @@ use crate::leaf_turns::{step_capture, step_choice, step_closing, step_group, ste
 use crate::leaves::count_arms;
 use crate::parts::{arm_left, back_left, front_left, loop_left, par_left, repeat_left, seq_left};
 use crate::spares::Spares;
-use crate::strands::{Arms, Halt, Strand};
-use cx_design::Statement;
+use crate::strands::{Arms, Strand};
+use cx_design::{PortFault, Statement};
 use cx_interp::children::child_number;
 use cx_interp::machine::Machine;
 use cx_interp::plan::Plan;
@@ -30,14 +32,16 @@ pub(crate) fn step<'a>(
     instance: usize,
     strand: Strand<'a>,
     leaf: u32,
-) -> Result<Option<Strand<'a>>, Halt>
+) -> Result<Option<Strand<'a>>, PortFault>
     requires plan { IsPlan plan.now }
     requires machine { IsAt plan.now machine.old }
     requires instance { IsInstance (design_of plan.now) instance }
     requires shown { IsShown (design_of plan.now) instance (plain_strand strand) }
     requires leaf { leaf < strand_leaves (plain_strand strand) }
+    requires supplied { MayTurn (design_of plan.now) instance spares.old (plain_strand strand) (λ x. amount x strand) }
     ensures machine { IsAt plan.now machine.new }
     ensures stepped { HasStepped (design_of plan.now) (rows_of machine.old) (rows_of machine.new) instance (plain_strand strand.entry) leaf result }
+    ensures ledger { Turned spares.old spares.new (λ x. amount x strand.entry) result }
 {
     match strand {
         Strand::Idling => Ok(None),
@@ -112,17 +116,19 @@ fn step_seq<'a>(
     first: Strand<'a>,
     later: &'a [Statement],
     leaf: u32,
-) -> Result<Option<Strand<'a>>, Halt>
+) -> Result<Option<Strand<'a>>, PortFault>
     requires plan { IsPlan plan.now }
     requires machine { IsAt plan.now machine.old }
     requires instance { IsInstance (design_of plan.now) instance }
     requires shown { IsShown (design_of plan.now) instance (ASeq (plain_strand first) (plain_statements later.now)) }
     requires leaf { leaf < strand_leaves (plain_strand first) }
+    requires supplied { MayTurn (design_of plan.now) instance spares.old (ASeq (plain_strand first) (plain_statements later.now)) (λ x. box_amount x + amount x first) }
     ensures machine { IsAt plan.now machine.new }
     ensures stepped { HasStepped (design_of plan.now) (rows_of machine.old) (rows_of machine.new) instance (ASeq (plain_strand first.entry) (plain_statements later.now)) leaf result }
+    ensures ledger { Turned spares.old spares.new (λ x. box_amount x + amount x first.entry) result }
 {
     let left = step(spares, plan, machine, instance, first, leaf)?;
-    Ok(seq_left(spares, plan, instance, room, left, later)?)
+    Ok(seq_left(spares, plan, instance, room, left, later))
 }
 
 /// That of a par: of its arms.
@@ -135,14 +141,16 @@ fn step_par<'a>(
     room: Box<Arms<'a>>,
     arms: Arms<'a>,
     leaf: u32,
-) -> Result<Option<Strand<'a>>, Halt>
+) -> Result<Option<Strand<'a>>, PortFault>
     requires plan { IsPlan plan.now }
     requires machine { IsAt plan.now machine.old }
     requires instance { IsInstance (design_of plan.now) instance }
     requires shown { IsShown (design_of plan.now) instance (APar (plain_arms arms)) }
     requires leaf { leaf < arms_leaves (plain_arms arms) }
+    requires supplied { MayTurn (design_of plan.now) instance spares.old (APar (plain_arms arms)) (λ x. arms_box_amount x + arms_amount x arms) }
     ensures machine { IsAt plan.now machine.new }
     ensures stepped { HasStepped (design_of plan.now) (rows_of machine.old) (rows_of machine.new) instance (APar (plain_arms arms.entry)) leaf result }
+    ensures ledger { Turned spares.old spares.new (λ x. arms_box_amount x + arms_amount x arms.entry) result }
 {
     let left = step_arms(spares, plan, machine, instance, arms, leaf)?;
     Ok(par_left(spares, room, left))
@@ -157,14 +165,16 @@ fn step_arms<'a>(
     instance: usize,
     arms: Arms<'a>,
     leaf: u32,
-) -> Result<Option<Arms<'a>>, Halt>
+) -> Result<Option<Arms<'a>>, PortFault>
     requires plan { IsPlan plan.now }
     requires machine { IsAt plan.now machine.old }
     requires instance { IsInstance (design_of plan.now) instance }
     requires shown { AreShown (design_of plan.now) instance (plain_arms arms) }
     requires leaf { leaf < arms_leaves (plain_arms arms) }
+    requires supplied { MayTurnAll (design_of plan.now) instance spares.old (plain_arms arms) (λ x. arms_amount x arms) }
     ensures machine { IsAt plan.now machine.new }
     ensures stepped { HaveStepped (design_of plan.now) (rows_of machine.old) (rows_of machine.new) instance (plain_arms arms.entry) leaf result }
+    ensures ledger { ArmsTurned spares.old spares.new (λ x. arms_amount x arms.entry) result }
 {
     match arms {
         Arms::One(strand) => step_arm(spares, plan, machine, instance, strand, leaf),
@@ -189,14 +199,16 @@ fn step_arm<'a>(
     instance: usize,
     arm: Strand<'a>,
     leaf: u32,
-) -> Result<Option<Arms<'a>>, Halt>
+) -> Result<Option<Arms<'a>>, PortFault>
     requires plan { IsPlan plan.now }
     requires machine { IsAt plan.now machine.old }
     requires instance { IsInstance (design_of plan.now) instance }
     requires shown { IsShown (design_of plan.now) instance (plain_strand arm) }
     requires leaf { leaf < strand_leaves (plain_strand arm) }
+    requires supplied { MayTurn (design_of plan.now) instance spares.old (plain_strand arm) (λ x. amount x arm) }
     ensures machine { IsAt plan.now machine.new }
     ensures stepped { HaveStepped (design_of plan.now) (rows_of machine.old) (rows_of machine.new) instance (one_arm (plain_strand arm.entry)) leaf result }
+    ensures ledger { ArmsTurned spares.old spares.new (λ x. amount x arm.entry) result }
 {
     let left = step(spares, plan, machine, instance, arm, leaf)?;
     Ok(arm_left(left))
@@ -212,14 +224,17 @@ fn step_front<'a>(
     one: Box<Arms<'a>>,
     other: Box<Arms<'a>>,
     leaf: u32,
-) -> Result<Option<Arms<'a>>, Halt>
+) -> Result<Option<Arms<'a>>, PortFault>
     requires plan { IsPlan plan.now }
     requires machine { IsAt plan.now machine.old }
     requires instance { IsInstance (design_of plan.now) instance }
     requires shown { AreShown (design_of plan.now) instance (plain_arms one.value) }
     requires leaf { leaf < arms_leaves (plain_arms one.value) }
+    requires supplied { MayTurnAll (design_of plan.now) instance spares.old (plain_arms one.value) (λ x. arms_amount x one.value) }
+    requires places { HasPlaces spares.old (λ x. (arms_box_amount x + arms_amount x one.value) + (arms_box_amount x + arms_amount x other.value)) }
     ensures machine { IsAt plan.now machine.new }
     ensures stepped { (leaves : ℕ) → HaveStepped (design_of plan.now) (rows_of machine.old) (rows_of machine.new) instance (both_arms leaves (plain_arms one.entry.value) (plain_arms other.entry.value)) leaf result }
+    ensures ledger { ArmsTurned spares.old spares.new (λ x. (arms_box_amount x + arms_amount x one.entry.value) + (arms_box_amount x + arms_amount x other.entry.value)) result }
 {
     let mut room = one;
     let half = replace(&mut *room, Arms::One(Strand::Waiting));
@@ -237,14 +252,17 @@ fn step_back<'a>(
     one: Box<Arms<'a>>,
     other: Box<Arms<'a>>,
     leaf: u32,
-) -> Result<Option<Arms<'a>>, Halt>
+) -> Result<Option<Arms<'a>>, PortFault>
     requires plan { IsPlan plan.now }
     requires machine { IsAt plan.now machine.old }
     requires instance { IsInstance (design_of plan.now) instance }
     requires shown { AreShown (design_of plan.now) instance (plain_arms other.value) }
     requires leaf { leaf < arms_leaves (plain_arms other.value) }
+    requires supplied { MayTurnAll (design_of plan.now) instance spares.old (plain_arms other.value) (λ x. arms_amount x other.value) }
+    requires places { HasPlaces spares.old (λ x. (arms_box_amount x + arms_amount x one.value) + (arms_box_amount x + arms_amount x other.value)) }
     ensures machine { IsAt plan.now machine.new }
     ensures stepped { (leaves : ℕ) → HaveStepped (design_of plan.now) (rows_of machine.old) (rows_of machine.new) instance (both_arms leaves (plain_arms one.entry.value) (plain_arms other.entry.value)) (arms_leaves (plain_arms one.entry.value) + leaf) result }
+    ensures ledger { ArmsTurned spares.old spares.new (λ x. (arms_box_amount x + arms_amount x one.entry.value) + (arms_box_amount x + arms_amount x other.entry.value)) result }
 {
     let mut room = other;
     let half = replace(&mut *room, Arms::One(Strand::Waiting));
@@ -265,17 +283,19 @@ fn step_loop<'a>(
     comb: Option<u32>,
     body: &'a Statement,
     leaf: u32,
-) -> Result<Option<Strand<'a>>, Halt>
+) -> Result<Option<Strand<'a>>, PortFault>
     requires plan { IsPlan plan.now }
     requires machine { IsAt plan.now machine.old }
     requires instance { IsInstance (design_of plan.now) instance }
     requires shown { IsShown (design_of plan.now) instance (ALoop (plain_strand run) port comb (plain_statement body.now)) }
     requires leaf { leaf < strand_leaves (plain_strand run) }
+    requires supplied { MayTurn (design_of plan.now) instance spares.old (ALoop (plain_strand run) port comb (plain_statement body.now)) (λ x. box_amount x + amount x run) }
     ensures machine { IsAt plan.now machine.new }
     ensures stepped { HasStepped (design_of plan.now) (rows_of machine.old) (rows_of machine.new) instance (ALoop (plain_strand run.entry) port comb (plain_statement body.now)) leaf result }
+    ensures ledger { Turned spares.old spares.new (λ x. box_amount x + amount x run.entry) result }
 {
     let left = step(spares, plan, machine, instance, run, leaf)?;
-    Ok(loop_left(spares, plan, instance, room, left, port, comb, body)?)
+    Ok(loop_left(spares, plan, instance, room, left, port, comb, body))
 }
 
 /// That of a repeat: of its body.
@@ -290,17 +310,19 @@ fn step_repeat<'a>(
     rounds: u64,
     body: &'a Statement,
     leaf: u32,
-) -> Result<Option<Strand<'a>>, Halt>
+) -> Result<Option<Strand<'a>>, PortFault>
     requires plan { IsPlan plan.now }
     requires machine { IsAt plan.now machine.old }
     requires instance { IsInstance (design_of plan.now) instance }
     requires shown { IsShown (design_of plan.now) instance (ARepeat (plain_strand run) rounds (plain_statement body.now)) }
     requires leaf { leaf < strand_leaves (plain_strand run) }
+    requires supplied { MayTurn (design_of plan.now) instance spares.old (ARepeat (plain_strand run) rounds (plain_statement body.now)) (λ x. box_amount x + amount x run) }
     ensures machine { IsAt plan.now machine.new }
     ensures stepped { HasStepped (design_of plan.now) (rows_of machine.old) (rows_of machine.new) instance (ARepeat (plain_strand run.entry) rounds (plain_statement body.now)) leaf result }
+    ensures ledger { Turned spares.old spares.new (λ x. box_amount x + amount x run.entry) result }
 {
     let left = step(spares, plan, machine, instance, run, leaf)?;
-    Ok(repeat_left(spares, plan, instance, room, left, rounds, body)?)
+    Ok(repeat_left(spares, plan, instance, room, left, rounds, body))
 }
 
 /// That of a call: of the child's control, with the inputs of the call held.
@@ -316,19 +338,21 @@ fn step_call<'a>(
     room: Box<Strand<'a>>,
     child: Strand<'a>,
     leaf: u32,
-) -> Result<Option<Strand<'a>>, Halt>
+) -> Result<Option<Strand<'a>>, PortFault>
     requires plan { IsPlan plan.now }
     requires machine { IsAt plan.now machine.old }
     requires instance { IsInstance (design_of plan.now) instance }
     requires shown { IsShown (design_of plan.now) instance (ACall group cell (seen_items (λ v. v.items) inputs) (plain_strand child)) }
     requires leaf { leaf < strand_leaves (plain_strand child) }
+    requires supplied { MayTurn (design_of plan.now) instance spares.old (ACall group cell (seen_items (λ v. v.items) inputs) (plain_strand child)) (λ x. box_amount x + inputs_amount (λ list. vec_capacity list) x inputs + amount x child) }
     ensures machine { IsAt plan.now machine.new }
     ensures stepped { HasStepped (design_of plan.now) (rows_of machine.old) (rows_of machine.new) instance (ACall group cell (seen_items (λ v. v.items) inputs) (plain_strand child.entry)) leaf result }
+    ensures ledger { Turned spares.old spares.new (λ x. box_amount x + inputs_amount (λ list. vec_capacity list) x inputs + amount x child.entry) result }
 {
     let number = child_number(plan, instance, cell);
-    let inputs = hold_call(spares, plan, machine, instance, group, cell, number, inputs)?;
+    let inputs = hold_call(spares, plan, machine, instance, group, cell, number, inputs);
     let left = step(spares, plan, machine, number, child, leaf)?;
     Ok(call_left(
         spares, plan, instance, group, cell, inputs, room, left, number,
-    )?)
+    ))
 }

@@ -1,11 +1,7 @@
 //! What is open of a statement.
 
-ghost use Rattle.std.specs.Prelude.{◌≡◌};
-ghost use Rattle.cx_weave.specs.declared.strands.Halt.TheVariants as halts;
-
-use cx_design::{Form, PortFault, Statement};
+use cx_design::{Form, Statement};
 use cx_meaning::{PlacedPort, Seen};
-use cx_text::Memory;
 
 /// An island of dynamic control before one of its cycles, with so many left: the samples of its static ifs by their numbers,
 /// and the cells that it drives, ascending.
@@ -89,20 +85,4 @@ pub(crate) enum Arms<'a> {
         one: Box<Arms<'a>>,
         other: Box<Arms<'a>>,
     },
-}
-
-/// Why a turn did not come about.
-#[derive(Clone, Copy, Debug, PartialEq, Eq)]
-pub(crate) enum Halt {
-    Fault(PortFault),
-    /// An allocation was refused.
-    Memory,
-}
-
-impl From<Memory> for Halt {
-    ghost from_gives = { λ _ e. e ≡ halts.Memory };
-
-    fn from(_e: Memory) -> Halt {
-        Halt::Memory
-    }
 }

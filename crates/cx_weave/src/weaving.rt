@@ -7,8 +7,10 @@ ghost use Rattle.cx_rules.specs.Externals.{external_rows};
 ghost use Rattle.cx_design.specs.PlainDesigns.{plain_design};
 ghost use Rattle.cx_state.specs.States.{words_in, IsUnheld, StandsFor};
 ghost use Rattle.cx_interp.specs.Machines.{design_of, rows_of, IsPlan, IsAt};
-ghost use Rattle.cx_weave.specs.Results.{EndsIn, HaltedAs, LeavesWords, TellsArm, TellsRun, TellsWoven};
+ghost use Rattle.cx_weave.specs.Results.{EndsIn, LeavesWords, TellsArm, TellsRun, TellsWoven};
 ghost use Rattle.cx_weave.specs.Strands.{IsCounted, plain_strand, strand_leaves};
+ghost use Rattle.cx_weave.specs.Supplied.{Supplied};
+ghost use Rattle.cx_weave.specs.Takes.{control_need};
 ghost use Rattle.cx_weave.specs.Woven.{by_list, woven};
 
 use crate::laws::{run_ends_too, run_faults_too, takes_no_more};
@@ -17,7 +19,7 @@ use crate::making::make_spares;
 use crate::opening::open_statement;
 use crate::spares::Spares;
 use crate::stepping::step;
-use crate::strands::{Halt, Strand};
+use crate::strands::Strand;
 use cx_design::{Checked, PortFault};
 use cx_interp::Interp;
 use cx_interp::children::control_of;
@@ -49,16 +51,6 @@ fn chosen_leaf(list: &[u32], made: u64, strand: &Strand<'_>) -> u32
     leaf as u32
 }
 
-/// What is told of a turn that did not come about, behind so many choices.
-fn halted(halt: Halt, made: u64) -> Result<Wove, Memory>
-    ensures { HaltedAs halt made result }
-{
-    match halt {
-        Halt::Fault(fault) => Ok(Wove::Fault(fault, made)),
-        Halt::Memory => Err(Memory),
-    }
-}
-
 /// Makes choices from the start of main's control.
 fn weave_on<'a>(
     spares: &mut Spares<'a>,
@@ -66,29 +58,31 @@ fn weave_on<'a>(
     machine: &mut Machine<'_>,
     list: &[u32],
     steps: u64,
-) -> Result<Wove, Memory>
+) -> Wove
     requires plan { IsPlan plan.now }
     requires machine { IsAt plan.now machine.old }
     requires unheld { IsUnheld (rows_of machine.old) }
     requires some { 0 < length list.now }
+    requires supplied { Supplied (design_of plan.now) 0 spares.old (λ k i. control_need k i) (λ x. 0) }
     ensures machine { IsAt plan.now machine.new }
     ensures woven { (words : List (List ℕ)) → StandsFor (tree_of (design_of plan.now)) (rows_of machine.old) (start (tree_of (design_of plan.now)) words)
-        → IfOk result (λ wove. EndsIn (design_of plan.now) (rows_of machine.new) wove (woven (design_of plan.now) words (by_list list.now) steps)) }
+        → EndsIn (design_of plan.now) (rows_of machine.new) result (woven (design_of plan.now) words (by_list list.now) steps) }
 {
     rows_stand();
+    takes_no_more();
     let control = control_of(plan, 0);
-    let mut strand = open_statement(spares, plan, 0, control)?;
+    let mut strand = open_statement(spares, plan, 0, control);
     let mut sum = 0u128;
     for made in 0..steps {
         let leaf = chosen_leaf(list, made, &strand);
         strand = match step(spares, plan, machine, 0, strand, leaf) {
             Ok(Some(left)) => left,
-            Ok(None) => return Ok(Wove::End(made + 1, sum + u128::from(leaf))),
-            Err(halt) => return halted(halt, made),
+            Ok(None) => return Wove::End(made + 1, sum + u128::from(leaf)),
+            Err(fault) => return Wove::Fault(fault, made),
         };
         sum += u128::from(leaf);
     }
-    Ok(Wove::More)
+    Wove::More
 }
 
 /// Makes spare parts, and then choices from the start of main's control.
@@ -107,9 +101,8 @@ fn weave_plan(
     ensures woven { (words : List (List ℕ)) → StandsFor (tree_of (design_of plan.now)) (rows_of machine.old) (start (tree_of (design_of plan.now)) words)
         → IfOk result (λ wove. EndsIn (design_of plan.now) (rows_of machine.new) wove (woven (design_of plan.now) words (by_list list.now) steps)) }
 {
-    takes_no_more();
-    let mut spares = make_spares(alloc, plan, machine.room.samples.len())?;
-    weave_on(&mut spares, plan, machine, list, steps)
+    let mut spares = make_spares(alloc, plan, &machine.room)?;
+    Ok(weave_on(&mut spares, plan, machine, list, steps))
 }
 
 /// Runs a design by choices: choice j is the entry of the list at j modulo its length, and names a leaf modulo their number.

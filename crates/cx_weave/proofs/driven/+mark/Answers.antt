@@ -11,14 +11,19 @@ use Rattle.cx_weave.proofs.MarkSteps.{comb_drives, form_groups, joined_drive, or
 use Rattle.cx_weave.proofs.driven.+mark.Goals as goal
 
 pub mark_all-loop-part-preserved : goal.mark_all-loop-part-preserved
-mark_all-loop-part-preserved t c = (
-  c.mark_form.ensures.length ∙ c.loop-part.invariant.0,
-  λ path q number.
-      let part = part_of (instance_at (tree_of (design_of c.args.plan.now)) path) in
-      parts_marked part c.args.parts.now c.loop-part.part-index q c.part-item.result (is_marked c.loop-part.marks q) (is_marked c.mark_form.new.marks q) (omega arith) c.part-item.is
-      (c.mark_form.ensures.marked path q number ∙ ap (λ gs. groups_drive part gs q || is_marked c.loop-part.marks q) (form_groups c.part-item.result))
-      (groups_drive part (groups_in_all (plain_statements c.args.parts.now)) q || is_marked c.args.marks.now q) (c.loop-part.invariant.1 path q number),
-)
+mark_all-loop-part-preserved t c =
+    let before = c.loop-part.invariant.room in
+    let more = c.mark_form.ensures.room in
+    record {
+      length = c.mark_form.ensures.length ∙ c.loop-part.invariant.length;
+      marked = λ path q number.
+          let part = part_of (instance_at (tree_of (design_of c.args.plan.now)) path) in
+          parts_marked part c.args.parts.now c.loop-part.part-index q c.part-item.result (is_marked c.loop-part.marks q) (is_marked c.mark_form.new.marks q) (omega arith) c.part-item.is
+          (c.mark_form.ensures.marked path q number ∙ ap (λ gs. groups_drive part gs q || is_marked c.loop-part.marks q) (form_groups c.part-item.result))
+          (groups_drive part (groups_in_all (plain_statements c.args.parts.now)) q || is_marked c.args.marks.now q) (c.loop-part.invariant.marked path q number);
+      lists = c.mark_form.ensures.lists;
+      room = omega (arith, before, more);
+    }
 
 pub mark_form-returns-in-If-clause-marked : goal.mark_form-returns-in-If-clause-marked
 mark_form-returns-in-If-clause-marked t c path q number =

@@ -1,7 +1,8 @@
-use Rattle.std.proofs.Common.{◌≡◌, ℕ, false, length}
+use Rattle.std.proofs.Common.{◌≡◌, ◌&&◌, not, ℕ, length, take}
+use Rattle.cx_eval_cycle.specs.Passes.{listed_in}
 use Rattle.cx_weave.specs.Marks.{is_marked}
 use Rattle.cx_weave.proofs.driven.clear_marks.Given as goal
 
--- so many marks, none of which is set
+-- the listed cells so far have lost their marks
 abbrev pub invariant-loop-cell : goal.invariant-loop-cell
-invariant-loop-cell l = (length l.marks.items ≡ l._cell) × ((c : ℕ) → is_marked l.marks.items c ≡ false)
+invariant-loop-cell l = (length l.marks ≡ length l.fn.marks) × ((c : ℕ) → is_marked l.marks c ≡ (not (listed_in (take l.cell-index l.cells) c) && is_marked l.fn.marks c))

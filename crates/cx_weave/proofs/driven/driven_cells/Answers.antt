@@ -1,60 +1,47 @@
-use Rattle.std.proofs.Common.{◌≡◌, ◌||◌, ℕ, Bool, List, [], get_or, length, ap, ◌∙◌, subst, arith}
-use Rattle.std.proofs.lemmas.List.{with_items_is}
-use Rattle.std.proofs.lemmas.Result.{IfOk-weaker}
-use Rattle.std.specs.Vec.{with_items}
-use Rattle.cx_meaning.specs.Control.{groups_drive, groups_in}
-use Rattle.cx_meaning.specs.Instances.{Path, paths_of, part_of, instance_at, tree_of}
+use Rattle.std.proofs.Common.{◌&&◌, ◌<◌, not, ℕ, List, get_or, length, sym, ap, ◌∙◌, subst}
+use Rattle.std.specs.Prelude.{All}
+use Rattle.std.proofs.lemmas.List.Sorted.{IsNonDecreasingBy-from_sort}
+use Rattle.cx_meaning.specs.Control.{groups_in}
 use Rattle.cx_design.specs.PlainForms.{plain_form}
+use Rattle.cx_eval_cycle.specs.Passes.{listed_in}
 use Rattle.cx_interp.specs.Machines.{design_of}
-use Rattle.cx_interp.proofs.HoldLemmas.{own_path}
-use Rattle.cx_state.specs.Tables.{IsNumber}
-use Rattle.cx_weave.specs.Marks.{is_marked}
-use Rattle.cx_weave.proofs.CellKinds.{few_cells, within_cells}
-use Rattle.cx_weave.proofs.MarkSteps.{marks_driven}
+use Rattle.cx_weave.specs.Leaves.{form_drives}
+use Rattle.cx_weave.specs.Marks.{Lists, is_marked}
+use Rattle.cx_weave.specs.Strands.{ListDriven}
+use Rattle.cx_weave.proofs.MarkLists.{listed_at, lists_cleared, lists_inside, lists_start, moved_ascends, moved_marked, set_none}
+use Rattle.cx_weave.proofs.MarkSteps.{groups_within, marks_driven}
 use Rattle.cx_weave.proofs.driven.driven_cells.Goals as goal
 
-pub marked_cells-requires : goal.marked_cells-requires
-marked_cells-requires c =
-    let d = design_of c.args.plan.now in
-    let own = own_path d c.args.instance c.requires.instance in
-    let path = get_or (paths_of (tree_of d)) c.args.instance [] in
-    let few = few_cells d c.requires.plan.design c.args.plan.now.table.rows.items c.args.plan.now.table.children.items c.requires.plan.table c.args.instance c.instance_part.result.now c.instance_part.ensures path own in
-    let count = c.len-count.ensures in
-    let none = c.in_ok-clear_marks.ensures.length in
-    let marked = c.mark_form.ensures.length in
-    let first = c.deref_mut.ensures.value in
-    let same : length c.mark_form.new.marks ≡ length c.clear_marks.new.marks.items = marked ∙ ap (λ (xs : List Bool). length xs) first in
-    let items : (with_items c.clear_marks.new.marks c.mark_form.new.marks).items ≡ c.mark_form.new.marks = with_items_is c.clear_marks.new.marks c.mark_form.new.marks (marked ∙ c.deref_mut.ensures.len) in
-    let long : length c.deref.result.now ≡ length c.mark_form.new.marks = ap (λ (xs : List Bool). length xs) (c.deref.ensures.value ∙ items) in
-    record { few = omega (arith, few, count, none, same, long) }
+pub mark_form-requires-clause-lists : goal.mark_form-requires-clause-lists
+mark_form-requires-clause-lists c = subst (λ (xs : List ℕ). Lists c.args.marks.now xs) (sym c.clear.ensures.items) (lists_start c.args.marks.now c.requires.clear)
+
+pub clear_marks-requires : goal.clear_marks-requires
+clear_marks-requires c = record {
+  within = subst (λ (xs : List ℕ). All (λ k. k < length c.mark_form.new.marks) xs) (sym c.as_slice.ensures.value) (lists_inside c.mark_form.new.marks c.mark_form.new.cells.items c.mark_form.ensures.lists);
+}
 
 pub returns-clause-driven : goal.returns-clause-driven
 returns-clause-driven c =
-    let d = design_of c.args.plan.now in
-    let form = plain_form c.args.form.now in
-    let first : c.deref_mut.result.now ≡ c.clear_marks.new.marks.items = c.deref_mut.ensures.value in
-    let same : length c.mark_form.new.marks ≡ length c.clear_marks.new.marks.items = c.mark_form.ensures.length ∙ ap (λ (xs : List Bool). length xs) first in
-    let items : (with_items c.clear_marks.new.marks c.mark_form.new.marks).items ≡ c.mark_form.new.marks = with_items_is c.clear_marks.new.marks c.mark_form.new.marks (c.mark_form.ensures.length ∙ c.deref_mut.ensures.len) in
-    let all : c.deref.result.now ≡ c.mark_form.new.marks = c.deref.ensures.value ∙ items in
-    IfOk-weaker c.marked_cells.result _ _
-    (λ done listed.
-    marks_driven d c.args.instance form c.clear_marks.new.marks.items c.mark_form.new.marks c.marked_cells.new.cells.items c.in_ok-clear_marks.ensures.none
-    (subst (λ xs. (path : Path) (k : ℕ) → IsNumber d c.args.instance path → is_marked c.mark_form.new.marks k ≡ (groups_drive (part_of (instance_at (tree_of d) path)) (groups_in form) k || is_marked xs k)) first c.mark_form.ensures.marked)
-    (λ k. listed k ∙ ap (λ xs. is_marked xs k) all))
-    c.marked_cells.ensures.marked
+    marks_driven (design_of c.args.plan.now) c.args.instance (plain_form c.args.form.now) c.args.marks.now c.mark_form.new.marks c.sort_unstable.new.self.items (set_none c.args.marks.now c.requires.clear) c.mark_form.ensures.marked
+    (moved_marked c.mark_form.new.marks c.mark_form.new.cells.items c.mark_form.ensures.lists c.sort_unstable.new.self.items c.sort_unstable.ensures.permutation)
+
+pub returns-clause-ascending : goal.returns-clause-ascending
+returns-clause-ascending c =
+    moved_ascends c.mark_form.new.marks c.mark_form.new.cells.items c.mark_form.ensures.lists c.sort_unstable.new.self.items c.sort_unstable.ensures.permutation
+    (IsNonDecreasingBy-from_sort (λ k. k) c.sort_unstable.new.self.items c.sort_unstable.ensures.sorted)
 
 pub returns-clause-within : goal.returns-clause-within
-returns-clause-within c =
+returns-clause-within c path number k e less =
     let d = design_of c.args.plan.now in
-    let first : c.deref_mut.result.now ≡ c.clear_marks.new.marks.items = c.deref_mut.ensures.value in
-    let same : length c.mark_form.new.marks ≡ length c.clear_marks.new.marks.items = c.mark_form.ensures.length ∙ ap (λ (xs : List Bool). length xs) first in
-    let items : (with_items c.clear_marks.new.marks c.mark_form.new.marks).items ≡ c.mark_form.new.marks = with_items_is c.clear_marks.new.marks c.mark_form.new.marks (c.mark_form.ensures.length ∙ c.deref_mut.ensures.len) in
-    let long : length c.deref.result.now ≡ length c.mark_form.new.marks = ap (λ (xs : List Bool). length xs) (c.deref.ensures.value ∙ items) in
-    IfOk-weaker c.marked_cells.result _ _
-    (λ done within path number k e less.
-    let inside = within k e less in
-    let whole = within_cells d c.requires.plan.design c.args.plan.now.table.rows.items c.args.plan.now.table.children.items c.requires.plan.table c.args.instance c.instance_part.result.now c.instance_part.ensures path number in
-    let count = c.len-count.ensures in
-    let none = c.in_ok-clear_marks.ensures.length in
-    omega (arith, inside, whole, count, none, same, long))
-    c.marked_cells.ensures.within
+    let form = plain_form c.args.form.now in
+    let cells = c.sort_unstable.new.self.items in
+    let driven : ListDriven d c.args.instance cells (λ part. form_drives part form) =
+    marks_driven d c.args.instance form c.args.marks.now c.mark_form.new.marks cells (set_none c.args.marks.now c.requires.clear) c.mark_form.ensures.marked
+    (moved_marked c.mark_form.new.marks c.mark_form.new.cells.items c.mark_form.ensures.lists cells c.sort_unstable.ensures.permutation) in
+    groups_within d c.requires.plan.design c.args.plan.now.table.rows.items c.args.plan.now.table.children.items c.requires.plan.table c.args.instance path number (groups_in form) (get_or cells k e)
+    (sym (driven path (get_or cells k e) number) ∙ listed_at cells k e less)
+
+pub returns-clause-clear : goal.returns-clause-clear
+returns-clause-clear c =
+    lists_cleared c.mark_form.new.marks c.mark_form.new.cells.items c.mark_form.ensures.lists c.clear_marks.new.marks
+    (λ q. c.clear_marks.ensures.cleared q ∙ ap (λ (xs : List ℕ). not (listed_in xs q) && is_marked c.mark_form.new.marks q) c.as_slice.ensures.value)

@@ -14,8 +14,8 @@ group_row-row-requires-clause-group c path number =
     let long = c.len-count.ensures in
     first_of (omega (arith, count, less, long), search (rules, count, less, long))
 
-pub mark_cells-requires : goal.mark_cells-requires
-mark_cells-requires c =
+pub mark_cells-requires-clause-within : goal.mark_cells-requires-clause-within
+mark_cells-requires-clause-within c =
     let d = design_of c.args.plan.now in
     let own = own_path d c.args.instance c.requires.instance in
     let path = get_or (paths_of (tree_of d)) c.args.instance [] in
@@ -26,8 +26,6 @@ mark_cells-requires c =
     first_of (omega (arith, count, less, long), search (rules, count, less, long))) in
     let within = row_within d c.requires.plan.design c.args.plan.now.table.rows.items c.args.plan.now.table.children.items c.requires.plan.table c.args.instance c.args.group c.group_row-row.result.now is_group c.group_row-row.ensures path own in
     let marks = c.requires.marks path own in
-    record {
-      within = λ k e less.
-          let inside = subst (λ xs. (j f : ℕ) → j < length xs → get_or xs j f < length (part_of (instance_at (tree_of d) path)).cells) (sym c.as_slice.ensures.value) within k e less in
-          omega (arith, inside, marks);
-    }
+    λ k e less.
+    let inside = subst (λ xs. (j f : ℕ) → j < length xs → get_or xs j f < length (part_of (instance_at (tree_of d) path)).cells) (sym c.as_slice.ensures.value) within k e less in
+    omega (arith, inside, marks)

@@ -1,6 +1,6 @@
 use Rattle.std.proofs.Common.{rules, ◌≡◌, ◌<◌, ◌+◌, ◌-◌, suc, Ok, Err, Some, None, [], length, get_or, sym, ap, ◌∙◌, subst, arith}
 use Rattle.std.proofs.lemmas.List.{with_items_is}
-use Rattle.std.specs.Vec.{with_items}
+use Rattle.std.specs.Vec.{vec_capacity, with_items}
 use Rattle.cx_text.specs.declared.limits.TheConstants.{REPETITIONS}
 use Rattle.cx_meaning.specs.Instances.{part_of, instance_at, paths_of, tree_of}
 use Rattle.cx_meaning.specs.Islands.{form_length}
@@ -11,7 +11,6 @@ use Rattle.cx_interp.specs.Machines.{design_of, rows_of}
 use Rattle.cx_interp.proofs.HoldLemmas.{own_path}
 use Rattle.cx_interp.proofs.IslandLemmas.{island_short}
 use Rattle.cx_state.specs.ReadStates.{state_in}
-use Rattle.cx_weave.specs.declared.strands.Halt.TheVariants as halts
 use Rattle.cx_weave.specs.declared.strands.Island.{Island}
 use Rattle.cx_weave.specs.declared.strands.Strand.TheVariants as strands
 use Rattle.cx_weave.specs.Leaves.{form_drives}
@@ -19,6 +18,10 @@ use Rattle.cx_weave.specs.Strands.{AnIsland, KeptBefore, ListDriven}
 use Rattle.cx_weave.specs.Strides.{HasStepped, IslandTaken}
 use Rattle.cx_weave.proofs.IslandSteps.{island_ends, island_goes, island_held, island_kept, island_stops, one_path}
 use Rattle.cx_weave.proofs.StrandFolds.{is_island}
+use Rattle.cx_weave.specs.Ledger.{island_amount, left_amount}
+use Rattle.cx_weave.proofs.Amounts.{amount_island}
+use Rattle.cx_weave.proofs.IslandSupplies.{island_place}
+use Rattle.cx_weave.proofs.PartLedgers.{same_amounts}
 use Rattle.cx_weave.proofs.islands.step_island.Goals as goal
 
 pub returns-then-left-eq0-clause-stepped : goal.returns-then-left-eq0-clause-stepped
@@ -97,5 +100,19 @@ returns-clause-stepped c =
     subst (λ xs. IslandTaken d rows new c.args.instance form t (samples_of xs) (samples_of next) (Err c.in-Err.fault)) same (subst (λ r. IslandTaken d rows new c.args.instance form t (samples_of c.deref_mut.result.now) (samples_of next) r) c.in-Err.is c.take_cycle.ensures.taken) in
     let held : HeldAlike rows new = island_held d rows new c.args.instance form t c.args.island.left samples next cells (Err c.in-Err.fault) told kept path (state_in (tree_of d) rows) own stood in
     let some : c.args.island.left ≡ suc (c.args.island.left - 1) = (let a = c.if-left-eq0.false in first_of (omega (arith, a), search (rules, a))) in
-    subst (λ m. HasStepped d rows new c.args.instance (AnIsland form t m samples cells) c.args.leaf (Err (halts.Fault c.in-Err.fault))) (sym some)
+    subst (λ m. HasStepped d rows new c.args.instance (AnIsland form t m samples cells) c.args.leaf (Err c.in-Err.fault)) (sym some)
     (island_stops d rows new c.args.instance c.args.leaf form t samples cells (c.args.island.left - 1) next held c.in-Err.fault told)
+
+pub give_island-requires : goal.give_island-requires
+give_island-requires c = record { place = island_place c.args.spares.now (vec_capacity c.args.island.cells) (length c.args.island.samples.items) c.requires.places }
+
+pub returns-in-Ok-clause-ledger : goal.returns-in-Ok-clause-ledger
+returns-in-Ok-clause-ledger c =
+    let next = c.take_cycle.new.samples in
+    let after : Island = record { form = c.args.island.form; cycle = c.args.island.cycle + 1; left = c.args.island.left - 1; samples = with_items c.args.island.samples next; cells = c.args.island.cells } in
+    let same : c.deref_mut.result.now ≡ c.args.island.samples.items = c.deref_mut.ensures.value in
+    let long : length next ≡ length c.args.island.samples.items = c.take_cycle.ensures.length ∙ ap (λ xs. length xs) same in
+    let items : (with_items c.args.island.samples next).items ≡ next = with_items_is c.args.island.samples next (c.take_cycle.ensures.length ∙ c.deref_mut.ensures.len) in
+    let count : length (with_items c.args.island.samples next).items ≡ length c.args.island.samples.items = ap (λ xs. length xs) items ∙ long in
+    same_amounts c.args.spares.now (λ x. island_amount x (vec_capacity c.args.island.cells) (length c.args.island.samples.items)) (λ x. left_amount x (Some (strands.InIsland after)))
+    (λ x. ap (λ m. island_amount x (vec_capacity c.args.island.cells) m) (sym count) ∙ sym (amount_island x after))

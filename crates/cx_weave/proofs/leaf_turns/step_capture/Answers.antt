@@ -13,6 +13,7 @@ use Rattle.cx_weave.specs.declared.strands.Strand.TheVariants as strands
 use Rattle.cx_weave.specs.Open.{Closing}
 use Rattle.cx_weave.specs.Strands.{Shows}
 use Rattle.cx_weave.specs.Strides.{TakesTurn}
+use Rattle.cx_weave.proofs.Amounts.{amount_closing}
 use Rattle.cx_weave.proofs.StrandFolds.{is_closing}
 use Rattle.cx_weave.proofs.LeafSteps.{capture_goes, capture_faults}
 use Rattle.cx_weave.proofs.leaf_turns.step_capture.Goals as goal
@@ -42,3 +43,6 @@ returns-in-Err-clause-stepped c =
     let taken : TakesTurn d rows (rows_of c.take_capture.new.machine) c.args.instance (turns.Faults c.in-Err.fault) (λ i held s. own_capture i held c.args.group c.args.cell s) =
     subst (λ r. TakesTurn d rows (rows_of c.take_capture.new.machine) c.args.instance (cycle_as r) (λ i held s. own_capture i held c.args.group c.args.cell s)) c.in-Err.is c.take_capture.ensures.taken in
     capture_faults d c.args.instance c.args.leaf rows (rows_of c.take_capture.new.machine) c.args.group path (state_in (tree_of d) rows) number stood c.args.cell c.in-Err.fault taken
+
+pub returns-in-Ok-clause-ledger : goal.returns-in-Ok-clause-ledger
+returns-in-Ok-clause-ledger c x = amount_closing x c.args.group

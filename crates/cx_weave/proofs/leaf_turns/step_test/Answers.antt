@@ -7,6 +7,7 @@ use Rattle.cx_interp.proofs.StandLemmas.{test_port, test_comb}
 use Rattle.cx_weave.specs.Leaves.{test_drives}
 use Rattle.cx_weave.specs.Strides.{HasRested}
 use Rattle.cx_weave.proofs.LeafSteps.{test_holds, test_fails}
+use Rattle.cx_weave.proofs.Ledgers.{untouched}
 use Rattle.cx_weave.proofs.leaf_turns.step_test.Goals as goal
 
 pub test-requires-clause-port : goal.test-requires-clause-port
@@ -21,13 +22,13 @@ rest_comb-requires-clause-comb c = test_comb (design_of c.args.plan.now) c.requi
 pub rest_comb-requires-in-Ok-false-clause-comb : goal.rest_comb-requires-in-Ok-false-clause-comb
 rest_comb-requires-in-Ok-false-clause-comb c = test_comb (design_of c.args.plan.now) c.requires.plan.accepted c.requires.plan.design c.args.plan.now.table.rows.items c.args.plan.now.table.children.items c.requires.plan.table c.args.instance (While c.args.port c.args.comb (plain_statement c.args.body.now)) c.args.comb c.requires.stands (λ part w. w)
 
-pub returns-in_ok-open_loop-in-Ok-true-clause-stepped : goal.returns-in_ok-open_loop-in-Ok-true-clause-stepped
-returns-in_ok-open_loop-in-Ok-true-clause-stepped c =
+pub returns-in-Ok-true-clause-stepped : goal.returns-in-Ok-true-clause-stepped
+returns-in-Ok-true-clause-stepped c =
     let d = design_of c.args.plan.now in
     let rows = rows_of c.args.machine.now in
     let told : Tested d rows c.args.instance c.args.port.port c.args.comb (Ok true) = subst (λ b. Tested d rows c.args.instance c.args.port.port c.args.comb (Ok b)) c.in-Ok-true.field-0-test c.in-Ok-true.ensures.tested in
     let rests : HasRested d rows (rows_of c.rest_comb.new.machine) c.args.instance (λ part. test_drives part c.args.comb) = subst (λ m. HasRested d (rows_of m) (rows_of c.rest_comb.new.machine) c.args.instance (λ part. test_drives part c.args.comb)) c.test.ensures.same c.rest_comb.ensures.rested in
-    test_holds d c.args.instance c.args.leaf rows (rows_of c.rest_comb.new.machine) c.args.port c.args.comb (plain_statement c.args.body.now) (plain_statement c.args.body.now) c.in_ok-open_loop-in-Ok-true.field-0 told rests c.in_ok-open_loop-in-Ok-true.ensures
+    test_holds d c.args.instance c.args.leaf rows (rows_of c.rest_comb.new.machine) c.args.port c.args.comb (plain_statement c.args.body.now) (plain_statement c.args.body.now) c.open_loop.result told rests c.open_loop.ensures.opens
 
 pub returns-in-Ok-false-clause-stepped : goal.returns-in-Ok-false-clause-stepped
 returns-in-Ok-false-clause-stepped c =
@@ -36,3 +37,9 @@ returns-in-Ok-false-clause-stepped c =
     let told : Tested d rows c.args.instance c.args.port.port c.args.comb (Ok false) = subst (λ b. Tested d rows c.args.instance c.args.port.port c.args.comb (Ok b)) c.in-Ok-false.field-0-test c.in-Ok-false.ensures.tested in
     let rests : HasRested d rows (rows_of c.rest_comb-in-Ok-false.new.machine) c.args.instance (λ part. test_drives part c.args.comb) = subst (λ m. HasRested d (rows_of m) (rows_of c.rest_comb-in-Ok-false.new.machine) c.args.instance (λ part. test_drives part c.args.comb)) c.test.ensures.same c.rest_comb-in-Ok-false.ensures.rested in
     test_fails d c.args.instance c.args.leaf rows (rows_of c.rest_comb-in-Ok-false.new.machine) c.args.port c.args.comb (plain_statement c.args.body.now) (plain_statement c.args.body.now) told rests
+
+pub returns-in-Ok-true-clause-ledger : goal.returns-in-Ok-true-clause-ledger
+returns-in-Ok-true-clause-ledger c = c.open_loop.ensures.ledger
+
+pub returns-in-Ok-false-clause-ledger : goal.returns-in-Ok-false-clause-ledger
+returns-in-Ok-false-clause-ledger c = untouched c.args.spares.now (λ x. 0)

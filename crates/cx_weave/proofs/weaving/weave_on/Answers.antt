@@ -13,23 +13,30 @@ use Rattle.cx_weave.specs.declared.weaving.Wove.TheVariants.{End}
 use Rattle.cx_weave.specs.Results.{EndsIn}
 use Rattle.cx_weave.specs.Woven.{by_list, woven}
 use Rattle.cx_weave.proofs.PartSteps.{counted_shown, some_leaf}
-use Rattle.cx_weave.proofs.WeaveSteps.{WovenSoFar, left_shown, weave_ends, weave_goes, weave_halts, weave_more, weave_starts}
+use Rattle.cx_weave.proofs.WeaveSteps.{WovenSoFar, left_shown, weave_ends, weave_faults, weave_goes, weave_more, weave_starts}
+use Rattle.cx_weave.specs.Ledger.{Turned, amount}
+use Rattle.cx_weave.proofs.WeaveSupplies.{left_may, main_asked, main_may}
 use Rattle.cx_weave.proofs.weaving.weave_on.Goals as goal
 
 pub control_of-control-requires-clause-instance : goal.control_of-control-requires-clause-instance
 control_of-control-requires-clause-instance c = main_there (tree_of (design_of c.args.plan.now))
 
-pub open_statement-requires-clause-statement : goal.open_statement-requires-clause-statement
-open_statement-requires-clause-statement c = control_stands (design_of c.args.plan.now) 0 (plain_statement c.control_of-control.result.now) c.control_of-control.ensures
+pub open_statement-strand-requires-clause-statement : goal.open_statement-strand-requires-clause-statement
+open_statement-strand-requires-clause-statement c = control_stands (design_of c.args.plan.now) 0 (plain_statement c.control_of-control.result.now) c.control_of-control.ensures
+
+pub open_statement-strand-requires-clause-supplied : goal.open_statement-strand-requires-clause-supplied
+open_statement-strand-requires-clause-supplied c = main_asked (design_of c.args.plan.now) 0 c.args.spares.now (plain_statement c.control_of-control.result.now) c.control_of-control.ensures c.requires.supplied
 
 pub loop-made-init : goal.loop-made-init
 loop-made-init c =
     let d = design_of c.args.plan.now in (
       c.requires.machine,
-      (open_statement (instance_at (tree_of d) []) (plain_statement c.control_of-control.result.now), c.in_ok-strand.ensures [] (main_first (tree_of d))),
+      (open_statement (instance_at (tree_of d) []) (plain_statement c.control_of-control.result.now), c.open_statement-strand.ensures.opens [] (main_first (tree_of d))),
       c.requires.unheld 0,
-      λ words stands. weave_starts d words (by_list c.args.list.now) c.args.steps (plain_statement c.control_of-control.result.now) c.in_ok-strand.strand (rows_of c.args.machine.now) c.control_of-control.ensures c.in_ok-strand.ensures stands,
+      λ words stands. weave_starts d words (by_list c.args.list.now) c.args.steps (plain_statement c.control_of-control.result.now) c.open_statement-strand.result (rows_of c.args.machine.now) c.control_of-control.ensures c.open_statement-strand.ensures.opens stands,
       omega arith,
+      main_may d 0 c.args.spares.now (plain_statement c.control_of-control.result.now) c.control_of-control.ensures c.requires.supplied c.open_statement-strand.new.spares c.open_statement-strand.result c.open_statement-strand.ensures.opens
+          c.open_statement-strand.ensures.ledger,
     )
 
 pub chosen_leaf-leaf-requires-clause-leaves : goal.chosen_leaf-leaf-requires-clause-leaves
@@ -62,13 +69,16 @@ returns-in-Ok-None-clause-woven c = λ words stands.
     (weave_ends d words (by_list c.args.list.now) c.args.steps c.loop-made.made c.loop-made.sum c.chosen_leaf-leaf.result (plain_strand c.loop-made.strand) (rows_of c.loop-made.machine) c.loop-made-test.true c.chosen_leaf-leaf.ensures c.loop-made.invariant.2
     (c.loop-made.invariant.3 words stands) (rows_of c.step.new.machine) turn)
 
+pub step-requires-clause-supplied : goal.step-requires-clause-supplied
+step-requires-clause-supplied c = c.loop-made.invariant.5
+
 pub returns-in-Err-clause-woven : goal.returns-in-Err-clause-woven
 returns-in-Err-clause-woven c = λ words stands.
     let d = design_of c.args.plan.now in
-    let turn : HasStepped d (rows_of c.loop-made.machine) (rows_of c.step.new.machine) 0 (plain_strand c.loop-made.strand) c.chosen_leaf-leaf.result (Err c.in-Err.halt) =
+    let turn : HasStepped d (rows_of c.loop-made.machine) (rows_of c.step.new.machine) 0 (plain_strand c.loop-made.strand) c.chosen_leaf-leaf.result (Err c.in-Err.fault) =
     subst (λ r. HasStepped d (rows_of c.loop-made.machine) (rows_of c.step.new.machine) 0 (plain_strand c.loop-made.strand) c.chosen_leaf-leaf.result r) c.in-Err.is c.step.ensures.stepped in
-    weave_halts d words (by_list c.args.list.now) c.args.steps c.loop-made.made c.loop-made.sum c.chosen_leaf-leaf.result (plain_strand c.loop-made.strand) (rows_of c.loop-made.machine) c.loop-made-test.true c.chosen_leaf-leaf.ensures c.loop-made.invariant.2
-    (c.loop-made.invariant.3 words stands) (rows_of c.step.new.machine) c.in-Err.halt c.halted.result turn c.halted.ensures
+    weave_faults d words (by_list c.args.list.now) c.args.steps c.loop-made.made c.loop-made.sum c.chosen_leaf-leaf.result (plain_strand c.loop-made.strand) (rows_of c.loop-made.machine) c.loop-made-test.true c.chosen_leaf-leaf.ensures c.loop-made.invariant.2
+    (c.loop-made.invariant.3 words stands) (rows_of c.step.new.machine) c.in-Err.fault turn
 
 pub loop-made-preserved : goal.loop-made-preserved
 loop-made-preserved c =
@@ -87,6 +97,8 @@ loop-made-preserved c =
           (weave_goes d words (by_list c.args.list.now) c.args.steps c.loop-made.made c.loop-made.sum c.chosen_leaf-leaf.result (plain_strand c.loop-made.strand) (rows_of c.loop-made.machine) c.loop-made-test.true c.chosen_leaf-leaf.ensures c.loop-made.invariant.2
           (c.loop-made.invariant.3 words stands) (rows_of c.step.new.machine) c.in-Ok-Some.left turn),
       omega (arith, bound, small, same),
+      left_may d (rows_of c.loop-made.machine) (rows_of c.step.new.machine) 0 c.chosen_leaf-leaf.result (plain_strand c.loop-made.strand) c.in-Ok-Some.left c.loop-made.spares c.step.new.spares (λ x. amount x c.loop-made.strand) turn (state_in (tree_of d) (rows_of c.loop-made.machine)) stood
+          (subst (λ r. Turned c.loop-made.spares c.step.new.spares (λ x. amount x c.loop-made.strand) r) (c.in-Ok-Some.is ∙ ap (λ o. Ok o) c.in-Ok-Some.field-0-is) c.step.ensures.ledger) c.loop-made.invariant.5,
     )
 
 pub returns-clause-woven : goal.returns-clause-woven
