@@ -312,7 +312,7 @@ const LINES: [(&str, (u64, u64), (Status, &str, &str)); 58] = [
 ];
 
 /// The words of a line over files that are full or one byte longer, and what is told: the first file that is too long or absent decides.
-const LENGTHS: [(&str, &str); 14] = [
+const LENGTHS: [(&str, &str); 16] = [
     ("check full", "refused 1:1 unexpected\n"),
     ("interp full five 9", "refused 1:1 unexpected\n"),
     ("interp other data 9", "data not-json\n"),
@@ -324,6 +324,8 @@ const LENGTHS: [(&str, &str); 14] = [
     ("interp long wide 9", "too-long long 1048577\n"),
     ("interp other wide 9", "too-long wide 16777217\n"),
     ("interp full wide 9", "too-long wide 16777217\n"),
+    ("weave long five 9 0", "too-long long 1048577\n"),
+    ("weave full wide 9 0", "too-long wide 16777217\n"),
     ("sim text five 9", "too-long text 83886081\n"),
     ("sim text absent 9", "too-long text 83886081\n"),
     ("sim counter wide 9", "too-long wide 16777217\n"),
