@@ -9,7 +9,8 @@ use std::marker::Model;
 /// A width of 1 to 128 bits and a value below two to the width. Contracts see it as a `BitVector`.
 #[derive(Clone, Copy, Debug, PartialEq, Eq)]
 pub struct Bits {
-    width: u8,
+    // A whole word: a narrower one would leave a gap, which is copied in pieces.
+    width: u64,
     value: u128,
 }
 
@@ -37,7 +38,10 @@ impl Bits {
         if width < 128 && value >> width != 0 {
             return None;
         }
-        Some(Bits { width, value })
+        Some(Bits {
+            width: u64::from(width),
+            value,
+        })
     }
 
     /// The width in bits.
@@ -45,7 +49,7 @@ impl Bits {
         ensures value { result ≡ self.width }
         ensures within { (1 ≤ result) × (result ≤ 128) }
     {
-        self.width
+        self.width as u8
     }
 
     /// The value, below two to the width.
@@ -210,7 +214,7 @@ impl Bits {
         requires within { width ≤ self.width }
         ensures value { result ≡ low_bits_of self width }
     {
-        reduced(width, self.value)
+        reduced(u64::from(width), self.value)
     }
 
     /// The same value at a width from the own to 128: zeros above.
@@ -220,7 +224,7 @@ impl Bits {
         ensures value { result ≡ zero_extension_of self width }
     {
         Bits {
-            width,
+            width: u64::from(width),
             value: self.value,
         }
     }
@@ -238,7 +242,7 @@ impl Bits {
 }
 
 /// The value modulo two to the width.
-fn reduced(width: u8, value: u128) -> Bits
+fn reduced(width: u64, value: u128) -> Bits
     requires some_bits { 1 ≤ width }
     requires few_bits { width ≤ 128 }
     ensures { result ≡ record { width = width; value = value % 2 ^ width } }
@@ -250,7 +254,7 @@ fn reduced(width: u8, value: u128) -> Bits
 }
 
 /// The greatest value of a width: that many ones.
-fn ones(width: u8) -> u128
+fn ones(width: u64) -> u128
     requires some_bits { 1 ≤ width }
     requires few_bits { width ≤ 128 }
     ensures { result ≡ 2 ^ width - 1 }
