@@ -1,5 +1,6 @@
 pub mod Arrays
 pub mod Codes
+pub mod Operands
 pub mod Values
 pub mod Fits
 pub mod Looks

@@ -40,11 +40,14 @@ pub(crate) fn mark_all(stale: &mut [u8])
     }
 }
 
-/// The first marked rank from one on.
+/// The first marked rank from one on. Where many nets change, it is the very next one.
 pub(crate) fn next_marked(stale: &[u8], from: usize) -> Option<usize>
     requires { from ≤ length stale.now }
     ensures { IsNextStale stale.now from result }
 {
+    if from < stale.len() && stale[from] == 1 {
+        return Some(from);
+    }
     match memchr(1, &stale[from..]) {
         Some(steps) => Some(from + steps),
         None => None,

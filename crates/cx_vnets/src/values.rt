@@ -1,16 +1,19 @@
 //! The value of a code, or the first net that it waits for.
 
-ghost use Rattle.std.specs.Prelude.{◌≡◌, ◌+◌, IsSome, Some};
+ghost use Rattle.std.specs.Prelude.{◌≡◌, ◌+◌, IsSome, Some, option_map};
 ghost use Rattle.cx_vnets.specs.Codes.{code_width};
-ghost use Rattle.cx_vnets.specs.Arrays.{IsEven};
+ghost use Rattle.cx_vtree.specs.Operators as operators;
+ghost use Rattle.cx_vnets.specs.Arrays.{IsEven, array_width, word_at};
 ghost use Rattle.cx_vnets.specs.Looks.{look, seen_from, words_from, widths_from, array_widths_from};
 ghost use Rattle.cx_vnets.specs.Edges.{code_of, width_of};
+ghost use Rattle.cx_vnets.specs.Operands.{above, applied, applied_to, choice, chosen_from, joined_to};
 
 use crate::arrays::{Words, word};
 use crate::codes::{Code, NetPosition};
 use crate::marks::{FoundValue, NetMark, seen};
 use crate::operators::{operate, part};
 use cx_bits::Bits;
+use cx_vtree::Operator;
 
 /// The number of a net or an array among all.
 fn number(start: u32, offset: u32) -> usize
@@ -73,7 +76,10 @@ pub fn value(
     }
 }
 
-/// What a code of an instance gives where all nets have their values.
+/// What a code of an instance gives where all nets have their values. Most codes are nets, literals or choices among them: what is
+/// no operator is found here, without a further call.
+#[cycle(settled)]
+#[inline]
 pub fn settled(values: &[Bits], arrays: &[Words], place: NetPosition, code: &Code) -> Bits
     requires even { IsEven arrays.now }
     requires fits { IsSome (width_of values.now arrays.now place code.now) }
@@ -83,27 +89,90 @@ pub fn settled(values: &[Bits], arrays: &[Words], place: NetPosition, code: &Cod
         Code::Net(k) => values[number(place.nets, *k)],
         Code::Literal(bits) => *bits,
         Code::Slice(k, high, low) => part(values[number(place.nets, *k)], *high, *low),
-        Code::Item(a, index) => {
-            let at = settled(values, arrays, place, index);
-            word(&arrays[number(place.arrays, *a)], at)
-        }
-        Code::Binary(op, left, right) => {
-            let x = settled(values, arrays, place, left);
-            let y = settled(values, arrays, place, right);
-            operate(*op, x, y)
-        }
-        Code::Not(inner) => settled(values, arrays, place, inner).not(),
-        Code::Choose(test, one, other) => {
-            if settled(values, arrays, place, test).value() == 0 {
-                settled(values, arrays, place, other)
-            } else {
-                settled(values, arrays, place, one)
-            }
-        }
-        Code::Cat(high, low) => {
-            let x = settled(values, arrays, place, high);
-            let y = settled(values, arrays, place, low);
-            x.cat(y)
-        }
+        Code::Item(a, index) => word_settled(values, arrays, place, *a, index),
+        Code::Binary(op, left, right) => operated(values, arrays, place, *op, left, right),
+        Code::Not(inner) => inverted(values, arrays, place, inner),
+        Code::Choose(test, one, other) => chosen(values, arrays, place, test, one, other),
+        Code::Cat(high, low) => joined(values, arrays, place, high, low),
     }
+}
+
+/// The word of an array at an index.
+#[cycle(settled)]
+fn word_settled(
+    values: &[Bits],
+    arrays: &[Words],
+    place: NetPosition,
+    array: u32,
+    index: &Code,
+) -> Bits
+    requires even { IsEven arrays.now }
+    requires index { IsSome (width_of values.now arrays.now place index.now) }
+    requires there { IsSome (array_width arrays.now (place.arrays + array)) }
+    ensures { option_map (λ i. word_at arrays.now (place.arrays + array) i.value) (code_of values.now arrays.now place index.now) ≡ Some result }
+{
+    let at = settled(values, arrays, place, index);
+    word(&arrays[number(place.arrays, array)], at)
+}
+
+/// What an operator gives of two operands.
+#[cycle(settled)]
+fn operated(
+    values: &[Bits],
+    arrays: &[Words],
+    place: NetPosition,
+    op: Operator,
+    left: &Code,
+    right: &Code,
+) -> Bits
+    requires even { IsEven arrays.now }
+    requires fits { IsSome (applied_to op (width_of values.now arrays.now place left.now) (width_of values.now arrays.now place right.now)) }
+    ensures { applied op (code_of values.now arrays.now place left.now) (code_of values.now arrays.now place right.now) ≡ Some result }
+{
+    let x = settled(values, arrays, place, left);
+    let y = settled(values, arrays, place, right);
+    operate(op, x, y)
+}
+
+/// Each bit inverted.
+#[cycle(settled)]
+fn inverted(values: &[Bits], arrays: &[Words], place: NetPosition, inner: &Code) -> Bits
+    requires even { IsEven arrays.now }
+    requires fits { IsSome (width_of values.now arrays.now place inner.now) }
+    ensures { option_map operators.inverted (code_of values.now arrays.now place inner.now) ≡ Some result }
+{
+    settled(values, arrays, place, inner).not()
+}
+
+/// The second of three codes where the first is not 0, else the third.
+#[cycle(settled)]
+fn chosen(
+    values: &[Bits],
+    arrays: &[Words],
+    place: NetPosition,
+    test: &Code,
+    one: &Code,
+    other: &Code,
+) -> Bits
+    requires even { IsEven arrays.now }
+    requires fits { IsSome (chosen_from (width_of values.now arrays.now place test.now) (width_of values.now arrays.now place one.now) (width_of values.now arrays.now place other.now)) }
+    ensures { choice (code_of values.now arrays.now place test.now) (code_of values.now arrays.now place one.now) (code_of values.now arrays.now place other.now) ≡ Some result }
+{
+    if settled(values, arrays, place, test).value() == 0 {
+        settled(values, arrays, place, other)
+    } else {
+        settled(values, arrays, place, one)
+    }
+}
+
+/// The first of two codes above the second.
+#[cycle(settled)]
+fn joined(values: &[Bits], arrays: &[Words], place: NetPosition, high: &Code, low: &Code) -> Bits
+    requires even { IsEven arrays.now }
+    requires fits { IsSome (joined_to (width_of values.now arrays.now place high.now) (width_of values.now arrays.now place low.now)) }
+    ensures { above (code_of values.now arrays.now place high.now) (code_of values.now arrays.now place low.now) ≡ Some result }
+{
+    let x = settled(values, arrays, place, high);
+    let y = settled(values, arrays, place, low);
+    x.cat(y)
 }
