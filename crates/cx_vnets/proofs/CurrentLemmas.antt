@@ -14,6 +14,7 @@ use Rattle.cx_vnets.specs.declared.stores.Write.{Write}
 use Rattle.cx_vnets.specs.declared.machines.Machine.{Machine}
 use Rattle.cx_vnets.specs.declared.machines.Bench.{Bench}
 use Rattle.cx_vnets.specs.Arrays.{word_of, word_at}
+use Rattle.cx_vnets.specs.Gates.{ZerosStand}
 use Rattle.cx_vnets.specs.Readers.{IsListed, IsWatch, IsRanked, Agrees, Sweeping, IsCurrent, SameWords, Stays}
 use Rattle.cx_vnets.specs.Runs.{AreValues, IsReady}
 use Rattle.cx_vnets.specs.Stale.{rank_at, Tells}
@@ -27,9 +28,9 @@ use Rattle.cx_vnets.proofs.WatchLemmas.{net_hears, rule_alike}
 use Rattle.cx_vnets.proofs.WholeLooks.{same_length}
 
 -- what is not marked agrees still
-pub current_moved : (m : Machine) (s t : Stored) (b c : Bench) → IsCurrent m s b → c.values.items ≡ b.values.items
+pub current_moved : (m : Machine) (s t : Stored) (b c : Bench) → IsCurrent m s b → c.values.items ≡ b.values.items → c.nonzero.items ≡ b.nonzero.items
     → Tells m.readers.ranks.items b.stale.items c.stale.items (Stays s t (edges_of m.readers.of_arrays.items)) → IsCurrent m t c
-current_moved m s t b c current same tells = record {
+current_moved m s t b c current same nonzero tells = record {
   readers = current.readers;
   long = tells.long ∙ current.long;
   agree = λ is f lt free.
@@ -43,6 +44,7 @@ current_moved m s t b c current same tells = record {
       (λ g v sided. (op : Operator) → is_sided op ≡ Some sided → option_map (λ x. operate op x v) (slice_get values g) ≡ option_map (λ x. operate op x v) (slice_get values g))
       (λ g i. refl) stays.1 (λ g v sided i op tells_side. refl) f (current.readers.found f lt)))
       ∙ current.agree is f lt (tells.kept (rank_at m.readers.ranks.items f) free));
+  nonzero = λ is. subst (λ zs. ZerosStand zs c.values.items) (sym nonzero) (subst (λ (vs : List BitVector). ZerosStand b.nonzero.items vs) (sym same) (current.nonzero is));
 }
 
 -- a word by the plain words
@@ -86,10 +88,10 @@ pub written_back : {A : Type 0} (new rest : List A) (len : ℕ) → len ≡ leng
 written_back new rest len same = ap (λ k. take k (new ++ rest)) same ∙ take-append_seam new rest
 
 -- with other inputs
-pub inputs_current : (m : Machine) (s t : Stored) (b c : Bench) → IsCurrent m s b → c.values.items ≡ b.values.items → t.arrays.items ≡ s.arrays.items
+pub inputs_current : (m : Machine) (s t : Stored) (b c : Bench) → IsCurrent m s b → c.values.items ≡ b.values.items → c.nonzero.items ≡ b.nonzero.items → t.arrays.items ≡ s.arrays.items
     → Tells m.readers.ranks.items b.stale.items c.stale.items (λ f. slice_get t.nets.items f ≡ slice_get s.nets.items f) → IsCurrent m t c
-inputs_current m s t b c current values arrays tells =
-    current_moved m s t b c current values
+inputs_current m s t b c current values nonzero arrays tells =
+    current_moved m s t b c current values nonzero
     (tells_so m.readers.ranks.items b.stale.items c.stale.items (λ f. slice_get t.nets.items f ≡ slice_get s.nets.items f) (Stays s t (edges_of m.readers.of_arrays.items)) tells
     (λ f e. (sym e, λ a listed i. ap (λ xs. word_at xs a i) (sym arrays))))
 

@@ -1,8 +1,9 @@
 -- Nets that are 0 where their gates are.
-use Rattle.std.proofs.Common.{◌≡◌, ◌≢◌, ℕ, zero, suc, ◌+◌, ◌<◌, ◌==◌, ◌⊎◌, inl, inr, ⊎_elim, true, false, List, [], ◌∷◌, ◌++◌, Option, Some, None, IfSome, IsSome, option_and_then, option_map, length, slice_get, refl, ap, sym, ◌∙◌, subst, if◌then◌else◌, bit_and, arith}
+use Rattle.std.proofs.Common.{◌≡◌, ◌≢◌, ℕ, zero, suc, ◌+◌, ◌<◌, ◌==◌, ◌⊎◌, inl, inr, ⊎_elim, true, false, List, [], ◌∷◌, ◌++◌, Option, Some, None, IfSome, IsSome, option_and_then, option_map, length, set, slice_get, refl, ap, sym, ◌∙◌, subst, if◌then◌else◌, bit_and, arith}
 use Rattle.std.specs.Int.Bits.{and_zero_l}
-use Rattle.std.proofs.lemmas.Bool.{cases_eq}
-use Rattle.std.proofs.lemmas.Option.{same_Some}
+use Rattle.std.proofs.lemmas.Bool.{cases_Bool, cases_eq, cases_lt}
+use Rattle.std.proofs.lemmas.List.{length-set, get_or-set_same}
+use Rattle.std.proofs.lemmas.Option.{same_Some, slice_get-get_or}
 use Rattle.cx_bits.specs.BitVector.{BitVector}
 use Rattle.cx_vtree.specs.declared.operators.Operator.TheVariants.{And}
 use Rattle.cx_vtree.specs.Operators.{operate, inverted, part_of, joined}
@@ -14,9 +15,12 @@ use Rattle.cx_vnets.specs.declared.nets.Stored.{Stored}
 use Rattle.cx_vnets.specs.Arrays.{word_at, array_width}
 use Rattle.cx_vnets.specs.Codes.{code_in, code_width}
 use Rattle.cx_vnets.specs.Fits.{Fits, width_at}
-use Rattle.cx_vnets.specs.Gates.{IsGate, HasGate, GatesStand, IsShut}
+use Rattle.cx_vnets.specs.Gates.{IsGate, HasGate, GatesStand, IsKnownZero, IsShut, IsZero, ZerosStand}
 use Rattle.cx_vnets.specs.Search.{SameWidths}
+use Rattle.cx_vnets.specs.Stale.{is_stale}
+use Rattle.cx_vnets.specs.Stale.{is_stale}
 use Rattle.cx_vnets.specs.Values.{code_at, driver_in, rule}
+use Rattle.cx_vnets.proofs.FlatSetSteps.{get_set_other}
 use Rattle.cx_vnets.proofs.Waiting.{width_there}
 use Rattle.cx_vnets.proofs.WatchLemmas.{net_value}
 use Rattle.cx_vnets.proofs.Widths.{and_first, and_second, and_third}
@@ -132,26 +136,27 @@ module _ (n : Nets) (s : Stored) (fits : Fits n s) (f gate : ℕ) (within : f < 
       (code_there b broad))
       ∙ sym (of_code b)
 
--- a net is shut, or it is not
-pub shut_or_not : (gates : List (Option ℕ)) (values : List BitVector) (changed f : ℕ) → IsShut gates values changed f ⊎ (IsShut gates values changed f → ⊥)
-shut_or_not gates values changed f = by_gate (slice_get gates f) refl
-  where
-    by_value : (gate : ℕ) → slice_get gates f ≡ Some (Some gate) → gate ≢ changed → (o : Option BitVector) → slice_get values gate ≡ o
-        → IsShut gates values changed f ⊎ (IsShut gates values changed f → ⊥)
-    by_value gate has other None at = inr (λ x.
-        let inner = same_Some (Some gate) (Some x.gate) (sym has ∙ x.has) in
-        let same : gate ≡ x.gate = same_Some gate x.gate inner in
-        let none : None ≡ Some x.is_zero.value = sym at ∙ ap (slice_get values) same ∙ x.is_zero.stands in
-        absurd (cc))
-    by_value gate has other (Some v) at = ⊎_elim
-        (λ z. inl (record { gate = gate; has = has; other = other; is_zero = record { value = v; stands = at; zero = z } }))
-        (λ nz. inr (λ x.
-        let inner = same_Some (Some gate) (Some x.gate) (sym has ∙ x.has) in
-        let same : gate ≡ x.gate = same_Some gate x.gate inner in
-        let value : v ≡ x.is_zero.value = same_Some v x.is_zero.value (sym at ∙ ap (slice_get values) same ∙ x.is_zero.stands) in
-        nz (ap (λ (b : BitVector). b.value) value ∙ x.is_zero.zero))) (cases_eq v.value 0)
+-- a net is known to be 0, or it is not
+known_or_not : (nonzero : List ℕ) (net : ℕ) → IsKnownZero nonzero net ⊎ (IsKnownZero nonzero net → ⊥)
+known_or_not nonzero net = ⊎_elim
+    (λ l. ⊎_elim
+    (λ t. inr (λ k. let never : true ≡ false = sym t ∙ k.1 in absurd (cc)))
+    (λ f. inl (l, f)) (cases_Bool (is_stale nonzero net)))
+    (λ m. inr (λ k. let lt = k.0 in absurd (omega (arith, lt, m)))) (cases_lt net (length nonzero))
 
-    by_gate : (o : Option (Option ℕ)) → slice_get gates f ≡ o → IsShut gates values changed f ⊎ (IsShut gates values changed f → ⊥)
+-- a net is shut, or it is not
+pub shut_or_not : (gates : List (Option ℕ)) (nonzero : List ℕ) (changed f : ℕ) → IsShut gates nonzero changed f ⊎ (IsShut gates nonzero changed f → ⊥)
+shut_or_not gates nonzero changed f = by_gate (slice_get gates f) refl
+  where
+    by_byte : (gate : ℕ) → slice_get gates f ≡ Some (Some gate) → gate ≢ changed → IsShut gates nonzero changed f ⊎ (IsShut gates nonzero changed f → ⊥)
+    by_byte gate has other = ⊎_elim
+        (λ k. inl (record { gate = gate; has = has; other = other; known = k }))
+        (λ nk. inr (λ x.
+        let inner = same_Some (Some gate) (Some x.gate) (sym has ∙ x.has) in
+        let same : gate ≡ x.gate = same_Some gate x.gate inner in
+        nk (subst (IsKnownZero nonzero) (sym same) x.known))) (known_or_not nonzero gate)
+
+    by_gate : (o : Option (Option ℕ)) → slice_get gates f ≡ o → IsShut gates nonzero changed f ⊎ (IsShut gates nonzero changed f → ⊥)
     by_gate None at = inr (λ x. let none : None ≡ Some (Some x.gate) = sym at ∙ x.has in absurd (cc))
     by_gate (Some None) at = inr (λ x. let none : None ≡ Some x.gate = same_Some None (Some x.gate) (sym at ∙ x.has) in absurd (cc))
     by_gate (Some (Some gate)) at = ⊎_elim
@@ -159,4 +164,19 @@ shut_or_not gates values changed f = by_gate (slice_get gates f) refl
         let inner = same_Some (Some gate) (Some x.gate) (sym at ∙ x.has) in
         let same : gate ≡ x.gate = same_Some gate x.gate inner in
         x.other (sym same ∙ e)))
-        (λ ne. by_value gate at ne (slice_get values gate) refl) (cases_eq gate changed)
+        (λ ne. by_byte gate at ne) (cases_eq gate changed)
+
+-- it is noted of a net whether its value is 0, and the others have theirs
+pub zeros_noted : (nonzero noted : List ℕ) (values after : List BitVector) (net : ℕ) (v : BitVector) → ZerosStand nonzero values → slice_get after net ≡ Some v → ((f : ℕ) → f ≢ net → slice_get after f ≡ slice_get values f)
+    → (IsKnownZero noted net → v.value ≡ 0) → ((f : ℕ) → f ≢ net → IsKnownZero noted f → IsKnownZero nonzero f) → ZerosStand noted after
+zeros_noted nonzero noted values after net v stand has others here kept f known = ⊎_elim
+    (λ (same : f ≡ net). subst (IsZero after) (sym same) (record { value = v; stands = has; zero = here (subst (IsKnownZero noted) same known) }))
+    (λ (other : f ≢ net). let z = stand f (kept f other known) in record { value = z.value; stands = others f other ∙ z.stands; zero = z.zero }) (cases_eq f net)
+
+-- also where it gets another value
+pub zeros_set : (nonzero noted : List ℕ) (values : List BitVector) (net : ℕ) (v : BitVector) → ZerosStand nonzero values → net < length values → (IsKnownZero noted net → v.value ≡ 0)
+    → ((f : ℕ) → f ≢ net → IsKnownZero noted f → IsKnownZero nonzero f) → ZerosStand noted (set values net v)
+zeros_set nonzero noted values net v stand within here kept =
+    zeros_noted nonzero noted values (set values net v) net v stand
+    (slice_get-get_or (set values net v) net v (subst (λ k. net < k) (sym (length-set values net v)) within) ∙ ap Some (get_or-set_same values net v v within))
+    (λ f other. get_set_other values net f v (λ e. other (sym e))) here kept

@@ -26,6 +26,7 @@ pub mod RunLemmas
 pub mod ReadLemmas
 pub mod RankLemmas
 pub mod StaleLemmas
+pub mod SpanLemmas
 pub mod SweepLemmas
 pub mod CurrentLemmas
 pub mod ReaderLemmas

@@ -19,7 +19,7 @@ use Rattle.cx_vnets.specs.Arrays.{word_at, array_width}
 use Rattle.cx_vnets.specs.Codes.{code_width}
 use Rattle.cx_vnets.specs.Edges.{code_of, width_of}
 use Rattle.cx_vnets.specs.Fits.{Fits, width_at, width_in}
-use Rattle.cx_vnets.specs.Gates.{IsShut}
+use Rattle.cx_vnets.specs.Gates.{IsShut, ZerosStand}
 use Rattle.cx_vnets.specs.Readers.{IsListed, IsWatch, IsRanked, ReadersStand, Agrees, Sweeping, HearsNot}
 use Rattle.cx_vnets.specs.Search.{SameWidths, no_bits}
 use Rattle.cx_vnets.specs.Stale.{is_stale, rank_at, HasPlace, Tells, SameBelow}
@@ -107,8 +107,8 @@ module _ (n : Nets) (s : Stored) (fits : Fits n s) (order : List ℕ) (t : Reade
     behind = cleared_behind;
   }
 
-  module _ (v : BitVector) (given : rule n s (slice_get values) net ≡ Some v) (old : BitVector) (had : slice_get values net ≡ Some old) (marks : List ℕ)
-      (tells : Tells ranks cleared marks (λ f. rank + 1 ≤ rank_at ranks f → HearsNot t (set values net v) (length n.drivers.items) net old v f)) (below : SameBelow (rank + 1) cleared marks) where
+  module _ (v : BitVector) (given : rule n s (slice_get values) net ≡ Some v) (old : BitVector) (had : slice_get values net ≡ Some old) (nonzero : List ℕ) (stand_zeros : ZerosStand nonzero (set values net v)) (marks : List ℕ)
+      (tells : Tells ranks cleared marks (λ f. rank + 1 ≤ rank_at ranks f → HearsNot t nonzero (length n.drivers.items) net old v f)) (below : SameBelow (rank + 1) cleared marks) where
     abbrev after : List BitVector
     after = set values net v
 
@@ -157,7 +157,7 @@ module _ (n : Nets) (s : Stored) (fits : Fits n s) (order : List ℕ) (t : Reade
         (ap (λ y. (net % 4294967296 * 40503 + y % 4294967296) % length n.drivers.items) (sym e)) (row (subst (λ k. row_of net b (length n.drivers.items) < k) (sym stand.watch_rows) low))
 
     -- a net without a mark that is not shut
-    unread_there : (f : ℕ) → f < length n.drivers.items → (rank + 1 ≤ rank_at ranks f → HearsNot t after (length n.drivers.items) net old v f) → (IsShut t.gates.items after net f → ⊥)
+    unread_there : (f : ℕ) → f < length n.drivers.items → (rank + 1 ≤ rank_at ranks f → HearsNot t nonzero (length n.drivers.items) net old v f) → (IsShut t.gates.items nonzero net f → ⊥)
         → rule n s (slice_get after) f ≡ rule n s (slice_get values) f
     unread_there f lt hears_not unshut =
         unread f lt
@@ -183,9 +183,9 @@ module _ (n : Nets) (s : Stored) (fits : Fits n s) (order : List ℕ) (t : Reade
         let other : f ≢ net = λ e. ne (ap (rank_at ranks) e ∙ place) in
         let same_rule : rule n s (slice_get after) f ≡ rule n s (slice_get values) f = ⊎_elim
         (λ shut.
-        shut_same n s fits f shut.gate lt (stand.gates f shut.gate shut.has) after values wide_after w.widths shut.is_zero.value shut.is_zero.zero shut.is_zero.stands
-        (sym (slice_other shut.gate shut.other) ∙ shut.is_zero.stands))
-        (λ unshut. unread_there f lt hears_not unshut) (shut_or_not t.gates.items after net f) in
+        let z = stand_zeros shut.gate shut.known in
+        shut_same n s fits f shut.gate lt (stand.gates f shut.gate shut.has) after values wide_after w.widths z.value z.zero z.stands (sym (slice_other shut.gate shut.other) ∙ z.stands))
+        (λ unshut. unread_there f lt hears_not unshut) (shut_or_not t.gates.items nonzero net f) in
         same_rule ∙ was_right ∙ sym (slice_other f other)
 
     pub refreshed : Sweeping n s ranks marks after (rank + 1)

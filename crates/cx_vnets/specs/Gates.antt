@@ -1,5 +1,5 @@
 -- Nets that are 0 where another net, their gate, is 0.
-use Rattle.std.specs.Prelude.{◌≡◌, ◌≢◌, ℕ, ◌+◌, List, Option, Some, slice_get}
+use Rattle.std.specs.Prelude.{◌≡◌, ◌≢◌, ℕ, ◌+◌, ◌<◌, false, List, Option, Some, length, slice_get}
 use Rattle.cx_bits.specs.BitVector.{BitVector}
 use Rattle.cx_vtree.specs.declared.operators.Operator.TheVariants.{And}
 use Rattle.cx_vnets.specs.declared.codes.Code.{Code}
@@ -7,6 +7,7 @@ use Rattle.cx_vnets.specs.declared.codes.Code.TheVariants.{Binary'}
 use Rattle.cx_vnets.specs.declared.codes.NetPosition.{NetPosition}
 use Rattle.cx_vnets.specs.declared.nets.Nets.{Nets}
 use Rattle.cx_vnets.specs.declared.nets.Driver.TheVariants.{Given}
+use Rattle.cx_vnets.specs.Stale.{is_stale}
 use Rattle.cx_vnets.specs.Watches.{IsNet}
 
 -- the gate of a code is the first operand of an `&`
@@ -35,9 +36,17 @@ pub record IsZero (values : List BitVector) (net : ℕ) : Type 0 where
   pub stands : slice_get values net ≡ Some value
   pub zero : value.value ≡ 0
 
--- the net has a gate, which is another than the one that changed, and 0
-pub record IsShut (gates : List (Option ℕ)) (values : List BitVector) (changed f : ℕ) : Type 0 where
+-- the net has a byte, which is not 1
+abbrev pub IsKnownZero : List ℕ → ℕ → Type 0
+IsKnownZero nonzero net = (net < length nonzero) × (is_stale nonzero net ≡ false)
+
+-- each net that is known to be 0 is
+abbrev pub ZerosStand : List ℕ → List BitVector → Type 0
+ZerosStand nonzero values = (net : ℕ) → IsKnownZero nonzero net → IsZero values net
+
+-- the net has a gate, which is another than the one that changed, and that is known to be 0
+pub record IsShut (gates : List (Option ℕ)) (nonzero : List ℕ) (changed f : ℕ) : Type 0 where
   pub gate : ℕ
   pub has : slice_get gates f ≡ Some (Some gate)
   pub other : gate ≢ changed
-  pub is_zero : IsZero values gate
+  pub known : IsKnownZero nonzero gate

@@ -15,6 +15,7 @@ pub mod Readers
 pub mod Written
 pub mod Watches
 pub mod Gates
+pub mod Spans
 pub mod Runs
 pub mod ModuleNumbers
 pub mod ModuleCodes

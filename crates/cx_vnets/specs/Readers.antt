@@ -10,9 +10,10 @@ use Rattle.cx_vnets.specs.declared.readers.Readers.{Readers}
 use Rattle.cx_vnets.specs.declared.machines.Machine.{Machine}
 use Rattle.cx_vnets.specs.declared.machines.Bench.{Bench}
 use Rattle.cx_vnets.specs.Arrays.{word_at}
-use Rattle.cx_vnets.specs.Gates.{GatesStand, IsShut}
+use Rattle.cx_vnets.specs.Gates.{GatesStand, IsShut, ZerosStand}
 use Rattle.cx_vnets.specs.Reads.{NetReads}
 use Rattle.cx_vnets.specs.Search.{SameWidths}
+use Rattle.cx_vnets.specs.Spans.{SpansStand}
 use Rattle.cx_vnets.specs.Stale.{is_stale, rank_at}
 use Rattle.cx_vnets.specs.Values.{rule}
 use Rattle.cx_vnets.specs.declared.watches.Watches.{Watches}
@@ -79,6 +80,7 @@ pub record ReadersStand (n : Nets) (order : List ℕ) (t : Readers) : Type 0 whe
   pub notes : length t.watches.compared.items ≡ length n.drivers.items
   pub found : (f : ℕ) → f < length n.drivers.items → IsFound n (edges_of t.of_nets.items) (edges_of t.of_arrays.items) t.watches (length n.drivers.items) f
   pub gates : GatesStand n t.gates.items
+  pub spans : SpansStand t.gates.items (edges_of t.of_nets.items) t.spans
   pub ranked : t.ranked ≡ true → IsRanked n order t.ranks.items
 
 -- the net stands in no row of comparisons of a net that had a value and has another: it compares it with neither, and tells no side of it where a value lies between
@@ -87,9 +89,9 @@ pub record Passes (t : Readers) (count net : ℕ) (old new : BitVector) (f : ℕ
   pub won : In (targets_of (edges_of t.watches.rows.items) (row_of net new count)) f → ⊥
   pub next : In (targets_of (edges_of t.watches.rows.items) net) f → new.value ≡ old.value + 1
 
--- the net hears nothing of a net that had a value and has another, now that all nets have these values: it reads it only where its own gate is 0, and where that is compared, stands in none of its rows
-pub record HearsNot (t : Readers) (values : List BitVector) (count net : ℕ) (old new : BitVector) (f : ℕ) : Type 0 where
-  pub reads : In (targets_of (edges_of t.of_nets.items) net) f → IsShut t.gates.items values net f
+-- the net hears nothing of a net that had a value and has another, now that these nets are known to be 0: it reads it only where its own gate is 0, and where that is compared, stands in none of its rows
+pub record HearsNot (t : Readers) (nonzero : List ℕ) (count net : ℕ) (old new : BitVector) (f : ℕ) : Type 0 where
+  pub reads : In (targets_of (edges_of t.of_nets.items) net) f → IsShut t.gates.items nonzero net f
   pub compares : get_or t.watches.compared.items net false ≡ true → Passes t count net old new f
 
 -- where all nets have these values, the driver of the net gives it its own
@@ -114,8 +116,9 @@ pub record Sweeping (n : Nets) (s : Stored) (ranks : List ℕ) (stale : List ℕ
   pub agree : UnmarkedAgree n s ranks stale values
   pub behind : (j : ℕ) → j < k → is_stale stale j ≡ false
 
--- the table of readers is right, and where nets are ranked, each net without a mark agrees
+-- the table of readers is right; and where nets are ranked, each net without a mark agrees, and the nets that are known to be 0 are
 pub record IsCurrent (m : Machine) (s : Stored) (b : Bench) : Type 0 where
   pub readers : ReadersStand m.nets m.order.items m.readers
   pub long : length b.stale.items ≡ length m.nets.drivers.items
   pub agree : m.readers.ranked ≡ true → UnmarkedAgree m.nets s m.readers.ranks.items b.stale.items b.values.items
+  pub nonzero : m.readers.ranked ≡ true → ZerosStand b.nonzero.items b.values.items

@@ -3,7 +3,7 @@
 ghost use Rattle.std.specs.Prelude.{◌≡◌, ◌≢◌, ◌+◌, ◌<◌, ◌≤◌, ℕ, true, IfOk, IfSome, Some, length, slice_get};
 ghost use Rattle.cx_graphs.specs.Graphs.{In};
 ghost use Rattle.cx_vtree.specs.declared.operators.Operator.TheVariants.{And};
-ghost use Rattle.cx_vnets.specs.Gates.{GatesStand, HasGate, IsGate, IsShut, IsZero};
+ghost use Rattle.cx_vnets.specs.Gates.{GatesStand, HasGate, IsGate, IsKnownZero, IsShut, IsZero, ZerosStand};
 ghost use Rattle.cx_vnets.specs.Stale.{SameBelow, Tells, rank_at};
 ghost use Rattle.cx_vnets.specs.Watches.{IsNet};
 
@@ -79,7 +79,7 @@ pub(crate) fn gates_of(alloc: Global, nets: &Nets) -> Result<Vec<Option<u32>>, M
 }
 
 /// The gate of a net by the table.
-fn gate_at(gates: &[Option<u32>], net: usize) -> Option<u32>
+pub(crate) fn gate_at(gates: &[Option<u32>], net: usize) -> Option<u32>
     ensures { IfSome result (λ gate. slice_get gates.now net ≡ Some (Some gate)) }
 {
     match gates.get(net) {
@@ -88,66 +88,96 @@ fn gate_at(gates: &[Option<u32>], net: usize) -> Option<u32>
     }
 }
 
-/// Whether a net is 0.
-fn is_zero(values: &[Bits], net: usize) -> bool
-    ensures { result ≡ true → IsZero values.now net }
+/// 0 where a net is 0, else 1.
+fn byte_of(values: &[Bits], net: usize) -> u8
+    ensures { (result ≡ 1 → ⊥) → IsZero values.now net }
 {
     match values.get(net) {
-        Some(value) => value.value() == 0,
+        Some(value) if value.value() == 0 => 0,
+        _ => 1,
+    }
+}
+
+/// Notes of each net whether it is 0.
+pub(crate) fn note_zeros(nonzero: &mut [u8], values: &[Bits])
+    ensures long { length nonzero.new ≡ length nonzero.old }
+    ensures stand { ZerosStand nonzero.new values.now }
+{
+    for net in 0..nonzero.len() {
+        nonzero[net] = byte_of(values, net);
+    }
+}
+
+/// Notes whether a net is 0, which has got a value.
+pub(crate) fn note_zero(nonzero: &mut [u8], net: usize, value: Bits)
+    ensures here { IsKnownZero nonzero.new net → value.value ≡ 0 }
+    ensures others { (f : ℕ) → f ≢ net → IsKnownZero nonzero.new f → IsKnownZero nonzero.old f }
+{
+    if net < nonzero.len() {
+        nonzero[net] = u8::from(value.value() != 0);
+    }
+}
+
+/// Whether a net is known to be 0.
+fn is_zero(nonzero: &[u8], net: usize) -> bool
+    ensures { result ≡ true → IsKnownZero nonzero.now net }
+{
+    match nonzero.get(net) {
+        Some(byte) => *byte != 1,
         None => false,
     }
 }
 
-/// Whether a gate is another net than the one that changed, and 0.
-fn is_shut_gate(values: &[Bits], changed: usize, gate: usize) -> bool
-    ensures { result ≡ true → (gate ≢ changed) × IsZero values.now gate }
+/// Whether a gate is another net than the one that changed, and known to be 0.
+fn is_shut_gate(nonzero: &[u8], changed: usize, gate: usize) -> bool
+    ensures { result ≡ true → (gate ≢ changed) × IsKnownZero nonzero.now gate }
 {
-    gate != changed && is_zero(values, gate)
+    gate != changed && is_zero(nonzero, gate)
 }
 
-/// Whether a net has a gate, which is another net than the one that changed, and 0.
-fn is_shut(gates: &[Option<u32>], values: &[Bits], changed: usize, net: usize) -> bool
-    ensures { result ≡ true → IsShut gates.now values.now changed net }
+/// Whether a net has a gate, which is another net than the one that changed, and known to be 0.
+fn is_shut(gates: &[Option<u32>], nonzero: &[u8], changed: usize, net: usize) -> bool
+    ensures { result ≡ true → IsShut gates.now nonzero.now changed net }
 {
     match gate_at(gates, net) {
-        Some(gate) => is_shut_gate(values, changed, gate as usize),
+        Some(gate) => is_shut_gate(nonzero, changed, gate as usize),
         None => false,
     }
 }
 
-/// Marks a net, where its rank is not below `from`, but where its gate is 0.
+/// Marks a net, where its rank is not below `from`, but where its gate is known to be 0.
 fn mark_open(
     gates: &[Option<u32>],
-    values: &[Bits],
+    nonzero: &[u8],
     changed: usize,
     ranks: &[u32],
     from: usize,
     stale: &mut [u8],
     net: usize,
 )
-    ensures tells { Tells ranks.now stale.old stale.new (λ f. from ≤ rank_at ranks.now f → f ≡ net → IsShut gates.now values.now changed f) }
+    ensures tells { Tells ranks.now stale.old stale.new (λ f. from ≤ rank_at ranks.now f → f ≡ net → IsShut gates.now nonzero.now changed f) }
     ensures below { SameBelow from stale.old stale.new }
 {
-    if is_shut(gates, values, changed, net) {
+    if is_shut(gates, nonzero, changed, net) {
         return;
     }
     mark(ranks, from, stale, net);
 }
 
-/// Marks the nets of a row whose ranks are not below `from`, but those whose gate is 0.
+/// Marks the nets of a row whose ranks are not below `from`, but those whose gate is known to be 0.
 pub(crate) fn mark_open_row(
     gates: &[Option<u32>],
-    values: &[Bits],
+    nonzero: &[u8],
     changed: usize,
     ranks: &[u32],
     from: usize,
     stale: &mut [u8],
     row: &[u32],
 )
-    ensures tells { Tells ranks.now stale.old stale.new (λ f. from ≤ rank_at ranks.now f → In row.now f → IsShut gates.now values.now changed f) }
+    ensures tells { Tells ranks.now stale.old stale.new (λ f. from ≤ rank_at ranks.now f → In row.now f → IsShut gates.now nonzero.now changed f) }
     ensures below { SameBelow from stale.old stale.new }
 {
     for net in row {
-        mark_open(gates, values, changed, ranks, from, stale, *net as usize);
+        mark_open(gates, nonzero, changed, ranks, from, stale, *net as usize);
     }
 }

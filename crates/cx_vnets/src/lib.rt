@@ -5,6 +5,7 @@
 #![tactic(auto)]
 
 mod arrays;
+mod behind;
 mod code_laws;
 mod codes;
 mod edges;
@@ -22,6 +23,7 @@ mod run_edges;
 mod run_laws;
 mod runs;
 mod search;
+mod spans;
 mod stale;
 mod stores;
 mod sweep;
@@ -46,6 +48,7 @@ pub use run_edges::{edge, reset_edge};
 pub use run_laws::machines_stay_ready;
 pub use runs::{RunAnswer, run};
 pub use search::settle;
+pub use spans::{Span, Spans};
 pub use stores::{Store, Write, look_at_stores, store_words};
 pub use value_laws::codes_have_widths;
 pub use watches::Watches;

@@ -22,14 +22,16 @@ pub struct Machine {
     pub done: u32,
 }
 
-/// Room for one cycle: a mark and a value for each net, by rank whether it may have changed, a list for the search, and what
-/// each store writes.
+/// Room for one cycle: a mark and a value for each net, by rank whether it may have changed, whether it may be other than 0, a
+/// list for the search, and what each store writes.
 #[derive(Drop)]
 pub struct Bench {
     pub marks: Vec<NetMark>,
     pub values: Vec<Bits>,
     /// 1 for a marked rank, else 0: bytes, so that the next mark is found by a search of bytes.
     pub stale: Vec<u8>,
+    /// 1 for a net that may be other than 0: bytes too, so that the next such gate is found in the same way.
+    pub nonzero: Vec<u8>,
     pub stack: Vec<usize>,
     pub writes: Vec<Option<Write>>,
 }

@@ -8,6 +8,7 @@ use crate::codes::{Code, NetPosition};
 use crate::gates::gates_of;
 use crate::nets::{Driver, Nets};
 use crate::ranks::is_ranked;
+use crate::spans::{Spans, spans_of};
 use crate::watches::{Comparison, Watches, compared, note, row_of};
 use cx_graphs::{add_edge, bare};
 use cx_text::Memory;
@@ -25,12 +26,14 @@ pub struct Readers {
     pub watches: Watches,
     /// For each net its gate, where it has one: another net, and where this is 0 the net is 0.
     pub gates: Vec<Option<u32>>,
+    /// Nets that are read behind many gates.
+    pub spans: Spans,
     /// Each net comes behind those that it reads, and each is in the order once.
     pub ranked: bool,
 }
 
 /// A number as a `u32`. One that is no `u32` counts what is too much for any memory.
-fn narrow(number: usize) -> Result<u32, Memory>
+pub(crate) fn narrow(number: usize) -> Result<u32, Memory>
     ensures value { IfOk result (λ narrow. narrow ≡ number) }
 {
     match u32::try_from(number) {
@@ -40,7 +43,7 @@ fn narrow(number: usize) -> Result<u32, Memory>
 }
 
 /// Lists a net in the row of what it reads, where there is one.
-fn list(rows: &mut Vec<Vec<u32>>, from: usize, net: u32) -> Result<(), Memory>
+pub(crate) fn list(rows: &mut Vec<Vec<u32>>, from: usize, net: u32) -> Result<(), Memory>
     ensures grows { OnOk result (Grows (edges_of rows.old.items) (edges_of rows.new.items)) }
     ensures listed { OnOk result (IsListed (edges_of rows.new.items) net from) }
 {
@@ -199,6 +202,7 @@ pub fn readers_of(
         list_net(nets, &mut of_nets, &mut of_arrays, &mut watches, net)?;
     }
     let gates = gates_of(alloc, nets)?;
+    let spans = spans_of(alloc, &gates, &of_nets)?;
     let ranked = is_ranked(nets, order, &ranks);
     Ok(Readers {
         ranks,
@@ -206,6 +210,7 @@ pub fn readers_of(
         of_arrays,
         watches,
         gates,
+        spans,
         ranked,
     })
 }

@@ -27,6 +27,7 @@ pub fn reset_edge(machine: &Machine, bench: &mut Bench, stored: &mut Stored)
     ensures writes { bench.new.writes.items ≡ bench.old.writes.items }
     ensures marks { bench.new.marks.items ≡ bench.old.marks.items }
     ensures values { bench.new.values.items ≡ bench.old.values.items }
+    ensures nonzero { bench.new.nonzero.items ≡ bench.old.nonzero.items }
     ensures stack { bench.new.stack.items ≡ bench.old.stack.items }
 {
     set_registers(
@@ -72,6 +73,7 @@ fn set_all(machine: &Machine, bench: &mut Bench, stored: &mut Stored)
     ensures writes { bench.new.writes.items ≡ bench.old.writes.items }
     ensures marks { bench.new.marks.items ≡ bench.old.marks.items }
     ensures values { bench.new.values.items ≡ bench.old.values.items }
+    ensures nonzero { bench.new.nonzero.items ≡ bench.old.nonzero.items }
     ensures stack { bench.new.stack.items ≡ bench.old.stack.items }
 {
     set_registers(
@@ -98,6 +100,7 @@ fn store_words_of(machine: &Machine, bench: &mut Bench, stored: &mut Stored)
     ensures stale { bench.new.stale.items ≡ bench.old.stale.items }
     ensures marks { bench.new.marks.items ≡ bench.old.marks.items }
     ensures values { bench.new.values.items ≡ bench.old.values.items }
+    ensures nonzero { bench.new.nonzero.items ≡ bench.old.nonzero.items }
     ensures stack { bench.new.stack.items ≡ bench.old.stack.items }
 {
     store_all(
@@ -116,6 +119,7 @@ fn mark_stores(machine: &Machine, bench: &mut Bench)
     ensures writes { bench.new.writes.items ≡ bench.old.writes.items }
     ensures marks { bench.new.marks.items ≡ bench.old.marks.items }
     ensures values { bench.new.values.items ≡ bench.old.values.items }
+    ensures nonzero { bench.new.nonzero.items ≡ bench.old.nonzero.items }
     ensures stack { bench.new.stack.items ≡ bench.old.stack.items }
 {
     mark_written(
@@ -140,6 +144,7 @@ pub fn edge(machine: &Machine, bench: &mut Bench, stored: &mut Stored)
     ensures writes { length bench.new.writes.items ≡ length machine.now.stores.items }
     ensures marks { bench.new.marks.items ≡ bench.old.marks.items }
     ensures values { bench.new.values.items ≡ bench.old.values.items }
+    ensures nonzero { bench.new.nonzero.items ≡ bench.old.nonzero.items }
     ensures stack { bench.new.stack.items ≡ bench.old.stack.items }
 {
     set_all(machine, bench, stored);

@@ -7,6 +7,7 @@ ghost use Rattle.cx_vnets.specs.Stale.{Tells};
 ghost use Rattle.cx_vnets.specs.Machines.{KeepsWidths};
 ghost use Rattle.cx_vnets.specs.Runs.{AreValues, IsReady, WithInputs, IsLooked, bit, FlatFrom, FlatRun, outcome_of};
 
+use crate::gates::note_zeros;
 use crate::machines::{Bench, Machine};
 use crate::run_edges::{edge, reset_edge};
 use crate::stale::{mark_all, put};
@@ -62,6 +63,7 @@ fn put_inputs(machine: &Machine, bench: &mut Bench, stored: &mut Stored, reset: 
     ensures writes { bench.new.writes.items ≡ bench.old.writes.items }
     ensures marks { bench.new.marks.items ≡ bench.old.marks.items }
     ensures values { bench.new.values.items ≡ bench.old.values.items }
+    ensures nonzero { bench.new.nonzero.items ≡ bench.old.nonzero.items }
     ensures stack { bench.new.stack.items ≡ bench.old.stack.items }
 {
     put_bits(
@@ -85,7 +87,7 @@ fn set_inputs(machine: &Machine, bench: &mut Bench, stored: &mut Stored, reset: 
     put_inputs(machine, bench, stored, reset);
 }
 
-/// Marks all nets, whatever they have for values.
+/// Marks all nets, whatever they have for values, and notes which of these are 0.
 fn mark_nets(machine: &Machine, bench: &mut Bench, stored: &Stored)
     requires ready { IsReady machine.now stored.now bench.old }
     requires readers { ReadersStand machine.now.nets machine.now.order.items machine.now.readers }
@@ -94,6 +96,7 @@ fn mark_nets(machine: &Machine, bench: &mut Bench, stored: &Stored)
     ensures current { IsCurrent machine.now stored.now bench.new }
 {
     mark_all(&mut bench.stale);
+    note_zeros(&mut bench.nonzero, &bench.values);
 }
 
 /// Finds the values of all nets, or the first net that has none.
@@ -112,6 +115,7 @@ fn values(machine: &Machine, bench: &mut Bench, stored: &Stored) -> Option<usize
             &machine.readers,
             &mut bench.stale,
             &mut bench.values,
+            &mut bench.nonzero,
         );
         return None;
     }

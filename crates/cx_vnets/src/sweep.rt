@@ -3,13 +3,15 @@
 ghost use Rattle.std.specs.Prelude.{◌≡◌, ◌+◌, ◌<◌, ◌≤◌, true, false, ℕ, List, Some, length, get_or, slice_get};
 ghost use Rattle.cx_vnets.specs.Fits.{Fits};
 ghost use Rattle.cx_graphs.specs.Graphs.{In, edges_of, targets_of};
-ghost use Rattle.cx_vnets.specs.Gates.{IsShut};
+ghost use Rattle.cx_vnets.specs.Gates.{IsShut, ZerosStand};
 ghost use Rattle.cx_vnets.specs.Readers.{HearsNot, Passes, ReadersStand, Sweeping};
 ghost use Rattle.cx_vnets.specs.Search.{SameWidths};
+ghost use Rattle.cx_vnets.specs.Spans.{SpansStand};
 ghost use Rattle.cx_vnets.specs.Stale.{SameBelow, Tells, rank_at};
 ghost use Rattle.cx_vnets.specs.Values.{rule};
 
-use crate::gates::mark_open_row;
+use crate::behind::{mark_spanned, span_at};
+use crate::gates::{mark_open_row, note_zero};
 use crate::nets::{Driver, Nets, Stored};
 use crate::readers::Readers;
 use crate::stale::{is_other, mark_row, next_marked};
@@ -36,21 +38,34 @@ fn drive(nets: &Nets, stored: &Stored, values: &[Bits], net: usize) -> Bits
     }
 }
 
-/// Marks the nets of ranks from `from` on that read a net, but those whose gate is another net, which is 0.
-fn mark_reading(readers: &Readers, values: &[Bits], net: usize, from: usize, stale: &mut [u8])
+/// Marks the nets of ranks from `from` on that read a net, one by one, but those whose gate is another net, which is known to be 0.
+fn mark_row_open(readers: &Readers, nonzero: &[u8], net: usize, from: usize, stale: &mut [u8])
     requires within { net < length readers.now.of_nets.items }
-    ensures tells { Tells readers.now.ranks.items stale.old stale.new (λ f. from ≤ rank_at readers.now.ranks.items f → In (targets_of (edges_of readers.now.of_nets.items) net) f → IsShut readers.now.gates.items values.now net f) }
+    ensures tells { Tells readers.now.ranks.items stale.old stale.new (λ f. from ≤ rank_at readers.now.ranks.items f → In (targets_of (edges_of readers.now.of_nets.items) net) f → IsShut readers.now.gates.items nonzero.now net f) }
     ensures below { SameBelow from stale.old stale.new }
 {
     mark_open_row(
         &readers.gates,
-        values,
+        nonzero,
         net,
         &readers.ranks,
         from,
         stale,
         &readers.of_nets[net],
     );
+}
+
+/// Marks the nets of ranks from `from` on that read a net, but those whose gate is another net, which is known to be 0.
+fn mark_reading(readers: &Readers, nonzero: &[u8], net: usize, from: usize, stale: &mut [u8])
+    requires within { net < length readers.now.of_nets.items }
+    requires spans { SpansStand readers.now.gates.items (edges_of readers.now.of_nets.items) readers.now.spans }
+    ensures tells { Tells readers.now.ranks.items stale.old stale.new (λ f. from ≤ rank_at readers.now.ranks.items f → In (targets_of (edges_of readers.now.of_nets.items) net) f → IsShut readers.now.gates.items nonzero.now net f) }
+    ensures below { SameBelow from stale.old stale.new }
+{
+    match span_at(&readers.spans, nonzero, net, readers.of_nets[net].len()) {
+        Some(span) => mark_spanned(&readers.ranks, &readers.spans, nonzero, span, from, stale),
+        None => mark_row_open(readers, nonzero, net, from, stale),
+    }
 }
 
 /// Marks the nets of ranks from `from` on that stand in a row of comparisons.
@@ -129,7 +144,7 @@ fn mark_watching(
 /// Marks the nets of ranks from `from` on that read a net, and those that compare it with a value and may find it otherwise.
 fn mark_hearers(
     readers: &Readers,
-    values: &[Bits],
+    nonzero: &[u8],
     count: usize,
     from: usize,
     stale: &mut [u8],
@@ -141,10 +156,11 @@ fn mark_hearers(
     requires rows { length readers.now.of_nets.items ≡ count }
     requires watches { length readers.now.watches.rows.items ≡ count }
     requires notes { length readers.now.watches.compared.items ≡ count }
-    ensures tells { Tells readers.now.ranks.items stale.old stale.new (λ f. from ≤ rank_at readers.now.ranks.items f → HearsNot readers.now values.now count net old new f) }
+    requires spans { SpansStand readers.now.gates.items (edges_of readers.now.of_nets.items) readers.now.spans }
+    ensures tells { Tells readers.now.ranks.items stale.old stale.new (λ f. from ≤ rank_at readers.now.ranks.items f → HearsNot readers.now nonzero.now count net old new f) }
     ensures below { SameBelow from stale.old stale.new }
 {
-    mark_reading(readers, values, net, from, stale);
+    mark_reading(readers, nonzero, net, from, stale);
     mark_watching(readers, count, from, stale, net, old, new);
 }
 
@@ -155,6 +171,7 @@ fn refresh(
     readers: &Readers,
     stale: &mut [u8],
     values: &mut [Bits],
+    nonzero: &mut [u8],
     net: usize,
     rank: usize,
 )
@@ -164,16 +181,19 @@ fn refresh(
     requires readers { (order : List ℕ) × ReadersStand nets.now order readers.now }
     requires fits { Fits nets.now stored.now }
     requires sweeping { Sweeping nets.now stored.now readers.now.ranks.items stale.old values.old rank }
-    ensures { Sweeping nets.now stored.now readers.now.ranks.items stale.new values.new (rank + 1) }
+    requires nonzero { ZerosStand nonzero.old values.old }
+    ensures sweeping { Sweeping nets.now stored.now readers.now.ranks.items stale.new values.new (rank + 1) }
+    ensures nonzero { ZerosStand nonzero.new values.new }
 {
     let value = drive(nets, stored, values, net);
     stale[rank] = 0;
     let old = values[net];
     if is_other(old, value) {
         values[net] = value;
+        note_zero(nonzero, net, value);
         mark_hearers(
             readers,
-            values,
+            nonzero,
             nets.drivers.len(),
             rank + 1,
             stale,
@@ -192,17 +212,20 @@ pub(crate) fn sweep(
     readers: &Readers,
     stale: &mut [u8],
     values: &mut [Bits],
+    nonzero: &mut [u8],
 )
     requires ranked { readers.now.ranked ≡ true }
     requires readers { ReadersStand nets.now order.now readers.now }
     requires fits { Fits nets.now stored.now }
     requires sweeping { Sweeping nets.now stored.now readers.now.ranks.items stale.old values.old 0 }
-    ensures { Sweeping nets.now stored.now readers.now.ranks.items stale.new values.new (length order.now) }
+    requires nonzero { ZerosStand nonzero.old values.old }
+    ensures sweeping { Sweeping nets.now stored.now readers.now.ranks.items stale.new values.new (length order.now) }
+    ensures nonzero { ZerosStand nonzero.new values.new }
 {
     let mut rank = 0;
     while let Some(marked) = next_marked(stale, rank) {
         let net = order[marked] as usize;
-        refresh(nets, stored, readers, stale, values, net, marked);
+        refresh(nets, stored, readers, stale, values, nonzero, net, marked);
         rank = marked + 1;
     }
 }

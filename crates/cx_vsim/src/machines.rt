@@ -39,12 +39,14 @@ fn bench(alloc: Global, stored: &Stored, stores: usize) -> Result<Bench, Memory>
     let marks = vec![in alloc; NetMark::Unseen; count]?;
     let values = Vec::from_slice(alloc, &stored.nets)?;
     let stale = vec![in alloc; 1; count]?;
+    let nonzero = vec![in alloc; 1; count]?;
     let stack = vec![in alloc; 0; count]?;
     let writes = vec![in alloc; None; stores]?;
     Ok(Bench {
         marks,
         values,
         stale,
+        nonzero,
         stack,
         writes,
     })

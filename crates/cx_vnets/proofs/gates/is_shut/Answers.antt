@@ -5,5 +5,5 @@ returns-in-Some c = λ e. record {
   gate = c.in-Some.gate;
   has = c.in-Some.ensures;
   other = (c.is_shut_gate.ensures e).0;
-  is_zero = (c.is_shut_gate.ensures e).1;
+  known = (c.is_shut_gate.ensures e).1;
 }

@@ -15,9 +15,9 @@ loop-net-preserved c =
     let there = slice_get-get_or a.row.now k _ c.loop-net-test.true in
     record {
       tells = tells_more a.ranks.now a.stale.now c.loop-net.stale c.mark_open.new.stale
-          (λ f. a.from ≤ rank_at a.ranks.now f → (j : ℕ) → j < k → slice_get a.row.now j ≡ Some f → IsShut a.gates.now a.values.now a.changed f)
-          (λ f. a.from ≤ rank_at a.ranks.now f → f ≡ get_or a.row.now k _ → IsShut a.gates.now a.values.now a.changed f)
-          (λ f. a.from ≤ rank_at a.ranks.now f → (j : ℕ) → j < k + 1 → slice_get a.row.now j ≡ Some f → IsShut a.gates.now a.values.now a.changed f)
+          (λ f. a.from ≤ rank_at a.ranks.now f → (j : ℕ) → j < k → slice_get a.row.now j ≡ Some f → IsShut a.gates.now a.nonzero.now a.changed f)
+          (λ f. a.from ≤ rank_at a.ranks.now f → f ≡ get_or a.row.now k _ → IsShut a.gates.now a.nonzero.now a.changed f)
+          (λ f. a.from ≤ rank_at a.ranks.now f → (j : ℕ) → j < k + 1 → slice_get a.row.now j ≡ Some f → IsShut a.gates.now a.nonzero.now a.changed f)
           before.tells c.mark_open.ensures.tells
           (λ f x y le j lt at. ⊎_elim
           (λ l. x le j l at)
@@ -29,8 +29,8 @@ pub returns-clause-tells : goal.returns-clause-tells
 returns-clause-tells c =
     let a = c.args in
     tells_so a.ranks.now a.stale.now c.loop-net.stale
-    (λ f. a.from ≤ rank_at a.ranks.now f → (j : ℕ) → j < c.loop-net.net-index → slice_get a.row.now j ≡ Some f → IsShut a.gates.now a.values.now a.changed f)
-    (λ f. a.from ≤ rank_at a.ranks.now f → In a.row.now f → IsShut a.gates.now a.values.now a.changed f) c.loop-net.invariant.tells
+    (λ f. a.from ≤ rank_at a.ranks.now f → (j : ℕ) → j < c.loop-net.net-index → slice_get a.row.now j ≡ Some f → IsShut a.gates.now a.nonzero.now a.changed f)
+    (λ f. a.from ≤ rank_at a.ranks.now f → In a.row.now f → IsShut a.gates.now a.nonzero.now a.changed f) c.loop-net.invariant.tells
     (λ f h le i.
     let r = member_at a.row.now f i in
     let lt = slice_get_within a.row.now r.0 f r.1 in

@@ -57,5 +57,6 @@ returns c =
       writes = ap length h.writes ∙ ap length writes ∙ length-map stores write;
       marks = h.marks ∙ g.marks ∙ e.marks;
       values = h.values ∙ g.values ∙ e.values;
+      nonzero = h.nonzero ∙ g.nonzero ∙ e.nonzero;
       stack = h.stack ∙ g.stack ∙ e.stack;
     }

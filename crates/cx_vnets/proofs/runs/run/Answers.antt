@@ -19,7 +19,7 @@ set_inputs-requires-2 c =
     record {
       ready = ready-edge c.args.machine.now c.set_inputs.new.stored c.reset_edge.new.stored c.values.new.bench c.reset_edge.new.bench e.widths e.marks e.stack (ap length e.writes ∙ c.in_default.ensures.ready.writes) e.values
           c.in_default.ensures.ready;
-      current = current_moved c.args.machine.now c.set_inputs.new.stored c.reset_edge.new.stored c.values.new.bench c.reset_edge.new.bench c.in_default.ensures.current e.values e.tells;
+      current = current_moved c.args.machine.now c.set_inputs.new.stored c.reset_edge.new.stored c.values.new.bench c.reset_edge.new.bench c.in_default.ensures.current e.values e.nonzero e.tells;
     }
 
 pub returns : goal.returns

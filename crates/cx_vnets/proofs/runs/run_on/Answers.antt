@@ -21,7 +21,7 @@ loop-cycle-preserved c =
       widths = keeps-more c.args.stored.now c.loop-cycle.stored c.edge.new.stored c.loop-cycle.invariant.widths c.edge.ensures.widths;
       ready = ready-edge c.args.machine.now c.loop-cycle.stored c.edge.new.stored c.look.new.bench c.edge.new.bench c.edge.ensures.widths c.edge.ensures.marks c.edge.ensures.stack c.edge.ensures.writes
           c.edge.ensures.values c.in_default.ensures.ready;
-      current = current_moved c.args.machine.now c.loop-cycle.stored c.edge.new.stored c.look.new.bench c.edge.new.bench c.in_default.ensures.current c.edge.ensures.values c.edge.ensures.tells;
+      current = current_moved c.args.machine.now c.loop-cycle.stored c.edge.new.stored c.look.new.bench c.edge.new.bench c.in_default.ensures.current c.edge.ensures.values c.edge.ensures.nonzero c.edge.ensures.tells;
       so_far = λ o run. c.loop-cycle.invariant.so_far o
           (goes-more c.args.machine.now c.loop-cycle.stored c.edge.new.stored c.loop-cycle.cycle (c.args.cycles - c.loop-cycle.cycle) (c.args.cycles - (c.loop-cycle.cycle + 1)) c.look.new.bench.values.items o
           c.in_default.ensures.value c.edge.ensures.after count run);

@@ -12,4 +12,4 @@ returns-clause-ready c =
 pub returns-clause-current : goal.returns-clause-current
 returns-clause-current c =
     let e = c.put_inputs.ensures in
-    inputs_current c.args.machine.now c.args.stored.now c.put_inputs.new.stored c.args.bench.now c.put_inputs.new.bench c.requires.current e.values e.inputs.arrays e.tells
+    inputs_current c.args.machine.now c.args.stored.now c.put_inputs.new.stored c.args.bench.now c.put_inputs.new.bench c.requires.current e.values e.nonzero e.inputs.arrays e.tells

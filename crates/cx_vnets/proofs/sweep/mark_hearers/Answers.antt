@@ -12,11 +12,11 @@ returns-clause-tells c =
     let ranks = t.ranks.items in
     let from = c.args.from in
     let net = c.args.net in
-    let values = c.args.values.now in
+    let nonzero = c.args.nonzero.now in
     tells_more ranks c.args.stale.now c.mark_reading.new.stale c.mark_watching.new.stale
-    (λ f. from ≤ rank_at ranks f → In (targets_of (edges_of t.of_nets.items) net) f → IsShut t.gates.items values net f)
+    (λ f. from ≤ rank_at ranks f → In (targets_of (edges_of t.of_nets.items) net) f → IsShut t.gates.items nonzero net f)
     (λ f. from ≤ rank_at ranks f → get_or t.watches.compared.items net false ≡ true → Passes t c.args.count net c.args.old c.args.new f)
-    (λ f. from ≤ rank_at ranks f → HearsNot t values c.args.count net c.args.old c.args.new f)
+    (λ f. from ≤ rank_at ranks f → HearsNot t nonzero c.args.count net c.args.old c.args.new f)
     c.mark_reading.ensures.tells c.mark_watching.ensures.tells (λ f p q le. record { reads = p le; compares = q le })
 
 pub returns-clause-below : goal.returns-clause-below

@@ -2,6 +2,7 @@ use Rattle.std.proofs.Common.{◌+◌, ◌≤◌, get_or, set, sym, ap, ◌∙�
 use Rattle.cx_vnets.specs.Readers.{HearsNot}
 use Rattle.cx_vnets.specs.Stale.{Tells, rank_at}
 use Rattle.cx_vnets.proofs.DriveLemmas.{read_there}
+use Rattle.cx_vnets.proofs.GateLemmas.{zeros_set}
 use Rattle.cx_vnets.proofs.SweepLemmas.{net_rows, watch_rows, net_values, refreshed_same, refreshed}
 use Rattle.cx_vnets.proofs.sweep.refresh.Goals as goal
 
@@ -18,21 +19,29 @@ mark_hearers-requires-clause-watches c =
 pub mark_hearers-requires-clause-notes : goal.mark_hearers-requires-clause-notes
 mark_hearers-requires-clause-notes c = c.requires.readers.1.notes ∙ sym (c.len.ensures ∙ c.args.nets.now.drivers.ok.0)
 
-pub returns-then-is_other : goal.returns-then-is_other
-returns-then-is_other c =
+pub returns-then-is_other-clause-sweeping : goal.returns-then-is_other-clause-sweeping
+returns-then-is_other-clause-sweeping c =
     let t = c.args.readers.now in
     let r = c.requires in
     let n = c.args.nets.now in
     let values = c.args.values.now in
     let lt = net_values n c.args.stored.now r.fits r.readers.0 t r.readers.1 r.ranked c.args.net c.args.rank r.within r.place c.args.stale.now values r.sweeping in
     let old = c.index-values-net.result in
-    let tells = subst (λ k. Tells t.ranks.items (set c.args.stale.now c.args.rank 0) c.mark_hearers.new.stale (λ f. c.args.rank + 1 ≤ rank_at t.ranks.items f → HearsNot t (set values c.args.net c.drive-value.result) k c.args.net old c.drive-value.result f))
+    let tells = subst (λ k. Tells t.ranks.items (set c.args.stale.now c.args.rank 0) c.mark_hearers.new.stale (λ f. c.args.rank + 1 ≤ rank_at t.ranks.items f → HearsNot t c.note_zero.new.nonzero k c.args.net old c.drive-value.result f))
     (c.len.ensures ∙ n.drivers.ok.0) c.mark_hearers.ensures.tells in
     refreshed n c.args.stored.now r.fits r.readers.0 t r.readers.1 r.ranked c.args.net c.args.rank r.within r.place c.args.stale.now values r.sweeping c.drive-value.result
-    c.drive-value.ensures old (read_there values c.args.net old lt c.index-values-net.is) c.mark_hearers.new.stale tells c.mark_hearers.ensures.below
+    c.drive-value.ensures old (read_there values c.args.net old lt c.index-values-net.is) c.note_zero.new.nonzero
+    (zeros_set c.args.nonzero.now c.note_zero.new.nonzero values c.args.net c.drive-value.result r.nonzero lt c.note_zero.ensures.here c.note_zero.ensures.others) c.mark_hearers.new.stale tells c.mark_hearers.ensures.below
 
-pub returns-else-is_other : goal.returns-else-is_other
-returns-else-is_other c =
+pub returns-then-is_other-clause-nonzero : goal.returns-then-is_other-clause-nonzero
+returns-then-is_other-clause-nonzero c =
+    let r = c.requires in
+    let values = c.args.values.now in
+    let lt = net_values c.args.nets.now c.args.stored.now r.fits r.readers.0 c.args.readers.now r.readers.1 r.ranked c.args.net c.args.rank r.within r.place c.args.stale.now values r.sweeping in
+    zeros_set c.args.nonzero.now c.note_zero.new.nonzero values c.args.net c.drive-value.result r.nonzero lt c.note_zero.ensures.here c.note_zero.ensures.others
+
+pub returns-else-is_other-clause-sweeping : goal.returns-else-is_other-clause-sweeping
+returns-else-is_other-clause-sweeping c =
     let r = c.requires in
     let same = c.is_other.ensures c.if-is_other.false in
     refreshed_same c.args.nets.now c.args.stored.now r.fits r.readers.0 c.args.readers.now r.readers.1 r.ranked c.args.net c.args.rank r.within r.place c.args.stale.now c.args.values.now r.sweeping

@@ -1,4 +1,5 @@
 use Rattle.std.proofs.Common.{◌-◌, ◌≤◌, length}
+use Rattle.cx_vnets.specs.Gates.{ZerosStand}
 use Rattle.cx_vnets.specs.Readers.{Sweeping}
 use Rattle.cx_vnets.proofs.sweep.sweep.Given as goal
 
@@ -6,6 +7,7 @@ abbrev pub invariant-loop-marked : goal.invariant-loop-marked
 invariant-loop-marked l = record {
   within : l.rank ≤ length l.stale;
   sweeping : Sweeping l.nets l.stored l.readers.ranks.items l.stale l.values l.rank;
+  nonzero : ZerosStand l.nonzero l.values;
 }
 
 abbrev pub decreases-loop-marked : goal.decreases-loop-marked

@@ -8,8 +8,7 @@ use Rattle.cx_vnets.specs.Arrays.{word_at}
 use Rattle.cx_vnets.specs.Edges.{code_of, width_of}
 use Rattle.cx_vnets.specs.Operands.{above, applied}
 use Rattle.cx_vnets.specs.Fits.{width_at}
-use Rattle.cx_vnets.specs.Looks.{widths_from, array_widths_from}
-use Rattle.cx_vnets.proofs.Widths.{and_first, and_second, and_third, net_read, operands_same, operands_within, item_there, word_read}
+use Rattle.cx_vnets.proofs.Widths.{and_first, and_second, and_third, net_read, operands_same, operands_within, word_read}
 use Rattle.cx_vnets.proofs.CodeWidths.{code_has_width}
 use Rattle.cx_vnets.proofs.values.+settled.Goals as goal
 
