@@ -8,8 +8,6 @@ use cx_bits::Bits;
 use cx_design::{PortRef, Seen};
 
 /// A literal as it is seen, where its value fits its width. Other ports are none.
-// not inlined: a value that is copied in parts and then read whole makes the next look wait (measured)
-#[inline(never)]
 pub fn literal_seen(port: PortRef) -> Seen
     ensures value { result ≡ networks.literal_seen port }
 {

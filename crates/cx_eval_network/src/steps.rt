@@ -39,8 +39,6 @@ pub fn step_seen<L: Look, B: Below>(place: &PortContext<'_>, look: &L, below: &B
 }
 
 /// A bit as it is seen.
-// not inlined: a value that is copied in parts and then read whole makes the next look wait (measured)
-#[inline(never)]
 pub fn bit_seen(truth: bool) -> Seen
     ensures value { result ≡ sights.bit_of truth }
 {

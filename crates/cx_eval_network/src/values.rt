@@ -19,8 +19,6 @@ use cx_state::alike_laws::rows_stand;
 use cx_state::width_laws::states_hold_widths;
 
 /// What a port is seen as that is found, where all that it leads to is known. It takes no memory.
-// not inlined: a value that is copied in parts and then read whole makes the next look wait (measured)
-#[inline(never)]
 pub fn planned_value(
     asking: &Asking<'_>,
     marks: &[NodeMark],
@@ -74,8 +72,6 @@ fn driven_value(
 }
 
 /// The same of any port, by its place.
-// not inlined: a value that is copied in parts and then read whole makes the next look wait (measured)
-#[inline(never)]
 fn found_value(
     asking: &Asking<'_>,
     marks: &[NodeMark],
