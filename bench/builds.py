@@ -1,16 +1,15 @@
 #!/usr/bin/env python3
 """Runs cases by two builds of the program, and compares what they tell.
 
-    bench/builds.py PROGRAM OTHER CASES..  [--mutants N] [--jobs N]
+    bench/builds.py PROGRAM OTHER [CASES..]  [--mutants N] [--jobs N]
 
-PROGRAM and OTHER are two built calyx_cli. CASES are files of cases as `compile_cases.py` reads them. Each step is run by both, and has to end with the
+PROGRAM and OTHER are two built calyx_cli. CASES are files of cases as `compile_cases.py` reads them, all of crates/cx_cases/data where none is named. Each step is run by both, and has to end with the
 same status and the same two outputs. Each Verilog text that a case simulates is then changed at random in N ways (40, by a fixed seed): bytes and lines go, come
 twice or change places, numbers become others; each has to get the same answer of `sim` by both. The last line is 'N same, M differ'; the status is 1
 where one differs or none was run.
 """
 import argparse
 import concurrent.futures
-import json
 import os
 import random
 import re
@@ -19,7 +18,7 @@ import subprocess
 import sys
 import tempfile
 
-from compile_cases import content_of
+from compile_cases import cases_of, content_of, words_of
 
 SECONDS = 60
 MOST_BYTES = 65536
@@ -94,16 +93,17 @@ def compared(programs, case, mutants):
             with open(os.path.join(folder, name), 'wb') as file:
                 file.write(content_of(content))
         for step in case['steps']:
-            one, other = (told(program, step['words'], folder) for program in programs)
+            words = words_of(step)
+            one, other = (told(program, words, folder) for program in programs)
             if one == other:
                 same += 1
             else:
-                differing.append(f'{" ".join(step["words"])}: {one!r:.200} {other!r:.200}')
+                differing.append(f'{" ".join(words)}: {one!r:.200} {other!r:.200}')
             if 'save' in step:
                 with open(os.path.join(folder, step['save']), 'wb') as file:
                     file.write(one[1] if one != 'no end' else b'')
-            if step['words'][:1] == ['sim'] and len(step['words']) > 2:
-                more, others = mutants_differ(programs, step['words'], folder, dice, mutants)
+            if words[:1] == ['sim'] and len(words) > 2:
+                more, others = mutants_differ(programs, words, folder, dice, mutants)
                 same, differing = same + more, differing + others
     return same, differing
 
@@ -112,15 +112,12 @@ def main():
     parser = argparse.ArgumentParser(description='Compares two builds over cases.')
     parser.add_argument('program')
     parser.add_argument('other')
-    parser.add_argument('cases', nargs='+')
+    parser.add_argument('cases', nargs='*')
     parser.add_argument('--mutants', type=int, default=40)
     parser.add_argument('--jobs', type=int, default=os.cpu_count() or 1)
     options = parser.parse_args()
     programs = [os.path.abspath(options.program), os.path.abspath(options.other)]
-    cases = []
-    for path in options.cases:
-        with open(path, encoding='utf-8') as file:
-            cases += [json.loads(line) for line in file if line.strip()]
+    cases = list(cases_of(options.cases))
     same = differ = 0
     with concurrent.futures.ThreadPoolExecutor(options.jobs) as pool:
         for case, (well, differing) in zip(cases, pool.map(lambda case: compared(programs, case, options.mutants), cases)):

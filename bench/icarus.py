@@ -1,10 +1,10 @@
 #!/usr/bin/env python3
-"""Runs the texts of the tests of `sim` that are valid for Icarus Verilog too by both, and compares the cycle and the words.
+"""Runs texts of the cases of `sim` that are valid for Icarus Verilog too by both, and compares the cycle and the words.
 
     bench/icarus.py PROGRAM
 
 PROGRAM is the built calyx_cli; where `iverilog` or `vvp` is not installed (Debian's package iverilog), that is told and nothing is compared. The texts are read out of
-crates/cx_run_tests/src/simulation.rt. Registers begin with 0, which Icarus Verilog is told. The last line is 'N passed, M failed'; the status is 1
+crates/cx_cases/data/simulation.jsonl. Registers begin with 0, which Icarus Verilog is told. The last line is 'N passed, M failed'; the status is 1
 where one failed, or there was no text.
 """
 import json
@@ -15,20 +15,18 @@ import subprocess
 import sys
 import tempfile
 
-from sim import BENCH, MAIN
+from sim import BENCH
 
 HERE = os.path.dirname(os.path.abspath(__file__))
-STRING = r'"((?:[^"\\]|\\.)*)"'
 
 
 def texts():
     """The texts of modules without memories, and that with one, with the words of it."""
-    with open(HERE + '/../crates/cx_run_tests/src/simulation.rt', encoding='utf-8') as file:
-        tests = file.read()
-    named = {name: text.replace('\\n', '\n') for name, text in re.findall(r'const (\w+): &str =\s*' + STRING, tests)}
-    alone = [(name.lower(), MAIN + named[name] + 'endmodule\n', []) for name in ('COUNTER', 'SWAP')]
-    memory = '// external t i 8 4\n' + named['MEMORY'] + MAIN + named['SUMS'] + 'endmodule\n'
-    return alone + [('memory', memory, [1, 2, 3, 4]), ('memory of other words', memory, [250, 7, 0, 99])]
+    with open(HERE + '/../crates/cx_cases/data/simulation.jsonl', encoding='utf-8') as file:
+        named = {case['name']: case['files']['text'] for case in map(json.loads, file)}
+    alone = [(name, named[name], []) for name in ('a counter to ten', 'registers change at once')]
+    memory = named['an external memory']
+    return alone + [('a memory', memory, [1, 2, 3, 4]), ('a memory of other words', memory, [250, 7, 0, 99])]
 
 
 def by_sim(program, folder, text, words):

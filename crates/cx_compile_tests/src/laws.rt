@@ -5,8 +5,7 @@ ghost use Rattle.std.specs.Prelude.{◌≡◌, ◌≤◌, IfErr, IfOk, length};
 ghost use Rattle.cx_commands.specs.declared.stops.Stop.TheVariants.{More};
 ghost use Rattle.cx_compile_tests.specs.Alike.{EndsAlike, WaitsAlike};
 
-use crate::runs::FIVE;
-use crate::stepped::ADD_THREE;
+use crate::stepped::{ADD_THREE, FIVE};
 use cx_control::laws::machine_runs;
 use cx_driver::{Stop, interp, net_of};
 use cx_wiring::laws::design_is_realised;

@@ -1,25 +1,9 @@
-//! Compiled designs beside the interpreter: the text is simulated, and its cycle and words are those of the run.
+//! Laws at worked designs, and nets alone. Designs that are compiled and simulated are cases of `cx_cases`.
 #![tactic(auto)]
 
-#[cfg(test)]
-mod arms;
-#[cfg(test)]
-mod calls;
-#[cfg(test)]
-mod control;
-#[cfg(test)]
-mod gates;
-#[cfg(test)]
-mod islands;
 #[cfg(test)]
 mod laws;
 #[cfg(test)]
 mod nets;
-#[cfg(test)]
-mod primitives;
-#[cfg(test)]
-mod runs;
-#[cfg(test)]
-mod sizes;
 #[cfg(test)]
 mod stepped;

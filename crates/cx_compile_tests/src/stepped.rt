@@ -3,13 +3,16 @@
 ghost use Rattle.std.specs.Prelude.{IfOk};
 ghost use Rattle.cx_net_runs.specs.States.{CanStep};
 
-use crate::runs::FIVE;
 use cx_data::load;
 use cx_driver::net_of;
 use cx_net_runs::NetState;
 use std::alloc::Global;
 use std::process::Abort;
 use std::test::Fail;
+
+/// The data of the memory `mem` of one word of 32 bits, which is 5.
+pub(crate) const FIVE: &str =
+    "{\"mem\":{\"data\":[5],\"format\":{\"numeric_type\":\"bitnum\",\"is_signed\":false,\"width\":32}}}";
 
 /// The first design of README: it reads the word of a memory, adds 3 and writes it back, in three groups of two turns.
 pub(crate) const ADD_THREE: &str = "component main() -> () {

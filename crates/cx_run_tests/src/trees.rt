@@ -4,9 +4,7 @@ ghost use Rattle.std.specs.Prelude.{◌≡◌, IfOk};
 ghost use Rattle.cx_ast.specs.PlainTree.{plain_tree};
 ghost use Rattle.cx_print.specs.Printable.{IsPrintable};
 
-use crate::runs::tells;
 use cx_ast::Tree;
-use cx_driver::Status;
 use cx_lex::lex;
 use cx_parse::{ParseFault, parse};
 use cx_print::{parsed_is_printable, print};
@@ -98,35 +96,6 @@ fn parses(rt: HostRuntime) {
         };
         assert_eq!(rt; told, column, "{text}");
     }
-}
-
-/// Sixty-four blocks in one another are read; the brace of the sixty-fifth, the last of 54 bytes and 64 times 6, is too deep.
-#[test]
-fn nesting(rt: HostRuntime) -> Result<(), Fail> {
-    let cases = [
-        (63, Status::Done, "accepted\n", ""),
-        (64, Status::Refused, "", "refused 1:438 too-deep\n"),
-    ];
-    for (blocks, status, out, err) in cases {
-        let mut open = String::new(rt.alloc());
-        let mut close = String::new(rt.alloc());
-        for _ in 0..blocks {
-            open.push_str(" seq {")?;
-            close.push_str(" }")?;
-        }
-        let text = format!(in rt.alloc();
-            "component main() -> () {{ cells {{ }} wires {{ }} control {{{open}{close} }} }}"
-        )?;
-        let files: [(&str, &[u8]); 1] = [("d", text.as_bytes())];
-        tells(
-            &rt,
-            rt.alloc(),
-            ("check d", (0, 0)),
-            &files,
-            (status, out, err),
-        )?;
-    }
-    Ok(())
 }
 
 const SMALLEST: &[u8] = b"component main() -> () { cells {} wires {} control {} }";

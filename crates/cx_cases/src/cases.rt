@@ -1,0 +1,135 @@
+//! A case: its files, its steps, and the first step that tells something else than it should.
+
+use crate::contents::{bytes_of, list_of, text_of};
+use crate::runs::{Entry, Told, entry, told_of};
+use crate::troubles::Trouble;
+use serde_json::Value;
+use std::alloc::Global;
+
+/// The bytes of an output that are shown.
+const SHOWN: usize = 300;
+
+/// The first step of a case that tells something else than it should, behind the name of the case; nothing where there is none.
+pub(crate) fn difference_of(alloc: Global, line: &str) -> Result<Option<String>, Trouble> {
+    let case = Value::from_str(alloc, line)?;
+    let name = text_of(&case, "name").ok_or(Trouble::Form)?;
+    let steps = list_of(&case, "steps")?;
+    let mut files = files_of(alloc, &case)?;
+    for (index, step) in steps.iter().enumerate() {
+        if let Some(told) = difference(alloc, step, &mut files)? {
+            let number = index.saturating_add(1);
+            return Ok(Some(format!(in alloc; "{name}: step {number}: {told}")?));
+        }
+    }
+    Ok(None)
+}
+
+/// The files of a case.
+fn files_of(alloc: Global, case: &Value) -> Result<Vec<Entry>, Trouble> {
+    let mut files = Vec::new(alloc);
+    let Some(named) = case.get("files").and_then(Value::as_object) else {
+        return Err(Trouble::Form);
+    };
+    for (name, content) in named.iter() {
+        let bytes = bytes_of(alloc, content)?;
+        files.push(entry(alloc, name.as_bytes(), &bytes)?)?;
+    }
+    Ok(files)
+}
+
+/// What a step tells, where it is something else than it should be. What the step saves stands before the other files from then on.
+fn difference(
+    alloc: Global,
+    step: &Value,
+    files: &mut Vec<Entry>,
+) -> Result<Option<String>, Trouble> {
+    if let Some(name) = text_of(step, "cut") {
+        return cut_difference(alloc, step, name, files);
+    }
+    let told = told_of(alloc, step, None, files)?;
+    if !is_wanted(alloc, step, step.get("stderr"), &told)? {
+        return Ok(Some(shown(alloc, &told)?));
+    }
+    if let Some(name) = text_of(step, "save") {
+        files.insert(0, entry(alloc, name.as_bytes(), told.out.bytes())?)?;
+    }
+    Ok(None)
+}
+
+/// The same of a step that is run once with each front of a file, from no byte of it to all but one.
+fn cut_difference(
+    alloc: Global,
+    step: &Value,
+    name: &str,
+    files: &[Entry],
+) -> Result<Option<String>, Trouble> {
+    let lines = list_of(step, "fronts")?;
+    let whole = held(files, name.as_bytes());
+    for length in 0..whole.len() {
+        let front = entry(alloc, name.as_bytes(), &whole[..length])?;
+        let told = told_of(alloc, step, Some(front), files)?;
+        if !is_wanted(alloc, step, line_at(lines, length), &told)? {
+            let told = shown(alloc, &told)?;
+            return Ok(Some(format!(in alloc; "with {length} bytes: {told}")?));
+        }
+    }
+    Ok(None)
+}
+
+/// The bytes of the first file with a name; none where there is no such file.
+fn held<'a>(files: &'a [Entry], name: &[u8]) -> &'a [u8] {
+    for (own, bytes) in files.iter() {
+        if own.bytes() == name {
+            return bytes.bytes();
+        }
+    }
+    &[]
+}
+
+/// What standard error is to be for a front of this length: it stands behind the greatest length that is no greater.
+fn line_at(lines: &[Value], length: usize) -> Option<&Value> {
+    let mut wanted = None;
+    for line in lines.iter() {
+        if line.get(0).and_then(Value::as_u64) <= Some(length as u64) {
+            wanted = line.get(1);
+        }
+    }
+    wanted
+}
+
+/// Whether a step tells what it should: its status, and each output whose content is given.
+fn is_wanted(
+    alloc: Global,
+    step: &Value,
+    err: Option<&Value>,
+    told: &Told,
+) -> Result<bool, Trouble> {
+    let status = u64::from(told.status as u8);
+    let is_status = match step.get("status").and_then(Value::as_array) {
+        Some(list) => list.iter().any(|one| one.as_u64() == Some(status)),
+        None => step.get("status").and_then(Value::as_u64) == Some(status),
+    };
+    let is_out = is_content(alloc, step.get("stdout"), told.out.bytes())?;
+    let is_err = is_content(alloc, err, told.err.bytes())?;
+    Ok(is_status && is_out && is_err)
+}
+
+/// Whether bytes are a content; each are where none is given.
+fn is_content(alloc: Global, content: Option<&Value>, bytes: &[u8]) -> Result<bool, Trouble> {
+    match content {
+        Some(content) => Ok(bytes_of(alloc, content)?.as_slice() == bytes),
+        None => Ok(true),
+    }
+}
+
+/// What a step told, as one line.
+fn shown(alloc: Global, told: &Told) -> Result<String, Trouble> {
+    let status = told.status as u8;
+    let out = front(told.out.bytes()).escape_ascii();
+    let err = front(told.err.bytes()).escape_ascii();
+    Ok(format!(in alloc; "status {status}, standard output \"{out}\", standard error \"{err}\"")?)
+}
+
+fn front(bytes: &[u8]) -> &[u8] {
+    bytes.get(..SHOWN).unwrap_or(bytes)
+}
