@@ -9,6 +9,12 @@ use std::alloc::Global;
 /// The bytes of an output that are shown.
 const SHOWN: usize = 300;
 
+/// The keys of a step.
+const KEYS: [&str; 12] = [
+    "words", "status", "stdout", "stderr", "save", "reads", "writes", "lines", "most", "room",
+    "cut", "fronts",
+];
+
 /// The first step of a case that tells something else than it should, behind the name of the case; nothing where there is none.
 pub(crate) fn difference_of(alloc: Global, line: &str) -> Result<Option<String>, Trouble> {
     let case = Value::from_str(alloc, line)?;
@@ -43,6 +49,9 @@ fn difference(
     step: &Value,
     files: &mut Vec<Entry>,
 ) -> Result<Option<String>, Trouble> {
+    if !has_known_keys(step) {
+        return Err(Trouble::Form);
+    }
     if let Some(name) = text_of(step, "cut") {
         return cut_difference(alloc, step, name, files);
     }
@@ -56,6 +65,19 @@ fn difference(
     Ok(None)
 }
 
+/// Whether each key of a step is one of those that are looked at.
+fn has_known_keys(step: &Value) -> bool {
+    let Some(members) = step.as_object() else {
+        return false;
+    };
+    for (key, _) in members.iter() {
+        if !KEYS.contains(&key.as_str()) {
+            return false;
+        }
+    }
+    true
+}
+
 /// The same of a step that is run once with each front of a file, from no byte of it to all but one.
 fn cut_difference(
     alloc: Global,
@@ -64,11 +86,12 @@ fn cut_difference(
     files: &[Entry],
 ) -> Result<Option<String>, Trouble> {
     let lines = list_of(step, "fronts")?;
-    let whole = held(files, name.as_bytes());
+    let whole = held(files, name.as_bytes())?;
     for length in 0..whole.len() {
+        let err = line_at(lines, length)?;
         let front = entry(alloc, name.as_bytes(), &whole[..length])?;
         let told = told_of(alloc, step, Some(front), files)?;
-        if !is_wanted(alloc, step, line_at(lines, length), &told)? {
+        if !is_wanted(alloc, step, Some(err), &told)? {
             let told = shown(alloc, &told)?;
             return Ok(Some(format!(in alloc; "with {length} bytes: {told}")?));
         }
@@ -76,22 +99,23 @@ fn cut_difference(
     Ok(None)
 }
 
-/// The bytes of the first file with a name; none where there is no such file.
-fn held<'a>(files: &'a [Entry], name: &[u8]) -> &'a [u8] {
+/// The bytes of the first file with a name.
+fn held<'a>(files: &'a [Entry], name: &[u8]) -> Result<&'a [u8], Trouble> {
     for (own, bytes) in files.iter() {
         if own.bytes() == name {
-            return bytes.bytes();
+            return Ok(bytes.bytes());
         }
     }
-    &[]
+    Err(Trouble::Form)
 }
 
 /// What standard error is to be for a front of this length: it stands behind the greatest length that is no greater.
-fn line_at(lines: &[Value], length: usize) -> Option<&Value> {
-    let mut wanted = None;
+fn line_at(lines: &[Value], length: usize) -> Result<&Value, Trouble> {
+    let mut wanted = Err(Trouble::Form);
     for line in lines.iter() {
-        if line.get(0).and_then(Value::as_u64) <= Some(length as u64) {
-            wanted = line.get(1);
+        match (line.get(0).and_then(Value::as_u64), line.get(1)) {
+            (Some(from), Some(text)) if from <= length as u64 => wanted = Ok(text),
+            _ => {}
         }
     }
     wanted
@@ -122,7 +146,7 @@ fn is_content(alloc: Global, content: Option<&Value>, bytes: &[u8]) -> Result<bo
     }
 }
 
-/// What a step told, as one line.
+/// What a step told, on one line.
 fn shown(alloc: Global, told: &Told) -> Result<String, Trouble> {
     let status = told.status as u8;
     let out = front(told.out.bytes()).escape_ascii();
