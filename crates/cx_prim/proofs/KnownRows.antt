@@ -38,6 +38,10 @@ pub known_no_word : (memory_row 8 (2 ∷ 3 ∷ []) (1 ∷ 2 ∷ [])).output (Mem
     (bits 1 1 ∷ bits 2 3 ∷ None ∷ None ∷ None ∷ None ∷ []) 4 ≡ None
 known_no_word = refl
 
+-- without `write_en` the words stay, and done falls
+pub known_memory_idle : edge (memory_row 8 (2 ∷ []) (1 ∷ [])) (Memory (4 ∷ 6 ∷ []) true) (bits 1 0 ∷ bits 8 9 ∷ bits 1 0 ∷ None ∷ None ∷ []) ≡ Ok (Memory (4 ∷ 6 ∷ []) false)
+known_memory_idle = refl
+
 -- a sequential memory: a read takes the word, a write keeps the read data, `write_en` alone does nothing
 pub known_seq_read : edge (sequential_memory_row 8 (2 ∷ []) (1 ∷ [])) (SequentialMemory (4 ∷ 6 ∷ []) 0 false)
     (bits 1 1 ∷ bits 1 1 ∷ bits 1 0 ∷ None ∷ None ∷ None ∷ []) ≡ Ok (SequentialMemory (4 ∷ 6 ∷ []) 6 true)
