@@ -14,8 +14,8 @@ use Rattle.cx_design.specs.PlainActives.{TellsFault}
 use Rattle.cx_weave.specs.declared.weaving.Wove.{Wove}
 use Rattle.cx_weave.specs.declared.weaving.Wove.TheVariants.{End, Fault, More}
 use Rattle.cx_weave.specs.Results.{LeavesWords, TellsWoven}
-use Rattle.cx_weave.specs.Woven as woven
-use Rattle.cx_weave.specs.Woven.{Woven}
+use Rattle.cx_orders.specs.Woven as woven
+use Rattle.cx_orders.specs.Woven.{Woven}
 use Rattle.cx_commands.specs.Lists.{numbers_in, parts_of}
 use Rattle.cx_commands.specs.declared.stops.Stop.{Stop}
 use Rattle.cx_commands.specs.declared.stops.Stop.TheVariants as stops

@@ -8,8 +8,8 @@ use Rattle.cx_data.specs.declared.faults.DataFault.{DataFault}
 use Rattle.cx_meaning.specs.Designs.{PlainDesign}
 use Rattle.cx_meaning.specs.Instances.{tree_of, words_of}
 use Rattle.cx_rules.specs.Externals.{external_rows}
-use Rattle.cx_weave.specs.Woven as woven
-use Rattle.cx_weave.specs.Woven.{Woven, by_list, woven}
+use Rattle.cx_orders.specs.Woven as woven
+use Rattle.cx_orders.specs.Woven.{Woven, by_list, woven}
 use Rattle.cx_driver.specs.Interpreted.{fault_stop}
 use Rattle.cx_driver.specs.Texts.{IsDesignOf, TextBreak}
 use Rattle.cx_commands.specs.declared.stops.Stop.{Stop}

@@ -4,8 +4,8 @@ use Rattle.std.proofs.lemmas.Bool.{cases_lt, lt-ltb, le-ltb}
 use Rattle.cx_meaning.specs.Designs.{PlainStatement}
 use Rattle.cx_meaning.specs.Instances.{Instance, State}
 use Rattle.cx_meaning.specs.Sights.{Held}
-use Rattle.cx_weave.specs.Open.{Open, Opens, no_arms, an_arm, beside, leaves_of, leaves_of_all}
-use Rattle.cx_weave.specs.Steps.{Stepped, Now, Stops, step, step_arms, within, arms_left, first_or}
+use Rattle.cx_orders.specs.Open.{Open, Opens, no_arms, an_arm, beside, leaves_of, leaves_of_all}
+use Rattle.cx_orders.specs.Steps.{Stepped, Now, Stops, step, step_arms, within, arms_left, first_or}
 
 pub leaves_beside : (front back : Opens) → leaves_of_all (beside front back) ≡ leaves_of_all front + leaves_of_all back
 leaves_beside no_arms back = omega arith

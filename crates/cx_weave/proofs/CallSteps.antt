@@ -15,8 +15,8 @@ use Rattle.cx_interp.proofs.Measures.{instance_child}
 use Rattle.cx_interp.proofs.RestLemmas.{got}
 use Rattle.cx_weave.specs.declared.strands.Strand.{Strand}
 use Rattle.cx_weave.specs.Calls.{HoldsAs}
-use Rattle.cx_weave.specs.Open.{Open}
-use Rattle.cx_weave.specs.Steps.{Stepped, Now, Stops, step, lift_step, call_left, held_as, inputs_for, inputs_seen}
+use Rattle.cx_orders.specs.Open.{Open}
+use Rattle.cx_orders.specs.Steps.{Stepped, Now, Stops, step, lift_step, call_left, held_as, inputs_for, inputs_seen}
 use Rattle.cx_weave.specs.Strands.{PlainStrand, ACall, Shows, IsShown}
 use Rattle.cx_weave.specs.Strides.{LeftShown, StepTold, HasStepped}
 

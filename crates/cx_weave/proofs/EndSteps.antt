@@ -12,9 +12,9 @@ use Rattle.cx_state.specs.States.{PlainInstance, StandsFor}
 use Rattle.cx_weave.specs.declared.weaving.Wove.{Wove}
 use Rattle.cx_weave.specs.declared.weaving.Wove.TheVariants.{End, Fault, More}
 use Rattle.cx_weave.specs.Results.{EndsIn, LeavesWords, TellsArm, TellsRun, TellsWoven}
-use Rattle.cx_weave.specs.Alone.{LeafHasAlone}
-use Rattle.cx_weave.specs.Woven as woven
-use Rattle.cx_weave.specs.Woven.{Choices, Woven}
+use Rattle.cx_orders.specs.Alone.{LeafHasAlone}
+use Rattle.cx_orders.specs.Woven as woven
+use Rattle.cx_orders.specs.Woven.{Choices, Woven}
 
 module _ (d : PlainDesign) (rows : List PlainInstance) (x : Woven) where
   pub tells_woven : (wove : Wove) → EndsIn d rows wove x → TellsWoven d wove x

@@ -18,10 +18,10 @@ use Rattle.cx_state.specs.States.{PlainInstance, instance_state, inputs_held, wi
 use Rattle.cx_interp.specs.Callees.{HasChild, HoldsCall, IsPart}
 use Rattle.cx_interp.proofs.HoldLemmas.{held_stands, held_here, held_others}
 use Rattle.cx_weave.specs.Calls.{HoldsList, HoldsAs}
-use Rattle.cx_weave.specs.Steps.{first_inputs, held_as}
+use Rattle.cx_orders.specs.Steps.{first_inputs, held_as}
 use Rattle.cx_weave.specs.Strands.{InputsFit}
 use Rattle.cx_weave.proofs.CallSteps.{child_is}
-use Rattle.cx_weave.proofs.Runs.{first_at, first_length}
+use Rattle.cx_orders.proofs.Runs.{first_at, first_length}
 
 -- the first inputs are held as they are listed, and nothing else changes
 pub record HoldsSoFar (d : PlainDesign) (old new : List PlainInstance) (child : ℕ) (inputs : List Seen) (k : ℕ) : Type 0 where

@@ -29,12 +29,12 @@ use Rattle.cx_interp.specs.Turns.{cycle_as}
 use Rattle.cx_interp.proofs.IslandLemmas.{entries_are}
 use Rattle.cx_interp.proofs.TestLemmas.{tells_own}
 use Rattle.cx_weave.specs.declared.strands.Strand.{Strand}
-use Rattle.cx_weave.specs.Open.{InIsland}
-use Rattle.cx_weave.specs.Steps.{step, turned}
-use Rattle.cx_weave.specs.Leaves.{form_drives, is_tested, sampled_now, samples_now, own_island}
+use Rattle.cx_orders.specs.Open.{InIsland}
+use Rattle.cx_orders.specs.Steps.{step, turned}
+use Rattle.cx_orders.specs.Leaves.{form_drives, is_tested, sampled_now, samples_now, own_island}
 use Rattle.cx_weave.specs.Strands.{AnIsland, IsAtCycle, IsShown, KeptBefore, Knows, ListDriven, Shows, plain_strand}
 use Rattle.cx_weave.specs.Strides.{TurnTold, HasRested, HasStepped, IslandTaken, StepTold}
-use Rattle.cx_weave.proofs.Runs.{tested_fine}
+use Rattle.cx_orders.proofs.Runs.{tested_fine}
 use Rattle.cx_weave.proofs.TurnsTaken.{ends_told}
 
 abbrev pub FirstKept : Type 0

@@ -19,9 +19,9 @@ use Rattle.cx_interp.specs.declared.turns.Turn.TheVariants as turns
 use Rattle.cx_interp.specs.Tests.{Tested}
 use Rattle.cx_interp.proofs.PathLemmas.{put_same}
 use Rattle.cx_weave.specs.declared.strands.Strand.{Strand}
-use Rattle.cx_weave.specs.Open.{Open, InGroup, Choosing, Testing, Capturing, Closing, Waiting, InLoop, open_statement}
-use Rattle.cx_weave.specs.Steps.{Now, step, turned, tested}
-use Rattle.cx_weave.specs.Leaves.{own_turn, own_capture, rested, test_drives}
+use Rattle.cx_orders.specs.Open.{Open, InGroup, Choosing, Testing, Capturing, Closing, Waiting, InLoop, open_statement}
+use Rattle.cx_orders.specs.Steps.{Now, step, turned, tested}
+use Rattle.cx_orders.specs.Leaves.{own_turn, own_capture, rested, test_drives}
 use Rattle.cx_weave.specs.Strands.{PlainStrand, AnIdling, AGroup, AChoice, ATest, ACapture, AClosing, AWaiting, plain_strand, Shows}
 use Rattle.cx_weave.specs.Strides.{TakesTurn, HasRested, OpensAs, LeftShown, StepTold, HasStepped}
 

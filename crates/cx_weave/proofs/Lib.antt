@@ -1,19 +1,3 @@
-pub mod OwnTurns
-pub mod Inside
-pub mod Fits
-pub mod StepFrames
-pub mod StepFits
-pub mod Joins
-pub mod Orders
-pub mod Accepted
-pub mod Ending
-pub mod LeafRuns
-pub mod Runs
-pub mod Lawful
-pub mod Halting
-pub mod HaltRuns
-pub mod AloneRuns
-pub mod KnownWoven
 mod TurnsTaken
 mod LeafSteps
 mod PartSteps

@@ -21,7 +21,7 @@ use Rattle.cx_interp.specs.Islands.{HasPart}
 use Rattle.cx_interp.proofs.PathLemmas.{just_true}
 use Rattle.cx_interp.proofs.StandLemmas.{below_length, same_part}
 use Rattle.cx_eval_cycle.specs.Passes.{listed_in}
-use Rattle.cx_weave.specs.Leaves.{form_drives}
+use Rattle.cx_orders.specs.Leaves.{form_drives}
 use Rattle.cx_weave.specs.Marks.{is_marked}
 use Rattle.cx_weave.specs.Strands.{ListDriven}
 

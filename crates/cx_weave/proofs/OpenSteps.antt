@@ -23,8 +23,8 @@ use Rattle.cx_interp.specs.Machines.{FormStands, StandsIn, StandIn}
 use Rattle.cx_interp.proofs.Measures.{all_steps, instance_child, steps}
 use Rattle.cx_weave.specs.declared.strands.Strand.{Strand}
 use Rattle.cx_weave.specs.declared.strands.Arms.{Arms}
-use Rattle.cx_weave.specs.Open.{Open, InSeq, InRepeat, an_arm, beside, open_with, open_form, open_island, open_called, open_kind, open_enable, open_control, open_below, open_statement, open_statements}
-use Rattle.cx_weave.specs.Steps.{seq_left, repeat_left}
+use Rattle.cx_orders.specs.Open.{Open, InSeq, InRepeat, an_arm, beside, open_with, open_form, open_island, open_called, open_kind, open_enable, open_control, open_below, open_statement, open_statements}
+use Rattle.cx_orders.specs.Steps.{seq_left, repeat_left}
 use Rattle.cx_weave.specs.Strands.{PlainStrand, AnIdling, AGroup, AChoice, ATest, AWaiting, ASeq, APar, ARepeat, ACall, one_arm, plain_strand, plain_arms, CallsCell, IsBoth, Shows, ShowsAll}
 use Rattle.cx_weave.specs.Strides.{OpensAs, OpenAs, LeftShown, LeavesAs}
 use Rattle.cx_weave.proofs.PartSteps.{both_shown}

@@ -15,7 +15,7 @@ use Rattle.cx_weave.specs.declared.spares.Spares.{Spares}
 use Rattle.cx_weave.specs.declared.strands.Strand.{Strand}
 use Rattle.cx_weave.specs.declared.strands.Strand.TheVariants as strands
 use Rattle.cx_weave.specs.declared.strands.Arms.{Arms}
-use Rattle.cx_weave.specs.Open.{open_statement, open_statements}
+use Rattle.cx_orders.specs.Open.{open_statement, open_statements}
 use Rattle.cx_weave.specs.Strands.{plain_strand, plain_arms, CallsCell}
 use Rattle.cx_weave.specs.Strides.{OpensAs, OpenAs}
 use Rattle.cx_weave.specs.Takes.{box_takes, par_takes, call_takes, arms_take, arms_in, need, needs, all_needs, room, taken}

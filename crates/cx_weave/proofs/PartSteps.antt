@@ -8,8 +8,8 @@ use Rattle.cx_meaning.specs.Sights.{Held}
 use Rattle.cx_state.specs.States.{PlainInstance, inputs_held, under_path}
 use Rattle.cx_weave.specs.declared.strands.Strand.{Strand}
 use Rattle.cx_weave.specs.declared.strands.Arms.{Arms}
-use Rattle.cx_weave.specs.Open.{Open, InSeq, InPar, InLoop, InRepeat, Opens, no_arms, an_arm, beside, leaves_of, leaves_of_all}
-use Rattle.cx_weave.specs.Steps.{Stepped, Now, Stops, step, step_arms, within, seq_left, loop_left, repeat_left, par_left, arms_left}
+use Rattle.cx_orders.specs.Open.{Open, InSeq, InPar, InLoop, InRepeat, Opens, no_arms, an_arm, beside, leaves_of, leaves_of_all}
+use Rattle.cx_orders.specs.Steps.{Stepped, Now, Stops, step, step_arms, within, seq_left, loop_left, repeat_left, par_left, arms_left}
 use Rattle.cx_weave.specs.Strands.{PlainStrand, AnIdling, AGroup, AChoice, ATest, AnIsland, ACapture, AClosing, AWaiting, ASeq, APar, ALoop, ARepeat, ACall, PlainArms, one_arm, both_arms, plain_arms, strand_leaves, arms_leaves, IsCounted, AreCounted, IsBoth, Shows, ShowsAll, IsShown, AreShown}
 use Rattle.cx_weave.specs.Strides.{LeftShown, LeavesAs, StepTold, HasStepped, ArmsTold, HaveStepped, IsArmOf, IsParOf, IsInFront, IsBehind}
 use Rattle.cx_weave.proofs.ArmSteps.{leaves_beside, step_first, step_front, step_back}

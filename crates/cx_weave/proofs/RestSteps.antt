@@ -15,7 +15,7 @@ use Rattle.cx_interp.proofs.CallLemmas.{under_child, put_child}
 use Rattle.cx_interp.proofs.PathLemmas.{under_put, put_put, just_same, just_true}
 use Rattle.cx_interp.proofs.Measures.{instance_child}
 use Rattle.cx_weave.specs.Deep.{IsDeep, deep, with_one}
-use Rattle.cx_weave.specs.Leaves.{rested}
+use Rattle.cx_orders.specs.Leaves.{rested}
 use Rattle.cx_weave.specs.Strides.{HasRested}
 
 -- below what is no child nothing is idle

@@ -12,9 +12,9 @@ use Rattle.cx_meaning.specs.Answers.{Turn, Ends, Goes, Faults, Test, Holds, Fail
 use Rattle.cx_meaning.specs.Calls.{called, captures, test}
 use Rattle.cx_weave.specs.declared.needs.Piece.{Piece}
 use Rattle.cx_weave.specs.declared.needs.Piece.TheVariants as pieces
-use Rattle.cx_weave.specs.Leaves.{own_turn, own_capture, own_island, samples_now}
-use Rattle.cx_weave.specs.Open.{Open, Idling, InGroup, Choosing, Testing, InIsland, Capturing, Closing, Waiting, InSeq, InPar, InLoop, InRepeat, InCall, Opens, no_arms, an_arm, leaves_of, open_form, open_with, open_arms, open_called, open_kind, open_enable, open_control, open_below, open_statement, open_statements}
-use Rattle.cx_weave.specs.Steps.{Stepped, Now, Stops, step, step_arms, within, turned, tested, seq_left, loop_left, repeat_left, arms_left, par_left, behind_child, call_left, lift_step, first_or, inputs_for, inputs_seen, held_as}
+use Rattle.cx_orders.specs.Leaves.{own_turn, own_capture, own_island, samples_now}
+use Rattle.cx_orders.specs.Open.{Open, Idling, InGroup, Choosing, Testing, InIsland, Capturing, Closing, Waiting, InSeq, InPar, InLoop, InRepeat, InCall, Opens, no_arms, an_arm, leaves_of, open_form, open_with, open_arms, open_called, open_kind, open_enable, open_control, open_below, open_statement, open_statements}
+use Rattle.cx_orders.specs.Steps.{Stepped, Now, Stops, step, step_arms, within, turned, tested, seq_left, loop_left, repeat_left, arms_left, par_left, behind_child, call_left, lift_step, first_or, inputs_for, inputs_seen, held_as}
 use Rattle.cx_weave.specs.Takes.{box_takes, par_takes, island_takes, form_need, with_need, all_need, called_need, kind_need, enable_need, control_need, below_need, need, all_needs, arms_in, room, rooms, LeavesRoom, StepsWithin}
 
 par_grows : (k : Piece) (m n : ℕ) → m ≤ n → par_takes k m ≤ par_takes k n

@@ -10,7 +10,7 @@ use Rattle.cx_interp.proofs.CallLemmas.{called_is}
 use Rattle.cx_weave.specs.declared.needs.Piece.{Piece}
 use Rattle.cx_weave.specs.declared.needs.Piece.TheVariants as pieces
 use Rattle.cx_weave.specs.declared.spares.Spares.{Spares}
-use Rattle.cx_weave.specs.Open.{Open, Opens, beside}
+use Rattle.cx_orders.specs.Open.{Open, Opens, beside}
 use Rattle.cx_weave.specs.Strands.{PlainStrand, AChoice, ATest, ASeq, APar, ALoop, ARepeat, ACall, PlainArms, one_arm, both_arms, Shows, ShowsAll}
 use Rattle.cx_weave.specs.Takes.{box_takes, par_takes, call_takes, inputs_taken, arms_take, arms_in, need, needs, room, rooms, taken, all_taken}
 use Rattle.cx_weave.specs.Ledger.{Kind, Pieces, Lacks, box_amount, arms_box_amount, HasPlaces, Ledger}

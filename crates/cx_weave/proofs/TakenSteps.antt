@@ -7,7 +7,7 @@ use Rattle.cx_state.specs.Tables.{IsNumber}
 use Rattle.cx_interp.proofs.CallLemmas.{called_is}
 use Rattle.cx_weave.specs.declared.needs.Piece.{Piece}
 use Rattle.cx_weave.specs.declared.needs.Piece.TheVariants as pieces
-use Rattle.cx_weave.specs.Open.{Open, Opens, no_arms, an_arm, beside}
+use Rattle.cx_orders.specs.Open.{Open, Opens, no_arms, an_arm, beside}
 use Rattle.cx_weave.specs.Strands.{PlainStrand, AnIdling, AGroup, AChoice, ATest, AnIsland, ACapture, AClosing, AWaiting, ASeq, APar, ALoop, ARepeat, ACall, PlainArms, one_arm, both_arms, Shows, ShowsAll}
 use Rattle.cx_weave.specs.Takes.{box_takes, par_takes, island_takes, call_takes, arms_in, room, rooms, inputs_taken, arms_take, taken, all_taken}
 use Rattle.cx_weave.proofs.CallSteps.{child_is}

@@ -25,7 +25,7 @@ use Rattle.cx_interp.specs.declared.turns.Turn.{Turn}
 use Rattle.cx_interp.specs.Groups.{ListGroup}
 use Rattle.cx_interp.specs.Turns.{HoleTurn, cycle_as}
 use Rattle.cx_interp.proofs.TestLemmas.{tells_own}
-use Rattle.cx_weave.specs.Leaves.{own_turn, own_capture}
+use Rattle.cx_orders.specs.Leaves.{own_turn, own_capture}
 use Rattle.cx_weave.specs.Strands.{CallsCell}
 use Rattle.cx_weave.specs.Strides.{TurnTold, TakesTurn}
 

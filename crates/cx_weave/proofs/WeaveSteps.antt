@@ -15,13 +15,13 @@ use Rattle.cx_interp.specs.Callees.{HasControl}
 use Rattle.cx_interp.proofs.RunLemmas.{main_first}
 use Rattle.cx_weave.specs.declared.strands.Strand.{Strand}
 use Rattle.cx_weave.specs.declared.weaving.Wove.TheVariants.{End, Fault, More}
-use Rattle.cx_weave.specs.Open.{Open, open_control, open_statement}
+use Rattle.cx_orders.specs.Open.{Open, open_control, open_statement}
 use Rattle.cx_weave.specs.Results.{EndsIn}
-use Rattle.cx_weave.specs.Steps.{Stepped, Now, Stops, step}
+use Rattle.cx_orders.specs.Steps.{Stepped, Now, Stops, step}
 use Rattle.cx_weave.specs.Strands.{PlainStrand, plain_strand, strand_leaves, Shows, IsShown}
 use Rattle.cx_weave.specs.Strides.{OpensAs, StepTold, HasStepped}
-use Rattle.cx_weave.specs.Woven as woven
-use Rattle.cx_weave.specs.Woven.{Woven, Choices, leaf_of, then_weave, weave_from, woven, by_list}
+use Rattle.cx_orders.specs.Woven as woven
+use Rattle.cx_orders.specs.Woven.{Woven, Choices, leaf_of, then_weave, weave_from, woven, by_list}
 use Rattle.cx_weave.proofs.PartSteps.{leaves_shown}
 
 -- a choice of 32 bits names the same leaf where leaves are counted up to a limit

@@ -7,8 +7,8 @@ use Rattle.cx_interp.specs.Callees.{HasControl}
 use Rattle.cx_weave.specs.declared.needs.Piece.{Piece}
 use Rattle.cx_weave.specs.declared.spares.Spares.{Spares}
 use Rattle.cx_weave.specs.declared.strands.Strand.{Strand}
-use Rattle.cx_weave.specs.Open.{Open, open_statement}
-use Rattle.cx_weave.specs.Steps.{Stepped, Now, Stops, step}
+use Rattle.cx_orders.specs.Open.{Open, open_statement}
+use Rattle.cx_orders.specs.Steps.{Stepped, Now, Stops, step}
 use Rattle.cx_weave.specs.Strands.{PlainStrand, plain_strand}
 use Rattle.cx_weave.specs.Strides.{HasStepped, OpensAs, StepTold}
 use Rattle.cx_weave.specs.Takes.{StepsWithin, control_need, need, room}

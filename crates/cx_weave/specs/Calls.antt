@@ -5,7 +5,7 @@ use Rattle.cx_meaning.specs.Designs.{PlainDesign}
 use Rattle.cx_meaning.specs.Instances.{Path, State, instance_at, tree_of}
 use Rattle.cx_state.specs.Tables.{IsNumber}
 use Rattle.cx_state.specs.States.{PlainInstance, inputs_held, StandsFor, under_path}
-use Rattle.cx_weave.specs.Steps.{held_as, inputs_for, inputs_seen}
+use Rattle.cx_orders.specs.Steps.{held_as, inputs_for, inputs_seen}
 use Rattle.cx_weave.specs.Strands.{InputsFit}
 
 -- the inputs of an instance are held as they are listed, and nothing else changes

@@ -1,8 +1,3 @@
-pub mod Open
-pub mod Leaves
-pub mod Steps
-pub mod Woven
-pub mod Alone
 pub mod Strands
 pub mod Strides
 pub mod Calls

@@ -10,9 +10,9 @@ use Rattle.cx_design.specs.PlainActives.{TellsFault}
 use Rattle.cx_state.specs.States.{PlainInstance, StandsFor}
 use Rattle.cx_weave.specs.declared.weaving.Wove.{Wove}
 use Rattle.cx_weave.specs.declared.weaving.Wove.TheVariants.{End, Fault, More}
-use Rattle.cx_weave.specs.Alone.{LeafHasAlone}
-use Rattle.cx_weave.specs.Woven as woven
-use Rattle.cx_weave.specs.Woven.{Choices, Woven}
+use Rattle.cx_orders.specs.Alone.{LeafHasAlone}
+use Rattle.cx_orders.specs.Woven as woven
+use Rattle.cx_orders.specs.Woven.{Choices, Woven}
 
 -- what is told of a woven run: a fault by its instance
 abbrev pub TellsWoven : PlainDesign → Wove → Woven → Type 0

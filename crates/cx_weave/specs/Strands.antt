@@ -23,8 +23,8 @@ use Rattle.cx_interp.specs.Machines.{FormStands, StandsIn, StandIn}
 use Rattle.cx_weave.specs.declared.strands.Strand.{Strand, Strand-F, fold-Strand}
 use Rattle.cx_weave.specs.declared.strands.Arms.{Arms, Arms-F, fold-Arms}
 use Rattle.cx_weave.specs.declared.strands.Arms.TheOpen as strands
-use Rattle.cx_weave.specs.Open.{Open, Idling, InGroup, Choosing, Testing, InIsland, Capturing, Closing, Waiting, InSeq, InPar, InLoop, InRepeat, InCall, Opens, no_arms, an_arm, beside}
-use Rattle.cx_weave.specs.Leaves.{form_drives, is_tested}
+use Rattle.cx_orders.specs.Open.{Open, Idling, InGroup, Choosing, Testing, InIsland, Capturing, Closing, Waiting, InSeq, InPar, InLoop, InRepeat, InCall, Opens, no_arms, an_arm, beside}
+use Rattle.cx_orders.specs.Leaves.{form_drives, is_tested}
 
 mutual
   pub data PlainStrand : Type 0 where

@@ -17,9 +17,9 @@ use Rattle.cx_interp.specs.declared.turns.Turn.{Turn}
 use Rattle.cx_interp.specs.declared.turns.Turn.TheVariants as turns
 use Rattle.cx_weave.specs.declared.strands.Strand.{Strand}
 use Rattle.cx_weave.specs.declared.strands.Arms.{Arms}
-use Rattle.cx_weave.specs.Open.{Open, Opens, no_arms, open_statement, open_statements}
-use Rattle.cx_weave.specs.Leaves.{own_island, rested, samples_now}
-use Rattle.cx_weave.specs.Steps.{Stepped, Now, Stops, step, step_arms}
+use Rattle.cx_orders.specs.Open.{Open, Opens, no_arms, open_statement, open_statements}
+use Rattle.cx_orders.specs.Leaves.{own_island, rested, samples_now}
+use Rattle.cx_orders.specs.Steps.{Stepped, Now, Stops, step, step_arms}
 use Rattle.cx_weave.specs.Strands.{PlainStrand, APar, PlainArms, one_arm, Knows, plain_strand, plain_arms, Shows, ShowsAll, IsBoth}
 
 -- A TURN in instance n, in every state that the rows stand for

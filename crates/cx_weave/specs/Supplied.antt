@@ -7,7 +7,7 @@ use Rattle.cx_state.specs.Tables.{IsNumber}
 use Rattle.cx_interp.specs.Machines.{IsInstance, FormStands}
 use Rattle.cx_weave.specs.declared.needs.Piece.{Piece}
 use Rattle.cx_weave.specs.declared.spares.Spares.{Spares}
-use Rattle.cx_weave.specs.Open.{Open, Opens}
+use Rattle.cx_orders.specs.Open.{Open, Opens}
 use Rattle.cx_weave.specs.Strands.{PlainStrand, PlainArms, Shows, ShowsAll}
 use Rattle.cx_weave.specs.Takes.{par_takes, arms_in, need, all_needs, room, rooms}
 use Rattle.cx_weave.specs.Ledger.{Lengths, Kind, Pieces, Lacks, arms_box_amount, stock, places_for}

@@ -8,7 +8,7 @@ ghost use Rattle.cx_eval_cycle.specs.Passes.{IsAscending, listed_in};
 ghost use Rattle.cx_interp.specs.Groups.{ListWithin};
 ghost use Rattle.cx_interp.specs.Machines.{design_of, IsPlan, IsInstance};
 ghost use Rattle.cx_state.specs.Tables.{IsNumber};
-ghost use Rattle.cx_weave.specs.Leaves.{form_drives};
+ghost use Rattle.cx_orders.specs.Leaves.{form_drives};
 ghost use Rattle.cx_weave.specs.Marks.{HasMarks, Lists, is_marked, set_count};
 ghost use Rattle.cx_weave.specs.Strands.{ListDriven};
 

@@ -7,7 +7,7 @@ ghost use Rattle.cx_laws.specs.Samples.{form_ifs};
 ghost use Rattle.cx_interp_islands.specs.Rooms.{samples_of};
 ghost use Rattle.cx_interp_islands.specs.Sampled.{AreSampled};
 ghost use Rattle.cx_eval_cycle.specs.Passes.{IsAscending};
-ghost use Rattle.cx_weave.specs.Leaves.{form_drives};
+ghost use Rattle.cx_orders.specs.Leaves.{form_drives};
 ghost use Rattle.cx_design.specs.PlainForms.{plain_component, plain_form};
 ghost use Rattle.cx_interp.specs.Islands.{HasPart, IsIsland, SampledBefore, SamplesTaken};
 ghost use Rattle.cx_interp.specs.Machines.{design_of, rows_of, IsPlan, IsAt, IsInstance, FormStands};

@@ -7,7 +7,7 @@ ghost use Rattle.cx_design.specs.PlainForms.{plain_statement};
 ghost use Rattle.cx_interp.specs.Groups.{IsGroupOf};
 ghost use Rattle.cx_interp.specs.Machines.{design_of, rows_of, IsPlan, IsAt, IsInstance, FormStands};
 ghost use Rattle.cx_interp.specs.Tests.{comb_active};
-ghost use Rattle.cx_weave.specs.Leaves.{test_drives};
+ghost use Rattle.cx_orders.specs.Leaves.{test_drives};
 ghost use Rattle.cx_weave.specs.Ledger.{TakesNothing, Turned};
 ghost use Rattle.cx_weave.specs.Strands.{ACapture, AChoice, AClosing, AGroup, ATest, CallsCell};
 ghost use Rattle.cx_weave.specs.Strides.{HasRested, HasStepped};

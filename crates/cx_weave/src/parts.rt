@@ -8,8 +8,8 @@ ghost use Rattle.cx_interp.specs.Machines.{design_of, IsPlan, IsInstance, FormSt
 ghost use Rattle.cx_meaning.specs.Instances.{Path, instance_at, tree_of};
 ghost use Rattle.cx_state.specs.Tables.{IsNumber};
 ghost use Rattle.cx_weave.specs.Ledger.{HasPlaces, Kind, Ledger, Opened, amount, arms_amount, arms_box_amount, arms_left_amount, box_amount, left_amount};
-ghost use Rattle.cx_weave.specs.Open.{InLoop, open_statement};
-ghost use Rattle.cx_weave.specs.Steps as steps;
+ghost use Rattle.cx_orders.specs.Open.{InLoop, open_statement};
+ghost use Rattle.cx_orders.specs.Steps as steps;
 ghost use Rattle.cx_weave.specs.Strands.{plain_arms, plain_strand, Shows};
 ghost use Rattle.cx_weave.specs.Strides.{IsArmOf, IsBehind, IsInFront, IsParOf, LeavesAs};
 ghost use Rattle.cx_weave.specs.Supplied.{Supplied};

@@ -7,7 +7,7 @@ ghost use Rattle.cx_interp.specs.Machines.{design_of, rows_of, IsPlan, IsAt, IsI
 ghost use Rattle.cx_interp.specs.Turns.{cycle_as};
 ghost use Rattle.cx_weave.specs.Strands.{CallsCell};
 ghost use Rattle.cx_weave.specs.Strides.{TakesTurn};
-ghost use Rattle.cx_weave.specs.Leaves.{own_capture, own_turn};
+ghost use Rattle.cx_orders.specs.Leaves.{own_capture, own_turn};
 
 use cx_design::{Active, PortFault};
 use cx_eval::GroupTurn;

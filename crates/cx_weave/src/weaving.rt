@@ -11,9 +11,9 @@ ghost use Rattle.cx_weave.specs.Results.{EndsIn, LeavesWords, TellsArm, TellsRun
 ghost use Rattle.cx_weave.specs.Strands.{IsCounted, plain_strand, strand_leaves};
 ghost use Rattle.cx_weave.specs.Supplied.{Supplied};
 ghost use Rattle.cx_weave.specs.Takes.{control_need};
-ghost use Rattle.cx_weave.specs.Woven.{by_list, woven};
+ghost use Rattle.cx_orders.specs.Woven.{by_list, woven};
 
-use crate::laws::{run_ends_too, run_faults_too, takes_no_more};
+use crate::laws::takes_no_more;
 use crate::leaves::count_leaves;
 use crate::making::make_spares;
 use crate::opening::open_statement;
@@ -25,6 +25,7 @@ use cx_interp::Interp;
 use cx_interp::children::control_of;
 use cx_interp::machine::Machine;
 use cx_interp::plan::Plan;
+use cx_orders::laws::{run_ends_too, run_faults_too};
 use cx_state::alike_laws::rows_stand;
 use cx_state::external_words;
 use cx_text::{Loaded, Memory};

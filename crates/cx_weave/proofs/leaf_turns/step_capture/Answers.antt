@@ -8,9 +8,9 @@ use Rattle.cx_interp.specs.Machines.{design_of, rows_of}
 use Rattle.cx_interp.specs.Turns.{cycle_as}
 use Rattle.cx_interp.proofs.EnableLemmas.{row_ascends}
 use Rattle.cx_interp.proofs.RestLemmas.{got}
-use Rattle.cx_weave.specs.Leaves.{own_capture}
+use Rattle.cx_orders.specs.Leaves.{own_capture}
 use Rattle.cx_weave.specs.declared.strands.Strand.TheVariants as strands
-use Rattle.cx_weave.specs.Open.{Closing}
+use Rattle.cx_orders.specs.Open.{Closing}
 use Rattle.cx_weave.specs.Strands.{Shows}
 use Rattle.cx_weave.specs.Strides.{TakesTurn}
 use Rattle.cx_weave.proofs.Amounts.{amount_closing}

@@ -5,7 +5,7 @@ use Rattle.cx_interp.specs.Machines.{design_of, rows_of}
 use Rattle.cx_interp.specs.Tests.{Tested}
 use Rattle.cx_interp.proofs.ControlLemmas.{yes_stands, no_stands}
 use Rattle.cx_interp.proofs.StandLemmas.{test_port, test_comb}
-use Rattle.cx_weave.specs.Leaves.{test_drives}
+use Rattle.cx_orders.specs.Leaves.{test_drives}
 use Rattle.cx_weave.specs.Strides.{HasRested}
 use Rattle.cx_weave.proofs.LeafSteps.{choice_holds, choice_fails}
 use Rattle.cx_weave.proofs.OpenSupplies.{first_branch, second_branch}

@@ -9,9 +9,9 @@ use Rattle.cx_interp.specs.Groups.{ListGroup, ListWithin}
 use Rattle.cx_interp.specs.Machines.{design_of, rows_of}
 use Rattle.cx_interp.proofs.EnableLemmas.{row_ascends, row_lists, row_within}
 use Rattle.cx_interp.proofs.RestLemmas.{got}
-use Rattle.cx_weave.specs.Leaves.{own_turn}
+use Rattle.cx_orders.specs.Leaves.{own_turn}
 use Rattle.cx_weave.specs.declared.strands.Strand.TheVariants as strands
-use Rattle.cx_weave.specs.Open.{InGroup}
+use Rattle.cx_orders.specs.Open.{InGroup}
 use Rattle.cx_weave.specs.Strands.{Shows}
 use Rattle.cx_weave.specs.Strides.{TakesTurn}
 use Rattle.cx_weave.proofs.Amounts.{amount_group}

@@ -12,7 +12,7 @@ use Rattle.cx_interp.proofs.IslandLemmas.{island_short, length_told}
 use Rattle.cx_weave.specs.declared.strands.Island.{Island}
 use Rattle.cx_weave.specs.declared.strands.Strand.TheVariants as strands
 use Rattle.cx_weave.specs.Ledger.{amount}
-use Rattle.cx_weave.specs.Open.{InIsland}
+use Rattle.cx_orders.specs.Open.{InIsland}
 use Rattle.cx_weave.specs.Strands.{AnIsland}
 use Rattle.cx_weave.proofs.Amounts.{amount_island}
 use Rattle.cx_weave.specs.Marks.{HasMarks, set_count}

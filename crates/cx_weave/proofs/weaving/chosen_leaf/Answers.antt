@@ -1,7 +1,7 @@
 use Rattle.std.proofs.Common.{rules, ◌≡◌, ◌<◌, ◌%◌, ◌^◌, length, get_or, arith}
 use Rattle.std.proofs.Math.Nat.{mod-le}
 use Rattle.cx_weave.specs.Strands.{plain_strand, strand_leaves}
-use Rattle.cx_weave.specs.Woven.{by_list}
+use Rattle.cx_orders.specs.Woven.{by_list}
 use Rattle.cx_weave.proofs.WeaveSteps.{leaf_named}
 use Rattle.cx_weave.proofs.weaving.chosen_leaf.Goals as goal
 

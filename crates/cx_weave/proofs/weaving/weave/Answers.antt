@@ -9,7 +9,7 @@ use Rattle.cx_design.specs.PlainDesigns.{plain_design}
 use Rattle.cx_interp.specs.Machines.{rows_of}
 use Rattle.cx_state.specs.States.{words_in, StandsFor}
 use Rattle.cx_weave.specs.Results.{EndsIn, LeavesWords}
-use Rattle.cx_weave.specs.Woven.{by_list, woven}
+use Rattle.cx_orders.specs.Woven.{by_list, woven}
 use Rattle.cx_weave.proofs.EndSteps.{given_ends, tells_woven, tells_run, tells_arm, words_kept, words_wrote}
 use Rattle.cx_weave.proofs.weaving.weave.Goals as goal
 use Rattle.cx_weave.proofs.weaving.weave.Goals.{in-End, in_default}

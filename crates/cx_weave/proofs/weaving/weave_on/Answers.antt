@@ -7,11 +7,11 @@ use Rattle.cx_design.specs.PlainForms.{plain_statement}
 use Rattle.cx_interp.specs.Machines.{design_of, rows_of}
 use Rattle.cx_interp.proofs.CallLemmas.{control_stands}
 use Rattle.cx_interp.proofs.RunLemmas.{main_first, main_there}
-use Rattle.cx_weave.specs.Open.{open_statement}
+use Rattle.cx_orders.specs.Open.{open_statement}
 use Rattle.cx_weave.specs.Strands.{IsShown, plain_strand, strand_leaves}
 use Rattle.cx_weave.specs.declared.weaving.Wove.TheVariants.{End}
 use Rattle.cx_weave.specs.Results.{EndsIn}
-use Rattle.cx_weave.specs.Woven.{by_list, woven}
+use Rattle.cx_orders.specs.Woven.{by_list, woven}
 use Rattle.cx_weave.proofs.PartSteps.{counted_shown, some_leaf}
 use Rattle.cx_weave.proofs.WeaveSteps.{WovenSoFar, left_shown, weave_ends, weave_faults, weave_goes, weave_more, weave_starts}
 use Rattle.cx_weave.specs.Ledger.{Turned, amount}

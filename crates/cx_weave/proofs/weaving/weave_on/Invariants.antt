@@ -6,7 +6,7 @@ use Rattle.cx_interp.specs.Machines.{design_of, rows_of, IsAt}
 use Rattle.cx_weave.specs.Ledger.{amount}
 use Rattle.cx_weave.specs.Strands.{IsShown, plain_strand}
 use Rattle.cx_weave.specs.Supplied.{MayTurn}
-use Rattle.cx_weave.specs.Woven.{by_list}
+use Rattle.cx_orders.specs.Woven.{by_list}
 use Rattle.cx_weave.proofs.WeaveSteps.{WovenSoFar}
 use Rattle.cx_weave.proofs.weaving.weave_on.Given as goal
 

@@ -1,0 +1,5 @@
+pub mod Open
+pub mod Leaves
+pub mod Steps
+pub mod Woven
+pub mod Alone
