@@ -1,0 +1,1 @@
+def main(words): raise SystemExit("port: not written yet")
