@@ -153,7 +153,7 @@ class Told:
 
 
 def of_missing(it):
-    names = ', '.join(f'`{name}`' for name in it.whole.parts) or 'nothing'
+    names = ', '.join(f'`{name}`' for name in it.whole.parts) or 'no memory'
     where = f' (line {it.cell.line} of the design: `@external {it.cell.name} = {it.cell.told()}`)' if it.cell else ''
     return Message(None, f'there is no memory `{it.name}`{where}; the file has {names}', [('to mend it', f'add {it.example()}, with {size_words(it.cell)}')])
 
@@ -162,7 +162,7 @@ def size_words(cell):
     if cell is None:
         return 'its words'
     sizes = cell.numbers[1:1 + cells.sizes_of(cell.kind)]
-    return 'lists of ' + ' lists of '.join(map(str, sizes)) if len(sizes) > 1 else f'{sizes[0]} words'
+    return 'lists of ' + ' lists of '.join(map(str, sizes)) if len(sizes) > 1 else f'{sizes[0]} word{"s" if sizes[0] > 1 else ""}'
 
 
 def of_format(it):

@@ -90,13 +90,11 @@ def of_static_shape(it):
 
 def static_breaks(design, part, statement):
     """What of a static statement breaks the rule."""
-    span = span_of(statement.token, None)
-    for inner in statement.all():
-        if not inner.static and inner.kind != 'empty' and inner is not statement:
-            yield Message(span_of(inner.token), f'`{inner.told()}` is dynamic, and stands in static control', [*why_dynamic(part, inner), (span, f'`{statement.told()}` is static')])
-            return
-    if not statement.static:
-        yield Message(span, f'`{statement.told()}` is dynamic, and stands in static control', why_dynamic(part, statement))
+    span = span_of(statement.token)
+    inner = next((one for one in statement.all() if not one.static and one.kind != 'empty'), None)
+    if inner is not None:
+        around = [(span, f'`{statement.told()}` is static')] if inner is not statement else []
+        yield Message(span_of(inner.token), f'`{inner.told()}` is dynamic, and stands in static control', [*why_dynamic(part, inner), *around])
         return
     length = footprints.length_of(part, statement)
     if statement.length is not None and length != statement.length:

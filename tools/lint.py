@@ -108,8 +108,10 @@ def data_names(it, data_path):
     """Names of the data file that are no external memory."""
     try:
         with open(data_path, encoding='utf-8') as file:
-            names = list(json.load(file))
+            names = json.load(file)
     except (OSError, ValueError):
+        return
+    if not isinstance(names, dict):
         return
     main = it.by_name['main']
     externals = [cell.name for cell in main.cells if cell.is_external]

@@ -37,7 +37,7 @@ class Work:
 
     def written(self):
         text = self.text
-        for start, end, new in sorted(self.edits, key=lambda edit: edit[0], reverse=True):
+        for start, end, new in reversed(sorted(self.edits, key=lambda edit: edit[0])):
             text = text[:start] + new + text[end:]
         return text
 
