@@ -4,7 +4,7 @@
     bench/pages.py PROGRAM [--write]
 
 PROGRAM is the built calyx_cli. A block that is fenced as `file NAME` is written to that file, one that is fenced as `console` has commands behind `$ `, each
-followed by what it prints, on either stream. Those of a page run in one new folder, with the program on the path and YARNCHERT as this repository. A command
+followed by what it prints, on either stream. Those of a page run in one new folder, with the program and tools/ on the path and YARNCHERT as this repository. A command
 with a tool that is not installed is left out, which is told. With --write the pages get what the commands print. Then the tests of tools/tests run, in which
 the table of forms of docs/LANGUAGE.md is tried; each counts as one.
 """
@@ -21,7 +21,7 @@ TOOLS = ('iverilog', 'vvp', 'verilator', 'yosys')
 
 
 def ran(command, folder, program):
-    kept = {**os.environ, 'PATH': os.path.dirname(program) + ':' + os.environ['PATH'], 'YARNCHERT': TOP, 'CALYX_CLI': program}
+    kept = {**os.environ, 'PATH': ':'.join([os.path.dirname(program), os.path.join(TOP, 'tools'), os.environ['PATH']]), 'YARNCHERT': TOP, 'CALYX_CLI': program}
     made = subprocess.run(['bash', '-c', command], cwd=folder, env=kept, stdout=subprocess.PIPE, stderr=subprocess.STDOUT, check=False)
     return made.stdout.decode()
 

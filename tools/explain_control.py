@@ -243,7 +243,7 @@ def size_of(part):
 
 def of_too_large(it):
     parts = sorted(((size_of(part), part) for part in it.design.parts), key=lambda one: -one[0])
-    told = ', '.join(f'`{part.name}` about {size:,}' for size, part in parts[:4])
+    told = ', '.join(f'`{part.name}` {size:,}' for size, part in parts[:4])
     return Message(span_of(parts[0][1].token), f'the size of the design is {int(it.name):,}, and `compile` takes 16,384',
                    [('note', f'of it {told}'), ('note', '`check` and `interp` take the design as it is')])
 

@@ -141,8 +141,8 @@ def main_scopes(lines):
 
 
 def word_of(told):
-    """A name of a wave, without what GTKWave takes as the end of one."""
-    return re.sub(r'[^A-Za-z0-9_.\[\]]+', '_', told.replace('the ', '')).strip('_')
+    """A name of a wave, without what GTKWave takes as the end of one or writes a `\\` before."""
+    return re.sub(r'[^A-Za-z0-9_]+', '_', told.replace('the ', '')).strip('_')
 
 
 def rename(design, text, waves):

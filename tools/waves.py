@@ -7,17 +7,17 @@
 DESIGN and DATA are the files that `interp` takes. The run ends in the cycle in which `done` is 1, or after cycle CYCLES (1,000 if left out) with the line
 `more CYCLES` on standard error. Shown are, of each instance of a component:
 
-    control, control.par_LINE.arm_N  where control is, as a text: the line of the design and the statement; idle where the arm has ended or the instance does not run
-    position_of_control ..         the same as a number; a comment of the file says what each number is
-    go.GROUP                       which groups go, those of islands too
-    time.STATEMENT                 the cycle of an island, or of a round of a static repeat in it, counted from 0
-    rounds_of_.. sample_of_..      the rounds of each `repeat`, and what a `static if` has seen
-    register.CELL                  what each `std_reg` holds
-    word.CELL[N]                   with --words, the words of each memory of at most 64
-    port.CELL.PORT                 with --ports, the ports of the cells that are named; of all where the word is `all`
+    control, control_par_LINE_arm_N  where control is, as a text: the line of the design and the statement; idle where the arm has ended or the instance does not run
+    position_of_control ..           the same as a number; a comment of the file says what each number is
+    go_GROUP                         which groups go, those of islands too
+    time_LINE_STATEMENT              the cycle of an island, or of a round of a static repeat in it, counted from 0
+    rounds_of_.. sample_of_..        the rounds of each `repeat`, and what a `static if` has seen
+    register_CELL                    what each `std_reg` holds
+    word_CELL_N                      with --words, the words of each memory of at most 64
+    port_CELL_PORT                   with --ports, the ports of the cells that are named; of all where the word is `all`
 
 and `done` of the whole. A cycle is 10 ns, and begins with the rising edge of `clk`. The text is that of `calyx_cli compile`; it is run here (tools/verilog.py),
-not by `sim`, and slowly. In GTKWave all stands below `main`, and a name with a dot has a `\\` before it.
+not by `sim`, and slowly. In GTKWave all stands below `main`, and the instances below it.
 """
 import sys
 
@@ -44,7 +44,7 @@ def texts_of(part, scope):
     for number, statement in numbering.regions(part):
         found = numbering.positions(statement)
         net = numbering.registers(part)[number]
-        told = [f'{it.line}:{names.word_of(it.told())}' for it in found]
+        told = [f'{it.line}:{it.told().replace(" ", "_")}' for it in found]
         at = [wires.get(('at', id(it))) for it in found]
 
         def look(number=number, told=told, at=at):
@@ -52,7 +52,7 @@ def texts_of(part, scope):
             if position >= len(told) or not (at[position] and scope.value(at[position])):
                 return 'idle'
             return told[position]
-        name = 'control' if net.kind == 'position' else f'control.par_{net.par.line}.arm_{net.arm}'
+        name = 'control' if net.kind == 'position' else f'control_par_{net.par.line}_arm_{net.arm}'
         yield Wave(name, 0, look)
 
 
@@ -60,14 +60,14 @@ def nets_of(it, part, body):
     """The nets of a component that are shown, each with what it is called."""
     for name, kind, group in numbering.holes(part, body):
         if kind == 'go':
-            yield name, 'go.' + names.word_of(group)
+            yield name, 'go_' + names.word_of(group)
     for number, net in enumerate(numbering.registers(part)):
         yield f'cx_r{number}', names.word_of(net.told())
     for number, cell in enumerate(numbering.all_cells(part)):
         if cell.kind == 'std_reg':
-            yield f'cx_c{number}_2', 'register.' + names.word_of(cell.name)
+            yield f'cx_c{number}_2', 'register_' + names.word_of(cell.name)
         elif cell.kind == 'cx_timer':
-            yield f'cx_c{number}_1', f'time.{cell.of.line}_' + names.word_of(cell.of.told())
+            yield f'cx_c{number}_1', f'time_{cell.of.line}_' + names.word_of(cell.of.told())
 
 
 def ports_of(it, part, wanted):
@@ -75,7 +75,7 @@ def ports_of(it, part, wanted):
     for number, cell in enumerate(part.cells):
         if wanted == ['all'] or cell.name in wanted:
             for port, name in enumerate(numbering.port_names(it, cell)):
-                yield f'cx_c{number}_{port}', f'port.{names.word_of(cell.name)}.{name}'
+                yield f'cx_c{number}_{port}', f'port_{names.word_of(cell.name)}_{name}'
 
 
 def words_of(part, scope):
@@ -85,7 +85,7 @@ def words_of(part, scope):
         for array, words in (inner.words if inner else {}).items():
             if len(words) <= MOST_WORDS:
                 width = inner.module.arrays[array][0]
-                yield from (Wave(f'word.{names.word_of(cell.name)}[{at}]', width, lambda words=words, at=at: words[at]) for at in range(len(words)))
+                yield from (Wave(f'word_{names.word_of(cell.name)}_{at}', width, lambda words=words, at=at: words[at]) for at in range(len(words)))
 
 
 class Waves:

@@ -88,7 +88,7 @@ class Waves(unittest.TestCase):
                 file.write(vcd + '\n')
             named = common.calyx('names', f'{path}.futil', 'h.v', '--vcd', 'own.vcd', folder=folder)[1]
             self.assertEqual(re.findall(r'\$(?:var|scope) .*', named), [
-                '$scope module bench $end', '$var wire 1 ! clk $end', '$scope module dut $end', '$var reg 32 " position_of_control [31:0] $end', '$var wire 5 # i.out [4:0] $end',
+                '$scope module bench $end', '$var wire 1 ! clk $end', '$scope module dut $end', '$var reg 32 " position_of_control [31:0] $end', '$var wire 5 # i_out [4:0] $end',
                 '$scope module i $end', '$var reg 5 $ value [4:0] $end'])
 
     def test_waves_of_a_run(self):
@@ -99,10 +99,10 @@ class Waves(unittest.TestCase):
                 waves = file.read()
         names = re.findall(r'^\$var (\w+) (\d+) \S+ (\S+) \$end$', waves, flags=re.M)
         self.assertIn(('string', '1', 'control'), names)
-        self.assertIn(('wire', '32', 'time.51_static_seq'), names)
-        self.assertIn(('wire', '1', 'go.multiply'), names)
-        self.assertIn(('wire', '32', 'word.results[7]'), names)
-        self.assertIn(('wire', '32', 'port.pipe.left'), names)
+        self.assertIn(('wire', '32', 'time_51_static_seq'), names)
+        self.assertIn(('wire', '1', 'go_multiply'), names)
+        self.assertIn(('wire', '32', 'word_results_7'), names)
+        self.assertIn(('wire', '32', 'port_pipe_left'), names)
         self.assertIn('$comment main, the position of control: position 0 = line 51: static seq $end', waves)
         self.assertTrue(waves.endswith('#350\n'), waves[-20:])
 
