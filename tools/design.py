@@ -522,10 +522,10 @@ class Reader:
         return self.joined('|', 'or', lambda: self.joined('&', 'and', self.compared))
 
     def joined(self, word, kind, part):
-        found = part()
+        parts = [part()]
         while self.takes(word):
-            found = Guard(kind, [found, part()])
-        return found
+            parts.append(part())
+        return Guard(kind, parts) if len(parts) > 1 else parts[0]
 
     def compared(self):
         found = self.unary()
@@ -684,10 +684,7 @@ def call_of(it, cell):
     if len(dones) < 2:
         assigns.append(Assign(hole, None, dones[0].operands[0] if dones else port('done'), token))
     else:
-        joined = dones[0]
-        for done in dones[1:]:
-            joined = Guard('and', [joined, done])
-        assigns.append(Assign(hole, joined, one(), token))
+        assigns.append(Assign(hole, Guard('and', dones), one(), token))
     return Group(name, False, None, assigns, [], token, token, it.last or token, it)
 
 
