@@ -1,11 +1,12 @@
 #!/usr/bin/env python3
-"""Runs the commands of docs/TUTORIAL.md, docs/VERILOG.md and docs/MEANING.md, and compares what they print with the pages.
+"""Runs the commands of docs/TUTORIAL.md, docs/VERILOG.md, docs/MEANING.md and docs/LANGUAGE.md, and compares what they print with the pages; and the tests of tools/.
 
     bench/pages.py PROGRAM [--write]
 
 PROGRAM is the built calyx_cli. A block that is fenced as `file NAME` is written to that file, one that is fenced as `console` has commands behind `$ `, each
-followed by what it prints, on either stream. Those of a page run in one new folder, with the program on the path and YARNCHERT as this repository. A command
-with a tool that is not installed is left out, which is told. With --write the pages get what the commands print.
+followed by what it prints, on either stream. Those of a page run in one new folder, with the program and tools/ on the path and YARNCHERT as this repository. A command
+with a tool that is not installed is left out, which is told. With --write the pages get what the commands print. Then the tests of tools/tests run, in which
+the table of forms of docs/LANGUAGE.md is tried; each counts as one.
 """
 import os
 import re
@@ -15,12 +16,12 @@ import sys
 import tempfile
 
 TOP = os.path.abspath(os.path.join(os.path.dirname(os.path.abspath(__file__)), '..'))
-PAGES = [os.path.join(TOP, 'docs', name) for name in ('TUTORIAL.md', 'VERILOG.md', 'MEANING.md')]
+PAGES = [os.path.join(TOP, 'docs', name) for name in ('TUTORIAL.md', 'VERILOG.md', 'MEANING.md', 'LANGUAGE.md')]
 TOOLS = ('iverilog', 'vvp', 'verilator', 'yosys')
 
 
 def ran(command, folder, program):
-    kept = {**os.environ, 'PATH': os.path.dirname(program) + ':' + os.environ['PATH'], 'YARNCHERT': TOP, 'CALYX_CLI': program}
+    kept = {**os.environ, 'PATH': ':'.join([os.path.dirname(program), os.path.join(TOP, 'tools'), os.environ['PATH']]), 'YARNCHERT': TOP, 'CALYX_CLI': program}
     made = subprocess.run(['bash', '-c', command], cwd=folder, env=kept, stdout=subprocess.PIPE, stderr=subprocess.STDOUT, check=False)
     return made.stdout.decode()
 
@@ -71,6 +72,18 @@ def follow(path, program, writes):
     return sum(block.count('\n$ ') for block in blocks if block.startswith('```console')), wrong
 
 
+def tests(program):
+    """How many tests of the tools there are, and what is told of those that failed."""
+    made = subprocess.run([sys.executable, '-m', 'unittest', 'discover', '-s', os.path.join(TOP, 'tools', 'tests'), '-p', 'test_*.py'],
+                          env={**os.environ, 'CALYX_CLI': program}, capture_output=True, check=False)
+    told = made.stderr.decode('utf-8', 'replace')
+    count = re.search(r'^Ran (\d+) tests?', told, flags=re.M)
+    failed = re.findall(r'^(?:FAIL|ERROR): .*', told, flags=re.M)
+    if failed or made.returncode:
+        print(told)
+    return int(count.group(1)) if count else 0, failed or ([told] if made.returncode else [])
+
+
 def main():
     if len(sys.argv) < 2:
         sys.exit(__doc__.strip())
@@ -81,6 +94,8 @@ def main():
         commands, wrong = commands + count, wrong + others
     if wrong and not writes:
         print(*wrong, sep='\n')
+    count, others = tests(program)
+    commands, wrong = commands + count, wrong + others
     print(f'{commands - len(wrong)} passed, {len(wrong)} failed')
     return 1 if wrong or not commands else 0
 
