@@ -1,0 +1,6 @@
+pub mod TallyLemmas
+pub mod PaceLemmas
+pub mod CarryLemmas
+mod PartLemmas
+pub mod BesideLemmas
+pub mod MovedLemmas

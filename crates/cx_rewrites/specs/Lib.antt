@@ -1,0 +1,4 @@
+pub mod Moving
+pub mod Tallies
+pub mod Carrying
+pub mod Beside
