@@ -4,3 +4,6 @@ pub mod CarryLemmas
 mod PartLemmas
 pub mod BesideLemmas
 pub mod MovedLemmas
+pub mod SolvedLemmas
+pub mod TargetLemmas
+pub mod MoveLemmas

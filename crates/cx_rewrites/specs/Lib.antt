@@ -2,3 +2,5 @@ pub mod Moving
 pub mod Tallies
 pub mod Carrying
 pub mod Beside
+pub mod Solving
+pub mod Moves
