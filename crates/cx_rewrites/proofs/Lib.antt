@@ -7,3 +7,6 @@ pub mod MovedLemmas
 pub mod SolvedLemmas
 pub mod TargetLemmas
 pub mod MoveLemmas
+mod OrderLemmas
+pub mod DriverLemmas
+pub mod RenamedLemmas

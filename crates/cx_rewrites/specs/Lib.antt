@@ -4,3 +4,5 @@ pub mod Carrying
 pub mod Beside
 pub mod Solving
 pub mod Moves
+pub mod Driving
+pub mod Renaming
