@@ -1,14 +1,13 @@
 -- THE LAW OF RUNS: of two statements beside each other the one carries the other.
-use Rattle.std.proofs.Common.{◌≡◌, ℕ, zero, suc, refl, sym, ap, ◌∙◌, subst}
+use Rattle.std.proofs.Common.{zero, suc, sym, subst}
 use Rattle.cx_text.specs.declared.places.Place.{Place}
-use Rattle.cx_meaning.specs.Designs.{PlainForm, Empty, Enable, Seq, Par, If, While, Repeat, PlainStatement, Placed, PlainStatements, no_statements, a_statement}
-use Rattle.cx_meaning.specs.Answers.{Answer, then_do, idle_turn}
+use Rattle.cx_meaning.specs.Designs.{PlainForm, Seq, Par, PlainStatement, Placed, PlainStatements, no_statements, a_statement}
+use Rattle.cx_meaning.specs.Answers.{then_do}
 use Rattle.cx_meaning.specs.Control.{Leaves, run_form, run, run_parts, run_arms}
-use Rattle.cx_rewrites.specs.Tallies.{Tally, none, plus, then_count, Counting, count_form, count, count_parts, count_arms}
-use Rattle.cx_rewrites.specs.Carrying.{Pace, Room, Rests, Carried, Carries}
+use Rattle.cx_rewrites.specs.Tallies.{Tally, Counting, count_form, count, count_parts, count_arms}
+use Rattle.cx_rewrites.specs.Carrying.{Pace, Rests, Carried, Carries}
 use Rattle.cx_rewrites.specs.Beside.{joined, MergesCarry, FormBeside, outright, empties, seqs, collapsed, pars, ifs, whiles, repeats, Beside, placed, PartsBeside, no_parts, a_part, as_one, ArmsBeside, no_arms, an_arm}
-use Rattle.cx_rewrites.proofs.TallyLemmas.{plus-none}
-use Rattle.cx_rewrites.proofs.CarryLemmas.{then_carries, then_carried, stay_carries, idle_carries, test_carries, loop_of_carries, rounds_carry, both_carried}
+use Rattle.cx_rewrites.proofs.CarryLemmas.{then_carries, stay_carries, idle_carries, test_carries, loop_of_carries, rounds_carry, both_carried}
 use Rattle.cx_rewrites.proofs.PartLemmas.{run_parts-joined, count_parts-joined, then_do-stay}
 
 module _ {S T F E : Type 0} (pace : Pace) (R : Tally → S → T → Type 0) (faults : F → E) (L : Leaves S F) (C : Counting S) (M : Leaves T E) (rests : Rests R L.rest M.rest) where
@@ -30,7 +29,7 @@ module _ {S T F E : Type 0} (pace : Pace) (R : Tally → S → T → Type 0) (fa
   as_one_carries parts later t others each rest before s z n m room r =
       subst (λ o. Carried pace R faults before (count_parts L C (joined parts later) s n) o (run_parts M (a_statement t others) z m)) (sym (run_parts-joined L C parts later s n))
       (subst (λ k. Carried pace R faults before k (then_do (run_parts L parts s n) n (run_parts L later)) (run_parts M (a_statement t others) z m)) (sym (count_parts-joined L C parts later s n))
-          (then_carries pace R faults (count_parts L C parts) (count_parts L C later) (run_parts L parts) (run_parts L later) (run M t) (run_parts M others) each rest before s z n m room r))
+      (then_carries pace R faults (count_parts L C parts) (count_parts L C later) (run_parts L parts) (run_parts L later) (run M t) (run_parts M others) each rest before s z n m room r))
 
   -- an arm, and the arms after it
   arm_carries : (arm other : PlainStatement) (later others : PlainStatements) → MergesCarry pace R faults L C M arm later other → Both arm other → BothArms later others

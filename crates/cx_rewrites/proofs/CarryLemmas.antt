@@ -33,7 +33,7 @@ module _ {S T F G : Type 0} (pace : Pace) (R : Tally → S → T → Type 0) (fa
   then_carried before k n m room (End a t) x counts go on (b, u, e, l, r) each =
       subst (λ y. Goes_on before (plus k (counts a (n - t))) (after_turns t (go a (n - t))) (then_do y m on)) (sym e)
       (later_carried t u l before (plus k (counts a (n - t))) (go a (n - t)) (on b (m - u))
-          (regrouped before k (counts a (n - t)) (go a (n - t)) (on b (m - u)) (each (plus before k) a b (n - t) (m - u) (room-- pace n m t u room l) r)))
+      (regrouped before k (counts a (n - t)) (go a (n - t)) (on b (m - u)) (each (plus before k) a b (n - t) (m - u) (room-- pace n m t u room l) r)))
   then_carried before k n m room (Fault f t) x counts go on e each = then_exact pace (x ≡ Fault (faults f) t) (then_do x m on ≡ Fault (faults f) t) (λ h. ap (λ y. then_do y m on) h) e
   then_carried before k n m room More x counts go on e each = then_exact pace (x ≡ More) (then_do x m on ≡ More) (λ h. ap (λ y. then_do y m on) h) e
 
@@ -115,7 +115,7 @@ module _ {S T F G : Type 0} (pace : Pace) (R : Tally → S → T → Type 0) (fa
           test_carries (λ s1 k. plus (counts s1 k) (then_count (body s1 k) k (loop_count tests rest test body counts))) (λ s1 k. none)
           (λ s1 k. then_do (body s1 k) k (loop tests rest test body)) stay (λ z1 k. then_do (other z1 k) k (loop asks still ask other)) stay
           (then_carries counts (loop_count tests rest test body counts) body (loop tests rest test body) other (loop asks still ask other) each
-              (loop_carries counts body other each tests asks (room_less pace tests asks few)))
+          (loop_carries counts body other each tests asks (room_less pace tests asks few)))
           stay_carries before s z n m room r
 
       -- WHILE A TEST HOLDS
@@ -153,7 +153,7 @@ module _ {S T F G : Type 0} (pace : Pace) (R : Tally → S → T → Type 0) (fa
     both_carried (Fault f t) (Fault g v) x y merges p q =
         earlier_carried (nat_le t v) f g t v (both mixed x y)
         (both_exact pace (x ≡ Fault (faults f) t) (y ≡ Fault (faults g) v) (both mixed x y ≡ (if nat_le t v then Fault (faults f) t else Fault (faults g) v))
-            (λ h i. two_answers mixed x y (Fault (faults f) t) (Fault (faults g) v) h i) p q)
+        (λ h i. two_answers mixed x y (Fault (faults f) t) (Fault (faults g) v) h i) p q)
     both_carried (Fault f t) More x y merges p q =
         both_exact pace (x ≡ Fault (faults f) t) (y ≡ More) (both mixed x y ≡ Fault (faults f) t) (λ h i. two_answers mixed x y (Fault (faults f) t) More h i) p q
     both_carried More (End c v) x y merges p (d, w, e, i, q) = then_exact pace (x ≡ More) (both mixed x y ≡ More) (λ h. two_answers mixed x y More (End d w) h e) p

@@ -1,14 +1,11 @@
 -- What drives a moved port are the moved assignments that drive the port, with others between or not.
 use Rattle.std.proofs.Common.{◌≡◌, ℕ, suc, inl, inr, Bool, true, false, ◌&&◌, List, [], ◌∷◌, ◌++◌, map, Option, Some, None, refl, sym, ap, ◌∙◌, subst}
 use Rattle.std.specs.Prelude.{if◌then◌else◌}
-use Rattle.cx_text.specs.declared.places.Place.{Place}
 use Rattle.cx_meaning.specs.declared.ports.PortRef.{PortRef}
 use Rattle.cx_meaning.specs.Designs.{PlainAssign, PlainGroup, PlainComponent}
-use Rattle.cx_meaning.specs.Active.{Active, Acting, Owned, owned, owned_by_groups, no_later, placed_in, by_place, source_order, offset_of, if_acting, same_port, if_target, acting, drivers}
-use Rattle.cx_meaning.specs.Sights.{In}
-use Rattle.cx_rules.proofs.Finite.{in_left, in_right}
+use Rattle.cx_meaning.specs.Active.{Active, Acting, Owned, owned, owned_by_groups, no_later, placed_in, by_place, offset_of, if_acting, same_port, if_target, acting, drivers}
 use Rattle.cx_rewrites.specs.Moving.{moved_assign, moved_group, moved_owned, moved_acting}
-use Rattle.cx_rewrites.specs.Driving.{assigns_of, KeepsApart, IsMoved, Between, no_assigns, kept, foreign}
+use Rattle.cx_rewrites.specs.Driving.{assigns_of, KeepsApart, Between, no_assigns, kept, foreign}
 use Rattle.cx_rewrites.proofs.OrderLemmas.{only, only-by_place}
 
 abbrev is_acting : Option ℕ → Bool

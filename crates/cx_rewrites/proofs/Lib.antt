@@ -4,6 +4,7 @@ pub mod CarryLemmas
 mod PartLemmas
 pub mod BesideLemmas
 pub mod MovedLemmas
+pub mod FollowLemmas
 pub mod SolvedLemmas
 pub mod TargetLemmas
 pub mod MoveLemmas

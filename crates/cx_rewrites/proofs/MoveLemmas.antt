@@ -9,7 +9,7 @@ use Rattle.cx_meaning.specs.declared.ports.PortRef.TheVariants as ports
 use Rattle.cx_meaning.specs.declared.sights.Seen.{Seen}
 use Rattle.cx_meaning.specs.declared.sights.Seen.TheVariants.{Undefined}
 use Rattle.cx_meaning.specs.Rows.{side_of}
-use Rattle.cx_meaning.specs.Instances.{Instance, OfInstance, part_of, cells_of, cell_at, State, under}
+use Rattle.cx_meaning.specs.Instances.{Instance, part_of, cells_of, cell_at, State, under}
 use Rattle.cx_meaning.specs.Active.{Active, drivers}
 use Rattle.cx_meaning.specs.Sights.{Look, Below, Held, bit_of, target_seen, gather, output_seen, of_option, PartPort, Go, AnInput, AnOutput, ItsDone, part_port, is_done_cell, side_step, part_step, cell_step, step, Sees, seen, outputs_below}
 use Rattle.cx_rules.specs.Circles.{IsAcyclic, AcyclicBelow}

@@ -1,5 +1,5 @@
 -- A statement stands beside itself with its ports moved, where the leaves carry.
-use Rattle.std.proofs.Common.{◌≡◌, ℕ, inl, inr, List, [], ◌∷◌, ◌++◌, Option, Some, None, refl, sym, ap, ◌∙◌, subst}
+use Rattle.std.proofs.Common.{◌≡◌, ℕ, inl, inr, List, ◌++◌, Option, Some, None, refl, sym, ap, subst}
 use Rattle.cx_meaning.specs.declared.ports.PortRef.{PortRef}
 use Rattle.cx_meaning.specs.Designs.{PlainForm, Empty, Enable, Seq, Par, If, While, Repeat, StaticSeq, StaticPar, StaticIf, StaticRepeat, Timed, PlainStatement, Placed, PlainStatements, no_statements, a_statement}
 use Rattle.cx_meaning.specs.Sights.{In}
@@ -86,7 +86,7 @@ module _ {S T F E : Type 0} (pace : Pace) (R : Tally → S → T → Type 0) (fa
     arms_beside context done (a_statement first rest) p h =
         an_arm (leaves.merges done first rest p) (beside context first (first_keeps (groups_of first) (groups_in_all rest) (visit context first) (visit_all context rest) h))
         (arms_beside context (with_last done first) rest (subst (λ arms. P (Par arms)) (sym (joined-with_last done first rest)) p)
-            (second_keeps (groups_of first) (groups_in_all rest) (visit context first) (visit_all context rest) h))
+        (second_keeps (groups_of first) (groups_in_all rest) (visit context first) (visit_all context rest) h))
 
   -- THE LAW OF RUNS for a statement whose ports are moved
   pub moved_carries : (context : Context) (statement : PlainStatement) → Keep G P (groups_of statement) (visit context statement)

@@ -1,5 +1,5 @@
 -- Paces: turns add up, and what is left of a budget suffices.
-use Rattle.std.proofs.Common.{◌≡◌, ℕ, zero, suc, ◌+◌, ◌-◌, ◌≤◌, max, refl, ap, ◌∙◌, arith}
+use Rattle.std.proofs.Common.{◌≡◌, ℕ, zero, suc, ◌+◌, ◌-◌, max, refl, ap, ◌∙◌, arith}
 use Rattle.cx_meaning.specs.Answers.{Answer, Fault, after_turns}
 use Rattle.cx_rewrites.specs.Carrying.{Pace, NoLater, InStep, Exact, Keeps, Room, IfExact}
 

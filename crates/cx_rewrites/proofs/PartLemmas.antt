@@ -1,9 +1,9 @@
 -- Parts after other parts run, and count, as the ones and then the others.
-use Rattle.std.proofs.Common.{◌≡◌, ℕ, zero, suc, ◌+◌, ◌-◌, refl, sym, ap, ◌∙◌, arith}
-use Rattle.cx_meaning.specs.Designs.{PlainStatement, PlainStatements, no_statements, a_statement}
+use Rattle.std.proofs.Common.{◌≡◌, ℕ, ◌+◌, ◌-◌, refl, sym, ap, ◌∙◌, arith}
+use Rattle.cx_meaning.specs.Designs.{PlainStatements, no_statements, a_statement}
 use Rattle.cx_meaning.specs.Answers.{Answer, End, Fault, More, Meaning, after_turns, then_do, stay}
 use Rattle.cx_meaning.specs.Control.{Leaves, run, run_parts}
-use Rattle.cx_rewrites.specs.Tallies.{Tally, none, plus, Counted, then_count, Counting, count, count_parts}
+use Rattle.cx_rewrites.specs.Tallies.{none, plus, Counted, then_count, Counting, count, count_parts}
 use Rattle.cx_rewrites.specs.Beside.{joined}
 use Rattle.cx_rewrites.proofs.TallyLemmas.{none-plus, plus-none, plus-plus}
 
@@ -60,5 +60,5 @@ module _ {S F : Type 0} where
         ap (count_parts L C later s) (let all : n ≡ n - 0 = omega arith in all) ∙ sym (none-plus (count_parts L C later s (n - 0)))
     count_parts-joined (a_statement first rest) later s n =
         ap (plus (count L C first s n)) (then_count-then_count (run L first s n) n (run_parts L rest) (count_parts L C rest) (count_parts L C later) (count_parts L C (joined rest later))
-            (λ s1 m. count_parts-joined rest later s1 m))
+        (λ s1 m. count_parts-joined rest later s1 m))
         ∙ sym (plus-plus (count L C first s n) (then_count (run L first s n) n (count_parts L C rest)) (then_count (then_do (run L first s n) n (run_parts L rest)) n (count_parts L C later)))

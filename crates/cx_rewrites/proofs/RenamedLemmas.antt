@@ -1,10 +1,9 @@
 -- WHAT A PORT IS SEEN AS, the port of the renamed cell is seen as.
-use Rattle.std.proofs.Common.{◌≡◌, ℕ, [], ◌∷◌, refl, sym, ◌∙◌}
-use Rattle.cx_prim.specs.Rows.{Inputs, Row}
+use Rattle.std.proofs.Common.{◌≡◌, ℕ, refl, ◌∙◌}
 use Rattle.cx_meaning.specs.declared.ports.PortRef.{PortRef}
 use Rattle.cx_meaning.specs.declared.ports.PortRef.TheVariants as ports
 use Rattle.cx_meaning.specs.declared.sights.Seen.{Seen}
-use Rattle.cx_meaning.specs.Instances.{Instance, At, OfRow, part_of, cells_of, cell_at, State}
+use Rattle.cx_meaning.specs.Instances.{Instance, At, cells_of, cell_at, State}
 use Rattle.cx_meaning.specs.Active.{Active}
 use Rattle.cx_meaning.specs.Sights.{Held, Sees, seen}
 use Rattle.cx_rules.specs.Circles.{IsAcyclic, AcyclicBelow}

@@ -1,5 +1,5 @@
 -- Tallies add as numbers do, and parts that are run one after another count one after another.
-use Rattle.std.proofs.Common.{◌≡◌, ℕ, ◌+◌, refl, arith}
+use Rattle.std.proofs.Common.{◌≡◌, ℕ, arith}
 use Rattle.std.proofs.Math.Path.{fun_ext}
 use Rattle.cx_meaning.specs.Instances.{Path}
 use Rattle.cx_rewrites.specs.Tallies.{Tally, none, plus}

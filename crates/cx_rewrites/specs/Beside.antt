@@ -4,7 +4,7 @@ use Rattle.std.specs.Prelude.{◌≡◌, ℕ, List, Option, Some}
 use Rattle.cx_text.specs.declared.places.Place.{Place}
 use Rattle.cx_meaning.specs.declared.ports.PortRef.{PortRef}
 use Rattle.cx_meaning.specs.declared.ports.PlacedPort.{PlacedPort}
-use Rattle.cx_meaning.specs.Designs.{PlainForm, Empty, Enable, Seq, Par, If, While, Repeat, Timed, PlainStatement, Placed, PlainStatements, no_statements, a_statement}
+use Rattle.cx_meaning.specs.Designs.{PlainForm, Empty, Seq, Par, If, While, Repeat, PlainStatement, Placed, PlainStatements, no_statements, a_statement}
 use Rattle.cx_meaning.specs.Sights.{In}
 use Rattle.cx_meaning.specs.Answers.{End}
 use Rattle.cx_meaning.specs.Control.{Leaves, groups_in, run_form, run, run_parts, run_arms}
