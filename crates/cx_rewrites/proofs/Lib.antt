@@ -11,3 +11,6 @@ pub mod MoveLemmas
 mod OrderLemmas
 pub mod DriverLemmas
 pub mod RenamedLemmas
+pub mod IslandLemmas
+mod LoneLemmas
+pub mod KnownRewrites

@@ -5,11 +5,11 @@ use Rattle.cx_meaning.specs.Designs.{PlainForm, Empty, Enable, Seq, Par, If, Whi
 use Rattle.cx_meaning.specs.Sights.{In}
 use Rattle.cx_meaning.specs.Control.{Leaves, groups_in, groups_of, groups_in_all, with_comb, run}
 use Rattle.cx_rules.specs.Items.{Context, below_dynamic, Visited, visit, visit_parts, visit_all}
-use Rattle.cx_rules.proofs.Finite.{in_left, in_right}
+use Rattle.cx_frames.proofs.ControlFrames.{Holds, left, right}
 use Rattle.cx_rewrites.specs.Moving.{moved_port, moved_form, moved_statement, moved_statements}
 use Rattle.cx_rewrites.specs.Tallies.{Tally, Counting, count}
 use Rattle.cx_rewrites.specs.Carrying.{Pace, Carries}
-use Rattle.cx_rewrites.specs.Beside.{joined, Keep, FormBeside, outright, empties, seqs, pars, ifs, whiles, repeats, Beside, placed, PartsBeside, no_parts, a_part, ArmsBeside, no_arms, an_arm, LeavesCarry}
+use Rattle.cx_rewrites.specs.Beside.{joined, FormBeside, outright, empties, seqs, pars, ifs, whiles, repeats, Beside, placed, PartsBeside, no_parts, a_part, ArmsBeside, no_arms, an_arm, LeavesCarry}
 use Rattle.cx_rewrites.proofs.BesideLemmas.{run_carries}
 
 -- the comb group of a test, and the groups behind it
@@ -27,16 +27,8 @@ behind_comb : (comb : Option ℕ) (gs : List ℕ) (g : ℕ) → In gs g → In (
 behind_comb None gs g i = i
 behind_comb (Some h) gs g i = inr i
 
-module _ {G : ℕ → Type 0} {P : PlainForm → Type 0} where
-  -- what holds of two parts holds of each
-  first_keeps : (gs hs : List ℕ) (vs ws : List Visited) → Keep G P (gs ++ hs) (vs ++ ws) → Keep G P gs vs
-  first_keeps gs hs vs ws h = record { groups = λ g i. h.groups g (in_left gs hs g i); forms = λ v i. h.forms v (in_left vs ws v i) }
-
-  second_keeps : (gs hs : List ℕ) (vs ws : List Visited) → Keep G P (gs ++ hs) (vs ++ ws) → Keep G P hs ws
-  second_keeps gs hs vs ws h = record { groups = λ g i. h.groups g (in_right gs hs g i); forms = λ v i. h.forms v (in_right vs ws v i) }
-
-  below_comb : (comb : Option ℕ) (gs : List ℕ) (vs : List Visited) → Keep G P (with_comb comb gs) vs → Keep G P gs vs
-  below_comb comb gs vs h = record { groups = λ g i. h.groups g (behind_comb comb gs g i); forms = h.forms }
+below_comb : {G : ℕ → Type 0} {P : PlainForm → Type 0} (comb : Option ℕ) (gs : List ℕ) (vs : List Visited) → Holds G P (with_comb comb gs) vs → Holds G P gs vs
+below_comb comb gs vs h = record { groups = λ g i. h.groups g (behind_comb comb gs g i); forms = h.forms }
 
 -- an arm more at the end
 with_last : PlainStatements → PlainStatement → PlainStatements
@@ -51,16 +43,16 @@ joined-with_last (a_statement first rest) s later = ap (a_statement first) (join
 module _ {S T F E : Type 0} (pace : Pace) (R : Tally → S → T → Type 0) (faults : F → E) (L : Leaves S F) (C : Counting S) (M : Leaves T E) (move : PortRef → PortRef) (G : ℕ → Type 0) (P : PlainForm → Type 0)
     (leaves : LeavesCarry pace R faults L C M move G P) where
   mutual
-    form_beside : (context : Context) (form : PlainForm) → P form → Keep G P (groups_in form) (visit_parts context form) → FormBeside pace R faults L C M form (moved_form move form)
+    form_beside : (context : Context) (form : PlainForm) → P form → Holds G P (groups_in form) (visit_parts context form) → FormBeside pace R faults L C M form (moved_form move form)
     form_beside context Empty p h = empties
     form_beside context (Enable g) p h = outright (leaves.enable g (h.groups g (inl refl)))
     form_beside context (Seq parts) p h = seqs (parts_beside (below_dynamic context) parts h)
     form_beside context (Par arms) p h = pars (arms_beside (below_dynamic context) no_statements arms p h)
     form_beside context (If test comb a b) p h =
-        let parts : Keep G P (groups_of a ++ groups_of b) (visit (below_dynamic context) a ++ visit (below_dynamic context) b) = below_comb comb (groups_of a ++ groups_of b) (visit_parts context (If test comb a b)) h in
+        let parts : Holds G P (groups_of a ++ groups_of b) (visit (below_dynamic context) a ++ visit (below_dynamic context) b) = below_comb comb (groups_of a ++ groups_of b) (visit_parts context (If test comb a b)) h in
         ifs {p = test} {q = moved_port move test} (leaves.test (If test comb a b) test comb refl p (λ g e. h.groups g (in_comb comb (groups_of a ++ groups_of b) g e)))
-        (beside (below_dynamic context) a (first_keeps (groups_of a) (groups_of b) (visit (below_dynamic context) a) (visit (below_dynamic context) b) parts))
-        (beside (below_dynamic context) b (second_keeps (groups_of a) (groups_of b) (visit (below_dynamic context) a) (visit (below_dynamic context) b) parts))
+        (beside (below_dynamic context) a (left (groups_of a) (groups_of b) (visit (below_dynamic context) a) (visit (below_dynamic context) b) parts))
+        (beside (below_dynamic context) b (right (groups_of a) (groups_of b) (visit (below_dynamic context) a) (visit (below_dynamic context) b) parts))
     form_beside context (While test comb a) p h =
         whiles {p = test} {q = moved_port move test} (leaves.test (While test comb a) test comb refl p (λ g e. h.groups g (in_comb comb (groups_of a) g e)))
         (beside (below_dynamic context) a (below_comb comb (groups_of a) (visit (below_dynamic context) a) h))
@@ -71,24 +63,24 @@ module _ {S T F E : Type 0} (pace : Pace) (R : Tally → S → T → Type 0) (fa
     form_beside context (StaticRepeat length count a) p h = outright (leaves.island context (StaticRepeat length count a) p h)
     form_beside context (Timed k) p h = outright (leaves.timed k)
 
-    pub beside : (context : Context) (statement : PlainStatement) → Keep G P (groups_of statement) (visit context statement) → Beside pace R faults L C M statement (moved_statement move statement)
+    pub beside : (context : Context) (statement : PlainStatement) → Holds G P (groups_of statement) (visit context statement) → Beside pace R faults L C M statement (moved_statement move statement)
     beside context (Placed form place) h =
         placed (form_beside context form (h.forms (record { context = context; form = form; place = place }) (inl refl)) (record { groups = h.groups; forms = λ v i. h.forms v (inr i) }))
 
-    parts_beside : (context : Context) (parts : PlainStatements) → Keep G P (groups_in_all parts) (visit_all context parts) → PartsBeside pace R faults L C M parts (moved_statements move parts)
+    parts_beside : (context : Context) (parts : PlainStatements) → Holds G P (groups_in_all parts) (visit_all context parts) → PartsBeside pace R faults L C M parts (moved_statements move parts)
     parts_beside context no_statements h = no_parts
     parts_beside context (a_statement first rest) h =
-        a_part (beside context first (first_keeps (groups_of first) (groups_in_all rest) (visit context first) (visit_all context rest) h))
-        (parts_beside context rest (second_keeps (groups_of first) (groups_in_all rest) (visit context first) (visit_all context rest) h))
+        a_part (beside context first (left (groups_of first) (groups_in_all rest) (visit context first) (visit_all context rest) h))
+        (parts_beside context rest (right (groups_of first) (groups_in_all rest) (visit context first) (visit_all context rest) h))
 
-    arms_beside : (context : Context) (done arms : PlainStatements) → P (Par (joined done arms)) → Keep G P (groups_in_all arms) (visit_all context arms) → ArmsBeside pace R faults L C M arms (moved_statements move arms)
+    arms_beside : (context : Context) (done arms : PlainStatements) → P (Par (joined done arms)) → Holds G P (groups_in_all arms) (visit_all context arms) → ArmsBeside pace R faults L C M arms (moved_statements move arms)
     arms_beside context done no_statements p h = no_arms
     arms_beside context done (a_statement first rest) p h =
-        an_arm (leaves.merges done first rest p) (beside context first (first_keeps (groups_of first) (groups_in_all rest) (visit context first) (visit_all context rest) h))
+        an_arm (leaves.merges done first rest p) (beside context first (left (groups_of first) (groups_in_all rest) (visit context first) (visit_all context rest) h))
         (arms_beside context (with_last done first) rest (subst (λ arms. P (Par arms)) (sym (joined-with_last done first rest)) p)
-        (second_keeps (groups_of first) (groups_in_all rest) (visit context first) (visit_all context rest) h))
+        (right (groups_of first) (groups_in_all rest) (visit context first) (visit_all context rest) h))
 
   -- THE LAW OF RUNS for a statement whose ports are moved
-  pub moved_carries : (context : Context) (statement : PlainStatement) → Keep G P (groups_of statement) (visit context statement)
+  pub moved_carries : (context : Context) (statement : PlainStatement) → Holds G P (groups_of statement) (visit context statement)
       → Carries pace R faults (count L C statement) (run L statement) (run M (moved_statement move statement))
   moved_carries context statement h = run_carries pace R faults L C M leaves.rests (beside context statement h)

@@ -9,6 +9,7 @@ use Rattle.cx_meaning.specs.Sights.{In}
 use Rattle.cx_meaning.specs.Answers.{End}
 use Rattle.cx_meaning.specs.Control.{Leaves, groups_in, run_form, run, run_parts, run_arms}
 use Rattle.cx_rules.specs.Items.{Context, Visited, visit_parts, test_in}
+use Rattle.cx_frames.proofs.ControlFrames.{Holds}
 use Rattle.cx_rewrites.specs.Moving.{moved_form, moved_statement}
 use Rattle.cx_rewrites.specs.Tallies.{Tally, none, plus, Counting, count_form, count, count_parts, count_arms}
 use Rattle.cx_rewrites.specs.Carrying.{Pace, Rests, TestCarried, Carries}
@@ -17,11 +18,6 @@ use Rattle.cx_rewrites.specs.Carrying.{Pace, Rests, TestCarried, Carries}
 abbrev pub joined : PlainStatements → PlainStatements → PlainStatements
 joined no_statements later = later
 joined (a_statement s ss) later = a_statement s (joined ss later)
-
--- the groups of a statement, with those of its tests, and the forms in it have these properties
-pub record Keep (G : ℕ → Type 0) (P : PlainForm → Type 0) (gs : List ℕ) (vs : List Visited) : Type 0 where
-  pub groups : (g : ℕ) → In gs g → G g
-  pub forms : (v : Visited) → In vs v → P v.form
 
 module _ {S T F E : Type 0} (pace : Pace) (R : Tally → S → T → Type 0) (faults : F → E) (L : Leaves S F) (C : Counting S) (M : Leaves T E) where
   -- two conditions, each with the comb group of its with
@@ -68,5 +64,5 @@ module _ {S T F E : Type 0} (pace : Pace) (R : Tally → S → T → Type 0) (fa
     pub merges : (done : PlainStatements) (arm : PlainStatement) (later : PlainStatements) → P (Par (joined done (a_statement arm later))) → MergesCarry arm later (moved_statement move arm)
     pub enable : (g : ℕ) → G g → Carries pace R faults (C.enable g) (L.enable g) (M.enable g)
     pub test : (form : PlainForm) (p : PlacedPort) (comb : Option ℕ) → test_in form ≡ Some p → P form → ((g : ℕ) → comb ≡ Some g → G g) → TestsCarry p.port comb (move p.port) comb
-    pub island : (context : Context) (form : PlainForm) → P form → Keep G P (groups_in form) (visit_parts context form) → Carries pace R faults (C.island form) (L.island form) (M.island (moved_form move form))
+    pub island : (context : Context) (form : PlainForm) → P form → Holds G P (groups_in form) (visit_parts context form) → Carries pace R faults (C.island form) (L.island form) (M.island (moved_form move form))
     pub timed : (k : ℕ) → Carries pace R faults (λ s n. none) (L.timed k) (M.timed k)

@@ -41,6 +41,10 @@ TestCarried pace faults (Unclear f) x = IfExact pace (x ≡ Unclear (faults f))
 abbrev pub Rests : {S T : Type 0} → (Tally → S → T → Type 0) → (S → S) → (T → T) → Type 0
 Rests {S} {T} R rest still = (before : Tally) (s : S) (z : T) → R before s z → R before (rest s) (still z)
 
+-- the same state, whatever was counted
+abbrev pub Same : {S : Type 0} → Tally → S → S → Type 0
+Same counted s z = s ≡ z
+
 -- R relates states by what has been counted until then; `faults` gives the other run's fault
 module _ {S T F G : Type 0} (pace : Pace) (R : Tally → S → T → Type 0) (faults : F → G) where
   -- an answer and the other one, where so much was counted before the run and so much in it

@@ -6,3 +6,4 @@ pub mod Solving
 pub mod Moves
 pub mod Driving
 pub mod Renaming
+pub mod LoneParts

@@ -4,6 +4,8 @@ use Rattle.cx_meaning.specs.declared.ports.PortRef.{PortRef}
 use Rattle.cx_meaning.specs.declared.ports.PlacedPort.{PlacedPort}
 use Rattle.cx_meaning.specs.Designs.{PlainGuard, Always, Atom, Negation, All, Any, Compared, Within, PlainGuards, no_guards, a_guard, PlainAssign, PlainGroup, PlainForm, Empty, Enable, Seq, Par, If, While, Repeat, StaticSeq, StaticPar, StaticIf, StaticRepeat, Timed, PlainStatement, Placed, PlainStatements, no_statements, a_statement}
 use Rattle.cx_meaning.specs.Active.{Acting, Owned}
+use Rattle.cx_meaning.specs.Cycles.{Fault}
+use Rattle.cx_meaning.specs.Islands.{Condition, Occurrence, Runs, Looks}
 
 module _ (move : PortRef → PortRef) where
   abbrev pub moved_port : PlacedPort → PlacedPort
@@ -35,6 +37,10 @@ module _ (move : PortRef → PortRef) where
   abbrev pub moved_acting : Acting → Acting
   moved_acting a = record { offset = a.offset; assign = moved_assign a.assign }
 
+  -- the fault of the moved port
+  abbrev pub moved_fault : Fault → Fault
+  moved_fault f = record { kind = f.kind; path = f.path; port = move f.port }
+
   -- a statement keeps its shape and its groups; the ports of its tests are moved
   abbrev mutual
     pub moved_form : PlainForm → PlainForm
@@ -57,3 +63,11 @@ module _ (move : PortRef → PortRef) where
     pub moved_statements : PlainStatements → PlainStatements
     moved_statements no_statements = no_statements
     moved_statements (a_statement s ss) = a_statement (moved_statement s) (moved_statements ss)
+
+  -- and the flat list of an island its groups and cycles
+  abbrev pub moved_condition : Condition → Condition
+  moved_condition c = record { port = move c.port; at = c.at; wanted = c.wanted }
+
+  abbrev pub moved_occurrence : Occurrence → Occurrence
+  moved_occurrence (Runs g from to conditions) = Runs g from to (map moved_condition conditions)
+  moved_occurrence (Looks port at conditions) = Looks (move port) at (map moved_condition conditions)

@@ -1,7 +1,10 @@
 -- What is counted in a run, beside the run itself: tallies, and what a statement counts, by what its leaves count.
-use Rattle.std.specs.Prelude.{ℕ, zero, suc, ◌+◌, ◌-◌}
+use Rattle.std.specs.Prelude.{ℕ, zero, suc, ◌+◌, ◌-◌, List, []}
 use Rattle.cx_meaning.specs.Designs.{PlainForm, Empty, Enable, Seq, Par, If, While, Repeat, StaticSeq, StaticPar, StaticIf, StaticRepeat, Timed, PlainStatement, Placed, PlainStatements, no_statements, a_statement}
-use Rattle.cx_meaning.specs.Instances.{Path}
+use Rattle.cx_meaning.specs.Instances.{Instance, part_of, Path, State}
+use Rattle.cx_meaning.specs.Active.{Entry, nothing}
+use Rattle.cx_meaning.specs.Sights.{Held, seen}
+use Rattle.cx_meaning.specs.Islands.{Occurrence, History, no_history, and_now, active_in, form_flat, form_length, island_turn}
 use Rattle.cx_meaning.specs.Answers.{Answer, End, More, Meaning, Turn, Ends, Goes, Test, Holds, Fails, Unclear}
 use Rattle.cx_meaning.specs.Answers as answers
 use Rattle.cx_meaning.specs.Control.{Leaves, run}
@@ -91,3 +94,14 @@ abbrev mutual
   pub count_arms : {S F : Type 0} → Leaves S F → Counting S → PlainStatements → Counted S
   count_arms L C no_statements s n = none
   count_arms L C (a_statement first later) s n = plus (count L C first s n) (count_arms L C later s n)
+
+-- AN ISLAND counts in each cycle what its active groups make
+abbrev pub island_count_from : (List Entry → Tally) → Instance → Held → List Occurrence → ℕ → ℕ → History → Counted State
+island_count_from made i held list zero t before s n = none
+island_count_from made i held list (suc left) t before s zero = none
+island_count_from made i held list (suc left) t before s (suc n) =
+    let h : History = and_now before t (seen i held nothing s) in
+    turn_count (island_turn i held list t h s) (λ after. plus (made (active_in h t list)) (island_count_from made i held list left (suc t) h after n))
+
+abbrev pub island_count : (List Entry → Tally) → Instance → Held → PlainForm → Counted State
+island_count made i held form s n = island_count_from made i held (form_flat (part_of i) form 0 []) (form_length (part_of i) form) 0 no_history s n

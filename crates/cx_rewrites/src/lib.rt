@@ -2,6 +2,7 @@
 #![tactic(auto)]
 
 mod rewriting;
+pub mod examples;
 pub mod run_laws;
 pub mod sight_laws;
 
