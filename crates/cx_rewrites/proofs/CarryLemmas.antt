@@ -1,7 +1,7 @@
 -- What control makes of meanings that carry others carries what it makes of the others.
 use Rattle.std.proofs.Common.{◌≡◌, ℕ, zero, suc, ◌+◌, ◌-◌, max, Bool, true, false, nat_le, if◌then◌else◌, refl, sym, ap, ◌∙◌, subst}
 use Rattle.cx_meaning.specs.Answers.{Answer, End, Fault, More, Meaning, after_turns, then_do, stay, idle_turn, Turn, Ends, Goes, Faults, turn_then, one_turn, turns_of, Test, Holds, Fails, Unclear, chosen, test_turn, loop, loop_of, rounds, both}
-use Rattle.cx_rewrites.specs.Tallies.{Tally, none, plus, Counted, chosen_count, then_count, turn_count, turns_count, test_count, loop_count, rounds_count}
+use Rattle.cx_rewrites.specs.Tallies.{Tally, none, plus, Counted, chosen_count, then_count, turn_count, one_count, turns_count, test_count, loop_count, rounds_count}
 use Rattle.cx_rewrites.specs.Carrying.{Pace, Keeps, Room, IfExact, TestCarried, Rests, Carried, Carries, TurnCarried}
 use Rattle.cx_rewrites.proofs.TallyLemmas.{plus-none, plus-plus}
 use Rattle.cx_rewrites.proofs.PaceLemmas.{keeps_same, keeps-+, keeps-max, room--, room-suc, room_less, no_room, if_exact, then_exact, both_exact, if_greater, fault_later}
@@ -66,12 +66,8 @@ module _ {S T F G : Type 0} (pace : Pace) (R : Tally → S → T → Type 0) (fa
     turn_carried before one s z (Faults f) x counts go on r e each = then_exact pace (x ≡ Faults (faults f)) (turn_then still z x on ≡ Fault (faults f) 0) (λ h. ap (λ y. turn_then still z y on) h) e
 
     module _ (turn : S → Turn S F) (move : T → Turn T G) (one : Tally) (alike : (before : Tally) (s : S) (z : T) → R before s z → TurnCarried pace R faults before one (turn s) (move z)) where
-      -- one turn, and what is counted in it and after it
-      abbrev pub one_count : Counted S → Counted S
-      one_count counts s zero = none
-      one_count counts s (suc n) = turn_count (turn s) (λ after. plus one (counts after n))
-
-      pub one_carries : (counts : Counted S) (go : Meaning S F) (on : Meaning T G) → Carries pace R faults counts go on → Carries pace R faults (one_count counts) (one_turn rest turn go) (one_turn still move on)
+      -- ONE TURN, and then the rest
+      pub one_carries : (counts : Counted S) (go : Meaning S F) (on : Meaning T G) → Carries pace R faults counts go on → Carries pace R faults (one_count turn one counts) (one_turn rest turn go) (one_turn still move on)
       one_carries counts go on each before s z zero zero room r = if_exact pace (More ≡ More) refl
       one_carries counts go on each before s z zero (suc m) room r = if_greater pace (one_turn still move on z (suc m) ≡ More) m room
       one_carries counts go on each before s z (suc n) zero room r = absurd (no_room pace n room)

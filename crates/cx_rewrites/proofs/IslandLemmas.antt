@@ -18,7 +18,8 @@ use Rattle.cx_meaning.specs.Islands.{group_length, or_zero, form_length, length_
 use Rattle.cx_frames.proofs.IslandFrames.{AllFine, looked_good}
 use Rattle.cx_rewrites.specs.Moving.{moved_form, moved_statement, moved_statements, moved_condition, moved_occurrence}
 use Rattle.cx_rewrites.specs.Tallies.{Tally, plus, island_count_from, island_count}
-use Rattle.cx_rewrites.specs.Carrying.{Pace, Rests, Carried, Carries, TurnCarried}
+use Rattle.cx_rewrites.specs.Carrying.{Pace, Carried, Carries, TurnCarried}
+use Rattle.cx_rewrites.specs.Turns.{IslandCarries}
 use Rattle.cx_rewrites.proofs.PaceLemmas.{room_less, no_room, if_exact, if_greater}
 use Rattle.cx_rewrites.proofs.CarryLemmas.{idle_carries, turn_carried}
 
@@ -173,15 +174,13 @@ module _ (move : PortRef → PortRef) where
         one sights.Undefined e = ap Some (sym (told kinds.Undefined p (good p (inl refl))))
 
   -- AN ISLAND CARRIES, where each of its cycles does and the ports that it samples are seen alike
-  module _ (pace : Pace) (R : Tally → State → State → Type 0) (faults : Fault → Fault) (made : List Entry → Tally) (i j : Instance) (held twin_held : Held) (G : ℕ → Type 0) (H : PortRef → Type 0)
-      (rests : Rests R (idle i) (idle j))
-      (same : (before : Tally) (s z : State) → R before s z → (p : PortRef) → H p → seen j twin_held nothing z (move p) ≡ seen i held nothing s p)
-      (told : (kind : FaultKind) (p : PortRef) → H p → faults (fault_at kind p) ≡ fault_at kind (move p)) where
-    module _ (list : List Occurrence) (fine : AllFine G H list)
-        (cycles : (h : History) (t : ℕ) (before : Tally) (s z : State) → R before s z
-            → TurnCarried pace R faults before (made (active_in h t list)) (turn_of (cycle i held (entries (active_in h t list)) s)) (turn_of (cycle j twin_held (entries (active_in h t list)) z))) where
+  module _ (pace : Pace) (R : Tally → State → State → Type 0) (faults : Fault → Fault) (made : List Entry → Tally) (G : ℕ → Type 0) (H : PortRef → Type 0) (i j : Instance) (held twin_held : Held) where
+    module _ (list : List Occurrence) (fine : AllFine G H list) (carries : IslandCarries pace R faults move made H i j held twin_held list) where
       abbrev others : List Occurrence
       others = map (moved_occurrence move) list
+
+      told : (kind : FaultKind) (p : PortRef) → H p → faults (fault_at kind p) ≡ fault_at kind (move p)
+      told kind p here = carries.told p here kind
 
       clear_turn : (before one : Tally) (x : Option Fault) (a b : Ended) → TurnCarried pace R faults before one (turn_of a) (turn_of b)
           → TurnCarried pace R faults before one (unless_unclear x a) (unless_unclear (faulted faults H told x) b)
@@ -195,20 +194,21 @@ module _ (move : PortRef → PortRef) where
               (unless_unclear (first_unclear (seen j twin_held nothing z) (looked_at k t others)) (cycle j twin_held (entries es) z))) (sym (active_in-moved G H h k matches t list fine))
           (subst (λ x. TurnCarried pace R faults before (made (active_in h t list)) (island_turn i held list t h s) (unless_unclear x (cycle j twin_held (entries (active_in h t list)) z)))
               (sym (ap (first_unclear (seen j twin_held nothing z)) (looked_at-moved G H h k matches t list fine)
-                  ∙ first_unclear-moved faults H told (seen i held nothing s) (seen j twin_held nothing z) (looked_at h t list) (λ q j. looked_good G H h t list fine q j) (λ q here. same before s z r q here)))
+                  ∙ first_unclear-moved faults H told (seen i held nothing s) (seen j twin_held nothing z) (looked_at h t list) (λ q j. looked_good G H h t list fine q j)
+                  (λ q here. carries.samples q here before s z r)))
               (clear_turn before (made (active_in h t list)) (first_unclear (seen i held nothing s) (looked_at h t list)) (cycle i held (entries (active_in h t list)) s)
-                  (cycle j twin_held (entries (active_in h t list)) z) (cycles h t before s z r)))
+                  (cycle j twin_held (entries (active_in h t list)) z) (carries.cycles h t before s z r)))
 
       island_from_carries : (left t : ℕ) (h k : History) → Matches G H h k
           → Carries pace R faults (island_count_from made i held list left t h) (island_from i held list left t h) (island_from j twin_held others left t k)
-      island_from_carries zero t h k matches before s z n m room r = idle_carries pace R faults (idle i) (idle j) rests before s z n m room r
+      island_from_carries zero t h k matches before s z n m room r = idle_carries pace R faults (idle i) (idle j) carries.rests before s z n m room r
       island_from_carries (suc left) t h k matches before s z zero zero room r = if_exact pace (More ≡ More) refl
       island_from_carries (suc left) t h k matches before s z zero (suc m) room r = if_greater pace (island_from j twin_held others (suc left) t k z (suc m) ≡ More) m room
       island_from_carries (suc left) t h k matches before s z (suc n) zero room r = absurd (no_room pace n room)
       island_from_carries (suc left) t h k matches before s z (suc n) (suc m) room r =
           let now : Matches G H (and_now h t (seen i held nothing s)) (and_now k t (seen j twin_held nothing z)) =
-              now_matches G H t h k (seen i held nothing s) (seen j twin_held nothing z) matches (λ q here. same before s z r q here) in
-          turn_carried pace R faults (idle i) (idle j) rests before (made (active_in (and_now h t (seen i held nothing s)) t list)) s z
+              now_matches G H t h k (seen i held nothing s) (seen j twin_held nothing z) matches (λ q here. carries.samples q here before s z r) in
+          turn_carried pace R faults (idle i) (idle j) carries.rests before (made (active_in (and_now h t (seen i held nothing s)) t list)) s z
           (island_turn i held list t (and_now h t (seen i held nothing s)) s) (island_turn j twin_held others t (and_now k t (seen j twin_held nothing z)) z)
           (λ after. island_count_from made i held list left (suc t) (and_now h t (seen i held nothing s)) after n)
           (λ after. island_from i held list left (suc t) (and_now h t (seen i held nothing s)) after n)
@@ -217,13 +217,11 @@ module _ (move : PortRef → PortRef) where
           (λ a b q. island_from_carries left (suc t) _ _ now (plus before (made (active_in (and_now h t (seen i held nothing s)) t list))) a b n m (room_less pace n m room) q)
 
     pub island_carries : (form : PlainForm) → ((g : ℕ) → group_length (part_of j) g ≡ group_length (part_of i) g) → AllFine G H (form_flat (part_of i) form 0 [])
-        → ((h : History) (t : ℕ) (before : Tally) (s z : State) → R before s z
-            → TurnCarried pace R faults before (made (active_in h t (form_flat (part_of i) form 0 []))) (turn_of (cycle i held (entries (active_in h t (form_flat (part_of i) form 0 []))) s))
-            (turn_of (cycle j twin_held (entries (active_in h t (form_flat (part_of i) form 0 []))) z)))
+        → IslandCarries pace R faults move made H i j held twin_held (form_flat (part_of i) form 0 [])
         → Carries pace R faults (island_count made i held form) (island i held form) (island j twin_held (moved_form move form))
-    island_carries form lengths fine cycles before s z n m room r =
+    island_carries form lengths fine carries before s z n m room r =
         subst (λ list. Carried pace R faults before (island_count made i held form s n) (island i held form s n) (island_from j twin_held list (form_length (part_of j) (moved_form move form)) 0 no_history z m))
         (sym (form_flat-moved (part_of i) (part_of j) lengths form 0 []))
         (subst (λ left. Carried pace R faults before (island_count made i held form s n) (island i held form s n) (island_from j twin_held (map (moved_occurrence move) (form_flat (part_of i) form 0 [])) left 0 no_history z m))
             (sym (form_length-moved (part_of i) (part_of j) lengths form))
-            (island_from_carries (form_flat (part_of i) form 0 []) fine cycles (form_length (part_of i) form) 0 no_history no_history (λ port at here. refl) before s z n m room r))
+            (island_from_carries (form_flat (part_of i) form 0 []) fine carries (form_length (part_of i) form) 0 no_history no_history (λ port at here. refl) before s z n m room r))

@@ -11,6 +11,7 @@ pub mod MoveLemmas
 mod OrderLemmas
 pub mod DriverLemmas
 pub mod RenamedLemmas
+pub mod TurnLemmas
 pub mod IslandLemmas
 mod LoneLemmas
 pub mod KnownRewrites

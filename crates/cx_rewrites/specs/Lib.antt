@@ -2,6 +2,7 @@ pub mod Moving
 pub mod Tallies
 pub mod Carrying
 pub mod Beside
+pub mod Turns
 pub mod Solving
 pub mod Moves
 pub mod Driving

@@ -1,5 +1,5 @@
 -- What is counted in a run, beside the run itself: tallies, and what a statement counts, by what its leaves count.
-use Rattle.std.specs.Prelude.{ℕ, zero, suc, ◌+◌, ◌-◌, List, []}
+use Rattle.std.specs.Prelude.{ℕ, zero, suc, ◌+◌, ◌-◌, nat_eq, List, [], ◌∷◌, if◌then◌else◌}
 use Rattle.cx_meaning.specs.Designs.{PlainForm, Empty, Enable, Seq, Par, If, While, Repeat, StaticSeq, StaticPar, StaticIf, StaticRepeat, Timed, PlainStatement, Placed, PlainStatements, no_statements, a_statement}
 use Rattle.cx_meaning.specs.Instances.{Instance, part_of, Path, State}
 use Rattle.cx_meaning.specs.Active.{Entry, nothing}
@@ -18,6 +18,14 @@ none path g = 0
 
 abbrev pub plus : Tally → Tally → Tally
 plus a b path g = a path g + b path g
+
+-- the tally of the child at a cell, and what a child counts, as a tally of the instance
+abbrev pub at_cell : ℕ → Tally → Tally
+at_cell c a path g = a (c ∷ path) g
+
+abbrev pub below : ℕ → Tally → Tally
+below c a [] g = 0
+below c a (d ∷ path) g = if nat_eq c d then a path g else 0
 
 -- what is counted in a run from a state, for a budget
 abbrev pub Counted : Type 0 → Type 0
@@ -40,6 +48,11 @@ module _ {S F : Type 0} where
   turn_count Ends go = none
   turn_count (Goes after) go = go after
   turn_count (answers.Faults f) go = none
+
+  -- one turn, in which so much is counted where it goes on, and then the rest
+  abbrev pub one_count : (S → Turn S F) → Tally → Counted S → Counted S
+  one_count turn one counts s zero = none
+  one_count turn one counts s (suc n) = turn_count (turn s) (λ after. plus one (counts after n))
 
   -- one kind of turn again and again: each counts that is neither the last nor a fault
   abbrev pub turns_count : (S → Turn S F) → Tally → Counted S
