@@ -3,6 +3,7 @@
 
 mod rewriting;
 pub mod examples;
+pub mod leaf_laws;
 pub mod run_laws;
 pub mod sight_laws;
 
