@@ -13,5 +13,6 @@ pub mod DriverLemmas
 pub mod RenamedLemmas
 pub mod TurnLemmas
 pub mod IslandLemmas
+pub mod CellLemmas
 mod LoneLemmas
 pub mod KnownRewrites

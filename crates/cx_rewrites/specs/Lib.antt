@@ -3,6 +3,7 @@ pub mod Tallies
 pub mod Carrying
 pub mod Beside
 pub mod Turns
+pub mod Cells
 pub mod Solving
 pub mod Moves
 pub mod Driving
