@@ -13,7 +13,7 @@ use Rattle.cx_meaning.proofs.CycleLemmas.{each_steps, outcome_listed, row_within
 use Rattle.cx_rewrites.specs.Tallies.{Tally, plus}
 use Rattle.cx_rewrites.specs.Carrying.{Pace, IfExact, TurnCarried}
 use Rattle.cx_rewrites.specs.Turns.{CycleCarries}
-use Rattle.cx_rewrites.specs.Cells.{CellAlike, CellGoes, as_cell, by_itself, OutcomeFollows, OutcomesFollow, no_more, both, new_one}
+use Rattle.cx_rewrites.specs.Cells.{comes_to, left_by, CellAlike, CellGoes, as_cell, by_itself, OutcomeFollows, OutcomesFollow, no_more, both, new_one}
 use Rattle.cx_rewrites.proofs.PaceLemmas.{if_exact, then_exact}
 
 -- no cell stops
@@ -28,37 +28,31 @@ first_fault-None outcome c (suc n) h =
     (λ k lt. let next : suc c + k ≡ c + suc k = omega arith in let r : (d : CellState) × (outcome (c + suc k) ≡ Next d) = h (suc k) (omega (arith, lt)) in (r.0, ap outcome next ∙ r.1))
 
 module _ (i j : Instance) (held twin_held : Held) (act more : Active) (s z : State) where
-  abbrev pub what_comes : ℕ → Outcome
-  what_comes = outcome_of every_cell (seen i held act s) (cells_of i) s
-
-  abbrev pub what_comes_there : ℕ → Outcome
-  what_comes_there = outcome_of every_cell (seen j twin_held more z) (cells_of j) z
-
   -- a cell and one that is alike come to the same
-  pub same_outcome : (c e : ℕ) → CellAlike i j held twin_held act more s z c e → what_comes c ≡ what_comes_there e
+  pub same_outcome : (c e : ℕ) → CellAlike i j held twin_held act more s z c e → comes_to i held act s c ≡ comes_to j twin_held more z e
   same_outcome c e alike =
       outcome_listed every_cell (seen i held act s) (cells_of i) s c alike.row refl alike.here
       ∙ ap (λ look. after_enabling look alike.row (s (c ∷ [])) (gather look (enables alike.row) 0 alike.row.ports)) (fun_ext (λ p. sym (alike.ports p)))
       ∙ ap (cell_outcome (seen j twin_held more z) e alike.row) (sym alike.state)
       ∙ sym (outcome_listed every_cell (seen j twin_held more z) (cells_of j) z e alike.row refl alike.there)
 
-  goes_there : (after : State) → cycle i held act s ≡ Goes after → (e : ℕ) → CellGoes i j held twin_held act more s z e → (d : CellState) × (what_comes_there e ≡ Next d)
+  goes_there : (after : State) → cycle i held act s ≡ Goes after → (e : ℕ) → CellGoes i j held twin_held act more s z e → (d : CellState) × (comes_to j twin_held more z e ≡ Next d)
   goes_there after goes e (as_cell c alike) =
-      (after (c ∷ []), sym (same_outcome c e alike) ∙ each_steps what_comes (cell_count (cells_of i)) s after goes c (row_within (cells_of i) c alike.row alike.here))
+      (after (c ∷ []), sym (same_outcome c e alike) ∙ each_steps (comes_to i held act s) (cell_count (cells_of i)) s after goes c (row_within (cells_of i) c alike.row alike.here))
   goes_there after goes e (by_itself d is) = (d, is)
 
   -- WHERE EACH CELL GOES ON, the cycle does
   pub cycle_goes_on : ((e : ℕ) → e < cell_count (cells_of j) → CellGoes i j held twin_held act more s z e) → (after : State) → cycle i held act s ≡ Goes after
-      → cycle j twin_held more z ≡ Goes (state_after what_comes_there z)
+      → cycle j twin_held more z ≡ Goes (left_by j twin_held more z)
   cycle_goes_on each after goes =
-      ap (λ f. unless_fault f (state_after what_comes_there z))
-      (first_fault-None what_comes_there 0 (cell_count (cells_of j))
-          (λ k lt. let first : 0 + k ≡ k = omega arith in let r : (d : CellState) × (what_comes_there k ≡ Next d) = goes_there after goes k (each k lt) in (r.0, ap what_comes_there first ∙ r.1)))
+      ap (λ f. unless_fault f (left_by j twin_held more z))
+      (first_fault-None (comes_to j twin_held more z) 0 (cell_count (cells_of j))
+          (λ k lt. let first : 0 + k ≡ k = omega arith in let r : (d : CellState) × (comes_to j twin_held more z k ≡ Next d) = goes_there after goes k (each k lt) in (r.0, ap (comes_to j twin_held more z) first ∙ r.1)))
 
   -- and a cell that is alike is left alike
-  pub cell_left : (c e : ℕ) → CellAlike i j held twin_held act more s z c e → (after : State) → cycle i held act s ≡ Goes after → state_after what_comes_there z (e ∷ []) ≡ after (c ∷ [])
+  pub cell_left : (c e : ℕ) → CellAlike i j held twin_held act more s z c e → (after : State) → cycle i held act s ≡ Goes after → left_by j twin_held more z (e ∷ []) ≡ after (c ∷ [])
   cell_left c e alike after goes =
-      ap (stepped (z (e ∷ []))) (sym (same_outcome c e alike) ∙ each_steps what_comes (cell_count (cells_of i)) s after goes c (row_within (cells_of i) c alike.row alike.here))
+      ap (stepped (z (e ∷ []))) (sym (same_outcome c e alike) ∙ each_steps (comes_to i held act s) (cell_count (cells_of i)) s after goes c (row_within (cells_of i) c alike.row alike.here))
 
 -- WHERE THE CELLS FOLLOW IN THEIR ORDER, so does the first fault
 module _ (faults : Fault → Fault) (x y : ℕ → Outcome) where
@@ -79,37 +73,37 @@ module _ (pace : Pace) (R : Tally → State → State → Type 0) (faults : Faul
   -- A CYCLE CARRIES at a pace that promises nothing of faults, where each cell goes on and what is left is related
   pub cycle_carries : IfExact pace ⊥
       → ((before : Tally) (s z : State) → R before s z → (e : ℕ) → e < cell_count (cells_of j) → CellGoes i j held twin_held act more s z e)
-      → ((before : Tally) (s z after : State) → R before s z → cycle i held act s ≡ Goes after → R (plus before one) after (state_after (what_comes_there i j held twin_held act more s z) z))
+      → ((before : Tally) (s z after : State) → R before s z → cycle i held act s ≡ Goes after → R (plus before one) after (left_by j twin_held more z))
       → CycleCarries pace R faults one i j held twin_held act more
   cycle_carries loose each leaves before s z r = by (cycle i held act s) refl
     where
       by : (x : Ended) → cycle i held act s ≡ x → TurnCarried pace R faults before one (turn_of x) (turn_of (cycle j twin_held more z))
       by (Goes after) is =
-          (state_after (what_comes_there i j held twin_held act more s z) z, ap turn_of (cycle_goes_on i j held twin_held act more s z (each before s z r) after is), leaves before s z after r is)
+          (left_by j twin_held more z, ap turn_of (cycle_goes_on i j held twin_held act more s z (each before s z r) after is), leaves before s z after r is)
       by (Faults f) is = then_exact pace ⊥ (turn_of (cycle j twin_held more z) ≡ answers.Faults (faults f)) (λ none. absurd none) loose
 
   -- A CYCLE CARRIES at every pace, where the cells follow in their order and what is left is related
-  pub cycle_follows : ((before : Tally) (s z : State) → R before s z → OutcomesFollow faults (what_comes i j held twin_held act more s z) (what_comes_there i j held twin_held act more s z) 0 (cell_count (cells_of i)) 0 (cell_count (cells_of j)))
-      → ((before : Tally) (s z after : State) → R before s z → cycle i held act s ≡ Goes after → R (plus before one) after (state_after (what_comes_there i j held twin_held act more s z) z))
+  pub cycle_follows : ((before : Tally) (s z : State) → R before s z → OutcomesFollow faults (comes_to i held act s) (comes_to j twin_held more z) 0 (cell_count (cells_of i)) 0 (cell_count (cells_of j)))
+      → ((before : Tally) (s z after : State) → R before s z → cycle i held act s ≡ Goes after → R (plus before one) after (left_by j twin_held more z))
       → CycleCarries pace R faults one i j held twin_held act more
-  cycle_follows follow leaves before s z r = by (first_fault (what_comes i j held twin_held act more s z) 0 (cell_count (cells_of i))) refl
+  cycle_follows follow leaves before s z r = by (first_fault (comes_to i held act s) 0 (cell_count (cells_of i))) refl
     where
-      there : (x : Option Fault) → first_fault (what_comes i j held twin_held act more s z) 0 (cell_count (cells_of i)) ≡ x
-          → cycle j twin_held more z ≡ unless_fault (faulted faults (what_comes i j held twin_held act more s z) (what_comes_there i j held twin_held act more s z) x) (state_after (what_comes_there i j held twin_held act more s z) z)
+      there : (x : Option Fault) → first_fault (comes_to i held act s) 0 (cell_count (cells_of i)) ≡ x
+          → cycle j twin_held more z ≡ unless_fault (faulted faults (comes_to i held act s) (comes_to j twin_held more z) x) (left_by j twin_held more z)
       there x is =
-          ap (λ f. unless_fault f (state_after (what_comes_there i j held twin_held act more s z) z))
-          (first_fault_followed faults (what_comes i j held twin_held act more s z) (what_comes_there i j held twin_held act more s z) (follow before s z r)
-              ∙ ap (faulted faults (what_comes i j held twin_held act more s z) (what_comes_there i j held twin_held act more s z)) is)
+          ap (λ f. unless_fault f (left_by j twin_held more z))
+          (first_fault_followed faults (comes_to i held act s) (comes_to j twin_held more z) (follow before s z r)
+              ∙ ap (faulted faults (comes_to i held act s) (comes_to j twin_held more z)) is)
 
-      here : (x : Option Fault) → first_fault (what_comes i j held twin_held act more s z) 0 (cell_count (cells_of i)) ≡ x
-          → cycle i held act s ≡ unless_fault x (state_after (what_comes i j held twin_held act more s z) s)
-      here x is = ap (λ f. unless_fault f (state_after (what_comes i j held twin_held act more s z) s)) is
+      here : (x : Option Fault) → first_fault (comes_to i held act s) 0 (cell_count (cells_of i)) ≡ x
+          → cycle i held act s ≡ unless_fault x (left_by i held act s)
+      here x is = ap (λ f. unless_fault f (left_by i held act s)) is
 
-      by : (x : Option Fault) → first_fault (what_comes i j held twin_held act more s z) 0 (cell_count (cells_of i)) ≡ x
+      by : (x : Option Fault) → first_fault (comes_to i held act s) 0 (cell_count (cells_of i)) ≡ x
           → TurnCarried pace R faults before one (turn_of (cycle i held act s)) (turn_of (cycle j twin_held more z))
       by None is =
           subst (λ e. TurnCarried pace R faults before one (turn_of e) (turn_of (cycle j twin_held more z))) (sym (here None is))
-          (state_after (what_comes_there i j held twin_held act more s z) z, ap turn_of (there None is), leaves before s z (state_after (what_comes i j held twin_held act more s z) s) r (here None is))
+          (left_by j twin_held more z, ap turn_of (there None is), leaves before s z (left_by i held act s) r (here None is))
       by (Some f) is =
           subst (λ e. TurnCarried pace R faults before one (turn_of e) (turn_of (cycle j twin_held more z))) (sym (here (Some f) is))
           (if_exact pace (turn_of (cycle j twin_held more z) ≡ answers.Faults (faults f)) (ap turn_of (there (Some f) is)))

@@ -14,5 +14,7 @@ pub mod RenamedLemmas
 pub mod TurnLemmas
 pub mod IslandLemmas
 pub mod CellLemmas
+pub mod ReflectLemmas
+pub mod ClosedLemmas
 mod LoneLemmas
 pub mod KnownRewrites

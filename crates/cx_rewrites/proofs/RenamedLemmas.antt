@@ -23,13 +23,13 @@ module _ {i j : Instance} {cell : ℕ → ℕ} {held twin_held : Held} {act more
 
   pub renames_move : Moves (renamed cell) i j held twin_held act more s z inside
   renames_move = record {
-    closed = renames.closed;
+    closed = renames.parts.closed;
     literals = λ w v here. refl;
     inputs = λ n here. seen_solves j twin_held more z acyclic deeper (ports.Input n) ∙ renames.inputs n here;
     outputs = λ n here. refl;
     holes = λ g here. refl;
-    cells = λ c p here. cell_renamed c p (cell_at (cells_of i) c) (cell_at (cells_of j) (cell c)) refl refl (renames.cells c p here) here;
-    targets = λ p undriven here. driven_alike (renamed cell) i j act more (seen j twin_held more z) p undriven (renames.drives p here);
+    cells = λ c p here. cell_renamed c p (cell_at (cells_of i) c) (cell_at (cells_of j) (cell c)) refl refl (renames.parts.cells c p here) here;
+    targets = λ p undriven here. driven_alike (renamed cell) i j act more (seen j twin_held more z) p undriven (renames.parts.drives p here);
   }
 
   -- THE LAW: a port is seen as the port of the renamed cell is

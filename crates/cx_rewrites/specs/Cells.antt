@@ -6,7 +6,14 @@ use Rattle.cx_meaning.specs.declared.ports.PortRef.TheVariants as ports
 use Rattle.cx_meaning.specs.Instances.{Instance, OfRow, cell_at, cells_of, State}
 use Rattle.cx_meaning.specs.Active.{Active}
 use Rattle.cx_meaning.specs.Sights.{Held, seen}
-use Rattle.cx_meaning.specs.Cycles.{Fault, fault_at, Outcome, Next, Stops, outcome_of, every_cell}
+use Rattle.cx_meaning.specs.Cycles.{Fault, fault_at, Outcome, Next, Stops, outcome_of, state_after, every_cell}
+
+-- what each cell of an instance comes to in a cycle, and the state in which all have made their steps
+abbrev pub comes_to : Instance → Held → Active → State → ℕ → Outcome
+comes_to i held act s = outcome_of every_cell (seen i held act s) (cells_of i) s
+
+abbrev pub left_by : Instance → Held → Active → State → State
+left_by i held act s = state_after (comes_to i held act s) s
 
 -- cell e of the other instance is a primitive with the row and the state of cell c, and its ports are seen alike
 pub record CellAlike (i j : Instance) (held twin_held : Held) (act more : Active) (s z : State) (c e : ℕ) : Type 0 where
@@ -19,7 +26,7 @@ pub record CellAlike (i j : Instance) (held twin_held : Held) (act more : Active
 -- a cell of the other instance goes on where the first instance does: it is as a cell of the first, or goes on by itself
 pub data CellGoes (i j : Instance) (held twin_held : Held) (act more : Active) (s z : State) (e : ℕ) : Type 0 where
   as_cell : (c : ℕ) → CellAlike i j held twin_held act more s z c e → CellGoes i j held twin_held act more s z e
-  by_itself : (after : CellState) → outcome_of every_cell (seen j twin_held more z) (cells_of j) z e ≡ Next after → CellGoes i j held twin_held act more s z e
+  by_itself : (after : CellState) → comes_to j twin_held more z e ≡ Next after → CellGoes i j held twin_held act more s z e
 
 -- what one cell comes to, and what the other does: both go on, or both stop, and the fault of the one is told as that of the other
 abbrev pub OutcomeFollows : (Fault → Fault) → ℕ → Outcome → ℕ → Outcome → Type 0

@@ -1,21 +1,22 @@
 //! Laws of the leaves of control: each function does nothing, and its clause is the law.
 
-ghost use Rattle.std.specs.Prelude.{◌≡◌, ℕ, List, [], Option, map};
+ghost use Rattle.std.specs.Prelude.{◌≡◌, ◌<◌, ℕ, List, [], ◌∷◌, Option, map};
 ghost use Rattle.cx_meaning.specs.declared.ports.PortRef.{PortRef};
 ghost use Rattle.cx_meaning.specs.Designs.{PlainComponent, PlainForm};
-ghost use Rattle.cx_meaning.specs.Instances.{Instance, State, idle, part_of, under};
-ghost use Rattle.cx_meaning.specs.Active.{Entry, comb};
+ghost use Rattle.cx_meaning.specs.Instances.{Instance, State, cell_count, cells_of, idle, part_of, under};
+ghost use Rattle.cx_meaning.specs.Active.{Active, Entry, comb};
 ghost use Rattle.cx_meaning.specs.Sights.{Held};
-ghost use Rattle.cx_meaning.specs.Cycles.{Fault};
+ghost use Rattle.cx_meaning.specs.Cycles.{Fault, Goes, cycle};
 ghost use Rattle.cx_meaning.specs.Answers.{turns_of};
 ghost use Rattle.cx_meaning.specs.Islands.{form_flat, form_length, group_length, island};
 ghost use Rattle.cx_meaning.specs.Calls.{call, group_turn, inputs_of_call, test};
 ghost use Rattle.cx_meaning.specs.Running.{Children};
 ghost use Rattle.cx_frames.proofs.IslandFrames.{AllFine};
 ghost use Rattle.cx_rewrites.specs.Moving.{moved_form, moved_occurrence};
-ghost use Rattle.cx_rewrites.specs.Tallies.{Counted, Tally, below, island_count, turns_count};
-ghost use Rattle.cx_rewrites.specs.Carrying.{Carries, Pace, TestCarried};
-ghost use Rattle.cx_rewrites.specs.Turns.{CallCarries, GroupCarries, IsSeenAlike, IsTold, IslandCarries};
+ghost use Rattle.cx_rewrites.specs.Tallies.{Counted, Tally, below, island_count, plus, turns_count};
+ghost use Rattle.cx_rewrites.specs.Carrying.{Carries, IfExact, Pace, TestCarried};
+ghost use Rattle.cx_rewrites.specs.Turns.{CallCarries, CycleCarries, GroupCarries, IsSeenAlike, IsTold, IslandCarries};
+ghost use Rattle.cx_rewrites.specs.Cells.{CellAlike, CellGoes, OutcomesFollow, comes_to, left_by};
 
 use crate::rewriting::Rewriting;
 
@@ -60,4 +61,25 @@ pub fn islands_carry<W: Rewriting>()
         → AllFine W.groups W.inside (form_flat (part_of i) form 0 [])
         → IslandCarries pace W.stands faults move made W.inside i j held twin_held (form_flat (part_of i) form 0 [])
         → Carries pace W.stands faults (island_count made i held form) (island i held form) (island j twin_held (moved_form move form)) }
+{}
+
+/// A cycle carries another, where each cell of the other goes on and what is left is related, at a pace that promises nothing of
+/// faults; and at every pace where the cells follow in their order, between which cells may stand that go on.
+pub fn cycles_carry<W: Rewriting>()
+    ensures ends { (pace : Pace) (faults : Fault → Fault) (one : Tally) (i j : Instance) (held twin_held : Held) (act more : Active)
+        → IfExact pace ⊥
+        → ((before : Tally) (s z : State) → W.stands before s z → (e : ℕ) → e < cell_count (cells_of j)
+            → CellGoes i j held twin_held act more s z e)
+        → ((before : Tally) (s z after : State) → W.stands before s z → cycle i held act s ≡ Goes after
+            → W.stands (plus before one) after (left_by j twin_held more z))
+        → CycleCarries pace W.stands faults one i j held twin_held act more }
+    ensures follows { (pace : Pace) (faults : Fault → Fault) (one : Tally) (i j : Instance) (held twin_held : Held) (act more : Active)
+        → ((before : Tally) (s z : State) → W.stands before s z
+            → OutcomesFollow faults (comes_to i held act s) (comes_to j twin_held more z) 0 (cell_count (cells_of i)) 0 (cell_count (cells_of j)))
+        → ((before : Tally) (s z after : State) → W.stands before s z → cycle i held act s ≡ Goes after
+            → W.stands (plus before one) after (left_by j twin_held more z))
+        → CycleCarries pace W.stands faults one i j held twin_held act more }
+    ensures left { (i j : Instance) (held twin_held : Held) (act more : Active) (s z after : State) (c e : ℕ)
+        → CellAlike i j held twin_held act more s z c e → cycle i held act s ≡ Goes after
+        → left_by j twin_held more z (e ∷ []) ≡ after (c ∷ []) }
 {}

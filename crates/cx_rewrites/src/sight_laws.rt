@@ -1,18 +1,24 @@
 //! Laws of what ports are seen as: each function does nothing, and its clause is the law.
 
-ghost use Rattle.std.specs.Prelude.{◌≡◌, ℕ, map};
+ghost use Rattle.std.specs.Prelude.{◌≡◌, ℕ, true, Some, map};
+ghost use Rattle.cx_prim.specs.declared.ports.Side.TheVariants.{Output};
+ghost use Rattle.cx_prim.specs.Rows.{Row};
 ghost use Rattle.cx_meaning.specs.declared.ports.PortRef.{PortRef};
+ghost use Rattle.cx_meaning.specs.declared.ports.PortRef.TheVariants.{Cell};
 ghost use Rattle.cx_meaning.specs.declared.sights.Seen.{Seen};
+ghost use Rattle.cx_meaning.specs.Rows.{side_of};
 ghost use Rattle.cx_meaning.specs.Designs.{PlainComponent};
-ghost use Rattle.cx_meaning.specs.Instances.{Instance, State, cells_of};
-ghost use Rattle.cx_meaning.specs.Active.{Active, drivers};
-ghost use Rattle.cx_meaning.specs.Sights.{Held, Look, Sees, seen};
+ghost use Rattle.cx_meaning.specs.Instances.{Instance, OfRow, State, cell_at, cells_of, part_of};
+ghost use Rattle.cx_meaning.specs.Active.{Active, Owned, drivers, offset_of, source_order};
+ghost use Rattle.cx_meaning.specs.Sights.{Held, In, Look, Sees, seen};
 ghost use Rattle.cx_rules.specs.Circles.{AcyclicBelow, IsAcyclic};
+ghost use Rattle.cx_rules.specs.Footprints.{AssignNames, Depends, Leads};
+ghost use Rattle.cx_rules.specs.RaceRule.{HasCycle};
 ghost use Rattle.cx_rewrites.specs.Moving.{moved_acting, moved_assign, moved_group};
 ghost use Rattle.cx_rewrites.specs.Solving.{Solves};
 ghost use Rattle.cx_rewrites.specs.Moves.{Moves};
 ghost use Rattle.cx_rewrites.specs.Driving.{Between, KeepsApart, assigns_of};
-ghost use Rattle.cx_rewrites.specs.Renaming.{Renames, renamed};
+ghost use Rattle.cx_rewrites.specs.Renaming.{IsRenamed, Renames, renamed};
 
 use crate::rewriting::Rewriting;
 
@@ -58,4 +64,26 @@ pub fn moved_ports_are_driven()
         → other.always ≡ map (moved_assign move) part.always → other.groups ≡ map (moved_group move) part.groups
         → KeepsApart move act p (assigns_of part)
         → drivers other more (move p) ≡ map (moved_acting move) (drivers part act p) }
+{}
+
+/// A set of ports is closed under what they lead to, where it has what its active assignments name and what its outputs read.
+pub fn sets_are_closed<W: Rewriting>()
+    ensures { (i : Instance) (act : Active) (p q : PortRef)
+        → ((o : Owned) (k : ℕ) (r : PortRef) → In (source_order (part_of i)) o → offset_of act o.owner ≡ Some k
+            → W.inside o.assign.target → AssignNames o.assign r → W.inside r)
+        → ((c n m : ℕ) (row : Row) → cell_at (cells_of i) c ≡ OfRow row → side_of row n ≡ Output → row.reads n m ≡ true
+            → W.inside (Cell c n) → W.inside (Cell c m))
+        → W.inside p → Leads i act p q → W.inside q }
+{}
+
+/// What the port of a renamed cell depends on is the port of a renamed cell, which the old port depends on; so a circle through
+/// it is a circle of the old instance, where no two ports inside become one.
+pub fn circles_come_back<W: Rewriting>()
+    ensures depends { (i j : Instance) (cell : ℕ → ℕ) (act more : Active) (p q : PortRef)
+        → IsRenamed i j cell act more W.inside → W.inside p → Depends j more (renamed cell p) q
+        → (r : PortRef) × (renamed cell r ≡ q) × Depends i act p r × W.inside r }
+    ensures circle { (i j : Instance) (cell : ℕ → ℕ) (act more : Active) (p : PortRef)
+        → IsRenamed i j cell act more W.inside
+        → ((r q : PortRef) → W.inside r → W.inside q → renamed cell r ≡ renamed cell q → r ≡ q)
+        → W.inside p → Depends j more (renamed cell p) (renamed cell p) → HasCycle i act }
 {}
