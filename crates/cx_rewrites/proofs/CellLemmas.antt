@@ -1,12 +1,11 @@
 -- CYCLES CARRY, by what their cells come to.
-use Rattle.std.proofs.Common.{◌≡◌, ℕ, zero, suc, ◌+◌, ◌<◌, true, Option, Some, None, [], ◌∷◌, refl, sym, ap, ◌∙◌, subst, arith}
+use Rattle.std.proofs.Common.{◌≡◌, ℕ, zero, suc, ◌+◌, ◌<◌, Option, Some, None, [], ◌∷◌, refl, sym, ap, ◌∙◌, subst, arith}
 use Rattle.std.proofs.Math.Path.{fun_ext}
 use Rattle.cx_prim.specs.CellStates.{CellState}
-use Rattle.cx_meaning.specs.declared.ports.PortRef.TheVariants as ports
 use Rattle.cx_meaning.specs.Instances.{Instance, cell_count, cells_of, State}
 use Rattle.cx_meaning.specs.Sights.{Held, gather, seen}
 use Rattle.cx_meaning.specs.Active.{Active}
-use Rattle.cx_meaning.specs.Cycles.{Fault, Outcome, Next, Stops, enables, after_enabling, cell_outcome, outcome_of, first_of, first_fault, stepped, state_after, Ended, Goes, Faults, unless_fault, ended, cycle, every_cell}
+use Rattle.cx_meaning.specs.Cycles.{Fault, Outcome, Next, Stops, enables, after_enabling, cell_outcome, first_of, first_fault, stepped, Ended, Goes, Faults, unless_fault, cycle, every_cell}
 use Rattle.cx_meaning.specs.Answers as answers
 use Rattle.cx_meaning.specs.Islands.{turn_of}
 use Rattle.cx_meaning.proofs.CycleLemmas.{each_steps, outcome_listed, row_within}
@@ -47,7 +46,7 @@ module _ (i j : Instance) (held twin_held : Held) (act more : Active) (s z : Sta
   cycle_goes_on each after goes =
       ap (λ f. unless_fault f (left_by j twin_held more z))
       (first_fault-None (comes_to j twin_held more z) 0 (cell_count (cells_of j))
-          (λ k lt. let first : 0 + k ≡ k = omega arith in let r : (d : CellState) × (comes_to j twin_held more z k ≡ Next d) = goes_there after goes k (each k lt) in (r.0, ap (comes_to j twin_held more z) first ∙ r.1)))
+      (λ k lt. let first : 0 + k ≡ k = omega arith in let r : (d : CellState) × (comes_to j twin_held more z k ≡ Next d) = goes_there after goes k (each k lt) in (r.0, ap (comes_to j twin_held more z) first ∙ r.1)))
 
   -- and a cell that is alike is left alike
   pub cell_left : (c e : ℕ) → CellAlike i j held twin_held act more s z c e → (after : State) → cycle i held act s ≡ Goes after → left_by j twin_held more z (e ∷ []) ≡ after (c ∷ [])
@@ -93,7 +92,7 @@ module _ (pace : Pace) (R : Tally → State → State → Type 0) (faults : Faul
       there x is =
           ap (λ f. unless_fault f (left_by j twin_held more z))
           (first_fault_followed faults (comes_to i held act s) (comes_to j twin_held more z) (follow before s z r)
-              ∙ ap (faulted faults (comes_to i held act s) (comes_to j twin_held more z)) is)
+          ∙ ap (faulted faults (comes_to i held act s) (comes_to j twin_held more z)) is)
 
       here : (x : Option Fault) → first_fault (comes_to i held act s) 0 (cell_count (cells_of i)) ≡ x
           → cycle i held act s ≡ unless_fault x (left_by i held act s)

@@ -191,13 +191,13 @@ module _ (move : PortRef → PortRef) where
           → TurnCarried pace R faults before (made (active_in h t list)) (island_turn i held list t h s) (island_turn j twin_held others t k z)
       island_turn_carried t h k before s z matches r =
           subst (λ es. TurnCarried pace R faults before (made (active_in h t list)) (island_turn i held list t h s)
-              (unless_unclear (first_unclear (seen j twin_held nothing z) (looked_at k t others)) (cycle j twin_held (entries es) z))) (sym (active_in-moved G H h k matches t list fine))
+          (unless_unclear (first_unclear (seen j twin_held nothing z) (looked_at k t others)) (cycle j twin_held (entries es) z))) (sym (active_in-moved G H h k matches t list fine))
           (subst (λ x. TurnCarried pace R faults before (made (active_in h t list)) (island_turn i held list t h s) (unless_unclear x (cycle j twin_held (entries (active_in h t list)) z)))
-              (sym (ap (first_unclear (seen j twin_held nothing z)) (looked_at-moved G H h k matches t list fine)
-                  ∙ first_unclear-moved faults H told (seen i held nothing s) (seen j twin_held nothing z) (looked_at h t list) (λ q j. looked_good G H h t list fine q j)
-                  (λ q here. carries.samples q here before s z r)))
-              (clear_turn before (made (active_in h t list)) (first_unclear (seen i held nothing s) (looked_at h t list)) (cycle i held (entries (active_in h t list)) s)
-                  (cycle j twin_held (entries (active_in h t list)) z) (carries.cycles h t before s z r)))
+          (sym (ap (first_unclear (seen j twin_held nothing z)) (looked_at-moved G H h k matches t list fine)
+          ∙ first_unclear-moved faults H told (seen i held nothing s) (seen j twin_held nothing z) (looked_at h t list) (λ q j. looked_good G H h t list fine q j)
+          (λ q here. carries.samples q here before s z r)))
+          (clear_turn before (made (active_in h t list)) (first_unclear (seen i held nothing s) (looked_at h t list)) (cycle i held (entries (active_in h t list)) s)
+          (cycle j twin_held (entries (active_in h t list)) z) (carries.cycles h t before s z r)))
 
       island_from_carries : (left t : ℕ) (h k : History) → Matches G H h k
           → Carries pace R faults (island_count_from made i held list left t h) (island_from i held list left t h) (island_from j twin_held others left t k)
@@ -207,7 +207,7 @@ module _ (move : PortRef → PortRef) where
       island_from_carries (suc left) t h k matches before s z (suc n) zero room r = absurd (no_room pace n room)
       island_from_carries (suc left) t h k matches before s z (suc n) (suc m) room r =
           let now : Matches G H (and_now h t (seen i held nothing s)) (and_now k t (seen j twin_held nothing z)) =
-              now_matches G H t h k (seen i held nothing s) (seen j twin_held nothing z) matches (λ q here. carries.samples q here before s z r) in
+          now_matches G H t h k (seen i held nothing s) (seen j twin_held nothing z) matches (λ q here. carries.samples q here before s z r) in
           turn_carried pace R faults (idle i) (idle j) carries.rests before (made (active_in (and_now h t (seen i held nothing s)) t list)) s z
           (island_turn i held list t (and_now h t (seen i held nothing s)) s) (island_turn j twin_held others t (and_now k t (seen j twin_held nothing z)) z)
           (λ after. island_count_from made i held list left (suc t) (and_now h t (seen i held nothing s)) after n)
@@ -223,5 +223,5 @@ module _ (move : PortRef → PortRef) where
         subst (λ list. Carried pace R faults before (island_count made i held form s n) (island i held form s n) (island_from j twin_held list (form_length (part_of j) (moved_form move form)) 0 no_history z m))
         (sym (form_flat-moved (part_of i) (part_of j) lengths form 0 []))
         (subst (λ left. Carried pace R faults before (island_count made i held form s n) (island i held form s n) (island_from j twin_held (map (moved_occurrence move) (form_flat (part_of i) form 0 [])) left 0 no_history z m))
-            (sym (form_length-moved (part_of i) (part_of j) lengths form))
-            (island_from_carries (form_flat (part_of i) form 0 []) fine carries (form_length (part_of i) form) 0 no_history no_history (λ port at here. refl) before s z n m room r))
+        (sym (form_length-moved (part_of i) (part_of j) lengths form))
+        (island_from_carries (form_flat (part_of i) form 0 []) fine carries (form_length (part_of i) form) 0 no_history no_history (λ port at here. refl) before s z n m room r))

@@ -1,9 +1,9 @@
 -- Worked values of what is counted, moved and unwrapped; each was worked by hand from the sentence above it.
 use Rattle.std.specs.Prelude.{◌≡◌, ℕ, ◌+◌, nat_eq, nat_lt, Bool, true, [], ◌∷◌, None, refl, if◌then◌else◌}
 use Rattle.cx_meaning.specs.declared.ports.PortRef.{PortRef}
-use Rattle.cx_meaning.specs.declared.ports.PortRef.TheVariants.{Cell, Input, Literal}
-use Rattle.cx_meaning.specs.Designs.{PlainGuard, Negation, Atom, PlainForm, Seq, Par, If, While, Repeat, PlainStatement, Placed, statements_of}
-use Rattle.cx_meaning.specs.Answers.{Answer, End, More, Holds, Fails}
+use Rattle.cx_meaning.specs.declared.ports.PortRef.TheVariants.{Cell, Input}
+use Rattle.cx_meaning.specs.Designs.{Negation, Atom, If, While, Repeat}
+use Rattle.cx_meaning.specs.Answers.{End, More, Holds, Fails}
 use Rattle.cx_meaning.specs.Control.{Leaves}
 use Rattle.cx_meaning.proofs.KnownDesigns.{placed, st, enable, seq, par}
 use Rattle.cx_rewrites.specs.Moving.{moved_guard, moved_statement}

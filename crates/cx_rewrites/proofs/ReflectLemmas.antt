@@ -9,7 +9,7 @@ use Rattle.cx_meaning.specs.declared.ports.PortRef.TheVariants as ports
 use Rattle.cx_meaning.specs.Designs.{PlainGuard, Always, Atom, Negation, All, Any, Compared, Within, PlainGuards, no_guards, a_guard, PlainAssign}
 use Rattle.cx_meaning.specs.Instances.{Instance, At, part_of, cells_of, cell_at}
 use Rattle.cx_meaning.specs.Active.{Active, Acting, drivers}
-use Rattle.cx_meaning.specs.Sights.{In, GuardNames, AnyNames, PartPort, Go, AnInput, AnOutput, ItsDone, part_port}
+use Rattle.cx_meaning.specs.Sights.{GuardNames, AnyNames, PartPort, Go, AnInput, AnOutput, ItsDone, part_port}
 use Rattle.cx_rules.specs.Footprints.{AssignNames, Mentions, SideLeads, PartLeads, CellLeads, Leads, Depends, at_once, by_way_of}
 use Rattle.cx_rules.specs.RaceRule.{HasCycle}
 use Rattle.cx_rewrites.specs.Moving.{moved_guard, moved_guards, moved_assign, moved_acting}

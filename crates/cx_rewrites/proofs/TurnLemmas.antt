@@ -16,7 +16,7 @@ use Rattle.cx_meaning.specs.Islands.{turn_of}
 use Rattle.cx_meaning.specs.Calls.{hole_turn, group_turn, test_of, test, captures, fault_below, lift_answer, inputs_of_call, after_child, call}
 use Rattle.cx_meaning.specs.Running.{Children}
 use Rattle.cx_rewrites.specs.Tallies.{Tally, none, plus, at_cell, below, Counted, then_count, turn_count, one_count, turns_count}
-use Rattle.cx_rewrites.specs.Carrying.{Pace, Room, Rests, IfExact, TestCarried, Carried, Carries, TurnCarried}
+use Rattle.cx_rewrites.specs.Carrying.{Pace, TestCarried, Carried, Carries, TurnCarried}
 use Rattle.cx_rewrites.specs.Turns.{IsSeenAlike, IsTold, GroupCarries, CallCarries}
 use Rattle.cx_rewrites.proofs.TallyLemmas.{plus-none}
 use Rattle.cx_rewrites.proofs.PaceLemmas.{if_exact, then_exact}
@@ -70,7 +70,7 @@ module _ (pace : Pace) (R : Tally → State → State → Type 0) (faults : Faul
     after_carries true is before s z n m room r =
         subst (λ k. Carried pace R faults before k (after_child i held g c true s n) (after_child j twin_held h e true z m)) (capture_none (λ s1. turn_of (cycle i held (capture g c) s1)) s n)
         (one_carries pace R faults (idle i) (idle j) carries.rests (λ s1. turn_of (cycle i held (capture g c) s1)) (λ z1. turn_of (cycle j twin_held (capture h e) z1)) none (carries.capture_cycle is)
-            (λ s1 k. none) (idle_turn (idle i)) (idle_turn (idle j)) (idle_carries pace R faults (idle i) (idle j) carries.rests) before s z n m room r)
+        (λ s1 k. none) (idle_turn (idle i)) (idle_turn (idle j)) (idle_carries pace R faults (idle i) (idle j) carries.rests) before s z n m room r)
 
     -- a run of the child, as a run of the instance
     lift_carried : (before counted : Tally) (s z : State) (o x : Answer State Fault) → R before s z → Carried pace Q child_faults (at_cell c before) counted o x
@@ -92,11 +92,11 @@ module _ (pace : Pace) (R : Tally → State → State → Type 0) (faults : Faul
         subst (λ k. Carried pace R faults before k (call i children held g c s n) (call j others twin_held h e z m))
         (ap (plus child_counts) (then_none child_run n) ∙ plus-none child_counts)
         (then_carried pace R faults before child_counts n m room child_run (lift_answer e z (others e (inputs_of_call j twin_held h e z) (under e z) m)) (λ s1 k. none)
-            (after_child i held g c (captures i g)) (after_child j twin_held h e (captures j h))
-            (subst (λ own. Carried pace R faults before child_counts child_run (lift_answer e z (others e own (under e z) m))) same_inputs
-                (lift_carried before (counts inputs (under c s) n) s z (children c inputs (under c s) n) (others e inputs (under e z) m) r
-                    (kids inputs (at_cell c before) (under c s) (under e z) n m room (carries.begins before s z r))))
-            (subst (λ b. Carries pace R faults (λ s1 k. none) (after_child i held g c (captures i g)) (after_child j twin_held h e b)) (sym carries.captured) (after_carries (captures i g) refl)))
+        (after_child i held g c (captures i g)) (after_child j twin_held h e (captures j h))
+        (subst (λ own. Carried pace R faults before child_counts child_run (lift_answer e z (others e own (under e z) m))) same_inputs
+        (lift_carried before (counts inputs (under c s) n) s z (children c inputs (under c s) n) (others e inputs (under e z) m) r
+        (kids inputs (at_cell c before) (under c s) (under e z) n m room (carries.begins before s z r))))
+        (subst (λ b. Carries pace R faults (λ s1 k. none) (after_child i held g c (captures i g)) (after_child j twin_held h e b)) (sym carries.captured) (after_carries (captures i g) refl)))
       where
         inputs : Held
         inputs = inputs_of_call i held g c s

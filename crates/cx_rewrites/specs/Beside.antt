@@ -1,14 +1,13 @@
 -- Two statements beside each other, over the leaves of two designs: their parts stand beside each other, down to parts of which the one
 -- carries the other outright.
-use Rattle.std.specs.Prelude.{◌≡◌, ℕ, List, Option, Some}
+use Rattle.std.specs.Prelude.{◌≡◌, ℕ, Option, Some}
 use Rattle.cx_text.specs.declared.places.Place.{Place}
 use Rattle.cx_meaning.specs.declared.ports.PortRef.{PortRef}
 use Rattle.cx_meaning.specs.declared.ports.PlacedPort.{PlacedPort}
 use Rattle.cx_meaning.specs.Designs.{PlainForm, Empty, Seq, Par, If, While, Repeat, PlainStatement, Placed, PlainStatements, no_statements, a_statement}
-use Rattle.cx_meaning.specs.Sights.{In}
 use Rattle.cx_meaning.specs.Answers.{End}
 use Rattle.cx_meaning.specs.Control.{Leaves, groups_in, run_form, run, run_parts, run_arms}
-use Rattle.cx_rules.specs.Items.{Context, Visited, visit_parts, test_in}
+use Rattle.cx_rules.specs.Items.{Context, visit_parts, test_in}
 use Rattle.cx_frames.proofs.ControlFrames.{Holds}
 use Rattle.cx_rewrites.specs.Moving.{moved_form, moved_statement}
 use Rattle.cx_rewrites.specs.Tallies.{Tally, none, plus, Counting, count_form, count, count_parts, count_arms}

@@ -16,8 +16,11 @@ pub struct LoneParts;
 
 impl Rewriting for LoneParts {
     ghost stands = { λ counted s z. s ≡ z };
+
     ghost groups = { λ g. ⊤ };
+
     ghost forms = { λ form. ⊤ };
+
     ghost inside = { λ p. ⊤ };
 }
 

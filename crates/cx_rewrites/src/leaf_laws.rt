@@ -69,15 +69,15 @@ pub fn cycles_carry<W: Rewriting>()
     ensures ends { (pace : Pace) (faults : Fault → Fault) (one : Tally) (i j : Instance) (held twin_held : Held) (act more : Active)
         → IfExact pace ⊥
         → ((before : Tally) (s z : State) → W.stands before s z → (e : ℕ) → e < cell_count (cells_of j)
-            → CellGoes i j held twin_held act more s z e)
+        → CellGoes i j held twin_held act more s z e)
         → ((before : Tally) (s z after : State) → W.stands before s z → cycle i held act s ≡ Goes after
-            → W.stands (plus before one) after (left_by j twin_held more z))
+        → W.stands (plus before one) after (left_by j twin_held more z))
         → CycleCarries pace W.stands faults one i j held twin_held act more }
     ensures follows { (pace : Pace) (faults : Fault → Fault) (one : Tally) (i j : Instance) (held twin_held : Held) (act more : Active)
         → ((before : Tally) (s z : State) → W.stands before s z
-            → OutcomesFollow faults (comes_to i held act s) (comes_to j twin_held more z) 0 (cell_count (cells_of i)) 0 (cell_count (cells_of j)))
+        → OutcomesFollow faults (comes_to i held act s) (comes_to j twin_held more z) 0 (cell_count (cells_of i)) 0 (cell_count (cells_of j)))
         → ((before : Tally) (s z after : State) → W.stands before s z → cycle i held act s ≡ Goes after
-            → W.stands (plus before one) after (left_by j twin_held more z))
+        → W.stands (plus before one) after (left_by j twin_held more z))
         → CycleCarries pace W.stands faults one i j held twin_held act more }
     ensures left { (i j : Instance) (held twin_held : Held) (act more : Active) (s z after : State) (c e : ℕ)
         → CellAlike i j held twin_held act more s z c e → cycle i held act s ≡ Goes after

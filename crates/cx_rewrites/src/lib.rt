@@ -1,9 +1,9 @@
 //! Designs that run alike: laws by which a rewriting of a design is shown to keep its runs.
 #![tactic(auto)]
 
-mod rewriting;
 pub mod examples;
 pub mod leaf_laws;
+mod rewriting;
 pub mod run_laws;
 pub mod sight_laws;
 

@@ -70,9 +70,9 @@ pub fn moved_ports_are_driven()
 pub fn sets_are_closed<W: Rewriting>()
     ensures { (i : Instance) (act : Active) (p q : PortRef)
         → ((o : Owned) (k : ℕ) (r : PortRef) → In (source_order (part_of i)) o → offset_of act o.owner ≡ Some k
-            → W.inside o.assign.target → AssignNames o.assign r → W.inside r)
+        → W.inside o.assign.target → AssignNames o.assign r → W.inside r)
         → ((c n m : ℕ) (row : Row) → cell_at (cells_of i) c ≡ OfRow row → side_of row n ≡ Output → row.reads n m ≡ true
-            → W.inside (Cell c n) → W.inside (Cell c m))
+        → W.inside (Cell c n) → W.inside (Cell c m))
         → W.inside p → Leads i act p q → W.inside q }
 {}
 
