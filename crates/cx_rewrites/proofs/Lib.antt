@@ -16,5 +16,6 @@ pub mod IslandLemmas
 pub mod CellLemmas
 pub mod ReflectLemmas
 pub mod ClosedLemmas
+pub mod StandingLemmas
 mod LoneLemmas
 pub mod KnownRewrites

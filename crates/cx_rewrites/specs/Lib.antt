@@ -8,4 +8,5 @@ pub mod Solving
 pub mod Moves
 pub mod Driving
 pub mod Renaming
+pub mod Standing
 pub mod LoneParts
