@@ -6,5 +6,6 @@ pub mod leaf_laws;
 mod rewriting;
 pub mod run_laws;
 pub mod sight_laws;
+pub mod state_laws;
 
 pub use rewriting::Rewriting;
