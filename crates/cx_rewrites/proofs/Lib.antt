@@ -1,0 +1,21 @@
+pub mod TallyLemmas
+pub mod PaceLemmas
+pub mod CarryLemmas
+mod PartLemmas
+pub mod BesideLemmas
+pub mod MovedLemmas
+pub mod FollowLemmas
+pub mod SolvedLemmas
+pub mod TargetLemmas
+pub mod MoveLemmas
+mod OrderLemmas
+pub mod DriverLemmas
+pub mod RenamedLemmas
+pub mod TurnLemmas
+pub mod IslandLemmas
+pub mod CellLemmas
+pub mod ReflectLemmas
+pub mod ClosedLemmas
+pub mod StandingLemmas
+mod LoneLemmas
+pub mod KnownRewrites

@@ -1,0 +1,12 @@
+pub mod Moving
+pub mod Tallies
+pub mod Carrying
+pub mod Beside
+pub mod Turns
+pub mod Cells
+pub mod Solving
+pub mod Moves
+pub mod Driving
+pub mod Renaming
+pub mod Standing
+pub mod LoneParts
