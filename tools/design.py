@@ -701,7 +701,7 @@ class Design:
     def component_at(self, line, column=1):
         """The component in which a place stands, else the last that begins before it."""
         before = [part for part in self.parts if part.first.place <= (line, column)]
-        return before[-1] if before else None
+        return before[-1] if before else self.parts[0]
 
 
 def read(text):

@@ -119,7 +119,8 @@ def memory_note(it, part, one, other, widths):
             size = cell.numbers[at - sizes]
             numbers = [str(width) if k == at else str(number) for k, number in enumerate(cell.numbers)]
             mends = [('to mend it', f'where the declaration is wrong, `{cell.name} = {cell.kind}({", ".join(numbers)})`: addresses of {bits(width)} reach its {size} words')]
-            return mends if size <= 1 << width else [('note', f'addresses of {bits(width)} would not reach its {size} words')]
+            mends = mends if size <= 1 << width else [('note', f'addresses of {bits(width)} would not reach its {size} words')]
+            return mends + explain_control.too_many_words(cell)
     return []
 
 
@@ -299,6 +300,9 @@ def of_left_out(it):
                        [('to mend it', 'put its components into this file; `tools/calyx port` does it where the file is beside this one')])
     if hole:
         return left_out_hole(it, part, hole)
+    binding = bind_at(it, part)
+    if binding:
+        return binding
     cell = next((cell for cell in part.cells if it.place in (cell.token.place, cell.first.place)), None)
     if cell:
         wanted = 'a `std_mem`, `comb_mem` or `seq_mem` of at most 64 bits in `main`'
@@ -314,6 +318,21 @@ def of_left_out(it):
     if bind:
         return Message(span_of(bind.first, bind.last), f'an output of an invoke goes to `r.in` of a `std_reg`, and `{bind.text}` is none', [('to mend it', 'bind it to the `in` of a register, and read that behind the invoke')])
     return left_out_name(it, part, operand)
+
+
+def bind_at(it, part):
+    """What is wrong with the port that an invoke binds at the place."""
+    for one in part.control.all():
+        cell = part.cell(one.name) if one.kind == 'invoke' else None
+        for side, pairs in (('inputs', one.inputs), ('outputs', one.outputs)):
+            for name, _ in pairs:
+                if name.place != it.place or cell is None:
+                    continue
+                if name.text in ('done', designs.starts_by(cell.kind if cell.kind not in it.design.by_name else '')):
+                    return Message(span_of(name), f'`{name.text}` of `{cell.name}` is driven or awaited by the invoke itself', [('to mend it', 'cut it')])
+                other = 'an output' if side == 'inputs' else 'an input'
+                return Message(span_of(name), f'`{name.text}` of `{cell.name}` is {other}, and stands among the {side} of the invoke', [('to mend it', '`invoke c(INPUT = a.out, ..)(OUTPUT = r.in, ..);`')])
+    return None
 
 
 def left_out_hole(it, part, hole):

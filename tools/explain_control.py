@@ -170,8 +170,9 @@ def of_race(it):
     other = next((one for one in uses if one is not drives), None)
     if drives is None or other is None:
         return Message(it.span(), f'two arms use `{it.name}`')
-    told = [f'arm {number} (`{arm.told()}`, line {arm.line}) {use[1]}' for number, arm, use in (drives, other)]
-    notes = [(span, text) for _, _, use in (drives, other) for span, text in use[2]]
+    two = sorted((drives, other), key=lambda one: one[0])
+    told = [f'arm {number} (`{arm.told()}`, line {arm.line}) {use[1]}' for number, arm, use in two]
+    notes = [(span, text) for _, _, use in two for span, text in use[2]]
     cell = part.cell(it.name)
     mend = 'put the two one after the other, or give each arm a cell of its own'
     if cell and cell.kind in it.design.by_name:
@@ -205,6 +206,7 @@ def how_used(part, arm, name):
     return None
 
 
+MOST_WORDS = 4194304
 LIMITS = {
     'cells': 'a component has at most 4,096 cells', 'groups': 'a component has at most 4,096 groups, each `invoke` one more', 'repeat': 'a `repeat` has fewer than 2^32 rounds',
     'occurrences': 'an island has at most 4,096 enables, each once however often it is repeated', 'latency': 'an island has fewer than 2^32 cycles',
@@ -223,6 +225,11 @@ def of_limit(it):
         notes.append(('note', f'the memories of all components, each once, have {total:,} words'))
         span = Span(*it.place)
     return Message(span, f'a limit on {it.name}: {LIMITS.get(it.name, "see docs/LANGUAGE.md")}', notes)
+
+
+def too_many_words(cell):
+    """A note on a memory that is over the limit by itself, which is told only once all else is mended."""
+    return [('note', f'`{cell.told()}` has {words_of(cell):,} words; {LIMITS["words"]}')] if words_of(cell) > MOST_WORDS else []
 
 
 def words_of(cell):

@@ -111,8 +111,16 @@ def of_form(it):
     """The tools read on where the program does not: a form of Calyx that is left out."""
     found = next((one for one in it.design.foreign if one.first.place <= it.place <= one.last.place and one.name in forms.FORMS), None)
     if found is None:
-        return it.span(), f'what stands here goes on no sentence of the grammar: `{it.token.text}`', []
+        text, notes = WORD_OF_FORM.get(it.token.text, (f'`{it.token.text}` goes on no sentence of the grammar here', []))
+        return it.span(), text, notes
     return it.span(), f'a form of Calyx that is not read here: {found.name}', [('to mend it', forms.told(forms.FORMS[found.name]))]
+
+
+WORD_OF_FORM = {
+    'import': ('an `import` stands before all components', []),
+    'while': ('there is no `static while`: static control has a length', [('to mend it', '`while` in dynamic control, or `static repeat`')]),
+    'with': ('a `static if` has no `with`', [('to mend it', 'drive its port by continuous assignments of registers')]),
+}
 
 
 def of_form_before(it):

@@ -148,7 +148,9 @@ def of_fault(seen, kind, where, turn):
     if fault.note:
         return Message(spot_of(look, fault), f'in turn {turn} `{where}` has no value: {fault.note}{behind}')
     no_value = f', so `{where}` has no value' if at_port != where else ''
-    return Message(spot_of(look, fault), f'in turn {turn} nothing drives `{at_port}`{no_value}{behind}', [*why_undriven(look, fault)])
+    notes = [*why_undriven(look, fault)]
+    spot = spot_of(look, fault) or next((word for word, _ in notes if isinstance(word, messages.Span)), None)
+    return Message(spot, f'in turn {turn} nothing drives `{at_port}`{no_value}{behind}', notes)
 
 
 def drivers(found):

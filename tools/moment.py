@@ -6,6 +6,7 @@ some ten thousand cycles of a small design; it is cut off after SECONDS. Where a
 import time
 
 import cells
+import design as designs
 import numbering
 import sights
 import verilog
@@ -122,7 +123,10 @@ def operand_of(look, path, instance, cell, port):
             if it.text == name or (not path and it.cell == cell and it.port == port):
                 return it
     tests = [it.test for it in look.part.control.all() if it.test]
-    return next((it for it in tests if it.text == name), None)
+    named = next((it for it in tests if it.text == name), None)
+    if named is None and look.part.cell(cell):
+        return designs.Operand(look.part.token, look.part.token, cell=cell, port=port)
+    return named
 
 
 def told_of(look, it, active):

@@ -86,7 +86,7 @@ class Renamed:
     def __init__(self, it, modules):
         self.by_module = {}
         for number, (module, part) in enumerate(numbering.module_names(it)):
-            told = {name: word_of(what) for name, what, _ in names(it, part, number, modules[module])}
+            told = {name: word_of(re.sub(r'^group (.*) goes$', r'go \1', what)) for name, what, _ in names(it, part, number, modules[module])}
             inner = {f'cx_i{at}': cell for at, cell in enumerate(part.cells)}
             self.by_module[module] = told, inner
         self.modules_of_parts = {part.name: module for module, part in numbering.module_names(it)}

@@ -69,9 +69,16 @@ class Look:
         if port.is_input:
             return self.target(operand, port.side == 'enable')
         cell = self.part.cell(operand.cell)
-        if port.side == 'registered' or cell.kind in self.design.by_name:
+        if port.side == 'registered':
             return self.net(operand.cell, operand.port)
-        return self.computed(operand, cell)
+        return self.from_inside(operand, cell) if cell.kind in self.design.by_name else self.computed(operand, cell)
+
+    def from_inside(self, operand, cell):
+        """An output of a component cell: what the continuous assignments of the component give."""
+        number = self.part.cells.index(cell)
+        inner = Look(self.design, self.design.by_name[cell.kind], self.scope.inside[f'cx_i{number}'], set(), self.named(cell.name), self)
+        value = inner.target(dataclasses.replace(operand, cell=''), is_enabling=False)
+        return self.behind(operand, value) if isinstance(value, Fault) else value
 
     def from_outside(self, operand):
         """An input of the signature: what the instance around drives it with."""

@@ -43,7 +43,8 @@ class Warnings(unittest.TestCase):
             self.assertEqual((status, out), (0, '{"cycles":6,"memories":{}}\n'))
             self.assertIn('d.futil:5:5: warning: `@extern` has no meaning', told)
             self.assertIn('d.json: warning: `mem` is a memory without `@external`', told)
-            self.assertIn('--lint shows them', common.calyx('run', 'd.futil', 'd.json', folder=folder)[2])
+            told = common.calyx('run', 'd.futil', 'd.json', folder=folder)[2]
+            self.assertEqual(told, 'd.json: warning: `mem` is a memory without `@external` (line 5), so its words are passed over\n1 warning: --lint shows it\n')
 
 
 class Front(unittest.TestCase):
