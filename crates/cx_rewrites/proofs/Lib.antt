@@ -17,5 +17,6 @@ pub mod CellLemmas
 pub mod ReflectLemmas
 pub mod ClosedLemmas
 pub mod StandingLemmas
+pub mod PlaceLemmas
 mod LoneLemmas
 pub mod KnownRewrites
