@@ -18,5 +18,6 @@ pub mod ReflectLemmas
 pub mod ClosedLemmas
 pub mod StandingLemmas
 pub mod PlaceLemmas
+pub mod PlaceRuns
 mod LoneLemmas
 pub mod KnownRewrites

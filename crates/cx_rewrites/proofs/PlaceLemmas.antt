@@ -100,10 +100,10 @@ same_at (an_instance child rest) (a_primitive twin more) h c = absurd h
 same_at (an_instance child rest) (an_instance twin more) (t, h) zero = a_child_there t
 same_at (an_instance child rest) (an_instance twin more) (t, h) (suc c) = same_at rest more h c
 
-same_parts : (i j : Instance) → SameTree i j → SamePart (part_of i) (part_of j)
+pub same_parts : (i j : Instance) → SameTree i j → SamePart (part_of i) (part_of j)
 same_parts (Node part cells) (Node other more) (h, hs) = h
 
-same_cells : (i j : Instance) → SameTree i j → SameCells (cells_of i) (cells_of j)
+pub same_cells : (i j : Instance) → SameTree i j → SameCells (cells_of i) (cells_of j)
 same_cells (Node part cells) (Node other more) (h, hs) = hs
 
 part_port-same : (part other : PlainComponent) → SamePart part other → (p : ℕ) → part_port part p ≡ part_port other p
