@@ -18,6 +18,8 @@ pub mod ReflectLemmas
 pub mod ClosedLemmas
 pub mod StandingLemmas
 pub mod PlaceLemmas
+mod PlaceStatements
 pub mod PlaceRuns
+pub mod PlaceDesigns
 mod LoneLemmas
 pub mod KnownRewrites

@@ -1,9 +1,6 @@
 -- WHAT IS SEEN AND WHAT A CYCLE DOES hangs on no place, but for the order of assignments.
-use Rattle.std.proofs.Common.{◌≡◌, ℕ, zero, suc, Bool, true, false, ◌||◌, List, [], ◌∷◌, ◌++◌, length, map, Option, Some, None, refl, sym, ap, ◌∙◌}
-use Rattle.std.specs.Prelude.{get_or}
+use Rattle.std.proofs.Common.{◌≡◌, ℕ, zero, suc, Bool, true, false, List, [], ◌∷◌, ◌++◌, length, map, Option, Some, None, refl, sym, ap, ◌∙◌}
 use Rattle.std.proofs.Math.Path.{fun_ext}
-use Rattle.std.proofs.Math.ListN.{get_or-map}
-use Rattle.std.proofs.lemmas.List.{length-map}
 use Rattle.cx_prim.specs.CellStates.{CellState}
 use Rattle.cx_prim.specs.Rows.{Row}
 use Rattle.cx_meaning.specs.declared.ports.PortRef.{PortRef}
@@ -13,14 +10,13 @@ use Rattle.cx_meaning.specs.declared.sights.Seen.TheVariants.{Undefined}
 use Rattle.cx_meaning.specs.Rows.{side_of}
 use Rattle.cx_prim.specs.declared.ports.Side.{Side}
 use Rattle.cx_prim.specs.declared.ports.Side.TheVariants as sides
-use Rattle.cx_meaning.specs.Designs.{PlainGuard, Always, Atom, Negation, All, Any, Compared, Within, PlainGuards, no_guards, a_guard, PlainAssign, PlainGroup, PlainComponent, group_at, no_group}
-use Rattle.cx_meaning.specs.Instances.{Instance, Node, Cells, no_cells, a_primitive, an_instance, At, Nothing, OfRow, OfInstance, part_of, cells_of, cell_at, cell_count, Path, State, Set, under, idle_at, idle_below, idle}
+use Rattle.cx_meaning.specs.Designs.{PlainGuard, Always, Atom, Negation, All, Any, Compared, Within, PlainGuards, no_guards, a_guard, PlainComponent}
+use Rattle.cx_meaning.specs.Instances.{Instance, Node, Cells, no_cells, a_primitive, an_instance, At, Nothing, OfRow, OfInstance, part_of, cells_of, cell_at, cell_count, Path, State, under, idle_at, idle_below, idle}
 use Rattle.cx_meaning.specs.Active.{Active, nothing, Acting, Owned, source_order, offset_of, if_acting, same_port, if_target, acting, drivers}
 use Rattle.cx_meaning.specs.Truths.{not_truth, and_truth, or_truth}
-use Rattle.cx_meaning.specs.Sights.{Look, Below, Held, unheld, bit_of, guard_truth, all_truth, any_truth, take_guard, taken, settle, target_seen, PartPort, Go, AnInput, AnOutput, ItsDone, output_port, later_port, part_port, side_step, part_step, cell_step, step, approach, numbered, ports_of_cells, ports_of, steps_enough, seen, outputs_below}
-use Rattle.cx_meaning.specs.Cycles.{Outcome, Next, outcome_at, outcome_of, first_fault, Ended, ended, every_cell, cycle_by, cycle}
-use Rattle.cx_meaning.specs.Control.{targets_cell, assigns_drive}
-use Rattle.cx_rewrites.specs.Places.{unplaced_guard, unplaced_guards, unplaced_assign, unplaced_group, unplaced_owned, unplaced_acting, SamePart}
+use Rattle.cx_meaning.specs.Sights.{Look, Below, Held, unheld, bit_of, guard_truth, all_truth, any_truth, take_guard, taken, settle, target_seen, PartPort, Go, AnInput, AnOutput, ItsDone, later_port, part_port, side_step, part_step, cell_step, step, approach, numbered, ports_of_cells, ports_of, steps_enough, seen, outputs_below}
+use Rattle.cx_meaning.specs.Cycles.{Outcome, outcome_at, outcome_of, ended, every_cell, cycle_by, cycle}
+use Rattle.cx_rewrites.specs.Places.{unplaced_guard, unplaced_guards, unplaced_assign, unplaced_owned, unplaced_acting, SamePart}
 
 -- guards and targets
 module _ (look : Look) where

@@ -1,5 +1,5 @@
 use Rattle.cx_meaning.specs.Instances.{tree_of}
-use Rattle.cx_rewrites.proofs.PlaceRuns.{tree_of-same, run_main-same, words_of-same}
+use Rattle.cx_rewrites.proofs.PlaceDesigns.{tree_of-same, run_main-same, words_of-same}
 use Rattle.cx_rewrites.proofs.place_laws.places_do_not_matter.Goals as goal
 
 pub returns-clause-run : goal.returns-clause-run
