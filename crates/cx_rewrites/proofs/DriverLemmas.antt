@@ -1,6 +1,7 @@
 -- What drives a moved port are the moved assignments that drive the port, with others between or not.
 use Rattle.std.proofs.Common.{◌≡◌, ℕ, suc, inl, inr, Bool, true, false, ◌&&◌, List, [], ◌∷◌, ◌++◌, map, Option, Some, None, refl, sym, ap, ◌∙◌, subst}
 use Rattle.std.specs.Prelude.{if◌then◌else◌}
+use Rattle.std.proofs.lemmas.List.{map-append}
 use Rattle.cx_meaning.specs.declared.ports.PortRef.{PortRef}
 use Rattle.cx_meaning.specs.Designs.{PlainAssign, PlainGroup, PlainComponent}
 use Rattle.cx_meaning.specs.Active.{Active, Acting, Owned, owned, owned_by_groups, no_later, placed_in, by_place, offset_of, if_acting, same_port, if_target, acting, drivers}
@@ -38,16 +39,12 @@ module _ (move : PortRef → PortRef) where
   owned-moved owner [] = refl
   owned-moved owner (a ∷ rest) = ap (λ x. record { owner = owner; assign = moved_assign move a } ∷ x) (owned-moved owner rest)
 
-  map-++ : (xs ys : List Owned) → map (moved_owned move) (xs ++ ys) ≡ map (moved_owned move) xs ++ map (moved_owned move) ys
-  map-++ [] ys = refl
-  map-++ (x ∷ xs) ys = ap (λ z. moved_owned move x ∷ z) (map-++ xs ys)
-
   owned_by_groups-moved : (g : ℕ) (list : List PlainGroup) → owned_by_groups g (map (moved_group move) list) ≡ map (moved_owned move) (owned_by_groups g list)
   owned_by_groups-moved g [] = refl
   owned_by_groups-moved g (x ∷ xs) =
       ap (λ z. z ++ owned_by_groups (suc g) (map (moved_group move) xs)) (owned-moved (Some g) x.assigns)
       ∙ ap (λ z. map (moved_owned move) (owned (Some g) x.assigns) ++ z) (owned_by_groups-moved (suc g) xs)
-      ∙ sym (map-++ (owned (Some g) x.assigns) (owned_by_groups (suc g) xs))
+      ∙ sym (map-append (moved_owned move) (owned (Some g) x.assigns) (owned_by_groups (suc g) xs))
 
   assigns_of-moved : (part other : PlainComponent) → other.always ≡ map (moved_assign move) part.always → other.groups ≡ map (moved_group move) part.groups
       → assigns_of other ≡ map (moved_owned move) (assigns_of part)
@@ -56,7 +53,7 @@ module _ (move : PortRef → PortRef) where
       ∙ ap (λ z. owned None (map (moved_assign move) part.always) ++ owned_by_groups 0 z) groups
       ∙ ap (λ z. z ++ owned_by_groups 0 (map (moved_group move) part.groups)) (owned-moved None part.always)
       ∙ ap (λ z. map (moved_owned move) (owned None part.always) ++ z) (owned_by_groups-moved 0 part.groups)
-      ∙ sym (map-++ (owned None part.always) (owned_by_groups 0 part.groups))
+      ∙ sym (map-append (moved_owned move) (owned None part.always) (owned_by_groups 0 part.groups))
 
 module _ (move : PortRef → PortRef) (act more : Active) where
   -- pair by pair the assignment and the moved one, at one offset

@@ -2,6 +2,7 @@
 -- looked at. So an island carries the moved one where its cycles do.
 use Rattle.std.proofs.Common.{◌≡◌, ℕ, zero, suc, ◌+◌, ◌-◌, ◌*◌, max, inl, inr, Bool, true, false, ◌&&◌, nat_le, List, [], ◌∷◌, ◌++◌, map, Option, Some, None, refl, sym, ap, ◌∙◌, subst}
 use Rattle.std.specs.Prelude.{nat_eq, nat_lt, if◌then◌else◌}
+use Rattle.std.proofs.lemmas.List.{map-append}
 use Rattle.cx_meaning.specs.declared.ports.PortRef.{PortRef}
 use Rattle.cx_meaning.specs.declared.sights.Seen.{Seen}
 use Rattle.cx_meaning.specs.declared.sights.Seen.TheVariants as sights
@@ -24,12 +25,8 @@ use Rattle.cx_rewrites.proofs.PaceLemmas.{room_less, no_room, if_exact, if_great
 use Rattle.cx_rewrites.proofs.CarryLemmas.{idle_carries, turn_carried}
 
 module _ (move : PortRef → PortRef) where
-  map-++ : (xs ys : List Occurrence) → map (moved_occurrence move) (xs ++ ys) ≡ map (moved_occurrence move) xs ++ map (moved_occurrence move) ys
-  map-++ [] ys = refl
-  map-++ (x ∷ xs) ys = ap (λ z. moved_occurrence move x ∷ z) (map-++ xs ys)
-
   two_moved : (xs ys us vs : List Occurrence) → us ≡ map (moved_occurrence move) xs → vs ≡ map (moved_occurrence move) ys → us ++ vs ≡ map (moved_occurrence move) (xs ++ ys)
-  two_moved xs ys us vs e h = ap (λ z. z ++ vs) e ∙ ap (λ z. map (moved_occurrence move) xs ++ z) h ∙ sym (map-++ xs ys)
+  two_moved xs ys us vs e h = ap (λ z. z ++ vs) e ∙ ap (λ z. map (moved_occurrence move) xs ++ z) h ∙ sym (map-append (moved_occurrence move) xs ys)
 
   module _ (part other : PlainComponent) (lengths : (g : ℕ) → group_length other g ≡ group_length part g) where
     mutual

@@ -17,5 +17,9 @@ pub mod CellLemmas
 pub mod ReflectLemmas
 pub mod ClosedLemmas
 pub mod StandingLemmas
+pub mod PlaceLemmas
+mod PlaceStatements
+pub mod PlaceRuns
+pub mod PlaceDesigns
 mod LoneLemmas
 pub mod KnownRewrites

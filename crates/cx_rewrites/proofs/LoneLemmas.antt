@@ -1,5 +1,6 @@
 -- A seq of one part runs as that part: the law of runs, used once.
 use Rattle.std.proofs.Common.{◌≡◌, ℕ, List, ◌++◌, refl, sym, ap, ◌∙◌, subst}
+use Rattle.std.proofs.Math.Path.{ap₂}
 use Rattle.std.proofs.lemmas.List.{append-nil}
 use Rattle.cx_meaning.specs.Designs.{PlainComponent, PlainForm, Empty, Enable, Seq, Par, If, While, Repeat, StaticSeq, StaticPar, StaticIf, StaticRepeat, Timed, PlainStatement, Placed, PlainStatements, no_statements, a_statement}
 use Rattle.cx_meaning.specs.Instances.{Instance, Node, Cells, State, merge}
@@ -15,9 +16,6 @@ use Rattle.cx_rewrites.specs.LoneParts.{unwrapped_form, unwrapped, all_unwrapped
 use Rattle.cx_rewrites.proofs.FollowLemmas.{same_carries, carried_is_same}
 use Rattle.cx_rewrites.proofs.BesideLemmas.{run_carries}
 
-two_lists : {xs ys us vs : List ℕ} → us ≡ xs → vs ≡ ys → us ++ vs ≡ xs ++ ys
-two_lists {xs} {ys} {us} {vs} e f = ap (λ list. list ++ vs) e ∙ ap (λ list. xs ++ list) f
-
 -- the groups stay
 mutual
   groups_in-unwrapped : (form : PlainForm) → groups_in (unwrapped_form form) ≡ groups_in form
@@ -26,9 +24,9 @@ mutual
   groups_in-unwrapped (Seq no_statements) = refl
   groups_in-unwrapped (Seq (a_statement (Placed form place) no_statements)) = groups_in-unwrapped form ∙ sym (append-nil (groups_in form))
   groups_in-unwrapped (Seq (a_statement first (a_statement next rest))) =
-      two_lists (groups_of-unwrapped first) (two_lists (groups_of-unwrapped next) (groups_in_all-unwrapped rest))
+      ap₂ (λ (xs ys : List ℕ). xs ++ ys) (groups_of-unwrapped first) (ap₂ (λ (xs ys : List ℕ). xs ++ ys) (groups_of-unwrapped next) (groups_in_all-unwrapped rest))
   groups_in-unwrapped (Par arms) = groups_in_all-unwrapped arms
-  groups_in-unwrapped (If test comb a b) = ap (with_comb comb) (two_lists (groups_of-unwrapped a) (groups_of-unwrapped b))
+  groups_in-unwrapped (If test comb a b) = ap (with_comb comb) (ap₂ (λ (xs ys : List ℕ). xs ++ ys) (groups_of-unwrapped a) (groups_of-unwrapped b))
   groups_in-unwrapped (While test comb a) = ap (with_comb comb) (groups_of-unwrapped a)
   groups_in-unwrapped (Repeat count a) = groups_of-unwrapped a
   groups_in-unwrapped (StaticSeq length parts) = refl
@@ -42,7 +40,7 @@ mutual
 
   groups_in_all-unwrapped : (ss : PlainStatements) → groups_in_all (all_unwrapped ss) ≡ groups_in_all ss
   groups_in_all-unwrapped no_statements = refl
-  groups_in_all-unwrapped (a_statement s ss) = two_lists (groups_of-unwrapped s) (groups_in_all-unwrapped ss)
+  groups_in_all-unwrapped (a_statement s ss) = ap₂ (λ (xs ys : List ℕ). xs ++ ys) (groups_of-unwrapped s) (groups_in_all-unwrapped ss)
 
 -- the states are the same, so a test says the same, and arms leave the same
 tests_same : (test : State → Test Fault) (s z : State) → s ≡ z → TestCarried Exact (λ f. f) (test s) (test z)

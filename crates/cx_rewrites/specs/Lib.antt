@@ -10,3 +10,4 @@ pub mod Driving
 pub mod Renaming
 pub mod Standing
 pub mod LoneParts
+pub mod Places

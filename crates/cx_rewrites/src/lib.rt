@@ -3,6 +3,7 @@
 
 pub mod examples;
 pub mod leaf_laws;
+pub mod place_laws;
 mod rewriting;
 pub mod run_laws;
 pub mod sight_laws;
