@@ -7,8 +7,9 @@ use Rattle.cx_rules.specs.Sizes.{design_size}
 use Rattle.cx_commands.specs.declared.stops.Stop.{Stop}
 use Rattle.cx_commands.specs.declared.stops.Stop.TheVariants as stops
 use Rattle.cx_driver.specs.Texts.{IsDesignOf, IsTextRefusal}
-use Rattle.cx_driver.specs.Compiled.{IsCompiled, IsCompilable, too_large, CompileBreak, Compiles, IsCompileStop, IsDesignWritten, IsDesignTooLarge, IsRealised, written_source}
+use Rattle.cx_driver.specs.Compiled.{IsCompiled, IsCompilable, too_large, CompileBreak, Compiles, IsCompileStop, IsDesignWritten, IsDesignTooLarge, IsRealised, written_net, written_source}
 use Rattle.cx_driver.specs.Promise.{KeepsPromise}
+use Rattle.cx_power.proofs.SourceLemmas.{source_reset}
 use Rattle.cx_driver.proofs.PromiseLemmas.{promise_is_kept}
 use Rattle.cx_driver.proofs.WrittenNets.{written_nets}
 use Rattle.cx_driver.proofs.WrittenLength.{answer_few}
@@ -55,11 +56,13 @@ text_written bytes text d (Ok x) stands realised h =
         source = written_source d;
         spelled = h.1;
         realises = realised rules.0 rules.1;
+        reset = source_reset (written_net d);
         shape = written_shape d rules.0 rules.1 h.1.sound;
         names = written_names d;
         nets = written_nets text d stands h.0;
         small = answer_few text (bytes x) d stands h.0 h.1;
       };
+      exact = h.1.spelled;
     }
 text_written bytes text d (Err stop) stands realised h = tt
 

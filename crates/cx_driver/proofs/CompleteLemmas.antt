@@ -1,11 +1,11 @@
 -- Files that give an answer stop no command, and what stops one has one status.
-use Rattle.std.proofs.Common.{◌≡◌, ◌⊎◌, inl, inr, ⊎_elim, ℕ, List, Option, Some, None, Ok, Err, IsSomeAnd, codes, sym, ap, ◌∙◌, subst}
+use Rattle.std.proofs.Common.{◌≡◌, ◌⊎◌, inl, inr, ⊎_elim, ℕ, List, Option, Some, None, Ok, Err, codes, sym, ap, ◌∙◌, subst}
 use Rattle.cx_outside.specs.Counts.{HasRisen}
 use Rattle.cx_text.specs.declared.limits.TheConstants.{DESIGN_BYTES, DATA_BYTES, VERILOG_BYTES}
 use Rattle.cx_commands.specs.Commands.{Asked, compile, interp, check, sim, trial, weave, wanted_by}
 use Rattle.cx_driver.specs.Compiled.{IsCompilable, Compiles}
 use Rattle.cx_driver.specs.Interpreted.{Interprets}
-use Rattle.cx_driver.specs.Outcomes.{Checks, Does, IsAnswer, CanAnswer, IsStopped}
+use Rattle.cx_driver.specs.Outcomes.{Checks, Does, IsAnswer, CanAnswer, IsStopped, OfTold}
 use Rattle.cx_driver.specs.Tried.{Tries}
 use Rattle.cx_trial.specs.TrialTree.{trial_tree}
 use Rattle.cx_commands.specs.Lists.{numbers_in}
@@ -55,7 +55,7 @@ tried_status seed a b (inr h) (inr k) = ap stop_status (same_stop a (stops.Rule 
 
 module _ (holds : List ℕ → Option (List ℕ)) where
   -- where a command does something with its files they are within their limits
-  does_read : (command : Asked) (result : Told) → Does (Some holds) command result → Readable holds (wanted_by command)
+  pub does_read : (command : Asked) (result : Told) → Does (Some holds) command result → Readable holds (wanted_by command)
   does_read (compile design) result h = ((h.bytes, h.reads), tt)
   does_read (interp design json budget) result h = ((h.bytes, h.reads), ((h.is.bytes, h.is.reads), tt))
   does_read (check design) result h = ((h.bytes, h.reads), tt)
@@ -142,13 +142,38 @@ module _ (holds : List ℕ → Option (List ℕ)) where
   stop_alone command before after why (refusals.Stop stop) h never (inl memory) = inr (ap stop_status memory)
   stop_alone command before after why (refusals.Stop stop) h never (inr does) = inl (same_status command stop why does h)
 
+-- a trial reads no file, so this holds of it whatever files hold
+abbrev OfAnyTrial : (Asked → Held → Type 0) → Type 0
+OfAnyTrial R = (seed : ℕ) (h k : Held) → R (trial seed) h → R (trial seed) k
+
+cause_of_trial : (before after : ℕ) (refusal : Refusal) → OfAnyTrial (λ command held. HasCause command held before after refusal)
+cause_of_trial before after (refusals.TooLong file seen) seed h k cause = elim cause [ ]
+cause_of_trial before after (refusals.ReadFault file) seed h k cause = elim cause [ ]
+cause_of_trial before after (refusals.Stop stop) seed h k cause = cause
+
+-- so both hold of told files
+module _ (P R : Asked → Held → Type 0) (p_any : OfAnyTrial P) (r_any : OfAnyTrial R) where
+  told_some : (command : Asked) (held : Held) → OfTold command held (P command) → R command held → (holds : List ℕ → Option (List ℕ)) × P command (Some holds) × R command (Some holds)
+  told_some (trial seed) held so own = (λ file. None, p_any seed held (Some (λ file. None)) so, r_any seed held (Some (λ file. None)) own)
+  told_some (compile design) None so own = absurd so
+  told_some (compile design) (Some holds) so own = (holds, so, own)
+  told_some (interp design json budget) None so own = absurd so
+  told_some (interp design json budget) (Some holds) so own = (holds, so, own)
+  told_some (check design) None so own = absurd so
+  told_some (check design) (Some holds) so own = (holds, so, own)
+  told_some (sim verilog json budget) None so own = absurd so
+  told_some (sim verilog json budget) (Some holds) so own = (holds, so, own)
+  told_some (weave design json steps list) None so own = absurd so
+  told_some (weave design json steps list) (Some holds) so own = (holds, so, own)
+
 -- where there is an answer and none is written, memory is wanting
 pub complete_refused : {L M : Type 0} (held : Held) (command : Asked) (before after : ℕ) (status : Status) (refusal : Refusal) → ((status ≡ status_of refusal) × L) ⊎ ((status ≡ statuses.Memory) × M)
-    → HasCause command held before after refusal → IsSomeAnd held (λ holds. CanAnswer (Some holds) command) → (HasRisen before after → ⊥)
+    → HasCause command held before after refusal → OfTold command held (λ h. CanAnswer h command) → (HasRisen before after → ⊥)
     → (status ≡ statuses.Done) ⊎ (status ≡ statuses.WriteFault) ⊎ (status ≡ statuses.Memory)
-complete_refused None command before after status refusal told cause can never = absurd can
-complete_refused (Some holds) command before after status refusal (inl h) cause can never = inr (inr (h.0 ∙ memory_alone holds command before after refusal can never cause))
-complete_refused (Some holds) command before after status refusal (inr h) cause can never = inr (inr h.0)
+complete_refused held command before after status refusal (inl h) cause can never =
+    let told = told_some (λ c k. CanAnswer k c) (λ c k. HasCause c k before after refusal) (λ seed p q own. own) (cause_of_trial before after refusal) command held can cause in
+    inr (inr (h.0 ∙ memory_alone told.0 command before after refusal told.1 never told.2))
+complete_refused held command before after status refusal (inr h) cause can never = inr (inr h.0)
 
 pub complete_delivered : {P Q S G R : Type 0} (status : Status) → ((status ≡ statuses.Done) × P × Q) ⊎ ((status ≡ statuses.WriteFault) × S × G × R)
     → (status ≡ statuses.Done) ⊎ (status ≡ statuses.WriteFault) ⊎ (status ≡ statuses.Memory)
@@ -156,22 +181,23 @@ complete_delivered status (inl h) = inl h.0
 complete_delivered status (inr h) = inr (inl h.0)
 
 -- where something stops a command, nothing is answered
-pub stopped_answered : {G : Type 0} (held : Held) (command : Asked) (answer : List ℕ) (why : Stop) → IsAnswer held command answer → IsSomeAnd held (λ holds. IsStopped (Some holds) command why) → G
-stopped_answered None command answer why h stopped = absurd stopped
-stopped_answered (Some holds) command answer why h stopped = absurd (does_once holds command answer why h stopped)
+pub stopped_answered : {G : Type 0} (held : Held) (command : Asked) (answer : List ℕ) (why : Stop) → IsAnswer held command answer → OfTold command held (λ h. IsStopped h command why) → G
+stopped_answered held command answer why h stopped =
+    let told = told_some (λ c k. IsStopped k c why) (λ c k. IsAnswer k c answer) (λ seed p q own. own) (λ seed p q own. own) command held stopped h in
+    absurd (does_once told.0 command answer why told.2 told.1)
 
 -- and the status is that of what stops it, or memory is wanting
 pub stopped_refused : {L M : Type 0} (held : Held) (command : Asked) (before after : ℕ) (why : Stop) (status : Status) (refusal : Refusal)
-    → ((status ≡ status_of refusal) × L) ⊎ ((status ≡ statuses.Memory) × M) → HasCause command held before after refusal → IsSomeAnd held (λ holds. IsStopped (Some holds) command why)
+    → ((status ≡ status_of refusal) × L) ⊎ ((status ≡ statuses.Memory) × M) → HasCause command held before after refusal → OfTold command held (λ h. IsStopped h command why)
     → (HasRisen before after → ⊥) → (status ≡ stop_status why) ⊎ (status ≡ statuses.Memory)
-stopped_refused None command before after why status refusal told cause stopped never = absurd stopped
-stopped_refused (Some holds) command before after why status refusal (inl h) cause stopped never =
-    ⊎_elim (λ p. inl (h.0 ∙ p)) (λ q. inr (h.0 ∙ q)) (stop_alone holds command before after why refusal stopped never cause)
-stopped_refused (Some holds) command before after why status refusal (inr h) cause stopped never = inr h.0
+stopped_refused held command before after why status refusal (inl h) cause stopped never =
+    let told = told_some (λ c k. IsStopped k c why) (λ c k. HasCause c k before after refusal) (λ seed p q own. own) (cause_of_trial before after refusal) command held stopped cause in
+    ⊎_elim (λ p. inl (h.0 ∙ p)) (λ q. inr (h.0 ∙ q)) (stop_alone told.0 command before after why refusal told.1 never told.2)
+stopped_refused held command before after why status refusal (inr h) cause stopped never = inr h.0
 
 -- the command of the words is the one that was asked for
-pub complete_asked : (held : Held) (command own : Asked) → command ≡ own → IsSomeAnd held (λ holds. CanAnswer (Some holds) command) → IsSomeAnd held (λ holds. CanAnswer (Some holds) own)
-complete_asked held command own same can = subst (λ c. IsSomeAnd held (λ holds. CanAnswer (Some holds) c)) same can
+pub complete_asked : (held : Held) (command own : Asked) → command ≡ own → OfTold command held (λ h. CanAnswer h command) → OfTold own held (λ h. CanAnswer h own)
+complete_asked held command own same can = subst (λ c. OfTold c held (λ h. CanAnswer h c)) same can
 
-pub stopped_asked : (held : Held) (command own : Asked) (why : Stop) → command ≡ own → IsSomeAnd held (λ holds. IsStopped (Some holds) command why) → IsSomeAnd held (λ holds. IsStopped (Some holds) own why)
-stopped_asked held command own why same stopped = subst (λ c. IsSomeAnd held (λ holds. IsStopped (Some holds) c why)) same stopped
+pub stopped_asked : (held : Held) (command own : Asked) (why : Stop) → command ≡ own → OfTold command held (λ h. IsStopped h command why) → OfTold own held (λ h. IsStopped h own why)
+stopped_asked held command own why same stopped = subst (λ c. OfTold c held (λ h. IsStopped h c why)) same stopped

@@ -20,12 +20,15 @@ pub mod CompileLemmas
 pub mod NetLemmas
 pub mod CauseLemmas
 pub mod CompleteLemmas
+pub mod FileLemmas
 pub mod BelowLemmas
+pub mod OwedLemmas
 pub mod PromiseLemmas
 pub mod LeftLemmas
 pub mod TrialMemory
 pub mod TrialLemmas
 pub mod WovenLemmas
+pub mod OrderLemmas
 pub mod TrialDepth
 pub mod ListedBegun
 pub mod ListedSamples

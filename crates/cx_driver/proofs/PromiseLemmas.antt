@@ -7,6 +7,7 @@ use Rattle.cx_data.specs.declared.faults.DataFault.{DataFault}
 use Rattle.cx_meaning.specs.Answers as answers
 use Rattle.cx_meaning.specs.Answers.{Answer}
 use Rattle.cx_meaning.specs.Cycles.{Fault}
+use Rattle.cx_meaning.specs.declared.sights.FaultKind.{FaultKind}
 use Rattle.cx_meaning.specs.Designs.{PlainDesign}
 use Rattle.cx_meaning.specs.Instances.{State, tree_of, words_of}
 use Rattle.cx_meaning.specs.Running.{run_main}
@@ -15,11 +16,12 @@ use Rattle.cx_rules.specs.Externals.{external_rows}
 use Rattle.cx_vtree.specs.Plain.{PlainSource}
 use Rattle.cx_vtree.specs.SimRun.{Outcome, DoneAt, LoopAt, NotDone, SimRun}
 use Rattle.cx_vtree.proofs.Runs.{one_outcome}
+use Rattle.cx_power.specs.Resets.{IsReset}
 use Rattle.cx_driver.specs.Texts.{IsDesignOf}
 use Rattle.cx_driver.specs.Interpreted.{told_of, loaded_result, design_result, Interprets}
 use Rattle.cx_commands.specs.declared.stops.Stop.TheVariants as stops
 use Rattle.cx_net.specs.Realises.{HasOutcome, comes, waits, Realises}
-use Rattle.cx_driver.specs.Simulated.{IsVerilogOf, told_outcome, LoadedDoes, SourceDoes, Simulates}
+use Rattle.cx_driver.specs.Simulated.{IsVerilogOf, told_outcome, LoadedDoes, SourceDoes, Simulates, LoadedPowerDoes, DoesFromPower}
 use Rattle.cx_commands.specs.Commands.{Asked, compile}
 use Rattle.cx_driver.specs.Outcomes.{IsAnswer}
 use Rattle.cx_driver.specs.Promise.{a_fault, EndsOrFaults, ends_so, faults, IsRunIn, KeepsOfFile, KeepsPromise, PromiseIsKept}
@@ -28,6 +30,7 @@ use Rattle.cx_driver.proofs.TextLemmas.{accepted_once, one_design, text_of_desig
 use Rattle.cx_driver.proofs.SimLemmas.{one_source_of}
 use Rattle.cx_net.proofs.FollowLemmas.{never_loops}
 use Rattle.cx_driver.proofs.BelowLemmas.{cycle_within, main_grows, loaded_fits}
+use Rattle.cx_driver.proofs.OwedLemmas.{ends_alone, quiet_before, from_any_power}
 
 pub done_turns : (t c : ℕ) (ws us : List (List ℕ)) → DoneAt t ws ≡ DoneAt c us → t ≡ c
 done_turns t c ws us e = cc
@@ -143,9 +146,47 @@ module _ (d : PlainDesign) (source : PlainSource) (is : Realises d source) (json
   other_dump text stands dump (Ok ms) ok does = dump_in text stands dump ms ok does.0 does.1 does.2
   other_dump text stands dump (Err fault) ok does = absurd (cc)
 
+  -- a second dump is the first
+  one_dump : (dump other : List ℕ) (cycles : ℕ) (ms : List PlainMemory) → FitsRows (external_rows d) ms → (a : Answer State Fault) → run_main d (words_loaded ms) budget ≡ a → Ok dump ≡ told_of d ms budget a
+      → (o : Outcome) → SimRun source (words_loaded ms) cycles o → Ok other ≡ told_outcome source ms cycles o → other ≡ dump
+  one_dump dump other cycles ms fits (answers.End after turns) e told (DoneAt c left) r simulated =
+      let same = ends_alone d source is ms fits budget turns after e cycles c left r in
+      let alike : Ok other ≡ Ok dump = simulated ∙ ap (told_outcome source ms cycles) (sym same) ∙ sym told in
+      cc
+  one_dump dump other cycles ms fits (answers.End after turns) e told (LoopAt i k) r simulated = absurd (cc)
+  one_dump dump other cycles ms fits (answers.End after turns) e told NotDone r simulated = absurd (cc)
+  one_dump dump other cycles ms fits (answers.Fault f t) e told o r simulated = absurd (cc)
+  one_dump dump other cycles ms fits answers.More e told o r simulated = absurd (cc)
+
+  no_second : (dump other : List ℕ) (cycles : ℕ) (loaded : Result (List PlainMemory) DataFault) → load_of json (external_rows d) ≡ loaded → Ok dump ≡ loaded_result d budget loaded
+      → LoadedDoes source cycles loaded (Ok other) → other ≡ dump
+  no_second dump other cycles (Ok ms) ok told does =
+      one_dump dump other cycles ms (loaded_fits json (external_rows d) ms ok) (run_main d (words_loaded ms) budget) refl told does.0 does.1 does.2
+  no_second dump other cycles (Err fault) ok told does = absurd (cc)
+
+  -- not done up to the turn of a fault
+  faults_in : (kind : FaultKind) (path : List ℕ) (turn : ℕ) (ms : List PlainMemory) → FitsRows (external_rows d) ms → (a : Answer State Fault) → run_main d (words_loaded ms) budget ≡ a
+      → Err (stops.Fault kind path turn) ≡ told_of d ms budget a → SimRun source (words_loaded ms) turn NotDone
+  faults_in kind path turn ms fits (answers.End after turns) e told = absurd (cc)
+  faults_in kind path turn ms fits (answers.Fault f t) e told =
+      let same : t ≡ turn = cc in
+      subst (λ n. SimRun source (words_loaded ms) n NotDone) same (quiet_before d source is ms fits budget t f e)
+  faults_in kind path turn ms fits answers.More e told = absurd (cc)
+
+  does_nothing : (kind : FaultKind) (path : List ℕ) (turn : ℕ) (loaded : Result (List PlainMemory) DataFault) → load_of json (external_rows d) ≡ loaded
+      → Err (stops.Fault kind path turn) ≡ loaded_result d budget loaded → LoadedDoes source turn loaded (Err (stops.More turn))
+  does_nothing kind path turn (Ok ms) ok told = (NotDone, faults_in kind path turn ms (loaded_fits json (external_rows d) ms ok) (run_main d (words_loaded ms) budget) refl told, refl)
+  does_nothing kind path turn (Err fault) ok told = absurd (cc)
+
+  -- from any power-up state
+  does_from_power : IsReset source → (result : Told) (loaded : Result (List PlainMemory) DataFault) → load_of json (external_rows d) ≡ loaded → LoadedDoes source budget loaded result
+      → LoadedPowerDoes source budget loaded result
+  does_from_power reset result (Ok ms) ok does = λ power has. (does.0, from_any_power d source is ms (loaded_fits json (external_rows d) ms ok) reset budget does.0 does.1 power has, does.2)
+  does_from_power reset result (Err fault) ok does = does
+
 -- OVER TEXTS
 -- what an accepted text does is what its design does
-of_design : (text : List ℕ) (d : PlainDesign) → IsDesignOf text d → (json : List ℕ) (budget : ℕ) (result : Told) → Interprets text json budget result → result ≡ design_result d json budget
+pub of_design : (text : List ℕ) (d : PlainDesign) → IsDesignOf text d → (json : List ℕ) (budget : ℕ) (result : Told) → Interprets text json budget result → result ≡ design_result d json budget
 of_design text d stands json budget result (inl h) = h.2 ∙ ap (λ x. design_result x json budget) (one_design text h.0 d h.1 stands)
 of_design text d stands json budget result (inr h) = absurd (accepted_once text h.0 (text_of_design text d stands) h.1)
 
@@ -155,13 +196,21 @@ of_source : (verilog : List ℕ) (source : PlainSource) → IsVerilogOf verilog 
 of_source verilog source spelled json budget result (inl h) = subst (λ s. SourceDoes s json budget result) (one_source_of verilog h.0 source h.1 spelled) h.2
 of_source verilog source spelled json budget result (inr h) = absurd (h.1.no_source source spelled)
 
-module _ (text verilog : List ℕ) (d : PlainDesign) (source : PlainSource) (stands : IsDesignOf text d) (spelled : IsVerilogOf verilog source) (is : Realises d source) where
+module _ (text verilog : List ℕ) (d : PlainDesign) (source : PlainSource) (stands : IsDesignOf text d) (spelled : IsVerilogOf verilog source) (is : Realises d source) (reset : IsReset source) where
   -- the rows of the source are those of the design
   does : (json : List ℕ) (budget : ℕ) (result : Told) → LoadedDoes source budget (load_of json (external_rows d)) result → Simulates verilog json budget result
   does json budget result h = inl (source, spelled, subst (λ rows. LoadedDoes source budget (load_of json rows) result) (sym is.rows) h)
 
   did : (json : List ℕ) (budget : ℕ) (result : Told) → Simulates verilog json budget result → LoadedDoes source budget (load_of json (external_rows d)) result
   did json budget result h = subst (λ rows. LoadedDoes source budget (load_of json rows) result) is.rows (of_source verilog source spelled json budget result h)
+
+  does_so : (json : List ℕ) (budget : ℕ) (result : Told) → Simulates verilog json budget result → DoesFromPower verilog json budget result
+  does_so json budget result h = (
+    source,
+    spelled,
+    subst (λ rows. LoadedPowerDoes source budget (load_of json rows) result) (sym is.rows)
+        (does_from_power d source is json budget reset result (load_of json (external_rows d)) refl (did json budget result h)),
+  )
 
   kept_by : KeepsPromise text verilog
   kept_by = record {
@@ -172,11 +221,16 @@ module _ (text verilog : List ℕ) (d : PlainDesign) (source : PlainSource) (sta
       λ h. does json budget (Err (stops.Json fault)) (does_refuse d source is json budget fault (load_of json (external_rows d)) (of_design text d stands json budget (Err (stops.Json fault)) h)),
       λ h. inl (d, stands, is_refused d source is json budget fault (load_of json (external_rows d)) (did json budget (Err (stops.Json fault)) h)),
     );
+    no_second_dump = λ json turns cycles dump other h k.
+        no_second d source is json turns dump other cycles (load_of json (external_rows d)) refl (of_design text d stands json turns (Ok dump) h) (did json cycles (Ok other) k);
+    quiet = λ json budget kind path turn h.
+        does json turn (Err (stops.More turn)) (does_nothing d source is json budget kind path turn (load_of json (external_rows d)) refl (of_design text d stands json budget (Err (stops.Fault kind path turn)) h));
+    from_power = does_so;
     no_loop = λ json budget net h. no_loop_does d source is json budget net (load_of json (external_rows d)) refl (did json budget (Err (stops.Loop net)) h);
   }
 
 pub promise_is_kept : PromiseIsKept
-promise_is_kept text verilog h = kept_by text verilog h.design h.written.source h.stands h.written.spelled h.written.realises
+promise_is_kept text verilog h = kept_by text verilog h.design h.written.source h.stands h.written.spelled h.written.realises h.written.reset
 
 -- and what is written of a file
 pub kept_of_file : (held : Option (List ℕ → Option (List ℕ))) (file verilog : List ℕ) (command : Asked) → compile file ≡ command → IsAnswer held command verilog → KeepsOfFile held file verilog

@@ -68,7 +68,7 @@ module _ (holds : List ℕ → Option (List ℕ)) where
   pub same_bytes : (m n : ℕ) (file a b : List ℕ) → HoldsWithin (Some holds) m file a → HoldsWithin (Some holds) n file b → a ≡ b
   same_bytes m n file a b h k = let first = h.holds in let second = k.holds in cc
 
-  over_not : (file : List ℕ) (seen : ℕ) (w : Wanted) (bytes : List ℕ) → HoldsWithin (Some holds) w.most w.file bytes → IsOver (Some holds) file seen w → ⊥
+  pub over_not : (file : List ℕ) (seen : ℕ) (w : Wanted) (bytes : List ℕ) → HoldsWithin (Some holds) w.most w.file bytes → IsOver (Some holds) file seen w → ⊥
   over_not file seen w bytes read h =
       let named = h.is in
       let told = h.count.1 in
@@ -84,7 +84,7 @@ module _ (holds : List ℕ → Option (List ℕ)) where
   none_over file seen (w ∷ ws) all (here h) = over_not file seen w all.0.0 all.0.1 h
   none_over file seen (w ∷ ws) all (later bytes read h) = none_over file seen ws all.1 h
 
-  unread_not : (before after : ℕ) (file : List ℕ) (w : Wanted) (bytes : List ℕ) → (HasRisen before after → ⊥) → HoldsWithin (Some holds) w.most w.file bytes → IsUnread (Some holds) before after file w → ⊥
+  pub unread_not : (before after : ℕ) (file : List ℕ) (w : Wanted) (bytes : List ℕ) → (HasRisen before after → ⊥) → HoldsWithin (Some holds) w.most w.file bytes → IsUnread (Some holds) before after file w → ⊥
   unread_not before after file w bytes never read h = elim h.fault [ inl risen ↦ never risen | inr absent ↦ (let named = h.is in let own = read.holds in cc) ]
 
   pub none_unread : (before after : ℕ) (file : List ℕ) (ws : List Wanted) → (HasRisen before after → ⊥) → Readable ws → FirstOf (Some holds) (IsUnread (Some holds) before after file) ws → ⊥

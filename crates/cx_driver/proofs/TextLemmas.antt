@@ -10,6 +10,7 @@ use Rattle.cx_lex.proofs.WholeLemmas.{one_tokens}
 use Rattle.cx_grammar.specs.Parsing.{Parse}
 use Rattle.cx_grammar.proofs.OneTree.{one_tree}
 use Rattle.cx_meaning.specs.Designs.{PlainDesign}
+use Rattle.cx_rules.specs.Accepted.{IsAccepted}
 use Rattle.cx_numbering.specs.DesignOf.{design_of}
 use Rattle.cx_numbering.specs.NameRules.{names_break}
 use Rattle.cx_names.specs.Targets.{HasTargets}
@@ -39,6 +40,9 @@ one_design text a b h k = h.3 ∙ ap (λ t. design_of t) (one_text_tree text h.0
 
 pub text_of_design : (text : List ℕ) (d : PlainDesign) → IsDesignOf text d → IsAcceptedText text
 text_of_design text d h = (h.0, h.1, h.2)
+
+pub accepted_rules : (text : List ℕ) (d : PlainDesign) → IsDesignOf text d → IsAccepted d
+accepted_rules text d h = subst IsAccepted (sym h.3) h.2.accepted
 
 pub accepted_once : (text : List ℕ) (told : Diagnostic) → IsAcceptedText text → TextBreak text told → ⊥
 accepted_once text told h (inl s) = read_no_fault (h.0, h.1) s
@@ -83,6 +87,11 @@ break_once text a b (inr h) (inr k) = tree_break_once text k.1.0 k.0 a b k.1.1 k
 pub text_stop : (text : List ℕ) (told : Diagnostic) (stop : Stop) → TextBreak text told → IsTextRefusal text stop → (stop ≡ stops.Memory) ⊎ (stop ≡ stops.Rule told)
 text_stop text told stop b (inl memory) = inl memory
 text_stop text told stop b (inr own) = inr (own.2 ∙ ap (λ d. stops.Rule d) (break_once text own.0 told own.1 b))
+
+-- an accepted text is not refused
+pub accepted_stop : (text : List ℕ) (stop : Stop) → IsAcceptedText text → IsTextRefusal text stop → stop ≡ stops.Memory
+accepted_stop text stop is (inl memory) = memory
+accepted_stop text stop is (inr own) = absurd (accepted_once text own.0 is own.1)
 
 -- what is told of a tree that is refused
 pub refused_tree : (tree : PlainTree) (refusal : Refusal) (stop : Stop) → stop ≡ tree_stop refusal → IsTreeRefusal tree refusal → IsTreeStop tree stop

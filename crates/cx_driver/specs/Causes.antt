@@ -1,13 +1,15 @@
 -- Why a command has no answer.
-use Rattle.std.specs.Prelude.{◌≡◌, ℕ, List, Option}
+use Rattle.std.specs.Prelude.{◌≡◌, ◌⊎◌, ℕ, List, Option, Some}
+use Rattle.cx_outside.specs.Reading.{IsAbsent}
 use Rattle.cx_commands.specs.Messages.{line_of}
-use Rattle.cx_commands.specs.Commands.{Asked, Wanted}
-use Rattle.cx_commands.specs.Reads.{IsOver, IsUnread, IsTooLong, IsUnreadFile}
+use Rattle.cx_commands.specs.Commands.{Asked, Wanted, wanted_by}
+use Rattle.cx_commands.specs.Reads.{FirstOf, IsOver, IsUnread, IsTooLong, IsUnreadFile}
 use Rattle.cx_driver.specs.Outcomes.{StopsCommand}
 use Rattle.cx_commands.specs.Statuses.{ReceivesLine, status_of}
 use Rattle.cx_commands.specs.declared.refusals.Refusal.{Refusal}
 use Rattle.cx_commands.specs.declared.refusals.Refusal.TheVariants as refusals
 use Rattle.cx_commands.specs.declared.refusals.Status.{Status}
+use Rattle.cx_commands.specs.declared.refusals.Status.TheVariants as statuses
 use Rattle.cx_commands.specs.declared.stops.Stop.TheVariants as stops
 
 -- what is told of a file that was not read within its limit
@@ -35,3 +37,17 @@ pub record ToldWhy (command : Asked) (held : Option (List ℕ → Option (List �
   pub tells : status ≡ status_of refusal
   pub is_true : HasCause command held before after refusal
   pub line : ReceivesLine err_old err_before (line_of refusal) err_new err_after
+
+-- of files that are told: a file of the command is not there
+abbrev pub IsMissing : (List ℕ → Option (List ℕ)) → List ℕ → Wanted → Type 0
+IsMissing holds file w = (file ≡ w.file) × IsAbsent (Some holds) file
+
+-- this is so of files that are told: one is over its limit, or is not there, and each before it is within its limit
+abbrev pub IsTrueOfFile : Asked → (List ℕ → Option (List ℕ)) → Refusal → Type 0
+IsTrueOfFile command holds (refusals.TooLong file seen) = IsTooLong (Some holds) command file.now seen
+IsTrueOfFile command holds (refusals.ReadFault file) = FirstOf (Some holds) (IsMissing holds file.now) (wanted_by command)
+IsTrueOfFile command holds (refusals.Stop stop) = ⊥
+
+-- this is told, with its status and its line; or memory is wanting
+abbrev pub IsTold : Refusal → Status → Option (List ℕ) → ℕ → Option (List ℕ) → ℕ → Type 0
+IsTold why status err_old before err_new after = ((status ≡ status_of why) × ReceivesLine err_old before (line_of why) err_new after) ⊎ (status ≡ statuses.Memory)

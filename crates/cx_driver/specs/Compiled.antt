@@ -15,6 +15,7 @@ use Rattle.cx_net.specs.NetTree.{net_component_at, net_tree}
 use Rattle.cx_net.specs.Realises.{Realises}
 use Rattle.cx_vtree.specs.Plain.{PlainSource}
 use Rattle.cx_vtree.specs.Spelling.{text_of}
+use Rattle.cx_power.specs.Resets.{IsReset}
 use Rattle.cx_static.specs.Lowering.{lowered_of}
 use Rattle.cx_wiring.specs.InNet.{RealisesInNet}
 use Rattle.cx_wiring.specs.Wiring.{net_of}
@@ -28,24 +29,18 @@ use Rattle.cx_commands.specs.declared.stops.Stop.TheVariants as stops
 use Rattle.cx_driver.specs.Texts.{IsDesignOf, TextBreak}
 use Rattle.cx_driver.specs.Simulated.{IsVerilogOf}
 
--- THE TEXT OF A DESIGN: it spells a sound source, which realises the design, in which nothing of the design's control hides, and whose
--- names are no words of Verilog, and which has few nets; and it has few bytes: 4,096 for each unit of the design's size, and 256 for each unit
--- of its weight
+-- THE TEXT OF A DESIGN: it spells a sound source, which realises the design, whose reset sets every register to 0, in which nothing of the design's
+-- control hides, whose names are no words of Verilog, and which has few nets; and it has few bytes: 4,096 for each unit of the design's size, and 256
+-- for each unit of its weight
 pub record IsTextOf (d : PlainDesign) (answer : List ℕ) : Type 0 where
   pub source : PlainSource
   pub spelled : IsVerilogOf answer source
   pub realises : Realises d source
+  pub reset : IsReset source
   pub shape : IsShaped d source
   pub names : HasOwnNames source
   pub nets : HasFewNets d source
   pub small : length answer ≤ 4096 * design_size d + 256 * weight_of d
-
--- WHAT compile WRITES of a text: it is accepted, and its design is within the size that compile takes
-pub record IsCompiled (text answer : List ℕ) : Type 0 where
-  pub design : PlainDesign
-  pub stands : IsDesignOf text design
-  pub within : design_size design ≤ COMPILE_SIZE
-  pub written : IsTextOf design answer
 
 -- the net that the passes make of a design, and the source
 abbrev pub written_net : PlainDesign → PlainNet
@@ -53,6 +48,14 @@ written_net d = inlined (net_of (lowered_of d))
 
 abbrev pub written_source : PlainDesign → PlainSource
 written_source d = source_of (written_net d)
+
+-- WHAT compile WRITES of a text: it is accepted, its design is within the size that compile takes, and this is its text, to the byte
+pub record IsCompiled (text answer : List ℕ) : Type 0 where
+  pub design : PlainDesign
+  pub stands : IsDesignOf text design
+  pub within : design_size design ≤ COMPILE_SIZE
+  pub written : IsTextOf design answer
+  pub exact : answer ≡ text_of (written_source design)
 
 -- the external memories of a net
 abbrev pub net_rows : PlainNet → List PlainRow

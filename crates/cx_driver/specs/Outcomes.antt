@@ -1,5 +1,5 @@
 -- What a command does with its files: what it writes, or why it stops.
-use Rattle.std.specs.Prelude.{◌≡◌, ◌⊎◌, ℕ, List, Option, Result, Ok, Err, codes}
+use Rattle.std.specs.Prelude.{◌≡◌, ◌⊎◌, ℕ, List, Option, Some, Result, Ok, Err, IsSomeAnd, codes}
 use Rattle.cx_text.specs.declared.diagnostics.Diagnostic.{Diagnostic}
 use Rattle.cx_text.specs.declared.limits.TheConstants.{DESIGN_BYTES, DATA_BYTES, VERILOG_BYTES}
 use Rattle.cx_commands.specs.Commands.{Asked, compile, interp, check, sim, trial, weave, Asks}
@@ -56,6 +56,15 @@ CanAnswer held (weave design json steps list) = HasAnswer held (weave design jso
 -- what the files hold stops the command
 abbrev pub IsStopped : Option (List ℕ → Option (List ℕ)) → Asked → Stop → Type 0
 IsStopped held command stop = Does held command (Err stop)
+
+-- this holds of files that are told; a trial reads none, so there nothing need be told
+abbrev pub OfTold : Asked → Option (List ℕ → Option (List ℕ)) → (Option (List ℕ → Option (List ℕ)) → Type 0) → Type 0
+OfTold (compile design) held P = IsSomeAnd held (λ holds. P (Some holds))
+OfTold (interp design json budget) held P = IsSomeAnd held (λ holds. P (Some holds))
+OfTold (check design) held P = IsSomeAnd held (λ holds. P (Some holds))
+OfTold (sim verilog json budget) held P = IsSomeAnd held (λ holds. P (Some holds))
+OfTold (trial seed) held P = P held
+OfTold (weave design json steps list) held P = IsSomeAnd held (λ holds. P (Some holds))
 
 -- why it stops, unless memory is wanting
 abbrev pub StopsCommand : Asked → Option (List ℕ → Option (List ℕ)) → Stop → Type 0

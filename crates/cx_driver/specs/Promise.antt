@@ -1,5 +1,5 @@
 -- What the interpreter and the simulator tell of a design and of its written text.
-use Rattle.std.specs.Prelude.{◌≡◌, ◌↔◌, ℕ, ◌≤◌, List, Option, Ok, Err}
+use Rattle.std.specs.Prelude.{◌≡◌, ◌↔◌, ℕ, ◌≤◌, List, Option, Result, Ok, Err}
 use Rattle.cx_text.specs.Loading.{PlainMemory}
 use Rattle.cx_text.specs.declared.limits.TheConstants.{DESIGN_BYTES}
 use Rattle.cx_data.specs.Dump.{dump_text}
@@ -9,7 +9,7 @@ use Rattle.cx_commands.specs.Reads.{OfFile}
 use Rattle.cx_driver.specs.Interpreted.{Interprets}
 use Rattle.cx_commands.specs.declared.stops.Stop.{Stop}
 use Rattle.cx_commands.specs.declared.stops.Stop.TheVariants as stops
-use Rattle.cx_driver.specs.Simulated.{Simulates}
+use Rattle.cx_driver.specs.Simulated.{DoesFromPower, Simulates}
 use Rattle.cx_driver.specs.Compiled.{IsCompiled}
 
 -- the run of main has a fault: a conflict, an undefined read or an address out of range
@@ -38,6 +38,12 @@ pub record KeepsPromise (text verilog : List ℕ) : Type 0 where
   -- they refuse the same data files, for the same fault
   pub same_data : (json : List ℕ) (budget : ℕ) (fault : DataFault)
       → Interprets text json budget (Err (stops.Json fault)) ↔ Simulates verilog json budget (Err (stops.Json fault))
+  -- whatever the budgets, the simulator dumps nothing else
+  pub no_second_dump : (json : List ℕ) (turns cycles : ℕ) (dump other : List ℕ) → Interprets text json turns (Ok dump) → Simulates verilog json cycles (Ok other) → other ≡ dump
+  -- where the interpreter has a fault in a turn, the simulator is not done in the cycle of that number, nor before
+  pub quiet : (json : List ℕ) (budget : ℕ) (kind : FaultKind) (path : List ℕ) (turn : ℕ) → Interprets text json budget (Err (stops.Fault kind path turn)) → Simulates verilog json turn (Err (stops.More turn))
+  -- FROM ANY POWER-UP STATE the text does what the simulator tells of it
+  pub from_power : (json : List ℕ) (budget : ℕ) (result : Result (List ℕ) Stop) → Simulates verilog json budget result → DoesFromPower verilog json budget result
   -- no net of the text is ever without a value
   pub no_loop : (json : List ℕ) (budget : ℕ) (net : List ℕ) → Simulates verilog json budget (Err (stops.Loop net)) → ⊥
 

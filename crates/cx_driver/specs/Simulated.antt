@@ -10,7 +10,9 @@ use Rattle.cx_vtree.specs.InstanceTree.{instances_of}
 use Rattle.cx_vtree.specs.Layout.{is_laid_out}
 use Rattle.cx_vtree.specs.Sound.{is_sound}
 use Rattle.cx_vtree.specs.Spelling.{text_of}
+use Rattle.cx_vtree.specs.Meaning.{State}
 use Rattle.cx_vtree.specs.SimRun.{Outcome, DoneAt, LoopAt, NotDone, SimRun}
+use Rattle.cx_power.specs.Power.{HasPower, PowerRun}
 use Rattle.cx_velab.specs.Paths.{path_of}
 use Rattle.cx_vread.specs.ReadAnswers.{Answers, Tells}
 use Rattle.cx_vread.specs.declared.refusals.ReadRefusal.{ReadRefusal}
@@ -60,6 +62,20 @@ abbrev pub Simulates : List ℕ → List ℕ → ℕ → Result (List ℕ) Stop 
 Simulates verilog json budget result =
     Spells verilog json budget result
     ⊎ ((refused : ReadRefusal) × IsVerilogRefusal verilog refused × (result ≡ Err (stops.Verilog refused)))
+
+-- THE RUN FROM POWER-UP of a source: from each state with these memories loaded and zeros in all other arrays, whatever its registers hold, whatever
+-- stands on the nets in the cycle of the edge with reset and whatever go is there, a run that is told so
+abbrev pub PowerDoes : PlainSource → List PlainMemory → ℕ → Result (List ℕ) Stop → Type 0
+PowerDoes source memories budget result =
+    (power : State) → HasPower source (words_loaded memories) power → (o : Outcome) × PowerRun source power budget o × (result ≡ told_outcome source memories budget o)
+
+abbrev pub LoadedPowerDoes : PlainSource → ℕ → Result (List PlainMemory) DataFault → Result (List ℕ) Stop → Type 0
+LoadedPowerDoes source budget (Ok memories) result = PowerDoes source memories budget result
+LoadedPowerDoes source budget (Err fault) result = result ≡ Err (stops.Json fault)
+
+-- WHAT A VERILOG TEXT DOES FROM ANY POWER-UP STATE on a data file: it spells a sound source, which does this from each
+abbrev pub DoesFromPower : List ℕ → List ℕ → ℕ → Result (List ℕ) Stop → Type 0
+DoesFromPower verilog json budget result = (source : PlainSource) × IsVerilogOf verilog source × LoadedPowerDoes source budget (load_of json (rows_of source.externals)) result
 
 -- WHAT A RUN LEAVES in the first cycle in which `done` is 1, with these memories loaded
 pub record RunLeaves (source : PlainSource) (memories : List PlainMemory) (budget : ℕ) (left : PlainLeft) : Type 0 where

@@ -10,7 +10,8 @@ use Rattle.cx_meaning.specs.Instances.{tree_of, words_of}
 use Rattle.cx_rules.specs.Externals.{external_rows}
 use Rattle.cx_orders.specs.Woven as woven
 use Rattle.cx_orders.specs.Woven.{Woven, by_list, woven}
-use Rattle.cx_driver.specs.Interpreted.{fault_stop}
+use Rattle.cx_meaning.specs.declared.sights.FaultKind.{FaultKind}
+use Rattle.cx_driver.specs.Interpreted.{fault_stop, Interprets}
 use Rattle.cx_driver.specs.Texts.{IsDesignOf, TextBreak}
 use Rattle.cx_commands.specs.declared.stops.Stop.{Stop}
 use Rattle.cx_commands.specs.declared.stops.Stop.TheVariants as stops
@@ -49,6 +50,10 @@ IsWovenAnswer text json steps list answer = Weaves text json steps list (Ok answ
 
 abbrev pub StopsWeaving : List ℕ → List ℕ → ℕ → List ℕ → Stop → Type 0
 StopsWeaving text json steps list stop = Weaves text json steps list (Err stop)
+
+-- whatever its budget, the interpreter tells no fault
+abbrev pub NeverFaults : List ℕ → List ℕ → Type 0
+NeverFaults text json = (budget : ℕ) (kind : FaultKind) (path : List ℕ) (turn : ℕ) → Interprets text json budget (Err (stops.Fault kind path turn)) → ⊥
 
 -- what is told of a text without an answer
 abbrev pub IsWeaveStop : List ℕ → List ℕ → ℕ → List ℕ → Stop → Type 0

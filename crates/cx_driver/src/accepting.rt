@@ -21,6 +21,8 @@ pub fn check_text(alloc: Global, text: &[u8]) -> Result<(), Stop>
     requires { length text.now ≤ 1048576 }
     ensures accepted { OnOk result (IsAcceptedText text.now) }
     ensures cause { IfErr result (IsTextRefusal text.now) }
+    // A text that is accepted is answered, unless memory is wanting.
+    ensures all_answers { IsAcceptedText text.now → MatchResult result (λ _. Unit {0}) (λ stop. stop ≡ stops.Memory) }
     // A rule that the text breaks is told, with its place and its name, unless memory is wanting.
     ensures all_refusals { (told : DiagnosticValue) → TextBreak text.now told
         → MatchResult result (λ _. ⊥) (λ stop. (stop ≡ stops.Memory) ⊎ (stop ≡ stops.Rule told)) }

@@ -8,13 +8,14 @@ ghost use Rattle.cx_commands.specs.Asked.{asked_of};
 ghost use Rattle.cx_commands.specs.Commands as asked;
 ghost use Rattle.cx_commands.specs.Lists.{IsList};
 ghost use Rattle.cx_commands.specs.Messages.{line_of};
-ghost use Rattle.cx_driver.specs.Outcomes.{CanAnswer, IsAnswer, IsAnswerTo, IsStopped};
+ghost use Rattle.cx_driver.specs.Outcomes.{CanAnswer, IsAnswer, IsAnswerTo, IsStopped, OfTold};
 ghost use Rattle.cx_driver.specs.Promise.{KeepsOfFile};
 ghost use Rattle.cx_commands.specs.Reads.{HoldsWithin, IsReadFault};
+ghost use Rattle.cx_commands.specs.declared.refusals.Refusal.{Refusal as RefusalValue};
 ghost use Rattle.cx_commands.specs.declared.refusals.Refusal.TheVariants as refusals;
 ghost use Rattle.cx_commands.specs.declared.refusals.Status.TheVariants as statuses;
 ghost use Rattle.cx_commands.specs.declared.stops.Stop.{Stop as StopValue};
-ghost use Rattle.cx_driver.specs.Causes.{HasCause, IsMemory, IsOfFile, ToldWhy};
+ghost use Rattle.cx_driver.specs.Causes.{HasCause, IsMemory, IsOfFile, IsTold, IsTrueOfFile, ToldWhy};
 ghost use Rattle.cx_commands.specs.Statuses.{IsRefusing, ReceivesLine, fixed_line, status_of};
 
 use crate::accepting::check_text;
@@ -59,13 +60,19 @@ pub fn run<F: Files, O: Sink, E: Sink>(
     ensures quiet { result ≡ statuses.Done → E.written err.new ≡ E.written err.old }
     ensures said { (told : List ℕ) → fixed_line result ≡ Some told → ReceivesLine (E.written err.old) (E.faults err.old) told (E.written err.new) (E.faults err.new) }
 
-    // Where the files are told and give an answer, and no read failed, it is written, but for a failing output and want of memory.
-    ensures completes { (command : Asked) → Asks words.now command → IsSomeAnd (F.held files.old) (λ holds. CanAnswer (Some holds) command)
+    // Where the files are told, or none is read, and they give an answer, and no read failed, it is written, but for a failing output and want of memory.
+    ensures completes { (command : Asked) → Asks words.now command → OfTold command (F.held files.old) (λ held. CanAnswer held command)
         → (HasRisen (F.faults files.old) (F.faults files.new) → ⊥) → (result ≡ statuses.Done) ⊎ (result ≡ statuses.WriteFault) ⊎ (result ≡ statuses.Memory) }
 
-    // Where the files are told and stop the command, and no read failed, the status is that of what stops it, but for want of memory.
-    ensures all_stops { (command : Asked) (why : StopValue) → Asks words.now command → IsSomeAnd (F.held files.old) (λ holds. IsStopped (Some holds) command why)
+    // Where the files are told, or none is read, and they stop the command, and no read failed, the status is that of what stops it, but for want of memory.
+    ensures all_stops { (command : Asked) (why : StopValue) → Asks words.now command → OfTold command (F.held files.old) (λ held. IsStopped held command why)
         → (HasRisen (F.faults files.old) (F.faults files.new) → ⊥) → (result ≡ status_of (refusals.Stop why)) ⊎ (result ≡ statuses.Memory) }
+
+    // Where the files are told, and one is over its limit or is not there, behind others that are within theirs, it is told, but for want of memory.
+    ensures all_files { (command : Asked) (why : RefusalValue) → Asks words.now command → IsSomeAnd (F.held files.old) (λ holds. IsTrueOfFile command holds why)
+        → (HasRisen (F.faults files.old) (F.faults files.new) → ⊥) → IsTold why result (E.written err.old) (E.faults err.old) (E.written err.new) (E.faults err.new) }
+
+    ensures kept { F.held files.new ≡ F.held files.old }
 {
     match command_of(words) {
         Some(command) => obey(alloc, command, files, out, err),
@@ -103,10 +110,14 @@ fn obey<F: Files, O: Sink, E: Sink>(
     ensures quiet { result ≡ statuses.Done → E.written err.new ≡ E.written err.old }
     ensures said { (told : List ℕ) → fixed_line result ≡ Some told → ReceivesLine (E.written err.old) (E.faults err.old) told (E.written err.new) (E.faults err.new) }
 
-    ensures completes { IsSomeAnd (F.held files.old) (λ holds. CanAnswer (Some holds) (asked_of command.entry))
+    ensures completes { OfTold (asked_of command.entry) (F.held files.old) (λ held. CanAnswer held (asked_of command.entry))
         → (HasRisen (F.faults files.old) (F.faults files.new) → ⊥) → (result ≡ statuses.Done) ⊎ (result ≡ statuses.WriteFault) ⊎ (result ≡ statuses.Memory) }
-    ensures all_stops { (why : StopValue) → IsSomeAnd (F.held files.old) (λ holds. IsStopped (Some holds) (asked_of command.entry) why)
+    ensures all_stops { (why : StopValue) → OfTold (asked_of command.entry) (F.held files.old) (λ held. IsStopped held (asked_of command.entry) why)
         → (HasRisen (F.faults files.old) (F.faults files.new) → ⊥) → (result ≡ status_of (refusals.Stop why)) ⊎ (result ≡ statuses.Memory) }
+    ensures all_files { (why : RefusalValue) → IsSomeAnd (F.held files.old) (λ holds. IsTrueOfFile (asked_of command.entry) holds why)
+        → (HasRisen (F.faults files.old) (F.faults files.new) → ⊥) → IsTold why result (E.written err.old) (E.faults err.old) (E.written err.new) (E.faults err.new) }
+
+    ensures kept { F.held files.new ≡ F.held files.old }
 {
     match answer(alloc, command, files) {
         Ok(text) => deliver(&text, out, err),
@@ -163,6 +174,7 @@ fn answer<'a, F: Files>(
     requires list { HasList (asked_of command) }
     ensures answer { IfOk result (λ text. IsAnswer (F.held files.old) (asked_of command.entry) text.items) }
     ensures cause { IfErr result (HasCause (asked_of command.entry) (F.held files.old) (F.faults files.old) (F.faults files.new)) }
+    ensures kept { F.held files.new ≡ F.held files.old }
 {
     match command {
         Command::Compile { design } => compiled(alloc, design, files),
@@ -195,6 +207,7 @@ fn compiled<'a, F: Files>(
 ) -> Result<Vec<u8>, Refusal<'a>>
     ensures answer { IfOk result (λ text. IsAnswer (F.held files.old) (asked.compile design.now) text.items) }
     ensures cause { IfErr result (HasCause (asked.compile design.now) (F.held files.old) (F.faults files.old) (F.faults files.new)) }
+    ensures kept { F.held files.new ≡ F.held files.old }
 {
     let text = read(alloc, files, design, DESIGN_BYTES)?;
     match compile(alloc, &text) {
@@ -213,6 +226,7 @@ fn interpreted<'a, F: Files>(
 ) -> Result<Vec<u8>, Refusal<'a>>
     ensures answer { IfOk result (λ text. IsAnswer (F.held files.old) (asked.interp design.now json.now budget) text.items) }
     ensures cause { IfErr result (HasCause (asked.interp design.now json.now budget) (F.held files.old) (F.faults files.old) (F.faults files.new)) }
+    ensures kept { F.held files.new ≡ F.held files.old }
 {
     let text = read(alloc, files, design, DESIGN_BYTES)?;
     let data = read(alloc, files, json, DATA_BYTES)?;
@@ -232,6 +246,7 @@ fn simulated<'a, F: Files>(
 ) -> Result<Vec<u8>, Refusal<'a>>
     ensures answer { IfOk result (λ text. IsAnswer (F.held files.old) (asked.sim verilog.now json.now budget) text.items) }
     ensures cause { IfErr result (HasCause (asked.sim verilog.now json.now budget) (F.held files.old) (F.faults files.old) (F.faults files.new)) }
+    ensures kept { F.held files.new ≡ F.held files.old }
 {
     let text = read(alloc, files, verilog, VERILOG_BYTES)?;
     let data = read(alloc, files, json, DATA_BYTES)?;
@@ -253,6 +268,7 @@ fn woven<'a, F: Files>(
     requires list { IsList list.now }
     ensures answer { IfOk result (λ text. IsAnswer (F.held files.old) (asked.weave design.now json.now steps list.now) text.items) }
     ensures cause { IfErr result (HasCause (asked.weave design.now json.now steps list.now) (F.held files.old) (F.faults files.old) (F.faults files.new)) }
+    ensures kept { F.held files.new ≡ F.held files.old }
 {
     let text = read(alloc, files, design, DESIGN_BYTES)?;
     let data = read(alloc, files, json, DATA_BYTES)?;
@@ -281,6 +297,7 @@ fn checked<'a, F: Files>(
 ) -> Result<Vec<u8>, Refusal<'a>>
     ensures answer { IfOk result (λ text. IsAnswer (F.held files.old) (asked.check design.now) text.items) }
     ensures cause { IfErr result (HasCause (asked.check design.now) (F.held files.old) (F.faults files.old) (F.faults files.new)) }
+    ensures kept { F.held files.new ≡ F.held files.old }
 {
     let text = read(alloc, files, design, DESIGN_BYTES)?;
     match check_text(alloc, &text) {

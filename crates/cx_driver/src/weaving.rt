@@ -8,10 +8,11 @@ ghost use Rattle.cx_design.specs.PlainDesigns.{plain_design};
 ghost use Rattle.cx_commands.specs.Lists.{IsList, numbers_in};
 ghost use Rattle.cx_commands.specs.declared.stops.Stop.{Stop as StopValue};
 ghost use Rattle.cx_commands.specs.declared.stops.Stop.TheVariants as stops;
-ghost use Rattle.cx_driver.specs.Weaving.{IsDesignWoven, IsRunWoven, IsWeaveStop, IsWovenAnswer, StopsDesignWoven, StopsRunWoven, StopsWeaving, woven_text};
+ghost use Rattle.cx_driver.specs.Weaving.{IsDesignWoven, IsRunWoven, IsWeaveStop, IsWovenAnswer, StopsDesignWoven, StopsRunWoven, StopsWeaving, NeverFaults, woven_text};
 
 use crate::accepting::accepted_design;
 use crate::faults::faulted;
+use crate::laws::none_ends;
 use crate::memories::{dump_of, load};
 use cx_commands::{Stop, numbers};
 use cx_design::Checked;
@@ -35,6 +36,9 @@ pub fn weave(
     ensures answer { IfOk result (λ told. IsWovenAnswer text.now json.now steps list.now told.items) }
     ensures cause { IfErr result (IsWeaveStop text.now json.now steps list.now) }
 
+    // Where a woven run ends, the interpreter has no fault.
+    ensures no_fault { IfOk result (λ _. NeverFaults text.now json.now) }
+
     // Where the run ends within the choices its dump is the answer, unless memory is wanting.
     ensures all_answers { (answer : List ℕ) → IsWovenAnswer text.now json.now steps list.now answer
         → MatchResult result (λ told. told.items ≡ answer) (λ stop. stop ≡ stops.Memory) }
@@ -45,7 +49,10 @@ pub fn weave(
         → MatchResult result (λ _. ⊥) (λ stop. (stop ≡ stops.Memory) ⊎ (stop ≡ why)) }
 {
     match accepted_design(alloc, text) {
-        Ok(design) => weave_design(alloc, &design, json, steps, list),
+        Ok(design) => {
+            none_ends();
+            weave_design(alloc, &design, json, steps, list)
+        }
         Err(stop) => Err(stop),
     }
 }

@@ -1,4 +1,4 @@
-use Rattle.cx_driver.proofs.TextLemmas.{accepted_once, text_of_design, text_stop}
+use Rattle.cx_driver.proofs.TextLemmas.{accepted_once, accepted_stop, text_of_design, text_stop}
 use Rattle.cx_driver.proofs.accepting.check_text.Goals as goal
 
 pub returns-in-Ok : goal.returns-in-Ok
@@ -7,6 +7,7 @@ returns-in-Ok c =
     record {
       accepted = accepted;
       cause = tt;
+      all_answers = λ is. tt;
       all_refusals = λ told b. accepted_once c.args.text.now told accepted b;
     }
 
@@ -14,5 +15,6 @@ pub returns : goal.returns
 returns c = record {
   accepted = tt;
   cause = c.in-Err.ensures.cause;
+  all_answers = λ is. accepted_stop c.args.text.now c.in-Err.stop is c.in-Err.ensures.cause;
   all_refusals = λ told b. text_stop c.args.text.now told c.in-Err.stop b c.in-Err.ensures.cause;
 }

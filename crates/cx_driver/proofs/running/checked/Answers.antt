@@ -17,6 +17,7 @@ pub returns-in-Ok : goal.returns-in-Ok
 returns-in-Ok g c = record {
   answer = accepted_answer (λ v. v.items) (g.F.Files.held c.args.files.now) c.args.design.now c.in_ok-text.text.items c.accepted.result c.in_ok-text.ensures.held (subst IsAcceptedText c.deref.ensures.value c.in-Ok.ensures.accepted) c.accepted.ensures.answer;
   cause = memory_cause (check c.args.design.now) (g.F.Files.held c.args.files.now) (g.F.Files.faults c.args.files.now) (g.F.Files.faults c.read.new.files) c.accepted.result c.accepted.ensures.cause;
+  kept = c.read.ensures.kept;
 }
 
 pub returns-clause-cause : goal.returns-clause-cause

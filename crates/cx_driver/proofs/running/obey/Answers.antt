@@ -5,6 +5,7 @@ use Rattle.cx_commands.specs.Asked.{asked_of}
 use Rattle.cx_commands.specs.Statuses.{ReceivesLine}
 use Rattle.cx_driver.proofs.CauseLemmas.{delivered, part_taken, quiet_delivered, refused_not_done, said_delivered, said_refused, told_why, unread_file}
 use Rattle.cx_driver.proofs.CompleteLemmas.{complete_delivered, complete_refused, stopped_answered, stopped_refused}
+use Rattle.cx_driver.proofs.FileLemmas.{file_answered, file_refused}
 use Rattle.cx_driver.proofs.running.obey.Goals as goal
 
 pub returns-in-Ok-clause-part : goal.returns-in-Ok-clause-part
@@ -54,3 +55,12 @@ returns-in-Ok-clause-all_stops g c = λ why stopped never. stopped_answered (g.F
 pub returns-in-Err-clause-all_stops : goal.returns-in-Err-clause-all_stops
 returns-in-Err-clause-all_stops g c = λ why stopped never.
     stopped_refused (g.F.Files.held c.args.files.now) (asked_of c.args.command) (g.F.Files.faults c.args.files.now) (g.F.Files.faults c.answer.new.files) why c.refuse.result c.in-Err.refusal c.refuse.ensures c.in-Err.ensures.cause stopped never
+
+pub returns-in-Ok-clause-all_files : goal.returns-in-Ok-clause-all_files
+returns-in-Ok-clause-all_files g c = λ why so never.
+    file_answered (g.F.Files.held c.args.files.now) (asked_of c.args.command) (g.F.Files.faults c.args.files.now) (g.F.Files.faults c.answer.new.files) c.in-Ok.text.items why c.in-Ok.ensures.answer so never
+
+pub returns-in-Err-clause-all_files : goal.returns-in-Err-clause-all_files
+returns-in-Err-clause-all_files g c = λ why so never.
+    file_refused (g.F.Files.held c.args.files.now) (asked_of c.args.command) (g.F.Files.faults c.args.files.now) (g.F.Files.faults c.answer.new.files) why c.refuse.result
+    (g.E.Sink.written c.args.err.now) (g.E.Sink.faults c.args.err.now) (g.E.Sink.written c.refuse.new.err) (g.E.Sink.faults c.refuse.new.err) c.in-Err.refusal c.refuse.ensures c.in-Err.ensures.cause so never

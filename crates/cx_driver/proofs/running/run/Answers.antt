@@ -6,6 +6,7 @@ use Rattle.cx_driver.proofs.CauseLemmas.{said_words, words_tell_nothing}
 use Rattle.cx_commands.proofs.CommandLemmas.{has_list, one_command}
 use Rattle.cx_commands.specs.Commands as asked
 use Rattle.cx_driver.proofs.CompleteLemmas.{complete_asked, stopped_asked}
+use Rattle.cx_driver.proofs.FileLemmas.{file_asked}
 use Rattle.cx_driver.proofs.PromiseLemmas.{kept_of_file}
 use Rattle.cx_driver.proofs.running.run.Goals as goal
 
@@ -50,3 +51,11 @@ returns-in-None-clause-said g c =
 
 pub obey-requires : goal.obey-requires
 obey-requires g c = record { list = has_list c.args.words.now (asked_of c.in-Some.command) c.in-Some.ensures }
+
+pub returns-in-Some-clause-all_files : goal.returns-in-Some-clause-all_files
+returns-in-Some-clause-all_files g c = λ command why asks so never.
+    let own = asked_of c.in-Some.command in
+    c.obey.ensures.all_files why (file_asked (g.F.Files.held c.args.files.now) command own why (one_command c.args.words.now command own asks c.in-Some.ensures) so) never
+
+pub returns-in-None-clause-all_files : goal.returns-in-None-clause-all_files
+returns-in-None-clause-all_files g c = λ command why asks so never. absurd (c.in-None.ensures command asks)

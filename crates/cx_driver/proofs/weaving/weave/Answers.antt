@@ -1,6 +1,8 @@
 use Rattle.std.proofs.Common.{[], Err}
 use Rattle.cx_design.specs.PlainDesigns.{plain_design}
 use Rattle.cx_driver.specs.Weaving.{IsWeaveStop, Weaves}
+use Rattle.cx_driver.proofs.OrderLemmas.{never_faults}
+use Rattle.cx_driver.proofs.TextLemmas.{accepted_rules}
 use Rattle.cx_driver.proofs.WovenLemmas.{one_woven, text_woven, text_stops, refused_stops}
 use Rattle.cx_driver.proofs.Once.{Told, all_answered, all_stopped}
 use Rattle.cx_driver.proofs.weaving.weave.Goals as goal
@@ -19,6 +21,7 @@ returns-in-Ok c =
     record {
       answer = answer;
       cause = cause;
+      no_fault = never_faults c.none_ends.ensures d c.in-Ok.design.keeps (accepted_rules text d c.in-Ok.ensures.design) list (λ v. v.items) text json steps r c.in-Ok.ensures.design c.weave_design.ensures.answer;
       all_answers = λ bytes i. all_answered (λ v. v.items) does does (one_woven text json steps list) r answer cause bytes i;
       all_stops = λ why i. all_stopped (λ v. v.items) does does (one_woven text json steps list) r answer cause why i;
     }
@@ -34,6 +37,7 @@ returns-in-Err c =
     record {
       answer = tt;
       cause = cause;
+      no_fault = tt;
       all_answers = λ bytes i. all_answered {X = Unit {0}} (λ _. []) does does (one_woven text json steps list) (Err c.in-Err.stop) tt cause bytes i;
       all_stops = λ why i. all_stopped {X = Unit {0}} (λ _. []) does does (one_woven text json steps list) (Err c.in-Err.stop) tt cause why i;
     }
