@@ -53,15 +53,18 @@ module _ (lowered : PlainLowered) (count first assigns free : ℕ) (counts : cou
       → all ≡ plain_drivers lowered
   drivers_made islands none some all i n s a = rw (a, s, n, i, control, begins, counts) refl
 
-  bits_made : free - count ≡ bits lowered
-  bits_made = omega arith
-
-  pub wires_made : replicate count 32 ++ replicate (free - count) 1 ≡ plain_wires lowered
-  wires_made = ap₂ (λ g b. replicate g 32 ++ replicate b 1) counts bits_made
-
   pub wires_counted : free ≡ length (plain_wires lowered)
   wires_counted =
       let all : free ≡ groups lowered + bits lowered = omega arith in
       all
       ∙ ap₂ (λ a b. a + b) (sym (length-replicate (groups lowered) 32)) (sym (length-replicate (bits lowered) 1))
       ∙ sym (length-append (replicate (groups lowered) 32) (replicate (bits lowered) 1))
+
+-- so many wires, of which the first ones are the offsets of groups
+pub wires_split : (lowered : PlainLowered) (count : ℕ) → count ≡ length (plain_wires lowered) → replicate (groups lowered) 32 ++ replicate (count - groups lowered) 1 ≡ plain_wires lowered
+wires_split lowered count is =
+    let all : length (plain_wires lowered) ≡ groups lowered + bits lowered =
+    length-append (replicate (groups lowered) 32) (replicate (bits lowered) 1)
+    ∙ ap₂ (λ a b. a + b) (length-replicate (groups lowered) 32) (length-replicate (bits lowered) 1) in
+    let rest : count - groups lowered ≡ bits lowered = omega arith in
+    ap (λ n. replicate (groups lowered) 32 ++ replicate n 1) rest

@@ -1,13 +1,13 @@
 -- The drivers of statements with parts, piece by piece.
 use Rattle.std.proofs.Common.{◌≡◌, ℕ, suc, List, [], ◌∷◌, ◌++◌, Option, Some, None, length, refl, ◌∙◌, append_assoc, append-nil, zero-add}
-use Rattle.cx_meaning.specs.Designs.{PlainStatement, PlainStatements, no_statements, a_statement, Seq, Par}
+use Rattle.cx_meaning.specs.Designs.{PlainStatement, PlainStatements, no_statements, a_statement, Seq, Par, Repeat}
 use Rattle.cx_net.specs.Nets.{PlainNetExpr, AllOf, exprs_of, PlainNetDriver}
 use Rattle.cx_static.specs.Islands.{PlainIsland}
 use Rattle.cx_wiring.specs.Counts.{wires_in, positions_in, registers_in}
 use Rattle.cx_wiring.specs.Stands.{Stand, at, stands, ends, inside, behind}
-use Rattle.cx_wiring.specs.Control.{one_turn, arm_stand, arms_over, form_drivers, drivers_of, parts_drivers, arms_drivers}
+use Rattle.cx_wiring.specs.Control.{one_turn, arm_stand, arms_over, counted_inside, counting, form_drivers, drivers_of, parts_drivers, arms_drivers}
 use Rattle.cx_fsm.specs.PlainStands.{past, beside}
-use Rattle.cx_fsm.specs.ControlPieces.{behind_form, led, arm_ended, arm_made}
+use Rattle.cx_fsm.specs.ControlPieces.{behind_form, counted_rounds, led, arm_ended, arm_made}
 use Rattle.cx_fsm.proofs.StandLemmas.{past_inside, past_part}
 
 module _ (groups : ℕ) (islands : List PlainIsland) (x : Stand) where
@@ -62,3 +62,12 @@ module _ (groups : ℕ) (islands : List PlainIsland) (x : Stand) where
       → d₂ ≡ d₁ ++ ends x end ∷ []
       → d₂ ≡ d ++ form_drivers groups islands x (Par ss)
   par_made ss over end d d₁ d₂ e₁ o e e₂ = rw (e₂, e₁, e, o) (simp append_assoc)
+
+  -- REPEAT. The body, and the rounds
+  pub repeat_made : (n count last : ℕ) (a : PlainStatement) (y : Stand) (d d₁ d₂ d₃ : List PlainNetDriver)
+      → count ≡ suc n → last ≡ n → y ≡ counted_inside x → d₁ ≡ d
+      → d₂ ≡ d₁ ++ drivers_of groups islands y a
+      → d₃ ≡ d₂ ++ counted_rounds x y.wire last
+      → d₃ ≡ d ++ form_drivers groups islands x (Repeat count a)
+  repeat_made n count last a y d d₁ d₂ d₃ more is first e₁ e₂ e₃ =
+      rw (e₃, e₂, e₁, first, is, more) (append_assoc d (drivers_of groups islands (counted_inside x) a) (counting x n))

@@ -1,12 +1,12 @@
 -- Pieces of control, as the functions that append them have them.
 use Rattle.std.specs.Prelude.{ℕ, suc, ◌+◌, List, [], ◌∷◌, ◌++◌, length, Option, Some, None, slice_get}
 use Rattle.cx_meaning.specs.Designs.{PlainForm, PlainStatement}
-use Rattle.cx_net.specs.Nets.{PlainNetExpr, OfRegister, ToRegister, ToDone, PlainNetDriver}
+use Rattle.cx_net.specs.Nets.{PlainNetExpr, OfRegister, Sum, ToRegister, ToDone, PlainNetDriver}
 use Rattle.cx_static.specs.Islands.{PlainIsland}
-use Rattle.cx_wiring.specs.Parts.{word, one, either, equals, drive}
+use Rattle.cx_wiring.specs.Parts.{word, one, both, either, equals, drive}
 use Rattle.cx_wiring.specs.Counts.{form_positions, positions_of, form_wires, sample_registers, form_registers}
-use Rattle.cx_wiring.specs.Stands.{Stand, end_of, goes}
-use Rattle.cx_wiring.specs.Control.{drivers_of}
+use Rattle.cx_wiring.specs.Stands.{Stand, end_of, ends, goes}
+use Rattle.cx_wiring.specs.Control.{drivers_of, in_last_round, in_earlier_round}
 use Rattle.cx_fsm.specs.PlainStands.{past}
 
 -- what follows a statement of this form in its region
@@ -39,3 +39,12 @@ abbrev pub arm_made : ℕ → List PlainIsland → Stand → Stand → PlainStat
 arm_made groups islands par own s =
     drive (ToRegister own.region) (end_of par.wire) (word 0)
     ∷ (drivers_of groups islands own s ++ drive (ToRegister own.region) (end_of own.wire) (word (own.position + positions_of s)) ∷ [])
+
+-- the rounds of a repeat whose body has this first wire are counted, up to the last one
+abbrev pub counted_rounds : Stand → ℕ → ℕ → List PlainNetDriver
+counted_rounds x body n =
+    ends x (both (end_of body) (in_last_round x n))
+    ∷ goes x (both (end_of body) (in_earlier_round x n)) x.position
+    ∷ drive (ToRegister x.register) (end_of x.wire) (word 0)
+    ∷ drive (ToRegister x.register) (end_of body) (Sum (OfRegister x.register) (word 1))
+    ∷ []

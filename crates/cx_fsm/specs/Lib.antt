@@ -1,3 +1,4 @@
+pub mod Drafts
 pub mod Offsets
 pub mod PlainStands
 pub mod ControlPieces

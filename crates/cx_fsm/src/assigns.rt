@@ -1,48 +1,121 @@
 //! Assignments as drivers, in source order. The guard of an assignment in a group stands behind a wire, its gate, which looks at
 //! it only where the group goes.
 
-ghost use Rattle.std.specs.Prelude.{◌≡◌, ◌+◌, ◌<◌, ◌++◌, ◌||◌, ◌∷◌, [], ℕ, false, IfOk, OnOk, get_or, length, map};
+ghost use Rattle.std.specs.Prelude.{◌≡◌, ◌+◌, ◌<◌, ◌||◌, ℕ, false, IfOk, get_or, length, map};
 ghost use Rattle.cx_design.specs.PlainForms.{plain_assign, plain_guard};
 ghost use Rattle.cx_design_parts.specs.Plain.{plain_owned};
 ghost use Rattle.cx_net.specs.Nets.{OfPort};
-ghost use Rattle.cx_net.specs.PlainNets.{plain_net_drivers, plain_net_target};
+ghost use Rattle.cx_net.specs.PlainNets.{plain_net_target};
 ghost use Rattle.cx_static.specs.PlainLowered.{plain_island, plain_lowered, plain_occurrence};
 ghost use Rattle.cx_wiring.specs.Assignments as wired;
 ghost use Rattle.cx_wiring.specs.Assignments.{LooksAlways, LooksIn, target_of};
+ghost use Rattle.cx_fsm.specs.Drafts.{Adds, IfWhole};
 ghost use Rattle.cx_fsm.specs.Marks.{MarkGroups};
 ghost use Rattle.cx_fsm.specs.Offsets.{offset_of};
 
-use crate::drivers::drive;
+use crate::drafts::Draft;
 use crate::guards::guard_expr;
-use crate::numbers::{beyond, number_of};
 use cx_design::{Assign, GroupKind, Guard, PortRef};
 use cx_design_parts::{OwnedAssign, source_order};
-use cx_net::{NetDriver, NetExpr, NetTarget};
+use cx_net::{NetExpr, NetTarget};
 use cx_static::{Island, LoweredComponent, Occurrence};
 use cx_text::Memory;
 use std::alloc::Global;
 
-/// All assignments of a component of so many groups but those of static groups that no island has, with the first of their
-/// wires. Answers the first wire behind them.
+/// Assignments of a component of so many groups, with the first of their wires. Answers the first wire behind them.
 pub(crate) fn assigns_drivers(
-    alloc: Global,
+    draft: &mut Draft,
     groups: u32,
-    drivers: &mut Vec<NetDriver>,
     first: u32,
-    component: &LoweredComponent,
-) -> Result<u32, Memory>
-    ensures behind { IfOk result (λ wire. wire ≡ first + wired.assigns_wires (wired.driven_assigns (plain_lowered component.now))) }
-    ensures driven { OnOk result (plain_net_drivers drivers.new.items ≡ plain_net_drivers drivers.old.items ++ wired.assigns_drivers groups first (wired.driven_assigns (plain_lowered component.now))) }
+    assigns: &[OwnedAssign<'_>],
+) -> u32
+    ensures behind { IfWhole draft.new (result ≡ first + wired.assigns_wires (map plain_owned assigns.now)) }
+    ensures driven { Adds draft.old draft.new (wired.assigns_drivers groups first (map plain_owned assigns.now)) }
 {
     let mut wire = first;
-    for owned in driven_assigns(alloc, component)?.as_slice() {
-        wire = assign_drivers(alloc, groups, drivers, wire, *owned)?;
+    for owned in assigns {
+        wire = assign_drivers(draft, groups, wire, *owned);
     }
-    Ok(wire)
+    wire
 }
 
-/// The assignments that are driven, in source order.
-fn driven_assigns<'a>(
+/// An assignment of an owner, with the first of its wires. Answers the first wire behind them.
+fn assign_drivers(draft: &mut Draft, groups: u32, wire: u32, owned: OwnedAssign<'_>) -> u32
+    ensures behind { IfWhole draft.new (result ≡ wire + wired.assign_wires (plain_owned owned.entry)) }
+    ensures driven { Adds draft.old draft.new (wired.assign_drivers groups wire (plain_owned owned.entry)) }
+{
+    let Some(owner) = owned.owner else {
+        return open(draft, wire, None, owned.assign);
+    };
+    let group = draft.number_of(owner);
+    match owned.assign.target {
+        PortRef::Done(_) => open(draft, wire, Some(group), owned.assign),
+        PortRef::Cell(_, _) | PortRef::Input(_) | PortRef::Output(_) | PortRef::Literal(_, _) => {
+            gated(draft, groups, wire, group, owned.assign)
+        }
+    }
+}
+
+/// The target of an assignment: a port, or the done hole of a group.
+fn target(port: PortRef) -> NetTarget
+    ensures value { plain_net_target result ≡ target_of port }
+{
+    match port {
+        PortRef::Done(group) => NetTarget::Hole(group),
+        PortRef::Cell(_, _) | PortRef::Input(_) | PortRef::Output(_) | PortRef::Literal(_, _) => {
+            NetTarget::Port(port)
+        }
+    }
+}
+
+/// An assignment that drives whether its group goes or not: a continuous one, or that of a done.
+fn open(draft: &mut Draft, wire: u32, offset: Option<u32>, assign: &Assign) -> u32
+    ensures behind { IfWhole draft.new (result ≡ wire + wired.looking_wires (LooksAlways (offset_of offset)) (plain_guard assign.now.guard)) }
+    ensures driven { Adds draft.old draft.new (wired.looking_drivers 0 (LooksAlways (offset_of offset)) wire (plain_assign assign.now)) }
+{
+    let guard = guard_expr(draft, offset, wire, &assign.guard);
+    let source = NetExpr::Port(assign.source.port);
+    draft.drive(target(assign.target), guard.expr, source);
+    guard.behind
+}
+
+/// An assignment that drives where its group goes, and its guard, where it has one, is 1.
+fn gated(draft: &mut Draft, groups: u32, wire: u32, group: u32, assign: &Assign) -> u32
+    ensures behind { IfWhole draft.new (result ≡ wire + wired.looking_wires (LooksIn group) (plain_guard assign.now.guard)) }
+    ensures driven { Adds draft.old draft.new (wired.looking_drivers groups (LooksIn group) wire (plain_assign assign.now)) }
+{
+    let go = draft.beyond(groups, group);
+    let port = assign.source.port;
+    match &assign.guard {
+        Guard::True => {
+            draft.drive(
+                target(assign.target),
+                NetExpr::Hole(go),
+                NetExpr::Port(port),
+            );
+            wire
+        }
+        Guard::Port(_)
+        | Guard::Not(_)
+        | Guard::And(_)
+        | Guard::Or(_)
+        | Guard::Compare(_, _, _)
+        | Guard::During(_, _) => {
+            let inside = draft.beyond(wire, 1);
+            let guard = guard_expr(draft, Some(group), inside, &assign.guard);
+            draft.drive(NetTarget::Wire(wire), NetExpr::Hole(go), guard.expr);
+            draft.drive(
+                target(assign.target),
+                NetExpr::Wire(wire),
+                NetExpr::Port(port),
+            );
+            guard.behind
+        }
+    }
+}
+
+/// The assignments that are driven, in source order: all but those of static groups that no island has.
+pub(crate) fn driven_assigns<'a>(
     alloc: Global,
     component: &'a LoweredComponent,
 ) -> Result<Vec<OwnedAssign<'a>>, Memory>
@@ -96,91 +169,5 @@ fn is_driven(component: &LoweredComponent, marks: &[bool], owner: Option<usize>)
     match found.kind {
         GroupKind::Plain | GroupKind::Comb => true,
         GroupKind::Timed(_) => matches!(marks.get(group), Some(true)),
-    }
-}
-
-/// An assignment of an owner, with the first of its wires. Answers the first wire behind them.
-fn assign_drivers(
-    alloc: Global,
-    groups: u32,
-    drivers: &mut Vec<NetDriver>,
-    wire: u32,
-    owned: OwnedAssign<'_>,
-) -> Result<u32, Memory>
-    ensures behind { IfOk result (λ behind. behind ≡ wire + wired.assign_wires (plain_owned owned.entry)) }
-    ensures driven { OnOk result (plain_net_drivers drivers.new.items ≡ plain_net_drivers drivers.old.items ++ wired.assign_drivers groups wire (plain_owned owned.entry)) }
-{
-    let Some(owner) = owned.owner else {
-        return open(alloc, drivers, wire, None, owned.assign);
-    };
-    let group = number_of(owner)?;
-    match owned.assign.target {
-        PortRef::Done(_) => open(alloc, drivers, wire, Some(group), owned.assign),
-        PortRef::Cell(_, _) | PortRef::Input(_) | PortRef::Output(_) | PortRef::Literal(_, _) => {
-            gated(alloc, groups, drivers, wire, group, owned.assign)
-        }
-    }
-}
-
-/// The target of an assignment: a port, or the done hole of a group.
-fn target(port: PortRef) -> NetTarget
-    ensures value { plain_net_target result ≡ target_of port }
-{
-    match port {
-        PortRef::Done(group) => NetTarget::Hole(group),
-        PortRef::Cell(_, _) | PortRef::Input(_) | PortRef::Output(_) | PortRef::Literal(_, _) => {
-            NetTarget::Port(port)
-        }
-    }
-}
-
-/// An assignment that drives whether its group goes or not: a continuous one, or that of a done.
-fn open(
-    alloc: Global,
-    drivers: &mut Vec<NetDriver>,
-    wire: u32,
-    offset: Option<u32>,
-    assign: &Assign,
-) -> Result<u32, Memory>
-    ensures behind { IfOk result (λ behind. behind ≡ wire + wired.looking_wires (LooksAlways (offset_of offset)) (plain_guard assign.now.guard)) }
-    ensures driven { OnOk result (plain_net_drivers drivers.new.items ≡ plain_net_drivers drivers.old.items ++ wired.looking_drivers 0 (LooksAlways (offset_of offset)) wire (plain_assign assign.now)) }
-{
-    let guard = guard_expr(alloc, drivers, offset, wire, &assign.guard)?;
-    let source = NetExpr::Port(assign.source.port);
-    drive(drivers, target(assign.target), guard.expr, source)?;
-    Ok(guard.behind)
-}
-
-/// An assignment that drives where its group goes, and its guard, where it has one, is 1.
-fn gated(
-    alloc: Global,
-    groups: u32,
-    drivers: &mut Vec<NetDriver>,
-    wire: u32,
-    group: u32,
-    assign: &Assign,
-) -> Result<u32, Memory>
-    ensures behind { IfOk result (λ behind. behind ≡ wire + wired.looking_wires (LooksIn group) (plain_guard assign.now.guard)) }
-    ensures driven { OnOk result (plain_net_drivers drivers.new.items ≡ plain_net_drivers drivers.old.items ++ wired.looking_drivers groups (LooksIn group) wire (plain_assign assign.now)) }
-{
-    let go = NetExpr::Hole(beyond(groups, group)?);
-    let source = NetExpr::Port(assign.source.port);
-    match &assign.guard {
-        Guard::True => {
-            drive(drivers, target(assign.target), go, source)?;
-            Ok(wire)
-        }
-        Guard::Port(_)
-        | Guard::Not(_)
-        | Guard::And(_)
-        | Guard::Or(_)
-        | Guard::Compare(_, _, _)
-        | Guard::During(_, _) => {
-            let inside = beyond(wire, 1)?;
-            let guard = guard_expr(alloc, drivers, Some(group), inside, &assign.guard)?;
-            drive(drivers, NetTarget::Wire(wire), go, guard.expr)?;
-            drive(drivers, target(assign.target), NetExpr::Wire(wire), source)?;
-            Ok(guard.behind)
-        }
     }
 }

@@ -1,20 +1,18 @@
 //! Guards as expressions of one level. A part of a guard that is no port is a wire of its own, however deep it stands.
 
-ghost use Rattle.std.specs.Prelude.{◌≡◌, ◌+◌, ◌++◌, IfOk, OnOk, map};
+ghost use Rattle.std.specs.Prelude.{◌≡◌, ◌+◌, map};
 ghost use Rattle.cx_design.specs.PlainForms.{plain_guard};
 ghost use Rattle.cx_meaning.specs.Designs.{Within, guards_of};
 ghost use Rattle.cx_net.specs.Nets.{exprs_of};
-ghost use Rattle.cx_net.specs.PlainNets.{plain_net_drivers, plain_net_expr};
+ghost use Rattle.cx_net.specs.PlainNets.{plain_net_expr};
 ghost use Rattle.cx_wiring.specs.Guards as wired;
+ghost use Rattle.cx_fsm.specs.Drafts.{Adds, IfWhole, Keeps};
 ghost use Rattle.cx_fsm.specs.Offsets.{offset_of};
 
-use crate::drivers::connect;
-use crate::exprs::{bit, compare, inverse, word};
-use crate::numbers::{beyond, cycles};
+use crate::drafts::Draft;
+use crate::exprs::{bit, both, compare, inverse, word};
 use cx_design::{Comparison, Guard};
-use cx_net::{NetDriver, NetExpr};
-use cx_text::Memory;
-use std::alloc::Global;
+use cx_net::NetExpr;
 
 /// The wire of the offset that guards of a group look at; none for continuous assignments, whose offset is 0.
 pub(crate) type Offset = Option<u32>;
@@ -28,42 +26,36 @@ pub(crate) struct Guarded {
 
 /// A guard over its parts, which have wires from this one on.
 #[cycle(guard)]
-pub(crate) fn guard_expr(
-    alloc: Global,
-    drivers: &mut Vec<NetDriver>,
-    offset: Offset,
-    wire: u32,
-    guard: &Guard,
-) -> Result<Guarded, Memory>
-    ensures expr { IfOk result (λ g. plain_net_expr g.expr ≡ wired.guard_expr (offset_of offset) wire (plain_guard guard.now)) }
-    ensures behind { IfOk result (λ g. g.behind ≡ wire + wired.guard_wires (plain_guard guard.now)) }
-    ensures driven { OnOk result (plain_net_drivers drivers.new.items ≡ plain_net_drivers drivers.old.items ++ wired.guard_drivers (offset_of offset) wire (plain_guard guard.now)) }
+pub(crate) fn guard_expr(draft: &mut Draft, offset: Offset, wire: u32, guard: &Guard) -> Guarded
+    ensures expr { IfWhole draft.new (plain_net_expr result.expr ≡ wired.guard_expr (offset_of offset) wire (plain_guard guard.now)) }
+    ensures behind { IfWhole draft.new (result.behind ≡ wire + wired.guard_wires (plain_guard guard.now)) }
+    ensures driven { Adds draft.old draft.new (wired.guard_drivers (offset_of offset) wire (plain_guard guard.now)) }
 {
     match guard {
-        Guard::True => Ok(alone(bit(true), wire)),
-        Guard::Port(port) => Ok(alone(NetExpr::Port(port.port), wire)),
+        Guard::True => alone(bit(true), wire),
+        Guard::Port(port) => alone(NetExpr::Port(port.port), wire),
         Guard::Not(inner) => {
-            let part = part(alloc, drivers, offset, wire, inner)?;
-            let expr = inverse(alloc, part.expr)?;
+            let part = part(draft, offset, wire, inner);
+            let expr = inverse(draft, part.expr);
             let behind = part.behind;
-            Ok(Guarded { expr, behind })
+            Guarded { expr, behind }
         }
         Guard::And(guards) => {
-            let (exprs, behind) = parts(alloc, drivers, offset, wire, guards)?;
+            let (exprs, behind) = parts(draft, offset, wire, guards);
             let expr = NetExpr::And(exprs);
-            Ok(Guarded { expr, behind })
+            Guarded { expr, behind }
         }
         Guard::Or(guards) => {
-            let (exprs, behind) = parts(alloc, drivers, offset, wire, guards)?;
+            let (exprs, behind) = parts(draft, offset, wire, guards);
             let expr = NetExpr::Or(exprs);
-            Ok(Guarded { expr, behind })
+            Guarded { expr, behind }
         }
         Guard::Compare(comparison, one, other) => {
             let one = NetExpr::Port(one.port);
-            let expr = compare(alloc, *comparison, one, NetExpr::Port(other.port))?;
-            Ok(alone(expr, wire))
+            let expr = compare(draft, *comparison, one, NetExpr::Port(other.port));
+            alone(expr, wire)
         }
-        Guard::During(from, to) => Ok(alone(during(alloc, offset, *from, *to)?, wire)),
+        Guard::During(from, to) => alone(during(draft, offset, *from, *to), wire),
     }
 }
 
@@ -78,65 +70,54 @@ fn alone(expr: NetExpr, wire: u32) -> Guarded
 
 /// The parts of a guard, with the first of their wires; and the first wire behind these.
 #[cycle(guard)]
-fn parts(
-    alloc: Global,
-    drivers: &mut Vec<NetDriver>,
-    offset: Offset,
-    first: u32,
-    guards: &[Guard],
-) -> Result<(Vec<NetExpr>, u32), Memory>
-    ensures exprs { IfOk result (λ r. exprs_of (map plain_net_expr r.0.items) ≡ wired.parts_exprs first (guards_of (map plain_guard guards.now))) }
-    ensures behind { IfOk result (λ r. r.1 ≡ first + wired.parts_wires (guards_of (map plain_guard guards.now))) }
-    ensures driven { OnOk result (plain_net_drivers drivers.new.items ≡ plain_net_drivers drivers.old.items ++ wired.parts_drivers (offset_of offset) first (guards_of (map plain_guard guards.now))) }
+fn parts(draft: &mut Draft, offset: Offset, first: u32, guards: &[Guard]) -> (Vec<NetExpr>, u32)
+    ensures exprs { IfWhole draft.new (exprs_of (map plain_net_expr result.0.items) ≡ wired.parts_exprs first (guards_of (map plain_guard guards.now))) }
+    ensures behind { IfWhole draft.new (result.1 ≡ first + wired.parts_wires (guards_of (map plain_guard guards.now))) }
+    ensures driven { Adds draft.old draft.new (wired.parts_drivers (offset_of offset) first (guards_of (map plain_guard guards.now))) }
 {
-    let mut exprs = Vec::with_capacity(alloc, guards.len())?;
+    let mut exprs = Vec::new(draft.alloc);
     let mut wire = first;
     for guard in guards {
-        let part = part(alloc, drivers, offset, wire, guard)?;
-        exprs.push(part.expr)?;
+        let part = part(draft, offset, wire, guard);
+        draft.push(&mut exprs, part.expr);
         wire = part.behind;
     }
-    Ok((exprs, wire))
+    (exprs, wire)
 }
 
 /// A part of a guard: a port, or a wire before those of its own parts.
 #[cycle(guard)]
-fn part(
-    alloc: Global,
-    drivers: &mut Vec<NetDriver>,
-    offset: Offset,
-    wire: u32,
-    guard: &Guard,
-) -> Result<Guarded, Memory>
-    ensures expr { IfOk result (λ g. plain_net_expr g.expr ≡ wired.part_expr wire (plain_guard guard.now)) }
-    ensures behind { IfOk result (λ g. g.behind ≡ wire + wired.part_wires (plain_guard guard.now)) }
-    ensures driven { OnOk result (plain_net_drivers drivers.new.items ≡ plain_net_drivers drivers.old.items ++ wired.part_drivers (offset_of offset) wire (plain_guard guard.now)) }
+fn part(draft: &mut Draft, offset: Offset, wire: u32, guard: &Guard) -> Guarded
+    ensures expr { IfWhole draft.new (plain_net_expr result.expr ≡ wired.part_expr wire (plain_guard guard.now)) }
+    ensures behind { IfWhole draft.new (result.behind ≡ wire + wired.part_wires (plain_guard guard.now)) }
+    ensures driven { Adds draft.old draft.new (wired.part_drivers (offset_of offset) wire (plain_guard guard.now)) }
 {
     match guard {
-        Guard::Port(port) => Ok(alone(NetExpr::Port(port.port), wire)),
+        Guard::Port(port) => alone(NetExpr::Port(port.port), wire),
         Guard::True
         | Guard::Not(_)
         | Guard::And(_)
         | Guard::Or(_)
         | Guard::Compare(_, _, _)
         | Guard::During(_, _) => {
-            let inner = guard_expr(alloc, drivers, offset, beyond(wire, 1)?, guard)?;
-            connect(drivers, wire, inner.expr)?;
-            Ok(alone(NetExpr::Wire(wire), inner.behind))
+            let inside = draft.beyond(wire, 1);
+            let inner = guard_expr(draft, offset, inside, guard);
+            draft.connect(wire, inner.expr);
+            alone(NetExpr::Wire(wire), inner.behind)
         }
     }
 }
 
 /// Whether an offset is from the first to before the second.
-fn during(alloc: Global, offset: Offset, from: u64, to: u64) -> Result<NetExpr, Memory>
-    ensures value { IfOk result (λ e. plain_net_expr e ≡ wired.guard_expr (offset_of offset) 0 (Within from to)) }
+fn during(draft: &mut Draft, offset: Offset, from: u64, to: u64) -> NetExpr
+    ensures kept { Keeps draft.old draft.new }
+    ensures value { IfWhole draft.new (plain_net_expr result ≡ wired.guard_expr (offset_of offset) 0 (Within from to)) }
 {
-    let mut parts = Vec::with_capacity(alloc, 2)?;
-    let first = word(cycles(from)?);
-    parts.push(compare(alloc, Comparison::AtLeast, offset_expr(offset), first)?)?;
-    let behind = word(cycles(to)?);
-    parts.push(compare(alloc, Comparison::Less, offset_expr(offset), behind)?)?;
-    Ok(NetExpr::And(parts))
+    let first = word(draft.cycles(from));
+    let begun = compare(draft, Comparison::AtLeast, offset_expr(offset), first);
+    let behind = word(draft.cycles(to));
+    let goes_on = compare(draft, Comparison::Less, offset_expr(offset), behind);
+    both(draft, begun, goes_on)
 }
 
 /// The offset that guards look at.

@@ -6,7 +6,7 @@ mod building;
 mod components;
 mod control;
 mod copies;
-mod drivers;
+mod drafts;
 mod exprs;
 mod guards;
 mod islands;

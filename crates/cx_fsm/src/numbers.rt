@@ -23,13 +23,3 @@ pub(crate) fn beyond(first: u32, second: u32) -> Result<u32, Memory>
         None => Err(Memory),
     }
 }
-
-/// A number of cycles in 32 bits. A static statement of more is in no accepted design.
-pub(crate) fn cycles(count: u64) -> Result<u32, Memory>
-    ensures value { IfOk result (λ number. number ≡ count) }
-{
-    match u32::try_from(count) {
-        Ok(number) => Ok(number),
-        Err(_) => Err(Memory),
-    }
-}

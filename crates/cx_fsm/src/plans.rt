@@ -24,13 +24,6 @@ pub(crate) struct Plan<'a> {
 }
 
 impl Plan<'_> {
-    /// The hole that says that a group goes.
-    pub fn go(&self, group: u32) -> Result<u32, Memory>
-        ensures value { IfOk result (λ hole. hole ≡ self.now.groups + group) }
-    {
-        beyond(self.groups, group)
-    }
-
     /// The first wire of an island.
     pub fn first_of(&self, island: u32) -> u32
         requires { HasFirsts self.now }

@@ -1,18 +1,18 @@
 //! Trees of drivers. At most 16 drivers of one target stand together. Where there are more, each 16 of them are a bundle, which drives
 //! the target by two wires: whether one of its drivers is on, and what the first that is on gives.
 
-ghost use Rattle.std.specs.Prelude.{◌≡◌, ◌++◌, ◌∷◌, ◌↔◌, [], ℕ, suc, List, length, IfOk, IsTrue, OnOk};
+ghost use Rattle.std.specs.Prelude.{◌≡◌, ◌++◌, ◌∷◌, ◌↔◌, [], suc, ℕ, List, length, IfOk, IsTrue};
 ghost use Rattle.cx_net.specs.Nets.{OfWire, PlainNetDriver, PlainNetTarget, ToWire};
 ghost use Rattle.cx_net.specs.PlainNets.{plain_net_driver, plain_net_drivers, plain_net_target};
 ghost use Rattle.cx_wiring.specs.Parts as parts;
 ghost use Rattle.cx_wiring.specs.Trees as wired;
 ghost use Rattle.cx_wiring.specs.Trees.{together};
+ghost use Rattle.cx_fsm.specs.Drafts.{Adds, IfWhole, IsWhole};
 ghost use Rattle.cx_fsm.specs.KnownWidths.{KnowsWidths, width_in};
-ghost use Rattle.cx_fsm.specs.Leaves.{all_drivers, all_widths, plain_rank};
+ghost use Rattle.cx_fsm.specs.Leaves.{Grows, all_drivers, all_widths, plain_rank};
 
-use crate::drivers::drive;
+use crate::drafts::Draft;
 use crate::exprs::{bit, copied};
-use crate::numbers::beyond;
 use crate::widths::Widths;
 use cx_design::PortRef;
 use cx_net::{NetDriver, NetExpr, NetTarget};
@@ -25,7 +25,7 @@ const TOGETHER: usize = 16;
 /// Trees as far as they are made: their drivers, the widths of their wires, and the next wire.
 #[derive(Drop)]
 pub(crate) struct Trees {
-    pub drivers: Vec<NetDriver>,
+    pub draft: Draft,
     pub widths: Vec<u8>,
     pub next: u32,
 }
@@ -37,36 +37,51 @@ pub(crate) struct Leaves {
     pub drivers: Vec<NetDriver>,
 }
 
-/// The drivers of each target as a tree, whose wires begin at the first one that is free.
-pub(crate) fn with_trees(
-    alloc: Global,
-    widths: &Widths<'_>,
-    drivers: Vec<NetDriver>,
-    first: u32,
-) -> Result<Trees, Memory>
+impl Trees {
+    /// No tree yet, and the first wire that is free.
+    pub fn new(alloc: Global, first: u32) -> Trees
+        ensures drivers { result.draft.drivers.items ≡ [] }
+        ensures widths { result.widths.items ≡ [] }
+        ensures next { result.next ≡ first }
+    {
+        Trees {
+            draft: Draft::new(alloc),
+            widths: Vec::new(alloc),
+            next: first,
+        }
+    }
+
+    /// One more wire of this width.
+    fn wire(&mut self, width: u8) -> u32
+        ensures value { result ≡ self.old.next }
+        ensures grows { Grows self.old self.new [] (width ∷ []) (suc self.old.next) }
+    {
+        let wire = self.next;
+        self.next = self.draft.beyond(wire, 1);
+        self.draft.push(&mut self.widths, width);
+        wire
+    }
+}
+
+/// Adds drivers, which stand by their targets, those of each target as a tree.
+pub(crate) fn add_trees(trees: &mut Trees, widths: &Widths<'_>, drivers: Vec<NetDriver>)
     requires { KnowsWidths widths.now }
-    ensures drivers { IfOk result (λ t. plain_net_drivers t.drivers.items ≡ wired.trees first (wired.driven (wired.by_target (plain_net_drivers drivers.items)))) }
-    ensures widths { IfOk result (λ t. t.widths.items ≡ wired.tree_widths (width_in widths.now) (wired.driven (wired.by_target (plain_net_drivers drivers.items)))) }
+    ensures drivers { IfWhole trees.new.draft (plain_net_drivers trees.new.draft.drivers.items ≡ plain_net_drivers trees.old.draft.drivers.items ++ wired.trees trees.old.next (wired.driven (plain_net_drivers drivers.items))) }
+    ensures widths { IfWhole trees.new.draft (trees.new.widths.items ≡ trees.old.widths.items ++ wired.tree_widths (width_in widths.now) (wired.driven (plain_net_drivers drivers.items))) }
 {
-    let mut trees = Trees {
-        drivers: Vec::new(alloc),
-        widths: Vec::new(alloc),
-        next: first,
-    };
     let mut leaves = Leaves {
         target: NetTarget::Done,
-        drivers: Vec::new(alloc),
+        drivers: Vec::new(trees.draft.alloc),
     };
-    for driver in by_target(drivers)? {
-        leaves = leaves_of(alloc, widths, &mut trees, leaves, driver.target)?;
-        leaves = with_leaf(leaves, driver)?;
+    for driver in drivers {
+        leaves = leaves_of(trees, widths, leaves, driver.target);
+        leaves = with_leaf(trees, leaves, driver);
     }
-    add_tree(alloc, widths, &mut trees, leaves)?;
-    Ok(trees)
+    add_tree(trees, widths, leaves);
 }
 
 /// Drivers by their targets, those of one target as they stood.
-fn by_target(drivers: Vec<NetDriver>) -> Result<Vec<NetDriver>, Memory>
+pub(crate) fn by_target(drivers: Vec<NetDriver>) -> Result<Vec<NetDriver>, Memory>
     ensures value { IfOk result (λ list. plain_net_drivers list.items ≡ wired.by_target (plain_net_drivers drivers.items)) }
 {
     let mut list = drivers;
@@ -75,26 +90,21 @@ fn by_target(drivers: Vec<NetDriver>) -> Result<Vec<NetDriver>, Memory>
 }
 
 /// The leaves with which a driver of a target stands: those at hand, or, where they are of another target, whose tree is made, new ones.
-fn leaves_of(
-    alloc: Global,
-    widths: &Widths<'_>,
-    trees: &mut Trees,
-    leaves: Leaves,
-    target: NetTarget,
-) -> Result<Leaves, Memory>
+fn leaves_of(trees: &mut Trees, widths: &Widths<'_>, leaves: Leaves, target: NetTarget) -> Leaves
     requires { KnowsWidths widths.now }
-    ensures target { IfOk result (λ l. l.target ≡ target) }
-    ensures drivers { IfOk result (λ l. (d : PlainNetDriver) (ds : List PlainNetDriver) → d.target ≡ plain_net_target target → all_drivers trees.new l (d ∷ ds) ≡ all_drivers trees.old leaves (d ∷ ds)) }
-    ensures widths { IfOk result (λ l. (d : PlainNetDriver) (ds : List PlainNetDriver) → d.target ≡ plain_net_target target → all_widths (width_in widths.now) trees.new l (d ∷ ds) ≡ all_widths (width_in widths.now) trees.old leaves (d ∷ ds)) }
+    ensures target { result.target ≡ target }
+    ensures whole { IfWhole trees.new.draft (IsWhole trees.old.draft) }
+    ensures drivers { IfWhole trees.new.draft ((d : PlainNetDriver) (ds : List PlainNetDriver) → d.target ≡ plain_net_target target → all_drivers trees.new result (d ∷ ds) ≡ all_drivers trees.old leaves (d ∷ ds)) }
+    ensures widths { IfWhole trees.new.draft ((d : PlainNetDriver) (ds : List PlainNetDriver) → d.target ≡ plain_net_target target → all_widths (width_in widths.now) trees.new result (d ∷ ds) ≡ all_widths (width_in widths.now) trees.old leaves (d ∷ ds)) }
 {
     if is_same(target, leaves.target) {
-        return Ok(leaves);
+        return leaves;
     }
-    add_tree(alloc, widths, trees, leaves)?;
-    Ok(Leaves {
+    add_tree(trees, widths, leaves);
+    Leaves {
         target,
-        drivers: Vec::new(alloc),
-    })
+        drivers: Vec::new(trees.draft.alloc),
+    }
 }
 
 /// Whether two targets are one.
@@ -105,115 +115,85 @@ fn is_same(one: NetTarget, other: NetTarget) -> bool
 }
 
 /// One more driver of the target.
-fn with_leaf(mut leaves: Leaves, driver: NetDriver) -> Result<Leaves, Memory>
+fn with_leaf(trees: &mut Trees, mut leaves: Leaves, driver: NetDriver) -> Leaves
     requires { driver.target ≡ leaves.target }
-    ensures drivers { IfOk result (λ l. (trees : Trees) (ds : List PlainNetDriver) → all_drivers trees l ds ≡ all_drivers trees leaves (plain_net_driver driver ∷ ds)) }
-    ensures widths { IfOk result (λ l. (width : PlainNetTarget → ℕ) (trees : Trees) (ds : List PlainNetDriver) → all_widths width trees l ds ≡ all_widths width trees leaves (plain_net_driver driver ∷ ds)) }
+    ensures whole { IfWhole trees.new.draft (IsWhole trees.old.draft) }
+    ensures drivers { IfWhole trees.new.draft ((ds : List PlainNetDriver) → all_drivers trees.new result ds ≡ all_drivers trees.old leaves (plain_net_driver driver ∷ ds)) }
+    ensures widths { IfWhole trees.new.draft ((width : PlainNetTarget → ℕ) (ds : List PlainNetDriver) → all_widths width trees.new result ds ≡ all_widths width trees.old leaves (plain_net_driver driver ∷ ds)) }
 {
-    leaves.drivers.push(driver)?;
-    Ok(leaves)
+    trees.draft.push(&mut leaves.drivers, driver);
+    leaves
 }
 
 /// The tree of a target.
-fn add_tree(
-    alloc: Global,
-    widths: &Widths<'_>,
-    trees: &mut Trees,
-    leaves: Leaves,
-) -> Result<(), Memory>
+fn add_tree(trees: &mut Trees, widths: &Widths<'_>, leaves: Leaves)
     requires { KnowsWidths widths.now }
-    ensures drivers { OnOk result (plain_net_drivers trees.new.drivers.items ≡ plain_net_drivers trees.old.drivers.items ++ wired.tree (plain_net_target leaves.target) trees.old.next (plain_net_drivers leaves.drivers.items)) }
-    ensures widths { OnOk result (trees.new.widths.items ≡ trees.old.widths.items ++ wired.pair_widths (width_in widths.now (plain_net_target leaves.target)) (wired.pairs (length (plain_net_drivers leaves.drivers.items)))) }
-    ensures next { OnOk result (trees.new.next ≡ wired.behind trees.old.next (wired.pairs (length (plain_net_drivers leaves.drivers.items)))) }
+    ensures grows { let ds = plain_net_drivers leaves.drivers.items in let pairs = wired.pairs (length ds) in let target = plain_net_target leaves.target in
+        Grows trees.old trees.new (wired.tree target trees.old.next ds) (wired.pair_widths (width_in widths.now target) pairs) (wired.behind trees.old.next pairs) }
 {
     let target = leaves.target;
     let width = widths.of(target);
     let mut level = leaves.drivers;
     while level.len() > TOGETHER {
-        level = bundled(alloc, trees, width, target, level.as_slice())?;
+        level = bundled(trees, width, target, level.as_slice());
+        if !trees.draft.is_whole {
+            return;
+        }
     }
-    move_all(alloc, &mut trees.drivers, target, level.as_slice())?;
-    Ok(())
+    move_all(&mut trees.draft, target, level.as_slice());
 }
 
 /// The bundles of some drivers, each as a driver of a target of this width.
-fn bundled(
-    alloc: Global,
-    trees: &mut Trees,
-    width: u8,
-    target: NetTarget,
-    drivers: &[NetDriver],
-) -> Result<Vec<NetDriver>, Memory>
-    ensures heads { IfOk result (λ heads. plain_net_drivers heads.items ≡ wired.heads (plain_net_target target) trees.old.next (wired.bundles together (plain_net_drivers drivers.now))) }
-    ensures drivers { OnOk result (plain_net_drivers trees.new.drivers.items ≡ plain_net_drivers trees.old.drivers.items ++ wired.bundle_drivers trees.old.next (wired.bundles together (plain_net_drivers drivers.now))) }
-    ensures widths { OnOk result (trees.new.widths.items ≡ trees.old.widths.items ++ wired.pair_widths width (length (wired.bundles together (plain_net_drivers drivers.now)))) }
-    ensures next { OnOk result (trees.new.next ≡ wired.behind trees.old.next (length (wired.bundles together (plain_net_drivers drivers.now)))) }
+fn bundled(trees: &mut Trees, width: u8, target: NetTarget, drivers: &[NetDriver]) -> Vec<NetDriver>
+    ensures heads { IfWhole trees.new.draft (plain_net_drivers result.items ≡ wired.heads (plain_net_target target) trees.old.next (wired.bundles together (plain_net_drivers drivers.now))) }
+    ensures grows { let bundles = wired.bundles together (plain_net_drivers drivers.now) in
+        Grows trees.old trees.new (wired.bundle_drivers trees.old.next bundles) (wired.pair_widths width (length bundles)) (wired.behind trees.old.next (length bundles)) }
 {
-    let mut heads = Vec::new(alloc);
+    let mut heads = Vec::new(trees.draft.alloc);
     for bundle in drivers.chunks(TOGETHER) {
-        heads.push(head_of(alloc, trees, width, target, bundle)?)?;
+        let head = head_of(trees, width, target, bundle);
+        trees.draft.push(&mut heads, head);
     }
-    Ok(heads)
+    heads
 }
 
 /// A bundle as a driver of a target of this width, by two wires more.
-fn head_of(
-    alloc: Global,
-    trees: &mut Trees,
-    width: u8,
-    target: NetTarget,
-    bundle: &[NetDriver],
-) -> Result<NetDriver, Memory>
-    ensures head { IfOk result (λ head. plain_net_driver head ≡ parts.drive (plain_net_target target) (OfWire trees.old.next) (OfWire (suc trees.old.next))) }
-    ensures drivers { OnOk result (plain_net_drivers trees.new.drivers.items ≡ plain_net_drivers trees.old.drivers.items ++ (wired.switches trees.old.next (plain_net_drivers bundle.now) ++ wired.moved (ToWire (suc trees.old.next)) (plain_net_drivers bundle.now))) }
-    ensures widths { OnOk result (trees.new.widths.items ≡ trees.old.widths.items ++ 1 ∷ width ∷ []) }
-    ensures next { OnOk result (trees.new.next ≡ suc (suc trees.old.next)) }
+fn head_of(trees: &mut Trees, width: u8, target: NetTarget, bundle: &[NetDriver]) -> NetDriver
+    ensures head { IfWhole trees.new.draft (plain_net_driver result ≡ parts.drive (plain_net_target target) (OfWire trees.old.next) (OfWire (suc trees.old.next))) }
+    ensures grows { Grows trees.old trees.new
+        (wired.switches trees.old.next (plain_net_drivers bundle.now) ++ wired.moved (ToWire (suc trees.old.next)) (plain_net_drivers bundle.now))
+        (1 ∷ width ∷ []) (suc (suc trees.old.next)) }
 {
-    let on = trees.next;
-    let value = beyond(on, 1)?;
-    trees.next = beyond(value, 1)?;
-    trees.widths.push(1)?;
-    trees.widths.push(width)?;
-    switch_all(alloc, &mut trees.drivers, on, bundle)?;
-    move_all(alloc, &mut trees.drivers, NetTarget::Wire(value), bundle)?;
-    Ok(NetDriver {
+    let on = trees.wire(1);
+    let value = trees.wire(width);
+    switch_all(&mut trees.draft, on, bundle);
+    move_all(&mut trees.draft, NetTarget::Wire(value), bundle);
+    NetDriver {
         target,
         guard: NetExpr::Wire(on),
         source: NetExpr::Wire(value),
-    })
+    }
 }
 
 /// A wire that is 1 where one of some drivers is on.
-fn switch_all(
-    alloc: Global,
-    drivers: &mut Vec<NetDriver>,
-    wire: u32,
-    bundle: &[NetDriver],
-) -> Result<(), Memory>
-    ensures value { OnOk result (plain_net_drivers drivers.new.items ≡ plain_net_drivers drivers.old.items ++ wired.switches wire (plain_net_drivers bundle.now)) }
+fn switch_all(draft: &mut Draft, wire: u32, bundle: &[NetDriver])
+    ensures driven { Adds draft.old draft.new (wired.switches wire (plain_net_drivers bundle.now)) }
 {
     for driver in bundle {
-        let guard = copied(alloc, &driver.guard)?;
-        drive(drivers, NetTarget::Wire(wire), guard, bit(true))?;
+        let guard = copied(draft, &driver.guard);
+        draft.drive(NetTarget::Wire(wire), guard, bit(true));
     }
-    Ok(())
 }
 
 /// A target that some drivers drive.
-fn move_all(
-    alloc: Global,
-    drivers: &mut Vec<NetDriver>,
-    target: NetTarget,
-    bundle: &[NetDriver],
-) -> Result<(), Memory>
-    ensures value { OnOk result (plain_net_drivers drivers.new.items ≡ plain_net_drivers drivers.old.items ++ wired.moved (plain_net_target target) (plain_net_drivers bundle.now)) }
+fn move_all(draft: &mut Draft, target: NetTarget, bundle: &[NetDriver])
+    ensures driven { Adds draft.old draft.new (wired.moved (plain_net_target target) (plain_net_drivers bundle.now)) }
 {
     for driver in bundle {
-        let guard = copied(alloc, &driver.guard)?;
-        let source = copied(alloc, &driver.source)?;
-        drive(drivers, target, guard, source)?;
+        let guard = copied(draft, &driver.guard);
+        let source = copied(draft, &driver.source);
+        draft.drive(target, guard, source);
     }
-    Ok(())
 }
 
 /// The rank of a target in the order of targets.

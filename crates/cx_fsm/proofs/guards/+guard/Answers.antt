@@ -4,6 +4,7 @@ use Rattle.cx_meaning.specs.Designs.{guards_of}
 use Rattle.cx_design.specs.PlainForms.{plain_guard}
 use Rattle.cx_net.specs.PlainNets.{plain_net_drivers, plain_net_expr}
 use Rattle.cx_static.proofs.ControlLemmas.{drop_item}
+use Rattle.cx_fsm.specs.Drafts.{IsWhole}
 use Rattle.cx_fsm.specs.Offsets.{offset_of}
 use Rattle.cx_fsm.proofs.PartLemmas.{joined_none, next_expr, next_wires, next_drivers}
 use Rattle.cx_fsm.proofs.guards.+guard.Goals as goal
@@ -14,17 +15,24 @@ parts-loop-guard-preserved t c =
     let g = plain_guard c.guard-item.result in
     let rest = guards_of (map plain_guard (drop (c.loop-guard.guard-index + 1) c.args.guards.now)) in
     let wire = c.loop-guard.wire in
-    let behind = c.in_ok-part.part.behind in
-    let is = c.in_ok-part.ensures.behind in
+    let made = c.part-part.result in
+    let so_far : IsWhole c.push.new.self → IsWhole c.loop-guard.draft = λ h. c.part-part.ensures.driven.whole (c.push.ensures.kept.whole h) in
     record {
-      exprs =
-          rw (c.in_ok-push.ensures.items, map_push plain_net_expr c.loop-guard.exprs.items c.in_ok-part.part.expr)
-          (next_expr wire behind g rest is (map plain_net_expr c.loop-guard.exprs.items) (plain_net_expr c.in_ok-part.part.expr) _ c.in_ok-part.ensures.expr (rw other at c.loop-guard.invariant.exprs));
-      wires = next_wires wire behind g rest is _ (rw other at c.loop-guard.invariant.wires);
-      driven = next_drivers wire behind g rest is (offset_of c.args.offset) (plain_net_drivers c.loop-guard.drivers.items) _ _ c.in_ok-part.ensures.driven (rw other at c.loop-guard.invariant.driven);
+      exprs = λ h.
+          rw (c.push.ensures.value h, map_push plain_net_expr c.loop-guard.exprs.items made.expr)
+          (next_expr wire made.behind g rest (c.part-part.ensures.behind (c.push.ensures.kept.whole h)) (map plain_net_expr c.loop-guard.exprs.items) (plain_net_expr made.expr) _
+          (c.part-part.ensures.expr (c.push.ensures.kept.whole h)) (rw other at (c.loop-guard.invariant.exprs (so_far h))));
+      wires = λ h. next_wires wire made.behind g rest (c.part-part.ensures.behind (c.push.ensures.kept.whole h)) _ (rw other at (c.loop-guard.invariant.wires (so_far h)));
+      driven = record {
+        whole = λ h. c.loop-guard.invariant.driven.whole (so_far h);
+        driven = λ h.
+            rw c.push.ensures.kept.kept
+            (next_drivers wire made.behind g rest (c.part-part.ensures.behind (c.push.ensures.kept.whole h)) (offset_of c.args.offset) (plain_net_drivers c.loop-guard.draft.drivers.items) _ _
+            (c.part-part.ensures.driven.driven (c.push.ensures.kept.whole h)) (rw other at (c.loop-guard.invariant.driven.driven (so_far h))));
+      };
     }
 
 pub parts-returns-clause-exprs : goal.parts-returns-clause-exprs
-parts-returns-clause-exprs t c =
+parts-returns-clause-exprs t c = λ h.
     let none : drop c.loop-guard.guard-index c.args.guards.now ≡ [] = drop_all _ _ c.loop-guard-test.false in
-    sym (joined_none (map plain_net_expr c.loop-guard.exprs.items)) ∙ (rw none at c.loop-guard.invariant.exprs)
+    sym (joined_none (map plain_net_expr c.loop-guard.exprs.items)) ∙ (rw none at (c.loop-guard.invariant.exprs h))

@@ -1,12 +1,13 @@
-use Rattle.std.proofs.Common.{◌≡◌, ◌++◌, drop, map}
-use Rattle.cx_net.specs.PlainNets.{plain_net_drivers}
+use Rattle.std.proofs.Common.{drop, map}
 use Rattle.cx_static.specs.PlainLowered.{plain_point}
 use Rattle.cx_wiring.specs.IslandDrivers.{point_drivers}
+use Rattle.cx_fsm.specs.Drafts.{AddsRest}
 use Rattle.cx_fsm.specs.Places.{at_place}
 use Rattle.cx_fsm.proofs.islands.points.Given as goal
 
 -- the drivers so far, and those of what is left, are all
 abbrev pub invariant-loop-number : goal.invariant-loop-number
 invariant-loop-number l =
-    plain_net_drivers l.drivers.items ++ at_place point_drivers l.place l.number (map plain_point (drop l.number l.place.island.now.points.items))
-    ≡ plain_net_drivers l.initial.drivers.items ++ at_place point_drivers l.place 0 (map plain_point l.place.island.now.points.items)
+    AddsRest l.initial.draft l.draft
+    (at_place point_drivers l.place l.number (map plain_point (drop l.number l.place.island.now.points.items)))
+    (at_place point_drivers l.place 0 (map plain_point l.place.island.now.points.items))

@@ -1,11 +1,12 @@
-use Rattle.std.proofs.Common.{◌≡◌, ◌++◌, drop}
-use Rattle.cx_net.specs.PlainNets.{plain_net_drivers}
+use Rattle.std.proofs.Common.{drop}
 use Rattle.cx_wiring.specs.IslandDrivers.{timer_drivers}
+use Rattle.cx_fsm.specs.Drafts.{AddsRest}
 use Rattle.cx_fsm.specs.Places.{at_place}
 use Rattle.cx_fsm.proofs.islands.timers.Given as goal
 
 -- the drivers so far, and those of what is left, are all
 abbrev pub invariant-loop-number : goal.invariant-loop-number
 invariant-loop-number l =
-    plain_net_drivers l.drivers.items ++ at_place timer_drivers l.place l.number (drop l.number l.place.island.now.timers.items)
-    ≡ plain_net_drivers l.initial.drivers.items ++ at_place timer_drivers l.place 0 l.place.island.now.timers.items
+    AddsRest l.initial.draft l.draft
+    (at_place timer_drivers l.place l.number (drop l.number l.place.island.now.timers.items))
+    (at_place timer_drivers l.place 0 l.place.island.now.timers.items)

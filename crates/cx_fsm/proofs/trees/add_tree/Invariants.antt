@@ -1,6 +1,7 @@
 use Rattle.std.proofs.Common.{◌≡◌, ◌++◌, length}
 use Rattle.cx_net.specs.PlainNets.{plain_net_drivers, plain_net_target}
 use Rattle.cx_wiring.specs.Trees.{tree, pairs, pair_widths, behind}
+use Rattle.cx_fsm.specs.Drafts.{IfWhole, IsWhole}
 use Rattle.cx_fsm.proofs.trees.add_tree.Given as goal
 
 -- the levels so far, and the tree of the level that is left, are the whole tree
@@ -10,9 +11,10 @@ invariant-loop-trees l =
     let whole = plain_net_drivers l.fn.leaves.drivers.items in
     let target = plain_net_target l.target in
     record {
-      drivers : plain_net_drivers l.trees.drivers.items ++ tree target l.trees.next rest ≡ plain_net_drivers l.initial.trees.drivers.items ++ tree target l.initial.trees.next whole;
-      widths : l.trees.widths.items ++ pair_widths l.width (pairs (length rest)) ≡ l.initial.trees.widths.items ++ pair_widths l.width (pairs (length whole));
-      next : behind l.trees.next (pairs (length rest)) ≡ behind l.initial.trees.next (pairs (length whole));
+      all : IfWhole l.trees.draft (IsWhole l.initial.trees.draft);
+      drivers : IfWhole l.trees.draft (plain_net_drivers l.trees.draft.drivers.items ++ tree target l.trees.next rest ≡ plain_net_drivers l.initial.trees.draft.drivers.items ++ tree target l.initial.trees.next whole);
+      widths : IfWhole l.trees.draft (l.trees.widths.items ++ pair_widths l.width (pairs (length rest)) ≡ l.initial.trees.widths.items ++ pair_widths l.width (pairs (length whole)));
+      next : IfWhole l.trees.draft (behind l.trees.next (pairs (length rest)) ≡ behind l.initial.trees.next (pairs (length whole)));
     }
 
 abbrev pub decreases-loop-trees : goal.decreases-loop-trees

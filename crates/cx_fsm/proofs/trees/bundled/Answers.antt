@@ -17,13 +17,17 @@ loop-bundle-preserved c =
     let b = plain_net_drivers bundle in
     let bs = bundles together (plain_net_drivers rest) in
     let first : bundles together (plain_net_drivers all) ≡ b ∷ bs = chunk_first bundle all rest step.1.0 (step.1.1 ∙ ap (λ n. min n (length all)) size) step.1.2 in
-    let on : c.head_of.new.trees.next ≡ suc (suc next) = c.in_ok-head_of.ensures.next in
+    let head = c.head_of-head.result in
+    let kept = c.push.ensures.kept in
+    let grows = c.head_of-head.ensures.grows in
     record {
-      heads =
-          rw (c.in_ok-push.ensures.items, map_push plain_net_driver c.loop-bundle.heads.items c.in_ok-head_of.field-0, on)
-          (next_heads next b bs (plain_net_target c.args.target) (plain_net_drivers c.loop-bundle.heads.items) _ (plain_net_driver c.in_ok-head_of.field-0) c.in_ok-head_of.ensures.head (rw first at c.loop-bundle.invariant.heads));
-      drivers = rw on (next_drivers next b bs _ _ _ c.in_ok-head_of.ensures.drivers (rw first at c.loop-bundle.invariant.drivers));
-      widths = next_widths next b bs c.args.width _ _ _ c.in_ok-head_of.ensures.widths (rw first at c.loop-bundle.invariant.widths);
-      next = rw on (next_wire next b bs _ (rw first at c.loop-bundle.invariant.next));
+      all = λ h. c.loop-bundle.invariant.all (grows.whole (kept.whole h));
+      heads = λ h.
+          rw (c.push.ensures.value h, map_push plain_net_driver c.loop-bundle.heads.items head, grows.next (kept.whole h))
+          (next_heads next b bs (plain_net_target c.args.target) (plain_net_drivers c.loop-bundle.heads.items) _ (plain_net_driver head) (c.head_of-head.ensures.head (kept.whole h))
+          (rw first at (c.loop-bundle.invariant.heads (grows.whole (kept.whole h)))));
+      drivers = λ h. rw (kept.kept, grows.next (kept.whole h)) (next_drivers next b bs _ _ _ (grows.drivers (kept.whole h)) (rw first at (c.loop-bundle.invariant.drivers (grows.whole (kept.whole h)))));
+      widths = λ h. next_widths next b bs c.args.width _ _ _ (grows.widths (kept.whole h)) (rw first at (c.loop-bundle.invariant.widths (grows.whole (kept.whole h))));
+      next = λ h. rw (grows.next (kept.whole h)) (next_wire next b bs _ (rw first at (c.loop-bundle.invariant.next (grows.whole (kept.whole h)))));
       size = step.0 ∙ size;
     }
