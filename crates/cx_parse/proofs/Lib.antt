@@ -1,2 +1,5 @@
-pub mod Fails
+pub mod Steps
+pub mod Lists
+pub mod Commas
+pub mod Plain
 pub mod Trees

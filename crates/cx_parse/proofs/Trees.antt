@@ -13,7 +13,7 @@ use Rattle.cx_parse.specs.declared.files.ParseFault.TheVariants as faults
 use Rattle.cx_text.specs.declared.places.Place.{Place}
 use Rattle.cx_parse.specs.declared.stops.Stop.{Stop as Stopped}
 use Rattle.cx_parse.specs.declared.stops.Stop.TheVariants as stops
-use Rattle.cx_parse.specs.Answers.{Fails}
+use Rattle.cx_parse.specs.Readings.{Fails}
 use Rattle.cx_parse.specs.Whole.{then_whole, reading, place_at, place_left_of}
 use Rattle.cx_parse.specs.Faults.{IsUnexpectedAt, IsTooDeepAt, IsStop, IsFault}
 

@@ -1,3 +1,3 @@
-pub mod Answers
+pub mod Readings
 pub mod Whole
 pub mod Faults

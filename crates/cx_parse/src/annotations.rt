@@ -1,137 +1,117 @@
 //! Reading attributes, marks and imports.
 
-ghost use Rattle.std.specs.Prelude.{◌≡◌, [], ◌∷◌};
-ghost use Rattle.cx_parse.specs.Answers.{Gives, with_front, given};
-ghost use Rattle.cx_grammar.specs.Reading.{read, one_at};
-ghost use Rattle.cx_grammar.specs.Calyx.{nested_at, attribute_number, attribute, attributes, mark, next_mark, more_marks, marks, import, length_of, optional_length};
+ghost use Rattle.std.specs.Prelude.{◌≡◌, ℕ, Some, option_map};
+ghost use Rattle.cx_grammar.specs.Calyx as calyx;
+ghost use Rattle.cx_parse.specs.Readings.{Gives, state_of, with_first};
 
-use crate::parsers::Parser;
-use crate::stops::Stop;
-use crate::tokens::{next_is, number, sign, text, word};
-use cx_ast::{Attribute, ImportItem, Mark, Token};
+use crate::readers::Reader;
+use cx_ast::{Attribute, ImportItem, Mark};
 use cx_grammar::Terminal;
 
 /// Reads the number of an attribute, where there is one.
-#[tactic(auto, unfolding(cx_grammar::specs::Calyx::attribute_number))]
-fn attribute_number(parser: Parser, tokens: &[Token]) -> Result<(Option<u64>, &[Token]), Stop>
-    ensures value { Gives (λ x. (x.0, x.1.now)) result ((read (nested_at parser.levels) attribute_number tokens.now)) }
+fn attribute_number(reader: &mut Reader) -> Option<u64>
+    ensures value { (levels : ℕ) → Gives levels calyx.attribute_number (state_of reader.old) (state_of reader.new) (Some result) }
 {
-    if !next_is(tokens, Terminal::OpenParen) {
-        return Ok((None, tokens));
+    if !reader.next_is(Terminal::OpenParen) {
+        return None;
     }
-    let (_, rest) = sign(tokens, Terminal::OpenParen)?;
-    let (n, rest) = number(rest)?;
-    let (_, rest) = sign(rest, Terminal::CloseParen)?;
-    Ok((Some(n), rest))
+    reader.sign(Terminal::OpenParen);
+    let n = reader.number();
+    reader.sign(Terminal::CloseParen);
+    Some(n)
 }
 
 /// Reads an attribute.
-#[tactic(auto, unfolding(cx_grammar::specs::Calyx::attribute))]
-fn attribute(parser: Parser, tokens: &[Token]) -> Result<(Attribute, &[Token]), Stop>
-    ensures value { Gives (λ x. (x.0, x.1.now)) result ((read (nested_at parser.levels) attribute tokens.now)) }
+fn attribute(reader: &mut Reader) -> Option<Attribute>
+    ensures value { (levels : ℕ) → Gives levels calyx.attribute (state_of reader.old) (state_of reader.new) result }
 {
-    let (_, rest) = sign(tokens, Terminal::At)?;
-    let (name, rest) = word(parser.alloc, rest)?;
-    let (number, rest) = attribute_number(parser, rest)?;
-    Ok((Attribute { name, number }, rest))
+    reader.sign(Terminal::At);
+    let name = reader.word()?;
+    let number = attribute_number(reader);
+    Some(Attribute { name, number })
 }
 
 /// Reads the attributes before a part.
-#[tactic(auto, unfolding(cx_grammar::specs::Calyx::attributes, cx_grammar::specs::Calyx::attribute))]
-pub fn attributes(parser: Parser, tokens: &[Token]) -> Result<(Vec<Attribute>, &[Token]), Stop>
-    ensures value { Gives (λ x. (x.0.items, x.1.now)) result ((read (nested_at parser.levels) attributes tokens.now)) }
+pub fn attributes(reader: &mut Reader) -> Vec<Attribute>
+    ensures value { (levels : ℕ) → Gives levels calyx.attributes (state_of reader.old) (state_of reader.new) (Some result.items) }
 {
-    let mut all = Vec::new(parser.alloc);
-    let mut rest = tokens;
-    while next_is(rest, Terminal::At) {
-        let (attribute, after) = attribute(parser, rest)?;
-        all.push(attribute)?;
-        rest = after;
+    let mut all = Vec::new(reader.alloc);
+    while reader.next_is(Terminal::At) {
+        let attribute = attribute(reader);
+        reader.keep(&mut all, attribute);
     }
-    Ok((all, rest))
+    all
 }
 
 /// Reads a mark.
-#[tactic(auto, unfolding(cx_grammar::specs::Calyx::mark))]
-fn mark(parser: Parser, tokens: &[Token]) -> Result<(Mark, &[Token]), Stop>
-    ensures value { Gives (λ x. (x.0, x.1.now)) result ((read (nested_at parser.levels) mark tokens.now)) }
+fn mark(reader: &mut Reader) -> Option<Mark>
+    ensures value { (levels : ℕ) → Gives levels calyx.mark (state_of reader.old) (state_of reader.new) result }
 {
-    let (name, rest) = text(parser.alloc, tokens)?;
-    let (_, rest) = sign(rest, Terminal::Equal)?;
-    let (number, rest) = number(rest)?;
-    Ok((Mark { name, number }, rest))
-}
-
-/// Reads a comma and a mark.
-#[tactic(auto, unfolding(cx_grammar::specs::Calyx::next_mark))]
-fn next_mark(parser: Parser, tokens: &[Token]) -> Result<(Mark, &[Token]), Stop>
-    ensures value { Gives (λ x. (x.0, x.1.now)) result ((read (nested_at parser.levels) next_mark tokens.now)) }
-{
-    let (_, rest) = sign(tokens, Terminal::Comma)?;
-    mark(parser, rest)
+    let name = reader.text()?;
+    reader.sign(Terminal::Equal);
+    let number = reader.number();
+    Some(Mark { name, number })
 }
 
 /// Reads the marks behind the first.
-#[tactic(auto, unfolding(cx_grammar::specs::Calyx::more_marks, cx_grammar::specs::Calyx::next_mark))]
-fn more_marks(parser: Parser, first: Mark, tokens: &[Token]) -> Result<(Vec<Mark>, &[Token]), Stop>
-    ensures value { Gives (λ x. (x.0.items, x.1.now)) result (with_front (first ∷ []) (read (nested_at parser.levels) more_marks tokens.now)) }
+fn more_marks(reader: &mut Reader, first: Mark) -> Vec<Mark>
+    ensures value { (levels : ℕ) → Gives levels (with_first first calyx.more_marks) (state_of reader.old) (state_of reader.new) (Some result.items) }
 {
-    let mut all = Vec::new(parser.alloc);
-    all.push(first)?;
-    let mut rest = tokens;
-    while next_is(rest, Terminal::Comma) {
-        let (mark, after) = next_mark(parser, rest)?;
-        all.push(mark)?;
-        rest = after;
+    let mut all = Vec::new(reader.alloc);
+    reader.keep(&mut all, Some(first));
+    while reader.next_is(Terminal::Comma) {
+        reader.sign(Terminal::Comma);
+        let mark = mark(reader);
+        reader.keep(&mut all, mark);
     }
-    Ok((all, rest))
+    all
 }
 
 /// Reads the marks behind a name, where there are some.
-#[tactic(auto, unfolding(cx_grammar::specs::Calyx::marks))]
-pub fn marks(parser: Parser, tokens: &[Token]) -> Result<(Vec<Mark>, &[Token]), Stop>
-    ensures value { Gives (λ x. (x.0.items, x.1.now)) result ((read (nested_at parser.levels) marks tokens.now)) }
+pub fn marks(reader: &mut Reader) -> Vec<Mark>
+    ensures value { (levels : ℕ) → Gives levels calyx.marks (state_of reader.old) (state_of reader.new) (Some result.items) }
 {
-    if !next_is(tokens, Terminal::Less) {
-        return Ok((Vec::new(parser.alloc), tokens));
+    if !reader.next_is(Terminal::Less) {
+        return Vec::new(reader.alloc);
     }
-    let (_, rest) = sign(tokens, Terminal::Less)?;
-    let (first, rest) = mark(parser, rest)?;
-    let (all, rest) = more_marks(parser, first, rest)?;
-    let (_, rest) = sign(rest, Terminal::Greater)?;
-    Ok((all, rest))
+    reader.sign(Terminal::Less);
+    match mark(reader) {
+        Some(first) => {
+            let all = more_marks(reader, first);
+            reader.sign(Terminal::Greater);
+            all
+        }
+        None => Vec::new(reader.alloc),
+    }
 }
 
 /// Reads a length in cycles.
-#[tactic(auto, unfolding(cx_grammar::specs::Calyx::length_of))]
-pub fn length_of(parser: Parser, tokens: &[Token]) -> Result<(u64, &[Token]), Stop>
-    ensures value { Gives (λ x. (x.0, x.1.now)) result ((read (nested_at parser.levels) length_of tokens.now)) }
+pub fn length_of(reader: &mut Reader) -> u64
+    ensures value { (levels : ℕ) → Gives levels calyx.length_of (state_of reader.old) (state_of reader.new) (Some result) }
 {
-    let (_, rest) = sign(tokens, Terminal::Less)?;
-    let (n, rest) = number(rest)?;
-    let (_, rest) = sign(rest, Terminal::Greater)?;
-    Ok((n, rest))
+    reader.sign(Terminal::Less);
+    let n = reader.number();
+    reader.sign(Terminal::Greater);
+    n
 }
 
 /// Reads a length in cycles, where there is one.
-#[tactic(auto, unfolding(cx_grammar::specs::Calyx::optional_length, cx_grammar::specs::Calyx::length_of))]
-pub fn optional_length(parser: Parser, tokens: &[Token]) -> Result<(Option<u64>, &[Token]), Stop>
-    ensures value { Gives (λ x. (x.0, x.1.now)) result ((read (nested_at parser.levels) optional_length tokens.now)) }
+pub fn optional_length(reader: &mut Reader) -> Option<u64>
+    ensures value { (levels : ℕ) → Gives levels calyx.optional_length (state_of reader.old) (state_of reader.new) (Some result) }
 {
-    if !next_is(tokens, Terminal::Less) {
-        return Ok((None, tokens));
+    if reader.next_is(Terminal::Less) {
+        Some(length_of(reader))
+    } else {
+        None
     }
-    let (n, rest) = length_of(parser, tokens)?;
-    Ok((Some(n), rest))
 }
 
 /// Reads an import.
-#[tactic(auto, unfolding(cx_grammar::specs::Calyx::import))]
-pub fn import(parser: Parser, tokens: &[Token]) -> Result<(ImportItem, &[Token]), Stop>
-    ensures value { Gives (λ x. (x.0, x.1.now)) result ((read (nested_at parser.levels) import tokens.now)) }
+pub fn import(reader: &mut Reader) -> Option<ImportItem>
+    ensures value { (levels : ℕ) → Gives levels calyx.import (state_of reader.old) (state_of reader.new) result }
 {
-    let (place, rest) = sign(tokens, Terminal::Import)?;
-    let (path, rest) = text(parser.alloc, rest)?;
-    let (_, rest) = sign(rest, Terminal::Semicolon)?;
-    Ok((ImportItem { path, place }, rest))
+    let place = reader.sign(Terminal::Import);
+    let path = reader.text()?;
+    reader.sign(Terminal::Semicolon);
+    Some(ImportItem { path, place })
 }

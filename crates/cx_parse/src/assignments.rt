@@ -1,21 +1,18 @@
 //! Reading assignments.
 
-ghost use Rattle.std.specs.Prelude.{◌≡◌, map, option_map};
-ghost use Rattle.cx_parse.specs.Answers.{Gives, given};
-ghost use Rattle.cx_grammar.specs.Reading.{read, one_at};
-ghost use Rattle.cx_grammar.specs.Calyx.{nested_at, guarded, guard_value, after_operand, value, bare_assign, assign, assigns};
+ghost use Rattle.std.specs.Prelude.{◌≡◌, Some, map, option_map};
+ghost use Rattle.cx_grammar.specs.Calyx as calyx;
 ghost use Rattle.cx_ast.specs.PlainGuards.{plain_guard};
 ghost use Rattle.cx_ast.specs.PlainTree.{plain_assign};
+ghost use Rattle.cx_parse.specs.Readings.{Gives, state_of, given};
 
 use crate::annotations::attributes;
 use crate::guards::{
     PREFIXED, compared, conjunction, disjunction, more_comps, more_conjs, prefixed,
 };
 use crate::operands::{operand, target};
-use crate::parsers::Parser;
-use crate::stops::Stop;
-use crate::tokens::{next_in, sign};
-use cx_ast::{AssignItem, Attribute, GuardItem, OperandItem, Token};
+use crate::readers::Reader;
+use cx_ast::{AssignItem, Attribute, GuardItem, OperandItem};
 use cx_grammar::Terminal;
 
 /// The terminals that go on with a guard behind an operand.
@@ -38,106 +35,75 @@ const ASSIGN: [Terminal; 2] = [Terminal::At, Terminal::Name];
 type Value = (Option<GuardItem>, OperandItem);
 
 /// Reads the rest of a guard behind its first part, and the source.
-#[tactic(auto, unfolding(cx_grammar::specs::Calyx::guarded))]
-fn guarded(parser: Parser, first: GuardItem, tokens: &[Token]) -> Result<(Value, &[Token]), Stop>
-    ensures value { Gives (λ x. ((option_map plain_guard x.0.0, x.0.1), x.1.now)) result (given (plain_guard first) (read (nested_at parser.levels) guarded tokens.now)) }
+fn guarded(reader: &mut Reader, levels: u32, first: GuardItem) -> Value
+    ensures value { Gives levels (given (plain_guard first) calyx.guarded) (state_of reader.old) (state_of reader.new) (Some (option_map plain_guard result.0, result.1)) }
 {
-    let (parts, rest) = more_comps(parser, first, tokens)?;
-    let (parts, rest) = more_conjs(parser, conjunction(parts), rest)?;
-    let (_, rest) = sign(rest, Terminal::Question)?;
-    let (source, rest) = operand(parser, rest)?;
-    Ok(((Some(disjunction(parts)), source), rest))
-}
-
-/// Reads the rest of a guard behind its first operand, and the source.
-#[tactic(auto, unfolding(cx_grammar::specs::Calyx::guard_value))]
-fn guard_value(
-    parser: Parser,
-    first: OperandItem,
-    tokens: &[Token],
-) -> Result<(Value, &[Token]), Stop>
-    ensures value { Gives (λ x. ((option_map plain_guard x.0.0, x.0.1), x.1.now)) result (given first (read (nested_at parser.levels) guard_value tokens.now)) }
-{
-    let (part, rest) = compared(parser, first, tokens)?;
-    guarded(parser, part, rest)
+    let parts = more_comps(reader, levels, first);
+    let parts = more_conjs(reader, levels, conjunction(parts));
+    reader.sign(Terminal::Question);
+    let source = operand(reader);
+    (Some(disjunction(parts)), source)
 }
 
 /// Reads what follows the first operand of a value.
-#[tactic(auto, unfolding(cx_grammar::specs::Calyx::after_operand, cx_grammar::specs::Calyx::guard_value, cx_grammar::specs::Calyx::compared, cx_grammar::specs::Calyx::cmp, cx_grammar::specs::Calyx::guarded, cx_grammar::specs::Calyx::more_comps, cx_grammar::specs::Calyx::next_comp, cx_grammar::specs::Calyx::more_conjs, cx_grammar::specs::Calyx::next_conj))]
-fn after_operand(
-    parser: Parser,
-    first: OperandItem,
-    tokens: &[Token],
-) -> Result<(Value, &[Token]), Stop>
-    ensures value { Gives (λ x. ((option_map plain_guard x.0.0, x.0.1), x.1.now)) result (given first (read (nested_at parser.levels) after_operand tokens.now)) }
+fn after_operand(reader: &mut Reader, levels: u32, first: OperandItem) -> Value
+    ensures value { Gives levels (given first calyx.after_operand) (state_of reader.old) (state_of reader.new) (Some (option_map plain_guard result.0, result.1)) }
 {
-    if next_in(tokens, &GUARD_GOES_ON) {
-        guard_value(parser, first, tokens)
+    if reader.next_in(&GUARD_GOES_ON) {
+        let part = compared(reader, first);
+        guarded(reader, levels, part)
     } else {
-        Ok(((None, first), tokens))
+        (None, first)
     }
 }
 
 /// Reads what follows the `=` of an assignment.
-#[tactic(auto, unfolding(cx_grammar::specs::Calyx::value, cx_grammar::specs::Calyx::prefixed, cx_grammar::specs::Calyx::window))]
-fn value(parser: Parser, tokens: &[Token]) -> Result<(Value, &[Token]), Stop>
-    ensures value { Gives (λ x. ((option_map plain_guard x.0.0, x.0.1), x.1.now)) result ((read (nested_at parser.levels) value tokens.now)) }
+fn value(reader: &mut Reader, levels: u32) -> Value
+    ensures value { Gives levels calyx.value (state_of reader.old) (state_of reader.new) (Some (option_map plain_guard result.0, result.1)) }
 {
-    if next_in(tokens, &PREFIXED) {
-        let (first, rest) = prefixed(parser, tokens)?;
-        guarded(parser, first, rest)
+    if reader.next_in(&PREFIXED) {
+        let first = prefixed(reader, levels);
+        guarded(reader, levels, first)
     } else {
-        let (first, rest) = operand(parser, tokens)?;
-        after_operand(parser, first, rest)
+        let first = operand(reader);
+        after_operand(reader, levels, first)
     }
 }
 
 /// Reads an assignment behind its attributes.
-#[tactic(auto, unfolding(cx_grammar::specs::Calyx::bare_assign))]
-pub fn bare_assign(
-    parser: Parser,
-    attributes: Vec<Attribute>,
-    tokens: &[Token],
-) -> Result<(AssignItem, &[Token]), Stop>
-    ensures value { Gives (λ x. (plain_assign x.0, x.1.now)) result (given attributes.items (read (nested_at parser.levels) bare_assign tokens.now)) }
+pub fn bare_assign(reader: &mut Reader, levels: u32, attributes: Vec<Attribute>) -> AssignItem
+    ensures value { Gives levels (given attributes.items calyx.bare_assign) (state_of reader.old) (state_of reader.new) (Some (plain_assign result)) }
 {
-    let (target, rest) = target(parser, tokens)?;
-    let (_, rest) = sign(rest, Terminal::Equal)?;
-    let ((guard, source), rest) = value(parser, rest)?;
-    let (_, rest) = sign(rest, Terminal::Semicolon)?;
+    let target = target(reader);
+    reader.sign(Terminal::Equal);
+    let (guard, source) = value(reader, levels);
+    reader.sign(Terminal::Semicolon);
     let place = target.place;
-    Ok((
-        AssignItem {
-            attributes,
-            target,
-            guard,
-            source,
-            place,
-        },
-        rest,
-    ))
+    AssignItem {
+        attributes,
+        target,
+        guard,
+        source,
+        place,
+    }
 }
 
 /// Reads an assignment.
-#[tactic(auto, unfolding(cx_grammar::specs::Calyx::assign))]
-fn assign(parser: Parser, tokens: &[Token]) -> Result<(AssignItem, &[Token]), Stop>
-    ensures value { Gives (λ x. (plain_assign x.0, x.1.now)) result ((read (nested_at parser.levels) assign tokens.now)) }
+fn assign(reader: &mut Reader, levels: u32) -> AssignItem
+    ensures value { Gives levels calyx.assign (state_of reader.old) (state_of reader.new) (Some (plain_assign result)) }
 {
-    let (attributes, rest) = attributes(parser, tokens)?;
-    bare_assign(parser, attributes, rest)
+    let attributes = attributes(reader);
+    bare_assign(reader, levels, attributes)
 }
 
 /// Reads the assignments of a group.
-#[tactic(auto, unfolding(cx_grammar::specs::Calyx::assigns, cx_grammar::specs::Calyx::assign, cx_grammar::specs::Calyx::attributes, cx_grammar::specs::Calyx::attribute, cx_grammar::specs::Calyx::bare_assign, cx_grammar::specs::Calyx::target))]
-pub fn assigns(parser: Parser, tokens: &[Token]) -> Result<(Vec<AssignItem>, &[Token]), Stop>
-    ensures value { Gives (λ x. (map plain_assign x.0.items, x.1.now)) result ((read (nested_at parser.levels) assigns tokens.now)) }
+pub fn assigns(reader: &mut Reader, levels: u32) -> Vec<AssignItem>
+    ensures value { Gives levels calyx.assigns (state_of reader.old) (state_of reader.new) (Some (map plain_assign result.items)) }
 {
-    let mut all = Vec::new(parser.alloc);
-    let mut rest = tokens;
-    while next_in(rest, &ASSIGN) {
-        let (assign, after) = assign(parser, rest)?;
-        all.push(assign)?;
-        rest = after;
+    let mut all = Vec::new(reader.alloc);
+    while reader.next_in(&ASSIGN) {
+        let assign = assign(reader, levels);
+        reader.keep(&mut all, Some(assign));
     }
-    Ok((all, rest))
+    all
 }

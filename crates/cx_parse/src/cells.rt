@@ -1,119 +1,85 @@
 //! Reading cells.
 
-ghost use Rattle.std.specs.Prelude.{◌≡◌, [], ◌∷◌, map};
-ghost use Rattle.cx_parse.specs.Answers.{Gives, with_front};
-ghost use Rattle.cx_grammar.specs.Reading.{read, one_at};
-ghost use Rattle.cx_grammar.specs.Calyx.{nested_at, next_number, more_numbers, numbers, cell_kind, cell, cell_list, cells};
+ghost use Rattle.std.specs.Prelude.{◌≡◌, ℕ, Some, map, option_map};
+ghost use Rattle.cx_grammar.specs.Calyx as calyx;
 ghost use Rattle.cx_ast.specs.PlainTree.{plain_cell};
+ghost use Rattle.cx_parse.specs.Readings.{Gives, state_of, with_first};
 
-use crate::{Parser, Stop, attributes, marks, name, next_in, next_is, number, sign};
-use cx_ast::{CellItem, Token};
+use crate::annotations::{attributes, marks};
+use crate::readers::Reader;
+use cx_ast::CellItem;
 use cx_grammar::Terminal;
-use cx_text::{Name, Place};
 
 /// The terminals that a cell begins with.
 const CELL: [Terminal; 2] = [Terminal::At, Terminal::Name];
 
-/// Reads a comma and a number.
-#[tactic(auto, unfolding(cx_grammar::specs::Calyx::next_number))]
-fn next_number(parser: Parser, tokens: &[Token]) -> Result<(u64, &[Token]), Stop>
-    ensures value { Gives (λ x. (x.0, x.1.now)) result ((read (nested_at parser.levels) next_number tokens.now)) }
-{
-    let (_, rest) = sign(tokens, Terminal::Comma)?;
-    let (n, rest) = number(rest)?;
-    Ok((n, rest))
-}
-
 /// Reads the numbers behind the first.
-#[tactic(auto, unfolding(cx_grammar::specs::Calyx::more_numbers, cx_grammar::specs::Calyx::next_number))]
-fn more_numbers(parser: Parser, first: u64, tokens: &[Token]) -> Result<(Vec<u64>, &[Token]), Stop>
-    ensures value { Gives (λ x. (x.0.items, x.1.now)) result (with_front (first ∷ []) (read (nested_at parser.levels) more_numbers tokens.now)) }
+fn more_numbers(reader: &mut Reader, first: u64) -> Vec<u64>
+    ensures value { (levels : ℕ) → Gives levels (with_first first calyx.more_numbers) (state_of reader.old) (state_of reader.new) (Some result.items) }
 {
-    let mut all = Vec::new(parser.alloc);
-    all.push(first)?;
-    let mut rest = tokens;
-    while next_is(rest, Terminal::Comma) {
-        let (n, after) = next_number(parser, rest)?;
-        all.push(n)?;
-        rest = after;
+    let mut all = Vec::new(reader.alloc);
+    reader.keep(&mut all, Some(first));
+    while reader.next_is(Terminal::Comma) {
+        reader.sign(Terminal::Comma);
+        let n = reader.number();
+        reader.keep(&mut all, Some(n));
     }
-    Ok((all, rest))
+    all
 }
 
 /// Reads the numbers of a cell.
-#[tactic(auto, unfolding(cx_grammar::specs::Calyx::numbers))]
-fn numbers(parser: Parser, tokens: &[Token]) -> Result<(Vec<u64>, &[Token]), Stop>
-    ensures value { Gives (λ x. (x.0.items, x.1.now)) result ((read (nested_at parser.levels) numbers tokens.now)) }
+fn numbers(reader: &mut Reader) -> Vec<u64>
+    ensures value { (levels : ℕ) → Gives levels calyx.numbers (state_of reader.old) (state_of reader.new) (Some result.items) }
 {
-    if !next_is(tokens, Terminal::Number) {
-        return Ok((Vec::new(parser.alloc), tokens));
+    if !reader.next_is(Terminal::Number) {
+        return Vec::new(reader.alloc);
     }
-    let (first, rest) = number(tokens)?;
-    more_numbers(parser, first, rest)
-}
-
-/// Reads the kind of a cell and its numbers.
-#[tactic(auto, unfolding(cx_grammar::specs::Calyx::cell_kind))]
-fn cell_kind(
-    parser: Parser,
-    tokens: &[Token],
-) -> Result<(((Name, Place), Vec<u64>), &[Token]), Stop>
-    ensures value { Gives (λ x. (((x.0.0.0, x.0.0.1), x.0.1.items), x.1.now)) result ((read (nested_at parser.levels) cell_kind tokens.now)) }
-{
-    let (kind, rest) = name(parser.alloc, tokens)?;
-    let (_, rest) = sign(rest, Terminal::OpenParen)?;
-    let (numbers, rest) = numbers(parser, rest)?;
-    let (_, rest) = sign(rest, Terminal::CloseParen)?;
-    let (_, rest) = sign(rest, Terminal::Semicolon)?;
-    Ok(((kind, numbers), rest))
+    let first = reader.number();
+    more_numbers(reader, first)
 }
 
 /// Reads a cell.
-#[tactic(auto, unfolding(cx_grammar::specs::Calyx::cell))]
-fn cell(parser: Parser, tokens: &[Token]) -> Result<(CellItem, &[Token]), Stop>
-    ensures value { Gives (λ x. (plain_cell x.0, x.1.now)) result ((read (nested_at parser.levels) cell tokens.now)) }
+fn cell(reader: &mut Reader) -> Option<CellItem>
+    ensures value { (levels : ℕ) → Gives levels calyx.cell (state_of reader.old) (state_of reader.new) (option_map plain_cell result) }
 {
-    let (attributes, rest) = attributes(parser, tokens)?;
-    let ((name, place), rest) = name(parser.alloc, rest)?;
-    let (marks, rest) = marks(parser, rest)?;
-    let (_, rest) = sign(rest, Terminal::Equal)?;
-    let (((kind, _), numbers), rest) = cell_kind(parser, rest)?;
-    Ok((
-        CellItem {
-            attributes,
-            name,
-            marks,
-            kind,
-            numbers,
-            place,
-        },
-        rest,
-    ))
+    let attributes = attributes(reader);
+    let (name, place) = reader.name()?;
+    let marks = marks(reader);
+    reader.sign(Terminal::Equal);
+    let (kind, _) = reader.name()?;
+    reader.sign(Terminal::OpenParen);
+    let numbers = numbers(reader);
+    reader.sign(Terminal::CloseParen);
+    reader.sign(Terminal::Semicolon);
+    Some(CellItem {
+        attributes,
+        name,
+        marks,
+        kind,
+        numbers,
+        place,
+    })
 }
 
 /// Reads cells.
-#[tactic(auto, unfolding(cx_grammar::specs::Calyx::cell_list, cx_grammar::specs::Calyx::cell, cx_grammar::specs::Calyx::attributes, cx_grammar::specs::Calyx::attribute))]
-fn cell_list(parser: Parser, tokens: &[Token]) -> Result<(Vec<CellItem>, &[Token]), Stop>
-    ensures value { Gives (λ x. (map plain_cell x.0.items, x.1.now)) result ((read (nested_at parser.levels) cell_list tokens.now)) }
+fn cell_list(reader: &mut Reader) -> Vec<CellItem>
+    ensures value { (levels : ℕ) → Gives levels calyx.cell_list (state_of reader.old) (state_of reader.new) (Some (map plain_cell result.items)) }
 {
-    let mut all = Vec::new(parser.alloc);
-    let mut rest = tokens;
-    while next_in(rest, &CELL) {
-        let (cell, after) = cell(parser, rest)?;
-        all.push(cell)?;
-        rest = after;
+    let mut all = Vec::new(reader.alloc);
+    while reader.next_in(&CELL) {
+        let cell = cell(reader);
+        reader.keep(&mut all, cell);
     }
-    Ok((all, rest))
+    all
 }
 
 /// Reads the part `cells`.
-#[tactic(auto, unfolding(cx_grammar::specs::Calyx::cells))]
-pub fn cells(parser: Parser, tokens: &[Token]) -> Result<(Vec<CellItem>, &[Token]), Stop>
-    ensures value { Gives (λ x. (map plain_cell x.0.items, x.1.now)) result ((read (nested_at parser.levels) cells tokens.now)) }
+pub fn cells(reader: &mut Reader) -> Vec<CellItem>
+    ensures value { (levels : ℕ) → Gives levels calyx.cells (state_of reader.old) (state_of reader.new) (Some (map plain_cell result.items)) }
 {
-    let (_, rest) = sign(tokens, Terminal::Cells)?;
-    let (_, rest) = sign(rest, Terminal::OpenBrace)?;
-    let (all, rest) = cell_list(parser, rest)?;
-    let (_, rest) = sign(rest, Terminal::CloseBrace)?;
-    Ok((all, rest))
+    reader.sign(Terminal::Cells);
+    reader.sign(Terminal::OpenBrace);
+    let all = cell_list(reader);
+    reader.sign(Terminal::CloseBrace);
+    all
 }

@@ -1,18 +1,18 @@
 //! Reading components.
 
-ghost use Rattle.std.specs.Prelude.{◌≡◌, map, option_map};
-ghost use Rattle.cx_parse.specs.Answers.{Gives};
-ghost use Rattle.cx_grammar.specs.Reading.{read, one_at};
-ghost use Rattle.cx_grammar.specs.Calyx.{nested_at, component_word, signature, body, component};
+ghost use Rattle.std.specs.Prelude.{◌≡◌, ℕ, Some, map, option_map};
+ghost use Rattle.cx_grammar.specs.Calyx as calyx;
 ghost use Rattle.cx_ast.specs.PlainStatements.{plain_block};
 ghost use Rattle.cx_ast.specs.PlainTree.{plain_port, plain_cell, plain_wire, plain_component};
+ghost use Rattle.cx_parse.specs.Readings.{Gives, state_of};
 
+use crate::annotations::{attributes, length_of, marks};
 use crate::cells::cells;
 use crate::groups::wires_part;
 use crate::ports::{outputs, ports};
+use crate::readers::Reader;
 use crate::statements::control;
-use crate::{Parser, Stop, attributes, length_of, marks, name, next_is, sign};
-use cx_ast::{Block, CellItem, ComponentItem, Mark, PortItem, Token, WireItem};
+use cx_ast::{Block, CellItem, ComponentItem, Mark, PortItem, WireItem};
 use cx_grammar::Terminal;
 use cx_text::{Name, Place};
 
@@ -23,59 +23,51 @@ type Body = (Vec<CellItem>, Vec<WireItem>, Option<Block>);
 type Signature = ((Name, Place), Vec<Mark>, Vec<PortItem>, Vec<PortItem>);
 
 /// Reads the word `component` and what stands before it.
-#[tactic(auto, unfolding(cx_grammar::specs::Calyx::component_word))]
-fn component_word(
-    parser: Parser,
-    tokens: &[Token],
-) -> Result<((Option<u64>, Place), &[Token]), Stop>
-    ensures value { Gives (λ x. ((x.0.0, x.0.1), x.1.now)) result ((read (nested_at parser.levels) component_word tokens.now)) }
+fn component_word(reader: &mut Reader) -> (Option<u64>, Place)
+    ensures value { (levels : ℕ) → Gives levels calyx.component_word (state_of reader.old) (state_of reader.new) (Some (result.0, result.1)) }
 {
-    if next_is(tokens, Terminal::Static) {
-        let (place, rest) = sign(tokens, Terminal::Static)?;
-        let (n, rest) = length_of(parser, rest)?;
-        let (_, rest) = sign(rest, Terminal::Component)?;
-        Ok(((Some(n), place), rest))
-    } else {
-        let (place, rest) = sign(tokens, Terminal::Component)?;
-        Ok(((None, place), rest))
+    if reader.next_is(Terminal::Static) {
+        let place = reader.sign(Terminal::Static);
+        let n = length_of(reader);
+        reader.sign(Terminal::Component);
+        return (Some(n), place);
     }
+    let place = reader.sign(Terminal::Component);
+    (None, place)
 }
 
 /// Reads a component's name and signature.
-#[tactic(auto, unfolding(cx_grammar::specs::Calyx::signature))]
-fn signature(parser: Parser, tokens: &[Token]) -> Result<(Signature, &[Token]), Stop>
-    ensures value { Gives (λ x. (((x.0.0.0, x.0.0.1), (x.0.1.items, (map plain_port x.0.2.items, map plain_port x.0.3.items))), x.1.now)) result ((read (nested_at parser.levels) signature tokens.now)) }
+fn signature(reader: &mut Reader) -> Option<Signature>
+    ensures value { (levels : ℕ) → Gives levels calyx.signature (state_of reader.old) (state_of reader.new) (option_map (λ x. ((x.0.0, x.0.1), (x.1.items, (map plain_port x.2.items, map plain_port x.3.items)))) result) }
 {
-    let (name, rest) = name(parser.alloc, tokens)?;
-    let (marks, rest) = marks(parser, rest)?;
-    let (inputs, rest) = ports(parser, rest)?;
-    let (outputs, rest) = outputs(parser, rest)?;
-    Ok(((name, marks, inputs, outputs), rest))
+    let name = reader.name()?;
+    let marks = marks(reader);
+    let inputs = ports(reader);
+    let outputs = outputs(reader);
+    Some((name, marks, inputs, outputs))
 }
 
 /// Reads what stands between a component's braces.
-#[tactic(auto, unfolding(cx_grammar::specs::Calyx::body))]
-fn body(parser: Parser, tokens: &[Token]) -> Result<(Body, &[Token]), Stop>
-    ensures value { Gives (λ x. ((map plain_cell x.0.0.items, (map plain_wire x.0.1.items, option_map plain_block x.0.2)), x.1.now)) result ((read (nested_at parser.levels) body tokens.now)) }
+fn body(reader: &mut Reader, levels: u32) -> Body
+    ensures value { Gives levels calyx.body (state_of reader.old) (state_of reader.new) (Some (map plain_cell result.0.items, (map plain_wire result.1.items, option_map plain_block result.2))) }
 {
-    let (_, rest) = sign(tokens, Terminal::OpenBrace)?;
-    let (cells, rest) = cells(parser, rest)?;
-    let (wires, rest) = wires_part(parser, rest)?;
-    let (control, rest) = control(parser, rest)?;
-    let (_, rest) = sign(rest, Terminal::CloseBrace)?;
-    Ok(((cells, wires, control), rest))
+    reader.sign(Terminal::OpenBrace);
+    let cells = cells(reader);
+    let wires = wires_part(reader, levels);
+    let control = control(reader, levels);
+    reader.sign(Terminal::CloseBrace);
+    (cells, wires, control)
 }
 
 /// Reads a component.
-#[tactic(auto, unfolding(cx_grammar::specs::Calyx::component))]
-pub fn component(parser: Parser, tokens: &[Token]) -> Result<(ComponentItem, &[Token]), Stop>
-    ensures value { Gives (λ x. (plain_component x.0, x.1.now)) result ((read (nested_at parser.levels) component tokens.now)) }
+pub fn component(reader: &mut Reader, levels: u32) -> Option<ComponentItem>
+    ensures value { Gives levels calyx.component (state_of reader.old) (state_of reader.new) (option_map plain_component result) }
 {
-    let (attributes, rest) = attributes(parser, tokens)?;
-    let ((length, place), rest) = component_word(parser, rest)?;
-    let (((name, _), marks, inputs, outputs), rest) = signature(parser, rest)?;
-    let ((cells, wires, control), rest) = body(parser, rest)?;
-    let component = ComponentItem {
+    let attributes = attributes(reader);
+    let (length, place) = component_word(reader);
+    let ((name, _), marks, inputs, outputs) = signature(reader)?;
+    let (cells, wires, control) = body(reader, levels);
+    Some(ComponentItem {
         attributes,
         length,
         name,
@@ -86,6 +78,5 @@ pub fn component(parser: Parser, tokens: &[Token]) -> Result<(ComponentItem, &[T
         wires,
         control,
         place,
-    };
-    Ok((component, rest))
+    })
 }

@@ -1,20 +1,21 @@
 //! Reading a whole file.
 
-ghost use Rattle.std.specs.Prelude.{◌≡◌, ◌<◌, ◌^◌, ◌⊎◌, [], ◌∷◌, length, map, IfOk, IfErr, MatchResult};
-ghost use Rattle.cx_parse.specs.Answers.{Gives, with_front};
+ghost use Rattle.std.specs.Prelude.{◌≡◌, ◌⊎◌, ℕ, Some, map, option_map, IfOk, IfErr, MatchResult};
+ghost use Rattle.cx_parse.specs.Readings.{Answers, Gives, state_of, with_first};
 ghost use Rattle.cx_parse.specs.declared.stops.Stop.{Stop as StopValue};
 ghost use Rattle.cx_parse.specs.declared.stops.Stop.TheVariants as stops;
 ghost use Rattle.cx_parse.specs.declared.files.ParseFault.{ParseFault as FaultValue};
 ghost use Rattle.cx_parse.specs.declared.files.ParseFault.TheVariants as faults;
 ghost use Rattle.cx_parse.specs.Whole.{whole_at, place_left_of, last_place, reading};
 ghost use Rattle.cx_parse.specs.Faults.{IsStop, IsFault};
-ghost use Rattle.cx_grammar.specs.Reading.{read, one_at};
-ghost use Rattle.cx_grammar.specs.Calyx.{nested_at, imports, components, file};
+ghost use Rattle.cx_grammar.specs.Calyx as calyx;
 ghost use Rattle.cx_grammar.specs.Parsing.{Parse};
 ghost use Rattle.cx_ast.specs.PlainTree.{PlainTree, plain_tree, plain_component};
 
+use crate::annotations::import;
 use crate::components::component;
-use crate::{Parser, Stop, import, next_in, next_is};
+use crate::readers::Reader;
+use crate::stops::Stop;
 use cx_ast::{ComponentItem, ImportItem, Token, Tree};
 use cx_grammar::Terminal;
 use cx_text::{NESTING, Place};
@@ -24,7 +25,7 @@ use std::alloc::Global;
 const COMPONENT: [Terminal; 3] = [Terminal::At, Terminal::Static, Terminal::Component];
 
 /// Why tokens are no file that is read.
-#[derive(Clone, Copy, Debug, PartialEq, Eq)]
+#[derive(Clone, Copy)]
 pub enum ParseFault {
     /// The place of the first token with which the tokens so far begin no file. Where the end comes too early, it is that
     /// of the last token, and 1:1 where there is none.
@@ -35,66 +36,62 @@ pub enum ParseFault {
 }
 
 /// Reads imports.
-#[tactic(auto, unfolding(cx_grammar::specs::Calyx::imports, cx_grammar::specs::Calyx::import))]
-fn imports(parser: Parser, tokens: &[Token]) -> Result<(Vec<ImportItem>, &[Token]), Stop>
-    ensures value { Gives (λ x. (x.0.items, x.1.now)) result ((read (nested_at parser.levels) imports tokens.now)) }
+fn imports(reader: &mut Reader) -> Vec<ImportItem>
+    ensures value { (levels : ℕ) → Gives levels calyx.imports (state_of reader.old) (state_of reader.new) (Some result.items) }
 {
-    let mut all = Vec::new(parser.alloc);
-    let mut rest = tokens;
-    while next_is(rest, Terminal::Import) {
-        let (import, after) = import(parser, rest)?;
-        all.push(import)?;
-        rest = after;
+    let mut all = Vec::new(reader.alloc);
+    while reader.next_is(Terminal::Import) {
+        let import = import(reader);
+        reader.keep(&mut all, import);
     }
-    Ok((all, rest))
+    all
 }
 
 /// Reads the components behind the first.
-#[tactic(auto, unfolding(cx_grammar::specs::Calyx::components, cx_grammar::specs::Calyx::component, cx_grammar::specs::Calyx::attributes, cx_grammar::specs::Calyx::attribute, cx_grammar::specs::Calyx::component_word))]
-fn more_components(
-    parser: Parser,
-    first: ComponentItem,
-    tokens: &[Token],
-) -> Result<(Vec<ComponentItem>, &[Token]), Stop>
-    ensures value { Gives (λ x. (map plain_component x.0.items, x.1.now)) result (with_front (plain_component first ∷ []) (read (nested_at parser.levels) components tokens.now)) }
+fn more_components(reader: &mut Reader, levels: u32, first: ComponentItem) -> Vec<ComponentItem>
+    ensures value { Gives levels (with_first (plain_component first) calyx.components) (state_of reader.old) (state_of reader.new) (Some (map plain_component result.items)) }
 {
-    let mut all = Vec::new(parser.alloc);
-    all.push(first)?;
-    let mut rest = tokens;
-    while next_in(rest, &COMPONENT) {
-        let (component, after) = component(parser, rest)?;
-        all.push(component)?;
-        rest = after;
+    let mut all = Vec::new(reader.alloc);
+    reader.keep(&mut all, Some(first));
+    while reader.next_in(&COMPONENT) {
+        let component = component(reader, levels);
+        reader.keep(&mut all, component);
     }
-    Ok((all, rest))
+    all
 }
 
 /// Reads imports and components.
-#[tactic(auto, unfolding(cx_grammar::specs::Calyx::file))]
-fn file(parser: Parser, tokens: &[Token]) -> Result<(Tree, &[Token]), Stop>
-    ensures value { Gives (λ x. (plain_tree x.0, x.1.now)) result ((read (nested_at parser.levels) file tokens.now)) }
+fn file(reader: &mut Reader, levels: u32) -> Option<Tree>
+    ensures value { Gives levels calyx.file (state_of reader.old) (state_of reader.new) (option_map plain_tree result) }
 {
-    let (imports, rest) = imports(parser, tokens)?;
-    let (first, rest) = component(parser, rest)?;
-    let (components, rest) = more_components(parser, first, rest)?;
-    Ok((
-        Tree {
-            imports,
-            components,
-        },
-        rest,
-    ))
+    let imports = imports(reader);
+    let first = component(reader, levels)?;
+    let components = more_components(reader, levels, first);
+    Some(Tree {
+        imports,
+        components,
+    })
 }
 
 /// Reads a file up to the end of the tokens.
-fn whole(parser: Parser, tokens: &[Token]) -> Result<Tree, Stop>
-    ensures value { Gives plain_tree result (whole_at parser.levels tokens.now) }
+fn whole(alloc: Global, tokens: &[Token], levels: u32) -> Result<Tree, Stop>
+    ensures value { Answers plain_tree result (whole_at levels tokens.now) }
 {
-    let (tree, rest) = file(parser, tokens)?;
-    if rest.is_empty() {
-        Ok(tree)
-    } else {
-        Err(Stop::Unexpected(rest.len()))
+    let mut reader = Reader {
+        alloc,
+        rest: tokens,
+        stop: None,
+    };
+    let tree = file(&mut reader, levels);
+    if let Some(stop) = reader.stop {
+        return Err(stop);
+    }
+    if !reader.rest.is_empty() {
+        return Err(Stop::Unexpected(reader.rest.len()));
+    }
+    match tree {
+        Some(tree) => Ok(tree),
+        None => unreachable!(),
     }
 }
 
@@ -135,13 +132,9 @@ fn fault_of(tokens: &[Token], stop: Stop) -> ParseFault
 /// Reads a file with all the levels that it may have.
 #[tactic(auto, unfolding(crate::specs::Whole::reading))]
 fn read_file(alloc: Global, tokens: &[Token]) -> Result<Tree, Stop>
-    ensures value { Gives plain_tree result (reading tokens.now) }
+    ensures value { Answers plain_tree result (reading tokens.now) }
 {
-    let parser = Parser {
-        alloc,
-        levels: NESTING as u32,
-    };
-    whole(parser, tokens)
+    whole(alloc, tokens, NESTING as u32)
 }
 
 /// Reads the tree that the tokens spell, or tells how many tokens are left from the fault on.

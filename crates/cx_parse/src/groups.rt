@@ -1,15 +1,14 @@
 //! Reading groups and wires.
 
-ghost use Rattle.std.specs.Prelude.{◌≡◌, map};
-ghost use Rattle.cx_parse.specs.Answers.{Gives, given};
-ghost use Rattle.cx_grammar.specs.Reading.{read, one_at};
-ghost use Rattle.cx_grammar.specs.Calyx.{nested_at, group_word, bare_group, wire, wire_list, wires_part};
+ghost use Rattle.std.specs.Prelude.{◌≡◌, ℕ, Some, map, option_map};
+ghost use Rattle.cx_grammar.specs.Calyx as calyx;
 ghost use Rattle.cx_ast.specs.PlainTree.{plain_group, plain_wire};
+ghost use Rattle.cx_parse.specs.Readings.{Gives, state_of, given};
 
-use crate::{
-    Parser, Stop, assigns, attributes, bare_assign, length_of, marks, name, next_in, next_is, sign,
-};
-use cx_ast::{Attribute, GroupItem, GroupWord, Token, WireItem};
+use crate::annotations::{attributes, length_of, marks};
+use crate::assignments::{assigns, bare_assign};
+use crate::readers::Reader;
+use cx_ast::{Attribute, GroupItem, GroupWord, WireItem};
 use cx_grammar::Terminal;
 use cx_text::Place;
 
@@ -23,91 +22,76 @@ const WIRE: [Terminal; 5] = [
 ];
 
 /// Reads the word `group` and what stands before it.
-#[tactic(auto, unfolding(cx_grammar::specs::Calyx::group_word))]
-fn group_word(parser: Parser, tokens: &[Token]) -> Result<((GroupWord, Place), &[Token]), Stop>
-    ensures value { Gives (λ x. ((x.0.0, x.0.1), x.1.now)) result ((read (nested_at parser.levels) group_word tokens.now)) }
+fn group_word(reader: &mut Reader) -> (GroupWord, Place)
+    ensures value { (levels : ℕ) → Gives levels calyx.group_word (state_of reader.old) (state_of reader.new) (Some (result.0, result.1)) }
 {
-    if next_is(tokens, Terminal::Comb) {
-        let (place, rest) = sign(tokens, Terminal::Comb)?;
-        let (_, rest) = sign(rest, Terminal::Group)?;
-        Ok(((GroupWord::Comb, place), rest))
-    } else if next_is(tokens, Terminal::Static) {
-        let (place, rest) = sign(tokens, Terminal::Static)?;
-        let (n, rest) = length_of(parser, rest)?;
-        let (_, rest) = sign(rest, Terminal::Group)?;
-        Ok(((GroupWord::Timed(n), place), rest))
+    if reader.next_is(Terminal::Comb) {
+        let place = reader.sign(Terminal::Comb);
+        reader.sign(Terminal::Group);
+        (GroupWord::Comb, place)
+    } else if reader.next_is(Terminal::Static) {
+        let place = reader.sign(Terminal::Static);
+        let n = length_of(reader);
+        reader.sign(Terminal::Group);
+        (GroupWord::Timed(n), place)
     } else {
-        let (place, rest) = sign(tokens, Terminal::Group)?;
-        Ok(((GroupWord::Plain, place), rest))
+        let place = reader.sign(Terminal::Group);
+        (GroupWord::Plain, place)
     }
 }
 
 /// Reads a group behind its attributes.
-#[tactic(auto, unfolding(cx_grammar::specs::Calyx::bare_group))]
-fn bare_group(
-    parser: Parser,
-    attributes: Vec<Attribute>,
-    tokens: &[Token],
-) -> Result<(GroupItem, &[Token]), Stop>
-    ensures value { Gives (λ x. (plain_group x.0, x.1.now)) result (given attributes.items (read (nested_at parser.levels) bare_group tokens.now)) }
+fn bare_group(reader: &mut Reader, levels: u32, attributes: Vec<Attribute>) -> Option<GroupItem>
+    ensures value { Gives levels (given attributes.items calyx.bare_group) (state_of reader.old) (state_of reader.new) (option_map plain_group result) }
 {
-    let ((kind, place), rest) = group_word(parser, tokens)?;
-    let ((name, _), rest) = name(parser.alloc, rest)?;
-    let (marks, rest) = marks(parser, rest)?;
-    let (_, rest) = sign(rest, Terminal::OpenBrace)?;
-    let (assigns, rest) = assigns(parser, rest)?;
-    let (_, rest) = sign(rest, Terminal::CloseBrace)?;
-    Ok((
-        GroupItem {
-            attributes,
-            kind,
-            name,
-            marks,
-            assigns,
-            place,
-        },
-        rest,
-    ))
+    let (kind, place) = group_word(reader);
+    let (name, _) = reader.name()?;
+    let marks = marks(reader);
+    reader.sign(Terminal::OpenBrace);
+    let assigns = assigns(reader, levels);
+    reader.sign(Terminal::CloseBrace);
+    Some(GroupItem {
+        attributes,
+        kind,
+        name,
+        marks,
+        assigns,
+        place,
+    })
 }
 
 /// Reads a group or a continuous assignment.
-#[tactic(auto, unfolding(cx_grammar::specs::Calyx::wire, cx_grammar::specs::Calyx::bare_assign, cx_grammar::specs::Calyx::target))]
-fn wire(parser: Parser, tokens: &[Token]) -> Result<(WireItem, &[Token]), Stop>
-    ensures value { Gives (λ x. (plain_wire x.0, x.1.now)) result ((read (nested_at parser.levels) wire tokens.now)) }
+fn wire(reader: &mut Reader, levels: u32) -> Option<WireItem>
+    ensures value { Gives levels calyx.wire (state_of reader.old) (state_of reader.new) (option_map plain_wire result) }
 {
-    let (attributes, rest) = attributes(parser, tokens)?;
-    if next_is(rest, Terminal::Name) {
-        let (assign, rest) = bare_assign(parser, attributes, rest)?;
-        Ok((WireItem::Assign(assign), rest))
+    let attributes = attributes(reader);
+    if reader.next_is(Terminal::Name) {
+        Some(WireItem::Assign(bare_assign(reader, levels, attributes)))
     } else {
-        let (group, rest) = bare_group(parser, attributes, rest)?;
-        Ok((WireItem::Group(group), rest))
+        let group = bare_group(reader, levels, attributes)?;
+        Some(WireItem::Group(group))
     }
 }
 
 /// Reads groups and continuous assignments.
-#[tactic(auto, unfolding(cx_grammar::specs::Calyx::wire_list, cx_grammar::specs::Calyx::wire, cx_grammar::specs::Calyx::attributes, cx_grammar::specs::Calyx::attribute, cx_grammar::specs::Calyx::bare_assign, cx_grammar::specs::Calyx::target, cx_grammar::specs::Calyx::bare_group, cx_grammar::specs::Calyx::group_word))]
-fn wire_list(parser: Parser, tokens: &[Token]) -> Result<(Vec<WireItem>, &[Token]), Stop>
-    ensures value { Gives (λ x. (map plain_wire x.0.items, x.1.now)) result ((read (nested_at parser.levels) wire_list tokens.now)) }
+fn wire_list(reader: &mut Reader, levels: u32) -> Vec<WireItem>
+    ensures value { Gives levels calyx.wire_list (state_of reader.old) (state_of reader.new) (Some (map plain_wire result.items)) }
 {
-    let mut all = Vec::new(parser.alloc);
-    let mut rest = tokens;
-    while next_in(rest, &WIRE) {
-        let (wire, after) = wire(parser, rest)?;
-        all.push(wire)?;
-        rest = after;
+    let mut all = Vec::new(reader.alloc);
+    while reader.next_in(&WIRE) {
+        let wire = wire(reader, levels);
+        reader.keep(&mut all, wire);
     }
-    Ok((all, rest))
+    all
 }
 
 /// Reads the part `wires`.
-#[tactic(auto, unfolding(cx_grammar::specs::Calyx::wires_part))]
-pub fn wires_part(parser: Parser, tokens: &[Token]) -> Result<(Vec<WireItem>, &[Token]), Stop>
-    ensures value { Gives (λ x. (map plain_wire x.0.items, x.1.now)) result ((read (nested_at parser.levels) wires_part tokens.now)) }
+pub fn wires_part(reader: &mut Reader, levels: u32) -> Vec<WireItem>
+    ensures value { Gives levels calyx.wires_part (state_of reader.old) (state_of reader.new) (Some (map plain_wire result.items)) }
 {
-    let (_, rest) = sign(tokens, Terminal::Wires)?;
-    let (_, rest) = sign(rest, Terminal::OpenBrace)?;
-    let (all, rest) = wire_list(parser, rest)?;
-    let (_, rest) = sign(rest, Terminal::CloseBrace)?;
-    Ok((all, rest))
+    reader.sign(Terminal::Wires);
+    reader.sign(Terminal::OpenBrace);
+    let all = wire_list(reader, levels);
+    reader.sign(Terminal::CloseBrace);
+    all
 }

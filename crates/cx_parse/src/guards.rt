@@ -1,17 +1,15 @@
 //! Reading guards.
 
-ghost use Rattle.std.specs.Prelude.{◌≡◌, ◌<◌, [], ◌∷◌, map, vec_len};
-ghost use Rattle.cx_parse.specs.Answers.{Gives, with_front, given};
-ghost use Rattle.cx_grammar.specs.Reading.{read, one_at};
-ghost use Rattle.cx_grammar.specs.Calyx.{nested_at, nest, and_of, or_of, window_range, next_comp, next_conj, window, prefixed, unary, compared, comp, more_comps, conj, more_conjs, guard};
-ghost use Rattle.cx_grammar.specs.Grammar.{Negation, Parens};
+ghost use Rattle.std.specs.Prelude.{◌≡◌, ℕ, Some, map};
+ghost use Rattle.cx_grammar.specs.Grammar.{Deeper, Negation, Parens};
+ghost use Rattle.cx_grammar.specs.Calyx as calyx;
+ghost use Rattle.cx_grammar.specs.Calyx.{and_of, or_of};
 ghost use Rattle.cx_ast.specs.PlainGuards.{plain_guard};
+ghost use Rattle.cx_parse.specs.Readings.{Gives, state_of, given, with_first};
 
 use crate::operands::{cmp, operand};
-use crate::parsers::{Parser, no_level};
-use crate::stops::Stop;
-use crate::tokens::{next_in, next_is, number, sign};
-use cx_ast::{GuardItem, OperandItem, Token};
+use crate::readers::Reader;
+use cx_ast::{GuardItem, OperandItem};
 use cx_grammar::Terminal;
 
 /// The terminals that a guard begins with where it does not begin with an operand.
@@ -27,12 +25,14 @@ const COMPARISONS: [Terminal; 6] = [
     Terminal::GreaterEqual,
 ];
 
+/// The guard that is answered where reading has stopped.
+const NO_GUARD: GuardItem = GuardItem::At(0);
+
 /// The conjunction of the parts. One part stands for itself.
 pub fn conjunction(mut all: Vec<GuardItem>) -> GuardItem
-    requires some { 0 < vec_len all }
     ensures value { plain_guard result ≡ and_of (map plain_guard all.items) }
 {
-    if all.len() > 1 {
+    if all.len() != 1 {
         return GuardItem::And(all);
     }
     match all.pop() {
@@ -43,10 +43,9 @@ pub fn conjunction(mut all: Vec<GuardItem>) -> GuardItem
 
 /// The disjunction of the parts. One part stands for itself.
 pub fn disjunction(mut all: Vec<GuardItem>) -> GuardItem
-    requires some { 0 < vec_len all }
     ensures value { plain_guard result ≡ or_of (map plain_guard all.items) }
 {
-    if all.len() > 1 {
+    if all.len() != 1 {
         return GuardItem::Or(all);
     }
     match all.pop() {
@@ -56,218 +55,160 @@ pub fn disjunction(mut all: Vec<GuardItem>) -> GuardItem
 }
 
 /// Reads the cycles of a window between brackets.
-#[tactic(auto, unfolding(cx_grammar::specs::Calyx::window_range))]
-fn window_range(parser: Parser, tokens: &[Token]) -> Result<(GuardItem, &[Token]), Stop>
-    ensures value { Gives (λ x. (plain_guard x.0, x.1.now)) result ((read (nested_at parser.levels) window_range tokens.now)) }
+fn window_range(reader: &mut Reader) -> GuardItem
+    ensures value { (levels : ℕ) → Gives levels calyx.window_range (state_of reader.old) (state_of reader.new) (Some (plain_guard result)) }
 {
-    let (_, rest) = sign(tokens, Terminal::OpenBracket)?;
-    let (from, rest) = number(rest)?;
-    let (_, rest) = sign(rest, Terminal::Colon)?;
-    let (to, rest) = number(rest)?;
-    let (_, rest) = sign(rest, Terminal::CloseBracket)?;
-    Ok((GuardItem::During(from, to), rest))
+    reader.sign(Terminal::OpenBracket);
+    let from = reader.number();
+    reader.sign(Terminal::Colon);
+    let to = reader.number();
+    reader.sign(Terminal::CloseBracket);
+    GuardItem::During(from, to)
 }
 
 /// Reads a window of cycles.
-#[tactic(auto, unfolding(cx_grammar::specs::Calyx::window, cx_grammar::specs::Calyx::window_range))]
-fn window(parser: Parser, tokens: &[Token]) -> Result<(GuardItem, &[Token]), Stop>
-    ensures value { Gives (λ x. (plain_guard x.0, x.1.now)) result ((read (nested_at parser.levels) window tokens.now)) }
+fn window(reader: &mut Reader) -> GuardItem
+    ensures value { (levels : ℕ) → Gives levels calyx.window (state_of reader.old) (state_of reader.new) (Some (plain_guard result)) }
 {
-    let (_, rest) = sign(tokens, Terminal::Percent)?;
-    if next_is(rest, Terminal::Number) {
-        let (n, rest) = number(rest)?;
-        Ok((GuardItem::At(n), rest))
+    reader.sign(Terminal::Percent);
+    if reader.next_is(Terminal::Number) {
+        GuardItem::At(reader.number())
     } else {
-        window_range(parser, rest)
+        window_range(reader)
     }
-}
-
-/// Reads a negation, its level begun.
-#[tactic(auto, unfolding(cx_grammar::specs::Calyx::nest))]
-#[cycle(guard)]
-fn negated(parser: Parser, tokens: &[Token]) -> Result<(GuardItem, &[Token]), Stop>
-    ensures value { Gives (λ x. (plain_guard x.0, x.1.now)) result ((read (nested_at parser.levels) (nest Negation) tokens.now)) }
-{
-    let (_, rest) = sign(tokens, Terminal::Not)?;
-    let (guard, rest) = unary(parser, rest)?;
-    Ok((GuardItem::Not(Box::new(parser.alloc, guard)?), rest))
-}
-
-/// Reads a guard in parentheses, its level begun.
-#[tactic(auto, unfolding(cx_grammar::specs::Calyx::nest))]
-#[cycle(guard)]
-fn enclosed(parser: Parser, tokens: &[Token]) -> Result<(GuardItem, &[Token]), Stop>
-    ensures value { Gives (λ x. (plain_guard x.0, x.1.now)) result ((read (nested_at parser.levels) (nest Parens) tokens.now)) }
-{
-    let (_, rest) = sign(tokens, Terminal::OpenParen)?;
-    let (guard, rest) = guard(parser, rest)?;
-    let (_, rest) = sign(rest, Terminal::CloseParen)?;
-    Ok((guard, rest))
 }
 
 /// Reads a negation.
 #[cycle(guard)]
-fn negation(parser: Parser, tokens: &[Token]) -> Result<(GuardItem, &[Token]), Stop>
-    ensures value { Gives (λ x. (plain_guard x.0, x.1.now)) result (nested_at parser.levels Negation tokens.now) }
+fn negation(reader: &mut Reader, levels: u32) -> GuardItem
+    ensures value { Gives levels (Deeper Negation) (state_of reader.old) (state_of reader.new) (Some (plain_guard result)) }
 {
-    match parser.deeper() {
-        Some(parser) => negated(parser, tokens),
-        None => Err(no_level(tokens, Terminal::Not)),
+    if levels == 0 {
+        reader.no_level(Terminal::Not);
+        return NO_GUARD;
+    }
+    reader.sign(Terminal::Not);
+    let guard = unary(reader, levels - 1);
+    match Box::new(reader.alloc, guard) {
+        Ok(guard) => GuardItem::Not(guard),
+        Err(_) => {
+            reader.lack();
+            NO_GUARD
+        }
     }
 }
 
 /// Reads a guard in parentheses.
 #[cycle(guard)]
-fn parens(parser: Parser, tokens: &[Token]) -> Result<(GuardItem, &[Token]), Stop>
-    ensures value { Gives (λ x. (plain_guard x.0, x.1.now)) result (nested_at parser.levels Parens tokens.now) }
+fn parens(reader: &mut Reader, levels: u32) -> GuardItem
+    ensures value { Gives levels (Deeper Parens) (state_of reader.old) (state_of reader.new) (Some (plain_guard result)) }
 {
-    match parser.deeper() {
-        Some(parser) => enclosed(parser, tokens),
-        None => Err(no_level(tokens, Terminal::OpenParen)),
+    if levels == 0 {
+        reader.no_level(Terminal::OpenParen);
+        return NO_GUARD;
     }
+    reader.sign(Terminal::OpenParen);
+    let guard = guard(reader, levels - 1);
+    reader.sign(Terminal::CloseParen);
+    guard
 }
 
 /// Reads a negation, a guard in parentheses or a window of cycles.
-#[tactic(auto, unfolding(cx_grammar::specs::Calyx::prefixed))]
 #[cycle(guard)]
-pub fn prefixed(parser: Parser, tokens: &[Token]) -> Result<(GuardItem, &[Token]), Stop>
-    ensures value { Gives (λ x. (plain_guard x.0, x.1.now)) result ((read (nested_at parser.levels) prefixed tokens.now)) }
+pub fn prefixed(reader: &mut Reader, levels: u32) -> GuardItem
+    ensures value { Gives levels calyx.prefixed (state_of reader.old) (state_of reader.new) (Some (plain_guard result)) }
 {
-    if next_is(tokens, Terminal::Not) {
-        negation(parser, tokens)
-    } else if next_is(tokens, Terminal::OpenParen) {
-        parens(parser, tokens)
+    if reader.next_is(Terminal::Not) {
+        negation(reader, levels)
+    } else if reader.next_is(Terminal::OpenParen) {
+        parens(reader, levels)
     } else {
-        window(parser, tokens)
+        window(reader)
     }
 }
 
 /// Reads what a negation stands before.
-#[tactic(auto, unfolding(cx_grammar::specs::Calyx::unary, cx_grammar::specs::Calyx::prefixed, cx_grammar::specs::Calyx::window))]
 #[cycle(guard)]
-fn unary(parser: Parser, tokens: &[Token]) -> Result<(GuardItem, &[Token]), Stop>
-    ensures value { Gives (λ x. (plain_guard x.0, x.1.now)) result ((read (nested_at parser.levels) unary tokens.now)) }
+fn unary(reader: &mut Reader, levels: u32) -> GuardItem
+    ensures value { Gives levels calyx.unary (state_of reader.old) (state_of reader.new) (Some (plain_guard result)) }
 {
-    if next_in(tokens, &PREFIXED) {
-        prefixed(parser, tokens)
+    if reader.next_in(&PREFIXED) {
+        prefixed(reader, levels)
     } else {
-        let (operand, rest) = operand(parser, tokens)?;
-        Ok((GuardItem::Operand(operand), rest))
+        GuardItem::Operand(operand(reader))
     }
 }
 
 /// Reads what follows the first operand of a comparison, where it is one.
-#[tactic(auto, unfolding(cx_grammar::specs::Calyx::compared, cx_grammar::specs::Calyx::cmp))]
-pub fn compared(
-    parser: Parser,
-    left: OperandItem,
-    tokens: &[Token],
-) -> Result<(GuardItem, &[Token]), Stop>
-    ensures value { Gives (λ x. (plain_guard x.0, x.1.now)) result (given left (read (nested_at parser.levels) compared tokens.now)) }
+pub fn compared(reader: &mut Reader, left: OperandItem) -> GuardItem
+    ensures value { (levels : ℕ) → Gives levels (given left calyx.compared) (state_of reader.old) (state_of reader.new) (Some (plain_guard result)) }
 {
-    if next_in(tokens, &COMPARISONS) {
-        let (comparison, rest) = cmp(parser, tokens)?;
-        let (right, rest) = operand(parser, rest)?;
-        Ok((GuardItem::Compare(comparison, left, right), rest))
+    if reader.next_in(&COMPARISONS) {
+        let comparison = cmp(reader);
+        let right = operand(reader);
+        GuardItem::Compare(comparison, left, right)
     } else {
-        Ok((GuardItem::Operand(left), tokens))
+        GuardItem::Operand(left)
     }
 }
 
 /// Reads a part of a conjunction.
-#[tactic(auto, unfolding(cx_grammar::specs::Calyx::comp, cx_grammar::specs::Calyx::prefixed, cx_grammar::specs::Calyx::window))]
 #[cycle(guard)]
-fn comp(parser: Parser, tokens: &[Token]) -> Result<(GuardItem, &[Token]), Stop>
-    ensures value { Gives (λ x. (plain_guard x.0, x.1.now)) result ((read (nested_at parser.levels) comp tokens.now)) }
+fn comp(reader: &mut Reader, levels: u32) -> GuardItem
+    ensures value { Gives levels calyx.comp (state_of reader.old) (state_of reader.new) (Some (plain_guard result)) }
 {
-    if next_in(tokens, &PREFIXED) {
-        prefixed(parser, tokens)
+    if reader.next_in(&PREFIXED) {
+        prefixed(reader, levels)
     } else {
-        let (left, rest) = operand(parser, tokens)?;
-        compared(parser, left, rest)
+        let left = operand(reader);
+        compared(reader, left)
     }
-}
-
-/// Reads `&` and a part of a conjunction.
-#[tactic(auto, unfolding(cx_grammar::specs::Calyx::next_comp))]
-#[cycle(guard)]
-fn next_comp(parser: Parser, tokens: &[Token]) -> Result<(GuardItem, &[Token]), Stop>
-    ensures value { Gives (λ x. (plain_guard x.0, x.1.now)) result ((read (nested_at parser.levels) next_comp tokens.now)) }
-{
-    let (_, rest) = sign(tokens, Terminal::And)?;
-    comp(parser, rest)
 }
 
 /// Reads the parts of a conjunction behind the first.
-#[tactic(auto, unfolding(cx_grammar::specs::Calyx::more_comps, cx_grammar::specs::Calyx::next_comp))]
 #[cycle(guard)]
-pub fn more_comps(
-    parser: Parser,
-    first: GuardItem,
-    tokens: &[Token],
-) -> Result<(Vec<GuardItem>, &[Token]), Stop>
-    ensures value { Gives (λ x. (map plain_guard x.0.items, x.1.now)) result (with_front (plain_guard first ∷ []) (read (nested_at parser.levels) more_comps tokens.now)) }
+pub fn more_comps(reader: &mut Reader, levels: u32, first: GuardItem) -> Vec<GuardItem>
+    ensures value { Gives levels (with_first (plain_guard first) calyx.more_comps) (state_of reader.old) (state_of reader.new) (Some (map plain_guard result.items)) }
 {
-    let mut all = Vec::new(parser.alloc);
-    all.push(first)?;
-    let mut rest = tokens;
-    while next_is(rest, Terminal::And) {
-        let (part, after) = next_comp(parser, rest)?;
-        all.push(part)?;
-        rest = after;
+    let mut all = Vec::new(reader.alloc);
+    reader.keep(&mut all, Some(first));
+    while reader.next_is(Terminal::And) {
+        reader.sign(Terminal::And);
+        let part = comp(reader, levels);
+        reader.keep(&mut all, Some(part));
     }
-    Ok((all, rest))
+    all
 }
 
 /// Reads a conjunction.
-#[tactic(auto, unfolding(cx_grammar::specs::Calyx::conj))]
 #[cycle(guard)]
-fn conj(parser: Parser, tokens: &[Token]) -> Result<(GuardItem, &[Token]), Stop>
-    ensures value { Gives (λ x. (plain_guard x.0, x.1.now)) result ((read (nested_at parser.levels) conj tokens.now)) }
+fn conj(reader: &mut Reader, levels: u32) -> GuardItem
+    ensures value { Gives levels calyx.conj (state_of reader.old) (state_of reader.new) (Some (plain_guard result)) }
 {
-    let (first, rest) = comp(parser, tokens)?;
-    let (all, rest) = more_comps(parser, first, rest)?;
-    Ok((conjunction(all), rest))
-}
-
-/// Reads `|` and a part of a disjunction.
-#[tactic(auto, unfolding(cx_grammar::specs::Calyx::next_conj))]
-#[cycle(guard)]
-fn next_conj(parser: Parser, tokens: &[Token]) -> Result<(GuardItem, &[Token]), Stop>
-    ensures value { Gives (λ x. (plain_guard x.0, x.1.now)) result ((read (nested_at parser.levels) next_conj tokens.now)) }
-{
-    let (_, rest) = sign(tokens, Terminal::Or)?;
-    conj(parser, rest)
+    let first = comp(reader, levels);
+    conjunction(more_comps(reader, levels, first))
 }
 
 /// Reads the parts of a disjunction behind the first.
-#[tactic(auto, unfolding(cx_grammar::specs::Calyx::more_conjs, cx_grammar::specs::Calyx::next_conj))]
 #[cycle(guard)]
-pub fn more_conjs(
-    parser: Parser,
-    first: GuardItem,
-    tokens: &[Token],
-) -> Result<(Vec<GuardItem>, &[Token]), Stop>
-    ensures value { Gives (λ x. (map plain_guard x.0.items, x.1.now)) result (with_front (plain_guard first ∷ []) (read (nested_at parser.levels) more_conjs tokens.now)) }
+pub fn more_conjs(reader: &mut Reader, levels: u32, first: GuardItem) -> Vec<GuardItem>
+    ensures value { Gives levels (with_first (plain_guard first) calyx.more_conjs) (state_of reader.old) (state_of reader.new) (Some (map plain_guard result.items)) }
 {
-    let mut all = Vec::new(parser.alloc);
-    all.push(first)?;
-    let mut rest = tokens;
-    while next_is(rest, Terminal::Or) {
-        let (part, after) = next_conj(parser, rest)?;
-        all.push(part)?;
-        rest = after;
+    let mut all = Vec::new(reader.alloc);
+    reader.keep(&mut all, Some(first));
+    while reader.next_is(Terminal::Or) {
+        reader.sign(Terminal::Or);
+        let part = conj(reader, levels);
+        reader.keep(&mut all, Some(part));
     }
-    Ok((all, rest))
+    all
 }
 
 /// Reads a guard.
-#[tactic(auto, unfolding(cx_grammar::specs::Calyx::guard))]
 #[cycle(guard)]
-pub fn guard(parser: Parser, tokens: &[Token]) -> Result<(GuardItem, &[Token]), Stop>
-    ensures value { Gives (λ x. (plain_guard x.0, x.1.now)) result ((read (nested_at parser.levels) guard tokens.now)) }
+pub fn guard(reader: &mut Reader, levels: u32) -> GuardItem
+    ensures value { Gives levels calyx.guard (state_of reader.old) (state_of reader.new) (Some (plain_guard result)) }
 {
-    let (first, rest) = conj(parser, tokens)?;
-    let (all, rest) = more_conjs(parser, first, rest)?;
-    Ok((disjunction(all), rest))
+    let first = conj(reader, levels);
+    disjunction(more_conjs(reader, levels, first))
 }

@@ -1,106 +1,118 @@
 //! Reading targets and operands.
 
-ghost use Rattle.std.specs.Prelude.{◌≡◌};
-ghost use Rattle.cx_parse.specs.Answers.{Gives, with_front, given};
-ghost use Rattle.cx_grammar.specs.Reading.{read, one_at};
-ghost use Rattle.cx_grammar.specs.Calyx.{nested_at, reference, target, literal, operand, cmp};
+ghost use Rattle.std.specs.Prelude.{◌≡◌, ℕ, Some};
+ghost use Rattle.cx_grammar.specs.Calyx as calyx;
+ghost use Rattle.cx_parse.specs.Readings.{Gives, state_of, given};
 
-use crate::parsers::Parser;
-use crate::stops::Stop;
-use crate::tokens::{name, next_is, sign, word};
-use cx_ast::{Comparison, OperandForm, OperandItem, Token, TokenKind};
+use crate::readers::{Reader, START};
+use cx_ast::{Comparison, OperandForm, OperandItem, TokenKind};
 use cx_grammar::Terminal;
 use cx_text::Name;
 
-/// The terminals that an operand begins with.
-pub const OPERAND: [Terminal; 2] = [Terminal::Name, Terminal::Literal];
+/// The form that is answered where reading has stopped.
+const NO_FORM: OperandForm = OperandForm::Literal(0, 0);
 
 /// Reads what follows the first name of a target.
-#[tactic(auto, unfolding(cx_grammar::specs::Calyx::reference))]
-fn reference(parser: Parser, first: Name, tokens: &[Token]) -> Result<(OperandForm, &[Token]), Stop>
-    ensures value { Gives (λ x. (x.0, x.1.now)) result (given first (read (nested_at parser.levels) reference tokens.now)) }
+fn reference(reader: &mut Reader, first: Name) -> OperandForm
+    ensures value { (levels : ℕ) → Gives levels (given first calyx.reference) (state_of reader.old) (state_of reader.new) (Some result) }
 {
-    if next_is(tokens, Terminal::Dot) {
-        let (_, rest) = sign(tokens, Terminal::Dot)?;
-        let (port, rest) = name(parser.alloc, rest)?;
-        Ok((OperandForm::Port(first, port.0), rest))
-    } else if next_is(tokens, Terminal::OpenBracket) {
-        let (_, rest) = sign(tokens, Terminal::OpenBracket)?;
-        let (hole, rest) = word(parser.alloc, rest)?;
-        let (_, rest) = sign(rest, Terminal::CloseBracket)?;
-        Ok((OperandForm::Hole(first, hole), rest))
-    } else {
-        Ok((OperandForm::Own(first), tokens))
+    if reader.next_is(Terminal::Dot) {
+        reader.sign(Terminal::Dot);
+        return match reader.name() {
+            Some((port, _)) => OperandForm::Port(first, port),
+            None => NO_FORM,
+        };
     }
+    if reader.next_is(Terminal::OpenBracket) {
+        reader.sign(Terminal::OpenBracket);
+        return match reader.word() {
+            Some(hole) => {
+                reader.sign(Terminal::CloseBracket);
+                OperandForm::Hole(first, hole)
+            }
+            None => NO_FORM,
+        };
+    }
+    OperandForm::Own(first)
 }
 
 /// Reads a target.
-#[tactic(auto, unfolding(cx_grammar::specs::Calyx::target))]
-pub fn target(parser: Parser, tokens: &[Token]) -> Result<(OperandItem, &[Token]), Stop>
-    ensures value { Gives (λ x. (x.0, x.1.now)) result ((read (nested_at parser.levels) target tokens.now)) }
+pub fn target(reader: &mut Reader) -> OperandItem
+    ensures value { (levels : ℕ) → Gives levels calyx.target (state_of reader.old) (state_of reader.new) (Some result) }
 {
-    let ((first, place), rest) = name(parser.alloc, tokens)?;
-    let (form, rest) = reference(parser, first, rest)?;
-    Ok((OperandItem { form, place }, rest))
+    match reader.name() {
+        Some((first, place)) => {
+            let form = reference(reader, first);
+            OperandItem { form, place }
+        }
+        None => OperandItem {
+            form: NO_FORM,
+            place: START,
+        },
+    }
+}
+
+/// The form that a literal is.
+fn literal_of(kind: &TokenKind) -> OperandForm
+    ensures value { result ≡ calyx.literal_of kind.now }
+{
+    match kind {
+        TokenKind::Literal(width, value) => OperandForm::Literal(*width, *value),
+        _ => NO_FORM,
+    }
 }
 
 /// Reads a literal.
-#[tactic(auto, unfolding(cx_grammar::specs::Calyx::literal))]
-fn literal(parser: Parser, tokens: &[Token]) -> Result<(OperandItem, &[Token]), Stop>
-    ensures value { Gives (λ x. (x.0, x.1.now)) result ((read (nested_at parser.levels) literal tokens.now)) }
+fn literal(reader: &mut Reader) -> OperandItem
+    ensures value { (levels : ℕ) → Gives levels calyx.literal (state_of reader.old) (state_of reader.new) (Some result) }
 {
-    match tokens.split_first() {
-        Some((first, rest)) => match &first.kind {
-            TokenKind::Literal(width, value) => {
-                let form = OperandForm::Literal(*width, *value);
-                Ok((
-                    OperandItem {
-                        form,
-                        place: first.place,
-                    },
-                    rest,
-                ))
-            }
-            _ => Err(Stop::Unexpected(tokens.len())),
+    match reader.take(&[Terminal::Literal]) {
+        Some(token) => OperandItem {
+            form: literal_of(&token.kind),
+            place: token.place,
         },
-        None => Err(Stop::Unexpected(0)),
+        None => OperandItem {
+            form: NO_FORM,
+            place: START,
+        },
     }
 }
 
 /// Reads an operand.
-#[tactic(auto, unfolding(cx_grammar::specs::Calyx::operand, cx_grammar::specs::Calyx::target))]
-pub fn operand(parser: Parser, tokens: &[Token]) -> Result<(OperandItem, &[Token]), Stop>
-    ensures value { Gives (λ x. (x.0, x.1.now)) result ((read (nested_at parser.levels) operand tokens.now)) }
+pub fn operand(reader: &mut Reader) -> OperandItem
+    ensures value { (levels : ℕ) → Gives levels calyx.operand (state_of reader.old) (state_of reader.new) (Some result) }
 {
-    if next_is(tokens, Terminal::Name) {
-        target(parser, tokens)
+    if reader.next_is(Terminal::Name) {
+        target(reader)
     } else {
-        literal(parser, tokens)
+        literal(reader)
     }
 }
 
 /// Reads the sign of a comparison.
-#[tactic(auto, unfolding(cx_grammar::specs::Calyx::cmp))]
-pub fn cmp(parser: Parser, tokens: &[Token]) -> Result<(Comparison, &[Token]), Stop>
-    ensures value { Gives (λ x. (x.0, x.1.now)) result ((read (nested_at parser.levels) cmp tokens.now)) }
+pub fn cmp(reader: &mut Reader) -> Comparison
+    ensures value { (levels : ℕ) → Gives levels calyx.cmp (state_of reader.old) (state_of reader.new) (Some result) }
 {
-    if next_is(tokens, Terminal::EqualEqual) {
-        let (_, rest) = sign(tokens, Terminal::EqualEqual)?;
-        Ok((Comparison::Equal, rest))
-    } else if next_is(tokens, Terminal::NotEqual) {
-        let (_, rest) = sign(tokens, Terminal::NotEqual)?;
-        Ok((Comparison::NotEqual, rest))
-    } else if next_is(tokens, Terminal::Less) {
-        let (_, rest) = sign(tokens, Terminal::Less)?;
-        Ok((Comparison::Less, rest))
-    } else if next_is(tokens, Terminal::Greater) {
-        let (_, rest) = sign(tokens, Terminal::Greater)?;
-        Ok((Comparison::Greater, rest))
-    } else if next_is(tokens, Terminal::LessEqual) {
-        let (_, rest) = sign(tokens, Terminal::LessEqual)?;
-        Ok((Comparison::LessEqual, rest))
-    } else {
-        let (_, rest) = sign(tokens, Terminal::GreaterEqual)?;
-        Ok((Comparison::GreaterEqual, rest))
+    if reader.next_is(Terminal::EqualEqual) {
+        reader.sign(Terminal::EqualEqual);
+        return Comparison::Equal;
     }
+    if reader.next_is(Terminal::NotEqual) {
+        reader.sign(Terminal::NotEqual);
+        return Comparison::NotEqual;
+    }
+    if reader.next_is(Terminal::Less) {
+        reader.sign(Terminal::Less);
+        return Comparison::Less;
+    }
+    if reader.next_is(Terminal::Greater) {
+        reader.sign(Terminal::Greater);
+        return Comparison::Greater;
+    }
+    if reader.next_is(Terminal::LessEqual) {
+        reader.sign(Terminal::LessEqual);
+        return Comparison::LessEqual;
+    }
+    reader.sign(Terminal::GreaterEqual);
+    Comparison::GreaterEqual
 }

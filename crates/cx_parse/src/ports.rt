@@ -1,93 +1,81 @@
 //! Reading signatures.
 
-ghost use Rattle.std.specs.Prelude.{◌≡◌, [], ◌∷◌, map};
-ghost use Rattle.cx_parse.specs.Answers.{Gives, with_front};
-ghost use Rattle.cx_grammar.specs.Reading.{read, commas_at};
-ghost use Rattle.cx_grammar.specs.Grammar.{starts};
-ghost use Rattle.cx_grammar.specs.Calyx.{nested_at, port, some_ports, ports, outputs};
+ghost use Rattle.std.specs.Prelude.{◌≡◌, ℕ, Some, map, option_map};
+ghost use Rattle.cx_grammar.specs.Calyx as calyx;
 ghost use Rattle.cx_ast.specs.PlainTree.{plain_port};
+ghost use Rattle.cx_parse.specs.Readings.{Gives, GivesCommas, state_of};
 
-use crate::{Parser, Stop, after_comma, attributes, name, next_in, next_is, number, sign};
-use cx_ast::{PortItem, Token};
+use crate::annotations::attributes;
+use crate::readers::Reader;
+use cx_ast::PortItem;
 use cx_grammar::Terminal;
 
 /// The terminals that a port begins with.
 const PORT: [Terminal; 2] = [Terminal::At, Terminal::Name];
 
 /// Reads a port.
-#[tactic(auto, unfolding(cx_grammar::specs::Calyx::port))]
-fn port(parser: Parser, tokens: &[Token]) -> Result<(PortItem, &[Token]), Stop>
-    ensures value { Gives (λ x. (plain_port x.0, x.1.now)) result ((read (nested_at parser.levels) port tokens.now)) }
+fn port(reader: &mut Reader) -> Option<PortItem>
+    ensures value { (levels : ℕ) → Gives levels calyx.port (state_of reader.old) (state_of reader.new) (option_map plain_port result) }
 {
-    let (attributes, rest) = attributes(parser, tokens)?;
-    let ((name, place), rest) = name(parser.alloc, rest)?;
-    let (_, rest) = sign(rest, Terminal::Colon)?;
-    let (width, rest) = number(rest)?;
-    Ok((
-        PortItem {
-            attributes,
-            name,
-            width,
-            place,
-        },
-        rest,
-    ))
+    let attributes = attributes(reader);
+    let (name, place) = reader.name()?;
+    reader.sign(Terminal::Colon);
+    let width = reader.number();
+    Some(PortItem {
+        attributes,
+        name,
+        width,
+        place,
+    })
 }
 
 /// Reads the ports behind the first. A comma may stand behind the last.
-#[tactic(auto, unfolding(cx_grammar::specs::Calyx::port, cx_grammar::specs::Calyx::attributes, cx_grammar::specs::Calyx::attribute))]
-fn more_ports(
-    parser: Parser,
-    first: PortItem,
-    tokens: &[Token],
-) -> Result<(Vec<PortItem>, &[Token]), Stop>
-    ensures value { Gives (λ x. (map plain_port x.0.items, x.1.now)) result (with_front (plain_port first ∷ []) (commas_at (read (nested_at parser.levels) port) (starts port) tokens.now)) }
+fn more_ports(reader: &mut Reader, first: PortItem) -> Vec<PortItem>
+    ensures value { (levels : ℕ) → GivesCommas levels calyx.port (plain_port first) (state_of reader.old) (state_of reader.new) (map plain_port result.items) }
 {
-    let mut all = Vec::new(parser.alloc);
-    all.push(first)?;
-    let mut rest = tokens;
-    while let Some(after) = after_comma(rest) {
-        if !next_in(after, &PORT) {
-            return Ok((all, after));
+    let mut all = Vec::new(reader.alloc);
+    reader.keep(&mut all, Some(first));
+    while reader.next_is(Terminal::Comma) {
+        reader.sign(Terminal::Comma);
+        if !reader.next_in(&PORT) {
+            return all;
         }
-        let (port, after) = port(parser, after)?;
-        all.push(port)?;
-        rest = after;
+        let port = port(reader);
+        reader.keep(&mut all, port);
     }
-    Ok((all, rest))
-}
-
-/// Reads the ports between parentheses.
-#[tactic(auto, unfolding(cx_grammar::specs::Calyx::some_ports, cx_grammar::specs::Calyx::port, cx_grammar::specs::Calyx::attributes, cx_grammar::specs::Calyx::attribute))]
-fn some_ports(parser: Parser, tokens: &[Token]) -> Result<(Vec<PortItem>, &[Token]), Stop>
-    ensures value { Gives (λ x. (map plain_port x.0.items, x.1.now)) result ((read (nested_at parser.levels) some_ports tokens.now)) }
-{
-    if !next_in(tokens, &PORT) {
-        return Ok((Vec::new(parser.alloc), tokens));
-    }
-    let (first, rest) = port(parser, tokens)?;
-    more_ports(parser, first, rest)
+    all
 }
 
 /// Reads ports and their parentheses.
-#[tactic(auto, unfolding(cx_grammar::specs::Calyx::ports))]
-pub fn ports(parser: Parser, tokens: &[Token]) -> Result<(Vec<PortItem>, &[Token]), Stop>
-    ensures value { Gives (λ x. (map plain_port x.0.items, x.1.now)) result ((read (nested_at parser.levels) ports tokens.now)) }
+pub fn ports(reader: &mut Reader) -> Vec<PortItem>
+    ensures value { (levels : ℕ) → Gives levels calyx.ports (state_of reader.old) (state_of reader.new) (Some (map plain_port result.items)) }
 {
-    let (_, rest) = sign(tokens, Terminal::OpenParen)?;
-    let (all, rest) = some_ports(parser, rest)?;
-    let (_, rest) = sign(rest, Terminal::CloseParen)?;
-    Ok((all, rest))
+    reader.sign(Terminal::OpenParen);
+    let all = some_ports(reader);
+    reader.sign(Terminal::CloseParen);
+    all
+}
+
+/// Reads the ports between parentheses.
+fn some_ports(reader: &mut Reader) -> Vec<PortItem>
+    ensures value { (levels : ℕ) → Gives levels calyx.some_ports (state_of reader.old) (state_of reader.new) (Some (map plain_port result.items)) }
+{
+    if !reader.next_in(&PORT) {
+        return Vec::new(reader.alloc);
+    }
+    match port(reader) {
+        Some(first) => more_ports(reader, first),
+        None => Vec::new(reader.alloc),
+    }
 }
 
 /// Reads the outputs, where there are some.
-#[tactic(auto, unfolding(cx_grammar::specs::Calyx::outputs))]
-pub fn outputs(parser: Parser, tokens: &[Token]) -> Result<(Vec<PortItem>, &[Token]), Stop>
-    ensures value { Gives (λ x. (map plain_port x.0.items, x.1.now)) result ((read (nested_at parser.levels) outputs tokens.now)) }
+pub fn outputs(reader: &mut Reader) -> Vec<PortItem>
+    ensures value { (levels : ℕ) → Gives levels calyx.outputs (state_of reader.old) (state_of reader.new) (Some (map plain_port result.items)) }
 {
-    if !next_is(tokens, Terminal::Arrow) {
-        return Ok((Vec::new(parser.alloc), tokens));
+    if !reader.next_is(Terminal::Arrow) {
+        return Vec::new(reader.alloc);
     }
-    let (_, rest) = sign(tokens, Terminal::Arrow)?;
-    ports(parser, rest)
+    reader.sign(Terminal::Arrow);
+    ports(reader)
 }

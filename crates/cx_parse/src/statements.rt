@@ -1,17 +1,15 @@
 //! Reading control.
 
-ghost use Rattle.std.specs.Prelude.{◌≡◌, [], ◌∷◌, map, option_map};
-ghost use Rattle.cx_parse.specs.Answers.{Gives, with_front, given};
-ghost use Rattle.cx_grammar.specs.Reading.{read, commas_at};
-ghost use Rattle.cx_grammar.specs.Grammar.{Braces, starts};
-ghost use Rattle.cx_grammar.specs.Calyx.{nested_at, nest, enable, seq, par, if_form, while_form, repeat, invoke, static_statement, bind, some_binds, binds, block, control, comb, otherwise, marked_block, if_rest, while_rest, repeat_rest, static_if_rest, invoke_rest, static_rest, static_form, form, statement, statements};
+ghost use Rattle.std.specs.Prelude.{◌≡◌, ℕ, Some, map, option_map};
+ghost use Rattle.cx_grammar.specs.Grammar.{Deeper, Braces};
+ghost use Rattle.cx_grammar.specs.Calyx as calyx;
 ghost use Rattle.cx_ast.specs.PlainStatements.{plain_block, plain_form, plain_statement};
+ghost use Rattle.cx_parse.specs.Readings.{Gives, GivesCommas, state_of, given};
 
-use crate::{
-    Parser, Stop, after_comma, attributes, marks, name, next_in, next_is, no_level, number,
-    operand, optional_length, sign,
-};
-use cx_ast::{BindItem, Block, Mark, StatementForm, StatementItem, Token};
+use crate::annotations::{attributes, marks, optional_length};
+use crate::operands::operand;
+use crate::readers::{Reader, START};
+use cx_ast::{BindItem, Block, Mark, StatementForm, StatementItem};
 use cx_grammar::Terminal;
 use cx_text::{Name, Place};
 
@@ -29,445 +27,351 @@ const STATEMENT: [Terminal; 9] = [
 ];
 
 /// Reads a bind.
-#[tactic(auto, unfolding(cx_grammar::specs::Calyx::bind))]
-fn bind(parser: Parser, tokens: &[Token]) -> Result<(BindItem, &[Token]), Stop>
-    ensures value { Gives (λ x. (x.0, x.1.now)) result ((read (nested_at parser.levels) bind tokens.now)) }
+fn bind(reader: &mut Reader) -> Option<BindItem>
+    ensures value { (levels : ℕ) → Gives levels calyx.bind (state_of reader.old) (state_of reader.new) result }
 {
-    let ((name, place), rest) = name(parser.alloc, tokens)?;
-    let (_, rest) = sign(rest, Terminal::Equal)?;
-    let (value, rest) = operand(parser, rest)?;
-    Ok((BindItem { name, value, place }, rest))
+    let (name, place) = reader.name()?;
+    reader.sign(Terminal::Equal);
+    let value = operand(reader);
+    Some(BindItem { name, value, place })
 }
 
 /// Reads the binds behind the first. A comma may stand behind the last.
-#[tactic(auto, unfolding(cx_grammar::specs::Calyx::bind))]
-fn more_binds(
-    parser: Parser,
-    first: BindItem,
-    tokens: &[Token],
-) -> Result<(Vec<BindItem>, &[Token]), Stop>
-    ensures value { Gives (λ x. (x.0.items, x.1.now)) result (with_front (first ∷ []) (commas_at (read (nested_at parser.levels) bind) (starts bind) tokens.now)) }
+fn more_binds(reader: &mut Reader, first: BindItem) -> Vec<BindItem>
+    ensures value { (levels : ℕ) → GivesCommas levels calyx.bind first (state_of reader.old) (state_of reader.new) result.items }
 {
-    let mut all = Vec::new(parser.alloc);
-    all.push(first)?;
-    let mut rest = tokens;
-    while let Some(after) = after_comma(rest) {
-        if !next_is(after, Terminal::Name) {
-            return Ok((all, after));
+    let mut all = Vec::new(reader.alloc);
+    reader.keep(&mut all, Some(first));
+    while reader.next_is(Terminal::Comma) {
+        reader.sign(Terminal::Comma);
+        if !reader.next_is(Terminal::Name) {
+            return all;
         }
-        let (bind, after) = bind(parser, after)?;
-        all.push(bind)?;
-        rest = after;
+        let bind = bind(reader);
+        reader.keep(&mut all, bind);
     }
-    Ok((all, rest))
+    all
 }
 
 /// Reads the binds between parentheses.
-#[tactic(auto, unfolding(cx_grammar::specs::Calyx::some_binds, cx_grammar::specs::Calyx::bind))]
-fn some_binds(parser: Parser, tokens: &[Token]) -> Result<(Vec<BindItem>, &[Token]), Stop>
-    ensures value { Gives (λ x. (x.0.items, x.1.now)) result ((read (nested_at parser.levels) some_binds tokens.now)) }
+fn some_binds(reader: &mut Reader) -> Vec<BindItem>
+    ensures value { (levels : ℕ) → Gives levels calyx.some_binds (state_of reader.old) (state_of reader.new) (Some result.items) }
 {
-    if !next_is(tokens, Terminal::Name) {
-        return Ok((Vec::new(parser.alloc), tokens));
+    if !reader.next_is(Terminal::Name) {
+        return Vec::new(reader.alloc);
     }
-    let (first, rest) = bind(parser, tokens)?;
-    more_binds(parser, first, rest)
+    match bind(reader) {
+        Some(first) => more_binds(reader, first),
+        None => Vec::new(reader.alloc),
+    }
 }
 
 /// Reads binds and their parentheses.
-#[tactic(auto, unfolding(cx_grammar::specs::Calyx::binds))]
-fn binds(parser: Parser, tokens: &[Token]) -> Result<(Vec<BindItem>, &[Token]), Stop>
-    ensures value { Gives (λ x. (x.0.items, x.1.now)) result ((read (nested_at parser.levels) binds tokens.now)) }
+fn binds(reader: &mut Reader) -> Vec<BindItem>
+    ensures value { (levels : ℕ) → Gives levels calyx.binds (state_of reader.old) (state_of reader.new) (Some result.items) }
 {
-    let (_, rest) = sign(tokens, Terminal::OpenParen)?;
-    let (all, rest) = some_binds(parser, rest)?;
-    let (_, rest) = sign(rest, Terminal::CloseParen)?;
-    Ok((all, rest))
+    reader.sign(Terminal::OpenParen);
+    let all = some_binds(reader);
+    reader.sign(Terminal::CloseParen);
+    all
 }
 
 /// Reads the comb group behind a condition, where there is one.
-#[tactic(auto, unfolding(cx_grammar::specs::Calyx::comb))]
-fn comb(parser: Parser, tokens: &[Token]) -> Result<(Option<Name>, &[Token]), Stop>
-    ensures value { Gives (λ x. (x.0, x.1.now)) result ((read (nested_at parser.levels) comb tokens.now)) }
+fn comb(reader: &mut Reader) -> Option<Name>
+    ensures value { (levels : ℕ) → Gives levels calyx.comb (state_of reader.old) (state_of reader.new) (Some result) }
 {
-    if !next_is(tokens, Terminal::With) {
-        return Ok((None, tokens));
+    if !reader.next_is(Terminal::With) {
+        return None;
     }
-    let (_, rest) = sign(tokens, Terminal::With)?;
-    let ((name, _), rest) = name(parser.alloc, rest)?;
-    Ok((Some(name), rest))
-}
-
-/// Reads a block, its level begun.
-#[tactic(auto, unfolding(cx_grammar::specs::Calyx::nest))]
-#[cycle(statement)]
-fn braces(parser: Parser, tokens: &[Token]) -> Result<(Block, &[Token]), Stop>
-    ensures value { Gives (λ x. (plain_block x.0, x.1.now)) result ((read (nested_at parser.levels) (nest Braces) tokens.now)) }
-{
-    let (place, rest) = sign(tokens, Terminal::OpenBrace)?;
-    let (statements, rest) = statements(parser, rest)?;
-    let (_, rest) = sign(rest, Terminal::CloseBrace)?;
-    Ok((Block { statements, place }, rest))
+    reader.sign(Terminal::With);
+    match reader.name() {
+        Some((name, _)) => Some(name),
+        None => None,
+    }
 }
 
 /// Reads a block.
 #[cycle(statement)]
-pub fn block(parser: Parser, tokens: &[Token]) -> Result<(Block, &[Token]), Stop>
-    ensures value { Gives (λ x. (plain_block x.0, x.1.now)) result (nested_at parser.levels Braces tokens.now) }
+pub fn block(reader: &mut Reader, levels: u32) -> Block
+    ensures value { Gives levels (Deeper Braces) (state_of reader.old) (state_of reader.new) (Some (plain_block result)) }
 {
-    match parser.deeper() {
-        Some(parser) => braces(parser, tokens),
-        None => Err(no_level(tokens, Terminal::OpenBrace)),
+    if levels == 0 {
+        reader.no_level(Terminal::OpenBrace);
+        return Block {
+            statements: Vec::new(reader.alloc),
+            place: START,
+        };
     }
+    let place = reader.sign(Terminal::OpenBrace);
+    let statements = statements(reader, levels - 1);
+    reader.sign(Terminal::CloseBrace);
+    Block { statements, place }
 }
 
 /// Reads the block behind `else`, where there is one.
-#[tactic(auto, unfolding(cx_grammar::specs::Calyx::otherwise, cx_grammar::specs::Calyx::block))]
 #[cycle(statement)]
-fn otherwise(parser: Parser, tokens: &[Token]) -> Result<(Option<Block>, &[Token]), Stop>
-    ensures value { Gives (λ x. (option_map plain_block x.0, x.1.now)) result ((read (nested_at parser.levels) otherwise tokens.now)) }
+fn otherwise(reader: &mut Reader, levels: u32) -> Option<Block>
+    ensures value { Gives levels calyx.otherwise (state_of reader.old) (state_of reader.new) (Some (option_map plain_block result)) }
 {
-    if !next_is(tokens, Terminal::Else) {
-        return Ok((None, tokens));
+    if !reader.next_is(Terminal::Else) {
+        return None;
     }
-    let (_, rest) = sign(tokens, Terminal::Else)?;
-    let (block, rest) = block(parser, rest)?;
-    Ok((Some(block), rest))
+    reader.sign(Terminal::Else);
+    Some(block(reader, levels))
 }
 
 /// Reads marks and a block.
-#[tactic(auto, unfolding(cx_grammar::specs::Calyx::marked_block, cx_grammar::specs::Calyx::block))]
 #[cycle(statement)]
-fn marked_block(parser: Parser, tokens: &[Token]) -> Result<((Vec<Mark>, Block), &[Token]), Stop>
-    ensures value { Gives (λ x. ((x.0.0.items, plain_block x.0.1), x.1.now)) result ((read (nested_at parser.levels) marked_block tokens.now)) }
+fn marked_block(reader: &mut Reader, levels: u32) -> (Vec<Mark>, Block)
+    ensures value { Gives levels calyx.marked_block (state_of reader.old) (state_of reader.new) (Some (result.0.items, plain_block result.1)) }
 {
-    let (marks, rest) = marks(parser, tokens)?;
-    let (block, rest) = block(parser, rest)?;
-    Ok(((marks, block), rest))
-}
-
-/// Reads an `if` behind its word.
-#[tactic(auto, unfolding(cx_grammar::specs::Calyx::if_rest, cx_grammar::specs::Calyx::block))]
-#[cycle(statement)]
-fn if_rest(parser: Parser, tokens: &[Token]) -> Result<(StatementForm, &[Token]), Stop>
-    ensures value { Gives (λ x. (plain_form x.0, x.1.now)) result ((read (nested_at parser.levels) if_rest tokens.now)) }
-{
-    let (test, rest) = operand(parser, tokens)?;
-    let (comb, rest) = comb(parser, rest)?;
-    let (yes, rest) = block(parser, rest)?;
-    let (no, rest) = otherwise(parser, rest)?;
-    Ok((
-        StatementForm::If {
-            test,
-            comb,
-            yes,
-            no,
-        },
-        rest,
-    ))
-}
-
-/// Reads a `while` behind its word.
-#[tactic(auto, unfolding(cx_grammar::specs::Calyx::while_rest, cx_grammar::specs::Calyx::block))]
-#[cycle(statement)]
-fn while_rest(parser: Parser, tokens: &[Token]) -> Result<(StatementForm, &[Token]), Stop>
-    ensures value { Gives (λ x. (plain_form x.0, x.1.now)) result ((read (nested_at parser.levels) while_rest tokens.now)) }
-{
-    let (test, rest) = operand(parser, tokens)?;
-    let (comb, rest) = comb(parser, rest)?;
-    let (body, rest) = block(parser, rest)?;
-    Ok((StatementForm::While { test, comb, body }, rest))
+    let marks = marks(reader);
+    let block = block(reader, levels);
+    (marks, block)
 }
 
 /// Reads the count and the body of a `repeat`.
-#[tactic(auto, unfolding(cx_grammar::specs::Calyx::repeat_rest, cx_grammar::specs::Calyx::block))]
 #[cycle(statement)]
-fn repeat_rest(parser: Parser, tokens: &[Token]) -> Result<((u64, Block), &[Token]), Stop>
-    ensures value { Gives (λ x. ((x.0.0, plain_block x.0.1), x.1.now)) result ((read (nested_at parser.levels) repeat_rest tokens.now)) }
+fn repeat_rest(reader: &mut Reader, levels: u32) -> (u64, Block)
+    ensures value { Gives levels calyx.repeat_rest (state_of reader.old) (state_of reader.new) (Some (result.0, plain_block result.1)) }
 {
-    let (count, rest) = number(tokens)?;
-    let (body, rest) = block(parser, rest)?;
-    Ok(((count, body), rest))
-}
-
-/// Reads a static `if` behind its word.
-#[tactic(auto, unfolding(cx_grammar::specs::Calyx::static_if_rest, cx_grammar::specs::Calyx::block))]
-#[cycle(statement)]
-fn static_if_rest(
-    parser: Parser,
-    length: Option<u64>,
-    tokens: &[Token],
-) -> Result<(StatementForm, &[Token]), Stop>
-    ensures value { Gives (λ x. (plain_form x.0, x.1.now)) result (given length (read (nested_at parser.levels) static_if_rest tokens.now)) }
-{
-    let (test, rest) = operand(parser, tokens)?;
-    let (yes, rest) = block(parser, rest)?;
-    let (no, rest) = otherwise(parser, rest)?;
-    Ok((
-        StatementForm::StaticIf {
-            length,
-            test,
-            yes,
-            no,
-        },
-        rest,
-    ))
+    let count = reader.number();
+    let body = block(reader, levels);
+    (count, body)
 }
 
 /// Reads the cell of an `invoke` and its binds.
-#[tactic(auto, unfolding(cx_grammar::specs::Calyx::invoke_rest))]
-fn invoke_rest(
-    parser: Parser,
-    tokens: &[Token],
-) -> Result<((Name, Vec<BindItem>, Vec<BindItem>, Place), &[Token]), Stop>
-    ensures value { Gives (λ x. (((x.0.0, x.0.3), (x.0.1.items, x.0.2.items)), x.1.now)) result ((read (nested_at parser.levels) invoke_rest tokens.now)) }
+fn invoke_rest(reader: &mut Reader) -> Option<(Name, Vec<BindItem>, Vec<BindItem>, Place)>
+    ensures value { (levels : ℕ) → Gives levels calyx.invoke_rest (state_of reader.old) (state_of reader.new) (option_map (λ x. ((x.0, x.3), (x.1.items, x.2.items))) result) }
 {
-    let ((cell, place), rest) = name(parser.alloc, tokens)?;
-    let (inputs, rest) = binds(parser, rest)?;
-    let (outputs, rest) = binds(parser, rest)?;
-    let (_, rest) = sign(rest, Terminal::Semicolon)?;
-    Ok(((cell, inputs, outputs, place), rest))
+    let (cell, place) = reader.name()?;
+    let inputs = binds(reader);
+    let outputs = binds(reader);
+    reader.sign(Terminal::Semicolon);
+    Some((cell, inputs, outputs, place))
+}
+
+/// Reads a static `if`.
+#[cycle(statement)]
+fn static_if(reader: &mut Reader, levels: u32, length: Option<u64>) -> StatementForm
+    ensures value { Gives levels (given length calyx.static_if_rest) (state_of reader.old) (state_of reader.new) (Some (plain_form result)) }
+{
+    let test = operand(reader);
+    let yes = block(reader, levels);
+    let no = otherwise(reader, levels);
+    StatementForm::StaticIf {
+        length,
+        test,
+        yes,
+        no,
+    }
 }
 
 /// Reads what follows `static` and its length.
-#[tactic(auto, unfolding(cx_grammar::specs::Calyx::static_rest))]
 #[cycle(statement)]
-fn static_rest(
-    parser: Parser,
-    length: Option<u64>,
-    tokens: &[Token],
-) -> Result<(StatementForm, &[Token]), Stop>
-    ensures value { Gives (λ x. (plain_form x.0, x.1.now)) result (given length (read (nested_at parser.levels) static_rest tokens.now)) }
+fn static_rest(reader: &mut Reader, levels: u32, length: Option<u64>) -> Option<StatementForm>
+    ensures value { Gives levels (given length calyx.static_rest) (state_of reader.old) (state_of reader.new) (option_map plain_form result) }
 {
-    if next_is(tokens, Terminal::Seq) {
-        let (_, rest) = sign(tokens, Terminal::Seq)?;
-        let ((marks, block), rest) = marked_block(parser, rest)?;
-        Ok((
-            StatementForm::StaticSeq {
-                length,
-                marks,
-                block,
-            },
-            rest,
-        ))
-    } else if next_is(tokens, Terminal::Par) {
-        let (_, rest) = sign(tokens, Terminal::Par)?;
-        let ((marks, block), rest) = marked_block(parser, rest)?;
-        Ok((
-            StatementForm::StaticPar {
-                length,
-                marks,
-                block,
-            },
-            rest,
-        ))
-    } else if next_is(tokens, Terminal::If) {
-        let (_, rest) = sign(tokens, Terminal::If)?;
-        static_if_rest(parser, length, rest)
-    } else if next_is(tokens, Terminal::Repeat) {
-        let (_, rest) = sign(tokens, Terminal::Repeat)?;
-        let ((count, body), rest) = repeat_rest(parser, rest)?;
-        Ok((
-            StatementForm::StaticRepeat {
-                length,
-                count,
-                body,
-            },
-            rest,
-        ))
-    } else {
-        let (_, rest) = sign(tokens, Terminal::Invoke)?;
-        let ((cell, inputs, outputs, _), rest) = invoke_rest(parser, rest)?;
-        Ok((
-            StatementForm::StaticInvoke {
-                length,
-                cell,
-                inputs,
-                outputs,
-            },
-            rest,
-        ))
+    if reader.next_is(Terminal::Seq) {
+        reader.sign(Terminal::Seq);
+        let (marks, block) = marked_block(reader, levels);
+        return Some(StatementForm::StaticSeq {
+            length,
+            marks,
+            block,
+        });
     }
-}
-
-/// Reads a static statement behind the word `static`.
-#[tactic(auto, unfolding(cx_grammar::specs::Calyx::static_form))]
-#[cycle(statement)]
-fn static_form(parser: Parser, tokens: &[Token]) -> Result<(StatementForm, &[Token]), Stop>
-    ensures value { Gives (λ x. (plain_form x.0, x.1.now)) result ((read (nested_at parser.levels) static_form tokens.now)) }
-{
-    let (length, rest) = optional_length(parser, tokens)?;
-    static_rest(parser, length, rest)
+    if reader.next_is(Terminal::Par) {
+        reader.sign(Terminal::Par);
+        let (marks, block) = marked_block(reader, levels);
+        return Some(StatementForm::StaticPar {
+            length,
+            marks,
+            block,
+        });
+    }
+    if reader.next_is(Terminal::If) {
+        reader.sign(Terminal::If);
+        return Some(static_if(reader, levels, length));
+    }
+    if reader.next_is(Terminal::Repeat) {
+        reader.sign(Terminal::Repeat);
+        let (count, body) = repeat_rest(reader, levels);
+        return Some(StatementForm::StaticRepeat {
+            length,
+            count,
+            body,
+        });
+    }
+    reader.sign(Terminal::Invoke);
+    let (cell, inputs, outputs, _) = invoke_rest(reader)?;
+    Some(StatementForm::StaticInvoke {
+        length,
+        cell,
+        inputs,
+        outputs,
+    })
 }
 
 /// Reads the enable of a group.
-#[tactic(auto, unfolding(cx_grammar::specs::Calyx::enable))]
-fn enable(parser: Parser, tokens: &[Token]) -> Result<((StatementForm, Place), &[Token]), Stop>
-    ensures value { Gives (λ x. ((plain_form x.0.0, x.0.1), x.1.now)) result ((read (nested_at parser.levels) enable tokens.now)) }
+fn enable(reader: &mut Reader) -> Option<(StatementForm, Place)>
+    ensures value { (levels : ℕ) → Gives levels calyx.enable (state_of reader.old) (state_of reader.new) (option_map (λ x. (plain_form x.0, x.1)) result) }
 {
-    let ((group, place), rest) = name(parser.alloc, tokens)?;
-    let (marks, rest) = marks(parser, rest)?;
-    let (_, rest) = sign(rest, Terminal::Semicolon)?;
-    Ok(((StatementForm::Enable { group, marks }, place), rest))
+    let (group, place) = reader.name()?;
+    let marks = marks(reader);
+    reader.sign(Terminal::Semicolon);
+    Some((StatementForm::Enable { group, marks }, place))
 }
 
 /// Reads a `seq`.
-#[tactic(auto, unfolding(cx_grammar::specs::Calyx::seq))]
 #[cycle(statement)]
-fn seq(parser: Parser, tokens: &[Token]) -> Result<((StatementForm, Place), &[Token]), Stop>
-    ensures value { Gives (λ x. ((plain_form x.0.0, x.0.1), x.1.now)) result ((read (nested_at parser.levels) seq tokens.now)) }
+fn seq(reader: &mut Reader, levels: u32) -> (StatementForm, Place)
+    ensures value { Gives levels calyx.seq (state_of reader.old) (state_of reader.new) (Some (plain_form result.0, result.1)) }
 {
-    let (place, rest) = sign(tokens, Terminal::Seq)?;
-    let ((marks, block), rest) = marked_block(parser, rest)?;
-    Ok(((StatementForm::Seq { marks, block }, place), rest))
+    let place = reader.sign(Terminal::Seq);
+    let (marks, block) = marked_block(reader, levels);
+    (StatementForm::Seq { marks, block }, place)
 }
 
 /// Reads a `par`.
-#[tactic(auto, unfolding(cx_grammar::specs::Calyx::par))]
 #[cycle(statement)]
-fn par(parser: Parser, tokens: &[Token]) -> Result<((StatementForm, Place), &[Token]), Stop>
-    ensures value { Gives (λ x. ((plain_form x.0.0, x.0.1), x.1.now)) result ((read (nested_at parser.levels) par tokens.now)) }
+fn par(reader: &mut Reader, levels: u32) -> (StatementForm, Place)
+    ensures value { Gives levels calyx.par (state_of reader.old) (state_of reader.new) (Some (plain_form result.0, result.1)) }
 {
-    let (place, rest) = sign(tokens, Terminal::Par)?;
-    let ((marks, block), rest) = marked_block(parser, rest)?;
-    Ok(((StatementForm::Par { marks, block }, place), rest))
+    let place = reader.sign(Terminal::Par);
+    let (marks, block) = marked_block(reader, levels);
+    (StatementForm::Par { marks, block }, place)
 }
 
 /// Reads an `if`.
-#[tactic(auto, unfolding(cx_grammar::specs::Calyx::if_form))]
 #[cycle(statement)]
-fn if_form(parser: Parser, tokens: &[Token]) -> Result<((StatementForm, Place), &[Token]), Stop>
-    ensures value { Gives (λ x. ((plain_form x.0.0, x.0.1), x.1.now)) result ((read (nested_at parser.levels) if_form tokens.now)) }
+fn if_form(reader: &mut Reader, levels: u32) -> (StatementForm, Place)
+    ensures value { Gives levels calyx.if_form (state_of reader.old) (state_of reader.new) (Some (plain_form result.0, result.1)) }
 {
-    let (place, rest) = sign(tokens, Terminal::If)?;
-    let (form, rest) = if_rest(parser, rest)?;
-    Ok(((form, place), rest))
+    let place = reader.sign(Terminal::If);
+    let test = operand(reader);
+    let comb = comb(reader);
+    let yes = block(reader, levels);
+    let no = otherwise(reader, levels);
+    let form = StatementForm::If {
+        test,
+        comb,
+        yes,
+        no,
+    };
+    (form, place)
 }
 
 /// Reads a `while`.
-#[tactic(auto, unfolding(cx_grammar::specs::Calyx::while_form))]
 #[cycle(statement)]
-fn while_form(parser: Parser, tokens: &[Token]) -> Result<((StatementForm, Place), &[Token]), Stop>
-    ensures value { Gives (λ x. ((plain_form x.0.0, x.0.1), x.1.now)) result ((read (nested_at parser.levels) while_form tokens.now)) }
+fn while_form(reader: &mut Reader, levels: u32) -> (StatementForm, Place)
+    ensures value { Gives levels calyx.while_form (state_of reader.old) (state_of reader.new) (Some (plain_form result.0, result.1)) }
 {
-    let (place, rest) = sign(tokens, Terminal::While)?;
-    let (form, rest) = while_rest(parser, rest)?;
-    Ok(((form, place), rest))
+    let place = reader.sign(Terminal::While);
+    let test = operand(reader);
+    let comb = comb(reader);
+    let body = block(reader, levels);
+    (StatementForm::While { test, comb, body }, place)
 }
 
 /// Reads a `repeat`.
-#[tactic(auto, unfolding(cx_grammar::specs::Calyx::repeat))]
 #[cycle(statement)]
-fn repeat(parser: Parser, tokens: &[Token]) -> Result<((StatementForm, Place), &[Token]), Stop>
-    ensures value { Gives (λ x. ((plain_form x.0.0, x.0.1), x.1.now)) result ((read (nested_at parser.levels) repeat tokens.now)) }
+fn repeat(reader: &mut Reader, levels: u32) -> (StatementForm, Place)
+    ensures value { Gives levels calyx.repeat (state_of reader.old) (state_of reader.new) (Some (plain_form result.0, result.1)) }
 {
-    let (place, rest) = sign(tokens, Terminal::Repeat)?;
-    let ((count, body), rest) = repeat_rest(parser, rest)?;
-    Ok(((StatementForm::Repeat { count, body }, place), rest))
+    let place = reader.sign(Terminal::Repeat);
+    let (count, body) = repeat_rest(reader, levels);
+    (StatementForm::Repeat { count, body }, place)
 }
 
 /// Reads an `invoke`.
-#[tactic(auto, unfolding(cx_grammar::specs::Calyx::invoke))]
-fn invoke(parser: Parser, tokens: &[Token]) -> Result<((StatementForm, Place), &[Token]), Stop>
-    ensures value { Gives (λ x. ((plain_form x.0.0, x.0.1), x.1.now)) result ((read (nested_at parser.levels) invoke tokens.now)) }
+fn invoke(reader: &mut Reader) -> Option<(StatementForm, Place)>
+    ensures value { (levels : ℕ) → Gives levels calyx.invoke (state_of reader.old) (state_of reader.new) (option_map (λ x. (plain_form x.0, x.1)) result) }
 {
-    let (place, rest) = sign(tokens, Terminal::Invoke)?;
-    let ((cell, inputs, outputs, _), rest) = invoke_rest(parser, rest)?;
-    Ok((
-        (
-            StatementForm::Invoke {
-                cell,
-                inputs,
-                outputs,
-            },
-            place,
-        ),
-        rest,
-    ))
+    let place = reader.sign(Terminal::Invoke);
+    let (cell, inputs, outputs, _) = invoke_rest(reader)?;
+    let form = StatementForm::Invoke {
+        cell,
+        inputs,
+        outputs,
+    };
+    Some((form, place))
 }
 
 /// Reads a static statement.
-#[tactic(auto, unfolding(cx_grammar::specs::Calyx::static_statement))]
 #[cycle(statement)]
-fn static_statement(
-    parser: Parser,
-    tokens: &[Token],
-) -> Result<((StatementForm, Place), &[Token]), Stop>
-    ensures value { Gives (λ x. ((plain_form x.0.0, x.0.1), x.1.now)) result ((read (nested_at parser.levels) static_statement tokens.now)) }
+fn static_statement(reader: &mut Reader, levels: u32) -> Option<(StatementForm, Place)>
+    ensures value { Gives levels calyx.static_statement (state_of reader.old) (state_of reader.new) (option_map (λ x. (plain_form x.0, x.1)) result) }
 {
-    let (place, rest) = sign(tokens, Terminal::Static)?;
-    let (form, rest) = static_form(parser, rest)?;
-    Ok(((form, place), rest))
+    let place = reader.sign(Terminal::Static);
+    let length = optional_length(reader);
+    let form = static_rest(reader, levels, length)?;
+    Some((form, place))
 }
 
 /// Reads a statement behind its attributes, with its place.
-#[tactic(auto, unfolding(cx_grammar::specs::Calyx::form, cx_grammar::specs::Calyx::enable, cx_grammar::specs::Calyx::seq, cx_grammar::specs::Calyx::par, cx_grammar::specs::Calyx::if_form, cx_grammar::specs::Calyx::while_form, cx_grammar::specs::Calyx::repeat, cx_grammar::specs::Calyx::invoke))]
 #[cycle(statement)]
-fn form(parser: Parser, tokens: &[Token]) -> Result<((StatementForm, Place), &[Token]), Stop>
-    ensures value { Gives (λ x. ((plain_form x.0.0, x.0.1), x.1.now)) result ((read (nested_at parser.levels) form tokens.now)) }
+fn form(reader: &mut Reader, levels: u32) -> Option<(StatementForm, Place)>
+    ensures value { Gives levels calyx.form (state_of reader.old) (state_of reader.new) (option_map (λ x. (plain_form x.0, x.1)) result) }
 {
-    if next_is(tokens, Terminal::Name) {
-        enable(parser, tokens)
-    } else if next_is(tokens, Terminal::Seq) {
-        seq(parser, tokens)
-    } else if next_is(tokens, Terminal::Par) {
-        par(parser, tokens)
-    } else if next_is(tokens, Terminal::If) {
-        if_form(parser, tokens)
-    } else if next_is(tokens, Terminal::While) {
-        while_form(parser, tokens)
-    } else if next_is(tokens, Terminal::Repeat) {
-        repeat(parser, tokens)
-    } else if next_is(tokens, Terminal::Invoke) {
-        invoke(parser, tokens)
-    } else {
-        static_statement(parser, tokens)
+    if reader.next_is(Terminal::Name) {
+        return enable(reader);
     }
+    if reader.next_is(Terminal::Seq) {
+        return Some(seq(reader, levels));
+    }
+    if reader.next_is(Terminal::Par) {
+        return Some(par(reader, levels));
+    }
+    if reader.next_is(Terminal::If) {
+        return Some(if_form(reader, levels));
+    }
+    if reader.next_is(Terminal::While) {
+        return Some(while_form(reader, levels));
+    }
+    if reader.next_is(Terminal::Repeat) {
+        return Some(repeat(reader, levels));
+    }
+    if reader.next_is(Terminal::Invoke) {
+        return invoke(reader);
+    }
+    static_statement(reader, levels)
 }
 
 /// Reads a statement.
-#[tactic(auto, unfolding(cx_grammar::specs::Calyx::statement))]
 #[cycle(statement)]
-fn statement(parser: Parser, tokens: &[Token]) -> Result<(StatementItem, &[Token]), Stop>
-    ensures value { Gives (λ x. (plain_statement x.0, x.1.now)) result ((read (nested_at parser.levels) statement tokens.now)) }
+fn statement(reader: &mut Reader, levels: u32) -> Option<StatementItem>
+    ensures value { Gives levels calyx.statement (state_of reader.old) (state_of reader.new) (option_map plain_statement result) }
 {
-    let (attributes, rest) = attributes(parser, tokens)?;
-    let ((form, place), rest) = form(parser, rest)?;
-    Ok((
-        StatementItem {
-            attributes,
-            form,
-            place,
-        },
-        rest,
-    ))
+    let attributes = attributes(reader);
+    let (form, place) = form(reader, levels)?;
+    Some(StatementItem {
+        attributes,
+        form,
+        place,
+    })
 }
 
 /// Reads the statements of a block.
-#[tactic(auto, unfolding(cx_grammar::specs::Calyx::statements, cx_grammar::specs::Calyx::statement, cx_grammar::specs::Calyx::attributes, cx_grammar::specs::Calyx::attribute, cx_grammar::specs::Calyx::form, cx_grammar::specs::Calyx::enable, cx_grammar::specs::Calyx::seq, cx_grammar::specs::Calyx::par, cx_grammar::specs::Calyx::if_form, cx_grammar::specs::Calyx::while_form, cx_grammar::specs::Calyx::repeat, cx_grammar::specs::Calyx::invoke, cx_grammar::specs::Calyx::static_statement))]
 #[cycle(statement)]
-fn statements(parser: Parser, tokens: &[Token]) -> Result<(Vec<StatementItem>, &[Token]), Stop>
-    ensures value { Gives (λ x. (map plain_statement x.0.items, x.1.now)) result ((read (nested_at parser.levels) statements tokens.now)) }
+fn statements(reader: &mut Reader, levels: u32) -> Vec<StatementItem>
+    ensures value { Gives levels calyx.statements (state_of reader.old) (state_of reader.new) (Some (map plain_statement result.items)) }
 {
-    let mut all = Vec::new(parser.alloc);
-    let mut rest = tokens;
-    while next_in(rest, &STATEMENT) {
-        let (statement, after) = statement(parser, rest)?;
-        all.push(statement)?;
-        rest = after;
+    let mut all = Vec::new(reader.alloc);
+    while reader.next_in(&STATEMENT) {
+        let statement = statement(reader, levels);
+        reader.keep(&mut all, statement);
     }
-    Ok((all, rest))
+    all
 }
 
 /// Reads the part `control`, where there is one.
-#[tactic(auto, unfolding(cx_grammar::specs::Calyx::control, cx_grammar::specs::Calyx::block))]
-pub fn control(parser: Parser, tokens: &[Token]) -> Result<(Option<Block>, &[Token]), Stop>
-    ensures value { Gives (λ x. (option_map plain_block x.0, x.1.now)) result ((read (nested_at parser.levels) control tokens.now)) }
+pub fn control(reader: &mut Reader, levels: u32) -> Option<Block>
+    ensures value { Gives levels calyx.control (state_of reader.old) (state_of reader.new) (Some (option_map plain_block result)) }
 {
-    if !next_is(tokens, Terminal::Control) {
-        return Ok((None, tokens));
+    if !reader.next_is(Terminal::Control) {
+        return None;
     }
-    let (_, rest) = sign(tokens, Terminal::Control)?;
-    let (block, rest) = block(parser, rest)?;
-    Ok((Some(block), rest))
+    reader.sign(Terminal::Control);
+    Some(block(reader, levels))
 }

@@ -1,14 +1,11 @@
-use Rattle.std.proofs.Common.{◌≡◌, [], ◌∷◌, map, length}
-use Rattle.cx_grammar.specs.Calyx.{nested_at, attribute}
-use Rattle.cx_grammar.specs.Grammar.{starts}
-use Rattle.cx_grammar.specs.Reading.{read, several_at}
-use Rattle.cx_parse.specs.Answers.{with_front}
+use Rattle.std.proofs.Common.{ℕ}
+use Rattle.cx_grammar.specs.Calyx.{attribute}
+use Rattle.cx_parse.specs.Readings.{state_of}
+use Rattle.cx_parse.proofs.Lists.{left, SoFar, reading_many}
 use Rattle.cx_parse.proofs.annotations.attributes.Given as goal
 
-abbrev pub invariant-loop-parser : goal.invariant-loop-parser
-invariant-loop-parser l =
-    with_front (l.all.items) (several_at (read (nested_at l.parser.levels) attribute) (starts attribute) l.rest)
-    ≡ with_front [] (several_at (read (nested_at l.parser.levels) attribute) (starts attribute) l.fn.tokens)
+abbrev pub invariant-loop-reader : goal.invariant-loop-reader
+invariant-loop-reader l = (levels : ℕ) → SoFar (reading_many levels attribute) (reading_many levels attribute) (state_of l.fn.reader) (state_of l.reader) l.all.items
 
-abbrev pub decreases-loop-parser : goal.decreases-loop-parser
-decreases-loop-parser l = length l.rest
+abbrev pub decreases-loop-reader : goal.decreases-loop-reader
+decreases-loop-reader l = left (state_of l.reader)

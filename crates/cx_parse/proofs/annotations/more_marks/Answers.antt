@@ -1,30 +1,21 @@
-use Rattle.std.proofs.Common.{◌≡◌, [], ◌∷◌, refl, sym, ◌∙◌, map}
-use Rattle.std.proofs.lemmas.Result.{err_from_is_err_and}
-use Rattle.std.proofs.lemmas.List.{map_push}
-use Rattle.cx_grammar.specs.Calyx.{nested_at, next_mark, more_marks}
-use Rattle.cx_grammar.specs.Grammar.{starts}
-use Rattle.cx_grammar.specs.Reading.{read, several_at}
-use Rattle.cx_grammar.proofs.Loops.{shorter_at, front-next, front-end}
-use Rattle.cx_parse.proofs.Fails.{front_fails, front-many}
+use Rattle.std.proofs.Common.{refl, sym, ◌∙◌}
+use Rattle.cx_grammar.specs.Calyx.{more_marks, next_mark}
+use Rattle.cx_parse.proofs.Steps.{behind_one}
+use Rattle.cx_parse.proofs.Lists.{begun, nearer, step, over, reading_many}
 use Rattle.cx_parse.proofs.annotations.more_marks.Goals as goal
 
-pub returns-in_err-mark : goal.returns-in_err-mark
-unfolding next_mark more_marks
-returns-in_err-mark c =
-    let p = err_from_is_err_and c.from_residual-in_err-mark.result c.from_residual-in_err-mark.ensures.1 in
-    rw (p.1, p.2)
-    (record { value = front_fails c.args.parser.levels next_mark refl c.loop-parser.all.items c.loop-parser.rest.now c.in_err-mark.field-0.0 (sym c.next_is.ensures.value ∙ c.loop-parser-test.true) c.in_err-mark.ensures.value _ (c.loop-parser.invariant ∙ sym (front-many (c.args.first ∷ []) (several_at (read (nested_at c.args.parser.levels) next_mark) (starts next_mark) c.args.tokens.now))) })
+pub loop-reader-init : goal.loop-reader-init
+unfolding more_marks next_mark
+loop-reader-init c = λ levels. begun (reading_many levels next_mark) {before = c.new-all.result.items} c.new-all.ensures.items c.keep.ensures.value
 
-pub loop-parser-smaller : goal.loop-parser-smaller
-unfolding next_mark more_marks
-loop-parser-smaller c = shorter_at c.args.parser.levels next_mark refl c.loop-parser.rest.now (c.in_ok-mark.mark, c.in_ok-mark.after.now) c.in_ok-mark.ensures.value
+pub loop-reader-smaller : goal.loop-reader-smaller
+unfolding more_marks next_mark
+loop-reader-smaller c = nearer 0 next_mark refl (sym c.next_is.ensures.value ∙ c.loop-reader-test.true) (behind_one (c.sign.ensures.value 0) (c.mark-mark.ensures.value 0)) c.keep-in-loop-reader.ensures.value
 
-pub loop-parser-preserved : goal.loop-parser-preserved
-unfolding next_mark more_marks
-loop-parser-preserved c =
-    rw c.in_ok-push-2.ensures.items
-    (front-next c.args.parser.levels next_mark refl c.loop-parser.all.items c.loop-parser.rest.now c.in_ok-mark.mark c.in_ok-mark.after.now (sym c.next_is.ensures.value ∙ c.loop-parser-test.true) c.in_ok-mark.ensures.value ∙ c.loop-parser.invariant)
+pub loop-reader-preserved : goal.loop-reader-preserved
+unfolding more_marks next_mark
+loop-reader-preserved c = λ levels. step levels next_mark refl _ (c.loop-reader.invariant levels) (sym c.next_is.ensures.value ∙ c.loop-reader-test.true) (behind_one (c.sign.ensures.value levels) (c.mark-mark.ensures.value levels)) c.keep-in-loop-reader.ensures.value
 
 pub returns : goal.returns
-unfolding next_mark more_marks
-returns c = record { value = sym (c.loop-parser.invariant ∙ sym (front-many (c.args.first ∷ []) (several_at (read (nested_at c.args.parser.levels) next_mark) (starts next_mark) c.args.tokens.now))) ∙ front-end c.args.parser.levels next_mark refl c.loop-parser.all.items c.loop-parser.rest.now (sym c.next_is.ensures.value ∙ c.loop-parser-test.false) }
+unfolding more_marks next_mark
+returns c = record { value = λ levels. record { leads = over levels next_mark refl _ (c.loop-reader.invariant levels) (sym c.next_is.ensures.value ∙ c.loop-reader-test.false) } }

@@ -1,27 +1,20 @@
 use Rattle.std.proofs.Common.{refl, sym, ◌∙◌}
-use Rattle.std.proofs.lemmas.Result.{err_from_is_err_and}
-use Rattle.cx_grammar.specs.Calyx.{import, imports}
-use Rattle.cx_grammar.proofs.Loops.{shorter_at, front-next, front-end}
-use Rattle.cx_parse.proofs.Fails.{front_fails}
+use Rattle.cx_grammar.specs.Calyx.{imports, import}
+use Rattle.cx_parse.proofs.Lists.{nothing, nearer, step, over, reading_many}
 use Rattle.cx_parse.proofs.files.imports.Goals as goal
 
-pub returns-in_err-import : goal.returns-in_err-import
-unfolding import imports
-returns-in_err-import c =
-    let p = err_from_is_err_and c.from_residual.result c.from_residual.ensures.1 in
-    rw (p.1, p.2)
-    (record { value = front_fails c.args.parser.levels import refl c.loop-parser.all.items c.loop-parser.rest.now c.in_err-import.field-0.0 (sym c.next_is.ensures.value ∙ c.loop-parser-test.true) c.in_err-import.ensures.value _ c.loop-parser.invariant })
+pub loop-reader-init : goal.loop-reader-init
+unfolding imports import
+loop-reader-init c = λ levels. nothing (reading_many levels import) c.new-all.ensures.items
 
-pub loop-parser-smaller : goal.loop-parser-smaller
-unfolding import imports
-loop-parser-smaller c = shorter_at c.args.parser.levels import refl c.loop-parser.rest.now (c.in_ok-import.import, c.in_ok-import.after.now) c.in_ok-import.ensures.value
+pub loop-reader-smaller : goal.loop-reader-smaller
+unfolding imports import
+loop-reader-smaller c = nearer 0 import refl (sym c.next_is.ensures.value ∙ c.loop-reader-test.true) (c.import-import.ensures.value 0) c.keep.ensures.value
 
-pub loop-parser-preserved : goal.loop-parser-preserved
-unfolding import imports
-loop-parser-preserved c =
-    rw c.in_ok-push.ensures.items
-    (front-next c.args.parser.levels import refl c.loop-parser.all.items c.loop-parser.rest.now c.in_ok-import.import c.in_ok-import.after.now (sym c.next_is.ensures.value ∙ c.loop-parser-test.true) c.in_ok-import.ensures.value ∙ c.loop-parser.invariant)
+pub loop-reader-preserved : goal.loop-reader-preserved
+unfolding imports import
+loop-reader-preserved c = λ levels. step levels import refl _ (c.loop-reader.invariant levels) (sym c.next_is.ensures.value ∙ c.loop-reader-test.true) (c.import-import.ensures.value levels) c.keep.ensures.value
 
 pub returns : goal.returns
-unfolding import imports
-returns c = record { value = sym c.loop-parser.invariant ∙ front-end c.args.parser.levels import refl c.loop-parser.all.items c.loop-parser.rest.now (sym c.next_is.ensures.value ∙ c.loop-parser-test.false) }
+unfolding imports import
+returns c = record { value = λ levels. record { leads = over levels import refl _ (c.loop-reader.invariant levels) (sym c.next_is.ensures.value ∙ c.loop-reader-test.false) } }

@@ -1,14 +1,11 @@
-use Rattle.std.proofs.Common.{◌≡◌, [], length}
-use Rattle.cx_grammar.specs.Calyx.{nested_at, import}
-use Rattle.cx_grammar.specs.Grammar.{starts}
-use Rattle.cx_grammar.specs.Reading.{read, several_at}
-use Rattle.cx_parse.specs.Answers.{with_front}
+use Rattle.std.proofs.Common.{ℕ}
+use Rattle.cx_grammar.specs.Calyx.{import}
+use Rattle.cx_parse.specs.Readings.{state_of}
+use Rattle.cx_parse.proofs.Lists.{left, SoFar, reading_many}
 use Rattle.cx_parse.proofs.files.imports.Given as goal
 
-abbrev pub invariant-loop-parser : goal.invariant-loop-parser
-invariant-loop-parser l =
-    with_front (l.all.items) (several_at (read (nested_at l.parser.levels) import) (starts import) l.rest)
-    ≡ with_front [] (several_at (read (nested_at l.parser.levels) import) (starts import) l.fn.tokens)
+abbrev pub invariant-loop-reader : goal.invariant-loop-reader
+invariant-loop-reader l = (levels : ℕ) → SoFar (reading_many levels import) (reading_many levels import) (state_of l.fn.reader) (state_of l.reader) l.all.items
 
-abbrev pub decreases-loop-parser : goal.decreases-loop-parser
-decreases-loop-parser l = length l.rest
+abbrev pub decreases-loop-reader : goal.decreases-loop-reader
+decreases-loop-reader l = left (state_of l.reader)

@@ -1,31 +1,21 @@
-use Rattle.std.proofs.Common.{[], ◌∷◌, refl, sym, ◌∙◌, map}
-use Rattle.std.proofs.lemmas.Result.{err_from_is_err_and}
-use Rattle.std.proofs.lemmas.List.{map_push}
+use Rattle.std.proofs.Common.{refl, sym, ◌∙◌, ap, map}
 use Rattle.cx_ast.specs.PlainTree.{plain_component}
-use Rattle.cx_grammar.specs.Calyx.{nested_at, component, attributes, attribute, component_word, components}
-use Rattle.cx_grammar.specs.Grammar.{starts}
-use Rattle.cx_grammar.specs.Reading.{read, several_at}
-use Rattle.cx_grammar.proofs.Loops.{shorter_at, front-next, front-end}
-use Rattle.cx_parse.proofs.Fails.{front_fails, front-many}
+use Rattle.cx_grammar.specs.Calyx.{components, component, attributes, attribute, component_word}
+use Rattle.cx_parse.proofs.Lists.{begun, nearer, step, over, reading_many, keeps_seen}
 use Rattle.cx_parse.proofs.files.more_components.Goals as goal
 
-pub returns-in_err-component : goal.returns-in_err-component
-unfolding component attributes attribute component_word components
-returns-in_err-component c =
-    let p = err_from_is_err_and c.from_residual-in_err-component.result c.from_residual-in_err-component.ensures.1 in
-    rw (p.1, p.2)
-    (record { value = front_fails c.args.parser.levels component refl (map plain_component c.loop-parser.all.items) c.loop-parser.rest.now c.in_err-component.field-0.0 (sym c.next_in.ensures.value ∙ c.loop-parser-test.true) c.in_err-component.ensures.value _ (c.loop-parser.invariant ∙ sym (front-many (plain_component c.args.first ∷ []) (several_at (read (nested_at c.args.parser.levels) component) (starts component) c.args.tokens.now))) })
+pub loop-reader-init : goal.loop-reader-init
+unfolding components component attributes attribute component_word
+loop-reader-init c = begun (reading_many c.args.levels component) {before = map plain_component c.new-all.result.items} (ap (map plain_component) c.new-all.ensures.items) (keeps_seen plain_component c.keep.ensures.value)
 
-pub loop-parser-smaller : goal.loop-parser-smaller
-unfolding component attributes attribute component_word components
-loop-parser-smaller c = shorter_at c.args.parser.levels component refl c.loop-parser.rest.now ((plain_component c.in_ok-component.component), c.in_ok-component.after.now) c.in_ok-component.ensures.value
+pub loop-reader-smaller : goal.loop-reader-smaller
+unfolding components component attributes attribute component_word
+loop-reader-smaller c = nearer c.args.levels component refl (sym c.next_in.ensures.value ∙ c.loop-reader-test.true) c.component-component.ensures.value c.keep-in-loop-reader.ensures.value
 
-pub loop-parser-preserved : goal.loop-parser-preserved
-unfolding component attributes attribute component_word components
-loop-parser-preserved c =
-    rw (c.in_ok-push-2.ensures.items, map_push plain_component c.loop-parser.all.items c.in_ok-component.component)
-    (front-next c.args.parser.levels component refl (map plain_component c.loop-parser.all.items) c.loop-parser.rest.now (plain_component c.in_ok-component.component) c.in_ok-component.after.now (sym c.next_in.ensures.value ∙ c.loop-parser-test.true) c.in_ok-component.ensures.value ∙ c.loop-parser.invariant)
+pub loop-reader-preserved : goal.loop-reader-preserved
+unfolding components component attributes attribute component_word
+loop-reader-preserved c = step c.args.levels component refl _ c.loop-reader.invariant (sym c.next_in.ensures.value ∙ c.loop-reader-test.true) c.component-component.ensures.value (keeps_seen plain_component c.keep-in-loop-reader.ensures.value)
 
 pub returns : goal.returns
-unfolding component attributes attribute component_word components
-returns c = record { value = sym (c.loop-parser.invariant ∙ sym (front-many (plain_component c.args.first ∷ []) (several_at (read (nested_at c.args.parser.levels) component) (starts component) c.args.tokens.now))) ∙ front-end c.args.parser.levels component refl (map plain_component c.loop-parser.all.items) c.loop-parser.rest.now (sym c.next_in.ensures.value ∙ c.loop-parser-test.false) }
+unfolding components component attributes attribute component_word
+returns c = record { value = record { leads = over c.args.levels component refl _ c.loop-reader.invariant (sym c.next_in.ensures.value ∙ c.loop-reader-test.false) } }

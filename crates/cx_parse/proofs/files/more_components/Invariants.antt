@@ -1,15 +1,13 @@
-use Rattle.std.proofs.Common.{◌≡◌, [], ◌∷◌, map, length}
+use Rattle.std.proofs.Common.{◌∷◌, map}
 use Rattle.cx_ast.specs.PlainTree.{plain_component}
-use Rattle.cx_grammar.specs.Calyx.{nested_at, component}
-use Rattle.cx_grammar.specs.Grammar.{starts}
-use Rattle.cx_grammar.specs.Reading.{read, several_at}
-use Rattle.cx_parse.specs.Answers.{with_front}
+use Rattle.cx_grammar.specs.Calyx.{component}
+use Rattle.cx_parse.specs.Readings.{state_of}
+use Rattle.cx_parse.proofs.Steps.{seen}
+use Rattle.cx_parse.proofs.Lists.{left, SoFar, reading_many}
 use Rattle.cx_parse.proofs.files.more_components.Given as goal
 
-abbrev pub invariant-loop-parser : goal.invariant-loop-parser
-invariant-loop-parser l =
-    with_front (map plain_component l.all.items) (several_at (read (nested_at l.parser.levels) component) (starts component) l.rest)
-    ≡ with_front (plain_component l.fn.first ∷ []) (several_at (read (nested_at l.parser.levels) component) (starts component) l.fn.tokens)
+abbrev pub invariant-loop-reader : goal.invariant-loop-reader
+invariant-loop-reader l = SoFar (reading_many l.levels component) (λ ts. seen (λ xs. (plain_component l.fn.first) ∷ xs) (reading_many l.levels component ts)) (state_of l.fn.reader) (state_of l.reader) (map plain_component l.all.items)
 
-abbrev pub decreases-loop-parser : goal.decreases-loop-parser
-decreases-loop-parser l = length l.rest
+abbrev pub decreases-loop-reader : goal.decreases-loop-reader
+decreases-loop-reader l = left (state_of l.reader)

@@ -1,29 +1,21 @@
-use Rattle.std.proofs.Common.{refl, sym, ◌∙◌, map}
-use Rattle.std.proofs.lemmas.Result.{err_from_is_err_and}
-use Rattle.std.proofs.lemmas.List.{map_push}
+use Rattle.std.proofs.Common.{refl, sym, ◌∙◌, ap, map}
 use Rattle.cx_ast.specs.PlainTree.{plain_wire}
-use Rattle.cx_grammar.specs.Calyx.{wire, attributes, attribute, bare_assign, target, bare_group, group_word, wire_list}
-use Rattle.cx_grammar.proofs.Loops.{shorter_at, front-next, front-end}
-use Rattle.cx_parse.proofs.Fails.{front_fails}
+use Rattle.cx_grammar.specs.Calyx.{wire_list, wire, attributes, attribute, bare_assign, target, bare_group, group_word}
+use Rattle.cx_parse.proofs.Lists.{nothing, nearer, step, over, reading_many, keeps_seen}
 use Rattle.cx_parse.proofs.groups.wire_list.Goals as goal
 
-pub returns-in_err-wire : goal.returns-in_err-wire
-unfolding wire attributes attribute bare_assign target bare_group group_word wire_list
-returns-in_err-wire c =
-    let p = err_from_is_err_and c.from_residual.result c.from_residual.ensures.1 in
-    rw (p.1, p.2)
-    (record { value = front_fails c.args.parser.levels wire refl (map plain_wire c.loop-parser.all.items) c.loop-parser.rest.now c.in_err-wire.field-0.0 (sym c.next_in.ensures.value ∙ c.loop-parser-test.true) c.in_err-wire.ensures.value _ c.loop-parser.invariant })
+pub loop-reader-init : goal.loop-reader-init
+unfolding wire_list wire attributes attribute bare_assign target bare_group group_word
+loop-reader-init c = nothing (reading_many c.args.levels wire) (ap (map plain_wire) c.new-all.ensures.items)
 
-pub loop-parser-smaller : goal.loop-parser-smaller
-unfolding wire attributes attribute bare_assign target bare_group group_word wire_list
-loop-parser-smaller c = shorter_at c.args.parser.levels wire refl c.loop-parser.rest.now ((plain_wire c.in_ok-wire.wire), c.in_ok-wire.after.now) c.in_ok-wire.ensures.value
+pub loop-reader-smaller : goal.loop-reader-smaller
+unfolding wire_list wire attributes attribute bare_assign target bare_group group_word
+loop-reader-smaller c = nearer c.args.levels wire refl (sym c.next_in.ensures.value ∙ c.loop-reader-test.true) c.wire-wire.ensures.value c.keep.ensures.value
 
-pub loop-parser-preserved : goal.loop-parser-preserved
-unfolding wire attributes attribute bare_assign target bare_group group_word wire_list
-loop-parser-preserved c =
-    rw (c.in_ok-push.ensures.items, map_push plain_wire c.loop-parser.all.items c.in_ok-wire.wire)
-    (front-next c.args.parser.levels wire refl (map plain_wire c.loop-parser.all.items) c.loop-parser.rest.now (plain_wire c.in_ok-wire.wire) c.in_ok-wire.after.now (sym c.next_in.ensures.value ∙ c.loop-parser-test.true) c.in_ok-wire.ensures.value ∙ c.loop-parser.invariant)
+pub loop-reader-preserved : goal.loop-reader-preserved
+unfolding wire_list wire attributes attribute bare_assign target bare_group group_word
+loop-reader-preserved c = step c.args.levels wire refl _ c.loop-reader.invariant (sym c.next_in.ensures.value ∙ c.loop-reader-test.true) c.wire-wire.ensures.value (keeps_seen plain_wire c.keep.ensures.value)
 
 pub returns : goal.returns
-unfolding wire attributes attribute bare_assign target bare_group group_word wire_list
-returns c = record { value = sym c.loop-parser.invariant ∙ front-end c.args.parser.levels wire refl (map plain_wire c.loop-parser.all.items) c.loop-parser.rest.now (sym c.next_in.ensures.value ∙ c.loop-parser-test.false) }
+unfolding wire_list wire attributes attribute bare_assign target bare_group group_word
+returns c = record { value = record { leads = over c.args.levels wire refl _ c.loop-reader.invariant (sym c.next_in.ensures.value ∙ c.loop-reader-test.false) } }

@@ -1,64 +1,95 @@
-use Rattle.std.proofs.Common.{◌≡◌, [], ◌∷◌, refl, sym, ◌∙◌, map}
-use Rattle.std.proofs.lemmas.Result.{err_from_is_err_and}
-use Rattle.std.proofs.lemmas.List.{map_push}
-use Rattle.cx_ast.specs.PlainGuards.{plain_guard}
-use Rattle.cx_grammar.specs.Calyx.{nested_at, next_comp, more_comps, next_conj, more_conjs}
-use Rattle.cx_grammar.specs.Grammar.{starts, Negation, Parens}
-use Rattle.cx_grammar.specs.Reading.{read, several_at}
-use Rattle.cx_grammar.proofs.Loops.{shorter_at, front-next, front-end, nested_at-suc}
-use Rattle.cx_parse.proofs.Fails.{front_fails, front-many, level_zero}
+use Rattle.std.proofs.Common.{◌≡◌, ◌+◌, ◌-◌, Some, map, refl, sym, ap, ◌∙◌, arith}
+use Rattle.cx_ast.specs.PlainGuards.{PlainGuard, Not, guard_step, plain_guard}
+use Rattle.cx_ast.specs.declared.guards.GuardItem.TheVariants.{rolls-Not, rolls-Operand}
+use Rattle.cx_ast.specs.declared.guards.GuardItem.TheFolds.{fold-roll-GuardItem}
+use Rattle.cx_grammar.specs.Grammar.{Negation, Parens}
+use Rattle.cx_grammar.specs.Calyx.{nest, and_of, or_of, prefixed, unary, window, comp, conj, guard, next_comp, more_comps, next_conj, more_conjs}
+use Rattle.cx_parse.proofs.Steps.{pair, without_level, empty, first, second, behind_one, moved, lost, deeper, headed, applied}
+use Rattle.cx_parse.proofs.Lists.{begun, nearer, step, over, reading_many, keeps_seen}
 use Rattle.cx_parse.proofs.guards.+guard.Goals as goal
 
-pub more_comps-returns-in_err-part : goal.more_comps-returns-in_err-part
-unfolding next_comp more_comps
-more_comps-returns-in_err-part t c =
-    let p = err_from_is_err_and c.from_residual-in_err-part.result c.from_residual-in_err-part.ensures.1 in
-    rw (p.1, p.2)
-    (record { value = front_fails c.args.parser.levels next_comp refl (map plain_guard c.loop-parser.all.items) c.loop-parser.rest.now c.in_err-part.field-0.0 (sym c.next_is.ensures.value ∙ c.loop-parser-test.true) c.in_err-part.ensures.value _ (c.loop-parser.invariant ∙ sym (front-many (plain_guard c.args.first ∷ []) (several_at (read (nested_at c.args.parser.levels) next_comp) (starts next_comp) c.args.tokens.now))) })
+pub negation-returns-then-levels-eq0 : goal.negation-returns-then-levels-eq0
+negation-returns-then-levels-eq0 t c = record { value = without_level Negation c.if-levels-eq0.true (c.no_level.ensures.value Negation refl) }
 
-pub more_comps-loop-parser-smaller : goal.more_comps-loop-parser-smaller
-unfolding next_comp more_comps
-more_comps-loop-parser-smaller t c = shorter_at c.args.parser.levels next_comp refl c.loop-parser.rest.now ((plain_guard c.in_ok-part.part), c.in_ok-part.after.now) c.in_ok-part.ensures.value
+pub parens-returns-then-levels-eq0 : goal.parens-returns-then-levels-eq0
+parens-returns-then-levels-eq0 t c = record { value = without_level Parens c.if-levels-eq0.true (c.no_level.ensures.value Parens refl) }
 
-pub more_comps-loop-parser-preserved : goal.more_comps-loop-parser-preserved
-unfolding next_comp more_comps
-more_comps-loop-parser-preserved t c =
-    rw (c.in_ok-push-2.ensures.items, map_push plain_guard c.loop-parser.all.items c.in_ok-part.part)
-    (front-next c.args.parser.levels next_comp refl (map plain_guard c.loop-parser.all.items) c.loop-parser.rest.now (plain_guard c.in_ok-part.part) c.in_ok-part.after.now (sym c.next_is.ensures.value ∙ c.loop-parser-test.true) c.in_ok-part.ensures.value ∙ c.loop-parser.invariant)
+pub negation-returns-in-Ok : goal.negation-returns-in-Ok
+unfolding nest
+negation-returns-in-Ok t c = let one : c.args.levels ≡ (c.args.levels - 1) + 1 = omega arith in record { value = moved (deeper Negation one (pair (c.sign.ensures.value (c.args.levels - 1)) c.unary-guard.ensures.value)) refl (ap (λ (g : PlainGuard). Some g) (ap plain_guard (sym (rolls-Not c.in-Ok.guard)) ∙ (fold-roll-GuardItem PlainGuard guard_step _ ∙ ap (λ g. Not (plain_guard g)) c.in-Ok.ensures.ok))) }
+
+pub negation-returns : goal.negation-returns
+unfolding nest
+negation-returns t c = let one : c.args.levels ≡ (c.args.levels - 1) + 1 = omega arith in record { value = deeper Negation one (lost (pair (c.sign.ensures.value (c.args.levels - 1)) c.unary-guard.ensures.value) c.lack.ensures.value) }
+
+pub parens-returns : goal.parens-returns
+unfolding nest
+parens-returns t c = let one : c.args.levels ≡ (c.args.levels - 1) + 1 = omega arith in record { value = deeper Parens one (pair (c.sign.ensures.value (c.args.levels - 1)) (pair c.guard-guard.ensures.value (c.sign-2.ensures.value (c.args.levels - 1)))) }
+
+pub prefixed-returns-then-next_is : goal.prefixed-returns-then-next_is
+unfolding prefixed
+prefixed-returns-then-next_is t c = record { value = first (sym c.next_is.ensures.value ∙ c.if-next_is.true) c.negation.ensures.value }
+
+pub prefixed-returns-then-next_is-2 : goal.prefixed-returns-then-next_is-2
+unfolding prefixed
+prefixed-returns-then-next_is-2 t c = record { value = second (sym c.next_is.ensures.value ∙ c.if-next_is.false) (first (sym c.next_is-else-next_is.ensures.value ∙ c.if-next_is-2.true) c.parens.ensures.value) }
+
+pub prefixed-returns-else-next_is-2 : goal.prefixed-returns-else-next_is-2
+unfolding prefixed
+prefixed-returns-else-next_is-2 t c = record { value = second (sym c.next_is.ensures.value ∙ c.if-next_is.false) (second (sym c.next_is-else-next_is.ensures.value ∙ c.if-next_is-2.false) (c.window.ensures.value c.args.levels)) }
+
+pub unary-returns-then-next_in : goal.unary-returns-then-next_in
+unfolding unary prefixed window
+unary-returns-then-next_in t c = record { value = first (sym c.next_in.ensures.value ∙ c.if-next_in.true) c.prefixed.ensures.value }
+
+pub unary-returns-else-next_in : goal.unary-returns-else-next_in
+unfolding unary prefixed window
+unary-returns-else-next_in t c = record { value = moved (second (sym c.next_in.ensures.value ∙ c.if-next_in.false) (pair (c.operand.ensures.value c.args.levels) empty)) refl (ap (λ (g : PlainGuard). Some g) (ap plain_guard (sym (rolls-Operand c.operand.result)) ∙ fold-roll-GuardItem PlainGuard guard_step _)) }
+
+pub comp-returns-then-next_in : goal.comp-returns-then-next_in
+unfolding comp prefixed window
+comp-returns-then-next_in t c = record { value = first (sym c.next_in.ensures.value ∙ c.if-next_in.true) c.prefixed.ensures.value }
+
+pub comp-returns-else-next_in : goal.comp-returns-else-next_in
+unfolding comp prefixed window
+comp-returns-else-next_in t c = record { value = second (sym c.next_in.ensures.value ∙ c.if-next_in.false) (applied (c.operand-left.ensures.value c.args.levels) (c.compared.ensures.value c.args.levels)) }
+
+pub conj-returns : goal.conj-returns
+unfolding conj
+conj-returns t c = record { value = moved (headed (λ gs. and_of gs) c.comp-first.ensures.value c.more_comps.ensures.value) refl (ap (λ g. Some g) c.conjunction.ensures.value) }
+
+pub guard-returns : goal.guard-returns
+unfolding guard
+guard-returns t c = record { value = moved (headed (λ gs. or_of gs) c.conj-first.ensures.value c.more_conjs.ensures.value) refl (ap (λ g. Some g) c.disjunction.ensures.value) }
+
+pub more_comps-loop-reader-init : goal.more_comps-loop-reader-init
+unfolding more_comps next_comp
+more_comps-loop-reader-init t c = begun (reading_many c.args.levels next_comp) {before = map plain_guard c.new-all.result.items} (ap (map plain_guard) c.new-all.ensures.items) (keeps_seen plain_guard c.keep.ensures.value)
+
+pub more_comps-loop-reader-smaller : goal.more_comps-loop-reader-smaller
+unfolding more_comps next_comp
+more_comps-loop-reader-smaller t c = nearer c.args.levels next_comp refl (sym c.next_is.ensures.value ∙ c.loop-reader-test.true) (behind_one (c.sign.ensures.value c.args.levels) c.comp-part.ensures.value) c.keep-in-loop-reader.ensures.value
+
+pub more_comps-loop-reader-preserved : goal.more_comps-loop-reader-preserved
+unfolding more_comps next_comp
+more_comps-loop-reader-preserved t c = step c.args.levels next_comp refl _ c.loop-reader.invariant (sym c.next_is.ensures.value ∙ c.loop-reader-test.true) (behind_one (c.sign.ensures.value c.args.levels) c.comp-part.ensures.value) (keeps_seen plain_guard c.keep-in-loop-reader.ensures.value)
 
 pub more_comps-returns : goal.more_comps-returns
-unfolding next_comp more_comps
-more_comps-returns t c = record { value = sym (c.loop-parser.invariant ∙ sym (front-many (plain_guard c.args.first ∷ []) (several_at (read (nested_at c.args.parser.levels) next_comp) (starts next_comp) c.args.tokens.now))) ∙ front-end c.args.parser.levels next_comp refl (map plain_guard c.loop-parser.all.items) c.loop-parser.rest.now (sym c.next_is.ensures.value ∙ c.loop-parser-test.false) }
+unfolding more_comps next_comp
+more_comps-returns t c = record { value = record { leads = over c.args.levels next_comp refl _ c.loop-reader.invariant (sym c.next_is.ensures.value ∙ c.loop-reader-test.false) } }
 
-pub more_conjs-returns-in_err-part : goal.more_conjs-returns-in_err-part
-unfolding next_conj more_conjs
-more_conjs-returns-in_err-part t c =
-    let p = err_from_is_err_and c.from_residual-in_err-part.result c.from_residual-in_err-part.ensures.1 in
-    rw (p.1, p.2)
-    (record { value = front_fails c.args.parser.levels next_conj refl (map plain_guard c.loop-parser.all.items) c.loop-parser.rest.now c.in_err-part.field-0.0 (sym c.next_is.ensures.value ∙ c.loop-parser-test.true) c.in_err-part.ensures.value _ (c.loop-parser.invariant ∙ sym (front-many (plain_guard c.args.first ∷ []) (several_at (read (nested_at c.args.parser.levels) next_conj) (starts next_conj) c.args.tokens.now))) })
+pub more_conjs-loop-reader-init : goal.more_conjs-loop-reader-init
+unfolding more_conjs next_conj
+more_conjs-loop-reader-init t c = begun (reading_many c.args.levels next_conj) {before = map plain_guard c.new-all.result.items} (ap (map plain_guard) c.new-all.ensures.items) (keeps_seen plain_guard c.keep.ensures.value)
 
-pub more_conjs-loop-parser-smaller : goal.more_conjs-loop-parser-smaller
-unfolding next_conj more_conjs
-more_conjs-loop-parser-smaller t c = shorter_at c.args.parser.levels next_conj refl c.loop-parser.rest.now ((plain_guard c.in_ok-part.part), c.in_ok-part.after.now) c.in_ok-part.ensures.value
+pub more_conjs-loop-reader-smaller : goal.more_conjs-loop-reader-smaller
+unfolding more_conjs next_conj
+more_conjs-loop-reader-smaller t c = nearer c.args.levels next_conj refl (sym c.next_is.ensures.value ∙ c.loop-reader-test.true) (behind_one (c.sign.ensures.value c.args.levels) c.conj-part.ensures.value) c.keep-in-loop-reader.ensures.value
 
-pub more_conjs-loop-parser-preserved : goal.more_conjs-loop-parser-preserved
-unfolding next_conj more_conjs
-more_conjs-loop-parser-preserved t c =
-    rw (c.in_ok-push-2.ensures.items, map_push plain_guard c.loop-parser.all.items c.in_ok-part.part)
-    (front-next c.args.parser.levels next_conj refl (map plain_guard c.loop-parser.all.items) c.loop-parser.rest.now (plain_guard c.in_ok-part.part) c.in_ok-part.after.now (sym c.next_is.ensures.value ∙ c.loop-parser-test.true) c.in_ok-part.ensures.value ∙ c.loop-parser.invariant)
+pub more_conjs-loop-reader-preserved : goal.more_conjs-loop-reader-preserved
+unfolding more_conjs next_conj
+more_conjs-loop-reader-preserved t c = step c.args.levels next_conj refl _ c.loop-reader.invariant (sym c.next_is.ensures.value ∙ c.loop-reader-test.true) (behind_one (c.sign.ensures.value c.args.levels) c.conj-part.ensures.value) (keeps_seen plain_guard c.keep-in-loop-reader.ensures.value)
 
 pub more_conjs-returns : goal.more_conjs-returns
-unfolding next_conj more_conjs
-more_conjs-returns t c = record { value = sym (c.loop-parser.invariant ∙ sym (front-many (plain_guard c.args.first ∷ []) (several_at (read (nested_at c.args.parser.levels) next_conj) (starts next_conj) c.args.tokens.now))) ∙ front-end c.args.parser.levels next_conj refl (map plain_guard c.loop-parser.all.items) c.loop-parser.rest.now (sym c.next_is.ensures.value ∙ c.loop-parser-test.false) }
-
-pub negation-returns-in-None : goal.negation-returns-in-None
-negation-returns-in-None t c = record { value = rw c.no_level.ensures.value (level_zero Negation c.args.parser.levels c.args.tokens.now c.in-None.ensures.value) }
-
-pub negation-returns-in-Some : goal.negation-returns-in-Some
-negation-returns-in-Some t c = record { value = rw (nested_at-suc c.args.parser.levels c.in-Some.parser.levels Negation c.args.tokens.now c.in-Some.ensures.value) c.negated.ensures.value }
-
-pub parens-returns-in-None : goal.parens-returns-in-None
-parens-returns-in-None t c = record { value = rw c.no_level.ensures.value (level_zero Parens c.args.parser.levels c.args.tokens.now c.in-None.ensures.value) }
-
-pub parens-returns-in-Some : goal.parens-returns-in-Some
-parens-returns-in-Some t c = record { value = rw (nested_at-suc c.args.parser.levels c.in-Some.parser.levels Parens c.args.tokens.now c.in-Some.ensures.value) c.enclosed.ensures.value }
+unfolding more_conjs next_conj
+more_conjs-returns t c = record { value = record { leads = over c.args.levels next_conj refl _ c.loop-reader.invariant (sym c.next_is.ensures.value ∙ c.loop-reader-test.false) } }

@@ -1,15 +1,13 @@
-use Rattle.std.proofs.Common.{◌≡◌, [], ◌∷◌, map, length}
+use Rattle.std.proofs.Common.{ℕ, map}
 use Rattle.cx_ast.specs.PlainTree.{plain_port}
-use Rattle.cx_grammar.specs.Calyx.{nested_at, port}
-use Rattle.cx_grammar.specs.Grammar.{starts}
-use Rattle.cx_grammar.specs.Reading.{read, commas_at}
-use Rattle.cx_parse.specs.Answers.{with_front}
+use Rattle.cx_grammar.specs.Calyx.{port}
+use Rattle.cx_parse.specs.Readings.{state_of, commas_behind}
+use Rattle.cx_parse.proofs.Lists.{left, SoFar}
+use Rattle.cx_parse.proofs.Commas.{reading_commas}
 use Rattle.cx_parse.proofs.ports.more_ports.Given as goal
 
-abbrev pub invariant-loop-after : goal.invariant-loop-after
-invariant-loop-after l =
-    with_front (map plain_port l.all.items) (commas_at (read (nested_at l.parser.levels) port) (starts port) l.rest)
-    ≡ with_front (plain_port l.fn.first ∷ []) (commas_at (read (nested_at l.parser.levels) port) (starts port) l.fn.tokens)
+abbrev pub invariant-loop-reader : goal.invariant-loop-reader
+invariant-loop-reader l = (levels : ℕ) → SoFar (reading_commas levels port) (commas_behind levels port (plain_port l.fn.first)) (state_of l.fn.reader) (state_of l.reader) (map plain_port l.all.items)
 
-abbrev pub decreases-loop-after : goal.decreases-loop-after
-decreases-loop-after l = length l.rest
+abbrev pub decreases-loop-reader : goal.decreases-loop-reader
+decreases-loop-reader l = left (state_of l.reader)

@@ -1,14 +1,12 @@
-use Rattle.std.proofs.Common.{◌≡◌, [], ◌∷◌, length}
-use Rattle.cx_grammar.specs.Calyx.{nested_at, bind}
-use Rattle.cx_grammar.specs.Grammar.{starts}
-use Rattle.cx_grammar.specs.Reading.{read, commas_at}
-use Rattle.cx_parse.specs.Answers.{with_front}
+use Rattle.std.proofs.Common.{ℕ}
+use Rattle.cx_grammar.specs.Calyx.{bind}
+use Rattle.cx_parse.specs.Readings.{state_of, commas_behind}
+use Rattle.cx_parse.proofs.Lists.{left, SoFar}
+use Rattle.cx_parse.proofs.Commas.{reading_commas}
 use Rattle.cx_parse.proofs.statements.more_binds.Given as goal
 
-abbrev pub invariant-loop-after : goal.invariant-loop-after
-invariant-loop-after l =
-    with_front (l.all.items) (commas_at (read (nested_at l.parser.levels) bind) (starts bind) l.rest)
-    ≡ with_front (l.fn.first ∷ []) (commas_at (read (nested_at l.parser.levels) bind) (starts bind) l.fn.tokens)
+abbrev pub invariant-loop-reader : goal.invariant-loop-reader
+invariant-loop-reader l = (levels : ℕ) → SoFar (reading_commas levels bind) (commas_behind levels bind l.fn.first) (state_of l.fn.reader) (state_of l.reader) l.all.items
 
-abbrev pub decreases-loop-after : goal.decreases-loop-after
-decreases-loop-after l = length l.rest
+abbrev pub decreases-loop-reader : goal.decreases-loop-reader
+decreases-loop-reader l = left (state_of l.reader)
