@@ -30,7 +30,3 @@ pub mod TrialLemmas
 pub mod WovenLemmas
 pub mod OrderLemmas
 pub mod TrialDepth
-pub mod ListedBegun
-pub mod ListedSamples
-pub mod ListedRuns
-pub mod ListedControl

@@ -25,8 +25,7 @@ use Rattle.cx_net.specs.NetLimits.{nets_below}
 use Rattle.cx_net.specs.NetMeaning.{NetState}
 use Rattle.cx_net.specs.NetTree.{NetNode, a_row, a_child, net_component_at, net_tree}
 use Rattle.cx_static.specs.Lowering.{lowered_of}
-use Rattle.cx_wiring.specs.Blocks.{rows_alone, net_of_instance, net_of_cells}
-use Rattle.cx_wiring.specs.PartNets.{timers_of, wired_in}
+use Rattle.cx_wiring.specs.PartNets.{timers_of, wired_in, rows_alone, net_of_instance, net_of_cells}
 use Rattle.cx_wiring.specs.Reached.{order}
 use Rattle.cx_wiring.specs.Wiring.{net_of}
 use Rattle.cx_wiring.proofs.ComponentCounts.{PartsHold, component_few}

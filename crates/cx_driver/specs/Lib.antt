@@ -7,7 +7,6 @@ pub mod Simulated
 pub mod Compiled
 pub mod Tried
 pub mod Laws
-pub mod Listed
 pub mod Outcomes
 pub mod Causes
 pub mod Promise

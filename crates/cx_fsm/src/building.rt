@@ -18,7 +18,7 @@ use crate::ordering::{ordered, place_in};
 use cx_net::{Net, NetComponent};
 use cx_static::Lowered;
 use cx_text::Memory;
-use cx_wiring::laws::design_is_realised;
+use cx_wiring_runs::laws::design_is_realised;
 use std::alloc::Global;
 
 /// The net of a design: of the components that `main` reaches, each behind those of its cells. It has for each group two

@@ -5,7 +5,7 @@ use Rattle.cx_bits.specs.BitVector.{BitVector}
 use Rattle.cx_net.specs.Nets.{PlainNetTarget, ToWire, PlainNetDriver}
 use Rattle.cx_net.specs.NetMeaning.{Node, AWire, NetAround, same_target, drivers_to, zero_wide, chain as first_true}
 use Rattle.cx_wiring.specs.Trees.{Driven, together, bundles, bundle_count, moved, bundle_drivers, behind, heads, tree_within, tree, pairs_within, pairs, trees, pair_widths, tree_widths}
-use Rattle.cx_wiring.proofs.AwayLaws.{differs}
+use Rattle.std.proofs.lemmas.Bool.{ne_eqb}
 use Rattle.cx_wiring.proofs.BundleLaws.{bundles_long, later_pairs, pairs_if, above, WhereTrue, BundlesHold, TreeHolds}
 use Rattle.cx_wiring.proofs.BundleTargets.{of_first, of_second, bundles_dropped, first_on, first_value, later_wire, tree_dropped}
 use Rattle.cx_wiring.proofs.TreeLaws.{AllHold}
@@ -19,7 +19,7 @@ pub trees_below : (ts : List Driven) (base wire m : ℕ) → base ≤ m → m < 
 trees_below [] base wire m low less free = refl
 trees_below (u ∷ us) base wire m low less free =
     of_second (ToWire m) (tree u.target wire u.drivers) (trees (behind wire (pairs (length u.drivers))) us)
-    (tree_dropped u.target (ToWire m) (free.0 m low) (length u.drivers) wire u.drivers (λ n from to. differs n m (λ e. omega arith)))
+    (tree_dropped u.target (ToWire m) (free.0 m low) (length u.drivers) wire u.drivers (λ n from to. ne_eqb n m (λ e. omega arith)))
     ∙ trees_below us base (behind wire (pairs (length u.drivers))) m low (omega arith) free.1
 
 pairs_append : (width n m : ℕ) → pair_widths width (n + m) ≡ pair_widths width n ++ pair_widths width m
@@ -74,11 +74,11 @@ module _ (around : NetAround) (registers : ℕ → Option BitVector) (look : Nod
             let parts = taken_split width (bundle_count (length ds)) (pairs_within levels (bundle_count (length ds))) wire all r in (
               bundles_hold width (bundles together ds) wire (subst (λ n. TakeTheirs wire (pair_widths width n) all) (sym long) parts.0)
                   (λ m low high. s m low (omega arith)
-                  ∙ of_first (ToWire m) (bundle_drivers wire (bundles together ds)) (above target levels wire ds) (tree_dropped target (ToWire m) (apart m low) levels (behind wire (length (bundles together ds))) (heads target wire (bundles together ds)) (λ n from to. differs n m (λ e. omega arith)))),
+                  ∙ of_first (ToWire m) (bundle_drivers wire (bundles together ds)) (above target levels wire ds) (tree_dropped target (ToWire m) (apart m low) levels (behind wire (length (bundles together ds))) (heads target wire (bundles together ds)) (λ n from to. ne_eqb n m (λ e. omega arith)))),
               above_holds (λ n low. apart n (omega arith))
                   (subst (λ n. TakeTheirs (behind wire (length (bundles together ds))) (pair_widths width n) all) (sym more) (subst (λ n. TakeTheirs (behind wire n) (pair_widths width (pairs_within levels (bundle_count (length ds)))) all) (sym long) parts.1))
                   (λ m low high. s m (omega arith) (omega arith)
-                  ∙ of_second (ToWire m) (bundle_drivers wire (bundles together ds)) (above target levels wire ds) (bundles_dropped (ToWire m) (bundles together ds) wire (λ n from to. differs n m (λ e. omega arith)))),
+                  ∙ of_second (ToWire m) (bundle_drivers wire (bundles together ds)) (above target levels wire ds) (bundles_dropped (ToWire m) (bundles together ds) wire (λ n from to. ne_eqb n m (λ e. omega arith)))),
             )
         choice false r s above_holds = tt
 
@@ -94,5 +94,5 @@ module _ (around : NetAround) (registers : ℕ → Option BitVector) (look : Nod
             all_hold us (behind wire (pairs (length u.drivers))) (omega arith) free.1 k.1
                 (λ m from. same m (omega arith)
                 ∙ of_second (ToWire m) (tree u.target wire u.drivers) (trees (behind wire (pairs (length u.drivers))) us)
-                (tree_dropped u.target (ToWire m) (free.0 m (omega arith)) (length u.drivers) wire u.drivers (λ n low_n high_n. differs n m (λ e. omega arith)))),
+                (tree_dropped u.target (ToWire m) (free.0 m (omega arith)) (length u.drivers) wire u.drivers (λ n low_n high_n. ne_eqb n m (λ e. omega arith)))),
           )

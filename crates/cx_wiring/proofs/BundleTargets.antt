@@ -1,12 +1,11 @@
 -- The drivers of one target in a tree: those that stand at the target, and of each wire its own.
 use Rattle.std.proofs.Common.{◌≡◌, ℕ, zero, suc, ◌+◌, ◌<◌, ◌≤◌, Bool, true, false, if◌then◌else◌, List, [], ◌∷◌, ◌++◌, length, refl, ap, ◌∙◌, append_assoc, arith}
 use Rattle.std.specs.Prelude.{nat_lt}
-use Rattle.std.proofs.lemmas.Bool.{eq-eqb}
+use Rattle.std.proofs.lemmas.Bool.{eq-eqb, ne_eqb}
 use Rattle.cx_net.specs.Nets.{PlainNetTarget, ToWire, PlainNetDriver}
 use Rattle.cx_net.specs.NetMeaning.{same_target, drivers_to}
 use Rattle.cx_wiring.specs.Parts.{one, drive}
 use Rattle.cx_wiring.specs.Trees.{together, bundles, bundle_count, switches, moved, bundle_drivers, behind, heads, tree_within, pairs_within}
-use Rattle.cx_wiring.proofs.AwayLaws.{differs}
 use Rattle.cx_wiring.proofs.BundleLaws.{bundles_long, later_pairs, pairs_if, top_within}
 
 keep_head : (t : PlainNetTarget) (d : PlainNetDriver) (ds : List PlainNetDriver) → same_target d.target t ≡ true → drivers_to t (d ∷ ds) ≡ d ∷ drivers_to t ds
@@ -77,23 +76,23 @@ pub first_on : (wire : ℕ) (b : List PlainNetDriver) (bs : List (List PlainNetD
 first_on wire b bs =
     first_apart (ToWire wire) wire b bs
     ∙ of_first (ToWire wire) (switches wire b) (moved (ToWire (suc wire)) b ++ bundle_drivers (suc (suc wire)) bs)
-    (of_second (ToWire wire) (moved (ToWire (suc wire)) b) (bundle_drivers (suc (suc wire)) bs) (moved_dropped (ToWire wire) (ToWire (suc wire)) b (differs (suc wire) wire (λ e. omega arith)))
-    ∙ bundles_dropped (ToWire wire) bs (suc (suc wire)) (λ n low high. differs n wire (λ e. omega arith)))
+    (of_second (ToWire wire) (moved (ToWire (suc wire)) b) (bundle_drivers (suc (suc wire)) bs) (moved_dropped (ToWire wire) (ToWire (suc wire)) b (ne_eqb (suc wire) wire (λ e. omega arith)))
+    ∙ bundles_dropped (ToWire wire) bs (suc (suc wire)) (λ n low high. ne_eqb n wire (λ e. omega arith)))
     ∙ switches_kept (ToWire wire) wire b (wire_same wire)
 
 pub first_value : (wire : ℕ) (b : List PlainNetDriver) (bs : List (List PlainNetDriver)) → drivers_to (ToWire (suc wire)) (bundle_drivers wire (b ∷ bs)) ≡ moved (ToWire (suc wire)) b
 first_value wire b bs =
     first_apart (ToWire (suc wire)) wire b bs
-    ∙ of_second (ToWire (suc wire)) (switches wire b) (moved (ToWire (suc wire)) b ++ bundle_drivers (suc (suc wire)) bs) (switches_dropped (ToWire (suc wire)) wire b (differs wire (suc wire) (λ e. omega arith)))
-    ∙ of_first (ToWire (suc wire)) (moved (ToWire (suc wire)) b) (bundle_drivers (suc (suc wire)) bs) (bundles_dropped (ToWire (suc wire)) bs (suc (suc wire)) (λ n low high. differs n (suc wire) (λ e. omega arith)))
+    ∙ of_second (ToWire (suc wire)) (switches wire b) (moved (ToWire (suc wire)) b ++ bundle_drivers (suc (suc wire)) bs) (switches_dropped (ToWire (suc wire)) wire b (ne_eqb wire (suc wire) (λ e. omega arith)))
+    ∙ of_first (ToWire (suc wire)) (moved (ToWire (suc wire)) b) (bundle_drivers (suc (suc wire)) bs) (bundles_dropped (ToWire (suc wire)) bs (suc (suc wire)) (λ n low high. ne_eqb n (suc wire) (λ e. omega arith)))
     ∙ moved_kept (ToWire (suc wire)) (ToWire (suc wire)) b (wire_same (suc wire))
 
 -- and those of the later ones have none of its drivers
 pub later_wire : (n wire : ℕ) (b : List PlainNetDriver) (bs : List (List PlainNetDriver)) → suc (suc wire) ≤ n → drivers_to (ToWire n) (bundle_drivers wire (b ∷ bs)) ≡ drivers_to (ToWire n) (bundle_drivers (suc (suc wire)) bs)
 later_wire n wire b bs low =
     first_apart (ToWire n) wire b bs
-    ∙ of_second (ToWire n) (switches wire b) (moved (ToWire (suc wire)) b ++ bundle_drivers (suc (suc wire)) bs) (switches_dropped (ToWire n) wire b (differs wire n (λ e. omega arith)))
-    ∙ of_second (ToWire n) (moved (ToWire (suc wire)) b) (bundle_drivers (suc (suc wire)) bs) (moved_dropped (ToWire n) (ToWire (suc wire)) b (differs (suc wire) n (λ e. omega arith)))
+    ∙ of_second (ToWire n) (switches wire b) (moved (ToWire (suc wire)) b ++ bundle_drivers (suc (suc wire)) bs) (switches_dropped (ToWire n) wire b (ne_eqb wire n (λ e. omega arith)))
+    ∙ of_second (ToWire n) (moved (ToWire (suc wire)) b) (bundle_drivers (suc (suc wire)) bs) (moved_dropped (ToWire n) (ToWire (suc wire)) b (ne_eqb (suc wire) n (λ e. omega arith)))
 
 module _ (target : PlainNetTarget) where
   -- A TREE has no driver of a target that is neither its own nor a wire of it

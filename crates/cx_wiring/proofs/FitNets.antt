@@ -31,7 +31,7 @@ use Rattle.cx_wiring.proofs.ControlTargets.{control_drives}
 use Rattle.cx_wiring.proofs.AssignTargets.{assigns_drive}
 use Rattle.cx_wiring.proofs.TreeTargets.{by_target_drive, all_driven}
 use Rattle.cx_wiring.proofs.NetTargets.{plain_wires_count}
-use Rattle.cx_wiring.proofs.AwayLaws.{differs}
+use Rattle.std.proofs.lemmas.Bool.{ne_eqb}
 use Rattle.cx_wiring.proofs.RankLemmas.{by_target_sorted}
 use Rattle.cx_wiring.proofs.DrivenLemmas.{driven_entries}
 use Rattle.cx_wiring.proofs.ComponentTakes.{IsPlain, plain_both, not_wires}
@@ -239,7 +239,7 @@ module _ (d : PlainDesign) (rules : IsDesign d) (accepted : IsAccepted d) (k : �
       plain_one (ToPort (ports.Done g)) proper earlier = absurd proper
       plain_one (ToPort (ports.Literal u v)) proper earlier = absurd proper
       plain_one (ToRegister n) proper earlier = (tt, λ m from. refl)
-      plain_one (ToWire n) proper earlier = (tt, λ m from. differs n m (λ e. omega arith))
+      plain_one (ToWire n) proper earlier = (tt, λ m from. ne_eqb n m (λ e. omega arith))
       plain_one (ToHole n) proper earlier = (tt, λ m from. refl)
       plain_one ToDone proper earlier = (tt, λ m from. refl)
 

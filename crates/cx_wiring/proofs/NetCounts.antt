@@ -24,8 +24,7 @@ use Rattle.cx_net.specs.NetMeaning.{NetState}
 use Rattle.cx_net.specs.NetTree.{NetInstance, NetCells, net_part, net_tree}
 use Rattle.cx_static.specs.Lowering.{unlowered, lowered_component, lowered_of}
 use Rattle.cx_wiring.specs.Wiring.{net_of}
-use Rattle.cx_wiring.specs.PartNets.{row_of_kind, rows_among, timer_cells, timers_of, wired_in}
-use Rattle.cx_wiring.specs.Blocks.{rows_alone, net_of_instance, net_of_cells}
+use Rattle.cx_wiring.specs.PartNets.{row_of_kind, rows_among, timer_cells, timers_of, wired_in, rows_alone, net_of_instance, net_of_cells}
 use Rattle.cx_wiring.proofs.TimerCells.{cells-lowered_component}
 use Rattle.cx_wiring.proofs.NetTrees.{net_tree-net_of}
 use Rattle.cx_wiring.proofs.LoweringCounts.{cells_cost, cells_cost-append, times_none, all_timers, statement_adds}

@@ -13,8 +13,7 @@ use Rattle.cx_static.specs.Islands.{PlainLowereds}
 use Rattle.cx_static.specs.Lowering.{lowered_of}
 use Rattle.cx_wiring.specs.Reached.{has_number, place_in, component_of_kind, components_of, reached_from, order}
 use Rattle.cx_wiring.specs.Wiring.{kind_in, cell_in, net_of}
-use Rattle.cx_wiring.specs.PartNets.{row_of_kind, rows_among, timer_cells, timers_of, wired_in}
-use Rattle.cx_wiring.specs.Blocks.{rows_alone, net_of_instance, net_of_cells}
+use Rattle.cx_wiring.specs.PartNets.{row_of_kind, rows_among, timer_cells, timers_of, wired_in, rows_alone, net_of_instance, net_of_cells}
 use Rattle.cx_wiring.proofs.MainLaws.{order_main}
 use Rattle.cx_wiring.proofs.TimerCells.{cells-lowered_component, components_of-timer_cells}
 use Rattle.cx_wiring.proofs.WayLemmas.{count_is, placed, net_long, IsWay, here_of, few_of_net, few_of_design, Reaches, step_on, alone}

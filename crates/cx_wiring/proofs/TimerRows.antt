@@ -6,7 +6,7 @@ use Rattle.cx_prim.specs.declared.names.PrimitiveName.TheVariants as primitives
 use Rattle.cx_prim.specs.Rows.{Row}
 use Rattle.cx_prim.specs.PipeRows.{timer_row}
 use Rattle.cx_prim.specs.Table.{PrimitiveRow, no_row, row_of}
-use Rattle.std.proofs.lemmas.Bool.{and_from, le-leb, lt-ltb}
+use Rattle.std.proofs.lemmas.Bool.{and_from, le-leb, lt-ltb, ne_eqb}
 use Rattle.cx_prim.specs.MemoryLaws.{slice_get-append}
 use Rattle.cx_meaning.specs.declared.ports.PortRef.{PortRef}
 use Rattle.cx_meaning.specs.declared.ports.PortRef.TheVariants as ports
@@ -22,11 +22,9 @@ use Rattle.cx_static.specs.Islands.{PlainIsland}
 use Rattle.cx_static.specs.Lowering.{timer_cell, lowered_component}
 use Rattle.cx_wiring.specs.Assignments.{target_of, driven_assigns, assigns_drivers}
 use Rattle.cx_wiring.specs.Reached.{component_of_kind, components_of}
-use Rattle.cx_wiring.specs.PartNets.{row_of_kind, rows_among, timer_cells, timers_of}
-use Rattle.cx_wiring.specs.Blocks.{rows_alone, net_of_cells}
+use Rattle.cx_wiring.specs.PartNets.{row_of_kind, rows_among, timer_cells, timers_of, rows_alone, net_of_cells}
 use Rattle.cx_wiring.specs.Wiring.{groups, first_of_assigns}
 use Rattle.cx_wiring.specs.Bounds.{AllDrive}
-use Rattle.cx_wiring.proofs.AwayLaws.{differs}
 use Rattle.cx_wiring.proofs.AssignTargets.{assigns_drive_to}
 use Rattle.cx_wiring.proofs.TimerCells.{cells-lowered_component, components_of-timer_cells}
 use Rattle.cx_wiring.proofs.IslandCells.{timers_before, cell_stands, timers_stand, timers_lie}
@@ -121,7 +119,7 @@ module _ (part : PlainComponent) where
   IsOwnTarget (ports.Literal w v) = Unit {0}
 
   own_skips : (c : ℕ) → length part.cells ≤ c → (p : PortRef) → IsOwnTarget p → same_target (target_of p) (ToPort (ports.Cell c 0)) ≡ false
-  own_skips c behind (ports.Cell e p) own = ap (λ b. if b then p == 0 else false) (differs e c (λ same. omega arith))
+  own_skips c behind (ports.Cell e p) own = ap (λ b. if b then p == 0 else false) (ne_eqb e c (λ same. omega arith))
   own_skips c behind (ports.Input n) own = refl
   own_skips c behind (ports.Output n) own = refl
   own_skips c behind (ports.Done g) own = refl

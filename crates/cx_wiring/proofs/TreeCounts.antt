@@ -1,7 +1,7 @@
 -- No target has more than 17 drivers in the net of a component: of a tree 16 at most stand at the target, and at each wire.
 use Rattle.std.proofs.Common.{◌≡◌, ⊎_elim, ℕ, zero, suc, ◌+◌, ◌*◌, ◌<◌, ◌≤◌, Bool, true, false, if◌then◌else◌, List, [], ◌∷◌, ◌++◌, length, refl, ap, ◌∙◌, subst, arith}
 use Rattle.std.specs.Prelude.{nat_lt}
-use Rattle.std.proofs.lemmas.Bool.{cases_lt, ltb-true, ltb-false}
+use Rattle.std.proofs.lemmas.Bool.{cases_lt, ltb-true, ltb-false, ne_eqb}
 use Rattle.std.proofs.lemmas.List.{length-map}
 use Rattle.cx_meaning.specs.declared.ports.PortRef.TheVariants as ports
 use Rattle.cx_net.specs.Nets.{PlainNetTarget, ToPort, ToRegister, ToWire, ToHole, ToDone, PlainNetDriver}
@@ -10,7 +10,6 @@ use Rattle.cx_wiring.specs.Parts.{one, drive}
 use Rattle.cx_wiring.specs.Trees.{Driven, together, with_first, bundles, bundle_count, moved, bundle_drivers, behind, heads, tree_within, tree, pairs, trees}
 use Rattle.cx_wiring.specs.Bounds.{IsProper, AllDrive}
 use Rattle.cx_wiring.specs.Fitting.{Are}
-use Rattle.cx_wiring.proofs.AwayLaws.{differs}
 use Rattle.cx_wiring.proofs.PairCounts.{bundles_few}
 use Rattle.cx_wiring.proofs.BundleLaws.{bundles_long, heads_long, above, top_within}
 use Rattle.cx_wiring.proofs.BundleTargets.{of_first, of_second, bundles_dropped, first_on, first_value, later_wire, tree_dropped}
@@ -48,7 +47,7 @@ bundle_wire_few : (bs : List (List PlainNetDriver)) (n wire : ℕ) → AreShort 
 bundle_wire_few [] n wire short = omega arith
 bundle_wire_few (b ∷ bs) n wire short =
     ⊎_elim
-    (λ below. let none : length (drivers_to (ToWire n) (bundle_drivers wire (b ∷ bs))) ≡ 0 = ap length (bundles_dropped (ToWire n) (b ∷ bs) wire (λ m low high. differs m n (λ e. omega arith))) in
+    (λ below. let none : length (drivers_to (ToWire n) (bundle_drivers wire (b ∷ bs))) ≡ 0 = ap length (bundles_dropped (ToWire n) (b ∷ bs) wire (λ m low high. ne_eqb m n (λ e. omega arith))) in
     omega arith)
     (λ from. ⊎_elim
     (λ high. ⊎_elim
@@ -102,11 +101,11 @@ module _ (target : PlainNetTarget) where
       choice true above_few =
           ⊎_elim
           (λ less. let same : length (drivers_to (ToWire n) (bundle_drivers wire (bundles together ds) ++ above target levels wire ds)) ≡ length (drivers_to (ToWire n) (bundle_drivers wire (bundles together ds))) =
-          ap length (of_first (ToWire n) (bundle_drivers wire (bundles together ds)) (above target levels wire ds) (tree_dropped target (ToWire n) other levels (behind wire (length (bundles together ds))) (heads target wire (bundles together ds)) (λ m low high. differs m n (λ e. omega arith)))) in
+          ap length (of_first (ToWire n) (bundle_drivers wire (bundles together ds)) (above target levels wire ds) (tree_dropped target (ToWire n) other levels (behind wire (length (bundles together ds))) (heads target wire (bundles together ds)) (λ m low high. ne_eqb m n (λ e. omega arith)))) in
           let few : length (drivers_to (ToWire n) (bundle_drivers wire (bundles together ds))) ≤ 16 = bundle_wire_few (bundles together ds) n wire (bundles_short ds) in
           omega arith)
           (λ more. let same : length (drivers_to (ToWire n) (bundle_drivers wire (bundles together ds) ++ above target levels wire ds)) ≡ length (drivers_to (ToWire n) (above target levels wire ds)) =
-          ap length (of_second (ToWire n) (bundle_drivers wire (bundles together ds)) (above target levels wire ds) (bundles_dropped (ToWire n) (bundles together ds) wire (λ m low high. differs m n (λ e. omega arith)))) in
+          ap length (of_second (ToWire n) (bundle_drivers wire (bundles together ds)) (above target levels wire ds) (bundles_dropped (ToWire n) (bundles together ds) wire (λ m low high. ne_eqb m n (λ e. omega arith)))) in
           let few : length (drivers_to (ToWire n) (above target levels wire ds)) ≤ 16 = above_few in
           omega arith)
           (cases_lt n (behind wire (length (bundles together ds))))
@@ -134,7 +133,7 @@ trees_wire_few (u ∷ us) base n wire low from free =
     omega arith)
     (λ more. let same : length (drivers_to (ToWire n) (trees wire (u ∷ us))) ≡ length (drivers_to (ToWire n) (trees (behind wire (pairs (length u.drivers))) us)) =
     ap length (of_second (ToWire n) (tree u.target wire u.drivers) (trees (behind wire (pairs (length u.drivers))) us)
-    (tree_dropped u.target (ToWire n) other (length u.drivers) wire u.drivers (λ m start end. differs m n (λ e. omega arith)))) in
+    (tree_dropped u.target (ToWire n) other (length u.drivers) wire u.drivers (λ m start end. ne_eqb m n (λ e. omega arith)))) in
     let next : base ≤ behind wire (pairs (length u.drivers)) = omega arith in
     let later : length (drivers_to (ToWire n) (trees (behind wire (pairs (length u.drivers))) us)) ≤ 17 = trees_wire_few us base n (behind wire (pairs (length u.drivers))) next more free.1 in
     omega arith)
@@ -184,7 +183,7 @@ dropped_all t (d ∷ ds) bad proper = (improper_is_none t d.target proper.0 bad,
 pub trees_few : (ts : List Driven) (base : ℕ) → AreEntries ts → NotWires base ts → AllDrive IsProper (trees base ts) → (t : PlainNetTarget) → length (drivers_to t (trees base ts)) ≤ 17
 trees_few ts base entries free proper (ToWire n) =
     ⊎_elim
-    (λ less. let same : length (drivers_to (ToWire n) (trees base ts)) ≡ length (top_of (ToWire n) base ts) = ap length (trees_stand (ToWire n) ts base tt entries (λ m low. differs m n (λ e. omega arith))) in
+    (λ less. let same : length (drivers_to (ToWire n) (trees base ts)) ≡ length (top_of (ToWire n) base ts) = ap length (trees_stand (ToWire n) ts base tt entries (λ m low. ne_eqb m n (λ e. omega arith))) in
     let few : length (top_of (ToWire n) base ts) ≤ 17 = tops_few (ToWire n) base ts in
     omega arith)
     (λ more. let low : base ≤ base = omega arith in trees_wire_few ts base n base low more free)

@@ -1,4 +1,2 @@
-//! The net of a lowered design, as a definition, and that it realises the design.
+//! The net of a lowered design, as a definition: what it has, how large it is, and that it fits.
 #![tactic(auto)]
-
-pub mod laws;

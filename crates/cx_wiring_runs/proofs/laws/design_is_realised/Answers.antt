@@ -1,0 +1,6 @@
+use Rattle.cx_wiring_runs.proofs.DesignNets.{net_realised}
+use Rattle.cx_wiring_runs.proofs.laws.design_is_realised.Goals as goal
+
+pub returns : goal.returns
+returns c d design accepted =
+    net_realised d design accepted (λ path. c.instances_keep_rules.ensures.rules d path design accepted) (λ path. c.instances_keep_rules.ensures.islands d path accepted) (λ words. c.loaded_start_is_settled.ensures d words)

@@ -1,0 +1,4 @@
+pub mod Blocks
+pub mod BlockNumbers
+pub mod PortValues
+pub mod Listed

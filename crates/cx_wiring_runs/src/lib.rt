@@ -1,0 +1,4 @@
+//! The net of an accepted design realises it.
+#![tactic(auto)]
+
+pub mod laws;
