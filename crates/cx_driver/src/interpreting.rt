@@ -18,8 +18,9 @@ use crate::faults::faulted;
 use crate::memories::{dump_of, load};
 use cx_commands::Stop;
 use cx_design::Checked;
-use cx_interp::{Answer, Interp, Ran};
+use cx_interp::{Answer, Ran, run};
 use cx_text::Loaded;
+use cx_turns::Begun;
 use std::alloc::Global;
 
 /// What a run leaves: its turns, and the words of the external memories.
@@ -90,8 +91,8 @@ fn run_loaded(alloc: Global, design: &Checked, loaded: Loaded, turns: u64) -> Re
     ensures ready { IfOk result CanDump }
     ensures cause { IfErr result (StopsRun (plain_design design.now) (plain_loaded loaded) turns) }
 {
-    let interp = Interp::new(alloc, design, &loaded)?;
-    let ran = interp.run(turns);
+    let begun = Begun::new(alloc, design, &loaded)?;
+    let ran = run(begun, turns);
     end(alloc, design, &ran, loaded, turns)
 }
 

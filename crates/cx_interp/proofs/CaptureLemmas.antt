@@ -20,17 +20,18 @@ use Rattle.cx_eval_cycle.specs.Passes.{listed_in}
 use Rattle.cx_frames.specs.Rests.{IsUndriven, IsSettledAt}
 use Rattle.cx_frames.specs.Ran.{Outcome, Faulted, Unfinished}
 use Rattle.cx_frames.specs.Ran as ran
-use Rattle.cx_interp_plan.specs.declared.tables.GroupRow.{GroupRow}
+use Rattle.cx_turns.specs.declared.tables.GroupRow.{GroupRow}
+use Rattle.cx_turns.specs.Groups.{IsGroupRow, group_driving}
+use Rattle.cx_turns.specs.Turns.{IsBusy}
+use Rattle.cx_turns.proofs.PathLemmas.{put_same, settled_under}
+use Rattle.cx_turns.proofs.TurnLemmas.{undriven_alone, still_busy, rest_settled}
 use Rattle.cx_interp.specs.declared.answers.Answer as told
 use Rattle.cx_interp.specs.declared.answers.Answer.TheVariants as result
 use Rattle.cx_interp.specs.Callees.{after_does, capture_does, two_turns}
-use Rattle.cx_interp.specs.Doings.{group_driving, idle_does}
+use Rattle.cx_interp.specs.Doings.{idle_does}
 use Rattle.cx_interp.specs.Done.{Done, Tells, IsWithin}
-use Rattle.cx_interp.specs.Groups.{IsGroupRow}
-use Rattle.cx_interp.specs.Turns.{IsBusy, AnswersIdle, Pauses, Paused}
+use Rattle.cx_interp.specs.Pauses.{AnswersIdle, Pauses, Paused}
 use Rattle.cx_interp.proofs.EnableLemmas.{done_same_at}
-use Rattle.cx_interp.proofs.PathLemmas.{put_same, settled_under}
-use Rattle.cx_interp.proofs.TurnLemmas.{undriven_alone, still_busy, rest_settled}
 
 pub two_more : (budget : ℕ) → budget ≤ 1 → two_turns budget ≡ result.More
 two_more zero le = refl

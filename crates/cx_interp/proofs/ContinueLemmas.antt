@@ -2,9 +2,10 @@
 use Rattle.std.proofs.Common.{◌≡◌, ℕ, zero, suc, ◌+◌, ◌-◌, ◌≤◌, ◌<◌, List, refl, sym, ap, ◌∙◌, subst, arith}
 use Rattle.cx_meaning.specs.Designs.{PlainDesign}
 use Rattle.cx_state.specs.States.{PlainInstance}
+use Rattle.cx_turns.specs.Groups.{Driving}
 use Rattle.cx_interp.specs.declared.answers.Answer.TheVariants.{End, Fault, More}
 use Rattle.cx_interp.specs.declared.answers.Answer.{Answer}
-use Rattle.cx_interp.specs.Doings.{Doing, Driving, then_does}
+use Rattle.cx_interp.specs.Doings.{Doing, then_does}
 use Rattle.cx_interp.specs.Done.{IsWithin, later, Done}
 use Rattle.cx_interp.proofs.DoneLemmas.{Stops, done_then, done_stopped}
 

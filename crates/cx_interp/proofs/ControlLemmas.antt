@@ -1,39 +1,26 @@
 -- Parts of statements: what they drive, that they stand in the control, and what is left of a seq, a loop or a repeat.
-use Rattle.std.proofs.Common.{◌≡◌, ℕ, zero, suc, ◌+◌, ◌-◌, ◌≤◌, ◌<◌, Bool, true, false, ◌||◌, ◌≢◌, List, [], ◌∷◌, ◌++◌, length, get_or, drop, map, Result, Ok, Err, Option, Some, None, inl, inr, refl, sym, ap, ◌∙◌, subst, arith}
+use Rattle.std.proofs.Common.{◌≡◌, ℕ, zero, suc, ◌+◌, ◌-◌, ◌≤◌, ◌<◌, Bool, true, false, ◌||◌, ◌≢◌, List, [], ◌∷◌, ◌++◌, length, get_or, drop, Ok, Err, Option, Some, None, inr, refl, sym, ap, ◌∙◌, subst, arith}
 use Rattle.std.proofs.Math.Seq.{drop-cons}
-use Rattle.cx_text.specs.declared.places.Place.{Place}
 use Rattle.cx_meaning.specs.declared.ports.PlacedPort.{PlacedPort}
-use Rattle.cx_meaning.specs.Designs.{PlainDesign, PlainComponent, PlainForm, Empty, Timed, StaticSeq, StaticPar, StaticIf, StaticRepeat, Seq, If, While, Repeat, PlainStatement, Placed, PlainStatements, no_statements, a_statement}
-use Rattle.cx_meaning.specs.Instances.{Instance, Path, part_of, idle}
+use Rattle.cx_meaning.specs.Designs.{PlainDesign, PlainComponent, PlainForm, Empty, Timed, Seq, If, While, Repeat, PlainStatement}
+use Rattle.cx_meaning.specs.Instances.{Instance, part_of, idle}
 use Rattle.cx_meaning.specs.Answers.{loop, rounds}
 use Rattle.cx_meaning.specs.Calls.{test}
-use Rattle.cx_meaning.specs.Sights.{In}
 use Rattle.cx_meaning.specs.Control.{with_comb, groups_of, groups_in_all, group_drives, groups_drive}
-use Rattle.cx_rules.specs.Items.{Visited, Dynamic, visit, visit_all}
 use Rattle.cx_design.specs.declared.actives.PortFault.{PortFault}
 use Rattle.cx_design.specs.declared.statements.Statement.{Statement}
 use Rattle.cx_design.specs.PlainForms.{plain_statement, plain_statements}
-use Rattle.cx_state.specs.Tables.{IsNumber}
 use Rattle.cx_state.specs.States.{PlainInstance, IsStateOf}
+use Rattle.cx_turns.specs.Groups.{Driving}
+use Rattle.cx_turns.specs.Machines.{StandsIn, FormStands}
+use Rattle.cx_turns.specs.Tests.{Tested}
 use Rattle.cx_interp.specs.declared.answers.Answer.TheVariants.{End, Fault, More}
 use Rattle.cx_interp.specs.declared.answers.Answer.{Answer}
-use Rattle.cx_interp.specs.Doings.{Doing, Driving, then_does, stay_does, idle_does, statement_does, statement_drives, form_does, form_drives, parts_do, parts_drive}
-use Rattle.cx_interp.specs.Done.{IsWithin, later, Done}
-use Rattle.cx_interp.specs.Machines.{StandsIn, StandIn, FormStands}
-use Rattle.cx_interp.specs.Tests.{Tested, test_does, loop_does}
+use Rattle.cx_interp.specs.Doings.{Doing, then_does, stay_does, idle_does, statement_does, statement_drives, form_does, form_drives, parts_do, parts_drive, test_does}
+use Rattle.cx_interp.specs.Done.{later, Done}
 use Rattle.cx_interp.proofs.DoneLemmas.{Stops, done_more, done_wider, done_same, done_stay, done_no_turn, done_then, done_stopped, done_holds, done_fails, done_unclear}
 use Rattle.cx_interp.proofs.RanLemmas.{enough_tests}
-use Rattle.cx_interp.proofs.Measures.{steps, all_steps}
 use Rattle.cx_interp.proofs.ContinueLemmas.{Continues, continues_start, continues_after, continues_stop, later_later}
-
-in_left : {A : Type 0} (xs ys : List A) (x : A) → In xs x → In (xs ++ ys) x
-in_left [] ys x h = absurd h
-in_left (z ∷ xs) ys x (inl e) = inl e
-in_left (z ∷ xs) ys x (inr h) = inr (in_left xs ys x h)
-
-in_right : {A : Type 0} (xs ys : List A) (x : A) → In ys x → In (xs ++ ys) x
-in_right [] ys x h = h
-in_right (z ∷ xs) ys x h = inr (in_right xs ys x h)
 
 neither : (a b : Bool) → (a || b) ≡ false → (a ≡ false) × (b ≡ false)
 neither false b e = (refl, e)
@@ -56,14 +43,6 @@ part_undriven [] k x lt i c e = absurd (omega arith)
 part_undriven (s ∷ ss) zero x lt i c e = (both_undriven (part_of i) (groups_of (plain_statement s)) (groups_in_all (plain_statements ss)) c e).0
 part_undriven (s ∷ ss) (suc k) x lt i c e =
     part_undriven ss k x (let h : suc k < suc (length ss) = lt in omega arith) i c (both_undriven (part_of i) (groups_of (plain_statement s)) (groups_in_all (plain_statements ss)) c e).1
-
-part_visited : (parts : List Statement) (k : ℕ) (x : Statement) (v : Visited) → k < length parts → In (visit Dynamic (plain_statement (get_or parts k x))) v → In (visit_all Dynamic (plain_statements parts)) v
-part_visited [] k x v lt h = absurd (omega arith)
-part_visited (s ∷ ss) zero x v lt h = in_left (visit Dynamic (plain_statement s)) (visit_all Dynamic (plain_statements ss)) v h
-part_visited (s ∷ ss) (suc k) x v lt h = in_right (visit Dynamic (plain_statement s)) (visit_all Dynamic (plain_statements ss)) v (part_visited ss k x v (let l : suc k < suc (length ss) = lt in omega arith) h)
-
-pub part_stands : (d : PlainDesign) (n : ℕ) (parts : List Statement) (k : ℕ) (x : Statement) → k < length parts → x ≡ get_or parts k x → StandIn d n (plain_statements parts) → StandsIn d n (plain_statement x)
-part_stands d n parts k x lt e stand path v number h = stand path v number (part_visited parts k x v lt (subst (λ s. In (visit Dynamic (plain_statement s)) v) e h))
 
 -- A SEQ
 module _ (d : PlainDesign) (n : ℕ) (parts : List Statement) (initial now : List PlainInstance) (whole : Doing) (budget spent k : ℕ) (x : Statement) (lt : k < length parts) (is : x ≡ get_or parts k x) where
@@ -141,12 +120,6 @@ module _ (d : PlainDesign) (n : ℕ) (port : PlacedPort) (comb : Option ℕ) (ye
 
   pub if_no_turn : (rows : List PlainInstance) (budget : ℕ) → budget ≡ 0 → IsStateOf d rows → Done d rows rows n if_drives (form_does (If port comb yes no)) budget More
   if_no_turn rows budget none fits = subst (λ b. Done d rows rows n if_drives (form_does (If port comb yes no)) b More) (sym none) (done_no_turn d n if_drives rows (form_does (If port comb yes no)) (λ i held s. refl) fits)
-
-  pub yes_stands : FormStands d n (If port comb yes no) → StandsIn d n yes
-  yes_stands (place, stands) path v number h = stands path v number (inr (in_left (visit Dynamic yes) (visit Dynamic no) v h))
-
-  pub no_stands : FormStands d n (If port comb yes no) → StandsIn d n no
-  no_stands (place, stands) path v number h = stands path v number (inr (in_right (visit Dynamic yes) (visit Dynamic no) v h))
 
 -- A WHILE
 module _ (d : PlainDesign) (n : ℕ) (port : PlacedPort) (comb : Option ℕ) (body : PlainStatement) where
@@ -301,17 +274,6 @@ seq_next d n parts initial now middle whole budget spent k turns x lt is goes on
     let next : suc k ≡ k + 1 = omega arith in
     subst (λ j. Continues d n (parts_drive (plain_statements parts)) initial middle (parts_do (plain_statements (drop j parts))) (budget - (spent + turns)) whole budget (spent + turns)) next
     (seq_after d n parts initial now whole budget spent k x lt is middle turns goes one)
-
--- the steps of a part
-pub part_falls : (parts : List Statement) (k : ℕ) (x : Statement) → k < length parts → x ≡ get_or parts k x → steps (plain_statement x) ≤ all_steps (plain_statements parts)
-part_falls parts k x lt is = subst (λ s. steps (plain_statement s) ≤ all_steps (plain_statements parts)) (sym is) (below_all parts k x lt)
-  where
-    below_all : (parts : List Statement) (k : ℕ) (x : Statement) → k < length parts → steps (plain_statement (get_or parts k x)) ≤ all_steps (plain_statements parts)
-    below_all [] k x lt = absurd (omega arith)
-    below_all (s ∷ ss) zero x lt = omega arith
-    below_all (s ∷ ss) (suc k) x lt =
-        let h : steps (plain_statement (get_or ss k x)) ≤ all_steps (plain_statements ss) = below_all ss k x (let e : suc k < suc (length ss) = lt in omega arith) in
-        omega (arith, h)
 
 -- no turn, and a statement of a lowered design
 pub empty_form : (d : PlainDesign) (n : ℕ) (f : PlainForm) (rows : List PlainInstance) (budget : ℕ) (a : Answer) → f ≡ Empty → ((driving : Driving) → Done d rows rows n driving idle_does budget a) → Done d rows rows n (form_drives f) (form_does f) budget a

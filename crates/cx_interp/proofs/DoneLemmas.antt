@@ -1,27 +1,24 @@
 -- What runs on the rows of a state have done, and how it is put together.
-use Rattle.std.proofs.Common.{◌≡◌, ℕ, zero, suc, ◌+◌, ◌-◌, ◌≤◌, ◌<◌, Bool, true, false, List, [], ◌∷◌, ◌++◌, Option, Result, Ok, Err, refl, sym, ap, ◌∙◌, subst, arith}
+use Rattle.std.proofs.Common.{◌≡◌, ℕ, zero, suc, ◌-◌, ◌≤◌, ◌<◌, true, false, List, Option, Ok, Err, refl, sym, ap, ◌∙◌, subst, arith}
 use Rattle.std.proofs.Math.Path.{fun_ext}
 use Rattle.cx_meaning.specs.declared.ports.PortRef.{PortRef}
 use Rattle.cx_meaning.specs.Designs.{PlainDesign}
-use Rattle.cx_meaning.specs.Instances.{Instance, Path, State, idle, instance_at, tree_of, IsSettled}
+use Rattle.cx_meaning.specs.Instances.{Instance, Path, State, instance_at, tree_of, IsSettled}
 use Rattle.cx_meaning.specs.Sights.{Held}
-use Rattle.cx_meaning.specs.Cycles as cycles
-use Rattle.cx_meaning.specs.Answers.{Answer, Test, Holds, Fails, Unclear, Meaning, then_do, stay, idle_turn, test_turn, loop_of, loop}
 use Rattle.cx_meaning.specs.Answers as answers
 use Rattle.cx_meaning.specs.Calls.{test}
-use Rattle.cx_design.specs.PlainActives.{TellsFault}
 use Rattle.cx_design.specs.declared.actives.PortFault.{PortFault}
 use Rattle.cx_state.specs.Tables.{IsNumber}
 use Rattle.cx_state.specs.States.{PlainInstance, inputs_held, IsStateOf, StandsFor, under_path, put_path}
-use Rattle.cx_eval.specs.Evaluated.{fault_along}
 use Rattle.cx_frames.specs.Ran.{Outcome, Ended, Faulted, Unfinished, Ran}
+use Rattle.cx_turns.specs.Groups.{Driving}
+use Rattle.cx_turns.specs.Tests.{Tested}
+use Rattle.cx_turns.proofs.PathLemmas.{under_put, put_put, put_same, settled_under, settled_put, append_none}
 use Rattle.cx_interp.specs.declared.answers.Answer.TheVariants.{End, Fault, More}
 use Rattle.cx_interp.specs.declared.answers.Answer as told
-use Rattle.cx_interp.specs.Doings.{Doing, Driving, then_does, stay_does, idle_does}
+use Rattle.cx_interp.specs.Doings.{Doing, then_does, stay_does, idle_does, test_does}
 use Rattle.cx_interp.specs.Done.{Tells, IsWithin, later, KeepsHeld, Leaves, Done}
-use Rattle.cx_interp.specs.Tests.{TellsTest, Tested, test_does, loop_does}
-use Rattle.cx_interp.proofs.PathLemmas.{under_put, put_put, put_same, settled_under, settled_put}
-use Rattle.cx_interp.proofs.RanLemmas.{shifted, IsStop, ran_same, ran_wider, ran_stay, ran_idle, ran_more, ran_then, ran_stopped, ran_holds, ran_fails, ran_unclear, enough_tests}
+use Rattle.cx_interp.proofs.RanLemmas.{shifted, IsStop, ran_same, ran_wider, ran_stay, ran_idle, ran_more, ran_then, ran_stopped, ran_holds, ran_fails, ran_unclear}
 
 -- an answer that is no end
 abbrev pub Stops : told.Answer → Type 0
@@ -33,10 +30,6 @@ pub within_later : (k n : ℕ) (a : told.Answer) → k ≤ n → IsWithin (n - k
 within_later k n (End turns) le h = omega (arith, le, h)
 within_later k n (Fault fault turn) le h = omega (arith, le, h)
 within_later k n More le h = tt
-
-pub append_none : (path : Path) → path ++ [] ≡ path
-append_none [] = refl
-append_none (c ∷ path) = ap (λ p. c ∷ p) (append_none path)
 
 module _ (d : PlainDesign) (n : ℕ) where
   tells_later : (path : Path) (k : ℕ) (a : told.Answer) (o : Outcome) → Tells d path a o → Tells d path (later k a) (shifted k o)

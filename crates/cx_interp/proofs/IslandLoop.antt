@@ -15,12 +15,13 @@ use Rattle.cx_state.specs.Tables.{IsNumber}
 use Rattle.cx_state.specs.States.{PlainInstance, inputs_held, IsStateOf, StandsFor, under_path, put_path}
 use Rattle.cx_eval.specs.Evaluated.{HeldAlike}
 use Rattle.cx_frames.specs.Ran.{Ended, Faulted, Unfinished}
+use Rattle.cx_turns.specs.declared.turns.Turn.TheVariants as turns
+use Rattle.cx_turns.specs.Groups.{Driving}
+use Rattle.cx_turns.specs.Turns.{IsBusy}
+use Rattle.cx_turns.proofs.PathLemmas.{put_same}
 use Rattle.cx_interp.specs.declared.answers.Answer.TheVariants as result
-use Rattle.cx_interp.specs.declared.turns.Turn.TheVariants as turns
-use Rattle.cx_interp.specs.Doings.{Driving}
-use Rattle.cx_interp.specs.Turns.{IsBusy, AnswersIdle, Paused}
-use Rattle.cx_interp.specs.Islands.{CycleTaken, sampled_does}
-use Rattle.cx_interp.proofs.PathLemmas.{put_same}
+use Rattle.cx_interp.specs.Pauses.{AnswersIdle, Paused}
+use Rattle.cx_interp.specs.IslandCycles.{CycleTaken, sampled_does}
 
 pub twice_later : {S F : Type 0} (k m : ℕ) (x : Answer S F) → after_turns k (after_turns m x) ≡ after_turns (k + m) x
 twice_later k m (End s t) = ap (λ j. End s j) (omega arith)

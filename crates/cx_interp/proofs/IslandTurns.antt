@@ -16,15 +16,16 @@ use Rattle.cx_state.specs.Tables.{IsNumber}
 use Rattle.cx_state.specs.States.{PlainInstance, inputs_held, IsStateOf, StandsFor, under_path, put_path}
 use Rattle.cx_eval.specs.Evaluated.{Cycled, EndsAs, fault_along}
 use Rattle.cx_frames.specs.Rests.{IsUndriven, IsSettledAt}
-use Rattle.cx_interp.specs.declared.turns.Turn.TheVariants as turns
-use Rattle.cx_interp.specs.Doings.{Driving}
-use Rattle.cx_interp.specs.Turns.{IsBusy, TellsTurn, cycle_as}
-use Rattle.cx_interp.proofs.PathLemmas.{under_put, put_put, settled_under}
-use Rattle.cx_interp.proofs.IslandLemmas.{entries_are}
-use Rattle.cx_interp.proofs.TestLemmas.{tells_own}
-use Rattle.cx_interp.proofs.TurnLemmas.{still_busy, rest_settled}
-use Rattle.cx_interp.specs.Islands.{CycleTaken, HasPart, SamplesTaken}
-use Rattle.cx_interp.specs.Rooms.{HasActive}
+use Rattle.cx_turns.specs.declared.turns.Turn.TheVariants as turns
+use Rattle.cx_turns.specs.Groups.{Driving}
+use Rattle.cx_turns.specs.Turns.{IsBusy, TellsTurn, cycle_as}
+use Rattle.cx_turns.proofs.PathLemmas.{under_put, put_put, settled_under}
+use Rattle.cx_turns.proofs.IslandLemmas.{entries_are}
+use Rattle.cx_turns.proofs.TestLemmas.{tells_own}
+use Rattle.cx_turns.proofs.TurnLemmas.{still_busy, rest_settled}
+use Rattle.cx_turns.specs.Islands.{HasPart, SamplesTaken}
+use Rattle.cx_turns.specs.Rooms.{HasActive}
+use Rattle.cx_interp.specs.IslandCycles.{CycleTaken}
 
 module _ (d : PlainDesign) (n t : ℕ) (form : PlainForm) (driving : Driving) (kept next : Samples) (part : PlainComponent) (look : Look) (rows : List PlainInstance)
     (is_part : (path : Path) → IsNumber d n path → part ≡ part_of (instance_at (tree_of d) path))

@@ -1,26 +1,28 @@
 -- The turns of a group, one after the other, and the idle edges behind them.
-use Rattle.std.proofs.Common.{◌≡◌, ℕ, zero, suc, ◌+◌, ◌-◌, ◌≤◌, ◌<◌, Bool, true, false, List, [], ◌∷◌, ◌++◌, refl, sym, ap, ◌∙◌, subst, arith, if◌then◌else◌}
+use Rattle.std.proofs.Common.{◌≡◌, ℕ, suc, ◌+◌, ◌-◌, ◌≤◌, ◌<◌, Bool, true, false, List, [], ◌∷◌, refl, sym, ap, ◌∙◌, subst, arith, if◌then◌else◌}
 use Rattle.std.proofs.Math.Path.{fun_ext}
-use Rattle.cx_prim.specs.CellStates.{CellState}
 use Rattle.cx_meaning.specs.Designs.{PlainDesign}
-use Rattle.cx_meaning.specs.Instances.{Instance, Node, Path, State, Set, part_of, idle, idle_at, instance_at, tree_of, IsSettled}
+use Rattle.cx_meaning.specs.Instances.{Instance, Path, State, Set, idle, idle_at, instance_at, tree_of, IsSettled}
 use Rattle.cx_meaning.specs.Cycles.{Fault}
 use Rattle.cx_meaning.specs.Sights.{Held}
-use Rattle.cx_meaning.specs.Answers.{Answer, End, More, after_turns, turn_then, turns_of}
+use Rattle.cx_meaning.specs.Answers.{Answer, End, More, after_turns, turn_then}
 use Rattle.cx_meaning.specs.Answers as answers
 use Rattle.cx_meaning.specs.Calls.{group_turn}
 use Rattle.cx_design.specs.declared.actives.PortFault.{PortFault}
 use Rattle.cx_state.specs.Tables.{IsNumber}
 use Rattle.cx_state.specs.States.{PlainInstance, inputs_held, IsStateOf, StandsFor, under_path, put_path}
 use Rattle.cx_eval.specs.Evaluated.{HeldAlike}
-use Rattle.cx_frames.specs.Ran.{Outcome, Ended, Faulted, Unfinished, AnswersAs, Ran}
+use Rattle.cx_frames.specs.Ran.{Outcome, Ended, Faulted, Unfinished, AnswersAs}
+use Rattle.cx_turns.specs.declared.turns.Turn.TheVariants as turns
+use Rattle.cx_turns.specs.Groups.{Driving, group_driving}
+use Rattle.cx_turns.specs.Turns.{IsBusy, rested, Taken, Rested}
+use Rattle.cx_turns.proofs.PathLemmas.{under_put, put_put, put_same, settled_under}
+use Rattle.cx_turns.proofs.RestLemmas.{top_idle}
 use Rattle.cx_interp.specs.declared.answers.Answer as told
 use Rattle.cx_interp.specs.declared.answers.Answer.TheVariants as result
-use Rattle.cx_interp.specs.declared.turns.Turn.TheVariants as turns
-use Rattle.cx_interp.specs.Doings.{Doing, Driving, group_driving, turns_do}
-use Rattle.cx_interp.specs.Done.{Done, Leaves}
-use Rattle.cx_interp.specs.Turns.{IsBusy, rested, Taken, AnswersIdle, Pauses, Paused, Rested}
-use Rattle.cx_interp.proofs.PathLemmas.{under_put, put_put, put_same, settled_under}
+use Rattle.cx_interp.specs.Doings.{Doing, turns_do}
+use Rattle.cx_interp.specs.Done.{Done}
+use Rattle.cx_interp.specs.Pauses.{AnswersIdle, Paused}
 use Rattle.cx_interp.proofs.IslandLoop.{twice_later, none_later}
 
 -- the state after so many turns that went on, and what comes of the rest
@@ -137,10 +139,6 @@ module _ (d : PlainDesign) (n g : ℕ) where
     within = tt;
     fits = fits;
   }
-
--- THE IDLE EDGES of the driven cells are those of an idle turn
-pub top_idle : (i : Instance) (d : CellState) → idle_at i [] d ≡ d
-top_idle (Node part cells) d = refl
 
 rested_idle : (i : Instance) (listed driven : Set) (s now : State) → ((c : ℕ) → listed c ≡ false → driven c ≡ false) → IsSettled i s → IsBusy driven s now → (p : Path) → rested listed i now p ≡ idle i now p
 rested_idle i listed driven s now lists settled busy [] = sym (top_idle i (now []))

@@ -1,27 +1,26 @@
 -- The arms of a par, one after the other on the one state.
-use Rattle.std.proofs.Common.{◌≡◌, ℕ, zero, suc, ◌+◌, ◌≤◌, ◌<◌, max, Bool, true, false, ◌||◌, List, [], ◌∷◌, ◌++◌, length, get_or, take, map, Option, Some, None, inl, inr, refl, sym, ap, ◌∙◌, subst, arith}
+use Rattle.std.proofs.Common.{◌≡◌, ℕ, zero, suc, ◌+◌, ◌≤◌, ◌<◌, List, [], ◌∷◌, length, get_or, take, map, Some, inl, inr, refl, sym, ap, ◌∙◌, subst, arith}
 use Rattle.std.specs.List.{slice_get}
-use Rattle.std.proofs.Math.Path.{fun_ext}
 use Rattle.cx_text.specs.declared.places.Place.{Place}
-use Rattle.cx_meaning.specs.Designs.{PlainDesign, PlainForm, Par, PlainStatement, Placed, statements_of}
-use Rattle.cx_meaning.specs.Instances.{Instance, Node, Path, State, part_of, instance_at, tree_of, IsSettled}
+use Rattle.cx_meaning.specs.Designs.{PlainDesign, Par, PlainStatement, Placed, statements_of}
+use Rattle.cx_meaning.specs.Instances.{Instance, Node, Path, State, part_of, instance_at, tree_of}
 use Rattle.cx_meaning.specs.Sights.{Held, In}
-use Rattle.cx_meaning.specs.Cycles as cycles
-use Rattle.cx_meaning.specs.Control.{drives, groups_of}
+use Rattle.cx_meaning.specs.Control.{drives}
 use Rattle.cx_meaning.specs.Running.{run_statement}
-use Rattle.cx_rules.specs.Items.{Visited, Dynamic, visit, visit_all, statements_in}
+use Rattle.cx_rules.specs.Items.{Visited, Dynamic, statements_in}
 use Rattle.cx_design.specs.declared.statements.Statement.{Statement}
 use Rattle.cx_design.specs.PlainForms.{plain_statement, plain_statements}
 use Rattle.cx_state.specs.Tables.{IsNumber}
 use Rattle.cx_state.specs.States.{PlainInstance, inputs_held, IsStateOf, StandsFor, under_path, put_path}
-use Rattle.cx_frames.specs.Ran.{Outcome, Ended, Faulted, Unfinished, Ran, limit, joined}
+use Rattle.cx_frames.specs.Ran.{Outcome, Ran, limit, joined}
 use Rattle.cx_frames.specs.Arms.{all_drive, arms_run}
+use Rattle.cx_turns.specs.Groups.{Driving}
+use Rattle.cx_turns.specs.Machines.{StandIn, FormStands}
+use Rattle.cx_turns.proofs.PathLemmas.{under_put, put_put}
 use Rattle.cx_interp.specs.declared.answers.Answer.{Answer}
 use Rattle.cx_interp.specs.declared.answers.Answer.TheVariants.{End, Fault, More}
-use Rattle.cx_interp.specs.Doings.{Doing, Driving, stay_does, idle_does, statement_does, statement_drives, form_does, form_drives}
-use Rattle.cx_interp.specs.Done.{Tells, IsWithin, Leaves, Done, limit_of, join}
-use Rattle.cx_interp.specs.Machines.{StandIn, FormStands}
-use Rattle.cx_interp.proofs.PathLemmas.{under_put, put_put}
+use Rattle.cx_interp.specs.Doings.{Doing, stay_does, idle_does, statement_does, statement_drives, form_does, form_drives}
+use Rattle.cx_interp.specs.Done.{Tells, IsWithin, Done, limit_of, join}
 use Rattle.cx_interp.proofs.RanLemmas.{ran_same}
 use Rattle.cx_interp.proofs.DoneLemmas.{done_same, done_stay, held_same, held_then, settled_after}
 
@@ -152,12 +151,6 @@ arm_is arms k x lt is = at arms k x lt ∙ ap (λ s. Some (plain_statement s)) (
     at [] k x lt = absurd (omega arith)
     at (s ∷ ss) zero x lt = refl
     at (s ∷ ss) (suc k) x lt = at ss k x (let h : suc k < suc (length ss) = lt in omega arith)
-
-pub take_all : {A : Type 0} (xs : List A) (k : ℕ) → length xs ≤ k → take k xs ≡ xs
-take_all [] zero le = refl
-take_all [] (suc k) le = refl
-take_all (x ∷ xs) zero le = absurd (let h : suc (length xs) ≤ 0 = le in omega (arith, h))
-take_all (x ∷ xs) (suc k) le = ap (λ ys. x ∷ ys) (take_all xs k (let h : suc (length xs) ≤ suc k = le in omega (arith, h)))
 
 pub map_length : (arms : List Statement) → length (map plain_statement arms) ≡ length arms
 map_length [] = refl

@@ -1,9 +1,8 @@
 -- The run of main, from what a run in its instance has done.
-use Rattle.std.proofs.Common.{◌≡◌, ℕ, zero, suc, ◌<◌, List, [], ◌∷◌, length, Some, refl, sym, ap, ◌∙◌, subst, arith}
+use Rattle.std.proofs.Common.{◌≡◌, ℕ, List, [], refl, sym, ap, ◌∙◌, subst}
 use Rattle.std.proofs.Math.Path.{fun_ext}
-use Rattle.std.specs.List.{slice_get}
 use Rattle.cx_meaning.specs.Designs.{PlainDesign, PlainStatement}
-use Rattle.cx_meaning.specs.Instances.{Instance, Node, Path, State, start, instance_at, part_of, paths_of, tree_of, IsSettled}
+use Rattle.cx_meaning.specs.Instances.{Instance, State, start, instance_at, tree_of, IsSettled}
 use Rattle.cx_meaning.specs.Sights.{Held, unheld}
 use Rattle.cx_meaning.specs.Cycles as cycles
 use Rattle.cx_meaning.specs.Answers as answers
@@ -12,19 +11,14 @@ use Rattle.cx_state.specs.Tables.{IsNumber}
 use Rattle.cx_state.proofs.TreeLemmas.{instance_self}
 use Rattle.cx_state.specs.States.{PlainInstance, inputs_held, StandsFor, IsUnheld}
 use Rattle.cx_frames.specs.Ran.{Outcome, Ended, Faulted, Unfinished, AnswersAs}
+use Rattle.cx_turns.specs.Children.{HasControl}
+use Rattle.cx_turns.proofs.ChildLemmas.{main_first}
 use Rattle.cx_interp.specs.declared.answers.Answer as told
 use Rattle.cx_interp.specs.declared.answers.Answer.TheVariants.{End, Fault, More}
-use Rattle.cx_interp.specs.Callees.{HasControl}
 use Rattle.cx_interp.specs.Doings.{statement_does, statement_drives}
 use Rattle.cx_interp.specs.Done.{Tells, Done}
 use Rattle.cx_interp.specs.Runs.{Answered}
 use Rattle.cx_interp.proofs.CallLemmas.{run_is}
-
-pub main_first : (i : Instance) → slice_get (paths_of i) 0 ≡ Some []
-main_first (Node part cells) = refl
-
-pub main_there : (i : Instance) → 0 < length (paths_of i)
-main_there (Node part cells) = omega arith
 
 combined : (d : PlainDesign) (rows : List PlainInstance) (a : told.Answer) (after : State) (x : answers.Answer State cycles.Fault) (o : Outcome) → Tells d [] a o → AnswersAs after x o → StandsFor (tree_of d) rows after → Answered d rows a x
 combined d rows (End turns) after (answers.End s t) o e (f, same) stands =

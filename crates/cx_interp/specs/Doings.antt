@@ -1,21 +1,20 @@
 -- What parts of control mean in an instance, with its inputs held.
-use Rattle.std.specs.Prelude.{ℕ}
+use Rattle.std.specs.Prelude.{ℕ, Option}
 use Rattle.cx_meaning.specs.Designs.{PlainForm, PlainStatement, PlainStatements}
-use Rattle.cx_meaning.specs.Instances.{Instance, State, Set, cells_of, part_of, idle}
+use Rattle.cx_meaning.specs.Instances.{Instance, State, cells_of, part_of, idle}
 use Rattle.cx_meaning.specs.Sights.{Held}
 use Rattle.cx_meaning.specs.Cycles.{Fault}
-use Rattle.cx_meaning.specs.Answers.{Meaning, then_do, stay, idle_turn, turns_of}
-use Rattle.cx_meaning.specs.Control.{Leaves, run, run_form, run_parts, run_arms, drives, groups_drive, groups_in, groups_in_all, group_drives}
-use Rattle.cx_meaning.specs.Calls.{group_turn, call, enable}
+use Rattle.cx_meaning.specs.Answers.{Meaning, then_do, stay, idle_turn, turns_of, test_turn, loop_of}
+use Rattle.cx_meaning.specs.Control.{Leaves, run, run_form, run_parts, drives, groups_drive, groups_in, groups_in_all}
+use Rattle.cx_meaning.specs.Calls.{group_turn, call, enable, test}
 use Rattle.cx_meaning.specs.Islands.{island}
 use Rattle.cx_meaning.specs.Running.{leaves, control_below}
+use Rattle.cx_turns.specs.Groups.{Driving}
+use Rattle.cx_meaning.specs.declared.ports.PortRef.{PortRef}
 
 -- what a part of control means in an instance with its inputs held, and the cells of an instance that it may change
 abbrev pub Doing : Type 0
 Doing = Instance → Held → Meaning State Fault
-
-abbrev pub Driving : Type 0
-Driving = Instance → Set
 
 -- the leaves of control in an instance of the tree
 abbrev pub leaves_in : Instance → Held → Leaves State Fault
@@ -63,5 +62,10 @@ call_does g c i held s n = call i (control_below (cells_of i)) held g c s n
 abbrev pub island_does : PlainForm → Doing
 island_does form i held s n = island i held form s n
 
-abbrev pub group_driving : ℕ → Driving
-group_driving g i = group_drives (part_of i) g
+-- a test, and then one of two
+abbrev pub test_does : PortRef → Option ℕ → Doing → Doing → Doing
+test_does port comb first second i held s n = test_turn (idle i) (test i held port comb) (first i held) (second i held) s n
+
+-- a loop with a test
+abbrev pub loop_does : PortRef → Option ℕ → Doing → Doing
+loop_does port comb body i held s n = loop_of (idle i) (test i held port comb) (body i held) s n

@@ -8,9 +8,10 @@ use Rattle.cx_state.specs.Tables.{IsNumber}
 use Rattle.cx_state.specs.States.{PlainInstance, inputs_held, IsStateOf, StandsFor, under_path, put_path}
 use Rattle.cx_eval.specs.Evaluated.{fault_along}
 use Rattle.cx_frames.specs.Ran.{Outcome, Ended, Faulted, Unfinished, Ran}
+use Rattle.cx_turns.specs.Groups.{Driving}
 use Rattle.cx_interp.specs.declared.answers.Answer.{Answer}
 use Rattle.cx_interp.specs.declared.answers.Answer.TheVariants.{End, Fault, More}
-use Rattle.cx_interp.specs.Doings.{Doing, Driving}
+use Rattle.cx_interp.specs.Doings.{Doing}
 
 -- what an answer tells of the outcome of a run in the instance at a path
 abbrev pub Tells : PlainDesign → Path → Answer → Outcome → Type 0

@@ -1,12 +1,6 @@
 pub mod Doings
 pub mod Done
-pub mod Tests
-pub mod Groups
-pub mod Machines
-pub mod Turns
-pub mod Rests
+pub mod Pauses
 pub mod Callees
 pub mod Runs
-pub mod Sights
-pub mod Rooms
-pub mod Islands
+pub mod IslandCycles

@@ -3,7 +3,8 @@
 ghost use Rattle.std.specs.Prelude.{◌≡◌, ◌-◌, ◌^◌, List, ℕ};
 ghost use Rattle.cx_meaning.specs.Designs.{PlainDesign};
 ghost use Rattle.cx_state.specs.States.{PlainInstance, IsStateOf};
-ghost use Rattle.cx_interp.specs.Doings.{Driving, idle_does};
+ghost use Rattle.cx_turns.specs.Groups.{Driving};
+ghost use Rattle.cx_interp.specs.Doings.{idle_does};
 ghost use Rattle.cx_interp.specs.Done as plain;
 ghost use Rattle.cx_interp.specs.Done.{Done, IsWithin, later, limit_of};
 

@@ -2,22 +2,22 @@
 
 ghost use Rattle.std.specs.Prelude.{◌≡◌, ℕ, List, Some};
 ghost use Rattle.cx_state.specs.States.{PlainInstance};
+ghost use Rattle.cx_turns.specs.Groups.{IsGroupOf, IsGroupRow, group_driving};
+ghost use Rattle.cx_turns.specs.Machines.{design_of, rows_of, IsPlan, IsAt, IsInstance};
 ghost use Rattle.cx_interp.specs.Callees as callees;
 ghost use Rattle.cx_interp.specs.Callees.{after_does, capture_does};
-ghost use Rattle.cx_interp.specs.Doings.{Doing, group_driving, then_does};
+ghost use Rattle.cx_interp.specs.Doings.{Doing, then_does};
 ghost use Rattle.cx_interp.specs.Done.{Done, IsWithin};
-ghost use Rattle.cx_interp.specs.Groups.{IsGroupOf, IsGroupRow};
-ghost use Rattle.cx_interp.specs.Machines.{design_of, rows_of, IsPlan, IsAt, IsInstance};
-ghost use Rattle.cx_interp.specs.Turns.{Paused};
+ghost use Rattle.cx_interp.specs.Pauses.{Paused};
 
 use crate::answers::{Answer, idle_turn, later};
-use crate::machine::Machine;
-use crate::plan::Plan;
-use crate::rest::rest;
 use cx_design::Active;
 use cx_frames::apart_laws::listed_cells_suffice;
-use cx_interp_plan::GroupRow;
 use cx_meaning::laws::{designs_keep_idle, idle_settles};
+use cx_turns::GroupRow;
+use cx_turns::machine::Machine;
+use cx_turns::plan::Plan;
+use cx_turns::rest::rest;
 
 /// The answer of a turn that goes on, with an idle turn behind it.
 fn two_turns(budget: u64) -> Answer

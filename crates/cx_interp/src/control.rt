@@ -3,22 +3,22 @@
 ghost use Rattle.std.specs.Prelude.{◌≡◌, Some, None};
 ghost use Rattle.cx_meaning.specs.Designs as plain;
 ghost use Rattle.cx_design.specs.PlainForms.{plain_form, plain_statement, plain_statements};
+ghost use Rattle.cx_turns.specs.Groups.{HasLength, IsGroupOf, IsGroupRow};
+ghost use Rattle.cx_turns.specs.Machines.{design_of, rows_of, IsPlan, IsAt, IsInstance, FormStands, StandsIn, StandIn};
 ghost use Rattle.cx_interp.specs.Doings.{form_does, form_drives, statement_does, statement_drives};
 ghost use Rattle.cx_interp.specs.Done.{Done};
-ghost use Rattle.cx_interp.specs.Groups.{HasLength, IsGroupOf, IsGroupRow};
-ghost use Rattle.cx_interp.specs.Machines.{design_of, rows_of, IsPlan, IsAt, IsInstance, FormStands, StandsIn, StandIn};
 
 use crate::answers::{Answer, idle_turn, join, later, limit};
-use crate::calls::{group_length, group_row};
 use crate::captures::end_call;
-use crate::children::{child_number, control_of, hold_inputs};
 use crate::groups::run_group;
 use crate::islands::run_island;
-use crate::machine::{Machine, test};
-use crate::plan::Plan;
 use cx_design::{Form, PlacedPort, Statement};
 use cx_frames::arm_laws::{next_arm, own_inputs_suffice, whole_par};
-use cx_interp_plan::GroupRow;
+use cx_turns::GroupRow;
+use cx_turns::calls::{group_length, group_row};
+use cx_turns::children::{child_number, control_of, hold_inputs};
+use cx_turns::machine::{Machine, test};
+use cx_turns::plan::Plan;
 
 /// Runs a statement in an instance.
 #[cycle(control)]

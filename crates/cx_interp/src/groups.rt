@@ -2,18 +2,18 @@
 
 ghost use Rattle.std.specs.Prelude.{◌≡◌};
 ghost use Rattle.cx_eval_cycle.specs.Passes.{IsAscending};
-ghost use Rattle.cx_interp.specs.Doings.{group_driving, turns_do};
+ghost use Rattle.cx_turns.specs.Groups.{IsGroupOf, ListGroup, ListWithin, group_driving};
+ghost use Rattle.cx_turns.specs.Machines.{design_of, rows_of, IsPlan, IsAt, IsInstance};
+ghost use Rattle.cx_interp.specs.Doings.{turns_do};
 ghost use Rattle.cx_interp.specs.Done.{Done};
-ghost use Rattle.cx_interp.specs.Groups.{IsGroupOf, ListGroup, ListWithin};
-ghost use Rattle.cx_interp.specs.Machines.{design_of, rows_of, IsPlan, IsAt, IsInstance};
-ghost use Rattle.cx_interp.specs.Turns.{Paused};
+ghost use Rattle.cx_interp.specs.Pauses.{Paused};
 
 use crate::answers::Answer;
-use crate::machine::Machine;
-use crate::plan::Plan;
-use crate::rest::rest;
-use crate::turns::{Turn, take_turn};
 use cx_meaning::laws::{designs_keep_idle, idle_settles};
+use cx_turns::machine::Machine;
+use cx_turns::plan::Plan;
+use cx_turns::rest::rest;
+use cx_turns::turns::{Turn, take_turn};
 
 /// Takes the turns of a group, of which the listed cells are driven, until its done hole is 1. The idle edges that end them
 /// are left to do.

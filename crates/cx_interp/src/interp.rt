@@ -1,30 +1,28 @@
 //! The run of a design.
 
-ghost use Rattle.std.specs.Prelude.{◌≡◌, ℕ, List, IfOk};
+ghost use Rattle.std.specs.Prelude.{◌≡◌, ℕ, List};
 ghost use Rattle.cx_meaning.specs.Instances.{start, tree_of};
 ghost use Rattle.cx_meaning.specs.Running as running;
 ghost use Rattle.cx_text.specs.Loading.{plain_loaded, FitsRows};
 ghost use Rattle.cx_rules.specs.Externals.{external_rows};
 ghost use Rattle.cx_design.specs.declared.designs.Design.{Design as DesignValue};
 ghost use Rattle.cx_design.specs.PlainDesigns.{plain_design};
-ghost use Rattle.cx_state.specs.States.{words_in, IsUnheld, StandsFor};
-ghost use Rattle.cx_interp.specs.Machines.{design_of, rows_of, IsPlan, IsAt};
+ghost use Rattle.cx_state.specs.States.{IsUnheld, StandsFor};
+ghost use Rattle.cx_turns.specs.Machines.{design_of, rows_of, IsPlan, IsAt};
+ghost use Rattle.cx_turns.specs.Starts.{IsReady};
 ghost use Rattle.cx_interp.specs.Done.{IsWithin};
-ghost use Rattle.cx_interp.specs.Runs.{Answered, GetsWords, HasRun, IsReady};
+ghost use Rattle.cx_interp.specs.Runs.{Answered, GetsWords, HasRun};
 
 use crate::answers::Answer;
-use crate::children::control_of;
 use crate::control::run_statement;
-use crate::machine::Machine;
-use crate::plan::Plan;
-use crate::rooms::Room;
-use crate::sights::Sight;
-use cx_design::{Checked, Design};
-use cx_eval::Evaluator;
+use cx_design::Design;
 use cx_laws::laws::loaded_start_is_settled;
 use cx_state::{State, external_words};
-use cx_text::{Loaded, Memory};
-use std::alloc::Global;
+use cx_text::Loaded;
+use cx_turns::Begun;
+use cx_turns::children::control_of;
+use cx_turns::machine::Machine;
+use cx_turns::plan::Plan;
 
 /// Runs main from its start.
 fn run_main(plan: &Plan<'_>, machine: &mut Machine<'_>, budget: u64) -> Answer
@@ -41,13 +39,6 @@ fn run_main(plan: &Plan<'_>, machine: &mut Machine<'_>, budget: u64) -> Answer
     run_statement(plan, machine, 0, control, budget)
 }
 
-/// An accepted design at its start, ready to run.
-#[derive(Drop)]
-pub struct Interp<'a> {
-    pub plan: Plan<'a>,
-    pub machine: Machine<'a>,
-}
-
 /// What the run of a design has come to.
 #[derive(Drop)]
 pub struct Ran<'a> {
@@ -56,38 +47,17 @@ pub struct Ran<'a> {
     pub(crate) state: State,
 }
 
-impl<'a> Interp<'a> {
-    /// A design with the words of its external memories.
-    pub fn new(alloc: Global, design: &'a Checked, loaded: &Loaded) -> Result<Interp<'a>, Memory>
-        requires fits { FitsRows (external_rows (plain_design design.now)) (plain_loaded loaded.now) }
-        ensures ready { IfOk result (λ interp. IsReady design.now (words_in loaded.now.memories.items) interp) }
-    {
-        let plan = Plan::new(alloc, design)?;
-        let evaluator = Evaluator::new(alloc, design)?;
-        let state = State::start(alloc, design, loaded)?;
-        let room = Room::new(alloc, plan.design)?;
-        let sight = Sight {
-            evaluator,
-            state,
-            instance: 0,
-            unclear: None,
-        };
-        let machine = Machine { sight, room };
-        Ok(Interp { plan, machine })
-    }
-
-    /// Runs main within a budget of turns. It takes no memory.
-    pub fn run(self, budget: u64) -> Ran<'a>
-        requires ready { (design : DesignValue) × (words : List (List ℕ)) × IsReady design words self }
-        ensures run { (design : DesignValue) (words : List (List ℕ)) → IsReady design words self.entry → HasRun design words budget result }
-    {
-        let Interp { plan, mut machine } = self;
-        let answer = run_main(&plan, &mut machine, budget);
-        Ran {
-            design: plan.design,
-            answer,
-            state: machine.sight.state,
-        }
+/// Runs main within a budget of turns. It takes no memory.
+pub fn run<'a>(begun: Begun<'a>, budget: u64) -> Ran<'a>
+    requires ready { (design : DesignValue) × (words : List (List ℕ)) × IsReady design words begun }
+    ensures run { (design : DesignValue) (words : List (List ℕ)) → IsReady design words begun.entry → HasRun design words budget result }
+{
+    let Begun { plan, mut machine } = begun;
+    let answer = run_main(&plan, &mut machine, budget);
+    Ran {
+        design: plan.design,
+        answer,
+        state: machine.sight.state,
     }
 }
 

@@ -4,20 +4,15 @@ ghost use Rattle.std.specs.Prelude.{◌≡◌, ◌<◌, ◌-◌, ◌^◌};
 ghost use Rattle.cx_meaning.specs.Islands as islands;
 ghost use Rattle.cx_design.specs.PlainForms.{plain_component, plain_form};
 ghost use Rattle.cx_interp_islands.specs.Sampled.{AreSampled};
+ghost use Rattle.cx_turns.specs.Islands.{HasPart, IsIsland, SampledBefore, SamplesTaken};
+ghost use Rattle.cx_turns.specs.Machines.{design_of, rows_of, IsPlan, IsAt, IsInstance, FormStands};
+ghost use Rattle.cx_turns.specs.Turns.{cycle_as};
 ghost use Rattle.cx_interp.specs.Doings.{form_does, form_drives};
 ghost use Rattle.cx_interp.specs.Done.{Done};
-ghost use Rattle.cx_interp.specs.Islands.{CycleTaken, HasPart, IsIsland, SampledBefore, SamplesTaken, TellsUnclear, sampled_does, samples_in};
-ghost use Rattle.cx_interp.specs.Machines.{design_of, rows_of, IsPlan, IsAt, IsInstance, FormStands};
-ghost use Rattle.cx_interp.specs.Sights.{unclear_fault};
-ghost use Rattle.cx_interp.specs.Turns.{Paused, cycle_as};
+ghost use Rattle.cx_interp.specs.IslandCycles.{CycleTaken, sampled_does, samples_in};
+ghost use Rattle.cx_interp.specs.Pauses.{Paused};
 
 use crate::answers::Answer;
-use crate::calls::instance_part;
-use crate::machine::{Machine, port_fault};
-use crate::plan::Plan;
-use crate::rest::rest_all;
-use crate::rooms::activate;
-use crate::sights::Unclear;
 use cx_design::{Component, Form, PortFault};
 use cx_frames::apart_laws::{active_groups_within, listed_cells_suffice};
 use cx_interp_islands::{
@@ -31,17 +26,11 @@ use cx_laws::laws::{
 use cx_limits::form_length;
 use cx_meaning::laws::{designs_keep_idle, idle_settles};
 use cx_state::alike_laws::{rows_stand, states_are_seen_alike};
-
-/// The fault of a port of an instance that was found unclear.
-pub fn fault_in(instance: usize, unclear: Option<Unclear>) -> Option<PortFault>
-    requires { instance < 2 ^ 32 }
-    ensures { TellsUnclear instance result (unclear_fault unclear) }
-{
-    match unclear {
-        Some(unclear) => Some(port_fault(unclear.kind, instance, unclear.port)),
-        None => None,
-    }
-}
+use cx_turns::calls::instance_part;
+use cx_turns::machine::{Machine, fault_in};
+use cx_turns::plan::Plan;
+use cx_turns::rest::rest_all;
+use cx_turns::rooms::activate;
 
 /// Sees the ports of the static ifs that begin in a cycle of an island: the fault of the first that is no value.
 fn sample(

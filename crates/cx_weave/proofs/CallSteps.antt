@@ -8,11 +8,11 @@ use Rattle.cx_design.specs.PlainActives.{TellsFault}
 use Rattle.cx_state.specs.Tables.{IsNumber}
 use Rattle.cx_state.specs.States.{PlainInstance, StandsFor, inputs_held, under_path}
 use Rattle.cx_state.proofs.ChangeLemmas.{one_number}
-use Rattle.cx_interp.specs.Callees.{HasChild, IsPart}
-use Rattle.cx_interp.specs.Machines.{IsInstance}
-use Rattle.cx_interp.proofs.CallLemmas.{append_one, under_child, put_child, child_after, called_is}
-use Rattle.cx_interp.proofs.Measures.{instance_child}
-use Rattle.cx_interp.proofs.RestLemmas.{got}
+use Rattle.cx_turns.specs.Children.{HasChild, IsPart}
+use Rattle.cx_turns.specs.Machines.{IsInstance}
+use Rattle.cx_turns.proofs.ChildLemmas.{append_one, under_child, put_child, child_after, called_is}
+use Rattle.cx_turns.proofs.Measures.{instance_child}
+use Rattle.cx_turns.proofs.RestLemmas.{got}
 use Rattle.cx_weave.specs.declared.strands.Strand.{Strand}
 use Rattle.cx_weave.specs.Calls.{HoldsAs}
 use Rattle.cx_orders.specs.Open.{Open}

@@ -13,10 +13,10 @@ use Rattle.cx_design.specs.declared.components.Component.{Component}
 use Rattle.cx_design.specs.PlainForms.{plain_cell, plain_component, plain_kind}
 use Rattle.cx_state.specs.declared.tables.InstanceRow.{InstanceRow}
 use Rattle.cx_state.specs.Tables.{IsNumber, IsTable, row_at}
-use Rattle.cx_interp.specs.Callees.{IsPart}
-use Rattle.cx_interp.specs.Islands.{HasPart}
-use Rattle.cx_interp.proofs.HoldLemmas.{own_part}
-use Rattle.cx_interp.proofs.StandLemmas.{below_length}
+use Rattle.cx_turns.specs.Children.{IsPart}
+use Rattle.cx_turns.specs.Islands.{HasPart}
+use Rattle.cx_turns.proofs.HoldLemmas.{own_part}
+use Rattle.cx_turns.proofs.StandLemmas.{below_length}
 
 abbrev at_of : (ℕ → Instance) → PlainKind → At
 at_of trees (OfPrimitive p) = OfRow (row_of p)

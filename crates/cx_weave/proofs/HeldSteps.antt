@@ -15,8 +15,8 @@ use Rattle.cx_meaning.specs.Calls.{inputs_of_call}
 use Rattle.cx_rules.specs.Ports.{declared_width}
 use Rattle.cx_state.specs.Tables.{IsNumber}
 use Rattle.cx_state.specs.States.{PlainInstance, instance_state, inputs_held, with_held, IsStateOf, StandsFor, under_path}
-use Rattle.cx_interp.specs.Callees.{HasChild, HoldsCall, IsPart}
-use Rattle.cx_interp.proofs.HoldLemmas.{held_stands, held_here, held_others}
+use Rattle.cx_turns.specs.Children.{HasChild, HoldsCall, IsPart}
+use Rattle.cx_turns.proofs.HoldLemmas.{held_stands, held_here, held_others}
 use Rattle.cx_weave.specs.Calls.{HoldsList, HoldsAs}
 use Rattle.cx_orders.specs.Steps.{first_inputs, held_as}
 use Rattle.cx_weave.specs.Strands.{InputsFit}

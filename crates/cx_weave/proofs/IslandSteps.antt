@@ -23,11 +23,11 @@ use Rattle.cx_eval_cycle.specs.Passes.{listed_in}
 use Rattle.cx_frames.proofs.IslandFrames.{active_same, looked_same}
 use Rattle.cx_interp_islands.specs.Rooms.{samples_of}
 use Rattle.cx_interp_islands.specs.Sampled.{AreSampled}
-use Rattle.cx_interp.specs.Islands.{HasPart, SamplesTaken}
-use Rattle.cx_interp.specs.Rooms.{HasActive}
-use Rattle.cx_interp.specs.Turns.{cycle_as}
-use Rattle.cx_interp.proofs.IslandLemmas.{entries_are}
-use Rattle.cx_interp.proofs.TestLemmas.{tells_own}
+use Rattle.cx_turns.specs.Islands.{HasPart, SamplesTaken}
+use Rattle.cx_turns.specs.Rooms.{HasActive}
+use Rattle.cx_turns.specs.Turns.{cycle_as}
+use Rattle.cx_turns.proofs.IslandLemmas.{entries_are}
+use Rattle.cx_turns.proofs.TestLemmas.{tells_own}
 use Rattle.cx_weave.specs.declared.strands.Strand.{Strand}
 use Rattle.cx_orders.specs.Open.{InIsland}
 use Rattle.cx_orders.specs.Steps.{step, turned}

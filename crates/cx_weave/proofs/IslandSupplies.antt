@@ -10,8 +10,8 @@ use Rattle.cx_meaning.specs.Islands.{kind_length}
 use Rattle.cx_rules.specs.StaticControl.{is_island_form}
 use Rattle.cx_laws.specs.Samples.{form_ifs}
 use Rattle.cx_state.specs.Tables.{IsNumber}
-use Rattle.cx_interp.specs.Islands.{IsIsland}
-use Rattle.cx_interp.specs.Machines.{IsInstance, FormStands}
+use Rattle.cx_turns.specs.Islands.{IsIsland}
+use Rattle.cx_turns.specs.Machines.{IsInstance, FormStands}
 use Rattle.cx_weave.specs.declared.needs.Piece.{Piece}
 use Rattle.cx_weave.specs.declared.needs.Piece.TheVariants as pieces
 use Rattle.cx_weave.specs.declared.spares.Spares.{Spares}

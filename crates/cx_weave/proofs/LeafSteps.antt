@@ -14,10 +14,10 @@ use Rattle.cx_design.specs.declared.actives.PortFault.{PortFault}
 use Rattle.cx_state.specs.Tables.{IsNumber}
 use Rattle.cx_state.specs.States.{PlainInstance, StandsFor, inputs_held, under_path}
 use Rattle.cx_eval.specs.Evaluated.{HeldAlike}
-use Rattle.cx_interp.specs.declared.turns.Turn.{Turn}
-use Rattle.cx_interp.specs.declared.turns.Turn.TheVariants as turns
-use Rattle.cx_interp.specs.Tests.{Tested}
-use Rattle.cx_interp.proofs.PathLemmas.{put_same}
+use Rattle.cx_turns.specs.declared.turns.Turn.{Turn}
+use Rattle.cx_turns.specs.declared.turns.Turn.TheVariants as turns
+use Rattle.cx_turns.specs.Tests.{Tested}
+use Rattle.cx_turns.proofs.PathLemmas.{put_same}
 use Rattle.cx_weave.specs.declared.strands.Strand.{Strand}
 use Rattle.cx_orders.specs.Open.{Open, InGroup, Choosing, Testing, Capturing, Closing, Waiting, InLoop, open_statement}
 use Rattle.cx_orders.specs.Steps.{Now, step, turned, tested}

@@ -9,12 +9,12 @@ use Rattle.cx_rules.specs.Wellformed.{IsDesign}
 use Rattle.cx_state.specs.declared.tables.InstanceRow.{InstanceRow}
 use Rattle.cx_state.specs.Tables.{IsNumber, IsTable, row_at}
 use Rattle.cx_state.proofs.TreeLemmas.{instance_self}
-use Rattle.cx_interp.specs.declared.rooms.Room.{Room}
-use Rattle.cx_interp.specs.Rooms.{HasRoom}
-use Rattle.cx_interp.proofs.HoldLemmas.{own_part}
-use Rattle.cx_interp.proofs.RoomLemmas.{island_room}
-use Rattle.cx_interp.proofs.RunLemmas.{main_first}
-use Rattle.cx_interp.proofs.StandLemmas.{below_length}
+use Rattle.cx_turns.specs.declared.rooms.Room.{Room}
+use Rattle.cx_turns.specs.Rooms.{HasRoom}
+use Rattle.cx_turns.proofs.HoldLemmas.{own_part}
+use Rattle.cx_turns.proofs.RoomLemmas.{island_room}
+use Rattle.cx_turns.proofs.ChildLemmas.{main_first}
+use Rattle.cx_turns.proofs.StandLemmas.{below_length}
 use Rattle.cx_weave.specs.declared.needs.Piece.{Piece}
 use Rattle.cx_weave.specs.declared.needs.Piece.TheVariants as pieces
 use Rattle.cx_weave.specs.declared.spares.IslandLists.{IslandLists}

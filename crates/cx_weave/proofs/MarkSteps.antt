@@ -17,9 +17,9 @@ use Rattle.cx_design.specs.declared.components.Component.{Component}
 use Rattle.cx_design.specs.PlainForms.{form_step, statement_step, plain_component, plain_form, plain_group, plain_statement, plain_statements}
 use Rattle.cx_state.specs.declared.tables.InstanceRow.{InstanceRow}
 use Rattle.cx_state.specs.Tables.{IsNumber, IsTable, row_at}
-use Rattle.cx_interp.specs.Islands.{HasPart}
-use Rattle.cx_interp.proofs.PathLemmas.{just_true}
-use Rattle.cx_interp.proofs.StandLemmas.{below_length, same_part}
+use Rattle.cx_turns.specs.Islands.{HasPart}
+use Rattle.cx_turns.proofs.PathLemmas.{just_true}
+use Rattle.cx_turns.proofs.StandLemmas.{below_length, same_part}
 use Rattle.cx_eval_cycle.specs.Passes.{listed_in}
 use Rattle.cx_orders.specs.Leaves.{form_drives}
 use Rattle.cx_weave.specs.Marks.{is_marked}

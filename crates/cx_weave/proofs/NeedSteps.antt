@@ -14,11 +14,10 @@ use Rattle.cx_design.specs.declared.statements.Statement.{Statement}
 use Rattle.cx_design.specs.PlainForms.{plain_statement, plain_statements}
 use Rattle.cx_state.specs.Tables.{IsNumber}
 use Rattle.cx_state.proofs.TreeLemmas.{instance_self}
-use Rattle.cx_interp.specs.Callees.{IsPart, HasChild, HasControl}
-use Rattle.cx_interp.specs.Groups.{HasLength}
-use Rattle.cx_interp.proofs.CallLemmas.{child_after}
-use Rattle.cx_interp.proofs.Measures.{instance_child}
-use Rattle.cx_interp.proofs.RunLemmas.{main_first}
+use Rattle.cx_turns.specs.Children.{IsPart, HasChild, HasControl}
+use Rattle.cx_turns.specs.Groups.{HasLength}
+use Rattle.cx_turns.proofs.ChildLemmas.{child_after, main_first}
+use Rattle.cx_turns.proofs.Measures.{instance_child}
 use Rattle.cx_weave.specs.declared.needs.Piece.{Piece}
 use Rattle.cx_weave.specs.Rows.{Covers, CoversBehind, CoversFrom}
 use Rattle.cx_weave.specs.Takes.{island_takes, call_takes, called_need, kind_need, control_need, below_need, need, needs, all_needs}

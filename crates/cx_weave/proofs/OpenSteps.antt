@@ -17,10 +17,10 @@ use Rattle.cx_rules.proofs.Finite.{in_left, in_right}
 use Rattle.cx_design.specs.declared.statements.Statement.{Statement}
 use Rattle.cx_design.specs.PlainForms.{plain_statement, plain_statements}
 use Rattle.cx_state.specs.Tables.{IsNumber}
-use Rattle.cx_interp.specs.Callees.{IsPart, HasChild, HasControl}
-use Rattle.cx_interp.specs.Groups.{HasLength, IsGroupOf}
-use Rattle.cx_interp.specs.Machines.{FormStands, StandsIn, StandIn}
-use Rattle.cx_interp.proofs.Measures.{all_steps, instance_child, steps}
+use Rattle.cx_turns.specs.Children.{IsPart, HasChild, HasControl}
+use Rattle.cx_turns.specs.Groups.{HasLength, IsGroupOf}
+use Rattle.cx_turns.specs.Machines.{FormStands, StandsIn, StandIn}
+use Rattle.cx_turns.proofs.Measures.{all_steps, instance_child, steps}
 use Rattle.cx_weave.specs.declared.strands.Strand.{Strand}
 use Rattle.cx_weave.specs.declared.strands.Arms.{Arms}
 use Rattle.cx_orders.specs.Open.{Open, InSeq, InRepeat, an_arm, beside, open_with, open_form, open_island, open_called, open_kind, open_enable, open_control, open_below, open_statement, open_statements}

@@ -7,8 +7,8 @@ use Rattle.cx_meaning.specs.Instances.{Instance, Path, instance_at, tree_of}
 use Rattle.cx_design.specs.declared.statements.Statement.{Statement}
 use Rattle.cx_design.specs.PlainForms.{plain_statement, plain_statements}
 use Rattle.cx_state.specs.Tables.{IsNumber}
-use Rattle.cx_interp.specs.Callees.{HasChild, HasControl, IsPart}
-use Rattle.cx_interp.specs.Groups.{HasLength}
+use Rattle.cx_turns.specs.Children.{HasChild, HasControl, IsPart}
+use Rattle.cx_turns.specs.Groups.{HasLength}
 use Rattle.cx_weave.specs.declared.needs.Piece.{Piece}
 use Rattle.cx_weave.specs.declared.needs.Piece.TheVariants as pieces
 use Rattle.cx_weave.specs.declared.spares.Spares.{Spares}

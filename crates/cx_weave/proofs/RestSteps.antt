@@ -8,12 +8,12 @@ use Rattle.cx_meaning.specs.Designs.{PlainDesign, PlainComponent}
 use Rattle.cx_meaning.specs.Instances.{Instance, Node, Cells, no_cells, a_primitive, an_instance, At, Nothing, OfRow, OfInstance, cell_at, cells_of, part_of, Path, State, Set, just, put, under, idle, idle_at, idle_below, instance_at, tree_of}
 use Rattle.cx_state.specs.Tables.{IsNumber}
 use Rattle.cx_state.specs.States.{PlainInstance, StandsFor, under_path, put_path}
-use Rattle.cx_interp.specs.Callees.{HasChild, IsPart}
-use Rattle.cx_interp.specs.Turns as turns
-use Rattle.cx_interp.specs.Turns.{Rested}
-use Rattle.cx_interp.proofs.CallLemmas.{under_child, put_child}
-use Rattle.cx_interp.proofs.PathLemmas.{under_put, put_put, just_same, just_true}
-use Rattle.cx_interp.proofs.Measures.{instance_child}
+use Rattle.cx_turns.specs.Children.{HasChild, IsPart}
+use Rattle.cx_turns.specs.Turns as turns
+use Rattle.cx_turns.specs.Turns.{Rested}
+use Rattle.cx_turns.proofs.ChildLemmas.{under_child, put_child}
+use Rattle.cx_turns.proofs.PathLemmas.{under_put, put_put, just_same, just_true}
+use Rattle.cx_turns.proofs.Measures.{instance_child}
 use Rattle.cx_weave.specs.Deep.{IsDeep, deep, with_one}
 use Rattle.cx_orders.specs.Leaves.{rested}
 use Rattle.cx_weave.specs.Strides.{HasRested}

@@ -5,8 +5,8 @@ use Rattle.cx_meaning.specs.declared.ports.PlacedPort.{PlacedPort}
 use Rattle.cx_meaning.specs.Designs.{PlainDesign, PlainStatement, PlainStatements}
 use Rattle.cx_meaning.specs.Instances.{Instance, Path, instance_at, tree_of}
 use Rattle.cx_state.specs.Tables.{IsNumber}
-use Rattle.cx_interp.specs.Callees.{HasChild}
-use Rattle.cx_interp.proofs.CallLemmas.{called_is}
+use Rattle.cx_turns.specs.Children.{HasChild}
+use Rattle.cx_turns.proofs.ChildLemmas.{called_is}
 use Rattle.cx_weave.specs.declared.needs.Piece.{Piece}
 use Rattle.cx_weave.specs.declared.needs.Piece.TheVariants as pieces
 use Rattle.cx_weave.specs.declared.spares.Spares.{Spares}

@@ -4,7 +4,7 @@ use Rattle.cx_meaning.specs.declared.sights.Seen.{Seen}
 use Rattle.cx_meaning.specs.Designs.{PlainDesign}
 use Rattle.cx_meaning.specs.Instances.{Instance, Path, instance_at, tree_of}
 use Rattle.cx_state.specs.Tables.{IsNumber}
-use Rattle.cx_interp.proofs.CallLemmas.{called_is}
+use Rattle.cx_turns.proofs.ChildLemmas.{called_is}
 use Rattle.cx_weave.specs.declared.needs.Piece.{Piece}
 use Rattle.cx_weave.specs.declared.needs.Piece.TheVariants as pieces
 use Rattle.cx_orders.specs.Open.{Open, Opens, no_arms, an_arm, beside}

@@ -21,10 +21,10 @@ use Rattle.cx_state.specs.Tables.{IsNumber}
 use Rattle.cx_state.specs.States.{PlainInstance, inputs_held, under_path}
 use Rattle.cx_eval.specs.Evaluated.{IsSeenAlone, Cycled, HasCycled, EndsAs}
 use Rattle.cx_eval_cycle.specs.Passes.{listed_in}
-use Rattle.cx_interp.specs.declared.turns.Turn.{Turn}
-use Rattle.cx_interp.specs.Groups.{ListGroup}
-use Rattle.cx_interp.specs.Turns.{HoleTurn, cycle_as}
-use Rattle.cx_interp.proofs.TestLemmas.{tells_own}
+use Rattle.cx_turns.specs.declared.turns.Turn.{Turn}
+use Rattle.cx_turns.specs.Groups.{ListGroup}
+use Rattle.cx_turns.specs.Turns.{HoleTurn, cycle_as}
+use Rattle.cx_turns.proofs.TestLemmas.{tells_own}
 use Rattle.cx_orders.specs.Leaves.{own_turn, own_capture}
 use Rattle.cx_weave.specs.Strands.{CallsCell}
 use Rattle.cx_weave.specs.Strides.{TurnTold, TakesTurn}

@@ -11,8 +11,8 @@ use Rattle.cx_design.specs.declared.actives.PortFault.{PortFault}
 use Rattle.cx_state.specs.Tables.{IsNumber}
 use Rattle.cx_state.specs.States.{PlainInstance, inputs_held, StandsFor, under_path}
 use Rattle.cx_state.proofs.TreeLemmas.{instance_self}
-use Rattle.cx_interp.specs.Callees.{HasControl}
-use Rattle.cx_interp.proofs.RunLemmas.{main_first}
+use Rattle.cx_turns.specs.Children.{HasControl}
+use Rattle.cx_turns.proofs.ChildLemmas.{main_first}
 use Rattle.cx_weave.specs.declared.strands.Strand.{Strand}
 use Rattle.cx_weave.specs.declared.weaving.Wove.TheVariants.{End, Fault, More}
 use Rattle.cx_orders.specs.Open.{Open, open_control, open_statement}

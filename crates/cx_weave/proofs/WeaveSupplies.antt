@@ -3,7 +3,7 @@ use Rattle.std.proofs.Common.{◌≡◌, ℕ, ◌≤◌, List, Option, Ok, Some,
 use Rattle.cx_meaning.specs.Designs.{PlainDesign, PlainStatement}
 use Rattle.cx_meaning.specs.Instances.{State, instance_at, tree_of}
 use Rattle.cx_state.specs.States.{PlainInstance, StandsFor, inputs_held, under_path}
-use Rattle.cx_interp.specs.Callees.{HasControl}
+use Rattle.cx_turns.specs.Children.{HasControl}
 use Rattle.cx_weave.specs.declared.needs.Piece.{Piece}
 use Rattle.cx_weave.specs.declared.spares.Spares.{Spares}
 use Rattle.cx_weave.specs.declared.strands.Strand.{Strand}

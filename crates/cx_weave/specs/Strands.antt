@@ -16,10 +16,10 @@ use Rattle.cx_eval_cycle.specs.Passes.{IsAscending, listed_in}
 use Rattle.cx_limits.specs.Capped.{capped}
 use Rattle.cx_laws.specs.Samples.{Samples, AreKept, form_ifs}
 use Rattle.cx_interp_islands.specs.Rooms.{samples_of}
-use Rattle.cx_interp.specs.Callees.{HasChild}
-use Rattle.cx_interp.specs.Groups.{IsGroupOf, ListWithin}
-use Rattle.cx_interp.specs.Islands.{IsIsland}
-use Rattle.cx_interp.specs.Machines.{FormStands, StandsIn, StandIn}
+use Rattle.cx_turns.specs.Children.{HasChild}
+use Rattle.cx_turns.specs.Groups.{IsGroupOf, ListWithin}
+use Rattle.cx_turns.specs.Islands.{IsIsland}
+use Rattle.cx_turns.specs.Machines.{FormStands, StandsIn, StandIn}
 use Rattle.cx_weave.specs.declared.strands.Strand.{Strand, Strand-F, fold-Strand}
 use Rattle.cx_weave.specs.declared.strands.Arms.{Arms, Arms-F, fold-Arms}
 use Rattle.cx_weave.specs.declared.strands.Arms.TheOpen as strands

@@ -4,7 +4,7 @@ use Rattle.cx_meaning.specs.Designs.{PlainDesign, PlainComponent, PlainForm, Pla
 use Rattle.cx_meaning.specs.Islands.{History}
 use Rattle.cx_laws.specs.Samples.{Samples}
 use Rattle.cx_design.specs.declared.actives.PortFault.{PortFault}
-use Rattle.cx_interp.specs.Turns.{cycle_as}
+use Rattle.cx_turns.specs.Turns.{cycle_as}
 use Rattle.cx_meaning.specs.Instances.{Instance, Path, State, Set, part_of, instance_at, tree_of}
 use Rattle.cx_meaning.specs.Sights.{Held}
 use Rattle.cx_meaning.specs.Cycles.{Fault}
@@ -13,8 +13,8 @@ use Rattle.cx_design.specs.PlainActives.{TellsFault}
 use Rattle.cx_state.specs.Tables.{IsNumber}
 use Rattle.cx_state.specs.States.{PlainInstance, inputs_held, StandsFor, under_path, put_path}
 use Rattle.cx_eval.specs.Evaluated.{fault_along, HeldAlike}
-use Rattle.cx_interp.specs.declared.turns.Turn.{Turn}
-use Rattle.cx_interp.specs.declared.turns.Turn.TheVariants as turns
+use Rattle.cx_turns.specs.declared.turns.Turn.{Turn}
+use Rattle.cx_turns.specs.declared.turns.Turn.TheVariants as turns
 use Rattle.cx_weave.specs.declared.strands.Strand.{Strand}
 use Rattle.cx_weave.specs.declared.strands.Arms.{Arms}
 use Rattle.cx_orders.specs.Open.{Open, Opens, no_arms, open_statement, open_statements}

@@ -4,7 +4,7 @@ use Rattle.cx_meaning.specs.Designs.{PlainDesign, PlainForm, PlainStatement, Pla
 use Rattle.cx_meaning.specs.Instances.{Instance, Path, part_of, instance_at, tree_of}
 use Rattle.cx_laws.specs.Samples.{form_ifs}
 use Rattle.cx_state.specs.Tables.{IsNumber}
-use Rattle.cx_interp.specs.Machines.{IsInstance, FormStands}
+use Rattle.cx_turns.specs.Machines.{IsInstance, FormStands}
 use Rattle.cx_weave.specs.declared.needs.Piece.{Piece}
 use Rattle.cx_weave.specs.declared.spares.Spares.{Spares}
 use Rattle.cx_orders.specs.Open.{Open, Opens}

@@ -2,9 +2,9 @@
 
 ghost use Rattle.std.specs.Prelude.{◌≡◌, ◌≢◌, ◌<◌, ◌≤◌, ◌+◌, ℕ, Option, Some, length, vec_capacity, vec_len};
 ghost use Rattle.cx_meaning.specs.Instances.{Path, instance_at, tree_of};
-ghost use Rattle.cx_interp.specs.Callees.{HasChild, IsPart};
-ghost use Rattle.cx_interp.specs.Groups.{IsGroupOf};
-ghost use Rattle.cx_interp.specs.Machines.{design_of, rows_of, IsPlan, IsAt, IsInstance};
+ghost use Rattle.cx_turns.specs.Children.{HasChild, IsPart};
+ghost use Rattle.cx_turns.specs.Groups.{IsGroupOf};
+ghost use Rattle.cx_turns.specs.Machines.{design_of, rows_of, IsPlan, IsAt, IsInstance};
 ghost use Rattle.cx_state.specs.Tables.{IsNumber};
 ghost use Rattle.cx_state.specs.States.{inputs_held, instance_state};
 ghost use Rattle.cx_orders.specs.Open.{Open};
@@ -18,11 +18,11 @@ ghost use Rattle.cx_weave.specs.Takes.{call_takes};
 
 use crate::spares::{Spares, give_box, give_inputs, refilled, take_inputs};
 use crate::strands::Strand;
-use cx_interp::calls::group_row;
-use cx_interp::children::hold_inputs;
-use cx_interp::machine::Machine;
-use cx_interp::plan::Plan;
 use cx_meaning::Seen;
+use cx_turns::calls::group_row;
+use cx_turns::children::hold_inputs;
+use cx_turns::machine::Machine;
+use cx_turns::plan::Plan;
 
 /// Holds the inputs of a child as they are listed.
 fn hold_listed(

@@ -5,16 +5,16 @@ ghost use Rattle.cx_meaning.specs.Control.{groups_drive, groups_in, groups_in_al
 ghost use Rattle.cx_meaning.specs.Instances.{Path, part_of, instance_at, tree_of};
 ghost use Rattle.cx_design.specs.PlainForms.{plain_form, plain_statement, plain_statements};
 ghost use Rattle.cx_eval_cycle.specs.Passes.{IsAscending, listed_in};
-ghost use Rattle.cx_interp.specs.Groups.{ListWithin};
-ghost use Rattle.cx_interp.specs.Machines.{design_of, IsPlan, IsInstance};
+ghost use Rattle.cx_turns.specs.Groups.{ListWithin};
+ghost use Rattle.cx_turns.specs.Machines.{design_of, IsPlan, IsInstance};
 ghost use Rattle.cx_state.specs.Tables.{IsNumber};
 ghost use Rattle.cx_orders.specs.Leaves.{form_drives};
 ghost use Rattle.cx_weave.specs.Marks.{HasMarks, Lists, is_marked, set_count};
 ghost use Rattle.cx_weave.specs.Strands.{ListDriven};
 
 use cx_design::{Form, Statement};
-use cx_interp::calls::{group_row, instance_part};
-use cx_interp::plan::Plan;
+use cx_turns::calls::{group_row, instance_part};
+use cx_turns::plan::Plan;
 
 /// Lists a cell that is not marked yet, and marks it.
 fn mark_cell(cell: u32, marks: &mut [bool], cells: &mut Vec<u32>)

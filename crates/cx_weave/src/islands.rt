@@ -9,8 +9,8 @@ ghost use Rattle.cx_interp_islands.specs.Sampled.{AreSampled};
 ghost use Rattle.cx_eval_cycle.specs.Passes.{IsAscending};
 ghost use Rattle.cx_orders.specs.Leaves.{form_drives};
 ghost use Rattle.cx_design.specs.PlainForms.{plain_component, plain_form};
-ghost use Rattle.cx_interp.specs.Islands.{HasPart, IsIsland, SampledBefore, SamplesTaken};
-ghost use Rattle.cx_interp.specs.Machines.{design_of, rows_of, IsPlan, IsAt, IsInstance, FormStands};
+ghost use Rattle.cx_turns.specs.Islands.{HasPart, IsIsland, SampledBefore, SamplesTaken};
+ghost use Rattle.cx_turns.specs.Machines.{design_of, rows_of, IsPlan, IsAt, IsInstance, FormStands};
 ghost use Rattle.cx_weave.specs.Ledger.{HasPlaces, Turned, island_amount};
 ghost use Rattle.cx_weave.specs.Strands.{AnIsland, IsShown, IsSampledBefore, IsWithinIsland, ListDriven};
 ghost use Rattle.cx_weave.specs.Strides.{HasStepped, IslandTaken};
@@ -19,11 +19,6 @@ use crate::resting::rest_listed;
 use crate::spares::{Spares, give_island};
 use crate::strands::{Island, Strand};
 use cx_design::{Component, Form, PortFault};
-use cx_interp::calls::instance_part;
-use cx_interp::islands::fault_in;
-use cx_interp::machine::Machine;
-use cx_interp::plan::Plan;
-use cx_interp::rooms::activate;
 use cx_interp_islands::{
     accepted_islands_are_short, static_tests_are_conditions, take_samples,
     taken_samples_are_of_a_run,
@@ -33,6 +28,10 @@ use cx_laws::laws::{
     timers_give_the_active_groups, timers_give_the_begun_ports,
 };
 use cx_state::alike_laws::{rows_stand, states_are_seen_alike};
+use cx_turns::calls::instance_part;
+use cx_turns::machine::{Machine, fault_in};
+use cx_turns::plan::Plan;
+use cx_turns::rooms::activate;
 
 /// Sees the ports of the static ifs that begin in a cycle of an island: the fault of the first that is no value.
 fn sample(

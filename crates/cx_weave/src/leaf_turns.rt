@@ -4,9 +4,9 @@ ghost use Rattle.std.specs.Prelude.{◌≡◌, ◌+◌, max};
 ghost use Rattle.cx_eval.specs.Evaluated.{CanAct};
 ghost use Rattle.cx_meaning.specs.Designs.{If, While};
 ghost use Rattle.cx_design.specs.PlainForms.{plain_statement};
-ghost use Rattle.cx_interp.specs.Groups.{IsGroupOf};
-ghost use Rattle.cx_interp.specs.Machines.{design_of, rows_of, IsPlan, IsAt, IsInstance, FormStands};
-ghost use Rattle.cx_interp.specs.Tests.{comb_active};
+ghost use Rattle.cx_turns.specs.Groups.{IsGroupOf};
+ghost use Rattle.cx_turns.specs.Machines.{design_of, rows_of, IsPlan, IsAt, IsInstance, FormStands};
+ghost use Rattle.cx_turns.specs.Tests.{comb_active};
 ghost use Rattle.cx_orders.specs.Leaves.{test_drives};
 ghost use Rattle.cx_weave.specs.Ledger.{TakesNothing, Turned};
 ghost use Rattle.cx_weave.specs.Strands.{ACapture, AChoice, AClosing, AGroup, ATest, CallsCell};
@@ -21,12 +21,12 @@ use crate::spares::Spares;
 use crate::strands::Strand;
 use crate::turns::{take_capture, take_group};
 use cx_design::{PortFault, Statement};
-use cx_interp::calls::group_row;
-use cx_interp::machine::{Machine, test};
-use cx_interp::plan::Plan;
-use cx_interp::turns::Turn;
 use cx_meaning::PlacedPort;
 use cx_state::alike_laws::rows_stand;
+use cx_turns::calls::group_row;
+use cx_turns::machine::{Machine, test};
+use cx_turns::plan::Plan;
+use cx_turns::turns::Turn;
 
 /// A turn of a group that calls nothing.
 pub(crate) fn step_group<'a>(

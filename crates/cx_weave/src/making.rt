@@ -2,8 +2,8 @@
 
 ghost use Rattle.std.specs.Prelude.{◌≡◌, ◌≤◌, ◌<◌, ℕ, All, IfOk, length, vec_capacity, vec_len};
 ghost use Rattle.cx_meaning.specs.Designs.{component_at};
-ghost use Rattle.cx_interp.specs.Machines.{design_of, IsPlan};
-ghost use Rattle.cx_interp.specs.Rooms.{HasRoom};
+ghost use Rattle.cx_turns.specs.Machines.{design_of, IsPlan};
+ghost use Rattle.cx_turns.specs.Rooms.{HasRoom};
 ghost use Rattle.cx_weave.specs.Marks.{set_count};
 ghost use Rattle.cx_weave.specs.Supplied.{Supplied};
 ghost use Rattle.cx_weave.specs.Takes.{control_need};
@@ -11,10 +11,10 @@ ghost use Rattle.cx_weave.specs.Takes.{control_need};
 use crate::needs::{Piece, main_need};
 use crate::spares::{IslandLists, Spares};
 use crate::strands::{Arms, Strand};
-use cx_interp::plan::Plan;
-use cx_interp::rooms::Room;
 use cx_meaning::Seen;
 use cx_text::Memory;
+use cx_turns::plan::Plan;
+use cx_turns::rooms::Room;
 use std::alloc::Global;
 
 fn make_boxes<'a>(alloc: Global, count: usize) -> Result<Vec<Box<Strand<'a>>>, Memory>

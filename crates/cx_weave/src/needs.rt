@@ -5,18 +5,18 @@ ghost use Rattle.cx_meaning.specs.Designs as plain;
 ghost use Rattle.cx_meaning.specs.Designs.{Placed, no_place};
 ghost use Rattle.cx_meaning.specs.Instances.{Path, instance_at, tree_of};
 ghost use Rattle.cx_design.specs.PlainForms.{plain_form, plain_statement, plain_statements};
-ghost use Rattle.cx_interp.specs.Groups.{HasLength, IsGroupOf};
-ghost use Rattle.cx_interp.specs.Machines.{design_of, IsPlan, IsInstance, FormStands, StandsIn, StandIn};
+ghost use Rattle.cx_turns.specs.Groups.{HasLength, IsGroupOf};
+ghost use Rattle.cx_turns.specs.Machines.{design_of, IsPlan, IsInstance, FormStands, StandsIn, StandIn};
 ghost use Rattle.cx_state.specs.Tables.{IsNumber};
 ghost use Rattle.cx_weave.specs.Rows.{Covers, CoversBehind, HasRow};
 ghost use Rattle.cx_weave.specs.Takes as takes;
 ghost use Rattle.cx_weave.specs.Takes.{all_needs, control_need, need, needs};
 
 use cx_design::{Form, Statement};
-use cx_interp::calls::{group_length, group_row};
-use cx_interp::children::{child_number, control_of};
-use cx_interp::plan::Plan;
 use cx_text::Memory;
+use cx_turns::calls::{group_length, group_row};
+use cx_turns::children::{child_number, control_of};
+use cx_turns::plan::Plan;
 use std::alloc::Global;
 
 /// What strands take: boxes of strands, boxes of arms, the lists of islands, lists of inputs.

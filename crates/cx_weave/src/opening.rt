@@ -4,10 +4,10 @@ ghost use Rattle.std.specs.Prelude.{◌≡◌, ◌<◌, None, length};
 ghost use Rattle.cx_meaning.specs.Designs as plain;
 ghost use Rattle.cx_meaning.specs.Designs.{Placed, no_place};
 ghost use Rattle.cx_design.specs.PlainForms.{plain_form, plain_statement, plain_statements};
-ghost use Rattle.cx_interp.specs.Callees.{IsPart};
-ghost use Rattle.cx_interp.specs.Groups.{HasLength, IsGroupOf};
-ghost use Rattle.cx_interp.specs.Islands.{IsIsland};
-ghost use Rattle.cx_interp.specs.Machines.{design_of, IsPlan, IsInstance, FormStands, StandsIn, StandIn};
+ghost use Rattle.cx_turns.specs.Children.{IsPart};
+ghost use Rattle.cx_turns.specs.Groups.{HasLength, IsGroupOf};
+ghost use Rattle.cx_turns.specs.Islands.{IsIsland};
+ghost use Rattle.cx_turns.specs.Machines.{design_of, IsPlan, IsInstance, FormStands, StandsIn, StandIn};
 ghost use Rattle.cx_weave.specs.Ledger.{ArmsOpened, Opened};
 ghost use Rattle.cx_weave.specs.Strands.{CallsCell};
 ghost use Rattle.cx_weave.specs.Strides.{OpenAs, OpensAs};
@@ -18,9 +18,9 @@ use crate::spares::{Spares, take_arms, take_box};
 use crate::static_control::open_island;
 use crate::strands::{Arms, Strand};
 use cx_design::{Form, Statement};
-use cx_interp::calls::{group_length, group_row};
-use cx_interp::children::{child_number, control_of};
-use cx_interp::plan::Plan;
+use cx_turns::calls::{group_length, group_row};
+use cx_turns::children::{child_number, control_of};
+use cx_turns::plan::Plan;
 
 /// A statement of an instance as it is opened.
 #[cycle(opened)]

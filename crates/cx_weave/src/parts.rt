@@ -4,7 +4,7 @@ ghost use Rattle.std.specs.Prelude.{◌≡◌, ◌+◌, None};
 ghost use Rattle.cx_meaning.specs.Designs as plain;
 ghost use Rattle.cx_meaning.specs.Designs.{While};
 ghost use Rattle.cx_design.specs.PlainForms.{plain_statement, plain_statements};
-ghost use Rattle.cx_interp.specs.Machines.{design_of, IsPlan, IsInstance, FormStands, StandsIn, StandIn};
+ghost use Rattle.cx_turns.specs.Machines.{design_of, IsPlan, IsInstance, FormStands, StandsIn, StandIn};
 ghost use Rattle.cx_meaning.specs.Instances.{Path, instance_at, tree_of};
 ghost use Rattle.cx_state.specs.Tables.{IsNumber};
 ghost use Rattle.cx_weave.specs.Ledger.{HasPlaces, Kind, Ledger, Opened, amount, arms_amount, arms_box_amount, arms_left_amount, box_amount, left_amount};
@@ -20,8 +20,8 @@ use crate::opening::open_statement;
 use crate::spares::{Spares, give_arms, give_box, refilled, refilled_arms, take_box};
 use crate::strands::{Arms, Strand};
 use cx_design::Statement;
-use cx_interp::plan::Plan;
 use cx_meaning::PlacedPort;
+use cx_turns::plan::Plan;
 use std::mem::replace;
 
 /// A seq: behind a part that has ended comes the next one.

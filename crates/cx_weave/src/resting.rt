@@ -5,19 +5,19 @@ ghost use Rattle.cx_eval_cycle.specs.Passes.{IsAscending};
 ghost use Rattle.cx_meaning.specs.Cycles.{every_cell};
 ghost use Rattle.cx_meaning.specs.Designs.{PlainComponent};
 ghost use Rattle.cx_meaning.specs.Instances.{Set};
-ghost use Rattle.cx_interp.specs.Groups.{ListWithin};
-ghost use Rattle.cx_interp.specs.Machines.{design_of, rows_of, IsPlan, IsAt, IsInstance};
+ghost use Rattle.cx_turns.specs.Groups.{ListWithin};
+ghost use Rattle.cx_turns.specs.Machines.{design_of, rows_of, IsPlan, IsAt, IsInstance};
 ghost use Rattle.cx_state.specs.States.{PlainInstance};
 ghost use Rattle.cx_weave.specs.Deep.{IsCellOf, IsDeep, with_one};
 ghost use Rattle.cx_weave.specs.Strands.{ListDriven};
 ghost use Rattle.cx_weave.specs.Strides.{HasRested};
 
 use cx_design::CellKind;
-use cx_interp::calls::instance_part;
-use cx_interp::children::child_number;
-use cx_interp::machine::Machine;
-use cx_interp::plan::Plan;
-use cx_interp::rest::{rest, rest_all};
+use cx_turns::calls::instance_part;
+use cx_turns::children::child_number;
+use cx_turns::machine::Machine;
+use cx_turns::plan::Plan;
+use cx_turns::rest::{rest, rest_all};
 
 /// Makes the idle edges of all cells of an instance, and of all that is below it.
 #[cycle(rest)]

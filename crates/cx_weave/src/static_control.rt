@@ -2,8 +2,8 @@
 
 ghost use Rattle.cx_meaning.specs.Designs.{Placed, no_place};
 ghost use Rattle.cx_design.specs.PlainForms.{plain_form};
-ghost use Rattle.cx_interp.specs.Islands.{IsIsland};
-ghost use Rattle.cx_interp.specs.Machines.{design_of, IsPlan, IsInstance, FormStands};
+ghost use Rattle.cx_turns.specs.Islands.{IsIsland};
+ghost use Rattle.cx_turns.specs.Machines.{design_of, IsPlan, IsInstance, FormStands};
 ghost use Rattle.cx_weave.specs.Ledger.{Opened};
 ghost use Rattle.cx_weave.specs.Strides.{OpensAs};
 ghost use Rattle.cx_weave.specs.Supplied.{MayOpen};
@@ -12,10 +12,10 @@ use crate::driven::driven_cells;
 use crate::spares::{IslandLists, Spares, take_island};
 use crate::strands::{Island, Strand};
 use cx_design::Form;
-use cx_interp::calls::instance_part;
-use cx_interp::plan::Plan;
 use cx_interp_islands::accepted_islands_are_short;
 use cx_limits::form_length;
+use cx_turns::calls::instance_part;
+use cx_turns::plan::Plan;
 
 /// A static statement of dynamic control, or the enable of a static group there, as it is opened.
 pub(crate) fn open_island<'a>(

@@ -3,7 +3,7 @@
 ghost use Rattle.std.specs.Prelude.{◌<◌, ◌+◌, ℕ, vec_capacity};
 ghost use Rattle.cx_meaning.specs.Designs.{While};
 ghost use Rattle.cx_design.specs.PlainForms.{plain_statement, plain_statements};
-ghost use Rattle.cx_interp.specs.Machines.{design_of, rows_of, IsPlan, IsAt, IsInstance};
+ghost use Rattle.cx_turns.specs.Machines.{design_of, rows_of, IsPlan, IsAt, IsInstance};
 ghost use Rattle.cx_weave.specs.Ledger.{ArmsTurned, HasPlaces, Turned, amount, arms_amount, arms_box_amount, box_amount, inputs_amount};
 ghost use Rattle.cx_weave.specs.Strands.{ACall, ALoop, APar, ARepeat, ASeq, AreShown, IsShown, arms_leaves, both_arms, one_arm, plain_arms, plain_strand, seen_items, strand_leaves};
 ghost use Rattle.cx_weave.specs.Strides.{HasStepped, HaveStepped};
@@ -17,10 +17,10 @@ use crate::parts::{arm_left, back_left, front_left, loop_left, par_left, repeat_
 use crate::spares::Spares;
 use crate::strands::{Arms, Strand};
 use cx_design::{PortFault, Statement};
-use cx_interp::children::child_number;
-use cx_interp::machine::Machine;
-use cx_interp::plan::Plan;
 use cx_meaning::{PlacedPort, Seen};
+use cx_turns::children::child_number;
+use cx_turns::machine::Machine;
+use cx_turns::plan::Plan;
 use std::mem::replace;
 
 /// Takes a turn of a leaf of a strand of an instance, by its number: what is left of the strand.

@@ -2,18 +2,18 @@
 
 ghost use Rattle.std.specs.Prelude.{◌≡◌, Some};
 ghost use Rattle.cx_eval_cycle.specs.Passes.{IsAscending};
-ghost use Rattle.cx_interp.specs.Groups.{IsGroupOf, ListGroup};
-ghost use Rattle.cx_interp.specs.Machines.{design_of, rows_of, IsPlan, IsAt, IsInstance};
-ghost use Rattle.cx_interp.specs.Turns.{cycle_as};
+ghost use Rattle.cx_turns.specs.Groups.{IsGroupOf, ListGroup};
+ghost use Rattle.cx_turns.specs.Machines.{design_of, rows_of, IsPlan, IsAt, IsInstance};
+ghost use Rattle.cx_turns.specs.Turns.{cycle_as};
 ghost use Rattle.cx_weave.specs.Strands.{CallsCell};
 ghost use Rattle.cx_weave.specs.Strides.{TakesTurn};
 ghost use Rattle.cx_orders.specs.Leaves.{own_capture, own_turn};
 
 use cx_design::{Active, PortFault};
 use cx_eval::GroupTurn;
-use cx_interp::machine::Machine;
-use cx_interp::plan::Plan;
-use cx_interp::turns::{Turn, cycle_turn, hole_turn};
+use cx_turns::machine::Machine;
+use cx_turns::plan::Plan;
+use cx_turns::turns::{Turn, cycle_turn, hole_turn};
 
 /// Takes a turn of a group, of which the listed cells are driven.
 pub(crate) fn take_group(

@@ -6,7 +6,7 @@ ghost use Rattle.cx_meaning.specs.Instances.{start, tree_of};
 ghost use Rattle.cx_rules.specs.Externals.{external_rows};
 ghost use Rattle.cx_design.specs.PlainDesigns.{plain_design};
 ghost use Rattle.cx_state.specs.States.{words_in, IsUnheld, StandsFor};
-ghost use Rattle.cx_interp.specs.Machines.{design_of, rows_of, IsPlan, IsAt};
+ghost use Rattle.cx_turns.specs.Machines.{design_of, rows_of, IsPlan, IsAt};
 ghost use Rattle.cx_weave.specs.Results.{EndsIn, LeavesWords, TellsArm, TellsRun, TellsWoven};
 ghost use Rattle.cx_weave.specs.Strands.{IsCounted, plain_strand, strand_leaves};
 ghost use Rattle.cx_weave.specs.Supplied.{Supplied};
@@ -21,14 +21,14 @@ use crate::spares::Spares;
 use crate::stepping::step;
 use crate::strands::Strand;
 use cx_design::{Checked, PortFault};
-use cx_interp::Interp;
-use cx_interp::children::control_of;
-use cx_interp::machine::Machine;
-use cx_interp::plan::Plan;
 use cx_orders::laws::{run_ends_too, run_faults_too};
 use cx_state::alike_laws::rows_stand;
 use cx_state::external_words;
 use cx_text::{Loaded, Memory};
+use cx_turns::Begun;
+use cx_turns::children::control_of;
+use cx_turns::machine::Machine;
+use cx_turns::plan::Plan;
 use std::alloc::Global;
 
 /// How a woven run ends within its choices: after so many, with the sum of the numbers of the leaves that they advanced; with
@@ -126,8 +126,8 @@ pub fn weave(
 {
     run_ends_too();
     run_faults_too();
-    let interp = Interp::new(alloc, design, loaded)?;
-    let Interp { plan, mut machine } = interp;
+    let begun = Begun::new(alloc, design, loaded)?;
+    let Begun { plan, mut machine } = begun;
     let wove = weave_plan(alloc, &plan, &mut machine, list, steps)?;
     if let Wove::End(_, _) = wove {
         external_words(plan.design, &machine.sight.state, loaded);

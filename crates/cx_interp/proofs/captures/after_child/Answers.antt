@@ -1,5 +1,5 @@
-use Rattle.cx_interp.specs.Doings.{group_driving}
-use Rattle.cx_interp.specs.Machines.{design_of, rows_of}
+use Rattle.cx_turns.specs.Groups.{group_driving}
+use Rattle.cx_turns.specs.Machines.{design_of, rows_of}
 use Rattle.cx_interp.proofs.CaptureLemmas.{after_captures, after_idle}
 use Rattle.cx_interp.proofs.captures.after_child.Goals as goal
 

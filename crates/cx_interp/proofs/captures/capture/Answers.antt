@@ -1,14 +1,13 @@
 use Rattle.std.proofs.Common.{◌∙◌, sym, ap, subst}
 use Rattle.cx_meaning.specs.Instances.{instance_at, tree_of}
 use Rattle.cx_eval_cycle.specs.Passes.{IsAscending, listed_in}
+use Rattle.cx_turns.specs.Groups.{ListWithin, group_driving}
+use Rattle.cx_turns.specs.Machines.{design_of, rows_of}
+use Rattle.cx_turns.specs.Rooms.{HasRoom}
+use Rattle.cx_turns.proofs.GroupLemmas.{row_ascends, row_within}
+use Rattle.cx_turns.proofs.RestLemmas.{rows_at}
 use Rattle.cx_interp.specs.Callees.{capture_does}
-use Rattle.cx_interp.specs.Doings.{group_driving}
-use Rattle.cx_interp.specs.Groups.{ListWithin}
-use Rattle.cx_interp.specs.Machines.{design_of, rows_of}
-use Rattle.cx_interp.specs.Rooms.{HasRoom}
-use Rattle.cx_interp.proofs.EnableLemmas.{row_ascends, row_within}
 use Rattle.cx_interp.proofs.LoopLemmas.{done_rested}
-use Rattle.cx_interp.proofs.RestLemmas.{rows_at}
 use Rattle.cx_interp.proofs.captures.capture.Goals as goal
 
 pub rest-requires-clause-within : goal.rest-requires-clause-within

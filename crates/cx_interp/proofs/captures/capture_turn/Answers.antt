@@ -4,12 +4,12 @@ use Rattle.cx_design.specs.declared.actives.Active.TheVariants as actives
 use Rattle.cx_state.specs.States.{IsStateOf, plain_state}
 use Rattle.cx_eval.specs.Evaluated.{CanAct, Cycled}
 use Rattle.cx_eval_cycle.specs.Passes.{IsAscending, listed_in}
+use Rattle.cx_turns.specs.Groups.{group_driving}
+use Rattle.cx_turns.specs.Machines.{design_of, rows_of}
+use Rattle.cx_turns.proofs.GroupLemmas.{row_ascends}
 use Rattle.cx_interp.specs.Callees.{capture_does}
-use Rattle.cx_interp.specs.Doings.{group_driving}
-use Rattle.cx_interp.specs.Machines.{design_of, rows_of}
-use Rattle.cx_interp.specs.Turns.{Paused}
+use Rattle.cx_interp.specs.Pauses.{Paused}
 use Rattle.cx_interp.proofs.CaptureLemmas.{capture_none, capture_goes, capture_stops}
-use Rattle.cx_interp.proofs.EnableLemmas.{row_ascends}
 use Rattle.cx_interp.proofs.captures.capture_turn.Goals as goal
 
 pub returns-then-budget-eq0-clause-paused : goal.returns-then-budget-eq0-clause-paused

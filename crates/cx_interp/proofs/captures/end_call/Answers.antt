@@ -1,9 +1,10 @@
 use Rattle.std.proofs.Common.{sym, subst}
+use Rattle.cx_turns.specs.Groups.{group_driving}
+use Rattle.cx_turns.specs.Machines.{design_of, rows_of}
 use Rattle.cx_interp.specs.declared.answers.Answer.TheVariants.{Fault, More}
 use Rattle.cx_interp.specs.Callees.{after_does}
-use Rattle.cx_interp.specs.Doings.{group_driving, then_does}
+use Rattle.cx_interp.specs.Doings.{then_does}
 use Rattle.cx_interp.specs.Done.{Done}
-use Rattle.cx_interp.specs.Machines.{design_of, rows_of}
 use Rattle.cx_interp.proofs.DoneLemmas.{done_then, done_stopped}
 use Rattle.cx_interp.proofs.captures.end_call.Goals as goal
 

@@ -1,26 +1,29 @@
 use Rattle.std.proofs.Common.{rules, ◌≢◌, List, take, map, Ok, true, false, ◌≡◌, ◌+◌, ◌-◌, ◌≤◌, ◌<◌, Some, length, refl, sym, ap, ◌∙◌, subst, arith}
 use Rattle.cx_meaning.specs.Designs.{PlainForm, PlainStatement, Placed, Empty, Enable, Timed, If, While, Repeat}
 use Rattle.cx_design.specs.PlainForms.{plain_form, plain_statement, form_step, statement_step}
-use Rattle.cx_interp.specs.declared.answers.Answer.TheVariants.{End, Fault, More}
-use Rattle.cx_interp.specs.Doings.{form_does, form_drives, statement_does, statement_drives}
-use Rattle.cx_interp.specs.Tests.{Tested}
+use Rattle.cx_turns.specs.Tests.{Tested}
+use Rattle.cx_turns.specs.Machines.{design_of, rows_of, StandsIn, FormStands}
+use Rattle.cx_turns.proofs.Measures.{steps, form_steps}
 use Rattle.cx_meaning.specs.Designs.{Seq}
 use Rattle.cx_design.specs.PlainForms.{plain_statements}
 use Rattle.std.specs.List.{slice_get}
-use Rattle.cx_interp.specs.Done.{Done, limit_of}
-use Rattle.cx_interp.proofs.ParLemmas.{some_do, some_drive, arms_start, arms_next, arms_end, par_empty, par_stands, arm_is, take_all, map_length}
+use Rattle.cx_turns.proofs.StandLemmas.{test_port, test_comb, enabled_group}
+use Rattle.cx_turns.proofs.GroupLemmas.{row_ascends, row_lists, row_within}
 use Rattle.cx_design.specs.declared.statements.Form.TheFolds.{fold-roll-Form, fold-roll-Statement}
 use Rattle.cx_design.specs.declared.statements.Form.TheVariants as forms
-use Rattle.cx_interp.specs.Machines.{design_of, rows_of, StandsIn, FormStands}
-use Rattle.cx_interp.proofs.Measures.{steps, form_steps}
-use Rattle.cx_interp.proofs.StandLemmas.{test_port, test_comb, enabled_group}
-use Rattle.cx_interp.proofs.IslandLemmas.{enable_is_island}
-use Rattle.cx_interp.proofs.EnableLemmas.{enable_turns, row_ascends, row_lists, row_within}
-use Rattle.cx_interp.proofs.ControlLemmas.{empty_form, timed_form, if_yes, if_no, if_unclear, if_no_turn, yes_stands, no_stands, repeat_none, repeat_start, repeat_after, repeat_stop, repeat_end, seq_empty, seq_start, seq_next, seq_stop, seq_ended, part_stands, part_falls, while_start, while_fails, while_unclear, while_spent, while_body, while_body_stops}
+use Rattle.cx_turns.proofs.PartLemmas.{yes_stands, no_stands, part_stands, part_falls, take_all}
+use Rattle.cx_turns.specs.Groups.{ListWithin}
+use Rattle.cx_turns.proofs.ChildLemmas.{callee_part, child_instance, child_less, control_stands}
+use Rattle.cx_interp.specs.declared.answers.Answer.TheVariants.{End, Fault, More}
+use Rattle.cx_interp.specs.Doings.{form_does, form_drives, statement_does, statement_drives}
+use Rattle.cx_interp.specs.Done.{Done, limit_of}
+use Rattle.cx_interp.proofs.ParLemmas.{some_do, some_drive, arms_start, arms_next, arms_end, par_empty, par_stands, arm_is, map_length}
+use Rattle.cx_interp.proofs.IslandRuns.{enable_is_island}
 use Rattle.cx_eval_cycle.specs.Passes.{IsAscending}
+use Rattle.cx_interp.proofs.EnableLemmas.{enable_turns}
+use Rattle.cx_interp.proofs.ControlLemmas.{empty_form, timed_form, if_yes, if_no, if_unclear, if_no_turn, repeat_none, repeat_start, repeat_after, repeat_stop, repeat_end, seq_empty, seq_start, seq_next, seq_stop, seq_ended, while_start, while_fails, while_unclear, while_spent, while_body, while_body_stops}
 use Rattle.cx_interp.specs.Callees.{child_does}
-use Rattle.cx_interp.specs.Groups.{ListWithin}
-use Rattle.cx_interp.proofs.CallLemmas.{callee_part, child_instance, child_less, control_stands, done_lifted, enable_call}
+use Rattle.cx_interp.proofs.CallLemmas.{done_lifted, enable_call}
 use Rattle.cx_interp.proofs.control.+control.Goals as goal
 
 pub run_form-returns-in-Empty-clause-done : goal.run_form-returns-in-Empty-clause-done

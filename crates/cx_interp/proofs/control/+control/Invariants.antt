@@ -1,13 +1,13 @@
 use Rattle.std.proofs.Common.{◌+◌, ◌*◌, ◌-◌, ◌≤◌, drop, take, map}
 use Rattle.cx_meaning.specs.Designs.{Seq, Repeat}
 use Rattle.cx_design.specs.PlainForms.{plain_form, plain_statement, plain_statements}
+use Rattle.cx_turns.specs.Machines.{design_of, rows_of, IsAt}
+use Rattle.cx_turns.proofs.Measures.{form_steps, steps, all_steps, below}
 use Rattle.cx_interp.specs.Doings.{parts_do, parts_drive, form_does}
-use Rattle.cx_interp.specs.Machines.{design_of, rows_of, IsAt}
 use Rattle.cx_interp.proofs.ContinueLemmas.{Continues}
 use Rattle.cx_interp.proofs.ControlLemmas.{WhileLeft, RoundsLeft}
 use Rattle.cx_interp.specs.Done.{Done}
 use Rattle.cx_interp.proofs.ParLemmas.{some_do, some_drive}
-use Rattle.cx_interp.proofs.Measures.{form_steps, steps, all_steps, below}
 use Rattle.cx_interp.proofs.control.+control.Given as goal
 
 abbrev pub decreases-run_statement : goal.decreases-run_statement

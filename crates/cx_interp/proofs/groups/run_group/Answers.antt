@@ -1,11 +1,12 @@
 use Rattle.std.proofs.Common.{◌∙◌, sym, subst}
 use Rattle.cx_meaning.specs.Instances.{instance_at, tree_of}
 use Rattle.cx_eval_cycle.specs.Passes.{listed_in}
-use Rattle.cx_interp.specs.Doings.{group_driving, turns_do}
-use Rattle.cx_interp.specs.Machines.{design_of, rows_of}
-use Rattle.cx_interp.specs.Rooms.{HasRoom}
+use Rattle.cx_turns.specs.Groups.{group_driving}
+use Rattle.cx_turns.specs.Machines.{design_of, rows_of}
+use Rattle.cx_turns.specs.Rooms.{HasRoom}
+use Rattle.cx_turns.proofs.RestLemmas.{rows_at}
+use Rattle.cx_interp.specs.Doings.{turns_do}
 use Rattle.cx_interp.proofs.LoopLemmas.{done_rested}
-use Rattle.cx_interp.proofs.RestLemmas.{rows_at}
 use Rattle.cx_interp.proofs.groups.run_group.Goals as goal
 
 pub returns-clause-machine : goal.returns-clause-machine

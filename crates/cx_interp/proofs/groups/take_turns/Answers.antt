@@ -1,6 +1,6 @@
 use Rattle.std.proofs.Common.{◌∙◌, sym, subst, arith}
-use Rattle.cx_interp.specs.Machines.{design_of, rows_of}
-use Rattle.cx_interp.specs.Rooms.{HasRoom}
+use Rattle.cx_turns.specs.Machines.{design_of, rows_of}
+use Rattle.cx_turns.specs.Rooms.{HasRoom}
 use Rattle.cx_interp.proofs.LoopLemmas.{going_start, going_on, going_ends, going_faults, going_more}
 use Rattle.cx_interp.proofs.groups.take_turns.Goals as goal
 

@@ -1,4 +1,4 @@
-use Rattle.cx_interp.specs.Machines.{design_of, rows_of, IsAt}
+use Rattle.cx_turns.specs.Machines.{design_of, rows_of, IsAt}
 use Rattle.cx_interp.proofs.LoopLemmas.{AreGoing}
 use Rattle.cx_interp.proofs.groups.take_turns.Given as goal
 

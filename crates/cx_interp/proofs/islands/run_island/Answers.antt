@@ -4,14 +4,15 @@ use Rattle.cx_meaning.specs.Instances.{instance_at, tree_of}
 use Rattle.cx_meaning.specs.Cycles.{every_cell}
 use Rattle.cx_meaning.specs.Islands.{form_length}
 use Rattle.cx_design.specs.PlainForms.{plain_component, plain_form}
+use Rattle.cx_turns.specs.Machines.{design_of, rows_of}
+use Rattle.cx_turns.specs.Rooms.{HasRoom}
+use Rattle.cx_turns.proofs.IslandLemmas.{there, stands_there}
+use Rattle.cx_turns.proofs.RestLemmas.{rows_at}
 use Rattle.cx_interp.specs.Doings.{form_does, form_drives}
-use Rattle.cx_interp.specs.Islands.{sampled_does, samples_in}
-use Rattle.cx_interp.specs.Machines.{design_of, rows_of}
-use Rattle.cx_interp.specs.Rooms.{HasRoom}
+use Rattle.cx_interp.specs.IslandCycles.{sampled_does, samples_in}
 use Rattle.cx_interp.proofs.EnableLemmas.{done_same_at}
-use Rattle.cx_interp.proofs.IslandLemmas.{samples_run, there, stands_there}
+use Rattle.cx_interp.proofs.IslandRuns.{samples_run}
 use Rattle.cx_interp.proofs.LoopLemmas.{done_rested}
-use Rattle.cx_interp.proofs.RestLemmas.{rows_at}
 use Rattle.cx_interp.proofs.islands.run_island.Goals as goal
 
 pub returns-clause-machine : goal.returns-clause-machine

@@ -7,14 +7,15 @@ use Rattle.cx_state.specs.States.{plain_state, IsStateOf}
 use Rattle.cx_eval.specs.Evaluated.{CanAct, Cycled}
 use Rattle.cx_laws.specs.Samples.{active_by}
 use Rattle.cx_interp_islands.specs.Rooms.{samples_of}
-use Rattle.cx_interp.specs.declared.turns.Turn.TheVariants as turns
+use Rattle.cx_turns.specs.declared.turns.Turn.TheVariants as turns
+use Rattle.cx_turns.specs.Machines.{design_of, rows_of}
+use Rattle.cx_turns.specs.Rooms.{HasActive}
+use Rattle.cx_turns.proofs.IslandLemmas.{active_is, can_run}
+use Rattle.cx_turns.proofs.RoomLemmas.{island_room}
 use Rattle.cx_interp.specs.Doings.{form_drives}
-use Rattle.cx_interp.specs.Islands.{CycleTaken, samples_in}
-use Rattle.cx_interp.specs.Machines.{design_of, rows_of}
-use Rattle.cx_interp.specs.Rooms.{HasActive}
-use Rattle.cx_interp.proofs.IslandLemmas.{active_is, can_run, sampled_now}
+use Rattle.cx_interp.specs.IslandCycles.{CycleTaken, samples_in}
+use Rattle.cx_interp.proofs.IslandRuns.{sampled_now}
 use Rattle.cx_interp.proofs.IslandTurns.{taken_clear, taken_unclear}
-use Rattle.cx_interp.proofs.RoomLemmas.{island_room}
 use Rattle.cx_interp.proofs.islands.take_cycle.Goals as goal
 
 pub returns-in-Some-clause-sampled : goal.returns-in-Some-clause-sampled

@@ -2,12 +2,13 @@ use Rattle.std.proofs.Common.{◌≡◌, ◌+◌, ◌<◌, ◌≤◌, ℕ, suc, 
 use Rattle.cx_meaning.specs.Designs.{PlainComponent, PlainForm}
 use Rattle.cx_meaning.specs.Islands.{form_length}
 use Rattle.cx_design.specs.PlainForms.{plain_component, plain_form}
+use Rattle.cx_turns.specs.Islands.{SampledBefore}
+use Rattle.cx_turns.specs.Machines.{design_of, rows_of}
+use Rattle.cx_turns.proofs.IslandLemmas.{island_short, length_told}
 use Rattle.cx_interp.specs.declared.answers.Answer.TheVariants as result
 use Rattle.cx_interp.specs.Doings.{form_drives}
-use Rattle.cx_interp.specs.Islands.{SampledBefore, sampled_does, samples_in}
-use Rattle.cx_interp.specs.Machines.{design_of, rows_of}
-use Rattle.cx_interp.specs.Turns.{Paused}
-use Rattle.cx_interp.proofs.IslandLemmas.{island_short, length_told}
+use Rattle.cx_interp.specs.IslandCycles.{sampled_does, samples_in}
+use Rattle.cx_interp.specs.Pauses.{Paused}
 use Rattle.cx_interp.proofs.IslandLoop.{CyclesGo, cycles_start, cycles_on, cycles_fault, cycles_end, cycles_more}
 use Rattle.cx_interp.proofs.islands.take_cycles.Goals as goal
 

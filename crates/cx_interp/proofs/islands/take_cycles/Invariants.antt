@@ -1,8 +1,9 @@
 use Rattle.cx_meaning.specs.Islands.{form_length}
 use Rattle.cx_design.specs.PlainForms.{plain_component, plain_form}
+use Rattle.cx_turns.specs.Islands.{SampledBefore}
+use Rattle.cx_turns.specs.Machines.{design_of, rows_of, IsAt}
 use Rattle.cx_interp.specs.Doings.{form_drives}
-use Rattle.cx_interp.specs.Islands.{SampledBefore, samples_in}
-use Rattle.cx_interp.specs.Machines.{design_of, rows_of, IsAt}
+use Rattle.cx_interp.specs.IslandCycles.{samples_in}
 use Rattle.cx_interp.proofs.IslandLoop.{CyclesGo}
 use Rattle.cx_interp.proofs.islands.take_cycles.Given as goal
 

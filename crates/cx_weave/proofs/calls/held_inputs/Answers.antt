@@ -4,7 +4,7 @@ use Rattle.std.proofs.lemmas.Grind.{common_steps}
 use Rattle.std.proofs.lemmas.List.{take_more}
 use Rattle.cx_meaning.specs.declared.sights.Seen.{Seen}
 use Rattle.cx_state.specs.States.{instance_state}
-use Rattle.cx_interp.specs.Machines.{rows_of}
+use Rattle.cx_turns.specs.Machines.{rows_of}
 use Rattle.cx_weave.proofs.IslandSupplies.{list_fits, list_filled}
 use Rattle.cx_weave.proofs.calls.held_inputs.Goals as goal
 

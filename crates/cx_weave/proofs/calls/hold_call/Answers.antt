@@ -3,8 +3,8 @@ use Rattle.std.specs.Prelude.{vec_capacity}
 use Rattle.cx_meaning.specs.Instances.{Path, paths_of, tree_of}
 use Rattle.cx_state.specs.States.{instance_state}
 use Rattle.cx_state.specs.Tables.{IsNumber}
-use Rattle.cx_interp.specs.Machines.{design_of, rows_of}
-use Rattle.cx_interp.proofs.HoldLemmas.{own_path, child_there}
+use Rattle.cx_turns.specs.Machines.{design_of, rows_of}
+use Rattle.cx_turns.proofs.HoldLemmas.{own_path, child_there}
 use Rattle.cx_weave.specs.Calls.{HoldsAs}
 use Rattle.cx_weave.specs.Ledger.{inputs_amount}
 use Rattle.cx_weave.specs.Strands.{seen_items}

@@ -2,10 +2,10 @@ use Rattle.std.proofs.Common.{◌≡◌, ◌+◌, ◌<◌, [], get_or, length, s
 use Rattle.cx_meaning.specs.Instances.{Path, paths_of, tree_of}
 use Rattle.cx_state.specs.Tables.{IsNumber}
 use Rattle.cx_state.specs.States.{instance_state, IsStateOf}
-use Rattle.cx_interp.specs.Machines.{design_of, rows_of}
+use Rattle.cx_turns.specs.Machines.{design_of, rows_of}
 use Rattle.cx_meaning.specs.declared.sights.Seen.TheVariants.{Undefined}
-use Rattle.cx_interp.proofs.RestLemmas.{any_default}
-use Rattle.cx_interp.proofs.HoldLemmas.{own_path, child_there, held_fits}
+use Rattle.cx_turns.proofs.RestLemmas.{any_default}
+use Rattle.cx_turns.proofs.HoldLemmas.{own_path, child_there, held_fits}
 use Rattle.cx_orders.specs.Steps.{held_as}
 use Rattle.cx_weave.proofs.HeldSteps.{HoldsSoFar, held_goes, held_ends, width_fits, input_there}
 use Rattle.cx_weave.proofs.calls.hold_listed.Goals as goal

@@ -1,4 +1,4 @@
-use Rattle.cx_interp.specs.Machines.{design_of, rows_of, IsAt}
+use Rattle.cx_turns.specs.Machines.{design_of, rows_of, IsAt}
 use Rattle.cx_weave.proofs.HeldSteps.{HoldsSoFar}
 use Rattle.cx_weave.proofs.calls.hold_listed.Given as goal
 

@@ -5,7 +5,7 @@ use Rattle.cx_meaning.specs.Instances.{part_of, instance_at, tree_of}
 use Rattle.cx_design.specs.declared.statements.Form.TheFolds.{fold-roll-Form}
 use Rattle.cx_design.specs.declared.statements.Form.TheVariants as forms
 use Rattle.cx_design.specs.PlainForms.{form_step, statement_step, plain_form, plain_statement, plain_statements}
-use Rattle.cx_interp.specs.Machines.{design_of}
+use Rattle.cx_turns.specs.Machines.{design_of}
 use Rattle.cx_weave.specs.Marks.{is_marked}
 use Rattle.cx_weave.proofs.MarkSteps.{comb_drives, form_groups, joined_drive, or_two, parts_marked}
 use Rattle.cx_weave.proofs.driven.+mark.Goals as goal

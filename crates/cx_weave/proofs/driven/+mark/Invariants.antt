@@ -4,7 +4,7 @@ use Rattle.cx_meaning.specs.Control.{groups_drive, groups_in_all}
 use Rattle.cx_meaning.specs.Instances.{Path, part_of, instance_at, tree_of}
 use Rattle.cx_design.specs.PlainForms.{plain_statements}
 use Rattle.cx_state.specs.Tables.{IsNumber}
-use Rattle.cx_interp.specs.Machines.{design_of}
+use Rattle.cx_turns.specs.Machines.{design_of}
 use Rattle.cx_weave.specs.Marks.{Lists, is_marked}
 use Rattle.cx_weave.proofs.driven.+mark.Given as goal
 

@@ -1,9 +1,9 @@
 use Rattle.std.proofs.Common.{rules, ◌<◌, ℕ, [], get_or, length, sym, subst, arith}
 use Rattle.cx_meaning.specs.Instances.{paths_of, part_of, instance_at, tree_of}
-use Rattle.cx_interp.specs.Groups.{IsGroupOf}
-use Rattle.cx_interp.specs.Machines.{design_of}
-use Rattle.cx_interp.proofs.EnableLemmas.{row_within}
-use Rattle.cx_interp.proofs.HoldLemmas.{own_path}
+use Rattle.cx_turns.specs.Groups.{IsGroupOf}
+use Rattle.cx_turns.specs.Machines.{design_of}
+use Rattle.cx_turns.proofs.GroupLemmas.{row_within}
+use Rattle.cx_turns.proofs.HoldLemmas.{own_path}
 use Rattle.cx_weave.proofs.MarkSteps.{groups_are}
 use Rattle.cx_weave.proofs.driven.mark_group.Goals as goal
 

@@ -6,12 +6,12 @@ use Rattle.cx_meaning.specs.Sights.{Look}
 use Rattle.cx_meaning.specs.Islands.{first_unclear}
 use Rattle.cx_laws.specs.Samples.{says, begun_by, samples_after}
 use Rattle.cx_interp_islands.specs.Rooms.{samples_of}
-use Rattle.cx_interp.specs.Islands.{TellsUnclear}
-use Rattle.cx_interp.specs.Machines.{design_of, rows_of}
-use Rattle.cx_interp.specs.Sights.{MayAsk, look_in}
-use Rattle.cx_interp.proofs.IslandLemmas.{there, stands_there}
-use Rattle.cx_interp.proofs.SightLemmas.{look_seen}
-use Rattle.cx_interp.proofs.StandLemmas.{tests_are_ports}
+use Rattle.cx_turns.specs.Islands.{TellsUnclear}
+use Rattle.cx_turns.specs.Machines.{design_of, rows_of}
+use Rattle.cx_turns.specs.Sights.{MayAsk, look_in}
+use Rattle.cx_turns.proofs.IslandLemmas.{there, stands_there}
+use Rattle.cx_turns.proofs.SightLemmas.{look_seen}
+use Rattle.cx_turns.proofs.StandLemmas.{tests_are_ports}
 use Rattle.cx_weave.proofs.islands.sample.Goals as goal
 
 pub take_samples-requires-clause-ports : goal.take_samples-requires-clause-ports

@@ -7,9 +7,9 @@ use Rattle.cx_meaning.specs.Islands.{form_length}
 use Rattle.cx_design.specs.PlainForms.{plain_form}
 use Rattle.cx_eval.specs.Evaluated.{HeldAlike}
 use Rattle.cx_interp_islands.specs.Rooms.{samples_of}
-use Rattle.cx_interp.specs.Machines.{design_of, rows_of}
-use Rattle.cx_interp.proofs.HoldLemmas.{own_path}
-use Rattle.cx_interp.proofs.IslandLemmas.{island_short}
+use Rattle.cx_turns.specs.Machines.{design_of, rows_of}
+use Rattle.cx_turns.proofs.HoldLemmas.{own_path}
+use Rattle.cx_turns.proofs.IslandLemmas.{island_short}
 use Rattle.cx_state.specs.ReadStates.{state_in}
 use Rattle.cx_weave.specs.declared.strands.Island.{Island}
 use Rattle.cx_weave.specs.declared.strands.Strand.TheVariants as strands

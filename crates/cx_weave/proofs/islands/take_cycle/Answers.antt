@@ -10,11 +10,11 @@ use Rattle.cx_eval.specs.Evaluated.{CanAct, Cycled}
 use Rattle.cx_eval_cycle.specs.Passes.{listed_in}
 use Rattle.cx_interp_islands.specs.Rooms.{samples_of}
 use Rattle.cx_interp_islands.specs.Sampled.{AreSampled}
-use Rattle.cx_interp.specs.Islands.{SamplesTaken}
-use Rattle.cx_interp.specs.Machines.{design_of, rows_of}
-use Rattle.cx_interp.proofs.HoldLemmas.{own_path}
-use Rattle.cx_interp.proofs.IslandLemmas.{active_is, can_run, island_short, there, stands_there}
-use Rattle.cx_interp.proofs.RoomLemmas.{island_room}
+use Rattle.cx_turns.specs.Islands.{SamplesTaken}
+use Rattle.cx_turns.specs.Machines.{design_of, rows_of}
+use Rattle.cx_turns.proofs.HoldLemmas.{own_path}
+use Rattle.cx_turns.proofs.IslandLemmas.{active_is, can_run, island_short, there, stands_there}
+use Rattle.cx_turns.proofs.RoomLemmas.{island_room}
 use Rattle.cx_weave.specs.Strands.{KeptBefore}
 use Rattle.cx_weave.specs.Strides.{IslandTaken}
 use Rattle.cx_weave.proofs.IslandSteps.{are_sampled, gives_cycle, island_unclear, island_clear, one_path}

@@ -1,8 +1,8 @@
 use Rattle.std.proofs.Common.{Some, sym, subst}
 use Rattle.cx_eval_cycle.specs.Passes.{IsAscending}
-use Rattle.cx_interp.specs.Groups.{ListGroup}
-use Rattle.cx_interp.specs.Machines.{design_of, rows_of}
-use Rattle.cx_interp.proofs.EnableLemmas.{row_ascends, row_lists}
+use Rattle.cx_turns.specs.Groups.{ListGroup}
+use Rattle.cx_turns.specs.Machines.{design_of, rows_of}
+use Rattle.cx_turns.proofs.GroupLemmas.{row_ascends, row_lists}
 use Rattle.cx_orders.specs.Leaves.{test_drives}
 use Rattle.cx_weave.specs.Strides.{HasRested}
 use Rattle.cx_weave.proofs.CombSteps.{lists_comb, none_rested}

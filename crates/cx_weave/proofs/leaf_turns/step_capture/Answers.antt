@@ -3,11 +3,11 @@ use Rattle.cx_meaning.specs.Instances.{paths_of, tree_of}
 use Rattle.cx_state.specs.ReadStates.{state_in}
 use Rattle.cx_state.specs.Tables.{IsNumber}
 use Rattle.cx_eval_cycle.specs.Passes.{IsAscending}
-use Rattle.cx_interp.specs.declared.turns.Turn.TheVariants as turns
-use Rattle.cx_interp.specs.Machines.{design_of, rows_of}
-use Rattle.cx_interp.specs.Turns.{cycle_as}
-use Rattle.cx_interp.proofs.EnableLemmas.{row_ascends}
-use Rattle.cx_interp.proofs.RestLemmas.{got}
+use Rattle.cx_turns.specs.declared.turns.Turn.TheVariants as turns
+use Rattle.cx_turns.specs.Machines.{design_of, rows_of}
+use Rattle.cx_turns.specs.Turns.{cycle_as}
+use Rattle.cx_turns.proofs.GroupLemmas.{row_ascends}
+use Rattle.cx_turns.proofs.RestLemmas.{got}
 use Rattle.cx_orders.specs.Leaves.{own_capture}
 use Rattle.cx_weave.specs.declared.strands.Strand.TheVariants as strands
 use Rattle.cx_orders.specs.Open.{Closing}

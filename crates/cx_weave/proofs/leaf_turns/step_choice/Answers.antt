@@ -1,10 +1,10 @@
 use Rattle.std.proofs.Common.{Ok, true, false, refl, subst}
 use Rattle.cx_meaning.specs.Designs.{If}
 use Rattle.cx_design.specs.PlainForms.{plain_statement}
-use Rattle.cx_interp.specs.Machines.{design_of, rows_of}
-use Rattle.cx_interp.specs.Tests.{Tested}
-use Rattle.cx_interp.proofs.ControlLemmas.{yes_stands, no_stands}
-use Rattle.cx_interp.proofs.StandLemmas.{test_port, test_comb}
+use Rattle.cx_turns.specs.Machines.{design_of, rows_of}
+use Rattle.cx_turns.specs.Tests.{Tested}
+use Rattle.cx_turns.proofs.PartLemmas.{yes_stands, no_stands}
+use Rattle.cx_turns.proofs.StandLemmas.{test_port, test_comb}
 use Rattle.cx_orders.specs.Leaves.{test_drives}
 use Rattle.cx_weave.specs.Strides.{HasRested}
 use Rattle.cx_weave.proofs.LeafSteps.{choice_holds, choice_fails}

@@ -1,9 +1,9 @@
 use Rattle.std.proofs.Common.{sym, subst}
 use Rattle.cx_meaning.specs.Control.{group_drives}
 use Rattle.cx_eval_cycle.specs.Passes.{IsAscending}
-use Rattle.cx_interp.specs.Groups.{ListGroup, ListWithin}
-use Rattle.cx_interp.specs.Machines.{design_of, rows_of}
-use Rattle.cx_interp.proofs.EnableLemmas.{row_ascends, row_lists, row_within}
+use Rattle.cx_turns.specs.Groups.{ListGroup, ListWithin}
+use Rattle.cx_turns.specs.Machines.{design_of, rows_of}
+use Rattle.cx_turns.proofs.GroupLemmas.{row_ascends, row_lists, row_within}
 use Rattle.cx_weave.proofs.LeafSteps.{closing_ends}
 use Rattle.cx_weave.proofs.leaf_turns.step_closing.Goals as goal
 

@@ -1,7 +1,7 @@
 use Rattle.std.proofs.Common.{◌≤◌, get_or, arith}
 use Rattle.std.specs.Prelude.{vec_len}
 use Rattle.cx_meaning.specs.Instances.{tree_of}
-use Rattle.cx_interp.specs.Machines.{design_of}
+use Rattle.cx_turns.specs.Machines.{design_of}
 use Rattle.cx_weave.specs.declared.spares.Spares.{Spares}
 use Rattle.cx_weave.specs.Ledger.{Lengths, pieces_spare, places_for}
 use Rattle.cx_weave.specs.Takes.{control_need}

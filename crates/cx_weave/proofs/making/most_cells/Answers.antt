@@ -3,8 +3,8 @@ use Rattle.std.proofs.lemmas.Bool.{cases_lt}
 use Rattle.std.proofs.lemmas.List.{length-map}
 use Rattle.cx_meaning.specs.Designs.{PlainComponent, component_at}
 use Rattle.cx_design.specs.PlainForms.{plain_cell, plain_component}
-use Rattle.cx_interp.specs.Machines.{design_of}
-use Rattle.cx_interp.proofs.RoomLemmas.{component_read}
+use Rattle.cx_turns.specs.Machines.{design_of}
+use Rattle.cx_turns.proofs.RoomLemmas.{component_read}
 use Rattle.cx_weave.proofs.making.most_cells.Goals as goal
 
 pub loop-component-preserved : goal.loop-component-preserved

@@ -1,6 +1,6 @@
 use Rattle.std.proofs.Common.{ℕ, ◌<◌, ◌≤◌, length}
 use Rattle.cx_meaning.specs.Designs.{component_at}
-use Rattle.cx_interp.specs.Machines.{design_of}
+use Rattle.cx_turns.specs.Machines.{design_of}
 use Rattle.cx_weave.proofs.making.most_cells.Given as goal
 
 -- the most so far

@@ -5,10 +5,10 @@ use Rattle.cx_design.specs.PlainForms.{plain_form, plain_statement, plain_statem
 use Rattle.cx_design.specs.declared.statements.Form.TheFolds.{fold-roll-Form, fold-roll-Statement}
 use Rattle.cx_design.specs.declared.statements.Form.TheVariants as forms
 use Rattle.cx_design.specs.declared.statements.Statement.{Statement}
-use Rattle.cx_interp.specs.Machines.{design_of, FormStands, StandsIn}
-use Rattle.cx_interp.proofs.ControlLemmas.{part_stands, part_falls, yes_stands, no_stands}
-use Rattle.cx_interp.proofs.Measures.{form_steps, steps}
-use Rattle.cx_interp.proofs.StandLemmas.{enabled_group}
+use Rattle.cx_turns.specs.Machines.{design_of, FormStands, StandsIn}
+use Rattle.cx_turns.proofs.PartLemmas.{part_stands, part_falls, yes_stands, no_stands}
+use Rattle.cx_turns.proofs.Measures.{form_steps, steps}
+use Rattle.cx_turns.proofs.StandLemmas.{enabled_group}
 use Rattle.cx_weave.specs.Rows.{Covers}
 use Rattle.cx_weave.specs.Takes as takes
 use Rattle.cx_weave.specs.Takes.{all_needs, need, needs}

@@ -2,8 +2,8 @@ use Rattle.std.proofs.Common.{◌+◌, ◌*◌}
 use Rattle.cx_meaning.specs.Instances.{Path, instance_at, tree_of}
 use Rattle.cx_design.specs.PlainForms.{plain_form, plain_statement, plain_statements}
 use Rattle.cx_state.specs.Tables.{IsNumber}
-use Rattle.cx_interp.specs.Machines.{design_of}
-use Rattle.cx_interp.proofs.Measures.{form_steps, steps, all_steps}
+use Rattle.cx_turns.specs.Machines.{design_of}
+use Rattle.cx_turns.proofs.Measures.{form_steps, steps, all_steps}
 use Rattle.cx_weave.proofs.NeedSteps.{AllSoFar, MostSoFar}
 use Rattle.cx_weave.proofs.needs.+need.Given as goal
 

@@ -1,8 +1,8 @@
 use Rattle.std.proofs.Common.{rules, ◌<◌, get_or, length, refl, sym, ◌∙◌, arith}
 use Rattle.cx_meaning.specs.Instances.{paths_of, tree_of}
-use Rattle.cx_interp.specs.Callees.{IsPart}
-use Rattle.cx_interp.specs.Machines.{design_of}
-use Rattle.cx_interp.proofs.CallLemmas.{callee_part, child_instance}
+use Rattle.cx_turns.specs.Children.{IsPart}
+use Rattle.cx_turns.specs.Machines.{design_of}
+use Rattle.cx_turns.proofs.ChildLemmas.{callee_part, child_instance}
 use Rattle.cx_weave.proofs.NeedSteps.{enable_call, enable_none}
 use Rattle.cx_weave.proofs.needs.dynamic_need.Goals as goal
 

@@ -1,5 +1,5 @@
 use Rattle.std.proofs.Common.{◌-◌}
-use Rattle.cx_interp.specs.Machines.{design_of}
+use Rattle.cx_turns.specs.Machines.{design_of}
 use Rattle.cx_weave.specs.Rows.{CoversFrom, HasRow}
 use Rattle.cx_weave.proofs.needs.main_need.Given as goal
 

@@ -1,7 +1,7 @@
 use Rattle.std.proofs.Common.{◌+◌, ◌*◌}
 use Rattle.cx_design.specs.PlainForms.{plain_form, plain_statement, plain_statements}
-use Rattle.cx_interp.specs.Machines.{design_of}
-use Rattle.cx_interp.proofs.Measures.{form_steps, steps, all_steps, below}
+use Rattle.cx_turns.specs.Machines.{design_of}
+use Rattle.cx_turns.proofs.Measures.{form_steps, steps, all_steps, below}
 use Rattle.cx_weave.proofs.opening.+opened.Given as goal
 
 abbrev pub decreases-open_statement : goal.decreases-open_statement

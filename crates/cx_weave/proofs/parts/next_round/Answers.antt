@@ -1,6 +1,6 @@
 use Rattle.std.proofs.Common.{rules, ◌≡◌, ◌-◌, ◌+◌, suc, sym, ap, ◌∙◌, subst, arith}
 use Rattle.cx_design.specs.PlainForms.{plain_statement}
-use Rattle.cx_interp.specs.Machines.{design_of}
+use Rattle.cx_turns.specs.Machines.{design_of}
 use Rattle.cx_weave.specs.declared.strands.Strand.{Strand}
 use Rattle.cx_weave.specs.declared.strands.Strand.TheVariants as strands
 use Rattle.cx_weave.specs.Ledger.{amount, box_amount}

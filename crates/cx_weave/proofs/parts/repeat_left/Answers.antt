@@ -1,5 +1,5 @@
 use Rattle.std.proofs.Common.{◌+◌, ap, ◌∙◌}
-use Rattle.cx_interp.specs.Machines.{design_of}
+use Rattle.cx_turns.specs.Machines.{design_of}
 use Rattle.cx_weave.specs.declared.strands.Strand.{Strand}
 use Rattle.cx_weave.specs.declared.strands.Strand.TheVariants as strands
 use Rattle.cx_weave.specs.Ledger.{amount, box_amount}

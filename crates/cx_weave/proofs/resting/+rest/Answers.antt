@@ -3,12 +3,12 @@ use Rattle.std.proofs.lemmas.Bool.{lt-ltb, le-ltb}
 use Rattle.cx_meaning.specs.Cycles.{every_cell}
 use Rattle.cx_meaning.specs.Instances.{Set, paths_of, tree_of}
 use Rattle.cx_design.specs.declared.cells.CellKind.TheVariants.{Prim, Part}
-use Rattle.cx_interp.specs.Callees.{IsPart}
-use Rattle.cx_interp.specs.Machines.{design_of, rows_of}
-use Rattle.cx_interp.specs.Rooms.{HasRoom}
-use Rattle.cx_interp.proofs.CallLemmas.{child_instance}
-use Rattle.cx_interp.proofs.HoldLemmas.{own_path, part_inside}
-use Rattle.cx_interp.proofs.Measures.{below, call_falls}
+use Rattle.cx_turns.specs.Children.{IsPart}
+use Rattle.cx_turns.specs.Machines.{design_of, rows_of}
+use Rattle.cx_turns.specs.Rooms.{HasRoom}
+use Rattle.cx_turns.proofs.ChildLemmas.{child_instance}
+use Rattle.cx_turns.proofs.HoldLemmas.{own_path, part_inside}
+use Rattle.cx_turns.proofs.Measures.{below, call_falls}
 use Rattle.cx_weave.specs.Deep.{IsDeep}
 use Rattle.cx_weave.proofs.CellKinds.{few_cells, part_is, other_is, within_cells}
 use Rattle.cx_weave.proofs.RestSteps.{deep_starts, deep_ends, deep_skips, deep_goes, below_number, one_below, none_below}

@@ -1,7 +1,7 @@
 use Rattle.std.proofs.Common.{◌+◌, ◌*◌}
 use Rattle.cx_meaning.specs.Cycles.{every_cell}
-use Rattle.cx_interp.specs.Machines.{design_of, rows_of, IsAt}
-use Rattle.cx_interp.proofs.Measures.{below}
+use Rattle.cx_turns.specs.Machines.{design_of, rows_of, IsAt}
+use Rattle.cx_turns.proofs.Measures.{below}
 use Rattle.cx_weave.specs.Deep.{IsDeep}
 use Rattle.cx_weave.proofs.RestSteps.{below_number}
 use Rattle.cx_weave.proofs.resting.+rest.Given as goal

@@ -3,9 +3,9 @@ use Rattle.std.proofs.Math.Path.{fun_ext}
 use Rattle.cx_meaning.specs.Instances.{Set}
 use Rattle.cx_eval_cycle.specs.Passes.{listed_in}
 use Rattle.cx_eval_cycle.proofs.PassLemmas.{listed_more, not_yet}
-use Rattle.cx_interp.specs.Machines.{design_of, rows_of}
-use Rattle.cx_interp.specs.Rooms.{HasRoom}
-use Rattle.cx_interp.proofs.ParLemmas.{take_all}
+use Rattle.cx_turns.specs.Machines.{design_of, rows_of}
+use Rattle.cx_turns.specs.Rooms.{HasRoom}
+use Rattle.cx_turns.proofs.PartLemmas.{take_all}
 use Rattle.cx_weave.specs.Deep.{IsDeep, with_one}
 use Rattle.cx_weave.proofs.RestSteps.{deep_starts, deep_ends}
 use Rattle.cx_weave.proofs.resting.rest_listed.Goals as goal

@@ -1,6 +1,6 @@
 use Rattle.std.proofs.Common.{take}
 use Rattle.cx_eval_cycle.specs.Passes.{listed_in}
-use Rattle.cx_interp.specs.Machines.{design_of, rows_of, IsAt}
+use Rattle.cx_turns.specs.Machines.{design_of, rows_of, IsAt}
 use Rattle.cx_weave.specs.Deep.{IsDeep}
 use Rattle.cx_weave.proofs.resting.rest_listed.Given as goal
 

@@ -7,8 +7,8 @@ use Rattle.cx_meaning.specs.Instances.{part_of, instance_at, tree_of}
 use Rattle.cx_meaning.specs.Islands.{form_length, no_history}
 use Rattle.cx_design.specs.PlainForms.{plain_component, plain_form}
 use Rattle.cx_laws.specs.Samples.{form_ifs}
-use Rattle.cx_interp.specs.Machines.{design_of}
-use Rattle.cx_interp.proofs.IslandLemmas.{island_short, length_told}
+use Rattle.cx_turns.specs.Machines.{design_of}
+use Rattle.cx_turns.proofs.IslandLemmas.{island_short, length_told}
 use Rattle.cx_weave.specs.declared.strands.Island.{Island}
 use Rattle.cx_weave.specs.declared.strands.Strand.TheVariants as strands
 use Rattle.cx_weave.specs.Ledger.{amount}

@@ -3,9 +3,9 @@ use Rattle.std.specs.Prelude.{vec_capacity}
 use Rattle.std.proofs.lemmas.Result.{err_from_is_err_and}
 use Rattle.cx_design.specs.PlainForms.{plain_form, plain_statement, plain_statements}
 use Rattle.cx_limits.specs.Capped.{capped}
-use Rattle.cx_interp.specs.Callees.{IsPart}
-use Rattle.cx_interp.specs.Machines.{design_of, rows_of}
-use Rattle.cx_interp.proofs.CallLemmas.{child_instance}
+use Rattle.cx_turns.specs.Children.{IsPart}
+use Rattle.cx_turns.specs.Machines.{design_of, rows_of}
+use Rattle.cx_turns.proofs.ChildLemmas.{child_instance}
 use Rattle.cx_weave.specs.declared.strands.Strand.{Strand}
 use Rattle.cx_weave.specs.declared.strands.Arms.{Arms}
 use Rattle.cx_weave.specs.declared.strands.Strand.TheVariants as strands

@@ -5,7 +5,7 @@ use Rattle.cx_design.specs.declared.actives.Active.TheVariants as actives
 use Rattle.cx_state.specs.States.{IsStateOf, plain_state}
 use Rattle.cx_eval.specs.Evaluated.{CanAct, HasCycled, IsPort, IsSeenAlone}
 use Rattle.cx_eval_cycle.specs.Passes.{listed_in}
-use Rattle.cx_interp.specs.Machines.{design_of, rows_of}
+use Rattle.cx_turns.specs.Machines.{design_of, rows_of}
 use Rattle.cx_weave.specs.Strides.{TakesTurn}
 use Rattle.cx_orders.specs.Leaves.{own_turn}
 use Rattle.cx_weave.proofs.TurnsTaken.{group_alone, group_cycled}

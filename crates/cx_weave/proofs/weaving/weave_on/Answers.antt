@@ -2,11 +2,10 @@ use Rattle.std.proofs.Common.{rules, ◌≡◌, ◌<◌, ◌+◌, ◌^◌, Ok, E
 use Rattle.std.proofs.Math.Nat.{mod-lt}
 use Rattle.cx_meaning.specs.Instances.{instance_at, tree_of}
 use Rattle.cx_state.specs.ReadStates.{state_in}
-use Rattle.cx_weave.specs.Strides.{HasStepped}
+use Rattle.cx_turns.specs.Machines.{design_of, rows_of}
 use Rattle.cx_design.specs.PlainForms.{plain_statement}
-use Rattle.cx_interp.specs.Machines.{design_of, rows_of}
-use Rattle.cx_interp.proofs.CallLemmas.{control_stands}
-use Rattle.cx_interp.proofs.RunLemmas.{main_first, main_there}
+use Rattle.cx_turns.proofs.ChildLemmas.{control_stands, main_first, main_there}
+use Rattle.cx_weave.specs.Strides.{HasStepped}
 use Rattle.cx_orders.specs.Open.{open_statement}
 use Rattle.cx_weave.specs.Strands.{IsShown, plain_strand, strand_leaves}
 use Rattle.cx_weave.specs.declared.weaving.Wove.TheVariants.{End}

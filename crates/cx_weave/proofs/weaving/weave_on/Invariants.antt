@@ -2,7 +2,7 @@ use Rattle.std.proofs.Common.{◌≡◌, ℕ, List, ◌*◌, ◌^◌, ◌≤◌}
 use Rattle.cx_meaning.specs.Instances.{start, tree_of}
 use Rattle.cx_meaning.specs.Sights.{unheld}
 use Rattle.cx_state.specs.States.{inputs_held, StandsFor}
-use Rattle.cx_interp.specs.Machines.{design_of, rows_of, IsAt}
+use Rattle.cx_turns.specs.Machines.{design_of, rows_of, IsAt}
 use Rattle.cx_weave.specs.Ledger.{amount}
 use Rattle.cx_weave.specs.Strands.{IsShown, plain_strand}
 use Rattle.cx_weave.specs.Supplied.{MayTurn}

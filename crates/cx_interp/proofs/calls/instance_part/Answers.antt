@@ -1,7 +1,0 @@
-use Rattle.cx_interp.specs.Machines.{design_of}
-use Rattle.cx_interp.proofs.CallLemmas.{part_read}
-use Rattle.cx_interp.proofs.calls.instance_part.Goals as goal
-
-pub returns : goal.returns
-returns c =
-    part_read (design_of c.args.plan.now) c.args.plan.now.table.rows.items c.args.plan.now.table.children.items c.requires.plan.table c.args.instance c.index.result.now c.component.result.now c.requires.instance c.index.ensures c.component.ensures.value

@@ -1,3 +1,0 @@
-mod DriveLemmas
-mod WithinLemmas
-mod TableLemmas

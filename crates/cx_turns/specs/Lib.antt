@@ -1,0 +1,11 @@
+pub mod GroupRows
+pub mod Tests
+pub mod Groups
+pub mod Children
+pub mod Machines
+pub mod Starts
+pub mod Turns
+pub mod Rests
+pub mod Sights
+pub mod Rooms
+pub mod Islands

@@ -1,0 +1,86 @@
+//! Room for the samples and the active groups of any one island of a design, so that a run takes no memory.
+
+ghost use Rattle.std.specs.Prelude.{◌≡◌, ◌≤◌, ◌<◌, ◌-◌, ◌^◌, IfOk, length};
+ghost use Rattle.std.specs.Vec.{vec_len, vec_capacity};
+ghost use Rattle.cx_design.specs.PlainDesigns.{plain_design};
+ghost use Rattle.cx_design.specs.PlainForms.{plain_component, plain_form};
+ghost use Rattle.cx_laws.specs.Samples.{active_by, form_ifs};
+ghost use Rattle.cx_interp_islands.specs.Rooms.{form_groups, samples_of};
+ghost use Rattle.cx_turns.specs.Rooms.{PartFits, HasRoom, HasActive, HoldsEntries, entry_room};
+
+use cx_design::{Active, ActiveEntry, Component, Design, Form};
+use cx_design_parts::statements;
+use cx_interp_islands::{active_entries, if_count, reserve_entries};
+use cx_text::Memory;
+use std::alloc::Global;
+
+/// The samples of an island, by the numbers of its static ifs, and the groups that are active in a cycle of it.
+#[derive(Drop)]
+pub struct Room {
+    pub samples: Vec<bool>,
+    pub active: Active,
+}
+
+/// Makes as many samples as a statement has static ifs, if there are fewer.
+pub fn add_samples(form: &Form, samples: &mut Vec<bool>) -> Result<(), Memory>
+    ensures room { IfOk result (λ _. form_ifs (plain_form form.now) ≤ vec_len samples.new) }
+    ensures grows { IfOk result (λ _. vec_len samples.old ≤ vec_len samples.new) }
+{
+    let count = if_count(form);
+    if samples.len() < count {
+        samples.resize(count, false)?;
+    }
+    Ok(())
+}
+
+/// Makes room for the islands of a component.
+fn add_component(
+    alloc: Global,
+    component: &Component,
+    samples: &mut Vec<bool>,
+    entries: &mut Vec<ActiveEntry>,
+) -> Result<(), Memory>
+    ensures room { IfOk result (λ _. PartFits (plain_component component.now) (vec_len samples.new) (vec_capacity entries.new)) }
+    ensures samples { IfOk result (λ _. vec_len samples.old ≤ vec_len samples.new) }
+    ensures entries { IfOk result (λ _. vec_capacity entries.old ≤ vec_capacity entries.new) }
+{
+    let list = statements(alloc, component)?;
+    for statement in &list {
+        add_samples(statement.form, samples)?;
+        reserve_entries(statement.form, entries)?;
+    }
+    Ok(())
+}
+
+impl Room {
+    /// Room for the largest island of a design.
+    pub(crate) fn new(alloc: Global, design: &Design) -> Result<Room, Memory>
+        ensures { IfOk result (λ room. HasRoom (plain_design design.now) room) }
+    {
+        let mut samples = Vec::new(alloc);
+        let mut entries = Vec::new(alloc);
+        for component in &design.components {
+            add_component(alloc, component, &mut samples, &mut entries)?;
+        }
+        let active = Active::Entries(entries);
+        Ok(Room { samples, active })
+    }
+}
+
+/// Makes the groups that run in a cycle of an island the active ones.
+pub fn activate(part: &Component, form: &Form, samples: &[bool], cycle: u64, active: &mut Active)
+    requires cycle { cycle < 2 ^ 64 - 1 }
+    requires samples { form_ifs (plain_form form.now) ≤ length samples.now }
+    requires holds { HoldsEntries active.old }
+    requires room { form_groups (plain_form form.now) ≤ entry_room active.old }
+    ensures value { HasActive active.new (active_by (plain_component part.now) (samples_of samples.now) cycle (plain_form form.now)) }
+    ensures room { entry_room active.new ≡ entry_room active.old }
+{
+    match active {
+        Active::Entries(entries) => {
+            entries.clear();
+            active_entries(part, form, samples, cycle, entries);
+        }
+        Active::Nothing | Active::Group(_) | Active::CallEnd(_) => {}
+    }
+}
