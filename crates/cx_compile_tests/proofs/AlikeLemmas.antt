@@ -19,12 +19,12 @@ use Rattle.cx_control.specs.DesignRuns.{MachineRuns}
 use Rattle.cx_wiring.specs.InNet.{RealisesInNet}
 use Rattle.cx_commands.specs.declared.stops.Stop.{Stop}
 use Rattle.cx_commands.specs.declared.stops.Stop.TheVariants as stops
-use Rattle.cx_driver.specs.Texts.{IsDesignOf}
-use Rattle.cx_driver.specs.Interpreted.{told_of, loaded_result, design_result, IsInterpAnswer, IsInterpStop}
-use Rattle.cx_driver.specs.Compiled.{IsCompileStop}
-use Rattle.cx_driver.proofs.BelowLemmas.{loaded_fits}
-use Rattle.cx_driver.proofs.TextLayers.{text_rules}
-use Rattle.cx_driver.proofs.TextLemmas.{one_design}
+use Rattle.cx_compiler.specs.Texts.{IsDesignOf}
+use Rattle.cx_compiler.specs.Interpreted.{told_of, loaded_result, design_result, IsInterpAnswer, IsInterpStop}
+use Rattle.cx_compiler.specs.Compiled.{IsCompileStop}
+use Rattle.cx_compiler.proofs.BelowLemmas.{loaded_fits}
+use Rattle.cx_compiler.proofs.TextLayers.{text_rules}
+use Rattle.cx_compiler.proofs.TextLemmas.{one_design}
 use Rattle.cx_compile_tests.specs.Alike.{net_for, Loads, EndsAlike, WaitsAlike}
 
 same_error : (a b : Stop) → ◌≡◌ {A = Result (List ℕ) Stop} (Err a) (Err b) → a ≡ b

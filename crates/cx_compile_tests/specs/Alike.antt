@@ -15,7 +15,7 @@ use Rattle.cx_net.specs.NetTree.{NetInstance, net_tree}
 use Rattle.cx_net.specs.Realises.{HasOutcome}
 use Rattle.cx_static.specs.Lowering.{lowered_of}
 use Rattle.cx_wiring.specs.Wiring.{net_of}
-use Rattle.cx_driver.specs.Texts.{IsDesignOf}
+use Rattle.cx_compiler.specs.Texts.{IsDesignOf}
 
 -- the net of a design
 abbrev pub net_for : PlainDesign → NetInstance

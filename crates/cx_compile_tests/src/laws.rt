@@ -6,8 +6,9 @@ ghost use Rattle.cx_commands.specs.declared.stops.Stop.TheVariants.{More};
 ghost use Rattle.cx_compile_tests.specs.Alike.{EndsAlike, WaitsAlike};
 
 use crate::stepped::{ADD_THREE, FIVE};
+use cx_compiler::net_of;
 use cx_control::laws::machine_runs;
-use cx_driver::{Stop, interp, net_of};
+use cx_driver::{Stop, interp};
 use cx_wiring_runs::laws::design_is_realised;
 use std::alloc::Global;
 use std::process::Abort;

@@ -3,8 +3,8 @@
 ghost use Rattle.std.specs.Prelude.{IfOk};
 ghost use Rattle.cx_net_runs.specs.States.{CanStep};
 
+use cx_compiler::net_of;
 use cx_data::load;
-use cx_driver::net_of;
 use cx_net_runs::NetState;
 use std::alloc::Global;
 use std::process::Abort;

@@ -3,7 +3,7 @@ use Rattle.std.proofs.Common.{◌≡◌, ◌⊎◌, inl, inr, ⊎_elim, ℕ, Lis
 use Rattle.cx_text.specs.declared.limits.TheConstants.{DESIGN_BYTES}
 use Rattle.cx_commands.specs.Commands.{Asked, check, files_of, wanted_by}
 use Rattle.cx_commands.specs.Reads.{HoldsWithin, IsReadFault}
-use Rattle.cx_driver.specs.Texts.{IsAcceptedText, IsTextRefusal}
+use Rattle.cx_compiler.specs.Texts.{IsAcceptedText, IsTextRefusal}
 use Rattle.cx_driver.specs.Outcomes.{IsAnswer, StopsCommand}
 use Rattle.cx_commands.specs.declared.refusals.Refusal.{Refusal}
 use Rattle.cx_commands.specs.declared.refusals.Refusal.TheVariants as refusals

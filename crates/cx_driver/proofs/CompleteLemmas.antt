@@ -3,16 +3,16 @@ use Rattle.std.proofs.Common.{◌≡◌, ◌⊎◌, inl, inr, ⊎_elim, ℕ, Lis
 use Rattle.cx_outside.specs.Counts.{HasRisen}
 use Rattle.cx_text.specs.declared.limits.TheConstants.{DESIGN_BYTES, DATA_BYTES, VERILOG_BYTES}
 use Rattle.cx_commands.specs.Commands.{Asked, compile, interp, check, sim, trial, weave, wanted_by}
-use Rattle.cx_driver.specs.Compiled.{IsCompilable, Compiles}
-use Rattle.cx_driver.specs.Interpreted.{Interprets}
-use Rattle.cx_driver.specs.Outcomes.{Checks, Does, IsAnswer, CanAnswer, IsStopped, OfTold}
-use Rattle.cx_driver.specs.Tried.{Tries}
+use Rattle.cx_compiler.specs.Compiled.{IsCompilable, Compiles}
+use Rattle.cx_compiler.specs.Interpreted.{Interprets}
+use Rattle.cx_compiler.specs.Simulated.{Simulates}
+use Rattle.cx_compiler.proofs.Once.{Told, not_both, same_stop}
 use Rattle.cx_trial.specs.TrialTree.{trial_tree}
 use Rattle.cx_commands.specs.Lists.{numbers_in}
 use Rattle.cx_commands.specs.Reads.{OfFile}
-use Rattle.cx_driver.specs.Simulated.{Simulates}
-use Rattle.cx_driver.specs.Weaving.{Weaves}
-use Rattle.cx_driver.specs.Causes.{HasCause}
+use Rattle.cx_compiler.proofs.TextLemmas.{accepted_once}
+use Rattle.cx_compiler.proofs.CompileLemmas.{compilable_once, compiles_once}
+use Rattle.cx_driver.specs.Outcomes.{Checks, Does, IsAnswer, CanAnswer, IsStopped, OfTold}
 use Rattle.cx_commands.specs.Statuses.{status_of}
 use Rattle.cx_commands.specs.declared.refusals.Refusal.{Refusal}
 use Rattle.cx_commands.specs.declared.refusals.Refusal.TheVariants as refusals
@@ -20,10 +20,10 @@ use Rattle.cx_commands.specs.declared.refusals.Status.{Status}
 use Rattle.cx_commands.specs.declared.refusals.Status.TheVariants as statuses
 use Rattle.cx_commands.specs.declared.stops.Stop.{Stop}
 use Rattle.cx_commands.specs.declared.stops.Stop.TheVariants as stops
-use Rattle.cx_driver.proofs.Once.{Told, not_both, same_stop}
-use Rattle.cx_driver.proofs.TextLemmas.{accepted_once}
+use Rattle.cx_driver.specs.Tried.{Tries}
+use Rattle.cx_driver.specs.Weaving.{Weaves}
+use Rattle.cx_driver.specs.Causes.{HasCause}
 use Rattle.cx_driver.proofs.InterpLemmas.{one_result}
-use Rattle.cx_driver.proofs.CompileLemmas.{compilable_once, compiles_once}
 use Rattle.cx_driver.proofs.TrialLemmas.{one_line, tries_once}
 use Rattle.cx_driver.proofs.WovenLemmas.{one_woven}
 use Rattle.cx_driver.proofs.SimLemmas.{no_stop, spelled_once}

@@ -7,10 +7,10 @@ use Rattle.cx_meaning.specs.Designs.{PlainDesign}
 use Rattle.cx_rules.specs.Externals.{external_rows}
 use Rattle.cx_commands.specs.declared.stops.Stop.{Stop}
 use Rattle.cx_commands.specs.declared.stops.Stop.TheVariants as stops
+use Rattle.cx_compiler.specs.Texts.{IsDesignOf, IsTextRefusal}
+use Rattle.cx_compiler.specs.Interpreted.{PlainLeft, dumped, loaded_left, design_left, design_result, Interprets, IsInterpAnswer, IsInterpStop, IsDesignAnswer, IsDesignStop, IsDesignLeft, StopsDesign, IsRunLeft, StopsRun}
+use Rattle.cx_compiler.proofs.TextLemmas.{one_design, text_of_design, accepted_once, break_once}
 use Rattle.cx_driver.specs.Loads.{IsUnloaded}
-use Rattle.cx_driver.specs.Texts.{IsDesignOf, IsTextRefusal}
-use Rattle.cx_driver.specs.Interpreted.{PlainLeft, dumped, loaded_left, design_left, design_result, Interprets, IsInterpAnswer, IsInterpStop, IsDesignAnswer, IsDesignStop, IsDesignLeft, StopsDesign, IsRunLeft, StopsRun}
-use Rattle.cx_driver.proofs.TextLemmas.{one_design, text_of_design, accepted_once, break_once}
 
 -- WHAT A TEXT DOES is one thing
 pub one_result : (text json : List ℕ) (budget : ℕ) (a b : Result (List ℕ) Stop) → Interprets text json budget a → Interprets text json budget b → a ≡ b

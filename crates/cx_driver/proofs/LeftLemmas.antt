@@ -15,11 +15,11 @@ use Rattle.cx_vtree.specs.SimRun.{DoneAt}
 use Rattle.cx_vtree.proofs.Runs.{one_outcome}
 use Rattle.cx_net.specs.Realises.{Realises}
 use Rattle.cx_commands.specs.declared.stops.Stop.{Stop}
-use Rattle.cx_driver.specs.Interpreted.{PlainLeft, left_of, loaded_left, design_left}
-use Rattle.cx_driver.specs.Simulated.{IsVerilogOf, RunLeaves, SourceLeaves, TextLeaves}
-use Rattle.cx_driver.proofs.BelowLemmas.{loaded_fits}
-use Rattle.cx_driver.proofs.PromiseLemmas.{done_turns, done_words}
-use Rattle.cx_driver.proofs.SimLemmas.{one_source_of}
+use Rattle.cx_compiler.specs.Interpreted.{PlainLeft, left_of, loaded_left, design_left}
+use Rattle.cx_compiler.specs.Simulated.{IsVerilogOf, RunLeaves, SourceLeaves, TextLeaves}
+use Rattle.cx_compiler.proofs.BelowLemmas.{loaded_fits}
+use Rattle.cx_compiler.proofs.PromiseLemmas.{done_turns, done_words}
+use Rattle.cx_compiler.proofs.OneSource.{one_source_of}
 
 abbrev left_or : PlainLeft → Result PlainLeft Stop → PlainLeft
 left_or none (Ok left) = left

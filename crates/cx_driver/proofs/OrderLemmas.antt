@@ -18,11 +18,11 @@ use Rattle.cx_orders.specs.Woven as woven
 use Rattle.cx_orders.specs.Woven.{Woven, by_list}
 use Rattle.cx_commands.specs.declared.stops.Stop.{Stop}
 use Rattle.cx_commands.specs.declared.stops.Stop.TheVariants as stops
-use Rattle.cx_driver.specs.Interpreted.{told_of, loaded_result}
-use Rattle.cx_driver.specs.Laws.{NoneEnds}
-use Rattle.cx_driver.specs.Texts.{IsDesignOf}
+use Rattle.cx_compiler.specs.Interpreted.{told_of, loaded_result}
+use Rattle.cx_compiler.specs.Laws.{NoneEnds}
+use Rattle.cx_compiler.specs.Texts.{IsDesignOf}
+use Rattle.cx_compiler.proofs.PromiseLemmas.{of_design}
 use Rattle.cx_driver.specs.Weaving.{told_woven, loaded_woven, IsDesignWoven, NeverFaults}
-use Rattle.cx_driver.proofs.PromiseLemmas.{of_design}
 
 module _ (none : NoneEnds) (d : PlainDesign) (keeps : ∥ IsDesign d ∥₁) (accepted : IsAccepted d) (list : List ℕ) where
   -- of an end of one and a fault of the other

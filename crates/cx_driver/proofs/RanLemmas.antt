@@ -16,7 +16,7 @@ use Rattle.cx_interp.specs.declared.answers.Answer.TheVariants.{End, Fault, More
 use Rattle.cx_interp.specs.Runs.{Answered}
 use Rattle.cx_commands.specs.declared.stops.Stop.{Stop}
 use Rattle.cx_commands.specs.declared.stops.Stop.TheVariants as stops
-use Rattle.cx_driver.specs.Interpreted.{PlainLeft, fault_stop, left_of, IsRunLeft, StopsRun}
+use Rattle.cx_compiler.specs.Interpreted.{PlainLeft, fault_stop, left_of, IsRunLeft, StopsRun}
 
 -- the words of what is loaded are those of its plain memories
 pub words_of_loaded : (ms : List LoadedMemory) → words_in ms ≡ words_loaded (map plain_memory ms)

@@ -1,7 +1,5 @@
 -- What a Verilog text does on a data file, from what its parts do.
 use Rattle.std.proofs.Common.{◌≡◌, ◌⊎◌, inl, inr, ℕ, List, [], Option, Some, None, Result, Ok, Err, IfOk, IfErr, refl, sym, ap, ◌∙◌, subst, true}
-use Rattle.std.proofs.lemmas.Bool.{and_parts}
-use Rattle.std.specs.Prelude.{is_none}
 use Rattle.cx_text.specs.Loading.{PlainRow, PlainMemory, words_loaded, with_words}
 use Rattle.cx_data.specs.Dump.{dump_text}
 use Rattle.cx_data.specs.Load.{load_of}
@@ -10,41 +8,23 @@ use Rattle.cx_vtree.specs.Plain.{PlainSource}
 use Rattle.cx_vtree.specs.PlainParts.{rows_of}
 use Rattle.cx_vtree.specs.InstanceTree.{instances_of}
 use Rattle.cx_vtree.specs.Layout.{is_laid_out}
-use Rattle.cx_vtree.specs.Sound.{break_of, is_sound}
+use Rattle.cx_vtree.specs.Sound.{is_sound}
 use Rattle.cx_vtree.specs.Spelling.{text_of}
 use Rattle.cx_vtree.specs.SimRun.{Outcome, DoneAt, LoopAt, NotDone, SimRun}
 use Rattle.cx_vtree.proofs.Runs.{one_outcome}
 use Rattle.cx_velab.specs.Paths.{path_of}
-use Rattle.cx_vread_exprs.specs.Places.{Place}
-use Rattle.cx_vread_exprs.proofs.NumberAgain.{clean}
-use Rattle.cx_vread.specs.Parts.{source_at}
 use Rattle.cx_vread.specs.ReadAnswers.{Answers, ReadAs, Tells}
 use Rattle.cx_vread.specs.declared.refusals.ReadRefusal.{ReadRefusal}
 use Rattle.cx_vread.specs.declared.refusals.ReadRefusal.TheVariants as unread
-use Rattle.cx_vread.proofs.HeldSources.{sound_held}
-use Rattle.cx_vread.proofs.SourceAgain.{source_again}
 use Rattle.cx_vsim.specs.Answers.{IsDone, answer_of, final_words}
 use Rattle.cx_vsim.specs.declared.answers.SimAnswer.TheVariants.{Done, Loop, More}
 use Rattle.cx_commands.specs.declared.stops.Stop.{Stop}
 use Rattle.cx_commands.specs.declared.stops.Stop.TheVariants as stops
+use Rattle.cx_compiler.specs.Interpreted.{PlainLeft}
+use Rattle.cx_compiler.specs.Simulated.{IsVerilogOf, told_outcome, RunDoes, LoadedDoes, SourceDoes, Spells, Simulates, RunLeaves, SourceLeaves, TextLeaves, IsSimAnswer, IsSimStop, IsSourceStop, StopsRun, IsNoSource, read_stop}
+use Rattle.cx_compiler.proofs.OneSource.{one_source_of}
+use Rattle.cx_compiler.proofs.Once.{Told, not_both}
 use Rattle.cx_driver.specs.Loads.{IsUnloaded}
-use Rattle.cx_driver.specs.Interpreted.{PlainLeft}
-use Rattle.cx_driver.specs.Simulated.{IsVerilogOf, told_outcome, RunDoes, LoadedDoes, SourceDoes, Spells, Simulates, RunLeaves, SourceLeaves, TextLeaves, IsSimAnswer, IsSimStop, IsSourceStop, StopsRun, IsNoSource, read_stop}
-use Rattle.cx_driver.proofs.Once.{Told, not_both}
-
--- A TEXT SPELLS one sound source: what is read of the text of a sound source is that source
-abbrev source_or : PlainSource → Option (PlainSource × Place) → PlainSource
-source_or s None = s
-source_or s (Some x) = x.0
-
-read_again : (s : PlainSource) → is_sound s ≡ true → source_at (clean (text_of s)) ≡ Some (s, clean [])
-read_again s sound = source_again s (and_parts (is_laid_out s) (is_none (break_of s)) sound).0 (sound_held s sound)
-
-pub one_source : (s t : PlainSource) → is_sound s ≡ true → is_sound t ≡ true → text_of s ≡ text_of t → s ≡ t
-one_source s t a b e = ap (source_or s) (sym (read_again s a) ∙ ap (λ x. source_at (clean x)) e ∙ read_again t b)
-
-pub one_source_of : (text : List ℕ) (s t : PlainSource) → IsVerilogOf text s → IsVerilogOf text t → s ≡ t
-one_source_of text s t a b = one_source s t a.sound b.sound (sym a.spelled ∙ b.spelled)
 
 -- WHAT A SOUND SOURCE DOES is one thing
 loaded_once : (s : PlainSource) (budget : ℕ) (loaded : Result (List PlainMemory) DataFault) (a b : Told) → LoadedDoes s budget loaded a → LoadedDoes s budget loaded b → a ≡ b

@@ -10,7 +10,7 @@ use Rattle.cx_trial.specs.TrialParts.{up_to, indexed, step_name}
 use Rattle.cx_trial.specs.TrialControl.{block_of, enable, seq_of, par_of, repeated, rounds, step_of, arm_of, quarter_of, all_arms, whole_control}
 use Rattle.cx_trial.specs.TrialTree.{trial_tree}
 use Rattle.cx_bytes.specs.Shallow.{IsShallow}
-use Rattle.cx_driver.proofs.TextDepth.{AllFit, BlockFits, Each, OtherwiseFits, StatementFits, all_fit, tree_shallow}
+use Rattle.cx_compiler.proofs.TextDepth.{AllFit, BlockFits, Each, OtherwiseFits, StatementFits, all_fit, tree_shallow}
 
 -- LISTS
 both : {A : Type 0} (P : A → Type 0) (xs ys : List A) → Each P xs → Each P ys → Each P (xs ++ ys)

@@ -24,14 +24,15 @@ use Rattle.cx_trial.specs.TrialParts.{up_to, step_group, sum_group, store_group,
 use Rattle.cx_trial.specs.TrialTree.{arm_groups, step_groups, trial_tree}
 use Rattle.cx_commands.specs.declared.stops.Stop.{Stop}
 use Rattle.cx_commands.specs.declared.stops.Stop.TheVariants as stops
-use Rattle.cx_driver.specs.Interpreted.{PlainLeft, design_left, StopsDesign}
-use Rattle.cx_driver.specs.Compiled.{IsDesignTooLarge, IsDesignWritten, too_large, written_source}
-use Rattle.cx_driver.specs.Simulated.{IsSimStop, TextLeaves}
+use Rattle.cx_compiler.specs.Interpreted.{PlainLeft, design_left, StopsDesign}
+use Rattle.cx_compiler.specs.Compiled.{IsDesignTooLarge, IsDesignWritten, too_large, written_source}
+use Rattle.cx_compiler.specs.Simulated.{IsSimStop, TextLeaves}
+use Rattle.cx_compiler.specs.Texts.{IsTreeStop}
+use Rattle.cx_compiler.proofs.Once.{Told, not_both, same_stop, all_answered, all_stopped}
+use Rattle.cx_compiler.proofs.OneSource.{one_source_of}
+use Rattle.cx_compiler.proofs.BelowLemmas.{loaded_fits}
 use Rattle.cx_driver.specs.Tried.{HasTrialMemory, words_sum, zeros, line_of, line_result, try_result, TreeTries, Tries, TellsRule}
-use Rattle.cx_driver.specs.Texts.{IsTreeStop}
-use Rattle.cx_driver.proofs.Once.{Told, not_both, same_stop, all_answered, all_stopped}
-use Rattle.cx_driver.proofs.SimLemmas.{left_answers, no_stop, one_source_of}
-use Rattle.cx_driver.proofs.BelowLemmas.{loaded_fits}
+use Rattle.cx_driver.proofs.SimLemmas.{left_answers, no_stop}
 use Rattle.cx_driver.proofs.TrialMemory.{shapes_stay, small_sum}
 use Rattle.cx_driver.proofs.LeftLemmas.{design_in_text, text_once}
 

@@ -19,11 +19,11 @@ use Rattle.cx_orders.specs.Woven.{Woven}
 use Rattle.cx_commands.specs.Lists.{numbers_in, parts_of}
 use Rattle.cx_commands.specs.declared.stops.Stop.{Stop}
 use Rattle.cx_commands.specs.declared.stops.Stop.TheVariants as stops
-use Rattle.cx_driver.specs.Interpreted.{fault_stop}
+use Rattle.cx_compiler.specs.Interpreted.{fault_stop}
+use Rattle.cx_compiler.specs.Texts.{IsDesignOf, IsTextRefusal}
+use Rattle.cx_compiler.proofs.TextLemmas.{one_design, text_of_design, accepted_once, break_once}
 use Rattle.cx_driver.specs.Loads.{IsUnloaded}
-use Rattle.cx_driver.specs.Texts.{IsDesignOf, IsTextRefusal}
 use Rattle.cx_driver.specs.Weaving.{woven_text, told_woven, loaded_woven, design_woven, Weaves, IsWovenAnswer, IsWeaveStop, IsDesignWoven, StopsDesignWoven, IsRunWoven, StopsRunWoven}
-use Rattle.cx_driver.proofs.TextLemmas.{one_design, text_of_design, accepted_once, break_once}
 
 -- a list has a number
 pub some_number : (word : List ℕ) → 0 < length (numbers_in word)

@@ -2,8 +2,8 @@
 use Rattle.std.specs.Prelude.{All, map}
 use Rattle.cx_text.specs.Loading.{FitsShape, plain_loaded}
 use Rattle.cx_data.specs.Widths.{HasWordWidth}
+use Rattle.cx_compiler.specs.Interpreted.{PlainLeft}
 use Rattle.cx_driver.specs.declared.interpreting.Left.{Left}
-use Rattle.cx_driver.specs.Interpreted.{PlainLeft}
 
 abbrev pub plain_left : Left → PlainLeft
 plain_left left = record { turns = left.turns; memories = plain_loaded left.loaded }

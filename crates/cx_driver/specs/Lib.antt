@@ -1,12 +1,6 @@
-pub mod Texts
 pub mod Loads
-pub mod Interpreted
 pub mod Weaving
 pub mod Leaving
-pub mod Simulated
-pub mod Compiled
 pub mod Tried
-pub mod Laws
 pub mod Outcomes
 pub mod Causes
-pub mod Promise

@@ -4,10 +4,10 @@ use Rattle.cx_text.specs.declared.diagnostics.Diagnostic.{Diagnostic}
 use Rattle.cx_text.specs.declared.limits.TheConstants.{DESIGN_BYTES, DATA_BYTES, VERILOG_BYTES}
 use Rattle.cx_commands.specs.Commands.{Asked, compile, interp, check, sim, trial, weave, Asks}
 use Rattle.cx_commands.specs.Reads.{OfFile}
-use Rattle.cx_driver.specs.Texts.{IsAcceptedText, TextBreak}
-use Rattle.cx_driver.specs.Compiled.{IsCompilable, Compiles}
-use Rattle.cx_driver.specs.Interpreted.{Interprets}
-use Rattle.cx_driver.specs.Simulated.{Simulates}
+use Rattle.cx_compiler.specs.Texts.{IsAcceptedText, TextBreak}
+use Rattle.cx_compiler.specs.Compiled.{IsCompilable, Compiles}
+use Rattle.cx_compiler.specs.Interpreted.{Interprets}
+use Rattle.cx_compiler.specs.Simulated.{Simulates}
 use Rattle.cx_driver.specs.Tried.{Tries}
 use Rattle.cx_driver.specs.Weaving.{Weaves}
 use Rattle.cx_commands.specs.Lists.{numbers_in}

@@ -12,8 +12,8 @@ use Rattle.cx_check.specs.Acceptance.{IsAcceptedTree, TreeBreak}
 use Rattle.cx_trial.specs.TrialTree.{trial_tree}
 use Rattle.cx_commands.specs.declared.stops.Stop.{Stop}
 use Rattle.cx_commands.specs.declared.stops.Stop.TheVariants as stops
-use Rattle.cx_driver.specs.Interpreted.{PlainLeft, design_left}
-use Rattle.cx_driver.specs.Compiled.{too_large}
+use Rattle.cx_compiler.specs.Interpreted.{PlainLeft, design_left}
+use Rattle.cx_compiler.specs.Compiled.{too_large}
 
 -- a data file with zeros for the sixteen words
 abbrev pub zeros : List ℕ

@@ -11,8 +11,8 @@ use Rattle.cx_rules.specs.Externals.{external_rows}
 use Rattle.cx_orders.specs.Woven as woven
 use Rattle.cx_orders.specs.Woven.{Woven, by_list, woven}
 use Rattle.cx_meaning.specs.declared.sights.FaultKind.{FaultKind}
-use Rattle.cx_driver.specs.Interpreted.{fault_stop, Interprets}
-use Rattle.cx_driver.specs.Texts.{IsDesignOf, TextBreak}
+use Rattle.cx_compiler.specs.Interpreted.{fault_stop, Interprets}
+use Rattle.cx_compiler.specs.Texts.{IsDesignOf, TextBreak}
 use Rattle.cx_commands.specs.declared.stops.Stop.{Stop}
 use Rattle.cx_commands.specs.declared.stops.Stop.TheVariants as stops
 

@@ -5,7 +5,7 @@ ghost use Rattle.cx_meaning.specs.Cycles.{Fault};
 ghost use Rattle.cx_meaning.specs.Instances.{paths_of, tree_of};
 ghost use Rattle.cx_design.specs.PlainActives.{TellsFault};
 ghost use Rattle.cx_design.specs.PlainDesigns.{plain_design};
-ghost use Rattle.cx_driver.specs.Interpreted.{fault_stop};
+ghost use Rattle.cx_compiler.specs.Interpreted.{fault_stop};
 ghost use Rattle.cx_commands.specs.declared.stops.Stop.TheVariants as stops;
 
 use cx_commands::Stop;

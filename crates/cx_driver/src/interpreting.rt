@@ -8,15 +8,15 @@ ghost use Rattle.cx_meaning.specs.Running.{run_main};
 ghost use Rattle.cx_rules.specs.Externals.{external_rows};
 ghost use Rattle.cx_design.specs.PlainDesigns.{plain_design};
 ghost use Rattle.cx_interp.specs.Runs.{HasRun};
-ghost use Rattle.cx_driver.specs.Interpreted.{IsDesignAnswer, IsDesignLeft, IsDesignStop, IsInterpAnswer, IsInterpStop, IsRunLeft, StopsDesign, StopsRun, StopsText};
+ghost use Rattle.cx_compiler.specs.Interpreted.{IsDesignAnswer, IsDesignLeft, IsDesignStop, IsInterpAnswer, IsInterpStop, IsRunLeft, StopsDesign, StopsRun, StopsText};
 ghost use Rattle.cx_driver.specs.Leaving.{CanDump, plain_left};
 ghost use Rattle.cx_commands.specs.declared.stops.Stop.{Stop as StopValue};
 ghost use Rattle.cx_commands.specs.declared.stops.Stop.TheVariants as stops;
 
-use crate::accepting::accepted_design;
 use crate::faults::faulted;
 use crate::memories::{dump_of, load};
 use cx_commands::Stop;
+use cx_compiler::accepted_design;
 use cx_design::Checked;
 use cx_interp::{Answer, Ran, run};
 use cx_text::Loaded;

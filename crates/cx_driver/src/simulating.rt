@@ -8,8 +8,8 @@ ghost use Rattle.cx_vtree.specs.PlainSources.{plain_source};
 ghost use Rattle.cx_vtree.specs.SimRun.{SimRun};
 ghost use Rattle.cx_velab.specs.Paths.{path_of};
 ghost use Rattle.cx_vsim.specs.Answers.{IsDone, final_words};
+ghost use Rattle.cx_compiler.specs.Simulated.{IsNoSource, IsSimAnswer, IsSimStop, IsSourceStop, IsVerilogOf, RunLeaves, SourceLeaves, Spells, StopsRun, TextLeaves, read_stop};
 ghost use Rattle.cx_driver.specs.Leaving.{CanDump, plain_left};
-ghost use Rattle.cx_driver.specs.Simulated.{IsNoSource, IsSimAnswer, IsSimStop, IsSourceStop, IsVerilogOf, RunLeaves, SourceLeaves, Spells, StopsRun, TextLeaves, read_stop};
 ghost use Rattle.cx_commands.specs.declared.stops.Stop.{Stop as StopValue};
 ghost use Rattle.cx_commands.specs.declared.stops.Stop.TheVariants as stops;
 

@@ -9,16 +9,15 @@ ghost use Rattle.cx_check.specs.Acceptance.{TreeBreak};
 ghost use Rattle.cx_trial.specs.TrialTree as tree_of;
 ghost use Rattle.cx_commands.specs.declared.stops.Stop.{Stop as StopValue};
 ghost use Rattle.cx_commands.specs.declared.stops.Stop.TheVariants as stops;
-ghost use Rattle.cx_driver.specs.Compiled.{EmitsWithin, IsShortWithin, KeepsRulesWithin};
+ghost use Rattle.cx_compiler.specs.Compiled.{EmitsWithin, IsShortWithin, KeepsRulesWithin};
 ghost use Rattle.cx_driver.specs.Leaving.{plain_left};
 ghost use Rattle.cx_driver.specs.Tried as plain;
 ghost use Rattle.cx_driver.specs.Tried.{EndsOnZeros, HasTrialMemory, IsTrialStop, StopsTrial, TellsRule, Tries, counted, trial_line, try_result, words_sum};
 
-use crate::accepting::tried;
-use crate::compiling::compile_design;
 use crate::interpreting::{Left, run_design};
 use crate::simulating::simulate;
 use cx_commands::Stop;
+use cx_compiler::{compile_design, tried};
 use cx_design::Checked;
 use cx_text::{BUDGET, LoadedMemory, Memory};
 use cx_trial::trial_tree;

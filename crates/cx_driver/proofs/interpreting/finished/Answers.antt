@@ -3,7 +3,7 @@ use Rattle.cx_text.specs.Loading.{FitsRows, plain_loaded}
 use Rattle.cx_rules.specs.Externals.{external_rows}
 use Rattle.cx_design.specs.declared.designs.Design.{Design}
 use Rattle.cx_design.specs.PlainDesigns.{plain_design}
-use Rattle.cx_driver.proofs.RowWidths.{rows_have_width, widths_fit}
+use Rattle.cx_compiler.proofs.RowWidths.{rows_have_width, widths_fit}
 use Rattle.cx_driver.proofs.interpreting.finished.Goals as goal
 
 pub memories-requires : goal.memories-requires

@@ -1,8 +1,8 @@
 use Rattle.std.proofs.Common.{[], Err}
 use Rattle.cx_design.specs.PlainDesigns.{plain_design}
-use Rattle.cx_driver.specs.Interpreted.{IsInterpStop, Interprets}
+use Rattle.cx_compiler.specs.Interpreted.{IsInterpStop, Interprets}
+use Rattle.cx_compiler.proofs.Once.{Told, all_answered, all_stopped}
 use Rattle.cx_driver.proofs.InterpLemmas.{one_result, text_answers, text_stops, refused_stops}
-use Rattle.cx_driver.proofs.Once.{Told, all_answered, all_stopped}
 use Rattle.cx_driver.proofs.interpreting.interp.Goals as goal
 
 pub returns-in-Ok : goal.returns-in-Ok

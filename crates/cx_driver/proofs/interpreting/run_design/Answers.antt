@@ -4,9 +4,9 @@ use Rattle.cx_data.specs.Load.{load_of}
 use Rattle.cx_data.specs.Widths.{HasWordWidth}
 use Rattle.cx_rules.specs.Externals.{external_rows}
 use Rattle.cx_design.specs.PlainDesigns.{plain_design}
+use Rattle.cx_compiler.proofs.RowWidths.{rows_have_width}
 use Rattle.cx_driver.specs.Leaving.{plain_left}
 use Rattle.cx_driver.proofs.InterpLemmas.{design_leaves, design_stops, unloaded_stops}
-use Rattle.cx_driver.proofs.RowWidths.{rows_have_width}
 use Rattle.cx_driver.proofs.interpreting.run_design.Goals as goal
 
 pub load-requires : goal.load-requires

@@ -1,4 +1,4 @@
-use Rattle.cx_driver.proofs.Once.{or_memory}
+use Rattle.cx_compiler.proofs.Once.{or_memory}
 use Rattle.cx_driver.proofs.memories.load.Goals as goal
 
 pub returns-in-Err-clause-cause : goal.returns-in-Err-clause-cause

@@ -2,7 +2,7 @@ use Rattle.std.proofs.Common.{[], refl, subst}
 use Rattle.std.proofs.lemmas.Result.{err_from_is_err_and}
 use Rattle.cx_text.specs.declared.limits.TheConstants.{DESIGN_BYTES}
 use Rattle.cx_commands.specs.Commands.{Wanted, check}
-use Rattle.cx_driver.specs.Texts.{IsAcceptedText, IsTextRefusal}
+use Rattle.cx_compiler.specs.Texts.{IsAcceptedText, IsTextRefusal}
 use Rattle.cx_driver.proofs.CauseLemmas.{memory_cause, accepted_answer, refused_check}
 use Rattle.cx_driver.proofs.ReadLemmas.{first_read}
 use Rattle.cx_driver.proofs.running.checked.Goals as goal

@@ -2,8 +2,8 @@ use Rattle.std.proofs.Common.{[], refl, subst}
 use Rattle.std.proofs.lemmas.Result.{err_from_is_err_and}
 use Rattle.cx_text.specs.declared.limits.TheConstants.{DESIGN_BYTES}
 use Rattle.cx_commands.specs.Commands.{Wanted, compile}
-use Rattle.cx_driver.specs.Compiled.{IsCompileStop, IsCompiled}
-use Rattle.cx_driver.proofs.Once.{or_memory}
+use Rattle.cx_compiler.specs.Compiled.{IsCompileStop, IsCompiled}
+use Rattle.cx_compiler.proofs.Once.{or_memory}
 use Rattle.cx_driver.proofs.ReadLemmas.{first_read}
 use Rattle.cx_driver.proofs.running.compiled.Goals as goal
 

@@ -2,8 +2,8 @@ use Rattle.std.proofs.Common.{[], ◌∷◌, refl, subst, List, ℕ, Ok, Err}
 use Rattle.std.proofs.lemmas.Result.{err_from_is_err_and}
 use Rattle.cx_text.specs.declared.limits.TheConstants.{DATA_BYTES, DESIGN_BYTES}
 use Rattle.cx_commands.specs.Commands.{Wanted, interp}
-use Rattle.cx_driver.specs.Interpreted.{Interprets, IsInterpStop}
-use Rattle.cx_driver.proofs.Once.{or_memory}
+use Rattle.cx_compiler.specs.Interpreted.{Interprets, IsInterpStop}
+use Rattle.cx_compiler.proofs.Once.{or_memory}
 use Rattle.cx_driver.proofs.ReadLemmas.{both_read, first_read, second_read}
 use Rattle.cx_driver.proofs.running.interpreted.Goals as goal
 

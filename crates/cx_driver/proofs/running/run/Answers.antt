@@ -7,7 +7,7 @@ use Rattle.cx_commands.proofs.CommandLemmas.{has_list, one_command}
 use Rattle.cx_commands.specs.Commands as asked
 use Rattle.cx_driver.proofs.CompleteLemmas.{complete_asked, stopped_asked}
 use Rattle.cx_driver.proofs.FileLemmas.{file_asked}
-use Rattle.cx_driver.proofs.PromiseLemmas.{kept_of_file}
+use Rattle.cx_driver.proofs.FilePromise.{kept_of_file}
 use Rattle.cx_driver.proofs.running.run.Goals as goal
 
 pub returns-in-Some-clause-done : goal.returns-in-Some-clause-done

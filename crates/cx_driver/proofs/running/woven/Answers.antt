@@ -3,8 +3,8 @@ use Rattle.std.proofs.lemmas.Result.{err_from_is_err_and}
 use Rattle.cx_text.specs.declared.limits.TheConstants.{DATA_BYTES, DESIGN_BYTES}
 use Rattle.cx_commands.specs.Commands.{Wanted, weave}
 use Rattle.cx_commands.specs.Lists.{numbers_in}
+use Rattle.cx_compiler.proofs.Once.{or_memory}
 use Rattle.cx_driver.specs.Weaving.{Weaves, IsWeaveStop}
-use Rattle.cx_driver.proofs.Once.{or_memory}
 use Rattle.cx_driver.proofs.ReadLemmas.{both_read, first_read, second_read}
 use Rattle.cx_driver.proofs.running.woven.Goals as goal
 

@@ -4,7 +4,7 @@ use Rattle.cx_data.specs.Widths.{HasWordWidth}
 use Rattle.cx_vtree.specs.declared.sources.Source.{Source}
 use Rattle.cx_vtree.specs.PlainParts.{rows_of}
 use Rattle.cx_vtree.specs.PlainSources.{plain_source}
-use Rattle.cx_driver.proofs.RowWidths.{widths_fit}
+use Rattle.cx_compiler.proofs.RowWidths.{widths_fit}
 use Rattle.cx_driver.proofs.simulating.finished.Goals as goal
 
 pub memories-requires-clause-fits : goal.memories-requires-clause-fits

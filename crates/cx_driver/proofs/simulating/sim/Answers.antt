@@ -1,7 +1,7 @@
 use Rattle.std.proofs.Common.{[], Ok, Err}
+use Rattle.cx_compiler.specs.Simulated.{IsSimAnswer, IsSimStop, Simulates, Spells}
+use Rattle.cx_compiler.proofs.Once.{Told, all_answered, all_stopped}
 use Rattle.cx_driver.specs.Leaving.{plain_left}
-use Rattle.cx_driver.specs.Simulated.{IsSimAnswer, IsSimStop, Simulates, Spells}
-use Rattle.cx_driver.proofs.Once.{Told, all_answered, all_stopped}
 use Rattle.cx_driver.proofs.SimLemmas.{answer_spells, left_answers, spelled_once}
 use Rattle.cx_driver.proofs.simulating.sim.Goals as goal
 

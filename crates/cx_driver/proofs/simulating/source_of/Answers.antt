@@ -1,5 +1,5 @@
 use Rattle.std.proofs.Common.{sym, subst}
-use Rattle.cx_driver.specs.Simulated.{IsNoSource}
+use Rattle.cx_compiler.specs.Simulated.{IsNoSource}
 use Rattle.cx_commands.specs.declared.stops.Stop.{Stop}
 use Rattle.cx_driver.proofs.SimLemmas.{unread_text}
 use Rattle.cx_driver.proofs.simulating.source_of.Goals as goal

@@ -3,11 +3,11 @@ use Rattle.cx_ast.specs.PlainTree.{plain_tree}
 use Rattle.cx_numbering.specs.DesignOf.{design_of}
 use Rattle.cx_design.specs.PlainDesigns.{plain_design}
 use Rattle.cx_names.specs.Targets.{HasTargets}
-use Rattle.cx_driver.proofs.TextLayers.{tree_rules}
+use Rattle.cx_compiler.proofs.TextLayers.{tree_rules}
+use Rattle.cx_compiler.proofs.WrittenLength.{tree_short}
+use Rattle.cx_compiler.proofs.WrittenNets.{tree_emitted}
 use Rattle.cx_driver.proofs.TrialDepth.{trial_shallow}
 use Rattle.cx_driver.proofs.TrialMemory.{trial_memory, trial_words}
-use Rattle.cx_driver.proofs.WrittenLength.{tree_short}
-use Rattle.cx_driver.proofs.WrittenNets.{tree_emitted}
 use Rattle.cx_driver.proofs.TrialLemmas.{design_told, refusal_told, trial_targets}
 use Rattle.cx_driver.proofs.trying.trial.Goals as goal
 

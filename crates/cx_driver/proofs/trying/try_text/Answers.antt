@@ -1,8 +1,8 @@
 use Rattle.std.proofs.Common.{List, ℕ, subst}
 use Rattle.cx_text.specs.declared.limits.TheConstants.{BUDGET}
 use Rattle.cx_design.specs.PlainDesigns.{plain_design}
+use Rattle.cx_compiler.specs.Simulated.{IsSimStop, TextLeaves}
 use Rattle.cx_driver.specs.Leaving.{plain_left}
-use Rattle.cx_driver.specs.Simulated.{IsSimStop, TextLeaves}
 use Rattle.cx_driver.specs.Tried.{zeros}
 use Rattle.cx_driver.proofs.TrialLemmas.{left_small, leaves_large, simulated_line, unsimulated}
 use Rattle.cx_driver.proofs.trying.try_text.Goals as goal

@@ -1,10 +1,10 @@
 use Rattle.std.proofs.Common.{[], Err}
 use Rattle.cx_design.specs.PlainDesigns.{plain_design}
+use Rattle.cx_compiler.proofs.TextLemmas.{accepted_rules}
+use Rattle.cx_compiler.proofs.Once.{Told, all_answered, all_stopped}
 use Rattle.cx_driver.specs.Weaving.{IsWeaveStop, Weaves}
 use Rattle.cx_driver.proofs.OrderLemmas.{never_faults}
-use Rattle.cx_driver.proofs.TextLemmas.{accepted_rules}
 use Rattle.cx_driver.proofs.WovenLemmas.{one_woven, text_woven, text_stops, refused_stops}
-use Rattle.cx_driver.proofs.Once.{Told, all_answered, all_stopped}
 use Rattle.cx_driver.proofs.weaving.weave.Goals as goal
 
 pub returns-in-Ok : goal.returns-in-Ok

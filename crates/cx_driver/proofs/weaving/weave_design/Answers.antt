@@ -4,7 +4,7 @@ use Rattle.cx_data.specs.Load.{load_of}
 use Rattle.cx_data.specs.Widths.{HasWordWidth}
 use Rattle.cx_rules.specs.Externals.{external_rows}
 use Rattle.cx_design.specs.PlainDesigns.{plain_design}
-use Rattle.cx_driver.proofs.RowWidths.{rows_have_width}
+use Rattle.cx_compiler.proofs.RowWidths.{rows_have_width}
 use Rattle.cx_driver.proofs.WovenLemmas.{design_weaves, design_stops, unloaded_stops}
 use Rattle.cx_driver.proofs.weaving.weave_design.Goals as goal
 

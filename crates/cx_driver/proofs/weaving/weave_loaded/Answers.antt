@@ -5,8 +5,8 @@ use Rattle.cx_design.specs.PlainDesigns.{plain_design}
 use Rattle.cx_weave.specs.Results.{LeavesWords, TellsWoven}
 use Rattle.cx_state.specs.States.{words_in}
 use Rattle.cx_orders.specs.Woven.{Woven, by_list, woven}
+use Rattle.cx_compiler.proofs.RowWidths.{rows_have_width, widths_fit}
 use Rattle.cx_driver.proofs.RanLemmas.{fault_within, words_of_loaded}
-use Rattle.cx_driver.proofs.RowWidths.{rows_have_width, widths_fit}
 use Rattle.cx_driver.proofs.WovenLemmas.{ends_told, fault_told, more_told, wove_ends, wove_faults, wove_more}
 use Rattle.cx_driver.proofs.weaving.weave_loaded.Goals as goal
 

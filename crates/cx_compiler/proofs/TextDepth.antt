@@ -1,0 +1,361 @@
+-- In the design of a text no statement stands within more than 64 static ifs: each branch of a static if is a block, and a text has no more than
+-- 64 of these one in the other.
+use Rattle.std.proofs.Common.{◌≡◌, ℕ, zero, suc, ◌+◌, ◌-◌, ◌≤◌, Bool, true, false, List, [], ◌∷◌, length, Option, Some, None, inl, inr, sym, subst, arith}
+use Rattle.std.proofs.lemmas.List.{length-map}
+use Rattle.cx_text.specs.declared.places.Place.{Place}
+use Rattle.cx_ast.specs.declared.tokens.Token.{Token}
+use Rattle.cx_ast.specs.PlainStatements as tree
+use Rattle.cx_ast.specs.PlainStatements.{PlainForm, PlainElse, PlainBlock, statements_of, else_of}
+use Rattle.cx_ast.specs.PlainTree as ast
+use Rattle.cx_ast.specs.PlainTree.{PlainTree}
+use Rattle.cx_grammar.specs.declared.terminals.Terminal.{Terminal}
+use Rattle.cx_grammar.specs.declared.terminals.Terminal.TheVariants as t
+use Rattle.cx_grammar.specs.Grammar.{Nest, Braces, Nested, Grammar, Empty, Pair, Choice, Spelling, Spells, Several_of}
+use Rattle.cx_grammar.specs.Calyx as calyx
+use Rattle.cx_grammar.specs.Calyx.{behind, before, within, pair, many, mapped, nest, spelled_within}
+use Rattle.cx_grammar.specs.Parsing.{Parse}
+use Rattle.cx_meaning.specs.Designs.{PlainStatements, no_statements, a_statement, PlainComponent, PlainDesign}
+use Rattle.cx_meaning.specs.Sights.{In}
+use Rattle.cx_numbering.specs.Names.{group_names}
+use Rattle.cx_numbering.specs.DesignOf.{invokes_in, invokes_of, form_of, of_block, block_of, parts_of, all_of, control_of, component_of, design_of}
+use Rattle.cx_numbering.specs.DesignOf as design
+use Rattle.cx_names.proofs.Base.{in_at, some_at}
+use Rattle.cx_names.proofs.There.{component_is}
+use Rattle.cx_commands.specs.Unread.{HasTree}
+use Rattle.cx_bytes.specs.Shallow.{FormShallow, Shallow, PartsShallow, IsShallow}
+use Rattle.cx_compiler.specs.Texts.{IsDesignOf}
+
+-- BLOCKS one in the other: no more than so many, the block itself among them
+abbrev mutual
+  pub FormFits : ℕ → PlainForm → Type 0
+  FormFits n (tree.Enable group marks) = Unit {0}
+  FormFits n (tree.Seq marks block) = BlockFits n block
+  FormFits n (tree.Par marks block) = BlockFits n block
+  FormFits n (tree.StaticSeq written marks block) = BlockFits n block
+  FormFits n (tree.StaticPar written marks block) = BlockFits n block
+  FormFits n (tree.If test comb block otherwise) = BlockFits n block × ElseFits n otherwise
+  FormFits n (tree.StaticIf written test block otherwise) = BlockFits n block × ElseFits n otherwise
+  FormFits n (tree.While test comb body) = BlockFits n body
+  FormFits n (tree.Repeat count body) = BlockFits n body
+  FormFits n (tree.StaticRepeat written count body) = BlockFits n body
+  FormFits n (tree.Invoke cell inputs outputs) = Unit {0}
+  FormFits n (tree.StaticInvoke written cell inputs outputs) = Unit {0}
+
+  pub ElseFits : ℕ → PlainElse → Type 0
+  ElseFits n tree.NoElse = Unit {0}
+  ElseFits n (tree.Else block) = BlockFits n block
+
+  pub BlockFits : ℕ → PlainBlock → Type 0
+  BlockFits n (tree.Braces list place) = (1 ≤ n) × AllFit (n - 1) list
+
+  pub AllFit : ℕ → tree.PlainStatements → Type 0
+  AllFit n tree.NoStatements = Unit {0}
+  AllFit n (tree.StatementThen (tree.Placed attributes form place) rest) = FormFits n form × AllFit n rest
+
+-- FROM THE TREE TO THE DESIGN
+module _ (whole : PlainTree) (part : ast.PlainComponent) where
+  one_shallow : (static : Bool) (m : ℕ) (place : Place) (ss : PlainStatements) → PartsShallow m ss → Shallow m (of_block whole part static place ss)
+  one_shallow static m place no_statements h = tt
+  one_shallow static m place (a_statement s no_statements) h = h.0
+  one_shallow true m place (a_statement s (a_statement u rest)) h = h
+  one_shallow false m place (a_statement s (a_statement u rest)) h = h
+
+  mutual
+    form_shallow : (form : PlainForm) (k : ℕ) (place : Place) (n m : ℕ) → n ≤ m → FormFits n form → FormShallow m (form_of whole part k place form)
+    form_shallow (tree.Enable group marks) k place n m less h = tt
+    form_shallow (tree.Seq marks block) k place n m less h = parts_shallow block k n m less h
+    form_shallow (tree.Par marks block) k place n m less h = parts_shallow block k n m less h
+    form_shallow (tree.StaticSeq written marks block) k place n m less h = parts_shallow block k n m less h
+    form_shallow (tree.StaticPar written marks block) k place n m less h = parts_shallow block k n m less h
+    form_shallow (tree.If test comb block otherwise) k place n m less h = (lower_shallow false block k n m less h.0, otherwise_shallow false otherwise (k + length (invokes_of block)) place n m less h.1)
+    form_shallow (tree.StaticIf written test block otherwise) k place n m less h = (
+      some_level block n m less h.0,
+      (block_shallow true block k n (m - 1) (omega (arith, less)) h.0, else_shallow true otherwise (k + length (invokes_of block)) place n (m - 1) (omega (arith, less)) h.1),
+    )
+    form_shallow (tree.While test comb body) k place n m less h = lower_shallow false body k n m less h
+    form_shallow (tree.Repeat count body) k place n m less h = lower_shallow false body k n m less h
+    form_shallow (tree.StaticRepeat written count body) k place n m less h = lower_shallow true body k n m less h
+    form_shallow (tree.Invoke cell inputs outputs) k place n m less h = tt
+    form_shallow (tree.StaticInvoke written cell inputs outputs) k place n m less h = tt
+
+    some_level : (block : PlainBlock) (n m : ℕ) → n ≤ m → BlockFits n block → 1 ≤ m
+    some_level (tree.Braces list place) n m less h = let own : 1 ≤ n = h.0 in omega (arith, less, own)
+
+    parts_shallow : (block : PlainBlock) (k n m : ℕ) → n ≤ m → BlockFits n block → PartsShallow m (parts_of whole part k block)
+    parts_shallow (tree.Braces list place) k n m less h = all_shallow list k (n - 1) m (omega (arith, less)) h.1
+
+    -- the statement of a block is a level deeper than the block
+    block_shallow : (static : Bool) (block : PlainBlock) (k n m : ℕ) → n - 1 ≤ m → BlockFits n block → Shallow m (block_of whole part static k block)
+    block_shallow static (tree.Braces list place) k n m less h = one_shallow static m place (all_of whole part k list) (all_shallow list k (n - 1) m less h.1)
+
+    lower_shallow : (static : Bool) (block : PlainBlock) (k n m : ℕ) → n ≤ m → BlockFits n block → Shallow m (block_of whole part static k block)
+    lower_shallow static (tree.Braces list place) k n m less h = one_shallow static m place (all_of whole part k list) (all_shallow list k (n - 1) m (omega (arith, less)) h.1)
+
+    else_shallow : (static : Bool) (otherwise : PlainElse) (k : ℕ) (place : Place) (n m : ℕ) → n - 1 ≤ m → ElseFits n otherwise → Shallow m (design.else_of whole part static k place otherwise)
+    else_shallow static tree.NoElse k place n m less h = tt
+    else_shallow static (tree.Else block) k place n m less h = block_shallow static block k n m less h
+
+    otherwise_shallow : (static : Bool) (otherwise : PlainElse) (k : ℕ) (place : Place) (n m : ℕ) → n ≤ m → ElseFits n otherwise → Shallow m (design.else_of whole part static k place otherwise)
+    otherwise_shallow static tree.NoElse k place n m less h = tt
+    otherwise_shallow static (tree.Else block) k place n m less h = lower_shallow static block k n m less h
+
+    all_shallow : (list : tree.PlainStatements) (k n m : ℕ) → n ≤ m → AllFit n list → PartsShallow m (all_of whole part k list)
+    all_shallow tree.NoStatements k n m less h = tt
+    all_shallow (tree.StatementThen (tree.Placed attributes form place) rest) k n m less h =
+        (form_shallow form k place n m less h.0, all_shallow rest (k + length (invokes_in form place)) n m less h.1)
+
+  abbrev ControlFits : Option PlainBlock → Type 0
+  ControlFits control = ElseFits 64 (else_of control)
+
+  control_shallow : (control : Option PlainBlock) → ControlFits control → Shallow 64 (control_of whole part control)
+  control_shallow None h = tt
+  control_shallow (Some block) h = block_shallow false block (length (group_names part)) 64 64 (omega arith) h
+
+-- FROM THE GRAMMAR TO THE TREE: what holds of all that a grammar spells
+abbrev pub Each : {A : Type 0} → (A → Type 0) → List A → Type 0
+Each P [] = Unit {0}
+Each P (x ∷ xs) = P x × Each P xs
+
+each_in : {A : Type 0} (P : A → Type 0) (xs : List A) (x : A) → Each P xs → In xs x → P x
+each_in P [] x h i = absurd i
+each_in P (y ∷ xs) x h (inl e) = subst P e h.0
+each_in P (y ∷ xs) x h (inr i) = each_in P xs x h.1 i
+
+abbrev pub StatementFits : ℕ → tree.PlainStatement → Type 0
+StatementFits n (tree.Placed attributes form place) = FormFits n form
+
+abbrev pub OtherwiseFits : ℕ → Option PlainBlock → Type 0
+OtherwiseFits n otherwise = ElseFits n (else_of otherwise)
+
+pub all_fit : (n : ℕ) (ss : List tree.PlainStatement) → Each (StatementFits n) ss → AllFit n (statements_of ss)
+all_fit n [] h = tt
+all_fit n (tree.Placed attributes form place ∷ ss) h = (h.0, all_fit n ss h.1)
+
+module _ (n : ℕ) (spelled : (n : Nest) → Spelling (Nested n)) (deep : (ts : List Token) (b : PlainBlock) (rest : List Token) → spelled Braces ts b rest → BlockFits n b) where
+  abbrev Holds : {A : Type 0} → Grammar A → (A → Type 0) → Type 0
+  Holds {A = A} g P = (ts : List Token) (x : A) (rest : List Token) → Spells spelled g ts x rest → P x
+
+  abbrev Anything : {A : Type 0} → A → Type 0
+  Anything x = Unit {0}
+
+  holds_all : {A : Type 0} (g : Grammar A) (P : A → Type 0) → ((x : A) → P x) → Holds g P
+  holds_all g P h ts x rest s = h x
+
+  holds_empty : {A : Type 0} (x : A) (P : A → Type 0) → P x → Holds (Empty x) P
+  holds_empty x P h ts y rest s = subst P s.1 h
+
+  holds_pair : {A B C : Type 0} (join : A → B → C) (g : Grammar A) (h : Grammar B) (P : A → Type 0) (Q : B → Type 0) (R : C → Type 0)
+      → Holds g P → Holds h Q → ((x : A) (y : B) → P x → Q y → R (join x y)) → Holds (Pair join g h) R
+  holds_pair join g h P Q R one two both ts z rest s = subst R s.5 (both s.1 s.2 (one ts s.1 s.0 s.3) (two s.0 s.2 rest s.4))
+
+  holds_choice : {A : Type 0} (g h : Grammar A) (P : A → Type 0) → Holds g P → Holds h P → Holds (Choice g h) P
+  holds_choice g h P one two ts x rest (inl s) = one ts x rest s
+  holds_choice g h P one two ts x rest (inr s) = two ts x rest s
+
+  several_hold : {A : Type 0} (g : Grammar A) (P : A → Type 0) → Holds g P → (xs : List A) (ts rest : List Token) → Several_of (Spells spelled g) ts xs rest → Each P xs
+  several_hold g P one [] ts rest s = tt
+  several_hold g P one (x ∷ xs) ts rest s = (one ts x s.0 s.1, several_hold g P one xs s.0 rest s.2)
+
+  holds_many : {A : Type 0} (g : Grammar A) (P : A → Type 0) → Holds g P → Holds (many g) (Each P)
+  holds_many g P one ts x rest s = subst (Each P) s.2 (several_hold g P one s.0 ts rest s.1)
+
+  holds_second : {A B C : Type 0} (join : A → B → C) (g : Grammar A) (h : Grammar B) (Q : B → Type 0) (R : C → Type 0) → Holds h Q → ((x : A) (y : B) → Q y → R (join x y)) → Holds (Pair join g h) R
+  holds_second join g h Q R two both = holds_pair join g h Anything Q R (holds_all g Anything (λ x. tt)) two (λ x y k q. both x y q)
+
+  holds_first : {A B C : Type 0} (join : A → B → C) (g : Grammar A) (h : Grammar B) (P : A → Type 0) (R : C → Type 0) → Holds g P → ((x : A) (y : B) → P x → R (join x y)) → Holds (Pair join g h) R
+  holds_first join g h P R one both = holds_pair join g h P Anything R one (holds_all h Anything (λ x. tt)) (λ x y p k. both x y p)
+
+  holds_left : {A B : Type 0} (g : Grammar A) (h : Grammar B) (P : A → Type 0) → Holds g P → Holds (pair g h) (λ r. P r.0)
+  holds_left {A = A} {B = B} g h P one = holds_first (λ (x : A) (y : B). (x, y)) g h P (λ r. P r.0) one (λ x y p. p)
+
+  holds_right : {A B : Type 0} (g : Grammar A) (h : Grammar B) (Q : B → Type 0) → Holds h Q → Holds (pair g h) (λ r. Q r.1)
+  holds_right {A = A} {B = B} g h Q two = holds_second (λ (x : A) (y : B). (x, y)) g h Q (λ r. Q r.1) two (λ x y q. q)
+
+  holds_behind : {A : Type 0} (terminal : Terminal) (g : Grammar A) (P : A → Type 0) → Holds g P → Holds (behind terminal g) P
+  holds_behind terminal g P h = holds_second (λ _ x. x) (calyx.sign terminal) g P P h (λ x y p. p)
+
+  holds_before : {A : Type 0} (g : Grammar A) (terminal : Terminal) (P : A → Type 0) → Holds g P → Holds (before g terminal) P
+  holds_before g terminal P h = holds_first (λ x _. x) g (calyx.sign terminal) P P h (λ x y p. p)
+
+  holds_mapped : {A B : Type 0} (f : A → B) (g : Grammar A) (P : A → Type 0) (Q : B → Type 0) → Holds g P → ((x : A) → P x → Q (f x)) → Holds (mapped f g) Q
+  holds_mapped {A = A} f g P Q h all = holds_first (λ (x : A) (_ : Unit {0}). f x) g (Empty tt) P Q h (λ x y p. all x p)
+
+  -- BLOCKS
+  blocks : Holds calyx.block (BlockFits n)
+  unfolding calyx.block
+  blocks ts b rest s = deep ts b rest s
+
+  others : Holds calyx.otherwise (OtherwiseFits n)
+  unfolding calyx.otherwise
+  others =
+      holds_choice (mapped (λ x. Some x) (behind t.Else calyx.block)) (Empty None) (OtherwiseFits n)
+      (holds_mapped (λ x. Some x) (behind t.Else calyx.block) (BlockFits n) (OtherwiseFits n) (holds_behind t.Else calyx.block (BlockFits n) blocks) (λ b h. h))
+      (holds_empty None (OtherwiseFits n) tt)
+
+  controls : Holds calyx.control (OtherwiseFits n)
+  unfolding calyx.control
+  controls =
+      holds_choice (mapped (λ x. Some x) (behind t.Control calyx.block)) (Empty None) (OtherwiseFits n)
+      (holds_mapped (λ x. Some x) (behind t.Control calyx.block) (BlockFits n) (OtherwiseFits n) (holds_behind t.Control calyx.block (BlockFits n) blocks) (λ b h. h))
+      (holds_empty None (OtherwiseFits n) tt)
+
+  marked : Holds calyx.marked_block (λ r. BlockFits n r.1)
+  unfolding calyx.marked_block
+  marked = holds_right calyx.marks calyx.block (BlockFits n) blocks
+
+  repeats : Holds calyx.repeat_rest (λ r. BlockFits n r.1)
+  unfolding calyx.repeat_rest
+  repeats = holds_right calyx.number calyx.block (BlockFits n) blocks
+
+  branches : Holds (pair calyx.block calyx.otherwise) (λ r. BlockFits n r.0 × OtherwiseFits n r.1)
+  branches = holds_pair (λ (x : PlainBlock) (y : Option PlainBlock). (x, y)) calyx.block calyx.otherwise (BlockFits n) (OtherwiseFits n) (λ r. BlockFits n r.0 × OtherwiseFits n r.1) blocks others (λ x y p q. (p, q))
+
+  -- FORMS
+  abbrev LaterFits : (Option ℕ → PlainForm) → Type 0
+  LaterFits f = (l : Option ℕ) → FormFits n (f l)
+
+  abbrev PlacedFits : PlainForm × Place → Type 0
+  PlacedFits r = FormFits n r.0
+
+  ifs : Holds calyx.if_rest (FormFits n)
+  unfolding calyx.if_rest
+  ifs =
+      holds_second calyx.if_of calyx.operand (pair calyx.comb (pair calyx.block calyx.otherwise)) (λ r. BlockFits n r.1.0 × OtherwiseFits n r.1.1) (FormFits n)
+      (holds_right calyx.comb (pair calyx.block calyx.otherwise) (λ r. BlockFits n r.0 × OtherwiseFits n r.1) branches)
+      (λ o r h. h)
+
+  whiles : Holds calyx.while_rest (FormFits n)
+  unfolding calyx.while_rest
+  whiles =
+      holds_second calyx.while_of calyx.operand (pair calyx.comb calyx.block) (λ r. BlockFits n r.1) (FormFits n)
+      (holds_right calyx.comb calyx.block (BlockFits n) blocks)
+      (λ o r h. h)
+
+  static_ifs : Holds calyx.static_if_rest LaterFits
+  unfolding calyx.static_if_rest
+  static_ifs =
+      holds_second calyx.static_if_of calyx.operand (pair calyx.block calyx.otherwise) (λ r. BlockFits n r.0 × OtherwiseFits n r.1) LaterFits branches
+      (λ o r h l. h)
+
+  statics : Holds calyx.static_rest LaterFits
+  unfolding calyx.static_rest
+  statics ts f rest (inl s) =
+      holds_behind t.Seq (mapped calyx.static_seq_of calyx.marked_block) LaterFits (holds_mapped calyx.static_seq_of calyx.marked_block (λ r. BlockFits n r.1) LaterFits marked (λ r h l. h)) ts f rest s
+  statics ts f rest (inr (inl s)) =
+      holds_behind t.Par (mapped calyx.static_par_of calyx.marked_block) LaterFits (holds_mapped calyx.static_par_of calyx.marked_block (λ r. BlockFits n r.1) LaterFits marked (λ r h l. h)) ts f rest s
+  statics ts f rest (inr (inr (inl s))) = holds_behind t.If calyx.static_if_rest LaterFits static_ifs ts f rest s
+  statics ts f rest (inr (inr (inr (inl s)))) =
+      holds_behind t.Repeat (mapped calyx.static_repeat_of calyx.repeat_rest) LaterFits (holds_mapped calyx.static_repeat_of calyx.repeat_rest (λ r. BlockFits n r.1) LaterFits repeats (λ r h l. h)) ts f rest s
+  statics ts f rest (inr (inr (inr (inr s)))) =
+      holds_behind t.Invoke (mapped calyx.static_invoke_of calyx.invoke_rest) LaterFits
+      (holds_mapped calyx.static_invoke_of calyx.invoke_rest Anything LaterFits (holds_all calyx.invoke_rest Anything (λ x. tt)) (λ r h l. tt)) ts f rest s
+
+  static_forms : Holds calyx.static_form (FormFits n)
+  unfolding calyx.static_form
+  static_forms = holds_second (λ l f. f l) calyx.optional_length calyx.static_rest LaterFits (FormFits n) statics (λ l f h. h l)
+
+  enables : Holds calyx.enable PlacedFits
+  unfolding calyx.enable
+  enables = holds_pair calyx.enable_of calyx.name (before calyx.marks t.Semicolon) Anything Anything PlacedFits (holds_all calyx.name Anything (λ x. tt)) (holds_all (before calyx.marks t.Semicolon) Anything (λ x. tt)) (λ x y p q. tt)
+
+  seqs : Holds calyx.seq PlacedFits
+  unfolding calyx.seq
+  seqs = holds_second calyx.seq_of (calyx.sign t.Seq) calyx.marked_block (λ r. BlockFits n r.1) PlacedFits marked (λ p r h. h)
+
+  pars : Holds calyx.par PlacedFits
+  unfolding calyx.par
+  pars = holds_second calyx.par_of (calyx.sign t.Par) calyx.marked_block (λ r. BlockFits n r.1) PlacedFits marked (λ p r h. h)
+
+  if_forms : Holds calyx.if_form PlacedFits
+  unfolding calyx.if_form
+  if_forms = holds_second calyx.form_of (calyx.sign t.If) calyx.if_rest (FormFits n) PlacedFits ifs (λ p f h. h)
+
+  while_forms : Holds calyx.while_form PlacedFits
+  unfolding calyx.while_form
+  while_forms = holds_second calyx.form_of (calyx.sign t.While) calyx.while_rest (FormFits n) PlacedFits whiles (λ p f h. h)
+
+  repeat_forms : Holds calyx.repeat PlacedFits
+  unfolding calyx.repeat
+  repeat_forms = holds_second calyx.repeat_of (calyx.sign t.Repeat) calyx.repeat_rest (λ r. BlockFits n r.1) PlacedFits repeats (λ p r h. h)
+
+  invokes : Holds calyx.invoke PlacedFits
+  unfolding calyx.invoke
+  invokes = holds_second calyx.invoke_of (calyx.sign t.Invoke) calyx.invoke_rest Anything PlacedFits (holds_all calyx.invoke_rest Anything (λ x. tt)) (λ p r h. tt)
+
+  static_statements : Holds calyx.static_statement PlacedFits
+  unfolding calyx.static_statement
+  static_statements = holds_second calyx.form_of (calyx.sign t.Static) calyx.static_form (FormFits n) PlacedFits static_forms (λ p f h. h)
+
+  forms : Holds calyx.form PlacedFits
+  unfolding calyx.form
+  forms ts f rest (inl s) = enables ts f rest s
+  forms ts f rest (inr (inl s)) = seqs ts f rest s
+  forms ts f rest (inr (inr (inl s))) = pars ts f rest s
+  forms ts f rest (inr (inr (inr (inl s)))) = if_forms ts f rest s
+  forms ts f rest (inr (inr (inr (inr (inl s))))) = while_forms ts f rest s
+  forms ts f rest (inr (inr (inr (inr (inr (inl s)))))) = repeat_forms ts f rest s
+  forms ts f rest (inr (inr (inr (inr (inr (inr (inl s))))))) = invokes ts f rest s
+  forms ts f rest (inr (inr (inr (inr (inr (inr (inr s))))))) = static_statements ts f rest s
+
+  statements : Holds calyx.statement (StatementFits n)
+  unfolding calyx.statement
+  statements = holds_second calyx.statement_of calyx.attributes calyx.form PlacedFits (StatementFits n) forms (λ attrs f h. h)
+
+  -- a block is a level above its statements
+  braces : Holds (nest Braces) (BlockFits (suc n))
+  unfolding nest calyx.statements
+  braces =
+      holds_second (λ place ss. tree.Braces (statements_of ss) place) (calyx.sign t.OpenBrace) (before calyx.statements t.CloseBrace) (Each (StatementFits n)) (BlockFits (suc n))
+      (holds_before calyx.statements t.CloseBrace (Each (StatementFits n)) (holds_many calyx.statement (StatementFits n) statements))
+      (λ place ss h. let level : n ≡ suc n - 1 = omega arith in (omega arith, subst (λ m. AllFit m (statements_of ss)) level (all_fit n ss h)))
+
+  -- FILES
+  bodies : Holds calyx.body (λ b. OtherwiseFits n b.1.1)
+  unfolding calyx.body
+  bodies =
+      holds_behind t.OpenBrace (pair calyx.cells (pair calyx.wires_part (before calyx.control t.CloseBrace))) (λ b. OtherwiseFits n b.1.1)
+      (holds_right calyx.cells (pair calyx.wires_part (before calyx.control t.CloseBrace)) (λ r. OtherwiseFits n r.1)
+      (holds_right calyx.wires_part (before calyx.control t.CloseBrace) (OtherwiseFits n) (holds_before calyx.control t.CloseBrace (OtherwiseFits n) controls)))
+
+  abbrev HasDepth : ast.PlainComponent → Type 0
+  HasDepth part = OtherwiseFits n part.control
+
+  components : Holds calyx.component HasDepth
+  unfolding calyx.component
+  components =
+      holds_second calyx.component_of calyx.attributes (pair calyx.component_word (pair calyx.signature calyx.body)) (λ r. OtherwiseFits n r.1.1.1.1) HasDepth
+      (holds_right calyx.component_word (pair calyx.signature calyx.body) (λ r. OtherwiseFits n r.1.1.1)
+      (holds_right calyx.signature calyx.body (λ b. OtherwiseFits n b.1.1) bodies))
+      (λ attrs r h. h)
+
+  many_components : Holds calyx.components (Each HasDepth)
+  unfolding calyx.components
+  many_components = holds_many calyx.component HasDepth components
+
+  files : Holds calyx.file (λ tree. Each HasDepth tree.components)
+  unfolding calyx.file
+  files =
+      holds_second (λ is r. record { imports = is; components = r }) calyx.imports (Pair (λ c cs. c ∷ cs) calyx.component calyx.components) (Each HasDepth) (λ tree. Each HasDepth tree.components)
+      (holds_pair (λ c cs. c ∷ cs) calyx.component calyx.components HasDepth (Each HasDepth) (Each HasDepth) components many_components (λ c cs h k. (h, k)))
+      (λ is cs h. h)
+
+blocks_within : (levels : ℕ) (ts : List Token) (b : PlainBlock) (rest : List Token) → spelled_within levels Braces ts b rest → BlockFits levels b
+blocks_within zero ts b rest s = absurd s
+blocks_within (suc levels) ts b rest s = braces levels (spelled_within levels) (blocks_within levels) ts b rest s
+
+-- the control of each component of a text
+control_fits : (text : List ℕ) (tree : PlainTree) → HasTree text tree → (part : ast.PlainComponent) → In tree.components part → OtherwiseFits 64 part.control
+unfolding Parse
+control_fits text tree h part i = each_in (λ (p : ast.PlainComponent). OtherwiseFits 64 p.control) tree.components part (files 64 (spelled_within 64) (blocks_within 64) h.0 tree [] h.2) i
+
+-- the design of a tree whose controls fit
+pub tree_shallow : (whole : PlainTree) → ((part : ast.PlainComponent) → In whole.components part → OtherwiseFits 64 part.control) → IsShallow (design_of whole)
+tree_shallow whole fits k within =
+    let many : length (design_of whole).components ≡ length whole.components = length-map whole.components (component_of whole) in
+    let part = some_at whole.components k (omega (arith, within, many)) in
+    subst (λ (p : PlainComponent). Shallow 64 p.control) (sym (component_is whole k part.0 part.1))
+    (control_shallow whole part.0 part.0.control (fits part.0 (in_at whole.components k part.0 part.1)))
+
+-- IN THE DESIGN OF A TEXT
+pub text_shallow : (text : List ℕ) (d : PlainDesign) → IsDesignOf text d → IsShallow d
+text_shallow text d h = subst IsShallow (sym h.3) (tree_shallow h.0 (control_fits text h.0 h.1))

@@ -1,0 +1,177 @@
+-- The source that is written of a design hides nothing: its modules, instances, registers and names are those that the design asks for.
+use Rattle.std.proofs.Common.{◌≡◌, ◌⊎◌, inl, inr, ⊎_elim, ℕ, zero, suc, ◌+◌, ◌-◌, ◌<◌, ◌≤◌, true, List, [], ◌∷◌, ◌++◌, length, get_or, Option, Some, None, option_map, slice_get, refl, sym, ap, ◌∙◌, subst, if◌then◌else◌, arith, lt-ltb, le-ltb}
+use Rattle.std.specs.Prelude.{◌||◌}
+use Rattle.std.proofs.lemmas.Bool.{cases_lt}
+use Rattle.std.proofs.lemmas.Bool.Decides.{eqb_tells}
+use Rattle.std.proofs.lemmas.List.{length-map}
+use Rattle.std.proofs.lemmas.Option.{slice_get-map, slice_get-get_or, slice_get_within}
+use Rattle.cx_meaning.specs.Designs.{PlainKind, OfPrimitive, OfComponent, PlainCell, PlainComponent, PlainDesign, component_at}
+use Rattle.cx_meaning.specs.Sights.{In}
+use Rattle.cx_rules.specs.Items.{statements_in}
+use Rattle.cx_rules.specs.Wellformed.{IsForm, LeadsTo, by_cell, by_way_of, IsDesign}
+use Rattle.cx_rules.specs.Accepted.{IsAccepted}
+use Rattle.cx_rules.proofs.CircleLemmas.{same_part}
+use Rattle.cx_vtree.specs.Sound.{is_sound}
+use Rattle.cx_net.specs.Nets.{PlainNet}
+use Rattle.cx_net.specs.NetTree.{no_net_component, net_component_at}
+use Rattle.cx_static.specs.Islands.{PlainLowereds}
+use Rattle.cx_static.specs.Lowering.{lowered_component, lowered_of}
+use Rattle.cx_wiring.specs.PartNets.{timer_cells, wired_in}
+use Rattle.cx_wiring.specs.Reached.{has_number, place_in, below, reached_from, count, order}
+use Rattle.cx_wiring.specs.Wiring.{kind_in, cell_in, net_of}
+use Rattle.cx_wiring.proofs.ControlCounts.{Untimed}
+use Rattle.cx_wiring.proofs.FitLemmas.{there_at, slice_left, slice_right}
+use Rattle.cx_wiring.proofs.FitNets.{net_fits}
+use Rattle.cx_wiring.proofs.MainLaws.{Tells, get_or_map, order_main}
+use Rattle.cx_wiring.proofs.NumberLemmas.{number_in, in_number}
+use Rattle.cx_wiring.proofs.OrderHeights.{in_flat_map, in_slice, cell_below, from_main, closed, stands_at}
+use Rattle.cx_wiring.proofs.TimerCells.{cells-lowered_component}
+use Rattle.cx_wiring.proofs.WayLemmas.{count_is, there, net_long, child_there}
+use Rattle.cx_holes.specs.Inlining.{inlined_component, inlined}
+use Rattle.cx_holes.proofs.FitNames.{fit_names}
+use Rattle.cx_holes.proofs.RenamedFits.{inlined_fits}
+use Rattle.cx_emit.specs.Shapes.{ForCell, ForTimer, IsUse, IsShaped, HasOwnNames}
+use Rattle.cx_emit.proofs.OwnNames.{source_own_names}
+use Rattle.cx_emit.proofs.ShapedSources.{kind_for, use_at, IsPartFor, IsNetFor, source_shaped}
+use Rattle.cx_compiler.specs.Compiled.{written_source}
+use Rattle.cx_wiring.proofs.FitTargets.{targets_there}
+use Rattle.cx_compiler.proofs.LoweredShape.{IsTimer, AreTimers, timers_are, timers_few, component_registers_few}
+
+-- PLACES of numbers in a list
+get_or_at : (ns : List ℕ) (n k : ℕ) → slice_get ns n ≡ Some k → get_or ns n 0 ≡ k
+get_or_at [] n k e = absurd (cc)
+get_or_at (m ∷ ns) zero k e = let same : m ≡ k = cc in same
+get_or_at (m ∷ ns) (suc n) k e = get_or_at ns n k e
+
+place_there : (k : ℕ) (ns : List ℕ) → has_number k ns ≡ true → get_or ns (place_in k ns) 0 ≡ k
+place_there k [] h = absurd (cc)
+place_there k (n ∷ ns) h = by (eqb_tells k n) (place_there k ns) where
+  by : Tells k n → (has_number k ns ≡ true → get_or ns (place_in k ns) 0 ≡ k) → get_or (n ∷ ns) (place_in k (n ∷ ns)) 0 ≡ k
+  by (inl e) later = ap (λ b. get_or (n ∷ ns) (if b then 0 else (if has_number k ns then suc (place_in k ns) else 0)) 0) e.0 ∙ sym e.1
+  by (inr e) later =
+      let rest : has_number k ns ≡ true = ap (λ b. b || has_number k ns) (sym e.0) ∙ h in
+      ap (λ b. get_or (n ∷ ns) (if b then 0 else (if has_number k ns then suc (place_in k ns) else 0)) 0) e.0
+      ∙ ap (λ b. get_or (n ∷ ns) (if b then suc (place_in k ns) else 0) 0) rest
+      ∙ later rest
+
+timer_at : (cells : List PlainCell) (n : ℕ) (cell : PlainCell) → AreTimers cells → slice_get cells n ≡ Some cell → IsTimer cell
+timer_at [] n cell are e = absurd (cc)
+timer_at (c ∷ cells) zero cell are e = let same : c ≡ cell = cc in subst IsTimer same are.0
+timer_at (c ∷ cells) (suc n) cell are e = timer_at cells n cell are.1 e
+
+map_of : {A B : Type 0} (f : A → B) (o : Option A) (y : B) → option_map f o ≡ Some y → (x : A) × (o ≡ Some x) × (f x ≡ y)
+map_of f None y e = absurd (cc)
+map_of f (Some x) y e = (x, refl, cc)
+
+module _ (d : PlainDesign) (rules : IsDesign d) where
+  abbrev low : PlainLowereds
+  low = lowered_of d
+
+  abbrev places : List ℕ
+  places = order low
+
+  abbrev net : PlainNet
+  net = inlined (net_of low)
+
+  -- the component of the design for which a component of the net stands
+  abbrev stands : ℕ → ℕ
+  stands n = get_or places n 0
+
+  -- what is reached is led to
+  leads : (n k : ℕ) → k < length d.components → (x : ℕ) → In (reached_from low n k) x → (x ≡ k) ⊎ LeadsTo d k x
+  leads zero k within x (inl e) = inl (sym e)
+  leads zero k within x (inr i) = absurd i
+  leads (suc n) k within x (inl e) = inl (sym e)
+  leads (suc n) k within x (inr i) =
+      let r = in_flat_map (reached_from low n) (below low k) x i in
+      let own = cell_below d rules k r.0 within r.1 in
+      let step : LeadsTo d k r.0 = by_cell r.0 own.cell own.stands own.is in
+      ⊎_elim (λ e. inr (subst (LeadsTo d k) (sym e) step)) (λ more. inr (by_way_of r.0 step more)) (leads n r.0 (child_there d rules k r.0 within own.cell own.stands own.is) x r.2)
+
+  reached : (k : ℕ) → has_number k places ≡ true → (k ≡ d.main) ⊎ LeadsTo d d.main k
+  reached k here = leads (count low) d.main rules.main_there k (number_in k (reached_from low (count low) d.main) (from_main d rules k here))
+
+  module _ (k : ℕ) (here : has_number k places ≡ true) where
+    abbrev part : PlainComponent
+    part = component_at d k
+
+    within : k < length d.components
+    within = there d rules k here
+
+    untimed : Untimed (statements_in part)
+    untimed v i n is = subst (IsForm part) is (subst (λ x. IsForm x v.form) (same_part d (length d.components) k) ((rules.components k within).statements v i).form)
+
+    -- CELLS: the design's own come first
+    own_kind : (cell : PlainCell) → In part.cells cell → (kind : PlainKind) → cell.kind ≡ kind → kind_for stands (kind_in places kind) ≡ kind
+    own_kind cell i (OfPrimitive p) is = refl
+    own_kind cell i (OfComponent j) is = ap OfComponent (place_there j places (closed d rules k here cell j i is))
+
+    abbrev IsFor : ℕ → PlainCell → Type 0
+    IsFor c cell = IsUse d k (kind_for stands (kind_in places cell.kind)) (use_at (length part.cells) c)
+
+    for_cell : (c : ℕ) (cell : PlainCell) → slice_get part.cells c ≡ Some cell → IsFor c cell
+    for_cell c cell e =
+        let first : use_at (length part.cells) c ≡ ForCell c = ap (λ b. if b then ForCell c else ForTimer (c - length part.cells)) (lt-ltb c (length part.cells) (slice_get_within part.cells c cell e)) in
+        subst (IsUse d k (kind_for stands (kind_in places cell.kind))) (sym first) (cell, e, own_kind cell (in_slice part.cells c cell e) cell.kind refl)
+
+    for_timer : (t : ℕ) (cell : PlainCell) → slice_get (timer_cells part) t ≡ Some cell → IsFor (length part.cells + t) cell
+    for_timer t cell e =
+        let less = slice_get_within (timer_cells part) t cell e in
+        let few = timers_few part in
+        let timer = timer_at (timer_cells part) t cell (timers_are part) e in
+        let c : ℕ = length part.cells + t in
+        let number : t ≡ c - length part.cells = omega arith in
+        let last : use_at (length part.cells) c ≡ ForTimer (c - length part.cells) = ap (λ b. if b then ForCell c else ForTimer (c - length part.cells)) (le-ltb c (length part.cells) (omega arith)) in
+        subst (IsUse d k (kind_for stands (kind_in places cell.kind))) (ap ForTimer number ∙ sym last)
+        (omega (arith, less, few), (timer.0, ap (λ kind. kind_for stands (kind_in places kind)) timer.1))
+
+    each_for : (c : ℕ) (cell : PlainCell) → slice_get (lowered_component part).part.cells c ≡ Some cell → IsFor c cell
+    each_for c cell e = ⊎_elim own timer (cases_lt c (length part.cells)) where
+      whole : slice_get (part.cells ++ timer_cells part) c ≡ Some cell
+      whole = ap (λ cells. slice_get cells c) (sym (cells-lowered_component part)) ∙ e
+
+      own : c < length part.cells → IsFor c cell
+      own less = let r = there_at part.cells c less in for_cell c cell (r.1 ∙ sym (slice_left part.cells (timer_cells part) c r.0 r.1) ∙ whole)
+
+      timer : length part.cells ≤ c → IsFor c cell
+      timer past =
+          let same : length part.cells + (c - length part.cells) ≡ c = omega (arith, past) in
+          subst (λ n. IsFor n cell) same (for_timer (c - length part.cells) cell (sym (slice_right part.cells (timer_cells part) (c - length part.cells)) ∙ ap (slice_get (part.cells ++ timer_cells part)) same ∙ whole))
+
+    part_for : IsPartFor d stands k (inlined_component (wired_in d part))
+    part_for = record {
+      reached = reached k here;
+      registers = component_registers_few part untimed;
+      cells = λ c cell e.
+          let (own, at, is) = map_of (cell_in places) (slice_get (lowered_component part).part.cells c) cell (sym (slice_get-map (cell_in places) (lowered_component part).part.cells c) ∙ e) in
+          subst (λ (x : PlainCell). IsUse d k (kind_for stands x.kind) (use_at (length part.cells) c)) is (each_for c own at);
+    }
+
+  parts_for : (n : ℕ) → n < length net.components → IsPartFor d stands (stands n) (net_component_at net n)
+  parts_for n less =
+      let long : length net.components ≡ length (net_of low).components = length-map (net_of low).components inlined_component in
+      let inside : n < length (net_of low).components = omega (arith, less, long) in
+      let r = there_at places n (subst (λ m. n < m) (net_long d rules) inside) in
+      let here : has_number r.0 places ≡ true = in_number r.0 places (in_slice places n r.0 r.1) in
+      let made : net_component_at net n ≡ inlined_component (net_component_at (net_of low) n) =
+      get_or_map inlined_component (net_of low).components n (net_component_at (net_of low) n) no_net_component (slice_get-get_or (net_of low).components n no_net_component inside) in
+      let same : inlined_component (wired_in d (component_at d r.0)) ≡ net_component_at net n = sym (made ∙ ap inlined_component (stands_at d rules n r.0 r.1)) in
+      subst (λ k. IsPartFor d stands k (net_component_at net n)) (sym (get_or_at places n r.0 r.1)) (subst (IsPartFor d stands r.0) same (part_for r.0 here))
+
+  -- THE NET of a design has the cells and the registers that the shape asks for
+  net_for : IsNetFor d net
+  net_for = record {
+    stands = stands;
+    main = place_there d.main places (order_main low (subst (λ n. d.main < n) (sym (count_is d rules)) rules.main_there));
+    parts = parts_for;
+  }
+
+  -- THE SHAPE of what is written
+  pub written_shape : IsAccepted d → is_sound (written_source d) ≡ true → IsShaped d (written_source d)
+  written_shape accepted sound =
+      let fits = net_fits d rules accepted in
+      source_shaped d net (inlined_fits (net_of low) (fit_names (net_of low) fits (targets_there d rules accepted)) fits) sound net_for
+
+-- ITS NAMES
+pub written_names : (d : PlainDesign) → HasOwnNames (written_source d)
+written_names d = source_own_names (inlined (net_of (lowered_of d)))

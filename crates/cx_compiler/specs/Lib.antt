@@ -1,0 +1,6 @@
+pub mod Texts
+pub mod Interpreted
+pub mod Simulated
+pub mod Compiled
+pub mod Laws
+pub mod Promise

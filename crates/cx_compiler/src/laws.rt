@@ -1,0 +1,28 @@
+//! What follows from the definitions of what the commands and the passes do: each function does nothing but call others, and its clause is the law.
+
+ghost use Rattle.cx_compiler.specs.Laws.{NeverTooLong, NoneEnds, OneSource};
+ghost use Rattle.cx_compiler.specs.Promise.{PromiseIsKept};
+
+use cx_orders::laws::run_ends_too;
+
+/// A Verilog text spells one sound source at most.
+pub fn one_source()
+    ensures { OneSource }
+{}
+
+/// Whatever `compile` writes of a text keeps the promise.
+pub fn promise_is_kept()
+    ensures { PromiseIsKept }
+{}
+
+/// What the passes make of an accepted text within the size is never too long to be written.
+pub fn never_too_long()
+    ensures { NeverTooLong }
+{}
+
+/// In an accepted design, where the run of `main` has a fault, no order of the leaves ends.
+pub fn none_ends()
+    ensures { NoneEnds }
+{
+    run_ends_too();
+}

@@ -1,0 +1,12 @@
+//! From the text of a design to its Verilog text and its net, and the promise that the Verilog text keeps.
+#![tactic(auto)]
+
+mod accepting;
+mod compiling;
+pub mod laws;
+mod nets;
+mod sizes;
+
+pub use accepting::{accepted_design, check_text, tried};
+pub use compiling::{compile, compile_design};
+pub use nets::{DesignNet, net_of};

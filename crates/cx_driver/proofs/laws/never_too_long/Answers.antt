@@ -1,5 +1,0 @@
-use Rattle.cx_driver.proofs.WrittenLength as lemmas
-use Rattle.cx_driver.proofs.laws.never_too_long.Goals as goal
-
-pub returns : goal.returns
-returns c = lemmas.never_too_long

@@ -1,5 +1,0 @@
-use Rattle.cx_driver.proofs.PromiseLemmas as lemmas
-use Rattle.cx_driver.proofs.laws.promise_is_kept.Goals as goal
-
-pub returns : goal.returns
-returns c = lemmas.promise_is_kept
