@@ -18,16 +18,30 @@ const KEYS: [&str; 12] = [
 /// The first step of a case that tells something else than it should, behind the name of the case; nothing where there is none.
 pub(crate) fn difference_of(alloc: Global, line: &str) -> Result<Option<String>, Trouble> {
     let case = Value::from_str(alloc, line)?;
-    let name = text_of(&case, "name").ok_or(Trouble::Form)?;
-    let steps = list_of(&case, "steps")?;
-    let mut files = files_of(alloc, &case)?;
+    first_difference(alloc, &case)
+}
+
+fn first_difference(alloc: Global, case: &Value) -> Result<Option<String>, Trouble> {
+    let (Some(name), Ok(steps)) = (text_of(case, "name"), list_of(case, "steps")) else {
+        return Err(Trouble::Form);
+    };
+    let mut files = files_of(alloc, case)?;
     for (index, step) in steps.iter().enumerate() {
         if let Some(told) = difference(alloc, step, &mut files)? {
-            let number = index.saturating_add(1);
-            return Ok(Some(format!(in alloc; "{name}: step {number}: {told}")?));
+            return of_step(alloc, name, index.saturating_add(1), &told);
         }
     }
     Ok(None)
+}
+
+/// A difference behind the name of the case and the number of the step.
+fn of_step(
+    alloc: Global,
+    name: &str,
+    number: usize,
+    told: &str,
+) -> Result<Option<String>, Trouble> {
+    Ok(Some(format!(in alloc; "{name}: step {number}: {told}")?))
 }
 
 /// The files of a case.
@@ -56,13 +70,18 @@ fn difference(
         return cut_difference(alloc, step, name, files);
     }
     let told = told_of(alloc, step, None, files)?;
-    if !is_wanted(alloc, step, step.get("stderr"), &told)? {
-        return Ok(Some(shown(alloc, &told)?));
+    let difference = unlike(alloc, step, step.get("stderr"), &told)?;
+    match text_of(step, "save") {
+        Some(name) if difference.is_none() => save(alloc, name, &told, files)?,
+        _ => {}
     }
-    if let Some(name) = text_of(step, "save") {
-        files.insert(0, entry(alloc, name.as_bytes(), told.out.bytes())?)?;
-    }
-    Ok(None)
+    Ok(difference)
+}
+
+/// Puts what standard output took before the other files, under a name.
+fn save(alloc: Global, name: &str, told: &Told, files: &mut Vec<Entry>) -> Result<(), Trouble> {
+    files.insert(0, entry(alloc, name.as_bytes(), told.out.bytes())?)?;
+    Ok(())
 }
 
 /// Whether each key of a step is one of those that are looked at.
@@ -89,14 +108,30 @@ fn cut_difference(
     let whole = held(files, name.as_bytes())?;
     for length in 0..whole.len() {
         let err = line_at(lines, length)?;
-        let front = entry(alloc, name.as_bytes(), &whole[..length])?;
-        let told = told_of(alloc, step, Some(front), files)?;
-        if !is_wanted(alloc, step, Some(err), &told)? {
-            let told = shown(alloc, &told)?;
-            return Ok(Some(format!(in alloc; "with {length} bytes: {told}")?));
+        let front = (name.as_bytes(), &whole[..length]);
+        if let Some(told) = front_difference(alloc, step, front, files, err)? {
+            return of_front(alloc, length, &told);
         }
     }
     Ok(None)
+}
+
+/// The same of the call with one front, where standard error is to be `err`.
+fn front_difference(
+    alloc: Global,
+    step: &Value,
+    (name, front): (&[u8], &[u8]),
+    files: &[Entry],
+    err: &Value,
+) -> Result<Option<String>, Trouble> {
+    let front = entry(alloc, name, front)?;
+    let told = told_of(alloc, step, Some(front), files)?;
+    unlike(alloc, step, Some(err), &told)
+}
+
+/// A difference behind the length of the front.
+fn of_front(alloc: Global, length: usize, told: &str) -> Result<Option<String>, Trouble> {
+    Ok(Some(format!(in alloc; "with {length} bytes: {told}")?))
 }
 
 /// The bytes of the first file with a name.
@@ -119,6 +154,20 @@ fn line_at(lines: &[Value], length: usize) -> Result<&Value, Trouble> {
         }
     }
     wanted
+}
+
+/// What a step told, where it is not what it should be, with standard error as given.
+fn unlike(
+    alloc: Global,
+    step: &Value,
+    err: Option<&Value>,
+    told: &Told,
+) -> Result<Option<String>, Trouble> {
+    if is_wanted(alloc, step, err, told)? {
+        Ok(None)
+    } else {
+        shown(alloc, told)
+    }
 }
 
 /// Whether a step tells what it should: its status, and each output whose content is given.
@@ -147,11 +196,13 @@ fn is_content(alloc: Global, content: Option<&Value>, bytes: &[u8]) -> Result<bo
 }
 
 /// What a step told, on one line.
-fn shown(alloc: Global, told: &Told) -> Result<String, Trouble> {
+fn shown(alloc: Global, told: &Told) -> Result<Option<String>, Trouble> {
     let status = told.status as u8;
     let out = front(told.out.bytes()).escape_ascii();
     let err = front(told.err.bytes()).escape_ascii();
-    Ok(format!(in alloc; "status {status}, standard output \"{out}\", standard error \"{err}\"")?)
+    Ok(Some(format!(in alloc;
+        "status {status}, standard output \"{out}\", standard error \"{err}\""
+    )?))
 }
 
 fn front(bytes: &[u8]) -> &[u8] {
