@@ -21,5 +21,8 @@ pub mod PlaceLemmas
 mod PlaceStatements
 pub mod PlaceRuns
 pub mod PlaceDesigns
+mod PlacePorts
+mod PlaceLeads
+mod PlaceShapes
 mod LoneLemmas
 pub mod KnownRewrites
