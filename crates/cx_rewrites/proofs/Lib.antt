@@ -24,5 +24,6 @@ pub mod PlaceDesigns
 mod PlacePorts
 mod PlaceLeads
 mod PlaceShapes
+mod PlaceRules
 mod LoneLemmas
 pub mod KnownRewrites
