@@ -21,5 +21,9 @@ pub mod PlaceLemmas
 mod PlaceStatements
 pub mod PlaceRuns
 pub mod PlaceDesigns
+mod PlacePorts
+mod PlaceLeads
+mod PlaceShapes
+mod PlaceRules
 mod LoneLemmas
 pub mod KnownRewrites

@@ -47,7 +47,7 @@ module _ (look : Look) where
   target_seen-unplaced : (undriven : Seen) (acts : List Acting) → target_seen undriven look (map unplaced_acting acts) ≡ target_seen undriven look acts
   target_seen-unplaced undriven acts = ap (settle undriven look) (taken-unplaced acts)
 
-acting-unplaced : (act : Active) (p : PortRef) (list : List Owned) → acting act p (map unplaced_owned list) ≡ map unplaced_acting (acting act p list)
+pub acting-unplaced : (act : Active) (p : PortRef) (list : List Owned) → acting act p (map unplaced_owned list) ≡ map unplaced_acting (acting act p list)
 acting-unplaced act p [] = refl
 acting-unplaced act p (o ∷ rest) = of_target (same_port o.assign.target p) (acting-unplaced act p rest)
   where
@@ -102,9 +102,9 @@ same_parts (Node part cells) (Node other more) (h, hs) = h
 pub same_cells : (i j : Instance) → SameTree i j → SameCells (cells_of i) (cells_of j)
 same_cells (Node part cells) (Node other more) (h, hs) = hs
 
-part_port-same : (part other : PlainComponent) → SamePart part other → (p : ℕ) → part_port part p ≡ part_port other p
+pub part_port-same : (part other : PlainComponent) → SamePart part other → (p : ℕ) → part_port part p ≡ part_port other p
 part_port-same part other same zero = refl
-part_port-same part other same (suc n) = ap (λ k. later_port k (length part.outputs) n) same.inputs ∙ ap (λ k. later_port (length other.inputs) k n) same.outputs
+part_port-same part other same (suc n) = ap (λ list. later_port (length list) (length part.outputs) n) same.inputs ∙ ap (λ list. later_port (length other.inputs) (length list) n) same.outputs
 
 -- A STEP is the same
 module _ (part other : PlainComponent) (same : SamePart part other) (act : Active) (s : State) (look : Look) (below : Below) where

@@ -22,7 +22,7 @@ group_at-same part other same g =
 pub kind-same : (part other : PlainComponent) → SamePart part other → (g : ℕ) → (group_at part g).kind ≡ (group_at other g).kind
 kind-same part other same g = ap (λ (x : PlainGroup). x.kind) (group_at-same part other same g)
 
-assigns-same : (part other : PlainComponent) → SamePart part other → (g : ℕ) → map unplaced_assign (group_at part g).assigns ≡ map unplaced_assign (group_at other g).assigns
+pub assigns-same : (part other : PlainComponent) → SamePart part other → (g : ℕ) → map unplaced_assign (group_at part g).assigns ≡ map unplaced_assign (group_at other g).assigns
 assigns-same part other same g = ap (λ (x : PlainGroup). x.assigns) (group_at-same part other same g)
 
 assigns_drive-unplaced : (list : List PlainAssign) (c : ℕ) → assigns_drive (map unplaced_assign list) c ≡ assigns_drive list c

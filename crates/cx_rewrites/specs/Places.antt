@@ -4,8 +4,9 @@ use Rattle.std.specs.Prelude.{◌≡◌, ℕ, length, map}
 use Rattle.cx_meaning.specs.declared.ports.PlacedPort.{PlacedPort}
 use Rattle.cx_meaning.specs.Designs.{PlainGuard, Always, Atom, Negation, All, Any, Compared, Within, PlainGuards, no_guards, a_guard, PlainAssign, PlainGroup, PlainCell, PlainForm, Empty, Enable, Seq, Par, If, While, Repeat, StaticSeq, StaticPar, StaticIf, StaticRepeat, Timed, PlainStatement, Placed, PlainStatements, no_statements, a_statement, PlainComponent, PlainDesign, component_at, no_place}
 use Rattle.cx_meaning.specs.Active.{Acting, Owned, source_order}
+use Rattle.cx_rules.specs.Items.{Visited}
 
--- all at one place
+-- parts of a design, all at one place
 abbrev pub unplaced_port : PlacedPort → PlacedPort
 unplaced_port p = record { port = p.port; place = no_place }
 
@@ -60,12 +61,17 @@ abbrev mutual
   unplaced_statements no_statements = no_statements
   unplaced_statements (a_statement s ss) = a_statement (unplaced s) (unplaced_statements ss)
 
--- two components that are the same apart from names of ports and places. Their assignments stand in the same source order
+abbrev pub unplaced_visited : Visited → Visited
+unplaced_visited v = record { context = v.context; form = unplaced_form v.form; place = no_place }
+
+-- two components that are the same apart from places. Their assignments stand in the same source order
 pub record SamePart (part other : PlainComponent) : Type 0 where
-  pub inputs : length part.inputs ≡ length other.inputs
-  pub outputs : length part.outputs ≡ length other.outputs
+  pub name : part.name ≡ other.name
+  pub inputs : part.inputs ≡ other.inputs
+  pub outputs : part.outputs ≡ other.outputs
   pub cells : map unplaced_cell part.cells ≡ map unplaced_cell other.cells
   pub groups : map unplaced_group part.groups ≡ map unplaced_group other.groups
+  pub always : map unplaced_assign part.always ≡ map unplaced_assign other.always
   pub order : map unplaced_owned (source_order part) ≡ map unplaced_owned (source_order other)
   pub control : unplaced part.control ≡ unplaced other.control
 
