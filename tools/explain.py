@@ -311,9 +311,10 @@ def of_left_out(it):
                        [('to mend it', 'cut `@external`, or make it such a memory; the words of a component come and go by its ports')])
     port = next((port for port in [*part.in_ports, *part.out_ports] if port.token.place == it.place or port.name == it.name), None)
     if port:
-        own = 'go, clk, reset and done' if part.name == 'main' else 'a port with such an attribute that has the name go, done, clk or reset'
-        note = 'external memories in `main` carry what goes in and comes out' if part.name == 'main' else 'leave it away: go, done, clk and reset are there without being declared'
-        return Message(span_of(port.token), f'`{port.name}` of `{part.name}` is left out: {own} may stand there', [('to mend it', note)])
+        role = next((name for name in designs.OWN_PORTS if name in port.attributes), None)
+        if role:
+            return Message(span_of(port.token), f'a port with `@{role}` has the name `{role}`, and this one is `{port.name}`', [('to mend it', f'`{role}`, or nothing: it is there without being declared; `tools/calyx port` does it')])
+        return Message(span_of(port.token), f'`main` has no ports but go, clk, reset and done, and this is `{port.name}`', [('to mend it', 'an external memory in `main` carries what goes in or comes out')])
     bind = next((target for one in part.control.all() for _, target in one.outputs if target.text == it.name), None)
     if bind:
         return Message(span_of(bind.first, bind.last), f'an output of an invoke goes to `r.in` of a `std_reg`, and `{bind.text}` is none', [('to mend it', 'bind it to the `in` of a register, and read that behind the invoke')])
@@ -340,6 +341,9 @@ def left_out_hole(it, part, hole):
     where = next((one for one, assign in part.all_assigns() if assign.target.first.place == it.place), None)
     if word == 'go':
         return Message(it.span(), f'`{it.name}`: a group goes by itself where control enables it', [('to mend it', 'enable the group in control; a group cannot start another')])
+    test = next((one for one in part.control.all() if one.comb == group), None)
+    if test and where is not None and where.name == group and not any(one.kind == 'enable' and one.name == group for one in part.control.all()):
+        return Message(it.span(), f'group `{group}` stands behind `with` in line {test.line} alone, and computes for that test: it has no done', [('to mend it', f'`comb group {group}`, without this assignment; `tools/calyx port` does it')])
     if where is not None and where.name == group:
         written = explain_control.what_is_written(it.design, part, where)
         mend = f'`{group}[done] = {written[0]}.done;`' if written else 'a `comb group` with `with`, or a register that the group writes'

@@ -25,6 +25,8 @@ def of_no_done(it):
         mend = f'`{group.name}[done] = {written[0]}.done;`'
     else:
         mend = f"`{group.name}[done] = {' & '.join(f'{cell}.done' for cell in written)} ? 1'd1;`"
+    if not any(one is group for one, _ in footprints.groups_of(it.part, it.part.control)):
+        mend += ', or cut the group: nothing enables it'
     return Message(span, f'group `{group.name}` does not drive `{group.name}[done]`, so nobody knows when it is done', [('to mend it', f'it writes {", ".join(written)}: {mend}')])
 
 

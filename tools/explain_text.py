@@ -23,8 +23,10 @@ def of_bad_byte(it):
         return it.span(), 'a `#` begins nothing here', [('to mend it', 'a comment begins with `//`, or stands between `/*` and `*/`')]
     if letter == '+':
         return it.span(), 'a `+` begins nothing here: expressions stand in no assignment', [('to mend it', 'a cell of `std_add`, whose `left` and `right` are driven')]
+    if letter == '-' and re.search(r'\w$', it.source.line(it.place[0])[:it.place[1] - 1]):
+        return it.span(), 'a name has no `-`', [('to mend it', 'letters, digits and `_`; `tools/calyx port` puts a `_` there. A difference is a cell of `std_sub`')]
     if letter == '-':
-        return it.span(), 'a `-` begins nothing here, and stands in no name', [('to mend it', 'a cell of `std_sub`; a name has letters, digits and `_`')]
+        return it.span(), 'a `-` begins nothing here', [('to mend it', 'a cell of `std_sub`')]
     if not letter.isascii():
         return it.span(), 'a byte that is no ASCII begins nothing here', [('to mend it', 'names have the letters a to z and A to Z, digits and `_`; other letters may stand in comments alone')]
     return it.span(), f'`{letter}` begins nothing here', []
