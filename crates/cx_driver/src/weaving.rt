@@ -11,10 +11,10 @@ ghost use Rattle.cx_commands.specs.declared.stops.Stop.TheVariants as stops;
 ghost use Rattle.cx_driver.specs.Weaving.{IsDesignWoven, IsRunWoven, IsWeaveStop, IsWovenAnswer, StopsDesignWoven, StopsRunWoven, StopsWeaving, NeverFaults, woven_text};
 
 use crate::faults::faulted;
-use crate::laws::none_ends;
 use crate::memories::{dump_of, load};
 use cx_commands::{Stop, numbers};
 use cx_compiler::accepted_design;
+use cx_compiler::laws::none_ends;
 use cx_design::Checked;
 use cx_text::{Loaded, Memory};
 use cx_weave::Wove;
