@@ -1,10 +1,10 @@
 -- ACCEPTANCE HANGS ON NO PLACE: where one of two designs that are the same apart from places breaks a rule, so does the other, at the same part.
-use Rattle.std.proofs.Common.{◌≡◌, ℕ, ◌<◌, inl, inr, List, length, Some, slice_get, refl, sym, ap, ◌∙◌, subst}
+use Rattle.std.proofs.Common.{◌≡◌, ℕ, ◌<◌, inl, inr, List, length, refl, sym, ◌∙◌, subst}
 use Rattle.cx_text.specs.declared.places.Place.{Place}
 use Rattle.cx_text.specs.declared.rules.Rule.{Rule}
 use Rattle.cx_text.specs.declared.rules.Rule.TheVariants as rules
 use Rattle.cx_meaning.specs.Designs.{PlainDesign, PlainComponent, component_at}
-use Rattle.cx_meaning.specs.Instances.{Instance, Node, Cells, no_cells, a_primitive, an_instance, part_of, tree_within, tree_of}
+use Rattle.cx_meaning.specs.Instances.{Instance, Node, Cells, no_cells, a_primitive, an_instance, tree_within, tree_of}
 use Rattle.cx_meaning.specs.Active.{Owned, nothing, source_order}
 use Rattle.cx_rules.specs.Ports.{component_of}
 use Rattle.cx_rules.specs.Items.{Visited, statements_in}
@@ -16,7 +16,7 @@ use Rattle.cx_rules.specs.RaceRule.{BreaksCombCycle, GroupBreaksCombCycle, Break
 use Rattle.cx_text.specs.declared.limits.TheConstants.{CELLS, GROUPS, INSTANCES, INSTANCE_DEPTH, MEMORY_WORDS, WEIGHT}
 use Rattle.cx_rules.specs.Sizes.{weight_of, instances_below, depth_below, words_below}
 use Rattle.cx_rules.specs.LimitRule.{Limited, OnCells, OnGroups, OnInstances, OnDepth, OnWords, OnWeight, BreaksStatement, BreaksPart, BreaksTree}
-use Rattle.cx_rules.specs.Accepted.{Breaks, stage_of, KeepsStage, IsAccepted}
+use Rattle.cx_rules.specs.Accepted.{Breaks, KeepsStage, IsAccepted}
 use Rattle.cx_rewrites.specs.Places.{unplaced_owned, unplaced_visited, SamePart, SameDesign}
 use Rattle.cx_rewrites.proofs.PlaceLemmas.{SameTree, SameCells}
 use Rattle.cx_rewrites.proofs.PlaceDesigns.{tree_within-same, tree_of-same}
@@ -85,21 +85,24 @@ module _ (d e : PlainDesign) (same : SameDesign d e) where
       → (spot : Spot) (place : Place) (name : List ℕ) → OnStatement rule d spot place name → (at : Place) × (called : List ℕ) × OnStatement rule e spot at called
   statement_there rule carried spot place name on =
       let x = twin_at unplaced_visited (statements_in (component_at d spot.component)) (statements_in (component_at e spot.component)) on.number on.statement
-          (statements_in-same (component_at d spot.component) (component_at e spot.component) (same.parts spot.component)) on.stands in
+      (statements_in-same (component_at d spot.component) (component_at e spot.component) (same.parts spot.component)) on.stands in
       let r = carried (component_of d spot.component) (component_of e spot.component) (tree_there spot.component) (tree_back spot.component) on.statement x.0 x.2 place name on.breaks in
       (r.0, r.1, record { within = within_there spot.component on.within; number = on.number; is = on.is; statement = x.0; stands = x.1; breaks = r.2 })
 
   group_there : (rule : GroupRule) → ((i j : Instance) → SameTree i j → SameTree j i → (g : ℕ) (place : Place) (name : List ℕ) → rule i g place name → ByGroup rule j g)
       → (spot : Spot) (place : Place) (name : List ℕ) → OnGroup rule d spot place name → (at : Place) × (called : List ℕ) × OnGroup rule e spot at called
   group_there rule carried spot place name on =
-      let r = carried (component_of d spot.component) (component_of e spot.component) (tree_there spot.component) (tree_back spot.component) on.number place name on.breaks in
-      (r.0, r.1, record {
-        within = within_there spot.component on.within;
-        number = on.number;
-        is = on.is;
-        stands = subst (λ n. on.number < n) (groups_count-same (component_at d spot.component) (component_at e spot.component) (same.parts spot.component)) on.stands;
-        breaks = r.2;
-      })
+      let r = carried (component_of d spot.component) (component_of e spot.component) (tree_there spot.component) (tree_back spot.component) on.number place name on.breaks in (
+        r.0,
+        r.1,
+        record {
+          within = within_there spot.component on.within;
+          number = on.number;
+          is = on.is;
+          stands = subst (λ n. on.number < n) (groups_count-same (component_at d spot.component) (component_at e spot.component) (same.parts spot.component)) on.stands;
+          breaks = r.2;
+        },
+      )
 
   -- LIMITS
   part_there : (limited : Limited) (count other limit : ℕ) (spot : Spot) (place : Place) (name : List ℕ) → count ≡ other → BreaksPart d limited count limit spot place name
@@ -113,13 +116,16 @@ module _ (d e : PlainDesign) (same : SameDesign d e) where
       (_, _, record { at_main = on.at_main ∙ same.main; is = on.is; exceeds = subst (λ n. limit < n) as_many on.exceeds; tells = (refl, refl) })
 
   cycle_there : (spot : Spot) (place : Place) (name : List ℕ) → BreaksCombCycle d spot place name → (at : Place) × (called : List ℕ) × BreaksCombCycle e spot at called
-  cycle_there spot place name on =
-      (_, _, record {
-        within = within_there spot.component on.within;
-        is = on.is;
-        cycle = has_cycle-same (component_of d spot.component) (component_of e spot.component) (tree_there spot.component) nothing on.cycle;
-        tells = (refl, refl);
-      })
+  cycle_there spot place name on = (
+    _,
+    _,
+    record {
+      within = within_there spot.component on.within;
+      is = on.is;
+      cycle = has_cycle-same (component_of d spot.component) (component_of e spot.component) (tree_there spot.component) nothing on.cycle;
+      tells = (refl, refl);
+    },
+  )
 
   -- EACH RULE
   shape_there : (spot : Spot) (place : Place) (name : List ℕ) → Breaks d rules.StaticShape spot place name → Broken e rules.StaticShape spot
@@ -131,11 +137,11 @@ module _ (d e : PlainDesign) (same : SameDesign d e) where
   limit_there : (spot : Spot) (place : Place) (name : List ℕ) → Breaks d rules.Limit spot place name → Broken e rules.Limit spot
   limit_there spot place name (inl b) =
       let r = part_there OnCells (length (component_at d spot.component).cells) (length (component_at e spot.component).cells) CELLS spot place name
-          (cells_count-same (component_at d spot.component) (component_at e spot.component) (same.parts spot.component)) b in
+      (cells_count-same (component_at d spot.component) (component_at e spot.component) (same.parts spot.component)) b in
       (r.0, r.1, inl r.2)
   limit_there spot place name (inr (inl b)) =
       let r = part_there OnGroups (length (component_at d spot.component).groups) (length (component_at e spot.component).groups) GROUPS spot place name
-          (groups_count-same (component_at d spot.component) (component_at e spot.component) (same.parts spot.component)) b in
+      (groups_count-same (component_at d spot.component) (component_at e spot.component) (same.parts spot.component)) b in
       (r.0, r.1, inr (inl r.2))
   limit_there spot place name (inr (inr (inl b))) =
       let r = statement_there BreaksStatement (λ i j t u v x h. statement_limit_kept i j t v x h) spot place name b in

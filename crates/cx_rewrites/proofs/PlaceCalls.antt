@@ -1,16 +1,16 @@
 -- THE RULE ON CALLS: what breaks it breaks it at other places too.
-use Rattle.std.proofs.Common.{◌≡◌, ◌≢◌, ℕ, zero, suc, ◌+◌, inl, inr, Bool, true, false, nat_eq, cond, ◌||◌, ◌&&◌, List, [], ◌∷◌, ◌++◌, length, map, filter, Option, Some, None, slice_get, refl, sym, ap, ◌∙◌, subst}
+use Rattle.std.proofs.Common.{◌≡◌, ℕ, zero, suc, ◌+◌, inl, inr, Bool, true, false, nat_eq, cond, ◌||◌, ◌&&◌, List, [], ◌∷◌, length, map, Some, slice_get, refl, sym, ap, ◌∙◌, subst}
 use Rattle.cx_meaning.specs.declared.ports.PortRef.{PortRef}
 use Rattle.cx_meaning.specs.declared.ports.PortRef.TheVariants as ports
 use Rattle.cx_text.specs.declared.places.Place.{Place}
-use Rattle.cx_meaning.specs.Designs.{PlainGuard, Always, Atom, Negation, All, Any, Compared, Within, PlainGuards, no_guards, a_guard, PlainAssign, PlainCell, PlainComponent, group_at}
-use Rattle.cx_meaning.specs.Instances.{Instance, part_of, cells_of, cell_at}
+use Rattle.cx_meaning.specs.Designs.{PlainGuard, Always, Atom, Negation, All, Any, Compared, Within, PlainGuards, no_guards, a_guard, PlainAssign, PlainCell}
+use Rattle.cx_meaning.specs.Instances.{Instance, part_of}
 use Rattle.cx_meaning.specs.Active.{Owned, group, same_port}
 use Rattle.cx_meaning.specs.Sights.{part_port}
-use Rattle.cx_rules.specs.Ports.{is_primitive_enable, is_part_port}
+use Rattle.cx_rules.specs.Ports.{is_part_port}
 use Rattle.cx_rules.specs.Items.{is_plain}
 use Rattle.cx_rules.specs.ShapeRules.{is_hole_of, some_target}
-use Rattle.cx_rules.specs.CallShape.{is_port_of, Calls, go_port, done_port, write_en_of, register_done, is_reg_kind, is_register_cell, is_register, one, with_target, is_atom, is_always, is_negated, is_right_go, is_right_enable, is_register_enable, captured_from, captured, wanted_dones, joined, conjuncts, conjuncts_in, are_dones, is_right_done_assign, is_right_done, assigns_of, CallsAnother, IsFedBack, IsInput, IsOutputOrDone, CallBreak, another_cell, wrong_go, input_by_output, wrong_enable, wrong_done, IsOutside, IsMisshapen, BreaksCallShape, GroupBreaksCallShape}
+use Rattle.cx_rules.specs.CallShape.{is_port_of, Calls, go_port, done_port, write_en_of, is_reg_kind, is_register_cell, one, with_target, is_atom, is_always, is_negated, is_right_go, is_right_enable, is_register_enable, captured_from, captured, wanted_dones, joined, conjuncts, conjuncts_in, are_dones, is_right_done, assigns_of, IsFedBack, CallBreak, another_cell, wrong_go, input_by_output, wrong_enable, wrong_done, IsOutside, IsMisshapen, BreaksCallShape, GroupBreaksCallShape}
 use Rattle.cx_rewrites.specs.Places.{unplaced_guard, unplaced_guards, unplaced_assign, unplaced_cell, unplaced_owned, SamePart}
 use Rattle.cx_rewrites.proofs.PlaceLemmas.{SameTree, same_parts, part_port-same}
 use Rattle.cx_rewrites.proofs.PlaceStatements.{kind-same, assigns-same}
@@ -156,28 +156,29 @@ module _ (i j : Instance) (t : SameTree i j) where
     break-same (another_cell {target} ((e, calls, differs), is)) = another_cell ((e, calls-same g e calls, differs), sym (is_part_port-same i j t target) ∙ is)
     break-same (wrong_go wrong) =
         wrong_go (sym (ap (λ d. is_right_go d (with_target (go_port c) (assigns_of i g))) done_port-same
-                    ∙ of_target (is_right_go (done_port c twin)) (is_right_go-unplaced (done_port c twin)) (go_port c) (assigns_of i g) (assigns_of j g) (assigns-same (part_of i) (part_of j) same g)) ∙ wrong)
+        ∙ of_target (is_right_go (done_port c twin)) (is_right_go-unplaced (done_port c twin)) (go_port c) (assigns_of i g) (assigns_of j g) (assigns-same (part_of i) (part_of j) same g)) ∙ wrong)
     break-same (input_by_output p back) = input_by_output p (fed_back p back)
     break-same (wrong_enable {target} enable wrong) =
         wrong_enable (sym (is_primitive_enable-same i j t target) ∙ enable)
         (sym (ap (λ b. b && is_right_enable (done_port c child) (with_target target (assigns_of i g))) (is_register_enable-same target)
-            ∙ ap (λ d. is_register_enable (part_of j) target && is_right_enable d (with_target target (assigns_of i g))) done_port-same
-            ∙ ap (λ b. is_register_enable (part_of j) target && b)
-            (of_target (is_right_enable (done_port c twin)) (is_right_enable-unplaced (done_port c twin)) target (assigns_of i g) (assigns_of j g) (assigns-same (part_of i) (part_of j) same g)))
-            ∙ wrong)
+        ∙ ap (λ d. is_register_enable (part_of j) target && is_right_enable d (with_target target (assigns_of i g))) done_port-same
+        ∙ ap (λ b. is_register_enable (part_of j) target && b)
+        (of_target (is_right_enable (done_port c twin)) (is_right_enable-unplaced (done_port c twin)) target (assigns_of i g) (assigns_of j g) (assigns-same (part_of i) (part_of j) same g)))
+        ∙ wrong)
     break-same (wrong_done wrong) =
         wrong_done (sym (ap (λ d. is_right_done (wanted_dones d (captured (part_of i) (assigns_of i g))) (with_target (ports.Done g) (assigns_of i g))) done_port-same
-                    ∙ ap (λ rs. is_right_done (wanted_dones (done_port c twin) rs) (with_target (ports.Done g) (assigns_of i g))) (captured-same g)
-                    ∙ of_target (is_right_done (wanted_dones (done_port c twin) (captured (part_of j) (assigns_of j g)))) (is_right_done-unplaced (wanted_dones (done_port c twin) (captured (part_of j) (assigns_of j g))))
-                    (ports.Done g) (assigns_of i g) (assigns_of j g) (assigns-same (part_of i) (part_of j) same g)) ∙ wrong)
+        ∙ ap (λ rs. is_right_done (wanted_dones (done_port c twin) rs) (with_target (ports.Done g) (assigns_of i g))) (captured-same g)
+        ∙ of_target (is_right_done (wanted_dones (done_port c twin) (captured (part_of j) (assigns_of j g)))) (is_right_done-unplaced (wanted_dones (done_port c twin) (captured (part_of j) (assigns_of j g))))
+        (ports.Done g) (assigns_of i g) (assigns_of j g) (assigns-same (part_of i) (part_of j) same g)) ∙ wrong)
 
   -- THE RULE
   module _ (u : SameTree j i) (o w : Owned) (e : unplaced_owned o ≡ unplaced_owned w) where
     outside-same : IsOutside i o → IsOutside j w
     outside-same (is, inl none) = (sym (is_part_port-same i j t w.assign.target) ∙ ap (is_part_port i) (sym (aim_is i j t u o w e)) ∙ is, inl (sym (owner_is i j t u o w e) ∙ none))
-    outside-same (is, inr (g, owner, other)) =
-        (sym (is_part_port-same i j t w.assign.target) ∙ ap (is_part_port i) (sym (aim_is i j t u o w e)) ∙ is,
-        inr (g, sym (owner_is i j t u o w e) ∙ owner, ap is_plain (sym (kind-same (part_of i) (part_of j) same g)) ∙ other))
+    outside-same (is, inr (g, owner, other)) = (
+      sym (is_part_port-same i j t w.assign.target) ∙ ap (is_part_port i) (sym (aim_is i j t u o w e)) ∙ is,
+      inr (g, sym (owner_is i j t u o w e) ∙ owner, ap is_plain (sym (kind-same (part_of i) (part_of j) same g)) ∙ other),
+    )
 
     misshapen-same : IsMisshapen i o → IsMisshapen j w
     misshapen-same m =
@@ -196,9 +197,18 @@ module _ (i j : Instance) (t : SameTree i j) where
     call_shape_kept place name (inr misshapen, told) = (_, _, (inr (misshapen-same misshapen), (refl, refl)))
 
   pub group_call_kept : (g : ℕ) (place : Place) (name : List ℕ) → GroupBreaksCallShape i g place name → ByGroup GroupBreaksCallShape j g
-  group_call_kept g place name (plain, (c, calls, bad), told) =
-      (_, _, (ap is_plain (sym (kind-same (part_of i) (part_of j) same g)) ∙ plain,
-              (c, calls-same g c calls,
-                  ap (λ b. b && some_target (is_hole_of g) (assigns_of j g)) (sym (targets-same (part_of i) (part_of j) same (same_port (go_port c)) g))
-                  ∙ ap (λ b. some_target (same_port (go_port c)) (assigns_of i g) && b) (sym (targets-same (part_of i) (part_of j) same (is_hole_of g) g))
-                  ∙ bad), (refl, refl)))
+  group_call_kept g place name (plain, (c, calls, bad), told) = (
+    _,
+    _,
+    (
+      ap is_plain (sym (kind-same (part_of i) (part_of j) same g)) ∙ plain,
+      (
+        c,
+        calls-same g c calls,
+        ap (λ b. b && some_target (is_hole_of g) (assigns_of j g)) (sym (targets-same (part_of i) (part_of j) same (same_port (go_port c)) g))
+            ∙ ap (λ b. some_target (same_port (go_port c)) (assigns_of i g) && b) (sym (targets-same (part_of i) (part_of j) same (is_hole_of g) g))
+            ∙ bad,
+      ),
+      (refl, refl),
+    ),
+  )

@@ -1,5 +1,5 @@
 -- LIMITS: counts are the same apart from places.
-use Rattle.std.proofs.Common.{◌≡◌, ℕ, zero, suc, ◌+◌, max, Bool, ◌&&◌, nat_lt, nat_le, List, [], ◌∷◌, length, map, Option, Some, None, refl, sym, ap, ◌∙◌, arith}
+use Rattle.std.proofs.Common.{◌≡◌, ℕ, ◌+◌, max, Bool, ◌&&◌, nat_lt, nat_le, List, [], ◌∷◌, length, map, Option, Some, None, refl, sym, ap, ◌∙◌, arith}
 use Rattle.std.specs.Prelude.{if◌then◌else◌}
 use Rattle.std.proofs.lemmas.List.{length-map}
 use Rattle.cx_text.specs.declared.places.Place.{Place}
@@ -55,7 +55,7 @@ module _ (part other : PlainComponent) (same : SamePart part other) where
       (sym (assigns_size-unplaced part.always) ∙ ap assigns_size same.always ∙ assigns_size-unplaced other.always)
       (as_long unplaced_visited (statements_in part) (statements_in other) statements_in-same)
       (sym (occurrences_of-unplaced part other (lengths-same part other same) (statements_in part)) ∙ ap (occurrences_of other) statements_in-same
-          ∙ occurrences_of-unplaced other other (λ g. refl) (statements_in other))
+      ∙ occurrences_of-unplaced other other (λ g. refl) (statements_in other))
 
 -- OVER THE TREE
 mutual
