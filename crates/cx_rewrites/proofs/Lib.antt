@@ -25,5 +25,8 @@ mod PlacePorts
 mod PlaceLeads
 mod PlaceShapes
 mod PlaceRules
+mod PlaceCalls
+mod PlaceLimits
+pub mod PlaceAccepted
 mod LoneLemmas
 pub mod KnownRewrites

@@ -65,7 +65,7 @@ cells_for-same f g h (c ∷ cells) (x ∷ more) e =
     subst (λ kind. SameCells (add_cell f c.kind (cells_for f cells)) (add_cell g kind (cells_for g more))) (ap (λ (y : PlainCell). y.kind) first)
     (add_cell-same f g h c.kind (cells_for f cells) (cells_for g more) (cells_for-same f g h cells more rest))
 
-tree_within-same : (d e : PlainDesign) → SameDesign d e → (n k : ℕ) → SameTree (tree_within d n k) (tree_within e n k)
+pub tree_within-same : (d e : PlainDesign) → SameDesign d e → (n k : ℕ) → SameTree (tree_within d n k) (tree_within e n k)
 tree_within-same d e same zero k = (same.parts k, tt)
 tree_within-same d e same (suc n) k =
     (same.parts k, cells_for-same (tree_within d n) (tree_within e n) (λ m. tree_within-same d e same n m) (component_at d k).cells (component_at e k).cells (same.parts k).cells)

@@ -1,5 +1,5 @@
 -- WHAT DEPENDS ON WHAT, what rests on state and what a statement reads are the same apart from places.
-use Rattle.std.proofs.Common.{◌≡◌, ℕ, inl, inr, true, List, [], ◌∷◌, ◌++◌, map, Option, Some, None, refl, sym, ap, ◌∙◌, subst}
+use Rattle.std.proofs.Common.{◌≡◌, ℕ, List, [], ◌∷◌, ◌++◌, map, refl, sym, ap, ◌∙◌, subst}
 use Rattle.std.proofs.lemmas.List.{map-append}
 use Rattle.std.specs.Prelude.{flat_map}
 use Rattle.cx_prim.specs.declared.ports.Side.{Side}
@@ -9,15 +9,15 @@ use Rattle.cx_meaning.specs.Rows.{side_of}
 use Rattle.cx_meaning.specs.declared.ports.PortRef.{PortRef}
 use Rattle.cx_meaning.specs.declared.ports.PortRef.TheVariants as ports
 use Rattle.cx_meaning.specs.declared.ports.PlacedPort.{PlacedPort}
-use Rattle.cx_meaning.specs.Designs.{PlainAssign, PlainGroup, PlainComponent, group_at, PlainForm, Empty, Enable, Seq, Par, If, While, Repeat, StaticSeq, StaticPar, StaticIf, StaticRepeat, Timed, PlainStatement, Placed, PlainStatements, no_statements, a_statement, no_place}
-use Rattle.cx_meaning.specs.Instances.{Instance, At, Nothing, OfRow, OfInstance, part_of, cells_of, cell_at}
+use Rattle.cx_meaning.specs.Designs.{PlainComponent, group_at, PlainForm, Empty, Enable, Seq, Par, If, While, Repeat, StaticSeq, StaticPar, StaticIf, StaticRepeat, Timed, PlainStatement, Placed, PlainStatements, no_statements, a_statement, no_place}
+use Rattle.cx_meaning.specs.Instances.{Instance, At, OfRow, OfInstance, part_of, cells_of, cell_at}
 use Rattle.cx_meaning.specs.Active.{Active, Acting, source_order, acting, drivers}
 use Rattle.cx_meaning.specs.Sights.{In, PartPort, Go, AnInput, AnOutput, ItsDone, part_port}
 use Rattle.cx_meaning.specs.Control.{groups_of, groups_drive, drives}
 use Rattle.cx_rules.specs.Items.{Context, below_dynamic, Dynamic, InStatic, Branch, Visited, visit, visit_parts, visit_all, test_in, option_list, tests_of}
-use Rattle.cx_rules.specs.Footprints.{AssignNames, Mentions, SideLeads, PartLeads, CellLeads, Leads, Depends, at_once, by_way_of, Rests, literal_rests, input_rests, registered_rests, output_rests, done_rests, combinational_rests, Reads, driven, named, tested, through}
+use Rattle.cx_rules.specs.Footprints.{Mentions, SideLeads, PartLeads, CellLeads, Leads, Depends, at_once, by_way_of, Rests, literal_rests, input_rests, registered_rests, output_rests, done_rests, combinational_rests, Reads, driven, named, tested, through}
 use Rattle.cx_rules.specs.RaceRule.{HasCycle}
-use Rattle.cx_rewrites.specs.Places.{unplaced_port, unplaced_assign, unplaced_group, unplaced_acting, unplaced_form, unplaced, unplaced_statements, unplaced_visited, SamePart}
+use Rattle.cx_rewrites.specs.Places.{unplaced_port, unplaced_assign, unplaced_acting, unplaced_form, unplaced, unplaced_statements, unplaced_visited, SamePart}
 use Rattle.cx_rewrites.proofs.PlaceLemmas.{SameTree, SameAt, none_there, a_row_there, a_child_there, same_at, same_parts, same_cells, part_port-same, acting-unplaced}
 use Rattle.cx_rewrites.proofs.PlaceStatements.{assigns-same, groups_drive-same, groups_of-unplaced}
 use Rattle.cx_rewrites.proofs.PlacePorts.{target_is, names_same, twin_in}
@@ -95,11 +95,11 @@ rests-same i j t back (done_rests {c} {p} child at port) =
 rests-same i j t back (combinational_rests {c} {p} row at side undriven named_rest) =
     combinational_rests row (row_at (cell_at (cells_of i) c) (cell_at (cells_of j) c) row (same_at (cells_of i) (cells_of j) (same_cells i j t) c) at) side
     (λ m g a reads stands target.
-        let r = twin_in unplaced_assign (group_at (part_of j) g).assigns (group_at (part_of i) g).assigns a (assigns-same (part_of j) (part_of i) back g) stands in
-        undriven m g r.0 reads r.1 (sym (target_is a r.0 r.2) ∙ target))
+    let r = twin_in unplaced_assign (group_at (part_of j) g).assigns (group_at (part_of i) g).assigns a (assigns-same (part_of j) (part_of i) back g) stands in
+    undriven m g r.0 reads r.1 (sym (target_is a r.0 r.2) ∙ target))
     (λ m a q reads stands target names.
-        let r = twin_in unplaced_assign (part_of j).always (part_of i).always a back.always stands in
-        rests-same i j t back (named_rest m r.0 q reads r.1 (sym (target_is a r.0 r.2) ∙ target) (names_same a r.0 r.2 q names)))
+    let r = twin_in unplaced_assign (part_of j).always (part_of i).always a back.always stands in
+    rests-same i j t back (named_rest m r.0 q reads r.1 (sym (target_is a r.0 r.2) ∙ target) (names_same a r.0 r.2 q names)))
 
 -- STATEMENTS in pre-order
 two_visits : (xs ys us vs : List Visited) → us ≡ map unplaced_visited xs → vs ≡ map unplaced_visited ys → us ++ vs ≡ map unplaced_visited (xs ++ ys)

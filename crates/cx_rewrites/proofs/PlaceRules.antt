@@ -1,25 +1,24 @@
 -- RULES OF WIDTHS, SHAPES AND RACES: what breaks one breaks it at other places too.
-use Rattle.std.proofs.Common.{◌≡◌, ◌≢◌, ℕ, ◌<◌, ◌⊎◌, inl, inr, Bool, true, false, ◌||◌, List, [], ◌∷◌, map, Option, Some, None, refl, sym, ap, ◌∙◌, subst}
+use Rattle.std.proofs.Common.{◌≡◌, ◌≢◌, ℕ, ◌⊎◌, inl, inr, Bool, ◌||◌, List, [], ◌∷◌, map, Option, Some, None, refl, sym, ap, ◌∙◌, subst}
 use Rattle.std.specs.Prelude.{if◌then◌else◌, nat_eq, flat_map}
 use Rattle.cx_text.specs.declared.places.Place.{Place}
 use Rattle.cx_meaning.specs.declared.ports.PortRef.{PortRef}
 use Rattle.cx_meaning.specs.declared.ports.PortRef.TheVariants as ports
 use Rattle.cx_meaning.specs.declared.ports.PlacedPort.{PlacedPort}
-use Rattle.cx_meaning.specs.Designs.{PlainAssign, PlainGroup, PlainComponent, group_at, PlainForm, StaticIf, PlainStatement}
-use Rattle.cx_meaning.specs.Instances.{Instance, part_of, cells_of}
+use Rattle.cx_meaning.specs.Designs.{PlainComponent, group_at, PlainForm, PlainStatement}
+use Rattle.cx_meaning.specs.Instances.{Instance, part_of}
 use Rattle.cx_meaning.specs.Active.{Owned, nothing, group}
 use Rattle.cx_meaning.specs.Sights.{In}
-use Rattle.cx_meaning.specs.Control.{drives}
 use Rattle.cx_meaning.specs.Islands.{kind_length, group_length, form_length}
-use Rattle.cx_rules.specs.Ports.{width_of, is_source_only, is_target_only, is_primitive_enable, is_part_port, path_of, cell_name}
-use Rattle.cx_rules.specs.Items.{Pair, Range, atoms_of, comparisons_of, ranges_of, sources_of, Dynamic, Visited, visit, test_in, is_plain, is_comb}
-use Rattle.cx_rules.specs.Footprints.{AssignNames, Rests, Depends, Reads}
+use Rattle.cx_rules.specs.Ports.{width_of, is_source_only, is_target_only, is_primitive_enable, is_part_port}
+use Rattle.cx_rules.specs.Items.{Pair, atoms_of, comparisons_of, ranges_of, sources_of, Dynamic, Visited, visit, test_in, is_plain, is_comb}
+use Rattle.cx_rules.specs.Footprints.{Rests}
 use Rattle.cx_rules.specs.WidthRules.{differ, pairs_of, first_unequal, BreaksWidth, is_wide, first_wide, BreaksGuardWidth, TestBreaksGuardWidth, IsBadLiteral, BreaksLiteral, TestBreaksLiteral, BreaksNotATarget, BreaksNotASource, TestBreaksNotASource}
-use Rattle.cx_rules.specs.ShapeRules.{is_hole, is_hole_of, some_target, BreaksNoDone, BreaksDoneNotState, BreaksAlwaysEnable, BreaksCombEnable, owner_length, is_bad_range, BreaksStaticGuard, GroupBreaksStaticShape, enabled_name, BreaksStaticControl, BreaksLength, BreaksStaticTest, LeadsToInput, BreaksOutputNotState}
+use Rattle.cx_rules.specs.ShapeRules.{is_hole, is_hole_of, some_target, BreaksNoDone, BreaksDoneNotState, BreaksAlwaysEnable, BreaksCombEnable, owner_length, is_bad_range, BreaksStaticGuard, GroupBreaksStaticShape, BreaksStaticControl, BreaksLength, BreaksStaticTest, LeadsToInput, BreaksOutputNotState}
 use Rattle.cx_rules.specs.StaticControl.{is_static, is_in_static, may_stand, form_has_length, written_length}
 use Rattle.cx_rules.specs.RaceRule.{GroupBreaksCombCycle, arms_of, enabled_group, enabled_in, Arms, IsShared, IsEnabledTwice, BreaksRace}
 use Rattle.cx_rules.specs.Spots.{AssignRule, StatementRule, GroupRule}
-use Rattle.cx_rewrites.specs.Places.{unplaced_port, unplaced_assign, unplaced_group, unplaced_owned, unplaced_form, unplaced, unplaced_visited, SamePart}
+use Rattle.cx_rewrites.specs.Places.{unplaced_port, unplaced_assign, unplaced_owned, unplaced_form, unplaced, unplaced_visited, SamePart}
 use Rattle.cx_rewrites.proofs.PlaceLemmas.{SameTree, same_parts}
 use Rattle.cx_rewrites.proofs.PlaceStatements.{kind-same, assigns-same, form_length-unplaced}
 use Rattle.cx_rewrites.proofs.PlacePorts.{width_of-same, written_width-same, is_source_only-same, is_target_only-same, is_primitive_enable-same, is_part_port-same, comparisons_of-unplaced, ranges_of-unplaced, atoms_of-unplaced, target_is, source_is, guard_is, names_same, sources_of-same, twin_in}
@@ -91,10 +90,17 @@ module _ (i j : Instance) (t : SameTree i j) (u : SameTree j i) where
     width_kept place name (port, is, told) = (_, _, (port, sym (first_unequal-same (pairs_of w.assign)) ∙ ap (first_unequal i) (sym pairs_is) ∙ is, (refl, refl)))
 
     pub guard_width_kept : (place : Place) (name : List ℕ) → BreaksGuardWidth i o place name → ByAssign BreaksGuardWidth j w
-    guard_width_kept place name (port, is, told) =
-        (_, _, (port, sym (first_wide-unplaced (atoms_of w.assign.guard))
-                ∙ ap (first_wide j) (sym (atoms_of-unplaced w.assign.guard) ∙ ap atoms_of (sym (guard_is o.assign w.assign assign_is)) ∙ atoms_of-unplaced o.assign.guard)
-                ∙ first_wide-unplaced (atoms_of o.assign.guard) ∙ sym (first_wide-same (atoms_of o.assign.guard)) ∙ is, (refl, refl)))
+    guard_width_kept place name (port, is, told) = (
+      _,
+      _,
+      (
+        port,
+        sym (first_wide-unplaced (atoms_of w.assign.guard))
+            ∙ ap (first_wide j) (sym (atoms_of-unplaced w.assign.guard) ∙ ap atoms_of (sym (guard_is o.assign w.assign assign_is)) ∙ atoms_of-unplaced o.assign.guard)
+            ∙ first_wide-unplaced (atoms_of o.assign.guard) ∙ sym (first_wide-same (atoms_of o.assign.guard)) ∙ is,
+        (refl, refl),
+      ),
+    )
 
     -- the operand at the other place
     source_twin : (p : PlacedPort) → In (sources_of o.assign) p → (q : PlacedPort) × In (sources_of w.assign) q × (unplaced_port p ≡ unplaced_port q)
@@ -124,21 +130,36 @@ module _ (i j : Instance) (t : SameTree i j) (u : SameTree j i) where
         (_, _, (sym owner_is ∙ owner, sym (is_primitive_enable-same i j t w.assign.target) ∙ ap (is_primitive_enable i) (sym aim_is) ∙ is, (refl, refl)))
 
     pub comb_enable_kept : (place : Place) (name : List ℕ) → BreaksCombEnable i o place name → ByAssign BreaksCombEnable j w
-    comb_enable_kept place name (g, owner, comb, is, told) =
-        (_, _, (g, sym owner_is ∙ owner, ap is_comb (sym (kind-same (part_of i) (part_of j) same g)) ∙ comb,
-                ap (λ p. is_primitive_enable j p || is_part_port j p || is_hole p) (sym aim_is)
-                ∙ ap (λ b. b || is_part_port j o.assign.target || is_hole o.assign.target) (sym (is_primitive_enable-same i j t o.assign.target))
-                ∙ ap (λ b. is_primitive_enable i o.assign.target || b || is_hole o.assign.target) (sym (is_part_port-same i j t o.assign.target))
-                ∙ is, (refl, refl)))
+    comb_enable_kept place name (g, owner, comb, is, told) = (
+      _,
+      _,
+      (
+        g,
+        sym owner_is ∙ owner,
+        ap is_comb (sym (kind-same (part_of i) (part_of j) same g)) ∙ comb,
+        ap (λ p. is_primitive_enable j p || is_part_port j p || is_hole p) (sym aim_is)
+            ∙ ap (λ b. b || is_part_port j o.assign.target || is_hole o.assign.target) (sym (is_primitive_enable-same i j t o.assign.target))
+            ∙ ap (λ b. is_primitive_enable i o.assign.target || b || is_hole o.assign.target) (sym (is_part_port-same i j t o.assign.target))
+            ∙ is,
+        (refl, refl),
+      ),
+    )
 
     owner_length-same : (owner : Option ℕ) → owner_length (part_of j) owner ≡ owner_length (part_of i) owner
     owner_length-same None = refl
     owner_length-same (Some g) = lengths-same (part_of i) (part_of j) same g
 
     pub static_guard_kept : (place : Place) (name : List ℕ) → BreaksStaticGuard i o place name → ByAssign BreaksStaticGuard j w
-    static_guard_kept place name (r, stands, bad, told) =
-        (_, _, (r, subst (λ list. In list r) (sym (ranges_of-unplaced o.assign.guard) ∙ ap ranges_of (guard_is o.assign w.assign assign_is) ∙ ranges_of-unplaced w.assign.guard) stands,
-                ap (λ x. is_bad_range x r) (ap (owner_length (part_of j)) (sym owner_is) ∙ owner_length-same o.owner) ∙ bad, (refl, refl)))
+    static_guard_kept place name (r, stands, bad, told) = (
+      _,
+      _,
+      (
+        r,
+        subst (λ list. In list r) (sym (ranges_of-unplaced o.assign.guard) ∙ ap ranges_of (guard_is o.assign w.assign assign_is) ∙ ranges_of-unplaced w.assign.guard) stands,
+        ap (λ x. is_bad_range x r) (ap (owner_length (part_of j)) (sym owner_is) ∙ owner_length-same o.owner) ∙ bad,
+        (refl, refl),
+      ),
+    )
 
     pub output_not_state_kept : (place : Place) (name : List ℕ) → BreaksOutputNotState i o place name → ByAssign BreaksOutputNotState j w
     output_not_state_kept place name (n, aim, (q, names, bad), told) = (_, _, (n, sym aim_is ∙ aim, (q, names_same o.assign w.assign assign_is q names, one bad), (refl, refl)))
@@ -188,17 +209,29 @@ module _ (i j : Instance) (t : SameTree i j) (u : SameTree j i) where
         sym (kept (part_of i) (part_of j) (lengths-same (part_of i) (part_of j) same) v.form) ∙ ap (f (part_of j)) form_is ∙ kept (part_of j) (part_of j) (λ g. refl) x.form
 
     pub static_control_kept : (place : Place) (name : List ℕ) → BreaksStaticControl i v place name → ByStatement BreaksStaticControl j x
-    static_control_kept place name (inside, bad, told) =
-        (_, _, (ap is_in_static (sym context_is) ∙ inside,
-                ap (λ c. may_stand (part_of j) c x.form) (sym context_is)
-                ∙ sym (of_form (λ part form. may_stand part v.context form) (λ part other lengths form. may_stand-unplaced part other lengths v.context form)) ∙ bad, (refl, refl)))
+    static_control_kept place name (inside, bad, told) = (
+      _,
+      _,
+      (
+        ap is_in_static (sym context_is) ∙ inside,
+        ap (λ c. may_stand (part_of j) c x.form) (sym context_is)
+            ∙ sym (of_form (λ part form. may_stand part v.context form) (λ part other lengths form. may_stand-unplaced part other lengths v.context form)) ∙ bad,
+        (refl, refl),
+      ),
+    )
 
     pub length_kept : (place : Place) (name : List ℕ) → BreaksLength i v place name → ByStatement BreaksLength j x
-    length_kept place name (static, has, bad, told) =
-        (_, _, (sym (is_static-unplaced x.form) ∙ ap is_static (sym form_is) ∙ is_static-unplaced v.form ∙ static,
-                ap (λ c. form_has_length (part_of j) c x.form) (sym context_is)
-                ∙ sym (of_form (λ part form. form_has_length part v.context form) (λ part other lengths form. form_has_length-unplaced part other lengths v.context form)) ∙ has,
-                one bad, (refl, refl)))
+    length_kept place name (static, has, bad, told) = (
+      _,
+      _,
+      (
+        sym (is_static-unplaced x.form) ∙ ap is_static (sym form_is) ∙ is_static-unplaced v.form ∙ static,
+        ap (λ c. form_has_length (part_of j) c x.form) (sym context_is)
+            ∙ sym (of_form (λ part form. form_has_length part v.context form) (λ part other lengths form. form_has_length-unplaced part other lengths v.context form)) ∙ has,
+        one bad,
+        (refl, refl),
+      ),
+    )
       where
         same_length : form_length (part_of i) v.form ≡ form_length (part_of j) x.form
         same_length = of_form form_length (λ part other lengths form. form_length-unplaced part other lengths form)
@@ -239,6 +272,11 @@ module _ (i j : Instance) (t : SameTree i j) (form other : PlainForm) (e : unpla
 pub race_kept : (i j : Instance) (t : SameTree i j) (u : SameTree j i) (v x : Visited) → unplaced_visited v ≡ unplaced_visited x → (place : Place) (name : List ℕ) → BreaksRace i v place name → ByStatement BreaksRace j x
 race_kept i j t u v x e place name (inl (c, shared, least, told)) =
     (_, _, inl (c, shared-same i j t v.form x.form (form_is i j t u v x e) c shared, (λ d lt other. least d lt (shared-same j i u x.form v.form (sym (form_is i j t u v x e)) d other)), (refl, refl)))
-race_kept i j t u v x e place name (inr (unshared, (g, twice, least, told))) =
-    (_, _, inr ((λ c other. unshared c (shared-same j i u x.form v.form (sym (form_is i j t u v x e)) c other)),
-            (g, enabled_twice-same i j t v.form x.form (form_is i j t u v x e) g twice, (λ h lt other. least h lt (enabled_twice-same j i u x.form v.form (sym (form_is i j t u v x e)) h other)), (refl, refl))))
+race_kept i j t u v x e place name (inr (unshared, (g, twice, least, told))) = (
+  _,
+  _,
+  inr (
+    (λ c other. unshared c (shared-same j i u x.form v.form (sym (form_is i j t u v x e)) c other)),
+    (g, enabled_twice-same i j t v.form x.form (form_is i j t u v x e) g twice, (λ h lt other. least h lt (enabled_twice-same j i u x.form v.form (sym (form_is i j t u v x e)) h other)), (refl, refl)),
+  ),
+)

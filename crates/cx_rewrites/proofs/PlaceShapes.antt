@@ -1,10 +1,10 @@
 -- SHAPES OF STATEMENTS AND LISTS apart from places: tests, arms, what may stand in static control, counts.
-use Rattle.std.proofs.Common.{◌≡◌, ℕ, zero, suc, ◌+◌, Bool, true, false, ◌||◌, ◌&&◌, List, [], ◌∷◌, ◌++◌, map, length, Option, Some, None, slice_get, refl, sym, ap, ◌∙◌, subst}
+use Rattle.std.proofs.Common.{◌≡◌, ℕ, zero, suc, ◌+◌, Bool, true, false, ◌||◌, ◌&&◌, List, [], ◌∷◌, ◌++◌, map, length, Option, Some, slice_get, refl, sym, ap, ◌∙◌}
 use Rattle.std.specs.Prelude.{is_some, flat_map}
 use Rattle.cx_meaning.specs.declared.ports.PortRef.{PortRef}
 use Rattle.cx_meaning.specs.declared.ports.PlacedPort.{PlacedPort}
 use Rattle.cx_meaning.specs.Designs.{PlainAssign, PlainComponent, PlainForm, Empty, Enable, Seq, Par, If, While, Repeat, StaticSeq, StaticPar, StaticIf, StaticRepeat, Timed, PlainStatement, Placed, PlainStatements, no_statements, a_statement, list_of}
-use Rattle.cx_meaning.specs.Islands.{kind_length, group_length}
+use Rattle.cx_meaning.specs.Islands.{group_length}
 use Rattle.cx_rules.specs.Items.{Context, InStatic, Branch, Visited, test_in}
 use Rattle.cx_rules.specs.StaticControl.{is_static, may_stand, form_has_length, has_length, all_have_length, written_length, is_island_form, is_island, one_if, form_occurrences, occurrences, occurrences_in, island_occurrences, occurrences_of, is_dynamic}
 use Rattle.cx_rules.specs.ShapeRules.{some_target}
