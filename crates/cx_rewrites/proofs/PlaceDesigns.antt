@@ -1,5 +1,5 @@
 -- DESIGNS apart from places: their trees, their starts, and the run of main.
-use Rattle.std.proofs.Common.{◌≡◌, ℕ, zero, suc, List, [], ◌∷◌, length, map, refl, sym, ap, ◌∙◌, subst}
+use Rattle.std.proofs.Common.{◌≡◌, ℕ, zero, suc, Bool, true, false, List, [], ◌∷◌, length, map, refl, sym, ap, ◌∙◌, subst}
 use Rattle.std.proofs.Math.Path.{fun_ext}
 use Rattle.cx_prim.specs.CellStates.{CellState}
 use Rattle.cx_prim.specs.CellStates as cell_states
@@ -8,6 +8,8 @@ use Rattle.cx_meaning.specs.Designs.{PlainKind, OfPrimitive, OfComponent, PlainC
 use Rattle.cx_meaning.specs.Instances.{Instance, Node, Cells, no_cells, a_primitive, an_instance, part_of, add_cell, cells_for, tree_within, tree_of, Path, State, start_at, start_below, if_external, externals_from, externals_of, loaded_at, start, words_of}
 use Rattle.cx_meaning.specs.Sights.{unheld}
 use Rattle.cx_meaning.specs.Running.{run_control, run_main}
+use Rattle.cx_rules.specs.Externals.{row_for, rows_of, external_rows}
+use Rattle.cx_rules.specs.Externals as externals
 use Rattle.cx_rewrites.specs.Places.{unplaced_cell, SamePart, SameDesign}
 use Rattle.cx_rewrites.proofs.PlaceLemmas.{SameTree, SameCells, same_parts}
 use Rattle.cx_rewrites.proofs.PlaceRuns.{run_control-same}
@@ -80,3 +82,16 @@ pub run_main-same : (d e : PlainDesign) → SameDesign d e → (words : List (Li
 run_main-same d e same words n =
     ap (λ s. run_control (tree_of d) unheld s n) (start-same (tree_of d) (tree_of e) (tree_of-same d e same) words)
     ∙ run_control-same (tree_of d) (tree_of e) (tree_of-same d e same) unheld (start (tree_of e) words) n
+
+-- THE EXTERNAL MEMORIES are the same
+rows_of-unplaced : (cells : List PlainCell) → rows_of (map unplaced_cell cells) ≡ rows_of cells
+rows_of-unplaced [] = refl
+rows_of-unplaced (cell ∷ rest) = choice cell.external (rows_of-unplaced rest)
+  where
+    choice : (b : Bool) → rows_of (map unplaced_cell rest) ≡ rows_of rest → externals.if_external b (unplaced_cell cell) (rows_of (map unplaced_cell rest)) ≡ externals.if_external b cell (rows_of rest)
+    choice true e = ap (λ list. row_for cell ∷ list) e
+    choice false e = e
+
+pub external_rows-same : (d e : PlainDesign) → SameDesign d e → external_rows d ≡ external_rows e
+external_rows-same d e same =
+    sym (rows_of-unplaced (component_at d d.main).cells) ∙ ap rows_of (same.parts d.main).cells ∙ rows_of-unplaced (component_at e d.main).cells ∙ ap (λ k. rows_of (component_at e k).cells) same.main

@@ -1,10 +1,13 @@
 -- Turns of groups, tests and calls carry, where what they look at is seen alike and their cycles carry.
-use Rattle.std.proofs.Common.{◌≡◌, ℕ, zero, suc, Bool, true, false, Option, refl, sym, ap, ◌∙◌, subst}
+use Rattle.std.proofs.Common.{◌≡◌, ℕ, zero, suc, Bool, true, false, Option, Some, None, refl, sym, ap, ◌∙◌, subst}
 use Rattle.std.proofs.Math.Path.{fun_ext}
 use Rattle.cx_meaning.specs.declared.ports.PortRef.{PortRef}
 use Rattle.cx_meaning.specs.declared.ports.PortRef.TheVariants as ports
 use Rattle.cx_meaning.specs.declared.sights.FaultKind.TheVariants as kinds
-use Rattle.cx_meaning.specs.Instances.{Instance, State, under, put, idle}
+use Rattle.cx_meaning.specs.declared.kinds.GroupKind.{GroupKind}
+use Rattle.cx_meaning.specs.declared.kinds.GroupKind.TheVariants as groups
+use Rattle.cx_meaning.specs.Designs.{group_at, Enable}
+use Rattle.cx_meaning.specs.Instances.{Instance, part_of, State, under, put, idle}
 use Rattle.cx_meaning.specs.Active.{group, comb, capture}
 use Rattle.cx_meaning.specs.Truths.{Truth, One, Zero, truth_of}
 use Rattle.cx_meaning.specs.Truths as truths
@@ -12,8 +15,8 @@ use Rattle.cx_meaning.specs.Sights.{Held, seen}
 use Rattle.cx_meaning.specs.Cycles.{Fault, Ended, cycle}
 use Rattle.cx_meaning.specs.Answers.{Answer, End, More, Meaning, Turn, Ends, Goes, Faults, Unclear, then_do, turns_of, idle_turn}
 use Rattle.cx_meaning.specs.Answers as answers
-use Rattle.cx_meaning.specs.Islands.{turn_of}
-use Rattle.cx_meaning.specs.Calls.{hole_turn, group_turn, test_of, test, captures, fault_below, lift_answer, inputs_of_call, after_child, call}
+use Rattle.cx_meaning.specs.Islands.{kind_length, group_length, turn_of, island}
+use Rattle.cx_meaning.specs.Calls.{hole_turn, group_turn, test_of, test, captures, fault_below, lift_answer, inputs_of_call, after_child, call, called, call_or_turns, enable_kind, enable}
 use Rattle.cx_meaning.specs.Running.{Children}
 use Rattle.cx_rewrites.specs.Tallies.{Tally, none, plus, at_cell, below, Counted, then_count, turn_count, one_count, turns_count}
 use Rattle.cx_rewrites.specs.Carrying.{Pace, TestCarried, Carried, Carries, TurnCarried}
@@ -109,3 +112,29 @@ module _ (pace : Pace) (R : Tally → State → State → Type 0) (faults : Faul
 
         same_inputs : inputs ≡ inputs_of_call j twin_held h e z
         same_inputs = fun_ext (λ input. sym (carries.inputs input before s z r))
+
+-- THE ENABLE OF A GROUP is its turns, a call, or an island
+kinds_of_enable : (i : Instance) (kids : Children) (held : Held) (g : ℕ) (kind : GroupKind) → kind_length kind ≡ None → (s : State) (n : ℕ) → enable_kind i kids held g kind s n ≡ call_or_turns i kids held g (called i g) s n
+kinds_of_enable i kids held g groups.Plain none s n = refl
+kinds_of_enable i kids held g groups.Comb none s n = refl
+kinds_of_enable i kids held g (groups.Timed k) none s n = absurd (cc)
+
+pub enable-turns : (i : Instance) (kids : Children) (held : Held) (g : ℕ) → group_length (part_of i) g ≡ None → called i g ≡ None → (s : State) (n : ℕ) → enable i kids held g s n ≡ turns_of (idle i) (group_turn i held g) s n
+enable-turns i kids held g none calls s n = kinds_of_enable i kids held g (group_at (part_of i) g).kind none s n ∙ ap (λ c. call_or_turns i kids held g c s n) calls
+
+pub enable-call : (i : Instance) (kids : Children) (held : Held) (g c : ℕ) → group_length (part_of i) g ≡ None → called i g ≡ Some c → (s : State) (n : ℕ) → enable i kids held g s n ≡ call i kids held g c s n
+enable-call i kids held g c none calls s n = kinds_of_enable i kids held g (group_at (part_of i) g).kind none s n ∙ ap (λ x. call_or_turns i kids held g x s n) calls
+
+pub enable-island : (i : Instance) (kids : Children) (held : Held) (g k : ℕ) → group_length (part_of i) g ≡ Some k → (s : State) (n : ℕ) → enable i kids held g s n ≡ island i held (Enable g) s n
+enable-island i kids held g k some s n = by (group_at (part_of i) g).kind some
+  where
+    by : (kind : GroupKind) → kind_length kind ≡ Some k → enable_kind i kids held g kind s n ≡ island i held (Enable g) s n
+    by groups.Plain e = absurd (cc)
+    by groups.Comb e = absurd (cc)
+    by (groups.Timed m) e = refl
+
+-- meanings that are equal carry what is carried
+pub equals_carry : (pace : Pace) (R : Tally → State → State → Type 0) (faults : Fault → Fault) (counts : Counted State) (go first on second : Meaning State Fault)
+    → ((s : State) (n : ℕ) → first s n ≡ go s n) → ((s : State) (n : ℕ) → second s n ≡ on s n) → Carries pace R faults counts go on → Carries pace R faults counts first second
+equals_carry pace R faults counts go first on second e h carries before s z n m room r =
+    subst (λ o. Carried pace R faults before (counts s n) o (second z m)) (sym (e s n)) (subst (λ x. Carried pace R faults before (counts s n) (go s n) x) (sym (h z m)) (carries before s z n m room r))

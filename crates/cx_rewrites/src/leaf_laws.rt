@@ -1,15 +1,15 @@
 //! Laws of the leaves of control: each function does nothing, and its clause is the law.
 
-ghost use Rattle.std.specs.Prelude.{◌≡◌, ◌<◌, ℕ, List, [], ◌∷◌, Option, map};
+ghost use Rattle.std.specs.Prelude.{◌≡◌, ◌<◌, ℕ, List, [], ◌∷◌, Option, None, Some, map};
 ghost use Rattle.cx_meaning.specs.declared.ports.PortRef.{PortRef};
-ghost use Rattle.cx_meaning.specs.Designs.{PlainComponent, PlainForm};
+ghost use Rattle.cx_meaning.specs.Designs.{Enable, PlainComponent, PlainForm};
 ghost use Rattle.cx_meaning.specs.Instances.{Instance, State, cell_count, cells_of, idle, part_of, under};
 ghost use Rattle.cx_meaning.specs.Active.{Active, Entry, comb};
 ghost use Rattle.cx_meaning.specs.Sights.{Held};
 ghost use Rattle.cx_meaning.specs.Cycles.{Fault, Goes, cycle};
 ghost use Rattle.cx_meaning.specs.Answers.{turns_of};
 ghost use Rattle.cx_meaning.specs.Islands.{form_flat, form_length, group_length, island};
-ghost use Rattle.cx_meaning.specs.Calls.{call, group_turn, inputs_of_call, test};
+ghost use Rattle.cx_meaning.specs.Calls.{call, called, enable, group_turn, inputs_of_call, test};
 ghost use Rattle.cx_meaning.specs.Running.{Children};
 ghost use Rattle.cx_frames.proofs.IslandFrames.{AllFine};
 ghost use Rattle.cx_rewrites.specs.Moving.{moved_form, moved_occurrence};
@@ -82,4 +82,15 @@ pub fn cycles_carry<W: Rewriting>()
     ensures left { (i j : Instance) (held twin_held : Held) (act more : Active) (s z after : State) (c e : ℕ)
         → CellAlike i j held twin_held act more s z c e → cycle i held act s ≡ Goes after
         → left_by j twin_held more z (e ∷ []) ≡ after (c ∷ []) }
+{}
+
+/// The enable of a group is its turns, a call, or an island: by its length, if it is a static one, and by the cell that it calls.
+pub fn enables_are_leaves()
+    ensures turns { (i : Instance) (kids : Children) (held : Held) (g : ℕ) (s : State) (n : ℕ)
+        → group_length (part_of i) g ≡ None → called i g ≡ None
+        → enable i kids held g s n ≡ turns_of (idle i) (group_turn i held g) s n }
+    ensures call { (i : Instance) (kids : Children) (held : Held) (g c : ℕ) (s : State) (n : ℕ)
+        → group_length (part_of i) g ≡ None → called i g ≡ Some c → enable i kids held g s n ≡ call i kids held g c s n }
+    ensures island { (i : Instance) (kids : Children) (held : Held) (g k : ℕ) (s : State) (n : ℕ)
+        → group_length (part_of i) g ≡ Some k → enable i kids held g s n ≡ island i held (Enable g) s n }
 {}

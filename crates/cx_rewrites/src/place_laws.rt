@@ -7,6 +7,7 @@ ghost use Rattle.cx_meaning.specs.Designs.{PlainDesign};
 ghost use Rattle.cx_meaning.specs.Instances.{State, tree_of, words_of};
 ghost use Rattle.cx_meaning.specs.Running.{run_main};
 ghost use Rattle.cx_rules.specs.Accepted.{Breaks, IsAccepted};
+ghost use Rattle.cx_rules.specs.Externals.{external_rows};
 ghost use Rattle.cx_rules.specs.Spots.{Spot};
 ghost use Rattle.cx_rewrites.specs.Places.{SameDesign};
 
@@ -19,4 +20,5 @@ pub fn places_do_not_matter()
     ensures breaks { (d e : PlainDesign) (rule : Rule) (spot : Spot) (place : Place) (name : List ℕ)
         → SameDesign d e → Breaks d rule spot place name → (at : Place) × (called : List ℕ) × Breaks e rule spot at called }
     ensures words { (d e : PlainDesign) (s : State) → SameDesign d e → words_of (tree_of d) s ≡ words_of (tree_of e) s }
+    ensures rows { (d e : PlainDesign) → SameDesign d e → external_rows d ≡ external_rows e }
 {}
