@@ -54,6 +54,8 @@ def of_more(seen, turn):
     notes += waits or loops
     inner = [(look, one) for _, look, found, _ in seen.looks() for one in found]
     span = notes[-1][0] if waits or loops else span_of(inner[-1][1].token) if inner else None
+    if seen.again and waits:
+        notes.append(('to mend it', 'let the group write in each case (a guard on what it writes, not on its write_en), or put the write into an arm of an if'))
     return Message(span, text, notes)
 
 
