@@ -150,7 +150,7 @@ dbl = record (component (reg 32 ∷ adder ∷ [])
     { inputs = record { name = []; width = 32 } ∷ []; outputs = record { name = []; width = 32 } ∷ [] }
 
 abbrev calling : List PlainGroup → PlainStatement → PlainDesign
-calling groups control = record { components = component (mem ∷ child_cell 1 ∷ reg 32 ∷ []) groups [] control ∷ dbl ∷ []; main = 0 }
+calling groups control = record { components = dbl ∷ component (mem ∷ child_cell 0 ∷ reg 32 ∷ []) groups [] control ∷ []; main = 1 }
 
 -- the group of invoke c(x = v)(): the ports of c are go, x, y, done
 abbrev call_with : ℕ → ℕ → PlainGroup

@@ -3,7 +3,7 @@ use Rattle.std.specs.Prelude.{◌≡◌, ℕ, true, false, [], ◌∷◌, Option
 use Rattle.cx_bits.specs.BitVector.{BitVector}
 use Rattle.cx_prim.specs.declared.names.PrimitiveName.TheVariants.{Const, Add, Slice, Pad, Reg, StdMemD2, CombMemD1}
 use Rattle.cx_prim.specs.CellStates.{Register, Memory, SequentialMemory, Multiplier, Divider, Timer as TimerState}
-use Rattle.cx_prim.specs.Rows.{Inputs, edge}
+use Rattle.cx_prim.specs.Rows.{Inputs, edge, reset}
 use Rattle.cx_prim.specs.CombinationalRows.{binary_row, signed_at_most_bit_of}
 use Rattle.cx_prim.specs.RegisterRow.{register_row}
 use Rattle.cx_prim.specs.MemoryRows.{memory_row, sequential_memory_row}
@@ -38,6 +38,10 @@ pub known_no_word : (memory_row 8 (2 ∷ 3 ∷ []) (1 ∷ 2 ∷ [])).output (Mem
     (bits 1 1 ∷ bits 2 3 ∷ None ∷ None ∷ None ∷ None ∷ []) 4 ≡ None
 known_no_word = refl
 
+-- without `write_en` the words stay, and done falls
+pub known_memory_idle : edge (memory_row 8 (2 ∷ []) (1 ∷ [])) (Memory (4 ∷ 6 ∷ []) true) (bits 1 0 ∷ bits 8 9 ∷ bits 1 0 ∷ None ∷ None ∷ []) ≡ Ok (Memory (4 ∷ 6 ∷ []) false)
+known_memory_idle = refl
+
 -- a sequential memory: a read takes the word, a write keeps the read data, `write_en` alone does nothing
 pub known_seq_read : edge (sequential_memory_row 8 (2 ∷ []) (1 ∷ [])) (SequentialMemory (4 ∷ 6 ∷ []) 0 false)
     (bits 1 1 ∷ bits 1 1 ∷ bits 1 0 ∷ None ∷ None ∷ None ∷ []) ≡ Ok (SequentialMemory (4 ∷ 6 ∷ []) 6 true)
@@ -50,6 +54,10 @@ known_seq_write = refl
 pub known_seq_idle : edge (sequential_memory_row 8 (2 ∷ []) (1 ∷ [])) (SequentialMemory (4 ∷ 6 ∷ []) 6 true)
     (bits 1 0 ∷ bits 1 0 ∷ bits 1 1 ∷ bits 8 9 ∷ None ∷ None ∷ []) ≡ Ok (SequentialMemory (4 ∷ 6 ∷ []) 6 false)
 known_seq_idle = refl
+
+-- a reset clears the read data and done, and keeps the words
+pub known_reset : reset (sequential_memory_row 8 (2 ∷ []) (1 ∷ [])) (SequentialMemory (4 ∷ 6 ∷ []) 6 true) ≡ SequentialMemory (4 ∷ 6 ∷ []) 0 false
+known_reset = refl
 
 abbrev go_3_4 : Inputs
 go_3_4 = bits 1 1 ∷ bits 8 3 ∷ bits 8 4 ∷ None ∷ None ∷ []
@@ -103,6 +111,10 @@ known_address = refl
 
 pub known_slice : row_at Slice (8 ∷ 9 ∷ []) ≡ None
 known_slice = refl
+
+-- all bits may be taken
+pub known_whole_slice : IsSome (row_at Slice (8 ∷ 8 ∷ []))
+known_whole_slice = refl
 
 pub known_pad : row_at Pad (9 ∷ 8 ∷ []) ≡ None
 known_pad = refl

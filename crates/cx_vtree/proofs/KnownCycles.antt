@@ -3,11 +3,12 @@ use Rattle.std.proofs.Common.{◌≡◌, ℕ, zero, suc, Bool, true, false, List
 use Rattle.std.specs.Prelude.{IsSome, slice_get, codes}
 use Rattle.std.specs.Cmp.Lexicographic.{same_text}
 use Rattle.cx_bits.specs.BitVector.{BitVector}
-use Rattle.cx_vtree.specs.Plain.{Named, Number, RegisterOf, ArrayOf, PlainModule, SetTo, StoreTo, PlainSource}
+use Rattle.cx_vtree.specs.Plain.{PlainExpr, Named, Number, Chosen, PlainPort, RegisterOf, ArrayOf, PlainModule, SetTo, StoreTo, PlainSource}
 use Rattle.cx_vtree.specs.InstanceTree.{Placed, same_name, nets_at, Tied, origin_of, instances_of}
-use Rattle.cx_vtree.specs.Meaning.{State, Moment, resetting, running, Look, HasValue, by_step, IsRight}
+use Rattle.cx_vtree.specs.Meaning.{State, Moment, resetting, running, outside_value, Look, expr_at, HasValue, by_step, IsRight}
 use Rattle.cx_vtree.specs.Edges.{state_after}
-use Rattle.cx_vtree.specs.SimRun.{DoneAt, IsWhole, start_state, ends, SimRun, after_reset}
+use Rattle.cx_vtree.specs.SimRun.{DoneAt, IsWhole, words_of, start_state, ends, SimRun, after_reset}
+use Rattle.cx_vtree.specs.Sound.{NameAt, WidthAt, break_of, is_sound}
 
 abbrev bits : ℕ → ℕ → BitVector
 bits width value = record { width = width; value = value }
@@ -57,6 +58,14 @@ known_store = (refl, refl)
 -- with reset its branch acts alone
 pub known_reset : (cleared.register 0 (codes "a") ≡ 7) × (cleared.register 0 (codes "b") ≡ 4) × (cleared.word 0 (codes "words") 1 ≡ 9)
 known_reset = (refl, refl, refl)
+
+-- the test is 0, so the second side is chosen
+pub known_choice : expr_at (instances_of swapping) (running before) known 0 (Chosen (Number (bits 1 0)) (Named (codes "a")) (Named (codes "b"))) ≡ Some (bits 8 4)
+known_choice = refl
+
+-- go is 0 while reset is 1
+pub known_inputs : (outside_value (resetting before) (codes "go") ≡ bits 1 0) × (outside_value (running before) (codes "go") ≡ bits 1 1)
+known_inputs = (refl, refl)
 
 -- main holds an outer instance, and that an inner one whose input x is its net y
 abbrev bare : List ℕ → PlainModule
@@ -149,3 +158,44 @@ after = running (state_after raised in_reset (known_both in_reset))
 -- r is 0 in the cycle of the edge with reset, and 1 in the first cycle behind it, which is cycle 0
 pub known_run : SimRun raising [] 0 (DoneAt 0 [])
 known_run = after_reset (known_both in_reset) (both_whole in_reset) (ends (known_both after) (both_whole after) refl)
+
+-- the array of the instance m of main is an external memory of two words
+abbrev storing : PlainSource
+storing = record {
+  externals = record { name = codes "mem"; instance = codes "m"; width = 8; sizes = 2 ∷ [] } ∷ [];
+  modules = record (bare (codes "two_words")) { decls = ArrayOf (codes "words") 8 2 ∷ [] }
+      ∷ record (bare (codes "main")) { instances = record { kind = codes "two_words"; name = codes "m"; conns = [] } ∷ [] } ∷ [];
+}
+
+-- a run starts with the words that are loaded
+pub known_loaded : words_of storing (start_state storing ((5 ∷ 6 ∷ []) ∷ [])) ≡ (5 ∷ 6 ∷ []) ∷ []
+known_loaded = refl
+
+-- main with the ports that it has to have, and one assign to done. Its lines are that of the module, four of ports, the end of these,
+-- and the assign, which is the seventh
+abbrev port : Bool → List ℕ → PlainPort
+port output name = record { output = output; name = name; width = 1 }
+
+abbrev assigning : PlainExpr → PlainSource
+assigning value = record {
+  externals = [];
+  modules = record {
+    name = codes "main";
+    ports = port false (codes "clk") ∷ port false (codes "reset") ∷ port false (codes "go") ∷ port true (codes "done") ∷ [];
+    decls = [];
+    assigns = record { name = codes "done"; value = value } ∷ [];
+    instances = [];
+    edge = None;
+  } ∷ [];
+}
+
+pub known_sound : is_sound (assigning (Named (codes "go"))) ≡ true
+known_sound = refl
+
+-- two bits for one
+pub known_width : break_of (assigning (Number (bits 2 1))) ≡ Some (WidthAt 7)
+known_width = refl
+
+-- a name that stands for nothing has no width either: the name is told
+pub known_name : break_of (assigning (Named (codes "absent"))) ≡ Some (NameAt 7)
+known_name = refl
