@@ -1,5 +1,4 @@
-//! The tokens of a design's text.
-//! The tree of a design's text.
+//! The tokens and the tree of a design's text.
 #![tactic(auto)]
 
 mod components;

@@ -1,2 +1,4 @@
 pub mod Powers
 mod KnownOperators
+pub mod OperatorLaws
+pub mod BitVectorLemmas

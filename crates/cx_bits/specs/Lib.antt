@@ -1,3 +1,2 @@
 pub mod BitVector
 pub mod Operators
-pub mod OperatorLaws

@@ -12,27 +12,20 @@ use Rattle.cx_vtree.specs.Sound.{module_named, last_named, instance_kind, memory
 use Rattle.cx_bytes.proofs.TextBytes.{DeclNarrow, AreShort, sizes_bytes, Each}
 use Rattle.cx_bytes.proofs.ModuleBytes.{IsNarrow, ExternalNarrow, external_bytes}
 use Rattle.cx_bytes.proofs.NarrowLemmas.{step_of}
-use Rattle.cx_bytes.proofs.SoundNarrow.{IsFine, all_fine, first_fine, no_break, sound_narrow}
+use Rattle.cx_bytes.proofs.SoundNarrow.{IsFine, all_fine, first_fine, sound_narrow}
+use Rattle.cx_text.proofs.NumberLaws.{times_none}
+use Rattle.cx_vtree.proofs.SoundLemmas.{no_break}
 
 all_each : {A : Type 0} (p : A → Bool) (xs : List A) → list_all p xs ≡ true → Each (λ x. p x ≡ true) xs
 all_each p [] e = tt
 all_each p (x ∷ xs) e = let parts = and_parts (p x) (list_all p xs) e in (parts.0, all_each p xs parts.1)
 
--- SIZES whose product is a number of 64 bits and not 0 are such numbers
-times_one : (n : ℕ) → n * 1 ≡ n
-times_one zero = omega (arith, zero-mul 1)
-times_one (suc n) = let h : n * 1 ≡ n = times_one n in omega (arith, h, suc-mul n 1)
-
 factor_few : (n m : ℕ) → 1 ≤ m → n ≤ n * m
 factor_few zero m some = omega arith
 factor_few (suc n) m some = let h : n ≤ n * m = factor_few n m some in omega (arith, h, some, suc-mul n m)
 
-none_none : (n : ℕ) → n * 0 ≡ 0
-none_none zero = omega (arith, zero-mul 0)
-none_none (suc n) = let h : n * 0 ≡ 0 = none_none n in omega (arith, h, suc-mul n 0)
-
 some_factor : (n m : ℕ) → 0 < n * m → 1 ≤ m
-some_factor n zero some = absurd (omega (arith, some, none_none n))
+some_factor n zero some = absurd (omega (arith, some, times_none n))
 some_factor n (suc m) some = omega arith
 
 short_sizes : (ns : List ℕ) → 0 < word_count ns → word_count ns < 2 ^ 64 → AreShort ns

@@ -25,13 +25,7 @@ use Rattle.cx_bytes.proofs.SignedBytes.{net}
 use Rattle.cx_bytes.proofs.LoweredCells.{lowered_cells}
 use Rattle.cx_bytes.proofs.SoundNarrow.{sound_narrow}
 use Rattle.cx_bytes.proofs.WholeBytes.{share, all_written}
-
-sizes_many : (parts : List PlainComponent) → length parts ≤ sizes_of parts
-sizes_many [] = omega arith
-sizes_many (x ∷ parts) =
-    let h : length parts ≤ sizes_of parts = sizes_many parts in
-    let all : size_of x + 1 + sizes_of parts ≡ sizes_of (x ∷ parts) = refl in
-    omega (arith, h, all)
+use Rattle.cx_rules.proofs.SizesLemmas.{sizes_many}
 
 -- a sum of two sums
 share_sum : (f g : ℕ → ℕ) (ks : List ℕ) → sum_over (λ k. 4096 * f k + 134 * g k) ks ≡ 4096 * sum_over f ks + 134 * sum_over g ks

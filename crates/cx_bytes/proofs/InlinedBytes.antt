@@ -1,6 +1,5 @@
 -- A net without holes costs what the one with holes costs.
-use Rattle.std.proofs.Common.{◌≡◌, ℕ, ◌+◌, List, [], ◌∷◌, ◌++◌, map, length, replicate, refl, arith, length-append}
-use Rattle.std.proofs.lemmas.List.{length-replicate}
+use Rattle.std.proofs.Common.{◌≡◌, ℕ, List, [], ◌∷◌, map, length, refl, arith}
 use Rattle.cx_net.specs.Nets.{PlainNetExpr, OfPort, OfRegister, OfWire, OfHole, OfGo, Fixed, Inverse, AllOf, AnyOf, Sum, Compares, PlainNetExprs, no_exprs, an_expr, PlainNetDriver, PlainNetComponent}
 use Rattle.cx_holes.specs.Inlining.{inlined_expr, inlined_exprs, inlined_driver, inlined_component}
 use Rattle.cx_bytes.proofs.NetBytes.{expr_cost, exprs_cost}
@@ -53,10 +52,3 @@ module _ (first : ℕ) where
 -- THE COMPONENT
 pub inlined_costs : (c : PlainNetComponent) → bare_costs (inlined_component c).drivers ≡ bare_costs c.drivers
 inlined_costs c = drivers_same (length c.wires) c.drivers
-
-pub inlined_wires : (c : PlainNetComponent) → length (inlined_component c).wires ≡ length c.wires + c.holes
-inlined_wires c =
-    let ones : List ℕ = replicate c.holes 1 in
-    let long : length ones ≡ c.holes = length-replicate c.holes 1 in
-    let all : length (c.wires ++ ones) ≡ length c.wires + length ones = length-append c.wires ones in
-    omega (arith, long, all)

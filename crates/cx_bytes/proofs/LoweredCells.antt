@@ -9,11 +9,11 @@ use Rattle.cx_static.specs.Lowering.{unlowered, lowered_component, lowered_of}
 use Rattle.cx_wiring.specs.Reached.{has_number, order}
 use Rattle.cx_wiring.specs.PartNets.{timer_cells}
 use Rattle.cx_wiring.proofs.ComponentCounts.{PartsHold, timers_few}
-use Rattle.cx_wiring.proofs.FitLemmas.{in_joined}
 use Rattle.cx_wiring.proofs.LoweringCounts.{cells_cost, all_timers, statement_adds}
 use Rattle.cx_wiring.proofs.OrderHeights.{closed, no_timer}
 use Rattle.cx_wiring.proofs.TimerCells.{cells-lowered_component}
 use Rattle.cx_bytes.proofs.SignedBytes.{sized}
+use Rattle.cx_meaning.proofs.SightsLaws.{of_joined}
 
 counted : (cells : List PlainCell) → cells_cost (λ cell. 1) cells ≡ length cells
 counted [] = refl
@@ -26,7 +26,7 @@ module _ (d : PlainDesign) (rules : IsDesign d) where
   -- the components of a component's cells, of which the timers have none
   pub cells_here : (k : ℕ) → has_number k (order (lowered_of d)) ≡ true → (cell : PlainCell) (j : ℕ) → In (lowered_cells k) cell → cell.kind ≡ OfComponent j → has_number j (order (lowered_of d)) ≡ true
   cells_here k here cell j i is =
-      in_joined (component_at d k).cells (timer_cells (component_at d k)) cell (subst (λ cells. In cells cell) (cells-lowered_component (component_at d k)) i)
+      of_joined (component_at d k).cells (timer_cells (component_at d k)) cell (subst (λ cells. In cells cell) (cells-lowered_component (component_at d k)) i)
       (λ own. closed d rules k here cell j own is) (λ timer. absurd (no_timer d rules k j cell timer is))
 
   pub cells_few : design_size d ≤ 16384 → (k : ℕ) → k < length d.components → PartsHold (component_at d k) → length (lowered_cells k) ≤ 10 ^ 5

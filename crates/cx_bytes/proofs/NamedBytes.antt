@@ -1,7 +1,6 @@
 -- The ports that the net of a component names have short names in the text.
-use Rattle.std.proofs.Common.{◌≡◌, ℕ, ◌+◌, ◌^◌, ◌<◌, ◌≤◌, true, List, [], ◌∷◌, ◌++◌, length, map, Option, Some, None, slice_get, refl, sym, ap, ◌∙◌, arith, length-append}
+use Rattle.std.proofs.Common.{◌≡◌, ℕ, ◌+◌, ◌^◌, ◌<◌, ◌≤◌, true, List, length, Option, Some, None, slice_get, refl, sym, ap, ◌∙◌, arith}
 use Rattle.std.specs.Prelude.{option_map, option_and_then}
-use Rattle.std.proofs.lemmas.List.{length-map}
 use Rattle.std.proofs.lemmas.Option.{slice_get-map, slice_get_within}
 use Rattle.cx_prim.specs.declared.ports.PortRow.{PortRow}
 use Rattle.cx_prim.specs.Table.{row_of}
@@ -19,7 +18,6 @@ use Rattle.cx_wiring.specs.Reached.{has_number, place_in, order}
 use Rattle.cx_wiring.specs.Wiring.{net_of, kind_in, cell_in}
 use Rattle.cx_wiring.specs.PartNets.{wired_in}
 use Rattle.cx_wiring.proofs.ComponentCounts.{PartsHold}
-use Rattle.cx_wiring.proofs.OrderHeights.{in_slice}
 use Rattle.cx_wiring.proofs.RowCounts.{primitive_nets}
 use Rattle.cx_wiring.proofs.WayLemmas.{there, placed}
 use Rattle.cx_emit.specs.Names.{input_name, output_name, cell_port_name}
@@ -28,6 +26,8 @@ use Rattle.cx_bytes.proofs.TextBytes.{expr_bytes}
 use Rattle.cx_bytes.proofs.ComponentBytes.{port_short, input_short, output_short}
 use Rattle.cx_bytes.proofs.SignedBytes.{sized}
 use Rattle.cx_bytes.proofs.LoweredCells.{lowered_cells, cells_here, cells_few}
+use Rattle.cx_net.proofs.NetsLemmas.{length-signature}
+use Rattle.cx_meaning.proofs.SightsLaws.{in_at}
 
 some_within : {A : Type 0} (f : A → ℕ) (xs : List A) (n w : ℕ) → option_map f (slice_get xs n) ≡ Some w → n < length xs
 some_within {A} f xs n w e = by (slice_get xs n) refl e
@@ -35,17 +35,6 @@ some_within {A} f xs n w e = by (slice_get xs n) refl e
     by : (o : Option A) → slice_get xs n ≡ o → option_map f o ≡ Some w → n < length xs
     by None is h = absurd (cc)
     by (Some x) is h = slice_get_within xs n x is
-
-widths_long : (part : PlainNetComponent) → length (signature_widths part) ≡ 2 + length part.inputs + length part.outputs
-widths_long part =
-    let ins : List ℕ = map (λ (x : PortDecl). x.width) part.inputs in
-    let outs : List ℕ = map (λ (x : PortDecl). x.width) part.outputs in
-    let one : List ℕ = 1 ∷ [] in
-    let a : length (((1 ∷ ins) ++ outs) ++ one) ≡ length ((1 ∷ ins) ++ outs) + length one = length-append ((1 ∷ ins) ++ outs) one in
-    let b : length ((1 ∷ ins) ++ outs) ≡ length (1 ∷ ins) + length outs = length-append (1 ∷ ins) outs in
-    let c : length ins ≡ length part.inputs = length-map part.inputs (λ (x : PortDecl). x.width) in
-    let e : length outs ≡ length part.outputs = length-map part.outputs (λ (x : PortDecl). x.width) in
-    omega (arith, a, b, c, e)
 
 module _ (d : PlainDesign) (rules : IsDesign d) (small : design_size d ≤ 16384) (parts : (k : ℕ) → k < length d.components → PartsHold (component_at d k)) where
   abbrev places : List ℕ
@@ -60,7 +49,7 @@ module _ (d : PlainDesign) (rules : IsDesign d) (small : design_size d ≤ 16384
   kind_named (OfComponent j) here q w e =
       let less : q < length (signature_widths (net_component_at (net_of (lowered_of d)) (place_in j places))) = slice_get_within (signature_widths (net_component_at (net_of (lowered_of d)) (place_in j places))) q w e in
       let same : length (signature_widths (net_component_at (net_of (lowered_of d)) (place_in j places))) ≡ length (signature_widths (wired_in d (component_at d j))) = ap (λ (x : PlainNetComponent). length (signature_widths x)) (placed d rules j (here j refl)) in
-      let long : length (signature_widths (wired_in d (component_at d j))) ≡ 2 + length (component_at d j).inputs + length (component_at d j).outputs = widths_long (wired_in d (component_at d j)) in
+      let long : length (signature_widths (wired_in d (component_at d j))) ≡ 2 + length (component_at d j).inputs + length (component_at d j).outputs = length-signature (wired_in d (component_at d j)) in
       let size : size_of (component_at d j) < 16384 = sized d rules small j (there d rules j (here j refl)) in
       omega (arith, less, same, long, size)
 
@@ -77,7 +66,7 @@ module _ (d : PlainDesign) (rules : IsDesign d) (small : design_size d ≤ 16384
         let few : length (lowered_cells d rules k) ≤ 10 ^ 5 = cells_few d rules small k within (parts k within) in
         let less : c < length (lowered_cells d rules k) = slice_get_within (lowered_cells d rules k) c cell is in
         let first : c < 10 ^ 5 = omega (arith, few, less) in
-        let second : q < 10 ^ 5 = kind_named cell.kind (λ j kind. cells_here d rules k here cell j (in_slice (lowered_cells d rules k) c cell is) kind) q w e in
+        let second : q < 10 ^ 5 = kind_named cell.kind (λ j kind. cells_here d rules k here cell j (in_at (lowered_cells d rules k) c cell is) kind) q w e in
         port_short c q first second
 
     pub ports_named : (p : PortRef) (w : ℕ) → HasPortWidth (net_of (lowered_of d)) (wired_in d (component_at d k)) p w → expr_bytes (port_expr p) ≤ 37

@@ -6,7 +6,6 @@ use Rattle.cx_meaning.specs.Sights.{In}
 use Rattle.cx_rules.specs.Items.{Dynamic, visit, statements_in}
 use Rattle.cx_rules.specs.Sizes.{assigns_size, groups_size}
 use Rattle.cx_rules.specs.Wellformed.{IsForm, IsDesign}
-use Rattle.cx_rules.proofs.CircleLemmas.{same_part}
 use Rattle.cx_static.specs.Islands.{PlainPoint, PlainOccurrence, PlainIsland, PlainLowered}
 use Rattle.cx_static.specs.Lowering.{unlowered, lowered_component, lowered_of}
 use Rattle.cx_wiring.specs.Counts.{wires_of, registers_of}
@@ -30,6 +29,7 @@ use Rattle.cx_bytes.proofs.ControlBytes.{points_cost, occurrences_cost, island_c
 use Rattle.cx_bytes.proofs.TreeBytes.{bare_costs, all_trees_cost}
 use Rattle.cx_bytes.proofs.AssignBytes.{assigns_cost}
 use Rattle.cx_bytes.proofs.LoweringBytes.{points_weigh, occurrences_weigh, islands_weigh, statement_lowers}
+use Rattle.cx_meaning.proofs.DesignsLemmas.{same_part}
 
 -- ISLANDS weigh what they cost, with their wires, the registers of their samples, and 1,348 for each timer's cell
 points_paid : (ps : List PlainPoint) → points_weigh ps ≡ points_cost ps + 212 * length ps

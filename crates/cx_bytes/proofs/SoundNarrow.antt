@@ -2,13 +2,14 @@
 use Rattle.std.proofs.Common.{◌≡◌, ℕ, ◌+◌, ◌^◌, ◌≤◌, ◌==◌, ◌&&◌, ◌||◌, not, Bool, true, false, List, [], ◌∷◌, ◌++◌, map, length, Option, Some, None, is_none, refl, if◌then◌else◌}
 use Rattle.std.specs.Prelude.{nat_lt}
 use Rattle.std.specs.Option.{option_map_or}
-use Rattle.std.proofs.lemmas.Bool.{or_parts, and_parts, leb-false, ltb-false}
+use Rattle.std.proofs.lemmas.Bool.{or_parts, and_parts, leb-false}
 use Rattle.cx_vtree.specs.Plain.{PlainPort, PlainDecl, WireOf, RegisterOf, ArrayOf, PlainAssign, PlainItem, SetTo, StoreTo, PlainEdge, PlainModule, PlainSource}
 use Rattle.cx_vtree.specs.Layout.{is_laid_out}
 use Rattle.cx_vtree.specs.Sound.{Faults, no_faults, Break, NameAt, WidthAt, LimitAt, Scope, width_of, misnames, bad_width, has_width, fitting_width, meant_in, drivers_in, decl_name, ports_faults, decl_faults, decls_faults, assigns_faults, instances_faults, set_faults, sets_faults, item_faults, item_name, items_faults, edge_faults, Counts, module_counts, module_faults, lines_faults, modules_faults, externals_faults, faults_of, first_break, break_of, is_sound}
 use Rattle.cx_bytes.proofs.TextBytes.{AreNarrow, DeclNarrow, ItemNarrow, Each}
 use Rattle.cx_bytes.proofs.ModuleBytes.{EdgeNarrow, IsNarrow}
 use Rattle.cx_bytes.proofs.NarrowLemmas.{narrow_by, scope_wide}
+use Rattle.cx_vtree.proofs.SoundLemmas.{no_break, small_width}
 
 -- LINES without a break
 pub record IsFine (f : Faults) : Type 0 where
@@ -42,19 +43,15 @@ rest_fine : (xs ys : List Faults) → Each IsFine (xs ++ ys) → Each IsFine ys
 rest_fine [] ys each = each
 rest_fine (x ∷ xs) ys each = rest_fine xs ys each.1
 
--- WIDTHS
-wide_few : (w : ℕ) → bad_width w ≡ false → w ≤ 128
-wide_few w e = ltb-false 128 w (or_parts (w == 0) (nat_lt 128 w) e).1
-
 ports_narrow : (main : Bool) (drivers earlier : List (List ℕ)) (index : ℕ) (ps : List PlainPort) → Each IsFine (ports_faults main drivers earlier index ps) → Each (λ (p : PlainPort). p.width ≤ 128) ps
 ports_narrow main drivers earlier index [] each = tt
 ports_narrow main drivers earlier index (p ∷ ps) each =
-    (wide_few p.width (or_parts (bad_width p.width) ((main || nat_lt index 2) && not (p.width == 1)) each.0.width).0, ports_narrow main drivers (earlier ++ p.name ∷ []) (index + 1) ps each.1)
+    (small_width p.width (or_parts (bad_width p.width) ((main || nat_lt index 2) && not (p.width == 1)) each.0.width).0, ports_narrow main drivers (earlier ++ p.name ∷ []) (index + 1) ps each.1)
 
 decl_narrow : (drivers earlier : List (List ℕ)) (d : PlainDecl) → IsFine (decl_faults drivers earlier d) → DeclNarrow d
-decl_narrow drivers earlier (WireOf n w) fine = wide_few w fine.width
-decl_narrow drivers earlier (RegisterOf n w) fine = wide_few w fine.width
-decl_narrow drivers earlier (ArrayOf n w k) fine = (wide_few w fine.width, leb-false (2 ^ 64) k fine.limit)
+decl_narrow drivers earlier (WireOf n w) fine = small_width w fine.width
+decl_narrow drivers earlier (RegisterOf n w) fine = small_width w fine.width
+decl_narrow drivers earlier (ArrayOf n w k) fine = (small_width w fine.width, leb-false (2 ^ 64) k fine.limit)
 
 decls_narrow : (drivers earlier : List (List ℕ)) (ds : List PlainDecl) → Each IsFine (decls_faults drivers earlier ds) → Each DeclNarrow ds
 decls_narrow drivers earlier [] each = tt
@@ -146,10 +143,6 @@ modules_narrow before counts (m ∷ ms) each =
       module_narrow (length ms == 0) before own m (first_fine (lines_faults (length ms == 0) before own m) (modules_faults (before ++ m ∷ []) (counts ++ own ∷ []) ms) each),
       modules_narrow (before ++ m ∷ []) (counts ++ own ∷ []) ms (rest_fine (lines_faults (length ms == 0) before own m) (modules_faults (before ++ m ∷ []) (counts ++ own ∷ []) ms) each),
     )
-
-pub no_break : (o : Option Break) → is_none o ≡ true → o ≡ None
-no_break None e = refl
-no_break (Some b) e = absurd (cc)
 
 pub sound_narrow : (s : PlainSource) → is_sound s ≡ true → Each IsNarrow s.modules
 sound_narrow s sound =

@@ -17,7 +17,6 @@ use Rattle.cx_wiring.specs.Wiring.{net_component, cell_in}
 use Rattle.cx_wiring.specs.PartNets.{wired_in}
 use Rattle.cx_wiring.proofs.ComponentCounts.{PartsHold, component_few}
 use Rattle.cx_wiring.proofs.FitNets.{component_drives}
-use Rattle.cx_wiring.proofs.MainLaws.{or_right}
 use Rattle.cx_wiring.proofs.WayLemmas.{there, part_there}
 use Rattle.cx_emit.specs.Numbered.{with_numbers, lists_from}
 use Rattle.cx_emit.specs.Names.{module_name}
@@ -32,13 +31,14 @@ use Rattle.cx_bytes.proofs.DrivenBytes.{before_bytes}
 use Rattle.cx_bytes.proofs.ComponentBytes.{wire_short, register_short, ports_count}
 use Rattle.cx_bytes.proofs.AssignedBytes.{component_bytes}
 use Rattle.cx_bytes.proofs.PartBytes.{part_cost}
-use Rattle.cx_bytes.proofs.InlinedBytes.{inlined_wires}
 use Rattle.cx_bytes.proofs.HoledBytes.{drivers_few}
 use Rattle.cx_bytes.proofs.WeightBytes.{cells_weight}
 use Rattle.cx_bytes.proofs.JoinBytes.{outside_sum, lowered_cheap, cells_written}
 use Rattle.cx_bytes.proofs.LoweredCells.{lowered_cells, cells_here, cells_few}
 use Rattle.cx_bytes.proofs.NamedBytes.{ports_named}
 use Rattle.cx_bytes.proofs.SignedBytes.{holed, net, sized, signed, module_short, cells_short}
+use Rattle.std.proofs.lemmas.Bool.{or_right}
+use Rattle.cx_holes.proofs.RenamedRuns.{counted}
 
 module _ (d : PlainDesign) (rules : IsDesign d) (accepted : IsAccepted d) (small : design_size d ≤ 16384) (parts : (k : ℕ) → k < length d.components → PartsHold (component_at d k))
     (shallow : (k : ℕ) → k < length d.components → Shallow 64 (component_at d k).control)
@@ -81,7 +81,7 @@ module _ (d : PlainDesign) (rules : IsDesign d) (accepted : IsAccepted d) (small
         let size : size_of part < 16384 = sized d rules small k within in
         let wired = component_few d rules k within (parts k within) in
         let wires : length C.wires + C.holes ≤ 10 ^ 7 = omega (arith, wired, size) in
-        let all_wires : length D.wires ≡ length C.wires + C.holes = inlined_wires C in
+        let all_wires : length D.wires ≡ length C.wires + C.holes = counted C in
         let inputs : length D.inputs ≤ 10 ^ 5 = omega (arith, size) in
         let outputs : length D.outputs ≤ 10 ^ 5 = omega (arith, size) in
         let few_wires : length D.wires ≤ 10 ^ 7 = omega (arith, wires, all_wires) in

@@ -1,12 +1,12 @@
 -- Which memories take the words of the tests, and have a word at each place of them.
-use Rattle.std.specs.Prelude.{◌≡◌, ℕ, ◌<◌, ◌≤◌, ◌^◌, nat_lt, Bool, true, List, [], ◌∷◌, length, if◌then◌else◌, refl}
+use Rattle.std.specs.Prelude.{◌≡◌, ℕ, ◌≤◌, ◌^◌, nat_lt, Bool, true, List, [], ◌∷◌, length, if◌then◌else◌, refl}
 use Rattle.std.specs.Str.{bytes_eq}
 use Rattle.std.proofs.Common.{ap, sym, ◌∙◌, subst, arith, lit≤}
 use Rattle.std.proofs.lemmas.Bool.{ltb-true}
 use Rattle.std.proofs.lemmas.List.Sums.{AllPass-from_list_all}
 use Rattle.cx_prim.specs.declared.names.PrimitiveName.{PrimitiveName}
 use Rattle.cx_prim.specs.declared.names.PrimitiveName.TheVariants.{Const, Wire, Add, Sub, And, Or, Xor, Not, Lsh, Rsh, Lt, Gt, Equal, Neq, Le, Ge, Slt, Sgt, Seq, Sneq, Sle, Sge, Slice, Pad, Mux, Reg, StdMemD1, StdMemD2, StdMemD3, StdMemD4, CombMemD1, CombMemD2, CombMemD3, CombMemD4, SeqMemD1, SeqMemD2, SeqMemD3, SeqMemD4, MultPipe, DivPipe, Timer}
-use Rattle.cx_prim.specs.CellStates.{StateShape, NoState, RegisterOf, MemoryOf, SequentialMemoryOf, MultiplierOf, DividerOf, TimerOf, AreWords, TakesWords, HasWord}
+use Rattle.cx_prim.specs.CellStates.{AreWords, TakesWords}
 use Rattle.cx_prim.specs.PrimitiveNames.{name_text, IsNamed}
 use Rattle.cx_prim.specs.Table.{PrimitiveRow, row_of}
 use Rattle.cx_prim.proofs.NameLemmas.{all_names}
@@ -83,13 +83,3 @@ TakesTwelve-at text numbers takes p named same =
     let at_name : TakesWords (row_of (record { name = p.name; numbers = numbers })).shape twelve =
     subst (λ (name : PrimitiveName). TakesWords (row_of (record { name = name; numbers = numbers })).shape twelve) (sym (is_name_of text p.name named)) takes in
     subst (λ (ns : List ℕ). TakesWords (row_of (record { name = p.name; numbers = ns })).shape twelve) (sym same) at_name
-
--- a memory that takes words has a word at each place of them
-pub HasWord-taken : (shape : StateShape) (words : List ℕ) (n : ℕ) → TakesWords shape words → n < length words → HasWord shape n
-HasWord-taken NoState words n takes below = absurd takes
-HasWord-taken (RegisterOf width) words n takes below = absurd takes
-HasWord-taken (MemoryOf width count) words n takes below = (subst (λ (k : ℕ). n < k) takes.0.length below, takes.1)
-HasWord-taken (SequentialMemoryOf width count) words n takes below = (subst (λ (k : ℕ). n < k) takes.0.length below, takes.1)
-HasWord-taken (MultiplierOf width latency) words n takes below = absurd takes
-HasWord-taken (DividerOf width latency) words n takes below = absurd takes
-HasWord-taken (TimerOf length) words n takes below = absurd takes

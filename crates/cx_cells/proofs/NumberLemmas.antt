@@ -10,7 +10,8 @@ use Rattle.cx_bits.specs.BitVector.{BitVector, Fits}
 use Rattle.cx_text.specs.Loading.{word_count}
 use Rattle.cx_prim.specs.MemoryRows.{are_sizes}
 use Rattle.cx_prim.specs.Widths.{IsWidth}
-use Rattle.cx_stateful.proofs.LocateLemmas.{split_at, word_count_positive}
+use Rattle.cx_stateful.proofs.LocateLemmas.{split_at}
+use Rattle.cx_text.proofs.LoadingLemmas.{word_count_positive}
 
 abbrev pub are_positive : List ℕ → Bool
 are_positive sizes = list_all (λ size. nat_le 1 size) sizes

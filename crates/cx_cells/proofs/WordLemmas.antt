@@ -1,15 +1,5 @@
 -- Words that are written one by one.
-use Rattle.std.proofs.Common.{◌≡◌, ℕ, zero, suc, ◌+◌, ◌<◌, ◌≤◌, List, [], ◌∷◌, length, take, set, get_or, refl, sym, ap, ◌∙◌, subst, arith}
-use Rattle.cx_prim.specs.CellStates.{StateShape, NoState, RegisterOf, MemoryOf, SequentialMemoryOf, MultiplierOf, DividerOf, TimerOf, TakesWords, HasWord}
-
-pub has_word : (shape : StateShape) (words : List ℕ) (n : ℕ) → TakesWords shape words → n < length words → HasWord shape n
-has_word NoState words n takes lt = absurd takes
-has_word (RegisterOf width) words n takes lt = absurd takes
-has_word (MemoryOf width count) words n takes lt = (subst (λ k. n < k) takes.0.length lt, takes.1)
-has_word (SequentialMemoryOf width count) words n takes lt = (subst (λ k. n < k) takes.0.length lt, takes.1)
-has_word (MultiplierOf width latency) words n takes lt = absurd takes
-has_word (DividerOf width latency) words n takes lt = absurd takes
-has_word (TimerOf length) words n takes lt = absurd takes
+use Rattle.std.proofs.Common.{◌≡◌, ℕ, zero, suc, ◌+◌, ◌<◌, ◌≤◌, List, [], ◌∷◌, length, take, set, get_or, refl, sym, ap, ◌∙◌, arith}
 
 next_word : (xs ys : List ℕ) (n v : ℕ) → n < length xs → length xs ≡ length ys → take n xs ≡ take n ys → v ≡ get_or ys n 0 → take (suc n) (set xs n v) ≡ take (suc n) ys
 next_word [] ys n v lt same e f = absurd (omega arith)

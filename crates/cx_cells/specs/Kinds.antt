@@ -6,11 +6,11 @@ use Rattle.cx_prim.specs.CombinationalRows.{constant_row, unary_row, binary_row,
 use Rattle.cx_prim.specs.Operators.{apply_unary, binary_out_width, apply_binary}
 use Rattle.cx_prim.specs.OperatorWidths.{constant_lawful, unary_lawful, binary_lawful, mux_lawful}
 use Rattle.cx_prim.specs.RegisterRow.{register_row}
-use Rattle.cx_prim.specs.RegisterLaws.{register_lawful}
+use Rattle.cx_prim.proofs.RegisterLaws.{register_lawful}
 use Rattle.cx_prim.specs.MemoryRows.{memory_row, sequential_memory_row}
-use Rattle.cx_prim.specs.MemoryLaws.{memory_lawful, sequential_lawful}
+use Rattle.cx_prim.proofs.MemoryLaws.{memory_lawful, sequential_lawful}
 use Rattle.cx_prim.specs.PipeRows.{multiplier_row, divider_row, timer_row}
-use Rattle.cx_prim.specs.PipeLaws.{multiplier_lawful, divider_lawful, timer_lawful}
+use Rattle.cx_prim.proofs.PipeLaws.{multiplier_lawful, divider_lawful, timer_lawful}
 use Rattle.cx_cells.specs.declared.kinds.Kind.{Kind}
 use Rattle.cx_cells.specs.declared.kinds.Kind.TheVariants as kinds
 use Rattle.cx_cells.specs.declared.kinds.KindState.{KindState}

@@ -1,5 +1,4 @@
-//! Any primitive, by its name and numbers.
-//! The words of memories.
+//! Any primitive, by its name and numbers, and the words of memories.
 #![tactic(auto)]
 
 mod kinds;

@@ -171,7 +171,7 @@ impl Primitive {
 
 impl Cycle for Primitive {
     ghost use Rattle.cx_prim.specs.Table.{row_of};
-    ghost use Rattle.cx_prim.specs.TableLaws.{row_of_lawful};
+    ghost use Rattle.cx_prim.proofs.TableLaws.{row_of_lawful};
 
     type State = PrimState;
 

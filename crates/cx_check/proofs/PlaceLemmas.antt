@@ -1,14 +1,10 @@
 -- The first of places in a row.
-use Rattle.std.proofs.Common.{◌≡◌, ◌+◌, ◌<◌, ℕ, List, [], ◌∷◌, ◌++◌, length, map, drop, get_or, Option, Some, None, option_map, refl, sym, ap, ◌∙◌, append_assoc}
+use Rattle.std.proofs.Common.{◌≡◌, ◌+◌, ◌<◌, ℕ, List, [], ◌∷◌, ◌++◌, length, map, drop, get_or, Option, Some, refl, sym, ap, ◌∙◌, append_assoc}
 use Rattle.std.proofs.lemmas.List.{drop_more}
 use Rattle.std.proofs.lemmas.Grind.{flat_map-append}
 use Rattle.cx_text.specs.declared.places.Place.{Place}
-use Rattle.cx_ast.specs.declared.operands.OperandItem.{OperandItem}
-use Rattle.cx_ast.specs.declared.statements.Block.{Block}
-use Rattle.cx_ast.specs.declared.statements.StatementForm.TheFolds.{fold-roll-StatementForm}
-use Rattle.cx_ast.specs.declared.statements.StatementForm.TheVariants.{If, StaticIf, rolls-If, rolls-StaticIf}
-use Rattle.cx_ast.specs.PlainStatements.{PlainForm, PlainBlock, PlainStatement, Placed, form_step, block_step, statement_step, plain_form, plain_block, else_of, statements_of}
-use Rattle.cx_numbering.specs.NameRules.{Visited, visit_parts, visit_block, visit_else, visit_all}
+use Rattle.cx_ast.specs.PlainStatements.{PlainStatement, Placed, statements_of}
+use Rattle.cx_numbering.specs.NameRules.{Visited, visit_parts, visit_all}
 use Rattle.cx_check.specs.Unbuilt.{static_word, static_words, words_of, earlier, first_place}
 
 pub first_past : (best : Option Place) (xs ys : List Place) → first_place best (xs ++ ys) ≡ first_place (first_place best xs) ys
@@ -41,18 +37,3 @@ words_of_all (Placed attributes form place) rest =
 pub both_past : (best one two : Option Place) (xs ys : List Visited) → one ≡ first_place best (static_words xs) → two ≡ first_place one (static_words ys)
     → two ≡ first_place best (static_words (xs ++ ys))
 both_past best one two xs ys e f = f ∙ ap (λ b. first_place b (static_words ys)) e ∙ sym (words_past best xs ys)
-
--- the statements in an `if`
-pub if_parts : (test : OperandItem) (comb : Option (List ℕ)) (first : Block) (other : Option Block)
-    → visit_parts (plain_form (If test comb first other)) ≡ visit_block (plain_block first) ++ visit_else (else_of (option_map plain_block other))
-if_parts test comb first None =
-    ap (λ f. visit_parts (plain_form f)) (sym (rolls-If test comb first None)) ∙ ap visit_parts (fold-roll-StatementForm PlainForm PlainBlock PlainStatement form_step block_step statement_step _)
-if_parts test comb first (Some other) =
-    ap (λ f. visit_parts (plain_form f)) (sym (rolls-If test comb first (Some other))) ∙ ap visit_parts (fold-roll-StatementForm PlainForm PlainBlock PlainStatement form_step block_step statement_step _)
-
-pub static_if_parts : (length : Option ℕ) (test : OperandItem) (first : Block) (other : Option Block)
-    → visit_parts (plain_form (StaticIf length test first other)) ≡ visit_block (plain_block first) ++ visit_else (else_of (option_map plain_block other))
-static_if_parts length test first None =
-    ap (λ f. visit_parts (plain_form f)) (sym (rolls-StaticIf length test first None)) ∙ ap visit_parts (fold-roll-StatementForm PlainForm PlainBlock PlainStatement form_step block_step statement_step _)
-static_if_parts length test first (Some other) =
-    ap (λ f. visit_parts (plain_form f)) (sym (rolls-StaticIf length test first (Some other))) ∙ ap visit_parts (fold-roll-StatementForm PlainForm PlainBlock PlainStatement form_step block_step statement_step _)

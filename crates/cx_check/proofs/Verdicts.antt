@@ -19,6 +19,7 @@ use Rattle.cx_design.specs.declared.refusals.Refusal.TheVariants as refusals
 use Rattle.cx_check.specs.Verdicts.{IsRefusal, IsSame, TellsAs}
 use Rattle.cx_names.specs.Refused.{IfRule}
 use Rattle.cx_check.specs.Acceptance.{IsAcceptedTree, left_out, TreeBreak, IsTreeRefusal, IsLeftOut}
+use Rattle.cx_text.proofs.OptionLaws.{one_value}
 
 -- THE FIRST BREAK of a design is one
 one_first : (d : PlainDesign) (a b : Diagnostic) → FirstBreak d a → FirstBreak d b → IsSame d a b
@@ -79,9 +80,6 @@ accepted_once tree told h (inr (inr b)) = none_first (design_of tree) told h.acc
 abbrev some_or : {A : Type 0} → A → Option A → A
 some_or y None = y
 some_or y (Some x) = x
-
-one_value : {A : Type 0} (o : Option A) (x y : A) → o ≡ Some x → o ≡ Some y → x ≡ y
-one_value o x y e f = ap (some_or x) (sym e ∙ f)
 
 as_one : (d : PlainDesign) (a b : Diagnostic) → a ≡ b → IsSame d a b
 as_one d a b e = record { rule = ap (λ t. t.rule) e; place = ap (λ t. t.place) e; name = λ placed. ap (λ t. t.name) e }

@@ -1,6 +1,5 @@
 -- The list of breaks has the breaks of the rules on combinational cycles, and no others.
 use Rattle.std.proofs.Common.{◌≡◌, ◌+◌, ◌<◌, ℕ, zero, suc, Bool, true, false, List, [], ◌∷◌, ◌++◌, Option, Some, None, length, drop, slice_get, add-one, ◌⊎◌, inl, inr, ⊎_elim, refl, sym, ap, ◌∙◌, subst, arith}
-use Rattle.std.proofs.lemmas.Bool.{cases_lt}
 use Rattle.std.proofs.lemmas.Option.{slice_get_within}
 use Rattle.cx_text.specs.declared.places.Place.{Place}
 use Rattle.cx_text.specs.declared.rules.Rule.{Rule}
@@ -14,12 +13,13 @@ use Rattle.cx_rules.specs.Accepted.{Breaks, stage_of, key_of, comes_before}
 use Rattle.cx_design_parts.specs.Breaks.{Broken, key, earlier, first_of}
 use Rattle.cx_design_parts.specs.Numbered.{numbered}
 use Rattle.cx_design_parts.specs.Answers.{AreBreaks, AreBreaksBy, StageBreaks}
-use Rattle.cx_design_parts.proofs.Order.{not_before_itself}
 use Rattle.cx_design_parts.proofs.Lists.{first_append, in_left, in_right, in_either, in_numbered, numbered_in}
 use Rattle.cx_design_parts.proofs.Families.{Either, breaks_of_either, breaks_of_same, breaks_of_stage}
-use Rattle.cx_design_leads.proofs.NodeLemmas.{component_part}
 use Rattle.cx_comb.specs.Circles.{AreCircles}
 use Rattle.cx_comb.specs.CombBreaks.{told_if, whole_break, group_break, group_breaks, component_breaks, CombBreaks, BreaksBefore, BreaksAt}
+use Rattle.cx_text.proofs.NumberLaws.{before_more}
+use Rattle.cx_rules.proofs.KeyOrder.{before_irreflexive}
+use Rattle.cx_rules.proofs.PortsLemmas.{part_is}
 
 told_in : (found : Bool) (b other : Broken) → In (told_if found b) other → (found ≡ true) × (b ≡ other)
 told_in true b other (inl e) = (refl, e)
@@ -40,7 +40,7 @@ module _ (d : PlainDesign) (k : ℕ) (whole : Bool) (flags : List Bool) (within 
   list = component_breaks d k whole flags
 
   same_groups : length flags ≡ length (component_at d k).groups
-  same_groups = circles.count ∙ ap (λ (part : PlainComponent). length part.groups) (component_part d k)
+  same_groups = circles.count ∙ ap (λ (part : PlainComponent). length part.groups) (part_is d k)
 
   whole_holds : (b : Broken) → In (told_if whole (whole_break d k)) b → BreaksAt d k b.rule b.spot b.place b.name
   whole_holds b i =
@@ -65,7 +65,7 @@ module _ (d : PlainDesign) (k : ℕ) (whole : Bool) (flags : List Bool) (within 
             stands = there;
             breaks = (
               (circles.grouped r.0 r.1 r.2).0 t.0,
-              (ap (λ (part : PlainComponent). (group_at part r.0).place) (sym (component_part d k)), ap (λ (part : PlainComponent). (group_at part r.0).name) (sym (component_part d k))),
+              (ap (λ (part : PlainComponent). (group_at part r.0).place) (sym (part_is d k)), ap (λ (part : PlainComponent). (group_at part r.0).name) (sym (part_is d k))),
             );
           }),
         ),
@@ -86,8 +86,8 @@ module _ (d : PlainDesign) (k : ℕ) (whole : Bool) (flags : List Bool) (within 
       let b : Broken = record { rule = rule.CombCycle; spot = record { component = k; part = part }; place = place; name = name } in
       let g = o.number in
       let f = found_at flags g (subst (λ n. g < n) (sym same_groups) o.stands) in
-      let place_is : place ≡ (group_at (component_at d k) g).place = o.breaks.1.0 ∙ ap (λ (p : PlainComponent). (group_at p g).place) (component_part d k) in
-      let name_is : name ≡ (group_at (component_at d k) g).name = o.breaks.1.1 ∙ ap (λ (p : PlainComponent). (group_at p g).name) (component_part d k) in
+      let place_is : place ≡ (group_at (component_at d k) g).place = o.breaks.1.0 ∙ ap (λ (p : PlainComponent). (group_at p g).place) (part_is d k) in
+      let name_is : name ≡ (group_at (component_at d k) g).name = o.breaks.1.1 ∙ ap (λ (p : PlainComponent). (group_at p g).name) (part_is d k) in
       let same : group_break d k g ≡ b =
       ap (λ q. record { rule = rule.CombCycle; spot = record { component = k; part = q }; place = (group_at (component_at d k) g).place; name = (group_at (component_at d k) g).name }) (sym o.is)
       ∙ ap (λ q. record { rule = rule.CombCycle; spot = record { component = k; part = part }; place = q; name = (group_at (component_at d k) g).name }) (sym place_is)
@@ -105,7 +105,7 @@ module _ (d : PlainDesign) (k : ℕ) (whole : Bool) (flags : List Bool) (within 
         let spot_is : here ≡ spot = ap (λ c. record { component = c; part = spot.part }) (sym h.0) in
         let b : Broken = record { rule = rule.CombCycle; spot = here; place = place; name = name } in
         let i : In list b = all_at spot.part place name (subst (λ s. BreaksCombCycle d s place name ⊎ OnGroup GroupBreaksCombCycle d s place name) (sym spot_is) h.1.1) in
-        (b, i, subst (λ s. comes_before (key_of r s place) (key b) ≡ false) spot_is (subst (λ x. comes_before (key_of x here place) (key b) ≡ false) (sym h.1.0) (not_before_itself (key b))));
+        (b, i, subst (λ s. comes_before (key_of r s place) (key b) ≡ false) spot_is (subst (λ x. comes_before (key_of x here place) (key b) ≡ false) (sym h.1.0) (before_irreflexive (key b))));
   }
 
 -- what is told, where it is found
@@ -142,9 +142,6 @@ FirstSo d k first = (found : List Broken) × AreBreaksBy (BreaksBefore d k) foun
 pub none_so : (d : PlainDesign) → FirstSo d 0 None
 none_so d = ([], record { by_family = λ b i. absurd i; all_family = λ r spot place name h. let none : spot.component < 0 = h.0 in absurd (omega (arith, none)) }, refl)
 
-before_or_at : (k c : ℕ) → c < k + 1 → (c < k) ⊎ (c ≡ k)
-before_or_at k c h = ⊎_elim inl (λ l. inr (omega (arith, h, l))) (cases_lt c k)
-
 pub next_so : (d : PlainDesign) (k : ℕ) (first next : Option Broken) → FirstSo d k first → (found : List Broken) × AreBreaksBy (BreaksAt d k) found × (next ≡ first_of first found) → FirstSo d (k + 1) next
 next_so d k first next (before, is, so) (here, are, step) = (
   before ++ here,
@@ -152,7 +149,7 @@ next_so d k first next (before, is, so) (here, are, step) = (
       (λ r spot place name e. ⊎_elim
       (λ h. let lt : spot.component < k = h.0 in (omega (arith, lt), h.1))
       (λ h. let same : spot.component ≡ k = h.0 in (omega (arith, same), h.1)) e)
-      (λ r spot place name h. ⊎_elim (λ lt. inl (lt, h.1)) (λ same. inr (same, h.1)) (before_or_at k spot.component h.0))
+      (λ r spot place name h. ⊎_elim (λ lt. inl (lt, h.1)) (λ same. inr (same, h.1)) (before_more k spot.component h.0))
       (breaks_of_either (BreaksBefore d k) (BreaksAt d k) before here is are),
   step ∙ ap (λ b. first_of b here) so ∙ sym (first_append None before here),
 )

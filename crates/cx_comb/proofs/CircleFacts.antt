@@ -1,12 +1,9 @@
 -- The circles of groups, one after the other, and what their search asks.
-use Rattle.std.proofs.Common.{◌≡◌, ℕ, zero, suc, ◌<◌, Bool, true, ⊎_elim, Some, List, [], ◌∷◌, ◌++◌, length, map, get_or, replicate, slice_get, refl, sym, ap, ◌∙◌, subst, arith}
+use Rattle.std.proofs.Common.{◌≡◌, ℕ, zero, suc, ◌<◌, Bool, true, ⊎_elim, Some, List, [], ◌∷◌, ◌++◌, length, replicate, slice_get, refl, sym, ◌∙◌, subst}
 use Rattle.std.specs.Prelude.{◌↔◌, IsTrue}
 use Rattle.cx_graphs.specs.Graphs.{In, Edges, IsGraph, edges_of, targets_of}
 use Rattle.cx_graphs.specs.Ways.{LeadsWithin}
 use Rattle.cx_graphs.proofs.Lists.{get_last, some_is}
-use Rattle.cx_design.specs.declared.groups.Group.{Group}
-use Rattle.cx_design.specs.PlainForms.{plain_group}
-use Rattle.cx_meaning.specs.Designs.{no_group}
 use Rattle.cx_meaning.specs.declared.ports.PortRef.{PortRef}
 use Rattle.cx_meaning.specs.Instances.{Instance, part_of}
 use Rattle.cx_meaning.specs.Active.{nothing, group}
@@ -56,9 +53,3 @@ pruned_graph i pruned s n m e = subst (λ k. m < k) (sym (pruned_length i pruned
 
 pub group_within : (i : Instance) (g : ℕ) (more : GroupLeads) → IsGroupOf i g more → LeadsWithin (node_count i) (edges_of more.edges.items)
 group_within i g more h n m e = edges_within i (LeadsInGroup i g) (edges_of more.edges.items) h.edges n m e
-
--- a group that is found
-pub found_group : (groups : List Group) (g : ℕ) (x : Group) → g < length groups → x ≡ get_or groups g x → plain_group x ≡ get_or (map plain_group groups) g no_group
-found_group [] g x h e = absurd (omega (arith, h))
-found_group (y ∷ groups) zero x h e = ap plain_group e
-found_group (y ∷ groups) (suc g) x h e = found_group groups g x (omega (arith, h)) e

@@ -16,12 +16,13 @@ use Rattle.cx_rules.specs.Ports.{component_of}
 use Rattle.cx_rules.specs.Wellformed.{IsDesign}
 use Rattle.cx_design_leads.specs.Nodes.{node_of}
 use Rattle.cx_design_leads.specs.Edges.{Between, HasEdges, LeadsInGroup}
-use Rattle.cx_design_leads.proofs.NodeLemmas.{distinct, some_is}
+use Rattle.cx_design_leads.proofs.NodeLemmas.{distinct}
 use Rattle.cx_design_leads.proofs.DriverLemmas.{leads_by_group, by_group_leads}
 use Rattle.cx_design_leads.proofs.ThereLemmas.{leads_there}
 use Rattle.cx_design_leads.proofs.EdgeLemmas.{driven_from}
 use Rattle.cx_comb.specs.Pruning.{IsPruned}
 use Rattle.cx_comb.proofs.PruneLemmas.{circle_kept, pruned_circle}
+use Rattle.cx_text.proofs.OptionLaws.{some_is}
 
 module _ (i : Instance) (act : Active) (targets : Targets) (sound : (m n : ℕ) → In (targets m) n → Between i (Leads i act) m n) where
   record Chain (m n : ℕ) : Type 0 where

@@ -3,17 +3,13 @@ use Rattle.std.proofs.Common.{◌≡◌, ℕ, zero, suc, ◌<◌, inl, inr, ⊎_
 use Rattle.std.proofs.lemmas.Bool.{cases_lt}
 use Rattle.std.proofs.lemmas.List.{get_or_past}
 use Rattle.cx_graphs.specs.Graphs as graphs
-use Rattle.cx_graphs.specs.Graphs.{Edges, IsGraph, IsReached, at_start, by_edge, Marked, targets_of}
+use Rattle.cx_graphs.specs.Graphs.{Edges, IsReached, at_start, by_edge, Marked, targets_of}
 use Rattle.cx_graphs.specs.Ways.{IsTurned}
-use Rattle.cx_graphs.proofs.WalkLemmas.{targets_within}
 use Rattle.cx_meaning.specs.Designs.{PlainAssign, PlainComponent, PlainDesign, PlainGroup, component_at, group_at, no_group}
 use Rattle.cx_meaning.specs.Sights.{In}
 use Rattle.cx_rules.specs.Ports.{component_of}
-use Rattle.cx_design_leads.proofs.NodeLemmas.{component_part}
 use Rattle.cx_comb.specs.Pruning.{HasTargets, IsKept, IsPruned}
-
-pub turned_graph : (g turned : Edges) → IsTurned g turned → IsGraph turned
-turned_graph g turned t n m i = subst (λ k. m < k) (sym t.0) (targets_within g m n ((t.1 n m).0 i))
+use Rattle.cx_rules.proofs.PortsLemmas.{part_is}
 
 in_list : (groups : List PlainGroup) (g : ℕ) → g < length groups → In groups (get_or groups g no_group)
 in_list [] g h = absurd (omega (arith, h))
@@ -32,7 +28,7 @@ pub are_pruned : (d : PlainDesign) (k : ℕ) (g turned kept : Edges) (marks : Li
 are_pruned d k g turned kept marks targets starts is has same t sound all = record {
   kept = is;
   driven = λ group a m i e.
-      let j : In (group_at (component_at d k) group).assigns a = subst (λ (part : PlainComponent). In (group_at part group).assigns a) (component_part d k) i in
+      let j : In (group_at (component_at d k) group).assigns a = subst (λ (part : PlainComponent). In (group_at part group).assigns a) (part_is d k) i in
       all m (at_start (subst (λ l. graphs.In l m) (sym same) (has.all (group_at (component_at d k) group) a m (group_in (component_at d k) group a j) j e)));
   along = λ m n i marked. all m (by_edge n (sound n marked) ((t.1 n m).1 i));
 }

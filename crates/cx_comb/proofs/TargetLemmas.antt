@@ -4,19 +4,15 @@ use Rattle.std.proofs.lemmas.List.{length-append, length-map}
 use Rattle.std.specs.declared.vec.Vec.{Vec}
 use Rattle.cx_graphs.specs.Graphs as graphs
 use Rattle.cx_graphs.specs.Graphs.{Edges, edges_of, targets_of, Bounded, Marked}
-use Rattle.cx_graphs.proofs.Lists.{same_or, in_before, in_last, the_last}
+use Rattle.cx_graphs.proofs.Lists.{in_before, in_last, the_last}
 use Rattle.cx_meaning.specs.Designs.{PlainAssign, PlainGroup}
 use Rattle.cx_meaning.specs.Instances.{Instance}
 use Rattle.cx_meaning.specs.Sights.{In}
 use Rattle.cx_design_leads.specs.Nodes.{node_count}
 use Rattle.cx_design_leads.specs.Links.{driven_node}
 use Rattle.cx_comb.specs.Pruning.{AddsTargets, HasTargets, AreMarked, IsKept}
-
-none_some : (m : ℕ) → None ≡ Some m → ⊥
-none_some m e = cc
-
-some_is : (m n : ℕ) → Some m ≡ Some n → m ≡ n
-some_is m n e = cc
+use Rattle.cx_text.proofs.OptionLaws.{some_is, none_some_also}
+use Rattle.cx_text.proofs.NumberLaws.{same_or_not}
 
 module _ (i : Instance) where
   pub no_targets : (before : List ℕ) → AddsTargets i [] before before
@@ -26,7 +22,7 @@ module _ (i : Instance) where
   no_target a before none = record {
     kept = λ m j. j;
     within = λ m j. inl j;
-    all = λ b m j e. ⊎_elim (λ same. absurd (none_some m (sym none ∙ ap (λ (x : PlainAssign). driven_node i x.target) same ∙ e))) (λ k. absurd k) j;
+    all = λ b m j e. ⊎_elim (λ same. absurd (none_some_also m (sym none ∙ ap (λ (x : PlainAssign). driven_node i x.target) same ∙ e))) (λ k. absurd k) j;
   }
 
   pub one_target : (a : PlainAssign) (before after : List ℕ) (t : ℕ) → driven_node i a.target ≡ Some t → t < node_count i → after ≡ before ++ t ∷ [] → AddsTargets i (a ∷ []) before after
@@ -99,12 +95,12 @@ more_kept g marks count xs after x e k are = subst (λ l. IsKeptSo g marks (coun
       (λ same. subst (λ j. graphs.In (targets_of g j) n) (long ∙ sym same)
       (are.sound n (subst (λ l. graphs.In l n) (snoc_at xs x) (subst (λ j. graphs.In (targets_of (edges_of (xs ++ x ∷ [])) j) n) same i))))
       (λ d. k.sound m n (subst (λ l. graphs.In l n) (snoc_other xs x m d) i))
-      (same_or m (length xs));
+      (same_or_not m (length xs));
   all = λ m n h i marked. ⊎_elim
       (λ same. subst (λ j. graphs.In (targets_of (edges_of (xs ++ x ∷ [])) j) n) (sym same)
       (subst (λ l. graphs.In l n) (sym (snoc_at xs x)) (are.all n (subst (λ j. graphs.In (targets_of g j) n) (same ∙ sym long) i) marked)))
       (λ d. subst (λ l. graphs.In l n) (sym (snoc_other xs x m d)) (k.all m n (omega (arith, h, d, long)) i marked))
-      (same_or m (length xs));
+      (same_or_not m (length xs));
 })
   where
     long : count ≡ length xs

@@ -17,12 +17,13 @@ use Rattle.cx_net.specs.NetLimits.{StandsIn, IsWritableDriver, IsWritableCompone
 use Rattle.cx_net.specs.NetMeaning.{same_target, drivers_to}
 use Rattle.cx_net.specs.NetTree.{net_component_at, net_tree}
 use Rattle.cx_vtree.specs.InstanceTree.{same_name}
-use Rattle.cx_vlaws.proofs.Fresh.{is_same}
 use Rattle.cx_emit.specs.Emitted.{CanBeEmitted}
 use Rattle.cx_emit.proofs.CellPorts.{in_each}
 use Rattle.cx_emit.proofs.CleanModules.{Each}
 use Rattle.cx_emit.proofs.EmittedParts.{each_all}
 use Rattle.cx_compile_tests.specs.HandNet.{number, driver, register_done, hand_starts, hand_drivers, hand_cell, hand_part, hand_net}
+use Rattle.cx_text.proofs.OptionLaws.{some_is}
+use Rattle.cx_vtree.proofs.InstanceTreeLemmas.{is_same}
 
 -- std_reg names the register alone
 not_so : (name : PrimitiveName) → IsNamed name (codes "std_reg") → same_name (name_text name) (codes "std_reg") ≡ false → {A : Type 0} → A
@@ -86,9 +87,6 @@ a_byte value h = fits_so 8 value (record { some_bits = omega arith; few_bits = o
 a_word : (value : ℕ) → value < 256 → IsOfWidth 32 (record { width = 32; value = value })
 a_word value h = fits_so 32 value (record { some_bits = omega arith; few_bits = omega arith; in_range = omega arith })
 
-some_same : (a b : ℕ) → Some a ≡ Some b → a ≡ b
-some_same a b e = cc
-
 -- DRIVERS fit
 abbrev IsFitHere : PlainNetDriver → Type 0
 IsFitHere d = IsFitDriver hand_net hand_part d
@@ -98,7 +96,7 @@ HasWidthHere e w = HasWidth hand_net hand_part e w
 
 -- a driver whose target has this width
 a_driver : (d : PlainNetDriver) (width : ℕ) → HasWidthHere d.guard 1 → target_width hand_net hand_part d.target ≡ Some width → HasWidthHere d.source width → IsFitHere d
-a_driver d width guard is source = record { guard = guard; source = λ w e. subst (HasWidthHere d.source) (some_same width w (sym is ∙ e)) source }
+a_driver d width guard is source = record { guard = guard; source = λ w e. subst (HasWidthHere d.source) (some_is width w (sym is ∙ e)) source }
 
 starts_fit : HasWidthHere hand_starts 1
 starts_fit = (refl, (refl, (refl, ((refl, (32, refl, a_word 0 (omega arith))), tt))))

@@ -26,6 +26,7 @@ use Rattle.cx_commands.specs.declared.stops.Stop.TheVariants as stops
 use Rattle.cx_commands.specs.Unread.{HasTree, IsNoTree}
 use Rattle.cx_compiler.specs.Texts.{IsAcceptedText, IsDesignOf, TextBreak, IsTreeStop, IsTextRefusal, tree_stop}
 use Rattle.cx_commands.proofs.UnreadLemmas.{read_no_fault, one_stage_one}
+use Rattle.cx_text.proofs.OptionLaws.{one_value}
 
 one_text_tree : (text : List ℕ) (a b : PlainTree) → HasTree text a → HasTree text b → a ≡ b
 one_text_tree text a b h k = one_tree h.0 a b h.2 (subst (λ ts. Parse ts b) (one_tokens text k.0 h.0 k.1 h.1) k.2)
@@ -52,9 +53,6 @@ accepted_once text told h (inr b) = verdicts.accepted_once b.0 told (subst IsAcc
 abbrev some_or : {A : Type 0} → A → Option A → A
 some_or y None = y
 some_or y (Some x) = x
-
-one_value : {A : Type 0} (o : Option A) (x y : A) → o ≡ Some x → o ≡ Some y → x ≡ y
-one_value o x y e f = ap (some_or x) (sym e ∙ f)
 
 not_both : {A : Type 0} (o : Option A) (x : A) → o ≡ Some x → o ≡ None → ⊥
 not_both o x e f = cc

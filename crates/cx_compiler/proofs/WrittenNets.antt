@@ -29,12 +29,11 @@ use Rattle.cx_wiring.specs.PartNets.{timers_of, wired_in, rows_alone, net_of_ins
 use Rattle.cx_wiring.specs.Reached.{order}
 use Rattle.cx_wiring.specs.Wiring.{net_of}
 use Rattle.cx_wiring.proofs.ComponentCounts.{PartsHold, component_few}
-use Rattle.cx_wiring.proofs.FitLemmas.{there_at}
 use Rattle.cx_wiring.proofs.FitNets.{size_among, net_fits}
 use Rattle.cx_wiring.proofs.NetCounts.{OwnNets, whole_weighs, whole_nets, own_few}
 use Rattle.cx_wiring.proofs.NetTrees.{net_tree-net_of}
 use Rattle.cx_wiring.proofs.NumberLemmas.{in_number}
-use Rattle.cx_wiring.proofs.OrderHeights.{in_slice, stands_at}
+use Rattle.cx_wiring.proofs.OrderHeights.{stands_at}
 use Rattle.cx_wiring.proofs.WayLemmas.{there, net_long}
 use Rattle.cx_wiring.proofs.WritableNets.{CanBeWritten, net_writable}
 use Rattle.cx_holes.specs.Inlining.{inlined_component, inlined}
@@ -56,6 +55,8 @@ use Rattle.cx_compiler.proofs.TextGuards.{guards_hold}
 use Rattle.cx_compiler.proofs.TextLayers.{text_rules, tree_rules}
 use Rattle.cx_compiler.proofs.TextLemmas.{text_targets}
 use Rattle.cx_compiler.proofs.TextWords.{cells_named}
+use Rattle.cx_text.proofs.ListLaws.{there_at}
+use Rattle.cx_meaning.proofs.SightsLaws.{in_at as in_slice}
 
 -- FROM THE TEXT: no part of a guard is Always, and external memories have words for names
 pub design_parts : (tree : PlainTree) (d : PlainDesign) → d ≡ design_of tree → (k : ℕ) → k < length d.components → PartsHold (component_at d k)

@@ -1,5 +1,5 @@
 -- The source that is written of a design hides nothing: its modules, instances, registers and names are those that the design asks for.
-use Rattle.std.proofs.Common.{◌≡◌, ◌⊎◌, inl, inr, ⊎_elim, ℕ, zero, suc, ◌+◌, ◌-◌, ◌<◌, ◌≤◌, true, List, [], ◌∷◌, ◌++◌, length, get_or, Option, Some, None, option_map, slice_get, refl, sym, ap, ◌∙◌, subst, if◌then◌else◌, arith, lt-ltb, le-ltb}
+use Rattle.std.proofs.Common.{◌≡◌, ◌⊎◌, inl, inr, ⊎_elim, ℕ, zero, suc, ◌+◌, ◌-◌, ◌<◌, ◌≤◌, true, List, [], ◌∷◌, ◌++◌, length, get_or, Some, slice_get, refl, sym, ap, ◌∙◌, subst, if◌then◌else◌, arith, lt-ltb, le-ltb}
 use Rattle.std.specs.Prelude.{◌||◌}
 use Rattle.std.proofs.lemmas.Bool.{cases_lt}
 use Rattle.std.proofs.lemmas.Bool.Decides.{eqb_tells}
@@ -10,7 +10,6 @@ use Rattle.cx_meaning.specs.Sights.{In}
 use Rattle.cx_rules.specs.Items.{statements_in}
 use Rattle.cx_rules.specs.Wellformed.{IsForm, LeadsTo, by_cell, by_way_of, IsDesign}
 use Rattle.cx_rules.specs.Accepted.{IsAccepted}
-use Rattle.cx_rules.proofs.CircleLemmas.{same_part}
 use Rattle.cx_vtree.specs.Sound.{is_sound}
 use Rattle.cx_net.specs.Nets.{PlainNet}
 use Rattle.cx_net.specs.NetTree.{no_net_component, net_component_at}
@@ -20,11 +19,11 @@ use Rattle.cx_wiring.specs.PartNets.{timer_cells, wired_in}
 use Rattle.cx_wiring.specs.Reached.{has_number, place_in, below, reached_from, count, order}
 use Rattle.cx_wiring.specs.Wiring.{kind_in, cell_in, net_of}
 use Rattle.cx_wiring.proofs.ControlCounts.{Untimed}
-use Rattle.cx_wiring.proofs.FitLemmas.{there_at, slice_left, slice_right}
+use Rattle.cx_wiring.proofs.FitLemmas.{slice_right}
 use Rattle.cx_wiring.proofs.FitNets.{net_fits}
 use Rattle.cx_wiring.proofs.MainLaws.{Tells, get_or_map, order_main}
 use Rattle.cx_wiring.proofs.NumberLemmas.{number_in, in_number}
-use Rattle.cx_wiring.proofs.OrderHeights.{in_flat_map, in_slice, cell_below, from_main, closed, stands_at}
+use Rattle.cx_wiring.proofs.OrderHeights.{in_flat_map, cell_below, from_main, closed, stands_at}
 use Rattle.cx_wiring.proofs.TimerCells.{cells-lowered_component}
 use Rattle.cx_wiring.proofs.WayLemmas.{count_is, there, net_long, child_there}
 use Rattle.cx_holes.specs.Inlining.{inlined_component, inlined}
@@ -36,6 +35,10 @@ use Rattle.cx_emit.proofs.ShapedSources.{kind_for, use_at, IsPartFor, IsNetFor, 
 use Rattle.cx_compiler.specs.Compiled.{written_source}
 use Rattle.cx_wiring.proofs.FitTargets.{targets_there}
 use Rattle.cx_compiler.proofs.LoweredShape.{IsTimer, AreTimers, timers_are, timers_few, component_registers_few}
+use Rattle.cx_text.proofs.OptionLaws.{map_some}
+use Rattle.cx_meaning.proofs.DesignsLemmas.{same_part}
+use Rattle.cx_text.proofs.ListLaws.{there_at, front}
+use Rattle.cx_meaning.proofs.SightsLaws.{in_at}
 
 -- PLACES of numbers in a list
 get_or_at : (ns : List ℕ) (n k : ℕ) → slice_get ns n ≡ Some k → get_or ns n 0 ≡ k
@@ -58,10 +61,6 @@ timer_at : (cells : List PlainCell) (n : ℕ) (cell : PlainCell) → AreTimers c
 timer_at [] n cell are e = absurd (cc)
 timer_at (c ∷ cells) zero cell are e = let same : c ≡ cell = cc in subst IsTimer same are.0
 timer_at (c ∷ cells) (suc n) cell are e = timer_at cells n cell are.1 e
-
-map_of : {A B : Type 0} (f : A → B) (o : Option A) (y : B) → option_map f o ≡ Some y → (x : A) × (o ≡ Some x) × (f x ≡ y)
-map_of f None y e = absurd (cc)
-map_of f (Some x) y e = (x, refl, cc)
 
 module _ (d : PlainDesign) (rules : IsDesign d) where
   abbrev low : PlainLowereds
@@ -112,7 +111,7 @@ module _ (d : PlainDesign) (rules : IsDesign d) where
     for_cell : (c : ℕ) (cell : PlainCell) → slice_get part.cells c ≡ Some cell → IsFor c cell
     for_cell c cell e =
         let first : use_at (length part.cells) c ≡ ForCell c = ap (λ b. if b then ForCell c else ForTimer (c - length part.cells)) (lt-ltb c (length part.cells) (slice_get_within part.cells c cell e)) in
-        subst (IsUse d k (kind_for stands (kind_in places cell.kind))) (sym first) (cell, e, own_kind cell (in_slice part.cells c cell e) cell.kind refl)
+        subst (IsUse d k (kind_for stands (kind_in places cell.kind))) (sym first) (cell, e, own_kind cell (in_at part.cells c cell e) cell.kind refl)
 
     for_timer : (t : ℕ) (cell : PlainCell) → slice_get (timer_cells part) t ≡ Some cell → IsFor (length part.cells + t) cell
     for_timer t cell e =
@@ -131,7 +130,7 @@ module _ (d : PlainDesign) (rules : IsDesign d) where
       whole = ap (λ cells. slice_get cells c) (sym (cells-lowered_component part)) ∙ e
 
       own : c < length part.cells → IsFor c cell
-      own less = let r = there_at part.cells c less in for_cell c cell (r.1 ∙ sym (slice_left part.cells (timer_cells part) c r.0 r.1) ∙ whole)
+      own less = let r = there_at part.cells c less in for_cell c cell (r.1 ∙ sym (front part.cells (timer_cells part) c r.0 r.1) ∙ whole)
 
       timer : length part.cells ≤ c → IsFor c cell
       timer past =
@@ -143,7 +142,7 @@ module _ (d : PlainDesign) (rules : IsDesign d) where
       reached = reached k here;
       registers = component_registers_few part untimed;
       cells = λ c cell e.
-          let (own, at, is) = map_of (cell_in places) (slice_get (lowered_component part).part.cells c) cell (sym (slice_get-map (cell_in places) (lowered_component part).part.cells c) ∙ e) in
+          let (own, at, is) = map_some (cell_in places) (slice_get (lowered_component part).part.cells c) cell (sym (slice_get-map (cell_in places) (lowered_component part).part.cells c) ∙ e) in
           subst (λ (x : PlainCell). IsUse d k (kind_for stands x.kind) (use_at (length part.cells) c)) is (each_for c own at);
     }
 
@@ -152,7 +151,7 @@ module _ (d : PlainDesign) (rules : IsDesign d) where
       let long : length net.components ≡ length (net_of low).components = length-map (net_of low).components inlined_component in
       let inside : n < length (net_of low).components = omega (arith, less, long) in
       let r = there_at places n (subst (λ m. n < m) (net_long d rules) inside) in
-      let here : has_number r.0 places ≡ true = in_number r.0 places (in_slice places n r.0 r.1) in
+      let here : has_number r.0 places ≡ true = in_number r.0 places (in_at places n r.0 r.1) in
       let made : net_component_at net n ≡ inlined_component (net_component_at (net_of low) n) =
       get_or_map inlined_component (net_of low).components n (net_component_at (net_of low) n) no_net_component (slice_get-get_or (net_of low).components n no_net_component inside) in
       let same : inlined_component (wired_in d (component_at d r.0)) ≡ net_component_at net n = sym (made ∙ ap inlined_component (stands_at d rules n r.0 r.1)) in

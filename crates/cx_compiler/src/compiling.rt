@@ -17,9 +17,9 @@ ghost use Rattle.cx_compiler.specs.Promise.{KeepsPromise};
 ghost use Rattle.cx_commands.specs.declared.stops.Stop.TheVariants as stops;
 
 use crate::accepting::accepted_design;
-use crate::sizes::design_size;
 use cx_commands::Stop;
 use cx_design::Checked;
+use cx_design_sizes::design_size;
 use cx_emit::emit;
 use cx_fsm::build;
 use cx_holes::inline;

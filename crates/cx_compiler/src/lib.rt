@@ -5,7 +5,6 @@ mod accepting;
 mod compiling;
 pub mod laws;
 mod nets;
-mod sizes;
 
 pub use accepting::{accepted_design, check_text, tried};
 pub use compiling::{compile, compile_design};

@@ -12,9 +12,9 @@ ghost use Rattle.cx_commands.specs.declared.stops.Stop.TheVariants as stops;
 
 use crate::accepting::accepted_design;
 use crate::compiling::{design_net, too_large};
-use crate::sizes::design_size;
 use cx_commands::Stop;
 use cx_design::Checked;
+use cx_design_sizes::design_size;
 use cx_net::Net;
 use cx_text::{COMPILE_SIZE, MemoryRow};
 use std::alloc::Global;

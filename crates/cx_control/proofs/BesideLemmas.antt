@@ -1,6 +1,6 @@
 -- An instance of a design's tree beside its component with all that is below it: the same cells, as far as the tree goes down,
 -- and the rules that its assignments, groups and statements keep.
-use Rattle.std.proofs.Common.{◌≡◌, ℕ, zero, suc, ◌+◌, ◌<◌, ◌⊎◌, inl, inr, ⊎_elim, Bool, true, false, ◌&&◌, List, [], ◌∷◌, ◌++◌, Option, Some, None, length, if◌then◌else◌, refl, sym, ap, ◌∙◌, subst, arith}
+use Rattle.std.proofs.Common.{◌≡◌, ℕ, zero, suc, ◌+◌, ◌<◌, ◌⊎◌, inl, inr, ⊎_elim, true, false, ◌&&◌, List, [], ◌∷◌, ◌++◌, Option, Some, None, length, refl, sym, ap, ◌∙◌, subst, arith}
 use Rattle.std.specs.Prelude.{slice_get, get_or}
 use Rattle.std.proofs.lemmas.Bool.{cases_lt}
 use Rattle.std.proofs.lemmas.List.{get_or_past}
@@ -14,7 +14,7 @@ use Rattle.cx_meaning.specs.declared.ports.PortRef.TheVariants as ports
 use Rattle.cx_meaning.specs.Rows.{side_of}
 use Rattle.cx_meaning.specs.Designs.{PlainAssign, PlainGroup, PlainKind, OfPrimitive, OfComponent, PlainCell, PlainComponent, PlainDesign, component_at, no_component, group_at, no_group}
 use Rattle.cx_meaning.specs.Instances.{Instance, At, Nothing, OfRow, OfInstance, cell_at, cells_of, part_of, add_cell, cells_for, tree_within, tree_of, Path, instance_at}
-use Rattle.cx_meaning.specs.Active.{Active, same_port, Owned, owned, owned_by_groups, placed_in, no_later, by_place, source_order, drivers}
+use Rattle.cx_meaning.specs.Active.{Active, same_port, Owned, owned, owned_by_groups, placed_in, by_place, source_order, drivers}
 use Rattle.cx_meaning.specs.Sights.{In, PartPort, Go, AnInput, AnOutput, ItsDone, part_port}
 use Rattle.cx_rules.specs.Ports.{component_of, path_of}
 use Rattle.cx_rules.specs.Items.{is_plain}
@@ -23,10 +23,11 @@ use Rattle.cx_rules.specs.Spots.{AnAssign, AGroup}
 use Rattle.cx_rules.specs.ShapeRules.{is_hole_of, some_target}
 use Rattle.cx_rules.specs.CallShape.{Calls, go_port, IsOutside, IsMisshapen}
 use Rattle.cx_rules.specs.Accepted.{IsAccepted}
-use Rattle.cx_rules.proofs.Finite.{in_left, in_right}
-use Rattle.cx_rules.proofs.CircleLemmas.{same_part, Reached, a_tree, no_tree, reached}
-use Rattle.cx_frames.proofs.RuleLemmas.{number_in}
-use Rattle.cx_control.proofs.HeldLemmas.{no_row, instance_is}
+use Rattle.cx_rules.proofs.CircleLemmas.{Reached, a_tree, no_tree, reached}
+use Rattle.cx_meaning.proofs.InstancesLemmas.{row_instance, instance_row, instance_is}
+use Rattle.cx_meaning.proofs.ActiveLemmas.{placed_still, placed_first}
+use Rattle.cx_meaning.proofs.DesignsLemmas.{owned_has, same_part}
+use Rattle.cx_meaning.proofs.SightsLaws.{in_left, in_right, number_in}
 
 pub record IsBeside (i whole : Instance) : Type 0 where
   pub same : part_of i ≡ part_of whole
@@ -35,9 +36,6 @@ pub record IsBeside (i whole : Instance) : Type 0 where
   -- where it has cells at all, a primitive's is the row of its numbers
   pub primitives : (c : ℕ) (child : Instance) → cell_at (cells_of i) c ≡ OfInstance child → (r : ℕ) (cell : PlainCell) (p : PrimitiveRow) → slice_get (PlainComponent.cells (part_of i)) r ≡ Some cell → cell.kind ≡ OfPrimitive p
       → cell_at (cells_of i) r ≡ OfRow (row_of p)
-
-pub no_part : (row : Row) (child : Instance) → OfRow row ≡ OfInstance child → ⊥
-no_part row child e = cc
 
 -- trees of one component, one deeper
 module _ (d : PlainDesign) (m n : ℕ) where
@@ -49,7 +47,7 @@ module _ (d : PlainDesign) (m n : ℕ) where
       of_kind : (kind : PlainKind) (c : ℕ) → cell_at (add_cell (tree_within d m) kind (cells_for (tree_within d m) cells)) c ≡ OfInstance child
           → ((k : ℕ) (one : Instance) → cell_at (cells_for (tree_within d m) cells) k ≡ OfInstance one → (other : Instance) × (cell_at (cells_for (tree_within d n) cells) k ≡ OfInstance other) × (part_of other ≡ part_of one))
           → (other : Instance) × (cell_at (add_cell (tree_within d n) kind (cells_for (tree_within d n) cells)) c ≡ OfInstance other) × (part_of other ≡ part_of child)
-      of_kind (OfPrimitive p) zero f later = absurd (no_part _ child f)
+      of_kind (OfPrimitive p) zero f later = absurd (row_instance _ child f)
       of_kind (OfPrimitive p) (suc k) f later = later k child f
       of_kind (OfComponent j) zero f later = (tree_within d n j, refl, same_part d n j ∙ sym (same_part d m j) ∙ ap part_of (instance_is (tree_within d m j) child f))
       of_kind (OfComponent j) (suc k) f later = later k child f
@@ -63,7 +61,7 @@ module _ (d : PlainDesign) (m n : ℕ) where
           → cell_at (add_cell (tree_within d n) kind (cells_for (tree_within d n) cells)) c ≡ OfRow row
       of_kind (OfPrimitive p) zero f later = f
       of_kind (OfPrimitive p) (suc k) f later = later k row f
-      of_kind (OfComponent j) zero f later = absurd (no_row _ row f)
+      of_kind (OfComponent j) zero f later = absurd (instance_row _ row f)
       of_kind (OfComponent j) (suc k) f later = later k row f
 
 primitive_at : (child : ℕ → Instance) (cells : List PlainCell) (r : ℕ) (cell : PlainCell) (p : PrimitiveRow) → slice_get cells r ≡ Some cell → cell.kind ≡ OfPrimitive p → cell_at (cells_for child cells) r ≡ OfRow (row_of p)
@@ -118,33 +116,10 @@ module _ (i whole : Instance) (beside : IsBeside i whole) (act : Active) where
   depends_too {p} {q} (at_once l) = at_once (leads_too p q l)
   depends_too {p} {q} (by_way_of r l deeper) = by_way_of r (leads_too p r l) (depends_too deeper)
 
--- an assignment of a group stands in source order
-placed_first : (a : Owned) (list : List Owned) → In (placed_in a list) a
-placed_first a [] = inl refl
-placed_first a (b ∷ rest) = either (no_later a.assign.place b.assign.place) (placed_first a rest)
-  where
-    either : (t : Bool) → In (placed_in a rest) a → In (if t then a ∷ b ∷ rest else b ∷ placed_in a rest) a
-    either true i = inl refl
-    either false i = inr i
-
-placed_still : (a : Owned) (list : List Owned) (o : Owned) → In list o → In (placed_in a list) o
-placed_still a [] o i = absurd i
-placed_still a (b ∷ rest) o i = either (no_later a.assign.place b.assign.place) i (placed_still a rest o)
-  where
-    either : (t : Bool) → In (b ∷ rest) o → (In rest o → In (placed_in a rest) o) → In (if t then a ∷ b ∷ rest else b ∷ placed_in a rest) o
-    either true j h = inr j
-    either false (inl e) h = inl e
-    either false (inr j) h = inr (h j)
-
 sorted_has : (list : List Owned) (o : Owned) → In list o → In (by_place list) o
 sorted_has [] o i = i
 sorted_has (a ∷ rest) o (inl e) = subst (In (placed_in a (by_place rest))) e (placed_first a (by_place rest))
 sorted_has (a ∷ rest) o (inr i) = placed_still a (by_place rest) o (sorted_has rest o i)
-
-owned_has : (owner : Option ℕ) (list : List PlainAssign) (a : PlainAssign) → In list a → In (owned owner list) (record { owner = owner; assign = a })
-owned_has owner [] a i = absurd i
-owned_has owner (x ∷ list) a (inl e) = inl (ap (λ y. record { owner = owner; assign = y }) e)
-owned_has owner (x ∷ list) a (inr i) = inr (owned_has owner list a i)
 
 groups_have : (k : ℕ) (groups : List PlainGroup) (g : ℕ) (a : PlainAssign) → In (get_or groups g no_group).assigns a → In (owned_by_groups k groups) (record { owner = Some (k + g); assign = a })
 groups_have k [] g a i = absurd i

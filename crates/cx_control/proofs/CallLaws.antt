@@ -20,10 +20,8 @@ use Rattle.cx_meaning.specs.Calls.{captures, lift_answer, inputs_of_call, after_
 use Rattle.cx_meaning.specs.Running.{control_below}
 use Rattle.cx_rules.specs.Items.{Dynamic, Visited}
 use Rattle.cx_rules.specs.Footprints.{Reads}
-use Rattle.cx_rules.proofs.ForeignLemmas.{just_self}
 use Rattle.cx_frames.specs.Agreeing as frames
 use Rattle.cx_frames.proofs.AlikeLemmas.{AlikeTurn}
-use Rattle.cx_frames.proofs.CircleFrames.{deeper_acyclic}
 use Rattle.cx_frames.proofs.LeafFrames.{called_drives, IsGood, group_seen, capture_alike}
 use Rattle.cx_frames.proofs.StatementFrames.{through, good}
 use Rattle.cx_lockstep.specs.Worlds.{World, Control, At, Done, Machine, edge_of, edge, Agree, is_done}
@@ -40,7 +38,9 @@ use Rattle.cx_control.specs.Leaves.{Coded, code_of, child_at, leaf_drives, writt
 use Rattle.cx_control.specs.InstanceRules.{InstanceRules, Stands}
 use Rattle.cx_control.specs.CallRules.{CallRules}
 use Rattle.cx_control.proofs.RestLaws.{number_idle_at-zero, number_idle_below-zero, rest_is_kept, idle_is_shown, idle_rests, cycle_keeps_root, cycle_keeps_at}
-use Rattle.cx_control.proofs.GroupLaws.{false_true, spots_within, turn_writes-none}
+use Rattle.cx_control.proofs.GroupLaws.{spots_within, turn_writes-none}
+use Rattle.cx_meaning.proofs.InstancesLemmas.{just_true, not_just, just_same}
+use Rattle.cx_rules.proofs.CirclesLemmas.{cells_below}
 
 -- what a caller knows of the control at a cell
 pub record ChildLaws (cells : Cells) (c : ℕ) (child : Coded) : Type 1 where
@@ -49,20 +49,6 @@ pub record ChildLaws (cells : Cells) (c : ℕ) (child : Coded) : Type 1 where
   -- an idle edge leaves its end
   pub leaves_end : number_idle_below cells c [] 0 (Coding.size child.coding) ≡ 0
   pub own_inputs : (held other : Held) (s : State) (n : ℕ) → ((input : ℕ) → input < input_count (cell_at cells c) → held input ≡ other input) → control_below cells c held s n ≡ control_below cells c other s n
-
--- a cell is itself
-pub just_is : (c d : ℕ) → just c d ≡ true → c ≡ d
-just_is zero zero e = refl
-just_is zero (suc d) e = absurd (false_true e)
-just_is (suc c) zero e = absurd (false_true e)
-just_is (suc c) (suc d) e = ap suc (just_is c d e)
-
-pub not_just : (c d : ℕ) → (d ≡ c → ⊥) → just c d ≡ false
-not_just c d differ = either (just c d) refl
-  where
-    either : (b : Bool) → just c d ≡ b → b ≡ false
-    either true e = absurd (differ (sym (just_is c d e)))
-    either false e = refl
 
 module _ (part : PlainComponent) (cells : Cells) (rules : InstanceRules (Node part cells)) (g : ℕ) (place : Place) (stands : Stands (Node part cells) (Placed (Enable g) place))
     (c : ℕ) (call : CallRules (Node part cells) g c) (child : Coded) (below : ChildLaws cells c child) (capturing : Bool) (is_so : captures (Node part cells) g ≡ capturing) where
@@ -103,7 +89,7 @@ module _ (part : PlainComponent) (cells : Cells) (rules : InstanceRules (Node pa
   abbrev is_below : Spot → Bool
   is_below = spots_of (just c)
 
-  good_here : (held : Held) → IsGood i held Seen rules.kept (through i held rules.kept rules.circles rules.groups rules.islands visited stands Seen (rules.closed Whole)) (deeper_acyclic i rules.circles) g
+  good_here : (held : Held) → IsGood i held Seen rules.kept (through i held rules.kept rules.circles rules.groups rules.islands visited stands Seen (rules.closed Whole)) (cells_below i rules.circles) g
   good_here held = good i held rules.kept rules.circles rules.groups rules.islands visited stands Seen (rules.closed Whole) g (inl refl)
 
   module _ (R : Spot → Type 0) (more : (x : Spot) → reads_spot Seen x → R x) (D : Spot → Bool) (less : (x : Spot) → D x ≡ false → spots_of (drives part Whole) x ≡ false)
@@ -159,7 +145,7 @@ module _ (part : PlainComponent) (cells : Cells) (rules : InstanceRules (Node pa
               → (if b then seen i (held_in w) (group g) (cells_in w) (ports.Cell c (suc n)) else Undefined) ≡ (if b then seen i e (group g) st (ports.Cell c (suc n)) else Undefined)
           either true is =
               ap (λ h. seen i h (group g) (cells_in w) (ports.Cell c (suc n))) inputs_near
-              ∙ group_seen i e Seen rules.kept (through i e rules.kept rules.circles rules.groups rules.islands visited stands Seen (rules.closed Whole)) (deeper_acyclic i rules.circles) g (good_here e)
+              ∙ group_seen i e Seen rules.kept (through i e rules.kept rules.circles rules.groups rules.islands visited stands Seen (rules.closed Whole)) (cells_below i rules.circles) g (good_here e)
               (cells_in w) mixed like_mixed (ports.Cell c (suc n)) (within c driven_here)
               ∙ call.held e mixed st (λ d path differ. ap (λ b. if b then w (Cell (d ∷ path)) else st (d ∷ path)) (not_just c d differ)) n (ltb-true n (input_count (cell_at cells c)) is)
           either false is = refl
@@ -215,7 +201,7 @@ module _ (part : PlainComponent) (cells : Cells) (rules : InstanceRules (Node pa
       after_all = edge (World.idle (world_of i)) K (At tt) w
 
       at_own : {A : Type 0} (v : Option A) → (if just c c then v else None) ≡ v
-      at_own v = ap (λ b. if b then v else None) (just_self c)
+      at_own v = ap (λ b. if b then v else None) (just_same c)
 
       away_none : (x : Spot) → is_below x ≡ false → child_writes i child g c capturing (At q) w x ≡ None
       away_none (Cell []) away = refl
@@ -292,17 +278,17 @@ module _ (part : PlainComponent) (cells : Cells) (rules : InstanceRules (Node pa
       at_cell P d here away = either (just c d) refl
         where
           either : (b : Bool) → just c d ≡ b → P d
-          either true is = subst P (just_is c d is) (here is)
+          either true is = subst P (just_true c d is) (here is)
           either false is = away is
 
       over_here : (path : Path) → over (c ∷ path) ≡ own path
-      over_here path = ap (λ b. if b then own path else st (c ∷ path)) (just_self c)
+      over_here path = ap (λ b. if b then own path else st (c ∷ path)) (just_same c)
 
       over_away : (d : ℕ) (path : Path) → just c d ≡ false → over (d ∷ path) ≡ st (d ∷ path)
       over_away d path away = ap (λ b. if b then own path else st (d ∷ path)) away
 
       code_here : (n : ℕ) → ◌≡◌ {A = ℕ} (if just c c then code_of child Done n else 0) (code_of child Done n)
-      code_here n = ap (λ b. if b then code_of child Done n else 0) (just_self c)
+      code_here n = ap (λ b. if b then code_of child Done n else 0) (just_same c)
 
       code_away : (d n : ℕ) → just c d ≡ false → ◌≡◌ {A = ℕ} (if just c d then code_of child Done n else 0) 0
       code_away d n away = ap (λ b. if b then code_of child Done n else 0) away
@@ -394,7 +380,7 @@ module _ (part : PlainComponent) (cells : Cells) (rules : InstanceRules (Node pa
           alike =
               subst (λ h. AlikeTurn Seen (answers.Goes after) (turn_of (cycle i h (capture g c) (cells_in w)))) (sym (inputs_near Done tt (shown held_now own) at_end end_shows w near))
               (subst (λ t. AlikeTurn Seen (turn_of t) (turn_of (cycle i e (capture g c) (cells_in w)))) goes
-              (capture_alike i e Seen rules.kept (through i e rules.kept rules.circles rules.groups rules.islands visited stands Seen (rules.closed Whole)) (deeper_acyclic i rules.circles) g c (good_here e)
+              (capture_alike i e Seen rules.kept (through i e rules.kept rules.circles rules.groups rules.islands visited stands Seen (rules.closed Whole)) (cells_below i rules.circles) g c (good_here e)
               over (cells_in w) (λ d path inside. sym (near (Cell (d ∷ path)) (cell_read d path inside)))))
 
           no_hole : hole_now i child g c capturing Done w ≡ false
@@ -443,7 +429,7 @@ module _ (part : PlainComponent) (cells : Cells) (rules : InstanceRules (Node pa
         captured_silent w near =
             let inputs : held_in w ≡ e = fun_ext (λ n. near (Input n) (more (Input n) tt)) in
             let seen_so : seen i e (group g) (cells_in w) (ports.Done g) ≡ seen i e (group g) after (ports.Done g) =
-            group_seen i e Seen rules.kept (through i e rules.kept rules.circles rules.groups rules.islands visited stands Seen (rules.closed Whole)) (deeper_acyclic i rules.circles) g (good_here e)
+            group_seen i e Seen rules.kept (through i e rules.kept rules.circles rules.groups rules.islands visited stands Seen (rules.closed Whole)) (cells_below i rules.circles) g (good_here e)
             (cells_in w) after (λ d path inside. near (Cell (d ∷ path)) (cell_read d path inside)) (ports.Done g) tt in
             let captured : captured_now i child g c capturing w ≡ true =
             ap (λ h. is_one (truth_of (seen i h (group g) (cells_in w) (ports.Done g)))) inputs ∙ ap (λ x. is_one (truth_of x)) seen_so ∙ call.is_set (is_so ∙ it_captures) e e over after after goes (λ d driven differ. refl) in

@@ -1,38 +1,32 @@
 -- What a cell comes to at an edge of any solution: what its cycle comes to, and its idle step where nothing active drives it.
-use Rattle.std.proofs.Common.{◌≡◌, ℕ, zero, suc, ◌+◌, inl, inr, Bool, true, false, ◌||◌, List, [], ◌∷◌, Option, Some, None, Result, Ok, Err, refl, sym, ap, ◌∙◌, subst, arith}
+use Rattle.std.proofs.Common.{◌≡◌, ℕ, zero, suc, ◌+◌, Bool, true, false, ◌||◌, List, [], ◌∷◌, Option, Some, None, Result, Ok, Err, refl, sym, ap, ◌∙◌, subst, arith}
 use Rattle.std.specs.Prelude.{slice_get}
 use Rattle.cx_bits.specs.BitVector.{BitVector}
 use Rattle.cx_prim.specs.declared.ports.PortRow.{PortRow}
 use Rattle.cx_prim.specs.declared.ports.Side.TheVariants as sides
 use Rattle.cx_prim.specs.CellStates.{CellState}
 use Rattle.cx_prim.specs.Rows.{Inputs, Row, input, number_of, edge_of, edge, is_enable_side, IsLawful, IsQuiet}
-use Rattle.cx_meaning.specs.declared.ports.PortRef.{PortRef}
 use Rattle.cx_meaning.specs.declared.ports.PortRef.TheVariants as ports
-use Rattle.cx_meaning.specs.Rows.{side_from, side_of}
+use Rattle.cx_meaning.specs.Rows.{side_of}
 use Rattle.cx_meaning.specs.Designs.{group_at}
 use Rattle.cx_meaning.specs.Instances.{Instance, OfRow, part_of, cells_of, cell_at, State}
-use Rattle.cx_meaning.specs.Active.{Active, Owned, source_order, drivers, acting, offset_of, same_port, if_target, if_acting}
+use Rattle.cx_meaning.specs.Active.{Active, Owned, source_order, drivers, offset_of}
 use Rattle.cx_meaning.specs.Sights.{Look, In, Gathered, Given, Lacks, gather}
 use Rattle.cx_meaning.specs.Cycles.{Next, Stops, after_edge, after_data, after_enabling, enables, looks_at, cell_outcome}
 use Rattle.cx_rules.specs.Ports.{width_of}
-use Rattle.cx_rules.proofs.FoundLemmas.{same_is}
-use Rattle.cx_rules.proofs.ForeignLemmas.{assigns_drive_in}
+use Rattle.cx_rules.proofs.ForeignLemmas.{assigns_drive_in, acting_none}
 use Rattle.cx_frames.specs.Rests.{IsUndriven}
 use Rattle.cx_control.specs.Flows.{Values, zero_of, first_on, given, Around, side_flow, cell_flow, Solves}
 use Rattle.cx_control.proofs.InstanceLemmas.{OwnerOf, continuous, of_group, owner_of}
 use Rattle.cx_control.proofs.TargetFlows.{Right}
 use Rattle.cx_control.proofs.PortFlows.{stands}
+use Rattle.cx_meaning.proofs.RowsLemmas.{side_at}
 
 -- what stands at a port of a row
 given_at : (v : Values) (c : ℕ) (rows : List PortRow) (p m : ℕ) (port : PortRow) → slice_get rows m ≡ Some port → input (given v c p rows) m ≡ Some (v (ports.Cell c (p + m)))
 given_at v c [] p m port e = absurd (cc)
 given_at v c (row ∷ rows) p zero port e = let k : p ≡ p + 0 = omega arith in ap (λ j. Some (v (ports.Cell c j))) k
 given_at v c (row ∷ rows) p (suc m) port e = let k : suc p + m ≡ p + suc m = omega arith in given_at v c rows (suc p) m port e ∙ ap (λ j. Some (v (ports.Cell c j))) k
-
-side_at : (rows : List PortRow) (p : ℕ) (port : PortRow) → slice_get rows p ≡ Some port → side_from rows p ≡ port.side
-side_at [] p port e = absurd (cc)
-side_at (row ∷ rows) zero port e = let f : row ≡ port = cc in ap (λ (x : PortRow). x.side) f
-side_at (row ∷ rows) (suc p) port e = side_at rows p port e
 
 edge_next : (o : Option ℕ) (a b : CellState) → edge_of o a ≡ Ok b → a ≡ b
 edge_next None a b e = cc
@@ -104,20 +98,10 @@ quiet_step v c row state lawful low = edge_next (row.out_of_range (given v c 0 r
         zero_there : (v (ports.Cell c (0 + n))).value ≡ 0
         zero_there = let k : n ≡ 0 + n = omega arith in subst (λ j. (v (ports.Cell c j)).value ≡ 0) k (low n (side_at row.ports n port there ∙ side))
 
--- so where nothing active drives it
-none_act : (act : Active) (p : PortRef) (list : List Owned) → ((o : Owned) → In list o → o.assign.target ≡ p → offset_of act o.owner ≡ None) → acting act p list ≡ []
-none_act act p [] never = refl
-none_act act p (o ∷ rest) never =
-    by_target (same_port o.assign.target p) refl ∙ none_act act p rest (λ x i e. never x (inr i) e)
-  where
-    by_target : (t : Bool) → same_port o.assign.target p ≡ t → if_target t act o (acting act p rest) ≡ acting act p rest
-    by_target true e = ap (λ k. if_acting k o.assign (acting act p rest)) (never o (inl refl) (same_is o.assign.target p e))
-    by_target false e = refl
-
 module _ (i : Instance) (go : Active) (s : State) (around : Around) (v : Values) (solves : Solves i go s around v) (c : ℕ) (row : Row) (at : cell_at (cells_of i) c ≡ OfRow row) (lawful : IsLawful row)
     (undriven : IsUndriven (part_of i) go c) (bare : (o : Owned) (p : ℕ) → In (source_order (part_of i)) o → o.owner ≡ None → o.assign.target ≡ ports.Cell c p → side_of row p ≡ sides.Enable → ⊥) where
   no_driver : (p : ℕ) → side_of row p ≡ sides.Enable → drivers (part_of i) go (ports.Cell c p) ≡ []
-  no_driver p side = none_act go (ports.Cell c p) (source_order (part_of i)) (λ o stands target. by o stands target (owner_of (part_of i) o stands))
+  no_driver p side = acting_none go (ports.Cell c p) (source_order (part_of i)) (λ o stands target. by o stands target (owner_of (part_of i) o stands))
     where
       by : (o : Owned) → In (source_order (part_of i)) o → o.assign.target ≡ ports.Cell c p → OwnerOf (part_of i) o → offset_of go o.owner ≡ None
       by o stands target (continuous owner there) = absurd (bare o p stands owner target side)

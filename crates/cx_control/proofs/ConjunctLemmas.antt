@@ -1,6 +1,6 @@
 -- A guard that is a conjunction of ports is 1 exactly where they all are; and as many ports as are wanted, with all of these among
 -- them, are no others.
-use Rattle.std.proofs.Common.{◌≡◌, ℕ, suc, ◌⊎◌, inl, inr, Bool, true, false, ◌&&◌, ◌||◌, nat_eq, List, [], ◌∷◌, ◌++◌, Option, Some, None, length, refl, sym, ap, ◌∙◌, subst, arith}
+use Rattle.std.proofs.Common.{◌≡◌, ℕ, suc, ◌⊎◌, inl, inr, Bool, true, false, ◌||◌, nat_eq, List, [], ◌∷◌, ◌++◌, Option, Some, None, length, refl, sym, ap, ◌∙◌, subst, arith}
 use Rattle.std.specs.List.{list_all, list_any}
 use Rattle.std.proofs.lemmas.Bool.{eqb-true}
 use Rattle.cx_meaning.specs.declared.ports.PortRef.{PortRef}
@@ -10,11 +10,10 @@ use Rattle.cx_meaning.specs.Truths.{Truth, One, Zero, truth_of, and_truth}
 use Rattle.cx_meaning.specs.Truths as truths
 use Rattle.cx_meaning.specs.Sights.{Look, In, guard_truth, all_truth}
 use Rattle.cx_rules.specs.CallShape.{joined, conjuncts, conjuncts_in, are_dones}
-use Rattle.cx_rules.proofs.Finite.{in_left, in_right}
 use Rattle.cx_rules.proofs.FoundLemmas.{same_is}
-
-none_some : {A : Type 0} (x : A) → ◌≡◌ {A = Option A} None (Some x) → ⊥
-none_some x e = cc
+use Rattle.cx_text.proofs.BoolLaws.{and_both}
+use Rattle.cx_text.proofs.OptionLaws.{none_is_some}
+use Rattle.cx_meaning.proofs.SightsLaws.{in_left, in_right}
 
 some_is : {A : Type 0} (x y : A) → ◌≡◌ {A = Option A} (Some x) (Some y) → x ≡ y
 some_is x y e = cc
@@ -40,8 +39,8 @@ pub record Joins (a b : Option (List PortRef)) (ps : List PortRef) : Type 0 wher
   pub whole : first ++ second ≡ ps
 
 joins : (a b : Option (List PortRef)) (ps : List PortRef) → joined a b ≡ Some ps → Joins a b ps
-joins None b ps e = absurd (none_some ps e)
-joins (Some xs) None ps e = absurd (none_some ps e)
+joins None b ps e = absurd (none_is_some ps e)
+joins (Some xs) None ps e = absurd (none_is_some ps e)
 joins (Some xs) (Some ys) ps e = record { first = xs; second = ys; is_first = refl; is_second = refl; whole = some_is (xs ++ ys) ps e }
 
 either_in : (xs ys : List PortRef) (p : PortRef) → In (xs ++ ys) p → In xs p ⊎ In ys p
@@ -57,7 +56,7 @@ module _ (look : Look) (at : ℕ) where
   mutual
     -- where it is 1 all its ports are
     pub conjuncts_hold : (g : PlainGuard) (ps : List PortRef) → conjuncts g ≡ Some ps → guard_truth look at g ≡ One → (p : PortRef) → In ps p → truth_of (look p) ≡ One
-    conjuncts_hold Always ps is one p i = absurd (none_some ps is)
+    conjuncts_hold Always ps is one p i = absurd (none_is_some ps is)
     conjuncts_hold (Atom q) ps is one p i = of_list ps (some_is (q.port ∷ []) ps is) i
       where
         of_list : (l : List PortRef) → (q.port ∷ []) ≡ l → In l p → truth_of (look p) ≡ One
@@ -66,11 +65,11 @@ module _ (look : Look) (at : ℕ) where
             of_one : In (q.port ∷ []) p → truth_of (look p) ≡ One
             of_one (inl same) = ap (λ r. truth_of (look r)) (sym same) ∙ one
             of_one (inr none) = absurd none
-    conjuncts_hold (Negation g) ps is one p i = absurd (none_some ps is)
+    conjuncts_hold (Negation g) ps is one p i = absurd (none_is_some ps is)
     conjuncts_hold (All gs) ps is one p i = all_hold gs ps is one p i
-    conjuncts_hold (Any gs) ps is one p i = absurd (none_some ps is)
-    conjuncts_hold (Compared c a b) ps is one p i = absurd (none_some ps is)
-    conjuncts_hold (Within from to) ps is one p i = absurd (none_some ps is)
+    conjuncts_hold (Any gs) ps is one p i = absurd (none_is_some ps is)
+    conjuncts_hold (Compared c a b) ps is one p i = absurd (none_is_some ps is)
+    conjuncts_hold (Within from to) ps is one p i = absurd (none_is_some ps is)
 
     all_hold : (gs : PlainGuards) (ps : List PortRef) → conjuncts_in gs ≡ Some ps → all_truth look at gs ≡ One → (p : PortRef) → In ps p → truth_of (look p) ≡ One
     all_hold no_guards ps is one p i = absurd (subst (λ l. In l p) (sym (some_is [] ps is)) i)
@@ -88,11 +87,11 @@ module _ (look : Look) (at : ℕ) where
     pub conjunction_holds : (g : PlainGuard) (ps : List PortRef) → conjuncts g ≡ Some ps → ((p : PortRef) → In ps p → truth_of (look p) ≡ One) → guard_truth look at g ≡ One
     conjunction_holds Always ps is each = refl
     conjunction_holds (Atom q) ps is each = each q.port (subst (λ l. In l q.port) (some_is (q.port ∷ []) ps is) (inl refl))
-    conjunction_holds (Negation g) ps is each = absurd (none_some ps is)
+    conjunction_holds (Negation g) ps is each = absurd (none_is_some ps is)
     conjunction_holds (All gs) ps is each = all_of gs ps is each
-    conjunction_holds (Any gs) ps is each = absurd (none_some ps is)
-    conjunction_holds (Compared c a b) ps is each = absurd (none_some ps is)
-    conjunction_holds (Within from to) ps is each = absurd (none_some ps is)
+    conjunction_holds (Any gs) ps is each = absurd (none_is_some ps is)
+    conjunction_holds (Compared c a b) ps is each = absurd (none_is_some ps is)
+    conjunction_holds (Within from to) ps is each = absurd (none_is_some ps is)
 
     all_of : (gs : PlainGuards) (ps : List PortRef) → conjuncts_in gs ≡ Some ps → ((p : PortRef) → In ps p → truth_of (look p) ≡ One) → all_truth look at gs ≡ One
     all_of no_guards ps is each = refl
@@ -100,12 +99,6 @@ module _ (look : Look) (at : ℕ) where
         let j = joins (conjuncts g) (conjuncts_in gs) ps is in
         ap (λ t. and_truth t (all_truth look at gs)) (conjunction_holds g j.first j.is_first (λ p i. each p (subst (λ l. In l p) j.whole (in_left j.first j.second p i))))
         ∙ all_of gs j.second j.is_second (λ p i. each p (subst (λ l. In l p) j.whole (in_right j.first j.second p i)))
-
--- AS MANY PORTS as are wanted
-pub and_both : (a b : Bool) → (a && b) ≡ true → (a ≡ true) × (b ≡ true)
-and_both true true e = (refl, refl)
-and_both true false e = absurd (cc)
-and_both false b e = absurd (cc)
 
 any_in : (w : PortRef) (ps : List PortRef) → list_any (same_port w) ps ≡ true → In ps w
 any_in w [] e = absurd (cc)

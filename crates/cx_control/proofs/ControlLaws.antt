@@ -1,7 +1,6 @@
 -- THE CONTROL OF EVERY INSTANCE does what it means, by the tree of instances, where its islands do.
-use Rattle.std.proofs.Common.{◌≡◌, ℕ, zero, suc, ◌⊎◌, inl, inr, Bool, true, false, List, [], ◌∷◌, Option, Some, None, length, if◌then◌else◌, refl, sym, ap, ◌∙◌, subst}
-use Rattle.std.specs.Prelude.{◌==◌, ◌≢◌, ◌++◌, is_some}
-use Rattle.std.proofs.lemmas.Bool.Decides.{eqb_tells}
+use Rattle.std.proofs.Common.{◌≡◌, ℕ, zero, suc, inl, Bool, true, List, [], ◌∷◌, Option, Some, None, length, if◌then◌else◌, refl, sym, ap, ◌∙◌, subst}
+use Rattle.std.specs.Prelude.{◌++◌, is_some}
 use Rattle.cx_text.specs.declared.places.Place.{Place}
 use Rattle.cx_meaning.specs.declared.ports.PortRef.{PortRef}
 use Rattle.cx_meaning.specs.declared.ports.PortRef.TheVariants as ports
@@ -19,7 +18,6 @@ use Rattle.cx_meaning.specs.Running.{leaves, control_below, run_control}
 use Rattle.cx_rules.specs.Items.{Dynamic, visit, test_in}
 use Rattle.cx_rules.specs.Footprints.{Reads}
 use Rattle.cx_rules.specs.StaticControl.{is_static, is_island_form}
-use Rattle.cx_frames.proofs.CircleFrames.{deeper_acyclic, bare_acyclic}
 use Rattle.cx_frames.proofs.LeafFrames.{test_alike}
 use Rattle.cx_frames.proofs.StatementFrames.{through, good, IsReady, ready}
 use Rattle.cx_lockstep.specs.Worlds.{Agree}
@@ -35,24 +33,20 @@ use Rattle.cx_control.specs.Leaves.{Coded, island_machine, called_machine, kind_
 use Rattle.cx_control.specs.Controls.{leaf_codings, coded_control, coded_below, end_of}
 use Rattle.cx_control.specs.InstanceRules.{InstanceRules, Stands}
 use Rattle.cx_control.specs.ControlRules.{ControlRules}
-use Rattle.cx_control.specs.ControlCodes.{island_coded, kind_coded}
+use Rattle.cx_control.proofs.ControlCodes.{island_coded, kind_coded}
 use Rattle.cx_control.proofs.RestLaws.{rest_is_kept}
 use Rattle.cx_control.proofs.StandLaws.{as_visited, parts_stand, part_drives, part_reads, spots_wider, reads_wider, are_apart, merge_is_shown}
-use Rattle.cx_control.proofs.GroupLaws.{false_true, spots_within, near_inputs, near_cells, group_leaf}
+use Rattle.cx_control.proofs.GroupLaws.{spots_within, near_inputs, near_cells, group_leaf}
 use Rattle.cx_control.proofs.CallLaws.{ChildLaws, call_leaf}
-use Rattle.cx_control.proofs.BesideLemmas.{no_part}
+use Rattle.cx_meaning.proofs.InstancesLemmas.{here as itself_at, nothing_instance, row_instance}
+use Rattle.cx_text.proofs.OptionLaws.{none_some, some_inj}
+use Rattle.cx_text.proofs.NumberLaws.{end_is, false_true}
+use Rattle.cx_rules.proofs.CirclesLemmas.{cells_below, own_acyclic}
 
 -- the islands of an instance do what they mean
 abbrev pub IslandsDo : Instance → Type 1
 IslandsDo i = (form : PlainForm) (place : Place) → Stands i (Placed form place) → is_island_form (part_of i) form ≡ true
     → Does (world_of i) (Rests i) (island_machine i form) (spots_of (drives (part_of i) (Placed form place))) (reads_spot (Reads (part_of i) (Placed form place))) (λ held. island i held form)
-
--- a group calls a component cell
-pub none_some : (c : ℕ) → ◌≡◌ {A = Option ℕ} None (Some c) → ⊥
-none_some c e = cc
-
-pub some_is : (a b : ℕ) → ◌≡◌ {A = Option ℕ} (Some a) (Some b) → a ≡ b
-some_is a b e = cc
 
 pub called_child : (cells : Cells) (list : List PlainAssign) (c : ℕ) → called_in cells list ≡ Some c → (child : Instance) × (cell_at cells c ≡ OfInstance child)
 called_child cells [] c e = absurd (none_some c e)
@@ -61,7 +55,7 @@ called_child cells (a ∷ rest) c e = of_target a.target e (called_child cells r
     of_at : (at : instances.At) (d : ℕ) → cell_at cells d ≡ at → if_instance at d (called_in cells rest) ≡ Some c → (called_in cells rest ≡ Some c → (child : Instance) × (cell_at cells c ≡ OfInstance child)) → (child : Instance) × (cell_at cells c ≡ OfInstance child)
     of_at Nothing d is f later = later f
     of_at (OfRow row) d is f later = later f
-    of_at (OfInstance child) d is f later = (child, subst (λ k. cell_at cells k ≡ OfInstance child) (some_is d c f) is)
+    of_at (OfInstance child) d is f later = (child, subst (λ k. cell_at cells k ≡ OfInstance child) (some_inj d c f) is)
 
     of_target : (p : PortRef) → called_by cells p (called_in cells rest) ≡ Some c → (called_in cells rest ≡ Some c → (child : Instance) × (cell_at cells c ≡ OfInstance child)) → (child : Instance) × (cell_at cells c ≡ OfInstance child)
     of_target (ports.Cell d n) f later = of_at (cell_at cells d) d refl f later
@@ -106,19 +100,8 @@ control_coded (Node part cells) control =
     statement_coded (leaf_machines (Node part cells) (coded_below cells)) (leaf_codings (Node part cells) (coded_below cells)) (Stands (Node part cells))
     (leaves_coded part cells control) part.control (stands_at (Node part cells) part.control refl)
 
--- an idle edge leads from the end of an instance's control to its start
-end_is : (n : ℕ) → (n == n) ≡ true
-end_is n = either (eqb_tells n n)
-  where
-    either : (((n == n) ≡ true) × (n ≡ n)) ⊎ (((n == n) ≡ false) × (n ≢ n)) → (n == n) ≡ true
-    either (inl r) = r.0
-    either (inr r) = absurd (r.1 refl)
-
 pub leaves_end : (i : Instance) → number_idle_at i [] 0 (end_of i) ≡ 0
 leaves_end (Node part cells) = ap (λ b. if b then 0 else end_of (Node part cells)) (end_is (end_of (Node part cells)))
-
-itself_at : (i : Instance) → instance_at i [] ≡ i
-itself_at (Node part cells) = refl
 
 -- a child as its caller knows it
 all_spots : (set : ℕ → Bool) (x : Spot) → spots_of set x ≡ true → spots_of (λ c. true) x ≡ true
@@ -138,14 +121,11 @@ as_child child rest rules does = record {
     here : ControlRules child
     here = subst ControlRules (itself_at child) (rules [])
 
-pub nothing_is : (child : Instance) → Nothing ≡ OfInstance child → ⊥
-nothing_is child e = cc
-
 -- and so are those of the control at a cell
 pub child_coded : (cells : Cells) (c : ℕ) → ((path : Path) → ControlRules (child_at cells c path)) → (child : Instance) → cell_at cells c ≡ OfInstance child
     → IsRegion (Coded.machine (coded_below cells c)) (Coded.coding (coded_below cells c))
-child_coded no_cells c all_rules child at = absurd (nothing_is child at)
-child_coded (a_primitive row rest) zero all_rules child at = absurd (no_part row child at)
+child_coded no_cells c all_rules child at = absurd (nothing_instance child at)
+child_coded (a_primitive row rest) zero all_rules child at = absurd (row_instance row child at)
 child_coded (a_primitive row rest) (suc c) all_rules child at = child_coded rest c all_rules child at
 child_coded (an_instance other rest) zero all_rules child at = control_coded other (subst ControlRules (itself_at other) (all_rules []))
 child_coded (an_instance other rest) (suc c) all_rules child at = child_coded rest c all_rules child at
@@ -194,15 +174,15 @@ module _ (part : PlainComponent) (cells : Cells) (control : ControlRules (Node p
       let v = as_visited (Placed form place) in
       let closed = rules.closed (Placed form place) in
       ap (λ h. test i h p.port comb (cells_in w)) (near_inputs (Reads part (Placed form place)) held s w near)
-      ∙ sym (test_alike i held (Reads part (Placed form place)) rules.kept (through i held rules.kept rules.circles rules.groups rules.islands v stands (Reads part (Placed form place)) closed) (deeper_acyclic i rules.circles)
-      (bare_acyclic i rules.circles) p.port
+      ∙ sym (test_alike i held (Reads part (Placed form place)) rules.kept (through i held rules.kept rules.circles rules.groups rules.islands v stands (Reads part (Placed form place)) closed) (cells_below i rules.circles)
+      (own_acyclic i rules.circles) p.port
       (IsReady.tests (ready i held rules.kept rules.circles rules.groups rules.islands v stands (Reads part (Placed form place)) closed v (inl refl)) p tested) comb
       (λ g is. good i held rules.kept rules.circles rules.groups rules.islands v stands (Reads part (Placed form place)) closed g (groups g is))
       s (cells_in w) (near_cells (Reads part (Placed form place)) held s w near))
 
   with_its_comb : (comb : Option ℕ) (gs : List ℕ) (g : ℕ) → comb ≡ Some g → In (with_comb comb gs) g
   with_its_comb None gs g e = absurd (none_some g e)
-  with_its_comb (Some h) gs g e = inl (some_is h g e)
+  with_its_comb (Some h) gs g e = inl (some_inj h g e)
 
   pub leaves_are_lawful : AreLawful (world_of i) (Rests i) (leaves i (control_below cells)) (leaf_machines i (coded_below cells)) (λ s. spots_of (drives part s)) (λ s. reads_spot (Reads part s)) (Stands i)
   leaves_are_lawful = record {
@@ -233,8 +213,8 @@ mutual
   -- and what a caller knows of a child
   pub child_does : (cells : Cells) (c : ℕ) → ((path : Path) → ControlRules (child_at cells c path)) → ((path : Path) → IslandsDo (child_at cells c path)) → (child : Instance) → cell_at cells c ≡ OfInstance child
       → ChildLaws cells c (coded_below cells c)
-  child_does no_cells c all_rules all_islands child at = absurd (nothing_is child at)
-  child_does (a_primitive row rest) zero all_rules all_islands child at = absurd (no_part row child at)
+  child_does no_cells c all_rules all_islands child at = absurd (nothing_instance child at)
+  child_does (a_primitive row rest) zero all_rules all_islands child at = absurd (row_instance row child at)
   child_does (a_primitive row rest) (suc c) all_rules all_islands child at =
       let it = child_does rest c all_rules all_islands child at in
       record { does = it.does; region = it.region; leaves_end = it.leaves_end; own_inputs = it.own_inputs }

@@ -4,9 +4,6 @@ use Rattle.std.specs.Prelude.{is_some, slice_get}
 use Rattle.std.proofs.lemmas.Bool.{cases_lt, lt-ltb}
 use Rattle.std.proofs.lemmas.List.{get_or_past}
 use Rattle.cx_text.specs.declared.places.Place.{Place}
-use Rattle.cx_prim.specs.Rows.{is_enable_side}
-use Rattle.cx_prim.specs.declared.ports.Side.{Side}
-use Rattle.cx_prim.specs.declared.ports.Side.TheVariants as sides
 use Rattle.cx_prim.specs.RegisterRow.{register_row}
 use Rattle.cx_prim.specs.Table.{PrimitiveRow, HasRow}
 use Rattle.cx_meaning.specs.declared.ports.PortRef.{PortRef}
@@ -37,11 +34,11 @@ use Rattle.cx_rules.proofs.FoundLemmas.{same_is}
 use Rattle.cx_control.specs.Flows.{Reaches}
 use Rattle.cx_rules.specs.Accepted.{IsAccepted}
 use Rattle.cx_rules.specs.Wellformed.{IsDesign, IsForm, IsKind}
-use Rattle.cx_rules.proofs.CircleLemmas.{same_part, Reached, a_tree, no_tree, reached, instance_acyclic, instance_group}
+use Rattle.cx_rules.proofs.CircleLemmas.{Reached, a_tree, no_tree, reached, instance_acyclic, instance_group}
 use Rattle.cx_rules.proofs.ForeignLemmas.{assigns_drive_in}
 use Rattle.cx_laws.specs.Closures.{IsClosed}
 use Rattle.cx_frames.specs.Rests.{IsUndriven, IsSettledAt, IsKeptAt}
-use Rattle.cx_frames.proofs.CircleFrames.{deeper_acyclic, group_acyclic}
+use Rattle.cx_frames.proofs.CircleFrames.{group_acyclic}
 use Rattle.cx_frames.proofs.RuleLemmas.{IsKept, kept_instance}
 use Rattle.cx_frames.proofs.RunLemmas.{undriven_group, group_undriven, capture_undriven, island_undriven}
 use Rattle.cx_frames.proofs.ShareLemmas.{none_shared}
@@ -52,28 +49,25 @@ use Rattle.cx_control.specs.Leaves.{leaf_drives}
 use Rattle.cx_control.specs.InstanceRules.{InstanceRules, Stands}
 use Rattle.cx_control.specs.CallRules.{CallForm, CallRules}
 use Rattle.cx_control.specs.ControlRules.{ControlRules}
-use Rattle.cx_control.proofs.GroupLaws.{false_true}
 use Rattle.cx_control.proofs.BesideLemmas.{KeepsCalls, StandsFor, of_component, of_nothing, instance_stands, keeps_calls}
 use Rattle.cx_control.proofs.ShapeLemmas.{drives_driving, in_some, none_outside, plain_group, calls_what_it_drives, child, is_a_plain_group, no_output, right_enable, right_go, right_done}
 use Rattle.cx_control.proofs.TargetLemmas.{group_acts}
-use Rattle.cx_control.proofs.HeldLemmas.{IsGiven, held_same, no_row}
+use Rattle.cx_control.proofs.HeldLemmas.{IsGiven, held_same}
 use Rattle.cx_control.proofs.RegisterLemmas.{register_is_row, Captured, captured_is}
 use Rattle.cx_control.proofs.HoleLemmas.{CaptureRules, hole_is_open, captured_hole, Register, register}
-use Rattle.cx_control.proofs.StaticLemmas.{static_form, static_may, driver, all_may, static_lasts, group_lasts}
+use Rattle.cx_control.proofs.StaticLemmas.{static_form, static_may, all_may, static_lasts, group_lasts}
+use Rattle.cx_text.proofs.OptionLaws.{none_some}
+use Rattle.cx_prim.proofs.PortsLemmas.{is_enable_side-Enable}
+use Rattle.cx_meaning.proofs.DesignsLemmas.{same_part}
+use Rattle.cx_rules.proofs.CirclesLemmas.{cells_below}
+use Rattle.cx_text.proofs.NumberLaws.{false_true}
+use Rattle.cx_meaning.proofs.InstancesLemmas.{instance_row}
+use Rattle.cx_meaning.proofs.ControlLaws.{driver}
 
 plain_is : (kind : GroupKind) → is_plain kind ≡ true → kind ≡ kinds.Plain
 plain_is kinds.Plain e = refl
 plain_is kinds.Comb e = absurd (false_true e)
 plain_is (kinds.Timed n) e = absurd (false_true e)
-
-none_some : (g : ℕ) → ◌≡◌ {A = Option ℕ} None (Some g) → ⊥
-none_some g e = cc
-
-enable_side : (side : Side) → is_enable_side side ≡ true → side ≡ sides.Enable
-enable_side sides.Enable e = refl
-enable_side sides.Plain e = absurd (false_true e)
-enable_side sides.Output e = absurd (false_true e)
-enable_side sides.Registered e = absurd (false_true e)
 
 reg_primitive : (kind : PlainKind) → is_reg_kind kind ≡ true → (p : PrimitiveRow) × (kind ≡ OfPrimitive p) × (is_reg_name p.name ≡ true)
 reg_primitive (OfPrimitive p) e = (p, refl, e)
@@ -141,9 +135,9 @@ module _ (part : PlainComponent) (cells more : Cells) (keeps : KeepsCalls (Node 
     child = (child i whole keeps g c e).0;
     at_child = (child i whole keeps g c e).1;
     acyclic = acyclic g;
-    deeper = deeper_acyclic i circles;
+    deeper = cells_below i circles;
     own_hole = λ o stands none target. none_some g (sym none ∙ holes o stands g target);
-    no_enable = λ o stands none r p row target at enables. kept.quiet o r p row stands none target at (enable_side (side_of row p) enables);
+    no_enable = λ o stands none r p row target at enables. kept.quiet o r p row stands none target at (is_enable_side-Enable (side_of row p) enables);
     right_done = right_done i whole keeps g c e there;
     right_enable = λ a j r p row target at enables. right_enable i whole keeps g c e a j r p row target at enables;
     registers = λ r cell stands is_reg.
@@ -158,7 +152,7 @@ module _ (part : PlainComponent) (cells more : Cells) (keeps : KeepsCalls (Node 
       let it = captured_is (group_at part g).assigns part.cells 0 r j in
       let a = in_some (same_port (write_en_of r)) (group_at part g).assigns (Captured.driven it) in (
         ap (λ b. b || false) (assigns_drive_in (group_at part g).assigns a.0 r 1 a.1 (sym (same_is (write_en_of r) a.0.target a.2))),
-        λ same. no_row (child i whole keeps g c e).0 (register_row (Register.width (register i g c capture_rules cap r j))) (sym (child i whole keeps g c e).1 ∙ ap (cell_at cells) (sym same) ∙ Register.at (register i g c capture_rules cap r j)),
+        λ same. instance_row (child i whole keeps g c e).0 (register_row (Register.width (register i g c capture_rules cap r j))) (sym (child i whole keeps g c e).1 ∙ ap (cell_at cells) (sym same) ∙ Register.at (register i g c capture_rules cap r j)),
       )
 
   call_form : CallForm (Node part cells) g c
@@ -179,7 +173,7 @@ module _ (part : PlainComponent) (cells more : Cells) (keeps : KeepsCalls (Node 
     form = call_form;
     plain = plain_is (group_at part g).kind (is_a_plain_group i whole keeps g c e);
     held = λ held s t outside n less.
-        held_same i (group g) (acyclic g) (deeper_acyclic i circles) c (child i whole keeps g c e).0 (child i whole keeps g c e).1 held s t outside (ports.Cell c (suc n)) (no_given n (input_at n less));
+        held_same i (group g) (acyclic g) (cells_below i circles) c (child i whole keeps g c e).0 (child i whole keeps g c e).1 held s t outside (ports.Cell c (suc n)) (no_given n (input_at n less));
     is_open = λ caps held s rest. hole_is_open i g c capture_rules caps held s (λ r j. let d = captured_driven caps r j in rest r d.0 d.1);
     is_set = λ caps held other s after t goes same. captured_hole i g c capture_rules caps held s after goes other t (λ r j. let d = captured_driven caps r j in same r d.0 d.1);
   }

@@ -1,6 +1,6 @@
 -- THE MACHINE OF AN ACCEPTED DESIGN runs as its main, and the invariant of every instance's control is kept.
 use Rattle.std.proofs.Common.{◌≡◌, ℕ, zero, suc, ◌<◌, List, [], ◌∷◌, ◌++◌, refl, ◌∙◌, sym, subst}
-use Rattle.cx_meaning.specs.Designs.{PlainDesign, PlainForm, Placed, no_component}
+use Rattle.cx_meaning.specs.Designs.{PlainDesign, PlainForm, Placed}
 use Rattle.cx_meaning.specs.Instances.{Instance, Node, Cells, no_cells, a_primitive, an_instance, part_of, tree_of, Path, instance_at, child_at, idle_at, start, IsSettled}
 use Rattle.cx_meaning.specs.Sights.{In}
 use Rattle.cx_meaning.specs.Islands.{History, active_in, looked_at, form_flat, form_length}
@@ -21,6 +21,7 @@ use Rattle.cx_control.proofs.ControlLaws.{IslandsDo, control_coded, control_does
 use Rattle.cx_control.proofs.KeepLaws.{control_keeps}
 use Rattle.cx_control.proofs.DesignLaws as design_laws
 use Rattle.cx_control.proofs.StandLaws.{as_visited}
+use Rattle.cx_meaning.proofs.InstancesLemmas.{nowhere}
 
 -- the samples and timers of every instance
 pub islands_keep : (i : Instance)
@@ -38,19 +39,14 @@ islands_keep i by_active by_begun timed_active timed_begun no_empty = record {
 pub islands_do : (i : Instance) → ControlRules i → IslandRules i → IslandsDo i
 islands_do i control island form place stands is_one = island_leaf i control.rules island form place stands
 
--- what stands at a path of a path
-no_part_at : (path : Path) → instance_at (Node no_component no_cells) path ≡ Node no_component no_cells
-no_part_at [] = refl
-no_part_at (c ∷ path) = refl
-
 mutual
   pub joined : (i : Instance) (path more : Path) → instance_at (instance_at i path) more ≡ instance_at i (path ++ more)
   joined (Node part cells) [] more = refl
   joined (Node part cells) (c ∷ path) more = joined_below cells c path more
 
   joined_below : (cells : Cells) (c : ℕ) (path more : Path) → instance_at (child_at cells c path) more ≡ child_at cells c (path ++ more)
-  joined_below no_cells c path more = no_part_at more
-  joined_below (a_primitive row rest) zero path more = no_part_at more
+  joined_below no_cells c path more = nowhere more
+  joined_below (a_primitive row rest) zero path more = nowhere more
   joined_below (a_primitive row rest) (suc c) path more = joined_below rest c path more
   joined_below (an_instance child rest) zero path more = joined child path more
   joined_below (an_instance child rest) (suc c) path more = joined_below rest c path more

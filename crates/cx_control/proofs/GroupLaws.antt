@@ -9,18 +9,16 @@ use Rattle.cx_meaning.specs.Active.{Active, group}
 use Rattle.cx_meaning.specs.Truths.{Truth, One, Zero, truth_of}
 use Rattle.cx_meaning.specs.Truths as truths
 use Rattle.cx_meaning.specs.Sights.{Held, seen}
-use Rattle.cx_meaning.specs.Cycles.{Fault, Ended, Goes, Faults, cycle}
+use Rattle.cx_meaning.specs.Cycles.{Fault, Ended, Goes, cycle}
 use Rattle.cx_meaning.specs.Answers.{Turn, turns_of}
 use Rattle.cx_meaning.specs.Answers as answers
 use Rattle.cx_meaning.specs.Control.{drives}
-use Rattle.cx_meaning.specs.Islands.{turn_of}
 use Rattle.cx_meaning.specs.Calls.{hole_turn, group_turn}
 use Rattle.cx_rules.specs.Items.{Dynamic, Visited}
 use Rattle.cx_rules.specs.Footprints.{Reads}
 use Rattle.cx_frames.specs.Agreeing as frames
 use Rattle.cx_frames.specs.Rests.{IsUndriven}
 use Rattle.cx_frames.proofs.AlikeLemmas.{AlikeTurn}
-use Rattle.cx_frames.proofs.CircleFrames.{deeper_acyclic}
 use Rattle.cx_frames.proofs.LeafFrames.{group_alike}
 use Rattle.cx_frames.proofs.StatementFrames.{through, good}
 use Rattle.cx_lockstep.specs.Worlds.{Agree, edge_of}
@@ -31,9 +29,9 @@ use Rattle.cx_control.specs.Numbers.{number_idle_at, spot_idle, world_of, Rests}
 use Rattle.cx_control.specs.Leaves.{leaf_drives, written, turn_next, turn_writes, turn_faults, group_machine}
 use Rattle.cx_control.specs.InstanceRules.{InstanceRules, Stands}
 use Rattle.cx_control.proofs.RestLaws.{number_idle_at-zero, rest_is_kept, idle_is_shown, idle_rests, cycle_keeps_root, cycle_keeps_at}
-
-pub false_true : false ≡ true → ⊥
-false_true e = cc
+use Rattle.cx_text.proofs.NumberLaws.{false_true}
+use Rattle.cx_meaning.proofs.CyclesLemmas.{turn_goes}
+use Rattle.cx_rules.proofs.CirclesLemmas.{cells_below}
 
 -- what a set holds is within another
 pub spots_within : (set : Set) (fact : ℕ → Type 0) → ((c : ℕ) → set c ≡ true → fact c) → (x : Spot) → spots_of set x ≡ true → reads_spot fact x
@@ -70,19 +68,6 @@ module _ (i : Instance) (set : Set) (held : Held) where
   turn_kept rules act s after goes undriven (Number path n) free rests = refl
   turn_kept rules act s after goes undriven (Input n) free rests = refl
 
--- a turn that goes on is a cycle that does
-pub turn_goes : (ended : Ended) (after : State) → turn_of ended ≡ answers.Goes after → ended ≡ Goes after
-turn_goes (Goes a) after e = ap Goes (state_is a after e)
-  where
-    after_of : State → Turn State Fault → State
-    after_of s answers.Ends = s
-    after_of s (answers.Goes b) = b
-    after_of s (answers.Faults fault) = s
-
-    state_is : (a b : State) → ◌≡◌ {A = Turn State Fault} (answers.Goes a) (answers.Goes b) → a ≡ b
-    state_is a b same = ap (after_of a) same
-turn_goes (Faults fault) after e = absurd (cc)
-
 hole_goes : (g : ℕ) (truth : Truth) (ended : Ended) (after : State) → hole_turn g ended truth ≡ answers.Goes after → ended ≡ Goes after
 hole_goes g One ended after e = absurd (cc)
 hole_goes g Zero ended after e = turn_goes ended after e
@@ -117,7 +102,7 @@ module _ (i : Instance) (rules : InstanceRules i) (g : ℕ) (place : Place) (sta
       alike : AlikeTurn Seen (group_turn i held g s) (group_turn i (held_in w) g (cells_in w))
       alike =
           subst (λ h. AlikeTurn Seen (group_turn i held g s) (group_turn i h g (cells_in w))) (sym (near_inputs Seen held s w near))
-          (group_alike i held Seen rules.kept (through i held rules.kept rules.circles rules.groups rules.islands visited stands Seen (rules.closed Whole)) (deeper_acyclic i rules.circles) g
+          (group_alike i held Seen rules.kept (through i held rules.kept rules.circles rules.groups rules.islands visited stands Seen (rules.closed Whole)) (cells_below i rules.circles) g
           (good i held rules.kept rules.circles rules.groups rules.islands visited stands Seen (rules.closed Whole) g (inl refl)) s (cells_in w) (near_cells Seen held s w near))
 
       by_turn : (t : Turn State Fault) → group_turn i held g s ≡ t → AlikeTurn Seen t (group_turn i (held_in w) g (cells_in w))

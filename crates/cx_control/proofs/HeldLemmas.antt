@@ -19,6 +19,7 @@ use Rattle.cx_rules.specs.Footprints.{Leads, Depends, at_once, by_way_of}
 use Rattle.cx_rules.specs.Circles.{IsAcyclic, AcyclicBelow}
 use Rattle.cx_rules.proofs.FoundLemmas.{needs_leads, seen_found, below_found}
 use Rattle.cx_control.specs.Flows.{Reaches}
+use Rattle.cx_meaning.proofs.InstancesLemmas.{instance_is, instance_row}
 
 pub depends_then : {i : Instance} {act : Active} {p q r : PortRef} → Depends i act p q → Leads i act q r → Depends i act p r
 depends_then {i} {act} {p} {q} {r} (at_once l) m = by_way_of q l (at_once m)
@@ -32,12 +33,6 @@ reaches_then i act p q r (inr d) l = inr (depends_then d l)
 abbrev pub IsGiven : Instance → ℕ → Type 0
 IsGiven child q = ((m : ℕ) × (part_port (part_of child) q ≡ AnOutput m)) ⊎ (part_port (part_of child) q ≡ ItsDone)
 
-pub instance_is : (a b : Instance) → OfInstance a ≡ OfInstance b → a ≡ b
-instance_is a b e = cc
-
-pub no_row : (child : Instance) (row : Row) → OfInstance child ≡ OfRow row → ⊥
-no_row child row e = cc
-
 module _ (i : Instance) (act : Active) (acyclic : IsAcyclic i act) (deeper : AcyclicBelow (cells_of i)) (c : ℕ) (child : Instance) (at_child : cell_at (cells_of i) c ≡ OfInstance child)
     (held : Held) (s t : State) (outside : (e : ℕ) (path : Path) → (e ≡ c → ⊥) → s (e ∷ path) ≡ t (e ∷ path)) (from : PortRef)
     (apart : (q : ℕ) → IsGiven child q → Reaches i act from (ports.Cell c q) → ⊥) where
@@ -45,7 +40,7 @@ module _ (i : Instance) (act : Active) (acyclic : IsAcyclic i act) (deeper : Acy
   beneath = outputs_below (cells_of i) (λ k. under k t)
 
   elsewhere : (e : ℕ) (row : Row) → cell_at (cells_of i) e ≡ OfRow row → e ≡ c → ⊥
-  elsewhere e row at same = no_row child row (sym at_child ∙ ap (cell_at (cells_of i)) (sym same) ∙ at)
+  elsewhere e row at same = instance_row child row (sym at_child ∙ ap (cell_at (cells_of i)) (sym same) ∙ at)
 
   module _ (look : Look) (below : Below) (e port : ℕ) (given_so : (n : ℕ) (other : Instance) → cell_at (cells_of i) e ≡ OfInstance other → Sees other unheld nothing (under e s) (ports.Output n) (below e n))
       (reached : Reaches i act from (ports.Cell e port)) where

@@ -10,7 +10,7 @@ use Rattle.cx_meaning.specs.declared.sights.Seen.TheVariants.{Value}
 use Rattle.cx_meaning.specs.Rows.{side_of}
 use Rattle.cx_meaning.specs.Designs.{PlainGuard, Always, Atom, Negation, All, Any, Compared, Within, PlainAssign, PlainCell, PlainComponent, group_at}
 use Rattle.cx_meaning.specs.Instances.{Instance, Cells, At, Nothing, OfRow, OfInstance, cell_at, cells_of, part_of, State, under, idle_at}
-use Rattle.cx_meaning.specs.Active.{Active, Owned, group, capture, only_at, same_port, source_order, drivers}
+use Rattle.cx_meaning.specs.Active.{Active, Owned, group, capture, same_port, source_order, drivers}
 use Rattle.cx_meaning.specs.Truths.{One, truth_of}
 use Rattle.cx_meaning.specs.Sights.{Look, Held, In, AnInput, AnOutput, ItsDone, part_port, output_port, bit_of, of_option, guard_truth, target_seen, cell_step, part_step, seen, outputs_below}
 use Rattle.cx_meaning.specs.Cycles.{Goes, cycle}
@@ -21,12 +21,16 @@ use Rattle.cx_rules.specs.Circles.{IsAcyclic, AcyclicBelow}
 use Rattle.cx_rules.specs.CallShape.{done_port, write_en_of, register_done, is_reg_kind, is_register_cell, is_register, one, is_atom, is_always, is_right_enable, is_register_enable, with_target, captured, wanted_dones, conjuncts, are_dones, is_right_done_assign, is_right_done}
 use Rattle.cx_rules.proofs.FoundLemmas.{same_is, seen_solves}
 use Rattle.cx_frames.proofs.CircleFrames.{capture_acyclic}
-use Rattle.cx_control.proofs.GroupLaws.{false_true}
 use Rattle.cx_control.proofs.LeafLaws.{is_one_of}
 use Rattle.cx_control.proofs.ConjunctLemmas.{conjuncts_hold, conjunction_holds, AreOnce, wanted_are_in, wanted_are_all}
-use Rattle.cx_control.proofs.ShapeLemmas.{equal, some_in, in_some}
+use Rattle.cx_control.proofs.ShapeLemmas.{in_some}
 use Rattle.cx_control.proofs.TargetLemmas.{TakenFrom, target_one, target_all, in_filter, of_filter, group_acts, ActsAlone, acts_alone}
-use Rattle.cx_control.proofs.RegisterLemmas.{set, idle_of_row, rest_is_not_done, written_is_done, cycle_steps, Captured, captured_is, captured_has, dones_once, done_of_one, one_of_dones}
+use Rattle.cx_control.proofs.RegisterLemmas.{set, rest_is_not_done, written_is_done, cycle_steps, Captured, captured_is, captured_has, dones_once, done_of_one, one_of_dones}
+use Rattle.cx_text.proofs.BoolLaws.{and_both, or_either}
+use Rattle.cx_meaning.proofs.ActiveLemmas.{only_self}
+use Rattle.cx_text.proofs.NumberLaws.{false_true, equal}
+use Rattle.cx_rules.proofs.ShapeRulesLemmas.{some_in}
+use Rattle.cx_frames.proofs.CycleLemmas.{idle_at-row}
 
 -- an assignment that enables a primitive cell
 record Enabling (cells : Cells) (list : List PlainAssign) : Type 0 where
@@ -62,15 +66,6 @@ enabling cells (a ∷ rest) e = of_target a.target refl e (λ f. more (enabling 
     of_target (ports.Done g) is f later = later f
     of_target (ports.Literal w v) is f later = later f
 
-and_both : (a b : Bool) → (a && b) ≡ true → (a ≡ true) × (b ≡ true)
-and_both true true e = (refl, refl)
-and_both true false e = absurd (false_true e)
-and_both false b e = absurd (false_true e)
-
-or_either : (a b : Bool) → (a || b) ≡ true → (a ≡ true) ⊎ (b ≡ true)
-or_either true b e = inl refl
-or_either false b e = inr e
-
 always_is : (g : PlainGuard) → is_always g ≡ true → g ≡ Always
 always_is Always e = refl
 always_is (Atom p) e = absurd (false_true e)
@@ -79,9 +74,6 @@ always_is (All gs) e = absurd (false_true e)
 always_is (Any gs) e = absurd (false_true e)
 always_is (Compared c a b) e = absurd (false_true e)
 always_is (Within from to) e = absurd (false_true e)
-
-own_offset : (g : ℕ) → only_at g g ≡ Some 0
-own_offset g = ap (λ b. if b then Some 0 else None) (equal g)
 
 -- the last port of a component cell is its done
 pub last_is_done : (part : PlainComponent) → part_port part (suc (length part.inputs + length part.outputs)) ≡ ItsDone
@@ -234,7 +226,7 @@ module _ (i : Instance) (g c : ℕ) (rules : CaptureRules i g c) (captures : cap
         either true e =
             let r = some_captured in
             let it = register r.0 r.1 in
-            absurd (rest_is_not_done (Register.width it) (s (r.0 ∷ [])) (sym (idle_of_row i r.0 (register_row (Register.width it)) (s (r.0 ∷ [])) (Register.at it)) ∙ rest r.0 r.1)
+            absurd (rest_is_not_done (Register.width it) (s (r.0 ∷ [])) (sym (idle_at-row i r.0 (register_row (Register.width it)) (s (r.0 ∷ [])) (Register.at it)) ∙ rest r.0 r.1)
             (sym (ap truth_of (done_seen held s r.0 (Register.width it) (Register.at it)))
             ∙ all_done (is_one_of (truth_of (look (ports.Done g))) e) (register_done r.0) (subst (λ l. In l (register_done r.0)) (sym wanted_are) (one_of_dones registers_now r.0 r.1))))
 
@@ -252,7 +244,7 @@ module _ (i : Instance) (g c : ℕ) (rules : CaptureRules i g c) (captures : cap
         stands = of_filter (ports.Done g) assigns (TheDone.assign the_done) (subst (λ l. In l (TheDone.assign the_done)) (sym (TheDone.alone the_done)) (inl refl))
 
         acts : ActsAlone (part_of i) g (group g) (λ h. refl) (ports.Done g) (λ o j none target. rules.own_hole o j none target) (TheDone.assign the_done)
-        acts = acts_alone (part_of i) g (group g) (λ h. refl) (ports.Done g) (λ o j none target. rules.own_hole o j none target) (TheDone.assign the_done) (TheDone.alone the_done) stands.0 stands.1 (own_offset g)
+        acts = acts_alone (part_of i) g (group g) (λ h. refl) (ports.Done g) (λ o j none target. rules.own_hole o j none target) (TheDone.assign the_done) (TheDone.alone the_done) stands.0 stands.1 (only_self g)
 
         source_and_guard : (look (PlainAssign.source (TheDone.assign the_done)).port ≡ Value set) × ((at : ℕ) → guard_truth look at (PlainAssign.guard (TheDone.assign the_done)) ≡ One)
         source_and_guard = of_right (or_either (is_always (PlainAssign.guard (TheDone.assign the_done)) && are_dones wanted (Some ((PlainAssign.source (TheDone.assign the_done)).port ∷ []))) (same_port ((PlainAssign.source (TheDone.assign the_done)).port) one && are_dones wanted (conjuncts (PlainAssign.guard (TheDone.assign the_done)))) (TheDone.right the_done))
@@ -327,7 +319,7 @@ module _ (i : Instance) (g c : ℕ) (rules : CaptureRules i g c) (captures : cap
         of_list [] e f = absurd (false_true f)
         of_list (a ∷ []) e f =
             let stands = of_filter (ports.Cell r 1) assigns a (subst (λ l. In l a) (sym e) (inl refl)) in
-            let acts = acts_alone (part_of i) g (capture g c) (λ h. refl) (ports.Cell r 1) bare a e stands.0 stands.1 (own_offset g) in
+            let acts = acts_alone (part_of i) g (capture g c) (λ h. refl) (ports.Cell r 1) bare a e stands.0 stands.1 (only_self g) in
             let both = source_and_guard a (or_either (same_port a.source.port (done_port c rules.child) && is_always a.guard) (same_port a.source.port one && is_atom (done_port c rules.child) a.guard) f) in
             ap (target_seen (bit_of false) then_seen) (ActsAlone.are acts)
             ∙ target_all then_seen a set both.0 (bit_of false) (ActsAlone.first acts) (ActsAlone.rest acts)

@@ -10,7 +10,7 @@ use Rattle.cx_prim.specs.Rows.{Row}
 use Rattle.cx_prim.specs.Table.{PrimitiveRow, row_of}
 use Rattle.cx_meaning.specs.declared.ports.PortRef.TheVariants as ports
 use Rattle.cx_meaning.specs.Rows.{side_from}
-use Rattle.cx_meaning.specs.Designs.{PlainGuard, Always, Atom, Negation, All, Any, Compared, Within, PlainGuards, no_guards, a_guard, PlainAssign, PlainGroup, PlainKind, OfPrimitive, OfComponent, PlainCell, PlainComponent, PlainDesign, component_at, no_component, group_at, no_group}
+use Rattle.cx_meaning.specs.Designs.{PlainGuard, Always, Atom, Negation, All, Any, Compared, Within, PlainGuards, no_guards, a_guard, PlainGroup, PlainKind, OfPrimitive, OfComponent, PlainCell, PlainComponent, PlainDesign, component_at, no_component, group_at, no_group}
 use Rattle.cx_meaning.specs.Instances.{Instance, Cells, OfRow, OfInstance, cell_at, cells_of, part_of, add_cell, cells_for, tree_within, tree_of, Path, instance_at}
 use Rattle.cx_meaning.specs.Active.{Owned, owned, owned_by_groups, source_order}
 use Rattle.cx_meaning.specs.Sights.{In, GuardNames, AnyNames, Go, part_port}
@@ -20,16 +20,14 @@ use Rattle.cx_text.specs.declared.rules.Rule.TheVariants.{NotASource}
 use Rattle.cx_meaning.specs.declared.ports.PortRef.{PortRef}
 use Rattle.cx_meaning.specs.declared.ports.PlacedPort.{PlacedPort}
 use Rattle.cx_rules.specs.Items.{operands_of, operands_in, sources_of}
-use Rattle.cx_rules.specs.Footprints.{AssignNames}
 use Rattle.cx_rules.specs.ShapeRules.{is_hole}
 use Rattle.cx_rules.specs.Spots.{AnAssign}
-use Rattle.cx_rules.proofs.Finite.{in_left, in_right}
 use Rattle.cx_rules.specs.Wellformed.{IsDesign, StandsIn}
-use Rattle.cx_rules.proofs.CircleLemmas.{same_part, Reached, a_tree, no_tree, reached}
+use Rattle.cx_rules.proofs.CircleLemmas.{Reached, a_tree, no_tree, reached}
 use Rattle.cx_rules.proofs.ForeignLemmas.{sorted_among, owned_among, split, groups_among}
-
-row_is : (a b : Row) → OfRow a ≡ OfRow b → a ≡ b
-row_is a b e = cc
+use Rattle.cx_meaning.proofs.SightsLaws.{number_in, in_left, in_right}
+use Rattle.cx_meaning.proofs.InstancesLemmas.{row_is}
+use Rattle.cx_meaning.proofs.DesignsLemmas.{same_part}
 
 -- ROWS are those of the table
 abbrev pub OfTable : Row → Type 0
@@ -95,11 +93,6 @@ instance_within d path = reached_within d (reached d path (length d.components) 
 
 pub go_narrow : (i : Instance) (c p : ℕ) (child : Instance) → cell_at (cells_of i) c ≡ OfInstance child → part_port (part_of child) p ≡ Go → width_of i (ports.Cell c p) ≡ Some 1
 go_narrow i c p child at is_go = ap (λ x. cell_width x p) at ∙ ap (part_width (part_of child)) is_go
-
-pub number_in : {A : Type 0} (xs : List A) (x : A) → In xs x → (n : ℕ) × (slice_get xs n ≡ Some x)
-number_in [] x i = absurd i
-number_in (y ∷ ys) x (inl e) = (0, ap Some e)
-number_in (y ∷ ys) x (inr i) = let r = number_in ys x i in (suc r.0, r.1)
 
 -- an assignment is a continuous one, or one of a group
 pub data OwnerOf (part : PlainComponent) (o : Owned) : Type 0 where
@@ -186,7 +179,3 @@ mutual
   guards_operand no_guards q n = absurd n
   guards_operand (a_guard g gs) q (inl n) = let r = guard_operand g q n in (r.0, in_left (operands_of g) (operands_in gs) r.0 r.1, r.2)
   guards_operand (a_guard g gs) q (inr n) = let r = guards_operand gs q n in (r.0, in_right (operands_of g) (operands_in gs) r.0 r.1, r.2)
-
-pub source_in : (a : PlainAssign) (q : PortRef) → AssignNames a q → (p : PlacedPort) × In (sources_of a) p × (p.port ≡ q)
-source_in a q (inl n) = let r = guard_operand a.guard q n in (r.0, inr r.1, r.2)
-source_in a q (inr e) = (a.source, inl refl, e)

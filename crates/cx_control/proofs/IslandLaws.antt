@@ -18,10 +18,8 @@ use Rattle.cx_meaning.specs.Control.{drives}
 use Rattle.cx_meaning.specs.Islands.{History, no_history, length_of, form_length, form_flat, active_in, looked_at, and_now, is_one, first_unclear, unless_unclear, island_turn, island_from, island}
 use Rattle.cx_rules.specs.Items.{Context, Dynamic, InStatic, Branch, Visited, visit, visit_all, test_in}
 use Rattle.cx_rules.specs.Footprints.{Reads}
-use Rattle.cx_rules.proofs.Finite.{in_left, in_right}
 use Rattle.cx_laws.specs.Samples.{Samples, says, ifs_of, AreKept, active_by, begun_by}
 use Rattle.cx_frames.proofs.AlikeLemmas.{AlikeTurn}
-use Rattle.cx_frames.proofs.CircleFrames.{deeper_acyclic, bare_acyclic}
 use Rattle.cx_frames.proofs.SightFrames.{InFrame}
 use Rattle.cx_frames.proofs.LeafFrames.{IsGood, bare_seen}
 use Rattle.cx_frames.proofs.IslandFrames.{form_fine, same_turn}
@@ -38,7 +36,10 @@ use Rattle.cx_control.specs.Leaves.{leaf_drives, turn_writes, turn_faults, InIsl
 use Rattle.cx_control.specs.InstanceRules.{InstanceRules, Stands}
 use Rattle.cx_control.specs.IslandRules.{IslandRules}
 use Rattle.cx_control.proofs.RestLaws.{rest_is_kept, idle_is_shown, idle_rests}
-use Rattle.cx_control.proofs.GroupLaws.{spots_within, turn_writes-none, turn_written, turn_kept, turn_goes, near_inputs, near_cells}
+use Rattle.cx_control.proofs.GroupLaws.{spots_within, turn_writes-none, turn_written, turn_kept, near_inputs, near_cells}
+use Rattle.cx_frames.proofs.RunLemmas.{unless_unclear-Goes}
+use Rattle.cx_meaning.proofs.SightsLaws.{in_left, in_right}
+use Rattle.cx_rules.proofs.CirclesLemmas.{cells_below, own_acyclic}
 
 -- WHAT IS SAMPLED hangs on the ports that are tested
 module _ (part : PlainComponent) (one other : PortRef → Bool) (kept : Samples) where
@@ -91,10 +92,6 @@ not_last (Some fault) ended e = cc
 not_last None (Goes after) e = cc
 not_last None (Faults fault) e = cc
 
-unclear_goes : (o : Option Fault) (ended : Ended) (after : State) → unless_unclear o ended ≡ answers.Goes after → ended ≡ Goes after
-unclear_goes (Some fault) ended after e = absurd (cc)
-unclear_goes None ended after e = turn_goes ended after e
-
 module _ (i : Instance) (rules : InstanceRules i) (island_rules : IslandRules i) (form : PlainForm) (place : Place) (stands : Stands i (Placed form place)) where
   abbrev Whole : PlainStatement
   Whole = Placed form place
@@ -133,7 +130,7 @@ module _ (i : Instance) (rules : InstanceRules i) (island_rules : IslandRules i)
         tests : (u : Visited) → In (visit Dynamic (Placed form place)) u → (p : PlacedPort) → test_in u.form ≡ Some p → says (seen i e nothing (cells_in w)) p.port ≡ says (seen i e nothing st) p.port
         tests u j p is =
             ap (λ x. is_one (truth_of x))
-            (sym (bare_seen i e Seen rules.kept (through i e rules.kept rules.circles rules.groups rules.islands v stands Seen (rules.closed Whole)) (deeper_acyclic i rules.circles) (bare_acyclic i rules.circles)
+            (sym (bare_seen i e Seen rules.kept (through i e rules.kept rules.circles rules.groups rules.islands v stands Seen (rules.closed Whole)) (cells_below i rules.circles) (own_acyclic i rules.circles)
             st (cells_in w) (near_cells Seen e st w (near_reads st w near)) p.port
             (IsReady.tests (ready i e rules.kept rules.circles rules.groups rules.islands v stands Seen (rules.closed Whole) u j) p is)))
 
@@ -159,9 +156,9 @@ module _ (i : Instance) (rules : InstanceRules i) (island_rules : IslandRules i)
 
       alike : (w : Kept) → Agree R w (shown e st) → AlikeTurn Seen (turn st) (turn (cells_in w))
       alike w near =
-          same_turn i e Seen rules.kept (through i e rules.kept rules.circles rules.groups rules.islands v stands Seen (rules.closed Whole)) (deeper_acyclic i rules.circles) (bare_acyclic i rules.circles)
+          same_turn i e Seen rules.kept (through i e rules.kept rules.circles rules.groups rules.islands v stands Seen (rules.closed Whole)) (cells_below i rules.circles) (own_acyclic i rules.circles)
           (form_flat (part_of i) form 0 [])
-          (form_fine (IsGood i e Seen rules.kept (through i e rules.kept rules.circles rules.groups rules.islands v stands Seen (rules.closed Whole)) (deeper_acyclic i rules.circles)) (InFrame Seen)
+          (form_fine (IsGood i e Seen rules.kept (through i e rules.kept rules.circles rules.groups rules.islands v stands Seen (rules.closed Whole)) (cells_below i rules.circles)) (InFrame Seen)
           (IsReady i e rules.kept rules.circles rules.groups rules.islands v stands Seen (rules.closed Whole)) (λ f p r is. IsReady.tests r p is) (part_of i) Dynamic form 0 []
           (ready i e rules.kept rules.circles rules.groups rules.islands v stands Seen (rules.closed Whole) v (inl refl))
           (record {
@@ -176,7 +173,7 @@ module _ (i : Instance) (rules : InstanceRules i) (island_rules : IslandRules i)
         there w near = subst (AlikeTurn Seen (answers.Goes after)) (sym (turn_is w near)) (subst (λ x. AlikeTurn Seen x (turn (cells_in w))) goes (alike w near))
 
         cycle_goes : cycle i e (entries (active_in now t (form_flat (part_of i) form 0 []))) st ≡ Goes after
-        cycle_goes = unclear_goes (first_unclear (seen i e nothing st) (looked_at now t (form_flat (part_of i) form 0 []))) _ after goes
+        cycle_goes = unless_unclear-Goes (first_unclear (seen i e nothing st) (looked_at now t (form_flat (part_of i) form 0 []))) _ after goes
 
         kept_there : (x : Spot) → R x → spots_of (drives (part_of i) Whole) x ≡ false → shown e after x ≡ shown e st x
         kept_there x r free =

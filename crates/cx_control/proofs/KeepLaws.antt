@@ -15,7 +15,6 @@ use Rattle.cx_meaning.specs.Islands.{is_one, turn_of}
 use Rattle.cx_meaning.specs.Calls.{called, captures}
 use Rattle.cx_meaning.specs.Running.{leaves, control_below}
 use Rattle.cx_rules.specs.Footprints.{Reads}
-use Rattle.cx_rules.proofs.ForeignLemmas.{just_self}
 use Rattle.cx_frames.proofs.LeafFrames.{called_drives}
 use Rattle.cx_lockstep.specs.Worlds.{Control, At, Done, Machine, edge_of, edge, is_done}
 use Rattle.cx_lockstep.specs.Statements.{LeafMachines, machine_of}
@@ -36,11 +35,11 @@ use Rattle.cx_control.specs.InstanceRules.{InstanceRules, Stands}
 use Rattle.cx_control.specs.CallRules.{CallRules}
 use Rattle.cx_control.specs.ControlRules.{ControlRules}
 use Rattle.cx_control.proofs.RestLaws.{number_idle_at-zero, number_idle_below-zero}
-use Rattle.cx_control.proofs.CallLaws.{ChildLaws, not_just}
+use Rattle.cx_control.proofs.CallLaws.{ChildLaws}
 use Rattle.cx_control.proofs.StaticRuns.{IsLeaf, runs_leaf}
 use Rattle.cx_control.proofs.LeafLaws.{true_false, is_one_of, not_one_of, ActsAs, kind_acts, IsQuietEnd, turn_number, island_ends, kind_ends, island_number, kind_number}
-use Rattle.cx_control.proofs.ControlLaws.{IslandsDo, called_child, control_coded, leaves_end, stands_at, leaves_are_lawful, node_does, nothing_is, child_does}
-use Rattle.cx_control.proofs.BesideLemmas.{no_part}
+use Rattle.cx_control.proofs.ControlLaws.{IslandsDo, called_child, control_coded, leaves_end, stands_at, leaves_are_lawful, node_does, child_does}
+use Rattle.cx_meaning.proofs.InstancesLemmas.{just_same, not_just, nothing_instance, row_instance}
 
 -- the invariant of what stands at a cell
 abbrev pub KeepsBelow : Cells → ℕ → Type 0
@@ -323,7 +322,7 @@ module _ (part : PlainComponent) (cells : Cells) (control : ControlRules (Node p
             ∙ sym acts.faults ∙ no_faults P s (AGroup g place stand) part.control p ok m
 
         pub here : {A : Type 0} (v : Option A) → (if just c c then v else None) ≡ v
-        here v = ap (λ b. if b then v else None) (just_self c)
+        here v = ap (λ b. if b then v else None) (just_same c)
 
         -- the child moves
         moves : (q : Machine.Place (Coded.machine (kid c))) → Coding.IsFine (Coded.coding (kid c)) q → ((n : ℕ) → s (Number (c ∷ []) n) ≡ code_of (kid c) (At q) n) → good_below cells c (At q) (bare_under c (bare s)) → CallingOf g c next
@@ -544,8 +543,8 @@ mutual
 
   -- and of what stands at a cell
   pub child_keeps : (cells : Cells) (c : ℕ) → ((path : Path) → ControlRules (instances.child_at cells c path)) → ((path : Path) → IslandsDo (instances.child_at cells c path)) → (child : Instance) → cell_at cells c ≡ OfInstance child → KeepsBelow cells c
-  child_keeps no_cells c all_rules all_islands child at = absurd (nothing_is child at)
-  child_keeps (a_primitive row rest) zero all_rules all_islands child at = absurd (no_part row child at)
+  child_keeps no_cells c all_rules all_islands child at = absurd (nothing_instance child at)
+  child_keeps (a_primitive row rest) zero all_rules all_islands child at = absurd (row_instance row child at)
   child_keeps (a_primitive row rest) (suc c) all_rules all_islands child at =
       let inner = child_keeps rest c all_rules all_islands child at in
       record { kept = inner.kept; fine = inner.fine; started = inner.started; ended = inner.ended; zero_stays = inner.zero_stays; leaves_end = inner.leaves_end; inputs = inner.inputs }

@@ -17,7 +17,8 @@ use Rattle.cx_rules.proofs.FoundLemmas.{same_is}
 use Rattle.cx_rules.proofs.ForeignLemmas.{assigns_drive_in}
 use Rattle.cx_control.specs.Apart.{HasLess, IsApart, IsOf, of_cell, of_done}
 use Rattle.cx_control.specs.Flows.{Reaches}
-use Rattle.cx_control.proofs.InstanceLemmas.{OwnerOf, continuous, of_group, owner_of, KeepsPorts, source_in}
+use Rattle.cx_control.proofs.InstanceLemmas.{OwnerOf, continuous, of_group, owner_of, KeepsPorts}
+use Rattle.cx_laws.proofs.SourceLemmas.{source_in}
 
 -- ACTIVE ASSIGNMENTS: each is one of the list, with its owner active
 pub record Stands (act : Active) (p : PortRef) (list : List Owned) (a : Acting) : Type 0 where

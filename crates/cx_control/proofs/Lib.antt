@@ -28,3 +28,5 @@ pub mod KeepLaws
 pub mod DesignLaws
 pub mod SamplingLaws
 pub mod IslandLaws
+pub mod ControlCodes
+pub mod CodingsLemmas

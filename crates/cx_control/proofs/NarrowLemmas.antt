@@ -1,17 +1,15 @@
 -- In an accepted design an enabling port of a primitive cell has one bit: where nothing drives it, it is seen as one bit.
-use Rattle.std.proofs.Common.{◌≡◌, ℕ, zero, suc, ◌<◌, true, false, List, [], ◌∷◌, ◌++◌, Some, None, length, refl, sym, ap, ◌∙◌, subst, arith}
-use Rattle.std.specs.Prelude.{slice_get}
+use Rattle.std.proofs.Common.{◌≡◌, ℕ, zero, suc, ◌<◌, true, false, [], ◌∷◌, ◌++◌, Some, None, refl, sym, ap, ◌∙◌, subst}
 use Rattle.cx_bits.specs.BitVector.{BitVector}
-use Rattle.cx_prim.specs.declared.ports.PortRow.{PortRow}
 use Rattle.cx_prim.specs.declared.ports.Side.TheVariants as sides
 use Rattle.cx_prim.specs.CellStates.{IsState}
 use Rattle.cx_prim.specs.Rows.{Row, IsLawful, KeepsStates, is_enable_side}
-use Rattle.cx_prim.specs.TableLaws.{row_of_lawful}
+use Rattle.cx_prim.proofs.TableLaws.{row_of_lawful}
 use Rattle.cx_meaning.specs.declared.ports.PortRef.{PortRef}
 use Rattle.cx_meaning.specs.declared.ports.PortRef.TheVariants as ports
 use Rattle.cx_meaning.specs.declared.sights.Seen.TheVariants.{Value, Undefined}
 use Rattle.cx_meaning.specs.Rows.{side_of}
-use Rattle.cx_meaning.specs.Designs.{PlainDesign, no_component}
+use Rattle.cx_meaning.specs.Designs.{PlainDesign}
 use Rattle.cx_meaning.specs.Instances.{Instance, Node, Cells, no_cells, a_primitive, an_instance, OfRow, cell_at, cells_of, child_at, part_of, tree_of, Path, State, instance_at, start_at, start_below}
 use Rattle.cx_meaning.specs.Active.{Active, Owned, source_order, nothing}
 use Rattle.cx_meaning.specs.Sights.{Held, In, Sees, bit_of, seen, unheld}
@@ -19,12 +17,14 @@ use Rattle.cx_rules.specs.Ports.{is_primitive_enable, enables_cell, width_of}
 use Rattle.cx_rules.specs.WidthRules.{IsBadLiteral}
 use Rattle.cx_rules.specs.Wellformed.{IsDesign, IsThere, port_count}
 use Rattle.cx_rules.specs.Accepted.{IsAccepted}
-use Rattle.cx_rules.specs.Circles.{IsAcyclic, AreAcyclic, AcyclicBelow}
 use Rattle.cx_rules.proofs.FoundLemmas.{seen_found}
 use Rattle.cx_rules.proofs.CircleLemmas.{instance_acyclic}
 use Rattle.cx_rules.proofs.ForeignLemmas.{foreign_zero}
 use Rattle.cx_laws.specs.Widths.{HoldsStates, HoldsWidths}
 use Rattle.cx_control.proofs.InstanceLemmas.{instance_rows, instance_within, enables_there}
+use Rattle.cx_rules.proofs.CirclesLemmas.{cells_below, own_acyclic}
+use Rattle.cx_meaning.proofs.InstancesLemmas.{nowhere}
+use Rattle.cx_prim.proofs.PortsLemmas.{port_below}
 
 -- at the start each cell holds its row's start
 mutual
@@ -46,10 +46,6 @@ mutual
   starts_below (an_instance child rest) zero path c row e = starts child path c row e
   starts_below (an_instance child rest) (suc b) path c row e = starts_below rest b path c row e
 
-nowhere : (q : Path) → instance_at (Node no_component no_cells) q ≡ Node no_component no_cells
-nowhere [] = refl
-nowhere (c ∷ q) = refl
-
 -- below an instance of the tree stands what stands at the joined path
 mutual
   joins : (i : Instance) (p q : Path) → instance_at (instance_at i p) q ≡ instance_at i (p ++ q)
@@ -62,17 +58,6 @@ mutual
   joins_below (a_primitive r rest) (suc c) p q = joins_below rest c p q
   joins_below (an_instance child rest) zero p q = joins child p q
   joins_below (an_instance child rest) (suc c) p q = joins_below rest c p q
-
-there_below : (list : List PortRow) (p : ℕ) (port : PortRow) → slice_get list p ≡ Some port → p < length list
-there_below [] p port e = absurd (cc)
-there_below (x ∷ list) zero port e = omega arith
-there_below (x ∷ list) (suc p) port e = let h : p < length list = there_below list p port e in omega arith
-
-pub cells_below : (i : Instance) → AreAcyclic i → AcyclicBelow (cells_of i)
-cells_below (Node part cells) acyclic = acyclic.1
-
-pub itself_acyclic : (i : Instance) → AreAcyclic i → IsAcyclic i nothing
-itself_acyclic (Node part cells) acyclic = acyclic.0
 
 -- no continuous assignment drives an enabling port, and values have the widths of their ports
 module _ (d : PlainDesign) (path : Path) (design : IsDesign d) (accepted : IsAccepted d)
@@ -103,10 +88,10 @@ module _ (d : PlainDesign) (path : Path) (design : IsDesign d) (accepted : IsAcc
       let port = enables_there row.ports p side in
       widths unheld nothing (start_at I) (ports.Cell c p) (record { width = 1; value = 0 }) (λ n b e. absurd (undefined_value b e))
       (λ q e other stands. subst (IsState other.shape) (sym (starts I q e other stands)) (states q e other stands))
-      (instance_within d path c row at, subst (λ x. p < port_count x) (sym at) (there_below row.ports p port.0 port.1))
+      (instance_within d path c row at, subst (λ x. p < port_count x) (sym at) (port_below row.ports p port.0 port.1))
       (no_literal c p)
       (subst (Sees I unheld nothing (start_at I) (ports.Cell c p)) (always_zero c p row at side (start_at I))
-      (seen_found I unheld nothing (start_at I) (itself_acyclic I (instance_acyclic d accepted path)) (cells_below I (instance_acyclic d accepted path)) (ports.Cell c p)))
+      (seen_found I unheld nothing (start_at I) (own_acyclic I (instance_acyclic d accepted path)) (cells_below I (instance_acyclic d accepted path)) (ports.Cell c p)))
     where
       states : (q : Path) (e : ℕ) (other : Row) → cell_at (cells_of (instance_at I q)) e ≡ OfRow other → IsState other.shape other.start
       states q e other stands =

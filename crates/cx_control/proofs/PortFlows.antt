@@ -1,7 +1,6 @@
 -- What is seen as a value flows as that value: all ports.
 use Rattle.std.proofs.Common.{◌≡◌, ℕ, zero, suc, ◌+◌, inl, inr, Bool, true, false, List, [], ◌∷◌, Option, Some, None, refl, sym, ap, ◌∙◌, subst, arith}
-use Rattle.std.specs.Prelude.{if◌then◌else◌, unwrap_or, nat_eq}
-use Rattle.std.proofs.lemmas.Bool.{eq-eqb}
+use Rattle.std.specs.Prelude.{unwrap_or}
 use Rattle.cx_bits.specs.BitVector.{BitVector}
 use Rattle.cx_prim.specs.declared.ports.PortRow.{PortRow}
 use Rattle.cx_prim.specs.declared.ports.Side.{Side}
@@ -13,17 +12,16 @@ use Rattle.cx_meaning.specs.declared.sights.Seen.{Seen}
 use Rattle.cx_meaning.specs.declared.sights.Seen.TheVariants.{Value, Conflict, Undefined}
 use Rattle.cx_meaning.specs.Rows.{side_of}
 use Rattle.cx_meaning.specs.Instances.{Instance, At, Nothing, OfRow, OfInstance, part_of, cells_of, cell_at, State, under}
-use Rattle.cx_meaning.specs.Active.{Active, nothing, group, Owned, source_order, drivers, offset_of, acting, same_port, if_target, if_acting, only_at}
-use Rattle.cx_meaning.specs.Sights.{Look, Below, Held, unheld, bit_of, In, Sees, by_step, step, side_step, part_step, cell_step, Needs, SideNeeds, PartNeeds, CellNeeds, of_option, output_seen, Gathered, Given, Lacks, gather, gather_port, PartPort, Go, AnInput, AnOutput, ItsDone, part_port}
+use Rattle.cx_meaning.specs.Active.{Active, nothing, group, Owned, source_order, drivers, offset_of, only_at}
+use Rattle.cx_meaning.specs.Sights.{Look, Below, Held, unheld, bit_of, In, Sees, by_step, step, side_step, part_step, cell_step, Needs, SideNeeds, PartNeeds, CellNeeds, output_seen, Gathered, Given, Lacks, gather, gather_port, PartPort, Go, AnInput, AnOutput, ItsDone, part_port}
 use Rattle.cx_rules.specs.Footprints.{Depends, at_once, by_way_of, Leads}
 use Rattle.cx_rules.specs.Ports.{width_of}
 use Rattle.cx_rules.proofs.FoundLemmas.{needs_leads}
-use Rattle.cx_rules.proofs.FoundLemmas.{same_is}
 use Rattle.cx_control.specs.Flows.{Values, zero_of, first_on, given, Around, side_flow, part_flow, cell_flow, flow, Solves, Reaches, Undisturbed}
 use Rattle.cx_control.proofs.TargetFlows.{Right, target_flows, value_is}
-
-undefined_value : (b : BitVector) → Undefined ≡ Value b → ⊥
-undefined_value b e = cc
+use Rattle.cx_meaning.proofs.ActiveLemmas.{only_self}
+use Rattle.cx_rules.proofs.FrameLemmas.{acting_alike}
+use Rattle.cx_meaning.proofs.SightsLaws.{undefined_value, option_is}
 
 conflict_value : (b : BitVector) → Conflict ≡ Value b → ⊥
 conflict_value b e = cc
@@ -33,24 +31,6 @@ given_is a b e = cc
 
 given_lacks : (a : Inputs) (p : ℕ) (x : Seen) → Lacks p x ≡ Given a → ⊥
 given_lacks a p x e = cc
-
-some_is : (a b : BitVector) → ◌≡◌ {A = Option BitVector} (Some a) (Some b) → a ≡ b
-some_is a b e = cc
-
-none_some : (b : BitVector) → ◌≡◌ {A = Option BitVector} None (Some b) → ⊥
-none_some b e = cc
-
-of_option_is : (o : Option BitVector) (b : BitVector) → of_option o ≡ Value b → o ≡ Some b
-of_option_is None b e = absurd (undefined_value b e)
-of_option_is (Some c) b e = ap Some (value_is c b e)
-
-pub acting_alike : (act other : Active) (p : PortRef) (list : List Owned) → ((o : Owned) → In list o → o.assign.target ≡ p → offset_of act o.owner ≡ offset_of other o.owner) → acting act p list ≡ acting other p list
-acting_alike act other p [] h = refl
-acting_alike act other p (o ∷ rest) h = go (same_port o.assign.target p) refl (acting_alike act other p rest (λ x i e. h x (inr i) e))
-  where
-    go : (b : Bool) → same_port o.assign.target p ≡ b → acting act p rest ≡ acting other p rest → if_target b act o (acting act p rest) ≡ if_target b other o (acting other p rest)
-    go true e f = ap (λ x. if_acting x o.assign (acting act p rest)) (h o (inl refl) (same_is o.assign.target p e)) ∙ ap (if_acting (offset_of other o.owner) o.assign) f
-    go false e f = f
 
 -- what lacks is no value
 gather_never : (look : ℕ → Seen) (wanted : ℕ → Bool) (rows : List PortRow) (p q : ℕ) (x : Seen) → gather look wanted p rows ≡ Lacks q x → (d : BitVector) → x ≡ Value d → ⊥
@@ -107,24 +87,11 @@ module _ (look : Look) (v : Values) (c : ℕ) (wanted : ℕ → Bool) (right : (
   output_flows row p f local b e = go (gather (λ q. look (ports.Cell c q)) wanted 0 row.ports) refl e
     where
       go : (g : Gathered) → gather (λ q. look (ports.Cell c q)) wanted 0 row.ports ≡ g → output_seen f g ≡ Value b → f (given v c 0 row.ports) ≡ Some b
-      go (Given inputs) h k = sym (local inputs (given v c 0 row.ports) (λ m w. stands row.ports 0 inputs h m m (omega arith) w)) ∙ of_option_is (f inputs) b k
+      go (Given inputs) h k = sym (local inputs (given v c 0 row.ports) (λ m w. stands row.ports 0 inputs h m m (omega arith) w)) ∙ option_is (f inputs) b k
       go (Lacks q x) h k = absurd (lacking (gather_never (λ r. look (ports.Cell c r)) wanted row.ports 0 q x h) k)
         where
           lacking : ((d : BitVector) → x ≡ Value d → ⊥) → x ≡ Value b → ⊥
           lacking n y = n b y
-
-only_self : (n : ℕ) → only_at n n ≡ Some 0
-only_self n = go (nat_eq n n) (eq-eqb n n refl)
-  where
-    offset : Bool → Option ℕ
-    offset b = if b then Some 0 else None
-
-    go : (b : Bool) → b ≡ true → offset b ≡ Some 0
-    go true e = refl
-    go false e = absurd (other e)
-      where
-        other : false ≡ true → ⊥
-        other z = cc
 
 module _ (i : Instance) (held : Held) (act go : Active) (s : State) (around : Around) (v : Values) (solves : Solves i go s around v)
     (narrow : (c p : ℕ) (row : Row) → cell_at (cells_of i) c ≡ OfRow row → side_of row p ≡ sides.Enable → width_of i (ports.Cell c p) ≡ Some 1)
@@ -163,7 +130,7 @@ module _ (i : Instance) (held : Held) (act go : Active) (s : State) (around : Ar
       ap (λ o. unwrap_or o (zero_of (width_of i (ports.Cell c p))))
       (output_flows look v c (row.reads p) (λ q w. r (ports.Cell c q) (q, w, refl)) row p (λ inputs. row.output (s (c ∷ [])) inputs p) (λ x y f. reads c row at (s (c ∷ [])) x y p f) b h)
   side_flows look below c p row at u sides.Registered e r b h =
-      ap (λ o. unwrap_or o (zero_of (width_of i (ports.Cell c p)))) (of_option_is (row.output (s (c ∷ [])) [] p) b h)
+      ap (λ o. unwrap_or o (zero_of (width_of i (ports.Cell c p)))) (option_is (row.output (s (c ∷ [])) [] p) b h)
 
   part_flows : (look : Look) (below : Below) (c p : ℕ) (child : Instance) → cell_at (cells_of i) c ≡ OfInstance child → Undisturbed i held act go s around (ports.Cell c p)
       → ((n : ℕ) → Sees child unheld nothing (under c s) (ports.Output n) (below c n)) → (port : PartPort) → part_port (part_of child) p ≡ port

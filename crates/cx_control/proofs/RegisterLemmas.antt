@@ -15,7 +15,7 @@ use Rattle.cx_meaning.specs.declared.ports.PortRef.TheVariants as ports
 use Rattle.cx_meaning.specs.declared.sights.Seen.{Seen}
 use Rattle.cx_meaning.specs.declared.sights.Seen.TheVariants.{Value, Conflict, Undefined}
 use Rattle.cx_meaning.specs.Designs.{PlainAssign, PlainCell}
-use Rattle.cx_meaning.specs.Instances.{Instance, Node, Cells, no_cells, a_primitive, an_instance, OfRow, cell_at, cell_count, cells_of, State, idle_at, idle_below}
+use Rattle.cx_meaning.specs.Instances.{Instance, OfRow, cell_at, cell_count, cells_of, State}
 use Rattle.cx_meaning.specs.Active.{Active, same_port}
 use Rattle.cx_meaning.specs.Truths.{One, Zero, truth_of}
 use Rattle.cx_meaning.specs.Truths as truths
@@ -24,8 +24,9 @@ use Rattle.cx_meaning.specs.Cycles.{Next, enables, after_data, after_enabling, c
 use Rattle.cx_meaning.proofs.CycleLemmas.{each_steps, row_within, outcome_listed}
 use Rattle.cx_rules.specs.ShapeRules.{some_target}
 use Rattle.cx_rules.specs.CallShape.{is_reg_name, is_reg_kind, write_en_of, register_done, captured_from}
-use Rattle.cx_control.proofs.GroupLaws.{false_true}
-use Rattle.cx_control.proofs.ConjunctLemmas.{AreOnce, and_both}
+use Rattle.cx_control.proofs.ConjunctLemmas.{AreOnce}
+use Rattle.cx_text.proofs.NumberLaws.{false_true}
+use Rattle.cx_text.proofs.BoolLaws.{and_both}
 
 -- THE ROW
 pub is_reg : (name : PrimitiveName) → is_reg_name name ≡ true → name ≡ names.Reg
@@ -138,20 +139,6 @@ pub cycle_steps : (i : Instance) (held : Held) (act : Active) (s after : State) 
 cycle_steps i held act s after c row goes at =
     sym (outcome_listed every_cell (seen i held act s) (cells_of i) s c row refl at)
     ∙ each_steps (outcome_of every_cell (seen i held act s) (cells_of i) s) (cell_count (cells_of i)) s after goes c (row_within (cells_of i) c row at)
-
--- the idle turn of a primitive cell
-row_is : (a b : Row) → OfRow a ≡ OfRow b → a ≡ b
-row_is a b e = cc
-
-idle_of_cells : (cells : Cells) (c : ℕ) (row : Row) (d : CellState) → cell_at cells c ≡ OfRow row → idle_below cells c [] d ≡ row.idle d
-idle_of_cells no_cells c row d at = absurd (cc)
-idle_of_cells (a_primitive r rest) zero row d at = ap (λ x. x.idle d) (row_is r row at)
-idle_of_cells (a_primitive r rest) (suc c) row d at = idle_of_cells rest c row d at
-idle_of_cells (an_instance child rest) zero row d at = absurd (cc)
-idle_of_cells (an_instance child rest) (suc c) row d at = idle_of_cells rest c row d at
-
-pub idle_of_row : (i : Instance) (c : ℕ) (row : Row) (d : CellState) → cell_at (cells_of i) c ≡ OfRow row → idle_at i (c ∷ []) d ≡ row.idle d
-idle_of_row (Node part cells) c row d at = idle_of_cells cells c row d at
 
 -- THE CAPTURED REGISTERS, from a number on
 abbrev added : ℕ → Bool → List ℕ → List ℕ

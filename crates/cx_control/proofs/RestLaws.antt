@@ -1,8 +1,7 @@
 -- What rests: numbers that are 0, cells that an idle turn leaves alone, and what a cycle keeps of them.
-use Rattle.std.proofs.Common.{◌≡◌, ℕ, zero, suc, Bool, true, false, [], ◌∷◌, Option, Some, None, refl, sym, ap, ◌∙◌}
-use Rattle.std.specs.Prelude.{◌==◌, slice_get, if◌then◌else◌}
-use Rattle.cx_prim.specs.CellStates.{CellState}
-use Rattle.cx_meaning.specs.Instances.{Instance, Node, Cells, no_cells, a_primitive, an_instance, At, Nothing, OfRow, OfInstance, cell_at, cells_of, part_of, Path, State, idle_at, idle_below, idle}
+use Rattle.std.proofs.Common.{◌≡◌, ℕ, zero, suc, [], ◌∷◌, Option, Some, None, refl, sym, ap, ◌∙◌}
+use Rattle.std.specs.Prelude.{◌==◌, slice_get}
+use Rattle.cx_meaning.specs.Instances.{Instance, Node, Cells, no_cells, a_primitive, an_instance, At, Nothing, OfRow, OfInstance, cell_at, cells_of, part_of, Path, State, idle_at, idle}
 use Rattle.cx_meaning.specs.Active.{Active}
 use Rattle.cx_meaning.specs.Sights.{Held, seen}
 use Rattle.cx_meaning.specs.Cycles.{outcome_of, state_after, Goes, every_cell, cycle}
@@ -13,6 +12,8 @@ use Rattle.cx_control.specs.Spots.{Spot, Cell, Number, Input, Holds, shown}
 use Rattle.cx_control.specs.Numbers.{Role, PlaceOfArm, RoundsOver, OfTimer, OfSample, role_idle, numbers_of, number_idle, number_idle_at, number_idle_below, spot_idle, world_of, Rests}
 use Rattle.cx_control.specs.Controls.{end_of}
 use Rattle.cx_control.specs.InstanceRules.{InstanceRules}
+use Rattle.cx_meaning.proofs.InstancesLemmas.{no_child as nothing_moves}
+use Rattle.cx_text.proofs.BoolLaws.{either_zero}
 
 role_idle-zero : (role : Option Role) → role_idle role 0 ≡ 0
 role_idle-zero None = refl
@@ -20,10 +21,6 @@ role_idle-zero (Some PlaceOfArm) = refl
 role_idle-zero (Some RoundsOver) = refl
 role_idle-zero (Some OfTimer) = refl
 role_idle-zero (Some OfSample) = refl
-
-either_zero : (b : Bool) → ◌≡◌ {A = ℕ} (if b then 0 else 0) 0
-either_zero true = refl
-either_zero false = refl
 
 number_idle-zero : (i : Instance) (n : ℕ) → number_idle i n 0 ≡ 0
 number_idle-zero i zero = either_zero (0 == end_of i)
@@ -66,15 +63,6 @@ pub idle_rests : (i : Instance) → InstanceRules i → (held : Held) (s : State
 idle_rests i rules held s (Cell path) = rules.settles s path
 idle_rests i rules held s (Number path n) = refl
 idle_rests i rules held s (Input n) = tt
-
--- WHAT A CYCLE KEEPS, cell by cell
--- below a primitive cell, and where there is no cell, nothing moves
-nothing_moves : (cells : Cells) (c e : ℕ) (path : Path) (d : CellState) → ((child : Instance) → cell_at cells c ≡ OfInstance child → ⊥) → idle_below cells c (e ∷ path) d ≡ d
-nothing_moves no_cells c e path d none = refl
-nothing_moves (a_primitive row rest) zero e path d none = refl
-nothing_moves (a_primitive row rest) (suc c) e path d none = nothing_moves rest c e path d none
-nothing_moves (an_instance child rest) zero e path d none = absurd (none child refl)
-nothing_moves (an_instance child rest) (suc c) e path d none = nothing_moves rest c e path d none
 
 settled_at : (i : Instance) (s : State) (c : ℕ) → ((child : Instance) → cell_at (cells_of i) c ≡ OfInstance child → ⊥) → idle_at i (c ∷ []) (s (c ∷ [])) ≡ s (c ∷ []) → IsSettledAt i s c
 settled_at (Node part cells) s c none rests [] = rests

@@ -10,6 +10,7 @@ use Rattle.cx_meaning.specs.Sights.{Look}
 use Rattle.cx_meaning.specs.Islands.{History, form_length, length_of, sum_length, and_now}
 use Rattle.cx_laws.specs.Samples.{Samples, form_ifs, ifs_of, ifs_in, says, FormKept, StatementKept, PartsKept, ArmsKept, Every, AreKept}
 use Rattle.cx_control.specs.Sampling.{within_length, behind_length, form_now, statement_now, parts_now, arms_now, samples_now}
+use Rattle.cx_laws.proofs.SamplesLemmas.{now_is}
 
 -- only the samples of the static ifs in a statement matter to it
 module _ (part : PlainComponent) (h : History) (t : ℕ) (one other : Samples) where
@@ -215,10 +216,6 @@ module _ (part : PlainComponent) (h later : History) (t next : ℕ) (now : PortR
 
         in_rest : (m : ℕ) → n + ifs_of s ≤ m → arms_now part now kept (a_statement s ss) n (Some j) m ≡ arms_now part now kept ss (n + ifs_of s) (Some j) m
         in_rest m f = ap (λ c. if c then statement_now part now kept s n (Some j) m else arms_now part now kept ss (n + ifs_of s) (Some j) m) (le-ltb m (n + ifs_of s) f)
-
--- THE LAW
-now_is : (h : History) (t : ℕ) (look : Look) (port : PortRef) → says look port ≡ and_now h t look port t
-now_is h t look port = sym (ap (λ b. if b then says look port else h port t) (eq-eqb t t refl))
 
 before_is : (h : History) (t : ℕ) (look : Look) (port : PortRef) (j : ℕ) → and_now h (suc t) look port (suc t - suc j) ≡ h port (t - j)
 before_is h t look port j =

@@ -1,7 +1,7 @@
 -- What is seen as a value flows as that value: in every instance of an accepted design.
 use Rattle.std.proofs.Common.{◌≡◌, ℕ, false, [], ◌∷◌, Some, None, refl, subst}
 use Rattle.cx_bits.specs.BitVector.{BitVector}
-use Rattle.cx_prim.specs.TableLaws.{row_of_lawful}
+use Rattle.cx_prim.proofs.TableLaws.{row_of_lawful}
 use Rattle.cx_prim.specs.Rows.{Row, IsLawful}
 use Rattle.cx_meaning.specs.declared.ports.PortRef.{PortRef}
 use Rattle.cx_meaning.specs.declared.ports.PortRef.TheVariants as ports
@@ -22,10 +22,11 @@ use Rattle.cx_rules.proofs.CircleLemmas.{instance_acyclic}
 use Rattle.cx_laws.specs.Widths.{HoldsStates, HoldsWidths}
 use Rattle.cx_frames.specs.Rests.{IsUndriven}
 use Rattle.cx_control.specs.Flows.{Values, given, Around, Solves, Undisturbed}
-use Rattle.cx_control.proofs.NarrowLemmas.{enables_narrow, no_bare, cells_below}
+use Rattle.cx_control.proofs.NarrowLemmas.{enables_narrow, no_bare}
 use Rattle.cx_control.proofs.CellLemmas.{cell_step, idle_step}
 use Rattle.cx_control.proofs.PortFlows.{seen_flows}
 use Rattle.cx_control.proofs.InstanceLemmas.{instance_rows, go_narrow, instance_ports}
+use Rattle.cx_rules.proofs.CirclesLemmas.{cells_below}
 
 pub instance_lawful : (d : PlainDesign) (path : Path) (c : ℕ) (row : Row) → cell_at (cells_of (instance_at (tree_of d) path)) c ≡ OfRow row → IsLawful row
 instance_lawful d path c row at = let p = instance_rows d path c row at in subst IsLawful p.1 (row_of_lawful p.0)

@@ -1,6 +1,6 @@
 -- What the rules say of a group that calls, in an instance of the tree.
 use Rattle.std.proofs.Common.{◌≡◌, ℕ, suc, ◌+◌, ◌<◌, ◌⊎◌, inl, inr, Bool, true, false, ◌&&◌, ◌||◌, nat_eq, List, [], ◌∷◌, Some, None, length, refl, sym, ap, ◌∙◌, subst}
-use Rattle.std.proofs.lemmas.Bool.{eqb-true}
+use Rattle.std.proofs.lemmas.Bool.{eqb-true, true_from_ne_false}
 use Rattle.std.proofs.lemmas.Bool.Decides.{eqb_tells}
 use Rattle.cx_prim.specs.Rows.{Row}
 use Rattle.cx_meaning.specs.declared.ports.PortRef.{PortRef}
@@ -18,29 +18,11 @@ use Rattle.cx_rules.specs.ShapeRules.{is_hole_of, some_target}
 use Rattle.cx_rules.proofs.FoundLemmas.{same_is}
 use Rattle.cx_rules.specs.CallShape.{is_port_of, Calls, go_port, is_right_go, wrong_go, done_port, is_register_enable, with_target, is_right_enable, captured, wanted_dones, is_right_done, CallBreak, another_cell, input_by_output, wrong_enable, wrong_done}
 use Rattle.cx_control.proofs.BesideLemmas.{IsBeside, depends_too, group_stands, KeepsCalls}
-use Rattle.cx_control.proofs.CallLaws.{just_is}
-use Rattle.cx_control.proofs.ControlLaws.{called_child as called_instance, none_some, some_is}
-
-true_or_false : (b : Bool) → (b ≡ false → ⊥) → b ≡ true
-true_or_false true never = refl
-true_or_false false never = absurd (never refl)
-
-pub equal : (n : ℕ) → nat_eq n n ≡ true
-equal n = either (eqb_tells n n)
-  where
-    either : ((nat_eq n n ≡ true) × (n ≡ n)) ⊎ ((nat_eq n n ≡ false) × (n ≡ n → ⊥)) → nat_eq n n ≡ true
-    either (inl r) = r.0
-    either (inr r) = absurd (r.1 refl)
-
--- a target of a list
-pub some_in : (test : PortRef → Bool) (list : List PlainAssign) (a : PlainAssign) → In list a → test a.target ≡ true → some_target test list ≡ true
-some_in test [] a i e = absurd i
-some_in test (x ∷ list) a (inl same) e = ap (λ b. b || some_target test list) (ap (λ (y : PlainAssign). test y.target) same ∙ e)
-some_in test (x ∷ list) a (inr i) e = by (test x.target) (some_in test list a i e)
-  where
-    by : (b : Bool) → some_target test list ≡ true → (b || some_target test list) ≡ true
-    by true f = refl
-    by false f = f
+use Rattle.cx_control.proofs.ControlLaws.{called_child as called_instance}
+use Rattle.cx_text.proofs.NumberLaws.{equal}
+use Rattle.cx_rules.proofs.ShapeRulesLemmas.{some_in}
+use Rattle.cx_meaning.proofs.InstancesLemmas.{just_true}
+use Rattle.cx_text.proofs.OptionLaws.{none_some, some_inj}
 
 -- and the other way
 pub in_some : (test : PortRef → Bool) (list : List PlainAssign) → some_target test list ≡ true → (a : PlainAssign) × In list a × (test a.target ≡ true)
@@ -68,7 +50,7 @@ called_driving cells (a ∷ rest) c e = of_target a.target refl e (λ f. more_dr
     of_at : (at : At) (d p : ℕ) → a.target ≡ ports.Cell d p → if_instance at d (called_in cells rest) ≡ Some c → (called_in cells rest ≡ Some c → Driving cells (a ∷ rest) c) → Driving cells (a ∷ rest) c
     of_at Nothing d p is f later = later f
     of_at (OfRow row) d p is f later = later f
-    of_at (OfInstance child) d p is f later = record { assign = a; is_in = inl refl; port = p; target = is ∙ ap (λ k. ports.Cell k p) (some_is d c f) }
+    of_at (OfInstance child) d p is f later = record { assign = a; is_in = inl refl; port = p; target = is ∙ ap (λ k. ports.Cell k p) (some_inj d c f) }
 
     of_target : (p : PortRef) → a.target ≡ p → called_by cells p (called_in cells rest) ≡ Some c → (called_in cells rest ≡ Some c → Driving cells (a ∷ rest) c) → Driving cells (a ∷ rest) c
     of_target (ports.Cell d n) is f later = of_at (cell_at cells d) d n is f later
@@ -82,7 +64,7 @@ drives_driving cells [] c e = absurd (cc)
 drives_driving cells (a ∷ rest) c e = of_target a.target refl e (λ f. more_driving cells a rest c (drives_driving cells rest c f))
   where
     by : (b : Bool) (d p : ℕ) → a.target ≡ ports.Cell d p → just d c ≡ b → (b || assigns_drive rest c) ≡ true → (assigns_drive rest c ≡ true → Driving cells (a ∷ rest) c) → Driving cells (a ∷ rest) c
-    by true d p is same f later = record { assign = a; is_in = inl refl; port = p; target = is ∙ ap (λ k. ports.Cell k p) (just_is d c same) }
+    by true d p is same f later = record { assign = a; is_in = inl refl; port = p; target = is ∙ ap (λ k. ports.Cell k p) (just_true d c same) }
     by false d p is same f later = later f
 
     of_target : (p : PortRef) → a.target ≡ p → (targets_cell p c || assigns_drive rest c) ≡ true → (assigns_drive rest c ≡ true → Driving cells (a ∷ rest) c) → Driving cells (a ∷ rest) c
@@ -133,7 +115,7 @@ module _ (i whole : Instance) (keeps : KeepsCalls i whole) where
     -- nor a group that is not plain
     pub plain_group : (a : PlainAssign) → In assigns a → (c n : ℕ) (child : Instance) → a.target ≡ ports.Cell c n → cell_at (cells_of i) c ≡ OfInstance child → is_plain (group_at part g).kind ≡ true
     plain_group a j c n child e at =
-        true_or_false (is_plain (group_at part g).kind)
+        true_from_ne_false (is_plain (group_at part g).kind)
         (λ none. keeps.shaped (record { owner = Some g; assign = a }) (group_stands part g a j) (inl (part_port_there a.target c n child e at, inr (g, refl, none))))
 
     abbrev calls_of : (a : PlainAssign) → In assigns a → (c n : ℕ) (child : Instance) → a.target ≡ ports.Cell c n → cell_at (cells_of i) c ≡ OfInstance child → Calls whole assigns c
@@ -207,16 +189,16 @@ module _ (i whole : Instance) (keeps : KeepsCalls i whole) where
       pub right_enable : (a : PlainAssign) → In assigns a → (r p : ℕ) (row : Row) → a.target ≡ ports.Cell r p → cell_at (cells_of i) r ≡ OfRow row → enables_cell (OfRow row) p ≡ true
           → (is_register_enable part a.target && is_right_enable (done_port c child.0) (with_target a.target assigns)) ≡ true
       right_enable a j r p row target at enables =
-          true_or_false _ (λ none. no_break a j (wrong_enable
+          true_from_ne_false _ (λ none. no_break a j (wrong_enable
           (ap (is_primitive_enable whole) target ∙ ap (λ k. enables_cell k p) ((KeepsCalls.beside keeps).rows r row at) ∙ enables)
           (ap (λ d. is_register_enable part a.target && is_right_enable d (with_target a.target assigns)) same_done ∙ none)))
 
       -- its go is 1 while the cell is not done
       pub right_go : g < length (PlainComponent.groups part) → is_right_go (done_port c child.0) (with_target (go_port c) assigns) ≡ true
       right_go there =
-          let driven = true_or_false _ (λ lacks. keeps.driven g there is_a_plain_group c calls lacks) in
+          let driven = true_from_ne_false _ (λ lacks. keeps.driven g there is_a_plain_group c calls lacks) in
           let go = in_some (same_port (go_port c)) assigns (and_first (some_target (same_port (go_port c)) assigns) _ driven) in
-          true_or_false _ (λ none. no_break go.0 go.1
+          true_from_ne_false _ (λ none. no_break go.0 go.1
           (subst (CallBreak whole g c (Calls.child calls)) (same_is (go_port c) go.0.target go.2)
           (wrong_go (ap (λ d. is_right_go d (with_target (go_port c) assigns)) same_done ∙ none))))
         where
@@ -227,9 +209,9 @@ module _ (i whole : Instance) (keeps : KeepsCalls i whole) where
       -- and its done is that of the cell or of the captured registers
       pub right_done : g < length (PlainComponent.groups part) → is_right_done (wanted_dones (done_port c child.0) (captured part assigns)) (with_target (ports.Done g) assigns) ≡ true
       right_done there =
-          let driven = true_or_false _ (λ lacks. keeps.driven g there is_a_plain_group c calls lacks) in
+          let driven = true_from_ne_false _ (λ lacks. keeps.driven g there is_a_plain_group c calls lacks) in
           let hole = in_some (is_hole_of g) assigns (and_second _ (some_target (is_hole_of g) assigns) driven) in
-          true_or_false _ (λ none. no_break hole.0 hole.1
+          true_from_ne_false _ (λ none. no_break hole.0 hole.1
           (subst (CallBreak whole g c (Calls.child calls)) (sym (is_hole hole.0.target hole.2))
           (wrong_done (ap (λ d. is_right_done (wanted_dones d (captured part assigns)) (with_target (ports.Done g) assigns)) same_done ∙ none))))
         where

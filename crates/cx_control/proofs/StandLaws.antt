@@ -1,22 +1,22 @@
 -- Statements of the control of an instance: their parts stand there too, and drive and read no more.
-use Rattle.std.proofs.Common.{◌≡◌, ℕ, zero, suc, inl, inr, Bool, true, false, ◌||◌, List, [], ◌∷◌, ◌++◌, Option, Some, None, refl, sym, ap, ◌∙◌, subst}
-use Rattle.std.specs.Prelude.{flat_map, slice_get, if◌then◌else◌}
+use Rattle.std.proofs.Common.{◌≡◌, ℕ, suc, inl, inr, Bool, true, false, ◌||◌, List, [], ◌∷◌, ◌++◌, refl, sym, subst}
+use Rattle.std.specs.Prelude.{flat_map, if◌then◌else◌}
 use Rattle.cx_meaning.specs.declared.ports.PlacedPort.{PlacedPort}
 use Rattle.cx_meaning.specs.Designs.{PlainComponent, PlainStatement, Placed, PlainStatements, no_statements, a_statement, list_of}
 use Rattle.cx_meaning.specs.Instances.{Instance, part_of, State, merge}
 use Rattle.cx_meaning.specs.Sights.{In, Held}
-use Rattle.cx_meaning.specs.Control.{with_comb, groups_of, groups_in_all, group_drives, groups_drive, drives}
+use Rattle.cx_meaning.specs.Control.{groups_of, groups_in_all, group_drives, groups_drive, drives}
 use Rattle.cx_rules.specs.Items.{Dynamic, Visited, visit, visit_all, statements_in, test_in, option_list, tests_of}
 use Rattle.cx_rules.specs.Footprints as footprints
 use Rattle.cx_rules.specs.Footprints.{Reads}
 use Rattle.cx_rules.specs.RaceRule.{IsShared}
-use Rattle.cx_rules.proofs.Finite.{in_left, in_right}
-use Rattle.cx_rules.proofs.ForeignLemmas.{or_right}
 use Rattle.cx_frames.proofs.StatementFrames.{visited}
 use Rattle.cx_lockstep.specs.Lawful.{IsPart, of_seq, of_par, then_branch, else_branch, of_while, of_repeat, Apart, AreApart}
 use Rattle.cx_control.specs.Spots.{Spot, Cell, Number, Input, shown, spots_of, reads_spot}
 use Rattle.cx_control.specs.InstanceRules.{Stands}
-use Rattle.cx_control.proofs.GroupLaws.{false_true}
+use Rattle.cx_meaning.proofs.SightsLaws.{number_in, behind_comb, in_left, in_right}
+use Rattle.cx_meaning.proofs.ControlLaws.{groups_drive_in}
+use Rattle.cx_text.proofs.NumberLaws.{suc_zero, zero_suc, false_true}
 
 -- the statement as it is visited in dynamic control
 abbrev pub as_visited : PlainStatement → Visited
@@ -47,14 +47,10 @@ parts_stand i (Placed form place) (Placed f p) part stands =
     visited Dynamic (part_of i).control (record { context = Dynamic; form = f; place = p }) (as_visited (Placed form place)) stands (visits_part part (as_visited (Placed form place)) (itself (Placed form place)))
 
 -- its groups are groups of the whole
-groups_all : (ss : PlainStatements) (s : PlainStatement) (g : ℕ) → In (list_of ss) s → In (groups_of s) g → In (groups_in_all ss) g
+pub groups_all : (ss : PlainStatements) (s : PlainStatement) (g : ℕ) → In (list_of ss) s → In (groups_of s) g → In (groups_in_all ss) g
 groups_all no_statements s g i j = absurd i
 groups_all (a_statement t ts) s g (inl e) j = in_left (groups_of t) (groups_in_all ts) g (subst (λ x. In (groups_of x) g) (sym e) j)
 groups_all (a_statement t ts) s g (inr i) j = in_right (groups_of t) (groups_in_all ts) g (groups_all ts s g i j)
-
-behind_comb : (comb : Option ℕ) (gs : List ℕ) (g : ℕ) → In gs g → In (with_comb comb gs) g
-behind_comb None gs g i = i
-behind_comb (Some h) gs g i = inr i
 
 pub groups_part : {s whole : PlainStatement} → IsPart s whole → (g : ℕ) → In (groups_of s) g → In (groups_of whole) g
 groups_part (of_seq {s} {parts} {place} i) g j = groups_all parts s g i j
@@ -64,17 +60,12 @@ groups_part (else_branch {test} {comb} {a} {b} {place}) g j = behind_comb comb (
 groups_part (of_while {test} {comb} {a} {place}) g j = behind_comb comb (groups_of a) g j
 groups_part (of_repeat {count} {a} {place}) g j = j
 
-group_within : (part : PlainComponent) (gs : List ℕ) (g c : ℕ) → In gs g → group_drives part g c ≡ true → groups_drive part gs c ≡ true
-group_within part [] g c i e = absurd i
-group_within part (x ∷ xs) g c (inl same) e = ap (λ b. b || groups_drive part xs c) (ap (λ y. group_drives part y c) same ∙ e)
-group_within part (x ∷ xs) g c (inr i) e = or_right (group_drives part x c) (groups_drive part xs c) (group_within part xs g c i e)
-
 groups_within : (part : PlainComponent) (gs hs : List ℕ) → ((g : ℕ) → In gs g → In hs g) → (c : ℕ) → groups_drive part gs c ≡ true → groups_drive part hs c ≡ true
 groups_within part [] hs within c e = absurd (false_true e)
 groups_within part (g ∷ gs) hs within c e = either (group_drives part g c) refl e (groups_within part gs hs (λ h i. within h (inr i)) c)
   where
     either : (b : Bool) → group_drives part g c ≡ b → (b || groups_drive part gs c) ≡ true → (groups_drive part gs c ≡ true → groups_drive part hs c ≡ true) → groups_drive part hs c ≡ true
-    either true here f later = group_within part hs g c (within g (inl refl)) here
+    either true here f later = groups_drive_in part hs g c (within g (inl refl)) here
     either false none f later = later f
 
 -- so it drives and reads no more
@@ -127,23 +118,12 @@ spots_apart part s t apart (Number [] n) d r = r
 spots_apart part s t apart (Number (c ∷ path) n) d r = apart c d r
 spots_apart part s t apart (Input n) d r = false_true d
 
-zero_suc : (m : ℕ) → zero ≡ suc m → ⊥
-zero_suc m e = cc
-
-suc_zero : (m : ℕ) → suc m ≡ zero → ⊥
-suc_zero m e = cc
-
-number_of : {A : Type 0} (xs : List A) (x : A) → In xs x → (n : ℕ) × (slice_get xs n ≡ Some x)
-number_of [] x i = absurd i
-number_of (y ∷ ys) x (inl e) = (0, ap Some e)
-number_of (y ∷ ys) x (inr i) = let r = number_of ys x i in (suc r.0, r.1)
-
 pub are_apart : (part : PlainComponent) (arms : List PlainStatement) → ((c : ℕ) → IsShared part arms c → ⊥) → AreApart (λ s. spots_of (drives part s)) (λ s. reads_spot (Reads part s)) arms
 are_apart part [] unshared = tt
 are_apart part (s ∷ ss) unshared = (first, are_apart part ss later)
   where
     first : (t : PlainStatement) → In ss t → Apart (λ u. spots_of (drives part u)) (λ u. reads_spot (Reads part u)) s t
-    first t i = let n = number_of ss t i in record {
+    first t i = let n = number_in ss t i in record {
       first = λ x. spots_apart part s t (λ c d r. unshared c (record { one = 0; other = suc n.0; differ = zero_suc n.0; first = s; second = t; first_stands = refl; second_stands = n.1 }, d, r)) x;
       second = λ x. spots_apart part t s (λ c d r. unshared c (record { one = suc n.0; other = 0; differ = suc_zero n.0; first = t; second = s; first_stands = n.1; second_stands = refl }, d, r)) x;
     }

@@ -6,7 +6,7 @@ use Rattle.cx_text.specs.declared.rules.Rule.TheVariants.{StaticShape}
 use Rattle.cx_meaning.specs.Designs.{PlainComponent, PlainDesign, component_at, group_at, PlainForm, Empty, Enable, Seq, Par, If, While, Repeat, StaticSeq, StaticPar, StaticIf, StaticRepeat, Timed, PlainStatement, Placed, PlainStatements, no_statements, a_statement}
 use Rattle.cx_meaning.specs.Instances.{part_of}
 use Rattle.cx_meaning.specs.Sights.{In}
-use Rattle.cx_meaning.specs.Control.{groups_in, groups_of, groups_in_all, group_drives, groups_drive}
+use Rattle.cx_meaning.specs.Control.{groups_in, groups_of, groups_in_all}
 use Rattle.cx_meaning.specs.Islands.{group_length, form_length}
 use Rattle.cx_rules.specs.Ports.{component_of}
 use Rattle.cx_rules.specs.Items.{Context, Dynamic, InStatic, Branch, Visited, visit, visit_parts, visit_all, statements_in}
@@ -14,19 +14,9 @@ use Rattle.cx_rules.specs.Spots.{AStatement, AGroup}
 use Rattle.cx_rules.specs.ShapeRules.{is_hole, some_target, enabled_name}
 use Rattle.cx_rules.specs.StaticControl.{is_static, is_in_static, may_stand, form_has_length, has_length, all_have_length}
 use Rattle.cx_rules.specs.Accepted.{IsAccepted}
-use Rattle.cx_rules.proofs.Finite.{in_left, in_right}
-use Rattle.cx_rules.proofs.CircleLemmas.{same_part}
-use Rattle.cx_frames.proofs.RuleLemmas.{number_in}
-use Rattle.cx_control.proofs.GroupLaws.{false_true}
-
-either_in : {A : Type 0} (xs ys : List A) (x : A) → In (xs ++ ys) x → In xs x ⊎ In ys x
-either_in [] ys x i = inr i
-either_in (y ∷ xs) ys x (inl e) = inl (inl e)
-either_in (y ∷ xs) ys x (inr i) = up (either_in xs ys x i)
-  where
-    up : In xs x ⊎ In ys x → In (y ∷ xs) x ⊎ In ys x
-    up (inl j) = inl (inr j)
-    up (inr j) = inr j
+use Rattle.cx_meaning.proofs.SightsLaws.{in_either, in_left, in_right, number_in}
+use Rattle.cx_meaning.proofs.DesignsLemmas.{same_part}
+use Rattle.cx_text.proofs.NumberLaws.{false_true}
 
 module _ (part : PlainComponent) where
   -- all may stand where they stand
@@ -39,7 +29,7 @@ module _ (part : PlainComponent) where
     pub static : (g : ℕ) → In groups g → is_some (group_length part g) ≡ true
 
   both_static : (a b : Bool) (gs hs : List ℕ) → IsStatic a gs → IsStatic b hs → IsStatic (a && b) (gs ++ hs)
-  both_static a b gs hs first second = record { has = ap (λ c. c && b) first.has ∙ second.has; static = λ g i. either g (either_in gs hs g i) }
+  both_static a b gs hs first second = record { has = ap (λ c. c && b) first.has ∙ second.has; static = λ g i. either g (in_either gs hs g i) }
     where
       either : (g : ℕ) → In gs g ⊎ In hs g → is_some (group_length part g) ≡ true
       either g (inl i) = first.static g i
@@ -89,15 +79,6 @@ module _ (part : PlainComponent) where
   static_may (StaticIf length test a b) e = refl
   static_may (StaticRepeat length count a) e = refl
   static_may (Timed k) e = absurd (false_true e)
-
--- a driven cell is driven by one of the groups
-pub driver : (part : PlainComponent) (gs : List ℕ) (c : ℕ) → groups_drive part gs c ≡ true → (g : ℕ) × In gs g × (group_drives part g c ≡ true)
-driver part [] c e = absurd (false_true e)
-driver part (g ∷ gs) c e = by (group_drives part g c) refl e (driver part gs c)
-  where
-    by : (b : Bool) → group_drives part g c ≡ b → (b || groups_drive part gs c) ≡ true → (groups_drive part gs c ≡ true → (h : ℕ) × In gs h × (group_drives part h c ≡ true)) → (h : ℕ) × In (g ∷ gs) h × (group_drives part h c ≡ true)
-    by true here f later = (g, inl refl, here)
-    by false none f later = let r = later f in (r.0, inr r.1, r.2)
 
 -- THE RULES on static control, in a component
 module _ (d : PlainDesign) (accepted : IsAccepted d) (k : ℕ) (within : k < length d.components) where

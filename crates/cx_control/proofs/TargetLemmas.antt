@@ -9,7 +9,7 @@ use Rattle.cx_meaning.specs.declared.ports.PortRef.{PortRef}
 use Rattle.cx_meaning.specs.declared.sights.Seen.{Seen}
 use Rattle.cx_meaning.specs.declared.sights.Seen.TheVariants.{Value, Conflict, Undefined}
 use Rattle.cx_meaning.specs.Designs.{PlainAssign, PlainComponent, group_at}
-use Rattle.cx_meaning.specs.Active.{Active, Owned, Acting, offset_of, if_acting, if_target, acting, same_port, source_order, drivers, only_at}
+use Rattle.cx_meaning.specs.Active.{Active, Owned, Acting, offset_of, same_port, source_order, drivers, only_at}
 use Rattle.cx_meaning.specs.Truths.{Truth, One, Zero, truth_of}
 use Rattle.cx_meaning.specs.Truths as truths
 use Rattle.cx_meaning.specs.Sights.{Look, In, bit_of, guard_truth, Taken, Sources, Stopped, with_source, take_guard, taken, agreed, all_agreed, settle, target_seen}
@@ -18,6 +18,7 @@ use Rattle.cx_rules.proofs.FoundLemmas.{same_is}
 use Rattle.cx_frames.proofs.RuleLemmas.{OwnerOf, continuous, of_group, owner_of}
 use Rattle.cx_control.proofs.LeadsLemmas.{Stands, acting_stands}
 use Rattle.cx_control.proofs.BesideLemmas.{group_stands}
+use Rattle.cx_meaning.proofs.ActiveLemmas.{acting_has}
 
 -- it is 1 only where a source is
 pub record TakenFrom (look : Look) (acts : List Acting) : Type 0 where
@@ -145,22 +146,6 @@ of_filter p (x ∷ list) a i = by (same_port x.target p) refl i (of_filter p lis
     by true e (inl same) later = (inl same, ap (λ (y : PlainAssign). same_port y.target p) (sym same) ∙ e)
     by true e (inr j) later = let r = later j in (inr r.0, r.1)
     by false e j later = let r = later j in (inr r.0, r.1)
-
-acting_has : (act : Active) (p : PortRef) (list : List Owned) (o : Owned) (k : ℕ) → In list o → same_port o.assign.target p ≡ true → offset_of act o.owner ≡ Some k → In (acting act p list) (record { offset = k; assign = o.assign })
-acting_has act p [] o k i e f = absurd i
-acting_has act p (x ∷ list) o k (inl same) e f =
-    subst (λ (y : Owned). In (if_target (same_port y.assign.target p) act y (acting act p list)) (record { offset = k; assign = o.assign })) (sym same)
-    (subst (λ t. In (if_target t act o (acting act p list)) (record { offset = k; assign = o.assign })) (sym e)
-    (subst (λ t. In (if_acting t o.assign (acting act p list)) (record { offset = k; assign = o.assign })) (sym f) (inl refl)))
-acting_has act p (x ∷ list) o k (inr i) e f = by (same_port x.assign.target p) (offset_of act x.owner) (acting_has act p list o k i e f)
-  where
-    by : (b : Bool) (t : Option ℕ) → In (acting act p list) (record { offset = k; assign = o.assign }) → In (if_target b act x (acting act p list)) (record { offset = k; assign = o.assign })
-    by false t j = j
-    by true t j = by_offset (offset_of act x.owner)
-      where
-        by_offset : (u : Option ℕ) → In (if_acting u x.assign (acting act p list)) (record { offset = k; assign = o.assign })
-        by_offset None = j
-        by_offset (Some m) = inr j
 
 module _ (part : PlainComponent) (g : ℕ) (act : Active) (one : (h : ℕ) → act.offset h ≡ only_at g h) (p : PortRef)
     (bare : (o : Owned) → In (source_order part) o → o.owner ≡ None → o.assign.target ≡ p → ⊥) where

@@ -10,7 +10,7 @@ use Rattle.cx_meaning.specs.Designs.{PlainDesign, PlainComponent, PlainGroup, co
 use Rattle.cx_meaning.specs.Instances.{Instance, part_of, tree_of, Path, instance_at}
 use Rattle.cx_meaning.specs.Active.{Active, nothing, only_at, group, comb, entries, Owned, source_order, drivers, offset_of}
 use Rattle.cx_meaning.specs.Sights.{In}
-use Rattle.cx_meaning.specs.Control.{with_comb, groups_of, groups_in_all, group_drives, drives}
+use Rattle.cx_meaning.specs.Control.{with_comb, groups_of, group_drives, drives}
 use Rattle.cx_rules.specs.Footprints.{AssignNames, Reads, Mentions, Depends, at_once, by_way_of, Leads}
 use Rattle.cx_rules.specs.Items.{Context, InStatic, Branch, below_dynamic, Visited, visit, visit_all, statements_in}
 use Rattle.cx_rules.specs.RaceRule.{Arms, arms_of, IsShared}
@@ -18,18 +18,18 @@ use Rattle.cx_rules.specs.Ports.{component_of}
 use Rattle.cx_rules.specs.Spots.{AStatement}
 use Rattle.cx_rules.specs.Accepted.{IsAccepted}
 use Rattle.cx_rules.specs.Circles.{IsAcyclic}
-use Rattle.cx_rules.proofs.Finite.{in_left, in_right}
-use Rattle.cx_rules.proofs.CircleLemmas.{same_part, Reached, a_tree, no_tree, reached}
+use Rattle.cx_rules.proofs.CircleLemmas.{Reached, a_tree, no_tree, reached}
 use Rattle.cx_control.specs.Apart.{IsApart, HasLess}
 use Rattle.cx_control.specs.Together.{or_else, union, IsTogether, at_rest, enabled, in_seq, at_if, in_then, in_else, at_while, in_while, in_repeat, at_offset, in_static_seq, in_static_par, in_static_then, in_static_else, in_static_repeat, in_par, AreTogether, no_arm, an_arm}
-use Rattle.cx_control.proofs.InstanceLemmas.{KeepsPorts, OwnerOf, continuous, of_group, owner_of, there_below, number_in}
+use Rattle.cx_control.proofs.InstanceLemmas.{KeepsPorts, OwnerOf, continuous, of_group, owner_of, there_below}
 use Rattle.cx_control.proofs.LeadsLemmas.{less_acyclic, leads_by}
-use Rattle.cx_control.proofs.PortFlows.{acting_alike}
-use Rattle.cx_control.proofs.UnionLemmas.{union_acyclic, groups_drive_in}
-
--- ACTIVE GROUPS are those of the statement
-none_some : (u : ℕ) → ◌≡◌ {A = Option ℕ} None (Some u) → ⊥
-none_some u e = cc
+use Rattle.cx_control.proofs.UnionLemmas.{union_acyclic}
+use Rattle.cx_meaning.proofs.SightsLaws.{behind_comb, in_left, in_right, number_in}
+use Rattle.cx_text.proofs.OptionLaws.{none_some}
+use Rattle.cx_control.proofs.StandLaws.{groups_all}
+use Rattle.cx_meaning.proofs.DesignsLemmas.{same_part}
+use Rattle.cx_rules.proofs.FrameLemmas.{acting_alike}
+use Rattle.cx_meaning.proofs.ControlLaws.{groups_drive_in}
 
 only_is : (g h o : ℕ) → only_at g h ≡ Some o → g ≡ h
 only_is g h o e = by (nat_eq g h) refl e
@@ -42,21 +42,12 @@ comb_in : (c : Option ℕ) (gs : List ℕ) (g o : ℕ) → (comb c).offset g ≡
 comb_in None gs g o e = absurd (none_some o e)
 comb_in (Some h) gs g o e = inl (only_is h g o e)
 
-with_in : (c : Option ℕ) (gs : List ℕ) (g : ℕ) → In gs g → In (with_comb c gs) g
-with_in None gs g i = i
-with_in (Some h) gs g i = inr i
-
 entry_is : (h k g o : ℕ) → (entries (record { group = h; offset = k } ∷ [])).offset g ≡ Some o → h ≡ g
 entry_is h k g o e = by (nat_eq h g) refl e
   where
     by : (t : Bool) → nat_eq h g ≡ t → (if t then Some k else None) ≡ Some o → h ≡ g
     by true f l = eqb-true h g f
     by false f l = absurd (none_some o l)
-
-all_in : (ss : PlainStatements) (s : PlainStatement) (g : ℕ) → In (list_of ss) s → In (groups_of s) g → In (groups_in_all ss) g
-all_in no_statements s g i j = absurd i
-all_in (a_statement t ss) s g (inl e) j = in_left (groups_of t) (groups_in_all ss) g (subst (λ x. In (groups_of x) g) (sym e) j)
-all_in (a_statement t ss) s g (inr i) j = in_right (groups_of t) (groups_in_all ss) g (all_in ss s g i j)
 
 record OfArm (arms : List PlainStatement) (g : ℕ) : Type 0 where
   arm : PlainStatement
@@ -67,20 +58,20 @@ mutual
   pub together_groups : {s : PlainStatement} {act : Active} → IsTogether s act → (g o : ℕ) → act.offset g ≡ Some o → In (groups_of s) g
   together_groups at_rest g o e = absurd (none_some o e)
   together_groups (enabled {g}) k o e = inl (only_is g k o e)
-  together_groups (in_seq {parts} {place} {s} i t) g o e = all_in parts s g i (together_groups t g o e)
+  together_groups (in_seq {parts} {place} {s} i t) g o e = groups_all parts s g i (together_groups t g o e)
   together_groups (at_if {test} {c} {a} {b}) g o e = comb_in c (groups_of a ++ groups_of b) g o e
-  together_groups (in_then {test} {c} {a} {b} t) g o e = with_in c (groups_of a ++ groups_of b) g (in_left (groups_of a) (groups_of b) g (together_groups t g o e))
-  together_groups (in_else {test} {c} {a} {b} t) g o e = with_in c (groups_of a ++ groups_of b) g (in_right (groups_of a) (groups_of b) g (together_groups t g o e))
+  together_groups (in_then {test} {c} {a} {b} t) g o e = behind_comb c (groups_of a ++ groups_of b) g (in_left (groups_of a) (groups_of b) g (together_groups t g o e))
+  together_groups (in_else {test} {c} {a} {b} t) g o e = behind_comb c (groups_of a ++ groups_of b) g (in_right (groups_of a) (groups_of b) g (together_groups t g o e))
   together_groups (at_while {test} {c} {a}) g o e = comb_in c (groups_of a) g o e
-  together_groups (in_while {test} {c} {a} t) g o e = with_in c (groups_of a) g (together_groups t g o e)
+  together_groups (in_while {test} {c} {a} t) g o e = behind_comb c (groups_of a) g (together_groups t g o e)
   together_groups (in_repeat t) g o e = together_groups t g o e
   together_groups (at_offset {g} {place} n) k o e = inl (entry_is g n k o e)
-  together_groups (in_static_seq {n} {parts} {place} {s} i t) g o e = all_in parts s g i (together_groups t g o e)
-  together_groups (in_static_par {n} {arms} t) g o e = let it = arms_groups t g o e in all_in arms it.arm g it.stands it.has
+  together_groups (in_static_seq {n} {parts} {place} {s} i t) g o e = groups_all parts s g i (together_groups t g o e)
+  together_groups (in_static_par {n} {arms} t) g o e = let it = arms_groups t g o e in groups_all arms it.arm g it.stands it.has
   together_groups (in_static_then {n} {test} {a} {b} t) g o e = in_left (groups_of a) (groups_of b) g (together_groups t g o e)
   together_groups (in_static_else {n} {test} {a} {b} t) g o e = in_right (groups_of a) (groups_of b) g (together_groups t g o e)
   together_groups (in_static_repeat t) g o e = together_groups t g o e
-  together_groups (in_par {arms} t) g o e = let it = arms_groups t g o e in all_in arms it.arm g it.stands it.has
+  together_groups (in_par {arms} t) g o e = let it = arms_groups t g o e in groups_all arms it.arm g it.stands it.has
 
   arms_groups : {ss : List PlainStatement} {act : Active} → AreTogether ss act → (g o : ℕ) → act.offset g ≡ Some o → OfArm ss g
   arms_groups no_arm g o e = absurd (none_some o e)

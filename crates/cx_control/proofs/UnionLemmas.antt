@@ -1,16 +1,16 @@
 -- Nothing leads in a circle under two active sets together that are apart: a circle that meets a cell that the one reads stays
 -- in what it reads, and any other is one under the other set alone.
-use Rattle.std.proofs.Common.{◌≡◌, ℕ, ◌⊎◌, inl, inr, Bool, true, false, ◌||◌, List, [], ◌∷◌, Option, Some, None, refl, sym, ap, ◌∙◌, subst}
+use Rattle.std.proofs.Common.{◌≡◌, ℕ, ◌⊎◌, inl, inr, Bool, true, false, List, [], ◌∷◌, Option, Some, None, refl, sym, ap, ◌∙◌, subst}
 use Rattle.cx_prim.specs.declared.ports.Side.{Side}
 use Rattle.cx_prim.specs.declared.ports.Side.TheVariants as sides
 use Rattle.cx_meaning.specs.declared.ports.PortRef.{PortRef}
 use Rattle.cx_meaning.specs.declared.ports.PortRef.TheVariants as ports
 use Rattle.cx_meaning.specs.Rows.{side_of}
-use Rattle.cx_meaning.specs.Designs.{PlainComponent, PlainStatement, group_at}
+use Rattle.cx_meaning.specs.Designs.{PlainStatement, group_at}
 use Rattle.cx_meaning.specs.Instances.{Instance, At, Nothing, OfRow, OfInstance, part_of, cells_of, cell_at}
 use Rattle.cx_meaning.specs.Active.{Active, Owned, Acting, source_order, drivers, acting, offset_of, same_port, if_target, if_acting}
 use Rattle.cx_meaning.specs.Sights.{In, IsWanted, PartPort, Go, AnInput, AnOutput, ItsDone, part_port}
-use Rattle.cx_meaning.specs.Control.{groups_of, group_drives, groups_drive}
+use Rattle.cx_meaning.specs.Control.{groups_of}
 use Rattle.cx_rules.specs.Footprints.{AssignNames, Reads, driven, Mentions, SideLeads, PartLeads, CellLeads, Leads, Depends, at_once, by_way_of}
 use Rattle.cx_rules.specs.Circles.{IsAcyclic}
 use Rattle.cx_rules.specs.ShapeRules.{is_hole}
@@ -18,9 +18,11 @@ use Rattle.cx_rules.proofs.FoundLemmas.{same_is}
 use Rattle.cx_rules.proofs.ForeignLemmas.{assigns_drive_in}
 use Rattle.cx_control.specs.Apart.{IsApart}
 use Rattle.cx_control.specs.Together.{or_else, union}
-use Rattle.cx_control.proofs.InstanceLemmas.{OwnerOf, continuous, of_group, owner_of, KeepsPorts, source_in}
+use Rattle.cx_control.proofs.InstanceLemmas.{OwnerOf, continuous, of_group, owner_of, KeepsPorts}
 use Rattle.cx_control.proofs.LeadsLemmas.{Stands, acting_stands, leads_by, Inside, leads_inside}
-use Rattle.cx_control.proofs.PortFlows.{acting_alike}
+use Rattle.cx_meaning.proofs.ControlLaws.{groups_drive_in}
+use Rattle.cx_laws.proofs.SourceLemmas.{source_in}
+use Rattle.cx_rules.proofs.FrameLemmas.{acting_alike}
 
 -- an assignment of the list whose owner is active is an active one
 pub stands_acting : (act : Active) (p : PortRef) (list : List Owned) (o : Owned) → In list o → same_port o.assign.target p ≡ true → (u : ℕ) → offset_of act o.owner ≡ Some u
@@ -39,20 +41,6 @@ stands_acting act p (x ∷ rest) o (inr i) e u f = later (same_port x.assign.tar
         by : (k : Option ℕ) → In (if_acting k x.assign (acting act p rest)) (record { offset = u; assign = o.assign })
         by None = j
         by (Some n) = inr j
-
-or_first : (a b : Bool) → a ≡ true → (a || b) ≡ true
-or_first true b e = refl
-or_first false b e = absurd (cc)
-
-or_second : (a b : Bool) → b ≡ true → (a || b) ≡ true
-or_second true b e = refl
-or_second false b e = e
-
--- what a group drives a statement drives that has it
-pub groups_drive_in : (part : PlainComponent) (gs : List ℕ) (g c : ℕ) → In gs g → group_drives part g c ≡ true → groups_drive part gs c ≡ true
-groups_drive_in part [] g c i e = absurd i
-groups_drive_in part (h ∷ gs) g c (inl f) e = or_first (group_drives part h c) (groups_drive part gs c) (ap (λ k. group_drives part k c) f ∙ e)
-groups_drive_in part (h ∷ gs) g c (inr i) e = or_second (group_drives part h c) (groups_drive part gs c) (groups_drive_in part gs g c i e)
 
 module _ (i : Instance) (s : PlainStatement) (act other : Active) (apart : IsApart (part_of i) s act (union act other)) (keeps : (o : Owned) → In (source_order (part_of i)) o → KeepsPorts o)
     (no_output : (o : Owned) → In (source_order (part_of i)) o → (n : ℕ) → AssignNames o.assign (ports.Output n) → ⊥) where

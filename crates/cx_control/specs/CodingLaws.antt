@@ -6,6 +6,7 @@ use Rattle.cx_meaning.specs.Answers.{Test, Holds, Fails, Unclear}
 use Rattle.cx_lockstep.specs.Worlds.{Store, Control, At, Done, Machine, step}
 use Rattle.cx_lockstep.specs.Machines.{within, InSeq, First, Second, second_start, seq_machine, InPar, Both, LeftOnly, RightOnly, left_of, right_of, join, par_machine, InIf, AtTest, InThen, InElse, if_machine, by_test, InWhile, AtHead, InBody, while_machine, InRepeat, in_round, next_round, repeat_machine, done_machine}
 use Rattle.cx_control.specs.Codings.{Coding, Bank, beside, shift, zeros, at_fine, unit_coding, no_coding, seq_number, seq_other, seq_place, seq_fine, seq_coding, branch_of, if_number, if_other, if_place, if_fine, if_coding, while_number, while_other, while_place, while_fine, while_coding, turned, repeat_other, IsFineRound, repeat_coding, bank_code, control_at, region_bank, done_bank, left_control, right_control, AreFine, par_bank, place_in, only_place, bank_coding}
+use Rattle.cx_control.proofs.CodingsLemmas.{beside_none}
 
 -- the same on so many first numbers
 abbrev pub SameUpTo : ℕ → (ℕ → ℕ) → (ℕ → ℕ) → Type 0
@@ -18,13 +19,6 @@ beside_right : (count : ℕ) (a b : ℕ → ℕ) (j : ℕ) → shift count (besi
 beside_right count a b j =
     let back : (count + j) - count ≡ j = omega arith in
     ap (λ t. if t then a (count + j) else b ((count + j) - count)) (le-ltb (count + j) count (omega arith)) ∙ ap b back
-
-beside_zeros : (count : ℕ) (a b : ℕ → ℕ) → ((j : ℕ) → a j ≡ 0) → ((j : ℕ) → b j ≡ 0) → (j : ℕ) → beside count a b j ≡ 0
-beside_zeros count a b first second j = either (nat_lt j count)
-  where
-    either : (t : Bool) → ◌≡◌ {A = ℕ} (if t then a j else b (j - count)) 0
-    either true = first j
-    either false = second (j - count)
 
 left_same : (count more : ℕ) (a b : ℕ → ℕ) → SameUpTo (count + more) a b → SameUpTo count a b
 left_same count more a b same = λ j less. same j (omega arith)
@@ -146,7 +140,7 @@ module _ {X : Type 0} {V : X → Type 0} where
       below = seq_below;
       starts = within_fine a.IsFine (seq_fine a b) First (second_start A B) (λ c is. is) second_fine A.start ia.starts;
       zero_at = λ p e. subst (λ q. seq_number a b q ≡ 0) (is_front p e) (ia.zero_at front.first front.starts);
-      zeros_at = λ p e. subst (λ q. (j : ℕ) → seq_other a b q j ≡ 0) (is_front p e) (beside_zeros a.extra (a.other front.first) zeros (ia.zeros_at front.first front.starts) (λ j. refl));
+      zeros_at = λ p e. subst (λ q. (j : ℕ) → seq_other a b q j ≡ 0) (is_front p e) (beside_none a.extra (a.other front.first) zeros (ia.zeros_at front.first front.starts) (λ j. refl));
       stays = seq_stays;
     }
       where
@@ -339,7 +333,7 @@ module _ {X : Type 0} {V : X → Type 0} where
           ∙ ap (join (left_control k)) (ib.local _ (b.code (right_control k)) (λ j less. beside_right a.count (a.code (left_control k)) (b.code (right_control k)) j) ∙ ib.decoded (right_control k) (right_fine k fine))
           ∙ joined k;
       starts = join_fine A.start B.start ia.starts ib.starts;
-      zeros_at = beside_zeros a.count _ _ (λ j. ap (λ k. a.code k j) (left_joined A.start B.start) ∙ ia.zeros_at j) (λ j. ap (λ k. b.code k j) (right_joined A.start B.start) ∙ ib.zeros_at j);
+      zeros_at = beside_none a.count _ _ (λ j. ap (λ k. a.code k j) (left_joined A.start B.start) ∙ ia.zeros_at j) (λ j. ap (λ k. b.code k j) (right_joined A.start B.start) ∙ ib.zeros_at j);
       stays = λ p s fine. join_fine (step A (left_of p) s) (step B (right_of p) s) (step_fine A a.IsFine ia.stays (left_of p) s (AreFine.left fine)) (step_fine B b.IsFine ib.stays (right_of p) s (AreFine.right fine));
     }
 

@@ -13,7 +13,6 @@ pub mod DesignRuns
 pub mod InstanceRules
 pub mod CodingLaws
 pub mod StatementCodingLaws
-pub mod ControlCodes
 pub mod CallRules
 pub mod ControlRules
 pub mod Keeping

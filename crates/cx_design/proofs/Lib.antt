@@ -1,1 +1,2 @@
 pub mod DesignFacts
+pub mod GroupsLemmas

@@ -1,7 +1,7 @@
 -- What leads on does so by an assignment of the port, or as a combinational output on an input that it reads.
-use Rattle.std.proofs.Common.{◌≡◌, ℕ, zero, suc, ◌+◌, inl, inr, ◌⊎◌, ⊎_elim, Bool, true, false, true≢false, ◌&&◌, Option, Some, None, List, [], ◌∷◌, ◌++◌, get_or, nat_eq, nat_lt, refl, sym, ap, ◌∙◌, subst, arith}
+use Rattle.std.proofs.Common.{◌≡◌, ℕ, zero, suc, ◌+◌, inl, inr, ◌⊎◌, ⊎_elim, Bool, true, false, true≢false, Option, Some, None, List, [], ◌∷◌, ◌++◌, get_or, nat_eq, nat_lt, refl, sym, ap, ◌∙◌, subst, arith}
 use Rattle.std.specs.Prelude.{if◌then◌else◌}
-use Rattle.std.proofs.lemmas.Bool.{eq-eqb, eqb-true}
+use Rattle.std.proofs.lemmas.Bool.{eqb-true}
 use Rattle.cx_prim.specs.declared.ports.Side.{Side}
 use Rattle.cx_prim.specs.declared.ports.Side.TheVariants as sides
 use Rattle.cx_prim.specs.Rows.{Row, is_output_side}
@@ -10,44 +10,25 @@ use Rattle.cx_meaning.specs.declared.ports.PortRef.TheVariants as ports
 use Rattle.cx_meaning.specs.Rows.{side_of}
 use Rattle.cx_meaning.specs.Designs.{PlainAssign, PlainGroup, PlainComponent, group_at, no_group}
 use Rattle.cx_meaning.specs.Instances.{Instance, At, Nothing, OfRow, OfInstance, cell_at, cells_of, part_of}
-use Rattle.cx_meaning.specs.Active.{Active, Acting, nothing, group, only_at, Owned, owned, owned_by_groups, no_later, placed_in, by_place, source_order, offset_of, if_acting, if_target, acting, same_port, drivers}
+use Rattle.cx_meaning.specs.Active.{Active, Acting, nothing, group, only_at, Owned, owned, owned_by_groups, placed_in, by_place, source_order, offset_of, if_acting, if_target, acting, same_port, drivers}
 use Rattle.cx_meaning.specs.Sights.{In, PartPort, Go, AnInput, AnOutput, ItsDone, part_port}
 use Rattle.cx_rules.specs.Footprints.{AssignNames, Mentions, SideLeads, PartLeads, CellLeads, Leads}
 use Rattle.cx_rules.specs.Ports.{is_source_only, is_cell_output, is_part_output}
 use Rattle.cx_rules.specs.Wellformed.{port_count}
-use Rattle.cx_rules.proofs.Finite.{in_left, in_right}
 use Rattle.cx_rules.proofs.FoundLemmas.{same_is}
 use Rattle.cx_rules.proofs.ForeignLemmas.{sorted_among, owned_among, split, groups_among}
 use Rattle.cx_design_leads.specs.Nodes.{below, node_of}
 use Rattle.cx_design_leads.specs.Edges.{LeadsInGroup, ReadsInRow}
-
--- SOURCE ORDER has each assignment
-placed_first : (a : Owned) (list : List Owned) → In (placed_in a list) a
-placed_first a [] = inl refl
-placed_first a (b ∷ rest) = choice (no_later a.assign.place b.assign.place) (placed_first a rest)
-  where
-    choice : (t : Bool) → In (placed_in a rest) a → In (if t then a ∷ b ∷ rest else b ∷ placed_in a rest) a
-    choice true i = inl refl
-    choice false i = inr i
-
-placed_still : (a : Owned) (list : List Owned) (o : Owned) → In list o → In (placed_in a list) o
-placed_still a [] o i = absurd i
-placed_still a (b ∷ rest) o i = choice (no_later a.assign.place b.assign.place) i (placed_still a rest o)
-  where
-    choice : (t : Bool) → In (b ∷ rest) o → (In rest o → In (placed_in a rest) o) → In (if t then a ∷ b ∷ rest else b ∷ placed_in a rest) o
-    choice true j h = inr j
-    choice false (inl e) h = inl e
-    choice false (inr j) h = inr (h j)
+use Rattle.cx_meaning.proofs.PortsLemmas.{same_self}
+use Rattle.cx_meaning.proofs.ActiveLemmas.{only_self, placed_still, placed_first}
+use Rattle.cx_text.proofs.OptionLaws.{none_some_also}
+use Rattle.cx_meaning.proofs.DesignsLemmas.{owned_has}
+use Rattle.cx_meaning.proofs.SightsLaws.{in_left, in_right}
 
 sorted_has : (list : List Owned) (o : Owned) → In list o → In (by_place list) o
 sorted_has [] o i = i
 sorted_has (a ∷ rest) o (inl e) = subst (In (placed_in a (by_place rest))) e (placed_first a (by_place rest))
 sorted_has (a ∷ rest) o (inr i) = placed_still a (by_place rest) o (sorted_has rest o i)
-
-owned_has : (owner : Option ℕ) (list : List PlainAssign) (a : PlainAssign) → In list a → In (owned owner list) (record { owner = owner; assign = a })
-owned_has owner [] a i = absurd i
-owned_has owner (x ∷ list) a (inl e) = inl (ap (λ y. record { owner = owner; assign = y }) e)
-owned_has owner (x ∷ list) a (inr i) = inr (owned_has owner list a i)
 
 groups_have : (k : ℕ) (groups : List PlainGroup) (g : ℕ) (a : PlainAssign) → In (get_or groups g no_group).assigns a → In (owned_by_groups k groups) (record { owner = Some (k + g); assign = a })
 groups_have k [] g a i = absurd i
@@ -99,13 +80,6 @@ acting_acts act p (o ∷ rest) b i = of_target (same_port o.assign.target p) ref
     of_target true e i h = of_offset e (offset_of act o.owner) refl i h
     of_target false e i h = later_acts o (h i)
 
-same_self : (p : PortRef) → same_port p p ≡ true
-same_self (ports.Cell c p) = ap (λ b. b && nat_eq p p) (eq-eqb c c refl) ∙ eq-eqb p p refl
-same_self (ports.Input n) = eq-eqb n n refl
-same_self (ports.Output n) = eq-eqb n n refl
-same_self (ports.Done g) = eq-eqb g g refl
-same_self (ports.Literal w v) = ap (λ b. b && nat_eq v v) (eq-eqb w w refl) ∙ eq-eqb v v refl
-
 acts_acting : (act : Active) (p : PortRef) (list : List Owned) (o : Owned) (k : ℕ) → In list o → o.assign.target ≡ p → offset_of act o.owner ≡ Some k → In (acting act p list) (record { offset = k; assign = o.assign })
 acts_acting act p [] o k i e f = absurd i
 acts_acting act p (x ∷ rest) o k (inl g) e f =
@@ -138,21 +112,12 @@ pub record Drives (list : List PlainAssign) (p q : PortRef) : Type 0 where
   pub target : assign.target ≡ p
   pub names : AssignNames assign q
 
-pub none_some : (n : ℕ) → None ≡ Some n → ⊥
-none_some n e = cc
-
-some_same : (m n : ℕ) → Some m ≡ Some n → m ≡ n
-some_same m n e = cc
-
-only_self : (g : ℕ) → only_at g g ≡ Some 0
-only_self g = ap (λ b. if b then Some 0 else None) (eq-eqb g g refl)
-
 only_is : (g h k : ℕ) → only_at g h ≡ Some k → g ≡ h
 only_is g h k e = choice (nat_eq g h) refl e
   where
     choice : (b : Bool) → nat_eq g h ≡ b → (if b then Some 0 else None) ≡ Some k → g ≡ h
     choice true f e = eqb-true g h f
-    choice false f e = absurd (none_some k e)
+    choice false f e = absurd (none_some_also k e)
 
 -- the owner of an assignment: none, or a group
 module _ (part : PlainComponent) (p q : PortRef) where
@@ -168,7 +133,7 @@ module _ (part : PlainComponent) (p q : PortRef) where
   pub bare_drives : Mentions (drivers part nothing p) q → Drives part.always p q
   bare_drives m =
       let d = driver_of part nothing p q m in
-      ⊎_elim (λ l. l.1) (λ r. absurd (none_some d.offset (ap (offset_of nothing) (sym r.1) ∙ d.acts))) (of_owner nothing d)
+      ⊎_elim (λ l. l.1) (λ r. absurd (none_some_also d.offset (ap (offset_of nothing) (sym r.1) ∙ d.acts))) (of_owner nothing d)
 
   pub drives_bare : Drives part.always p q → Mentions (drivers part nothing p) q
   drives_bare d = mentions_of part nothing p q (record { owner = None; assign = d.assign }) 0 (always_stands part d.assign d.stands) d.target refl d.names
@@ -196,7 +161,7 @@ no_port first n m e = choice (nat_lt n 0) refl e
   where
     choice : (b : Bool) → nat_lt n 0 ≡ b → (if b then Some (first + n) else None) ≡ Some m → ⊥
     choice true f e = grind arith
-    choice false f e = none_some m e
+    choice false f e = none_some_also m e
 
 module _ (i : Instance) (act : Active) (c p : ℕ) (q : PortRef) where
   abbrev Drivable : Type 0
@@ -248,7 +213,7 @@ driven_leads i act (ports.Cell c p) q m e f d = at_joins i act c p q (cell_at (c
 driven_leads i act (ports.Input n) q m e f d = absurd (true≢false f)
 driven_leads i act (ports.Output n) q m e f d = d
 driven_leads i act (ports.Done g) q m e f d = d
-driven_leads i act (ports.Literal w v) q m e f d = absurd (none_some m e)
+driven_leads i act (ports.Literal w v) q m e f d = absurd (none_some_also m e)
 
 pub row_leads : (i : Instance) (act : Active) (p q : PortRef) → ReadsInRow i p q → Leads i act p q
 row_leads i act p q r =

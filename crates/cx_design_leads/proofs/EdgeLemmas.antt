@@ -13,28 +13,24 @@ use Rattle.cx_prim.specs.Rows.{Row}
 use Rattle.cx_meaning.specs.declared.ports.PortRef.{PortRef}
 use Rattle.cx_meaning.specs.declared.ports.PortRef.TheVariants as ports
 use Rattle.cx_meaning.specs.declared.ports.PlacedPort.{PlacedPort}
-use Rattle.cx_prim.specs.declared.ports.PortRow.{PortRow}
-use Rattle.cx_meaning.specs.Rows.{side_from, side_of}
+use Rattle.cx_meaning.specs.Rows.{side_of}
 use Rattle.cx_design.specs.declared.groups.Group.{Group}
 use Rattle.cx_design.specs.PlainForms.{plain_assigns, plain_group}
 use Rattle.cx_meaning.specs.Designs.{no_group, PlainGuard, Always, Atom, Negation, All, Any, Compared, Within, PlainGuards, no_guards, a_guard, PlainAssign, group_at}
-use Rattle.cx_meaning.specs.Instances.{Instance, Nothing, OfRow, OfInstance, cell_at, cells_of, part_of}
+use Rattle.cx_meaning.specs.Instances.{Instance, OfRow, cell_at, cells_of, part_of}
 use Rattle.cx_meaning.specs.Active.{nothing}
 use Rattle.cx_meaning.specs.Sights.{In, GuardNames, AnyNames}
 use Rattle.cx_rules.specs.Items.{operands_of, operands_in}
 use Rattle.cx_rules.specs.Footprints.{Leads}
 use Rattle.cx_rules.specs.Ports.{is_source_only}
-use Rattle.cx_rules.proofs.Finite.{in_left, in_right}
 use Rattle.cx_design_leads.specs.Nodes.{node_of, node_count, cell_count}
 use Rattle.cx_design_leads.specs.Edges.{Between, HasEdges, IsSpread, LeadsInGroup}
 use Rattle.cx_design_leads.specs.Links.{driven_node, is_combinational, ToPort, ToPorts, ToNamed, OfAssign, OfAssigns, ToInputs, OfPort, OfPorts, OfCell, OfCells}
 use Rattle.cx_design_leads.proofs.NodeLemmas.{cell_there}
-use Rattle.cx_design_leads.proofs.DriverLemmas.{bare_drives, drives_bare, leads_either, either_leads, row_leads, none_some}
-
-in_either : {A : Type 0} (xs ys : List A) (x : A) → In (xs ++ ys) x → In xs x ⊎ In ys x
-in_either [] ys x i = inr i
-in_either (y ∷ xs) ys x (inl e) = inl (inl e)
-in_either (y ∷ xs) ys x (inr i) = ⊎_elim (λ p. inl (inr p)) (λ q. inr q) (in_either xs ys x i)
+use Rattle.cx_design_leads.proofs.DriverLemmas.{bare_drives, drives_bare, leads_either, either_leads, row_leads}
+use Rattle.cx_meaning.proofs.SightsLaws.{in_either, in_left, in_right}
+use Rattle.cx_meaning.proofs.RowsLemmas.{side_below}
+use Rattle.cx_text.proofs.OptionLaws.{none_some_also}
 
 -- OPERANDS of a guard are what it names
 mutual
@@ -82,11 +78,6 @@ pub take_more_has : {A : Type 0} (xs : List A) (k : ℕ) (x y : A) → k < lengt
 take_more_has xs k x y h e i =
     subst (λ l. In l y) (sym (take_more xs k x h)) (⊎_elim (λ j. in_left (take k xs) (get_or xs k x ∷ []) y j) (λ f. in_right (take k xs) (get_or xs k x ∷ []) y (inl (e ∙ f))) i)
 
-pub side_below : (list : List PortRow) (p : ℕ) → side_from list p ≡ Output → p < length list
-side_below [] p e = absurd (cc)
-side_below (port ∷ list) zero e = omega arith
-side_below (port ∷ list) (suc p) e = let rest = side_below list p e in omega (arith, rest)
-
 module _ (i : Instance) where
   -- TO PORTS
   pub port_added : (g after : Edges) (from to : ℕ) (q : PortRef) → node_of i q ≡ Some to → Adds g (IsEdge from to) after → Adds g (ToPort i from q) after
@@ -98,10 +89,10 @@ module _ (i : Instance) where
       some_is x y f = cc
 
   pub no_port_added : (g : Edges) (from : ℕ) (q : PortRef) → node_of i q ≡ None → Adds g (ToPort i from q) g
-  no_port_added g from q e = adds_none g (ToPort i from q) (λ m n h. none_some n (sym e ∙ h.1))
+  no_port_added g from q e = adds_none g (ToPort i from q) (λ m n h. none_some_also n (sym e ∙ h.1))
     where
-      none_some : (x : ℕ) → None ≡ Some x → ⊥
-      none_some x f = cc
+      none_some_also : (x : ℕ) → None ≡ Some x → ⊥
+      none_some_also x f = cc
 
   pub no_ports : (g : Edges) (from : ℕ) → Adds g (ToPorts i from []) g
   no_ports g from = adds_none g (ToPorts i from []) (λ m n h. h.1.1)
@@ -134,10 +125,10 @@ module _ (i : Instance) where
       some_is x y f = cc
 
   pub no_assign_added : (g : Edges) (a : PlainAssign) → driven_node i a.target ≡ None → Adds g (OfAssign i a) g
-  no_assign_added g a e = adds_none g (OfAssign i a) (λ m n h. none_some m (sym e ∙ h.0))
+  no_assign_added g a e = adds_none g (OfAssign i a) (λ m n h. none_some_also m (sym e ∙ h.0))
     where
-      none_some : (x : ℕ) → None ≡ Some x → ⊥
-      none_some x f = cc
+      none_some_also : (x : ℕ) → None ≡ Some x → ⊥
+      none_some_also x f = cc
 
   pub no_assigns : (g : Edges) → Adds g (OfAssigns i []) g
   no_assigns g = adds_none g (OfAssigns i []) (λ m n h. h.1)
@@ -184,10 +175,10 @@ module _ (i : Instance) where
   no_output g c p row d = adds_none g (OfPort i c row p) (λ m n h. d h.0)
 
   pub no_node_output : (g : Edges) (c p : ℕ) (row : Row) → node_of i (ports.Cell c p) ≡ None → Adds g (OfPort i c row p) g
-  no_node_output g c p row e = adds_none g (OfPort i c row p) (λ m n h. none_some m (sym e ∙ h.1))
+  no_node_output g c p row e = adds_none g (OfPort i c row p) (λ m n h. none_some_also m (sym e ∙ h.1))
     where
-      none_some : (x : ℕ) → None ≡ Some x → ⊥
-      none_some x f = cc
+      none_some_also : (x : ℕ) → None ≡ Some x → ⊥
+      none_some_also x f = cc
 
   pub no_outputs : (g : Edges) (c : ℕ) (row : Row) → Adds g (OfPorts i c row 0) g
   no_outputs g c row = adds_none g (OfPorts i c row 0) (λ m n h. let none : h.0 < 0 = h.1 in omega (arith, none))
@@ -254,11 +245,6 @@ map_take_more f xs k x y h e i = in_map_last f (take k xs) x y (subst (λ l. In 
 pub take_more_map : {A B : Type 0} (f : A → B) (xs : List A) (k : ℕ) (x : A) (y : B) → k < length xs → get_or xs k x ≡ x → In (map f (take k xs)) y ⊎ (f x ≡ y) → In (map f (take (k + 1) xs)) y
 take_more_map f xs k x y h e i = subst (λ l. In (map f l) y) (sym (take_more xs k x h ∙ ap (λ z. take k xs ++ z ∷ []) e)) (map_last_in f (take k xs) x y i)
 
-pub get_same : {A : Type 0} (xs : List A) (k : ℕ) (d e : A) → k < length xs → get_or xs k d ≡ get_or xs k e
-get_same [] k d e h = absurd (omega (arith, h))
-get_same (x ∷ xs) zero d e h = refl
-get_same (x ∷ xs) (suc k) d e h = get_same xs k d e (omega (arith, h))
-
 -- THE TARGETS of a group, with one more
 pub spread_more : (i : Instance) (count : ℕ) (g after : Edges) (targets later : List ℕ) (from : ℕ) (a : PlainAssign) → IsSpread count g targets → from < count
     → Adds g (ToNamed i from a) after → later ≡ targets ++ from ∷ [] → IsSpread count after later
@@ -287,7 +273,7 @@ pub driven_is : (i : Instance) (p : PortRef) (m : ℕ) → driven_node i p ≡ S
 driven_is i p m e = choice (is_source_only i p) refl e
   where
     choice : (b : Bool) → is_source_only i p ≡ b → (if b then None else node_of i p) ≡ Some m → (is_source_only i p ≡ false) × (node_of i p ≡ Some m)
-    choice true f g = absurd (none_some m g)
+    choice true f g = absurd (none_some_also m g)
     choice false f g = (f, g)
 
 is_driven : (i : Instance) (p : PortRef) (m : ℕ) → is_source_only i p ≡ false → node_of i p ≡ Some m → driven_node i p ≡ Some m
@@ -352,9 +338,3 @@ pub found_assigns : (groups : List Group) (g : ℕ) (x : Group) → g < length g
 found_assigns [] g x h e = absurd (omega (arith, h))
 found_assigns (y ∷ groups) zero x h e = ap (λ (v : Group). plain_assigns v.assigns.items) e
 found_assigns (y ∷ groups) (suc g) x h e = found_assigns groups g x (omega (arith, h)) e
-
-pub nothing_row : (row : Row) → Nothing ≡ OfRow row → ⊥
-nothing_row row e = cc
-
-pub instance_row : (child : Instance) (row : Row) → OfInstance child ≡ OfRow row → ⊥
-instance_row child row e = cc

@@ -12,20 +12,14 @@ use Rattle.cx_design.specs.PlainForms.{plain_component, plain_parts}
 use Rattle.std.proofs.lemmas.List.{length-map}
 use Rattle.cx_rules.specs.Wellformed.{port_count, IsThere}
 use Rattle.cx_design_leads.specs.Nodes.{ports_before, cell_count, first_input, first_output, first_done, node_count, below, node_of}
-
-pub some_is : (m n : ℕ) → Some m ≡ Some n → m ≡ n
-some_is m n e = cc
+use Rattle.cx_text.proofs.OptionLaws.{some_is}
+use Rattle.cx_text.proofs.NumberLaws.{lt_true as true_lt, true_lt as lt_true}
+use Rattle.cx_rules.proofs.PortsLemmas.{part_is as component_part}
 
 -- below
 record IsBelow (count first n m : ℕ) : Type 0 where
   lt : n < count
   is : m ≡ first + n
-
-lt_true : (n count : ℕ) → nat_lt n count ≡ true → n < count
-lt_true n count e = grind arith
-
-true_lt : (n count : ℕ) → n < count → nat_lt n count ≡ true
-true_lt n count h = grind arith
 
 is_below : (count first n m : ℕ) → below count first n ≡ Some m → IsBelow count first n m
 is_below count first n m e = choice (nat_lt n count) refl e
@@ -157,13 +151,6 @@ component_cells d k h = choice (length d.components) h
     choice : (n : ℕ) → k < n → cell_count (cells_of (tree_within d n k)) ≡ length (component_at d k).cells
     choice zero h = absurd (omega (arith, h))
     choice (suc n) h = count_cells (tree_within d n) (component_at d k).cells
-
-pub component_part : (d : PlainDesign) (k : ℕ) → part_of (component_of d k) ≡ component_at d k
-component_part d k = choice (length d.components)
-  where
-    choice : (n : ℕ) → part_of (tree_within d n k) ≡ component_at d k
-    choice zero = refl
-    choice (suc n) = refl
 
 pub cells_of_part : (components : List Component) (main k : ℕ) (part : Component) → k < length components → plain_component part ≡ component_at (plain_parts components main) k
     → length part.cells.items ≡ cell_count (cells_of (component_of (plain_parts components main) k))

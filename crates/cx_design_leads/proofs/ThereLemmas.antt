@@ -1,9 +1,7 @@
 -- In a component of a design a port that leads on has a node.
 use Rattle.std.proofs.Common.{◌≡◌, ℕ, ◌<◌, ⊎_elim, Option, Some, None, length, sym, ap, ◌∙◌, subst}
-use Rattle.std.proofs.lemmas.Bool.{cases_lt}
-use Rattle.std.proofs.lemmas.List.{get_or_past}
 use Rattle.cx_meaning.specs.declared.ports.PortRef.{PortRef}
-use Rattle.cx_meaning.specs.Designs.{PlainAssign, PlainComponent, PlainDesign, component_at, group_at, no_group}
+use Rattle.cx_meaning.specs.Designs.{PlainAssign, PlainComponent, PlainDesign, component_at, group_at}
 use Rattle.cx_meaning.specs.Instances.{Instance, At, cell_at, cells_of, part_of}
 use Rattle.cx_meaning.specs.Active.{Active}
 use Rattle.cx_meaning.specs.Sights.{In}
@@ -12,12 +10,11 @@ use Rattle.cx_rules.specs.Ports.{component_of}
 use Rattle.cx_rules.specs.Wellformed.{IsDesign, StandsIn, port_count}
 use Rattle.cx_design_leads.specs.Nodes.{node_of, ports_before}
 use Rattle.cx_design_leads.specs.Edges.{ReadsInRow}
-use Rattle.cx_design_leads.proofs.NodeLemmas.{below_is, has_node, component_part}
-use Rattle.cx_design_leads.proofs.EdgeLemmas.{side_below}
+use Rattle.cx_design_leads.proofs.NodeLemmas.{below_is, has_node}
 use Rattle.cx_design_leads.proofs.DriverLemmas.{driver_of, of_owner, leads_either}
-
-group_there : (part : PlainComponent) (g : ℕ) (a : PlainAssign) → In (group_at part g).assigns a → g < length part.groups
-group_there part g a i = ⊎_elim (λ l. l) (λ l. let none : In no_group.assigns a = subst (λ x. In x.assigns a) (get_or_past part.groups g no_group l) i in absurd none) (cases_lt g (length part.groups))
+use Rattle.cx_meaning.proofs.DesignsLemmas.{group_there}
+use Rattle.cx_rules.proofs.PortsLemmas.{part_is}
+use Rattle.cx_meaning.proofs.RowsLemmas.{side_below}
 
 row_node : (i : Instance) (p q : PortRef) → ReadsInRow i p q → (m : ℕ) × (node_of i p ≡ Some m)
 row_node i p q r =
@@ -34,10 +31,10 @@ module _ (d : PlainDesign) (k : ℕ) (design : IsDesign d) (within : k < length 
       ⊎_elim
       (λ e. ⊎_elim
       (λ o. let a = o.1 in
-      let n = assign_node None a.assign (subst (λ (part : PlainComponent). In part.always a.assign) (component_part d k) a.stands) in
+      let n = assign_node None a.assign (subst (λ (part : PlainComponent). In part.always a.assign) (part_is d k) a.stands) in
       (n.0, ap (node_of i) (sym a.target) ∙ n.1))
       (λ o. let a = o.2 in
-      let s : In (group_at (component_at d k) o.0).assigns a.assign = subst (λ (part : PlainComponent). In (group_at part o.0).assigns a.assign) (component_part d k) a.stands in
+      let s : In (group_at (component_at d k) o.0).assigns a.assign = subst (λ (part : PlainComponent). In (group_at part o.0).assigns a.assign) (part_is d k) a.stands in
       let n = assign_node (Some o.0) a.assign (group_there (component_at d k) o.0 a.assign s, s) in
       (n.0, ap (node_of i) (sym a.target) ∙ n.1))
       (of_owner (part_of i) p q act (driver_of (part_of i) act p q e.1)))

@@ -13,6 +13,8 @@ use Rattle.cx_meaning.specs.Rows.{side_from}
 use Rattle.cx_meaning.specs.Designs.{PlainKind, OfPrimitive, OfComponent, PlainCell, PlainDesign, component_at}
 use Rattle.cx_meaning.specs.Instances.{Instance, Cells, At, Nothing, OfRow, OfInstance, part_of, cells_of, cell_at, add_cell, cells_for, tree_within}
 use Rattle.cx_rules.specs.Ports.{component_of}
+use Rattle.cx_meaning.proofs.DesignsLemmas.{same_part}
+use Rattle.cx_meaning.proofs.InstancesLemmas.{kind_skip}
 
 abbrev side_or : Side → Option PortRow → Side
 side_or other None = other
@@ -22,11 +24,6 @@ pub side_there : (ports : List PortRow) (p : ℕ) (row : PortRow) → slice_get 
 side_there [] p row e = absurd (cc)
 side_there (port ∷ ports) zero row e = ap (λ o. side_or Registered o) (sym e)
 side_there (port ∷ ports) (suc p) row e = side_there ports p row e
-
-pub side_gone : (ports : List PortRow) (p : ℕ) → slice_get ports p ≡ None → Registered ≡ side_from ports p
-side_gone [] p e = refl
-side_gone (port ∷ ports) zero e = absurd (cc)
-side_gone (port ∷ ports) (suc p) e = side_gone ports p e
 
 abbrev pub at_kind : (ℕ → Instance) → PlainKind → At
 at_kind child (OfPrimitive p) = OfRow (row_of p)
@@ -40,24 +37,16 @@ at_first : (child : ℕ → Instance) (kind : PlainKind) (rest : Cells) → cell
 at_first child (OfPrimitive p) rest = refl
 at_first child (OfComponent j) rest = refl
 
-at_next : (child : ℕ → Instance) (kind : PlainKind) (rest : Cells) (c : ℕ) → cell_at (add_cell child kind rest) (suc c) ≡ cell_at rest c
-at_next child (OfPrimitive p) rest c = refl
-at_next child (OfComponent j) rest c = refl
-
 at_number : (child : ℕ → Instance) (cells : List PlainCell) (c : ℕ) → cell_at (cells_for child cells) c ≡ at_cell child (slice_get cells c)
 at_number child [] c = refl
 at_number child (cell ∷ cells) zero = at_first child cell.kind (cells_for child cells)
-at_number child (cell ∷ cells) (suc c) = at_next child cell.kind (cells_for child cells) c ∙ at_number child cells c
-
-pub part_within : (d : PlainDesign) (n j : ℕ) → part_of (tree_within d n j) ≡ component_at d j
-part_within d zero j = refl
-part_within d (suc n) j = refl
+at_number child (cell ∷ cells) (suc c) = kind_skip child cell.kind (cells_for child cells) c ∙ at_number child cells c
 
 -- what stands at a cell is what its kind says, by instances of the design's components
 pub at_component : (d : PlainDesign) (k c n : ℕ) → 0 < n
     → (child : ℕ → Instance) × (cell_at (cells_of (tree_within d n k)) c ≡ at_cell child (slice_get (component_at d k).cells c)) × ((j : ℕ) → part_of (child j) ≡ component_at d j)
 at_component d k c zero h = absurd (omega (arith, h))
-at_component d k c (suc n) h = (tree_within d n, at_number (tree_within d n) (component_at d k).cells c, part_within d n)
+at_component d k c (suc n) h = (tree_within d n, at_number (tree_within d n) (component_at d k).cells c, same_part d n)
 
 abbrev cell_or : PlainCell → Option PlainCell → PlainCell
 cell_or other None = other

@@ -6,7 +6,8 @@ use Rattle.cx_rules.specs.Spots.{Part, Itself, AnAssign, AStatement, AGroup, Who
 use Rattle.cx_rules.specs.Accepted.{number_of, part_key, comes_before}
 use Rattle.cx_design_parts.specs.Breaks.{Broken, key, earlier, first_of}
 use Rattle.cx_design_parts.specs.Answers.{AreBreaks, IsAnswer, answer_of}
-use Rattle.cx_design_parts.proofs.Order.{not_before_itself, not_before_later, not_both}
+use Rattle.cx_design_parts.proofs.Order.{not_before_later, not_both}
+use Rattle.cx_rules.proofs.KeyOrder.{before_irreflexive}
 
 -- of breaks, the first: one of them that none of them comes before
 abbrev IsFirst : (Broken → Type 0) → Option Broken → Type 0
@@ -24,13 +25,13 @@ Has best bs b = OneOf best b ⊎ In bs b
 kept : (a b : Broken) (t : Bool) → comes_before (key b) (key a) ≡ t → (x : Broken) → (a ≡ x) ⊎ (b ≡ x)
     → (y : Broken) → OneOf (cond t (Some b) (Some a)) y → comes_before (key x) (key y) ≡ false
 kept a b true e x (inl p) y q = subst (λ v. comes_before (key v) (key y) ≡ false) p (subst (λ v. comes_before (key a) (key v) ≡ false) q (not_both (key b) (key a) e))
-kept a b true e x (inr p) y q = subst (λ v. comes_before (key v) (key y) ≡ false) p (subst (λ v. comes_before (key b) (key v) ≡ false) q (not_before_itself (key b)))
-kept a b false e x (inl p) y q = subst (λ v. comes_before (key v) (key y) ≡ false) p (subst (λ v. comes_before (key a) (key v) ≡ false) q (not_before_itself (key a)))
+kept a b true e x (inr p) y q = subst (λ v. comes_before (key v) (key y) ≡ false) p (subst (λ v. comes_before (key b) (key v) ≡ false) q (before_irreflexive (key b)))
+kept a b false e x (inl p) y q = subst (λ v. comes_before (key v) (key y) ≡ false) p (subst (λ v. comes_before (key a) (key v) ≡ false) q (before_irreflexive (key a)))
 kept a b false e x (inr p) y q = subst (λ v. comes_before (key v) (key y) ≡ false) p (subst (λ v. comes_before (key b) (key v) ≡ false) q e)
 
 one_kept : (best : Option Broken) (b : Broken) → (y : Broken) × OneOf (earlier best b) y × Has best (b ∷ []) y
     × ((x : Broken) → Has best (b ∷ []) x → comes_before (key x) (key y) ≡ false)
-one_kept None b = (b, refl, inr (inl refl), λ x h. ⊎_elim (λ p. absurd p) (λ q. ⊎_elim (λ e. subst (λ v. comes_before (key v) (key b) ≡ false) e (not_before_itself (key b))) (λ p. absurd p) q) h)
+one_kept None b = (b, refl, inr (inl refl), λ x h. ⊎_elim (λ p. absurd p) (λ q. ⊎_elim (λ e. subst (λ v. comes_before (key v) (key b) ≡ false) e (before_irreflexive (key b))) (λ p. absurd p) q) h)
 one_kept (Some a) b = choice (comes_before (key b) (key a)) refl
   where
     either : (x : Broken) → Has (Some a) (b ∷ []) x → (a ≡ x) ⊎ (b ≡ x)
@@ -75,7 +76,7 @@ wider best b y bs (Some r) at none h = (⊎_elim (λ e. subst (λ v. Has best (b
 -- the first of what is kept and what is in the list
 first_is : (best : Option Broken) (bs : List Broken) → IsFirst (Has best bs) (first_of best bs)
 first_is None [] = λ b h. ⊎_elim (λ p. p) (λ p. p) h
-first_is (Some a) [] = (inl refl, λ b h. ⊎_elim (λ e. subst (λ v. comes_before (key v) (key a) ≡ false) e (not_before_itself (key a))) (λ p. absurd p) h)
+first_is (Some a) [] = (inl refl, λ b h. ⊎_elim (λ e. subst (λ v. comes_before (key v) (key a) ≡ false) e (before_irreflexive (key a))) (λ p. absurd p) h)
 first_is best (b ∷ bs) =
     let one = one_kept best b in
     let same : earlier best b ≡ Some one.0 = is_some_one (earlier best b) one.0 one.1 in

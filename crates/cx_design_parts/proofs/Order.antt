@@ -11,10 +11,6 @@ if_equal x y b h e = grind (arith, tests)
 not_before : (x z : ℕ) (b : Bool) → z ≤ x → (x ≡ z → b ≡ false) → nat_lt x z || (nat_eq x z && b) ≡ false
 not_before x z b h e = grind (arith, tests)
 
-pub not_before_itself : (xs : List ℕ) → comes_before xs xs ≡ false
-not_before_itself [] = refl
-not_before_itself (x ∷ xs) = not_before x x (comes_before xs xs) (omega arith) (λ _. not_before_itself xs)
-
 pub not_before_later : (xs ys zs : List ℕ) → length xs ≡ length ys → length ys ≡ length zs
     → comes_before xs ys ≡ false → comes_before ys zs ≡ false → comes_before xs zs ≡ false
 not_before_later [] ys zs m n a b = refl

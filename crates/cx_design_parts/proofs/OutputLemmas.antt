@@ -1,7 +1,6 @@
 -- The combinational outputs of each primitive read its first inputs.
-use Rattle.std.proofs.Common.{◌≡◌, ◌+◌, ◌≤◌, ◌==◌, ℕ, zero, suc, Bool, true, false, ◌&&◌, not, cond, nat_lt, List, [], ◌∷◌, ◌++◌, length, refl, sym, ap, ◌∙◌, arith}
+use Rattle.std.proofs.Common.{◌≡◌, ◌+◌, ◌≤◌, ℕ, zero, suc, Bool, true, false, ◌&&◌, not, cond, nat_lt, List, [], ◌∷◌, ◌++◌, length, refl, sym, ap, ◌∙◌, arith}
 use Rattle.std.specs.List.{list_all}
-use Rattle.std.proofs.lemmas.Bool.Decides.{nat_tests}
 use Rattle.cx_prim.specs.declared.ports.PortName.{PortName}
 use Rattle.cx_prim.specs.declared.ports.PortName.TheVariants.{Addr0, Addr1, Addr2, Addr3, WriteData, WriteEn, ContentEn, ReadData, Done}
 use Rattle.cx_prim.specs.declared.ports.PortRow.{PortRow}
@@ -10,14 +9,15 @@ use Rattle.cx_prim.specs.declared.ports.Side.TheVariants.{Enable, Plain, Output,
 use Rattle.cx_prim.specs.Rows.{Row}
 use Rattle.cx_prim.specs.CombinationalRows.{enable_port, plain_port, output_port, registered_port}
 use Rattle.cx_prim.specs.RegisterRow.{register_row}
-use Rattle.cx_prim.specs.CombinationalLaws.{and_left, and_right}
 use Rattle.cx_prim.specs.MemoryRows.{ports_named, address_ports, memory_row, sequential_memory_row}
-use Rattle.cx_prim.specs.MemoryLaws.{length-ports_named}
+use Rattle.cx_prim.proofs.MemoryLaws.{length-ports_named}
 use Rattle.cx_prim.specs.PipeRows.{multiplier_row, divider_row, timer_row}
 use Rattle.cx_prim.specs.Table.{PrimitiveRow, no_row, row_of}
-use Rattle.cx_prim.specs.TableCases.{OfEachKind, of_row}
+use Rattle.cx_prim.proofs.TableCases.{OfEachKind, of_row}
 use Rattle.cx_meaning.specs.Rows.{side_of, side_from}
 use Rattle.cx_design_parts.specs.Outputs.{is_write_data, read_count, ReadsFirst}
+use Rattle.cx_text.proofs.NumberLaws.{is_at}
+use Rattle.cx_text.proofs.BoolLaws.{and_left, and_right}
 
 -- a row without combinational outputs
 abbrev is_output : Side → Bool
@@ -59,9 +59,6 @@ address_names = Addr0 ∷ Addr1 ∷ Addr2 ∷ Addr3 ∷ []
 
 address_count : (sizes widths : List ℕ) → length widths ≡ length sizes → length sizes ≤ 4 → length (address_ports widths) ≡ length sizes
 address_count sizes widths alike few = length-ports_named address_names widths (omega (arith, alike, few)) ∙ alike
-
-is_at : (n m : ℕ) → n ≡ m → (n == m) ≡ true
-is_at n m e = grind (arith, nat_tests)
 
 abbrev memory_tail : ℕ → List PortRow
 memory_tail w = plain_port WriteData w ∷ enable_port WriteEn ∷ output_port ReadData w ∷ registered_port Done 1 ∷ []

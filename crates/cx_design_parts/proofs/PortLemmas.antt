@@ -1,23 +1,11 @@
 -- The ports of a row by their numbers.
-use Rattle.std.proofs.Common.{◌≡◌, ◌+◌, ℕ, zero, suc, true, false, cond, List, [], ◌∷◌, Option, Some, None, drop, slice_get, refl, sym, ap, ◌∙◌, arith, add-one}
+use Rattle.std.proofs.Common.{◌≡◌, ◌+◌, ℕ, zero, suc, true, false, cond, List, [], ◌∷◌, Option, Some, None, drop, slice_get, ap, ◌∙◌, arith, add-one}
 use Rattle.cx_prim.specs.declared.ports.PortRow.{PortRow}
-use Rattle.cx_prim.specs.declared.ports.Side.TheVariants.{Registered}
-use Rattle.cx_meaning.specs.Rows.{side_from}
 use Rattle.cx_design_parts.specs.Outputs.{is_read_port, read_count}
 
 abbrev port_or : PortRow → Option PortRow → PortRow
 port_or other None = other
 port_or other (Some port) = port
-
-pub side_there : (ports : List PortRow) (p : ℕ) (port : PortRow) → slice_get ports p ≡ Some port → port.side ≡ side_from ports p
-side_there [] p port e = absurd (cc)
-side_there (first ∷ ports) zero port e = ap (λ o. (port_or first o).side) (sym e)
-side_there (first ∷ ports) (suc p) port e = side_there ports p port e
-
-pub side_gone : (ports : List PortRow) (p : ℕ) → slice_get ports p ≡ None → Registered ≡ side_from ports p
-side_gone [] p e = refl
-side_gone (first ∷ ports) zero e = absurd (cc)
-side_gone (first ∷ ports) (suc p) e = side_gone ports p e
 
 drop_there : (ports : List PortRow) (n : ℕ) (port : PortRow) → slice_get ports n ≡ Some port → drop n ports ≡ port ∷ drop (suc n) ports
 drop_there [] n port e = absurd (cc)

@@ -4,30 +4,7 @@ use Rattle.std.specs.List.{filter}
 use Rattle.std.specs.List.Sorted.{IsSortedBy, IsStableBy, ties}
 use Rattle.std.specs.Cmp.{IsStrictWeakOrder}
 use Rattle.std.proofs.lemmas.List.Sorted.{sorted_far}
-
-false_if : (b : Bool) → (b ≡ true → b ≡ false) → b ≡ false
-false_if true h = h refl
-false_if false h = refl
-
-and_right : (a b : Bool) → a && b ≡ true → b ≡ true
-and_right true b h = h
-and_right false b h = absurd (true≢false (sym h))
-
-and_left : (a b : Bool) → a && b ≡ true → a ≡ true
-and_left true b h = refl
-and_left false b h = h
-
-and_no : (a b : Bool) → b ≡ false → a && b ≡ false
-and_no true b h = h
-and_no false b h = refl
-
-from_not : (b : Bool) → not b ≡ true → b ≡ false
-from_not true h = sym h
-from_not false h = refl
-
-cases_of : (b : Bool) → (P : Type 0) → (b ≡ true → P) → (b ≡ false → P) → P
-cases_of true P f g = f refl
-cases_of false P f g = g refl
+use Rattle.cx_text.proofs.BoolLaws.{from_not, and_first, and_no, false_if, cases_of}
 
 module _ {X : Type 0} (lt : X → X → Bool) where
   abbrev pub placed : X → List X → List X
@@ -103,7 +80,7 @@ module _ {X : Type 0} (lt : X → X → Bool) where
     -- what is less than one that ties ties no more
     no_tie : (x a b : X) → lt b a ≡ true → ties lt x a ≡ true → ties lt x b ≡ false
     no_tie x a b e h =
-        let after : lt x a ≡ false = from_not (lt x a) (and_left (not (lt x a)) (not (lt a x)) h) in
+        let after : lt x a ≡ false = from_not (lt x a) (and_first (not (lt x a)) (not (lt a x)) h) in
         cases_of (lt b x) (ties lt x b ≡ false)
         (λ t. and_no (not (lt x b)) (not (lt b x)) (ap not t))
         (λ f. absurd (true≢false (sym e ∙ o.chain b x a f after)))

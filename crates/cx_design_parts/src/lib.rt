@@ -1,8 +1,4 @@
-//! What the ports of a primitive are, and which inputs its combinational outputs read.
-//! The first break of a stage's rules.
-//! The assignments of a component in source order.
-//! The parts of a component that rules speak of: operands of guards, and statements in pre-order.
-//! Ports of a component as code: what stands at a cell, widths, sides, and the names in messages.
+//! The parts of a design in the order in which rules speak of them, their ports as code, and the first break of a stage.
 #![tactic(auto)]
 
 mod breaks;

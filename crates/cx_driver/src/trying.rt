@@ -4,7 +4,7 @@ ghost use Rattle.std.specs.Prelude.{◌≡◌, ◌⊎◌, ◌++◌, ◌<◌, ◌
 ghost use Rattle.cx_text.specs.declared.diagnostics.Diagnostic.{Diagnostic as DiagnosticValue};
 ghost use Rattle.cx_text.specs.Loading.{plain_memory};
 ghost use Rattle.cx_design.specs.PlainDesigns.{plain_design};
-ghost use Rattle.cx_limits.specs.Capped.{capped};
+ghost use Rattle.cx_design_sizes.specs.Capped.{capped};
 ghost use Rattle.cx_check.specs.Acceptance.{TreeBreak};
 ghost use Rattle.cx_trial.specs.TrialTree as tree_of;
 ghost use Rattle.cx_commands.specs.declared.stops.Stop.{Stop as StopValue};

@@ -16,7 +16,6 @@ use Rattle.cx_vtree.specs.Meaning.{Moment, Look, HasValue}
 use Rattle.cx_vtree.specs.SimRun.{IsWhole}
 use Rattle.cx_vtree.specs.Sound.{decl_name, has_name, is_sound}
 use Rattle.cx_vlaws.proofs.Fresh.{has_at, at_has}
-use Rattle.cx_vlaws.proofs.Holders.{some_same}
 use Rattle.cx_vlaws.proofs.Given.{nets-at}
 use Rattle.cx_vlaws.proofs.Ties.{input_tied, input_outside}
 use Rattle.cx_vmods.specs.Modules.{port_of, module_of}
@@ -39,20 +38,15 @@ use Rattle.cx_emit.proofs.NumberedLemmas.{In, in_either, numbered_in, lists_in}
 use Rattle.cx_emit.proofs.Evals.{value_tied, value_held, value_outside}
 use Rattle.cx_emit.proofs.Standing.{tree, comp_there, own, IsPlaced, main_placed, IsCell, cell_placed, child_placed, cell_module_ports, primitive_placed}
 use Rattle.cx_emit.proofs.Origins.{register_is_held}
-use Rattle.cx_net.proofs.GatherLemmas.{there_within, input-from_look}
+use Rattle.cx_net.proofs.GatherLemmas.{input-from_look}
 use Rattle.cx_emit.proofs.CellValues.{is_built}
 use Rattle.cx_net.proofs.DriverLemmas.{primitive_width, component_width}
 use Rattle.cx_emit.proofs.PortPlaces.{done_port, length-numbered}
-use Rattle.cx_emit.proofs.NetWholes.{length-signature}
 use Rattle.cx_emit.proofs.Situations.{Situation, situation_below, primitive_at, main_situation}
 use Rattle.cx_emit.proofs.Reached.{IsReached, of_component, of_primitive, reached}
-
-map_some : {A B : Type 0} (f : A → B) (o : Option A) (y : B) → option_map f o ≡ Some y → (x : A) × (o ≡ Some x) × (f x ≡ y)
-map_some f None y e = absurd (cc)
-map_some f (Some x) y e = (x, refl, cc)
-
-some_is : {A : Type 0} (x y : A) → Some x ≡ Some y → x ≡ y
-some_is x y e = cc
+use Rattle.cx_text.proofs.OptionLaws.{map_some, same_some, one_value}
+use Rattle.cx_text.proofs.ListLaws.{there_at}
+use Rattle.cx_net.proofs.NetsLemmas.{length-signature}
 
 -- a look that has every value
 pub record WholeText (tree : List Placed) (now : Moment) : Type 0 where
@@ -91,7 +85,7 @@ module _ (net : PlainNet) (sound : is_sound (source_of net) ≡ true) (fit : IsF
         let h = cell_placed net sound fit k i c cell here there in
         let port : slice_get h.place.part.ports q ≡ Some (one_bit name) = ap (λ ps. slice_get ps q) (cell_module_ports net sound fit k i c cell here there h) ∙ front _ in
         let (cn, at, named, origin) = input_tied the_source sound (cell_number the_source i c) h.place h.at h.inner q (one_bit name) port refl in
-        let same : cn ≡ conn name name = some_same (slice_get h.place.conns q) cn (conn name name) at (ap (λ cs. slice_get cs q) h.conns ∙ wired _) in
+        let same : cn ≡ conn name name = one_value (slice_get h.place.conns q) cn (conn name name) at (ap (λ cs. slice_get cs q) h.conns ∙ wired _) in
         (v, value_tied the_tree now (cell_number the_source i c) name i name v (origin ∙ ap (λ j. Some (Tied j cn.net)) h.holder ∙ ap (λ (x : PlainConn). Some (Tied i x.net)) same) has)
 
     common_main : Valued 0 name
@@ -125,7 +119,7 @@ module _ (net : PlainNet) (sound : is_sound (source_of net) ≡ true) (fit : IsF
         let lt = slice_get_within (signature_of (net_component_at net child)) p port at_signature in
         let long = length-text (net_component_at net child) in
         let wide = length-signature (net_component_at net child) in
-        let (w, at_width) = there_within (signature_widths (net_component_at net child)) p (omega arith) in
+        let (w, at_width) = there_at (signature_widths (net_component_at net child)) p (omega arith) in
         (w, component_width net part c cell child p w there is at_width)
       where
         length-text : (y : PlainNetComponent) → length (signature_of y) ≡ 2 + length y.inputs + length y.outputs
@@ -164,8 +158,8 @@ module _ (net : PlainNet) (sound : is_sound (source_of net) ≡ true) (fit : IsF
 
     -- a port
     port_valued : Valued i (codes "clk") → Valued i (codes "reset") → (q : ℕ) (port : PlainPort) → slice_get (own net sound fit k).ports q ≡ Some port → Valued i port.name
-    port_valued clk reset zero port e = let same : one_bit (codes "clk") ≡ port = some_is (one_bit (codes "clk")) port e in subst (λ (y : PlainPort). Valued i y.name) same clk
-    port_valued clk reset (suc zero) port e = let same : one_bit (codes "reset") ≡ port = some_is (one_bit (codes "reset")) port e in subst (λ (y : PlainPort). Valued i y.name) same reset
+    port_valued clk reset zero port e = let same : one_bit (codes "clk") ≡ port = same_some (one_bit (codes "clk")) port e in subst (λ (y : PlainPort). Valued i y.name) same clk
+    port_valued clk reset (suc zero) port e = let same : one_bit (codes "reset") ≡ port = same_some (one_bit (codes "reset")) port e in subst (λ (y : PlainPort). Valued i y.name) same reset
     port_valued clk reset (suc (suc q)) port e = go (in_either port (one_bit (codes "go") ∷ with_numbers input_port part.inputs ++ with_numbers output_port part.outputs) (done_port ∷ []) (q, e)) where
       input : In port (with_numbers input_port part.inputs) → Valued i port.name
       input (n, f) =
@@ -219,10 +213,10 @@ module _ (net : PlainNet) (sound : is_sound (source_of net) ≡ true) (fit : IsF
       go : (q : ℕ) → slice_get (nets_at the_tree (cell_number the_source i c)) q ≡ Some n → Valued (cell_number the_source i c) n
       go zero f =
           let named : Some (codes "clk") ≡ Some n = sym (ap (λ l. slice_get l 0) same) ∙ f in
-          subst (Valued (cell_number the_source i c)) (some_is (codes "clk") n named) (common_below 0 (codes "clk") (λ ps. refl) (λ cs. refl) k i c cell x.here there clk)
+          subst (Valued (cell_number the_source i c)) (same_some (codes "clk") n named) (common_below 0 (codes "clk") (λ ps. refl) (λ cs. refl) k i c cell x.here there clk)
       go (suc zero) f =
           let named : Some (codes "reset") ≡ Some n = sym (ap (λ l. slice_get l 1) same) ∙ f in
-          subst (Valued (cell_number the_source i c)) (some_is (codes "reset") n named) (common_below 1 (codes "reset") (λ ps. refl) (λ cs. refl) k i c cell x.here there reset)
+          subst (Valued (cell_number the_source i c)) (same_some (codes "reset") n named) (common_below 1 (codes "reset") (λ ps. refl) (λ cs. refl) k i c cell x.here there reset)
       go (suc (suc r)) f =
           let module_is_built = is_built net sound fit built now k i c cell p x.here there is h in
           module_is_built.nets the_tree now (cell_number the_source i c) (suc (suc r)) n (s.cell (c ∷ [])) (inputs_from look c 0 (row_of p).ports) (primitive_at net sound fit built now k i around s look x c cell p there is)
@@ -270,7 +264,7 @@ module _ (net : PlainNet) (sound : is_sound (source_of net) ≡ true) (fit : IsF
     pick i n false e = None
 
     pick_right : (i : ℕ) (n : List ℕ) (v : BitVector) (b : Bool) (e : has_name (nets_at the_tree i) n ≡ b) → pick i n b e ≡ Some v → HasValue the_tree now i n v
-    pick_right i n v true e f = subst (HasValue the_tree now i n) (some_is (value_of_net i n e).0 v f) (value_of_net i n e).1
+    pick_right i n v true e f = subst (HasValue the_tree now i n) (same_some (value_of_net i n e).0 v f) (value_of_net i n e).1
     pick_right i n v false e f = absurd (cc)
 
     pick_whole : (i : ℕ) (n : List ℕ) (b : Bool) (e : has_name (nets_at the_tree i) n ≡ b) → has_name (nets_at the_tree i) n ≡ true → IsSome (pick i n b e)

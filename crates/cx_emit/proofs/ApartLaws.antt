@@ -6,12 +6,13 @@ use Rattle.std.proofs.lemmas.Bool.{or_from, or_left, or_right, both_ways, false_
 use Rattle.std.proofs.lemmas.Fmt.{decimal_nonempty}
 use Rattle.cx_vtree.specs.InstanceTree.{same_name}
 use Rattle.cx_vtree.specs.Sound.{has_name}
-use Rattle.cx_vlaws.proofs.Fresh.{same_is, is_same, has-append, Fresh, fresh_both}
+use Rattle.cx_vlaws.proofs.Fresh.{has-append, Fresh, fresh_both}
 use Rattle.cx_emit.specs.Numbered.{numbered_from, with_numbers, lists_from}
 use Rattle.cx_emit.specs.Numbers.{AreFew, HaveFewPorts}
 use Rattle.cx_emit.specs.Names.{numbered, twice_numbered}
 use Rattle.cx_emit.specs.Signatures.{PlainCellPorts}
 use Rattle.cx_emit.proofs.NameLaws.{is_digit, digits-decimal, numbered-injective, twice_numbered-injective}
+use Rattle.cx_vtree.proofs.InstanceTreeLemmas.{same_is, is_same}
 
 -- what stands before the first digit of a name
 abbrev pub letters_in : List ℕ → List ℕ
@@ -100,16 +101,13 @@ module _ {A : Type 0} (name : ℕ → List ℕ) (same : (i j : ℕ) → i < 2 ^ 
   have_family l k [] few each = tt
   have_family l k (x ∷ xs) few each = let within : k < 2 ^ 64 = omega (arith, few) in let later : suc k + length xs ≤ 2 ^ 64 = omega (arith, few) in (each k within, have_family l (suc k) xs later each)
 
-numbered_same : (letters : List ℕ) (i j : ℕ) → i < 2 ^ 64 → j < 2 ^ 64 → numbered letters i ≡ numbered letters j → i ≡ j
-numbered_same letters i j small less = numbered-injective letters i j small less
-
 -- a family of names with one number
 pub fresh_numbered : {A : Type 0} (letters : List ℕ) (xs : List A) → AreFew xs → Fresh [] (with_numbers (λ j x. numbered letters j) xs)
-fresh_numbered letters xs few = fresh_family (numbered letters) (numbered_same letters) [] 0 xs (omega (arith, few)) (λ j from small. refl)
+fresh_numbered letters xs few = fresh_family (numbered letters) (numbered-injective letters) [] 0 xs (omega (arith, few)) (λ j from small. refl)
 
 pub have_numbered : {A : Type 0} (letters : List ℕ) → letters_in (codes "cx_" ++ letters) ≡ codes "cx_" ++ letters → (xs : List A) → AreFew xs
     → HaveLetters (codes "cx_" ++ letters) (with_numbers (λ j x. numbered letters j) xs)
-have_numbered letters own xs few = have_family (numbered letters) (numbered_same letters) (codes "cx_" ++ letters) 0 xs (omega (arith, few)) (λ j small. letters_in-numbered letters own j small)
+have_numbered letters own xs few = have_family (numbered letters) (numbered-injective letters) (codes "cx_" ++ letters) 0 xs (omega (arith, few)) (λ j small. letters_in-numbered letters own j small)
 
 lacks_family : {A : Type 0} (name : ℕ → List ℕ) (m : List ℕ) (k : ℕ) (xs : List A) → k + length xs ≤ 2 ^ 64 → ((i : ℕ) → i < 2 ^ 64 → name i ≡ m → ⊥) → has_name (numbered_from (λ j x. name j) k xs) m ≡ false
 lacks_family name m k [] few other = refl

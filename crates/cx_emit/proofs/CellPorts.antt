@@ -1,5 +1,5 @@
 -- The ports of a cell's module: their names and widths; and that a component has few parts.
-use Rattle.std.proofs.Common.{◌≡◌, ◌⊎◌, inl, inr, ℕ, zero, suc, ◌+◌, ◌^◌, ◌<◌, ◌==◌, Bool, true, false, List, [], ◌∷◌, ◌++◌, length, length-append, map, All, Option, Some, None, option_map, slice_get, refl, ap, sym, ◌∙◌, subst, if◌then◌else◌, arith}
+use Rattle.std.proofs.Common.{◌≡◌, ◌⊎◌, inl, inr, ℕ, zero, suc, ◌+◌, ◌^◌, ◌<◌, ◌==◌, Bool, true, false, List, [], ◌∷◌, ◌++◌, length, length-append, map, All, Some, option_map, slice_get, refl, ap, sym, ◌∙◌, subst, if◌then◌else◌, arith}
 use Rattle.std.specs.Prelude.{codes}
 use Rattle.std.proofs.lemmas.List.{length-map, map-append}
 use Rattle.std.proofs.lemmas.Option.{slice_get-map, slice_get-get_or, slice_get_within}
@@ -29,6 +29,7 @@ use Rattle.cx_emit.proofs.PortPlaces.{PortIs, is_go, is_input, is_output, is_don
 use Rattle.cx_emit.proofs.CleanModules.{Each, each_more}
 use Rattle.cx_emit.proofs.StatelessModules.{one_wide}
 use Rattle.cx_emit.proofs.PrimitiveModules.{primitive_owes}
+use Rattle.cx_text.proofs.OptionLaws.{map_some}
 
 -- it holds of each element, by where they stand
 pub each_in : {A : Type 0} {P : A → Type 0} (xs : List A) → ((x : A) → In x xs → P x) → Each P xs
@@ -43,10 +44,6 @@ in_each P (y ∷ xs) x each (suc q, e) = in_each P xs x each.1 (q, e)
 pub all_each : {A : Type 0} (P : A → Type 0) (xs : List A) → All P xs → Each P xs
 all_each P [] h = tt
 all_each P (x ∷ xs) h = (All-head P x xs h, all_each P xs (All-tail P x xs h))
-
-map_of : {A B : Type 0} (f : A → B) (o : Option A) (y : B) → option_map f o ≡ Some y → (x : A) × (o ≡ Some x) × (f x ≡ y)
-map_of f None y e = absurd (cc)
-map_of f (Some x) y e = (x, refl, cc)
 
 -- a port has a name and a width
 pub record IsFinePort (p : PlainPort) : Type 0 where
@@ -196,7 +193,7 @@ module _ (net : PlainNet) (fit : IsFit net) (writable : IsWritable net) where
   pub port_there : (k c : ℕ) (kind : PlainKind) (p w : ℕ) → k < length net.components → IsFitKind k kind → kind_width net kind p ≡ Some w
       → (port : PlainPort) × (slice_get (kind_ports net k c kind).ports p ≡ Some port) × (port.width ≡ w)
   port_there k c (OfPrimitive primitive) p w lt has e =
-      let (row, at, same) = map_of (λ (x : PortRow). x.width) (slice_get (row_of primitive).ports p) w e in
+      let (row, at, same) = map_some (λ (x : PortRow). x.width) (slice_get (row_of primitive).ports p) w e in
       (port_of row, slice_get-map port_of (row_of primitive).ports p ∙ ap (option_map port_of) at, same)
   port_there k c (OfComponent j) p w lt lower e =
       let within : j < length net.components = omega (arith, lt, lower) in
@@ -212,7 +209,7 @@ module _ (net : PlainNet) (fit : IsFit net) (writable : IsWritable net) where
   -- and one that is there has its width
   pub port_wide : (k c : ℕ) (kind : PlainKind) (p : ℕ) (port : PlainPort) → k < length net.components → IsFitKind k kind → slice_get (kind_ports net k c kind).ports p ≡ Some port → kind_width net kind p ≡ Some port.width
   port_wide k c (OfPrimitive primitive) p port lt has e =
-      let (row, at, same) = map_of port_of (slice_get (row_of primitive).ports p) port (sym (slice_get-map port_of (row_of primitive).ports p) ∙ e) in
+      let (row, at, same) = map_some port_of (slice_get (row_of primitive).ports p) port (sym (slice_get-map port_of (row_of primitive).ports p) ∙ e) in
       ap (option_map (λ (x : PortRow). x.width)) at ∙ ap (λ (x : PlainPort). Some x.width) same
   port_wide k c (OfComponent j) p port lt lower e =
       let within : j < length net.components = omega (arith, lt, lower) in

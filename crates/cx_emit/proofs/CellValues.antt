@@ -8,7 +8,7 @@ use Rattle.cx_prim.specs.CellStates.{CellState, IsState}
 use Rattle.cx_prim.specs.declared.ports.PortRow.{PortRow}
 use Rattle.cx_prim.specs.Rows.{Inputs, Row, input, is_output_side, IsOfWidth, IsLawful}
 use Rattle.cx_prim.specs.Table.{PrimitiveRow, row_of}
-use Rattle.cx_prim.specs.TableLaws.{row_of_lawful}
+use Rattle.cx_prim.proofs.TableLaws.{row_of_lawful}
 use Rattle.cx_meaning.specs.Designs.{OfPrimitive, PlainCell}
 use Rattle.cx_vtree.specs.Plain.{PlainPort, PlainModule}
 use Rattle.cx_vtree.specs.InstanceTree.{Placed}
@@ -27,7 +27,8 @@ use Rattle.cx_emit.specs.Fits.{IsFlat, stand_for}
 use Rattle.cx_emit.proofs.Evals.{value_tied}
 use Rattle.cx_emit.proofs.Standing.{tree, comp, IsPlaced, ports_of_cell, IsCell, primitive_placed, primitive_fits}
 use Rattle.cx_emit.proofs.Origins.{IsWide, port_is_wide, cell_input_tied, cell_output_ties}
-use Rattle.cx_net.proofs.GatherLemmas.{input_within, there_within}
+use Rattle.cx_net.proofs.GatherLemmas.{input_within}
+use Rattle.cx_text.proofs.ListLaws.{there_at}
 
 -- a net of an instance has this value, which is this wide
 abbrev pub Carried : List Placed → Moment → ℕ → List ℕ → ℕ → BitVector → Type 0
@@ -83,7 +84,7 @@ module _ (net : PlainNet) (sound : is_sound (source_of net) ≡ true) (fit : IsF
     fits = record { count = count; widths = λ n port x at e. (carried n port x at e).1.same_width };
     values = λ n x e.
         let within = input_within inputs n x e in
-        let (port, at) = there_within row.ports n (subst (λ l. n < l) count within) in
+        let (port, at) = there_at row.ports n (subst (λ l. n < l) count within) in
         (carried n port x at e).1.fits;
     given = λ n port x at inward e.
         subst (λ name. HasValue the_tree now j name x) (sym (net_of_port n port at))

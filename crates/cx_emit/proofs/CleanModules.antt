@@ -11,7 +11,8 @@ use Rattle.cx_vtree.specs.Sound.{no_faults, Scope, meant_in, width_of, is_array,
 use Rattle.cx_vlaws.proofs.Fresh.{Fresh, fresh_left, fresh_right}
 use Rattle.cx_emit.specs.Signatures.{one_bit}
 use Rattle.cx_emit.proofs.FaultLaws.{IsClean, AreClean, no_lines, a_line, clean-append}
-use Rattle.cx_emit.proofs.Keeping.{Keeps, not_wide, keeps_width}
+use Rattle.cx_emit.proofs.Keeping.{Keeps, keeps_width}
+use Rattle.cx_vtree.proofs.SoundLemmas.{not_wide}
 
 -- it holds of each element, one after another
 abbrev pub Each : {A : Type 0} → (A → Type 0) → List A → Type 0

@@ -1,5 +1,5 @@
 -- The module of a component keeps the rules.
-use Rattle.std.proofs.Common.{get_or, ◌≡◌, ◌⊎◌, inl, inr, ℕ, zero, suc, ◌+◌, ◌^◌, ◌<◌, ◌==◌, not, Bool, true, false, List, [], ◌∷◌, ◌++◌, length, map, Option, Some, None, option_and_then, option_map, slice_get, refl, ap, sym, ◌∙◌, subst, if◌then◌else◌, arith, append_assoc, append-nil}
+use Rattle.std.proofs.Common.{get_or, ◌≡◌, ◌⊎◌, inl, inr, ℕ, zero, suc, ◌+◌, ◌^◌, ◌<◌, ◌==◌, not, Bool, true, false, List, [], ◌∷◌, ◌++◌, length, map, Some, None, option_and_then, option_map, slice_get, refl, ap, sym, ◌∙◌, subst, if◌then◌else◌, arith, append_assoc, append-nil}
 use Rattle.std.specs.Prelude.{codes, is_none}
 use Rattle.std.proofs.lemmas.Bool.{or_from, and_from}
 use Rattle.std.proofs.lemmas.Nat.{pow_pos}
@@ -43,14 +43,7 @@ use Rattle.cx_emit.proofs.ExprKeeps.{chain_keeps}
 use Rattle.cx_emit.proofs.CellPorts.{each_in, in_each, all_each, IsFinePort, module_named_well, has_few, part_names, signature_ports, kind_ports_are, port_there, port_wide, kind_named}
 use Rattle.cx_emit.proofs.PickedNames.{few_ports_at, sub_both, sub_same, fresh_sub, fresh_beyond, picked, all_picked, sub_all_picked, in_picked, fresh_picked, not_input, output_letters}
 use Rattle.cx_emit.proofs.Connections.{IsKnown, known_ports, instance_connects, instance_fits, instances_drive}
-
-map_of : {A B : Type 0} (f : A → B) (o : Option A) (y : B) → option_map f o ≡ Some y → (x : A) × (o ≡ Some x) × (f x ≡ y)
-map_of f None y e = absurd (cc)
-map_of f (Some x) y e = (x, refl, cc)
-
-bind_of : {A B : Type 0} (f : A → Option B) (o : Option A) (y : B) → option_and_then f o ≡ Some y → (x : A) × (o ≡ Some x) × (f x ≡ Some y)
-bind_of f None y e = absurd (cc)
-bind_of f (Some x) y e = (x, refl, e)
+use Rattle.cx_text.proofs.OptionLaws.{map_some, bind_some}
 
 -- a name that stands for an input, a wire or a register may be read
 pub readable : (scope : Scope) (n : List ℕ) (m : Meaning) → scope n ≡ m → is_source m ≡ true → same_name n (codes "clk") ≡ false → is_readable scope n ≡ true
@@ -179,12 +172,12 @@ module _ (net : PlainNet) (fit : IsFit net) (no_holes : HasNoHoles net) (writabl
   -- EXPRESSIONS
   ports_keep : (p : PortRef) (w : ℕ) → HasPortWidth net part p w → IsRead p → Keeps scope 0 (port_expr p) w
   ports_keep (ports.Cell c p) w h r =
-      let (cell, there, wide) = bind_of (λ (x : PlainCell). kind_width net x.kind p) (slice_get part.cells c) w h in
+      let (cell, there, wide) = bind_some (λ (x : PlainCell). kind_width net x.kind p) (slice_get part.cells c) w h in
       let (port, at, same) = port_there net fit writable k c cell.kind p w lt ((fit.components k lt).cells c cell there) wide in
       let is = cell_scope c p (cell_ports net k c cell) port (cell_at c cell there) at in
       keeps_named scope 0 (cell_port_name c p) w (cell_port_named c p (cell_ports net k c cell) port (cell_at c cell there) at) (readable scope (cell_port_name c p) (meant.Wire port.width) is refl refl) (ap width_of is ∙ same)
   ports_keep (ports.Input n) w h r =
-      let (d, there, same) = map_of (λ (x : PortDecl). x.width) (slice_get part.inputs n) w h in
+      let (d, there, same) = map_some (λ (x : PortDecl). x.width) (slice_get part.inputs n) w h in
       let is = input_scope n d there in
       keeps_named scope 0 (input_name n) w (input_named n d there) (readable scope (input_name n) (meant.Input d.width) is refl refl) (ap width_of is ∙ same)
   ports_keep (ports.Output n) w h r = absurd r

@@ -7,7 +7,7 @@ use Rattle.cx_vtree.specs.declared.meanings.Meaning.TheVariants as meant
 use Rattle.cx_vtree.specs.Plain.{PlainPort, PlainConn, PlainModule}
 use Rattle.cx_vtree.specs.InstanceTree.{same_name}
 use Rattle.cx_vtree.specs.Sound.{Scope, is_source, is_wire, width_of, has_name, has_output, module_named, driven_by, ports_of, driven_by_all, miswired, misconnects, misfits}
-use Rattle.cx_vlaws.proofs.Fresh.{Fresh, same_is, is_same, same_self, fresh_head, has_neither}
+use Rattle.cx_vlaws.proofs.Fresh.{Fresh, fresh_head, has_neither}
 use Rattle.cx_vlaws.proofs.Scopes.{port_at_has, other_than, output-past}
 use Rattle.cx_emit.specs.Names.{cell_port_name}
 use Rattle.cx_emit.specs.Numbered.{numbered_from, with_numbers}
@@ -15,6 +15,7 @@ use Rattle.cx_emit.specs.Signatures.{PlainCellPorts, one_bit}
 use Rattle.cx_emit.specs.Sources.{conn, port_conn, cell_instance}
 use Rattle.cx_emit.proofs.PickedNames.{picked, all_picked}
 use Rattle.cx_emit.proofs.CleanModules.{Each}
+use Rattle.cx_vtree.proofs.InstanceTreeLemmas.{same_is, is_same, same_self}
 
 -- a port is an output where its name is one
 output_by_name : (earlier : List (List ℕ)) (ps : List PlainPort) (j : ℕ) (p : PlainPort) → Fresh earlier (map (λ q. q.name) ps) → slice_get ps j ≡ Some p → has_output ps p.name ≡ p.output

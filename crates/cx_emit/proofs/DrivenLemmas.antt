@@ -18,15 +18,12 @@ use Rattle.cx_emit.specs.Chains.{before, chain_of, chain_to}
 use Rattle.cx_emit.specs.Signatures.{PlainCellPorts, module_ports}
 use Rattle.cx_emit.specs.Sources.{assign, port_assigns, cell_assigns, register_assign, register_reset, register_step, wire_assign, output_assign, done_assign, cell_instance, decls_with, module_with}
 use Rattle.cx_emit.specs.Driven.{PlainDriven, port_driven, cell_driven, driven_by, changed_from, changed_at, driver_before, target_before, present, edge_with}
+use Rattle.cx_text.proofs.BoolLaws.{if_same}
 
 -- a function of a choice chooses between what it gives of the two
 ap_if : {A B : Type 0} (f : A → B) (b : Bool) (x y : A) → f (if b then x else y) ≡ (if b then f x else f y)
 ap_if f true x y = refl
 ap_if f false x y = refl
-
-if_same : {A : Type 0} (b : Bool) (x : A) → (if b then x else x) ≡ x
-if_same true x = refl
-if_same false x = refl
 
 -- a list changed at a number before its first
 changed_from-passed : {A : Type 0} (k n : ℕ) (f : A → A) (xs : List A) → n < k → changed_from k n f xs ≡ xs

@@ -2,7 +2,7 @@
 use Rattle.std.proofs.Common.{◌≡◌, ℕ, suc, ◌==◌, List, [], ◌∷◌, true, length, map, Option, Some, None, slice_get, option_map, option_and_then, refl, ap, sym, ◌∙◌, arith}
 use Rattle.std.proofs.lemmas.Bool.{ne_eqb, both_ways, cond-false}
 use Rattle.std.proofs.lemmas.Option.{slice_get-map, slice_get_within}
-use Rattle.cx_prim.specs.CellStates.{CellState, Stateless, Register, Memory, SequentialMemory, Multiplier, Divider, Timer, StateShape, NoState, RegisterOf, MemoryOf, SequentialMemoryOf, MultiplierOf, DividerOf, TimerOf, IsState, AreWords, words_of, with_words}
+use Rattle.cx_prim.specs.CellStates.{CellState, Stateless, Register, Memory, SequentialMemory, Multiplier, Divider, Timer, StateShape, NoState, RegisterOf, MemoryOf, SequentialMemoryOf, MultiplierOf, DividerOf, TimerOf, IsState, words_of, with_words}
 use Rattle.cx_vtree.specs.Plain.{PlainExpr, Named, PlainAssign, PlainEdge, PlainModule}
 use Rattle.cx_vtree.specs.InstanceTree.{Placed, assigned}
 use Rattle.cx_vtree.specs.Edges.{sets_in, edge_at, acting_sets}
@@ -20,6 +20,7 @@ use Rattle.cx_emit.specs.Chains.{chain_to}
 use Rattle.cx_emit.specs.Sources.{assign, register_reset, register_step, source_of}
 use Rattle.cx_emit.proofs.NumberedLemmas.{in_numbered}
 use Rattle.cx_emit.proofs.Standing.{tree, comp, IsPlaced}
+use Rattle.cx_prim.proofs.CellStatesLemmas.{words_fit, sequential_words_fit}
 
 -- a set of names that are apart is found
 assigned_apart : (xs : List PlainAssign) → AreApart (map (λ a. a.name) xs) → (k : ℕ) (a : PlainAssign) → slice_get xs k ≡ Some a → assigned xs a.name ≡ Some a.value
@@ -74,15 +75,6 @@ module _ (net : PlainNet) (sound : is_sound (source_of net) ≡ true) (fit : IsF
       set_to 0 (assign (register_name n) (chain_to (ToRegister n) (Named (register_name n)) part.drivers))
       (ap (λ l. slice_get l n) (sets-steps part.drivers 0 part.registers)
       ∙ in_numbered (λ n w. assign (register_name n) (chain_to (ToRegister n) (Named (register_name n)) part.drivers)) part.registers n w there)
-
--- a state with the words of another one of its shape
-pub words_fit : (w c : ℕ) (d : CellState) → IsState (MemoryOf w c) d → AreWords w c (words_of d)
-words_fit w c (Memory words done) h = h
-words_fit w c d h = absurd h
-
-pub sequential_words_fit : (w c : ℕ) (d : CellState) → IsState (SequentialMemoryOf w c) d → AreWords w c (words_of d)
-sequential_words_fit w c (SequentialMemory words read_data done) h = h.0
-sequential_words_fit w c d h = absurd h
 
 pub reset_state : (shape : StateShape) (d start : CellState) → IsState shape d → IsState shape start → IsState shape (with_words (words_of d) start)
 reset_state NoState d Stateless h k = k

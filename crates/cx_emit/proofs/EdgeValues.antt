@@ -7,7 +7,7 @@ use Rattle.cx_bits.specs.BitVector.{BitVector}
 use Rattle.cx_prim.specs.CellStates.{CellState, IsState}
 use Rattle.cx_prim.specs.Rows.{Inputs, Row, IsLawful}
 use Rattle.cx_prim.specs.Table.{PrimitiveRow, row_of}
-use Rattle.cx_prim.specs.TableLaws.{row_of_lawful}
+use Rattle.cx_prim.proofs.TableLaws.{row_of_lawful}
 use Rattle.cx_meaning.specs.Designs.{OfPrimitive, OfComponent, PlainCell}
 use Rattle.cx_meaning.specs.Instances.{Path}
 use Rattle.cx_vtree.specs.Plain.{PlainExpr, Named, PlainSource}

@@ -1,9 +1,8 @@
 -- Of a list of which something holds it holds of each element; numbers that fit.
-use Rattle.std.proofs.Common.{◌≡◌, ℕ, zero, suc, ◌<◌, ◌≤◌, List, [], ◌∷◌, length, map, get_or, All, Some, slice_get, option_map, refl, sym, ap, ◌∙◌, subst, arith}
+use Rattle.std.proofs.Common.{◌≡◌, ℕ, zero, suc, ◌<◌, ◌≤◌, List, [], ◌∷◌, length, map, get_or, All, sym, ap, ◌∙◌, subst, arith}
 use Rattle.std.proofs.lemmas.List.{length-map, get_or-map}
 use Rattle.std.proofs.lemmas.List.Elements.{All-get_or}
 use Rattle.std.proofs.lemmas.Nat.{pow_pos}
-use Rattle.std.proofs.lemmas.Option.{slice_get-map, slice_get_read}
 use denote.Param.Weighed.{most, at_most}
 use Rattle.cx_bits.specs.BitVector.{Fits}
 use Rattle.cx_prim.specs.Widths.{IsWidth}
@@ -17,10 +16,6 @@ pub all_at : {A B : Type 0} (P : B → Type 0) (f : A → B) (xs : List A) (n : 
 all_at P f xs n x all within is =
     let long : length (map f xs) ≡ length xs = length-map xs f in
     subst P (get_or-map f xs n x (f x) within ∙ ap f (sym is)) (All-get_or P (map f xs) n (f x) (omega (arith, within, long)) all)
-
--- which stands among the images at its number
-pub stands_among : {A B : Type 0} (f : A → B) (xs : List A) (n : ℕ) (x : A) → n < length xs → x ≡ get_or xs n x → slice_get (map f xs) n ≡ Some (f x)
-stands_among f xs n x within is = slice_get-map f xs n ∙ ap (option_map f) (slice_get_read xs (length xs) n x refl within is)
 
 -- and an expression among others
 pub literals_at : {A : Type 0} (f : A → PlainNetExpr) (xs : List A) (n : ℕ) (x : A) → AllLiteralsFit (exprs_of (map f xs)) → n < length xs → x ≡ get_or xs n x → LiteralsFit (f x)

@@ -1,5 +1,5 @@
 -- What holds of the parts of a net that is emitted: all that has a width has 1 to 128 bits, and the numbers in expressions fit.
-use Rattle.std.proofs.Common.{◌≡◌, ℕ, suc, ◌<◌, ◌≤◌, true, List, [], ◌∷◌, length, All, Option, Some, None, IsSome, slice_get, true≢false, refl, sym, ap, ◌∙◌, subst, arith}
+use Rattle.std.proofs.Common.{◌≡◌, ℕ, suc, ◌<◌, ◌≤◌, true, List, [], ◌∷◌, length, All, Some, slice_get, refl, sym, ap, ◌∙◌, subst, arith}
 use Rattle.std.proofs.lemmas.List.Elements.{All-nil, All-cons}
 use Rattle.std.proofs.lemmas.Option.{get_or_from_slice_get, slice_get_within}
 use Rattle.std.specs.Prelude.{codes}
@@ -17,15 +17,12 @@ use Rattle.cx_emit.specs.Signatures.{cell_ports}
 use Rattle.cx_emit.proofs.CleanModules.{Each, each_more}
 use Rattle.cx_emit.proofs.CellPorts.{each_in, comp_there, kind_ports_are}
 use Rattle.cx_emit.proofs.PrimitiveModules.{primitive_owes}
+use Rattle.cx_text.proofs.OptionLaws.{some_value}
 
 -- what holds of each holds of all
 pub each_all : {A : Type 0} (P : A → Type 0) (xs : List A) → Each P xs → All P xs
 each_all P [] h = All-nil P
 each_all P (x ∷ xs) h = All-cons P x xs h.0 (each_all P xs h.1)
-
-some_value : (o : Option ℕ) → IsSome o → (w : ℕ) × (o ≡ Some w)
-some_value None h = absurd (true≢false (sym h))
-some_value (Some w) h = (w, refl)
 
 module _ (net : PlainNet) (part : PlainNetComponent) where
   -- the numbers of an expression that has a width fit

@@ -8,19 +8,8 @@ use Rattle.cx_vtree.specs.Operators.{operate, inverted, part_of, joined}
 use Rattle.cx_vtree.specs.InstanceTree.{Placed, same_name, decls_at, Outside, Tied, Held, Given, origin_of}
 use Rattle.cx_vtree.specs.Meaning.{Moment, Look, outside_value, word_in, expr_in, expr_at, from_origin, HasValue, by_step, IsRight, Eval, by_nets}
 use Rattle.cx_vtree.proofs.Values.{one_value}
-use Rattle.cx_vlaws.proofs.Fresh.{same_is, same_self}
-
-bind_some : {A B : Type 0} (f : A → Option B) (o : Option A) (y : B) → option_and_then f o ≡ Some y → (x : A) × (o ≡ Some x) × (f x ≡ Some y)
-bind_some f None y e = absurd (cc)
-bind_some f (Some x) y e = (x, refl, e)
-
-map_some : {A B : Type 0} (f : A → B) (o : Option A) (y : B) → option_map f o ≡ Some y → (x : A) × (o ≡ Some x) × (f x ≡ y)
-map_some f None y e = absurd (cc)
-map_some f (Some x) y e = (x, refl, cc)
-
-choice_within : {A : Type 0} (t : Bool) (a b c d : Option A) (v : A) → (a ≡ Some v → c ≡ Some v) → (b ≡ Some v → d ≡ Some v) → (if t then a else b) ≡ Some v → (if t then c else d) ≡ Some v
-choice_within true a b c d v f g e = f e
-choice_within false a b c d v f g e = g e
+use Rattle.cx_text.proofs.OptionLaws.{map_some, bind_some, more_choice}
+use Rattle.cx_vtree.proofs.InstanceTreeLemmas.{same_is, same_self}
 
 -- more knowledge gives the same value
 expr_within : (nets more : List ℕ → Option BitVector) (words : List ℕ → ℕ → BitVector) → ((n : List ℕ) (w : BitVector) → nets n ≡ Some w → more n ≡ Some w)
@@ -39,7 +28,7 @@ expr_within nets more words h (Inverted a) v e = let (x, is, f) = map_some inver
 expr_within nets more words h (Chosen c a b) v e =
     let (t, is, f) = bind_some (λ t. if t.value == 0 then expr_in nets words b else expr_in nets words a) (expr_in nets words c) v e in
     ap (option_and_then (λ t. if t.value == 0 then expr_in more words b else expr_in more words a)) (expr_within nets more words h c t is)
-    ∙ choice_within (t.value == 0) (expr_in nets words b) (expr_in nets words a) (expr_in more words b) (expr_in more words a) v
+    ∙ more_choice (t.value == 0) (expr_in nets words b) (expr_in nets words a) (expr_in more words b) (expr_in more words a) v
     (expr_within nets more words h b v) (expr_within nets more words h a v) f
 expr_within nets more words h (Joined a b) v e =
     let (x, is, f) = bind_some (λ x. option_map (joined x) (expr_in nets words b)) (expr_in nets words a) v e in

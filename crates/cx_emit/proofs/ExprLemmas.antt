@@ -1,10 +1,10 @@
 -- What an expression of a net computes its expression in the text computes too.
-use Rattle.std.proofs.Common.{◌≡◌, ℕ, zero, suc, ◌^◌, ◌==◌, ◌<◌, Bool, true, false, ◌&&◌, ◌||◌, not, List, [], ◌∷◌, Option, Some, None, option_and_then, option_map, refl, ap, sym, ◌∙◌, subst, if◌then◌else◌, arith}
+use Rattle.std.proofs.Common.{◌≡◌, ℕ, zero, suc, ◌==◌, Bool, true, false, ◌&&◌, ◌||◌, not, List, [], ◌∷◌, Option, Some, option_map, refl, ap, sym, ◌∙◌, subst, if◌then◌else◌, arith}
 use Rattle.std.specs.Prelude.{nat_lt, slice_get, codes}
 use Rattle.std.proofs.lemmas.Bool.{ne_eqb}
 use Rattle.cx_bits.specs.BitVector.{BitVector}
 use Rattle.cx_bits.specs.Operators.{sum_of, and_of, or_of, complement_of}
-use Rattle.cx_bits.specs.OperatorLaws.{Fits-sum_of, Fits-bit_of, Fits-complement_of}
+use Rattle.cx_bits.proofs.OperatorLaws.{Fits-sum_of, Fits-complement_of}
 use Rattle.cx_prim.specs.Rows.{IsOfWidth}
 use Rattle.cx_meaning.specs.declared.ports.PortRef.{PortRef}
 use Rattle.cx_meaning.specs.declared.ports.Comparison.{Comparison}
@@ -22,18 +22,14 @@ use Rattle.cx_emit.specs.Chains.{is_one, before, chain_of}
 use Rattle.cx_net.specs.NetFits.{HasWidth, HasPortWidth, AreBits}
 use Rattle.cx_emit.proofs.Evals.{IsReading}
 use Rattle.cx_emit.proofs.FoldLemmas.{Folds, last_part, a_part, folds-folded}
+use Rattle.cx_text.proofs.OptionLaws.{map_some, bind_some}
+use Rattle.cx_text.proofs.BoolLaws.{or_false, and_true_also}
+use Rattle.cx_net.proofs.NetMeaningLemmas.{and_two, or_two, not_bit, bit_width}
+use Rattle.cx_net.proofs.WidthLaws.{bit_is}
 
 -- a value has the width, and stands in the text
 abbrev pub Reads : (PlainExpr → BitVector → Type 0) → PlainExpr → ℕ → BitVector → Type 0
 Reads E e w v = E e v × IsOfWidth w v
-
-bind_some : {A B : Type 0} (f : A → Option B) (o : Option A) (y : B) → option_and_then f o ≡ Some y → (x : A) × (o ≡ Some x) × (f x ≡ Some y)
-bind_some f None y e = absurd (cc)
-bind_some f (Some x) y e = (x, refl, e)
-
-map_some : {A B : Type 0} (f : A → B) (o : Option A) (y : B) → option_map f o ≡ Some y → (x : A) × (o ≡ Some x) × (f x ≡ y)
-map_some f None y e = absurd (cc)
-map_some f (Some x) y e = (x, refl, cc)
 
 both_some : (f : BitVector → BitVector → BitVector) (a b : Option BitVector) (v : BitVector) → both_known f a b ≡ Some v → (x y : BitVector) × (a ≡ Some x) × (b ≡ Some y) × (f x y ≡ v)
 both_some f a b v e =
@@ -44,35 +40,6 @@ both_some f a b v e =
 some_is : (x y : BitVector) → Some x ≡ Some y → x ≡ y
 some_is x y e = cc
 
--- one bit is 1 or 0
-bit_of_number : (n : ℕ) → n < 2 → (b : Bool) × (n ≡ (if b then 1 else 0))
-bit_of_number zero h = (false, refl)
-bit_of_number (suc zero) h = (true, refl)
-bit_of_number (suc (suc n)) h = absurd (omega arith)
-
-pub bit_is : (v : BitVector) → IsOfWidth 1 v → (b : Bool) × (v ≡ truth_bit b)
-bit_is v h =
-    let fits = h.fits.in_range in
-    let wide = h.same_width in
-    let small : v.value < 2 = subst (λ w. v.value < 2 ^ w) wide fits in
-    let r = bit_of_number v.value small in
-    (r.0, ap (λ w. record { width = w; value = v.value }) wide ∙ ap (λ n. record { width = 1; value = n }) r.1)
-
-bit_width : (b : Bool) → IsOfWidth 1 (truth_bit b)
-bit_width b = record { same_width = refl; fits = Fits-bit_of b }
-
-and_step : (a b : Bool) → and_of (truth_bit a) (truth_bit b) ≡ truth_bit (a && b)
-and_step true true = refl
-and_step true false = refl
-and_step false true = refl
-and_step false false = refl
-
-or_step : (a b : Bool) → or_of (truth_bit a) (truth_bit b) ≡ truth_bit (a || b)
-or_step true true = refl
-or_step true false = refl
-or_step false true = refl
-or_step false false = refl
-
 and_assoc : (a b c : Bool) → (a && (b && c)) ≡ ((a && b) && c)
 and_assoc true b c = refl
 and_assoc false b c = refl
@@ -81,26 +48,14 @@ or_assoc : (a b c : Bool) → (a || (b || c)) ≡ ((a || b) || c)
 or_assoc true b c = refl
 or_assoc false b c = refl
 
-and_true : (a : Bool) → (a && true) ≡ a
-and_true true = refl
-and_true false = refl
-
-or_false : (a : Bool) → (a || false) ≡ a
-or_false true = refl
-or_false false = refl
-
-opposite_bit : (b : Bool) → complement_of (truth_bit b) ≡ truth_bit (not b)
-opposite_bit true = refl
-opposite_bit false = refl
-
 -- a comparison of the text is that of the net
 compared : (c : Comparison) (x y : BitVector) → operate (operator_of c) x y ≡ truth_bit (compares c x.value y.value)
 compared comparisons.Equal x y = refl
-compared comparisons.NotEqual x y = opposite_bit (x.value == y.value)
+compared comparisons.NotEqual x y = not_bit (x.value == y.value)
 compared comparisons.Less x y = refl
 compared comparisons.Greater x y = refl
-compared comparisons.AtMost x y = opposite_bit (nat_lt y.value x.value)
-compared comparisons.AtLeast x y = opposite_bit (nat_lt x.value y.value)
+compared comparisons.AtMost x y = not_bit (nat_lt y.value x.value)
+compared comparisons.AtLeast x y = not_bit (nat_lt x.value y.value)
 
 module _ (net : PlainNet) (part : PlainNetComponent) (no_holes : part.holes ≡ 0) (E : PlainExpr → BitVector → Type 0) (reads : IsReading E)
     (around : NetAround) (registers : ℕ → Option BitVector) (look : Node → Option BitVector)
@@ -118,10 +73,10 @@ module _ (net : PlainNet) (part : PlainNetComponent) (no_holes : part.holes ≡ 
   any_value = any_expr around registers look
 
   abbrev AllFold : List PlainExpr → Bool → Type 0
-  AllFold = Folds E reads operators.And ◌&&◌ and_step
+  AllFold = Folds E reads operators.And ◌&&◌ and_two
 
   abbrev AnyFold : List PlainExpr → Bool → Type 0
-  AnyFold = Folds E reads operators.Or ◌||◌ or_step
+  AnyFold = Folds E reads operators.Or ◌||◌ or_two
 
   -- the parts of a conjunction, and of a disjunction
   abbrev AllTogether : PlainNetExprs → Bool → Type 0
@@ -133,7 +88,7 @@ module _ (net : PlainNet) (part : PlainNetComponent) (no_holes : part.holes ≡ 
   AnyTogether (an_expr a es) b = AnyFold (exprs_to (an_expr a es)) b
 
   one_more_all : (a : PlainNetExpr) (es : PlainNetExprs) (c d : Bool) → E (expr_of a) (truth_bit c) → AllTogether es d → AllFold (exprs_to (an_expr a es)) (c && d)
-  one_more_all a no_exprs c d h rest = subst (AllFold (expr_of a ∷ [])) (sym (ap (λ x. c && x) rest ∙ and_true c)) (last_part h)
+  one_more_all a no_exprs c d h rest = subst (AllFold (expr_of a ∷ [])) (sym (ap (λ x. c && x) rest ∙ and_true_also c)) (last_part h)
   one_more_all a (an_expr b es) c d h rest = a_part h rest
 
   one_more_any : (a : PlainNetExpr) (es : PlainNetExprs) (c d : Bool) → E (expr_of a) (truth_bit c) → AnyTogether es d → AnyFold (exprs_to (an_expr a es)) (c || d)
@@ -142,11 +97,11 @@ module _ (net : PlainNet) (part : PlainNetComponent) (no_holes : part.holes ≡ 
 
   all_reads : (es : PlainNetExprs) (b : Bool) → AllTogether es b → E (expr_of (AllOf es)) (truth_bit b)
   all_reads no_exprs b h = subst (λ x. E (expr_of (AllOf no_exprs)) (truth_bit x)) (sym h) (reads.number (truth_bit true))
-  all_reads (an_expr a es) b h = folds-folded E reads operators.And ◌&&◌ and_step and_assoc (literal 1 1) (exprs_to (an_expr a es)) b h
+  all_reads (an_expr a es) b h = folds-folded E reads operators.And ◌&&◌ and_two and_assoc (literal 1 1) (exprs_to (an_expr a es)) b h
 
   any_reads : (es : PlainNetExprs) (b : Bool) → AnyTogether es b → E (expr_of (AnyOf es)) (truth_bit b)
   any_reads no_exprs b h = subst (λ x. E (expr_of (AnyOf no_exprs)) (truth_bit x)) (sym h) (reads.number (truth_bit false))
-  any_reads (an_expr a es) b h = folds-folded E reads operators.Or ◌||◌ or_step or_assoc (literal 1 0) (exprs_to (an_expr a es)) b h
+  any_reads (an_expr a es) b h = folds-folded E reads operators.Or ◌||◌ or_two or_assoc (literal 1 0) (exprs_to (an_expr a es)) b h
 
   mutual
     pub reads_expr : (e : PlainNetExpr) (w : ℕ) (v : BitVector) → HasWidth net part e w → value e ≡ Some v → Reads E (expr_of e) w v
@@ -191,7 +146,7 @@ module _ (net : PlainNet) (part : PlainNetComponent) (no_holes : part.holes ≡ 
         let r = reads_expr a 1 x h.0 is in
         let (c, bit) = bit_is x r.1 in
         let (d, rest, fold) = all_folds es y h.1 is' in
-        (c && d, sym f ∙ ap (λ u. and_of u y) bit ∙ ap (and_of (truth_bit c)) rest ∙ and_step c d, one_more_all a es c d (subst (E (expr_of a)) bit r.0) fold)
+        (c && d, sym f ∙ ap (λ u. and_of u y) bit ∙ ap (and_of (truth_bit c)) rest ∙ and_two c d, one_more_all a es c d (subst (E (expr_of a)) bit r.0) fold)
 
     any_folds : (es : PlainNetExprs) (v : BitVector) → AreBits net part es → any_value es ≡ Some v → (b : Bool) × (v ≡ truth_bit b) × AnyTogether es b
     any_folds no_exprs v h e = (false, sym (some_is (truth_bit false) v e), refl)
@@ -200,7 +155,7 @@ module _ (net : PlainNet) (part : PlainNetComponent) (no_holes : part.holes ≡ 
         let r = reads_expr a 1 x h.0 is in
         let (c, bit) = bit_is x r.1 in
         let (d, rest, fold) = any_folds es y h.1 is' in
-        (c || d, sym f ∙ ap (λ u. or_of u y) bit ∙ ap (or_of (truth_bit c)) rest ∙ or_step c d, one_more_any a es c d (subst (E (expr_of a)) bit r.0) fold)
+        (c || d, sym f ∙ ap (λ u. or_of u y) bit ∙ ap (or_of (truth_bit c)) rest ∙ or_two c d, one_more_any a es c d (subst (E (expr_of a)) bit r.0) fold)
 
   -- a guard that is the number 1 is 1
   one_is_true : (g : PlainNetExpr) (v : BitVector) → is_one g ≡ true → value g ≡ Some v → is_true v ≡ true

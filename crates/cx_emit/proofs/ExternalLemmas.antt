@@ -1,10 +1,9 @@
 -- The external memories of a net's source are those cells of main, and hold what was loaded.
-use Rattle.std.proofs.Common.{◌≡◌, inl, inr, ℕ, zero, suc, ◌+◌, ◌<◌, ◌≤◌, true, false, List, [], ◌∷◌, ◌++◌, length, map, Option, Some, slice_get, option_map, refl, ap, sym, ◌∙◌, subst, if◌then◌else◌, arith}
+use Rattle.std.proofs.Common.{◌≡◌, inl, inr, ℕ, zero, suc, ◌+◌, ◌<◌, ◌≤◌, true, false, List, [], ◌∷◌, length, map, Option, Some, slice_get, option_map, refl, ap, sym, ◌∙◌, subst, if◌then◌else◌, arith}
 use Rattle.std.specs.Prelude.{slice_index}
 use Rattle.std.specs.Option.{option_map_or}
-use Rattle.std.proofs.lemmas.Bool.{or_parts}
 use Rattle.std.proofs.lemmas.Option.{slice_get-map}
-use Rattle.cx_prim.specs.CellStates.{CellState, MemoryOf, SequentialMemoryOf, AreWords, IsState, TakesWords}
+use Rattle.cx_prim.specs.CellStates.{CellState, AreWords, IsState, TakesWords}
 use Rattle.cx_prim.specs.CellStates as cell_states
 use Rattle.cx_prim.specs.Table.{PrimitiveRow, row_of}
 use Rattle.cx_meaning.specs.Designs.{PlainCell}
@@ -13,14 +12,13 @@ use Rattle.cx_state.proofs.Shapes.{IsMemoryOf}
 use Rattle.cx_vtree.specs.Plain.{PlainInstance, PlainModule, PlainSource}
 use Rattle.cx_vtree.specs.InstanceTree.{Placed, main_instance}
 use Rattle.cx_vtree.specs.SimRun.{instance_named, numbers_from}
-use Rattle.cx_vtree.specs.Sound.{Scope, Faults, instances_faults, is_sound}
+use Rattle.cx_vtree.specs.Sound.{is_sound}
 use Rattle.cx_vlaws.specs.Names.{AreApart}
 use Rattle.cx_vlaws.specs.Memories.{IsMemory}
-use Rattle.cx_vlaws.proofs.Cleans.{Clean}
-use Rattle.cx_vlaws.proofs.Fresh.{Fresh, fresh_apart}
+use Rattle.cx_vlaws.proofs.Fresh.{fresh_apart}
 use Rattle.cx_vlaws.proofs.Trees.{placed}
 use Rattle.cx_vlaws.proofs.Forest.{instance_keeps}
-use Rattle.cx_vlaws.proofs.Holders.{some_same, part_in}
+use Rattle.cx_vlaws.proofs.Holders.{part_in}
 use Rattle.cx_vlaws.proofs.Mains.{main_at}
 use Rattle.cx_vlaws.proofs.MemoryLemmas.{memory_there}
 use Rattle.cx_net.specs.Nets.{PlainNet}
@@ -33,14 +31,9 @@ use Rattle.cx_emit.specs.Places.{part_number, cell_number}
 use Rattle.cx_emit.specs.Fits.{IsFlat}
 use Rattle.cx_emit.proofs.NumberedLemmas.{In, in_lists, in_numbered, numbered_in}
 use Rattle.cx_emit.proofs.Standing.{number-same, tree, comp_there, own, main_placed}
-use Rattle.cx_emit.proofs.EdgeLemmas.{words_fit, sequential_words_fit}
-
--- instances of a module have different names
-parts_fresh : (before : List PlainModule) (scope : Scope) (earlier driven : List (List ℕ)) (xs : List PlainInstance) → Clean (instances_faults before scope earlier driven xs) → Fresh earlier (map (λ x. x.name) xs)
-parts_fresh before scope earlier driven [] c = tt
-parts_fresh before scope earlier driven (x ∷ xs) c =
-    let name = ap (λ (f : Faults). f.name) c.0 in
-    ((or_parts _ _ (or_parts _ _ (or_parts _ _ name).0).0).0, parts_fresh before scope (earlier ++ x.name ∷ []) _ xs c.1)
+use Rattle.cx_prim.proofs.CellStatesLemmas.{memory_with, sequential_with, words_fit, sequential_words_fit}
+use Rattle.cx_vlaws.proofs.Parts.{instances_fresh}
+use Rattle.cx_text.proofs.OptionLaws.{one_value}
 
 pub just_other : (c d : ℕ) → (c ≡ d → ⊥) → just c d ≡ false
 just_other zero zero h = absurd (h refl)
@@ -56,14 +49,6 @@ are_words p d width count (inr e) h = sequential_words_fit width count d (subst 
 pub takes_words : (p : PrimitiveRow) (width count : ℕ) (words : List ℕ) → IsMemoryOf (row_of p).shape width count → AreWords width count words → width ≤ 64 → TakesWords (row_of p).shape words
 takes_words p width count words (inl e) fit small = subst (λ s. TakesWords s words) (sym e) (fit, small)
 takes_words p width count words (inr e) fit small = subst (λ s. TakesWords s words) (sym e) (fit, small)
-
-memory_with : (width count : ℕ) (words : List ℕ) (d : CellState) → AreWords width count words → IsState (MemoryOf width count) d → IsState (MemoryOf width count) (cell_states.with_words words d)
-memory_with width count words (cell_states.Memory old done) fit h = fit
-memory_with width count words d fit h = absurd h
-
-sequential_with : (width count : ℕ) (words : List ℕ) (d : CellState) → AreWords width count words → IsState (SequentialMemoryOf width count) d → IsState (SequentialMemoryOf width count) (cell_states.with_words words d)
-sequential_with width count words (cell_states.SequentialMemory old read_data done) fit h = (fit, h.1)
-sequential_with width count words d fit h = absurd h
 
 pub state_with : (p : PrimitiveRow) (width count : ℕ) (words : List ℕ) (d : CellState) → IsMemoryOf (row_of p).shape width count → AreWords width count words → IsState (row_of p).shape d
     → IsState (row_of p).shape (cell_states.with_words words d)
@@ -104,7 +89,7 @@ module _ (net : PlainNet) (sound : is_sound (source_of net) ≡ true) (fit : IsF
   parts_apart =
       let main = main_placed net sound fit in
       let keeps = instance_keeps the_source sound 0 main.place main.at in
-      subst (λ (m : PlainModule). AreApart (map (λ (x : PlainInstance). x.name) m.instances)) main.is (fresh_apart _ _ (parts_fresh _ _ _ _ main.place.part.instances keeps.kept.instances))
+      subst (λ (m : PlainModule). AreApart (map (λ (x : PlainInstance). x.name) m.instances)) main.is (fresh_apart _ _ (instances_fresh _ _ _ _ main.place.part.instances keeps.kept.instances))
 
   pub same_cell : (c d : ℕ) (cell other : PlainCell) → slice_get cells c ≡ Some cell → slice_get cells d ≡ Some other → instance_name c ≡ instance_name d → c ≡ d
   same_cell c d cell other there at same =
@@ -136,7 +121,7 @@ module _ (net : PlainNet) (sound : is_sound (source_of net) ≡ true) (fit : IsF
         inner : memory.number ≡ 0 → ⊥
         inner first =
             let r = main_at the_source sound in
-            let same = some_same (slice_get the_tree 0) memory.place (placed main_instance 0 r.m) (subst (λ j. slice_get the_tree j ≡ Some memory.place) first memory.at) r.first in
+            let same = one_value (slice_get the_tree 0) memory.place (placed main_instance 0 r.m) (subst (λ j. slice_get the_tree j ≡ Some memory.place) first memory.at) r.first in
             let name : instance_name c ≡ [] = sym memory.name ∙ ap (λ (p : Placed). p.name) same in cc
 
     pub found_at : instance_named the_tree 0 (instance_name c) ≡ Some (cell_number the_source 0 c)

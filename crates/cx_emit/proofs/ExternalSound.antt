@@ -15,7 +15,7 @@ use Rattle.cx_vtree.specs.Plain.{PlainInstance, PlainModule, PlainExternal}
 use Rattle.cx_vtree.specs.InstanceTree.{same_name}
 use Rattle.cx_vtree.specs.Layout.{is_word, is_name, external_fits}
 use Rattle.cx_vtree.specs.Sound.{has_name, module_named, decl_name, last_named, instance_kind, memory_module, arrays_in, not_this_memory, not_this_width, memory_arrays, external_faults, externals_faults}
-use Rattle.cx_vlaws.proofs.Fresh.{has_each, same_is, is_same, same_self, has-append, Fresh, fresh_right}
+use Rattle.cx_vlaws.proofs.Fresh.{has_each, has-append, Fresh, fresh_right}
 use Rattle.cx_vlaws.proofs.Scopes.{other_than}
 use Rattle.cx_vmods.specs.Modules.{module_of}
 use Rattle.cx_net.specs.Nets.{PlainNetComponent, PlainNet}
@@ -33,6 +33,7 @@ use Rattle.cx_emit.proofs.CleanModules.{Each}
 use Rattle.cx_emit.proofs.PrimitiveModules.{arrays_of, primitive_owes}
 use Rattle.cx_emit.proofs.CellPorts.{each_in, comp_there, part_names}
 use Rattle.cx_emit.proofs.ModuleWalk.{modules_differ}
+use Rattle.cx_vtree.proofs.InstanceTreeLemmas.{same_is, is_same, same_self}
 
 -- a module, and an instance, is found by its name
 module_found : (earlier : List (List ℕ)) (ms : List PlainModule) (q : ℕ) (m : PlainModule) → Fresh earlier (map (λ x. x.name) ms) → slice_get ms q ≡ Some m → module_named ms m.name ≡ Some m

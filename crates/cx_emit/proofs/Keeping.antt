@@ -1,5 +1,5 @@
 -- Expressions that keep the rules in a scope: their names may be read, their widths fit, and they nest within so many levels.
-use Rattle.std.proofs.Common.{◌≡◌, ℕ, ◌+◌, ◌-◌, ◌^◌, ◌<◌, ◌≤◌, ◌==◌, ◌&&◌, ◌||◌, not, true, false, List, Some, None, option_and_then, refl, ap, ◌∙◌, subst, if◌then◌else◌, arith, le-ltb, le-leb, lt-ltb, ne_eqb, eq-eqb}
+use Rattle.std.proofs.Common.{◌≡◌, ℕ, ◌+◌, ◌-◌, ◌^◌, ◌<◌, ◌≤◌, ◌==◌, ◌&&◌, ◌||◌, not, true, false, List, Some, None, option_and_then, refl, ap, ◌∙◌, subst, if◌then◌else◌, arith, le-leb, lt-ltb, ne_eqb, eq-eqb}
 use Rattle.std.proofs.lemmas.Bool.{lt-leb, both_ways, and_from, or_from, or_parts}
 use Rattle.std.specs.Prelude.{nat_le, nat_lt}
 use Rattle.std.specs.Option.{option_map_or}
@@ -8,16 +8,14 @@ use Rattle.cx_prim.specs.Rows.{IsOfWidth}
 use Rattle.cx_vtree.specs.declared.operators.Operator.{Operator}
 use Rattle.cx_vtree.specs.Plain.{PlainExpr, Named, Number, Part, Word, Applied, Inverted, Chosen, Joined}
 use Rattle.cx_vtree.specs.Layout.{is_name, expr_fits}
-use Rattle.cx_vtree.specs.Sound.{Scope, width_of, is_array, is_readable, is_comparison, misnames, bad_width, applied_width, chosen_width, joined_width, part_width, fitting_width, has_width, nests_over}
+use Rattle.cx_vtree.specs.Sound.{Scope, width_of, is_array, is_readable, is_comparison, misnames, applied_width, chosen_width, joined_width, part_width, fitting_width, has_width, nests_over}
+use Rattle.cx_vtree.proofs.SoundLemmas.{not_wide}
 
 pub record Keeps (scope : Scope) (levels : ℕ) (e : PlainExpr) (w : ℕ) : Type 0 where
   pub names : misnames scope e ≡ false
   pub width : fitting_width scope e ≡ Some w
   pub shallow : nests_over levels e ≡ false
   pub laid : expr_fits e ≡ true
-
-pub not_wide : (w : ℕ) → 1 ≤ w → w ≤ 128 → bad_width w ≡ false
-not_wide w some few = or_from (w == 0) (nat_lt 128 w) (ne_eqb w 0 (λ none. absurd (omega (arith, some, none)))) (le-ltb 128 w few)
 
 module _ (scope : Scope) (levels : ℕ) where
   pub keeps_named : (n : List ℕ) (w : ℕ) → is_name n ≡ true → is_readable scope n ≡ true → width_of (scope n) ≡ w → Keeps scope levels (Named n) w

@@ -7,7 +7,6 @@ use Rattle.cx_prim.specs.CellStates.{CellState}
 use Rattle.cx_prim.specs.CellStates as cell_states
 use Rattle.cx_meaning.specs.Designs.{PlainCell}
 use Rattle.cx_meaning.specs.Instances.{just, if_external, externals_from, loaded_at}
-use Rattle.cx_rules.proofs.ForeignLemmas.{just_self}
 use Rattle.cx_vtree.specs.Plain.{PlainExternal}
 use Rattle.cx_vtree.specs.PlainParts.{row_of, rows_of}
 use Rattle.cx_vtree.specs.InstanceTree.{Placed}
@@ -15,6 +14,7 @@ use Rattle.cx_vtree.specs.SimRun.{is_memory, loaded_word}
 use Rattle.cx_emit.specs.Numbered.{lists_from}
 use Rattle.cx_emit.specs.Sources.{external_of, cell_externals}
 use Rattle.cx_emit.proofs.ExternalLemmas.{just_other}
+use Rattle.cx_meaning.proofs.InstancesLemmas.{just_same}
 
 -- c is the number of a cell, j that of its instance, and `array` the name of its array
 module _ (tree : List Placed) (j c : ℕ) (array : List ℕ) (d : CellState) where
@@ -94,7 +94,7 @@ module _ (tree : List Placed) (j c : ℕ) (array : List ℕ) (d : CellState) whe
           shape = shape ∙ ap (λ n. row_of (external_of n x)) here ∙ ap (λ (y : PlainCell). row_of (external_of c y)) same;
           fits = All-head FitsShape m ms fits;
           state = ap (λ e. loaded_at (if_external e b (externals_from (suc b) cs)) (m.words ∷ words_loaded ms) c d) is_here
-              ∙ ap (λ e. if e then cell_states.with_words m.words d else loaded_at (externals_from (suc b) cs) (words_loaded ms) c d) (ap (just b) (sym here) ∙ just_self b);
+              ∙ ap (λ e. if e then cell_states.with_words m.words d else loaded_at (externals_from (suc b) cs) (words_loaded ms) c d) (ap (just b) (sym here) ∙ just_same b);
           words = λ k. ap (λ e. loaded_word tree (front e b x (lists_from cell_externals (suc b) cs)) (m.words ∷ words_loaded ms) j array k) is_here
               ∙ ap (λ e. if e then slice_index m.words k else loaded_word tree (lists_from cell_externals (suc b) cs) (words_loaded ms) j array k) own_here;
         }

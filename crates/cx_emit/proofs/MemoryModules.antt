@@ -1,5 +1,5 @@
 -- The modules of memories keep the rules.
-use Rattle.std.proofs.Common.{◌≡◌, ℕ, zero, suc, ◌+◌, ◌-◌, ◌*◌, ◌^◌, ◌<◌, ◌≤◌, Bool, true, false, List, [], ◌∷◌, length, if◌then◌else◌, refl, arith}
+use Rattle.std.proofs.Common.{◌≡◌, ℕ, ◌+◌, ◌-◌, ◌^◌, ◌<◌, ◌≤◌, Bool, true, false, List, [], ◌∷◌, length, if◌then◌else◌, refl, arith}
 use Rattle.std.specs.Prelude.{codes, nat_le, nat_lt}
 use Rattle.std.specs.List.{list_all}
 use Rattle.std.proofs.lemmas.Bool.{leb-true, leb-false, ltb-true, and_parts}
@@ -19,20 +19,7 @@ use Rattle.cx_emit.proofs.Keeping.{Keeps, keeps_part, keeps_word, keeps_applied,
 use Rattle.cx_emit.proofs.CleanModules.{IsKept}
 use Rattle.cx_emit.proofs.StatelessModules.{made, one_wide, literal_keeps, input_kept, output_kept, net_keeps, names_fresh, assign_keeps, set_keeps}
 use Rattle.cx_emit.proofs.ClockedModules.{bits_wide_for}
-
--- a memory has words, and few of them
-some_words : (sizes : List ℕ) → list_all (λ size. nat_le 1 size) sizes ≡ true → 1 ≤ word_count sizes
-some_words [] e = omega arith
-some_words (size ∷ sizes) e =
-    let parts = and_parts (nat_le 1 size) (list_all (λ size. nat_le 1 size) sizes) e in
-    let first = leb-true 1 size parts.0 in
-    let rest = some_words sizes parts.1 in
-    product size (word_count sizes) first rest
-  where
-    product : (a b : ℕ) → 1 ≤ a → 1 ≤ b → 1 ≤ a * b
-    product (suc a) (suc b) one other = let same : suc a * suc b ≡ suc b + a * suc b = omega arith in omega (arith, same)
-    product zero b one other = absurd (omega (arith, one))
-    product (suc a) zero one other = absurd (omega (arith, other))
+use Rattle.cx_text.proofs.LoadingLemmas.{word_count_positive}
 
 address_wide : (w : ℕ) → is_address_width w ≡ true → IsWidth w
 address_wide w e =
@@ -147,7 +134,7 @@ module _ (before : List PlainModule) (name : List ℕ) (named : is_name name ≡
   pub memory_kept : (w : ℕ) (sizes widths : List ℕ) → IsLayout w sizes widths → IsKept before (made name (memory_row w sizes widths) (memories.combinational w sizes widths))
   memory_kept w sizes widths layout =
       let tests = and_parts (list_all (λ size. nat_le 1 size) sizes) (nat_lt (word_count sizes) (2 ^ 32)) layout.sized in
-      by_places sizes widths layout.few layout.alike (some_words sizes tests.0) (ltb-true (word_count sizes) (2 ^ 32) tests.1) layout.addressed
+      by_places sizes widths layout.few layout.alike (word_count_positive sizes tests.0) (ltb-true (word_count sizes) (2 ^ 32) tests.1) layout.addressed
     where
       by_places : (sizes widths : List ℕ) → length sizes ≤ 4 → length widths ≡ length sizes → 1 ≤ word_count sizes → word_count sizes < 2 ^ 32 → list_all is_address_width widths ≡ true
           → IsKept before (made name (memory_row w sizes widths) (memories.combinational w sizes widths))
@@ -250,7 +237,7 @@ module _ (before : List PlainModule) (name : List ℕ) (named : is_name name ≡
   pub sequential_kept : (w : ℕ) (sizes widths : List ℕ) → IsLayout w sizes widths → IsKept before (made name (sequential_memory_row w sizes widths) (memories.sequential w sizes widths))
   sequential_kept w sizes widths layout =
       let tests = and_parts (list_all (λ size. nat_le 1 size) sizes) (nat_lt (word_count sizes) (2 ^ 32)) layout.sized in
-      by_places sizes widths layout.few layout.alike (some_words sizes tests.0) (ltb-true (word_count sizes) (2 ^ 32) tests.1) layout.addressed
+      by_places sizes widths layout.few layout.alike (word_count_positive sizes tests.0) (ltb-true (word_count sizes) (2 ^ 32) tests.1) layout.addressed
     where
       by_places : (sizes widths : List ℕ) → length sizes ≤ 4 → length widths ≡ length sizes → 1 ≤ word_count sizes → word_count sizes < 2 ^ 32 → list_all is_address_width widths ≡ true
           → IsKept before (made name (sequential_memory_row w sizes widths) (memories.sequential w sizes widths))

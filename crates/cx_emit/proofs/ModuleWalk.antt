@@ -10,7 +10,7 @@ use Rattle.cx_vtree.specs.Plain.{PlainModule}
 use Rattle.cx_vtree.specs.InstanceTree.{same_name, declared_nets}
 use Rattle.cx_vtree.specs.Layout.{module_fits}
 use Rattle.cx_vtree.specs.Sound.{Counts, has_name, module_named, counts_named, module_counts, too_large, lines_faults, modules_faults}
-use Rattle.cx_vlaws.proofs.Fresh.{Fresh, same_self}
+use Rattle.cx_vlaws.proofs.Fresh.{Fresh}
 use Rattle.cx_vlaws.specs.Counts.{declared_words}
 use Rattle.cx_vmods.specs.Modules.{port_of, pieces_of, module_of}
 use Rattle.cx_rules.specs.Sizes.{shape_words}
@@ -32,6 +32,7 @@ use Rattle.cx_emit.proofs.CellPorts.{each_in, comp_there, cell_module_named_well
 use Rattle.cx_emit.proofs.Connections.{IsKnown}
 use Rattle.cx_emit.proofs.ComponentModules.{component_kept}
 use Rattle.cx_emit.proofs.Counted.{AtMost, most_more, alone_most, IsThereKind, child_nets, child_instances, child_words, IsCounted, component_most}
+use Rattle.cx_vtree.proofs.InstanceTreeLemmas.{same_self}
 
 -- ONE MODULE MORE behind those before
 named_kept : (before : List PlainModule) (m : PlainModule) (n : List ℕ) (q : PlainModule) → module_named before n ≡ Some q → module_named (before ++ m ∷ []) n ≡ Some q

@@ -8,7 +8,7 @@ use Rattle.std.proofs.lemmas.List.{append_cancel_left, map-append}
 use Rattle.cx_meaning.specs.Designs.{PlainKind, OfPrimitive, OfComponent, PlainCell}
 use Rattle.cx_vtree.specs.InstanceTree.{same_name}
 use Rattle.cx_vtree.specs.Sound.{has_name}
-use Rattle.cx_vlaws.proofs.Fresh.{same_is, has-append, Fresh, fresh_both}
+use Rattle.cx_vlaws.proofs.Fresh.{has-append, Fresh, fresh_both}
 use Rattle.cx_net.specs.Nets.{PlainNetComponent, PlainNet}
 use Rattle.cx_emit.specs.Numbered.{lists_from}
 use Rattle.cx_emit.specs.Numbers.{AreFew}
@@ -16,6 +16,7 @@ use Rattle.cx_emit.specs.Names.{numbered, twice_numbered, module_name, cell_modu
 use Rattle.cx_emit.specs.Signatures.{kind_modules, cell_modules}
 use Rattle.cx_emit.specs.Sources.{component_modules, source_of}
 use Rattle.cx_emit.proofs.NameLaws.{is_digit, digits-decimal, numbered-injective, twice_numbered-injective}
+use Rattle.cx_vtree.proofs.InstanceTreeLemmas.{same_is}
 
 not_all_digits : (ds xs : List ℕ) → list_all is_digit (ds ++ 95 ∷ xs) ≡ true → ⊥
 not_all_digits [] xs h = absurd (cc)

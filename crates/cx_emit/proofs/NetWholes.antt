@@ -1,9 +1,8 @@
 -- Where all that is there has a value, each expression has one, and a register takes what its chain gives.
-use Rattle.std.proofs.Common.{◌≡◌, ℕ, zero, suc, ◌+◌, ◌<◌, Bool, true, false, List, [], ◌∷◌, ◌++◌, length, map, length-append, Option, Some, None, option_and_then, option_map, slice_get, refl, ap, sym, ◌∙◌, subst, if◌then◌else◌, arith}
+use Rattle.std.proofs.Common.{◌≡◌, ℕ, zero, suc, ◌+◌, ◌<◌, Bool, true, false, List, [], ◌∷◌, length, Option, Some, option_and_then, option_map, slice_get, refl, ap, sym, ◌∙◌, subst, if◌then◌else◌, arith}
 use Rattle.std.specs.Prelude.{nat_lt}
 use Rattle.std.specs.Option.{option_map_or}
 use Rattle.std.proofs.lemmas.Bool.{lt-ltb}
-use Rattle.std.proofs.lemmas.List.{length-map}
 use Rattle.std.proofs.lemmas.Option.{slice_get_within}
 use Rattle.cx_bits.specs.BitVector.{BitVector}
 use Rattle.cx_bits.specs.Operators.{sum_of, and_of, or_of, complement_of}
@@ -24,6 +23,8 @@ use Rattle.cx_net.specs.NetFits.{signature_widths, kind_width, port_width, HasPo
 use Rattle.cx_emit.specs.Fits.{IsFlat, node_width}
 use Rattle.cx_net.proofs.DriverLemmas.{AreFitDrivers}
 use Rattle.cx_net.proofs.DriverLemmas.{at_kind, part-within, cell-at, there-at}
+use Rattle.cx_text.proofs.OptionLaws.{map_some, bind_some}
+use Rattle.cx_net.proofs.NetsLemmas.{length-signature}
 
 -- it has a value
 abbrev pub Has : Option BitVector → Type 0
@@ -96,22 +97,6 @@ module _ (net : PlainNet) (part : PlainNetComponent) (no_holes : part.holes ≡ 
           → (v : BitVector) × (chain around registers look u (d ∷ ds) ≡ Some v) × (v.value ≡ taken (λ d. value d.guard) (λ d. value d.source) u.value (d ∷ ds))
       go g is true test x source later = (x, by_guard g true is test x source, sym (by_take g true is test ∙ ap (λ o. option_map_or (λ b. b.value) o u.value) source))
       go g is false test x source (v, f, same) = (v, by_guard g false is test v f, same ∙ sym (by_take g false is test))
-
-map_some : {A B : Type 0} (f : A → B) (o : Option A) (y : B) → option_map f o ≡ Some y → (x : A) × (o ≡ Some x) × (f x ≡ y)
-map_some f None y e = absurd (cc)
-map_some f (Some x) y e = (x, refl, cc)
-
-bind_some : {A B : Type 0} (f : A → Option B) (o : Option A) (y : B) → option_and_then f o ≡ Some y → (x : A) × (o ≡ Some x) × (f x ≡ Some y)
-bind_some f None y e = absurd (cc)
-bind_some f (Some x) y e = (x, refl, e)
-
-pub length-signature : (part : PlainNetComponent) → length (signature_widths part) ≡ 2 + length part.inputs + length part.outputs
-length-signature part =
-    let inputs = length-map part.inputs (λ (d : PortDecl). d.width) in
-    let outputs = length-map part.outputs (λ (d : PortDecl). d.width) in
-    let front = length-append (1 ∷ map (λ (d : PortDecl). d.width) part.inputs) (map (λ (d : PortDecl). d.width) part.outputs) in
-    let whole = length-append (1 ∷ map (λ (d : PortDecl). d.width) part.inputs ++ map (λ (d : PortDecl). d.width) part.outputs) (1 ∷ []) in
-    omega arith
 
 -- a node that has a width is there
 module _ (net : PlainNet) (fit : IsFlat net) where

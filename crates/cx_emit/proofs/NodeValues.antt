@@ -1,16 +1,16 @@
 -- A node of a net that has a value has it in the source too.
-use Rattle.std.proofs.Common.{◌≡◌, ℕ, zero, suc, ◌<◌, ◌≤◌, Bool, true, false, List, [], ◌∷◌, length, Option, Some, None, option_map, option_and_then, slice_get, refl, ap, sym, ◌∙◌, subst, if◌then◌else◌, arith}
+use Rattle.std.proofs.Common.{◌≡◌, ℕ, zero, suc, ◌<◌, ◌≤◌, Bool, true, false, List, [], ◌∷◌, length, Option, Some, option_map, option_and_then, slice_get, refl, ap, sym, ◌∙◌, subst, if◌then◌else◌, arith}
 use Rattle.std.specs.Prelude.{unwrap_or, codes}
 use Rattle.std.specs.Option.{option_map_or}
 use Rattle.cx_bits.specs.BitVector.{BitVector}
-use Rattle.cx_bits.specs.OperatorLaws.{Fits-bit_of}
+use Rattle.cx_bits.proofs.OperatorLaws.{Fits-bit_of}
 use Rattle.cx_prim.specs.CellStates.{CellState}
 use Rattle.cx_prim.specs.declared.ports.PortRow.{PortRow}
 use Rattle.cx_prim.specs.declared.ports.Side.{Side}
 use Rattle.cx_prim.specs.declared.ports.Side.TheVariants as sides
 use Rattle.cx_prim.specs.Rows.{Inputs, Row, input, is_output_side, IsOfWidth, IsLawful}
 use Rattle.cx_prim.specs.Table.{PrimitiveRow, row_of}
-use Rattle.cx_prim.specs.TableLaws.{row_of_lawful}
+use Rattle.cx_prim.proofs.TableLaws.{row_of_lawful}
 use Rattle.cx_meaning.specs.declared.ports.PortRef.{PortRef}
 use Rattle.cx_meaning.specs.declared.ports.PortRef.TheVariants as ports
 use Rattle.cx_meaning.specs.declared.kinds.PortDecl.{PortDecl}
@@ -45,21 +45,12 @@ use Rattle.cx_emit.proofs.ExprLemmas.{Reads, reads_chain}
 use Rattle.cx_emit.proofs.Standing.{tree, comp_there, IsPlaced, main_placed, ports_of_cell, IsCell, cell_placed, child_placed, child_lower}
 use Rattle.cx_emit.proofs.Origins.{IsWide, port_is_wide, port_given, cell_input_tied, cell_output_ties, wire_is_wide, wire_given, register_is_wide, register_is_held, output_is_wide, output_given, done_given}
 use Rattle.cx_emit.proofs.ReadLemmas.{row_of_reads}
-use Rattle.cx_net.proofs.GatherLemmas.{gathered, no_inputs, length-no_inputs, input-no_inputs, side-at}
+use Rattle.cx_net.proofs.GatherLemmas.{gathered, no_inputs, length-no_inputs, input-no_inputs}
 use Rattle.cx_emit.proofs.CellValues.{Carried, zero_fits, text_port, inputs_stand, output_carried}
 use Rattle.cx_net.proofs.DriverLemmas.{drivers_fit, primitive_width, component_width, at_kind, part-within, cell-at, step-at}
 use Rattle.cx_emit.proofs.PortPlaces.{done_port, PortIs, is_go, is_input, is_output, is_done, port_is, input_place}
-
-map_some : {A B : Type 0} (f : A → B) (o : Option A) (y : B) → option_map f o ≡ Some y → (x : A) × (o ≡ Some x) × (f x ≡ y)
-map_some f None y e = absurd (cc)
-map_some f (Some x) y e = (x, refl, cc)
-
-bind_some : {A B : Type 0} (f : A → Option B) (o : Option A) (y : B) → option_and_then f o ≡ Some y → (x : A) × (o ≡ Some x) × (f x ≡ Some y)
-bind_some f None y e = absurd (cc)
-bind_some f (Some x) y e = (x, refl, e)
-
-some_is : {A : Type 0} (x y : A) → Some x ≡ Some y → x ≡ y
-some_is x y e = cc
+use Rattle.cx_text.proofs.OptionLaws.{map_some, bind_some, same_some}
+use Rattle.cx_meaning.proofs.RowsLemmas.{side_at}
 
 module _ (net : PlainNet) (sound : is_sound (source_of net) ≡ true) (fit : IsFlat net) (built : EachIsBuilt) (now : Moment) where
   abbrev the_source : PlainSource
@@ -107,12 +98,12 @@ module _ (net : PlainNet) (sound : is_sound (source_of net) ≡ true) (fit : IsF
       ports_read (ports.Input n) w v h e = named (input_name n) w v (outside.inputs n w v h e)
       ports_read (ports.Output n) w v h e = named (output_name n) w v (looked [] k (APort (ports.Output n)) w v refl h e)
       ports_read (ports.Done g) w v h e = absurd h
-      ports_read (ports.Literal u x) w v h e = subst (Reads E (literal u x) w) (some_is (record { width = u; value = x }) v e) (reads.number (record { width = u; value = x }), h)
+      ports_read (ports.Literal u x) w v h e = subst (Reads E (literal u x) w) (same_some (record { width = u; value = x }) v e) (reads.number (record { width = u; value = x }), h)
 
       registers_read : (n w : ℕ) (v : BitVector) → slice_get part.registers n ≡ Some w → registers n ≡ Some v → Reads E (Named (register_name n)) w v
       registers_read n w v there e =
           let r = stand.registers [] k n w refl there in
-          let is : record { width = w; value = s.register [] n } ≡ v = some_is _ v (sym (ap (option_map (λ w. record { width = w; value = s.register [] n })) there) ∙ e) in
+          let is : record { width = w; value = s.register [] n } ≡ v = same_some _ v (sym (ap (option_map (λ w. record { width = w; value = s.register [] n })) there) ∙ e) in
           let wide = register_is_wide net sound fit k i here n w there in
           let more = wide.0 in
           let some : 1 ≤ w = omega arith in
@@ -273,7 +264,7 @@ module _ (net : PlainNet) (sound : is_sound (source_of net) ≡ true) (fit : IsF
           let (port, at, same) = map_some (λ (x : PortRow). x.width) (slice_get (row_of primitive).ports p) w wide in
           subst (λ u. Carries i (cell_port_name c p) u v) same
           (row_carries its_cells c cell primitive there is p port at port.side refl v
-          (subst (λ side. row_node part its_cells around s (look []) (λ c. look (c ∷ [])) (row_of primitive) c p side ≡ Some v) (side-at (row_of primitive).ports p port at) e))
+          (subst (λ side. row_node part its_cells around s (look []) (λ c. look (c ∷ [])) (row_of primitive) c p side ≡ Some v) (side_at (row_of primitive).ports p port at) e))
       cell_carries c p w v cell there (OfComponent child) is wide e = child_carries its_cells c cell child there is (net_within net levels child) (part-within net levels child) p w v wide e
 
       own_carries : (node : Node) (w : ℕ) (v : BitVector) → node_width net part node ≡ Some w → step_of node ≡ Some v → Carries i (node_name node) w v
@@ -295,7 +286,7 @@ module _ (net : PlainNet) (sound : is_sound (source_of net) ≡ true) (fit : IsF
           (sym (ap (option_and_then (λ u. driven_node part its_cells around s (look []) (λ c. look (c ∷ [])) u (ToWire n))) wide) ∙ e)
       own_carries (AHole n) w v wide e = absurd (cc)
       own_carries TheDone w v wide e =
-          let same : 1 ≡ w = some_is 1 w wide in
+          let same : 1 ≡ w = same_some 1 w wide in
           subst (λ u. Carries i (codes "done") u v) same (driven its_cells (codes "done") ToDone 1 v (omega arith, omega arith) refl (done_given net sound fit k i here) e)
 
   -- what stands below a cell
@@ -338,7 +329,7 @@ module _ (net : PlainNet) (sound : is_sound (source_of net) ≡ true) (fit : IsF
           let at : slice_get (ports_at the_tree 0) 2 ≡ Some (one_bit (codes "go")) =
           ap (λ (o : Option Placed). slice_get (option_map_or (λ p. p.part.ports) o []) 2) main.at ∙ ap (λ (m : PlainModule). slice_get m.ports 2) main.is in
           let has = value_outside the_tree now 0 (codes "go") (input_outside the_source sound 2 (one_bit (codes "go")) at refl) in
-          let same : record { width = 1; value = now.go } ≡ v = ap (λ n. record { width = 1; value = n }) goes ∙ some_is (truth_bit go) v e in
+          let same : record { width = 1; value = now.go } ≡ v = ap (λ n. record { width = 1; value = n }) goes ∙ same_some (truth_bit go) v e in
           subst (Carries 0 (codes "go") 1) same (has, subst (λ n. IsOfWidth 1 (record { width = 1; value = n })) (sym goes) (record { same_width = refl; fits = Fits-bit_of go }));
       inputs = λ n w v wide e. absurd (cc);
     }

@@ -1,6 +1,7 @@
 -- What stands in lists that are made element by element.
-use Rattle.std.proofs.Common.{◌≡◌, ◌⊎◌, inl, inr, ℕ, zero, suc, ◌+◌, List, [], ◌∷◌, ◌++◌, Option, Some, None, option_map, slice_get, refl, ap, sym, ◌∙◌, subst, arith}
+use Rattle.std.proofs.Common.{◌≡◌, ◌⊎◌, inl, inr, ℕ, zero, suc, ◌+◌, List, [], ◌∷◌, ◌++◌, Some, option_map, slice_get, refl, ap, sym, ◌∙◌, subst, arith}
 use Rattle.cx_emit.specs.Numbered.{numbered_from, with_numbers, lists_from}
+use Rattle.cx_text.proofs.OptionLaws.{map_some}
 
 -- it stands somewhere in the list
 abbrev pub In : {A : Type 0} → A → List A → Type 0
@@ -35,13 +36,9 @@ numbered-get f xs k = let same : 0 + k ≡ k = omega arith in numbered-at f 0 xs
 pub in_numbered : {A B : Type 0} (f : ℕ → A → B) (xs : List A) (k : ℕ) (x : A) → slice_get xs k ≡ Some x → slice_get (with_numbers f xs) k ≡ Some (f k x)
 in_numbered f xs k x e = numbered-get f xs k ∙ ap (option_map (f k)) e
 
-map_of : {A B : Type 0} (f : A → B) (o : Option A) (y : B) → option_map f o ≡ Some y → (x : A) × (o ≡ Some x) × (f x ≡ y)
-map_of f None y e = absurd (cc)
-map_of f (Some x) y e = (x, refl, cc)
-
 -- what it is an element of
 pub numbered_in : {A B : Type 0} (f : ℕ → A → B) (xs : List A) (k : ℕ) (y : B) → slice_get (with_numbers f xs) k ≡ Some y → (x : A) × (slice_get xs k ≡ Some x) × (f k x ≡ y)
-numbered_in f xs k y e = map_of (f k) (slice_get xs k) y (sym (numbered-get f xs k) ∙ e)
+numbered_in f xs k y e = map_some (f k) (slice_get xs k) y (sym (numbered-get f xs k) ∙ e)
 
 in_lists_from : {A B : Type 0} (f : ℕ → A → List B) (b : ℕ) (xs : List A) (k : ℕ) (x : A) (y : B) → slice_get xs k ≡ Some x → In y (f (b + k) x) → In y (lists_from f b xs)
 in_lists_from f b [] k x y e h = absurd (cc)

@@ -8,7 +8,6 @@ use Rattle.cx_meaning.specs.Designs.{PlainCell}
 use Rattle.cx_vtree.specs.Plain.{PlainPort, PlainDecl, WireOf, RegisterOf, PlainAssign, PlainConn, PlainModule}
 use Rattle.cx_vtree.specs.InstanceTree.{Placed, decls_at, Tied, Held, Given, origin_of}
 use Rattle.cx_vtree.specs.Sound.{decl_meaning, width_of, is_sound}
-use Rattle.cx_vlaws.proofs.Holders.{some_same}
 use Rattle.cx_vlaws.proofs.MeaningLemmas.{decl-means, decl_wide, port_wide}
 use Rattle.cx_vlaws.proofs.Ties.{input_tied, output_tied, assigned_given, register_held}
 use Rattle.cx_net.specs.Nets.{PlainNetComponent, PlainNet, ToPort, ToWire, ToDone}
@@ -22,6 +21,7 @@ use Rattle.cx_emit.specs.Sources.{assign, port_decl, cell_decls, port_assigns, c
 use Rattle.cx_emit.specs.Places.{cell_number}
 use Rattle.cx_emit.proofs.NumberedLemmas.{In, in_left, in_right, in_numbered, in_lists}
 use Rattle.cx_emit.proofs.Standing.{tree, comp, own, IsPlaced, ports_of_cell, IsCell, cell_module_ports}
+use Rattle.cx_text.proofs.OptionLaws.{one_value}
 
 -- 1 to 128
 abbrev pub IsWide : ℕ → Type 0
@@ -94,13 +94,13 @@ module _ (net : PlainNet) (sound : is_sound (source_of net) ≡ true) (fit : IsF
       pub cell_input_tied : port.output ≡ false → origin_of the_tree (cell_number (source_of net) i c) port.name ≡ Some (Tied i (cell_port_name c p))
       cell_input_tied input =
           let (cn, at, named, origin) = input_tied (source_of net) sound (cell_number (source_of net) i c) h.place h.at h.inner (suc (suc p)) port inner_port input in
-          let same : cn ≡ port_conn c p port = some_same (slice_get h.place.conns (suc (suc p))) cn (port_conn c p port) at inner_conn in
+          let same : cn ≡ port_conn c p port = one_value (slice_get h.place.conns (suc (suc p))) cn (port_conn c p port) at inner_conn in
           origin ∙ ap (λ j. Some (Tied j cn.net)) h.holder ∙ ap (λ (x : PlainConn). Some (Tied i x.net)) same
 
       pub cell_output_ties : port.output ≡ true → origin_of the_tree i (cell_port_name c p) ≡ Some (Tied (cell_number (source_of net) i c) port.name)
       cell_output_ties output =
           let (cn, at, named, origin) = output_tied (source_of net) sound (cell_number (source_of net) i c) h.place h.at h.inner (suc (suc p)) port inner_port output in
-          let same : cn ≡ port_conn c p port = some_same (slice_get h.place.conns (suc (suc p))) cn (port_conn c p port) at inner_conn in
+          let same : cn ≡ port_conn c p port = one_value (slice_get h.place.conns (suc (suc p))) cn (port_conn c p port) at inner_conn in
           subst (λ j. origin_of the_tree j (cell_port_name c p) ≡ Some (Tied (cell_number (source_of net) i c) port.name)) h.holder
           (subst (λ (x : PlainConn). origin_of the_tree h.place.holder x.net ≡ Some (Tied (cell_number (source_of net) i c) port.name)) same origin)
 

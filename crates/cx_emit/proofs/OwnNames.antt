@@ -9,7 +9,6 @@ use Rattle.cx_meaning.specs.Designs.{PlainKind, OfPrimitive, OfComponent, PlainC
 use Rattle.cx_vtree.specs.InstanceTree.{same_name}
 use Rattle.cx_vtree.specs.Plain.{PlainPort, PlainInstance, PlainModule}
 use Rattle.cx_vtree.specs.Sound.{decl_name}
-use Rattle.cx_vlaws.proofs.Fresh.{same_is}
 use Rattle.cx_vmods.specs.Spelling.{spelled}
 use Rattle.cx_vmods.specs.Parts.{Piece, Wire, Output, Register, Array, Store, Interior, nothing, with_piece, with_pieces}
 use Rattle.cx_vmods.specs.Modules.{port_of, pieces_of, module_of}
@@ -21,6 +20,8 @@ use Rattle.cx_emit.specs.Sources.{port_decl, cell_decls, wire_decl, register_dec
 use Rattle.cx_emit.specs.Shapes.{is_own_name, named_in, HasOwnNames}
 use Rattle.cx_emit.proofs.CleanModules.{Each}
 use Rattle.cx_emit.proofs.PortPlaces.{done_port}
+use Rattle.cx_emit.proofs.EmittedParts.{each_all}
+use Rattle.cx_vtree.proofs.InstanceTreeLemmas.{same_is}
 
 abbrev IsOwn : List ℕ → Type 0
 IsOwn name = is_own_name name ≡ true
@@ -32,10 +33,6 @@ Own name xs = Each (λ x. IsOwn (name x)) xs
 pub each_append : {A : Type 0} (P : A → Type 0) (xs ys : List A) → Each P xs → Each P ys → Each P (xs ++ ys)
 each_append P [] ys h k = k
 each_append P (x ∷ xs) ys h k = (h.0, each_append P xs ys h.1 k)
-
-pub all_from_each : {A : Type 0} (P : A → Type 0) (xs : List A) → Each P xs → All P xs
-all_from_each P [] h = All-nil P
-all_from_each P (x ∷ xs) h = All-cons P x xs h.0 (all_from_each P xs h.1)
 
 own_map : {A : Type 0} (name : A → List ℕ) (xs : List A) → Own name xs → Each IsOwn (map name xs)
 own_map name [] h = tt
@@ -136,7 +133,7 @@ modules_own net b (part ∷ parts) =
 
 all_own : (ms : List PlainModule) → AreOwn ms → All (λ m. All IsOwn (named_in m)) ms
 all_own [] h = All-nil (λ m. All IsOwn (named_in m))
-all_own (m ∷ ms) h = All-cons (λ x. All IsOwn (named_in x)) m ms (all_from_each IsOwn (named_in m) h.0) (all_own ms h.1)
+all_own (m ∷ ms) h = All-cons (λ x. All IsOwn (named_in x)) m ms (each_all IsOwn (named_in m) h.0) (all_own ms h.1)
 
 -- all names in the source of a net are its own
 pub source_own_names : (net : PlainNet) → HasOwnNames (source_of net)

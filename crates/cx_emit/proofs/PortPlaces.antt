@@ -1,5 +1,5 @@
 -- Which port of a component stands at which place of its signature.
-use Rattle.std.proofs.Common.{◌≡◌, ℕ, zero, suc, ◌-◌, ◌<◌, ◌≤◌, Bool, true, false, List, [], ◌∷◌, ◌++◌, length, map, Option, Some, None, option_map, slice_get, append_assoc, refl, ap, sym, ◌∙◌, subst, if◌then◌else◌, arith}
+use Rattle.std.proofs.Common.{◌≡◌, ℕ, zero, suc, ◌-◌, ◌<◌, ◌≤◌, Bool, true, false, List, [], ◌∷◌, ◌++◌, length, map, Some, option_map, slice_get, append_assoc, refl, ap, sym, ◌∙◌, subst, if◌then◌else◌}
 use Rattle.std.specs.Prelude.{nat_lt, codes}
 use Rattle.std.proofs.lemmas.Bool.{ltb-true, ltb-false}
 use Rattle.std.proofs.lemmas.List.{length-map}
@@ -14,6 +14,8 @@ use Rattle.cx_emit.specs.Signatures.{one_bit, input_port, signature_of}
 use Rattle.cx_emit.specs.Signatures as signatures
 use Rattle.cx_net.specs.NetFits.{signature_widths}
 use Rattle.cx_emit.proofs.NumberedLemmas.{in_numbered}
+use Rattle.cx_text.proofs.ListLaws.{append-front, append-back}
+use Rattle.cx_text.proofs.OptionLaws.{map_of}
 
 abbrev pub done_port : PlainPort
 done_port = record { output = true; name = codes "done"; width = 1 }
@@ -24,21 +26,6 @@ pub data PortIs (part : PlainNetComponent) (p w : ℕ) : Type 0 where
   is_input : (n : ℕ) (d : PortDecl) → net_part_port part p ≡ AnInput n → slice_get part.inputs n ≡ Some d → slice_get (signature_of part) p ≡ Some (input_port n d) → w ≡ d.width → p ≡ suc n → PortIs part p w
   is_output : (n : ℕ) (d : PortDecl) → net_part_port part p ≡ AnOutput n → slice_get part.outputs n ≡ Some d → slice_get (signature_of part) p ≡ Some (signatures.output_port n d) → w ≡ d.width → PortIs part p w
   is_done : net_part_port part p ≡ ItsDone → slice_get (signature_of part) p ≡ Some (record { output = true; name = codes "done"; width = 1 }) → w ≡ 1 → PortIs part p w
-
--- an element of two lists in a row
-append-front : {A : Type 0} (xs ys : List A) (n : ℕ) → n < length xs → slice_get (xs ++ ys) n ≡ slice_get xs n
-append-front [] ys n lt = absurd (omega arith)
-append-front (x ∷ xs) ys zero lt = refl
-append-front (x ∷ xs) ys (suc n) lt = append-front xs ys n (omega arith)
-
-append-back : {A : Type 0} (xs ys : List A) (n : ℕ) → length xs ≤ n → slice_get (xs ++ ys) n ≡ slice_get ys (n - length xs)
-append-back [] ys n le = let same : n ≡ n - 0 = omega arith in ap (slice_get ys) same
-append-back (x ∷ xs) ys zero le = absurd (omega arith)
-append-back (x ∷ xs) ys (suc n) le = let same : n - length xs ≡ suc n - length (x ∷ xs) = omega arith in append-back xs ys n (omega arith) ∙ ap (slice_get ys) same
-
-map_of : {A B : Type 0} (f : A → B) (o : Option A) (y : B) → option_map f o ≡ Some y → (x : A) × (o ≡ Some x) × (y ≡ f x)
-map_of f None y e = absurd (cc)
-map_of f (Some x) y e = (x, refl, cc)
 
 pub length-numbered : {A B : Type 0} (f : ℕ → A → B) (b : ℕ) (xs : List A) → length (numbered_from f b xs) ≡ length xs
 length-numbered f b [] = refl

@@ -1,5 +1,5 @@
 -- The module of each primitive of the table keeps the rules, and has as many nets and words as its row says.
-use Rattle.std.proofs.Common.{◌≡◌, ℕ, ◌*◌, ◌^◌, ◌<◌, ◌≤◌, ◌==◌, ◌&&◌, Bool, true, false, List, [], ◌∷◌, ◌++◌, length, length-append, Some, None, refl, sym, subst, ◌/◌, if◌then◌else◌, arith}
+use Rattle.std.proofs.Common.{◌≡◌, ℕ, ◌*◌, ◌^◌, ◌<◌, ◌≤◌, ◌==◌, ◌&&◌, Bool, true, false, List, [], ◌∷◌, ◌++◌, length, length-append, refl, sym, subst, ◌/◌, if◌then◌else◌, arith}
 use Rattle.std.specs.Prelude.{IsSome, nat_le, nat_lt, take, drop, unwrap_or}
 use Rattle.std.specs.List.{list_all}
 use Rattle.std.proofs.lemmas.Bool.{leb-true, eqb-true}
@@ -10,12 +10,11 @@ use Rattle.cx_prim.specs.declared.names.PrimitiveName.TheVariants.{Const, Wire, 
 use Rattle.cx_prim.specs.Widths.{IsWidth, is_width}
 use Rattle.cx_prim.specs.declared.ports.PortRow.{PortRow}
 use Rattle.cx_prim.specs.Rows.{Row}
-use Rattle.cx_prim.specs.CombinationalLaws.{and_left, and_right}
 use Rattle.cx_prim.specs.CombinationalRows.{constant_row, unary_row, greater_bit_of, unequal_bit_of, at_most_bit_of, at_least_bit_of, signed_greater_bit_of, signed_at_most_bit_of, signed_at_least_bit_of}
 use Rattle.cx_prim.specs.MemoryRows.{address_ports, are_sizes, is_address_width, memory_row, sequential_memory_row}
 use Rattle.cx_prim.specs.PipeRows.{timer_row}
 use Rattle.cx_prim.specs.Table.{PrimitiveRow, HasRow, row_of, at_width, constant_at, slice_at, pad_at, memory_at, timer_at, row_at, no_row}
-use Rattle.cx_prim.specs.TableCases.{is_width_tells, is_layout_tells}
+use Rattle.cx_prim.proofs.TableCases.{is_width_tells, is_layout_tells}
 use Rattle.cx_rules.specs.Sizes.{shape_words}
 use Rattle.cx_rules.specs.Wellformed.{is_memory}
 use Rattle.cx_rules.specs.Externals.{sizes_in}
@@ -36,6 +35,8 @@ use Rattle.cx_emit.proofs.CleanModules.{IsKept}
 use Rattle.cx_emit.proofs.StatelessModules.{made, one_wide, constant_kept, wire_kept, complement_kept, slice_kept, pad_kept, operator_kept, shift_kept, signed_kept, mux_kept}
 use Rattle.cx_emit.proofs.ClockedModules.{register_kept, timer_kept, multiplier_kept, divider_kept}
 use Rattle.cx_emit.proofs.MemoryModules.{memory_kept, sequential_kept}
+use Rattle.cx_prim.proofs.RowsLemmas.{where_true}
+use Rattle.cx_text.proofs.BoolLaws.{and_left, and_right}
 
 -- the arrays of a module, by what its row keeps
 abbrev pub arrays_of : StateShape → List (ℕ × ℕ)
@@ -54,10 +55,6 @@ pub record Owes (before : List PlainModule) (name numbers : List ℕ) (pieces : 
   pub few : length row.ports ≤ 9
   pub arrays : arrays_in (made_of pieces).decls ≡ arrays_of row.shape
   pub sizes : is_memory row.shape ≡ true → (0 < length (sizes_in numbers)) × (length (sizes_in numbers) ≤ 4)
-
-where_true : (P : Row → Type 0) (b : Bool) (row : Row) → IsSome (if b then Some row else None) → (b ≡ true → P row) → P (unwrap_or (if b then Some row else None) no_row)
-where_true P true row there each = each refl
-where_true P false row there each = absurd (let wrong : false ≡ true = there in cc)
 
 length-addresses : (widths : List ℕ) → length (address_ports widths) ≤ 4
 length-addresses [] = omega arith

@@ -7,7 +7,7 @@ use Rattle.cx_meaning.specs.Instances.{Path}
 use Rattle.cx_vtree.specs.Plain.{PlainModule, PlainSource}
 use Rattle.cx_vtree.specs.InstanceTree.{Placed}
 use Rattle.cx_vtree.specs.Sound.{is_sound}
-use Rattle.cx_vlaws.proofs.Holders.{some_same, IsPart, part_of}
+use Rattle.cx_vlaws.proofs.Holders.{IsPart, part_of}
 use Rattle.cx_net.specs.Nets.{PlainNet}
 use Rattle.cx_net.specs.NetTree.{net_component_at}
 use Rattle.cx_emit.specs.Fits.{IsFlat}
@@ -18,6 +18,7 @@ use Rattle.cx_net.specs.NetPaths.{LeadsTo}
 use Rattle.cx_emit.specs.Places.{part_number, cell_number, number_at}
 use Rattle.cx_emit.proofs.NumberedLemmas.{numbered_in}
 use Rattle.cx_emit.proofs.Standing.{number-same, tree, own, main_placed, cell_placed, primitive_placed, placed_at}
+use Rattle.cx_text.proofs.OptionLaws.{one_value}
 
 -- one step more at the end of a path
 pub number-end : (source : PlainSource) (i : ℕ) (path : Path) (c : ℕ) → number_at source i (path ++ c ∷ []) ≡ cell_number source (number_at source i path) c
@@ -46,7 +47,7 @@ module _ (net : PlainNet) (sound : is_sound (source_of net) ≡ true) (fit : IsF
   part_reached : (i : ℕ) (p q : Placed) → slice_get the_tree p.holder ≡ Some q → (r : IsPart source sound p.holder q i p) → (path : Path) (h : ℕ) → LeadsTo net net.main path h → number_at source 0 path ≡ p.holder → IsReached net i
   part_reached i p q at r path h leads number =
       let here = placed_at net sound fit net.main 0 path h (main_placed net sound fit) leads in
-      let same : here.place ≡ q = some_same (slice_get the_tree p.holder) here.place q (subst (λ j. slice_get the_tree j ≡ Some here.place) number here.at) at in
+      let same : here.place ≡ q = one_value (slice_get the_tree p.holder) here.place q (subst (λ j. slice_get the_tree j ≡ Some here.place) number here.at) at in
       let module_is : q.part ≡ own net sound fit h = ap (λ (x : Placed). x.part) (sym same) ∙ here.is in
       let stands : slice_get (own net sound fit h).instances r.s ≡ Some r.x = subst (λ (m : PlainModule). slice_get m.instances r.s ≡ Some r.x) module_is r.there in
       let (wired, at_cell, is_instance) = numbered_in cell_instance (with_numbers (cell_ports net h) (net_component_at net h).cells) r.s r.x stands in
@@ -67,7 +68,7 @@ module _ (net : PlainNet) (sound : is_sound (source_of net) ≡ true) (fit : IsF
   no_parts i p q at r path h c cell primitive leads there is number =
       let here = placed_at net sound fit net.main 0 path h (main_placed net sound fit) leads in
       let cell_here = cell_placed net sound fit h (number_at source 0 path) c cell here there in
-      let same : cell_here.place ≡ q = some_same (slice_get the_tree p.holder) cell_here.place q (subst (λ j. slice_get the_tree j ≡ Some cell_here.place) number cell_here.at) at in
+      let same : cell_here.place ≡ q = one_value (slice_get the_tree p.holder) cell_here.place q (subst (λ j. slice_get the_tree j ≡ Some cell_here.place) number cell_here.at) at in
       let parts : q.part.instances ≡ [] = ap (λ (x : Placed). x.part.instances) (sym same) ∙ ap (λ (m : PlainModule). m.instances) (primitive_placed net sound fit h (number_at source 0 path) c cell primitive here there is cell_here) in
       absurd (let wrong = sym (ap (λ xs. slice_get xs r.s) parts) ∙ r.there in cc)
 

@@ -11,7 +11,7 @@ use Rattle.cx_prim.specs.Operators.{apply_unary, apply_binary, binary_out_width}
 use Rattle.cx_prim.specs.PipeRows.{multiplier_row, divider_row, timer_row}
 use Rattle.cx_prim.specs.RegisterRow.{register_row}
 use Rattle.cx_prim.specs.Table.{PrimitiveRow, no_row, row_of}
-use Rattle.cx_prim.specs.TableCases.{OfEachKind, of_row}
+use Rattle.cx_prim.proofs.TableCases.{OfEachKind, of_row}
 
 -- an output reads ports that are there
 abbrev pub ReadsPorts : Row → Type 0

@@ -32,7 +32,6 @@ use Rattle.cx_vmods.proofs.TableLaws.{each_is_built}
 use Rattle.cx_net.specs.NetFits.{IsExternalKind, IsFit, HasNoHoles}
 use Rattle.cx_emit.specs.States.{StatesStand}
 use Rattle.cx_emit.specs.RunsAs.{Runs, RunsAs}
-use Rattle.cx_emit.proofs.ExprLemmas.{bit_is}
 use Rattle.cx_emit.proofs.Standing.{tree, main_placed, cell_placed}
 use Rattle.cx_emit.proofs.CellValues.{is_built}
 use Rattle.cx_net.proofs.DriverLemmas.{part-within}
@@ -42,6 +41,7 @@ use Rattle.cx_emit.proofs.Situations.{main_situation}
 use Rattle.cx_emit.proofs.AllValued.{WholeText, whole_text}
 use Rattle.cx_emit.proofs.ExternalLemmas.{externals_are, found_at, are_words, map_numbers}
 use Rattle.cx_emit.proofs.StartValues.{decls_here, starts_stand}
+use Rattle.cx_net.proofs.WidthLaws.{bit_is}
 
 module _ (net : PlainNet) (sound : is_sound (source_of net) ≡ true) (fit : IsFlat net) (built : EachIsBuilt) where
   abbrev the_source : PlainSource

@@ -1,5 +1,5 @@
 -- The source of a net is shaped as a design asks, where each component of the net has the cells and the registers of one of the design.
-use Rattle.std.proofs.Common.{◌≡◌, ◌⊎◌, inl, inr, ℕ, zero, suc, ◌+◌, ◌-◌, ◌<◌, ◌≤◌, true, false, List, [], ◌∷◌, ◌++◌, length, map, Option, Some, None, option_map, slice_get, refl, sym, ap, ◌∙◌, subst, if◌then◌else◌, arith, lt-ltb, le-ltb}
+use Rattle.std.proofs.Common.{◌≡◌, ◌⊎◌, inl, inr, ℕ, zero, suc, ◌+◌, ◌-◌, ◌<◌, ◌≤◌, true, false, List, [], ◌∷◌, ◌++◌, length, map, Some, option_map, slice_get, refl, sym, ap, ◌∙◌, subst, if◌then◌else◌, arith, lt-ltb, le-ltb}
 use Rattle.std.specs.Prelude.{codes, nat_lt, ◌==◌}
 use Rattle.std.proofs.lemmas.Bool.{cases_lt, eq-eqb, cond-true, cond-false, false_from_ne_true, or_parts}
 use Rattle.std.proofs.lemmas.List.{map-append}
@@ -12,7 +12,7 @@ use Rattle.cx_vtree.specs.Plain.{PlainPort, PlainDecl, WireOf, RegisterOf, Array
 use Rattle.cx_vtree.specs.Sound.{Faults, Counts, arrays_in, module_counts, lines_faults, modules_faults, is_sound}
 use Rattle.cx_vlaws.specs.Names.{AreApart}
 use Rattle.cx_vlaws.proofs.Cleans.{Clean, clean_left, clean_right}
-use Rattle.cx_vlaws.proofs.Fresh.{same_is, is_same, Fresh, fresh_apart}
+use Rattle.cx_vlaws.proofs.Fresh.{Fresh, fresh_apart}
 use Rattle.cx_vlaws.proofs.Modules.{sound-faults}
 use Rattle.cx_vmods.specs.Modules.{module_of}
 use Rattle.cx_net.specs.Nets.{PlainNetComponent, PlainNet}
@@ -25,7 +25,9 @@ use Rattle.cx_emit.specs.Sources.{port_decl, cell_decls, wire_decl, register_dec
 use Rattle.cx_emit.specs.Shapes.{most_registers, registers_in, Use, ForCell, ForTimer, IsUse, IsPartModule, IsOfKind, IsShaped}
 use Rattle.cx_emit.proofs.CellPorts.{each_in}
 use Rattle.cx_emit.proofs.NumberedLemmas.{In, in_left, in_right, in_either, numbered_in, in_lists, lists_in}
-use Rattle.cx_emit.proofs.OwnNames.{all_from_each}
+use Rattle.cx_text.proofs.OptionLaws.{map_some}
+use Rattle.cx_vtree.proofs.InstanceTreeLemmas.{same_is, is_same}
+use Rattle.cx_emit.proofs.EmittedParts.{each_all}
 
 -- WHAT IS ASKED OF THE NET: the component of the design that each of its components stands for, and what is in these
 abbrev pub kind_for : (ℕ → ℕ) → PlainKind → PlainKind
@@ -157,10 +159,6 @@ modules_fresh before counts (m ∷ ms) clean =
       subst (λ ns. Fresh ns (map (λ x. x.name) ms)) (map-append (λ x. x.name) before (m ∷ [])) (modules_fresh (before ++ m ∷ []) (counts ++ own ∷ []) ms (clean_right here rest clean)),
     )
 
-map_of : {A B : Type 0} (f : A → B) (o : Option A) (y : B) → option_map f o ≡ Some y → (x : A) × (o ≡ Some x) × (f x ≡ y)
-map_of f None y e = absurd (cc)
-map_of f (Some x) y e = (x, refl, cc)
-
 module _ (net : PlainNet) (stands : ℕ → ℕ) where
   abbrev kind_labels : ℕ → ℕ → PlainKind → List Labelled
   kind_labels k c (OfPrimitive p) = labelled (module_of p (cell_module_name k c)) (OfPrimitive p) ∷ []
@@ -279,7 +277,7 @@ module _ (net : PlainNet) (stands : ℕ → ℕ) where
           module_shaped : (m : PlainModule) → In m (source_of net).modules → IsOfKind d (kind_named labels) (kind_named labels m.name) m
           module_shaped m h =
               let e : option_map (λ (x : Labelled). x.part) (slice_get labels h.0) ≡ Some m = sym (slice_get-map (λ (x : Labelled). x.part) labels h.0) ∙ ap (λ ms. slice_get ms h.0) labels_same ∙ h.1 in
-              let (x, at, is) = map_of (λ (x : Labelled). x.part) (slice_get labels h.0) m e in
+              let (x, at, is) = map_some (λ (x : Labelled). x.part) (slice_get labels h.0) m e in
               subst (λ (n : PlainModule). IsOfKind d (kind_named labels) (kind_named labels n.name) n) is
               (subst (λ kind. IsOfKind d (kind_named labels) kind x.part) (sym (label_found x (h.0, at))) (label_shaped x (h.0, at)))
 
@@ -287,7 +285,7 @@ module _ (net : PlainNet) (stands : ℕ → ℕ) where
 pub source_shaped : (d : PlainDesign) (net : PlainNet) → IsFit net → is_sound (source_of net) ≡ true → IsNetFor d net → IsShaped d (source_of net)
 source_shaped d net fit sound for = record {
   kind = kind_named (labels net for.stands);
-  modules = all_from_each (λ (m : PlainModule). IsOfKind d (kind_named (labels net for.stands)) (kind_named (labels net for.stands) m.name) m) (source_of net).modules
+  modules = each_all (λ (m : PlainModule). IsOfKind d (kind_named (labels net for.stands)) (kind_named (labels net for.stands) m.name) m) (source_of net).modules
       (each_in (source_of net).modules (module_shaped net for.stands sound fit d for.parts));
   main =
       let name : module_name net.main net.main ≡ codes "main" = ap (λ b. if b then codes "main" else numbered (codes "m") net.main) (eq-eqb net.main net.main refl) in

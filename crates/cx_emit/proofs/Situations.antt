@@ -31,13 +31,7 @@ use Rattle.cx_net.proofs.DriverLemmas.{primitive_width, component_width}
 use Rattle.cx_emit.proofs.NodeValues.{HasAround, IsLooked, stand_below, around_below, main_around, node_has}
 use Rattle.cx_emit.proofs.NetWholes.{Has, node_there}
 use Rattle.cx_emit.proofs.PortPlaces.{input_place}
-
-map_some : {A B : Type 0} (f : A → B) (o : Option A) (y : B) → option_map f o ≡ Some y → (x : A) × (o ≡ Some x) × (f x ≡ y)
-map_some f None y e = absurd (cc)
-map_some f (Some x) y e = (x, refl, cc)
-
-some_is : {A : Type 0} (x y : A) → Some x ≡ Some y → x ≡ y
-some_is x y e = cc
+use Rattle.cx_text.proofs.OptionLaws.{map_some, same_some}
 
 some_has : (o : Option BitVector) → IsSome o → Has o
 some_has (Some v) h = (v, refl)
@@ -89,7 +83,7 @@ module _ (net : PlainNet) (sound : is_sound (source_of net) ≡ true) (fit : IsF
       (λ n port v at e.
       let wide = primitive_width net (net_component_at net k) c cell p n port there is at in
       let (u, known) = x.all [] k (APort (ports.Cell c n)) port.width refl wide in
-      let same : u ≡ v = some_is u v (sym (input-from_look look c (row_of p).ports n port at ∙ ap (λ o. Some (unwrap_or o (zero_wide port.width))) known) ∙ e) in
+      let same : u ≡ v = same_some u v (sym (input-from_look look c (row_of p).ports n port at ∙ ap (λ o. Some (unwrap_or o (zero_wide port.width))) known) ∙ e) in
       x.looked [] k (APort (ports.Cell c n)) port.width v refl wide (known ∙ ap Some same))
 
   -- that of main

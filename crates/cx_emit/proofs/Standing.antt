@@ -11,11 +11,10 @@ use Rattle.cx_meaning.specs.Instances.{Path}
 use Rattle.cx_vtree.specs.Plain.{PlainPort, PlainInstance, PlainModule, PlainSource}
 use Rattle.cx_vtree.specs.InstanceTree.{same_name, Placed, tree_from, main_instance, instances_of}
 use Rattle.cx_vtree.specs.Sound.{module_named, has_name, is_sound}
-use Rattle.cx_vlaws.proofs.Fresh.{same_is, is_same, has_each}
+use Rattle.cx_vlaws.proofs.Fresh.{has_each}
 use Rattle.cx_vlaws.proofs.Modules.{AllKeep, sound_keeps, new_name, reverse-cons}
 use Rattle.cx_vlaws.proofs.Trees.{number_of, placed}
 use Rattle.cx_vlaws.proofs.Forest.{part_at, main_named}
-use Rattle.cx_vlaws.proofs.Holders.{some_same}
 use Rattle.cx_vlaws.proofs.Mains.{main_at, main-ports}
 use Rattle.cx_vmods.specs.Modules.{module_of}
 use Rattle.cx_net.specs.Nets.{PlainNetComponent, PlainNet}
@@ -29,6 +28,8 @@ use Rattle.cx_net.specs.NetPaths.{LeadsTo}
 use Rattle.cx_emit.specs.Places.{part_number, cell_number, number_at}
 use Rattle.cx_net.specs.NetFits.{IsFitKind}
 use Rattle.cx_emit.proofs.NumberedLemmas.{In, in_left, in_right, in_numbered, in_lists}
+use Rattle.cx_vtree.proofs.InstanceTreeLemmas.{same_is, is_same}
+use Rattle.cx_text.proofs.OptionLaws.{one_value}
 
 in_reverse : {A : Type 0} (x : A) (xs : List A) → In x xs → In x (reverse xs)
 in_reverse x [] h = absurd (let e = h.1 in cc)
@@ -108,7 +109,7 @@ module _ (net : PlainNet) (sound : is_sound (source_of net) ≡ true) (fit : IsF
         within = fit.fits.has_main;
         place = placed main_instance 0 r.m;
         at = r.first;
-        is = some_same (module_named modules (codes "main")) r.m (own net.main) found (ap (module_named modules) (sym name) ∙ own_known net.main fit.fits.has_main);
+        is = one_value (module_named modules (codes "main")) r.m (own net.main) found (ap (module_named modules) (sym name) ∙ own_known net.main fit.fits.has_main);
       }
 
   -- main has no inputs but go
@@ -117,7 +118,7 @@ module _ (net : PlainNet) (sound : is_sound (source_of net) ≡ true) (fit : IsF
     third : slice_get (own net.main).ports 3 ≡ Some (record { output = true; name = codes "done"; width = 1 })
     third =
         let r = main_at source sound in
-        let same = some_same (slice_get tree 0) main_placed.place (placed main_instance 0 r.m) main_placed.at r.first in
+        let same = one_value (slice_get tree 0) main_placed.place (placed main_instance 0 r.m) main_placed.at r.first in
         ap (λ (m : PlainModule). slice_get m.ports 3) (sym main_placed.is) ∙ ap (λ (q : Placed). slice_get q.part.ports 3) same ∙ ap (λ ps. slice_get ps 3) (main-ports r.m r.before r.kept)
 
     go : (inputs : List PortDecl) → (comp net.main).inputs ≡ inputs → (comp net.main).inputs ≡ []
@@ -158,7 +159,7 @@ module _ (net : PlainNet) (sound : is_sound (source_of net) ≡ true) (fit : IsF
         at = here;
         inner = λ first.
             let r = main_at source sound in
-            let none : placed y i part ≡ placed main_instance 0 r.m = some_same (slice_get tree 0) (placed y i part) (placed main_instance 0 r.m) (subst (λ n. slice_get tree n ≡ Some (placed y i part)) first here) r.first in
+            let none : placed y i part ≡ placed main_instance 0 r.m = one_value (slice_get tree 0) (placed y i part) (placed main_instance 0 r.m) (subst (λ n. slice_get tree n ≡ Some (placed y i part)) first here) r.first in
             let wired : y.conns ≡ [] = ap (λ (q : Placed). q.conns) none in cc;
         holder = refl;
         name = refl;
@@ -173,7 +174,7 @@ module _ (net : PlainNet) (sound : is_sound (source_of net) ≡ true) (fit : IsF
   pub primitive_placed : (k i c : ℕ) (cell : PlainCell) (p : PrimitiveRow) → IsPlaced k i → slice_get (comp k).cells c ≡ Some cell → cell.kind ≡ OfPrimitive p
       → (h : IsCell k i c cell) → h.place.part ≡ module_of p (cell_module_name k c)
   primitive_placed k i c cell p placing there is h =
-      some_same (module_named modules (cell_module_name k c)) h.place.part (module_of p (cell_module_name k c))
+      one_value (module_named modules (cell_module_name k c)) h.place.part (module_of p (cell_module_name k c))
       (subst (λ kind. module_named modules (kind_ports net k c kind).kind ≡ Some h.place.part) is h.kind) (primitive_known k c cell p placing.within there is)
 
   pub primitive_fits : (k i c : ℕ) (cell : PlainCell) (p : PrimitiveRow) → IsPlaced k i → slice_get (comp k).cells c ≡ Some cell → cell.kind ≡ OfPrimitive p → HasRow p
@@ -194,7 +195,7 @@ module _ (net : PlainNet) (sound : is_sound (source_of net) ≡ true) (fit : IsF
         within = lt;
         place = h.place;
         at = h.at;
-        is = some_same (module_named modules (module_name net.main child)) h.place.part (own child)
+        is = one_value (module_named modules (module_name net.main child)) h.place.part (own child)
             (subst (λ kind. module_named modules (kind_ports net k c kind).kind ≡ Some h.place.part) is h.kind) (own_known child lt);
       }
 
@@ -208,7 +209,7 @@ module _ (net : PlainNet) (sound : is_sound (source_of net) ≡ true) (fit : IsF
         ∙ ap (λ kind. one_bit (codes "clk") ∷ one_bit (codes "reset") ∷ (kind_ports net k c kind).ports) (sym is)
     go (OfComponent child) is =
         let q = child_placed k i c cell child placing there is in
-        let same : h.place ≡ q.place = some_same (slice_get tree (cell_number source i c)) h.place q.place h.at q.at in
+        let same : h.place ≡ q.place = one_value (slice_get tree (cell_number source i c)) h.place q.place h.at q.at in
         ap (λ (r : Placed). r.part.ports) same ∙ ap (λ (m : PlainModule). m.ports) q.is
         ∙ ap (λ o. one_bit (codes "clk") ∷ one_bit (codes "reset") ∷ signature_at o) (sym (comp_there child q.within))
         ∙ ap (λ kind. one_bit (codes "clk") ∷ one_bit (codes "reset") ∷ (kind_ports net k c kind).ports) (sym is)

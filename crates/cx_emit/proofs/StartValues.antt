@@ -8,7 +8,7 @@ use Rattle.std.proofs.lemmas.Option.{slice_get_within}
 use Rattle.cx_text.specs.Loading.{PlainRow, PlainMemory, FitsRows, word_count, words_loaded}
 use Rattle.cx_prim.specs.CellStates.{AreWords, IsState}
 use Rattle.cx_prim.specs.Table.{PrimitiveRow, row_of}
-use Rattle.cx_prim.specs.TableLaws.{row_of_lawful}
+use Rattle.cx_prim.proofs.TableLaws.{row_of_lawful}
 use Rattle.cx_meaning.specs.Designs.{OfPrimitive, OfComponent, PlainCell}
 use Rattle.cx_meaning.specs.Instances.{Path, externals_from, loaded_at}
 use Rattle.cx_rules.specs.Wellformed.{first_number}
@@ -20,8 +20,6 @@ use Rattle.cx_vtree.specs.InstanceTree.{Placed, same_name, decls_at}
 use Rattle.cx_vtree.specs.Meaning.{State, resetting}
 use Rattle.cx_vtree.specs.SimRun.{first_array, is_memory, start_state, loaded_word}
 use Rattle.cx_vtree.specs.Sound.{is_sound}
-use Rattle.cx_vlaws.proofs.Fresh.{same_self}
-use Rattle.cx_vlaws.proofs.Holders.{some_same}
 use Rattle.cx_vmods.specs.Modules.{module_of}
 use Rattle.cx_vmods.specs.Built.{kept_at, IsBuilt}
 use Rattle.cx_net.specs.Nets.{PlainNetComponent, PlainNet}
@@ -42,6 +40,8 @@ use Rattle.cx_net.proofs.DriverLemmas.{part-within, start-at}
 use Rattle.cx_emit.proofs.Reached.{number-end}
 use Rattle.cx_emit.proofs.ExternalLemmas.{externals_are, same_cell, memory, found_at, takes_words, state_with}
 use Rattle.cx_emit.proofs.LoadLemmas.{none_loaded, one_loaded}
+use Rattle.cx_vtree.proofs.InstanceTreeLemmas.{same_self}
+use Rattle.cx_text.proofs.OptionLaws.{one_value}
 
 -- a path of two cells or more is not that of a cell of main
 started-deep : (instance : NetInstance) (words : List (List ℕ)) (e : ℕ) (path : Path) (c : ℕ) → started instance words (e ∷ path ++ c ∷ []) ≡ net_start_at instance (e ∷ path ++ c ∷ [])
@@ -80,7 +80,7 @@ module _ (net : PlainNet) (sound : is_sound (source_of net) ≡ true) (fit : IsF
       let main = main_placed net sound fit in
       let a = cell_placed net sound fit net.main 0 c cell main there in
       let b = cell_placed net sound fit net.main 0 d other main at in
-      let one = some_same (slice_get the_tree (cell_number the_source 0 d)) a.place b.place (subst (λ j. slice_get the_tree j ≡ Some a.place) same a.at) b.at in
+      let one = one_value (slice_get the_tree (cell_number the_source 0 d)) a.place b.place (subst (λ j. slice_get the_tree j ≡ Some a.place) same a.at) b.at in
       same_cell net sound fit c d cell other there at (sym a.name ∙ ap (λ (x : Placed). x.name) one ∙ b.name)
 
   pub decls_here : (c : ℕ) (cell : PlainCell) (p : PrimitiveRow) → slice_get cells c ≡ Some cell → cell.kind ≡ OfPrimitive p → decls_at the_tree (cell_number the_source 0 c) ≡ (module_of p (cell_module_name net.main c)).decls
@@ -128,7 +128,7 @@ module _ (net : PlainNet) (sound : is_sound (source_of net) ≡ true) (fit : IsF
         let number : number_at the_source 0 (e ∷ path ++ c ∷ []) ≡ cell_number the_source i c = number-end the_source 0 (e ∷ path) c in
         let apart : (q : ℕ) (other : PlainCell) → slice_get cells q ≡ Some other → cell_number the_source 0 q ≡ number_at the_source 0 (e ∷ path ++ c ∷ []) → ⊥ = λ q other at_q same.
         let b = cell_placed net sound fit net.main 0 q other main at_q in
-        let one = some_same (slice_get the_tree (cell_number the_source i c)) b.place at.place (subst (λ x. slice_get the_tree x ≡ Some b.place) (same ∙ number) b.at) at.at in
+        let one = one_value (slice_get the_tree (cell_number the_source i c)) b.place at.place (subst (λ x. slice_get the_tree x ≡ Some b.place) (same ∙ number) b.at) at.at in
         not_main path e net.main 0 h main leads (sym at.holder ∙ ap (λ (x : Placed). x.holder) (sym one) ∙ b.holder) in
         let none = none_loaded the_tree (number_at the_source 0 (e ∷ path ++ c ∷ [])) (length cells) [] (row_of p).start cells 0 loaded
         (λ t other at_t external place. let lt = slice_get_within cells t other at_t in absurd (omega arith))
@@ -161,7 +161,7 @@ module _ (net : PlainNet) (sound : is_sound (source_of net) ≡ true) (fit : IsF
           let none = none_loaded the_tree j c array (row_of p).start cells 0 loaded
           (λ t other at is_external place.
           let same : t ≡ c = (let first : t ≡ 0 + t = omega arith in first ∙ place) in
-          let one : other ≡ cell = some_same (slice_get cells c) other cell (subst (λ n. slice_get cells n ≡ Some other) same at) there in
+          let one : other ≡ cell = one_value (slice_get cells c) other cell (subst (λ n. slice_get cells n ≡ Some other) same at) there in
           let wrong : false ≡ true = sym external ∙ ap (λ (x : PlainCell). x.external) (sym one) ∙ is_external in cc)
           others in
           subst (λ d. stand_for p (kept_at start j) d × IsState (row_of p).shape d) (sym none.0) (unloaded p (cell_module_name net.main c) j module_is_built none.1, (row_of_lawful p).states.start)

@@ -16,10 +16,7 @@ use Rattle.cx_vlaws.proofs.OriginLemmas.{is_net}
 use Rattle.cx_vlaws.proofs.MeaningLemmas.{net_meant}
 use Rattle.cx_vlaws.proofs.Given.{scope-at, kind-here}
 use Rattle.cx_emit.proofs.Evals.{eval_within}
-
-bind_some : {A B : Type 0} (f : A → Option B) (o : Option A) (y : B) → option_and_then f o ≡ Some y → (x : A) × (o ≡ Some x) × (f x ≡ Some y)
-bind_some f None y e = absurd (cc)
-bind_some f (Some x) y e = (x, refl, e)
+use Rattle.cx_text.proofs.OptionLaws.{bind_some}
 
 kind_is_net : (m : Meaning) (kind : NetKind) → kind_of m ≡ Some kind → is_net m ≡ true
 kind_is_net (meant.Input w) kind e = refl

@@ -31,15 +31,12 @@ use Rattle.cx_eval.specs.Cycling.{HaveStepped, IsFirst}
 use Rattle.cx_eval.specs.Evaluated.{Cycled, EndsAs, HeldAlike}
 use Rattle.cx_eval.specs.Tables.{AreTables, asked_in, cells_at, design_of, kept_of}
 use Rattle.cx_eval.proofs.CellLemmas.{primitive_holds}
-use Rattle.cx_eval.proofs.OwnLemmas.{held_long}
 use Rattle.cx_eval.proofs.PartLemmas.{own_cells, part_is}
 use Rattle.cx_eval.proofs.SightLemmas.{look_is}
 use Rattle.cx_eval.proofs.StepLemmas.{fits_still, held_alike, hold_fitting, hold_still, still_none}
 use Rattle.cx_eval.proofs.TableLemmas.{stepping_there}
-
-append_none : (path : Path) → path ++ [] ≡ path
-append_none [] = refl
-append_none (c ∷ path) = ap (λ p. c ∷ p) (append_none path)
+use Rattle.cx_meaning.proofs.InstancesLemmas.{append_none}
+use Rattle.cx_state.proofs.StatesLemmas.{held_long}
 
 module _ (t : Tables) (are : AreTables t) (old : List PlainInstance) (fits : IsStateOf (design_of t) old) (n : ℕ) (lt : n < length (paths_of (tree_of (design_of t)))) where
   abbrev d : PlainDesign

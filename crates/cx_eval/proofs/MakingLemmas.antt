@@ -12,9 +12,9 @@ use Rattle.cx_eval_cycle.specs.declared.rooms.CellRoom.{CellRoom}
 use Rattle.cx_eval_cycle.specs.declared.stepping.SteppingCells.{SteppingCells}
 use Rattle.cx_eval_cycle.specs.Rooms.{HaveRooms}
 use Rattle.cx_eval_cycle.specs.Stepping.{AreSteppingCells}
-use Rattle.cx_eval_cycle.proofs.RoomLemmas.{either_at}
 use Rattle.cx_eval.specs.Tables.{AreSteppingParts, HaveAllRooms}
 use Rattle.cx_eval.proofs.PartLemmas.{cells_few}
+use Rattle.cx_text.proofs.ListLaws.{either_at}
 
 -- the cells of a component, as code has them
 module _ (d : PlainDesign) (k : ℕ) (part : Component) (value : plain_component part ≡ component_at d k) (cells : List Cell) (all : cells ≡ part.cells.items) where

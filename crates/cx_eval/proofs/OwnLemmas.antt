@@ -1,5 +1,5 @@
 -- The cells of the asked instance: their ports have nodes, they are few, and they hold states of their rows.
-use Rattle.std.proofs.Common.{◌≡◌, ℕ, zero, suc, ◌<◌, ◌^◌, nat_eq, true, List, [], ◌∷◌, Option, Some, None, get_or, length, refl, sym, ap, ◌∙◌, subst, arith}
+use Rattle.std.proofs.Common.{◌≡◌, ℕ, zero, suc, ◌<◌, ◌^◌, List, [], ◌∷◌, Option, Some, None, get_or, length, refl, sym, ap, ◌∙◌, subst, arith}
 use Rattle.std.specs.Prelude.{option_map, slice_get, if◌then◌else◌}
 use Rattle.cx_bits.specs.BitVector.{BitVector}
 use Rattle.cx_prim.specs.CellStates.{CellState, IsState}
@@ -18,7 +18,6 @@ use Rattle.cx_state.specs.declared.tables.InstanceRow.{InstanceRow}
 use Rattle.cx_state.specs.Tables.{row_at}
 use Rattle.cx_state.specs.States.{HoldCells, HoldsKind, inputs_held, plain_state, under_path}
 use Rattle.cx_state.specs.ReadStates.{state_in}
-use Rattle.cx_design_leads.proofs.NodeLemmas.{component_part}
 use Rattle.cx_eval_network.specs.Nodes.{part_at}
 use Rattle.cx_eval_network.specs.Networks.{active_at, instance_of, path_at}
 use Rattle.cx_eval_network.proofs.NetworkLemmas.{number_at, same_instance}
@@ -27,7 +26,12 @@ use Rattle.cx_eval_network.specs.Askings.{IsAsking, asked_of}
 use Rattle.cx_eval_cycle.specs.Passes.{cell_held, kind_at}
 use Rattle.cx_eval.specs.Evaluated.{IsPort}
 use Rattle.cx_eval.specs.Looked.{own_cells, own_held, seen_look}
-use Rattle.cx_eval.proofs.PartLemmas.{get_is}
+use Rattle.cx_text.proofs.NumberLaws.{equal}
+use Rattle.cx_prim.proofs.PortsLemmas.{port_below}
+use Rattle.cx_state.proofs.StatesLemmas.{held_long}
+use Rattle.cx_text.proofs.OptionLaws.{same_width}
+use Rattle.cx_rules.proofs.PortsLemmas.{part_is}
+use Rattle.std.proofs.lemmas.Option.{get_or_from_slice_get}
 
 -- what stands at a cell
 module _ (child : ℕ → Instance) where
@@ -76,23 +80,6 @@ held_fits (cell ∷ cells) [] h c p held e f = absurd h
 held_fits (cell ∷ cells) (x ∷ xs) h zero p held e f = kind_fits cell.kind x h.0 p held e f
 held_fits (cell ∷ cells) (x ∷ xs) h (suc c) p held e f = held_fits cells xs h.1 c p held e f
 
-pub held_long : (cells : List PlainCell) (xs : List (Option CellState)) → HoldCells cells xs → length xs ≡ length cells
-held_long [] [] h = refl
-held_long [] (x ∷ xs) h = absurd h
-held_long (cell ∷ cells) [] h = absurd h
-held_long (cell ∷ cells) (x ∷ xs) h = ap suc (held_long cells xs h.1)
-
-pub port_below : (xs : List PortRow) (n : ℕ) (port : PortRow) → slice_get xs n ≡ Some port → n < length xs
-port_below [] n port e = absurd (cc)
-port_below (x ∷ xs) zero port e = omega arith
-port_below (x ∷ xs) (suc n) port e = let h = port_below xs n port e in omega (arith, h)
-
-eq_self : (n : ℕ) → nat_eq n n ≡ true
-eq_self n = grind arith
-
-same_width : {m n : ℕ} → Some m ≡ Some n → n ≡ m
-same_width e = cc
-
 -- the inputs of the asked instance are held
 pub seen_is : (a : Asking) (q : PortRef)
     → seen_look a q
@@ -100,7 +87,7 @@ pub seen_is : (a : Asking) (q : PortRef)
 seen_is a q =
     let n = a.instance in
     ap (λ b. seen (instance_of (asked_of a) n) (if b then inputs_held (plain_state a.state.now) n else unheld) (active_at (asked_of a) n) (under_path (path_at (plain_design a.design.now) n) (state_in (tree_of (plain_design a.design.now)) (plain_state a.state.now))) q)
-    (eq_self n)
+    (equal n)
 
 module _ (a : Asking) (can : IsAsking a) where
   abbrev pub design : PlainDesign
@@ -120,7 +107,7 @@ module _ (a : Asking) (can : IsAsking a) where
 
   pub port_there : (c n : ℕ) (p : PrimitiveRow) → kind_at (own_cells a) c ≡ Some (OfPrimitive p) → n < length (row_of p).ports → IsThere (part_at design rows a.instance) (Cell c n)
   port_there c n p e lt = (
-    subst (λ (part : PlainComponent). c < length part.cells) (sym (component_part design own)) (kind_below (own_cells a) c (OfPrimitive p) e),
+    subst (λ (part : PlainComponent). c < length part.cells) (sym (part_is design own)) (kind_below (own_cells a) c (OfPrimitive p) e),
     subst (λ at. n < port_count at) (sym (row_there c p e)) lt,
   )
 
@@ -134,7 +121,7 @@ module _ (a : Asking) (can : IsAsking a) where
   own_instance = same_instance (asked_of a) a.nodes.now can.can.network a.instance can.can.within
 
   own_part : part_of (instance_of (asked_of a) a.instance) ≡ component_at design own
-  own_part = ap part_of own_instance ∙ component_part design own
+  own_part = ap part_of own_instance ∙ part_is design own
 
   own_holds : HoldCells (own_cells a) (own_held a)
   own_holds =
@@ -159,5 +146,5 @@ module _ (a : Asking) (can : IsAsking a) where
   -- each port of a primitive is one that can be asked for
   pub own_port : (c n : ℕ) (p : PrimitiveRow) → kind_at (own_cells a) c ≡ Some (OfPrimitive p) → n < length (row_of p).ports → IsPort design a.instance (Cell c n)
   own_port c n p e lt path number =
-      let at : path ≡ path_at design a.instance = sym (get_is (paths_of (tree_of design)) a.instance path [] number) in
+      let at : path ≡ path_at design a.instance = sym (get_or_from_slice_get (paths_of (tree_of design)) a.instance path [] number) in
       (subst (λ i. IsThere i (Cell c n)) (sym own_instance ∙ ap (instance_at (tree_of design)) (sym at)) (port_there c n p e lt), tt)

@@ -1,23 +1,18 @@
 -- The instances of an evaluator's design, by their components.
-use Rattle.std.proofs.Common.{◌≡◌, ℕ, zero, suc, ◌<◌, ◌≤◌, ◌^◌, List, [], ◌∷◌, get_or, length, Some, refl, ap, ◌∙◌, arith}
-use Rattle.std.specs.Prelude.{slice_get}
-use Rattle.cx_meaning.specs.Designs.{PlainComponent, PlainDesign, component_at, no_component}
+use Rattle.std.proofs.Common.{◌≡◌, ℕ, zero, suc, ◌<◌, ◌≤◌, ◌^◌, List, length, refl, ap, ◌∙◌, arith}
+use Rattle.cx_meaning.specs.Designs.{PlainDesign, component_at}
 use Rattle.cx_meaning.specs.Instances.{Instance, Path, cells_for, cells_of, instance_at, part_of, paths_of, tree_of, tree_within}
 use Rattle.cx_rules.specs.Accepted.{IsAccepted}
 use Rattle.cx_rules.specs.Ports.{component_of}
-use Rattle.cx_rules.specs.Sizes.{instances_below, sizes_of}
+use Rattle.cx_rules.specs.Sizes.{instances_below}
 use Rattle.cx_rules.specs.Wellformed.{IsDesign}
 use Rattle.cx_state.proofs.TreeLemmas.{count_paths}
 use Rattle.cx_state.specs.declared.tables.InstanceRow.{InstanceRow}
 use Rattle.cx_state.specs.Tables.{IsNumber, IsTable, row_at}
 use Rattle.cx_state.proofs.TableLemmas.{few_instances}
-use Rattle.cx_design_leads.proofs.NodeLemmas.{component_part}
-
--- few parts, few instances
-part_few : (parts : List PlainComponent) (k : ℕ) → length (get_or parts k no_component).cells ≤ sizes_of parts
-part_few [] k = omega arith
-part_few (part ∷ parts) zero = omega arith
-part_few (part ∷ parts) (suc k) = let rest = part_few parts k in omega (arith, rest)
+use Rattle.cx_text.proofs.ListLaws.{there_below}
+use Rattle.cx_rules.proofs.SizesLemmas.{few as part_few}
+use Rattle.cx_rules.proofs.PortsLemmas.{part_is as component_part}
 
 pub cells_few : (d : PlainDesign) (k : ℕ) → IsDesign d → length (component_at d k).cells < 2 ^ 32
 cells_few d k design = let few = part_few d.components k in let all = design.few_parts in omega (arith, few, all)
@@ -27,17 +22,6 @@ number_few d n accepted lt =
     let all : length (paths_of (tree_of d)) ≡ instances_below (tree_of d) = count_paths (tree_of d) in
     let few : instances_below (tree_of d) ≤ 4096 = few_instances d accepted.limits in
     omega (arith, all, few, lt)
-
--- paths by numbers
-pub get_is : {A : Type 0} (xs : List A) (n : ℕ) (x y : A) → slice_get xs n ≡ Some x → get_or xs n y ≡ x
-get_is [] n x y e = absurd (cc)
-get_is (z ∷ xs) zero x y e = cc
-get_is (z ∷ xs) (suc n) x y e = get_is xs n x y e
-
-pub there_below : {A : Type 0} (xs : List A) (n : ℕ) (x : A) → slice_get xs n ≡ Some x → n < length xs
-there_below [] n x e = absurd (cc)
-there_below (y ∷ xs) zero x e = omega arith
-there_below (y ∷ xs) (suc n) x e = let lt = there_below xs n x e in omega (arith, lt)
 
 -- a component's cells in the tree
 record HasCells (d : PlainDesign) (k : ℕ) : Type 0 where

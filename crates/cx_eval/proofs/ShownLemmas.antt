@@ -1,12 +1,10 @@
 -- What ports of the asked instance are seen as that have no node.
-use Rattle.std.proofs.Common.{◌≡◌, ◌≢◌, ℕ, ◌<◌, Bool, length, Option, Some, None, refl, sym, ap, ◌∙◌, subst}
+use Rattle.std.proofs.Common.{◌≡◌, ◌≢◌, ℕ, ◌<◌, Bool, length, Option, Some, None, sym, ap, ◌∙◌, subst}
 use Rattle.std.specs.Prelude.{if◌then◌else◌}
 use Rattle.cx_meaning.specs.declared.ports.PortRef.{PortRef}
 use Rattle.cx_meaning.specs.declared.ports.PortRef.TheVariants as ports
 use Rattle.cx_meaning.specs.declared.sights.Seen.TheVariants.{Undefined, Value}
-use Rattle.cx_meaning.specs.Active.{Active}
-use Rattle.cx_meaning.specs.Instances.{Instance, Node, State, tree_of}
-use Rattle.cx_meaning.specs.Sights.{Held, seen}
+use Rattle.cx_meaning.specs.Instances.{tree_of}
 use Rattle.cx_rules.specs.Wellformed.{IsThere}
 use Rattle.cx_state.specs.States.{under_path}
 use Rattle.cx_state.specs.ReadStates.{state_in}
@@ -16,9 +14,7 @@ use Rattle.cx_eval_network.proofs.NodeLemmas.{ports_have}
 use Rattle.cx_eval_network.specs.Networks.{Asked, IsNetwork, active_at, held_at, instance_of, literal_seen, path_at, seen_at}
 use Rattle.cx_eval_network.proofs.NetworkLemmas.{number_at, same_instance}
 use Rattle.cx_eval.specs.Evaluated.{IsKept, IsPort}
-
-literal_is : (i : Instance) (held : Held) (act : Active) (s : State) (w v : ℕ) → seen i held act s (ports.Literal w v) ≡ Value (record { width = w; value = v })
-literal_is (Node part cells) held act s w v = refl
+use Rattle.cx_meaning.proofs.InstancesLemmas.{literal_is}
 
 no_node : (node : ℕ) (o : Option ℕ) → o ≡ Some node → o ≡ None → ⊥
 no_node node o e f = cc

@@ -1,7 +1,6 @@
 -- What a port of the asked instance is seen as, in every state that the rows stand for.
-use Rattle.std.proofs.Common.{◌≡◌, ℕ, nat_eq, true, List, [], sym, ap, ◌∙◌, arith}
+use Rattle.std.proofs.Common.{◌≡◌, ℕ, List, [], sym, ap, ◌∙◌}
 use Rattle.std.specs.Prelude.{if◌then◌else◌}
-use Rattle.std.proofs.lemmas.Bool.Decides.{nat_tests}
 use Rattle.cx_meaning.specs.declared.ports.PortRef.{PortRef}
 use Rattle.cx_meaning.specs.declared.sights.Seen.{Seen}
 use Rattle.cx_meaning.specs.Active.{nothing}
@@ -20,10 +19,8 @@ use Rattle.cx_state.proofs.StandLemmas.{stand_alike}
 use Rattle.cx_eval_network.specs.Networks.{Asked, path_at, seen_at}
 use Rattle.cx_eval_network.specs.Asked.{asked}
 use Rattle.cx_eval.specs.Evaluated.{IsSeen}
-use Rattle.cx_eval.proofs.PartLemmas.{get_is}
-
-itself : (n : ℕ) → nat_eq n n ≡ true
-itself n = grind (arith, nat_tests)
+use Rattle.cx_text.proofs.NumberLaws.{equal}
+use Rattle.std.proofs.lemmas.Option.{get_or_from_slice_get}
 
 module _ (d : PlainDesign) (rows : List InstanceRow) (children : List ℕ) (state : List PlainInstance) (n : ℕ) (active : Active) where
   abbrev a : Asked
@@ -36,8 +33,8 @@ module _ (d : PlainDesign) (rows : List InstanceRow) (children : List ℕ) (stat
   own_seen : (path : Path) (p : PortRef) → IsNumber d n path
       → seen_at a n p ≡ seen (instance_at (tree_of d) path) (inputs_held state n) (plain_active (instance_at (tree_of d) path) active) (under_path path read) p
   own_seen path p number =
-      ap (λ b. seen (instance_at (tree_of d) (path_at d n)) (if b then inputs_held state n else unheld) (if b then a.active else nothing) (under_path (path_at d n) read) p) (itself n)
-      ∙ ap (λ q. seen (instance_at (tree_of d) q) (inputs_held state n) (plain_active (instance_at (tree_of d) q) active) (under_path q read) p) (get_is (paths_of (tree_of d)) n path [] number)
+      ap (λ b. seen (instance_at (tree_of d) (path_at d n)) (if b then inputs_held state n else unheld) (if b then a.active else nothing) (under_path (path_at d n) read) p) (equal n)
+      ∙ ap (λ q. seen (instance_at (tree_of d) q) (inputs_held state n) (plain_active (instance_at (tree_of d) q) active) (under_path q read) p) (get_or_from_slice_get (paths_of (tree_of d)) n path [] number)
 
   pub look_is : IsTable d rows children → IsStateOf d state → (path : Path) (s : State) → IsNumber d n path → StandsFor (tree_of d) state s → (p : PortRef)
       → seen (instance_at (tree_of d) path) (inputs_held state n) (plain_active (instance_at (tree_of d) path) active) (under_path path s) p ≡ seen_at a n p

@@ -1,7 +1,6 @@
 -- A state in which the cells of one instance hold something else.
-use Rattle.std.proofs.Common.{◌≡◌, ◌≢◌, ℕ, ◌<◌, ◌≤◌, ◌⊎◌, inl, inr, ⊎_elim, Bool, true, false, List, get_or, length, Option, Some, None, refl, sym, ap, ◌∙◌, subst, arith}
+use Rattle.std.proofs.Common.{◌≡◌, ◌≢◌, ℕ, ◌<◌, ⊎_elim, Bool, true, false, List, get_or, length, Option, Some, None, refl, sym, ap, ◌∙◌, subst}
 use Rattle.std.specs.Prelude.{if◌then◌else◌}
-use Rattle.std.proofs.lemmas.Bool.{cases_lt}
 use Rattle.std.proofs.lemmas.List.{get_or-set_same, get_or-set_other, length-set}
 use Rattle.cx_prim.specs.CellStates.{CellState, IsState}
 use Rattle.cx_prim.specs.Rows.{Inputs}
@@ -21,9 +20,7 @@ use Rattle.cx_eval_cycle.proofs.StepLemmas.{idle_after, kept_kind}
 use Rattle.cx_eval.specs.Cycling.{with_cells}
 use Rattle.cx_eval.specs.Evaluated.{HeldAlike}
 use Rattle.cx_eval.proofs.CellLemmas.{HoldsState, beyond_holds, component_holds, hold_again, primitive_holds}
-
-same_or : (m n : ℕ) → (m ≡ n) ⊎ (m ≢ n)
-same_or m n = ⊎_elim (λ (lt : m < n). inr (λ e. (let f : m ≡ n = e in omega arith))) (λ (le : n ≤ m). ⊎_elim (λ (lt : n < m). inr (λ e. (let f : m ≡ n = e in omega arith))) (λ (ge : m ≤ n). inl (omega arith)) (cases_lt n m)) (cases_lt m n)
+use Rattle.cx_text.proofs.NumberLaws.{same_or}
 
 -- STEPS OF CELLS
 either_same : (b : Bool) (x y z : Option CellState) → x ≡ z → y ≡ z → (if b then x else y) ≡ z

@@ -26,12 +26,12 @@ use Rattle.cx_eval_cycle.specs.declared.rooms.CellRoom.{CellRoom}
 use Rattle.cx_eval_cycle.specs.declared.stepping.SteppingCells.{SteppingCells}
 use Rattle.cx_eval_cycle.specs.Rooms.{HaveRooms}
 use Rattle.cx_eval_cycle.specs.Stepping.{AreStepping, AreSteppingCells}
-use Rattle.cx_eval_cycle.proofs.RoomLemmas.{set_other, set_same}
 use Rattle.cx_eval.specs.declared.tables.Tables.{Tables}
 use Rattle.cx_eval.specs.Cycling.{with_cells}
 use Rattle.cx_eval.specs.Evaluated.{CanAct}
 use Rattle.cx_eval.specs.Tables.{AreRooms, AreTables, asked_in, cells_at, design_of, kept_in, kept_of}
 use Rattle.cx_eval.proofs.DesignProp.{design_prop}
+use Rattle.cx_text.proofs.ListLaws.{set_other, set_same}
 
 pub kept_design : (design : Design) → IsDesign (plain_design design)
 kept_design design = ∥∥₁_elim design.keeps (design_prop (plain_design design)) (λ d. d)
@@ -137,8 +137,3 @@ items_with items n r x cells lt e is =
     let inside : n < length items = subst (λ k. n < k) (length-map items plain_instance) lt in
     let own : instance_state (map plain_instance items) n ≡ plain_instance r = get_or-map plain_instance items n r no_instance inside ∙ ap plain_instance (sym e) in
     map-set plain_instance items n x ∙ ap (set (map plain_instance items) n) (is ∙ ap (λ (i : PlainInstance). record { cells = cells; held = i.held }) (sym own))
-
-pub own_state : (items : List InstanceState) (n : ℕ) (r : InstanceState) → n < length (map plain_instance items) → r ≡ get_or items n r → instance_state (map plain_instance items) n ≡ plain_instance r
-own_state items n r lt e =
-    let inside : n < length items = subst (λ k. n < k) (length-map items plain_instance) lt in
-    get_or-map plain_instance items n r no_instance inside ∙ ap plain_instance (sym e)

@@ -1,7 +1,7 @@
 -- The first fault and the next state of an instance, told by passes over its cells.
 use Rattle.std.proofs.Common.{◌≡◌, ℕ, zero, suc, ◌+◌, ◌≤◌, inl, inr, ◌⊎◌, Bool, true, false, List, [], ◌∷◌, length, Option, Some, None, option_map, Ok, Err, if◌then◌else◌, refl, sym, ap, ◌∙◌, subst, arith}
 use Rattle.std.specs.Prelude.{nat_eq}
-use Rattle.std.proofs.lemmas.Bool.{cases_eq}
+use Rattle.std.proofs.lemmas.Bool.{cases_eq, or_left}
 use Rattle.cx_prim.specs.CellStates.{CellState}
 use Rattle.cx_prim.specs.Table.{PrimitiveRow, row_of}
 use Rattle.cx_meaning.specs.Designs.{PlainKind, OfPrimitive, OfComponent, PlainCell}
@@ -13,7 +13,10 @@ use Rattle.cx_eval_cycle.specs.declared.looking.CellStop.{CellStop}
 use Rattle.cx_eval_cycle.specs.declared.passes.CellFault.{CellFault}
 use Rattle.cx_eval_cycle.specs.Stops.{stop_in}
 use Rattle.cx_eval_cycle.specs.Passes.{kind_at, cell_held, stop_of_kind, after_kind, after_of, fault_of, first_some, first_among, listed_in, IsAscending, AreStepped, HeldAt, told_fault, EndsSo}
-use Rattle.cx_eval_cycle.proofs.PassLemmas.{Above, above_of, apart_numbers, same_numbers, or_false, or_left, not_listed}
+use Rattle.cx_eval_cycle.proofs.PassLemmas.{Above, above_of, or_false, not_listed}
+use Rattle.cx_meaning.proofs.InstancesLemmas.{kind_skip}
+use Rattle.cx_eval_cycle.proofs.PassesLemmas.{no_kind}
+use Rattle.cx_text.proofs.NumberLaws.{apart_numbers, same_numbers}
 
 join : Option Fault → Option Fault → Option Fault
 join None later = later
@@ -48,19 +51,10 @@ first_at : (child : ℕ → Instance) (kind : PlainKind) (rest : Cells) → cell
 first_at child (OfPrimitive p) rest = refl
 first_at child (OfComponent k) rest = refl
 
-later_at : (child : ℕ → Instance) (kind : PlainKind) (rest : Cells) (c : ℕ) → cell_at (add_cell child kind rest) (suc c) ≡ cell_at rest c
-later_at child (OfPrimitive p) rest c = refl
-later_at child (OfComponent k) rest c = refl
-
 pub at_kind : (child : ℕ → Instance) (cells : List PlainCell) (c : ℕ) → cell_at (cells_for child cells) c ≡ at_of child (kind_at cells c)
 at_kind child [] c = refl
 at_kind child (cell ∷ cells) zero = first_at child cell.kind (cells_for child cells)
-at_kind child (cell ∷ cells) (suc c) = later_at child cell.kind (cells_for child cells) c ∙ at_kind child cells c
-
-no_kind : (cells : List PlainCell) (c : ℕ) → length cells ≤ c → kind_at cells c ≡ None
-no_kind [] c le = refl
-no_kind (cell ∷ cells) zero le = absurd (omega (arith, le))
-no_kind (cell ∷ cells) (suc c) le = no_kind cells c (omega (arith, le))
+at_kind child (cell ∷ cells) (suc c) = kind_skip child cell.kind (cells_for child cells) c ∙ at_kind child cells c
 
 -- THE FIRST FAULT of so many cells is told where the fault of each is
 first_told : (fault : ℕ → Option CellFault) (outcome : ℕ → Outcome) → ((c : ℕ) → option_map told_fault (fault c) ≡ first_of c (outcome c) None) → (c n : ℕ) → option_map told_fault (first_from fault c n) ≡ first_fault outcome c n

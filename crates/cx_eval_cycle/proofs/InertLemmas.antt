@@ -7,7 +7,7 @@ use Rattle.cx_prim.specs.Rows.{Inputs, Row, is_enable_side}
 use Rattle.cx_prim.specs.CombinationalRows.{combinational_row}
 use Rattle.cx_prim.specs.MemoryRows.{address_ports, memory_row, sequential_memory_row}
 use Rattle.cx_prim.specs.Table.{PrimitiveRow, no_row, row_of}
-use Rattle.cx_prim.specs.TableCases.{OfEachKind, of_row}
+use Rattle.cx_prim.proofs.TableCases.{OfEachKind, of_row}
 use Rattle.cx_meaning.specs.declared.ports.PortRef.TheVariants.{Cell}
 use Rattle.cx_meaning.specs.declared.sights.Seen.{Seen}
 use Rattle.cx_meaning.specs.Rows.{side_from}
@@ -15,33 +15,26 @@ use Rattle.cx_meaning.specs.Sights.{Given, Look, gather, gather_port}
 use Rattle.cx_meaning.specs.Cycles.{Next, cell_outcome, enables, looks_at, stepped}
 use Rattle.cx_eval_cycle.specs.Stepping.{any_enables}
 use Rattle.cx_eval_cycle.proofs.LookLemmas.{in_range_goes}
-
--- PORTS
-or_last : (a b : Bool) → b ≡ true → (a || b) ≡ true
-or_last true b e = refl
-or_last false b e = e
+use Rattle.std.proofs.lemmas.Bool.{or_right, or_parts}
+use Rattle.cx_text.proofs.BoolLaws.{not_both}
 
 pub some_enables : (list : List PortRow) (p : ℕ) → p < length list → is_enable_side (side_from list p) ≡ true → any_enables list ≡ true
 some_enables [] p lt e = absurd (omega (arith, lt))
 some_enables (port ∷ list) zero lt e = ap (λ t. t || any_enables list) e
-some_enables (port ∷ list) (suc p) lt e = or_last (is_enable_side port.side) (any_enables list) (some_enables list p (omega (arith, lt)) e)
+some_enables (port ∷ list) (suc p) lt e = or_right (is_enable_side port.side) (any_enables list) (some_enables list p (omega (arith, lt)) e)
 
 pub none_enables : (list : List PortRow) → ((p : ℕ) → p < length list → is_enable_side (side_from list p) ≡ false) → any_enables list ≡ false
 none_enables [] h = refl
 none_enables (port ∷ list) h = ap (λ t. t || any_enables list) (h 0 (omega arith)) ∙ none_enables list (λ p lt. h (suc p) (omega (arith, lt)))
 
-neither : (a b : Bool) → (a || b) ≡ false → (a ≡ false) × (b ≡ false)
-neither true b e = absurd (cc)
-neither false b e = (refl, e)
-
 port_idle : (list : List PortRow) (p : ℕ) → any_enables list ≡ false → is_enable_side (side_from list p) ≡ false
 port_idle [] p e = refl
-port_idle (port ∷ list) zero e = (neither (is_enable_side port.side) (any_enables list) e).0
-port_idle (port ∷ list) (suc p) e = port_idle list p (neither (is_enable_side port.side) (any_enables list) e).1
+port_idle (port ∷ list) zero e = (or_parts (is_enable_side port.side) (any_enables list) e).0
+port_idle (port ∷ list) (suc p) e = port_idle list p (or_parts (is_enable_side port.side) (any_enables list) e).1
 
 after_ports : (xs ys : List PortRow) → any_enables ys ≡ true → any_enables (xs ++ ys) ≡ true
 after_ports [] ys e = e
-after_ports (x ∷ xs) ys e = or_last (is_enable_side x.side) (any_enables (xs ++ ys)) (after_ports xs ys e)
+after_ports (x ∷ xs) ys e = or_right (is_enable_side x.side) (any_enables (xs ++ ys)) (after_ports xs ys e)
 
 -- ROWS
 -- an edge changes nothing, and looks at nothing
@@ -55,9 +48,6 @@ IsInert r = any_enables r.ports ≡ false → StaysSame r
 
 plain_inert : (ports : List PortRow) (count : ℕ) (value : Inputs → Option BitVector) → IsInert (combinational_row ports count value)
 plain_inert ports count value none = record { next = λ state inputs. refl; in_range = λ inputs. refl; demands = λ state inputs n. refl }
-
-not_both : (b : Bool) → b ≡ true → b ≡ false → ⊥
-not_both b e f = cc
 
 enabled_inert : (r : Row) → any_enables r.ports ≡ true → IsInert r
 enabled_inert r some none = absurd (not_both (any_enables r.ports) some none)

@@ -8,3 +8,4 @@ pub mod QuietLemmas
 pub mod SteppingLemmas
 pub mod RoomLemmas
 pub mod StepLemmas
+pub mod PassesLemmas

@@ -1,8 +1,7 @@
 -- Marks of ports, and what a look at a cell comes to.
-use Rattle.std.proofs.Common.{◌≡◌, ℕ, zero, suc, ◌+◌, ◌<◌, ⊎_elim, ◌||◌, Bool, true, false, List, get_or, [], ◌∷◌, length, set, Option, Some, None, refl, sym, ap, ◌∙◌, subst, arith}
+use Rattle.std.proofs.Common.{◌≡◌, ℕ, zero, suc, ◌+◌, ◌<◌, Bool, true, false, List, get_or, [], ◌∷◌, length, Option, Some, None, refl, sym, ap, ◌∙◌, subst, arith}
 use Rattle.std.specs.Prelude.{IsSome, slice_get}
-use Rattle.std.proofs.lemmas.Bool.{cases_eq}
-use Rattle.std.proofs.lemmas.List.{get_or-set_same, get_or-set_other}
+use Rattle.std.proofs.lemmas.Bool.{or_right, or_left}
 use Rattle.std.proofs.lemmas.Option.{slice_get_within}
 use Rattle.cx_bits.specs.BitVector.{BitVector}
 use Rattle.cx_prim.specs.CellStates.{CellState}
@@ -12,27 +11,12 @@ use Rattle.cx_prim.specs.Rows.{Inputs, Row, IsLookedAt, AgreesWhereEnabling, is_
 use Rattle.cx_meaning.specs.declared.sights.Seen.{Seen}
 use Rattle.cx_meaning.specs.declared.sights.Seen.TheVariants.{Value, Conflict, Undefined}
 use Rattle.cx_meaning.specs.declared.sights.FaultKind.TheVariants as faults
-use Rattle.cx_meaning.specs.Rows.{side_from}
 use Rattle.cx_meaning.specs.Sights.{Gathered, Given, Lacks, gather_port, gather}
 use Rattle.cx_meaning.specs.Cycles.{Outcome, Next, Stops, kind_of, enables, looks_at, after_edge, after_data, after_enabling}
 use Rattle.cx_eval_drives.specs.Gathers.{gather_all, wanted_at}
 use Rattle.cx_eval_drives.proofs.GatherLemmas.{counts}
 use Rattle.cx_eval_cycle.specs.Stops.{AreMarked}
-
--- MARKS
-pub marked_next : (test : ℕ → Bool) (wanted : List Bool) (port : ℕ) (b : Bool) → port < length wanted → b ≡ test port → ((p : ℕ) → p < port → get_or wanted p false ≡ test p)
-    → (p : ℕ) → p < port + 1 → get_or (set wanted port b) p false ≡ test p
-marked_next test wanted port b within is before p lt =
-    ⊎_elim
-    (λ e. ap (λ n. get_or (set wanted port b) n false) e ∙ get_or-set_same wanted port b false within ∙ is ∙ ap test (sym e))
-    (λ differ. get_or-set_other wanted port p b false differ ∙ before p (omega arith))
-    (cases_eq p port)
-
--- the side of a port of the row
-pub side_at : (list : List PortRow) (p : ℕ) (port : PortRow) → slice_get list p ≡ Some port → side_from list p ≡ port.side
-side_at [] p port e = absurd (cc)
-side_at (x ∷ list) zero port e = let same : x ≡ port = cc in ap (λ (y : PortRow). y.side) same
-side_at (x ∷ list) (suc p) port e = side_at list p port e
+use Rattle.cx_meaning.proofs.RowsLemmas.{side_at}
 
 -- what is gathered depends on the ports alone that there are
 gather_alike : (look : ℕ → Seen) (some other : ℕ → Bool) (p n : ℕ) → ((k : ℕ) → k < n → some (p + k) ≡ other (p + k)) → gather_all look some p n ≡ gather_all look other p n
@@ -95,14 +79,6 @@ some_there : (o : Option BitVector) (b : BitVector) → o ≡ Some b → IsSome 
 some_there (Some v) b e = refl
 some_there None b e = absurd (cc)
 
-or_true : (a b : Bool) → b ≡ true → (a || b) ≡ true
-or_true true b e = refl
-or_true false b e = e
-
-or_first : (a b : Bool) → a ≡ true → (a || b) ≡ true
-or_first true b e = refl
-or_first false b e = absurd (cc)
-
 -- A LOOK AT A CELL
 module _ (look : ℕ → Seen) (row : Row) (state : CellState) where
   abbrev pub outcome : Outcome
@@ -127,10 +103,10 @@ module _ (look : ℕ → Seen) (row : Row) (state : CellState) where
   pub given_looked : ((inputs others : Inputs) (n : ℕ) → AgreesWhereEnabling row inputs others → row.demands state inputs n ≡ row.demands state others n)
       → (xs ys : Inputs) → gather look (enables row) 0 row.ports ≡ Given xs → gather look (looks_at row state xs) 0 row.ports ≡ Given ys → IsLookedAt row state ys
   given_looked alike xs ys e f = record {
-    enabling = λ n port at side. let s = standing n port at (or_first (enables row n) (row.demands state xs n) (enabled n port at side)) in some_there (get_or ys n None) s.value s.at;
+    enabling = λ n port at side. let s = standing n port at (or_left (enables row n) (row.demands state xs n) (enabled n port at side)) in some_there (get_or ys n None) s.value s.at;
     demanded = λ n port at side demands.
         let first : row.demands state xs n ≡ true = alike xs ys n agree ∙ demands in
-        let s = standing n port at (or_true (enables row n) (row.demands state xs n) first) in
+        let s = standing n port at (or_right (enables row n) (row.demands state xs n) first) in
         some_there (get_or ys n None) s.value s.at;
   }
     where
@@ -148,7 +124,7 @@ module _ (look : ℕ → Seen) (row : Row) (state : CellState) where
             let z : n ≡ 0 + n = omega arith in
             let on = enabled n port at side in
             let s = given_stands look (enables row) 0 row.ports xs e n (slice_get_within row.ports n port at) (ap (enables row) (sym z) ∙ on) in
-            let t = standing n port at (or_first (enables row n) (row.demands state xs n) on) in
+            let t = standing n port at (or_left (enables row n) (row.demands state xs n) on) in
             s.at ∙ ap Some (same s.value t.value (sym s.seen ∙ ap look (sym z) ∙ t.seen)) ∙ sym t.at;
       }
         where

@@ -1,7 +1,7 @@
 -- Passes cell by cell.
 use Rattle.std.proofs.Common.{◌≡◌, ℕ, zero, suc, ◌+◌, ◌<◌, ◌≤◌, ◌||◌, Bool, true, false, List, get_or, [], ◌∷◌, length, set, take, Option, Some, None, option_map, if◌then◌else◌, refl, sym, ap, ◌∙◌, arith}
 use Rattle.std.specs.Prelude.{nat_eq, slice_get}
-use Rattle.std.proofs.lemmas.Bool.{eqb-true}
+use Rattle.std.proofs.lemmas.Bool.{or_left}
 use Rattle.std.proofs.lemmas.Bool.Decides.{nat_tests}
 use Rattle.std.proofs.lemmas.List.{get_or-set_same, get_or-set_other}
 use Rattle.cx_prim.specs.CellStates.{CellState}
@@ -13,6 +13,7 @@ use Rattle.cx_meaning.specs.Cycles.{cell_outcome}
 use Rattle.cx_eval_cycle.specs.declared.looking.CellStop.{CellStop}
 use Rattle.cx_eval_cycle.specs.Stops.{stop_in}
 use Rattle.cx_eval_cycle.specs.Passes.{kind_at, cell_held, stop_of_kind, fault_of, listed_in, IsAscending, AreStepped}
+use Rattle.cx_text.proofs.NumberLaws.{apart_numbers, from_eq, apart_above, same_numbers}
 
 -- NUMBERS
 -- numbers from one on, each greater than the one before
@@ -24,22 +25,9 @@ pub above_of : (xs : List ℕ) (k : ℕ) → ((m : ℕ) → slice_get xs 0 ≡ S
 above_of [] k first ascending = tt
 above_of (y ∷ ys) k first ascending = (first y refl, above_of ys (suc y) (λ m e. ascending 0 y m refl e) (λ i m n e f. ascending (suc i) m n e f))
 
-pub apart_numbers : (y c : ℕ) → y < c → nat_eq y c ≡ false
-apart_numbers y c lt = grind (arith, nat_tests)
-
-pub apart_above : (y c : ℕ) → c < y → nat_eq y c ≡ false
-apart_above y c lt = grind (arith, nat_tests)
-
-pub same_numbers : (y c : ℕ) → y ≡ c → nat_eq y c ≡ true
-same_numbers y c e = grind (arith, nat_tests)
-
 pub or_false : (a b : Bool) → a ≡ false → (a || b) ≡ b
 or_false true b e = absurd (cc)
 or_false false b e = refl
-
-pub or_left : (a b : Bool) → a ≡ true → (a || b) ≡ true
-or_left true b e = refl
-or_left false b e = absurd (cc)
 
 pub not_listed : (xs : List ℕ) (k c : ℕ) → c < k → Above k xs → listed_in xs c ≡ false
 not_listed [] k c lt a = refl
@@ -47,17 +35,13 @@ not_listed (y ∷ ys) k c lt a =
     let h : k ≤ y = a.0 in
     or_false (nat_eq y c) (listed_in ys c) (apart_above y c (omega arith)) ∙ not_listed ys (suc y) c (omega arith) a.1
 
--- STEPS
-nat_same : (a b : ℕ) → nat_eq a b ≡ true → a ≡ b
-nat_same a b e = eqb-true a b e
-
 module _ (after : ℕ → Option CellState → Option CellState) where
   -- a cell that stays as it is
   pub stepped_none : (cell : ℕ) (old : List (Option CellState)) → after cell (cell_held old cell) ≡ cell_held old cell → AreStepped (nat_eq cell) after old old
   stepped_none cell old same c = by (nat_eq cell c) refl
     where
       by : (t : Bool) → nat_eq cell c ≡ t → cell_held old c ≡ (if t then after c (cell_held old c) else cell_held old c)
-      by true e = let at : cell ≡ c = nat_same cell c e in sym (ap (λ n. after n (cell_held old n)) (sym at) ∙ same ∙ ap (cell_held old) at)
+      by true e = let at : cell ≡ c = from_eq cell c e in sym (ap (λ n. after n (cell_held old n)) (sym at) ∙ same ∙ ap (cell_held old) at)
       by false e = refl
 
   -- a cell that is set to what it holds after its step
@@ -66,7 +50,7 @@ module _ (after : ℕ → Option CellState → Option CellState) where
     where
       by : (t : Bool) → nat_eq cell c ≡ t → cell_held (set old cell x) c ≡ (if t then after c (cell_held old c) else cell_held old c)
       by true e =
-          let at : cell ≡ c = nat_same cell c e in
+          let at : cell ≡ c = from_eq cell c e in
           ap (cell_held (set old cell x)) (sym at) ∙ get_or-set_same old cell x None within ∙ is ∙ ap (λ n. after n (cell_held old n)) at
       by false e = get_or-set_other old cell c x None (λ at. absurd (let wrong : true ≡ false = sym (same_test cell c (sym at)) ∙ e in cc))
         where
@@ -83,7 +67,7 @@ module _ (after : ℕ → Option CellState → Option CellState) where
       same_held at = before c ∙ ap (λ t. if t then after c (cell_held old c) else cell_held old c) (ap some (sym at) ∙ apart)
 
       by : (t : Bool) → nat_eq cell c ≡ t → (if t then after c (cell_held mid c) else cell_held mid c) ≡ (if t || some c then after c (cell_held old c) else cell_held old c)
-      by true e = ap (after c) (same_held (nat_same cell c e))
+      by true e = ap (after c) (same_held (from_eq cell c e))
       by false e = before c
 
   -- a cell that has not made its step holds what it held

@@ -1,12 +1,13 @@
 -- A cell whose enabling ports hold 0 looks at nothing else, and no address of it is out of range.
-use Rattle.std.proofs.Common.{◌≡◌, ℕ, zero, suc, ◌≤◌, ◌<◌, ⊎_elim, Bool, true, false, ◌||◌, List, [], ◌∷◌, Option, Some, None, Ok, length, refl, sym, ap, ◌∙◌, arith}
+use Rattle.std.proofs.Common.{◌≡◌, ℕ, zero, suc, ◌≤◌, ◌<◌, ⊎_elim, Bool, ◌||◌, List, [], ◌∷◌, Option, Some, None, Ok, length, refl, sym, ap, ◌∙◌, arith}
 use Rattle.std.proofs.lemmas.Bool.{cases_lt}
 use Rattle.cx_prim.specs.CellStates.{CellState}
 use Rattle.cx_prim.specs.Rows.{Inputs, value_at, edge_of}
 use Rattle.cx_prim.specs.Table.{PrimitiveRow, row_of}
-use Rattle.cx_prim.specs.TableLaws.{row_of_lawful}
+use Rattle.cx_prim.proofs.TableLaws.{row_of_lawful}
 use Rattle.cx_meaning.specs.Cycles.{enables, looks_at}
 use Rattle.cx_eval_cycle.specs.Stops.{AreMarked, AreZero}
+use Rattle.cx_text.proofs.BoolLaws.{or_false}
 
 past_zero : (inputs : Inputs) (m : ℕ) → length inputs ≤ m → value_at inputs m ≡ 0
 past_zero [] m past = refl
@@ -15,10 +16,6 @@ past_zero (x ∷ inputs) (suc m) past = past_zero inputs m (omega (arith, past))
 
 pub zero_all : (inputs : Inputs) (n : ℕ) → length inputs ≤ n → ((m : ℕ) → m < n → value_at inputs m ≡ 0) → AreZero inputs
 zero_all inputs n past zeros m = ⊎_elim (λ lt. zeros m lt) (λ beyond. past_zero inputs m (omega (arith, past, beyond))) (cases_lt m n)
-
-or_false : (b : Bool) → (b || false) ≡ b
-or_false true = refl
-or_false false = refl
 
 module _ (p : PrimitiveRow) (state : CellState) (inputs : Inputs) (zeros : AreZero inputs) where
   looks : (n : ℕ) → looks_at (row_of p) state inputs n ≡ enables (row_of p) n

@@ -15,9 +15,10 @@ use Rattle.cx_prim.specs.CombinationalRows.{constant_row, unary_row, binary_row,
 use Rattle.cx_prim.specs.RegisterRow.{register_row}
 use Rattle.cx_prim.specs.PipeRows.{multiplier_row, divider_row, timer_row}
 use Rattle.cx_prim.specs.Table.{PrimitiveRow, HasRow, at_width, constant_at, slice_at, pad_at, memory_at, timer_at, row_at, no_row, row_of}
-use Rattle.cx_limits.specs.Dimensions.{dimensions_of}
-use Rattle.cx_limits.proofs.WordLemmas.{one_name}
+use Rattle.cx_design_sizes.specs.Dimensions.{dimensions_of}
+use Rattle.cx_design_sizes.proofs.WordLemmas.{one_name}
 use Rattle.cx_eval_cycle.specs.Ranges.{enable_of, out_by}
+use Rattle.cx_text.proofs.BoolLaws.{and_both}
 
 -- by the row that was found, where one was
 abbrev range_of : Option Row → Inputs → Option ℕ
@@ -70,10 +71,6 @@ none_out (n ∷ rest) inputs = same_none (is_on inputs 0)
 flat : (numbers : List ℕ) (inputs : Inputs) (o : Option ℕ) → o ≡ None → out_by 0 0 numbers inputs ≡ o
 flat numbers inputs o e = none_out numbers inputs ∙ sym e
 
-both_true : (b c : Bool) → (b && c) ≡ true → (b ≡ true) × (c ≡ true)
-both_true true c e = (refl, e)
-both_true false c e = absurd (let f : false ≡ true = e in cc)
-
 taken_length : (xs : List ℕ) (d : ℕ) → d ≤ length xs → length (take d xs) ≡ d
 taken_length xs zero le = refl
 taken_length [] (suc d) le = absurd (omega arith)
@@ -87,7 +84,7 @@ dimension_range d enable make h [] inputs is_some = absurd (let f : false ≡ tr
 dimension_range d enable make h (w ∷ rest) inputs is_some = by (is_width w && (length rest == 2 * d)) (are_sizes (take d rest) && list_all is_address_width (drop d rest)) refl is_some
   where
     enough : (is_width w && (length rest == 2 * d)) ≡ true → d ≤ length rest
-    enough e = let f : length rest ≡ 2 * d = eqb-true (length rest) (2 * d) (both_true (is_width w) (length rest == 2 * d) e).1 in omega arith
+    enough e = let f : length rest ≡ 2 * d = eqb-true (length rest) (2 * d) (and_both (is_width w) (length rest == 2 * d) e).1 in omega arith
 
     by : (b c : Bool) → (is_width w && (length rest == 2 * d)) ≡ b → IsSome (if b && c then Some (make w (take d rest) (drop d rest)) else None)
         → (if is_on inputs enable then first_beyond (take d rest) 0 inputs else None) ≡ range_of (if b && c then Some (make w (take d rest) (drop d rest)) else None) inputs

@@ -1,20 +1,14 @@
 -- Room for what is found at the ports of cells, and steps with it.
-use Rattle.std.proofs.Common.{◌≡◌, ◌≢◌, ℕ, zero, suc, ◌+◌, ◌<◌, ◌⊎◌, inl, inr, ⊎_elim, List, [], ◌∷◌, ◌++◌, get_or, length, set, Option, Some, refl, sym, ap, ◌∙◌, subst, arith}
+use Rattle.std.proofs.Common.{◌≡◌, ◌≢◌, ℕ, zero, suc, ◌+◌, ◌<◌, ⊎_elim, List, [], ◌∷◌, ◌++◌, get_or, length, set, Option, Some, refl, sym, ap, ◌∙◌, subst, arith}
 use Rattle.std.specs.Prelude.{slice_get}
-use Rattle.std.proofs.lemmas.Bool.{cases_eq, cases_lt}
-use Rattle.std.proofs.lemmas.List.{get_or-set_same, get_or-set_other, length-append, length-set}
-use Rattle.std.proofs.lemmas.Option.{slice_get-get_or, slice_get_past}
+use Rattle.std.proofs.lemmas.Bool.{cases_eq}
+use Rattle.std.proofs.lemmas.List.{length-append, length-set}
+use Rattle.std.proofs.lemmas.Option.{slice_get-get_or}
 use Rattle.cx_eval_cycle.specs.declared.rooms.CellRoom.{CellRoom}
 use Rattle.cx_eval_cycle.specs.declared.stepping.SteppingCell.{SteppingCell}
 use Rattle.cx_eval_cycle.specs.Rooms.{HasRoom, HaveRooms, inputs_at, inputs_of, ports_of}
 use Rattle.cx_eval_cycle.specs.Stepping.{kept_at}
-
--- what stands in a list with one more
-pub either_at : {A : Type 0} (xs : List A) (x y : A) (n : ℕ) → slice_get (xs ++ x ∷ []) n ≡ Some y → (slice_get xs n ≡ Some y) ⊎ ((n ≡ length xs) × (x ≡ y))
-either_at [] x y zero e = inr (refl, (let f : Some x ≡ Some y = e in cc))
-either_at [] x y (suc n) e = absurd (cc)
-either_at (z ∷ xs) x y zero e = inl e
-either_at (z ∷ xs) x y (suc n) e = ⊎_elim (λ f. inl f) (λ f. inr (ap suc f.0, f.1)) (either_at xs x y n e)
+use Rattle.cx_text.proofs.ListLaws.{either_at, set_other, set_same}
 
 -- the first cells have their rooms
 pub record HaveFirst (kept : List (Option SteppingCell)) (count : ℕ) (rooms : List CellRoom) : Type 0 where
@@ -39,20 +33,6 @@ pub kept_same : (kept : List (Option SteppingCell)) (n : ℕ) (x y : Option Step
 kept_same [] n x y lt = absurd (omega (arith, lt))
 kept_same (k ∷ kept) zero x y lt = refl
 kept_same (k ∷ kept) (suc n) x y lt = kept_same kept n x y (omega (arith, lt))
-
--- ONE ROOM is filled
-pub set_same : {A : Type 0} (xs : List A) (n : ℕ) (x : A) → n < length xs → slice_get (set xs n x) n ≡ Some x
-set_same xs n x lt =
-    let long : length (set xs n x) ≡ length xs = length-set xs n x in
-    slice_get-get_or (set xs n x) n x (omega (arith, lt, long)) ∙ ap (λ y. Some y) (get_or-set_same xs n x x lt)
-
-pub set_other : {A : Type 0} (xs : List A) (n m : ℕ) (x : A) → m ≢ n → slice_get (set xs n x) m ≡ slice_get xs m
-set_other xs n m x differs =
-    let long : length (set xs n x) ≡ length xs = length-set xs n x in
-    ⊎_elim
-    (λ (lt : m < length xs). slice_get-get_or (set xs n x) m x (omega (arith, lt, long)) ∙ ap (λ y. Some y) (get_or-set_other xs n m x x differs) ∙ sym (slice_get-get_or xs m x lt))
-    (λ past. slice_get_past (set xs n x) m (omega (arith, past, long)) ∙ sym (slice_get_past xs m past))
-    (cases_lt m (length xs))
 
 module _ (rooms : List CellRoom) (n : ℕ) (room : CellRoom) where
   pub filled_inputs : n < length rooms → inputs_at (set rooms n room) n ≡ room.inputs.items

@@ -1,7 +1,7 @@
 -- What is kept of cells that can step, and their numbers.
 use Rattle.std.proofs.Common.{◌≡◌, ℕ, zero, suc, ◌+◌, ◌<◌, ◌≤◌, ⊎_elim, List, get_or, [], ◌∷◌, ◌++◌, drop, drop-cons, length, map, Option, Some, None, append_assoc, refl, sym, ap, ◌∙◌, subst, arith}
 use Rattle.std.specs.Prelude.{nat_eq, slice_get}
-use Rattle.std.proofs.lemmas.Bool.{cases_eq, cases_lt}
+use Rattle.std.proofs.lemmas.Bool.{cases_eq, cases_lt, or_left}
 use Rattle.std.proofs.lemmas.List.{length-append}
 use Rattle.cx_meaning.specs.Designs.{PlainCell}
 use Rattle.cx_design.specs.declared.cells.Cell.{Cell}
@@ -9,7 +9,10 @@ use Rattle.cx_design.specs.PlainForms.{plain_cell, plain_kind}
 use Rattle.cx_eval_cycle.specs.declared.stepping.SteppingCell.{SteppingCell}
 use Rattle.cx_eval_cycle.specs.Passes.{IsAscending, kind_at, listed_in}
 use Rattle.cx_eval_cycle.specs.Stepping.{AreStepping, HaveNumbers, IsKeptOf, can_step, kept_at}
-use Rattle.cx_eval_cycle.proofs.PassLemmas.{Above, apart_numbers, not_listed, or_false, or_left, same_numbers}
+use Rattle.cx_eval_cycle.proofs.PassLemmas.{Above, not_listed, or_false}
+use Rattle.cx_eval_cycle.proofs.PassesLemmas.{no_kind}
+use Rattle.cx_text.proofs.ListLaws.{append_none}
+use Rattle.cx_text.proofs.NumberLaws.{apart_numbers, same_numbers}
 
 -- the last of a list, and those before
 pub last_at : {A : Type 0} (xs : List A) (x y : A) (n : ℕ) → length xs ≡ n → get_or (xs ++ x ∷ []) n y ≡ x
@@ -30,11 +33,6 @@ none_past (k ∷ kept) (suc c) le = none_past kept c (omega (arith, le))
 
 pub kept_below : (kept : List (Option SteppingCell)) (c : ℕ) (stepping : SteppingCell) → kept_at kept c ≡ Some stepping → c < length kept
 kept_below kept c stepping e = ⊎_elim (λ lt. lt) (λ le. absurd (let f : Some stepping ≡ None = sym e ∙ none_past kept c le in cc)) (cases_lt c (length kept))
-
-no_kind : (cells : List PlainCell) (c : ℕ) → length cells ≤ c → kind_at cells c ≡ None
-no_kind [] c le = refl
-no_kind (cell ∷ cells) zero le = absurd (omega (arith, le))
-no_kind (cell ∷ cells) (suc c) le = no_kind cells c (omega (arith, le))
 
 -- CELL BY CELL
 pub kind_there : (cells : List Cell) (n : ℕ) (x : Cell) → n < length cells → kind_at (map plain_cell cells) n ≡ Some (plain_kind (get_or cells n x).kind)
@@ -132,10 +130,6 @@ number_more kept old new n stepping lt is pushed far =
     ∙ append_assoc old (n ∷ []) (numbers_from (drop (n + 1) kept) (n + 1))
     ∙ ap (λ xs. old ++ xs) (sym (one_more kept n lt ∙ ap (λ x. if_steps x n (numbers_from (drop (n + 1) kept) (n + 1))) is))
     ∙ far
-
-append_none : (xs : List ℕ) → xs ++ [] ≡ xs
-append_none [] = refl
-append_none (x ∷ xs) = ap (λ ys. x ∷ ys) (append_none xs)
 
 drop_all : (kept : List (Option SteppingCell)) (n : ℕ) → length kept ≤ n → drop n kept ≡ []
 drop_all [] zero le = refl

@@ -3,7 +3,7 @@
 ghost use Rattle.std.specs.Prelude.{◌≡◌, take};
 ghost use Rattle.cx_prim.specs.MemoryRows as rows;
 ghost use Rattle.cx_prim.specs.Table.{row_of};
-ghost use Rattle.cx_limits.specs.Dimensions.{dimensions_of};
+ghost use Rattle.cx_design_sizes.specs.Dimensions.{dimensions_of};
 ghost use Rattle.cx_eval_cycle.specs.Ranges as ranges;
 ghost use Rattle.cx_eval_cycle.specs.Ranges.{enable_of};
 

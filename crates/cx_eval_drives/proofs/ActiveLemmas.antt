@@ -7,13 +7,13 @@ use Rattle.cx_meaning.specs.declared.ports.PortRef.{PortRef}
 use Rattle.cx_meaning.specs.declared.ports.PortRef.TheVariants as ports
 use Rattle.cx_meaning.specs.Rows.{side_of}
 use Rattle.cx_meaning.specs.Designs.{PlainDesign}
-use Rattle.cx_meaning.specs.Instances.{Instance, Node, At, Nothing, OfRow, OfInstance, Path, part_of, cells_of, cell_at, instance_at, tree_of}
-use Rattle.cx_meaning.specs.Active.{Active, nothing, group, capture, source_order, offset_of, drivers, entries}
+use Rattle.cx_meaning.specs.Instances.{Instance, At, Nothing, OfRow, OfInstance, Path, part_of, cells_of, cell_at, instance_at, tree_of}
+use Rattle.cx_meaning.specs.Active.{Active, group, capture, source_order, offset_of, drivers, entries}
 use Rattle.cx_meaning.specs.Calls.{called}
 use Rattle.cx_meaning.specs.Sights.{In, PartPort, Go, AnInput, AnOutput, ItsDone, part_port}
 use Rattle.cx_meaning.specs.Islands.{History, active_in, form_flat}
 use Rattle.cx_rules.specs.Accepted.{IsAccepted}
-use Rattle.cx_rules.specs.Circles.{IsAcyclic, AreAcyclic}
+use Rattle.cx_rules.specs.Circles.{IsAcyclic}
 use Rattle.cx_rules.specs.Footprints.{SideLeads, PartLeads, CellLeads, Leads, Depends, at_once, by_way_of, Mentions}
 use Rattle.cx_rules.specs.Items.{Visited, statements_in}
 use Rattle.cx_rules.specs.Wellformed.{IsDesign}
@@ -23,6 +23,7 @@ use Rattle.cx_design.specs.declared.actives.Active as declared
 use Rattle.cx_design.specs.PlainActives.{plain_active, capture_of}
 use Rattle.cx_eval_drives.specs.Actives.{CanBeActive}
 use Rattle.cx_eval_drives.proofs.DriveLemmas.{acting_is}
+use Rattle.cx_rules.proofs.CirclesLemmas.{own_acyclic}
 
 -- active sets with the same assignments lead alike
 module _ (i : Instance) (act other : Active) (same : (p : PortRef) → drivers (part_of i) act p ≡ drivers (part_of i) other p) where
@@ -71,9 +72,6 @@ capture_drives i g c p =
 call_end : (i : Instance) (g : ℕ) (o : Option ℕ) → IsAcyclic i (group g) → IsAcyclic i (capture_of g o)
 call_end i g None acyclic = acyclic
 call_end i g (Some c) acyclic = acyclic_same i (capture g c) (group g) (capture_drives i g c) acyclic
-
-own_acyclic : (i : Instance) → AreAcyclic i → IsAcyclic i nothing
-own_acyclic (Node part cells) a = a.0
 
 pub active_acyclic : (d : PlainDesign) (path : Path) (active : declared.Active) → IsDesign d → IsAccepted d
     → ((v : Visited) (h : History) (t : ℕ) → In (statements_in (part_of (instance_at (tree_of d) path))) v

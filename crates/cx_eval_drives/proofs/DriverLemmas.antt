@@ -1,29 +1,23 @@
 -- Assignments added to the lists of their targets, one by one.
-use Rattle.std.proofs.Common.{◌≤◌, ◌≡◌, ℕ, zero, suc, ◌+◌, ◌<◌, ⊎_elim, Bool, true, false, ◌&&◌, nat_eq, Some, None, List, [], ◌∷◌, ◌++◌, get_or, length, map, set, take, refl, sym, ap, ◌∙◌, subst, arith}
-use Rattle.std.proofs.lemmas.Bool.{eq-eqb, cases_lt}
+use Rattle.std.proofs.Common.{◌≤◌, ◌≡◌, ℕ, zero, suc, ◌+◌, ◌<◌, ⊎_elim, Bool, true, false, Some, None, List, [], ◌∷◌, ◌++◌, get_or, length, map, set, take, refl, sym, ap, ◌∙◌, subst, arith}
+use Rattle.std.proofs.lemmas.Bool.{cases_lt}
 use Rattle.std.specs.declared.vec.Vec.{Vec}
 use Rattle.std.proofs.lemmas.List.{length-set, map-append, map-set, append-nil, get_or-map, get_or-set_same, get_or-set_other, length-append, take_more}
 use Rattle.cx_meaning.specs.declared.ports.PortRef.{PortRef}
-use Rattle.cx_meaning.specs.declared.ports.PortRef.TheVariants as ports
 use Rattle.cx_meaning.specs.Active.{Owned, same_port, source_order}
 use Rattle.cx_meaning.specs.Designs.{PlainDesign, component_at}
 use Rattle.cx_meaning.specs.Instances.{Instance}
 use Rattle.cx_rules.specs.Ports.{component_of}
 use Rattle.cx_rules.proofs.FoundLemmas.{same_is}
-use Rattle.cx_graphs.proofs.Lists.{same_or, some_is}
-use Rattle.cx_design_leads.specs.Nodes.{node_count, node_of}
-use Rattle.cx_design_leads.proofs.NodeLemmas.{distinct}
+use Rattle.cx_graphs.proofs.Lists.{some_is}
 use Rattle.cx_design_parts.specs.declared.ordering.OwnedAssign.{OwnedAssign}
 use Rattle.cx_design_parts.specs.Plain.{plain_owned}
+use Rattle.cx_design_leads.specs.Nodes.{node_count, node_of}
+use Rattle.cx_design_leads.proofs.NodeLemmas.{distinct}
 use Rattle.cx_eval_drives.specs.Drives.{kept_if, owned_for}
 use Rattle.cx_eval_drives.specs.Drivers.{ArePartDrivers, HaveDrivers, assigns_at, lists_of}
-
-same_self : (p : PortRef) → same_port p p ≡ true
-same_self (ports.Cell c p) = ap (λ b. b && nat_eq p p) (eq-eqb c c refl) ∙ eq-eqb p p refl
-same_self (ports.Input n) = eq-eqb n n refl
-same_self (ports.Output n) = eq-eqb n n refl
-same_self (ports.Done g) = eq-eqb g g refl
-same_self (ports.Literal w v) = ap (λ b. b && nat_eq v v) (eq-eqb w w refl) ∙ eq-eqb v v refl
+use Rattle.cx_meaning.proofs.PortsLemmas.{same_self}
+use Rattle.cx_text.proofs.NumberLaws.{same_or_not}
 
 -- one assignment more
 kept_more : (b : Bool) (x : Owned) (xs ys : List Owned) → kept_if b x xs ++ ys ≡ kept_if b x (xs ++ ys)
@@ -59,7 +53,7 @@ module _ (i : Instance) (xs : List Owned) (a : OwnedAssign) where
       → more ≡ set lists m (assigns_at lists m ++ a ∷ []) → ArePartDrivers i (xs ++ plain_owned a ∷ []) more
   one_added lists more m h some within is = subst (ArePartDrivers i (xs ++ plain_owned a ∷ [])) (sym is) (record {
     count = length-set lists m _ ∙ h.count;
-    each = λ n p e. ⊎_elim (same_node n p e) (other_node n p e) (same_or m n);
+    each = λ n p e. ⊎_elim (same_node n p e) (other_node n p e) (same_or_not m n);
   })
     where
       same_node : (n : ℕ) (p : PortRef) → node_of i p ≡ Some n → m ≡ n

@@ -6,9 +6,9 @@ use Rattle.cx_meaning.specs.Active.{Owned, source_order}
 use Rattle.cx_meaning.specs.Designs.{PlainDesign, component_at}
 use Rattle.cx_meaning.specs.Instances.{Instance}
 use Rattle.cx_rules.specs.Ports.{component_of}
-use Rattle.cx_design_leads.specs.Nodes.{node_count, node_of}
 use Rattle.cx_design_parts.specs.declared.ordering.OwnedAssign.{OwnedAssign}
 use Rattle.cx_design_parts.specs.Plain.{plain_owned}
+use Rattle.cx_design_leads.specs.Nodes.{node_count, node_of}
 use Rattle.cx_eval_drives.specs.Drives.{owned_for}
 use Rattle.cx_eval_drives.specs.declared.driving.Drivers.{Drivers}
 

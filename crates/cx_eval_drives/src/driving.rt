@@ -6,8 +6,8 @@ ghost use Rattle.cx_meaning.specs.Active as active;
 ghost use Rattle.cx_meaning.specs.Designs.{PlainDesign, component_at};
 ghost use Rattle.cx_rules.specs.Ports.{component_of};
 ghost use Rattle.cx_design.specs.PlainDesigns.{plain_design};
-ghost use Rattle.cx_design_leads.specs.Nodes.{node_of};
 ghost use Rattle.cx_design_parts.specs.Plain.{plain_owned};
+ghost use Rattle.cx_design_leads.specs.Nodes.{node_of};
 ghost use Rattle.cx_eval_drives.specs.Drives.{owned_for};
 ghost use Rattle.cx_eval_drives.specs.Drivers.{AreDrivers, ArePartDrivers, assigns_at, lists_of};
 

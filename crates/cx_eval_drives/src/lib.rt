@@ -1,6 +1,4 @@
 //! What one port is seen as, where the ports that it depends on are known.
-//! What stands at the ports of a cell.
-//! The assignments of each port of a component.
 #![tactic(auto)]
 
 mod driving;

@@ -7,12 +7,12 @@ use Rattle.cx_meaning.specs.declared.ports.PortRef.{PortRef}
 use Rattle.cx_meaning.specs.declared.ports.PortRef.TheVariants as ports
 use Rattle.cx_meaning.specs.declared.ports.PlacedPort.{PlacedPort}
 use Rattle.cx_meaning.specs.Designs.{PlainDesign, PlainComponent, component_at}
-use Rattle.cx_meaning.specs.Instances.{Instance, Node, Path, cells_of, instance_at, part_of, tree_of}
+use Rattle.cx_meaning.specs.Instances.{Path, instance_at, part_of, tree_of}
 use Rattle.cx_meaning.specs.Active as plain
 use Rattle.cx_meaning.specs.Active.{Owned, source_order, nothing}
 use Rattle.cx_meaning.specs.Sights.{In}
 use Rattle.cx_rules.specs.Accepted.{IsAccepted}
-use Rattle.cx_rules.specs.Circles.{AcyclicBelow, AreAcyclic, IsAcyclic}
+use Rattle.cx_rules.specs.Circles.{IsAcyclic}
 use Rattle.cx_rules.specs.Footprints.{Leads}
 use Rattle.cx_rules.specs.Items.{sources_of}
 use Rattle.cx_rules.specs.Ports.{component_of, keeps_literal}
@@ -27,7 +27,6 @@ use Rattle.cx_state.specs.Tables.{IsTable, row_at}
 use Rattle.cx_graphs.proofs.Lists.{in_get}
 use Rattle.cx_design_leads.specs.Edges.{ReadsInRow}
 use Rattle.cx_design_leads.proofs.DriverLemmas.{Driver, driver_of, leads_either}
-use Rattle.cx_design_leads.proofs.NodeLemmas.{component_part}
 use Rattle.cx_eval_drives.specs.Actives.{CanBeActive}
 use Rattle.cx_eval_network.specs.declared.numbering.Nodes.{Nodes}
 use Rattle.cx_eval_network.specs.Nodes.{IsNodesOf, part_at}
@@ -35,9 +34,8 @@ use Rattle.cx_eval_network.specs.Networks.{Asked, path_at, instance_of, active_a
 use Rattle.cx_eval_network.proofs.LeadLemmas.{assign_named}
 use Rattle.cx_eval_network.proofs.NetworkLemmas.{get_there}
 use Rattle.cx_eval_network.proofs.ValueLemmas.{mapped_in}
-
-below_of : (i : Instance) → AreAcyclic i → AcyclicBelow (cells_of i)
-below_of (Node own cells) h = h.1
+use Rattle.cx_rules.proofs.CirclesLemmas.{cells_below}
+use Rattle.cx_rules.proofs.PortsLemmas.{part_is}
 
 -- an assignment of an accepted design names no bad literal
 module _ (d : PlainDesign) (accepted : IsAccepted d) (k : ℕ) (within : k < length d.components) where
@@ -57,7 +55,7 @@ module _ (d : PlainDesign) (accepted : IsAccepted d) (k : ℕ) (within : k < len
       ⊎_elim
       (λ e. let r : Driver (part_of (component_of d k)) act p (ports.Literal w v) = driver_of (part_of (component_of d k)) act p (ports.Literal w v) e.1 in
       let named = mapped_in (sources_of r.owned.assign) (ports.Literal w v) (assign_named r.owned.assign (ports.Literal w v) r.names) in
-      owned_literal r.owned named.0 w v (subst (λ (own : PlainComponent). In (source_order own) r.owned) (component_part d k) r.stands) named.1 named.2)
+      owned_literal r.owned named.0 w v (subst (λ (own : PlainComponent). In (source_order own) r.owned) (part_is d k) r.stands) named.1 named.2)
       (λ (r : ReadsInRow (component_of d k) p (ports.Literal w v)). absurd (no_literal r.cell r.wanted.0 r.wanted.2))
       (leads_either (component_of d k) act p (ports.Literal w v) l)
     where
@@ -81,7 +79,7 @@ module _ (a : Asked) (nodes : Nodes) (active : declared.Active) (design : IsDesi
     table = table;
     numbered = numbered;
     acyclic = λ n. acyclic_at n (nat_eq n a.instance) refl;
-    below = λ n. below_of (instance_of a n) (instance_acyclic a.design accepted (path_at a.design n));
+    below = λ n. cells_below (instance_of a n) (instance_acyclic a.design accepted (path_at a.design n));
     literals = λ n w v p lt l. led_literal a.design accepted (row_at a.rows n).component (table.there n lt) (active_at a n) p w v (subst (λ i. Leads i (active_at a n) p (ports.Literal w v)) (same_instance n lt) l);
     design = design;
   }

@@ -1,5 +1,5 @@
 -- The place of a port that is found, and its step.
-use Rattle.std.proofs.Common.{◌≡◌, ℕ, zero, suc, ◌≤◌, ◌<◌, nat_eq, nat_lt, nat_le, Bool, true, false, Option, Some, None, List, [], ◌∷◌, get_or, length, refl, sym, ap, ◌∙◌, subst, arith}
+use Rattle.std.proofs.Common.{◌≡◌, ℕ, zero, suc, ◌≤◌, ◌<◌, nat_eq, nat_lt, nat_le, Bool, true, false, Option, Some, None, List, [], get_or, length, refl, sym, ap, ◌∙◌, subst, arith}
 use Rattle.std.specs.Prelude.{slice_get, option_map, if◌then◌else◌}
 use Rattle.std.proofs.Math.Path.{fun_ext}
 use Rattle.cx_bits.specs.BitVector.{BitVector}
@@ -16,7 +16,6 @@ use Rattle.cx_meaning.specs.Instances.{Instance, Cells, no_cells, a_primitive, a
 use Rattle.cx_meaning.specs.Sights.{Below, Held, Look, step, unheld}
 use Rattle.cx_rules.specs.Footprints.{CellLeads, Leads, SideLeads}
 use Rattle.cx_rules.specs.Ports.{cell_width, component_of, width_of}
-use Rattle.cx_rules.specs.WidthRules.{IsBadLiteral}
 use Rattle.cx_rules.specs.Wellformed.{IsThere, port_count}
 use Rattle.cx_laws.specs.Widths.{HoldsWidths}
 use Rattle.cx_design.specs.declared.actives.Active.{Active}
@@ -30,7 +29,7 @@ use Rattle.cx_eval_drives.specs.Drivers.{AreDrivers}
 use Rattle.cx_eval_network.specs.declared.marks.NodeMark.{NodeMark}
 use Rattle.cx_eval_network.specs.Demands.{AreKnown}
 use Rattle.cx_design_leads.specs.Nodes.{cell_count, node_of}
-use Rattle.cx_design_leads.proofs.NodeLemmas.{component_cells, component_part}
+use Rattle.cx_design_leads.proofs.NodeLemmas.{component_cells}
 use Rattle.cx_eval_network.specs.declared.numbering.NodePort.{NodePort}
 use Rattle.cx_eval_network.specs.declared.numbering.Nodes.{Nodes}
 use Rattle.cx_eval_network.specs.Nodes.{IsAt, IsPortOf, found_at, part_at}
@@ -45,17 +44,17 @@ use Rattle.cx_eval_network.specs.Places.{HoldsCells, IsPlace, active_of, held_by
 use Rattle.cx_eval_network.specs.Asked.{CanAsk, active_in, child_in, child_shown, held_in}
 use Rattle.cx_eval_network.specs.Askings.{IsFound, IsPlaceOf, asked_of}
 use Rattle.cx_eval_network.specs.declared.asking.Asking.{Asking}
-use Rattle.cx_eval_network.proofs.LeadLemmas.{lt_true}
-
-eq_true : (m n : ℕ) → nat_eq m n ≡ true → m ≡ n
-eq_true m n e = grind arith
+use Rattle.cx_text.proofs.NumberLaws.{from_eq, lt_true}
+use Rattle.cx_prim.proofs.PortsLemmas.{port_below}
+use Rattle.cx_text.proofs.OptionLaws.{same_width}
+use Rattle.cx_rules.proofs.PortsLemmas.{part_is as component_part}
 
 pub active_there : (a : Asked) (active : Active) (k : ℕ) → a.active ≡ plain_active (networks.instance_of a a.instance) active → (i : Instance) → i ≡ networks.instance_of a k
     → plain_active i (active_in a.instance active k) ≡ active_at a k
 active_there a active k is i e = choice (nat_eq k a.instance) refl
   where
     choice : (b : Bool) → nat_eq k a.instance ≡ b → plain_active i (if b then active else actives.Nothing) ≡ (if b then a.active else plain.nothing)
-    choice true f = ap (λ j. plain_active j active) (e ∙ ap (networks.instance_of a) (eq_true k a.instance f)) ∙ sym is
+    choice true f = ap (λ j. plain_active j active) (e ∙ ap (networks.instance_of a) (from_eq k a.instance f)) ∙ sym is
     choice false f = refl
 
 held_there : (a : Asked) (k input : ℕ) → get_or (held_in a.instance a.state k) input Undefined ≡ held_at a k input
@@ -72,9 +71,6 @@ held_wide a k part wide = choice (nat_eq k a.instance)
     choice true = wide
     choice false = λ n x e. absurd (let no : Undefined ≡ Value x = e in cc)
 
-pub not_bad : (c n : ℕ) → IsBadLiteral (ports.Cell c n) → ⊥
-not_bad c n l = let e : ports.Cell c n ≡ ports.Literal l.0 l.1 = l.2 in cc
-
 cell_below : (cells : Cells) (c : ℕ) (row : Row) → cell_at cells c ≡ OfRow row → c < cell_count cells
 cell_below no_cells c row e = absurd (cc)
 cell_below (a_primitive x rest) zero row e = omega arith
@@ -82,20 +78,12 @@ cell_below (a_primitive x rest) (suc c) row e = let h = cell_below rest c row e 
 cell_below (an_instance x rest) zero row e = absurd (cc)
 cell_below (an_instance x rest) (suc c) row e = let h = cell_below rest c row e in omega (arith, h)
 
-port_below : (xs : List PortRow) (n : ℕ) (port : PortRow) → slice_get xs n ≡ Some port → n < length xs
-port_below [] n port e = absurd (cc)
-port_below (x ∷ xs) zero port e = omega arith
-port_below (x ∷ xs) (suc n) port e = let h = port_below xs n port e in omega (arith, h)
-
 is_there : (d : PlainDesign) (k c n : ℕ) (row : Row) (port : PortRow) → k < length d.components → cell_at (cells_of (component_of d k)) c ≡ OfRow row → slice_get row.ports n ≡ Some port
     → IsThere (component_of d k) (ports.Cell c n)
 is_there d k c n row port lt e f = (
   subst (λ (part : PlainComponent). c < length part.cells) (sym (component_part d k)) (subst (λ m. c < m) (component_cells d k lt) (cell_below (cells_of (component_of d k)) c row e)),
   subst (λ at. n < port_count at) (sym e) (port_below row.ports n port f),
 )
-
-same_width : {m n : ℕ} → Some m ≡ Some n → n ≡ m
-same_width e = cc
 
 step_alike : {i j : Instance} {held other : Held} {act more : plain.Active} {p q : PortRef} (s : State) (look : Look) (below : Below) → i ≡ j → held ≡ other → act ≡ more → p ≡ q
     → step i held act s look below p ≡ step j other more s look below q

@@ -10,32 +10,9 @@ use Rattle.cx_eval_network.specs.declared.marks.NodeMark.{NodeMark}
 use Rattle.cx_eval_network.specs.declared.marks.NodeMark.TheVariants.{Unseen, Open, Known}
 use Rattle.cx_eval_network.specs.Touches.{weight, unseen}
 use Rattle.cx_eval_network.specs.Demands.{Way, at_once, by_way_of, IsGrounded, StaysWithin, is_known, known_at, IsRight, Ready, Demanded}
-
-pub none_is_some : {A : Type 0} (x : A) → ◌≡◌ {A = Option A} None (Some x) → ⊥
-none_is_some x e = cc
-
-pub below_length : {A : Type 0} (xs : List A) (i : ℕ) (x : A) → slice_get xs i ≡ Some x → i < length xs
-below_length [] i x e = absurd (none_is_some x e)
-below_length (y ∷ ys) zero x e = omega arith
-below_length (y ∷ ys) (suc i) x e = let h : i < length ys = below_length ys i x e in omega arith
-
-pub set_here : {A : Type 0} (xs : List A) (i : ℕ) (y : A) → i < length xs → slice_get (set xs i y) i ≡ Some y
-set_here [] i y lt = absurd (omega arith)
-set_here (x ∷ xs) zero y lt = refl
-set_here (x ∷ xs) (suc i) y lt = set_here xs i y (let h : suc i < suc (length xs) = lt in omega arith)
-
-pub set_there : {A : Type 0} (xs : List A) (i j : ℕ) (y : A) → j ≢ i → slice_get (set xs i y) j ≡ slice_get xs j
-set_there [] i j y ne = refl
-set_there (x ∷ xs) zero zero y ne = absurd (ne refl)
-set_there (x ∷ xs) zero (suc j) y ne = refl
-set_there (x ∷ xs) (suc i) zero y ne = refl
-set_there (x ∷ xs) (suc i) (suc j) y ne = set_there xs i j y (λ e. ne (ap suc e))
-
-pub same_or : (m n : ℕ) → (m ≡ n) ⊎ (m ≢ n)
-same_or zero zero = inl refl
-same_or zero (suc n) = inr (λ e. (let f : zero ≡ suc n = e in omega arith))
-same_or (suc m) zero = inr (λ e. (let f : suc m ≡ zero = e in omega arith))
-same_or (suc m) (suc n) = ⊎_elim (λ e. inl (ap suc e)) (λ ne. inr (λ e. ne (let f : suc m ≡ suc n = e in omega arith))) (same_or m n)
+use Rattle.cx_text.proofs.ListLaws.{there_below, set_other, set_same}
+use Rattle.cx_text.proofs.NumberLaws.{same_or}
+use Rattle.cx_text.proofs.OptionLaws.{none_is_some}
 
 -- HOW MANY ARE UNSEEN
 weight_le : (m : NodeMark) → weight m ≤ 1
@@ -106,10 +83,10 @@ pub begin : (leads : ℕ → List ℕ) (value : ℕ → Seen) (root : ℕ) (mark
 begin leads value root marks stack ready lt long e = record {
   long = length-set stack 0 root ∙ long ∙ sym (length-set marks root Open);
   sized = length-set marks root Open;
-  right = λ n x h. ⊎_elim (λ s. absurd (opened n x s h)) (λ ne. ready.right n x (sym (set_there marks root n Open ne) ∙ h)) (same_or n root);
-  kept = λ n x h. ⊎_elim (λ s. absurd (let f : Some Unseen ≡ Some (Known x) = sym unseen_root ∙ ap (slice_get marks) (sym s) ∙ h in cc)) (λ ne. set_there marks root n Open ne ∙ h) (same_or n root);
-  opens = λ n h. ⊎_elim (λ s. (0, omega arith, top ∙ sym s)) (λ ne. absurd (ready.closed n (sym (set_there marks root n Open ne) ∙ h))) (same_or n root);
-  stacked = λ j less. (let z : j ≡ 0 = omega arith in ap (λ k. slice_get (set marks root Open) (get_or (set stack 0 root) k 0)) z ∙ ap (slice_get (set marks root Open)) top ∙ set_here marks root Open lt);
+  right = λ n x h. ⊎_elim (λ s. absurd (opened n x s h)) (λ ne. ready.right n x (sym (set_other marks root n Open ne) ∙ h)) (same_or n root);
+  kept = λ n x h. ⊎_elim (λ s. absurd (let f : Some Unseen ≡ Some (Known x) = sym unseen_root ∙ ap (slice_get marks) (sym s) ∙ h in cc)) (λ ne. set_other marks root n Open ne ∙ h) (same_or n root);
+  opens = λ n h. ⊎_elim (λ s. (0, omega arith, top ∙ sym s)) (λ ne. absurd (ready.closed n (sym (set_other marks root n Open ne) ∙ h))) (same_or n root);
+  stacked = λ j less. (let z : j ≡ 0 = omega arith in ap (λ k. slice_get (set marks root Open) (get_or (set stack 0 root) k 0)) z ∙ ap (slice_get (set marks root Open)) top ∙ set_same marks root Open lt);
   chain = λ j k less more. absurd (omega arith);
   room = (let u = unseen_set marks root Unseen Open unseen_root in let l = unseen_le marks in let s = length-set marks root Open in omega (arith, u, l, s));
   rooted = inl (omega arith, top);
@@ -122,7 +99,7 @@ begin leads value root marks stack ready lt long e = record {
     top = get_or-set_same stack 0 root 0 (omega arith)
 
     opened : (n : ℕ) (x : Seen) → n ≡ root → slice_get (set marks root Open) n ≡ Some (Known x) → ⊥
-    opened n x s h = let f : Some Open ≡ Some (Known x) = sym (set_here marks root Open lt) ∙ ap (slice_get (set marks root Open)) (sym s) ∙ h in cc
+    opened n x s h = let f : Some Open ≡ Some (Known x) = sym (set_same marks root Open lt) ∙ ap (slice_get (set marks root Open)) (sym s) ∙ h in cc
 
 module _ (leads : ℕ → List ℕ) (value : ℕ → Seen) (root : ℕ) (old marks : List NodeMark) (stack : List ℕ) (depth : ℕ) (g : Going leads value root old marks stack depth) (some : 0 < depth)
     (within : StaysWithin leads (length old)) (grounded : IsGrounded leads) where
@@ -133,7 +110,7 @@ module _ (leads : ℕ → List ℕ) (value : ℕ → Seen) (root : ℕ) (old mar
   top_open = g.stacked (depth - 1) last_less
 
   pub top_within : get_or stack (depth - 1) 0 < length marks
-  top_within = below_length marks (get_or stack (depth - 1) 0) Open top_open
+  top_within = there_below marks (get_or stack (depth - 1) 0) Open top_open
 
   rooted_still : (0 < depth) × (get_or stack 0 0 ≡ root)
   rooted_still = ⊎_elim (λ r. r) (λ r. absurd (let z = r.0 in omega (arith, z))) g.rooted
@@ -202,16 +179,16 @@ module _ (leads : ℕ → List ℕ) (value : ℕ → Seen) (root : ℕ) (old mar
       long = length-set stack depth next ∙ g.long ∙ sym (length-set marks next Open);
       sized = length-set marks next Open ∙ g.sized;
       right = λ n x h. ⊎_elim
-          (λ s. absurd (let f : Some Open ≡ Some (Known x) = sym (set_here marks next Open next_within) ∙ ap (slice_get (set marks next Open)) (sym s) ∙ h in cc))
-          (λ ne. g.right n x (sym (set_there marks next n Open ne) ∙ h)) (same_or n next);
+          (λ s. absurd (let f : Some Open ≡ Some (Known x) = sym (set_same marks next Open next_within) ∙ ap (slice_get (set marks next Open)) (sym s) ∙ h in cc))
+          (λ ne. g.right n x (sym (set_other marks next n Open ne) ∙ h)) (same_or n next);
       kept = λ n x h. ⊎_elim
           (λ s. absurd (let f : Some Unseen ≡ Some (Known x) = sym next_unseen ∙ ap (slice_get marks) (sym s) ∙ g.kept n x h in cc))
-          (λ ne. set_there marks next n Open ne ∙ g.kept n x h) (same_or n next);
+          (λ ne. set_other marks next n Open ne ∙ g.kept n x h) (same_or n next);
       opens = λ n h. ⊎_elim
           (λ s. (depth, omega arith, new_top ∙ sym s))
-          (λ ne. let o = g.opens n (sym (set_there marks next n Open ne) ∙ h) in (o.0, (let lt = o.1 in omega (arith, lt)), above o.0 o.1 ∙ o.2)) (same_or n next);
+          (λ ne. let o = g.opens n (sym (set_other marks next n Open ne) ∙ h) in (o.0, (let lt = o.1 in omega (arith, lt)), above o.0 o.1 ∙ o.2)) (same_or n next);
       stacked = λ j lt. ⊎_elim
-          (λ (e : j ≡ depth). ap (λ k. slice_get (set marks next Open) (get_or (set stack depth next) k 0)) e ∙ ap (slice_get (set marks next Open)) new_top ∙ set_here marks next Open next_within)
+          (λ (e : j ≡ depth). ap (λ k. slice_get (set marks next Open) (get_or (set stack depth next) k 0)) e ∙ ap (slice_get (set marks next Open)) new_top ∙ set_same marks next Open next_within)
           (λ (ne : j ≢ depth). old_stacked j (inner j lt ne)) (same_or j depth);
       chain = λ j k less lt. ⊎_elim
           (λ (e : k ≡ depth).
@@ -232,7 +209,7 @@ module _ (leads : ℕ → List ℕ) (value : ℕ → Seen) (root : ℕ) (old mar
         old_stacked : (j : ℕ) → j < depth → slice_get (set marks next Open) (get_or (set stack depth next) j 0) ≡ Some Open
         old_stacked j lt =
             ap (slice_get (set marks next Open)) (above j lt)
-            ∙ set_there marks next (get_or stack j 0) Open (λ s. (let f : Some Unseen ≡ Some Open = sym next_unseen ∙ ap (slice_get marks) (sym s) ∙ g.stacked j lt in cc))
+            ∙ set_other marks next (get_or stack j 0) Open (λ s. (let f : Some Unseen ≡ Some Open = sym next_unseen ∙ ap (slice_get marks) (sym s) ∙ g.stacked j lt in cc))
             ∙ g.stacked j lt
 
   -- POP
@@ -250,16 +227,16 @@ module _ (leads : ℕ → List ℕ) (value : ℕ → Seen) (root : ℕ) (old mar
       right = λ n x h. ⊎_elim
           (λ s. let f : Some (Known v) ≡ Some (Known x) = sym here ∙ ap (slice_get (set marks (get_or stack (depth - 1) 0) (Known v))) (sym s) ∙ h in
           let same : v ≡ x = cc in sym same ∙ is ∙ ap value (sym s))
-          (λ ne. g.right n x (sym (set_there marks (get_or stack (depth - 1) 0) n (Known v) ne) ∙ h)) (same_or n (get_or stack (depth - 1) 0));
+          (λ ne. g.right n x (sym (set_other marks (get_or stack (depth - 1) 0) n (Known v) ne) ∙ h)) (same_or n (get_or stack (depth - 1) 0));
       kept = λ n x h. ⊎_elim
           (λ s. absurd (let f : Some Open ≡ Some (Known x) = sym top_open ∙ ap (slice_get marks) (sym s) ∙ g.kept n x h in cc))
-          (λ ne. set_there marks (get_or stack (depth - 1) 0) n (Known v) ne ∙ g.kept n x h) (same_or n (get_or stack (depth - 1) 0));
+          (λ ne. set_other marks (get_or stack (depth - 1) 0) n (Known v) ne ∙ g.kept n x h) (same_or n (get_or stack (depth - 1) 0));
       opens = λ n h. ⊎_elim
           (λ s. absurd (let f : Some (Known v) ≡ Some Open = sym here ∙ ap (slice_get (set marks (get_or stack (depth - 1) 0) (Known v))) (sym s) ∙ h in cc))
-          (λ ne. let o = g.opens n (sym (set_there marks (get_or stack (depth - 1) 0) n (Known v) ne) ∙ h) in
+          (λ ne. let o = g.opens n (sym (set_other marks (get_or stack (depth - 1) 0) n (Known v) ne) ∙ h) in
           (o.0, below o.0 n o.1 o.2 ne, o.2)) (same_or n (get_or stack (depth - 1) 0));
       stacked = λ j lt.
-          set_there marks (get_or stack (depth - 1) 0) (get_or stack j 0) (Known v)
+          set_other marks (get_or stack (depth - 1) 0) (get_or stack j 0) (Known v)
           (λ s. grounded (get_or stack j 0) (subst (Way leads (get_or stack j 0)) (sym s) (g.chain j (depth - 1) lt last_less)))
           ∙ g.stacked j (omega arith);
       chain = λ j k less lt. g.chain j k less (omega arith);
@@ -274,7 +251,7 @@ module _ (leads : ℕ → List ℕ) (value : ℕ → Seen) (root : ℕ) (old mar
     }
       where
         here : slice_get (set marks (get_or stack (depth - 1) 0) (Known v)) (get_or stack (depth - 1) 0) ≡ Some (Known v)
-        here = set_here marks (get_or stack (depth - 1) 0) (Known v) top_within
+        here = set_same marks (get_or stack (depth - 1) 0) (Known v) top_within
 
         more : depth ≢ 1 → 0 < depth - 1
         more ne = ⊎_elim (λ lt. lt) (λ (le : depth - 1 ≤ 0). absurd (ne (omega arith))) (cases_lt 0 (depth - 1))

@@ -18,13 +18,8 @@ use Rattle.cx_eval_network.specs.Asked.{CanAsk, child_in}
 use Rattle.cx_eval_network.specs.Askings.{IsFound, asked_of}
 use Rattle.cx_eval_network.specs.Lacking.{unknown_in}
 use Rattle.cx_eval_network.proofs.AskLemmas.{there}
-use Rattle.cx_eval_network.proofs.LeadLemmas.{lt_true}
-
-none_some : {A : Type 0} (x : A) → ◌≡◌ {A = Option A} None (Some x) → ⊥
-none_some x e = cc
-
-same_some : {A : Type 0} (x y : A) → Some x ≡ Some y → x ≡ y
-same_some x y e = cc
+use Rattle.cx_text.proofs.OptionLaws.{same_some, none_is_some}
+use Rattle.cx_text.proofs.NumberLaws.{lt_true}
 
 -- THE FIRST that is not known
 module _ (marks : List NodeMark) where
@@ -36,10 +31,10 @@ module _ (marks : List NodeMark) where
           → None ≡ (if b then unknown_in marks ks else Some k) → In (k ∷ ks) m → known_at marks m ≡ true
       choice true is behind f (inl same) = ap (known_at marks) (sym same) ∙ is
       choice true is behind f (inr j) = behind f j
-      choice false is behind f j = absurd (none_some k f)
+      choice false is behind f j = absurd (none_is_some k f)
 
   pub first_some : (ms : List ℕ) (m : ℕ) → Some m ≡ unknown_in marks ms → In ms m × (known_at marks m ≡ false)
-  first_some [] m e = absurd (none_some m (sym e))
+  first_some [] m e = absurd (none_is_some m (sym e))
   first_some (k ∷ ks) m e = choice (known_at marks k) refl (λ f. first_some ks m f) e
     where
       choice : (b : Bool) → known_at marks k ≡ b → (Some m ≡ unknown_in marks ks → In ks m × (known_at marks m ≡ false))
@@ -78,11 +73,11 @@ module _ (rows : List InstanceRow) (children : List ℕ) (n c : ℕ) where
     where
       choice : (b : Bool) → Some child ≡ (if b then Some (child_of rows children n c) else None) → child ≡ child_of rows children n c
       choice true f = same_some child (child_of rows children n c) f
-      choice false f = absurd (none_some child (sym f))
+      choice false f = absurd (none_is_some child (sym f))
 
   pub child_there : child_of rows children n c < length rows → None ≡ child_in rows children n c → ⊥
   child_there lt e = choice (nat_lt (child_of rows children n c) (length rows)) (lt_true (child_of rows children n c) (length rows) lt) e
     where
       choice : (b : Bool) → b ≡ true → None ≡ (if b then Some (child_of rows children n c) else None) → ⊥
-      choice true is f = none_some (child_of rows children n c) f
+      choice true is f = none_is_some (child_of rows children n c) f
       choice false is f = absurd (let no : false ≡ true = is in cc)

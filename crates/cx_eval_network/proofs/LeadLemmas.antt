@@ -1,5 +1,5 @@
 -- The list of what a port depends on has that and nothing else.
-use Rattle.std.proofs.Common.{◌≡◌, ℕ, zero, suc, ◌<◌, ◌⊎◌, inl, inr, ⊎_elim, ◌↔◌, true, nat_lt, List, [], ◌∷◌, ◌++◌, length, map, refl, sym, ap, ◌∙◌, subst, arith}
+use Rattle.std.proofs.Common.{◌≡◌, ℕ, zero, suc, ◌<◌, ◌⊎◌, inl, inr, ⊎_elim, ◌↔◌, List, [], ◌∷◌, ◌++◌, length, map, refl, sym, ap, ◌∙◌, subst, arith}
 use Rattle.std.proofs.lemmas.Bool.{cases_lt}
 use Rattle.cx_prim.specs.declared.ports.Side.{Side}
 use Rattle.cx_prim.specs.declared.ports.Side.TheVariants as sides
@@ -16,15 +16,11 @@ use Rattle.cx_meaning.specs.Sights.{In, GuardNames, AnyNames, PartPort, Go, AnIn
 use Rattle.cx_rules.specs.Items.{sources_of, operands_of, operands_in}
 use Rattle.cx_rules.specs.Footprints.{AssignNames, Mentions, SideLeads, PartLeads, CellLeads, Leads}
 use Rattle.cx_rules.specs.Ports.{component_of}
-use Rattle.cx_rules.proofs.Finite.{in_left, in_right}
 use Rattle.cx_design_parts.specs.Outputs.{ReadsFirst, read_count}
 use Rattle.cx_design_parts.proofs.OutputLemmas.{row_of-reads_first}
 use Rattle.cx_eval_network.specs.LeadPorts.{named_by, side_leads, part_leads, cell_leads, lead_ports}
-
-pub in_either : {A : Type 0} (xs ys : List A) (x : A) → In (xs ++ ys) x → In xs x ⊎ In ys x
-in_either [] ys x i = inr i
-in_either (y ∷ xs) ys x (inl e) = inl (inl e)
-in_either (y ∷ xs) ys x (inr i) = ⊎_elim (λ p. inl (inr p)) (λ q. inr q) (in_either xs ys x i)
+use Rattle.cx_meaning.proofs.SightsLaws.{in_either, in_left, in_right}
+use Rattle.cx_text.proofs.NumberLaws.{lt_true, true_lt}
 
 mapped_append : (xs ys : List PlacedPort) (q : PortRef) → In (map (λ p. p.port) xs) q ⊎ In (map (λ p. p.port) ys) q → In (map (λ p. p.port) (xs ++ ys)) q
 mapped_append [] ys q (inl i) = absurd i
@@ -111,12 +107,6 @@ in_numbered : (c count : ℕ) (q : PortRef) → In (numbered c count) q → IsFi
 in_numbered c zero q i = absurd i
 in_numbered c (suc n) q (inl e) = record { number = n; within = omega arith; is = e }
 in_numbered c (suc n) q (inr i) = let r = in_numbered c n q i in record { number = r.number; within = let lt = r.within in omega (arith, lt); is = r.is }
-
-pub lt_true : (m n : ℕ) → m < n → nat_lt m n ≡ true
-lt_true m n h = grind arith
-
-pub true_lt : (m n : ℕ) → nat_lt m n ≡ true → m < n
-true_lt m n e = grind arith
 
 module _ (part : PlainComponent) (act : Active) (c p : ℕ) (q : PortRef) where
   side_from : (row : Row) (side : Side) → ReadsFirst row → side_of row p ≡ side → SideLeads part act row c p side q → In (side_leads part act row c p side) q

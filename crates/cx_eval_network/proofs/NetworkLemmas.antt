@@ -19,7 +19,9 @@ use Rattle.cx_eval_network.specs.Ports.{PortNodes, LeadOn}
 use Rattle.cx_eval_network.proofs.GroundLemmas.{grounded}
 use Rattle.cx_eval_network.specs.LeadPorts.{lead_ports}
 use Rattle.cx_eval_network.specs.Networks.{Asked, path_at, instance_of, active_at, nodes_of, output_node, child_node, below_nodes, if_asked, asked_port, leads_of, leads_at, IsNetwork}
-use Rattle.cx_eval_network.proofs.LeadLemmas.{lead_ports_are, in_either}
+use Rattle.cx_eval_network.proofs.LeadLemmas.{lead_ports_are}
+use Rattle.cx_text.proofs.ListLaws.{there_below}
+use Rattle.cx_meaning.proofs.SightsLaws.{in_either}
 
 listed : {A : Type 0} (o : Option A) (x : A) → In (option_to_list o) x → o ≡ Some x
 listed None x i = absurd i
@@ -30,11 +32,6 @@ pub get_there : (xs : List Path) (n : ℕ) → n < length xs → slice_get xs n 
 get_there [] n h = absurd (omega (arith, h))
 get_there (x ∷ xs) zero h = refl
 get_there (x ∷ xs) (suc n) h = get_there xs n (omega (arith, h))
-
-there_below : {A : Type 0} (xs : List A) (n : ℕ) (x : A) → slice_get xs n ≡ Some x → n < length xs
-there_below [] n x e = absurd (cc)
-there_below (y ∷ xs) zero x e = omega arith
-there_below (y ∷ xs) (suc n) x e = let lt = there_below xs n x e in omega (arith, lt)
 
 -- what stands at a node by its port
 abbrev number_in : Option NodePort → ℕ

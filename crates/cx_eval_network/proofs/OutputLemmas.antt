@@ -1,9 +1,9 @@
 -- What outputs read, and ports by their sides.
-use Rattle.std.proofs.Common.{◌≡◌, ℕ, zero, suc, ◌+◌, ◌<◌, ◌≤◌, ⊎_elim, Bool, true, false, nat_lt, List, [], ◌∷◌, get_or, length, set, take, Option, Some, None, refl, sym, ap, ◌∙◌, subst, arith}
+use Rattle.std.proofs.Common.{◌≡◌, ℕ, zero, suc, ◌<◌, ◌≤◌, ⊎_elim, Bool, true, false, nat_lt, List, [], ◌∷◌, get_or, length, take, Option, Some, None, refl, sym, ap, ◌∙◌, subst, arith}
 use Rattle.std.specs.Prelude.{slice_get, if◌then◌else◌}
 use Rattle.std.proofs.Math.Path.{fun_ext}
-use Rattle.std.proofs.lemmas.Bool.{cases_eq, cases_lt}
-use Rattle.std.proofs.lemmas.List.{length-take, get_or_past, get_or-set_same, get_or-set_other}
+use Rattle.std.proofs.lemmas.Bool.{cases_lt}
+use Rattle.std.proofs.lemmas.List.{length-take, get_or_past}
 use Rattle.cx_bits.specs.BitVector.{BitVector}
 use Rattle.cx_prim.specs.declared.ports.PortRow.{PortRow}
 use Rattle.cx_prim.specs.declared.ports.Side.{Side}
@@ -11,14 +11,7 @@ use Rattle.cx_prim.specs.declared.ports.Side.TheVariants.{Output, Registered}
 use Rattle.cx_prim.specs.Rows.{FitsPorts, HasSide, Row, input, is_output_side}
 use Rattle.cx_meaning.specs.Rows.{side_from, side_of}
 use Rattle.cx_design_parts.specs.Outputs.{is_read_port, read_count}
-
-pub marked_next : (test : ℕ → Bool) (wanted : List Bool) (port : ℕ) (b : Bool) → port < length wanted → b ≡ test port → ((p : ℕ) → p < port → get_or wanted p false ≡ test p)
-    → (p : ℕ) → p < port + 1 → get_or (set wanted port b) p false ≡ test p
-marked_next test wanted port b within is before p lt =
-    ⊎_elim
-    (λ e. ap (λ n. get_or (set wanted port b) n false) e ∙ get_or-set_same wanted port b false within ∙ is ∙ ap test (sym e))
-    (λ differ. get_or-set_other wanted port p b false differ ∙ before p (omega arith))
-    (cases_eq p port)
+use Rattle.cx_bits.proofs.BitVectorLemmas.{none_is}
 
 pub few_read : (list : List PortRow) → read_count list ≤ length list
 few_read [] = omega arith
@@ -80,13 +73,10 @@ bare_take (suc count) (x ∷ xs) bare (suc n) = bare_take count xs (λ k. bare (
 take_count : {A : Type 0} (count : ℕ) (xs : List A) → count ≤ length xs → length (take count xs) ≡ count
 take_count count xs few = let t = length-take count xs in omega (arith, t, few)
 
-none_stands : (o : Option BitVector) (b : BitVector) → o ≡ None → o ≡ Some b → ⊥
-none_stands o b e f = cc
-
 pub bare_fits : (ports : List PortRow) (count : ℕ) → count ≡ length ports → count ≤ 9 → FitsPorts ports (take count nine_none)
 bare_fits ports count is few = record {
   count = take_count count nine_none few ∙ is;
-  widths = λ n port b at e. absurd (none_stands (get_or (take count nine_none) n None) b (bare_take count nine_none bare_nine.none n) e);
+  widths = λ n port b at e. absurd (none_is (get_or (take count nine_none) n None) b (bare_take count nine_none bare_nine.none n) e);
 }
 
 abbrev pub nine_false : List Bool

@@ -15,12 +15,11 @@ use Rattle.cx_meaning.specs.Active.{Acting, Owned, drivers, if_acting}
 use Rattle.cx_meaning.specs.Designs.{component_at}
 use Rattle.cx_meaning.specs.Instances.{At, Instance, part_of, tree_of}
 use Rattle.cx_meaning.specs.Sights.{In, PartPort, cell_step, numbered, part_step, side_step, step, target_seen}
-use Rattle.cx_rules.proofs.Finite.{in_left, in_right}
 use Rattle.cx_rules.specs.Items.{sources_of}
+use Rattle.cx_design.specs.PlainActives.{plain_active}
 use Rattle.cx_design_parts.specs.declared.ordering.OwnedAssign.{OwnedAssign}
 use Rattle.cx_design_parts.specs.Plain.{plain_owned}
 use Rattle.cx_design_leads.specs.Nodes.{node_of, node_count}
-use Rattle.cx_design_leads.proofs.NodeLemmas.{component_part, distinct, within}
 use Rattle.cx_eval_drives.specs.Drives.{acting_of, offset_by}
 use Rattle.cx_state.specs.Tables.{row_at}
 use Rattle.cx_state.specs.States.{under_path}
@@ -40,9 +39,10 @@ use Rattle.cx_eval_network.specs.Asked.{CanAsk, active_in}
 use Rattle.cx_eval_network.specs.Askings.{IsFound, asked_of}
 use Rattle.cx_eval_network.proofs.ValueLemmas.{found_value}
 use Rattle.cx_eval_network.proofs.AskLemmas.{active_there, there}
-use Rattle.cx_design.specs.PlainActives.{plain_active}
+use Rattle.cx_design_leads.proofs.NodeLemmas.{distinct, within}
 use Rattle.cx_eval_network.specs.Plans.{IsPlan, IsPlanOf, numbers_of, if_led, led_by}
-use Rattle.cx_eval_network.proofs.LeadLemmas.{in_either}
+use Rattle.cx_meaning.proofs.SightsLaws.{in_left, in_right, in_either}
+use Rattle.cx_rules.proofs.PortsLemmas.{part_is}
 
 -- NUMBERS of ports
 module _ (i : Instance) where
@@ -310,7 +310,7 @@ module _ (asking : Asking) (can : CanAsk (asked_of asking) asking.nodes.now aski
       ap (λ y. target_seen x (look_at a marks k) (drivers (component_at a.design found.component) y found.port))
       (ap (plain_active i) act ∙ active_there a asking.active.now k refl i refl)
       ∙ ap (λ m. target_seen x (look_at a marks k) (drivers (component_at a.design m) (active_at a k) found.port)) f.component
-      ∙ ap (λ part. target_seen x (look_at a marks k) (drivers part (active_at a k) found.port)) (sym (component_part a.design (row_at a.rows k).component))
+      ∙ ap (λ part. target_seen x (look_at a marks k) (drivers part (active_at a k) found.port)) (sym (part_is a.design (row_at a.rows k).component))
       ∙ sym (is.undriven x undriven (held_at a k) (active_at a k) s (look_at a marks k) (below_at a marks k))
       ∙ ap (λ j. step j (held_at a k) (active_at a k) s (look_at a marks k) (below_at a marks k) found.port) (sym same)
       ∙ found_value a asking.nodes.now can.network marks found f.from f.within known

@@ -1,26 +1,20 @@
 -- No row of the table has more than nine ports.
 use Rattle.std.proofs.Common.{◌+◌, ◌≤◌, ℕ, List, [], ◌∷◌, ◌++◌, length, arith}
 use Rattle.std.proofs.lemmas.List.{length-append}
-use Rattle.cx_prim.specs.declared.ports.PortName.{PortName}
 use Rattle.cx_prim.specs.declared.ports.PortName.TheVariants.{Addr0, Addr1, Addr2, Addr3, WriteData, WriteEn, ContentEn, ReadData, Done}
 use Rattle.cx_prim.specs.declared.ports.PortRow.{PortRow}
 use Rattle.cx_prim.specs.Rows.{Row}
 use Rattle.cx_prim.specs.CombinationalRows.{enable_port, plain_port, output_port, registered_port}
-use Rattle.cx_prim.specs.MemoryRows.{ports_named, address_ports, memory_row, sequential_memory_row}
+use Rattle.cx_prim.specs.MemoryRows.{address_ports, memory_row, sequential_memory_row}
 use Rattle.cx_prim.specs.Table.{PrimitiveRow, no_row, row_of}
-use Rattle.cx_prim.specs.TableCases.{OfEachKind, of_row}
+use Rattle.cx_prim.proofs.TableCases.{OfEachKind, of_row}
+use Rattle.cx_prim.proofs.PortsLemmas.{named_few}
 
 record IsShort (row : Row) : Type 0 where
   few : length row.ports ≤ 9
 
 no_row_short : IsShort no_row
 no_row_short = record { few = omega arith }
-
--- memories
-named_few : (names : List PortName) (widths : List ℕ) → length (ports_named names widths) ≤ length names
-named_few [] widths = omega arith
-named_few (name ∷ names) [] = omega arith
-named_few (name ∷ names) (w ∷ widths) = let h = named_few names widths in omega (arith, h)
 
 with_tail : (widths : List ℕ) (tail : List PortRow) → length tail ≤ 5 → length (address_ports widths ++ tail) ≤ 9
 with_tail widths tail few =

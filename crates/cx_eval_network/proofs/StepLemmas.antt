@@ -12,17 +12,14 @@ use Rattle.cx_rules.specs.Ports.{component_of}
 use Rattle.cx_design.specs.declared.groups.Assign.{Assign}
 use Rattle.cx_design.specs.PlainForms.{plain_assigns, plain_assign}
 use Rattle.cx_state.specs.States.{HoldCells, HoldsKind}
-use Rattle.cx_design_leads.proofs.NodeLemmas.{component_part}
+use Rattle.cx_meaning.proofs.InstancesLemmas.{kind_skip}
+use Rattle.cx_rules.proofs.PortsLemmas.{part_is}
 
 -- a cell holds a state of a row
 pub record Holds (row : Row) (h : Option CellState) : Type 0 where
   pub held : CellState
   pub is : h ≡ Some held
   pub fits : IsState row.shape held
-
-kind_skips : (trees : ℕ → Instance) (kind : PlainKind) (rest : Cells) (c : ℕ) → cell_at (add_cell trees kind rest) (suc c) ≡ cell_at rest c
-kind_skips trees (OfPrimitive p) rest c = refl
-kind_skips trees (OfComponent k) rest c = refl
 
 kind_holds : (trees : ℕ → Instance) (kind : PlainKind) (rest : Cells) (row : Row) (h : Option CellState) → HoldsKind kind h → cell_at (add_cell trees kind rest) zero ≡ OfRow row → Holds row h
 kind_holds trees (OfPrimitive p) rest row None k e = absurd k
@@ -33,7 +30,7 @@ cells_hold : (trees : ℕ → Instance) (cells : List PlainCell) (hs : List (Opt
 cells_hold trees [] hs c row k e = absurd (cc)
 cells_hold trees (x ∷ xs) [] c row k e = absurd k
 cells_hold trees (x ∷ xs) (h ∷ hs) zero row k e = kind_holds trees x.kind (cells_for trees xs) row h k.0 e
-cells_hold trees (x ∷ xs) (h ∷ hs) (suc c) row k e = cells_hold trees xs hs c row k.1 (sym (kind_skips trees x.kind (cells_for trees xs) c) ∙ e)
+cells_hold trees (x ∷ xs) (h ∷ hs) (suc c) row k e = cells_hold trees xs hs c row k.1 (sym (kind_skip trees x.kind (cells_for trees xs) c) ∙ e)
 
 pub component_holds : (d : PlainDesign) (k : ℕ) (hs : List (Option CellState)) (c : ℕ) (row : Row) → HoldCells (component_at d k).cells hs → cell_at (cells_of (component_of d k)) c ≡ OfRow row → Holds row (get_or hs c None)
 component_holds d k hs c row holds e = choice (length d.components) e
@@ -63,7 +60,7 @@ get_none (x ∷ xs) (suc n) e = get_none xs n e
 pub calls_none : (d : PlainDesign) (k g : ℕ) (part : PlainComponent) → part ≡ component_at d k → slice_get part.groups g ≡ None → None ≡ calls.called (component_of d k) g
 calls_none d k g part is e =
     ap (λ (group : PlainGroup). calls.called_in (cells_of (component_of d k)) group.assigns)
-    (sym (get_none (part_of (component_of d k)).groups g (ap (λ (p : PlainComponent). slice_get p.groups g) (component_part d k ∙ sym is) ∙ e)))
+    (sym (get_none (part_of (component_of d k)).groups g (ap (λ (p : PlainComponent). slice_get p.groups g) (part_is d k ∙ sym is) ∙ e)))
 
 pub called_more : (cells : Cells) (xs : List Assign) (left : ℕ) (x : Assign) (found next : Option ℕ) → 1 ≤ left → left ≤ length xs
     → found ≡ calls.called_in cells (plain_assigns (drop left xs)) → next ≡ calls.called_by cells (get_or xs (left - 1) x).target found

@@ -9,7 +9,10 @@ use Rattle.cx_eval_network.specs.declared.marks.NodeMark.{NodeMark}
 use Rattle.cx_eval_network.specs.declared.marks.NodeMark.TheVariants.{Unseen, Open, Known}
 use Rattle.cx_eval_network.specs.Demands.{AllUnseen, Ready}
 use Rattle.cx_eval_network.specs.Touches.{AreTouched, HaveRoom, unseen}
-use Rattle.cx_eval_network.proofs.DemandSteps.{below_length, none_is_some, same_or, set_here, set_there, unseen_le, unseen_set}
+use Rattle.cx_eval_network.proofs.DemandSteps.{unseen_le, unseen_set}
+use Rattle.cx_text.proofs.ListLaws.{there_below, set_same, set_other}
+use Rattle.cx_text.proofs.OptionLaws.{none_is_some}
+use Rattle.cx_text.proofs.NumberLaws.{same_or}
 
 -- nothing is known
 all_same : (count n : ℕ) (m : NodeMark) → slice_get (replicate count Unseen) n ≡ Some m → m ≡ Unseen
@@ -41,7 +44,7 @@ module _ (nodes : List ℕ) (count : ℕ) (marks : List NodeMark) (t : AreTouche
     counts = let u = unseen_set marks node Unseen Open e in omega (arith, u)
 
     pub node_within : node < length marks
-    node_within = below_length marks node Unseen e
+    node_within = there_below marks node Unseen e
 
     pub list_room : count < length nodes
     list_room = let r = t.room in let l = t.long in let u = counts in omega (arith, r, l, u)
@@ -63,7 +66,7 @@ module _ (nodes : List ℕ) (count : ℕ) (marks : List NodeMark) (t : AreTouche
           (same_or j count));
       listed = λ n m at ne. ⊎_elim
           (λ (same : n ≡ node). (count, omega arith, here ∙ sym same))
-          (λ (other : n ≢ node). let o = t.listed n m (sym (set_there marks node n Open other) ∙ at) ne in (o.0, (let lt = o.1 in omega (arith, lt)), before o.0 o.1 ∙ o.2))
+          (λ (other : n ≢ node). let o = t.listed n m (sym (set_other marks node n Open other) ∙ at) ne in (o.0, (let lt = o.1 in omega (arith, lt)), before o.0 o.1 ∙ o.2))
           (same_or n node);
     }
       where
@@ -78,7 +81,7 @@ module _ (nodes : List ℕ) (count : ℕ) (marks : List NodeMark) (t : AreTouche
     within = λ j lt. subst (λ k. get_or nodes j 0 < k) (sym (length-set marks node (Known x))) (t.within j lt);
     listed = λ n m at ne. ⊎_elim
         (λ (same : n ≡ node). subst (λ k. (j : ℕ) × (j < count) × (get_or nodes j 0 ≡ k)) (sym same) (t.listed node Open e (λ f. (let g : Open ≡ Unseen = f in absurd cc))))
-        (λ (other : n ≢ node). t.listed n m (sym (set_there marks node n (Known x) other) ∙ at) ne)
+        (λ (other : n ≢ node). t.listed n m (sym (set_other marks node n (Known x) other) ∙ at) ne)
         (same_or n node);
   }
 
@@ -111,8 +114,8 @@ module _ (nodes : List ℕ) (count : ℕ) (marks : List NodeMark) (t : AreTouche
       room = more;
       within = λ j lt. subst (λ k. get_or nodes j 0 < k) (sym (length-set marks node Unseen)) (t.within j (omega arith));
       listed = λ n m at ne. ⊎_elim
-          (λ (same : n ≡ node). absurd (ne (let f : Some Unseen ≡ Some m = sym (set_here marks node Unseen last_within) ∙ ap (slice_get (set marks node Unseen)) (sym same) ∙ at in cc)))
-          (λ (other : n ≢ node). let o = t.listed n m (sym (set_there marks node n Unseen other) ∙ at) ne in (o.0, below o.0 n o.1 o.2 other, o.2))
+          (λ (same : n ≡ node). absurd (ne (let f : Some Unseen ≡ Some m = sym (set_same marks node Unseen last_within) ∙ ap (slice_get (set marks node Unseen)) (sym same) ∙ at in cc)))
+          (λ (other : n ≢ node). let o = t.listed n m (sym (set_other marks node n Unseen other) ∙ at) ne in (o.0, below o.0 n o.1 o.2 other, o.2))
           (same_or n node);
     }
       where

@@ -1,8 +1,6 @@
 -- The value of a node by one step from what marks show.
-use Rattle.std.proofs.Common.{◌≡◌, ℕ, zero, suc, ◌+◌, ◌-◌, ◌<◌, ◌≤◌, ◌⊎◌, inl, inr, ⊎_elim, Bool, true, false, nat_eq, nat_le, nat_lt, Option, Some, None, List, [], ◌∷◌, ◌++◌, length, map, slice_get, refl, sym, ap, ◌∙◌, subst, append_assoc, arith}
+use Rattle.std.proofs.Common.{◌≡◌, ℕ, zero, suc, ◌+◌, ◌<◌, ◌≤◌, ◌⊎◌, inl, inr, ⊎_elim, Bool, true, false, nat_le, Option, Some, None, List, [], ◌∷◌, ◌++◌, length, map, slice_get, refl, sym, ap, ◌∙◌, subst, append_assoc, arith}
 use Rattle.std.proofs.Math.Path.{fun_ext}
-use Rattle.std.proofs.lemmas.Bool.{cases_lt}
-use Rattle.std.proofs.lemmas.List.{get_or_past}
 use Rattle.std.specs.Prelude.{option_map, option_to_list, if◌then◌else◌}
 use Rattle.cx_prim.specs.declared.ports.PortRow.{PortRow}
 use Rattle.cx_prim.specs.declared.ports.Side.{Side}
@@ -12,15 +10,14 @@ use Rattle.cx_meaning.specs.declared.ports.PortRef.{PortRef}
 use Rattle.cx_meaning.specs.declared.ports.PortRef.TheVariants as ports
 use Rattle.cx_meaning.specs.declared.ports.PlacedPort.{PlacedPort}
 use Rattle.cx_meaning.specs.declared.sights.Seen.TheVariants.{Undefined, Value}
-use Rattle.cx_meaning.specs.Designs.{PlainAssign, PlainComponent, PlainDesign, component_at, group_at, no_group}
-use Rattle.cx_meaning.specs.Instances.{Instance, Node, Cells, no_cells, a_primitive, an_instance, At, Nothing, OfRow, OfInstance, Path, State, cell_at, cells_of, instance_at, part_of, tree_of, under}
+use Rattle.cx_meaning.specs.Designs.{PlainAssign, PlainComponent, PlainDesign, component_at, group_at}
+use Rattle.cx_meaning.specs.Instances.{Instance, Cells, no_cells, a_primitive, an_instance, At, Nothing, OfRow, OfInstance, Path, State, cell_at, cells_of, instance_at, part_of, tree_of, under}
 use Rattle.cx_meaning.specs.Active.{Active, nothing}
 use Rattle.cx_meaning.specs.Sights.{In, Below, Held, Look, PartPort, Go, AnInput, AnOutput, ItsDone, part_port, side_step, part_step, cell_step, step, seen, unheld, outputs_below}
 use Rattle.cx_rules.specs.Footprints.{AssignNames, Leads}
 use Rattle.cx_rules.specs.Items.{sources_of}
 use Rattle.cx_rules.specs.Ports.{component_of}
 use Rattle.cx_rules.specs.Wellformed.{IsDesign, IsThere, StandsIn, port_count}
-use Rattle.cx_rules.proofs.Finite.{in_left, in_right}
 use Rattle.cx_design_parts.specs.Outputs.{is_read_port, read_count}
 use Rattle.cx_state.specs.Tables.{IsNumber, child_of, row_at}
 use Rattle.cx_state.proofs.TableLemmas.{further}
@@ -33,7 +30,7 @@ use Rattle.cx_eval_network.specs.Demands.{AreKnown}
 use Rattle.cx_design_leads.specs.Nodes as part
 use Rattle.cx_design_leads.specs.Edges.{ReadsInRow}
 use Rattle.cx_design_leads.proofs.DriverLemmas.{driver_of, of_owner, leads_either}
-use Rattle.cx_design_leads.proofs.NodeLemmas.{below_is, component_part, has_node}
+use Rattle.cx_design_leads.proofs.NodeLemmas.{below_is, has_node}
 use Rattle.cx_eval_network.specs.declared.numbering.NodePort.{NodePort}
 use Rattle.cx_eval_network.specs.declared.numbering.Nodes.{Nodes}
 use Rattle.cx_eval_network.specs.Nodes.{IsAt, IsPortOf, first_node, found_at, node_at, part_at}
@@ -41,9 +38,15 @@ use Rattle.cx_eval_network.proofs.FoundLemmas.{found_is}
 use Rattle.cx_eval_network.proofs.NodeLemmas.{nodes_apart, nodes_within}
 use Rattle.cx_eval_network.specs.LeadPorts.{lead_ports}
 use Rattle.cx_eval_network.specs.Networks.{Asked, path_at, instance_of, active_at, held_at, seen_at, nodes_of, output_node, child_node, below_nodes, if_asked, asked_port, value_of, value_at, leads_of, leads_at, shown, node_shown, look_at, below_at, IsNetwork}
-use Rattle.cx_eval_network.proofs.LeadLemmas.{AllRead, all_read, assign_named, lead_ports_are, true_lt}
+use Rattle.cx_eval_network.proofs.LeadLemmas.{AllRead, all_read, assign_named, lead_ports_are}
 use Rattle.cx_eval_network.proofs.NetworkLemmas.{at_is, child_later, number_at, same_instance}
 use Rattle.cx_eval_network.proofs.OutputLemmas.{few_read}
+use Rattle.cx_meaning.proofs.DesignsLemmas.{group_there}
+use Rattle.cx_text.proofs.NumberLaws.{apart_above, true_lt}
+use Rattle.cx_laws.proofs.TreeLemmas.{output_there}
+use Rattle.cx_meaning.proofs.InstancesLemmas.{literal_is}
+use Rattle.cx_meaning.proofs.SightsLaws.{in_left, in_right}
+use Rattle.cx_rules.proofs.PortsLemmas.{part_is}
 
 -- WHAT IS LED TO is a literal, or has a node
 pub record IsLiteral (q : PortRef) : Type 0 where
@@ -73,10 +76,6 @@ read_node i p q read r =
     let count : wanted.0 < port_count (cell_at (cells_of i) r.cell) = subst (λ (at : At). wanted.0 < port_count at) (sym r.stands) below in
     (_, ap (part.node_of i) (sym wanted.2) ∙ below_is (port_count (cell_at (cells_of i) r.cell)) (part.ports_before (cells_of i) r.cell) wanted.0 count)
 
-group_there : (own : PlainComponent) (g : ℕ) (a : PlainAssign) → In (group_at own g).assigns a → g < length own.groups
-group_there own g a i =
-    ⊎_elim (λ l. l) (λ l. let none : In no_group.assigns a = subst (λ x. In x.assigns a) (get_or_past own.groups g no_group l) i in absurd none) (cases_lt g (length own.groups))
-
 module _ (d : PlainDesign) (k : ℕ) (design : IsDesign d) (within : k < length d.components) where
   named_node : (owner : Option ℕ) (a : PlainAssign) (q : PortRef) → StandsIn (component_at d k) owner a → AssignNames a q → IsLiteral q ⊎ ((m : ℕ) × (part.node_of (component_of d k) q ≡ Some m))
   named_node owner a q stands names =
@@ -90,9 +89,9 @@ module _ (d : PlainDesign) (k : ℕ) (design : IsDesign d) (within : k < length 
       ⊎_elim
       (λ e. ⊎_elim
       (λ o. let a = o.1 in
-      named_node None a.assign q (subst (λ (own : PlainComponent). In own.always a.assign) (component_part d k) a.stands) a.names)
+      named_node None a.assign q (subst (λ (own : PlainComponent). In own.always a.assign) (part_is d k) a.stands) a.names)
       (λ o. let a = o.2 in
-      let s : In (group_at (component_at d k) o.0).assigns a.assign = subst (λ (own : PlainComponent). In (group_at own o.0).assigns a.assign) (component_part d k) a.stands in
+      let s : In (group_at (component_at d k) o.0).assigns a.assign = subst (λ (own : PlainComponent). In (group_at own o.0).assigns a.assign) (part_is d k) a.stands in
       named_node (Some o.0) a.assign q (group_there (component_at d k) o.0 a.assign s, s) a.names)
       (of_owner (part_of i) p q act (driver_of (part_of i) act p q e.1)))
       (λ r. inr (read_node i p q (all_read d (length d.components) k) r))
@@ -137,21 +136,6 @@ outputs_at (an_instance first rest) states zero n child e = ap (λ i. seen i unh
     same_child e = cc
 outputs_at (an_instance first rest) states (suc c) n child e = outputs_at rest (λ k. states (suc k)) c n child e
 
-literal_is : (i : Instance) (held : Held) (act : Active) (s : State) (w v : ℕ) → seen i held act s (ports.Literal w v) ≡ Value (record { width = w; value = v })
-literal_is (Node own cells) held act s w v = refl
-
-an_output : (own : PlainComponent) (p n : ℕ) → part_port own p ≡ AnOutput n → n < length own.outputs
-an_output own zero n e = absurd (cc)
-an_output own (suc p) n e = inner (nat_lt p (length own.inputs)) e
-  where
-    outer : (b : Bool) → nat_lt (p - length own.inputs) (length own.outputs) ≡ b → (if b then AnOutput (p - length own.inputs) else ItsDone) ≡ AnOutput n → n < length own.outputs
-    outer true f g = let same : p - length own.inputs ≡ n = cc in let lt = true_lt (p - length own.inputs) (length own.outputs) f in omega (arith, same, lt)
-    outer false f g = absurd (cc)
-
-    inner : (b : Bool) → (if b then AnInput p else (if nat_lt (p - length own.inputs) (length own.outputs) then AnOutput (p - length own.inputs) else ItsDone)) ≡ AnOutput n → n < length own.outputs
-    inner true e = absurd (cc)
-    inner false e = outer (nat_lt (p - length own.inputs) (length own.outputs)) refl e
-
 in_nodes : (a : Asked) (n m : ℕ) (qs : List PortRef) (q : PortRef) → In qs q → node_at a.design a.rows n q ≡ Some m → In (nodes_of a n qs) m
 in_nodes a n m [] q i e = absurd i
 in_nodes a n m (x ∷ qs) q (inl f) e =
@@ -163,9 +147,6 @@ le_true m n h = grind arith
 
 true_le : (m n : ℕ) → nat_le m n ≡ true → m ≤ n
 true_le m n e = grind arith
-
-eq_false : (m n : ℕ) → n < m → nat_eq m n ≡ false
-eq_false m n h = grind arith
 
 record WasAsked (a : Asked) (o : Option NodePort) (found : NodePort) : Type 0 where
   is : o ≡ Some found
@@ -235,7 +216,7 @@ module _ (a : Asked) (nodes : Nodes) (h : IsNetwork a nodes) (marks : List NodeM
       let j = child_of a.rows a.children k c in
       let later = child_later a nodes h k c child lt e in
       let after : a.instance < j = let l = later.0 in omega (arith, l, from) in
-      let other = eq_false j a.instance after in
+      let other = apart_above j a.instance after in
       let path = child_path k c child lt e in
       let is : instance_of a j ≡ child = ap (instance_at (tree_of a.design)) path ∙ further (tree_of a.design) (path_at a.design k) c child e in
       let below : under_path (path_at a.design j) whole ≡ under c (under_path (path_at a.design k) whole) =
@@ -252,7 +233,7 @@ module _ (a : Asked) (nodes : Nodes) (h : IsNetwork a nodes) (marks : List NodeM
       let j = child_of a.rows a.children k c in
       let later = child_later a nodes h k c child lt e in
       let is : instance_of a j ≡ child = ap (instance_at (tree_of a.design)) (child_path k c child lt e) ∙ further (tree_of a.design) (path_at a.design k) c child e in
-      let there : n < length (part_of (part_at a.design a.rows j)).outputs = subst (λ i. n < length (part_of i).outputs) (sym is ∙ same_instance a nodes h j later.1) (an_output (part_of child) port n x) in
+      let there : n < length (part_of (part_at a.design a.rows j)).outputs = subst (λ i. n < length (part_of i).outputs) (sym is ∙ same_instance a nodes h j later.1) (output_there (part_of child) port n x) in
       let m = first_node a.design a.rows j + (part.first_output (part_at a.design a.rows j) + n) in
       let at : node_at a.design a.rows j (ports.Output n) ≡ Some m =
       ap (option_map (λ i. first_node a.design a.rows j + i)) (below_is (length (part_of (part_at a.design a.rows j)).outputs) (part.first_output (part_at a.design a.rows j)) n there) in

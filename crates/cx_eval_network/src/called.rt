@@ -4,10 +4,10 @@ ghost use Rattle.std.specs.Prelude.{◌≡◌, ◌<◌, IfNone, IfSome, None, So
 ghost use Rattle.cx_meaning.specs.Calls as calls;
 ghost use Rattle.cx_meaning.specs.Instances as instances;
 ghost use Rattle.cx_meaning.specs.Instances.{cells_of};
-ghost use Rattle.cx_design_parts.specs.Cells.{StandsFor};
-ghost use Rattle.cx_rules.specs.Ports.{component_of};
 ghost use Rattle.cx_design.specs.PlainForms.{plain_assigns, plain_component, plain_group};
+ghost use Rattle.cx_rules.specs.Ports.{component_of};
 ghost use Rattle.cx_design.specs.PlainDesigns.{plain_design};
+ghost use Rattle.cx_design_parts.specs.Cells.{StandsFor};
 
 use cx_design::{Assign, Component, Design, Group, PortRef};
 use cx_design_parts::{At, component, stands_at};

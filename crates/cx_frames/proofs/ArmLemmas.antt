@@ -15,14 +15,17 @@ use Rattle.cx_meaning.specs.Running.{leaves, control_below, run_statement}
 use Rattle.cx_rules.specs.Items.{Context, Dynamic, below_dynamic, Visited, visit, visit_parts, visit_all, statements_in}
 use Rattle.cx_rules.specs.Footprints as footprints
 use Rattle.cx_rules.specs.Footprints.{Reads}
-use Rattle.cx_rules.proofs.Finite.{in_left, in_right}
-use Rattle.cx_rules.proofs.ForeignLemmas.{or_right}
 use Rattle.cx_frames.specs.Agreeing.{Agree}
 use Rattle.cx_frames.specs.Arms.{all_drive, arms_run}
 use Rattle.cx_frames.specs.Ran.{Outcome, Ended, Unfinished, AnswersAs, Ran, limit, joined}
 use Rattle.cx_frames.proofs.AlikeLemmas.{Frames}
 use Rattle.cx_frames.proofs.StatementFrames.{visited}
 use Rattle.cx_frames.proofs.BothLemmas.{both_apart, arm_answers}
+use Rattle.std.proofs.lemmas.Bool.{or_left, or_right}
+use Rattle.cx_text.proofs.BoolLaws.{or_assoc}
+use Rattle.cx_text.proofs.NumberLaws.{true_false}
+use Rattle.cx_meaning.proofs.DesignsLemmas.{list_again}
+use Rattle.cx_meaning.proofs.SightsLaws.{in_left, in_right}
 
 -- merges of sets that have no cell in common, in either order
 merges_apart : (one two : Set) → ((c : ℕ) → one c ≡ true → two c ≡ true → ⊥) → (a b c : State) → merge one a (merge two c b) ≡ merge two c (merge one a b)
@@ -45,10 +48,6 @@ alone cells s (End b u) = let turns : max u 0 ≡ max 0 u = omega arith in ap (E
 alone cells s (answers.Fault f u) = refl
 alone cells s More = refl
 
-or_left : (a b : Bool) → a ≡ true → (a || b) ≡ true
-or_left true b e = refl
-or_left false b e = absurd (cc)
-
 module _ (part : PlainComponent) (cells : Cells) (held : Held) (arm : PlainStatement) (s : State) (n : ℕ) where
   -- the arms with one more after them
   one_more : (done : List PlainStatement) → ((c : ℕ) → all_drive part done c ≡ true → drives part arm c ≡ true → ⊥)
@@ -58,10 +57,6 @@ module _ (part : PlainComponent) (cells : Cells) (held : Held) (arm : PlainState
       ap (both (merge (drives part x)) (run_statement (Node part cells) held x s n)) (one_more done (λ c e f. apart c (or_right (drives part x c) (all_drive part done c) e) f))
       ∙ both_apart (merge (drives part x)) (λ a b. merge (drives part arm) b a) (merges_apart (drives part x) (drives part arm) (λ c e f. apart c (or_left (drives part x c) (all_drive part done c) e) f))
       (run_statement (Node part cells) held x s n) (arms_run (Node part cells) held done s n) (run_statement (Node part cells) held arm s n)
-
--- the cells that neither drives
-true_false : true ≡ false → ⊥
-true_false e = cc
 
 neither : (part : PlainComponent) (done : List PlainStatement) (arm : PlainStatement) (c : ℕ) → all_drive part (done ++ (arm ∷ [])) c ≡ false → (all_drive part done c ≡ false) × (drives part arm c ≡ false)
 neither part [] arm c e = (refl, one (drives part arm c) e)
@@ -142,10 +137,6 @@ one_longer {A} (y ∷ ys) zero x e = ap (λ z. z ∷ []) (inj e)
     inj e = cc
 one_longer (y ∷ ys) (suc k) x e = ap (λ l. y ∷ l) (one_longer ys k x e)
 
-pub list_again : (ss : List PlainStatement) → list_of (statements_of ss) ≡ ss
-list_again [] = refl
-list_again (s ∷ ss) = ap (λ l. s ∷ l) (list_again ss)
-
 -- before the first arm
 pub none_ran : (i : Instance) (held : Held) (s : State) (n : ℕ) → IsSettled i s → Ran i (all_drive (part_of i) []) (arms_run i held []) s n s (Ended 0)
 none_ran (Node part cells) held s n settled = record { settled = settled; top = refl; others = λ c below e. refl; answer = (refl, λ path. refl) }
@@ -155,13 +146,9 @@ same_arms : (arms : PlainStatements) → statements_of (list_of arms) ≡ arms
 same_arms no_statements = refl
 same_arms (a_statement s ss) = ap (a_statement s) (same_arms ss)
 
-or_joined : (a b c : Bool) → ((a || b) || c) ≡ (a || (b || c))
-or_joined true b c = refl
-or_joined false b c = refl
-
-groups_joined : (part : PlainComponent) (gs hs : List ℕ) (c : ℕ) → groups_drive part (gs ++ hs) c ≡ (groups_drive part gs c || groups_drive part hs c)
+pub groups_joined : (part : PlainComponent) (gs hs : List ℕ) (c : ℕ) → groups_drive part (gs ++ hs) c ≡ (groups_drive part gs c || groups_drive part hs c)
 groups_joined part [] hs c = refl
-groups_joined part (g ∷ gs) hs c = ap (λ b. group_drives part g c || b) (groups_joined part gs hs c) ∙ sym (or_joined (group_drives part g c) (groups_drive part gs c) (groups_drive part hs c))
+groups_joined part (g ∷ gs) hs c = ap (λ b. group_drives part g c || b) (groups_joined part gs hs c) ∙ sym (or_assoc (group_drives part g c) (groups_drive part gs c) (groups_drive part hs c))
 
 arms_drive : (part : PlainComponent) (arms : PlainStatements) (c : ℕ) → groups_drive part (groups_in_all arms) c ≡ all_drive part (list_of arms) c
 arms_drive part no_statements c = refl

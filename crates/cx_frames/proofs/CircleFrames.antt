@@ -10,12 +10,13 @@ use Rattle.cx_meaning.specs.declared.ports.PortRef.{PortRef}
 use Rattle.cx_meaning.specs.declared.ports.PortRef.TheVariants as ports
 use Rattle.cx_meaning.specs.Rows.{side_of}
 use Rattle.cx_meaning.specs.Designs.{PlainAssign, PlainComponent, group_at, no_group}
-use Rattle.cx_meaning.specs.Instances.{Instance, Node, At, Nothing, OfRow, OfInstance, cell_at, cells_of, part_of}
+use Rattle.cx_meaning.specs.Instances.{Instance, At, Nothing, OfRow, OfInstance, cell_at, cells_of, part_of}
 use Rattle.cx_meaning.specs.Active.{Active, nothing, group, capture, Owned, source_order, offset_of, if_acting, if_target, acting, same_port, drivers}
 use Rattle.cx_meaning.specs.Sights.{In, PartPort, Go, AnInput, AnOutput, ItsDone, part_port}
 use Rattle.cx_rules.specs.Footprints.{Mentions, SideLeads, PartLeads, CellLeads, Leads, Depends, at_once, by_way_of}
-use Rattle.cx_rules.specs.Circles.{IsAcyclic, AreAcyclic, AcyclicBelow}
+use Rattle.cx_rules.specs.Circles.{IsAcyclic, AreAcyclic}
 use Rattle.cx_frames.proofs.RuleLemmas.{OwnerOf, continuous, of_group, owner_of}
+use Rattle.cx_rules.proofs.CirclesLemmas.{own_acyclic}
 
 acting_same : (act other : Active) (p : PortRef) (list : List Owned) → ((o : Owned) → In list o → offset_of act o.owner ≡ offset_of other o.owner) → acting other p list ≡ acting act p list
 acting_same act other p [] h = refl
@@ -68,12 +69,6 @@ capture_acyclic i g c = same_circles i (group g) (capture g c) (λ o j. one o.ow
     one None = refl
     one (Some h) = refl
 
-pub bare_acyclic : (i : Instance) → AreAcyclic i → IsAcyclic i nothing
-bare_acyclic (Node part cells) h = h.0
-
-pub deeper_acyclic : (i : Instance) → AreAcyclic i → AcyclicBelow (cells_of i)
-deeper_acyclic (Node part cells) h = h.1
-
 -- a group with an assignment is there
 group_there : (part : PlainComponent) (g : ℕ) (a : PlainAssign) → length part.groups ≤ g → In (group_at part g).assigns a → ⊥
 group_there part g a l i = let none : In no_group.assigns a = subst (λ x. In x.assigns a) (get_or_past part.groups g no_group l) i in none
@@ -83,7 +78,7 @@ pub group_acyclic : (i : Instance) → AreAcyclic i → ((g : ℕ) → g < lengt
 group_acyclic i bare each g =
     ⊎_elim
     (λ l. each g l)
-    (λ l. same_circles i nothing (group g) (λ o j. of_owner o l (owner_of (part_of i) o j)) (bare_acyclic i bare))
+    (λ l. same_circles i nothing (group g) (λ o j. of_owner o l (owner_of (part_of i) o j)) (own_acyclic i bare))
     (cases_lt g (length (part_of i).groups))
   where
     none_there : (h : ℕ) → (g ≡ h → ⊥) → (b : Bool) → nat_eq g h ≡ b → ◌≡◌ {A = Option ℕ} None (if b then Some 0 else None)

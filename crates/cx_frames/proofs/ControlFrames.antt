@@ -1,29 +1,15 @@
 -- A run over any leaves hangs on a set of cells alone, where the leaves do.
-use Rattle.std.proofs.Common.{◌≡◌, ℕ, zero, suc, inl, inr, List, ◌++◌, Option, Some, None, refl}
+use Rattle.std.proofs.Common.{◌≡◌, ℕ, zero, suc, inl, inr, List, ◌++◌, Option, Some, refl}
 use Rattle.cx_meaning.specs.declared.ports.PlacedPort.{PlacedPort}
 use Rattle.cx_meaning.specs.Designs.{PlainForm, Empty, Enable, Seq, Par, If, While, Repeat, StaticSeq, StaticPar, StaticIf, StaticRepeat, Timed, PlainStatement, Placed, PlainStatements, no_statements, a_statement}
 use Rattle.cx_meaning.specs.Instances.{State}
 use Rattle.cx_meaning.specs.Cycles.{Fault}
 use Rattle.cx_meaning.specs.Sights.{In}
-use Rattle.cx_meaning.specs.Control.{Leaves, groups_in, groups_of, groups_in_all, with_comb, run_form, run, run_parts, run_arms}
+use Rattle.cx_meaning.specs.Control.{Leaves, groups_in, groups_of, groups_in_all, run_form, run, run_parts, run_arms}
 use Rattle.cx_rules.specs.Items.{Context, below_dynamic, Visited, visit, visit_parts, visit_all, test_in}
-use Rattle.cx_rules.proofs.Finite.{in_left, in_right}
 use Rattle.cx_frames.specs.Agreeing.{Agree}
 use Rattle.cx_frames.proofs.AlikeLemmas.{Frames, then_frames, stay_frames, idle_frames, test_frames, loop_of_frames, rounds_frames, both_alike}
-
-with_left : (comb : Option ℕ) (gs : List ℕ) (g : ℕ) → comb ≡ Some g → In (with_comb comb gs) g
-with_left None gs g e = absurd (none_some e)
-  where
-    none_some : ◌≡◌ {A = Option ℕ} None (Some g) → ⊥
-    none_some e = cc
-with_left (Some h) gs g e = inl (some_inj e)
-  where
-    some_inj : ◌≡◌ {A = Option ℕ} (Some h) (Some g) → h ≡ g
-    some_inj e = cc
-
-with_right : (comb : Option ℕ) (gs : List ℕ) (g : ℕ) → In gs g → In (with_comb comb gs) g
-with_right None gs g i = i
-with_right (Some h) gs g i = inr i
+use Rattle.cx_meaning.proofs.SightsLaws.{behind_comb, in_comb, in_left, in_right}
 
 -- the groups of a statement and its forms have these properties
 pub record Holds (G : ℕ → Type 0) (P : PlainForm → Type 0) (gs : List ℕ) (vs : List Visited) : Type 0 where
@@ -63,12 +49,12 @@ module _ (set : ℕ → Type 0) (L : Leaves State Fault) (G : ℕ → Type 0) (P
           (run_frames (below_dynamic context) first (left (groups_of first) (groups_in_all rest) (visit (below_dynamic context) first) (visit_all (below_dynamic context) rest) h) s t n k)
           (arms_frames (below_dynamic context) rest (right (groups_of first) (groups_in_all rest) (visit (below_dynamic context) first) (visit_all (below_dynamic context) rest) h) s t n k)
       form_frames context (If test comb a b) p h s t n k =
-          test_frames set L.rest leaves.rests (L.test test.port comb) (leaves.test (If test comb a b) test comb refl p (λ g e. h.groups g (with_left comb (groups_of a ++ groups_of b) g e))) (run L a) (run L b)
-          (run_frames (below_dynamic context) a (record { groups = λ g i. h.groups g (with_right comb (groups_of a ++ groups_of b) g (in_left (groups_of a) (groups_of b) g i)); forms = λ v i. h.forms v (in_left (visit (below_dynamic context) a) (visit (below_dynamic context) b) v i) }))
-          (run_frames (below_dynamic context) b (record { groups = λ g i. h.groups g (with_right comb (groups_of a ++ groups_of b) g (in_right (groups_of a) (groups_of b) g i)); forms = λ v i. h.forms v (in_right (visit (below_dynamic context) a) (visit (below_dynamic context) b) v i) })) s t n k
+          test_frames set L.rest leaves.rests (L.test test.port comb) (leaves.test (If test comb a b) test comb refl p (λ g e. h.groups g (in_comb comb (groups_of a ++ groups_of b) g e))) (run L a) (run L b)
+          (run_frames (below_dynamic context) a (record { groups = λ g i. h.groups g (behind_comb comb (groups_of a ++ groups_of b) g (in_left (groups_of a) (groups_of b) g i)); forms = λ v i. h.forms v (in_left (visit (below_dynamic context) a) (visit (below_dynamic context) b) v i) }))
+          (run_frames (below_dynamic context) b (record { groups = λ g i. h.groups g (behind_comb comb (groups_of a ++ groups_of b) g (in_right (groups_of a) (groups_of b) g i)); forms = λ v i. h.forms v (in_right (visit (below_dynamic context) a) (visit (below_dynamic context) b) v i) })) s t n k
       form_frames context (While test comb a) p h s t n k =
-          loop_of_frames set L.rest leaves.rests (L.test test.port comb) (leaves.test (While test comb a) test comb refl p (λ g e. h.groups g (with_left comb (groups_of a) g e))) (run L a)
-          (run_frames (below_dynamic context) a (record { groups = λ g i. h.groups g (with_right comb (groups_of a) g i); forms = h.forms })) s t n k
+          loop_of_frames set L.rest leaves.rests (L.test test.port comb) (leaves.test (While test comb a) test comb refl p (λ g e. h.groups g (in_comb comb (groups_of a) g e))) (run L a)
+          (run_frames (below_dynamic context) a (record { groups = λ g i. h.groups g (behind_comb comb (groups_of a) g i); forms = h.forms })) s t n k
       form_frames context (Repeat zero a) p h s t n k = idle_frames set L.rest leaves.rests s t n k
       form_frames context (Repeat (suc count) a) p h s t n k = rounds_frames set (run L a) (run_frames (below_dynamic context) a h) (suc count) s t n k
       form_frames context (StaticSeq length parts) p h s t n k = leaves.island context (StaticSeq length parts) p h s t n k

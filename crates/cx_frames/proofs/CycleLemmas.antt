@@ -1,5 +1,5 @@
 -- A cycle leaves alone what nothing active drives.
-use Rattle.std.proofs.Common.{◌≡◌, ℕ, zero, suc, Bool, true, false, [], ◌∷◌, None, if◌then◌else◌, refl, sym, ap, ◌∙◌}
+use Rattle.std.proofs.Common.{◌≡◌, ℕ, Bool, true, false, [], ◌∷◌, None, if◌then◌else◌, refl, sym, ap, ◌∙◌}
 use Rattle.std.proofs.Math.Path.{fun_ext}
 use Rattle.std.proofs.lemmas.Bool.{both_ways}
 use Rattle.cx_prim.specs.CellStates.{CellState}
@@ -7,7 +7,7 @@ use Rattle.cx_prim.specs.Rows.{Row}
 use Rattle.cx_meaning.specs.declared.ports.PortRef.TheVariants as ports
 use Rattle.cx_meaning.specs.declared.sights.FaultKind.{FaultKind}
 use Rattle.cx_meaning.specs.Rows.{side_of}
-use Rattle.cx_meaning.specs.Instances.{Instance, Node, Cells, no_cells, a_primitive, an_instance, OfRow, OfInstance, cell_at, cell_count, cells_of, part_of, Path, State, Set, merge, idle_at, idle_below, idle}
+use Rattle.cx_meaning.specs.Instances.{Instance, Node, Cells, OfRow, OfInstance, cell_at, cell_count, cells_of, part_of, Path, State, Set, merge, idle_at, idle}
 use Rattle.cx_meaning.specs.Active.{Active, Owned, source_order}
 use Rattle.cx_meaning.specs.Sights.{Look, Held, In, seen}
 use Rattle.cx_meaning.specs.Cycles.{Fault, Outcome, Next, Stops, enables, cell_outcome, outcome_of, stepped, state_after, Goes, Faults, ended, cycle_of, every_cell}
@@ -15,22 +15,13 @@ use Rattle.cx_meaning.proofs.CycleLemmas.{goes_to, faults_with, one_stops, outco
 use Rattle.cx_rules.specs.Ports.{enables_cell, is_primitive_enable}
 use Rattle.cx_rules.proofs.ForeignLemmas.{foreign_zero}
 use Rattle.cx_frames.specs.Rests.{IsUndriven, IsSettledAt, IsKeptAt}
-use Rattle.cx_frames.proofs.QuietLemmas.{cell_outcome-idle, is_enable_side-Enable}
-use Rattle.cx_frames.proofs.EnableLemmas.{row_is, HasLawfulRows, BareEnablesNothing}
+use Rattle.cx_frames.proofs.QuietLemmas.{cell_outcome-idle}
+use Rattle.cx_frames.proofs.EnableLemmas.{HasLawfulRows, BareEnablesNothing}
+use Rattle.cx_meaning.proofs.InstancesLemmas.{idle_below-row, top_idle}
+use Rattle.cx_prim.proofs.PortsLemmas.{is_enable_side-Enable}
 
--- the idle turn of a primitive cell
-idle_below-row : (cells : Cells) (c : ℕ) (row : Row) (state : CellState) → cell_at cells c ≡ OfRow row → idle_below cells c [] state ≡ row.idle state
-idle_below-row no_cells c row state e = absurd (cc)
-idle_below-row (a_primitive r rest) zero row state e = ap (λ x. x.idle state) (row_is r row e)
-idle_below-row (a_primitive r rest) (suc c) row state e = idle_below-row rest c row state e
-idle_below-row (an_instance child rest) zero row state e = absurd (cc)
-idle_below-row (an_instance child rest) (suc c) row state e = idle_below-row rest c row state e
-
-idle_at-row : (i : Instance) (c : ℕ) (row : Row) (state : CellState) → cell_at (cells_of i) c ≡ OfRow row → idle_at i (c ∷ []) state ≡ row.idle state
+pub idle_at-row : (i : Instance) (c : ℕ) (row : Row) (state : CellState) → cell_at (cells_of i) c ≡ OfRow row → idle_at i (c ∷ []) state ≡ row.idle state
 idle_at-row (Node part cells) c row state e = idle_below-row cells c row state e
-
-pub idle_at-root : (i : Instance) (state : CellState) → idle_at i [] state ≡ state
-idle_at-root (Node part cells) state = refl
 
 -- a cell that does not change where it steps does not change
 stepped_same : (listed : Set) (look : Look) (cells : Cells) (s : State) (c : ℕ) → ((row : Row) → cell_at cells c ≡ OfRow row → stepped (s (c ∷ [])) (cell_outcome look c row (s (c ∷ []))) ≡ s (c ∷ [])) → stepped (s (c ∷ [])) (outcome_of listed look cells s c) ≡ s (c ∷ [])
@@ -116,5 +107,5 @@ if_unlisted true x y h = refl
 if_unlisted false x y h = h refl
 
 pub idle_listed : (i : Instance) (s : State) (listed : Set) → ((c : ℕ) → listed c ≡ false → IsSettledAt i s c) → (path : Path) → idle i s path ≡ merge listed (idle i s) s path
-idle_listed i s listed settled [] = idle_at-root i (s [])
+idle_listed i s listed settled [] = top_idle i (s [])
 idle_listed i s listed settled (c ∷ path) = if_unlisted (listed c) (idle i s (c ∷ path)) (s (c ∷ path)) (λ off. settled c off path)

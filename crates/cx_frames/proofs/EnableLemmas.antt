@@ -5,7 +5,7 @@ use Rattle.std.proofs.lemmas.Bool.{cases_lt, false_from_ne_true}
 use Rattle.std.proofs.lemmas.List.{get_or_past}
 use Rattle.cx_text.specs.declared.rules.Rule.TheVariants.{AlwaysEnable}
 use Rattle.cx_prim.specs.Rows.{Row, IsLawful}
-use Rattle.cx_prim.specs.TableLaws.{row_of_lawful}
+use Rattle.cx_prim.proofs.TableLaws.{row_of_lawful}
 use Rattle.cx_meaning.specs.declared.ports.PortRef.{PortRef}
 use Rattle.cx_meaning.specs.declared.ports.PortRef.TheVariants as ports
 use Rattle.cx_meaning.specs.Designs.{PlainKind, OfPrimitive, OfComponent, PlainCell, PlainDesign, component_at, no_component}
@@ -15,14 +15,13 @@ use Rattle.cx_meaning.specs.Sights.{In}
 use Rattle.cx_rules.specs.Ports.{component_of, enables_cell, is_primitive_enable, path_of}
 use Rattle.cx_rules.specs.Spots.{AnAssign}
 use Rattle.cx_rules.specs.Accepted.{IsAccepted}
-use Rattle.cx_rules.proofs.CircleLemmas.{same_part, Reached, a_tree, no_tree, reached}
+use Rattle.cx_rules.proofs.CircleLemmas.{Reached, a_tree, no_tree, reached}
+use Rattle.cx_meaning.proofs.InstancesLemmas.{row_is}
+use Rattle.cx_meaning.proofs.DesignsLemmas.{same_part}
 
 -- every primitive cell has a row of the table, which keeps the laws
 abbrev pub HasLawfulRows : Instance → Type 0
 HasLawfulRows i = (c : ℕ) (row : Row) → cell_at (cells_of i) c ≡ OfRow row → IsLawful row
-
-pub row_is : (a b : Row) → OfRow a ≡ OfRow b → a ≡ b
-row_is a b e = cc
 
 kind_lawful : (child : ℕ → Instance) (kind : PlainKind) (rest : Cells) → ((c : ℕ) (row : Row) → cell_at rest c ≡ OfRow row → IsLawful row) → (c : ℕ) (row : Row) → cell_at (add_cell child kind rest) c ≡ OfRow row → IsLawful row
 kind_lawful child (OfPrimitive p) rest h zero row e = subst IsLawful (row_is _ row e) (row_of_lawful p)

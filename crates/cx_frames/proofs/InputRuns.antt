@@ -17,9 +17,9 @@ use Rattle.cx_meaning.specs.Running.{Children, leaves, control_below, run_contro
 use Rattle.cx_rules.specs.Circles.{IsAcyclic, AcyclicBelow}
 use Rattle.cx_rules.specs.Footprints.{AssignNames}
 use Rattle.cx_rules.specs.Items.{Context, Dynamic, below_dynamic, Visited, visit, visit_parts, visit_all, test_in}
-use Rattle.cx_rules.proofs.Finite.{in_left, in_right}
 use Rattle.cx_frames.proofs.IslandFrames.{AllFine, AreSame, active_same, looked_same, looked_good, unclear_same, form_fine}
 use Rattle.cx_frames.proofs.InputLemmas.{Own, seen_own, cycle_own, test_own, enable_own}
+use Rattle.cx_meaning.proofs.SightsLaws.{in_left, in_right}
 
 abbrev AnyGroup : ℕ → Type 0
 AnyGroup g = Unit {0}

@@ -1,12 +1,11 @@
 -- Islands hang on a set of cells alone.
 use Rattle.std.proofs.Common.{◌≡◌, ℕ, zero, suc, ◌+◌, ◌-◌, inl, inr, Bool, true, false, ◌&&◌, nat_le, Option, Some, None, List, [], ◌∷◌, ◌++◌, map, refl, ap, ◌∙◌, subst}
 use Rattle.std.specs.Prelude.{if◌then◌else◌, nat_eq, nat_lt}
-use Rattle.std.proofs.lemmas.Bool.{eqb-true}
 use Rattle.cx_meaning.specs.declared.ports.PortRef.{PortRef}
 use Rattle.cx_meaning.specs.declared.ports.PlacedPort.{PlacedPort}
 use Rattle.cx_meaning.specs.Designs.{PlainComponent, PlainForm, Empty, Enable, Seq, Par, If, While, Repeat, StaticSeq, StaticPar, StaticIf, StaticRepeat, Timed, PlainStatement, Placed, PlainStatements, no_statements, a_statement}
 use Rattle.cx_meaning.specs.Instances.{Instance, cells_of, part_of, State, idle}
-use Rattle.cx_meaning.specs.Active.{nothing, Entry, offset_in, entries}
+use Rattle.cx_meaning.specs.Active.{nothing, entries}
 use Rattle.cx_meaning.specs.Truths.{truth_of}
 use Rattle.cx_meaning.specs.Sights.{Look, Held, seen, In}
 use Rattle.cx_meaning.specs.Cycles.{Fault, Ended, cycle}
@@ -18,17 +17,9 @@ use Rattle.cx_frames.specs.Agreeing.{Agree, Alike}
 use Rattle.cx_frames.proofs.AlikeLemmas.{Frames, AlikeTurn, idle_frames, turn_alike}
 use Rattle.cx_frames.proofs.ControlFrames.{Holds, left, right}
 use Rattle.cx_frames.proofs.RuleLemmas.{IsKept}
-use Rattle.cx_frames.proofs.SightFrames.{InFrame, IsThrough, IsAmong, cycle_alike}
-use Rattle.cx_frames.proofs.LeafFrames.{idle_agree, IsGood, bare_seen, none_some}
-
--- what is active is among the groups of the entries
-entries_among : (es : List Entry) → IsAmong (entries es) (map (λ e. e.group) es)
-entries_among [] g k e = none_some k e
-entries_among (x ∷ es) g k e = go (nat_eq x.group g) refl e (entries_among es g k)
-  where
-    go : (b : Bool) → nat_eq x.group g ≡ b → (if b then Some x.offset else offset_in es g) ≡ Some k → (offset_in es g ≡ Some k → In (map (λ y. y.group) es) g) → In (map (λ y. y.group) (x ∷ es)) g
-    go true same e later = inl (eqb-true x.group g same)
-    go false differ e later = inr (later e)
+use Rattle.cx_frames.proofs.SightFrames.{InFrame, IsThrough, cycle_alike}
+use Rattle.cx_frames.proofs.LeafFrames.{idle_agree, IsGood, bare_seen}
+use Rattle.cx_frames.proofs.SharedLemmas.{entries_among}
 
 pub unclear_same : (look more : Look) (list : List PortRef) → ((q : PortRef) → In list q → look q ≡ more q) → first_unclear look list ≡ first_unclear more list
 unclear_same look more [] h = refl

@@ -1,14 +1,14 @@
 -- What runs over any leaves keep of a state where idle turns and the leaves of their groups keep it.
-use Rattle.std.proofs.Common.{◌≡◌, ℕ, zero, suc, Option, Some, None, inl, inr, List, ◌++◌, refl}
+use Rattle.std.proofs.Common.{◌≡◌, ℕ, zero, suc, inl, ◌++◌, refl}
 use Rattle.cx_meaning.specs.Designs.{PlainForm, Empty, Enable, Seq, Par, If, While, Repeat, StaticSeq, StaticPar, StaticIf, StaticRepeat, Timed, PlainStatement, Placed, PlainStatements, no_statements, a_statement}
 use Rattle.cx_meaning.specs.Instances.{Set}
 use Rattle.cx_meaning.specs.Sights.{In}
 use Rattle.cx_meaning.specs.Answers.{Answer, Meaning, then_do, stay, idle_turn, Turn, Ends, Goes, Faults, turn_then, one_turn, turns_of, Test, Holds, Fails, Unclear, chosen, test_turn, loop, loop_of, rounds, both}
 use Rattle.cx_meaning.specs.Control as control
-use Rattle.cx_meaning.specs.Control.{with_comb, groups_in, groups_of, groups_in_all, run_form, run, run_parts, run_arms}
+use Rattle.cx_meaning.specs.Control.{groups_in, groups_of, groups_in_all, run_form, run, run_parts, run_arms}
 use Rattle.cx_meaning.specs.Budgets.{Leaves}
 use Rattle.cx_meaning.proofs.AnswersLemmas.{leaves_later, leaves_then, leaves_rounds, leaves_both}
-use Rattle.cx_rules.proofs.Finite.{in_left, in_right}
+use Rattle.cx_meaning.proofs.SightsLaws.{behind_comb, in_left, in_right}
 
 -- where a run begins in a state of which P holds and ends, P holds of the state that it leaves
 abbrev pub Keeps : {S F : Type 0} → (S → Type 0) → Meaning S F → Type 0
@@ -64,11 +64,6 @@ module _ {S F : Type 0} (P : S → Type 0) where
   pub keeps_both : (merged : S → S → S) → ((a b : S) → P a → P b → P (merged a b)) → (first second : Meaning S F) → Keeps P first → Keeps P second → Keeps P (λ s n. both merged (first s n) (second s n))
   keeps_both merged h first second f g s n p = leaves_both P merged h (first s n) (second s n) (f s n p) (g s n p)
 
--- a group that stands in a part stands in the whole
-later_group : (comb : Option ℕ) (gs : List ℕ) (g : ℕ) → In gs g → In (with_comb comb gs) g
-later_group None gs g i = i
-later_group (Some h) gs g i = inr i
-
 module _ {S F : Type 0} (L : control.Leaves S F) (P : S → Type 0) (allowed : ℕ → Type 0) where
   -- the leaves keep it where all their groups are allowed
   pub record LeavesKeep : Type 0 where
@@ -95,10 +90,10 @@ module _ {S F : Type 0} (L : control.Leaves S F) (P : S → Type 0) (allowed : �
           (keeps_arms later (λ g i. all g (in_right (groups_of first) (groups_in_all later) g i))) s n p
       keeps_form (If test comb a b) all s n p =
           keeps_test P L.rest keep.rests (L.test test.port comb) (run L a) (run L b)
-          (keeps_run a (λ g i. all g (later_group comb (groups_of a ++ groups_of b) g (in_left (groups_of a) (groups_of b) g i))))
-          (keeps_run b (λ g i. all g (later_group comb (groups_of a ++ groups_of b) g (in_right (groups_of a) (groups_of b) g i)))) s n p
+          (keeps_run a (λ g i. all g (behind_comb comb (groups_of a ++ groups_of b) g (in_left (groups_of a) (groups_of b) g i))))
+          (keeps_run b (λ g i. all g (behind_comb comb (groups_of a ++ groups_of b) g (in_right (groups_of a) (groups_of b) g i)))) s n p
       keeps_form (While test comb a) all s n p =
-          keeps_loop_of P L.rest keep.rests (L.test test.port comb) (run L a) (keeps_run a (λ g i. all g (later_group comb (groups_of a) g i))) s n p
+          keeps_loop_of P L.rest keep.rests (L.test test.port comb) (run L a) (keeps_run a (λ g i. all g (behind_comb comb (groups_of a) g i))) s n p
       keeps_form (Repeat zero a) all s n p = keeps_idle F P L.rest keep.rests s n p
       keeps_form (Repeat (suc k) a) all s n p = keeps_rounds P (suc k) (run L a) (keeps_run a all) s n p
       keeps_form (StaticSeq length parts) all s n p = keep.island (StaticSeq length parts) all s n p

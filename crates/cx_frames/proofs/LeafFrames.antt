@@ -2,7 +2,7 @@
 use Rattle.std.proofs.Common.{◌≡◌, ℕ, suc, inl, inr, Bool, true, false, ◌||◌, Option, Some, None, List, [], ◌∷◌, refl, ap, ◌∙◌, subst}
 use Rattle.std.specs.Prelude.{if◌then◌else◌, nat_eq}
 use Rattle.std.proofs.Math.Path.{fun_ext}
-use Rattle.std.proofs.lemmas.Bool.{eqb-true}
+use Rattle.std.proofs.lemmas.Bool.{eqb-true, or_right}
 use Rattle.cx_meaning.specs.declared.ports.PortRef.{PortRef}
 use Rattle.cx_meaning.specs.declared.ports.PortRef.TheVariants as ports
 use Rattle.cx_meaning.specs.declared.kinds.GroupKind.{GroupKind}
@@ -21,18 +21,13 @@ use Rattle.cx_meaning.specs.Islands.{turn_of, island}
 use Rattle.cx_meaning.specs.Calls.{hole_turn, group_turn, test_of, test, if_instance, called_by, called_in, called, captures, lift_answer, inputs_of_call, after_child, call, call_or_turns, enable_kind, enable}
 use Rattle.cx_meaning.specs.Running.{Children}
 use Rattle.cx_rules.specs.Circles.{IsAcyclic, AcyclicBelow}
-use Rattle.cx_rules.proofs.ForeignLemmas.{just_self, or_right}
 use Rattle.cx_frames.specs.Agreeing.{Agree, Alike}
 use Rattle.cx_frames.proofs.AlikeLemmas.{Frames, AlikeTurn, then_alike, idle_frames, one_frames, turns_frames}
 use Rattle.cx_frames.proofs.RuleLemmas.{IsKept}
 use Rattle.cx_frames.proofs.SightFrames.{InFrame, IsThrough, IsWithin, IsAmong, seen_alike, cycle_alike}
 use Rattle.cx_frames.proofs.CircleFrames.{capture_acyclic}
-
-pub none_some : (k : ℕ) → ◌≡◌ {A = Option ℕ} None (Some k) → ⊥
-none_some k e = cc
-
-some_inj : (a b : ℕ) → ◌≡◌ {A = Option ℕ} (Some a) (Some b) → a ≡ b
-some_inj a b e = cc
+use Rattle.cx_text.proofs.OptionLaws.{none_some, some_inj}
+use Rattle.cx_meaning.proofs.InstancesLemmas.{just_same}
 
 pub nothing_among : IsAmong nothing []
 nothing_among g k e = none_some k e
@@ -53,7 +48,7 @@ called_drives cells (a ∷ rest) c e = of_target a.target e (called_drives cells
     of_at : (at : At) (d : ℕ) → if_instance at d (called_in cells rest) ≡ Some c → (called_in cells rest ≡ Some c → assigns_drive rest c ≡ true) → (just d c || assigns_drive rest c) ≡ true
     of_at Nothing d e h = or_right (just d c) (assigns_drive rest c) (h e)
     of_at (OfRow row) d e h = or_right (just d c) (assigns_drive rest c) (h e)
-    of_at (OfInstance child) d e h = ap (λ x. just x c || assigns_drive rest c) (some_inj d c e) ∙ ap (λ b. b || assigns_drive rest c) (just_self c)
+    of_at (OfInstance child) d e h = ap (λ x. just x c || assigns_drive rest c) (some_inj d c e) ∙ ap (λ b. b || assigns_drive rest c) (just_same c)
 
     of_target : (p : PortRef) → called_by cells p (called_in cells rest) ≡ Some c → (called_in cells rest ≡ Some c → assigns_drive rest c ≡ true) → (targets_cell p c || assigns_drive rest c) ≡ true
     of_target (ports.Cell d n) e h = of_at (cell_at cells d) d e h

@@ -19,3 +19,4 @@ pub mod KnownOutcomes
 mod InputLemmas
 mod InputRuns
 mod InputRules
+pub mod SharedLemmas

@@ -15,7 +15,8 @@ use Rattle.cx_frames.specs.Arms.{all_drive, arms_run}
 use Rattle.cx_frames.specs.Ran.{Outcome, Ran, limit, joined}
 use Rattle.cx_frames.proofs.AlikeLemmas.{Frames}
 use Rattle.cx_frames.proofs.ShareLemmas.{apart_from}
-use Rattle.cx_frames.proofs.ArmLemmas.{next_ran, arm_stands, behind, one_longer, list_again}
+use Rattle.cx_frames.proofs.ArmLemmas.{next_ran, arm_stands, behind, one_longer}
+use Rattle.cx_meaning.proofs.DesignsLemmas.{list_again}
 
 module _ (d : PlainDesign) (path : Path) (held : Held) (accepted : IsAccepted d)
     (frames : (w : Visited) → In (statements_in (part_of (instance_at (tree_of d) path))) w → Frames (Reads (part_of (instance_at (tree_of d) path)) (Placed w.form w.place)) (run_statement (instance_at (tree_of d) path) held (Placed w.form w.place)))

@@ -3,15 +3,15 @@ use Rattle.std.proofs.Common.{⊎_elim, ◌≡◌, ℕ, zero, suc, Bool, true, f
 use Rattle.std.specs.Prelude.{Some, None}
 use Rattle.std.proofs.lemmas.Bool.{both_ways, or_cases}
 use Rattle.cx_prim.specs.declared.ports.PortRow.{PortRow}
-use Rattle.cx_prim.specs.declared.ports.Side.{Side}
 use Rattle.cx_prim.specs.declared.ports.Side.TheVariants as sides
 use Rattle.cx_prim.specs.CellStates.{CellState}
-use Rattle.cx_prim.specs.Rows.{Inputs, value_at, Row, IsLawful, is_enable_side}
+use Rattle.cx_prim.specs.Rows.{Inputs, value_at, Row, IsLawful}
 use Rattle.cx_meaning.specs.declared.ports.PortRef.TheVariants as ports
 use Rattle.cx_meaning.specs.declared.sights.Seen.{Seen}
 use Rattle.cx_meaning.specs.Rows.{side_of}
 use Rattle.cx_meaning.specs.Sights.{Look, bit_of, Gathered, Given, with_entry, gather_one, gather_port, gather}
 use Rattle.cx_meaning.specs.Cycles.{Next, after_edge, after_data, enables, looks_at, after_enabling, cell_outcome}
+use Rattle.cx_prim.proofs.PortsLemmas.{is_enable_side-Enable}
 
 -- no port holds more than 0
 abbrev pub AreZero : Inputs → Type 0
@@ -47,12 +47,6 @@ gather-zero look wanted p (row ∷ rows) h = one (wanted p) (h p) (gather-zero l
 
 left_of_or : (a b : Bool) → (a || b) ≡ true → b ≡ false → a ≡ true
 left_of_or a b e off = ⊎_elim (λ on. on) (λ on. absurd (both_ways b off on)) (or_cases a b e)
-
-pub is_enable_side-Enable : (side : Side) → is_enable_side side ≡ true → side ≡ sides.Enable
-is_enable_side-Enable sides.Enable e = refl
-is_enable_side-Enable sides.Plain e = absurd (cc)
-is_enable_side-Enable sides.Output e = absurd (cc)
-is_enable_side-Enable sides.Registered e = absurd (cc)
 
 -- A CELL AT REST: no fault, and the idle edge
 pub cell_outcome-idle : (look : Look) (c : ℕ) (row : Row) (state : CellState) → IsLawful row → ((p : ℕ) → enables row p ≡ true → look (ports.Cell c p) ≡ bit_of false) → cell_outcome look c row state ≡ Next (row.idle state)

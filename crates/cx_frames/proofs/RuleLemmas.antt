@@ -1,6 +1,5 @@
 -- What an accepted design gives each instance of its tree: its rows, and where its assignments may lead.
-use Rattle.std.proofs.Common.{◌≡◌, ℕ, zero, suc, ◌+◌, ◌<◌, inl, inr, ⊎_elim, true, Option, Some, None, List, [], ◌∷◌, length, refl, sym, ap, ◌∙◌, subst, arith}
-use Rattle.std.specs.Prelude.{slice_get}
+use Rattle.std.proofs.Common.{◌≡◌, ℕ, zero, suc, ◌+◌, ◌<◌, inl, inr, ⊎_elim, true, Some, None, List, [], ◌∷◌, length, refl, sym, ap, ◌∙◌, subst, arith}
 use Rattle.std.proofs.lemmas.Bool.{cases_lt}
 use Rattle.std.proofs.lemmas.List.{get_or_past}
 use Rattle.cx_text.specs.declared.rules.Rule.TheVariants.{NotASource, AlwaysEnable}
@@ -11,25 +10,24 @@ use Rattle.cx_meaning.specs.declared.ports.PortRef.TheVariants as ports
 use Rattle.cx_meaning.specs.declared.ports.PlacedPort.{PlacedPort}
 use Rattle.cx_meaning.specs.Rows.{side_of}
 use Rattle.cx_meaning.specs.Designs.{PlainGuard, Always, Atom, Negation, All, Any, Compared, Within, PlainGuards, no_guards, a_guard, PlainAssign, PlainKind, OfPrimitive, OfComponent, PlainCell, PlainComponent, PlainDesign, component_at, no_component, group_at}
-use Rattle.cx_meaning.specs.Instances.{Instance, Node, Cells, no_cells, Nothing, OfRow, OfInstance, cell_at, cells_of, part_of, add_cell, cells_for, tree_within, tree_of, Path, instance_at}
+use Rattle.cx_meaning.specs.Instances.{Instance, Node, Cells, no_cells, Nothing, OfRow, cell_at, cells_of, part_of, add_cell, cells_for, tree_within, tree_of, Path, instance_at}
 use Rattle.cx_meaning.specs.Active.{Owned, owned, owned_by_groups, source_order}
 use Rattle.cx_meaning.specs.Sights.{In, GuardNames, AnyNames}
 use Rattle.cx_rules.specs.Ports.{component_of, enables_cell, is_primitive_enable, is_target_only, path_of}
-use Rattle.cx_rules.specs.Items.{operands_of, operands_in, sources_of, Visited, statements_in, test_in}
+use Rattle.cx_rules.specs.Items.{operands_of, operands_in, Visited, statements_in, test_in}
 use Rattle.cx_rules.specs.Footprints.{AssignNames}
 use Rattle.cx_rules.specs.Spots.{AnAssign, AStatement}
 use Rattle.cx_rules.specs.Accepted.{IsAccepted}
 use Rattle.cx_rules.specs.Wellformed.{IsDesign}
-use Rattle.cx_rules.proofs.Finite.{in_left, in_right}
 use Rattle.cx_rules.proofs.ForeignLemmas.{sorted_among, owned_among, split, groups_among}
-use Rattle.cx_rules.proofs.CircleLemmas.{same_part, Reached, a_tree, no_tree, reached}
+use Rattle.cx_rules.proofs.CircleLemmas.{Reached, a_tree, no_tree, reached}
 use Rattle.cx_frames.proofs.EnableLemmas.{HasLawfulRows, tree_lawful}
-
--- the number of a member of a list
-pub number_in : {A : Type 0} (xs : List A) (x : A) → In xs x → (n : ℕ) × (slice_get xs n ≡ Some x)
-number_in [] x i = absurd i
-number_in (y ∷ ys) x (inl e) = (0, ap Some e)
-number_in (y ∷ ys) x (inr i) = let r = number_in ys x i in (suc r.0, r.1)
+use Rattle.cx_meaning.proofs.SightsLaws.{number_in, in_left, in_right}
+use Rattle.cx_text.proofs.OptionLaws.{none_some}
+use Rattle.cx_laws.proofs.SourceLemmas.{source_in}
+use Rattle.cx_meaning.proofs.InstancesLemmas.{instance_row, nothing_row}
+use Rattle.cx_rules.proofs.ItemsLemmas.{bare_test}
+use Rattle.cx_meaning.proofs.DesignsLemmas.{same_part}
 
 -- an assignment is a continuous one, or one of a group
 pub data OwnerOf (part : PlainComponent) (o : Owned) : Type 0 where
@@ -60,17 +58,6 @@ mutual
   guards_operand (a_guard g gs) q (inl n) = let r = guard_operand g q n in (r.0, in_left (operands_of g) (operands_in gs) r.0 r.1, r.2)
   guards_operand (a_guard g gs) q (inr n) = let r = guards_operand gs q n in (r.0, in_right (operands_of g) (operands_in gs) r.0 r.1, r.2)
 
-pub source_in : (a : PlainAssign) (q : PortRef) → AssignNames a q → (p : PlacedPort) × In (sources_of a) p × (p.port ≡ q)
-source_in a q (inl n) = let r = guard_operand a.guard q n in (r.0, inr r.1, r.2)
-source_in a q (inr e) = (a.source, inl refl, e)
-
--- the rows of an instance
-nothing_row : (row : Row) → Nothing ≡ OfRow row → ⊥
-nothing_row row e = cc
-
-instance_row : (child : Instance) (row : Row) → OfInstance child ≡ OfRow row → ⊥
-instance_row child row e = cc
-
 -- a primitive cell is one whatever stands below the component's other cells
 same_kind : (f g : ℕ → Instance) (kind : PlainKind) (xs ys : Cells) → ((c : ℕ) (row : Row) → cell_at xs c ≡ OfRow row → cell_at ys c ≡ OfRow row) → (c : ℕ) (row : Row) → cell_at (add_cell f kind xs) c ≡ OfRow row → cell_at (add_cell g kind ys) c ≡ OfRow row
 same_kind f g (OfPrimitive p) xs ys h zero row e = e
@@ -94,9 +81,6 @@ pub record IsKept (i : Instance) : Type 0 where
   pub sources : (o : Owned) (n : ℕ) → In (source_order (part_of i)) o → AssignNames o.assign (ports.Output n) → ⊥
   pub tests : (v : Visited) (p : PlacedPort) (n : ℕ) → In (statements_in (part_of i)) v → test_in v.form ≡ Some p → p.port ≡ ports.Output n → ⊥
   pub holes : (a : PlainAssign) (g : ℕ) → In (part_of i).always a → a.target ≡ ports.Done g → ⊥
-
-none_some : (g : ℕ) → ◌≡◌ {A = Option ℕ} None (Some g) → ⊥
-none_some g e = cc
 
 module _ (d : PlainDesign) (design : IsDesign d) (accepted : IsAccepted d) (k : ℕ) (within : k < length d.components) where
   no_sink : (o : Owned) (n : ℕ) → In (source_order (component_at d k)) o → AssignNames o.assign (ports.Output n) → ⊥
@@ -130,14 +114,6 @@ module _ (d : PlainDesign) (design : IsDesign d) (accepted : IsAccepted d) (k : 
     tests = λ v p n i e is. no_sunk_test v p n (subst (λ x. In (statements_in x) v) (same_part d m k) i) e is;
     holes = λ a g i e. no_hole a g (subst (λ x. In x.always a) (same_part d m k) i) e;
   }
-
--- an instance without a component
-pub bare_test : (v : Visited) (p : PlacedPort) → In (statements_in no_component) v → test_in v.form ≡ Some p → ⊥
-bare_test v p (inl e) f = none_port (ap (λ w. test_in w.form) e ∙ f)
-  where
-    none_port : ◌≡◌ {A = Option PlacedPort} None (Some p) → ⊥
-    none_port e = cc
-bare_test v p (inr i) f = absurd i
 
 module _ (part : PlainComponent) (cells : Cells) (none : part ≡ no_component) (empty : (c : ℕ) → cell_at cells c ≡ Nothing) where
   pub kept_bare : IsKept (Node part cells)

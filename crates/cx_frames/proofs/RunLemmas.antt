@@ -1,6 +1,6 @@
 -- A run of a statement leaves alone what the statement does not drive.
-use Rattle.std.proofs.Common.{◌≡◌, ℕ, zero, suc, ◌+◌, ◌-◌, Bool, true, false, ◌||◌, ◌&&◌, nat_eq, nat_le, nat_lt, inl, inr, List, [], ◌∷◌, ◌++◌, Option, Some, None, if◌then◌else◌, refl, sym, ap, ◌∙◌, subst}
-use Rattle.std.proofs.lemmas.Bool.{both_ways, false_from_ne_true, ne_eqb, or_parts, or_right}
+use Rattle.std.proofs.Common.{◌≡◌, ℕ, zero, suc, ◌+◌, ◌-◌, Bool, true, false, ◌&&◌, nat_eq, nat_le, nat_lt, inl, inr, List, [], ◌∷◌, ◌++◌, Option, Some, None, if◌then◌else◌, refl, sym, ap, ◌∙◌, subst}
+use Rattle.std.proofs.lemmas.Bool.{both_ways, false_from_ne_true, ne_eqb, or_parts}
 use Rattle.cx_text.specs.declared.places.Place.{Place}
 use Rattle.cx_meaning.specs.declared.ports.PortRef.{PortRef}
 use Rattle.cx_meaning.specs.declared.ports.PortRef.TheVariants as ports
@@ -12,26 +12,23 @@ use Rattle.cx_meaning.specs.Active.{Active, nothing, group, capture, offset_in, 
 use Rattle.cx_meaning.specs.Sights.{Held, In, seen}
 use Rattle.cx_meaning.specs.Truths.{Truth, One, Zero}
 use Rattle.cx_meaning.specs.Truths as truths
-use Rattle.cx_meaning.specs.Cycles.{Fault, Ended, Goes, Faults, cycle, every_cell}
+use Rattle.cx_meaning.specs.Cycles.{Fault, Ended, Goes, cycle, every_cell}
 use Rattle.cx_meaning.specs.Answers.{Answer, End, More, Turn, idle_turn}
 use Rattle.cx_meaning.specs.Answers as answers
-use Rattle.cx_meaning.specs.Control.{groups_in, groups_of, groups_in_all, targets_cell, assigns_drive, group_drives, groups_drive, drives}
+use Rattle.cx_meaning.specs.Control.{groups_in, groups_of, groups_in_all, targets_cell, assigns_drive, group_drives, drives}
 use Rattle.cx_meaning.specs.Islands.{group_length, form_length, length_of, Condition, condition, Occurrence, Runs, Looks, rounds_from, occurrence, form_flat, flat, seq_flat, par_flat, History, no_history, hold, entry_if, active_in, and_now, turn_of, unless_unclear, island_turn, island_from, island}
 use Rattle.cx_meaning.specs.Calls.{hole_turn, group_turn, if_instance, called_by, called_in, called, captures, lift_answer, inputs_of_call, after_child, call_or_turns, enable_kind}
 use Rattle.cx_meaning.specs.Running.{Children, leaves, control_below, run_statement}
 use Rattle.cx_meaning.specs.Budgets.{Leaves}
 use Rattle.cx_meaning.proofs.AnswersLemmas.{leaves_then}
-use Rattle.cx_rules.proofs.Finite.{in_left, in_right}
 use Rattle.cx_frames.specs.Rests.{IsUndriven, IsSettledAt, IsKeptAt}
 use Rattle.cx_frames.proofs.EnableLemmas.{HasLawfulRows, BareEnablesNothing}
-use Rattle.cx_frames.proofs.CycleLemmas.{idle_at-root, cycle_keeps_root, cycle_keeps}
+use Rattle.cx_frames.proofs.CycleLemmas.{cycle_keeps_root, cycle_keeps}
 use Rattle.cx_frames.proofs.KeepLemmas.{Keeps, keeps_idle, keeps_turn, keeps_turns, leaves_turn_then, keeps_run}
-
--- GROUPS: what a group of a statement drives the statement drives
-groups_drive_in : (part : PlainComponent) (gs : List ℕ) (g c : ℕ) → In gs g → group_drives part g c ≡ true → groups_drive part gs c ≡ true
-groups_drive_in part [] g c i e = absurd i
-groups_drive_in part (h ∷ gs) g c (inl same) e = ap (λ k. group_drives part k c || groups_drive part gs c) same ∙ ap (λ b. b || groups_drive part gs c) e
-groups_drive_in part (h ∷ gs) g c (inr i) e = or_right (group_drives part h c) (groups_drive part gs c) (groups_drive_in part gs g c i e)
+use Rattle.cx_meaning.proofs.ControlLaws.{groups_drive_in}
+use Rattle.cx_meaning.proofs.CyclesLemmas.{turn_goes}
+use Rattle.cx_meaning.proofs.SightsLaws.{in_left, in_right}
+use Rattle.cx_meaning.proofs.InstancesLemmas.{top_idle}
 
 pub drives_group : (part : PlainComponent) (s : PlainStatement) (g c : ℕ) → In (groups_of s) g → group_drives part g c ≡ true → drives part s c ≡ true
 drives_group part s g c i e = groups_drive_in part (groups_of s) g c i e
@@ -148,20 +145,15 @@ next_of s answers.Ends = s
 next_of s (answers.Goes after) = after
 next_of s (answers.Faults fault) = s
 
-turn_of-Goes : (ended : Ended) (after : State) → turn_of ended ≡ answers.Goes after → ended ≡ Goes after
-unfolding next_of
-turn_of-Goes (Goes s) after e = ap Goes (ap (next_of s) e)
-turn_of-Goes (Faults fault) after e = absurd (cc)
-
 hole_turn-Goes : (g : ℕ) (ended : Ended) (truth : Truth) (after : State) → hole_turn g ended truth ≡ answers.Goes after → ended ≡ Goes after
 hole_turn-Goes g ended One after e = absurd (cc)
-hole_turn-Goes g ended Zero after e = turn_of-Goes ended after e
+hole_turn-Goes g ended Zero after e = turn_goes ended after e
 hole_turn-Goes g ended truths.Conflict after e = absurd (cc)
 hole_turn-Goes g ended truths.Undefined after e = absurd (cc)
 
-unless_unclear-Goes : (unclear : Option Fault) (ended : Ended) (after : State) → unless_unclear unclear ended ≡ answers.Goes after → ended ≡ Goes after
+pub unless_unclear-Goes : (unclear : Option Fault) (ended : Ended) (after : State) → unless_unclear unclear ended ≡ answers.Goes after → ended ≡ Goes after
 unless_unclear-Goes (Some fault) ended after e = absurd (cc)
-unless_unclear-Goes None ended after e = turn_of-Goes ended after e
+unless_unclear-Goes None ended after e = turn_goes ended after e
 
 -- the cells that are kept are as they were at first, and so is what stands at the instance itself
 abbrev pub Stays : (ℕ → Type 0) → State → State → Type 0
@@ -172,7 +164,7 @@ module _ (i : Instance) (quiet : HasLawfulRows i) (bare : BareEnablesNothing i) 
   still_settled s p c k below = ap (idle_at i (c ∷ below)) (p.1 c k below) ∙ settled c k below ∙ sym (p.1 c k below)
 
   stays_idle : (s : State) → Stays kept first s → Stays kept first (idle i s)
-  stays_idle s p = (idle_at-root i (s []) ∙ p.0, λ c k below. still_settled s p c k below ∙ p.1 c k below)
+  stays_idle s p = (top_idle i (s []) ∙ p.0, λ c k below. still_settled s p c k below ∙ p.1 c k below)
 
   stays_merged : (set : Set) (a b : State) → Stays kept first a → Stays kept first b → Stays kept first (merge set a b)
   stays_merged set a b p q = (q.0, λ c k below. one c k below (set c))
@@ -208,7 +200,7 @@ module _ (i : Instance) (quiet : HasLawfulRows i) (bare : BareEnablesNothing i) 
       keeps_after : (e : ℕ) (capturing : Bool) → Keeps (Stays kept first) (after_child i held g e capturing)
       keeps_after e true s n p =
           keeps_turn (Stays kept first) (idle i) stays_idle (λ s1. turn_of (cycle i held (capture g e) s1)) (idle_turn (idle i))
-          (λ s1 after q goes. stays_cycle held (capture g e) s1 after (λ c k. capture_undriven (part_of i) g e c (spares c k)) q (turn_of-Goes _ after goes))
+          (λ s1 after q goes. stays_cycle held (capture g e) s1 after (λ c k. capture_undriven (part_of i) g e c (spares c k)) q (turn_goes _ after goes))
           (keeps_idle Fault (Stays kept first) (idle i) stays_idle) s n p
       keeps_after e false s n p = keeps_idle Fault (Stays kept first) (idle i) stays_idle s n p
 

@@ -14,9 +14,10 @@ use Rattle.cx_rules.specs.Footprints.{Reads}
 use Rattle.cx_rules.specs.Spots.{AStatement}
 use Rattle.cx_rules.specs.RaceRule.{Arms, arms_of, IsShared}
 use Rattle.cx_rules.specs.Accepted.{IsAccepted}
-use Rattle.cx_rules.proofs.CircleLemmas.{same_part, Reached, a_tree, no_tree, reached}
+use Rattle.cx_rules.proofs.CircleLemmas.{Reached, a_tree, no_tree, reached}
 use Rattle.cx_frames.specs.Arms.{all_drive}
-use Rattle.cx_frames.proofs.RuleLemmas.{number_in}
+use Rattle.cx_meaning.proofs.DesignsLemmas.{same_part}
+use Rattle.cx_meaning.proofs.SightsLaws.{number_in}
 
 module _ (d : PlainDesign) (accepted : IsAccepted d) (k : ℕ) (within : k < length d.components) where
   shared_least : (v : Visited) → In (statements_in (component_at d k)) v → (c : ℕ) → ((e : ℕ) → e < c → IsShared (part_of (component_of d k)) (arms_of v.form) e → ⊥) → IsShared (part_of (component_of d k)) (arms_of v.form) c → ⊥

@@ -25,6 +25,7 @@ use Rattle.cx_frames.specs.Agreeing.{Agree}
 use Rattle.cx_frames.proofs.AlikeLemmas.{AlikeTurn}
 use Rattle.cx_frames.proofs.QuietLemmas.{quiet_outcome}
 use Rattle.cx_frames.proofs.RuleLemmas.{OwnerOf, continuous, of_group, owner_of, IsKept}
+use Rattle.cx_meaning.proofs.ControlLaws.{driver}
 
 -- the drivers of a port are the active assignments of it
 record Acts (act : Active) (p : PortRef) (list : List Owned) (b : Acting) : Type 0 where
@@ -117,15 +118,6 @@ ends_alike set listed look more cells s t alike same agree =
         ap (stepped (s (c ∷ []))) (outcomes_same listed look more cells s t c (agree c [] inside) (λ row at on. same c row inside))
         ∙ ap (λ d. stepped d (outcome_of listed more cells t c)) (agree c [] inside)
     states c (e ∷ path) inside = agree c (e ∷ path) inside
-
--- which of the groups drives a cell
-driver_in : (part : PlainComponent) (gs : List ℕ) (c : ℕ) → groups_drive part gs c ≡ true → (g : ℕ) × In gs g × (group_drives part g c ≡ true)
-driver_in part [] c e = absurd (cc)
-driver_in part (g ∷ gs) c e = go (group_drives part g c) refl e (driver_in part gs c)
-  where
-    go : (b : Bool) → group_drives part g c ≡ b → (b || groups_drive part gs c) ≡ true → (groups_drive part gs c ≡ true → (h : ℕ) × In gs h × (group_drives part h c ≡ true)) → (h : ℕ) × In (g ∷ gs) h × (group_drives part h c ≡ true)
-    go true here e later = (g, inl refl, here)
-    go false here e later = let r = later e in (r.0, inr r.1, r.2)
 
 none_drives : (part : PlainComponent) (gs : List ℕ) (g c : ℕ) → groups_drive part gs c ≡ false → In gs g → group_drives part g c ≡ true → ⊥
 none_drives part [] g c e i f = absurd i
@@ -230,7 +222,7 @@ module _ (i : Instance) (held : Held) (act : Active) (set : ℕ → Type 0) (gs 
       both_outcomes c row at = go (groups_drive (part_of i) gs c) refl
         where
           go : (b : Bool) → groups_drive (part_of i) gs c ≡ b → IsAlike (cell_outcome (seen i held act s) c row (s (c ∷ []))) (cell_outcome (seen i held act t) c row (t (c ∷ [])))
-          go true e = let r = driver_in (part_of i) gs c e in inl (outcome_alike c row ((looks r.0 r.1).drives c r.2))
+          go true e = let r = driver (part_of i) gs c e in inl (outcome_alike c row ((looks r.0 r.1).drives c r.2))
           go false e = inr (row.idle (s (c ∷ [])), row.idle (t (c ∷ [])), quiet_cell c row at e s, quiet_cell c row at e t)
 
       -- a cycle ends alike

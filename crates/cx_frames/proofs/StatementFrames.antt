@@ -1,36 +1,27 @@
 -- What a statement of an accepted design does hangs on what it reads alone.
-use Rattle.std.proofs.Common.{◌≡◌, ℕ, ◌<◌, inl, inr, true, ◌||◌, Some, List, [], ◌∷◌, ◌++◌, length, refl, sym, ap, ◌∙◌, subst}
-use Rattle.std.specs.Prelude.{flat_map}
+use Rattle.std.proofs.Common.{◌≡◌, ℕ, ◌<◌, inl, inr, Some, List, [], ◌∷◌, ◌++◌, length, refl, sym, ap, ◌∙◌, subst}
 use Rattle.cx_meaning.specs.declared.ports.PlacedPort.{PlacedPort}
-use Rattle.cx_meaning.specs.Designs.{PlainComponent, PlainForm, Empty, Enable, Seq, Par, If, While, Repeat, StaticSeq, StaticPar, StaticIf, StaticRepeat, Timed, PlainStatement, Placed, PlainStatements, no_statements, a_statement}
+use Rattle.cx_meaning.specs.Designs.{PlainForm, Empty, Enable, Seq, Par, If, While, Repeat, StaticSeq, StaticPar, StaticIf, StaticRepeat, Timed, PlainStatement, Placed, PlainStatements, no_statements, a_statement}
 use Rattle.cx_meaning.specs.Instances.{Instance, Node, part_of}
 use Rattle.cx_meaning.specs.Active.{group, entries}
 use Rattle.cx_meaning.specs.Sights.{Held, In}
-use Rattle.cx_meaning.specs.Control.{groups_in, groups_of, group_drives, groups_drive, drives, run}
+use Rattle.cx_meaning.specs.Control.{groups_in, groups_of, drives, run}
 use Rattle.cx_meaning.specs.Islands.{History, form_flat, active_in, island}
 use Rattle.cx_meaning.specs.Running.{Children, leaves, control_below, run_statement}
 use Rattle.cx_rules.specs.Items.{Context, Dynamic, InStatic, Branch, below_dynamic, Visited, visit, visit_parts, visit_all, statements_in, test_in, option_list, tests_of}
 use Rattle.cx_rules.specs.Circles.{IsAcyclic, AreAcyclic}
-use Rattle.cx_rules.proofs.Finite.{in_left, in_right}
-use Rattle.cx_rules.proofs.ForeignLemmas.{or_right}
 use Rattle.cx_laws.specs.Closures.{IsClosed}
 use Rattle.cx_frames.proofs.AlikeLemmas.{Frames}
 use Rattle.cx_frames.proofs.ControlFrames.{Holds, LeavesFrame, run_frames}
 use Rattle.cx_frames.proofs.RuleLemmas.{IsKept}
 use Rattle.cx_frames.proofs.SightFrames.{InFrame, in_frame, IsThrough}
-use Rattle.cx_frames.proofs.CircleFrames.{bare_acyclic, deeper_acyclic, group_acyclic}
+use Rattle.cx_frames.proofs.CircleFrames.{group_acyclic}
 use Rattle.cx_frames.proofs.LeafFrames.{merge_agree, idle_agree, IsGood, test_alike, enable_frames}
 use Rattle.cx_frames.proofs.IslandFrames.{island_frames}
-
-of_joined : {A B : Type 0} (xs ys : List A) (x : A) → In (xs ++ ys) x → (In xs x → B) → (In ys x → B) → B
-of_joined [] ys x i f g = g i
-of_joined (z ∷ xs) ys x (inl e) f g = f (inl e)
-of_joined (z ∷ xs) ys x (inr i) f g = of_joined xs ys x i (λ j. f (inr j)) g
-
-in_flat : {A B : Type 0} (each : A → List B) (xs : List A) (x : A) (y : B) → In xs x → In (each x) y → In (flat_map each xs) y
-in_flat each [] x y i j = absurd i
-in_flat each (z ∷ zs) x y (inl e) j = in_left (each z) (flat_map each zs) y (subst (λ w. In (each w) y) (sym e) j)
-in_flat each (z ∷ zs) x y (inr i) j = in_right (each z) (flat_map each zs) y (in_flat each zs x y i j)
+use Rattle.cx_meaning.proofs.ControlLaws.{groups_drive_in}
+use Rattle.cx_meaning.proofs.SightsLaws.{of_joined, in_left, in_right}
+use Rattle.cx_laws.proofs.TogetherLemmas.{in_flat}
+use Rattle.cx_rules.proofs.CirclesLemmas.{own_acyclic, cells_below}
 
 -- a statement that is visited, as a statement again
 abbrev pub visits : Visited → List Visited
@@ -110,11 +101,6 @@ tested_in context s v p i e =
     let r = among context Dynamic s v i in
     in_flat (λ w. option_list (test_in w.form)) (visit Dynamic s) r.0 p r.1 (subst (λ o. In (option_list o) p) (sym (ap test_in r.2 ∙ e)) (inl refl))
 
-group_in : (part : PlainComponent) (gs : List ℕ) (g c : ℕ) → In gs g → group_drives part g c ≡ true → groups_drive part gs c ≡ true
-group_in part [] g c i e = absurd i
-group_in part (x ∷ xs) g c (inl same) e = ap (λ b. b || groups_drive part xs c) (ap (λ y. group_drives part y c) same ∙ e)
-group_in part (x ∷ xs) g c (inr i) e = or_right (group_drives part x c) (groups_drive part xs c) (group_in part xs g c i e)
-
 module _ (i : Instance) (held : Held) (kept : IsKept i) (circles : AreAcyclic i) (groups : (g : ℕ) → g < length (part_of i).groups → IsAcyclic i (group g))
     (islands : (v : Visited) (h : History) (t : ℕ) → In (statements_in (part_of i)) v → IsAcyclic i (entries (active_in h t (form_flat (part_of i) v.form 0 []))))
     (v : Visited) (stands : In (statements_in (part_of i)) v) (set : ℕ → Type 0) (closed : IsClosed (part_of i) (Placed v.form v.place) set) where
@@ -122,13 +108,13 @@ module _ (i : Instance) (held : Held) (kept : IsKept i) (circles : AreAcyclic i)
   through c p e q a inside j t n = closed.through c p e q a inside j t n
 
   abbrev pub Good : ℕ → Type 0
-  Good = IsGood i held set kept through (deeper_acyclic i circles)
+  Good = IsGood i held set kept through (cells_below i circles)
 
   -- its groups drive and name nothing outside the set
   pub good : (g : ℕ) → In (groups_of (Placed v.form v.place)) g → Good g
   good g j = record {
     within = record {
-      drives = λ c e. closed.driven c (group_in (part_of i) (groups_of (Placed v.form v.place)) g c j e);
+      drives = λ c e. closed.driven c (groups_drive_in (part_of i) (groups_of (Placed v.form v.place)) g c j e);
       names = λ a c p k n. closed.named c p g a j k n;
     };
     acyclic = group_acyclic i circles groups g;
@@ -156,14 +142,14 @@ module _ (i : Instance) (held : Held) (kept : IsKept i) (circles : AreAcyclic i)
 
   own_island : (context : Context) (form : PlainForm) → IsReady form → Holds Good IsReady (groups_in form) (visit_parts context form) → Frames set (island i held form)
   own_island context form fine holds =
-      island_frames i held set kept through (deeper_acyclic i circles) (bare_acyclic i circles) IsReady (λ f p r e. r.tests p e) context form fine holds fine.acyclic
+      island_frames i held set kept through (cells_below i circles) (own_acyclic i circles) IsReady (λ f p r e. r.tests p e) context form fine holds fine.acyclic
 
   frames : (children : Children) → LeavesFrame set (leaves i children held) Good IsReady
   frames children = record {
     rests = idle_agree set i;
     merges = λ arm a b c d h k. merge_agree set (drives (part_of i) arm) a b c d h k;
-    enable = λ g fine form. enable_frames i held set kept through (deeper_acyclic i circles) children g fine (own_island Dynamic (Enable g) form (only g fine));
-    test = λ form p comb e fine each s t agree. test_alike i held set kept through (deeper_acyclic i circles) (bare_acyclic i circles) p.port (fine.tests p e) comb each s t agree;
+    enable = λ g fine form. enable_frames i held set kept through (cells_below i circles) children g fine (own_island Dynamic (Enable g) form (only g fine));
+    test = λ form p comb e fine each s t agree. test_alike i held set kept through (cells_below i circles) (own_acyclic i circles) p.port (fine.tests p e) comb each s t agree;
     island = λ context form fine holds. own_island context form fine holds;
     timed = λ k s t n h. refl;
   }

@@ -1,5 +1,4 @@
-//! What a statement does not drive stays as it is.
-//! Why the arms of a `par` may run one after another on one state: laws of what two runs leave.
+//! What a statement does not drive stays as it is, so the arms of a `par` may run one after another on one state.
 #![tactic(auto)]
 
 pub mod apart_laws;

@@ -1,57 +1,17 @@
 -- The drivers of targets, driver by driver.
-use Rattle.std.proofs.Common.{◌≡◌, Bool, true, false, if◌then◌else◌, List, [], ◌∷◌, refl, sym, ap, ap₂, ◌∙◌, true≢false, eqb-true, eq-eqb}
-use Rattle.std.proofs.lemmas.Bool.{and_from, false_from_ne_true}
-use Rattle.cx_meaning.specs.declared.ports.PortRef.{PortRef}
-use Rattle.cx_meaning.specs.declared.ports.PortRef.TheVariants as ports
-use Rattle.cx_meaning.specs.Active.{same_port}
-use Rattle.cx_rules.proofs.FoundLemmas.{same_is}
+use Rattle.std.proofs.Common.{◌≡◌, Bool, true, false, if◌then◌else◌, List, [], ◌∷◌, refl, sym, ap, ap₂, ◌∙◌, eq-eqb}
+use Rattle.std.proofs.lemmas.Bool.{false_from_ne_true}
 use Rattle.cx_net.specs.Nets.{PlainNetTarget, ToPort, ToRegister, ToWire, ToHole, ToDone, PlainNetDriver}
 use Rattle.cx_net.specs.PlainNets.{plain_net_target}
 use Rattle.cx_net.specs.declared.drivers.NetTarget.{NetTarget}
 use Rattle.cx_net.specs.declared.drivers.NetTarget.TheVariants as targets
 use Rattle.cx_wiring.specs.Trees.{is_same, Driven, with_driver, driven}
 use Rattle.cx_fsm.specs.Leaves.{first_drivers, later_groups}
-
-differ : {A : Type 0} → false ≡ true → A
-differ e = absurd (true≢false (sym e))
-
--- two targets that are the same are one
-pub same_target : (a b : PlainNetTarget) → is_same a b ≡ true → a ≡ b
-same_target (ToPort p) (ToPort q) e = ap ToPort (same_is p q e)
-same_target (ToRegister n) (ToRegister m) e = ap ToRegister (eqb-true n m e)
-same_target (ToWire n) (ToWire m) e = ap ToWire (eqb-true n m e)
-same_target (ToHole n) (ToHole m) e = ap ToHole (eqb-true n m e)
-same_target ToDone ToDone e = refl
-same_target (ToPort p) (ToRegister m) e = differ e
-same_target (ToPort p) (ToWire m) e = differ e
-same_target (ToPort p) (ToHole m) e = differ e
-same_target (ToPort p) ToDone e = differ e
-same_target (ToRegister n) (ToPort q) e = differ e
-same_target (ToRegister n) (ToWire m) e = differ e
-same_target (ToRegister n) (ToHole m) e = differ e
-same_target (ToRegister n) ToDone e = differ e
-same_target (ToWire n) (ToPort q) e = differ e
-same_target (ToWire n) (ToRegister m) e = differ e
-same_target (ToWire n) (ToHole m) e = differ e
-same_target (ToWire n) ToDone e = differ e
-same_target (ToHole n) (ToPort q) e = differ e
-same_target (ToHole n) (ToRegister m) e = differ e
-same_target (ToHole n) (ToWire m) e = differ e
-same_target (ToHole n) ToDone e = differ e
-same_target ToDone (ToPort q) e = differ e
-same_target ToDone (ToRegister m) e = differ e
-same_target ToDone (ToWire m) e = differ e
-same_target ToDone (ToHole m) e = differ e
-
-port_itself : (p : PortRef) → same_port p p ≡ true
-port_itself (ports.Cell c p) = and_from _ _ (eq-eqb c c refl) (eq-eqb p p refl)
-port_itself (ports.Input n) = eq-eqb n n refl
-port_itself (ports.Output n) = eq-eqb n n refl
-port_itself (ports.Done n) = eq-eqb n n refl
-port_itself (ports.Literal w v) = and_from _ _ (eq-eqb w w refl) (eq-eqb v v refl)
+use Rattle.cx_meaning.proofs.PortsLemmas.{same_self}
+use Rattle.cx_wiring.proofs.FitBundles.{same_is_target}
 
 target_itself : (t : PlainNetTarget) → is_same t t ≡ true
-target_itself (ToPort p) = port_itself p
+target_itself (ToPort p) = same_self p
 target_itself (ToRegister n) = eq-eqb n n refl
 target_itself (ToWire n) = eq-eqb n n refl
 target_itself (ToHole n) = eq-eqb n n refl
@@ -112,11 +72,11 @@ module _ (d : PlainNetDriver) (ds : List PlainNetDriver) where
   pub first_other : (t : PlainNetTarget) → (t ≡ d.target → ⊥) → first_drivers t (driven (d ∷ ds)) ≡ []
   first_other t other =
       ap (first_drivers t) (with_driver_is d (driven ds))
-      ∙ ap (λ b. if b then d ∷ first_drivers d.target (driven ds) else []) (false_from_ne_true (is_same t d.target) (λ e. other (same_target t d.target e)))
+      ∙ ap (λ b. if b then d ∷ first_drivers d.target (driven ds) else []) (false_from_ne_true (is_same t d.target) (λ e. other (same_is_target t d.target e)))
 
   pub later_other : (t : PlainNetTarget) → (t ≡ d.target → ⊥) → later_groups t (driven (d ∷ ds)) ≡ driven (d ∷ ds)
   later_other t other =
       ap (later_groups t) (with_driver_is d (driven ds))
       ∙ ap (λ b. if b then later_groups d.target (driven ds) else record { target = d.target; drivers = d ∷ first_drivers d.target (driven ds) } ∷ later_groups d.target (driven ds))
-      (false_from_ne_true (is_same t d.target) (λ e. other (same_target t d.target e)))
+      (false_from_ne_true (is_same t d.target) (λ e. other (same_is_target t d.target e)))
       ∙ sym (with_driver_is d (driven ds))

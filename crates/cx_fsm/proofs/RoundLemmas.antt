@@ -11,16 +11,13 @@ use Rattle.cx_static.specs.declared.lowered.Lowered.{Lowered}
 use Rattle.cx_static.specs.declared.lowered.LoweredComponent.{LoweredComponent}
 use Rattle.cx_wiring.specs.Reached.{component_of_kind, components_of, cells_at, has_number, below, reached_from, highest, height_of, count, height}
 use Rattle.cx_fsm.specs.Rounds.{below_marked, IsSpread, MarksReached, height_above, raised, HasHeights}
+use Rattle.cx_text.proofs.BoolLaws.{or_assoc}
 
 one_truth : (a b : Bool) → (a ≡ true → b ≡ true) → (b ≡ true → a ≡ true) → a ≡ b
 one_truth true true f g = refl
 one_truth true false f g = sym (f refl)
 one_truth false true f g = g refl
 one_truth false false f g = refl
-
-or_assoc : (a b c : Bool) → ((a || b) || c) ≡ (a || (b || c))
-or_assoc true b c = refl
-or_assoc false b c = refl
 
 has_append : (k : ℕ) (xs ys : List ℕ) → has_number k (xs ++ ys) ≡ (has_number k xs || has_number k ys)
 has_append k [] ys = refl

@@ -12,7 +12,8 @@ use Rattle.cx_wiring.specs.Trees.{is_same, Driven, driven, together, with_first,
 use Rattle.cx_wiring.proofs.PairCounts.{bundles_few}
 use Rattle.cx_wiring.proofs.BundleLaws.{bundles_long, heads_long}
 use Rattle.cx_fsm.specs.Leaves.{first_drivers, later_groups, gathered}
-use Rattle.cx_fsm.proofs.LeafLemmas.{same_target, with_driver_is, first_same, later_same, first_other, later_other}
+use Rattle.cx_fsm.proofs.LeafLemmas.{with_driver_is, first_same, later_same, first_other, later_other}
+use Rattle.cx_wiring.proofs.FitBundles.{same_is_target}
 
 -- LEAVES. One more driver of a target goes to its leaves
 pub one_more : (t : PlainNetTarget) (before : List PlainNetDriver) (d : PlainNetDriver) (ds : List PlainNetDriver) → d.target ≡ t
@@ -67,7 +68,7 @@ first_leaves next (g ∷ gs) = choice (is_same ToDone g.target) refl
   where
     choice : (same : Bool) → is_same ToDone g.target ≡ same
         → trees next (record { target = ToDone; drivers = if same then g.drivers else [] } ∷ (if same then gs else g ∷ gs)) ≡ trees next (g ∷ gs)
-    choice true e = ap (λ t. trees next (record { target = t; drivers = g.drivers } ∷ gs)) (same_target ToDone g.target e)
+    choice true e = ap (λ t. trees next (record { target = t; drivers = g.drivers } ∷ gs)) (same_is_target ToDone g.target e)
     choice false e = ap (λ n. trees n (g ∷ gs)) (add-zero next)
 
 pub first_widths : (width : PlainNetTarget → ℕ) (gs : List Driven) → tree_widths width (gathered ToDone [] gs) ≡ tree_widths width gs
@@ -76,7 +77,7 @@ first_widths width (g ∷ gs) = choice (is_same ToDone g.target) refl
   where
     choice : (same : Bool) → is_same ToDone g.target ≡ same
         → tree_widths width (record { target = ToDone; drivers = if same then g.drivers else [] } ∷ (if same then gs else g ∷ gs)) ≡ tree_widths width (g ∷ gs)
-    choice true e = ap (λ t. tree_widths width (record { target = t; drivers = g.drivers } ∷ gs)) (same_target ToDone g.target e)
+    choice true e = ap (λ t. tree_widths width (record { target = t; drivers = g.drivers } ∷ gs)) (same_is_target ToDone g.target e)
     choice false e = refl
 
 -- behind all drivers there are no others

@@ -1,6 +1,6 @@
 -- What is spelled so is read, where one token of lookahead is enough and the next token does not go on.
 use Rattle.std.proofs.Common.{◌≡◌, ℕ, zero, suc, ◌≤◌, ◌<◌, Bool, true, false, ◌&&◌, ◌||◌, not, List, [], ◌∷◌, ◌++◌, length, Ok, Err, refl, sym, ap, subst, ◌∙◌, cond, arith, ◌⊎◌, inl, inr, ⊎_elim, ◌==◌}
-use Rattle.std.proofs.lemmas.Bool.{and_parts, eqb-true}
+use Rattle.std.proofs.lemmas.Bool.{and_parts, eqb-true, or_right as or_second, false_from_ne_true}
 use Rattle.std.specs.List.{list_all}
 use Rattle.cx_ast.specs.declared.tokens.Token.{Token}
 use Rattle.cx_grammar.specs.declared.terminals.Terminal.{Terminal}
@@ -11,10 +11,7 @@ use Rattle.cx_grammar.specs.Calyx.{nest, nested_at, spelled_within}
 use Rattle.cx_grammar.specs.Reading.{Reads, then_reads, one_at, several_in, several_at, commas_in, commas_at, read, unexpected, disjoint, is_plain}
 use Rattle.cx_grammar.proofs.Shorter.{took, nested_shorter, Taken, nullable_nest}
 use Rattle.cx_grammar.proofs.Known.{plain_nest, starts_nest, nest_within}
-
-or_true : (a b : Bool) → (a || b) ≡ true → (a ≡ true) ⊎ (b ≡ true)
-or_true true b e = inl refl
-or_true false b e = inr e
+use Rattle.cx_text.proofs.BoolLaws.{from_not, or_either, not_both}
 
 or_left : (a b : Bool) → (a || b) ≡ false → a ≡ false
 or_left true b e = e
@@ -24,24 +21,9 @@ or_right : (a b : Bool) → (a || b) ≡ false → b ≡ false
 or_right true b e = absurd (cc)
 or_right false b e = e
 
-not_both : (b : Bool) → b ≡ true → b ≡ false → ⊥
-not_both b t f = cc
-
-is_false : (b : Bool) → (b ≡ true → ⊥) → b ≡ false
-is_false true h = absurd (h refl)
-is_false false h = refl
-
-pub not_true : (b : Bool) → not b ≡ true → b ≡ false
-not_true true e = absurd (cc)
-not_true false e = refl
-
 or_assoc : (a b c d : Bool) → b ≡ (c || d) → (a || b) ≡ ((a || c) || d)
 or_assoc true b c d e = refl
 or_assoc false b c d e = e
-
-or_second : (a b : Bool) → b ≡ true → (a || b) ≡ true
-or_second true b e = refl
-or_second false b e = e
 
 -- a set of two parts
 is_in-append : (t : Terminal) (us vs : List Terminal) → is_in t (us ++ vs) ≡ (is_in t us || is_in t vs)
@@ -62,9 +44,9 @@ apart_in t [] vs d e = absurd (cc)
 apart_in t (u ∷ us) vs d e =
     let parts = and_parts (not (is_in u vs)) (disjoint us vs) d in
     ⊎_elim
-    (λ same. sym (is_in_same t u vs same) ∙ not_true (is_in u vs) parts.0)
+    (λ same. sym (is_in_same t u vs same) ∙ from_not (is_in u vs) parts.0)
     (λ further. apart_in t us vs parts.1 further)
-    (or_true (is t u) (is_in t us) e)
+    (or_either (is t u) (is_in t us) e)
 
 apart : (us vs : List Terminal) (ts : List Token) → disjoint us vs ≡ true → begins us ts ≡ true → begins vs ts ≡ false
 apart us vs [] d e = absurd (cc)
@@ -72,7 +54,7 @@ apart us vs (t ∷ ts) d e = apart_in (terminal_of t.kind) us vs d e
 
 -- so what is in the second is not in the first
 pub apart_back : (us vs : List Terminal) (ts : List Token) → disjoint us vs ≡ true → begins vs ts ≡ true → begins us ts ≡ false
-apart_back us vs ts d e = is_false (begins us ts) (λ h. not_both (begins vs ts) e (apart us vs ts d h))
+apart_back us vs ts d e = false_from_ne_true (begins us ts) (λ h. not_both (begins vs ts) e (apart us vs ts d h))
 
 pub begins_left : (us vs : List Terminal) (ts : List Token) → begins (us ++ vs) ts ≡ false → begins us ts ≡ false
 begins_left us vs ts e = or_left (begins us ts) (begins vs ts) (sym (begins-append us vs ts) ∙ e)
@@ -222,7 +204,7 @@ module _ (nested : (n : Nest) → List Token → Reads (Nested n)) (shorter : (n
   first (Commas whole g) p ts x rest s =
       let q = and_parts (is_plain g) (not (nullable g) && disjoint (goes_on g) (Comma ∷ [])) p in
       let o = and_parts (not (nullable g)) (disjoint (goes_on g) (Comma ∷ [])) q.1 in
-      inl (first_commas (Spells spelled g) (starts g) (λ us y r k. first_some (nullable g) (starts g) us r (not_true (nullable g) o.0) (first g q.0 us y r k)) s.0 s.1 ts rest s.2)
+      inl (first_commas (Spells spelled g) (starts g) (λ us y r k. first_some (nullable g) (starts g) us r (from_not (nullable g) o.0) (first g q.0 us y r k)) s.0 s.1 ts rest s.2)
   first (Deeper n) p ts x rest s = inl (opens n ts x rest s)
 
   item_shorter : {A : Type 0} (g : Grammar A) → nullable g ≡ false → (ts : List Token) (x : A × List Token) → read nested g ts ≡ Ok x → length x.1 < length ts
@@ -247,7 +229,7 @@ module _ (nested : (n : Nest) → List Token → Reads (Nested n)) (shorter : (n
       let q = and_parts (is_plain g) (is_plain h && (not (nullable g) && disjoint (starts g) (starts h))) p in
       let o = and_parts (is_plain h) (not (nullable g) && disjoint (starts g) (starts h)) q.1 in
       let m = and_parts (not (nullable g)) (disjoint (starts g) (starts h)) o.1 in
-      ap (λ b. cond b (read nested g ts) (read nested h ts)) (first_some (nullable g) (starts g) ts rest (not_true (nullable g) m.0) (first g q.0 ts x rest s))
+      ap (λ b. cond b (read nested g ts) (read nested h ts)) (first_some (nullable g) (starts g) ts rest (from_not (nullable g) m.0) (first g q.0 ts x rest s))
       ∙ read_complete g q.0 ts x rest s (begins_left (goes_on g) (goes_on h) rest (ends_second (nullable h) (starts g) (goes_on g ++ goes_on h) rest e))
   read_complete (Choice g h) p ts x rest (inr s) e =
       let q = and_parts (is_plain g) (is_plain h && (not (nullable g) && disjoint (starts g) (starts h))) p in
@@ -262,7 +244,7 @@ module _ (nested : (n : Nest) → List Token → Reads (Nested n)) (shorter : (n
   read_complete (Several whole g) p ts x rest s e =
       let q = and_parts (is_plain g) (not (nullable g) && disjoint (goes_on g) (starts g)) p in
       let o = and_parts (not (nullable g)) (disjoint (goes_on g) (starts g)) q.1 in
-      let some = not_true (nullable g) o.0 in
+      let some = from_not (nullable g) o.0 in
       ap (λ r. then_reads r (λ xs rest. Ok (whole xs, rest)))
       (several_complete (read nested g) (starts g) (goes_on g) (Spells spelled g) (item_shorter g some) (read_complete g q.0)
       (λ us y r k. first_some (nullable g) (starts g) us r some (first g q.0 us y r k)) o.1 (length ts) s.0 ts rest (omega arith) s.1 (begins_left (starts g) (goes_on g) rest e) (begins_right (starts g) (goes_on g) rest e))
@@ -270,7 +252,7 @@ module _ (nested : (n : Nest) → List Token → Reads (Nested n)) (shorter : (n
   read_complete (Commas whole g) p ts x rest s e =
       let q = and_parts (is_plain g) (not (nullable g) && disjoint (goes_on g) (Comma ∷ [])) p in
       let o = and_parts (not (nullable g)) (disjoint (goes_on g) (Comma ∷ [])) q.1 in
-      let some = not_true (nullable g) o.0 in
+      let some = from_not (nullable g) o.0 in
       let e2 = begins_right (Comma ∷ []) (starts g ++ goes_on g) rest e in
       let all = commas_complete (read nested g) (starts g) (goes_on g) (Spells spelled g) (item_shorter g some) (read_complete g q.0)
       (λ us y r k. first_some (nullable g) (starts g) us r some (first g q.0 us y r k)) o.1 s.1 s.0 ts rest s.2 (begins_left (Comma ∷ []) (starts g ++ goes_on g) rest e) (begins_left (starts g) (goes_on g) rest e2) (begins_right (starts g) (goes_on g) rest e2) in
@@ -284,11 +266,11 @@ subset_in : (t : Terminal) (us vs : List Terminal) → list_all (λ u. is_in u v
 subset_in t [] vs d e = absurd (cc)
 subset_in t (u ∷ us) vs d e =
     let parts = and_parts (is_in u vs) (list_all (λ u. is_in u vs) us) d in
-    ⊎_elim (λ same. sym (is_in_same t u vs same) ∙ parts.0) (λ further. subset_in t us vs parts.1 further) (or_true (is t u) (is_in t us) e)
+    ⊎_elim (λ same. sym (is_in_same t u vs same) ∙ parts.0) (λ further. subset_in t us vs parts.1 further) (or_either (is t u) (is_in t us) e)
 
 subset_ends : (us vs : List Terminal) (ts : List Token) → list_all (λ u. is_in u vs) us ≡ true → begins vs ts ≡ false → begins us ts ≡ false
 subset_ends us vs [] d e = refl
-subset_ends us vs (t ∷ ts) d e = is_false (is_in (terminal_of t.kind) us) (λ h. not_both (is_in (terminal_of t.kind) vs) (subset_in (terminal_of t.kind) us vs d h) e)
+subset_ends us vs (t ∷ ts) d e = false_from_ne_true (is_in (terminal_of t.kind) us) (λ h. not_both (is_in (terminal_of t.kind) vs) (subset_in (terminal_of t.kind) us vs d h) e)
 
 nest_ends : (n : Nest) (rest : List Token) → begins (nest_goes_on n) rest ≡ false → begins (goes_on (nest n)) rest ≡ false
 nest_ends n rest e = subset_ends (goes_on (nest n)) (nest_goes_on n) rest (nest_within n) e

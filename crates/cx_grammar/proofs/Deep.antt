@@ -1,5 +1,5 @@
 -- Tokens that lead to one that begins a level too many stop reading there, whatever follows.
-use Rattle.std.proofs.Common.{◌≡◌, ℕ, zero, suc, ◌<◌, Bool, true, false, ◌&&◌, not, List, [], ◌∷◌, ◌++◌, length, Ok, Err, refl, sym, ap, subst, ◌∙◌, cond, inl, inr, ⊎_elim}
+use Rattle.std.proofs.Common.{◌≡◌, ℕ, zero, suc, ◌<◌, Bool, true, false, ◌&&◌, not, List, [], ◌∷◌, ◌++◌, length, Ok, Err, sym, ap, subst, ◌∙◌, cond, inl, inr, ⊎_elim}
 use Rattle.std.proofs.lemmas.Bool.{and_parts}
 use Rattle.cx_ast.specs.declared.tokens.Token.{Token}
 use Rattle.cx_grammar.specs.declared.terminals.Terminal.{Terminal}
@@ -12,7 +12,8 @@ use Rattle.cx_grammar.specs.Reading.{TooDeep, Stop, Reads, then_reads, several_a
 use Rattle.cx_grammar.proofs.Shorter.{Taken, took, nested_shorter}
 use Rattle.cx_grammar.proofs.Known.{plain_nest, starts_nest, plain_file}
 use Rattle.cx_grammar.proofs.Loops.{several-unroll, commas-unroll}
-use Rattle.cx_grammar.proofs.Complete.{not_true, apart_back, begins_more, begins_other, first, first_some, first_pair, read_complete, nested_opens, nested_complete}
+use Rattle.cx_grammar.proofs.Complete.{apart_back, begins_more, begins_other, first, first_some, first_pair, read_complete, nested_opens, nested_complete}
+use Rattle.cx_text.proofs.BoolLaws.{and_false, from_not}
 
 -- texts are spelled so whatever follows
 several_more : {A : Type 0} (spelled : Spelling A) (more : List Token) → ((ts : List Token) (x : A) (rest : List Token) → spelled ts x rest → spelled (ts ++ more) x (rest ++ more)) →
@@ -52,10 +53,6 @@ begins_front set (t ∷ ts) more e = e
 starts_first : (a : Bool) (us vs : List Terminal) (ts : List Token) → begins us ts ≡ true → begins (cond a (us ++ vs) us) ts ≡ true
 starts_first true us vs ts e = begins_more us vs ts e
 starts_first false us vs ts e = e
-
-and_false : (a : Bool) → (a && false) ≡ false
-and_false true = refl
-and_false false = refl
 
 -- reading stops at the last token before these
 abbrev pub last_stop : List Token → Stop
@@ -135,11 +132,11 @@ module _ (nested : (n : Nest) → List Token → Reads (Nested n)) (shorter : (n
   leads_opens (Several whole g) p ts d =
       let q = and_parts (is_plain g) (not (nullable g) && disjoint (goes_on g) (starts g)) p in
       let o = and_parts (not (nullable g)) (disjoint (goes_on g) (starts g)) q.1 in
-      several_opens (starts g) (Spells spelled g) (Leads spelled deep g) (opens_of g q.0 (not_true (nullable g) o.0)) (leads_opens g q.0) d.1 ts d.0 d.2 d.3
+      several_opens (starts g) (Spells spelled g) (Leads spelled deep g) (opens_of g q.0 (from_not (nullable g) o.0)) (leads_opens g q.0) d.1 ts d.0 d.2 d.3
   leads_opens (Commas whole g) p ts d =
       let q = and_parts (is_plain g) (not (nullable g) && disjoint (goes_on g) (Comma ∷ [])) p in
       let o = and_parts (not (nullable g)) (disjoint (goes_on g) (Comma ∷ [])) q.1 in
-      into_opens (starts g) (Spells spelled g) (Leads spelled deep g) (opens_of g q.0 (not_true (nullable g) o.0)) (leads_opens g q.0) d.0 ts d.1
+      into_opens (starts g) (Spells spelled g) (Leads spelled deep g) (opens_of g q.0 (from_not (nullable g) o.0)) (leads_opens g q.0) d.0 ts d.1
   leads_opens (Deeper n) p ts d = deep_opens n ts d
 
   module _ (more : List Token)
@@ -173,14 +170,14 @@ module _ (nested : (n : Nest) → List Token → Reads (Nested n)) (shorter : (n
     leads_stops (Several whole g) p ts d =
         let q = and_parts (is_plain g) (not (nullable g) && disjoint (goes_on g) (starts g)) p in
         let o = and_parts (not (nullable g)) (disjoint (goes_on g) (starts g)) q.1 in
-        let some = not_true (nullable g) o.0 in
+        let some = from_not (nullable g) o.0 in
         ap (λ a. then_reads a (λ xs rest. Ok (whole xs, rest)))
         (several_stops (starts g) (Spells spelled g) (Leads spelled deep g) (opens_of g q.0 some) (leads_opens g q.0)
         (read nested g) (goes_on g) more (shorter_of g some) (item_of g q.0) (leads_stops g q.0) o.1 d.1 ts d.0 d.2 d.3)
     leads_stops (Commas whole g) p ts d =
         let q = and_parts (is_plain g) (not (nullable g) && disjoint (goes_on g) (Comma ∷ [])) p in
         let o = and_parts (not (nullable g)) (disjoint (goes_on g) (Comma ∷ [])) q.1 in
-        let some = not_true (nullable g) o.0 in
+        let some = from_not (nullable g) o.0 in
         into_stops (starts g) (Spells spelled g) (Leads spelled deep g) (opens_of g q.0 some) (leads_opens g q.0)
         (read nested g) (goes_on g) more (shorter_of g some) (item_of g q.0) (leads_stops g q.0) o.1 (λ x xs. whole (x ∷ xs)) d.0 ts d.1
     leads_stops (Deeper n) p ts d = deep_stops n ts d

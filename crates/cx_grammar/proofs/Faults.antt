@@ -16,15 +16,13 @@ use Rattle.cx_grammar.proofs.Sound.{nested_sound}
 use Rattle.cx_grammar.proofs.Stays.{Completes, Done, Stopped, Stays}
 use Rattle.cx_grammar.proofs.Viable.{read_stays, nested_stays}
 use Rattle.cx_grammar.proofs.Wider.{NotDeep, levels_same}
+use Rattle.cx_grammar.proofs.ReadingLemmas.{ok_not_err}
 
 file_stays : (levels : ℕ) (ts : List Token) → Stays (read (nested_at levels) file) (Spells (spelled_within (suc levels)) file) (Leads (spelled_within levels) (deep_at levels) file) ts (read (nested_at levels) file ts)
 file_stays levels ts = read_stays (nested_at levels) (spelled_within levels) (spelled_within (suc levels)) (deep_at levels) (nested_shorter levels) (nested_sound levels) (nested_sample levels) (nested_stays levels) file plain_file ts
 
 completed : (levels : ℕ) (used : List Token) → Completes (Spells (spelled_within levels) file) used → Begins used
 completed levels used c = record { levels = levels; more = c.extra ++ []; tree = c.value; whole = c.free [] }
-
-ok_not_err : (x : PlainTree × List Token) (s : Stop) → (let r : Reads PlainTree = Ok x in r ≡ Err s) → ⊥
-ok_not_err x s e = cc
 
 -- a file that is read with some number of levels is not stopped with another
 not_stopped : (m k : ℕ) (ts : List Token) (tree : PlainTree) (left : ℕ) → read (nested_at m) file ts ≡ Ok (tree, []) → read (nested_at k) file ts ≡ Err (record { why = Unexpected; left = left }) → ⊥

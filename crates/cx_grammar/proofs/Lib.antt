@@ -11,3 +11,4 @@ pub mod Viable
 pub mod Wider
 pub mod Faults
 pub mod OneReading
+pub mod ReadingLemmas

@@ -9,6 +9,7 @@ use Rattle.cx_grammar.specs.Reading.{Why, Unexpected, TooDeep, Stop, Reads, read
 use Rattle.cx_grammar.proofs.Deep.{last_stop, too_deep_stops}
 use Rattle.cx_grammar.proofs.OneTree.{parse_sound, parse_complete}
 use Rattle.cx_grammar.proofs.Faults.{unexpected_at, over_at, deep_stop}
+use Rattle.cx_grammar.proofs.ReadingLemmas.{ok_not_err}
 
 -- one front of some tokens is longer than another by these
 record IsLonger (front back longer behind : List Token) : Type 0 where
@@ -107,11 +108,8 @@ tree_expected tokens tree front [] p u = u.no_file refl (64, tree, p)
 tree_expected tokens tree front (t ∷ after) p u =
     u.no_more t after refl (begins_less (front ++ (t ∷ [])) after (subst Begins (u.whole ∙ sym (append_assoc front (t ∷ []) after)) (parse_begins tokens tree p)))
 
-ok_differs : (x : PlainTree × List Token) (s : Stop) → (let r : Reads PlainTree = Ok x in r ≡ Err s) → ⊥
-ok_differs x s e = cc
-
 pub tree_within : (tokens : List Token) (tree : PlainTree) (front back : List Token) → Parse tokens tree → IsDeep tokens front back → ⊥
-tree_within tokens tree front back p d = ok_differs (tree, []) (last_stop d.after) (sym (parse_complete tokens tree p) ∙ deep_reads tokens front back d)
+tree_within tokens tree front back p d = ok_not_err (tree, []) (last_stop d.after) (sym (parse_complete tokens tree p) ∙ deep_reads tokens front back d)
 
 -- the tree, the unexpected token or end, or the token that is too deep
 abbrev pub Answer : List Token → Type 0

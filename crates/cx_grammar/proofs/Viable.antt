@@ -15,12 +15,12 @@ use Rattle.cx_ast.specs.PlainStatements as plain
 use Rattle.cx_grammar.specs.Parsing.{Commas_into, Leads, deep_at}
 use Rattle.cx_grammar.specs.Reading.{Why, Unexpected, TooDeep, Reads, then_reads, one_at, several_at, commas_at, read, unexpected, too_deep, is_plain, disjoint}
 use Rattle.cx_grammar.proofs.Known.{plain_nest, shallow_nest, is_shallow}
-use Rattle.cx_grammar.proofs.Complete.{not_true}
 use Rattle.cx_grammar.proofs.Loops.{several-unroll, several-end, commas-none, commas-last, commas-unroll}
 use Rattle.cx_grammar.proofs.Samples.{Sample, sample, nested_sample, one_sample}
 use Rattle.cx_grammar.proofs.Shorter.{Taken, took, nested_shorter}
 use Rattle.cx_grammar.proofs.Sound.{read_sound, nested_sound}
 use Rattle.cx_grammar.proofs.Stays.{Completes, Goes, Stopped, Stays, peek_same, begins_same, both, Both, Either, both_stays, along_stays, then_same}
+use Rattle.cx_text.proofs.BoolLaws.{from_not}
 
 module _ {A : Type 0} (r : List Token → Reads A) (set : List Terminal) (W S : Spelling A) (D : List Token → Type 0)
     (shorter : (ts : List Token) (x : A × List Token) → r ts ≡ Ok x → length x.1 < length ts)
@@ -245,13 +245,13 @@ module _ (nested : (n : Nest) → List Token → Reads (Nested n)) (S W : (n : N
       let q = and_parts (is_plain g) (not (nullable g) && disjoint (goes_on g) (starts g)) p in
       let o = and_parts (not (nullable g)) (disjoint (goes_on g) (starts g)) q.1 in
       along_stays whole (several_at (read nested g) (starts g)) (read nested (Several whole g)) (Several_of (Spells W g)) (Spells W (Several whole g))
-      (Several_into (read nested g) (starts g) (Spells W g) (Spells S g) (Leads S D g) (shorter_of g (not_true (nullable g) o.0)) (sound_of g) (read_stays g q.0)) (Leads S D (Several whole g)) [] false
+      (Several_into (read nested g) (starts g) (Spells W g) (Spells S g) (Leads S D g) (shorter_of g (from_not (nullable g) o.0)) (sound_of g) (read_stays g q.0)) (Leads S D (Several whole g)) [] false
       (λ us t. refl) (λ us xs rest s. (xs, s, refl)) (λ us d. d) ts (nothing ts)
-      (several_stays (read nested g) (starts g) (Spells W g) (Spells S g) (Leads S D g) (shorter_of g (not_true (nullable g) o.0)) (sound_of g) (read_stays g q.0) (length ts) ts (omega arith))
+      (several_stays (read nested g) (starts g) (Spells W g) (Spells S g) (Leads S D g) (shorter_of g (from_not (nullable g) o.0)) (sound_of g) (read_stays g q.0) (length ts) ts (omega arith))
   read_stays (Commas whole g) p ts =
       let q = and_parts (is_plain g) (not (nullable g) && disjoint (goes_on g) (Comma ∷ [])) p in
       let o = and_parts (not (nullable g)) (disjoint (goes_on g) (Comma ∷ [])) q.1 in
-      let some = not_true (nullable g) o.0 in
+      let some = from_not (nullable g) o.0 in
       commas_stays whole g some (read_stays g q.0) ts
   read_stays (Deeper n) p ts = stays n ts
 

@@ -6,7 +6,8 @@ use Rattle.cx_graphs.specs.Graphs.{In, Edges, edges_of, targets_of}
 use Rattle.cx_graphs.specs.Additions.{Link, IsEdge, Adds, IsBare, IntoNode, IsBackOfFirst}
 use Rattle.cx_graphs.specs.Ways.{IsTurned}
 use Rattle.cx_graphs.proofs.WalkLemmas.{targets_within}
-use Rattle.cx_graphs.proofs.Lists.{in_before, in_last, the_last, same_or}
+use Rattle.cx_graphs.proofs.Lists.{in_before, in_last, the_last}
+use Rattle.cx_text.proofs.NumberLaws.{same_or_not}
 
 pub adds_none : (g : Edges) (more : Link) → ((m n : ℕ) → more m n → ⊥) → Adds g more g
 adds_none g more none = record { same_length = refl; kept = λ m n i. i; all = λ m n e. absurd (none m n e); known = λ m n i. inl i }
@@ -52,7 +53,7 @@ edge_added lists after from to before list h was is e = subst (λ l. Adds (edges
       (λ same. subst (λ k. In (targets_of (edges_of (slice_set lists from list)) k) n) same
       (subst (λ l. In l n) (sym now) (in_before (targets_of (edges_of lists) from) (to ∷ []) n (subst (λ k. In (targets_of (edges_of lists) k) n) (sym same) i))))
       (λ d. subst (λ l. In l n) (sym (set_apart lists from m list d)) i)
-      (same_or from m);
+      (same_or_not from m);
   all = λ m n p. subst (λ k. In (targets_of (edges_of (slice_set lists from list)) k) n) (sym p.0)
       (subst (λ l. In l n) (sym now) (subst (In (targets_of (edges_of lists) from ++ to ∷ [])) (sym p.1) (the_last (targets_of (edges_of lists) from) to)));
   known = λ m n i. ⊎_elim
@@ -61,7 +62,7 @@ edge_added lists after from to before list h was is e = subst (λ l. Adds (edges
       (λ p. inr (sym same, sym p))
       (in_last (targets_of (edges_of lists) from) to n (subst (λ l. In l n) now (subst (λ k. In (targets_of (edges_of (slice_set lists from list)) k) n) (sym same) i))))
       (λ d. inl (subst (λ l. In l n) (set_apart lists from m list d) i))
-      (same_or from m);
+      (same_or_not from m);
 })
   where
     now : targets_of (edges_of (slice_set lists from list)) from ≡ targets_of (edges_of lists) from ++ to ∷ []
@@ -105,7 +106,7 @@ more_back g h k l count x y = adds_as h l (λ m n. IsBackOfFirst g count m n ⊎
     (adds_then h k l (IsBackOfFirst g count) (IntoNode (targets_of g count) count) x y)
   where
     last_or : (count n : ℕ) → n < count + 1 → (n < count) ⊎ (n ≡ count)
-    last_or count n h = ⊎_elim (λ e. inr e) (λ d. inl (omega (arith, h, d))) (same_or n count)
+    last_or count n h = ⊎_elim (λ e. inr e) (λ d. inl (omega (arith, h, d))) (same_or_not n count)
 
 pub all_back : (g h k : Edges) (count : ℕ) → length g ≡ count → IsBare count h → Adds h (IsBackOfFirst g count) k → IsTurned g k
 all_back g h k count long bare x = (
@@ -123,4 +124,4 @@ cleared lists node list h none m n i =
     ⊎_elim
     (λ same. absurd (subst (λ l. In l n) (set_same lists node list h ∙ none) (subst (λ k. In (targets_of (edges_of (slice_set lists node list)) k) n) (sym same) i)))
     (λ d. (subst (λ l. In l n) (set_apart lists node m list d) i, λ e. d (sym e)))
-    (same_or node m)
+    (same_or_not node m)

@@ -7,9 +7,10 @@ use Rattle.cx_graphs.specs.declared.owners.Owners.TheVariants.{Nobody, Only}
 use Rattle.cx_graphs.specs.Owners.{Covers, Sound, owners_at}
 use Rattle.cx_graphs.specs.Tallies.{IsClear, IsKept, Starts, Tallies, Added}
 use Rattle.cx_graphs.specs.Spreads.{IsBegun}
-use Rattle.cx_graphs.proofs.Members.{past_the_end, same_or_not}
+use Rattle.cx_graphs.proofs.Members.{past_the_end}
 use Rattle.cx_graphs.proofs.Marks.{in_left, in_right, in_either}
 use Rattle.cx_graphs.proofs.OwnerLemmas.{sound_joined}
+use Rattle.cx_text.proofs.NumberLaws.{same_or}
 
 pub all_nobody : (count n : ℕ) → owners_at (replicate count Nobody) n ≡ Nobody
 all_nobody zero n = refl
@@ -59,7 +60,7 @@ begins_more count lists number owners touched after now within b a = record {
   all = λ n k few h. ⊎_elim
       (λ s. a.given n k (subst (λ m. In (targets_of lists m) n) (sym s) h) s)
       (λ d. a.still n k (b.all n k (omega (arith, few, d)) h))
-      (same_or_not number k);
+      (same_or number k);
   some = some_added owners touched (targets_of lists number) (Only number) after now b.some a;
   kept = kept_added owners touched (targets_of lists number) (Only number) after now (λ n i. subst (λ c. n < c) (sym b.same_length) (within n i)) b.kept a;
 }
@@ -91,7 +92,7 @@ kept_without owners touched rest node e k = record {
       (λ nobody. inl (get_or-set_other owners node n Nobody Nobody (λ x. d (sym x)) ∙ nobody))
       (λ i. ⊎_elim (λ l. inr l) (λ r. ⊎_elim (λ x. absurd (d x)) (λ j. absurd j) r) (in_either rest (node ∷ []) n (subst (λ l. In l n) e i)))
       (k.others n))
-      (same_or_not node n);
+      (same_or node n);
 }
   where
     within : node < length owners

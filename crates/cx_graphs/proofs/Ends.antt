@@ -1,22 +1,12 @@
 -- Within as many steps as there are nodes every way ends that ends at all.
-use Rattle.std.proofs.Common.{◌≡◌, ◌<◌, ◌≤◌, ℕ, zero, suc, nat_lt, Bool, true, false, ◌&&◌, List, [], ◌∷◌, length, ◌⊎◌, inl, inr, ⊎_elim, refl, sym, ap, ◌∙◌, subst, arith, true≢false}
+use Rattle.std.proofs.Common.{◌≡◌, ◌<◌, ◌≤◌, ℕ, zero, suc, nat_lt, Bool, true, List, [], ◌∷◌, length, ◌⊎◌, inl, inr, ⊎_elim, refl, sym, subst, arith, true≢false}
 use Rattle.std.specs.List.{list_all}
 use Rattle.std.proofs.lemmas.Bool.{ltb-true}
-use Rattle.std.proofs.lemmas.Bool.Decides.{nat_tests}
 use Rattle.cx_graphs.specs.Graphs.{In, Edges, targets_of}
 use Rattle.cx_graphs.specs.Grounds.{IsGrounded, grounded, ends_before, is_grounded}
 use Rattle.cx_graphs.proofs.Counting.{count, same_or_more, all_pass}
-
-and_first : (a b : Bool) → a && b ≡ true → a ≡ true
-and_first true b h = refl
-and_first false b h = absurd (true≢false (sym h))
-
-and_second : (a b : Bool) → a && b ≡ true → b ≡ true
-and_second true b h = h
-and_second false b h = absurd (true≢false (sym h))
-
-and_both : (a b : Bool) → a ≡ true → b ≡ true → a && b ≡ true
-and_both a b h k = ap (λ x. x && b) h ∙ k
+use Rattle.cx_text.proofs.BoolLaws.{and_first, and_second, and_true}
+use Rattle.cx_text.proofs.NumberLaws.{lt_true}
 
 each_of : (test : ℕ → Bool) (ms : List ℕ) → list_all test ms ≡ true → (m : ℕ) → In ms m → test m ≡ true
 each_of test [] h m i = absurd i
@@ -25,10 +15,7 @@ each_of test (x ∷ ms) h m (inr i) = each_of test ms (and_second (test x) (list
 
 all_of : (test : ℕ → Bool) (ms : List ℕ) → ((m : ℕ) → In ms m → test m ≡ true) → list_all test ms ≡ true
 all_of test [] h = refl
-all_of test (x ∷ ms) h = and_both (test x) (list_all test ms) (h x (inl refl)) (all_of test ms (λ m i. h m (inr i)))
-
-lt_test : (m n : ℕ) → m < n → nat_lt m n ≡ true
-lt_test m n h = grind (arith, nat_tests)
+all_of test (x ∷ ms) h = and_true (test x) (list_all test ms) (h x (inl refl)) (all_of test ms (λ m i. h m (inr i)))
 
 module _ (g : Edges) where
   node_within : (k n : ℕ) → ends_before g (suc k) n ≡ true → n < length g
@@ -38,7 +25,7 @@ module _ (g : Edges) where
   targets_end k n h = each_of (ends_before g k) (targets_of g n) (and_second (nat_lt n (length g)) (list_all (ends_before g k) (targets_of g n)) h)
 
   node_ends : (k n : ℕ) → n < length g → ((m : ℕ) → In (targets_of g n) m → ends_before g k m ≡ true) → ends_before g (suc k) n ≡ true
-  node_ends k n within h = and_both (nat_lt n (length g)) (list_all (ends_before g k) (targets_of g n)) (lt_test n (length g) within) (all_of (ends_before g k) (targets_of g n) h)
+  node_ends k n within h = and_true (nat_lt n (length g)) (list_all (ends_before g k) (targets_of g n)) (lt_true n (length g) within) (all_of (ends_before g k) (targets_of g n) h)
 
   ends_later : (k n : ℕ) → ends_before g k n ≡ true → ends_before g (suc k) n ≡ true
   ends_later zero n h = absurd (true≢false (sym h))

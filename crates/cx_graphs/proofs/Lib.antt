@@ -16,3 +16,4 @@ mod Beginnings
 mod Sharing
 mod Spreading
 pub mod Least
+pub mod GraphsLemmas

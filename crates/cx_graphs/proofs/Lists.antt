@@ -2,12 +2,6 @@
 use Rattle.std.proofs.Common.{◌≡◌, ℕ, zero, suc, ◌<◌, List, [], ◌∷◌, ◌++◌, Some, length, slice_get, slice_set, ◌⊎◌, inl, inr, ⊎_elim, refl, sym, ap, ◌∙◌, arith}
 use Rattle.cx_graphs.specs.Graphs.{In}
 
-pub same_or : (m n : ℕ) → (m ≡ n) ⊎ (m ≡ n → ⊥)
-same_or zero zero = inl refl
-same_or zero (suc n) = inr (λ e. omega arith)
-same_or (suc m) zero = inr (λ e. omega arith)
-same_or (suc m) (suc n) = ⊎_elim (λ e. inl (ap suc e)) (λ d. inr (λ e. d (omega (arith, e)))) (same_or m n)
-
 module _ {A : Type 0} where
   pub some_is : (x y : A) → Some x ≡ Some y → x ≡ y
   some_is x y e = cc

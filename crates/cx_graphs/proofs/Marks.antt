@@ -3,14 +3,7 @@ use Rattle.std.proofs.Common.{◌≡◌, ℕ, zero, suc, ◌+◌, ◌<◌, Bool,
 use Rattle.std.proofs.lemmas.List.{length-set, length-append}
 use Rattle.std.proofs.Math.Seq.{take-suc}
 use Rattle.cx_graphs.specs.Graphs.{In, Marked, Spread, unmarked}
-use Rattle.cx_graphs.proofs.Takes.{marked_here, marked_still, fewer}
-
-marked_from : (ms : List Bool) (i n : ℕ) → Marked (slice_set ms i true) n → Marked ms n ⊎ (i ≡ n)
-marked_from [] i n h = inl h
-marked_from (m ∷ ms) zero zero h = inr refl
-marked_from (m ∷ ms) zero (suc n) h = inl h
-marked_from (m ∷ ms) (suc i) zero h = inl h
-marked_from (m ∷ ms) (suc i) (suc n) h = ⊎_elim (λ k. inl k) (λ e. inr (ap (λ x. suc x) e)) (marked_from ms i n h)
+use Rattle.cx_graphs.proofs.Takes.{marked_here, marked_still, fewer, marked_from}
 
 pub in_left : (xs ys : List ℕ) (n : ℕ) → In xs n → In (xs ++ ys) n
 in_left [] ys n i = absurd i

@@ -1,5 +1,5 @@
 -- What stands in lists of nodes.
-use Rattle.std.proofs.Common.{◌≡◌, ◌≢◌, ℕ, zero, suc, ◌+◌, ◌<◌, List, [], ◌∷◌, ◌++◌, length, get_or, take, add-one, ◌⊎◌, inl, inr, ⊎_elim, refl, sym, ap, ◌∙◌, arith}
+use Rattle.std.proofs.Common.{◌≡◌, ℕ, zero, suc, ◌+◌, ◌<◌, List, [], ◌∷◌, ◌++◌, length, get_or, take, add-one, sym, ap, ◌∙◌, arith}
 use Rattle.std.proofs.Math.Seq.{take-suc}
 use Rattle.std.specs.declared.vec.Vec.{Vec}
 use Rattle.cx_graphs.specs.Graphs.{In, Edges, edges_of, targets_of}
@@ -15,10 +15,3 @@ pub past_the_end : (lists : Edges) (k n : ℕ) → (k < length lists → ⊥) �
 past_the_end [] k n h i = absurd i
 past_the_end (l ∷ lists) zero n h i = absurd (h (omega arith))
 past_the_end (l ∷ lists) (suc k) n h i = past_the_end lists k n (λ lt. h (omega (arith, lt))) i
-
--- two numbers are one, or are two
-pub same_or_not : (m n : ℕ) → (m ≡ n) ⊎ (m ≢ n)
-same_or_not zero zero = inl refl
-same_or_not zero (suc n) = inr (λ e. absurd (omega (arith, e)))
-same_or_not (suc m) zero = inr (λ e. absurd (omega (arith, e)))
-same_or_not (suc m) (suc n) = ⊎_elim (λ e. inl (ap (λ k. suc k) e)) (λ d. inr (λ e. d (omega (arith, e)))) (same_or_not m n)

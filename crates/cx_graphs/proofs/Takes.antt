@@ -87,11 +87,6 @@ zero_at zero n = refl
 zero_at (suc count) zero = refl
 zero_at (suc count) (suc n) = zero_at count n
 
-pub get_or_any : {A : Type 0} (xs : List A) (k : ℕ) (d e : A) → k < length xs → get_or xs k d ≡ get_or xs k e
-get_or_any [] k d e h = absurd (omega (arith, h))
-get_or_any (x ∷ xs) zero d e h = refl
-get_or_any (x ∷ xs) (suc k) d e h = get_or_any xs k d e (omega (arith, h))
-
 -- marks and edges under other names
 pub marked_as : (seen marks : List Bool) (read edges : List ℕ) (from known next : ℕ) → seen ≡ marks → read ≡ edges → from ≡ known
     → (AllMarked seen (take from read) → AllMarked seen (take next read)) → AllMarked marks (take known edges) → AllMarked marks (take next edges)

@@ -5,9 +5,9 @@ use Rattle.cx_graphs.specs.declared.owners.Owners.{Owners}
 use Rattle.cx_graphs.specs.declared.owners.Owners.TheVariants.{Nobody}
 use Rattle.cx_graphs.specs.Owners.{Covers, joined, owners_at}
 use Rattle.cx_graphs.specs.Tallies.{Added}
-use Rattle.cx_graphs.proofs.Members.{same_or_not}
 use Rattle.cx_graphs.proofs.Marks.{in_left, in_right, in_either}
 use Rattle.cx_graphs.proofs.OwnerLemmas.{covers_left, covers_right, joined_again, less_room, some_joined, rooms_less}
+use Rattle.cx_text.proofs.NumberLaws.{same_or}
 
 pub nothing_added : (owners : List Owners) (touched : List ℕ) (more : Owners) → Added owners touched [] more owners touched
 nothing_added owners touched more = record {
@@ -44,7 +44,7 @@ added_now owners touched node more within differ = record {
   still = λ n k h. ⊎_elim
       (λ s. subst (λ o. Covers o k) (sym (here n s)) (covers_left (owners_at owners node) more k (subst (λ m. Covers (owners_at owners m) k) (sym s) h)))
       (λ d. subst (λ o. Covers o k) (sym (there n d)) h)
-      (same_or_not node n);
+      (same_or node n);
   given = λ n k i h. ⊎_elim (λ s. subst (λ o. Covers o k) (sym (here n s)) (covers_right (owners_at owners node) more k h)) (λ j. absurd j) i;
   fresh = node ∷ [];
   longer = refl;
@@ -53,7 +53,7 @@ added_now owners touched node more within differ = record {
   changed = λ n. ⊎_elim
       (λ s. inr (inl s, inl s, here n s ∙ ap (λ m. joined (owners_at owners m) more) s))
       (λ d. inl (there n d))
-      (same_or_not node n);
+      (same_or node n);
   less = let left = rooms_less owners node now within (less_room (owners_at owners node) more differ) in let long = length-append touched (node ∷ []) in omega (arith, left, long);
 }
   where

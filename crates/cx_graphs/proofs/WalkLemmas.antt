@@ -1,5 +1,5 @@
 -- What the steps of a walk leave, and what stands at its end.
-use Rattle.std.proofs.Common.{Bool, true, false, ◌≡◌, ℕ, zero, suc, ◌+◌, ◌<◌, ◌≤◌, List, [], ◌∷◌, ◌++◌, Some, length, slice_get, slice_set, inl, inr, ⊎_elim, refl, sym, ap, ◌∙◌, subst, arith}
+use Rattle.std.proofs.Common.{◌≡◌, ℕ, zero, suc, ◌+◌, ◌<◌, ◌≤◌, List, [], ◌∷◌, ◌++◌, Some, length, slice_get, slice_set, inl, inr, ⊎_elim, refl, sym, ap, ◌∙◌, subst, arith}
 use Rattle.std.proofs.lemmas.List.{length-set, length-map}
 use Rattle.std.proofs.lemmas.Option.{slice_get_within}
 use Rattle.cx_graphs.specs.declared.walking.Mark.{Mark}
@@ -10,7 +10,8 @@ use Rattle.std.specs.declared.vec.Vec.{Vec}
 use Rattle.cx_graphs.specs.Graphs.{In, Edges, Bounded, IsGraph, edges_of, targets_of}
 use Rattle.cx_graphs.specs.Ways.{Targets, Way, edge, further, HasCircle, Comes, HasCircleFrom, IsOrder, LeadsWithin, both}
 use Rattle.cx_graphs.specs.Walks.{Is, freshness, fresh_count, IsKnown, IsChain, AreLeft, IsWalk, IsNext, AllCome, NoFresher}
-use Rattle.cx_graphs.proofs.Lists.{same_or, some_is, in_before, in_one, in_last, the_last, get_left, get_last, get_in, in_get, set_here, set_other, set_from, places_differ}
+use Rattle.cx_graphs.proofs.Lists.{some_is, in_before, in_one, in_last, the_last, get_left, get_last, get_in, in_get, set_here, set_other, set_from, places_differ}
+use Rattle.cx_text.proofs.NumberLaws.{same_or_not}
 
 pub fresh_entered : Fresh ≡ Entered → ⊥
 fresh_entered e = cc
@@ -37,7 +38,7 @@ count_set (mark ∷ marks) zero before after e = let same : freshness mark ≡ f
 count_set (mark ∷ marks) (suc n) before after e = let rest = count_set marks n before after e in omega (arith, rest)
 
 pub still_left : (marks : List Mark) (n t : ℕ) → n < length marks → Is marks t Left → Is (slice_set marks n Left) t Left
-still_left marks n t h l = ⊎_elim (λ e. subst (λ k. Is (slice_set marks n Left) k Left) e (set_here marks n Left h)) (λ d. set_other marks n t Left Left d l) (same_or n t)
+still_left marks n t h l = ⊎_elim (λ e. subst (λ k. Is (slice_set marks n Left) k Left) e (set_here marks n Left h)) (λ d. set_other marks n t Left Left d l) (same_or_not n t)
 
 module _ (targets : Targets) where
   -- CHAINS
@@ -97,7 +98,7 @@ module _ (targets : Targets) where
           same_length = length-set marks node Entered ∙ w.known.same_length;
           within = λ n i. ⊎_elim (λ j. w.known.within n j) (λ e. subst (λ k. k < count) e below) (in_last entered node n i);
           known = λ n h. ⊎_elim
-              (λ f. ⊎_elim (λ e. inr (subst (λ k. In (entered ++ node ∷ []) k) e (the_last entered node))) (λ d. inl (set_other marks node n Entered Fresh d f)) (same_or node n))
+              (λ f. ⊎_elim (λ e. inr (subst (λ k. In (entered ++ node ∷ []) k) e (the_last entered node))) (λ d. inl (set_other marks node n Entered Fresh d f)) (same_or_not node n))
               (λ j. inr (in_before entered (node ∷ []) n j))
               (w.known.known n h);
         };
@@ -314,7 +315,7 @@ refreshes count marks entered rest node e k =
           (λ f. inl (set_other marks node n Fresh Fresh d f))
           (λ i. ⊎_elim inr (λ same. absurd (d same)) (in_last rest node n (subst (λ l. In l n) e i)))
           (k.known n h))
-          (same_or node n);
+          (same_or_not node n);
     }
 
 -- AN ORDER: the edges of another graph are none
@@ -334,7 +335,3 @@ circle_alone g starts (n, comes, way) = (n, way_map (λ k m i. no_more (targets_
 
 pub circle_from_all : (g : Edges) (starts : List ℕ) → ((n : ℕ) → n < length g → In starts n) → HasCircle (targets_of g) → HasCircleFrom (both g []) starts
 circle_from_all g starts all (n, way) = (n, inl (all n (way_within g way)), way_map (λ k m i. in_before (targets_of g k) [] m i) way)
-
-pub if_not_false : (b : Bool) → (b ≡ false → ⊥) → b ≡ true
-if_not_false true f = refl
-if_not_false false f = absurd (f refl)

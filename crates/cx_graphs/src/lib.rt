@@ -1,7 +1,4 @@
-//! Graphs whose nodes are numbers: what is reached from some nodes, orders along the edges, and circles.
-//! Searches along the edges of two graphs over the same nodes.
-//! Graphs whose nodes are numbers: the nodes from which every way ends.
-//! Which of some numbered lists name a node, as far as none, one and several are told apart, over all that lists reach too.
+//! Graphs whose nodes are numbers: what is reached, orders along the edges, circles, and which of some lists reach a node.
 #![tactic(auto)]
 
 mod adding;

@@ -1,15 +1,12 @@
 -- A net that fits names wires and holes that are there, where the targets of its drivers are there.
-use Rattle.std.proofs.Common.{◌≡◌, ℕ, suc, ◌<◌, Bool, true, false, if◌then◌else◌, List, [], ◌∷◌, length, get_or, Option, Some, None, IsSome, slice_get, nat_lt, true≢false, refl, sym, arith}
+use Rattle.std.proofs.Common.{◌≡◌, ℕ, suc, ◌<◌, Bool, true, false, if◌then◌else◌, List, [], ◌∷◌, length, get_or, Some, None, IsSome, slice_get, nat_lt, true≢false, refl, sym, arith}
 use Rattle.std.proofs.lemmas.Bool.{ltb-true}
 use Rattle.std.proofs.lemmas.Option.{slice_get_within}
 use Rattle.cx_net.specs.Nets.{PlainNetExpr, OfPort, OfRegister, OfWire, OfHole, OfGo, Fixed, Inverse, AllOf, AnyOf, Sum, Compares, PlainNetExprs, no_exprs, an_expr, PlainNetTarget, ToPort, ToRegister, ToWire, ToHole, ToDone, PlainNetDriver, PlainNetComponent, PlainNet}
 use Rattle.cx_net.specs.NetTree.{no_net_component, net_component_at}
 use Rattle.cx_net.specs.NetFits.{HasWidth, AreBits, target_width, IsFitDriver, IsFit}
 use Rattle.cx_holes.specs.Names.{ExprNames, ExprsName, TargetNames, DriverNames, DriversName, ComponentNames, ComponentsName, NetNames, HasTargets}
-
-some_value : (o : Option ℕ) → IsSome o → (w : ℕ) × (o ≡ Some w)
-some_value None h = absurd (true≢false (sym h))
-some_value (Some w) h = (w, refl)
+use Rattle.cx_text.proofs.OptionLaws.{some_value}
 
 hole_within : (n holes : ℕ) → IsSome {T = ℕ} (if nat_lt n holes then Some 1 else None) → n < holes
 hole_within n holes h = choice (nat_lt n holes) refl h

@@ -18,17 +18,13 @@ use Rattle.cx_holes.specs.Inlining.{inlined_target, inlined_component}
 use Rattle.cx_holes.specs.Names.{TargetNames, ComponentNames}
 use Rattle.cx_holes.specs.Renamed.{inlined_tree, inlined_cells, TreeNames, CellsName, renamed, IsInside, Alike, renamed_at, renamed_below, InsideAt, InsideBelow, AlikeAt, AlikeBelow}
 use Rattle.cx_holes.proofs.RenamedSteps.{chain_same, drivers_same, drivers_name}
+use Rattle.cx_text.proofs.ListLaws.{one_of}
 
 -- the width of an own wire, and of the wire of a hole
 pub own_wire : (wires : List ℕ) (more : List ℕ) (n : ℕ) → n < length wires → slice_get (wires ++ more) n ≡ slice_get wires n
 own_wire [] more n h = absurd (omega arith)
 own_wire (w ∷ wires) more zero h = refl
 own_wire (w ∷ wires) more (suc n) h = own_wire wires more n (omega arith)
-
-one_of : (holes n : ℕ) → n < holes → slice_get {X = ℕ} (replicate holes 1) n ≡ Some 1
-one_of zero n h = absurd (omega arith)
-one_of (suc holes) zero h = refl
-one_of (suc holes) (suc n) h = one_of holes n (omega arith)
 
 pub hole_wire : (wires : List ℕ) (holes n : ℕ) → n < holes → slice_get (wires ++ replicate holes 1) (length wires + n) ≡ Some 1
 hole_wire [] holes n h = let at : 0 + n ≡ n = omega arith in ap (slice_get {X = ℕ} (replicate holes 1)) at ∙ one_of holes n h

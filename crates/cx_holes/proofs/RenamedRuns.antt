@@ -1,5 +1,5 @@
 -- The runs of a net without holes are those of the net.
-use Rattle.std.proofs.Common.{◌≡◌, ◌↔◌, ℕ, zero, suc, ◌+◌, ◌-◌, ◌<◌, ◌≤◌, Bool, true, false, List, [], ◌∷◌, length, map, get_or, replicate, IsSome, nat_lt, refl, sym, ap, ap₂, ◌∙◌, subst, arith, true≢false, length-append}
+use Rattle.std.proofs.Common.{◌≡◌, ◌↔◌, ℕ, zero, suc, ◌+◌, ◌-◌, ◌<◌, ◌≤◌, Bool, true, false, List, [], ◌∷◌, length, map, get_or, replicate, IsSome, nat_lt, refl, sym, ap, ap₂, ◌∙◌, subst, arith, length-append}
 use Rattle.std.proofs.lemmas.Bool.{lt-ltb, ltb-true, ltb-false}
 use Rattle.std.proofs.Math.Path.{fun_ext}
 use Rattle.std.proofs.lemmas.List.{length-map, length-replicate}
@@ -18,6 +18,7 @@ use Rattle.cx_holes.specs.Renamed.{inlined_tree, inlined_cells, TreeNames, Cells
 use Rattle.cx_holes.proofs.RenamedNodes.{at_same, inlined_at}
 use Rattle.cx_holes.proofs.RenamedLooks.{forth, forth_below, forth_alike, origin, back, back_below, back_alike, goal_of, has_forth, has_back}
 use Rattle.cx_holes.proofs.RenamedEdges.{after_same, start_same, words_same}
+use Rattle.cx_text.proofs.NumberLaws.{never}
 
 -- NODES: one that is there stands for one that is there
 port_there : (at : NetAt) (p : ℕ) → is_port_of (inlined_at at) p ≡ is_port_of at p
@@ -35,9 +36,6 @@ Source tree path n = (m : Node) × (renamed_at tree path m ≡ n) × (is_node tr
 
 abbrev SourceBelow : NetCells → ℕ → Path → Node → Type 0
 SourceBelow cells c path n = (m : Node) × (renamed_below cells c path m ≡ n) × (is_node_below cells c path m ≡ true) × InsideBelow cells c path m
-
-never : {A : Type 0} → false ≡ true → A
-never e = absurd (true≢false (sym e))
 
 mutual
   source_of : (tree : NetInstance) (path : Path) (n : Node) → is_node (inlined_tree tree) path n ≡ true → Source tree path n

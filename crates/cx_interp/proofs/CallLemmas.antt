@@ -15,14 +15,13 @@ use Rattle.cx_meaning.specs.Running.{run_control, control_below}
 use Rattle.cx_design.specs.PlainActives.{TellsFault}
 use Rattle.cx_state.specs.Tables.{IsNumber}
 use Rattle.cx_state.proofs.PreOrder.{stands}
-use Rattle.cx_state.proofs.TreeLemmas.{instance_self}
 use Rattle.cx_state.specs.States.{PlainInstance, inputs_held, StandsFor, under_path}
 use Rattle.cx_frames.specs.Ran.{Outcome, Ended, Faulted, Unfinished, AnswersAs}
 use Rattle.cx_turns.specs.declared.tables.GroupRow.{GroupRow}
 use Rattle.cx_turns.specs.Children.{HasChild, HasControl, HoldsCall}
 use Rattle.cx_turns.specs.Groups.{HasLength, IsGroupRow, group_driving}
 use Rattle.cx_turns.proofs.Measures.{instance_child, below}
-use Rattle.cx_turns.proofs.PathLemmas.{just_true, settled_under, settled_put}
+use Rattle.cx_turns.proofs.PathLemmas.{settled_under, settled_put}
 use Rattle.cx_turns.proofs.ChildLemmas.{append_one, called_is, child_after, put_child, put_other, under_child}
 use Rattle.cx_interp.specs.declared.answers.Answer as told
 use Rattle.cx_interp.specs.declared.answers.Answer.TheVariants.{End, Fault, More}
@@ -31,6 +30,7 @@ use Rattle.cx_interp.specs.Doings.{statement_does, statement_drives, then_does, 
 use Rattle.cx_interp.specs.Done.{Tells, Leaves, Done}
 use Rattle.cx_interp.proofs.DoneLemmas.{done_wider}
 use Rattle.cx_interp.proofs.EnableLemmas.{alone, done_same_at}
+use Rattle.cx_meaning.proofs.InstancesLemmas.{here, just_true}
 
 -- answers and outcomes of the child
 abbrev pub lift_outcome : ℕ → Outcome → Outcome
@@ -113,7 +113,7 @@ module _ (d : PlainDesign) (n g c number : ℕ) (calls : (path : Path) → IsNum
         held = λ m input le. l.held m input (omega (arith, le, lt)) ∙ hold.others m input (λ e. absurd (omega (arith, e, le, lt)));
         ran = record {
           settled = settled_put i (c ∷ []) l.after own (settled_under (tree_of d) path s settled)
-              (subst (λ x. IsSettled x l.after) (instance_child (tree_of d) path c r.0 r.1 ∙ sym (instance_child i [] c r.0 (subst (λ x. cell_at (cells_of x) c ≡ OfInstance r.0) (sym (instance_self i)) r.1))) l.ran.settled)
+              (subst (λ x. IsSettled x l.after) (instance_child (tree_of d) path c r.0 r.1 ∙ sym (instance_child i [] c r.0 (subst (λ x. cell_at (cells_of x) c ≡ OfInstance r.0) (sym (here i)) r.1))) l.ran.settled)
               (l.ran.top ∙ ap (λ (x : State). x []) (under_child path c s));
           top = refl;
           others = λ e below off. put_other c e l.after own below (not_called path e at off);

@@ -24,7 +24,7 @@ use Rattle.cx_turns.specs.declared.tables.GroupRow.{GroupRow}
 use Rattle.cx_turns.specs.Groups.{IsGroupRow, group_driving}
 use Rattle.cx_turns.specs.Turns.{IsBusy}
 use Rattle.cx_turns.proofs.PathLemmas.{put_same, settled_under}
-use Rattle.cx_turns.proofs.TurnLemmas.{undriven_alone, still_busy, rest_settled}
+use Rattle.cx_turns.proofs.TurnLemmas.{still_busy, rest_settled}
 use Rattle.cx_interp.specs.declared.answers.Answer as told
 use Rattle.cx_interp.specs.declared.answers.Answer.TheVariants as result
 use Rattle.cx_interp.specs.Callees.{after_does, capture_does, two_turns}
@@ -32,6 +32,7 @@ use Rattle.cx_interp.specs.Doings.{idle_does}
 use Rattle.cx_interp.specs.Done.{Done, Tells, IsWithin}
 use Rattle.cx_interp.specs.Pauses.{AnswersIdle, Pauses, Paused}
 use Rattle.cx_interp.proofs.EnableLemmas.{done_same_at}
+use Rattle.cx_frames.proofs.RunLemmas.{group_undriven}
 
 pub two_more : (budget : ℕ) → budget ≤ 1 → two_turns budget ≡ result.More
 two_more zero le = refl
@@ -99,7 +100,7 @@ module _ (d : PlainDesign) (n g c : ℕ) (row : GroupRow) (is : IsGroupRow d n g
     whole : (path : Path) (s : State) (held : Held) → IsNumber d n path → IsSettled (tree_of d) s
         → cycle_of (instance_at (tree_of d) path) held (capture g c) listed (under_path path s) ≡ cycle (instance_at (tree_of d) path) held (capture g c) (under_path path s)
     whole path s held number settled =
-        suffices path held (capture g c) listed (under_path path s) (λ k e. undriven_alone (part_of (instance_at (tree_of d) path)) g k (off path number k e))
+        suffices path held (capture g c) listed (under_path path s) (λ k e. group_undriven (part_of (instance_at (tree_of d) path)) g k (off path number k e))
         (λ k e. rest_settled (instance_at (tree_of d) path) (group_driving g (instance_at (tree_of d) path)) (under_path path s) (under_path path s) (settled_under (tree_of d) path s settled)
         (busy_start (group_driving g (instance_at (tree_of d) path)) (under_path path s)) k (off path number k e))
 

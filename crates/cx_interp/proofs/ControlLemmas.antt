@@ -1,5 +1,5 @@
 -- Parts of statements: what they drive, that they stand in the control, and what is left of a seq, a loop or a repeat.
-use Rattle.std.proofs.Common.{◌≡◌, ℕ, zero, suc, ◌+◌, ◌-◌, ◌≤◌, ◌<◌, Bool, true, false, ◌||◌, ◌≢◌, List, [], ◌∷◌, ◌++◌, length, get_or, drop, Ok, Err, Option, Some, None, inr, refl, sym, ap, ◌∙◌, subst, arith}
+use Rattle.std.proofs.Common.{◌≡◌, ℕ, zero, suc, ◌+◌, ◌-◌, ◌≤◌, ◌<◌, true, false, ◌||◌, ◌≢◌, List, [], ◌∷◌, ◌++◌, length, get_or, drop, Ok, Err, Option, Some, None, inr, refl, sym, ap, ◌∙◌, subst, arith}
 use Rattle.std.proofs.Math.Seq.{drop-cons}
 use Rattle.cx_meaning.specs.declared.ports.PlacedPort.{PlacedPort}
 use Rattle.cx_meaning.specs.Designs.{PlainDesign, PlainComponent, PlainForm, Empty, Timed, Seq, If, While, Repeat, PlainStatement}
@@ -21,21 +21,18 @@ use Rattle.cx_interp.specs.Done.{later, Done}
 use Rattle.cx_interp.proofs.DoneLemmas.{Stops, done_more, done_wider, done_same, done_stay, done_no_turn, done_then, done_stopped, done_holds, done_fails, done_unclear}
 use Rattle.cx_interp.proofs.RanLemmas.{enough_tests}
 use Rattle.cx_interp.proofs.ContinueLemmas.{Continues, continues_start, continues_after, continues_stop, later_later}
-
-neither : (a b : Bool) → (a || b) ≡ false → (a ≡ false) × (b ≡ false)
-neither false b e = (refl, e)
-neither true b e = absurd (let f : true ≡ false = e in cc)
+use Rattle.std.proofs.lemmas.Bool.{or_parts}
 
 both_undriven : (part : PlainComponent) (gs hs : List ℕ) (c : ℕ) → groups_drive part (gs ++ hs) c ≡ false → (groups_drive part gs c ≡ false) × (groups_drive part hs c ≡ false)
 both_undriven part [] hs c e = (refl, e)
 both_undriven part (g ∷ gs) hs c e =
-    let here = neither (group_drives part g c) (groups_drive part (gs ++ hs) c) e in
+    let here = or_parts (group_drives part g c) (groups_drive part (gs ++ hs) c) e in
     let there = both_undriven part gs hs c here.1 in
     (ap (λ b. b || groups_drive part gs c) here.0 ∙ there.0, there.1)
 
 comb_undriven : (part : PlainComponent) (comb : Option ℕ) (gs : List ℕ) (c : ℕ) → groups_drive part (with_comb comb gs) c ≡ false → groups_drive part gs c ≡ false
 comb_undriven part None gs c e = e
-comb_undriven part (Some g) gs c e = (neither (group_drives part g c) (groups_drive part gs c) e).1
+comb_undriven part (Some g) gs c e = (or_parts (group_drives part g c) (groups_drive part gs c) e).1
 
 -- A PART of statements
 part_undriven : (parts : List Statement) (k : ℕ) (x : Statement) → k < length parts → (i : Instance) (c : ℕ) → parts_drive (plain_statements parts) i c ≡ false → statement_drives (plain_statement (get_or parts k x)) i c ≡ false

@@ -13,12 +13,13 @@ use Rattle.cx_state.specs.States.{PlainInstance, inputs_held, IsStateOf, StandsF
 use Rattle.cx_frames.specs.Ran.{Outcome, Ended, Faulted, Unfinished, Ran}
 use Rattle.cx_turns.specs.Groups.{Driving}
 use Rattle.cx_turns.specs.Tests.{Tested}
-use Rattle.cx_turns.proofs.PathLemmas.{under_put, put_put, put_same, settled_under, settled_put, append_none}
+use Rattle.cx_turns.proofs.PathLemmas.{under_put, put_put, put_same, settled_under, settled_put}
 use Rattle.cx_interp.specs.declared.answers.Answer.TheVariants.{End, Fault, More}
 use Rattle.cx_interp.specs.declared.answers.Answer as told
 use Rattle.cx_interp.specs.Doings.{Doing, then_does, stay_does, idle_does, test_does}
 use Rattle.cx_interp.specs.Done.{Tells, IsWithin, later, KeepsHeld, Leaves, Done}
 use Rattle.cx_interp.proofs.RanLemmas.{shifted, IsStop, ran_same, ran_wider, ran_stay, ran_idle, ran_more, ran_then, ran_stopped, ran_holds, ran_fails, ran_unclear}
+use Rattle.cx_meaning.proofs.InstancesLemmas.{append_none}
 
 -- an answer that is no end
 abbrev pub Stops : told.Answer → Type 0

@@ -1,5 +1,5 @@
 -- An island of dynamic control runs as one, and its samples are those of a run.
-use Rattle.std.proofs.Common.{◌≡◌, ℕ, zero, suc, true, false, length, Option, Some, refl, sym, ap, ◌∙◌, subst}
+use Rattle.std.proofs.Common.{◌≡◌, ℕ, zero, suc, true, length, Option, Some, refl, sym, ap, ◌∙◌, subst}
 use Rattle.std.specs.Prelude.{is_some}
 use Rattle.cx_meaning.specs.declared.kinds.GroupKind.{GroupKind}
 use Rattle.cx_meaning.specs.declared.kinds.GroupKind.TheVariants as kinds
@@ -18,14 +18,12 @@ use Rattle.cx_turns.specs.Groups.{HasLength}
 use Rattle.cx_turns.specs.Islands.{IsIsland, SampledBefore}
 use Rattle.cx_interp.specs.Doings.{leaves_in, form_does}
 use Rattle.cx_interp.specs.IslandCycles.{sampled_does}
+use Rattle.cx_text.proofs.NumberLaws.{never}
 
 -- the enable of a static group is an island
 pub enable_is_island : (d : PlainDesign) (n g k : ℕ) (form : PlainForm) → form ≡ Enable g → HasLength d n g (Some k) → IsIsland d n form
 enable_is_island d n g k form e length path number =
     subst (λ f. is_island_form (part_of (instance_at (tree_of d) path)) f ≡ true) (sym e) (ap (λ (o : Option ℕ). is_some o) (sym (length path number)))
-
-never : {A : Type 0} → false ≡ true → A
-never e = absurd (let f : false ≡ true = e in cc)
 
 kind_runs : (i : Instance) (held : Held) (g : ℕ) (s : State) (n : ℕ) (kind : GroupKind) → is_some (kind_length kind) ≡ true → island i held (Enable g) s n ≡ enable_kind i (control_below (cells_of i)) held g kind s n
 kind_runs i held g s n kinds.Plain e = never e

@@ -17,13 +17,13 @@ use Rattle.cx_turns.specs.declared.turns.Turn.TheVariants as turns
 use Rattle.cx_turns.specs.Groups.{Driving, group_driving}
 use Rattle.cx_turns.specs.Turns.{IsBusy, rested, Taken, Rested}
 use Rattle.cx_turns.proofs.PathLemmas.{under_put, put_put, put_same, settled_under}
-use Rattle.cx_turns.proofs.RestLemmas.{top_idle}
 use Rattle.cx_interp.specs.declared.answers.Answer as told
 use Rattle.cx_interp.specs.declared.answers.Answer.TheVariants as result
 use Rattle.cx_interp.specs.Doings.{Doing, turns_do}
 use Rattle.cx_interp.specs.Done.{Done}
 use Rattle.cx_interp.specs.Pauses.{AnswersIdle, Paused}
 use Rattle.cx_interp.proofs.IslandLoop.{twice_later, none_later}
+use Rattle.cx_meaning.proofs.InstancesLemmas.{top_idle}
 
 -- the state after so many turns that went on, and what comes of the rest
 pub record Going (d : PlainDesign) (old rows : List PlainInstance) (n g budget taken : ℕ) (path : Path) (s : State) : Type 0 where

@@ -8,17 +8,16 @@ use Rattle.cx_meaning.specs.Cycles as cycles
 use Rattle.cx_meaning.specs.Answers as answers
 use Rattle.cx_meaning.specs.Running.{run_control, run_main}
 use Rattle.cx_state.specs.Tables.{IsNumber}
-use Rattle.cx_state.proofs.TreeLemmas.{instance_self}
 use Rattle.cx_state.specs.States.{PlainInstance, inputs_held, StandsFor, IsUnheld}
 use Rattle.cx_frames.specs.Ran.{Outcome, Ended, Faulted, Unfinished, AnswersAs}
 use Rattle.cx_turns.specs.Children.{HasControl}
-use Rattle.cx_turns.proofs.ChildLemmas.{main_first}
 use Rattle.cx_interp.specs.declared.answers.Answer as told
 use Rattle.cx_interp.specs.declared.answers.Answer.TheVariants.{End, Fault, More}
 use Rattle.cx_interp.specs.Doings.{statement_does, statement_drives}
 use Rattle.cx_interp.specs.Done.{Tells, Done}
 use Rattle.cx_interp.specs.Runs.{Answered}
 use Rattle.cx_interp.proofs.CallLemmas.{run_is}
+use Rattle.cx_meaning.proofs.InstancesLemmas.{here, main_first}
 
 combined : (d : PlainDesign) (rows : List PlainInstance) (a : told.Answer) (after : State) (x : answers.Answer State cycles.Fault) (o : Outcome) → Tells d [] a o → AnswersAs after x o → StandsFor (tree_of d) rows after → Answered d rows a x
 combined d rows (End turns) after (answers.End s t) o e (f, same) stands =
@@ -58,6 +57,6 @@ main_answered d old new control budget a words is_control none settled stands do
     let means : statement_does control (instance_at tree []) (inputs_held old 0) s budget ≡ run_main d words budget =
     ap (λ x. statement_does x (instance_at tree []) (inputs_held old 0) s budget) (is_control [] number)
     ∙ run_is (instance_at tree []) (inputs_held old 0) s budget
-    ∙ ap (λ i. run_control i (inputs_held old 0) s budget) (instance_self tree)
+    ∙ ap (λ i. run_control i (inputs_held old 0) s budget) (here tree)
     ∙ ap (λ (h : Held). run_control tree h s budget) held in
     combined d new a l.after (run_main d words budget) l.outcome l.told (subst (λ x. AnswersAs l.after x l.outcome) means l.ran.answer) l.stands

@@ -14,6 +14,7 @@ ghost use Rattle.cx_interp.specs.Pauses.{Paused};
 
 use crate::answers::Answer;
 use cx_design::{Component, Form, PortFault};
+use cx_design_sizes::form_length;
 use cx_frames::apart_laws::{active_groups_within, listed_cells_suffice};
 use cx_interp_islands::{
     accepted_islands_are_short, static_tests_are_conditions, take_samples,
@@ -23,7 +24,6 @@ use cx_laws::laws::{
     accepted_has_no_empty_if, islands_run_by_samples, samples_give_the_cycle,
     timers_give_the_active_groups,
 };
-use cx_limits::form_length;
 use cx_meaning::laws::{designs_keep_idle, idle_settles};
 use cx_state::alike_laws::{rows_stand, states_are_seen_alike};
 use cx_turns::calls::instance_part;

@@ -1,20 +1,14 @@
 -- The ports that are asked are those of the static ifs that begin, by the samples that are taken.
-use Rattle.std.proofs.Common.{◌≡◌, ℕ, zero, suc, ◌+◌, ◌-◌, ◌%◌, ◌<◌, ◌≤◌, ⊎_elim, Bool, true, false, nat_lt, List, [], ◌++◌, refl, sym, ap, ◌∙◌, arith}
+use Rattle.std.proofs.Common.{◌≡◌, ℕ, suc, ◌+◌, ◌-◌, ◌%◌, ◌<◌, ◌≤◌, Bool, true, false, nat_lt, List, [], ◌++◌, refl, sym, ap, ◌∙◌, arith}
 use Rattle.std.specs.Prelude.{if◌then◌else◌}
-use Rattle.std.proofs.lemmas.Bool.{cases_lt, lt-ltb, le-ltb, ne_eqb}
 use Rattle.cx_meaning.specs.declared.ports.PortRef.{PortRef}
 use Rattle.cx_meaning.specs.Designs.{PlainComponent, PlainForm, Empty, Enable, Seq, Par, If, While, Repeat, StaticSeq, StaticPar, StaticIf, StaticRepeat, Timed, PlainStatement, Placed, PlainStatements, no_statements, a_statement}
 use Rattle.cx_meaning.specs.Islands.{length_of}
 use Rattle.cx_laws.specs.Positions.{no_port, port_at}
 use Rattle.cx_laws.specs.Samples.{Samples, form_ifs, ifs_of, ifs_in, begin, form_after, statement_after, while_after, parts_after, arms_after, form_by, statement_by, while_by, parts_by, arms_by, begun_by, samples_after}
 use Rattle.cx_interp_islands.specs.Asked.{form_asked, statement_asked, while_asked, parts_asked, arms_asked}
-
-same_choice : {A : Type 0} (j n : ℕ) (x y u v : A) → (j < n → x ≡ u) → (n ≤ j → y ≡ v) → (if nat_lt j n then x else y) ≡ (if nat_lt j n then u else v)
-same_choice j n x y u v f g =
-    ⊎_elim
-    (λ l. let e = lt-ltb j n l in ap (λ b. if b then x else y) e ∙ f l ∙ sym (ap (λ b. if b then u else v) e))
-    (λ l. let e = le-ltb j n l in ap (λ b. if b then x else y) e ∙ g l ∙ sym (ap (λ b. if b then u else v) e))
-    (cases_lt j n)
+use Rattle.cx_laws.proofs.SamplesLemmas.{begin_other}
+use Rattle.cx_text.proofs.NumberLaws.{same_choice}
 
 same_branch : {A : Type 0} (b c : Bool) (x y u v : A) → b ≡ c → (c ≡ true → x ≡ u) → (c ≡ false → y ≡ v) → (if b then x else y) ≡ (if c then u else v)
 same_branch b true x y u v e f g = ap (λ d. if d then x else y) e ∙ f refl
@@ -22,11 +16,6 @@ same_branch b false x y u v e f g = ap (λ d. if d then x else y) e ∙ g refl
 
 both_same : {A : Type 0} {xs us ys vs : List A} → xs ≡ us → ys ≡ vs → xs ++ ys ≡ us ++ vs
 both_same {A} {xs} {us} {ys} {vs} e f = ap (λ z. z ++ ys) e ∙ ap (λ z. us ++ z) f
-
--- a static if takes no sample but its own
-begin_other : (n j m : ℕ) (v : Bool) (kept : Samples) → (m ≡ n → ⊥) → begin n j v kept m ≡ kept m
-begin_other n zero m v kept differ = ap (λ b. if b then v else kept m) (ne_eqb m n differ)
-begin_other n (suc j) m v kept differ = refl
 
 -- what runs does not go by the samples of other statements
 module _ {A : Type 0} (part : PlainComponent) (kept other : Samples) (of_group : ℕ → ℕ → List A) (of_port : PortRef → ℕ → List A) where

@@ -1,7 +1,7 @@
 -- In an accepted design islands are short.
-use Rattle.std.proofs.Common.{◌≡◌, ℕ, suc, ◌<◌, ◌≤◌, nat_lt, nat_le, ◌&&◌, inl, inr, ⊎_elim, Bool, true, false, List, [], ◌∷◌, length, Some, None, refl, sym, ap, ◌∙◌, subst}
-use Rattle.std.specs.Prelude.{if◌then◌else◌, slice_get}
-use Rattle.std.proofs.lemmas.Bool.{cases_lt, le-leb}
+use Rattle.std.proofs.Common.{◌≡◌, ℕ, ◌<◌, ◌≤◌, nat_lt, nat_le, ◌&&◌, inl, inr, ⊎_elim, Bool, true, false, length, Some, None, refl, sym, ap, ◌∙◌, subst}
+use Rattle.std.specs.Prelude.{if◌then◌else◌}
+use Rattle.std.proofs.lemmas.Bool.{cases_lt, le-leb, and_from}
 use Rattle.std.proofs.lemmas.List.{get_or_past}
 use Rattle.cx_text.specs.declared.limits.TheConstants.{OCCURRENCES, REPETITIONS}
 use Rattle.cx_text.specs.declared.rules.Rule.TheVariants.{Limit}
@@ -15,12 +15,9 @@ use Rattle.cx_rules.specs.StaticControl.{is_island, form_occurrences}
 use Rattle.cx_rules.specs.LimitRule.{Limited, OnRepeat, OnOccurrences, OnLatency, word_of, count_in, is_too_many, statement_limit}
 use Rattle.cx_rules.specs.Spots.{AStatement}
 use Rattle.cx_rules.specs.Accepted.{IsAccepted}
-use Rattle.cx_rules.proofs.CircleLemmas.{same_part, Reached, a_tree, no_tree, reached}
-
-number_in : {A : Type 0} (xs : List A) (x : A) → In xs x → (n : ℕ) × (slice_get xs n ≡ Some x)
-number_in [] x i = absurd i
-number_in (y ∷ ys) x (inl e) = (0, ap Some e)
-number_in (y ∷ ys) x (inr i) = let r = number_in ys x i in (suc r.0, r.1)
+use Rattle.cx_rules.proofs.CircleLemmas.{Reached, a_tree, no_tree, reached}
+use Rattle.cx_meaning.proofs.SightsLaws.{number_in}
+use Rattle.cx_meaning.proofs.DesignsLemmas.{same_part}
 
 -- some limit is exceeded where the last one is
 some_limit : (many occurs long : Bool) → long ≡ true → (limited : Limited) × ((if many then Some OnRepeat else if occurs then Some OnOccurrences else if long then Some OnLatency else None) ≡ Some limited)
@@ -28,13 +25,10 @@ some_limit true occurs long e = (OnRepeat, refl)
 some_limit false true long e = (OnOccurrences, refl)
 some_limit false false long e = (OnLatency, ap (λ b. if b then Some OnLatency else None) e)
 
-both_true : (a b : Bool) → a ≡ true → b ≡ true → (a && b) ≡ true
-both_true a b e f = ap (λ c. c && b) e ∙ f
-
 exceeds : (part : PlainComponent) (v : Visited) → is_island part v ≡ true → REPETITIONS ≤ form_length part v.form → (limited : Limited) × (statement_limit part v ≡ Some limited)
 exceeds part v island long =
     some_limit (is_too_many (count_in v.form)) (is_island part v && nat_lt OCCURRENCES (form_occurrences part v.form)) (is_island part v && nat_le REPETITIONS (form_length part v.form))
-    (both_true (is_island part v) (nat_le REPETITIONS (form_length part v.form)) island (le-leb REPETITIONS (form_length part v.form) long))
+    (and_from (is_island part v) (nat_le REPETITIONS (form_length part v.form)) island (le-leb REPETITIONS (form_length part v.form) long))
 
 module _ (d : PlainDesign) (accepted : IsAccepted d) (v : Visited) where
   abbrev IsShort : PlainComponent → Type 0

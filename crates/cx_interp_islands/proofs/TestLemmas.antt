@@ -1,17 +1,12 @@
 -- The ports of the static ifs in a statement of a component are tests of statements of it.
-use Rattle.std.proofs.Common.{inl, inr, List, [], ◌∷◌, ◌++◌, refl, sym, subst}
+use Rattle.std.proofs.Common.{inl, inr, List, ◌∷◌, ◌++◌, refl, sym, subst}
 use Rattle.cx_text.specs.declared.places.Place.{Place}
 use Rattle.cx_meaning.specs.declared.ports.PortRef.{PortRef}
 use Rattle.cx_meaning.specs.Designs.{PlainForm, Empty, Enable, Seq, Par, If, While, Repeat, StaticSeq, StaticPar, StaticIf, StaticRepeat, Timed, PlainStatement, Placed, PlainStatements, no_statements, a_statement}
 use Rattle.cx_meaning.specs.Sights.{In}
 use Rattle.cx_rules.specs.Items.{Context, InStatic, Branch, below_dynamic, Visited, visit, visit_parts, visit_all}
-use Rattle.cx_rules.proofs.Finite.{in_left, in_right}
 use Rattle.cx_interp_islands.specs.Asked.{form_tests, tests_of, tests_in, IsTestIn}
-
-of_joined : {A B : Type 0} (xs ys : List A) (x : A) → In (xs ++ ys) x → (In xs x → B) → (In ys x → B) → B
-of_joined [] ys x i f g = g i
-of_joined (z ∷ xs) ys x (inl e) f g = f (inl e)
-of_joined (z ∷ xs) ys x (inr i) f g = of_joined xs ys x i (λ j. f (inr j)) g
+use Rattle.cx_meaning.proofs.SightsLaws.{of_joined, in_left, in_right}
 
 test_left : (xs ys : List Visited) (p : PortRef) → IsTestIn xs p → IsTestIn (xs ++ ys) p
 test_left xs ys p t = (t.0, t.1, in_left xs ys t.0 t.2, t.3, t.4)

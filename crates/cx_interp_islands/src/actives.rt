@@ -12,7 +12,7 @@ ghost use Rattle.cx_interp_islands.specs.Rooms.{samples_of};
 use crate::counts::{group_count, sample_count};
 use crate::offsets::{is_running, round_offset};
 use cx_design::{ActiveEntry, Component, Form, Statement};
-use cx_limits::length_of;
+use cx_design_sizes::length_of;
 use cx_text::Memory;
 
 /// Makes room for the active groups of any one cycle.

@@ -3,7 +3,7 @@
 ghost use Rattle.std.specs.Prelude.{◌≡◌, ◌≤◌, ◌-◌, ◌^◌};
 ghost use Rattle.cx_design.specs.PlainForms.{plain_form, plain_statement, plain_statements};
 ghost use Rattle.cx_laws.specs.Samples as samples;
-ghost use Rattle.cx_limits.specs.Capped.{capped};
+ghost use Rattle.cx_design_sizes.specs.Capped.{capped};
 ghost use Rattle.cx_interp_islands.specs.Rooms as rooms;
 
 use cx_design::{Form, Statement};

@@ -5,7 +5,7 @@ ghost use Rattle.cx_design.specs.PlainForms.{plain_component, plain_statement};
 ghost use Rattle.cx_meaning.specs.Islands as plain;
 
 use cx_design::{Component, Statement};
-use cx_limits::length_of;
+use cx_design_sizes::length_of;
 
 /// Whether a statement still runs at an offset since it began.
 pub fn is_running(part: &Component, statement: &Statement, offset: u64) -> bool

@@ -12,7 +12,7 @@ use crate::counts::sample_count;
 use crate::offsets::{is_running, round_offset};
 use crate::sampler::Sampler;
 use cx_design::{Component, Form, Statement};
-use cx_limits::length_of;
+use cx_design_sizes::length_of;
 use cx_meaning::PortRef;
 
 /// Takes the samples of the static ifs that begin in a cycle of an island. It asks their ports in source order, and no others.

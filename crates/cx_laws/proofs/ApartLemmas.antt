@@ -1,14 +1,14 @@
 -- In an accepted design the groups that an island has active in one cycle look at nothing that another of them drives.
-use Rattle.std.proofs.Common.{◌≡◌, ℕ, ◌<◌, inl, inr, ⊎_elim, Bool, true, false, ◌||◌, Option, Some, None, List, [], ◌∷◌, length, refl, sym, ap, ◌∙◌, subst}
+use Rattle.std.proofs.Common.{◌≡◌, ℕ, ◌<◌, inl, inr, ⊎_elim, Bool, true, false, ◌||◌, Some, List, [], ◌∷◌, length, refl, sym, ap, ◌∙◌, subst}
 use Rattle.std.specs.Prelude.{if◌then◌else◌, nat_eq}
 use Rattle.std.proofs.lemmas.Bool.{cases_lt, eqb-true, eqb-false}
 use Rattle.std.proofs.lemmas.List.{get_or_past}
 use Rattle.cx_meaning.specs.declared.ports.PortRef.TheVariants as ports
 use Rattle.cx_meaning.specs.Designs.{PlainAssign, PlainComponent, PlainDesign, PlainStatement, Placed, component_at, no_component, group_at}
-use Rattle.cx_meaning.specs.Instances.{Instance, Node, part_of, tree_of, Path, instance_at}
-use Rattle.cx_meaning.specs.Active.{Active, nothing, Entry, offset_in, entries}
+use Rattle.cx_meaning.specs.Instances.{Instance, part_of, tree_of, Path, instance_at}
+use Rattle.cx_meaning.specs.Active.{Active, Entry, offset_in, entries}
 use Rattle.cx_meaning.specs.Sights.{In}
-use Rattle.cx_meaning.specs.Control.{groups_of, group_drives, groups_drive, drives}
+use Rattle.cx_meaning.specs.Control.{groups_of, group_drives, drives}
 use Rattle.cx_meaning.specs.Islands.{History, form_length, form_flat, active_in}
 use Rattle.cx_rules.specs.Items.{Visited, Dynamic, statements_in}
 use Rattle.cx_rules.specs.Footprints as footprints
@@ -16,9 +16,8 @@ use Rattle.cx_rules.specs.Footprints.{AssignNames, Reads}
 use Rattle.cx_rules.specs.RaceRule.{Arms, arms_of, enabled_in}
 use Rattle.cx_rules.specs.Accepted.{IsAccepted}
 use Rattle.cx_rules.specs.Wellformed.{IsDesign}
-use Rattle.cx_rules.specs.Circles.{IsAcyclic, AreAcyclic}
-use Rattle.cx_rules.proofs.ForeignLemmas.{or_right}
-use Rattle.cx_rules.proofs.CircleLemmas.{same_part, Reached, a_tree, no_tree, reached, instance_acyclic, instance_group}
+use Rattle.cx_rules.specs.Circles.{IsAcyclic}
+use Rattle.cx_rules.proofs.CircleLemmas.{Reached, a_tree, no_tree, reached, instance_acyclic, instance_group}
 use Rattle.cx_laws.specs.Closures.{IsClosed}
 use Rattle.cx_laws.specs.Positions.{active_at}
 use Rattle.cx_laws.proofs.ReadsLemmas.{reads_least}
@@ -28,12 +27,11 @@ use Rattle.cx_laws.proofs.TogetherLemmas.{InPar, Together, among, together}
 use Rattle.cx_laws.proofs.SourceLemmas.{fit_source}
 use Rattle.cx_laws.proofs.RaceLemmas.{unshared, not_twice}
 use Rattle.cx_laws.proofs.VisitLemmas.{visited}
-
--- what a statement drives and reads with its groups
-groups_drive_in : (part : PlainComponent) (gs : List ℕ) (g c : ℕ) → In gs g → group_drives part g c ≡ true → groups_drive part gs c ≡ true
-groups_drive_in part [] g c i e = absurd i
-groups_drive_in part (x ∷ xs) g c (inl same) e = ap (λ b. b || groups_drive part xs c) (ap (λ y. group_drives part y c) same ∙ e)
-groups_drive_in part (x ∷ xs) g c (inr i) e = or_right (group_drives part x c) (groups_drive part xs c) (groups_drive_in part xs g c i e)
+use Rattle.cx_meaning.proofs.ControlLaws.{groups_drive_in}
+use Rattle.cx_text.proofs.NumberLaws.{false_true}
+use Rattle.cx_rules.proofs.CirclesLemmas.{own_acyclic}
+use Rattle.cx_meaning.proofs.ActiveLemmas.{entry_of}
+use Rattle.cx_meaning.proofs.DesignsLemmas.{same_part}
 
 only_drives : (part : PlainComponent) (g c : ℕ) → drives part (enabled g) c ≡ true → group_drives part g c ≡ true
 only_drives part g c e = go (group_drives part g c) e
@@ -56,18 +54,6 @@ group_reads part s g i {c} r = reads_least part (enabled g) (Reads part s) close
       tested = λ e p test j h. absurd j;
       through = λ e p f q a h j t n. footprints.through e p q a h j t n;
     }
-
--- an active group is in an entry
-entry_of : (es : List Entry) (g n : ℕ) → offset_in es g ≡ Some n → (e : Entry) × In es e × (e.group ≡ g)
-entry_of [] g n h = absurd (none_some n h)
-  where
-    none_some : (n : ℕ) → ◌≡◌ {A = Option ℕ} None (Some n) → ⊥
-    none_some n e = cc
-entry_of (e ∷ es) g n h = go (nat_eq e.group g) refl h (entry_of es g n)
-  where
-    go : (b : Bool) → nat_eq e.group g ≡ b → (if b then Some e.offset else offset_in es g) ≡ Some n → (offset_in es g ≡ Some n → (f : Entry) × In es f × (f.group ≡ g)) → (f : Entry) × In (e ∷ es) f × (f.group ≡ g)
-    go true same h rest = (e, inl refl, eqb-true e.group g same)
-    go false differ h rest = let r = rest h in (r.0, inr r.1, r.2)
 
 module _ (d : PlainDesign) (accepted : IsAccepted d) (k : ℕ) (within : k < length d.components) where
   -- two groups that stand in two arms
@@ -124,16 +110,9 @@ offset_once (x ∷ xs) e once i = go (nat_eq x.group e.group) refl i (offset_onc
     go false differ (inl same) rest = absurd (eqb-false x.group e.group differ (ap (λ f. f.group) same))
     go false differ (inr j) rest = rest j
 
--- so nothing leads in a circle under them
-own_acyclic : (i : Instance) → AreAcyclic i → IsAcyclic i nothing
-own_acyclic (Node part cells) h = h.0
-
-true_false : false ≡ true → ⊥
-true_false e = cc
-
 -- a component without assignments
 bare_apart : (part : PlainComponent) (act : Active) → part ≡ no_component → StandApart part act
-bare_apart part act e = subst (λ x. StandApart x act) (sym e) (record { sources = λ o i q n. absurd i; apart = λ g k c a b differ drives reads. absurd (true_false drives) })
+bare_apart part act e = subst (λ x. StandApart x act) (sym e) (record { sources = λ o i q n. absurd i; apart = λ g k c a b differ drives reads. absurd (false_true drives) })
 
 -- an instance without a component has no active groups
 bare_entries : (part : PlainComponent) (v : Visited) (h : History) (t : ℕ) → part ≡ no_component → In (statements_in part) v → active_in h t (form_flat part v.form 0 []) ≡ []

@@ -1,17 +1,16 @@
 -- What leads on under an active set, and circles through several groups.
 use Rattle.std.proofs.Common.{◌≡◌, ℕ, ◌+◌, ◌<◌, inl, inr, ◌⊎◌, ⊎_elim, Bool, true, false, Option, Some, None, List, [], ◌∷◌, ◌++◌, length, refl, sym, ap, ◌∙◌, subst, arith}
-use Rattle.std.specs.Prelude.{if◌then◌else◌, eqb}
-use Rattle.std.proofs.lemmas.Bool.{cases_lt, eq-eqb, eqb-true, eqb-false}
-use Rattle.std.proofs.lemmas.List.{get_or_past}
+use Rattle.std.specs.Prelude.{eqb}
+use Rattle.std.proofs.lemmas.Bool.{eqb-true, eqb-false}
 use Rattle.cx_prim.specs.declared.ports.Side.{Side}
 use Rattle.cx_prim.specs.declared.ports.Side.TheVariants as sides
 use Rattle.cx_prim.specs.Rows.{Row}
 use Rattle.cx_meaning.specs.declared.ports.PortRef.{PortRef}
 use Rattle.cx_meaning.specs.declared.ports.PortRef.TheVariants as ports
 use Rattle.cx_meaning.specs.Rows.{side_of}
-use Rattle.cx_meaning.specs.Designs.{PlainAssign, PlainComponent, PlainStatement, Placed, Enable, group_at, no_group, no_place}
+use Rattle.cx_meaning.specs.Designs.{PlainComponent, PlainStatement, Placed, Enable, group_at, no_place}
 use Rattle.cx_meaning.specs.Instances.{Instance, At, Nothing, OfRow, OfInstance, cell_at, cells_of, part_of}
-use Rattle.cx_meaning.specs.Active.{Active, Acting, nothing, group, only_at, Owned, owned, owned_by_groups, source_order, offset_of, if_acting, if_target, acting, same_port, drivers}
+use Rattle.cx_meaning.specs.Active.{Active, Acting, nothing, group, Owned, owned, owned_by_groups, source_order, offset_of, if_acting, if_target, acting, same_port, drivers}
 use Rattle.cx_meaning.specs.Sights.{In, PartPort, Go, AnInput, AnOutput, ItsDone, part_port}
 use Rattle.cx_meaning.specs.Control.{group_drives}
 use Rattle.cx_rules.specs.Footprints as footprints
@@ -19,6 +18,8 @@ use Rattle.cx_rules.specs.Footprints.{AssignNames, Reads, Mentions, SideLeads, P
 use Rattle.cx_rules.specs.Circles.{IsAcyclic}
 use Rattle.cx_rules.proofs.FoundLemmas.{same_is}
 use Rattle.cx_rules.proofs.ForeignLemmas.{sorted_among, owned_among, split, groups_among, assigns_drive_in}
+use Rattle.cx_meaning.proofs.ActiveLemmas.{only_self, acting_has}
+use Rattle.cx_meaning.proofs.DesignsLemmas.{group_there}
 
 -- an assignment of a port that is active, and what it names
 pub record Driver (part : PlainComponent) (act : Active) (p q : PortRef) : Type 0 where
@@ -53,30 +54,13 @@ acting_acts act p (o ∷ rest) b i = of_target (same_port o.assign.target p) ref
     of_target true e i h = of_offset e (offset_of act o.owner) refl i h
     of_target false e i h = later_acts o (h i)
 
-acts_acting : (act : Active) (p : PortRef) (list : List Owned) (o : Owned) (k : ℕ) → In list o → same_port o.assign.target p ≡ true → offset_of act o.owner ≡ Some k → In (acting act p list) (record { offset = k; assign = o.assign })
-acts_acting act p [] o k i e f = absurd i
-acts_acting act p (x ∷ rest) o k (inl g) e f =
-    let b : Acting = record { offset = k; assign = o.assign } in
-    subst (λ t. In (if_target t act x (acting act p rest)) b) (sym (ap (λ y. same_port y.assign.target p) g ∙ e))
-    (subst (λ t. In (if_acting t x.assign (acting act p rest)) b) (sym (ap (λ y. offset_of act y.owner) g ∙ f))
-    (inl (ap (λ y. record { offset = k; assign = y.assign }) g)))
-acts_acting act p (x ∷ rest) o k (inr j) e f = of_target (same_port x.assign.target p) (acts_acting act p rest o k j e f)
-  where
-    of_offset : (n : Option ℕ) → In (acting act p rest) (record { offset = k; assign = o.assign }) → In (if_acting n x.assign (acting act p rest)) (record { offset = k; assign = o.assign })
-    of_offset None i = i
-    of_offset (Some n) i = inr i
-
-    of_target : (t : Bool) → In (acting act p rest) (record { offset = k; assign = o.assign }) → In (if_target t act x (acting act p rest)) (record { offset = k; assign = o.assign })
-    of_target true i = of_offset (offset_of act x.owner) i
-    of_target false i = i
-
 pub driver_of : (part : PlainComponent) (act : Active) (p q : PortRef) → Mentions (drivers part act p) q → Driver part act p q
 driver_of part act p q (b, i, n) =
     let r = acting_acts act p (source_order part) b i in
     record { owned = r.owned; stands = r.stands; target = r.target; offset = b.offset; acts = r.acts; names = subst (λ a. AssignNames a q) (sym r.same) n }
 
 pub mentions_of : (part : PlainComponent) (act : Active) (p q : PortRef) → Driver part act p q → Mentions (drivers part act p) q
-mentions_of part act p q d = (record { offset = d.offset; assign = d.owned.assign }, acts_acting act p (source_order part) d.owned d.offset d.stands d.target d.acts, d.names)
+mentions_of part act p q d = (record { offset = d.offset; assign = d.owned.assign }, acting_has act p (source_order part) d.owned d.offset d.stands d.target d.acts, d.names)
 
 -- the owner of an assignment
 pub data OwnerOf (part : PlainComponent) (o : Owned) : Type 0 where
@@ -89,10 +73,6 @@ owner_of part o i =
     (λ j. let r = owned_among None part.always o j in continuous r.0 r.1)
     (λ j. let r = groups_among 0 part.groups o j in let e : 0 + r.number ≡ r.number = omega arith in of_group r.number (r.owner ∙ ap Some e) r.stands)
     (split (owned None part.always) (owned_by_groups 0 part.groups) o (sorted_among (owned None part.always ++ owned_by_groups 0 part.groups) o i))
-
--- a group with an assignment is there
-pub group_there : (part : PlainComponent) (g : ℕ) (a : PlainAssign) → In (group_at part g).assigns a → g < length part.groups
-group_there part g a i = ⊎_elim (λ l. l) (λ l. let none : In no_group.assigns a = subst (λ x. In x.assigns a) (get_or_past part.groups g no_group l) i in absurd none) (cases_lt g (length part.groups))
 
 -- what leads on does so by an active assignment, or as an output of a cell on an input, under every active set
 pub data Link (i : Instance) (act : Active) (p q : PortRef) : Type 0 where
@@ -161,9 +141,6 @@ in_port part g (ports.Input n) fit h = tt
 in_port part g (ports.Output n) fit h = absurd fit
 in_port part g (ports.Done k) fit h = absurd fit
 in_port part g (ports.Literal w v) fit h = tt
-
-only_self : (g : ℕ) → only_at g g ≡ Some 0
-only_self g = ap (λ b. if b then Some 0 else None) (eq-eqb g g refl)
 
 append : {i : Instance} {act : Active} {p q r : PortRef} → Depends i act p q → Depends i act q r → Depends i act p r
 append {i} {act} {p} {q} {r} (at_once l) d = by_way_of q l d

@@ -1,5 +1,5 @@
 -- A race, and a done that does not rest on state.
-use Rattle.std.proofs.Common.{◌≡◌, ℕ, zero, suc, ◌<◌, inl, inr, ◌⊎◌, true, false, Some, None, List, [], ◌∷◌, refl, sym, ap, ◌∙◌, subst, arith}
+use Rattle.std.proofs.Common.{◌≡◌, ℕ, zero, suc, ◌<◌, inl, inr, ◌⊎◌, true, Some, None, List, [], ◌∷◌, refl, sym, ap, ◌∙◌, subst, arith}
 use Rattle.std.specs.Prelude.{slice_get, codes}
 use Rattle.cx_text.specs.declared.rules.Rule.TheVariants.{DoneNotState, Race}
 use Rattle.cx_prim.specs.declared.ports.Side.TheVariants as sides
@@ -18,6 +18,7 @@ use Rattle.cx_rules.specs.Footprints.{Reads, Rests}
 use Rattle.cx_rules.specs.RaceRule.{IsShared}
 use Rattle.cx_rules.specs.Accepted.{Breaks}
 use Rattle.cx_laws.specs.Examples.{at, assign, racing, restless, statement_of_main, assign_of_main}
+use Rattle.cx_text.proofs.NumberLaws.{false_true}
 
 abbrev racing_part : PlainComponent
 racing_part = part_of (component_of racing 0)
@@ -40,9 +41,6 @@ x_is_read = footprints.through 3 0 2 (assign (Cell 3 0) (Cell 1 2) 1 8) wire_is_
 
 zero_one : ◌≡◌ {A = ℕ} 0 1 → ⊥
 zero_one e = cc
-
-false_true : false ≡ true → ⊥
-false_true e = cc
 
 x_is_shared : IsShared racing_part arms 1
 x_is_shared = (record { one = 0; other = 1; differ = zero_one; first = g; second = h; first_stands = refl; second_stands = refl }, refl, x_is_read)

@@ -1,19 +1,12 @@
 -- The active groups of a cycle of an island, and the ports that are looked at in it, by nested timers.
 use Rattle.std.proofs.Common.{◌≡◌, ℕ, zero, suc, ◌+◌, ◌-◌, ◌<◌, ◌≤◌, inl, inr, Bool, true, false, ◌&&◌, nat_lt, nat_le, nat_eq, List, [], ◌∷◌, ◌++◌, refl, ap, ◌∙◌, arith}
-use Rattle.std.proofs.lemmas.Bool.{lt-ltb, le-ltb, lt-leb, le-leb, eq-eqb, ne_eqb}
+use Rattle.std.proofs.lemmas.Bool.{lt-ltb, le-ltb, lt-leb, le-leb, eq-eqb, ne_eqb, and_from, and_right}
 use Rattle.cx_meaning.specs.declared.ports.PortRef.{PortRef}
 use Rattle.cx_meaning.specs.Designs.{PlainComponent, PlainForm, Empty, Enable, Seq, Par, If, While, Repeat, StaticSeq, StaticPar, StaticIf, StaticRepeat, Timed, PlainStatement, Placed, PlainStatements, no_statements, a_statement}
 use Rattle.cx_meaning.specs.Active.{Entry}
 use Rattle.cx_meaning.specs.Islands.{form_length, Condition, Occurrence, Runs, Looks, form_flat, History, hold, entry_if, active_in, port_if, looked_at}
 use Rattle.cx_laws.specs.Positions.{FormIfs, StatementIfs, AllIfs, entry_at, no_entry, active_at, no_port, port_at, begun_at, HasNoEmptyIf}
 use Rattle.cx_laws.proofs.PositionLemmas.{Out, Observes, on_island, past_island}
-
-and_false : (a b : Bool) → b ≡ false → (a && b) ≡ false
-and_false true b e = e
-and_false false b e = refl
-
-and_true : (a b : Bool) → a ≡ true → b ≡ true → (a && b) ≡ true
-and_true a b e f = ap (λ c. c && b) e ∙ f
 
 -- any length will do for the active groups
 abbrev Any : ℕ → Type 0
@@ -57,16 +50,16 @@ module _ (h : History) (t : ℕ) where
   active_runs : (g x n j : ℕ) (conditions : List Condition) → t ≡ x + j → j < n → hold h conditions ≡ true → active_in h t (Runs g x (x + n) conditions ∷ []) ≡ entry_at g j
   active_runs g x n j conditions e l held =
       let begun : t - x ≡ j = omega arith in
-      let holds : (nat_le x t && nat_lt t (x + n) && hold h conditions) ≡ true = and_true (nat_le x t && nat_lt t (x + n)) (hold h conditions) (and_true (nat_le x t) (nat_lt t (x + n)) (le-leb x t (omega arith)) (lt-ltb t (x + n) (omega arith))) held in
+      let holds : (nat_le x t && nat_lt t (x + n) && hold h conditions) ≡ true = and_from (nat_le x t && nat_lt t (x + n)) (hold h conditions) (and_from (nat_le x t) (nat_lt t (x + n)) (le-leb x t (omega arith)) (lt-ltb t (x + n) (omega arith))) held in
       ap (λ b. entry_if b g (t - x) []) holds ∙ ap (entry_at g) begun
 
   active_out : (g x n : ℕ) (conditions : List Condition) → Out x n t → active_in h t (Runs g x (x + n) conditions ∷ []) ≡ []
   active_out g x n conditions (inl l) = ap (λ b. entry_if (b && nat_lt t (x + n) && hold h conditions) g (t - x) []) (lt-leb x t l)
-  active_out g x n conditions (inr l) = ap (λ b. entry_if b g (t - x) []) (ap (λ b. b && hold h conditions) (and_false (nat_le x t) (nat_lt t (x + n)) (le-ltb t (x + n) l)))
+  active_out g x n conditions (inr l) = ap (λ b. entry_if b g (t - x) []) (ap (λ b. b && hold h conditions) (and_right (nat_le x t) (nat_lt t (x + n)) (le-ltb t (x + n) l)))
 
   active_unheld : (g x n : ℕ) (conditions : List Condition) → hold h conditions ≡ false → active_in h t (Runs g x (x + n) conditions ∷ []) ≡ []
   active_unheld g x n conditions e =
-      ap (λ b. entry_if b g (t - x) []) (and_false (nat_le x t && nat_lt t (x + n)) (hold h conditions) e)
+      ap (λ b. entry_if b g (t - x) []) (and_right (nat_le x t && nat_lt t (x + n)) (hold h conditions) e)
 
   active_observed : Observes h t Any entry_at no_entry (active_in h t)
   active_observed = record {
@@ -99,7 +92,7 @@ module _ (h : History) (t : ℕ) where
       ∙ joined_ports (nat_eq t at && hold h conditions) port (looked_at h t xs) (looked_at h t ys)
 
   looked_begins : (port : PortRef) (x j : ℕ) (conditions : List Condition) → t ≡ x + j → hold h conditions ≡ true → looked_at h t (Looks port x conditions ∷ []) ≡ port_at port j
-  looked_begins port x zero conditions e held = ap (λ b. port_if b port []) (and_true (nat_eq t x) (hold h conditions) (eq-eqb t x (omega arith)) held)
+  looked_begins port x zero conditions e held = ap (λ b. port_if b port []) (and_from (nat_eq t x) (hold h conditions) (eq-eqb t x (omega arith)) held)
   looked_begins port x (suc j) conditions e held = ap (λ b. port_if (b && hold h conditions) port []) (ne_eqb t x (λ same. absurd (later same)))
     where
       later : t ≡ x → ⊥
@@ -113,7 +106,7 @@ module _ (h : History) (t : ℕ) where
       never (inr m) same = omega arith
 
   looked_unheld : (port : PortRef) (x : ℕ) (conditions : List Condition) → hold h conditions ≡ false → looked_at h t (Looks port x conditions ∷ []) ≡ []
-  looked_unheld port x conditions e = ap (λ b. port_if b port []) (and_false (nat_eq t x) (hold h conditions) e)
+  looked_unheld port x conditions e = ap (λ b. port_if b port []) (and_right (nat_eq t x) (hold h conditions) e)
 
   looked_observed : Observes h t (λ n. 0 < n) no_port port_at (looked_at h t)
   looked_observed = record {

@@ -14,10 +14,11 @@ use Rattle.cx_rules.specs.StaticControl.{is_static, is_in_static, may_stand, for
 use Rattle.cx_rules.specs.ShapeRules.{enabled_name}
 use Rattle.cx_rules.specs.Spots.{AStatement}
 use Rattle.cx_rules.specs.Accepted.{IsAccepted}
-use Rattle.cx_rules.proofs.Finite.{in_left, in_right}
-use Rattle.cx_rules.proofs.CircleLemmas.{same_part, Reached, a_tree, no_tree, reached}
+use Rattle.cx_rules.proofs.CircleLemmas.{Reached, a_tree, no_tree, reached}
 use Rattle.cx_laws.specs.Positions.{StatementIfs, AllIfs, HasNoEmptyIf}
-use Rattle.cx_laws.proofs.VisitLemmas.{visited, number_in}
+use Rattle.cx_laws.proofs.VisitLemmas.{visited}
+use Rattle.cx_meaning.proofs.SightsLaws.{in_left, in_right, number_in}
+use Rattle.cx_meaning.proofs.DesignsLemmas.{same_part}
 
 -- it may stand where it stands, and where it is static and has a length this is not 0
 record StandsWell (part : PlainComponent) (v : Visited) : Type 0 where

@@ -16,3 +16,4 @@ mod RowWidths
 mod SightWidths
 mod TreeLemmas
 mod SeenLemmas
+pub mod SamplesLemmas

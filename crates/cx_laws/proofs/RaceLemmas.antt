@@ -9,8 +9,8 @@ use Rattle.cx_rules.specs.Items.{Visited, statements_in}
 use Rattle.cx_rules.specs.Spots.{AStatement}
 use Rattle.cx_rules.specs.RaceRule.{arms_of, IsShared, IsEnabledTwice}
 use Rattle.cx_rules.specs.Accepted.{IsAccepted}
-use Rattle.cx_rules.proofs.CircleLemmas.{same_part}
-use Rattle.cx_laws.proofs.VisitLemmas.{number_in}
+use Rattle.cx_meaning.proofs.DesignsLemmas.{same_part}
+use Rattle.cx_meaning.proofs.SightsLaws.{number_in}
 
 module _ (d : PlainDesign) (accepted : IsAccepted d) (k : ℕ) (within : k < length d.components) where
   -- no cell that one arm drives and another reads

@@ -1,6 +1,6 @@
 -- Each row of the table gives values of the widths of its outputs, whatever the values at its inputs, and its enabling
 -- ports have one bit.
-use Rattle.std.proofs.Common.{◌≡◌, ℕ, zero, suc, ◌+◌, ◌==◌, ◌&&◌, Bool, true, false, List, [], ◌∷◌, ◌++◌, Option, Some, None, length, map, if◌then◌else◌, refl, sym, ap, ◌∙◌, arith}
+use Rattle.std.proofs.Common.{◌≡◌, ℕ, zero, suc, ◌+◌, ◌==◌, ◌&&◌, Bool, true, false, List, [], ◌∷◌, ◌++◌, Some, None, length, map, if◌then◌else◌, refl, sym, ap, ◌∙◌, arith}
 use Rattle.std.specs.Prelude.{slice_get, is_none, option_map, option_and_then}
 use Rattle.std.specs.List.{list_all}
 use Rattle.std.proofs.lemmas.Bool.{eqb-true}
@@ -24,13 +24,15 @@ use Rattle.cx_prim.specs.CombinationalRows.{plain_port, output_port, registered_
 use Rattle.cx_prim.specs.CombinationalLaws.{not_output, port_width, mapped_some, chained_some, passes_at}
 use Rattle.cx_prim.specs.OperatorWidths.{constant_lawful}
 use Rattle.cx_prim.specs.RegisterRow.{register_row}
-use Rattle.cx_prim.specs.RegisterLaws.{register_lawful}
+use Rattle.cx_prim.proofs.RegisterLaws.{register_lawful}
 use Rattle.cx_prim.specs.MemoryRows.{IsLayout, ports_named, first_beyond, have_addresses, memory_read, memory_row, sequential_memory_row}
-use Rattle.cx_prim.specs.MemoryLaws.{MemoryOutput, is_read, is_done, memory_outputs, sequential_lawful}
+use Rattle.cx_prim.proofs.MemoryLaws.{MemoryOutput, is_read, is_done, memory_outputs, sequential_lawful}
 use Rattle.cx_prim.specs.PipeRows.{multiplier_row, divider_row, timer_row}
-use Rattle.cx_prim.specs.PipeLaws.{multiplier_lawful, divider_lawful, timer_lawful}
+use Rattle.cx_prim.proofs.PipeLaws.{multiplier_lawful, divider_lawful, timer_lawful}
 use Rattle.cx_prim.specs.Table.{PrimitiveRow, no_row, row_of}
-use Rattle.cx_prim.specs.TableCases.{OfEachKind, of_row}
+use Rattle.cx_prim.proofs.TableCases.{OfEachKind, of_row}
+use Rattle.cx_text.proofs.NumberLaws.{is_at}
+use Rattle.cx_bits.proofs.BitVectorLemmas.{none_is, some_read}
 
 -- each value is as wide as its port
 pub record AreWide (list : List PortRow) (inputs : Inputs) : Type 0 where
@@ -68,14 +70,11 @@ blank_length : (list : List PortRow) → length (blank list) ≡ length list
 blank_length [] = refl
 blank_length (port ∷ list) = ap suc (blank_length list)
 
-no_value : (o : Option BitVector) (b : BitVector) → o ≡ None → o ≡ Some b → ⊥
-no_value o b e f = cc
-
 without_inputs : (r : Row) → IsLawful r → ((state : CellState) (inputs : Inputs) (n : ℕ) → r.output state inputs n ≡ r.output state (blank r.ports) n) → GivesWide r
 without_inputs r lawful alike state inputs n port b of_row wide at out e =
     (lawful.widths state (blank r.ports) n port b of_row
-    (record { count = blank_length r.ports; widths = λ m q v there is. absurd (no_value (input (blank r.ports) m) v (blank_none r.ports m) is) })
-    (λ m v is. absurd (no_value (input (blank r.ports) m) v (blank_none r.ports m) is))
+    (record { count = blank_length r.ports; widths = λ m q v there is. absurd (none_is (input (blank r.ports) m) v (blank_none r.ports m) is) })
+    (λ m v is. absurd (none_is (input (blank r.ports) m) v (blank_none r.ports m) is))
     at out (sym (alike state inputs n) ∙ e)).same_width
 
 -- rows without state
@@ -117,19 +116,11 @@ mux_wide w state inputs (suc (suc (suc zero))) port b of_row wide at out e =
     ∙ sym (port_width _ port at)
 mux_wide w state inputs (suc (suc (suc (suc n)))) port b of_row wide at out e = absurd (cc)
 
--- memories
-is_at : (n m : ℕ) → n ≡ m → (n == m) ≡ true
-is_at n m e = grind (arith, nat_tests)
-
 not_at : (n m : ℕ) → n ≡ suc m → (n == m) ≡ false
 not_at n m e = grind (arith, nat_tests)
 
 same_width_of : (a b : BitVector) (p q : PortRow) → Some a ≡ Some b → p ≡ q → a.width ≡ p.width → b.width ≡ q.width
 same_width_of a b p q e f h = let one : a ≡ b = cc in ap (λ (x : BitVector). x.width) (sym one) ∙ h ∙ ap (λ (x : PortRow). x.width) f
-
-some_read : (b : Bool) (a v : BitVector) → (if b then Some a else None) ≡ Some v → Some a ≡ Some v
-some_read true a v h = h
-some_read false a v h = absurd (cc)
 
 memory_wide : (w : ℕ) (sizes address_widths : List ℕ) → IsLayout w sizes address_widths → GivesWide (memory_row w sizes address_widths)
 memory_wide w sizes address_widths layout (Memory words done) inputs n port b of_row wide at out e = by_output (memory_outputs w sizes address_widths n port layout at out)

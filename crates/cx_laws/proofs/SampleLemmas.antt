@@ -11,6 +11,8 @@ use Rattle.cx_meaning.specs.Islands.{History, length_of, and_now}
 use Rattle.cx_laws.specs.Positions.{form_at, statement_at, while_runs, parts_at, arms_at}
 use Rattle.cx_laws.specs.Samples.{Samples, form_ifs, ifs_of, ifs_in, says, begin, form_after, statement_after, while_after, parts_after, arms_after, form_by, statement_by, while_by, parts_by, arms_by, FormKept, StatementKept, PartsKept, ArmsKept, Every, samples_after, AreKept}
 use Rattle.cx_laws.proofs.PositionLemmas.{both_same}
+use Rattle.cx_laws.proofs.SamplesLemmas.{begin_other, now_is}
+use Rattle.cx_text.proofs.NumberLaws.{same_choice}
 
 -- a choice by a test that is known on either side
 choose_lt : {A : Type 0} (j n : ℕ) (x y z : A) → (j < n → x ≡ z) → (n ≤ j → y ≡ z) → (if nat_lt j n then x else y) ≡ z
@@ -18,13 +20,6 @@ choose_lt j n x y z f g =
     ⊎_elim
     (λ l. ap (λ b. if b then x else y) (lt-ltb j n l) ∙ f l)
     (λ l. ap (λ b. if b then x else y) (le-ltb j n l) ∙ g l)
-    (cases_lt j n)
-
-same_choice : {A : Type 0} (j n : ℕ) (x y u v : A) → (j < n → x ≡ u) → (n ≤ j → y ≡ v) → (if nat_lt j n then x else y) ≡ (if nat_lt j n then u else v)
-same_choice j n x y u v f g =
-    ⊎_elim
-    (λ l. let e = lt-ltb j n l in ap (λ b. if b then x else y) e ∙ f l ∙ sym (ap (λ b. if b then u else v) e))
-    (λ l. let e = le-ltb j n l in ap (λ b. if b then x else y) e ∙ g l ∙ sym (ap (λ b. if b then u else v) e))
     (cases_lt j n)
 
 -- where the samples are kept, what runs by them is what runs
@@ -109,11 +104,6 @@ module _ (P : ℕ → Type 0) (part : PlainComponent) (h : History) (t : ℕ) (k
       (λ l. statement_kept s n j (λ m f g. same m f (omega arith)) (k.0 l)),
       arms_kept ss (n + ifs_of s) j (λ m f g. same m (omega arith) (omega arith)) k.1,
     )
-
--- what is taken is taken by the static ifs of the statement
-begin_other : (n j m : ℕ) (v : Bool) (kept : Samples) → (m ≡ n → ⊥) → begin n j v kept m ≡ kept m
-begin_other n zero m v kept differ = ap (λ b. if b then v else kept m) (ne_eqb m n differ)
-begin_other n (suc j) m v kept differ = refl
 
 begin_own : (n : ℕ) (v : Bool) (kept : Samples) → begin n 0 v kept n ≡ v
 begin_own n v kept = ap (λ b. if b then v else kept n) (eq-eqb n n refl)
@@ -353,10 +343,6 @@ module _ (part : PlainComponent) (h : History) (t : ℕ) (now : PortRef → Bool
           (arms_kept Earlier part h t kept (while_after part now s n j kept) ss (n + ifs_of s) j
           (λ m f g. sym (while_stays part now s n j m kept (statement_stays part now s n j m kept (inr f)))) k.1),
     )
-
--- the cycles of an island
-now_is : (h : History) (t : ℕ) (look : Look) (port : PortRef) → says look port ≡ and_now h t look port t
-now_is h t look port = sym (ap (λ b. if b then says look port else h port t) (eq-eqb t t refl))
 
 before_is : (h : History) (t : ℕ) (look : Look) (port : PortRef) (u : ℕ) → u ≤ t → and_now h (suc t) look port u ≡ h port u
 before_is h t look port u l = ap (λ b. if b then says look port else h port u) (ne_eqb (suc t) u (later u l))

@@ -14,11 +14,11 @@ use Rattle.cx_meaning.specs.declared.sights.Seen.{Seen}
 use Rattle.cx_meaning.specs.declared.sights.Seen.TheVariants.{Value, Undefined}
 use Rattle.cx_meaning.specs.Rows.{side_from, side_of}
 use Rattle.cx_meaning.specs.Designs.{PlainComponent, PlainDesign}
-use Rattle.cx_meaning.specs.Instances.{Instance, Node, At, OfRow, OfInstance, cell_at, cells_of, part_of, tree_of, Path, State, instance_at, under}
+use Rattle.cx_meaning.specs.Instances.{Instance, At, OfRow, OfInstance, cell_at, cells_of, part_of, tree_of, Path, State, instance_at, under}
 use Rattle.cx_meaning.specs.Active.{Active, source_order, drivers}
 use Rattle.cx_meaning.specs.Sights.{Look, Below, Held, bit_of, target_seen, Given, gather, PartPort, Go, AnInput, AnOutput, ItsDone, part_port, side_step, part_step, cell_step, step, is_done_cell, TargetNeeds, SideNeeds, PartNeeds, CellNeeds, Needs, Sees, by_step, seen}
 use Rattle.cx_rules.specs.Accepted.{IsAccepted}
-use Rattle.cx_rules.specs.Circles.{IsAcyclic, AreAcyclic, AcyclicBelow}
+use Rattle.cx_rules.specs.Circles.{IsAcyclic}
 use Rattle.cx_rules.specs.Ports.{keeps_literal, declared_width, part_width, cell_width, width_of}
 use Rattle.cx_rules.specs.WidthRules.{IsBadLiteral}
 use Rattle.cx_rules.specs.Wellformed.{IsDesign, IsThere, port_count}
@@ -26,8 +26,13 @@ use Rattle.cx_rules.proofs.FoundLemmas.{acting_in, seen_found}
 use Rattle.cx_rules.proofs.CircleLemmas.{instance_acyclic}
 use Rattle.cx_laws.specs.Widths.{HoldsStates, HoldsWidths}
 use Rattle.cx_laws.proofs.RowWidths.{HasWidths, enable_width}
-use Rattle.cx_laws.proofs.SightWidths.{Comes, not_driven, of_source, target_comes, output_comes, option_is, given_found}
-use Rattle.cx_laws.proofs.TreeLemmas.{output_there, StandsBeside, no_cell, of_row, of_part, InTree, IsBeside, here, into_child, is_beside, path_in_tree}
+use Rattle.cx_laws.proofs.SightWidths.{Comes, not_driven, of_source, target_comes, output_comes, given_found}
+use Rattle.cx_laws.proofs.TreeLemmas.{output_there, StandsBeside, no_cell, of_row, of_part, InTree, IsBeside, into_child, is_beside, path_in_tree}
+use Rattle.cx_text.proofs.OptionLaws.{some_is}
+use Rattle.cx_rules.proofs.CirclesLemmas.{cells_below}
+use Rattle.cx_rules.proofs.WidthRulesLemmas.{not_bad}
+use Rattle.cx_meaning.proofs.SightsLaws.{option_is}
+use Rattle.cx_meaning.proofs.InstancesLemmas.{here}
 
 bit_width : (t : Bool) (b : BitVector) → bit_of t ≡ Value b → 1 ≡ b.width
 bit_width true b e = let f : record { width = 1; value = 1 } ≡ b = cc in ap (λ (x : BitVector). x.width) f
@@ -40,12 +45,6 @@ side_there : (list : List PortRow) (p : ℕ) → p < length list → (port : Por
 side_there [] p h = absurd (omega arith)
 side_there (port ∷ list) zero h = (port, refl, refl)
 side_there (port ∷ list) (suc p) h = side_there list p (let k : suc p < suc (length list) = h in omega arith)
-
-some_is : (a b : ℕ) → Some a ≡ Some b → a ≡ b
-some_is a b e = cc
-
-no_literal_cell : (c n : ℕ) → IsBadLiteral (ports.Cell c n) → ⊥
-no_literal_cell c n (w, v, e, f) = cc
 
 no_literal_output : (n : ℕ) → IsBadLiteral (ports.Output n) → ⊥
 no_literal_output n (w, v, e, f) = cc
@@ -90,7 +89,7 @@ module _ (d : PlainDesign) (i whole : Instance) (beside : IsBeside d i whole) (a
           let z : n ≡ 0 + n = omega arith in
           let value = ap (λ q. look (ports.Cell c q)) z ∙ found.value in
           let wanted = ap (row.reads p) z ∙ found.wanted_there in
-          let w = needed (ports.Cell c n) (n, wanted, refl) (in_cells, subst (λ x. n < port_count x) (sym at_cell) (slice_get_within row.ports n port at)) (no_literal_cell c n) v value in
+          let w = needed (ports.Cell c n) (n, wanted, refl) (in_cells, subst (λ x. n < port_count x) (sym at_cell) (slice_get_within row.ports n port at)) (not_bad c n) v value in
           sym (some_is port.width v.width (sym (ap (λ x. cell_width x n) at_cell ∙ ap (option_map (λ (q : PortRow). q.width)) at) ∙ w))
   side_wide row c p at_cell has of_state in_cells there sides.Registered f needed b e =
       let port = side_there row.ports p there in
@@ -145,9 +144,6 @@ module _ (d : PlainDesign) (i whole : Instance) (beside : IsBeside d i whole) (a
 
 child_states : (i : Instance) (c : ℕ) (child : Instance) (s : State) → cell_at (cells_of i) c ≡ OfInstance child → HoldsStates i s → HoldsStates child (under c s)
 child_states i c child s at states path e row f = states (c ∷ path) e row (ap (λ x. cell_at (cells_of x) e) (into_child i c child path at) ∙ f)
-
-cells_below : (i : Instance) → AreAcyclic i → AcyclicBelow (cells_of i)
-cells_below (Node part cells) acyclic = acyclic.1
 
 module _ (d : PlainDesign) (design : IsDesign d) (accepted : IsAccepted d) where
   -- by induction on how it is seen

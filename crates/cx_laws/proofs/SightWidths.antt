@@ -9,7 +9,9 @@ use Rattle.cx_meaning.specs.declared.sights.Seen.TheVariants.{Value, Conflict, U
 use Rattle.cx_meaning.specs.Active.{Acting}
 use Rattle.cx_meaning.specs.Truths.{Truth, One, Zero}
 use Rattle.cx_meaning.specs.Truths as truths
-use Rattle.cx_meaning.specs.Sights.{Look, In, IsTaken, Taken, Sources, Stopped, guard_truth, take_guard, taken, agreed, all_agreed, settle, target_seen, Gathered, Given, Lacks, gather_port, gather, of_option, output_seen}
+use Rattle.cx_meaning.specs.Sights.{Look, In, IsTaken, Taken, Sources, Stopped, guard_truth, take_guard, taken, agreed, all_agreed, settle, target_seen, Gathered, Given, Lacks, gather_port, gather, output_seen}
+use Rattle.cx_bits.proofs.BitVectorLemmas.{none_is}
+use Rattle.cx_meaning.proofs.SightsLaws.{option_is}
 
 -- a value that several sources agree on is that of the first
 first_agrees : (x y : Seen) (b : BitVector) → agreed x y ≡ Value b → x ≡ Value b
@@ -88,11 +90,6 @@ gather_lacks look wanted p (port ∷ list) = by (wanted p) (look p) (gather look
     by true Conflict g h = λ b e. cc
     by true Undefined g h = λ b e. cc
 
--- what a row gives, where it is seen as a value
-pub option_is : (o : Option BitVector) (b : BitVector) → of_option o ≡ Value b → o ≡ Some b
-option_is None b e = absurd (cc)
-option_is (Some v) b e = cc
-
 -- A VALUE OF AN OUTPUT is what the row gives for the values that are gathered
 pub output_comes : (f : Inputs → Option BitVector) (look : ℕ → Seen) (wanted : ℕ → Bool) (p : ℕ) (list : List PortRow) (b : BitVector) → output_seen f (gather look wanted p list) ≡ Value b
     → (inputs : Inputs) × (gather look wanted p list ≡ Given inputs) × (f inputs ≡ Some b)
@@ -115,9 +112,6 @@ entry_found true p (Value v) (Given ys) xs is = (Some v, ys, refl, (let f : Give
 entry_found true p (Value v) (Lacks q y) xs is = absurd (cc)
 entry_found true p Conflict g xs is = absurd (cc)
 entry_found true p Undefined g xs is = absurd (cc)
-
-none_is : (o : Option BitVector) (b : BitVector) → o ≡ None → o ≡ Some b → ⊥
-none_is o b e f = cc
 
 module _ (look : ℕ → Seen) (wanted : ℕ → Bool) where
   pub given_found : (p : ℕ) (list : List PortRow) (xs : Inputs) → gather look wanted p list ≡ Given xs → (k : ℕ) (b : BitVector) → input xs k ≡ Some b → Found look wanted (p + k) b

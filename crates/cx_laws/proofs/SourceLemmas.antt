@@ -14,9 +14,9 @@ use Rattle.cx_rules.specs.ShapeRules.{is_hole}
 use Rattle.cx_rules.specs.Spots.{AnAssign}
 use Rattle.cx_rules.specs.Accepted.{IsAccepted}
 use Rattle.cx_rules.specs.Wellformed.{IsDesign, StandsIn}
-use Rattle.cx_rules.proofs.Finite.{in_left, in_right}
-use Rattle.cx_laws.proofs.EdgeLemmas.{OwnerOf, continuous, of_group, owner_of, IsFit, group_there}
-use Rattle.cx_laws.proofs.VisitLemmas.{number_in}
+use Rattle.cx_laws.proofs.EdgeLemmas.{OwnerOf, continuous, of_group, owner_of, IsFit}
+use Rattle.cx_meaning.proofs.SightsLaws.{in_left, in_right, number_in}
+use Rattle.cx_meaning.proofs.DesignsLemmas.{group_there}
 
 -- what an assignment names is among its sources
 mutual
@@ -35,7 +35,7 @@ mutual
   guards_operand (a_guard g gs) q (inl n) = let r = guard_operand g q n in (r.0, in_left (operands_of g) (operands_in gs) r.0 r.1, r.2)
   guards_operand (a_guard g gs) q (inr n) = let r = guards_operand gs q n in (r.0, in_right (operands_of g) (operands_in gs) r.0 r.1, r.2)
 
-source_in : (a : PlainAssign) (q : PortRef) → AssignNames a q → (p : PlacedPort) × In (sources_of a) p × (p.port ≡ q)
+pub source_in : (a : PlainAssign) (q : PortRef) → AssignNames a q → (p : PlacedPort) × In (sources_of a) p × (p.port ≡ q)
 source_in a q (inl n) = let r = guard_operand a.guard q n in (r.0, inr r.1, r.2)
 source_in a q (inr e) = (a.source, inl refl, e)
 

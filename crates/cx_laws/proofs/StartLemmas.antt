@@ -4,7 +4,7 @@ use Rattle.std.specs.Prelude.{length}
 use Rattle.cx_prim.specs.CellStates.{CellState, with_words}
 use Rattle.cx_prim.specs.Rows.{Row}
 use Rattle.cx_prim.specs.Table.{PrimitiveRow, row_of}
-use Rattle.cx_prim.specs.TableCases.{OfEachKind, of_row}
+use Rattle.cx_prim.proofs.TableCases.{OfEachKind, of_row}
 use Rattle.cx_meaning.specs.Rows.{KeepsIdle}
 use Rattle.cx_meaning.specs.Designs.{PlainKind, OfPrimitive, OfComponent, PlainCell, PlainDesign, component_at}
 use Rattle.cx_meaning.specs.Instances.{Instance, Node, Cells, no_cells, a_primitive, an_instance, add_cell, cells_for, tree_within, tree_of, just, idle_at, idle_below, IsSettled, start_at, start_below, externals_of, loaded_at, start}

@@ -1,5 +1,5 @@
 -- Two entries of one cycle of an island are one, or their groups stand in two arms of a static par.
-use Rattle.std.proofs.Common.{◌≡◌, ℕ, suc, ◌-◌, ◌%◌, inl, inr, ◌⊎◌, Bool, true, false, nat_lt, Some, List, [], ◌∷◌, ◌++◌, refl, sym, ap, ◌∙◌, subst}
+use Rattle.std.proofs.Common.{◌≡◌, ℕ, suc, ◌-◌, ◌%◌, inl, inr, ◌⊎◌, Bool, true, false, nat_lt, Some, List, [], ◌∷◌, refl, sym, ap, ◌∙◌, subst}
 use Rattle.std.specs.Prelude.{if◌then◌else◌, slice_get, flat_map}
 use Rattle.cx_text.specs.declared.places.Place.{Place}
 use Rattle.cx_meaning.specs.Designs.{PlainComponent, PlainForm, Empty, Enable, Seq, Par, If, While, Repeat, StaticSeq, StaticPar, StaticIf, StaticRepeat, Timed, PlainStatement, Placed, PlainStatements, no_statements, a_statement, list_of}
@@ -9,8 +9,8 @@ use Rattle.cx_meaning.specs.Control.{groups_in, groups_of, groups_in_all}
 use Rattle.cx_meaning.specs.Islands.{History, length_of}
 use Rattle.cx_rules.specs.Items.{Context, Dynamic, InStatic, Branch, Visited, visit, visit_parts, visit_all}
 use Rattle.cx_rules.specs.RaceRule.{Arms, arms_of, enabled_group, enabled_in}
-use Rattle.cx_rules.proofs.Finite.{in_left, in_right}
 use Rattle.cx_laws.specs.Positions.{form_at, statement_at, while_runs, parts_at, arms_at, entry_at, no_entry}
+use Rattle.cx_meaning.proofs.SightsLaws.{of_joined, in_left, in_right}
 
 -- two arms of a list, one with a group and the other with another
 pub record InArms (arms : List PlainStatement) (g k : ℕ) : Type 0 where
@@ -41,11 +41,6 @@ either_two : {A B : Type 0} (b : Bool) (xs ys : List A) (x y : A) → In (if b t
 either_two true xs ys x y i j f g = f i j
 either_two false xs ys x y i j f g = g i j
 
-pub of_joined : {A B : Type 0} (xs ys : List A) (x : A) → In (xs ++ ys) x → (In xs x → B) → (In ys x → B) → B
-of_joined [] ys x i f g = g i
-of_joined (z ∷ xs) ys x (inl e) f g = f (inl e)
-of_joined (z ∷ xs) ys x (inr i) f g = of_joined xs ys x i (λ j. f (inr j)) g
-
 -- a statement that enables a group
 record Enabler (list : List Visited) (g : ℕ) : Type 0 where
   statement : Visited
@@ -55,7 +50,7 @@ record Enabler (list : List Visited) (g : ℕ) : Type 0 where
 wider : {xs ys : List Visited} {g : ℕ} → ((v : Visited) → In xs v → In ys v) → Enabler xs g → Enabler ys g
 wider h r = record { statement = r.statement; stands = h r.statement r.stands; enables = r.enables }
 
-in_flat : {A B : Type 0} (each : A → List B) (xs : List A) (x : A) (y : B) → In xs x → In (each x) y → In (flat_map each xs) y
+pub in_flat : {A B : Type 0} (each : A → List B) (xs : List A) (x : A) (y : B) → In xs x → In (each x) y → In (flat_map each xs) y
 in_flat each [] x y i j = absurd i
 in_flat each (z ∷ zs) x y (inl e) j = in_left (each z) (flat_map each zs) y (subst (λ w. In (each w) y) (sym e) j)
 in_flat each (z ∷ zs) x y (inr i) j = in_right (each z) (flat_map each zs) y (in_flat each zs x y i j)

@@ -1,6 +1,6 @@
 -- An instance of the tree of an accepted design beside its component: the same parts, and widths that its assignments keep.
-use Rattle.std.proofs.Common.{◌≡◌, ℕ, zero, suc, ◌+◌, ◌-◌, ◌<◌, inl, inr, ⊎_elim, Bool, true, false, not, Option, Some, None, List, [], ◌∷◌, ◌++◌, length, if◌then◌else◌, refl, sym, ap, ◌∙◌, subst, arith}
-use Rattle.std.specs.Prelude.{nat_lt, nat_eq, slice_get, option_map}
+use Rattle.std.proofs.Common.{◌≡◌, ℕ, zero, suc, ◌+◌, ◌-◌, ◌<◌, inl, inr, ⊎_elim, Bool, true, false, Option, Some, None, List, [], ◌∷◌, ◌++◌, length, if◌then◌else◌, refl, sym, ap, ◌∙◌, subst, arith}
+use Rattle.std.specs.Prelude.{nat_lt, nat_eq, option_map}
 use Rattle.std.proofs.lemmas.Bool.{eqb-true, ltb-true}
 use Rattle.cx_text.specs.declared.rules.Rule.TheVariants as rules
 use Rattle.cx_prim.specs.declared.ports.PortRow.{PortRow}
@@ -19,32 +19,16 @@ use Rattle.cx_rules.specs.Items.{comparisons_of}
 use Rattle.cx_rules.specs.Spots.{AnAssign}
 use Rattle.cx_rules.specs.Accepted.{IsAccepted}
 use Rattle.cx_rules.specs.Wellformed.{IsDesign, IsKind, IsThere, StandsIn, port_count}
-use Rattle.cx_rules.proofs.CircleLemmas.{same_part}
 use Rattle.cx_rules.proofs.ForeignLemmas.{sorted_among, owned_among, split, groups_among}
 use Rattle.cx_laws.proofs.RowWidths.{HasWidths, row_has}
-use Rattle.cx_laws.proofs.EdgeLemmas.{group_there}
-
-pub there_at : {A : Type 0} (list : List A) (n : ℕ) → n < length list → (x : A) × (slice_get list n ≡ Some x)
-there_at [] n h = absurd (omega arith)
-there_at (y ∷ list) zero h = (y, refl)
-there_at (y ∷ list) (suc n) h = there_at list n (let k : suc n < suc (length list) = h in omega arith)
+use Rattle.cx_meaning.proofs.SightsLaws.{number_in, not_input, output_is}
+use Rattle.cx_meaning.proofs.InstancesLemmas.{here}
+use Rattle.cx_text.proofs.ListLaws.{there_at}
+use Rattle.cx_text.proofs.BoolLaws.{not_not}
+use Rattle.cx_meaning.proofs.DesignsLemmas.{same_part, group_there}
 
 pub declared_there : (decls : List PortDecl) (n : ℕ) → n < length decls → (w : ℕ) × (declared_width decls n ≡ Some w)
 declared_there decls n h = let r = there_at decls n h in (r.0.width, ap (option_map (λ (decl : PortDecl). decl.width)) r.1)
-
-output_is : (outputs m n : ℕ) → output_port outputs m ≡ AnOutput n → n < outputs
-output_is outputs m n e = by (nat_lt m outputs) refl e
-  where
-    by : (t : Bool) → nat_lt m outputs ≡ t → (if t then AnOutput m else ItsDone) ≡ AnOutput n → n < outputs
-    by true f e = let same : m ≡ n = cc in subst (λ k. k < outputs) same (ltb-true m outputs f)
-    by false f e = absurd (cc)
-
-not_input : (outputs m n : ℕ) → output_port outputs m ≡ AnInput n → ⊥
-not_input outputs m n e = by (nat_lt m outputs) e
-  where
-    by : (t : Bool) → (if t then AnOutput m else ItsDone) ≡ AnInput n → ⊥
-    by true e = cc
-    by false e = cc
 
 pub output_there : (part : PlainComponent) (p n : ℕ) → part_port part p ≡ AnOutput n → n < length part.outputs
 output_there part zero n e = absurd (cc)
@@ -54,7 +38,7 @@ output_there part (suc m) n e = by (nat_lt m (length part.inputs)) e
     by true e = absurd (cc)
     by false e = output_is (length part.outputs) (m - length part.inputs) n e
 
-input_there : (part : PlainComponent) (p n : ℕ) → part_port part p ≡ AnInput n → n < length part.inputs
+pub input_there : (part : PlainComponent) (p n : ℕ) → part_port part p ≡ AnInput n → n < length part.inputs
 input_there part zero n e = absurd (cc)
 input_there part (suc m) n e = by (nat_lt m (length part.inputs)) refl e
   where
@@ -63,13 +47,13 @@ input_there part (suc m) n e = by (nat_lt m (length part.inputs)) refl e
     by false f e = absurd (not_input (length part.outputs) (m - length part.inputs) n e)
 
 -- a port that is there and is no literal has a width
-part_there : (part : PlainComponent) (p : ℕ) (kind : PartPort) → part_port part p ≡ kind → (w : ℕ) × (part_width part kind ≡ Some w)
+pub part_there : (part : PlainComponent) (p : ℕ) (kind : PartPort) → part_port part p ≡ kind → (w : ℕ) × (part_width part kind ≡ Some w)
 part_there part p Go e = (1, refl)
 part_there part p (AnInput n) e = declared_there part.inputs n (input_there part p n e)
 part_there part p (AnOutput n) e = declared_there part.outputs n (output_there part p n e)
 part_there part p ItsDone e = (1, refl)
 
-cell_there : (at : At) (p : ℕ) → p < port_count at → (w : ℕ) × (cell_width at p ≡ Some w)
+pub cell_there : (at : At) (p : ℕ) → p < port_count at → (w : ℕ) × (cell_width at p ≡ Some w)
 cell_there Nothing p h = absurd (omega arith)
 cell_there (OfRow row) p h = let r = there_at row.ports p h in (r.0.width, ap (option_map (λ (port : PortRow). port.width)) r.1)
 cell_there (OfInstance child) p h = part_there (part_of child) p (part_port (part_of child) p) refl
@@ -103,19 +87,10 @@ pub record IsBeside (d : PlainDesign) (i whole : Instance) : Type 0 where
   pub cells : (c : ℕ) → StandsBeside (InTree d) (cell_at (cells_of i) c) (cell_at (cells_of whole) c)
   pub assigns : (o : Owned) → In (source_order (part_of i)) o → KeepsWidth whole o
 
-not_false : (b : Bool) → not b ≡ false → b ≡ true
-not_false true e = refl
-not_false false e = absurd (cc)
-
 same_widths : (target : Option ℕ) (v w : ℕ) → target ≡ Some v → differ target (Some w) ≡ false → target ≡ Some w
 same_widths target v w e f =
-    let equal : v ≡ w = eqb-true v w (not_false (nat_eq v w) (ap (λ x. differ x (Some w)) (sym e) ∙ f)) in
+    let equal : v ≡ w = eqb-true v w (not_not (nat_eq v w) (ap (λ x. differ x (Some w)) (sym e) ∙ f)) in
     e ∙ ap Some equal
-
-some_number : {A : Type 0} (xs : List A) (x : A) → In xs x → (n : ℕ) × (slice_get xs n ≡ Some x)
-some_number [] x i = absurd i
-some_number (y ∷ ys) x (inl e) = (0, ap Some e)
-some_number (y ∷ ys) x (inr i) = let r = some_number ys x i in (suc r.0, r.1)
 
 stands_in : (part : PlainComponent) (o : Owned) → In (source_order part) o → StandsIn part o.owner o.assign
 stands_in part o i =
@@ -125,10 +100,6 @@ stands_in part o i =
     let e : 0 + r.number ≡ r.number = omega arith in
     subst (λ x. StandsIn part x o.assign) (sym (r.owner ∙ ap Some e)) (group_there part r.number o.assign r.stands, r.stands))
     (split (owned None part.always) (owned_by_groups 0 part.groups) o (sorted_among (owned None part.always ++ owned_by_groups 0 part.groups) o i))
-
--- PATHS
-pub here : (i : Instance) → instance_at i [] ≡ i
-here (Node part cells) = refl
 
 abbrev at_path : At → Path → Instance
 at_path Nothing path = Node no_component no_cells
@@ -156,7 +127,7 @@ module _ (d : PlainDesign) (design : IsDesign d) (accepted : IsAccepted d) where
         by : (t : Bool) → differ (width_of (component_of d k) o.assign.target) (width_of (component_of d k) o.assign.source.port) ≡ t → t ≡ false
         by false e = refl
         by true e =
-            let n = some_number (source_order (component_at d k)) o i in
+            let n = number_in (source_order (component_at d k)) o i in
             let first = ap (λ (t : Bool). if t then Some o.assign.target else first_unequal (component_of d k) (comparisons_of o.assign.guard)) e in
             absurd (accepted.widths rules.Width (record { component = k; part = AnAssign n.0 }) o.assign.place (path_of (component_of d k) o.assign.target) refl
             (record { within = within; number = n.0; is = refl; assign = o; stands = n.1; breaks = (o.assign.target, first, (refl, refl)) }))
@@ -165,7 +136,7 @@ module _ (d : PlainDesign) (design : IsDesign d) (accepted : IsAccepted d) where
     assign_keeps o i =
         let whole = component_of d k in
         let is = (design.components k within).assigns o.owner o.assign (stands_in (component_at d k) o i) in
-        let n = some_number (source_order (component_at d k)) o i in
+        let n = number_in (source_order (component_at d k)) o i in
         let t = port_there whole o.assign.target is.target is.no_literal in
         record {
           there = is.sources o.assign.source (inl refl);

@@ -1,11 +1,9 @@
 -- Statements of statements.
-use Rattle.std.proofs.Common.{◌≡◌, ℕ, suc, inl, inr, Some, List, [], ◌∷◌, sym, ap, subst}
-use Rattle.std.specs.Prelude.{slice_get}
+use Rattle.std.proofs.Common.{inl, inr, List, sym, subst}
 use Rattle.cx_meaning.specs.Designs.{PlainForm, Empty, Enable, Seq, Par, If, While, Repeat, StaticSeq, StaticPar, StaticIf, StaticRepeat, Timed, PlainStatement, Placed, PlainStatements, no_statements, a_statement}
 use Rattle.cx_meaning.specs.Sights.{In}
 use Rattle.cx_rules.specs.Items.{Context, InStatic, Branch, below_dynamic, Visited, visit, visit_parts, visit_all}
-use Rattle.cx_rules.proofs.Finite.{in_left, in_right}
-use Rattle.cx_laws.proofs.TogetherLemmas.{of_joined}
+use Rattle.cx_meaning.proofs.SightsLaws.{in_left, in_right, of_joined}
 
 -- a statement that is visited, as a statement again
 abbrev pub visits : Visited → List Visited
@@ -43,9 +41,3 @@ mutual
       of_joined (visit context s) (visit_all context ss) v i
       (λ k. in_left (visit context s) (visit_all context ss) w (visited context s v w k j))
       (λ k. in_right (visit context s) (visit_all context ss) w (visited_all context ss v w k j))
-
--- the number of a member of a list
-pub number_in : {A : Type 0} (xs : List A) (x : A) → In xs x → (n : ℕ) × (slice_get xs n ≡ Some x)
-number_in [] x i = absurd i
-number_in (y ∷ ys) x (inl e) = (0, ap Some e)
-number_in (y ∷ ys) x (inr i) = let r = number_in ys x i in (suc r.0, r.1)

@@ -1,5 +1,5 @@
 -- Which kinds of bytes exclude or include each other.
-use Rattle.std.proofs.Common.{◌≡◌, ◌≢◌, ℕ, ◌<◌, ◌≤◌, ◌==◌, Bool, true, false, ◌||◌, refl, arith}
+use Rattle.std.proofs.Common.{◌≡◌, ◌≢◌, ℕ, ◌<◌, ◌≤◌, ◌==◌, true, false, arith}
 use Rattle.std.proofs.lemmas.Bool.Decides.{nat_tests}
 use Rattle.cx_lex.specs.Bytes.{is_blank, is_name_start, is_digit, is_name_byte, goes_on, is_in_line, is_in_string, is_digit_in}
 
@@ -36,11 +36,6 @@ no_tick b h = grind (arith, nat_tests)
 
 pub no_quote_at_end : (b : ℕ) → is_in_line b ≡ false → (b == 34) ≡ false
 no_quote_at_end b h = grind (arith, nat_tests)
-
-pub none_goes_on : (a b c : Bool) → (a || b || c) ≡ false → (a ≡ false) × (b ≡ false) × (c ≡ false)
-none_goes_on true b c e = absurd (cc)
-none_goes_on false true c e = absurd (cc)
-none_goes_on false false c e = (refl, refl, e)
 
 pub some_of_zero : (n : ℕ) → (n == 0) ≡ false → 0 < n
 some_of_zero n h = grind (arith, nat_tests)

@@ -1,19 +1,20 @@
 -- The first limit that a scan finds is the first break.
 use Rattle.std.proofs.Common.{◌≡◌, ℕ, ◌<◌, nat_eq, nat_lt, Bool, true, false, ◌||◌, ◌&&◌, inl, inr, ◌⊎◌, List, [], ◌∷◌, ◌++◌, Option, Some, None, refl, sym, ap, ◌∙◌, subst, arith, if◌then◌else◌}
 use Rattle.std.proofs.Common.{append_assoc}
-use Rattle.std.proofs.lemmas.Bool.{ltb-true, lt-ltb, eq-eqb, eqb-true}
+use Rattle.std.proofs.lemmas.Bool.{ltb-true, lt-ltb, eq-eqb, eqb-true, false_from_ne_true}
 use Rattle.std.proofs.lemmas.List.{append-nil}
 use Rattle.cx_text.specs.declared.places.Place.{Place}
 use Rattle.cx_text.specs.declared.rules.Rule.TheVariants as told_rules
 use Rattle.cx_meaning.specs.Sights.{In}
-use Rattle.cx_rules.proofs.Finite.{in_left, in_right}
-use Rattle.cx_rules.proofs.KeyOrder.{before_irreflexive, before_cases, before_less, before_equal, before_transitive, not_true}
+use Rattle.cx_rules.proofs.KeyOrder.{before_irreflexive, before_cases, before_less, before_equal, before_transitive}
 use Rattle.cx_rules.specs.Accepted.{part_key, key_of, comes_before}
 use Rattle.cx_rules.specs.Spots.{Spot}
+use Rattle.cx_design_sizes.proofs.Places.{in_snoc}
 use Rattle.cx_limits.specs.declared.found.Limited.{Limited}
 use Rattle.cx_limits.specs.declared.found.FoundBreak.{FoundBreak}
 use Rattle.cx_limits.specs.Scan.{stands_before, noted}
-use Rattle.cx_limits.proofs.Places.{in_snoc, none_is_some}
+use Rattle.cx_meaning.proofs.SightsLaws.{in_left, in_right}
+use Rattle.cx_text.proofs.OptionLaws.{none_is_some}
 
 -- a thing that is looked at: its spot, its place, and the limit that it exceeds, if it exceeds one
 pub record Test : Type 0 where
@@ -101,13 +102,13 @@ best_next seen x best later is_best = by best x.limited refl is_best
 
     over_taken : (f : FoundBreak) (t : Test) → IsBestAt seen f t → stands_before x.place t.place ≡ true → (s : Test) (l : Limited) → s.limited ≡ Some l → In seen s ⊎ (x ≡ s) → comes_before (limit_key s.spot s.place) (limit_key x.spot x.place) ≡ false
     over_taken f t b st s l e (inr same) = subst (λ u. comes_before (limit_key u.spot u.place) (limit_key x.spot x.place) ≡ false) same (before_irreflexive (limit_key x.spot x.place))
-    over_taken f t b st s l e (inl i) = not_true (comes_before (limit_key s.spot s.place) (limit_key x.spot x.place)) (λ h.
+    over_taken f t b st s l e (inl i) = false_from_ne_true (comes_before (limit_key s.spot s.place) (limit_key x.spot x.place)) (λ h.
         let k : comes_before (limit_key s.spot s.place) (limit_key t.spot t.place) ≡ true = before_transitive (limit_key s.spot s.place) (limit_key x.spot x.place) (limit_key t.spot t.place) h (by_place x.spot t.spot x.place t.place st) in
         let n : comes_before (limit_key s.spot s.place) (limit_key t.spot t.place) ≡ false = b.first s l i e in
         let g : false ≡ true = sym n ∙ k in cc)
 
     behind : (t : Test) → In seen t → stands_before x.place t.place ≡ false → comes_before (limit_key x.spot x.place) (limit_key t.spot t.place) ≡ false
-    behind t i st = not_true (comes_before (limit_key x.spot x.place) (limit_key t.spot t.place)) (λ h. either (by_either x.spot t.spot x.place t.place h))
+    behind t i st = false_from_ne_true (comes_before (limit_key x.spot x.place) (limit_key t.spot t.place)) (λ h. either (by_either x.spot t.spot x.place t.place h))
       where
         either : (stands_before x.place t.place ≡ true) ⊎ (comes_before (spot_key x.spot) (spot_key t.spot) ≡ true) → ⊥
         either (inl e) = let g : false ≡ true = sym st ∙ e in cc

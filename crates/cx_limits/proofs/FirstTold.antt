@@ -4,10 +4,10 @@ use Rattle.cx_meaning.specs.Designs.{PlainDesign}
 use Rattle.cx_meaning.specs.Instances.{tree_of}
 use Rattle.cx_design.specs.declared.refusals.Refusal.{Refusal}
 use Rattle.cx_design.specs.declared.refusals.Refusal.TheVariants.{Rule, Memory}
+use Rattle.cx_design_sizes.specs.Tallies.{tally_of}
 use Rattle.cx_limits.specs.declared.found.FoundBreak.{FoundBreak}
 use Rattle.cx_limits.specs.First.{IsFirstBreak, TellsFound}
 use Rattle.cx_limits.specs.Scan.{past_parts}
-use Rattle.cx_limits.specs.Tallies.{tally_of}
 use Rattle.cx_limits.proofs.LimitBreaks.{first_found}
 
 pub told_first : (d : PlainDesign) → d.main < length d.components → (found : FoundBreak) (answer : Refusal) → past_parts d.main (tally_of (tree_of d)) None 0 d.components ≡ Some found

@@ -1,11 +1,4 @@
 pub mod ScanLemmas
-pub mod StepLemmas
-pub mod WayLemmas
-pub mod Caps
-pub mod Places
-pub mod WordLemmas
-pub mod OrderLemmas
-pub mod TallyLemmas
 pub mod FirstLimit
 pub mod LimitBreaks
 pub mod FirstTold

@@ -1,7 +1,7 @@
 -- What a scan looks at, and the breaks of the limits, are the same.
 use Rattle.std.proofs.Common.{◌≡◌, ℕ, zero, suc, ◌+◌, ◌-◌, ◌^◌, ◌<◌, ◌≤◌, nat_eq, nat_lt, Bool, true, false, inl, inr, ◌⊎◌, List, [], ◌∷◌, ◌++◌, length, Option, Some, None, option_map, refl, sym, ap, ◌∙◌, subst, arith, if◌then◌else◌}
 use Rattle.std.specs.List.{slice_get}
-use Rattle.std.proofs.lemmas.Bool.{ltb-true, lt-ltb, eq-eqb, eqb-true}
+use Rattle.std.proofs.lemmas.Bool.{ltb-true, lt-ltb, eq-eqb, eqb-true, false_from_ne_true}
 use Rattle.std.proofs.lemmas.Option.{get_or_from_slice_get, slice_get-get_or}
 use Rattle.cx_text.specs.declared.places.Place.{Place}
 use Rattle.cx_text.specs.declared.diagnostics.Diagnostic.{Diagnostic}
@@ -9,9 +9,8 @@ use Rattle.cx_text.specs.declared.rules.Rule.{Rule}
 use Rattle.cx_text.specs.declared.rules.Rule.TheVariants as told_rules
 use Rattle.cx_text.specs.declared.limits.TheConstants.{CELLS, GROUPS, INSTANCES, INSTANCE_DEPTH, MEMORY_WORDS, WEIGHT}
 use Rattle.cx_meaning.specs.Designs.{PlainComponent, PlainDesign, component_at, no_component}
-use Rattle.cx_meaning.specs.Instances.{part_of, tree_within, tree_of}
+use Rattle.cx_meaning.specs.Instances.{part_of, tree_of}
 use Rattle.cx_meaning.specs.Sights.{In}
-use Rattle.cx_rules.proofs.Finite.{in_left, in_right}
 use Rattle.cx_rules.specs.Accepted.{Breaks, stage_of, part_key, key_of, comes_before, KeepsStage, IsFirstOf}
 use Rattle.cx_rules.specs.Items.{Visited, statements_in}
 use Rattle.cx_rules.specs.LimitRule as rule
@@ -19,16 +18,19 @@ use Rattle.cx_rules.specs.LimitRule.{OnCells, OnGroups, OnRepeat, OnOccurrences,
 use Rattle.cx_rules.specs.Ports.{component_of}
 use Rattle.cx_rules.specs.Sizes.{weight_of, instances_below, depth_below, words_below}
 use Rattle.cx_rules.specs.Spots.{Part, Itself, AStatement, Whole, Spot, OnStatement}
-use Rattle.cx_limits.specs.Capped.{capped}
+use Rattle.cx_design_sizes.specs.Capped.{capped}
+use Rattle.cx_design_sizes.specs.declared.tallies.LimitTally.{LimitTally}
+use Rattle.cx_design_sizes.specs.Tallies.{tally_of}
 use Rattle.cx_limits.specs.declared.found.Limited.{Limited}
 use Rattle.cx_limits.specs.declared.found.Limited.TheVariants as limited
 use Rattle.cx_limits.specs.declared.found.FoundBreak.{FoundBreak}
-use Rattle.cx_limits.specs.declared.tallies.LimitTally.{LimitTally}
 use Rattle.cx_limits.specs.Scan.{told, limited_of, noted, past_statements, if_over, past_part, past_tree, past_parts}
-use Rattle.cx_limits.specs.Tallies.{tally_of}
-use Rattle.cx_limits.proofs.Places.{none_is_some, below_length, in_split}
-use Rattle.cx_rules.proofs.KeyOrder.{before_cases, not_true}
+use Rattle.cx_rules.proofs.KeyOrder.{before_cases}
 use Rattle.cx_limits.proofs.FirstLimit.{Test, spot_key, past_tests, IsAscending, limit_key, IsBest, best_of}
+use Rattle.cx_meaning.proofs.DesignsLemmas.{same_part}
+use Rattle.cx_meaning.proofs.SightsLaws.{in_left, in_right, in_either}
+use Rattle.cx_text.proofs.OptionLaws.{none_is_some}
+use Rattle.cx_text.proofs.ListLaws.{there_below}
 
 -- THE TESTS, in the order in which a scan makes them
 abbrev at_statement : PlainComponent → ℕ → ℕ → Visited → Test
@@ -63,12 +65,12 @@ part_tests main tally k part = own_tests k part ++ lower_tests (nat_eq k main) t
 -- a test of a component is of one of the three
 of_three : (is_main : Bool) (tally : LimitTally) (k : ℕ) (part : PlainComponent) (t : Test) → In (own_tests k part ++ lower_tests is_main tally k part) t
     → In (own_tests k part) t ⊎ In (statement_tests part k 0 (statements_in part)) t ⊎ In (main_tests is_main tally k part.place) t
-of_three is_main tally k part t i = either (in_split (own_tests k part) (lower_tests is_main tally k part) t i)
+of_three is_main tally k part t i = either (in_either (own_tests k part) (lower_tests is_main tally k part) t i)
   where
     either : In (own_tests k part) t ⊎ In (lower_tests is_main tally k part) t
         → In (own_tests k part) t ⊎ In (statement_tests part k 0 (statements_in part)) t ⊎ In (main_tests is_main tally k part.place) t
     either (inl j) = inl j
-    either (inr j) = inr (in_split (statement_tests part k 0 (statements_in part)) (main_tests is_main tally k part.place) t j)
+    either (inr j) = inr (in_either (statement_tests part k 0 (statements_in part)) (main_tests is_main tally k part.place) t j)
 
 abbrev tests_from : ℕ → LimitTally → ℕ → List PlainComponent → List Test
 tests_from main tally k [] = []
@@ -106,7 +108,7 @@ past_all main tally k (part ∷ parts) best =
 
 -- THE ORDER of the tests is that of their spots
 no_less : (x y : ℕ) (xs ys : List ℕ) → y ≤ x → (x ≡ y → comes_before xs ys ≡ false) → comes_before (x ∷ xs) (y ∷ ys) ≡ false
-no_less x y xs ys le h = not_true (comes_before (x ∷ xs) (y ∷ ys)) (λ e. either (before_cases x y xs ys e))
+no_less x y xs ys le h = false_from_ne_true (comes_before (x ∷ xs) (y ∷ ys)) (λ e. either (before_cases x y xs ys e))
   where
     either : (x < y) ⊎ ((x ≡ y) × (comes_before xs ys ≡ true)) → ⊥
     either (inl lt) = omega arith
@@ -153,7 +155,7 @@ mains_rise false tally k place = tt
 
 ascending_append : (xs ys : List Test) → IsAscending xs → IsAscending ys → ((s t : Test) → In xs s → In ys t → comes_before (spot_key t.spot) (spot_key s.spot) ≡ false) → IsAscending (xs ++ ys)
 ascending_append [] ys a b h = b
-ascending_append (x ∷ xs) ys (above, a) b h = ((λ s i. either s (in_split xs ys s i)), ascending_append xs ys a b (λ s t i j. h s t (inr i) j))
+ascending_append (x ∷ xs) ys (above, a) b h = ((λ s i. either s (in_either xs ys s i)), ascending_append xs ys a b (λ s t i j. h s t (inr i) j))
   where
     either : (s : Test) → In xs s ⊎ In ys s → comes_before (spot_key s.spot) (spot_key x.spot) ≡ false
     either s (inl i) = above s i
@@ -175,7 +177,7 @@ part_ascends main tally k part =
     ascending_append own (lower_tests (nat_eq k main) tally k part) (rising_ascends Itself 0 (λ m. refl) k 0 own own_up)
     (ascending_append statements mains (rising_ascends AStatement 2 (λ m. refl) k 0 statements statements_up) (rising_ascends Whole 4 (λ m. refl) k 0 mains mains_up)
     (kinds_apart AStatement Whole 2 4 (λ m. refl) (λ m. refl) (omega arith) k statements mains statements_up mains_up))
-    (λ s t i j. either s t i (in_split statements mains t j))
+    (λ s t i j. either s t i (in_either statements mains t j))
   where
     own : List Test
     own = own_tests k part
@@ -212,7 +214,7 @@ part_component main tally k part t i = either (of_three (nat_eq k main) tally k 
 
 from_component : (main : ℕ) (tally : LimitTally) (k : ℕ) (parts : List PlainComponent) (t : Test) → In (tests_from main tally k parts) t → k ≤ t.spot.component
 from_component main tally k [] t i = absurd i
-from_component main tally k (part ∷ parts) t i = either (in_split (part_tests main tally k part) (tests_from main tally (suc k) parts) t i) (from_component main tally (suc k) parts t)
+from_component main tally k (part ∷ parts) t i = either (in_either (part_tests main tally k part) (tests_from main tally (suc k) parts) t i) (from_component main tally (suc k) parts t)
   where
     either : In (part_tests main tally k part) t ⊎ In (tests_from main tally (suc k) parts) t → (In (tests_from main tally (suc k) parts) t → suc k ≤ t.spot.component) → k ≤ t.spot.component
     either (inl j) h = let e : t.spot.component ≡ k = part_component main tally k part t j in omega arith
@@ -273,7 +275,7 @@ statement_tested part k n (suc m) (w ∷ vs) v e =
 from_part : (main : ℕ) (tally : LimitTally) (k : ℕ) (parts : List PlainComponent) (t : Test) → In (tests_from main tally k parts) t
     → (n : ℕ) × (part : PlainComponent) × (slice_get parts n ≡ Some part) × In (part_tests main tally (k + n) part) t
 from_part main tally k [] t i = absurd i
-from_part main tally k (part ∷ parts) t i = either (in_split (part_tests main tally k part) (tests_from main tally (suc k) parts) t i) (from_part main tally (suc k) parts t)
+from_part main tally k (part ∷ parts) t i = either (in_either (part_tests main tally k part) (tests_from main tally (suc k) parts) t i) (from_part main tally (suc k) parts t)
   where
     Goal : Type 0
     Goal = (n : ℕ) × (p : PlainComponent) × (slice_get (part ∷ parts) n ≡ Some p) × In (part_tests main tally (k + n) p) t
@@ -293,10 +295,6 @@ from_tested main tally k zero (p ∷ parts) part t e i =
 from_tested main tally k (suc n) (p ∷ parts) part t e i =
     in_right (part_tests main tally k p) (tests_from main tally (suc k) parts) t
     (from_tested main tally (suc k) n parts part t e (subst (λ x. In (part_tests main tally x part) t) (let z : k + suc n ≡ suc k + n = omega arith in z) i))
-
-same_part : (d : PlainDesign) (n k : ℕ) → part_of (tree_within d n k) ≡ component_at d k
-same_part d zero k = refl
-same_part d (suc n) k = refl
 
 module _ (d : PlainDesign) where
   abbrev tree : LimitTally
@@ -324,7 +322,7 @@ module _ (d : PlainDesign) where
       let own : part ≡ part_of (component_of d n) = sym (at_component n part at) ∙ sym (same_part d (length d.components) n) in
       subst (λ u. Breaks d told_rules.Limit u.spot u.place (word_of (limited_of f))) same
       (inr (inr (inl (record {
-        within = below_length d.components n part at;
+        within = there_below d.components n part at;
         number = q.0;
         is = refl;
         statement = q.1;
@@ -359,7 +357,7 @@ module _ (d : PlainDesign) where
       let own : part ≡ component_at d n = sym (at_component n part at) in
       subst (λ u. Breaks d told_rules.Limit u.spot u.place (word_of (limited_of f))) same
       (inl (record {
-        within = below_length d.components n part at;
+        within = there_below d.components n part at;
         is = refl;
         exceeds = subst (λ p. CELLS < length p.cells) own r.0;
         tells = (ap (λ p. p.place) own, word_is OnCells f r.1);
@@ -369,7 +367,7 @@ module _ (d : PlainDesign) where
       let own : part ≡ component_at d n = sym (at_component n part at) in
       subst (λ u. Breaks d told_rules.Limit u.spot u.place (word_of (limited_of f))) same
       (inr (inl (record {
-        within = below_length d.components n part at;
+        within = there_below d.components n part at;
         is = refl;
         exceeds = subst (λ p. GROUPS < length p.groups) own r.0;
         tells = (ap (λ p. p.place) own, word_is OnGroups f r.1);

@@ -1,19 +1,15 @@
 -- A scan for the first limit that is exceeded: by place, and at one place what is looked at first.
-use Rattle.std.specs.Prelude.{ℕ, suc, ◌+◌, nat_eq, nat_lt, Bool, ◌&&◌, ◌||◌, List, [], ◌∷◌, Option, Some, None, option_map, length, if◌then◌else◌}
+use Rattle.std.specs.Prelude.{ℕ, suc, nat_eq, nat_lt, Bool, ◌&&◌, ◌||◌, List, [], ◌∷◌, Option, Some, None, option_map, length, if◌then◌else◌}
 use Rattle.cx_text.specs.declared.places.Place.{Place}
 use Rattle.cx_text.specs.declared.limits.TheConstants.{CELLS, GROUPS, INSTANCES, INSTANCE_DEPTH, MEMORY_WORDS, WEIGHT}
-use Rattle.cx_meaning.specs.Designs.{PlainComponent, PlainStatement, Placed}
-use Rattle.cx_rules.specs.Items as items
+use Rattle.cx_meaning.specs.Designs.{PlainComponent}
 use Rattle.cx_rules.specs.Items.{Visited, statements_in}
 use Rattle.cx_rules.specs.LimitRule as rule
 use Rattle.cx_rules.specs.LimitRule.{OnCells, OnGroups, OnRepeat, OnOccurrences, OnLatency, OnInstances, OnDepth, OnWords, OnWeight, statement_limit}
-use Rattle.cx_rules.specs.StaticControl.{is_island, island_occurrences, occurrences_of}
-use Rattle.cx_limits.specs.declared.tallies.LimitTally.{LimitTally}
+use Rattle.cx_design_sizes.specs.declared.tallies.LimitTally.{LimitTally}
 use Rattle.cx_limits.specs.declared.found.Limited.{Limited}
 use Rattle.cx_limits.specs.declared.found.Limited.TheVariants as limited
 use Rattle.cx_limits.specs.declared.found.FoundBreak.{FoundBreak}
-use Rattle.cx_limits.specs.declared.context.LimitContext.{LimitContext}
-use Rattle.cx_limits.specs.declared.context.LimitContext.TheVariants as contexts
 
 abbrev pub told : rule.Limited → Limited
 told OnCells = limited.Cells
@@ -25,12 +21,6 @@ told OnInstances = limited.Instances
 told OnDepth = limited.Depth
 told OnWords = limited.Words
 told OnWeight = limited.Weight
-
-abbrev pub context_of : LimitContext → items.Context
-context_of contexts.Dynamic = items.Dynamic
-context_of contexts.InStatic = items.InStatic
-context_of contexts.Branch = items.Branch
-context_of contexts.Amiss = items.Amiss
 
 -- a stands before b in the text
 abbrev pub stands_before : Place → Place → Bool
@@ -49,14 +39,6 @@ noted best place (Some l) = Some (nearer best (record { place = place; limited =
 abbrev pub past_statements : PlainComponent → Option FoundBreak → List Visited → Option FoundBreak
 past_statements part best [] = best
 past_statements part best (v ∷ vs) = past_statements part (noted best v.place (option_map told (statement_limit part v))) vs
-
--- the occurrences of a statement that is an island
-abbrev pub occurrences_at : PlainComponent → items.Context → PlainStatement → ℕ
-occurrences_at part context (Placed form place) = island_occurrences part (is_island part (record { context = context; form = form; place = place })) form
-
--- statements, with the occurrences of those that are islands
-abbrev pub statements_size : PlainComponent → List Visited → ℕ
-statements_size part vs = length vs + occurrences_of part vs
 
 -- what is told of a limit
 abbrev pub limited_of : Limited → rule.Limited

@@ -5,14 +5,14 @@ ghost use Rattle.cx_meaning.specs.Instances.{tree_of};
 ghost use Rattle.cx_rules.specs.Accepted.{KeepsStage};
 ghost use Rattle.cx_design.specs.PlainForms.{plain_component};
 ghost use Rattle.cx_design.specs.PlainDesigns.{plain_design};
+ghost use Rattle.cx_design_sizes.specs.Tallies.{tally_of};
 ghost use Rattle.cx_limits.specs.First.{IsFirstBreak, TellsFound};
 ghost use Rattle.cx_limits.specs.Scan as scan;
-ghost use Rattle.cx_limits.specs.Tallies.{tally_of};
 
 use crate::found::{FoundBreak, Limited, noted};
 use crate::statements::past_control;
-use crate::tallies::{LimitTally, tree_tally};
 use cx_design::{Component, Design, Refusal};
+use cx_design_sizes::{LimitTally, tree_tally};
 use cx_text::{
     CELLS, Diagnostic, GROUPS, INSTANCE_DEPTH, INSTANCES, MEMORY_WORDS, Memory, Name, Place, Rule,
     WEIGHT,

@@ -5,12 +5,12 @@ ghost use Rattle.cx_meaning.specs.Designs.{form_of, place_of};
 ghost use Rattle.cx_design.specs.PlainForms.{plain_component, plain_form, plain_statement, plain_statements};
 ghost use Rattle.cx_rules.specs.Items.{visit, visit_parts, visit_all, statements_in};
 ghost use Rattle.cx_rules.specs.LimitRule as rule;
-ghost use Rattle.cx_limits.specs.Scan.{context_of, told, past_statements};
+ghost use Rattle.cx_design_sizes.specs.StatementSizes.{context_of};
+ghost use Rattle.cx_limits.specs.Scan.{told, past_statements};
 
-use crate::context::{LimitContext, below_dynamic};
 use crate::found::{FoundBreak, Limited, noted};
-use crate::islands::{form_length, form_occurrences, is_island_form};
 use cx_design::{Component, Form, Statement};
+use cx_design_sizes::{LimitContext, below_dynamic, form_length, form_occurrences, is_island_form};
 use cx_text::{OCCURRENCES, REPETITIONS};
 
 /// The count of a repeat or a static repeat.

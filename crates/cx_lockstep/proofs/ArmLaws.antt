@@ -6,6 +6,8 @@ use Rattle.cx_meaning.specs.Answers as answers
 use Rattle.cx_lockstep.specs.Worlds.{Store, World, Control, At, Done, Machine, edge_of, edge, writes, Agree}
 use Rattle.cx_lockstep.specs.Doing.{Settles, After, EndsAs, GoesOn, Meets, Does}
 use Rattle.cx_lockstep.specs.Machines.{join, left_of, right_of, first_some, par_machine}
+use Rattle.std.proofs.lemmas.Bool.{false_from_ne_true, or_from}
+use Rattle.cx_text.proofs.BoolLaws.{or_either, by_test, pick_false}
 
 pub first_none : {A : Type 0} (o : Option A) → first_some o None ≡ o
 first_none None = refl
@@ -22,31 +24,9 @@ or_right true b e = absurd (truth e)
     truth e = cc
 or_right false b e = e
 
-or_neither : (a b : Bool) → a ≡ false → b ≡ false → (a || b) ≡ false
-or_neither a b e f = ap (λ x. x || b) e ∙ f
-
-pub or_either : (a b : Bool) → (a || b) ≡ true → (a ≡ true) ⊎ (b ≡ true)
-or_either true b e = inl refl
-or_either false b e = inr e
-
-pub no_true : (b : Bool) → (b ≡ true → ⊥) → b ≡ false
-no_true true h = absurd (h refl)
-no_true false h = refl
-
-pub true_false : (b : Bool) → b ≡ true → b ≡ false → ⊥
-true_false b e f = cc
-
 pick : {A : Type 0} (b : Bool) (x y s : A) → (b ≡ true → s ≡ x) → (b ≡ false → s ≡ y) → s ≡ (if b then x else y)
 pick true x y s f g = f refl
 pick false x y s f g = g refl
-
-pick_as : {A : Type 0} (P : A → Type 0) (b : Bool) (x y : A) → (b ≡ true → P x) → (b ≡ false → P y) → P (if b then x else y)
-pick_as P true x y f g = f refl
-pick_as P false x y f g = g refl
-
-choose_false : {A : Type 0} (b : Bool) (x y : A) → b ≡ false → (if b then x else y) ≡ y
-choose_false true x y e = absurd (true_false true refl e)
-choose_false false x y e = refl
 
 module _ {X : Type 0} {V : X → Type 0} {E S : Type 0} (W : World X V E S) (Rests : (x : X) → V x → Type 0) (quiet : (x : X) (v : V x) → Rests x v → W.idle x v ≡ v) where
   module _ (M : Machine X V) (R : X → Type 0) where
@@ -84,7 +64,7 @@ module _ {X : Type 0} {V : X → Type 0} {E S : Type 0} (W : World X V E S) (Res
     Right x = R x × (DA x ≡ false)
 
     left_free : (x : X) → DA x ≡ true → DB x ≡ false
-    left_free x e = no_true (DB x) (λ f. ba x f (a.sees x e))
+    left_free x e = false_from_ne_true (DB x) (λ f. ba x f (a.sees x e))
 
     left_only : (p : Control A.Place) (w : Store X V) (x : X) → DA x ≡ false → writes A p w x ≡ None
     left_only (At c) w x e = a.only c w x e
@@ -112,10 +92,10 @@ module _ {X : Type 0} {V : X → Type 0} {E S : Type 0} (W : World X V E S) (Res
     left_after P Q h (suc k) Done q u1 u2 s h1 h2 e cl = absurd e
     left_after P Q h (suc k) (At c) (At d) u1 u2 s h1 h2 e cl =
         λ w i. let l = e w (λ x j. i x j.0 ∙ h1 x j) in let r = cl w (λ x j. i x j.0 ∙ h2 x j) in
-        (or_neither (A.faults c w) (B.faults d w) l.0 r.0, left_after P Q h k (A.step c w) (B.step d w) (edge W.idle A (At c) w) (edge W.idle B (At d) w) (edge W.idle M (join (At c) (At d)) w) (left_edge (At c) (At d) w) (right_edge (At c) (At d) w) l.1 r.1)
+        (or_from (A.faults c w) (B.faults d w) l.0 r.0, left_after P Q h k (A.step c w) (B.step d w) (edge W.idle A (At c) w) (edge W.idle B (At d) w) (edge W.idle M (join (At c) (At d)) w) (left_edge (At c) (At d) w) (right_edge (At c) (At d) w) l.1 r.1)
     left_after P Q h (suc k) (At c) Done u1 u2 s h1 h2 e cl =
         λ w i. let l = e w (λ x j. i x j.0 ∙ h1 x j) in
-        (or_neither (A.faults c w) false l.0 refl, left_after P Q h k (A.step c w) Done (edge W.idle A (At c) w) (edge W.idle B Done w) (edge W.idle M (join (At c) Done) w) (left_edge (At c) Done w) (right_edge (At c) Done w) l.1 (clean_done B Right k (edge W.idle B Done w)))
+        (or_from (A.faults c w) false l.0 refl, left_after P Q h k (A.step c w) Done (edge W.idle A (At c) w) (edge W.idle B Done w) (edge W.idle M (join (At c) Done) w) (left_edge (At c) Done w) (right_edge (At c) Done w) l.1 (clean_done B Right k (edge W.idle B Done w)))
 
     right_after : (P : Control B.Place → Store X V → Type 0) (Q : Control M.Place → Store X V → Type 0) → ((p : Control A.Place) (q : Control B.Place) (u s : Store X V) → Agree Right s u → P q u → Q (join p q) s)
         → (k : ℕ) (p : Control A.Place) (q : Control B.Place) (u1 u2 s : Store X V) → Agree Left s u1 → Agree Right s u2 → Clean A Left k p u1 → After W Rests B Right k P q u2 → After W Rests M R k Q (join p q) s
@@ -123,7 +103,7 @@ module _ {X : Type 0} {V : X → Type 0} {E S : Type 0} (W : World X V E S) (Res
     right_after P Q h (suc k) p Done u1 u2 s h1 h2 cl e = absurd e
     right_after P Q h (suc k) (At c) (At d) u1 u2 s h1 h2 cl e =
         λ w i. let l = cl w (λ x j. i x j.0 ∙ h1 x j) in let r = e w (λ x j. i x j.0 ∙ h2 x j) in
-        (or_neither (A.faults c w) (B.faults d w) l.0 r.0, right_after P Q h k (A.step c w) (B.step d w) (edge W.idle A (At c) w) (edge W.idle B (At d) w) (edge W.idle M (join (At c) (At d)) w) (left_edge (At c) (At d) w) (right_edge (At c) (At d) w) l.1 r.1)
+        (or_from (A.faults c w) (B.faults d w) l.0 r.0, right_after P Q h k (A.step c w) (B.step d w) (edge W.idle A (At c) w) (edge W.idle B (At d) w) (edge W.idle M (join (At c) (At d)) w) (left_edge (At c) (At d) w) (right_edge (At c) (At d) w) l.1 r.1)
     right_after P Q h (suc k) Done (At d) u1 u2 s h1 h2 cl e =
         λ w i. let r = e w (λ x j. i x j.0 ∙ h2 x j) in
         (r.0, right_after P Q h k Done (B.step d w) (edge W.idle A Done w) (edge W.idle B (At d) w) (edge W.idle M (join Done (At d)) w) (left_edge Done (At d) w) (right_edge Done (At d) w) (clean_done A Left k (edge W.idle A Done w)) r.1)
@@ -163,7 +143,7 @@ module _ {X : Type 0} {V : X → Type 0} {E S : Type 0} (W : World X V E S) (Res
           let m : suc (max t 0) ≡ max (suc t) 0 = omega arith in
           subst (λ n. Ends n (At c) Done s) m
           (λ w g. let l = e1 w (λ x j. g x j.0 ∙ h1 x j) in (
-            or_neither (A.faults c w) false l.0 refl,
+            or_from (A.faults c w) false l.0 refl,
             ends_both t zero (A.step c w) Done (edge W.idle A (At c) w) (W.shown e s2) (edge W.idle M (join (At c) Done) w)
                 (left_edge (At c) Done w)
                 (λ x i. right_edge (At c) Done w x i ∙ ap (W.idle x) (g x i.0 ∙ h2 x i ∙ e2 x i) ∙ quiet x (W.shown e s2 x) (st2 x i))
@@ -173,7 +153,7 @@ module _ {X : Type 0} {V : X → Type 0} {E S : Type 0} (W : World X V E S) (Res
           let m : suc (max t v) ≡ max (suc t) (suc v) = omega arith in
           subst (λ n. Ends n (At c) (At d) s) m
           (λ w g. let l = e1 w (λ x j. g x j.0 ∙ h1 x j) in let r = e2 w (λ x j. g x j.0 ∙ h2 x j) in (
-            or_neither (A.faults c w) (B.faults d w) l.0 r.0,
+            or_from (A.faults c w) (B.faults d w) l.0 r.0,
             ends_both t v (A.step c w) (B.step d w) (edge W.idle A (At c) w) (edge W.idle B (At d) w) (edge W.idle M (join (At c) (At d)) w)
                 (left_edge (At c) (At d) w) (right_edge (At c) (At d) w) l.1 r.1,
           ))
@@ -182,8 +162,8 @@ module _ {X : Type 0} {V : X → Type 0} {E S : Type 0} (W : World X V E S) (Res
       par_meets : (o1 o2 : Answer S F) → Meets W Rests A Left e DA A.start s n o1 → Meets W Rests B Right e DB B.start s n o2 → Meets W Rests M R e D (join A.start B.start) s n (both (merged e) o1 o2)
       par_meets (End s1 t) (End s2 v) p q = record {
         in_budget = (let l1 : t ≤ n = p.in_budget in let l2 : v ≤ n = q.in_budget in omega arith);
-        keeps = λ x i f. mix e s1 s2 x ∙ choose_false (DA x) _ _ (or_left (DA x) (DB x) (d x f)) ∙ q.keeps x (i, or_left (DA x) (DB x) (d x f)) (or_right (DA x) (DB x) (d x f));
-        settled = λ x i. subst (Rests x) (sym (mix e s1 s2 x)) (pick_as (Rests x) (DA x) (W.shown e s1 x) (W.shown e s2 x) (λ f. p.settled x (i, left_free x f)) (λ f. q.settled x (i, f)));
+        keeps = λ x i f. mix e s1 s2 x ∙ pick_false (DA x) _ _ (or_left (DA x) (DB x) (d x f)) ∙ q.keeps x (i, or_left (DA x) (DB x) (d x f)) (or_right (DA x) (DB x) (d x f));
+        settled = λ x i. subst (Rests x) (sym (mix e s1 s2 x)) (by_test (Rests x) (DA x) (W.shown e s1 x) (W.shown e s2 x) (λ f. p.settled x (i, left_free x f)) (λ f. q.settled x (i, f)));
         ends = ends_both e s1 s2 p.settled q.settled t v A.start B.start s s s (λ x i. refl) (λ x i. refl) p.ends q.ends;
       }
       par_meets (End s1 t) (answers.Fault g v) p q = tt
@@ -209,8 +189,8 @@ module _ {X : Type 0} {V : X → Type 0} {E S : Type 0} (W : World X V E S) (Res
         ∙ ap (λ o. first_some o None) (left_only A B DA DB RA RB mA mB a b ab ba merged mix (λ y. Unit {0}) (left_of c) w x (or_left (DA x) (DB x) f));
     does = λ R D r d e s n st.
         par_meets A B DA DB RA RB mA mB a b ab ba merged mix R D d e (W.shown e s) n (mA e s n) (mB e s n)
-        (a.does (λ x. R x × (DB x ≡ false)) DA (λ x i. (r x (inl i), no_true (DB x) (λ h. ba x h i))) (λ x f. f) e s n (λ x i. st x i.0))
-        (b.does (λ x. R x × (DA x ≡ false)) DB (λ x i. (r x (inr i), no_true (DA x) (λ h. ab x h i))) (λ x f. f) e s n (λ x i. st x i.0));
+        (a.does (λ x. R x × (DB x ≡ false)) DA (λ x i. (r x (inl i), false_from_ne_true (DB x) (λ h. ba x h i))) (λ x f. f) e s n (λ x i. st x i.0))
+        (b.does (λ x. R x × (DA x ≡ false)) DB (λ x i. (r x (inr i), false_from_ne_true (DA x) (λ h. ab x h i))) (λ x f. f) e s n (λ x i. st x i.0));
   }
     where
       seen : (x : X) → (DA x ≡ true) ⊎ (DB x ≡ true) → RA x ⊎ RB x

@@ -5,11 +5,8 @@ use Rattle.cx_lockstep.specs.Worlds.{Store, World, At, Done, Machine, Agree}
 use Rattle.cx_lockstep.specs.Doing.{Settles, Meets, Does, KeepsRest}
 use Rattle.cx_lockstep.specs.Machines.{within, idle_machine, done_machine, InSeq, First, Second, second_start, seq_machine, InIf, AtTest, InThen, InElse, if_machine, InWhile, AtHead, InBody, while_machine, in_round, next_round, repeat_machine, by_test, unclear}
 use Rattle.cx_lockstep.proofs.FollowLaws.{meets_then, meets_last, meets_done, still_settled, idle_cycle, meets_test}
-use Rattle.cx_lockstep.proofs.ArmLaws.{true_false}
-
-not_true : (b : Bool) → (b ≡ true → ⊥) → b ≡ false
-not_true true never = absurd (never refl)
-not_true false never = refl
+use Rattle.std.proofs.lemmas.Bool.{false_from_ne_true}
+use Rattle.cx_text.proofs.BoolLaws.{not_both}
 
 -- one idle turn
 module _ {X : Type 0} {V : X → Type 0} {E S : Type 0} (W : World X V E S) (Rests : (x : X) → V x → Type 0) (F : Type 0) (D : X → Bool) (reads : X → Type 0) (rest : E → S → S) (keeps : KeepsRest W Rests rest) where
@@ -37,7 +34,7 @@ module _ {X : Type 0} {V : X → Type 0} {E S : Type 0} (W : World X V E S) (Res
   }
     where
       free_too : (x : X) → D2 x ≡ false → D x ≡ false
-      free_too x free = not_true (D x) (λ driven. true_false (D2 x) (more_driven x driven) free)
+      free_too x free = false_from_ne_true (D x) (λ driven. not_both (D2 x) (more_driven x driven) free)
 
   module _ (D : X → Bool) (reads : X → Type 0) where
     -- one after another

@@ -8,24 +8,7 @@ use Rattle.cx_lockstep.specs.Machines.{within, First, Second, second_start, InPa
 use Rattle.cx_lockstep.specs.Statements.{LeafMachines, machine_of, parts_machine, arms_machine}
 use Rattle.cx_lockstep.proofs.ArmLaws.{or_left, or_right}
 use Rattle.cx_lockstep.specs.Running.{Running, AGroup, AnIsland, at_control, par_runs, leaf_faults, leaf_next, group_next, island_next, running, parts_run, arms_run}
-
-pub in_either : {A : Type 0} (xs ys : List A) (r : A) → In (xs ++ ys) r → In xs r ⊎ In ys r
-in_either [] ys r i = inr i
-in_either (x ∷ xs) ys r (inl e) = inl (inl e)
-in_either (x ∷ xs) ys r (inr i) = either (in_either xs ys r i)
-  where
-    either : In xs r ⊎ In ys r → In (x ∷ xs) r ⊎ In ys r
-    either (inl k) = inl (inr k)
-    either (inr k) = inr k
-
-pub in_left : {A : Type 0} (xs ys : List A) (r : A) → In xs r → In (xs ++ ys) r
-in_left [] ys r i = absurd i
-in_left (x ∷ xs) ys r (inl e) = inl e
-in_left (x ∷ xs) ys r (inr i) = inr (in_left xs ys r i)
-
-pub in_right : {A : Type 0} (xs ys : List A) (r : A) → In ys r → In (xs ++ ys) r
-in_right [] ys r i = i
-in_right (x ∷ xs) ys r i = inr (in_right xs ys r i)
+use Rattle.cx_meaning.proofs.SightsLaws.{in_either, in_left, in_right}
 
 module _ {X : Type 0} {V : X → Type 0} {F : Type 0} (P : LeafMachines X V F) where
   -- FAULTS: where the machine has none, no leaf that runs has one

@@ -8,7 +8,8 @@ use Rattle.cx_lockstep.specs.Doing.{Does}
 use Rattle.cx_lockstep.specs.Statements.{LeafMachines, machine_of, parts_machine, arms_machine}
 use Rattle.cx_lockstep.specs.Lawful.{IsPart, of_seq, of_par, then_branch, else_branch, of_while, of_repeat, enable, static_seq, static_par, static_if, static_repeat, any_drives, AnyReads, Apart, AreApart, AreLawful}
 use Rattle.cx_lockstep.proofs.PartLaws.{does_within, idle_does, done_does, seq_does, repeat_does, if_does, while_does}
-use Rattle.cx_lockstep.proofs.ArmLaws.{par_does, or_either}
+use Rattle.cx_lockstep.proofs.ArmLaws.{par_does}
+use Rattle.cx_text.proofs.BoolLaws.{or_either}
 
 module _ {X : Type 0} {V : X → Type 0} {E S F : Type 0} (W : World X V E S) (Rests : (x : X) → V x → Type 0) (L : E → Leaves S F) (P : LeafMachines X V F)
     (drives : PlainStatement → X → Bool) (reads : PlainStatement → X → Type 0) (Stands : PlainStatement → Type 0) (law : AreLawful W Rests L P drives reads Stands) where

@@ -9,9 +9,10 @@ use Rattle.cx_lockstep.specs.Machines.{First, Second, InPar, left_of, right_of, 
 use Rattle.cx_lockstep.specs.Statements.{LeafMachines, machine_of, parts_machine, arms_machine}
 use Rattle.cx_lockstep.specs.Doing.{Does}
 use Rattle.cx_lockstep.specs.Lawful.{IsPart, of_seq, of_par, then_branch, else_branch, of_while, of_repeat, enable, static_seq, static_par, static_if, static_repeat, Apart, AreApart, AreLawful}
-use Rattle.cx_lockstep.proofs.ArmLaws.{first_none, no_true}
+use Rattle.cx_lockstep.proofs.ArmLaws.{first_none}
 use Rattle.cx_lockstep.specs.Running.{Running, AGroup, AnIsland, at_control, par_runs, leaf_of, leaf_writes, running, parts_run, arms_run}
-use Rattle.cx_lockstep.proofs.RunningLaws.{in_either, in_left, in_right}
+use Rattle.std.proofs.lemmas.Bool.{false_from_ne_true}
+use Rattle.cx_meaning.proofs.SightsLaws.{in_either, in_left, in_right}
 
 module _ {X : Type 0} {V : X → Type 0} {E S F : Type 0} (W : World X V E S) (Rests : (x : X) → V x → Type 0) (L : E → Leaves S F) (P : LeafMachines X V F)
     (drives : PlainStatement → X → Bool) (reads : PlainStatement → X → Type 0) (Stands : PlainStatement → Type 0) (law : AreLawful W Rests L P drives reads Stands) where
@@ -178,7 +179,7 @@ module _ {X : Type 0} {V : X → Type 0} {E S F : Type 0} (W : World X V E S) (R
       alone_at M f rec Done i = absurd i
 
       is_free : (rs : List (Running P)) → ((q : Running P) → In rs q → drives (leaf_of P q) x ≡ true → ⊥) → Free rs
-      is_free rs never q i = no_true (drives (leaf_of P q) x) (never q i)
+      is_free rs never q i = false_from_ne_true (drives (leaf_of P q) x) (never q i)
 
       alone_left : (o p : Option (V x)) (left right : List (Running P)) → ((q : Running P) → In right q → drives (leaf_of P q) x ≡ true → ⊥) → p ≡ None → Alone o left → Alone (first_some o p) (left ++ right)
       alone_left o p left right never none it = record {

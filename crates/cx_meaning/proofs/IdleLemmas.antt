@@ -1,7 +1,7 @@
 -- Every primitive cell of a design's tree has a row that keeps its idle edge.
 use Rattle.std.specs.Prelude.{ℕ, zero, suc, List, [], ◌∷◌}
 use Rattle.cx_prim.specs.Table.{PrimitiveRow, row_of}
-use Rattle.cx_prim.specs.TableLaws.{row_of_lawful}
+use Rattle.cx_prim.proofs.TableLaws.{row_of_lawful}
 use Rattle.cx_meaning.specs.Rows.{KeepsIdle}
 use Rattle.cx_meaning.specs.Designs.{PlainKind, OfPrimitive, OfComponent, PlainCell, PlainDesign, component_at}
 use Rattle.cx_meaning.specs.Instances.{Instance, Cells, add_cell, cells_for, tree_within}

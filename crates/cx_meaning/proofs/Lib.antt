@@ -6,3 +6,11 @@ pub mod RunningLemmas
 pub mod IdleLemmas
 pub mod KnownDesigns
 pub mod KnownRuns
+pub mod DesignsLemmas
+pub mod SightsLaws
+pub mod InstancesLemmas
+pub mod ControlLaws
+pub mod PortsLemmas
+pub mod ActiveLemmas
+pub mod RowsLemmas
+pub mod CyclesLemmas

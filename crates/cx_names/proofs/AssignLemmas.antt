@@ -19,10 +19,11 @@ use Rattle.cx_numbering.specs.NameRules as rules
 use Rattle.cx_numbering.specs.NameRules.{Standing, source_breaks, unknown, assign_breaks, guard_operands, is_own, is_group, is_unknown, is_left_out, is_wrong_target, is_bare_done, is_one}
 use Rattle.cx_names_scopes.proofs.NameLemmas.{same_name-true}
 use Rattle.cx_names.specs.Targets.{is_literal}
-use Rattle.cx_names.proofs.Base.{append_none, flat_none, tell_none, both, either, in_map, map_append}
-use Rattle.cx_names.proofs.Kept.{from_not}
+use Rattle.cx_names.proofs.Base.{append_none, flat_none, tell_none, in_map, map_append}
 use Rattle.cx_names.proofs.NumberLemmas.{or_0}
 use Rattle.cx_names.proofs.There.{IsSource, source_there, form_there}
+use Rattle.std.proofs.lemmas.Bool.{or_parts}
+use Rattle.cx_text.proofs.BoolLaws.{or_either, not_not}
 
 module _ (tree : PlainTree) (part : ast.PlainComponent) where
   -- what a guard looks at
@@ -67,10 +68,10 @@ module _ (tree : PlainTree) (part : ast.PlainComponent) where
       by None e = absurd cc
       by (Some n) e = absurd cc
   own_hole_of (operands.Port cell port) group owner owns h g e = absurd cc
-  own_hole_of (operands.Hole name hole) None owner owns h g e = absurd (true≢false (sym (from_not _ (both (same_name hole (codes "go")) _ h).1)))
+  own_hole_of (operands.Hole name hole) None owner owns h g e = absurd (true≢false (sym (not_not _ (or_parts (same_name hole (codes "go")) _ h).1)))
   own_hole_of (operands.Hole name hole) (Some own) None owns h g e = absurd owns
   own_hole_of (operands.Hole name hole) (Some own) (Some n) owns h g e =
-      let same : own ≡ name = same_name-true own name (from_not _ (both (same_name hole (codes "go")) _ h).1) in
+      let same : own ≡ name = same_name-true own name (not_not _ (or_parts (same_name hole (codes "go")) _ h).1) in
       let number : number_or_0 name (group_names part) ≡ g = cc in
       ap Some (sym (or_0 own (group_names part) n owns) ∙ ap (λ m. number_or_0 m (group_names part)) same ∙ number)
   own_hole_of (operands.Literal width value) group owner owns h g e = absurd cc
@@ -82,8 +83,8 @@ module _ (tree : PlainTree) (part : ast.PlainComponent) where
   output_of (operands.Own name) (Some group) owner owns h known kept n e =
       absurd
       (by (number_of name (port_names part.inputs)) refl e
-      (either (is_among name (port_names part.inputs)) (is_among name (port_names part.outputs))
-      (⊎_elim (λ i. i) (λ o. absurd (true≢false (sym o ∙ kept))) (either (is_own tree part name) (is_own_name name) (from_not _ known)))))
+      (or_either (is_among name (port_names part.inputs)) (is_among name (port_names part.outputs))
+      (⊎_elim (λ i. i) (λ o. absurd (true≢false (sym o ∙ kept))) (or_either (is_own tree part name) (is_own_name name) (not_not _ known)))))
     where
       by : (o : Option ℕ) → number_of name (port_names part.inputs) ≡ o → own_port o (number_or_0 name (port_names part.outputs)) ≡ ports.Output n → (is_among name (port_names part.inputs) ≡ true) ⊎ (is_among name (port_names part.outputs) ≡ true) → ⊥
       by (Some i) e p s = absurd cc
@@ -152,8 +153,8 @@ module _ (tree : PlainTree) (k : ℕ) (part : ast.PlainComponent) (at : slice_ge
       let two = append_none _ (source_breaks tree part x.assign.source) three.0 in
       let one = append_none (unknown tree part x.assign.target) _ two.0 in
       let known = tell_none _ _ _ _ one.0 in
-      let left = both (is_left_out tree part form || is_wrong_target tree part x.group form) (is_bare_done tree part x.assign) (tell_none _ _ _ _ one.1) in
-      let target = both (is_left_out tree part form) (is_wrong_target tree part x.group form) left.0 in
+      let left = or_parts (is_left_out tree part form || is_wrong_target tree part x.group form) (is_bare_done tree part x.assign) (tell_none _ _ _ _ one.1) in
+      let target = or_parts (is_left_out tree part form) (is_wrong_target tree part x.group form) left.0 in
       let source = sources_kept x.assign two.1 three.1 in
       record {
         target = form_there tree k part at form known target.0;

@@ -71,15 +71,6 @@ pub map_append : {A B : Type 0} (f : A → B) (xs ys : List A) → map f (xs ++ 
 map_append f [] ys = refl
 map_append f (x ∷ xs) ys = ap (λ zs. f x ∷ zs) (map_append f xs ys)
 
--- TESTS
-pub both : (a b : Bool) → (a || b) ≡ false → (a ≡ false) × (b ≡ false)
-both true b h = absurd (true≢false h)
-both false b h = (refl, h)
-
-pub either : (a b : Bool) → (a || b) ≡ true → (a ≡ true) ⊎ (b ≡ true)
-either true b h = inl refl
-either false b h = inr h
-
 -- BREAKS that are none
 pub tell_none : (b : Bool) (r : Rule) (p : Place) (n : List ℕ) → tell_if b r p n ≡ [] → b ≡ false
 tell_none true r p n h = absurd cc

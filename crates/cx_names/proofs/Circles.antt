@@ -1,7 +1,5 @@
 -- No cell of a design leads back to its component where no cell of the text does within as many cells as there are components.
 use Rattle.std.proofs.Common.{◌≡◌, ℕ, zero, suc, ◌<◌, ◌≤◌, Bool, true, false, ◌||◌, List, [], ◌∷◌, ◌++◌, Option, Some, None, length, option_map, slice_get, unwrap_or, ◌⊎◌, inl, inr, ⊎_elim, refl, sym, ap, ◌∙◌, subst, arith, true≢false}
-use Rattle.std.proofs.Math.Dec.{eqb}
-use Rattle.std.proofs.lemmas.Bool.{eqb-true, eq-eqb}
 use Rattle.std.proofs.lemmas.Option.{slice_get-map, slice_get_within, unwrap_or-slice_get}
 use Rattle.cx_text.specs.declared.diagnostics.Diagnostic.{Diagnostic}
 use Rattle.cx_text.specs.declared.rules.Rule.TheVariants.{Recursive}
@@ -19,13 +17,7 @@ use Rattle.cx_names_scopes.proofs.NameLemmas.{same_name-refl}
 use Rattle.cx_names.proofs.Base.{in_at, in_map, in_flat, append_none, tell_none}
 use Rattle.cx_names.proofs.NumberLemmas.{or_0, part_found}
 use Rattle.cx_names.proofs.There.{component_is, of_component}
-
-same_or_not : (m n : ℕ) → (m ≡ n) ⊎ (m ≡ n → ⊥)
-same_or_not m n = by (eqb m n) refl
-  where
-    by : (b : Bool) → eqb m n ≡ b → (m ≡ n) ⊎ (m ≡ n → ⊥)
-    by true e = inl (eqb-true m n e)
-    by false e = inr (λ s. true≢false (sym (eq-eqb m n s) ∙ e))
+use Rattle.cx_text.proofs.NumberLaws.{same_or_not}
 
 in_or_not : (m : ℕ) (ms : List ℕ) → In ms m ⊎ (In ms m → ⊥)
 in_or_not m [] = inr (λ i. absurd i)

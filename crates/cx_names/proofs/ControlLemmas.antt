@@ -1,12 +1,7 @@
 -- Statements one after another, and the groups of their invokes.
-use Rattle.std.proofs.Common.{◌≡◌, ℕ, suc, ◌+◌, ◌<◌, Bool, Option, None, Some, unwrap_or, option_map, List, [], ◌∷◌, ◌++◌, length, refl, sym, ◌∙◌, ap, arith, append_assoc, append-nil, length-append}
+use Rattle.std.proofs.Common.{◌≡◌, ℕ, suc, ◌+◌, ◌<◌, Bool, Option, None, Some, unwrap_or, List, [], ◌∷◌, ◌++◌, length, refl, sym, ◌∙◌, ap, arith, append_assoc, append-nil, length-append}
 use Rattle.cx_text.specs.declared.places.Place.{Place}
 use Rattle.cx_meaning.specs.declared.ports.PlacedPort.{PlacedPort}
-use Rattle.cx_ast.specs.declared.operands.OperandItem.{OperandItem}
-use Rattle.cx_ast.specs.declared.statements.Block.{Block}
-use Rattle.cx_ast.specs.declared.statements.StatementForm as forms
-use Rattle.cx_ast.specs.declared.statements.StatementForm.TheFolds.{fold-roll-StatementForm}
-use Rattle.cx_ast.specs.declared.statements.StatementForm.TheVariants.{rolls-If, rolls-StaticIf}
 use Rattle.cx_ast.specs.PlainStatements as written
 use Rattle.cx_ast.specs.PlainTree.{PlainTree, PlainComponent}
 use Rattle.cx_meaning.specs.Designs.{PlainGroup, PlainStatement, Placed, If, StaticIf, PlainStatements, no_statements, a_statement, statements_of}
@@ -25,19 +20,6 @@ joined_none (s ∷ ss) = ap (a_statement s) (joined_none ss)
 joined_more : (ss : List PlainStatement) (s : PlainStatement) (rest : PlainStatements) → joined (ss ++ s ∷ []) rest ≡ joined ss (a_statement s rest)
 joined_more [] s rest = refl
 joined_more (t ∷ ss) s rest = ap (a_statement t) (joined_more ss s rest)
-
--- a branch as written, from its parts
-pub if_form : (test : OperandItem) (comb : Option (List ℕ)) (first : Block) (other : Option Block) → written.plain_form (forms.If test comb first other) ≡ written.If test comb (written.plain_block first) (written.else_of (option_map written.plain_block other))
-if_form test comb first None =
-    ap written.plain_form (sym (rolls-If test comb first None)) ∙ fold-roll-StatementForm written.PlainForm written.PlainBlock written.PlainStatement written.form_step written.block_step written.statement_step _
-if_form test comb first (Some other) =
-    ap written.plain_form (sym (rolls-If test comb first (Some other))) ∙ fold-roll-StatementForm written.PlainForm written.PlainBlock written.PlainStatement written.form_step written.block_step written.statement_step _
-
-pub static_if_form : (cycles : Option ℕ) (test : OperandItem) (first : Block) (other : Option Block) → written.plain_form (forms.StaticIf cycles test first other) ≡ written.StaticIf cycles test (written.plain_block first) (written.else_of (option_map written.plain_block other))
-static_if_form cycles test first None =
-    ap written.plain_form (sym (rolls-StaticIf cycles test first None)) ∙ fold-roll-StatementForm written.PlainForm written.PlainBlock written.PlainStatement written.form_step written.block_step written.statement_step _
-static_if_form cycles test first (Some other) =
-    ap written.plain_form (sym (rolls-StaticIf cycles test first (Some other))) ∙ fold-roll-StatementForm written.PlainForm written.PlainBlock written.PlainStatement written.form_step written.block_step written.statement_step _
 
 -- a branch from its parts
 pub if_parts : {test made_test : PlacedPort} {comb made_comb : Option ℕ} {a made_a b made_b : PlainStatement} → made_test ≡ test → made_comb ≡ comb → made_a ≡ a → made_b ≡ b → If made_test made_comb made_a made_b ≡ If test comb a b

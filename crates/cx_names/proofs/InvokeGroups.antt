@@ -15,12 +15,12 @@ use Rattle.cx_rules.specs.Wellformed.{IsAssign, IsThere}
 use Rattle.cx_numbering.specs.Names.{is_among, cell_among, found_cell_ports, cell_of}
 use Rattle.cx_numbering.specs.DesignOf.{Invoke, cell_port, port_of, go_port, go_guard, found_go, register_of, register_done, input_assign, go_assign, capture_assigns, done_assign, invoke_group, design_of}
 use Rattle.cx_numbering.specs.NameRules.{is_clock, is_unknown}
-use Rattle.cx_names.proofs.Base.{either, in_at, in_map, flat_in, in_either}
-use Rattle.cx_names.proofs.Kept.{from_not}
+use Rattle.cx_names.proofs.Base.{in_at, in_map, flat_in, in_either}
 use Rattle.cx_names.proofs.NumberLemmas.{cell_found}
 use Rattle.cx_names.proofs.There.{IsSource, source_there, cell_port_there}
 use Rattle.cx_names.proofs.Circles.{KeptCell}
 use Rattle.cx_names.proofs.InvokeLemmas.{Started, started, Register, register_of_form, KeptInvoke, input_named, input_source, output_named, output_register, output_known}
+use Rattle.cx_text.proofs.BoolLaws.{or_either, not_not}
 
 cell_or_literal : (c p w v : ℕ) → ports.Cell c p ≡ ports.Literal w v → ⊥
 cell_or_literal c p w v e = absurd cc
@@ -78,7 +78,7 @@ module _ (tree : PlainTree) (k : ℕ) (part : ast.PlainComponent) (at : slice_ge
 
   port_known : (cell port : List ℕ) → is_unknown tree part (operands.Port cell port) ≡ false → is_clock tree part cell port ≡ false → is_among port (found_cell_ports tree (cell_among cell part.cells)) ≡ true
   port_known cell port known clock =
-      ⊎_elim (λ i. i) (λ c. absurd (true≢false (sym c ∙ clock))) (either (is_among port (found_cell_ports tree (cell_among cell part.cells))) (is_clock tree part cell port) (from_not _ known))
+      ⊎_elim (λ i. i) (λ c. absurd (true≢false (sym c ∙ clock))) (or_either (is_among port (found_cell_ports tree (cell_among cell part.cells))) (is_clock tree part cell port) (not_not _ known))
 
   -- the register of an output by its form
   register_named : (b : BindItem) (r : Register tree part b.value.form) → register_of tree part b ≡ r.cell

@@ -1,5 +1,5 @@
 -- The groups of invokes keep what a design keeps.
-use Rattle.std.proofs.Common.{◌≡◌, ℕ, Bool, true, false, ◌||◌, ◌&&◌, is_some, is_none, List, [], ◌∷◌, ◌++◌, Option, Some, None, flat_map, codes, ⊎_elim, refl, sym, ap, ◌∙◌, subst, true≢false}
+use Rattle.std.proofs.Common.{◌≡◌, ℕ, true, false, ◌||◌, ◌&&◌, is_some, is_none, List, [], ◌∷◌, ◌++◌, Option, Some, None, flat_map, codes, ⊎_elim, refl, sym, ap, ◌∙◌, subst, true≢false}
 use Rattle.cx_prim.specs.declared.names.PrimitiveName.{PrimitiveName}
 use Rattle.cx_prim.specs.declared.names.PrimitiveName.TheVariants as primitives
 use Rattle.cx_prim.specs.Table.{PrimitiveRow, row_at}
@@ -14,19 +14,12 @@ use Rattle.cx_numbering.specs.DesignOf.{Invoke}
 use Rattle.cx_numbering.specs.NameRules.{source_breaks, unknown, is_clock, is_component, found_component, is_unknown, is_reg, found_reg, is_register_in, kind_breaks, input_breaks, output_breaks, output_names, invoke_on, form_breaks}
 use Rattle.cx_ast.specs.PlainStatements as statements
 use Rattle.cx_names_scopes.proofs.NameLemmas.{is_among-cons, is_among-append}
-use Rattle.cx_names.proofs.Base.{append_none, flat_none, tell_none, both, either, in_at}
-use Rattle.cx_names.proofs.Kept.{from_not}
+use Rattle.cx_names.proofs.Base.{append_none, flat_none, tell_none, in_at}
 use Rattle.cx_names.proofs.NumberLemmas.{cell_found}
 use Rattle.cx_names.proofs.Rows.{go_there, register_ports}
 use Rattle.cx_names.proofs.Circles.{KeptCell}
-
-or_true : (a b : Bool) → b ≡ true → (a || b) ≡ true
-or_true true b h = refl
-or_true false b h = h
-
-pub and_parts : (a b : Bool) → (a && b) ≡ true → (a ≡ true) × (b ≡ true)
-and_parts true b h = (refl, h)
-and_parts false b h = absurd (true≢false (sym h))
+use Rattle.std.proofs.lemmas.Bool.{or_right, or_parts}
+use Rattle.cx_text.proofs.BoolLaws.{and_both, or_either, not_not}
 
 from_none : {A : Type 0} (o : Option A) → is_none o ≡ false → is_some o ≡ true
 from_none None h = absurd (true≢false h)
@@ -37,14 +30,14 @@ done_of_component : (part : ast.PlainComponent) → is_among (codes "done") (cel
 done_of_component part =
     is_among-cons (codes "done") (codes "go") (port_names part.inputs ++ (port_names part.outputs ++ (codes "done" ∷ [])))
     ∙ is_among-append (codes "done") (port_names part.inputs) (port_names part.outputs ++ (codes "done" ∷ []))
-    ∙ or_true (is_among (codes "done") (port_names part.inputs)) _ (is_among-append (codes "done") (port_names part.outputs) (codes "done" ∷ []) ∙ or_true (is_among (codes "done") (port_names part.outputs)) true refl)
+    ∙ or_right (is_among (codes "done") (port_names part.inputs)) _ (is_among-append (codes "done") (port_names part.outputs) (codes "done" ∷ []) ∙ or_right (is_among (codes "done") (port_names part.outputs)) true refl)
 
 -- an output of a component's cell is among its ports
 output_of_component : (n : List ℕ) (part : ast.PlainComponent) → is_among n (port_names part.outputs ++ (codes "done" ∷ [])) ≡ true → is_among n (cell_port_names (AComponent part)) ≡ true
 output_of_component n part h =
     is_among-cons n (codes "go") (port_names part.inputs ++ (port_names part.outputs ++ (codes "done" ∷ [])))
-    ∙ or_true _ (is_among n (port_names part.inputs ++ (port_names part.outputs ++ (codes "done" ∷ []))))
-    (is_among-append n (port_names part.inputs) (port_names part.outputs ++ (codes "done" ∷ [])) ∙ or_true (is_among n (port_names part.inputs)) _ h)
+    ∙ or_right _ (is_among n (port_names part.inputs ++ (port_names part.outputs ++ (codes "done" ∷ []))))
+    (is_among-append n (port_names part.inputs) (port_names part.outputs ++ (codes "done" ∷ [])) ∙ or_right (is_among n (port_names part.inputs)) _ h)
 
 -- what an invoke drives, and its done
 pub record Started (of : CellOf) : Type 0 where
@@ -95,7 +88,7 @@ module _ (tree : PlainTree) (part : ast.PlainComponent) where
   register_of_form kept (operands.Own name) h = absurd (true≢false (sym h))
   register_of_form kept (operands.Hole group hole) h = absurd (true≢false (sym h))
   register_of_form kept (operands.Literal width value) h = absurd (true≢false (sym h))
-  register_of_form kept (operands.Port cell port) h = by (cell_among cell part.cells) refl (and_parts (found_reg tree part (cell_among cell part.cells)) _ h).0
+  register_of_form kept (operands.Port cell port) h = by (cell_among cell part.cells) refl (and_both (found_reg tree part (cell_among cell part.cells)) _ h).0
     where
       by : (o : Option ast.PlainCell) → cell_among cell part.cells ≡ o → found_reg tree part o ≡ true → Register (operands.Port cell port)
       by None e r = absurd (true≢false (sym r))
@@ -140,8 +133,8 @@ module _ (tree : PlainTree) (part : ast.PlainComponent) where
   input_named cell of b h =
       let two = append_none _ (source_breaks tree part b.value) h in
       let one = append_none _ _ two.0 in
-      let clock = (both _ (is_clock tree part cell b.name) (tell_none _ _ _ _ one.1)).1 in
-      ⊎_elim (λ i. i) (λ c. absurd (true≢false (sym c ∙ clock))) (either (is_among b.name (found_cell_ports tree (cell_among cell part.cells))) (is_clock tree part cell b.name) (from_not _ (tell_none _ _ _ _ one.0)))
+      let clock = (or_parts _ (is_clock tree part cell b.name) (tell_none _ _ _ _ one.1)).1 in
+      ⊎_elim (λ i. i) (λ c. absurd (true≢false (sym c ∙ clock))) (or_either (is_among b.name (found_cell_ports tree (cell_among cell part.cells))) (is_clock tree part cell b.name) (not_not _ (tell_none _ _ _ _ one.0)))
 
   pub input_source : (cell : List ℕ) (of : CellOf) (b : BindItem) → input_breaks tree part cell of b ≡ [] → source_breaks tree part b.value ≡ []
   input_source cell of b h = (append_none _ (source_breaks tree part b.value) h).1
@@ -152,16 +145,16 @@ module _ (tree : PlainTree) (part : ast.PlainComponent) where
       let two = append_none _ (unknown tree part b.value) three.0 in
       let one = append_none _ _ two.0 in
       ap (λ o. is_among b.name (found_cell_ports tree o)) e
-      ∙ by (cell_of tree found) (from_not _ (tell_none _ _ _ _ one.1))
-      (ap (λ o. is_among b.name (found_cell_ports tree o) || (found_component tree part o && (same_name b.name (codes "clk") || same_name b.name (codes "reset")))) (sym e) ∙ from_not _ (tell_none _ _ _ _ one.0))
+      ∙ by (cell_of tree found) (not_not _ (tell_none _ _ _ _ one.1))
+      (ap (λ o. is_among b.name (found_cell_ports tree o) || (found_component tree part o && (same_name b.name (codes "clk") || same_name b.name (codes "reset")))) (sym e) ∙ not_not _ (tell_none _ _ _ _ one.0))
     where
       by : (of : CellOf) → is_among b.name (output_names tree part of) ≡ true → (is_among b.name (cell_port_names of) || (is_component tree part of && (same_name b.name (codes "clk") || same_name b.name (codes "reset")))) ≡ true → is_among b.name (cell_port_names of) ≡ true
       by Neither o k = absurd (true≢false (sym o))
-      by (APrimitive p) o k = ⊎_elim (λ i. i) (λ c. absurd (true≢false (sym c))) (either (is_among b.name (cell_port_names (APrimitive p))) false k)
+      by (APrimitive p) o k = ⊎_elim (λ i. i) (λ c. absurd (true≢false (sym c))) (or_either (is_among b.name (cell_port_names (APrimitive p))) false k)
       by (AComponent c) o k = output_of_component b.name c o
 
   pub output_register : (cell : List ℕ) (of : CellOf) (b : BindItem) → output_breaks tree part cell of b ≡ [] → is_register_in tree part b.value.form ≡ true
-  output_register cell of b h = from_not _ (tell_none _ _ _ _ (append_none _ _ h).1)
+  output_register cell of b h = not_not _ (tell_none _ _ _ _ (append_none _ _ h).1)
 
   pub output_known : (cell : List ℕ) (of : CellOf) (b : BindItem) → output_breaks tree part cell of b ≡ [] → is_unknown tree part b.value.form ≡ false
   output_known cell of b h = tell_none _ _ _ _ (append_none _ (unknown tree part b.value) (append_none _ _ h).0).1

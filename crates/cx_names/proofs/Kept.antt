@@ -1,10 +1,11 @@
 -- What a tree keeps that breaks no rule on names.
-use Rattle.std.proofs.Common.{◌≡◌, Bool, true, false, not, [], ◌++◌, None, map, refl, codes, flat_map, true≢false}
+use Rattle.std.proofs.Common.{◌≡◌, true, false, [], ◌++◌, None, map, codes, flat_map}
 use Rattle.cx_ast.specs.PlainTree.{PlainTree, PlainComponent, PlainPort, PlainCell}
 use Rattle.cx_meaning.specs.Sights.{In}
 use Rattle.cx_numbering.specs.Names.{is_among, component_names}
 use Rattle.cx_numbering.specs.NameRules.{named, duplicates, names_break, name_breaks, main_breaks, import_breaks, component_breaks, primitive_named, component_duplicates, port_breaks, cell_breaks, assign_breaks, standing, Standing, statements_in, Visited, form_breaks}
 use Rattle.cx_names.proofs.Base.{append_none, flat_none, tell_none, first_none}
+use Rattle.cx_text.proofs.BoolLaws.{not_not}
 
 pub record Kept (tree : PlainTree) : Type 0 where
   pub main : is_among (codes "main") (component_names tree) ≡ true
@@ -20,17 +21,13 @@ pub record KeptPart (tree : PlainTree) (part : PlainComponent) : Type 0 where
   pub assigns : (x : Standing) → In (standing part) x → assign_breaks tree part x ≡ []
   pub statements : (v : Visited) → In (statements_in part) v → form_breaks tree part v.form v.place ≡ []
 
-pub from_not : (b : Bool) → not b ≡ false → b ≡ true
-from_not true h = refl
-from_not false h = absurd (true≢false h)
-
 pub kept : (tree : PlainTree) → names_break tree ≡ None → Kept tree
 kept tree h =
     let all = append_none (main_breaks tree ++ flat_map import_breaks tree.imports ++ duplicates [] (map (λ part. named part.name part.place) tree.components)) (flat_map (component_breaks tree) tree.components) (first_none (name_breaks tree) h) in
     let front = append_none (main_breaks tree ++ flat_map import_breaks tree.imports) (duplicates [] (map (λ part. named part.name part.place) tree.components)) all.0 in
     let first = append_none (main_breaks tree) (flat_map import_breaks tree.imports) front.0 in
     record {
-      main = from_not _ (tell_none _ _ _ _ first.0);
+      main = not_not _ (tell_none _ _ _ _ first.0);
       apart = front.1;
       parts = λ part i. flat_none (component_breaks tree) tree.components all.1 part i;
     }

@@ -1,6 +1,6 @@
 -- Cells, ports and assignments of a component of the design.
 use Rattle.std.proofs.Common.{◌≡◌, ◌≢◌, ℕ, zero, suc, Bool, true, false, not, ◌||◌, ◌&&◌, cond, nat_le, nat_eq, is_some, List, [], ◌∷◌, ◌++◌, Option, Some, None, length, map, option_map, slice_get, codes, inl, inr, ⊎_elim, refl, sym, ap, ◌∙◌, subst, arith, true≢false}
-use Rattle.std.proofs.lemmas.Bool.{leb-true}
+use Rattle.std.proofs.lemmas.Bool.{leb-true, or_parts}
 use Rattle.std.proofs.lemmas.List.{length-map}
 use Rattle.std.proofs.lemmas.Option.{slice_get-map, slice_get_within}
 use Rattle.cx_prim.specs.declared.names.PrimitiveName.{PrimitiveName}
@@ -17,13 +17,14 @@ use Rattle.cx_numbering.specs.DesignOf.{Invoke, group_of, invoke_groups, control
 use Rattle.cx_numbering.specs.NameRules as rules
 use Rattle.cx_numbering.specs.NameRules.{Standing, standing, named, duplicates, visit_block, is_main, is_narrow_memory, kind_breaks, external_breaks, port_breaks, is_wrong_port, has_other_attribute, is_on_side, primitive_named, component_duplicates, form_breaks}
 use Rattle.cx_names_scopes.proofs.NameLemmas.{same_name-true}
-use Rattle.cx_names.proofs.Base.{in_map, map_in, append_none, tell_none, map_map, map_append, Distinct, distinct_from, apart, at_either, both}
-use Rattle.cx_names.proofs.Kept.{KeptPart, from_not}
+use Rattle.cx_names.proofs.Base.{in_map, map_in, append_none, tell_none, map_map, map_append, Distinct, distinct_from, apart, at_either}
+use Rattle.cx_names.proofs.Kept.{KeptPart}
 use Rattle.cx_names.proofs.NumberLemmas.{or_0, number_is, part_found}
 use Rattle.cx_names.proofs.Primitives.{no_timer, nameable}
 use Rattle.cx_names.proofs.There.{of_component}
 use Rattle.cx_names.proofs.Circles.{KeptCell}
-use Rattle.cx_names.proofs.InvokeLemmas.{row_kept, and_parts}
+use Rattle.cx_names.proofs.InvokeLemmas.{row_kept}
+use Rattle.cx_text.proofs.BoolLaws.{not_not, and_both}
 
 -- PORTS of a signature
 signature_in : (list : List ast.PlainPort) (port : ast.PlainPort) → In (signature_ports list) port → In list port × (is_own_name port.name ≡ false)
@@ -115,7 +116,7 @@ module _ (tree : PlainTree) (part : ast.PlainComponent) (kept : KeptPart tree pa
   port_is : (input : Bool) (port : ast.PlainPort) → port_breaks tree part input port ≡ [] → is_own_name port.name ≡ false → IsPort (decl_of tree part port)
   port_is input port h other =
       let parts = append_none _ _ h in
-      let bits = and_parts (nat_le 1 port.width) (nat_le port.width 128) (from_not _ (tell_none _ _ _ _ parts.0)) in
+      let bits = and_both (nat_le 1 port.width) (nat_le port.width 128) (not_not _ (tell_none _ _ _ _ parts.0)) in
       record {
         some_bits = leb-true 1 port.width bits.0;
         few_bits = leb-true port.width 128 bits.1;
@@ -139,7 +140,7 @@ module _ (tree : PlainTree) (part : ast.PlainComponent) (kept : KeptPart tree pa
 
   -- main has the own ports alone
   own_in_main : (input : Bool) (port : ast.PlainPort) → is_main tree part ≡ true → port_breaks tree part input port ≡ [] → is_own_name port.name ≡ true
-  own_in_main input port main h = by (is_own_name port.name) refl (both _ (has_other_attribute tree part port.name port.attributes) (tell_none _ _ _ _ (append_none _ _ h).1)).0
+  own_in_main input port main h = by (is_own_name port.name) refl (or_parts _ (has_other_attribute tree part port.name port.attributes) (tell_none _ _ _ _ (append_none _ _ h).1)).0
     where
       by : (b : Bool) → is_own_name port.name ≡ b → cond b (not (is_on_side tree part input port.name) || not (nat_eq port.width 1)) (is_main tree part) ≡ false → is_own_name port.name ≡ true
       by true e k = e
@@ -176,7 +177,7 @@ module _ (tree : PlainTree) (k : ℕ) (part : ast.PlainComponent) (at : slice_ge
       narrow : (of : CellOf) → cell_of tree cell ≡ of → external_breaks tree part cell ≡ [] → is_external cell ≡ true → (is_main tree part ≡ true) × (is_narrow_memory tree part of ≡ true)
       narrow of e h ext =
           (let test : (is_external cell && not (is_main tree part && is_narrow_memory tree part (cell_of tree cell))) ≡ false = tell_none _ _ _ _ h in
-          let rest = and_parts (is_main tree part) (is_narrow_memory tree part (cell_of tree cell)) (from_not _ (ap (λ b. b && not (is_main tree part && is_narrow_memory tree part (cell_of tree cell))) (sym ext) ∙ test)) in
+          let rest = and_both (is_main tree part) (is_narrow_memory tree part (cell_of tree cell)) (not_not _ (ap (λ b. b && not (is_main tree part && is_narrow_memory tree part (cell_of tree cell))) (sym ext) ∙ test)) in
           (rest.0, ap (is_narrow_memory tree part) (sym e) ∙ rest.1))
 
       by : (of : CellOf) → cell_of tree cell ≡ of → kind_breaks tree part cell of ≡ [] → external_breaks tree part cell ≡ [] → IsCell (design_of tree) k (record { name = cell.name; kind = kind_or tree part of; external = is_external cell; place = cell.place })
@@ -185,7 +186,7 @@ module _ (tree : PlainTree) (k : ℕ) (part : ast.PlainComponent) (at : slice_ge
         kind = (row_kept tree part cell p h, no_timer cell.kind p.name (of_primitive (primitive_of cell.kind) cell.numbers (component_among cell.kind tree.components) p e));
         external = λ ext. (
             let found = narrow (APrimitive p) e x ext in
-            let memory = and_parts (is_memory (row_of p).shape) (nat_le (first_number p.numbers) 64) found.1 in
+            let memory = and_both (is_memory (row_of p).shape) (nat_le (first_number p.numbers) 64) found.1 in
             (is_main_number found.0, memory.0, leb-true (first_number p.numbers) 64 memory.1));
       }
       by (AComponent c) e h x =

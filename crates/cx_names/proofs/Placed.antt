@@ -1,5 +1,5 @@
 -- In the design of a text a place tells a port wherever there is no source.
-use Rattle.std.proofs.Common.{◌≡◌, ℕ, suc, Bool, true, false, cond, List, [], ◌∷◌, ◌++◌, map, length, Option, Some, None, slice_get, unwrap_or, option_map, ◌⊎◌, inl, inr, ⊎_elim, refl, sym, ap, ◌∙◌, subst}
+use Rattle.std.proofs.Common.{◌≡◌, ℕ, suc, List, [], ◌∷◌, ◌++◌, map, length, Option, Some, None, slice_get, unwrap_or, option_map, inl, inr, ⊎_elim, refl, sym, ap, ◌∙◌, subst}
 use Rattle.std.proofs.lemmas.Option.{slice_get-map, unwrap_or-slice_get}
 use Rattle.cx_text.specs.declared.diagnostics.Diagnostic.{Diagnostic}
 use Rattle.cx_ast.specs.declared.tokens.Token.{Token}
@@ -9,7 +9,7 @@ use Rattle.cx_ast.specs.PlainStatements as statements
 use Rattle.cx_lex.specs.Lex.{Lex}
 use Rattle.cx_grammar.specs.Parsing.{Parse}
 use Rattle.cx_meaning.specs.Designs.{PlainAssign, PlainGroup, component_at, no_component}
-use Rattle.cx_meaning.specs.Active.{Owned, owned, owned_by_groups, no_later, placed_in, by_place, source_order}
+use Rattle.cx_meaning.specs.Active.{Owned, owned, owned_by_groups, source_order}
 use Rattle.cx_meaning.specs.Sights.{In}
 use Rattle.cx_rules.specs.Accepted.{FirstBreak}
 use Rattle.cx_numbering.specs.Names.{groups_in, always_in, group_names, cell_of}
@@ -26,22 +26,7 @@ use Rattle.cx_names.proofs.Statements.{invoke_of_block, visited_of}
 use Rattle.cx_names.proofs.Written.{HasWires}
 use Rattle.cx_names.proofs.OfText.{assign_placed, always_wired, in_group, wires_of_text}
 use Rattle.cx_names.proofs.Invoked.{Tells, invoke_tells, invoked}
-
--- what stands in source order is an assignment of the component
-in_placed : (a : Owned) (bs : List Owned) (o : Owned) → In (placed_in a bs) o → (a ≡ o) ⊎ In bs o
-in_placed a [] o (inl e) = inl e
-in_placed a [] o (inr i) = absurd i
-in_placed a (b ∷ bs) o i = by (no_later a.assign.place b.assign.place) (in_placed a bs o) i
-  where
-    by : (t : Bool) → (In (placed_in a bs) o → (a ≡ o) ⊎ In bs o) → In (cond t (a ∷ b ∷ bs) (b ∷ placed_in a bs)) o → (a ≡ o) ⊎ In (b ∷ bs) o
-    by true deep (inl e) = inl e
-    by true deep (inr i) = inr i
-    by false deep (inl e) = inr (inl e)
-    by false deep (inr i) = ⊎_elim (λ e. inl e) (λ j. inr (inr j)) (deep i)
-
-in_order : (xs : List Owned) (o : Owned) → In (by_place xs) o → In xs o
-in_order [] o i = absurd i
-in_order (x ∷ xs) o i = ⊎_elim (λ e. inl e) (λ j. inr (in_order xs o j)) (in_placed x (by_place xs) o i)
+use Rattle.cx_rules.proofs.ForeignLemmas.{sorted_among}
 
 in_owned : (w : Option ℕ) (assigns : List PlainAssign) (o : Owned) → In (owned w assigns) o → In assigns o.assign
 in_owned w [] o i = absurd i
@@ -95,7 +80,7 @@ module _ (tree : PlainTree) (k : ℕ) (part : ast.PlainComponent) (at : slice_ge
   part_tells o i =
       ⊎_elim (λ l. always_tells o.assign (in_owned None (component_of tree part).always o l))
       (λ r. let found = in_groups 0 (component_of tree part).groups o r in group_tells found.0 found.1 o.assign found.2)
-      (in_either (owned None (component_of tree part).always) (owned_by_groups 0 (component_of tree part).groups) o (in_order (owned None (component_of tree part).always ++ owned_by_groups 0 (component_of tree part).groups) o i))
+      (in_either (owned None (component_of tree part).always) (owned_by_groups 0 (component_of tree part).groups) o (sorted_among (owned None (component_of tree part).always ++ owned_by_groups 0 (component_of tree part).groups) o i))
 
 pub texts_placed : (text : List ℕ) (tokens : List Token) (tree : PlainTree) → Lex text tokens → Parse tokens tree → names_break tree ≡ None → IsPlaced (design_of tree)
 texts_placed text tokens tree lexed parsed none k n o p q h ip iq tp tq e = by (slice_get tree.components k) refl

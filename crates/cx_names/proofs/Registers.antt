@@ -1,5 +1,5 @@
 -- The done of a register is an output, so it is a source.
-use Rattle.std.proofs.Common.{◌≡◌, ℕ, zero, suc, ◌<◌, Bool, true, false, ◌&&◌, cond, not, is_some, List, [], ◌∷◌, Option, Some, None, length, map, option_map, slice_get, unwrap_or, codes, refl, sym, ap, ◌∙◌, subst, arith, true≢false}
+use Rattle.std.proofs.Common.{◌≡◌, ℕ, zero, suc, ◌<◌, Bool, true, false, cond, not, is_some, List, [], ◌∷◌, Option, Some, None, length, map, option_map, slice_get, unwrap_or, codes, refl, sym, ap, ◌∙◌, subst, arith, true≢false}
 use Rattle.std.proofs.lemmas.List.{length-map}
 use Rattle.std.proofs.lemmas.Option.{slice_get-map, slice_get_within}
 use Rattle.cx_prim.specs.declared.names.PrimitiveName.{PrimitiveName}
@@ -27,6 +27,7 @@ use Rattle.cx_names.proofs.NumberLemmas.{or_0, cell_found}
 use Rattle.cx_names.proofs.There.{component_is}
 use Rattle.cx_names.proofs.Circles.{KeptCell}
 use Rattle.cx_names.proofs.InvokeLemmas.{row_kept}
+use Rattle.cx_text.proofs.BoolLaws.{and_left}
 
 -- the row's done is an output
 abbrev HasDone : Row → Type 0
@@ -64,10 +65,6 @@ reg_name : (tree : PlainTree) (part : ast.PlainComponent) (n : PrimitiveName) (n
 reg_name tree part primitives.Reg numbers r = refl
 reg_name tree part _ numbers r = absurd cc
 
-and_first : (a b : Bool) → (a && b) ≡ true → a ≡ true
-and_first true b h = refl
-and_first false b h = absurd (true≢false (sym h))
-
 module _ (tree : PlainTree) (k : ℕ) (part : ast.PlainComponent) (at : slice_get tree.components k ≡ Some part) where
   primitive_stands : (c : ℕ) (cell : PlainCell) (p : PrimitiveRow) → slice_get (component_of tree part).cells c ≡ Some cell → cell.kind ≡ OfPrimitive p
       → cell_at (cells_of (instance_of (design_of tree) k)) c ≡ OfRow (row_of p)
@@ -101,7 +98,7 @@ module _ (tree : PlainTree) (k : ℕ) (part : ast.PlainComponent) (at : slice_ge
         ∙ ap not (row_done p (reg_name tree part p.name p.numbers r) (row_kept tree part c p h))
 
     form_source : (cell port : List ℕ) → is_register_in tree part (operands.Port cell port) ≡ true → IsNoTarget cell
-    form_source cell port h = by (cell_among cell part.cells) refl (and_first (found_reg tree part (cell_among cell part.cells)) _ h)
+    form_source cell port h = by (cell_among cell part.cells) refl (and_left (found_reg tree part (cell_among cell part.cells)) _ h)
       where
         by : (o : Option ast.PlainCell) → cell_among cell part.cells ≡ o → found_reg tree part o ≡ true → IsNoTarget cell
         by None e r = absurd (true≢false (sym r))

@@ -24,9 +24,9 @@ use Rattle.cx_names_scopes.specs.Scopes.{at_number}
 use Rattle.cx_names_scopes.proofs.NameLemmas.{number_within}
 use Rattle.cx_names_scopes.proofs.NameLemmas as lookup
 use Rattle.cx_names.proofs.Base.{append_none, tell_none, in_left, in_right, in_either, some_at, front_at, back_at}
-use Rattle.cx_names.proofs.Kept.{from_not}
 use Rattle.cx_names.proofs.NumberLemmas.{there, or_0}
 use Rattle.cx_names.proofs.There.{IsSource, source_there, part_is}
+use Rattle.cx_text.proofs.BoolLaws.{not_not}
 
 module _ (tree : PlainTree) (part : ast.PlainComponent) where
   pub invokes_count : (n : ℕ) (vs : List Invoke) → length (invoke_groups tree part n vs) ≡ length vs
@@ -78,15 +78,15 @@ module _ (tree : PlainTree) (part : ast.PlainComponent) where
   enable_kept : (name : List ℕ) (place : Place) → enable_breaks tree part name place ≡ [] → IsEnable (component_of tree part) (group_number tree part name)
   enable_kept name place h =
       let parts = append_none _ _ h in
-      let g = grouped name (from_not _ (tell_none _ _ _ _ parts.0)) in
+      let g = grouped name (not_not _ (tell_none _ _ _ _ parts.0)) in
       (g.within, g.comb ∙ tell_none _ _ _ _ parts.1)
 
   with_kept : (comb : Option (List ℕ)) (place : Place) → with_breaks tree part comb place ≡ [] → IsWith (component_of tree part) (comb_number tree part comb)
   with_kept None place h = tt
   with_kept (Some name) place h =
       let parts = append_none _ _ h in
-      let g = grouped name (from_not _ (tell_none _ _ _ _ parts.0)) in
-      (g.within, g.comb ∙ from_not _ (tell_none _ _ _ _ parts.1))
+      let g = grouped name (not_not _ (tell_none _ _ _ _ parts.0)) in
+      (g.within, g.comb ∙ not_not _ (tell_none _ _ _ _ parts.1))
 
   -- the group of an invoke
   invoke_enable : (n : ℕ) → length (group_names part) ≤ n → n < length (group_names part) + length (control_invokes tree part part.control) → IsEnable (component_of tree part) n

@@ -16,6 +16,7 @@ use Rattle.cx_numbering.specs.Names.{groups_in, always_in}
 use Rattle.cx_numbering.specs.NameRules.{Standing, standing}
 use Rattle.cx_names.specs.Targets.{is_literal, HasTargets}
 use Rattle.cx_design_parts.proofs.Lists.{in_either, flat_in}
+use Rattle.cx_meaning.proofs.SightsLaws.{image_in}
 
 abbrev All : {A : Type 0} → (A → Type 0) → List A → Type 0
 All P [] = Unit {0}
@@ -25,11 +26,6 @@ all_in : {A : Type 0} (P : A → Type 0) (xs : List A) (x : A) → All P xs → 
 all_in P [] x h i = absurd i
 all_in P (y ∷ xs) x h (inl e) = subst P e h.0
 all_in P (y ∷ xs) x h (inr i) = all_in P xs x h.1 i
-
-mapped_in : {A B : Type 0} (f : A → B) (xs : List A) (y : B) → In (map f xs) y → (x : A) × In xs x × (f x ≡ y)
-mapped_in f [] y i = absurd i
-mapped_in f (x ∷ xs) y (inl e) = (x, inl refl, e)
-mapped_in f (x ∷ xs) y (inr i) = let rest = mapped_in f xs y i in (rest.0, inr rest.1, rest.2)
 
 -- what holds of the parts of a tree
 abbrev NoLiteral : OperandItem → Type 0
@@ -209,9 +205,9 @@ IsPort x = is_literal x.assign.target.form ≡ false
 stands_as_port : (part : PlainComponent) (x : Standing) → All Wires part.wires → In (standing part) x → IsPort x
 stands_as_port part x h i =
     ⊎_elim
-    (λ p. let found = mapped_in free (always_in part.wires) x p in subst IsPort found.2 (always_wired part.wires found.0 h found.1))
+    (λ p. let found = image_in free (always_in part.wires) x p in subst IsPort found.2 (always_wired part.wires found.0 h found.1))
     (λ q. let group = flat_in inside (groups_in part.wires) x q in
-    let found = mapped_in (owned group.0) group.0.assigns x group.2 in
+    let found = image_in (owned group.0) group.0.assigns x group.2 in
     subst IsPort found.2 (all_in Assigns group.0.assigns found.0 (group_wired part.wires group.0 h group.1) found.1))
     (in_either (map free (always_in part.wires)) (flat_map inside (groups_in part.wires)) x i)
 

@@ -22,14 +22,11 @@ use Rattle.cx_numbering.specs.DesignOf.{number_or_0, own_port, cell_port, port_o
 use Rattle.cx_numbering.specs.NameRules as rules
 use Rattle.cx_numbering.specs.NameRules.{is_own, is_clock, is_unknown, is_left_out, source_breaks, unknown}
 use Rattle.cx_names_scopes.proofs.NameLemmas.{number_within}
-use Rattle.cx_names.proofs.Base.{either, both, append_none, tell_none}
-use Rattle.cx_names.proofs.Kept.{from_not}
+use Rattle.cx_names.proofs.Base.{append_none, tell_none}
 use Rattle.cx_names.proofs.NumberLemmas.{there, or_0, cell_found, part_found}
-
--- PARTS OF INSTANCES
-pub part_within : (d : PlainDesign) (n k : ℕ) → part_of (tree_within d n k) ≡ component_at d k
-part_within d zero k = refl
-part_within d (suc n) k = refl
+use Rattle.cx_meaning.proofs.DesignsLemmas.{same_part}
+use Rattle.cx_text.proofs.BoolLaws.{or_either, not_not}
+use Rattle.std.proofs.lemmas.Bool.{or_parts}
 
 -- the ports of what a cell is of
 abbrev pub kind_ports : PlainDesign → PlainKind → ℕ
@@ -42,7 +39,7 @@ cell_ports_at d n (x ∷ xs) zero cell h = let same : x ≡ cell = cc in first x
   where
     first : (kind : PlainKind) → port_count (cell_at (add_cell (tree_within d n) kind (cells_for (tree_within d n) xs)) zero) ≡ kind_ports d kind
     first (OfPrimitive p) = refl
-    first (OfComponent j) = ap (λ p. 2 + length p.inputs + length p.outputs) (part_within d n j)
+    first (OfComponent j) = ap (λ p. 2 + length p.inputs + length p.outputs) (same_part d n j)
 cell_ports_at d n (x ∷ xs) (suc c) cell h = next x.kind ∙ cell_ports_at d n xs c cell h
   where
     next : (kind : PlainKind) → port_count (cell_at (add_cell (tree_within d n) kind (cells_for (tree_within d n) xs)) (suc c)) ≡ port_count (cell_at (cells_for (tree_within d n) xs) c)
@@ -60,7 +57,7 @@ module _ (tree : PlainTree) where
       get_or_from_slice_get (map (component_of tree) tree.components) k (component_of tree part) no_component (slice_get-map (component_of tree) tree.components k ∙ ap (λ o. option_map (component_of tree) o) h)
 
   pub part_is : (k : ℕ) (part : ast.PlainComponent) → slice_get tree.components k ≡ Some part → part_of (instance_of (design_of tree) k) ≡ component_of tree part
-  part_is k part h = part_within (design_of tree) (length (design_of tree).components) k ∙ component_is k part h
+  part_is k part h = same_part (design_of tree) (length (design_of tree).components) k ∙ component_is k part h
 
   pub cell_ports : (k : ℕ) (part : ast.PlainComponent) (c : ℕ) (cell : PlainCell) → slice_get tree.components k ≡ Some part → slice_get (component_of tree part).cells c ≡ Some cell
       → port_count (cell_at (cells_of (instance_of (design_of tree) k)) c) ≡ kind_ports (design_of tree) cell.kind
@@ -128,7 +125,7 @@ module _ (tree : PlainTree) (k : ℕ) (part : ast.PlainComponent) (at : slice_ge
   groups_are = length-append (map (group_of tree part) (groups_in part.wires)) (invoke_groups tree part (length (group_names part)) (control_invokes tree part part.control)) ∙ ap (λ n. n + length (invoke_groups tree part (length (group_names part)) (control_invokes tree part part.control))) (length-map (groups_in part.wires) (group_of tree part))
 
   pub own_port_there : (name : List ℕ) → is_own tree part name ≡ true → IsThere (instance_of (design_of tree) k) (own_port (number_of name (port_names part.inputs)) (number_or_0 name (port_names part.outputs)))
-  own_port_there name h = by (number_of name (port_names part.inputs)) refl (either (is_among name (port_names part.inputs)) (is_among name (port_names part.outputs)) h)
+  own_port_there name h = by (number_of name (port_names part.inputs)) refl (or_either (is_among name (port_names part.inputs)) (is_among name (port_names part.outputs)) h)
     where
       by : (o : Option ℕ) → number_of name (port_names part.inputs) ≡ o → (is_among name (port_names part.inputs) ≡ true) ⊎ (is_among name (port_names part.outputs) ≡ true) → IsThere (instance_of (design_of tree) k) (own_port o (number_or_0 name (port_names part.outputs)))
       by (Some n) e s = let few = number_within name (port_names part.inputs) n e in let many = inputs_are in omega (arith, few, many)
@@ -152,10 +149,10 @@ module _ (tree : PlainTree) (k : ℕ) (part : ast.PlainComponent) (at : slice_ge
 
   -- a target or an operand that is known and not left out
   pub form_there : (form : OperandForm) → is_unknown tree part form ≡ false → is_left_out tree part form ≡ false → IsThere (instance_of (design_of tree) k) (port_of tree part form)
-  form_there (operands.Own name) known kept = own_port_there name (⊎_elim (λ i. i) (λ o. absurd (true≢false (sym o ∙ kept))) (either (is_own tree part name) (is_own_name name) (from_not _ known)))
+  form_there (operands.Own name) known kept = own_port_there name (⊎_elim (λ i. i) (λ o. absurd (true≢false (sym o ∙ kept))) (or_either (is_own tree part name) (is_own_name name) (not_not _ known)))
   form_there (operands.Port cell port) known kept =
-      cell_port_there cell port (⊎_elim (λ i. i) (λ o. absurd (true≢false (sym o ∙ kept))) (either (is_among port (found_cell_ports tree (cell_among cell part.cells))) (is_clock tree part cell port) (from_not _ known)))
-  form_there (operands.Hole group hole) known kept = group_there group (and_left (is_among group (group_names part)) _ (from_not _ known))
+      cell_port_there cell port (⊎_elim (λ i. i) (λ o. absurd (true≢false (sym o ∙ kept))) (or_either (is_among port (found_cell_ports tree (cell_among cell part.cells))) (is_clock tree part cell port) (not_not _ known)))
+  form_there (operands.Hole group hole) known kept = group_there group (and_left (is_among group (group_names part)) _ (not_not _ known))
     where
       and_left : (a b : Bool) → (a && b) ≡ true → a ≡ true
       and_left true b h = refl
@@ -180,5 +177,5 @@ module _ (tree : PlainTree) (k : ℕ) (part : ast.PlainComponent) (at : slice_ge
   pub source_there : (o : OperandItem) → source_breaks tree part o ≡ [] → IsSource (port_of tree part o.form)
   source_there o h =
       let parts = append_none (unknown tree part o) _ h in
-      let two = both (is_left_out tree part o.form) (rules.is_hole tree part o.form) (tell_none _ _ _ _ parts.1) in
+      let two = or_parts (is_left_out tree part o.form) (rules.is_hole tree part o.form) (tell_none _ _ _ _ parts.1) in
       record { there = form_there o.form (tell_none _ _ _ _ parts.0) two.0; no_hole = no_hole o.form two.1 }

@@ -11,7 +11,8 @@ use Rattle.cx_graphs.specs.Graphs.{In, Edges, edges_of, targets_of, IsGraph, IsR
 use Rattle.cx_graphs.specs.Ways.{Way, edge, further, HasCircle, IsTurned}
 use Rattle.cx_names_parts.specs.Leading.{cell_number, numbers_in, component_edges, at_part, leads_at, is_recursive, AreMarks, StandsIn}
 use Rattle.cx_names_parts.proofs.Counts.{closed_all}
-use Rattle.cx_names_parts.proofs.Numbers.{targets_at, targets_none, target_within, number_found, IsFirst, first_within, target_first, numbers_first, number_in_cells, recursive_none, recursive_some, component_kinds_at, some_in, some_of}
+use Rattle.cx_names_parts.proofs.Numbers.{targets_at, targets_none, number_found, IsFirst, first_within, target_first, numbers_first, number_in_cells, recursive_none, recursive_some, component_kinds_at, some_in, some_of}
+use Rattle.cx_graphs.proofs.WalkLemmas.{targets_within}
 
 pub edges_count : (tree : PlainTree) → length (component_edges tree) ≡ length tree.components
 edges_count tree = length-map tree.components (λ part. numbers_in tree part.cells)
@@ -126,7 +127,7 @@ module _ (tree : PlainTree) (name : List ℕ) where
     leads_reached k (at_start (inr none)) = absurd none
     leads_reached k (by_edge m r e) =
         let back : In (targets_of (component_edges tree) k) m = (is_turned.1 m k).0 e in
-        leads_closed k (subst (λ c. k < c) (edges_count tree) (target_within (component_edges tree) k m back)) (leads_of (length tree.components) k m back (leads_reached m r))
+        leads_closed k (subst (λ c. k < c) (edges_count tree) (targets_within (component_edges tree) k m back)) (leads_of (length tree.components) k m back (leads_reached m r))
 
     -- a mark says whether a component leads to the name
     pub mark_is : (marks : List Bool) (k : ℕ) → IsFirst tree k → length marks ≡ length turned → ((n : ℕ) → Marked marks n → IsReached turned (first ∷ []) n) → ((n : ℕ) → IsReached turned (first ∷ []) n → Marked marks n)
@@ -156,10 +157,6 @@ module _ (tree : PlainTree) (name : List ℕ) where
           circle : (k ≡ number) ⊎ Way (targets_of (component_edges tree)) k number → HasCircle (targets_of (component_edges tree))
           circle (inl same) = (number, edge (subst (λ i. In (targets_of (component_edges tree) number) i) same stands))
           circle (inr way) = (number, further k stands way)
-
--- a graph turned round is one
-pub turned_graph : (g turned : Edges) → IsTurned g turned → IsGraph turned
-turned_graph g turned w n k h = subst (λ c. k < c) (sym w.0) (target_within g k n ((w.1 n k).0 h))
 
 pub no_marks : (tree : PlainTree) (part : PlainComponent) (number : ℕ) → slice_get tree.components number ≡ Some part → number_of part.name (component_names tree) ≡ Some number
     → (HasCircle (targets_of (component_edges tree)) → ⊥) → (k : ℕ) → In (numbers_in tree part.cells) k → leads_at tree part.name (length tree.components) k ≡ false

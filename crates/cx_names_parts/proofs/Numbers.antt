@@ -1,5 +1,5 @@
 -- The components that cells are of, by number.
-use Rattle.std.proofs.Common.{◌≡◌, ℕ, zero, suc, ◌<◌, inl, inr, Bool, true, false, ◌||◌, ◌++◌, List, [], ◌∷◌, Option, Some, None, cond, map, flat_map, length, slice_get, refl, sym, ap, ◌∙◌, arith, subst, true≢false}
+use Rattle.std.proofs.Common.{◌≡◌, ℕ, zero, suc, ◌<◌, inl, inr, Bool, true, false, ◌||◌, ◌++◌, List, [], ◌∷◌, Option, Some, None, cond, map, flat_map, length, slice_get, refl, sym, ap, ◌∙◌, subst, true≢false}
 use Rattle.std.proofs.lemmas.Option.{slice_get_within}
 use Rattle.cx_prim.specs.declared.names.PrimitiveName.{PrimitiveName}
 use Rattle.cx_ast.specs.PlainTree.{PlainTree, PlainComponent, PlainCell}
@@ -7,8 +7,9 @@ use Rattle.cx_numbering.specs.Names.{same_name, number_of, later, primitive_of, 
 use Rattle.cx_numbering.specs.NameRules.{component_kinds, some_part, leads_back}
 use Rattle.cx_names_scopes.proofs.NameLemmas.{same_name-true, same_name-refl, part_at}
 use Rattle.cx_names_scopes.specs.Scopes.{at_number}
-use Rattle.cx_graphs.specs.Graphs.{In, Edges, targets_of}
+use Rattle.cx_graphs.specs.Graphs.{In, targets_of}
 use Rattle.cx_names_parts.specs.Leading.{number_or, cell_number, if_some, numbers_in, component_edges, at_part, leads_at, is_recursive}
+use Rattle.std.proofs.lemmas.Bool.{or_right}
 
 -- the targets of a node that is there, or is not
 pub targets_at : {A : Type 0} (f : A → List ℕ) (xs : List A) (i : ℕ) (x : A) → slice_get xs i ≡ Some x → targets_of (map f xs) i ≡ f x
@@ -20,11 +21,6 @@ pub targets_none : {A : Type 0} (f : A → List ℕ) (xs : List A) (i : ℕ) →
 targets_none f [] i h = refl
 targets_none f (y ∷ xs) zero h = absurd cc
 targets_none f (y ∷ xs) (suc i) h = targets_none f xs i h
-
-pub target_within : (g : Edges) (n m : ℕ) → In (targets_of g n) m → n < length g
-target_within [] n m h = absurd h
-target_within (ms ∷ g) zero m h = omega arith
-target_within (ms ∷ g) (suc n) m h = omega (arith, target_within g n m h)
 
 -- the component of a number has the name that the number was found by
 pub number_found : (name : List ℕ) (parts : List PlainComponent) (k : ℕ) → number_of name (map (λ part. part.name) parts) ≡ Some k
@@ -173,10 +169,6 @@ some_in test parts (k ∷ ks) h = by (slice_get parts k) refl h (some_in test pa
         first : (b : Bool) → test part ≡ b → b || some_part test (parts_at parts ks) ≡ true → (n : ℕ) × In (k ∷ ks) n × (at_part test (slice_get parts n) ≡ true)
         first true q g = (k, inl refl, ap (λ o. at_part test o) e ∙ q)
         first false q g = let w = rest g in (w.0, inr w.1, w.2)
-
-or_right : (a b : Bool) → b ≡ true → (a || b) ≡ true
-or_right true b h = refl
-or_right false b h = h
 
 pub some_of : (test : PlainComponent → Bool) (parts : List PlainComponent) (ks : List ℕ) (k : ℕ) → In ks k → at_part test (slice_get parts k) ≡ true → some_part test (parts_at parts ks) ≡ true
 some_of test parts [] k stands h = absurd stands

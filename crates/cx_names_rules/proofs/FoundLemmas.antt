@@ -1,5 +1,5 @@
 -- The first break of two lists is that of the second, begun with that of the first.
-use Rattle.std.proofs.Common.{◌≡◌, ℕ, suc, ◌+◌, ◌<◌, flat_map, length, drop, get_or, drop-cons, add-one, List, [], ◌∷◌, ◌++◌, Option, refl, ap, sym, ◌∙◌, append-nil, is_some}
+use Rattle.std.proofs.Common.{◌≡◌, ℕ, ◌+◌, ◌<◌, flat_map, length, drop, get_or, List, [], ◌∷◌, ◌++◌, Option, refl, ap, sym, ◌∙◌, append-nil, is_some}
 use Rattle.std.proofs.lemmas.Grind.{flat_map-append}
 use Rattle.cx_text.specs.declared.diagnostics.Diagnostic.{Diagnostic}
 use Rattle.cx_text.specs.declared.rules.Rule.TheVariants.{Duplicate}
@@ -9,6 +9,7 @@ use Rattle.cx_names_scopes.specs.Numbered.{AreNumbersOf}
 use Rattle.cx_names_scopes.specs.declared.numbers.Numbers.{Numbers}
 use Rattle.cx_names_rules.specs.Found.{kept, first_of}
 use Rattle.cx_names_rules.specs.Seen.{Sees, SeesOne, SeesUpTo}
+use Rattle.cx_text.proofs.ListLaws.{drop_item}
 
 pub first_of-append : (found : Option Diagnostic) (xs ys : List Diagnostic) → first_of found (xs ++ ys) ≡ first_of (first_of found xs) ys
 first_of-append found [] ys = refl
@@ -23,10 +24,6 @@ parts_step f xs ys found new total behind told =
 pub both_parts : {X : Type 0} (f : X → List Diagnostic) (xs ys all : List X) (found middle new : Option Diagnostic) → all ≡ xs ++ ys → middle ≡ first_of found (flat_map f xs) → new ≡ first_of middle (flat_map f ys) → new ≡ first_of found (flat_map f all)
 both_parts f xs ys all found middle new joined one other =
     other ∙ ap (λ g. first_of g (flat_map f ys)) one ∙ sym (first_of-append found (flat_map f xs) (flat_map f ys)) ∙ ap (λ ds. first_of found ds) (sym (flat_map-append f xs ys)) ∙ ap (λ zs. first_of found (flat_map f zs)) (sym joined)
-
--- a list from an item on
-pub drop_item : {A : Type 0} (xs : List A) (i : ℕ) (x : A) → x ≡ get_or xs i x → i < length xs → drop i xs ≡ x ∷ drop (i + 1) xs
-drop_item xs i x at within = drop-cons xs i x within ∙ ap (λ y. y ∷ drop (suc i) xs) (sym at) ∙ ap (λ j. x ∷ drop j xs) (sym (add-one i))
 
 pub drop_known : {A : Type 0} (xs : List A) (i : ℕ) (x y : A) → x ≡ get_or xs i x → x ≡ y → i < length xs → drop i xs ≡ y ∷ drop (i + 1) xs
 drop_known xs i x y at known within = drop_item xs i x at within ∙ ap (λ z. z ∷ drop (i + 1) xs) known

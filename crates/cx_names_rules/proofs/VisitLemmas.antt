@@ -1,16 +1,16 @@
 -- Statements in order, and the groups that they name.
-use Rattle.std.proofs.Common.{◌≡◌, ◌++◌, ◌⊎◌, inl, inr, ℕ, List, option_map, false, Option, None, Some, refl, sym, ap, ◌∙◌}
+use Rattle.std.proofs.Common.{◌≡◌, ◌++◌, ◌⊎◌, inl, inr, ℕ, List, option_map, false, Option, None, Some, refl, ap, ◌∙◌}
 use Rattle.cx_ast.specs.declared.wiring.GroupWord.{GroupWord}
 use Rattle.cx_ast.specs.declared.operands.OperandItem.{OperandItem}
 use Rattle.cx_ast.specs.declared.statements.Block.{Block}
 use Rattle.cx_ast.specs.declared.statements.StatementForm.{StatementForm}
-use Rattle.cx_ast.specs.declared.statements.StatementForm.TheFolds.{fold-roll-StatementForm}
-use Rattle.cx_ast.specs.declared.statements.StatementForm.TheVariants.{If, StaticIf, rolls-If, rolls-StaticIf}
-use Rattle.cx_ast.specs.PlainStatements.{PlainForm, PlainBlock, PlainStatement, Placed, PlainStatements, StatementThen, form_step, block_step, statement_step, plain_form, plain_block, else_of}
+use Rattle.cx_ast.specs.declared.statements.StatementForm.TheVariants.{If, StaticIf}
+use Rattle.cx_ast.specs.PlainStatements.{PlainStatement, Placed, PlainStatements, StatementThen, plain_form, plain_block, else_of}
 use Rattle.cx_ast.specs.PlainTree.{PlainTree, PlainComponent, PlainGroup}
 use Rattle.cx_numbering.specs.NameRules.{visit_all, visit_parts, visit_block, visit_else, is_comb_group, is_comb_word}
 use Rattle.cx_names_scopes.specs.Scopes.{word_of}
 use Rattle.cx_names_rules.specs.Visits.{visit_statement}
+use Rattle.cx_numbering.proofs.NameRulesLemmas.{if_parts, static_if_parts}
 
 pub visit_then : (s : PlainStatement) (ss : PlainStatements) → visit_all (StatementThen s ss) ≡ visit_statement s ++ visit_all ss
 visit_then (Placed attributes form place) ss = refl
@@ -22,21 +22,6 @@ no_comb tree part (Some g) h = absurd cc
 pub comb_if : (tree : PlainTree) (part : PlainComponent) (o : Option PlainGroup) (word : GroupWord) → Some word ≡ word_of o → is_comb_word tree part word ≡ is_comb_group tree part o
 comb_if tree part None word h = absurd cc
 comb_if tree part (Some g) word h = let same : word ≡ g.kind = cc in ap (λ w. is_comb_word tree part w) same
-
--- the statements in an `if`
-if_parts : (test : OperandItem) (comb : Option (List ℕ)) (then : Block) (other : Option Block)
-    → visit_parts (plain_form (If test comb then other)) ≡ visit_block (plain_block then) ++ visit_else (else_of (option_map plain_block other))
-if_parts test comb then None =
-    ap (λ f. visit_parts (plain_form f)) (sym (rolls-If test comb then None)) ∙ ap visit_parts (fold-roll-StatementForm PlainForm PlainBlock PlainStatement form_step block_step statement_step _)
-if_parts test comb then (Some other) =
-    ap (λ f. visit_parts (plain_form f)) (sym (rolls-If test comb then (Some other))) ∙ ap visit_parts (fold-roll-StatementForm PlainForm PlainBlock PlainStatement form_step block_step statement_step _)
-
-static_if_parts : (length : Option ℕ) (test : OperandItem) (then : Block) (other : Option Block)
-    → visit_parts (plain_form (StaticIf length test then other)) ≡ visit_block (plain_block then) ++ visit_else (else_of (option_map plain_block other))
-static_if_parts length test then None =
-    ap (λ f. visit_parts (plain_form f)) (sym (rolls-StaticIf length test then None)) ∙ ap visit_parts (fold-roll-StatementForm PlainForm PlainBlock PlainStatement form_step block_step statement_step _)
-static_if_parts length test then (Some other) =
-    ap (λ f. visit_parts (plain_form f)) (sym (rolls-StaticIf length test then (Some other))) ∙ ap visit_parts (fold-roll-StatementForm PlainForm PlainBlock PlainStatement form_step block_step statement_step _)
 
 pub either_parts : (form : StatementForm) (then : Block) (other : Option Block)
     → ((test : OperandItem) × (comb : Option (List ℕ)) × form ≡ If test comb then other) ⊎ ((length : Option ℕ) × (test : OperandItem) × form ≡ StaticIf length test then other)

@@ -1,5 +1,5 @@
 -- Names that are equal, and the numbers of names.
-use Rattle.std.proofs.Common.{◌≡◌, ℕ, zero, suc, ◌+◌, ◌<◌, Bool, true, false, ◌&&◌, ◌||◌, List, [], ◌∷◌, ◌++◌, length, map, drop, get_or, slice_get, option_map, arith, drop-cons, append_assoc, Option, None, Some, cond, is_some, nat_eq, refl, sym, ◌∙◌, ap, subst, true≢false, codes, add-one}
+use Rattle.std.proofs.Common.{◌≡◌, ℕ, zero, suc, ◌+◌, ◌<◌, Bool, true, false, ◌&&◌, ◌||◌, List, [], ◌∷◌, ◌++◌, length, map, drop, get_or, slice_get, option_map, arith, append_assoc, Option, None, Some, cond, is_some, nat_eq, refl, sym, ◌∙◌, ap, subst, true≢false, codes, add-one}
 use Rattle.std.proofs.lemmas.Option.{get_or_from_slice_get, slice_get_within, slice_get-get_or, slice_get-map}
 use Rattle.std.proofs.lemmas.List.{length-map, get_or-map}
 use Rattle.std.specs.Cmp.Lexicographic.{pointwise, bytes_decides}
@@ -14,6 +14,7 @@ use Rattle.cx_names_scopes.specs.declared.numbers.Numbers.{Numbers}
 use Rattle.cx_names_scopes.specs.Scopes.{at_number, word_of}
 use Rattle.cx_names_scopes.specs.Indexed.{IsPartIndex, ArePartIndexes, AreGroups}
 use Rattle.cx_names_scopes.specs.Numbered.{number_in, AreNumbersOf, or_else, number_if, number_from}
+use Rattle.cx_text.proofs.ListLaws.{drop_item}
 
 pub same_name-pointwise : (xs ys : List ℕ) → same_name xs ys ≡ pointwise nat_eq xs ys
 same_name-pointwise [] [] = refl
@@ -102,10 +103,6 @@ ports_step found new k n port rest total other added h =
     ∙ number_from-step found (same_name port.name n) k (number_from (k + 1) n (port_names rest))
     ∙ ap (λ b. or_else found (number_from k n (map (λ p. p.name) (if_not_own b port (signature_ports rest))))) (sym other)
     ∙ h
-
--- a list from an item on
-pub drop_item : {A : Type 0} (xs : List A) (i : ℕ) (x : A) → x ≡ get_or xs i x → i < length xs → drop i xs ≡ x ∷ drop (i + 1) xs
-drop_item xs i x at within = drop-cons xs i x within ∙ ap (λ y. y ∷ drop (suc i) xs) (sym at) ∙ ap (λ j. x ∷ drop j xs) (sym (add-one i))
 
 -- one index more
 pub indexes_step : (all : List PlainComponent) (part : PlainComponent) (index : PartIndex) (left : List PlainComponent) (before after rest : List PartIndex)

@@ -5,7 +5,6 @@ use Rattle.cx_bits.specs.BitVector.{BitVector}
 use Rattle.cx_prim.specs.declared.ports.PortRow.{PortRow}
 use Rattle.cx_prim.specs.Rows.{Inputs, input}
 use Rattle.cx_meaning.specs.declared.ports.PortRef.TheVariants as ports
-use Rattle.cx_meaning.specs.Rows.{side_from}
 use Rattle.cx_net.specs.NetMeaning.{APort, NetLook, gather_known, zero_wide}
 use Rattle.cx_net.specs.NetEdges.{inputs_from}
 
@@ -82,17 +81,6 @@ pub input_within : (inputs : Inputs) (n : ℕ) (x : BitVector) → input inputs 
 input_within [] n x e = absurd (cc)
 input_within (y ∷ inputs) zero x e = omega arith
 input_within (y ∷ inputs) (suc n) x e = let h = input_within inputs n x e in omega arith
-
-pub there_within : {A : Type 0} (xs : List A) (n : ℕ) → n < length xs → (x : A) × (slice_get xs n ≡ Some x)
-there_within [] n h = absurd (omega arith)
-there_within (x ∷ xs) zero h = (x, refl)
-there_within (x ∷ xs) (suc n) h = there_within xs n (omega arith)
-
--- which side a port of a row is on
-pub side-at : (rows : List PortRow) (n : ℕ) (row : PortRow) → slice_get rows n ≡ Some row → side_from rows n ≡ row.side
-side-at [] n row e = absurd (cc)
-side-at (x ∷ rows) zero row e = let same : x ≡ row = cc in ap (λ (y : PortRow). y.side) same
-side-at (x ∷ rows) (suc n) row e = side-at rows n row e
 
 -- what stands at the ports in a look
 pub length-inputs_from : (look : NetLook) (c first : ℕ) (rows : List PortRow) → length (inputs_from look c first rows) ≡ length rows

@@ -4,3 +4,6 @@ pub mod GatherLemmas
 pub mod PortWidths
 pub mod WidthLaws
 pub mod HoldLaws
+pub mod NetMeaningLemmas
+pub mod NetTreeLemmas
+pub mod NetsLemmas

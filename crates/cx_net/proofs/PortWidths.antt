@@ -1,5 +1,5 @@
 -- Each port of a component that has a width is its go, an input, an output or its done.
-use Rattle.std.proofs.Common.{◌≡◌, ℕ, zero, suc, ◌-◌, ◌<◌, ◌≤◌, Bool, true, false, List, [], ◌∷◌, ◌++◌, length, map, Option, Some, None, option_map, slice_get, append_assoc, refl, ap, sym, ◌∙◌, subst, if◌then◌else◌, arith}
+use Rattle.std.proofs.Common.{◌≡◌, ℕ, zero, suc, ◌-◌, ◌<◌, ◌≤◌, Bool, true, false, List, [], ◌∷◌, ◌++◌, length, map, Some, option_map, slice_get, append_assoc, refl, ap, sym, ◌∙◌, subst, if◌then◌else◌}
 use Rattle.std.specs.Prelude.{nat_lt}
 use Rattle.std.proofs.lemmas.Bool.{ltb-true, ltb-false}
 use Rattle.std.proofs.lemmas.List.{length-map}
@@ -9,6 +9,8 @@ use Rattle.cx_meaning.specs.Sights.{Go, AnInput, AnOutput, ItsDone, later_port, 
 use Rattle.cx_net.specs.Nets.{PlainNetComponent}
 use Rattle.cx_net.specs.NetMeaning.{net_part_port}
 use Rattle.cx_net.specs.NetFits.{signature_widths}
+use Rattle.cx_text.proofs.ListLaws.{append-front, append-back}
+use Rattle.cx_text.proofs.OptionLaws.{map_of}
 
 -- port p, of this width
 pub data WidePort (part : PlainNetComponent) (p w : ℕ) : Type 0 where
@@ -16,21 +18,6 @@ pub data WidePort (part : PlainNetComponent) (p w : ℕ) : Type 0 where
   wide_input : (n : ℕ) (d : PortDecl) → net_part_port part p ≡ AnInput n → slice_get part.inputs n ≡ Some d → w ≡ d.width → WidePort part p w
   wide_output : (n : ℕ) (d : PortDecl) → net_part_port part p ≡ AnOutput n → slice_get part.outputs n ≡ Some d → w ≡ d.width → WidePort part p w
   wide_done : net_part_port part p ≡ ItsDone → w ≡ 1 → WidePort part p w
-
--- an element of two lists in a row
-pub append-front : {A : Type 0} (xs ys : List A) (n : ℕ) → n < length xs → slice_get (xs ++ ys) n ≡ slice_get xs n
-append-front [] ys n lt = absurd (omega arith)
-append-front (x ∷ xs) ys zero lt = refl
-append-front (x ∷ xs) ys (suc n) lt = append-front xs ys n (omega arith)
-
-pub append-back : {A : Type 0} (xs ys : List A) (n : ℕ) → length xs ≤ n → slice_get (xs ++ ys) n ≡ slice_get ys (n - length xs)
-append-back [] ys n le = let same : n ≡ n - 0 = omega arith in ap (slice_get ys) same
-append-back (x ∷ xs) ys zero le = absurd (omega arith)
-append-back (x ∷ xs) ys (suc n) le = let same : n - length xs ≡ suc n - length (x ∷ xs) = omega arith in append-back xs ys n (omega arith) ∙ ap (slice_get ys) same
-
-map_of : {A B : Type 0} (f : A → B) (o : Option A) (y : B) → option_map f o ≡ Some y → (x : A) × (o ≡ Some x) × (y ≡ f x)
-map_of f None y e = absurd (cc)
-map_of f (Some x) y e = (x, refl, cc)
 
 single_at : {A : Type 0} (x y : A) (q : ℕ) → slice_get (x ∷ []) q ≡ Some y → y ≡ x
 single_at x y zero e = cc

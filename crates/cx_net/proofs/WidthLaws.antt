@@ -5,14 +5,14 @@ use Rattle.std.proofs.lemmas.Bool.{lt-ltb}
 use Rattle.std.proofs.lemmas.Nat.{pow_pos}
 use Rattle.cx_bits.specs.BitVector.{BitVector, Fits}
 use Rattle.cx_bits.specs.Operators.{and_of, or_of, sum_of, complement_of}
-use Rattle.cx_bits.specs.OperatorLaws.{Fits-bit_of, Fits-sum_of, Fits-and_of, Fits-or_of, Fits-complement_of}
+use Rattle.cx_bits.proofs.OperatorLaws.{Fits-sum_of, Fits-and_of, Fits-or_of, Fits-complement_of}
 use Rattle.cx_prim.specs.declared.ports.PortRow.{PortRow}
 use Rattle.cx_prim.specs.declared.ports.Side.{Side}
 use Rattle.cx_prim.specs.declared.ports.Side.TheVariants as sides
 use Rattle.cx_prim.specs.CellStates.{CellState, IsState}
 use Rattle.cx_prim.specs.Rows.{Inputs, Row, input, is_output_side, FitsPorts, AreValues, IsOfWidth, IsLawful}
 use Rattle.cx_prim.specs.Table.{PrimitiveRow, row_of}
-use Rattle.cx_prim.specs.TableLaws.{row_of_lawful}
+use Rattle.cx_prim.proofs.TableLaws.{row_of_lawful}
 use Rattle.cx_prim.specs.Widths.{IsWidth}
 use Rattle.cx_meaning.specs.declared.kinds.PortDecl.{PortDecl}
 use Rattle.cx_meaning.specs.declared.ports.PortRef.{PortRef}
@@ -28,19 +28,13 @@ use Rattle.cx_net.specs.NetFits.{signature_widths, kind_width, port_width, HasPo
 use Rattle.cx_net.specs.NetPaths.{LeadsTo, width_of_node}
 use Rattle.cx_net.specs.NetHolds.{Holds, IsWide, RowsAreWide}
 use Rattle.cx_net.proofs.DriverLemmas.{AreFitDrivers, drivers_fit, primitive_width, component_width, at_kind, part-within, cell-at, step-at}
-use Rattle.cx_net.proofs.GatherLemmas.{gathered, no_inputs, length-no_inputs, input-no_inputs, input_within, there_within, side-at}
+use Rattle.cx_net.proofs.GatherLemmas.{gathered, no_inputs, length-no_inputs, input-no_inputs, input_within}
 use Rattle.cx_net.proofs.PortWidths.{WidePort, wide_go, wide_input, wide_output, wide_done, wide_port, input_width}
-
-pub map_some : {A B : Type 0} (f : A → B) (o : Option A) (y : B) → option_map f o ≡ Some y → (x : A) × (o ≡ Some x) × (f x ≡ y)
-map_some f None y e = absurd (cc)
-map_some f (Some x) y e = (x, refl, cc)
-
-pub bind_some : {A B : Type 0} (f : A → Option B) (o : Option A) (y : B) → option_and_then f o ≡ Some y → (x : A) × (o ≡ Some x) × (f x ≡ Some y)
-bind_some f None y e = absurd (cc)
-bind_some f (Some x) y e = (x, refl, e)
-
-some_is : {A : Type 0} (x y : A) → Some x ≡ Some y → x ≡ y
-some_is x y e = cc
+use Rattle.cx_text.proofs.OptionLaws.{map_some, bind_some, same_some}
+use Rattle.cx_net.proofs.NetMeaningLemmas.{bit_width}
+use Rattle.cx_text.proofs.BoolLaws.{bit_of_number}
+use Rattle.cx_text.proofs.ListLaws.{there_at}
+use Rattle.cx_meaning.proofs.RowsLemmas.{side_at}
 
 both_some : (f : BitVector → BitVector → BitVector) (a b : Option BitVector) (v : BitVector) → both_known f a b ≡ Some v → (x : BitVector) × (y : BitVector) × (a ≡ Some x) × (b ≡ Some y) × (f x y ≡ v)
 both_some f a b v e =
@@ -53,16 +47,6 @@ zero_fits w wide = record { same_width = refl; fits = record { some_bits = wide.
 
 one_wide : IsWidth 1
 one_wide = record { some_bits = omega arith; few_bits = omega arith }
-
-bit_width : (b : Bool) → IsOfWidth 1 (truth_bit b)
-bit_width true = record { same_width = refl; fits = Fits-bit_of true }
-bit_width false = record { same_width = refl; fits = Fits-bit_of false }
-
--- one bit is 1 or 0
-bit_of_number : (n : ℕ) → n < 2 → (b : Bool) × (n ≡ (if b then 1 else 0))
-bit_of_number zero h = (false, refl)
-bit_of_number (suc zero) h = (true, refl)
-bit_of_number (suc (suc n)) h = absurd (omega arith)
 
 pub bit_is : (v : BitVector) → IsOfWidth 1 v → (b : Bool) × (v ≡ truth_bit b)
 bit_is v h =
@@ -101,7 +85,7 @@ module _ (net : PlainNet) (fit : IsFit net) (wide : IsWide net) (rows_wide : Row
 
       register_wide : (n w : ℕ) (v : BitVector) → slice_get part.registers n ≡ Some w → registers n ≡ Some v → IsOfWidth w v
       register_wide n w v there e =
-          let is = some_is (record { width = w; value = s.register [] n }) v (sym (ap (option_map (λ u. record { width = u; value = s.register [] n })) there) ∙ e) in
+          let is = same_some (record { width = w; value = s.register [] n }) v (sym (ap (option_map (λ u. record { width = u; value = s.register [] n })) there) ∙ e) in
           let ok = (wide k).registers n w there in
           subst (IsOfWidth w) is (record { same_width = refl; fits = record { some_bits = ok.some_bits; few_bits = ok.few_bits; in_range = holds.registers [] k n w refl there } })
 
@@ -110,7 +94,7 @@ module _ (net : PlainNet) (fit : IsFit net) (wide : IsWide net) (rows_wide : Row
       port_wide (ports.Input n) w v h e = outward.inputs n w v h e
       port_wide (ports.Output n) w v h e = looked [] k (APort (ports.Output n)) w v refl h e
       port_wide (ports.Done g) w v h e = absurd h
-      port_wide (ports.Literal u x) w v h e = subst (IsOfWidth w) (some_is (record { width = u; value = x }) v e) h
+      port_wide (ports.Literal u x) w v h e = subst (IsOfWidth w) (same_some (record { width = u; value = x }) v e) h
 
       hole_wide : (n w : ℕ) (v : BitVector) → n < part.holes → w ≡ 1 → look [] (AHole n) ≡ Some v → IsOfWidth w v
       hole_wide n w v less one e =
@@ -123,7 +107,7 @@ module _ (net : PlainNet) (fit : IsFit net) (wide : IsWide net) (rows_wide : Row
         expr_wide (OfWire n) w v h e = looked [] k (AWire n) w v refl h e
         expr_wide (OfHole n) w v h e = hole_wide n w v h.0 h.1 e
         expr_wide OfGo w v h e = subst (λ u. IsOfWidth u v) (sym h) (outward.go v e)
-        expr_wide (Fixed b) w v h e = subst (IsOfWidth w) (some_is b v e) h
+        expr_wide (Fixed b) w v h e = subst (IsOfWidth w) (same_some b v e) h
         expr_wide (Inverse a) w v h e =
             let (x, is, same) = map_some complement_of (value a) v e in
             let r = expr_wide a w x h is in
@@ -139,20 +123,20 @@ module _ (net : PlainNet) (fit : IsFit net) (wide : IsWide net) (rows_wide : Row
             subst (λ u. IsOfWidth u v) (sym h.0) (subst (IsOfWidth 1) same (bit_width (compares c x.value y.value)))
 
         all_wide : (es : PlainNetExprs) (v : BitVector) → AreBits net part es → all_expr around registers (look []) es ≡ Some v → IsOfWidth 1 v
-        all_wide no_exprs v h e = subst (IsOfWidth 1) (some_is (truth_bit true) v e) (bit_width true)
+        all_wide no_exprs v h e = subst (IsOfWidth 1) (same_some (truth_bit true) v e) (bit_width true)
         all_wide (an_expr a es) v h e =
             let (x, y, is_x, is_y, same) = both_some and_of (value a) (all_expr around registers (look []) es) v e in
             subst (IsOfWidth 1) same (and_wide x y (expr_wide a 1 x h.0 is_x))
 
         any_wide : (es : PlainNetExprs) (v : BitVector) → AreBits net part es → any_expr around registers (look []) es ≡ Some v → IsOfWidth 1 v
-        any_wide no_exprs v h e = subst (IsOfWidth 1) (some_is (truth_bit false) v e) (bit_width false)
+        any_wide no_exprs v h e = subst (IsOfWidth 1) (same_some (truth_bit false) v e) (bit_width false)
         any_wide (an_expr a es) v h e =
             let (x, y, is_x, is_y, same) = both_some or_of (value a) (any_expr around registers (look []) es) v e in
             subst (IsOfWidth 1) same (or_wide x y (expr_wide a 1 x h.0 is_x) (any_wide es y h.1 is_y))
 
       -- what drivers give
       pub chain_wide : (u : BitVector) (w : ℕ) (ds : List PlainNetDriver) (v : BitVector) → IsOfWidth w u → AreFitDrivers net part w ds → chain around registers (look []) u ds ≡ Some v → IsOfWidth w v
-      chain_wide u w [] v h fits e = subst (IsOfWidth w) (some_is u v e) h
+      chain_wide u w [] v h fits e = subst (IsOfWidth w) (same_some u v e) h
       chain_wide u w (d ∷ ds) v h fits e =
           let (g, is, f) = bind_some (λ g. if is_true g then value d.source else chain around registers (look []) u ds) (value d.guard) v e in
           go (is_true g) f (λ g. chain_wide u w ds v h fits.2 g)
@@ -192,7 +176,7 @@ module _ (net : PlainNet) (fit : IsFit net) (wide : IsWide net) (rows_wide : Row
           record { count = count; widths = λ n port x at e. (each n port x at e).same_width },
           λ n x e.
               let within = input_within inputs n x e in
-              let (port, at) = there_within row.ports n (subst (λ l. n < l) count within) in
+              let (port, at) = there_at row.ports n (subst (λ l. n < l) count within) in
               (each n port x at e).fits,
         )
 
@@ -265,7 +249,7 @@ module _ (net : PlainNet) (fit : IsFit net) (wide : IsWide net) (rows_wide : Row
           let (port, at, same) = map_some (λ (x : PortRow). x.width) (slice_get (row_of primitive).ports p) w is_wide in
           subst (λ u. IsOfWidth u v) same
           (row_wide its_cells c cell primitive there is p port at port.side refl v
-          (subst (λ side. row_node part its_cells around s (look []) (λ c. look (c ∷ [])) (row_of primitive) c p side ≡ Some v) (side-at (row_of primitive).ports p port at) e))
+          (subst (λ side. row_node part its_cells around s (look []) (λ c. look (c ∷ [])) (row_of primitive) c p side ≡ Some v) (side_at (row_of primitive).ports p port at) e))
       cell_wide c p w v cell there (OfComponent child) is is_wide e = child_wide its_cells c cell child there is (net_within net levels child) (part-within net levels child) p w v is_wide e
 
       own_wide : (node : Node) (w : ℕ) (v : BitVector) → width_of_node net part node ≡ Some w → own_step part its_cells around s (look []) (λ c. look (c ∷ [])) node ≡ Some v → IsOfWidth w v
@@ -286,9 +270,9 @@ module _ (net : PlainNet) (fit : IsFit net) (wide : IsWide net) (rows_wide : Row
           (sym (ap (option_and_then (λ u. driven_node part its_cells around s (look []) (λ c. look (c ∷ [])) u (ToWire n))) is_wide) ∙ e)
       own_wide (AHole n) w v is_wide e = go (nat_lt n part.holes) refl is_wide e where
         go : (b : Bool) → nat_lt n part.holes ≡ b → (if b then Some 1 else None) ≡ Some w → (if b then driven_node part its_cells around s (look []) (λ c. look (c ∷ [])) 1 (ToHole n) else None) ≡ Some v → IsOfWidth w v
-        go true there f g = subst (λ u. IsOfWidth u v) (some_is 1 w f) (driven_wide its_cells (ToHole n) 1 v one_wide (ap (λ b. if b then Some 1 else None) there) g)
+        go true there f g = subst (λ u. IsOfWidth u v) (same_some 1 w f) (driven_wide its_cells (ToHole n) 1 v one_wide (ap (λ b. if b then Some 1 else None) there) g)
         go false there f g = absurd (cc)
-      own_wide TheDone w v is_wide e = subst (λ u. IsOfWidth u v) (some_is 1 w is_wide) (driven_wide its_cells ToDone 1 v one_wide refl e)
+      own_wide TheDone w v is_wide e = subst (λ u. IsOfWidth u v) (same_some 1 w is_wide) (driven_wide its_cells ToDone 1 v one_wide refl e)
 
   -- a component's cell is of one that is there
   pub child_there : (k c : ℕ) (cell : PlainCell) (child : ℕ) → k < length net.components → slice_get (net_component_at net k).cells c ≡ Some cell → cell.kind ≡ OfComponent child → child < k
@@ -324,7 +308,7 @@ module _ (net : PlainNet) (fit : IsFit net) (wide : IsWide net) (rows_wide : Row
       (sym (step-at (net_within net levels) (around_child c (look [])) (below_cell c s) (λ q. look (c ∷ q)) path (net_component_at net k).cells c cell child there is node) ∙ e)
 
   pub main_around : (go : Bool) → HasAround net.main (outside go)
-  main_around go = record { go = λ v e. subst (IsOfWidth 1) (some_is (truth_bit go) v e) (bit_width go); inputs = λ n w v is_wide e. absurd (cc) }
+  main_around go = record { go = λ v e. subst (IsOfWidth 1) (same_some (truth_bit go) v e) (bit_width go); inputs = λ n w v is_wide e. absurd (cc) }
 
   -- VALUES HAVE THEIR WIDTHS
   pub values_wide : (go : Bool) (s : NetState) → Holds net net.main s → (path : Path) (h w : ℕ) (node : Node) (v : BitVector) → LeadsTo net net.main path h → width_of_node net (net_component_at net h) node ≡ Some w

@@ -38,12 +38,12 @@ use Rattle.cx_emit.specs.Sources.{source_of}
 use Rattle.cx_emit.specs.Fits.{IsFlat}
 use Rattle.cx_emit.proofs.AllValued.{WholeText, whole_text}
 use Rattle.cx_emit.proofs.EdgeValues.{edges_carry}
-use Rattle.cx_emit.proofs.ExprLemmas.{bit_is}
 use Rattle.cx_emit.proofs.Situations.{main_situation}
 use Rattle.cx_emit.proofs.TextWholes.{whole_has}
 use Rattle.cx_net_runs.specs.Inputs.{HasInputs}
 use Rattle.cx_net_runs.specs.Standing.{moment, StandsAt, StandsIn}
 use Rattle.cx_net_runs.proofs.InputLemmas.{inputs_stand}
+use Rattle.cx_net.proofs.WidthLaws.{bit_is}
 
 abbrev bit : Bool → ℕ
 bit one = if one then 1 else 0

@@ -17,6 +17,7 @@ use Rattle.cx_orders.proofs.StepFrames.{StepsIn, step_only}
 use Rattle.cx_orders.proofs.StepFits.{LeftFits, StepFits, step_fits}
 use Rattle.cx_orders.proofs.Joins.{in_first, call_again}
 use Rattle.cx_orders.proofs.Orders.{Goes, EndsIn, any_leaf}
+use Rattle.cx_meaning.proofs.InstancesLemmas.{just_true}
 
 -- what is open ends in a state, and then comes what is behind it
 pub record Splits (i : Instance) (held : Held) (m : ℕ) (o : Open) (s : State) (behind : ℕ → State → Type 0) : Type 0 where
@@ -148,12 +149,6 @@ module _ (i : Instance) (held : Held) (g c : ℕ) (inputs : List Seen) (s final 
 pub call_begins : (i : Instance) (held : Held) (g c : ℕ) (final : State) (m : ℕ) (o : Open) (s : State) → EndsIn i held final m (Some (InCall g c None o)) s → EndsIn i held final m (Some (InCall g c (Some (inputs_seen i held g c s)) o)) s
 call_begins i held g c final zero o s e = e
 call_begins i held g c final (suc m) o s e = e
-
-pub just_true : (k c : ℕ) → just k c ≡ true → k ≡ c
-just_true zero zero e = refl
-just_true zero (suc c) e = absurd (let f : false ≡ true = e in cc)
-just_true (suc k) zero e = absurd (let f : false ≡ true = e in cc)
-just_true (suc k) (suc c) e = ap suc (just_true k c e)
 
 pub put_same : (c : ℕ) (s : State) → put c (under c s) s ≡ s
 put_same c s = fun_ext at

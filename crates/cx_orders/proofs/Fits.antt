@@ -1,24 +1,24 @@
 -- What is open fits in a statement: its groups, tests and arms are those of the statement, and arms are apart.
-use Rattle.std.proofs.Common.{◌≡◌, ℕ, zero, suc, inl, inr, true, ◌||◌, List, [], ◌∷◌, ◌++◌, Option, Some, None, refl, sym, ap, ◌∙◌, subst}
+use Rattle.std.proofs.Common.{◌≡◌, ℕ, zero, suc, inl, inr, true, List, [], ◌∷◌, ◌++◌, Option, Some, None, refl, sym, ap, subst}
 use Rattle.cx_text.specs.declared.places.Place.{Place}
 use Rattle.cx_meaning.specs.declared.ports.PortRef.{PortRef}
-use Rattle.cx_meaning.specs.declared.ports.PortRef.TheVariants as ports
 use Rattle.cx_meaning.specs.declared.kinds.GroupKind.{GroupKind}
 use Rattle.cx_meaning.specs.declared.kinds.GroupKind.TheVariants as kinds
-use Rattle.cx_meaning.specs.Designs.{PlainComponent, PlainAssign, group_at, no_component, PlainForm, Empty, Enable, Seq, Par, If, While, Repeat, StaticSeq, StaticPar, StaticIf, StaticRepeat, Timed, PlainStatement, Placed, PlainStatements, no_statements, a_statement, list_of}
-use Rattle.cx_meaning.specs.Instances.{Instance, Node, Cells, no_cells, a_primitive, an_instance, At, Nothing, OfRow, OfInstance, cell_at, part_of, cells_of, Path, instance_at, child_at, just}
+use Rattle.cx_meaning.specs.Designs.{PlainComponent, group_at, PlainForm, Empty, Enable, Seq, Par, If, While, Repeat, StaticSeq, StaticPar, StaticIf, StaticRepeat, Timed, PlainStatement, Placed, PlainStatements, no_statements, a_statement, list_of}
+use Rattle.cx_meaning.specs.Instances.{Instance, Node, Cells, no_cells, a_primitive, an_instance, part_of, cells_of, Path, instance_at, child_at}
 use Rattle.cx_meaning.specs.Sights.{In, unheld}
-use Rattle.cx_meaning.specs.Control.{groups_in, groups_of, groups_in_all, with_comb, targets_cell, assigns_drive, drives}
-use Rattle.cx_meaning.specs.Calls.{if_instance, called_by, called_in, called}
+use Rattle.cx_meaning.specs.Control.{groups_in, groups_of, groups_in_all, drives}
+use Rattle.cx_meaning.specs.Calls.{called}
 use Rattle.cx_rules.specs.Items.{Dynamic, Visited, visit, visit_parts, visit_all}
 use Rattle.cx_rules.specs.Footprints.{Reads}
 use Rattle.cx_rules.specs.RaceRule.{IsShared, arms_of}
-use Rattle.cx_rules.proofs.Finite.{in_left, in_right}
-use Rattle.cx_rules.proofs.ForeignLemmas.{just_self, or_right}
 use Rattle.cx_frames.proofs.RunLemmas.{drives_group}
 use Rattle.cx_frames.proofs.SightFrames.{InFrame}
 use Rattle.cx_orders.specs.Open.{Open, Idling, InGroup, Choosing, Testing, InIsland, Capturing, Closing, Waiting, InSeq, InPar, InLoop, InRepeat, InCall, Opens, no_arms, an_arm, open_form, open_with, open_arms, open_called, open_kind, open_enable, open_control, open_below, open_statement}
 use Rattle.cx_orders.proofs.Inside.{IsSound, Stands, visited_as, inner_stands, itself, Inside, InsideOne, InsideAll, inside_self, inside_left, inside_right, FormIn, test_inside, drives_inside, reads_inside, Apart, apart_first, apart_rest}
+use Rattle.cx_meaning.proofs.InstancesLemmas.{here as here_again, nowhere}
+use Rattle.cx_meaning.proofs.SightsLaws.{behind_comb, in_comb, in_left, in_right}
+use Rattle.cx_frames.proofs.LeafFrames.{called_drives}
 
 -- a test in the frame of a statement, with a comb group of it
 pub record TestFits (i : Instance) (st : PlainStatement) (port : PortRef) (comb : Option ℕ) : Type 0 where
@@ -57,16 +57,9 @@ abbrev mutual
 abbrev pub AllSound : Instance → Type 0
 AllSound i = (path : Path) → IsSound (instance_at i path)
 
-pub here_again : (i : Instance) → instance_at i [] ≡ i
-here_again (Node part cells) = refl
-
-none_below : (path : Path) → instance_at (Node no_component no_cells) path ≡ Node no_component no_cells
-none_below [] = refl
-none_below (c ∷ path) = refl
-
 child_then : (cells : Cells) (c : ℕ) (path : Path) → instance_at (child_at cells c []) path ≡ child_at cells c path
-child_then no_cells c path = none_below path
-child_then (a_primitive row rest) zero path = none_below path
+child_then no_cells c path = nowhere path
+child_then (a_primitive row rest) zero path = nowhere path
 child_then (a_primitive row rest) (suc c) path = child_then rest c path
 child_then (an_instance child rest) zero path = ap (λ x. instance_at x path) (here_again child)
 child_then (an_instance child rest) (suc c) path = child_then rest c path
@@ -79,38 +72,6 @@ sound_below i all c path = subst IsSound (sym (below_then i c path)) (all (c ∷
 
 pub sound_here : (i : Instance) → AllSound i → IsSound i
 sound_here i all = subst IsSound (here_again i) (all [])
-
--- a cell that a group calls it drives
-none_some : (k : ℕ) → ◌≡◌ {A = Option ℕ} None (Some k) → ⊥
-none_some k e = cc
-
-some_inj : (a b : ℕ) → ◌≡◌ {A = Option ℕ} (Some a) (Some b) → a ≡ b
-some_inj a b e = cc
-
-called_drives : (cells : Cells) (list : List PlainAssign) (c : ℕ) → called_in cells list ≡ Some c → assigns_drive list c ≡ true
-called_drives cells [] c e = absurd (none_some c e)
-called_drives cells (a ∷ rest) c e = of_target a.target e (called_drives cells rest c)
-  where
-    of_at : (at : At) (d : ℕ) → if_instance at d (called_in cells rest) ≡ Some c → (called_in cells rest ≡ Some c → assigns_drive rest c ≡ true) → (just d c || assigns_drive rest c) ≡ true
-    of_at Nothing d e h = or_right (just d c) (assigns_drive rest c) (h e)
-    of_at (OfRow row) d e h = or_right (just d c) (assigns_drive rest c) (h e)
-    of_at (OfInstance child) d e h = ap (λ x. just x c || assigns_drive rest c) (some_inj d c e) ∙ ap (λ b. b || assigns_drive rest c) (just_self c)
-
-    of_target : (p : PortRef) → called_by cells p (called_in cells rest) ≡ Some c → (called_in cells rest ≡ Some c → assigns_drive rest c ≡ true) → (targets_cell p c || assigns_drive rest c) ≡ true
-    of_target (ports.Cell d n) e h = of_at (cell_at cells d) d e h
-    of_target (ports.Input n) e h = h e
-    of_target (ports.Output n) e h = h e
-    of_target (ports.Done g) e h = h e
-    of_target (ports.Literal w v) e h = h e
-
--- OPENING
-with_first : (comb : Option ℕ) (gs : List ℕ) (g : ℕ) → comb ≡ Some g → In (with_comb comb gs) g
-with_first None gs g e = absurd (none_some g e)
-with_first (Some h) gs g e = inl (some_inj h g e)
-
-pub with_later : (comb : Option ℕ) (gs : List ℕ) (g : ℕ) → In gs g → In (with_comb comb gs) g
-with_later None gs g j = j
-with_later (Some h) gs g j = inr j
 
 -- the arms of a par of a statement stand, and are apart
 arm_is : (i : Instance) (st : PlainStatement) → Stands i st → (s : PlainStatement) → InsideOne st s → IsArm i st s
@@ -146,13 +107,13 @@ module _ (i : Instance) (sound : IsSound i) (enable : ℕ → Open) (enabled : (
           ),
         )
     fits_form st stands (If test comb a b) here h = (
-      record { inside = test_inside i unheld sound st stands (If test comb a b) test here refl; group = λ g e. h.groups g (with_first comb (groups_of a ++ groups_of b) g e) },
-      record { groups = λ g j. h.groups g (with_later comb (groups_of a ++ groups_of b) g (in_left (groups_of a) (groups_of b) g j)); forms = λ v j. h.forms v (in_left (visit Dynamic a) (visit Dynamic b) v j) },
-      record { groups = λ g j. h.groups g (with_later comb (groups_of a ++ groups_of b) g (in_right (groups_of a) (groups_of b) g j)); forms = λ v j. h.forms v (in_right (visit Dynamic a) (visit Dynamic b) v j) },
+      record { inside = test_inside i unheld sound st stands (If test comb a b) test here refl; group = λ g e. h.groups g (in_comb comb (groups_of a ++ groups_of b) g e) },
+      record { groups = λ g j. h.groups g (behind_comb comb (groups_of a ++ groups_of b) g (in_left (groups_of a) (groups_of b) g j)); forms = λ v j. h.forms v (in_left (visit Dynamic a) (visit Dynamic b) v j) },
+      record { groups = λ g j. h.groups g (behind_comb comb (groups_of a ++ groups_of b) g (in_right (groups_of a) (groups_of b) g j)); forms = λ v j. h.forms v (in_right (visit Dynamic a) (visit Dynamic b) v j) },
     )
     fits_form st stands (While test comb a) here h = (
-      record { inside = test_inside i unheld sound st stands (While test comb a) test here refl; group = λ g e. h.groups g (with_first comb (groups_of a) g e) },
-      record { groups = λ g j. h.groups g (with_later comb (groups_of a) g j); forms = h.forms },
+      record { inside = test_inside i unheld sound st stands (While test comb a) test here refl; group = λ g e. h.groups g (in_comb comb (groups_of a) g e) },
+      record { groups = λ g j. h.groups g (behind_comb comb (groups_of a) g j); forms = h.forms },
     )
     fits_form st stands (Repeat zero a) here h = tt
     fits_form st stands (Repeat (suc k) a) here h = (fits_with st stands a (record { groups = h.groups; forms = h.forms }), record { groups = h.groups; forms = h.forms })

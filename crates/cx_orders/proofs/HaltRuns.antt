@@ -22,7 +22,6 @@ use Rattle.cx_meaning.specs.Running.{leaves, control_below}
 use Rattle.cx_meaning.proofs.RunningLemmas.{idle_settles}
 use Rattle.cx_rules.specs.Items.{Dynamic, visit, visit_parts, visit_all}
 use Rattle.cx_rules.specs.Footprints.{Reads}
-use Rattle.cx_rules.proofs.Finite.{in_left, in_right}
 use Rattle.cx_frames.specs.Agreeing.{Agree}
 use Rattle.cx_frames.specs.Arms.{all_drive}
 use Rattle.cx_frames.proofs.IslandFrames.{AllFine}
@@ -33,7 +32,7 @@ use Rattle.cx_orders.specs.Steps.{Stepped, Now, Stops, within, turned, tested, s
 use Rattle.cx_orders.specs.Alone.{if_dynamic, IsLeaf, IsInArm, HasAlone, AloneWithin, own, of_arm, of_first, behind_first, of_then, of_else, of_body, behind_body, of_round, behind_round, of_child}
 use Rattle.cx_orders.proofs.OwnTurns.{OnlyIn, TurnsIn, turn_only, island_only}
 use Rattle.cx_orders.proofs.Inside.{IsSound, Stands, itself, Inside, InsideOne, InsideAll, inside_self, inside_left, inside_right, AnyReads, Apart}
-use Rattle.cx_orders.proofs.Fits.{Fits, ArmsFit, AllSound, with_later, sound_below, below_fits, par_arms_fit}
+use Rattle.cx_orders.proofs.Fits.{Fits, ArmsFit, AllSound, sound_below, below_fits, par_arms_fit}
 use Rattle.cx_orders.proofs.StepFrames.{StepsIn, step_only, arms_only}
 use Rattle.cx_orders.proofs.StepFits.{StepFits, step_fits}
 use Rattle.cx_orders.proofs.Orders.{Goes, EndsIn}
@@ -41,6 +40,8 @@ use Rattle.cx_orders.proofs.Ending.{put_same, ends_only}
 use Rattle.cx_orders.proofs.LeafRuns.{IsLawful, Answered, Busy, busy_settled, busy_still, own_is, Same, same_now, island_is}
 use Rattle.cx_orders.proofs.Runs.{answered_settled, rests, tested_fine, first_at, under_settled, put_settled, ChildRuns, runs_with, statement_settles, below_runs, AllLawful}
 use Rattle.cx_orders.proofs.Halting.{Stopped, HaltsIn, ChildHas, seq_halts, loop_halts, repeat_halts, waiting_goes_on, call_halts, halting_begins, halts_alike}
+use Rattle.cx_text.proofs.NumberLaws.{no_less}
+use Rattle.cx_meaning.proofs.SightsLaws.{in_left, in_right, behind_comb}
 
 -- a run that has the fault in one of its first turns
 abbrev pub Met : Answer State Fault → Fault → ℕ → Type 0
@@ -59,9 +60,6 @@ then_met x middle fault one two m n go sum less (t, e, few) rest =
     let bound : r.0 ≤ two = r.2 in
     let turns : t + r.0 ≤ m = omega arith in
     subst (λ y. Met (then_do y n go) fault m) (sym e) (t + r.0, ap (after_turns t) r.1, turns)
-
-none_less : (m : ℕ) → m < 0 → ⊥
-none_less m h = absurd (omega arith)
 
 -- WHAT IS OPEN WITHOUT A PART at last, where a leaf that opens nothing halts
 abbrev OpensNone : Open → Type 0
@@ -138,8 +136,8 @@ module _ (i : Instance) (law : IsLawful i) (held : Held) (fault : Fault) (last :
   group_goes g m n s (answers.Faults f) busy only e again = absurd e
 
   group_halts : (g m : ℕ) (s : State) → Busy i (group_drives (part_of i) g) s → HaltsIn i held fault last leaf m (Some (InGroup g)) s → (n : ℕ) → m < n → Met (turns_of (idle i) (group_turn i held g) s n) fault m
-  group_halts g zero s busy (is, below, e) zero less = absurd (none_less zero less)
-  group_halts g (suc m) s busy (k, below, e) zero less = absurd (none_less (suc m) less)
+  group_halts g zero s busy (is, below, e) zero less = absurd (no_less zero less)
+  group_halts g (suc m) s busy (k, below, e) zero less = absurd (no_less (suc m) less)
   group_halts g zero s busy (is, below, e) (suc n) less =
       subst (λ t. Met (turn_then (idle i) s t (λ after. turns_of (idle i) (group_turn i held g) after n)) fault 0) (own_is i law held s g s busy) (group_stops g 0 n s (own_turn i held g s) e)
   group_halts g (suc m) s busy (k, below, e) (suc n) less =
@@ -160,8 +158,8 @@ module _ (i : Instance) (law : IsLawful i) (held : Held) (fault : Fault) (last :
 
   behind_halts : (g c m : ℕ) (capturing : Bool) (s : State) → IsSettled i s → HaltsIn i held fault last leaf m (Some (behind_child capturing g c)) s → (n : ℕ) → m < n → Met (after_child i held g c capturing s n) fault m
   behind_halts g c m false s settled e n less = absurd (closing_goes g m s e)
-  behind_halts g c zero true s settled (is, below, e) zero less = absurd (none_less zero less)
-  behind_halts g c (suc m) true s settled (k, below, e) zero less = absurd (none_less (suc m) less)
+  behind_halts g c zero true s settled (is, below, e) zero less = absurd (no_less zero less)
+  behind_halts g c (suc m) true s settled (k, below, e) zero less = absurd (no_less (suc m) less)
   behind_halts g c zero true s settled (is, below, e) (suc n) less =
       subst (λ t. Met (turn_then (idle i) s (turn_of t) (λ after. idle_turn (idle i) after n)) fault 0)
       (law.suffices held (capture g c) (group_drives (part_of i) g) s (λ d off. capture_undriven (part_of i) g c d off) (busy_settled i (group_drives (part_of i) g) s settled))
@@ -186,8 +184,8 @@ module _ (i : Instance) (law : IsLawful i) (held : Held) (fault : Fault) (last :
         → Met (island_from i held (form_flat (part_of i) form 0 []) left t k s n) fault m
     island_halts zero t zero h k s same busy (is, below, e) n less = absurd e
     island_halts (suc m) t zero h k s same busy (l, below, e) n less = absurd e
-    island_halts zero t (suc left) h k s same busy (is, below, e) zero less = absurd (none_less zero less)
-    island_halts (suc m) t (suc left) h k s same busy (l, below, e) zero less = absurd (none_less (suc m) less)
+    island_halts zero t (suc left) h k s same busy (is, below, e) zero less = absurd (no_less zero less)
+    island_halts (suc m) t (suc left) h k s same busy (l, below, e) zero less = absurd (no_less (suc m) less)
     island_halts zero t (suc left) h k s same busy (is, below, e) (suc n) less =
         subst (λ x. Met (turn_then (idle i) s x (λ after. island_from i held (form_flat (part_of i) form 0 []) left (suc t) (and_now k t (seen i held nothing s)) after n)) fault 0)
         (island_is i law held final form fine (samples_now i held form h t s) (and_now k t (seen i held nothing s)) t s (same_now i law held final form fine h k t s same) busy)
@@ -533,13 +531,13 @@ module _ (part : PlainComponent) (cells : Cells) (all : AllSound (Node part cell
         (arms_halt (a_statement first rest) (all_halt st stands (a_statement first rest) (inner st (Par (a_statement first rest)) place h)) r.0 leaf m s settled r.2))
     form_halts st stands (If test comb a b) place h last leaf m s settled e =
         if_halts test comb place a b
-        (halts_with st stands a (record { groups = λ g j. h.groups g (with_later comb (groups_of a ++ groups_of b) g (in_left (groups_of a) (groups_of b) g j)); forms = λ v j. h.forms v (inr (in_left (visit Dynamic a) (visit Dynamic b) v j)) }))
-        (halts_with st stands b (record { groups = λ g j. h.groups g (with_later comb (groups_of a ++ groups_of b) g (in_right (groups_of a) (groups_of b) g j)); forms = λ v j. h.forms v (inr (in_right (visit Dynamic a) (visit Dynamic b) v j)) }))
+        (halts_with st stands a (record { groups = λ g j. h.groups g (behind_comb comb (groups_of a ++ groups_of b) g (in_left (groups_of a) (groups_of b) g j)); forms = λ v j. h.forms v (inr (in_left (visit Dynamic a) (visit Dynamic b) v j)) }))
+        (halts_with st stands b (record { groups = λ g j. h.groups g (behind_comb comb (groups_of a ++ groups_of b) g (in_right (groups_of a) (groups_of b) g j)); forms = λ v j. h.forms v (inr (in_right (visit Dynamic a) (visit Dynamic b) v j)) }))
         last leaf m s settled e
     form_halts st stands (While test comb a) place h last leaf m s settled e =
         while_halts test comb place a
-        (ends st stands a (record { groups = λ g j. h.groups g (with_later comb (groups_of a) g j); forms = λ v j. h.forms v (inr j) }))
-        (halts_with st stands a (record { groups = λ g j. h.groups g (with_later comb (groups_of a) g j); forms = λ v j. h.forms v (inr j) }))
+        (ends st stands a (record { groups = λ g j. h.groups g (behind_comb comb (groups_of a) g j); forms = λ v j. h.forms v (inr j) }))
+        (halts_with st stands a (record { groups = λ g j. h.groups g (behind_comb comb (groups_of a) g j); forms = λ v j. h.forms v (inr j) }))
         m last leaf m (let all_of : m ≤ m = omega arith in all_of) s settled e
     form_halts st stands (Repeat zero a) place h last leaf m s settled e = absurd (idling_goes (Node part cells) law held fault last leaf m s e)
     form_halts st stands (Repeat (suc k) a) place h last leaf m s settled e =

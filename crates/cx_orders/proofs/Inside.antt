@@ -1,5 +1,5 @@
 -- Instances of accepted designs, statements inside others, and arms apart.
-use Rattle.std.proofs.Common.{◌≡◌, ℕ, zero, suc, ◌<◌, inl, inr, ◌⊎◌, Bool, true, false, ◌||◌, List, [], ◌∷◌, ◌++◌, Option, Some, None, length, refl, sym, ap, ◌∙◌, subst, arith}
+use Rattle.std.proofs.Common.{◌≡◌, ℕ, suc, ◌<◌, inl, inr, ◌⊎◌, Bool, true, false, ◌||◌, List, [], ◌∷◌, ◌++◌, Option, Some, None, length, refl, ap, ◌∙◌, subst, arith}
 use Rattle.std.specs.Prelude.{flat_map, slice_get}
 use Rattle.cx_meaning.specs.declared.ports.PlacedPort.{PlacedPort}
 use Rattle.cx_meaning.specs.declared.ports.PortRef.{PortRef}
@@ -15,9 +15,8 @@ use Rattle.cx_rules.specs.Footprints.{Reads}
 use Rattle.cx_rules.specs.Footprints as footprints
 use Rattle.cx_rules.specs.RaceRule.{arms_of, IsShared}
 use Rattle.cx_rules.proofs.FoundLemmas.{same_is}
-use Rattle.cx_rules.proofs.Finite.{in_left, in_right}
 use Rattle.cx_frames.specs.Arms.{all_drive}
-use Rattle.cx_frames.proofs.CircleFrames.{deeper_acyclic, group_acyclic}
+use Rattle.cx_frames.proofs.CircleFrames.{group_acyclic}
 use Rattle.cx_frames.proofs.IslandFrames.{AllFine, form_fine}
 use Rattle.cx_frames.proofs.LeafFrames.{IsGood}
 use Rattle.cx_frames.proofs.RuleLemmas.{IsKept}
@@ -25,6 +24,10 @@ use Rattle.cx_frames.proofs.RunLemmas.{drives_group}
 use Rattle.cx_frames.proofs.SightFrames.{InFrame, in_frame, IsThrough}
 use Rattle.cx_frames.proofs.StatementFrames.{visited}
 use Rattle.cx_orders.specs.Leaves.{is_among, is_tested}
+use Rattle.cx_meaning.proofs.SightsLaws.{of_joined, in_left, in_right}
+use Rattle.cx_rules.proofs.ItemsLemmas.{tests_flat}
+use Rattle.cx_text.proofs.NumberLaws.{suc_zero, zero_suc}
+use Rattle.cx_rules.proofs.CirclesLemmas.{cells_below}
 
 -- an instance of an accepted design
 pub record IsSound (i : Instance) : Type 0 where
@@ -67,18 +70,6 @@ module _ (st : PlainStatement) (gs hs : List ℕ) (vs ws : List Visited) (h : In
 
   pub inside_right : Inside st hs ws
   inside_right = record { groups = λ g j. h.groups g (in_right gs hs g j); forms = λ v j. h.forms v (in_right vs ws v j) }
-
-of_joined : {A B : Type 0} (xs ys : List A) (x : A) → In (xs ++ ys) x → (In xs x → B) → (In ys x → B) → B
-of_joined [] ys x j f g = g j
-of_joined (z ∷ xs) ys x (inl e) f g = f (inl e)
-of_joined (z ∷ xs) ys x (inr j) f g = of_joined xs ys x j (λ k. f (inr k)) g
-
--- the tests of statements inside
-pub tests_flat : (vs : List Visited) (w : Visited) (p : PlacedPort) → In vs w → test_in w.form ≡ Some p → In (flat_map (λ v. option_list (test_in v.form)) vs) p
-tests_flat [] w p j e = absurd j
-tests_flat (v ∷ vs) w p (inl f) e =
-    in_left (option_list (test_in v.form)) (flat_map (λ x. option_list (test_in x.form)) vs) p (subst (λ o. In (option_list o) p) (sym (ap (λ x. test_in x.form) f ∙ e)) (inl refl))
-tests_flat (v ∷ vs) w p (inr j) e = in_right (option_list (test_in v.form)) (flat_map (λ x. option_list (test_in x.form)) vs) p (tests_flat vs w p j e)
 
 option_in : (o : Option PlacedPort) (p : PlacedPort) → In (option_list o) p → o ≡ Some p
 option_in None p j = absurd j
@@ -132,7 +123,7 @@ module _ (i : Instance) (held : Held) (sound : IsSound i) (st : PlainStatement) 
 
   -- a group of it drives and names nothing that it does not read
   abbrev pub Good : ℕ → Type 0
-  Good = IsGood i held (Reads (part_of i) st) sound.kept through_reads (deeper_acyclic i sound.circles)
+  Good = IsGood i held (Reads (part_of i) st) sound.kept through_reads (cells_below i sound.circles)
 
   pub good : (g : ℕ) → In (groups_of st) g → Good g
   good g j = record {
@@ -190,12 +181,6 @@ driving part (s ∷ ss) c e = go (drives part s c) refl e (driving part ss c)
         → (n : ℕ) × (x : PlainStatement) × (slice_get (s ∷ ss) n ≡ Some x) × (drives part x c ≡ true)
     go true here e later = (0, s, refl, here)
     go false here e later = let found = later e in (suc found.0, found.1, found.2, found.3)
-
-zero_suc : (k : ℕ) → zero ≡ suc k → ⊥
-zero_suc k e = omega arith
-
-suc_zero : (k : ℕ) → suc k ≡ zero → ⊥
-suc_zero k e = omega arith
 
 pub apart_first : (part : PlainComponent) (s : PlainStatement) (ss : List PlainStatement) → ((c : ℕ) → IsShared part (s ∷ ss) c → ⊥) → Apart part s ss
 apart_first part s ss none = record {

@@ -13,7 +13,6 @@ use Rattle.cx_meaning.specs.Cycles.{Fault}
 use Rattle.cx_meaning.specs.Control.{drives}
 use Rattle.cx_rules.specs.Footprints.{Reads}
 use Rattle.cx_rules.specs.Footprints as footprints
-use Rattle.cx_rules.proofs.ForeignLemmas.{just_self}
 use Rattle.cx_frames.specs.Agreeing.{Agree}
 use Rattle.cx_frames.specs.Arms.{all_drive}
 use Rattle.cx_orders.specs.Open.{Open, Idling, InGroup, Choosing, Testing, InIsland, Capturing, Closing, Waiting, InSeq, InPar, InLoop, InRepeat, InCall, Opens, no_arms, an_arm, leaves_of, leaves_of_all}
@@ -22,6 +21,8 @@ use Rattle.cx_orders.proofs.OwnTurns.{OnlyIn}
 use Rattle.cx_orders.proofs.Inside.{Stands, itself, AnyReads, Apart}
 use Rattle.cx_orders.proofs.Fits.{Fits, ArmsFit, AllSound, sound_below, sound_here}
 use Rattle.cx_orders.proofs.StepFrames.{StepsIn, AlikeStep, step_only, arms_only, step_alike, arms_alike, all_drive_reads}
+use Rattle.cx_text.proofs.NumberLaws.{no_less}
+use Rattle.cx_meaning.proofs.InstancesLemmas.{just_same}
 
 -- a leaf on either side by which both come to the same
 pub record Met {A : Type 0} (m n : ℕ) (one other : ℕ → Stepped A) : Type 0 where
@@ -79,9 +80,6 @@ arms_swap i held (Now o a) (Stops f) h = h
 arms_swap i held (Stops f) (Now p b) h = h
 arms_swap i held (Stops f) (Stops g) h = tt
 
-none_below : (l : ℕ) → l < 0 → ⊥
-none_below l h = absurd (omega arith)
-
 -- UNDER what stands around
 joins_seq : (i : Instance) (held : Held) (later : PlainStatements) (x y : Stepped (Option Open)) → Joins i held x y → Joins i held (within (seq_left i later) x) (within (seq_left i later) y)
 joins_seq i held later (Now None a) y h = absurd h
@@ -111,18 +109,18 @@ joins_repeat i held left body (Stops g) (Now (Some p) b) h = halts_within (leave
 joins_repeat i held left body (Stops g) (Stops e) h = tt
 
 joins_par : (i : Instance) (held : Held) (x y : Stepped Opens) → JoinArms i held x y → Joins i held (within par_left x) (within par_left y)
-joins_par i held (Now no_arms a) (Now p b) h = absurd (none_below h.l h.l_within)
-joins_par i held (Now (an_arm v o os) a) (Now no_arms b) h = absurd (none_below h.k h.k_within)
+joins_par i held (Now no_arms a) (Now p b) h = absurd (no_less h.l h.l_within)
+joins_par i held (Now (an_arm v o os) a) (Now no_arms b) h = absurd (no_less h.k h.k_within)
 joins_par i held (Now (an_arm v o os) a) (Now (an_arm w p ps) b) h = met_within (leaves_of_all (an_arm v o os)) (leaves_of_all (an_arm w p ps)) (λ l. step_arms i held (an_arm v o os) l a) (λ k. step_arms i held (an_arm w p ps) k b) par_left h
-joins_par i held (Now no_arms a) (Stops f) h = absurd (none_below h.l h.l_within)
+joins_par i held (Now no_arms a) (Stops f) h = absurd (no_less h.l h.l_within)
 joins_par i held (Now (an_arm v o os) a) (Stops f) h = halts_within (leaves_of_all (an_arm v o os)) (λ l. step_arms i held (an_arm v o os) l a) par_left f h
-joins_par i held (Stops f) (Now no_arms b) h = absurd (none_below h.l h.l_within)
+joins_par i held (Stops f) (Now no_arms b) h = absurd (no_less h.l h.l_within)
 joins_par i held (Stops f) (Now (an_arm w p ps) b) h = halts_within (leaves_of_all (an_arm w p ps)) (λ k. step_arms i held (an_arm w p ps) k b) par_left f h
 joins_par i held (Stops f) (Stops g) h = tt
 
 -- a child's state put back and looked at again
 under_put : (c : ℕ) (own s : State) → under c (put c own s) ≡ own
-under_put c own s = fun_ext (λ path. ap (λ b. if b then own path else s (c ∷ path)) (just_self c))
+under_put c own s = fun_ext (λ path. ap (λ b. if b then own path else s (c ∷ path)) (just_same c))
 
 put_again : (c : ℕ) (own a s : State) → put c own (put c a s) ≡ put c own s
 put_again c own a s = fun_ext at
@@ -309,7 +307,7 @@ mutual
 
   join_arms : (i : Instance) → AllSound i → (held : Held) (st : PlainStatement) (list : List PlainStatement) (arms : Opens) → ArmsFit i st list arms → (k l : ℕ) → k < leaves_of_all arms → l < leaves_of_all arms → (k ≡ l → ⊥) → (s : State)
       → JoinArms i held (step_arms i held arms k s) (step_arms i held arms l s)
-  join_arms i all held st [] no_arms fits k l m n differ s = absurd (none_below k m)
+  join_arms i all held st [] no_arms fits k l m n differ s = absurd (no_less k m)
   join_arms i all held st [] (an_arm v arm arms) fits k l m n differ s = absurd fits
   join_arms i all held st (x ∷ xs) no_arms fits k l m n differ s = absurd fits
   join_arms i all held st (x ∷ xs) (an_arm v arm arms) (is, one, apart, rest) k l m n differ s =

@@ -14,3 +14,4 @@ pub mod Halting
 pub mod HaltRuns
 pub mod AloneRuns
 pub mod KnownWoven
+pub mod SharedLemmas

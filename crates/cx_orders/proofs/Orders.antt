@@ -14,6 +14,7 @@ use Rattle.cx_orders.proofs.Inside.{Stands}
 use Rattle.cx_orders.proofs.Fits.{Fits, ArmsFit, AllSound}
 use Rattle.cx_orders.proofs.StepFits.{LeftFits, StepFits, step_fits}
 use Rattle.cx_orders.proofs.Joins.{Joins, joins}
+use Rattle.cx_text.proofs.NumberLaws.{no_less}
 
 abbrev pub Goes : Stepped (Option Open) → (Option Open → State → Type 0) → Type 0
 Goes (Now left after) P = P left after
@@ -80,9 +81,6 @@ mutual
 
 none_more : (m : ℕ) → suc m ≤ 0 → ⊥
 none_more m h = absurd (omega arith)
-
-no_less : (n : ℕ) → n < 0 → ⊥
-no_less n h = absurd (omega arith)
 
 module _ (i : Instance) (all : AllSound i) (held : Held) (st : PlainStatement) (stands : Stands i st) (final : State) (choice : Choices) where
   abbrev pub EndsSo : ℕ → Woven → Type 0

@@ -2,13 +2,13 @@
 use Rattle.std.proofs.Common.{◌≡◌, ℕ, ◌-◌, inl, inr, Bool, true, false, ◌&&◌, nat_eq, nat_le, if◌then◌else◌, List, [], ◌∷◌, map, Option, Some, None, refl, ap, ◌∙◌, subst}
 use Rattle.std.specs.Prelude.{nat_lt}
 use Rattle.std.proofs.Math.Path.{fun_ext}
-use Rattle.std.proofs.lemmas.Bool.{both_ways, eqb-true}
+use Rattle.std.proofs.lemmas.Bool.{both_ways}
 use Rattle.cx_prim.specs.Rows.{Row}
 use Rattle.cx_meaning.specs.declared.ports.PortRef.{PortRef}
 use Rattle.cx_meaning.specs.declared.ports.PortRef.TheVariants as ports
 use Rattle.cx_meaning.specs.Designs.{PlainForm}
 use Rattle.cx_meaning.specs.Instances.{Instance, Cells, cell_count, cells_of, part_of, Path, State, Set, merge, idle}
-use Rattle.cx_meaning.specs.Active.{Active, nothing, only_at, group, capture, Entry, offset_in, entries}
+use Rattle.cx_meaning.specs.Active.{Active, nothing, group, capture, entries}
 use Rattle.cx_meaning.specs.Truths.{Truth, One, Zero, truth_of}
 use Rattle.cx_meaning.specs.Truths as truths
 use Rattle.cx_meaning.specs.Sights.{Look, Held, seen, gather, In}
@@ -25,9 +25,10 @@ use Rattle.cx_frames.proofs.AlikeLemmas.{AlikeTurn}
 use Rattle.cx_frames.proofs.CircleFrames.{capture_acyclic}
 use Rattle.cx_frames.proofs.RuleLemmas.{IsKept}
 use Rattle.cx_frames.proofs.SightFrames.{InFrame, IsThrough, IsWithin, IsAmong, seen_alike, ends_alike}
-use Rattle.cx_frames.proofs.LeafFrames.{none_some, merge_agree, idle_agree, IsGood, bare_seen}
+use Rattle.cx_frames.proofs.LeafFrames.{merge_agree, idle_agree, IsGood, bare_seen, only_among}
 use Rattle.cx_frames.proofs.IslandFrames.{AllFine, looked_good, unclear_same}
 use Rattle.cx_orders.specs.Leaves.{form_drives, rested, own_turn, own_capture, sampled_now, own_cycle, own_island}
+use Rattle.cx_frames.proofs.SharedLemmas.{entries_among}
 
 -- only cells of the set, and what is below them, differ
 pub record OnlyIn (driven : Set) (s after : State) : Type 0 where
@@ -85,22 +86,6 @@ module _ (i : Instance) (held : Held) where
       unclear_only (form_drives (part_of i) form) s (first_unclear (seen i held nothing s) (looked_at h t (form_flat (part_of i) form 0 []))) _
       (cycle_only i held (entries (active_in h t (form_flat (part_of i) form 0 []))) (form_drives (part_of i) form) s)
 
--- what is active in a cycle
-alone_among : (g h k : ℕ) → only_at g h ≡ Some k → In (g ∷ []) h
-alone_among g h k e = go (nat_eq g h) refl e
-  where
-    go : (b : Bool) → nat_eq g h ≡ b → ◌≡◌ {A = Option ℕ} (if b then Some 0 else None) (Some k) → In (g ∷ []) h
-    go true same e = inl (eqb-true g h same)
-    go false differ e = absurd (none_some k e)
-
-entries_among : (es : List Entry) → IsAmong (entries es) (map (λ e. e.group) es)
-entries_among [] g k e = none_some k e
-entries_among (x ∷ es) g k e = go (nat_eq x.group g) refl e (entries_among es g k)
-  where
-    go : (b : Bool) → nat_eq x.group g ≡ b → (if b then Some x.offset else offset_in es g) ≡ Some k → (offset_in es g ≡ Some k → In (map (λ y. y.group) es) g) → In (map (λ y. y.group) (x ∷ es)) g
-    go true same e later = inl (eqb-true x.group g same)
-    go false differ e later = inr (later e)
-
 module _ (i : Instance) (held : Held) (set : ℕ → Type 0) (kept : IsKept i) (through : IsThrough (part_of i) set) (deeper : AcyclicBelow (cells_of i)) where
   -- a cycle of listed cells of the set ends alike
   cycle_alike : (act : Active) (gs : List ℕ) → IsAmong act gs → ((g : ℕ) → In gs g → IsWithin (part_of i) set g) → IsAcyclic i act → (listed : Set) → ((c : ℕ) → listed c ≡ true → set c)
@@ -119,7 +104,7 @@ module _ (i : Instance) (held : Held) (set : ℕ → Type 0) (kept : IsKept i) (
   own_within g good h (inr none) = absurd none
 
   pub group_seen : (g : ℕ) → IsGood i held set kept through deeper g → (s t : State) → Agree set s t → (p : PortRef) → InFrame set p → seen i held (group g) s p ≡ seen i held (group g) t p
-  group_seen g good s t agree p inside = seen_alike i held (group g) set (g ∷ []) kept through (alone_among g) (own_within g good) s t agree good.acyclic deeper p inside
+  group_seen g good s t agree p inside = seen_alike i held (group g) set (g ∷ []) kept through (only_among g) (own_within g good) s t agree good.acyclic deeper p inside
 
   hole_alike : (g : ℕ) (x y : Truth) (a b : Ended) → x ≡ y → AlikeTurn set (turn_of a) (turn_of b) → AlikeTurn set (hole_turn g a x) (hole_turn g b y)
   hole_alike g x y a b e h = subst (λ z. AlikeTurn set (hole_turn g a x) (hole_turn g b z)) e (one x)
@@ -134,11 +119,11 @@ module _ (i : Instance) (held : Held) (set : ℕ → Type 0) (kept : IsKept i) (
   turn_frames g good s t agree =
       hole_alike g (truth_of (seen i held (group g) s (ports.Done g))) (truth_of (seen i held (group g) t (ports.Done g))) _ _
       (ap truth_of (group_seen g good s t agree (ports.Done g) tt))
-      (cycle_alike (group g) (g ∷ []) (alone_among g) (own_within g good) good.acyclic (group_drives (part_of i) g) good.within.drives s t agree)
+      (cycle_alike (group g) (g ∷ []) (only_among g) (own_within g good) good.acyclic (group_drives (part_of i) g) good.within.drives s t agree)
 
   pub capture_frames : (g c : ℕ) → IsGood i held set kept through deeper g → (s t : State) → Agree set s t → AlikeTurn set (own_capture i held g c s) (own_capture i held g c t)
   capture_frames g c good s t agree =
-      cycle_alike (capture g c) (g ∷ []) (alone_among g) (own_within g good) (capture_acyclic i g c good.acyclic) (group_drives (part_of i) g) good.within.drives s t agree
+      cycle_alike (capture g c) (g ∷ []) (only_among g) (own_within g good) (capture_acyclic i g c good.acyclic) (group_drives (part_of i) g) good.within.drives s t agree
 
   pub rest_frames : (driven : Set) (s t : State) → Agree set s t → Agree set (rested i driven s) (rested i driven t)
   rest_frames driven s t agree = merge_agree set driven (idle i s) s (idle i t) t (idle_agree set i s t agree) agree

@@ -1,10 +1,9 @@
 -- Where an order of the leaves ends, the run ends in the same state, within as many turns.
-use Rattle.std.proofs.Common.{◌≡◌, ℕ, zero, suc, ◌+◌, ◌-◌, ◌≤◌, ◌<◌, max, inl, inr, Bool, true, false, ◌||◌, ◌&&◌, nat_eq, if◌then◌else◌, List, [], ◌∷◌, ◌++◌, length, get_or, Option, Some, None, refl, sym, ap, ◌∙◌, subst, arith, append_assoc, append-nil}
+use Rattle.std.proofs.Common.{◌≡◌, ℕ, zero, suc, ◌+◌, ◌-◌, ◌≤◌, ◌<◌, max, inl, inr, Bool, true, false, ◌||◌, nat_eq, if◌then◌else◌, List, [], ◌∷◌, ◌++◌, length, get_or, Option, Some, None, refl, sym, ap, ◌∙◌, subst, arith, append_assoc, append-nil}
 use Rattle.std.proofs.Math.Path.{fun_ext}
-use Rattle.std.proofs.lemmas.Bool.{eq-eqb, eqb-true, eqb-false}
+use Rattle.std.proofs.lemmas.Bool.{eqb-true, eqb-false, or_right}
 use Rattle.cx_text.specs.declared.places.Place.{Place}
 use Rattle.cx_meaning.specs.declared.ports.PortRef.{PortRef}
-use Rattle.cx_meaning.specs.declared.ports.PortRef.TheVariants as ports
 use Rattle.cx_meaning.specs.declared.ports.PlacedPort.{PlacedPort}
 use Rattle.cx_meaning.specs.declared.sights.Seen.{Seen}
 use Rattle.cx_meaning.specs.declared.sights.Seen.TheVariants.{Undefined}
@@ -25,7 +24,6 @@ use Rattle.cx_meaning.specs.Calls.{called, captures, inputs_of_call, lift_answer
 use Rattle.cx_meaning.specs.Running.{leaves, run_control, control_below, run_statement}
 use Rattle.cx_meaning.proofs.RunningLemmas.{settles_statement, idle_settles}
 use Rattle.cx_rules.specs.Items.{Dynamic, Visited, visit, visit_parts, visit_all, statements_in, test_in, tests_of}
-use Rattle.cx_rules.proofs.Finite.{in_left, in_right}
 use Rattle.cx_frames.specs.Arms.{all_drive, arms_run}
 use Rattle.cx_frames.specs.Ran as ran
 use Rattle.cx_frames.specs.Ran.{Ran, AnswersAs}
@@ -34,11 +32,16 @@ use Rattle.cx_orders.specs.Open.{Open, Choosing, Testing, InIsland, InSeq, InPar
 use Rattle.cx_orders.specs.Leaves.{test_drives, rested, is_among, is_tested}
 use Rattle.cx_orders.specs.Steps.{tested, seq_left, par_left, first_inputs, inputs_seen, held_as}
 use Rattle.cx_orders.proofs.OwnTurns.{OnlyIn}
-use Rattle.cx_orders.proofs.Inside.{IsSound, Stands, inner_stands, itself, Inside, InsideOne, InsideAll, inside_self, inside_left, inside_right, tests_flat}
-use Rattle.cx_orders.proofs.Fits.{Fits, ArmsFit, AllSound, with_later, here_again, sound_below, below_fits, par_arms_fit}
+use Rattle.cx_orders.proofs.Inside.{IsSound, Stands, inner_stands, itself, Inside, InsideOne, InsideAll, inside_self, inside_left, inside_right}
+use Rattle.cx_orders.proofs.Fits.{Fits, ArmsFit, AllSound, sound_below, below_fits, par_arms_fit}
 use Rattle.cx_orders.proofs.Orders.{Goes, EndsIn, leaves_some}
-use Rattle.cx_orders.proofs.Ending.{seq_splits, loop_splits, repeat_splits, waiting_stays, par_splits, call_splits, call_begins, just_true, put_same, ends_only}
+use Rattle.cx_orders.proofs.Ending.{seq_splits, loop_splits, repeat_splits, waiting_stays, par_splits, call_splits, call_begins, put_same, ends_only}
 use Rattle.cx_orders.proofs.LeafRuns.{IsLawful, Answered, busy_settled, rested_idle, group_runs, behind_runs, island_runs, idling_runs}
+use Rattle.cx_meaning.proofs.PortsLemmas.{same_self}
+use Rattle.cx_orders.proofs.SharedLemmas.{later_one}
+use Rattle.cx_meaning.proofs.SightsLaws.{in_left, in_right, behind_comb}
+use Rattle.cx_rules.proofs.ItemsLemmas.{tests_flat}
+use Rattle.cx_meaning.proofs.InstancesLemmas.{here as here_again, just_true}
 
 -- one run, and then another
 then_answered : (x : Answer State Fault) (middle final : State) (one two m n : ℕ) (go : Meaning State Fault) → m ≡ one + two → m ≤ n → Answered x middle one
@@ -49,9 +52,6 @@ then_answered x middle final one two m n go sum less (t, e, few) rest =
     let r = rest (n - t) enough within in
     let turns : t + r.0 ≤ m = (let h : r.0 ≤ two = r.2 in omega arith) in
     subst (λ y. Answered (then_do y n go) final m) (sym e) (t + r.0, ap (after_turns t) r.1, turns)
-
-later_one : (x : Answer State Fault) (final : State) (m : ℕ) → Answered x final m → Answered (after_turns 1 x) final (suc m)
-later_one x final m (t, e, less) = (1 + t, ap (after_turns 1) e, omega arith)
 
 pub answered_settled : (i : Instance) (x : Answer State Fault) (final : State) (m : ℕ) → Answered x final m → budgets.Leaves (IsSettled i) x → IsSettled i final
 answered_settled i x final m (t, e, less) h = subst (budgets.Leaves (IsSettled i)) e h
@@ -103,21 +103,9 @@ module _ (i : Instance) (law : IsLawful i) (held : Held) (port : PortRef) (comb 
         (subst (λ p. Goes (tested (test i held port comb s) (idle i s) (Some (InLoop p port comb statement)) None) (EndsIn i held final m)) same
         (subst (λ x. Goes (tested (test i held port comb s) x (Some (InLoop (open_statement i statement) port comb statement)) None) (EndsIn i held final m)) (rests s settled) e))
 
--- ISLANDS test ports of their own
-same_port_self : (p : PortRef) → same_port p p ≡ true
-same_port_self (ports.Cell c p) = ap (λ b. b && nat_eq p p) (eq-eqb c c refl) ∙ eq-eqb p p refl
-same_port_self (ports.Input n) = eq-eqb n n refl
-same_port_self (ports.Output n) = eq-eqb n n refl
-same_port_self (ports.Done g) = eq-eqb g g refl
-same_port_self (ports.Literal w v) = ap (λ b. b && nat_eq v v) (eq-eqb w w refl) ∙ eq-eqb v v refl
-
-or_right : (a b : Bool) → b ≡ true → (a || b) ≡ true
-or_right true b e = refl
-or_right false b e = e
-
 among_in : (list : List PlacedPort) (p : PlacedPort) → In list p → is_among list p.port ≡ true
 among_in [] p j = absurd j
-among_in (q ∷ rest) p (inl e) = ap (λ b. b || is_among rest p.port) (ap (λ x. same_port x.port p.port) e ∙ same_port_self p.port)
+among_in (q ∷ rest) p (inl e) = ap (λ b. b || is_among rest p.port) (ap (λ x. same_port x.port p.port) e ∙ same_self p.port)
 among_in (q ∷ rest) p (inr j) = or_right (same_port q.port p.port) (is_among rest p.port) (among_in rest p j)
 
 pub tested_fine : (part : PlainComponent) (form : PlainForm) → AllFine (λ g. Unit {0}) (λ port. is_tested form port ≡ true) (form_flat part form 0 [])
@@ -361,12 +349,12 @@ module _ (part : PlainComponent) (cells : Cells) (all : AllSound (Node part cell
         (par_arms_fit part cells all st stands first rest place h) final m s settled e n less
     form_runs st stands (If test comb a b) place h final m s settled e n less =
         if_runs test.port comb a b
-        (runs_with st stands a (record { groups = λ g j. h.groups g (with_later comb (groups_of a ++ groups_of b) g (in_left (groups_of a) (groups_of b) g j)); forms = λ v j. h.forms v (inr (in_left (visit Dynamic a) (visit Dynamic b) v j)) }))
-        (runs_with st stands b (record { groups = λ g j. h.groups g (with_later comb (groups_of a ++ groups_of b) g (in_right (groups_of a) (groups_of b) g j)); forms = λ v j. h.forms v (inr (in_right (visit Dynamic a) (visit Dynamic b) v j)) }))
+        (runs_with st stands a (record { groups = λ g j. h.groups g (behind_comb comb (groups_of a ++ groups_of b) g (in_left (groups_of a) (groups_of b) g j)); forms = λ v j. h.forms v (inr (in_left (visit Dynamic a) (visit Dynamic b) v j)) }))
+        (runs_with st stands b (record { groups = λ g j. h.groups g (behind_comb comb (groups_of a ++ groups_of b) g (in_right (groups_of a) (groups_of b) g j)); forms = λ v j. h.forms v (inr (in_right (visit Dynamic a) (visit Dynamic b) v j)) }))
         final m s settled e n less
     form_runs st stands (While test comb a) place h final m s settled e n less =
         loop_runs (Node part cells) law held test.port comb final a (open_statement (Node part cells) a) refl (run L a)
-        (runs_with st stands a (record { groups = λ g j. h.groups g (with_later comb (groups_of a) g j); forms = λ v j. h.forms v (inr j) }))
+        (runs_with st stands a (record { groups = λ g j. h.groups g (behind_comb comb (groups_of a) g j); forms = λ v j. h.forms v (inr j) }))
         (statement_settles a) m m (let all_of : m ≤ m = omega arith in all_of) s settled e (suc n) n less (let more : n < suc n = omega arith in more)
     form_runs st stands (Repeat zero a) place h final m s settled e n less = idling_runs (Node part cells) law held final m s settled e n less
     form_runs st stands (Repeat (suc k) a) place h final m s settled e n less = repeat_runs a (runs_with st stands a (record { groups = h.groups; forms = λ v j. h.forms v (inr j) })) k final m s settled e n less

@@ -1,5 +1,5 @@
 -- What a turn leaves open fits in the same statement.
-use Rattle.std.proofs.Common.{◌≡◌, ℕ, zero, suc, ◌-◌, inl, inr, Bool, true, false, ◌||◌, List, [], ◌∷◌, Option, Some, None, refl}
+use Rattle.std.proofs.Common.{◌≡◌, ℕ, zero, suc, ◌-◌, inl, inr, Bool, true, false, List, [], ◌∷◌, Option, Some, None}
 use Rattle.std.specs.Prelude.{nat_lt}
 use Rattle.cx_meaning.specs.declared.sights.Seen.{Seen}
 use Rattle.cx_meaning.specs.Designs.{PlainStatement, PlainStatements, no_statements, a_statement}
@@ -15,6 +15,8 @@ use Rattle.cx_orders.specs.Open.{Open, Idling, InGroup, Choosing, Testing, InIsl
 use Rattle.cx_orders.specs.Steps.{Stepped, Now, Stops, within, turned, tested, seq_left, loop_left, repeat_left, arms_left, par_left, behind_child, call_left, lift_step, inputs_seen, inputs_for, held_as, first_or, step, step_arms}
 use Rattle.cx_orders.proofs.Inside.{Stands, itself, InsideAll, inside_left, inside_right, AnyReads}
 use Rattle.cx_orders.proofs.Fits.{Fits, ArmsFit, AllSound, sound_below, statement_fits}
+use Rattle.std.proofs.lemmas.Bool.{or_right}
+use Rattle.cx_text.proofs.BoolLaws.{or_second}
 
 abbrev pub LeftFits : Instance → PlainStatement → Option Open → Type 0
 LeftFits i st None = Unit {0}
@@ -63,14 +65,6 @@ par_fits i st list (Now (an_arm v arm arms) after) ([], fits, h, k) = absurd fit
 par_fits i st list (Now (an_arm v arm arms) after) (x ∷ xs, fits, h, k) = (x, xs, fits)
 par_fits i st list (Stops fault) h = tt
 
-or_right : (a b : Bool) → b ≡ true → (a || b) ≡ true
-or_right true b e = refl
-or_right false b e = e
-
-or_later : (a b c : Bool) → (b ≡ true → c ≡ true) → (a || b) ≡ true → (a || c) ≡ true
-or_later true b c h e = refl
-or_later false b c h e = h e
-
 module _ (i : Instance) (st x : PlainStatement) (xs : List PlainStatement) (v : PlainStatement) (arm : Open) (arms : Opens) (fits : ArmsFit i st (x ∷ xs) (an_arm v arm arms)) where
   first_fits : (y : Stepped (Option Open)) → StepFits i x y → ArmsStepFit i st (x ∷ xs) (within (arms_left v arms) y)
   first_fits (Now None after) h = (xs, fits.3, λ c r. inr r, λ c e. or_right (drives (part_of i) x c) (all_drive (part_of i) xs c) e)
@@ -82,7 +76,7 @@ module _ (i : Instance) (st x : PlainStatement) (xs : List PlainStatement) (v : 
     x ∷ left,
     (fits.0, fits.1, record { one = λ c e r. fits.2.one c e (reads c r); other = λ c e r. fits.2.other c (drive c e) r }, h),
     later_reads,
-    λ c e. or_later (drives (part_of i) x c) (all_drive (part_of i) left c) (all_drive (part_of i) xs c) (drive c) e,
+    λ c e. or_second (drives (part_of i) x c) (all_drive (part_of i) left c) (all_drive (part_of i) xs c) (drive c) e,
   )
     where
       later_reads : (c : ℕ) → AnyReads (part_of i) (x ∷ left) c → AnyReads (part_of i) (x ∷ xs) c

@@ -2,7 +2,7 @@
 use Rattle.std.proofs.Common.{◌≡◌, ℕ, zero, suc, ◌-◌, inl, inr, Bool, true, false, ◌||◌, if◌then◌else◌, List, [], ◌∷◌, Option, Some, None, length, refl, sym, ap, ◌∙◌, subst}
 use Rattle.std.specs.Prelude.{nat_lt}
 use Rattle.std.proofs.Math.Path.{fun_ext}
-use Rattle.std.proofs.lemmas.Bool.{both_ways}
+use Rattle.std.proofs.lemmas.Bool.{both_ways, or_right, or_left}
 use Rattle.cx_meaning.specs.declared.ports.PortRef.{PortRef}
 use Rattle.cx_meaning.specs.declared.ports.PortRef.TheVariants as ports
 use Rattle.cx_meaning.specs.declared.sights.Seen.{Seen}
@@ -20,7 +20,6 @@ use Rattle.cx_rules.specs.Footprints as footprints
 use Rattle.cx_frames.specs.Agreeing.{Agree}
 use Rattle.cx_frames.specs.Arms.{all_drive}
 use Rattle.cx_frames.proofs.AlikeLemmas.{AlikeTurn}
-use Rattle.cx_frames.proofs.CircleFrames.{bare_acyclic, deeper_acyclic}
 use Rattle.cx_frames.proofs.LeafFrames.{merge_agree, test_alike}
 use Rattle.cx_frames.proofs.RunLemmas.{drives_group}
 use Rattle.cx_orders.specs.Open.{Open, Idling, InGroup, Choosing, Testing, InIsland, Capturing, Closing, Waiting, InSeq, InPar, InLoop, InRepeat, InCall, Opens, no_arms, an_arm, leaves_of}
@@ -29,6 +28,8 @@ use Rattle.cx_orders.specs.Steps.{Stepped, Now, Stops, within, turned, tested, a
 use Rattle.cx_orders.proofs.OwnTurns.{OnlyIn, TurnsIn, only_same, merge_only, only_wider, turn_only, capture_only, island_only, group_seen, turn_frames, capture_frames, rest_frames, samples_frames, cycle_frames}
 use Rattle.cx_orders.proofs.Inside.{IsSound, Stands, Inside, FormIn, through_reads, good, island_fine, tests_inside, island_acyclic, drives_inside, AnyReads}
 use Rattle.cx_orders.proofs.Fits.{TestFits, Fits, ArmsFit}
+use Rattle.cx_meaning.proofs.InstancesLemmas.{just_true}
+use Rattle.cx_rules.proofs.CirclesLemmas.{own_acyclic, cells_below}
 
 abbrev pub StepsIn : {A : Type 0} → Set → State → Stepped A → Type 0
 StepsIn driven s (Now left after) = OnlyIn driven s after
@@ -58,12 +59,6 @@ tested_only driven s idle Holds a b h = h
 tested_only driven s idle Fails a b h = h
 tested_only driven s idle (Unclear fault) a b h = tt
 
-just_true : (k c : ℕ) → just k c ≡ true → k ≡ c
-just_true zero zero e = refl
-just_true zero (suc c) e = absurd (let f : false ≡ true = e in cc)
-just_true (suc k) zero e = absurd (let f : false ≡ true = e in cc)
-just_true (suc k) (suc c) e = ap suc (just_true k c e)
-
 lift_only : (driven : Set) (c : ℕ) → driven c ≡ true → (s : State) (f : Option Open → Option Open) (x : Stepped (Option Open)) → StepsIn driven s (lift_step c s f x)
 lift_only driven c on s f (Now left own) = record { top = refl; others = λ e below off. one e below (just c e) refl off }
   where
@@ -80,14 +75,6 @@ comb_in (Some h) g (inr none) = absurd none
 choose_only : {A : Type 0} (driven : Set) (s : State) (b : Bool) (x y : Stepped A) → StepsIn driven s x → StepsIn driven s y → StepsIn driven s (first_or b x y)
 choose_only driven s true x y h k = h
 choose_only driven s false x y h k = k
-
-or_left : (a b : Bool) → a ≡ true → (a || b) ≡ true
-or_left true b e = refl
-or_left false b e = absurd (let f : false ≡ true = e in cc)
-
-or_right : (a b : Bool) → b ≡ true → (a || b) ≡ true
-or_right true b e = refl
-or_right false b e = e
 
 arms_drive_in : (i : Instance) (st : PlainStatement) (list : List PlainStatement) (arms : Opens) → ArmsFit i st list arms → (c : ℕ) → all_drive (part_of i) list c ≡ true → drives (part_of i) st c ≡ true
 arms_drive_in i st [] no_arms fits c e = absurd (let f : false ≡ true = e in cc)
@@ -203,7 +190,7 @@ any_reads_in i st (s ∷ ss) (an_arm v arm arms) (is, one, apart, rest) c (inr r
 module _ (i : Instance) (sound : IsSound i) (held : Held) where
   test_frames : (st : PlainStatement) → Stands i st → (port : PortRef) (comb : Option ℕ) → TestFits i st port comb → (s t : State) → Agree (Reads (part_of i) st) s t → test i held port comb s ≡ test i held port comb t
   test_frames st stands port comb fits s t agree =
-      test_alike i held (Reads (part_of i) st) sound.kept (through_reads i held sound st) (deeper_acyclic i sound.circles) (bare_acyclic i sound.circles) port fits.inside comb
+      test_alike i held (Reads (part_of i) st) sound.kept (through_reads i held sound st) (cells_below i sound.circles) (own_acyclic i sound.circles) port fits.inside comb
       (λ g e. good i held sound st g (fits.group g e)) s t agree
 
   island_step : (st : PlainStatement) → Stands i st → (form : PlainForm) (t left : ℕ) (h : History) → FormIn st form → Inside st (groups_in form) (visit_parts Dynamic form) → (s s2 : State) → Agree (Reads (part_of i) st) s s2
@@ -212,20 +199,20 @@ module _ (i : Instance) (sound : IsSound i) (held : Held) where
   island_step st stands form t left h here inside s s2 agree =
       subst (λ k. AlikeStep (Reads (part_of i) st) (turned (own_island i held form t (samples_now i held form h t s) s) s (InIsland form (suc t) left (samples_now i held form h t s)))
       (turned (own_island i held form t k s2) s2 (InIsland form (suc t) left k)))
-      (samples_frames i held (Reads (part_of i) st) sound.kept (through_reads i held sound st) (deeper_acyclic i sound.circles) (bare_acyclic i sound.circles) (form_flat (part_of i) form 0 []) (island_fine i held sound st stands form here inside) (is_tested form) (tests_inside i held sound st stands form here inside) h t s s2 agree)
+      (samples_frames i held (Reads (part_of i) st) sound.kept (through_reads i held sound st) (cells_below i sound.circles) (own_acyclic i sound.circles) (form_flat (part_of i) form 0 []) (island_fine i held sound st stands form here inside) (is_tested form) (tests_inside i held sound st stands form here inside) h t s s2 agree)
       (turned_alike (Reads (part_of i) st) _ _ s s2 _
-      (cycle_frames i held (Reads (part_of i) st) sound.kept (through_reads i held sound st) (deeper_acyclic i sound.circles) (bare_acyclic i sound.circles) (form_flat (part_of i) form 0 []) (island_fine i held sound st stands form here inside)
+      (cycle_frames i held (Reads (part_of i) st) sound.kept (through_reads i held sound st) (cells_below i sound.circles) (own_acyclic i sound.circles) (form_flat (part_of i) form 0 []) (island_fine i held sound st stands form here inside)
       (form_drives (part_of i) form) (λ c e. footprints.driven (drives_inside (part_of i) st (groups_in form) c inside.groups e)) (samples_now i held form h t s) t (island_acyclic i held sound st stands form here (samples_now i held form h t s) t) s s2 agree)
       agree)
 
   idle_frames : (st : PlainStatement) (driven : Set) (s t : State) → Agree (Reads (part_of i) st) s t → Agree (Reads (part_of i) st) (rested i driven s) (rested i driven t)
-  idle_frames st driven s t agree = rest_frames i held (Reads (part_of i) st) sound.kept (through_reads i held sound st) (deeper_acyclic i sound.circles) driven s t agree
+  idle_frames st driven s t agree = rest_frames i held (Reads (part_of i) st) sound.kept (through_reads i held sound st) (cells_below i sound.circles) driven s t agree
 
   call_step : (st : PlainStatement) (g c : ℕ) (inputs : Option (List Seen)) (child : Open) (k : ℕ) → In (groups_of st) g → drives (part_of i) st c ≡ true → (s t : State) → Agree (Reads (part_of i) st) s t
       → AlikeStep (Reads (part_of i) st) (step i held (InCall g c inputs child) k s) (step i held (InCall g c inputs child) k t)
   call_step st g c inputs child k j on s t agree =
       let seen_same : inputs_of_call i held g c s ≡ inputs_of_call i held g c t =
-      fun_ext (λ input. group_seen i held (Reads (part_of i) st) sound.kept (through_reads i held sound st) (deeper_acyclic i sound.circles) g (good i held sound st g j) s t agree (ports.Cell c (suc input)) (footprints.driven on)) in
+      fun_ext (λ input. group_seen i held (Reads (part_of i) st) sound.kept (through_reads i held sound st) (cells_below i sound.circles) g (good i held sound st g j) s t agree (ports.Cell c (suc input)) (footprints.driven on)) in
       let inputs_same : inputs_for inputs (inputs_seen i held g c s) ≡ inputs_for inputs (inputs_seen i held g c t) =
       ap (λ x. inputs_for inputs (first_inputs x (length (part_of (instance_at i (c ∷ []))).inputs))) seen_same in
       let below : under c s ≡ under c t = fun_ext (λ path. agree c path (footprints.driven on)) in
@@ -239,7 +226,7 @@ module _ (i : Instance) (sound : IsSound i) (held : Held) where
     step_alike st stands Idling fits k s t agree = (t, refl, agree)
     step_alike st stands (InGroup g) j k s t agree =
         turned_alike (Reads (part_of i) st) _ _ _ _ (InGroup g)
-        (turn_frames i held (Reads (part_of i) st) sound.kept (through_reads i held sound st) (deeper_acyclic i sound.circles) g (good i held sound st g j) s t agree)
+        (turn_frames i held (Reads (part_of i) st) sound.kept (through_reads i held sound st) (cells_below i sound.circles) g (good i held sound st g j) s t agree)
         (idle_frames st (group_drives (part_of i) g) s t agree)
     step_alike st stands (Choosing port comb a b) (fits, one, other) k s t agree =
         tested_alike (Reads (part_of i) st) _ _ _ _ _ _ (test_frames st stands port comb fits s t agree) (idle_frames st (test_drives (part_of i) comb) s t agree)
@@ -249,7 +236,7 @@ module _ (i : Instance) (sound : IsSound i) (held : Held) where
     step_alike st stands (InIsland form n (suc left) h) (here, inside) k s t agree = island_step st stands form n left h here inside s t agree
     step_alike st stands (Capturing g c) j k s t agree =
         turned_alike (Reads (part_of i) st) _ _ s t (Closing g)
-        (capture_frames i held (Reads (part_of i) st) sound.kept (through_reads i held sound st) (deeper_acyclic i sound.circles) g c (good i held sound st g j) s t agree) agree
+        (capture_frames i held (Reads (part_of i) st) sound.kept (through_reads i held sound st) (cells_below i sound.circles) g c (good i held sound st g j) s t agree) agree
     step_alike st stands (Closing g) j k s t agree = (_, refl, idle_frames st (group_drives (part_of i) g) s t agree)
     step_alike st stands Waiting fits k s t agree = (t, refl, agree)
     step_alike st stands (InSeq first later) (fits, rest) k s t agree = within_alike (Reads (part_of i) st) _ (step i held first k s) (step i held first k t) (step_alike st stands first fits k s t agree)

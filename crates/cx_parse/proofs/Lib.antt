@@ -1,5 +1,4 @@
 pub mod Steps
 pub mod Lists
 pub mod Commas
-pub mod Plain
 pub mod Trees

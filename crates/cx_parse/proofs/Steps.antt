@@ -11,6 +11,7 @@ use Rattle.cx_grammar.proofs.Loops.{nested_at-suc}
 use Rattle.cx_parse.specs.declared.stops.Stop.{Stop as Answer}
 use Rattle.cx_parse.specs.declared.stops.Stop.TheVariants as stops
 use Rattle.cx_parse.specs.Readings.{State, Going, Stopped, Fails, Ends, Leads, Gives, next_is_in, out_of_memory, one_of}
+use Rattle.std.proofs.lemmas.Iterator.Adapters.{option_map_id}
 
 -- what is read, seen by f
 abbrev pub seen : {A B : Type 0} → (A → B) → Reads A → Reads B
@@ -58,15 +59,10 @@ pub pair : {A B C : Type 0} {levels : ℕ} {join : A → B → C} {g : Grammar A
     Gives levels g s0 s1 (Some a) → Gives levels h s1 s2 (Some b) → Gives levels (Pair join g h) s0 s2 (Some (join a b))
 pair {levels = levels} {join = join} {g = g} {h = h} {s0 = s0} {s1 = s1} {s2 = s2} {a = a} {b = b} e f = record { leads = pair_leads levels join g h s0 s1 s2 a (Some b) e.leads f.leads }
 
--- a part behind another, whose value does not count
-second_value : {B : Type 0} (v : Option B) → option_map (λ x. x) v ≡ v
-second_value (Some x) = refl
-second_value None = refl
-
 pub behind_one : {A B : Type 0} {levels : ℕ} {g : Grammar A} {h : Grammar B} {s0 s1 s2 : State} {a : A} {v : Option B} →
     Gives levels g s0 s1 (Some a) → Gives levels h s1 s2 v → Gives levels (Pair (λ (_ : A) (x : B). x) g h) s0 s2 v
 behind_one {levels = levels} {g = g} {h = h} {s0 = s0} {s1 = s1} {s2 = s2} {a = a} {v = v} e f =
-    record { leads = subst (Leads (read (nested_at levels) (Pair (λ _ x. x) g h)) s0 s2) (second_value v) (pair_leads levels (λ _ x. x) g h s0 s1 s2 a v e.leads f.leads) }
+    record { leads = subst (Leads (read (nested_at levels) (Pair (λ _ x. x) g h)) s0 s2) (option_map_id v) (pair_leads levels (λ _ x. x) g h s0 s1 s2 a v e.leads f.leads) }
 
 any_leads : {A : Type 0} (levels : ℕ) (g : Grammar A) (s0 s1 : State) (v : Option A) → Leads (read (nested_at levels) g) s0 s1 None → Leads (read (nested_at levels) g) s0 s1 v
 any_leads levels g (Stopped s) s1 v e = e

@@ -1,13 +1,13 @@
 -- The edge with reset: registers are 0 behind it, and words are as they were.
-use Rattle.std.proofs.Common.{◌≡◌, ℕ, ◌+◌, ◌==◌, nat_lt, List, [], ◌∷◌, Bool, true, false, Option, Some, None, option_map, option_and_then, slice_get, if◌then◌else◌, refl, sym, ap, ◌∙◌, subst}
+use Rattle.std.proofs.Common.{◌≡◌, ℕ, ◌==◌, nat_lt, List, [], ◌∷◌, Bool, true, false, Option, Some, None, option_and_then, slice_get, if◌then◌else◌, refl, sym, ap, ◌∙◌, subst}
 use Rattle.std.specs.Prelude.{All, IsSome}
 use Rattle.std.specs.Option.{option_map_or}
 use Rattle.std.specs.Cmp.Lexicographic.{same_text}
 use Rattle.std.proofs.lemmas.List.Elements.{All-head, All-tail}
 use Rattle.std.proofs.lemmas.Option.{option_and_then_some}
 use Rattle.cx_bits.specs.BitVector.{BitVector}
-use Rattle.cx_vtree.specs.Plain.{PlainExpr, Number, PlainPort, PlainDecl, WireOf, RegisterOf, ArrayOf, PlainAssign, PlainEdge, PlainSource}
-use Rattle.cx_vtree.specs.InstanceTree.{Placed, same_name, decls_at, NetKind, Input, Driven, Stored, declared_kind, kind_in, Origin, Outside, Tied, Held, Given, net_of, assigned, output_to, driving_output, origin_by, origin_of, instances_of}
+use Rattle.cx_vtree.specs.Plain.{Number, PlainPort, PlainDecl, WireOf, RegisterOf, ArrayOf, PlainAssign, PlainEdge, PlainSource}
+use Rattle.cx_vtree.specs.InstanceTree.{Placed, same_name, decls_at, NetKind, Input, Driven, Stored, declared_kind, kind_in, Held, net_of, assigned, driving_output, origin_by, origin_of, instances_of}
 use Rattle.cx_vtree.specs.Meaning.{State, Moment, Look, expr_at}
 use Rattle.cx_vtree.specs.Edges.{acting_sets, acting_stores, edge_at, number_or, register_after, array_size, store_to, word_by}
 use Rattle.cx_vtree.specs.SimRun.{Outcome, start_state, SimRun, loops_in_reset, after_reset}
@@ -15,35 +15,13 @@ use Rattle.cx_power.specs.Resets.{IsZero, IsSetAmong, HasReset, IsReset}
 use Rattle.cx_power.specs.Power.{HasPower, held_in_reset, after_power, PowerRun, IsNoLoop}
 use Rattle.cx_power.proofs.ModuleLemmas.{part_keeps}
 use Rattle.cx_power.proofs.AlikeLemmas.{Alike, runs_alike}
-
--- what holds its value is a register that is declared
-output_unheld : (ps : List Placed) (number holder w : ℕ) (net : List ℕ) → driving_output ps number holder net ≡ Some (Held w) → ⊥
-output_unheld [] number holder w net e = absurd (cc)
-output_unheld (p ∷ rest) number holder w net e =
-    go (if p.holder == holder then output_to p.part.ports p.conns net else None) (driving_output rest (number + 1) holder net) (output_unheld rest (number + 1) holder w net) e
-  where
-    go : (o : Option (List ℕ)) (d : Option Origin) → (d ≡ Some (Held w) → ⊥) → option_map_or (λ port. Some (Tied number port)) o d ≡ Some (Held w) → ⊥
-    go None d h f = h f
-    go (Some port) d h f = absurd (cc)
-
-assigned_unheld : (o : Option PlainExpr) (d : Option Origin) (w : ℕ) → (d ≡ Some (Held w) → ⊥) → option_map_or (λ e. Some (Given e)) o d ≡ Some (Held w) → ⊥
-assigned_unheld None d w h f = h f
-assigned_unheld (Some e) d w h f = absurd (cc)
-
-input_unheld : (t : Bool) (o : Option (List ℕ)) (holder w : ℕ) → (if t then Some Outside else option_map (Tied holder) o) ≡ Some (Held w) → ⊥
-input_unheld true o holder w e = absurd (cc)
-input_unheld false None holder w e = absurd (cc)
-input_unheld false (Some n) holder w e = absurd (cc)
+use Rattle.cx_vtree.proofs.InstanceTreeLemmas.{input_unheld, output_unheld, assigned_unheld}
+use Rattle.cx_text.proofs.OptionLaws.{by_test}
 
 held_kind : (tree : List Placed) (i w : ℕ) (p : Placed) (name : List ℕ) (kind : NetKind) → origin_by tree i p name kind ≡ Some (Held w) → kind ≡ Stored w
 held_kind tree i w p name Input e = absurd (input_unheld (i == 0) (net_of p.conns name) p.holder w e)
 held_kind tree i w p name Driven e = absurd (assigned_unheld (assigned p.part.assigns name) (driving_output tree 0 i name) w (output_unheld tree 0 i w name) e)
 held_kind tree i w p name (Stored v) e = cc
-
--- by the two sides of a test
-by_test : {A : Type 0} (P : Type 0) (t : Bool) (a b : Option A) (x : A) → (if t then a else b) ≡ Some x → (t ≡ true → a ≡ Some x → P) → (b ≡ Some x → P) → P
-by_test P true a b x e here there = here refl e
-by_test P false a b x e here there = there e
 
 module _ (sets : List PlainAssign) where
   declared_set : (ds : List PlainDecl) (name : List ℕ) (w : ℕ) → All (IsSetAmong sets) ds → declared_kind ds name ≡ Some (Stored w) → IsSome (assigned sets name)

@@ -1,2 +1,11 @@
 pub mod KnownRows
 pub mod NameLemmas
+pub mod TableCases
+pub mod RowTools
+pub mod RegisterLaws
+pub mod PipeLaws
+pub mod MemoryLaws
+pub mod TableLaws
+pub mod PortsLemmas
+pub mod CellStatesLemmas
+pub mod RowsLemmas

@@ -1,5 +1,5 @@
 -- The rows of the primitives without state keep the laws of a row.
-use Rattle.std.specs.Prelude.{◌≡◌, ℕ, zero, suc, ◌<◌, ◌==◌, ◌&&◌, Bool, true, false, List, [], ◌∷◌, Option, Some, None, IsSome, slice_get, nat_lt, if◌then◌else◌, option_and_then, option_map, refl}
+use Rattle.std.specs.Prelude.{◌≡◌, ℕ, zero, suc, ◌<◌, ◌==◌, Bool, true, false, List, [], ◌∷◌, Option, Some, None, IsSome, slice_get, nat_lt, if◌then◌else◌, option_and_then, option_map, refl}
 use Rattle.std.specs.List.{list_all}
 use Rattle.std.specs.Prelude.{◌⊎◌}
 use Rattle.std.proofs.Common.{ap, sym, ◌∙◌, subst, arith, inl, inr}
@@ -11,15 +11,7 @@ use Rattle.cx_prim.specs.declared.ports.Side.{Side}
 use Rattle.cx_prim.specs.declared.ports.Side.TheVariants.{Plain, Registered}
 use Rattle.cx_prim.specs.Rows.{Inputs, input, Row, is_output_side, IsOfWidth, KeepsRegistered, GivesWidths, ReadsOnly, AnswersStrictly}
 use Rattle.cx_prim.specs.CombinationalRows.{constant_row, unary_row, binary_row, mux_row, chosen}
-
--- both sides of a conjunction that is true
-pub and_left : (a b : Bool) → (a && b) ≡ true → a ≡ true
-and_left true b h = refl
-and_left false b h = h
-
-pub and_right : (a b : Bool) → (a && b) ≡ true → b ≡ true
-and_right true b h = h
-and_right false b h = absurd (cc)
+use Rattle.cx_text.proofs.BoolLaws.{and_left, and_right}
 
 -- a test that each item passes, passed by the item at a place
 pub passes_at : {X : Type 0} (test : X → Bool) (xs : List X) (n : ℕ) (x : X) → list_all test xs ≡ true → slice_get xs n ≡ Some x → test x ≡ true

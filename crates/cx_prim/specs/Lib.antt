@@ -10,10 +10,4 @@ pub mod PipeRows
 pub mod Table
 pub mod Operators
 pub mod CombinationalLaws
-pub mod TableCases
 pub mod OperatorWidths
-pub mod RowTools
-pub mod RegisterLaws
-pub mod PipeLaws
-pub mod MemoryLaws
-pub mod TableLaws

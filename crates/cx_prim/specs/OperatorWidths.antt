@@ -4,7 +4,7 @@ use Rattle.std.specs.Prelude.{◌≡◌, ℕ, ◌≤◌, List, Option, Some, Non
 use Rattle.std.proofs.Common.{sym, ◌∙◌}
 use Rattle.std.proofs.lemmas.Bool.{eqb-true, leb-true}
 use Rattle.cx_bits.specs.BitVector.{BitVector, Fits}
-use Rattle.cx_bits.specs.OperatorLaws.{Fits-sum_of, Fits-difference_of, Fits-and_of, Fits-or_of, Fits-xor_of, Fits-complement_of, Fits-left_shift_of, Fits-right_shift_of, Fits-bit_of, Fits-low_bits_of, Fits-zero_extension_of}
+use Rattle.cx_bits.proofs.OperatorLaws.{Fits-sum_of, Fits-difference_of, Fits-and_of, Fits-or_of, Fits-xor_of, Fits-complement_of, Fits-left_shift_of, Fits-right_shift_of, Fits-bit_of, Fits-low_bits_of, Fits-zero_extension_of}
 use Rattle.cx_prim.specs.Rows.{Inputs, KeepsRegistered, GivesWidths, ReadsOnly, AnswersStrictly, IsLawful}
 use Rattle.cx_prim.specs.CombinationalRows.{combinational_row, constant_row, unary_row, binary_row, mux_row}
 use Rattle.cx_prim.specs.CombinationalLaws.{GivesWidth1, GivesWidth2, no_registered, constant_widths, unary_widths, binary_widths, mux_widths, constant_reads_only, unary_reads_only, binary_reads_only, mux_reads_only, constant_strict, unary_strict, binary_strict, mux_strict}

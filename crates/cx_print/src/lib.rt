@@ -1,5 +1,4 @@
-//! Lays out a tree as a text that people like to read.
-//! Prints a tree as a text that is read as an equal tree apart from places.
+//! Prints a tree as a text that is read as an equal tree apart from places, and lays it out as people like to read.
 #![tactic(auto)]
 
 mod components;

@@ -7,10 +7,7 @@ use Rattle.cx_meaning.specs.Sights.{In}
 use Rattle.cx_design.specs.declared.statements.Statement.{Statement}
 use Rattle.cx_design.specs.PlainForms.{plain_statement}
 use Rattle.cx_race.specs.Links.{Within}
-
-list_of_statements : (ss : List PlainStatement) → list_of (statements_of ss) ≡ ss
-list_of_statements [] = refl
-list_of_statements (s ∷ ss) = ap (λ l. s ∷ l) (list_of_statements ss)
+use Rattle.cx_meaning.proofs.DesignsLemmas.{list_again}
 
 -- the two ways to say what stands in a list of numbers
 pub as_node : (ns : List ℕ) (n : ℕ) → In ns n → graphs.In ns n
@@ -24,7 +21,7 @@ from_node (m ∷ ns) n (inl e) = inl e
 from_node (m ∷ ns) n (inr i) = inr (from_node ns n i)
 
 pub par_arms : (parts : List Statement) → map plain_statement parts ≡ list_of (statements_of (map plain_statement parts))
-par_arms parts = sym (list_of_statements (map plain_statement parts))
+par_arms parts = sym (list_again (map plain_statement parts))
 
 abbrev one_or : PlainStatement → Option PlainStatement → PlainStatement
 one_or s None = s

@@ -1,5 +1,5 @@
 -- What assignments and statements of a design name is there.
-use Rattle.std.proofs.Common.{◌≡◌, ℕ, zero, suc, ◌<◌, ◌≤◌, List, [], ◌∷◌, Option, Some, None, length, map, flat_map, ◌⊎◌, inl, inr, ⊎_elim, refl, sym, ap, ◌∙◌, subst, arith}
+use Rattle.std.proofs.Common.{◌≡◌, ℕ, zero, suc, ◌<◌, ◌≤◌, List, [], Option, Some, None, length, map, flat_map, ◌⊎◌, inl, inr, ⊎_elim, refl, sym, ap, ◌∙◌, subst, arith}
 use denote.Struct.Props.{props}
 use Rattle.std.proofs.Math.Logic.{∥∥₁_elim}
 use Rattle.std.proofs.lemmas.List.{get_or_past}
@@ -9,7 +9,7 @@ use Rattle.cx_meaning.specs.declared.ports.PortRef.{PortRef}
 use Rattle.cx_meaning.specs.declared.ports.PortRef.TheVariants as ports
 use Rattle.cx_meaning.specs.declared.ports.PlacedPort.{PlacedPort}
 use Rattle.cx_meaning.specs.Designs.{PlainAssign, PlainGroup, PlainComponent, PlainDesign, component_at, group_at, no_group, PlainForm, Empty, Enable, Seq, Par, If, While, Repeat, StaticSeq, StaticPar, StaticIf, StaticRepeat, Timed, PlainStatement}
-use Rattle.cx_meaning.specs.Instances.{Instance, part_of, tree_within}
+use Rattle.cx_meaning.specs.Instances.{Instance, part_of}
 use Rattle.cx_meaning.specs.Sights.{In}
 use Rattle.cx_meaning.specs.Control.{groups_of}
 use Rattle.cx_rules.specs.Ports.{component_of}
@@ -25,10 +25,8 @@ use Rattle.cx_race.specs.declared.parts.Footprints.{Footprints}
 use Rattle.cx_race.proofs.FormLemmas.{visited_forms, enabled_by_forms, groups_by_forms, tests_by_forms}
 use Rattle.cx_race.proofs.CellLemmas.{cell_is, group_list}
 use Rattle.cx_race.proofs.ArmLemmas.{from_node}
-
-pub part_is : (d : PlainDesign) (n k : ℕ) → part_of (tree_within d n k) ≡ component_at d k
-part_is d zero k = refl
-part_is d (suc n) k = refl
+use Rattle.cx_meaning.proofs.DesignsLemmas.{same_part}
+use Rattle.cx_meaning.proofs.SightsLaws.{image_in}
 
 port_within : (i : Instance) (port : PortRef) → IsThere i port → Within (length (part_of i).cells) (cell_in port)
 port_within i port h c j = let p = cell_is port c j in let there : IsThere i (ports.Cell c p.0) = subst (IsThere i) p.1 h in there.0
@@ -53,11 +51,6 @@ group_there part g a i = ⊎_elim (λ lt. (lt, i)) (λ ge. absurd (subst (λ x. 
     below_or_not zero (suc n) = inl (omega arith)
     below_or_not (suc m) zero = inr (omega arith)
     below_or_not (suc m) (suc n) = ⊎_elim (λ l. inl (omega (arith, l))) (λ g. inr (omega (arith, g))) (below_or_not m n)
-
-in_mapped : {A B : Type 0} (f : A → B) (xs : List A) (y : B) → In (map f xs) y → (x : A) × In xs x × (f x ≡ y)
-in_mapped f [] y i = absurd i
-in_mapped f (x ∷ xs) y (inl e) = (x, inl refl, e)
-in_mapped f (x ∷ xs) y (inr i) = let r = in_mapped f xs y i in (r.0, inr r.1, r.2)
 
 in_option : {A : Type 0} (o : Option A) (x : A) → In (option_list o) x → o ≡ Some x
 in_option None x i = absurd i
@@ -112,7 +105,7 @@ module _ (d : PlainDesign) (keeps : ∥ IsDesign d ∥₁) (k : ℕ) (within : k
   at = component_of d k
 
   same : part_of at ≡ part
-  same = part_is d (length d.components) k
+  same = same_part d (length d.components) k
 
   in_part : (ns : List ℕ) → Within (length (part_of at).cells) ns → Within (length part.cells) ns
   in_part ns h = subst (λ p. Within (length p.cells) ns) same h
@@ -135,7 +128,7 @@ module _ (d : PlainDesign) (keeps : ∥ IsDesign d ∥₁) (k : ℕ) (within : k
 
   -- the form of a statement is visited
   visited_form : (f : PlainForm) → In (forms_of part.control) f → (v : Visited) × In (statements_in part) v × (v.form ≡ f)
-  visited_form f i = in_mapped (λ v. v.form) (visit Dynamic part.control) f (subst (λ l. In l f) (sym (visited_forms Dynamic part.control)) i)
+  visited_form f i = image_in (λ v. v.form) (visit Dynamic part.control) f (subst (λ l. In l f) (sym (visited_forms Dynamic part.control)) i)
 
   targets_there : (g : ℕ) → Within (length part.cells) (targets_in_group (group_at part g))
   targets_there g c i =

@@ -1,5 +1,5 @@
 -- The cells that statements drive and name, as lists.
-use Rattle.std.proofs.Common.{◌≡◌, ℕ, zero, suc, Bool, true, false, ◌||◌, List, [], ◌∷◌, ◌++◌, flat_map, map, get_or, ◌⊎◌, inl, inr, ⊎_elim, refl, sym, ap, ◌∙◌, subst}
+use Rattle.std.proofs.Common.{◌≡◌, ℕ, zero, suc, true, List, [], ◌∷◌, ◌++◌, flat_map, map, get_or, inl, inr, ⊎_elim, refl, sym, ap, ◌∙◌, subst}
 use Rattle.cx_graphs.specs.Graphs.{targets_of}
 use Rattle.cx_meaning.specs.declared.ports.PortRef.{PortRef}
 use Rattle.cx_meaning.specs.declared.ports.PortRef.TheVariants as ports
@@ -12,6 +12,8 @@ use Rattle.cx_rules.specs.Items.{operands_of, operands_in}
 use Rattle.cx_rules.specs.Footprints.{AssignNames}
 use Rattle.cx_design_parts.proofs.Lists.{in_left, in_right, in_either, in_flat, flat_in}
 use Rattle.cx_race.specs.Cells.{cell_in, port_cell, target_in, named_in, driven_in, driven_by}
+use Rattle.cx_meaning.proofs.InstancesLemmas.{just_true, just_same}
+use Rattle.cx_text.proofs.BoolLaws.{or_right, either_true, or_left}
 
 -- the list of a group, where the lists are those of all groups
 pub group_list : (f : PlainGroup → List ℕ) → f no_group ≡ [] → (groups : List PlainGroup) (g : ℕ) → targets_of (map f groups) g ≡ f (get_or groups g no_group)
@@ -37,19 +39,8 @@ cell_is (ports.Literal w v) c i = absurd i
 pub has_cell : (port : PortRef) (c p : ℕ) → port ≡ ports.Cell c p → In (cell_in port) c
 has_cell port c p e = subst (λ q. In (cell_in q) c) (sym e) (inl refl)
 
--- DRIVES
-just_is : (d c : ℕ) → just d c ≡ true → d ≡ c
-just_is zero zero h = refl
-just_is zero (suc c) h = absurd (cc)
-just_is (suc d) zero h = absurd (cc)
-just_is (suc d) (suc c) h = ap (λ n. suc n) (just_is d c h)
-
-just_same : (c : ℕ) → just c c ≡ true
-just_same zero = refl
-just_same (suc c) = just_same c
-
 target_driven : (port : PortRef) (c : ℕ) → targets_cell port c ≡ true → In (cell_in port) c
-target_driven (ports.Cell d p) c h = inl (just_is d c h)
+target_driven (ports.Cell d p) c h = inl (just_true d c h)
 target_driven (ports.Input n) c h = absurd (cc)
 target_driven (ports.Output n) c h = absurd (cc)
 target_driven (ports.Done g) c h = absurd (cc)
@@ -63,18 +54,6 @@ driven_target (ports.Output n) c i = absurd i
 driven_target (ports.Done g) c i = absurd i
 driven_target (ports.Literal w v) c i = absurd i
 
-either_true : (a b : Bool) → a || b ≡ true → (a ≡ true) ⊎ (b ≡ true)
-either_true true b h = inl refl
-either_true false b h = inr h
-
-true_left : (a b : Bool) → a ≡ true → a || b ≡ true
-true_left true b h = refl
-true_left false b h = absurd (cc)
-
-true_right : (a b : Bool) → b ≡ true → a || b ≡ true
-true_right true b h = refl
-true_right false b h = h
-
 assigns_driven : (assigns : List PlainAssign) (c : ℕ) → assigns_drive assigns c ≡ true → In (driven_in assigns) c
 assigns_driven [] c h = absurd (cc)
 assigns_driven (a ∷ rest) c h =
@@ -83,7 +62,7 @@ assigns_driven (a ∷ rest) c h =
 driven_assigns : (assigns : List PlainAssign) (c : ℕ) → In (driven_in assigns) c → assigns_drive assigns c ≡ true
 driven_assigns [] c i = absurd i
 driven_assigns (a ∷ rest) c i =
-    ⊎_elim (λ l. true_left (targets_cell a.target c) (assigns_drive rest c) (driven_target a.target c l)) (λ r. true_right (targets_cell a.target c) (assigns_drive rest c) (driven_assigns rest c r)) (in_either (target_in a) (driven_in rest) c i)
+    ⊎_elim (λ l. or_left (targets_cell a.target c) (assigns_drive rest c) (driven_target a.target c l)) (λ r. or_right (targets_cell a.target c) (assigns_drive rest c) (driven_assigns rest c r)) (in_either (target_in a) (driven_in rest) c i)
 
 module _ (part : PlainComponent) where
   abbrev of_group : ℕ → List ℕ
@@ -101,8 +80,8 @@ module _ (part : PlainComponent) where
   driven_groups [] c i = absurd i
   driven_groups (g ∷ gs) c i =
       ⊎_elim
-      (λ l. true_left (assigns_drive (group_at part g).assigns c) (groups_drive part gs c) (driven_assigns (group_at part g).assigns c l))
-      (λ r. true_right (assigns_drive (group_at part g).assigns c) (groups_drive part gs c) (driven_groups gs c r))
+      (λ l. or_left (assigns_drive (group_at part g).assigns c) (groups_drive part gs c) (driven_assigns (group_at part g).assigns c l))
+      (λ r. or_right (assigns_drive (group_at part g).assigns c) (groups_drive part gs c) (driven_groups gs c r))
       (in_either (of_group g) (flat_map of_group gs) c i)
 
   -- the list has the cells that a statement drives

@@ -16,6 +16,8 @@ use Rattle.cx_design_parts.proofs.Lists.{in_left, in_right, in_either}
 use Rattle.cx_race.specs.Cells.{cell_in, target_in, named_in}
 use Rattle.cx_race.specs.Links.{HasLinks, Within, linked}
 use Rattle.cx_race.proofs.ArmLemmas.{as_node, from_node}
+use Rattle.cx_text.proofs.NumberLaws.{same_or}
+use Rattle.cx_graphs.proofs.Members.{targets_are}
 
 no_targets : (count c : ℕ) → targets_of (replicate count []) c ≡ []
 no_targets zero c = refl
@@ -27,12 +29,6 @@ no_links count = record {
   sound = λ c e i. absurd (subst (λ l. graphs.In l e) (no_targets count c) i);
   all = λ c e a i t n. absurd i;
 }
-
-pub same_or_not : (m n : ℕ) → (m ≡ n) ⊎ (m ≢ n)
-same_or_not zero zero = inl refl
-same_or_not zero (suc n) = inr (λ e. absurd (omega (arith, e)))
-same_or_not (suc m) zero = inr (λ e. absurd (omega (arith, e)))
-same_or_not (suc m) (suc n) = ⊎_elim (λ e. inl (ap (λ k. suc k) e)) (λ d. inr (λ e. d (omega (arith, e)))) (same_or_not m n)
 
 set_here : (g : Edges) (c : ℕ) (ns : List ℕ) → c < length g → targets_of (slice_set g c ns) c ≡ ns
 set_here [] c ns h = absurd (omega (arith, h))
@@ -69,7 +65,7 @@ module _ (assigns : List PlainAssign) (a : PlainAssign) (g : Edges) (has : HasLi
         (λ new. (a, in_right assigns (a ∷ []) a (inl refl), subst (λ x. In (target_in a) x) s there, new))
         (in_either (targets_of g d) (named_in a) e (from_node (targets_of g d ++ named_in a) e (subst (λ l. graphs.In l e) (set_here g d (targets_of g d ++ named_in a) within) (subst (λ x. graphs.In (targets_of now x) e) (sym s) i)))))
         (λ n. let b = has.sound c e (subst (λ l. graphs.In l e) (set_there g d c (targets_of g d ++ named_in a) n) i) in (b.0, in_left assigns (a ∷ []) b.0 b.1, b.2, b.3))
-        (same_or_not d c);
+        (same_or d c);
     all = λ c e b i t n. ⊎_elim
         (λ l. still c e (has.all c e b l t n))
         (λ s. subst (λ x. graphs.In (targets_of now x) e) (only c (subst (λ x. In (target_in x) c) (sym s) t))
@@ -87,7 +83,7 @@ module _ (assigns : List PlainAssign) (a : PlainAssign) (g : Edges) (has : HasLi
           (subst (λ l. graphs.In l e) (sym (set_here g d (targets_of g d ++ named_in a) within))
           (as_node (targets_of g d ++ named_in a) e (in_left (targets_of g d) (named_in a) e (from_node (targets_of g d) e (subst (λ x. graphs.In (targets_of g x) e) (sym s) i))))))
           (λ n. subst (λ l. graphs.In l e) (sym (set_there g d c (targets_of g d ++ named_in a) n)) i)
-          (same_or_not d c)
+          (same_or d c)
 
   by_port : (port : PortRef) → a.target ≡ port → Within (length g) (cell_in port) → HasLinks more (linked g (cell_in port) (named_in a))
   by_port (ports.Cell d p) e w = one d (w d (inl refl)) (subst (λ q. In (cell_in q) d) (sym e) (inl refl)) (λ c i. only c (subst (λ q. In (cell_in q) c) e i))
@@ -102,11 +98,6 @@ module _ (assigns : List PlainAssign) (a : PlainAssign) (g : Edges) (has : HasLi
   -- the edges of one more assignment
   pub links_more : Within (length g) (target_in a) → HasLinks more (linked g (target_in a) (named_in a))
   links_more w = by_port a.target refl w
-
-targets_are : {A : Type 0} (lists : List (Vec ℕ A)) (node : ℕ) (list : Vec ℕ A) → node < length lists → list ≡ get_or lists node list → targets_of (edges_of lists) node ≡ list.items
-targets_are [] node list h e = absurd (omega (arith, h))
-targets_are (x ∷ lists) zero list h e = ap (λ l. l.items) (sym e)
-targets_are (x ∷ lists) (suc node) list h e = targets_are lists node list (omega (arith, h)) e
 
 -- the edges of a node are written with more behind them
 pub edges_set : {A : Type 0} (lists : List (Vec ℕ A)) (node : ℕ) (old new : Vec ℕ A) (more : List ℕ) → node < length lists → old ≡ get_or lists node old → new.items ≡ old.items ++ more

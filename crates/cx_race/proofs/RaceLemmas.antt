@@ -16,17 +16,19 @@ use Rattle.cx_rules.specs.Wellformed.{IsDesign}
 use Rattle.cx_rules.specs.Accepted.{Breaks, stage_of, key_of, comes_before}
 use Rattle.cx_design_parts.specs.Breaks.{Broken, key, first_of}
 use Rattle.cx_design_parts.specs.Answers.{AreBreaks}
-use Rattle.cx_design_parts.proofs.Order.{not_before_itself}
 use Rattle.cx_design_parts.proofs.Lists.{first_append, in_left, in_right, in_either}
 use Rattle.cx_race.specs.declared.parts.Footprints.{Footprints}
 use Rattle.cx_race.specs.Cells.{targets_in_group, cells_in_group}
 use Rattle.cx_race.specs.Footprints.{AreFootprints}
 use Rattle.cx_race.proofs.FormLemmas.{visited_forms, arms_among}
-use Rattle.cx_race.proofs.Bounds.{AreForms, groups_there, tests_there, enabled_there, part_is}
+use Rattle.cx_race.proofs.Bounds.{AreForms, groups_there, tests_there, enabled_there}
 use Rattle.cx_race.specs.declared.races.Race.{Race}
 use Rattle.cx_race.specs.declared.races.Race.TheVariants.{Cell, Group}
 use Rattle.cx_race.specs.Races.{AreWithin, IsFirstRace, race_name}
 use Rattle.cx_race.specs.RaceBreaks.{race_break, IsAt, IsBefore, IsOf, IsBeforeOf, Looked}
+use Rattle.cx_rules.proofs.SpotsLemmas.{same_number}
+use Rattle.cx_rules.proofs.KeyOrder.{before_irreflexive}
+use Rattle.cx_meaning.proofs.DesignsLemmas.{same_part}
 
 -- nothing is looked at
 pub looked_none : (d : PlainDesign) (At : Spot → Type 0) (best : Option Broken) → ((spot : Spot) → At spot → ⊥) → Looked d At best best
@@ -82,9 +84,6 @@ abbrev visited_or : Visited → Option Visited → Visited
 visited_or v None = v
 visited_or v (Some w) = w
 
-same_number : (m n : ℕ) → AStatement m ≡ AStatement n → m ≡ n
-same_number m n e = cc
-
 -- ONE STATEMENT
 module _ (d : PlainDesign) (k n : ℕ) (v : Visited) (within : k < length d.components) (stands : slice_get (statements_in (component_at d k)) n ≡ Some v) where
   abbrev part : PlainComponent
@@ -94,7 +93,7 @@ module _ (d : PlainDesign) (k n : ℕ) (v : Visited) (within : k < length d.comp
   here = record { component = k; part = AStatement n }
 
   same : part_of (component_of d k) ≡ part
-  same = part_is d (length d.components) k
+  same = same_part d (length d.components) k
 
   breaks_here : (r : Race) → IsFirstRace part (arms_of v.form) (Some r) → OnStatement BreaksRace d here v.place (race_name part r)
   breaks_here r h = record {
@@ -209,7 +208,7 @@ module _ (d : PlainDesign) (first : Option Broken) (l : Looked d (IsBeforeOf (le
   found_race : (spot : Spot) (place : Place) (name : List ℕ) → OnStatement BreaksRace d spot place name → Found rule.Race spot place
   found_race spot place name o =
       let b = l.all spot place name o.within o in
-      (b.0, b.1, subst (λ x. comes_before (key_of rule.Race spot place) x ≡ false) (sym b.2) (not_before_itself (key_of rule.Race spot place)))
+      (b.0, b.1, subst (λ x. comes_before (key_of rule.Race spot place) x ≡ false) (sym b.2) (before_irreflexive (key_of rule.Race spot place)))
 
   all_breaks : (r : Rule) (spot : Spot) (place : Place) (name : List ℕ) → stage_of r ≡ 6 → Breaks d r spot place name → Found r spot place
   all_breaks rule.Race spot place name h o = found_race spot place name o

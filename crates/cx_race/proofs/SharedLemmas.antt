@@ -17,7 +17,7 @@ use Rattle.cx_race.proofs.CellLemmas.{group_lists, in_driven, is_driven}
 use Rattle.cx_race.proofs.ReadLemmas.{reads_reached, reached_reads}
 use Rattle.cx_race.specs.Races.{IsLeastOf, IsFirstRace, race_of}
 use Rattle.cx_race.proofs.ArmLemmas.{as_node, from_node, list_at, arm_at, from_nowhere}
-use Rattle.cx_race.proofs.LinkLemmas.{same_or_not}
+use Rattle.cx_text.proofs.NumberLaws.{same_or}
 
 -- owners that cover a number have one
 pub an_owner : (P : ℕ → Type 0) (o : Owners) (k : ℕ) → Covers o k → Sound P o → (j : ℕ) × P j
@@ -105,7 +105,7 @@ module _ (part : PlainComponent) (arms : List PlainStatement) (g members cells :
         ⊎_elim
         (λ same. shared_by c j.0 two.1 (λ e. two.2 (sym same ∙ e)) j.1 two.4)
         (λ differ. shared_by c j.0 two.0 differ j.1 two.3)
-        (same_or_not j.0 two.0)
+        (same_or j.0 two.0)
 
     is_shared : (c : ℕ) → IsShared part arms c → graphs.In driven_ones c × IsSeveral reading c
     is_shared c h =

@@ -1,8 +1,7 @@
 -- A statement stands beside itself with its ports moved, where the leaves carry.
-use Rattle.std.proofs.Common.{◌≡◌, ℕ, inl, inr, List, ◌++◌, Option, Some, None, refl, sym, ap, subst}
+use Rattle.std.proofs.Common.{◌≡◌, ℕ, inl, inr, List, ◌++◌, Option, refl, sym, ap, subst}
 use Rattle.cx_meaning.specs.declared.ports.PortRef.{PortRef}
 use Rattle.cx_meaning.specs.Designs.{PlainForm, Empty, Enable, Seq, Par, If, While, Repeat, StaticSeq, StaticPar, StaticIf, StaticRepeat, Timed, PlainStatement, Placed, PlainStatements, no_statements, a_statement}
-use Rattle.cx_meaning.specs.Sights.{In}
 use Rattle.cx_meaning.specs.Control.{Leaves, groups_in, groups_of, groups_in_all, with_comb, run}
 use Rattle.cx_rules.specs.Items.{Context, below_dynamic, Visited, visit, visit_parts, visit_all}
 use Rattle.cx_frames.proofs.ControlFrames.{Holds, left, right}
@@ -11,21 +10,7 @@ use Rattle.cx_rewrites.specs.Tallies.{Tally, Counting, count}
 use Rattle.cx_rewrites.specs.Carrying.{Pace, Carries}
 use Rattle.cx_rewrites.specs.Beside.{joined, FormBeside, outright, empties, seqs, pars, ifs, whiles, repeats, Beside, placed, PartsBeside, no_parts, a_part, ArmsBeside, no_arms, an_arm, LeavesCarry}
 use Rattle.cx_rewrites.proofs.BesideLemmas.{run_carries}
-
--- the comb group of a test, and the groups behind it
-in_comb : (comb : Option ℕ) (gs : List ℕ) (g : ℕ) → comb ≡ Some g → In (with_comb comb gs) g
-in_comb None gs g e = absurd (none_some e)
-  where
-    none_some : ◌≡◌ {A = Option ℕ} None (Some g) → ⊥
-    none_some e = cc
-in_comb (Some h) gs g e = inl (some_is e)
-  where
-    some_is : ◌≡◌ {A = Option ℕ} (Some h) (Some g) → h ≡ g
-    some_is e = cc
-
-behind_comb : (comb : Option ℕ) (gs : List ℕ) (g : ℕ) → In gs g → In (with_comb comb gs) g
-behind_comb None gs g i = i
-behind_comb (Some h) gs g i = inr i
+use Rattle.cx_meaning.proofs.SightsLaws.{behind_comb, in_comb}
 
 below_comb : {G : ℕ → Type 0} {P : PlainForm → Type 0} (comb : Option ℕ) (gs : List ℕ) (vs : List Visited) → Holds G P (with_comb comb gs) vs → Holds G P gs vs
 below_comb comb gs vs h = record { groups = λ g i. h.groups g (behind_comb comb gs g i); forms = h.forms }

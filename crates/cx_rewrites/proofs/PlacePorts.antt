@@ -1,5 +1,5 @@
 -- TESTS OF PORTS and what assignments name are the same apart from places.
-use Rattle.std.proofs.Common.{◌≡◌, ℕ, ◌+◌, inl, inr, not, List, [], ◌∷◌, ◌++◌, map, refl, sym, ap, ◌∙◌, subst}
+use Rattle.std.proofs.Common.{◌≡◌, ℕ, ◌+◌, inl, inr, not, List, ◌∷◌, ◌++◌, map, refl, sym, ap, ◌∙◌, subst}
 use Rattle.std.proofs.lemmas.List.{map-append}
 use Rattle.cx_prim.specs.Rows.{Row, is_output_side}
 use Rattle.cx_meaning.specs.Rows.{side_of}
@@ -13,6 +13,7 @@ use Rattle.cx_rules.specs.Items.{atoms_of, atoms_in, comparisons_of, comparisons
 use Rattle.cx_rules.specs.Footprints.{AssignNames}
 use Rattle.cx_rewrites.specs.Places.{unplaced_port, unplaced_guard, unplaced_guards, unplaced_assign, SamePart}
 use Rattle.cx_rewrites.proofs.PlaceLemmas.{SameTree, SameAt, none_there, a_row_there, a_child_there, same_at, same_parts, same_cells, part_port-same}
+use Rattle.cx_meaning.proofs.SightsLaws.{image_in, in_image}
 
 part_width-same : (part other : PlainComponent) → SamePart part other → (port : PartPort) → part_width part port ≡ part_width other port
 part_width-same part other same Go = refl
@@ -212,17 +213,6 @@ module _ (a b : PlainAssign) (e : unplaced_assign a ≡ unplaced_assign b) where
   sources_of-same =
       ap (λ p. unplaced_port a.source ∷ p) (sym (operands_of-unplaced a.guard) ∙ ap operands_of guard_is ∙ operands_of-unplaced b.guard)
       ∙ ap (λ (x : PlainAssign). x.source ∷ map unplaced_port (operands_of b.guard)) e
-
--- a member of one list stands for a member of the other
-pub in_image : {A B : Type 0} (f : A → B) (list : List A) (x : A) → In list x → In (map f list) (f x)
-in_image f [] x i = absurd i
-in_image f (y ∷ rest) x (inl e) = inl (ap f e)
-in_image f (y ∷ rest) x (inr i) = inr (in_image f rest x i)
-
-pub image_in : {A B : Type 0} (f : A → B) (list : List A) (y : B) → In (map f list) y → (x : A) × In list x × (f x ≡ y)
-image_in f [] y i = absurd i
-image_in f (x ∷ rest) y (inl e) = (x, inl refl, e)
-image_in f (x ∷ rest) y (inr i) = let r = image_in f rest y i in (r.0, inr r.1, r.2)
 
 pub twin_in : {A B : Type 0} (f : A → B) (list other : List A) (x : A) → map f list ≡ map f other → In list x → (y : A) × In other y × (f x ≡ f y)
 twin_in f list other x e i = let r = image_in f other (f x) (subst (λ l. In l (f x)) e (in_image f list x i)) in (r.0, r.1, sym r.2)

@@ -4,22 +4,9 @@ use Rattle.std.specs.Prelude.{if◌then◌else◌}
 use Rattle.cx_prim.specs.CellStates.{CellState}
 use Rattle.cx_prim.specs.Rows.{Row}
 use Rattle.cx_meaning.specs.Designs.{PlainComponent}
-use Rattle.cx_meaning.specs.Instances.{Instance, Node, Cells, no_cells, a_primitive, an_instance, OfRow, OfInstance, cell_at, cells_of, Path, State, Set, under, merge, just, put, idle_at, idle_below, idle}
+use Rattle.cx_meaning.specs.Instances.{Instance, Node, Cells, no_cells, a_primitive, an_instance, OfInstance, cell_at, cells_of, Path, State, Set, under, merge, just, put, idle_at, idle_below, idle}
 use Rattle.cx_rewrites.specs.Standing.{renumbered, renumbered_below, holds, holds_below, Stands, IsRenumbered, AreRenumbered}
-
-just_same : (c d : ℕ) → just c d ≡ true → c ≡ d
-just_same zero zero e = refl
-just_same zero (suc d) e = absurd (cc)
-just_same (suc c) zero e = absurd (cc)
-just_same (suc c) (suc d) e = ap suc (just_same c d e)
-
--- the idle edge of a row, and that of a cell of a child
-idle_below-row : (cells : Cells) (c : ℕ) (row : Row) (d : CellState) → cell_at cells c ≡ OfRow row → idle_below cells c [] d ≡ row.idle d
-idle_below-row no_cells c row d e = absurd (cc)
-idle_below-row (a_primitive own rest) zero row d e = let same : own ≡ row = cc in ap (λ (x : Row). x.idle d) same
-idle_below-row (a_primitive own rest) (suc c) row d e = idle_below-row rest c row d e
-idle_below-row (an_instance own rest) zero row d e = absurd (cc)
-idle_below-row (an_instance own rest) (suc c) row d e = idle_below-row rest c row d e
+use Rattle.cx_meaning.proofs.InstancesLemmas.{just_true, idle_below-row}
 
 idle_below-child : (cells : Cells) (c : ℕ) (child : Instance) (path : Path) (d : CellState) → cell_at cells c ≡ OfInstance child → idle_below cells c path d ≡ idle_at child path d
 idle_below-child no_cells c child path d e = absurd (cc)
@@ -75,7 +62,7 @@ module _ (number : PlainComponent → ℕ → ℕ) (counts : Row → Bool) where
       by : (t : Bool) → just c e ≡ t → (if t then twin (renumbered_below number cells e path) else z (number part e ∷ renumbered_below number cells e path)) ≡ (if t then own path else s (e ∷ path))
       by false differ = k (e ∷ path) on
       by true is =
-          let there : cell_at cells e ≡ OfInstance child = subst (λ n. cell_at cells n ≡ OfInstance child) (just_same c e is) at in
+          let there : cell_at cells e ≡ OfInstance child = subst (λ n. cell_at cells n ≡ OfInstance child) (just_true c e is) at in
           ap twin (child_renumbered cells e child path there) ∙ h path (sym (child_holds cells e child path there) ∙ on)
 
   -- an idle edge

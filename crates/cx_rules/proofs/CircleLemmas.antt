@@ -14,16 +14,13 @@ use Rattle.cx_rules.specs.Footprints.{Mentions, PartLeads, CellLeads, Leads, Dep
 use Rattle.cx_rules.specs.Spots.{Itself, AGroup}
 use Rattle.cx_rules.specs.Accepted.{IsAccepted}
 use Rattle.cx_rules.specs.Circles.{IsAcyclic, AreAcyclic, AcyclicBelow}
+use Rattle.cx_meaning.proofs.DesignsLemmas.{same_part}
 
 -- two cells with the same ports
 AreAlike : At → At → Type 0
 AreAlike Nothing b = Unit {0}
 AreAlike (OfRow row) b = b ≡ OfRow row
 AreAlike (OfInstance child) b = (other : Instance) × (b ≡ OfInstance other) × (part_of child ≡ part_of other)
-
-pub same_part : (d : PlainDesign) (n k : ℕ) → part_of (tree_within d n k) ≡ component_at d k
-same_part d zero k = refl
-same_part d (suc n) k = refl
 
 kind_alike : (d : PlainDesign) (m n : ℕ) (kind : PlainKind) (xs ys : Cells) (c : ℕ) → ((e : ℕ) → AreAlike (cell_at xs e) (cell_at ys e)) → AreAlike (cell_at (add_cell (tree_within d m) kind xs) c) (cell_at (add_cell (tree_within d n) kind ys) c)
 unfolding AreAlike

@@ -1,5 +1,5 @@
 -- Lists whose members are all different are no longer than a list that holds their members.
-use Rattle.std.proofs.Common.{◌≡◌, suc, ◌≤◌, inl, inr, List, [], ◌∷◌, ◌++◌, length, refl, sym, ap, ◌∙◌, subst, arith}
+use Rattle.std.proofs.Common.{◌≡◌, suc, ◌≤◌, inl, inr, List, [], ◌∷◌, length, refl, sym, ap, ◌∙◌, subst, arith}
 use Rattle.cx_meaning.specs.Sights.{In}
 
 abbrev pub Distinct : {A : Type 0} → List A → Type 0
@@ -32,12 +32,3 @@ distinct_few (v ∷ vs) xs (apart, d) h =
     let rest : length vs ≤ length (without xs v i) = distinct_few vs (without xs v i) d (λ w j. without_in xs v i w (h w (inr j)) (λ e. apart (subst (λ x. In vs x) e j))) in
     let count : suc (length (without xs v i)) ≡ length xs = without_length xs v i in
     omega arith
-
-pub in_left : {A : Type 0} (xs ys : List A) (x : A) → In xs x → In (xs ++ ys) x
-in_left [] ys x i = absurd i
-in_left (z ∷ xs) ys x (inl e) = inl e
-in_left (z ∷ xs) ys x (inr i) = inr (in_left xs ys x i)
-
-pub in_right : {A : Type 0} (xs ys : List A) (x : A) → In ys x → In (xs ++ ys) x
-in_right [] ys x i = i
-in_right (z ∷ xs) ys x i = inr (in_right xs ys x i)

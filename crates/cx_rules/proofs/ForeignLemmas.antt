@@ -1,32 +1,23 @@
 -- The enabling ports of a cell that no active group drives are 0.
-use Rattle.std.proofs.Common.{◌≡◌, ℕ, zero, suc, ◌+◌, inl, inr, ◌⊎◌, ⊎_elim, Bool, true, false, ◌||◌, Option, Some, None, List, [], ◌∷◌, ◌++◌, length, get_or, if◌then◌else◌, refl, sym, ap, ◌∙◌, arith}
+use Rattle.std.proofs.Common.{◌≡◌, ℕ, suc, ◌+◌, inl, inr, ◌⊎◌, ⊎_elim, Bool, true, false, ◌||◌, Option, Some, None, List, [], ◌∷◌, ◌++◌, length, get_or, refl, sym, ap, ◌∙◌, arith}
 use Rattle.cx_prim.specs.declared.ports.Side.TheVariants as sides
 use Rattle.cx_prim.specs.Rows.{Row}
 use Rattle.cx_meaning.specs.declared.ports.PortRef.{PortRef}
 use Rattle.cx_meaning.specs.declared.ports.PortRef.TheVariants as ports
 use Rattle.cx_meaning.specs.Rows.{side_of}
 use Rattle.cx_meaning.specs.Designs.{PlainAssign, PlainGroup, group_at, no_group}
-use Rattle.cx_meaning.specs.Instances.{Instance, Node, OfRow, cell_at, cells_of, part_of, State, under, just}
-use Rattle.cx_meaning.specs.Active.{Active, Owned, owned, owned_by_groups, no_later, placed_in, by_place, source_order, offset_of, if_acting, if_target, acting, same_port, drivers}
+use Rattle.cx_meaning.specs.Instances.{Instance, Node, OfRow, cell_at, cells_of, part_of, State, under}
+use Rattle.cx_meaning.specs.Active.{Active, Owned, owned, owned_by_groups, by_place, source_order, offset_of, if_acting, if_target, acting, same_port, drivers}
 use Rattle.cx_meaning.specs.Sights.{Look, Below, Held, bit_of, target_seen, cell_step, side_step, step, In, outputs_below, approach, ports_of, seen}
 use Rattle.cx_meaning.specs.Control.{targets_cell, assigns_drive, group_drives}
 use Rattle.cx_rules.proofs.FoundLemmas.{same_is}
-
--- an assignment in source order is a continuous one, or one of a group
-placed_among : (a : Owned) (list : List Owned) (o : Owned) → In (placed_in a list) o → (a ≡ o) ⊎ In list o
-placed_among a [] o (inl e) = inl e
-placed_among a [] o (inr i) = absurd i
-placed_among a (b ∷ rest) o i = go (no_later a.assign.place b.assign.place) i (placed_among a rest o)
-  where
-    go : (t : Bool) → In (if t then a ∷ b ∷ rest else b ∷ placed_in a rest) o → (In (placed_in a rest) o → (a ≡ o) ⊎ In rest o) → (a ≡ o) ⊎ In (b ∷ rest) o
-    go true (inl e) h = inl e
-    go true (inr j) h = inr j
-    go false (inl e) h = inr (inl e)
-    go false (inr j) h = ⊎_elim inl (λ k. inr (inr k)) (h j)
+use Rattle.std.proofs.lemmas.Bool.{or_right}
+use Rattle.cx_meaning.proofs.InstancesLemmas.{just_same}
+use Rattle.cx_meaning.proofs.ActiveLemmas.{in_placed}
 
 pub sorted_among : (list : List Owned) (o : Owned) → In (by_place list) o → In list o
 sorted_among [] o i = i
-sorted_among (a ∷ rest) o i = ⊎_elim inl (λ k. inr (sorted_among rest o k)) (placed_among a (by_place rest) o i)
+sorted_among (a ∷ rest) o i = ⊎_elim inl (λ k. inr (sorted_among rest o k)) (in_placed a (by_place rest) o i)
 
 pub owned_among : (owner : Option ℕ) (list : List PlainAssign) (o : Owned) → In (owned owner list) o → (o.owner ≡ owner) × In list o.assign
 owned_among owner [] o i = absurd i
@@ -54,31 +45,19 @@ pub groups_among : (k : ℕ) (groups : List PlainGroup) (o : Owned) → In (owne
 groups_among k [] o i = absurd i
 groups_among k (x ∷ xs) o i = ⊎_elim (first_group k x xs o) (λ j. later_group k x xs o (groups_among (suc k) xs o j)) (split (owned (Some k) x.assigns) (owned_by_groups (suc k) xs) o i)
 
--- a group that drives a port of a cell drives the cell
-pub just_self : (c : ℕ) → just c c ≡ true
-just_self zero = refl
-just_self (suc c) = just_self c
-
-pub or_right : (a b : Bool) → b ≡ true → (a || b) ≡ true
-or_right true b e = refl
-or_right false b e = e
-
 pub assigns_drive_in : (list : List PlainAssign) (a : PlainAssign) (c p : ℕ) → In list a → a.target ≡ ports.Cell c p → assigns_drive list c ≡ true
 assigns_drive_in [] a c p i t = absurd i
-assigns_drive_in (x ∷ rest) a c p (inl e) t = ap (λ target. targets_cell target c || assigns_drive rest c) (ap (λ y. y.target) e ∙ t) ∙ ap (λ b. b || assigns_drive rest c) (just_self c)
+assigns_drive_in (x ∷ rest) a c p (inl e) t = ap (λ target. targets_cell target c || assigns_drive rest c) (ap (λ y. y.target) e ∙ t) ∙ ap (λ b. b || assigns_drive rest c) (just_same c)
 assigns_drive_in (x ∷ rest) a c p (inr i) t = or_right (targets_cell x.target c) (assigns_drive rest c) (assigns_drive_in rest a c p i t)
 
 -- no active assignment where each has no offset
-acting_none : (act : Active) (p : PortRef) (list : List Owned) → ((o : Owned) → In list o → o.assign.target ≡ p → offset_of act o.owner ≡ None) → acting act p list ≡ []
+pub acting_none : (act : Active) (p : PortRef) (list : List Owned) → ((o : Owned) → In list o → o.assign.target ≡ p → offset_of act o.owner ≡ None) → acting act p list ≡ []
 acting_none act p [] h = refl
 acting_none act p (o ∷ rest) h = one (same_port o.assign.target p) (λ e. h o (inl refl) (same_is o.assign.target p e)) (acting_none act p rest (λ x i e. h x (inr i) e))
   where
     one : (b : Bool) → (b ≡ true → offset_of act o.owner ≡ None) → acting act p rest ≡ [] → if_target b act o (acting act p rest) ≡ []
     one true k e = ap (λ x. if_acting x o.assign (acting act p rest)) (k refl) ∙ e
     one false k e = e
-
-true_false : true ≡ false → ⊥
-true_false e = cc
 
 module _ (i : Instance) (act : Active) (c p : ℕ)
     (alone : (o : Owned) → In (source_order (part_of i)) o → o.owner ≡ None → o.assign.target ≡ ports.Cell c p → ⊥)

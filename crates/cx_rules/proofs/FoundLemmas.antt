@@ -1,13 +1,12 @@
 -- Where nothing leads in a circle each port is seen as what `seen` finds.
-use Rattle.std.proofs.Common.{◌≡◌, ℕ, zero, suc, ◌+◌, ◌≤◌, ◌<◌, Bool, true, false, ◌&&◌, inl, inr, ◌⊎◌, ⊎_elim, List, [], ◌∷◌, length, map, Option, Some, None, nat_eq, refl, sym, ap, ◌∙◌, subst, arith}
+use Rattle.std.proofs.Common.{◌≡◌, ℕ, zero, suc, ◌+◌, ◌≤◌, ◌<◌, Bool, true, false, inl, inr, ◌⊎◌, ⊎_elim, List, [], ◌∷◌, length, map, Option, Some, None, nat_eq, refl, sym, ap, ◌∙◌, subst, arith}
 use Rattle.std.proofs.lemmas.Bool.{eqb-true}
-use Rattle.cx_prim.specs.declared.ports.PortRow.{PortRow}
 use Rattle.cx_prim.specs.declared.ports.Side.{Side}
 use Rattle.cx_prim.specs.declared.ports.Side.TheVariants as sides
 use Rattle.cx_prim.specs.Rows.{Row}
 use Rattle.cx_meaning.specs.declared.ports.PortRef.{PortRef}
 use Rattle.cx_meaning.specs.declared.ports.PortRef.TheVariants as ports
-use Rattle.cx_meaning.specs.Rows.{side_from, side_of}
+use Rattle.cx_meaning.specs.Rows.{side_of}
 use Rattle.cx_meaning.specs.Designs.{PlainAssign, PlainComponent}
 use Rattle.cx_meaning.specs.Instances.{Instance, Node, Cells, no_cells, a_primitive, an_instance, At, Nothing, OfRow, OfInstance, part_of, cells_of, cell_at, State, under}
 use Rattle.cx_meaning.specs.Active.{Active, nothing, Acting, Owned, source_order, offset_of, if_acting, if_target, acting, same_port, drivers}
@@ -17,7 +16,11 @@ use Rattle.cx_meaning.specs.Sights.{Look, Below, Held, unheld, guard_truth, Take
 use Rattle.cx_meaning.proofs.SightsLemmas.{one_sight}
 use Rattle.cx_rules.specs.Footprints.{Mentions, SideLeads, PartLeads, CellLeads, Leads, Depends, at_once, by_way_of}
 use Rattle.cx_rules.specs.Circles.{IsAcyclic, AreAcyclic, AcyclicBelow}
-use Rattle.cx_rules.proofs.Finite.{Distinct, distinct_few, in_left, in_right}
+use Rattle.cx_rules.proofs.Finite.{Distinct, distinct_few}
+use Rattle.cx_text.proofs.BoolLaws.{and_both}
+use Rattle.cx_meaning.proofs.InstancesLemmas.{instance_is, row_is, instance_row, row_instance, nothing_instance, nothing_row}
+use Rattle.cx_meaning.proofs.RowsLemmas.{side_below}
+use Rattle.cx_meaning.proofs.SightsLaws.{in_left, in_right}
 
 -- what a step needs leads to the port
 abbrev IsSource : List Acting → PortRef → Type 0
@@ -67,20 +70,15 @@ needs_leads i act look (ports.Output m) q n = target_mentions look (drivers (par
 needs_leads i act look (ports.Done g) q n = target_mentions look (drivers (part_of i) act (ports.Done g)) q n
 needs_leads i act look (ports.Literal w v) q n = n
 
--- a port to which something leads is one of those that are counted
-both_bits : (a b : Bool) → (a && b) ≡ true → (a ≡ true) × (b ≡ true)
-both_bits true b e = (refl, e)
-both_bits false b e = absurd (cc)
-
 pub same_is : (p q : PortRef) → same_port p q ≡ true → p ≡ q
 same_is (ports.Cell c p) (ports.Cell d q) e =
-    let b = both_bits (nat_eq c d) (nat_eq p q) e in
+    let b = and_both (nat_eq c d) (nat_eq p q) e in
     ap (λ k. ports.Cell k p) (eqb-true c d b.0) ∙ ap (ports.Cell d) (eqb-true p q b.1)
 same_is (ports.Input i) (ports.Input j) e = ap ports.Input (eqb-true i j e)
 same_is (ports.Output i) (ports.Output j) e = ap ports.Output (eqb-true i j e)
 same_is (ports.Done g) (ports.Done h) e = ap ports.Done (eqb-true g h e)
 same_is (ports.Literal w v) (ports.Literal x u) e =
-    let b = both_bits (nat_eq w x) (nat_eq v u) e in
+    let b = and_both (nat_eq w x) (nat_eq v u) e in
     ap (λ k. ports.Literal k v) (eqb-true w x b.0) ∙ ap (ports.Literal x) (eqb-true v u b.1)
 same_is _ _ e = absurd (cc)
 
@@ -124,29 +122,6 @@ numbered_in c (suc n) p h = ⊎_elim (λ e. inl (ap (ports.Cell c) (sym e))) (λ
 
 registered_output : sides.Registered ≡ sides.Output → ⊥
 registered_output e = cc
-
-side_below : (list : List PortRow) (p : ℕ) → side_from list p ≡ sides.Output → p < length list
-side_below [] p e = absurd (registered_output e)
-side_below (x ∷ list) zero e = omega arith
-side_below (x ∷ list) (suc p) e = let h : p < length list = side_below list p e in omega arith
-
-nothing_row : (row : Row) → Nothing ≡ OfRow row → ⊥
-nothing_row row e = cc
-
-instance_row : (child : Instance) (row : Row) → OfInstance child ≡ OfRow row → ⊥
-instance_row child row e = cc
-
-nothing_instance : (child : Instance) → Nothing ≡ OfInstance child → ⊥
-nothing_instance child e = cc
-
-row_instance : (row : Row) (child : Instance) → OfRow row ≡ OfInstance child → ⊥
-row_instance row child e = cc
-
-instance_is : (a b : Instance) → OfInstance a ≡ OfInstance b → a ≡ b
-instance_is a b e = cc
-
-row_is : (a b : Row) → OfRow a ≡ OfRow b → a ≡ b
-row_is a b e = cc
 
 cells_in : (cells : Cells) (k c p : ℕ) (row : Row) → cell_at cells c ≡ OfRow row → p < length row.ports → In (ports_of_cells cells k) (ports.Cell (k + c) p)
 cells_in no_cells k c p row e h = absurd (nothing_row row e)

@@ -26,7 +26,7 @@ if_acting_alike : (act other : Active) (o : Owned) (p : PortRef) (rest more : Li
 if_acting_alike act other o p rest more true h e = ap (λ k. if_acting k o.assign rest) (h refl) ∙ ap (if_acting (offset_of other o.owner) o.assign) e
 if_acting_alike act other o p rest more false h e = e
 
-acting_alike : (act other : Active) (p : PortRef) (list : List Owned) → ((o : Owned) → In list o → o.assign.target ≡ p → offset_of act o.owner ≡ offset_of other o.owner) → acting act p list ≡ acting other p list
+pub acting_alike : (act other : Active) (p : PortRef) (list : List Owned) → ((o : Owned) → In list o → o.assign.target ≡ p → offset_of act o.owner ≡ offset_of other o.owner) → acting act p list ≡ acting other p list
 acting_alike act other p [] h = refl
 acting_alike act other p (o ∷ rest) h =
     if_acting_alike act other o p (acting act p rest) (acting other p rest) (same_port o.assign.target p)

@@ -50,7 +50,3 @@ before_transitive (x ∷ xs) (y ∷ ys) (z ∷ zs) h k = by (before_transitive x
     by deep (inl a) (inr (e, b)) = before_less x z xs zs (subst (λ n. x < n) e a)
     by deep (inr (e, a)) (inl b) = before_less x z xs zs (subst (λ n. n < z) (sym e) b)
     by deep (inr (e, a)) (inr (f, b)) = subst (λ n. comes_before (x ∷ xs) (n ∷ zs) ≡ true) (e ∙ f) (before_equal x xs zs (deep a b))
-
-pub not_true : (b : Bool) → (b ≡ true → ⊥) → b ≡ false
-not_true true h = absurd (h refl)
-not_true false h = refl

@@ -6,3 +6,11 @@ pub mod ForeignLemmas
 pub mod KnownRules
 pub mod KeyOrder
 pub mod OneBreak
+pub mod CirclesLemmas
+pub mod SpotsLemmas
+pub mod WidthRulesLemmas
+pub mod StaticControlLemmas
+pub mod PortsLemmas
+pub mod ShapeRulesLemmas
+pub mod ItemsLemmas
+pub mod SizesLemmas

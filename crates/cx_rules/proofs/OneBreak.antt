@@ -22,6 +22,8 @@ use Rattle.cx_rules.specs.StaticControl.{is_static}
 use Rattle.cx_rules.specs.WidthRules.{BreaksWidth, BreaksGuardWidth, TestBreaksGuardWidth, BreaksLiteral, TestBreaksLiteral, BreaksNotATarget, BreaksNotASource, TestBreaksNotASource}
 use Rattle.cx_rules.specs.OneBreak.{IsPlaced}
 use Rattle.cx_rules.proofs.KeyOrder.{before_less, before_equal}
+use Rattle.cx_text.proofs.OptionLaws.{one_value}
+use Rattle.cx_rules.proofs.SpotsLemmas.{same_number}
 
 -- KEYS of breaks are equal where neither comes before the other
 same_key : (xs ys : List ℕ) → length xs ≡ length ys → comes_before xs ys ≡ false → comes_before ys xs ≡ false → xs ≡ ys
@@ -120,14 +122,8 @@ key_length r s p = by s.part
     by (AGroup n) = refl
     by (Whole n) = refl
 
-some_one : {A : Type 0} (o : Option A) (x y : A) → o ≡ Some x → o ≡ Some y → x ≡ y
-some_one o x y e f = let g : Some x ≡ Some y = sym e ∙ f in cc
-
 assign_number : (n m : ℕ) → AnAssign n ≡ AnAssign m → n ≡ m
 assign_number n m e = cc
-
-statement_number : (n m : ℕ) → AStatement n ≡ AStatement m → n ≡ m
-statement_number n m e = cc
 
 group_number : (n m : ℕ) → AGroup n ≡ AGroup m → n ≡ m
 group_number n m e = cc
@@ -139,14 +135,14 @@ module _ (d : PlainDesign) (spot : Spot) (place : Place) (n m : List ℕ) where
       → OnAssign rule d spot place n → OnAssign rule d spot place m → n ≡ m
   assign_name rule h a b =
       let e : a.number ≡ b.number = assign_number a.number b.number (sym a.is ∙ b.is) in
-      let f : b.assign ≡ a.assign = some_one (slice_get (source_order (component_at d spot.component)) b.number) b.assign a.assign b.stands (subst (λ x. slice_get (source_order (component_at d spot.component)) x ≡ Some a.assign) e a.stands) in
+      let f : b.assign ≡ a.assign = one_value (slice_get (source_order (component_at d spot.component)) b.number) b.assign a.assign b.stands (subst (λ x. slice_get (source_order (component_at d spot.component)) x ≡ Some a.assign) e a.stands) in
       h a.number a.assign a.stands a.breaks (subst (λ o. rule (component_of d spot.component) o place m) f b.breaks)
 
   statement_name : (one other : StatementRule) → ((v : Visited) → one (component_of d spot.component) v place n → other (component_of d spot.component) v place m → n ≡ m)
       → OnStatement one d spot place n → OnStatement other d spot place m → n ≡ m
   statement_name one other h a b =
-      let e : a.number ≡ b.number = statement_number a.number b.number (sym a.is ∙ b.is) in
-      let f : b.statement ≡ a.statement = some_one (slice_get (statements_in (component_at d spot.component)) b.number) b.statement a.statement b.stands (subst (λ x. slice_get (statements_in (component_at d spot.component)) x ≡ Some a.statement) e a.stands) in
+      let e : a.number ≡ b.number = same_number a.number b.number (sym a.is ∙ b.is) in
+      let f : b.statement ≡ a.statement = one_value (slice_get (statements_in (component_at d spot.component)) b.number) b.statement a.statement b.stands (subst (λ x. slice_get (statements_in (component_at d spot.component)) x ≡ Some a.statement) e a.stands) in
       h a.statement a.breaks (subst (λ v. other (component_of d spot.component) v place m) f b.breaks)
 
   group_name : (rule : GroupRule) → ((g : ℕ) → rule (component_of d spot.component) g place n → rule (component_of d spot.component) g place m → n ≡ m)
@@ -195,7 +191,7 @@ number_in (Whole n) = Some n
 
 one_word : (spot : Spot) (l k : Limited) (n m : List ℕ) → number_in spot.part ≡ Some (order_of l) → number_in spot.part ≡ Some (order_of k) → n ≡ word_of l → m ≡ word_of k → n ≡ m
 one_word spot l k n m e f g h =
-    g ∙ sym (word_at-order_of l) ∙ ap word_at (some_one (number_in spot.part) (order_of l) (order_of k) e f) ∙ word_at-order_of k ∙ sym h
+    g ∙ sym (word_at-order_of l) ∙ ap word_at (one_value (number_in spot.part) (order_of l) (order_of k) e f) ∙ word_at-order_of k ∙ sym h
 
 -- a break of a limit is at a statement, or at a component with the number of its word
 abbrev WordLimit : Spot → List ℕ → Type 0
@@ -212,7 +208,7 @@ limit_kind d spot place n (inr (inr (inr (inr (inr (inr b)))))) = inr (OnWeight,
 
 limit_names : (d : PlainDesign) (spot : Spot) (place : Place) (n m : List ℕ) → OnStatement BreaksStatement d spot place n ⊎ WordLimit spot n → OnStatement BreaksStatement d spot place m ⊎ WordLimit spot m → n ≡ m
 limit_names d spot place n m (inl a) (inl b) =
-    statement_name d spot place n m BreaksStatement BreaksStatement (λ v x y. x.2.1 ∙ ap word_of (some_one _ x.0 y.0 x.1 y.1) ∙ sym y.2.1) a b
+    statement_name d spot place n m BreaksStatement BreaksStatement (λ v x y. x.2.1 ∙ ap word_of (one_value _ x.0 y.0 x.1 y.1) ∙ sym y.2.1) a b
 limit_names d spot place n m (inl a) (inr b) = absurd (let e : None ≡ Some (order_of b.0) = sym (ap number_in a.is) ∙ b.1 in cc)
 limit_names d spot place n m (inr a) (inl b) = absurd (let e : None ≡ Some (order_of a.0) = sym (ap number_in b.is) ∙ a.1 in cc)
 limit_names d spot place n m (inr a) (inr b) = one_word spot a.0 b.0 n m a.1 b.1 a.2 b.2
@@ -248,12 +244,12 @@ itself_group x y e = cc
 
 module _ (d : PlainDesign) (spot : Spot) (place : Place) (n m : List ℕ) where
   names_of : (r : Rule) → (r ≡ NotASource → IsPlaced d) → Breaks d r spot place n → Breaks d r spot place m → n ≡ m
-  names_of Width h a b = assign_name d spot place n m BreaksWidth (λ k o s x y. x.2.1 ∙ ap (path_of (component_of d spot.component)) (some_one _ x.0 y.0 x.1 y.1) ∙ sym y.2.1) a b
-  names_of GuardWidth h (inl a) (inl b) = assign_name d spot place n m BreaksGuardWidth (λ k o s x y. x.2.1 ∙ ap (path_of (component_of d spot.component)) (some_one _ x.0 y.0 x.1 y.1) ∙ sym y.2.1) a b
+  names_of Width h a b = assign_name d spot place n m BreaksWidth (λ k o s x y. x.2.1 ∙ ap (path_of (component_of d spot.component)) (one_value _ x.0 y.0 x.1 y.1) ∙ sym y.2.1) a b
+  names_of GuardWidth h (inl a) (inl b) = assign_name d spot place n m BreaksGuardWidth (λ k o s x y. x.2.1 ∙ ap (path_of (component_of d spot.component)) (one_value _ x.0 y.0 x.1 y.1) ∙ sym y.2.1) a b
   names_of GuardWidth h (inl a) (inr b) = absurd_spot spot (AnAssign a.number) (AStatement b.number) a.is b.is (assign_statement a.number b.number)
   names_of GuardWidth h (inr a) (inl b) = absurd_spot spot (AnAssign b.number) (AStatement a.number) b.is a.is (assign_statement b.number a.number)
   names_of GuardWidth h (inr a) (inr b) =
-      statement_name d spot place n m TestBreaksGuardWidth TestBreaksGuardWidth (λ v x y. x.3.1 ∙ ap (λ t. path_of (component_of d spot.component) t.port) (some_one _ x.0 y.0 x.1 y.1) ∙ sym y.3.1) a b
+      statement_name d spot place n m TestBreaksGuardWidth TestBreaksGuardWidth (λ v x y. x.3.1 ∙ ap (λ t. path_of (component_of d spot.component) t.port) (one_value _ x.0 y.0 x.1 y.1) ∙ sym y.3.1) a b
   names_of Literal h (inl a) (inl b) = assign_name d spot place n m BreaksLiteral (λ k o s x y. x.3.1 ∙ sym y.3.1) a b
   names_of Literal h (inl a) (inr b) = absurd_spot spot (AnAssign a.number) (AStatement b.number) a.is b.is (assign_statement a.number b.number)
   names_of Literal h (inr a) (inl b) = absurd_spot spot (AnAssign b.number) (AStatement a.number) b.is a.is (assign_statement b.number a.number)
@@ -265,7 +261,7 @@ module _ (d : PlainDesign) (spot : Spot) (place : Place) (n m : List ℕ) where
   names_of NotASource h (inl a) (inr b) = absurd_spot spot (AnAssign a.number) (AStatement b.number) a.is b.is (assign_statement a.number b.number)
   names_of NotASource h (inr a) (inl b) = absurd_spot spot (AnAssign b.number) (AStatement a.number) b.is a.is (assign_statement b.number a.number)
   names_of NotASource h (inr a) (inr b) =
-      statement_name d spot place n m TestBreaksNotASource TestBreaksNotASource (λ v x y. x.3.1 ∙ ap (λ t. path_of (component_of d spot.component) t.port) (some_one _ x.0 y.0 x.1 y.1) ∙ sym y.3.1) a b
+      statement_name d spot place n m TestBreaksNotASource TestBreaksNotASource (λ v x y. x.3.1 ∙ ap (λ t. path_of (component_of d spot.component) t.port) (one_value _ x.0 y.0 x.1 y.1) ∙ sym y.3.1) a b
   names_of NoDone h a b = group_name d spot place n m BreaksNoDone (λ g x y. x.2.1 ∙ sym y.2.1) a b
   names_of DoneNotState h a b =
       assign_name d spot place n m BreaksDoneNotState (λ k o s x y. x.3.1 ∙ ap (λ g. (group_at (part_of (component_of d spot.component)) g).name) (done_group x.0 y.0 (sym x.1 ∙ y.1)) ∙ sym y.3.1) a b

@@ -1,5 +1,4 @@
-//! The rules that a design keeps: what it reads and drives, what rests on state, and when each rule is broken.
-//! The first break of a design is one.
+//! The rules that a design keeps: what it reads and drives, what rests on state, when each is broken, and which break is the first.
 #![tactic(auto)]
 
 pub mod break_laws;

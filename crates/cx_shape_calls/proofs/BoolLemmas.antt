@@ -1,41 +1,14 @@
 -- Tests of lists and of numbers, and the elements that they tell of.
-use Rattle.std.proofs.Common.{◌≡◌, ◌≢◌, ℕ, suc, Bool, true, false, ◌&&◌, ◌||◌, not, nat_eq, List, [], ◌∷◌, length, filter, cond, ◌⊎◌, inl, inr, refl, sym, ap, ◌∙◌, subst, arith, tests, true≢false}
+use Rattle.std.proofs.Common.{◌≡◌, ◌≢◌, ℕ, suc, Bool, true, false, ◌&&◌, ◌||◌, nat_eq, List, [], ◌∷◌, length, filter, cond, inl, inr, refl, sym, ap, ◌∙◌, subst, arith, tests, true≢false}
 use Rattle.std.specs.List.{list_any}
 use Rattle.cx_meaning.specs.Sights.{In}
-
-pub from_eq : (x y : ℕ) → nat_eq x y ≡ true → x ≡ y
-from_eq x y h = grind (arith, tests)
-
-pub eq_itself : (x : ℕ) → nat_eq x x ≡ true
-eq_itself x = grind (arith, tests)
+use Rattle.cx_text.proofs.BoolLaws.{or_right, or_left}
 
 pub not_same : (x y : ℕ) → nat_eq x y ≡ false → x ≢ y
 not_same x y h = grind (arith, tests)
 
 pub other_than : (x y : ℕ) → x ≢ y → nat_eq x y ≡ false
 other_than x y h = grind (arith, tests)
-
-pub from_not : (b : Bool) → not b ≡ true → b ≡ false
-from_not true h = sym h
-from_not false h = refl
-
-pub to_not : (b : Bool) → b ≡ false → not b ≡ true
-to_not b h = ap not h
-
-pub split_or : (a b : Bool) → a || b ≡ true → (a ≡ true) ⊎ (b ≡ true)
-split_or true b h = inl refl
-split_or false b h = inr h
-
-pub or_left : (a b : Bool) → a ≡ true → a || b ≡ true
-or_left a b h = ap (λ t. t || b) h
-
-pub or_right : (a b : Bool) → b ≡ true → a || b ≡ true
-or_right true b h = refl
-or_right false b h = h
-
-pub split_and : (a b : Bool) → a && b ≡ true → (a ≡ true) × (b ≡ true)
-split_and true b h = (refl, h)
-split_and false b h = absurd (true≢false (sym h))
 
 pub grouped : (a b c : Bool) → (a && b) && c ≡ a && (b && c)
 grouped true b c = refl

@@ -1,5 +1,5 @@
 -- The list of a component's breaks has those of the rule, and no others.
-use Rattle.std.proofs.Common.{◌≡◌, ◌+◌, ◌<◌, ℕ, zero, suc, Bool, true, false, ◌&&◌, not, nat_eq, List, [], ◌∷◌, ◌++◌, Option, Some, None, length, map, get_or, slice_get, ◌⊎◌, inl, inr, ⊎_elim, refl, sym, ap, ◌∙◌, subst, arith, true≢false}
+use Rattle.std.proofs.Common.{◌≡◌, ◌+◌, ◌<◌, ℕ, zero, suc, Bool, true, false, ◌&&◌, not, nat_eq, List, [], ◌∷◌, ◌++◌, Option, Some, None, length, get_or, slice_get, ◌⊎◌, inl, inr, ⊎_elim, refl, sym, ap, ◌∙◌, subst, arith, true≢false}
 use Rattle.cx_text.specs.declared.places.Place.{Place}
 use Rattle.cx_text.specs.declared.rules.Rule.{Rule}
 use Rattle.cx_text.specs.declared.rules.Rule.TheVariants as rules
@@ -14,65 +14,42 @@ use Rattle.cx_rules.specs.CallShape.{Calls, go_port, IsOutside, IsMisshapen, Bre
 use Rattle.cx_rules.specs.Spots.{Part, AnAssign, AGroup, Spot, OnAssign, OnGroup}
 use Rattle.cx_rules.specs.Accepted.{key_of, comes_before}
 use Rattle.cx_rules.proofs.ForeignLemmas.{sorted_among, owned_among, split, groups_among}
-use Rattle.std.proofs.lemmas.List.{get_or-map}
-use Rattle.cx_design.specs.declared.groups.Group.{Group}
-use Rattle.cx_design.specs.PlainForms.{plain_group}
 use Rattle.cx_design_parts.specs.Breaks.{Broken, key, first_of}
 use Rattle.cx_design_parts.specs.Numbered.{numbered}
 use Rattle.cx_design_parts.specs.Answers.{AreBreaksBy}
-use Rattle.cx_design_parts.proofs.Order.{not_before_itself}
 use Rattle.cx_design_parts.proofs.Lists.{first_append, in_left, in_right, in_either, in_numbered, numbered_in}
 use Rattle.cx_design_parts.proofs.Families.{Either, breaks_of_either, breaks_of_same}
 use Rattle.cx_shape_calls.specs.Callees.{PlainCallee, called_of}
 use Rattle.cx_shape_calls.specs.Forms.{times, is_none, is_calling}
-use Rattle.cx_shape_calls.proofs.DoneLemmas.{part_is}
 use Rattle.cx_shape_calls.specs.declared.groups.GroupShape.{GroupShape}
 use Rattle.cx_shape_calls.specs.CallBreaks.{CallShapeBreaks, InComponent, Before}
 use Rattle.cx_shape_calls.specs.Decisions.{is_wrong, is_wrong_by, is_wrong_in, or_none, shape_at, lacks_by, told_if, assign_breaks_at, group_breaks_at, component_breaks, IsShapeOf, AreShapesOf}
-use Rattle.cx_shape_calls.proofs.BoolLemmas.{from_not, to_not, split_and, any_in, any_has}
+use Rattle.cx_shape_calls.proofs.BoolLemmas.{any_in, any_has}
 use Rattle.cx_shape_calls.proofs.TargetLemmas.{callee, target_of}
 use Rattle.cx_shape_calls.proofs.CalledLemmas.{called_sound, called_all, driven_by, part_callee}
 use Rattle.cx_shape_calls.proofs.WrongLemmas.{IsBroken, sound, complete}
-
--- LISTS
-get_left : {A : Type 0} (xs ys : List A) (n : ℕ) (x : A) → slice_get xs n ≡ Some x → slice_get (xs ++ ys) n ≡ Some x
-get_left [] ys n x e = absurd (cc)
-get_left (y ∷ xs) ys zero x e = e
-get_left (y ∷ xs) ys (suc n) x e = get_left xs ys n x e
-
-get_end : {A : Type 0} (xs : List A) (x : A) → slice_get (xs ++ x ∷ []) (length xs) ≡ Some x
-get_end [] x = refl
-get_end (y ∷ xs) x = get_end xs x
+use Rattle.cx_text.proofs.OptionLaws.{some_is, none_some_also}
+use Rattle.cx_text.proofs.ListLaws.{front, get_end}
+use Rattle.cx_meaning.proofs.SightsLaws.{in_at}
+use Rattle.cx_text.proofs.NumberLaws.{before_more}
+use Rattle.cx_meaning.proofs.DesignsLemmas.{there_below, same_part as part_is}
+use Rattle.cx_rules.proofs.KeyOrder.{before_irreflexive}
+use Rattle.cx_text.proofs.BoolLaws.{from_not, both_true}
+use Rattle.std.proofs.lemmas.Bool.{not_from_false}
 
 abbrev one_or : {A : Type 0} → A → Option A → A
 one_or x None = x
 one_or x (Some y) = y
-
-in_at : {A : Type 0} (xs : List A) (n : ℕ) (x : A) → slice_get xs n ≡ Some x → In xs x
-in_at [] n x e = absurd (cc)
-in_at (y ∷ xs) zero x e = inl (ap (one_or y) e)
-in_at (y ∷ xs) (suc n) x e = inr (in_at xs n x e)
 
 get_is : (groups : List PlainGroup) (n : ℕ) (group : PlainGroup) → slice_get groups n ≡ Some group → (get_or groups n no_group ≡ group) × (n < length groups)
 get_is [] n group e = absurd (cc)
 get_is (x ∷ xs) zero group e = (ap (one_or x) e, omega arith)
 get_is (x ∷ xs) (suc n) group e = let r = get_is xs n group e in (r.0, omega (arith, r.1))
 
-is_got : (groups : List PlainGroup) (n : ℕ) → n < length groups → slice_get groups n ≡ Some (get_or groups n no_group)
-is_got [] n h = absurd (omega (arith, h))
-is_got (x ∷ xs) zero h = refl
-is_got (x ∷ xs) (suc n) h = is_got xs n (omega (arith, h))
-
 there_in : (groups : List PlainGroup) (g : ℕ) (a : PlainAssign) → In (get_or groups g no_group).assigns a → g < length groups
 there_in [] g a h = absurd h
 there_in (x ∷ xs) zero a h = omega arith
 there_in (x ∷ xs) (suc g) a h = let r = there_in xs g a h in omega (arith, r)
-
-some_same : (m n : ℕ) → Some m ≡ Some n → m ≡ n
-some_same m n e = ap (one_or m) e
-
-none_some : (n : ℕ) → None ≡ Some n → ⊥
-none_some n e = cc
 
 -- one more group is looked at
 pub shapes_more : (i : Instance) (n : ℕ) (list : List (Option GroupShape)) (s : Option GroupShape) → length list ≡ n → AreShapesOf i n list → IsShapeOf i n (group_at (part_of i) n) s
@@ -89,11 +66,7 @@ shapes_more i n list s long so_far is g h = choice (nat_eq g n) refl
     choice true e =
         let same : g ≡ n = from_eq g n e in
         (s, subst (λ m. slice_get (list ++ s ∷ []) m ≡ Some s) (long ∙ sym same) (get_end list s), subst (λ m. IsShapeOf i m (group_at (part_of i) m) s) (sym same) is)
-    choice false e = let r = so_far g (less g n e h) in (r.0, get_left list (s ∷ []) g r.0 r.1, r.2)
-
--- a group as it stands in its component
-pub got_group : (groups : List Group) (n : ℕ) (x : Group) → n < length groups → x ≡ get_or groups n x → plain_group x ≡ get_or (map plain_group groups) n no_group
-got_group groups n x h e = ap plain_group e ∙ sym (get_or-map plain_group groups n x no_group h)
+    choice false e = let r = so_far g (less g n e h) in (r.0, front list (s ∷ []) g r.0 r.1, r.2)
 
 in_some : (ks : List PlainCallee) (k : PlainCallee) → In ks k → is_none ks ≡ false
 in_some [] k h = absurd h
@@ -103,7 +76,7 @@ calls_some : (i : Instance) (assigns : List PlainAssign) (c : ℕ) → Calls i a
 calls_some i assigns c calls = in_some (called_of i assigns) (callee c calls.child) (called_all i assigns c calls.child calls.is_component calls.driven)
 
 is_called : (i : Instance) (group : PlainGroup) (c : ℕ) → is_plain group.kind ≡ true → Calls i group.assigns c → is_calling i group ≡ true
-is_called i group c plain calls = ap (λ b. b && not (is_none (called_of i group.assigns))) plain ∙ to_not (is_none (called_of i group.assigns)) (calls_some i group.assigns c calls)
+is_called i group c plain calls = ap (λ b. b && not (is_none (called_of i group.assigns))) plain ∙ not_from_false (is_none (called_of i group.assigns)) (calls_some i group.assigns c calls)
 
 -- TOLD
 told_in : (b : Bool) (spot : Spot) (place : Place) (name : List ℕ) (x : Broken) → In (told_if b spot place name) x → (b ≡ true) × (record { rule = rules.CallShape; spot = spot; place = place; name = name } ≡ x)
@@ -141,7 +114,7 @@ module _ (d : PlainDesign) (k : ℕ) (within : k < length d.components) (shapes 
   shape_of g h = let r = are g h in (r.0, ap or_none r.1, r.2)
 
   plain_calling : (group : PlainGroup) → is_calling i group ≡ true → is_plain group.kind ≡ true
-  plain_calling group h = (split_and (is_plain group.kind) (not (is_none (called_of i group.assigns))) h).0
+  plain_calling group h = (both_true (is_plain group.kind) (not (is_none (called_of i group.assigns))) h).0
 
   group_sound : (o : Owned) (g : ℕ) → o.owner ≡ Some g → In (group_at (part_of i) g).assigns o.assign → (s : Option GroupShape) → IsShapeOf i g (group_at (part_of i) g) s
       → is_wrong_by i g o.assign s ≡ true → IsOutside i o ⊎ IsMisshapen i o
@@ -172,17 +145,17 @@ module _ (d : PlainDesign) (k : ℕ) (within : k < length d.components) (shapes 
       → IsOutside i o ⊎ IsMisshapen i o → is_wrong_by i g o.assign s ≡ true
   group_complete o g e there None idle (inl outside) = outside.0
   group_complete o g e there None idle (inr m) =
-      let same : m.group ≡ g = some_same m.group g (sym m.owner ∙ e) in
+      let same : m.group ≡ g = some_is m.group g (sym m.owner ∙ e) in
       let plain : is_plain (group_at (part_of i) g).kind ≡ true = subst (λ n. is_plain (group_at (part_of i) n).kind ≡ true) same m.plain in
       let calls : Calls i (group_at (part_of i) g).assigns m.cell = subst (λ n. Calls i (group_at (part_of i) n).assigns m.cell) same m.calls in
       absurd (true≢false (sym (is_called i (group_at (part_of i) g) m.cell plain calls) ∙ idle))
-  group_complete o g e there (Some s) is (inl (part, inl none)) = absurd (none_some g (sym none ∙ e))
+  group_complete o g e there (Some s) is (inl (part, inl none)) = absurd (none_some_also g (sym none ∙ e))
   group_complete o g e there (Some s) is (inl (part, inr other)) =
-      let same : other.0 ≡ g = some_same other.0 g (sym other.1 ∙ e) in
+      let same : other.0 ≡ g = some_is other.0 g (sym other.1 ∙ e) in
       absurd (true≢false (sym (plain_calling (group_at (part_of i) g) is.0.calling) ∙ subst (λ n. is_plain (group_at (part_of i) n).kind ≡ false) same other.2))
   group_complete o g e there (Some s) is (inr m) =
       let f = is.0 in
-      let same : m.group ≡ g = some_same m.group g (sym m.owner ∙ e) in
+      let same : m.group ≡ g = some_is m.group g (sym m.owner ∙ e) in
       let b : IsBroken i g o.assign.target = subst (λ n. IsBroken i n o.assign.target) same (record { cell = m.cell; calls = m.calls; breaks = m.breaks }) in
       subst (λ ks. is_wrong i g ks (times s.form.driven) (times s.dependent) s.form.wrong_done o.assign o.assign.target ≡ true) (sym f.called)
       (complete i g (times s.form.driven) (times s.dependent) s.form.wrong_done o.assign there f.driven f.wrong_done is.1 b.cell b.calls refl b.breaks)
@@ -197,7 +170,7 @@ module _ (d : PlainDesign) (k : ℕ) (within : k < length d.components) (shapes 
     where
       bare : o.owner ≡ None → IsOutside i o ⊎ IsMisshapen i o → is_part_port i o.assign.target ≡ true
       bare none (inl outside) = outside.0
-      bare none (inr m) = absurd (none_some m.group (sym none ∙ m.owner))
+      bare none (inr m) = absurd (none_some_also m.group (sym none ∙ m.owner))
 
   -- the rule on a group
   abbrev Lacks : ℕ → Type 0
@@ -222,7 +195,7 @@ module _ (d : PlainDesign) (k : ℕ) (within : k < length d.components) (shapes 
   lacks_complete g (Some s) is (plain, r) =
       is.0.lacks
       ∙ any_has (lack g) (called_of i (group_at (part_of i) g).assigns) (callee r.0 r.1.child) (called_all i (group_at (part_of i) g).assigns r.0 r.1.child r.1.is_component r.1.driven)
-      (to_not (some_target (same_port (go_port r.0)) (group_at (part_of i) g).assigns && some_target (is_hole_of g) (group_at (part_of i) g).assigns) r.2)
+      (not_from_false (some_target (same_port (go_port r.0)) (group_at (part_of i) g).assigns && some_target (is_hole_of g) (group_at (part_of i) g).assigns) r.2)
 
   -- THE LIST
   abbrev found : List Broken
@@ -284,7 +257,7 @@ module _ (d : PlainDesign) (k : ℕ) (within : k < length d.components) (shapes 
       let s = shape_of g h in
       let e : g ≡ 0 + g = omega arith in
       in_right (numbered (assign_breaks_at d k shapes) 0 (source_order (component_at d k))) (numbered (group_breaks_at k shapes) 0 (component_at d k).groups) (told spot place name)
-      (in_numbered (group_breaks_at k shapes) 0 (component_at d k).groups g group (told spot place name) (is_got (component_at d k).groups g h)
+      (in_numbered (group_breaks_at k shapes) 0 (component_at d k).groups g group (told spot place name) (there_below (component_at d k).groups g h)
       (subst (λ n. In (group_breaks_at k shapes n group) (told spot place name)) e
       (told_has (lacks_by (shape_at shapes g)) spot group.place place group.name name (ap lacks_by s.1 ∙ lacks_complete g s.0 s.2 (plain, r)) (at.0 ∙ ap (λ x. x.place) same) (at.1 ∙ ap (λ x. x.name) same))))
 
@@ -295,7 +268,7 @@ module _ (d : PlainDesign) (k : ℕ) (within : k < length d.components) (shapes 
     told own place name,
     h,
     subst (λ r. comes_before (key_of r spot place) (key (told own place name)) ≡ false) (sym e)
-        (subst (λ s. comes_before (key_of rules.CallShape s place) (key (told own place name)) ≡ false) (sym f) (not_before_itself (key_of rules.CallShape own place))),
+        (subst (λ s. comes_before (key_of rules.CallShape s place) (key (told own place name)) ≡ false) (sym f) (before_irreflexive (key_of rules.CallShape own place))),
   )
 
   same_spot : (spot : Spot) (part : Part) → spot.component ≡ k → spot.part ≡ part → spot ≡ record { component = k; part = part }
@@ -317,13 +290,6 @@ module _ (d : PlainDesign) (k : ℕ) (within : k < length d.components) (shapes 
 -- COMPONENTS
 pub none_before : (d : PlainDesign) → AreBreaksBy (Before d 0) []
 none_before d = record { by_family = λ b h. absurd h; all_family = λ rule spot place name h. absurd (omega (arith, h.1)) }
-
-before_more : (n m : ℕ) → m < n + 1 → (m < n) ⊎ (m ≡ n)
-before_more n m h = choice (nat_eq m n) refl
-  where
-    choice : (b : Bool) → nat_eq m n ≡ b → (m < n) ⊎ (m ≡ n)
-    choice true e = inr (grind arith)
-    choice false e = inl (grind arith)
 
 pub one_more : (d : PlainDesign) (n : ℕ) (found more : List Broken) → AreBreaksBy (Before d n) found → AreBreaksBy (InComponent d n) more → AreBreaksBy (Before d (n + 1)) (found ++ more)
 one_more d n found more a b =

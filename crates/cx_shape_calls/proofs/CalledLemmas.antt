@@ -10,7 +10,8 @@ use Rattle.cx_rules.specs.ShapeRules.{some_target}
 use Rattle.cx_rules.specs.CallShape.{is_port_of, Calls}
 use Rattle.cx_shape_calls.specs.Callees.{PlainCallee, callee_at, callee_of, and_then, callees_of, is_cell, apart, called_of}
 use Rattle.cx_shape_calls.proofs.TargetLemmas.{callee, target_of, none_some}
-use Rattle.cx_shape_calls.proofs.BoolLemmas.{from_eq, eq_itself, or_left, or_right}
+use Rattle.cx_text.proofs.NumberLaws.{from_eq, equal}
+use Rattle.cx_text.proofs.BoolLaws.{or_left, or_right}
 
 abbrev number_or : ℕ → Option ℕ → ℕ
 number_or n None = n
@@ -74,7 +75,7 @@ module _ (i : Instance) where
   pub driven_by : (assigns : List PlainAssign) (a : PlainAssign) (c p : ℕ) → In assigns a → a.target ≡ ports.Cell c p → some_target (is_port_of c) assigns ≡ true
   driven_by [] a c p j e = absurd j
   driven_by (x ∷ xs) a c p (inl s) e =
-      or_left (is_port_of c x.target) (some_target (is_port_of c) xs) (ap (λ t. is_port_of c t) (ap (λ v. v.target) s ∙ e) ∙ eq_itself c)
+      or_left (is_port_of c x.target) (some_target (is_port_of c) xs) (ap (λ t. is_port_of c t) (ap (λ v. v.target) s ∙ e) ∙ equal c)
   driven_by (x ∷ xs) a c p (inr j) e = or_right (is_port_of c x.target) (some_target (is_port_of c) xs) (driven_by xs a c p j e)
 
   port_is : (c : ℕ) (t : PortRef) → is_port_of c t ≡ true → (p : ℕ) × (t ≡ ports.Cell c p)

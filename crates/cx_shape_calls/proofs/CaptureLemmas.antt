@@ -12,7 +12,8 @@ use Rattle.cx_rules.specs.ShapeRules.{some_target}
 use Rattle.cx_rules.specs.CallShape.{write_en_of, is_reg_kind, is_register_cell, is_register, captured_from, captured}
 use Rattle.cx_shape_calls.specs.Callees.{is_cell}
 use Rattle.cx_shape_calls.specs.Forms.{register_of, with_register, registers_in}
-use Rattle.cx_shape_calls.proofs.BoolLemmas.{from_eq, eq_itself}
+use Rattle.cx_text.proofs.NumberLaws.{apart_numbers, true_lt, from_eq, equal}
+use Rattle.cx_text.proofs.BoolLaws.{swapped, once}
 
 abbrev has : List ℕ → ℕ → Bool
 has xs q = list_any (nat_eq q) xs
@@ -26,29 +27,23 @@ up_weaker : (m n : ℕ) (xs : List ℕ) → m ≤ n → Up n xs → Up m xs
 up_weaker m n [] le h = tt
 up_weaker m n (x ∷ xs) le h = (omega (arith, le, h.0), h.1)
 
-not_eq : (x y : ℕ) → x < y → nat_eq x y ≡ false
-not_eq x y h = grind (arith, tests)
-
-from_lt : (x y : ℕ) → nat_lt x y ≡ true → x < y
-from_lt x y h = grind (arith, tests)
-
 above : (x y : ℕ) → nat_lt x y ≡ false → nat_eq x y ≡ false → y < x
 above x y h e = grind (arith, tests)
 
 none_below : (n q : ℕ) (xs : List ℕ) → Up n xs → q < n → has xs q ≡ false
 none_below n q [] h lt = refl
 none_below n q (x ∷ xs) h lt =
-    ap (λ b. b || has xs q) (not_eq q x (omega (arith, lt, h.0))) ∙ none_below (suc x) q xs h.1 (omega (arith, lt, h.0))
+    ap (λ b. b || has xs q) (apart_numbers q x (omega (arith, lt, h.0))) ∙ none_below (suc x) q xs h.1 (omega (arith, lt, h.0))
 
 first_has : (x : ℕ) (xs : List ℕ) → has (x ∷ xs) x ≡ true
-first_has x xs = ap (λ b. b || has xs x) (eq_itself x)
+first_has x xs = ap (λ b. b || has xs x) (equal x)
 
 -- what an ascending list has is no less than its first
 no_less : (y x : ℕ) (ys : List ℕ) → Up (suc y) ys → has (y ∷ ys) x ≡ true → y ≤ x
 no_less y x ys h e = choice (nat_lt x y) refl
   where
     choice : (t : Bool) → nat_lt x y ≡ t → y ≤ x
-    choice true l = absurd (true≢false (sym e ∙ none_below y x (y ∷ ys) (omega arith, h) (from_lt x y l)))
+    choice true l = absurd (true≢false (sym e ∙ none_below y x (y ∷ ys) (omega arith, h) (true_lt x y l)))
     choice false l = grind (arith, tests)
 
 tail_has : (x q : ℕ) (xs : List ℕ) → x < q → has (x ∷ xs) q ≡ has xs q
@@ -70,7 +65,7 @@ up_same n (x ∷ xs) (y ∷ ys) a b h =
     (λ q. choice q (nat_lt y q) refl e))
   where
     choice : (q : ℕ) (t : Bool) → nat_lt y q ≡ t → x ≡ y → has xs q ≡ has ys q
-    choice q true l e = sym (tail_has x q xs (subst (λ v. v < q) (sym e) (from_lt y q l))) ∙ h q ∙ tail_has y q ys (from_lt y q l)
+    choice q true l e = sym (tail_has x q xs (subst (λ v. v < q) (sym e) (true_lt y q l))) ∙ h q ∙ tail_has y q ys (true_lt y q l)
     choice q false l e =
         let small : q < suc y = grind (arith, tests) in
         none_below (suc x) q xs a.1 (subst (λ v. q < suc v) (sym e) small) ∙ sym (none_below (suc y) q ys b.1 small)
@@ -83,18 +78,9 @@ up_insert n [] k le h = (le, tt)
 up_insert n (x ∷ xs) k le h = choice (nat_lt k x) (nat_eq k x) refl refl (up_insert (suc x) xs k)
   where
     choice : (s t : Bool) → nat_lt k x ≡ s → nat_eq k x ≡ t → (suc x ≤ k → Up (suc x) xs → Up (suc x) (insert_key nat_cmp xs k)) → Up n (placed k x xs s t)
-    choice true t e f ih = (le, (from_lt k x e, h.1))
+    choice true t e f ih = (le, (true_lt k x e, h.1))
     choice false true e f ih = h
     choice false false e f ih = (h.0, ih (omega (arith, above k x e f)) h.1)
-
-swapped : (a b c : Bool) → a || (b || c) ≡ b || (a || c)
-swapped true true c = refl
-swapped true false c = refl
-swapped false b c = refl
-
-once : (a c : Bool) → a || c ≡ a || (a || c)
-once true c = refl
-once false c = refl
 
 has_insert : (xs : List ℕ) (k q : ℕ) → has (insert_key nat_cmp xs k) q ≡ nat_eq q k || has xs q
 has_insert [] k q = refl

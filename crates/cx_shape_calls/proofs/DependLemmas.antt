@@ -1,5 +1,5 @@
 -- An input depends on an output or the done of its cell exactly where a way leads from its node to one of theirs.
-use Rattle.std.proofs.Common.{◌≡◌, ◌+◌, ◌-◌, ◌<◌, ◌≤◌, ◌&&◌, ℕ, zero, suc, Bool, true, false, cond, nat_eq, nat_lt, add-one, map, filter, take, List, [], ◌∷◌, ◌++◌, Option, Some, None, length, get_or, ◌⊎◌, inl, inr, ⊎_elim, refl, sym, ap, ◌∙◌, subst, arith, tests, true≢false}
+use Rattle.std.proofs.Common.{◌≡◌, ◌+◌, ◌-◌, ◌<◌, ◌≤◌, ℕ, zero, suc, Bool, true, false, cond, nat_eq, nat_lt, add-one, map, filter, take, List, [], ◌∷◌, ◌++◌, Option, Some, None, length, get_or, ◌⊎◌, inl, inr, ⊎_elim, refl, sym, ap, ◌∙◌, subst, arith, tests, true≢false}
 use Rattle.std.specs.Prelude.{◌↔◌, IsTrue}
 use denote.Struct.Props.{props}
 use Rattle.std.proofs.Math.Logic.{∥∥₁_elim}
@@ -12,7 +12,7 @@ use Rattle.cx_graphs.specs.Reach.{Reaches}
 use Rattle.cx_meaning.specs.declared.ports.PortRef.{PortRef}
 use Rattle.cx_meaning.specs.declared.ports.PortRef.TheVariants as ports
 use Rattle.cx_meaning.specs.declared.ports.PlacedPort.{PlacedPort}
-use Rattle.cx_meaning.specs.Designs.{PlainGuard, Always, Atom, Negation, All, Any, Compared, Within, PlainGuards, no_guards, a_guard, PlainAssign, PlainGroup, PlainComponent, PlainDesign, component_at, group_at, no_group}
+use Rattle.cx_meaning.specs.Designs.{PlainGuard, Always, Atom, Negation, All, Any, Compared, Within, PlainGuards, no_guards, a_guard, PlainAssign, PlainComponent, PlainDesign, component_at, group_at}
 use Rattle.cx_meaning.specs.Instances.{Instance, At, Nothing, OfRow, OfInstance, part_of, cells_of, cell_at}
 use Rattle.cx_meaning.specs.Active.{Active, group, nothing}
 use Rattle.cx_meaning.specs.Sights.{In, GuardNames, AnyNames, PartPort, Go, AnInput, AnOutput, ItsDone, part_port, output_port}
@@ -20,44 +20,25 @@ use Rattle.cx_rules.specs.Ports.{component_of}
 use Rattle.cx_rules.specs.Items.{operands_of, operands_in, sources_of}
 use Rattle.cx_rules.specs.Footprints.{AssignNames, Leads, Depends, at_once, by_way_of}
 use Rattle.cx_rules.specs.Wellformed.{IsDesign, StandsIn, IsThere, port_count}
-use Rattle.cx_design_leads.specs.Nodes.{node_of, ports_before, node_count}
-use Rattle.cx_design_leads.specs.Edges.{Between, HasEdges, LeadsInGroup, ReadsInRow}
-use Rattle.cx_design_leads.proofs.NodeLemmas.{below_is, distinct, some_is, component_part, within}
-use Rattle.cx_design_leads.proofs.DriverLemmas.{driver_of, of_owner, leads_either, leads_by_group, by_group_leads}
-use Rattle.cx_design_leads.proofs.ThereLemmas.{leads_there}
-use Rattle.cx_rules.proofs.FoundLemmas.{same_is}
-use Rattle.cx_meaning.specs.Active.{same_port}
 use Rattle.cx_design.specs.declared.groups.Assign.{Assign}
 use Rattle.cx_design.specs.PlainForms.{plain_assign}
+use Rattle.cx_design_leads.specs.Nodes.{node_of, ports_before, node_count}
+use Rattle.cx_design_leads.specs.Edges.{Between, HasEdges, LeadsInGroup, ReadsInRow}
+use Rattle.cx_design_leads.proofs.NodeLemmas.{below_is, distinct, within}
+use Rattle.cx_rules.proofs.FoundLemmas.{same_is}
+use Rattle.cx_meaning.specs.Active.{same_port}
+use Rattle.cx_design_leads.proofs.DriverLemmas.{driver_of, of_owner, leads_either, leads_by_group, by_group_leads}
+use Rattle.cx_design_leads.proofs.ThereLemmas.{leads_there}
 use Rattle.cx_shape_calls.specs.Callees.{PlainCallee, callee_at, callee_of}
 use Rattle.cx_shape_calls.specs.Forms.{count_of}
 use Rattle.cx_shape_calls.specs.Inputs.{IsDependent, AreDependent, AreDependentPorts, IsInputOf, is_an_input, is_input}
 use Rattle.cx_shape_calls.proofs.TargetLemmas.{target_of}
-use Rattle.cx_shape_calls.proofs.BoolLemmas.{eq_itself}
-
--- LISTS
-in_left : {A : Type 0} (xs ys : List A) (x : A) → In xs x → In (xs ++ ys) x
-in_left [] ys x i = absurd i
-in_left (y ∷ xs) ys x (inl e) = inl e
-in_left (y ∷ xs) ys x (inr i) = inr (in_left xs ys x i)
-
-in_right : {A : Type 0} (xs ys : List A) (x : A) → In ys x → In (xs ++ ys) x
-in_right [] ys x i = i
-in_right (y ∷ xs) ys x i = inr (in_right xs ys x i)
-
-node_before : (xs ys : List ℕ) (x : ℕ) → graphs.In xs x → graphs.In (xs ++ ys) x
-node_before [] ys x i = absurd i
-node_before (y ∷ xs) ys x (inl e) = inl e
-node_before (y ∷ xs) ys x (inr i) = inr (node_before xs ys x i)
-
-node_behind : (xs ys : List ℕ) (x : ℕ) → graphs.In ys x → graphs.In (xs ++ ys) x
-node_behind [] ys x i = i
-node_behind (y ∷ xs) ys x i = inr (node_behind xs ys x i)
-
-node_either : (xs ys : List ℕ) (x : ℕ) → graphs.In (xs ++ ys) x → graphs.In xs x ⊎ graphs.In ys x
-node_either [] ys x i = inr i
-node_either (y ∷ xs) ys x (inl e) = inl (inl e)
-node_either (y ∷ xs) ys x (inr i) = ⊎_elim (λ p. inl (inr p)) (λ q. inr q) (node_either xs ys x i)
+use Rattle.cx_meaning.proofs.PortsLemmas.{same_self}
+use Rattle.cx_meaning.proofs.SightsLaws.{in_left, in_right}
+use Rattle.cx_graphs.proofs.Marks.{in_left as node_before, in_right as node_behind, in_either}
+use Rattle.cx_meaning.proofs.DesignsLemmas.{group_there}
+use Rattle.cx_text.proofs.OptionLaws.{some_is}
+use Rattle.cx_rules.proofs.PortsLemmas.{part_is}
 
 -- OPERANDS of a guard are what it names
 mutual
@@ -174,21 +155,13 @@ last_leads : {i : Instance} {act : Active} {p q : PortRef} → Depends i act p q
 last_leads {i} {act} {p} {q} (at_once l) = (p, l)
 last_leads (by_way_of r l d) = last_leads d
 
-group_there : (part : PlainComponent) (g : ℕ) (a : PlainAssign) → In (group_at part g).assigns a → g < length part.groups
-group_there part g a h = there_in part.groups g h
-  where
-    there_in : (groups : List PlainGroup) (n : ℕ) → In (get_or groups n no_group).assigns a → n < length groups
-    there_in [] n j = absurd j
-    there_in (x ∷ xs) zero j = omega arith
-    there_in (x ∷ xs) (suc n) j = let r = there_in xs n j in omega (arith, r)
-
 -- a port that is named in a component of a design is there, and so is one of its component cells that is led to
 module _ (d : PlainDesign) (k : ℕ) where
   abbrev at : Instance
   at = component_of d k
 
   same_part : part_of at ≡ component_at d k
-  same_part = component_part d k
+  same_part = part_is d k
 
   abbrev cell_or : PortRef → ℕ
   cell_or (ports.Cell c p) = c
@@ -232,7 +205,7 @@ module _ (d : PlainDesign) (k : ℕ) where
         ⊎_elim
         (λ j. let b = bare.sound m n j in record { from = b.from; to = b.to; is_from = b.is_from; is_to = b.is_to; leads = by_group_leads at g b.from b.to m b.is_from (inl b.leads) })
         (λ j. let b = own.sound m n j in record { from = b.from; to = b.to; is_from = b.is_from; is_to = b.is_to; leads = by_group_leads at g b.from b.to m b.is_from (inr b.leads) })
-        (node_either (targets_of graph m) (targets_of more m) n e)
+        (in_either (targets_of graph m) (targets_of more m) n e)
 
     group_all : (m n : ℕ) → Between at (Leads at (group g)) m n → graphs.In (both graph more m) n
     group_all m n b =
@@ -384,13 +357,6 @@ counted_in w (p ∷ ps) h = choice (same_port p w) refl h (λ e. counted_in w ps
     choice : (b : Bool) → same_port p w ≡ b → nat_eq (length (cond b (p ∷ filter (λ q. same_port q w) ps) (filter (λ q. same_port q w) ps))) 0 ≡ false → (nat_eq (count_of w ps) 0 ≡ false → In ps w) → In (p ∷ ps) w
     choice true e h f = inl (same_is p w e)
     choice false e h f = inr (f h)
-
-pub same_self : (p : PortRef) → same_port p p ≡ true
-same_self (ports.Cell c p) = ap (λ b. b && nat_eq p p) (eq_itself c) ∙ eq_itself p
-same_self (ports.Input n) = eq_itself n
-same_self (ports.Output n) = eq_itself n
-same_self (ports.Done g) = eq_itself g
-same_self (ports.Literal w v) = ap (λ b. b && nat_eq v v) (eq_itself w) ∙ eq_itself v
 
 in_counted : (w : PortRef) (ps : List PortRef) → In ps w → nat_eq (count_of w ps) 0 ≡ false
 in_counted w [] j = absurd j

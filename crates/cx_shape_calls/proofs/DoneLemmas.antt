@@ -1,5 +1,5 @@
 -- Targets that are counted, and the dones of the captured registers.
-use Rattle.std.proofs.Common.{◌≡◌, ◌≢◌, ◌+◌, ◌<◌, ◌≤◌, ℕ, zero, suc, Bool, true, false, ◌&&◌, ◌||◌, not, cond, nat_eq, List, [], ◌∷◌, Option, Some, None, length, map, filter, take, Bor, get_or, slice_get, refl, sym, ap, ◌∙◌, subst, arith, tests}
+use Rattle.std.proofs.Common.{◌≡◌, ◌≢◌, ◌+◌, ◌<◌, ◌≤◌, ℕ, suc, Bool, true, false, ◌&&◌, ◌||◌, not, cond, nat_eq, List, [], ◌∷◌, Option, Some, None, length, map, filter, take, Bor, get_or, slice_get, refl, sym, ap, ◌∙◌, subst, arith, tests}
 use Rattle.std.specs.Option.{unwrap_or}
 use Rattle.std.proofs.lemmas.List.{length-take, length-map}
 use Rattle.std.proofs.lemmas.List.Filters.{length-filter_more}
@@ -9,8 +9,8 @@ use Rattle.cx_shape_calls.specs.declared.callees.Callee.{Callee}
 use Rattle.std.specs.List.{list_all, list_any}
 use Rattle.cx_meaning.specs.declared.ports.PortRef.{PortRef}
 use Rattle.cx_meaning.specs.declared.ports.PortRef.TheVariants as ports
-use Rattle.cx_meaning.specs.Designs.{PlainAssign, PlainGroup, PlainDesign, component_at}
-use Rattle.cx_meaning.specs.Instances.{Instance, part_of, tree_within}
+use Rattle.cx_meaning.specs.Designs.{PlainAssign, PlainGroup}
+use Rattle.cx_meaning.specs.Instances.{Instance}
 use Rattle.cx_rules.specs.Items.{is_plain}
 use Rattle.cx_meaning.specs.Active.{same_port}
 use Rattle.cx_rules.specs.ShapeRules.{is_hole_of, some_target}
@@ -18,7 +18,8 @@ use Rattle.cx_rules.specs.CallShape.{go_port, register_done, wanted_dones, with_
 use Rattle.cx_shape_calls.specs.Callees.{PlainCallee, plain_callee, done_of, called_of}
 use Rattle.cx_shape_calls.specs.Forms.{count_of, is_wrong_done, lacks_go_or_done, is_none, is_calling}
 use Rattle.cx_shape_calls.proofs.CaptureLemmas.{eq_sym}
-use Rattle.cx_shape_calls.proofs.BoolLemmas.{from_eq}
+use Rattle.cx_text.proofs.BoolLaws.{both_true}
+use Rattle.cx_text.proofs.NumberLaws.{from_eq}
 
 both_same : (a b c d : ℕ) → nat_eq a b && nat_eq c d ≡ nat_eq b a && nat_eq d c
 both_same a b c d = ap (λ t. t && nat_eq c d) (eq_sym a b) ∙ ap (λ t. nat_eq b a && t) (eq_sym c d)
@@ -69,11 +70,6 @@ count_taken w ps i = omega (arith, count_few w (take i ps), length-take i ps)
 pub with_one : (b : Bool) (o : Option ℕ) (n : ℕ) → (b ≡ true → unwrap_or o 0 ≡ n) → unwrap_or (cond b (Some (n + 1)) o) 0 ≡ unwrap_or o 0 + cond b 1 0
 with_one true o n h = ap (λ m. m + 1) (sym (h refl))
 with_one false o n h = omega arith
-
-both_true : (a b : Bool) → a && b ≡ true → (a ≡ true) × (b ≡ true)
-both_true true true h = (refl, refl)
-both_true true false h = absurd (cc)
-both_true false b h = absurd (cc)
 
 pub same_key : (times : ℕ → ℕ → ℕ) (c p d q : ℕ) → nat_eq c d && nat_eq p q ≡ true → times d q ≡ times c p
 same_key times c p d q h =
@@ -188,10 +184,6 @@ calling_if i group ks same plain some = ap (λ b. b && not (is_none (called_of i
 pub some_if_not : (dones : List (Bor Assign)) (wanted : List PlainAssign) (none : Bool) → map (λ a. plain_assign a.now) dones ≡ wanted → none ≡ nat_eq (length dones) 0
     → not none ≡ not (nat_eq (length wanted) 0)
 some_if_not dones wanted none same e = ap not e ∙ ap (λ n. not (nat_eq n 0)) (sym (length-map dones (λ (a : Bor Assign). plain_assign a.now))) ∙ ap (λ l. not (nat_eq (length l) 0)) same
-
-pub part_is : (d : PlainDesign) (n k : ℕ) → part_of (tree_within d n k) ≡ component_at d k
-part_is d zero k = refl
-part_is d (suc n) k = refl
 
 pub wrong_told : (ks called : List PlainCallee) (rs captured : List ℕ) (dones wanted : List PlainAssign) (wrong : Bool) → ks ≡ called → rs ≡ captured → dones ≡ wanted
     → wrong ≡ is_wrong_done ks rs dones → wrong ≡ is_wrong_done called captured wanted

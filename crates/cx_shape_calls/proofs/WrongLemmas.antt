@@ -13,10 +13,13 @@ use Rattle.cx_shape_calls.specs.Callees.{PlainCallee, done_of, callee_at, callee
 use Rattle.cx_shape_calls.specs.Forms.{is_wrong_done}
 use Rattle.cx_shape_calls.specs.Inputs.{AreDependent, IsDependent}
 use Rattle.cx_shape_calls.specs.Decisions.{port_number, cell_number, calls_other, wrong_port, wrong_bare, wrong_enable_of, wrong_for, is_wrong}
-use Rattle.cx_shape_calls.proofs.BoolLemmas.{from_eq, eq_itself, not_same, other_than, from_not, to_not, split_or, or_left, or_right, split_and, grouped, any_in, any_has, in_filter, lone}
+use Rattle.cx_shape_calls.proofs.BoolLemmas.{not_same, other_than, grouped, any_in, any_has, in_filter, lone}
 use Rattle.cx_shape_calls.proofs.TargetLemmas.{callee, Target, target_of}
 use Rattle.cx_shape_calls.proofs.CalledLemmas.{callee_is, driven_by, called_sound, called_all, part_callee, part_port_is}
-use Rattle.cx_shape_calls.proofs.DependLemmas.{same_self}
+use Rattle.cx_text.proofs.NumberLaws.{from_eq, equal}
+use Rattle.cx_text.proofs.BoolLaws.{from_not, either_true, or_left, or_right, both_true}
+use Rattle.std.proofs.lemmas.Bool.{not_from_false}
+use Rattle.cx_meaning.proofs.PortsLemmas.{same_self}
 
 later_no_go : (a b n : ℕ) → later_port a b n ≡ Go → ⊥
 later_no_go a b n e = choice (nat_lt n a) (nat_lt (n - a) b) e
@@ -143,7 +146,7 @@ module _ (i : Instance) (g : ℕ) where
 
     hole_sound : is_hole_of g a.target && is_bad ≡ true → IsBroken a.target
     hole_sound h =
-        let b = split_and (is_hole_of g a.target) is_bad h in
+        let b = both_true (is_hole_of g a.target) is_bad h in
         let dones = with_target (ports.Done g) assigns in
         let registers = captured (part_of i) assigns in
         let r = any_in (λ k. not (is_right_done (wanted_dones (done_of k) registers) dones)) called (sym bad_is ∙ b.1) in
@@ -169,7 +172,7 @@ module _ (i : Instance) (g : ℕ) where
             ⊎_elim
             (λ o. other_sound k t e o)
             (λ p. port_sound k t (part_port k.part (port_number a.target)) refl p)
-            (split_or (calls_other called k.cell) (wrong_port driven dependent a k (port_number a.target) (part_port k.part (port_number a.target))) h)
+            (either_true (calls_other called k.cell) (wrong_port driven dependent a k (port_number a.target) (part_port k.part (port_number a.target))) h)
 
     -- A BREAK, so wrong
     of_callee : (k : PlainCallee) (t : PortRef) → callee_of i t ≡ Some k → (calls_other called k.cell ≡ true) ⊎ (wrong_port driven dependent a k (port_number t) (part_port k.part (port_number t)) ≡ true)
@@ -187,8 +190,8 @@ module _ (i : Instance) (g : ℕ) where
         choice : (b : Bool) → nat_eq c cell ≡ b → calls_other called cell ≡ true
         choice true h =
             any_has (λ k. not (nat_eq k.cell cell)) called (callee e y.child) (called_all i assigns e y.child y.is_component y.driven)
-            (to_not (nat_eq e cell) (other_than e cell (λ s. ne (s ∙ sym (from_eq c cell h)))))
-        choice false h = any_has (λ k. not (nat_eq k.cell cell)) called (callee c x.child) (called_all i assigns c x.child x.is_component x.driven) (to_not (nat_eq c cell) h)
+            (not_from_false (nat_eq e cell) (other_than e cell (λ s. ne (s ∙ sym (from_eq c cell h)))))
+        choice false h = any_has (λ k. not (nat_eq k.cell cell)) called (callee c x.child) (called_all i assigns c x.child x.is_component x.driven) (not_from_false (nat_eq c cell) h)
 
     bare_of : (t : PortRef) → callee_of i t ≡ None → wrong_bare i g called driven is_bad a t ≡ true → is_wrong i g called driven dependent is_bad a t ≡ true
     bare_of t e h = ap (λ o. wrong_for i g called driven dependent is_bad a o t) e ∙ h
@@ -199,24 +202,24 @@ module _ (i : Instance) (g : ℕ) where
     complete c calls at (wrong_go h) =
         let k = callee c calls.child in
         of_callee k (go_port c) (callee_is i c 0 calls.child calls.is_component)
-        (inr (to_not (nat_eq (driven c 0) 1 && is_right_go (done_of k) (a ∷ [])) (sym (go_alone k calls.child refl at) ∙ h)))
+        (inr (not_from_false (nat_eq (driven c 0) 1 && is_right_go (done_of k) (a ∷ [])) (sym (go_alone k calls.child refl at) ∙ h)))
     complete c calls at (input_by_output p ((n, input), (q, output, depends))) =
         let k = callee c calls.child in
         let is : IsDependent i g a.target = record { cell = c; input = p; is = at; child = calls.child; stands = calls.is_component; number = n; is_input = input; output = q; is_output = output; depends = depends } in
         of_callee k (ports.Cell c p) (callee_is i c p calls.child calls.is_component)
-        (inr (ap (λ port. wrong_port driven dependent a k p port) input ∙ to_not (nat_eq (dependent c p) 0) ((dep a c p there at).1 is)))
+        (inr (ap (λ port. wrong_port driven dependent a k p port) input ∙ not_from_false (nat_eq (dependent c p) 0) ((dep a c p there at).1 is)))
     complete {t} c calls at (wrong_enable en h) =
         let k = callee c calls.child in
         bare_of t (enable_callee i t en)
         (ap (λ b. cond b (wrong_enable_of (part_of i) called driven a t) (is_hole_of g t && is_bad)) en
         ∙ any_has (λ l. not ((is_register_enable (part_of i) t && nat_eq (driven (cell_number t) (port_number t)) 1) && is_right_enable (done_of l) (a ∷ []))) called k
         (called_all i assigns c calls.child calls.is_component calls.driven)
-        (to_not ((is_register_enable (part_of i) t && nat_eq (driven (cell_number t) (port_number t)) 1) && is_right_enable (done_of k) (a ∷ [])) (sym (enable_alone k calls.child t refl at (enable_cell i t en)) ∙ h)))
+        (not_from_false ((is_register_enable (part_of i) t && nat_eq (driven (cell_number t) (port_number t)) 1) && is_right_enable (done_of k) (a ∷ [])) (sym (enable_alone k calls.child t refl at (enable_cell i t en)) ∙ h)))
     complete c calls at (wrong_done h) =
         let k = callee c calls.child in
         let dones = with_target (ports.Done g) assigns in
         let registers = captured (part_of i) assigns in
         bare_of (ports.Done g) refl
-        (ap (λ b. b && is_bad) (eq_itself g)
+        (ap (λ b. b && is_bad) (equal g)
         ∙ bad_is ∙ any_has (λ l. not (is_right_done (wanted_dones (done_of l) registers) dones)) called k (called_all i assigns c calls.child calls.is_component calls.driven)
-        (to_not (is_right_done (wanted_dones (done_of k) registers) dones) h))
+        (not_from_false (is_right_done (wanted_dones (done_of k) registers) dones) h))

@@ -16,10 +16,12 @@ use Rattle.cx_rules.specs.ShapeRules.{is_hole, is_hole_of, some_target, owner_le
 use Rattle.cx_rules.specs.Accepted.{key_of}
 use Rattle.cx_design_parts.specs.Breaks.{Broken, first_of}
 use Rattle.cx_design_parts.specs.Answers.{AreBreaksBy}
-use Rattle.cx_design_parts.proofs.Order.{not_before_itself}
 use Rattle.cx_design_parts.proofs.Lists.{first_append, in_left, in_right, in_either, in_numbered, numbered_in}
 use Rattle.cx_shape_rules.specs.ShapeBreaks.{ShapeFamily, told_if, lacks_done, is_bad_length, is_bad_static, group_breaks, is_always_enable, is_owned_by_comb, is_comb_enable, some_bad, is_bad_guard, assign_break, assign_breaks, is_amiss, is_other, is_wrong, has_wrong_length, statement_breaks, group_breaks_at, assign_breaks_at, statement_breaks_at, groups_breaks, assigns_breaks, statements_breaks, component_breaks, components_breaks, shape_breaks}
-use Rattle.cx_shape_rules.proofs.PartLemmas.{group_there, there_below, below_there, part_within, both_true, and_true, either_true, or_true_left, or_true_right, from_not}
+use Rattle.cx_shape_rules.proofs.PartLemmas.{group_there, below_there}
+use Rattle.cx_rules.proofs.KeyOrder.{before_irreflexive}
+use Rattle.cx_meaning.proofs.DesignsLemmas.{there_below, same_part}
+use Rattle.cx_text.proofs.BoolLaws.{both_true, and_true, either_true, or_left, or_right, from_not}
 
 abbrev broken : Rule → Spot → Place → List ℕ → Broken
 broken r spot place name = record { rule = r; spot = spot; place = place; name = name }
@@ -48,7 +50,7 @@ has_bad_length o drives n e h = ap (λ x. is_bad_length x drives) e ∙ h
 
 -- the group of a number, as a rule sees it
 group_is : (d : PlainDesign) (k n : ℕ) → group_at (part_of (component_of d k)) n ≡ group_at (component_at d k) n
-group_is d k n = ap (λ part. group_at part n) (part_within d (length d.components) k)
+group_is d k n = ap (λ part. group_at part n) (same_part d (length d.components) k)
 
 module _ (d : PlainDesign) (k n : ℕ) (g : PlainGroup) (within : k < length d.components) (stands : slice_get (component_at d k).groups n ≡ Some g) where
   abbrev there : Spot
@@ -98,8 +100,8 @@ bad_among n (r ∷ rs) h =
 
 among_bad : (n : Option ℕ) (rs : List Range) (r : Range) → In rs r → is_bad_range n r ≡ true → some_bad n rs ≡ true
 among_bad n [] r i h = absurd i
-among_bad n (x ∷ rs) r (inl e) h = or_true_left (is_bad_range n x) (some_bad n rs) (ap (is_bad_range n) e ∙ h)
-among_bad n (x ∷ rs) r (inr i) h = or_true_right (is_bad_range n x) (some_bad n rs) (among_bad n rs r i h)
+among_bad n (x ∷ rs) r (inl e) h = or_left (is_bad_range n x) (some_bad n rs) (ap (is_bad_range n) e ∙ h)
+among_bad n (x ∷ rs) r (inr i) h = or_right (is_bad_range n x) (some_bad n rs) (among_bad n rs r i h)
 
 module _ (d : PlainDesign) (k n : ℕ) (a : Owned) (within : k < length d.components) (stands : slice_get (source_order (component_at d k)) n ≡ Some a) where
   abbrev here : Spot
@@ -173,8 +175,8 @@ wrong_length : (o : Option ℕ) (n : ℕ) → is_wrong o n ≡ true → ((w : �
 wrong_length o n h = ⊎_elim (λ p. inl (other_length o n p)) (λ p. inr (is_zero n p)) (either_true (is_other o n) (nat_eq n 0) h)
 
 is_wrong_length : (o : Option ℕ) (n : ℕ) → ((w : ℕ) × (o ≡ Some w) × (w ≢ n)) ⊎ (n ≡ 0) → is_wrong o n ≡ true
-is_wrong_length o n (inl p) = or_true_left (is_other o n) (nat_eq n 0) (is_other_length o n p.0 p.1 p.2)
-is_wrong_length o n (inr p) = or_true_right (is_other o n) (nat_eq n 0) (zero_is n p)
+is_wrong_length o n (inl p) = or_left (is_other o n) (nat_eq n 0) (is_other_length o n p.0 p.1 p.2)
+is_wrong_length o n (inr p) = or_right (is_other o n) (nat_eq n 0) (zero_is n p)
 
 amiss_breaks : (i : Instance) (v : Visited) → is_amiss (part_of i) v ≡ true → BreaksStaticControl i v v.place (enabled_name (part_of i) v.form)
 amiss_breaks i v h =
@@ -208,7 +210,7 @@ module _ (d : PlainDesign) (k n : ℕ) (v : Visited) (within : k < length d.comp
       (in_either (told_if (is_amiss (part_of inside) v) rules.StaticShape own v.place (enabled_name (part_of inside) v.form)) (told_if (has_wrong_length (part_of inside) v) rules.StaticShape own v.place []) b h)
 
   statement_holds : (b : Broken) → In (statement_breaks (component_at d k) own v) b → Holds d b
-  statement_holds b h = inside_holds b (subst (λ part. In (statement_breaks part own v) b) (sym (part_within d (length d.components) k)) h)
+  statement_holds b h = inside_holds b (subst (λ part. In (statement_breaks part own v) b) (sym (same_part d (length d.components) k)) h)
 
 -- THE WHOLE DESIGN
 component_holds : (d : PlainDesign) (k : ℕ) (b : Broken) → k < length d.components → In (component_breaks d k) b → Holds d b
@@ -289,7 +291,7 @@ statement_in d spot place name r o b has =
     (in_numbered (statement_breaks_at d k) 0 list o.number o.statement b o.stands
     (subst (λ n. In (statement_breaks_at d k n o.statement) b) same
     (subst (λ s. In (statement_breaks (component_at d k) s o.statement) b) (sym spot_is)
-    (subst (λ part. In (statement_breaks part spot o.statement) b) (part_within d (length d.components) k) has)))))
+    (subst (λ part. In (statement_breaks part spot o.statement) b) (same_part d (length d.components) k) has)))))
 
 no_done_in : (d : PlainDesign) (spot : Spot) (place : Place) (name : List ℕ) → OnGroup BreaksNoDone d spot place name → In (shape_breaks d) (broken rules.NoDone spot place name)
 no_done_in d spot place name o =
@@ -395,7 +397,7 @@ all_breaks d rule spot place name (inr (inr (inr (inr (inr (inr o)))))) = under_
 pub are_breaks : (d : PlainDesign) → AreBreaksBy (ShapeFamily d) (shape_breaks d)
 are_breaks d = record {
   by_family = λ b h. components_hold d 0 (length d.components) b (omega arith) h;
-  all_family = λ rule spot place name o. (broken rule spot place name, all_breaks d rule spot place name o, not_before_itself (key_of rule spot place));
+  all_family = λ rule spot place name o. (broken rule spot place name, all_breaks d rule spot place name o, before_irreflexive (key_of rule spot place));
 }
 
 -- one more component is looked at

@@ -17,13 +17,6 @@ use Rattle.cx_design_parts.proofs.OutputLemmas.{row_of-reads_first}
 use Rattle.cx_shape_state.specs.Waits.{side_basis, part_basis, cell_basis, input_basis, basis_of, reads_at, reader_of}
 use Rattle.cx_shape_state.specs.Joining.{IsWithin}
 
-pub part_within : (d : PlainDesign) (n k : ℕ) → part_of (tree_within d n k) ≡ component_at d k
-part_within d zero k = refl
-part_within d (suc n) k = refl
-
-pub part_is : (d : PlainDesign) (k : ℕ) → part_of (component_of d k) ≡ component_at d k
-part_is d k = part_within d (length d.components) k
-
 count_within : (d : PlainDesign) (n k : ℕ) → 0 < n → cell_count (cells_of (tree_within d n k)) ≡ length (component_at d k).cells
 count_within d zero k h = absurd (omega (arith, h))
 count_within d (suc n) k h = count_for (tree_within d n) (component_at d k).cells

@@ -1,5 +1,5 @@
 -- The graph of a component: what a cell waits for.
-use Rattle.std.proofs.Common.{◌≡◌, ◌+◌, ◌<◌, ℕ, zero, suc, nat_eq, Bool, true, false, cond, List, [], ◌∷◌, ◌++◌, Option, Some, None, length, flat_map, get_or, ◌⊎◌, inl, inr, ⊎_elim, refl, sym, ap, ◌∙◌, subst, arith}
+use Rattle.std.proofs.Common.{◌≡◌, ◌+◌, ◌<◌, ℕ, zero, suc, nat_eq, Bool, true, false, cond, List, [], ◌∷◌, Option, Some, None, length, flat_map, get_or, ◌⊎◌, inl, inr, ⊎_elim, refl, sym, ap, ◌∙◌, subst, arith}
 use Rattle.std.proofs.lemmas.Bool.{eqb-true, eq-eqb}
 use Rattle.cx_meaning.specs.declared.ports.PlacedPort.{PlacedPort}
 use Rattle.cx_meaning.specs.Designs.{PlainAssign, PlainGroup, group_at, no_group}
@@ -12,20 +12,7 @@ use Rattle.cx_shape_state.specs.declared.basis.Basis.TheVariants as basis
 use Rattle.cx_shape_state.specs.Waits.{basis_of, reader_of, waits_on, if_reader, always_waits, group_waits, waits_of, tabled, waits}
 use Rattle.cx_shape_state.specs.Joining.{IsWithin}
 use Rattle.cx_shape_state.proofs.Cells.{reader_within, basis_within}
-
-in_left : (xs ys : List ℕ) (n : ℕ) → In xs n → In (xs ++ ys) n
-in_left [] ys n i = absurd i
-in_left (x ∷ xs) ys n (inl e) = inl e
-in_left (x ∷ xs) ys n (inr i) = inr (in_left xs ys n i)
-
-in_right : (xs ys : List ℕ) (n : ℕ) → In ys n → In (xs ++ ys) n
-in_right [] ys n i = i
-in_right (x ∷ xs) ys n i = inr (in_right xs ys n i)
-
-in_either : (xs ys : List ℕ) (n : ℕ) → In (xs ++ ys) n → In xs n ⊎ In ys n
-in_either [] ys n i = inr i
-in_either (x ∷ xs) ys n (inl e) = inl (inl e)
-in_either (x ∷ xs) ys n (inr i) = ⊎_elim (λ p. inl (inr p)) (λ q. inr q) (in_either xs ys n i)
+use Rattle.cx_graphs.proofs.Marks.{in_left, in_right, in_either}
 
 module _ {A : Type 0} (f : A → List ℕ) where
   in_flat : (xs : List A) (x : A) (n : ℕ) → sights.In xs x → In (f x) n → In (flat_map f xs) n

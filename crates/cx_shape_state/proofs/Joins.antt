@@ -1,24 +1,21 @@
 -- Graphs that grow by lists of edges.
-use Rattle.std.proofs.Common.{◌≡◌, ◌+◌, ◌<◌, ◌≤◌, ℕ, zero, suc, nat_eq, true, false, cond, List, [], ◌∷◌, ◌++◌, Some, map, drop, flat_map, refl, sym, ap, ◌∙◌, arith}
+use Rattle.std.proofs.Common.{◌≡◌, ◌+◌, ◌≤◌, ℕ, zero, suc, nat_eq, cond, List, [], ◌∷◌, ◌++◌, Some, map, drop, flat_map, refl, sym, ap, ◌∙◌, arith}
 use Rattle.std.proofs.Common.{append_assoc}
-use Rattle.std.proofs.lemmas.Bool.Decides.{nat_tests}
 use Rattle.cx_graphs.specs.Graphs.{Edges}
 use Rattle.cx_graphs.specs.Edges.{with_edge, no_edges}
 use Rattle.cx_shape_state.specs.Waits.{if_reader, tabled}
 use Rattle.cx_shape_state.specs.Joining.{with_edges, joined}
+use Rattle.cx_text.proofs.NumberLaws.{apart_numbers, apart_above, same_numbers}
+use Rattle.cx_text.proofs.ListLaws.{append_none}
 
 pub with_edge-edges : (g : Edges) (n m : ℕ) → with_edge g n m ≡ with_edges g n (m ∷ [])
 with_edge-edges [] n m = refl
 with_edge-edges (ms ∷ rest) zero m = refl
 with_edge-edges (ms ∷ rest) (suc n) m = ap (λ g. ms ∷ g) (with_edge-edges rest n m)
 
-nothing_behind : (xs : List ℕ) → xs ++ [] ≡ xs
-nothing_behind [] = refl
-nothing_behind (x ∷ xs) = ap (λ l. x ∷ l) (nothing_behind xs)
-
 pub with_edges-none : (g : Edges) (n : ℕ) → with_edges g n [] ≡ g
 with_edges-none [] n = refl
-with_edges-none (ms ∷ rest) zero = ap (λ l. l ∷ rest) (nothing_behind ms)
+with_edges-none (ms ∷ rest) zero = ap (λ l. l ∷ rest) (append_none ms)
 with_edges-none (ms ∷ rest) (suc n) = ap (λ g. ms ∷ g) (with_edges-none rest n)
 
 pub with_edges-more : (g : Edges) (n : ℕ) (xs ys : List ℕ) → with_edges (with_edges g n xs) n ys ≡ with_edges g n (xs ++ ys)
@@ -28,7 +25,7 @@ with_edges-more (ms ∷ rest) (suc n) xs ys = ap (λ g. ms ∷ g) (with_edges-mo
 
 pub joined-none : (g : Edges) (n : ℕ) → joined g n (λ c. []) ≡ g
 joined-none [] n = refl
-joined-none (ms ∷ rest) n = ap (λ l. l ∷ joined rest (suc n) (λ c. [])) (nothing_behind ms) ∙ ap (λ g. ms ∷ g) (joined-none rest (suc n))
+joined-none (ms ∷ rest) n = ap (λ l. l ∷ joined rest (suc n) (λ c. [])) (append_none ms) ∙ ap (λ g. ms ∷ g) (joined-none rest (suc n))
 
 pub joined-same : (g : Edges) (n : ℕ) (f h : ℕ → List ℕ) → ((c : ℕ) → f c ≡ h c) → joined g n f ≡ joined g n h
 joined-same [] n f h e = refl
@@ -42,30 +39,21 @@ joined_past : (g : Edges) (n : ℕ) (f : ℕ → List ℕ) → ((c : ℕ) → n 
 joined_past [] n f e = refl
 joined_past (ms ∷ rest) n f e =
     ap (λ l. (ms ++ l) ∷ joined rest (suc n) f) (e n (omega arith))
-    ∙ ap (λ l. l ∷ joined rest (suc n) f) (nothing_behind ms)
+    ∙ ap (λ l. l ∷ joined rest (suc n) f) (append_none ms)
     ∙ ap (λ g. ms ∷ g) (joined_past rest (suc n) f (λ c h. e c (omega (arith, h))))
-
-is_equal : (m n : ℕ) → m ≡ n → nat_eq m n ≡ true
-is_equal m n e = grind (arith, nat_tests)
-
-is_apart : (m n : ℕ) → m < n → nat_eq m n ≡ false
-is_apart m n e = grind (arith, nat_tests)
-
-is_apart_above : (m n : ℕ) → n < m → nat_eq m n ≡ false
-is_apart_above m n e = grind (arith, nat_tests)
 
 -- what one node gets
 pub joined-one : (g : Edges) (n t d : ℕ) (f : ℕ → List ℕ) → t ≡ n + d → with_edges g d (f t) ≡ joined g n (λ c. if_reader (Some t) c (f c))
 joined-one [] n t d f e = refl
 joined-one (ms ∷ rest) n t zero f e =
     let same : t ≡ n = omega (arith, e) in
-    let at : cond (nat_eq t n) (f n) [] ≡ f t = ap (λ b. cond b (f n) []) (is_equal t n same) ∙ ap f (sym same) in
-    let past = joined_past rest (suc n) (λ c. if_reader (Some t) c (f c)) (λ c h. ap (λ b. cond b (f c) []) (is_apart t c (omega (arith, h, same)))) in
+    let at : cond (nat_eq t n) (f n) [] ≡ f t = ap (λ b. cond b (f n) []) (same_numbers t n same) ∙ ap f (sym same) in
+    let past = joined_past rest (suc n) (λ c. if_reader (Some t) c (f c)) (λ c h. ap (λ b. cond b (f c) []) (apart_numbers t c (omega (arith, h, same)))) in
     ap (λ l. (ms ++ l) ∷ rest) (sym at) ∙ ap (λ g. (ms ++ if_reader (Some t) n (f n)) ∷ g) (sym past)
 joined-one (ms ∷ rest) n t (suc d) f e =
-    let apart : cond (nat_eq t n) (f n) [] ≡ [] = ap (λ b. cond b (f n) []) (is_apart_above t n (omega (arith, e))) in
+    let apart : cond (nat_eq t n) (f n) [] ≡ [] = ap (λ b. cond b (f n) []) (apart_above t n (omega (arith, e))) in
     ap (λ g. ms ∷ g) (joined-one rest (suc n) t d f (omega (arith, e)))
-    ∙ ap (λ l. l ∷ joined rest (suc n) (λ c. if_reader (Some t) c (f c))) (sym (nothing_behind ms) ∙ ap (λ l. ms ++ l) (sym apart))
+    ∙ ap (λ l. l ∷ joined rest (suc n) (λ c. if_reader (Some t) c (f c))) (sym (append_none ms) ∙ ap (λ l. ms ++ l) (sym apart))
 
 pub joined_no_edges : (f : ℕ → List ℕ) (n k : ℕ) → joined (no_edges k) n f ≡ tabled f n k
 joined_no_edges f n zero = refl

@@ -1,31 +1,17 @@
 -- What an assignment names is among its sources, and the continuous drivers of a port.
-use Rattle.std.proofs.Common.{◌≡◌, ◌+◌, ℕ, suc, Bool, true, false, ◌&&◌, nat_eq, List, [], ◌∷◌, ◌++◌, Option, Some, None, get_or, ◌⊎◌, inl, inr, ⊎_elim, refl, sym, ap, ◌∙◌, subst}
-use Rattle.std.specs.Prelude.{if◌then◌else◌}
-use Rattle.std.proofs.lemmas.Bool.{eq-eqb}
+use Rattle.std.proofs.Common.{◌≡◌, ◌+◌, ℕ, suc, Bool, true, false, List, [], ◌∷◌, ◌++◌, Option, Some, None, get_or, inl, inr, ⊎_elim, refl, sym, ap, ◌∙◌, subst}
 use Rattle.cx_meaning.specs.declared.ports.PortRef.{PortRef}
-use Rattle.cx_meaning.specs.declared.ports.PortRef.TheVariants as ports
 use Rattle.cx_meaning.specs.declared.ports.PlacedPort.{PlacedPort}
 use Rattle.cx_meaning.specs.Designs.{PlainGuard, Always, Atom, Negation, All, Any, Compared, Within, PlainGuards, no_guards, a_guard, PlainAssign, PlainGroup, PlainComponent, no_group}
-use Rattle.cx_meaning.specs.Active.{Acting, nothing, Owned, owned, owned_by_groups, no_later, placed_in, by_place, source_order, offset_of, if_acting, if_target, acting, same_port, drivers}
+use Rattle.cx_meaning.specs.Active.{Acting, nothing, Owned, owned, owned_by_groups, placed_in, by_place, source_order, offset_of, if_acting, if_target, acting, same_port, drivers}
 use Rattle.cx_meaning.specs.Sights.{In, GuardNames, AnyNames}
 use Rattle.cx_rules.specs.Items.{operands_of, operands_in, sources_of}
 use Rattle.cx_rules.specs.Footprints.{AssignNames, Mentions}
 use Rattle.cx_rules.proofs.FoundLemmas.{same_is}
 use Rattle.cx_rules.proofs.ForeignLemmas.{sorted_among, owned_among, split, groups_among}
-
-in_left : {A : Type 0} (xs ys : List A) (x : A) → In xs x → In (xs ++ ys) x
-in_left [] ys x i = absurd i
-in_left (y ∷ xs) ys x (inl e) = inl e
-in_left (y ∷ xs) ys x (inr i) = inr (in_left xs ys x i)
-
-in_right : {A : Type 0} (xs ys : List A) (x : A) → In ys x → In (xs ++ ys) x
-in_right [] ys x i = i
-in_right (y ∷ xs) ys x i = inr (in_right xs ys x i)
-
-in_either : {A : Type 0} (xs ys : List A) (x : A) → In (xs ++ ys) x → In xs x ⊎ In ys x
-in_either [] ys x i = inr i
-in_either (y ∷ xs) ys x (inl e) = inl (inl e)
-in_either (y ∷ xs) ys x (inr i) = ⊎_elim (λ p. inl (inr p)) (λ q. inr q) (in_either xs ys x i)
+use Rattle.cx_meaning.proofs.SightsLaws.{in_either, in_left, in_right}
+use Rattle.cx_meaning.proofs.PortsLemmas.{same_self}
+use Rattle.cx_meaning.proofs.ActiveLemmas.{placed_still, placed_first}
 
 mutual
   guard_operand : (g : PlainGuard) (q : PortRef) → GuardNames g q → (p : PlacedPort) × In (operands_of g) p × (p.port ≡ q)
@@ -81,23 +67,6 @@ pub record Drives (part : PlainComponent) (p q : PortRef) : Type 0 where
   pub target : assign.target ≡ p
   pub names : AssignNames assign q
 
-placed_first : (a : Owned) (list : List Owned) → In (placed_in a list) a
-placed_first a [] = inl refl
-placed_first a (b ∷ rest) = choice (no_later a.assign.place b.assign.place) (placed_first a rest)
-  where
-    choice : (t : Bool) → In (placed_in a rest) a → In (if t then a ∷ b ∷ rest else b ∷ placed_in a rest) a
-    choice true h = inl refl
-    choice false h = inr h
-
-placed_still : (a : Owned) (list : List Owned) (o : Owned) → In list o → In (placed_in a list) o
-placed_still a [] o i = absurd i
-placed_still a (b ∷ rest) o i = choice (no_later a.assign.place b.assign.place) i (placed_still a rest o)
-  where
-    choice : (t : Bool) → In (b ∷ rest) o → (In rest o → In (placed_in a rest) o) → In (if t then a ∷ b ∷ rest else b ∷ placed_in a rest) o
-    choice true j h = inr j
-    choice false (inl e) h = inl e
-    choice false (inr j) h = inr (h j)
-
 among_sorted : (list : List Owned) (o : Owned) → In list o → In (by_place list) o
 among_sorted [] o i = i
 among_sorted (a ∷ rest) o (inl e) = subst (λ x. In (placed_in a (by_place rest)) x) e (placed_first a (by_place rest))
@@ -108,20 +77,13 @@ among_owned [] a i = absurd i
 among_owned (x ∷ list) a (inl e) = inl (ap (λ y. record { owner = None; assign = y }) e)
 among_owned (x ∷ list) a (inr i) = inr (among_owned list a i)
 
-same_itself : (p : PortRef) → same_port p p ≡ true
-same_itself (ports.Cell c p) = ap (λ b. b && nat_eq p p) (eq-eqb c c refl) ∙ eq-eqb p p refl
-same_itself (ports.Input n) = eq-eqb n n refl
-same_itself (ports.Output n) = eq-eqb n n refl
-same_itself (ports.Done g) = eq-eqb g g refl
-same_itself (ports.Literal w v) = ap (λ b. b && nat_eq v v) (eq-eqb w w refl) ∙ eq-eqb v v refl
-
 acting_in : (p : PortRef) (list : List Owned) (a : PlainAssign) → In list (record { owner = None; assign = a }) → a.target ≡ p
     → In (acting nothing p list) (record { offset = 0; assign = a })
 acting_in p [] a i t = absurd i
 acting_in p (x ∷ rest) a (inl e) t =
     subst (λ y. In (if_target (same_port y.assign.target p) nothing y (acting nothing p rest)) (record { offset = 0; assign = a })) (sym e)
     (subst (λ b. In (if_target b nothing (record { owner = None; assign = a }) (acting nothing p rest)) (record { offset = 0; assign = a }))
-    (sym (ap (λ y. same_port y p) t ∙ same_itself p)) (inl refl))
+    (sym (ap (λ y. same_port y p) t ∙ same_self p)) (inl refl))
 acting_in p (x ∷ rest) a (inr i) t = by_target (same_port x.assign.target p) (acting_in p rest a i t)
   where
     by_offset : (o : Option ℕ) → In (acting nothing p rest) (record { offset = 0; assign = a }) → In (if_acting o x.assign (acting nothing p rest)) (record { offset = 0; assign = a })

@@ -20,12 +20,12 @@ use Rattle.cx_rules.specs.Accepted.{key_of}
 use Rattle.cx_design_parts.specs.Breaks.{Broken, first_of}
 use Rattle.cx_design_parts.specs.Numbered.{numbered}
 use Rattle.cx_design_parts.specs.Answers.{AreBreaksBy}
-use Rattle.cx_design_parts.proofs.Order.{not_before_itself}
 use Rattle.cx_design_parts.proofs.Lists.{first_append, in_left, in_right, in_either, in_numbered, numbered_in}
 use Rattle.cx_shape_state.specs.Resting.{rests_at}
 use Rattle.cx_shape_state.proofs.Names.{source_in, source_named}
 use Rattle.cx_shape_state.proofs.Found.{found_rests, rests_found, inner_rests, inner_apart, leads_found}
 use Rattle.cx_shape_state.specs.StateBreaks.{StateBreaks, break_unless, all_rest, done_break, output_break, target_breaks, assign_breaks, static_test, test_breaks, assign_breaks_at, test_breaks_at, component_breaks, components_breaks, state_breaks}
+use Rattle.cx_rules.proofs.KeyOrder.{before_irreflexive}
 
 abbrev broken : Rule → Spot → Place → List ℕ → Broken
 broken r spot place name = record { rule = r; spot = spot; place = place; name = name }
@@ -279,7 +279,7 @@ all_breaks d rule.TooLarge spot place name o = absurd o
 pub are_breaks : (d : PlainDesign) → AreBreaksBy (StateBreaks d) (state_breaks d)
 are_breaks d = record {
   by_family = λ b h. components_hold d 0 (length d.components) b (omega arith) h;
-  all_family = λ r spot place name o. (broken r spot place name, all_breaks d r spot place name o, not_before_itself (key_of r spot place));
+  all_family = λ r spot place name o. (broken r spot place name, all_breaks d r spot place name o, before_irreflexive (key_of r spot place));
 }
 
 -- one more component is looked at

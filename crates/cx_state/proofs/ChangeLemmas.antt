@@ -1,5 +1,5 @@
 -- One row that changes.
-use Rattle.std.proofs.Common.{◌≡◌, ℕ, zero, suc, ◌+◌, ◌-◌, ◌<◌, ◌≤◌, ◌≢◌, Bool, true, false, inl, inr, ◌⊎◌, ⊎_elim, List, [], ◌∷◌, ◌++◌, length, get_or, set, Some, None, refl, sym, ap, ◌∙◌, arith, if◌then◌else◌, Option}
+use Rattle.std.proofs.Common.{◌≡◌, ℕ, zero, suc, ◌+◌, ◌-◌, ◌<◌, ◌≤◌, ◌≢◌, Bool, true, false, ⊎_elim, List, [], ◌∷◌, ◌++◌, length, get_or, set, Some, None, refl, sym, ap, ◌∙◌, arith, if◌then◌else◌, Option}
 use Rattle.std.specs.List.{slice_get}
 use Rattle.std.proofs.lemmas.Bool.{cases_lt}
 use Rattle.std.proofs.lemmas.List.{get_or-set_same, get_or-set_other}
@@ -11,11 +11,14 @@ use Rattle.cx_meaning.specs.Sights.{Held, seen}
 use Rattle.cx_meaning.specs.Cycles.{Goes, outcome_of, state_after, cycle_of}
 use Rattle.cx_meaning.proofs.CycleLemmas.{goes_to}
 use Rattle.cx_rules.specs.Sizes.{instances_below}
-use Rattle.cx_limits.proofs.Places.{none_is_some}
 use Rattle.cx_state.specs.Tables.{IsNumber}
 use Rattle.cx_state.specs.States.{PlainInstance, no_instance, instance_state, StandsFor, put_path, under_path}
 use Rattle.cx_state.proofs.StandLemmas.{past}
 use Rattle.cx_state.proofs.ReadLemmas.{Entered, enter, inside_back}
+use Rattle.cx_text.proofs.NumberLaws.{same_or}
+use Rattle.cx_meaning.proofs.InstancesLemmas.{just_true, just_same, append_none}
+use Rattle.cx_state.proofs.StatesLemmas.{put_empty}
+use Rattle.cx_text.proofs.OptionLaws.{none_is_some}
 
 -- A PATH HAS ONE NUMBER
 later_head : (cells : Cells) (k j : ℕ) (q : Path) → slice_get (paths_below cells (suc k)) j ≡ Some (k ∷ q) → ⊥
@@ -66,17 +69,6 @@ mutual
       (cases_lt n (instances_below child)))
       (cases_lt m (instances_below child))
 
--- A STATE PUT AT A PATH
-pub just_same : (k : ℕ) → just k k ≡ true
-just_same zero = refl
-just_same (suc k) = just_same k
-
-just_true : (k c : ℕ) → just k c ≡ true → k ≡ c
-just_true zero zero e = refl
-just_true zero (suc c) e = absurd (let f : false ≡ true = e in cc)
-just_true (suc k) zero e = absurd (let f : false ≡ true = e in cc)
-just_true (suc k) (suc c) e = ap suc (just_true k c e)
-
 pub put_there : (path : Path) (own s : State) (c : ℕ) (q : Path) → put_path path own s (path ++ c ∷ q) ≡ own (c ∷ q)
 put_there [] own s c q = refl
 put_there (x ∷ path) own s c q =
@@ -85,10 +77,6 @@ put_there (x ∷ path) own s c q =
 chosen : (b : Bool) (u v w : CellState) → (b ≡ true → u ≡ w) → v ≡ w → (if b then u else v) ≡ w
 chosen true u v w h e = h refl
 chosen false u v w h e = e
-
-put_empty : (path : Path) (own s : State) → (path ≡ [] → own [] ≡ s []) → put_path path own s [] ≡ s []
-put_empty [] own s h = h refl
-put_empty (x ∷ path) own s h = refl
 
 snoc_deep : (own s : State) (p : Path) (c : ℕ) → p ≢ [] → ((y e : ℕ) (q : Path) → own (y ∷ e ∷ q) ≡ s (y ∷ e ∷ q)) → own (p ++ c ∷ []) ≡ s (p ++ c ∷ [])
 snoc_deep own s [] c ne h = absurd (ne refl)
@@ -107,9 +95,6 @@ put_elsewhere (x ∷ path) (y ∷ p) c own s ne here deeper =
     put_elsewhere path p c own (under x s) (λ f. ne (ap (λ k. k ∷ p) (sym same) ∙ ap (λ r. x ∷ r) f)) here deeper ∙ ap (λ k. s (k ∷ (p ++ c ∷ []))) same)
     refl
 
-same_or : (m n : ℕ) → (m ≡ n) ⊎ (m ≢ n)
-same_or m n = ⊎_elim (λ (lt : m < n). inr (λ e. (let f : m ≡ n = e in omega arith))) (λ (le : n ≤ m). ⊎_elim (λ (lt : n < m). inr (λ e. (let f : m ≡ n = e in omega arith))) (λ (ge : m ≤ n). inl (omega arith)) (cases_lt n m)) (cases_lt m n)
-
 pub changed : (d : PlainDesign) (rows : List PlainInstance) (s after : State) (n : ℕ) (path : Path) (new : PlainInstance) → n < length rows → StandsFor (tree_of d) rows s → IsNumber d n path
     → ((c : ℕ) (held : CellState) → get_or new.cells c None ≡ Some held → after (c ∷ []) ≡ held)
     → after [] ≡ s path → ((c e : ℕ) (below : Path) → after (c ∷ e ∷ below) ≡ s (path ++ c ∷ e ∷ below))
@@ -125,11 +110,6 @@ changed d rows s after n path new lt stands at own here deeper m c p held at_m i
     put_elsewhere path p c after s (λ f. ne (one_number (tree_of d) m n path (at_m ∙ ap (λ q. Some q) f) at)) here deeper
     ∙ stands m c p held at_m (ap (λ (x : PlainInstance). get_or x.cells c None) (sym row) ∙ is))
     (same_or m n)
-
--- A CYCLE changes no more than the instance's own cells
-append_none : (path : Path) → path ++ [] ≡ path
-append_none [] = refl
-append_none (x ∷ path) = ap (λ p. x ∷ p) (append_none path)
 
 pub cycle_changed : (d : PlainDesign) (rows : List PlainInstance) (s after : State) (n : ℕ) (path : Path) (new : PlainInstance) (held : Held) (act : Active) (listed : Set) → n < length rows → StandsFor (tree_of d) rows s → IsNumber d n path
     → cycle_of (instance_at (tree_of d) path) held act listed (under_path path s) ≡ Goes after

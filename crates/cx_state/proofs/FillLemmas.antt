@@ -7,19 +7,20 @@ use Rattle.cx_meaning.specs.Designs.{PlainKind, OfPrimitive, OfComponent, PlainC
 use Rattle.cx_meaning.specs.Instances.{Instance, Node, Cells, add_cell, cells_for}
 use Rattle.cx_meaning.specs.Sights.{In}
 use Rattle.cx_rules.specs.Sizes.{instances_below, instances_in}
-use Rattle.cx_limits.specs.Capped.{capped}
-use Rattle.cx_limits.specs.declared.tallies.LimitTally.{LimitTally}
-use Rattle.cx_limits.specs.Tallies.{tally_of, no_tally}
-use Rattle.std.proofs.Math.Seq.{drop-cons}
-use Rattle.std.proofs.lemmas.Option.{slice_get-get_or, slice_get-map}
 use Rattle.cx_design.specs.declared.cells.Cell.{Cell}
 use Rattle.cx_design.specs.PlainForms.{plain_cell, plain_kind}
-use Rattle.cx_limits.proofs.Places.{none_is_some, in_from_place}
+use Rattle.cx_design_sizes.specs.Capped.{capped}
+use Rattle.std.proofs.Math.Seq.{drop-cons}
+use Rattle.std.proofs.lemmas.Option.{slice_get-get_or, slice_get-map}
+use Rattle.cx_design_sizes.specs.declared.tallies.LimitTally.{LimitTally}
+use Rattle.cx_design_sizes.specs.Tallies.{tally_of, no_tally}
 use Rattle.cx_state.specs.Steps.{instances_at}
 use Rattle.cx_state.specs.declared.tables.InstanceRow.{InstanceRow}
 use Rattle.cx_state.specs.Tables.{no_row, row_at}
 use Rattle.cx_state.specs.Filling.{total, total_before, HaveSome, numbered, row_placed, placed}
 use Rattle.cx_state.proofs.PreOrder.{before}
+use Rattle.cx_text.proofs.OptionLaws.{none_is_some}
+use Rattle.cx_meaning.proofs.SightsLaws.{in_at}
 
 -- COUNTS: what the tallies tell of the component cells is so
 abbrev pub AreCounted : (ℕ → Instance) → List LimitTally → List PlainCell → Type 0
@@ -92,7 +93,7 @@ pub place_room : (tallies : List LimitTally) (cells : List Cell) (i next long k 
     → next + total tallies (map plain_cell (drop i cells)) ≤ long → plain_kind (get_or cells i cell).kind ≡ OfComponent k → next < long
 place_room tallies cells i next long k cell lt some room e =
     let there : slice_get (map plain_cell cells) i ≡ Some (plain_cell (get_or cells i cell)) = slice_get-map plain_cell cells i ∙ ap (option_map plain_cell) (slice_get-get_or cells i cell lt) in
-    let one : 1 ≤ instances_at tallies (plain_cell (get_or cells i cell)).kind = some (plain_cell (get_or cells i cell)) k (in_from_place (map plain_cell cells) i (plain_cell (get_or cells i cell)) there) e in
+    let one : 1 ≤ instances_at tallies (plain_cell (get_or cells i cell)).kind = some (plain_cell (get_or cells i cell)) k (in_at (map plain_cell cells) i (plain_cell (get_or cells i cell)) there) e in
     let split : total tallies (map plain_cell (drop i cells)) ≡ instances_at tallies (plain_cell (get_or cells i cell)).kind + total tallies (map plain_cell (drop (suc i) cells)) =
     ap (λ xs. total tallies (map plain_cell xs)) (drop-cons cells i cell lt) in
     omega (arith, one, split)

@@ -9,23 +9,24 @@ use Rattle.cx_prim.specs.Rows.{Row}
 use Rattle.cx_prim.specs.Table.{row_of}
 use Rattle.cx_meaning.specs.declared.sights.Seen.{Seen}
 use Rattle.cx_meaning.specs.declared.sights.Seen.TheVariants.{Value, Undefined}
-use Rattle.cx_meaning.specs.Designs.{PlainKind, OfPrimitive, OfComponent, PlainCell, PlainDesign, component_at, no_component}
+use Rattle.cx_meaning.specs.Designs.{PlainKind, OfPrimitive, OfComponent, PlainCell, PlainDesign, component_at}
 use Rattle.cx_meaning.specs.Instances.{Instance, Node, Cells, no_cells, a_primitive, an_instance, OfRow, add_cell, cells_for, cell_at, cells_of, part_of, Path, State, behind, paths_of, paths_below, instance_at, child_at, tree_within, tree_of}
 use Rattle.cx_rules.specs.Sizes.{instances_below}
 use Rattle.cx_rules.proofs.CircleLemmas.{Reached, a_tree, no_tree, reached}
-use Rattle.cx_limits.proofs.Places.{below_length}
 use Rattle.cx_state.specs.Tables.{IsNumber}
 use Rattle.cx_state.specs.States.{PlainInstance, instance_state, inputs_held, StandsFor, HoldsKind, HoldCells, FitsPart, IsStateOf, under_path}
-use Rattle.cx_state.proofs.StandLemmas.{get_left, past, shift, none_more, kind_skip}
+use Rattle.cx_state.proofs.StandLemmas.{past, shift, none_more}
 use Rattle.cx_laws.specs.Widths.{HoldsStates, HoldsWidths}
+use Rattle.cx_meaning.proofs.InstancesLemmas.{nowhere, kind_skip}
+use Rattle.cx_text.proofs.ListLaws.{there_below, append-front}
 
 -- NUMBERS: an instance with a primitive cell has one
 inside : (child : Instance) (rest : Cells) (k j : ℕ) (x : Path) → slice_get (paths_of child) j ≡ Some x → slice_get (paths_below (an_instance child rest) k) j ≡ Some ((k + 0) ∷ x)
 inside child rest k j x e =
-    let lt : j < length (paths_of child) = below_length (paths_of child) j x e in
+    let lt : j < length (paths_of child) = there_below (paths_of child) j x e in
     let within : j < length (behind k (paths_of child)) = subst (λ n. j < n) (sym (length-map (paths_of child) (λ path. k ∷ path))) lt in
     let same : k ≡ k + 0 = omega arith in
-    get_left (behind k (paths_of child)) (paths_below rest (suc k)) j within
+    append-front (behind k (paths_of child)) (paths_below rest (suc k)) j within
     ∙ slice_get-map (λ path. k ∷ path) (paths_of child) j
     ∙ ap (option_map (λ path. k ∷ path)) e
     ∙ ap (λ n. Some (n ∷ x)) same
@@ -44,19 +45,14 @@ mutual
       let r = numbered_below rest (suc k) x path c row e in
       (instances_below child + r.0, past child rest k r.0 ∙ r.1 ∙ ap (λ m. Some (m ∷ path)) (shift k x))
 
--- the instance at a path below that at another
-nothing_below : (path : Path) → instance_at (Node no_component no_cells) path ≡ Node no_component no_cells
-nothing_below [] = refl
-nothing_below (c ∷ path) = refl
-
 mutual
   joined : (i : Instance) (path below : Path) → instance_at (instance_at i path) below ≡ instance_at i (path ++ below)
   joined (Node part cells) [] below = refl
   joined (Node part cells) (c ∷ path) below = joined_below cells c path below
 
   joined_below : (cells : Cells) (c : ℕ) (path below : Path) → instance_at (child_at cells c path) below ≡ child_at cells c (path ++ below)
-  joined_below no_cells c path below = nothing_below below
-  joined_below (a_primitive row rest) zero path below = nothing_below below
+  joined_below no_cells c path below = nowhere below
+  joined_below (a_primitive row rest) zero path below = nowhere below
   joined_below (a_primitive row rest) (suc c) path below = joined_below rest c path below
   joined_below (an_instance child rest) zero path below = joined child path below
   joined_below (an_instance child rest) (suc c) path below = joined_below rest c path below

@@ -15,3 +15,5 @@ pub mod ChangeLemmas
 mod WriteLemmas
 mod MainLemmas
 mod HeldLemmas
+pub mod TablesLemmas
+pub mod StatesLemmas

@@ -3,48 +3,30 @@ use Rattle.std.proofs.Common.{◌≡◌, ℕ, zero, suc, ◌+◌, ◌^◌, ◌<�
 use Rattle.std.proofs.Math.Logic.{∥∥₁_elim}
 use Rattle.std.proofs.lemmas.List.{length-map, get_or-map}
 use Rattle.std.proofs.lemmas.List.Elements.{All-nil, All-cons, All-head, All-tail}
-use Rattle.std.specs.List.{slice_get}
 use denote.Struct.Props.{props}
 use Rattle.cx_text.specs.Loading.{PlainMemory, FitsShape, FitsRows, word_count, with_words}
-use Rattle.cx_prim.specs.CellStates.{CellState, Stateless, Register, Memory, SequentialMemory, Multiplier, Divider, Timer, StateShape, MemoryOf, SequentialMemoryOf, AreWords, IsState, TakesWords, words_of}
+use Rattle.cx_prim.specs.CellStates.{CellState, StateShape, AreWords, IsState, TakesWords, words_of}
 use Rattle.cx_prim.specs.Table.{row_of}
 use Rattle.cx_meaning.specs.Designs.{PlainKind, OfPrimitive, OfComponent, PlainCell, PlainDesign, component_at}
-use Rattle.cx_meaning.specs.Instances.{Instance, Node, State, part_of, paths_of, instance_at, tree_of, if_external, externals_from}
+use Rattle.cx_meaning.specs.Instances.{State, part_of, instance_at, tree_of, if_external, externals_from}
 use Rattle.cx_meaning.specs.Instances as meaning
 use Rattle.cx_meaning.specs.Sights.{In}
 use Rattle.cx_rules.specs.Wellformed.{IsDesign, IsExternal, first_number}
 use Rattle.cx_rules.specs.Externals.{sizes_in, numbers_of, row_for, rows_of, external_rows}
 use Rattle.cx_rules.specs.Externals as externals
-use Rattle.cx_rules.proofs.CircleLemmas.{same_part}
-use Rattle.cx_state.proofs.TreeLemmas.{instance_self}
 use Rattle.cx_state.specs.declared.states.InstanceState.{InstanceState}
 use Rattle.cx_state.specs.States.{PlainInstance, plain_instance, no_instance, instance_state, HoldsKind, HoldCells, IsStateOf, StandsFor}
 use Rattle.cx_state.proofs.Shapes.{IsMemoryOf, memory_shape}
 use Rattle.cx_state.specs.Reading.{words_held, words_before, words_among, CanRead, ReadsNext, AreReadable}
 use Rattle.cx_state.proofs.WriteLemmas.{with_word}
-
--- a memory's state has its words
-words_plain : (width count : ℕ) (held : CellState) → IsState (MemoryOf width count) held → AreWords width count (words_of held)
-words_plain width count Stateless k = absurd k
-words_plain width count (Register value done) k = absurd k
-words_plain width count (Memory words done) k = k
-words_plain width count (SequentialMemory words read_data done) k = absurd k
-words_plain width count (Multiplier run product) k = absurd k
-words_plain width count (Divider run quotient remainder) k = absurd k
-words_plain width count (Timer count' done) k = absurd k
-
-words_sequential : (width count : ℕ) (held : CellState) → IsState (SequentialMemoryOf width count) held → AreWords width count (words_of held)
-words_sequential width count Stateless k = absurd k
-words_sequential width count (Register value done) k = absurd k
-words_sequential width count (Memory words done) k = absurd k
-words_sequential width count (SequentialMemory words read_data done) k = k.0
-words_sequential width count (Multiplier run product) k = absurd k
-words_sequential width count (Divider run quotient remainder) k = absurd k
-words_sequential width count (Timer count' done) k = absurd k
+use Rattle.cx_prim.proofs.CellStatesLemmas.{words_fit, sequential_words_fit}
+use Rattle.cx_meaning.proofs.InstancesLemmas.{main_there, main_first, here as instance_self}
+use Rattle.cx_text.proofs.LoadingLemmas.{same_shapes}
+use Rattle.cx_meaning.proofs.DesignsLemmas.{same_part}
 
 are_words : (shape : StateShape) (width count : ℕ) (held : CellState) → IsMemoryOf shape width count → IsState shape held → AreWords width count (words_of held)
-are_words shape width count held (inl e) k = words_plain width count held (subst (λ s. IsState s held) e k)
-are_words shape width count held (inr e) k = words_sequential width count held (subst (λ s. IsState s held) e k)
+are_words shape width count held (inl e) k = words_fit width count held (subst (λ s. IsState s held) e k)
+are_words shape width count held (inr e) k = sequential_words_fit width count held (subst (λ s. IsState s held) e k)
 
 pub takes_shape : (shape : StateShape) (width count : ℕ) (words : List ℕ) → IsMemoryOf shape width count → AreWords width count words → width ≤ 64 → TakesWords shape words
 takes_shape shape width count words (inl e) fit small = subst (λ s. TakesWords s words) (sym e) (fit, small)
@@ -132,23 +114,12 @@ words_mean (cell ∷ cells) (h ∷ hs) ms x k r at = by (λ ms r. words_mean cel
         ap (λ w. w ∷ words_among cells hs) (held_words cell.kind h m.words (x k) r.0 here)
         ∙ ap (λ ws. words_of (x k) ∷ ws) (rest ms r.1)
 
-same_shapes : (ms : List PlainMemory) (words : List (List ℕ)) → map (λ (m : PlainMemory). m.shape) (with_words ms words) ≡ map (λ (m : PlainMemory). m.shape) ms
-same_shapes [] words = refl
-same_shapes (m ∷ ms) [] = refl
-same_shapes (m ∷ ms) (ws ∷ words) = ap (λ rs. m.shape ∷ rs) (same_shapes ms words)
-
 pub external_kind : (d : PlainDesign) → ∥ IsDesign d ∥₁ → (cell : PlainCell) (kind : PlainKind) → cell.kind ≡ kind → In (component_at d d.main).cells cell → cell.external ≡ true → IsExternal d d.main kind
 external_kind d keeps cell (OfPrimitive p) e i x = ∥∥₁_elim keeps (hlevel props) (λ k. subst (IsExternal d d.main) e (((k.components d.main k.main_there).cells cell i).external x))
 external_kind d keeps cell (OfComponent j) e i x = ∥∥₁_elim keeps (hlevel props) (λ k. subst (IsExternal d d.main) e (((k.components d.main k.main_there).cells cell i).external x))
 
-pub main_first : (i : Instance) → slice_get (paths_of i) 0 ≡ Some []
-main_first (Node part cells) = refl
-
-main_counts : (i : Instance) → 0 < length (paths_of i)
-main_counts (Node part cells) = omega arith
-
 pub first_there : (d : PlainDesign) (rows : List PlainInstance) → IsStateOf d rows → 0 < length rows
-first_there d rows k = subst (λ n. 0 < n) (sym k.count) (main_counts (tree_of d))
+first_there d rows k = subst (λ n. 0 < n) (sym k.count) (main_there (tree_of d))
 
 pub first_index : (items : List InstanceState) → 0 < length (map plain_instance items) → 0 < length items
 first_index items lt = subst (λ n. 0 < n) (length-map items plain_instance) lt

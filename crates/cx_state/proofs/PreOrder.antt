@@ -1,17 +1,18 @@
 -- Numbers of instances in pre-order: where an instance stands, and where those at its cells do.
-use Rattle.std.proofs.Common.{◌≡◌, ℕ, zero, suc, ◌+◌, ◌-◌, ◌<◌, ◌≤◌, inl, inr, ◌⊎◌, ⊎_elim, List, [], ◌∷◌, ◌++◌, length, Option, Some, None, option_map, refl, sym, ap, ◌∙◌, subst, arith}
+use Rattle.std.proofs.Common.{◌≡◌, ℕ, zero, suc, ◌+◌, ◌-◌, ◌<◌, ◌≤◌, inl, inr, ◌⊎◌, ⊎_elim, List, [], ◌∷◌, ◌++◌, length, Some, option_map, refl, sym, ap, ◌∙◌, subst, arith}
 use Rattle.std.specs.List.{slice_get}
 use Rattle.std.proofs.lemmas.Bool.{cases_lt}
 use Rattle.std.proofs.lemmas.List.{length-map}
 use Rattle.std.proofs.lemmas.Option.{slice_get-map}
-use Rattle.cx_prim.specs.MemoryLaws.{slice_get-append}
 use Rattle.cx_prim.specs.Rows.{Row}
 use Rattle.cx_meaning.specs.Designs.{PlainComponent}
 use Rattle.cx_meaning.specs.Instances.{Instance, Node, Cells, no_cells, a_primitive, an_instance, OfInstance, cell_at, cells_of, Path, behind, paths_of, paths_below, instance_at, child_at}
 use Rattle.cx_rules.specs.Sizes.{instances_below, instances_in}
-use Rattle.cx_limits.proofs.Places.{none_is_some, below_length}
 use Rattle.cx_state.proofs.TreeLemmas.{count_paths}
-use Rattle.cx_state.proofs.StandLemmas.{get_left, shift}
+use Rattle.cx_state.proofs.StandLemmas.{shift}
+use Rattle.cx_text.proofs.OptionLaws.{map_some, none_is_some}
+use Rattle.cx_meaning.proofs.InstancesLemmas.{main_path}
+use Rattle.cx_text.proofs.ListLaws.{behind as slice_get-append, there_below, append-front}
 
 -- the instances at the cells before one
 abbrev pub before : Cells → ℕ → ℕ
@@ -65,13 +66,6 @@ pub record StandsBelow (cells : Cells) (k j : ℕ) (q : Path) : Type 0 where
       → slice_get (paths_below cells k) (suc (j + before (cells_of (child_at cells entered rest)) c)) ≡ Some ((k + entered) ∷ (rest ++ c ∷ []))
   pub parent : OuterParent cells j entered rest ⊎ InnerParent cells k j entered rest
 
-pub mapped_some : {A B : Type 0} (f : A → B) (o : Option A) (y : B) → option_map f o ≡ Some y → (x : A) × (o ≡ Some x) × (f x ≡ y)
-mapped_some f None y e = absurd (none_is_some y e)
-mapped_some f (Some x) y e = (x, refl, (let g : Some (f x) ≡ Some y = e in cc))
-
-first_path : (i : Instance) (q : Path) → slice_get (paths_of i) 0 ≡ Some q → q ≡ []
-first_path (Node part cells) q e = let f : Some [] ≡ Some q = e in cc
-
 -- behind a cell: the paths of its instance come first
 module _ (child : Instance) (rest : Cells) (k : ℕ) where
   size : length (behind k (paths_of child)) ≡ instances_below child
@@ -79,10 +73,10 @@ module _ (child : Instance) (rest : Cells) (k : ℕ) where
 
   inside : (j : ℕ) (x : Path) → slice_get (paths_of child) j ≡ Some x → slice_get (paths_below (an_instance child rest) k) j ≡ Some ((k + 0) ∷ x)
   inside j x e =
-      let lt : j < length (paths_of child) = below_length (paths_of child) j x e in
+      let lt : j < length (paths_of child) = there_below (paths_of child) j x e in
       let within : j < length (behind k (paths_of child)) = subst (λ n. j < n) (sym (length-map (paths_of child) (λ path. k ∷ path))) lt in
       let same : k ≡ k + 0 = omega arith in
-      get_left (behind k (paths_of child)) (paths_below rest (suc k)) j within
+      append-front (behind k (paths_of child)) (paths_below rest (suc k)) j within
       ∙ slice_get-map (λ path. k ∷ path) (paths_of child) j
       ∙ ap (option_map (λ path. k ∷ path)) e
       ∙ ap (λ n. Some (n ∷ x)) same
@@ -91,8 +85,8 @@ module _ (child : Instance) (rest : Cells) (k : ℕ) where
       → (x : Path) × (slice_get (paths_of child) j ≡ Some x) × (k ∷ x ≡ q)
   inside_back j q lt e =
       let within : j < length (behind k (paths_of child)) = omega (arith, size) in
-      mapped_some (λ x. k ∷ x) (slice_get (paths_of child) j) q
-      (sym (slice_get-map (λ x. k ∷ x) (paths_of child) j) ∙ sym (get_left (behind k (paths_of child)) (paths_below rest (suc k)) j within) ∙ e)
+      map_some (λ x. k ∷ x) (slice_get (paths_of child) j) q
+      (sym (slice_get-map (λ x. k ∷ x) (paths_of child) j) ∙ sym (append-front (behind k (paths_of child)) (paths_below rest (suc k)) j within) ∙ e)
 
   past : (j : ℕ) → slice_get (paths_below (an_instance child rest) k) (instances_below child + j) ≡ slice_get (paths_below rest (suc k)) j
   past j = slice_get-append (behind k (paths_of child)) (paths_below rest (suc k)) (instances_below child + j) j (omega (arith, size))
@@ -154,7 +148,7 @@ within_instance one cells k j q x at e b = record {
   room = (let r : j + instances_below (instance_at one x) ≤ instances_below one = b.room in omega arith);
   child = λ c child stands. inside one cells k (suc (j + before (cells_of (instance_at one x)) c)) (x ++ c ∷ []) (b.child c child stands);
   parent = ⊎_elim
-      (λ (z : j ≡ 0). inl (record { child = one; own = first_path one x (sym (ap (slice_get (paths_of one)) z) ∙ at); stands = refl; follows = z }))
+      (λ (z : j ≡ 0). inl (record { child = one; own = main_path one x (sym (ap (slice_get (paths_of one)) z) ∙ at); stands = refl; follows = z }))
       (λ (p : HasParent one j x). inr (record {
         number = p.number;
         path = p.path;
@@ -227,7 +221,7 @@ inner_stands part cells j q b = subst (Stands (Node part cells) (suc j)) (sym (b
 
 mutual
   pub stands : (i : Instance) (j : ℕ) (q : Path) → slice_get (paths_of i) j ≡ Some q → Stands i j q
-  stands (Node part cells) zero q e = own_stands part cells q (first_path (Node part cells) q e)
+  stands (Node part cells) zero q e = own_stands part cells q (main_path (Node part cells) q e)
   stands (Node part cells) (suc j) q e = inner_stands part cells j q (stands_below cells 0 j q e)
 
   stands_below : (cells : Cells) (k j : ℕ) (q : Path) → slice_get (paths_below cells k) j ≡ Some q → StandsBelow cells k j q

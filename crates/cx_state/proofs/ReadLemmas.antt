@@ -8,23 +8,24 @@ use Rattle.cx_prim.specs.CellStates.{CellState, Stateless}
 use Rattle.cx_prim.specs.Rows.{Row}
 use Rattle.cx_prim.specs.Table.{row_of}
 use Rattle.cx_meaning.specs.Designs.{PlainKind, OfPrimitive, OfComponent, PlainCell, PlainDesign, component_at}
-use Rattle.cx_meaning.specs.Instances.{Instance, Node, Cells, no_cells, a_primitive, an_instance, OfRow, add_cell, cells_for, cell_at, cells_of, part_of, Path, behind, paths_of, paths_below, instance_at, child_at, tree_within, tree_of}
+use Rattle.cx_meaning.specs.Instances.{Instance, Node, Cells, no_cells, a_primitive, an_instance, OfRow, add_cell, cells_for, cell_at, cells_of, part_of, Path, behind, paths_of, paths_below, instance_at, child_at, tree_of}
 use Rattle.cx_rules.specs.Sizes.{instances_below}
-use Rattle.cx_rules.proofs.CircleLemmas.{same_part}
-use Rattle.cx_limits.proofs.Places.{none_is_some, below_length}
 use Rattle.cx_state.specs.declared.tables.InstanceRow.{InstanceRow}
 use Rattle.cx_state.specs.Tables.{row_at, IsTable}
 use Rattle.cx_state.specs.States.{PlainInstance, instance_state, cell_held, StandsFor, HoldsKind, HoldCells, IsStateOf}
 use Rattle.cx_state.specs.ReadStates.{state_from, held_from, state_in}
-use Rattle.cx_state.proofs.StandLemmas.{get_left, size, past, shift, none_more, one_less, kind_skip}
-use Rattle.cx_state.proofs.PreOrder.{mapped_some}
+use Rattle.cx_state.proofs.StandLemmas.{size, past, shift, none_more, one_less}
+use Rattle.cx_meaning.proofs.InstancesLemmas.{some_cells, kind_skip}
+use Rattle.cx_meaning.proofs.DesignsLemmas.{same_part}
+use Rattle.cx_text.proofs.OptionLaws.{none_is_some, map_some}
+use Rattle.cx_text.proofs.ListLaws.{there_below, append-front}
 
 pub inside_back : (child : Instance) (rest : Cells) (k j : ℕ) (q : Path) → j < instances_below child → slice_get (paths_below (an_instance child rest) k) j ≡ Some q → (x : Path) × (slice_get (paths_of child) j ≡ Some x) × (k ∷ x ≡ q)
 inside_back child rest k j q lt e =
     let sized = size child rest k in
     let within : j < length (behind k (paths_of child)) = omega (arith, sized) in
-    mapped_some (λ x. k ∷ x) (slice_get (paths_of child) j) q
-    (sym (slice_get-map (λ x. k ∷ x) (paths_of child) j) ∙ sym (get_left (behind k (paths_of child)) (paths_below rest (suc k)) j within) ∙ e)
+    map_some (λ x. k ∷ x) (slice_get (paths_of child) j) q
+    (sym (slice_get-map (λ x. k ∷ x) (paths_of child) j) ∙ sym (append-front (behind k (paths_of child)) (paths_below rest (suc k)) j within) ∙ e)
 
 own_held : (cells : Cells) (own : ℕ → Option CellState) (rows : List PlainInstance) (n c : ℕ) (row : Row) (held : CellState) → cell_at cells c ≡ OfRow row → own c ≡ Some held → held_from cells own rows n c [] ≡ held
 own_held no_cells own rows n c row held at is = cc
@@ -104,16 +105,12 @@ cells_have trees (x ∷ xs) [] c held k e = absurd k
 cells_have trees (x ∷ xs) (h ∷ hs) zero held k e = kind_has trees x.kind (cells_for trees xs) h held k.0 e
 cells_have trees (x ∷ xs) (h ∷ hs) (suc c) held k e = let r = cells_have trees xs hs c held k.1 e in (r.0, kind_skip trees x.kind (cells_for trees xs) c ∙ r.1)
 
-pub some_cells : (d : PlainDesign) (n k : ℕ) → 0 < n → (trees : ℕ → Instance) × (cells_of (tree_within d n k) ≡ cells_for trees (component_at d k).cells)
-some_cells d zero k lt = absurd (omega arith)
-some_cells d (suc n) k lt = (tree_within d n, refl)
-
 pub rows_read : (d : PlainDesign) (table : List InstanceRow) (children : List ℕ) (rows : List PlainInstance) → IsTable d table children → IsStateOf d rows → StandsFor (tree_of d) rows (state_in (tree_of d) rows)
 rows_read d table children rows numbers state j c p held at is =
     reads (tree_of d) rows 0 j c p held has.0 at (let same : 0 + j ≡ j = omega arith in ap (λ m. cell_held rows m c) same ∙ is) has.1
   where
     inside : j < length table
-    inside = let lt = below_length (paths_of (tree_of d)) j p at in let count = numbers.count in omega (arith, lt, count)
+    inside = let lt = there_below (paths_of (tree_of d)) j p at in let count = numbers.count in omega (arith, lt, count)
 
     some : 0 < length d.components
     some = let there = numbers.there j inside in omega (arith, there)

@@ -17,6 +17,7 @@ use Rattle.cx_prim.specs.PipeRows.{multiplier_row, divider_row, timer_row}
 use Rattle.cx_prim.specs.Table.{PrimitiveRow, at_width, constant_at, slice_at, pad_at, memory_at, timer_at, row_at, no_row, row_of}
 use Rattle.cx_rules.specs.Wellformed.{first_number, is_memory}
 use Rattle.cx_rules.specs.Externals.{sizes_in}
+use Rattle.cx_text.proofs.BoolLaws.{and_both}
 
 -- a memory with this width and this many words
 abbrev pub IsMemoryOf : StateShape → ℕ → ℕ → Type 0
@@ -83,10 +84,6 @@ timer_none (n ∷ x ∷ rest) = refl
 timer_plain : (numbers : List ℕ) → Suits numbers (found_shape (timer_at numbers))
 timer_plain numbers = plain_suits numbers (found_shape (timer_at numbers)) (timer_none numbers)
 
-both_true : (b c : Bool) → (b && c) ≡ true → (b ≡ true) × (c ≡ true)
-both_true true c e = (refl, e)
-both_true false c e = absurd (let f : false ≡ true = e in cc)
-
 -- a memory of some dimensions
 dimension_shape : (d : ℕ) (make : ℕ → List ℕ → List ℕ → Row) → ((w : ℕ) (sizes widths : List ℕ) → IsMemoryOf (make w sizes widths).shape w (word_count sizes))
     → (numbers : List ℕ) → Suits numbers (found_shape (memory_at d make numbers))
@@ -94,7 +91,7 @@ dimension_shape d make h [] = plain_suits [] (found_shape None) refl
 dimension_shape d make h (w ∷ rest) = by (is_width w && (length rest == 2 * d)) (are_sizes (take d rest) && list_all is_address_width (drop d rest)) refl
   where
     half : (is_width w && (length rest == 2 * d)) ≡ true → length rest / 2 ≡ d
-    half e = let f : length rest ≡ 2 * d = eqb-true (length rest) (2 * d) (both_true (is_width w) (length rest == 2 * d) e).1 in omega arith
+    half e = let f : length rest ≡ 2 * d = eqb-true (length rest) (2 * d) (and_both (is_width w) (length rest == 2 * d) e).1 in omega arith
 
     by : (b c : Bool) → (is_width w && (length rest == 2 * d)) ≡ b → Suits (w ∷ rest) (found_shape (if b && c then Some (make w (take d rest) (drop d rest)) else None))
     by false c e = plain_suits (w ∷ rest) (found_shape None) refl

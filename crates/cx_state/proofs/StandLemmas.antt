@@ -4,21 +4,16 @@ use Rattle.std.specs.List.{slice_get}
 use Rattle.std.proofs.lemmas.List.{length-map}
 use Rattle.std.proofs.lemmas.Option.{slice_get-map}
 use Rattle.cx_prim.specs.CellStates.{CellState}
-use Rattle.cx_prim.specs.MemoryLaws.{slice_get-append}
 use Rattle.cx_prim.specs.Rows.{Row}
 use Rattle.cx_meaning.specs.Designs.{PlainKind, OfPrimitive, OfComponent, PlainCell, PlainDesign, component_at}
 use Rattle.cx_meaning.specs.Instances.{Instance, Node, Cells, no_cells, a_primitive, an_instance, OfRow, add_cell, cells_for, cell_at, cells_of, part_of, Path, State, under, behind, paths_of, paths_below, instance_at, child_at, tree_within, tree_of}
 use Rattle.cx_rules.specs.Sizes.{instances_below}
 use Rattle.cx_rules.proofs.CircleLemmas.{Reached, a_tree, no_tree, reached}
-use Rattle.cx_limits.proofs.Places.{below_length}
 use Rattle.cx_state.proofs.TreeLemmas.{count_paths}
 use Rattle.cx_state.specs.States.{PlainInstance, instance_state, cell_held, StandsFor, HoldsKind, HoldCells, FitsPart, IsStateOf}
 use Rattle.cx_state.proofs.AlikeLemmas.{Alike, AlikeBelow}
-
-pub get_left : {A : Type 0} (xs ys : List A) (i : ℕ) → i < length xs → slice_get (xs ++ ys) i ≡ slice_get xs i
-get_left [] ys i lt = absurd (omega arith)
-get_left (x ∷ xs) ys zero lt = refl
-get_left (x ∷ xs) ys (suc i) lt = get_left xs ys i (let h : suc i < suc (length xs) = lt in omega arith)
+use Rattle.cx_meaning.proofs.InstancesLemmas.{kind_skip}
+use Rattle.cx_text.proofs.ListLaws.{append-front, behind as slice_get-append, there_below}
 
 module _ (child : Instance) (rest : Cells) (k : ℕ) where
   pub size : length (behind k (paths_of child)) ≡ instances_below child
@@ -26,10 +21,10 @@ module _ (child : Instance) (rest : Cells) (k : ℕ) where
 
   inside : (j : ℕ) (x : Path) → slice_get (paths_of child) j ≡ Some x → slice_get (paths_below (an_instance child rest) k) j ≡ Some ((k + 0) ∷ x)
   inside j x e =
-      let lt : j < length (paths_of child) = below_length (paths_of child) j x e in
+      let lt : j < length (paths_of child) = there_below (paths_of child) j x e in
       let within : j < length (behind k (paths_of child)) = subst (λ n. j < n) (sym (length-map (paths_of child) (λ path. k ∷ path))) lt in
       let same : k ≡ k + 0 = omega arith in
-      get_left (behind k (paths_of child)) (paths_below rest (suc k)) j within
+      append-front (behind k (paths_of child)) (paths_below rest (suc k)) j within
       ∙ slice_get-map (λ path. k ∷ path) (paths_of child) j
       ∙ ap (option_map (λ path. k ∷ path)) e
       ∙ ap (λ n. Some (n ∷ x)) same
@@ -107,10 +102,6 @@ kind_holds : (trees : ℕ → Instance) (kind : PlainKind) (rest : Cells) (row :
 kind_holds trees (OfPrimitive p) rest row None k e = absurd k
 kind_holds trees (OfPrimitive p) rest row (Some held) k e = (held, refl)
 kind_holds trees (OfComponent j) rest row h k e = cc
-
-pub kind_skip : (trees : ℕ → Instance) (kind : PlainKind) (rest : Cells) (c : ℕ) → cell_at (add_cell trees kind rest) (suc c) ≡ cell_at rest c
-kind_skip trees (OfPrimitive p) rest c = refl
-kind_skip trees (OfComponent k) rest c = refl
 
 cells_hold : (trees : ℕ → Instance) (cells : List PlainCell) (hs : List (Option CellState)) (c : ℕ) (row : Row) → HoldCells cells hs → cell_at (cells_for trees cells) c ≡ OfRow row → (held : CellState) × (get_or hs c None ≡ Some held)
 cells_hold trees [] hs c row k e = cc

@@ -11,19 +11,19 @@ use Rattle.cx_prim.specs.CellStates.{CellState}
 use Rattle.cx_meaning.specs.declared.sights.Seen.{Seen}
 use Rattle.cx_meaning.specs.Designs.{PlainCell, PlainComponent, PlainDesign, component_at}
 use Rattle.cx_meaning.specs.Instances.{Instance, Node, Path, part_of, paths_of, instance_at, tree_of}
-use Rattle.cx_rules.proofs.CircleLemmas.{same_part}
 use Rattle.cx_design.specs.declared.cells.Cell.{Cell}
 use Rattle.cx_design.specs.declared.components.Component.{Component}
 use Rattle.cx_design.specs.PlainForms.{plain_cell, plain_component, plain_parts}
 use Rattle.cx_design.proofs.DesignFacts.{component_is}
-use Rattle.cx_state.proofs.TreeLemmas.{instance_self}
 use Rattle.cx_state.specs.declared.tables.InstanceRow.{InstanceRow}
 use Rattle.cx_state.specs.Tables.{IsNumber, no_row, row_at, IsTable}
 use Rattle.cx_state.specs.declared.states.InstanceState.{InstanceState}
 use Rattle.cx_state.specs.States.{PlainInstance, plain_instance, instance_state, HoldsKind, HoldCells, words_in, with_held, no_instance}
 use Rattle.cx_state.specs.Starts.{words_for, words_past, kind_started, started, KindTakes, TakeWords, words_of_main, IsStarted, AreStarted}
 use Rattle.cx_state.proofs.Takes.{take_none}
-use Rattle.cx_state.proofs.MainLemmas.{main_first}
+use Rattle.cx_text.proofs.ListLaws.{snoc_length}
+use Rattle.cx_meaning.proofs.DesignsLemmas.{same_part}
+use Rattle.cx_meaning.proofs.InstancesLemmas.{here as instance_self, main_first}
 
 -- THE NEXT WORDS
 words_drop : (memories : List LoadedMemory) (next : ℕ) (m : LoadedMemory) → next < length memories → drop next (words_in memories) ≡ (get_or memories next m).words.items ∷ drop (suc next) (words_in memories)
@@ -145,10 +145,6 @@ get_last (y ∷ ys) x = get_last ys x
 instances_snoc : (xs : List InstanceState) (x : InstanceState) → map plain_instance (xs ++ x ∷ []) ≡ map plain_instance xs ++ plain_instance x ∷ []
 instances_snoc [] x = refl
 instances_snoc (y ∷ ys) x = ap (λ zs. plain_instance y ∷ zs) (instances_snoc ys x)
-
-snoc_length : {A : Type 0} (xs : List A) (x : A) → length (xs ++ x ∷ []) ≡ suc (length xs)
-snoc_length [] x = refl
-snoc_length (y ∷ ys) x = ap suc (snoc_length ys x)
 
 pub started_begin : (d : PlainDesign) (ws : List (List ℕ)) (xs : List InstanceState) → xs ≡ [] → AreStarted d ws 0 (map plain_instance xs)
 started_begin d ws xs e = subst (λ ys. AreStarted d ws 0 (map plain_instance ys)) (sym e) (record { count = refl; each = λ m path lt at. absurd (omega arith) })

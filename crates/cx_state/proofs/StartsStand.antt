@@ -12,18 +12,17 @@ use Rattle.cx_meaning.specs.declared.sights.Seen.TheVariants.{Value, Undefined}
 use Rattle.cx_meaning.specs.Designs.{PlainKind, OfPrimitive, OfComponent, PlainCell, PlainDesign, component_at}
 use Rattle.cx_meaning.specs.Instances.{Instance, Node, Cells, no_cells, a_primitive, an_instance, OfRow, add_cell, cells_for, cell_at, cells_of, part_of, Path, paths_of, instance_at, child_at, tree_within, tree_of, just, start_at, start_below, start, loaded_at, externals_from, externals_of}
 use Rattle.cx_meaning.specs.Instances as meaning
-use Rattle.cx_limits.proofs.Places.{none_is_some, below_length, slice_get-replicate}
-use Rattle.cx_state.proofs.TreeLemmas.{instance_self}
+use Rattle.cx_design_sizes.proofs.Places.{slice_get-replicate}
 use Rattle.cx_state.specs.declared.tables.InstanceRow.{InstanceRow}
 use Rattle.cx_state.specs.Tables.{IsNumber, row_at, IsTable}
 use Rattle.cx_state.proofs.PreOrder.{HasParent, stands}
 use Rattle.cx_state.specs.States.{PlainInstance, instance_state, cell_held, StandsFor, IsStateOf, IsUnheld}
 use Rattle.cx_state.specs.Starts.{words_for, words_past, row_started, kind_started, started, words_of_main, IsStarted, AreStarted}
 use Rattle.cx_state.proofs.StartLemmas.{part_is}
-use Rattle.cx_state.proofs.ReadLemmas.{some_cells}
-use Rattle.cx_state.proofs.ChangeLemmas.{just_same}
 use Rattle.cx_state.proofs.Takes.{none_for, none_past}
-use Rattle.cx_state.proofs.StandLemmas.{kind_skip}
+use Rattle.cx_meaning.proofs.InstancesLemmas.{not_just, main_path, here, some_cells, just_same, kind_skip}
+use Rattle.cx_text.proofs.OptionLaws.{none_is_some}
+use Rattle.cx_text.proofs.ListLaws.{there_below}
 
 -- the words for cell c
 abbrev words_at : List PlainCell → List (List ℕ) → ℕ → Option (List ℕ)
@@ -65,14 +64,8 @@ row_with : (row : Row) (o : Option (List ℕ)) → row_started row o ≡ with_op
 row_with row None = refl
 row_with row (Some words) = refl
 
-just_other : (k c : ℕ) → (c ≡ k → ⊥) → just k c ≡ false
-just_other zero zero h = absurd (h refl)
-just_other zero (suc c) h = refl
-just_other (suc k) zero h = refl
-just_other (suc k) (suc c) h = just_other k c (λ e. h (ap suc e))
-
 skip_one : (es : List ℕ) (k c : ℕ) (w : List ℕ) (ws : List (List ℕ)) (d : CellState) → (c ≡ k → ⊥) → loaded_at (k ∷ es) (w ∷ ws) c d ≡ loaded_at es ws c d
-skip_one es k c w ws d h = ap (λ b. if b then with_words w d else loaded_at es ws c d) (just_other k c h)
+skip_one es k c w ws d h = ap (λ b. if b then with_words w d else loaded_at es ws c d) (not_just k c h)
 
 not_listed : (cells : List PlainCell) (k c : ℕ) (ws : List (List ℕ)) (d : CellState) → c < k → loaded_at (externals_from k cells) ws c d ≡ d
 not_listed [] k c ws d lt = refl
@@ -130,14 +123,11 @@ deep_start i ws [] x c = refl
 deep_start i ws (y ∷ []) x c = refl
 deep_start i ws (y ∷ z ∷ above) x c = refl
 
-main_path : (i : Instance) (path : Path) → slice_get (paths_of i) 0 ≡ Some path → path ≡ []
-main_path (Node part cells) path e = let f : Some [] ≡ Some path = e in cc
-
 module _ (d : PlainDesign) (rows : List InstanceRow) (children : List ℕ) (ws : List (List ℕ)) (xs : List PlainInstance) (table : IsTable d rows children) (all : AreStarted d ws (length (paths_of (tree_of d))) xs) where
   own_start : (n c : ℕ) (path : Path) (held : CellState) → IsNumber d n path → cell_held xs n c ≡ Some held
       → (row : Row) × (cell_at (cells_of (instance_at (tree_of d) path)) c ≡ OfRow row) × (held ≡ row_started row (words_at (part_of (instance_at (tree_of d) path)).cells (words_of_main n ws) c))
   own_start n c path held at e =
-      let lt : n < length (paths_of (tree_of d)) = below_length (paths_of (tree_of d)) n path at in
+      let lt : n < length (paths_of (tree_of d)) = there_below (paths_of (tree_of d)) n path at in
       let inside : n < length rows = (let count = table.count in omega (arith, count)) in
       let some : 0 < length d.components = (let there = table.there n inside in omega (arith, there)) in
       let one : IsStarted (part_of (instance_at (tree_of d) path)) (words_of_main n ws) (instance_state xs n) = all.each n path lt at in
@@ -153,7 +143,7 @@ module _ (d : PlainDesign) (rows : List InstanceRow) (children : List ℕ) (ws :
   starts_stand zero c path held at e =
       let own = own_start zero c path held at e in
       let none : path ≡ [] = main_path (tree_of d) path at in
-      let self : instance_at (tree_of d) path ≡ tree_of d = ap (instance_at (tree_of d)) none ∙ instance_self (tree_of d) in
+      let self : instance_at (tree_of d) path ≡ tree_of d = ap (instance_at (tree_of d)) none ∙ here (tree_of d) in
       let row_start : start_at (tree_of d) (c ∷ []) ≡ own.0.start = ap (λ p. start_at (tree_of d) (p ++ c ∷ [])) (sym none) ∙ started_deep (tree_of d) path c own.0 own.1 in
       let zero_and : c ≡ 0 + c = omega arith in
       ap (λ p. start (tree_of d) ws (p ++ c ∷ [])) none
@@ -176,7 +166,7 @@ module _ (d : PlainDesign) (rows : List InstanceRow) (children : List ℕ) (ws :
   starts_fit = record {
     count = all.count;
     fits = λ n path at.
-        let lt : n < length (paths_of (tree_of d)) = below_length (paths_of (tree_of d)) n path at in
+        let lt : n < length (paths_of (tree_of d)) = there_below (paths_of (tree_of d)) n path at in
         let one : IsStarted (part_of (instance_at (tree_of d) path)) (words_of_main n ws) (instance_state xs n) = all.each n path lt at in
         record {
           cells = one.fits;

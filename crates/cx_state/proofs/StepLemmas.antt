@@ -1,27 +1,21 @@
 -- The step that is found leads to the instance of the number.
-use Rattle.std.proofs.Common.{◌≡◌, ℕ, zero, suc, ◌+◌, ◌-◌, ◌^◌, ◌<◌, ◌≤◌, nat_lt, Bool, true, false, inl, inr, ⊎_elim, List, [], ◌∷◌, ◌++◌, length, get_or, Option, Some, None, option_map, refl, sym, ap, ◌∙◌, subst, arith, if◌then◌else◌}
+use Rattle.std.proofs.Common.{◌≡◌, ℕ, zero, suc, ◌+◌, ◌-◌, ◌^◌, ◌<◌, ◌≤◌, nat_lt, Bool, false, inl, inr, ⊎_elim, List, [], ◌∷◌, ◌++◌, length, get_or, Option, Some, None, option_map, refl, sym, ap, ◌∙◌, subst, arith, if◌then◌else◌}
 use Rattle.std.specs.List.{slice_get}
-use Rattle.std.proofs.lemmas.Bool.{cases_lt, ltb-true, lt-ltb}
+use Rattle.std.proofs.lemmas.Bool.{cases_lt, ltb-true, lt-ltb, false_from_ne_true}
 use Rattle.std.proofs.lemmas.List.{length-map}
 use Rattle.std.proofs.lemmas.Option.{slice_get-map}
-use Rattle.cx_prim.specs.MemoryLaws.{slice_get-append}
 use Rattle.cx_meaning.specs.Designs.{PlainKind, OfPrimitive, OfComponent, PlainCell}
 use Rattle.cx_meaning.specs.Instances.{Instance, Path, add_cell, cells_for, behind, paths_of, paths_below}
 use Rattle.cx_meaning.specs.Sights.{In}
 use Rattle.cx_rules.specs.Sizes.{instances_below}
-use Rattle.cx_limits.specs.Capped.{capped}
-use Rattle.cx_limits.specs.declared.tallies.LimitTally.{LimitTally}
-use Rattle.cx_limits.specs.Tallies.{tally_of, no_tally}
-use Rattle.cx_limits.proofs.Places.{none_is_some}
+use Rattle.cx_design_sizes.specs.Capped.{capped}
+use Rattle.cx_design_sizes.specs.declared.tallies.LimitTally.{LimitTally}
+use Rattle.cx_design_sizes.specs.Tallies.{tally_of, no_tally}
 use Rattle.cx_state.specs.declared.steps.Step.{Step}
 use Rattle.cx_state.specs.Steps.{instances_at, component_in, step_below}
 use Rattle.cx_state.proofs.TreeLemmas.{count_paths}
-use Rattle.cx_state.proofs.StandLemmas.{get_left}
-use Rattle.cx_state.proofs.PreOrder.{mapped_some}
-
-not_true : (b : Bool) → (b ≡ true → ⊥) → b ≡ false
-not_true true h = absurd (h refl)
-not_true false h = refl
+use Rattle.cx_text.proofs.ListLaws.{behind as slice_get-append, append-front}
+use Rattle.cx_text.proofs.OptionLaws.{none_is_some, map_some}
 
 -- a step among cells from the number c on, to the instance that is number r below them, whose path this is
 pub record IsStep (trees : ℕ → Instance) (cells : List PlainCell) (c r : ℕ) (path : Path) (step : Step) : Type 0 where
@@ -74,7 +68,7 @@ found_kind trees tallies first cells c r path (OfPrimitive p) small is known lat
     same = omega arith
 
     none : nat_lt r 0 ≡ false
-    none = not_true (nat_lt r 0) (λ h. (let lt : r < 0 = ltb-true r 0 h in omega arith))
+    none = false_from_ne_true (nat_lt r 0) (λ h. (let lt : r < 0 = ltb-true r 0 h in omega arith))
 found_kind trees tallies first cells c r path (OfComponent j) small is known later e = ⊎_elim inside past (cases_lt r (instances_below (trees j)))
   where
     own : List Path
@@ -89,8 +83,8 @@ found_kind trees tallies first cells c r path (OfComponent j) small is known lat
     inside : r < instances_below (trees j) → IsStepOf trees (first ∷ cells) c r path (step_at tallies (OfComponent j) cells c r (nat_lt r (instances_at tallies (OfComponent j))))
     inside lt =
         let in_own : r < length (behind c (paths_of (trees j))) = omega (arith, size) in
-        let here : slice_get (behind c (paths_of (trees j))) r ≡ Some path = sym (get_left (behind c (paths_of (trees j))) (paths_below (cells_for trees cells) (suc c)) r in_own) ∙ e in
-        let q : (x : Path) × (slice_get (paths_of (trees j)) r ≡ Some x) × (c ∷ x ≡ path) = mapped_some (λ x. c ∷ x) (slice_get (paths_of (trees j)) r) path (sym (slice_get-map (λ x. c ∷ x) (paths_of (trees j)) r) ∙ here) in
+        let here : slice_get (behind c (paths_of (trees j))) r ≡ Some path = sym (append-front (behind c (paths_of (trees j))) (paths_below (cells_for trees cells) (suc c)) r in_own) ∙ e in
+        let q : (x : Path) × (slice_get (paths_of (trees j)) r ≡ Some x) × (c ∷ x ≡ path) = map_some (λ x. c ∷ x) (slice_get (paths_of (trees j)) r) path (sym (slice_get-map (λ x. c ∷ x) (paths_of (trees j)) r) ∙ here) in
         let within : r < instances_at tallies (OfComponent j) = subst (λ n. r < n) (sym count) (omega arith) in
         subst (λ b. IsStepOf trees (first ∷ cells) c r path (step_at tallies (OfComponent j) cells c r b)) (sym (lt-ltb r (instances_at tallies (OfComponent j)) within))
         (record {
@@ -109,7 +103,7 @@ found_kind trees tallies first cells c r path (OfComponent j) small is known lat
     past ge =
         let whole : instances_at tallies (OfComponent j) ≡ instances_below (trees j) = count ∙ (let z : capped (instances_below (trees j)) ≡ instances_below (trees j) = omega arith in z) in
         let none : nat_lt r (instances_at tallies (OfComponent j)) ≡ false =
-        not_true (nat_lt r (instances_at tallies (OfComponent j))) (λ h. (let lt : r < instances_at tallies (OfComponent j) = ltb-true r (instances_at tallies (OfComponent j)) h in omega (arith, whole))) in
+        false_from_ne_true (nat_lt r (instances_at tallies (OfComponent j))) (λ h. (let lt : r < instances_at tallies (OfComponent j) = ltb-true r (instances_at tallies (OfComponent j)) h in omega (arith, whole))) in
         let split : r ≡ length (behind c (paths_of (trees j))) + (r - instances_at tallies (OfComponent j)) = omega (arith, whole, size) in
         let there : slice_get (paths_below (cells_for trees cells) (suc c)) (r - instances_at tallies (OfComponent j)) ≡ Some path =
         sym (slice_get-append (behind c (paths_of (trees j))) (paths_below (cells_for trees cells) (suc c)) r (r - instances_at tallies (OfComponent j)) split) ∙ e in

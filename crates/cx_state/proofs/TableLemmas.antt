@@ -13,18 +13,22 @@ use Rattle.cx_rules.specs.LimitRule.{OnInstances, order_of, word_of}
 use Rattle.cx_rules.specs.Spots.{Whole}
 use Rattle.cx_rules.specs.Ports.{component_of}
 use Rattle.cx_rules.specs.Sizes.{instances_below, instances_in}
-use Rattle.cx_limits.specs.Capped.{capped}
-use Rattle.cx_limits.specs.declared.tallies.LimitTally.{LimitTally}
-use Rattle.cx_limits.specs.Orders.{IsChildrenFirst}
-use Rattle.cx_limits.specs.Tallies.{AreTallied}
-use Rattle.cx_limits.proofs.Places.{none_is_some, below_length, in_from_place}
-use Rattle.cx_limits.proofs.TallyLemmas.{tally_main}
-use Rattle.cx_state.proofs.TreeLemmas.{count_paths, instance_self, child_in, tree_is}
+use Rattle.cx_design_sizes.specs.Capped.{capped}
+use Rattle.cx_design_sizes.specs.declared.tallies.LimitTally.{LimitTally}
+use Rattle.cx_design_sizes.specs.Orders.{IsChildrenFirst}
+use Rattle.cx_design_sizes.specs.Tallies.{AreTallied}
+use Rattle.cx_design_sizes.proofs.TallyLemmas.{tally_main}
+use Rattle.cx_state.proofs.TreeLemmas.{count_paths, child_in, tree_is}
 use Rattle.cx_state.specs.declared.tables.InstanceRow.{InstanceRow}
 use Rattle.cx_state.specs.Tables.{IsNumber, no_row, row_at, IsAbove, IsTable}
 use Rattle.cx_state.specs.Filling.{total, total_before, HaveSome, numbered, placed}
 use Rattle.cx_state.proofs.PreOrder.{before, HasParent, stands}
 use Rattle.cx_state.proofs.FillLemmas.{AreCounted, counted, have_some, total_is, before_is, length_numbered, number_at, new_row, placed_length, placed_low, placed_there, IsNew, placed_or}
+use Rattle.cx_meaning.proofs.InstancesLemmas.{kind_skip, here as instance_self}
+use Rattle.cx_state.proofs.TablesLemmas.{one_path}
+use Rattle.cx_text.proofs.OptionLaws.{none_is_some}
+use Rattle.cx_text.proofs.ListLaws.{there_below}
+use Rattle.cx_meaning.proofs.SightsLaws.{in_at}
 
 -- main, or an instance whose instance above comes before number n
 abbrev Reached : PlainDesign → ℕ → ℕ → Path → Type 0
@@ -61,7 +65,7 @@ begin d order rows r first made main = record {
     start : (m : ℕ) (path : Path) → IsNumber d m path → m ≡ 0 → RowIs d order m path (row_at rows m)
     start m path at z =
         let here : IsNumber d 0 path = ap (slice_get (paths_of (tree_of d))) (sym z) ∙ at in
-        let some : 0 < length (paths_of (tree_of d)) = below_length (paths_of (tree_of d)) 0 path here in
+        let some : 0 < length (paths_of (tree_of d)) = there_below (paths_of (tree_of d)) 0 path here in
         let sized : length (paths_of (tree_of d)) ≡ instances_below (tree_of d) = count_paths (tree_of d) in
         let own : row_at rows m ≡ r = ap (row_at rows) z ∙ ap (λ xs. row_at xs 0) made ∙ get_or-replicate (instances_below (tree_of d)) 0 r no_row (omega arith) in
         let component : (row_at rows m).component ≡ d.main = ap (λ x. x.component) own ∙ main in
@@ -132,10 +136,6 @@ kind_stands : (trees : ℕ → Instance) (kind : PlainKind) (rest : Cells) (chil
 kind_stands trees (OfPrimitive p) rest child e = cc
 kind_stands trees (OfComponent j) rest child e = (j, refl, (let f : OfInstance (trees j) ≡ OfInstance child = e in cc))
 
-kind_skip : (trees : ℕ → Instance) (kind : PlainKind) (rest : Cells) (c : ℕ) → cell_at (add_cell trees kind rest) (suc c) ≡ cell_at rest c
-kind_skip trees (OfPrimitive p) rest c = refl
-kind_skip trees (OfComponent j) rest c = refl
-
 pub record IsPart (trees : ℕ → Instance) (cells : List PlainCell) (c : ℕ) (child : Instance) : Type 0 where
   pub cell : PlainCell
   pub component : ℕ
@@ -201,9 +201,6 @@ child_number d order tallies n k c child h e =
     let number : n + 1 + total_before tallies (component_at d k).cells c ≡ suc (n + before (cells_of (instance_at (tree_of d) h.path)) c) = omega (arith, same) in
     ap (slice_get (paths_of (tree_of d))) number ∙ (stands (tree_of d) n h.path h.at).child c child e
 
-same_path : (d : PlainDesign) (m : ℕ) (p q : Path) → IsNumber d m p → IsNumber d m q → p ≡ q
-same_path d m p q a b = let e : Some p ≡ Some q = sym a ∙ b in cc
-
 -- a row that is as before
 row_kept : (d : PlainDesign) (order : List ℕ) (m : ℕ) (path : Path) (a b : InstanceRow) → a.component ≡ b.component → a.parent ≡ b.parent → a.cell ≡ b.cell → RowIs d order m path b → RowIs d order m path a
 row_kept d order m path a b component parent cell r = record {
@@ -223,11 +220,11 @@ module _ (d : PlainDesign) (order : List ℕ) (tallies : List LimitTally) (n : �
       let stands_there : cell_at (cells_of (instance_at (tree_of d) h.path)) c ≡ OfInstance (component_of d j) =
       ap (λ i. cell_at (cells_of i) c) h.is ∙ part_stands (component_of d) (component_at d (row_at rows n).component).cells c j cell at is in
       let number : IsNumber d m (h.path ++ c ∷ []) = ap (slice_get (paths_of (tree_of d))) e ∙ child_number d order tallies n (row_at rows n).component c (component_of d j) h stands_there in
-      let same : path ≡ h.path ++ c ∷ [] = same_path d m path (h.path ++ c ∷ []) here number in
+      let same : path ≡ h.path ++ c ∷ [] = one_path d m path (h.path ++ c ∷ []) here number in
       let zero_and : 0 + c ≡ c = omega arith in
       record {
         is = ap (instance_at (tree_of d)) same ∙ further (tree_of d) h.path c (component_of d j) stands_there;
-        listed = child_in d order first (row_at rows n).component j cell h.listed (in_from_place (component_at d (row_at rows n).component).cells c cell at) is;
+        listed = child_in d order first (row_at rows n).component j cell h.listed (in_at (component_at d (row_at rows n).component).cells c cell at) is;
         above = inr (h.path, h.at, same ∙ ap (λ x. h.path ++ x ∷ []) (sym zero_and));
       }
 
@@ -247,7 +244,7 @@ module _ (d : PlainDesign) (order : List ℕ) (tallies : List LimitTally) (n : �
 
   now_reached : (m : ℕ) (path : Path) → IsNumber d m path → (p : HasParent (tree_of d) m path) → p.number ≡ n → RowIs d order m path (row_at rows2 m)
   now_reached m path at p e =
-      let above : p.path ≡ h.path = same_path d n p.path h.path (ap (slice_get (paths_of (tree_of d))) (sym e) ∙ p.at) h.at in
+      let above : p.path ≡ h.path = one_path d n p.path h.path (ap (slice_get (paths_of (tree_of d))) (sym e) ∙ p.at) h.at in
       let own_cells : cells_of (instance_at (tree_of d) p.path) ≡ cells_for (component_of d) (component_at d (row_at rows n).component).cells = ap (λ q. cells_of (instance_at (tree_of d) q)) above ∙ ap cells_of h.is in
       let part : IsPart (component_of d) (component_at d (row_at rows n).component).cells p.cell p.child =
       part_at (component_of d) (component_at d (row_at rows n).component).cells p.cell p.child (sym (ap (λ cs. cell_at cs p.cell) own_cells) ∙ p.stands) in
@@ -300,7 +297,7 @@ module _ (d : PlainDesign) (order : List ℕ) (tallies : List LimitTally) (n : �
         child = λ c child e.
             let part : IsPart (component_of d) (component_at d (row_at rows n).component).cells c child =
             part_at (component_of d) (component_at d (row_at rows n).component).cells c child (sym (ap (λ i. cell_at (cells_of i) c) h.is) ∙ e) in
-            let lt : c < length (component_at d (row_at rows n).component).cells = below_length (component_at d (row_at rows n).component).cells c part.cell part.stands in
+            let lt : c < length (component_at d (row_at rows n).component).cells = there_below (component_at d (row_at rows n).component).cells c part.cell part.stands in
             let g = grown in (
               omega (arith, g),
               ap (λ xs. slice_get (paths_of (tree_of d)) (get_or xs (length children + c) 0)) t.numbers
@@ -318,7 +315,7 @@ module _ (d : PlainDesign) (order : List ℕ) (tallies : List LimitTally) (n : �
         ⊎_elim (λ (less : m < n). done_before m path less (filled.done m path at less))
         (λ (le : n ≤ m).
         let e : m ≡ n = omega arith in
-        let same : path ≡ h.path = same_path d n path h.path (ap (slice_get (paths_of (tree_of d))) (sym e) ∙ at) h.at in
+        let same : path ≡ h.path = one_path d n path h.path (ap (slice_get (paths_of (tree_of d))) (sym e) ∙ at) h.at in
         subst (λ x. CellsAre d path (row_at rows2 x).first children2) (sym e) (subst (λ q. CellsAre d q (row_at rows2 n).first children2) (sym same) done_now))
         (cases_lt m n);
   }
@@ -336,7 +333,7 @@ finish d order n rows children first filled all = record {
   where
     below : (m : ℕ) (path : Path) → IsNumber d m path → m < n
     below m path at =
-        let lt : m < length (paths_of (tree_of d)) = below_length (paths_of (tree_of d)) m path at in
+        let lt : m < length (paths_of (tree_of d)) = there_below (paths_of (tree_of d)) m path at in
         let sized = count_paths (tree_of d) in
         omega (arith, sized)
 

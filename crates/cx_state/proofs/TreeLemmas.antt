@@ -9,8 +9,10 @@ use Rattle.cx_meaning.specs.Instances.{Instance, Node, Cells, no_cells, a_primit
 use Rattle.cx_meaning.specs.Sights.{In}
 use Rattle.cx_rules.specs.Ports.{component_of}
 use Rattle.cx_rules.specs.Sizes.{instances_below, instances_in}
-use Rattle.cx_limits.specs.Orders.{IsChildrenFirst}
-use Rattle.cx_limits.proofs.Places.{none_is_some, in_snoc, place_of_in}
+use Rattle.cx_design_sizes.specs.Orders.{IsChildrenFirst}
+use Rattle.cx_design_sizes.proofs.Places.{in_snoc}
+use Rattle.cx_text.proofs.OptionLaws.{none_is_some}
+use Rattle.cx_meaning.proofs.SightsLaws.{number_in}
 
 in_take : {A : Type 0} (xs : List A) (i : ℕ) (x : A) → In (take i xs) x → In xs x
 in_take xs zero x h = absurd h
@@ -21,7 +23,7 @@ in_take (y ∷ xs) (suc i) x (inr h) = inr (in_take xs i x h)
 -- a component of a cell is in the order too
 pub child_in : (d : PlainDesign) (order : List ℕ) → IsChildrenFirst d order → (k j : ℕ) (cell : PlainCell) → In order k → In (component_at d k).cells cell → cell.kind ≡ OfComponent j → In order j
 child_in d order first k j cell here i e =
-    let q : (n : ℕ) × (slice_get order n ≡ Some k) = place_of_in order k here in
+    let q : (n : ℕ) × (slice_get order n ≡ Some k) = number_in order k here in
     in_take order q.0 j (first.behind q.0 k j cell q.1 i e)
 
 -- LEVELS: with enough of them a tree is always the same
@@ -85,10 +87,6 @@ mutual
       let others : length (paths_below rest (suc c)) ≡ instances_in rest = count_below rest (suc c) in
       let sum : length (behind c (paths_of child) ++ paths_below rest (suc c)) ≡ length (behind c (paths_of child)) + length (paths_below rest (suc c)) = length-append (behind c (paths_of child)) (paths_below rest (suc c)) in
       omega arith
-
--- THE INSTANCE at a path that begins with a cell
-pub instance_self : (i : Instance) → instance_at i [] ≡ i
-instance_self (Node part cells) = refl
 
 skip : (trees : ℕ → Instance) (kind : PlainKind) (rest : Cells) (c : ℕ) (path : Path) → child_at (add_cell trees kind rest) (suc c) path ≡ child_at rest c path
 skip trees (OfPrimitive p) rest c path = refl

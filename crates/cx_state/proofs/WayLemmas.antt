@@ -9,15 +9,17 @@ use Rattle.cx_meaning.specs.Sights.{In}
 use Rattle.cx_rules.specs.Ports.{component_of, cell_name, path_of}
 use Rattle.cx_design.specs.declared.cells.Cell.{Cell}
 use Rattle.cx_design.specs.PlainForms.{plain_cell}
-use Rattle.cx_limits.specs.declared.tallies.LimitTally.{LimitTally}
-use Rattle.cx_limits.specs.Orders.{IsChildrenFirst}
-use Rattle.cx_limits.specs.Tallies.{AreTallied}
-use Rattle.cx_limits.proofs.Places.{below_length, in_from_place}
+use Rattle.cx_design_sizes.specs.declared.tallies.LimitTally.{LimitTally}
+use Rattle.cx_design_sizes.specs.Orders.{IsChildrenFirst}
+use Rattle.cx_design_sizes.specs.Tallies.{AreTallied}
 use Rattle.cx_state.specs.declared.steps.Step.{Step}
 use Rattle.cx_state.specs.Paths.{names_along, full_path}
 use Rattle.cx_state.specs.Steps.{step_below, next_step}
-use Rattle.cx_state.proofs.TreeLemmas.{child_in, tree_is, instance_self, child_is}
+use Rattle.cx_state.proofs.TreeLemmas.{child_in, tree_is, child_is}
 use Rattle.cx_state.proofs.StepLemmas.{IsStepOf, found}
+use Rattle.cx_text.proofs.ListLaws.{there_below}
+use Rattle.cx_meaning.proofs.SightsLaws.{in_at}
+use Rattle.cx_meaning.proofs.InstancesLemmas.{here as instance_self}
 
 -- so far: what is written, and behind it the path from the component that is reached
 pub record IsOnWay (d : PlainDesign) (order : List ℕ) (port : PortRef) (whole : List ℕ) (k left : ℕ) (text : List ℕ) : Type 0 where
@@ -78,7 +80,7 @@ turn_of d order tallies port whole k left text first known way = by left way.sma
         let cell_is : slice_get (component_at d k).cells step.cell ≡ Some h.entered = ap (slice_get (component_at d k).cells) (h.at ∙ (let z : 0 + h.number ≡ h.number = omega arith in z)) ∙ h.stands in
         record {
           further = record {
-            here = child_in d order first k step.component h.entered way.here (in_from_place (component_at d k).cells step.cell h.entered cell_is) h.leads;
+            here = child_in d order first k step.component h.entered way.here (in_at (component_at d k).cells step.cell h.entered cell_is) h.leads;
             small = bounded h.less small;
             path = h.rest;
             at = h.below;
@@ -91,7 +93,7 @@ turn_of d order tallies port whole k left text first known way = by left way.sma
                 ∙ way.told;
           };
           less = under h.less;
-          within = below_length (component_at d k).cells step.cell h.entered cell_is;
+          within = there_below (component_at d k).cells step.cell h.entered cell_is;
         }
       where
         under : step.left ≤ r → step.left < suc r

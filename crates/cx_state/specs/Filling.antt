@@ -2,7 +2,7 @@
 use Rattle.std.specs.Prelude.{◌≡◌, ℕ, zero, suc, ◌+◌, ◌≤◌, List, [], ◌∷◌, set}
 use Rattle.cx_meaning.specs.Designs.{PlainKind, OfPrimitive, OfComponent, PlainCell}
 use Rattle.cx_meaning.specs.Sights.{In}
-use Rattle.cx_limits.specs.declared.tallies.LimitTally.{LimitTally}
+use Rattle.cx_design_sizes.specs.declared.tallies.LimitTally.{LimitTally}
 use Rattle.cx_state.specs.Steps.{instances_at}
 use Rattle.cx_state.specs.declared.tables.InstanceRow.{InstanceRow}
 

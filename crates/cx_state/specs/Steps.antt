@@ -1,8 +1,8 @@
 -- The way down the instance tree by the number of an instance.
 use Rattle.std.specs.Prelude.{ℕ, zero, suc, ◌-◌, nat_lt, List, [], ◌∷◌, Option, Some, None, get_or, if◌then◌else◌}
 use Rattle.cx_meaning.specs.Designs.{PlainKind, OfPrimitive, OfComponent, PlainCell}
-use Rattle.cx_limits.specs.declared.tallies.LimitTally.{LimitTally}
-use Rattle.cx_limits.specs.Tallies.{no_tally}
+use Rattle.cx_design_sizes.specs.declared.tallies.LimitTally.{LimitTally}
+use Rattle.cx_design_sizes.specs.Tallies.{no_tally}
 use Rattle.cx_state.specs.declared.steps.Step.{Step}
 
 abbrev pub instances_at : List LimitTally → PlainKind → ℕ

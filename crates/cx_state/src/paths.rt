@@ -5,14 +5,14 @@ ghost use Rattle.cx_meaning.specs.Instances.{paths_of, tree_of};
 ghost use Rattle.cx_rules.specs.Ports.{cell_name};
 ghost use Rattle.cx_design.specs.PlainForms.{plain_component};
 ghost use Rattle.cx_design.specs.PlainDesigns.{plain_design};
-ghost use Rattle.cx_limits.specs.Orders.{IsChildrenFirst};
-ghost use Rattle.cx_limits.specs.Tallies.{AreTallied};
+ghost use Rattle.cx_design_sizes.specs.Orders.{IsChildrenFirst};
+ghost use Rattle.cx_design_sizes.specs.Tallies.{AreTallied};
 ghost use Rattle.cx_state.specs.Paths.{TellsPort};
 
 use crate::steps::next_step;
 use cx_design::{Component, Design, PortRef};
 use cx_design_parts::path;
-use cx_limits::{LimitTally, children_first, component_tallies};
+use cx_design_sizes::{LimitTally, children_first, component_tallies};
 use cx_text::{Memory, Name};
 use std::alloc::Global;
 

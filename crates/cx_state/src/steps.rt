@@ -5,7 +5,7 @@ ghost use Rattle.cx_design.specs.PlainForms.{plain_cell};
 ghost use Rattle.cx_state.specs.Steps as steps;
 
 use cx_design::{Cell, CellKind};
-use cx_limits::LimitTally;
+use cx_design_sizes::LimitTally;
 
 /// The cell that leads down, its component, and the number of the instance in the tree below it.
 #[derive(Clone, Copy, Debug, PartialEq, Eq)]

@@ -6,14 +6,14 @@ ghost use Rattle.cx_meaning.specs.Instances.{tree_of};
 ghost use Rattle.cx_rules.specs.Sizes.{instances_below};
 ghost use Rattle.cx_design.specs.PlainForms.{plain_cell, plain_kind};
 ghost use Rattle.cx_design.specs.PlainDesigns.{plain_design};
-ghost use Rattle.cx_limits.specs.Orders.{IsChildrenFirst};
-ghost use Rattle.cx_limits.specs.Tallies.{AreTallied};
+ghost use Rattle.cx_design_sizes.specs.Orders.{IsChildrenFirst};
+ghost use Rattle.cx_design_sizes.specs.Tallies.{AreTallied};
 ghost use Rattle.cx_state.specs.Steps as steps;
 ghost use Rattle.cx_state.specs.Tables.{IsTable};
 ghost use Rattle.cx_state.specs.Filling.{HaveSome, numbered, placed, row_placed, total};
 
 use cx_design::{Cell, CellKind, Checked, Design};
-use cx_limits::{LimitTally, children_first, component_tallies};
+use cx_design_sizes::{LimitTally, children_first, component_tallies};
 use cx_text::Memory;
 use std::alloc::Global;
 

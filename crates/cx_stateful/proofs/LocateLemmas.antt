@@ -2,14 +2,15 @@
 use Rattle.std.specs.Prelude.{◌≡◌, ℕ, zero, suc, ◌+◌, ◌-◌, ◌*◌, ◌<◌, ◌≤◌, ◌^◌, ◌==◌, ◌&&◌, Bool, true, false, List, [], ◌∷◌, Option, Some, None, is_some, is_none, nat_lt, nat_le, slice_index, length, drop, if◌then◌else◌, refl}
 use Rattle.std.specs.List.{list_all}
 use Rattle.std.proofs.Common.{ap, sym, ◌∙◌, subst, arith, drop-cons, add-one}
-use Rattle.std.proofs.Math.Nat.{mul_assoc, add-mul, mul-le-mul_right, one-le-mul, le-mul_of_pos_right}
-use Rattle.std.proofs.lemmas.Bool.{ltb-true, leb-true}
+use Rattle.std.proofs.Math.Nat.{mul_assoc, add-mul, mul-le-mul_right, le-mul_of_pos_right}
+use Rattle.std.proofs.lemmas.Bool.{ltb-true}
 use Rattle.std.proofs.lemmas.Bool.Decides.{nat_tests}
 use Rattle.cx_text.specs.Loading.{word_count}
 use Rattle.cx_bits.specs.BitVector.{BitVector}
-use Rattle.cx_prim.specs.CombinationalLaws.{and_left, and_right}
 use Rattle.cx_prim.specs.Rows.{Inputs, input, value_at}
 use Rattle.cx_prim.specs.MemoryRows.{are_sizes, first_beyond, have_addresses, word_number}
+use Rattle.cx_text.proofs.LoadingLemmas.{word_count_positive}
+use Rattle.cx_text.proofs.BoolLaws.{and_left, and_right}
 
 -- the first dimensions are done: `number` is the number of what their addresses name
 pub record IsLocating (sizes : List ℕ) (inputs : Inputs) (port number : ℕ) : Type 0 where
@@ -71,12 +72,6 @@ IsLocating-beyond sizes inputs port number there beyond far =
   where
     test : nat_lt (value_at inputs port) (slice_index sizes port) ≡ false
     test = grind (arith, nat_tests)
-
--- a count of words is positive
-pub word_count_positive : (sizes : List ℕ) → list_all (λ size. nat_le 1 size) sizes ≡ true → 1 ≤ word_count sizes
-word_count_positive [] all = omega arith
-word_count_positive (size ∷ sizes) all =
-    one-le-mul (leb-true 1 size (and_left (nat_le 1 size) _ all)) (word_count_positive sizes (and_right (nat_le 1 size) _ all))
 
 pub list_all-drop : (test : ℕ → Bool) (xs : List ℕ) (n : ℕ) → list_all test xs ≡ true → list_all test (drop n xs) ≡ true
 list_all-drop test [] zero all = refl

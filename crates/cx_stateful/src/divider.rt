@@ -4,7 +4,7 @@ ghost use Rattle.std.specs.Prelude.{◌≡◌};
 ghost use Rattle.cx_prim.specs.CellStates.{IsState};
 ghost use Rattle.cx_prim.specs.Rows.{FitsPorts};
 ghost use Rattle.cx_prim.specs.PipeRows.{divider_row};
-ghost use Rattle.cx_prim.specs.PipeLaws.{divider_lawful};
+ghost use Rattle.cx_prim.proofs.PipeLaws.{divider_lawful};
 ghost use Rattle.cx_prim.specs.Widths.{IsWidth};
 ghost use Rattle.cx_stateful.specs.Shown.{divider_shown};
 

@@ -4,7 +4,7 @@ ghost use Rattle.std.specs.Prelude.{◌≡◌, take};
 ghost use Rattle.cx_prim.specs.CellStates.{IsState};
 ghost use Rattle.cx_prim.specs.Rows.{FitsPorts, Row};
 ghost use Rattle.cx_prim.specs.MemoryRows.{memory_row};
-ghost use Rattle.cx_prim.specs.MemoryLaws.{memory_lawful};
+ghost use Rattle.cx_prim.proofs.MemoryLaws.{memory_lawful};
 ghost use Rattle.cx_stateful.specs.Shown.{memory_shown};
 ghost use Rattle.cx_stateful.specs.Layouts.{row_at_layout};
 

@@ -4,7 +4,7 @@ ghost use Rattle.std.specs.Prelude.{◌≡◌};
 ghost use Rattle.cx_prim.specs.CellStates.{IsState};
 ghost use Rattle.cx_prim.specs.Rows.{FitsPorts};
 ghost use Rattle.cx_prim.specs.RegisterRow.{register_row};
-ghost use Rattle.cx_prim.specs.RegisterLaws.{register_lawful};
+ghost use Rattle.cx_prim.proofs.RegisterLaws.{register_lawful};
 ghost use Rattle.cx_prim.specs.Widths.{IsWidth};
 ghost use Rattle.cx_stateful.specs.Shown.{register_shown};
 

@@ -5,7 +5,7 @@ ghost use Rattle.cx_prim.specs.CellStates.{IsState};
 ghost use Rattle.cx_prim.specs.CellStates as plain;
 ghost use Rattle.cx_prim.specs.Rows.{FitsPorts, Row};
 ghost use Rattle.cx_prim.specs.MemoryRows.{sequential_memory_row};
-ghost use Rattle.cx_prim.specs.MemoryLaws.{sequential_lawful};
+ghost use Rattle.cx_prim.proofs.MemoryLaws.{sequential_lawful};
 ghost use Rattle.cx_stateful.specs.Shown.{sequential_shown};
 ghost use Rattle.cx_stateful.specs.Layouts.{row_at_layout};
 

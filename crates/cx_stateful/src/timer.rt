@@ -4,7 +4,7 @@ ghost use Rattle.std.specs.Prelude.{◌≡◌, ◌<◌, ◌≤◌, ◌^◌};
 ghost use Rattle.cx_prim.specs.CellStates.{IsState};
 ghost use Rattle.cx_prim.specs.Rows.{FitsPorts};
 ghost use Rattle.cx_prim.specs.PipeRows.{timer_row};
-ghost use Rattle.cx_prim.specs.PipeLaws.{timer_lawful};
+ghost use Rattle.cx_prim.proofs.PipeLaws.{timer_lawful};
 ghost use Rattle.cx_stateful.specs.Shown.{timer_shown};
 
 use cx_bits::Bits;

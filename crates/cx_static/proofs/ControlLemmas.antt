@@ -1,5 +1,5 @@
 -- Statements that are lowered one after the other.
-use Rattle.std.proofs.Common.{◌≡◌, ℕ, suc, ◌+◌, ◌<◌, List, [], ◌∷◌, ◌++◌, length, drop, get_or, drop-cons, refl, sym, ◌∙◌, ap, add-one}
+use Rattle.std.proofs.Common.{◌≡◌, List, [], ◌∷◌, ◌++◌, refl, ◌∙◌, ap}
 use Rattle.cx_meaning.specs.Designs.{PlainComponent, PlainStatement, PlainStatements, no_statements, a_statement, statements_of}
 use Rattle.cx_static.specs.Lowering.{Lowering, after, parts_after, lowered, lowered_parts}
 
@@ -17,10 +17,6 @@ joined_none (s ∷ ss) = ap (a_statement s) (joined_none ss)
 pub joined_more : (ss : List PlainStatement) (s : PlainStatement) (rest : PlainStatements) → joined (ss ++ s ∷ []) rest ≡ joined ss (a_statement s rest)
 joined_more [] s rest = refl
 joined_more (t ∷ ss) s rest = ap (a_statement t) (joined_more ss s rest)
-
--- a list from an item on
-pub drop_item : {A : Type 0} (xs : List A) (i : ℕ) (x : A) → x ≡ get_or xs i x → i < length xs → drop i xs ≡ x ∷ drop (i + 1) xs
-drop_item xs i x at within = drop-cons xs i x within ∙ ap (λ y. y ∷ drop (suc i) xs) (sym at) ∙ ap (λ j. x ∷ drop j xs) (sym (add-one i))
 
 module _ (part : PlainComponent) (s : PlainStatement) (rest : PlainStatements) (l : Lowering) (made : PlainStatement) (m : Lowering) where
   -- one more is lowered

@@ -10,7 +10,7 @@ use crate::lists::gather_island;
 use crate::lowering::Lowering;
 use crate::numbers::{number, static_length};
 use cx_design::{Component, Form, Statement};
-use cx_limits::group_length;
+use cx_design_sizes::group_length;
 use cx_text::Memory;
 use std::alloc::Global;
 use std::mem::replace;

@@ -10,7 +10,7 @@ use crate::gathering::{Gathering, Start};
 use crate::islands::{IslandTimer, Occurrence, Sample, SamplePoint};
 use crate::numbers::{number, product, static_length, sum, timer};
 use cx_design::{Cell, CellKind, Component, Form, Statement};
-use cx_limits::group_length;
+use cx_design_sizes::group_length;
 use cx_meaning::PortRef;
 use cx_text::{Memory, Name, Place};
 use std::alloc::Global;

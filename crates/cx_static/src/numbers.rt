@@ -7,7 +7,7 @@ ghost use Rattle.cx_prim.specs.declared.names.PrimitiveName.TheVariants as primi
 
 use cx_cells::Primitive;
 use cx_design::{Component, Form};
-use cx_limits::form_length;
+use cx_design_sizes::form_length;
 use cx_text::Memory;
 
 /// The number of a part. There are no more parts than 32 bits number.

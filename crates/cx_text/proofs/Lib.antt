@@ -1,2 +1,7 @@
 pub mod NumeralLemmas
 pub mod PlaceLemmas
+pub mod OptionLaws
+pub mod BoolLaws
+pub mod NumberLaws
+pub mod ListLaws
+pub mod LoadingLemmas

@@ -5,7 +5,7 @@ use Rattle.std.specs.List.{slice_get}
 use Rattle.cx_meaning.specs.declared.ports.PortRef.{PortRef}
 use Rattle.cx_meaning.specs.declared.ports.PortRef.TheVariants as ports
 use Rattle.cx_meaning.specs.Designs.{PlainAssign, PlainDesign, PlainComponent, PlainKind, PlainCell, PlainStatement, OfPrimitive, OfComponent, component_at, group_at}
-use Rattle.cx_meaning.specs.Instances.{Instance, Cells, At, Nothing, OfRow, OfInstance, add_cell, cells_for, tree_within, Path, State, just, put, under, cell_at, cells_of, part_of, instance_at, paths_of, tree_of, Node}
+use Rattle.cx_meaning.specs.Instances.{Instance, Cells, At, Nothing, OfRow, OfInstance, add_cell, cells_for, tree_within, Path, State, just, put, under, cell_at, cells_of, part_of, instance_at, paths_of, tree_of}
 use Rattle.cx_meaning.specs.Sights.{In}
 use Rattle.cx_meaning.specs.Calls.{if_instance, called_by, called_in, called}
 use Rattle.cx_meaning.specs.Control.{targets_cell, assigns_drive}
@@ -23,17 +23,19 @@ use Rattle.cx_turns.specs.Islands.{HasPart}
 use Rattle.cx_turns.specs.Children.{IsPart, HasChild, HasControl}
 use Rattle.cx_turns.specs.Groups.{IsGroupRow}
 use Rattle.cx_turns.specs.Machines.{StandsIn}
-use Rattle.cx_turns.proofs.GroupLemmas.{either_right}
 use Rattle.cx_turns.proofs.Measures.{steps, below, call_falls}
-use Rattle.cx_turns.proofs.PathLemmas.{just_same}
-use Rattle.cx_turns.proofs.RestLemmas.{got, any_default}
-use Rattle.cx_turns.proofs.StandLemmas.{below_length, same_part}
+use Rattle.cx_text.proofs.OptionLaws.{some_inj}
+use Rattle.std.proofs.lemmas.Bool.{or_right}
+use Rattle.cx_meaning.proofs.InstancesLemmas.{just_same}
+use Rattle.std.proofs.lemmas.Option.{slice_get-get_or}
+use Rattle.cx_text.proofs.ListLaws.{get_same, there_below}
+use Rattle.cx_meaning.proofs.DesignsLemmas.{same_part}
 
 pub part_read : (d : PlainDesign) (rows : List InstanceRow) (children : List ℕ) → IsTable d rows children → (n : ℕ) (at : InstanceRow) (part : Component) → n < length (paths_of (tree_of d)) → at ≡ get_or rows n at
     → plain_component part ≡ component_at d at.component → HasPart d n (plain_component part)
 part_read d rows children table n at part lt is_at is_part path number =
     let inside : n < length rows = subst (λ m. n < m) (sym table.count) lt in
-    let row : row_at rows n ≡ at = any_default rows n _ at inside ∙ sym is_at in
+    let row : row_at rows n ≡ at = get_same rows n _ at inside ∙ sym is_at in
     is_part ∙ sym (ap part_of (table.component n path number) ∙ same_part d (length d.components) (row_at rows n).component ∙ ap (λ (r : InstanceRow). component_at d r.component) row)
 
 pub control_read : (d : PlainDesign) (rows : List InstanceRow) (children : List ℕ) → IsTable d rows children → (n : ℕ) (at : InstanceRow) (part : Component) → n < length (paths_of (tree_of d)) → at ≡ get_or rows n at
@@ -59,9 +61,9 @@ cell_in d (suc m) k c child e = cell_there (tree_within d m) (component_at d k).
 pub child_inside : (d : PlainDesign) (rows : List InstanceRow) (children : List ℕ) → IsTable d rows children → (n c : ℕ) (at : InstanceRow) → n < length (paths_of (tree_of d)) → IsPart d n c → at ≡ get_or rows n at → at.first + c < length children
 child_inside d rows children table n c at lt part is_at =
     let inside : n < length rows = subst (λ m. n < m) (sym table.count) lt in
-    let row : row_at rows n ≡ at = any_default rows n _ at inside ∙ sym is_at in
+    let row : row_at rows n ≡ at = get_same rows n _ at inside ∙ sym is_at in
     let path : Path = get_or (paths_of (tree_of d)) n [] in
-    let number : IsNumber d n path = got (paths_of (tree_of d)) n [] lt in
+    let number : IsNumber d n path = slice_get-get_or (paths_of (tree_of d)) n [] lt in
     let p = part path number in
     let same : instance_at (tree_of d) path ≡ component_of d (row_at rows n).component = table.component n path number in
     let cell : c < length (part_of (component_of d (row_at rows n).component)).cells = cell_in d (length d.components) (row_at rows n).component c p.0 (subst (λ i. cell_at (cells_of i) c ≡ OfInstance p.0) same p.1) in
@@ -74,19 +76,16 @@ pub child_read : (d : PlainDesign) (rows : List InstanceRow) (children : List �
     → child ≡ get_or children (at.first + c) child → HasChild d n c child
 child_read d rows children table n c at child lt part is_at is_child path number =
     let inside : n < length rows = subst (λ m. n < m) (sym table.count) lt in
-    let row : row_at rows n ≡ at = any_default rows n _ at inside ∙ sym is_at in
+    let row : row_at rows n ≡ at = get_same rows n _ at inside ∙ sym is_at in
     let p = part path number in
     let found : IsNumber d (get_or children ((row_at rows n).first + c) 0) (path ++ c ∷ []) = table.child n c path p.0 number p.1 in
     let same : get_or children ((row_at rows n).first + c) 0 ≡ child =
-    ap (λ (r : InstanceRow). get_or children (r.first + c) 0) row ∙ any_default children (at.first + c) 0 child (child_inside d rows children table n c at lt part is_at) ∙ sym is_child in
+    ap (λ (r : InstanceRow). get_or children (r.first + c) 0) row ∙ get_same children (at.first + c) 0 child (child_inside d rows children table n c at lt part is_at) ∙ sym is_child in
     subst (λ m. IsNumber d m (path ++ c ∷ [])) same found
 
 -- what a group calls is a component, and the group drives it
 abbrev IsCallee : Cells → List PlainAssign → ℕ → Type 0
 IsCallee cells list c = (child : Instance) × (cell_at cells c ≡ OfInstance child) × (assigns_drive list c ≡ true)
-
-some_is : (a b : ℕ) → ◌≡◌ {A = Option ℕ} (Some a) (Some b) → a ≡ b
-some_is a b e = cc
 
 callee_is : (cells : Cells) (list : List PlainAssign) (c : ℕ) → called_in cells list ≡ Some c → IsCallee cells list c
 callee_is cells [] c e = absurd (let f : ◌≡◌ {A = Option ℕ} None (Some c) = e in cc)
@@ -96,13 +95,13 @@ callee_is cells (a ∷ rest) c e = of_target a.target e (callee_is cells rest c)
     Found b = (child : Instance) × (cell_at cells c ≡ OfInstance child) × ((b || assigns_drive rest c) ≡ true)
 
     further : (b : Bool) → IsCallee cells rest c → Found b
-    further b r = (r.0, r.1, either_right b (assigns_drive rest c) r.2)
+    further b r = (r.0, r.1, or_right b (assigns_drive rest c) r.2)
 
     of_at : (at : At) (k : ℕ) → cell_at cells k ≡ at → if_instance at k (called_in cells rest) ≡ Some c → (called_in cells rest ≡ Some c → IsCallee cells rest c) → Found (just k c)
     of_at Nothing k is e later = further (just k c) (later e)
     of_at (OfRow row) k is e later = further (just k c) (later e)
     of_at (OfInstance child) k is e later =
-        let same : k ≡ c = some_is k c e in
+        let same : k ≡ c = some_inj k c e in
         (child, subst (λ m. cell_at cells m ≡ OfInstance child) same is, ap (λ m. just m c || assigns_drive rest c) same ∙ ap (λ b. b || assigns_drive rest c) (just_same c))
 
     of_target : (p : PortRef) → called_by cells p (called_in cells rest) ≡ Some c → (called_in cells rest ≡ Some c → IsCallee cells rest c) → Found (targets_cell p c)
@@ -147,20 +146,14 @@ put_other c e own s below h = ap (λ b. if b then own below else s (e ∷ below)
 pub child_instance : (d : PlainDesign) (n c number : ℕ) → n < length (paths_of (tree_of d)) → HasChild d n c number → number < length (paths_of (tree_of d))
 child_instance d n c number lt has =
     let path : Path = get_or (paths_of (tree_of d)) n [] in
-    below_length (paths_of (tree_of d)) number (path ++ c ∷ []) (has path (got (paths_of (tree_of d)) n [] lt))
+    there_below (paths_of (tree_of d)) number (path ++ c ∷ []) (has path (slice_get-get_or (paths_of (tree_of d)) n [] lt))
 
 pub child_less : (d : PlainDesign) (n c number : ℕ) (control : PlainStatement) → n < length (paths_of (tree_of d)) → IsPart d n c → HasChild d n c number → HasControl d number control → 2 * steps control + below d number < below d n
 child_less d n c number control lt part has is_control =
     let path : Path = get_or (paths_of (tree_of d)) n [] in
-    let at : IsNumber d n path = got (paths_of (tree_of d)) n [] lt in
+    let at : IsNumber d n path = slice_get-get_or (paths_of (tree_of d)) n [] lt in
     let p = part path at in
     subst (λ x. 2 * steps x + below d number < below d n) (sym (is_control (path ++ c ∷ []) (has path at))) (call_falls d n c number path p.0 at (has path at) p.1)
 
 pub control_stands : (d : PlainDesign) (number : ℕ) (control : PlainStatement) → HasControl d number control → StandsIn d number control
 control_stands d number control has path v at h = subst (λ s. In (visit Dynamic s) v) (has path at) h
-
-pub main_first : (i : Instance) → slice_get (paths_of i) 0 ≡ Some []
-main_first (Node part cells) = refl
-
-pub main_there : (i : Instance) → 0 < length (paths_of i)
-main_there (Node part cells) = omega arith

@@ -11,6 +11,8 @@ use Rattle.cx_meaning.specs.Designs.{PlainAssign}
 use Rattle.cx_meaning.specs.Instances.{just}
 use Rattle.cx_meaning.specs.Control.{targets_cell, assigns_drive}
 use Rattle.cx_eval_cycle.specs.Passes.{IsAscending, listed_in}
+use Rattle.cx_text.proofs.NumberLaws.{from_eq}
+use Rattle.cx_text.proofs.BoolLaws.{swapped, once}
 
 -- the cells, with those of targets
 abbrev pub with_target : List ℕ → PortRef → List ℕ
@@ -38,18 +40,6 @@ just_is zero zero = refl
 just_is zero (suc d) = eq_less d
 just_is (suc c) zero = eq_more c
 just_is (suc c) (suc d) = just_is c d ∙ eq_next c d
-
-pub from_eq : (x y : ℕ) → nat_eq x y ≡ true → x ≡ y
-from_eq x y h = grind (arith, tests)
-
-swapped : (a b c : Bool) → a || (b || c) ≡ b || (a || c)
-swapped true true c = refl
-swapped true false c = refl
-swapped false b c = refl
-
-once : (a c : Bool) → a || c ≡ a || (a || c)
-once true c = refl
-once false c = refl
 
 grouped : (a b c : Bool) → (b || a) || c ≡ a || (b || c)
 grouped true true c = refl

@@ -1,6 +1,6 @@
 -- Idle edges of all cells, one after the other.
 use Rattle.std.proofs.Common.{◌≡◌, ℕ, zero, suc, ◌+◌, ◌<◌, ◌≤◌, Bool, true, false, ◌||◌, nat_eq, List, [], ◌∷◌, length, get_or, set, Option, Some, None, ⊎_elim, refl, sym, ap, ◌∙◌, subst, arith, if◌then◌else◌}
-use Rattle.std.proofs.lemmas.Bool.{eqb-true, eq-eqb, cases_lt}
+use Rattle.std.proofs.lemmas.Bool.{eq-eqb, cases_lt, or_from}
 use Rattle.cx_prim.specs.CellStates.{CellState}
 use Rattle.cx_meaning.specs.Designs.{PlainCell}
 use Rattle.cx_meaning.specs.Instances.{Set}
@@ -8,7 +8,10 @@ use Rattle.cx_meaning.specs.Cycles.{every_cell}
 use Rattle.cx_eval_cycle.specs.Passes.{listed_in}
 use Rattle.cx_state.specs.States.{HoldsKind, HoldCells}
 use Rattle.cx_turns.specs.Rests.{kind_rested, rested_cells}
-use Rattle.cx_turns.proofs.RestLemmas.{hold_length, one_rested, set_holds, any_default}
+use Rattle.cx_turns.proofs.RestLemmas.{one_rested, set_holds}
+use Rattle.cx_text.proofs.NumberLaws.{other}
+use Rattle.cx_state.proofs.StatesLemmas.{held_long}
+use Rattle.cx_text.proofs.ListLaws.{get_same}
 
 -- the first k numbers
 abbrev pub first_numbers : ℕ → List ℕ
@@ -21,27 +24,16 @@ either_comm true false = refl
 either_comm false true = refl
 either_comm false false = refl
 
-either_false : (b c : Bool) → b ≡ false → c ≡ false → (b || c) ≡ false
-either_false true c e f = absurd (let g : true ≡ false = e in cc)
-either_false false c e f = f
-
 either_true : (b c : Bool) → (b ≡ false → c ≡ true) → (b || c) ≡ true
 either_true true c f = refl
 either_true false c f = f refl
-
-other : (k c : ℕ) → (k ≡ c → ⊥) → nat_eq k c ≡ false
-other k c ne = by_case (nat_eq k c) refl
-  where
-    by_case : (b : Bool) → nat_eq k c ≡ b → nat_eq k c ≡ false
-    by_case true e = absurd (ne (eqb-true k c e))
-    by_case false e = e
 
 unequal : (k c : ℕ) → nat_eq k c ≡ false → k ≡ c → ⊥
 unequal k c f same = let g : true ≡ false = sym (eq-eqb k c same) ∙ f in cc
 
 later : (k c : ℕ) → k ≤ c → listed_in (first_numbers k) c ≡ false
 later zero c le = refl
-later (suc k) c le = either_false (nat_eq k c) (listed_in (first_numbers k) c) (other k c (λ same. omega (arith, same, le))) (later k c (omega (arith, le)))
+later (suc k) c le = or_from (nat_eq k c) (listed_in (first_numbers k) c) (other k c (λ same. omega (arith, same, le))) (later k c (omega (arith, le)))
 
 behind : (k c : ℕ) → c < suc k → (k ≡ c → ⊥) → c < k
 behind k c lt ne = ⊎_elim (λ (l : c < k). l) (λ (r : k ≤ c). absurd (ne (omega (arith, lt, r)))) (cases_lt c k)
@@ -67,8 +59,8 @@ pub next_rested : (xs : List PlainCell) (initial held : List (Option CellState))
     → (set held k new ≡ rested_cells (listed_in (first_numbers (k + 1))) xs initial) × HoldCells xs (set held k new)
 next_rested xs initial held k d old new lt count so_far holds is value fits =
     let next : suc k ≡ k + 1 = omega arith in
-    let inside : k < length held = subst (λ m. k < m) (sym (hold_length xs held holds)) lt in
-    let here : new ≡ kind_rested (get_or xs k d).kind (get_or held k None) = value ∙ ap (kind_rested (get_or xs k d).kind) (is ∙ any_default held k old None inside) in
+    let inside : k < length held = subst (λ m. k < m) (sym (held_long xs held holds)) lt in
+    let here : new ≡ kind_rested (get_or xs k d).kind (get_or held k None) = value ∙ ap (kind_rested (get_or xs k d).kind) (is ∙ get_same held k old None inside) in
     let one : set held k new ≡ rested_cells (listed_in (first_numbers (suc k))) xs initial =
     ap (set held k) here ∙ ap (λ (hs : List (Option CellState)). set hs k (kind_rested (get_or xs k d).kind (get_or hs k None))) so_far
     ∙ sym (one_rested (listed_in (first_numbers k)) (listed_in (first_numbers (suc k))) xs initial k d (λ e. either_comm (nat_eq k e) (listed_in (first_numbers k) e)) (later k k (omega arith)) lt count) in

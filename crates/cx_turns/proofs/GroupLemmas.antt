@@ -21,11 +21,12 @@ use Rattle.cx_design.specs.declared.groups.Group.{Group}
 use Rattle.cx_design.specs.PlainForms.{plain_component, plain_group}
 use Rattle.std.specs.List.{slice_get}
 use Rattle.std.specs.Prelude.{All}
-use Rattle.std.proofs.lemmas.Bool.{eq-eqb}
+use Rattle.std.proofs.lemmas.Bool.{eq-eqb, or_right}
 use Rattle.std.proofs.lemmas.List.{get_or-map, length-map}
-use Rattle.cx_turns.proofs.PathLemmas.{just_true}
-use Rattle.cx_turns.proofs.StandLemmas.{below_length, same_part}
-use Rattle.cx_turns.proofs.RestLemmas.{got, any_default}
+use Rattle.cx_meaning.proofs.InstancesLemmas.{just_true}
+use Rattle.cx_text.proofs.ListLaws.{there_below, get_same}
+use Rattle.cx_meaning.proofs.DesignsLemmas.{same_part}
+use Rattle.std.proofs.lemmas.Option.{slice_get-get_or}
 
 pub row_lists : (d : PlainDesign) (n g : ℕ) (row : GroupRow) → IsGroupRow d n g row → ListGroup d n g row.cells.items
 row_lists d n g row is path c number = (is path number).cells c
@@ -49,14 +50,10 @@ driver (a ∷ rest) c e = by_case (targets_cell a.target c) refl e (driver rest 
     by_case true t e later = let r = cell_target a.target c t in (a, r.0, inl refl, r.1)
     by_case false t e later = let r = later e in (r.0, r.1, inr r.2, r.3)
 
-pub either_right : (a b : Bool) → b ≡ true → (a || b) ≡ true
-either_right true b e = refl
-either_right false b e = e
-
 all_listed : (P : ℕ → Type 0) (xs : List ℕ) → ((c : ℕ) → listed_in xs c ≡ true → P c) → All P xs
 all_listed P [] h k d lt = absurd (omega arith)
 all_listed P (x ∷ xs) h zero d lt = h x (ap (λ b. b || listed_in xs x) (eq-eqb x x refl))
-all_listed P (x ∷ xs) h (suc k) d lt = all_listed P xs (λ c e. h c (either_right (nat_eq x c) (listed_in xs c) e)) k d (omega arith)
+all_listed P (x ∷ xs) h (suc k) d lt = all_listed P xs (λ c e. h c (or_right (nat_eq x c) (listed_in xs c) e)) k d (omega arith)
 
 -- a group of a design drives ports of cells that are there
 pub row_within : (d : PlainDesign) → IsDesign d → (rows : List InstanceRow) (children : List ℕ) → IsTable d rows children → (n g : ℕ) (row : GroupRow) → IsGroupOf d n g → IsGroupRow d n g row → ListWithin d n row.cells.items
@@ -66,7 +63,7 @@ row_within d design rows children table n g row is_group is path number =
     let at : Instance = component_of d (row_at rows n).component in
     let same : instance_at (tree_of d) path ≡ at = table.component n path number in
     let part : part_of at ≡ component_at d (row_at rows n).component = same_part d (length d.components) (row_at rows n).component in
-    let there : (row_at rows n).component < length d.components = table.there n (subst (λ m. n < m) (sym table.count) (below_length (paths_of (tree_of d)) n path number)) in
+    let there : (row_at rows n).component < length d.components = table.there n (subst (λ m. n < m) (sym table.count) (there_below (paths_of (tree_of d)) n path number)) in
     let drives : group_drives (component_at d (row_at rows n).component) g c ≡ true = subst (λ x. group_drives x g c ≡ true) (ap part_of same ∙ part) (sym ((is path number).cells c) ∙ e) in
     let group : g < length (component_at d (row_at rows n).component).groups = subst (λ (x : PlainComponent). g < length x.groups) (ap part_of same ∙ part) (is_group path number) in
     let r = driver (group_at (component_at d (row_at rows n).component) g).assigns c drives in
@@ -79,42 +76,42 @@ pub row_read : (d : PlainDesign) (rows : List InstanceRow) (children : List ℕ)
     → n < length (paths_of (tree_of d)) → IsGroupOf d n g → at ≡ get_or rows n at → table ≡ get_or tables at.component table → row ≡ get_or table.rows.items g row → IsGroupRow d n g row
 row_read d rows children tables is_table groups n g at table row lt is_group is_at is_read is_row path number =
     let inside : n < length rows = subst (λ m. n < m) (sym is_table.count) lt in
-    let same : row_at rows n ≡ at = any_default rows n _ at inside ∙ sym is_at in
+    let same : row_at rows n ≡ at = get_same rows n _ at inside ∙ sym is_at in
     let there : (row_at rows n).component < length tables = subst (λ m. (row_at rows n).component < m) (sym groups.count) (is_table.there n inside) in
     let found : slice_get tables (row_at rows n).component ≡ Some table =
-    got tables (row_at rows n).component table there ∙ ap (λ (r : InstanceRow). Some (get_or tables r.component table)) same ∙ ap (λ t. Some t) (sym is_read) in
+    slice_get-get_or tables (row_at rows n).component table there ∙ ap (λ (r : InstanceRow). Some (get_or tables r.component table)) same ∙ ap (λ t. Some t) (sym is_read) in
     let within : g < length table.rows.items = subst (λ m. g < m) (sym (groups.each n path table number found)) (is_group path number) in
-    groups.right n g path table row number found (got table.rows.items g row within ∙ ap (λ r. Some r) (sym is_row))
+    groups.right n g path table row number found (slice_get-get_or table.rows.items g row within ∙ ap (λ r. Some r) (sym is_row))
 
 pub table_there : (d : PlainDesign) (rows : List InstanceRow) (children : List ℕ) (tables : List GroupTable) → IsTable d rows children → AreGroups d rows tables → (n : ℕ) (at : InstanceRow) → n < length (paths_of (tree_of d)) → at ≡ get_or rows n at → at.component < length tables
 table_there d rows children tables is_table groups n at lt is_at =
     let inside : n < length rows = subst (λ m. n < m) (sym is_table.count) lt in
-    let same : row_at rows n ≡ at = any_default rows n _ at inside ∙ sym is_at in
+    let same : row_at rows n ≡ at = get_same rows n _ at inside ∙ sym is_at in
     subst (λ (r : InstanceRow). r.component < length tables) same (subst (λ m. (row_at rows n).component < m) (sym groups.count) (is_table.there n inside))
 
 pub group_there : (d : PlainDesign) (rows : List InstanceRow) (children : List ℕ) (tables : List GroupTable) → IsTable d rows children → AreGroups d rows tables → (n g : ℕ) (at : InstanceRow) (table : GroupTable)
     → n < length (paths_of (tree_of d)) → IsGroupOf d n g → at ≡ get_or rows n at → table ≡ get_or tables at.component table → g < length table.rows.items
 group_there d rows children tables is_table groups n g at table lt is_group is_at is_read =
     let inside : n < length rows = subst (λ m. n < m) (sym is_table.count) lt in
-    let same : row_at rows n ≡ at = any_default rows n _ at inside ∙ sym is_at in
+    let same : row_at rows n ≡ at = get_same rows n _ at inside ∙ sym is_at in
     let there : (row_at rows n).component < length tables = subst (λ m. (row_at rows n).component < m) (sym groups.count) (is_table.there n inside) in
     let found : slice_get tables (row_at rows n).component ≡ Some table =
-    got tables (row_at rows n).component table there ∙ ap (λ (r : InstanceRow). Some (get_or tables r.component table)) same ∙ ap (λ t. Some t) (sym is_read) in
+    slice_get-get_or tables (row_at rows n).component table there ∙ ap (λ (r : InstanceRow). Some (get_or tables r.component table)) same ∙ ap (λ t. Some t) (sym is_read) in
     let path : Path = get_or (paths_of (tree_of d)) n [] in
-    let number : IsNumber d n path = got (paths_of (tree_of d)) n [] lt in
+    let number : IsNumber d n path = slice_get-get_or (paths_of (tree_of d)) n [] lt in
     subst (λ m. g < m) (sym (groups.each n path table number found)) (is_group path number)
 
 pub row_ascends : (d : PlainDesign) (n g : ℕ) (row : GroupRow) → n < length (paths_of (tree_of d)) → IsGroupRow d n g row → IsAscending row.cells.items
-row_ascends d n g row lt is = (is (get_or (paths_of (tree_of d)) n []) (got (paths_of (tree_of d)) n [] lt)).ascending
+row_ascends d n g row lt is = (is (get_or (paths_of (tree_of d)) n []) (slice_get-get_or (paths_of (tree_of d)) n [] lt)).ascending
 
 -- the group that was read, of the component that was read
 pub group_inside : (d : PlainDesign) (rows : List InstanceRow) (children : List ℕ) → IsTable d rows children → (n g : ℕ) (at : InstanceRow) (part : Component) → n < length (paths_of (tree_of d)) → IsGroupOf d n g → at ≡ get_or rows n at
     → plain_component part ≡ component_at d at.component → g < length part.groups.items
 group_inside d rows children table n g at part lt is_group is_at is_part =
     let path : Path = get_or (paths_of (tree_of d)) n [] in
-    let number : IsNumber d n path = got (paths_of (tree_of d)) n [] lt in
+    let number : IsNumber d n path = slice_get-get_or (paths_of (tree_of d)) n [] lt in
     let inside : n < length rows = subst (λ m. n < m) (sym table.count) lt in
-    let row : row_at rows n ≡ at = any_default rows n _ at inside ∙ sym is_at in
+    let row : row_at rows n ≡ at = get_same rows n _ at inside ∙ sym is_at in
     let same : part_of (instance_at (tree_of d) path) ≡ plain_component part =
     ap part_of (table.component n path number) ∙ same_part d (length d.components) (row_at rows n).component ∙ ap (λ (r : InstanceRow). component_at d r.component) row ∙ sym is_part in
     subst (λ m. g < m) (length-map part.groups.items plain_group) (subst (λ (x : PlainComponent). g < length x.groups) same (is_group path number))
@@ -123,7 +120,7 @@ pub length_read : (d : PlainDesign) (rows : List InstanceRow) (children : List �
     → plain_component part ≡ component_at d at.component → g < length part.groups.items → group ≡ get_or part.groups.items g group → cycles ≡ kind_length group.kind → HasLength d n g cycles
 length_read d rows children table n g at part group cycles lt is_at is_part inside is_group is path number =
     let here : n < length rows = subst (λ m. n < m) (sym table.count) lt in
-    let row : row_at rows n ≡ at = any_default rows n _ at here ∙ sym is_at in
+    let row : row_at rows n ≡ at = get_same rows n _ at here ∙ sym is_at in
     let same : plain_component part ≡ part_of (instance_at (tree_of d) path) =
     is_part ∙ sym (ap part_of (table.component n path number) ∙ same_part d (length d.components) (row_at rows n).component ∙ ap (λ (r : InstanceRow). component_at d r.component) row) in
     let found : group_at (plain_component part) g ≡ plain_group group = get_or-map plain_group part.groups.items g group no_group inside ∙ ap plain_group (sym is_group) in

@@ -1,8 +1,8 @@
 -- The inputs of a child, held one after the other as they are seen in the instance that calls it.
-use Rattle.std.proofs.Common.{◌≡◌, ◌≢◌, ℕ, zero, suc, ◌+◌, ◌-◌, ◌^◌, ◌<◌, ◌≤◌, nat_lt, Bool, true, false, inl, inr, ◌⊎◌, ⊎_elim, List, [], ◌∷◌, ◌++◌, length, get_or, set, Option, Some, None, option_map, refl, sym, ap, ◌∙◌, subst, arith, if◌then◌else◌}
+use Rattle.std.proofs.Common.{◌≡◌, ◌≢◌, ℕ, zero, suc, ◌+◌, ◌^◌, ◌<◌, ◌≤◌, nat_lt, Bool, true, false, ⊎_elim, List, [], ◌∷◌, ◌++◌, length, get_or, set, Option, Some, None, option_map, refl, sym, ap, ◌∙◌, subst, arith}
 use Rattle.std.proofs.Math.Path.{fun_ext}
 use Rattle.std.specs.List.{slice_get}
-use Rattle.std.proofs.lemmas.Bool.{cases_lt, lt-ltb}
+use Rattle.std.proofs.lemmas.Bool.{cases_lt}
 use Rattle.std.proofs.lemmas.List.{length-set, get_or-set_same, get_or-set_other, set_past}
 use Rattle.std.proofs.lemmas.Option.{slice_get-get_or, slice_get_within, get_or_from_slice_get}
 use Rattle.cx_bits.specs.BitVector.{BitVector}
@@ -14,7 +14,7 @@ use Rattle.cx_meaning.specs.declared.sights.Seen.TheVariants.{Value, Undefined}
 use Rattle.cx_meaning.specs.Designs.{PlainComponent, PlainDesign, component_at, no_component}
 use Rattle.cx_meaning.specs.Instances.{Instance, OfInstance, Path, State, cell_at, cells_of, part_of, paths_of, instance_at, tree_of}
 use Rattle.cx_meaning.specs.Active.{Active, group}
-use Rattle.cx_meaning.specs.Sights.{AnInput, output_port, part_port, seen}
+use Rattle.cx_meaning.specs.Sights.{seen}
 use Rattle.cx_meaning.specs.Calls.{inputs_of_call}
 use Rattle.cx_rules.specs.Ports.{component_of, declared_width, part_width, cell_width, width_of}
 use Rattle.cx_rules.specs.Circles.{IsAcyclic}
@@ -33,14 +33,10 @@ use Rattle.cx_turns.specs.Machines.{IsInstance}
 use Rattle.cx_turns.specs.Children.{IsPart, HasChild, IsInputOf, HoldsInput, HoldsFirst, HoldsCall}
 use Rattle.cx_turns.proofs.ChildLemmas.{cell_in}
 use Rattle.cx_turns.proofs.Measures.{instance_child}
-use Rattle.cx_turns.proofs.StandLemmas.{below_length, same_part}
-
--- NUMBERS are equal or not
-pub same_or_not : (m n : ℕ) → (m ≡ n) ⊎ (m ≢ n)
-same_or_not zero zero = inl refl
-same_or_not zero (suc n) = inr (λ e. absurd (omega (arith, e)))
-same_or_not (suc m) zero = inr (λ e. absurd (omega (arith, e)))
-same_or_not (suc m) (suc n) = ⊎_elim (λ e. inl (ap suc e)) (λ d. inr (λ e. d (let f : suc m ≡ suc n = e in omega (arith, f)))) (same_or_not m n)
+use Rattle.cx_text.proofs.NumberLaws.{same_or}
+use Rattle.cx_meaning.proofs.SightsLaws.{input_at}
+use Rattle.cx_text.proofs.ListLaws.{there_below}
+use Rattle.cx_meaning.proofs.DesignsLemmas.{same_part}
 
 -- COUNTS: the inputs of a component are few
 size_inputs : (part : PlainComponent) → length part.inputs ≤ size_of part
@@ -53,7 +49,7 @@ one_size (part ∷ parts) (suc k) lt = let h = one_size parts k (let l : suc k <
 
 module _ (d : PlainDesign) (design : IsDesign d) (table : List InstanceRow) (children : List ℕ) (is_table : IsTable d table children) where
   within : (n : ℕ) (path : Path) → IsNumber d n path → (row_at table n).component < length d.components
-  within n path number = is_table.there n (subst (λ m. n < m) (sym is_table.count) (below_length _ n path number))
+  within n path number = is_table.there n (subst (λ m. n < m) (sym is_table.count) (there_below _ n path number))
 
   pub own_part : (n : ℕ) (path : Path) → IsNumber d n path → part_of (instance_at (tree_of d) path) ≡ component_at d (row_at table n).component
   own_part n path number = ap part_of (is_table.component n path number) ∙ same_part d (length d.components) (row_at table n).component
@@ -69,10 +65,6 @@ module _ (d : PlainDesign) (design : IsDesign d) (table : List InstanceRow) (chi
       let inside : k < length (component_at d (row_at table n).component).inputs = subst (λ part. k < length part.inputs) (own_part n path number) (input path number) in
       let few = design.few_parts in
       omega (arith, one, inside, few)
-
--- PORTS: an input of the child at a cell, as a port of the cell
-input_port : (part : PlainComponent) (k : ℕ) → k < length part.inputs → part_port part (suc k) ≡ AnInput k
-input_port part k lt = ap (λ b. if b then AnInput k else output_port (length part.outputs) (k - length part.inputs)) (lt-ltb k (length part.inputs) lt)
 
 module _ (d : PlainDesign) (n c child k : ℕ) (part : IsPart d n c) (is_child : HasChild d n c child) (input : IsInputOf d child k) where
   child_input : (path : Path) → (number : IsNumber d n path) → k < length (part_of ((part path number).0)).inputs
@@ -92,7 +84,7 @@ module _ (d : PlainDesign) (n c child k : ℕ) (part : IsPart d n c) (is_child :
   input_width path number =
       let p = part path number in
       let lt : k < length (part_of p.0).inputs = child_input path number in
-      ap (λ x. cell_width x (suc k)) p.1 ∙ ap (part_width (part_of p.0)) (input_port (part_of p.0) k lt)
+      ap (λ x. cell_width x (suc k)) p.1 ∙ ap (part_width (part_of p.0)) (input_at (part_of p.0) k lt)
       ∙ ap (λ i. declared_width (part_of i).inputs k) (sym (instance_child (tree_of d) path c p.0 p.1))
 
 -- ONE INPUT HELD
@@ -110,7 +102,7 @@ module _ (rows : List PlainInstance) (n k : ℕ) (x : Seen) where
   cells_kept : n < length rows → (m e : ℕ) → cell_held (with_held rows n k x) m e ≡ cell_held rows m e
   cells_kept lt m e = ⊎_elim (λ is.
       ap (λ j. cell_held (with_held rows n k x) j e) is ∙ ap (λ (i : PlainInstance). get_or i.cells e None) (new_there lt) ∙ ap (λ j. cell_held rows j e) (sym is))
-      (λ other. ap (λ (i : PlainInstance). get_or i.cells e None) (new_other m other)) (same_or_not m n)
+      (λ other. ap (λ (i : PlainInstance). get_or i.cells e None) (new_other m other)) (same_or m n)
 
   pub held_stands : (d : PlainDesign) (s : State) → n < length rows → StandsFor (tree_of d) rows s → StandsFor (tree_of d) (with_held rows n k x) s
   held_stands d s lt stands m c path held number e = stands m c path held number (sym (cells_kept lt m c) ∙ e)
@@ -124,14 +116,14 @@ module _ (rows : List PlainInstance) (n k : ℕ) (x : Seen) where
   held_others lt m j apart = ⊎_elim (λ is.
       ap (λ y. inputs_held (with_held rows n k x) y j) is ∙ ap (λ (i : PlainInstance). get_or i.held j Undefined) (new_there lt)
       ∙ get_or-set_other (instance_state rows n).held k j x Undefined (λ e. apart is e) ∙ ap (λ y. inputs_held rows y j) (sym is))
-      (λ other. ap (λ (i : PlainInstance). get_or i.held j Undefined) (new_other m other)) (same_or_not m n)
+      (λ other. ap (λ (i : PlainInstance). get_or i.held j Undefined) (new_other m other)) (same_or m n)
 
   -- a value that is held so has the width of the input
   held_width : (d : PlainDesign) (part : PlainComponent) → FitsPart part (instance_state rows n) → k < length (instance_state rows n).held → ((b : BitVector) → x ≡ Value b → declared_width part.inputs k ≡ Some b.width) → FitsPart part new
   held_width d part fits inside wide = record {
     cells = fits.cells;
     inputs = length-set (instance_state rows n).held k x ∙ fits.inputs;
-    widths = λ j b e. ⊎_elim (λ is. subst (λ y. declared_width part.inputs y ≡ Some b.width) (sym is) (wide b (value_here j b e is))) (λ other. fits.widths j b (value_other j b e other)) (same_or_not j k);
+    widths = λ j b e. ⊎_elim (λ is. subst (λ y. declared_width part.inputs y ≡ Some b.width) (sym is) (wide b (value_here j b e is))) (λ other. fits.widths j b (value_other j b e other)) (same_or j k);
   }
     where
       list : List Seen
@@ -157,12 +149,12 @@ module _ (rows : List PlainInstance) (n k : ℕ) (x : Seen) where
         subst (λ y. FitsPart (part_of (instance_at (tree_of d) path)) (instance_state (with_held rows n k x) y)) (sym is)
         (subst (FitsPart (part_of (instance_at (tree_of d) path))) (sym (new_there lt)) (held_width d (part_of (instance_at (tree_of d) path)) (state.fits n path own) inside (λ b e. wide path b own e))))
         (λ other. subst (FitsPart (part_of (instance_at (tree_of d) path))) (sym (new_other m other)) (state.fits m path number))
-        (same_or_not m n);
+        (same_or m n);
   }
 
 -- a number of a child has a row, with its inputs
 pub child_there : (d : PlainDesign) (n c child : ℕ) (path : Path) → IsNumber d n path → HasChild d n c child → (rows : List PlainInstance) → IsStateOf d rows → child < length rows
-child_there d n c child path number is_child rows state = subst (λ m. child < m) (sym state.count) (below_length (paths_of (tree_of d)) child (path ++ c ∷ []) (is_child path number))
+child_there d n c child path number is_child rows state = subst (λ m. child < m) (sym state.count) (there_below (paths_of (tree_of d)) child (path ++ c ∷ []) (is_child path number))
 
 pub input_inside : (d : PlainDesign) (n c child k : ℕ) (path : Path) → IsNumber d n path → HasChild d n c child → IsInputOf d child k → (rows : List PlainInstance) → IsStateOf d rows → k < length (instance_state rows child).held
 input_inside d n c child k path number is_child input rows state =
@@ -173,7 +165,7 @@ pub child_counted : (d : PlainDesign) (n c child : ℕ) → n < length (paths_of
 child_counted d n c child lt is_child =
     let own : Path = get_or (paths_of (tree_of d)) n [] in
     let at : IsNumber d n own = slice_get-get_or (paths_of (tree_of d)) n [] lt in
-    below_length (paths_of (tree_of d)) child (own ++ c ∷ []) (is_child own at)
+    there_below (paths_of (tree_of d)) child (own ++ c ∷ []) (is_child own at)
 
 -- its component tells its inputs
 pub part_inputs : (d : PlainDesign) (child : ℕ) (part : Component) → HasPart d child (plain_component part) → (path : Path) → IsNumber d child path → length (part_of (instance_at (tree_of d) path)).inputs ≡ length part.inputs.items
@@ -240,7 +232,7 @@ module _ (d : PlainDesign) (old now : List PlainInstance) (n g c child k : ℕ) 
         ∙ ap (λ h. inputs_of_call (instance_at (tree_of d) path) h g c (under_path path s) k) held
         ∙ ap (inputs_of_call (instance_at (tree_of d) path) (inputs_held old n) g c (under_path path s)) (sym is))
         (λ other. one.others child j (λ same e. other e) ∙ far.inputs path s j number stands (below j lt other))
-        (same_or_not j k);
+        (same_or j k);
     others = λ m j apart. one.others m j (λ same e. apart same) ∙ far.others m j apart;
   }
     where

@@ -12,17 +12,17 @@ use Rattle.cx_rules.specs.StaticControl.{is_island}
 use Rattle.cx_laws.specs.Positions.{active_at}
 use Rattle.cx_laws.specs.Samples.{Samples, active_by, AreKept}
 use Rattle.cx_interp_islands.specs.Sampled.{AreSampled}
-use Rattle.cx_limits.specs.Capped.{capped}
 use Rattle.cx_design.specs.declared.actives.Active.{Active}
 use Rattle.cx_design.specs.declared.actives.Active.TheVariants as actives
 use Rattle.cx_design.specs.PlainActives.{plain_active}
+use Rattle.cx_design_sizes.specs.Capped.{capped}
 use Rattle.cx_eval_drives.specs.Actives.{CanBeActive}
 use Rattle.cx_state.specs.Tables.{IsNumber}
 use Rattle.cx_eval.specs.Evaluated.{CanAct}
 use Rattle.cx_turns.specs.Islands.{IsIsland}
 use Rattle.cx_turns.specs.Machines.{FormStands}
 use Rattle.cx_turns.specs.Rooms.{HasActive}
-use Rattle.cx_turns.proofs.RestLemmas.{got}
+use Rattle.std.proofs.lemmas.Option.{slice_get-get_or}
 
 -- an island of dynamic control, among the statements of its component
 abbrev pub there : PlainForm → Place → Visited
@@ -68,7 +68,7 @@ pub island_short : (d : PlainDesign) (n : ℕ) (form : PlainForm) (part : PlainC
     → form_length part form < REPETITIONS
 island_short d n form part lt stands is_island is_part law =
     let path : Path = get_or (paths_of (tree_of d)) n [] in
-    let number : IsNumber d n path = got (paths_of (tree_of d)) n [] lt in
+    let number : IsNumber d n path = slice_get-get_or (paths_of (tree_of d)) n [] lt in
     subst (λ (p : PlainComponent). form_length p form < REPETITIONS) (sym (is_part path number)) (law path (there form stands.0) (stands_there d n form stands path number) (is_island path number))
 
 pub length_told : (part : PlainComponent) (form : PlainForm) (length : ℕ) → form_length part form < REPETITIONS → length ≡ capped (form_length part form) → length ≡ form_length part form

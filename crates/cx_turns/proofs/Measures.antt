@@ -4,6 +4,7 @@ use Rattle.cx_meaning.specs.Designs.{PlainDesign, PlainForm, Empty, Enable, Seq,
 use Rattle.std.specs.List.{slice_get}
 use Rattle.cx_state.specs.Tables.{IsNumber}
 use Rattle.cx_meaning.specs.Instances.{Instance, Node, Cells, no_cells, a_primitive, an_instance, Nothing, OfRow, OfInstance, cell_at, cells_of, part_of, Path, instance_at, child_at, paths_of, tree_of}
+use Rattle.cx_meaning.proofs.InstancesLemmas.{here}
 
 abbrev mutual
   pub form_steps : PlainForm → ℕ
@@ -62,9 +63,6 @@ child_work (an_instance own rest) zero child e =
     omega (arith, equal)
 child_work (an_instance own rest) (suc c) child e = let h : work child ≤ work_below rest = child_work rest c child e in omega (arith, h)
 
-own_instance : (i : Instance) → instance_at i [] ≡ i
-own_instance (Node part cells) = refl
-
 cell_child : (cells : Cells) (k : ℕ) (child : Instance) → cell_at cells k ≡ OfInstance child → child_at cells k [] ≡ child
 cell_child no_cells k child e = cc
 cell_child (a_primitive row rest) zero child e = cc
@@ -72,7 +70,7 @@ cell_child (a_primitive row rest) (suc k) child e = cell_child rest k child e
 cell_child (an_instance own rest) zero child e =
     let f : OfInstance own ≡ OfInstance child = e in
     let same : own ≡ child = cc in
-    own_instance own ∙ same
+    here own ∙ same
 cell_child (an_instance own rest) (suc k) child e = cell_child rest k child e
 
 -- the instance at a cell of the instance at a path

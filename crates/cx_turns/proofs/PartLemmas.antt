@@ -1,5 +1,5 @@
 -- Parts of statements stand in the control, and are less work.
-use Rattle.std.proofs.Common.{◌≡◌, ℕ, zero, suc, ◌≤◌, ◌<◌, List, [], ◌∷◌, ◌++◌, length, get_or, Option, inl, inr, sym, subst, arith, take, refl, ap}
+use Rattle.std.proofs.Common.{◌≡◌, ℕ, zero, suc, ◌≤◌, ◌<◌, List, [], ◌∷◌, length, get_or, Option, inr, sym, subst, arith}
 use Rattle.cx_meaning.specs.declared.ports.PlacedPort.{PlacedPort}
 use Rattle.cx_meaning.specs.Designs.{PlainDesign, If, PlainStatement}
 use Rattle.cx_meaning.specs.Sights.{In}
@@ -8,15 +8,7 @@ use Rattle.cx_design.specs.declared.statements.Statement.{Statement}
 use Rattle.cx_design.specs.PlainForms.{plain_statement, plain_statements}
 use Rattle.cx_turns.specs.Machines.{StandsIn, StandIn, FormStands}
 use Rattle.cx_turns.proofs.Measures.{steps, all_steps}
-
-in_left : {A : Type 0} (xs ys : List A) (x : A) → In xs x → In (xs ++ ys) x
-in_left [] ys x h = absurd h
-in_left (z ∷ xs) ys x (inl e) = inl e
-in_left (z ∷ xs) ys x (inr h) = inr (in_left xs ys x h)
-
-in_right : {A : Type 0} (xs ys : List A) (x : A) → In ys x → In (xs ++ ys) x
-in_right [] ys x h = h
-in_right (z ∷ xs) ys x h = inr (in_right xs ys x h)
+use Rattle.cx_meaning.proofs.SightsLaws.{in_left, in_right}
 
 part_visited : (parts : List Statement) (k : ℕ) (x : Statement) (v : Visited) → k < length parts → In (visit Dynamic (plain_statement (get_or parts k x))) v → In (visit_all Dynamic (plain_statements parts)) v
 part_visited [] k x v lt h = absurd (omega arith)
@@ -44,9 +36,3 @@ module _ (d : PlainDesign) (n : ℕ) (port : PlacedPort) (comb : Option ℕ) (ye
 
   pub no_stands : FormStands d n (If port comb yes no) → StandsIn d n no
   no_stands (place, stands) path v number h = stands path v number (inr (in_right (visit Dynamic yes) (visit Dynamic no) v h))
-
-pub take_all : {A : Type 0} (xs : List A) (k : ℕ) → length xs ≤ k → take k xs ≡ xs
-take_all [] zero le = refl
-take_all [] (suc k) le = refl
-take_all (x ∷ xs) zero le = absurd (let h : suc (length xs) ≤ 0 = le in omega (arith, h))
-take_all (x ∷ xs) (suc k) le = ap (λ ys. x ∷ ys) (take_all xs k (let h : suc (length xs) ≤ suc k = le in omega (arith, h)))

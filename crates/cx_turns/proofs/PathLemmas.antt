@@ -5,16 +5,8 @@ use Rattle.cx_prim.specs.CellStates.{CellState}
 use Rattle.cx_meaning.specs.Designs.{no_component}
 use Rattle.cx_meaning.specs.Instances.{Instance, Node, Cells, no_cells, a_primitive, an_instance, Path, State, just, under, instance_at, child_at, idle_at, idle_below, IsSettled}
 use Rattle.cx_state.specs.States.{put_path, under_path}
-
-pub just_same : (k : ℕ) → just k k ≡ true
-just_same zero = refl
-just_same (suc k) = just_same k
-
-pub just_true : (k c : ℕ) → just k c ≡ true → k ≡ c
-just_true zero zero e = refl
-just_true zero (suc c) e = absurd (let f : false ≡ true = e in cc)
-just_true (suc k) zero e = absurd (let f : false ≡ true = e in cc)
-just_true (suc k) (suc c) e = ap suc (just_true k c e)
+use Rattle.cx_meaning.proofs.InstancesLemmas.{just_true, just_same}
+use Rattle.cx_state.proofs.StatesLemmas.{put_empty}
 
 abbrev pick : Bool → CellState → CellState → CellState
 pick b x y = if b then x else y
@@ -87,10 +79,6 @@ mutual
 pub settled_under : (i : Instance) (path : Path) (s : State) → IsSettled i s → IsSettled (instance_at i path) (under_path path s)
 settled_under i path s h below = deeper i path below (s (path ++ below)) (h (path ++ below))
 
-put_empty : (path : Path) (own s : State) → (path ≡ [] → own [] ≡ s []) → put_path path own s [] ≡ s []
-put_empty [] own s h = h refl
-put_empty (x ∷ path) own s h = refl
-
 pick_settled : (b : Bool) (idles : CellState → CellState) (x y : CellState) → (b ≡ true → idles x ≡ x) → idles y ≡ y → idles (pick b x y) ≡ pick b x y
 pick_settled true idles x y h k = h refl
 pick_settled false idles x y h k = k
@@ -117,7 +105,3 @@ mutual
 -- where a state is settled, it stays so with a settled one at a path
 pub settled_put : (i : Instance) (path : Path) (own s : State) → IsSettled i s → IsSettled (instance_at i path) own → own [] ≡ s path → IsSettled i (put_path path own s)
 settled_put i path own s h k here p = put_settled_at i path own s h k here p
-
-pub append_none : (path : Path) → path ++ [] ≡ path
-append_none [] = refl
-append_none (c ∷ path) = ap (λ p. c ∷ p) (append_none path)

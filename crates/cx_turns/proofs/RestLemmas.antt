@@ -8,14 +8,14 @@ use Rattle.cx_prim.specs.Table.{row_of}
 use Rattle.cx_meaning.specs.Rows.{KeepsIdle}
 use Rattle.cx_meaning.specs.Laws.{AllRows, AllRowsBelow}
 use Rattle.cx_meaning.specs.Designs.{PlainKind, OfPrimitive, OfComponent, PlainCell}
-use Rattle.cx_meaning.specs.Instances.{Instance, Node, Cells, no_cells, a_primitive, an_instance, add_cell, cells_for, Path, Set, idle_at, idle_below, instance_at, child_at}
+use Rattle.cx_meaning.specs.Instances.{Instance, Node, Cells, no_cells, a_primitive, an_instance, add_cell, cells_for, Path, Set, idle_below, instance_at, child_at}
 use Rattle.cx_eval_cycle.specs.Passes.{listed_in, IsAscending}
 use Rattle.cx_state.specs.States.{HoldsKind, HoldCells}
 use Rattle.cx_turns.specs.Rests.{kind_rested, rested_cells}
-
--- THE IDLE EDGES of the driven cells are those of an idle turn
-pub top_idle : (i : Instance) (d : CellState) → idle_at i [] d ≡ d
-top_idle (Node part cells) d = refl
+use Rattle.cx_text.proofs.NumberLaws.{apart_numbers, other as apart}
+use Rattle.cx_text.proofs.ListLaws.{get_same}
+use Rattle.cx_meaning.proofs.InstancesLemmas.{top_idle}
+use Rattle.cx_state.proofs.StatesLemmas.{held_long}
 
 -- LISTED cells, one more
 pub listed_more : (xs : List ℕ) (k m : ℕ) → slice_get xs k ≡ Some m → (c : ℕ) → listed_in (take (suc k) xs) c ≡ (listed_in (take k xs) c || nat_eq m c)
@@ -44,18 +44,11 @@ above_head x (y ∷ ys) (suc k) m h e =
     let rest : y < m = above_head y ys k m (tail_ascends x (y ∷ ys) h) e in
     omega (arith, first, rest)
 
-differ : (x m : ℕ) → x < m → nat_eq x m ≡ false
-differ x m lt = by_case (nat_eq x m) refl
-  where
-    by_case : (b : Bool) → nat_eq x m ≡ b → nat_eq x m ≡ false
-    by_case true e = let same : x ≡ m = eqb-true x m e in absurd (omega (arith, same, lt))
-    by_case false e = e
-
 pub not_before : (xs : List ℕ) (k m : ℕ) → IsAscending xs → slice_get xs k ≡ Some m → listed_in (take k xs) m ≡ false
 not_before [] k m h e = absurd (let f : None ≡ Some m = e in cc)
 not_before (x ∷ xs) zero m h e = refl
 not_before (x ∷ xs) (suc k) m h e =
-    ap (λ b. b || listed_in (take k xs) m) (differ x m (above_head x xs k m h e)) ∙ not_before xs k m (tail_ascends x xs h) e
+    ap (λ b. b || listed_in (take k xs) m) (apart_numbers x m (above_head x xs k m h e)) ∙ not_before xs k m (tail_ascends x xs h) e
 
 -- rows of cells
 same_cells : (one other : Set) (xs : List PlainCell) (hs : List (Option CellState)) → ((c : ℕ) → one c ≡ other c) → rested_cells one xs hs ≡ rested_cells other xs hs
@@ -118,20 +111,6 @@ mutual
 pub rows_at : (i : Instance) (path : Path) → AllRows KeepsIdle i → AllRows KeepsIdle (instance_at i path)
 rows_at i path h = all_at KeepsIdle i path h
 
--- ONE MORE of the listed cells
-pub hold_length : (xs : List PlainCell) (hs : List (Option CellState)) → HoldCells xs hs → length hs ≡ length xs
-hold_length [] [] h = refl
-hold_length [] (x ∷ hs) h = absurd h
-hold_length (x ∷ xs) [] h = absurd h
-hold_length (x ∷ xs) (y ∷ hs) h = ap suc (hold_length xs hs h.1)
-
-apart : (m n : ℕ) → (m ≡ n → ⊥) → nat_eq m n ≡ false
-apart m n ne = by_case (nat_eq m n) refl
-  where
-    by_case : (b : Bool) → nat_eq m n ≡ b → nat_eq m n ≡ false
-    by_case true e = absurd (ne (eqb-true m n e))
-    by_case false e = e
-
 one_less : (m n : ℕ) → nat_eq (suc m) (suc n) ≡ nat_eq m n
 one_less m n = by_case (nat_eq m n) refl
   where
@@ -147,7 +126,7 @@ one_rested one more (x ∷ xs) [] c d is off lt count = absurd (let f : 0 ≡ su
 one_rested one more (x ∷ xs) (h ∷ hs) zero d is off lt count =
     let zeros : nat_eq 0 0 ≡ true = eq-eqb 0 0 refl in
     let listed : more 0 ≡ true = is 0 ∙ ap (λ b. one 0 || b) zeros ∙ ap (λ b. b || true) off in
-    let others : (e : ℕ) → more (suc e) ≡ one (suc e) = (λ e. is (suc e) ∙ ap (λ b. one (suc e) || b) (differ 0 (suc e) (omega arith)) ∙ or_false (one (suc e))) in
+    let others : (e : ℕ) → more (suc e) ≡ one (suc e) = (λ e. is (suc e) ∙ ap (λ b. one (suc e) || b) (apart_numbers 0 (suc e) (omega arith)) ∙ or_false (one (suc e))) in
     ap (λ b. (if b then kind_rested x.kind h else h) ∷ rested_cells (λ e. more (suc e)) xs hs) listed
     ∙ ap (λ ys. kind_rested x.kind h ∷ ys) (same_cells (λ e. more (suc e)) (λ e. one (suc e)) xs hs others)
     ∙ ap (λ b. kind_rested x.kind (if b then kind_rested x.kind h else h) ∷ rested_cells (λ e. one (suc e)) xs hs) (sym off)
@@ -182,24 +161,14 @@ set_holds (x ∷ xs) [] c d h holds is = absurd holds
 set_holds (x ∷ xs) (y ∷ hs) zero d h holds is = (is, holds.1)
 set_holds (x ∷ xs) (y ∷ hs) (suc c) d h holds is = (holds.0, set_holds xs hs c d h holds.1 is)
 
-pub got : {A : Type 0} (xs : List A) (k : ℕ) (d : A) → k < length xs → slice_get xs k ≡ Some (get_or xs k d)
-got [] k d lt = absurd (omega arith)
-got (x ∷ xs) zero d lt = refl
-got (x ∷ xs) (suc k) d lt = got xs k d (let l : suc k < suc (length xs) = lt in omega (arith, l))
-
-pub any_default : {A : Type 0} (xs : List A) (k : ℕ) (d e : A) → k < length xs → get_or xs k d ≡ get_or xs k e
-any_default [] k d e lt = absurd (omega arith)
-any_default (x ∷ xs) zero d e lt = refl
-any_default (x ∷ xs) (suc k) d e lt = any_default xs k d e (let l : suc k < suc (length xs) = lt in omega (arith, l))
-
 -- the listed cells so far have rested, and then one more has
 pub cells_next : (xs : List PlainCell) (listed : List ℕ) (initial held : List (Option CellState)) (k c : ℕ) (d : PlainCell) (old new : Option CellState) → IsAscending listed → slice_get listed k ≡ Some c → c < length xs → length initial ≡ length xs
     → held ≡ rested_cells (listed_in (take k listed)) xs initial → HoldCells xs held → old ≡ get_or held c old → new ≡ kind_rested (get_or xs c d).kind old → HoldsKind (get_or xs c d).kind new
     → (set held c new ≡ rested_cells (listed_in (take (k + 1) listed)) xs initial) × HoldCells xs (set held c new)
 cells_next xs listed initial held k c d old new ascending at lt count so_far holds is value fits =
     let next : suc k ≡ k + 1 = omega arith in
-    let inside : c < length held = subst (λ m. c < m) (sym (hold_length xs held holds)) lt in
-    let here : new ≡ kind_rested (get_or xs c d).kind (get_or held c None) = value ∙ ap (kind_rested (get_or xs c d).kind) (is ∙ any_default held c old None inside) in
+    let inside : c < length held = subst (λ m. c < m) (sym (held_long xs held holds)) lt in
+    let here : new ≡ kind_rested (get_or xs c d).kind (get_or held c None) = value ∙ ap (kind_rested (get_or xs c d).kind) (is ∙ get_same held c old None inside) in
     let one : set held c new ≡ rested_cells (listed_in (take (suc k) listed)) xs initial =
     ap (set held c) here ∙ ap (λ (hs : List (Option CellState)). set hs c (kind_rested (get_or xs c d).kind (get_or hs c None))) so_far
     ∙ sym (one_rested (listed_in (take k listed)) (listed_in (take (suc k) listed)) xs initial c d (listed_more listed k c at) (not_before listed k c ascending at) lt count) in

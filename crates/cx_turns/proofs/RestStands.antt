@@ -1,7 +1,6 @@
 -- What rows stand for once listed cells of an instance have taken their idle edges.
-use Rattle.std.proofs.Common.{◌≡◌, ◌≢◌, ℕ, zero, suc, ◌+◌, ◌<◌, ◌≤◌, Bool, List, [], ◌∷◌, ◌++◌, length, get_or, set, map, All, Option, Some, None, inl, inr, ◌⊎◌, ⊎_elim, refl, sym, ap, ◌∙◌, subst, arith, if◌then◌else◌}
+use Rattle.std.proofs.Common.{◌≡◌, ◌≢◌, ℕ, zero, suc, ◌+◌, ◌<◌, Bool, List, [], ◌∷◌, ◌++◌, length, get_or, set, map, All, Option, Some, None, ⊎_elim, refl, sym, ap, ◌∙◌, subst, arith, if◌then◌else◌}
 use Rattle.std.specs.List.{slice_get}
-use Rattle.std.proofs.lemmas.Bool.{cases_lt}
 use Rattle.std.proofs.lemmas.List.{get_or-set_same, get_or-set_other, get_or-map, length-set, length-map, map-set}
 use Rattle.cx_prim.specs.CellStates.{CellState}
 use Rattle.cx_meaning.specs.declared.sights.Seen.TheVariants.{Undefined}
@@ -14,27 +13,24 @@ use Rattle.cx_state.specs.States.{PlainInstance, plain_instance, no_instance, in
 use Rattle.cx_eval.specs.Evaluated.{HeldAlike}
 use Rattle.cx_turns.specs.Turns.{rested, Rested}
 use Rattle.cx_turns.specs.Rests.{rested_cells, rows_rested}
-use Rattle.cx_turns.proofs.RestLemmas.{cell_rested, any_default, got}
+use Rattle.cx_turns.proofs.RestLemmas.{cell_rested}
 use Rattle.cx_turns.specs.Groups.{ListWithin}
 use Rattle.cx_design.specs.declared.components.Component.{Component}
 use Rattle.cx_design.specs.PlainForms.{plain_cell, plain_component, plain_parts}
 use Rattle.cx_design.specs.declared.cells.Cell.{Cell}
 use Rattle.cx_state.specs.declared.states.InstanceState.{InstanceState}
-use Rattle.cx_turns.proofs.PathLemmas.{append_none}
-use Rattle.cx_turns.proofs.StandLemmas.{below_length}
-
-same_or : (m n : ℕ) → (m ≡ n) ⊎ (m ≢ n)
-same_or m n = ⊎_elim (λ (lt : m < n). inr (λ e. (let f : m ≡ n = e in omega arith))) (λ (le : n ≤ m). ⊎_elim (λ (lt : n < m). inr (λ e. (let f : m ≡ n = e in omega arith))) (λ (ge : m ≤ n). inl (omega arith)) (cases_lt n m)) (cases_lt m n)
+use Rattle.cx_meaning.proofs.DesignsLemmas.{same_part}
+use Rattle.cx_text.proofs.NumberLaws.{same_or}
+use Rattle.cx_state.proofs.StatesLemmas.{row_is}
+use Rattle.cx_text.proofs.ListLaws.{get_same, there_below}
+use Rattle.std.proofs.lemmas.Option.{slice_get-get_or}
+use Rattle.cx_meaning.proofs.InstancesLemmas.{append_none}
 
 -- what a cell of an instance of the tree holds
 own : (d : PlainDesign) (levels k : ℕ) (hs : List (Option CellState)) (listed : Set) (s : State) (c : ℕ) (held : CellState) → 0 < levels → ((h0 : CellState) → get_or hs c None ≡ Some h0 → s (c ∷ []) ≡ h0)
     → get_or (rested_cells listed (component_at d k).cells hs) c None ≡ Some held → rested listed (tree_within d levels k) s (c ∷ []) ≡ held
 own d zero k hs listed s c held some is e = absurd (omega arith)
 own d (suc levels) k hs listed s c held some is e = cell_rested (tree_within d levels) (component_at d k).cells hs listed c (s (c ∷ [])) held is e
-
-same_part : (d : PlainDesign) (levels k : ℕ) → part_of (tree_within d levels k) ≡ component_at d k
-same_part d zero k = refl
-same_part d (suc levels) k = refl
 
 module _ (d : PlainDesign) (table : List InstanceRow) (children : List ℕ) (is_table : IsTable d table children) (rows : List PlainInstance) (fits : IsStateOf d rows) (n : ℕ) (part : PlainComponent) (listed : Set) where
   abbrev row : PlainInstance
@@ -102,21 +98,16 @@ same_kept rows n x y e = ap (set rows n) e
 pub part_is : (components : List Component) (main : ℕ) (rows : List InstanceRow) (n : ℕ) (row : InstanceRow) (part : Component) → n < length rows → row ≡ get_or rows n row → (row_at rows n).component < length (plain_parts components main).components
     → part ≡ get_or components row.component part → plain_component part ≡ component_at (plain_parts components main) (row_at rows n).component
 part_is components main rows n row part lt is there at =
-    let same : row_at rows n ≡ row = any_default rows n _ row lt ∙ sym is in
+    let same : row_at rows n ≡ row = get_same rows n _ row lt ∙ sym is in
     let inside : row.component < length components = subst (λ (r : InstanceRow). r.component < length components) same (subst (λ m. (row_at rows n).component < m) (length-map components plain_component) there) in
     ap plain_component at ∙ sym (get_or-map plain_component components row.component part no_component inside) ∙ ap (λ (r : InstanceRow). component_at (plain_parts components main) r.component) (sym same)
-
-pub row_is : (items : List InstanceState) (n : ℕ) (r : InstanceState) → n < length (map plain_instance items) → r ≡ get_or items n r → instance_state (map plain_instance items) n ≡ plain_instance r
-row_is items n r lt e =
-    let inside : n < length items = subst (λ k. n < k) (length-map items plain_instance) lt in
-    get_or-map plain_instance items n r no_instance inside ∙ ap plain_instance (sym e)
 
 -- the instance holds states of its part
 pub holds_in : (d : PlainDesign) (table : List InstanceRow) (children : List ℕ) → IsTable d table children → (rows : List PlainInstance) → IsStateOf d rows → (n : ℕ) (part : PlainComponent) (row : PlainInstance) → n < length (paths_of (tree_of d))
     → part ≡ component_at d (row_at table n).component → instance_state rows n ≡ row → HoldCells part.cells row.cells
 holds_in d table children is_table rows fits n part _ lt is_part is_row =
     let path : Path = get_or (paths_of (tree_of d)) n [] in
-    let number : IsNumber d n path = got (paths_of (tree_of d)) n [] lt in
+    let number : IsNumber d n path = slice_get-get_or (paths_of (tree_of d)) n [] lt in
     let same : part_of (instance_at (tree_of d) path) ≡ part = ap part_of (is_table.component n path number) ∙ same_part d (length d.components) (row_at table n).component ∙ sym is_part in
     subst (λ (x : PlainInstance). HoldCells part.cells x.cells) is_row (subst (λ (p : PlainComponent). HoldCells p.cells (instance_state rows n).cells) same (fits.fits n path number).cells)
 
@@ -125,7 +116,7 @@ pub within_part : (d : PlainDesign) (table : List InstanceRow) (children : List 
     → ListWithin d n listed → All (λ c. c < length part.cells) listed
 within_part d table children is_table n part listed lt is_part within =
     let path : Path = get_or (paths_of (tree_of d)) n [] in
-    let number : IsNumber d n path = got (paths_of (tree_of d)) n [] lt in
+    let number : IsNumber d n path = slice_get-get_or (paths_of (tree_of d)) n [] lt in
     let same : part_of (instance_at (tree_of d) path) ≡ part = ap part_of (is_table.component n path number) ∙ same_part d (length d.components) (row_at table n).component ∙ sym is_part in
     subst (λ (p : PlainComponent). All (λ c. c < length p.cells) listed) same (within path number)
 

@@ -1,5 +1,5 @@
 -- Room for the islands of a design.
-use Rattle.std.proofs.Common.{◌≡◌, ℕ, zero, suc, ◌+◌, ◌<◌, ◌≤◌, ◌-◌, ◌^◌, List, [], ◌∷◌, ◌++◌, length, map, take, get_or, Option, Some, inl, inr, ⊎_elim, refl, sym, ap, ◌∙◌, subst, arith}
+use Rattle.std.proofs.Common.{◌≡◌, ℕ, zero, suc, ◌+◌, ◌<◌, ◌≤◌, ◌-◌, ◌^◌, List, [], ◌∷◌, ◌++◌, length, map, take, get_or, Option, Some, inl, inr, ⊎_elim, sym, ap, ◌∙◌, subst, arith}
 use Rattle.std.specs.Prelude.{min}
 use Rattle.std.specs.List.{slice_get}
 use Rattle.std.proofs.lemmas.Bool.{cases_lt}
@@ -15,15 +15,16 @@ use Rattle.cx_meaning.specs.Sights.{In}
 use Rattle.cx_rules.specs.Accepted.{IsAccepted}
 use Rattle.cx_rules.specs.Wellformed.{IsDesign}
 use Rattle.cx_rules.specs.Items.{Visited, statements_in}
-use Rattle.cx_limits.specs.Capped.{capped}
+use Rattle.cx_design_sizes.specs.Capped.{capped}
 use Rattle.cx_state.specs.Tables.{IsNumber, IsTable}
 use Rattle.cx_state.specs.declared.tables.InstanceRow.{InstanceRow}
 use Rattle.cx_turns.specs.declared.rooms.Room.{Room}
 use Rattle.cx_turns.specs.Machines.{FormStands}
 use Rattle.cx_turns.specs.Rooms.{FormFits, ListFits, PartFits, HasRoom, HoldsEntries, entry_room}
 use Rattle.cx_turns.proofs.IslandLemmas.{there, stands_there}
-use Rattle.cx_turns.proofs.RestLemmas.{got}
 use Rattle.cx_turns.proofs.StandLemmas as stand
+use Rattle.cx_text.proofs.ListLaws.{take_all}
+use Rattle.std.proofs.lemmas.Option.{slice_get-get_or}
 
 -- more room is room
 pub list_wider : (list : List Visited) (a b c d : ℕ) → a ≤ c → b ≤ d → ListFits list a b → ListFits list c d
@@ -48,7 +49,7 @@ pub island_room : (d : PlainDesign) (accepted : IsAccepted d) (design : IsDesign
     → FormFits form (vec_len room.samples) (entry_room room.active)
 island_room d accepted design rows children table n form room lt stands has =
     let path : Path = get_or (paths_of (tree_of d)) n [] in
-    let number : IsNumber d n path = got (paths_of (tree_of d)) n [] lt in
+    let number : IsNumber d n path = slice_get-get_or (paths_of (tree_of d)) n [] lt in
     let in_list : In (statements_in (part_of (instance_at (tree_of d) path))) (there form stands.0) = stands_there d n form stands path number in
     has.fits (stand.k d accepted design rows children table n path number (there form stands.0) in_list) (stand.within d accepted design rows children table n path number (there form stands.0) in_list) (there form stands.0)
     (stand.in_part d accepted design rows children table n path number (there form stands.0) in_list)
@@ -84,19 +85,13 @@ parts_next parts e k a b c d x is le lf before here j lt =
 -- a statement of a list, as it is read
 pub item_is : (xs : List Item) (k : ℕ) (x : Item) → k < length xs → x ≡ get_or xs k x → slice_get (map plain_visited xs) k ≡ Some (plain_visited x)
 item_is xs k x lt is =
-    got (map plain_visited xs) k (plain_visited x) (subst (λ m. k < m) (sym (length-map xs plain_visited)) lt)
+    slice_get-get_or (map plain_visited xs) k (plain_visited x) (subst (λ m. k < m) (sym (length-map xs plain_visited)) lt)
     ∙ ap (λ v. Some v) (get_or-map plain_visited xs k x (plain_visited x) lt ∙ ap plain_visited (sym is))
-
-pub whole_list : {A : Type 0} (xs : List A) (k : ℕ) → length xs ≤ k → take k xs ≡ xs
-whole_list [] zero le = refl
-whole_list [] (suc k) le = refl
-whole_list (x ∷ xs) zero le = absurd (let h : suc (length xs) ≤ 0 = le in omega (arith, h))
-whole_list (x ∷ xs) (suc k) le = ap (λ ys. x ∷ ys) (whole_list xs k (let h : suc (length xs) ≤ suc k = le in omega (arith, h)))
 
 -- room for all statements of a component
 pub part_fits : (xs : List Item) (part : PlainComponent) (k a b : ℕ) → map plain_visited xs ≡ statements_in part → length xs ≤ k → ListFits (take k (map plain_visited xs)) a b → PartFits part a b
 part_fits xs part k a b is le fits =
-    subst (λ list. ListFits list a b) is (subst (λ list. ListFits list a b) (whole_list (map plain_visited xs) k (subst (λ m. m ≤ k) (sym (length-map xs plain_visited)) le)) fits)
+    subst (λ list. ListFits list a b) is (subst (λ list. ListFits list a b) (take_all (map plain_visited xs) k (subst (λ m. m ≤ k) (sym (length-map xs plain_visited)) le)) fits)
 
 -- a component of a design, as it is read
 pub component_read : (all xs : List Component) (k : ℕ) (x : Component) → xs ≡ all → k < length xs → x ≡ get_or xs k x → plain_component x ≡ get_or (map plain_component all) k no_component

@@ -1,13 +1,12 @@
 -- What a design keeps of the statements of its instances: the ports of their tests, and their groups.
-use Rattle.std.proofs.Common.{◌≡◌, ℕ, zero, suc, ◌<◌, Bool, true, false, List, [], ◌∷◌, length, Option, Some, None, inl, inr, refl, sym, ap, ◌∙◌, subst, arith}
-use Rattle.std.specs.List.{slice_get}
+use Rattle.std.proofs.Common.{◌≡◌, ℕ, ◌<◌, Bool, true, false, List, [], length, Option, Some, None, inl, inr, refl, sym, ap, ◌∙◌, subst}
 use Rattle.cx_text.specs.declared.places.Place.{Place}
 use Rattle.cx_text.specs.declared.rules.Rule.TheVariants.{Literal}
 use Rattle.cx_meaning.specs.declared.ports.PortRef.{PortRef}
 use Rattle.cx_meaning.specs.declared.ports.PortRef.TheVariants as ports
 use Rattle.cx_meaning.specs.declared.ports.PlacedPort.{PlacedPort}
 use Rattle.cx_meaning.specs.Designs.{PlainDesign, PlainComponent, PlainForm, Enable, component_at}
-use Rattle.cx_meaning.specs.Instances.{Instance, Path, part_of, instance_at, tree_of, tree_within}
+use Rattle.cx_meaning.specs.Instances.{Instance, Path, part_of, instance_at, tree_of}
 use Rattle.cx_meaning.specs.Sights.{In}
 use Rattle.cx_rules.specs.Accepted.{IsAccepted}
 use Rattle.cx_rules.specs.Spots.{AStatement}
@@ -22,20 +21,9 @@ use Rattle.cx_interp_islands.specs.Asked.{IsTestIn}
 use Rattle.cx_turns.specs.Groups.{IsGroupOf}
 use Rattle.cx_turns.specs.Machines.{FormStands}
 use Rattle.cx_turns.specs.Tests.{comb_active}
-
-found : {A : Type 0} (xs : List A) (x : A) → In xs x → (m : ℕ) × (slice_get xs m ≡ Some x)
-found [] x h = absurd h
-found (y ∷ ys) x (inl e) = (0, ap (λ z. Some z) e)
-found (y ∷ ys) x (inr h) = let r = found ys x h in (suc r.0, r.1)
-
-pub below_length : {A : Type 0} (xs : List A) (k : ℕ) (x : A) → slice_get xs k ≡ Some x → k < length xs
-below_length [] k x e = absurd (let f : None ≡ Some x = e in cc)
-below_length (y ∷ ys) zero x e = omega arith
-below_length (y ∷ ys) (suc k) x e = let h : k < length ys = below_length ys k x e in omega (arith, h)
-
-pub same_part : (d : PlainDesign) (n k : ℕ) → part_of (tree_within d n k) ≡ component_at d k
-same_part d zero k = refl
-same_part d (suc n) k = refl
+use Rattle.cx_meaning.proofs.DesignsLemmas.{same_part}
+use Rattle.cx_meaning.proofs.SightsLaws.{number_in}
+use Rattle.cx_text.proofs.ListLaws.{there_below}
 
 kept_literal : (port : PortRef) → ((w v : ℕ) → port ≡ ports.Literal w v → keeps_literal w v ≡ false → ⊥) → IsKept port
 kept_literal (ports.Cell c p) h = tt
@@ -54,7 +42,7 @@ module _ (d : PlainDesign) (accepted : IsAccepted d) (design : IsDesign d) (rows
     k = (row_at rows n).component
 
     pub within : k < length d.components
-    within = table.there n (subst (λ m. n < m) (sym table.count) (below_length _ n path number))
+    within = table.there n (subst (λ m. n < m) (sym table.count) (there_below _ n path number))
 
     is_part : part_of (instance_at (tree_of d) path) ≡ component_at d k
     is_part = ap part_of (table.component n path number) ∙ same_part d (length d.components) k
@@ -70,7 +58,7 @@ module _ (d : PlainDesign) (accepted : IsAccepted d) (design : IsDesign d) (rows
 
     literal : (port : PlacedPort) → test_in v.form ≡ Some port → (w x : ℕ) → port.port ≡ ports.Literal w x → keeps_literal w x ≡ false → ⊥
     literal port e w x is bad =
-        let f = found (statements_in (component_at d k)) v in_part in
+        let f = number_in (statements_in (component_at d k)) v in_part in
         accepted.widths Literal (record { component = k; part = AStatement f.0 }) port.place [] refl
         (inr (record { within = within; number = f.0; is = refl; statement = v; stands = f.1; breaks = (port, e, (w, x, is, bad), (refl, refl)) }))
 

@@ -1,5 +1,5 @@
 -- Tables as they grow, and what they tell of the instances.
-use Rattle.std.proofs.Common.{◌≡◌, ℕ, zero, suc, ◌+◌, List, [], ◌∷◌, ◌++◌, Option, Some, None, length, slice_get, refl, sym, ap, subst, arith}
+use Rattle.std.proofs.Common.{◌≡◌, ℕ, zero, suc, List, [], ◌∷◌, ◌++◌, Option, Some, None, length, slice_get, sym, ap, subst}
 use Rattle.cx_meaning.specs.Designs.{PlainDesign}
 use Rattle.cx_meaning.specs.Instances.{part_of}
 use Rattle.cx_state.specs.declared.tables.InstanceRow.{InstanceRow}
@@ -10,10 +10,6 @@ use Rattle.cx_turns.specs.GroupRows.{IsGroup, AreTables, AreGroups}
 abbrev value_or : {A : Type 0} → A → Option A → A
 value_or a None = a
 value_or a (Some b) = b
-
-pub one_more : {A : Type 0} (xs : List A) (x : A) → length (xs ++ x ∷ []) ≡ length xs + 1
-one_more [] x = refl
-one_more (y ∷ xs) x = let h = one_more xs x in omega (arith, h)
 
 -- one more element, which keeps what those of a list keep
 pub pushed : {A : Type 0} (P : ℕ → A → Type 0) (xs : List A) (x : A) → ((k : ℕ) (y : A) → slice_get xs k ≡ Some y → P k y) → P (length xs) x

@@ -17,7 +17,7 @@ use Rattle.cx_state.specs.Tables.{IsNumber}
 use Rattle.cx_state.specs.States.{PlainInstance, inputs_held, under_path}
 use Rattle.cx_eval.specs.Evaluated.{IsSeen, fault_along}
 use Rattle.cx_turns.specs.Tests.{TellsTest, TellsTruth, Tested, comb_active}
-use Rattle.cx_turns.proofs.PathLemmas.{append_none}
+use Rattle.cx_meaning.proofs.InstancesLemmas.{append_none}
 
 -- a fault of a port of the instance itself
 pub tells_own : (d : PlainDesign) (n : ℕ) (path : Path) (kind : FaultKind) (port : PortRef) → IsNumber d n path → TellsFault (tree_of d) (fault_along path (fault_at kind port)) (record { kind = kind; instance = n; port = port })

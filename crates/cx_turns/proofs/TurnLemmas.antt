@@ -1,14 +1,13 @@
 -- A turn of a group: a cycle of the cells that it drives is the whole cycle, and changes no other.
-use Rattle.std.proofs.Common.{◌≡◌, ℕ, zero, Bool, true, false, nat_eq, List, ◌∷◌, Some, None, Result, Ok, Err, refl, sym, ap, ◌∙◌, subst, if◌then◌else◌}
-use Rattle.std.proofs.lemmas.Bool.{eqb-true}
+use Rattle.std.proofs.Common.{◌≡◌, ℕ, zero, false, List, ◌∷◌, Result, Ok, Err, refl, sym, ap, ◌∙◌, subst}
 use Rattle.cx_meaning.specs.declared.ports.PortRef.TheVariants as ports
 use Rattle.cx_meaning.specs.declared.sights.Seen.{Seen}
 use Rattle.cx_meaning.specs.declared.sights.FaultKind.TheVariants as faults
-use Rattle.cx_meaning.specs.Designs.{PlainDesign, PlainComponent}
+use Rattle.cx_meaning.specs.Designs.{PlainDesign}
 use Rattle.cx_meaning.specs.Instances.{Instance, Path, State, Set, part_of, cells_of, idle_at, instance_at, tree_of, IsSettled}
 use Rattle.cx_meaning.specs.Truths.{Truth, One, Zero, truth_of}
 use Rattle.cx_meaning.specs.Truths as truths
-use Rattle.cx_meaning.specs.Active.{Active, group, only_at}
+use Rattle.cx_meaning.specs.Active.{Active, group}
 use Rattle.cx_meaning.specs.Sights.{Held, seen}
 use Rattle.cx_meaning.specs.Cycles.{Ended, Goes, Faults, cycle_of, cycle, every_cell, outcome_of, state_after, fault_at}
 use Rattle.cx_meaning.specs.Islands.{turn_of}
@@ -28,16 +27,7 @@ use Rattle.cx_turns.specs.Groups.{ListGroup, group_driving}
 use Rattle.cx_turns.specs.Turns.{HoleTurn, IsBusy, TellsTurn, Taken, cycle_as}
 use Rattle.cx_turns.proofs.PathLemmas.{under_put, put_put, settled_under}
 use Rattle.cx_turns.proofs.TestLemmas.{tells_own}
-
--- a cell that a group does not drive is undriven where the group alone is active
-pub undriven_alone : (part : PlainComponent) (g c : ℕ) → group_drives part g c ≡ false → IsUndriven part (group g) c
-undriven_alone part g c off h on = other (nat_eq g h) refl
-  where
-    other : (b : Bool) → nat_eq g h ≡ b → only_at g h ≡ None
-    other true e =
-        let same : g ≡ h = eqb-true g h e in
-        absurd (let f : true ≡ false = sym on ∙ ap (λ x. group_drives part x c) (sym same) ∙ off in cc)
-    other false e = ap (λ b. if b then Some 0 else None) e
+use Rattle.cx_frames.proofs.RunLemmas.{group_undriven}
 
 -- after a cycle of the listed cells only driven cells differ, as before
 pub still_busy : (i : Instance) (held : Held) (act : Active) (listed driven : Set) (s now after : State) → ((c : ℕ) → driven c ≡ false → listed c ≡ false) → IsBusy driven s now → cycle_of i held act listed now ≡ Goes after → IsBusy driven s after
@@ -125,7 +115,7 @@ module _ (d : PlainDesign) (n g : ℕ) where
           let held : Held = inputs_held old n in
           let off : (c : ℕ) → listed_in cells c ≡ false → group_drives (part_of i) g c ≡ false = (λ c e. sym (lists path c number) ∙ e) in
           let whole : cycle_of i held (group g) (listed_in cells) now ≡ cycle i held (group g) now =
-          suffices path held (group g) (listed_in cells) now (λ c e. undriven_alone (part_of i) g c (off c e))
+          suffices path held (group g) (listed_in cells) now (λ c e. group_undriven (part_of i) g c (off c e))
           (λ c e. rest_settled i (group_driving g i) (under_path path s) now (settled_under (tree_of d) path s settled) busy c (off c e)) in
           let ends : EndsAs d path (put_path path now s) old new r (cycle_of i held (group g) (listed_in cells) now) =
           subst (λ (y : State). EndsAs d path (put_path path now s) old new r (cycle_of i held (group g) (listed_in cells) y)) (under_put path now s) (cycled path (put_path path now s) number stands) in

@@ -1,5 +1,5 @@
 -- The cells of which a group drives a port are cells of its component.
-use Rattle.std.proofs.Common.{◌≡◌, ℕ, zero, suc, ◌<◌, All, Bool, true, false, ◌||◌, nat_eq, List, [], ◌∷◌, Some, length, inl, inr, refl, sym, ap, ◌∙◌, subst, arith, tests}
+use Rattle.std.proofs.Common.{◌≡◌, ℕ, zero, suc, ◌<◌, All, Bool, true, false, ◌||◌, nat_eq, List, [], ◌∷◌, Some, length, inl, inr, refl, sym, ap, ◌∙◌, subst, arith}
 use Rattle.std.specs.List.{slice_index_or}
 use Rattle.std.proofs.Math.Logic.{∥∥₁_elim}
 use denote.Struct.Props.{props}
@@ -11,22 +11,17 @@ use Rattle.cx_meaning.specs.Sights.{In}
 use Rattle.cx_meaning.specs.Control.{targets_cell, assigns_drive, group_drives}
 use Rattle.cx_rules.specs.Ports.{component_of}
 use Rattle.cx_rules.specs.Wellformed.{IsThere, IsDesign}
-use Rattle.cx_rules.proofs.CircleLemmas.{same_part}
 use Rattle.cx_eval_cycle.specs.Passes.{listed_in}
-use Rattle.cx_turns.proofs.DriveLemmas.{just_is, from_eq}
-
-either : (a b : Bool) → b ≡ true → a || b ≡ true
-either true b e = refl
-either false b e = e
-
-same_number : (n : ℕ) → nat_eq n n ≡ true
-same_number n = grind (arith, tests)
+use Rattle.cx_turns.proofs.DriveLemmas.{just_is}
+use Rattle.cx_text.proofs.NumberLaws.{equal, from_eq}
+use Rattle.cx_text.proofs.BoolLaws.{or_right}
+use Rattle.cx_meaning.proofs.DesignsLemmas.{same_part}
 
 -- each number of a list is listed
 listed_at : (xs : List ℕ) (k d : ℕ) → k < length xs → listed_in xs (slice_index_or xs k d) ≡ true
 listed_at [] k d lt = absurd (omega (arith, lt))
-listed_at (x ∷ xs) zero d lt = ap (λ b. b || listed_in xs x) (same_number x)
-listed_at (x ∷ xs) (suc k) d lt = either (nat_eq x (slice_index_or xs k d)) (listed_in xs (slice_index_or xs k d)) (listed_at xs k d (omega (arith, lt)))
+listed_at (x ∷ xs) zero d lt = ap (λ b. b || listed_in xs x) (equal x)
+listed_at (x ∷ xs) (suc k) d lt = or_right (nat_eq x (slice_index_or xs k d)) (listed_in xs (slice_index_or xs k d)) (listed_at xs k d (omega (arith, lt)))
 
 -- an assignment that drives a cell
 driver : (assigns : List PlainAssign) (c : ℕ) → assigns_drive assigns c ≡ true → (a : PlainAssign) × In assigns a × (targets_cell a.target c ≡ true)
@@ -38,7 +33,7 @@ driver (a ∷ rest) c e = choice (targets_cell a.target c) refl e (driver rest c
     choice true is e later = (a, inl refl, is)
     choice false is e later = let found = later e in (found.0, inr found.1, found.2)
 
-target_below : (i : Instance) (target : PortRef) (c : ℕ) → IsThere i target → targets_cell target c ≡ true → c < length (part_of i).cells
+pub target_below : (i : Instance) (target : PortRef) (c : ℕ) → IsThere i target → targets_cell target c ≡ true → c < length (part_of i).cells
 target_below i (ports.Cell d p) c there e = subst (λ n. n < length (part_of i).cells) (from_eq d c (sym (just_is d c) ∙ e)) there.0
 target_below i (ports.Input n) c there e = absurd (cc)
 target_below i (ports.Output n) c there e = absurd (cc)

@@ -1,6 +1,5 @@
 -- What is appended, step by step.
-use Rattle.std.proofs.Common.{◌≡◌, ℕ, suc, ◌+◌, ◌<◌, List, [], ◌∷◌, ◌++◌, length, get_or, drop, drop-cons, Some, option_map, map, slice_get, refl, ap, sym, ◌∙◌, subst, append_assoc, append-nil, add-one}
-use Rattle.std.proofs.lemmas.Option.{slice_get-map, slice_get_read}
+use Rattle.std.proofs.Common.{◌≡◌, ℕ, suc, ◌+◌, ◌<◌, List, [], ◌∷◌, ◌++◌, length, get_or, drop, drop-cons, map, refl, ap, sym, ◌∙◌, subst, append_assoc, append-nil, add-one}
 use Rattle.cx_velab.specs.Added.{Paired, Adds}
 
 module _ {A B : Type 0} (R : A → B → Type 0) where
@@ -48,10 +47,6 @@ module _ {A B : Type 0} (R : A → B → Type 0) where
 
   pub done_end : (old new : List A) (rest whole : List B) → rest ≡ [] → Done old new rest whole → Adds R old new whole
   done_end old new rest whole e d = adds_as R old new d.0 whole (sym (append-nil d.0) ∙ ap (λ l. d.0 ++ l) (sym e) ∙ d.2) d.1
-
--- what an element of a list stands for
-pub item_at : {A B : Type 0} (f : A → B) (xs : List A) (i : ℕ) (x : A) → i < length xs → x ≡ get_or xs i x → slice_get (map f xs) i ≡ Some (f x)
-item_at f xs i x lt at = slice_get-map f xs i ∙ ap (option_map f) (slice_get_read xs (length xs) i x refl lt at)
 
 -- the elements from one on, by what they stand for
 pub rest_at : {A B : Type 0} (f : A → B) (xs : List A) (i : ℕ) (x : A) → i < length xs → x ≡ get_or xs i x → map f (drop i xs) ≡ f x ∷ map f (drop (i + 1) xs)

@@ -1,5 +1,5 @@
 -- Where the driver of each net comes from.
-use Rattle.std.proofs.Common.{◌≡◌, ℕ, zero, suc, ◌+◌, ◌<◌, ◌==◌, ◌&&◌, ⊎_elim, Bool, true, false, List, [], ◌∷◌, ◌++◌, map, length, Option, Some, None, option_map, option_and_then, slice_get, refl, ap, sym, ◌∙◌, subst, arith, if◌then◌else◌}
+use Rattle.std.proofs.Common.{◌≡◌, ℕ, suc, ◌+◌, ◌<◌, ◌==◌, ◌&&◌, ⊎_elim, Bool, true, false, List, [], ◌∷◌, ◌++◌, map, length, Option, Some, None, option_map, option_and_then, slice_get, refl, ap, sym, ◌∙◌, subst, arith, if◌then◌else◌}
 use Rattle.std.specs.Prelude.{IsSome}
 use Rattle.std.specs.Option.{option_map_or}
 use Rattle.std.specs.Cmp.Lexicographic.{same_text}
@@ -14,36 +14,23 @@ use Rattle.cx_vnets.specs.ModuleNumbers.{position}
 use Rattle.cx_velab.specs.Driven.{IsRight, IsTied}
 use Rattle.cx_velab.specs.Covered.{IsTidy, IsDriven, DrivenStand}
 use Rattle.cx_velab.proofs.DrivenLemmas.{position_here, position_there}
-
-pub bind_some : {A B : Type 0} (f : A → Option B) (o : Option A) (y : B) → option_and_then f o ≡ Some y → (x : A) × (o ≡ Some x) × (f x ≡ Some y)
-bind_some f None y e = absurd (cc)
-bind_some f (Some x) y e = (x, refl, e)
-
-pub next_of : {A : Type 0} (x : A) (xs : List A) (k : ℕ) → slice_get (x ∷ xs) (suc k) ≡ slice_get xs k
-next_of x xs k = refl
-
--- by the two sides of a test
-by_side : {A : Type 0} (P : Type 0) (t : Bool) (a b : Option A) (x : A) → (if t then a else b) ≡ Some x → (t ≡ true → a ≡ Some x → P) → (t ≡ false → b ≡ Some x → P) → P
-by_side P true a b x e h k = h refl e
-by_side P false a b x e h k = k refl e
+use Rattle.cx_text.proofs.OptionLaws.{bind_some, by_side}
+use Rattle.cx_text.proofs.BoolLaws.{and_both}
+use Rattle.cx_text.proofs.ListLaws.{there_at, front, slice_get-next}
 
 by_truth : (P : Type 0) (t a b : Bool) → (if t then a else b) ≡ true → (t ≡ true → a ≡ true → P) → (t ≡ false → b ≡ true → P) → P
 by_truth P true a b e h k = h refl e
 by_truth P false a b e h k = k refl e
-
-both : (a b : Bool) → (a && b) ≡ true → (a ≡ true) × (b ≡ true)
-both true b e = (refl, e)
-both false b e = absurd (cc)
 
 -- a port that stands in a list
 abbrev PortIn : List PlainPort → List ℕ → Bool → Type 0
 PortIn ports name output = (h : ℕ) × (port : PlainPort) × (slice_get ports h ≡ Some port) × (port.name ≡ name) × (port.output ≡ output)
 
 port_later : (p : PlainPort) (ps : List PlainPort) (name : List ℕ) (output : Bool) → PortIn ps name output → PortIn (p ∷ ps) name output
-port_later p ps name output r = (suc r.0, r.1, next_of p ps r.0 ∙ r.2, r.3, r.4)
+port_later p ps name output r = (suc r.0, r.1, slice_get-next p ps r.0 ∙ r.2, r.3, r.4)
 
 -- an input is a port
-no_input : (ds : List PlainDecl) (name : List ℕ) → declared_kind ds name ≡ Some kinds.Input → ⊥
+pub no_input : (ds : List PlainDecl) (name : List ℕ) → declared_kind ds name ≡ Some kinds.Input → ⊥
 no_input [] name e = absurd (cc)
 no_input (WireOf x w ∷ ds) name e = by_side ⊥ (same_name x name) _ (declared_kind ds name) kinds.Input e (λ t f. absurd (cc)) (λ t f. no_input ds name f)
 no_input (RegisterOf x w ∷ ds) name e = by_side ⊥ (same_name x name) _ (declared_kind ds name) kinds.Input e (λ t f. absurd (cc)) (λ t f. no_input ds name f)
@@ -77,10 +64,10 @@ output_conn ports [] net port e = absurd (cc)
 output_conn ports (c ∷ cs) net port e =
     by_side (ConnIn ports (c ∷ cs) net port) (same_name c.net net && is_output ports c.port) (Some c.port) (output_to ports cs net) port e
     (λ t f.
-    let b = both (same_name c.net net) (is_output ports c.port) t in
+    let b = and_both (same_name c.net net) (is_output ports c.port) t in
     let same : c.port ≡ port = cc in
     (0, c, refl, same_text c.net net (sym b.0), same, subst (λ n. is_output ports n ≡ true) same b.1))
-    (λ t f. let r = output_conn ports cs net port f in (suc r.0, r.1, next_of c cs r.0 ∙ r.2, r.3, r.4, r.5))
+    (λ t f. let r = output_conn ports cs net port f in (suc r.0, r.1, slice_get-next c cs r.0 ∙ r.2, r.3, r.4, r.5))
 
 -- an instance whose output drives a net
 abbrev OutputIn : List Placed → ℕ → ℕ → List ℕ → ℕ → List ℕ → Type 0
@@ -95,7 +82,7 @@ held_output [] number holder j net port e = absurd (cc)
 held_output (p ∷ rest) number holder j net port e = go (p.holder == holder) refl (output_to p.part.ports p.conns net) refl (driving_output rest (number + 1) holder net) (held_output rest (number + 1) holder j net port) e
   where
     later : OutputIn rest (number + 1) holder net j port → OutputIn (p ∷ rest) number holder net j port
-    later r = let count : j ≡ number + suc r.0 = omega (arith, r.3) in (suc r.0, r.1, next_of p rest r.0 ∙ r.2, count, r.4, r.5)
+    later r = let count : j ≡ number + suc r.0 = omega (arith, r.3) in (suc r.0, r.1, slice_get-next p rest r.0 ∙ r.2, count, r.4, r.5)
 
     go : (t : Bool) → (p.holder == holder) ≡ t → (o : Option (List ℕ)) → output_to p.part.ports p.conns net ≡ o → (d : Option Origin) → (d ≡ Some (Tied j port) → OutputIn rest (number + 1) holder net j port)
         → option_map_or (λ n. Some (Tied number n)) (if t then o else None) d ≡ Some (Tied j port) → OutputIn (p ∷ rest) number holder net j port
@@ -126,17 +113,7 @@ assign_of [] name x e = absurd (cc)
 assign_of (a ∷ rest) name x e =
     by_side (AssignIn (a ∷ rest) name) (same_name a.name name) (Some a.value) (assigned rest name) x e
     (λ t f. (0, a, refl, same_text a.name name (sym t)))
-    (λ t f. let r = assign_of rest name x f in (suc r.0, r.1, next_of a rest r.0 ∙ r.2, r.3))
-
-pub front : {A : Type 0} (xs ys : List A) (k : ℕ) (x : A) → slice_get xs k ≡ Some x → slice_get (xs ++ ys) k ≡ Some x
-front [] ys k x e = absurd (cc)
-front (y ∷ xs) ys zero x e = e
-front (y ∷ xs) ys (suc k) x e = front xs ys k x e
-
-pub there_at : {A : Type 0} (xs : List A) (k : ℕ) → k < length xs → (x : A) × (slice_get xs k ≡ Some x)
-there_at [] k lt = absurd (omega arith)
-there_at (x ∷ xs) zero lt = (x, refl)
-there_at (x ∷ xs) (suc k) lt = there_at xs k (omega arith)
+    (λ t f. let r = assign_of rest name x f in (suc r.0, r.1, slice_get-next a rest r.0 ∙ r.2, r.3))
 
 module _ (tree : List Placed) (codes : List Code) (drivers : List Driver) (tidy : IsTidy tree) (driven : IsDriven tree codes drivers) where
   -- a port is a net of its instance

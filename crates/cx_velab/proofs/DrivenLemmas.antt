@@ -17,11 +17,7 @@ use Rattle.cx_vnets.specs.Flat.{DriverStands}
 use Rattle.cx_velab.specs.Ties.{number_or_0, tied_by, tied_ports, given_nets}
 use Rattle.cx_velab.specs.Driven.{IsRight, KeepsRight, NetsAreApart, IsWhole, TellsOrigin, IsConnected, IsTied, TiesAreRight, IsGiven, GivensAreRight}
 use Rattle.cx_velab.proofs.BaseLemmas.{before_up}
-
-set_here : {A : Type 0} (xs : List A) (i : ℕ) (x : A) → i < length xs → slice_get (slice_set xs i x) i ≡ Some x
-set_here [] i x lt = absurd (omega arith)
-set_here (y ∷ xs) zero x lt = refl
-set_here (y ∷ xs) (suc i) x lt = set_here xs i x (omega arith)
+use Rattle.cx_text.proofs.ListLaws.{get_set_same}
 
 set_apart : {A : Type 0} (xs : List A) (i j : ℕ) (x : A) → j ≢ i → slice_get (slice_set xs i x) j ≡ slice_get xs j
 set_apart [] i j x ne = refl
@@ -114,7 +110,7 @@ module _ (tree : List Placed) (codes : List Code) (apart : NetsAreApart tree) wh
     put_right : IsRight tree codes new j h
     put_right name there =
         let same : net ≡ name = cc in
-        (o, subst (λ n. origin_of tree j n ≡ Some o) same is, (x, set_here old (nets_before tree j + h) x (is_within old j h net whole at), stands))
+        (o, subst (λ n. origin_of tree j n ≡ Some o) same is, (x, get_set_same old (nets_before tree j + h) x (is_within old j h net whole at), stands))
 
     put_keeps : KeepsRight tree codes old new
     put_keeps i k right name there = ⊎_elim

@@ -11,14 +11,15 @@ use Rattle.cx_vnets.specs.CodeLaws.{net_widths, array_widths}
 use Rattle.cx_vnets.specs.Numbers.{nets_before, arrays_before}
 use Rattle.cx_velab.specs.Tables.{zero_of, module_zeros, zero_arrays, all_zeros, all_zero_arrays}
 use Rattle.cx_velab.specs.FitsLaws.{ZerosFit}
-use Rattle.cx_velab.proofs.ZeroLemmas.{before_first, length-net_widths, length-mapped, mapped_some, zeros_at, zero_arrays_at, zeros}
+use Rattle.cx_velab.proofs.ZeroLemmas.{before_first, length-net_widths, mapped_some, zeros_at, zero_arrays_at, zeros}
+use Rattle.cx_text.proofs.ListLaws.{length-map}
 
 -- as many zeros as nets
 zeros_count : (tree : List Placed) → length (all_zeros tree) ≡ nets_before tree (length tree)
 zeros_count [] = refl
 zeros_count (p ∷ ps) =
     let first = before_first (nets_at (p ∷ ps)) (nets_at ps) (λ j. refl) (length ps) in
-    let long = length-mapped zero_of (net_widths p.part.ports p.part.decls) ∙ length-net_widths p.part.ports p.part.decls in
+    let long = length-map zero_of (net_widths p.part.ports p.part.decls) ∙ length-net_widths p.part.ports p.part.decls in
     let both = length-append (module_zeros p.part) (all_zeros ps) in
     let rest = zeros_count ps in
     omega arith

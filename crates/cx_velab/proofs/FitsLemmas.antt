@@ -27,7 +27,7 @@ use Rattle.cx_vnets.specs.Flat.{CodeStands, DriverStands, NetsStand}
 use Rattle.cx_velab.specs.Zeros.{widths_at}
 use Rattle.cx_velab.specs.FitsLaws.{StoredHasWidths, scope_at, IsSound, IsAsWide, OriginsAreAsWide, NetsFit, SetIsAsWide, AllSetsFit, StoreIsAsWide, AllStoresFit}
 use Rattle.cx_velab.proofs.ZeroLemmas.{length-net_widths}
-use Rattle.cx_velab.proofs.CoveredLemmas.{there_at}
+use Rattle.cx_text.proofs.ListLaws.{there_at}
 
 -- each number below the count is that of a place in a list
 pub place_in : (lists : ℕ → List (List ℕ)) (n f : ℕ) → f < before lists n → (i : ℕ) × (k : ℕ) × (f ≡ before lists i + k) × (k < length (lists i))

@@ -9,3 +9,4 @@ pub mod CoveredLemmas
 pub mod FitsLemmas
 pub mod PartLemmas
 pub mod EvenLemmas
+pub mod TablesLemmas

@@ -19,12 +19,7 @@ use Rattle.cx_velab.specs.Added.{Paired}
 use Rattle.cx_velab.specs.Coded.{AddsCodes}
 use Rattle.cx_velab.specs.declared.parts.ModulePart.{ModulePart}
 use Rattle.cx_velab.specs.Parts.{HasCodes, PartStands, Extends, HasPart, AreFound}
-use Rattle.cx_velab.proofs.CoveredLemmas.{front}
-
-pub behind : {A : Type 0} (xs ys : List A) (k j : ℕ) → k ≡ length xs + j → slice_get (xs ++ ys) k ≡ slice_get ys j
-behind [] ys k j e = let same : k ≡ j = omega arith in ap (slice_get ys) same
-behind (x ∷ xs) ys zero j e = absurd (omega arith)
-behind (x ∷ xs) ys (suc k) j e = behind xs ys k j (omega arith)
+use Rattle.cx_text.proofs.ListLaws.{behind, front}
 
 paired_at : {A B : Type 0} (R : A → B → Type 0) (xs : List A) (ys : List B) (j : ℕ) (y : B) → Paired R xs ys → slice_get ys j ≡ Some y → (x : A) × (slice_get xs j ≡ Some x) × R x y
 paired_at R [] [] j y h e = absurd (cc)

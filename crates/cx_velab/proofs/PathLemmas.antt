@@ -1,39 +1,24 @@
 -- Paths, step by step.
 use Rattle.std.proofs.Common.{◌≡◌, ◌≢◌, ℕ, zero, suc, ◌+◌, ◌<◌, ◌≤◌, ◌==◌, List, [], ◌∷◌, ◌++◌, Bool, true, false, Option, Some, None, map, length, get_or, option_map, slice_get, refl, sym, ap, ◌∙◌, append-nil, append_assoc, if◌then◌else◌, arith, ne_eqb}
 use Rattle.std.specs.Option.{option_map_or}
-use Rattle.std.proofs.lemmas.Option.{slice_get-map, slice_get_read, slice_get_past}
+use Rattle.std.proofs.lemmas.Option.{slice_get-map, slice_get_past}
 use Rattle.cx_vtree.specs.declared.modules.ModulePort.{ModulePort}
 use Rattle.cx_vtree.specs.PlainParts.{plain_port}
 use Rattle.cx_vtree.specs.InstanceTree.{Placed}
 use Rattle.cx_velab.specs.Paths.{up}
-
-pub slice_get-front : {A : Type 0} (xs ys : List A) (k : ℕ) → k < length xs → slice_get (xs ++ ys) k ≡ slice_get xs k
-slice_get-front [] ys k lt = absurd (omega arith)
-slice_get-front (x ∷ xs) ys zero lt = refl
-slice_get-front (x ∷ xs) ys (suc k) lt = slice_get-front xs ys k (omega arith)
-
-pub slice_get-back : {A : Type 0} (xs ys : List A) (k j : ℕ) → k ≡ length xs + j → slice_get (xs ++ ys) k ≡ slice_get ys j
-slice_get-back [] ys k j e = let same : k ≡ j = omega arith in ap (slice_get ys) same
-slice_get-back (x ∷ xs) ys zero j e = absurd (omega arith)
-slice_get-back (x ∷ xs) ys (suc k) j e = slice_get-back xs ys k j (omega arith)
-
-pub length-map : {A B : Type 0} (f : A → B) (xs : List A) → length (map f xs) ≡ length xs
-length-map f [] = refl
-length-map f (x ∷ xs) = ap suc (length-map f xs)
-
-ports-length : (ports : List ModulePort) → length (map (λ p. p.name) (map plain_port ports)) ≡ length ports
-ports-length ports = length-map (λ p. p.name) (map plain_port ports) ∙ length-map plain_port ports
+use Rattle.cx_text.proofs.ListLaws.{item_at, behind, append-front}
+use Rattle.cx_vtree.proofs.ModulesLemmas.{ports-length}
 
 -- a port of a module is a net of it
 pub net-front : (ports xs : List ModulePort) (more : List (List ℕ)) (k : ℕ) (o : Option (List ℕ)) → xs ≡ ports → k < length ports → o ≡ slice_get (map (λ p. p.name) (map plain_port xs)) k
     → o ≡ slice_get (map (λ p. p.name) (map plain_port ports) ++ more) k
 net-front ports xs more k o same lt e =
     e ∙ ap (λ (l : List ModulePort). slice_get (map (λ p. p.name) (map plain_port l)) k) same
-    ∙ sym (slice_get-front (map (λ p. p.name) (map plain_port ports)) more k (omega (arith, ports-length ports)))
+    ∙ sym (append-front (map (λ p. p.name) (map plain_port ports)) more k (omega (arith, ports-length ports)))
 
 -- and after the ports come the others
 pub net-back : (ports : List ModulePort) (more : List (List ℕ)) (k j : ℕ) → k ≡ length ports + j → slice_get (map (λ p. p.name) (map plain_port ports) ++ more) k ≡ slice_get more j
-net-back ports more k j e = slice_get-back (map (λ p. p.name) (map plain_port ports)) more k j (omega (arith, ports-length ports))
+net-back ports more k j e = behind (map (λ p. p.name) (map plain_port ports)) more k j (omega (arith, ports-length ports))
 
 pub up-zero : (tree : List Placed) (n : ℕ) → up tree n 0 ≡ []
 up-zero tree zero = refl
@@ -64,15 +49,11 @@ chain-more tree xs ys whole n m at p ne some count pushed e =
 pub chain-end : (tree : List Placed) (xs whole : List ℕ) (n at : ℕ) → up tree n at ≡ [] → xs ++ up tree n at ≡ whole → xs ≡ whole
 chain-end tree xs whole n at none e = sym (append-nil xs) ∙ ap (λ l. xs ++ l) (sym none) ∙ e
 
--- an element that was read, by what it stands for
-pub got-some : {A B : Type 0} (f : A → B) (xs : List A) (i : ℕ) (x : A) → i < length xs → x ≡ get_or xs i x → slice_get (map f xs) i ≡ Some (f x)
-got-some f xs i x lt e = slice_get-map f xs i ∙ ap (option_map f) (slice_get_read xs (length xs) i x refl lt e)
-
 pub got-none : {A B : Type 0} (f : A → B) (xs : List A) (i : ℕ) → length xs ≤ i → slice_get (map f xs) i ≡ None
 got-none f xs i le = slice_get-map f xs i ∙ ap (option_map f) (slice_get_past xs i le)
 
 pub port-some : (ports : List ModulePort) (k : ℕ) (p : ModulePort) → k < length ports → p ≡ get_or ports k p → Some p.name ≡ slice_get (map (λ p. p.name) (map plain_port ports)) k
-port-some ports k p lt e = sym (slice_get-map (λ p. p.name) (map plain_port ports) k ∙ ap (option_map (λ p. p.name)) (got-some plain_port ports k p lt e))
+port-some ports k p lt e = sym (slice_get-map (λ p. p.name) (map plain_port ports) k ∙ ap (option_map (λ p. p.name)) (item_at plain_port ports k p lt e))
 
 pub port-none : (ports : List ModulePort) (k : ℕ) → length ports ≤ k → None ≡ slice_get (map (λ p. p.name) (map plain_port ports)) k
 port-none ports k le = sym (slice_get-map (λ p. p.name) (map plain_port ports) k ∙ ap (option_map (λ p. p.name)) (got-none plain_port ports k le))

@@ -1,13 +1,12 @@
 -- Zeros at the numbers of nets and arrays.
-use Rattle.std.proofs.Common.{◌≡◌, ℕ, zero, suc, ◌+◌, ◌==◌, Bool, true, false, List, [], ◌∷◌, ◌++◌, map, length, Option, Some, None, option_map, option_and_then, slice_get, refl, ap, sym, ◌∙◌, length-append, arith, if◌then◌else◌}
+use Rattle.std.proofs.Common.{◌≡◌, ℕ, zero, suc, ◌+◌, ◌==◌, Bool, true, false, List, [], ◌∷◌, ◌++◌, map, length, Option, Some, option_map, option_and_then, slice_get, refl, ap, sym, ◌∙◌, length-append, arith, if◌then◌else◌}
 use Rattle.std.specs.Prelude.{replicate, nat_lt, unwrap_or}
-use Rattle.std.specs.Option.{option_map_or}
 use Rattle.std.specs.Cmp.Lexicographic.{same_text, bytes_decides}
 use Rattle.std.proofs.lemmas.Option.{slice_get-map}
 use Rattle.cx_bits.specs.BitVector.{BitVector}
-use Rattle.cx_vtree.specs.Plain.{PlainExpr, PlainPort, PlainDecl, WireOf, RegisterOf, ArrayOf}
+use Rattle.cx_vtree.specs.Plain.{PlainPort, PlainDecl, WireOf, RegisterOf, ArrayOf}
 use Rattle.cx_vtree.specs.InstanceTree as kinds
-use Rattle.cx_vtree.specs.InstanceTree.{Placed, same_name, ports_at, decls_at, declared_nets, nets_at, NetKind, declared_kind, kind_in, net_of, output_to, driving_output, assigned, origin_by, origin_of, Origin, Outside, Tied, Held, Given}
+use Rattle.cx_vtree.specs.InstanceTree.{Placed, same_name, ports_at, decls_at, declared_nets, nets_at, NetKind, declared_kind, kind_in, net_of, driving_output, assigned, origin_by, origin_of, Held}
 use Rattle.cx_vtree.specs.Meaning.{word_in}
 use Rattle.cx_vtree.specs.Edges.{array_size}
 use Rattle.cx_vnets.specs.declared.arrays.Words.{Words}
@@ -18,9 +17,10 @@ use Rattle.cx_vnets.specs.CodeLaws.{declared_widths, net_widths}
 use Rattle.cx_vnets.specs.Numbers.{before, arrays_at, nets_before, arrays_before}
 use Rattle.cx_velab.specs.Tables.{zero_of, module_zeros, zero_arrays, all_zeros, all_zero_arrays}
 use Rattle.cx_velab.specs.Zeros.{widths_at, ZerosHaveWidths}
-use Rattle.cx_velab.proofs.PathLemmas.{length-map}
-use Rattle.cx_velab.proofs.PartLemmas.{behind}
-use Rattle.cx_velab.proofs.CoveredLemmas.{front, next_of, bind_some}
+use Rattle.cx_vtree.proofs.InstanceTreeLemmas.{input_unheld, output_unheld, assigned_unheld}
+use Rattle.cx_text.proofs.BoolLaws.{either_zero}
+use Rattle.cx_text.proofs.ListLaws.{length-map, behind, front, slice_get-next}
+use Rattle.cx_text.proofs.OptionLaws.{bind_some}
 
 -- a first list comes before the others
 pub before_first : (lists more : ℕ → List (List ℕ)) → ((i : ℕ) → lists (suc i) ≡ more i) → (i : ℕ) → before lists (suc i) ≡ length (lists 0) + before more i
@@ -84,7 +84,7 @@ abbrev Stands : List (List ℕ) → List ℕ → List ℕ → ℕ → Type 0
 Stands names widths name w = (h : ℕ) × (slice_get names h ≡ Some name) × (slice_get widths h ≡ Some w)
 
 stands_later : (x name : List ℕ) (names : List (List ℕ)) (v w : ℕ) (widths : List ℕ) → Stands names widths name w → Stands (x ∷ names) (v ∷ widths) name w
-stands_later x name names v w widths h = (suc h.0, next_of x names h.0 ∙ h.1, next_of v widths h.0 ∙ h.2)
+stands_later x name names v w widths h = (suc h.0, slice_get-next x names h.0 ∙ h.1, slice_get-next v widths h.0 ∙ h.2)
 
 by_kind : (P : Option NetKind → Type 0) (t : Bool) (a b : Option NetKind) → (t ≡ true → P a) → (t ≡ false → P b) → P (if t then a else b)
 by_kind P true a b h k = h refl
@@ -114,25 +114,6 @@ register_stands (p ∷ ps) ds name w =
     (λ e f. absurd (port_unstored p.output w f))
     (λ e f. stands_later p.name name (map (λ q. q.name) ps ++ declared_nets ds) p.width w (net_widths ps ds) (register_stands ps ds name w f))
 
--- no output holds a value
-output_unheld : (ps : List Placed) (number holder w : ℕ) (net : List ℕ) → driving_output ps number holder net ≡ Some (Held w) → ⊥
-output_unheld [] number holder w net e = absurd (cc)
-output_unheld (p ∷ rest) number holder w net e =
-    go (if p.holder == holder then output_to p.part.ports p.conns net else None) (driving_output rest (number + 1) holder net) (output_unheld rest (number + 1) holder w net) e
-  where
-    go : (o : Option (List ℕ)) (d : Option Origin) → (d ≡ Some (Held w) → ⊥) → option_map_or (λ port. Some (Tied number port)) o d ≡ Some (Held w) → ⊥
-    go None d h f = h f
-    go (Some port) d h f = absurd (cc)
-
-assigned_unheld : (o : Option PlainExpr) (d : Option Origin) (w : ℕ) → (d ≡ Some (Held w) → ⊥) → option_map_or (λ e. Some (Given e)) o d ≡ Some (Held w) → ⊥
-assigned_unheld None d w h f = h f
-assigned_unheld (Some e) d w h f = absurd (cc)
-
-input_unheld : (t : Bool) (o : Option (List ℕ)) (holder w : ℕ) → (if t then Some Outside else option_map (Tied holder) o) ≡ Some (Held w) → ⊥
-input_unheld true o holder w e = absurd (cc)
-input_unheld false None holder w e = absurd (cc)
-input_unheld false (Some n) holder w e = absurd (cc)
-
 held_kind : (tree : List Placed) (i w : ℕ) (p : Placed) (name : List ℕ) (kind : NetKind) → origin_by tree i p name kind ≡ Some (Held w) → kind ≡ kinds.Stored w
 held_kind tree i w p name kinds.Input e = absurd (input_unheld (i == 0) (net_of p.conns name) p.holder w e)
 held_kind tree i w p name kinds.Driven e = absurd (assigned_unheld (assigned p.part.assigns name) (driving_output tree 0 i name) w (output_unheld tree 0 i w name) e)
@@ -156,10 +137,6 @@ IsZeros ds name =
     (h : ℕ) × (w : ℕ) × (k : ℕ) × (slice_get (declared_arrays ds) h ≡ Some name) × (slice_get (zero_arrays ds) h ≡ Some (zeros w k)) × (array_size ds name ≡ k)
     × ((index : ℕ) → word_in (λ n i. 0) ds name index ≡ zero_of w)
 
-either_zero : (t : Bool) → ◌≡◌ {A = ℕ} (if t then 0 else 0) 0
-either_zero true = refl
-either_zero false = refl
-
 array_here : (n name : List ℕ) (w k : ℕ) (ds : List PlainDecl) → same_name n name ≡ true → IsZeros (ArrayOf n w k ∷ ds) name
 array_here n name w k ds e = (
   0,
@@ -176,8 +153,8 @@ array_later n name w k ds e r = (
   suc r.0,
   r.1,
   r.2,
-  next_of n (declared_arrays ds) r.0 ∙ r.3,
-  next_of (zeros w k) (zero_arrays ds) r.0 ∙ r.4,
+  slice_get-next n (declared_arrays ds) r.0 ∙ r.3,
+  slice_get-next (zeros w k) (zero_arrays ds) r.0 ∙ r.4,
   ap (λ t. if t then k else array_size ds name) e ∙ r.5,
   λ index. ap (λ t. if t then record { width = w; value = if nat_lt index k then 0 else 0 } else word_in (λ n i. 0) ds name index) e ∙ r.6 index,
 )
@@ -222,9 +199,6 @@ pub mapped_some : {A B : Type 0} (f : A → B) (xs : List A) (k : ℕ) (y : B) �
 mapped_some f [] k y e = absurd (cc)
 mapped_some f (x ∷ xs) zero y e = let same : f x ≡ y = cc in (x, refl, same)
 mapped_some f (x ∷ xs) (suc k) y e = mapped_some f xs k y e
-
-pub length-mapped : {A B : Type 0} (f : A → B) (xs : List A) → length (map f xs) ≡ length xs
-length-mapped = length-map
 
 pub outside_zero : (t u : Bool) → ◌≡◌ {A = BitVector} (zero_of 1) (record { width = 1; value = if t then 0 else (if u then 0 else 0) })
 outside_zero true u = refl

@@ -1,5 +1,4 @@
-//! The instances of a Verilog source, in their order.
-//! The tables of the numbered machine of a Verilog source, from the rows of its instances.
+//! The instances of a Verilog source in their order, and the tables of its numbered machine.
 #![tactic(auto)]
 
 mod bases;

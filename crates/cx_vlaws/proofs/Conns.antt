@@ -4,8 +4,9 @@ use Rattle.std.proofs.lemmas.Bool.{or_parts, or_left, or_right, and_parts, and_f
 use Rattle.cx_vtree.specs.Plain.{PlainPort, PlainConn, PlainInstance, PlainModule}
 use Rattle.cx_vtree.specs.InstanceTree.{same_name, net_of, is_output, output_to}
 use Rattle.cx_vtree.specs.Sound.{Scope, has_name, has_output, is_source, is_wire, width_of, miswired, misconnects, misfits, ports_of, driven_by, driven_by_all}
-use Rattle.cx_vlaws.proofs.Fresh.{same_is, is_same, has_left, has_right, has-append, Fresh, fresh_right, fresh_sides}
+use Rattle.cx_vlaws.proofs.Fresh.{has_left, has_right, has-append, Fresh, fresh_right, fresh_sides}
 use Rattle.cx_vlaws.proofs.Scopes.{port_names, other_than, port_at_has, has-output}
+use Rattle.cx_vtree.proofs.InstanceTreeLemmas.{same_is, is_same}
 
 -- a port is connected to a net that it fits
 pub record IsConnected (scope : Scope) (p : PlainPort) (c : PlainConn) : Type 0 where

@@ -7,12 +7,12 @@ use Rattle.cx_vtree.specs.Plain.{PlainDecl, WireOf, RegisterOf, ArrayOf, PlainIn
 use Rattle.cx_vtree.specs.InstanceTree.{same_name, Placed, declared_nets, below, tree_from, main_instance, instances_of}
 use Rattle.cx_vtree.specs.Sound.{Faults, Counts, sum_counts, no_counts, decl_counts, decls_counts, counts_named, instances_counts, module_counts, has_name, module_named, is_sound}
 use Rattle.cx_vlaws.specs.Counts.{declared_words, nets_count, words_count}
-use Rattle.cx_vlaws.proofs.Fresh.{same_is}
 use Rattle.cx_vlaws.proofs.Modules.{AllKeep, seen_counts, new_name, named-reversed, reverse-cons}
 use Rattle.cx_vlaws.proofs.Trees.{placed}
 use Rattle.cx_vlaws.proofs.Forest.{parts_known, by_first}
-use Rattle.cx_vlaws.proofs.Parts.{none_of_three}
 use Rattle.cx_vlaws.proofs.Mains.{IsMain, main_at, main_name}
+use Rattle.cx_vtree.proofs.InstanceTreeLemmas.{same_is}
+use Rattle.cx_text.proofs.BoolLaws.{none_goes_on}
 
 abbrev cap : ℕ
 cap = 2 ^ 64 - 1
@@ -168,7 +168,7 @@ counts_bounded source sound = go (main_at source sound) where
       ap (λ l. tree_from l main_instance 0 0) r.are
       ∙ cond-true (same_name r.m.name main_instance.kind) (placed main_instance 0 r.m ∷ below (tree_from r.before) 0 (0 + 1) r.m.instances) (tree_from r.before main_instance 0 0) (main_name source r) in
       let caps : CapsOf own (instances_of source) = subst (CapsOf own) (sym unfolded) (caps_module true r.m r.before all (all_counted false r.before r.earlier) main_instance 0 0) in
-      let few = none_of_three (nat_lt 4194304 own.nets) (nat_lt 131072 own.instances) (nat_lt 4194304 own.words) (ap (λ (f : Faults). f.limit) r.kept.head) in
+      let few = none_goes_on (nat_lt 4194304 own.nets) (nat_lt 131072 own.instances) (nat_lt 4194304 own.words) (ap (λ (f : Faults). f.limit) r.kept.head) in
       let nets_room : 4194304 < cap = omega arith in
       let instances_room : 131072 < cap = omega arith in (
         at_most own.nets (nets_count (instances_of source)) cap 4194304 caps.nets_are (ltb-false 4194304 own.nets few.0) nets_room,

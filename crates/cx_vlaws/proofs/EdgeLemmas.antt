@@ -13,8 +13,9 @@ use Rattle.cx_vlaws.specs.Widths.{scope_at}
 use Rattle.cx_vlaws.specs.Edges.{IsSet, IsStore}
 use Rattle.cx_vlaws.proofs.Cleans.{Clean, clean_left, clean_right}
 use Rattle.cx_vlaws.proofs.Fresh.{Fresh, fresh_apart, Within, within_out, within_next, within_more}
-use Rattle.cx_vlaws.proofs.Parts.{none_of_three, expression, set_keeps}
+use Rattle.cx_vlaws.proofs.Parts.{expression, set_keeps}
 use Rattle.cx_vlaws.proofs.Forest.{instance_keeps}
+use Rattle.cx_text.proofs.BoolLaws.{none_goes_on}
 
 register_is : (m : Meaning) → is_register m ≡ true → m ≡ meant.Register (width_of m)
 register_is (meant.Input w) e = absurd (cc)
@@ -44,9 +45,9 @@ is_store scope earlier s e =
     let name : (not (is_array (scope s.array)) || has_name earlier s.array || misnames scope s.guard || misnames scope s.index || misnames scope s.value) ≡ false = ap (λ (f : Faults). f.name) e in
     let outer = or_parts (not (is_array (scope s.array)) || has_name earlier s.array || misnames scope s.guard || misnames scope s.index) (misnames scope s.value) name in
     let middle = or_parts (not (is_array (scope s.array)) || has_name earlier s.array || misnames scope s.guard) (misnames scope s.index) outer.0 in
-    let inner = none_of_three (not (is_array (scope s.array))) (has_name earlier s.array) (misnames scope s.guard) middle.0 in
-    let widths = none_of_three (not (has_width scope s.guard 1)) (is_none (fitting_width scope s.index)) (not (has_width scope s.value (width_of (scope s.array)))) (ap (λ (f : Faults). f.width) e) in
-    let depths = none_of_three (too_deep s.guard) (too_deep s.index) (too_deep s.value) (ap (λ (f : Faults). f.limit) e) in
+    let inner = none_goes_on (not (is_array (scope s.array))) (has_name earlier s.array) (misnames scope s.guard) middle.0 in
+    let widths = none_goes_on (not (has_width scope s.guard 1)) (is_none (fitting_width scope s.index)) (not (has_width scope s.value (width_of (scope s.array)))) (ap (λ (f : Faults). f.width) e) in
+    let depths = none_goes_on (too_deep s.guard) (too_deep s.index) (too_deep s.value) (ap (λ (f : Faults). f.limit) e) in
     let index = some_width (fitting_width scope s.index) widths.1 in
     record {
       array = array_is (scope s.array) (not-false (is_array (scope s.array)) inner.0);
@@ -78,7 +79,7 @@ item_fresh scope earlier (StoreTo s) e =
     let name : (not (is_array (scope s.array)) || has_name earlier s.array || misnames scope s.guard || misnames scope s.index || misnames scope s.value) ≡ false = ap (λ (f : Faults). f.name) e in
     let outer = or_parts (not (is_array (scope s.array)) || has_name earlier s.array || misnames scope s.guard || misnames scope s.index) (misnames scope s.value) name in
     let middle = or_parts (not (is_array (scope s.array)) || has_name earlier s.array || misnames scope s.guard) (misnames scope s.index) outer.0 in
-    (none_of_three (not (is_array (scope s.array))) (has_name earlier s.array) (misnames scope s.guard) middle.0).1
+    (none_goes_on (not (is_array (scope s.array))) (has_name earlier s.array) (misnames scope s.guard) middle.0).1
 
 items_fresh : (scope : Scope) (earlier : List (List ℕ)) (xs : List PlainItem) → Clean (items_faults scope earlier xs) → Fresh earlier (map item_name xs)
 items_fresh scope earlier [] c = tt

@@ -1,22 +1,19 @@
 -- Widths of expressions that fit.
-use Rattle.std.proofs.Common.{◌≡◌, ℕ, ◌+◌, ◌-◌, ◌<◌, ◌≤◌, ◌==◌, List, Bool, true, false, ◌&&◌, not, Option, Some, None, option_and_then, refl, subst, if◌then◌else◌, arith, codes}
+use Rattle.std.proofs.Common.{◌≡◌, ℕ, ◌+◌, ◌-◌, ◌<◌, ◌≤◌, ◌==◌, List, Bool, true, false, ◌&&◌, not, Some, None, option_and_then, refl, subst, if◌then◌else◌, arith, codes}
 use Rattle.std.specs.Prelude.{nat_lt, nat_le}
 use Rattle.std.proofs.lemmas.Bool.{or_parts, and_parts, not-false, ltb-true, leb-true}
 use Rattle.cx_vtree.specs.Plain.{PlainExpr, Named, Number, Part, Word, Applied, Inverted, Chosen, Joined, PlainSource}
 use Rattle.cx_vtree.specs.InstanceTree.{same_name, instances_of}
 use Rattle.cx_vtree.specs.Sound.{Scope, width_of, is_source, is_array, is_readable, is_comparison, misnames, bad_width, applied_width, chosen_width, joined_width, fitting_width, is_sound}
 use Rattle.cx_vlaws.specs.Widths.{scope_at}
-use Rattle.cx_vlaws.proofs.Parts.{none_of_three}
 use Rattle.cx_vlaws.proofs.OriginLemmas.{source_net}
 use Rattle.cx_vlaws.proofs.MeaningLemmas.{wide, net_meant, net_wide, array_wide}
+use Rattle.cx_text.proofs.OptionLaws.{bind_some}
+use Rattle.cx_text.proofs.BoolLaws.{none_goes_on}
 
 -- 1 to 128
 abbrev pub IsWide : ℕ → Type 0
 IsWide w = (0 < w) × (w ≤ 128)
-
-bound : {A B : Type 0} (f : A → Option B) (o : Option A) (y : B) → option_and_then f o ≡ Some y → (x : A) × (o ≡ Some x) × (f x ≡ Some y)
-bound f None y e = absurd (cc)
-bound f (Some x) y e = (x, refl, e)
 
 chosen_some : {A : Type 0} (test : Bool) (x y : A) → (if test then Some x else None) ≡ Some y → (test ≡ true) × (x ≡ y)
 chosen_some true x y e = (refl, cc)
@@ -49,27 +46,27 @@ module _ (scope : Scope) (nets : (n : List ℕ) → is_source (scope n) ≡ true
       let both = and_parts (nat_le low high) (nat_lt high (width_of (scope n))) fits in
       subst IsWide same (part_wide (width_of (scope n)) high low (named_wide n h) (leb-true low high both.0) (ltb-true high (width_of (scope n)) both.1))
   expression_wide (Word n i) w h e =
-      let (v, is, same_some) = bound (λ v. Some (width_of (scope n))) (fitting_width scope i) w e in
+      let (v, is, same_some) = bind_some (λ v. Some (width_of (scope n))) (fitting_width scope i) w e in
       let same : width_of (scope n) ≡ w = cc in
       subst IsWide same (arrays n (not-false (is_array (scope n)) (or_parts (not (is_array (scope n))) (misnames scope i) h).0))
   expression_wide (Applied op a b) w h e =
       let ends = or_parts (misnames scope a) (misnames scope b) h in
-      let (v, is, f) = bound (λ v. option_and_then (applied_width op v) (fitting_width scope b)) (fitting_width scope a) w e in
-      let (u, is', g) = bound (applied_width op v) (fitting_width scope b) w f in
+      let (v, is, f) = bind_some (λ v. option_and_then (applied_width op v) (fitting_width scope b)) (fitting_width scope a) w e in
+      let (u, is', g) = bind_some (applied_width op v) (fitting_width scope b) w f in
       let (equal, same) = chosen_some (v == u) (if is_comparison op then 1 else v) w g in
       subst IsWide same (applied_wide (is_comparison op) v (expression_wide a v ends.0 is))
   expression_wide (Inverted a) w h e = expression_wide a w h e
   expression_wide (Chosen c a b) w h e =
-      let ends = none_of_three (misnames scope c) (misnames scope a) (misnames scope b) h in
-      let (t, is, f) = bound (λ t. option_and_then (λ v. option_and_then (chosen_width t v) (fitting_width scope b)) (fitting_width scope a)) (fitting_width scope c) w e in
-      let (v, is', g) = bound (λ v. option_and_then (chosen_width t v) (fitting_width scope b)) (fitting_width scope a) w f in
-      let (u, is'', k) = bound (chosen_width t v) (fitting_width scope b) w g in
+      let ends = none_goes_on (misnames scope c) (misnames scope a) (misnames scope b) h in
+      let (t, is, f) = bind_some (λ t. option_and_then (λ v. option_and_then (chosen_width t v) (fitting_width scope b)) (fitting_width scope a)) (fitting_width scope c) w e in
+      let (v, is', g) = bind_some (λ v. option_and_then (chosen_width t v) (fitting_width scope b)) (fitting_width scope a) w f in
+      let (u, is'', k) = bind_some (chosen_width t v) (fitting_width scope b) w g in
       let (equal, same) = chosen_some (t == 1 && v == u) v w k in
       subst IsWide same (expression_wide a v ends.1 is')
   expression_wide (Joined a b) w h e =
       let ends = or_parts (misnames scope a) (misnames scope b) h in
-      let (v, is, f) = bound (λ v. option_and_then (joined_width v) (fitting_width scope b)) (fitting_width scope a) w e in
-      let (u, is', g) = bound (joined_width v) (fitting_width scope b) w f in
+      let (v, is, f) = bind_some (λ v. option_and_then (joined_width v) (fitting_width scope b)) (fitting_width scope a) w e in
+      let (u, is', g) = bind_some (joined_width v) (fitting_width scope b) w f in
       let (fits, same) = chosen_some (nat_le (v + u) 128) (v + u) w g in
       let some = (expression_wide a v ends.0 is).0 in
       let few : v + u ≤ 128 = leb-true (v + u) 128 fits in

@@ -6,9 +6,9 @@ use Rattle.cx_vtree.specs.Plain.{PlainInstance, PlainModule, PlainSource}
 use Rattle.cx_vtree.specs.InstanceTree.{same_name, Placed, below, tree_from, main_instance, instances_of}
 use Rattle.cx_vtree.specs.Sound.{Faults, no_faults, Counts, Scope, has_name, meant_in, ports_of, driven_by, module_named, misconnects, misfits, doubles, instance_faults, instances_faults, module_counts, is_sound}
 use Rattle.cx_vlaws.proofs.Cleans.{Clean}
-use Rattle.cx_vlaws.proofs.Fresh.{same_is}
 use Rattle.cx_vlaws.proofs.Modules.{Keeps, KeepsAfter, AllKeep, seen_counts, sound_keeps, new_name, named-reversed}
 use Rattle.cx_vlaws.proofs.Trees.{placed, Stands, every_stands, part_stands, number_of}
+use Rattle.cx_vtree.proofs.InstanceTreeLemmas.{same_is}
 
 -- an instance keeps its rules
 pub record IsWired (before : List PlainModule) (scope : Scope) (x : PlainInstance) : Type 0 where

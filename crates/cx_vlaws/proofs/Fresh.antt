@@ -2,20 +2,12 @@
 use Rattle.std.proofs.Common.{◌≡◌, ℕ, zero, suc, List, [], ◌∷◌, ◌++◌, Bool, true, false, ◌||◌, map, Some, slice_get, option_map, refl, ap, sym, ◌∙◌, subst, append_assoc, append-nil}
 use Rattle.std.proofs.lemmas.Bool.{or_parts, or_left, or_right, or_from, both_ways, false_from_ne_true}
 use Rattle.std.proofs.lemmas.Option.{slice_get-map}
-use Rattle.std.specs.Cmp.Lexicographic.{bytes_decides}
 use Rattle.cx_vtree.specs.Plain.{PlainDecl, WireOf, RegisterOf, ArrayOf}
 use Rattle.cx_vtree.specs.InstanceTree.{same_name, declared_nets}
 use Rattle.cx_vtree.specs.Sound.{has_name, decl_name}
 use Rattle.cx_vlaws.specs.Names.{AreApart, declared_arrays}
-
-pub same_is : (a b : List ℕ) → same_name a b ≡ true → a ≡ b
-same_is a b e = (bytes_decides a b).0 e
-
-pub is_same : (a b : List ℕ) → a ≡ b → same_name a b ≡ true
-is_same a b e = (bytes_decides a b).1 e
-
-pub same_self : (a : List ℕ) → same_name a a ≡ true
-same_self a = is_same a a refl
+use Rattle.cx_text.proofs.BoolLaws.{or_second}
+use Rattle.cx_vtree.proofs.InstanceTreeLemmas.{is_same, same_is, same_self}
 
 -- whether a name is among two lists
 pub has-append : (xs ys : List (List ℕ)) (n : List ℕ) → has_name (xs ++ ys) n ≡ (has_name xs n || has_name ys n)
@@ -124,10 +116,6 @@ fresh-arrays less more [] w f = tt
 fresh-arrays less more (WireOf n v ∷ ds) w f = fresh-arrays less (more ++ n ∷ []) ds (within_more less more n w) f.1
 fresh-arrays less more (RegisterOf n v ∷ ds) w f = fresh-arrays less (more ++ n ∷ []) ds (within_more less more n w) f.1
 fresh-arrays less more (ArrayOf n v k ∷ ds) w f = (within_out less more n w f.0, fresh-arrays (less ++ n ∷ []) (more ++ n ∷ []) ds (within_next less more n w) f.1)
-
-pub or_second : (same a b : Bool) → (a ≡ true → b ≡ true) → (same || a) ≡ true → (same || b) ≡ true
-or_second true a b h e = refl
-or_second false a b h e = h e
 
 -- a net is declared
 pub declared-net : (ds : List PlainDecl) (n : List ℕ) → has_name (declared_nets ds) n ≡ true → has_name (map decl_name ds) n ≡ true

@@ -1,5 +1,5 @@
 -- Instances and what holds them.
-use Rattle.std.proofs.Common.{◌≡◌, ◌⊎◌, ℕ, ◌+◌, ◌<◌, List, [], ◌++◌, true, false, map, reverse, Option, Some, slice_get, refl, ap, sym, ◌∙◌, subst, inl, inr, arith}
+use Rattle.std.proofs.Common.{◌≡◌, ◌⊎◌, ℕ, ◌+◌, ◌<◌, List, [], ◌++◌, true, false, map, reverse, Some, slice_get, refl, ap, sym, ◌∙◌, subst, inl, inr, arith}
 use Rattle.std.specs.Option.{option_map_or}
 use Rattle.cx_vtree.specs.Plain.{PlainInstance, PlainModule, PlainSource}
 use Rattle.cx_vtree.specs.InstanceTree.{Placed, tree_from, main_instance, instances_of, output_to}
@@ -12,9 +12,7 @@ use Rattle.cx_vlaws.proofs.Forest.{parts_known, Among, stands, part_at, instance
 use Rattle.cx_vlaws.proofs.Parts.{instances_drive, assigns_fresh}
 use Rattle.cx_vlaws.proofs.Instances.{fresh_ports}
 use Rattle.cx_vlaws.proofs.Conns.{Aligned, aligned_from, output_found, output_there, output_drives, one_driver, driver_among}
-
-pub some_same : {A : Type 0} (o : Option A) (x y : A) → o ≡ Some x → o ≡ Some y → x ≡ y
-some_same o x y e f = cc
+use Rattle.cx_text.proofs.OptionLaws.{one_value}
 
 module _ (source : PlainSource) (sound : is_sound source ≡ true) where
   abbrev tree : List Placed
@@ -76,7 +74,7 @@ module _ (source : PlainSource) (sound : is_sound source ≡ true) where
     part_in k p e other around =
         let (r, at, is_part) = part_of k p e other in
         let at_i : slice_get tree i ≡ Some r = subst (λ j. slice_get tree j ≡ Some r) around at in
-        let same : r ≡ q = some_same (slice_get tree i) r q at_i here in
+        let same : r ≡ q = one_value (slice_get tree i) r q at_i here in
         subst (λ j. IsPart j q k p) around (subst (λ y. IsPart p.holder y k p) same is_part)
 
     -- its module is among those that ended before, and its ports are connected
@@ -84,7 +82,7 @@ module _ (source : PlainSource) (sound : is_sound source ≡ true) where
     part_known s x m there known =
         let w = parts_known kept.is_main before _ q.part kept.kept s x there in
         let found = kept.later x.kind w.part (sym (named-reversed false kept.before x.kind kept.earlier) ∙ w.known) in
-        let same : w.part ≡ m = some_same (module_named modules x.kind) w.part m found known in (
+        let same : w.part ≡ m = one_value (module_named modules x.kind) w.part m found known in (
           w.known ∙ ap Some same,
           subst (λ (y : PlainModule). Aligned scope y.ports x.conns) same (aligned_from scope w.part.ports x.conns w.connects w.fits),
         )

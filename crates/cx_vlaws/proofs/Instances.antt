@@ -6,11 +6,13 @@ use Rattle.cx_vtree.specs.Plain.{PlainPort, PlainDecl, WireOf, RegisterOf, Array
 use Rattle.cx_vtree.specs.InstanceTree.{same_name, Placed, ports_at, decls_at, declared_nets, instances_of}
 use Rattle.cx_vtree.specs.Sound.{Counts, has_name, decl_name, drivers_in, is_sound}
 use Rattle.cx_vlaws.specs.Names.{AreApart, declared_arrays}
-use Rattle.cx_vlaws.proofs.Fresh.{or_second, same_is, has_at, has-append, Fresh, fresh_not, fresh_head, fresh_both, fresh_apart, fresh-nets, fresh-arrays, declared-net}
+use Rattle.cx_vlaws.proofs.Fresh.{has_at, has-append, Fresh, fresh_not, fresh_head, fresh_both, fresh_apart, fresh-nets, fresh-arrays, declared-net}
 use Rattle.cx_vlaws.proofs.Scopes.{port_names}
 use Rattle.cx_vlaws.proofs.Modules.{Keeps}
 use Rattle.cx_vlaws.proofs.Forest.{instance_keeps}
 use Rattle.cx_vlaws.proofs.Parts.{ports_fresh, decls_fresh}
+use Rattle.cx_text.proofs.BoolLaws.{or_second}
+use Rattle.cx_vtree.proofs.InstanceTreeLemmas.{same_is}
 
 pub fresh_ports : (is_main : Bool) (before : List PlainModule) (own : Counts) (m : PlainModule) → Keeps is_main before own m → Fresh [] (port_names m.ports)
 fresh_ports is_main before own m k = ports_fresh is_main (drivers_in before m) [] 0 m.ports k.ports

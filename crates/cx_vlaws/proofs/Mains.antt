@@ -11,11 +11,12 @@ use Rattle.cx_vtree.specs.Sound.{Faults, Scope, is_source, is_readable, misnames
 use Rattle.std.specs.Prelude.{is_none}
 use Rattle.cx_vlaws.specs.MainPorts.{main_ports, reads_net}
 use Rattle.cx_vlaws.proofs.Cleans.{Clean}
-use Rattle.cx_vlaws.proofs.Fresh.{same_is}
 use Rattle.cx_vlaws.proofs.Modules.{KeepsAfter, AllKeep, sound_keeps}
 use Rattle.cx_vlaws.proofs.Trees.{placed}
 use Rattle.cx_vlaws.proofs.Forest.{unfolds, main_named}
-use Rattle.cx_vlaws.proofs.Parts.{none_of_three, port_keeps}
+use Rattle.cx_vlaws.proofs.Parts.{port_keeps}
+use Rattle.cx_vtree.proofs.InstanceTreeLemmas.{same_is}
+use Rattle.cx_text.proofs.BoolLaws.{none_goes_on}
 
 -- the last module is that of instance 0
 pub record IsMain (source : PlainSource) : Type 0 where
@@ -105,7 +106,7 @@ clock_unread scope (Word n i) h = clock_unread scope i (or_parts _ (misnames sco
 clock_unread scope (Applied op a b) h = let p = or_parts (misnames scope a) (misnames scope b) h in or_from (reads_net a (codes "clk")) (reads_net b (codes "clk")) (clock_unread scope a p.0) (clock_unread scope b p.1)
 clock_unread scope (Inverted a) h = clock_unread scope a h
 clock_unread scope (Chosen c a b) h =
-    let p = none_of_three (misnames scope c) (misnames scope a) (misnames scope b) h in
+    let p = none_goes_on (misnames scope c) (misnames scope a) (misnames scope b) h in
     or_from (reads_net c (codes "clk") || reads_net a (codes "clk")) (reads_net b (codes "clk"))
     (or_from (reads_net c (codes "clk")) (reads_net a (codes "clk")) (clock_unread scope c p.0) (clock_unread scope a p.1)) (clock_unread scope b p.2)
 clock_unread scope (Joined a b) h = let p = or_parts (misnames scope a) (misnames scope b) h in or_from (reads_net a (codes "clk")) (reads_net b (codes "clk")) (clock_unread scope a p.0) (clock_unread scope b p.1)

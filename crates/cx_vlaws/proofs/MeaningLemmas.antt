@@ -10,12 +10,13 @@ use Rattle.cx_vtree.specs.Sound.{has_name, decl_name, decl_meaning, port_meaning
 use Rattle.cx_vlaws.specs.Names.{declared_arrays, arrays_at}
 use Rattle.cx_vlaws.specs.Widths.{scope_at}
 use Rattle.cx_vlaws.specs.Origins.{IsNet, width_at}
-use Rattle.cx_vlaws.proofs.Fresh.{has_at, at_has, same_self}
+use Rattle.cx_vlaws.proofs.Fresh.{has_at, at_has}
 use Rattle.cx_vlaws.proofs.Scopes.{port_names, meant-port, meant-decl, Declared, as_port, as_decl, as_nothing, declared_by, kind_of, kind-by_meaning}
 use Rattle.cx_vlaws.proofs.Forest.{instance_keeps}
 use Rattle.cx_vlaws.proofs.Parts.{port_keeps, decl_keeps}
 use Rattle.cx_vlaws.proofs.Instances.{by_part, fresh_at}
 use Rattle.cx_vlaws.proofs.OriginLemmas.{net_has, is_net, meant_net, width-port}
+use Rattle.cx_vtree.proofs.InstanceTreeLemmas.{same_self}
 
 pub wide : (w : ℕ) → bad_width w ≡ false → (0 < w) × (w ≤ 128)
 wide w e =

@@ -16,14 +16,17 @@ use Rattle.cx_vtree.specs.Sound.{Faults, no_faults, has_name, module_named, last
 use Rattle.cx_vlaws.specs.Names.{AreApart, declared_arrays}
 use Rattle.cx_vlaws.specs.Memories.{IsMemory}
 use Rattle.cx_vlaws.proofs.Cleans.{Clean}
-use Rattle.cx_vlaws.proofs.Fresh.{same_is, is_same, same_self, Fresh, fresh_apart}
+use Rattle.cx_vlaws.proofs.Fresh.{Fresh, fresh_apart}
 use Rattle.cx_vlaws.proofs.Modules.{AllKeep, sound-faults, named-reversed, reverse-cons}
 use Rattle.cx_vlaws.proofs.Trees.{placed, number_of}
 use Rattle.cx_vlaws.proofs.Forest.{part_at}
-use Rattle.cx_vlaws.proofs.Parts.{none_of_three, instances_fresh}
-use Rattle.cx_vlaws.proofs.Holders.{some_same, part_in}
+use Rattle.cx_vlaws.proofs.Parts.{instances_fresh}
+use Rattle.cx_vlaws.proofs.Holders.{part_in}
 use Rattle.cx_vlaws.proofs.MeaningLemmas.{decl-means}
 use Rattle.cx_vlaws.proofs.Mains.{main_at, main_name}
+use Rattle.cx_text.proofs.OptionLaws.{bind_some, one_value}
+use Rattle.cx_vtree.proofs.InstanceTreeLemmas.{same_is, is_same, same_self}
+use Rattle.cx_text.proofs.BoolLaws.{none_goes_on}
 
 name_at : {A : Type 0} (name : A → List ℕ) (xs : List A) (k : ℕ) (x : A) → slice_get xs k ≡ Some x → slice_get (map name xs) k ≡ Some (name x)
 name_at name xs k x e = slice_get-map name xs k ∙ ap (option_map name) e
@@ -78,10 +81,6 @@ kind_found (x ∷ xs) name kind e = go (same_name x.name name) refl (kind_found 
   go true is later = let same : Some x.kind ≡ Some kind = sym (cond-true (same_name x.name name) (Some x.kind) (instance_kind xs name) is) ∙ e in (zero, x, refl, same_is x.name name is, cc)
   go false is later = let (s, y, at, named, kinds) = later (sym (cond-false (same_name x.name name) (Some x.kind) (instance_kind xs name) is) ∙ e) in (suc s, y, at, named, kinds)
 
-bind_some : {A B : Type 0} (f : A → Option B) (o : Option A) (y : B) → option_and_then f o ≡ Some y → (x : A) × (o ≡ Some x) × (f x ≡ Some y)
-bind_some f None y e = absurd (cc)
-bind_some f (Some x) y e = (x, refl, e)
-
 -- one array, of this width and this many words
 one_array : (arrays : List (ℕ × ℕ)) (e : PlainExternal) → not_this_memory arrays e ≡ false → not_this_width arrays e ≡ false → arrays ≡ (e.width, word_count e.sizes) ∷ []
 one_array [] e h w = absurd (cc)
@@ -133,7 +132,7 @@ external_keeps modules names instances e clean = go (memory_module modules e) re
   name = ap (λ (f : Faults). f.name) clean
 
   memory : not_this_memory (memory_arrays modules e) e ≡ false
-  memory = (none_of_three (has_name names e.name) (has_name instances e.instance) (not_this_memory (memory_arrays modules e) e) name).2
+  memory = (none_goes_on (has_name names e.name) (has_name instances e.instance) (not_this_memory (memory_arrays modules e) e) name).2
 
   widths : (nat_lt 64 e.width ≡ false) × (not_this_width (memory_arrays modules e) e ≡ false)
   widths = or_parts (nat_lt 64 e.width) (not_this_width (memory_arrays modules e) e) (ap (λ (f : Faults). f.width) clean)
@@ -159,7 +158,7 @@ externals_fresh : (modules : List PlainModule) (names instances : List (List ℕ
     → Fresh names (map (λ e. e.name) es) × Fresh instances (map (λ e. e.instance) es)
 externals_fresh modules names instances [] c = (tt, tt)
 externals_fresh modules names instances (x ∷ es) c =
-    let name = none_of_three (has_name names x.name) (has_name instances x.instance) (not_this_memory (memory_arrays modules x) x) (ap (λ (f : Faults). f.name) c.0) in
+    let name = none_goes_on (has_name names x.name) (has_name instances x.instance) (not_this_memory (memory_arrays modules x) x) (ap (λ (f : Faults). f.name) c.0) in
     let later = externals_fresh modules (names ++ x.name ∷ []) (instances ++ x.instance ∷ []) es c.1 in
     ((name.0, later.0), (name.1, later.1))
 
@@ -196,13 +195,13 @@ memory_there source sound k e at =
     let (main, last, by_kind) = bind_some (λ m. option_and_then (module_named source.modules) (instance_kind m.instances e.instance)) (last_named source.modules (codes "main")) x.part x.is in
     let (kind, kinds, found) = bind_some (module_named source.modules) (instance_kind main.instances e.instance) x.part by_kind in
     let is_main : last_named source.modules (codes "main") ≡ Some r.m = ap (λ l. last_named l (codes "main")) modules ∙ last-push (reverse r.before) r.m (codes "main") (main_name source r) in
-    let same : main ≡ r.m = some_same (last_named source.modules (codes "main")) main r.m last is_main in
+    let same : main ≡ r.m = one_value (last_named source.modules (codes "main")) main r.m last is_main in
     let (s, y, there, named, kind_is) = kind_found r.m.instances e.instance kind (ap (λ (m : PlainModule). instance_kind m.instances e.instance) (sym same) ∙ kinds) in
     let (part, known, stands_there) = part_at source sound 0 (placed main_instance 0 r.m) r.first s y there in
     let all : AllKeep true (reverse source.modules) = subst (AllKeep true) (sym r.are) (r.kept, r.earlier) in
     let by_name : module_named (reverse source.modules) y.kind ≡ Some x.part =
     sym (named-reversed true (reverse source.modules) y.kind all) ∙ ap (λ l. module_named l y.kind) (reverse-reverse source.modules) ∙ ap (module_named source.modules) kind_is ∙ found in
-    let same_part : part ≡ x.part = some_same (module_named (reverse source.modules) y.kind) part x.part known by_name in
+    let same_part : part ≡ x.part = one_value (module_named (reverse source.modules) y.kind) part x.part known by_name in
     let number : ℕ = number_of (tree_from (reverse source.modules)) 0 (0 + 1) r.m.instances s in
     let (j, is_named) = named_some (instances_of source) 0 e.instance number (placed y 0 part) stands_there refl named in
     let n = named_found (instances_of source) 0 e.instance j is_named in
@@ -211,7 +210,7 @@ memory_there source sound k e at =
     let names : AreApart (map (λ z. z.name) r.m.instances) = fresh_apart _ (map (λ z. z.name) r.m.instances) fresh in
     let same_s : is_part.s ≡ s = names is_part.s s e.instance (name_at (λ (z : PlainInstance). z.name) r.m.instances is_part.s is_part.x is_part.there ∙ ap Some (sym is_part.name ∙ n.named)) (name_at (λ (z : PlainInstance). z.name) r.m.instances s y there ∙ ap Some named) in
     let same_k : n.k ≡ number = is_part.number ∙ ap (number_of (tree_from (reverse source.modules)) 0 (0 + 1) r.m.instances) same_s in
-    let same_p : n.p ≡ placed y 0 part = some_same (slice_get (instances_of source) number) n.p (placed y 0 part) (subst (λ i. slice_get (instances_of source) i ≡ Some n.p) same_k n.at) stands_there in
+    let same_p : n.p ≡ placed y 0 part = one_value (slice_get (instances_of source) number) n.p (placed y 0 part) (subst (λ i. slice_get (instances_of source) i ≡ Some n.p) same_k n.at) stands_there in
     let n-is = n.is in
     let j_is : n.k ≡ j = omega arith in
     let at_j : slice_get (instances_of source) j ≡ Some n.p = subst (λ i. slice_get (instances_of source) i ≡ Some n.p) j_is n.at in
@@ -236,7 +235,7 @@ memory_there source sound k e at =
     no_main : (i : ℕ) (p : Placed) → slice_get (instances_of source) i ≡ Some p → i ≡ 0 → p.name ≡ e.instance → ⊥
     no_main i p here first named =
         let r = main_at source sound in
-        let same : p ≡ placed main_instance 0 r.m = some_same (slice_get (instances_of source) 0) p (placed main_instance 0 r.m) (subst (λ l. slice_get (instances_of source) l ≡ Some p) first here) r.first in
+        let same : p ≡ placed main_instance 0 r.m = one_value (slice_get (instances_of source) 0) p (placed main_instance 0 r.m) (subst (λ l. slice_get (instances_of source) l ≡ Some p) first here) r.first in
         named_instance source sound k e at (sym (ap (λ (q : Placed). q.name) same) ∙ named)
 
 -- one instance is of one external memory
@@ -248,6 +247,6 @@ same_place source sound j k i d e at at' found found' =
     let m-is = m.is in
     let n-is = n.is in
     let place : m.k ≡ n.k = omega arith in
-    let part : m.p ≡ n.p = some_same (slice_get (instances_of source) n.k) m.p n.p (subst (λ l. slice_get (instances_of source) l ≡ Some m.p) place m.at) n.at in
+    let part : m.p ≡ n.p = one_value (slice_get (instances_of source) n.k) m.p n.p (subst (λ l. slice_get (instances_of source) l ≡ Some m.p) place m.at) n.at in
     let name : d.instance ≡ e.instance = sym m.named ∙ ap (λ (p : Placed). p.name) part ∙ n.named in
     (externals_apart source sound).1 j k e.instance (name_at (λ (x : PlainExternal). x.instance) source.externals j d at ∙ ap Some name) (name_at (λ (x : PlainExternal). x.instance) source.externals k e at')

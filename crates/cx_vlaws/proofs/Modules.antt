@@ -7,8 +7,8 @@ use Rattle.cx_vtree.specs.InstanceTree.{same_name}
 use Rattle.cx_vtree.specs.Layout.{is_laid_out}
 use Rattle.cx_vtree.specs.Sound.{Faults, no_faults, Counts, has_name, decl_name, drivers_in, module_named, meant_in, module_faults, ports_faults, decls_faults, assigns_faults, instances_faults, edge_faults, module_counts, lines_faults, modules_faults, externals_faults, faults_of, break_of, is_sound}
 use Rattle.cx_vlaws.proofs.Cleans.{Clean, clean_left, clean_right, clean_from_none}
-use Rattle.cx_vlaws.proofs.Fresh.{same_is}
 use Rattle.cx_vlaws.proofs.Scopes.{port_names}
+use Rattle.cx_vtree.proofs.InstanceTreeLemmas.{same_is}
 
 -- a module breaks no rule
 pub record Keeps (is_main : Bool) (before : List PlainModule) (own : Counts) (m : PlainModule) : Type 0 where

@@ -7,8 +7,9 @@ use Rattle.cx_vtree.specs.declared.meanings.Meaning.TheVariants as meant
 use Rattle.cx_vtree.specs.Plain.{PlainExpr, PlainPort, PlainDecl, WireOf, RegisterOf, ArrayOf, PlainAssign}
 use Rattle.cx_vtree.specs.InstanceTree.{same_name, Placed, declared_nets, NetKind, Input, Driven, Stored, declared_kind, kind_in, Origin, Tied, assigned, output_to, driving_output}
 use Rattle.cx_vtree.specs.Sound.{has_name, decl_name, decl_meaning, port_meaning, meant_in, width_of, is_source, is_driven}
-use Rattle.cx_vlaws.proofs.Fresh.{has_each, same_is, is_same, has_left, has_right, Fresh}
+use Rattle.cx_vlaws.proofs.Fresh.{has_each, has_left, has_right, Fresh}
 use Rattle.cx_vlaws.proofs.Scopes.{port_names, other_than, port_at_has, Declared, as_port, as_decl, as_nothing, declared_by}
+use Rattle.cx_vtree.proofs.InstanceTreeLemmas.{same_is, is_same}
 
 -- the search for an output that is connected to a net
 pub driving_some : (tree : List Placed) (number i : ℕ) (net : List ℕ) (k : ℕ) (p : Placed) (port : List ℕ) → slice_get tree k ≡ Some p → p.holder ≡ i → output_to p.part.ports p.conns net ≡ Some port

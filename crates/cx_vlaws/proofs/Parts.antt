@@ -8,19 +8,13 @@ use Rattle.cx_vlaws.specs.Widths.{IsExpression}
 use Rattle.cx_vlaws.proofs.Cleans.{Clean}
 use Rattle.cx_vlaws.proofs.Fresh.{Fresh, fresh_both}
 use Rattle.cx_vlaws.proofs.Scopes.{port_names}
-
--- of three tests none, of two none
-pub none_of_three : (a b c : Bool) → (a || b || c) ≡ false → (a ≡ false) × (b ≡ false) × (c ≡ false)
-none_of_three false false false e = (refl, refl, refl)
-none_of_three true b c e = absurd (cc)
-none_of_three false true c e = absurd (cc)
-none_of_three false false true e = absurd (cc)
+use Rattle.cx_text.proofs.BoolLaws.{none_goes_on}
 
 -- ports
 pub ports_fresh : (is_main : Bool) (drivers earlier : List (List ℕ)) (index : ℕ) (ps : List PlainPort) → Clean (ports_faults is_main drivers earlier index ps) → Fresh earlier (port_names ps)
 ports_fresh is_main drivers earlier index [] c = tt
 ports_fresh is_main drivers earlier index (p ∷ ps) c = (
-  (none_of_three (has_name earlier p.name) (wrong_port is_main index p) (p.output && undriven drivers p.name) (ap (λ (f : Faults). f.name) c.0)).0,
+  (none_goes_on (has_name earlier p.name) (wrong_port is_main index p) (p.output && undriven drivers p.name) (ap (λ (f : Faults). f.name) c.0)).0,
   ports_fresh is_main drivers (earlier ++ p.name ∷ []) (index + 1) ps c.1,
 )
 
@@ -42,7 +36,7 @@ port_keeps is_main drivers earlier index at [] c k p e same = absurd (cc)
 port_keeps is_main drivers earlier index at (q ∷ ps) c zero p e same =
     let first : index ≡ at = omega arith in
     let is : q ≡ p = cc in
-    let names = none_of_three (has_name earlier q.name) (wrong_port is_main index q) (q.output && undriven drivers q.name) (ap (λ (f : Faults). f.name) c.0) in
+    let names = none_goes_on (has_name earlier q.name) (wrong_port is_main index q) (q.output && undriven drivers q.name) (ap (λ (f : Faults). f.name) c.0) in
     let widths = or_parts (bad_width q.width) ((is_main || nat_lt index 2) && not (q.width == 1)) (ap (λ (f : Faults). f.width) c.0) in
     subst (λ i. PortKeeps is_main drivers i p) first (subst (PortKeeps is_main drivers index) is
     (record { right = names.1; driven = driven_from q.output (has_name drivers q.name) names.2; width = widths.0; one_bit = widths.1 }))
@@ -83,7 +77,7 @@ expression scope e w named width shallow = record { named = named; width = width
 pub assigns_fresh : (scope : Scope) (earlier : List (List ℕ)) (xs : List PlainAssign) → Clean (assigns_faults scope earlier xs) → Fresh earlier (map (λ a. a.name) xs)
 assigns_fresh scope earlier [] c = tt
 assigns_fresh scope earlier (a ∷ xs) c = (
-  (none_of_three (not (is_driven (scope a.name))) (has_name earlier a.name) (misnames scope a.value) (ap (λ (f : Faults). f.name) c.0)).1,
+  (none_goes_on (not (is_driven (scope a.name))) (has_name earlier a.name) (misnames scope a.value) (ap (λ (f : Faults). f.name) c.0)).1,
   assigns_fresh scope (earlier ++ a.name ∷ []) xs c.1,
 )
 
@@ -92,7 +86,7 @@ pub assign_keeps : (scope : Scope) (earlier : List (List ℕ)) (xs : List PlainA
 assign_keeps scope earlier [] c k a e = absurd (cc)
 assign_keeps scope earlier (x ∷ xs) c zero a e =
     let same : x ≡ a = cc in
-    let names = none_of_three (not (is_driven (scope x.name))) (has_name earlier x.name) (misnames scope x.value) (ap (λ (f : Faults). f.name) c.0) in
+    let names = none_goes_on (not (is_driven (scope x.name))) (has_name earlier x.name) (misnames scope x.value) (ap (λ (f : Faults). f.name) c.0) in
     subst (λ (y : PlainAssign). (is_driven (scope y.name) ≡ true) × IsExpression scope y.value (width_of (scope y.name))) same
     (not-false (is_driven (scope x.name)) names.0, expression scope x.value (width_of (scope x.name)) names.2 (ap (λ (f : Faults). f.width) c.0) (ap (λ (f : Faults). f.limit) c.0))
 assign_keeps scope earlier (x ∷ xs) c (suc k) a e = assign_keeps scope (earlier ++ x.name ∷ []) xs c.1 k a e
@@ -117,11 +111,11 @@ instances_fresh before scope earlier driven (x ∷ xs) c =
     let name : (has_name earlier x.name || is_none (module_named before x.kind) || misconnects scope (ports_of before x.kind) x.conns || doubles driven (driven_by (ports_of before x.kind) x.conns)) ≡ false =
     ap (λ (f : Faults). f.name) c.0 in
     let outer = or_parts (has_name earlier x.name || is_none (module_named before x.kind) || misconnects scope (ports_of before x.kind) x.conns) (doubles driven (driven_by (ports_of before x.kind) x.conns)) name in
-    let inner = none_of_three (has_name earlier x.name) (is_none (module_named before x.kind)) (misconnects scope (ports_of before x.kind) x.conns) outer.0 in
+    let inner = none_goes_on (has_name earlier x.name) (is_none (module_named before x.kind)) (misconnects scope (ports_of before x.kind) x.conns) outer.0 in
     (inner.0, instances_fresh before scope (earlier ++ x.name ∷ []) (driven ++ driven_by (ports_of before x.kind) x.conns) xs c.1)
 
 -- edges: what a branch sets, and what it stores
 pub set_keeps : (scope : Scope) (earlier : List (List ℕ)) (x : PlainAssign) → set_faults scope earlier x ≡ no_faults → (is_register (scope x.name) ≡ true) × (has_name earlier x.name ≡ false) × IsExpression scope x.value (width_of (scope x.name))
 set_keeps scope earlier x e =
-    let names = none_of_three (not (is_register (scope x.name))) (has_name earlier x.name) (misnames scope x.value) (ap (λ (f : Faults). f.name) e) in
+    let names = none_goes_on (not (is_register (scope x.name))) (has_name earlier x.name) (misnames scope x.value) (ap (λ (f : Faults). f.name) e) in
     (not-false (is_register (scope x.name)) names.0, names.1, expression scope x.value (width_of (scope x.name)) names.2 (ap (λ (f : Faults). f.width) e) (ap (λ (f : Faults). f.limit) e))

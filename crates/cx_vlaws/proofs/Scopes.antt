@@ -6,7 +6,8 @@ use Rattle.cx_vtree.specs.declared.meanings.Meaning.TheVariants as meant
 use Rattle.cx_vtree.specs.Plain.{PlainPort, PlainDecl, WireOf, RegisterOf, ArrayOf}
 use Rattle.cx_vtree.specs.InstanceTree.{same_name, NetKind, Input, Driven, Stored, declared_kind, kind_in, is_output}
 use Rattle.cx_vtree.specs.Sound.{has_name, has_output, decl_name, decl_meaning, port_meaning, meant_decl, meant_in}
-use Rattle.cx_vlaws.proofs.Fresh.{has_each, same_is, is_same, Fresh, fresh_not, fresh_head}
+use Rattle.cx_vlaws.proofs.Fresh.{has_each, Fresh, fresh_not, fresh_head}
+use Rattle.cx_vtree.proofs.InstanceTreeLemmas.{same_is, is_same}
 
 abbrev pub port_names : List PlainPort → List (List ℕ)
 port_names ps = map (λ p. p.name) ps

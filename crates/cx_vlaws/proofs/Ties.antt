@@ -8,14 +8,16 @@ use Rattle.cx_vtree.specs.Plain.{PlainPort, PlainAssign, PlainConn, PlainInstanc
 use Rattle.cx_vtree.specs.InstanceTree.{same_name, Placed, ports_at, instances_of, Input, Driven, Stored, Outside, Tied, Held, Given, net_of, assigned, is_output, output_to, driving_output, origin_of}
 use Rattle.cx_vtree.specs.Sound.{Scope, has_name, port_meaning, meant_in, is_driven, is_wire, ports_of, driven_by, driven_by_all, is_sound}
 use Rattle.cx_vlaws.specs.Widths.{scope_at}
-use Rattle.cx_vlaws.proofs.Fresh.{is_same, Fresh, fresh_left, fresh_right, fresh_sides}
+use Rattle.cx_vlaws.proofs.Fresh.{Fresh, fresh_left, fresh_right, fresh_sides}
 use Rattle.cx_vlaws.proofs.Scopes.{port_names, other_than, port_at_has, meant-port, kind_of}
 use Rattle.cx_vlaws.proofs.Forest.{instance_keeps}
 use Rattle.cx_vlaws.proofs.Parts.{assigns_fresh, assign_keeps}
 use Rattle.cx_vlaws.proofs.Conns.{net-of_port, output-to, among_drivers}
-use Rattle.cx_vlaws.proofs.Holders.{some_same, IsPart, part_of, part_in, part-aligned, part-ports, before, drives, one_part, output-no_main, drivers-fresh}
+use Rattle.cx_vlaws.proofs.Holders.{IsPart, part_of, part_in, part-aligned, part-ports, before, drives, one_part, output-no_main, drivers-fresh}
 use Rattle.cx_vlaws.proofs.OriginLemmas.{driving_some, driving_found, none-assigned, assigned-at}
 use Rattle.cx_vlaws.proofs.Given.{scope-at, origin-at, ports_fresh_here, kind-here}
+use Rattle.cx_vtree.proofs.InstanceTreeLemmas.{is_same}
+use Rattle.cx_text.proofs.OptionLaws.{one_value}
 
 pub wire_kind : (m : Meaning) → is_wire m ≡ true → kind_of m ≡ Some Driven
 wire_kind (meant.Input w) e = absurd (cc)
@@ -96,8 +98,8 @@ module _ (source : PlainSource) (sound : is_sound source ≡ true) (i : ℕ) (p 
       let other = output-no_main source sound d.k d.p d.at net d.port d.out in
       let is_part = part_in source sound p.holder q at d.k d.p d.at other d.around in
       let same : d.k ≡ i = one_part source sound p.holder q at d.k i d.p p d.at here is_part r net d.port port d.out out in
-      let same_part : d.p ≡ p = some_same (slice_get tree i) d.p p (subst (λ j. slice_get tree j ≡ Some d.p) same d.at) here in
-      let same_port : d.port ≡ port = some_same (output_to p.part.ports p.conns net) d.port port (subst (λ (y : Placed). output_to y.part.ports y.conns net ≡ Some d.port) same_part d.out) out in
+      let same_part : d.p ≡ p = one_value (slice_get tree i) d.p p (subst (λ j. slice_get tree j ≡ Some d.p) same d.at) here in
+      let same_port : d.port ≡ port = one_value (output_to p.part.ports p.conns net) d.port port (subst (λ (y : Placed). output_to y.part.ports y.conns net ≡ Some d.port) same_part d.out) out in
       let number : 0 + d.k ≡ i = omega arith in
       found ∙ ap Some (d.is ∙ ap (λ j. Tied j d.port) number ∙ ap (Tied i) same_port)
 

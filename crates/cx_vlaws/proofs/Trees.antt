@@ -2,11 +2,7 @@
 use Rattle.std.proofs.Common.{◌≡◌, ◌⊎◌, ℕ, zero, suc, ◌+◌, ◌<◌, ◌≤◌, List, [], ◌∷◌, ◌++◌, length, Option, Some, slice_get, refl, ap, sym, ◌∙◌, subst, inl, inr, arith, length-append, le_refl}
 use Rattle.cx_vtree.specs.Plain.{PlainInstance, PlainModule}
 use Rattle.cx_vtree.specs.InstanceTree.{Placed, below}
-
-front : {A : Type 0} (xs ys : List A) (k : ℕ) (p : A) → slice_get xs k ≡ Some p → slice_get (xs ++ ys) k ≡ Some p
-front [] ys k p e = absurd (cc)
-front (x ∷ xs) ys zero p e = e
-front (x ∷ xs) ys (suc k) p e = front xs ys k p e
+use Rattle.cx_text.proofs.ListLaws.{front}
 
 back : {A : Type 0} (xs ys : List A) (j k : ℕ) (p : A) → k ≡ length xs + j → slice_get ys j ≡ Some p → slice_get (xs ++ ys) k ≡ Some p
 back [] ys j k p e at = let same : k ≡ j = omega arith in subst (λ i. slice_get ys i ≡ Some p) (sym same) at

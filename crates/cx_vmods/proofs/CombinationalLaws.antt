@@ -8,7 +8,7 @@ use Rattle.std.proofs.lemmas.Nat.{pow_pos}
 use Rattle.std.proofs.lemmas.Bool.Decides.{nat_tests}
 use Rattle.cx_bits.specs.BitVector.{BitVector, Fits}
 use Rattle.cx_bits.specs.Operators.{xor_of, complement_of, left_shift_of, right_shift_of, bit_of, signed_of, signed_less_bit_of, low_bits_of, zero_extension_of}
-use Rattle.cx_bits.specs.OperatorLaws.{signed_less_bit_of-xor}
+use Rattle.cx_bits.proofs.OperatorLaws.{signed_less_bit_of-xor}
 use Rattle.cx_bits.proofs.Powers.{shift-mod_past, div-pow_past}
 use Rattle.cx_prim.specs.Widths.{IsWidth}
 use Rattle.cx_prim.specs.CombinationalRows.{constant_row, unary_row, binary_row, unequal_bit_of, at_most_bit_of, at_least_bit_of, signed_greater_bit_of, signed_at_most_bit_of, signed_at_least_bit_of}
@@ -25,6 +25,7 @@ use Rattle.cx_vmods.specs.Built.{IsBuilt}
 use Rattle.cx_vmods.specs.Inside.{of_width}
 use Rattle.cx_vmods.proofs.BitLemmas.{number_below}
 use Rattle.cx_vmods.proofs.StatelessLaws.{Computes2, constant_built, unary_built, binary_built}
+use Rattle.cx_text.proofs.NumberLaws.{turned}
 
 -- a constant
 pub constant_gives : (name : List ℕ) (w v width : ℕ) → v < 2 ^ w → IsBuilt (module_with name (ports_of (constant_row w v)) (made_of (constant w v))) (constant_row w v) (StandsFor width)
@@ -83,9 +84,6 @@ inverted_bit false = refl
 -- the comparisons of the text that are inverted ones
 pub unequal_is : (a b : BitVector) → operate NotEqual a b ≡ unequal_bit_of a b
 unequal_is a b = inverted_bit (a.value == b.value)
-
-turned : (x y : ℕ) → not (nat_lt y x) ≡ nat_le x y
-turned x y = grind (arith, nat_tests)
 
 -- at most is not above
 pub at_most_is : (a b : BitVector) → operate AtMost a b ≡ at_most_bit_of a b

@@ -17,11 +17,7 @@ use Rattle.cx_vtree.proofs.Values.{one_value}
 use Rattle.cx_vmods.specs.Built.{kept_at, Stands}
 use Rattle.cx_vmods.specs.Inside.{Known, found, AreKnown, value_of, set_in}
 use Rattle.cx_vmods.proofs.InsideLemmas.{none_known}
-
--- what a bind that gave something began with
-bind_some : {A B : Type 0} (f : A → Option B) (o : Option A) (y : B) → option_and_then f o ≡ Some y → (x : A) × (o ≡ Some x) × (f x ≡ Some y)
-bind_some f None y e = absurd (cc)
-bind_some f (Some x) y e = (x, refl, e)
+use Rattle.cx_text.proofs.OptionLaws.{bind_some, more_choice}
 
 abbrev IsIn : List ℕ → List (List ℕ) → Type 0
 IsIn n ns = (k : ℕ) × (slice_get ns k ≡ Some n)
@@ -70,10 +66,6 @@ more_bind : {A B : Type 0} (f g : A → Option B) (a b : Option A) → ((x : A) 
     → option_and_then f a ≡ Some y → option_and_then g b ≡ Some y
 more_bind f g None b more next y e = absurd (cc)
 more_bind f g (Some x) b more next y e = ap (option_and_then g) (more x refl) ∙ next x y e
-
-more_choice : {A : Type 0} (t : Bool) (a b c d : Option A) (y : A) → (a ≡ Some y → c ≡ Some y) → (b ≡ Some y → d ≡ Some y) → (if t then a else b) ≡ Some y → (if t then c else d) ≡ Some y
-more_choice true a b c d y one other e = one e
-more_choice false a b c d y one other e = other e
 
 module _ (nets more : List ℕ → Option BitVector) (words : List ℕ → ℕ → BitVector) (knows : (n : List ℕ) (v : BitVector) → nets n ≡ Some v → more n ≡ Some v) where
   -- an expression keeps its value where more nets are known

@@ -12,7 +12,7 @@ use Rattle.cx_prim.specs.PortNames.{text_of}
 use Rattle.cx_prim.specs.CellStates.{Memory}
 use Rattle.cx_prim.specs.Rows.{Inputs, input, value_at, HasSide, is_output_side}
 use Rattle.cx_prim.specs.MemoryRows.{IsLayout, first_beyond, word_number, have_addresses, word_at, written, memory_row, memory_read}
-use Rattle.cx_prim.specs.MemoryLaws.{length-ports_named, plain_before, AreWords-written, memory_port, memory_outputs, MemoryOutput, is_read, is_done, have_addresses_all}
+use Rattle.cx_prim.proofs.MemoryLaws.{length-ports_named, plain_before, AreWords-written, memory_port, memory_outputs, MemoryOutput, is_read, is_done, have_addresses_all}
 use Rattle.cx_vtree.specs.declared.operators.Operator.TheVariants.{And}
 use Rattle.cx_vtree.specs.Plain.{Applied, PlainModule}
 use Rattle.cx_vtree.specs.InstanceTree.{Placed, Driven, Stored, kind_in, nets_at, declared_nets}

@@ -16,8 +16,7 @@ use Rattle.cx_prim.specs.declared.ports.PortRow.{PortRow}
 use Rattle.cx_prim.specs.PortNames.{text_of}
 use Rattle.cx_prim.specs.CellStates.{CellState}
 use Rattle.cx_prim.specs.Rows.{Inputs, Row, input, value_at}
-use Rattle.cx_prim.specs.CombinationalLaws.{and_right}
-use Rattle.cx_prim.specs.RowTools.{value_at_fits}
+use Rattle.cx_prim.proofs.RowTools.{value_at_fits}
 use Rattle.cx_prim.specs.CombinationalRows.{plain_port}
 use Rattle.cx_prim.specs.MemoryRows.{are_sizes, address_ports, first_beyond, word_number, word_at, written}
 use Rattle.cx_vtree.specs.Plain.{PlainModule}
@@ -34,6 +33,7 @@ use Rattle.cx_vmods.proofs.InsideLemmas.{also_known}
 use Rattle.cx_vmods.proofs.InputLemmas.{input_has, value_at-input, port_net-row}
 use Rattle.cx_vmods.proofs.EdgeLemmas.{after_store}
 use Rattle.cx_vmods.proofs.AddressLemmas.{AddressesAre, word_number-below}
+use Rattle.cx_text.proofs.BoolLaws.{and_right}
 
 -- the addresses from n on, with what stands at them
 abbrev pub addresses : Inputs → ℕ → List ℕ → List Known

@@ -8,13 +8,13 @@ use Rattle.cx_prim.specs.declared.names.PrimitiveName.{PrimitiveName}
 use Rattle.cx_prim.specs.declared.names.PrimitiveName.TheVariants.{Const, Wire, Add, Sub, And, Or, Xor, Not, Lsh, Rsh, Lt, Gt, Equal, Neq, Le, Ge, Slt, Sgt, Seq, Sneq, Sle, Sge, Slice, Pad, Mux, Reg, StdMemD1, StdMemD2, StdMemD3, StdMemD4, CombMemD1, CombMemD2, CombMemD3, CombMemD4, SeqMemD1, SeqMemD2, SeqMemD3, SeqMemD4, MultPipe, DivPipe, Timer}
 use Rattle.cx_prim.specs.Widths.{IsWidth, is_width}
 use Rattle.cx_prim.specs.Rows.{Row}
-use Rattle.cx_prim.specs.CombinationalLaws.{and_left, and_right}
 use Rattle.cx_prim.specs.CombinationalRows.{constant_row, unary_row, binary_row, mux_row, greater_bit_of, unequal_bit_of, at_most_bit_of, at_least_bit_of, signed_greater_bit_of, signed_at_most_bit_of, signed_at_least_bit_of}
 use Rattle.cx_prim.specs.RegisterRow.{register_row}
 use Rattle.cx_prim.specs.MemoryRows.{IsLayout, are_sizes, is_address_width, memory_row, sequential_memory_row}
 use Rattle.cx_prim.specs.PipeRows.{multiplier_row, divider_row, timer_row}
 use Rattle.cx_prim.specs.Table.{at_width, constant_at, slice_at, pad_at, memory_at, timer_at, row_at}
-use Rattle.cx_prim.specs.TableCases.{is_width_tells, is_layout_tells}
+use Rattle.cx_prim.proofs.TableCases.{is_width_tells, is_layout_tells}
+use Rattle.cx_text.proofs.BoolLaws.{and_left, and_right}
 
 -- the first number is there and is a width
 pub record HasWidth (numbers : List ℕ) : Type 0 where

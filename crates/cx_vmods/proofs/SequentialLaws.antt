@@ -12,7 +12,7 @@ use Rattle.cx_prim.specs.PortNames.{text_of}
 use Rattle.cx_prim.specs.CellStates.{CellState, SequentialMemory}
 use Rattle.cx_prim.specs.Rows.{Inputs, input, value_at, is_on, HasSide, is_output_side}
 use Rattle.cx_prim.specs.MemoryRows.{IsLayout, first_beyond, word_number, word_at, written, sequential_memory_row}
-use Rattle.cx_prim.specs.MemoryLaws.{length-ports_named, plain_before, AreWords-written, sequential_port, sequential_outputs, SequentialOutput, is_data, is_end}
+use Rattle.cx_prim.proofs.MemoryLaws.{length-ports_named, plain_before, AreWords-written, sequential_port, sequential_outputs, SequentialOutput, is_data, is_end}
 use Rattle.cx_vtree.specs.declared.operators.Operator.TheVariants.{And}
 use Rattle.cx_vtree.specs.Plain.{Applied, PlainModule}
 use Rattle.cx_vtree.specs.InstanceTree.{Placed, Driven, Stored, kind_in, nets_at, declared_nets}

@@ -1,5 +1,5 @@
 -- The module of each primitive of the table does what its row says.
-use Rattle.std.specs.Prelude.{◌≡◌, ℕ, ◌*◌, ◌^◌, ◌≤◌, ◌==◌, ◌&&◌, Bool, true, false, List, [], ◌∷◌, Some, None, IsSome, nat_lt, nat_le, length, take, drop, slice_index, if◌then◌else◌, unwrap_or, refl}
+use Rattle.std.specs.Prelude.{◌≡◌, ℕ, ◌*◌, ◌^◌, ◌≤◌, ◌==◌, ◌&&◌, true, false, List, [], ◌∷◌, IsSome, nat_lt, nat_le, length, take, drop, slice_index, unwrap_or, refl}
 use Rattle.std.specs.List.{list_all}
 use Rattle.std.proofs.Common.{arith}
 use Rattle.std.proofs.lemmas.Bool.{leb-true, ltb-true}
@@ -8,12 +8,11 @@ use Rattle.cx_prim.specs.declared.names.PrimitiveName.{PrimitiveName}
 use Rattle.cx_prim.specs.declared.names.PrimitiveName.TheVariants.{Const, Wire, Add, Sub, And, Or, Xor, Not, Lsh, Rsh, Lt, Gt, Equal, Neq, Le, Ge, Slt, Sgt, Seq, Sneq, Sle, Sge, Slice, Pad, Mux, Reg, StdMemD1, StdMemD2, StdMemD3, StdMemD4, CombMemD1, CombMemD2, CombMemD3, CombMemD4, SeqMemD1, SeqMemD2, SeqMemD3, SeqMemD4, MultPipe, DivPipe, Timer}
 use Rattle.cx_prim.specs.Widths.{IsWidth, is_width}
 use Rattle.cx_prim.specs.Rows.{Row}
-use Rattle.cx_prim.specs.CombinationalLaws.{and_left, and_right}
 use Rattle.cx_prim.specs.CombinationalRows.{constant_row, unary_row, greater_bit_of, unequal_bit_of, at_most_bit_of, at_least_bit_of, signed_greater_bit_of, signed_at_most_bit_of, signed_at_least_bit_of}
 use Rattle.cx_prim.specs.MemoryRows.{are_sizes, is_address_width, memory_row, sequential_memory_row}
 use Rattle.cx_prim.specs.PipeRows.{timer_row}
 use Rattle.cx_prim.specs.Table.{at_width, constant_at, slice_at, pad_at, memory_at, timer_at, row_at, no_row}
-use Rattle.cx_prim.specs.TableCases.{is_width_tells, is_layout_tells}
+use Rattle.cx_prim.proofs.TableCases.{is_width_tells, is_layout_tells}
 use Rattle.cx_vtree.specs.declared.operators.Operator.TheVariants as operators
 use Rattle.cx_vmods.specs.Parts.{Piece, made_of}
 use Rattle.cx_vmods.specs.Modules.{ports_of, module_with, constant_pieces, slice_pieces, pad_pieces, timer_pieces, memory_pieces, sequential_pieces, pieces_of}
@@ -28,15 +27,12 @@ use Rattle.cx_vmods.proofs.MultiplierLaws.{multiplier_built}
 use Rattle.cx_vmods.proofs.DividerLaws.{divider_built}
 use Rattle.cx_vmods.proofs.MemoryLaws.{memory_built}
 use Rattle.cx_vmods.proofs.SequentialLaws.{sequential_built}
+use Rattle.cx_prim.proofs.RowsLemmas.{where_true}
+use Rattle.cx_text.proofs.BoolLaws.{and_left, and_right}
 
 -- what these pieces under a name owe to a row
 abbrev Owes : List ℕ → List Piece → List ℕ → Row → Type 0
 Owes name pieces numbers row = IsBuilt (module_with name (ports_of row) (made_of pieces)) row (StandsFor (slice_index numbers 0))
-
--- a row that is there where a test is true
-where_true : (P : Row → Type 0) (b : Bool) (row : Row) → IsSome (if b then Some row else None) → (b ≡ true → P row) → P (unwrap_or (if b then Some row else None) no_row)
-where_true P true row there each = each refl
-where_true P false row there each = absurd (let wrong : false ≡ true = there in cc)
 
 at_width_built : (make : ℕ → Row) (pieces : List ℕ → List Piece) (name : List ℕ) → ((w : ℕ) → IsWidth w → Owes name (pieces (w ∷ [])) (w ∷ []) (make w))
     → (numbers : List ℕ) → IsSome (at_width make numbers) → Owes name (pieces numbers) numbers (unwrap_or (at_width make numbers) no_row)

@@ -1,5 +1,5 @@
 -- One more name has a number.
-use Rattle.std.proofs.Common.{◌≡◌, ℕ, suc, ◌+◌, Bool, true, false, cond, List, [], ◌∷◌, ◌++◌, map, length, Option, Some, None, Ordering, option_map, is_some, refl, ap, sym, ◌∙◌, arith, if◌then◌else◌}
+use Rattle.std.proofs.Common.{◌≡◌, ℕ, suc, ◌+◌, Bool, true, false, cond, List, [], ◌∷◌, ◌++◌, length, Option, Some, None, Ordering, option_map, is_some, refl, ap, sym, ◌∙◌, arith, if◌then◌else◌}
 use Rattle.std.specs.Option.{option_or}
 use Rattle.std.specs.BTreeMap as tree
 use Rattle.std.specs.BTreeMap.{BTreeMap, is_at}
@@ -8,8 +8,6 @@ use Rattle.std.specs.Cmp.Lexicographic.{slice_cmp, same_text}
 use Rattle.std.specs.Ordering.{nat_cmp}
 use Rattle.std.proofs.lemmas.Map.Text.{btree_map_updates_str}
 use denote.Ref.{Bor}
-use Rattle.cx_vtree.specs.declared.modules.ModulePort.{ModulePort}
-use Rattle.cx_vtree.specs.PlainParts.{plain_port}
 use Rattle.cx_vtree.specs.InstanceTree.{same_name}
 use Rattle.cx_vnets.specs.ModuleNumbers.{position, position_from}
 use Rattle.cx_vnets.specs.Maps.{number_by}
@@ -79,7 +77,3 @@ numbered_after empty m n xs ys k q is long e f =
     let behind : k ≡ 0 + length xs = omega arith in
     f ∙ ap (λ o. option_or o (position_from k ys q)) (e ∙ ap (λ o. option_or o (position_from 0 xs q)) (nothing empty q is))
     ∙ ap (λ j. option_or (position_from 0 xs q) (position_from j ys q)) behind ∙ sym (position_from-append 0 xs ys q) ∙ position_from-zero (xs ++ ys) q
-
-pub ports-length : (ports : List ModulePort) → length (map (λ p. p.name) (map plain_port ports)) ≡ length ports
-ports-length [] = refl
-ports-length (p ∷ ps) = ap suc (ports-length ps)

@@ -1,6 +1,5 @@
 -- Marks after an edge, and after a sweep.
-use Rattle.std.proofs.Common.{◌≡◌, ℕ, ◌+◌, ⊎_elim, true, List, Option, Some, None, ◌++◌, take, map, length, slice_get, option_map, unwrap_or, refl, ap, sym, ◌∙◌, subst, arith}
-use Rattle.std.proofs.Math.Seq.{take-append_seam}
+use Rattle.std.proofs.Common.{◌≡◌, ℕ, ◌+◌, ⊎_elim, true, List, Option, Some, None, map, length, slice_get, option_map, unwrap_or, refl, ap, sym, ◌∙◌, subst, arith}
 use Rattle.std.proofs.lemmas.Bool.{cases_lt}
 use Rattle.std.proofs.lemmas.Option.{same_Some, slice_get-map, slice_get_within}
 use Rattle.cx_bits.specs.BitVector.{BitVector}
@@ -82,10 +81,6 @@ swept_values m s b stale values ready current is swept =
       right = all_ranked_have m.nets s m.order.items m.readers.ranks.items ranked values (same_length values s.nets.items swept.widths ∙ sym ready.fits.long)
           (λ f lt. swept.agree f lt (swept.behind (rank_at m.readers.ranks.items f) (slice_get_within m.order.items (rank_at m.readers.ranks.items f) f (ranked.placed f lt))));
     }
-
--- a list that is written back whole
-pub written_back : {A : Type 0} (new rest : List A) (len : ℕ) → len ≡ length new → take len (new ++ rest) ≡ new
-written_back new rest len same = ap (λ k. take k (new ++ rest)) same ∙ take-append_seam new rest
 
 -- with other inputs
 pub inputs_current : (m : Machine) (s t : Stored) (b c : Bench) → IsCurrent m s b → c.values.items ≡ b.values.items → c.nonzero.items ≡ b.nonzero.items → t.arrays.items ≡ s.arrays.items

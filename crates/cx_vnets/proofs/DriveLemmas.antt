@@ -1,6 +1,6 @@
 -- What the driver of a net gives it, where all nets have values.
-use Rattle.std.proofs.Common.{◌≡◌, ℕ, ◌+◌, ◌<◌, Bool, List, Some, IsSome, option_and_then, length, get_or, slice_get, refl, ap, sym, ◌∙◌, subst}
-use Rattle.std.proofs.lemmas.Option.{same_Some, slice_get_read, slice_get_within}
+use Rattle.std.proofs.Common.{◌≡◌, ℕ, ◌+◌, ◌<◌, Bool, List, Some, IsSome, option_and_then, length, get_or, slice_get, ap, sym, ◌∙◌, subst}
+use Rattle.std.proofs.lemmas.Option.{same_Some, slice_get_within}
 use Rattle.cx_bits.specs.BitVector.{BitVector}
 use Rattle.cx_vnets.specs.declared.codes.Code.{Code}
 use Rattle.cx_vnets.specs.declared.codes.NetPosition.{NetPosition}
@@ -18,27 +18,24 @@ use Rattle.cx_vnets.specs.Values.{code_at, driver_in, rule}
 use Rattle.cx_vnets.specs.Watches.{CodeHears, OptionHears, DriverHears, NetHears}
 use Rattle.cx_vnets.proofs.Waiting.{width_there, some_along}
 use Rattle.cx_vnets.proofs.Widths.{net_there}
-
--- what was read from a list stands there
-pub read_there : {X : Type 0} (xs : List X) (i : ℕ) (x : X) → i < length xs → x ≡ get_or xs i x → slice_get xs i ≡ Some x
-read_there xs i x lt read = slice_get_read xs (length xs) i x refl lt read
+use Rattle.cx_text.proofs.ListLaws.{read_at}
 
 module _ (n : Nets) (s : Stored) (fits : Fits n s) (values : List BitVector) (widths : SameWidths values s.nets.items) (f : ℕ) (within : f < length n.drivers.items)
     (d : Driver) (driver : d ≡ get_or n.drivers.items f d) where
   at : slice_get n.drivers.items f ≡ Some d
-  at = read_there n.drivers.items f d within driver
+  at = read_at n.drivers.items f d within driver
 
   pub held_there : f < length s.nets.items
   held_there = subst (λ k. f < k) fits.long within
 
   pub rule_held : d ≡ Held → (v : BitVector) → v ≡ get_or s.nets.items f v → rule n s (slice_get values) f ≡ Some v
-  rule_held is v read = ap (driver_in n s (slice_get values) f) (at ∙ ap Some is) ∙ read_there s.nets.items f v held_there read
+  rule_held is v read = ap (driver_in n s (slice_get values) f) (at ∙ ap Some is) ∙ read_at s.nets.items f v held_there read
 
   pub tied_there : (g : ℕ) → d ≡ Tied g → g < length values
   tied_there g is = net_there values g (some_along n s fits (width_at values g) (width_at s.nets.items f) (widths g ∙ fits.tied f g (at ∙ ap Some is)) (width_there n s fits f within))
 
   pub rule_tied : (g : ℕ) → d ≡ Tied g → (v : BitVector) → v ≡ get_or values g v → rule n s (slice_get values) f ≡ Some v
-  rule_tied g is v read = ap (driver_in n s (slice_get values) f) (at ∙ ap Some is) ∙ read_there values g v (tied_there g is) read
+  rule_tied g is v read = ap (driver_in n s (slice_get values) f) (at ∙ ap Some is) ∙ read_at values g v (tied_there g is) read
 
   module _ (c : ℕ) (p : NetPosition) (is : d ≡ Given c p) where
     pub code_there : c < length n.codes.items
@@ -46,7 +43,7 @@ module _ (n : Nets) (s : Stored) (fits : Fits n s) (values : List BitVector) (wi
 
     module _ (code : Code) (read : code ≡ get_or n.codes.items c code) where
       code_at_number : slice_get n.codes.items c ≡ Some code
-      code_at_number = read_there n.codes.items c code code_there read
+      code_at_number = read_at n.codes.items c code code_there read
 
       pub code_fits : IsSome (width_of values s.arrays.items p code)
       code_fits =

@@ -5,9 +5,9 @@ use Rattle.std.proofs.lemmas.Bool.{cases_lt}
 use Rattle.std.proofs.lemmas.List.{length-map}
 use Rattle.std.proofs.lemmas.Option.{same_Some, slice_get_within, slice_get_past}
 use Rattle.cx_bits.specs.BitVector.{BitVector}
-use Rattle.cx_vtree.specs.Plain.{PlainDecl, PlainEdge, PlainStore}
+use Rattle.cx_vtree.specs.Plain.{PlainEdge, PlainStore}
 use Rattle.cx_vtree.specs.InstanceTree.{Placed, decls_at}
-use Rattle.cx_vtree.specs.Meaning.{Moment, word_in}
+use Rattle.cx_vtree.specs.Meaning.{Moment}
 use Rattle.cx_vtree.specs.Edges.{edge_at, acting_stores, state_after}
 use Rattle.cx_vnets.specs.declared.arrays.Words.{Words}
 use Rattle.cx_vnets.specs.declared.codes.Code.{Code}
@@ -29,14 +29,7 @@ use Rattle.cx_vnets.proofs.FlatStoreSteps.{stores_long}
 use Rattle.cx_vnets.proofs.WordLemmas.{word_in_width}
 use Rattle.cx_vnets.proofs.Registers.{input_same, register_same}
 use Rattle.cx_vnets.proofs.WordsAfter.{array_same}
-
--- the zero of an array is as wide as its words
-zero_width : (words : List ℕ → ℕ → ℕ) (decls : List PlainDecl) (name : List ℕ) (x : Words) → WordsStand words decls name x → x.zero.width ≡ (word_in words decls name 0).width
-zero_width words decls name x stand =
-    let past : length x.words.items ≤ length x.words.items = omega arith in
-    ap (λ (o : Option BitVector). (unwrap_or o x.zero).width) (sym (slice_get_past x.words.items (length x.words.items) past))
-    ∙ ap (λ (b : BitVector). b.width) (stand.each (length x.words.items))
-    ∙ word_in_width decls words words name (length x.words.items) 0
+use Rattle.cx_vnets.proofs.ArraysLemmas.{zero_width}
 
 module _ (tree : List Placed) where
   pub even_stored : (m : Moment) (s : Stored) → StoredStands tree m s → IsEven s.arrays.items

@@ -7,7 +7,8 @@ use Rattle.std.proofs.lemmas.Option.{slice_get_within}
 use Rattle.cx_vnets.specs.declared.stores.Store.{Store}
 use Rattle.cx_vnets.specs.declared.stores.Write.{Write}
 use Rattle.cx_vnets.specs.Stores.{PlainWords, written, write_word, after_writes}
-use Rattle.cx_vnets.proofs.FlatSetSteps.{get_set_same, get_set_other}
+use Rattle.cx_vnets.proofs.FlatSetSteps.{get_set_other}
+use Rattle.cx_text.proofs.ListLaws.{get_set_same}
 
 -- a write twice is a write once
 written_twice : (x : PlainWords) (w : Write) → written (written x w) w ≡ written x w

@@ -19,8 +19,10 @@ use Rattle.cx_vnets.specs.ModuleNumbers.{position}
 use Rattle.cx_vnets.specs.Numbers.{arrays_at, nets_before, arrays_before, net_number, place_of}
 use Rattle.cx_vnets.specs.Flat.{CodeStands, DriverStands, NetsStand}
 use Rattle.cx_vnets.specs.Memory.{StoredStands}
-use Rattle.cx_vnets.proofs.Numbering.{bind_some, position_here, number_parts, number_below, number_order, order_back, number_there, located, located_here, located_tells, net_within}
+use Rattle.cx_vnets.proofs.Numbering.{position_here, number_parts, number_below, number_order, order_back, number_there, located, located_here, located_tells}
 use Rattle.cx_vnets.proofs.CodeValues.{same_value}
+use Rattle.cx_text.proofs.OptionLaws.{bind_some}
+use Rattle.cx_vtree.proofs.InstanceTreeLemmas.{net_within}
 
 -- each number below the count is that of a net
 pub net_there : (tree : List Placed) (n : Nets) → NetsStand tree n → (f : ℕ) → f < length n.drivers.items

@@ -1,5 +1,5 @@
 -- Nets that are 0 where their gates are.
-use Rattle.std.proofs.Common.{◌≡◌, ◌≢◌, ℕ, zero, suc, ◌+◌, ◌<◌, ◌==◌, ◌⊎◌, inl, inr, ⊎_elim, true, false, List, [], ◌∷◌, ◌++◌, Option, Some, None, IfSome, IsSome, option_and_then, option_map, length, set, slice_get, refl, ap, sym, ◌∙◌, subst, if◌then◌else◌, bit_and, arith}
+use Rattle.std.proofs.Common.{◌≡◌, ◌≢◌, ℕ, zero, ◌+◌, ◌<◌, ◌==◌, ◌⊎◌, inl, inr, ⊎_elim, true, false, List, [], ◌∷◌, ◌++◌, Option, Some, None, IfSome, IsSome, option_and_then, option_map, length, set, slice_get, refl, ap, sym, ◌∙◌, subst, if◌then◌else◌, bit_and, arith}
 use Rattle.std.specs.Int.Bits.{and_zero_l}
 use Rattle.std.proofs.lemmas.Bool.{cases_Bool, cases_eq, cases_lt}
 use Rattle.std.proofs.lemmas.List.{length-set, get_or-set_same}
@@ -24,21 +24,13 @@ use Rattle.cx_vnets.proofs.FlatSetSteps.{get_set_other}
 use Rattle.cx_vnets.proofs.Waiting.{width_there}
 use Rattle.cx_vnets.proofs.WatchLemmas.{net_value}
 use Rattle.cx_vnets.proofs.Widths.{and_first, and_second, and_third}
-
--- what stands in a list with one more item is that item or stood there before
-push_cases : {A : Type 0} (xs : List A) (x y : A) (i : ℕ) → slice_get (xs ++ x ∷ []) i ≡ Some y → (slice_get xs i ≡ Some y) ⊎ ((i ≡ length xs) × (x ≡ y))
-push_cases [] x y zero e = inr (refl, same_Some x y e)
-push_cases [] x y (suc i) e = absurd (cc)
-push_cases (z ∷ xs) x y zero e = inl e
-push_cases (z ∷ xs) x y (suc i) e = ⊎_elim
-    (λ l. inl l)
-    (λ r. let place : suc i ≡ length (z ∷ xs) = omega (arith, r.0) in inr (place, r.1)) (push_cases xs x y i e)
+use Rattle.cx_text.proofs.ListLaws.{either_at}
 
 -- the gate of one more net
 pub gates_more : (n : Nets) (gates : List (Option ℕ)) (x : Option ℕ) (net : ℕ) → GatesStand n gates → length gates ≡ net → ((g : ℕ) → x ≡ Some g → HasGate n net g) → GatesStand n (gates ++ x ∷ [])
 gates_more n gates x net stand long h f gate at = ⊎_elim
     (λ l. stand f gate l)
-    (λ r. subst (λ k. HasGate n k gate) (sym (r.0 ∙ long)) (h gate r.1)) (push_cases gates x (Some gate) f at)
+    (λ r. subst (λ k. HasGate n k gate) (sym (r.0 ∙ long)) (h gate r.1)) (either_at gates x (Some gate) f at)
 
 -- the gate that stands in the table, where one does
 pub gate_given : (o : Option (Option ℕ)) (x : Option ℕ) → o ≡ Some x → IfSome x (λ g. o ≡ Some (Some g))

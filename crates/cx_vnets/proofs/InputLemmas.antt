@@ -1,5 +1,5 @@
 -- The inputs of a cycle.
-use Rattle.std.proofs.Common.{◌≡◌, ℕ, ◌+◌, ◌<◌, ◌==◌, Bool, true, false, not, List, [], ◌∷◌, Option, Some, None, option_and_then, option_map, slice_get, slice_set, length, refl, ap, sym, ◌∙◌, subst, if◌then◌else◌}
+use Rattle.std.proofs.Common.{◌≡◌, ℕ, ◌+◌, ◌<◌, ◌==◌, Bool, true, false, not, List, Option, Some, None, option_and_then, option_map, slice_get, slice_set, length, refl, ap, sym, ◌∙◌, subst, if◌then◌else◌}
 use Rattle.std.specs.Prelude.{codes}
 use Rattle.std.specs.Option.{option_map_or}
 use Rattle.std.proofs.lemmas.Bool.{eqb-true}
@@ -7,7 +7,7 @@ use Rattle.std.proofs.lemmas.List.{length-set}
 use Rattle.std.proofs.lemmas.Option.{slice_get_within}
 use Rattle.cx_bits.specs.BitVector.{BitVector}
 use Rattle.cx_vtree.specs.Plain.{PlainExpr}
-use Rattle.cx_vtree.specs.InstanceTree.{Placed, same_name, nets_at, NetKind, Input, Driven, Stored, Outside, Tied, Held, Given, net_of, assigned, output_to, driving_output, origin_by, kind_in, origin_of}
+use Rattle.cx_vtree.specs.InstanceTree.{Placed, same_name, nets_at, NetKind, Input, Driven, Stored, Outside, Tied, Held, Given, net_of, assigned, driving_output, origin_by, kind_in, origin_of}
 use Rattle.cx_vtree.specs.Meaning.{State, Moment, outside_value}
 use Rattle.cx_vnets.specs.declared.nets.Stored.{Stored as Memory}
 use Rattle.cx_vnets.specs.declared.machines.Machine.{Machine}
@@ -16,18 +16,11 @@ use Rattle.cx_vnets.specs.Numbers.{nets_before, arrays_before}
 use Rattle.cx_vnets.specs.Memory.{StoredStands}
 use Rattle.cx_vnets.specs.EdgesFlat.{AreApart}
 use Rattle.cx_vnets.specs.RunsFlat.{IsInput}
-use Rattle.cx_vnets.proofs.Numbering.{bind_some, same_name-true, same_name-refl, number_at, number_once}
-use Rattle.cx_vnets.proofs.FlatSetSteps.{get_set_same, get_set_other}
-
--- An origin from outside is one of instance 0.
-driving_not_outside : (tree : List Placed) (number holder : ℕ) (net : List ℕ) → driving_output tree number holder net ≡ Some Outside → ⊥
-driving_not_outside [] number holder net e = cc
-driving_not_outside (p ∷ rest) number holder net e =
-    go (if p.holder == holder then output_to p.part.ports p.conns net else None) (driving_not_outside rest (number + 1) holder net) e
-  where
-    go : (o : Option (List ℕ)) → (driving_output rest (number + 1) holder net ≡ Some Outside → ⊥) → option_map_or (λ port. Some (Tied number port)) o (driving_output rest (number + 1) holder net) ≡ Some Outside → ⊥
-    go None later e = later e
-    go (Some port) later e = cc
+use Rattle.cx_vnets.proofs.Numbering.{number_at, number_once}
+use Rattle.cx_vnets.proofs.FlatSetSteps.{get_set_other}
+use Rattle.cx_vtree.proofs.InstanceTreeLemmas.{driving_not_outside, same_is, same_self}
+use Rattle.cx_text.proofs.OptionLaws.{bind_some}
+use Rattle.cx_text.proofs.ListLaws.{get_set_same}
 
 module _ (tree : List Placed) (i : ℕ) (name : List ℕ) where
   input_zero : (t : Bool) (o : Option (List ℕ)) (holder : ℕ) → (if t then Some Outside else option_map (Tied holder) o) ≡ Some Outside → t ≡ true
@@ -67,7 +60,7 @@ module _ (tree : List Placed) (apart : AreApart tree) (input : List ℕ) (f : �
   other_name : (k : ℕ) (name : List ℕ) → slice_get (nets_at tree 0) k ≡ Some name → same_name name input ≡ false → f ≡ nets_before tree 0 + k → ⊥
   other_name k name there differs same =
       let one = input_once 0 k name there same in
-      let t = subst (λ n. same_name n input ≡ true) one.1 (same_name-refl input) in
+      let t = subst (λ n. same_name n input ≡ true) one.1 (same_self input) in
       let never = sym t ∙ differs in cc
 
   input_net : (k : ℕ) → slice_get (nets_at tree 0) k ≡ Some input → f ≡ nets_before tree 0 + k
@@ -130,8 +123,8 @@ module _ (tree : List Placed) (apart : AreApart tree) (m : Machine) (reset_is : 
         ∙ ap (λ t. Some (record { width = 1; value = if t then g else 0 })) no_go
 
     by_names : (t u : Bool) → same_name name (codes "reset") ≡ t → same_name name (codes "go") ≡ u → slice_get nets f ≡ Some (value_by t u)
-    by_names true u is is' = at_reset (sym (same_name-true name (codes "reset") is))
-    by_names false true is is' = at_go (sym (same_name-true name (codes "go") is'))
+    by_names true u is is' = at_reset (sym (same_is name (codes "reset") is))
+    by_names false true is is' = at_go (sym (same_is name (codes "go") is'))
     by_names false false is is' = at_other is is'
 
     input_value : slice_get nets f ≡ Some (outside_value new name)

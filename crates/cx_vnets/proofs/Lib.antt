@@ -34,3 +34,4 @@ pub mod DriveLemmas
 pub mod WatchLemmas
 pub mod GateLemmas
 pub mod MarkLemmas
+pub mod ArraysLemmas

@@ -1,5 +1,5 @@
 -- Soundness of an expression, part by part.
-use Rattle.std.proofs.Common.{◌≡◌, ℕ, Bool, true, false, ◌&&◌, ◌||◌, not, List, Option, Some, None, option_and_then, slice_get, refl, ap, sym, ◌∙◌, subst, if◌then◌else◌}
+use Rattle.std.proofs.Common.{◌≡◌, ℕ, Bool, true, false, ◌&&◌, ◌||◌, not, List, Option, Some, None, option_and_then, slice_get, refl, ap, ◌∙◌, subst, if◌then◌else◌}
 use Rattle.std.specs.Prelude.{IsSome}
 use Rattle.cx_vtree.specs.Plain.{PlainExpr, Named, Number, Part, Word, Applied, Inverted, Chosen, Joined, PlainPort, PlainDecl}
 use Rattle.cx_vtree.specs.Sound.{width_of, is_source, is_array, bad_width, applied_width, chosen_width, joined_width, part_width, meant_in, misnames, fitting_width}
@@ -10,6 +10,8 @@ use Rattle.cx_vnets.specs.ModuleNumbers.{position}
 use Rattle.cx_vnets.specs.ModuleCodes.{IsCode, HasNumbers}
 use Rattle.cx_vnets.specs.CodeLaws.{net_widths, array_widths, net_numbering, array_numbering, HasWidths}
 use Rattle.cx_vnets.proofs.Places.{StandsIn, net_stands, array_stands}
+use Rattle.cx_text.proofs.BoolLaws.{not_not}
+use Rattle.cx_text.proofs.OptionLaws.{some_by}
 
 pub left_of : (a b : Bool) → (a || b) ≡ false → a ≡ false
 left_of true b e = e
@@ -19,20 +21,13 @@ pub right_of : (a b : Bool) → (a || b) ≡ false → b ≡ false
 right_of true b e = absurd (cc)
 right_of false b e = e
 
-meant : (b : Bool) → not b ≡ false → b ≡ true
-meant true e = refl
-meant false e = absurd (cc)
-
 read : (a b : Bool) → not (a && b) ≡ false → a ≡ true
 read true b e = refl
 read false b e = absurd (cc)
 
-some_of : {A : Type 0} (o : Option A) (x : A) → o ≡ Some x → IsSome o
-some_of o x e = subst IsSome (sym e) refl
-
 module _ (ports : List PlainPort) (decls : List PlainDecl) where
   net_number : (n : List ℕ) (b : Bool) → not (is_source (meant_in ports decls n) && b) ≡ false → IsSome (net_numbering ports decls n)
-  net_number n b e = let s = net_stands ports decls n (read (is_source (meant_in ports decls n)) b e) in some_of (net_numbering ports decls n) s.0 s.1
+  net_number n b e = let s = net_stands ports decls n (read (is_source (meant_in ports decls n)) b e) in some_by (net_numbering ports decls n) s.0 s.1
 
   -- all names have numbers
   pub have_numbers : (e : PlainExpr) → misnames (meant_in ports decls) e ≡ false → HasNumbers (net_numbering ports decls) (array_numbering decls) e
@@ -40,8 +35,8 @@ module _ (ports : List PlainPort) (decls : List PlainDecl) where
   have_numbers (Number b) f = tt
   have_numbers (Part n h l) f = net_number n _ f
   have_numbers (Word n i) f =
-      let s = array_stands ports decls n (meant (is_array (meant_in ports decls n)) (left_of _ _ f)) in
-      (some_of (array_numbering decls n) s.0 s.1, have_numbers i (right_of _ _ f))
+      let s = array_stands ports decls n (not_not (is_array (meant_in ports decls n)) (left_of _ _ f)) in
+      (some_by (array_numbering decls n) s.0 s.1, have_numbers i (right_of _ _ f))
   have_numbers (Applied op a b) f = (have_numbers a (left_of _ _ f), have_numbers b (right_of _ _ f))
   have_numbers (Inverted a) f = have_numbers a f
   have_numbers (Chosen c a b) f = (have_numbers c (left_of _ _ (left_of _ _ f)), have_numbers a (right_of _ _ (left_of _ _ f)), have_numbers b (right_of _ _ f))
@@ -89,7 +84,7 @@ module _ (ports : List PlainPort) (decls : List PlainDecl) (nets arrays : ℕ �
   array_width : (n : List ℕ) (k : ℕ) → not (is_array (meant_in ports decls n)) ≡ false → array_numbering decls n ≡ Some k → arrays k ≡ Some (width_of (meant_in ports decls n))
   array_width n k f is =
       width_there _ (array_widths decls) n k (width_of (meant_in ports decls n)) arrays (array_numbering decls n)
-      (array_stands ports decls n (meant (is_array (meant_in ports decls n)) f)) ha is refl
+      (array_stands ports decls n (not_not (is_array (meant_in ports decls n)) f)) ha is refl
 
   pub width_kept : (c : Code) (e : PlainExpr) → misnames (meant_in ports decls) e ≡ false → IsCode (net_numbering ports decls) (array_numbering decls) c e
       → Tells (fitting_width (meant_in ports decls) e) (code_width nets arrays c)

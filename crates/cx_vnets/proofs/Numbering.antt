@@ -1,27 +1,13 @@
 -- Each number belongs to one name of one list.
-use Rattle.std.proofs.Common.{◌≡◌, ℕ, zero, suc, ◌+◌, ◌-◌, ◌<◌, ◌≤◌, ◌⊎◌, inl, inr, ⊎_elim, Bool, true, false, List, [], ◌∷◌, ◌++◌, map, length, Option, Some, None, option_and_then, option_map, slice_get, nat_lt, refl, ap, sym, ◌∙◌, subst, if◌then◌else◌, arith}
+use Rattle.std.proofs.Common.{◌≡◌, ℕ, zero, suc, ◌+◌, ◌-◌, ◌<◌, ◌≤◌, ◌⊎◌, inl, inr, ⊎_elim, Bool, true, false, List, [], ◌∷◌, length, Option, Some, None, option_map, slice_get, nat_lt, refl, ap, sym, ◌∙◌, subst, if◌then◌else◌, arith}
 use Rattle.std.proofs.lemmas.Bool.{cases_order, cases_lt, lt-ltb, le-ltb, ltb-false}
 use Rattle.std.proofs.lemmas.Option.{slice_get_within, slice_get_past, slice_get-get_or, same_Some}
-use Rattle.std.specs.Cmp.Lexicographic.{bytes_decides}
 use Rattle.std.specs.Option.{option_map_or}
-use Rattle.cx_vtree.specs.InstanceTree.{Placed, same_name, declared_nets, nets_at}
+use Rattle.cx_vtree.specs.InstanceTree.{Placed, same_name}
 use Rattle.cx_vnets.specs.ModuleNumbers.{position, declared_arrays}
 use Rattle.cx_vnets.specs.Numbers.{arrays_at, before, number_in}
-
--- what a bind and a map that gave something began with
-pub bind_some : {A B : Type 0} (f : A → Option B) (o : Option A) (y : B) → option_and_then f o ≡ Some y → (x : A) × (o ≡ Some x) × (f x ≡ Some y)
-bind_some f None y e = absurd (cc)
-bind_some f (Some x) y e = (x, refl, e)
-
-pub map_some : {A B : Type 0} (f : A → B) (o : Option A) (y : B) → option_map f o ≡ Some y → (x : A) × (o ≡ Some x) × (f x ≡ y)
-map_some f None y e = absurd (cc)
-map_some f (Some x) y e = let same : f x ≡ y = cc in (x, refl, same)
-
-pub same_name-refl : (n : List ℕ) → same_name n n ≡ true
-same_name-refl n = (bytes_decides n n).1 refl
-
-pub same_name-true : (n m : List ℕ) → same_name n m ≡ true → n ≡ m
-same_name-true n m e = (bytes_decides n m).0 e
+use Rattle.cx_text.proofs.OptionLaws.{map_some}
+use Rattle.cx_vtree.proofs.InstanceTreeLemmas.{same_is, same_self}
 
 -- the first place of a name has it
 pub position_here : (ns : List (List ℕ)) (name : List ℕ) (k : ℕ) → position ns name ≡ Some k → slice_get ns k ≡ Some name
@@ -33,14 +19,14 @@ position_here (n ∷ ns) name k e = go (λ h. position_here ns name h) (same_nam
 
     go : ((h : ℕ) → position ns name ≡ Some h → slice_get ns h ≡ Some name) → (t : Bool) → same_name n name ≡ t
         → (if t then Some 0 else option_map suc (position ns name)) ≡ Some k → slice_get (n ∷ ns) k ≡ Some name
-    go later true is e = let same : 0 ≡ k = cc in subst (λ x. slice_get (n ∷ ns) x ≡ Some name) same (ap Some (same_name-true n name is))
+    go later true is e = let same : 0 ≡ k = cc in subst (λ x. slice_get (n ∷ ns) x ≡ Some name) same (ap Some (same_is n name is))
     go later false is e = let r = map_some suc (position ns name) k e in rest r.0 r.1 r.2 (later r.0 r.1)
 
 -- a name that stands in a list has a first place
 pub position_there : (ns : List (List ℕ)) (name : List ℕ) (k : ℕ) → slice_get ns k ≡ Some name → (h : ℕ) × (position ns name ≡ Some h)
 position_there [] name k e = absurd (cc)
 position_there (n ∷ ns) name zero e =
-    let same : n ≡ name = cc in (0, ap (λ t. if t then Some 0 else option_map suc (position ns name)) (subst (λ x. same_name n x ≡ true) same (same_name-refl n)))
+    let same : n ≡ name = cc in (0, ap (λ t. if t then Some 0 else option_map suc (position ns name)) (subst (λ x. same_name n x ≡ true) same (same_self n)))
 position_there (n ∷ ns) name (suc k) e = go (same_name n name) (position_there ns name k e)
   where
     go : (t : Bool) → ((h : ℕ) × (position ns name ≡ Some h)) → (h : ℕ) × ((if t then Some 0 else option_map suc (position ns name)) ≡ Some h)
@@ -172,14 +158,6 @@ module _ (lists : ℕ → List (List ℕ)) where
   number_of i k name at =
       let r = position_there (lists i) name k at in
       (r.0, ap (option_map (λ h. before lists i + h)) r.1, position_here (lists i) name r.0 r.1)
-
--- what an instance has belongs to an instance that is there
-pub net_within : (tree : List Placed) (i k : ℕ) (n : List ℕ) → slice_get (nets_at tree i) k ≡ Some n → i < length tree
-net_within tree i k n at = ⊎_elim (λ lt. lt) (λ le. absurd (past (slice_get tree i) (slice_get_past tree i le) at)) (cases_lt i (length tree))
-  where
-    past : (o : Option Placed) → o ≡ None → slice_get (map (λ p. p.name) (option_map_or (λ p. p.part.ports) o []) ++ declared_nets (option_map_or (λ p. p.part.decls) o [])) k ≡ Some n → ⊥
-    past None e at = cc
-    past (Some p) e at = cc
 
 pub array_within : (tree : List Placed) (i a : ℕ) (n : List ℕ) → slice_get (arrays_at tree i) a ≡ Some n → i < length tree
 array_within tree i a n at = ⊎_elim (λ lt. lt) (λ le. absurd (past (slice_get tree i) (slice_get_past tree i le) at)) (cases_lt i (length tree))

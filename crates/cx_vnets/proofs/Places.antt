@@ -7,6 +7,8 @@ use Rattle.cx_vtree.specs.InstanceTree.{same_name, declared_nets}
 use Rattle.cx_vtree.specs.Sound.{width_of, is_source, is_array, meant_decl, meant_in, port_meaning}
 use Rattle.cx_vnets.specs.ModuleNumbers.{declared_arrays, position}
 use Rattle.cx_vnets.specs.CodeLaws.{declared_widths, net_widths, array_widths}
+use Rattle.cx_text.proofs.ListLaws.{slice_get-next}
+use Rattle.cx_vtree.proofs.MeaningsLemmas.{port_width}
 
 -- the name has a number, and the width of that number
 abbrev pub StandsIn : List (List ℕ) → List ℕ → List ℕ → ℕ → Type 0
@@ -14,9 +16,6 @@ StandsIn names widths n w = (k : ℕ) × (position names n ≡ Some k) × (slice
 
 stands_first : (x n : List ℕ) (names : List (List ℕ)) (w : ℕ) (widths : List ℕ) → same_name x n ≡ true → StandsIn (x ∷ names) (w ∷ widths) n w
 stands_first x n names w widths e = (0, ap (λ b. if b then Some 0 else option_map suc (position names n)) e, refl)
-
-slice_get-next : {A : Type 0} (x : A) (xs : List A) (k : ℕ) → slice_get (x ∷ xs) (suc k) ≡ slice_get xs k
-slice_get-next x xs k = refl
 
 stands_later : (x n : List ℕ) (names : List (List ℕ)) (v w : ℕ) (widths : List ℕ) → same_name x n ≡ false → StandsIn names widths n w → StandsIn (x ∷ names) (v ∷ widths) n w
 stands_later x n names v w widths e h =
@@ -41,10 +40,6 @@ decl_stands (ArrayOf x w k ∷ ds) n =
     (λ e f. absurd (cc))
     (λ e f. decl_stands ds n f)
 
-width_of-port : (o : Bool) (w : ℕ) → width_of (if o then Output w else Input w) ≡ w
-width_of-port true w = refl
-width_of-port false w = refl
-
 is_array-port : (o : Bool) (w : ℕ) → is_array (if o then Output w else Input w) ≡ false
 is_array-port true w = refl
 is_array-port false w = refl
@@ -55,7 +50,7 @@ pub net_stands : (ps : List PlainPort) (ds : List PlainDecl) (n : List ℕ) → 
 net_stands [] ds n = decl_stands ds n
 net_stands (p ∷ ps) ds n =
     by_test (λ m. is_source m ≡ true → StandsIn (p.name ∷ (map (λ q. q.name) ps ++ declared_nets ds)) (p.width ∷ net_widths ps ds) n (width_of m)) (same_name p.name n) (port_meaning p) (meant_in ps ds n)
-    (λ e f. subst (StandsIn (p.name ∷ (map (λ q. q.name) ps ++ declared_nets ds)) (p.width ∷ net_widths ps ds) n) (sym (width_of-port p.output p.width))
+    (λ e f. subst (StandsIn (p.name ∷ (map (λ q. q.name) ps ++ declared_nets ds)) (p.width ∷ net_widths ps ds) n) (sym (port_width p.output p.width))
     (stands_first p.name n (map (λ q. q.name) ps ++ declared_nets ds) p.width (net_widths ps ds) e))
     (λ e f. stands_later p.name n (map (λ q. q.name) ps ++ declared_nets ds) p.width _ (net_widths ps ds) e (net_stands ps ds n f))
 

@@ -1,10 +1,9 @@
 -- Rows of readers grow, and ranks are looked at one by one.
-use Rattle.std.proofs.Common.{◌≡◌, ℕ, zero, suc, ◌+◌, ◌<◌, ⊎_elim, Bool, List, [], ◌∷◌, Some, Result, Ok, Err, OnOk, length, get_or, slice_get, refl, ap, sym, ◌∙◌, subst, arith}
+use Rattle.std.proofs.Common.{◌≡◌, ℕ, ◌+◌, ◌<◌, ⊎_elim, Bool, List, Some, Result, Ok, Err, OnOk, length, slice_get, refl, ap, sym, ◌∙◌, subst, arith}
 use Rattle.std.proofs.lemmas.Bool.{cases_lt}
 use Rattle.std.proofs.lemmas.Option.{same_Some, slice_get_within}
-use Rattle.std.specs.declared.vec.Vec.{Vec}
 use Rattle.cx_bits.specs.BitVector.{BitVector}
-use Rattle.cx_graphs.specs.Graphs.{Edges, edges_of, targets_of}
+use Rattle.cx_graphs.specs.Graphs.{Edges, edges_of}
 use Rattle.cx_vnets.specs.declared.codes.Code.{Code}
 use Rattle.cx_vnets.specs.declared.codes.NetPosition.{NetPosition}
 use Rattle.cx_vnets.specs.declared.nets.Nets.{Nets}
@@ -80,12 +79,6 @@ three_listed a b w c d x e g z h i j count p f k l m whole one two three join = 
   listed = join (code_still e g z h i j count p f k three.nets three.arrays three.watches (code_still c d x e g z count p f k two.nets two.arrays two.watches one.listed))
       (code_still e g z h i j count p f l three.nets three.arrays three.watches two.listed) three.listed;
 }
-
--- a row as it lies in memory
-pub row_items : {A : Type 0} (rows : List (Vec ℕ A)) (k : ℕ) (row : Vec ℕ A) → k < length rows → row ≡ get_or rows k row → targets_of (edges_of rows) k ≡ row.items
-row_items [] k row lt read = absurd (omega (arith, lt))
-row_items (x ∷ rows) zero row lt read = ap (λ r. r.items) (sym read)
-row_items (x ∷ rows) (suc k) row lt read = row_items rows k row (omega (arith, lt)) read
 
 pub ranks_more : (order ranks : List ℕ) (k net : ℕ) → HaveRanks order ranks k → slice_get order k ≡ Some net → net < length ranks → rank_at ranks net ≡ k → HaveRanks order ranks (k + 1)
 ranks_more order ranks k net have at lt is j f below there = ⊎_elim

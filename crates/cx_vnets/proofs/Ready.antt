@@ -1,5 +1,5 @@
 -- What fits by its widths fits whatever has the same widths.
-use Rattle.std.proofs.Common.{◌≡◌, ℕ, zero, suc, ◌+◌, Bool, not, List, [], ◌∷◌, Option, Some, None, is_some, option_and_then, map, length, slice_set, refl, sym, ap, ◌∙◌, subst, arith}
+use Rattle.std.proofs.Common.{◌≡◌, ℕ, suc, ◌+◌, Bool, not, List, [], ◌∷◌, Option, Some, None, is_some, option_and_then, map, length, slice_set, refl, sym, ap, ◌∙◌, subst, arith}
 use Rattle.cx_bits.specs.BitVector.{BitVector}
 use Rattle.cx_vtree.specs.Sound.{applied_width, chosen_width, joined_width, part_width}
 use Rattle.cx_vnets.specs.declared.arrays.Words.{Words}
@@ -22,6 +22,7 @@ use Rattle.cx_vnets.specs.declared.runs.RunAnswer.{RunAnswer}
 use Rattle.cx_vnets.specs.declared.runs.RunAnswer.TheVariants.{Done, Loop, More}
 use Rattle.cx_vnets.specs.Machines.{KeepsWidths, IsAfter}
 use Rattle.cx_vnets.specs.Runs.{bit, WithInputs, IsReady, IsLooked, Outcome, DoneIn, NotDone, outcome_of, FlatFrom, loops, ends, spent, goes_on}
+use Rattle.cx_vnets.proofs.EdgeLemmas.{width_set}
 
 module _ (nets nets' arrays arrays' : ℕ → Option ℕ) (same : (k : ℕ) → nets k ≡ nets' k) (alike : (a : ℕ) → arrays a ≡ arrays' a) where
   both : (f : ℕ → ℕ → Option ℕ) (o p q r : Option ℕ) → o ≡ p → q ≡ r → option_and_then (λ v. option_and_then (f v) q) o ≡ option_and_then (λ v. option_and_then (f v) r) p
@@ -98,19 +99,12 @@ keeps-none m s b r = record { nets = λ f. refl; arrays = λ a. refl; even = r.f
 pub keeps-more : (a b c : Stored) → KeepsWidths a b → KeepsWidths b c → KeepsWidths a c
 keeps-more a b c first then_ = record { nets = λ f. then_.nets f ∙ first.nets f; arrays = λ k. then_.arrays k ∙ first.arrays k; even = then_.even }
 
-width-set : (values : List BitVector) (i : ℕ) (v : BitVector) → width_at values i ≡ Some v.width → (f : ℕ) → width_at (slice_set values i v) f ≡ width_at values f
-width-set [] i v e f = refl
-width-set (y ∷ ys) zero v e zero = sym e
-width-set (y ∷ ys) zero v e (suc f) = refl
-width-set (y ∷ ys) (suc i) v e zero = refl
-width-set (y ∷ ys) (suc i) v e (suc f) = width-set ys i v e f
-
 -- inputs are one bit, as they were
 pub inputs-keep : (m : Machine) (reset : Bool) (before after : Stored) (b : Bench) → WithInputs m reset before after → IsReady m before b → KeepsWidths before after
 inputs-keep m reset before after b w r =
-    let first : (f : ℕ) → width_at (slice_set before.nets.items m.reset (bit reset)) f ≡ width_at before.nets.items f = width-set before.nets.items m.reset (bit reset) r.reset in
+    let first : (f : ℕ) → width_at (slice_set before.nets.items m.reset (bit reset)) f ≡ width_at before.nets.items f = width_set before.nets.items m.reset (bit reset) r.reset in
     record {
-      nets = λ f. ap (λ l. width_at l f) w.nets ∙ width-set (slice_set before.nets.items m.reset (bit reset)) m.go (bit (not reset)) (first m.go ∙ r.go) f ∙ first f;
+      nets = λ f. ap (λ l. width_at l f) w.nets ∙ width_set (slice_set before.nets.items m.reset (bit reset)) m.go (bit (not reset)) (first m.go ∙ r.go) f ∙ first f;
       arrays = λ a. ap (λ l. array_width l a) w.arrays;
       even = subst (λ (l : List Words). IsEven l) (sym w.arrays) r.fits.even;
     }

@@ -21,16 +21,17 @@ use Rattle.cx_vnets.specs.Numbers.{nets_before, place_of, look_by}
 use Rattle.cx_vnets.specs.Flat.{CodeStands}
 use Rattle.cx_vnets.specs.Memory.{StoredStands}
 use Rattle.cx_vnets.specs.EdgesFlat.{SetStands, SetsStand, AreApart, EdgesAreApart}
-use Rattle.cx_vnets.proofs.Numbering.{same_name-true, same_name-refl, number_at, number_once}
+use Rattle.cx_vnets.proofs.Numbering.{number_at, number_once}
 use Rattle.cx_vnets.proofs.FlatValues.{same_at}
 use Rattle.cx_vnets.proofs.FlatSetSteps.{sets_keep, sets_give}
+use Rattle.cx_vtree.proofs.InstanceTreeLemmas.{same_is, same_self}
 
 -- an assignment of a name is found
 assigned_there : (xs : List PlainAssign) (j : ℕ) (a : PlainAssign) (name : List ℕ) → slice_get xs j ≡ Some a → a.name ≡ name → assigned xs name ≡ None → ⊥
 assigned_there [] j a name at is e = cc
 assigned_there (x ∷ xs) zero a name at is e =
     let first : x ≡ a = same_Some x a at in
-    let t : same_name x.name name ≡ true = subst (λ n. same_name n name ≡ true) (sym (ap (λ y. y.name) first ∙ is)) (same_name-refl name) in
+    let t : same_name x.name name ≡ true = subst (λ n. same_name n name ≡ true) (sym (ap (λ y. y.name) first ∙ is)) (same_self name) in
     let here = ap (λ b. if b then Some x.value else assigned xs name) t in
     let never = sym here ∙ e in cc
 assigned_there (x ∷ xs) (suc j) a name at is e = go (same_name x.name name) (assigned_there xs j a name at is) e
@@ -47,7 +48,7 @@ assigned_here (x ∷ xs) name e f = go (same_name x.name name) refl (assigned_he
   where
     go : (t : Bool) → same_name x.name name ≡ t → (assigned xs name ≡ Some e → (j : ℕ) × (a : PlainAssign) × (slice_get xs j ≡ Some a) × (a.name ≡ name) × (a.value ≡ e))
         → (if t then Some x.value else assigned xs name) ≡ Some e → (j : ℕ) × (a : PlainAssign) × (slice_get (x ∷ xs) j ≡ Some a) × (a.name ≡ name) × (a.value ≡ e)
-    go true is later f = (0, x, refl, same_name-true x.name name is, same_Some x.value e f)
+    go true is later f = (0, x, refl, same_is x.name name is, same_Some x.value e f)
     go false is later f = let r = later f in (suc r.0, r.1, r.2, r.3, r.4)
 
 module _ (tree : List Placed) (values : List BitVector) where

@@ -1,8 +1,7 @@
 -- Readers by their gates.
-use Rattle.std.proofs.Common.{◌≡◌, ℕ, zero, suc, ◌+◌, ◌<◌, ◌≤◌, ◌⊎◌, inl, inr, ⊎_elim, List, [], ◌∷◌, ◌++◌, Option, Some, length, slice_get, refl, sym, ap, ◌∙◌, subst, arith}
+use Rattle.std.proofs.Common.{◌≡◌, ℕ, ◌+◌, ◌<◌, ◌≤◌, ⊎_elim, List, [], ◌∷◌, ◌++◌, Option, Some, length, slice_get, sym, ap, ◌∙◌, subst, arith}
 use Rattle.std.proofs.lemmas.Bool.{cases_lt}
 use Rattle.std.proofs.lemmas.List.{length-map}
-use Rattle.std.proofs.lemmas.Option.{same_Some}
 use Rattle.cx_graphs.specs.Graphs.{Edges, In, edges_of, targets_of}
 use Rattle.cx_vnets.specs.declared.spans.Span.{Span}
 use Rattle.cx_vnets.specs.declared.spans.Spans.{Spans}
@@ -11,16 +10,7 @@ use Rattle.cx_vnets.specs.Readers.{Grows, IsListed}
 use Rattle.cx_vnets.specs.Spans.{IsGated, IsInTables, IsSpan, NotBehind, SpansStand}
 use Rattle.cx_vnets.specs.Stale.{NoneStale}
 use Rattle.cx_vnets.proofs.ReaderLemmas.{still_listed}
-
--- a member of a list with one more at its end
-pub in_front : (xs ys : List ℕ) (f : ℕ) → In xs f → In (xs ++ ys) f
-in_front [] ys f i = absurd i
-in_front (x ∷ xs) ys f (inl e) = inl e
-in_front (x ∷ xs) ys f (inr i) = inr (in_front xs ys f i)
-
-pub in_end : (xs : List ℕ) (x : ℕ) → In (xs ++ x ∷ []) x
-in_end [] x = inl refl
-in_end (y ∷ xs) x = inr (in_end xs x)
+use Rattle.cx_text.proofs.ListLaws.{either_at}
 
 -- a list without members
 pub in_none : {P : Type 0} (f : ℕ) (xs : List ℕ) → xs ≡ [] → In xs f → P
@@ -68,13 +58,6 @@ spanned_shut gates rows t nonzero net span stand at tables f plain behind i = �
     let row : g.gate < length (edges_of t.gated.items) = subst (λ k. g.gate < k) (sym (length-map t.gated.items (λ list. list.items))) (omega (arith, to, rows_high)) in
     record { gate = g.gate; has = g.has; other = g.within.other; known = behind g.gate g.within.from to (stand.gated f g.gate g.has row) }) (stand.spanned net span at f i)
 
--- what stands in a list with one more at its end
-get_either : {A : Type 0} (xs : List A) (x y : A) (k : ℕ) → slice_get (xs ++ x ∷ []) k ≡ Some y → (slice_get xs k ≡ Some y) ⊎ ((k ≡ length xs) × (x ≡ y))
-get_either [] x y zero e = inr (refl, same_Some x y e)
-get_either [] x y (suc k) e = absurd (cc)
-get_either (z ∷ xs) x y zero e = inl e
-get_either (z ∷ xs) x y (suc k) e = ⊎_elim (λ f. inl f) (λ f. inr (ap suc f.0, f.1)) (get_either xs x y k e)
-
 -- one more net has its span, or has none
 pub spans_more : (gates : List (Option ℕ)) (rows : Edges) (spans : List (Option Span)) (found : Option Span) (net : ℕ) → length spans ≡ net
     → ((k : ℕ) (span : Span) → slice_get spans k ≡ Some (Some span) → IsSpan gates (targets_of rows k) k span)
@@ -85,4 +68,4 @@ spans_more gates rows spans found net long before here k span at = ⊎_elim
     (λ e.
     let same : k ≡ net = e.0 ∙ long in
     let is : found ≡ Some span = e.1 in
-    subst (λ j. IsSpan gates (targets_of rows j) j span) (sym same) (here span is)) (get_either spans found (Some span) k at)
+    subst (λ j. IsSpan gates (targets_of rows j) j span) (sym same) (here span is)) (either_at spans found (Some span) k at)

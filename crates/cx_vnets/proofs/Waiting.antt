@@ -1,6 +1,6 @@
 -- What a look that waits for a net tells: the net is needed.
 use Rattle.std.proofs.Common.{◌≡◌, ℕ, ◌+◌, ◌<◌, ◌==◌, Bool, true, false, List, Option, Some, None, IsSome, is_some, option_and_then, option_map, length, slice_get, refl, ap, ◌∙◌, sym, subst, if◌then◌else◌}
-use Rattle.std.proofs.lemmas.Option.{slice_get-get_or}
+use Rattle.std.proofs.lemmas.Option.{slice_get-get_or, option_and_then_some}
 use Rattle.cx_bits.specs.BitVector.{BitVector}
 use Rattle.cx_vtree.specs.Operators.{operate, inverted, part_of, joined}
 use Rattle.cx_vtree.specs.Sound.{applied_width, chosen_width, joined_width, part_width}
@@ -21,7 +21,7 @@ use Rattle.cx_vnets.specs.Values.{driver_in, code_at, rule, IsRight}
 use Rattle.cx_vnets.specs.Fits.{width_at, width_in, Fits}
 use Rattle.cx_vnets.specs.Looks.{found_map, found_and_then, look, marked, seen, seen_from, words_from, look_stored, look_code, look_driver, look_net}
 use Rattle.cx_vnets.specs.Search.{SameWidths, no_bits}
-use Rattle.cx_vnets.proofs.Widths.{and_first, and_second, and_third, bind_case, look_width, seen_width, word_width}
+use Rattle.cx_vnets.proofs.Widths.{and_first, and_second, and_third, look_width, seen_width, word_width}
 use Rattle.cx_vnets.proofs.Agreement.{Agree, agree_code, worth_of, worth_look, known_by, right_agree}
 
 -- the code waits for a net: it is there, and is needed wherever the code has a value
@@ -97,11 +97,11 @@ module _ (nets : ℕ → FoundValue) (nw : ℕ → Option ℕ) (words : ℕ → 
       side : (t : BitVector) → look nets words c ≡ Worth t → (look nets words b ≡ Waits m → IsWanted nets nw words b m) → (look nets words a ≡ Waits m → IsWanted nets nw words a m)
           → (zero : Bool) → (t.value == 0) ≡ zero → (if zero then look nets words b else look nets words a) ≡ Waits m → IsWanted nets nw words (Choose' p c q a r b) m
       side t is wb wa true z l = lift b (Choose' p c q a r b) m (wb l) (λ more agrees v e.
-          bind_case (λ u. if u.value == 0 then code_in more words b else code_in more words a) (code_in more words c) v e (λ u there rest.
+          option_and_then_some (λ u. if u.value == 0 then code_in more words b else code_in more words a) (code_in more words c) v e (λ u there rest.
           let same : t ≡ u = agree_code (λ k. worth_of (nets k)) more words agrees c t u (sym (worth_look nets words c) ∙ ap worth_of is) there in
           (v, sym (ap (λ x. if x then code_in more words b else code_in more words a) z) ∙ ap (λ (x : BitVector). if x.value == 0 then code_in more words b else code_in more words a) same ∙ rest)))
       side t is wb wa false z l = lift a (Choose' p c q a r b) m (wa l) (λ more agrees v e.
-          bind_case (λ u. if u.value == 0 then code_in more words b else code_in more words a) (code_in more words c) v e (λ u there rest.
+          option_and_then_some (λ u. if u.value == 0 then code_in more words b else code_in more words a) (code_in more words c) v e (λ u there rest.
           let same : t ≡ u = agree_code (λ k. worth_of (nets k)) more words agrees c t u (sym (worth_look nets words c) ∙ ap worth_of is) there in
           (v, sym (ap (λ x. if x then code_in more words b else code_in more words a) z) ∙ ap (λ (x : BitVector). if x.value == 0 then code_in more words b else code_in more words a) same ∙ rest)))
   wants (Cat' p a q b) m s l =

@@ -18,8 +18,10 @@ use Rattle.cx_vnets.specs.Numbers.{nets_before, net_number, look_by}
 use Rattle.cx_vnets.specs.Flat.{NetsStand}
 use Rattle.cx_vnets.specs.Memory.{StoredStands}
 use Rattle.cx_vnets.specs.EdgesFlat.{AreApart}
-use Rattle.cx_vnets.proofs.Numbering.{bind_some, number_at, number_of, number_below, net_within}
+use Rattle.cx_vnets.proofs.Numbering.{number_at, number_of, number_below}
 use Rattle.cx_vnets.proofs.FlatValues.{value_by_name, value_by_number, net_there}
+use Rattle.cx_text.proofs.OptionLaws.{bind_some}
+use Rattle.cx_vtree.proofs.InstanceTreeLemmas.{net_within}
 
 -- lists whose values have the same widths are of one length
 pub same_length : (xs ys : List BitVector) → SameWidths xs ys → length xs ≡ length ys

@@ -1,7 +1,7 @@
 -- The width of what a code gives.
 use Rattle.std.proofs.Common.{◌≡◌, ℕ, ◌+◌, ◌-◌, ◌<◌, ◌≤◌, ◌&&◌, Bool, true, false, List, Option, Some, None, IsSome, option_and_then, option_map, get_or, length, refl, sym, ap, ◌∙◌, if◌then◌else◌, arith, ◌==◌, nat_lt, nat_le, slice_get, unwrap_or}
 use Rattle.std.proofs.lemmas.Bool.{eqb-true, ltb-true, leb-true}
-use Rattle.std.proofs.lemmas.Option.{slice_get_within, slice_get_read}
+use Rattle.std.proofs.lemmas.Option.{slice_get_within, slice_get_read, option_and_then_some}
 use Rattle.cx_bits.specs.BitVector.{BitVector}
 use Rattle.cx_vtree.specs.declared.operators.Operator.{Operator}
 use Rattle.cx_vtree.specs.declared.operators.Operator.TheVariants.{Add, Subtract, Multiply, And, Or, Xor, ShiftLeft, ShiftRight, Equal, NotEqual, Less, Greater, AtMost, AtLeast}
@@ -19,6 +19,7 @@ use Rattle.cx_vnets.specs.Codes.{code_in, code_width}
 use Rattle.cx_vnets.specs.Fits.{width_at}
 use Rattle.cx_vnets.specs.Looks.{found_map, look, marked, seen, seen_from, words_from, widths_from, array_widths_from}
 use Rattle.cx_vnets.proofs.Agreement.{worth_of, worth_look}
+use Rattle.cx_text.proofs.BoolLaws.{and_left, and_right}
 
 pub and_first : {A B : Type 0} (f : A → Option B) (o : Option A) → IsSome (option_and_then f o) → IsSome o
 and_first f None s = s
@@ -37,11 +38,6 @@ pub the_some : {A : Type 0} (o : Option A) → IsSome o → (x : A) × (o ≡ So
 the_some None s = cc
 the_some (Some x) s = (x, refl)
 
--- what an answer comes from
-pub bind_case : {A B P : Type 0} (f : A → Option B) (o : Option A) (y : B) → option_and_then f o ≡ Some y → ((x : A) → o ≡ Some x → f x ≡ Some y → P) → P
-bind_case f None y e h = cc
-bind_case f (Some x) y e h = h x refl e
-
 pub map_case : {P : Type 0} (f : BitVector → BitVector) (o : Option BitVector) (v : BitVector) → option_map f o ≡ Some v → ((x : BitVector) → o ≡ Some x → f x ≡ v → P) → P
 map_case f None v e h = cc
 map_case f (Some x) v e h = let same : f x ≡ v = cc in h x refl same
@@ -49,14 +45,6 @@ map_case f (Some x) v e h = let same : f x ≡ v = cc in h x refl same
 pub if_some : {A P : Type 0} (t : Bool) (x y : A) → (if t then Some x else None) ≡ Some y → (t ≡ true → x ≡ y → P) → P
 if_some true x y e h = let same : x ≡ y = cc in h refl same
 if_some false x y e h = cc
-
-and_left : (a b : Bool) → (a && b) ≡ true → a ≡ true
-and_left true b e = refl
-and_left false b e = e
-
-and_right : (a b : Bool) → (a && b) ≡ true → b ≡ true
-and_right true b e = e
-and_right false b e = cc
 
 pub part_is : (w high low u : ℕ) → part_width w high low ≡ Some u → (low ≤ high) × (high < w) × (high + 1 - low ≡ u)
 part_is w high low u e = if_some (nat_le low high && nat_lt high w) (high + 1 - low) u e
@@ -94,26 +82,26 @@ module _ (nets : ℕ → Option BitVector) (nw : ℕ → Option ℕ) (nets_have 
   code_in_width (Net k) w v e l = let h = nets_have k v l in let same : v.width ≡ w = cc in same
   code_in_width (Literal b) w v e l = let same : b ≡ v = cc in let width : b.width ≡ w = cc in ap (λ x. x.width) (sym same) ∙ width
   code_in_width (Slice k high low) w v e l =
-      bind_case (λ u. part_width u high low) (nw k) w e (λ u at fits.
+      option_and_then_some (λ u. part_width u high low) (nw k) w e (λ u at fits.
       map_case (part_of high low) (nets k) v l (λ x is made.
       ap (λ y. y.width) (sym made) ∙ (part_is u high low w fits).2))
   code_in_width (Item' a p i) w v e l =
-      bind_case (λ u. aw a) (code_width nw aw i) w e (λ u at has.
+      option_and_then_some (λ u. aw a) (code_width nw aw i) w e (λ u at has.
       map_case (λ x. words a x.value) (code_in nets words i) v l (λ x is made.
       ap (λ y. y.width) (sym made) ∙ words_have a x.value w has))
   code_in_width (Binary' op p a q b) w v e l =
-      bind_case (λ u. option_and_then (applied_width op u) (code_width nw aw b)) (code_width nw aw a) w e (λ u at rest.
-      bind_case (applied_width op u) (code_width nw aw b) w rest (λ t there fits.
-      bind_case (λ x. option_map (operate op x) (code_in nets words b)) (code_in nets words a) v l (λ x is more.
+      option_and_then_some (λ u. option_and_then (applied_width op u) (code_width nw aw b)) (code_width nw aw a) w e (λ u at rest.
+      option_and_then_some (applied_width op u) (code_width nw aw b) w rest (λ t there fits.
+      option_and_then_some (λ x. option_map (operate op x) (code_in nets words b)) (code_in nets words a) v l (λ x is more.
       map_case (operate op x) (code_in nets words b) v more (λ y is' made.
       ap (λ z. z.width) (sym made) ∙ operate_width op x y ∙ ap (λ n. if is_comparison op then 1 else n) (code_in_width a u x at is) ∙ (applied_is op u t w fits).1))))
   code_in_width (Not' p a) w v e l =
       map_case inverted (code_in nets words a) v l (λ x is made. ap (λ y. y.width) (sym made) ∙ code_in_width a w x e is)
   code_in_width (Choose' p c q a r b) w v e l =
-      bind_case (λ t. option_and_then (λ u. option_and_then (chosen_width t u) (code_width nw aw b)) (code_width nw aw a)) (code_width nw aw c) w e (λ t at rest.
-      bind_case (λ u. option_and_then (chosen_width t u) (code_width nw aw b)) (code_width nw aw a) w rest (λ u at' rest'.
-      bind_case (chosen_width t u) (code_width nw aw b) w rest' (λ o at'' fits.
-      bind_case (λ x. if x.value == 0 then code_in nets words b else code_in nets words a) (code_in nets words c) v l (λ x is more.
+      option_and_then_some (λ t. option_and_then (λ u. option_and_then (chosen_width t u) (code_width nw aw b)) (code_width nw aw a)) (code_width nw aw c) w e (λ t at rest.
+      option_and_then_some (λ u. option_and_then (chosen_width t u) (code_width nw aw b)) (code_width nw aw a) w rest (λ u at' rest'.
+      option_and_then_some (chosen_width t u) (code_width nw aw b) w rest' (λ o at'' fits.
+      option_and_then_some (λ x. if x.value == 0 then code_in nets words b else code_in nets words a) (code_in nets words c) v l (λ x is more.
       let same = chosen_is t u o w fits in
       side (x.value == 0) u o (λ is'. code_in_width a u v at' is') (λ is'. code_in_width b o v at'' is') same more))))
     where
@@ -122,9 +110,9 @@ module _ (nets : ℕ → Option BitVector) (nw : ℕ → Option ℕ) (nets_have 
       side true u o one other same more = other more ∙ sym same.0 ∙ same.1
       side false u o one other same more = one more ∙ same.1
   code_in_width (Cat' p a q b) w v e l =
-      bind_case (λ u. option_and_then (joined_width u) (code_width nw aw b)) (code_width nw aw a) w e (λ u at rest.
-      bind_case (joined_width u) (code_width nw aw b) w rest (λ t there fits.
-      bind_case (λ x. option_map (joined x) (code_in nets words b)) (code_in nets words a) v l (λ x is more.
+      option_and_then_some (λ u. option_and_then (joined_width u) (code_width nw aw b)) (code_width nw aw a) w e (λ u at rest.
+      option_and_then_some (joined_width u) (code_width nw aw b) w rest (λ t there fits.
+      option_and_then_some (λ x. option_map (joined x) (code_in nets words b)) (code_in nets words a) v l (λ x is more.
       map_case (joined x) (code_in nets words b) v more (λ y is' made.
       let left = code_in_width a u x at is in
       let right = code_in_width b t y there is' in
@@ -192,8 +180,8 @@ pub operands_same : (op : Operator) (o p : Option ℕ) (x y : BitVector) → IsS
     → ((w : ℕ) → o ≡ Some w → x.width ≡ w) → ((w : ℕ) → p ≡ Some w → y.width ≡ w) → x.width ≡ y.width
 operands_same op o p x y s left right =
     let whole = the_some (option_and_then (λ v. option_and_then (applied_width op v) p) o) s in
-    bind_case (λ v. option_and_then (applied_width op v) p) o whole.0 whole.1 (λ u at rest.
-    bind_case (applied_width op u) p whole.0 rest (λ t there fits.
+    option_and_then_some (λ v. option_and_then (applied_width op v) p) o whole.0 whole.1 (λ u at rest.
+    option_and_then_some (applied_width op u) p whole.0 rest (λ t there fits.
     left u at ∙ (applied_is op u t whole.0 fits).0 ∙ sym (right t there)))
 
 -- operands that are not too wide to be joined
@@ -201,8 +189,8 @@ pub operands_within : (o p : Option ℕ) (x y : BitVector) → IsSome (option_an
     → ((w : ℕ) → o ≡ Some w → x.width ≡ w) → ((w : ℕ) → p ≡ Some w → y.width ≡ w) → x.width + y.width ≤ 128
 operands_within o p x y s left right =
     let whole = the_some (option_and_then (λ v. option_and_then (joined_width v) p) o) s in
-    bind_case (λ v. option_and_then (joined_width v) p) o whole.0 whole.1 (λ u at rest.
-    bind_case (joined_width u) p whole.0 rest (λ t there fits.
+    option_and_then_some (λ v. option_and_then (joined_width v) p) o whole.0 whole.1 (λ u at rest.
+    option_and_then_some (joined_width u) p whole.0 rest (λ t there fits.
     let one = left u at in
     let other = right t there in
     let within = (joined_is u t whole.0 fits).0 in

@@ -21,18 +21,22 @@ use Rattle.cx_vnets.specs.Widths.{HaveWidths}
 use Rattle.cx_vnets.specs.Numbers.{arrays_at, arrays_before, look_by}
 use Rattle.cx_vnets.specs.Memory.{WordsStand, StoredStands}
 use Rattle.cx_vnets.specs.EdgesFlat.{StoreStands, StoresStand, AreApart, EdgesAreApart}
-use Rattle.cx_vnets.proofs.Numbering.{map_some, same_name-true, same_name-refl, number_at, number_once}
-use Rattle.cx_vnets.proofs.FlatSetSteps.{get_set_same, get_set_other}
+use Rattle.cx_vnets.proofs.Numbering.{number_at, number_once}
+use Rattle.cx_vnets.proofs.FlatSetSteps.{get_set_other}
 use Rattle.cx_vnets.proofs.FlatStoreSteps.{stores_keep, stores_give}
 use Rattle.cx_vnets.proofs.WordLemmas.{word_in_same, word_in_width, word_in_value}
 use Rattle.cx_vnets.proofs.Registers.{code_given}
+use Rattle.cx_text.proofs.BoolLaws.{if_same}
+use Rattle.cx_text.proofs.OptionLaws.{map_some}
+use Rattle.cx_vtree.proofs.InstanceTreeLemmas.{same_is, same_self}
+use Rattle.cx_text.proofs.ListLaws.{get_set_same}
 
 -- a store into an array of a name is found
 stored_there : (xs : List PlainStore) (j : ℕ) (a : PlainStore) (name : List ℕ) → slice_get xs j ≡ Some a → a.array ≡ name → store_to xs name ≡ None → ⊥
 stored_there [] j a name at is e = cc
 stored_there (x ∷ xs) zero a name at is e =
     let first : x ≡ a = same_Some x a at in
-    let t : same_name x.array name ≡ true = subst (λ n. same_name n name ≡ true) (sym (ap (λ y. y.array) first ∙ is)) (same_name-refl name) in
+    let t : same_name x.array name ≡ true = subst (λ n. same_name n name ≡ true) (sym (ap (λ y. y.array) first ∙ is)) (same_self name) in
     let here = ap (λ b. if b then Some x else store_to xs name) t in
     let never = sym here ∙ e in cc
 stored_there (x ∷ xs) (suc j) a name at is e = go (same_name x.array name) (stored_there xs j a name at is) e
@@ -48,12 +52,8 @@ stored_here (x ∷ xs) name a f = go (same_name x.array name) refl (stored_here 
   where
     go : (t : Bool) → same_name x.array name ≡ t → (store_to xs name ≡ Some a → (j : ℕ) × (slice_get xs j ≡ Some a) × (a.array ≡ name))
         → (if t then Some x else store_to xs name) ≡ Some a → (j : ℕ) × (slice_get (x ∷ xs) j ≡ Some a) × (a.array ≡ name)
-    go true is later f = (0, f, subst (λ y. y.array ≡ name) (same_Some x a f) (same_name-true x.array name is))
+    go true is later f = (0, f, subst (λ y. y.array ≡ name) (same_Some x a f) (same_is x.array name is))
     go false is later f = let r = later f in (suc r.0, r.1, r.2)
-
-both_sides : {A : Type 0} (t : Bool) (x : A) → (if t then x else x) ≡ x
-both_sides true x = refl
-both_sides false x = refl
 
 -- a word after a store, by the values of its parts
 abbrev word_with : Option BitVector → Option BitVector → Option BitVector → ℕ → ℕ → ℕ
@@ -64,9 +64,9 @@ write_at index v = record { index = index; value = v }
 
 word_unwritten : (g i v : Option BitVector) (old index : ℕ) → guarded g i v ≡ None → word_with g i v old index ≡ old
 word_unwritten None i v old index e = refl
-word_unwritten (Some g) None v old index e = both_sides (not (g.value == 0)) old
+word_unwritten (Some g) None v old index e = if_same (not (g.value == 0)) old
 word_unwritten (Some g) (Some i) None old index e =
-    ap (λ x. if not (g.value == 0) then x else old) (both_sides (i.value == index) old) ∙ both_sides (not (g.value == 0)) old
+    ap (λ x. if not (g.value == 0) then x else old) (if_same (i.value == index) old) ∙ if_same (not (g.value == 0)) old
 word_unwritten (Some g) (Some i) (Some v) old index e = go (g.value == 0) e
   where
     go : (t : Bool) → (if t then None else Some (write_at i.value v)) ≡ None → (if not t then (if i.value == index then v.value else old) else old) ≡ old
@@ -166,7 +166,7 @@ module _ (tree : List Placed) (m : Moment) (table : List Code) (values : List Bi
     after_none : store_to (acting i) name ≡ None → (index : ℕ) → new name index ≡ old index
     after_none is index =
         ap (λ o. if nat_lt index (array_size decls name) then option_map_or (word_by tree m (look_by tree values) i (old index) index) o (old index) else old index) is
-        ∙ both_sides (nat_lt index (array_size decls name)) (old index)
+        ∙ if_same (nat_lt index (array_size decls name)) (old index)
 
     after_some : (a : PlainStore) → store_to (acting i) name ≡ Some a → (index : ℕ)
         → new name index ≡ (if nat_lt index (array_size decls name) then word_with (given i a.guard) (given i a.index) (given i a.value) (old index) index else old index)
@@ -200,7 +200,7 @@ module _ (tree : List Placed) (m : Moment) (table : List Code) (values : List Bi
       other_word : (index : ℕ) → (w.index ≡ index → ⊥) → word index ≡ word_in new decls name index
       other_word index ne =
           stays index
-          (changes index ∙ ap (λ t. if nat_lt index (array_size decls name) then (if t then w.value.value else old index) else old index) (ne_eqb w.index index ne) ∙ both_sides (nat_lt index (array_size decls name)) (old index))
+          (changes index ∙ ap (λ t. if nat_lt index (array_size decls name) then (if t then w.value.value else old index) else old index) (ne_eqb w.index index ne) ∙ if_same (nat_lt index (array_size decls name)) (old index))
           (ap (λ o. unwrap_or o x.zero) (get_set_other x.words.items w.index index w.value ne))
 
       past_word : (index : ℕ) → w.index ≡ index → array_size decls name ≤ index → word index ≡ word_in new decls name index
@@ -261,7 +261,7 @@ module _ (tree : List Placed) (m : Moment) (table : List Code) (values : List Bi
           kept (λ h z here array. all_same j a at is h z here array ∙ gives)
           (λ index. after_some a finds index
           ∙ ap (λ v. if nat_lt index (array_size decls name) then v else old index) (word_unwritten (given i a.guard) (given i a.index) (given i a.value) (old index) index gives)
-          ∙ both_sides (nat_lt index (array_size decls name)) (old index))
+          ∙ if_same (nat_lt index (array_size decls name)) (old index))
       by_write j a at is finds (Some w) gives =
           let r = stands.each i j a at in
           let array = store_array a r.1 is r.3 in

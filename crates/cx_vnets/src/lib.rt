@@ -1,7 +1,4 @@
-//! The nets of a source by number, and the evaluation of one cycle.
-//! Runs numbered nets from reset.
-//! Numbers for the names of a Verilog module, and its expressions as codes over them.
-//! The machine of numbered nets does what its Verilog source means.
+//! The nets of a source by number: codes, one cycle, and runs from reset.
 #![tactic(auto)]
 
 mod arrays;

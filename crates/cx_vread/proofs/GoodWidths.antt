@@ -9,7 +9,8 @@ use Rattle.cx_vtree.specs.declared.operators.Operator.{Operator}
 use Rattle.cx_vtree.specs.InstanceTree.{same_name}
 use Rattle.cx_vtree.specs.Plain.{PlainExpr, Named, Number, Part, Word, Applied, Inverted, Chosen, Joined, PlainPort, PlainDecl, WireOf, RegisterOf, ArrayOf}
 use Rattle.cx_vtree.specs.Sound.{Scope, Faults, bad_width, width_of, is_source, is_array, is_readable, is_comparison, meant_decl, meant_in, decl_meaning, port_meaning, decl_name, ports_faults, port_faults, decls_faults, decl_faults, misnames, fitting_width, part_width, applied_width, chosen_width, joined_width}
-use Rattle.cx_vread.proofs.SoundHeld.{is_clean, parts_of, small_width}
+use Rattle.cx_vread.proofs.SoundHeld.{is_clean, parts_of}
+use Rattle.cx_vtree.proofs.SoundLemmas.{small_width}
 
 -- Ports and declarations.
 abbrev pub good_port : PlainPort → Bool

@@ -10,10 +10,12 @@ use Rattle.cx_text.specs.Loading.{word_count}
 use Rattle.cx_vtree.specs.InstanceTree.{same_name}
 use Rattle.cx_vtree.specs.Layout.{is_name, port_fits, decl_fits, assign_fits, instance_fits, edge_fits, module_fits, external_fits, is_laid_out}
 use Rattle.cx_vtree.specs.Plain.{PlainDecl, WireOf, RegisterOf, ArrayOf, PlainEdge, PlainModule, PlainExternal, PlainSource}
-use Rattle.cx_vtree.specs.Sound.{Break, Faults, no_faults, Scope, Counts, width_of, meant_in, decl_name, drivers_in, module_named, module_counts, module_faults, ports_faults, decls_faults, assigns_faults, instances_faults, edge_faults, sets_faults, items_faults, lines_faults, modules_faults, last_named, instance_kind, memory_module, arrays_in, not_this_memory, memory_arrays, not_this_width, has_name, external_faults, externals_faults, faults_of, break_of, is_sound}
+use Rattle.cx_vtree.specs.Sound.{Faults, no_faults, Scope, Counts, width_of, meant_in, decl_name, drivers_in, module_named, module_counts, module_faults, ports_faults, decls_faults, assigns_faults, instances_faults, edge_faults, sets_faults, items_faults, lines_faults, modules_faults, last_named, instance_kind, memory_module, arrays_in, not_this_memory, memory_arrays, not_this_width, has_name, external_faults, externals_faults, faults_of, break_of, is_sound}
 use Rattle.cx_vread.specs.Held.{holds_port, holds_decl, holds_assign, holds_item, holds_edge, holds_module, holds_external, is_held}
 use Rattle.cx_vread.proofs.KeptSame.{ModuleHeld, module_held as parts_held}
-use Rattle.cx_vread.proofs.SoundHeld.{is_clean, no_break, ports_held, decls_held, meant_small, assigns_held, sets_held, items_held, parts_of, not_not}
+use Rattle.cx_vread.proofs.SoundHeld.{is_clean, no_break, ports_held, decls_held, meant_small, assigns_held, sets_held, items_held, parts_of}
+use Rattle.cx_vtree.proofs.SoundLemmas.{no_break as none_is}
+use Rattle.cx_text.proofs.BoolLaws.{not_not}
 
 pub split : (xs ys : List Faults) → list_all is_clean (xs ++ ys) ≡ true → (list_all is_clean xs ≡ true) × (list_all is_clean ys ≡ true)
 split xs ys h = and_parts (list_all is_clean xs) (list_all is_clean ys) (sym (list_all-append is_clean xs ys) ∙ h)
@@ -148,10 +150,6 @@ externals_held ms names instances [] h c = refl
 externals_held ms names instances (e ∷ es) h c =
     let both = and_parts (is_clean (external_faults ms names instances e)) (list_all is_clean (externals_faults ms (names ++ e.name ∷ []) (instances ++ e.instance ∷ []) es)) c in
     ap (λ b. b && list_all holds_external es) (external_held ms names instances e h both.0) ∙ externals_held ms (names ++ e.name ∷ []) (instances ++ e.instance ∷ []) es h both.1
-
-none_is : (o : Option Break) → is_none o ≡ true → o ≡ None
-none_is None h = refl
-none_is (Some b) h = absurd (cc)
 
 -- each sound source
 pub sound_held : (s : PlainSource) → is_sound s ≡ true → is_held s ≡ true

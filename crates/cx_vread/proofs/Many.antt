@@ -1,13 +1,11 @@
 -- Parts one after another.
-use Rattle.std.proofs.Common.{◌≡◌, ℕ, ◌-◌, ◌<◌, zero, suc, Bool, true, false, List, [], ◌∷◌, ◌++◌, Some, None, refl, ap, sym, ◌∙◌, arith, append_assoc, append-nil, map, if◌then◌else◌}
+use Rattle.std.proofs.Common.{◌≡◌, ℕ, ◌-◌, ◌<◌, zero, suc, Bool, true, false, List, [], ◌∷◌, ◌++◌, Some, None, refl, ap, sym, ◌∙◌, append_assoc, append-nil, map, if◌then◌else◌}
 use Rattle.std.proofs.lemmas.List.{map-append}
 use Rattle.cx_vread_exprs.specs.declared.faults.Fault.{Fault}
 use Rattle.cx_vread_exprs.specs.declared.faults.Fault.TheVariants as faults
 use Rattle.cx_vread_exprs.specs.Answers.{Fails}
 use Rattle.cx_vread_exprs.specs.Places.{Place, Reads, then_reads, many, with_front}
-
-some_left : (left : ℕ) → 0 < left → left ≡ suc (left - 1)
-some_left left lt = omega arith
+use Rattle.cx_text.proofs.NumberLaws.{some_left}
 
 module _ {X : Type 0} where
   -- nothing stands before

@@ -3,7 +3,7 @@ use Rattle.std.proofs.Common.{◌≡◌, ◌≢◌, ℕ, ◌+◌, ◌-◌, ◌<�
 use Rattle.std.specs.Prelude.{is_some, nat_lt, nat_le, option_and_then, is_none}
 use Rattle.std.specs.List.{list_all}
 use Rattle.std.specs.Option.{option_map_or}
-use Rattle.std.proofs.lemmas.Bool.{and_parts, and_from, or_parts, or_from, not-true, ne_eqb, eqb-false, ltb-true, leb-true, ltb-false, leb-false, lt-ltb, le-leb}
+use Rattle.std.proofs.lemmas.Bool.{and_parts, and_from, or_parts, or_from, not-true, ne_eqb, eqb-false, ltb-true, leb-true, leb-false, lt-ltb, le-leb}
 use Rattle.cx_vtree.specs.declared.meanings.Meaning.{Meaning}
 use Rattle.cx_vtree.specs.InstanceTree.{same_name}
 use Rattle.cx_vtree.specs.Plain.{PlainExpr, Named, Number, Part, Word, Applied, Inverted, Chosen, Joined, PlainPort, PlainDecl, WireOf, RegisterOf, ArrayOf, PlainAssign, PlainStore, PlainItem, SetTo, StoreTo}
@@ -11,6 +11,7 @@ use Rattle.cx_vtree.specs.Sound.{Faults, Break, Scope, break_at, first_break, ba
 use Rattle.cx_vread_exprs.specs.Tokens.{fits_bits}
 use Rattle.cx_vread_exprs.specs.Holds.{numbers_fit, holds_expr}
 use Rattle.cx_vread.specs.Held.{holds_port, holds_decl, holds_assign, holds_item}
+use Rattle.cx_vtree.proofs.SoundLemmas.{small_width}
 
 -- a line that breaks nothing
 abbrev pub is_clean : Faults → Bool
@@ -38,9 +39,6 @@ parts_of n w l h =
     let q = or_parts (n || w) l (not-true (n || w || l) h) in
     let r = or_parts n w q.0 in
     record { name = r.0; width = r.1; limit = q.1 }
-
-pub small_width : (w : ℕ) → bad_width w ≡ false → w ≤ 128
-small_width w h = ltb-false 128 w (or_parts (w == 0) (nat_lt 128 w) h).1
 
 below_256 : (w : ℕ) → bad_width w ≡ false → nat_lt w 256 ≡ true
 below_256 w h = let le = small_width w h in lt-ltb w 256 (omega arith)
@@ -192,10 +190,6 @@ deeper l m (Joined a b) le h =
 
 pub expr_held : (scope : Scope) (small : (n : List ℕ) → width_of (scope n) < 256) (e : PlainExpr) → misnames scope e ≡ false → is_some (fitting_width scope e) ≡ true → too_deep e ≡ false → holds_expr e ≡ true
 expr_held scope small e m f d = and_from (numbers_fit e) (not (nests_over 128 e)) (numbers_held scope small e m f) (ap not (deeper 64 128 e (omega arith) d))
-
-pub not_not : (b : Bool) → not b ≡ false → b ≡ true
-not_not true h = refl
-not_not false h = absurd (cc)
 
 pub width_some : (o : Option ℕ) (w : ℕ) → not (option_map_or (λ v. v == w) o false) ≡ false → is_some o ≡ true
 width_some None w h = absurd (cc)

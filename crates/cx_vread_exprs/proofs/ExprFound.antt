@@ -2,7 +2,7 @@
 use Rattle.std.proofs.Common.{◌≡◌, ℕ, ◌-◌, inl, inr, zero, suc, ◌==◌, Bool, true, false, ◌&&◌, ◌||◌, List, ◌++◌, Some, refl, ◌∙◌, ap, sym, subst, arith, if◌then◌else◌}
 use Rattle.std.specs.Prelude.{codes}
 use Rattle.std.specs.Str.Parse.{digits_value}
-use Rattle.std.proofs.lemmas.Bool.{and_from, or_parts, ne_eqb}
+use Rattle.std.proofs.lemmas.Bool.{and_from, or_parts, ne_eqb, or_from}
 use Rattle.cx_vtree.specs.Layout.{is_name, expr_fits}
 use Rattle.cx_vtree.specs.Lines.{number_text, decimal_text, op_text, expr_text}
 use Rattle.cx_vtree.specs.Plain.{PlainExpr, Named, Number, Part, Word, Applied, Inverted, Chosen, Joined}
@@ -39,14 +39,11 @@ Finds levels read = (p : Place) (e : PlainExpr) (q : Place) → read p ≡ Some 
 abbrev FindsInner : ℕ → (Place → Reads PlainExpr) → Type 0
 FindsInner levels read = (p : Place) (e : PlainExpr) (q : Place) → read p ≡ Some (e, q) → q.fits ≡ true → InnerStands levels p e q
 
-both_false : (a b : Bool) → a ≡ false → b ≡ false → (a || b) ≡ false
-both_false a b e f = ap (λ t. t || b) e ∙ f
-
 lower : (l : ℕ) (read : Place → Reads PlainExpr) → Finds l read → FindsInner (suc l) read
 lower l read h p e q is ok =
     let x = h p e q is ok in
     let one : l ≡ suc l - 1 = omega arith in
-    record { one = x.one; text_is = x.text_is; fits_is = x.fits_is; kept_is = x.kept_is; laid = x.laid; flat = both_false (suc l == 0) (nests_over (suc l - 1) x.one) (ne_eqb (suc l) 0 (λ e. omega arith)) (subst (λ n. nests_over n x.one ≡ false) one x.flat) }
+    record { one = x.one; text_is = x.text_is; fits_is = x.fits_is; kept_is = x.kept_is; laid = x.laid; flat = or_from (suc l == 0) (nests_over (suc l - 1) x.one) (ne_eqb (suc l) 0 (λ e. omega arith)) (subst (λ n. nests_over n x.one ≡ false) one x.flat) }
 
 -- nothing is read where no level is left
 none_found : {P : Type 0} (p : Place) (e : PlainExpr) (q : Place) → too_deep_at p ≡ Some (e, q) → P
@@ -172,7 +169,7 @@ joined_found l inner finds p e q is ok =
       fits_is = s1.1.fits_is ∙ a.fits_is;
       kept_is = ap (λ x. Joined x (kept_expr b.one)) a.kept_is ∙ ap (Joined s2.0) b.kept_is ∙ both.0;
       laid = and_from (expr_fits a.one) (expr_fits b.one) a.laid b.laid;
-      flat = both_false (l == 0 || nests_over (l - 1) a.one) (nests_over (l - 1) b.one) a.flat (or_parts (l == 0) (nests_over (l - 1) b.one) b.flat).1;
+      flat = or_from (l == 0 || nests_over (l - 1) a.one) (nests_over (l - 1) b.one) a.flat (or_parts (l == 0) (nests_over (l - 1) b.one) b.flat).1;
     }
 
 inverted_found : (l : ℕ) (inner : Place → Reads PlainExpr) → FindsInner l inner → Finds l (inverted_by inner)
@@ -218,8 +215,8 @@ chosen_found l inner finds m c e q is ok =
             fits_is = fits;
             kept_is = ap (λ x. Chosen x (kept_expr a.one) (kept_expr b.one)) kept ∙ ap (λ x. Chosen c x (kept_expr b.one)) a.kept_is ∙ ap (Chosen c s2.0) b.kept_is ∙ both.0;
             laid = and_from (expr_fits one && expr_fits a.one) (expr_fits b.one) (and_from (expr_fits one) (expr_fits a.one) laid a.laid) b.laid;
-            flat = both_false (l == 0 || nests_over (l - 1) one || nests_over (l - 1) a.one) (nests_over (l - 1) b.one)
-                (both_false (l == 0 || nests_over (l - 1) one) (nests_over (l - 1) a.one) flat (or_parts (l == 0) (nests_over (l - 1) a.one) a.flat).1)
+            flat = or_from (l == 0 || nests_over (l - 1) one || nests_over (l - 1) a.one) (nests_over (l - 1) b.one)
+                (or_from (l == 0 || nests_over (l - 1) one) (nests_over (l - 1) a.one) flat (or_parts (l == 0) (nests_over (l - 1) a.one) a.flat).1)
                 (or_parts (l == 0) (nests_over (l - 1) b.one) b.flat).1;
           };
     }
@@ -244,7 +241,7 @@ applied_found l inner finds m a e q is ok =
             fits_is = fits;
             kept_is = ap (λ x. Applied s1.0 x (kept_expr b.one)) kept ∙ ap (Applied s1.0 a) b.kept_is ∙ both.0;
             laid = and_from (expr_fits one) (expr_fits b.one) laid b.laid;
-            flat = both_false (l == 0 || nests_over (l - 1) one) (nests_over (l - 1) b.one) flat (or_parts (l == 0) (nests_over (l - 1) b.one) b.flat).1;
+            flat = or_from (l == 0 || nests_over (l - 1) one) (nests_over (l - 1) b.one) flat (or_parts (l == 0) (nests_over (l - 1) b.one) b.flat).1;
           };
     }
 

@@ -18,6 +18,7 @@ use Rattle.cx_vread_exprs.specs.Places.{Place, Reads, moved, then_reads, then_at
 use Rattle.cx_vread_exprs.specs.Tokens.{front, back, word_at, name_at, is_digit_in, is_numeral, digits_at}
 use Rattle.cx_vread_exprs.proofs.Numerals.{all_below}
 use Rattle.cx_vread_exprs.proofs.Spans.{front-back, front_passes}
+use Rattle.cx_vread_exprs.proofs.NumbersLemmas.{two_least}
 
 -- a text stands at a place, and another place behind it
 pub record Stands (text : List ℕ) (p q : Place) : Type 0 where
@@ -101,10 +102,6 @@ digits_found base p ds q e = go (is_numeral (front (is_digit_in base) p.rest)) r
           numeral = ap is_numeral (sym both.0) ∙ is;
         }
     go false is e = absurd (cc)
-
--- A numeral is the text of its value.
-two_least : (base : ℕ) → IsBase base → 2 ≤ base
-two_least base one = ⊎_elim (λ ten. let e : base ≡ 10 = ten in omega arith) (λ sixteen. let e : base ≡ 16 = sixteen in omega arith) one
 
 decimal_back : (c : ℕ) → is_digit_in 10 c ≡ true → glyph (digit_value c) ≡ c
 decimal_back c h = grind (arith, nat_tests)

@@ -14,3 +14,4 @@ pub mod PassSteps
 pub mod PassAgain
 pub mod PassFound
 pub mod WholeExprs
+pub mod NumbersLemmas

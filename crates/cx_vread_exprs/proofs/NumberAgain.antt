@@ -1,11 +1,11 @@
 -- A number that is spelled is read.
-use Rattle.std.proofs.Common.{◌≡◌, inl, ℕ, ◌+◌, ◌*◌, ◌<◌, ◌≤◌, zero, suc, ◌==◌, not, true, false, List, [], ◌∷◌, ◌++◌, map, get_or, Some, None, refl, ◌∙◌, ap, sym, subst, arith, ⊎_elim, if◌then◌else◌}
+use Rattle.std.proofs.Common.{◌≡◌, inl, ℕ, ◌+◌, ◌*◌, ◌<◌, zero, suc, ◌==◌, not, true, false, List, [], ◌∷◌, ◌++◌, map, get_or, Some, None, refl, ◌∙◌, ap, sym, subst, arith, ⊎_elim, if◌then◌else◌}
 use Rattle.std.specs.Prelude.{codes}
 use Rattle.std.specs.Char.{digit_value}
 use Rattle.std.specs.Int.Digits.{digits_of, number_from_digits, AllBelowBase}
 use Rattle.std.specs.List.{list_all}
 use Rattle.std.specs.Str.Parse.{digits_value}
-use Rattle.std.proofs.lemmas.Bool.{and_from, ne_eqb}
+use Rattle.std.proofs.lemmas.Bool.{and_from}
 use Rattle.std.proofs.lemmas.Bool.Decides.{nat_tests}
 use Rattle.std.proofs.lemmas.Int.Digits.{digits_value_is, all_below_base_digits_of, first_digits_of, number_digits_of}
 use Rattle.std.proofs.lemmas.Str.{digit_value-digit_char}
@@ -14,6 +14,8 @@ use Rattle.cx_vread_exprs.specs.Numbers.{IsBase}
 use Rattle.cx_vread_exprs.specs.Places.{Place, then_reads}
 use Rattle.cx_vread_exprs.specs.Tokens.{back, is_digit_in, is_numeral, digits_at, number_at, any_number_at, capped}
 use Rattle.cx_vread_exprs.proofs.Spans.{Stops, front_again, back_again}
+use Rattle.cx_vtree.proofs.LinesLemmas.{positive_text}
+use Rattle.cx_vread_exprs.proofs.NumbersLemmas.{two_least}
 
 -- a place before these bytes, after parts that a tree holds
 abbrev pub clean : List ℕ → Place
@@ -54,17 +56,11 @@ glyphs_numeral base [] one below first = absurd (omega arith)
 glyphs_numeral base (d ∷ []) one below first = refl
 glyphs_numeral base (d ∷ e ∷ ds) one below first = ap not (glyph_not_zero d first (below_sixteen base d one below.0))
 
-two_least : (base : ℕ) → IsBase base → 2 ≤ base
-two_least base one = ⊎_elim (λ ten. let e : base ≡ 10 = ten in omega arith) (λ sixteen. let e : base ≡ 16 = sixteen in omega arith) one
-
 zero_digit : (base : ℕ) → is_digit_in base 48 ≡ true
 zero_digit base = refl
 
 zero_value : (base : ℕ) → digits_value base (codes "0") ≡ 0
 zero_value base = let e : 0 * base + 0 ≡ 0 = omega arith in e
-
-positive_text : (base n : ℕ) → 0 < n → number_text base n ≡ map glyph (digits_of base n)
-positive_text base n lt = ap (λ b. if b then codes "0" else map glyph (digits_of base n)) (ne_eqb n 0 (λ e. omega arith))
 
 -- the text of a number has digits alone, no zero first, and its value
 pub text_digits : (base n : ℕ) → IsBase base → list_all (is_digit_in base) (number_text base n) ≡ true

@@ -1,5 +1,5 @@
 -- One step more past an expression.
-use Rattle.std.proofs.Common.{◌≡◌, ℕ, ◌-◌, ◌<◌, suc, List, [], ◌∷◌, ◌++◌, length, reverse, Some, None, refl, ◌∙◌, ap, sym, arith}
+use Rattle.std.proofs.Common.{◌≡◌, ℕ, ◌-◌, ◌<◌, List, [], ◌∷◌, ◌++◌, length, reverse, Some, None, refl, ◌∙◌, ap, sym, arith}
 use Rattle.std.proofs.lemmas.List.{reverse-append}
 use Rattle.cx_vread_exprs.specs.declared.faults.Fault.{Fault}
 use Rattle.cx_vread_exprs.specs.declared.faults.Fault.TheVariants as faults
@@ -11,6 +11,7 @@ use Rattle.cx_vtree.specs.Sound.{Scope}
 use Rattle.cx_vread_exprs.specs.Answers.{Fails}
 use Rattle.cx_vread_exprs.specs.Passing.{want_at, end_at, pass_on}
 use Rattle.cx_vread_exprs.specs.Places.{Place, Reads, then_reads}
+use Rattle.cx_text.proofs.NumberLaws.{some_left}
 
 -- what is pushed is the first that is awaited
 pub pushed : (items more : List Await) (next : Await) → more ≡ items ++ next ∷ [] → reverse more ≡ next ∷ reverse items
@@ -19,9 +20,6 @@ pushed items more next is = ap reverse is ∙ reverse-append items (next ∷ [])
 pub none_pushed : (items : List Await) → length items ≡ 0 → reverse items ≡ []
 none_pushed [] h = refl
 none_pushed (a ∷ items) h = absurd (omega arith)
-
-some_left : (left : ℕ) → 0 < left → left ≡ suc (left - 1)
-some_left left lt = omega arith
 
 module _ (scope : Scope) where
   -- where one begins within

@@ -1,18 +1,15 @@
 -- The bytes from the front on that pass a test, and those behind them.
-use Rattle.std.proofs.Common.{◌≡◌, ℕ, ◌-◌, ◌≤◌, Bool, true, false, ◌&&◌, List, [], ◌∷◌, ◌++◌, length, take, refl, ◌∙◌, ap, subst, arith, length-append, if◌then◌else◌}
+use Rattle.std.proofs.Common.{◌≡◌, ℕ, ◌-◌, ◌≤◌, Bool, true, false, List, [], ◌∷◌, ◌++◌, length, take, refl, ◌∙◌, ap, subst, arith, length-append, if◌then◌else◌}
 use Rattle.std.proofs.lemmas.Bool.{and_parts}
 use Rattle.std.proofs.lemmas.List.{take_at}
 use Rattle.std.specs.List.{list_all}
 use Rattle.cx_vread_exprs.specs.Tokens.{front, back}
+use Rattle.cx_text.proofs.ListLaws.{kept, spliced}
 
 -- no byte that passes stands first
 abbrev pub Stops : (ℕ → Bool) → List ℕ → Type 0
 Stops test [] = Unit {0}
 Stops test (b ∷ bs) = test b ≡ false
-
-spliced : (t : Bool) (b : ℕ) (xs ys whole : List ℕ) → xs ++ ys ≡ whole → (if t then b ∷ xs else []) ++ (if t then ys else b ∷ whole) ≡ b ∷ whole
-spliced true b xs ys whole e = ap (λ w. b ∷ w) e
-spliced false b xs ys whole e = refl
 
 -- together they are the text
 pub front-back : (test : ℕ → Bool) (text : List ℕ) → front test text ++ back test text ≡ text
@@ -29,10 +26,6 @@ front_is_take test text =
     let parts = length-append (front test text) (back test text) in
     let long : length (front test text) ≡ length text - length (back test text) = omega arith in
     subst (λ whole_text. take (length text - length (back test text)) whole_text ≡ front test text) (front-back test text) (take_at (front test text) (back test text) _ long)
-
-kept : (t : Bool) (test : ℕ → Bool) (b : ℕ) (xs : List ℕ) → test b ≡ t → list_all test xs ≡ true → list_all test (if t then b ∷ xs else []) ≡ true
-kept true test b xs e h = ap (λ t. t && list_all test xs) e ∙ h
-kept false test b xs e h = refl
 
 -- the front passes
 pub front_passes : (test : ℕ → Bool) (text : List ℕ) → list_all test (front test text) ≡ true

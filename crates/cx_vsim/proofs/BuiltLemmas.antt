@@ -24,7 +24,7 @@ use Rattle.cx_velab.specs.FitsLaws.{StoredHasWidths, NetsFit, AllSetsFit, AllSto
 use Rattle.cx_vsim.specs.Trees.{CanBeBuilt}
 use Rattle.cx_vsim.specs.Machines.{BuiltStands}
 use Rattle.cx_vsim.proofs.Positions.{nets_there, ports_there}
-use Rattle.cx_vsim.proofs.RowLemmas.{some_by}
+use Rattle.cx_text.proofs.OptionLaws.{some_by}
 
 -- `main` alone has the instances of the source below it
 pub main_alone : (s : PlainSource) (modules : List PlainModule) (roots : List PlainInstance) → modules ≡ s.modules → roots ≡ main_instance ∷ [] → below (tree_from (reverse modules)) 0 0 roots ≡ instances_of s

@@ -19,6 +19,7 @@ use Rattle.cx_velab.specs.Parts.{ModulesAreNamed}
 use Rattle.cx_vsim.specs.Trees.{IsSmall, CanBeCoded}
 use Rattle.cx_vsim.proofs.Positions.{position_here, origin_position, nets_there, ports_there, decls_there, share}
 use Rattle.cx_vsim.proofs.TidyLemmas.{Origins}
+use Rattle.cx_text.proofs.ListLaws.{there_below}
 
 abbrev pub AssignsGiven : List Placed → Type 0
 AssignsGiven tree = (i k : ℕ) (p : Placed) (a : PlainAssign) → slice_get tree i ≡ Some p → slice_get p.part.assigns k ≡ Some a → origin_of tree i a.name ≡ Some (Given a.value)
@@ -81,11 +82,6 @@ decl_width_is (ArrayOf n w k) = refl
 within_128 : (v w : ℕ) → v ≡ w → (0 < v) × (v ≤ 128) → IsWidth w
 within_128 v w e b = let low = b.0 in let high = b.1 in (omega (arith, e, low), omega (arith, e, high))
 
-inside : {A : Type 0} (xs : List A) (i : ℕ) (x : A) → slice_get xs i ≡ Some x → i < length xs
-inside [] i x e = absurd (cc)
-inside (y ∷ xs) zero x e = omega arith
-inside (y ∷ xs) (suc i) x e = let lt = inside xs i x e in omega arith
-
 module _ (tree : List Placed) (origins : Origins tree) (numbered : NamesHaveNumbers) (assigns : AssignsGiven tree) (sets : SetsAre tree) (stores : StoresAre tree) where
   scope_there : (i : ℕ) (p : Placed) → slice_get tree i ≡ Some p → scope_at tree i ≡ meant_in p.part.ports p.part.decls
   scope_there i p at = ap (λ o. meant_in (option_map_or (λ q. q.part.ports) o []) (option_map_or (λ q. q.part.decls) o [])) at
@@ -104,7 +100,7 @@ module _ (tree : List Placed) (origins : Origins tree) (numbered : NamesHaveNumb
 
   module_size : IsSmall tree → (i : ℕ) (p : Placed) → slice_get tree i ≡ Some p → length p.part.ports + length p.part.decls < 2 ^ 32
   module_size small i p at =
-      let lt = inside tree i p at in
+      let lt = there_below tree i p at in
       let nets = share (nets_at tree) (length tree) i lt in
       let arrays = share (arrays_at tree) (length tree) i lt in
       let own : length (nets_at tree i) ≡ length p.part.ports + length (declared_nets p.part.decls) =

@@ -17,6 +17,7 @@ use Rattle.cx_vsim.specs.declared.answers.SimAnswer.{SimAnswer}
 use Rattle.cx_vsim.specs.declared.answers.SimAnswer.TheVariants.{Done, Loop, More}
 use Rattle.cx_vsim.proofs.Elements.{mapped_at, all_at, all_from_at}
 use Rattle.cx_vsim.proofs.LoadLemmas.{shape_at, as_many}
+use Rattle.cx_text.proofs.LoadingLemmas.{same_shapes}
 
 -- a run that is done was answered so
 pub done_is : (r : SimAnswer) (words : List (List ℕ)) → IsDone (outcome_by r words) → (cycle : ℕ) × (r ≡ Done cycle)
@@ -28,11 +29,6 @@ pub final_is : (r : SimAnswer) (words : List (List ℕ)) → IsDone (outcome_by 
 final_is (Done t) words done = refl
 final_is (Loop i k) words done = absurd (let e = done.2 in cc)
 final_is More words done = absurd (let e = done.2 in cc)
-
-shapes_stay : (ms : List PlainMemory) (words : List (List ℕ)) → map (λ (m : PlainMemory). m.shape) (with_words ms words) ≡ map (λ (m : PlainMemory). m.shape) ms
-shapes_stay [] words = refl
-shapes_stay (m ∷ ms) [] = refl
-shapes_stay (m ∷ ms) (w ∷ words) = ap (λ l. m.shape ∷ l) (shapes_stay ms words)
 
 -- a memory with other words, where there are words for each
 with_words_at : (ms : List PlainMemory) (words : List (List ℕ)) (k : ℕ) (x : PlainMemory) → length words ≡ length ms → slice_get (with_words ms words) k ≡ Some x
@@ -79,7 +75,7 @@ module _ (s : PlainSource) (r : SimAnswer) (arrays : List PlainWords) (numbers :
 
   -- memories with the words of the arrays fit
   pub given_fit : AllGivenFit numbers arrays → FitsRows (rows_of s.externals) (with_words ms (words_by numbers arrays))
-  given_fit all = record { same_rows = shapes_stay ms (words_by numbers arrays) ∙ fits.same_rows; whole = all_from_at FitsShape (with_words ms (words_by numbers arrays)) fit }
+  given_fit all = record { same_rows = same_shapes ms (words_by numbers arrays) ∙ fits.same_rows; whole = all_from_at FitsShape (with_words ms (words_by numbers arrays)) fit }
     where
       fit : (k : ℕ) (m : PlainMemory) → slice_get (with_words ms (words_by numbers arrays)) k ≡ Some m → FitsShape m
       fit k m at =

@@ -1,6 +1,5 @@
 -- Elements of lists by their places.
-use Rattle.std.proofs.Common.{◌≡◌, ℕ, zero, suc, ◌⊎◌, inl, inr, ⊎_elim, List, [], ◌∷◌, ◌++◌, Some, All, map, take, length, slice_get, refl, ap, ◌∙◌, subst}
-use Rattle.std.proofs.Math.Seq.{take-append_seam}
+use Rattle.std.proofs.Common.{◌≡◌, ℕ, zero, suc, ◌⊎◌, inl, inr, ⊎_elim, List, [], ◌∷◌, Some, All, map, slice_get, refl, ap, ◌∙◌, subst}
 use Rattle.std.proofs.lemmas.Bool.{cases_eq}
 use Rattle.std.proofs.lemmas.List.Elements.{All-nil, All-cons, All-get_or}
 use Rattle.std.proofs.lemmas.Option.{same_Some, slice_get_within, get_or_from_slice_get}
@@ -36,7 +35,3 @@ found_or_not (n ∷ ns) f = ⊎_elim
     nowhere : (n ≡ f → ⊥) → ((k : ℕ) → slice_get ns k ≡ Some f → ⊥) → (k : ℕ) → slice_get (n ∷ ns) k ≡ Some f → ⊥
     nowhere other none zero at = other (same_Some n f at)
     nowhere other none (suc k) at = none k at
-
--- a list that is written back whole
-pub written_back : {A : Type 0} (new rest : List A) (len : ℕ) → len ≡ length new → take len (new ++ rest) ≡ new
-written_back new rest len same = ap (λ k. take k (new ++ rest)) same ∙ take-append_seam new rest

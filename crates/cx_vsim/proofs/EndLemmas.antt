@@ -19,7 +19,6 @@ use Rattle.cx_vnets.specs.declared.runs.RunAnswer.TheVariants as flat
 use Rattle.cx_vnets.specs.Numbers.{array_number}
 use Rattle.cx_vnets.specs.Memory.{StoredStands}
 use Rattle.cx_vnets.specs.RunsFlat.{AreWordsOf, AreAllWords, OutcomeStands}
-use Rattle.cx_vnets.proofs.Numbering.{map_some}
 use Rattle.cx_vsim.specs.Externals.{array_of}
 use Rattle.cx_vsim.specs.Memories.{HasMemories}
 use Rattle.cx_vsim.specs.Stands.{AreOf, IsToldAs, RanStands, start_moment}
@@ -30,6 +29,7 @@ use Rattle.cx_velab.specs.Tables.{all_places}
 use Rattle.cx_vsim.proofs.Elements.{mapped_at, all_from_at}
 use Rattle.cx_vsim.proofs.Memories.{HasPlace, external_at, memory_held}
 use Rattle.cx_vsim.proofs.Told.{names}
+use Rattle.cx_text.proofs.OptionLaws.{map_some}
 
 -- the words that a run ends with are those of some state
 abbrev EndsInState : PlainSource → Outcome → Type 0

@@ -1,22 +1,14 @@
 -- Instances that are found by names and by numbers.
-use Rattle.std.proofs.Common.{◌≡◌, ℕ, zero, suc, ◌+◌, ◌<◌, ◌≤◌, ◌⊎◌, inl, inr, ⊎_elim, List, [], ◌∷◌, ◌++◌, length, map, Option, Some, None, slice_get, refl, ap, sym, ◌∙◌, subst, arith}
+use Rattle.std.proofs.Common.{◌≡◌, ℕ, zero, suc, ◌+◌, ◌<◌, ◌≤◌, ◌⊎◌, inl, inr, ⊎_elim, List, [], ◌∷◌, ◌++◌, length, Some, slice_get, refl, ap, sym, ◌∙◌, subst, arith}
 use Rattle.std.proofs.lemmas.Bool.{cases_order, cases_lt}
-use Rattle.std.proofs.lemmas.Option.{slice_get_within, slice_get_past, same_Some}
-use Rattle.std.specs.Option.{option_map_or}
-use Rattle.cx_vtree.specs.InstanceTree.{Placed, nets_at, declared_nets}
+use Rattle.std.proofs.lemmas.Option.{slice_get_within, same_Some}
+use Rattle.cx_vtree.specs.InstanceTree.{Placed, nets_at}
 use Rattle.cx_vnets.specs.declared.codes.NetPosition.{NetPosition}
 use Rattle.cx_vnets.specs.Numbers.{before, nets_before, place_of}
 use Rattle.cx_vnets.specs.RunsFlat.{IsNet}
 use Rattle.cx_velab.specs.Tables.{all_places}
 use Rattle.cx_vsim.specs.Nets.{IsLastBegun}
-
-pub places_length : (tree : List Placed) (n : ℕ) → length (all_places tree n) ≡ n
-places_length tree zero = refl
-places_length tree (suc n) = ends (all_places tree n) (place_of tree n) ∙ ap suc (places_length tree n)
-  where
-    ends : (ps : List NetPosition) (p : NetPosition) → length (ps ++ p ∷ []) ≡ suc (length ps)
-    ends [] p = refl
-    ends (q ∷ ps) p = ap suc (ends ps p)
+use Rattle.cx_velab.proofs.TablesLemmas.{places_length}
 
 pub front_at : (ps : List NetPosition) (p q : NetPosition) (j : ℕ) → slice_get ps j ≡ Some q → slice_get (ps ++ p ∷ []) j ≡ Some q
 front_at [] p q j e = absurd (cc)
@@ -103,10 +95,3 @@ module _ (tree : List Placed) (net i k : ℕ) (is : IsNet tree net i k) where
       (λ le. omega arith)
       (cases_lt i found))
       b.here
-
-pub net_within : (tree : List Placed) (i k : ℕ) (n : List ℕ) → slice_get (nets_at tree i) k ≡ Some n → i < length tree
-net_within tree i k n at = ⊎_elim (λ lt. lt) (λ le. absurd (past (slice_get tree i) (slice_get_past tree i le) at)) (cases_lt i (length tree))
-  where
-    past : (o : Option Placed) → o ≡ None → slice_get (map (λ p. p.name) (option_map_or (λ p. p.part.ports) o []) ++ declared_nets (option_map_or (λ p. p.part.decls) o [])) k ≡ Some n → ⊥
-    past None e at = cc
-    past (Some p) e at = cc

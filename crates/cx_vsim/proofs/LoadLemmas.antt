@@ -19,7 +19,6 @@ use Rattle.cx_vnets.specs.Machines.{KeepsWidths}
 use Rattle.cx_vsim.specs.WordNumbers.{words_of_width}
 use Rattle.cx_vnets.specs.Numbers.{arrays_at, nets_before, arrays_before}
 use Rattle.cx_vnets.specs.Memory.{WordsStand, StoredStands}
-use Rattle.cx_vnets.proofs.Numbering.{map_some}
 use Rattle.cx_vnets.proofs.WordLemmas.{word_in_same, word_in_width, word_in_value}
 use Rattle.cx_vnets.proofs.EdgeLemmas.{even_stored, same_array_widths}
 use Rattle.cx_vsim.specs.Externals.{array_of}
@@ -28,8 +27,10 @@ use Rattle.cx_vsim.specs.Arrays.{rewritten, with_arrays, Takes, CanTake}
 use Rattle.cx_vsim.specs.Memories.{HasMemories}
 use Rattle.cx_vsim.proofs.Elements.{mapped_at, all_at, found_or_not}
 use Rattle.cx_vsim.proofs.Written.{values_of, length-with_arrays, with_arrays_other, with_arrays_same, words_by_loaded}
-use Rattle.cx_vsim.proofs.Memories.{HasPlace, Holds, external_at, number_for, numbers_once, memory_here, memory_back, memory_found, memory_held, zero_width}
+use Rattle.cx_vsim.proofs.Memories.{HasPlace, Holds, external_at, number_for, numbers_once, memory_here, memory_back, memory_found, memory_held}
 use Rattle.cx_vsim.proofs.LoadedWords.{loaded_none, loaded_here, word_in_past}
+use Rattle.cx_text.proofs.OptionLaws.{map_some}
+use Rattle.cx_vnets.proofs.ArraysLemmas.{zero_width}
 
 abbrev bits : ℕ → ℕ → BitVector
 bits w v = record { width = w; value = v }

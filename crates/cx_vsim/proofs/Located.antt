@@ -9,7 +9,9 @@ use Rattle.cx_vnets.specs.Numbers.{before, nets_before, place_of}
 use Rattle.cx_vnets.specs.RunsFlat.{IsNet}
 use Rattle.cx_velab.specs.Tables.{all_places}
 use Rattle.std.proofs.Common.{[], ◌∷◌, ◌++◌, Option, None, map, ⊎_elim, refl}
-use Rattle.cx_vsim.proofs.Finding.{places_length, front_at, last_at, place_at, before_up, net_within}
+use Rattle.cx_vsim.proofs.Finding.{front_at, last_at, place_at, before_up}
+use Rattle.cx_velab.proofs.TablesLemmas.{places_length}
+use Rattle.cx_vtree.proofs.InstanceTreeLemmas.{net_within}
 
 module _ (places : List NetPosition) (tree : List Placed) (net i k r : ℕ) (all : places ≡ all_places tree (length tree)) (is : IsNet tree net i k) (found : r ≡ i) where
   pub inside : r < length tree

@@ -1,9 +1,8 @@
 -- Where the arrays of external memories are.
-use Rattle.std.proofs.Common.{◌≡◌, ℕ, ◌+◌, ◌≤◌, ◌==◌, ◌&&◌, Bool, true, false, List, [], ◌∷◌, Option, Some, unwrap_or, map, length, slice_get, nat_lt, refl, ap, sym, ◌∙◌, subst, if◌then◌else◌, arith}
+use Rattle.std.proofs.Common.{◌≡◌, ℕ, ◌+◌, ◌==◌, ◌&&◌, Bool, true, false, List, [], ◌∷◌, Some, map, length, slice_get, nat_lt, ap, sym, ◌∙◌, subst, if◌then◌else◌}
 use Rattle.std.proofs.lemmas.Bool.{eq-eqb, eqb-true}
-use Rattle.std.proofs.lemmas.Option.{same_Some, slice_get_past}
+use Rattle.std.proofs.lemmas.Option.{same_Some}
 use Rattle.std.specs.Option.{option_map_or}
-use Rattle.cx_bits.specs.BitVector.{BitVector}
 use Rattle.cx_text.specs.Loading.{word_count}
 use Rattle.cx_vtree.specs.Plain.{PlainDecl, WireOf, RegisterOf, ArrayOf, PlainExternal, PlainSource}
 use Rattle.cx_vtree.specs.InstanceTree.{Placed, same_name, decls_at, instances_of}
@@ -16,12 +15,15 @@ use Rattle.cx_vnets.specs.declared.arrays.Words.{Words}
 use Rattle.cx_vnets.specs.declared.nets.Stored.{Stored}
 use Rattle.cx_vnets.specs.Numbers.{arrays_at, arrays_before, array_number}
 use Rattle.cx_vnets.specs.EdgesFlat.{AreApart}
-use Rattle.cx_vnets.specs.Memory.{WordsStand, StoredStands}
-use Rattle.cx_vnets.proofs.Numbering.{bind_some, number_at, number_once, same_name-refl, same_name-true}
-use Rattle.cx_vnets.proofs.WordLemmas.{word_in_width}
+use Rattle.cx_vnets.specs.Memory.{StoredStands}
+use Rattle.cx_vnets.proofs.Numbering.{number_at, number_once}
 use Rattle.cx_vsim.specs.Externals.{array_of}
 use Rattle.cx_vsim.specs.Memories.{HasMemories}
 use Rattle.cx_vsim.proofs.Elements.{mapped_at}
+use Rattle.cx_text.proofs.BoolLaws.{and_both}
+use Rattle.cx_vnets.proofs.ArraysLemmas.{zero_width}
+use Rattle.cx_text.proofs.OptionLaws.{bind_some}
+use Rattle.cx_vtree.proofs.InstanceTreeLemmas.{same_self, same_is}
 
 -- the array of an external memory, by its instance and its place there
 pub record HasPlace (tree : List Placed) (e : PlainExternal) (a : ℕ) : Type 0 where
@@ -37,10 +39,6 @@ array_place tree e a is =
     let q = number_at (arrays_at tree) r.0 (first_array (decls_at tree r.0)) a r.2 in
     record { instance = r.0; place = q.0; found = r.1; there = q.1; number = q.2 }
 
-and_true : (a b : Bool) → (a && b) ≡ true → (a ≡ true) × (b ≡ true)
-and_true true b e = (refl, e)
-and_true false b e = absurd (cc)
-
 module _ (tree : List Placed) (e : PlainExternal) (a i p : ℕ) (name : List ℕ) (at : slice_get (arrays_at tree i) p ≡ Some name) (h : HasPlace tree e a) where
   memory_is : is_memory tree e i name ≡ (h.instance == i && same_name (first_array (decls_at tree h.instance)) name)
   memory_is = ap (λ o. option_map_or (λ j. j == i && same_name (first_array (decls_at tree j)) name) o false) h.found
@@ -52,12 +50,12 @@ module _ (tree : List Placed) (e : PlainExternal) (a i p : ℕ) (name : List ℕ
       memory_is
       ∙ ap (λ b. b && same_name (first_array (decls_at tree h.instance)) name) (eq-eqb h.instance i once.0)
       ∙ ap (λ n. same_name n name) once.2
-      ∙ same_name-refl name
+      ∙ same_self name
 
   parts : is_memory tree e i name ≡ true → (h.instance ≡ i) × (first_array (decls_at tree h.instance) ≡ name)
   parts is =
-      let both = and_true (h.instance == i) (same_name (first_array (decls_at tree h.instance)) name) (sym memory_is ∙ is) in
-      (eqb-true h.instance i both.0, same_name-true (first_array (decls_at tree h.instance)) name both.1)
+      let both = and_both (h.instance == i) (same_name (first_array (decls_at tree h.instance)) name) (sym memory_is ∙ is) in
+      (eqb-true h.instance i both.0, same_is (first_array (decls_at tree h.instance)) name both.1)
 
   pub memory_found : is_memory tree e i name ≡ true → instance_named tree 0 e.instance ≡ Some i
   memory_found is = h.found ∙ ap Some (parts is).0
@@ -90,20 +88,12 @@ module _ (s : PlainSource) (numbers : List ℕ) (memories : HasMemories s) (arra
       let same = number_once (arrays_at (instances_of s)) p.instance p.place q.instance q.place (first_array (decls_at (instances_of s) p.instance)) (first_array (decls_at (instances_of s) q.instance)) p.there q.there (p.number ∙ sym q.number) in
       memories.once j k q.instance d.0 e.0 d.1 e.1 (p.found ∙ ap Some same.0) q.found
 
--- the zero of an array is as wide as its words
-pub zero_width : (words : List ℕ → ℕ → ℕ) (decls : List PlainDecl) (name : List ℕ) (x : Words) → WordsStand words decls name x → x.zero.width ≡ (word_in words decls name 0).width
-zero_width words decls name x stand =
-    let past : length x.words.items ≤ length x.words.items = omega arith in
-    ap (λ (o : Option BitVector). (unwrap_or o x.zero).width) (sym (slice_get_past x.words.items (length x.words.items) past))
-    ∙ ap (λ (b : BitVector). b.width) (stand.each (length x.words.items))
-    ∙ word_in_width decls words words name (length x.words.items) 0
-
 -- the words of the only array have its width
 first_width : (ds : List PlainDecl) (words : List ℕ → ℕ → ℕ) (w n index : ℕ) → arrays_in ds ≡ (w, n) ∷ [] → (word_in words ds (first_array ds) index).width ≡ w
 first_width [] words w n index e = absurd (cc)
 first_width (WireOf x v ∷ ds) words w n index e = first_width ds words w n index e
 first_width (RegisterOf x v ∷ ds) words w n index e = first_width ds words w n index e
-first_width (ArrayOf x v m ∷ ds) words w n index e = go (same_name x x) (same_name-refl x)
+first_width (ArrayOf x v m ∷ ds) words w n index e = go (same_name x x) (same_self x)
   where
     pair : ◌≡◌ {A = ℕ × ℕ} (v, m) (w, n)
     pair = cc

@@ -2,7 +2,7 @@
 use Rattle.std.proofs.Common.{◌≡◌, ◌≢◌, ℕ, zero, suc, ◌+◌, ◌<◌, ◌≤◌, ◌==◌, ◌&&◌, ⊎_elim, Bool, true, false, List, [], ◌∷◌, map, drop, get_or, length, Option, Some, None, option_map, option_and_then, slice_get, refl, ap, sym, ◌∙◌, subst, if◌then◌else◌, arith}
 use Rattle.std.proofs.lemmas.Bool.{cases_lt}
 use Rattle.std.proofs.lemmas.Bool.Decides.{eqb_tells}
-use Rattle.std.proofs.lemmas.Option.{slice_get-map, slice_get_read, slice_get_past, same_Some, get_or_from_slice_get}
+use Rattle.std.proofs.lemmas.Option.{slice_get_past, same_Some, get_or_from_slice_get}
 use Rattle.std.specs.Cmp.Lexicographic.{bytes_decides}
 use Rattle.std.specs.Option.{option_map_or}
 use Rattle.cx_vtree.specs.Plain.{PlainExternal}
@@ -15,15 +15,13 @@ use Rattle.cx_vnets.specs.ModuleNumbers.{position, declared_arrays}
 use Rattle.cx_vnets.specs.Numbers.{arrays_at, arrays_before, array_number, place_of}
 use Rattle.cx_velab.specs.Tables.{all_places}
 use Rattle.cx_vsim.specs.Externals.{array_of, HasArray}
-use Rattle.cx_vsim.proofs.Finding.{place_at, places_length}
+use Rattle.cx_vsim.proofs.Finding.{place_at}
+use Rattle.cx_velab.proofs.TablesLemmas.{places_length}
 
 dropped : {A : Type 0} (xs : List A) (i : ℕ) (x : A) → slice_get xs i ≡ Some x → drop i xs ≡ x ∷ drop (suc i) xs
 dropped [] i x e = absurd (cc)
 dropped (y ∷ xs) zero x e = let same : y ≡ x = cc in ap (λ z. z ∷ xs) same
 dropped (y ∷ xs) (suc i) x e = dropped xs i x e
-
-pub same_is : (n m : List ℕ) → n ≡ m → same_name n m ≡ true
-same_is n m e = (bytes_decides n m).1 e
 
 pub other_is : (n m : List ℕ) (r : Bool) → (n ≡ m → r ≡ true) → r ≡ false → same_name n m ≡ false
 other_is n m r tells no_ = go (same_name n m) refl
@@ -82,9 +80,3 @@ module _ (tree : List Placed) (e : PlainExternal) (has : HasArray tree e) where
       let at : slice_get places has.number ≡ Some (place_of tree has.number) = ap (λ l. slice_get l has.number) all ∙ place_at tree (length tree) has.number instance_within in
       let got : get_or places j d ≡ place_of tree has.number = ap (λ k. get_or places k d) (sym same) ∙ get_or_from_slice_get places has.number (place_of tree has.number) d at in
       array_is ∙ ap (λ (p : NetPosition). Some p.arrays) (sym got)
-
-pub read_at : {A : Type 0} (xs : List A) (i : ℕ) (x : A) → i < length xs → x ≡ get_or xs i x → slice_get xs i ≡ Some x
-read_at xs i x lt at = slice_get_read xs (length xs) i x refl lt at
-
-pub item_at : {A B : Type 0} (f : A → B) (xs : List A) (i : ℕ) (x : A) → i < length xs → x ≡ get_or xs i x → slice_get (map f xs) i ≡ Some (f x)
-item_at f xs i x lt at = slice_get-map f xs i ∙ ap (option_map f) (read_at xs i x lt at)

@@ -1,10 +1,10 @@
 -- One instance more.
-use Rattle.std.proofs.Common.{◌≡◌, ℕ, zero, suc, ◌+◌, ◌<◌, ◌≤◌, ⊎_elim, Bool, true, false, List, [], ◌∷◌, ◌++◌, map, length, take, Option, Some, None, option_map, option_and_then, slice_get, refl, ap, sym, ◌∙◌, subst, arith}
+use Rattle.std.proofs.Common.{◌≡◌, ℕ, zero, suc, ◌+◌, ◌<◌, ◌≤◌, ⊎_elim, Bool, true, false, List, [], ◌∷◌, ◌++◌, map, length, Option, Some, None, option_map, option_and_then, slice_get, refl, ap, sym, ◌∙◌, subst, arith}
 use Rattle.std.specs.Prelude.{replicate}
 use Rattle.std.specs.Option.{option_map_or}
 use Rattle.std.proofs.lemmas.Bool.{cases_lt}
 use Rattle.std.proofs.lemmas.Bool.Decides.{eqb_tells}
-use Rattle.std.proofs.lemmas.Option.{slice_get_within}
+use Rattle.std.proofs.lemmas.Option.{slice_get_within, slice_get_past}
 use Rattle.cx_vtree.specs.Plain.{PlainExpr, PlainAssign, PlainStore, PlainItem, SetTo, StoreTo}
 use Rattle.cx_vtree.specs.InstanceTree.{Placed, declared_nets, nets_at, Origin, Outside, Tied, Held, Given, origin_of}
 use Rattle.cx_vtree.specs.Edges.{sets_in, stores_in, edge_at, acting_sets, acting_stores}
@@ -23,24 +23,13 @@ use Rattle.cx_velab.specs.Changes.{numbered, numbered_sets, numbered_stores, IsS
 use Rattle.cx_velab.specs.Driven.{KeepsRight, IsWhole, IsTied}
 use Rattle.cx_velab.specs.Covered.{IsTidy, IsStored, IsDriven}
 use Rattle.cx_vsim.specs.Passes.{RowTied, RowGiven, DrivenBelow, StandBelow}
-use Rattle.cx_vsim.proofs.Positions.{front}
-
-pub behind : {A : Type 0} (xs ys : List A) (k j : ℕ) → k ≡ length xs + j → slice_get (xs ++ ys) k ≡ slice_get ys j
-behind [] ys k j e = let same : k ≡ j = omega arith in ap (slice_get ys) same
-behind (x ∷ xs) ys zero j e = absurd (omega arith)
-behind (x ∷ xs) ys (suc k) j e = behind xs ys k j (omega arith)
+use Rattle.cx_text.proofs.ListLaws.{behind, front}
 
 -- what stands in one of two lists
 two_parts : {A : Type 0} (xs ys : List A) (h : ℕ) (x : A) (P : Type 0) → slice_get (xs ++ ys) h ≡ Some x → (slice_get xs h ≡ Some x → P) → ((j : ℕ) → slice_get ys j ≡ Some x → P) → P
 two_parts [] ys h x P e a b = b h e
 two_parts (y ∷ xs) ys zero x P e a b = a e
 two_parts (y ∷ xs) ys (suc h) x P e a b = two_parts xs ys h x P e a b
-
--- what was lent is put back whole
-pub put_back : {A : Type 0} (new rest : List A) (n : ℕ) → n ≡ length new → take n (new ++ rest) ≡ new
-put_back [] rest n e = ap (λ k. take k rest) e
-put_back (x ∷ new) rest zero e = absurd (omega arith)
-put_back (x ∷ new) rest (suc n) e = ap (λ l. x ∷ l) (put_back new rest n (omega arith))
 
 module _ {A B : Type 0} (R : B → A → Type 0) where
   -- pairs by either of their sides
@@ -83,17 +72,12 @@ module _ {A B : Type 0} (acting : ℕ → List A) (Stands : ℕ → A → B → 
         (n, j, r.0, less, r.1, r.2));
   }
 
-none_past : {A : Type 0} (xs : List A) (i : ℕ) → length xs ≤ i → slice_get xs i ≡ None
-none_past [] i le = refl
-none_past (x ∷ xs) zero le = absurd (omega arith)
-none_past (x ∷ xs) (suc i) le = none_past xs i (omega arith)
-
 -- past the tree no edge acts
 sets_past : (tree : List Placed) (reset i : ℕ) → length tree ≤ i → acting_sets reset (edge_at tree i) ≡ []
-sets_past tree reset i le = ap (λ o. acting_sets reset (option_and_then (λ (p : Placed). p.part.edge) o)) (none_past tree i le)
+sets_past tree reset i le = ap (λ o. acting_sets reset (option_and_then (λ (p : Placed). p.part.edge) o)) (slice_get_past tree i le)
 
 stores_past : (tree : List Placed) (reset i : ℕ) → length tree ≤ i → acting_stores reset (edge_at tree i) ≡ []
-stores_past tree reset i le = ap (λ o. acting_stores reset (option_and_then (λ (p : Placed). p.part.edge) o)) (none_past tree i le)
+stores_past tree reset i le = ap (λ o. acting_stores reset (option_and_then (λ (p : Placed). p.part.edge) o)) (slice_get_past tree i le)
 
 pub all_sets_stand : (tree : List Placed) (codes : List Code) (reset : ℕ) (sets : List Set)
     → StandBelow (λ i. acting_sets reset (edge_at tree i)) (SetStands tree codes) (length tree) sets → SetsStand tree codes reset sets
@@ -129,7 +113,7 @@ lists_up lists (suc n) i lt = ⊎_elim
 pub array_within : (tree : List Placed) (i k : ℕ) (name : List ℕ) → slice_get (arrays_at tree i) k ≡ Some name → arrays_before tree i + k < arrays_before tree (length tree)
 array_within tree i k name at = ⊎_elim
     (λ less. let up = lists_up (arrays_at tree) (length tree) i less in let lt = slice_get_within (arrays_at tree i) k name at in omega (arith, up, lt))
-    (λ more. let none : slice_get (arrays_at tree i) k ≡ None = ap (λ o. slice_get (declared_arrays (option_map_or (λ (p : Placed). p.part.decls) o [])) k) (none_past tree i more) in absurd (cc))
+    (λ more. let none : slice_get (arrays_at tree i) k ≡ None = ap (λ o. slice_get (declared_arrays (option_map_or (λ (p : Placed). p.part.decls) o [])) k) (slice_get_past tree i more) in absurd (cc))
     (cases_lt i (length tree))
 
 module _ (tree : List Placed) (codes : List Code) where
@@ -182,7 +166,7 @@ module _ (tree : List Placed) (codes : List Code) where
   pub net_within : (i k : ℕ) (name : List ℕ) → slice_get (nets_at tree i) k ≡ Some name → nets_before tree i + k < nets_before tree (length tree)
   net_within i k name at = ⊎_elim
       (λ less. let up = lists_up (nets_at tree) (length tree) i less in let lt = slice_get_within (nets_at tree i) k name at in omega (arith, up, lt))
-      (λ more. let none : slice_get (nets_at tree i) k ≡ None = ap (λ o. slice_get (nets_of o) k) (none_past tree i more) in absurd (cc))
+      (λ more. let none : slice_get (nets_at tree i) k ≡ None = ap (λ o. slice_get (nets_of o) k) (slice_get_past tree i more) in absurd (cc))
       (cases_lt i (length tree))
     where
       nets_of : Option Placed → List (List ℕ)

@@ -11,6 +11,8 @@ use Rattle.cx_vnets.specs.ModuleNumbers.{position}
 use Rattle.cx_vnets.specs.Numbers as flat
 use Rattle.cx_vnets.specs.Numbers.{before}
 use Rattle.cx_vlaws.specs.Names as facts
+use Rattle.cx_text.proofs.OptionLaws.{bind_some}
+use Rattle.cx_text.proofs.ListLaws.{front}
 
 -- the first place of a name has it
 pub position_here : (ns : List (List ℕ)) (name : List ℕ) (k : ℕ) → position ns name ≡ Some k → slice_get ns k ≡ Some name
@@ -36,10 +38,6 @@ position_there (n ∷ ns) name (suc k) e = go (same_name n name) (position_there
   go : (t : Bool) → HasPosition ns name → (h : ℕ) × ((if t then Some 0 else option_map suc (position ns name)) ≡ Some h)
   go true r = (0, refl)
   go false r = (suc r.0, ap (option_map suc) r.1)
-
-pub bind_some : {A B : Type 0} (f : A → Option B) (o : Option A) (y : B) → option_and_then f o ≡ Some y → (x : A) × (o ≡ Some x) × (f x ≡ Some y)
-bind_some f None y e = absurd (cc)
-bind_some f (Some x) y e = (x, refl, e)
 
 -- what is of a kind by a name has a number
 first_or : (x n : List ℕ) (names : List (List ℕ)) (a b : Option NetKind) (k : NetKind) → (if same_name x n then a else b) ≡ Some k → (b ≡ Some k → HasPosition names n) → HasPosition (x ∷ names) n
@@ -86,11 +84,6 @@ origin_position tree i name o e =
     let r = origin_found tree i name o e in
     let h = kind_position r.0.part.ports r.0.part.decls name r.2.0 r.2.1 in
     (h.0, ap (λ l. position l name) (nets_there tree i r.0 r.1) ∙ h.1)
-
-pub front : {A : Type 0} (xs ys : List A) (k : ℕ) (x : A) → slice_get xs k ≡ Some x → slice_get (xs ++ ys) k ≡ Some x
-front [] ys k x e = absurd (cc)
-front (y ∷ xs) ys zero x e = e
-front (y ∷ xs) ys (suc k) x e = front xs ys k x e
 
 -- a port is a net of its instance
 pub port_net : (tree : List Placed) (i h : ℕ) (p : Placed) (port : PlainPort) → slice_get tree i ≡ Some p → slice_get p.part.ports h ≡ Some port → slice_get (nets_at tree i) h ≡ Some port.name

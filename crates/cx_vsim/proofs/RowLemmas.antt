@@ -1,9 +1,8 @@
 -- One instance of a table.
-use Rattle.std.proofs.Common.{◌≡◌, ℕ, zero, suc, ◌+◌, ◌<◌, ◌≤◌, ◌^◌, ⊎_elim, List, [], ◌∷◌, ◌++◌, map, length, get_or, Option, Some, option_map, slice_get, refl, ap, sym, ◌∙◌, subst, arith, length-append}
+use Rattle.std.proofs.Common.{◌≡◌, ℕ, ◌+◌, ◌<◌, ◌≤◌, ◌^◌, List, [], ◌++◌, map, length, get_or, Some, option_map, slice_get, refl, ap, sym, ◌∙◌, subst, arith, length-append}
 use Rattle.std.specs.Prelude.{IsSome}
 use Rattle.std.specs.Option.{option_map_or}
 use Rattle.std.proofs.lemmas.List.{length-map}
-use Rattle.std.proofs.lemmas.Bool.{cases_lt}
 use Rattle.std.proofs.lemmas.Option.{slice_get-map, slice_get_read, slice_get_within}
 use Rattle.cx_vtree.specs.Plain.{PlainPort, PlainAssign, PlainConn}
 use Rattle.cx_vtree.specs.InstanceTree.{Placed, declared_nets, nets_at, Given}
@@ -23,41 +22,21 @@ use Rattle.cx_velab.specs.Driven.{KeepsRight, IsWhole, IsConnected, IsTied, Ties
 use Rattle.cx_vsim.specs.Trees.{CanBeBuilt}
 use Rattle.cx_vsim.specs.Tables.{exprs_at, IsPartOf}
 use Rattle.cx_vsim.specs.Passes.{RowTied, RowGiven}
-use Rattle.cx_vsim.proofs.Positions.{position_here, origin_position, nets_there, decls_there, front}
-use Rattle.cx_vsim.proofs.PassLemmas.{behind, lists_up, net_within}
-
--- what an element of a list stands for
-pub item_at : {A B : Type 0} (f : A → B) (xs : List A) (i : ℕ) (x : A) → i < length xs → x ≡ get_or xs i x → slice_get (map f xs) i ≡ Some (f x)
-item_at f xs i x lt at = slice_get-map f xs i ∙ ap (option_map f) (slice_get_read xs (length xs) i x refl lt at)
-
-pub length-places : (tree : List Placed) (n : ℕ) → length (all_places tree n) ≡ n
-length-places tree zero = refl
-length-places tree (suc n) = let e = length-places tree n in let f = length-append (all_places tree n) (place_of tree n ∷ []) in let g : length (place_of tree n ∷ []) ≡ 1 = refl in omega (arith, e, f, g)
-
-pub place_at : (tree : List Placed) (n i : ℕ) → i < n → slice_get (all_places tree n) i ≡ Some (place_of tree i)
-place_at tree zero i lt = absurd (omega arith)
-place_at tree (suc n) i lt = ⊎_elim
-    (λ less. front (all_places tree n) (place_of tree n ∷ []) i (place_of tree i) (place_at tree n i less))
-    (λ more.
-    let e = length-places tree n in
-    let same : n ≡ i = omega arith in
-    let here : n ≡ length (all_places tree n) + 0 = omega (arith, e) in
-    subst (λ k. slice_get (all_places tree n ++ place_of tree n ∷ []) k ≡ Some (place_of tree k)) same (behind (all_places tree n) (place_of tree n ∷ []) n 0 here))
-    (cases_lt i n)
+use Rattle.cx_vsim.proofs.Positions.{position_here, origin_position, nets_there, decls_there}
+use Rattle.cx_vsim.proofs.PassLemmas.{lists_up, net_within}
+use Rattle.cx_text.proofs.ListLaws.{there_at, front}
+use Rattle.cx_vsim.proofs.Finding.{place_at}
+use Rattle.cx_velab.proofs.TablesLemmas.{places_length}
+use Rattle.cx_text.proofs.OptionLaws.{some_by}
 
 -- the place that is read is that of the instance
 pub place_read : (tree : List Placed) (places : List NetPosition) (n i : ℕ) (x : NetPosition) → places ≡ all_places tree n → i < n → x ≡ get_or places i x → x ≡ place_of tree i
 place_read tree places n i x e lt at =
-    let long : length places ≡ n = ap length e ∙ length-places tree n in
+    let long : length places ≡ n = ap length e ∙ places_length tree n in
     let within : i < length places = omega arith in
     let read = slice_get_read places (length places) i x refl within at in
     let there : slice_get places i ≡ Some (place_of tree i) = ap (λ l. slice_get l i) e ∙ place_at tree n i lt in
     cc
-
-there_at : {A : Type 0} (xs : List A) (k : ℕ) → k < length xs → (x : A) × (slice_get xs k ≡ Some x)
-there_at [] k lt = absurd (omega arith)
-there_at (x ∷ xs) zero lt = (x, refl)
-there_at (x ∷ xs) (suc k) lt = there_at xs k (omega arith)
 
 -- the part of an instance
 module _ (tree : List Placed) (codes : List Code) (list : List ModulePart) (of_rows : List ℕ) (stand : PartsStand tree codes list of_rows) (i : ℕ) (lt : i < length tree) where
@@ -106,12 +85,6 @@ module _ (tree : List Placed) (codes : List Code) (list : List ModulePart) (of_r
       let found : slice_get list j ≡ Some r.2.0 = subst (λ k. slice_get list k ≡ Some r.2.0) same r.2.1 in
       let one : r.2.0 ≡ x = cc in
       stands_by p.0 x p.1 (subst (PartStands codes p.0.part) one r.2.2) small
-
-pub some_by : {A : Type 0} (o : Option A) (x : A) → o ≡ Some x → IsSome o
-some_by o x e = subst IsSome (sym e) (is x)
-  where
-    is : {A : Type 0} (x : A) → IsSome (Some x)
-    is x = search
 
 module _ (tree : List Placed) (codes : List Code) (build : CanBeBuilt tree) where
   -- numbers of an instance's nets are below the count of all

@@ -18,7 +18,7 @@ use Rattle.cx_vsim.specs.Externals.{array_of}
 use Rattle.cx_vsim.specs.Answers.{NamesNet}
 use Rattle.cx_vsim.specs.Stands.{words_at, words_by, outcome_by, TellsNet, IsToldAs}
 use Rattle.cx_vsim.specs.declared.answers.SimAnswer.{SimAnswer}
-use Rattle.cx_vsim.proofs.Finding.{net_within}
+use Rattle.cx_vtree.proofs.InstanceTreeLemmas.{net_within}
 
 module _ (tree : List Placed) (arrays : List PlainWords) where
   one_is : (e : PlainExternal) (words : List ℕ) (n : ℕ) → AreWordsOf tree arrays e words → Some n ≡ array_of tree e → words ≡ words_at arrays n

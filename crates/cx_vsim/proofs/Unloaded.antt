@@ -9,10 +9,11 @@ use Rattle.cx_text.specs.Loading.{PlainMemory, with_words}
 use Rattle.cx_vnets.specs.declared.arrays.Words.{Words}
 use Rattle.cx_vnets.specs.Stores.{PlainWords, plain_words}
 use Rattle.cx_vsim.specs.WordNumbers.{AreNarrow}
-use Rattle.cx_vnets.proofs.Numbering.{map_some}
-use Rattle.cx_vnets.proofs.FlatSetSteps.{get_set_same, get_set_other}
+use Rattle.cx_vnets.proofs.FlatSetSteps.{get_set_other}
 use Rattle.cx_vsim.specs.Stands.{words_at, words_by}
 use Rattle.cx_vsim.specs.Arrays.{Gives, CanGive, AllGivenFit}
+use Rattle.cx_text.proofs.ListLaws.{there_at, get_set_same}
+use Rattle.cx_text.proofs.OptionLaws.{map_some}
 
 abbrev pub with_these : PlainMemory → List ℕ → PlainMemory
 with_these m words = record { shape = m.shape; signed = m.signed; words = words }
@@ -88,18 +89,13 @@ can_give_still ns arrays ms i p q can at long = record { count = can.count ∙ s
         (λ other. can.each k a m here (sym (get_set_other ms i k q other) ∙ there))
         (cases_eq i k)
 
-some_at : {A : Type 0} (xs : List A) (i : ℕ) → i < length xs → (x : A) × (slice_get xs i ≡ Some x)
-some_at [] i lt = absurd (omega arith)
-some_at (x ∷ xs) zero lt = (x, refl)
-some_at (x ∷ xs) (suc i) lt = some_at xs i (let g : suc i < suc (length xs) = lt in omega arith)
-
 -- one array more is read
 module _ (ns : List ℕ) (arrays : List Words) (ms : List PlainMemory) (i : ℕ) (can : CanGive ns (map plain_words arrays) ms) (lt : i < length ns) where
   abbrev number : ℕ
   number = get_or ns i 0
 
   pub memory_given : (m : PlainMemory) × (slice_get ms i ≡ Some m)
-  memory_given = let count = can.count in some_at ms i (omega (arith, lt, count))
+  memory_given = let count = can.count in there_at ms i (omega (arith, lt, count))
 
   given : Gives (map plain_words arrays) number memory_given.0
   given = can.each i number memory_given.0 (slice_get-get_or ns i 0 lt) memory_given.1

@@ -1,11 +1,11 @@
 -- What gives a net, a register or a word its value is as wide.
-use Rattle.std.proofs.Common.{◌≡◌, ℕ, zero, suc, ◌+◌, ◌==◌, Bool, true, false, List, [], ◌∷◌, ◌++◌, map, Option, Some, None, slice_get, refl, ap, sym, ◌∙◌, subst, if◌then◌else◌}
+use Rattle.std.proofs.Common.{◌≡◌, ℕ, zero, suc, true, List, [], ◌∷◌, ◌++◌, map, Option, Some, None, slice_get, refl, ap, sym, ◌∙◌, subst, if◌then◌else◌}
 use Rattle.std.specs.Option.{option_map_or}
 use Rattle.std.specs.Cmp.Lexicographic.{same_text}
-use Rattle.cx_vtree.specs.declared.meanings.Meaning.TheVariants.{Input, Output, Register}
+use Rattle.cx_vtree.specs.declared.meanings.Meaning.TheVariants.{Register}
 use Rattle.cx_vtree.specs.Plain.{PlainExpr, PlainPort, PlainDecl, WireOf, RegisterOf, ArrayOf}
 use Rattle.cx_vtree.specs.InstanceTree as kinds
-use Rattle.cx_vtree.specs.InstanceTree.{Placed, same_name, ports_at, decls_at, declared_nets, nets_at, NetKind, declared_kind, kind_in, driving_output, output_to, assigned, driver_of, origin_by, Origin, Outside, Tied, Held, Given, origin_of}
+use Rattle.cx_vtree.specs.InstanceTree.{Placed, same_name, ports_at, decls_at, declared_nets, nets_at, NetKind, kind_in, driving_output, assigned, driver_of, origin_by, Origin, Outside, Tied, Held, Given, origin_of}
 use Rattle.cx_vtree.specs.Sound.{Scope, width_of, is_array, decl_name, decl_meaning, port_meaning}
 use Rattle.cx_vnets.specs.ModuleNumbers.{declared_arrays}
 use Rattle.cx_vnets.specs.CodeLaws.{declared_widths, net_widths, array_widths}
@@ -20,10 +20,10 @@ use Rattle.cx_vsim.specs.Trees.{IsEvenlyWide}
 use Rattle.cx_vsim.proofs.Positions.{position_here, position_there, origin_found, origin_position, ports_there, arrays_at_same}
 use Rattle.cx_vsim.proofs.TidyLemmas.{Origins}
 use Rattle.cx_vsim.proofs.CodedLemmas.{SetsAre, StoresAre}
-
-port_width : (o : Bool) (w : ℕ) → width_of (if o then Output w else Input w) ≡ w
-port_width true w = refl
-port_width false w = refl
+use Rattle.cx_vtree.proofs.InstanceTreeLemmas.{driving_not_outside}
+use Rattle.cx_vtree.proofs.MeaningsLemmas.{port_width}
+use Rattle.cx_velab.proofs.CoveredLemmas.{no_input}
+use Rattle.cx_text.proofs.OptionLaws.{by_side}
 
 -- where each name stands for its part, widths by number are those by name
 module _ (scope : Scope) where
@@ -58,17 +58,6 @@ module _ (scope : Scope) where
   array_width (WireOf n w ∷ ds) meant a name e = array_width ds (λ j d at. meant (suc j) d at) a name e
   array_width (RegisterOf n w ∷ ds) meant a name e = array_width ds (λ j d at. meant (suc j) d at) a name e
 
--- what comes from outside is an input
-by_side : {A : Type 0} (P : Type 0) (t : Bool) (a b : Option A) (x : A) → (if t then a else b) ≡ Some x → (t ≡ true → a ≡ Some x → P) → (t ≡ false → b ≡ Some x → P) → P
-by_side P true a b x e h k = h refl e
-by_side P false a b x e h k = k refl e
-
-no_input : (ds : List PlainDecl) (name : List ℕ) → declared_kind ds name ≡ Some kinds.Input → ⊥
-no_input [] name e = absurd (cc)
-no_input (WireOf x w ∷ ds) name e = by_side ⊥ (same_name x name) (Some kinds.Driven) (declared_kind ds name) kinds.Input e (λ t f. absurd (cc)) (λ t f. no_input ds name f)
-no_input (RegisterOf x w ∷ ds) name e = by_side ⊥ (same_name x name) (Some (kinds.Stored w)) (declared_kind ds name) kinds.Input e (λ t f. absurd (cc)) (λ t f. no_input ds name f)
-no_input (ArrayOf x w k ∷ ds) name e = no_input ds name e
-
 -- an input is a port
 abbrev PortIn : List PlainPort → List ℕ → Type 0
 PortIn ports name = (h : ℕ) × (port : PlainPort) × (slice_get ports h ≡ Some port) × (port.name ≡ name)
@@ -80,22 +69,13 @@ input_port (p ∷ ps) ds name e =
     (λ t f. (0, p, refl, same_text p.name name (sym t)))
     (λ t f. let r = input_port ps ds name f in (suc r.0, r.1, r.2, r.3))
 
-not_outside : (ps : List Placed) (number holder : ℕ) (net : List ℕ) → driving_output ps number holder net ≡ Some Outside → ⊥
-not_outside [] number holder net e = absurd (cc)
-not_outside (p ∷ rest) number holder net e =
-    go (if p.holder == holder then output_to p.part.ports p.conns net else None) (driving_output rest (number + 1) holder net) (not_outside rest (number + 1) holder net) e
-  where
-    go : (o : Option (List ℕ)) (d : Option Origin) → (d ≡ Some Outside → ⊥) → option_map_or (λ port. Some (Tied number port)) o d ≡ Some Outside → ⊥
-    go None d h f = h f
-    go (Some port) d h f = absurd (cc)
-
 driven_inside : (o : Option PlainExpr) (d : Option Origin) → (d ≡ Some Outside → ⊥) → option_map_or (λ e. Some (Given e)) o d ≡ Some Outside → ⊥
 driven_inside None d h f = h f
 driven_inside (Some x) d h f = absurd (cc)
 
 outside_kind : (tree : List Placed) (i : ℕ) (p : Placed) (name : List ℕ) (k : NetKind) → origin_by tree i p name k ≡ Some Outside → k ≡ kinds.Input
 outside_kind tree i p name kinds.Input e = refl
-outside_kind tree i p name kinds.Driven e = absurd (driven_inside (assigned p.part.assigns name) (driving_output tree 0 i name) (not_outside tree 0 i name) e)
+outside_kind tree i p name kinds.Driven e = absurd (driven_inside (assigned p.part.assigns name) (driving_output tree 0 i name) (driving_not_outside tree 0 i name) e)
 outside_kind tree i p name (kinds.Stored w) e = absurd (cc)
 
 -- the ports of `main` have one bit

@@ -10,10 +10,11 @@ use Rattle.cx_bits.specs.BitVector.{BitVector}
 use Rattle.cx_vnets.specs.declared.arrays.Words.{Words}
 use Rattle.cx_vnets.specs.Stores.{PlainWords, plain_words}
 use Rattle.cx_vsim.specs.WordNumbers.{words_of_width}
-use Rattle.cx_vnets.proofs.Numbering.{map_some}
-use Rattle.cx_vnets.proofs.FlatSetSteps.{get_set_same, get_set_other}
+use Rattle.cx_vnets.proofs.FlatSetSteps.{get_set_other}
 use Rattle.cx_vsim.specs.Stands.{words_at, words_by}
 use Rattle.cx_vsim.specs.Arrays.{rewritten, with_array, with_arrays, Takes, CanTake}
+use Rattle.cx_text.proofs.OptionLaws.{map_some}
+use Rattle.cx_text.proofs.ListLaws.{get_set_same}
 
 -- the numbers of words of a width are those that they were made of
 pub values_of : (w : ℕ) (ns : List ℕ) → map (λ (b : BitVector). b.value) (words_of_width w ns) ≡ ns

@@ -1,7 +1,4 @@
-//! The whole numbered machine of a sound Verilog source.
-//! Where the nets and the external memories of a Verilog source stand among those of all instances.
-//! The words of arrays, as a data file gives them and as a dump takes them.
-//! The simulator: runs a Verilog source from reset.
+//! The simulator: runs a Verilog source from reset, by its numbered machine.
 #![tactic(auto)]
 
 mod answers;

@@ -1,5 +1,5 @@
 -- Worked values of one cycle and of a run, by hand from the sentences of the definitions.
-use Rattle.std.proofs.Common.{◌≡◌, ℕ, zero, suc, Bool, true, false, List, [], ◌∷◌, Option, Some, None, refl, sym, subst, if◌then◌else◌}
+use Rattle.std.proofs.Common.{◌≡◌, ℕ, zero, suc, Bool, true, false, List, [], ◌∷◌, Some, None, refl, sym, subst, if◌then◌else◌}
 use Rattle.std.specs.Prelude.{IsSome, slice_get, codes}
 use Rattle.std.specs.Cmp.Lexicographic.{same_text}
 use Rattle.cx_bits.specs.BitVector.{BitVector}
@@ -9,6 +9,7 @@ use Rattle.cx_vtree.specs.Meaning.{State, Moment, resetting, running, outside_va
 use Rattle.cx_vtree.specs.Edges.{state_after}
 use Rattle.cx_vtree.specs.SimRun.{DoneAt, IsWhole, words_of, start_state, ends, SimRun, after_reset}
 use Rattle.cx_vtree.specs.Sound.{NameAt, WidthAt, break_of, is_sound}
+use Rattle.cx_text.proofs.OptionLaws.{by_test}
 
 abbrev bits : ℕ → ℕ → BitVector
 bits width value = record { width = width; value = value }
@@ -115,11 +116,6 @@ abbrev known_both : Moment → Look
 known_both m zero name = if same_name name (codes "done") then Some (held m) else known_r m zero name
 known_both m (suc i) name = None
 
--- by the two sides of a test
-by_side : {A : Type 0} (P : Type 0) (t : Bool) (a b : Option A) (x : A) → (if t then a else b) ≡ Some x → (t ≡ true → a ≡ Some x → P) → (b ≡ Some x → P) → P
-by_side P true a b x e here there = here refl e
-by_side P false a b x e here there = there e
-
 module _ (m : Moment) where
   at_name : (name net : List ℕ) (w : BitVector) → HasValue raised m 0 name (held m) → same_name net name ≡ true → Some (held m) ≡ Some w → HasValue raised m 0 net w
   at_name name net w value is same =
@@ -130,14 +126,14 @@ module _ (m : Moment) where
   r_value = by_step (λ i name. None) (λ j net w e. absurd (cc)) refl
 
   r_right : IsRight raised m (known_r m)
-  r_right zero net w e = by_side _ (same_name net (codes "r")) (Some (held m)) None w e (at_name (codes "r") net w r_value) (λ f. absurd (cc))
+  r_right zero net w e = by_test _ (same_name net (codes "r")) (Some (held m)) None w e (at_name (codes "r") net w r_value) (λ f. absurd (cc))
   r_right (suc j) net w e = absurd (cc)
 
   done_value : HasValue raised m 0 (codes "done") (held m)
   done_value = by_step (known_r m) r_right refl
 
   both_right : IsRight raised m (known_both m)
-  both_right zero net w e = by_side _ (same_name net (codes "done")) (Some (held m)) (known_r m zero net) w e (at_name (codes "done") net w done_value) (r_right zero net w)
+  both_right zero net w e = by_test _ (same_name net (codes "done")) (Some (held m)) (known_r m zero net) w e (at_name (codes "done") net w done_value) (r_right zero net w)
   both_right (suc j) net w e = absurd (cc)
 
   both_there : (i k : ℕ) (n : List ℕ) → slice_get (nets_at raised i) k ≡ Some n → IsSome (known_both m i n)

@@ -2,3 +2,8 @@ pub mod Values
 pub mod Ranks
 pub mod Runs
 pub mod KnownCycles
+pub mod InstanceTreeLemmas
+pub mod LinesLemmas
+pub mod MeaningsLemmas
+pub mod ModulesLemmas
+pub mod SoundLemmas

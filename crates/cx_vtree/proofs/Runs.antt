@@ -10,17 +10,11 @@ use Rattle.cx_vtree.specs.Meaning.{State, Moment, resetting, running, Look, from
 use Rattle.cx_vtree.specs.Edges.{state_after}
 use Rattle.cx_vtree.specs.SimRun.{Outcome, LoopAt, IsFirstLoop, IsWhole, is_done, start_state, RunsFrom, loops, ends, spent, goes_on, SimRun, loops_in_reset, after_reset}
 use Rattle.cx_vtree.proofs.Values.{right_agree}
-
--- what a bind that gave something began with
-bind_some : {A B : Type 0} (f : A → Option B) (o : Option A) (y : B) → option_and_then f o ≡ Some y → (x : A) × (o ≡ Some x) × (f x ≡ Some y)
-bind_some f None y e = absurd (cc)
-bind_some f (Some x) y e = (x, refl, e)
+use Rattle.cx_text.proofs.OptionLaws.{bind_some}
+use Rattle.cx_text.proofs.ListLaws.{slice_get-next}
 
 abbrev IsIn : List ℕ → List (List ℕ) → Type 0
 IsIn n ns = (k : ℕ) × (slice_get ns k ≡ Some n)
-
-slice_get-next : {A : Type 0} (x : A) (xs : List A) (k : ℕ) → slice_get (x ∷ xs) (suc k) ≡ slice_get xs k
-slice_get-next x xs k = refl
 
 in_next : (n x : List ℕ) (ns : List (List ℕ)) → IsIn n ns → IsIn n (x ∷ ns)
 in_next n x ns h = (suc h.0, slice_get-next x ns h.0 ∙ h.1)

@@ -12,13 +12,13 @@ use Rattle.cx_turns.specs.Children.{HasChild, IsPart}
 use Rattle.cx_turns.specs.Machines.{IsInstance}
 use Rattle.cx_turns.proofs.ChildLemmas.{append_one, under_child, put_child, child_after, called_is}
 use Rattle.cx_turns.proofs.Measures.{instance_child}
-use Rattle.cx_turns.proofs.RestLemmas.{got}
 use Rattle.cx_weave.specs.declared.strands.Strand.{Strand}
 use Rattle.cx_weave.specs.Calls.{HoldsAs}
 use Rattle.cx_orders.specs.Open.{Open}
 use Rattle.cx_orders.specs.Steps.{Stepped, Now, Stops, step, lift_step, call_left, held_as, inputs_for, inputs_seen}
 use Rattle.cx_weave.specs.Strands.{PlainStrand, ACall, Shows, IsShown}
 use Rattle.cx_weave.specs.Strides.{LeftShown, StepTold, HasStepped}
+use Rattle.std.proofs.lemmas.Option.{slice_get-get_or}
 
 -- the child at a cell
 one_below : (i : Instance) (c : ℕ) (child : Instance) → cell_at (cells_of i) c ≡ OfInstance child → instance_at i (c ∷ []) ≡ child
@@ -37,7 +37,7 @@ same_child d n c m k one other path number = one_number (tree_of d) m k (path ++
 pub child_shown : (d : PlainDesign) (n g c m : ℕ) (inputs : Option (List Seen)) (child : PlainStrand) → IsInstance d n → HasChild d n c m → IsShown d n (ACall g c inputs child) → IsShown d m child
 child_shown d n g c m inputs child inside has (o, (now, is, group, calls, fits, (k, at, shown))) =
     let path = get_or (paths_of (tree_of d)) n [] in
-    let number : IsNumber d n path = got (paths_of (tree_of d)) n [] inside in
+    let number : IsNumber d n path = slice_get-get_or (paths_of (tree_of d)) n [] inside in
     (now, subst (λ j. Shows d j child now) (same_child d n c k m at has path number) shown)
 
 module _ (d : PlainDesign) (new : List PlainInstance) (n c m : ℕ) (path : Path) (s : State) where
@@ -64,7 +64,7 @@ module _ (d : PlainDesign) (old mid new : List PlainInstance) (n g c m k : ℕ) 
   pub held_above : ((x input : ℕ) → x ≤ m → inputs_held new x input ≡ inputs_held mid x input) → (x input : ℕ) → x ≤ n → inputs_held new x input ≡ inputs_held old x input
   held_above held x input le =
       let path = get_or (paths_of (tree_of d)) n [] in
-      let number : IsNumber d n path = got (paths_of (tree_of d)) n [] inside in
+      let number : IsNumber d n path = slice_get-get_or (paths_of (tree_of d)) n [] inside in
       let after : n < m = child_after d n c m part has path number in
       held x input (omega (arith, after, le)) ∙ holds.holds.others x input (λ e. absurd (omega (arith, after, le, e)))
 
@@ -97,7 +97,7 @@ module _ (d : PlainDesign) (old mid new : List PlainInstance) (n g c m k : ℕ) 
 pub held_below : (d : PlainDesign) (old new : List PlainInstance) (n c m : ℕ) → IsPart d n c → HasChild d n c m → IsInstance d n → ((x input : ℕ) → x ≢ m → inputs_held new x input ≡ inputs_held old x input) → (x input : ℕ) → x ≤ n → inputs_held new x input ≡ inputs_held old x input
 held_below d old new n c m part has inside others x input le =
     let path = get_or (paths_of (tree_of d)) n [] in
-    let number : IsNumber d n path = got (paths_of (tree_of d)) n [] inside in
+    let number : IsNumber d n path = slice_get-get_or (paths_of (tree_of d)) n [] inside in
     let after : n < m = child_after d n c m part has path number in
     others x input (λ e. absurd (omega (arith, after, le, e)))
 

@@ -1,10 +1,9 @@
 -- What stands at a cell of an instance, by the cell's kind.
-use Rattle.std.proofs.Common.{◌≡◌, ℕ, zero, suc, ◌<◌, ◌≤◌, ◌^◌, List, [], ◌∷◌, length, get_or, map, refl, sym, ap, ◌∙◌, subst, arith}
+use Rattle.std.proofs.Common.{◌≡◌, ℕ, zero, suc, ◌<◌, ◌^◌, List, [], ◌∷◌, length, get_or, map, refl, sym, ap, ◌∙◌, subst, arith}
 use Rattle.std.proofs.lemmas.List.{length-map, get_or-map}
 use Rattle.cx_prim.specs.Table.{row_of}
-use Rattle.cx_meaning.specs.Designs.{PlainKind, OfPrimitive, OfComponent, PlainCell, PlainComponent, PlainDesign, component_at, no_component}
-use Rattle.cx_meaning.specs.Instances.{Instance, Cells, At, OfRow, OfInstance, add_cell, cells_for, tree_within, Path, cell_at, cells_of, part_of, instance_at, paths_of, tree_of}
-use Rattle.cx_rules.specs.Sizes.{sizes_of}
+use Rattle.cx_meaning.specs.Designs.{PlainKind, OfPrimitive, OfComponent, PlainCell, PlainComponent, PlainDesign, component_at}
+use Rattle.cx_meaning.specs.Instances.{Instance, Cells, At, OfRow, OfInstance, add_cell, cells_for, Path, cell_at, cells_of, part_of, instance_at, paths_of, tree_of}
 use Rattle.cx_rules.specs.Wellformed.{IsDesign}
 use Rattle.cx_design.specs.declared.cells.Cell.{Cell}
 use Rattle.cx_design.specs.declared.cells.CellKind.{CellKind}
@@ -16,7 +15,9 @@ use Rattle.cx_state.specs.Tables.{IsNumber, IsTable, row_at}
 use Rattle.cx_turns.specs.Children.{IsPart}
 use Rattle.cx_turns.specs.Islands.{HasPart}
 use Rattle.cx_turns.proofs.HoldLemmas.{own_part}
-use Rattle.cx_turns.proofs.StandLemmas.{below_length}
+use Rattle.cx_meaning.proofs.InstancesLemmas.{kind_skip, some_cells}
+use Rattle.cx_rules.proofs.SizesLemmas.{few}
+use Rattle.cx_text.proofs.ListLaws.{there_below}
 
 abbrev at_of : (ℕ → Instance) → PlainKind → At
 at_of trees (OfPrimitive p) = OfRow (row_of p)
@@ -26,31 +27,18 @@ first_cell : (trees : ℕ → Instance) (kind : PlainKind) (rest : Cells) → ce
 first_cell trees (OfPrimitive p) rest = refl
 first_cell trees (OfComponent k) rest = refl
 
-later_cell : (trees : ℕ → Instance) (kind : PlainKind) (rest : Cells) (c : ℕ) → cell_at (add_cell trees kind rest) (suc c) ≡ cell_at rest c
-later_cell trees (OfPrimitive p) rest c = refl
-later_cell trees (OfComponent k) rest c = refl
-
 cell_kind : (trees : ℕ → Instance) (cells : List PlainCell) (c : ℕ) (x : PlainCell) → c < length cells → cell_at (cells_for trees cells) c ≡ at_of trees (get_or cells c x).kind
 cell_kind trees [] c x lt = absurd (let h : c < 0 = lt in omega (arith, h))
 cell_kind trees (y ∷ ys) zero x lt = first_cell trees y.kind (cells_for trees ys)
-cell_kind trees (y ∷ ys) (suc c) x lt = later_cell trees y.kind (cells_for trees ys) c ∙ cell_kind trees ys c x (let h : suc c < suc (length ys) = lt in omega (arith, h))
-
-few : (parts : List PlainComponent) (k : ℕ) → length (get_or parts k no_component).cells ≤ sizes_of parts
-few [] k = omega arith
-few (part ∷ parts) zero = omega arith
-few (part ∷ parts) (suc k) = let h = few parts k in omega (arith, h)
-
-tree_cells : (d : PlainDesign) (levels k : ℕ) → 0 < levels → (trees : ℕ → Instance) × (cells_of (tree_within d levels k) ≡ cells_for trees (component_at d k).cells)
-tree_cells d zero k some = absurd (omega (arith, some))
-tree_cells d (suc m) k some = (tree_within d m, refl)
+cell_kind trees (y ∷ ys) (suc c) x lt = kind_skip trees y.kind (cells_for trees ys) c ∙ cell_kind trees ys c x (let h : suc c < suc (length ys) = lt in omega (arith, h))
 
 module _ (d : PlainDesign) (design : IsDesign d) (table : List InstanceRow) (children : List ℕ) (is_table : IsTable d table children) (n : ℕ) (part : Component) (has : HasPart d n (plain_component part)) where
   -- the cells of an instance are those of its component
   kinds_at : (path : Path) → IsNumber d n path → (c : ℕ) (x : Cell) → c < length part.cells.items → x ≡ get_or part.cells.items c x → (trees : ℕ → Instance) × (cell_at (cells_of (instance_at (tree_of d) path)) c ≡ at_of trees (plain_kind x.kind))
   kinds_at path number c x lt is =
       let k = (row_at table n).component in
-      let within : k < length d.components = is_table.there n (subst (λ m. n < m) (sym is_table.count) (below_length (paths_of (tree_of d)) n path number)) in
-      let t = tree_cells d (length d.components) k (omega (arith, within)) in
+      let within : k < length d.components = is_table.there n (subst (λ m. n < m) (sym is_table.count) (there_below (paths_of (tree_of d)) n path number)) in
+      let t = some_cells d (length d.components) k (omega (arith, within)) in
       let mine : map plain_cell part.cells.items ≡ (component_at d k).cells = ap (λ (p : PlainComponent). p.cells) (has path number ∙ own_part d design table children is_table n path number) in (
         t.0,
         ap (λ (i : Instance). cell_at (cells_of i) c) (is_table.component n path number)

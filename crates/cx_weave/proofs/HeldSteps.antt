@@ -22,6 +22,7 @@ use Rattle.cx_orders.specs.Steps.{first_inputs, held_as}
 use Rattle.cx_weave.specs.Strands.{InputsFit}
 use Rattle.cx_weave.proofs.CallSteps.{child_is}
 use Rattle.cx_orders.proofs.Runs.{first_at, first_length}
+use Rattle.cx_state.proofs.TablesLemmas.{one_path}
 
 -- the first inputs are held as they are listed, and nothing else changes
 pub record HoldsSoFar (d : PlainDesign) (old new : List PlainInstance) (child : ℕ) (inputs : List Seen) (k : ℕ) : Type 0 where
@@ -32,9 +33,6 @@ pub record HoldsSoFar (d : PlainDesign) (old new : List PlainInstance) (child : 
 pub ok_map : {A E : Type 0} {P Q : A → Type 0} (r : Result A E) → ((x : A) → P x → Q x) → IfOk r P → IfOk r Q
 ok_map (Ok x) f p = f x p
 ok_map (Err e) f p = tt
-
-one_path : (d : PlainDesign) (n : ℕ) (path other : Path) → IsNumber d n path → IsNumber d n other → path ≡ other
-one_path d n path other number there = let f : Some path ≡ Some other = sym number ∙ there in cc
 
 module _ (d : PlainDesign) (old : List PlainInstance) (child : ℕ) (inputs : List Seen) where
   pub held_starts : HoldsSoFar d old old child inputs 0

@@ -36,6 +36,7 @@ use Rattle.cx_weave.specs.Strands.{AnIsland, IsAtCycle, IsShown, KeptBefore, Kno
 use Rattle.cx_weave.specs.Strides.{TurnTold, HasRested, HasStepped, IslandTaken, StepTold}
 use Rattle.cx_orders.proofs.Runs.{tested_fine}
 use Rattle.cx_weave.proofs.TurnsTaken.{ends_told}
+use Rattle.cx_state.proofs.TablesLemmas.{one_path}
 
 abbrev pub FirstKept : Type 0
 FirstKept = (part : PlainComponent) (form : PlainForm) (h : History) (look : Look) (kept : Samples) → AreKept part (and_now h 0 look) 0 form (samples_after part (says look) 0 form kept)
@@ -68,10 +69,6 @@ SamplesGive part form t kept =
     (h : History) → AreKept part h t form kept
     → (active_by part kept t form ≡ active_at part h t form) × (begun_by part kept t form ≡ begun_at part h t form)
     × (active_in h t (form_flat part form 0 []) ≡ active_at part h t form) × (looked_at h t (form_flat part form 0 []) ≡ begun_at part h t form)
-
--- an instance has one path
-pub one_path : (d : PlainDesign) (n : ℕ) (path other : Path) → IsNumber d n path → IsNumber d n other → path ≡ other
-one_path d n path other number there = let f : Some path ≡ Some other = sym number ∙ there in cc
 
 -- the laws of samples, of one cycle
 pub gives_cycle : (part : PlainComponent) (form : PlainForm) (t : ℕ) (kept : Samples) → ((h : History) → AreKept part h t form kept → active_by part kept t form ≡ active_at part h t form) → ((h : History) → AreKept part h t form kept → begun_by part kept t form ≡ begun_at part h t form)

@@ -1,5 +1,5 @@
 -- Lists for islands and for the inputs of calls: they have room for all that is put into them.
-use Rattle.std.proofs.Common.{◌≡◌, ℕ, ◌+◌, ◌≤◌, ◌<◌, Vec, Global, Bool, true, false, length, Option, Some, None, refl, ap, ◌∙◌, arith}
+use Rattle.std.proofs.Common.{◌≡◌, ℕ, ◌+◌, ◌≤◌, ◌<◌, Vec, Global, Bool, true, length, Option, Some, None, refl, ap, ◌∙◌, arith}
 use Rattle.std.specs.Prelude.{is_some, vec_len, vec_capacity}
 use Rattle.cx_meaning.specs.declared.kinds.GroupKind.{GroupKind}
 use Rattle.cx_meaning.specs.declared.kinds.GroupKind.TheVariants as kinds
@@ -23,9 +23,7 @@ use Rattle.cx_weave.specs.Supplied.{MayOpen, Supplied}
 use Rattle.cx_weave.proofs.Ledgers.{and_then}
 use Rattle.cx_weave.proofs.OpenSupplies.{none_taken}
 use Rattle.cx_weave.proofs.PartLedgers.{same_amounts, told_before}
-
-never : {A : Type 0} → false ≡ true → A
-never e = absurd (let f : false ≡ true = e in cc)
+use Rattle.cx_text.proofs.NumberLaws.{never}
 
 kind_island : (k : Piece) (i : Instance) (child : ℕ → ℕ) (g : ℕ) (kind : GroupKind) → is_some (kind_length kind) ≡ true → kind_need k i child g kind ≡ island_takes k
 kind_island k i child g kinds.Plain e = never e

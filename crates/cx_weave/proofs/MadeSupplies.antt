@@ -8,13 +8,10 @@ use Rattle.cx_rules.specs.Accepted.{IsAccepted}
 use Rattle.cx_rules.specs.Wellformed.{IsDesign}
 use Rattle.cx_state.specs.declared.tables.InstanceRow.{InstanceRow}
 use Rattle.cx_state.specs.Tables.{IsNumber, IsTable, row_at}
-use Rattle.cx_state.proofs.TreeLemmas.{instance_self}
 use Rattle.cx_turns.specs.declared.rooms.Room.{Room}
 use Rattle.cx_turns.specs.Rooms.{HasRoom}
 use Rattle.cx_turns.proofs.HoldLemmas.{own_part}
 use Rattle.cx_turns.proofs.RoomLemmas.{island_room}
-use Rattle.cx_turns.proofs.ChildLemmas.{main_first}
-use Rattle.cx_turns.proofs.StandLemmas.{below_length}
 use Rattle.cx_weave.specs.declared.needs.Piece.{Piece}
 use Rattle.cx_weave.specs.declared.needs.Piece.TheVariants as pieces
 use Rattle.cx_weave.specs.declared.spares.IslandLists.{IslandLists}
@@ -23,6 +20,8 @@ use Rattle.cx_weave.specs.Takes.{control_need}
 use Rattle.cx_weave.specs.Marks.{set_count}
 use Rattle.cx_weave.specs.Ledger.{Lengths, lists_lack, pieces_spare, places_for, total}
 use Rattle.cx_weave.specs.Supplied.{Suffice, Supplied}
+use Rattle.cx_meaning.proofs.InstancesLemmas.{here, main_first}
+use Rattle.cx_text.proofs.ListLaws.{there_below}
 
 pub each_piece : (P : Piece → Type 0) → P pieces.Boxes → P pieces.Arms → P pieces.Islands → P pieces.Inputs → (k : Piece) → P k
 each_piece P boxes arms islands inputs pieces.Boxes = boxes
@@ -40,7 +39,7 @@ none_lacks f (x ∷ xs) all =
 
 module _ (d : PlainDesign) (accepted : IsAccepted d) (design : IsDesign d) (rows : List InstanceRow) (children : List ℕ) (table : IsTable d rows children) where
   component_of : (n : ℕ) (path : Path) → IsNumber d n path → (row_at rows n).component < length d.components
-  component_of n path number = table.there n (subst (λ m. n < m) (sym table.count) (below_length (paths_of (tree_of d)) n path number))
+  component_of n path number = table.there n (subst (λ m. n < m) (sym table.count) (there_below (paths_of (tree_of d)) n path number))
 
   pub lengths_suffice : (cells inputs : ℕ) (room : Room) → ((k : ℕ) → k < length d.components → length (component_at d k).cells ≤ cells) → ((k : ℕ) → k < length d.components → length (component_at d k).inputs ≤ inputs) → HasRoom d room
       → Suffice d (record { cells = cells; samples = vec_len room.samples; inputs = inputs })
@@ -58,7 +57,7 @@ made_supplied d spares l suffice enough places cells samples inputs marks clear 
   suffice = suffice;
   path = [];
   number = main_first (tree_of d);
-  enough = λ k. (let e : control_need k (instance_at (tree_of d) []) ≡ control_need k (tree_of d) = ap (control_need k) (instance_self (tree_of d)) in let h = enough k in omega (arith, e, h));
+  enough = λ k. (let e : control_need k (instance_at (tree_of d) []) ≡ control_need k (tree_of d) = ap (control_need k) (here (tree_of d)) in let h = enough k in omega (arith, e, h));
   places = λ k. (let h = places k in omega (arith, h));
   lists =
       let islands = none_lacks (lists_lack l) spares.islands.items (λ k e less. (let a = cells k e less in let b = samples k e less in omega (arith, a, b))) in

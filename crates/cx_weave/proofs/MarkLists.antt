@@ -3,13 +3,13 @@ use Rattle.std.proofs.Common.{◌≡◌, ℕ, zero, suc, ◌+◌, ◌≤◌, ◌
 use Rattle.std.specs.Prelude.{All}
 use Rattle.std.specs.List.{count_by}
 use Rattle.std.specs.List.Sorted.{IsPermutation, IsNonDecreasingBy}
-use Rattle.std.proofs.lemmas.Bool.{cases_lt, eqb-true, eqb-false, lt-ltb, le-ltb}
+use Rattle.std.proofs.lemmas.Bool.{cases_lt, eqb-true, eqb-false, lt-ltb, le-ltb, or_right}
 use Rattle.std.proofs.lemmas.List.{get_or-set_same, get_or-set_other, get_or_past, length-set, length_push}
 use Rattle.std.proofs.lemmas.List.Sorted.{sum_by-IsPermutation}
 use Rattle.std.proofs.lemmas.List.Sums.{sum_by-cons, sum_by_push, sum_by-set}
 use Rattle.cx_eval_cycle.specs.Passes.{IsAscending, listed_in}
-use Rattle.cx_eval_cycle.proofs.PassLemmas.{same_numbers}
 use Rattle.cx_weave.specs.Marks.{Lists, is_marked, set_count}
+use Rattle.cx_text.proofs.NumberLaws.{same_numbers}
 
 pub not_joined : (a b m : Bool) → (not a && (not b && m)) ≡ (not (a || b) && m)
 not_joined true b m = refl
@@ -166,15 +166,10 @@ module _ (marks : List Bool) (cells : List ℕ) (so : Lists marks cells) where
       none true = refl
       none false = refl
 
--- each number of a list is listed
-either : (a b : Bool) → b ≡ true → (a || b) ≡ true
-either true b e = refl
-either false b e = e
-
 pub listed_at : (xs : List ℕ) (k d : ℕ) → k < length xs → listed_in xs (get_or xs k d) ≡ true
 listed_at [] k d less = absurd (let h : k < 0 = less in omega (arith, h))
 listed_at (x ∷ xs) zero d less = ap (λ b. b || listed_in xs x) (same_numbers x x refl)
-listed_at (x ∷ xs) (suc k) d less = either (nat_eq x (get_or xs k d)) (listed_in xs (get_or xs k d)) (listed_at xs k d (let h : suc k < suc (length xs) = less in omega (arith, h)))
+listed_at (x ∷ xs) (suc k) d less = or_right (nat_eq x (get_or xs k d)) (listed_in xs (get_or xs k d)) (listed_at xs k d (let h : suc k < suc (length xs) = less in omega (arith, h)))
 
 -- listed cells have their marks
 pub lists_inside : (marks : List Bool) (cells : List ℕ) → Lists marks cells → All (λ c. c < length marks) cells

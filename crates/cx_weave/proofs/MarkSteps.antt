@@ -1,11 +1,8 @@
 -- The cells that groups drive, as they are marked.
-use Rattle.std.proofs.Common.{◌≡◌, ℕ, suc, ◌+◌, ◌≤◌, ◌<◌, Bool, true, false, ◌||◌, ⊎_elim, List, [], ◌∷◌, ◌++◌, length, get_or, drop, Option, Some, None, inl, inr, refl, sym, ap, ◌∙◌, subst, arith}
+use Rattle.std.proofs.Common.{◌≡◌, ℕ, suc, ◌+◌, ◌≤◌, ◌<◌, Bool, true, false, ◌||◌, List, [], ◌∷◌, length, get_or, drop, Option, Some, None, inl, inr, refl, sym, ap, ◌∙◌, subst, arith}
 use Rattle.std.proofs.Math.Seq.{drop-cons}
-use Rattle.std.proofs.lemmas.Bool.{cases_lt}
 use Rattle.std.proofs.lemmas.List.{get_or_past, length-map}
-use Rattle.cx_meaning.specs.declared.ports.PortRef.{PortRef}
-use Rattle.cx_meaning.specs.declared.ports.PortRef.TheVariants as ports
-use Rattle.cx_meaning.specs.Designs.{PlainAssign, PlainComponent, PlainDesign, PlainForm, PlainGroup, PlainStatement, Placed, component_at, group_at, no_group}
+use Rattle.cx_meaning.specs.Designs.{PlainAssign, PlainComponent, PlainDesign, PlainForm, PlainStatement, Placed, component_at, group_at, no_group}
 use Rattle.cx_meaning.specs.Instances.{Instance, Path, part_of, instance_at, paths_of, tree_of}
 use Rattle.cx_meaning.specs.Sights.{In}
 use Rattle.cx_meaning.specs.Control.{assigns_drive, group_drives, groups_drive, groups_in, groups_in_all, groups_of, targets_cell, with_comb}
@@ -18,12 +15,15 @@ use Rattle.cx_design.specs.PlainForms.{form_step, statement_step, plain_componen
 use Rattle.cx_state.specs.declared.tables.InstanceRow.{InstanceRow}
 use Rattle.cx_state.specs.Tables.{IsNumber, IsTable, row_at}
 use Rattle.cx_turns.specs.Islands.{HasPart}
-use Rattle.cx_turns.proofs.PathLemmas.{just_true}
-use Rattle.cx_turns.proofs.StandLemmas.{below_length, same_part}
 use Rattle.cx_eval_cycle.specs.Passes.{listed_in}
 use Rattle.cx_orders.specs.Leaves.{form_drives}
 use Rattle.cx_weave.specs.Marks.{is_marked}
 use Rattle.cx_weave.specs.Strands.{ListDriven}
+use Rattle.cx_text.proofs.BoolLaws.{or_false}
+use Rattle.cx_frames.proofs.ArmLemmas.{groups_joined}
+use Rattle.cx_meaning.proofs.DesignsLemmas.{driver_there, same_part}
+use Rattle.cx_turns.proofs.WithinLemmas.{target_below}
+use Rattle.cx_text.proofs.ListLaws.{there_below}
 
 -- marks upon marks
 pub or_two : (a b m : Bool) → (b || (a || m)) ≡ ((a || b) || m)
@@ -32,22 +32,9 @@ or_two true false m = refl
 or_two false true m = refl
 or_two false false m = refl
 
-pub or_none : (b : Bool) → (b || false) ≡ b
-or_none true = refl
-or_none false = refl
-
-pub or_joined : (a b c : Bool) → ((a || b) || c) ≡ (a || (b || c))
-or_joined true b c = refl
-or_joined false b c = refl
-
--- the cells of more groups
-pub joined_drive : (part : PlainComponent) (gs hs : List ℕ) (c : ℕ) → groups_drive part (gs ++ hs) c ≡ (groups_drive part gs c || groups_drive part hs c)
-joined_drive part [] hs c = refl
-joined_drive part (g ∷ gs) hs c = ap (λ b. group_drives part g c || b) (joined_drive part gs hs c) ∙ sym (or_joined (group_drives part g c) (groups_drive part gs c) (groups_drive part hs c))
-
 pub comb_drives : (part : PlainComponent) (comb : Option ℕ) (gs : List ℕ) (c : ℕ) → groups_drive part (with_comb comb gs) c ≡ (groups_drive part (with_comb comb []) c || groups_drive part gs c)
 comb_drives part None gs c = refl
-comb_drives part (Some g) gs c = ap (λ b. b || groups_drive part gs c) (sym (or_none (group_drives part g c)))
+comb_drives part (Some g) gs c = ap (λ b. b || groups_drive part gs c) (sym (or_false (group_drives part g c)))
 
 -- parts of a seq, or arms of a par
 module _ (part : PlainComponent) (parts : List Statement) (k c : ℕ) (x : Statement) (before now : Bool) where
@@ -59,7 +46,7 @@ module _ (part : PlainComponent) (parts : List Statement) (k c : ℕ) (x : State
       let gr = groups_drive part (groups_in_all (plain_statements (drop (k + 1) parts))) c in
       ap (λ b. gr || b) here
       ∙ or_two gx gr before
-      ∙ ap (λ b. b || before) (sym (ap (λ (xs : List Statement). groups_drive part (groups_in_all (plain_statements xs)) c) parted ∙ joined_drive part (groups_of (plain_statement x)) (groups_in_all (plain_statements (drop (k + 1) parts))) c))
+      ∙ ap (λ b. b || before) (sym (ap (λ (xs : List Statement). groups_drive part (groups_in_all (plain_statements xs)) c) parted ∙ groups_joined part (groups_of (plain_statement x)) (groups_in_all (plain_statements (drop (k + 1) parts))) c))
       ∙ so
 
 -- a group that is not there drives nothing
@@ -80,29 +67,15 @@ pub marks_driven : (d : PlainDesign) (n : ℕ) (form : PlainForm) (old new : Lis
     → ((c : ℕ) → listed_in cells c ≡ is_marked new c) → ListDriven d n cells (λ part. form_drives part form)
 marks_driven d n form old new cells none marked listed path c number =
     let driven = groups_drive (part_of (instance_at (tree_of d) path)) (groups_in form) c in
-    listed c ∙ marked path c number ∙ ap (λ b. driven || b) (none c) ∙ or_none driven
-
--- A CELL THAT IS DRIVEN is one of the cells
-target_within : (i : Instance) (target : PortRef) (c : ℕ) → IsThere i target → targets_cell target c ≡ true → c < length (part_of i).cells
-target_within i (ports.Cell e p) c there t = subst (λ n. n < length (part_of i).cells) (just_true e c t) there.0
-target_within i (ports.Input m) c there t = absurd (let f : false ≡ true = t in cc)
-target_within i (ports.Output m) c there t = absurd (let f : false ≡ true = t in cc)
-target_within i (ports.Done h) c there t = absurd (let f : false ≡ true = t in cc)
-target_within i (ports.Literal w v) c there t = absurd (let f : false ≡ true = t in cc)
+    listed c ∙ marked path c number ∙ ap (λ b. driven || b) (none c) ∙ or_false driven
 
 assigns_within : (i : Instance) (list : List PlainAssign) (c : ℕ) → ((a : PlainAssign) → In list a → IsThere i a.target) → assigns_drive list c ≡ true → c < length (part_of i).cells
 assigns_within i [] c there e = absurd (let f : false ≡ true = e in cc)
 assigns_within i (a ∷ rest) c there e = by (targets_cell a.target c) refl e (assigns_within i rest c (λ x is. there x (inr is)))
   where
     by : (b : Bool) → targets_cell a.target c ≡ b → (b || assigns_drive rest c) ≡ true → (assigns_drive rest c ≡ true → c < length (part_of i).cells) → c < length (part_of i).cells
-    by true t f later = target_within i a.target c (there a (inl refl)) t
+    by true t f later = target_below i a.target c (there a (inl refl)) t
     by false t f later = later f
-
-group_there : (part : PlainComponent) (g c : ℕ) → group_drives part g c ≡ true → g < length part.groups
-group_there part g c e = ⊎_elim
-    (λ (less : g < length part.groups). less)
-    (λ (past : length part.groups ≤ g). absurd (let none : group_drives part g c ≡ false = ap (λ (x : PlainGroup). assigns_drive x.assigns c) (get_or_past part.groups g no_group past) in let f : true ≡ false = sym e ∙ none in cc))
-    (cases_lt g (length part.groups))
 
 module _ (d : PlainDesign) (design : IsDesign d) (rows : List InstanceRow) (children : List ℕ) (table : IsTable d rows children) (n : ℕ) (path : Path) (number : IsNumber d n path) where
   group_within : (g c : ℕ) → group_drives (part_of (instance_at (tree_of d) path)) g c ≡ true → c < length (part_of (instance_at (tree_of d) path)).cells
@@ -110,9 +83,9 @@ module _ (d : PlainDesign) (design : IsDesign d) (rows : List InstanceRow) (chil
       let k = (row_at rows n).component in
       let same : instance_at (tree_of d) path ≡ component_of d k = table.component n path number in
       let part : part_of (component_of d k) ≡ component_at d k = same_part d (length d.components) k in
-      let there : k < length d.components = table.there n (subst (λ m. n < m) (sym table.count) (below_length (paths_of (tree_of d)) n path number)) in
+      let there : k < length d.components = table.there n (subst (λ m. n < m) (sym table.count) (there_below (paths_of (tree_of d)) n path number)) in
       let drives : group_drives (component_at d k) g c ≡ true = subst (λ x. group_drives x g c ≡ true) (ap part_of same ∙ part) e in
-      let found : g < length (component_at d k).groups = group_there (component_at d k) g c drives in
+      let found : g < length (component_at d k).groups = driver_there (component_at d k) g c drives in
       subst (λ (i : Instance). c < length (part_of i).cells) (sym same)
       (assigns_within (component_of d k) (group_at (component_at d k) g).assigns c (λ a is. ((design.components k there).assigns (Some g) a (found, is)).target) drives)
 

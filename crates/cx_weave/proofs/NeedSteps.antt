@@ -1,6 +1,5 @@
 -- What statements need, counted up to a limit.
 use Rattle.std.proofs.Common.{◌≡◌, ℕ, zero, suc, ◌+◌, ◌<◌, ◌≤◌, max, ⊎_elim, List, [], ◌∷◌, ◌++◌, get_or, set, length, drop, Option, Some, None, refl, sym, ap, ◌∙◌, subst, arith}
-use Rattle.std.specs.List.{slice_get}
 use Rattle.std.proofs.Math.Seq.{drop-cons}
 use Rattle.std.proofs.lemmas.Bool.{cases_lt}
 use Rattle.std.proofs.lemmas.List.{get_or-set_same, get_or-set_other}
@@ -13,14 +12,15 @@ use Rattle.cx_meaning.specs.Calls.{called}
 use Rattle.cx_design.specs.declared.statements.Statement.{Statement}
 use Rattle.cx_design.specs.PlainForms.{plain_statement, plain_statements}
 use Rattle.cx_state.specs.Tables.{IsNumber}
-use Rattle.cx_state.proofs.TreeLemmas.{instance_self}
 use Rattle.cx_turns.specs.Children.{IsPart, HasChild, HasControl}
 use Rattle.cx_turns.specs.Groups.{HasLength}
-use Rattle.cx_turns.proofs.ChildLemmas.{child_after, main_first}
+use Rattle.cx_turns.proofs.ChildLemmas.{child_after}
 use Rattle.cx_turns.proofs.Measures.{instance_child}
 use Rattle.cx_weave.specs.declared.needs.Piece.{Piece}
 use Rattle.cx_weave.specs.Rows.{Covers, CoversBehind, CoversFrom}
 use Rattle.cx_weave.specs.Takes.{island_takes, call_takes, called_need, kind_need, control_need, below_need, need, needs, all_needs}
+use Rattle.cx_text.proofs.ListLaws.{there_below}
+use Rattle.cx_meaning.proofs.InstancesLemmas.{here as instance_self, main_first}
 
 pub covers_self : (told n : ℕ) → told ≡ n → Covers told n
 covers_self told n is less = omega (arith, is)
@@ -133,11 +133,6 @@ needs_call d n k g c m control length part has controls path number calls =
     child_is k (cells_of i) c p.0 p.1
     ∙ ap (control_need k) (sym (instance_child (tree_of d) path c p.0 p.1)) ∙ control_is k child ∙ ap (need k child) (sym (controls (path ++ c ∷ []) (has path number))) in
     kind_called k i (below_need k (cells_of i)) g (group_at (part_of i) g).kind (length path number) ∙ ap (called_need k (below_need k (cells_of i))) calls ∙ ap (λ x. call_takes k + x) below
-
-there_below : {A : Type 0} (xs : List A) (n : ℕ) (x : A) → slice_get xs n ≡ Some x → n < length xs
-there_below [] n x e = absurd (let f : ◌≡◌ {A = Option _} None (Some x) = e in cc)
-there_below (y ∷ ys) zero x e = omega arith
-there_below (y ∷ ys) (suc n) x e = (let h = there_below ys n x e in omega (arith, h))
 
 -- A TABLE, filled from its last row
 module _ (d : PlainDesign) (k : Piece) where

@@ -1,5 +1,5 @@
 -- Statements as they are opened, and the strands that show them.
-use Rattle.std.proofs.Common.{◌≡◌, ◌≢◌, ℕ, zero, suc, ◌+◌, ◌<◌, true, false, List, [], ◌∷◌, ◌++◌, length, get_or, take, drop, Option, Some, None, refl, sym, ap, ◌∙◌, subst, append_assoc, arith}
+use Rattle.std.proofs.Common.{◌≡◌, ◌≢◌, ℕ, zero, suc, ◌+◌, ◌<◌, true, List, [], ◌∷◌, ◌++◌, length, get_or, take, drop, Option, Some, None, refl, sym, ap, ◌∙◌, subst, append_assoc, arith}
 use Rattle.std.specs.Prelude.{is_some}
 use Rattle.std.proofs.lemmas.List.{take-append-drop}
 use Rattle.cx_text.specs.declared.places.Place.{Place}
@@ -13,7 +13,6 @@ use Rattle.cx_meaning.specs.Calls.{called}
 use Rattle.cx_meaning.specs.Sights.{In}
 use Rattle.cx_rules.specs.Items.{Dynamic, visit, visit_all}
 use Rattle.cx_rules.specs.StaticControl.{is_island_form}
-use Rattle.cx_rules.proofs.Finite.{in_left, in_right}
 use Rattle.cx_design.specs.declared.statements.Statement.{Statement}
 use Rattle.cx_design.specs.PlainForms.{plain_statement, plain_statements}
 use Rattle.cx_state.specs.Tables.{IsNumber}
@@ -28,6 +27,8 @@ use Rattle.cx_orders.specs.Steps.{seq_left, repeat_left}
 use Rattle.cx_weave.specs.Strands.{PlainStrand, AnIdling, AGroup, AChoice, ATest, AWaiting, ASeq, APar, ARepeat, ACall, one_arm, plain_strand, plain_arms, CallsCell, IsBoth, Shows, ShowsAll}
 use Rattle.cx_weave.specs.Strides.{OpensAs, OpenAs, LeftShown, LeavesAs}
 use Rattle.cx_weave.proofs.PartSteps.{both_shown}
+use Rattle.cx_text.proofs.NumberLaws.{never}
+use Rattle.cx_meaning.proofs.SightsLaws.{in_left, in_right}
 
 -- a form of an instance, as it is opened
 abbrev pub opens : Instance → PlainForm → Open
@@ -67,9 +68,6 @@ enable_opens : (d : PlainDesign) (n g : ℕ) (o : Option ℕ) → HasLength d n 
 enable_opens d n g o length path number calls =
     let i = instance_at (tree_of d) path in
     kind_called i (open_below (cells_of i)) g (group_at (part_of i) g).kind (length path number) ∙ ap (open_called (open_below (cells_of i)) g) calls
-
-never : {A : Type 0} → false ≡ true → A
-never e = absurd (let f : false ≡ true = e in cc)
 
 kind_opens : (i : Instance) (child : ℕ → Open) (g : ℕ) (kind : GroupKind) → is_some (kind_length kind) ≡ true → open_kind i child g kind ≡ open_island (part_of i) (Enable g)
 kind_opens i child g kinds.Plain e = never e

@@ -12,19 +12,13 @@ use Rattle.cx_turns.specs.Children.{HasChild, IsPart}
 use Rattle.cx_turns.specs.Turns as turns
 use Rattle.cx_turns.specs.Turns.{Rested}
 use Rattle.cx_turns.proofs.ChildLemmas.{under_child, put_child}
-use Rattle.cx_turns.proofs.PathLemmas.{under_put, put_put, just_same, just_true}
+use Rattle.cx_turns.proofs.PathLemmas.{under_put, put_put}
 use Rattle.cx_turns.proofs.Measures.{instance_child}
 use Rattle.cx_weave.specs.Deep.{IsDeep, deep, with_one}
 use Rattle.cx_orders.specs.Leaves.{rested}
 use Rattle.cx_weave.specs.Strides.{HasRested}
-
--- below what is no child nothing is idle
-no_child : (cells : Cells) (c e : ℕ) (below : Path) (x : CellState) → ((child : Instance) → cell_at cells c ≡ OfInstance child → ⊥) → idle_below cells c (e ∷ below) x ≡ x
-no_child no_cells c e below x none = refl
-no_child (a_primitive row rest) zero e below x none = refl
-no_child (a_primitive row rest) (suc c) e below x none = no_child rest c e below x none
-no_child (an_instance child rest) zero e below x none = absurd (none child refl)
-no_child (an_instance child rest) (suc c) e below x none = no_child rest c e below x none
+use Rattle.cx_turns.proofs.DriveLemmas.{just_is}
+use Rattle.cx_meaning.proofs.InstancesLemmas.{no_child, just_true}
 
 below_idle : (i : Instance) (c e : ℕ) (below : Path) (x : CellState) → ((child : Instance) → cell_at (cells_of i) c ≡ OfInstance child → ⊥) → idle_at i (c ∷ e ∷ below) x ≡ x
 below_idle (Node part cells) c e below x none = no_child cells c e below x none
@@ -93,16 +87,6 @@ deep_skip below top i s k none = fun_ext at
     at [] = refl
     at (c ∷ []) = refl
     at (c ∷ e ∷ path) = by c e path (nat_eq k c) refl
-
--- A CHILD of which all cells are idle
-just_is : (c q : ℕ) → just c q ≡ nat_eq c q
-just_is c q = by (just c q) refl (nat_eq c q) refl
-  where
-    by : (a : Bool) → just c q ≡ a → (b : Bool) → nat_eq c q ≡ b → just c q ≡ nat_eq c q
-    by true e true f = e ∙ sym f
-    by true e false f = absurd (eqb-false c q f (just_true c q e))
-    by false e true f = absurd (let same : just c q ≡ true = subst (λ m. just c m ≡ true) (eqb-true c q f) (just_same c) in let g : false ≡ true = sym e ∙ same in cc)
-    by false e false f = e ∙ sym f
 
 pub deep_child : (below top : Set) (i : Instance) (s : State) (k : ℕ) (child : Instance) → cell_at (cells_of i) k ≡ OfInstance child → below k ≡ false
     → put k (rested child every_cell (under k (deep below top i s))) (deep below top i s) ≡ deep (with_one k below) top i s

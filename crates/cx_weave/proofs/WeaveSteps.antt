@@ -6,13 +6,11 @@ use Rattle.std.proofs.lemmas.Bool.{cases_lt}
 use Rattle.cx_meaning.specs.Designs.{PlainDesign, PlainStatement}
 use Rattle.cx_meaning.specs.Instances.{Instance, Node, Path, State, start, part_of, instance_at, tree_of}
 use Rattle.cx_meaning.specs.Sights.{Held, unheld}
-use Rattle.cx_limits.specs.Capped.{capped}
 use Rattle.cx_design.specs.declared.actives.PortFault.{PortFault}
+use Rattle.cx_design_sizes.specs.Capped.{capped}
 use Rattle.cx_state.specs.Tables.{IsNumber}
 use Rattle.cx_state.specs.States.{PlainInstance, inputs_held, StandsFor, under_path}
-use Rattle.cx_state.proofs.TreeLemmas.{instance_self}
 use Rattle.cx_turns.specs.Children.{HasControl}
-use Rattle.cx_turns.proofs.ChildLemmas.{main_first}
 use Rattle.cx_weave.specs.declared.strands.Strand.{Strand}
 use Rattle.cx_weave.specs.declared.weaving.Wove.TheVariants.{End, Fault, More}
 use Rattle.cx_orders.specs.Open.{Open, open_control, open_statement}
@@ -23,6 +21,7 @@ use Rattle.cx_weave.specs.Strides.{OpensAs, StepTold, HasStepped}
 use Rattle.cx_orders.specs.Woven as woven
 use Rattle.cx_orders.specs.Woven.{Woven, Choices, leaf_of, then_weave, weave_from, woven, by_list}
 use Rattle.cx_weave.proofs.PartSteps.{leaves_shown}
+use Rattle.cx_meaning.proofs.InstancesLemmas.{here, main_first}
 
 -- a choice of 32 bits names the same leaf where leaves are counted up to a limit
 pub capped_leaf : (choice leaves : ℕ) → choice < 2 ^ 32 → choice % capped leaves ≡ choice % leaves
@@ -47,7 +46,7 @@ pub record WovenSoFar (d : PlainDesign) (words : List (List ℕ)) (choice : Choi
   pub same : woven d words choice steps ≡ weave_from (tree_of d) unheld choice (steps - made) made sum (Some shown) state
 
 main_is : (d : PlainDesign) → instance_at (tree_of d) [] ≡ tree_of d
-main_is d = instance_self (tree_of d)
+main_is d = here (tree_of d)
 
 control_is : (i : Instance) → open_statement i (part_of i).control ≡ open_control i
 control_is (Node part cells) = refl

@@ -13,7 +13,7 @@ use Rattle.cx_rules.specs.Ports.{declared_width}
 use Rattle.cx_design.specs.PlainForms.{plain_form, plain_statement, plain_statements}
 use Rattle.cx_state.specs.Tables.{IsNumber}
 use Rattle.cx_eval_cycle.specs.Passes.{IsAscending, listed_in}
-use Rattle.cx_limits.specs.Capped.{capped}
+use Rattle.cx_design_sizes.specs.Capped.{capped}
 use Rattle.cx_laws.specs.Samples.{Samples, AreKept, form_ifs}
 use Rattle.cx_interp_islands.specs.Rooms.{samples_of}
 use Rattle.cx_turns.specs.Children.{HasChild}

@@ -1,7 +1,7 @@
 //! How many leaves are open.
 
 ghost use Rattle.std.specs.Prelude.{◌≡◌, ◌+◌};
-ghost use Rattle.cx_limits.specs.Capped.{capped};
+ghost use Rattle.cx_design_sizes.specs.Capped.{capped};
 ghost use Rattle.cx_weave.specs.Ledger.{Kind, arms_amount, arms_box_amount};
 ghost use Rattle.cx_weave.specs.Strands.{AreCounted, IsBoth, IsCounted, arms_leaves, plain_arms, plain_strand, strand_leaves};
 

@@ -12,8 +12,8 @@ use crate::driven::driven_cells;
 use crate::spares::{IslandLists, Spares, take_island};
 use crate::strands::{Island, Strand};
 use cx_design::Form;
+use cx_design_sizes::form_length;
 use cx_interp_islands::accepted_islands_are_short;
-use cx_limits::form_length;
 use cx_turns::calls::instance_part;
 use cx_turns::plan::Plan;
 

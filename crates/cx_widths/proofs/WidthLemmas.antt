@@ -18,9 +18,10 @@ use Rattle.cx_rules.specs.Accepted.{Breaks, stage_of, key_of}
 use Rattle.cx_design_parts.specs.Breaks.{Broken, first_of}
 use Rattle.cx_design_parts.specs.Numbered.{numbered}
 use Rattle.cx_design_parts.specs.Answers.{AreBreaks}
-use Rattle.cx_design_parts.proofs.Order.{not_before_itself}
 use Rattle.cx_design_parts.proofs.Lists.{first_append, in_left, in_right, in_either, in_flat, flat_in, in_numbered, numbered_in}
 use Rattle.cx_widths.specs.WidthBreaks.{told_port, port_if, is_bad, literal_break, source_break, target_break, operand_breaks, assign_breaks, condition_breaks, test_breaks, assign_breaks_at, condition_breaks_at, component_breaks, components_breaks, width_breaks}
+use Rattle.cx_text.proofs.BoolLaws.{from_not}
+use Rattle.cx_rules.proofs.KeyOrder.{before_irreflexive}
 
 abbrev broken : Rule → Spot → Place → List ℕ → Broken
 broken r spot place name = record { rule = r; spot = spot; place = place; name = name }
@@ -28,10 +29,6 @@ broken r spot place name = record { rule = r; spot = spot; place = place; name =
 -- what the list tells is a break
 abbrev Holds : PlainDesign → Broken → Type 0
 Holds d b = (stage_of b.rule ≡ 3) × Breaks d b.rule b.spot b.place b.name
-
-from_not : (b : Bool) → not b ≡ true → b ≡ false
-from_not true h = sym h
-from_not false h = refl
 
 told_in : (r : Rule) (i : Instance) (spot : Spot) (place : Place) (port : Option PortRef) (b : Broken) → In (told_port r i spot place port) b
     → (p : PortRef) × (port ≡ Some p) × (broken r spot place (path_of i p) ≡ b)
@@ -330,7 +327,7 @@ pub are_breaks : (d : PlainDesign) → AreBreaks 3 d (width_breaks d)
 are_breaks d = record {
   in_stage = λ b h. (components_hold d 0 (length d.components) b (omega arith) h).0;
   break = λ b h. (components_hold d 0 (length d.components) b (omega arith) h).1;
-  all = λ r spot place name s o. (broken r spot place name, all_breaks d r spot place name s o, not_before_itself (key_of r spot place));
+  all = λ r spot place name s o. (broken r spot place name, all_breaks d r spot place name s o, before_irreflexive (key_of r spot place));
 }
 
 -- one more component is looked at

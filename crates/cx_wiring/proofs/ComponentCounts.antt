@@ -8,7 +8,6 @@ use Rattle.cx_rules.specs.Items.{Dynamic, visit, statements_in}
 use Rattle.cx_rules.specs.Sizes.{assigns_size, groups_size}
 use Rattle.cx_rules.specs.StaticControl.{occurrences_of}
 use Rattle.cx_rules.specs.Wellformed.{IsForm, IsDesign}
-use Rattle.cx_rules.proofs.CircleLemmas.{same_part}
 use Rattle.cx_static.specs.Islands.{PlainIsland, PlainLowered}
 use Rattle.cx_static.specs.Lowering.{timer_cell, unlowered, after, lowered_component, lowered_of}
 use Rattle.cx_wiring.specs.Counts.{wires_of, registers_of}
@@ -26,6 +25,7 @@ use Rattle.cx_wiring.proofs.FitLowering.{lowered_few}
 use Rattle.cx_wiring.proofs.LoweringCounts.{total, all_timers, all_points, all_occurrences, Adds, statement_adds}
 use Rattle.cx_wiring.proofs.ControlCounts.{timed_in, Untimed, Before, lowered_total, samples_are, island_count, control_count}
 use Rattle.cx_wiring.proofs.AssignCounts.{units, AllParts, assigns_wires_few, assigns_count, units_filter, units_order, all_trees_few}
+use Rattle.cx_meaning.proofs.DesignsLemmas.{same_part}
 
 wires_total : (islands : List PlainIsland) → island_wires islands ≡ all_timers islands + all_points islands + all_occurrences islands
 wires_total [] = refl

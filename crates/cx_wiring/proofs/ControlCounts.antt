@@ -7,7 +7,6 @@ use Rattle.cx_meaning.specs.Designs.{PlainComponent, PlainForm, Empty, Enable, S
 use Rattle.cx_meaning.specs.Islands.{group_length, form_length}
 use Rattle.cx_meaning.specs.Sights.{In}
 use Rattle.cx_rules.specs.Items.{Dynamic, Visited, visit, visit_all}
-use Rattle.cx_rules.proofs.Finite.{in_left, in_right}
 use Rattle.cx_net.specs.Nets.{PlainNetDriver}
 use Rattle.cx_static.specs.declared.islands.IslandTimer.{IslandTimer}
 use Rattle.cx_static.specs.Islands.{PlainPoint, PlainOccurrence, PlainIsland}
@@ -17,8 +16,10 @@ use Rattle.cx_wiring.specs.Stands.{Stand, inside, past_test, behind}
 use Rattle.cx_wiring.specs.IslandDrivers.{first_of_island, timer_drivers, point_drivers, occurrence_drivers, island_drivers}
 use Rattle.cx_wiring.specs.Control.{comb_goes, timed_drivers, arm_stand, counted_inside, counting, whole_stand, finishing, form_drivers, drivers_of, parts_drivers, arms_drivers, control_drivers}
 use Rattle.cx_wiring.proofs.CountLaws.{samples_at, samples_in}
-use Rattle.cx_wiring.proofs.FitLemmas.{slice_left, slice_right}
+use Rattle.cx_wiring.proofs.FitLemmas.{slice_right}
 use Rattle.cx_wiring.proofs.LoweringCounts.{total, total-append}
+use Rattle.cx_meaning.proofs.SightsLaws.{in_left, in_right}
+use Rattle.cx_text.proofs.ListLaws.{front}
 
 -- lengths of lists that are put together
 suc_few : (m n : ℕ) → m ≤ n → suc m ≤ suc n
@@ -64,7 +65,7 @@ Before xs ys = (n : ℕ) (x : PlainIsland) → slice_get xs n ≡ Some x → sli
 -- LOWERED CONTROL has each of its islands once
 module _ (part : PlainComponent) where
   island_kept : (form : PlainForm) (l : Lowering) → Before l.islands (with_island part form l).islands
-  island_kept form l n x e = slice_left l.islands (island_of (form_length part form) (island_gathered part form l.cells) ∷ []) n x e
+  island_kept form l n x e = front l.islands (island_of (form_length part form) (island_gathered part form l.cells) ∷ []) n x e
 
   enable_kept : (g : ℕ) (o : Option ℕ) (l : Lowering) → Before l.islands (after_enable part g o l).islands
   enable_kept g None l n x e = e

@@ -14,14 +14,14 @@ use Rattle.cx_meaning.specs.Sights.{In}
 use Rattle.cx_rules.specs.Items.{Context, Dynamic, InStatic, Branch, below_dynamic, Visited, visit, visit_parts, visit_all}
 use Rattle.cx_rules.specs.Ports.{component_of}
 use Rattle.cx_rules.specs.Wellformed.{IsThere, StandsIn, IsWith, IsForm, IsDesign}
-use Rattle.cx_rules.proofs.CircleLemmas.{same_part}
-use Rattle.cx_rules.proofs.Finite.{in_left, in_right}
 use Rattle.cx_rules.proofs.ForeignLemmas.{sorted_among, owned_among, split, groups_among}
 use Rattle.cx_static.specs.Islands.{PlainOccurrence, PlainIsland}
 use Rattle.cx_static.specs.Lowering.{Gathered, Begin, begin_at, later, if_sampled, with_timer, with_point, with_occurrence, form_gathered, gathered, parts_gathered, arms_gathered, island_of, island_gathered, Lowering, with_island, after_enable, lowered_enable, form_after, after, parts_after, lowered_form, lowered, lowered_parts, unlowered, lowered_component}
 use Rattle.cx_wiring.specs.Assignments.{is_driven, driven_assigns}
 use Rattle.cx_wiring.specs.Bounds.{OccurrencesName, IslandsName, CombNames, FormNames, StatementNames, PartsName, TargetNames, AssignsName}
 use Rattle.cx_wiring.specs.Wiring.{groups}
+use Rattle.cx_meaning.proofs.DesignsLemmas.{same_part}
+use Rattle.cx_meaning.proofs.SightsLaws.{in_left, in_right}
 
 occurrences_both : (count : ℕ) (xs ys : List PlainOccurrence) → OccurrencesName count xs → OccurrencesName count ys → OccurrencesName count (xs ++ ys)
 occurrences_both count [] ys some more = more

@@ -10,36 +10,34 @@ use Rattle.cx_wiring.specs.Fitting.{Are, HasFrom, Drives}
 use Rattle.cx_wiring.proofs.FitLemmas.{are_both, from_first, from_later, from_left, from_right}
 use Rattle.cx_wiring.proofs.FitGuards.{one_fits}
 use Rattle.cx_wiring.proofs.TreeDrivers.{pairs_long, PairsFrom, tree_are}
-
-other : {A : Type 0} → false ≡ true → A
-other e = absurd cc
+use Rattle.cx_text.proofs.NumberLaws.{never}
 
 -- targets that the test takes for one are one
 pub same_is_target : (a b : PlainNetTarget) → is_same a b ≡ true → a ≡ b
 same_is_target (ToPort p) (ToPort q) e = ap ToPort (same_is p q e)
-same_is_target (ToPort p) (ToRegister m) e = other e
-same_is_target (ToPort p) (ToWire m) e = other e
-same_is_target (ToPort p) (ToHole m) e = other e
-same_is_target (ToPort p) ToDone e = other e
-same_is_target (ToRegister n) (ToPort q) e = other e
+same_is_target (ToPort p) (ToRegister m) e = never e
+same_is_target (ToPort p) (ToWire m) e = never e
+same_is_target (ToPort p) (ToHole m) e = never e
+same_is_target (ToPort p) ToDone e = never e
+same_is_target (ToRegister n) (ToPort q) e = never e
 same_is_target (ToRegister n) (ToRegister m) e = ap ToRegister (eqb-true n m e)
-same_is_target (ToRegister n) (ToWire m) e = other e
-same_is_target (ToRegister n) (ToHole m) e = other e
-same_is_target (ToRegister n) ToDone e = other e
-same_is_target (ToWire n) (ToPort q) e = other e
-same_is_target (ToWire n) (ToRegister m) e = other e
+same_is_target (ToRegister n) (ToWire m) e = never e
+same_is_target (ToRegister n) (ToHole m) e = never e
+same_is_target (ToRegister n) ToDone e = never e
+same_is_target (ToWire n) (ToPort q) e = never e
+same_is_target (ToWire n) (ToRegister m) e = never e
 same_is_target (ToWire n) (ToWire m) e = ap ToWire (eqb-true n m e)
-same_is_target (ToWire n) (ToHole m) e = other e
-same_is_target (ToWire n) ToDone e = other e
-same_is_target (ToHole n) (ToPort q) e = other e
-same_is_target (ToHole n) (ToRegister m) e = other e
-same_is_target (ToHole n) (ToWire m) e = other e
+same_is_target (ToWire n) (ToHole m) e = never e
+same_is_target (ToWire n) ToDone e = never e
+same_is_target (ToHole n) (ToPort q) e = never e
+same_is_target (ToHole n) (ToRegister m) e = never e
+same_is_target (ToHole n) (ToWire m) e = never e
 same_is_target (ToHole n) (ToHole m) e = ap ToHole (eqb-true n m e)
-same_is_target (ToHole n) ToDone e = other e
-same_is_target ToDone (ToPort q) e = other e
-same_is_target ToDone (ToRegister m) e = other e
-same_is_target ToDone (ToWire m) e = other e
-same_is_target ToDone (ToHole m) e = other e
+same_is_target (ToHole n) ToDone e = never e
+same_is_target ToDone (ToPort q) e = never e
+same_is_target ToDone (ToRegister m) e = never e
+same_is_target ToDone (ToWire m) e = never e
+same_is_target ToDone (ToHole m) e = never e
 same_is_target ToDone ToDone e = refl
 
 -- the order of targets keeps what holds of all drivers

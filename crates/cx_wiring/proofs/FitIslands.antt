@@ -14,8 +14,9 @@ use Rattle.cx_wiring.specs.Stands.{Stand, at}
 use Rattle.cx_wiring.specs.IslandDrivers.{wires_of_island, timer_cell, runs, count, island_done, sample_wire, active_wire, in_range, timer_runs, timer_drivers, begins, in_last_cycle, point_drivers, as_wanted, is_active, offset_from, occurrence_drivers, island_drivers}
 use Rattle.cx_wiring.specs.Wiring.{cell_in}
 use Rattle.cx_wiring.specs.Fitting.{Are, IsTimer, TimerFits, SampleFits, OccurrenceFits, OuterFits, PointFits, IslandFits, Drives}
-use Rattle.cx_wiring.proofs.FitLemmas.{are_both, are_at, there_at, word_width, bit_width, bits_of, timer_port}
+use Rattle.cx_wiring.proofs.FitLemmas.{are_both, are_at, word_width, bit_width, bits_of, timer_port}
 use Rattle.cx_wiring.proofs.FitGuards.{IsBit, AllDrive, one_fits, connects}
+use Rattle.cx_text.proofs.ListLaws.{there_at}
 
 module _ (net : PlainNet) (part : PlainNetComponent) where
   pub hole_width : (n : ℕ) → n < part.holes → target_width net part (ToHole n) ≡ Some 1

@@ -15,17 +15,7 @@ use Rattle.cx_net.specs.Nets.{PlainNetExpr, exprs_of, PlainNetComponent, PlainNe
 use Rattle.cx_net.specs.NetFits.{kind_width, port_width, HasPortWidth, HasWidth, AreBits}
 use Rattle.cx_wiring.specs.Wiring.{kind_in, cell_in}
 use Rattle.cx_wiring.specs.Fitting.{Are, HasFrom, IsTimer}
-
-pub in_joined : {A B : Type 0} (xs ys : List A) (x : A) → In (xs ++ ys) x → (In xs x → B) → (In ys x → B) → B
-in_joined [] ys x i f g = g i
-in_joined (z ∷ xs) ys x (inl e) f g = f (inl e)
-in_joined (z ∷ xs) ys x (inr i) f g = in_joined xs ys x i (λ j. f (inr j)) g
-
--- the number of a member of a list
-pub number_of : {A : Type 0} (xs : List A) (x : A) → In xs x → (n : ℕ) × (slice_get xs n ≡ Some x)
-number_of [] x i = absurd i
-number_of (y ∷ xs) x (inl e) = (0, ap Some e)
-number_of (y ∷ xs) x (inr i) = let r = number_of xs x i in (suc r.0, r.1)
+use Rattle.cx_text.proofs.ListLaws.{front}
 
 module _ {A : Type 0} (P : A → Type 0) where
   pub are_both : (xs ys : List A) → Are P xs → Are P ys → Are P (xs ++ ys)
@@ -51,16 +41,6 @@ module _ {A : Type 0} (P Q : A → Type 0) (more : (x : A) → P x → Q x) wher
   are_more [] h = tt
   are_more (x ∷ xs) h = (more x h.0, are_more xs h.1)
 
-pub there_at : {A : Type 0} (xs : List A) (n : ℕ) → n < length xs → (x : A) × (slice_get xs n ≡ Some x)
-there_at [] n h = absurd (omega arith)
-there_at (x ∷ xs) zero h = (x, refl)
-there_at (x ∷ xs) (suc n) h = there_at xs n (let k : suc n < suc (length xs) = h in omega arith)
-
-pub slice_left : {A : Type 0} (xs ys : List A) (n : ℕ) (x : A) → slice_get xs n ≡ Some x → slice_get (xs ++ ys) n ≡ Some x
-slice_left [] ys n x e = absurd cc
-slice_left (y ∷ xs) ys zero x e = e
-slice_left (y ∷ xs) ys (suc n) x e = slice_left xs ys n x e
-
 pub slice_right : {A : Type 0} (xs ys : List A) (n : ℕ) → slice_get (xs ++ ys) (length xs + n) ≡ slice_get ys n
 slice_right [] ys n = let same : 0 + n ≡ n = omega arith in ap (slice_get ys) same
 slice_right (x ∷ xs) ys n =
@@ -72,11 +52,6 @@ slice_replicate x zero k h = absurd (omega arith)
 slice_replicate x (suc n) zero h = refl
 slice_replicate x (suc n) (suc k) h = slice_replicate x n k (let i : suc k < suc n = h in omega arith)
 
-pub slice_below : {A : Type 0} (xs : List A) (n : ℕ) (x : A) → slice_get xs n ≡ Some x → n < length xs
-slice_below [] n x e = absurd cc
-slice_below (y ∷ xs) zero x e = omega arith
-slice_below (y ∷ xs) (suc n) x e = let h : n < length xs = slice_below xs n x e in omega arith
-
 -- ENTRIES from one on
 module _ (list : List ℕ) where
   pub from_first : (n x : ℕ) (xs : List ℕ) → HasFrom list n (x ∷ xs) → slice_get list n ≡ Some x
@@ -86,7 +61,7 @@ module _ (list : List ℕ) where
   from_later n x xs has i w e = let same : suc n + i ≡ n + suc i = omega arith in ap (slice_get list) same ∙ has (suc i) w e
 
   pub from_left : (n : ℕ) (xs ys : List ℕ) → HasFrom list n (xs ++ ys) → HasFrom list n xs
-  from_left n xs ys has i w e = has i w (slice_left xs ys i w e)
+  from_left n xs ys has i w e = has i w (front xs ys i w e)
 
   pub from_right : (n : ℕ) (xs ys : List ℕ) → HasFrom list n (xs ++ ys) → HasFrom list (n + length xs) ys
   from_right n xs ys has i w e =

@@ -14,7 +14,6 @@ use Rattle.cx_rules.specs.Items.{Context, Dynamic, InStatic, Branch, Visited, vi
 use Rattle.cx_rules.specs.LimitRule.{count_in}
 use Rattle.cx_rules.specs.StaticControl.{is_static, is_in_static, may_stand, is_island, form_has_length}
 use Rattle.cx_rules.specs.Wellformed.{IsForm}
-use Rattle.cx_rules.proofs.Finite.{in_left, in_right}
 use Rattle.cx_control.proofs.StaticLemmas.{static_form}
 use Rattle.cx_net.specs.Nets.{PlainNetComponent, PlainNet}
 use Rattle.cx_net.specs.NetFits.{HasPortWidth}
@@ -23,7 +22,10 @@ use Rattle.cx_static.specs.declared.islands.IslandTimer.{IslandTimer}
 use Rattle.cx_static.specs.Islands.{PlainPoint, PlainOccurrence, PlainIsland}
 use Rattle.cx_static.specs.Lowering.{Gathered, Begin, begin_at, later, sampled, if_sampled, timer_cell, with_timer, with_point, with_occurrence, form_gathered, gathered, parts_gathered, arms_gathered, island_gathered, island_of, Lowering, with_island, after_enable, lowered_enable, form_after, after, parts_after, lowered_form, lowered, lowered_parts}
 use Rattle.cx_wiring.specs.Fitting.{Are, CellFits, IsTimer, OuterFits, TimerFits, SampleFits, OccurrenceFits, PointFits, IslandFits, FormFits, StatementFits, PartsFit}
-use Rattle.cx_wiring.proofs.FitLemmas.{are_both, are_more, slice_left, slice_right}
+use Rattle.cx_wiring.proofs.FitLemmas.{are_both, are_more, slice_right}
+use Rattle.cx_text.proofs.NumberLaws.{false_true}
+use Rattle.cx_meaning.proofs.SightsLaws.{in_left, in_right}
+use Rattle.cx_text.proofs.ListLaws.{front}
 
 factor_some : (c n : ℕ) → 0 < c * n → (1 ≤ n) × (n ≤ c * n)
 factor_some zero n h = absurd (omega (arith, zero-mul n))
@@ -32,9 +34,6 @@ factor_some (suc m) (suc k) h = (omega arith, omega (arith, suc-mul m (suc k)))
 
 timer_row_there : (n : ℕ) → 1 ≤ n → n < 2 ^ 32 → HasRow (record { name = primitives.Timer; numbers = n ∷ [] })
 timer_row_there n some few = subst (λ b. IsSome (if b && nat_lt n (2 ^ 32) then Some (timer_row n) else None)) (sym (le-leb 1 n some)) (subst (λ b. IsSome (if b then Some (timer_row n) else None)) (sym (lt-ltb n (2 ^ 32) few)) refl)
-
-never : false ≡ true → ⊥
-never e = cc
 
 -- the cells of one list stand in another
 abbrev StandIn : List PlainCell → List PlainCell → Type 0
@@ -149,12 +148,12 @@ module _ (net : PlainNet) (npart : PlainNetComponent) (part : PlainComponent) wh
       → Keeps g (with_timer place n outer from to g)
   timer_keeps place n outer from to g fits some few out low high =
       let timer : IslandTimer = record { cell = length g.cells; outer = outer; from = from; to = to } in
-      let stand : StandIn g.cells (g.cells ++ timer_cell place n ∷ []) = λ c cell e. slice_left g.cells (timer_cell place n ∷ []) c cell e in
+      let stand : StandIn g.cells (g.cells ++ timer_cell place n ∷ []) = λ c cell e. front g.cells (timer_cell place n ∷ []) c cell e in
       let more : length g.timers ≤ length (g.timers ++ timer ∷ []) = omega (arith, length-append g.timers (timer ∷ [])) in
       let same : length g.points ≤ length g.points = omega arith in
       record {
         gathers = record {
-          cells = are_both CellFits g.cells (timer_cell place n ∷ []) fits.cells (record { row = timer_row_there n some few; memory = λ e. absurd (never e) }, tt);
+          cells = are_both CellFits g.cells (timer_cell place n ∷ []) fits.cells (record { row = timer_row_there n some few; memory = λ e. absurd (false_true e) }, tt);
           timers = are_both (TimerFits (g.cells ++ timer_cell place n ∷ []) (length (g.timers ++ timer ∷ []))) g.timers (timer ∷ [])
               (timers_in g.cells (g.cells ++ timer_cell place n ∷ []) (length g.timers) (length (g.timers ++ timer ∷ [])) stand more g.timers fits.timers)
               (record { cell = timer_there place n g.cells some few; outer = outer_in (length g.timers) (length (g.timers ++ timer ∷ [])) more outer out; from = low; to = high }, tt);

@@ -41,14 +41,16 @@ use Rattle.cx_wiring.proofs.NumberLemmas.{in_number}
 use Rattle.cx_wiring.proofs.TimerCells.{cells-lowered_component}
 use Rattle.cx_wiring.proofs.WayLemmas.{count_is, part_there, there, placed, net_long}
 use Rattle.cx_wiring.proofs.DesignNames.{control_named, islands_named, assigns_named}
-use Rattle.cx_wiring.proofs.FitLemmas.{are_both, are_at, are_each, are_more, there_at, slice_left, slice_right, slice_replicate, from_whole, in_joined}
-use Rattle.cx_wiring.proofs.OrderHeights.{in_slice, closed, cell_first, stands_at, no_timer}
+use Rattle.cx_wiring.proofs.FitLemmas.{are_both, are_at, are_each, are_more, slice_right, slice_replicate, from_whole}
+use Rattle.cx_wiring.proofs.OrderHeights.{closed, cell_first, stands_at, no_timer}
 use Rattle.cx_wiring.proofs.FitGuards.{IsBit, assigns_fit}
 use Rattle.cx_wiring.proofs.FitControl.{control_fits}
 use Rattle.cx_wiring.proofs.FitBundles.{are_driving, Fits, trees_fit}
 use Rattle.cx_wiring.proofs.FitLowering.{IslandHolds, IslandsHold, IsShort, statement_holds, statement_lowers, lowered_few}
 use Rattle.cx_wiring.proofs.FitPorts.{net, npart, part_back}
 use Rattle.cx_wiring.proofs.FitRules.{statement_fine, groups_last, assigns_fine}
+use Rattle.cx_text.proofs.ListLaws.{there_at, front}
+use Rattle.cx_meaning.proofs.SightsLaws.{of_joined, in_at}
 
 -- the size of a component is no more than that of its design
 pub size_among : (parts : List PlainComponent) (k : ℕ) (part : PlainComponent) → slice_get parts k ≡ Some part → size_of part < sizes_of parts
@@ -89,14 +91,14 @@ module _ (d : PlainDesign) (rules : IsDesign d) (accepted : IsAccepted d) (k : �
 
   -- WIRES: of offsets, of one bit, of trees
   offset_wire : (g : ℕ) → g < length part.groups → slice_get C.wires g ≡ Some 32
-  offset_wire g less = slice_left (plain_wires low) inner g 32 (slice_left wide_wires narrow_wires g 32 (slice_replicate 32 (groups low) g less))
+  offset_wire g less = front (plain_wires low) inner g 32 (front wide_wires narrow_wires g 32 (slice_replicate 32 (groups low) g less))
 
   bit_wire : (n : ℕ) → groups low ≤ n → n < groups low + bits low → slice_get C.wires n ≡ Some 1
   bit_wire n from to =
       let long : length wide_wires ≡ groups low = length-replicate (groups low) 32 in
       let same : n ≡ length wide_wires + (n - groups low) = omega (arith, long) in
       let less : n - groups low < bits low = omega arith in
-      slice_left (plain_wires low) inner n 1
+      front (plain_wires low) inner n 1
       (ap (slice_get (plain_wires low)) same ∙ slice_right wide_wires narrow_wires (n - groups low) ∙ slice_replicate 1 (bits low) (n - groups low) less)
 
   inner_wire : HasFrom C.wires (length (plain_wires low)) inner
@@ -174,7 +176,7 @@ module _ (d : PlainDesign) (rules : IsDesign d) (accepted : IsAccepted d) (k : �
   -- WIDTHS of targets are those that wires of trees have
   cell_component : (cell : PlainCell) (j : ℕ) → In low.part.cells cell → cell.kind ≡ OfComponent j → has_number j (order (lowered_of d)) ≡ true
   cell_component cell j i is =
-      in_joined part.cells (timer_cells part) cell (subst (λ cells. In cells cell) (cells-lowered_component part) i)
+      of_joined part.cells (timer_cells part) cell (subst (λ cells. In cells cell) (cells-lowered_component part) i)
       (λ m. closed d rules k here cell j m is) (λ m. absurd (no_timer d rules k j cell m is))
 
   kind_same : (kind : PlainKind) (p w : ℕ) → ((j : ℕ) → kind ≡ OfComponent j → has_number j (order (lowered_of d)) ≡ true) → fits.kind_width N (kind_in (order (lowered_of d)) kind) p ≡ Some w
@@ -188,7 +190,7 @@ module _ (d : PlainDesign) (rules : IsDesign d) (accepted : IsAccepted d) (k : �
   cell_same : (found : Option PlainCell) (c p w : ℕ) → slice_get low.part.cells c ≡ found → option_and_then (λ cell. fits.kind_width N cell.kind p) (option_map (cell_in (order (lowered_of d))) found) ≡ Some w
       → port_width (lowered_of d) low found p ≡ Some w
   cell_same None c p w is e = absurd cc
-  cell_same (Some cell) c p w is e = kind_same cell.kind p w (λ j same. cell_component cell j (in_slice low.part.cells c cell is) same) e
+  cell_same (Some cell) c p w is e = kind_same cell.kind p w (λ j same. cell_component cell j (in_at low.part.cells c cell is) same) e
 
   some_width : (o : Option ℕ) (w : ℕ) → o ≡ Some w → unwrap_or o 1 ≡ w
   some_width o w e = ap (λ x. unwrap_or x 1) e
@@ -208,7 +210,7 @@ module _ (d : PlainDesign) (rules : IsDesign d) (accepted : IsAccepted d) (k : �
   same_width (ToRegister n) proper before w e = some_width (known_width (lowered_of d) low (ToRegister n)) w e
   same_width (ToWire n) proper before w e =
       let r = there_at (plain_wires low) n before in
-      some_width (known_width (lowered_of d) low (ToWire n)) w (r.1 ∙ sym (slice_left (plain_wires low) inner n r.0 r.1) ∙ e)
+      some_width (known_width (lowered_of d) low (ToWire n)) w (r.1 ∙ sym (front (plain_wires low) inner n r.0 r.1) ∙ e)
   same_width (ToHole n) proper before w e = hole_width (nat_lt n C.holes) w e
   same_width ToDone proper before w e = cc
 
@@ -287,7 +289,7 @@ module _ (d : PlainDesign) (rules : IsDesign d) (accepted : IsAccepted d) (k : �
       let r = cell_from c cell e in
       subst (λ (x : PlainCell). IsFitKind n x.kind) r.2
       (kind_fits r.0.kind (are_at CellFits low.part.cells islands_hold.cells c r.0 r.1).row n
-      (λ j same. in_joined part.cells (timer_cells part) r.0 (subst (λ cells. In cells r.0) (cells-lowered_component part) (in_slice low.part.cells c r.0 r.1))
+      (λ j same. of_joined part.cells (timer_cells part) r.0 (subst (λ cells. In cells r.0) (cells-lowered_component part) (in_at low.part.cells c r.0 r.1))
       (λ m. cell_first d rules n k is r.0 j m same) (λ m. absurd (no_timer d rules k j r.0 m same))))
 
   pub component_externals : (c : ℕ) (cell : PlainCell) → slice_get C.cells c ≡ Some cell → cell.external ≡ true → IsExternalKind cell.kind
@@ -314,7 +316,7 @@ module _ (d : PlainDesign) (rules : IsDesign d) (accepted : IsAccepted d) where
 
   component_fits : (n k : ℕ) → slice_get (order (lowered_of d)) n ≡ Some k → IsFitComponent (net_of (lowered_of d)) n
   component_fits n k is =
-      let here = in_number k (order (lowered_of d)) (in_slice (order (lowered_of d)) n k is) in
+      let here = in_number k (order (lowered_of d)) (in_at (order (lowered_of d)) n k is) in
       let same = stands_at d rules n k is in
       record {
         drivers = subst (λ (c : PlainNetComponent). (m : ℕ) (driver : PlainNetDriver) → slice_get c.drivers m ≡ Some driver → IsFitDriver (net_of (lowered_of d)) c driver) (sym same)

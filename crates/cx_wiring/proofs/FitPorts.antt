@@ -11,13 +11,12 @@ use Rattle.cx_meaning.specs.declared.ports.PortRef.{PortRef}
 use Rattle.cx_meaning.specs.declared.ports.PortRef.TheVariants as ports
 use Rattle.cx_meaning.specs.declared.kinds.PortDecl.{PortDecl}
 use Rattle.cx_meaning.specs.Designs.{PlainKind, OfPrimitive, OfComponent, PlainCell, PlainComponent, PlainDesign, component_at}
-use Rattle.cx_meaning.specs.Instances.{Instance, Cells, At, Nothing, OfRow, OfInstance, part_of, cells_of, cell_at, add_cell, cells_for, tree_within}
+use Rattle.cx_meaning.specs.Instances.{Instance, Cells, At, OfRow, OfInstance, part_of, cells_of, cell_at, add_cell, cells_for, tree_within}
 use Rattle.cx_meaning.specs.Sights.{AnInput, AnOutput, ItsDone, output_port, part_port}
 use Rattle.cx_rules.specs.Ports.{component_of, keeps_literal, declared_width, part_width, cell_width, width_of}
 use Rattle.cx_rules.specs.ShapeRules.{is_hole}
 use Rattle.cx_rules.specs.Wellformed.{IsDesign, IsThere, port_count}
 use Rattle.cx_rules.specs.WidthRules.{IsBadLiteral}
-use Rattle.cx_rules.proofs.CircleLemmas.{same_part}
 use Rattle.cx_net.specs.Nets.{PlainNetComponent, PlainNet}
 use Rattle.cx_net.specs.NetFits.{signature_widths, kind_width, port_width, HasPortWidth}
 use Rattle.cx_static.specs.Lowering.{lowered_component, lowered_of}
@@ -26,11 +25,13 @@ use Rattle.cx_wiring.specs.Wiring.{kind_in, cell_in, net_of}
 use Rattle.cx_wiring.specs.PartNets.{timer_cells, wired_in}
 use Rattle.cx_wiring.proofs.TimerCells.{cells-lowered_component}
 use Rattle.cx_wiring.proofs.WayLemmas.{there, placed}
-use Rattle.cx_wiring.proofs.OrderHeights.{in_slice, closed}
-use Rattle.cx_wiring.proofs.FitLemmas.{there_at, slice_left, slice_right, slice_below}
-
-other : {A : Type 0} → false ≡ true → A
-other e = absurd cc
+use Rattle.cx_wiring.proofs.OrderHeights.{closed}
+use Rattle.cx_wiring.proofs.FitLemmas.{slice_right}
+use Rattle.cx_text.proofs.NumberLaws.{never}
+use Rattle.cx_laws.proofs.TreeLemmas.{cell_there, declared_there}
+use Rattle.cx_meaning.proofs.DesignsLemmas.{same_part}
+use Rattle.cx_meaning.proofs.SightsLaws.{in_at}
+use Rattle.cx_text.proofs.ListLaws.{there_at, front, there_below}
 
 not_less : (a b : ℕ) → nat_lt a b ≡ false → b ≤ a
 not_less a b f = grind (arith, nat_tests)
@@ -77,12 +78,12 @@ signature_at part (suc m) w less e =
         ap (slice_get (tail part)) past ∙ slice_right (widths part.outputs) (1 ∷ []) 0
 
     by_output : (r : ℕ) (b : Bool) → r < suc (length part.outputs) → nat_lt r (length part.outputs) ≡ b → part_width part (if b then AnOutput r else ItsDone) ≡ Some w → slice_get (tail part) r ≡ Some w
-    by_output r true few is f = slice_left (widths part.outputs) (1 ∷ []) r w (slice_widths part.outputs r w f)
+    by_output r true few is f = front (widths part.outputs) (1 ∷ []) r w (slice_widths part.outputs r w f)
     by_output r false few is f = done_at r few is ∙ f
 
     by_input : (b : Bool) → nat_lt m (length part.inputs) ≡ b → part_width part (if b then AnInput m else output_port (length part.outputs) (m - length part.inputs)) ≡ Some w
         → slice_get (widths part.inputs ++ (tail part)) m ≡ Some w
-    by_input true is f = slice_left (widths part.inputs) (tail part) m w (slice_widths part.inputs m w f)
+    by_input true is f = front (widths part.inputs) (tail part) m w (slice_widths part.inputs m w f)
     by_input false is f =
         let long : length (widths part.inputs) ≡ length part.inputs = length-map part.inputs (λ (decl : PortDecl). decl.width) in
         let all : suc m < 2 + length part.inputs + length part.outputs = less in
@@ -96,9 +97,9 @@ signature_at part (suc m) w less e =
 -- LITERALS
 literal_parts : (a b c : Bool) → (a && b && c) ≡ true → (a ≡ true) × (b ≡ true) × (c ≡ true)
 literal_parts true true true e = (refl, refl, refl)
-literal_parts true true false e = other e
-literal_parts true false c e = other e
-literal_parts false b c e = other e
+literal_parts true true false e = never e
+literal_parts true false c e = never e
+literal_parts false b c e = never e
 
 literal_fits : (u v w : ℕ) (b : Bool) → keeps_literal u v ≡ b → (if b then Some u else None) ≡ Some w → IsOfWidth w (record { width = u; value = v })
 literal_fits u v w false keeps e = absurd cc
@@ -147,7 +148,7 @@ module _ (d : PlainDesign) (rules : IsDesign d) (k : ℕ) (here : has_number k (
   cell_is : (c : ℕ) (cell : PlainCell) → slice_get part.cells c ≡ Some cell → slice_get npart.cells c ≡ Some (cell_in places cell)
   cell_is c cell e =
       slice_get-map (cell_in places) (lowered_component part).part.cells c
-      ∙ ap (option_map (cell_in places)) (ap (λ cells. slice_get cells c) (cells-lowered_component part) ∙ slice_left part.cells (timer_cells part) c cell e)
+      ∙ ap (option_map (cell_in places)) (ap (λ cells. slice_get cells c) (cells-lowered_component part) ∙ front part.cells (timer_cells part) c cell e)
 
   kind_wide : (kind : PlainKind) (p w : ℕ) → ((j : ℕ) → kind ≡ OfComponent j → has_number j places ≡ true) → p < port_count (at_kind (tree_within d below_it.0) kind)
       → cell_width (at_kind (tree_within d below_it.0) kind) p ≡ Some w → kind_width net (kind_in places kind) p ≡ Some w
@@ -162,45 +163,36 @@ module _ (d : PlainDesign) (rules : IsDesign d) (k : ℕ) (here : has_number k (
       let r = there_at part.cells c within in
       let at = at_is c r.0 r.1 in
       ap (option_and_then (λ cell. kind_width net cell.kind p)) (cell_is c r.0 r.1)
-      ∙ kind_wide r.0.kind p w (λ j is. closed d rules k here r.0 j (in_slice part.cells c r.0 r.1) is) (subst (λ x. p < port_count x) at less) (subst (λ x. cell_width x p ≡ Some w) at e)
+      ∙ kind_wide r.0.kind p w (λ j is. closed d rules k here r.0 j (in_at part.cells c r.0 r.1) is) (subst (λ x. p < port_count x) at less) (subst (λ x. cell_width x p ≡ Some w) at e)
 
   -- A PORT that is there has its width
   pub port_wide : (p : PortRef) (w : ℕ) → IsThere whole p → is_hole p ≡ false → width_of whole p ≡ Some w → HasPortWidth net npart p w
   port_wide (ports.Cell c p) w is hole e = cell_wide c p w (subst (λ (x : PlainComponent). c < length x.cells) part_is is.0) is.1 e
   port_wide (ports.Input n) w is hole e = subst (λ (x : PlainComponent). declared_width x.inputs n ≡ Some w) part_is e
   port_wide (ports.Output n) w is hole e = subst (λ (x : PlainComponent). declared_width x.outputs n ≡ Some w) part_is e
-  port_wide (ports.Done g) w is hole e = other (sym hole)
+  port_wide (ports.Done g) w is hole e = never (sym hole)
   port_wide (ports.Literal u v) w is hole e = literal_fits u v w (keeps_literal u v) refl e
-
--- WIDTHS ARE KNOWN of what is there
-declared_some : (decls : List PortDecl) (n : ℕ) → n < length decls → (w : ℕ) × (declared_width decls n ≡ Some w)
-declared_some decls n h = let r = there_at decls n h in (r.0.width, ap (option_map (λ (decl : PortDecl). decl.width)) r.1)
 
 part_some : (component : PlainComponent) (p : ℕ) → (w : ℕ) × (part_width component (part_port component p) ≡ Some w)
 part_some component zero = (1, refl)
 part_some component (suc m) = by_input (nat_lt m (length component.inputs)) refl
   where
     by_output : (r : ℕ) (b : Bool) → nat_lt r (length component.outputs) ≡ b → (w : ℕ) × (part_width component (if b then AnOutput r else ItsDone) ≡ Some w)
-    by_output r true is = declared_some component.outputs r (ltb-true r (length component.outputs) is)
+    by_output r true is = declared_there component.outputs r (ltb-true r (length component.outputs) is)
     by_output r false is = (1, refl)
 
     by_input : (b : Bool) → nat_lt m (length component.inputs) ≡ b → (w : ℕ) × (part_width component (if b then AnInput m else output_port (length component.outputs) (m - length component.inputs)) ≡ Some w)
-    by_input true is = declared_some component.inputs m (ltb-true m (length component.inputs) is)
+    by_input true is = declared_there component.inputs m (ltb-true m (length component.inputs) is)
     by_input false is = by_output (m - length component.inputs) (nat_lt (m - length component.inputs) (length component.outputs)) refl
-
-cell_some : (at : At) (p : ℕ) → p < port_count at → (w : ℕ) × (cell_width at p ≡ Some w)
-cell_some Nothing p less = absurd (omega arith)
-cell_some (OfRow row) p less = let r = there_at row.ports p less in (r.0.width, ap (option_map (λ port. port.width)) r.1)
-cell_some (OfInstance child) p less = part_some (part_of child) p
 
 literal_some : (u v : ℕ) (b : Bool) → keeps_literal u v ≡ b → (IsBadLiteral (ports.Literal u v) → ⊥) → (w : ℕ) × ((if b then Some u else None) ≡ Some w)
 literal_some u v true keeps good = (u, refl)
 literal_some u v false keeps good = absurd (good (u, v, refl, keeps))
 
 pub width_some : (i : Instance) (p : PortRef) → IsThere i p → (IsBadLiteral p → ⊥) → (w : ℕ) × (width_of i p ≡ Some w)
-width_some i (ports.Cell c p) is good = cell_some (cell_at (cells_of i) c) p is.1
-width_some i (ports.Input n) is good = declared_some (part_of i).inputs n is
-width_some i (ports.Output n) is good = declared_some (part_of i).outputs n is
+width_some i (ports.Cell c p) is good = cell_there (cell_at (cells_of i) c) p is.1
+width_some i (ports.Input n) is good = declared_there (part_of i).inputs n is
+width_some i (ports.Output n) is good = declared_there (part_of i).outputs n is
 width_some i (ports.Done g) is good = (1, refl)
 width_some i (ports.Literal u v) is good = literal_some u v (keeps_literal u v) refl good
 
@@ -208,7 +200,7 @@ width_some i (ports.Literal u v) is good = literal_some u v (keeps_literal u v) 
 pub part_back : (component : PlainComponent) (p w : ℕ) → slice_get (1 ∷ widths component.inputs ++ widths component.outputs ++ 1 ∷ []) p ≡ Some w → part_width component (part_port component p) ≡ Some w
 part_back component p w e =
     let v = part_some component p in
-    let below : p < length (1 ∷ widths component.inputs ++ widths component.outputs ++ 1 ∷ []) = slice_below (1 ∷ widths component.inputs ++ widths component.outputs ++ 1 ∷ []) p w e in
+    let below : p < length (1 ∷ widths component.inputs ++ widths component.outputs ++ 1 ∷ []) = there_below (1 ∷ widths component.inputs ++ widths component.outputs ++ 1 ∷ []) p w e in
     let inputs : length (widths component.inputs) ≡ length component.inputs = length-map component.inputs (λ (decl : PortDecl). decl.width) in
     let outputs : length (widths component.outputs) ≡ length component.outputs = length-map component.outputs (λ (decl : PortDecl). decl.width) in
     let first : length (1 ∷ widths component.inputs ++ widths component.outputs) ≡ length (1 ∷ widths component.inputs) + length (widths component.outputs) = length-append (1 ∷ widths component.inputs) (widths component.outputs) in

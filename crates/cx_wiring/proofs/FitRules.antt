@@ -26,7 +26,6 @@ use Rattle.cx_rules.specs.Spots.{AnAssign, AStatement}
 use Rattle.cx_rules.specs.StaticControl.{is_island, form_occurrences}
 use Rattle.cx_rules.specs.Wellformed.{IsDesign, IsThere, IsAssign, StandsIn, IsStatement, IsForm}
 use Rattle.cx_rules.specs.WidthRules.{differ, pairs_of, first_unequal, is_wide, first_wide, IsBadLiteral}
-use Rattle.cx_rules.proofs.Finite.{in_left, in_right}
 use Rattle.cx_control.proofs.StaticLemmas.{all_may, static_lasts, group_lasts}
 use Rattle.cx_net.specs.NetFits.{HasPortWidth, target_width}
 use Rattle.cx_static.specs.Islands.{PlainOccurrence, PlainIsland}
@@ -37,13 +36,12 @@ use Rattle.cx_wiring.specs.Bounds.{IsProper}
 use Rattle.cx_wiring.specs.Fitting.{Are, GuardFits, GuardsFit, AssignFits, OwnerFits, OwnedFits}
 use Rattle.cx_wiring.proofs.DesignNames.{in_filter, stands_in}
 use Rattle.cx_wiring.proofs.WayLemmas.{there}
-use Rattle.cx_wiring.proofs.FitLemmas.{number_of, are_each}
+use Rattle.cx_wiring.proofs.FitLemmas.{are_each}
 use Rattle.cx_wiring.proofs.FitIslands.{hole_width}
 use Rattle.cx_wiring.proofs.FitLowering.{Fine, IsShort}
 use Rattle.cx_wiring.proofs.FitPorts.{whole, net, npart, part_is, port_wide, width_some}
-
-other : {A : Type 0} → false ≡ true → A
-other e = absurd cc
+use Rattle.cx_text.proofs.NumberLaws.{never}
+use Rattle.cx_meaning.proofs.SightsLaws.{in_left, in_right, number_in}
 
 -- WIDTHS that do not differ
 no_difference : (v w : ℕ) → differ (Some v) (Some w) ≡ false → v ≡ w
@@ -112,7 +110,7 @@ few_cycles true n e is = less n e
   where
     less : (x : ℕ) → nat_le REPETITIONS x ≡ false → x < 2 ^ 32
     less x f = grind (arith, nat_tests)
-few_cycles false n e is = other is
+few_cycles false n e is = never is
 
 good_range : (n from to : ℕ) → (not (nat_lt from to) || nat_lt n to) ≡ false → n < 2 ^ 32 → (from < 2 ^ 32) × (to < 2 ^ 32)
 good_range n from to e few = by (nat_lt from to) refl (nat_lt n to) refl e
@@ -130,7 +128,7 @@ good_range n from to e few = by (nat_lt from to) refl (nat_lt n to) refl e
 
 -- an occurrence of a group that occurs
 occurs_among_is : (P : PlainOccurrence → Type 0) (g : ℕ) (os : List PlainOccurrence) → Are P os → occurs_among g os ≡ true → (o : PlainOccurrence) × (o.group ≡ g) × P o
-occurs_among_is P g [] all e = other e
+occurs_among_is P g [] all e = never e
 occurs_among_is P g (o ∷ os) all e = by (nat_eq o.group g) refl e (occurs_among_is P g os all.1)
   where
     by : (b : Bool) → nat_eq o.group g ≡ b → (b || occurs_among g os) ≡ true → (occurs_among g os ≡ true → (x : PlainOccurrence) × (x.group ≡ g) × P x) → (x : PlainOccurrence) × (x.group ≡ g) × P x
@@ -138,7 +136,7 @@ occurs_among_is P g (o ∷ os) all e = by (nat_eq o.group g) refl e (occurs_amon
     by false is f later = later f
 
 occurs_is : (P : PlainOccurrence → Type 0) (g : ℕ) (islands : List PlainIsland) → Are (λ island. Are P island.occurrences) islands → occurs_in g islands ≡ true → (o : PlainOccurrence) × (o.group ≡ g) × P o
-occurs_is P g [] all e = other e
+occurs_is P g [] all e = never e
 occurs_is P g (island ∷ islands) all e = by (occurs_among g island.occurrences) refl e (occurs_is P g islands all.1)
   where
     by : (b : Bool) → occurs_among g island.occurrences ≡ b → (b || occurs_in g islands) ≡ true → (occurs_in g islands ≡ true → (x : PlainOccurrence) × (x.group ≡ g) × P x) → (x : PlainOccurrence) × (x.group ≡ g) × P x
@@ -168,7 +166,7 @@ module _ (d : PlainDesign) (rules : IsDesign d) (accepted : IsAccepted d) (k : �
 
     good_test : (p : PlacedPort) → test_in v.form ≡ Some p → IsBadLiteral p.port → ⊥
     good_test p is bad =
-        let n = number_of (statements_in part) v i in
+        let n = number_in (statements_in part) v i in
         accepted.widths told.Literal (record { component = k; part = AStatement n.0 }) p.place [] refl
         (inr (record { within = within; number = n.0; is = refl; statement = v; stands = n.1; breaks = (p, is, bad, (refl, refl)) }))
 
@@ -178,7 +176,7 @@ module _ (d : PlainDesign) (rules : IsDesign d) (accepted : IsAccepted d) (k : �
         by : (b : Bool) → is_wide (whole d rules k here) p.port ≡ b → b ≡ false
         by false e = refl
         by true e =
-            let n = number_of (statements_in part) v i in
+            let n = number_in (statements_in part) v i in
             absurd (accepted.widths told.GuardWidth (record { component = k; part = AStatement n.0 }) v.place (path_of (whole d rules k here) p.port) refl
             (inr (record { within = within; number = n.0; is = refl; statement = v; stands = n.1; breaks = (p, is, e, (refl, refl)) })))
 
@@ -194,7 +192,7 @@ module _ (d : PlainDesign) (rules : IsDesign d) (accepted : IsAccepted d) (k : �
         by : (o : Option Limited) → statement_limit (part_of (whole d rules k here)) v ≡ o → o ≡ None
         by None e = refl
         by (Some limited) e =
-            let n = number_of (statements_in part) v i in
+            let n = number_in (statements_in part) v i in
             absurd (accepted.limits told.Limit (record { component = k; part = AStatement n.0 }) v.place (word_of limited) refl
             (inr (inr (inl (record { within = within; number = n.0; is = refl; statement = v; stands = n.1; breaks = (limited, e, (refl, refl)) })))))
 
@@ -227,7 +225,7 @@ module _ (d : PlainDesign) (rules : IsDesign d) (accepted : IsAccepted d) (k : �
 
     good_source : (p : PlacedPort) → In (sources_of o.assign) p → IsBadLiteral p.port → ⊥
     good_source p j bad =
-        let n = number_of (source_order part) o i in
+        let n = number_in (source_order part) o i in
         accepted.widths told.Literal (record { component = k; part = AnAssign n.0 }) p.place [] refl
         (inl (record { within = within; number = n.0; is = refl; assign = o; stands = n.1; breaks = (p, j, bad, (refl, refl)) }))
 
@@ -237,7 +235,7 @@ module _ (d : PlainDesign) (rules : IsDesign d) (accepted : IsAccepted d) (k : �
         by : (r : Option PortRef) → first_unequal (whole d rules k here) (pairs_of o.assign) ≡ r → r ≡ None
         by None e = refl
         by (Some port) e =
-            let n = number_of (source_order part) o i in
+            let n = number_in (source_order part) o i in
             absurd (accepted.widths told.Width (record { component = k; part = AnAssign n.0 }) o.assign.place (path_of (whole d rules k here) port) refl
             (record { within = within; number = n.0; is = refl; assign = o; stands = n.1; breaks = (port, e, (refl, refl)) }))
 
@@ -247,7 +245,7 @@ module _ (d : PlainDesign) (rules : IsDesign d) (accepted : IsAccepted d) (k : �
         by : (r : Option PortRef) → first_wide (whole d rules k here) (atoms_of o.assign.guard) ≡ r → r ≡ None
         by None e = refl
         by (Some port) e =
-            let n = number_of (source_order part) o i in
+            let n = number_in (source_order part) o i in
             absurd (accepted.widths told.GuardWidth (record { component = k; part = AnAssign n.0 }) o.assign.place (path_of (whole d rules k here) port) refl
             (inl (record { within = within; number = n.0; is = refl; assign = o; stands = n.1; breaks = (port, e, (refl, refl)) })))
 
@@ -257,7 +255,7 @@ module _ (d : PlainDesign) (rules : IsDesign d) (accepted : IsAccepted d) (k : �
         by : (b : Bool) → is_bad_range (owner_length (part_of (whole d rules k here)) o.owner) r ≡ b → b ≡ false
         by false e = refl
         by true e =
-            let n = number_of (source_order part) o i in
+            let n = number_in (source_order part) o i in
             absurd (accepted.shapes told.StaticGuard (record { component = k; part = AnAssign n.0 }) o.assign.place (path_of (whole d rules k here) o.assign.target) refl
             (record { within = within; number = n.0; is = refl; assign = o; stands = n.1; breaks = (r, j, e, (refl, refl)) }))
 
@@ -292,7 +290,7 @@ module _ (d : PlainDesign) (rules : IsDesign d) (accepted : IsAccepted d) (k : �
     -- an input of the signature is no target
     no_input : (n : ℕ) → o.assign.target ≡ ports.Input n → ⊥
     no_input n is =
-        let at = number_of (source_order part) o i in
+        let at = number_in (source_order part) o i in
         accepted.widths told.NotATarget (record { component = k; part = AnAssign at.0 }) o.assign.place (path_of (whole d rules k here) o.assign.target) refl
         (record { within = within; number = at.0; is = refl; assign = o; stands = at.1; breaks = (ap (is_source_only (whole d rules k here)) is, (refl, refl)) })
 
@@ -368,7 +366,7 @@ module _ (d : PlainDesign) (rules : IsDesign d) (accepted : IsAccepted d) (k : �
     timed_drives (kinds.Timed m) occurs n drives is = drives
 
     group_there : (g : ℕ) (occurs : Bool) (found : Option PlainGroup) → slice_get part.groups g ≡ found → kind_drives occurs (option_map (λ (x : PlainGroup). x.kind) found) ≡ true → (n : ℕ) → kind_length (get_or part.groups g no_group).kind ≡ Some n → g < length part.groups → occurs ≡ true
-    group_there g occurs None is drives n long less = other drives
+    group_there g occurs None is drives n long less = never drives
     group_there g occurs (Some x) is drives n long less =
         let same : Some (get_or part.groups g no_group) ≡ Some x = sym (slice_get-get_or part.groups g no_group less) ∙ is in
         let one : get_or part.groups g no_group ≡ x = some_same (get_or part.groups g no_group) x same in
@@ -379,11 +377,11 @@ module _ (d : PlainDesign) (rules : IsDesign d) (accepted : IsAccepted d) (k : �
 
     range_few : (owner : Option ℕ) (r : Range) → OwnerFits (net d rules k here) (npart d rules k here) (length part.groups) owner → owner_drives (lowered_component part) owner ≡ true → is_bad_range (owner_length part owner) r ≡ false
         → (r.from < 2 ^ 32) × (r.to < 2 ^ 32)
-    range_few None r less drives e = other (sym e)
+    range_few None r less drives e = never (sym e)
     range_few (Some g) r less drives e = by (group_length part g) refl e
       where
         by : (long : Option ℕ) → group_length part g ≡ long → is_bad_range long r ≡ false → (r.from < 2 ^ 32) × (r.to < 2 ^ 32)
-        by None is f = other (sym f)
+        by None is f = never (sym f)
         by (Some n) is f =
             good_range n r.from r.to f
             (occurring g n is (group_there g (occurs_in g (lowered_component part).islands) (slice_get part.groups g) refl drives n is less))

@@ -13,9 +13,11 @@ use Rattle.cx_wiring.specs.PartNets.{wired_in}
 use Rattle.cx_wiring.specs.Fitting.{Drives}
 use Rattle.cx_wiring.proofs.NumberLemmas.{in_number}
 use Rattle.cx_wiring.proofs.WayLemmas.{net_long}
-use Rattle.cx_wiring.proofs.FitLemmas.{are_at, there_at}
-use Rattle.cx_wiring.proofs.OrderHeights.{in_slice, stands_at}
+use Rattle.cx_wiring.proofs.FitLemmas.{are_at}
+use Rattle.cx_wiring.proofs.OrderHeights.{stands_at}
 use Rattle.cx_wiring.proofs.FitNets.{component_drives}
+use Rattle.cx_text.proofs.ListLaws.{there_at}
+use Rattle.cx_meaning.proofs.SightsLaws.{in_at}
 
 is_some : (o : Option ℕ) (w : ℕ) → o ≡ Some w → IsSome o
 is_some o w e = subst IsSome (sym e) refl
@@ -24,7 +26,7 @@ module _ (d : PlainDesign) (rules : IsDesign d) (accepted : IsAccepted d) where
   component_targets : (n k : ℕ) → slice_get (order (lowered_of d)) n ≡ Some k → (m : ℕ) (driver : PlainNetDriver) → slice_get (net_component_at (net_of (lowered_of d)) n).drivers m ≡ Some driver
       → IsSome (fits.target_width (net_of (lowered_of d)) (net_component_at (net_of (lowered_of d)) n) driver.target)
   component_targets n k is =
-      let here = in_number k (order (lowered_of d)) (in_slice (order (lowered_of d)) n k is) in
+      let here = in_number k (order (lowered_of d)) (in_at (order (lowered_of d)) n k is) in
       let same = stands_at d rules n k is in
       subst (λ (c : PlainNetComponent). (m : ℕ) (driver : PlainNetDriver) → slice_get c.drivers m ≡ Some driver → IsSome (fits.target_width (net_of (lowered_of d)) c driver.target)) (sym same)
       (λ m driver e.

@@ -1,5 +1,5 @@
 -- In the tree of a net that fits expressions name what is there, and each node of one bit is a node of that width on a path from main.
-use Rattle.std.proofs.Common.{◌≡◌, ℕ, zero, suc, ◌+◌, ◌-◌, ◌<◌, ◌≤◌, ◌==◌, ◌&&◌, Bool, true, false, List, [], ◌∷◌, ◌++◌, length, map, Option, Some, None, option_map, option_and_then, unwrap_or, slice_get, nat_lt, if◌then◌else◌, append_assoc, length-append, IsSome, refl, sym, ap, ◌∙◌, subst, arith}
+use Rattle.std.proofs.Common.{◌≡◌, ℕ, zero, suc, ◌+◌, ◌-◌, ◌<◌, ◌≤◌, ◌==◌, Bool, true, false, List, [], ◌∷◌, ◌++◌, length, map, Option, Some, None, option_map, option_and_then, unwrap_or, slice_get, nat_lt, if◌then◌else◌, append_assoc, length-append, IsSome, refl, sym, ap, ◌∙◌, subst, arith}
 use Rattle.std.specs.Option.{option_map_or}
 use Rattle.std.proofs.lemmas.Bool.{eqb-true, lt-ltb, ltb-true, ltb-false}
 use Rattle.std.proofs.lemmas.List.{length-map}
@@ -22,19 +22,11 @@ use Rattle.cx_net.specs.NetHolds.{Holds, IsWide, RowsAreWide}
 use Rattle.cx_net.specs.NetFits.{target_width, signature_widths, kind_width, HasPortWidth, HasWidth, AreBits, IsFitKind, IsFit}
 use Rattle.cx_net.proofs.DriverLemmas.{at_kind, cell-at, part-within, there-at}
 use Rattle.cx_net.proofs.WidthLaws.{bit_is, values_wide}
-use Rattle.cx_net.proofs.PortWidths.{append-front, append-back}
 use Rattle.cx_wiring.specs.NetNames.{is_named_port, ExprNames, ExprsName, DriversName, TreeNames, CellsName}
 use Rattle.cx_wiring.specs.NetBits.{own_bit, is_bit, is_bit_below}
-
-and_both : (a b : Bool) → (a && b) ≡ true → (a ≡ true) × (b ≡ true)
-and_both true true e = (refl, refl)
-and_both true false e = absurd cc
-and_both false b e = absurd cc
-
-pub some_at : {A : Type 0} (xs : List A) (n : ℕ) → n < length xs → (x : A) × (slice_get xs n ≡ Some x)
-some_at [] n less = absurd (omega arith)
-some_at (x ∷ xs) zero less = (x, refl)
-some_at (x ∷ xs) (suc n) less = some_at xs n (omega arith)
+use Rattle.cx_text.proofs.BoolLaws.{and_both}
+use Rattle.cx_text.proofs.ListLaws.{there_at, append-front, append-back}
+use Rattle.cx_text.proofs.OptionLaws.{some_value as some_of}
 
 -- WHAT STANDS AT A CELL of a component
 abbrev at_option : (ℕ → NetInstance) → Option PlainCell → NetAt
@@ -60,7 +52,7 @@ module _ (part : PlainNetComponent) where
 
   declared : (decls : List PortDecl) (n : ℕ) → n < length decls → slice_get (widths decls) n ≡ Some (decl_width decls n)
   declared decls n less =
-      let d = some_at decls n less in
+      let d = there_at decls n less in
       slice_get-map (λ (d : PortDecl). d.width) decls n ∙ ap (option_map (λ (d : PortDecl). d.width)) d.1 ∙ ap (λ o. Some (unwrap_or (option_map (λ (d : PortDecl). d.width) o) 1)) (sym d.1)
 
   of_input : (n : ℕ) → n < length part.inputs → slice_get (signature_widths part) (suc n) ≡ Some (decl_width part.inputs n)
@@ -121,7 +113,7 @@ module _ (net : PlainNet) (child : ℕ → NetInstance) (parts : (k : ℕ) → n
 
   kind_bit : (k : PlainKind) (p : ℕ) → is_port_of (at_kind child k) p ≡ true → net_at_width (at_kind child k) p ≡ 1 → kind_width net k p ≡ Some 1
   kind_bit (OfPrimitive primitive) p there one =
-      let d = some_at (row_of primitive).ports p (ltb-true p (length (row_of primitive).ports) there) in
+      let d = there_at (row_of primitive).ports p (ltb-true p (length (row_of primitive).ports) there) in
       ap (option_map (λ (port : PortRow). port.width)) d.1 ∙ ap Some (sym (ap (λ o. unwrap_or (option_map (λ (port : PortRow). port.width) o) 1) d.1) ∙ one)
   kind_bit (OfComponent k) p there one =
       let less = ltb-true p (2 + length (net_component_at net k).inputs + length (net_component_at net k).outputs) (sym (ap (λ (x : PlainNetComponent). nat_lt p (2 + length x.inputs + length x.outputs)) (parts k)) ∙ there) in
@@ -175,7 +167,7 @@ module _ (net : PlainNet) (child : ℕ → NetInstance) (parts : (k : ℕ) → n
     -- A NODE OF ONE BIT has that width, and is there
     one_output : (decls : List PortDecl) (n : ℕ) → nat_lt n (length decls) ≡ true → decl_width decls n ≡ 1 → option_map (λ (d : PortDecl). d.width) (slice_get decls n) ≡ Some 1
     one_output decls n there one =
-        let d = some_at decls n (ltb-true n (length decls) there) in
+        let d = there_at decls n (ltb-true n (length decls) there) in
         ap (option_map (λ (x : PortDecl). x.width)) d.1 ∙ ap Some (sym (ap (λ o. unwrap_or (option_map (λ (x : PortDecl). x.width) o) 1) d.1) ∙ one)
 
     bit_wire : (o : Option ℕ) → option_map_or (λ w. w == 1) o false ≡ true → o ≡ Some 1
@@ -223,10 +215,6 @@ bit_below child (x ∷ cells) (suc c) path node e = bit_below child cells c path
     by : (k : PlainKind) → is_bit_below (add_net_cell child k (net_cells_for child cells)) (suc c) path node ≡ is_bit_below (net_cells_for child cells) c path node
     by (OfPrimitive p) = refl
     by (OfComponent k) = refl
-
-some_of : (o : Option ℕ) → IsSome o → (w : ℕ) × (o ≡ Some w)
-some_of None h = absurd cc
-some_of (Some w) h = (w, refl)
 
 -- the target of each driver is there
 abbrev pub TargetsThere : PlainNet → Type 0

@@ -1,25 +1,12 @@
 -- What is gathered of an island, by what each timer, point and occurrence adds.
-use Rattle.std.proofs.Common.{◌≡◌, ℕ, zero, suc, ◌+◌, ◌*◌, ◌<◌, true, false, List, [], ◌∷◌, ◌++◌, length, Option, Some, None, slice_get, refl, ap, ◌∙◌, arith}
+use Rattle.std.proofs.Common.{◌≡◌, ℕ, zero, suc, ◌+◌, ◌*◌, true, false, List, [], ◌∷◌, ◌++◌, length, Option, Some, None, slice_get, refl, ap, ◌∙◌, arith}
 use Rattle.cx_text.specs.declared.places.Place.{Place}
 use Rattle.cx_meaning.specs.declared.ports.PortRef.{PortRef}
 use Rattle.cx_meaning.specs.Designs.{PlainCell, PlainComponent, PlainForm, Empty, Enable, Seq, Par, If, While, Repeat, StaticSeq, StaticPar, StaticIf, StaticRepeat, Timed, PlainStatement, Placed, PlainStatements, no_statements, a_statement}
 use Rattle.cx_meaning.specs.Islands.{group_length, form_length, length_of}
 use Rattle.cx_static.specs.declared.islands.IslandTimer.{IslandTimer}
 use Rattle.cx_static.specs.Lowering.{Gathered, Begin, begin_at, later, if_sampled, timer_cell, with_timer, with_point, with_occurrence, form_gathered, gathered, parts_gathered, arms_gathered, island_gathered}
-use Rattle.cx_wiring.proofs.FitLemmas.{slice_left}
-
-pub get_end : {A : Type 0} (xs : List A) (y : A) → slice_get (xs ++ y ∷ []) (length xs) ≡ Some y
-get_end [] y = refl
-get_end (x ∷ xs) y = get_end xs y
-
-pub get_below : {A : Type 0} (xs : List A) (n : ℕ) (x : A) → slice_get xs n ≡ Some x → n < length xs
-get_below [] n x e = absurd cc
-get_below (y ∷ xs) zero x e = omega arith
-get_below (y ∷ xs) (suc n) x e = let h = get_below xs n x e in omega arith
-
-pub one_more : {A : Type 0} (xs : List A) (y : A) → length (xs ++ y ∷ []) ≡ suc (length xs)
-one_more [] y = refl
-one_more (x ∷ xs) y = ap suc (one_more xs y)
+use Rattle.cx_text.proofs.ListLaws.{get_end, snoc_length, front}
 
 -- of a list with one more, an element is an earlier one or the last
 pub data IsFound {A : Type 0} (xs : List A) (y : A) (n : ℕ) (x : A) : Type 0 where
@@ -86,8 +73,8 @@ pub record AreAligned (base : ℕ) (g : Gathered) : Type 0 where
 pub timer_aligned : (base p : ℕ) (outer : Option ℕ) (from to : ℕ) (place : Place) (g : Gathered) → AreAligned base g → AreAligned base (with_timer place p outer from to g)
 timer_aligned base p outer from to place g b =
     let cells : length g.cells ≡ base + length g.timers = b.cells in
-    let more : length (g.cells ++ timer_cell place p ∷ []) ≡ suc (length g.cells) = one_more g.cells (timer_cell place p) in
-    let also : length (g.timers ++ record { cell = length g.cells; outer = outer; from = from; to = to } ∷ []) ≡ suc (length g.timers) = one_more g.timers (record { cell = length g.cells; outer = outer; from = from; to = to }) in
+    let more : length (g.cells ++ timer_cell place p ∷ []) ≡ suc (length g.cells) = snoc_length g.cells (timer_cell place p) in
+    let also : length (g.timers ++ record { cell = length g.cells; outer = outer; from = from; to = to } ∷ []) ≡ suc (length g.timers) = snoc_length g.timers (record { cell = length g.cells; outer = outer; from = from; to = to }) in
     record { cells = omega arith; timers = λ t timer e. one t timer (found g.timers (record { cell = length g.cells; outer = outer; from = from; to = to }) t timer e) }
   where
     one : (t : ℕ) (timer : IslandTimer) → IsFound g.timers (record { cell = length g.cells; outer = outer; from = from; to = to }) t timer → timer.cell ≡ base + t
@@ -112,11 +99,11 @@ module _ (part : PlainComponent) where
 
   pub gathered_keeps : (cells : List PlainCell) (form : PlainForm) (x : Begin) (g : Gathered) → KeepCells cells g → KeepCells cells (form_gathered part form x g)
   gathered_keeps cells form x g h =
-      form_grows part (KeepCells cells) (λ p outer from to k b c cell e. slice_left k.cells (timer_cell part.place p ∷ []) c cell (b c cell e)) (λ port y k b. b) (λ group y n k b. b) form x g h
+      form_grows part (KeepCells cells) (λ p outer from to k b c cell e. front k.cells (timer_cell part.place p ∷ []) c cell (b c cell e)) (λ port y k b. b) (λ group y n k b. b) form x g h
 
   pub island_keeps : (form : PlainForm) (cells : List PlainCell) → KeepCells cells (island_gathered part form cells)
   island_keeps form cells =
-      gathered_keeps cells form (begin_at 0 0 []) _ (λ c cell e. slice_left cells (timer_cell part.place (form_length part form) ∷ []) c cell e)
+      gathered_keeps cells form (begin_at 0 0 []) _ (λ c cell e. front cells (timer_cell part.place (form_length part form) ∷ []) c cell e)
 
   -- THE CELL of each timer is that of a timer
   abbrev pub TimersThere : Gathered → Type 0
@@ -126,7 +113,7 @@ module _ (part : PlainComponent) where
   timer_there p outer from to g h t timer e = one (found g.timers (record { cell = length g.cells; outer = outer; from = from; to = to }) t timer e)
     where
       one : IsFound g.timers (record { cell = length g.cells; outer = outer; from = from; to = to }) t timer → (q : ℕ) × (slice_get (g.cells ++ timer_cell part.place p ∷ []) timer.cell ≡ Some (timer_cell part.place q))
-      one (earlier f) = let k = h t timer f in (k.0, slice_left g.cells (timer_cell part.place p ∷ []) timer.cell (timer_cell part.place k.0) k.1)
+      one (earlier f) = let k = h t timer f in (k.0, front g.cells (timer_cell part.place p ∷ []) timer.cell (timer_cell part.place k.0) k.1)
       one (last f same) = (p, ap (λ (z : IslandTimer). slice_get (g.cells ++ timer_cell part.place p ∷ []) z.cell) same ∙ get_end g.cells (timer_cell part.place p))
 
   pub island_there : (form : PlainForm) (cells : List PlainCell) → TimersThere (island_gathered part form cells)

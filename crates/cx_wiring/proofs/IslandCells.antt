@@ -8,10 +8,10 @@ use Rattle.cx_static.specs.declared.islands.Sample.{Sample}
 use Rattle.cx_static.specs.Islands.{PlainPoint, PlainOccurrence, PlainIsland}
 use Rattle.cx_text.specs.declared.places.Place.{Place}
 use Rattle.cx_static.specs.Lowering.{Gathered, timer_cell, Lowering, island_gathered, island_of, with_island, after_enable, form_after, after, parts_after, unlowered, lowered_component}
-use Rattle.cx_wiring.proofs.GatherLaws.{get_below, IsFound, earlier, last, found, island_aligned, island_keeps, island_there}
+use Rattle.cx_wiring.proofs.GatherLaws.{IsFound, earlier, last, found, island_aligned, island_keeps, island_there}
 use Rattle.cx_wiring.specs.TimerCounts.{kind_cycles}
 use Rattle.cx_wiring.proofs.ListedLaws.{HasTimer, FormRepeats, TimerFits, AreListed, island_listed, first_has, island_runs}
-use Rattle.cx_wiring.proofs.FitLemmas.{slice_left}
+use Rattle.cx_text.proofs.ListLaws.{there_below, front}
 
 -- the timers of the first islands
 abbrev pub timers_before : List PlainIsland → ℕ → ℕ
@@ -60,7 +60,7 @@ apart a b islands h k j one other is also less t u timer late at there =
     let c : timer.cell ≡ a + timers_before islands k + t = cell_stands a b islands h k one is t timer at in
     let d : late.cell ≡ a + timers_before islands j + u = cell_stands a b islands h j other also u late there in
     let e : timers_before islands k + length one.timers ≤ timers_before islands j = before_later islands k j one is less in
-    let f : t < length one.timers = get_below one.timers t timer at in omega arith
+    let f : t < length one.timers = there_below one.timers t timer at in omega arith
 
 -- WHAT EACH ISLAND KEEPS all of control keeps
 module _ (part : PlainComponent) (Q : Lowering → Type 0) (of_island : (form : PlainForm) (l : Lowering) → Q l → Q (with_island part form l)) where
@@ -105,7 +105,7 @@ pub record IsMade (part : PlainComponent) (l : Lowering) (island : PlainIsland) 
 module _ (part : PlainComponent) where
   island_before : (first : Lowering) (form : PlainForm) (l : Lowering) → IsBefore first l → IsBefore first (with_island part form l)
   island_before first form l b = record {
-    islands = λ k island e. slice_left l.islands (island_of (form_length part form) (island_gathered part form l.cells) ∷ []) k island (b.islands k island e);
+    islands = λ k island e. front l.islands (island_of (form_length part form) (island_gathered part form l.cells) ∷ []) k island (b.islands k island e);
     cells = λ c cell e. island_keeps part form l.cells c cell (b.cells c cell e);
   }
 

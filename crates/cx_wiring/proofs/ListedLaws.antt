@@ -9,8 +9,8 @@ use Rattle.cx_static.specs.declared.islands.Sample.{Sample}
 use Rattle.cx_static.specs.declared.islands.IslandTimer.{IslandTimer}
 use Rattle.cx_static.specs.Islands.{PlainPoint, PlainOccurrence}
 use Rattle.cx_static.specs.Lowering.{Gathered, Begin, begin_at, later, if_sampled, timer_cell, with_timer, with_point, with_occurrence, form_gathered, gathered, parts_gathered, arms_gathered, island_gathered}
-use Rattle.cx_wiring.proofs.GatherLaws.{get_end, get_below, one_more, IsFound, earlier, last, found, form_grows, grows}
-use Rattle.cx_wiring.proofs.FitLemmas.{slice_left}
+use Rattle.cx_wiring.proofs.GatherLaws.{IsFound, earlier, last, found, form_grows, grows}
+use Rattle.cx_text.proofs.ListLaws.{get_end, there_below, snoc_length, front}
 
 in_more : (xs : List Sample) (y s : Sample) → In (xs ++ y ∷ []) s → In xs s ⊎ (y ≡ s)
 in_more [] y s (inl e) = inr e
@@ -39,8 +39,8 @@ module _ (part : PlainComponent) where
   has_timer : (p : ℕ) (outer : Option ℕ) (from to : ℕ) (g : Gathered) (n q : ℕ) → HasTimer g n q → HasTimer (with_timer part.place p outer from to g) n q
   has_timer p outer from to g n q h = record {
     timer = h.timer;
-    listed = slice_left g.timers (record { cell = length g.cells; outer = outer; from = from; to = to } ∷ []) n h.timer h.listed;
-    cell = slice_left g.cells (timer_cell part.place p ∷ []) (HasTimer.timer h).cell (timer_cell part.place q) h.cell;
+    listed = front g.timers (record { cell = length g.cells; outer = outer; from = from; to = to } ∷ []) n h.timer h.listed;
+    cell = front g.cells (timer_cell part.place p ∷ []) (HasTimer.timer h).cell (timer_cell part.place q) h.cell;
   }
 
   begins_timer : (x : Begin) (n p : ℕ) (outer : Option ℕ) (from to : ℕ) (g : Gathered) → Begins x n g → Begins x n (with_timer part.place p outer from to g)
@@ -52,7 +52,7 @@ module _ (part : PlainComponent) where
     timer = record { timer = (HasTimer.timer (Begins.timer h)); listed = HasTimer.listed (Begins.timer h); cell = HasTimer.cell (Begins.timer h) };
     within = h.within;
     samples = λ s i. let k : s.point < length g.points = h.samples s i in
-        let more : length (g.points ++ record { port = port; timer = y.timer; at = y.at; samples = y.samples } ∷ []) ≡ suc (length g.points) = one_more g.points (record { port = port; timer = y.timer; at = y.at; samples = y.samples }) in omega arith;
+        let more : length (g.points ++ record { port = port; timer = y.timer; at = y.at; samples = y.samples } ∷ []) ≡ suc (length g.points) = snoc_length g.points (record { port = port; timer = y.timer; at = y.at; samples = y.samples }) in omega arith;
   }
 
   begins_occurrence : (x : Begin) (n : ℕ) (group : ℕ) (y : Begin) (m : ℕ) (g : Gathered) → Begins x n g → Begins x n (with_occurrence group y (Some m) g)
@@ -90,7 +90,7 @@ module _ (part : PlainComponent) where
       by : (s : Sample) → In x.samples s ⊎ (record { point = length g.points; wanted = wanted } ≡ s) → (In x.samples s → s.point < length (with_point port x g).points) → s.point < length (with_point port x g).points
       by s (inl i) old = old i
       by s (inr e) old =
-          let more : length (g.points ++ record { port = port; timer = x.timer; at = x.at; samples = x.samples } ∷ []) ≡ suc (length g.points) = one_more g.points (record { port = port; timer = x.timer; at = x.at; samples = x.samples }) in
+          let more : length (g.points ++ record { port = port; timer = x.timer; at = x.at; samples = x.samples } ∷ []) ≡ suc (length g.points) = snoc_length g.points (record { port = port; timer = x.timer; at = x.at; samples = x.samples }) in
           let same : length g.points ≡ s.point = ap (λ (z : Sample). z.point) e in omega arith
 
   -- of each static repeat, its count and the cycles of its body
@@ -208,7 +208,7 @@ module _ (part : PlainComponent) where
   fits_still p by from to g n timer outer h = record {
     before = h.before;
     own = h.own;
-    own_cell = slice_left g.cells (timer_cell part.place p ∷ []) timer.cell (timer_cell part.place h.own) h.own_cell;
+    own_cell = front g.cells (timer_cell part.place p ∷ []) timer.cell (timer_cell part.place h.own) h.own_cell;
     rounds = h.rounds;
     whole = h.whole;
     around = h.around;
@@ -218,7 +218,7 @@ module _ (part : PlainComponent) where
 
   listed_timer : (x : Begin) (p count : ℕ) (g : Gathered) → Unit {0} → Begins x (count * p) g → AreListed g → AreListed (with_timer part.place p (Some x.timer) x.at (x.at + count * p) g)
   listed_timer x p count g any b h =
-      let more : length (with_timer part.place p (Some x.timer) x.at (x.at + count * p) g).timers ≡ suc (length g.timers) = one_more g.timers (record { cell = length g.cells; outer = Some x.timer; from = x.at; to = x.at + count * p }) in
+      let more : length (with_timer part.place p (Some x.timer) x.at (x.at + count * p) g).timers ≡ suc (length g.timers) = snoc_length g.timers (record { cell = length g.cells; outer = Some x.timer; from = x.at; to = x.at + count * p }) in
       let some : 0 < length g.timers = h.some in
       record {
         some = omega arith;
@@ -237,7 +237,7 @@ module _ (part : PlainComponent) where
       inside n timer later (earlier f) = let k = h.within n timer f later in (k.0, k.1, fits_still p (Some x.timer) x.at (x.at + count * p) g n timer k.0 k.2)
       inside n timer later (last f same) =
           let t : HasTimer g x.timer b.cycles = b.timer in
-          let below : x.timer < length g.timers = get_below g.timers x.timer t.timer t.listed in (
+          let below : x.timer < length g.timers = there_below g.timers x.timer t.timer t.listed in (
             x.timer,
             ap (λ (z : IslandTimer). z.outer) same,
             record {
@@ -254,7 +254,7 @@ module _ (part : PlainComponent) where
 
   listed_point : (x : Begin) (n : ℕ) (port : PortRef) (g : Gathered) → Begins x n g → AreListed g → AreListed (with_point port x g)
   listed_point x n port g b h =
-      let more : length (with_point port x g).points ≡ suc (length g.points) = one_more g.points (record { port = port; timer = x.timer; at = x.at; samples = x.samples }) in
+      let more : length (with_point port x g).points ≡ suc (length g.points) = snoc_length g.points (record { port = port; timer = x.timer; at = x.at; samples = x.samples }) in
       record {
         some = h.some;
         first = h.first;
@@ -268,7 +268,7 @@ module _ (part : PlainComponent) where
       one m q (earlier f) = h.points m q f
       one m q (last f same) =
           let t : HasTimer g x.timer b.cycles = b.timer in
-          let below : x.timer < length g.timers = get_below g.timers x.timer t.timer t.listed in
+          let below : x.timer < length g.timers = there_below g.timers x.timer t.timer t.listed in
           let timer : q.timer ≡ x.timer = ap (λ (z : PlainPoint). z.timer) same in
           (omega arith, λ s i. let l : s.point < length g.points = b.samples s (subst (λ (z : PlainPoint). In z.samples s) same i) in omega arith)
 
@@ -286,7 +286,7 @@ module _ (part : PlainComponent) where
       one m o (earlier f) = h.occurrences m o f
       one m o (last f same) =
           let t : HasTimer g x.timer b.cycles = b.timer in
-          let below : x.timer < length g.timers = get_below g.timers x.timer t.timer t.listed in
+          let below : x.timer < length g.timers = there_below g.timers x.timer t.timer t.listed in
           let timer : o.timer ≡ x.timer = ap (λ (z : PlainOccurrence). z.timer) same in
           (omega arith, λ s i. b.samples s (subst (λ (z : PlainOccurrence). In z.samples s) same i))
 

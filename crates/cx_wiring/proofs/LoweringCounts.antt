@@ -5,11 +5,13 @@ use Rattle.std.specs.Prelude.{is_some}
 use Rattle.cx_text.specs.declared.places.Place.{Place}
 use Rattle.cx_meaning.specs.Designs.{PlainCell, PlainComponent, PlainForm, Empty, Enable, Seq, Par, If, While, Repeat, StaticSeq, StaticPar, StaticIf, StaticRepeat, Timed, PlainStatement, Placed, PlainStatements, no_statements, a_statement}
 use Rattle.cx_meaning.specs.Islands.{group_length, form_length, length_of}
-use Rattle.cx_rules.specs.Items.{Context, Dynamic, InStatic, Branch, Visited, visit, visit_all}
+use Rattle.cx_rules.specs.Items.{Context, Dynamic, InStatic, Branch, visit, visit_all}
 use Rattle.cx_rules.specs.StaticControl.{one_if, is_island, form_occurrences, occurrences, occurrences_in, island_occurrences, occurrences_of}
 use Rattle.cx_static.specs.declared.islands.IslandTimer.{IslandTimer}
 use Rattle.cx_static.specs.Islands.{PlainPoint, PlainOccurrence, PlainIsland}
 use Rattle.cx_static.specs.Lowering.{Gathered, Begin, begin_at, later, if_sampled, timer_cell, with_timer, with_point, with_occurrence, form_gathered, gathered, parts_gathered, arms_gathered, island_gathered, island_of, Lowering, with_island, after_enable, form_after, after, parts_after}
+use Rattle.cx_rules.proofs.StaticControlLemmas.{occurrences_of-append}
+use Rattle.cx_text.proofs.NumberLaws.{times_none, times_one}
 
 -- SUMS
 abbrev pub cells_cost : (PlainCell → ℕ) → List PlainCell → ℕ
@@ -37,21 +39,9 @@ all_points = total (λ i. length i.points)
 abbrev pub all_occurrences : List PlainIsland → ℕ
 all_occurrences = total (λ i. length i.occurrences)
 
-pub occurrences_of-append : (part : PlainComponent) (vs ws : List Visited) → occurrences_of part (vs ++ ws) ≡ occurrences_of part vs + occurrences_of part ws
-occurrences_of-append part [] ws = omega arith
-occurrences_of-append part (v ∷ vs) ws = let h : occurrences_of part (vs ++ ws) ≡ occurrences_of part vs + occurrences_of part ws = occurrences_of-append part vs ws in omega arith
-
 times_both : (e m a b : ℕ) → m ≡ a + b → e * m ≡ e * a + e * b
 times_both zero m a b h = omega (arith, zero-mul m, zero-mul a, zero-mul b)
 times_both (suc e) m a b h = let k : e * m ≡ e * a + e * b = times_both e m a b h in omega (arith, suc-mul e m, suc-mul e a, suc-mul e b, h)
-
-pub times_none : (e : ℕ) → e * 0 ≡ 0
-times_none zero = omega (arith, zero-mul 0)
-times_none (suc e) = let h : e * 0 ≡ 0 = times_none e in omega (arith, suc-mul e 0)
-
-times_one : (e : ℕ) → e * 1 ≡ e
-times_one zero = omega (arith, zero-mul 1)
-times_one (suc e) = let h : e * 1 ≡ e = times_one e in omega (arith, suc-mul e 1)
 
 -- cells, of which each timer costs so much at most
 module _ (part : PlainComponent) (cost : PlainCell → ℕ) (each : ℕ) (timer_cost : (place : Place) (n : ℕ) → cost (timer_cell place n) ≤ each) where

@@ -15,14 +15,8 @@ use Rattle.cx_static.specs.Lowering.{lowered_component, lowered_of}
 use Rattle.cx_wiring.proofs.ExternalLaws.{rows_of-lowered_component}
 use Rattle.cx_wiring.specs.Reached.{numbers_from, has_number, place_in, below, reached_from, highest, height_of, count, height, reached, order}
 use Rattle.cx_wiring.specs.Wiring.{kind_in, cell_in, net_component, net_of}
-
-or_map : (a b c : Bool) → (b ≡ true → c ≡ true) → (a || b) ≡ true → (a || c) ≡ true
-or_map true b c more h = refl
-or_map false b c more h = more h
-
-pub or_right : (a b : Bool) → b ≡ true → (a || b) ≡ true
-or_right true b h = refl
-or_right false b h = h
+use Rattle.std.proofs.lemmas.Bool.{or_right}
+use Rattle.cx_text.proofs.BoolLaws.{or_second}
 
 -- whether a number is another one
 abbrev pub Tells : ℕ → ℕ → Type 0
@@ -31,7 +25,7 @@ Tells k x = ((nat_eq k x ≡ true) × (k ≡ x)) ⊎ ((nat_eq k x ≡ false) × 
 module _ (k : ℕ) where
   pub number_left : (xs ys : List ℕ) → has_number k xs ≡ true → has_number k (xs ++ ys) ≡ true
   number_left [] ys h = absurd (cc)
-  number_left (x ∷ xs) ys h = or_map (nat_eq k x) (has_number k xs) (has_number k (xs ++ ys)) (number_left xs ys) h
+  number_left (x ∷ xs) ys h = or_second (nat_eq k x) (has_number k xs) (has_number k (xs ++ ys)) (number_left xs ys) h
 
   pub number_right : (xs ys : List ℕ) → has_number k ys ≡ true → has_number k (xs ++ ys) ≡ true
   number_right [] ys h = h
@@ -48,7 +42,7 @@ module _ (k : ℕ) where
 
   filter_one : (p : ℕ → Bool) (x : ℕ) (xs : List ℕ) (b : Bool) → p x ≡ b → Tells k x → p k ≡ true → (has_number k xs ≡ true → has_number k (filter p xs) ≡ true) → has_number k (x ∷ xs) ≡ true
       → has_number k (cond b (x ∷ filter p xs) (filter p xs)) ≡ true
-  filter_one p x xs true is s passes later h = or_map (nat_eq k x) (has_number k xs) (has_number k (filter p xs)) later h
+  filter_one p x xs true is s passes later h = or_second (nat_eq k x) (has_number k xs) (has_number k (filter p xs)) later h
   filter_one p x xs false is (inl e) passes later h = let same = ap p e.1 in absurd (cc)
   filter_one p x xs false is (inr e) passes later h = later (ap (λ b. b || has_number k xs) (sym e.0) ∙ h)
 
@@ -58,7 +52,7 @@ module _ (k : ℕ) where
   number_filter p (x ∷ xs) passes h = filter_one p x xs (p x) refl (eqb_tells k x) passes (number_filter p xs passes) h
 
   one_filter : (x : ℕ) (xs ys : List ℕ) (b : Bool) → (has_number k ys ≡ true → has_number k xs ≡ true) → has_number k (cond b (x ∷ ys) ys) ≡ true → has_number k (x ∷ xs) ≡ true
-  one_filter x xs ys true later h = or_map (nat_eq k x) (has_number k ys) (has_number k xs) later h
+  one_filter x xs ys true later h = or_second (nat_eq k x) (has_number k ys) (has_number k xs) later h
   one_filter x xs ys false later h = or_right (nat_eq k x) (has_number k xs) (later h)
 
   filter_number : (p : ℕ → Bool) (xs : List ℕ) → has_number k (filter p xs) ≡ true → has_number k xs ≡ true

@@ -13,9 +13,9 @@ use Rattle.cx_wiring.specs.Wiring.{net_of}
 use Rattle.cx_wiring.proofs.MainLaws.{Tells, order_main}
 use Rattle.cx_wiring.proofs.NumberLemmas.{number_in, in_number}
 use Rattle.cx_wiring.proofs.WayLemmas.{count_is, there, net_long}
-use Rattle.cx_wiring.proofs.FitLemmas.{in_joined}
 use Rattle.cx_wiring.proofs.DesignNames.{in_filter}
 use Rattle.cx_wiring.proofs.OrderHeights.{in_flat_map, NoneLower, AreOf, Ascends, level, level_of, none_in, levels_none, order_ascends, cell_below, closed, lower, from_main}
+use Rattle.cx_meaning.proofs.SightsLaws.{of_joined}
 
 -- DISTINCT numbers
 from_least : (a n x : ℕ) → In (numbers_from a n) x → a ≤ x
@@ -38,7 +38,7 @@ distinct_filter p (x ∷ xs) apart = one (p x) (distinct_filter p xs apart.1)
 distinct_both : (xs ys : List ℕ) → Distinct xs → Distinct ys → ((x : ℕ) → In xs x → In ys x → ⊥) → Distinct (xs ++ ys)
 distinct_both [] ys first second apart = second
 distinct_both (x ∷ xs) ys first second apart =
-    (λ i. in_joined xs ys x i first.0 (λ j. apart x (inl refl) j), distinct_both xs ys first.1 second (λ y i j. apart y (inr i) j))
+    (λ i. of_joined xs ys x i first.0 (λ j. apart x (inl refl) j), distinct_both xs ys first.1 second (λ y i j. apart y (inr i) j))
 
 module _ (d : PlainLowereds) where
   of_height : (h : ℕ) (xs : List ℕ) (x : ℕ) → AreOf d h xs → In xs x → height d x ≡ h

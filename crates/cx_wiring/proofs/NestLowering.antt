@@ -6,13 +6,13 @@ use Rattle.cx_meaning.specs.Designs.{PlainComponent, PlainForm, Empty, Enable, S
 use Rattle.cx_meaning.specs.Islands.{group_length, form_length, length_of}
 use Rattle.cx_meaning.specs.Sights.{In}
 use Rattle.cx_rules.specs.Items.{Context, Dynamic, InStatic, Branch, Visited, visit, visit_all, test_in}
-use Rattle.cx_rules.proofs.Finite.{in_left, in_right}
 use Rattle.cx_net.specs.NetLimits.{IsRead}
 use Rattle.cx_static.specs.Islands.{PlainOccurrence}
 use Rattle.cx_static.specs.Lowering.{Gathered, Begin, begin_at, later, sampled, if_sampled, with_timer, with_point, with_occurrence, form_gathered, gathered, parts_gathered, arms_gathered, island_gathered, island_of, Lowering, with_island, after_enable, lowered_enable, form_after, after, parts_after, lowered_form, lowered, lowered_parts}
 use Rattle.cx_wiring.specs.Fitting.{Are}
 use Rattle.cx_wiring.specs.Nesting.{most, PointNests, FormNests, StatementNests, PartsNest, IslandNests}
 use Rattle.cx_wiring.proofs.FitLemmas.{are_both}
+use Rattle.cx_meaning.proofs.SightsLaws.{in_left, in_right}
 
 some_visited : (context : Context) (s : PlainStatement) → 1 ≤ length (visit context s)
 some_visited context (Placed form place) = omega arith

@@ -14,15 +14,15 @@ use Rattle.cx_rules.specs.Ports.{component_of, is_target_only, path_of}
 use Rattle.cx_rules.specs.Sizes.{assigns_size, groups_size, size_of}
 use Rattle.cx_rules.specs.Spots.{AnAssign, AStatement}
 use Rattle.cx_rules.specs.Wellformed.{StandsIn}
-use Rattle.cx_rules.proofs.Finite.{in_left, in_right}
 use Rattle.cx_net.specs.NetLimits.{IsRead}
 use Rattle.cx_static.specs.Lowering.{lowered_component}
 use Rattle.cx_wiring.specs.Assignments.{is_driven, driven_assigns}
 use Rattle.cx_wiring.specs.Fitting.{Are}
 use Rattle.cx_wiring.specs.Nesting.{most, guards_count, GuardNests, GuardsNest, OwnedNests, IsPart, AreParts, HasParts}
 use Rattle.cx_wiring.proofs.DesignNames.{in_filter, stands_in}
-use Rattle.cx_wiring.proofs.FitLemmas.{number_of, are_each}
+use Rattle.cx_wiring.proofs.FitLemmas.{are_each}
 use Rattle.cx_wiring.proofs.NestLowering.{AllRead}
+use Rattle.cx_meaning.proofs.SightsLaws.{in_left, in_right, number_in}
 
 -- GUARDS have a node for each part
 mutual
@@ -122,7 +122,7 @@ module _ (d : PlainDesign) (accepted : IsAccepted d) (k : ℕ) (within : k < len
       by : (b : Bool) → is_target_only (component_of d k) p.port ≡ b → b ≡ false
       by false e = refl
       by true e =
-          let n = number_of (statements_in part) v i in
+          let n = number_in (statements_in part) v i in
           absurd (accepted.widths told.NotASource (record { component = k; part = AStatement n.0 }) p.place (path_of (component_of d k) p.port) refl
           (inr (record { within = within; number = n.0; is = refl; statement = v; stands = n.1; breaks = (p, is, e, (refl, refl)) })))
 
@@ -132,7 +132,7 @@ module _ (d : PlainDesign) (accepted : IsAccepted d) (k : ℕ) (within : k < len
       by : (b : Bool) → is_target_only (component_of d k) p.port ≡ b → b ≡ false
       by false e = refl
       by true e =
-          let n = number_of (source_order part) o i in
+          let n = number_in (source_order part) o i in
           absurd (accepted.widths told.NotASource (record { component = k; part = AnAssign n.0 }) p.place (path_of (component_of d k) p.port) refl
           (inl (record { within = within; number = n.0; is = refl; assign = o; stands = n.1; breaks = (p, j, e, (refl, refl)) })))
 

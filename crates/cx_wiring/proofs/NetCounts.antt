@@ -27,9 +27,10 @@ use Rattle.cx_wiring.specs.Wiring.{net_of}
 use Rattle.cx_wiring.specs.PartNets.{row_of_kind, rows_among, timer_cells, timers_of, wired_in, rows_alone, net_of_instance, net_of_cells}
 use Rattle.cx_wiring.proofs.TimerCells.{cells-lowered_component}
 use Rattle.cx_wiring.proofs.NetTrees.{net_tree-net_of}
-use Rattle.cx_wiring.proofs.LoweringCounts.{cells_cost, cells_cost-append, times_none, all_timers, statement_adds}
+use Rattle.cx_wiring.proofs.LoweringCounts.{cells_cost, cells_cost-append, all_timers, statement_adds}
 use Rattle.cx_wiring.proofs.ComponentCounts.{PartsHold, timers_few, component_few}
 use Rattle.cx_wiring.proofs.RowCounts.{timer_nets, primitive_nets}
+use Rattle.cx_text.proofs.NumberLaws.{times_none}
 
 -- what a cell costs beside what stands below it
 abbrev of_kind : (Row → ℕ) → PlainKind → ℕ

@@ -4,7 +4,8 @@ use Rattle.std.proofs.lemmas.Bool.Decides.{eqb_tells}
 use Rattle.cx_meaning.specs.Sights.{In}
 use Rattle.cx_rules.proofs.Finite.{Distinct, distinct_few}
 use Rattle.cx_wiring.specs.Reached.{numbers_from, has_number}
-use Rattle.cx_wiring.proofs.MainLaws.{Tells, or_right}
+use Rattle.cx_wiring.proofs.MainLaws.{Tells}
+use Rattle.std.proofs.lemmas.Bool.{or_right}
 
 pub number_in : (k : ℕ) (ns : List ℕ) → has_number k ns ≡ true → In ns k
 number_in k [] h = absurd (cc)

@@ -18,12 +18,12 @@ use Rattle.cx_wiring.proofs.NumberLemmas.{number_in, in_number}
 use Rattle.cx_wiring.proofs.TimerCells.{cells-lowered_component, components_of-timer_cells}
 use Rattle.cx_wiring.proofs.WayLemmas.{number_of_cell, count_is, part_there, there, IsWay, here_of, few_of_design, way_on, Reaches, step_on, alone}
 use Rattle.cx_wiring.proofs.DesignNames.{in_filter}
-use Rattle.cx_wiring.proofs.FitLemmas.{in_joined}
+use Rattle.cx_meaning.proofs.SightsLaws.{in_at, of_joined}
 
 -- LISTS of numbers
 pub in_flat_map : (f : ℕ → List ℕ) (hs : List ℕ) (x : ℕ) → In (flat_map f hs) x → (h : ℕ) × In hs h × In (f h) x
 in_flat_map f [] x i = absurd i
-in_flat_map f (h ∷ hs) x i = in_joined (f h) (flat_map f hs) x i (λ j. (h, inl refl, j)) (λ j. let r = in_flat_map f hs x j in (r.0, inr r.1, r.2))
+in_flat_map f (h ∷ hs) x i = of_joined (f h) (flat_map f hs) x i (λ j. (h, inl refl, j)) (λ j. let r = in_flat_map f hs x j in (r.0, inr r.1, r.2))
 
 in_map : (f : ℕ → ℕ) (hs : List ℕ) (h : ℕ) → In hs h → In (map f hs) (f h)
 in_map f [] h i = absurd i
@@ -43,11 +43,6 @@ passes p (x ∷ xs) y i = one (p x) refl (passes p xs y) i
     one true is later (inl e) = ap p (sym e) ∙ is
     one true is later (inr j) = later j
     one false is later j = later j
-
-pub in_slice : {A : Type 0} (xs : List A) (n : ℕ) (x : A) → slice_get xs n ≡ Some x → In xs x
-in_slice [] n x e = absurd cc
-in_slice (y ∷ xs) zero x e = inl cc
-in_slice (y ∷ xs) (suc n) x e = inr (in_slice xs n x e)
 
 -- where all numbers of a list name elements, the elements stand as the numbers do
 slice_get-named : {A : Type 0} (xs : List A) (d : ℕ → A) (ks : List ℕ) → ((j : ℕ) → In ks j → slice_get xs j ≡ Some (d j)) → (n k : ℕ) → slice_get ks n ≡ Some k
@@ -156,7 +151,7 @@ pub record IsCellOf (cells : List PlainCell) (c : ℕ) : Type 0 where
 cell_named : (c : ℕ) (cells : List PlainCell) → In (components_of cells) c → IsCellOf cells c
 cell_named c [] i = absurd i
 cell_named c (cell ∷ cells) i =
-    in_joined (component_of_kind cell.kind) (components_of cells) c i (λ j. record { cell = cell; stands = inl refl; is = kind_named cell.kind c j })
+    of_joined (component_of_kind cell.kind) (components_of cells) c i (λ j. record { cell = cell; stands = inl refl; is = kind_named cell.kind c j })
     (λ j. let r = cell_named c cells j in record { cell = r.cell; stands = inr r.stands; is = r.is })
 
 module _ (d : PlainDesign) (rules : IsDesign d) where
@@ -182,7 +177,7 @@ module _ (d : PlainDesign) (rules : IsDesign d) where
       let all : below low k ≡ components_of ((component_at d k).cells ++ timer_cells (component_at d k)) =
       ap (λ o. components_of (cells_at o)) (part_there d rules k within) ∙ ap components_of (cells-lowered_component (component_at d k)) in
       let r = cell_named c ((component_at d k).cells ++ timer_cells (component_at d k)) (subst (λ ns. In ns c) all i) in
-      in_joined (component_at d k).cells (timer_cells (component_at d k)) r.cell r.stands
+      of_joined (component_at d k).cells (timer_cells (component_at d k)) r.cell r.stands
       (λ j. record { cell = r.cell; stands = j; is = r.is }) (λ j. absurd (no_timer k c r.cell j r.is))
 
   -- CELLS of components of the net are of components of the net
@@ -248,7 +243,7 @@ module _ (d : PlainDesign) (rules : IsDesign d) where
   -- THE COMPONENT OF A CELL stands before that of the cell
   pub cell_first : (n k : ℕ) → slice_get places n ≡ Some k → (cell : PlainCell) (c : ℕ) → In (component_at d k).cells cell → cell.kind ≡ OfComponent c → place_in c places < n
   cell_first n k is cell c i kind =
-      let here = in_number k places (in_slice places n k is) in
+      let here = in_number k places (in_at places n k is) in
       place_before low c k places n (order_ascends low) is (closed k here cell c i kind) (lower k here cell c i kind)
 
   -- the component at a place is made of that of the design

@@ -11,12 +11,12 @@ use Rattle.cx_prim.specs.declared.operators.BinaryOperator.TheVariants as binary
 use Rattle.cx_prim.specs.Widths.{IsWidth}
 use Rattle.cx_prim.specs.Operators.{binary_out_width}
 use Rattle.cx_prim.specs.Rows.{Row}
-use Rattle.cx_prim.specs.CombinationalLaws.{and_left, and_right}
 use Rattle.cx_prim.specs.MemoryRows.{IsLayout, is_address_width, ports_named, address_ports, memory_row, sequential_memory_row}
 use Rattle.cx_prim.specs.Table.{PrimitiveRow, row_of}
-use Rattle.cx_prim.specs.TableCases.{OfEachKind, of_row}
+use Rattle.cx_prim.proofs.TableCases.{OfEachKind, of_row}
 use Rattle.cx_wiring.specs.Fitting.{Are}
 use Rattle.cx_wiring.proofs.FitLemmas.{are_both}
+use Rattle.cx_text.proofs.BoolLaws.{and_left, and_right}
 
 abbrev IsWide : PortRow → Type 0
 IsWide port = IsWidth port.width

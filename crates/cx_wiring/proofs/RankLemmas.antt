@@ -4,6 +4,7 @@ use Rattle.std.specs.Ordering.{is_lt, nat_cmp, ordering_then}
 use Rattle.std.specs.Cmp.{nat_cmp_is}
 use Rattle.cx_net.specs.Nets.{PlainNetDriver}
 use Rattle.cx_wiring.specs.Trees.{Rank, rank_of, ranks_before, goes_before, placed_among, by_target}
+use Rattle.cx_text.proofs.NumberLaws.{true_false_also}
 
 -- the first stands nowhere before the second
 abbrev pub NotBefore : Rank → Rank → Type 0
@@ -21,9 +22,6 @@ greater_is m n h = sym (nat_cmp_is m n Greater h)
 abbrev rest_before : Rank → Rank → Ordering
 rest_before a b = ordering_then (nat_cmp a.number b.number) (nat_cmp a.port b.port)
 
-other : {A : Type 0} → true ≡ false → A
-other e = absurd cc
-
 three : (m n : ℕ) → (m < n) ⊎ ((m ≡ n) ⊎ (n < m))
 three zero zero = inr (inl refl)
 three zero (suc n) = inl (omega arith)
@@ -40,17 +38,17 @@ pub not_before : (a b : Rank) → ranks_before a b ≡ false → NotBefore a b
 not_before a b e = by_kind (three a.kind b.kind)
   where
     by_port : a.kind ≡ b.kind → a.number ≡ b.number → (a.port < b.port) ⊎ ((a.port ≡ b.port) ⊎ (b.port < a.port)) → b.port ≤ a.port
-    by_port k n (inl h) = other (sym (ap (λ o. is_lt (ordering_then o (rest_before a b))) (equal_is a.kind b.kind k) ∙ ap (λ o. is_lt (ordering_then o (nat_cmp a.port b.port))) (equal_is a.number b.number n) ∙ ap is_lt (less_is a.port b.port h)) ∙ e)
+    by_port k n (inl h) = true_false_also (sym (ap (λ o. is_lt (ordering_then o (rest_before a b))) (equal_is a.kind b.kind k) ∙ ap (λ o. is_lt (ordering_then o (nat_cmp a.port b.port))) (equal_is a.number b.number n) ∙ ap is_lt (less_is a.port b.port h)) ∙ e)
     by_port k n (inr (inl h)) = omega arith
     by_port k n (inr (inr h)) = omega arith
 
     by_number : a.kind ≡ b.kind → (a.number < b.number) ⊎ ((a.number ≡ b.number) ⊎ (b.number < a.number)) → (b.number < a.number) ⊎ ((b.number ≡ a.number) × (b.port ≤ a.port))
-    by_number k (inl h) = other (sym (ap (λ o. is_lt (ordering_then o (rest_before a b))) (equal_is a.kind b.kind k) ∙ ap (λ o. is_lt (ordering_then o (nat_cmp a.port b.port))) (less_is a.number b.number h)) ∙ e)
+    by_number k (inl h) = true_false_also (sym (ap (λ o. is_lt (ordering_then o (rest_before a b))) (equal_is a.kind b.kind k) ∙ ap (λ o. is_lt (ordering_then o (nat_cmp a.port b.port))) (less_is a.number b.number h)) ∙ e)
     by_number k (inr (inl h)) = inr (sym h, by_port k h (three a.port b.port))
     by_number k (inr (inr h)) = inl h
 
     by_kind : (a.kind < b.kind) ⊎ ((a.kind ≡ b.kind) ⊎ (b.kind < a.kind)) → NotBefore a b
-    by_kind (inl h) = other (sym (ap (λ o. is_lt (ordering_then o (rest_before a b))) (less_is a.kind b.kind h)) ∙ e)
+    by_kind (inl h) = true_false_also (sym (ap (λ o. is_lt (ordering_then o (rest_before a b))) (less_is a.kind b.kind h)) ∙ e)
     by_kind (inr (inl h)) = inr (sym h, by_number h (three a.number b.number))
     by_kind (inr (inr h)) = inl h
 
@@ -88,7 +86,7 @@ behind_both a b c (inr h) (inr k) = inr (k.0 ∙ h.0, numbers h.1 k.1)
     numbers (inr x) (inl y) = let e : b.number ≡ a.number = x.0 in inl (omega arith)
     numbers (inr x) (inr y) = let e : c.port ≤ b.port = y.1 in let f : b.port ≤ a.port = x.1 in inr (y.0 ∙ x.0, omega arith)
 
--- of two neither of which stands before the other the ranks are one
+-- of two neither of which stands before the true_false_also the ranks are one
 pub one_rank : (a b : Rank) → NotBefore a b → NotBefore b a → (a.kind ≡ b.kind) × (a.number ≡ b.number) × (a.port ≡ b.port)
 one_rank a b (inl h) (inl k) = absurd (omega arith)
 one_rank a b (inl h) (inr k) = let e : a.kind ≡ b.kind = k.0 in absurd (omega arith)

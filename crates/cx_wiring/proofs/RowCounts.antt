@@ -2,15 +2,15 @@
 use Rattle.std.proofs.Common.{ℕ, ◌+◌, ◌≤◌, Bool, true, false, ◌&&◌, List, [], ◌∷◌, ◌++◌, length, arith, length-append}
 use Rattle.std.specs.Prelude.{◌^◌, nat_lt, nat_le, Some, None, unwrap_or, if◌then◌else◌}
 use Rattle.cx_prim.specs.declared.ports.PortRow.{PortRow}
-use Rattle.cx_prim.specs.declared.ports.PortName.{PortName}
 use Rattle.cx_prim.specs.declared.ports.PortName.TheVariants.{Addr0, Addr1, Addr2, Addr3}
 use Rattle.cx_prim.specs.declared.names.PrimitiveName.TheVariants.{Timer}
 use Rattle.cx_prim.specs.Rows.{Row}
-use Rattle.cx_prim.specs.MemoryRows.{ports_named, address_ports, memory_row, sequential_memory_row}
+use Rattle.cx_prim.specs.MemoryRows.{address_ports, memory_row, sequential_memory_row}
 use Rattle.cx_prim.specs.PipeRows.{timer_row}
 use Rattle.cx_prim.specs.Table.{PrimitiveRow, no_row, row_of}
-use Rattle.cx_prim.specs.TableCases.{OfEachKind, of_row}
+use Rattle.cx_prim.proofs.TableCases.{OfEachKind, of_row}
 use Rattle.cx_net.specs.NetLimits.{row_nets}
+use Rattle.cx_prim.proofs.PortsLemmas.{named_few}
 
 abbrev HasFewNets : Row → Type 0
 HasFewNets row = row_nets row ≤ 31
@@ -18,12 +18,6 @@ HasFewNets row = row_nets row ≤ 31
 few_where : (r : Row) (n : ℕ) (b : Bool) → 2 ≤ n → row_nets r ≤ n → row_nets (unwrap_or (if b then Some r else None) no_row) ≤ n
 few_where r n true some few = few
 few_where r n false some few = some
-
--- there are no more ports than names
-named_few : (names : List PortName) (widths : List ℕ) → length (ports_named names widths) ≤ length names
-named_few [] widths = omega arith
-named_few (name ∷ names) [] = omega arith
-named_few (name ∷ names) (w ∷ widths) = let h : length (ports_named names widths) ≤ length names = named_few names widths in omega arith
 
 longer : (xs ys : List PortRow) (n m : ℕ) → length xs ≤ n → length ys ≤ m → length (xs ++ ys) ≤ n + m
 longer xs ys n m h k = omega (arith, length-append xs ys)

@@ -12,6 +12,7 @@ use Rattle.cx_wiring.specs.Parts.{word, both, either, equals}
 use Rattle.cx_wiring.specs.Bounds.{AllDrive}
 use Rattle.cx_wiring.specs.Takings.{value, Says, takes_of, takes, AllConnect, Idles, AllIdle, AreRegisters, IsNoWire}
 use Rattle.cx_bits.specs.Operators.{and_of, or_of, complement_of}
+use Rattle.cx_net.proofs.NetMeaningLemmas.{and_two, not_bit}
 
 and_bits : (a b : Bool) → and_of (truth_bit a) (and_of (truth_bit b) (truth_bit true)) ≡ truth_bit (a && b)
 and_bits true true = refl
@@ -19,21 +20,11 @@ and_bits true false = refl
 and_bits false true = refl
 and_bits false false = refl
 
-and_two : (a b : Bool) → and_of (truth_bit a) (truth_bit b) ≡ truth_bit (a && b)
-and_two true true = refl
-and_two true false = refl
-and_two false true = refl
-and_two false false = refl
-
 or_bits : (a b : Bool) → or_of (truth_bit a) (or_of (truth_bit b) (truth_bit false)) ≡ truth_bit (a || b)
 or_bits true true = refl
 or_bits true false = refl
 or_bits false true = refl
 or_bits false false = refl
-
-not_bit : (a : Bool) → complement_of (truth_bit a) ≡ truth_bit (not a)
-not_bit true = refl
-not_bit false = refl
 
 pub true_bit : (b : Bool) → is_true (truth_bit b) ≡ b
 true_bit true = refl
@@ -45,13 +36,6 @@ no_port_register m (ports.Input i) = refl
 no_port_register m (ports.Output i) = refl
 no_port_register m (ports.Done g) = refl
 no_port_register m (ports.Literal w v) = refl
-
-pub no_port_hole : (m : ℕ) (p : PortRef) → same_target (ToPort p) (ToHole m) ≡ false
-no_port_hole m (ports.Cell c p) = refl
-no_port_hole m (ports.Input i) = refl
-no_port_hole m (ports.Output i) = refl
-no_port_hole m (ports.Done g) = refl
-no_port_hole m (ports.Literal w v) = refl
 
 pub no_port_done : (p : PortRef) → same_target (ToPort p) ToDone ≡ false
 no_port_done (ports.Cell c p) = refl

@@ -7,7 +7,6 @@ use Rattle.cx_prim.specs.Rows.{Row}
 use Rattle.cx_prim.specs.PipeRows.{timer_row}
 use Rattle.cx_prim.specs.Table.{PrimitiveRow, no_row, row_of}
 use Rattle.std.proofs.lemmas.Bool.{and_from, le-leb, lt-ltb, ne_eqb}
-use Rattle.cx_prim.specs.MemoryLaws.{slice_get-append}
 use Rattle.cx_meaning.specs.declared.ports.PortRef.{PortRef}
 use Rattle.cx_meaning.specs.declared.ports.PortRef.TheVariants as ports
 use Rattle.cx_meaning.specs.Designs.{PlainKind, OfPrimitive, OfComponent, PlainCell, PlainComponent}
@@ -28,6 +27,7 @@ use Rattle.cx_wiring.specs.Bounds.{AllDrive}
 use Rattle.cx_wiring.proofs.AssignTargets.{assigns_drive_to}
 use Rattle.cx_wiring.proofs.TimerCells.{cells-lowered_component, components_of-timer_cells}
 use Rattle.cx_wiring.proofs.IslandCells.{timers_before, cell_stands, timers_stand, timers_lie}
+use Rattle.cx_text.proofs.ListLaws.{behind as slice_get-append}
 
 -- where none is a component each cell has its row
 none_else : (k : ℕ) (ks : List ℕ) → ◌≡◌ {A = List ℕ} (k ∷ ks) [] → ⊥

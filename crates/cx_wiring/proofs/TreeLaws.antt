@@ -10,65 +10,63 @@ use Rattle.cx_wiring.specs.Bounds.{AllDrive}
 use Rattle.cx_wiring.proofs.BundleLaws.{top_within, TreeHolds, tree_takes}
 use Rattle.cx_wiring.proofs.BundleTargets.{to_append, append_none, of_first, of_second, tree_dropped, tree_kept}
 use Rattle.cx_wiring.proofs.DrivenLemmas.{IsProper, NoneHas, AreEntries}
-
-pub untrue : {A : Type 0} → false ≡ true → A
-untrue e = absurd cc
+use Rattle.cx_text.proofs.NumberLaws.{never}
 
 one_cell : (c p d q : ℕ) (t : Bool) → (c == d) ≡ t → (if t then p == q else false) ≡ true → ◌≡◌ {A = PlainNetTarget} (ToPort (ports.Cell c p)) (ToPort (ports.Cell d q))
 one_cell c p d q true e h = ap (λ n. ToPort (ports.Cell n p)) (eqb-true c d e) ∙ ap (λ n. ToPort (ports.Cell d n)) (eqb-true p q h)
-one_cell c p d q false e h = untrue h
+one_cell c p d q false e h = never h
 
 pub target_is : (a b : PlainNetTarget) → IsProper a → IsProper b → same_target a b ≡ true → a ≡ b
 target_is (ToPort (ports.Cell c p)) (ToPort (ports.Cell d q)) x y h = one_cell c p d q (c == d) refl h
-target_is (ToPort (ports.Cell c p)) (ToPort (ports.Output m)) x y h = untrue h
-target_is (ToPort (ports.Cell c p)) (ToRegister m) x y h = untrue h
-target_is (ToPort (ports.Cell c p)) (ToWire m) x y h = untrue h
-target_is (ToPort (ports.Cell c p)) (ToHole m) x y h = untrue h
-target_is (ToPort (ports.Cell c p)) ToDone x y h = untrue h
+target_is (ToPort (ports.Cell c p)) (ToPort (ports.Output m)) x y h = never h
+target_is (ToPort (ports.Cell c p)) (ToRegister m) x y h = never h
+target_is (ToPort (ports.Cell c p)) (ToWire m) x y h = never h
+target_is (ToPort (ports.Cell c p)) (ToHole m) x y h = never h
+target_is (ToPort (ports.Cell c p)) ToDone x y h = never h
 target_is (ToPort (ports.Cell c p)) (ToPort (ports.Input i)) x y h = absurd y
 target_is (ToPort (ports.Cell c p)) (ToPort (ports.Done i)) x y h = absurd y
 target_is (ToPort (ports.Cell c p)) (ToPort (ports.Literal i j)) x y h = absurd y
-target_is (ToPort (ports.Output n)) (ToPort (ports.Cell d q)) x y h = untrue h
+target_is (ToPort (ports.Output n)) (ToPort (ports.Cell d q)) x y h = never h
 target_is (ToPort (ports.Output n)) (ToPort (ports.Output m)) x y h = ap (λ k. ToPort (ports.Output k)) (eqb-true n m h)
-target_is (ToPort (ports.Output n)) (ToRegister m) x y h = untrue h
-target_is (ToPort (ports.Output n)) (ToWire m) x y h = untrue h
-target_is (ToPort (ports.Output n)) (ToHole m) x y h = untrue h
-target_is (ToPort (ports.Output n)) ToDone x y h = untrue h
+target_is (ToPort (ports.Output n)) (ToRegister m) x y h = never h
+target_is (ToPort (ports.Output n)) (ToWire m) x y h = never h
+target_is (ToPort (ports.Output n)) (ToHole m) x y h = never h
+target_is (ToPort (ports.Output n)) ToDone x y h = never h
 target_is (ToPort (ports.Output n)) (ToPort (ports.Input i)) x y h = absurd y
 target_is (ToPort (ports.Output n)) (ToPort (ports.Done i)) x y h = absurd y
 target_is (ToPort (ports.Output n)) (ToPort (ports.Literal i j)) x y h = absurd y
-target_is (ToRegister n) (ToPort (ports.Cell d q)) x y h = untrue h
-target_is (ToRegister n) (ToPort (ports.Output m)) x y h = untrue h
+target_is (ToRegister n) (ToPort (ports.Cell d q)) x y h = never h
+target_is (ToRegister n) (ToPort (ports.Output m)) x y h = never h
 target_is (ToRegister n) (ToRegister m) x y h = ap (λ k. ToRegister k) (eqb-true n m h)
-target_is (ToRegister n) (ToWire m) x y h = untrue h
-target_is (ToRegister n) (ToHole m) x y h = untrue h
-target_is (ToRegister n) ToDone x y h = untrue h
+target_is (ToRegister n) (ToWire m) x y h = never h
+target_is (ToRegister n) (ToHole m) x y h = never h
+target_is (ToRegister n) ToDone x y h = never h
 target_is (ToRegister n) (ToPort (ports.Input i)) x y h = absurd y
 target_is (ToRegister n) (ToPort (ports.Done i)) x y h = absurd y
 target_is (ToRegister n) (ToPort (ports.Literal i j)) x y h = absurd y
-target_is (ToWire n) (ToPort (ports.Cell d q)) x y h = untrue h
-target_is (ToWire n) (ToPort (ports.Output m)) x y h = untrue h
-target_is (ToWire n) (ToRegister m) x y h = untrue h
+target_is (ToWire n) (ToPort (ports.Cell d q)) x y h = never h
+target_is (ToWire n) (ToPort (ports.Output m)) x y h = never h
+target_is (ToWire n) (ToRegister m) x y h = never h
 target_is (ToWire n) (ToWire m) x y h = ap (λ k. ToWire k) (eqb-true n m h)
-target_is (ToWire n) (ToHole m) x y h = untrue h
-target_is (ToWire n) ToDone x y h = untrue h
+target_is (ToWire n) (ToHole m) x y h = never h
+target_is (ToWire n) ToDone x y h = never h
 target_is (ToWire n) (ToPort (ports.Input i)) x y h = absurd y
 target_is (ToWire n) (ToPort (ports.Done i)) x y h = absurd y
 target_is (ToWire n) (ToPort (ports.Literal i j)) x y h = absurd y
-target_is (ToHole n) (ToPort (ports.Cell d q)) x y h = untrue h
-target_is (ToHole n) (ToPort (ports.Output m)) x y h = untrue h
-target_is (ToHole n) (ToRegister m) x y h = untrue h
-target_is (ToHole n) (ToWire m) x y h = untrue h
+target_is (ToHole n) (ToPort (ports.Cell d q)) x y h = never h
+target_is (ToHole n) (ToPort (ports.Output m)) x y h = never h
+target_is (ToHole n) (ToRegister m) x y h = never h
+target_is (ToHole n) (ToWire m) x y h = never h
 target_is (ToHole n) (ToHole m) x y h = ap (λ k. ToHole k) (eqb-true n m h)
-target_is (ToHole n) ToDone x y h = untrue h
+target_is (ToHole n) ToDone x y h = never h
 target_is (ToHole n) (ToPort (ports.Input i)) x y h = absurd y
 target_is (ToHole n) (ToPort (ports.Done i)) x y h = absurd y
 target_is (ToHole n) (ToPort (ports.Literal i j)) x y h = absurd y
-target_is ToDone (ToPort (ports.Cell d q)) x y h = untrue h
-target_is ToDone (ToPort (ports.Output m)) x y h = untrue h
-target_is ToDone (ToRegister m) x y h = untrue h
-target_is ToDone (ToWire m) x y h = untrue h
-target_is ToDone (ToHole m) x y h = untrue h
+target_is ToDone (ToPort (ports.Cell d q)) x y h = never h
+target_is ToDone (ToPort (ports.Output m)) x y h = never h
+target_is ToDone (ToRegister m) x y h = never h
+target_is ToDone (ToWire m) x y h = never h
+target_is ToDone (ToHole m) x y h = never h
 target_is ToDone ToDone x y h = refl
 target_is ToDone (ToPort (ports.Input i)) x y h = absurd y
 target_is ToDone (ToPort (ports.Done i)) x y h = absurd y

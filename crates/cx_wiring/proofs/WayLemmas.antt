@@ -17,9 +17,10 @@ use Rattle.cx_static.specs.Lowering.{lowered_component, lowered_of}
 use Rattle.cx_wiring.specs.Reached.{numbers_from, has_number, place_in, component_of_kind, components_of, cells_at, below, reached_from, count, order}
 use Rattle.cx_wiring.specs.Wiring.{net_component, net_of}
 use Rattle.cx_wiring.specs.PartNets.{timer_cells, wired_in}
-use Rattle.cx_wiring.proofs.MainLaws.{Tells, or_right, number_left, number_right, number_flat_map, number_from, reaches_itself, order_below, order_reached, net_component_at-place_in}
+use Rattle.cx_wiring.proofs.MainLaws.{Tells, number_left, number_right, number_flat_map, number_from, reaches_itself, order_below, order_reached, net_component_at-place_in}
 use Rattle.cx_wiring.proofs.NumberLemmas.{in_number, few_apart, length-numbers_from}
 use Rattle.cx_wiring.proofs.TimerCells.{cells-lowered_component}
+use Rattle.std.proofs.lemmas.Bool.{or_right}
 
 -- a cell's component is among those of the cells
 pub number_of_cell : (k : ℕ) (cell : PlainCell) (cells more : List PlainCell) → cell.kind ≡ OfComponent k → In cells cell → has_number k (components_of (cells ++ more)) ≡ true

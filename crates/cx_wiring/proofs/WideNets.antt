@@ -17,16 +17,18 @@ use Rattle.cx_wiring.specs.Wiring.{plain_wires, component_registers, component_d
 use Rattle.cx_wiring.specs.PartNets.{wired_in}
 use Rattle.cx_wiring.proofs.NumberLemmas.{in_number}
 use Rattle.cx_wiring.proofs.WayLemmas.{there, net_long}
-use Rattle.cx_wiring.proofs.OrderHeights.{in_slice, stands_at}
-use Rattle.cx_wiring.proofs.FitLemmas.{are_at, there_at}
+use Rattle.cx_wiring.proofs.OrderHeights.{stands_at}
+use Rattle.cx_wiring.proofs.FitLemmas.{are_at}
 use Rattle.cx_wiring.proofs.PortWidths.{ports_wide}
 use Rattle.cx_wiring.proofs.WireWidths.{component_registers_wide, wires_wide}
+use Rattle.cx_meaning.proofs.SightsLaws.{in_at}
+use Rattle.cx_text.proofs.ListLaws.{there_at}
 
 pub rows_are_wide : RowsAreWide
 rows_are_wide primitive n port is = are_at (λ (x : PortRow). IsWidth x.width) (row_of primitive).ports (ports_wide primitive) n port is
 
 declared_are : (decls : List PortDecl) → IsSignature decls → (n : ℕ) (decl : PortDecl) → slice_get decls n ≡ Some decl → IsWidth decl.width
-declared_are decls sign n decl is = let port = sign decl (in_slice decls n decl is) in record { some_bits = port.some_bits; few_bits = port.few_bits }
+declared_are decls sign n decl is = let port = sign decl (in_at decls n decl is) in record { some_bits = port.some_bits; few_bits = port.few_bits }
 
 no_component_wide : IsWideComponent no_net_component
 no_component_wide = record { inputs = λ n decl e. absurd cc; outputs = λ n decl e. absurd cc; registers = λ n w e. absurd cc; wires = λ n w e. absurd cc }
@@ -47,7 +49,7 @@ module _ (d : PlainDesign) (rules : IsDesign d) where
   net_wide n =
       ⊎_elim
       (λ less. let k = there_at (order (lowered_of d)) n (subst (λ m. n < m) (net_long d rules) less) in
-      let here : has_number k.0 (order (lowered_of d)) ≡ true = in_number k.0 (order (lowered_of d)) (in_slice (order (lowered_of d)) n k.0 k.1) in
+      let here : has_number k.0 (order (lowered_of d)) ≡ true = in_number k.0 (order (lowered_of d)) (in_at (order (lowered_of d)) n k.0 k.1) in
       subst IsWideComponent (sym (stands_at d rules n k.0 k.1)) (wired_wide k.0 (there d rules k.0 here)))
       (λ past. subst IsWideComponent (sym (get_or_past (net_of (lowered_of d)).components n no_net_component past)) no_component_wide)
       (cases_lt n (length (net_of (lowered_of d)).components))

@@ -19,9 +19,10 @@ use Rattle.cx_wiring.specs.Counts.{sample_registers, form_registers, registers_o
 use Rattle.cx_wiring.specs.Trees.{Driven, pairs, pair_widths, tree_widths}
 use Rattle.cx_wiring.specs.Wiring.{groups, bits, plain_wires, component_registers, component_driven, width_in_part, kind_width, port_width, known_width, target_width}
 use Rattle.cx_wiring.specs.Fitting.{Are}
-use Rattle.cx_wiring.proofs.OrderHeights.{in_slice}
-use Rattle.cx_wiring.proofs.FitLemmas.{are_both, are_at, slice_below}
+use Rattle.cx_wiring.proofs.FitLemmas.{are_both, are_at}
 use Rattle.cx_wiring.proofs.PortWidths.{ports_wide, one_bit, count_bits}
+use Rattle.cx_meaning.proofs.SightsLaws.{in_at}
+use Rattle.cx_text.proofs.ListLaws.{there_below}
 
 are_replicated : (w n : ℕ) → IsWidth w → Are IsWidth (replicate n w)
 are_replicated w zero wide = tt
@@ -74,7 +75,7 @@ declared_wide decls sign n w e = by (slice_get decls n) refl e
     by : (found : Option PortDecl) → slice_get decls n ≡ found → option_map (λ (decl : PortDecl). decl.width) found ≡ Some w → IsWidth w
     by None is f = absurd cc
     by (Some decl) is f =
-        let port = sign decl (in_slice decls n decl is) in
+        let port = sign decl (in_at decls n decl is) in
         let same : decl.width ≡ w = cc in
         subst IsWidth same (record { some_bits = port.some_bits; few_bits = port.few_bits })
 
@@ -103,7 +104,7 @@ module _ (d : PlainDesign) (rules : IsDesign d) (k : ℕ) (within : k < length d
       by : (found : Option PlainComponent) → slice_get d.components j ≡ found → option_map lowered_component found ≡ Some child → (j < length d.components) × (child ≡ lowered_component (component_at d j))
       by None is f = absurd cc
       by (Some x) is f =
-          let less = slice_below d.components j x is in
+          let less = there_below d.components j x is in
           let same : Some (lowered_component (component_at d j)) ≡ Some child = ap (option_map lowered_component) (sym (slice_get-get_or d.components j no_component less)) ∙ ap (option_map lowered_component) is ∙ f in
           (less, sym (some_same (lowered_component (component_at d j)) child same))
         where

@@ -12,7 +12,7 @@ use Rattle.cx_meaning.specs.Sights.{In}
 use Rattle.cx_rules.specs.Accepted.{IsAccepted}
 use Rattle.cx_rules.specs.Externals.{numbers_of}
 use Rattle.cx_rules.specs.Items.{Dynamic, visit, statements_in}
-use Rattle.cx_rules.specs.Sizes.{size_of, sizes_of, design_size}
+use Rattle.cx_rules.specs.Sizes.{size_of, design_size}
 use Rattle.cx_rules.specs.Wellformed.{IsExternal, IsDesign, first_number}
 use Rattle.cx_vtree.specs.Layout.{is_word}
 use Rattle.cx_net.specs.Nets.{PlainNetComponent}
@@ -31,8 +31,8 @@ use Rattle.cx_wiring.proofs.NumberLemmas.{in_number, few_apart, length-numbers_f
 use Rattle.cx_wiring.proofs.MainLaws.{number_from, order_main}
 use Rattle.cx_wiring.proofs.TimerCells.{cells-lowered_component}
 use Rattle.cx_wiring.proofs.WayLemmas.{count_is, there, placed, net_long}
-use Rattle.cx_wiring.proofs.FitLemmas.{are_both, there_at, slice_left, slice_right}
-use Rattle.cx_wiring.proofs.OrderHeights.{in_slice, stands_at}
+use Rattle.cx_wiring.proofs.FitLemmas.{are_both, slice_right}
+use Rattle.cx_wiring.proofs.OrderHeights.{stands_at}
 use Rattle.cx_wiring.proofs.MainOrder.{distinct_order, main_last}
 use Rattle.cx_wiring.proofs.FitLowering.{lowered_few}
 use Rattle.cx_wiring.proofs.FitNets.{size_among, targets_few}
@@ -43,6 +43,9 @@ use Rattle.cx_wiring.proofs.NestRules.{tests_read, assigns_nests}
 use Rattle.cx_wiring.proofs.LoweringCounts.{cells_cost, cells_cost-append, all_timers, statement_adds}
 use Rattle.cx_wiring.proofs.ComponentCounts.{PartsHold, timers_few, component_few}
 use Rattle.cx_wiring.proofs.NetCounts.{net_nets, net_instances, net_words}
+use Rattle.cx_rules.proofs.SizesLemmas.{sizes_many}
+use Rattle.cx_text.proofs.ListLaws.{there_at, front}
+use Rattle.cx_meaning.proofs.SightsLaws.{in_at}
 
 -- WHAT THE TEXT of a design gives beside the rules, where compile does not find it too large
 pub record CanBeWritten (d : PlainDesign) : Type 0 where
@@ -75,13 +78,6 @@ outside_none (c ∷ cells) none cell i = by i (outside_none cells)
     by : In (c ∷ cells) cell → (cells_cost outside cells ≤ 0 → (x : PlainCell) → In cells x → x.external ≡ false) → cell.external ≡ false
     by (inl e) later = ap (λ (x : PlainCell). x.external) (sym e) ∙ inside c.external none
     by (inr j) later = let less : cells_cost outside cells ≤ 0 = omega arith in later less cell j
-
-sizes_many : (parts : List PlainComponent) → length parts ≤ sizes_of parts
-sizes_many [] = omega arith
-sizes_many (x ∷ parts) =
-    let h : length parts ≤ sizes_of parts = sizes_many parts in
-    let all : size_of x + 1 + sizes_of parts ≡ sizes_of (x ∷ parts) = refl in
-    omega (arith, all)
 
 module _ (d : PlainDesign) (rules : IsDesign d) (accepted : IsAccepted d) (can : CanBeWritten d) where
   sized : (k : ℕ) → k < length d.components → size_of (component_at d k) < design_size d
@@ -177,10 +173,10 @@ module _ (d : PlainDesign) (rules : IsDesign d) (accepted : IsAccepted d) (can :
   own_cell c x e external =
       let whole : slice_get (main.cells ++ timer_cells main) c ≡ Some x = ap (λ cells. slice_get cells c) (sym (cells-lowered_component main)) ∙ e in
       ⊎_elim
-      (λ less. let r = there_at main.cells c less in r.1 ∙ sym (slice_left main.cells (timer_cells main) c r.0 r.1) ∙ whole)
+      (λ less. let r = there_at main.cells c less in r.1 ∙ sym (front main.cells (timer_cells main) c r.0 r.1) ∙ whole)
       (λ past. let same : c ≡ length main.cells + (c - length main.cells) = omega arith in
       let timer : slice_get (timer_cells main) (c - length main.cells) ≡ Some x = sym (slice_right main.cells (timer_cells main) (c - length main.cells)) ∙ ap (slice_get (main.cells ++ timer_cells main)) (sym same) ∙ whole in
-      absurd (not_both x.external external (timers_inside x (in_slice (timer_cells main) (c - length main.cells) x timer))))
+      absurd (not_both x.external external (timers_inside x (in_at (timer_cells main) (c - length main.cells) x timer))))
       (cases_lt c (length main.cells))
 
   record IsMemory (c : ℕ) (cell : PlainCell) : Type 0 where
@@ -213,7 +209,7 @@ module _ (d : PlainDesign) (rules : IsDesign d) (accepted : IsAccepted d) (can :
   memory_writable : (c : ℕ) (cell : PlainCell) → slice_get (wired_in d main).cells c ≡ Some cell → cell.external ≡ true → IsWritableExternal cell
   memory_writable c cell e external =
       let m = memory_at c cell e external in
-      let i = in_slice main.cells c m.own m.stands in
+      let i = in_at main.cells c m.own m.stands in
       subst IsWritableExternal m.made
       (record {
         word = can.words m.own i m.external;
@@ -228,7 +224,7 @@ module _ (d : PlainDesign) (rules : IsDesign d) (accepted : IsAccepted d) (can :
       let first : slice_get (map (λ (x : PlainCell). x.name) main.cells) c ≡ Some m.own.name = slice_get-map (λ (x : PlainCell). x.name) main.cells c ∙ ap (option_map (λ (x : PlainCell). x.name)) m.stands in
       let second : slice_get (map (λ (x : PlainCell). x.name) main.cells) e ≡ Some m.own.name =
       slice_get-map (λ (x : PlainCell). x.name) main.cells e ∙ ap (option_map (λ (x : PlainCell). x.name)) n.stands ∙ ap Some (sym names) in
-      (rules.components d.main rules.main_there).cell_names c e m.own.name first second (λ empty. no_name (ap is_word (sym empty) ∙ can.words m.own (in_slice main.cells c m.own m.stands) m.external))
+      (rules.components d.main rules.main_there).cell_names c e m.own.name first second (λ empty. no_name (ap is_word (sym empty) ∙ can.words m.own (in_at main.cells c m.own m.stands) m.external))
     where
       no_name : is_word [] ≡ true → ⊥
       no_name g = cc
@@ -252,7 +248,7 @@ module _ (d : PlainDesign) (rules : IsDesign d) (accepted : IsAccepted d) (can :
     few = few_components;
     components = λ n less.
         let r = there_at (order (lowered_of d)) n (subst (λ m. n < m) (net_long d rules) less) in
-        let here : has_number r.0 (order (lowered_of d)) ≡ true = in_number r.0 (order (lowered_of d)) (in_slice (order (lowered_of d)) n r.0 r.1) in
+        let here : has_number r.0 (order (lowered_of d)) ≡ true = in_number r.0 (order (lowered_of d)) (in_at (order (lowered_of d)) n r.0 r.1) in
         subst IsWritableComponent (sym (stands_at d rules n r.0 r.1)) (component_writable r.0 here);
     main_last = main_last d rules;
     no_inputs = ap (λ (x : PlainNetComponent). x.inputs) (placed d rules d.main main_here) ∙ rules.main_bare.0;

@@ -17,10 +17,7 @@ use Rattle.cx_wiring.proofs.TakingLemmas.{says_both, says_either, says_not, says
 use Rattle.cx_wiring_cycles.specs.Standing.{IsStopped, IsIn, Away, FormBits, StatementBits, PartsBits}
 use Rattle.cx_wiring_cycles.specs.IslandTakes.{IslandNexts}
 use Rattle.cx_wiring_cycles.specs.Shown.{FormNexts, StatementNexts, PartsNext, ArmsNext}
-
-and_false : (a : Bool) → (a && false) ≡ false
-and_false true = refl
-and_false false = refl
+use Rattle.cx_text.proofs.BoolLaws.{and_false}
 
 pub not_here : (acting : Bool) (r p n : ℕ) → 1 ≤ n → IsStopped acting r p n → (acting && (r == p)) ≡ false
 not_here acting r p n some (inl e) = ap (λ b. b && (r == p)) e

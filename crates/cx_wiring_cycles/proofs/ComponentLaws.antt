@@ -21,7 +21,7 @@ use Rattle.cx_wiring.specs.Bounds.{AllDrive, IslandsName, StatementNames, Assign
 use Rattle.cx_wiring.specs.Takings.{Says, takes, AllConnect, AreRegisters}
 use Rattle.cx_wiring.proofs.AssignTargets.{assigns_drive}
 use Rattle.cx_wiring.proofs.ControlTargets.{drivers_drive}
-use Rattle.cx_wiring.proofs.TakingLemmas.{no_port_register, no_port_hole, no_port_done, takes_append, others_pass, says_equals, idle_passes}
+use Rattle.cx_wiring.proofs.TakingLemmas.{no_port_register, no_port_done, takes_append, others_pass, says_equals, idle_passes}
 use Rattle.cx_wiring_cycles.specs.IslandTakes.{StatementIslands, TakesIsland, IslandNexts}
 use Rattle.cx_wiring_cycles.specs.Standing.{IsStopped, IsIn, Away, StatementBits}
 use Rattle.cx_wiring_cycles.specs.Shown.{wide, Going, told}
@@ -32,6 +32,7 @@ use Rattle.std.proofs.lemmas.Bool.{ne_eqb}
 use Rattle.cx_wiring_cycles.proofs.FormTurns.{region_known}
 use Rattle.cx_wiring_cycles.proofs.ConnectLaws.{Reads, read_before, statement_connects}
 use Rattle.cx_wiring_cycles.proofs.KnowLaws.{Known, known}
+use Rattle.cx_net.proofs.NetsLemmas.{no_port_hole}
 
 module _ (part : PlainComponent) (named : IslandsName (groups (lowered_component part)) (lowered_component part).islands) (around : NetAround) (registers : ℕ → Option BitVector) (look : Node → Option BitVector) (kept next : ℕ → ℕ) (hole : ℕ → Bool) (port : PortRef → Bool) where
   abbrev whole : PlainLowered

@@ -2,7 +2,6 @@
 use Rattle.std.proofs.Common.{◌≡◌, ℕ, suc, ◌+◌, ◌<◌, ◌≤◌, Bool, true, false, if◌then◌else◌, List, [], ◌∷◌, ◌++◌, length, Option, Some, None, option_map, option_and_then, unwrap_or, slice_get, refl, sym, ap, ◌∙◌, subst, arith, length-append}
 use Rattle.std.proofs.lemmas.Bool.{lt-ltb, ne_eqb}
 use Rattle.cx_bits.specs.BitVector.{BitVector}
-use Rattle.cx_prim.specs.MemoryLaws.{slice_get-append}
 use Rattle.cx_meaning.specs.declared.ports.PortRef.{PortRef}
 use Rattle.cx_meaning.specs.declared.ports.PortRef.TheVariants as ports
 use Rattle.cx_meaning.specs.Designs.{PlainComponent}
@@ -27,13 +26,12 @@ use Rattle.cx_wiring.proofs.NetTargets.{plain_wires_count}
 use Rattle.cx_wiring.proofs.TimerRows.{EachTimer, IsTimerIn, IsOwnTarget, assigns_skip, row_of_timer}
 use Rattle.cx_wiring.proofs.BundleReads.{TakeTheirs}
 use Rattle.cx_wiring.proofs.ComponentTakes.{IsPlain, target_takes, register_takes_all}
-use Rattle.cx_wiring.proofs.FitLemmas.{slice_left}
-use Rattle.cx_wiring.proofs.FitTrees.{some_at}
 use Rattle.cx_wiring_cycles.specs.Standing.{StatementBits}
 use Rattle.cx_wiring_cycles.proofs.ConnectLaws.{Reads, read_before}
 use Rattle.cx_wiring_cycles.proofs.IslandReads.{IsUntimed}
 use Rattle.cx_wiring_cycles.proofs.IslandStands.{islands_take}
 use Rattle.cx_wiring_cycles.proofs.ComponentLaws.{PlainCycle}
+use Rattle.cx_text.proofs.ListLaws.{behind, front, there_at}
 
 module _ (d : PlainLowereds) (part : PlainComponent) (named : IslandsName (groups (lowered_component part)) (lowered_component part).islands) (cells : NetCells) (around : NetAround) (s : NetState) (look : NetLook)
     (solves : (n : Node) → is_own_node (net_component d (lowered_component part)) cells n ≡ true
@@ -69,7 +67,7 @@ module _ (d : PlainLowereds) (part : PlainComponent) (named : IslandsName (group
   reads = rests_from (tree_widths (target_width d (lowered_component part)) (component_driven (lowered_component part))) (length (plain_wires (lowered_component part)))
       (λ i w e less. let all : length (net_component d (lowered_component part)).wires ≡ length (plain_wires (lowered_component part)) + length (tree_widths (target_width d (lowered_component part)) (component_driven (lowered_component part))) = all_wires in
       wire_there (length (plain_wires (lowered_component part)) + i) w
-      (slice_get-append (plain_wires (lowered_component part)) (tree_widths (target_width d (lowered_component part)) (component_driven (lowered_component part))) (length (plain_wires (lowered_component part)) + i) i refl ∙ e) (omega arith))
+      (behind (plain_wires (lowered_component part)) (tree_widths (target_width d (lowered_component part)) (component_driven (lowered_component part))) (length (plain_wires (lowered_component part)) + i) i refl ∙ e) (omega arith))
 
   -- registers have the values of the state
   registers_from : (ws : List ℕ) (n : ℕ) → ((i w : ℕ) → slice_get ws i ≡ Some w → slice_get (component_registers (lowered_component part)) (n + i) ≡ Some w)
@@ -149,10 +147,10 @@ module _ (d : PlainLowereds) (part : PlainComponent) (named : IslandsName (group
           let count : length (plain_wires (lowered_component part)) ≡ groups (lowered_component part) + bits (lowered_component part) = plain_wires_count (lowered_component part) in
           let all : length (net_component d (lowered_component part)).wires ≡ length (plain_wires (lowered_component part)) + length (tree_widths (target_width d (lowered_component part)) (component_driven (lowered_component part))) = all_wires in
           let there : n < length (plain_wires (lowered_component part)) = omega arith in
-          let k = some_at (plain_wires (lowered_component part)) n there in
+          let k = there_at (plain_wires (lowered_component part)) n there in
           record {
             behind_them = Some (zero_wide (target_width d (lowered_component part) (ToWire n)));
-            reads = wire_there n k.0 (slice_left (plain_wires (lowered_component part)) _ n k.0 k.1) (omega arith)
+            reads = wire_there n k.0 (front (plain_wires (lowered_component part)) _ n k.0 k.1) (omega arith)
                 ∙ ap (λ w. first_true around (registers_of (net_component d (lowered_component part)) cells around s (look []) (λ c. look (c ∷ []))) (look []) (zero_wide w) (drivers_to (ToWire n) (net_component d (lowered_component part)).drivers)) (sym (ap (λ o. unwrap_or o 1) k.1))
                 ∙ target_takes d (lowered_component part) around (registers_of (net_component d (lowered_component part)) cells around s (look []) (λ c. look (c ∷ []))) (look []) plain reads (ToWire n) tt (λ m from. ne_eqb m n (λ e. omega arith));
           }

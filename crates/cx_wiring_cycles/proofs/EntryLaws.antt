@@ -13,9 +13,9 @@ use Rattle.cx_static.specs.declared.islands.IslandTimer.{IslandTimer}
 use Rattle.cx_static.specs.Islands.{PlainPoint, PlainOccurrence}
 use Rattle.cx_static.specs.Lowering.{Gathered, Begin, begin_at, later, if_sampled, timer_cell, with_timer, with_point, with_occurrence, form_gathered, gathered, parts_gathered, arms_gathered}
 use Rattle.cx_wiring.specs.TimerCounts.{nested, kind_cycles, cycles_at}
-use Rattle.cx_wiring.proofs.GatherLaws.{get_end, one_more, grows, parts_grow, arms_grow}
-use Rattle.cx_wiring.proofs.FitLemmas.{slice_left}
+use Rattle.cx_wiring.proofs.GatherLaws.{grows, parts_grow, arms_grow}
 use Rattle.cx_wiring_cycles.proofs.IslandOffsets.{range_in, at_before, at_behind, are_wanted, live_in, live_short, live_behind, live_round, live_true, live_false}
+use Rattle.cx_text.proofs.ListLaws.{get_end, snoc_length, front}
 
 -- what stands at an offset, where there is one
 abbrev pub by_live : {A : Type 0} → Option ℕ → (ℕ → List A) → List A
@@ -78,7 +78,7 @@ module _ (part : PlainComponent) where
     form_points (StaticSeq written parts) x g = parts_points parts x g
     form_points (StaticPar written arms) x g = arms_points arms x g
     form_points (StaticIf written test a b) x g =
-        let one : length (with_point test.port x g).points ≡ suc (length g.points) = one_more g.points (record { port = test.port; timer = x.timer; at = x.at; samples = x.samples }) in
+        let one : length (with_point test.port x g).points ≡ suc (length g.points) = snoc_length g.points (record { port = test.port; timer = x.timer; at = x.at; samples = x.samples }) in
         let first : length (gathered part a (if_sampled (length g.points) true x) (with_point test.port x g)).points ≡ length (with_point test.port x g).points + ifs_of a = points a (if_sampled (length g.points) true x) (with_point test.port x g) in
         points b (if_sampled (length g.points) false x) (gathered part a (if_sampled (length g.points) true x) (with_point test.port x g)) ∙ omega arith
     form_points (StaticRepeat written count a) x g = points a (begin_at (length g.timers) 0 x.samples) (with_timer part.place (length_of part a) (Some x.timer) x.at (x.at + count * length_of part a) g)
@@ -102,8 +102,8 @@ module _ (part : PlainComponent) where
   -- what is gathered is extended by what is gathered behind it
   step_timer : (h : Gathered) (p outer from to : ℕ) (g : Gathered) → Extends h g → Extends h (with_timer part.place p (Some outer) from to g)
   step_timer h p outer from to g e = record {
-    timers = λ n timer f. slice_left g.timers (record { cell = length g.cells; outer = Some outer; from = from; to = to } ∷ []) n timer (e.timers n timer f);
-    cells = λ c cell f. slice_left g.cells (timer_cell part.place p ∷ []) c cell (e.cells c cell f);
+    timers = λ n timer f. front g.timers (record { cell = length g.cells; outer = Some outer; from = from; to = to } ∷ []) n timer (e.timers n timer f);
+    cells = λ c cell f. front g.cells (timer_cell part.place p ∷ []) c cell (e.cells c cell f);
     points = e.points;
   }
 
@@ -111,7 +111,7 @@ module _ (part : PlainComponent) where
   step_point h port x g e = record {
     timers = e.timers;
     cells = e.cells;
-    points = λ n p f. slice_left g.points (record { port = port; timer = x.timer; at = x.at; samples = x.samples } ∷ []) n p (e.points n p f);
+    points = λ n p f. front g.points (record { port = port; timer = x.timer; at = x.at; samples = x.samples } ∷ []) n p (e.points n p f);
   }
 
   step_occurrence : (h : Gathered) (group : ℕ) (x : Begin) (n : ℕ) (g : Gathered) → Extends h g → Extends h (with_occurrence group x (Some n) g)
@@ -215,7 +215,7 @@ module _ (part : PlainComponent) where
           let xa = if_sampled (length g.points) true x in
           let xb = if_sampled (length g.points) false x in
           let ga = gathered part a xa mid in
-          let one : length mid.points ≡ suc (length g.points) = one_more g.points (record { port = test.port; timer = x.timer; at = x.at; samples = x.samples }) in
+          let one : length mid.points ≡ suc (length g.points) = snoc_length g.points (record { port = test.port; timer = x.timer; at = x.at; samples = x.samples }) in
           let two : length ga.points ≡ suc (length g.points) + ifs_of a = points a xa mid ∙ ap (λ m. m + ifs_of a) one in
           let first = entries a xa mid (both_extend ga (gathered part b xb ga) final (extended b xb ga) e) in
           let second = entries b xb ga e in

@@ -1,7 +1,6 @@
 -- A guard in the net says what it means: where its ports have their values and each of its wires has that of its own driver.
-use Rattle.std.proofs.Common.{◌≡◌, ℕ, suc, ◌+◌, ◌<◌, ◌≤◌, Bool, true, false, not, ◌&&◌, ◌||◌, nat_lt, nat_le, List, [], ◌∷◌, ◌++◌, Option, Some, refl, ap, ap₂, ◌∙◌, arith}
+use Rattle.std.proofs.Common.{◌≡◌, ℕ, suc, ◌+◌, ◌<◌, ◌≤◌, Bool, false, ◌&&◌, ◌||◌, nat_lt, nat_le, List, [], ◌∷◌, ◌++◌, Option, Some, refl, ap, ap₂, ◌∙◌, arith}
 use Rattle.cx_bits.specs.BitVector.{BitVector}
-use Rattle.std.proofs.lemmas.Bool.Decides.{nat_tests}
 use Rattle.cx_bits.specs.Operators.{or_of}
 use Rattle.cx_meaning.specs.declared.ports.Comparison.TheVariants.{Less, AtLeast}
 use Rattle.cx_meaning.specs.Designs.{PlainGuard, Always, Atom, Negation, All, Any, Compared, Within, PlainGuards, no_guards, a_guard}
@@ -22,15 +21,8 @@ use Rattle.cx_wiring_cycles.specs.GuardPorts.{GuardPorts, PartsPorts}
 use Rattle.cx_wiring_cycles.specs.Shown.{wide}
 use Rattle.std.proofs.lemmas.Bool.{ne_eqb}
 use Rattle.cx_wiring_cycles.proofs.ConnectLaws.{Reads, read_before, read_behind, read_here}
-
-not_less : (x y : ℕ) → not (nat_lt y x) ≡ nat_le x y
-not_less x y = grind (arith, nat_tests)
-
-or_two : (a b : Bool) → or_of (truth_bit a) (truth_bit b) ≡ truth_bit (a || b)
-or_two true true = refl
-or_two true false = refl
-or_two false true = refl
-or_two false false = refl
+use Rattle.cx_net.proofs.NetMeaningLemmas.{or_two}
+use Rattle.cx_text.proofs.NumberLaws.{turned}
 
 module _ (around : NetAround) (registers : ℕ → Option BitVector) (look : Node → Option BitVector) where
   pub says_any : (e : PlainNetExpr) (es : PlainNetExprs) (a b : Bool) → Says around registers look e a → any_expr around registers look es ≡ Some (truth_bit b)
@@ -42,7 +34,7 @@ module _ (around : NetAround) (registers : ℕ → Option BitVector) (look : Nod
     within_says : (from to : ℕ) → Says around registers look (guard_expr offset 0 (Within from to)) (nat_le from at.value && nat_lt at.value to)
     within_says from to =
         says_both around registers look (Compares AtLeast offset (word from)) (Compares Less offset (word to)) (nat_le from at.value) (nat_lt at.value to)
-        (ap (λ o. both_known (λ x y. truth_bit (compares AtLeast x.value y.value)) o (Some (wide from))) known ∙ ap (λ b. Some (truth_bit b)) (not_less from at.value))
+        (ap (λ o. both_known (λ x y. truth_bit (compares AtLeast x.value y.value)) o (Some (wide from))) known ∙ ap (λ b. Some (truth_bit b)) (turned from at.value))
         (ap (λ o. both_known (λ x y. truth_bit (compares Less x.value y.value)) o (Some (wide to))) known)
 
     mutual

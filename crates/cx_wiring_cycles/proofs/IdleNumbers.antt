@@ -2,7 +2,6 @@
 use Rattle.std.proofs.Common.{◌≡◌, ℕ, zero, suc, ◌+◌, ◌-◌, ◌<◌, ◌≤◌, Bool, true, false, if◌then◌else◌, List, [], ◌∷◌, ◌++◌, length, replicate, Some, slice_get, nat_lt, refl, sym, ap, ap₂, ◌∙◌, arith, length-append}
 use Rattle.std.proofs.lemmas.Bool.{ltb-true, ltb-false}
 use Rattle.cx_text.specs.declared.places.Place.{Place}
-use Rattle.cx_prim.specs.MemoryLaws.{slice_get-append}
 use Rattle.cx_meaning.specs.declared.kinds.GroupKind.{GroupKind}
 use Rattle.cx_meaning.specs.declared.kinds.GroupKind.TheVariants as kinds
 use Rattle.cx_meaning.specs.Designs.{PlainComponent, PlainForm, Empty, Enable, Seq, Par, If, While, Repeat, StaticSeq, StaticPar, StaticIf, StaticRepeat, Timed, PlainStatement, Placed, PlainStatements, no_statements, a_statement, group_at}
@@ -16,6 +15,7 @@ use Rattle.cx_static.specs.Islands.{PlainIsland}
 use Rattle.cx_static.specs.Lowering.{Lowering, after, lowered, lowered_parts, lowered_enable}
 use Rattle.cx_wiring.specs.Counts.{sample_registers, form_registers, registers_of, registers_in, arms_registers}
 use Rattle.cx_wiring_cycles.specs.Shown.{counted, enable_number, form_number, number_of, parts_number, arms_number}
+use Rattle.cx_text.proofs.ListLaws.{behind}
 
 -- numbers after an idle edge, by what each is of
 abbrev pub Idled : List Role → (now next : ℕ → ℕ) → Type 0
@@ -35,7 +35,7 @@ beside_idled xs ys c a b f g count h k n = choice (nat_lt n c) refl
         h n ∙ ap (λ o. role_idle o (a n)) (sym (in_front xs ys n (omega arith)))
     choice false e =
         let more : c ≤ n = ltb-false n c e in
-        k (n - c) ∙ ap (λ o. role_idle o (b (n - c))) (sym (slice_get-append xs ys n (n - c) (omega arith)))
+        k (n - c) ∙ ap (λ o. role_idle o (b (n - c))) (sym (behind xs ys n (n - c) (omega arith)))
 
 counted_idled : (r : Role) (xs : List Role) (a b : ℕ) (f g : ℕ → ℕ) → b ≡ role_idle (Some r) a → Idled xs f g → Idled (r ∷ xs) (counted a f) (counted b g)
 counted_idled r xs a b f g first later zero = first

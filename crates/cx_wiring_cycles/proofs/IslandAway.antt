@@ -26,10 +26,8 @@ use Rattle.cx_wiring.specs.Takings.{Says, AllConnect, AllIdle, AreRegisters}
 use Rattle.cx_wiring.proofs.TakingLemmas.{no_port_register, says_both, says_equals, others_pass, idle_both}
 use Rattle.cx_wiring.proofs.IslandTargets.{wires_at, island_within, island_drives}
 use Rattle.cx_wiring.proofs.ControlTargets.{names_at}
-use Rattle.cx_wiring.proofs.GatherLaws.{get_below}
 use Rattle.cx_wiring.proofs.IslandCells.{IsListed, listed}
 use Rattle.cx_wiring.proofs.TimerRows.{EachTimer}
-use Rattle.cx_wiring.proofs.FitTrees.{some_at}
 use Rattle.cx_wiring_cycles.specs.Standing.{IsStopped, IsIn, Away}
 use Rattle.cx_wiring_cycles.specs.IslandTakes.{IslandNexts}
 use Rattle.cx_wiring_cycles.specs.Shown.{wide}
@@ -37,6 +35,7 @@ use Rattle.cx_wiring_cycles.specs.IslandNumbers.{cell_of_timer}
 use Rattle.cx_wiring_cycles.proofs.AwayLaws as away
 use Rattle.cx_wiring_cycles.proofs.KnowLaws.{Known}
 use Rattle.cx_wiring_cycles.proofs.IslandValues.{IslandLooks, live, says_live, says_active, count_is, live_first, live_within, says_begins, active_is, all_wanted}
+use Rattle.cx_text.proofs.ListLaws.{there_below, there_at}
 
 pub named_at : (groups : ℕ) (list : List PlainOccurrence) → OccurrencesName groups list → (j : ℕ) (v : PlainOccurrence) → slice_get list j ≡ Some v → v.group < groups
 named_at groups [] names j v e = absurd cc
@@ -73,7 +72,7 @@ module _ (part : PlainComponent) (named : IslandsName (groups (lowered_component
     lists = listed part k n.taken.there.0 n.taken.there.1
 
     its_timer : (t : ℕ) → t < length n.taken.there.0.timers → (timer : IslandTimer) × (slice_get n.taken.there.0.timers t ≡ Some timer)
-    its_timer t less = some_at n.taken.there.0.timers t less
+    its_timer t less = there_at n.taken.there.0.timers t less
 
     -- the counts of its timers, and whether the first one is done
     abbrev pub its_count : ℕ → ℕ
@@ -173,7 +172,7 @@ module _ (part : PlainComponent) (named : IslandsName (groups (lowered_component
           let none : m + 0 ≡ m = omega arith in
           let here : slice_get n.taken.there.0.occurrences m ≡ Some o = ap (slice_get n.taken.there.0.occurrences) (sym none) ∙ there 0 o refl in
           let l = lists.occurrences m o here in
-          let inactive = says_active G y (first_of_island G I k) n.taken.there.0 around registers look its_count its_done its_looks m (get_below n.taken.there.0.occurrences m o here)
+          let inactive = says_active G y (first_of_island G I k) n.taken.there.0 around registers look its_count its_done its_looks m (there_below n.taken.there.0.occurrences m o here)
           ∙ ap (λ b. Some (truth_bit b)) (active_is G y (first_of_island G I k) n.taken.there.0 around registers look its_count its_done its_looks m o here l.0 l.1 ∙ and_left (runs_now o.timer) _ (not_live o.timer l.0)) in
           (tt, (inactive, (tt, occurrences_idle (suc m) rest (λ j v e. let next : suc m + j ≡ m + suc j = omega arith in ap (slice_get n.taken.there.0.occurrences) next ∙ there (suc j) v e))))
 
@@ -187,7 +186,7 @@ module _ (part : PlainComponent) (named : IslandsName (groups (lowered_component
               idle_both around registers look (timer_drivers G y F island 0 island.timers) (point_drivers G y F island 0 island.points ++ occurrence_drivers G y F island 0 island.occurrences)
                   (timers_idle 0 island.timers (omega arith))
                   (idle_both around registers look (point_drivers G y F island 0 island.points) (occurrence_drivers G y F island 0 island.occurrences)
-                  (points_idle 0 island.points (λ j p e. let l = lists.points j p e in let below : j < length island.points = get_below island.points j p e in (l.0, λ s i. let h : s.point < j = l.1 s i in omega arith)))
+                  (points_idle 0 island.points (λ j p e. let l = lists.points j p e in let below : j < length island.points = there_below island.points j p e in (l.0, λ s i. let h : s.point < j = l.1 s i in omega arith)))
                   (occurrences_idle 0 island.occurrences (λ j o e. let none : 0 + j ≡ j = omega arith in ap (slice_get island.occurrences) none ∙ e))),
             ),
           )

@@ -22,9 +22,7 @@ use Rattle.cx_wiring.specs.IslandDrivers.{island_drivers}
 use Rattle.cx_wiring.specs.Takings.{value, Says}
 use Rattle.cx_wiring.specs.TimerCounts.{nested, cycles_at, counts_in}
 use Rattle.cx_wiring.proofs.TakingLemmas.{true_bit, takes_known}
-use Rattle.cx_wiring.proofs.GatherLaws.{get_below}
 use Rattle.cx_wiring.proofs.ListedLaws.{AreListed, TimerFits, only_timer, island_listed}
-use Rattle.cx_wiring.proofs.FitTrees.{some_at}
 use Rattle.cx_wiring_cycles.proofs.IslandOffsets.{range_in, at_in, are_wanted, live_in}
 use Rattle.cx_wiring_cycles.proofs.EntryLaws as entries
 use Rattle.cx_wiring_cycles.proofs.EntryLaws.{Extends, form_points}
@@ -32,6 +30,7 @@ use Rattle.cx_wiring_cycles.proofs.WireSamples.{form_sampled}
 use Rattle.cx_wiring_cycles.proofs.TimerHolds.{counts_hold, counts_first}
 use Rattle.cx_wiring_cycles.proofs.CycleBits.{is_there, nested_there, taken_there, active_there}
 use Rattle.cx_wiring_cycles.proofs.IslandValues.{IslandLooks, live, sample, active, all_wanted, sample_wire, live_first, live_within, says_begins, active_is}
+use Rattle.cx_text.proofs.ListLaws.{there_below, there_at}
 
 -- a timer within comes behind the one around it
 pub outer_before : (part : PlainComponent) (form : PlainForm) (front : List PlainCell) (n : ℕ) (timer : IslandTimer) → slice_get (island_gathered part form front).timers n ≡ Some timer → (o : ℕ) → timer.outer ≡ Some o → o < n
@@ -69,7 +68,7 @@ module _ (part : PlainComponent) (form : PlainForm) (front : List PlainCell) (gr
 
   pub first_is : counts 0 ≡ Some t
   first_is =
-      let k = some_at final.timers 0 lists.some in
+      let k = there_at final.timers 0 lists.some in
       counts_first cycles (Some t) final.timers (outer_before part form front) k.0 k.1 (lists.first k.0 k.1)
 
   count_so : (m : ℕ) → m < length (island_gathered part form front).timers → (c : ℕ) → counts m ≡ Some c → count m ≡ c
@@ -91,11 +90,11 @@ module _ (part : PlainComponent) (form : PlainForm) (front : List PlainCell) (gr
   runs_below : (bound m : ℕ) → m < bound → m < length (island_gathered part form front).timers → runs m ≡ is_there (counts m)
   runs_below zero m low there = absurd (omega arith)
   runs_below (suc bound) zero low there =
-      let k = some_at final.timers 0 there in
+      let k = there_at final.timers 0 there in
       live_first groups x first (island_of (form_length part form) final) around registers look count done looks k.0 true k.1 (lists.first k.0 k.1) here
       ∙ ap not undone ∙ sym (ap is_there first_is)
   runs_below (suc bound) (suc m) low there =
-      let k = some_at final.timers (suc m) there in
+      let k = there_at final.timers (suc m) there in
       let w = lists.within (suc m) k.0 k.1 (omega arith) in
       let before : w.0 < suc m = TimerFits.before w.2 in
       let around_there : w.0 < length final.timers = omega arith in
@@ -127,7 +126,7 @@ module _ (part : PlainComponent) (form : PlainForm) (front : List PlainCell) (gr
     begins_now p = runs p.timer && ((count p.timer == p.at) && wanted p.samples)
 
     point_low : (m : ℕ) (p : PlainPoint) → slice_get (island_gathered part form front).points m ≡ Some p → (s : Sample) → In p.samples s → s.point < length (island_gathered part form front).points
-    point_low m p e s i = let low : s.point < m = (lists.points m p e).1 s i in let m_low : m < length final.points = get_below final.points m p e in omega arith
+    point_low m p e s i = let low : s.point < m = (lists.points m p e).1 s i in let m_low : m < length final.points = there_below final.points m p e in omega arith
 
     -- its static if begins, or not
     pub begins_says : (m : ℕ) (p : PlainPoint) → slice_get (island_gathered part form front).points m ≡ Some p
@@ -138,7 +137,7 @@ module _ (part : PlainComponent) (form : PlainForm) (front : List PlainCell) (gr
     pub takes_port : (m : ℕ) (p : PlainPoint) → slice_get (island_gathered part form front).points m ≡ Some p
         → (if begins_now p then value around registers look (OfPort p.port) else Some (truth_bit (kept m))) ≡ Some (truth_bit (taken_sample m))
     takes_port m p e =
-        let low : m < length final.points = get_below final.points m p e in
+        let low : m < length final.points = there_below final.points m p e in
         let wire = first + length final.timers + m in
         let r = looks.reads wire (omega arith) (omega arith) in
         let b = looks.bits wire (omega arith) (omega arith) in

@@ -16,13 +16,13 @@ use Rattle.cx_wiring.specs.IslandDrivers.{timer_drivers, point_drivers, occurren
 use Rattle.cx_wiring.specs.Bounds.{AllDrive}
 use Rattle.cx_wiring.specs.Takings.{Says, takes, takes_of}
 use Rattle.cx_wiring.proofs.TakingLemmas.{takes_append, takes_known, passes, others_pass}
-use Rattle.cx_wiring.proofs.GatherLaws.{get_below}
 use Rattle.cx_wiring_cycles.specs.Shown.{told}
 use Rattle.cx_wiring_cycles.proofs.FormTurns.{go_known, told_append}
 use Rattle.cx_wiring_cycles.proofs.EntryLaws.{by_live}
 use Rattle.cx_wiring_cycles.proofs.CycleBits.{is_there}
 use Rattle.cx_wiring_cycles.proofs.IslandOwns.{goings}
 use Rattle.cx_wiring_cycles.proofs.IslandValues.{IslandLooks, live, active, says_live, says_active}
+use Rattle.cx_text.proofs.ListLaws.{there_below}
 
 goings_both : (xs ys : List Entry) → goings (xs ++ ys) ≡ goings xs ++ goings ys
 goings_both [] ys = refl
@@ -47,7 +47,7 @@ module _ (groups : ℕ) (x : Stand) (first : ℕ) (island : PlainIsland) (around
   holes_from offset so n [] there g o = refl
   holes_from offset so n (u ∷ rest) there g o =
       let here = there 0 n u (omega arith) refl in
-      let low : n < length island.occurrences = get_below island.occurrences n u here in
+      let low : n < length island.occurrences = there_below island.occurrences n u here in
       let wire = first + length island.timers + length island.points + n in
       let later = takes around registers look (ToHole (groups + g)) o (occurrence_drivers groups x first island (suc n) rest) in
       go_of g u.group wire (offset u) later (says_active groups x first island around registers look count done looks n low ∙ ap (λ b. Some (truth_bit b)) (so n u here))
@@ -128,7 +128,7 @@ module _ (groups : ℕ) (x : Stand) (first : ℕ) (island : PlainIsland) (around
     pub port_so : (t : ℕ) (timer : IslandTimer) → slice_get island.timers t ≡ Some timer
         → takes around registers look (ToPort (ports.Cell timer.cell 0)) (Some (truth_bit false)) (island_drivers groups x first island) ≡ Some (truth_bit (live groups x first island around registers look count done looks t))
     port_so t timer e =
-        let low : t < length island.timers = get_below island.timers t timer e in
+        let low : t < length island.timers = there_below island.timers t timer e in
         let target = ToPort (ports.Cell timer.cell 0) in
         let ts = timer_drivers groups x first island 0 island.timers in
         let ps = point_drivers groups x first island 0 island.points in

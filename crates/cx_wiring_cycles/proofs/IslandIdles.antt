@@ -9,9 +9,9 @@ use Rattle.cx_meaning.specs.Islands.{or_zero}
 use Rattle.cx_static.specs.declared.islands.IslandTimer.{IslandTimer}
 use Rattle.cx_static.specs.Islands.{PlainIsland}
 use Rattle.cx_wiring.specs.TimerCounts.{nested, cycles_at, timer_within, timer_count, counts_from, counts_in, all_count}
-use Rattle.cx_wiring.proofs.FitTrees.{some_at}
 use Rattle.cx_wiring_cycles.specs.IslandNumbers.{count_in, done_in, cell_of_timer, timer_counts, island_count, island_number}
 use Rattle.cx_wiring_cycles.proofs.IdleNumbers.{IslandIdled}
+use Rattle.cx_text.proofs.ListLaws.{there_at}
 
 -- AT COUNT 0 all timers are at 0
 nested_zero : (from to p : ℕ) (o : Option ℕ) → or_zero o ≡ 0 → or_zero (nested from to p o) ≡ 0
@@ -45,7 +45,7 @@ module _ (cells : List PlainCell) (state : ℕ → CellState) (register : ℕ �
     (rest : (t : ℕ) (timer : IslandTimer) → slice_get island.timers t ≡ Some timer → state timer.cell ≡ Timer 0 false) where
   cell_rests : (t : ℕ) → t < length island.timers → state (cell_of_timer island.timers t) ≡ Timer 0 false
   cell_rests t less =
-      let k = some_at island.timers t less in ap (λ (o : Option IslandTimer). state (unwrap_or (option_map (λ (z : IslandTimer). z.cell) o) 0)) k.1 ∙ rest t k.0 k.1
+      let k = there_at island.timers t less in ap (λ (o : Option IslandTimer). state (unwrap_or (option_map (λ (z : IslandTimer). z.cell) o) 0)) k.1 ∙ rest t k.0 k.1
 
   pub count_rests : island_count cells state register island ≡ 0
   count_rests =

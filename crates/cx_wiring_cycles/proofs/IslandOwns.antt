@@ -19,6 +19,7 @@ use Rattle.cx_control.specs.Controls.{coded_below}
 use Rattle.cx_net.specs.NetMeaning.{truth_bit}
 use Rattle.cx_wiring_cycles.specs.Shown.{Going, told}
 use Rattle.cx_wiring_cycles.proofs.BegunSamples.{in_then}
+use Rattle.cx_meaning.proofs.SightsLaws.{in_either, in_left, in_right}
 
 -- the groups of entries go
 abbrev pub goings : List Entry → List Going
@@ -35,24 +36,6 @@ goes_told (e ∷ os) g = by (nat_eq e.group g) (goes_told os g)
     by true later = refl
     by false later = later
 
-in_front : {A : Type 0} (xs ys : List A) (x : A) → In xs x → In (xs ++ ys) x
-in_front [] ys x i = absurd i
-in_front (y ∷ xs) ys x (inl e) = inl e
-in_front (y ∷ xs) ys x (inr i) = inr (in_front xs ys x i)
-
-behind : {A : Type 0} (xs ys : List A) (x : A) → In ys x → In (xs ++ ys) x
-behind [] ys x i = i
-behind (y ∷ xs) ys x i = inr (behind xs ys x i)
-
-either : {A : Type 0} (xs ys : List A) (x : A) → In (xs ++ ys) x → In xs x ⊎ In ys x
-either [] ys x i = inr i
-either (y ∷ xs) ys x (inl e) = inl (inl e)
-either (y ∷ xs) ys x (inr i) = by (either xs ys x i)
-  where
-    by : In xs x ⊎ In ys x → In (y ∷ xs) x ⊎ In ys x
-    by (inl j) = inl (inr j)
-    by (inr j) = inr j
-
 chosen : {A : Type 0} (b : Bool) (xs ys : List A) (x : A) → In (if b then xs else ys) x → In xs x ⊎ In ys x
 chosen true xs ys x i = inl i
 chosen false xs ys x i = inr i
@@ -60,8 +43,8 @@ chosen false xs ys x i = inr i
 -- WHAT IS ACTIVE are groups of the form
 module _ (part : PlainComponent) (kept : Samples) where
   branch_owns : (a b : PlainStatement) (x : Entry) → ((In (groups_of a) x.group) ⊎ (In (groups_of b) x.group)) → In (groups_of a ++ groups_of b) x.group
-  branch_owns a b x (inl i) = in_front (groups_of a) (groups_of b) x.group i
-  branch_owns a b x (inr i) = behind (groups_of a) (groups_of b) x.group i
+  branch_owns a b x (inl i) = in_left (groups_of a) (groups_of b) x.group i
+  branch_owns a b x (inr i) = in_right (groups_of a) (groups_of b) x.group i
 
   mutual
     form_owns : (form : PlainForm) (n j : ℕ) (x : Entry) → In (form_by part kept entry_at no_entry form n j) x → In (groups_in form) x.group
@@ -101,19 +84,19 @@ module _ (part : PlainComponent) (kept : Samples) where
         by : In (statement_by part kept entry_at no_entry s n j) x ⊎ In (parts_by part kept entry_at no_entry ss (n + ifs_of s) (j - length_of part s)) x
             → (In (statement_by part kept entry_at no_entry s n j) x → In (groups_of s) x.group) → (In (parts_by part kept entry_at no_entry ss (n + ifs_of s) (j - length_of part s)) x → In (groups_in_all ss) x.group)
             → In (groups_of s ++ groups_in_all ss) x.group
-        by (inl k) f h = in_front (groups_of s) (groups_in_all ss) x.group (f k)
-        by (inr k) f h = behind (groups_of s) (groups_in_all ss) x.group (h k)
+        by (inl k) f h = in_left (groups_of s) (groups_in_all ss) x.group (f k)
+        by (inr k) f h = in_right (groups_of s) (groups_in_all ss) x.group (h k)
 
     arms_own : (ss : PlainStatements) (n j : ℕ) (x : Entry) → In (arms_by part kept entry_at no_entry ss n j) x → In (groups_in_all ss) x.group
     arms_own no_statements n j x i = absurd i
     arms_own (a_statement s ss) n j x i =
-        by (either (while_by part kept entry_at no_entry s n j) (arms_by part kept entry_at no_entry ss (n + ifs_of s) j) x i) (while_owns s n j x) (arms_own ss (n + ifs_of s) j x)
+        by (in_either (while_by part kept entry_at no_entry s n j) (arms_by part kept entry_at no_entry ss (n + ifs_of s) j) x i) (while_owns s n j x) (arms_own ss (n + ifs_of s) j x)
       where
         by : In (while_by part kept entry_at no_entry s n j) x ⊎ In (arms_by part kept entry_at no_entry ss (n + ifs_of s) j) x
             → (In (while_by part kept entry_at no_entry s n j) x → In (groups_of s) x.group) → (In (arms_by part kept entry_at no_entry ss (n + ifs_of s) j) x → In (groups_in_all ss) x.group)
             → In (groups_of s ++ groups_in_all ss) x.group
-        by (inl k) f h = in_front (groups_of s) (groups_in_all ss) x.group (f k)
-        by (inr k) f h = behind (groups_of s) (groups_in_all ss) x.group (h k)
+        by (inl k) f h = in_left (groups_of s) (groups_in_all ss) x.group (f k)
+        by (inr k) f h = in_right (groups_of s) (groups_in_all ss) x.group (h k)
 
   pub active_owns : (t : ℕ) (form : PlainForm) (x : Entry) → In (active_by part kept t form) x → In (groups_in form) x.group
   active_owns t form x i = form_owns form 0 t x i

@@ -20,10 +20,10 @@ use Rattle.cx_wiring.proofs.RoomLemmas.{drive_both}
 use Rattle.cx_wiring.proofs.IslandTargets.{wires_at, island_within, island_drives}
 use Rattle.cx_wiring.proofs.ControlTargets.{names_at}
 use Rattle.cx_wiring.proofs.IslandCells.{timers_stand, apart}
-use Rattle.cx_wiring.proofs.FitTrees.{some_at}
 use Rattle.cx_wiring_cycles.specs.IslandTakes.{StatementIslands, TakesIsland}
 use Rattle.cx_wiring_cycles.proofs.ConnectLaws.{no_port, Reads}
 use Rattle.cx_wiring_cycles.proofs.IslandReads.{IsUntimed, OfIsland, TakesIts, TakesItsIsland, AllTake, statement_takes}
+use Rattle.cx_text.proofs.ListLaws.{there_at}
 
 -- the wires of one island are before those of a later one
 wires_later : (islands : List PlainIsland) (k j : ℕ) (island : PlainIsland) → slice_get islands k ≡ Some island → k < j → island_wires (take k islands) + wires_of_island island ≤ island_wires (take j islands)
@@ -179,7 +179,7 @@ module _ (part : PlainComponent) (named : IslandsName (groups (lowered_component
     where
       all : AllTake part (groups (lowered_component part)) (lowered_component part).islands (first_of_control (lowered_component part)) around registers look value_of Base HasIt Mine of_mine 0 (length (lowered_component part).islands)
           (drivers_of (groups (lowered_component part)) (lowered_component part).islands (whole_stand (first_of_control (lowered_component part))) (lowered part part.control (unlowered part)))
-      all j low high = (some_at I j high, at_target j)
+      all j low high = (there_at I j high, at_target j)
         where
           at_target : (j : ℕ) (t : PlainNetTarget) → Mine j t → TakesIts part (groups (lowered_component part)) (lowered_component part).islands (first_of_control (lowered_component part)) around registers look value_of Base HasIt Mine of_mine t
               (drivers_of (groups (lowered_component part)) (lowered_component part).islands (whole_stand (first_of_control (lowered_component part))) (lowered part part.control (unlowered part)))

@@ -10,13 +10,13 @@ use Rattle.cx_static.specs.Islands.{PlainIsland}
 use Rattle.cx_static.specs.Lowering.{Gathered, timer_cell, island_gathered, island_of}
 use Rattle.cx_wiring.specs.TimerCounts.{nested, kind_cycles, cycles_at, counts_in}
 use Rattle.cx_wiring.proofs.ListedLaws.{AreListed, HasTimer, island_listed, first_has}
-use Rattle.cx_wiring.proofs.FitTrees.{some_at}
 use Rattle.cx_wiring_cycles.specs.IslandNumbers.{count_in, done_bit, done_in, cell_of_timer, timer_counts, island_count}
 use Rattle.cx_wiring_cycles.proofs.TimerHolds.{counts_hold, counts_first, counts_all}
 use Rattle.cx_wiring_cycles.proofs.TimerSteps.{Follows, goes, ends, stepped, timers_step}
 use Rattle.cx_wiring_cycles.proofs.CycleBits.{is_there}
 use Rattle.cx_wiring_cycles.proofs.IslandCycle.{outer_before}
 use Rattle.cx_wiring_cycles.proofs.IslandIdles.{counts_zero, all_zero}
+use Rattle.cx_text.proofs.ListLaws.{there_at}
 
 -- one timer
 count_after : (p c : ℕ) (d : Bool) (o : Option ℕ) → c ≡ or_zero o → count_in (if is_there o then timer_go p (Timer c d) else timer_idle (Timer c d)) ≡ stepped p o
@@ -67,7 +67,7 @@ module _ (part : PlainComponent) (form : PlainForm) (front cells : List PlainCel
 
   next_count : (m : ℕ) → m < length (island_gathered part form front).timers → timer_counts cells next later (island_gathered part form front).timers m ≡ stepped (P m) (a m)
   next_count m there =
-      let k = some_at final.timers m there in
+      let k = there_at final.timers m there in
       let cell = cell_is m k.0 k.1 in
       ap (λ c. count_in (next c)) cell ∙ ap count_in (edge_of m k.0 k.1 there)
       ∙ count_after (cycles_at cells k.0.cell) (count_in (now k.0.cell)) (done_bit (now k.0.cell)) (a m) (ap (λ c. count_in (now c)) (sym cell) ∙ in_step m there)
@@ -83,7 +83,7 @@ module _ (part : PlainComponent) (form : PlainForm) (front cells : List PlainCel
   first_cycles = let h = first_has part form front in own_cycles 0 (form_length part form) h.timer h.listed h.cell
 
   first_count : (o : Option ℕ) → counts_in (cycles_at cells) o (island_gathered part form front).timers 0 ≡ o
-  first_count o = let k = some_at final.timers 0 lists.some in counts_first (cycles_at cells) o final.timers (outer_before part form front) k.0 k.1 (lists.first k.0 k.1)
+  first_count o = let k = there_at final.timers 0 lists.some in counts_first (cycles_at cells) o final.timers (outer_before part form front) k.0 k.1 (lists.first k.0 k.1)
 
   held : (o : Option ℕ) (n : ℕ) (timer : IslandTimer) → slice_get (island_gathered part form front).timers n ≡ Some timer → (outer : ℕ) → timer.outer ≡ Some outer
       → counts_in (cycles_at cells) o (island_gathered part form front).timers n ≡ nested timer.from timer.to (P n) (counts_in (cycles_at cells) o (island_gathered part form front).timers outer)
@@ -100,7 +100,7 @@ module _ (part : PlainComponent) (form : PlainForm) (front cells : List PlainCel
       (w.0, w.1, f.before, f.rounds, subst (λ q. timer.to ≡ timer.from + f.rounds * q) (sym own) f.whole, subst (λ q. timer.to ≤ q) (sym around) f.within)
 
   some_cycles : (n : ℕ) → n < length (island_gathered part form front).timers → 0 < P n
-  some_cycles n there = let k = some_at final.timers n there in subst (λ c. 0 < cycles_at cells c) (sym (cell_is n k.0 k.1)) (some n k.0 k.1)
+  some_cycles n there = let k = there_at final.timers n there in subst (λ c. 0 < cycles_at cells c) (sym (cell_is n k.0 k.1)) (some n k.0 k.1)
 
   steps_to : (o : Option ℕ) → Follows (form_length part form) (Some t) o → (m : ℕ) → m < length (island_gathered part form front).timers
       → timer_counts cells next later (island_gathered part form front).timers m ≡ or_zero (counts_in (cycles_at cells) o (island_gathered part form front).timers m)
@@ -137,7 +137,7 @@ module _ (part : PlainComponent) (form : PlainForm) (front cells : List PlainCel
   -- the first timer is done then, and not before
   pub done_next : done_in (next (cell_of_timer (island_gathered part form front).timers 0)) ≡ (if t + 1 == form_length part form then 1 else 0)
   done_next =
-      let k = some_at final.timers 0 lists.some in
+      let k = there_at final.timers 0 lists.some in
       let cell = cell_is 0 k.0 k.1 in
       let count : count_in (now k.0.cell) ≡ t = ap (λ c. count_in (now c)) (sym cell) ∙ in_step 0 lists.some ∙ ap or_zero (first_count (Some t)) in
       ap (λ c. if done_bit (next c) then 1 else 0) cell

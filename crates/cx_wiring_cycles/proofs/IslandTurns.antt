@@ -24,9 +24,7 @@ use Rattle.cx_wiring.specs.IslandDrivers.{island_drivers}
 use Rattle.cx_wiring.specs.Takings.{value, Says, takes}
 use Rattle.cx_wiring.specs.TimerCounts.{cycles_at, counts_in}
 use Rattle.cx_wiring.proofs.TakingLemmas.{says_both, says_equals}
-use Rattle.cx_wiring.proofs.GatherLaws.{get_below}
 use Rattle.cx_wiring.proofs.ListedLaws.{AreListed, TimerFits, island_listed, only_timer}
-use Rattle.cx_wiring.proofs.FitTrees.{some_at}
 use Rattle.cx_wiring_cycles.specs.Shown.{wide, told}
 use Rattle.cx_wiring_cycles.specs.IslandNumbers.{count_in, done_bit, cell_of_timer, timer_counts, are_in_step, island_number}
 use Rattle.cx_wiring_cycles.proofs.EntryLaws as entries
@@ -42,6 +40,7 @@ use Rattle.cx_wiring_cycles.proofs.IslandWires.{live_from, nested_small, wires_s
 use Rattle.cx_wiring_cycles.proofs.IslandSteps as steps_laws
 use Rattle.cx_wiring_cycles.proofs.IslandKeeps.{register_is}
 use Rattle.cx_wiring_cycles.proofs.IslandIdles.{count_rests, done_rests}
+use Rattle.cx_text.proofs.ListLaws.{there_below, there_at}
 
 -- a count that is one of a cycle is in step
 counted_so : (b : Bool) (c len t : ℕ) → (if b then c else suc len) ≡ t → t < len → (b ≡ true) × (c ≡ t)
@@ -170,7 +169,7 @@ module _ (part : PlainComponent) (form : PlainForm) (front cells : List PlainCel
         of_some : (a b : ℕ) → ◌≡◌ {A = Option ℕ} (Some a) (Some b) → a ≡ b
         of_some a b f = cc
     counts_few low few (suc m) there c e =
-        let k = some_at final.timers (suc m) there in
+        let k = there_at final.timers (suc m) there in
         let w = lists.within (suc m) k.0 k.1 (omega arith) in
         let p = cycles_are (suc m) k.0 k.1 in
         let below : c < cycles_at final.cells k.0.cell = nested_small k.0.from k.0.to (cycles_at final.cells k.0.cell) (counts_in (cycles_at cells) (Some t) final.timers w.0) c (subst (λ n. 0 < n) p (some (suc m) k.0 k.1))
@@ -198,7 +197,7 @@ module _ (part : PlainComponent) (form : PlainForm) (front cells : List PlainCel
     later_sample m low =
         let points : length final.points ≡ form_ifs form = points_are in
         let there : m < length final.points = omega arith in
-        let p = some_at final.points m there in
+        let p = there_at final.points m there in
         samples m (truth_bit (sampled m)) (truth_bit (if t == form_length part form - 1 then false else S m)) there (sym (kept_is m there))
         (register_is groups y first island around registers look m p.0 (Some (truth_bit (sampled m))) (t == form_length part form - 1)
         (cycle.begins_now part form front groups y first around registers look count done looks t less (cycles_at cells) cycles_are here undone in_step sampled kept_so p.0) (S m) p.1 (last_says t counted.1)
@@ -236,10 +235,10 @@ module _ (part : PlainComponent) (form : PlainForm) (front cells : List PlainCel
     none_below : (bound m : ℕ) → m < bound → m < length (island_gathered part form front).timers → runs m ≡ false
     none_below zero m low there = absurd (omega arith)
     none_below (suc bound) zero low there =
-        let k = some_at final.timers 0 there in
+        let k = there_at final.timers 0 there in
         live_first groups y first island around registers look count done looks k.0 true k.1 (lists.first k.0 k.1) here ∙ ap not its_done
     none_below (suc bound) (suc m) low there =
-        let k = some_at final.timers (suc m) there in
+        let k = there_at final.timers (suc m) there in
         let w = lists.within (suc m) k.0 k.1 (omega arith) in
         let before : w.0 < suc m = TimerFits.before w.2 in
         let around_there : w.0 < length final.timers = omega arith in
@@ -250,7 +249,7 @@ module _ (part : PlainComponent) (form : PlainForm) (front cells : List PlainCel
 
     rests : (n : ℕ) (timer : IslandTimer) → slice_get (island_gathered part form front).timers n ≡ Some timer → next timer.cell ≡ Timer 0 false
     rests n timer e =
-        steps n timer e ∙ ap (λ b. if b then timer_go (cycles_at cells timer.cell) (now timer.cell) else timer_idle (now timer.cell)) (none_runs n (get_below final.timers n timer e)) ∙ ap timer_idle (is_timer n timer e)
+        steps n timer e ∙ ap (λ b. if b then timer_go (cycles_at cells timer.cell) (now timer.cell) else timer_idle (now timer.cell)) (none_runs n (there_below final.timers n timer e)) ∙ ap timer_idle (is_timer n timer e)
 
     pub none_goes : (g : ℕ) (o : Option BitVector) → takes around registers look (ToHole (groups + g)) o (island_drivers groups y first (island_of (form_length part form) (island_gathered part form front))) ≡ o
     none_goes g o =
@@ -269,7 +268,7 @@ module _ (part : PlainComponent) (form : PlainForm) (front cells : List PlainCel
 
     later_zero : (m : ℕ) → m < length (island_gathered part form front).points → later (y.register + m) ≡ 0
     later_zero m there =
-        let p = some_at final.points m there in
+        let p = there_at final.points m there in
         let l = lists.points m p.0 p.1 in
         let begun = runs p.0.timer && ((count p.0.timer == p.0.at) && all_wanted groups y first island around registers look count done looks p.0.samples) in
         let none : begun ≡ false = and_left (runs p.0.timer) _ (none_runs p.0.timer l.0) in

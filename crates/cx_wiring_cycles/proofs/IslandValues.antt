@@ -20,9 +20,8 @@ use Rattle.cx_wiring.specs.IslandDrivers.{wires_of_island, timer_drivers, point_
 use Rattle.cx_wiring.specs.Bounds.{AllDrive}
 use Rattle.cx_wiring.specs.Takings.{value, Says, takes, takes_of}
 use Rattle.cx_wiring.proofs.TakingLemmas.{true_bit, says_both, says_not, says_all, says_equals, takes_append, others_pass}
-use Rattle.cx_wiring.proofs.GatherLaws.{get_below}
-use Rattle.cx_wiring.proofs.FitTrees.{some_at}
 use Rattle.cx_wiring_cycles.specs.Shown.{wide}
+use Rattle.cx_text.proofs.ListLaws.{there_below, there_at}
 
 -- WHICH DRIVER of an island's list a wire has
 module _ (groups : ℕ) (x : Stand) (first : ℕ) (island : PlainIsland) (around : NetAround) (registers : ℕ → Option BitVector) (look : Node → Option BitVector) where
@@ -127,14 +126,14 @@ module _ (groups : ℕ) (x : Stand) (first : ℕ) (island : PlainIsland) (around
     pub timer_wire : (o : Option BitVector) (t : ℕ) (timer : IslandTimer) → slice_get island.timers t ≡ Some timer
         → takes around registers look (ToWire (first + t)) o (island_drivers groups x first island) ≡ value around registers look (wired.timer_runs groups x first island timer.cell timer.outer timer.from timer.to)
     timer_wire o t timer e =
-        let l : t < length island.timers = get_below island.timers t timer e in
+        let l : t < length island.timers = there_below island.timers t timer e in
         past_end (first + t) o (omega arith) ∙ timer_takes 0 t t island.timers timer o (point_drivers groups x first island 0 island.points ++ occurrence_drivers groups x first island 0 island.occurrences) (omega arith) e
 
     pub sample_wire : (o : Option BitVector) (n : ℕ) (p : PlainPoint) → slice_get island.points n ≡ Some p
         → takes around registers look (ToWire (first + length island.timers + n)) o (island_drivers groups x first island)
         ≡ takes_of around registers look true (drive (ToWire 0) (wired.begins groups x first island p) (OfPort p.port)) (value around registers look (OfRegister (x.register + n)))
     sample_wire o n p e =
-        let l : n < length island.points = get_below island.points n p e in
+        let l : n < length island.points = there_below island.points n p e in
         past_end (first + length island.timers + n) o (omega arith)
         ∙ past_list (first + length island.timers + n) o (timer_drivers groups x first island 0 island.timers) (point_drivers groups x first island 0 island.points ++ occurrence_drivers groups x first island 0 island.occurrences) (timers_miss (first + length island.timers + n) 0 island.timers (omega arith))
         ∙ point_takes 0 n n island.points p o (occurrence_drivers groups x first island 0 island.occurrences) (omega arith) e
@@ -142,7 +141,7 @@ module _ (groups : ℕ) (x : Stand) (first : ℕ) (island : PlainIsland) (around
     pub active_wire : (o : Option BitVector) (n : ℕ) (u : PlainOccurrence) → slice_get island.occurrences n ≡ Some u
         → takes around registers look (ToWire (first + length island.timers + length island.points + n)) o (island_drivers groups x first island) ≡ value around registers look (wired.is_active groups x first island u)
     active_wire o n u e =
-        let l : n < length island.occurrences = get_below island.occurrences n u e in
+        let l : n < length island.occurrences = there_below island.occurrences n u e in
         past_end (first + length island.timers + length island.points + n) o (omega arith)
         ∙ past_list (first + length island.timers + length island.points + n) o (timer_drivers groups x first island 0 island.timers) (point_drivers groups x first island 0 island.points ++ occurrence_drivers groups x first island 0 island.occurrences) (timers_miss (first + length island.timers + length island.points + n) 0 island.timers (omega arith))
         ∙ past_list (first + length island.timers + length island.points + n) o (point_drivers groups x first island 0 island.points) (occurrence_drivers groups x first island 0 island.occurrences) (points_miss (first + length island.timers + length island.points + n) 0 island.points (omega arith))
@@ -189,7 +188,7 @@ module _ (groups : ℕ) (x : Stand) (first : ℕ) (island : PlainIsland) (around
 
     pub count_is : (t : ℕ) → t < length island.timers → value around registers look (wired.count groups x first island t) ≡ Some (wide (count t))
     count_is t less =
-        let k = some_at island.timers t less in
+        let k = there_at island.timers t less in
         ap (λ (o : Option IslandTimer). look (APort (ports.Cell (unwrap_or (option_map (λ timer. timer.cell) o) 0) 1))) k.1 ∙ looks.counts t k.0 k.1
 
     says_compare : (c : Comparison) (e : PlainNetExpr) (b : BitVector) (m : ℕ) → value around registers look e ≡ Some b → Says around registers look (Compares c e (word m)) (compares c b.value m)
@@ -211,7 +210,7 @@ module _ (groups : ℕ) (x : Stand) (first : ℕ) (island : PlainIsland) (around
     -- THE FIRST TIMER runs where control stands at the island and it is not done
     pub live_first : (timer : IslandTimer) (here_so : Bool) → slice_get island.timers 0 ≡ Some timer → timer.outer ≡ None → Says around registers look (at x) here_so → live 0 ≡ here_so && not done
     live_first timer here_so e none on =
-        let l : 0 < length island.timers = get_below island.timers 0 timer e in
+        let l : 0 < length island.timers = there_below island.timers 0 timer e in
         let r = looks.reads (first + 0) (omega arith) (omega arith) in
         bit_is (first + 0) _ (r.1 ∙ timer_wire looks.high looks.groups_low r.0 0 timer e
         ∙ ap (λ o. value around registers look (wired.timer_runs groups x first island timer.cell o timer.from timer.to)) none
@@ -221,7 +220,7 @@ module _ (groups : ℕ) (x : Stand) (first : ℕ) (island : PlainIsland) (around
     pub live_within : (t outer : ℕ) (timer : IslandTimer) → slice_get island.timers t ≡ Some timer → timer.outer ≡ Some outer → outer < length island.timers
         → live t ≡ live outer && (not (nat_lt (count outer) timer.from) && (nat_lt (count outer) timer.to && true))
     live_within t outer timer e around_it less =
-        let l : t < length island.timers = get_below island.timers t timer e in
+        let l : t < length island.timers = there_below island.timers t timer e in
         let r = looks.reads (first + t) (omega arith) (omega arith) in
         bit_is (first + t) _ (r.1 ∙ timer_wire looks.high looks.groups_low r.0 t timer e
         ∙ ap (λ o. value around registers look (wired.timer_runs groups x first island timer.cell o timer.from timer.to)) around_it
@@ -260,7 +259,7 @@ module _ (groups : ℕ) (x : Stand) (first : ℕ) (island : PlainIsland) (around
     pub active_is : (n : ℕ) (u : PlainOccurrence) → slice_get island.occurrences n ≡ Some u → u.timer < length island.timers → ((s : Sample) → In u.samples s → s.point < length island.points)
         → active n ≡ live u.timer && (not (nat_lt (count u.timer) u.from) && (nat_lt (count u.timer) u.to && all_wanted u.samples))
     active_is n u e less there =
-        let l : n < length island.occurrences = get_below island.occurrences n u e in
+        let l : n < length island.occurrences = there_below island.occurrences n u e in
         let r = looks.reads (first + length island.timers + length island.points + n) (omega arith) (omega arith) in
         bit_is (first + length island.timers + length island.points + n) _ (r.1 ∙ active_wire looks.high looks.groups_low r.0 n u e
         ∙ says_range u.timer u.from u.to (map (wired.as_wanted groups x first island) u.samples) (all_wanted u.samples) less (says_all_wanted u.samples there))

@@ -20,7 +20,6 @@ use Rattle.cx_wiring.specs.IslandDrivers.{timer_drivers, point_drivers, occurren
 use Rattle.cx_wiring.specs.Bounds.{AllDrive}
 use Rattle.cx_wiring.specs.Takings.{value, Says, takes, takes_of}
 use Rattle.cx_wiring.proofs.TakingLemmas.{takes_append, takes_known, passes, others_pass}
-use Rattle.cx_wiring.proofs.GatherLaws.{get_below}
 use Rattle.cx_wiring_cycles.proofs.IslandOffsets.{range_in, Lies, lies, before, in_it, behind, at_before, at_in, at_behind, are_wanted, live_in}
 use Rattle.cx_wiring_cycles.specs.Shown.{wide}
 use Rattle.cx_wiring_cycles.proofs.EntryLaws.{by_live}
@@ -28,6 +27,7 @@ use Rattle.cx_wiring_cycles.proofs.CycleBits.{is_there}
 use Rattle.cx_wiring_cycles.proofs.IslandHoles.{among}
 use Rattle.cx_wiring_cycles.proofs.OffsetWalk.{offset_told, offset_both}
 use Rattle.cx_wiring_cycles.proofs.IslandValues.{IslandLooks, active, says_active, count_is}
+use Rattle.cx_text.proofs.ListLaws.{there_below}
 
 -- a count less the first of its range, modulo a number above it
 offset_sum : (m c from o : ℕ) → 0 < m → c ≡ from + o → c < m → (c + (m - from) % m) % m ≡ o
@@ -102,7 +102,7 @@ module _ (groups : ℕ) (x : Stand) (first : ℕ) (island : PlainIsland) (around
     wires_from n [] there g low o = refl
     wires_from n (u ∷ rest) there g low o =
         let here = there 0 n u (omega arith) refl in
-        let below : n < length island.occurrences = get_below island.occurrences n u here in
+        let below : n < length island.occurrences = there_below island.occurrences n u here in
         let wire = first + length island.timers + length island.points + n in
         let later = takes around registers look (ToWire g) o (occurrence_drivers groups x first island (suc n) rest) in
         skip_wire g wire (connect wire (wired.is_active groups x first island u)) (takes_of around registers look (u.group == g) (drive (ToWire u.group) (OfWire wire) (wired.offset_from groups x first island u)) later) (λ e. omega arith)

@@ -3,7 +3,6 @@
 use Rattle.std.proofs.Common.{◌≡◌, ℕ, zero, suc, ◌+◌, ◌-◌, ◌<◌, ◌≤◌, Bool, true, false, List, [], ◌∷◌, length, replicate, Option, Some, None, unwrap_or, slice_get, refl, sym, ap, ◌∙◌, arith, length-append}
 use Rattle.std.proofs.lemmas.List.{length-replicate}
 use Rattle.cx_bits.specs.BitVector.{BitVector}
-use Rattle.cx_prim.specs.MemoryLaws.{slice_get-append}
 use Rattle.cx_meaning.specs.declared.ports.PortRef.{PortRef}
 use Rattle.cx_meaning.specs.declared.ports.PortRef.TheVariants as ports
 use Rattle.cx_meaning.specs.Designs.{PlainComponent}
@@ -27,19 +26,13 @@ use Rattle.std.proofs.lemmas.Bool.{ne_eqb}
 use Rattle.cx_wiring.proofs.DrivenLemmas.{IsProper}
 use Rattle.cx_wiring.proofs.NetTargets.{plain_wires_count}
 use Rattle.cx_wiring.proofs.ComponentTakes.{IsPlain, target_takes}
-use Rattle.cx_wiring.proofs.FitLemmas.{slice_left}
 use Rattle.cx_wiring_cycles.specs.GuardPorts.{going_set, AssignsHold}
 use Rattle.cx_wiring_cycles.proofs.ControlPorts.{OfTimers, control_free}
 use Rattle.cx_wiring_cycles.proofs.CycleLaws.{wire_there, reads}
 use Rattle.cx_wiring_cycles.proofs.HoleLaws.{HolesFit, hole_takes}
 use Rattle.cx_wiring_cycles.proofs.AssignLaws.{ReadsBit, acting_filter, no_port_wire, port_takes}
-
-no_port_hole : (n : ℕ) (p : PortRef) → same_target (ToPort p) (ToHole n) ≡ false
-no_port_hole n (ports.Cell c p) = refl
-no_port_hole n (ports.Input i) = refl
-no_port_hole n (ports.Output i) = refl
-no_port_hole n (ports.Done g) = refl
-no_port_hole n (ports.Literal w v) = refl
+use Rattle.cx_net.proofs.NetsLemmas.{no_port_hole}
+use Rattle.cx_text.proofs.ListLaws.{behind, front}
 
 one_of : (w k j : ℕ) → j < k → slice_get (replicate k w) j ≡ Some w
 one_of w zero j less = absurd (omega arith)
@@ -66,7 +59,7 @@ module _ (d : PlainLowereds) (part : PlainComponent) (named : IslandsName (group
       let wide : ℕ = 32 in
       let count : length (replicate (groups (lowered_component part)) wide) ≡ groups (lowered_component part) = length-replicate (groups (lowered_component part)) wide in
       let at : n ≡ length (replicate (groups (lowered_component part)) 32) + (n - groups (lowered_component part)) = omega (arith, count, low) in
-      slice_get-append (replicate (groups (lowered_component part)) 32) (replicate (bits (lowered_component part)) 1) n (n - groups (lowered_component part)) at
+      behind (replicate (groups (lowered_component part)) 32) (replicate (bits (lowered_component part)) 1) n (n - groups (lowered_component part)) at
       ∙ one_of 1 (bits (lowered_component part)) (n - groups (lowered_component part)) (omega arith)
 
   -- the wires of assignments take what the drivers of assignments give them
@@ -77,7 +70,7 @@ module _ (d : PlainLowereds) (part : PlainComponent) (named : IslandsName (group
       let width : target_width d (lowered_component part) (ToWire n) ≡ 1 = ap (λ o. unwrap_or o 1) one in
       let count : length (plain_wires (lowered_component part)) ≡ groups (lowered_component part) + bits (lowered_component part) = plain_wires_count (lowered_component part) in
       let there : n < length (plain_wires (lowered_component part)) = omega arith in
-      wire_there d part named cells around s look solves has_value plain n 1 (slice_left (plain_wires (lowered_component part)) _ n 1 one) (within n there)
+      wire_there d part named cells around s look solves has_value plain n 1 (front (plain_wires (lowered_component part)) _ n 1 one) (within n there)
       ∙ ap (λ w. first_true around R (look []) (zero_wide w) (drivers_to (ToWire n) (net_component d (lowered_component part)).drivers)) (sym width)
       ∙ target_takes d (lowered_component part) around R (look []) plain (reads d part named cells around s look solves has_value plain) (ToWire n) tt (λ m from. ne_eqb m n (λ e. omega arith))
       ∙ ap (λ w. takes around R (look []) (ToWire n) (Some (zero_wide w)) (plain_drivers (lowered_component part))) width

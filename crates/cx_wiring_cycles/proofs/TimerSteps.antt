@@ -7,8 +7,8 @@ use Rattle.std.proofs.Math.Nat.{mod-eq_of_lt, mod_self, suc-mod, zero-mod}
 use Rattle.cx_meaning.specs.Islands.{or_zero}
 use Rattle.cx_static.specs.declared.islands.IslandTimer.{IslandTimer}
 use Rattle.cx_wiring.specs.TimerCounts.{nested}
-use Rattle.cx_wiring.proofs.FitTrees.{some_at}
 use Rattle.cx_wiring_cycles.proofs.IslandOffsets.{Lies, before, in_it, behind, lies}
+use Rattle.cx_text.proofs.ListLaws.{there_at}
 
 -- of a timer of p cycles: its count in a cycle where it runs, and in the next one
 pub data Follows (p : ℕ) (a b : Option ℕ) : Type 0 where
@@ -135,7 +135,7 @@ module _ (timers : List IslandTimer) (a b : ℕ → Option ℕ) (cycles : ℕ �
   follow_below zero n less there = absurd (omega arith)
   follow_below (suc bound) zero less there = first
   follow_below (suc bound) (suc n) less there =
-      let t = some_at timers (suc n) there in
+      let t = there_at timers (suc n) there in
       let f = fits (suc n) t.0 t.1 (omega arith) in
       let before_it : f.0 < suc n = f.2 in
       let whole : t.0.to ≡ t.0.from + f.3 * cycles (suc n) = f.4 in

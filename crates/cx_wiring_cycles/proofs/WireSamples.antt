@@ -12,9 +12,9 @@ use Rattle.cx_static.specs.declared.islands.IslandTimer.{IslandTimer}
 use Rattle.cx_static.specs.Islands.{PlainPoint}
 use Rattle.cx_static.specs.Lowering.{Gathered, Begin, begin_at, later, if_sampled, with_timer, with_point, form_gathered, gathered, parts_gathered, arms_gathered}
 use Rattle.cx_wiring.specs.TimerCounts.{nested, cycles_at}
-use Rattle.cx_wiring.proofs.GatherLaws.{get_end, one_more}
 use Rattle.cx_wiring_cycles.proofs.IslandOffsets.{live_in, live_short, live_behind, live_round, live_true, live_false}
 use Rattle.cx_wiring_cycles.proofs.EntryLaws.{Extends, both_extend, extended, parts_extended, arms_extended, points, round_held}
+use Rattle.cx_text.proofs.ListLaws.{get_end, snoc_length}
 
 -- whether a static if begins is told by its first cycle
 first_cycle : (a b : Bool) (o : Option ℕ) → taken a b (option_and_then (within_length 1) o) ≡ taken a b o
@@ -86,7 +86,7 @@ module _ (part : PlainComponent) (counts : ℕ → Option ℕ) (S : ℕ → Bool
         let later_a = both_extend part ga (gathered part b xb ga) final (extended part b xb ga) e in
         let t = taken (now test.port) (kept n) live in
         let own : S n ≡ taken (now test.port) (kept n) live = own_sample test.port x g len n live (both_extend part mid ga final (extended part a xa mid) later_a) ifs.0 is same in
-        let one : length mid.points ≡ suc (length g.points) = one_more g.points (record { port = test.port; timer = x.timer; at = x.at; samples = x.samples }) in
+        let one : length mid.points ≡ suc (length g.points) = snoc_length g.points (record { port = test.port; timer = x.timer; at = x.at; samples = x.samples }) in
         let two : length ga.points ≡ length mid.points + ifs_of a = points part a xa mid in
         if_case m n (suc n + ifs_of a) t _ _ (S m)
         (λ f. ap S f ∙ own)

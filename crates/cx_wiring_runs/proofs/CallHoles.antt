@@ -44,13 +44,8 @@ use Rattle.cx_wiring_runs.specs.PortValues.{around_of, port_value, active_now}
 use Rattle.cx_wiring_runs.proofs.SeamFlows.{st_solves, hole_stands}
 use Rattle.cx_wiring_runs.proofs.CallValues.{hole_wants, wants_hole}
 use Rattle.cx_wiring_runs.proofs.NodePorts.{set_bit}
-
-pub true_false : {A : Type 0} → true ≡ false → A
-true_false e = absurd cc
-
-never_set : (b : Bool) → (b ≡ true → ⊥) → b ≡ false
-never_set true never = absurd (never refl)
-never_set false never = refl
+use Rattle.std.proofs.lemmas.Bool.{false_from_ne_true}
+use Rattle.cx_text.proofs.NumberLaws.{true_false_also}
 
 -- an assignment that enables a primitive
 enables_in : (cells : Cells) (list : List PlainAssign) (a : PlainAssign) → In list a → enables_primitive cells a.target ≡ true → captures_in cells list ≡ true
@@ -65,13 +60,13 @@ enables_in cells (x ∷ list) a (inr i) e = by (enables_primitive cells x.target
 -- the done of a register
 seen_done : (w : ℕ) (z : BitVector) (d : CellState) → is_set z ≡ false → is_set (unwrap_or (register_output w d 3) z) ≡ true → of_option (register_output w d 3) ≡ Value set
 seen_done w z (states.Register x true) low e = refl
-seen_done w z (states.Register x false) low e = true_false (sym e)
-seen_done w z states.Stateless low e = true_false (sym e ∙ low)
-seen_done w z (states.Memory words done) low e = true_false (sym e ∙ low)
-seen_done w z (states.SequentialMemory words read done) low e = true_false (sym e ∙ low)
-seen_done w z (states.Multiplier run product) low e = true_false (sym e ∙ low)
-seen_done w z (states.Divider run quotient remainder) low e = true_false (sym e ∙ low)
-seen_done w z (states.Timer count done) low e = true_false (sym e ∙ low)
+seen_done w z (states.Register x false) low e = true_false_also (sym e)
+seen_done w z states.Stateless low e = true_false_also (sym e ∙ low)
+seen_done w z (states.Memory words done) low e = true_false_also (sym e ∙ low)
+seen_done w z (states.SequentialMemory words read done) low e = true_false_also (sym e ∙ low)
+seen_done w z (states.Multiplier run product) low e = true_false_also (sym e ∙ low)
+seen_done w z (states.Divider run quotient remainder) low e = true_false_also (sym e ∙ low)
+seen_done w z (states.Timer count done) low e = true_false_also (sym e ∙ low)
 
 value_done : (w : ℕ) (z : BitVector) (d : CellState) → truth_of (of_option (register_output w d 3)) ≡ One → unwrap_or (register_output w d 3) z ≡ truth_bit true
 value_done w z (states.Register x true) e = refl
@@ -151,7 +146,7 @@ module _ (d : PlainDesign) (numbers : Instance → NetState → ℕ → ℕ) (pa
           let from : 0 + Captured.number it ≡ Captured.number it = omega arith in
           let row = form.registers r (Captured.cell it) (subst (λ n. slice_get part.cells n ≡ Some (Captured.cell it)) (sym (Captured.is it ∙ from)) (Captured.stands it)) (Captured.register it) in
           let a = in_some (same_port (write_en_of r)) assigns (Captured.driven it) in
-          true_false (sym (enables_in cells assigns a.0 a.1 (ap (enables_primitive cells) (sym (same_is (write_en_of r) a.0.target a.2)) ∙ enabled row.0 r row.1)) ∙ none)
+          true_false_also (sym (enables_in cells assigns a.0 a.1 (ap (enables_primitive cells) (sym (same_is (write_en_of r) a.0.target a.2)) ∙ enabled row.0 r row.1)) ∙ none)
         where
           enabled : (w r : ℕ) → cell_at cells r ≡ OfRow (register_row w) → enables_primitive cells (write_en_of r) ≡ true
           enabled w r at = ap (λ k. enables_at k 1) at
@@ -168,7 +163,7 @@ module _ (d : PlainDesign) (numbers : Instance → NetState → ℕ → ℕ) (pa
           each : (w : PortRef) → In (done_port c form.child ∷ []) w → V w ≡ truth_bit true
           each w (inl h) = ap V (sym h) ∙ done_value ∙ ap truth_bit f
           each w (inr never) = absurd never
-      by false f = never_set hole (λ h. true_false (sym (wants (sym hole_set ∙ h) (done_port c form.child) (subst (λ l. In l (done_port c form.child)) (sym alone) (inl refl))) ∙ ap is_set (done_value ∙ ap truth_bit f)))
+      by false f = false_from_ne_true hole (λ h. true_false_also (sym (wants (sym hole_set ∙ h) (done_port c form.child) (subst (λ l. In l (done_port c form.child)) (sym alone) (inl refl))) ∙ ap is_set (done_value ∙ ap truth_bit f)))
 
   -- A GROUP THAT CAPTURES
   enable_side : (side : Side) → is_enable_side side ≡ true → side ≡ sides.Enable
@@ -218,7 +213,7 @@ module _ (d : PlainDesign) (numbers : Instance → NetState → ℕ → ℕ) (pa
                 (ap truth_of (sym (done_seen (Node part cells) g c capture_rules caps (held_in s) (cells_in s) r.0 (Register.width it) (Register.at it)))
                 ∙ ap (λ x. truth_of (seen (Node part cells) (held_in s) (group g) (cells_in s) x)) (sym r.2)
                 ∙ all_done (Node part cells) g c capture_rules caps (held_in s) (cells_in s) (is_one_of (truth_of (seen (Node part cells) (held_in s) (group g) (cells_in s) (ports.Done g))) f) w j)
-        by false f = never_set hole (λ h. true_false (sym (hole_is_set (Node part cells) g c capture_rules caps (held_in s) (cells_in s) (each h)) ∙ f))
+        by false f = false_from_ne_true hole (λ h. true_false_also (sym (hole_is_set (Node part cells) g c capture_rules caps (held_in s) (cells_in s) (each h)) ∙ f))
           where
             each : is_true (unwrap_or (look [] (AHole g)) (zero_wide 1)) ≡ true → (r : ℕ) → In registers r → seen (Node part cells) (held_in s) (group g) (cells_in s) (register_done r) ≡ Value set
             each h r j =

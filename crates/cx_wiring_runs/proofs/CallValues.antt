@@ -11,37 +11,25 @@ use Rattle.cx_meaning.specs.declared.sights.Seen.TheVariants.{Value}
 use Rattle.cx_meaning.specs.Designs.{PlainGuard, Always, Atom, Negation, All, Any, Compared, Within, PlainGuards, no_guards, a_guard, PlainAssign, group_at}
 use Rattle.cx_meaning.specs.Rows.{side_of}
 use Rattle.cx_meaning.specs.Instances.{Instance, OfRow, cell_at, cells_of, part_of}
-use Rattle.cx_meaning.specs.Active.{Active, Owned, Acting, group, only_at, same_port, offset_of, source_order, drivers}
+use Rattle.cx_meaning.specs.Active.{Active, Owned, Acting, group, same_port, offset_of, source_order, drivers}
 use Rattle.cx_meaning.specs.Truths.{One, Zero, truth_of, truth_of_bit, not_truth, and_truth, or_truth}
 use Rattle.cx_meaning.specs.Sights.{Look, In, guard_truth, all_truth, any_truth}
 use Rattle.cx_rules.specs.CallShape.{go_port, done_port, register_done, one, is_atom, is_always, is_negated, is_right_go, is_right_enable, is_register_enable, with_target, captured, wanted_dones, conjuncts, are_dones, is_right_done_assign, is_right_done}
 use Rattle.cx_rules.proofs.FoundLemmas.{same_is}
 use Rattle.cx_control.specs.Flows.{Values, zero_of, is_set, guard_on, all_on, any_on, first_on}
-use Rattle.cx_control.proofs.PortFlows.{acting_alike}
 use Rattle.cx_net.specs.NetMeaning.{truth_bit}
 use Rattle.cx_control.specs.CallRules.{CallForm}
 use Rattle.cx_control.proofs.ConjunctLemmas.{AreOnce, conjuncts_hold, conjunction_holds, wanted_are_in, wanted_are_all}
 use Rattle.cx_control.proofs.TargetLemmas.{in_filter, of_filter, group_acts, ActsAlone, acts_alone}
 use Rattle.cx_control.proofs.RegisterLemmas.{dones_once}
-
-pub true_false : true ≡ false → ⊥
-true_false e = cc
-
-false_true : false ≡ true → ⊥
-false_true e = cc
+use Rattle.cx_text.proofs.BoolLaws.{and_both, or_either}
+use Rattle.cx_meaning.proofs.ActiveLemmas.{only_self}
+use Rattle.cx_text.proofs.NumberLaws.{false_true, true_false}
+use Rattle.cx_rules.proofs.FrameLemmas.{acting_alike}
 
 one_bit : (b : Bool) → truth_of_bit b ≡ One → b ≡ true
 one_bit true e = refl
 one_bit false e = absurd cc
-
-and_both : (a b : Bool) → (a && b) ≡ true → (a ≡ true) × (b ≡ true)
-and_both true true e = (refl, refl)
-and_both true false e = absurd (false_true e)
-and_both false b e = absurd (false_true e)
-
-or_either : (a b : Bool) → (a || b) ≡ true → (a ≡ true) ⊎ (b ≡ true)
-or_either true b e = inl refl
-or_either false b e = inr e
 
 always_on : (v : Values) (at : ℕ) (g : PlainGuard) → is_always g ≡ true → guard_on v at g ≡ true
 always_on v at Always e = refl
@@ -138,9 +126,6 @@ wanted_once : (rs : List ℕ) (done : PortRef) → AreOnce (map register_done rs
 wanted_once [] done once = ((λ i. i), tt)
 wanted_once (r ∷ rs) done once = once
 
-pub own_offset : (g : ℕ) → only_at g g ≡ Some 0
-own_offset g = ap (λ b. if b then Some 0 else None) (eq-eqb g g refl)
-
 module _ (i : Instance) (g c : ℕ) (form : CallForm i g c) (v : Values) (own_hole : (o : Owned) → In (source_order (part_of i)) o → o.owner ≡ None → o.assign.target ≡ ports.Done g → ⊥)
     (one_is : v (ports.Literal 1 1) ≡ truth_bit true) where
   abbrev assigns : List PlainAssign
@@ -171,7 +156,7 @@ module _ (i : Instance) (g c : ℕ) (form : CallForm i g c) (v : Values) (own_ho
     stands = of_filter (ports.Done g) assigns (TheDone.assign the_done) (subst (λ l. In l (TheDone.assign the_done)) (sym (TheDone.alone the_done)) (inl refl))
 
     acts : ActsAlone (part_of i) g (group g) (λ h. refl) (ports.Done g) own_hole (TheDone.assign the_done)
-    acts = acts_alone (part_of i) g (group g) (λ h. refl) (ports.Done g) own_hole (TheDone.assign the_done) (TheDone.alone the_done) stands.0 stands.1 (own_offset g)
+    acts = acts_alone (part_of i) g (group g) (λ h. refl) (ports.Done g) own_hole (TheDone.assign the_done) (TheDone.alone the_done) stands.0 stands.1 (only_self g)
 
     either : ((is_always (TheDone.assign the_done).guard && are_dones wanted_now (Some ((TheDone.assign the_done).source.port ∷ []))) ≡ true)
         ⊎ ((same_port (TheDone.assign the_done).source.port one && are_dones wanted_now (conjuncts (TheDone.assign the_done).guard)) ≡ true)
@@ -253,7 +238,7 @@ module _ (i : Instance) (g c : ℕ) (form : CallForm i g c) (v : Values) (own_ho
           stands_go = of_filter (go_port c) assigns a (subst (λ l. In l a) (sym e) (inl refl))
 
           acts_go : ActsAlone (part_of i) g (group g) (λ h. refl) (ports.Cell c 0) (λ o j owner target. form.no_bare o 0 j owner target) a
-          acts_go = acts_alone (part_of i) g (group g) (λ h. refl) (ports.Cell c 0) (λ o j owner target. form.no_bare o 0 j owner target) a e stands_go.0 stands_go.1 (own_offset g)
+          acts_go = acts_alone (part_of i) g (group g) (λ h. refl) (ports.Cell c 0) (λ o j owner target. form.no_bare o 0 j owner target) a e stands_go.0 stands_go.1 (only_self g)
 
           first_is : (ActsAlone.first acts_go).assign ≡ a
           first_is = ActsAlone.all acts_go (ActsAlone.first acts_go) (subst (λ l. In l (ActsAlone.first acts_go)) (sym (ActsAlone.are acts_go)) (inl refl))

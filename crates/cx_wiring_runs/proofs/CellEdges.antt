@@ -1,52 +1,30 @@
 -- The cells of a node in one cycle in which its ports solve their equations: what a primitive looks at is what stands at its ports, a
 -- primitive that no group drives which goes makes its idle step, and a component cell that none drives has no go.
-use Rattle.std.proofs.Common.{◌≡◌, ℕ, suc, ◌+◌, ◌<◌, inl, inr, ◌⊎◌, Bool, true, false, ◌&&◌, if◌then◌else◌, List, [], ◌∷◌, length, Some, None, unwrap_or, refl, sym, ap, ◌∙◌, arith}
+use Rattle.std.proofs.Common.{◌≡◌, ℕ, suc, ◌+◌, ◌<◌, false, ◌&&◌, if◌then◌else◌, List, [], ◌∷◌, length, Some, None, unwrap_or, refl, sym, ap, ◌∙◌, arith}
 use Rattle.std.proofs.lemmas.Bool.{lt-ltb}
 use Rattle.cx_bits.specs.BitVector.{BitVector}
 use Rattle.cx_prim.specs.declared.ports.PortRow.{PortRow}
 use Rattle.cx_prim.specs.declared.ports.Side.TheVariants as sides
 use Rattle.cx_prim.specs.Rows.{Row, IsLawful}
-use Rattle.cx_meaning.specs.declared.ports.PortRef.{PortRef}
 use Rattle.cx_meaning.specs.declared.ports.PortRef.TheVariants as ports
 use Rattle.cx_meaning.specs.Rows.{side_of}
-use Rattle.cx_meaning.specs.Designs.{PlainComponent, PlainGroup, group_at, no_group}
+use Rattle.cx_meaning.specs.Designs.{group_at}
 use Rattle.cx_meaning.specs.Instances.{Instance, OfRow, OfInstance, part_of, cells_of, cell_at}
-use Rattle.cx_meaning.specs.Active.{Active, Owned, source_order, drivers, acting, offset_of, same_port, if_target, if_acting}
+use Rattle.cx_meaning.specs.Active.{Owned, source_order, drivers, offset_of}
 use Rattle.cx_meaning.specs.Sights.{In}
 use Rattle.cx_meaning.specs.Islands.{group_length}
-use Rattle.cx_meaning.specs.Control.{assigns_drive, group_drives}
 use Rattle.cx_rules.specs.Ports.{width_of}
-use Rattle.cx_rules.proofs.FoundLemmas.{same_is}
-use Rattle.cx_rules.proofs.ForeignLemmas.{assigns_drive_in}
+use Rattle.cx_rules.proofs.ForeignLemmas.{assigns_drive_in, acting_none}
 use Rattle.cx_frames.specs.Rests.{IsUndriven}
 use Rattle.cx_control.specs.Flows.{zero_of, first_on, given, cell_flow}
-use Rattle.cx_control.proofs.InstanceLemmas.{OwnerOf, continuous, of_group, owner_of, there_below}
+use Rattle.cx_control.proofs.InstanceLemmas.{OwnerOf, continuous, of_group, owner_of}
 use Rattle.cx_control.proofs.CellLemmas.{idle_step}
 use Rattle.cx_net.specs.NetMeaning.{NetState, NetLook, NetAround, APort, AHole, is_true, truth_bit, zero_wide}
 use Rattle.cx_net.specs.NetEdges.{inputs_from}
 use Rattle.cx_static.specs.Lowering.{lowered_component}
 use Rattle.cx_wiring.specs.Assignments.{owner_drives}
 use Rattle.cx_wiring_runs.specs.PortValues.{has_port, around_of, value_beyond, port_value, own_offset, offset_now, active_now, WiresSolve}
-
--- assignments of a target do not act where none of their owners is active
-pub none_act : (act : Active) (p : PortRef) (list : List Owned) → ((o : Owned) → In list o → o.assign.target ≡ p → offset_of act o.owner ≡ None) → acting act p list ≡ []
-none_act act p [] never = refl
-none_act act p (o ∷ rest) never = by_target (same_port o.assign.target p) refl ∙ none_act act p rest (λ x i e. never x (inr i) e)
-  where
-    by_target : (t : Bool) → same_port o.assign.target p ≡ t → if_target t act o (acting act p rest) ≡ acting act p rest
-    by_target true e = ap (λ k. if_acting k o.assign (acting act p rest)) (never o (inl refl) (same_is o.assign.target p e))
-    by_target false e = refl
-
--- a group that drives a cell is there
-pub driver_there : (part : PlainComponent) (g c : ℕ) → group_drives part g c ≡ true → g < length part.groups
-driver_there part g c drives = by (there_below part g)
-  where
-    untrue : {A : Type 0} → false ≡ true → A
-    untrue e = absurd cc
-
-    by : (g < length part.groups) ⊎ (group_at part g ≡ no_group) → g < length part.groups
-    by (inl less) = less
-    by (inr none) = untrue (sym (ap (λ (x : PlainGroup). assigns_drive x.assigns c) none) ∙ drives)
+use Rattle.cx_meaning.proofs.DesignsLemmas.{driver_there}
 
 module _ (i : Instance) (around : NetAround) (s : NetState) (look : NetLook) where
   -- where no group goes none drives a cell
@@ -84,7 +62,7 @@ module _ (i : Instance) (around : NetAround) (s : NetState) (look : NetLook) whe
   module _ (c : ℕ) (child : Instance) (at : cell_at (cells_of i) c ≡ OfInstance child) (known : (x : BitVector) × (look [] (APort (ports.Cell c 0)) ≡ Some x)) where
     no_driver : IsUndriven (part_of i) (active_now i around s look) c → ((o : Owned) → In (source_order (part_of i)) o → o.owner ≡ None → o.assign.target ≡ ports.Cell c 0 → ⊥)
         → drivers (part_of i) (active_now i around s look) (ports.Cell c 0) ≡ []
-    no_driver undriven bare = none_act (active_now i around s look) (ports.Cell c 0) (source_order (part_of i)) (λ o stands target. by o stands target (owner_of (part_of i) o stands))
+    no_driver undriven bare = acting_none (active_now i around s look) (ports.Cell c 0) (source_order (part_of i)) (λ o stands target. by o stands target (owner_of (part_of i) o stands))
       where
         by : (o : Owned) → In (source_order (part_of i)) o → o.assign.target ≡ ports.Cell c 0 → OwnerOf (part_of i) o → offset_of (active_now i around s look) o.owner ≡ None
         by o stands target (continuous owner there) = absurd (bare o stands owner target)

@@ -1,6 +1,6 @@
 -- In a cycle with go each child of a node makes its own step, where a group that runs and goes on calls it, or waits: none drives it, or
 -- a call that ends, or it is at its own end while its caller captures.
-use Rattle.std.proofs.Common.{◌≡◌, ℕ, suc, ◌+◌, ◌<◌, ◌⊎◌, inl, inr, Bool, true, false, ◌&&◌, ◌||◌, not, List, [], ◌∷◌, length, Option, Some, None, unwrap_or, if◌then◌else◌, refl, sym, ap, ◌∙◌, subst}
+use Rattle.std.proofs.Common.{◌≡◌, ℕ, suc, ◌+◌, ◌<◌, ◌⊎◌, inl, inr, Bool, true, false, ◌||◌, not, List, [], ◌∷◌, length, Option, Some, None, unwrap_or, if◌then◌else◌, refl, sym, ap, ◌∙◌, subst}
 use Rattle.cx_text.specs.declared.places.Place.{Place}
 use Rattle.cx_bits.specs.BitVector.{BitVector}
 use Rattle.cx_meaning.specs.declared.ports.PortRef.{PortRef}
@@ -34,7 +34,7 @@ use Rattle.cx_control.specs.Standing.{bare, bare_under, Calling, runs, at_end, c
 use Rattle.cx_control.specs.InstanceRules.{Stands}
 use Rattle.cx_control.specs.CallRules.{CallRules}
 use Rattle.cx_control.specs.ControlRules.{ControlRules}
-use Rattle.cx_control.proofs.CallLaws.{ChildLaws, not_just}
+use Rattle.cx_control.proofs.CallLaws.{ChildLaws}
 use Rattle.cx_control.proofs.LeafLaws.{true_false, ActsAs, IsQuietEnd, turn_number, kind_ends, island_number, kind_number}
 use Rattle.cx_control.proofs.ControlLaws.{IslandsDo, called_child}
 use Rattle.cx_control.proofs.StandLaws.{parts_stand}
@@ -50,20 +50,18 @@ use Rattle.cx_wiring_cycles.specs.Shown.{Going, told, going}
 use Rattle.cx_wiring_values.proofs.NodeRules.{NodeRules}
 use Rattle.cx_wiring_runs.specs.Blocks.{block, block_below, Shows, Solves, HasGo}
 use Rattle.cx_wiring_runs.specs.PortValues.{own_offset, goes_now, offset_now, active_now}
-use Rattle.cx_wiring_runs.proofs.CellEdges.{driver_there}
 use Rattle.cx_wiring_runs.proofs.NodeCells.{CellRules, child_waits}
 use Rattle.cx_wiring_runs.proofs.NodeRuns.{ChildMoves, ChildSteps, moves, waits}
 use Rattle.cx_wiring_runs.proofs.GoingLaws.{told_in, HoleAgrees, Source, of_group, of_timed, of_static, of_comb, going_source, comb_is}
+use Rattle.cx_text.proofs.BoolLaws.{and_left}
+use Rattle.cx_meaning.proofs.InstancesLemmas.{not_just}
+use Rattle.cx_meaning.proofs.DesignsLemmas.{driver_there}
 
 -- a group is not both plain and comb
 plain_comb : {A : Type 0} (kind : GroupKind) → is_plain kind ≡ true → is_comb kind ≡ true → A
 plain_comb kinds.Plain e f = true_false false f refl
 plain_comb kinds.Comb e f = true_false false e refl
 plain_comb (kinds.Timed n) e f = true_false false e refl
-
-and_left : (a b : Bool) → (a && b) ≡ true → a ≡ true
-and_left true b e = refl
-and_left false b e = true_false false e refl
 
 module _ (d : PlainDesign) (numbers : Instance → NetState → ℕ → ℕ) (part : PlainComponent) (cells : Cells) (rules : NodeRules d (instances.Node part cells)) (own : CellRules (instances.Node part cells))
     (control : ControlRules (instances.Node part cells)) (islands : IslandsDo (instances.Node part cells)) (below : (c : ℕ) (child : Instance) → cell_at cells c ≡ OfInstance child → ChildLaws cells c (coded_below cells c))

@@ -15,11 +15,11 @@ use Rattle.cx_wiring.specs.PartNets.{timers_of, wired_in, net_of_instance, net_o
 use Rattle.cx_wiring.specs.NetBits.{is_bit, is_bit_below}
 use Rattle.cx_wiring.specs.Wiring.{groups, bits, plain_wires, first_of_control, net_of}
 use Rattle.cx_wiring.proofs.NetTrees.{net_tree-net_of}
-use Rattle.cx_wiring.proofs.FitLemmas.{slice_left}
 use Rattle.cx_wiring_values.proofs.GroundTree.{Down}
 use Rattle.cx_wiring_values.proofs.GroundedNets.{grounded_where}
 use Rattle.cx_wiring_runs.proofs.NodeTimers.{bit_wire}
 use Rattle.cx_wiring_runs.proofs.DesignHolds.{comes_bits}
+use Rattle.cx_text.proofs.ListLaws.{front}
 
 module _ (d : PlainDesign) where
   -- numbers of instances are not asked for
@@ -39,7 +39,7 @@ module _ (d : PlainDesign) where
       → is_bit (net_of_instance (wired_in d) timers_of unnumbered i) path (AWire n) ≡ true
   wire_bit i [] part cells down n low high =
       subst (λ j. is_bit (net_of_instance (wired_in d) timers_of unnumbered j) [] (AWire n) ≡ true) (sym down)
-      (ap (λ o. option_map_or (λ w. w == 1) o false) (slice_left (plain_wires (lowered_component part)) _ n 1 (bit_wire (groups (lowered_component part)) (bits (lowered_component part)) n low (omega arith))))
+      (ap (λ o. option_map_or (λ w. w == 1) o false) (front (plain_wires (lowered_component part)) _ n 1 (bit_wire (groups (lowered_component part)) (bits (lowered_component part)) n low (omega arith))))
   wire_bit (instances.Node outer others) (c ∷ path) part cells (kid, at, down) n low high = bit_child others (timers_of outer) c kid at path (AWire n) ∙ wire_bit kid path part cells down n low high
 
   -- THE NET IS GROUNDED

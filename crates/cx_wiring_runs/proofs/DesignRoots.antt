@@ -39,9 +39,7 @@ use Rattle.cx_wiring_runs.proofs.NetRealises.{net_realises}
 use Rattle.cx_wiring_runs.proofs.ZeroNumbers.{IslandsRest, numbers_zero}
 use Rattle.cx_wiring_runs.proofs.StartCells.{cells_start, words_same, external_there}
 use Rattle.cx_wiring_runs.proofs.DesignEdges.{NodeGiven, NodeGives, design_blocks}
-
-itself : (i : Instance) → instance_at i [] ≡ i
-itself (instances.Node part cells) = refl
+use Rattle.cx_meaning.proofs.InstancesLemmas.{here}
 
 module _ (d : PlainDesign) (of_island : PlainComponent → NetState → ℕ → ℕ → ℕ → ℕ)
     (Begun : (part : PlainComponent) (cells : Cells) → Machine.Place (Coded.machine (coded_control (instances.Node part cells))) → Kept → NetState → NetAround → NetLook → Type 0) (Holds : NetState → Type 0)
@@ -63,7 +61,7 @@ module _ (d : PlainDesign) (of_island : PlainComponent → NetState → ℕ → 
 
   module _ (cells_hold : CellsHold) where
     region : IsRegion (Coded.machine (coded_control (tree_of d))) (Coded.coding (coded_control (tree_of d)))
-    region = control_coded (tree_of d) (subst ControlRules (itself (tree_of d)) (rules []))
+    region = control_coded (tree_of d) (subst ControlRules (here (tree_of d)) (rules []))
 
     start_zero : (n : ℕ) → code_of (coded_control (tree_of d)) (Machine.start (Coded.machine (coded_control (tree_of d)))) n ≡ 0
     start_zero = (region_bank_is (Coded.machine (coded_control (tree_of d))) (Coded.coding (coded_control (tree_of d))) region.coded region.front).zeros_at

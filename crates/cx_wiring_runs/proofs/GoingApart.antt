@@ -1,28 +1,26 @@
 -- At a place of control each group that goes goes for one leaf or test, and drives no cell that another one reads: by the rule on races, for
 -- every form. So what all leaves and tests owe of themselves gives what the machine of the statement sees.
-use Rattle.std.proofs.Common.{◌≡◌, ◌⊎◌, inl, inr, ℕ, zero, suc, Bool, true, false, ◌||◌, ◌==◌, if◌then◌else◌, List, [], ◌∷◌, ◌++◌, Option, Some, None, refl, sym, ap, ◌∙◌, subst}
+use Rattle.std.proofs.Common.{◌≡◌, ◌⊎◌, inl, inr, ℕ, zero, suc, Bool, true, false, ◌==◌, if◌then◌else◌, List, [], ◌∷◌, ◌++◌, Option, Some, None, refl, sym, ap, ◌∙◌, subst}
 use Rattle.std.proofs.lemmas.Bool.{eq-eqb, eqb-true}
 use Rattle.cx_bits.specs.BitVector.{BitVector}
 use Rattle.cx_text.specs.declared.places.Place.{Place}
 use Rattle.cx_meaning.specs.declared.ports.PortRef.{PortRef}
 use Rattle.cx_meaning.specs.declared.ports.PlacedPort.{PlacedPort}
-use Rattle.cx_meaning.specs.Designs.{PlainComponent, PlainForm, Empty, Enable, Seq, Par, If, While, Repeat, StaticSeq, StaticPar, StaticIf, StaticRepeat, Timed, PlainStatement, Placed, PlainStatements, no_statements, a_statement, list_of}
+use Rattle.cx_meaning.specs.Designs.{PlainForm, Empty, Enable, Seq, Par, If, While, Repeat, StaticSeq, StaticPar, StaticIf, StaticRepeat, Timed, PlainStatement, Placed, PlainStatements, no_statements, a_statement, list_of}
 use Rattle.cx_meaning.specs.Instances.{Instance, part_of}
 use Rattle.cx_meaning.specs.Sights.{In}
 use Rattle.cx_meaning.specs.Cycles.{Fault}
-use Rattle.cx_meaning.specs.Control.{with_comb, groups_in, groups_of, groups_in_all, group_drives, groups_drive, drives}
+use Rattle.cx_meaning.specs.Control.{with_comb, groups_in, groups_of, groups_in_all, group_drives, drives}
 use Rattle.cx_meaning.specs.Islands.{group_length}
 use Rattle.cx_rules.specs.Wellformed.{IsForm, IsWith}
 use Rattle.cx_rules.specs.Items.{Dynamic, test_in}
 use Rattle.cx_rules.specs.StaticControl.{is_static}
 use Rattle.cx_rules.specs.Footprints.{Reads, driven}
-use Rattle.cx_rules.proofs.ForeignLemmas.{or_right}
 use Rattle.cx_lockstep.specs.Worlds.{Control, At, Done, Machine, faults}
 use Rattle.cx_lockstep.specs.Machines.{First, Second, InPar, left_of, right_of, AtTest, InThen, InElse, AtHead, InBody, unclear, par_machine}
 use Rattle.cx_lockstep.specs.Statements.{LeafMachines, machine_of, parts_machine, arms_machine}
 use Rattle.cx_lockstep.specs.Lawful.{IsPart, of_seq, of_par, then_branch, else_branch, of_while, of_repeat, Apart, AreApart}
 use Rattle.cx_lockstep.specs.Running.{Running, AGroup, AnIsland, at_control, par_runs, leaf_of, running, parts_run, arms_run}
-use Rattle.cx_lockstep.proofs.RunningLaws.{in_either, in_left, in_right}
 use Rattle.cx_lockstep.proofs.ArmLaws as arm_laws
 use Rattle.cx_control.specs.Codings.{at_fine}
 use Rattle.cx_control.specs.StatementCodings.{LeafCodings}
@@ -34,6 +32,9 @@ use Rattle.cx_control.proofs.StandLaws.{parts_stand, part_reads, are_apart}
 use Rattle.cx_net.specs.NetMeaning.{truth_bit}
 use Rattle.cx_static.specs.Islands.{PlainIsland}
 use Rattle.cx_wiring_cycles.specs.Shown.{Going, told, comb_going, in_par, enable_going, going, parts_going, arms_going, enable_agrees, TestAgrees, StatementAgrees, PartsAgree, ArmsAgree}
+use Rattle.cx_meaning.proofs.SightsLaws.{behind_comb, in_either, in_left, in_right}
+use Rattle.cx_meaning.proofs.ControlLaws.{groups_drive_in}
+use Rattle.cx_wiring_cycles.proofs.FormTurns.{told_append}
 
 -- the group is among these
 pub record IsGoing (g : ℕ) (xs : List Going) : Type 0 where
@@ -49,11 +50,6 @@ going_left g xs ys k = record { one = k.one; is_in = in_left xs ys k.one k.is_in
 
 going_right : (g : ℕ) (xs ys : List Going) → IsGoing g ys → IsGoing g (xs ++ ys)
 going_right g xs ys k = record { one = k.one; is_in = in_right xs ys k.one k.is_in; named = k.named }
-
--- WHAT IS TOLD of a group
-told_append : (g : ℕ) (later : Option BitVector) (xs ys : List Going) → told g later (xs ++ ys) ≡ told g (told g later ys) xs
-told_append g later [] ys = refl
-told_append g later (x ∷ xs) ys = ap (λ o. if x.group == g then Some (truth_bit x.goes) else o) (told_append g later xs ys)
 
 told_first : (g : ℕ) (one other : Option BitVector) (xs : List Going) → IsGoing g xs → told g one xs ≡ told g other xs
 told_first g one other [] k = absurd k.is_in
@@ -72,10 +68,6 @@ told_none g later (x ∷ xs) none = by (told_none g later xs (λ k. none (record
     by deeper true e = absurd (none (record { one = x; is_in = inl refl; named = eqb-true x.group g e }))
     by deeper false e = deeper
 
-in_comb : (comb : Option ℕ) (gs : List ℕ) (g : ℕ) → In gs g → In (with_comb comb gs) g
-in_comb None gs g i = i
-in_comb (Some h) gs g i = inr i
-
 -- a group of some statements is one of one of them
 group_among : (ss : PlainStatements) (g : ℕ) → In (groups_in_all ss) g → (t : PlainStatement) × In (list_of ss) t × In (groups_of t) g
 group_among no_statements g i = absurd i
@@ -84,11 +76,6 @@ group_among (a_statement s ss) g i = by (in_either (groups_of s) (groups_in_all 
     by : In (groups_of s) g ⊎ In (groups_in_all ss) g → (In (groups_in_all ss) g → (t : PlainStatement) × In (list_of ss) t × In (groups_of t) g) → (t : PlainStatement) × In (list_of (a_statement s ss)) t × In (groups_of t) g
     by (inl k) later = (s, inl refl, k)
     by (inr k) later = let r = later k in (r.0, inr r.1, r.2)
-
-pub group_within : (part : PlainComponent) (gs : List ℕ) (g c : ℕ) → In gs g → group_drives part g c ≡ true → groups_drive part gs c ≡ true
-group_within part [] g c i e = absurd i
-group_within part (x ∷ xs) g c (inl same) e = ap (λ b. b || groups_drive part xs c) (ap (λ y. group_drives part y c) same ∙ e)
-group_within part (x ∷ xs) g c (inr i) e = or_right (group_drives part x c) (groups_drive part xs c) (group_within part xs g c i e)
 
 module _ (i : Instance) (children : ℕ → Coded) (codings : LeafCodings (leaf_machines i children)) (control : ControlRules i) (islands : List PlainIsland) (hole : ℕ → Bool)
     (of_enable : (g : ℕ) → Machine.Place (LeafMachines.enable (leaf_machines i children) g) → List Going) (of_island : (form : PlainForm) → Machine.Place (LeafMachines.island (leaf_machines i children) form) → List Going)
@@ -139,10 +126,10 @@ module _ (i : Instance) (children : ℕ → Coded) (codings : LeafCodings (leaf_
     going_named (Placed (Par no_statements) place) p x k = absurd k
     going_named (Placed (Par (a_statement s ss)) place) p x k = par_named (goes_at s) (arms_go ss) s ss (going_named s) (arms_named ss) p x k
     going_named (Placed (If test comb a b) place) AtTest x k = comb_named comb (groups_of a ++ groups_of b) x k
-    going_named (Placed (If test comb a b) place) (InThen p) x k = in_comb comb (groups_of a ++ groups_of b) x.group (in_left (groups_of a) (groups_of b) x.group (going_named a p x k))
-    going_named (Placed (If test comb a b) place) (InElse p) x k = in_comb comb (groups_of a ++ groups_of b) x.group (in_right (groups_of a) (groups_of b) x.group (going_named b p x k))
+    going_named (Placed (If test comb a b) place) (InThen p) x k = behind_comb comb (groups_of a ++ groups_of b) x.group (in_left (groups_of a) (groups_of b) x.group (going_named a p x k))
+    going_named (Placed (If test comb a b) place) (InElse p) x k = behind_comb comb (groups_of a ++ groups_of b) x.group (in_right (groups_of a) (groups_of b) x.group (going_named b p x k))
     going_named (Placed (While test comb a) place) AtHead x k = comb_named comb (groups_of a) x k
-    going_named (Placed (While test comb a) place) (InBody p) x k = in_comb comb (groups_of a) x.group (going_named a p x k)
+    going_named (Placed (While test comb a) place) (InBody p) x k = behind_comb comb (groups_of a) x.group (going_named a p x k)
     going_named (Placed (Repeat zero a) place) p x k = absurd k
     going_named (Placed (Repeat (suc n) a) place) p x k = going_named a p.place x k
     going_named (Placed (StaticSeq written parts) place) p x k = names_island (StaticSeq written parts) p x k
@@ -209,7 +196,7 @@ module _ (i : Instance) (children : ℕ → Coded) (codings : LeafCodings (leaf_
     shared : (ss : PlainStatements) (ys : List Going) (g c : ℕ) → ((x : Going) → In ys x → In (groups_in_all ss) x.group) → IsGoing g ys → group_drives (part_of i) g c ≡ true → (t : PlainStatement) × In (list_of ss) t × (drives (part_of i) t c ≡ true)
     shared ss ys g c of_rest k drives_it =
         let t = group_among ss g (subst (In (groups_in_all ss)) k.named (of_rest k.one k.is_in)) in
-        (t.0, t.1, group_within (part_of i) (groups_of t.0) g c t.2 drives_it)
+        (t.0, t.1, groups_drive_in (part_of i) (groups_of t.0) g c t.2 drives_it)
 
     left_arm : (s : PlainStatement) (ss : PlainStatements) (xs ys : List Going) → ((t : PlainStatement) → In (list_of ss) t → Apart Drives ReadsAt s t) → ((x : Going) → In ys x → In (groups_in_all ss) x.group)
         → GoesForAll (a_statement s ss) (xs ++ ys) → GoesFor s xs
@@ -235,7 +222,7 @@ module _ (i : Instance) (children : ℕ → Coded) (codings : LeafCodings (leaf_
     }
       where
         its_own : (g c : ℕ) → IsGoing g xs → group_drives (part_of i) g c ≡ true → drives (part_of i) s c ≡ true
-        its_own g c k drives_it = group_within (part_of i) (groups_of s) g c (subst (In (groups_of s)) k.named (of_first k.one k.is_in)) drives_it
+        its_own g c k drives_it = groups_drive_in (part_of i) (groups_of s) g c (subst (In (groups_of s)) k.named (of_first k.one k.is_in)) drives_it
 
         of_other : (g : ℕ) → IsGoing g xs → (t : PlainStatement) → In (list_of ss) t → DrivesNone g t
         of_other g k t j c r drives_it = (apart t j).first (Cell (c ∷ [])) (its_own g c k drives_it) r

@@ -14,13 +14,13 @@ use Rattle.cx_lockstep.specs.Worlds.{Store, Control, At, Done, Machine, is_done}
 use Rattle.cx_lockstep.specs.Machines.{First, Second, InPar, left_of, right_of, AtTest, InThen, InElse, AtHead, InBody}
 use Rattle.cx_lockstep.specs.Statements.{LeafMachines, machine_of, parts_machine, arms_machine}
 use Rattle.cx_lockstep.specs.Running.{Running, AGroup, AnIsland, at_control, par_runs, running, parts_run, arms_run}
-use Rattle.cx_lockstep.proofs.RunningLaws.{in_either, in_left, in_right}
 use Rattle.cx_lockstep.specs.Lawful.{IsPart, of_seq, of_par, then_branch, else_branch, of_while, of_repeat}
 use Rattle.cx_control.specs.Codings.{at_fine}
 use Rattle.cx_control.specs.StatementCodings.{LeafCodings}
 use Rattle.cx_net.specs.NetMeaning.{truth_bit}
 use Rattle.cx_static.specs.Islands.{PlainIsland}
 use Rattle.cx_wiring_cycles.specs.Shown.{Going, told, comb_going, enable_going, going, parts_going, arms_going, in_par, enable_agrees, StatementAgrees, PartsAgree, ArmsAgree}
+use Rattle.cx_meaning.proofs.SightsLaws.{in_either, in_left, in_right}
 
 -- what is told of a group is the last word, or that of one of the list
 pub told_in : (g : ℕ) (later : Option BitVector) (xs : List Going) → (told g later xs ≡ later) ⊎ ((x : Going) × In xs x × (x.group ≡ g) × (told g later xs ≡ Some (truth_bit x.goes)))

@@ -1,5 +1,5 @@
 -- An island has no number behind the samples of its static ifs.
-use Rattle.std.proofs.Common.{◌≡◌, ℕ, zero, suc, ◌+◌, ◌≤◌, if◌then◌else◌, List, [], ◌∷◌, ◌++◌, length, Option, Some, None, slice_get, refl, ap, ◌∙◌, arith}
+use Rattle.std.proofs.Common.{◌≡◌, ℕ, zero, suc, ◌+◌, ◌≤◌, if◌then◌else◌, [], ◌∷◌, length, Option, Some, None, slice_get, refl, ap, ◌∙◌, arith}
 use Rattle.std.proofs.lemmas.Bool.{le-ltb}
 use Rattle.cx_meaning.specs.declared.kinds.GroupKind.{GroupKind}
 use Rattle.cx_meaning.specs.declared.kinds.GroupKind.TheVariants as kinds
@@ -20,10 +20,7 @@ use Rattle.cx_wiring_cycles.proofs.EntryLaws.{form_points}
 use Rattle.cx_wiring_values.proofs.NodeRules.{NodeRules}
 use Rattle.cx_wiring_runs.proofs.NodeCells.{CellRules}
 use Rattle.cx_wiring_runs.proofs.NodeTurns.{IslandsEnd}
-
-the_last : {A : Type 0} (xs : List A) (x : A) → slice_get (xs ++ x ∷ []) (length xs) ≡ Some x
-the_last [] x = refl
-the_last (y ∷ xs) x = the_last xs x
+use Rattle.cx_text.proofs.ListLaws.{get_end}
 
 module _ (part : PlainComponent) (v : NetState) where
   -- the points of the island of a form
@@ -40,7 +37,7 @@ module _ (part : PlainComponent) (v : NetState) where
   form_end : (form : PlainForm) (l : Lowering) → IsBefore (with_island part form l) (after part part.control (unlowered part)) → (first n : ℕ) → 2 + form_ifs form ≤ n → of_island part v first (length l.islands) n ≡ 0
   form_end form l stage first n over =
       let is : slice_get (lowered_component part).islands (length l.islands) ≡ Some (island_of (form_length part form) (island_gathered part form l.cells)) =
-      stage.islands (length l.islands) (island_of (form_length part form) (island_gathered part form l.cells)) (the_last l.islands (island_of (form_length part form) (island_gathered part form l.cells))) in
+      stage.islands (length l.islands) (island_of (form_length part form) (island_gathered part form l.cells)) (get_end l.islands (island_of (form_length part form) (island_gathered part form l.cells))) in
       ap (λ o. island_number (lowered_component part).part.cells (λ c. v.cell (c ∷ [])) (v.register []) o first n) is
       ∙ number_past (island_of (form_length part form) (island_gathered part form l.cells)) (form_ifs form) first n (points_are form l) over
 

@@ -41,7 +41,7 @@ use Rattle.cx_wiring_runs.proofs.SeamFlows.{Nearby, cell_steps}
 use Rattle.cx_wiring_runs.proofs.RowSteps.{enable_low}
 use Rattle.cx_wiring_runs.proofs.IslandSets.{active_together}
 use Rattle.cx_wiring_runs.proofs.NodeSeam.{Runs, NodeSeam, StepsTo, IsStaticLeaf, IslandGoes, KindGoes, LeafGoes}
-use Rattle.cx_wiring_runs.proofs.CallHoles.{true_false}
+use Rattle.cx_text.proofs.NumberLaws.{true_false_also}
 
 module _ (d : PlainDesign) (numbers : Instance → NetState → ℕ → ℕ) (part : PlainComponent) (cells : Cells) (rules : SeamRules d (Node part cells)) (control : ControlRules (Node part cells)) (around : NetAround) (v : NetState) (look : NetLook)
     (solves : Solves (block (wired_in d) timers_of numbers (Node part cells)) around v look) (s : Kept) (same : (c : ℕ) (row : Row) → cell_at cells c ≡ OfRow row → v.cell (c ∷ []) ≡ s (Cell (c ∷ [])))
@@ -73,7 +73,7 @@ module _ (d : PlainDesign) (numbers : Instance → NetState → ℕ → ℕ) (pa
       os = active_by part (sampled_now (Node part cells) form t kept s) t form
 
       of_cycle : (e : Ended) → cycle (Node part cells) (held_in s) (entries os) (cells_in s) ≡ e → turn_faults (turn_of e) ≡ false → StepsTo part cells around v look s p c row (turn_writes (leaf_drives part form) (turn_of e) (Cell (c ∷ [])))
-      of_cycle (Faults fault) is fine = true_false fine
+      of_cycle (Faults fault) is fine = true_false_also fine
       of_cycle (Goes after) is fine =
           cell_steps d numbers part cells rules around v look solves (cells_in s) same (held_in s) (Placed form place) (entries os) apart (near os) (island_acyclic form place stands t (sampled_now (Node part cells) form t kept s)) (control.rules.circles).1
           c row (after (c ∷ [])) (driven drives_it) at (cycle_steps (Node part cells) (held_in s) (entries os) (cells_in s) after c row is at)
@@ -81,7 +81,7 @@ module _ (d : PlainDesign) (numbers : Instance → NetState → ℕ → ℕ) (pa
 
       of_unclear : (o : Option Fault) → turn_faults (unless_unclear o (cycle (Node part cells) (held_in s) (entries os) (cells_in s))) ≡ false
           → StepsTo part cells around v look s p c row (turn_writes (leaf_drives part form) (unless_unclear o (cycle (Node part cells) (held_in s) (entries os) (cells_in s))) (Cell (c ∷ [])))
-      of_unclear (Some fault) fine = true_false fine
+      of_unclear (Some fault) fine = true_false_also fine
       of_unclear None fine = of_cycle (cycle (Node part cells) (held_in s) (entries os) (cells_in s)) refl fine
 
     pub island_row : (stand : InIsland) → IslandGoes part cells around v look s p form place stand → island_faults (Node part cells) form stand s ≡ false → StepsTo part cells around v look s p c row (island_writes (Node part cells) form stand s (Cell (c ∷ [])))

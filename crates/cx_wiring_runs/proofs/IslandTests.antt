@@ -1,7 +1,7 @@
 -- The ports of the static ifs that begin in a cycle of an island have in the net what the machine takes, where it has no fault: they rest on
 -- state, so no group that goes disturbs them.
 use Rattle.std.proofs.Common.{◌≡◌, ◌⊎◌, inl, inr, ℕ, zero, suc, ◌+◌, ◌-◌, ◌%◌, Bool, true, false, if◌then◌else◌, List, [], ◌∷◌, Option, Some, None, unwrap_or, refl, sym, ap, ◌∙◌, subst}
-use Rattle.std.specs.Prelude.{nat_lt, flat_map}
+use Rattle.std.specs.Prelude.{nat_lt}
 use Rattle.cx_text.specs.declared.places.Place.{Place}
 use Rattle.cx_bits.specs.BitVector.{BitVector}
 use Rattle.cx_prim.specs.Rows.{Row}
@@ -18,17 +18,15 @@ use Rattle.cx_meaning.specs.Sights.{Look, In, Sees, seen}
 use Rattle.cx_meaning.specs.Cycles.{Ended, Fault, cycle}
 use Rattle.cx_meaning.specs.Control.{groups_of}
 use Rattle.cx_meaning.specs.Islands.{length_of, is_one, fault_of, first_unclear, unless_unclear}
-use Rattle.cx_rules.specs.Items.{Context, Dynamic, InStatic, Branch, Visited, visit, visit_all, statements_in, test_in, option_list}
+use Rattle.cx_rules.specs.Items.{Context, Dynamic, InStatic, Branch, Visited, visit, visit_all, statements_in, test_in}
 use Rattle.cx_rules.specs.ShapeRules.{is_hole}
 use Rattle.cx_rules.specs.Footprints.{Reads, tested, at_once, by_way_of}
-use Rattle.cx_rules.proofs.Finite.{in_left, in_right}
 use Rattle.cx_rules.proofs.FoundLemmas.{seen_found}
 use Rattle.cx_laws.specs.Positions.{no_port, port_at}
 use Rattle.cx_laws.specs.Samples.{Samples, says, ifs_of, form_by, statement_by, while_by, parts_by, arms_by, begun_by, active_by}
 use Rattle.cx_frames.proofs.StatementFrames.{visited}
 use Rattle.cx_control.specs.Flows.{Values, Reaches, is_set}
 use Rattle.cx_lockstep.specs.Worlds.{Machine}
-use Rattle.cx_lockstep.proofs.RunningLaws.{in_either}
 use Rattle.cx_control.specs.Spots.{Cell, Kept, cells_in, held_in}
 use Rattle.cx_control.specs.Leaves.{Coded, Cycle, turn_faults, sampled_now, island_faults}
 use Rattle.cx_control.specs.Controls.{coded_control}
@@ -46,6 +44,8 @@ use Rattle.cx_wiring_runs.specs.PortValues.{port_value}
 use Rattle.cx_wiring_runs.proofs.NodePorts.{bit_says}
 use Rattle.cx_wiring_runs.proofs.SeamFlows.{Nearby, reach_reads, rested_seen}
 use Rattle.cx_wiring_runs.proofs.NodeSeam.{NodeRest}
+use Rattle.cx_rules.proofs.ItemsLemmas.{tests_flat}
+use Rattle.cx_meaning.proofs.SightsLaws.{in_left, in_right, in_either}
 
 -- A PORT THAT BEGINS is the test of a static if of the island
 record IsTest (visits : List Visited) (port : PortRef) : Type 0 where
@@ -147,13 +147,6 @@ all_clear look (q ∷ ps) e p i = by (look q) refl e i (λ g j. all_clear look p
     by Conflict f g j later = absurd (none_some _ g)
     by Undefined f g j later = absurd (none_some _ g)
 
--- a test of what is visited
-test_in_list : (vs : List Visited) (v : Visited) (test : PlacedPort) → In vs v → test_in v.form ≡ Some test → In (flat_map (λ w. option_list (test_in w.form)) vs) test
-test_in_list [] v test i e = absurd i
-test_in_list (w ∷ vs) v test (inl same) e =
-    in_left (option_list (test_in w.form)) (flat_map (λ u. option_list (test_in u.form)) vs) test (subst (λ o. In (option_list o) test) (sym (ap (λ (u : Visited). test_in u.form) same ∙ e)) (inl refl))
-test_in_list (w ∷ vs) v test (inr i) e = in_right (option_list (test_in w.form)) (flat_map (λ u. option_list (test_in u.form)) vs) test (test_in_list vs v test i e)
-
 says_bit : (b : Bool) → is_one (truth_of_bit b) ≡ b
 says_bit true = refl
 says_bit false = refl
@@ -183,7 +176,7 @@ module _ (d : PlainDesign) (numbers : Instance → NetState → ℕ → ℕ) (pa
     from_port : (q : PortRef) → (IsTest.test t).port ≡ q → (c m : ℕ) → Reaches (Node part cells) nothing q (ports.Cell c m) → Reads part (Placed form place) c
     from_port (ports.Cell x y) e c m reach =
         reach_reads d numbers part cells rules around v look solves (cells_in s) same (Placed form place) nothing no_own x y
-        (tested y (IsTest.test t) (test_in_list (visit Dynamic (Placed form place)) (IsTest.at t) (IsTest.test t) (IsTest.is_in t) has) e) c m reach
+        (tested y (IsTest.test t) (tests_flat (visit Dynamic (Placed form place)) (IsTest.at t) (IsTest.test t) (IsTest.is_in t) has) e) c m reach
     from_port (ports.Input n) e c m (inl f) = absurd cc
     from_port (ports.Input n) e c m (inr (at_once l)) = absurd l
     from_port (ports.Input n) e c m (inr (by_way_of r l deeper)) = absurd l

@@ -43,7 +43,7 @@ use Rattle.cx_wiring.specs.Wiring.{groups, first_of_control}
 use Rattle.cx_wiring.specs.PartNets.{wired_in, timers_of, net_of_cells}
 use Rattle.cx_wiring.specs.Takings.{value, Says, takes, takes_of, AreRegisters}
 use Rattle.cx_wiring.specs.TimerCounts.{kind_cycles, cycles_at}
-use Rattle.cx_wiring.proofs.GatherLaws.{get_end, island_aligned, island_there}
+use Rattle.cx_wiring.proofs.GatherLaws.{island_aligned, island_there}
 use Rattle.cx_wiring.proofs.IslandCells.{IsBefore}
 use Rattle.cx_wiring.proofs.TimerRows.{IsTimerIn}
 use Rattle.cx_wiring.proofs.ListedLaws.{first_has}
@@ -78,6 +78,7 @@ use Rattle.cx_wiring_runs.proofs.NodeControls.{IslandsGive}
 use Rattle.cx_wiring_runs.proofs.NodeSeam.{entries_at}
 use Rattle.cx_wiring_runs.proofs.NodeOffsets.{IslandsSay}
 use Rattle.cx_wiring_runs.proofs.NodeWires.{kind_entries, timed_now, static_now}
+use Rattle.cx_text.proofs.ListLaws.{get_end}
 
 -- registers of one bit
 register_at : (around : NetAround) (registers : ℕ → Option BitVector) (look : Node → Option BitVector) (kept : ℕ → ℕ) (n m w count : ℕ) → w ≡ n + m → m < count → AreRegisters around registers look kept n (replicate count 1)

@@ -12,9 +12,9 @@ use Rattle.cx_static.specs.declared.islands.IslandTimer.{IslandTimer}
 use Rattle.cx_static.specs.Islands.{PlainPoint}
 use Rattle.cx_static.specs.Lowering.{Gathered, Begin, begin_at, later, if_sampled, with_timer, with_point, with_occurrence, form_gathered, gathered, parts_gathered, arms_gathered}
 use Rattle.cx_wiring.specs.TimerCounts.{nested, cycles_at}
-use Rattle.cx_wiring.proofs.GatherLaws.{one_more}
 use Rattle.cx_wiring_cycles.proofs.IslandOffsets.{live_in, live_short, live_behind, live_round, live_true, live_false}
 use Rattle.cx_wiring_cycles.proofs.EntryLaws.{by_live, Extends, both_extend, extended, parts_extended, arms_extended, points, round_held}
+use Rattle.cx_text.proofs.ListLaws.{snoc_length}
 
 abbrev Ports : Option ℕ → (ℕ → List PortRef) → List PortRef
 Ports o f = by_live o f
@@ -119,7 +119,7 @@ module _ (part : PlainComponent) (counts : ℕ → Option ℕ) (kept : ℕ → B
         let xb = if_sampled (length g.points) false x in
         let ga = gathered part a xa mid in
         let point : PlainPoint = record { port = test.port; timer = x.timer; at = x.at; samples = x.samples } in
-        let one : length mid.points ≡ suc (length g.points) = one_more g.points point in
+        let one : length mid.points ≡ suc (length g.points) = snoc_length g.points point in
         let two : length ga.points ≡ suc (length g.points) + ifs_of a = points part a xa mid ∙ ap (λ m. m + ifs_of a) one in
         let own : ports_among mid.points ≡ ports_among g.points ++ Ports (Live x len) (port_at test.port) =
         among_both g.points (point ∷ []) ∙ ap (λ l. ports_among g.points ++ l) (append-nil (Ports (Live x 1) (port_at test.port)) ∙ own_port test.port x len ifs.0) in

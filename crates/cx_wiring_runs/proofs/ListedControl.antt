@@ -6,17 +6,18 @@ use Rattle.cx_meaning.specs.Instances.{Instance, part_of}
 use Rattle.cx_meaning.specs.Islands.{form_length, group_length}
 use Rattle.cx_meaning.specs.Sights.{In}
 use Rattle.cx_rules.specs.Items.{Dynamic, Visited, statements_in, visit, visit_all}
-use Rattle.cx_rules.proofs.Finite.{in_left, in_right}
 use Rattle.cx_laws.specs.Positions.{HasNoEmptyIf}
 use Rattle.cx_control.specs.InstanceRules.{Stands}
 use Rattle.cx_control.specs.IslandRules.{IslandRules}
 use Rattle.cx_static.specs.Islands.{PlainIsland}
 use Rattle.cx_static.specs.Lowering.{Lowering, timer_cell, island_gathered, island_of, with_island, timed, after_enable, lowered_enable, form_after, after, parts_after, lowered_form, lowered, lowered_parts, unlowered, lowered_component}
 use Rattle.cx_wiring.specs.TimerCounts.{kind_cycles}
-use Rattle.cx_wiring.proofs.GatherLaws.{get_end, island_there}
+use Rattle.cx_wiring.proofs.GatherLaws.{island_there}
 use Rattle.cx_wiring.proofs.IslandCells.{IsBefore, itself, both_before, before_after, before_parts}
 use Rattle.cx_wiring_runs.specs.Listed.{IslandLowers, EnableLowers, FormLowers, StatementLowers, PartsLower, KeepsWhatRuns}
 use Rattle.cx_wiring_runs.proofs.ListedRuns.{SameCycles, lists_run}
+use Rattle.cx_meaning.proofs.SightsLaws.{in_left, in_right}
+use Rattle.cx_text.proofs.ListLaws.{get_end}
 
 module _ (i : Instance) (rules : IslandRules i) (no_empty : (v : Visited) → In (statements_in (part_of i)) v → HasNoEmptyIf (part_of i) v.form) where
   abbrev part : PlainComponent

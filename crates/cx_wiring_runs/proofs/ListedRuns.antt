@@ -18,7 +18,6 @@ use Rattle.cx_static.specs.Islands.{PlainIsland}
 use Rattle.cx_static.specs.Lowering.{Gathered, begin_at, island_gathered, island_of}
 use Rattle.cx_wiring.specs.TimerCounts.{nested, cycles_at, counts_in}
 use Rattle.cx_wiring.proofs.ListedLaws.{AreListed, only_timer, island_listed}
-use Rattle.cx_wiring.proofs.FitTrees.{some_at}
 use Rattle.cx_wiring_cycles.proofs.IslandOffsets.{range_in, at_in, live_in}
 use Rattle.cx_wiring_cycles.proofs.EntryLaws as entry_laws
 use Rattle.cx_wiring_cycles.proofs.EntryLaws.{by_live, Extends}
@@ -28,6 +27,7 @@ use Rattle.cx_wiring_cycles.proofs.IslandCycle.{outer_before}
 use Rattle.cx_wiring_runs.specs.Listed.{sampled_from, begun_among, active_among, samples_now, listed_turn, listed_from, listed_island}
 use Rattle.cx_wiring_runs.proofs.ListedBegun as begun_laws
 use Rattle.cx_wiring_runs.proofs.ListedSamples.{point_takes, active_so, begun_so}
+use Rattle.cx_text.proofs.ListLaws.{there_at}
 
 -- the cells of timers are those that were gathered
 abbrev pub SameCycles : PlainComponent → PlainForm → List PlainCell → List PlainCell → Type 0
@@ -51,7 +51,7 @@ module _ (part : PlainComponent) (form : PlainForm) (front cells : List PlainCel
 
   first_is : counts 0 ≡ Some t
   first_is =
-      let k = some_at final.timers 0 lists.some in
+      let k = there_at final.timers 0 lists.some in
       counts_first (cycles_at cells) (Some t) final.timers (outer_before part form front) k.0 k.1 (lists.first k.0 k.1)
 
   itself : Extends (island_gathered part form front) (island_gathered part form front)

@@ -28,7 +28,6 @@ use Rattle.cx_rules.specs.Items.{Dynamic, visit, visit_parts, test_in, option_li
 use Rattle.cx_rules.specs.Footprints.{Reads, tested}
 use Rattle.cx_rules.specs.Wellformed.{IsForm, IsWith}
 use Rattle.cx_rules.specs.Circles.{IsAcyclic}
-use Rattle.cx_rules.proofs.Finite.{in_left}
 use Rattle.cx_rules.proofs.FoundLemmas.{seen_found}
 use Rattle.cx_control.specs.Apart.{IsApart}
 use Rattle.cx_control.specs.Flows.{zero_of, is_set}
@@ -53,22 +52,26 @@ use Rattle.cx_wiring.specs.PartNets.{wired_in, timers_of, net_of_cells}
 use Rattle.cx_wiring.specs.Takings.{value}
 use Rattle.cx_wiring.proofs.TakingLemmas.{true_bit}
 use Rattle.cx_wiring_cycles.specs.Shown.{wide, Going, told, leads, comb_going, enable_going, going, enable_agrees, StatementAgrees}
-use Rattle.cx_wiring_values.proofs.InstancePorts.{output_there}
 use Rattle.cx_wiring_values.proofs.SeamRules.{SeamRules}
 use Rattle.cx_wiring_runs.specs.BlockNumbers.{component_numbers}
 use Rattle.cx_wiring_runs.specs.Blocks.{block, Shows, Solves, FitsInputs}
 use Rattle.cx_wiring_runs.specs.PortValues.{own_offset, port_value, goes_now, offset_now, active_now}
 use Rattle.cx_wiring_runs.proofs.ChildLooks.{child_solves}
-use Rattle.cx_wiring_runs.proofs.CellEdges.{driver_there}
-use Rattle.cx_wiring_runs.proofs.NodePorts.{named_value, bit_says, some_is}
+use Rattle.cx_wiring_runs.proofs.NodePorts.{named_value, bit_says}
 use Rattle.cx_wiring_runs.proofs.TreeRules.{CellsNodes}
 use Rattle.cx_wiring_runs.proofs.SeamFlows.{Nearby, tested_seen, hole_seen, hole_stands}
 use Rattle.cx_wiring_runs.proofs.OutputFlows.{SeamAt, row_cell, done_below, child_outputs}
 use Rattle.cx_wiring_runs.proofs.GoingLaws.{Source, of_group, of_timed, of_static, of_comb, going_source, comb_is}
 use Rattle.cx_wiring_runs.proofs.NodeSeam.{NodeRest, NodeSeam, entries_at, KindGoes, LeafGoes, SaysActive, KindSays, LeafSays}
 use Rattle.cx_wiring_runs.proofs.IslandSets.{active_own}
-use Rattle.cx_wiring_runs.proofs.GoingApart.{group_within, enable_named, IsGoing, GoesFor, LeafStands, leaf_stands, agrees}
-use Rattle.cx_wiring_runs.proofs.CallValues.{true_false}
+use Rattle.cx_wiring_runs.proofs.GoingApart.{enable_named, IsGoing, GoesFor, LeafStands, leaf_stands, agrees}
+use Rattle.cx_text.proofs.BoolLaws.{and_left}
+use Rattle.cx_meaning.proofs.SightsLaws.{in_left}
+use Rattle.cx_laws.proofs.TreeLemmas.{output_there}
+use Rattle.cx_meaning.proofs.DesignsLemmas.{driver_there}
+use Rattle.cx_bits.proofs.BitVectorLemmas.{some_is}
+use Rattle.cx_meaning.proofs.ControlLaws.{groups_drive_in}
+use Rattle.cx_text.proofs.NumberLaws.{true_false}
 
 -- a bit that is one of two truths
 bit_truth : (b : Bool) (x : BitVector) → truth_bit b ≡ x → truth_of (Value x) ≡ One → b ≡ true
@@ -89,10 +92,6 @@ zero_is_value : (x : Seen) → truth_of x ≡ Zero → (b : BitVector) × (x ≡
 zero_is_value (Value b) e = (b, refl)
 zero_is_value Conflict e = absurd cc
 zero_is_value Undefined e = absurd cc
-
-and_left : (a b : Bool) → (a && b) ≡ true → a ≡ true
-and_left true b e = refl
-and_left false b e = absurd cc
 
 -- a group that is told to go is named
 pub told_named : (g : ℕ) (z : BitVector) (xs : List Going) → is_true (unwrap_or (told g (Some (truth_bit false)) xs) z) ≡ true → IsGoing g xs
@@ -226,7 +225,7 @@ module _ (d : PlainDesign) (of_island : PlainComponent → NetState → ℕ → 
   island_rest form place stand j c child reads at =
       rests_apart (Placed form place) (of_form form stand) (stood (AnIsland form place stand) j).goes_for c child reads at
       (λ h k plain calls. control.no_island_calls form place c child (stood (AnIsland form place stand) j).stands (stood (AnIsland form place stand) j).static at
-      (group_within part (groups_in form) h c (subst (In (groups_in form)) k.named (names_form form stand k.one k.is_in)) (called_drives_it h c calls)))
+      (groups_drive_in part (groups_in form) h c (subst (In (groups_in form)) k.named (names_form form stand k.one k.is_in)) (called_drives_it h c calls)))
 
   -- WHAT RESTS, whatever goes
   pub node_rest : NodeRest part cells around v look s p
@@ -422,7 +421,7 @@ module _ (d : PlainDesign) (of_island : PlainComponent → NetState → ℕ → 
         of_source x named (of_group g place stand m plain is) = absurd (true_false (sym (driven_by g (sym (ap (λ (y : Going). y.group) is) ∙ named)) ∙ free (AGroup g place stand) m))
         of_source x named (of_timed g place stand m cycles is k) = absurd (true_false (sym (driven_by g (sym (names_enable g stand x k) ∙ named)) ∙ free (AGroup g place stand) m))
         of_source x named (of_static form place stand m k) =
-            absurd (true_false (sym (group_within part (groups_in form) h c (subst (In (groups_in form)) named (names_form form stand x k)) drives_it) ∙ free (AnIsland form place stand) m))
+            absurd (true_false (sym (groups_drive_in part (groups_in form) h c (subst (In (groups_in form)) named (names_form form stand x k)) drives_it) ∙ free (AnIsland form place stand) m))
         of_source x named (of_comb g t stands has is) = subst (λ k. is_comb (group_at part k).kind ≡ true) (sym (ap (λ (y : Going). y.group) is) ∙ named) (comb_is (leaf_machines (Node part cells) (coded_below cells)) (leaf_codings (Node part cells) (coded_below cells)) part (lowered_component part).islands hole of_enable of_form
             (Stands (Node part cells)) (λ form place u. rules.node.ports.forms (record { context = Dynamic; form = form; place = place }) u) t g stands has)
 

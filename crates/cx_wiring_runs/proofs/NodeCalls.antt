@@ -1,5 +1,5 @@
 -- A CALL THAT GOES ON: the cell that it calls has go in the net, and the inputs that the machine gives its child, where they are values.
-use Rattle.std.proofs.Common.{◌≡◌, ◌⊎◌, inl, inr, ℕ, suc, ◌+◌, ◌-◌, ◌<◌, Bool, true, false, ◌||◌, if◌then◌else◌, [], ◌∷◌, length, Option, Some, None, unwrap_or, refl, sym, ap, ◌∙◌, subst, arith}
+use Rattle.std.proofs.Common.{◌≡◌, ◌⊎◌, inl, inr, ℕ, suc, ◌+◌, ◌<◌, Bool, true, false, ◌||◌, if◌then◌else◌, [], ◌∷◌, length, Option, Some, None, unwrap_or, refl, sym, ap, ◌∙◌, subst, arith}
 use Rattle.std.specs.Prelude.{nat_lt, nat_eq}
 use Rattle.std.proofs.lemmas.Bool.{lt-ltb, ltb-true}
 use Rattle.std.proofs.lemmas.Bool.Decides.{eqb_tells}
@@ -11,7 +11,7 @@ use Rattle.cx_meaning.specs.declared.sights.Seen.TheVariants.{Value, Undefined}
 use Rattle.cx_meaning.specs.Designs.{PlainComponent, PlainDesign, PlainStatement, Enable, Placed, group_at}
 use Rattle.cx_meaning.specs.Instances.{Instance, Node, Cells, OfRow, OfInstance, cell_at, part_of, under}
 use Rattle.cx_meaning.specs.Active.{Active, Owned, nothing, group, source_order, offset_of}
-use Rattle.cx_meaning.specs.Sights.{unheld, In, Sees, seen, AnInput, AnOutput, ItsDone, part_port, output_port}
+use Rattle.cx_meaning.specs.Sights.{unheld, In, Sees, seen, AnOutput, ItsDone, part_port}
 use Rattle.cx_meaning.specs.Islands.{kind_length}
 use Rattle.cx_meaning.specs.Control.{groups_of, group_drives}
 use Rattle.cx_meaning.specs.Calls.{called, captures}
@@ -45,18 +45,14 @@ use Rattle.cx_wiring_runs.proofs.SeamFlows.{st_solves, Nearby, reach_reads, reac
 use Rattle.cx_wiring_runs.proofs.NodeSeam.{Runs, NodeSeam}
 use Rattle.cx_wiring_runs.proofs.CallValues.{go_is_one}
 use Rattle.cx_wiring_runs.proofs.CallHoles.{done_value}
-
-child_is : (a b : Instance) → OfInstance a ≡ OfInstance b → a ≡ b
-child_is a b e = cc
+use Rattle.cx_meaning.proofs.InstancesLemmas.{instance_is}
+use Rattle.cx_meaning.proofs.SightsLaws.{input_at}
 
 cell_is : (c p e q : ℕ) → ports.Cell c p ≡ ports.Cell e q → c ≡ e
 cell_is c p e q f = cc
 
 value_is : (a b : BitVector) → Value a ≡ Value b → a ≡ b
 value_is a b f = cc
-
-input_at : (part : PlainComponent) (n : ℕ) → n < length part.inputs → part_port part (suc n) ≡ AnInput n
-input_at part n less = ap (λ b. if b then AnInput n else output_port (length part.outputs) (n - length part.inputs)) (lt-ltb n (length part.inputs) less)
 
 module _ (d : PlainDesign) (numbers : Instance → NetState → ℕ → ℕ) (part : PlainComponent) (cells : Cells) (rules : SeamRules d (Node part cells)) (control : ControlRules (Node part cells)) (around : NetAround) (v : NetState) (look : NetLook)
     (solves : Solves (block (wired_in d) timers_of numbers (Node part cells)) around v look) (s : Kept) (same : (c : ℕ) (row : Row) → cell_at cells c ≡ OfRow row → v.cell (c ∷ []) ≡ s (Cell (c ∷ [])))
@@ -130,7 +126,7 @@ module _ (d : PlainDesign) (numbers : Instance → NetState → ℕ → ℕ) (pa
         → Reaches (Node part cells) (group g) (ports.Cell c (suc n)) (ports.Cell c q) → ⊥
     not_given child q at given reach =
         form.no_given n q (input_at (part_of form.child) n there)
-        (subst (λ x. ((m : ℕ) × (part_port (part_of x) q ≡ AnOutput m)) ⊎ (part_port (part_of x) q ≡ ItsDone)) (child_is child form.child (sym at ∙ form.at_child)) given) reach
+        (subst (λ x. ((m : ℕ) × (part_port (part_of x) q ≡ AnOutput m)) ⊎ (part_port (part_of x) q ≡ ItsDone)) (instance_is child form.child (sym at ∙ form.at_child)) given) reach
 
     reads_so : (x q : ℕ) → Reaches (Node part cells) (group g) (ports.Cell c (suc n)) (ports.Cell x q) → Reads part (Placed (Enable g) place) x
     reads_so x q reach = reach_reads d numbers part cells rules around v look solves (cells_in s) same (Placed (Enable g) place) (group g) own c (suc n) reads_it x q reach

@@ -4,7 +4,7 @@ use Rattle.std.proofs.Common.{◌≡◌, ℕ, ◌+◌, ◌<◌, ◌^◌, ◌&&�
 use Rattle.cx_bits.specs.BitVector.{BitVector}
 use Rattle.cx_prim.specs.declared.ports.Side.TheVariants as sides
 use Rattle.cx_prim.specs.Rows.{Row, IsLawful}
-use Rattle.cx_prim.specs.TableLaws.{row_of_lawful}
+use Rattle.cx_prim.proofs.TableLaws.{row_of_lawful}
 use Rattle.cx_meaning.specs.declared.ports.PortRef.TheVariants as ports
 use Rattle.cx_meaning.specs.Rows.{side_of}
 use Rattle.cx_meaning.specs.Designs.{PlainComponent, PlainDesign, no_component, component_at, group_at}
@@ -24,10 +24,9 @@ use Rattle.std.proofs.lemmas.Bool.{cases_lt, le-leb}
 use Rattle.cx_rules.specs.Accepted.{IsAccepted}
 use Rattle.cx_rules.specs.Ports.{component_of}
 use Rattle.cx_rules.specs.Wellformed.{IsForm, IsDesign, port_count}
-use Rattle.cx_rules.proofs.CircleLemmas.{same_part}
 use Rattle.cx_frames.specs.Rests.{IsUndriven}
 use Rattle.cx_frames.proofs.RuleLemmas.{kept_instance}
-use Rattle.cx_control.proofs.InstanceLemmas.{instance_rows, number_in}
+use Rattle.cx_control.proofs.InstanceLemmas.{instance_rows}
 use Rattle.cx_control.proofs.BesideLemmas.{StandsFor, of_component, of_nothing, instance_stands, keeps_calls}
 use Rattle.cx_control.proofs.ShapeLemmas.{drives_driving, none_outside, plain_group}
 use Rattle.cx_control.proofs.DesignRules.{instance_part}
@@ -42,6 +41,8 @@ use Rattle.cx_wiring_runs.proofs.NodePorts.{port_stands}
 use Rattle.cx_wiring_runs.proofs.WireSolves.{wires_solve}
 use Rattle.cx_wiring_runs.proofs.CellEdges as edges
 use Rattle.cx_wiring_runs.proofs.NodeIdles.{OwesIdle, node_idles}
+use Rattle.cx_meaning.proofs.DesignsLemmas.{same_part}
+use Rattle.cx_meaning.proofs.SightsLaws.{number_in}
 
 pub record CellRules (i : Instance) : Type 0 where
   pub lawful : (c : ℕ) (row : Row) → cell_at (cells_of i) c ≡ OfRow row → IsLawful row

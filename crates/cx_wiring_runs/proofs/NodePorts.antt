@@ -17,7 +17,6 @@ use Rattle.cx_rules.specs.Items.{atoms_of, atoms_in, operands_of, operands_in, R
 use Rattle.cx_rules.specs.ShapeRules.{is_hole}
 use Rattle.cx_rules.specs.WidthRules.{IsBadLiteral}
 use Rattle.cx_rules.specs.Wellformed.{port_count}
-use Rattle.cx_rules.proofs.Finite.{in_left, in_right}
 use Rattle.cx_control.specs.Flows.{Values, is_set, guard_on, all_on, any_on, zero_of}
 use Rattle.cx_net.specs.Nets.{OfPort}
 use Rattle.cx_net.specs.NetTree.{NetCells, ARow, AChild, net_cell_at, net_part}
@@ -34,13 +33,14 @@ use Rattle.cx_wiring.proofs.NetTargets.{plain_wires_count}
 use Rattle.cx_wiring.proofs.DesignNames.{in_filter}
 use Rattle.cx_wiring_cycles.specs.GuardPorts.{GuardPorts, PartsPorts, GroupSays, OwnerSays, AssignHolds, AssignsHold}
 use Rattle.cx_wiring_cycles.proofs.HoleLaws.{HoleFits, HolesFit}
-use Rattle.cx_wiring_values.proofs.InstancePorts.{IsNamed, PortRules, declared_there}
+use Rattle.cx_wiring_values.proofs.InstancePorts.{IsNamed, PortRules}
 use Rattle.cx_wiring_runs.specs.Blocks.{block, Solves}
 use Rattle.cx_wiring_runs.specs.PortValues.{has_port, value_beyond, port_value, goes_now, offset_now}
 use Rattle.cx_wiring_runs.proofs.ChildLooks.{child_stands}
-
-pub some_is : (a b : BitVector) → ◌≡◌ {A = Option BitVector} (Some a) (Some b) → a ≡ b
-some_is a b e = cc
+use Rattle.cx_bits.proofs.BitVectorLemmas.{some_is}
+use Rattle.cx_text.proofs.BoolLaws.{and_true_also}
+use Rattle.cx_meaning.proofs.SightsLaws.{in_left, in_right}
+use Rattle.cx_laws.proofs.TreeLemmas.{declared_there}
 
 pub known : (o : Option BitVector) (z x : BitVector) → o ≡ Some x → o ≡ Some (unwrap_or o z)
 known o z x e = e ∙ ap Some (sym (ap (λ k. unwrap_or k z) e))
@@ -48,10 +48,6 @@ known o z x e = e ∙ ap Some (sym (ap (λ k. unwrap_or k z) e))
 pub set_bit : (b : Bool) → is_set (truth_bit b) ≡ b
 set_bit true = refl
 set_bit false = refl
-
-and_true : (b : Bool) → (b && true) ≡ b
-and_true true = refl
-and_true false = refl
 
 pub has_there : (at : At) (p : ℕ) → p < port_count at → has_port at p ≡ true
 has_there Nothing p less = absurd (omega arith)
@@ -221,7 +217,7 @@ module _ (d : PlainDesign) (numbers : Instance → NetState → ℕ → ℕ) whe
           length-append (plain_wires (lowered_component part)) (tree_widths (target_width (lowered_of d) (lowered_component part)) (component_driven (lowered_component part))) in
           let wires : g < length (wired_in d part).wires = omega (arith, count, all, there) in
           let x = solves.whole [] (AWire g) (lt-ltb g (length (wired_in d part).wires) wires) in (
-            b.1 ∙ ap (λ c. Some (truth_bit c)) (sym (ap₂ (λ x y. x && y) (ap (λ o. is_true (unwrap_or o (zero_of (Some 1)))) b.1 ∙ true_bit b.0) drives ∙ and_true b.0)),
+            b.1 ∙ ap (λ c. Some (truth_bit c)) (sym (ap₂ (λ x y. x && y) (ap (λ o. is_true (unwrap_or o (zero_of (Some 1)))) b.1 ∙ true_bit b.0) drives ∙ and_true_also b.0)),
             known (look [] (AWire g)) (zero_of (Some 32)) x.0 x.1,
           )
 

@@ -44,7 +44,7 @@ use Rattle.cx_control.specs.Standing.{RestsAt, bare, bare_under, Calling, runs, 
 use Rattle.cx_control.specs.InstanceRules.{Stands}
 use Rattle.cx_control.specs.CallRules.{CallForm, CallRules}
 use Rattle.cx_control.specs.ControlRules.{ControlRules}
-use Rattle.cx_control.proofs.CallLaws.{ChildLaws, not_just}
+use Rattle.cx_control.proofs.CallLaws.{ChildLaws}
 use Rattle.cx_control.proofs.LeafLaws.{ActsAs, IsQuietEnd, kind_ends}
 use Rattle.cx_control.proofs.ControlLaws.{IslandsDo}
 use Rattle.cx_control.proofs.KeepLaws as keeps
@@ -63,16 +63,12 @@ use Rattle.cx_wiring_runs.proofs.RowSteps.{enable_flow, enable_low}
 use Rattle.cx_wiring_runs.proofs.SeamFlows.{st_solves, Nearby, cell_steps}
 use Rattle.cx_wiring_runs.proofs.NodeSeam.{Runs, NodeSeam, StepsTo, IsStaticLeaf}
 use Rattle.cx_wiring_runs.proofs.CallValues.{call_enables_none}
-use Rattle.cx_wiring_runs.proofs.CallHoles.{done_value, true_false}
+use Rattle.cx_wiring_runs.proofs.CallHoles.{done_value}
+use Rattle.cx_meaning.proofs.InstancesLemmas.{row_instance, not_just}
+use Rattle.cx_text.proofs.NumberLaws.{true_false_also}
 
 enable_is : (side : _) → side ≡ sides.Enable → is_enable_side side ≡ true
 enable_is side e = ap is_enable_side e
-
-row_apart : (row : Row) (child : Instance) → OfRow row ≡ OfInstance child → ⊥
-row_apart row child e = cc
-
-instance_same : (a b : Instance) → OfInstance a ≡ OfInstance b → a ≡ b
-instance_same a b e = cc
 
 module _ (d : PlainDesign) (numbers : Instance → NetState → ℕ → ℕ) (part : PlainComponent) (cells : Cells) (rules : SeamRules d (Node part cells)) (control : ControlRules (Node part cells)) (islands : IslandsDo (Node part cells))
     (below : (c : ℕ) (child : Instance) → cell_at cells c ≡ OfInstance child → ChildLaws cells c (coded_below cells c)) (kept : (c : ℕ) (child : Instance) → cell_at cells c ≡ OfInstance child → KeepsBelow cells c)
@@ -157,7 +153,7 @@ module _ (d : PlainDesign) (numbers : Instance → NetState → ℕ → ℕ) (pa
 
         of_cycle : hole ≡ false → (e : Ended) → cycle (Node part cells) (held_in s) (group g) (cells_in s) ≡ e → turn_faults (turn_of e) ≡ false
             → StepsTo part cells around v look s p c row (turn_writes (leaf_drives part (Enable g)) (turn_of e) (Cell (c ∷ [])))
-        of_cycle off (Faults fault) is fine = true_false fine
+        of_cycle off (Faults fault) is fine = true_false_also fine
         of_cycle off (Goes after) is fine =
             cell_steps d numbers part cells rules around v look solves (cells_in s) same (held_in s) (Placed (Enable g) place) (group g) (apart off) near (control.rules.groups g there) (control.rules.circles).1 c row (after (c ∷ [])) (driven drives_it) at
             (cycle_steps (Node part cells) (held_in s) (group g) (cells_in s) after c row is at)
@@ -171,8 +167,8 @@ module _ (d : PlainDesign) (numbers : Instance → NetState → ℕ → ℕ) (pa
             → StepsTo part cells around v look s p c row (turn_writes (leaf_drives part (Enable g)) (hole_turn g (cycle (Node part cells) (held_in s) (group g) (cells_in s)) u) (Cell (c ∷ [])))
         of_truth One ends_so fine = ends ends_so
         of_truth Zero ends_so fine = of_cycle (ends_so ∙ never_ends (cycle (Node part cells) (held_in s) (group g) (cells_in s))) (cycle (Node part cells) (held_in s) (group g) (cells_in s)) refl fine
-        of_truth truths.Conflict ends_so fine = true_false fine
-        of_truth truths.Undefined ends_so fine = true_false fine
+        of_truth truths.Conflict ends_so fine = true_false_also fine
+        of_truth truths.Undefined ends_so fine = true_false_also fine
 
         of_called : (o : Option ℕ) → o ≡ None → (q : Machine.Place (called_machine (Node part cells) (coded_below cells) g o)) → hole ≡ is_done (Machine.step (called_machine (Node part cells) (coded_below cells) g o) q s)
             → Machine.faults (called_machine (Node part cells) (coded_below cells) g o) q s ≡ false → StepsTo part cells around v look s p c row (Machine.writes (called_machine (Node part cells) (coded_below cells) g o) q s (Cell (c ∷ [])))
@@ -200,7 +196,7 @@ module _ (d : PlainDesign) (numbers : Instance → NetState → ℕ → ℕ) (pa
         acts = keeps.acts part cells control islands below kept p s good ok g place stand x m e
 
         differ : x ≡ c → ⊥
-        differ f = row_apart row form.child (sym at ∙ ap (cell_at cells) (sym f) ∙ form.at_child)
+        differ f = row_instance row form.child (sym at ∙ ap (cell_at cells) (sym f) ∙ form.at_child)
 
         abbrev Hole : Bool
         Hole = hole_now (Node part cells) (coded_below cells x) g x (captures (Node part cells) g) (child_at (coded_below cells x) x s) s
@@ -303,7 +299,7 @@ module _ (d : PlainDesign) (numbers : Instance → NetState → ℕ → ℕ) (pa
               capture_apart = record { its_own = (apart off_in_net).its_own; same = (apart off_in_net).same }
 
               of_capture : (z : Ended) → cycle (Node part cells) (held_in s) (capture g x) (cells_in s) ≡ z → turn_faults (turn_of z) ≡ false → StepsTo part cells around v look s p c row (turn_writes (leaf_drives part (Enable g)) (turn_of z) (Cell (c ∷ [])))
-              of_capture (Faults fault) f g2 = true_false g2
+              of_capture (Faults fault) f g2 = true_false_also g2
               of_capture (Goes after) f g2 =
                   cell_steps d numbers part cells rules around v look solves (cells_in s) same (held_in s) (Placed (Enable g) place) (capture g x) capture_apart near_capture
                   (capture_acyclic (Node part cells) g x (control.rules.groups g there)) (control.rules.circles).1 c row (after (c ∷ [])) (driven drives_it) at
@@ -320,9 +316,9 @@ module _ (d : PlainDesign) (numbers : Instance → NetState → ℕ → ℕ) (pa
 
               by : (b : Bool) → captures (Node part cells) g ≡ b → StepsTo part cells around v look s p c row (Machine.writes (LeafMachines.enable (leaf_machines (Node part cells) (coded_below cells)) g) stand s (Cell (c ∷ [])))
               by true caps = captures_now at_its_end (λ f path n. AllRest.numbers (Keeps.ended (keeps.keeps part cells control islands below kept g place x stands e) (bare_under x (bare s)) gd) f path n) caps
-              by false caps = true_false (sym (keeps.hole_at part cells control islands below kept p s good ok g place stand x m e Done false at_its_end caps) ∙ off)
+              by false caps = true_false_also (sym (keeps.hole_at part cells control islands below kept p s good ok g place stand x m e Done false at_its_end caps) ∙ off)
           going_on (captured rests caps is_set) =
-              true_false (sym (ap (λ b. if b then captured_now (Node part cells) (coded_below cells x) g x (captures (Node part cells) g) s else is_done (child_at (coded_below cells x) x s)) caps ∙ ap is_one (is_set (held_in s))) ∙ off)
+              true_false_also (sym (ap (λ b. if b then captured_now (Node part cells) (coded_below cells x) g x (captures (Node part cells) g) s else is_done (child_at (coded_below cells x) x s)) caps ∙ ap is_one (is_set (held_in s))) ∙ off)
 
         call_row : StepsTo part cells around v look s p c row (Machine.writes (LeafMachines.enable (leaf_machines (Node part cells) (coded_below cells)) g) stand s (Cell (c ∷ [])))
         call_row = by Hole refl

@@ -33,13 +33,13 @@ use Rattle.cx_wiring_cycles.proofs.OffsetWalk.{timed_entries}
 use Rattle.cx_wiring_values.proofs.NodeRules.{NodeRules}
 use Rattle.cx_wiring_values.proofs.SeamRules.{SeamRules}
 use Rattle.cx_wiring_runs.proofs.NodeCells.{CellRules}
-use Rattle.cx_wiring_runs.proofs.CellEdges.{driver_there}
 use Rattle.cx_wiring_runs.proofs.NodeEdges.{IsCycle}
 use Rattle.cx_wiring_runs.proofs.NodeSeam.{entries_at, SaysActive, KindSays, LeafSays}
 use Rattle.cx_wiring_runs.proofs.Occurrences.{active_occurs}
 use Rattle.cx_wiring_runs.proofs.RunOccurs.{leaf_stands_in}
 use Rattle.cx_wiring_runs.proofs.NodeOffsets.{IslandsSay}
 use Rattle.cx_wiring_runs.proofs.NodeWires.{kind_entries, timed_now, static_now, form_own, leaf_wire}
+use Rattle.cx_meaning.proofs.DesignsLemmas.{driver_there}
 
 module _ (d : PlainDesign) (part : PlainComponent) (cells : Cells) (rules : NodeRules d (instances.Node part cells)) (own : CellRules (instances.Node part cells)) (seams : SeamRules d (instances.Node part cells))
     (control : ControlRules (instances.Node part cells)) (islands : IslandsDo (instances.Node part cells)) (below : (c : ℕ) (child : Instance) → cell_at cells c ≡ OfInstance child → ChildLaws cells c (coded_below cells c))

@@ -7,7 +7,6 @@ use Rattle.cx_bits.specs.BitVector.{BitVector}
 use Rattle.cx_prim.specs.CellStates.{CellState}
 use Rattle.cx_prim.specs.Rows.{Row}
 use Rattle.cx_prim.specs.PipeRows.{timer_idle, timer_go, timer_row}
-use Rattle.cx_prim.specs.MemoryLaws.{slice_get-append}
 use Rattle.cx_meaning.specs.declared.ports.PortRef.TheVariants as ports
 use Rattle.cx_meaning.specs.Designs.{PlainComponent, PlainDesign, Timed, Placed}
 use Rattle.cx_meaning.specs.Instances as instances
@@ -26,7 +25,6 @@ use Rattle.cx_wiring.specs.Wiring.{groups, first_of_control, bits, plain_wires}
 use Rattle.cx_wiring.specs.PartNets.{wired_in, timers_of, net_of_cells}
 use Rattle.cx_wiring.specs.Takings.{takes, AllConnect, AreRegisters}
 use Rattle.cx_wiring.proofs.TimerRows.{EachTimer, IsTimerIn, timer_rows}
-use Rattle.cx_wiring.proofs.FitLemmas.{slice_left}
 use Rattle.cx_wiring_cycles.specs.Standing.{IsIn, IsStopped, Away}
 use Rattle.cx_wiring_cycles.specs.IslandTakes.{IslandNexts}
 use Rattle.cx_wiring_cycles.specs.Shown.{wide}
@@ -38,6 +36,7 @@ use Rattle.cx_wiring_cycles.proofs.IslandAway as islands
 use Rattle.cx_wiring_runs.specs.BlockNumbers.{component_numbers}
 use Rattle.cx_wiring_runs.specs.Blocks.{block, Solves, after_edge}
 use Rattle.cx_wiring_runs.proofs.BlockTells.{IsFineNode, R, hole_now, port_now}
+use Rattle.cx_text.proofs.ListLaws.{behind as slice_get-append, front}
 
 -- the edge of a row among cells
 row_below : (cells : NetCells) (at c : ℕ) (row : Row) (look : NetLook) (d : CellState) → net_cell_at cells at ≡ ARow row → cell_below false cells at c look [] d ≡ row.next d (inputs_from look c 0 row.ports)
@@ -115,7 +114,7 @@ module _ (d : PlainDesign) (of_island : PlainComponent → NetState → ℕ → 
   pub island_bits : (n : ℕ) → groups (lowered_component part) ≤ n → n < first_of_control (lowered_component part) → (b : Bool) × (look [] (AWire n) ≡ Some (truth_bit b))
   island_bits n low high =
       let is = bit_wire (groups (lowered_component part)) (bits (lowered_component part)) n low (omega arith) in
-      solves.bits [] (AWire n) (ap (λ o. option_map_or (λ w. w == 1) o false) (slice_left (plain_wires (lowered_component part)) _ n 1 is))
+      solves.bits [] (AWire n) (ap (λ o. option_map_or (λ w. w == 1) o false) (front (plain_wires (lowered_component part)) _ n 1 is))
 
   -- AN EDGE of a timer
   pub timer_edge : (go : Bool) → (k : ℕ) (island : PlainIsland) (is : slice_get (lowered_component part).islands k ≡ Some island) (t : ℕ) (timer : IslandTimer) (at : slice_get island.timers t ≡ Some timer)

@@ -33,13 +33,13 @@ use Rattle.cx_wiring_cycles.specs.Shown.{wide}
 use Rattle.cx_wiring_cycles.specs.AtLeaves.{IslandsHold}
 use Rattle.cx_wiring_cycles.proofs.OffsetWalk.{timed_entries, entries_of}
 use Rattle.cx_wiring_values.proofs.NodeRules.{NodeRules}
-use Rattle.cx_wiring_runs.proofs.GoingApart.{group_within}
 use Rattle.cx_wiring_runs.proofs.IslandSets.{active_own}
 use Rattle.cx_wiring_runs.proofs.NodeCells.{CellRules}
-use Rattle.cx_wiring_runs.proofs.CellEdges.{driver_there}
 use Rattle.cx_wiring_runs.proofs.NodeEdges.{IsCycle}
 use Rattle.cx_wiring_runs.proofs.NodeSeam.{entries_at}
 use Rattle.cx_wiring_runs.proofs.NodeOffsets.{IslandsSay, offset_wire}
+use Rattle.cx_meaning.proofs.ControlLaws.{groups_drive_in}
+use Rattle.cx_meaning.proofs.DesignsLemmas.{driver_there}
 
 module _ (d : PlainDesign) (part : PlainComponent) (cells : Cells) (rules : NodeRules d (instances.Node part cells)) (own : CellRules (instances.Node part cells))
     (control : ControlRules (instances.Node part cells)) (islands : IslandsDo (instances.Node part cells)) (below : (c : ℕ) (child : Instance) → cell_at cells c ≡ OfInstance child → ChildLaws cells c (coded_below cells c))
@@ -90,7 +90,7 @@ module _ (d : PlainDesign) (part : PlainComponent) (cells : Cells) (rules : Node
       offset_wire d part cells rules own control p s v around look cycle timed_now static_now timed_saw island_saw g (driver_there part g c drives_it) (say g (driver_there part g c drives_it)) has r m o e only
     where
       leaf_drives : (q : Running (leaf_machines (instances.Node part cells) (coded_below cells))) (n : ℕ) → offset_in (leaf_entries q) g ≡ Some n → drives part (leaf_of (leaf_machines (instances.Node part cells) (coded_below cells)) q) c ≡ true
-      leaf_drives q n f = group_within part (groups_of (leaf_of (leaf_machines (instances.Node part cells) (coded_below cells)) q)) g c (leaf_own q g n f) drives_it
+      leaf_drives q n f = groups_drive_in part (groups_of (leaf_of (leaf_machines (instances.Node part cells) (coded_below cells)) q)) g c (leaf_own q g n f) drives_it
 
       only : (q : Running (leaf_machines (instances.Node part cells) (coded_below cells))) (n : ℕ) → In (running (leaf_machines (instances.Node part cells) (coded_below cells)) part.control p) q → offset_in (leaf_entries q) g ≡ Some n → q ≡ r
       only q n j f =

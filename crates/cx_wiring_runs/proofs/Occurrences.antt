@@ -1,17 +1,18 @@
 -- The groups that are active in a cycle of an island have an occurrence in it, so their assignments stand in the net.
 use Rattle.std.proofs.Common.{◌≡◌, ◌⊎◌, inl, inr, ℕ, suc, ◌+◌, ◌-◌, ◌*◌, ◌%◌, Bool, true, false, ◌||◌, if◌then◌else◌, List, [], ◌∷◌, ◌++◌, length, Option, Some, None, refl, sym, ap, ◌∙◌, subst}
 use Rattle.std.specs.Prelude.{is_some, nat_eq, nat_lt}
-use Rattle.std.proofs.lemmas.Bool.{eq-eqb, eqb-true}
+use Rattle.std.proofs.lemmas.Bool.{eq-eqb}
 use Rattle.cx_meaning.specs.Designs.{PlainCell, PlainComponent, PlainForm, Empty, Enable, Seq, Par, If, While, Repeat, StaticSeq, StaticPar, StaticIf, StaticRepeat, Timed, PlainStatement, Placed, PlainStatements, no_statements, a_statement}
 use Rattle.cx_meaning.specs.Active.{Entry, offset_in}
 use Rattle.cx_meaning.specs.Sights.{In}
 use Rattle.cx_meaning.specs.Islands.{group_length, length_of, form_length}
 use Rattle.cx_laws.specs.Positions.{entry_at, no_entry}
 use Rattle.cx_laws.specs.Samples.{Samples, ifs_of, form_by, statement_by, while_by, parts_by, arms_by, active_by}
-use Rattle.cx_lockstep.proofs.RunningLaws.{in_either}
 use Rattle.cx_static.specs.Islands.{PlainOccurrence, PlainIsland}
 use Rattle.cx_static.specs.Lowering.{Begin, Gathered, later, begin_at, if_sampled, with_occurrence, with_point, with_timer, form_gathered, gathered, parts_gathered, arms_gathered, island_gathered}
 use Rattle.cx_wiring.specs.Assignments.{occurs_among, occurs_in}
+use Rattle.cx_meaning.proofs.ActiveLemmas.{entry_of}
+use Rattle.cx_meaning.proofs.SightsLaws.{in_either}
 
 occurs_first : (g : ℕ) (xs ys : List PlainOccurrence) → occurs_among g xs ≡ true → occurs_among g (xs ++ ys) ≡ true
 occurs_first g [] ys e = absurd cc
@@ -28,15 +29,6 @@ occurs_last (x ∷ xs) o = by (nat_eq x.group o.group) (occurs_last xs o)
     by : (b : Bool) → occurs_among o.group (xs ++ o ∷ []) ≡ true → (b || occurs_among o.group (xs ++ o ∷ [])) ≡ true
     by true f = refl
     by false f = f
-
--- an entry of a group
-pub entry_of : (os : List Entry) (g o : ℕ) → offset_in os g ≡ Some o → (e : Entry) × In os e × (e.group ≡ g)
-entry_of [] g o f = absurd cc
-entry_of (x ∷ os) g o f = by (nat_eq x.group g) refl f (entry_of os g o)
-  where
-    by : (b : Bool) → nat_eq x.group g ≡ b → (if b then Some x.offset else offset_in os g) ≡ Some o → (offset_in os g ≡ Some o → (e : Entry) × In os e × (e.group ≡ g)) → (e : Entry) × In (x ∷ os) e × (e.group ≡ g)
-    by true h f later_one = (x, inl refl, eqb-true x.group g h)
-    by false h f later_one = let k = later_one f in (k.0, inr k.1, k.2)
 
 in_one : (b : Bool) (xs ys : List Entry) (e : Entry) → In (if b then xs else ys) e → In xs e ⊎ In ys e
 in_one true xs ys e i = inl i

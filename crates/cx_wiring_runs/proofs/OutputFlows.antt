@@ -5,7 +5,7 @@ use Rattle.std.proofs.lemmas.Bool.{lt-ltb}
 use Rattle.cx_bits.specs.BitVector.{BitVector}
 use Rattle.cx_prim.specs.Rows.{Row}
 use Rattle.cx_meaning.specs.declared.ports.PortRef.TheVariants as ports
-use Rattle.cx_meaning.specs.declared.sights.Seen.TheVariants.{Value, Undefined}
+use Rattle.cx_meaning.specs.declared.sights.Seen.TheVariants.{Value}
 use Rattle.cx_meaning.specs.Designs.{PlainComponent, PlainDesign}
 use Rattle.cx_meaning.specs.Instances.{Instance, Node, Cells, no_cells, a_primitive, an_instance, OfRow, OfInstance, cell_at, part_of, Path, State, under, tree_of, instance_at}
 use Rattle.cx_meaning.specs.Active.{nothing}
@@ -22,7 +22,6 @@ use Rattle.cx_wiring.specs.PartNets.{wired_in, timers_of, net_of_cells}
 use Rattle.cx_wiring.specs.NetBits.{IsBitPort}
 use Rattle.cx_wiring.proofs.TakingLemmas.{true_bit}
 use Rattle.cx_wiring.proofs.CountLaws.{positions_of_some}
-use Rattle.cx_wiring_values.proofs.InstancePorts.{output_there}
 use Rattle.cx_wiring_values.proofs.NodeRules.{NodeRules, control_tests}
 use Rattle.cx_wiring_values.proofs.SeamRules.{SeamRules, seam_rules}
 use Rattle.cx_wiring_runs.specs.BlockNumbers.{component_numbers}
@@ -32,6 +31,8 @@ use Rattle.cx_wiring_runs.proofs.ChildLooks.{child_solves}
 use Rattle.cx_wiring_runs.proofs.NodePorts.{known, bit_port}
 use Rattle.cx_wiring_runs.proofs.TreeRules.{AllNodes, CellsNodes, FineAt, all_nodes}
 use Rattle.cx_wiring_runs.proofs.SeamFlows.{output_seen}
+use Rattle.cx_meaning.proofs.SightsLaws.{undefined_value}
+use Rattle.cx_laws.proofs.TreeLemmas.{output_there}
 
 -- A NODE of an accepted design is fine
 pub fine_node : (d : PlainDesign) (of_island : PlainComponent → NetState → ℕ → ℕ → ℕ → ℕ) (part : PlainComponent) (cells : Cells) → NodeRules d (Node part cells) → IsFineNode d of_island part cells
@@ -77,9 +78,6 @@ bit_is o b x e f off = e ∙ ap (λ c. Some (truth_bit c)) (sym (true_bit b) ∙
   where
     some_is : (a c : BitVector) → ◌≡◌ {A = Option BitVector} (Some a) (Some c) → a ≡ c
     some_is a c g = cc
-
-undefined_value : (b : BitVector) → Undefined ≡ Value b → ⊥
-undefined_value b e = cc
 
 module _ (d : PlainDesign) (of_island : PlainComponent → NetState → ℕ → ℕ → ℕ → ℕ) where
   abbrev N : Instance → NetState → ℕ → ℕ

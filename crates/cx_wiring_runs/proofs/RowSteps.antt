@@ -12,7 +12,7 @@ use Rattle.cx_meaning.specs.Sights.{In}
 use Rattle.cx_meaning.specs.Control.{group_drives}
 use Rattle.cx_rules.specs.Items.{is_comb}
 use Rattle.cx_rules.specs.Ports.{width_of}
-use Rattle.cx_rules.proofs.ForeignLemmas.{assigns_drive_in}
+use Rattle.cx_rules.proofs.ForeignLemmas.{assigns_drive_in, acting_none}
 use Rattle.cx_control.specs.Flows.{Values, zero_of, first_on, side_flow, cell_flow}
 use Rattle.cx_control.proofs.InstanceLemmas.{OwnerOf, continuous, of_group, owner_of}
 use Rattle.cx_control.specs.Spots.{Cell, Kept, cells_in}
@@ -21,7 +21,6 @@ use Rattle.cx_wiring.specs.PartNets.{wired_in, timers_of}
 use Rattle.cx_wiring_values.proofs.SeamRules.{SeamRules}
 use Rattle.cx_wiring_runs.specs.Blocks.{block, Solves}
 use Rattle.cx_wiring_runs.specs.PortValues.{around_of, port_value, active_now}
-use Rattle.cx_wiring_runs.proofs.CellEdges.{none_act}
 use Rattle.cx_wiring_runs.proofs.SeamFlows.{st_solves}
 
 module _ (d : PlainDesign) (numbers : Instance → NetState → ℕ → ℕ) (part : PlainComponent) (cells : Cells) (rules : SeamRules d (Node part cells)) (around : NetAround) (v : NetState) (look : NetLook)
@@ -41,7 +40,7 @@ module _ (d : PlainDesign) (numbers : Instance → NetState → ℕ → ℕ) (pa
 
   -- WHERE NO GROUP GOES THAT ENABLES IT it idles
   pub enable_low : ((h : ℕ) → group_drives part h c ≡ true → (Now.offset h ≡ None) ⊎ (is_comb (group_at part h).kind ≡ true)) → (q : ℕ) → side_of row q ≡ sides.Enable → (V (ports.Cell c q)).value ≡ 0
-  enable_low free q side = ap (λ (b : BitVector). b.value) (enable_flow q side ∙ ap (first_on V (zero_of (width_of (Node part cells) (ports.Cell c q)))) (none_act Now (ports.Cell c q) (source_order part) (λ o j target. by o j target (owner_of part o j))))
+  enable_low free q side = ap (λ (b : BitVector). b.value) (enable_flow q side ∙ ap (first_on V (zero_of (width_of (Node part cells) (ports.Cell c q)))) (acting_none Now (ports.Cell c q) (source_order part) (λ o j target. by o j target (owner_of part o j))))
     where
       by : (o : Owned) → In (source_order part) o → o.assign.target ≡ ports.Cell c q → OwnerOf part o → offset_of Now o.owner ≡ None
       by o j target (continuous owner there) = absurd (rules.kept.quiet o c q row j owner target at side)

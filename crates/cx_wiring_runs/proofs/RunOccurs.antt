@@ -12,11 +12,11 @@ use Rattle.cx_lockstep.specs.Worlds.{Control, At, Done, Machine}
 use Rattle.cx_lockstep.specs.Machines.{First, Second, InPar, left_of, right_of, AtTest, InThen, InElse, AtHead, InBody}
 use Rattle.cx_lockstep.specs.Statements.{LeafMachines, form_machine, machine_of, parts_machine, arms_machine}
 use Rattle.cx_lockstep.specs.Running.{Running, AGroup, AnIsland, at_control, running, form_runs, parts_run, arms_run}
-use Rattle.cx_lockstep.proofs.RunningLaws.{in_either}
 use Rattle.cx_static.specs.Lowering.{island_gathered, island_of, Lowering, after_enable, form_after, after, parts_after, unlowered, lowered_component}
 use Rattle.cx_wiring.specs.Assignments.{occurs_among, occurs_in, kind_drives, owner_drives}
 use Rattle.cx_wiring.proofs.IslandCells.{lowers, parts_lower}
 use Rattle.cx_wiring_runs.proofs.Occurrences.{island_first, island_last}
+use Rattle.cx_meaning.proofs.SightsLaws.{in_either}
 
 module _ {X : Type 0} {V : X → Type 0} {F : Type 0} (leaves : LeafMachines X V F) (part : PlainComponent) (g : ℕ) where
   abbrev Occurs : Lowering → Type 0

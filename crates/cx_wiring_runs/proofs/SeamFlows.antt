@@ -25,7 +25,7 @@ use Rattle.cx_rules.proofs.FoundLemmas.{seen_found}
 use Rattle.cx_rules.specs.Footprints.{AssignNames, Reads, named, Rests, Leads, Depends, at_once, by_way_of}
 use Rattle.cx_control.specs.Apart.{IsApart, of_cell}
 use Rattle.cx_control.specs.Flows.{Values, zero_of, given, side_flow, part_flow, cell_flow, flow, Solves as FlowSolves, Reaches, Undisturbed}
-use Rattle.cx_control.proofs.InstanceLemmas.{OwnerOf, continuous, of_group, owner_of, source_in, go_narrow}
+use Rattle.cx_control.proofs.InstanceLemmas.{OwnerOf, continuous, of_group, owner_of, go_narrow}
 use Rattle.cx_control.proofs.CellLemmas.{cell_step}
 use Rattle.cx_control.proofs.LeadsLemmas.{Stands, acting_stands, Inside, leads_inside, apart_assigns, apart_holes}
 use Rattle.cx_control.proofs.PortFlows.{seen_flows}
@@ -38,7 +38,8 @@ use Rattle.cx_wiring_runs.specs.Blocks.{block, Solves}
 use Rattle.cx_wiring_runs.specs.PortValues.{around_of, port_value, active_now}
 use Rattle.cx_wiring_runs.proofs.StillPorts.{Still, resting, depends_still, hole_moves, still_continuous}
 use Rattle.cx_wiring_runs.proofs.WireSolves.{wires_solve}
-use Rattle.cx_wiring_runs.proofs.CallValues.{own_offset}
+use Rattle.cx_laws.proofs.SourceLemmas.{source_in}
+use Rattle.cx_meaning.proofs.ActiveLemmas.{only_self}
 
 done_bit : (b : Bool) → Value (truth_bit b) ≡ bit_of b
 done_bit true = refl
@@ -314,7 +315,7 @@ module _ (d : PlainDesign) (numbers : Instance → NetState → ℕ → ℕ) (pa
     hole_seen b sees =
         seen_value held (group g) (ports.Done g) b
         (still_undisturbed held (group g) (λ c q. Reads part s c) near (ports.Done g) near_of_hole (λ c q e. no_cell c q e) (λ r l none. let h = hole_leads r l in rules.rests.dones h.of g r h.is_in h.target h.names none)
-        (λ h e. ap (only_at g) (sym (same_group h e)) ∙ own_offset g))
+        (λ h e. ap (only_at g) (sym (same_group h e)) ∙ only_self g))
         sees
       where
         no_cell : (c q : ℕ) → ports.Done g ≡ ports.Cell c q → ⊥

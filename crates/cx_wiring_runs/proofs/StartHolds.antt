@@ -3,16 +3,15 @@ use Rattle.std.proofs.Common.{◌≡◌, ◌⊎◌, inl, inr, ℕ, zero, suc, �
 use Rattle.std.proofs.lemmas.Nat.{pow_pos}
 use Rattle.std.proofs.lemmas.List.Elements.{All-head, All-tail}
 use Rattle.cx_text.specs.Loading.{PlainRow, PlainMemory, FitsShape, FitsRows, word_count, words_loaded}
-use Rattle.cx_prim.specs.CellStates.{CellState, Memory, SequentialMemory, MemoryOf, SequentialMemoryOf, AreWords, IsState, with_words}
+use Rattle.cx_prim.specs.CellStates.{CellState, AreWords, IsState, with_words}
 use Rattle.cx_prim.specs.Rows.{reset}
 use Rattle.cx_prim.specs.Table.{PrimitiveRow, row_of}
-use Rattle.cx_prim.specs.TableLaws.{row_of_lawful}
+use Rattle.cx_prim.proofs.TableLaws.{row_of_lawful}
 use Rattle.cx_meaning.specs.Designs.{OfPrimitive, OfComponent, PlainCell}
 use Rattle.cx_meaning.specs.Instances as instances
 use Rattle.cx_meaning.specs.Instances.{Path, just, externals_from, loaded_at}
 use Rattle.cx_rules.specs.Wellformed.{first_number}
 use Rattle.cx_rules.specs.Externals.{sizes_in, numbers_of, row_for, if_external, rows_of}
-use Rattle.cx_rules.proofs.ForeignLemmas.{just_self}
 use Rattle.cx_state.proofs.Shapes.{IsMemoryOf, memory_shape}
 use Rattle.cx_net.specs.Nets.{PlainNetComponent, PlainNet}
 use Rattle.cx_net.specs.NetTree.{net_component_at, net_within, net_tree}
@@ -24,21 +23,14 @@ use Rattle.cx_net.specs.NetPaths.{LeadsTo}
 use Rattle.cx_net.specs.NetHolds.{Holds}
 use Rattle.cx_net.proofs.DriverLemmas.{part-within, start-at, state-at}
 use Rattle.cx_wiring_runs.proofs.StartCells.{with_own, itself}
+use Rattle.cx_prim.proofs.CellStatesLemmas.{memory_with, sequential_with}
+use Rattle.cx_meaning.proofs.InstancesLemmas.{just_same}
 
 other_cell : (b c : ℕ) → b < c → just b c ≡ false
 other_cell zero zero less = absurd (omega arith)
 other_cell zero (suc c) less = refl
 other_cell (suc b) zero less = absurd (omega arith)
 other_cell (suc b) (suc c) less = other_cell b c (omega arith)
-
--- WORDS that fit a memory are a state of it
-memory_with : (width count : ℕ) (words : List ℕ) (d : CellState) → AreWords width count words → IsState (MemoryOf width count) d → IsState (MemoryOf width count) (with_words words d)
-memory_with width count words (Memory old done) fit h = fit
-memory_with width count words d fit h = absurd h
-
-sequential_with : (width count : ℕ) (words : List ℕ) (d : CellState) → AreWords width count words → IsState (SequentialMemoryOf width count) d → IsState (SequentialMemoryOf width count) (with_words words d)
-sequential_with width count words (SequentialMemory old read_data done) fit h = (fit, h.1)
-sequential_with width count words d fit h = absurd h
 
 state_with : (p : PrimitiveRow) (width count : ℕ) (words : List ℕ) (d : CellState) → IsMemoryOf (row_of p).shape width count → AreWords width count words → IsState (row_of p).shape d → IsState (row_of p).shape (with_words words d)
 state_with p width count words d (inl e) fit h = subst (λ s. IsState s (with_words words d)) (sym e) (memory_with width count words d fit (subst (λ s. IsState s d) e h))
@@ -92,7 +84,7 @@ module _ (c : ℕ) (d : CellState) where
             memory = m;
             shape = shape ∙ ap row_for same;
             fits = All-head FitsShape m ms fits;
-            state = ap (λ t. if t then with_words m.words d else loaded_at (externals_from (suc b) cs) (words_loaded ms) c d) (ap (just b) (sym here) ∙ just_self b);
+            state = ap (λ t. if t then with_words m.words d else loaded_at (externals_from (suc b) cs) (words_loaded ms) c d) (ap (just b) (sym here) ∙ just_same b);
           })
   loads (x ∷ cs) b ms (suc t) cell at place rows fits = by x.external ms rows fits (λ ms rows fits. loads cs (suc b) ms t cell at further rows fits)
     where

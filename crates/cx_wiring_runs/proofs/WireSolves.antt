@@ -9,7 +9,7 @@ use Rattle.cx_prim.specs.declared.ports.PortRow.{PortRow}
 use Rattle.cx_prim.specs.declared.ports.Side.{Side}
 use Rattle.cx_prim.specs.declared.ports.Side.TheVariants as sides
 use Rattle.cx_prim.specs.Rows.{Inputs, Row, input, IsLawful}
-use Rattle.cx_prim.specs.TableLaws.{row_of_lawful}
+use Rattle.cx_prim.proofs.TableLaws.{row_of_lawful}
 use Rattle.cx_meaning.specs.declared.ports.PortRef.{PortRef}
 use Rattle.cx_meaning.specs.declared.ports.PortRef.TheVariants as ports
 use Rattle.cx_meaning.specs.declared.kinds.GroupKind.{GroupKind}
@@ -35,7 +35,6 @@ use Rattle.cx_wiring.specs.Wiring.{width_in_part, kind_width, port_width, target
 use Rattle.cx_wiring.specs.PartNets.{timer_cells, wired_in, timers_of, net_of_instance, net_of_cells}
 use Rattle.cx_wiring.proofs.TimerCells.{cells-lowered_component}
 use Rattle.cx_wiring.proofs.DrivenLemmas.{IsProper}
-use Rattle.cx_wiring.proofs.FitLemmas.{slice_left}
 use Rattle.cx_wiring_cycles.specs.GuardPorts.{going_set}
 use Rattle.cx_wiring_cycles.proofs.AssignLaws.{same_cell, same_output}
 use Rattle.cx_wiring_cycles.proofs.ControlPorts.{OfTimers}
@@ -46,6 +45,7 @@ use Rattle.cx_wiring_values.proofs.NodeRules.{NodeRules}
 use Rattle.cx_wiring_runs.specs.Blocks.{block, Solves}
 use Rattle.cx_wiring_runs.specs.PortValues.{own_offset, around_of, has_port, value_beyond, port_value, goes_now, offset_now, active_now, WiresSolve}
 use Rattle.cx_wiring_runs.proofs.NodePorts.{known, any_offset, row_stands, part_port_same, child_wide, child_here, port_stands, assigns_hold, holes_fit}
+use Rattle.cx_text.proofs.ListLaws.{front}
 
 -- what is known, whatever stands where it is not
 settled : (o k : Option BitVector) (z y x : BitVector) → o ≡ Some x → o ≡ k → unwrap_or o z ≡ unwrap_or k y
@@ -136,14 +136,14 @@ module _ (d : PlainDesign) (numbers : Instance → NetState → ℕ → ℕ) (pa
   target_of_row : (c p : ℕ) (row : Row) → RowOf part c row → target_width (lowered_of d) (lowered_component part) (ToPort (ports.Cell c p)) ≡ unwrap_or (cell_width (OfRow row) p) 1
   target_of_row c p row of_row =
       ap (λ cs. unwrap_or (port_width (lowered_of d) (lowered_component part) (slice_get cs c) p) 1) (cells-lowered_component part)
-      ∙ ap (λ o. unwrap_or (port_width (lowered_of d) (lowered_component part) o p) 1) (slice_left part.cells (timer_cells part) c of_row.cell of_row.stands)
+      ∙ ap (λ o. unwrap_or (port_width (lowered_of d) (lowered_component part) o p) 1) (front part.cells (timer_cells part) c of_row.cell of_row.stands)
       ∙ ap (λ k. unwrap_or (kind_width (lowered_of d) (lowered_component part) k p) 1) of_row.kind
       ∙ ap (λ r. unwrap_or (cell_width (OfRow r) p) 1) of_row.is
 
   target_of_child : (c p : ℕ) (child : Instance) → ChildOf d part c child → target_width (lowered_of d) (lowered_component part) (ToPort (ports.Cell c p)) ≡ unwrap_or (part_width (part_of child) (part_port (part_of child) p)) 1
   target_of_child c p child of_child =
       ap (λ cs. unwrap_or (port_width (lowered_of d) (lowered_component part) (slice_get cs c) p) 1) (cells-lowered_component part)
-      ∙ ap (λ o. unwrap_or (port_width (lowered_of d) (lowered_component part) o p) 1) (slice_left part.cells (timer_cells part) c of_child.cell of_child.stands)
+      ∙ ap (λ o. unwrap_or (port_width (lowered_of d) (lowered_component part) o p) 1) (front part.cells (timer_cells part) c of_child.cell of_child.stands)
       ∙ ap (λ k. unwrap_or (kind_width (lowered_of d) (lowered_component part) k p) 1) of_child.kind
       ∙ ap (λ o. unwrap_or (width_in_part (lowered_of d) (lowered_component part) o p) 1)
       (slice_get-map lowered_component d.components of_child.component ∙ ap (option_map lowered_component) (slice_get-get_or d.components of_child.component no_component of_child.within))

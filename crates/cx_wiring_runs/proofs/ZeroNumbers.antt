@@ -1,12 +1,12 @@
 -- Where registers are 0 and islands rest, all numbers of a tree of instances are 0.
-use Rattle.std.proofs.Common.{◌≡◌, ℕ, zero, suc, ◌+◌, ◌-◌, nat_lt, Bool, true, false, if◌then◌else◌, List, [], ◌∷◌, length, Option, Some, None, refl, ap, subst, arith}
+use Rattle.std.proofs.Common.{◌≡◌, ℕ, zero, suc, ◌+◌, List, [], ◌∷◌, length, Option, Some, None, refl, ap, subst, arith}
 use Rattle.cx_prim.specs.Rows.{Row}
 use Rattle.cx_meaning.specs.Designs.{PlainComponent, PlainForm, Empty, Enable, Seq, Par, If, While, Repeat, StaticSeq, StaticPar, StaticIf, StaticRepeat, Timed, PlainStatement, Placed, PlainStatements, no_statements, a_statement}
 use Rattle.cx_meaning.specs.Islands.{group_length}
 use Rattle.cx_meaning.specs.Instances as instances
 use Rattle.cx_meaning.specs.Instances.{Instance, Cells, no_cells, a_primitive, an_instance, Path}
 use Rattle.cx_lockstep.specs.Statements.{LeafMachines}
-use Rattle.cx_control.specs.Codings.{Coding, beside}
+use Rattle.cx_control.specs.Codings.{Coding}
 use Rattle.cx_control.specs.StatementCodings.{LeafCodings, statement_coding}
 use Rattle.cx_control.specs.Leaves.{leaf_machines}
 use Rattle.cx_control.specs.Controls.{coded_below, leaf_codings}
@@ -18,13 +18,7 @@ use Rattle.cx_wiring.specs.Counts.{registers_of}
 use Rattle.cx_wiring_cycles.specs.Shown.{counted, enable_number, form_number, number_of, parts_number, arms_number}
 use Rattle.cx_wiring_runs.specs.BlockNumbers.{component_numbers}
 use Rattle.cx_wiring_runs.specs.Blocks.{numbers_at, numbers_below}
-
-beside_none : (c : ℕ) (f g : ℕ → ℕ) → ((n : ℕ) → f n ≡ 0) → ((n : ℕ) → g n ≡ 0) → (n : ℕ) → beside c f g n ≡ 0
-beside_none c f g h k n = by (nat_lt n c)
-  where
-    by : (b : Bool) → (if b then f n else g (n - c)) ≡ 0
-    by true = h n
-    by false = k (n - c)
+use Rattle.cx_control.proofs.CodingsLemmas.{beside_none}
 
 counted_none : (first : ℕ) (f : ℕ → ℕ) → first ≡ 0 → ((n : ℕ) → f n ≡ 0) → (n : ℕ) → counted first f n ≡ 0
 counted_none first f e h zero = e

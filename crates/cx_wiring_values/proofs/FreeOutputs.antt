@@ -12,9 +12,9 @@ use Rattle.cx_rules.specs.Footprints.{AssignNames, Depends}
 use Rattle.cx_rules.specs.ShapeRules.{LeadsToInput}
 use Rattle.cx_rules.specs.Spots.{AnAssign}
 use Rattle.cx_rules.specs.Accepted.{IsAccepted}
-use Rattle.cx_rules.proofs.CircleLemmas.{same_part}
-use Rattle.cx_control.proofs.InstanceLemmas.{number_in}
 use Rattle.cx_control.proofs.BesideLemmas.{IsBeside, StandsFor, of_component, of_nothing, instance_stands, depends_too}
+use Rattle.cx_meaning.proofs.DesignsLemmas.{same_part}
+use Rattle.cx_meaning.proofs.SightsLaws.{number_in}
 
 abbrev pub OutputsFree : Instance → Type 0
 OutputsFree i = (o : Owned) (n : ℕ) (q : PortRef) → In (source_order (part_of i)) o → o.assign.target ≡ ports.Output n → AssignNames o.assign q → (m : ℕ) → (q ≡ ports.Input m) ⊎ Depends i nothing q (ports.Input m) → ⊥

@@ -25,14 +25,7 @@ use Rattle.cx_wiring_values.proofs.StateForms.{KeepsForm, row_of_forms}
 use Rattle.cx_wiring_values.proofs.CellForms.{AreForms, row_forms, child_forms}
 use Rattle.cx_wiring_values.proofs.NodeKnown.{NetShows, done_known, outputs_known, node_known}
 use Rattle.cx_wiring_values.proofs.NodeIslands.{islands_owe}
-
--- WHAT STANDS AT A CELL of a net
-at_child : (cells : NetCells) (c : ℕ) (child : NetInstance) → net_cell_at cells c ≡ AChild child → (q : Path) (n : Node) → is_node_below cells c q n ≡ is_node child q n
-at_child no_net_cells c child is q n = absurd cc
-at_child (a_row row rest) zero child is q n = absurd cc
-at_child (a_row row rest) (suc c) child is q n = at_child rest c child is q n
-at_child (a_child kid rest) zero child is q n = let f : kid ≡ child = cc in ap (λ z. is_node z q n) f
-at_child (a_child kid rest) (suc c) child is q n = at_child rest c child is q n
+use Rattle.cx_net.proofs.NetTreeLemmas.{at_child}
 
 step_child : (cells : NetCells) (c : ℕ) (child : NetInstance) → net_cell_at cells c ≡ AChild child → (a : NetAround) (s : NetState) (look : NetLook) (q : Path) (n : Node) → child_step cells c a s look q n ≡ net_step child a s look q n
 step_child no_net_cells c child is a s look q n = absurd cc

@@ -9,10 +9,9 @@ use Rattle.cx_rules.specs.Accepted.{IsAccepted}
 use Rattle.cx_rules.specs.Circles.{IsAcyclic}
 use Rattle.cx_rules.specs.Items.{Dynamic}
 use Rattle.cx_rules.specs.Wellformed.{IsDesign}
-use Rattle.cx_rules.proofs.CircleLemmas.{same_part, instance_acyclic, instance_group}
+use Rattle.cx_rules.proofs.CircleLemmas.{instance_acyclic, instance_group}
 use Rattle.cx_control.specs.Together.{IsTogether}
-use Rattle.cx_control.proofs.InstanceLemmas.{instance_ports, instance_outputs, source_in}
-use Rattle.cx_control.proofs.NarrowLemmas.{itself_acyclic}
+use Rattle.cx_control.proofs.InstanceLemmas.{instance_ports, instance_outputs}
 use Rattle.cx_control.proofs.TogetherLemmas.{together_acyclic, groups_acyclic, instance_unshared}
 use Rattle.cx_net.specs.NetTree.{NetInstance, net_part, net_tree}
 use Rattle.cx_net.specs.NetMeaning.{NetState, AWire, NetHas, outside, truth_bit}
@@ -26,12 +25,15 @@ use Rattle.cx_wiring_values.proofs.FreeOutputs.{outputs_free}
 use Rattle.cx_wiring_values.proofs.SettledLooks.{IsSettled, settled_look}
 use Rattle.cx_wiring_values.proofs.CellForms.{TableTree, net_table, forms_come}
 use Rattle.cx_wiring_values.proofs.GroundTree.{Ruled, Down, tree_known}
+use Rattle.cx_meaning.proofs.DesignsLemmas.{same_part}
+use Rattle.cx_laws.proofs.SourceLemmas.{source_in}
+use Rattle.cx_rules.proofs.CirclesLemmas.{own_acyclic}
 
 module _ (d : PlainDesign) (design : IsDesign d) (accepted : IsAccepted d) where
   -- nothing leads in a circle under what control may have active at once
   instance_together : (path : Path) (act : Active) → IsTogether (part_of (instance_at (tree_of d) path)).control act → IsAcyclic (instance_at (tree_of d) path) act
   instance_together path act together =
-      let bare = itself_acyclic (instance_at (tree_of d) path) (instance_acyclic d accepted path) in
+      let bare = own_acyclic (instance_at (tree_of d) path) (instance_acyclic d accepted path) in
       together_acyclic (instance_at (tree_of d) path) (instance_ports d design path)
       (λ x i n names. let r = source_in x.assign _ names in instance_outputs d accepted path x i r.0 r.1 n r.2)
       bare (groups_acyclic (instance_at (tree_of d) path) bare (instance_group d accepted path)) together Dynamic (instance_unshared d accepted path)

@@ -9,12 +9,7 @@ use Rattle.cx_net.specs.NetTree.{NetInstance}
 use Rattle.cx_net.specs.NetMeaning.{NetState, Node, NetLook, NetHas, is_node}
 use Rattle.cx_net.specs.NetEdges.{net_after}
 use Rattle.cx_net.specs.NetRuns.{IsWholeLook, is_done, NetRunsFrom, ends, spent, goes_on, NetRun, after_reset, Comes, at_reset, at_first, at_next, net_start, net_words}
-
-none_some : (v : BitVector) → ◌≡◌ {A = Option BitVector} None (Some v) → ⊥
-none_some v e = cc
-
-pub some_is : (v w : BitVector) → ◌≡◌ {A = Option BitVector} (Some v) (Some w) → v ≡ w
-some_is v w e = cc
+use Rattle.cx_bits.proofs.BitVectorLemmas.{some_is, none_some}
 
 pub record HasLook (tree : NetInstance) (go : Bool) (s : NetState) : Type 0 where
   pub look : NetLook

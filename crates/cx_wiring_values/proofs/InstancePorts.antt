@@ -1,33 +1,33 @@
 -- What the rules of acceptance say of the ports of an instance: those that its assignments and tests name are there and no holes, its
 -- literals fit, what stands alone in a guard or a test is of one bit, and a guard looks at the offset of its group where that is static.
-use Rattle.std.proofs.Common.{◌≡◌, inl, inr, ℕ, zero, suc, ◌-◌, ◌<◌, Bool, true, false, not, ◌||◌, if◌then◌else◌, List, [], ◌∷◌, ◌++◌, length, Option, Some, None, refl, sym, ap, ◌∙◌, subst, arith}
-use Rattle.std.specs.Prelude.{nat_lt, nat_eq, slice_get, option_map}
-use Rattle.std.proofs.lemmas.Bool.{eqb-true, ltb-true}
+use Rattle.std.proofs.Common.{◌≡◌, inl, inr, ℕ, zero, suc, ◌<◌, Bool, true, false, not, ◌||◌, if◌then◌else◌, List, [], ◌∷◌, ◌++◌, length, Option, Some, None, refl, sym, ap, ◌∙◌, subst, arith}
+use Rattle.std.specs.Prelude.{nat_eq, slice_get}
+use Rattle.std.proofs.lemmas.Bool.{eqb-true}
 use Rattle.cx_text.specs.declared.rules.Rule.TheVariants as rules
 use Rattle.cx_prim.specs.Rows.{Row}
 use Rattle.cx_prim.specs.Table.{PrimitiveRow, row_of}
 use Rattle.cx_meaning.specs.declared.ports.PortRef.{PortRef}
 use Rattle.cx_meaning.specs.declared.ports.PortRef.TheVariants as ports
 use Rattle.cx_meaning.specs.declared.ports.PlacedPort.{PlacedPort}
-use Rattle.cx_meaning.specs.declared.kinds.PortDecl.{PortDecl}
-use Rattle.cx_meaning.specs.Designs.{PlainGuard, Always, Atom, Negation, All, Any, Compared, Within, PlainGuards, no_guards, a_guard, PlainAssign, PlainKind, OfPrimitive, OfComponent, PlainCell, PlainComponent, PlainDesign, no_component, component_at, group_at}
-use Rattle.cx_meaning.specs.Instances.{Instance, At, Nothing, OfRow, OfInstance, cell_at, cells_of, part_of, add_cell, cells_for, tree_within, tree_of, Path, instance_at}
+use Rattle.cx_meaning.specs.Designs.{PlainGuard, Always, Atom, Negation, All, Any, Compared, Within, PlainGuards, no_guards, a_guard, PlainKind, OfPrimitive, OfComponent, PlainCell, PlainComponent, PlainDesign, no_component, component_at, group_at}
+use Rattle.cx_meaning.specs.Instances.{Instance, OfRow, OfInstance, cell_at, cells_of, part_of, add_cell, cells_for, tree_within, tree_of, Path, instance_at}
 use Rattle.cx_meaning.specs.Active.{Owned, source_order}
-use Rattle.cx_meaning.specs.Sights.{In, PartPort, Go, AnInput, AnOutput, ItsDone, output_port, part_port}
+use Rattle.cx_meaning.specs.Sights.{In}
 use Rattle.cx_meaning.specs.Islands.{group_length}
-use Rattle.cx_rules.specs.Ports.{component_of, declared_width, part_width, cell_width, written_width, is_source_only, path_of}
+use Rattle.cx_rules.specs.Ports.{component_of, written_width, is_source_only, path_of}
 use Rattle.cx_rules.specs.Items.{atoms_of, atoms_in, operands_of, operands_in, Range, ranges_of, sources_of, Visited, statements_in, test_in}
 use Rattle.cx_rules.specs.WidthRules.{differ, is_wide, first_wide, IsBadLiteral}
 use Rattle.cx_rules.specs.ShapeRules.{is_hole, some_target, owner_length, is_bad_range}
 use Rattle.cx_rules.specs.Spots.{AnAssign, AStatement, AGroup}
 use Rattle.cx_rules.specs.Accepted.{IsAccepted}
-use Rattle.cx_rules.specs.Wellformed.{IsThere, IsAssign, IsForm, IsDesign, IsKind, StandsIn, port_count}
-use Rattle.cx_rules.proofs.Finite.{in_left, in_right}
-use Rattle.cx_rules.proofs.CircleLemmas.{same_part}
-use Rattle.cx_control.proofs.InstanceLemmas.{number_in}
+use Rattle.cx_rules.specs.Wellformed.{IsThere, IsAssign, IsForm, IsDesign, IsKind, StandsIn}
 use Rattle.cx_wiring.proofs.WholeInstances.{IsWhole, of_component, of_nothing, instance_whole, cells_alike, alike_there, alike_written, alike_source}
 use Rattle.cx_wiring.proofs.DesignNames.{stands_in}
-use Rattle.cx_wiring.proofs.FitTrees.{some_at}
+use Rattle.cx_laws.proofs.TreeLemmas.{cell_there, declared_there}
+use Rattle.cx_rules.proofs.ShapeRulesLemmas.{some_in}
+use Rattle.cx_rules.proofs.ItemsLemmas.{bare_test}
+use Rattle.cx_meaning.proofs.SightsLaws.{in_left, in_right, number_in}
+use Rattle.cx_meaning.proofs.DesignsLemmas.{same_part}
 
 -- a port that a statement or an assignment names
 pub record IsNamed (i : Instance) (p : PortRef) : Type 0 where
@@ -125,53 +125,8 @@ module _ (d : PlainDesign) (n : ℕ) where
       by_kind (OfComponent k) is has zero f later = (cell, k, refl, is, has, ap part_of (sym (instance_is (tree_within d n k) child f)) ∙ same_part d n k)
       by_kind (OfComponent k) is has (suc m) f later = later m child f
 
--- WIDTHS: a port that is there has one as it is written
-pub declared_there : (decls : List PortDecl) (n : ℕ) → n < length decls → (w : ℕ) × (declared_width decls n ≡ Some w)
-declared_there decls n h = let r = some_at decls n h in (r.0.width, ap (option_map (λ decl. decl.width)) r.1)
-
-output_is : (outputs m n : ℕ) → output_port outputs m ≡ AnOutput n → n < outputs
-output_is outputs m n e = by (nat_lt m outputs) refl e
-  where
-    by : (t : Bool) → nat_lt m outputs ≡ t → (if t then AnOutput m else ItsDone) ≡ AnOutput n → n < outputs
-    by true f g = let same : m ≡ n = cc in subst (λ k. k < outputs) same (ltb-true m outputs f)
-    by false f g = absurd (cc)
-
-pub output_there : (part : PlainComponent) (p n : ℕ) → part_port part p ≡ AnOutput n → n < length part.outputs
-output_there part zero n e = absurd (cc)
-output_there part (suc m) n e = by (nat_lt m (length part.inputs)) e
-  where
-    by : (t : Bool) → (if t then AnInput m else output_port (length part.outputs) (m - length part.inputs)) ≡ AnOutput n → n < length part.outputs
-    by true f = absurd (cc)
-    by false f = output_is (length part.outputs) (m - length part.inputs) n f
-
-output_is_none : (outputs m n : ℕ) → output_port outputs m ≡ AnInput n → ⊥
-output_is_none outputs m n e = by (nat_lt m outputs) e
-  where
-    by : (t : Bool) → (if t then AnOutput m else ItsDone) ≡ AnInput n → ⊥
-    by true f = cc
-    by false f = cc
-
-input_there : (part : PlainComponent) (p n : ℕ) → part_port part p ≡ AnInput n → n < length part.inputs
-input_there part zero n e = absurd (cc)
-input_there part (suc m) n e = by (nat_lt m (length part.inputs)) refl e
-  where
-    by : (t : Bool) → nat_lt m (length part.inputs) ≡ t → (if t then AnInput m else output_port (length part.outputs) (m - length part.inputs)) ≡ AnInput n → n < length part.inputs
-    by true f g = let same : m ≡ n = cc in subst (λ k. k < length part.inputs) same (ltb-true m (length part.inputs) f)
-    by false f g = absurd (output_is_none (length part.outputs) (m - length part.inputs) n g)
-
-part_has : (part : PlainComponent) (p : ℕ) (kind : PartPort) → part_port part p ≡ kind → (w : ℕ) × (part_width part kind ≡ Some w)
-part_has part p Go e = (1, refl)
-part_has part p (AnInput n) e = declared_there part.inputs n (input_there part p n e)
-part_has part p (AnOutput n) e = declared_there part.outputs n (output_there part p n e)
-part_has part p ItsDone e = (1, refl)
-
-cell_has : (at : At) (p : ℕ) → p < port_count at → (w : ℕ) × (cell_width at p ≡ Some w)
-cell_has Nothing p h = absurd (omega arith)
-cell_has (OfRow row) p h = let r = some_at row.ports p h in (r.0.width, ap (option_map (λ port. port.width)) r.1)
-cell_has (OfInstance child) p h = part_has (part_of child) p (part_port (part_of child) p) refl
-
 pub written_there : (i : Instance) (p : PortRef) → IsThere i p → (w : ℕ) × (written_width i p ≡ Some w)
-written_there i (ports.Cell c p) h = cell_has (cell_at (cells_of i) c) p h.1
+written_there i (ports.Cell c p) h = cell_there (cell_at (cells_of i) c) p h.1
 written_there i (ports.Input n) h = declared_there (part_of i).inputs n h
 written_there i (ports.Output n) h = declared_there (part_of i).outputs n h
 written_there i (ports.Done g) h = (1, refl)
@@ -211,15 +166,6 @@ wide_among i (x ∷ xs) p (inr j) e = by (is_wide i x.port) (wide_among i xs p j
   where
     by : (b : Bool) → (q : PortRef) × (first_wide i xs ≡ Some q) → (q : PortRef) × ((if b then Some x.port else first_wide i xs) ≡ Some q)
     by true later = (x.port, refl)
-    by false later = later
-
-target_among : (test : PortRef → Bool) (list : List PlainAssign) (a : PlainAssign) → In list a → test a.target ≡ true → some_target test list ≡ true
-target_among test [] a j e = absurd j
-target_among test (x ∷ xs) a (inl same) e = ap (λ b. b || some_target test xs) (ap (λ y. test y.target) same ∙ e)
-target_among test (x ∷ xs) a (inr j) e = by (test x.target) (target_among test xs a j e)
-  where
-    by : (b : Bool) → some_target test xs ≡ true → (b || some_target test xs) ≡ true
-    by true later = refl
     by false later = later
 
 -- A COMPONENT of an accepted design
@@ -310,7 +256,7 @@ module _ (d : PlainDesign) (design : IsDesign d) (accepted : IsAccepted d) (k : 
             static.cycles,
             ap (λ x. group_length x static.group) (same_part d (length d.components) k) ∙ static.is,
             ap (λ x. some_target is_hole (group_at x static.group).assigns || nat_eq static.cycles 0) (same_part d (length d.components) k)
-                ∙ ap (λ b. b || nat_eq static.cycles 0) (target_among is_hole (group_at (component_at d k) static.group).assigns o.assign there.1 e),
+                ∙ ap (λ b. b || nat_eq static.cycles 0) (some_in is_hole (group_at (component_at d k) static.group).assigns o.assign there.1 e),
             (refl, refl),
           );
         }))
@@ -384,13 +330,6 @@ pub some_components : (k n : ℕ) → k < n → (m : ℕ) × (n ≡ suc m)
 some_components k zero h = absurd (omega arith)
 some_components k (suc m) h = (m, refl)
 
-no_test : (v : Visited) (p : PlacedPort) → In (statements_in no_component) v → test_in v.form ≡ Some p → ⊥
-no_test v p (inl e) f = none_port (ap (λ w. test_in w.form) e ∙ f)
-  where
-    none_port : ◌≡◌ {A = Option PlacedPort} None (Some p) → ⊥
-    none_port g = cc
-no_test v p (inr i) f = absurd i
-
 no_form : (v : Visited) → In (statements_in no_component) v → IsForm no_component v.form
 no_form v (inl e) = subst (λ w. IsForm no_component w.form) e tt
 no_form v (inr i) = absurd i
@@ -404,7 +343,7 @@ port_rules d design accepted path = by (instance_whole d design path)
     by of_nothing = record {
       forms = no_form;
       assigns = λ o i. absurd i;
-      tests = λ v p i e. absurd (no_test v p i e);
+      tests = λ v p i e. absurd (bare_test v p i e);
       rows = λ c row e. absurd (cc);
       children = λ c child e. absurd (cc);
     }

@@ -1,6 +1,6 @@
 -- What goes in an island of the net is together, where its statement stands: the enables that are active are those of one cycle, and none
 -- is where control does not stand there.
-use Rattle.std.proofs.Common.{◌≡◌, ℕ, zero, suc, ◌+◌, ◌-◌, ◌<◌, ◌≤◌, inl, inr, ◌==◌, ◌&&◌, not, nat_lt, Bool, true, false, if◌then◌else◌, List, [], ◌∷◌, length, Option, Some, None, unwrap_or, slice_get, refl, sym, ap, ◌∙◌, subst, arith}
+use Rattle.std.proofs.Common.{◌≡◌, ℕ, zero, suc, ◌+◌, ◌-◌, ◌<◌, ◌≤◌, inl, inr, ◌==◌, not, nat_lt, Bool, true, false, if◌then◌else◌, List, [], ◌∷◌, length, Option, Some, None, unwrap_or, slice_get, refl, sym, ap, ◌∙◌, subst, arith}
 use Rattle.std.proofs.lemmas.Bool.{eqb-true, ltb-true, cases_lt}
 use Rattle.std.proofs.lemmas.Bool.Decides.{nat_tests}
 use Rattle.cx_bits.specs.BitVector.{BitVector}
@@ -22,9 +22,6 @@ use Rattle.cx_wiring.specs.IslandDrivers as wired
 use Rattle.cx_wiring.specs.IslandDrivers.{wires_of_island, timer_drivers, point_drivers, occurrence_drivers, island_drivers, first_of_island}
 use Rattle.cx_wiring.specs.Control.{timed_drivers, form_drivers}
 use Rattle.cx_wiring.specs.Takings.{value}
-use Rattle.cx_wiring.proofs.GatherLaws.{get_below}
-use Rattle.cx_wiring.proofs.TreeLaws.{untrue}
-use Rattle.cx_wiring.proofs.FitTrees.{some_at}
 use Rattle.cx_wiring_cycles.specs.Shown.{wide}
 use Rattle.cx_wiring_cycles.proofs.IslandValues as values
 use Rattle.cx_wiring_cycles.proofs.IslandValues.{IslandLooks}
@@ -32,24 +29,13 @@ use Rattle.cx_wiring_values.proofs.KnownLemmas.{Known, On, two_true, known_inver
 use Rattle.cx_wiring_values.proofs.TogetherGoes.{IsOn, GoesIn, Holes, IsleGoes}
 use Rattle.cx_wiring_values.proofs.StaticGoes as static
 use Rattle.cx_wiring_values.proofs.IslandKnown.{IslandGiven, runs_known, sample_known, active_known}
-
-some_is : (x y : BitVector) → ◌≡◌ {A = Option BitVector} (Some x) (Some y) → x ≡ y
-some_is x y e = cc
-
-both_are : (a b : Bool) → (a && b) ≡ true → (a ≡ true) × (b ≡ true)
-both_are true b e = (refl, e)
-both_are false b e = untrue e
+use Rattle.cx_text.proofs.BoolLaws.{and_both}
+use Rattle.cx_meaning.proofs.SightsLaws.{in_at}
+use Rattle.cx_text.proofs.ListLaws.{there_below, there_at}
+use Rattle.cx_text.proofs.NumberLaws.{never}
 
 not_below : (c from : ℕ) → not (nat_lt c from) ≡ true → from ≤ c
 not_below c from e = grind (arith, nat_tests)
-
-in_at : {A : Type 0} (xs : List A) (n : ℕ) (x : A) → slice_get xs n ≡ Some x → In xs x
-in_at [] n x e = absurd cc
-in_at (y ∷ ys) zero x e = inl (same y x e)
-  where
-    same : {A : Type 0} (a b : A) → ◌≡◌ {A = Option A} (Some a) (Some b) → a ≡ b
-    same a b f = cc
-in_at (y ∷ ys) (suc n) x e = inr (in_at ys n x e)
 
 module _ (groups : ℕ) (x : Stand) (first : ℕ) (island : PlainIsland) (around : NetAround) (registers : ℕ → Option BitVector) (look : Node → Option BitVector) (given : IslandGiven groups x first island around registers look)
     (narrow : (n : ℕ) (v : BitVector) → first ≤ n → n < first + wires_of_island island → look (AWire n) ≡ Some v → (b : Bool) × (v ≡ truth_bit b)) (count : ℕ → ℕ) (done : Bool)
@@ -89,24 +75,24 @@ module _ (groups : ℕ) (x : Stand) (first : ℕ) (island : PlainIsland) (around
   wanted_of : (list : List Sample) → values.all_wanted groups x first island around registers look count done looks list ≡ true → (s : Sample) → In list s → sample s.point ≡ s.wanted
   wanted_of [] e s i = absurd i
   wanted_of (z ∷ rest) e s (inl f) =
-      let k = both_are _ _ e in
+      let k = and_both _ _ e in
       subst (λ (v : Sample). sample v.point ≡ v.wanted) f (by (sample z.point) z.wanted k.0)
     where
       by : (b w : Bool) → (if w then b else not b) ≡ true → b ≡ w
       by true true g = refl
-      by false true g = untrue g
-      by true false g = untrue g
+      by false true g = never g
+      by true false g = never g
       by false false g = refl
-  wanted_of (z ∷ rest) e s (inr i) = wanted_of rest (both_are _ _ e).1 s i
+  wanted_of (z ∷ rest) e s (inr i) = wanted_of rest (and_both _ _ e).1 s i
 
   -- an enable that is active acts
   acts_of : (part : PlainComponent) (n : ℕ) (o : PlainOccurrence) → slice_get island.occurrences n ≡ Some o → values.active groups x first island around registers look count done looks n ≡ true → Acts part o
   acts_of part n o e on =
       let l = IslandGiven.occurrences given n o e in
       let all = sym (values.active_is groups x first island around registers look count done looks n o e l.0 l.1) ∙ on in
-      let a = both_are _ _ all in
-      let b = both_are _ _ a.1 in
-      let c = both_are _ _ b.1 in
+      let a = and_both _ _ all in
+      let b = and_both _ _ a.1 in
+      let c = and_both _ _ b.1 in
       record { runs = a.0; low = not_below (count o.timer) o.from b.0; high = ltb-true (count o.timer) o.to c.0; wanted = wanted_of o.samples c.1 }
 
   -- a timer inside another runs in its range alone
@@ -114,9 +100,9 @@ module _ (groups : ℕ) (x : Stand) (first : ℕ) (island : PlainIsland) (around
   inner t outer timer e around_it on =
       let below = within_outer t e in
       let all = sym (values.live_within groups x first island around registers look count done looks t outer timer e around_it (below around_it)) ∙ on in
-      let a = both_are _ _ all in
-      let b = both_are _ _ a.1 in
-      let c = both_are _ _ b.1 in
+      let a = and_both _ _ all in
+      let b = and_both _ _ a.1 in
+      let c = and_both _ _ b.1 in
       (a.0, not_below (count outer) timer.from b.0, ltb-true (count outer) timer.to c.0)
     where
       same_number : (a b : ℕ) → ◌≡◌ {A = Option ℕ} (Some a) (Some b) → a ≡ b
@@ -130,7 +116,7 @@ module _ (groups : ℕ) (x : Stand) (first : ℕ) (island : PlainIsland) (around
       within_outer (suc t) f o =
           let k = IslandGiven.within given (suc t) timer f (omega arith) in
           let same : k.0 ≡ outer = same_number k.0 outer (sym k.1 ∙ o) in
-          let less : suc t < length island.timers = get_below island.timers (suc t) timer f in
+          let less : suc t < length island.timers = there_below island.timers (suc t) timer f in
           let small : k.0 < suc t = k.2 in omega arith
 
   -- THE DRIVERS of goes, where the enables that act are in a set
@@ -140,11 +126,11 @@ module _ (groups : ℕ) (x : Stand) (first : ℕ) (island : PlainIsland) (around
 
     timers_go : (g t : ℕ) (rest : List IslandTimer) → AllTo (P g) (ToHole (groups + g)) (timer_drivers groups x first island t rest)
     timers_go g t [] = tt
-    timers_go g t (timer ∷ rest) = ((λ e. untrue e), ((λ e. untrue e), timers_go g (suc t) rest))
+    timers_go g t (timer ∷ rest) = ((λ e. never e), ((λ e. never e), timers_go g (suc t) rest))
 
     points_go : (g n : ℕ) (rest : List PlainPoint) → AllTo (P g) (ToHole (groups + g)) (point_drivers groups x first island n rest)
     points_go g n [] = tt
-    points_go g n (p ∷ rest) = ((λ e. untrue e), ((λ e. untrue e), ((λ e. untrue e), ((λ e. untrue e), points_go g (suc n) rest))))
+    points_go g n (p ∷ rest) = ((λ e. never e), ((λ e. never e), ((λ e. never e), ((λ e. never e), points_go g (suc n) rest))))
 
     hole_is : (g h : ℕ) → (groups + g == groups + h) ≡ true → g ≡ h
     hole_is g h e = let f : groups + g ≡ groups + h = eqb-true (groups + g) (groups + h) e in omega arith
@@ -155,15 +141,15 @@ module _ (groups : ℕ) (x : Stand) (first : ℕ) (island : PlainIsland) (around
     occurrences_go g n (o ∷ rest) there =
         let none : n + 0 ≡ n = omega arith in
         let e : slice_get island.occurrences n ≡ Some o = ap (slice_get island.occurrences) (sym none) ∙ there 0 o refl in
-        let less : n < length island.occurrences = get_below island.occurrences n o e in
+        let less : n < length island.occurrences = there_below island.occurrences n o e in
         let k = active_known groups x first island around registers look given n less in (
-          (λ f. untrue f),
+          (λ f. never f),
           (
             (λ f. (
               record { guard = k; source = λ on. (truth_bit true, refl) },
               (λ on. subst (IsOn act) (hole_is o.group g f) (in_set o (in_at island.occurrences n o e) (acts_of part n o e (is_on n on)))),
             )),
-            ((λ f. untrue f), occurrences_go g (suc n) rest (λ j v f. let next : suc n + j ≡ n + suc j = omega arith in ap (slice_get island.occurrences) next ∙ there (suc j) v f)),
+            ((λ f. never f), occurrences_go g (suc n) rest (λ j v f. let next : suc n + j ≡ n + suc j = omega arith in ap (slice_get island.occurrences) next ∙ there (suc j) v f)),
           ),
         )
       where
@@ -172,7 +158,7 @@ module _ (groups : ℕ) (x : Stand) (first : ℕ) (island : PlainIsland) (around
 
     island_go : (g : ℕ) → AllTo (P g) (ToHole (groups + g)) (island_drivers groups x first island)
     island_go g = (
-      (λ e. untrue e),
+      (λ e. never e),
       all_to_append (P g) (ToHole (groups + g)) (timer_drivers groups x first island 0 island.timers) _ (timers_go g 0 island.timers)
           (all_to_append (P g) (ToHole (groups + g)) (point_drivers groups x first island 0 island.points) _ (points_go g 0 island.points)
           (occurrences_go g 0 island.occurrences (λ j v e. let none : 0 + j ≡ j = omega arith in ap (slice_get island.occurrences) none ∙ e))),
@@ -181,7 +167,7 @@ module _ (groups : ℕ) (x : Stand) (first : ℕ) (island : PlainIsland) (around
   -- WHERE THE FIRST TIMER runs control stands at the island
   stands_there : live 0 ≡ true → On around registers look (at x)
   stands_there on =
-      let k = some_at island.timers 0 (IslandGiven.some given) in
+      let k = there_at island.timers 0 (IslandGiven.some given) in
       let r = IslandGiven.reads given (first + 0) (omega arith) (let s = IslandGiven.some given in omega arith) in
       let known = runs_known groups x first island around registers look given 0 (IslandGiven.some given) in
       let source : look (AWire (first + 0)) ≡ value around registers look (both (at x) (Inverse (OfPort (ports.Cell k.0.cell 2)))) =
@@ -207,7 +193,7 @@ module _ (groups : ℕ) (x : Stand) (first : ℕ) (island : PlainIsland) (around
 
     to_drivers : (act : Active) → Holes part groups islands around registers look bound kept act (island_drivers groups x first island) → Holes part groups islands around registers look bound kept act (form_drivers groups islands x (Timed k))
     to_drivers act h g = (
-      (λ e. untrue e),
+      (λ e. never e),
       subst (λ o. AllTo (GoesIn part groups islands around registers look bound kept act g) (ToHole (groups + g)) (timed_drivers groups islands x k o)) (sym is)
           (subst (λ n. AllTo (GoesIn part groups islands around registers look bound kept act g) (ToHole (groups + g)) (island_drivers groups x n island)) (sym first_is) (h g)),
     )

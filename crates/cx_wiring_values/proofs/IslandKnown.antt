@@ -17,11 +17,10 @@ use Rattle.cx_wiring.specs.Stands.{Stand, at}
 use Rattle.cx_wiring.specs.IslandDrivers as wired
 use Rattle.cx_wiring.specs.IslandDrivers.{wires_of_island, timer_drivers, point_drivers, occurrence_drivers, island_drivers}
 use Rattle.cx_wiring.specs.Takings.{value, takes}
-use Rattle.cx_wiring.proofs.GatherLaws.{get_below}
-use Rattle.cx_wiring.proofs.FitTrees.{some_at}
 use Rattle.cx_wiring_cycles.proofs.IslandValues as values
 use Rattle.cx_wiring_values.proofs.KnownLemmas.{Known, known_as, known_both, KnownExpr, Fed, known_two, known_equals, known_inverse, AllOfThem, all_append, fed_takes}
 use Rattle.cx_wiring_values.proofs.GuardsKnown.{fed_connect}
+use Rattle.cx_text.proofs.ListLaws.{there_below, there_at}
 
 module _ (groups : ℕ) (x : Stand) (first : ℕ) (island : PlainIsland) (around : NetAround) (registers : ℕ → Option BitVector) (look : Node → Option BitVector) where
   abbrev V : PlainNetExpr → Option BitVector
@@ -52,10 +51,10 @@ module _ (groups : ℕ) (x : Stand) (first : ℕ) (island : PlainIsland) (around
     its_port t q timer e k = known_as _ _ (ap (λ (o : Option IslandTimer). look (APort (ports.Cell (unwrap_or (option_map (λ timer. timer.cell) o) 0) q))) e) k
 
     count_known : (t : ℕ) → t < length island.timers → K (wired.count groups x first island t)
-    count_known t less = let k = some_at island.timers t less in its_port t 1 k.0 k.1 (given.counts t k.0 k.1)
+    count_known t less = let k = there_at island.timers t less in its_port t 1 k.0 k.1 (given.counts t k.0 k.1)
 
     done_known : K (wired.island_done groups x first island)
-    done_known = let k = some_at island.timers 0 given.some in its_port 0 2 k.0 k.1 (given.dones 0 k.0 k.1)
+    done_known = let k = there_at island.timers 0 given.some in its_port 0 2 k.0 k.1 (given.dones 0 k.0 k.1)
 
     -- a conjunction of parts
     all_known : (e : PlainNetExpr) (es : List PlainNetExpr) → K e → Known (all_expr around registers look (exprs_of es)) → Known (all_expr around registers look (exprs_of (e ∷ es)))
@@ -81,7 +80,7 @@ module _ (groups : ℕ) (x : Stand) (first : ℕ) (island : PlainIsland) (around
         (known_two around registers look (at x) (Inverse (OfPort (ports.Cell timer.cell 2))) given.at_known (known_inverse around registers look (OfPort (ports.Cell timer.cell 2)) (given.dones 0 timer e)))
     runs_source (suc t) timer e earlier =
         let outer = given.within (suc t) timer e (omega arith) in
-        let less : suc t < length island.timers = get_below island.timers (suc t) timer e in
+        let less : suc t < length island.timers = there_below island.timers (suc t) timer e in
         let small : outer.0 < suc t = outer.2 in
         subst (λ o. K (wired.timer_runs groups x first island timer.cell o timer.from timer.to)) (sym outer.1)
         (range_known outer.0 timer.from timer.to [] (omega arith) (earlier outer.0 outer.2) (truth_bit true, refl))
@@ -89,7 +88,7 @@ module _ (groups : ℕ) (x : Stand) (first : ℕ) (island : PlainIsland) (around
     runs_below : (m t : ℕ) → t < m → t < length island.timers → K (wired.runs groups x first island t)
     runs_below zero t l less = absurd (omega arith)
     runs_below (suc m) t l less =
-        let k = some_at island.timers t less in
+        let k = there_at island.timers t less in
         let r = given.reads (first + t) (omega arith) (omega arith) in
         known_as _ _ (r.1 ∙ values.timer_wire groups x first island around registers look given.high given.groups_low r.0 t k.0 k.1)
         (runs_source t k.0 k.1 (λ u small. runs_below m u (omega arith) (omega arith)))
@@ -116,7 +115,7 @@ module _ (groups : ℕ) (x : Stand) (first : ℕ) (island : PlainIsland) (around
     sample_below : (m n : ℕ) → n < m → n < length island.points → K (OfWire (wired.sample_wire groups x first island n))
     sample_below zero n l less = absurd (omega arith)
     sample_below (suc m) n l less =
-        let k = some_at island.points n less in
+        let k = there_at island.points n less in
         let r = given.reads (first + length island.timers + n) (omega arith) (omega arith) in
         let begins = begins_source n k.0 k.1 (λ u small. sample_below m u (omega arith) (omega arith)) in
         known_as _ _ (r.1 ∙ values.sample_wire groups x first island around registers look given.high given.groups_low r.0 n k.0 k.1)
@@ -127,7 +126,7 @@ module _ (groups : ℕ) (x : Stand) (first : ℕ) (island : PlainIsland) (around
     sample_known n less = sample_below (suc n) n (omega arith) less
 
     begins_known : (n : ℕ) (p : PlainPoint) → slice_get island.points n ≡ Some p → K (wired.begins groups x first island p)
-    begins_known n p e = let below : n < length island.points = get_below island.points n p e in begins_source n p e (λ m less. sample_known m (omega arith))
+    begins_known n p e = let below : n < length island.points = there_below island.points n p e in begins_source n p e (λ m less. sample_known m (omega arith))
 
     -- ENABLES
     active_source : (n : ℕ) (o : PlainOccurrence) → slice_get island.occurrences n ≡ Some o → K (wired.is_active groups x first island o)
@@ -137,7 +136,7 @@ module _ (groups : ℕ) (x : Stand) (first : ℕ) (island : PlainIsland) (around
 
     pub active_known : (n : ℕ) → n < length island.occurrences → K (OfWire (wired.active_wire groups x first island n))
     active_known n less =
-        let k = some_at island.occurrences n less in
+        let k = there_at island.occurrences n less in
         let r = given.reads (first + length island.timers + length island.points + n) (omega arith) (omega arith) in
         known_as _ _ (r.1 ∙ values.active_wire groups x first island around registers look given.high given.groups_low r.0 n k.0 k.1) (active_source n k.0 k.1)
 
@@ -153,7 +152,7 @@ module _ (groups : ℕ) (x : Stand) (first : ℕ) (island : PlainIsland) (around
     timers_fed t (timer ∷ rest) there =
         let none : t + 0 ≡ t = omega arith in
         let e : slice_get island.timers t ≡ Some timer = ap (slice_get island.timers) (sym none) ∙ there 0 timer refl in
-        let less : t < length island.timers = get_below island.timers t timer e in (
+        let less : t < length island.timers = there_below island.timers t timer e in (
           fed_connect around registers look (first + t) _ (runs_source t timer e (λ u small. runs_known u (omega arith))),
           (
             fed_drive (ToPort (ports.Cell timer.cell 0)) (wired.runs groups x first island t) one (runs_known t less) (truth_bit true, refl),
@@ -166,7 +165,7 @@ module _ (groups : ℕ) (x : Stand) (first : ℕ) (island : PlainIsland) (around
     points_fed n (p ∷ rest) there =
         let none : n + 0 ≡ n = omega arith in
         let e : slice_get island.points n ≡ Some p = ap (slice_get island.points) (sym none) ∙ there 0 p refl in
-        let less : n < length island.points = get_below island.points n p e in
+        let less : n < length island.points = there_below island.points n p e in
         let begins = begins_known n p e in (
           fed_drive (ToWire (wired.sample_wire groups x first island n)) (wired.begins groups x first island p) (OfPort p.port) begins (given.ports_known n p e),
           (
@@ -187,7 +186,7 @@ module _ (groups : ℕ) (x : Stand) (first : ℕ) (island : PlainIsland) (around
     occurrences_fed n (o ∷ rest) there =
         let none : n + 0 ≡ n = omega arith in
         let e : slice_get island.occurrences n ≡ Some o = ap (slice_get island.occurrences) (sym none) ∙ there 0 o refl in
-        let less : n < length island.occurrences = get_below island.occurrences n o e in
+        let less : n < length island.occurrences = there_below island.occurrences n o e in
         let l = given.occurrences n o e in (
           fed_connect around registers look (wired.active_wire groups x first island n) _ (active_source n o e),
           (

@@ -23,7 +23,6 @@ use Rattle.cx_wiring.specs.Takings.{AllConnect, AreRegisters}
 use Rattle.cx_wiring.proofs.TakingLemmas.{connect_both, registers_both}
 use Rattle.cx_wiring.proofs.IslandTargets.{wires_at, island_within}
 use Rattle.cx_wiring.proofs.ControlTargets.{names_at}
-use Rattle.cx_wiring.proofs.GatherLaws.{get_end}
 use Rattle.cx_wiring.proofs.IslandCells.{IsBefore, both_before, before_after, before_parts, listed}
 use Rattle.cx_wiring.proofs.TimerRows.{EachTimer}
 use Rattle.cx_wiring_cycles.specs.Shown.{wide}
@@ -36,6 +35,7 @@ use Rattle.cx_wiring_values.proofs.GuardsKnown.{fed_connect}
 use Rattle.cx_wiring_values.proofs.TogetherGoes.{IsleGoes, IsleEnable, FormIsles, StatementIsles, PartsIsles, ArmsIsles}
 use Rattle.cx_wiring_values.proofs.IslandKnown.{IslandGiven, island_fed, end_source_known}
 use Rattle.cx_wiring_values.proofs.IslandGoes.{isle_goes}
+use Rattle.cx_text.proofs.ListLaws.{get_end}
 
 -- registers from one on have values
 register_known : (registers : ℕ → Option BitVector) (around : NetAround) (look : Node → Option BitVector) (kept : ℕ → ℕ) (m r : ℕ) → AreRegisters around registers look kept r (replicate m 1) → (n : ℕ) → n < m → Known (registers (r + n))

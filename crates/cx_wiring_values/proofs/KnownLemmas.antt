@@ -11,7 +11,7 @@ use Rattle.cx_wiring.specs.Parts.{both, either, equals}
 use Rattle.cx_wiring.specs.Bounds.{AllDrive}
 use Rattle.cx_wiring.specs.Takings.{value, takes, takes_of}
 use Rattle.cx_wiring.proofs.TakingLemmas.{says_equals}
-use Rattle.cx_wiring.proofs.TreeLaws.{untrue}
+use Rattle.cx_text.proofs.NumberLaws.{never}
 
 abbrev pub Known : Option BitVector → Type 0
 Known o = (b : BitVector) × (o ≡ Some b)
@@ -58,7 +58,7 @@ all_to_append P t (d ∷ xs) ys h k = (h.0, all_to_append P t xs ys h.1 k)
 
 pub all_to_other : (P : PlainNetDriver → Type 0) (t : PlainNetTarget) (ds : List PlainNetDriver) → AllDrive (λ u. same_target u t ≡ false) ds → AllTo P t ds
 all_to_other P t [] h = tt
-all_to_other P t (d ∷ ds) h = ((λ e. untrue (sym h.0 ∙ e)), all_to_other P t ds h.1)
+all_to_other P t (d ∷ ds) h = ((λ e. never (sym h.0 ∙ e)), all_to_other P t ds h.1)
 
 pub all_to_map : (P Q : PlainNetDriver → Type 0) (t : PlainNetTarget) → ((d : PlainNetDriver) → P d → Q d) → (ds : List PlainNetDriver) → AllTo P t ds → AllTo Q t ds
 all_to_map P Q t f [] h = tt

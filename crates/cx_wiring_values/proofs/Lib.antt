@@ -29,3 +29,4 @@ pub mod IslandGoes
 pub mod IslesOwe
 pub mod PointPorts
 pub mod NodeIslands
+pub mod SharedLemmas

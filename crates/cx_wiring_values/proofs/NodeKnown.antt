@@ -34,7 +34,7 @@ use Rattle.cx_wiring.specs.Takings.{AllConnect, AreRegisters}
 use Rattle.cx_wiring.specs.NetBits.{StatementTests}
 use Rattle.cx_wiring.proofs.DrivenLemmas.{IsProper}
 use Rattle.cx_wiring.proofs.TreeLaws.{NoWireFrom}
-use Rattle.cx_wiring.proofs.TakingLemmas.{no_port_done, no_port_hole}
+use Rattle.cx_wiring.proofs.TakingLemmas.{no_port_done}
 use Rattle.cx_wiring.proofs.ControlTargets.{control_drives, drivers_drive}
 use Rattle.cx_wiring.proofs.AssignTargets.{assigns_drive}
 use Rattle.cx_wiring.proofs.NetTargets.{plain_wires_count}
@@ -53,6 +53,7 @@ use Rattle.cx_wiring_values.proofs.ControlFed.{Whole, statement_whole}
 use Rattle.cx_wiring_values.proofs.PortsKnown.{R, IsFed, all_read, CellsShow, rests_known, named_there, stands, always_fed, output_driven, known_stable, ports_known, row_at, child_at_cell, gathered, port_of}
 use Rattle.cx_wiring_values.proofs.RowPorts.{HasRowPorts}
 use Rattle.cx_wiring_values.proofs.WholeLooks.{part_output}
+use Rattle.cx_net.proofs.NetsLemmas.{no_port_hole}
 
 target_hole : (g : ℕ) (q : PortRef) → same_target (target_of q) (ToHole g) ≡ true → q ≡ ports.Done g
 target_hole g (ports.Done h) e = let f : h ≡ g = eqb-true h g e in ap ports.Done f

@@ -4,7 +4,6 @@ use Rattle.std.proofs.Common.{◌≡◌, ℕ, zero, suc, ◌+◌, ◌<◌, ◌�
 use Rattle.std.specs.Prelude.{nat_lt}
 use Rattle.std.proofs.lemmas.Bool.{lt-ltb, cases_lt, ne_eqb}
 use Rattle.cx_bits.specs.BitVector.{BitVector}
-use Rattle.cx_prim.specs.MemoryLaws.{slice_get-append}
 use Rattle.cx_meaning.specs.Designs.{PlainComponent}
 use Rattle.cx_net.specs.Nets.{PlainNetTarget, ToWire, ToHole, ToDone, PlainNetDriver}
 use Rattle.cx_net.specs.NetTree.{NetCells}
@@ -23,9 +22,8 @@ use Rattle.cx_wiring.proofs.TreeDrivers.{entries_long}
 use Rattle.cx_wiring.proofs.TreeLaws.{NoWireFrom, AllHold}
 use Rattle.cx_wiring.proofs.BundleReads.{TakeTheirs}
 use Rattle.cx_wiring.proofs.ComponentTakes.{IsPlain, target_takes, trees_all_hold}
-use Rattle.cx_wiring.proofs.FitLemmas.{slice_left}
-use Rattle.cx_wiring.proofs.FitTrees.{some_at}
 use Rattle.cx_wiring_values.proofs.KnownLemmas.{Known, known_as, AllTo, AllOfThem, Fed, fed_takes, any_undriven}
+use Rattle.cx_text.proofs.ListLaws.{behind as slice_get-append, front, there_at}
 
 -- what holds of all drivers holds of those in the order of targets, and of those of each target
 module _ (P : PlainNetDriver → Type 0) where
@@ -193,8 +191,8 @@ module _ (d : PlainLowereds) (part : PlainComponent) (cells : NetCells) (around 
       → look [] (AWire n) ≡ takes around R (look []) (ToWire n) (Some (zero_wide (target_width d (lowered_component part) (ToWire n)))) (plain_drivers (lowered_component part))
   wire_takes n there =
       let all : length (net_component d (lowered_component part)).wires ≡ length (plain_wires (lowered_component part)) + length (tree_widths (target_width d (lowered_component part)) (component_driven (lowered_component part))) = all_wires in
-      let k = some_at (plain_wires (lowered_component part)) n there in
-      wire_has n k.0 (slice_left (plain_wires (lowered_component part)) _ n k.0 k.1) (omega arith)
+      let k = there_at (plain_wires (lowered_component part)) n there in
+      wire_has n k.0 (front (plain_wires (lowered_component part)) _ n k.0 k.1) (omega arith)
       ∙ ap (λ w. G (ToWire n) (zero_wide w)) (sym (ap (λ o. unwrap_or o 1) k.1))
       ∙ takes_all (ToWire n) tt (λ m from. ne_eqb m n (λ e. omega arith))
 
@@ -208,7 +206,7 @@ module _ (d : PlainLowereds) (part : PlainComponent) (cells : NetCells) (around 
 
   -- registers that are there have values
   pub register_known : (n : ℕ) → n < length (component_registers (lowered_component part)) → Known (R n)
-  register_known n less = let k = some_at (component_registers (lowered_component part)) n less in (_, ap (λ o. option_map (λ v. record { width = v; value = s.register [] n }) o) k.1)
+  register_known n less = let k = there_at (component_registers (lowered_component part)) n less in (_, ap (λ o. option_map (λ v. record { width = v; value = s.register [] n }) o) k.1)
 
   -- THE WIRES OF TREES have values where all drivers are fed
   pub inner_wires_known : AllOfThem (Fed around R (look [])) (plain_drivers (lowered_component part))

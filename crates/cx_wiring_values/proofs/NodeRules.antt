@@ -12,7 +12,6 @@ use Rattle.cx_meaning.specs.Islands.{group_length}
 use Rattle.cx_rules.specs.Items.{Context, Dynamic, below_dynamic, Visited, visit, visit_parts, visit_all, test_in}
 use Rattle.cx_rules.specs.Accepted.{IsAccepted}
 use Rattle.cx_rules.specs.Wellformed.{IsDesign}
-use Rattle.cx_rules.proofs.Finite.{in_left, in_right}
 use Rattle.cx_net.specs.Nets.{PlainNetTarget, ToWire, PlainNetDriver}
 use Rattle.cx_net.specs.NetMeaning.{same_target}
 use Rattle.cx_static.specs.declared.islands.IslandTimer.{IslandTimer}
@@ -36,6 +35,7 @@ use Rattle.cx_wiring_cycles.proofs.ControlPorts.{OfTimers, control_free}
 use Rattle.cx_wiring_cycles.proofs.AssignLaws.{no_port_wire}
 use Rattle.cx_wiring_values.proofs.TimerRules.{TimerRules, timer_rules, no_timer_rules}
 use Rattle.cx_wiring_values.proofs.InstancePorts.{IsTarget, PortRules, port_rules}
+use Rattle.cx_meaning.proofs.SightsLaws.{in_left, in_right}
 
 -- TARGETS have ranks of their own, and are no wires of rests
 module _ (P Q : PlainNetTarget → Type 0) where

@@ -7,11 +7,11 @@ use Rattle.cx_meaning.specs.Designs.{PlainComponent, PlainForm, Empty, Enable, S
 use Rattle.cx_meaning.specs.Sights.{In}
 use Rattle.cx_meaning.specs.Islands.{group_length, form_length, length_of}
 use Rattle.cx_rules.specs.Items.{Context, Dynamic, InStatic, Branch, Visited, visit, visit_parts, visit_all, statements_in}
-use Rattle.cx_rules.proofs.Finite.{in_left, in_right}
 use Rattle.cx_static.specs.Islands.{PlainPoint, PlainIsland}
 use Rattle.cx_static.specs.Lowering.{Gathered, Begin, begin_at, later, if_sampled, with_timer, with_point, with_occurrence, form_gathered, gathered, parts_gathered, arms_gathered, lowered_component}
 use Rattle.cx_wiring.proofs.GatherLaws.{IsFound, earlier, last, found}
 use Rattle.cx_wiring.proofs.IslandCells.{IsMade, FormMakes, StatementMakes, PartsMake, made_well}
+use Rattle.cx_meaning.proofs.SightsLaws.{in_left, in_right}
 
 module _ (part : PlainComponent) (Q : PortRef → Type 0) where
   -- THE TESTS of static ifs in a statement keep it

@@ -5,7 +5,6 @@ use Rattle.std.proofs.lemmas.Bool.{lt-ltb, ltb-true, ne_eqb}
 use Rattle.std.proofs.lemmas.Bool.Decides.{nat_tests}
 use Rattle.std.proofs.lemmas.List.{length-replicate}
 use Rattle.cx_bits.specs.BitVector.{BitVector}
-use Rattle.cx_prim.specs.MemoryLaws.{slice_get-append}
 use Rattle.cx_prim.specs.declared.ports.PortRow.{PortRow}
 use Rattle.cx_prim.specs.declared.ports.Side.{Side}
 use Rattle.cx_prim.specs.declared.ports.Side.TheVariants as sides
@@ -22,8 +21,7 @@ use Rattle.cx_rules.specs.Footprints.{AssignNames, Mentions, Rests, literal_rest
 use Rattle.cx_rules.specs.Circles.{IsAcyclic}
 use Rattle.cx_rules.specs.Wellformed.{IsThere, port_count}
 use Rattle.cx_rules.proofs.FoundLemmas.{same_is}
-use Rattle.cx_rules.proofs.Finite.{in_left, in_right}
-use Rattle.cx_control.proofs.InstanceLemmas.{OwnerOf, continuous, of_group, owner_of, source_in}
+use Rattle.cx_control.proofs.InstanceLemmas.{OwnerOf, continuous, of_group, owner_of}
 use Rattle.cx_control.proofs.UnionLemmas.{stands_acting}
 use Rattle.cx_net.specs.Nets.{PlainNetExpr, OfPort, OfWire, ToPort, ToWire, PlainNetDriver, PlainNetComponent}
 use Rattle.cx_net.specs.NetTree.{NetCells, ARow, AChild, net_part, net_cell_at}
@@ -52,6 +50,9 @@ use Rattle.cx_wiring_values.proofs.CircleInduction.{acyclic_induction}
 use Rattle.cx_wiring_values.proofs.RowPorts.{HasRowPorts}
 use Rattle.cx_wiring_values.proofs.NodeReads.{target_known, wire_takes}
 use Rattle.cx_wiring_values.proofs.AssignsKnown.{AssignsRead, assigns_read, LookFed, GoesKnown, NamesKnown, assigns_fed}
+use Rattle.cx_text.proofs.ListLaws.{one_of, behind}
+use Rattle.cx_meaning.proofs.SightsLaws.{in_left, in_right}
+use Rattle.cx_laws.proofs.SourceLemmas.{source_in}
 
 -- CELLS OF THE NET are those of the instance, and timers behind them
 module _ (W : PlainComponent → PlainNetComponent) (T : PlainComponent → List Row) (N : Instance → NetState → ℕ → ℕ) where
@@ -93,11 +94,6 @@ known_stable None h = absurd (h (λ k. no k.0 k.1))
   where
     no : (b : BitVector) → ◌≡◌ {A = Option BitVector} None (Some b) → ⊥
     no b e = cc
-
-one_of : (k j : ℕ) → j < k → slice_get {X = ℕ} (replicate k 1) j ≡ Some 1
-one_of zero j less = absurd (omega arith)
-one_of (suc k) zero less = refl
-one_of (suc k) (suc j) less = one_of k j (omega arith)
 
 -- ports of cells, so many of each
 abbrev first_ports : ℕ → ℕ → List PortRef
@@ -176,7 +172,7 @@ module _ (d : PlainDesign) (part : PlainComponent) (cells : Cells) (numbers : In
       let wide : ℕ = 32 in
       let count : length (replicate (groups (lowered_component part)) wide) ≡ groups (lowered_component part) = length-replicate (groups (lowered_component part)) wide in
       let at : n ≡ length (replicate (groups (lowered_component part)) 32) + (n - groups (lowered_component part)) = omega (arith, count, low) in
-      slice_get-append (replicate (groups (lowered_component part)) 32) (replicate (bits (lowered_component part)) 1) n (n - groups (lowered_component part)) at
+      behind (replicate (groups (lowered_component part)) 32) (replicate (bits (lowered_component part)) 1) n (n - groups (lowered_component part)) at
       ∙ one_of (bits (lowered_component part)) (n - groups (lowered_component part)) (omega arith)
 
   bit_reads : (n : ℕ) → first_of_assigns (lowered_component part) ≤ n → n < first_of_assigns (lowered_component part) + assigns_wires (driven_assigns (lowered_component part))

@@ -1,5 +1,5 @@
 -- What a rule of a net gives from some values it gives from more, whatever its expressions name.
-use Rattle.std.proofs.Common.{ℕ, zero, suc, Bool, true, false, if◌then◌else◌, List, [], ◌∷◌, Option, option_map, slice_get, nat_lt, refl}
+use Rattle.std.proofs.Common.{ℕ, zero, suc, List, [], ◌∷◌, Option, slice_get, nat_lt, refl}
 use Rattle.cx_bits.specs.BitVector.{BitVector}
 use Rattle.cx_prim.specs.declared.ports.Side.{Side}
 use Rattle.cx_prim.specs.declared.ports.Side.TheVariants as sides
@@ -10,15 +10,9 @@ use Rattle.cx_meaning.specs.Instances.{Path}
 use Rattle.cx_meaning.specs.Sights.{PartPort, Go, AnInput, AnOutput, ItsDone}
 use Rattle.cx_net.specs.Nets.{PlainNetExpr, OfPort, OfRegister, OfWire, OfHole, OfGo, Fixed, Inverse, AllOf, AnyOf, Sum, Compares, PlainNetExprs, no_exprs, an_expr, PlainNetTarget, ToWire, ToHole, ToDone, PlainNetDriver, PlainNetComponent}
 use Rattle.cx_net.specs.NetTree.{NetInstance, NetNode, NetCells, no_net_cells, a_row, a_child, NetAt, NoCell, ARow, AChild, net_part, net_cell_at}
-use Rattle.cx_net.specs.NetMeaning.{NetState, below_cell, Node, APort, AWire, AHole, TheDone, NetLook, NetAround, around_child, net_part_port, both_known, is_true, net_expr, all_expr, any_expr, chain, drivers_to, registers_of, driven_node, row_node, child_node, cell_node, own_step, net_step, child_step}
+use Rattle.cx_net.specs.NetMeaning.{NetState, below_cell, Node, APort, AWire, AHole, TheDone, NetLook, NetAround, around_child, net_part_port, is_true, net_expr, all_expr, any_expr, chain, drivers_to, registers_of, driven_node, row_node, child_node, cell_node, own_step, net_step, child_step}
 use Rattle.cx_wiring_values.proofs.GrowLemmas.{Less, less_self, grows_map, grows_then, gather_grows}
-
-rises_both : (f : BitVector → BitVector → BitVector) (a b c d : Option BitVector) → Less a c → Less b d → Less (both_known f a b) (both_known f c d)
-rises_both f a b c d l m = grows_then (λ x. option_map (f x) b) (λ x. option_map (f x) d) a c l (λ x. grows_map (f x) b d m)
-
-rises_if : {A : Type 0} (t : Bool) (a b c d : Option A) → Less a c → Less b d → Less (if t then a else b) (if t then c else d)
-rises_if true a b c d l m = l
-rises_if false a b c d l m = m
+use Rattle.cx_wiring_values.proofs.SharedLemmas.{grows_both, grows_if}
 
 -- what is known around an instance
 pub record AroundRises (a b : NetAround) : Type 0 where
@@ -41,20 +35,20 @@ module _ (a b : NetAround) (registers : ℕ → Option BitVector) (look more : N
     expr_rises (Inverse e) = grows_map _ _ _ (expr_rises e)
     expr_rises (AllOf es) = all_rises es
     expr_rises (AnyOf es) = any_rises es
-    expr_rises (Sum e f) = rises_both _ _ _ _ _ (expr_rises e) (expr_rises f)
-    expr_rises (Compares c e f) = rises_both _ _ _ _ _ (expr_rises e) (expr_rises f)
+    expr_rises (Sum e f) = grows_both _ _ _ _ _ (expr_rises e) (expr_rises f)
+    expr_rises (Compares c e f) = grows_both _ _ _ _ _ (expr_rises e) (expr_rises f)
 
     all_rises : (es : PlainNetExprs) → Less (all_expr a registers look es) (all_expr b registers more es)
     all_rises no_exprs = less_self _ _ refl
-    all_rises (an_expr e es) = rises_both _ _ _ _ _ (expr_rises e) (all_rises es)
+    all_rises (an_expr e es) = grows_both _ _ _ _ _ (expr_rises e) (all_rises es)
 
     any_rises : (es : PlainNetExprs) → Less (any_expr a registers look es) (any_expr b registers more es)
     any_rises no_exprs = less_self _ _ refl
-    any_rises (an_expr e es) = rises_both _ _ _ _ _ (expr_rises e) (any_rises es)
+    any_rises (an_expr e es) = grows_both _ _ _ _ _ (expr_rises e) (any_rises es)
 
   pub chain_rises : (undriven : BitVector) (ds : List PlainNetDriver) → Less (chain a registers look undriven ds) (chain b registers more undriven ds)
   chain_rises undriven [] = less_self _ _ refl
-  chain_rises undriven (d ∷ ds) = grows_then _ _ _ _ (expr_rises d.guard) (λ g. rises_if (is_true g) _ _ _ _ (expr_rises d.source) (chain_rises undriven ds))
+  chain_rises undriven (d ∷ ds) = grows_then _ _ _ _ (expr_rises d.guard) (λ g. grows_if (is_true g) _ _ _ _ (expr_rises d.source) (chain_rises undriven ds))
 
 -- ONE RULE
 module _ (part : PlainNetComponent) (cells : NetCells) (a b : NetAround) (s : NetState) (look more : Node → Option BitVector) (below beyond : ℕ → Node → Option BitVector)
@@ -86,7 +80,7 @@ module _ (part : PlainNetComponent) (cells : NetCells) (a b : NetAround) (s : Ne
   own_rises (APort (ports.Done g)) = less_self _ _ refl
   own_rises (APort (ports.Literal w v)) = less_self _ _ refl
   own_rises (AWire n) = grows_then _ _ (slice_get part.wires n) (slice_get part.wires n) (less_self _ _ refl) (λ w. driven_rises w (ToWire n))
-  own_rises (AHole n) = rises_if (nat_lt n part.holes) _ _ _ _ (driven_rises 1 (ToHole n)) (less_self _ _ refl)
+  own_rises (AHole n) = grows_if (nat_lt n part.holes) _ _ _ _ (driven_rises 1 (ToHole n)) (less_self _ _ refl)
   own_rises TheDone = driven_rises 1 ToDone
 
 -- ALL RULES of a tree

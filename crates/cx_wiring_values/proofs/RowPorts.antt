@@ -1,5 +1,5 @@
 -- Each row of the table has enabling ports of one bit, and its outputs read plain inputs alone.
-use Rattle.std.proofs.Common.{◌≡◌, ℕ, zero, suc, ◌+◌, ◌<◌, ◌==◌, ◌&&◌, Bool, true, false, List, [], ◌∷◌, ◌++◌, Some, length, refl, arith}
+use Rattle.std.proofs.Common.{◌≡◌, ℕ, zero, suc, ◌+◌, ◌<◌, ◌==◌, true, List, [], ◌∷◌, ◌++◌, Some, length, refl, arith}
 use Rattle.std.specs.Prelude.{slice_get, nat_lt}
 use Rattle.std.proofs.lemmas.Bool.{ltb-true}
 use Rattle.cx_bits.specs.BitVector.{BitVector}
@@ -13,9 +13,10 @@ use Rattle.cx_prim.specs.RegisterRow.{register_row}
 use Rattle.cx_prim.specs.MemoryRows.{IsLayout, ports_named, memory_row, sequential_memory_row}
 use Rattle.cx_prim.specs.PipeRows.{multiplier_row, divider_row, timer_row}
 use Rattle.cx_prim.specs.Table.{PrimitiveRow, no_row, row_of}
-use Rattle.cx_prim.specs.TableCases.{OfEachKind, of_row}
+use Rattle.cx_prim.proofs.TableCases.{OfEachKind, of_row}
 use Rattle.cx_meaning.specs.Rows.{side_from, side_of}
-use Rattle.cx_wiring.proofs.TreeLaws.{untrue}
+use Rattle.cx_text.proofs.BoolLaws.{and_right}
+use Rattle.cx_text.proofs.NumberLaws.{never}
 
 abbrev AreNarrow : List PortRow → Type 0
 AreNarrow [] = Unit {0}
@@ -71,23 +72,23 @@ mux_has w = record {
 register_has : (w : ℕ) → HasRowPorts (register_row w)
 register_has w = record {
   narrow = ((λ e. absurd (plain_apart e)), ((λ e. refl), ((λ e. absurd (registered_apart e)), ((λ e. absurd (registered_apart e)), tt))));
-  reads_plain = λ n m e. untrue e;
+  reads_plain = λ n m e. never e;
 }
 
 multiplier_has : (w : ℕ) → HasRowPorts (multiplier_row w)
 multiplier_has w = record {
   narrow = ((λ e. refl), ((λ e. absurd (plain_apart e)), ((λ e. absurd (plain_apart e)), ((λ e. absurd (registered_apart e)), ((λ e. absurd (registered_apart e)), tt)))));
-  reads_plain = λ n m e. untrue e;
+  reads_plain = λ n m e. never e;
 }
 
 divider_has : (w : ℕ) → HasRowPorts (divider_row w)
 divider_has w = record {
   narrow = ((λ e. refl), ((λ e. absurd (plain_apart e)), ((λ e. absurd (plain_apart e)), ((λ e. absurd (registered_apart e)), ((λ e. absurd (registered_apart e)), ((λ e. absurd (registered_apart e)), tt))))));
-  reads_plain = λ n m e. untrue e;
+  reads_plain = λ n m e. never e;
 }
 
 timer_has : (n : ℕ) → HasRowPorts (timer_row n)
-timer_has n = record { narrow = ((λ e. refl), ((λ e. absurd (registered_apart e)), ((λ e. absurd (registered_apart e)), tt))); reads_plain = λ k m e. untrue e }
+timer_has n = record { narrow = ((λ e. refl), ((λ e. absurd (registered_apart e)), ((λ e. absurd (registered_apart e)), tt))); reads_plain = λ k m e. never e }
 
 none_has : HasRowPorts no_row
 none_has = record { narrow = tt; reads_plain = λ n m e. let less : m < 0 = ltb-true m 0 e in absurd (omega (arith, less)) }
@@ -104,10 +105,6 @@ named_plain (name ∷ list) [] rest m less few = absurd (omega arith)
 named_plain (name ∷ list) (w ∷ widths) rest zero less few = refl
 named_plain (name ∷ list) (w ∷ widths) rest (suc m) less few = named_plain list widths rest m (omega arith) (omega arith)
 
-and_right : (a b : Bool) → (a && b) ≡ true → b ≡ true
-and_right true b e = e
-and_right false b e = untrue e
-
 memory_has : (w : ℕ) (sizes address_widths : List ℕ) → IsLayout w sizes address_widths → HasRowPorts (memory_row w sizes address_widths)
 memory_has w sizes address_widths layout = record {
   narrow = named_narrow (names.Addr0 ∷ names.Addr1 ∷ names.Addr2 ∷ names.Addr3 ∷ []) address_widths _
@@ -122,7 +119,7 @@ sequential_has : (w : ℕ) (sizes address_widths : List ℕ) → IsLayout w size
 sequential_has w sizes address_widths layout = record {
   narrow = named_narrow (names.Addr0 ∷ names.Addr1 ∷ names.Addr2 ∷ names.Addr3 ∷ []) address_widths _
       ((λ e. refl), ((λ e. refl), ((λ e. absurd (plain_apart e)), ((λ e. absurd (registered_apart e)), ((λ e. absurd (registered_apart e)), tt)))));
-  reads_plain = λ n m e. untrue e;
+  reads_plain = λ n m e. never e;
 }
 
 -- the table

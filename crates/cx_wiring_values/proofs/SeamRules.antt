@@ -4,7 +4,7 @@ use Rattle.std.specs.Prelude.{is_some}
 use Rattle.std.proofs.Common.{◌≡◌, inl, inr, ℕ, suc, ◌<◌, true, false, ◌||◌, [], length, Option, Some, refl, sym, ap, ◌∙◌, subst}
 use Rattle.cx_text.specs.declared.rules.Rule.TheVariants as rules
 use Rattle.cx_prim.specs.Rows.{Row, is_enable_side, IsLawful}
-use Rattle.cx_prim.specs.TableLaws.{row_of_lawful}
+use Rattle.cx_prim.proofs.TableLaws.{row_of_lawful}
 use Rattle.cx_prim.specs.declared.ports.Side.TheVariants as sides
 use Rattle.cx_meaning.specs.declared.ports.PortRef.{PortRef}
 use Rattle.cx_meaning.specs.declared.ports.PortRef.TheVariants as ports
@@ -25,15 +25,16 @@ use Rattle.cx_rules.specs.Footprints.{AssignNames, Rests, literal_rests, input_r
 use Rattle.cx_rules.specs.Spots.{AStatement, AnAssign}
 use Rattle.cx_rules.specs.Accepted.{IsAccepted}
 use Rattle.cx_rules.specs.Wellformed.{IsDesign}
-use Rattle.cx_rules.proofs.CircleLemmas.{same_part}
 use Rattle.cx_frames.proofs.StatementFrames.{visited}
 use Rattle.cx_control.proofs.StaticLemmas.{IsStatic, static_form, static_may, all_may}
 use Rattle.cx_frames.proofs.RuleLemmas.{IsKept, kept_instance}
-use Rattle.cx_control.proofs.InstanceLemmas.{KeepsPorts, instance_ports, number_in}
+use Rattle.cx_control.proofs.InstanceLemmas.{KeepsPorts, instance_ports}
 use Rattle.cx_wiring.proofs.WholeInstances.{IsWhole, of_component, of_nothing, instance_whole, AreAlike, nothings, rows, instances, cells_alike}
 use Rattle.cx_wiring_values.proofs.InstancePorts.{RowOf, some_components}
 use Rattle.cx_wiring_values.proofs.NodeRules.{NodeRules, node_rules}
 use Rattle.cx_wiring_values.proofs.RowPorts.{HasRowPorts, row_ports}
+use Rattle.cx_meaning.proofs.DesignsLemmas.{same_part}
+use Rattle.cx_meaning.proofs.SightsLaws.{number_in}
 
 -- a port that does not rest is named by no such assignment
 pub record RestRules (i : Instance) : Type 0 where

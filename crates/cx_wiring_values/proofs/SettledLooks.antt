@@ -6,12 +6,12 @@ use Rattle.cx_bits.specs.BitVector.{BitVector}
 use Rattle.cx_meaning.specs.declared.ports.PortRef.TheVariants as ports
 use Rattle.cx_meaning.specs.Instances.{Path}
 use Rattle.cx_meaning.specs.Sights.{In}
-use Rattle.cx_rules.proofs.Finite.{in_left, in_right}
 use Rattle.cx_net.specs.Nets.{PlainNetComponent}
 use Rattle.cx_net.specs.NetTree.{NetInstance, NetNode, NetCells, no_net_cells, a_row, a_child, net_part, net_cell_at}
 use Rattle.cx_net.specs.NetMeaning.{NetState, Node, APort, AWire, AHole, TheDone, NetLook, net_step, outside, NetHas, by_rule, is_port_of, is_own_node, is_node, is_node_below}
 use Rattle.cx_wiring_values.proofs.GrowLemmas.{Less, less_self, none_is_some}
 use Rattle.cx_wiring_values.proofs.RiseLemmas.{step_rises}
+use Rattle.cx_meaning.proofs.SightsLaws.{in_image, in_left, in_right}
 
 -- THE NODES of a tree, each with its path
 record NodeAt : Type 0 where
@@ -88,11 +88,6 @@ own_in part cells TheDone e =
     in_right (port_nodes cells 0) _ _ (in_right (first_nodes (length part.outputs) (λ k. APort (ports.Output k))) _ _
     (in_right (first_nodes (length part.wires) AWire) _ _ (in_right (first_nodes part.holes AHole) _ _ (inl refl))))
 
-map_in : {A B : Type 0} (f : A → B) (xs : List A) (x : A) → In xs x → In (map f xs) (f x)
-map_in f [] x i = absurd i
-map_in f (y ∷ ys) x (inl e) = inl (ap f e)
-map_in f (y ∷ ys) x (inr i) = inr (map_in f ys x i)
-
 abbrev behind_cell : ℕ → NodeAt → NodeAt
 behind_cell c n = node_at (c ∷ n.path) n.node
 
@@ -107,7 +102,7 @@ abbrev mutual
 
 mutual
   node_in : (tree : NetInstance) (path : Path) (n : Node) → is_node tree path n ≡ true → In (nodes_of tree) (node_at path n)
-  node_in (NetNode part cells) [] n e = in_left (map (node_at []) (own_nodes part cells)) (nodes_below cells 0) _ (map_in (node_at []) (own_nodes part cells) n (own_in part cells n e))
+  node_in (NetNode part cells) [] n e = in_left (map (node_at []) (own_nodes part cells)) (nodes_below cells 0) _ (in_image (node_at []) (own_nodes part cells) n (own_in part cells n e))
   node_in (NetNode part cells) (c ∷ path) n e =
       let same : 0 + c ≡ c = omega arith in
       in_right (map (node_at []) (own_nodes part cells)) (nodes_below cells 0) _ (subst (λ k. In (nodes_below cells 0) (node_at (k ∷ path) n)) same (node_below cells 0 c path n e))
@@ -121,7 +116,7 @@ mutual
   node_below (a_child child rest) k zero path n e =
       let same : k ≡ k + 0 = omega arith in
       subst (λ m. In (map (behind_cell k) (nodes_of child) ++ nodes_below rest (suc k)) (node_at (m ∷ path) n)) same
-      (in_left (map (behind_cell k) (nodes_of child)) (nodes_below rest (suc k)) _ (map_in (behind_cell k) (nodes_of child) (node_at path n) (node_in child path n e)))
+      (in_left (map (behind_cell k) (nodes_of child)) (nodes_below rest (suc k)) _ (in_image (behind_cell k) (nodes_of child) (node_at path n) (node_in child path n e)))
   node_below (a_child child rest) k (suc c) path n e =
       let same : suc k + c ≡ k + suc c = omega arith in
       subst (λ m. In (map (behind_cell k) (nodes_of child) ++ nodes_below rest (suc k)) (node_at (m ∷ path) n)) same

@@ -14,10 +14,10 @@ use Rattle.cx_prim.specs.CombinationalRows.{combinational_row}
 use Rattle.cx_prim.specs.CombinationalLaws.{passes_at}
 use Rattle.cx_prim.specs.RegisterRow.{register_row, register_output, register_next}
 use Rattle.cx_prim.specs.MemoryRows.{IsLayout, memory_row, memory_output, memory_read, sequential_memory_row, sequential_output}
-use Rattle.cx_prim.specs.MemoryLaws.{MemoryOutput, is_read, is_done, memory_outputs}
+use Rattle.cx_prim.proofs.MemoryLaws.{MemoryOutput, is_read, is_done, memory_outputs}
 use Rattle.cx_prim.specs.PipeRows.{multiplier_row, multiplier_output, left_of, right_of, advanced, holding, divider_row, divider_output, divided, is_last, timer_row, timer_output}
 use Rattle.cx_prim.specs.Table.{PrimitiveRow, no_row, row_of}
-use Rattle.cx_prim.specs.TableCases.{OfEachKind, of_row}
+use Rattle.cx_prim.proofs.TableCases.{OfEachKind, of_row}
 use Rattle.cx_wiring_values.proofs.KnownLemmas.{Known}
 
 abbrev is_unregistered : Side → Bool

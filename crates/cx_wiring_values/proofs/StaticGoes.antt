@@ -1,6 +1,6 @@
 -- The groups of an island that are active in a cycle are what its statement may have active at once, whatever its timers count and its
 -- samples are: of parts that follow each other the count is in the range of one, and a static if has one sample.
-use Rattle.std.proofs.Common.{◌≡◌, ℕ, ◌+◌, ◌*◌, ◌<◌, ◌≤◌, ◌⊎◌, inl, inr, max, Bool, true, false, List, [], ◌∷◌, ◌++◌, length, Option, Some, None, slice_get, if◌then◌else◌, refl, sym, ap, ◌∙◌, subst, arith}
+use Rattle.std.proofs.Common.{◌≡◌, ℕ, ◌+◌, ◌*◌, ◌<◌, ◌≤◌, ◌⊎◌, inl, inr, max, Bool, true, false, List, [], ◌∷◌, length, Option, Some, None, slice_get, if◌then◌else◌, refl, sym, ap, ◌∙◌, subst, arith}
 use Rattle.std.proofs.lemmas.Bool.{cases_lt, eq-eqb}
 use Rattle.cx_text.specs.declared.places.Place.{Place}
 use Rattle.cx_meaning.specs.declared.ports.PlacedPort.{PlacedPort}
@@ -8,24 +8,15 @@ use Rattle.cx_meaning.specs.Designs.{PlainComponent, PlainForm, Empty, Enable, S
 use Rattle.cx_meaning.specs.Active.{Active, nothing, entries}
 use Rattle.cx_meaning.specs.Sights.{In}
 use Rattle.cx_meaning.specs.Islands.{or_zero, group_length, form_length, length_of, sum_length, max_length}
-use Rattle.cx_rules.proofs.Finite.{in_left, in_right}
 use Rattle.cx_control.specs.Together.{union, IsTogether, at_rest, at_offset, in_static_seq, in_static_par, in_static_then, in_static_else, in_static_repeat, AreTogether, no_arm, an_arm}
 use Rattle.cx_static.specs.declared.islands.Sample.{Sample}
 use Rattle.cx_static.specs.declared.islands.IslandTimer.{IslandTimer}
 use Rattle.cx_static.specs.Islands.{PlainOccurrence}
 use Rattle.cx_static.specs.Lowering.{Gathered, Begin, begin_at, later, sampled, if_sampled, with_timer, with_point, with_occurrence, form_gathered, gathered, parts_gathered, arms_gathered}
-use Rattle.cx_wiring.proofs.GatherLaws.{get_end, grows, parts_grow, arms_grow}
-use Rattle.cx_wiring.proofs.FitLemmas.{slice_left}
+use Rattle.cx_wiring.proofs.GatherLaws.{grows, parts_grow, arms_grow}
 use Rattle.cx_wiring_values.proofs.TogetherGoes.{IsOn, union_left, union_right}
-
-split_in : {A : Type 0} (xs ys : List A) (x : A) → In (xs ++ ys) x → In xs x ⊎ In ys x
-split_in [] ys x i = inr i
-split_in (z ∷ xs) ys x (inl e) = inl (inl e)
-split_in (z ∷ xs) ys x (inr i) = up (split_in xs ys x i)
-  where
-    up : In xs x ⊎ In ys x → In (z ∷ xs) x ⊎ In ys x
-    up (inl j) = inl (inr j)
-    up (inr j) = inr j
+use Rattle.cx_meaning.proofs.SightsLaws.{in_either, in_left, in_right}
+use Rattle.cx_text.proofs.ListLaws.{get_end, front as slice_left}
 
 module _ (part : PlainComponent) (live : ℕ → Bool) (count : ℕ → ℕ) (sample : ℕ → Bool) (final : List IslandTimer) where
   abbrev Wanted : List Sample → Type 0
@@ -126,13 +117,13 @@ module _ (part : PlainComponent) (live : ℕ → Bool) (count : ℕ → ℕ) (sa
         its = record { group = group; timer = x.timer; from = x.at; to = x.at + n; samples = x.samples }
 
         goes : Goes (entries (record { group = group; offset = 0 } ∷ [])) g (with_occurrence group x (Some n) g)
-        goes o i = elim (split_in g.occurrences (record { group = group; timer = x.timer; from = x.at; to = x.at + n; samples = x.samples } ∷ []) o i) [
+        goes o i = elim (in_either g.occurrences (record { group = group; timer = x.timer; from = x.at; to = x.at + n; samples = x.samples } ∷ []) o i) [
           | inl j ↦ inl j
           | inr j ↦ elim j [ inl e ↦ inr (λ acts. subst (λ (v : PlainOccurrence). IsOn (entries (record { group = group; offset = 0 } ∷ [])) v.group) e (on_offset group 0)) | inr none ↦ absurd none ]
         ]
 
         quiet : (Begun x n → ⊥) → Quiet g (with_occurrence group x (Some n) g)
-        quiet off o i = elim (split_in g.occurrences (record { group = group; timer = x.timer; from = x.at; to = x.at + n; samples = x.samples } ∷ []) o i) [
+        quiet off o i = elim (in_either g.occurrences (record { group = group; timer = x.timer; from = x.at; to = x.at + n; samples = x.samples } ∷ []) o i) [
           | inl j ↦ inl j
           | inr j ↦ elim j [ inl e ↦ inr (λ acts. off (subst (λ (v : PlainOccurrence). Acts v) (sym e) acts)) | inr none ↦ absurd none ]
         ]

@@ -22,11 +22,8 @@ use Rattle.cx_rules.specs.ShapeRules.{is_hole, some_target, enabled_name}
 use Rattle.cx_rules.specs.Spots.{AStatement, AGroup}
 use Rattle.cx_rules.specs.Accepted.{IsAccepted}
 use Rattle.cx_rules.specs.Wellformed.{IsDesign, IsForm, IsThere}
-use Rattle.cx_rules.proofs.Finite.{in_left, in_right}
-use Rattle.cx_rules.proofs.CircleLemmas.{same_part}
 use Rattle.cx_laws.specs.Positions.{FormIfs, StatementIfs, AllIfs}
 use Rattle.cx_frames.proofs.StatementFrames.{visited}
-use Rattle.cx_control.proofs.InstanceLemmas.{number_in}
 use Rattle.cx_static.specs.Lowering.{lowered_component}
 use Rattle.cx_wiring.specs.Assignments.{is_driven, driven_assigns}
 use Rattle.cx_wiring.proofs.DesignNames.{in_filter}
@@ -34,6 +31,8 @@ use Rattle.cx_wiring.proofs.ListedLaws.{FormRepeats, StatementRepeats, AllRepeat
 use Rattle.cx_wiring.proofs.IslandCells.{StatementMakes, FormMakes, PartsMake, RunsWell, timers_fit}
 use Rattle.cx_wiring.proofs.TimerRows.{TimersFit, IsOwnTarget}
 use Rattle.cx_wiring_cycles.proofs.IslandReads.{NoTimed, IsUntimed, NoneTimed}
+use Rattle.cx_meaning.proofs.SightsLaws.{in_left, in_right, number_in}
+use Rattle.cx_meaning.proofs.DesignsLemmas.{same_part}
 
 pub record TimerRules (part : PlainComponent) (cells : Cells) : Type 0 where
   pub untimed : IsUntimed part.control

@@ -20,8 +20,8 @@ use Rattle.cx_wiring.specs.Control.{one_turn, arm_stand, counted_inside, countin
 use Rattle.cx_wiring.specs.Bounds.{FormNames, StatementNames, PartsName}
 use Rattle.cx_wiring.specs.Takings.{Connects, AllConnect, AreRegisters}
 use Rattle.cx_wiring.proofs.TakingLemmas.{true_bit, says_equals, connect_both, registers_both}
-use Rattle.cx_wiring.proofs.TreeLaws.{untrue}
 use Rattle.cx_wiring_values.proofs.KnownLemmas.{known_as, KnownExpr, On, Fed, known_two, known_equals, known_inverse, two_true, AllTo, all_to_append, all_to_map}
+use Rattle.cx_text.proofs.NumberLaws.{never}
 
 abbrev pub IsOn : Active → ℕ → Type 0
 IsOn act g = (u : ℕ) × (act.offset g ≡ Some u)
@@ -156,7 +156,7 @@ module _ (part : PlainComponent) (groups : ℕ) (islands : List PlainIsland) (ar
         StatementIsles s l (arm_stand par wire register) × ArmsIsles ss (after part s l) par (wire + wires_of (lowered part s l)) (suc register + length (registers_of islands (lowered part s l)))
 
   turn_goes : (s : PlainStatement) (x : Stand) (r position size : ℕ) → Goes s x.acts r position size (one_turn x)
-  turn_goes s x r position size = record { act = nothing; together = at_rest; goes = λ g. ((λ e. untrue e), ((λ e. untrue e), tt)); quiet = λ off g. ((λ e. untrue e), ((λ e. untrue e), tt)) }
+  turn_goes s x r position size = record { act = nothing; together = at_rest; goes = λ g. ((λ e. never e), ((λ e. never e), tt)); quiet = λ off g. ((λ e. never e), ((λ e. never e), tt)) }
 
   hole_is : (g h : ℕ) → (groups + g == groups + h) ≡ true → g ≡ h
   hole_is g h e = let f : groups + g ≡ groups + h = eqb-true (groups + g) (groups + h) e in omega arith
@@ -235,8 +235,8 @@ module _ (part : PlainComponent) (groups : ℕ) (islands : List PlainIsland) (ar
               record {
                 act = group g;
                 together = enabled;
-                goes = λ h. ((λ e. untrue e), ((λ e. untrue e), ((λ e. (fed, (λ on. only_on g h (hole_is g h e)))), tt)));
-                quiet = λ off h. ((λ e. untrue e), ((λ e. untrue e), ((λ e. (fed, (λ on. absurd (off_at x r 1 i low c.0 (omega arith) off on)))), tt)));
+                goes = λ h. ((λ e. never e), ((λ e. never e), ((λ e. (fed, (λ on. only_on g h (hole_is g h e)))), tt)));
+                quiet = λ off h. ((λ e. never e), ((λ e. never e), ((λ e. (fed, (λ on. absurd (off_at x r 1 i low c.0 (omega arith) off on)))), tt)));
               }
           enable_goes (Some n) c names isle = isle_goes (Enable g) place (length l.islands) x r i low c isle
       form_goes (Seq no_statements) place l x r i low c k names isles = turn_goes (Placed (Seq no_statements) place) x r x.position 1
@@ -258,10 +258,10 @@ module _ (part : PlainComponent) (groups : ℕ) (islands : List PlainIsland) (ar
           record {
             act = ArmsGo.act all;
             together = in_par (ArmsGo.together all);
-            goes = λ g. ((λ e. untrue e), all_to_append (GoesIn (ArmsGo.act all) g) (ToHole (groups + g)) (arms_drivers groups islands x (suc (suc x.wire)) x.register (lowered_parts part arms l)) _ (ArmsGo.goes all g) ((λ e. untrue e), tt));
+            goes = λ g. ((λ e. never e), all_to_append (GoesIn (ArmsGo.act all) g) (ToHole (groups + g)) (arms_drivers groups islands x (suc (suc x.wire)) x.register (lowered_parts part arms l)) _ (ArmsGo.goes all g) ((λ e. never e), tt));
             quiet = λ off g. (
-              (λ e. untrue e),
-              all_to_append (GoesIn nothing g) (ToHole (groups + g)) (arms_drivers groups islands x (suc (suc x.wire)) x.register (lowered_parts part arms l)) _ (ArmsGo.quiet all (off_at x r 1 i low c.0 (omega arith) off) g) ((λ e. untrue e), tt),
+              (λ e. never e),
+              all_to_append (GoesIn nothing g) (ToHole (groups + g)) (arms_drivers groups islands x (suc (suc x.wire)) x.register (lowered_parts part arms l)) _ (ArmsGo.quiet all (off_at x r 1 i low c.0 (omega arith) off) g) ((λ e. never e), tt),
             );
           }
       form_goes (If test cg a b) place l x r i low c k names isles =
@@ -278,11 +278,11 @@ module _ (part : PlainComponent) (groups : ℕ) (islands : List PlainIsland) (ar
           gather : (act : Active) → Holes act (comb_goes groups islands x cg) → Holes act (drivers_of groups islands (past_test x) (lowered part a l)) → Holes act (drivers_of groups islands (behind islands (lowered part a l) (past_test x)) (lowered part b (after part a l)))
               → Holes act (form_drivers groups islands x (If test cg (lowered part a l) (lowered part b (after part a l))))
           gather act h f s g = (
-            (λ e. untrue e),
+            (λ e. never e),
             all_to_append (GoesIn act g) (ToHole (groups + g)) (comb_goes groups islands x cg) _ (h g) (
-              (λ e. untrue e),
+              (λ e. never e),
               all_to_append (GoesIn act g) (ToHole (groups + g)) (drivers_of groups islands (past_test x) (lowered part a l)) _ (f g)
-                  ((λ e. untrue e), all_to_append (GoesIn act g) (ToHole (groups + g)) (drivers_of groups islands (behind islands (lowered part a l) (past_test x)) (lowered part b (after part a l))) _ (s g) ((λ e. untrue e), tt)),
+                  ((λ e. never e), all_to_append (GoesIn act g) (ToHole (groups + g)) (drivers_of groups islands (behind islands (lowered part a l) (past_test x)) (lowered part b (after part a l))) _ (s g) ((λ e. never e), tt)),
             ),
           )
 
@@ -328,9 +328,9 @@ module _ (part : PlainComponent) (groups : ℕ) (islands : List PlainIsland) (ar
         where
           gather : (act : Active) → Holes act (comb_goes groups islands x cg) → Holes act (drivers_of groups islands (past_test x) (lowered part a l)) → Holes act (form_drivers groups islands x (While test cg (lowered part a l)))
           gather act h f g = (
-            (λ e. untrue e),
+            (λ e. never e),
             all_to_append (GoesIn act g) (ToHole (groups + g)) (comb_goes groups islands x cg) _ (h g)
-                ((λ e. untrue e), ((λ e. untrue e), all_to_append (GoesIn act g) (ToHole (groups + g)) (drivers_of groups islands (past_test x) (lowered part a l)) _ (f g) ((λ e. untrue e), tt))),
+                ((λ e. never e), ((λ e. never e), all_to_append (GoesIn act g) (ToHole (groups + g)) (drivers_of groups islands (past_test x) (lowered part a l)) _ (f g) ((λ e. never e), tt))),
           )
 
           choice : KnownExpr around registers look (at x) → Goes a x.acts r (x.position + 1) (positions_of (lowered part a l)) (drivers_of groups islands (past_test x) (lowered part a l)) → (r < x.position + 1) ⊎ (x.position + 1 ≤ r)
@@ -356,8 +356,8 @@ module _ (part : PlainComponent) (groups : ℕ) (islands : List PlainIsland) (ar
           record {
             act = Goes.act body;
             together = in_repeat (Goes.together body);
-            goes = λ g. all_to_append (GoesIn (Goes.act body) g) (ToHole (groups + g)) (drivers_of groups islands (counted_inside x) (lowered part a l)) (counting x n) (Goes.goes body g) ((λ e. untrue e), ((λ e. untrue e), ((λ e. untrue e), ((λ e. untrue e), tt))));
-            quiet = λ off g. all_to_append (GoesIn nothing g) (ToHole (groups + g)) (drivers_of groups islands (counted_inside x) (lowered part a l)) (counting x n) (Goes.quiet body off g) ((λ e. untrue e), ((λ e. untrue e), ((λ e. untrue e), ((λ e. untrue e), tt))));
+            goes = λ g. all_to_append (GoesIn (Goes.act body) g) (ToHole (groups + g)) (drivers_of groups islands (counted_inside x) (lowered part a l)) (counting x n) (Goes.goes body g) ((λ e. never e), ((λ e. never e), ((λ e. never e), ((λ e. never e), tt))));
+            quiet = λ off g. all_to_append (GoesIn nothing g) (ToHole (groups + g)) (drivers_of groups islands (counted_inside x) (lowered part a l)) (counting x n) (Goes.quiet body off g) ((λ e. never e), ((λ e. never e), ((λ e. never e), ((λ e. never e), tt))));
           }
       form_goes (StaticSeq written parts) place l x r i low c k names isles = isle_goes (StaticSeq written parts) place (length l.islands) x r i low c isles
       form_goes (StaticPar written arms) place l x r i low c k names isles = isle_goes (StaticPar written arms) place (length l.islands) x r i low c isles
@@ -373,14 +373,14 @@ module _ (part : PlainComponent) (groups : ℕ) (islands : List PlainIsland) (ar
       parts_go : (ss : PlainStatements) (l : Lowering) (seq : Stand) (before : ℕ) (x : Stand) (r : ℕ) → IsAt x.acts x.region r → bound ≤ x.wire → AllConnect around registers look bound (parts_drivers groups islands seq before x (lowered_parts part ss l))
           → AreRegisters around registers look kept x.register (registers_in islands (lowered_parts part ss l)) → PartsName groups (lowered_parts part ss l) → PartsIsles ss l x
           → PartsGo ss x.acts r x.position (positions_in (lowered_parts part ss l)) (parts_drivers groups islands seq before x (lowered_parts part ss l))
-      parts_go no_statements l seq before x r i low c k names isles = record { act = nothing; one_of_them = inl refl; goes = λ g. ((λ e. untrue e), tt); quiet = λ off g. ((λ e. untrue e), tt) }
+      parts_go no_statements l seq before x r i low c k names isles = record { act = nothing; one_of_them = inl refl; goes = λ g. ((λ e. never e), tt); quiet = λ off g. ((λ e. never e), tt) }
       parts_go (a_statement s ss) l seq before x r i low c k names isles =
           let cs = connect_both around registers look bound (drivers_of groups islands x (lowered part s l)) _ c.1 in
           let ks = registers_both around registers look kept x.register (registers_of islands (lowered part s l)) _ k in
           let first = statement_goes s l x r i low cs.0 ks.0 names.0 isles.0 in
           let later = parts_go ss (after part s l) seq x.wire (behind islands (lowered part s l) x) r i (omega arith) cs.1 ks.1 names.1 isles.1 in
           let all = parts_join s ss x.acts r x.position (positions_of (lowered part s l)) (positions_in (lowered_parts part ss (after part s l))) (drivers_of groups islands x (lowered part s l)) _ first later in
-          record { act = PartsGo.act all; one_of_them = PartsGo.one_of_them all; goes = λ g. ((λ e. untrue e), PartsGo.goes all g); quiet = λ off g. ((λ e. untrue e), PartsGo.quiet all off g) }
+          record { act = PartsGo.act all; one_of_them = PartsGo.one_of_them all; goes = λ g. ((λ e. never e), PartsGo.goes all g); quiet = λ off g. ((λ e. never e), PartsGo.quiet all off g) }
 
       arms_go : (ss : PlainStatements) (l : Lowering) (par : Stand) (wire register : ℕ) → KnownExpr around registers look (at par) → bound ≤ wire → AllConnect around registers look bound (arms_drivers groups islands par wire register (lowered_parts part ss l))
           → AreRegisters around registers look kept register (arms_registers islands (lowered_parts part ss l)) → PartsName groups (lowered_parts part ss l) → ArmsIsles ss l par wire register
@@ -397,14 +397,14 @@ module _ (part : PlainComponent) (groups : ℕ) (islands : List PlainIsland) (ar
             act = union (Goes.act first) (ArmsGo.act later);
             together = an_arm (Goes.together first) (ArmsGo.together later);
             goes = λ g. (
-              (λ e. untrue e),
+              (λ e. never e),
               all_to_append (GoesIn both_act g) (ToHole (groups + g)) (drivers_of groups islands (arm_stand par wire register) (lowered part s l)) _
                   (holes_map (Goes.act first) (union (Goes.act first) (ArmsGo.act later)) (λ h on. union_left (Goes.act first) (ArmsGo.act later) h on) (drivers_of groups islands (arm_stand par wire register) (lowered part s l)) (Goes.goes first) g)
-                  ((λ e. untrue e), holes_map (ArmsGo.act later) (union (Goes.act first) (ArmsGo.act later)) (λ h on. union_right (Goes.act first) (ArmsGo.act later) h on) _ (ArmsGo.goes later) g),
+                  ((λ e. never e), holes_map (ArmsGo.act later) (union (Goes.act first) (ArmsGo.act later)) (λ h on. union_right (Goes.act first) (ArmsGo.act later) h on) _ (ArmsGo.goes later) g),
             );
             quiet = λ off g. (
-              (λ e. untrue e),
+              (λ e. never e),
               all_to_append (GoesIn nothing g) (ToHole (groups + g)) (drivers_of groups islands (arm_stand par wire register) (lowered part s l)) _ (Goes.quiet first (inl off) g)
-                  ((λ e. untrue e), ArmsGo.quiet later off g),
+                  ((λ e. never e), ArmsGo.quiet later off g),
             );
           }

@@ -15,7 +15,8 @@ use Rattle.cx_net.specs.NetMeaning.{NetState, below_cell, Node, APort, AWire, AH
 use Rattle.cx_net.specs.NetRuns.{IsWholeLook}
 use Rattle.cx_wiring.specs.NetNames.{DriversName, TreeNames, CellsName}
 use Rattle.cx_wiring_values.proofs.GrowLemmas.{Less, less_self, none_is_some, grows_map, grows_then, gather_grows, AroundLess, chain_grows, names_to}
-use Rattle.cx_wiring_values.proofs.GroundedRuns.{some_is}
+use Rattle.cx_net.proofs.NetTreeLemmas.{at_child}
+use Rattle.cx_bits.proofs.BitVectorLemmas.{some_is}
 
 -- an output of a component cell is one of the component
 output_there : (outputs n m : ℕ) → output_port outputs n ≡ AnOutput m → nat_lt m outputs ≡ true
@@ -97,16 +98,6 @@ TreeLess tree look more = (q : Path) (n : Node) → is_node tree q n ≡ true �
 abbrev CellLess : NetCells → ℕ → NetLook → NetLook → Type 0
 CellLess cells c look more = (q : Path) (n : Node) → is_node_below cells c q n ≡ true → Less (look q n) (more q n)
 
-child_is_node : (cells : NetCells) (c : ℕ) (child : NetInstance) → net_cell_at cells c ≡ AChild child → (q : Path) (n : Node) → is_node_below cells c q n ≡ is_node child q n
-child_is_node no_net_cells c child is q n = absurd cc
-child_is_node (a_row row rest) zero child is q n = absurd cc
-child_is_node (a_row row rest) (suc c) child is q n = child_is_node rest c child is q n
-child_is_node (a_child kid rest) zero child is q n = same kid child is
-  where
-    same : (x y : NetInstance) → AChild x ≡ AChild y → is_node x q n ≡ is_node y q n
-    same x y e = let f : x ≡ y = cc in ap (λ z. is_node z q n) f
-child_is_node (a_child kid rest) (suc c) child is q n = child_is_node rest c child is q n
-
 -- what stands around the child at a cell, where the ports of the cell are known
 around_grows : (part : PlainNetComponent) (cells : NetCells) (c : ℕ) (child : NetInstance) (look more : Node → Option BitVector) → net_cell_at cells c ≡ AChild child
     → ((n : Node) → is_own_node part cells n ≡ true → Less (look n) (more n)) → AroundLess (net_part child) (around_child c look) (around_child c more)
@@ -123,7 +114,7 @@ mutual
       → (path : Path) (n : Node) → is_node tree path n ≡ true → Less (net_step tree a s look path n) (net_step tree b s more path n)
   step_grows (NetNode part cells) names a b s look more around less [] n t =
       own_grows part cells names.0 a b s (look []) (more []) (λ c. look (c ∷ [])) (λ c. more (c ∷ [])) around (less [])
-      (λ c child is m u. less (c ∷ []) m (child_is_node cells c child is [] m ∙ u)) n t
+      (λ c child is m u. less (c ∷ []) m (at_child cells c child is [] m ∙ u)) n t
   step_grows (NetNode part cells) names a b s look more around less (c ∷ path) n t =
       below_grows cells names.1 c (around_child c (look [])) (around_child c (more [])) (below_cell c s) (λ q. look (c ∷ q)) (λ q. more (c ∷ q))
       (λ child is. around_grows part cells c child (look []) (more []) is (less [])) (λ q. less (c ∷ q)) path n t

@@ -2,7 +2,8 @@ use Rattle.std.proofs.Common.{◌<◌, length, ◌∙◌, arith}
 use Rattle.std.proofs.lemmas.List.{length-set}
 use Rattle.cx_prim.specs.CellStates.{words_of}
 use Rattle.cx_prim.specs.Table.{row_of}
-use Rattle.cx_cells.proofs.WordLemmas.{has_word, one_more, all_same}
+use Rattle.cx_cells.proofs.WordLemmas.{one_more, all_same}
+use Rattle.cx_prim.proofs.CellStatesLemmas.{has_word}
 use Rattle.cx_cells.proofs.memories.read_words.Goals as goal
 
 pub word-requires-clause-within : goal.word-requires-clause-within

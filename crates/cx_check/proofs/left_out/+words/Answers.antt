@@ -2,7 +2,8 @@ use Rattle.std.proofs.Common.{◌∙◌, sym, ap, option_map}
 use Rattle.cx_ast.specs.PlainStatements.{plain_block, plain_form, plain_statement, else_of, statements_of}
 use Rattle.cx_numbering.specs.NameRules.{visit_all, visit_block, visit_else, visit_parts}
 use Rattle.cx_check.specs.Unbuilt.{first_place, static_words, words_of}
-use Rattle.cx_check.proofs.PlaceLemmas.{step, words_of_all, both_past, if_parts, static_if_parts}
+use Rattle.cx_check.proofs.PlaceLemmas.{step, words_of_all, both_past}
+use Rattle.cx_numbering.proofs.NameRulesLemmas.{if_parts, static_if_parts}
 use Rattle.cx_check.proofs.left_out.+words.Goals as goal
 
 pub past_all-loop-statement-preserved : goal.past_all-loop-statement-preserved

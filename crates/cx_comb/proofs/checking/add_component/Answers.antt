@@ -3,15 +3,15 @@ use Rattle.std.proofs.lemmas.List.{length-map}
 use Rattle.cx_meaning.specs.Designs.{PlainComponent}
 use Rattle.cx_design.specs.PlainDesigns.{plain_design}
 use Rattle.cx_design.specs.PlainForms.{plain_component}
-use Rattle.cx_design_leads.proofs.NodeLemmas.{component_part}
 use Rattle.cx_comb.specs.CombBreaks.{component_breaks}
 use Rattle.cx_comb.proofs.BreakLemmas.{component_has}
+use Rattle.cx_rules.proofs.PortsLemmas.{part_is}
 use Rattle.cx_comb.proofs.checking.add_component.Goals as goal
 
 pub add_circles-requires : goal.add_circles-requires
 add_circles-requires c = record {
   within = c.requires.within;
-  count = c.in_ok-circles.ensures.value.count ∙ ap (λ (part : PlainComponent). length part.groups) (component_part (plain_design c.args.design.now) c.args.number);
+  count = c.in_ok-circles.ensures.value.count ∙ ap (λ (part : PlainComponent). length part.groups) (part_is (plain_design c.args.design.now) c.args.number);
 }
 
 pub returns : goal.returns

@@ -12,9 +12,10 @@ use Rattle.cx_rules.specs.RaceRule.{HasCycle}
 use Rattle.cx_design.specs.PlainDesigns.{plain_design}
 use Rattle.cx_design.specs.PlainForms.{plain_component, plain_group}
 use Rattle.cx_design_leads.specs.Edges.{HasEdges}
-use Rattle.cx_design_leads.proofs.NodeLemmas.{component_part, part_is}
+use Rattle.cx_design_leads.proofs.NodeLemmas.{part_is}
 use Rattle.cx_comb.proofs.CircleFacts.{all_circles, leads_graph}
 use Rattle.cx_comb.proofs.CycleLemmas.{bare_cycles, bare_found}
+use Rattle.cx_rules.proofs.PortsLemmas.{part_is as component_part}
 use Rattle.cx_comb.proofs.circles.find_circles.Goals as goal
 
 pub has_circle-requires : goal.has_circle-requires

@@ -9,7 +9,8 @@ use Rattle.cx_design.specs.PlainDesigns.{plain_design}
 use Rattle.cx_design_leads.specs.Nodes.{node_count}
 use Rattle.cx_comb.specs.Pruning.{IsKept}
 use Rattle.cx_comb.proofs.CircleFacts.{leads_graph}
-use Rattle.cx_comb.proofs.MarkFacts.{turned_graph, are_pruned}
+use Rattle.cx_comb.proofs.MarkFacts.{are_pruned}
+use Rattle.cx_graphs.proofs.GraphsLemmas.{turned_graph}
 use Rattle.cx_comb.proofs.pruning.pruned.Goals as goal
 
 pub turned-requires : goal.turned-requires

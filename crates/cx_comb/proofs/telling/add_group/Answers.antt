@@ -3,8 +3,8 @@ use Rattle.std.proofs.lemmas.List.{length-map}
 use Rattle.cx_meaning.specs.Designs.{PlainComponent, no_group, component_at, group_at}
 use Rattle.cx_design.specs.PlainDesigns.{plain_design}
 use Rattle.cx_design.specs.PlainForms.{plain_group}
-use Rattle.cx_comb.proofs.CircleFacts.{found_group}
 use Rattle.cx_comb.proofs.BreakLemmas.{group_told}
+use Rattle.cx_design.proofs.GroupsLemmas.{got_group}
 use Rattle.cx_comb.proofs.telling.add_group.Goals as goal
 
 pub bounds-groups-group : goal.bounds-groups-group
@@ -22,5 +22,5 @@ returns c =
     let here : g < length groups =
     subst (λ n. g < n) (sym (ap length c.as_slice-groups.ensures.value ∙ sym (length-map c.component.result.now.groups.items plain_group) ∙ ap (λ (p : PlainComponent). length p.groups) c.component.ensures.value)) c.requires.group in
     let is : plain_group x ≡ group_at (component_at d k) g =
-    found_group groups g x here c.index-groups-group.is ∙ ap (λ l. get_or (map plain_group l) g no_group) c.as_slice-groups.ensures.value ∙ ap (λ (p : PlainComponent). group_at p g) c.component.ensures.value in
+    got_group groups g x here c.index-groups-group.is ∙ ap (λ l. get_or (map plain_group l) g no_group) c.as_slice-groups.ensures.value ∙ ap (λ (p : PlainComponent). group_at p g) c.component.ensures.value in
     record { value = group_told d k g (plain_group x) c.args.found c.args.first.now c.add_break.new.first c.if-not-found.false is c.in_ok-add_break.ensures.value }

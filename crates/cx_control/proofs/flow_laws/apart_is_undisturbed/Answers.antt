@@ -1,6 +1,7 @@
 use Rattle.cx_meaning.specs.Instances.{tree_of, instance_at}
-use Rattle.cx_control.proofs.InstanceLemmas.{instance_ports, instance_outputs, source_in}
+use Rattle.cx_control.proofs.InstanceLemmas.{instance_ports, instance_outputs}
 use Rattle.cx_control.proofs.LeadsLemmas.{apart_assigns, apart_holes}
+use Rattle.cx_laws.proofs.SourceLemmas.{source_in}
 use Rattle.cx_control.proofs.flow_laws.apart_is_undisturbed.Goals as goal
 
 pub returns-clause-assigns : goal.returns-clause-assigns

@@ -2,7 +2,8 @@ use Rattle.std.proofs.Common.{rules, ◌≡◌, ◌+◌, ◌<◌, get_or, length
 use Rattle.cx_graphs.specs.Graphs.{edges_of}
 use Rattle.cx_meaning.specs.declared.ports.PortRef.TheVariants.{Cell}
 use Rattle.cx_meaning.specs.declared.ports.PlacedPort.{PlacedPort}
-use Rattle.cx_design_leads.proofs.EdgeLemmas.{get_same, in_take_more, take_more_has, more_ports}
+use Rattle.cx_design_leads.proofs.EdgeLemmas.{in_take_more, take_more_has, more_ports}
+use Rattle.cx_text.proofs.ListLaws.{get_same}
 use Rattle.cx_design_leads.proofs.assigns.add_ports.Goals as goal
 
 pub loop-port-preserved : goal.loop-port-preserved

@@ -3,7 +3,8 @@ use Rattle.cx_graphs.specs.Graphs.{edges_of}
 use Rattle.cx_prim.specs.Table.{row_of}
 use Rattle.cx_rules.specs.Ports.{component_of}
 use Rattle.cx_design.specs.PlainDesigns.{plain_design}
-use Rattle.cx_design_leads.proofs.EdgeLemmas.{cell_added, no_cell_added, nothing_row, instance_row}
+use Rattle.cx_design_leads.proofs.EdgeLemmas.{cell_added, no_cell_added}
+use Rattle.cx_meaning.proofs.InstancesLemmas.{nothing_row, instance_row}
 use Rattle.cx_design_leads.proofs.rows.add_cell.Goals as goal
 
 pub returns-in_ok-add_outputs-in-Primitive : goal.returns-in_ok-add_outputs-in-Primitive

@@ -1,7 +1,8 @@
 use Rattle.std.proofs.Common.{rules}
 use Rattle.std.proofs.lemmas.Option.{slice_get_past}
 use Rattle.cx_prim.specs.Table.{row_of}
-use Rattle.cx_design_parts.proofs.PortLemmas.{side_there, side_gone}
+use Rattle.cx_design_parts.proofs.CellLemmas.{side_there}
+use Rattle.cx_meaning.proofs.RowsLemmas.{side_gone}
 use Rattle.cx_design_parts.proofs.output_sides.side.Goals as goal
 
 pub returns-then-port-port_count : goal.returns-then-port-port_count

@@ -1,5 +1,6 @@
 use Rattle.std.proofs.Common.{◌≡◌, sym, ◌∙◌}
-use Rattle.cx_design_parts.proofs.CellLemmas.{side_there, side_gone}
+use Rattle.cx_design_parts.proofs.CellLemmas.{side_there}
+use Rattle.cx_meaning.proofs.RowsLemmas.{side_gone}
 use Rattle.cx_design_parts.proofs.sides.side.Goals as goal
 
 pub returns-in-Some : goal.returns-in-Some

@@ -1,6 +1,6 @@
 use Rattle.std.proofs.Common.{map, refl, arith}
 use Rattle.cx_text.specs.Loading.{plain_memory}
-use Rattle.cx_limits.proofs.Caps.{ended}
+use Rattle.cx_design_sizes.proofs.Caps.{ended}
 use Rattle.cx_driver.specs.Tried.{words_sum}
 use Rattle.cx_driver.proofs.trying.memories_sum.Goals as goal
 

@@ -1,6 +1,6 @@
 use Rattle.std.proofs.Common.{◌≤◌, ◌-◌, ◌^◌, ◌≡◌, ◌+◌, drop, map}
 use Rattle.cx_text.specs.Loading.{plain_memory}
-use Rattle.cx_limits.specs.Capped.{capped}
+use Rattle.cx_design_sizes.specs.Capped.{capped}
 use Rattle.cx_driver.specs.Tried.{words_sum}
 use Rattle.cx_driver.proofs.trying.memories_sum.Given as goal
 

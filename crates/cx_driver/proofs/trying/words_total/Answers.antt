@@ -1,5 +1,5 @@
 use Rattle.std.proofs.Common.{sum, refl, arith}
-use Rattle.cx_limits.proofs.Caps.{ended}
+use Rattle.cx_design_sizes.proofs.Caps.{ended}
 use Rattle.cx_driver.proofs.trying.words_total.Goals as goal
 
 pub returns : goal.returns

@@ -5,8 +5,8 @@ use Rattle.cx_state.specs.ReadStates.{state_in}
 use Rattle.cx_eval_network.specs.Networks.{active_at, path_at}
 use Rattle.cx_eval_network.proofs.NetworkLemmas.{number_at}
 use Rattle.cx_eval_network.specs.Askings.{asked_of}
-use Rattle.cx_eval_network.proofs.AskLemmas.{not_bad}
 use Rattle.cx_eval.proofs.OwnLemmas.{own_there, own_wide, seen_is}
+use Rattle.cx_rules.proofs.WidthRulesLemmas.{not_bad}
 use Rattle.cx_eval.proofs.laws.seen_ports_are_wide.Goals as goal
 
 pub returns : goal.returns

@@ -1,6 +1,6 @@
 use Rattle.std.proofs.Common.{◌<◌, length, refl, sym, ap, ◌∙◌, subst, arith}
 use Rattle.cx_prim.specs.Table.{row_of}
-use Rattle.cx_prim.specs.TableLaws.{row_of_lawful}
+use Rattle.cx_prim.proofs.TableLaws.{row_of_lawful}
 use Rattle.cx_meaning.specs.Cycles.{Stops, enables, looks_at}
 use Rattle.cx_eval_drives.specs.Gathers.{gathered, ports_seen, wanted_at}
 use Rattle.cx_eval_drives.proofs.GatherLemmas.{given_fits}

@@ -9,7 +9,8 @@ use Rattle.cx_eval_cycle.specs.Rooms.{HaveRooms}
 use Rattle.cx_eval_cycle.specs.Steps.{CanStepAt, HoldFitting, after_room}
 use Rattle.cx_eval.specs.Tables.{kept_of}
 use Rattle.cx_eval.proofs.CycleLemmas.{own_fitting, own_long}
-use Rattle.cx_eval.proofs.TableLemmas.{items_with, own_state}
+use Rattle.cx_eval.proofs.TableLemmas.{items_with}
+use Rattle.cx_state.proofs.StatesLemmas.{row_is}
 use Rattle.cx_eval.proofs.stepping.step_in.Goals as goal
 
 pub step_listed-requires : goal.step_listed-requires
@@ -20,7 +21,7 @@ step_listed-requires c =
     let own = c.index_mut-own.result.now in
     let rooms = c.args.rooms.now in
     let inside : n < length old = subst (λ m. n < m) (sym c.requires.state.count) c.requires.instance in
-    let held = ap (λ i. i.cells) (own_state c.args.state.now.instances.items n own inside c.index_mut-own.ensures.value) ∙ sym c.deref_mut.ensures.value in
+    let held = ap (λ i. i.cells) (row_is c.args.state.now.instances.items n own inside c.index_mut-own.ensures.value) ∙ sym c.deref_mut.ensures.value in
     let kept = sym (c.deref.ensures.value ∙ c.stepping_of-stepping.ensures.kept) in
     record {
       rooms = subst (λ (ks : List (Option SteppingCell)). HaveRooms ks rooms) kept c.requires.rooms;
@@ -41,7 +42,7 @@ returns c =
     let new = c.step_listed.new.held in
     let inside : n < length old = subst (λ m. n < m) (sym c.requires.state.count) c.requires.instance in
     let count : length new ≡ own.cells.len = omega (arith, c.step_listed.auto.held, c.deref_mut.ensures.len) in
-    let held = ap (λ i. i.cells) (own_state c.args.state.now.instances.items n own inside c.index_mut-own.ensures.value) ∙ sym c.deref_mut.ensures.value in
+    let held = ap (λ i. i.cells) (row_is c.args.state.now.instances.items n own inside c.index_mut-own.ensures.value) ∙ sym c.deref_mut.ensures.value in
     let kept = c.deref.ensures.value ∙ c.stepping_of-stepping.ensures.kept in
     record {
       stepped = record {

@@ -1,7 +1,7 @@
 use Rattle.std.proofs.Common.{sym, ap, ◌∙◌}
 use Rattle.cx_prim.specs.Rows.{is_enable_side}
 use Rattle.cx_prim.specs.Table.{row_of}
-use Rattle.cx_eval_cycle.proofs.LookLemmas.{side_at}
+use Rattle.cx_meaning.proofs.RowsLemmas.{side_at}
 use Rattle.cx_eval_cycle.proofs.enabling.enables.Goals as goal
 
 pub returns : goal.returns

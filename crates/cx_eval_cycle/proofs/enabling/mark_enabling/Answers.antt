@@ -2,7 +2,7 @@ use Rattle.std.proofs.Common.{◌∙◌, arith}
 use Rattle.std.proofs.lemmas.List.{length-set}
 use Rattle.cx_prim.specs.Table.{row_of}
 use Rattle.cx_meaning.specs.Cycles as cycles
-use Rattle.cx_eval_cycle.proofs.LookLemmas.{marked_next}
+use Rattle.cx_text.proofs.ListLaws.{marked_next}
 use Rattle.cx_eval_cycle.proofs.enabling.mark_enabling.Goals as goal
 
 pub loop-port-preserved : goal.loop-port-preserved

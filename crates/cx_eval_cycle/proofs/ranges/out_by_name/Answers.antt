@@ -1,6 +1,6 @@
 use Rattle.std.proofs.Common.{◌≡◌, sym, ap, ◌∙◌, subst}
 use Rattle.cx_prim.specs.PrimitiveNames.{IsNamed, name_text}
-use Rattle.cx_limits.specs.Dimensions.{dimensions_of}
+use Rattle.cx_design_sizes.specs.Dimensions.{dimensions_of}
 use Rattle.cx_eval_cycle.specs.Ranges.{enable_of, out_by}
 use Rattle.cx_eval_cycle.proofs.RangeLemmas.{found_range, unnamed_range}
 use Rattle.cx_eval_cycle.proofs.ranges.out_by_name.Goals as goal

@@ -4,8 +4,8 @@ use Rattle.cx_meaning.specs.Active.{source_order}
 use Rattle.cx_meaning.specs.Designs.{component_at}
 use Rattle.cx_rules.specs.Ports.{component_of}
 use Rattle.cx_design.specs.PlainDesigns.{plain_design}
-use Rattle.cx_design_leads.proofs.NodeLemmas.{within}
 use Rattle.cx_design_parts.specs.Plain.{plain_owned}
+use Rattle.cx_design_leads.proofs.NodeLemmas.{within}
 use Rattle.cx_eval_drives.specs.Drivers.{ArePartDrivers, lists_of}
 use Rattle.cx_eval_drives.proofs.DriverLemmas.{bare_lists, bare_more, none_added, one_added, taken_more}
 use Rattle.cx_eval_drives.proofs.driving.part_drivers.Goals as goal

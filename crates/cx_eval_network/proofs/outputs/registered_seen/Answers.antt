@@ -1,6 +1,6 @@
 use Rattle.std.proofs.Common.{◌≡◌, ◌≤◌, [], length, refl, sym, ap, ◌∙◌, subst, take, arith}
 use Rattle.cx_prim.specs.Table.{row_of}
-use Rattle.cx_prim.specs.TableLaws.{row_of_lawful}
+use Rattle.cx_prim.proofs.TableLaws.{row_of_lawful}
 use Rattle.cx_prim.specs.declared.ports.Side.TheVariants as sides
 use Rattle.cx_meaning.specs.Sights as sights
 use Rattle.cx_eval_network.proofs.ShortLemmas.{rows_are_short}

@@ -8,7 +8,8 @@ use Rattle.cx_eval_network.proofs.NetworkLemmas.{number_at}
 use Rattle.cx_eval_network.proofs.ValueLemmas.{lead_shown}
 use Rattle.cx_eval_network.specs.Asked as asked
 use Rattle.cx_eval_network.specs.Askings.{asked_of}
-use Rattle.cx_eval_network.proofs.AskLemmas.{cells_held, held_widths, not_bad, place_stands, read_leads, read_there, read_wide, steps_alike}
+use Rattle.cx_eval_network.proofs.AskLemmas.{cells_held, held_widths, place_stands, read_leads, read_there, read_wide, steps_alike}
+use Rattle.cx_rules.proofs.WidthRulesLemmas.{not_bad}
 use Rattle.cx_eval_network.proofs.values.found_value.Goals as goal
 
 pub step_seen-requires-clause-place : goal.step_seen-requires-clause-place

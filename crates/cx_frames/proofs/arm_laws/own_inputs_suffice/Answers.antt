@@ -1,9 +1,10 @@
 use Rattle.cx_meaning.specs.Instances.{Instance, instance_at, tree_of}
 use Rattle.cx_rules.specs.Circles.{AreAcyclic}
 use Rattle.cx_rules.proofs.CircleLemmas.{instance_acyclic, instance_group}
-use Rattle.cx_frames.proofs.CircleFrames.{bare_acyclic, deeper_acyclic, group_acyclic}
+use Rattle.cx_frames.proofs.CircleFrames.{group_acyclic}
 use Rattle.cx_frames.proofs.InputRules.{Owns, owns_instance}
 use Rattle.cx_frames.proofs.InputRuns.{control_own}
+use Rattle.cx_rules.proofs.CirclesLemmas.{own_acyclic, cells_below}
 use Rattle.cx_frames.proofs.arm_laws.own_inputs_suffice.Goals as goal
 
 pub returns : goal.returns
@@ -11,5 +12,5 @@ returns c d path held other s n design accepted same =
     let i : Instance = instance_at (tree_of d) path in
     let owns : Owns i = owns_instance d design path in
     let circles : AreAcyclic i = instance_acyclic d accepted path in
-    control_own i held other same owns.sources (deeper_acyclic i circles) (bare_acyclic i circles) (λ g. group_acyclic i circles (λ h there. instance_group d accepted path h there) g)
+    control_own i held other same owns.sources (cells_below i circles) (own_acyclic i circles) (λ g. group_acyclic i circles (λ h there. instance_group d accepted path h there) g)
     (λ v j. record { tests = λ p e. owns.tests v p j e; acyclic = λ h t. c.accepted_entries_are_acyclic.ensures d path v h t design accepted j }) s n

@@ -5,7 +5,6 @@ use Rattle.cx_design.specs.declared.statements.Form.TheFolds.{fold-roll-Form, fo
 use Rattle.cx_design.specs.declared.statements.Form.TheVariants as forms
 use Rattle.cx_meaning.specs.Designs.{PlainForm, PlainStatement, Placed, Seq}
 use Rattle.cx_net.specs.PlainNets.{plain_net_drivers, plain_net_expr}
-use Rattle.cx_static.proofs.ControlLemmas.{drop_item}
 use Rattle.cx_wiring.specs.Control.{arms_drivers, drivers_of, form_drivers}
 use Rattle.cx_wiring.specs.Counts.{wires_in, arms_registers}
 use Rattle.cx_wiring.specs.Stands.{behind, ends, stands}
@@ -14,6 +13,7 @@ use Rattle.cx_fsm.specs.Drafts.{Adds, IsWhole}
 use Rattle.cx_fsm.specs.PlainStands.{beside, islands_of, past, plain_stand}
 use Rattle.cx_fsm.proofs.ControlLemmas.{seq_begins, seq_step, next_begins, next_step, arms_step, over_step, par_made, repeat_made}
 use Rattle.cx_fsm.proofs.StandLemmas.{past_arm, past_none}
+use Rattle.cx_text.proofs.ListLaws.{drop_item}
 use Rattle.cx_fsm.proofs.control.+control.Goals as goal
 
 pub seq-loop-part-init : goal.seq-loop-part-init

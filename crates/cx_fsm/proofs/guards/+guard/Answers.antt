@@ -3,10 +3,10 @@ use Rattle.std.proofs.lemmas.List.{drop_all, map_push}
 use Rattle.cx_meaning.specs.Designs.{guards_of}
 use Rattle.cx_design.specs.PlainForms.{plain_guard}
 use Rattle.cx_net.specs.PlainNets.{plain_net_drivers, plain_net_expr}
-use Rattle.cx_static.proofs.ControlLemmas.{drop_item}
 use Rattle.cx_fsm.specs.Drafts.{IsWhole}
 use Rattle.cx_fsm.specs.Offsets.{offset_of}
 use Rattle.cx_fsm.proofs.PartLemmas.{joined_none, next_expr, next_wires, next_drivers}
+use Rattle.cx_text.proofs.ListLaws.{drop_item}
 use Rattle.cx_fsm.proofs.guards.+guard.Goals as goal
 
 pub parts-loop-guard-preserved : goal.parts-loop-guard-preserved

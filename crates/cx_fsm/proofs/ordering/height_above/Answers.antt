@@ -1,10 +1,10 @@
 use Rattle.std.proofs.Common.{◌≡◌, ◌∷◌, ◌+◌, [], ◌∙◌, max, drop, map, ap, arith}
 use Rattle.std.proofs.lemmas.List.{drop_all}
 use Rattle.cx_design.specs.PlainForms.{plain_cell, plain_kind}
-use Rattle.cx_static.proofs.ControlLemmas.{drop_item}
 use Rattle.cx_fsm.specs.Rounds as rounds
 use Rattle.cx_fsm.proofs.RoundLemmas.{above_part, above_primitive}
 use Rattle.cx_fsm.proofs.ordering.height_above.Goals as goal
+use Rattle.cx_text.proofs.ListLaws.{drop_item}
 use Rattle.cx_fsm.proofs.ordering.height_above.Goals.{in-Part+in_ok-beyond, in_default}
 
 pub loop-cell-preserved : goal.loop-cell-preserved

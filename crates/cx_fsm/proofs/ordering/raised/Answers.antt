@@ -1,8 +1,8 @@
 use Rattle.std.proofs.Common.{◌≡◌, ◌∷◌, ◌+◌, ◌++◌, [], ◌∙◌, append_assoc, drop, map, ap}
 use Rattle.cx_design.specs.PlainForms.{plain_cell}
-use Rattle.cx_static.proofs.ControlLemmas.{drop_item}
 use Rattle.cx_static.specs.PlainLowered.{plain_lowered, plain_lowereds}
 use Rattle.cx_fsm.specs.Rounds.{height_above}
+use Rattle.cx_text.proofs.ListLaws.{drop_item}
 use Rattle.cx_fsm.proofs.ordering.raised.Goals as goal
 
 pub loop-component-preserved : goal.loop-component-preserved

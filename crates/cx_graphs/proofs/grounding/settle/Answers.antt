@@ -3,8 +3,9 @@ use Rattle.std.proofs.lemmas.List.{length-map, length-append}
 use Rattle.cx_graphs.specs.Graphs.{In, edges_of, targets_of, unmarked}
 use Rattle.cx_graphs.specs.GroundSearch.{IsOnWay}
 use Rattle.cx_graphs.proofs.EdgeLemmas.{targets_are}
-use Rattle.cx_graphs.proofs.Takes.{in_at, get_or_any, marked_as, fewer}
+use Rattle.cx_graphs.proofs.Takes.{in_at, marked_as, fewer}
 use Rattle.cx_graphs.proofs.SearchLemmas.{settles_marked, settles_waiting, settles_marking}
+use Rattle.cx_text.proofs.ListLaws.{get_same}
 use Rattle.cx_graphs.proofs.grounding.settle.Goals as goal
 
 pub first_unmarked-next-requires : goal.first_unmarked-next-requires
@@ -41,7 +42,7 @@ returns-then-next-edges-clause-way c = λ todo way.
     subst (λ w. IsOnWay g search.marks.items (slice_set search.known.items node next) w search.fresh.items todo) (sym c.in_ok-add_link.ensures.value)
     (settles_waiting g search.marks.items search.known.items (edges_of search.waiting.items) search.fresh.items todo node way next need
     (marked_as c.as_slice-2.result.now search.marks.items edges (targets_of g node) c.index.result.now (get_or search.known.items node 0) next c.as_slice-2.ensures.value targets
-    (c.index.ensures ∙ get_or_any search.known.items node _ 0 within_known) c.first_unmarked-next.ensures.met (way.met node))
+    (c.index.ensures ∙ get_same search.known.items node _ 0 within_known) c.first_unmarked-next.ensures.met (way.met node))
     (c.requires.graph node need edge) edge bare)
 
 pub returns-clause-way : goal.returns-clause-way
@@ -62,7 +63,7 @@ returns-clause-way c = λ todo way.
     (subst (λ f. IsOnWay g marks known waiting f todo) (sym c.in_ok-mark.ensures.fresh)
     (settles_marking g search.marks.items search.known.items waiting search.fresh.items todo node way next
     (marked_as c.as_slice-2.result.now search.marks.items edges (targets_of g node) c.index.result.now (get_or search.known.items node 0) next c.as_slice-2.ensures.value targets
-    (c.index.ensures ∙ get_or_any search.known.items node _ 0 within_known) c.first_unmarked-next.ensures.met (way.met node))
+    (c.index.ensures ∙ get_same search.known.items node _ 0 within_known) c.first_unmarked-next.ensures.met (way.met node))
     (subst (λ l. length l ≤ next) targets c.if-next-edges.false)))))
 
 pub returns-clause-less : goal.returns-clause-less

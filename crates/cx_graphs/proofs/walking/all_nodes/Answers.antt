@@ -1,6 +1,7 @@
 use Rattle.std.proofs.Common.{◌≡◌, ◌<◌, ◌∷◌, [], ◌++◌, ⊎_elim, sym, ◌∙◌, subst, arith}
 use Rattle.cx_graphs.specs.Graphs.{In}
-use Rattle.cx_graphs.proofs.Lists.{same_or, in_before, in_last, the_last}
+use Rattle.cx_graphs.proofs.Lists.{in_before, in_last, the_last}
+use Rattle.cx_text.proofs.NumberLaws.{same_or_not}
 use Rattle.cx_graphs.proofs.walking.all_nodes.Goals as goal
 
 pub loop-node-preserved : goal.loop-node-preserved
@@ -19,5 +20,5 @@ loop-node-preserved c =
           (⊎_elim
           (λ e. subst (In (old ++ node ∷ [])) (same ∙ e) (the_last old node))
           (λ d. let below : n < k = omega (arith, d) in in_before old (node ∷ []) n (c.loop-node.invariant.all n below))
-          (same_or k n));
+          (same_or_not k n));
     }

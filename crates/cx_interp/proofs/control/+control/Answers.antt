@@ -11,7 +11,7 @@ use Rattle.cx_turns.proofs.StandLemmas.{test_port, test_comb, enabled_group}
 use Rattle.cx_turns.proofs.GroupLemmas.{row_ascends, row_lists, row_within}
 use Rattle.cx_design.specs.declared.statements.Form.TheFolds.{fold-roll-Form, fold-roll-Statement}
 use Rattle.cx_design.specs.declared.statements.Form.TheVariants as forms
-use Rattle.cx_turns.proofs.PartLemmas.{yes_stands, no_stands, part_stands, part_falls, take_all}
+use Rattle.cx_turns.proofs.PartLemmas.{yes_stands, no_stands, part_stands, part_falls}
 use Rattle.cx_turns.specs.Groups.{ListWithin}
 use Rattle.cx_turns.proofs.ChildLemmas.{callee_part, child_instance, child_less, control_stands}
 use Rattle.cx_interp.specs.declared.answers.Answer.TheVariants.{End, Fault, More}
@@ -24,6 +24,7 @@ use Rattle.cx_interp.proofs.EnableLemmas.{enable_turns}
 use Rattle.cx_interp.proofs.ControlLemmas.{empty_form, timed_form, if_yes, if_no, if_unclear, if_no_turn, repeat_none, repeat_start, repeat_after, repeat_stop, repeat_end, seq_empty, seq_start, seq_next, seq_stop, seq_ended, while_start, while_fails, while_unclear, while_spent, while_body, while_body_stops}
 use Rattle.cx_interp.specs.Callees.{child_does}
 use Rattle.cx_interp.proofs.CallLemmas.{done_lifted, enable_call}
+use Rattle.cx_text.proofs.ListLaws.{take_all}
 use Rattle.cx_interp.proofs.control.+control.Goals as goal
 
 pub run_form-returns-in-Empty-clause-done : goal.run_form-returns-in-Empty-clause-done

@@ -2,8 +2,9 @@ use Rattle.std.proofs.Common.{rules}
 use Rattle.cx_meaning.specs.Instances.{tree_of}
 use Rattle.cx_design.specs.PlainForms.{plain_statement}
 use Rattle.cx_turns.specs.Machines.{design_of, rows_of}
-use Rattle.cx_turns.proofs.ChildLemmas.{control_stands, main_there}
+use Rattle.cx_turns.proofs.ChildLemmas.{control_stands}
 use Rattle.cx_interp.proofs.RunLemmas.{main_answered}
+use Rattle.cx_meaning.proofs.InstancesLemmas.{main_there}
 use Rattle.cx_interp.proofs.interp.run_main.Goals as goal
 
 pub returns-clause-answered : goal.returns-clause-answered

@@ -1,7 +1,7 @@
 use Rattle.std.proofs.Common.{refl, arith}
 use Rattle.cx_design.specs.PlainForms.{plain_statements}
 use Rattle.cx_interp_islands.specs.Rooms as plain
-use Rattle.cx_limits.proofs.Caps.{ended}
+use Rattle.cx_design_sizes.proofs.Caps.{ended}
 use Rattle.cx_interp_islands.proofs.counts.+groups.Goals as goal
 
 pub groups_in-returns : goal.groups_in-returns

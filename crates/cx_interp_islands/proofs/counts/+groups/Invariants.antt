@@ -1,7 +1,7 @@
 use Rattle.std.proofs.Common.{◌≤◌, ◌-◌, ◌^◌, ◌≡◌, ◌+◌, drop}
 use Rattle.cx_design.specs.PlainForms.{plain_statements}
 use Rattle.cx_interp_islands.specs.Rooms as plain
-use Rattle.cx_limits.specs.Capped.{capped}
+use Rattle.cx_design_sizes.specs.Capped.{capped}
 use Rattle.cx_interp_islands.proofs.counts.+groups.Given as goal
 
 abbrev pub invariant-groups_in-loop-statement : goal.invariant-groups_in-loop-statement

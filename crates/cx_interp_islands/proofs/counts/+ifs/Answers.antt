@@ -1,7 +1,7 @@
 use Rattle.std.proofs.Common.{refl, arith}
 use Rattle.cx_design.specs.PlainForms.{plain_statements}
 use Rattle.cx_laws.specs.Samples as plain
-use Rattle.cx_limits.proofs.Caps.{ended}
+use Rattle.cx_design_sizes.proofs.Caps.{ended}
 use Rattle.cx_interp_islands.proofs.counts.+ifs.Goals as goal
 
 pub ifs_in-returns : goal.ifs_in-returns

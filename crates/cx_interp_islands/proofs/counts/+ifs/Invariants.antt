@@ -1,7 +1,7 @@
 use Rattle.std.proofs.Common.{◌≤◌, ◌-◌, ◌^◌, ◌≡◌, ◌+◌, drop}
 use Rattle.cx_design.specs.PlainForms.{plain_statements}
 use Rattle.cx_laws.specs.Samples as plain
-use Rattle.cx_limits.specs.Capped.{capped}
+use Rattle.cx_design_sizes.specs.Capped.{capped}
 use Rattle.cx_interp_islands.proofs.counts.+ifs.Given as goal
 
 abbrev pub invariant-ifs_in-loop-statement : goal.invariant-ifs_in-loop-statement

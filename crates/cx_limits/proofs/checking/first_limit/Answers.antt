@@ -3,9 +3,9 @@ use Rattle.std.proofs.Math.ListN.{drop_of_length-le}
 use Rattle.cx_design.specs.PlainForms.{plain_component}
 use Rattle.cx_meaning.specs.Instances.{tree_of}
 use Rattle.cx_design.specs.PlainDesigns.{plain_design}
-use Rattle.cx_limits.specs.Tallies.{tally_of}
+use Rattle.cx_design_sizes.specs.Tallies.{tally_of}
 use Rattle.cx_limits.specs.Scan.{past_parts}
-use Rattle.cx_limits.proofs.StepLemmas.{past_parts_step}
+use Rattle.cx_limits.proofs.ScanLemmas.{past_parts_step}
 use Rattle.cx_limits.proofs.checking.first_limit.Goals as goal
 
 pub loop-number-preserved : goal.loop-number-preserved

@@ -4,8 +4,9 @@ use Rattle.cx_meaning.specs.Designs.{PlainForm, PlainStatement, If, StaticIf}
 use Rattle.cx_design.specs.declared.statements.Form.TheFolds.{fold-roll-Form}
 use Rattle.cx_design.specs.declared.statements.Form.TheVariants.{rolls-If, rolls-StaticIf}
 use Rattle.cx_rules.specs.Items.{Branch, below_dynamic, visit_parts}
-use Rattle.cx_limits.specs.Scan.{context_of, past_statements}
-use Rattle.cx_limits.proofs.StepLemmas.{past_all_step, both_past}
+use Rattle.cx_design_sizes.specs.StatementSizes.{context_of}
+use Rattle.cx_limits.specs.Scan.{past_statements}
+use Rattle.cx_limits.proofs.ScanLemmas.{past_all_step, both_past}
 use Rattle.cx_limits.proofs.statements.+statement.Goals as goal
 
 pub past_all-loop-statement-preserved : goal.past_all-loop-statement-preserved

@@ -1,7 +1,8 @@
 use Rattle.std.proofs.Common.{◌≡◌, drop}
 use Rattle.cx_design.specs.PlainForms.{plain_component, plain_statements}
 use Rattle.cx_rules.specs.Items.{visit_all}
-use Rattle.cx_limits.specs.Scan.{context_of, past_statements}
+use Rattle.cx_design_sizes.specs.StatementSizes.{context_of}
+use Rattle.cx_limits.specs.Scan.{past_statements}
 use Rattle.cx_limits.proofs.statements.+statement.Given as goal
 
 abbrev pub invariant-past_all-loop-statement : goal.invariant-past_all-loop-statement

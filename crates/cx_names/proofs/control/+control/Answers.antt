@@ -6,10 +6,11 @@ use Rattle.cx_design.specs.declared.statements.Form.TheFolds.{fold-roll-Form}
 use Rattle.cx_design.specs.declared.statements.Form.TheVariants as forms
 use Rattle.cx_design.specs.PlainForms.{form_step, statement_step, plain_form, plain_statement, plain_group}
 use Rattle.cx_numbering.specs.DesignOf.{invokes_in, invokes_of, invokes_else, form_of, else_of}
-use Rattle.cx_names_scopes.proofs.NameLemmas.{drop_item}
 use Rattle.cx_names.specs.Sites.{tree_at, part_at}
 use Rattle.cx_names.specs.Added.{added, invokes_at}
-use Rattle.cx_names.proofs.ControlLemmas.{added_append, added_length, one_more, added_more, joined_none, if_form, static_if_form, if_parts, static_if_parts}
+use Rattle.cx_names.proofs.ControlLemmas.{added_append, added_length, one_more, added_more, joined_none, if_parts, static_if_parts}
+use Rattle.cx_text.proofs.ListLaws.{drop_item}
+use Rattle.cx_ast.proofs.PlainStatementsLemmas.{if_form, static_if_form}
 use Rattle.cx_names.proofs.control.+control.Goals as goal
 
 pub form-returns-in_ok-no-in-If-clause-value : goal.form-returns-in_ok-no-in-If-clause-value

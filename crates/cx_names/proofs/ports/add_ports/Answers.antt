@@ -1,7 +1,8 @@
 use Rattle.std.proofs.Common.{◌≡◌, ◌∷◌, ◌+◌, sym, ◌∙◌, drop, map, arith}
 use Rattle.cx_ast.specs.PlainTree.{plain_port}
-use Rattle.cx_names_scopes.proofs.NameLemmas.{ports_step, drop_item}
+use Rattle.cx_names_scopes.proofs.NameLemmas.{ports_step}
 use Rattle.cx_names.proofs.PortLemmas.{counted_step}
+use Rattle.cx_text.proofs.ListLaws.{drop_item}
 use Rattle.cx_names.proofs.ports.add_ports.Goals as goal
 
 pub loop-port-preserved : goal.loop-port-preserved

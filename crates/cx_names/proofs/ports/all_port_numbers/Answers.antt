@@ -1,8 +1,8 @@
 use Rattle.std.proofs.Common.{◌≡◌, ◌∷◌, ◌+◌, drop, map, [], append-nil}
 use Rattle.std.proofs.lemmas.List.{drop_all}
 use Rattle.cx_ast.specs.PlainTree.{plain_component}
-use Rattle.cx_names_scopes.proofs.NameLemmas.{drop_item}
 use Rattle.cx_names.proofs.PortLemmas.{all_step}
+use Rattle.cx_text.proofs.ListLaws.{drop_item}
 use Rattle.cx_names.proofs.ports.all_port_numbers.Goals as goal
 
 pub loop-part-preserved : goal.loop-part-preserved

@@ -1,7 +1,7 @@
 use Rattle.std.proofs.Common.{map, refl, arith}
 use Rattle.cx_design.specs.PlainForms.{plain_component}
 use Rattle.cx_rules.specs.Sizes.{sizes_of}
-use Rattle.cx_limits.proofs.Caps.{ended}
+use Rattle.cx_design_sizes.proofs.Caps.{ended}
 use Rattle.cx_names.proofs.resolving.total_size.Goals as goal
 
 pub returns : goal.returns

@@ -3,8 +3,9 @@ use Rattle.cx_ast.specs.PlainTree.{plain_cell}
 use Rattle.cx_numbering.specs.NameRules.{cell_breaks}
 use Rattle.cx_names_scopes.specs.Scopes.{tree_in, part_in}
 use Rattle.cx_names_parts.specs.Leading.{StandsIn}
-use Rattle.cx_names_rules.proofs.FoundLemmas.{item_step, drop_item}
+use Rattle.cx_names_rules.proofs.FoundLemmas.{item_step}
 use Rattle.cx_names_parts.proofs.CellLemmas.{stands_at}
+use Rattle.cx_text.proofs.ListLaws.{drop_item}
 use Rattle.cx_names_parts.proofs.cells.cells.Goals as goal
 
 pub cell_break-requires-clause-stands : goal.cell_break-requires-clause-stands

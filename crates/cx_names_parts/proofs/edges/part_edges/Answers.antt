@@ -1,8 +1,8 @@
 use Rattle.std.proofs.Common.{◌≡◌, ◌∷◌, ◌+◌, drop, map}
 use Rattle.cx_ast.specs.PlainTree.{plain_cell}
-use Rattle.cx_names_scopes.proofs.NameLemmas.{drop_item}
 use Rattle.cx_names_scopes.specs.Scopes.{tree_in}
 use Rattle.cx_names_parts.proofs.Steps.{cell_step}
+use Rattle.cx_text.proofs.ListLaws.{drop_item}
 use Rattle.cx_names_parts.proofs.edges.part_edges.Goals as goal
 
 pub loop-cell-preserved : goal.loop-cell-preserved

@@ -1,6 +1,7 @@
 use Rattle.std.proofs.Common.{◌≡◌, ◌∷◌, ◌+◌, drop}
 use Rattle.cx_numbering.specs.NameRules.{import_breaks}
-use Rattle.cx_names_rules.proofs.FoundLemmas.{item_step, drop_item}
+use Rattle.cx_names_rules.proofs.FoundLemmas.{item_step}
+use Rattle.cx_text.proofs.ListLaws.{drop_item}
 use Rattle.cx_names_parts.proofs.first.imports.Goals as goal
 
 pub loop-item-preserved : goal.loop-item-preserved

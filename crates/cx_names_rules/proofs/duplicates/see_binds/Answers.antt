@@ -1,7 +1,8 @@
 use Rattle.std.proofs.Common.{◌≡◌, ◌∷◌, ◌+◌, [], drop, refl}
 use Rattle.std.proofs.lemmas.List.{drop_all}
 use Rattle.cx_numbering.specs.NameRules.{named, bind_names}
-use Rattle.cx_names_rules.proofs.FoundLemmas.{sees_start, sees_step, drop_item}
+use Rattle.cx_names_rules.proofs.FoundLemmas.{sees_start, sees_step}
+use Rattle.cx_text.proofs.ListLaws.{drop_item}
 use Rattle.cx_names_rules.proofs.duplicates.see_binds.Goals as goal
 
 pub loop-bind-init : goal.loop-bind-init

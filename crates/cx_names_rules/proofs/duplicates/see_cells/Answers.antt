@@ -2,7 +2,8 @@ use Rattle.std.proofs.Common.{◌≡◌, ◌∷◌, ◌+◌, [], drop, map, refl
 use Rattle.std.proofs.lemmas.List.{drop_all}
 use Rattle.cx_ast.specs.PlainTree.{plain_cell}
 use Rattle.cx_numbering.specs.NameRules.{named}
-use Rattle.cx_names_rules.proofs.FoundLemmas.{sees_start, sees_step, drop_item}
+use Rattle.cx_names_rules.proofs.FoundLemmas.{sees_start, sees_step}
+use Rattle.cx_text.proofs.ListLaws.{drop_item}
 use Rattle.cx_names_rules.proofs.duplicates.see_cells.Goals as goal
 
 pub loop-cell-init : goal.loop-cell-init

@@ -2,7 +2,8 @@ use Rattle.std.proofs.Common.{◌≡◌, ◌∷◌, ◌+◌, [], drop, map, refl
 use Rattle.std.proofs.lemmas.List.{drop_all}
 use Rattle.cx_ast.specs.PlainTree.{plain_port}
 use Rattle.cx_numbering.specs.NameRules.{named}
-use Rattle.cx_names_rules.proofs.FoundLemmas.{sees_start, sees_step, drop_item}
+use Rattle.cx_names_rules.proofs.FoundLemmas.{sees_start, sees_step}
+use Rattle.cx_text.proofs.ListLaws.{drop_item}
 use Rattle.cx_names_rules.proofs.duplicates.see_ports.Goals as goal
 
 pub loop-port-init : goal.loop-port-init

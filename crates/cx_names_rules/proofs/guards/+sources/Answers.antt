@@ -2,7 +2,8 @@ use Rattle.std.proofs.Common.{◌≡◌, ◌∷◌, ◌+◌, drop}
 use Rattle.cx_ast.specs.PlainGuards.{plain_guard, plain_guards, guards_of}
 use Rattle.cx_numbering.specs.NameRules.{source_breaks, operands_of, operands_in}
 use Rattle.cx_names_scopes.specs.Scopes.{tree_in, part_in}
-use Rattle.cx_names_rules.proofs.FoundLemmas.{parts_step, drop_item}
+use Rattle.cx_names_rules.proofs.FoundLemmas.{parts_step}
+use Rattle.cx_text.proofs.ListLaws.{drop_item}
 use Rattle.cx_names_rules.proofs.guards.+sources.Goals as goal
 
 pub all_sources-loop-guard-preserved : goal.all_sources-loop-guard-preserved

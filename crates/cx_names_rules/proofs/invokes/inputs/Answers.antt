@@ -1,7 +1,8 @@
 use Rattle.std.proofs.Common.{◌≡◌, ◌∷◌, ◌+◌, drop}
 use Rattle.cx_numbering.specs.NameRules.{input_breaks}
 use Rattle.cx_names_scopes.specs.Scopes.{tree_in, part_in, kind_of}
-use Rattle.cx_names_rules.proofs.FoundLemmas.{item_step, drop_item}
+use Rattle.cx_names_rules.proofs.FoundLemmas.{item_step}
+use Rattle.cx_text.proofs.ListLaws.{drop_item}
 use Rattle.cx_names_rules.proofs.invokes.inputs.Goals as goal
 
 pub loop-bind-preserved : goal.loop-bind-preserved

@@ -2,7 +2,8 @@ use Rattle.std.proofs.Common.{◌≡◌, ◌∷◌, ◌+◌, drop, map}
 use Rattle.cx_ast.specs.PlainTree.{plain_port}
 use Rattle.cx_numbering.specs.NameRules.{port_breaks}
 use Rattle.cx_names_scopes.specs.Scopes.{tree_in, part_in}
-use Rattle.cx_names_rules.proofs.FoundLemmas.{item_step, drop_item}
+use Rattle.cx_names_rules.proofs.FoundLemmas.{item_step}
+use Rattle.cx_text.proofs.ListLaws.{drop_item}
 use Rattle.cx_names_rules.proofs.ports.signature_ports.Goals as goal
 
 pub loop-item-preserved : goal.loop-item-preserved

@@ -5,8 +5,9 @@ use Rattle.cx_numbering.specs.NameRules.{Visited, form_breaks, visit_all, visit_
 use Rattle.cx_names_scopes.specs.Scopes.{tree_in, part_in}
 use Rattle.cx_names_rules.specs.Found.{first_of}
 use Rattle.cx_names_rules.specs.Visits.{visit_statement}
-use Rattle.cx_names_rules.proofs.FoundLemmas.{parts_step, both_parts, drop_item}
+use Rattle.cx_names_rules.proofs.FoundLemmas.{parts_step, both_parts}
 use Rattle.cx_names_rules.proofs.VisitLemmas.{visit_then, either_parts}
+use Rattle.cx_text.proofs.ListLaws.{drop_item}
 use Rattle.cx_names_rules.proofs.statements.+visits.Goals as goal
 
 pub block-loop-item-preserved : goal.block-loop-item-preserved

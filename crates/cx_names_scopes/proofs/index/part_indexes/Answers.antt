@@ -1,6 +1,7 @@
 use Rattle.std.proofs.Common.{◌≡◌, ◌∷◌, ◌+◌, drop, [], append-nil}
 use Rattle.std.proofs.lemmas.List.{drop_all}
-use Rattle.cx_names_scopes.proofs.NameLemmas.{drop_item, indexes_step}
+use Rattle.cx_names_scopes.proofs.NameLemmas.{indexes_step}
+use Rattle.cx_text.proofs.ListLaws.{drop_item}
 use Rattle.cx_names_scopes.proofs.index.part_indexes.Goals as goal
 
 pub loop-part-preserved : goal.loop-part-preserved

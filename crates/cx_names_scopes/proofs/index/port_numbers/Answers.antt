@@ -1,6 +1,7 @@
 use Rattle.std.proofs.Common.{◌≡◌, ◌∷◌, ◌+◌, sym, ◌∙◌, drop, map, arith}
 use Rattle.cx_ast.specs.PlainTree.{plain_port}
-use Rattle.cx_names_scopes.proofs.NameLemmas.{numbers_start, ports_step, drop_item}
+use Rattle.cx_names_scopes.proofs.NameLemmas.{numbers_start, ports_step}
+use Rattle.cx_text.proofs.ListLaws.{drop_item}
 use Rattle.cx_names_scopes.proofs.index.port_numbers.Goals as goal
 
 pub loop-port-init : goal.loop-port-init

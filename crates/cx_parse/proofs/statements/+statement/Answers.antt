@@ -2,11 +2,11 @@ use Rattle.std.proofs.Common.{◌≡◌, ◌+◌, ◌-◌, Some, map, refl, sym,
 use Rattle.cx_ast.specs.PlainStatements.{PlainForm, PlainBlock, PlainStatement, form_step, block_step, statement_step, plain_form, plain_statement}
 use Rattle.cx_ast.specs.declared.statements.StatementForm.TheVariants.{rolls-Seq, rolls-Par, rolls-While, rolls-Repeat, rolls-StaticSeq, rolls-StaticPar, rolls-StaticRepeat, rolls-StaticInvoke}
 use Rattle.cx_ast.specs.declared.statements.StatementForm.TheFolds.{fold-roll-StatementForm, fold-roll-StatementItem, fold-roll-Block}
-use Rattle.cx_parse.proofs.Plain.{plain_form-If, plain_form-StaticIf}
 use Rattle.cx_grammar.specs.Grammar.{Braces}
 use Rattle.cx_grammar.specs.Calyx.{nest, block, otherwise, marked_block, repeat_rest, static_if_rest, static_rest, static_form, static_statement, seq, par, if_form, if_rest, while_form, while_rest, repeat, enable, invoke, form, statement, statements, attributes, attribute}
 use Rattle.cx_parse.proofs.Steps.{pair, without_level, empty, first, second, stops_first, stops_second, deeper, moved, applied, as_seen, seen_behind, seen_first, seen_second, unseen}
 use Rattle.cx_parse.proofs.Lists.{nothing, nearer, step, over, reading_many, keeps_seen}
+use Rattle.cx_ast.proofs.PlainStatementsLemmas.{if_form as plain_form-If, static_if_form}
 use Rattle.cx_parse.proofs.statements.+statement.Goals as goal
 
 pub block-returns-then-levels-eq0 : goal.block-returns-then-levels-eq0
@@ -34,7 +34,7 @@ repeat_rest-returns t c = record { value = pair (c.number-count.ensures.value c.
 
 pub static_if-returns : goal.static_if-returns
 unfolding static_if_rest block
-static_if-returns t c = record { value = moved (as_seen (λ f. f c.args.length) (pair (c.operand-test.ensures.value c.args.levels) (pair c.block-yes.ensures.value c.otherwise-no.ensures.value))) refl (ap (λ (form : PlainForm). Some form) (plain_form-StaticIf c.args.length c.operand-test.result c.block-yes.result c.otherwise-no.result)) }
+static_if-returns t c = record { value = moved (as_seen (λ f. f c.args.length) (pair (c.operand-test.ensures.value c.args.levels) (pair c.block-yes.ensures.value c.otherwise-no.ensures.value))) refl (ap (λ (form : PlainForm). Some form) (static_if_form c.args.length c.operand-test.result c.block-yes.result c.otherwise-no.result)) }
 
 pub seq-returns : goal.seq-returns
 unfolding seq

@@ -7,7 +7,8 @@ use Rattle.cx_design.specs.PlainForms.{plain_assign, plain_assigns, plain_compon
 use Rattle.cx_design.specs.PlainDesigns.{plain_design}
 use Rattle.cx_shape_calls.specs.Callees.{plain_callee, called_of}
 use Rattle.cx_shape_calls.specs.Forms.{times}
-use Rattle.cx_shape_calls.proofs.DoneLemmas.{calling_if, some_if_not, lacks_told, wrong_told, part_is}
+use Rattle.cx_shape_calls.proofs.DoneLemmas.{calling_if, some_if_not, lacks_told, wrong_told}
+use Rattle.cx_meaning.proofs.DesignsLemmas.{same_part}
 use Rattle.cx_shape_calls.proofs.forms.form.Goals as goal
 
 pub returns : goal.returns
@@ -18,7 +19,7 @@ returns c =
     let ks = map plain_callee c.in_ok-called.called.items in
     let dones = map (λ a. plain_assign a.now) c.in_ok-dones.dones.items in
     let same : ks ≡ called_of i group.assigns = c.in_ok-called.ensures.value ∙ ap (λ l. called_of i (plain_assigns l)) c.as_slice-assigns.ensures.value in
-    let part : plain_component c.component.result.now ≡ part_of i = c.component.ensures.value ∙ sym (part_is d (length d.components) c.args.number) in
+    let part : plain_component c.component.result.now ≡ part_of i = c.component.ensures.value ∙ sym (same_part d (length d.components) c.args.number) in
     let holes : dones ≡ with_target (refs.Done c.args.place) group.assigns = c.in_ok-dones.ensures.value ∙ ap (λ l. with_target (refs.Done c.args.place) (plain_assigns l)) c.as_slice-assigns.ensures.value in
     record {
       value = record {

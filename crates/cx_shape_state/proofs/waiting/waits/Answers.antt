@@ -13,8 +13,9 @@ use Rattle.cx_graphs.proofs.EdgeLemmas.{length-no_edges}
 use Rattle.cx_meaning.specs.Designs.{PlainDesign, component_at}
 use Rattle.cx_shape_state.specs.Joining.{joined}
 use Rattle.cx_shape_state.specs.Waits.{always_waits, group_waits}
-use Rattle.cx_shape_state.proofs.Cells.{part_is, count_is}
+use Rattle.cx_shape_state.proofs.Cells.{count_is}
 use Rattle.cx_shape_state.proofs.WaitLemmas.{graph_is}
+use Rattle.cx_rules.proofs.PortsLemmas.{part_is}
 use Rattle.cx_shape_state.proofs.waiting.waits.Goals as goal
 
 cells_are : (d : PlainDesign) (k : ℕ) (part : Component) → k < length d.components → plain_component part ≡ component_at d k → length part.cells.items ≡ cell_count (cells_of (component_of d k))

@@ -5,7 +5,7 @@ use Rattle.cx_meaning.specs.Instances.{tree_of}
 use Rattle.cx_rules.specs.Sizes.{instances_below}
 use Rattle.cx_design.specs.PlainForms.{plain_cell, plain_component}
 use Rattle.cx_design.specs.PlainDesigns.{plain_design}
-use Rattle.cx_limits.proofs.WayLemmas.{own_cells}
+use Rattle.cx_design_sizes.proofs.WayLemmas.{own_cells}
 use Rattle.cx_state.specs.Filling.{HaveSome, placed, total}
 use Rattle.cx_state.specs.Tables.{row_at}
 use Rattle.cx_state.proofs.FillLemmas.{placed_length}

@@ -2,7 +2,8 @@ use Rattle.std.proofs.Common.{◌+◌, length, ap, ◌∙◌, sym, subst}
 use Rattle.cx_rules.specs.Ports.{component_of}
 use Rattle.cx_design.specs.PlainDesigns.{plain_design}
 use Rattle.cx_turns.specs.GroupRows.{IsTableOf, AreRight}
-use Rattle.cx_turns.proofs.TableLemmas.{one_more, pushed}
+use Rattle.cx_turns.proofs.TableLemmas.{pushed}
+use Rattle.cx_text.proofs.ListLaws.{one_more}
 use Rattle.cx_turns.proofs.tables.component_tables.Goals as goal
 
 pub loop-number-preserved : goal.loop-number-preserved

@@ -2,8 +2,8 @@ use Rattle.std.proofs.Common.{◌<◌, ◌^◌, map, length, ap, arith}
 use Rattle.cx_vtree.specs.PlainParts.{plain_decl}
 use Rattle.cx_vnets.specs.ModuleNumbers.{declared_arrays}
 use Rattle.cx_velab.specs.Rows.{placed_of}
-use Rattle.cx_velab.proofs.AddedLemmas.{item_at}
 use Rattle.cx_velab.proofs.BaseLemmas.{nets_next, arrays_next, nets_small, arrays_small, placed_next}
+use Rattle.cx_text.proofs.ListLaws.{item_at}
 use Rattle.cx_velab.proofs.bases.places.Goals as goal
 
 pub overflow_cast-nets : goal.overflow_cast-nets

@@ -2,8 +2,9 @@ use Rattle.std.proofs.Common.{◌+◌, ◌<◌, ◌++◌, map, drop, length, ap,
 use Rattle.cx_vtree.specs.PlainParts.{plain_item}
 use Rattle.cx_vnets.specs.Numberings.{nets_by, arrays_by}
 use Rattle.cx_velab.specs.Changes.{item_sets, item_stores, numbered_sets, numbered_stores, IsSet, IsStore}
-use Rattle.cx_velab.proofs.AddedLemmas.{item_at, rest_at, done_more}
+use Rattle.cx_velab.proofs.AddedLemmas.{rest_at, done_more}
 use Rattle.cx_velab.proofs.ChangeLemmas.{exprs_at}
+use Rattle.cx_text.proofs.ListLaws.{item_at}
 use Rattle.cx_velab.proofs.changes.push_items.Goals as goal
 
 pub push_item-requires-clause-named : goal.push_item-requires-clause-named

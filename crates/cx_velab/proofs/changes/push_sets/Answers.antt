@@ -2,7 +2,8 @@ use Rattle.std.proofs.Common.{◌+◌, ◌<◌, [], ◌∷◌, map, drop, length
 use Rattle.cx_vtree.specs.PlainParts.{plain_assign}
 use Rattle.cx_vnets.specs.Numberings.{nets_by}
 use Rattle.cx_velab.specs.Changes.{numbered, IsSet}
-use Rattle.cx_velab.proofs.AddedLemmas.{item_at, rest_at, adds_one, done_more}
+use Rattle.cx_velab.proofs.AddedLemmas.{rest_at, adds_one, done_more}
+use Rattle.cx_text.proofs.ListLaws.{item_at}
 use Rattle.cx_velab.proofs.changes.push_sets.Goals as goal
 
 pub set_of-requires-clause-named : goal.set_of-requires-clause-named

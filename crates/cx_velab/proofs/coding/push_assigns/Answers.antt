@@ -3,7 +3,8 @@ use Rattle.cx_vtree.specs.PlainParts.{plain_expr, plain_assign}
 use Rattle.cx_vnets.specs.ModuleCodes.{IsCode}
 use Rattle.cx_vnets.specs.Numberings.{nets_by, arrays_by}
 use Rattle.cx_velab.specs.Coded.{values_of}
-use Rattle.cx_velab.proofs.AddedLemmas.{item_at, rest_at, done_more}
+use Rattle.cx_velab.proofs.AddedLemmas.{rest_at, done_more}
+use Rattle.cx_text.proofs.ListLaws.{item_at}
 use Rattle.cx_velab.proofs.coding.push_assigns.Goals as goal
 
 pub push_code-requires : goal.push_code-requires

@@ -5,8 +5,8 @@ use Rattle.cx_vtree.specs.PlainParts.{plain_module}
 use Rattle.cx_vnets.specs.Maps.{number_by}
 use Rattle.cx_velab.specs.Rows.{placed_of}
 use Rattle.cx_velab.specs.Parts.{CanCode, PartStands, HasPart}
-use Rattle.cx_velab.proofs.AddedLemmas.{item_at}
 use Rattle.cx_velab.proofs.PartLemmas.{has_kept, has_new, found_more}
+use Rattle.cx_text.proofs.ListLaws.{item_at}
 use Rattle.cx_velab.proofs.parts.part_number.Goals as goal
 
 pub returns-in-Some-clause-number : goal.returns-in-Some-clause-number

@@ -1,6 +1,6 @@
 use Rattle.std.proofs.Common.{◌<◌, length, arith}
 use Rattle.cx_vtree.specs.PlainParts.{plain_assign}
-use Rattle.cx_velab.proofs.AddedLemmas.{item_at}
+use Rattle.cx_text.proofs.ListLaws.{item_at}
 use Rattle.cx_velab.proofs.ties.give_nets.Goals as goal
 
 pub net-requires : goal.net-requires

@@ -2,7 +2,7 @@ use Rattle.std.proofs.Common.{◌<◌, length, subst, arith}
 use Rattle.std.specs.Prelude.{IsSome}
 use Rattle.cx_vtree.specs.PlainParts.{plain_conn}
 use Rattle.cx_vnets.specs.Numberings.{nets_by}
-use Rattle.cx_velab.proofs.AddedLemmas.{item_at}
+use Rattle.cx_text.proofs.ListLaws.{item_at}
 use Rattle.cx_velab.proofs.ties.tie_ports.Goals as goal
 
 pub net-requires : goal.net-requires

@@ -1,7 +1,7 @@
 use Rattle.std.proofs.Common.{◌<◌, length, ⊎_elim, subst, arith}
 use Rattle.cx_vtree.specs.PlainParts.{plain_decl}
 use Rattle.cx_velab.specs.Tables.{IsWidth, decl_width}
-use Rattle.cx_velab.proofs.AddedLemmas.{item_at}
+use Rattle.cx_text.proofs.ListLaws.{item_at}
 use Rattle.cx_velab.proofs.zeros.push_decls.Goals as goal
 
 pub zero-requires : goal.zero-requires

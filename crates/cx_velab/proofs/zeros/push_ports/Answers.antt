@@ -1,6 +1,6 @@
 use Rattle.std.proofs.Common.{◌<◌, length, arith}
 use Rattle.cx_vtree.specs.PlainParts.{plain_port}
-use Rattle.cx_velab.proofs.AddedLemmas.{item_at}
+use Rattle.cx_text.proofs.ListLaws.{item_at}
 use Rattle.cx_velab.proofs.zeros.push_ports.Goals as goal
 
 pub zero-requires : goal.zero-requires

@@ -1,7 +1,7 @@
 use Rattle.std.proofs.Common.{◌<◌, map, length, slice_get, ap, sym, ◌∙◌, arith}
 use Rattle.cx_vtree.specs.PlainParts.{plain_decl}
 use Rattle.cx_velab.specs.Rows.{placed_of}
-use Rattle.cx_velab.proofs.AddedLemmas.{item_at}
+use Rattle.cx_text.proofs.ListLaws.{item_at}
 use Rattle.cx_velab.proofs.zeros.stored.Goals as goal
 
 pub push_nets-requires : goal.push_nets-requires

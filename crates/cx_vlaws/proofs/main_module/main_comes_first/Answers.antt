@@ -2,9 +2,9 @@ use Rattle.std.proofs.Common.{refl, ap, codes}
 use Rattle.std.proofs.lemmas.Bool.{or_parts, not-false}
 use Rattle.cx_vtree.specs.InstanceTree.{same_name, main_instance}
 use Rattle.cx_vtree.specs.Sound.{Faults}
-use Rattle.cx_vlaws.proofs.Fresh.{same_is}
 use Rattle.cx_vlaws.proofs.Trees.{placed}
 use Rattle.cx_vlaws.proofs.Mains.{main_at, main-ports}
+use Rattle.cx_vtree.proofs.InstanceTreeLemmas.{same_is}
 use Rattle.cx_vlaws.proofs.main_module.main_comes_first.Goals as goal
 
 pub returns : goal.returns

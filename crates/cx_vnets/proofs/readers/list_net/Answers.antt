@@ -2,7 +2,8 @@ use Rattle.std.proofs.Common.{◌≡◌, Some, slice_get, ap, ◌∙◌, subst, 
 use Rattle.std.proofs.lemmas.Result.{on_ok_weaker}
 use Rattle.cx_graphs.specs.Graphs.{edges_of}
 use Rattle.cx_vnets.specs.Readers.{IsListed, IsWatch, IsHeard, IsFound}
-use Rattle.cx_vnets.proofs.DriveLemmas.{read_there, hears_given}
+use Rattle.cx_vnets.proofs.DriveLemmas.{hears_given}
+use Rattle.cx_text.proofs.ListLaws.{read_at}
 use Rattle.cx_vnets.proofs.readers.list_net.Goals as goal
 
 pub list_code-requires : goal.list_code-requires
@@ -17,9 +18,9 @@ returns-in-Some-clause-found c =
     let nets = edges_of c.list_code.new.of_nets.items in
     let arrays = edges_of c.list_code.new.of_arrays.items in
     let watches = c.list_code.new.watches in
-    let at = read_there n.drivers.items f c.index.result.now c.requires.within c.index.ensures ∙ ap Some c.in-Given.is in
+    let at = read_at n.drivers.items f c.index.result.now c.requires.within c.index.ensures ∙ ap Some c.in-Given.is in
     let there = subst (λ xs. slice_get xs c.in-Given.code ≡ Some code) c.deref.ensures.value
-    (read_there c.deref.result.now c.in-Given.code code c.in-Some.ensures.lookup.3.0 c.in-Some.ensures.lookup.1) in
+    (read_at c.deref.result.now c.in-Given.code code c.in-Some.ensures.lookup.3.0 c.in-Some.ensures.lookup.1) in
     on_ok_weaker c.list_code.result
     (λ well.
     subst (λ count. IsFound n nets arrays watches count f) (c.len-count.ensures ∙ n.drivers.ok.0)

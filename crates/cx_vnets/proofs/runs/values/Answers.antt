@@ -5,8 +5,9 @@ use Rattle.cx_bits.specs.BitVector.{BitVector}
 use Rattle.cx_vnets.specs.Gates.{ZerosStand}
 use Rattle.cx_vnets.specs.Readers.{Sweeping, UnmarkedAgree}
 use Rattle.cx_vnets.specs.Runs.{AreValues}
-use Rattle.cx_vnets.proofs.CurrentLemmas.{swept_values, written_back}
+use Rattle.cx_vnets.proofs.CurrentLemmas.{swept_values}
 use Rattle.cx_vnets.proofs.WholeLooks.{same_length}
+use Rattle.cx_text.proofs.ListLaws.{written_back}
 use Rattle.cx_vnets.proofs.runs.values.Goals as goal
 
 pub returns-then-machine-clause-value : goal.returns-then-machine-clause-value

@@ -1,9 +1,9 @@
 use Rattle.std.proofs.Common.{◌+◌, ◌≤◌, get_or, set, sym, ap, ◌∙◌, subst}
 use Rattle.cx_vnets.specs.Readers.{HearsNot}
 use Rattle.cx_vnets.specs.Stale.{Tells, rank_at}
-use Rattle.cx_vnets.proofs.DriveLemmas.{read_there}
 use Rattle.cx_vnets.proofs.GateLemmas.{zeros_set}
 use Rattle.cx_vnets.proofs.SweepLemmas.{net_rows, watch_rows, net_values, refreshed_same, refreshed}
+use Rattle.cx_text.proofs.ListLaws.{read_at}
 use Rattle.cx_vnets.proofs.sweep.refresh.Goals as goal
 
 pub mark_hearers-requires-clause-rows : goal.mark_hearers-requires-clause-rows
@@ -30,7 +30,7 @@ returns-then-is_other-clause-sweeping c =
     let tells = subst (λ k. Tells t.ranks.items (set c.args.stale.now c.args.rank 0) c.mark_hearers.new.stale (λ f. c.args.rank + 1 ≤ rank_at t.ranks.items f → HearsNot t c.note_zero.new.nonzero k c.args.net old c.drive-value.result f))
     (c.len.ensures ∙ n.drivers.ok.0) c.mark_hearers.ensures.tells in
     refreshed n c.args.stored.now r.fits r.readers.0 t r.readers.1 r.ranked c.args.net c.args.rank r.within r.place c.args.stale.now values r.sweeping c.drive-value.result
-    c.drive-value.ensures old (read_there values c.args.net old lt c.index-values-net.is) c.note_zero.new.nonzero
+    c.drive-value.ensures old (read_at values c.args.net old lt c.index-values-net.is) c.note_zero.new.nonzero
     (zeros_set c.args.nonzero.now c.note_zero.new.nonzero values c.args.net c.drive-value.result r.nonzero lt c.note_zero.ensures.here c.note_zero.ensures.others) c.mark_hearers.new.stale tells c.mark_hearers.ensures.below
 
 pub returns-then-is_other-clause-nonzero : goal.returns-then-is_other-clause-nonzero

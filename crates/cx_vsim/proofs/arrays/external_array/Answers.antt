@@ -2,8 +2,8 @@ use Rattle.std.proofs.Common.{◌≡◌, ◌<◌, length, map, ap, sym, ◌∙�
 use Rattle.std.proofs.lemmas.Option.{same_Some}
 use Rattle.cx_vtree.specs.PlainParts.{plain_external}
 use Rattle.cx_velab.specs.Rows.{placed_of}
-use Rattle.cx_vsim.proofs.Finding.{places_length}
 use Rattle.cx_vsim.proofs.Naming.{instance_within, array_place}
+use Rattle.cx_velab.proofs.TablesLemmas.{places_length}
 use Rattle.cx_vsim.proofs.arrays.external_array.Goals as goal
 
 pub bounds-places-instance : goal.bounds-places-instance

@@ -2,7 +2,7 @@ use Rattle.std.proofs.Common.{◌≡◌, ◌<◌, Some, length, slice_get, ap, s
 use Rattle.cx_vtree.specs.PlainParts.{plain_external}
 use Rattle.cx_vtree.specs.PlainSources.{plain_source}
 use Rattle.cx_vsim.specs.Externals.{HasArray}
-use Rattle.cx_vsim.proofs.Naming.{item_at}
+use Rattle.cx_text.proofs.ListLaws.{item_at}
 use Rattle.cx_vsim.proofs.arrays.external_arrays.Goals as goal
 
 pub external_array-requires-clause-there : goal.external_array-requires-clause-there

@@ -4,7 +4,8 @@ use Rattle.cx_velab.specs.Rows.{placed_of}
 use Rattle.cx_velab.specs.Driven.{KeepsRight}
 use Rattle.cx_vsim.specs.Tables.{tree_of}
 use Rattle.cx_vsim.specs.Passes.{DrivenBelow}
-use Rattle.cx_vsim.proofs.PassLemmas.{driven_none, driven_more, all_driven, put_back}
+use Rattle.cx_vsim.proofs.PassLemmas.{driven_none, driven_more, all_driven}
+use Rattle.cx_text.proofs.ListLaws.{written_back}
 use Rattle.cx_vsim.proofs.driving.drivers.Goals as goal
 
 pub loop-i-init : goal.loop-i-init
@@ -24,7 +25,7 @@ loop-i-preserved c =
     let is = c.drive_row.ensures.whole in
     let long : c.loop-i.drivers.len ≡ length new = omega (arith, was, is, c.loop-i.drivers.ok.0) in
     let keeps = subst (λ l. KeepsRight tree codes l new) c.deref_mut.ensures.value c.drive_row.ensures.kept in
-    subst (DrivenBelow tree codes (c.loop-i.i + 1)) (sym (put_back new (drop (length new) old) c.loop-i.drivers.len long))
+    subst (DrivenBelow tree codes (c.loop-i.i + 1)) (sym (written_back new (drop (length new) old) c.loop-i.drivers.len long))
     (driven_more tree codes c.loop-i.i old new c.loop-i.invariant keeps c.drive_row.ensures.whole c.drive_row.ensures.tied c.drive_row.ensures.given)
 
 pub returns : goal.returns

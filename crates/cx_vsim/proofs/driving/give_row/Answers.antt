@@ -4,7 +4,8 @@ use Rattle.cx_vtree.specs.PlainParts.{plain_assign}
 use Rattle.cx_vnets.specs.Numberings.{nets_by}
 use Rattle.cx_velab.specs.Rows.{placed_of}
 use Rattle.cx_vsim.specs.Tables.{tree_of}
-use Rattle.cx_vsim.proofs.RowLemmas.{item_at, numbers_within, assign_named, assigns_short, give_right}
+use Rattle.cx_vsim.proofs.RowLemmas.{numbers_within, assign_named, assigns_short, give_right}
+use Rattle.cx_text.proofs.ListLaws.{item_at}
 use Rattle.cx_vsim.proofs.driving.give_row.Goals as goal
 
 pub give_nets-requires-clause-named : goal.give_nets-requires-clause-named

@@ -4,7 +4,8 @@ use Rattle.cx_vtree.specs.PlainParts.{plain_port, plain_conn}
 use Rattle.cx_vnets.specs.Numberings.{nets_by}
 use Rattle.cx_velab.specs.Rows.{placed_of}
 use Rattle.cx_vsim.specs.Tables.{tree_of}
-use Rattle.cx_vsim.proofs.RowLemmas.{item_at, numbers_within, conn_named, ports_within, tie_right}
+use Rattle.cx_vsim.proofs.RowLemmas.{numbers_within, conn_named, ports_within, tie_right}
+use Rattle.cx_text.proofs.ListLaws.{item_at}
 use Rattle.cx_vsim.proofs.driving.tie_row.Goals as goal
 
 pub part-around-requires-clause-within : goal.part-around-requires-clause-within

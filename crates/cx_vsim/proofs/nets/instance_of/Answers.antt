@@ -1,6 +1,7 @@
 use Rattle.std.proofs.Common.{◌≡◌, length, subst, arith}
 use Rattle.cx_vsim.specs.Nets.{IsLastBegun}
-use Rattle.cx_vsim.proofs.Finding.{last_is_it, net_within}
+use Rattle.cx_vsim.proofs.Finding.{last_is_it}
+use Rattle.cx_vtree.proofs.InstanceTreeLemmas.{net_within}
 use Rattle.cx_vsim.proofs.nets.instance_of.Goals as goal
 
 pub returns : goal.returns

@@ -4,8 +4,8 @@ use Rattle.cx_vtree.specs.PlainParts.{plain_assign, plain_edge}
 use Rattle.cx_vnets.specs.Numberings.{nets_by, arrays_by}
 use Rattle.cx_velab.specs.Rows.{placed_of}
 use Rattle.cx_vsim.specs.Tables.{tree_of}
-use Rattle.cx_vsim.proofs.RowLemmas.{item_at}
 use Rattle.cx_vsim.proofs.StepLemmas.{no_sets, nets_small, resets_named, edge_short, resets_added}
+use Rattle.cx_text.proofs.ListLaws.{item_at}
 use Rattle.cx_vsim.proofs.stepping.push_resets.Goals as goal
 
 pub push_sets-requires-clause-named : goal.push_sets-requires-clause-named

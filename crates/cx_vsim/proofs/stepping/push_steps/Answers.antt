@@ -5,8 +5,8 @@ use Rattle.cx_vnets.specs.Numberings.{nets_by, arrays_by}
 use Rattle.cx_velab.specs.Coded.{items_exprs}
 use Rattle.cx_velab.specs.Rows.{placed_of}
 use Rattle.cx_vsim.specs.Tables.{tree_of}
-use Rattle.cx_vsim.proofs.RowLemmas.{item_at}
 use Rattle.cx_vsim.proofs.StepLemmas.{no_sets, no_stores, nets_small, arrays_small, items_named, edge_short, sets_added, stores_added}
+use Rattle.cx_text.proofs.ListLaws.{item_at}
 use Rattle.cx_vsim.proofs.stepping.push_steps.Goals as goal
 
 pub push_items-requires-clause-named : goal.push_items-requires-clause-named

@@ -7,9 +7,9 @@ use Rattle.cx_text.specs.declared.loading.LoadedMemory.{LoadedMemory}
 use Rattle.cx_text.specs.Loading.{plain_memory, plain_loaded}
 use Rattle.cx_vnets.specs.Stores.{plain_words}
 use Rattle.cx_vsim.specs.Arrays.{CanGive}
-use Rattle.cx_vsim.proofs.Elements.{written_back}
 use Rattle.cx_vsim.proofs.Written.{memory_there}
 use Rattle.cx_vsim.proofs.Unloaded.{with_no_words, given_within, read_long, read_narrow, read_far, read_can, read_fit}
+use Rattle.cx_text.proofs.ListLaws.{written_back}
 use Rattle.cx_vsim.proofs.unloading.unload_words.Goals as goal
 
 pub loop-i-init : goal.loop-i-init

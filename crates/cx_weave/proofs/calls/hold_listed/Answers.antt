@@ -4,10 +4,10 @@ use Rattle.cx_state.specs.Tables.{IsNumber}
 use Rattle.cx_state.specs.States.{instance_state, IsStateOf}
 use Rattle.cx_turns.specs.Machines.{design_of, rows_of}
 use Rattle.cx_meaning.specs.declared.sights.Seen.TheVariants.{Undefined}
-use Rattle.cx_turns.proofs.RestLemmas.{any_default}
 use Rattle.cx_turns.proofs.HoldLemmas.{own_path, child_there, held_fits}
 use Rattle.cx_orders.specs.Steps.{held_as}
 use Rattle.cx_weave.proofs.HeldSteps.{HoldsSoFar, held_goes, held_ends, width_fits, input_there}
+use Rattle.cx_text.proofs.ListLaws.{get_same}
 use Rattle.cx_weave.proofs.calls.hold_listed.Goals as goal
 
 pub hold-requires-clause-instance : goal.hold-requires-clause-instance
@@ -34,7 +34,7 @@ loop-input-preserved c =
     let less : c.loop-input.input < length c.args.inputs.now = omega (arith, c.loop-input-test.true, c.loop-input.auto.input-end) in
     let there : c.args.child < length rows = child_there d c.args.instance c.args.cell c.args.child own at c.requires.child rows c.loop-input.invariant.0.state in
     let inside : c.loop-input.input < length (instance_state rows c.args.child).held = input_there d (rows_of c.args.machine.now) c.args.child c.args.inputs.now c.args.instance c.args.cell c.loop-input.input c.requires.child own at c.requires.inputs rows c.loop-input.invariant.0.state less in
-    let is : c.index-inputs-input.result ≡ held_as c.args.inputs.now c.loop-input.input = c.index-inputs-input.is ∙ any_default c.args.inputs.now c.loop-input.input c.index-inputs-input.result Undefined less in (
+    let is : c.index-inputs-input.result ≡ held_as c.args.inputs.now c.loop-input.input = c.index-inputs-input.is ∙ get_same c.args.inputs.now c.loop-input.input c.index-inputs-input.result Undefined less in (
       record {
         evaluator = c.loop-input.invariant.0.evaluator;
         state =

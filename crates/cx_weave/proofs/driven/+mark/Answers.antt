@@ -7,7 +7,8 @@ use Rattle.cx_design.specs.declared.statements.Form.TheVariants as forms
 use Rattle.cx_design.specs.PlainForms.{form_step, statement_step, plain_form, plain_statement, plain_statements}
 use Rattle.cx_turns.specs.Machines.{design_of}
 use Rattle.cx_weave.specs.Marks.{is_marked}
-use Rattle.cx_weave.proofs.MarkSteps.{comb_drives, form_groups, joined_drive, or_two, parts_marked}
+use Rattle.cx_weave.proofs.MarkSteps.{comb_drives, form_groups, or_two, parts_marked}
+use Rattle.cx_frames.proofs.ArmLemmas.{groups_joined}
 use Rattle.cx_weave.proofs.driven.+mark.Goals as goal
 
 pub mark_all-loop-part-preserved : goal.mark_all-loop-part-preserved
@@ -45,7 +46,7 @@ mark_form-returns-in-If-clause-marked t c path q number =
     ∙ or_two ga gb (gc || m0)
     ∙ or_two gc (ga || gb) m0
     ∙ ap (λ b. b || m0)
-    (ap (λ b. gc || b) (sym (joined_drive part (groups_of (plain_statement c.in-If.yes.value)) (groups_of (plain_statement c.in-If.no.value)) q))
+    (ap (λ b. gc || b) (sym (groups_joined part (groups_of (plain_statement c.in-If.yes.value)) (groups_of (plain_statement c.in-If.no.value)) q))
     ∙ sym (comb_drives part c.in-If.comb (groups_of (plain_statement c.in-If.yes.value) ++ groups_of (plain_statement c.in-If.no.value)) q)
     ∙ sym (ap (λ f. groups_drive part (groups_in f) q) whole))
 
@@ -67,7 +68,7 @@ mark_form-returns-in-StaticIf-clause-marked t c path q number =
     ∙ ap (λ b. gb || b) one
     ∙ or_two ga gb m0
     ∙ ap (λ b. b || m0)
-    (sym (joined_drive part (groups_of (plain_statement c.in-StaticIf.yes.value)) (groups_of (plain_statement c.in-StaticIf.no.value)) q) ∙ sym (ap (λ f. groups_drive part (groups_in f) q) whole))
+    (sym (groups_joined part (groups_of (plain_statement c.in-StaticIf.yes.value)) (groups_of (plain_statement c.in-StaticIf.no.value)) q) ∙ sym (ap (λ f. groups_drive part (groups_in f) q) whole))
 
 pub mark_form-returns-in-While-clause-marked : goal.mark_form-returns-in-While-clause-marked
 mark_form-returns-in-While-clause-marked t c path q number =

@@ -2,7 +2,7 @@ use Rattle.std.proofs.Common.{◌||◌, ◌<◌, nat_eq, ℕ, get_or, length, ta
 use Rattle.cx_eval_cycle.specs.Passes.{listed_in}
 use Rattle.cx_weave.specs.Marks.{is_marked}
 use Rattle.cx_eval_cycle.proofs.PassLemmas.{listed_more}
-use Rattle.cx_weave.proofs.MarkSteps.{or_joined}
+use Rattle.cx_text.proofs.BoolLaws.{or_assoc}
 use Rattle.cx_weave.proofs.driven.mark_cells.Goals as goal
 
 pub loop-cell-preserved : goal.loop-cell-preserved
@@ -16,7 +16,7 @@ loop-cell-preserved c =
       marked = λ q.
           c.mark_cell.ensures.marked q
           ∙ ap (λ b. nat_eq k q || b) (c.loop-cell.invariant.marked q)
-          ∙ sym (or_joined (nat_eq k q) (listed_in (take c.loop-cell.cell-index c.args.driven.now) q) (is_marked c.args.marks.now q))
+          ∙ sym (or_assoc (nat_eq k q) (listed_in (take c.loop-cell.cell-index c.args.driven.now) q) (is_marked c.args.marks.now q))
           ∙ ap (λ b. b || is_marked c.args.marks.now q) (sym (listed_more c.args.driven.now c.loop-cell.cell-index q less));
       lists = c.mark_cell.ensures.lists;
       room = omega (arith, before, more);

@@ -16,12 +16,13 @@ use Rattle.cx_weave.specs.declared.strands.Strand.TheVariants as strands
 use Rattle.cx_orders.specs.Leaves.{form_drives}
 use Rattle.cx_weave.specs.Strands.{AnIsland, KeptBefore, ListDriven}
 use Rattle.cx_weave.specs.Strides.{HasStepped, IslandTaken}
-use Rattle.cx_weave.proofs.IslandSteps.{island_ends, island_goes, island_held, island_kept, island_stops, one_path}
+use Rattle.cx_weave.proofs.IslandSteps.{island_ends, island_goes, island_held, island_kept, island_stops}
 use Rattle.cx_weave.proofs.StrandFolds.{is_island}
 use Rattle.cx_weave.specs.Ledger.{island_amount, left_amount}
 use Rattle.cx_weave.proofs.Amounts.{amount_island}
 use Rattle.cx_weave.proofs.IslandSupplies.{island_place}
 use Rattle.cx_weave.proofs.PartLedgers.{same_amounts}
+use Rattle.cx_state.proofs.TablesLemmas.{one_path}
 use Rattle.cx_weave.proofs.islands.step_island.Goals as goal
 
 pub returns-then-left-eq0-clause-stepped : goal.returns-then-left-eq0-clause-stepped

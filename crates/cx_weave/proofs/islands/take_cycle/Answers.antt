@@ -17,7 +17,8 @@ use Rattle.cx_turns.proofs.IslandLemmas.{active_is, can_run, island_short, there
 use Rattle.cx_turns.proofs.RoomLemmas.{island_room}
 use Rattle.cx_weave.specs.Strands.{KeptBefore}
 use Rattle.cx_weave.specs.Strides.{IslandTaken}
-use Rattle.cx_weave.proofs.IslandSteps.{are_sampled, gives_cycle, island_unclear, island_clear, one_path}
+use Rattle.cx_weave.proofs.IslandSteps.{are_sampled, gives_cycle, island_unclear, island_clear}
+use Rattle.cx_state.proofs.TablesLemmas.{one_path}
 use Rattle.cx_weave.proofs.islands.take_cycle.Goals as goal
 
 pub sample-requires-clause-cycle : goal.sample-requires-clause-cycle

@@ -8,7 +8,6 @@ use Rattle.cx_turns.specs.declared.turns.Turn.TheVariants as turns
 use Rattle.cx_turns.specs.Groups.{ListGroup, ListWithin}
 use Rattle.cx_turns.specs.Machines.{design_of, rows_of}
 use Rattle.cx_turns.proofs.GroupLemmas.{row_ascends, row_lists, row_within}
-use Rattle.cx_turns.proofs.RestLemmas.{got}
 use Rattle.cx_orders.specs.Leaves.{own_turn}
 use Rattle.cx_weave.specs.declared.strands.Strand.TheVariants as strands
 use Rattle.cx_orders.specs.Open.{InGroup}
@@ -17,6 +16,7 @@ use Rattle.cx_weave.specs.Strides.{TakesTurn}
 use Rattle.cx_weave.proofs.Amounts.{amount_group}
 use Rattle.cx_weave.proofs.StrandFolds.{is_group}
 use Rattle.cx_weave.proofs.LeafSteps.{group_ends, group_goes, group_faults}
+use Rattle.std.proofs.lemmas.Option.{slice_get-get_or}
 use Rattle.cx_weave.proofs.leaf_turns.step_group.Goals as goal
 
 pub take_group-requires-clause-ascending : goal.take_group-requires-clause-ascending
@@ -37,7 +37,7 @@ returns-in-Ends-clause-stepped c =
     let d = design_of c.args.plan.now in
     let rows = rows_of c.args.machine.now in
     let path = get_or (paths_of (tree_of d)) c.args.instance [] in
-    let number : IsNumber d c.args.instance path = got (paths_of (tree_of d)) c.args.instance [] c.requires.instance in
+    let number : IsNumber d c.args.instance path = slice_get-get_or (paths_of (tree_of d)) c.args.instance [] c.requires.instance in
     let stood = c.rows_stand.ensures d c.args.plan.now.table.rows.items c.args.plan.now.table.children.items rows c.requires.plan.table c.requires.machine.state in
     let taken : TakesTurn d rows (rows_of c.take_group.new.machine) c.args.instance turns.Ends (λ i held s. own_turn i held c.args.group s) =
     subst (λ t. TakesTurn d rows (rows_of c.take_group.new.machine) c.args.instance t (λ i held s. own_turn i held c.args.group s)) c.in-Ends.is c.take_group.ensures.taken in
@@ -50,7 +50,7 @@ returns-in-Goes-clause-stepped c =
     let d = design_of c.args.plan.now in
     let rows = rows_of c.args.machine.now in
     let path = get_or (paths_of (tree_of d)) c.args.instance [] in
-    let number : IsNumber d c.args.instance path = got (paths_of (tree_of d)) c.args.instance [] c.requires.instance in
+    let number : IsNumber d c.args.instance path = slice_get-get_or (paths_of (tree_of d)) c.args.instance [] c.requires.instance in
     let stood = c.rows_stand.ensures d c.args.plan.now.table.rows.items c.args.plan.now.table.children.items rows c.requires.plan.table c.requires.machine.state in
     let taken : TakesTurn d rows (rows_of c.take_group.new.machine) c.args.instance turns.Goes (λ i held s. own_turn i held c.args.group s) =
     subst (λ t. TakesTurn d rows (rows_of c.take_group.new.machine) c.args.instance t (λ i held s. own_turn i held c.args.group s)) c.in-Goes.is c.take_group.ensures.taken in
@@ -61,7 +61,7 @@ returns-in-Faults-clause-stepped c =
     let d = design_of c.args.plan.now in
     let rows = rows_of c.args.machine.now in
     let path = get_or (paths_of (tree_of d)) c.args.instance [] in
-    let number : IsNumber d c.args.instance path = got (paths_of (tree_of d)) c.args.instance [] c.requires.instance in
+    let number : IsNumber d c.args.instance path = slice_get-get_or (paths_of (tree_of d)) c.args.instance [] c.requires.instance in
     let stood = c.rows_stand.ensures d c.args.plan.now.table.rows.items c.args.plan.now.table.children.items rows c.requires.plan.table c.requires.machine.state in
     let taken : TakesTurn d rows (rows_of c.take_group.new.machine) c.args.instance (turns.Faults c.in-Faults.fault) (λ i held s. own_turn i held c.args.group s) =
     subst (λ t. TakesTurn d rows (rows_of c.take_group.new.machine) c.args.instance t (λ i held s. own_turn i held c.args.group s)) c.in-Faults.is c.take_group.ensures.taken in

@@ -5,9 +5,9 @@ use Rattle.cx_eval_cycle.specs.Passes.{listed_in}
 use Rattle.cx_eval_cycle.proofs.PassLemmas.{listed_more, not_yet}
 use Rattle.cx_turns.specs.Machines.{design_of, rows_of}
 use Rattle.cx_turns.specs.Rooms.{HasRoom}
-use Rattle.cx_turns.proofs.PartLemmas.{take_all}
 use Rattle.cx_weave.specs.Deep.{IsDeep, with_one}
 use Rattle.cx_weave.proofs.RestSteps.{deep_starts, deep_ends}
+use Rattle.cx_text.proofs.ListLaws.{take_all}
 use Rattle.cx_weave.proofs.resting.rest_listed.Goals as goal
 
 pub loop-cell-init : goal.loop-cell-init

@@ -2,7 +2,7 @@ use Rattle.std.proofs.Common.{rules, ◌≡◌, ◌+◌, ◌-◌, ◌≤◌, ◌
 use Rattle.std.specs.Prelude.{vec_capacity}
 use Rattle.std.proofs.lemmas.Result.{err_from_is_err_and}
 use Rattle.cx_design.specs.PlainForms.{plain_form, plain_statement, plain_statements}
-use Rattle.cx_limits.specs.Capped.{capped}
+use Rattle.cx_design_sizes.specs.Capped.{capped}
 use Rattle.cx_turns.specs.Children.{IsPart}
 use Rattle.cx_turns.specs.Machines.{design_of, rows_of}
 use Rattle.cx_turns.proofs.ChildLemmas.{child_instance}

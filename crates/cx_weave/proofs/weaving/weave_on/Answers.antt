@@ -4,7 +4,7 @@ use Rattle.cx_meaning.specs.Instances.{instance_at, tree_of}
 use Rattle.cx_state.specs.ReadStates.{state_in}
 use Rattle.cx_turns.specs.Machines.{design_of, rows_of}
 use Rattle.cx_design.specs.PlainForms.{plain_statement}
-use Rattle.cx_turns.proofs.ChildLemmas.{control_stands, main_first, main_there}
+use Rattle.cx_turns.proofs.ChildLemmas.{control_stands}
 use Rattle.cx_weave.specs.Strides.{HasStepped}
 use Rattle.cx_orders.specs.Open.{open_statement}
 use Rattle.cx_weave.specs.Strands.{IsShown, plain_strand, strand_leaves}
@@ -15,6 +15,7 @@ use Rattle.cx_weave.proofs.PartSteps.{counted_shown, some_leaf}
 use Rattle.cx_weave.proofs.WeaveSteps.{WovenSoFar, left_shown, weave_ends, weave_faults, weave_goes, weave_more, weave_starts}
 use Rattle.cx_weave.specs.Ledger.{Turned, amount}
 use Rattle.cx_weave.proofs.WeaveSupplies.{left_may, main_asked, main_may}
+use Rattle.cx_meaning.proofs.InstancesLemmas.{main_first, main_there}
 use Rattle.cx_weave.proofs.weaving.weave_on.Goals as goal
 
 pub control_of-control-requires-clause-instance : goal.control_of-control-requires-clause-instance

@@ -5,8 +5,9 @@ use Rattle.cx_numbering.specs.Names.{number_of, component_names}
 use Rattle.cx_names_scopes.proofs.NameLemmas.{numbered}
 use Rattle.cx_names_scopes.specs.Scopes.{tree_in, part_in}
 use Rattle.cx_names_parts.specs.Leading.{component_edges}
-use Rattle.cx_names_parts.proofs.Leads.{no_marks, are_marks, turned_graph, edges_count, without_circle}
+use Rattle.cx_names_parts.proofs.Leads.{no_marks, are_marks, edges_count, without_circle}
 use Rattle.cx_names_parts.proofs.Numbers.{number_there, first_found, first_within}
+use Rattle.cx_graphs.proofs.GraphsLemmas.{turned_graph}
 use Rattle.cx_names_parts.proofs.circles.CellCircles.leading.Goals as goal
 
 pub unreachable-requires : goal.unreachable-requires

@@ -1,7 +1,7 @@
 use Rattle.std.proofs.Common.{refl, arith, sym, rules, ◌≡◌, ◌+◌, length, take, ℕ}
-use Rattle.cx_prim.specs.MemoryLaws.{AreWords-set, memory_port}
+use Rattle.cx_prim.proofs.MemoryLaws.{AreWords-set, memory_port}
 use Rattle.cx_prim.specs.MemoryRows.{memory_row}
-use Rattle.cx_prim.specs.RowTools.{value_at_below}
+use Rattle.cx_prim.proofs.RowTools.{value_at_below}
 use Rattle.cx_stateful.specs.Layouts.{row_at_layout}
 use Rattle.cx_stateful.proofs.memory.CombinationalMemory.edge.Goals as goal
 

@@ -1,7 +1,7 @@
 use Rattle.std.proofs.Common.{sym, subst, List, ℕ, ◌≡◌, rules, replicate, take}
 use Rattle.cx_text.specs.Loading.{word_count}
 use Rattle.cx_prim.specs.CellStates.{AreWords}
-use Rattle.cx_prim.specs.MemoryLaws.{AreWords-start}
+use Rattle.cx_prim.proofs.MemoryLaws.{AreWords-start}
 use Rattle.cx_stateful.proofs.memory.CombinationalMemoryCycle.start.Goals as goal
 
 pub returns-clause-fits : goal.returns-clause-fits

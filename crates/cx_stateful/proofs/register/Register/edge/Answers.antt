@@ -1,6 +1,6 @@
 use Rattle.std.proofs.Common.{refl}
 use Rattle.cx_prim.specs.RegisterRow.{register_row}
-use Rattle.cx_prim.specs.RowTools.{value_at_below}
+use Rattle.cx_prim.proofs.RowTools.{value_at_below}
 use Rattle.cx_stateful.proofs.register.Register.edge.Goals as goal
 
 pub returns-then-state-clause-fits : goal.returns-then-state-clause-fits

@@ -11,9 +11,9 @@ use Rattle.cx_vsim.specs.Arrays.{CanTake, with_arrays}
 use Rattle.cx_vsim.specs.Models.{Loaded}
 use Rattle.cx_vsim.specs.Stands.{words_by}
 use Rattle.cx_vsim.proofs.LoadLemmas.{can_take}
-use Rattle.cx_vsim.proofs.Elements.{written_back}
 use Rattle.cx_vsim.proofs.SimLemmas.{words_are_loaded, load_stands}
 use Rattle.cx_vsim.proofs.Written.{length-with_arrays}
+use Rattle.cx_text.proofs.ListLaws.{written_back}
 use Rattle.cx_vsim.proofs.simulating.Sim.load.Goals as goal
 
 abbrev loaded_of : Source → List (List ℕ) → Loaded

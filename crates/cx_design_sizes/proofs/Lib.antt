@@ -1,0 +1,9 @@
+pub mod StepLemmas
+pub mod WayLemmas
+pub mod Caps
+pub mod SizeLemmas
+pub mod Places
+pub mod WordLemmas
+pub mod OrderLemmas
+pub mod TallyLemmas
+pub mod TalliesLemmas

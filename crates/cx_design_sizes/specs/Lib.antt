@@ -1,0 +1,5 @@
+pub mod Capped
+pub mod StatementSizes
+pub mod Dimensions
+pub mod Orders
+pub mod Tallies

@@ -1,0 +1,21 @@
+-- Facts of what `Control` defines, that several crates above take.
+use Rattle.std.proofs.Common.{◌≡◌, ℕ, true, ◌||◌, inl, inr, List, [], ◌∷◌, ap, ◌∙◌, Bool, false, refl}
+use Rattle.std.proofs.lemmas.Bool.{or_right}
+use Rattle.cx_meaning.specs.Designs.{PlainComponent}
+use Rattle.cx_meaning.specs.Sights.{In}
+use Rattle.cx_meaning.specs.Control.{group_drives, groups_drive}
+
+-- GROUPS: what a group of a statement drives the statement drives
+pub groups_drive_in : (part : PlainComponent) (gs : List ℕ) (g c : ℕ) → In gs g → group_drives part g c ≡ true → groups_drive part gs c ≡ true
+groups_drive_in part [] g c i e = absurd i
+groups_drive_in part (h ∷ gs) g c (inl same) e = ap (λ k. group_drives part k c || groups_drive part gs c) same ∙ ap (λ b. b || groups_drive part gs c) e
+groups_drive_in part (h ∷ gs) g c (inr i) e = or_right (group_drives part h c) (groups_drive part gs c) (groups_drive_in part gs g c i e)
+
+-- which of the groups drives a cell
+pub driver : (part : PlainComponent) (gs : List ℕ) (c : ℕ) → groups_drive part gs c ≡ true → (g : ℕ) × In gs g × (group_drives part g c ≡ true)
+driver part [] c e = absurd (cc)
+driver part (g ∷ gs) c e = go (group_drives part g c) refl e (driver part gs c)
+  where
+    go : (b : Bool) → group_drives part g c ≡ b → (b || groups_drive part gs c) ≡ true → (groups_drive part gs c ≡ true → (h : ℕ) × In gs h × (group_drives part h c ≡ true)) → (h : ℕ) × In (g ∷ gs) h × (group_drives part h c ≡ true)
+    go true here e later = (g, inl refl, here)
+    go false here e later = let r = later e in (r.0, inr r.1, r.2)

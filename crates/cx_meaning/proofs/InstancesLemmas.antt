@@ -1,0 +1,95 @@
+-- Facts of what `Instances` defines, that several crates above take.
+use Rattle.std.proofs.Common.{◌≡◌, ℕ, zero, suc, true, false, refl, ap, [], ◌∷◌, ◌++◌, ◌<◌, arith, Some, length}
+use Rattle.cx_meaning.specs.Instances.{just, Instance, Node, instance_at, Cells, add_cell, cell_at, OfInstance, OfRow, no_cells, Path, a_primitive, an_instance, idle_below, Nothing, cells_for, cells_of, tree_within, paths_of, State, idle_at}
+use Rattle.cx_meaning.specs.Designs.{PlainKind, OfPrimitive, OfComponent, no_component, PlainDesign, component_at}
+use Rattle.cx_prim.specs.Rows.{Row}
+use Rattle.cx_prim.specs.CellStates.{CellState}
+use Rattle.std.specs.List.{slice_get}
+use Rattle.cx_meaning.specs.declared.ports.PortRef.TheVariants as ports
+use Rattle.cx_meaning.specs.declared.sights.Seen.TheVariants.{Value}
+use Rattle.cx_meaning.specs.Active.{Active}
+use Rattle.cx_meaning.specs.Sights.{Held, seen}
+
+pub just_true : (k c : ℕ) → just k c ≡ true → k ≡ c
+just_true zero zero e = refl
+just_true zero (suc c) e = absurd (let f : false ≡ true = e in cc)
+just_true (suc k) zero e = absurd (let f : false ≡ true = e in cc)
+just_true (suc k) (suc c) e = ap suc (just_true k c e)
+
+pub here : (i : Instance) → instance_at i [] ≡ i
+here (Node part cells) = refl
+
+pub kind_skip : (trees : ℕ → Instance) (kind : PlainKind) (rest : Cells) (c : ℕ) → cell_at (add_cell trees kind rest) (suc c) ≡ cell_at rest c
+kind_skip trees (OfPrimitive p) rest c = refl
+kind_skip trees (OfComponent k) rest c = refl
+
+pub instance_is : (a b : Instance) → OfInstance a ≡ OfInstance b → a ≡ b
+instance_is a b e = cc
+
+pub row_is : (a b : Row) → OfRow a ≡ OfRow b → a ≡ b
+row_is a b e = cc
+
+pub instance_row : (child : Instance) (row : Row) → OfInstance child ≡ OfRow row → ⊥
+instance_row child row e = cc
+
+pub nowhere : (path : Path) → instance_at (Node no_component no_cells) path ≡ Node no_component no_cells
+nowhere [] = refl
+nowhere (c ∷ path) = refl
+
+pub row_instance : (row : Row) (child : Instance) → OfRow row ≡ OfInstance child → ⊥
+row_instance row child e = cc
+
+pub just_same : (k : ℕ) → just k k ≡ true
+just_same zero = refl
+just_same (suc k) = just_same k
+
+-- the idle edge of a row, and that of a cell of a child
+pub idle_below-row : (cells : Cells) (c : ℕ) (row : Row) (d : CellState) → cell_at cells c ≡ OfRow row → idle_below cells c [] d ≡ row.idle d
+idle_below-row no_cells c row d e = absurd (cc)
+idle_below-row (a_primitive own rest) zero row d e = let same : own ≡ row = cc in ap (λ (x : Row). x.idle d) same
+idle_below-row (a_primitive own rest) (suc c) row d e = idle_below-row rest c row d e
+idle_below-row (an_instance own rest) zero row d e = absurd (cc)
+idle_below-row (an_instance own rest) (suc c) row d e = idle_below-row rest c row d e
+
+pub nothing_instance : (child : Instance) → Nothing ≡ OfInstance child → ⊥
+nothing_instance child e = cc
+
+pub append_none : (path : Path) → path ++ [] ≡ path
+append_none [] = refl
+append_none (c ∷ path) = ap (λ p. c ∷ p) (append_none path)
+
+pub nothing_row : (row : Row) → Nothing ≡ OfRow row → ⊥
+nothing_row row e = cc
+
+pub not_just : (k c : ℕ) → (c ≡ k → ⊥) → just k c ≡ false
+not_just zero zero h = absurd (h refl)
+not_just zero (suc c) h = refl
+not_just (suc k) zero h = refl
+not_just (suc k) (suc c) h = not_just k c (λ e. h (ap suc e))
+
+pub some_cells : (d : PlainDesign) (n k : ℕ) → 0 < n → (trees : ℕ → Instance) × (cells_of (tree_within d n k) ≡ cells_for trees (component_at d k).cells)
+some_cells d zero k lt = absurd (omega arith)
+some_cells d (suc n) k lt = (tree_within d n, refl)
+
+-- below what is no child nothing is idle
+pub no_child : (cells : Cells) (c e : ℕ) (below : Path) (x : CellState) → ((child : Instance) → cell_at cells c ≡ OfInstance child → ⊥) → idle_below cells c (e ∷ below) x ≡ x
+no_child no_cells c e below x none = refl
+no_child (a_primitive row rest) zero e below x none = refl
+no_child (a_primitive row rest) (suc c) e below x none = no_child rest c e below x none
+no_child (an_instance child rest) zero e below x none = absurd (none child refl)
+no_child (an_instance child rest) (suc c) e below x none = no_child rest c e below x none
+
+pub main_path : (i : Instance) (q : Path) → slice_get (paths_of i) 0 ≡ Some q → q ≡ []
+main_path (Node part cells) q e = let f : Some [] ≡ Some q = e in cc
+
+pub literal_is : (i : Instance) (held : Held) (act : Active) (s : State) (w v : ℕ) → seen i held act s (ports.Literal w v) ≡ Value (record { width = w; value = v })
+literal_is (Node own cells) held act s w v = refl
+
+pub top_idle : (i : Instance) (state : CellState) → idle_at i [] state ≡ state
+top_idle (Node part cells) state = refl
+
+pub main_there : (i : Instance) → 0 < length (paths_of i)
+main_there (Node part cells) = omega arith
+
+pub main_first : (i : Instance) → slice_get (paths_of i) 0 ≡ Some []
+main_first (Node part cells) = refl

@@ -1,6 +1,0 @@
--- Small facts on tests.
-use Rattle.std.proofs.Common.{◌≡◌, ◌||◌, Bool, true, false, refl}
-
-pub or_assoc : (a b c : Bool) → ((a || b) || c) ≡ (a || (b || c))
-or_assoc true b c = refl
-or_assoc false b c = refl
