@@ -1,6 +1,7 @@
 -- THE TEXT OF A DESIGN has at most 4,096 bytes for each unit of its size and 256 for each unit of its weight, where its modules are narrow.
 use Rattle.std.proofs.Common.{◌≡◌, ℕ, ◌+◌, ◌*◌, ◌^◌, ◌<◌, ◌≤◌, true, List, [], ◌∷◌, length, refl, arith}
 use Rattle.cx_meaning.specs.Designs.{PlainComponent, PlainDesign, component_at}
+use Rattle.cx_rules.specs.Flat.{IsFlat}
 use Rattle.cx_rules.specs.Accepted.{IsAccepted}
 use Rattle.cx_rules.specs.Sizes.{size_of, sizes_of, design_size, weight_of}
 use Rattle.cx_rules.specs.Wellformed.{IsDesign}
@@ -32,7 +33,7 @@ share_sum : (f g : ℕ → ℕ) (ks : List ℕ) → sum_over (λ k. 4096 * f k +
 share_sum f g [] = refl
 share_sum f g (k ∷ ks) = let h : sum_over (λ j. 4096 * f j + 134 * g j) ks ≡ 4096 * sum_over f ks + 134 * sum_over g ks = share_sum f g ks in omega (arith, h)
 
-module _ (d : PlainDesign) (rules : IsDesign d) (accepted : IsAccepted d) (small : design_size d ≤ 16384) (parts : (k : ℕ) → k < length d.components → PartsHold (component_at d k))
+module _ (d : PlainDesign) (rules : IsDesign d) (flat : IsFlat d) (accepted : IsAccepted d) (small : design_size d ≤ 16384) (parts : (k : ℕ) → k < length d.components → PartsHold (component_at d k))
     (shallow : (k : ℕ) → k < length d.components → Shallow 64 (component_at d k).control) where
   pub order_few : length (order (lowered_of d)) < 10 ^ 5
   order_few =
@@ -48,9 +49,9 @@ module _ (d : PlainDesign) (rules : IsDesign d) (accepted : IsAccepted d) (small
   modules_written =
       let many = order_few in
       let few : 0 + length (order (lowered_of d)) ≤ 10 ^ 5 = omega (arith, many) in
-      let all : sum_over module_bytes (source_of (inlined (net_of (lowered_of d)))).modules + sum_over (λ k. outside_sum d rules (net d rules small) (order (lowered_of d)) (lowered_cells d rules k)) (order (lowered_of d)) ≤ sum_over (share d rules accepted small parts shallow many) (order (lowered_of d)) =
-      all_written d rules accepted small parts shallow many 0 (order (lowered_of d)) (λ k h. h) few in
-      let split : sum_over (share d rules accepted small parts shallow many) (order (lowered_of d)) ≡ 4096 * sum_over (λ k. size_of (component_at d k) + 1) (order (lowered_of d)) + 134 * sum_over (cells_weight d rules) (order (lowered_of d)) =
+      let all : sum_over module_bytes (source_of (inlined (net_of (lowered_of d)))).modules + sum_over (λ k. outside_sum d rules (net d rules small) (order (lowered_of d)) (lowered_cells d rules k)) (order (lowered_of d)) ≤ sum_over (share d rules flat accepted small parts shallow many) (order (lowered_of d)) =
+      all_written d rules flat accepted small parts shallow many 0 (order (lowered_of d)) (λ k h. h) few in
+      let split : sum_over (share d rules flat accepted small parts shallow many) (order (lowered_of d)) ≡ 4096 * sum_over (λ k. size_of (component_at d k) + 1) (order (lowered_of d)) + 134 * sum_over (cells_weight d rules) (order (lowered_of d)) =
       share_sum (λ k. size_of (component_at d k) + 1) (cells_weight d rules) (order (lowered_of d)) in
       let sizes : sum_over (λ k. size_of (component_at d k) + 1) (order (lowered_of d)) ≤ sum_over (λ (x : PlainComponent). size_of x + 1) d.components = sizes_few d rules (λ (x : PlainComponent). size_of x + 1) in
       let whole : sum_over (λ (x : PlainComponent). size_of x + 1) d.components ≡ sizes_of d.components = sizes_sum d.components in

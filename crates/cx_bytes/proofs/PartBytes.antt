@@ -71,8 +71,8 @@ module _ (d : PlainDesign) (rules : IsDesign d) (k : ℕ) (within : k < length d
   abbrev low : PlainLowered
   low = lowered_component part
 
-  untimed : Untimed (statements_in part)
-  untimed v i n is = subst (IsForm part) is (subst (λ x. IsForm x v.form) (same_part d (length d.components) k) ((rules.components k within).statements v i).form)
+  untimed : IsFlatPart part → Untimed (statements_in part)
+  untimed flat v i n is = no_timed part flat n (subst (IsForm part) is (subst (λ x. IsForm x v.form) (same_part d (length d.components) k) ((rules.components k within).statements v i).form))
 
   all_parts : (list : List Owned) → ((o : Owned) → In list o → HasParts o.assign.guard) → AllParts (groups low) list
   all_parts [] each = tt

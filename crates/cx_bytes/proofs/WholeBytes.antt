@@ -6,6 +6,7 @@ use Rattle.std.specs.List.{cons_option}
 use Rattle.std.proofs.lemmas.List.{length-map}
 use Rattle.std.proofs.lemmas.Option.{slice_get_within}
 use Rattle.cx_meaning.specs.Designs.{PlainComponent, PlainDesign, component_at}
+use Rattle.cx_rules.specs.Flat.{IsFlat}
 use Rattle.cx_rules.specs.Accepted.{IsAccepted}
 use Rattle.cx_rules.specs.Sizes.{size_of, design_size}
 use Rattle.cx_rules.specs.Wellformed.{IsDesign}
@@ -40,7 +41,7 @@ use Rattle.cx_bytes.proofs.SignedBytes.{holed, net, sized, signed, module_short,
 use Rattle.std.proofs.lemmas.Bool.{or_right}
 use Rattle.cx_holes.proofs.RenamedRuns.{counted}
 
-module _ (d : PlainDesign) (rules : IsDesign d) (accepted : IsAccepted d) (small : design_size d ≤ 16384) (parts : (k : ℕ) → k < length d.components → PartsHold (component_at d k))
+module _ (d : PlainDesign) (rules : IsDesign d) (flat : IsFlat d) (accepted : IsAccepted d) (small : design_size d ≤ 16384) (parts : (k : ℕ) → k < length d.components → PartsHold (component_at d k))
     (shallow : (k : ℕ) → k < length d.components → Shallow 64 (component_at d k).control)
     (many : length (order (lowered_of d)) < 10 ^ 5) where
   -- what a component has at most
@@ -65,7 +66,7 @@ module _ (d : PlainDesign) (rules : IsDesign d) (accepted : IsAccepted d) (small
 
     drivers_short : sum_over before_bytes D.drivers ≤ bare_costs C.drivers
     drivers_short =
-        let wired = component_few d rules k within (parts k within) in
+        let wired = component_few d rules k within (parts k within) (flat k within) in
         let size : size_of part < 16384 = sized d rules small k within in
         let wires : length C.wires + C.holes < 10 ^ 7 = omega (arith, wired, size) in
         let registers : length C.registers < 10 ^ 7 = omega (arith, wired, size) in
@@ -73,13 +74,13 @@ module _ (d : PlainDesign) (rules : IsDesign d) (accepted : IsAccepted d) (small
         (λ m w e. let low = slice_get_within C.registers m w e in register_short m (omega (arith, low, registers)))
         (λ m w e. let low = slice_get_within C.wires m w e in wire_short m (omega (arith, low, wires)))
         (λ m low. wire_short (length C.wires + m) (omega (arith, low, wires)))
-        C.drivers (component_drives d rules accepted k here)
+        C.drivers (component_drives d rules flat accepted k here)
 
     -- A COMPONENT with the modules of its cells
     pub one_written : sum_over module_bytes (component_modules (net d rules small) n D) + outside_sum d rules (net d rules small) (order (lowered_of d)) (lowered_cells d rules k) ≤ share k
     one_written =
         let size : size_of part < 16384 = sized d rules small k within in
-        let wired = component_few d rules k within (parts k within) in
+        let wired = component_few d rules k within (parts k within) (flat k within) in
         let wires : length C.wires + C.holes ≤ 10 ^ 7 = omega (arith, wired, size) in
         let all_wires : length D.wires ≡ length C.wires + C.holes = counted C in
         let inputs : length D.inputs ≤ 10 ^ 5 = omega (arith, size) in

@@ -3,6 +3,7 @@ use Rattle.std.proofs.Common.{◌≡◌, inl, inr, ⊎_elim, ℕ, suc, ◌+◌, 
 use Rattle.cx_text.specs.declared.limits.TheConstants.{COMPILE_SIZE, VERILOG_BYTES}
 use Rattle.cx_meaning.specs.Designs.{PlainCell, PlainDesign, component_at}
 use Rattle.cx_meaning.specs.Sights.{In}
+use Rattle.cx_rules.specs.Flat.{IsFlat}
 use Rattle.cx_rules.specs.Accepted.{IsAccepted}
 use Rattle.cx_rules.specs.Sizes.{size_of, design_size, weight_of}
 use Rattle.cx_rules.specs.Wellformed.{IsDesign}
@@ -100,12 +101,12 @@ module _ (d : PlainDesign) (rules : IsDesign d) (small : design_size d ≤ 16384
       omega (arith, lines, few)))
       (stands d rules small d.main main_here).none_or
 
-module _ (d : PlainDesign) (rules : IsDesign d) (accepted : IsAccepted d) (small : design_size d ≤ 16384) (parts : (k : ℕ) → k < length d.components → PartsHold (component_at d k))
+module _ (d : PlainDesign) (rules : IsDesign d) (flat : IsFlat d) (accepted : IsAccepted d) (small : design_size d ≤ 16384) (parts : (k : ℕ) → k < length d.components → PartsHold (component_at d k))
     (shallow : (k : ℕ) → k < length d.components → Shallow 64 (component_at d k).control) (sound : is_sound (source_of (inlined (net_of (lowered_of d)))) ≡ true) where
   pub written_bytes : length (text_of (source_of (inlined (net_of (lowered_of d))))) ≤ 4096 * design_size d + 256 * weight_of d
   written_bytes =
       let brief = sound_brief (source_of (inlined (net_of (lowered_of d)))) sound in
-      let text = text_few d rules accepted small parts shallow sound (brief_narrow (source_of (inlined (net_of (lowered_of d)))).externals brief) in
+      let text = text_few d rules flat accepted small parts shallow sound (brief_narrow (source_of (inlined (net_of (lowered_of d)))).externals brief) in
       let lines = externals_few d rules small (parts d.main rules.main_there) brief in
       let among : outside_sum d rules (net d rules small) (order (lowered_of d)) (lowered_cells d rules d.main)
       ≤ sum_over (λ k. outside_sum d rules (net d rules small) (order (lowered_of d)) (lowered_cells d rules k)) (order (lowered_of d)) =
@@ -118,8 +119,8 @@ module _ (d : PlainDesign) (rules : IsDesign d) (accepted : IsAccepted d) (small
   written_within light = let few = written_bytes in omega (arith, few, small, light)
 
 -- as a law of designs
-pub texts_small : (d : PlainDesign) → IsDesign d → IsAccepted d → design_size d ≤ COMPILE_SIZE → HasGuards d → IsShallow d
+pub texts_small : (d : PlainDesign) → IsDesign d → IsFlat d → IsAccepted d → design_size d ≤ COMPILE_SIZE → HasGuards d → IsShallow d
     → is_sound (source_of (inlined (net_of (lowered_of d)))) ≡ true → HasFewBytes d (source_of (inlined (net_of (lowered_of d))))
-texts_small d rules accepted within guards shallow sound =
+texts_small d rules flat accepted within guards shallow sound =
     let small : design_size d ≤ 16384 = within in
-    written_bytes d rules accepted small guards shallow sound
+    written_bytes d rules flat accepted small guards shallow sound

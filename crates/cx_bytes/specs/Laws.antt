@@ -5,6 +5,7 @@ use Rattle.cx_prim.specs.Table.{PrimitiveRow, HasRow}
 use Rattle.cx_meaning.specs.Active.{Owned, source_order}
 use Rattle.cx_meaning.specs.Designs.{PlainDesign, component_at}
 use Rattle.cx_meaning.specs.Sights.{In}
+use Rattle.cx_rules.specs.Flat.{IsFlat}
 use Rattle.cx_rules.specs.Accepted.{IsAccepted}
 use Rattle.cx_rules.specs.Sizes.{design_size, weight_of}
 use Rattle.cx_rules.specs.Wellformed.{IsDesign}
@@ -50,5 +51,5 @@ HasFewBytes d source = length (text_of source) ≤ 4096 * design_size d + 256 * 
 -- the source that the passes make of an accepted design within the size has few bytes where it is sound, if its guards have such parts and no
 -- statement stands within more than 64 static ifs
 abbrev pub TextsAreSmall : Type 0
-TextsAreSmall = (d : PlainDesign) → IsDesign d → IsAccepted d → design_size d ≤ COMPILE_SIZE → HasGuards d → IsShallow d
+TextsAreSmall = (d : PlainDesign) → IsDesign d → IsFlat d → IsAccepted d → design_size d ≤ COMPILE_SIZE → HasGuards d → IsShallow d
     → is_sound (source_of (inlined (net_of (lowered_of d)))) ≡ true → HasFewBytes d (source_of (inlined (net_of (lowered_of d))))

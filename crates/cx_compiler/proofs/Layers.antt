@@ -3,6 +3,7 @@
 use Rattle.std.proofs.Common.{◌≡◌, ◌↔◌, ℕ, List, Result, Ok, Err, IfOk, sym, ap, ◌∙◌, subst}
 use Rattle.cx_text.specs.Loading.{FitsRows, words_loaded}
 use Rattle.cx_meaning.specs.Designs.{PlainDesign}
+use Rattle.cx_rules.specs.Flat.{IsFlat}
 use Rattle.cx_rules.specs.Accepted.{IsAccepted}
 use Rattle.cx_rules.specs.Externals.{rows_of}
 use Rattle.cx_rules.specs.Wellformed.{IsDesign}
@@ -44,10 +45,10 @@ without_holes d net holeless own is does = record {
   rows = ap (λ k. rows_of (net_component_at holeless k).cells) (ap (λ (n : PlainNet). n.main) is) ∙ ap (λ cells. rows_of cells) (does.cells net.main) ∙ own.rows;
 }
 
-pub net_without_holes : {X F : Type 0} (made : X → PlainNet) (d : PlainDesign) (net : PlainNet) (r : Result X F) → (IsDesign d → IsAccepted d → IsNetFor d net) → IfOk r (λ x. made x ≡ inlined net)
+pub net_without_holes : {X F : Type 0} (made : X → PlainNet) (d : PlainDesign) (net : PlainNet) (r : Result X F) → (IsDesign d → IsFlat d → IsAccepted d → IsNetFor d net) → IfOk r (λ x. made x ≡ inlined net)
     → (IsFit net → HasTargets net → IfOk r (λ x. DoesWithoutHoles net (made x))) → IfOk r (λ x. HasItsNet d (made x))
-net_without_holes made d net (Ok x) own is does = λ rules accepted.
-    let has = own rules accepted in
+net_without_holes made d net (Ok x) own is does = λ rules flat accepted.
+    let has = own rules flat accepted in
     without_holes d net (made x) has is (does has.fits has.targets)
 net_without_holes made d net (Err fault) own is does = tt
 
@@ -59,7 +60,7 @@ source_does d net source own rows carry =
 
 pub source_of_net : {X F : Type 0} (made : X → PlainSource) (d : PlainDesign) (net : PlainNet) (r : Result X F) → HasItsNet d net → IfOk r (λ x. RunsAs net (made x))
     → IfOk r (λ x. text.rows_of (made x).externals ≡ rows_of (net_component_at net net.main).cells) → IfOk r (λ x. made x ≡ written_source d) → IfOk r (λ _. IsRealised d)
-source_of_net made d net (Ok x) has runs rows written = λ rules accepted. subst (Realises d) written (source_does d net (made x) (has rules accepted) rows runs)
+source_of_net made d net (Ok x) has runs rows written = λ rules flat accepted. subst (Realises d) written (source_does d net (made x) (has rules flat accepted) rows runs)
 source_of_net made d net (Err fault) has runs rows written = tt
 
 -- and the text that spells it

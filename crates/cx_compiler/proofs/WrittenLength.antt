@@ -5,6 +5,7 @@ use Rattle.cx_text.specs.declared.limits.TheConstants.{COMPILE_SIZE, VERILOG_BYT
 use Rattle.cx_text.specs.declared.rules.Rule.TheVariants as told
 use Rattle.cx_ast.specs.PlainTree.{PlainTree}
 use Rattle.cx_meaning.specs.Designs.{PlainDesign, component_at}
+use Rattle.cx_rules.specs.Flat.{IsFlat}
 use Rattle.cx_rules.specs.Accepted.{IsAccepted}
 use Rattle.cx_rules.specs.LimitRule.{OnWeight, word_of, order_of}
 use Rattle.cx_rules.specs.Sizes.{design_size, weight_of}
@@ -48,13 +49,13 @@ weight_few d accepted = ⊎_elim (λ more. absurd (over more)) (λ h. h) (cases_
         (inr (inr (inr (inr (inr (inr (record { at_main = refl; is = refl; exceeds = more; tells = (refl, refl) })))))))
 
 -- SO IT IS SHORT, of a tree that is accepted
-module _ (d : PlainDesign) (rules : IsDesign d) (accepted : IsAccepted d) (within : design_size d ≤ COMPILE_SIZE) (parts : (k : ℕ) → k < length d.components → PartsHold (component_at d k)) where
+module _ (d : PlainDesign) (rules : IsDesign d) (flat : IsFlat d) (accepted : IsAccepted d) (within : design_size d ≤ COMPILE_SIZE) (parts : (k : ℕ) → k < length d.components → PartsHold (component_at d k)) where
   short : IsShallow d → is_sound (written_source d) ≡ true → length (text_of (written_source d)) ≤ VERILOG_BYTES
   short shallow sound =
       let small : design_size d ≤ 16384 = within in
       let weight : weight_of d ≤ WEIGHT = weight_few d accepted in
       let light : weight_of d ≤ 65536 = omega (arith, weight) in
-      written_within d rules accepted small parts shallow sound light
+      written_within d rules flat accepted small parts shallow sound light
 
 pub tree_short : (tree : PlainTree) (d : PlainDesign) → HasTargets tree → IsAcceptedTree tree → d ≡ design_of tree → HasWords d → IsShallow d → IsShortWithin d
 tree_short tree d targets accepted same words shallow within =

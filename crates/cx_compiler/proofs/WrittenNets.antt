@@ -10,6 +10,7 @@ use Rattle.cx_meaning.specs.Designs.{PlainCell, PlainComponent, PlainDesign, no_
 use Rattle.cx_meaning.specs.Instances as instances
 use Rattle.cx_meaning.specs.Instances.{Instance, Cells, no_cells, a_primitive, an_instance, tree_of}
 use Rattle.cx_meaning.specs.Sights.{In}
+use Rattle.cx_rules.specs.Flat.{IsFlat}
 use Rattle.cx_rules.specs.Accepted.{IsAccepted}
 use Rattle.cx_rules.specs.Sizes.{size_of, weight_of, design_size}
 use Rattle.cx_rules.specs.Wellformed.{IsDesign}
@@ -97,19 +98,19 @@ mutual
   cells_made d (a_primitive row rest) rows = ap (a_row row) (cells_made d rest rows)
   cells_made d (an_instance child rest) rows = ap₂ a_child (tree_made d child) (cells_made d rest rows)
 
-module _ (d : PlainDesign) (rules : IsDesign d) (accepted : IsAccepted d) (can : CanBeWritten d) where
+module _ (d : PlainDesign) (rules : IsDesign d) (flat : IsFlat d) (accepted : IsAccepted d) (can : CanBeWritten d) where
   abbrev net : PlainNet
   net = net_of (lowered_of d)
 
   names : NetNames net
-  names = fit_names net (net_fits d rules accepted) (targets_there d rules accepted)
+  names = fit_names net (net_fits d rules flat accepted) (targets_there d rules flat accepted)
 
   made_so : net_tree (inlined net) ≡ net_of_instance (made d) timers_of no_numbers (tree_of d)
   made_so = tree_same net ∙ ap inlined_tree (net_tree-net_of d rules no_numbers) ∙ tree_made d (tree_of d)
 
   own_nets : (k : ℕ) → k < length d.components → OwnNets d rules (made d) no_numbers k
   own_nets =
-      own_few d rules can.parts no_numbers (made d) (λ k. refl)
+      own_few d rules can.parts no_numbers flat (made d) (λ k. refl)
       (λ k. let count : length (made d (component_at d k)).wires ≡ length (wired_in d (component_at d k)).wires + (wired_in d (component_at d k)).holes = counted (wired_in d (component_at d k)) in omega arith)
       (λ k. refl)
 
@@ -121,7 +122,7 @@ module _ (d : PlainDesign) (rules : IsDesign d) (accepted : IsAccepted d) (can :
   own_wires k within =
       let size : size_of (component_at d k) < design_size d = size_among d.components k (component_at d k) (slice_get-get_or d.components k no_component within) in
       let small : design_size d < 2 ^ 32 = rules.few_parts in
-      let wired = component_few d rules k within (can.parts k within) in
+      let wired = component_few d rules k within (can.parts k within) (flat k within) in
       omega (arith, wired)
 
   few_wires : (n : ℕ) → n < length net.components → length (net_component_at net n).wires + (net_component_at net n).holes < 2 ^ 64
@@ -132,10 +133,10 @@ module _ (d : PlainDesign) (rules : IsDesign d) (accepted : IsAccepted d) (can :
 
   net_emitted : CanBeEmitted (written_net d)
   net_emitted = record {
-    fits = inlined_fits net names (net_fits d rules accepted);
-    targets = inlined_targets net names (targets_there d rules accepted);
+    fits = inlined_fits net names (net_fits d rules flat accepted);
+    targets = inlined_targets net names (targets_there d rules flat accepted);
     no_holes = inlined_no_holes net;
-    writable = inlined_writable net names few_wires few_nets (net_writable d rules accepted can);
+    writable = inlined_writable net names few_wires few_nets (net_writable d rules flat accepted can);
   }
 
   -- its nets: 64 for each unit of weight at most

@@ -97,8 +97,8 @@ module _ (d : PlainDesign) (rules : IsDesign d) where
     within : k < length d.components
     within = there d rules k here
 
-    untimed : Untimed (statements_in part)
-    untimed v i n is = subst (IsForm part) is (subst (λ x. IsForm x v.form) (same_part d (length d.components) k) ((rules.components k within).statements v i).form)
+    untimed : IsFlatPart part → Untimed (statements_in part)
+    untimed flat v i n is = no_timed part flat n (subst (IsForm part) is (subst (λ x. IsForm x v.form) (same_part d (length d.components) k) ((rules.components k within).statements v i).form))
 
     -- CELLS: the design's own come first
     own_kind : (cell : PlainCell) → In part.cells cell → (kind : PlainKind) → cell.kind ≡ kind → kind_for stands (kind_in places kind) ≡ kind
@@ -168,8 +168,8 @@ module _ (d : PlainDesign) (rules : IsDesign d) where
   -- THE SHAPE of what is written
   pub written_shape : IsAccepted d → is_sound (written_source d) ≡ true → IsShaped d (written_source d)
   written_shape accepted sound =
-      let fits = net_fits d rules accepted in
-      source_shaped d net (inlined_fits (net_of low) (fit_names (net_of low) fits (targets_there d rules accepted)) fits) sound net_for
+      let fits = net_fits d rules flat accepted in
+      source_shaped d net (inlined_fits (net_of low) (fit_names (net_of low) fits (targets_there d rules flat accepted)) fits) sound net_for
 
 -- ITS NAMES
 pub written_names : (d : PlainDesign) → HasOwnNames (written_source d)

@@ -5,6 +5,7 @@ use Rattle.cx_text.specs.declared.rules.Rule.TheVariants.{TooLarge}
 use Rattle.cx_text.specs.declared.limits.TheConstants.{COMPILE_SIZE, VERILOG_BYTES}
 use Rattle.cx_text.specs.Loading.{PlainRow}
 use Rattle.cx_meaning.specs.Designs.{PlainDesign, no_place}
+use Rattle.cx_rules.specs.Flat.{IsFlat}
 use Rattle.cx_rules.specs.Accepted.{IsAccepted}
 use Rattle.cx_rules.specs.Externals.{rows_of, external_rows}
 use Rattle.cx_rules.specs.Sizes.{design_size, weight_of}
@@ -70,11 +71,11 @@ pub record IsHolelessNetFor (d : PlainDesign) (net : PlainNet) : Type 0 where
 
 -- of a design that breaks no rule
 abbrev pub HasItsNet : PlainDesign → PlainNet → Type 0
-HasItsNet d net = IsDesign d → IsAccepted d → IsHolelessNetFor d net
+HasItsNet d net = IsDesign d → IsFlat d → IsAccepted d → IsHolelessNetFor d net
 
 -- the source that is written of a design that breaks no rule realises it
 abbrev pub IsRealised : PlainDesign → Type 0
-IsRealised d = IsDesign d → IsAccepted d → Realises d (written_source d)
+IsRealised d = IsDesign d → IsFlat d → IsAccepted d → Realises d (written_source d)
 
 -- of a design: it is within the size, and this is its net: the one that is written, and where it breaks no rule it does what it means
 abbrev pub IsSizedNet : PlainDesign → PlainNet → Type 0

@@ -33,6 +33,7 @@ use Rattle.cx_rules.specs.CallShape.{is_reg_name, is_reg_kind, write_en_of, capt
 use Rattle.cx_rules.proofs.FoundLemmas.{same_is}
 use Rattle.cx_control.specs.Flows.{Reaches}
 use Rattle.cx_rules.specs.Accepted.{IsAccepted}
+use Rattle.cx_rules.specs.Flat.{IsFlat}
 use Rattle.cx_rules.specs.Wellformed.{IsDesign, IsForm, IsKind}
 use Rattle.cx_rules.proofs.CircleLemmas.{Reached, a_tree, no_tree, reached, instance_acyclic, instance_group}
 use Rattle.cx_rules.proofs.ForeignLemmas.{assigns_drive_in}
@@ -299,8 +300,13 @@ module _ (d : PlainDesign) (design : IsDesign d) (accepted : IsAccepted d) where
     lasts (StaticRepeat length count a) place stands e = (statics (record { context = Dynamic; form = StaticRepeat length count a; place = place }) stands refl refl).0
     lasts (Timed k) place stands e = absurd (false_true e)
 
-    untimed : (k : ℕ) (place : Place) → Stands (instance_at (tree_of d) path) (Placed (Timed k) place) → ⊥
-    untimed k place stands = forms (record { context = Dynamic; form = Timed k; place = place }) stands
+    no_invoke : IsFlat d → (part_of (instance_at (tree_of d) path)).invokes ≡ []
+    no_invoke flat = instance_part (λ part. part.invokes ≡ []) (λ k l. (flat k l).no_invoke) refl path
+
+    untimed : IsFlat d → (k : ℕ) (place : Place) → Stands (instance_at (tree_of d) path) (Placed (Timed k) place) → ⊥
+    untimed flat k place stands =
+        let none : k < 0 = subst (λ invokes. k < length invokes) (no_invoke flat) (forms (record { context = Dynamic; form = Timed k; place = place }) stands) in
+        omega (arith, none)
 
     group_there : (g : ℕ) (place : Place) → Stands (instance_at (tree_of d) path) (Placed (Enable g) place) → g < length (part_of (instance_at (tree_of d) path)).groups
     group_there g place stands = (forms (record { context = Dynamic; form = Enable g; place = place }) stands).0
@@ -363,10 +369,10 @@ module _ (d : PlainDesign) (design : IsDesign d) (accepted : IsAccepted d) where
         not_both (kinds.Timed n) plain timed = false_true plain
 
     -- ALL RULES
-    pub control_rules : ControlRules (instance_at (tree_of d) path)
-    control_rules = record {
+    pub control_rules : IsFlat d → ControlRules (instance_at (tree_of d) path)
+    control_rules flat = record {
       rules = instance_rules;
-      is_untimed = untimed;
+      is_untimed = untimed flat;
       unshared = λ v i c. none_shared d accepted path v i c;
       lasts = lasts;
       calls = λ g place c stands e. calls_of (instance_stands d path) g c (group_there g place stands) e;

@@ -3,6 +3,7 @@
 ghost use Rattle.cx_meaning.specs.Designs.{PlainDesign};
 ghost use Rattle.cx_meaning.specs.Instances.{Path, tree_of, instance_at, idle_at};
 ghost use Rattle.cx_rules.specs.Accepted.{IsAccepted};
+ghost use Rattle.cx_rules.specs.Flat.{IsFlat};
 ghost use Rattle.cx_rules.specs.Wellformed.{IsDesign};
 ghost use Rattle.cx_control.specs.Leaves.{Coded};
 ghost use Rattle.cx_control.specs.Controls.{coded_control};
@@ -22,9 +23,9 @@ use cx_laws::laws::{
     timers_give_the_begun_ports,
 };
 
-/// Every instance of an accepted design keeps the rules that its control needs.
+/// Every instance of an accepted design without static components keeps the rules that its control needs.
 pub fn instances_keep_rules()
-    ensures rules { (d : PlainDesign) (path : Path) → IsDesign d → IsAccepted d → ControlRules (instance_at (tree_of d) path) }
+    ensures rules { (d : PlainDesign) (path : Path) → IsDesign d → IsFlat d → IsAccepted d → ControlRules (instance_at (tree_of d) path) }
     ensures islands { (d : PlainDesign) (path : Path) → IsAccepted d → IslandRules (instance_at (tree_of d) path) }
 {
     cycles_keep_the_rest();
@@ -41,20 +42,20 @@ pub fn instances_keep_rules()
 /// from rest, is kept by every step without a fault, and an end leaves all at rest.
 pub fn controls_stand()
     ensures codes { (d : PlainDesign) (path : Path)
-        → IsDesign d → IsAccepted d
+        → IsDesign d → IsFlat d → IsAccepted d
         → IsRegion (Coded.machine (coded_control (instance_at (tree_of d) path))) (Coded.coding (coded_control (instance_at (tree_of d) path))) }
     ensures keeps { (d : PlainDesign) (path : Path)
-        → IsDesign d → IsAccepted d
+        → IsDesign d → IsFlat d → IsAccepted d
         → Keeps (coded_control (instance_at (tree_of d) path)) (good_control (instance_at (tree_of d) path))
         (λ below cell. idle_at (instance_at (tree_of d) path) below cell) (λ below n v. number_idle_at (instance_at (tree_of d) path) below n v) }
 {
     instances_keep_rules();
 }
 
-/// The machine of an accepted design ends as its main does, after as many cycles and with the same cells, and is not done while
+/// The machine of an accepted design without static components ends as its main does, after as many cycles and with the same cells, and is not done while
 /// main needs more turns.
 pub fn machine_runs()
-    ensures { (d : PlainDesign) → IsDesign d → IsAccepted d → MachineRuns d }
+    ensures { (d : PlainDesign) → IsDesign d → IsFlat d → IsAccepted d → MachineRuns d }
 {
     instances_keep_rules();
     loaded_start_is_settled();

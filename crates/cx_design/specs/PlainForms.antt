@@ -1,6 +1,6 @@
 -- What the types of a design stand for, as plain data. A guard and a statement are told by their folds.
 use Rattle.std.specs.Prelude.{ℕ, List, [], ◌∷◌, map}
-use Rattle.cx_meaning.specs.Designs.{PlainGuard, Always, Atom, Negation, All, Any, Compared, Within, guards_of, PlainAssign, PlainGroup, PlainKind, OfPrimitive, OfComponent, PlainCell, PlainForm, PlainStatement, Placed, PlainStatements, statements_of, PlainComponent, PlainDesign}
+use Rattle.cx_meaning.specs.Designs.{PlainGuard, Always, Atom, Negation, All, Any, Compared, Within, guards_of, PlainAssign, PlainGroup, PlainKind, OfPrimitive, OfComponent, PlainCell, PlainForm, PlainStatement, Placed, PlainStatements, statements_of, PlainInvoke, PlainComponent, PlainDesign}
 use Rattle.cx_meaning.specs.Designs as plain
 use Rattle.cx_design.specs.declared.guards.Guard.{Guard, Guard-F, fold-Guard}
 use Rattle.cx_design.specs.declared.guards.Guard.TheOpen as guards
@@ -12,6 +12,7 @@ use Rattle.cx_design.specs.declared.cells.Cell.{Cell}
 use Rattle.cx_design.specs.declared.statements.Form.{Form, Form-F, fold-Form}
 use Rattle.cx_design.specs.declared.statements.Form.TheOpen as forms
 use Rattle.cx_design.specs.declared.statements.Statement.{Statement, Statement-F, fold-Statement}
+use Rattle.cx_design.specs.declared.invokes.StaticInvoke.{StaticInvoke}
 use Rattle.cx_design.specs.declared.components.Component.{Component}
 
 abbrev pub guard_step : Guard-F PlainGuard → PlainGuard
@@ -38,6 +39,7 @@ form_step (forms.StaticSeq length parts) = plain.StaticSeq length (statements_of
 form_step (forms.StaticPar length parts) = plain.StaticPar length (statements_of parts.items)
 form_step (forms.StaticIf length test a b) = plain.StaticIf length test a.value b.value
 form_step (forms.StaticRepeat length count a) = plain.StaticRepeat length count a.value
+form_step (forms.StaticInvoke k) = plain.Timed k
 form_step (forms.Timed k) = plain.Timed k
 
 abbrev pub statement_step : Statement-F PlainForm PlainStatement → PlainStatement
@@ -68,13 +70,25 @@ plain_kind (Part k) = OfComponent k
 abbrev pub plain_cell : Cell → PlainCell
 plain_cell c = record { name = c.name; kind = plain_kind c.kind; external = c.external; place = c.place }
 
+abbrev pub plain_invoke : StaticInvoke → PlainInvoke
+plain_invoke v = record {
+  cell = v.cell;
+  written = v.written;
+  length = v.length;
+  latency = v.latency;
+  inputs = plain_assigns v.inputs.items;
+  captures = v.captures;
+}
+
 abbrev pub plain_component : Component → PlainComponent
 plain_component c = record {
   name = c.name;
+  latency = c.latency;
   inputs = c.inputs.items;
   outputs = c.outputs.items;
   cells = map plain_cell c.cells.items;
   groups = map plain_group c.groups.items;
+  invokes = map plain_invoke c.invokes.items;
   always = plain_assigns c.always.items;
   control = plain_statement c.control;
   place = c.place;

@@ -2,6 +2,7 @@
 
 use crate::cells::Cell;
 use crate::groups::{Assign, Group};
+use crate::invokes::StaticInvoke;
 use crate::statements::Statement;
 use cx_meaning::PortDecl;
 use cx_text::{Name, Place};
@@ -10,10 +11,14 @@ use cx_text::{Name, Place};
 #[derive(Debug, Drop)]
 pub struct Component {
     pub name: Name,
+    /// The cycles that a static component takes.
+    pub latency: Option<u64>,
     pub inputs: Vec<PortDecl>,
     pub outputs: Vec<PortDecl>,
     pub cells: Vec<Cell>,
     pub groups: Vec<Group>,
+    /// The invokes of static components, by the numbers that control has of them.
+    pub invokes: Vec<StaticInvoke>,
     pub always: Vec<Assign>,
     pub control: Statement,
     pub place: Place,

@@ -8,6 +8,7 @@ mod components;
 mod designs;
 mod groups;
 mod guards;
+mod invokes;
 mod refusals;
 mod rows;
 mod statements;
@@ -21,5 +22,6 @@ pub use cx_meaning::{Comparison, FaultKind, GroupKind, PlacedPort, PortDecl, Por
 pub use designs::Design;
 pub use groups::{Assign, Group};
 pub use guards::Guard;
+pub use invokes::StaticInvoke;
 pub use refusals::Refusal;
 pub use statements::{Form, Statement};

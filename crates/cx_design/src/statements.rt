@@ -53,6 +53,8 @@ pub enum Form {
         count: u64,
         body: Box<Statement>,
     },
+    /// The number of a static invoke of the component. It stands in a design that is not lowered alone.
+    StaticInvoke(u32),
     /// The number of an island. It stands in a lowered design alone.
     Timed(u32),
 }

@@ -53,6 +53,7 @@ pub fn test(form: &Form) -> Option<PlacedPort>
         | Form::StaticSeq { .. }
         | Form::StaticPar { .. }
         | Form::StaticRepeat { .. }
+        | Form::StaticInvoke(_)
         | Form::Timed(_) => None,
     }
 }
@@ -92,7 +93,7 @@ fn add_parts<'a>(
     ensures value { IfOk result (λ _. map plain_visited list.new.items ≡ map plain_visited list.old.items ++ visit_parts (plain_context context) (plain_form form.now)) }
 {
     match form {
-        Form::Empty | Form::Enable(_) | Form::Timed(_) => Ok(()),
+        Form::Empty | Form::Enable(_) | Form::StaticInvoke(_) | Form::Timed(_) => Ok(()),
         Form::Seq(parts) | Form::Par(parts) => add_all(list, below(context), parts.as_slice()),
         Form::If { yes, no, .. } => {
             add_statement(list, below(context), yes)?;

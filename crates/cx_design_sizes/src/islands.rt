@@ -36,6 +36,7 @@ pub fn form_length(part: &Component, form: &Form) -> u64
         | Form::If { .. }
         | Form::While { .. }
         | Form::Repeat { .. }
+        | Form::StaticInvoke(_)
         | Form::Timed(_) => 0,
     }
 }
@@ -92,6 +93,7 @@ pub fn form_occurrences(part: &Component, form: &Form) -> u64
         | Form::If { .. }
         | Form::While { .. }
         | Form::Repeat { .. }
+        | Form::StaticInvoke(_)
         | Form::Timed(_) => 0,
     }
 }
@@ -132,6 +134,7 @@ pub fn is_island_form(part: &Component, form: &Form) -> bool
         | Form::If { .. }
         | Form::While { .. }
         | Form::Repeat { .. }
+        | Form::StaticInvoke(_)
         | Form::Timed(_) => false,
     }
 }

@@ -92,7 +92,7 @@ fn parts_size(part: &Component, context: LimitContext, form: &Form) -> u64
     ensures { result ≡ capped (statements_size (plain_component part.now) (visit_parts (context_of context) (plain_form form.now))) }
 {
     match form {
-        Form::Empty | Form::Enable(_) | Form::Timed(_) => 0,
+        Form::Empty | Form::Enable(_) | Form::StaticInvoke(_) | Form::Timed(_) => 0,
         Form::Seq(parts) | Form::Par(parts) => all_size(part, below_dynamic(context), parts),
         Form::StaticSeq { parts, .. } | Form::StaticPar { parts, .. } => {
             all_size(part, LimitContext::InStatic, parts)

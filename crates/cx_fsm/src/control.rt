@@ -93,7 +93,7 @@ fn statement_drivers(
         }
         Form::While { test, comb, body } => rounds(draft, plan, stand, *test, *comb, body),
         Form::Repeat { count, body } => counted(draft, plan, stand, *count, body),
-        Form::Timed(island) => timed(draft, plan, stand, *island),
+        Form::StaticInvoke(island) | Form::Timed(island) => timed(draft, plan, stand, *island),
     }
 }
 

@@ -74,7 +74,7 @@ fn run_form(
         Form::StaticPar { .. } => run_island(plan, machine, instance, form, budget),
         Form::StaticIf { .. } => run_island(plan, machine, instance, form, budget),
         Form::StaticRepeat { .. } => run_island(plan, machine, instance, form, budget),
-        Form::Timed(_) => Answer::More,
+        Form::StaticInvoke(_) | Form::Timed(_) => Answer::More,
     }
 }
 

@@ -84,6 +84,7 @@ fn add_form(
         | Form::If { .. }
         | Form::While { .. }
         | Form::Repeat { .. }
+        | Form::StaticInvoke(_)
         | Form::Timed(_) => {}
     }
 }

@@ -24,6 +24,7 @@ pub fn if_count(form: &Form) -> usize
         | Form::If { .. }
         | Form::While { .. }
         | Form::Repeat { .. }
+        | Form::StaticInvoke(_)
         | Form::Timed(_) => 0,
     }
 }
@@ -70,6 +71,7 @@ pub fn group_count(form: &Form) -> usize
         | Form::If { .. }
         | Form::While { .. }
         | Form::Repeat { .. }
+        | Form::StaticInvoke(_)
         | Form::Timed(_) => 0,
     }
 }

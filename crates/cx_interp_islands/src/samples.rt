@@ -79,6 +79,7 @@ fn take_form<S: Sampler>(
         | Form::If { .. }
         | Form::While { .. }
         | Form::Repeat { .. }
+        | Form::StaticInvoke(_)
         | Form::Timed(_) => {}
     }
 }

@@ -1,5 +1,5 @@
 -- Two designs that are refused, as plain data, with the places of their parts in the text.
-use Rattle.std.specs.Prelude.{ℕ, true, false, List, [], ◌∷◌, codes}
+use Rattle.std.specs.Prelude.{ℕ, true, false, List, [], ◌∷◌, None, codes}
 use Rattle.cx_text.specs.declared.places.Place.{Place}
 use Rattle.cx_prim.specs.declared.names.PrimitiveName.{PrimitiveName}
 use Rattle.cx_prim.specs.declared.names.PrimitiveName.TheVariants.{StdMemD1, Reg, Wire, And}
@@ -27,7 +27,7 @@ group name assigns column = record { name = name; kind = Plain; assigns = assign
 -- a component main alone
 abbrev pub main_of : List PlainCell → List PlainGroup → List PlainAssign → PlainStatement → PlainDesign
 main_of cells groups always control = record {
-  components = record { name = codes "main"; inputs = []; outputs = []; cells = cells; groups = groups; always = always; control = control; place = at 1 1 } ∷ [];
+  components = record { name = codes "main"; latency = None; inputs = []; outputs = []; cells = cells; groups = groups; invokes = []; always = always; control = control; place = at 1 1 } ∷ [];
   main = 0;
 }
 

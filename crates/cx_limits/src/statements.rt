@@ -28,6 +28,7 @@ fn count_in(form: &Form) -> Option<u64>
         | Form::StaticSeq { .. }
         | Form::StaticPar { .. }
         | Form::StaticIf { .. }
+        | Form::StaticInvoke(_)
         | Form::Timed(_) => None,
     }
 }
@@ -94,7 +95,7 @@ fn past_parts(
     ensures { result ≡ past_statements (plain_component part.now) best (visit_parts (context_of context) (plain_form form.now)) }
 {
     match form {
-        Form::Empty | Form::Enable(_) | Form::Timed(_) => best,
+        Form::Empty | Form::Enable(_) | Form::StaticInvoke(_) | Form::Timed(_) => best,
         Form::Seq(parts) | Form::Par(parts) => {
             past_all(part, best, below_dynamic(context), parts)
         }

@@ -1,5 +1,5 @@
 -- Small designs for worked examples, as plain data.
-use Rattle.std.specs.Prelude.{ℕ, true, false, List, [], ◌∷◌}
+use Rattle.std.specs.Prelude.{ℕ, true, false, List, [], ◌∷◌, None}
 use Rattle.cx_text.specs.declared.places.Place.{Place}
 use Rattle.cx_prim.specs.declared.names.PrimitiveName.{PrimitiveName}
 use Rattle.cx_prim.specs.declared.names.PrimitiveName.TheVariants as primitives
@@ -60,7 +60,7 @@ abbrev pub par : List PlainStatement → PlainStatement
 par arms = st (Par (statements_of arms))
 
 abbrev pub component : List PlainCell → List PlainGroup → List PlainAssign → PlainStatement → PlainComponent
-component cells groups always control = record { name = []; inputs = []; outputs = []; cells = cells; groups = groups; always = always; control = control; place = no_place }
+component cells groups always control = record { name = []; latency = None; inputs = []; outputs = []; cells = cells; groups = groups; invokes = []; always = always; control = control; place = no_place }
 
 abbrev pub design : List PlainCell → List PlainGroup → List PlainAssign → PlainStatement → PlainDesign
 design cells groups always control = record { components = component cells groups always control ∷ []; main = 0 }

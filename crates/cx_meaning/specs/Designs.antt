@@ -1,5 +1,5 @@
 -- A design as plain data: what the types of a design stand for, without where they lie in memory. Numbers name parts.
-use Rattle.std.specs.Prelude.{ℕ, Bool, List, [], ◌∷◌, Option, get_or}
+use Rattle.std.specs.Prelude.{ℕ, Bool, List, [], ◌∷◌, Option, None, get_or}
 use Rattle.cx_text.specs.declared.places.Place.{Place}
 use Rattle.cx_prim.specs.Table.{PrimitiveRow}
 use Rattle.cx_meaning.specs.declared.ports.PortRef.{PortRef}
@@ -50,7 +50,8 @@ pub record PlainCell : Type 0 where
   pub place : Place
 
 -- a statement is a form and a place. The children of a seq and the arms of a par stand in order; a written length of
--- a static statement is given where there is one; Timed stands in lowered designs alone
+-- a static statement is given where there is one; Timed is a statement that takes its cycles by a number: a static invoke
+-- of a design, an island of a lowered one
 mutual
   pub data PlainForm : Type 0 where
     Empty : PlainForm
@@ -91,13 +92,26 @@ abbrev pub list_of : PlainStatements → List PlainStatement
 list_of no_statements = []
 list_of (a_statement s ss) = s ∷ list_of ss
 
--- the inputs and outputs are those of the signature other than go, clk, reset and done
+-- an invoke of a cell of a static component: whether the word static stands there, the length that is written, the latency of
+-- the cell's component, an assignment for each input that is bound, in the order of the binds, and the group that captures
+pub record PlainInvoke : Type 0 where
+  pub cell : ℕ
+  pub written : Bool
+  pub length : Option ℕ
+  pub latency : Option ℕ
+  pub inputs : List PlainAssign
+  pub captures : Option ℕ
+
+-- the inputs and outputs are those of the signature other than go, clk, reset and done; a static component has a latency in
+-- cycles; its control names its static invokes by their numbers
 pub record PlainComponent : Type 0 where
   pub name : List ℕ
+  pub latency : Option ℕ
   pub inputs : List PortDecl
   pub outputs : List PortDecl
   pub cells : List PlainCell
   pub groups : List PlainGroup
+  pub invokes : List PlainInvoke
   pub always : List PlainAssign
   pub control : PlainStatement
   pub place : Place
@@ -115,7 +129,7 @@ abbrev pub no_group : PlainGroup
 no_group = record { name = []; kind = Plain; assigns = []; place = no_place }
 
 abbrev pub no_component : PlainComponent
-no_component = record { name = []; inputs = []; outputs = []; cells = []; groups = []; always = []; control = Placed Empty no_place; place = no_place }
+no_component = record { name = []; latency = None; inputs = []; outputs = []; cells = []; groups = []; invokes = []; always = []; control = Placed Empty no_place; place = no_place }
 
 abbrev pub group_at : PlainComponent → ℕ → PlainGroup
 group_at part g = get_or part.groups g no_group

@@ -67,10 +67,12 @@ pub(crate) fn component(alloc: Global, site: &Site) -> Result<Component, Memory>
     let control = control(alloc, site, &mut groups)?;
     Ok(Component {
         name,
+        latency: None,
         inputs,
         outputs,
         cells,
         groups,
+        invokes: Vec::new(alloc),
         always,
         control,
         place: part.place,

@@ -262,10 +262,12 @@ module _ (tree : ast.PlainTree) (part : ast.PlainComponent) where
   abbrev pub component_of : PlainComponent
   component_of = record {
     name = part.name;
+    latency = None;
     inputs = map decl_of (signature_ports part.inputs);
     outputs = map decl_of (signature_ports part.outputs);
     cells = map plain_cell_of part.cells;
     groups = map (group_of tree part) (groups_in part.wires) ++ invoke_groups (length (group_names part)) (control_invokes part.control);
+    invokes = [];
     always = map (assign_of tree part) (always_in part.wires);
     control = control_of part.control;
     place = part.place;

@@ -28,6 +28,7 @@ pub fn arms(form: &Form) -> &[Statement]
         | Form::StaticSeq { .. }
         | Form::StaticIf { .. }
         | Form::StaticRepeat { .. }
+        | Form::StaticInvoke(_)
         | Form::Timed(_) => &[],
     }
 }

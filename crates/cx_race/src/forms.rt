@@ -64,6 +64,7 @@ fn add_enabled(groups: &mut Vec<u32>, form: &Form) -> Result<(), Memory>
         | Form::StaticPar { .. }
         | Form::StaticIf { .. }
         | Form::StaticRepeat { .. }
+        | Form::StaticInvoke(_)
         | Form::Timed(_) => {}
     }
     Ok(())
@@ -93,6 +94,7 @@ fn add_groups(groups: &mut Vec<u32>, form: &Form) -> Result<(), Memory>
         | Form::StaticPar { .. }
         | Form::StaticIf { .. }
         | Form::StaticRepeat { .. }
+        | Form::StaticInvoke(_)
         | Form::Timed(_) => {}
     }
     Ok(())
@@ -148,7 +150,7 @@ fn add_below<'a>(forms: &mut Vec<&'a Form>, form: &'a Form) -> Result<(), Memory
     ensures value { IfOk result (λ _. plain_forms forms.new.items ≡ plain_forms forms.old.items ++ forms_below (plain_form form.now)) }
 {
     match form {
-        Form::Empty | Form::Enable(_) | Form::Timed(_) => Ok(()),
+        Form::Empty | Form::Enable(_) | Form::StaticInvoke(_) | Form::Timed(_) => Ok(()),
         Form::Seq(parts)
         | Form::Par(parts)
         | Form::StaticSeq { parts, .. }

@@ -10,6 +10,7 @@ pub mod CallShape
 pub mod RaceRule
 pub mod LimitRule
 pub mod Accepted
+pub mod Flat
 pub mod Wellformed
 pub mod Circles
 pub mod Frames

@@ -55,7 +55,7 @@ abbrev pub IsWith : PlainComponent → Option ℕ → Type 0
 IsWith part None = Unit {0}
 IsWith part (Some g) = (g < length part.groups) × (is_comb (group_at part g).kind ≡ true)
 
--- a design that is not lowered has no timed statement
+-- a timed statement of a design that is not lowered is a static invoke of its component
 abbrev pub IsForm : PlainComponent → PlainForm → Type 0
 IsForm part Empty = Unit {0}
 IsForm part (Enable g) = IsEnable part g
@@ -68,7 +68,7 @@ IsForm part (StaticSeq length parts) = Unit {0}
 IsForm part (StaticPar length arms) = Unit {0}
 IsForm part (StaticIf length test a b) = Unit {0}
 IsForm part (StaticRepeat length count a) = Unit {0}
-IsForm part (Timed k) = ⊥
+IsForm part (Timed k) = k < length part.invokes
 
 pub record IsStatement (i : Instance) (v : Visited) : Type 0 where
   pub form : IsForm (part_of i) v.form

@@ -162,7 +162,7 @@ fn add_form(
             add_statement(list, part, below(context), body)?;
             Ok(none())
         }
-        Form::Timed(_) => Ok(none()),
+        Form::StaticInvoke(_) | Form::Timed(_) => Ok(none()),
     }
 }
 

@@ -86,6 +86,7 @@ fn may_stand(part: &Component, context: Context, form: &Form) -> bool
         | Form::If { .. }
         | Form::While { .. }
         | Form::Repeat { .. }
+        | Form::StaticInvoke(_)
         | Form::Timed(_) => false,
     }
 }
@@ -106,6 +107,7 @@ fn enabled_name<'a>(part: &'a Component, form: &Form) -> &'a [u8]
         | Form::StaticPar { .. }
         | Form::StaticIf { .. }
         | Form::StaticRepeat { .. }
+        | Form::StaticInvoke(_)
         | Form::Timed(_) => &[],
     }
 }
@@ -136,6 +138,7 @@ fn is_static(form: &Form) -> bool
         | Form::If { .. }
         | Form::While { .. }
         | Form::Repeat { .. }
+        | Form::StaticInvoke(_)
         | Form::Timed(_) => false,
     }
 }
@@ -156,6 +159,7 @@ fn written_length(form: &Form) -> Option<u64>
         | Form::If { .. }
         | Form::While { .. }
         | Form::Repeat { .. }
+        | Form::StaticInvoke(_)
         | Form::Timed(_) => None,
     }
 }

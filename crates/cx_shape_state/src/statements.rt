@@ -60,6 +60,7 @@ fn static_test(form: &Form) -> Option<PlacedPort>
         | Form::StaticSeq { .. }
         | Form::StaticPar { .. }
         | Form::StaticRepeat { .. }
+        | Form::StaticInvoke(_)
         | Form::Timed(_) => None,
     }
 }

@@ -195,15 +195,17 @@ module _ (part : PlainComponent) where
   abbrev pub unlowered : Lowering
   unlowered = record { cells = part.cells; islands = [] }
 
-  -- A COMPONENT: all but its cells and its control stays
+  -- A COMPONENT: all but its cells, its static invokes and its control stays
   abbrev pub lowered_component : PlainLowered
   lowered_component = record {
     part = record {
       name = part.name;
+      latency = part.latency;
       inputs = part.inputs;
       outputs = part.outputs;
       cells = (after part.control unlowered).cells;
       groups = part.groups;
+      invokes = [];
       always = part.always;
       control = lowered part.control unlowered;
       place = part.place;

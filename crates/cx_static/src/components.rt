@@ -46,10 +46,12 @@ fn lower_component(alloc: Global, part: &Component) -> Result<LoweredComponent, 
     let control = lower_statement(alloc, part, &part.control, &mut lowering)?;
     let part = Component {
         name: copied_name(alloc, &part.name)?,
+        latency: part.latency,
         inputs: copied_ports(alloc, &part.inputs)?,
         outputs: copied_ports(alloc, &part.outputs)?,
         cells: lowering.cells,
         groups: copied_groups(alloc, &part.groups)?,
+        invokes: Vec::new(alloc),
         always: copied_assigns(alloc, &part.always)?,
         control,
         place: part.place,

@@ -84,7 +84,7 @@ fn lower_form(
         | Form::StaticPar { .. }
         | Form::StaticIf { .. }
         | Form::StaticRepeat { .. } => add_island(alloc, part, form, lowering),
-        Form::Timed(island) => Ok(Form::Timed(*island)),
+        Form::StaticInvoke(island) | Form::Timed(island) => Ok(Form::Timed(*island)),
     }
 }
 

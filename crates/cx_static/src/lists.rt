@@ -100,6 +100,7 @@ fn gather_form(
         | Form::If { .. }
         | Form::While { .. }
         | Form::Repeat { .. }
+        | Form::StaticInvoke(_)
         | Form::Timed(_) => Ok(()),
     }
 }

@@ -139,7 +139,7 @@ fn mark_form(
         Form::Repeat { body, .. } => mark_form(plan, instance, &body.form, marks, cells),
         Form::StaticRepeat { body, .. } => mark_form(plan, instance, &body.form, marks, cells),
         Form::Empty => {}
-        Form::Timed(_) => {}
+        Form::StaticInvoke(_) | Form::Timed(_) => {}
     }
 }
 

@@ -142,7 +142,7 @@ fn form_need(piece: Piece, plan: &Plan<'_>, instance: usize, table: &[u64], form
         Form::StaticPar { .. } => island_takes(piece),
         Form::StaticIf { .. } => island_takes(piece),
         Form::StaticRepeat { .. } => island_takes(piece),
-        Form::Timed(_) => 0,
+        Form::StaticInvoke(_) | Form::Timed(_) => 0,
     }
 }
 

@@ -80,7 +80,7 @@ fn open_form<'a>(
         Form::StaticPar { .. } => open_island(spares, plan, instance, form),
         Form::StaticIf { .. } => open_island(spares, plan, instance, form),
         Form::StaticRepeat { .. } => open_island(spares, plan, instance, form),
-        Form::Timed(_) => Strand::Waiting,
+        Form::StaticInvoke(_) | Form::Timed(_) => Strand::Waiting,
     }
 }
 

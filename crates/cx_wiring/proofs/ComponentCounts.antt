@@ -1,12 +1,13 @@
 -- How many wires, holes and registers the net of a component has, by the size of the component.
 use Rattle.std.proofs.Common.{◌≡◌, inl, inr, ℕ, suc, ◌+◌, ◌*◌, ◌<◌, ◌≤◌, List, [], ◌∷◌, length, refl, subst, arith, length-append}
 use Rattle.cx_text.specs.declared.places.Place.{Place}
-use Rattle.cx_meaning.specs.Designs.{PlainCell, PlainComponent, PlainDesign, component_at}
+use Rattle.cx_meaning.specs.Designs.{PlainCell, PlainComponent, PlainDesign, component_at, Timed}
 use Rattle.cx_meaning.specs.Active.{Owned, source_order}
 use Rattle.cx_meaning.specs.Sights.{In}
 use Rattle.cx_rules.specs.Items.{Dynamic, visit, statements_in}
 use Rattle.cx_rules.specs.Sizes.{assigns_size, groups_size}
 use Rattle.cx_rules.specs.StaticControl.{occurrences_of}
+use Rattle.cx_rules.specs.Flat.{IsFlatPart}
 use Rattle.cx_rules.specs.Wellformed.{IsForm, IsDesign}
 use Rattle.cx_static.specs.Islands.{PlainIsland, PlainLowered}
 use Rattle.cx_static.specs.Lowering.{timer_cell, unlowered, after, lowered_component, lowered_of}
@@ -48,6 +49,10 @@ free_timer place n = omega arith
 abbrev pub PartsHold : PlainComponent → Type 0
 PartsHold part = (o : Owned) → In (source_order part) o → HasParts o.assign.guard
 
+-- a component without static invokes has no timed statement
+pub no_timed : (part : PlainComponent) → IsFlatPart part → (n : ℕ) → IsForm part (Timed n) → ⊥
+no_timed part flat n is = let none : n < 0 = subst (λ invokes. n < length invokes) flat.no_invoke is in omega (arith, none)
+
 module _ (d : PlainDesign) (rules : IsDesign d) (k : ℕ) (within : k < length d.components) (parts : PartsHold (component_at d k)) where
   abbrev part : PlainComponent
   part = component_at d k
@@ -55,8 +60,9 @@ module _ (d : PlainDesign) (rules : IsDesign d) (k : ℕ) (within : k < length d
   abbrev low : PlainLowered
   low = lowered_component part
 
-  untimed : Untimed (statements_in part)
-  untimed v i n is = subst (IsForm part) is (subst (λ x. IsForm x v.form) (same_part d (length d.components) k) ((rules.components k within).statements v i).form)
+  untimed : IsFlatPart part → Untimed (statements_in part)
+  untimed flat v i n is =
+      no_timed part flat n (subst (IsForm part) is (subst (λ x. IsForm x v.form) (same_part d (length d.components) k) ((rules.components k within).statements v i).form))
 
   adds : Adds part free 0 free_timer (unlowered part) (after part part.control (unlowered part)) (length (statements_in part)) (occurrences_of part (statements_in part))
   adds = statement_adds part free 0 free_timer part.control (unlowered part)
@@ -70,9 +76,10 @@ module _ (d : PlainDesign) (rules : IsDesign d) (k : ℕ) (within : k < length d
   timers_few = let h : all_timers low.islands ≤ 0 + (length (statements_in part) + length (statements_in part)) = adds.timers in omega arith
 
   -- WIRES, HOLES AND REGISTERS
-  pub component_few : length (wired_in d part).wires + (wired_in d part).holes + length (wired_in d part).registers
+  pub component_few : IsFlatPart part
+      → length (wired_in d part).wires + (wired_in d part).holes + length (wired_in d part).registers
       ≤ 3 * (assigns_size part.always + groups_size part.groups) + 25 * length (statements_in part) + 4 * occurrences_of part (statements_in part) + 1
-  component_few =
+  component_few flat =
       let lowered : length (visit Dynamic low.part.control) ≤ length (statements_in part) = lowered_few part part.control (unlowered part) in
       let timers : all_timers low.islands ≤ 0 + (length (statements_in part) + length (statements_in part)) = adds.timers in
       let points : all_points low.islands ≤ 0 + length (statements_in part) = adds.points in
@@ -88,7 +95,7 @@ module _ (d : PlainDesign) (rules : IsDesign d) (k : ℕ) (within : k < length d
       let stated : wires_of low.part.control ≤ length (visit Dynamic low.part.control) + length (visit Dynamic low.part.control) = wires_of_few low.part.control in
       let plain : length (plain_wires low) ≡ groups low + bits low = plain_wires_count low in
       let narrow : bits low ≡ island_wires low.islands + wires_of low.part.control + assigns_wires (driven_assigns low) = refl in
-      let timed : timed_in island_count low.islands (visit Dynamic low.part.control) + 0 ≡ total island_count low.islands = lowered_total part island_count part.control (unlowered part) low.islands untimed before in
+      let timed : timed_in island_count low.islands (visit Dynamic low.part.control) + 0 ≡ total island_count low.islands = lowered_total part island_count part.control (unlowered part) low.islands (untimed flat) before in
       let counted : total island_count low.islands ≡ length low.islands + (2 * all_timers low.islands + 4 * all_points low.islands + 3 * all_occurrences low.islands) = count_total low.islands in
       let controlled : length (control_drivers (groups low) low.islands (first_of_control low) low.part.control) ≤ 8 * length (visit Dynamic low.part.control) + timed_in island_count low.islands (visit Dynamic low.part.control) + 1 =
       control_count (groups low) low.islands (first_of_control low) low.part.control in
@@ -100,7 +107,7 @@ module _ (d : PlainDesign) (rules : IsDesign d) (k : ℕ) (within : k < length d
       let kept : suc (length (registers_of low.islands low.part.control))
       ≤ length (visit Dynamic low.part.control) + length (visit Dynamic low.part.control) + samples_in low.islands (visit Dynamic low.part.control) = registers_of_few low.islands low.part.control in
       let sampled : samples_in low.islands (visit Dynamic low.part.control) ≡ timed_in (λ i. length i.points) low.islands (visit Dynamic low.part.control) = samples_are low.islands (visit Dynamic low.part.control) in
-      let pointed : timed_in (λ i. length i.points) low.islands (visit Dynamic low.part.control) + 0 ≡ all_points low.islands = lowered_total part (λ i. length i.points) part.control (unlowered part) low.islands untimed before in
+      let pointed : timed_in (λ i. length i.points) low.islands (visit Dynamic low.part.control) + 0 ≡ all_points low.islands = lowered_total part (λ i. length i.points) part.control (unlowered part) low.islands (untimed flat) before in
       let registered : length (wired_in d part).registers ≡ suc (length (registers_of low.islands low.part.control)) = refl in
       let held : (wired_in d part).holes ≡ length part.groups + length part.groups = refl in
       let grouped : groups low ≡ length part.groups = refl in

@@ -6,6 +6,7 @@ use Rattle.std.proofs.lemmas.Option.{slice_get-map, slice_get-get_or}
 use Rattle.cx_meaning.specs.declared.ports.PortRef.TheVariants as ports
 use Rattle.cx_meaning.specs.Designs.{PlainKind, OfPrimitive, OfComponent, PlainCell, PlainComponent, PlainDesign, no_component, component_at}
 use Rattle.cx_meaning.specs.Sights.{In}
+use Rattle.cx_rules.specs.Flat.{IsFlat}
 use Rattle.cx_rules.specs.Accepted.{IsAccepted}
 use Rattle.cx_rules.specs.Items.{Dynamic, visit}
 use Rattle.cx_rules.specs.Sizes.{size_of, sizes_of, design_size}
@@ -64,7 +65,7 @@ size_among (x ∷ parts) (suc k) part e =
     let all : size_of x + 1 + sizes_of parts ≡ sizes_of (x ∷ parts) = refl in
     omega (arith, all)
 
-module _ (d : PlainDesign) (rules : IsDesign d) (accepted : IsAccepted d) (k : ℕ) (here : has_number k (order (lowered_of d)) ≡ true) where
+module _ (d : PlainDesign) (rules : IsDesign d) (flat : IsFlat d) (accepted : IsAccepted d) (k : ℕ) (here : has_number k (order (lowered_of d)) ≡ true) where
   abbrev part : PlainComponent
   part = component_at d k
 
@@ -121,7 +122,7 @@ module _ (d : PlainDesign) (rules : IsDesign d) (accepted : IsAccepted d) (k : �
 
   islands_hold : IslandsHold N C part (after part part.control (unlowered part))
   islands_hold =
-      statement_holds N C part (groups_last d rules accepted k here) part.control (unlowered part) (λ v i. statement_fine d rules accepted k here v i)
+      statement_holds N C part (groups_last d rules flat accepted k here) part.control (unlowered part) (λ v i. statement_fine d rules flat accepted k here v i)
       (record { cells = are_each CellFits part.cells cell_fits; islands = tt })
 
   few_statements : length (visit Dynamic low.part.control) < 2 ^ 32
@@ -147,10 +148,10 @@ module _ (d : PlainDesign) (rules : IsDesign d) (accepted : IsAccepted d) (k : �
       (control_fits N C (groups low) low.islands (order (lowered_of d)) low.part.cells refl offset_wire goes_there
       (λ n from to. let below : n < groups low + bits low = omega (arith, wires_all) in bit_wire n from below)
       (are_more (IslandHolds N C part low.part.cells) (IslandFits N C (groups low) low.part.cells) (λ island h. h.fits) low.islands islands_hold.islands)
-      (first_of_control low) low.part.control (control_named d rules k within) (statement_lowers N C part part.control (unlowered part) (λ v i. statement_fine d rules accepted k here v i)) of_control
+      (first_of_control low) low.part.control (control_named d rules k within) (statement_lowers N C part part.control (unlowered part) (λ v i. statement_fine d rules flat accepted k here v i)) of_control
       (from_whole (component_registers low)) few_statements)
       (assigns_fit N C (groups low) offset_wire goes_there (driven_assigns low) (first_of_assigns low)
-      (assigns_fine d rules accepted k here (are_more (IslandHolds N C part low.part.cells) (λ island. Are (IsShort N C part) island.occurrences) (λ island h. h.short) low.islands islands_hold.islands)) of_assigns)
+      (assigns_fine d rules flat accepted k here (are_more (IslandHolds N C part low.part.cells) (λ island. Are (IsShort N C part) island.occurrences) (λ island h. h.short) low.islands islands_hold.islands)) of_assigns)
 
   -- no driver of a component, without those of bundles, drives a wire of a tree
   abbrev pub IsBefore : PlainNetTarget → Type 0
@@ -310,7 +311,7 @@ place_below k (n ∷ rest) h = by (nat_eq k n) (has_number k rest) (place_below 
     by false true later = let less : place_in k rest < length rest = later refl in omega arith
     by false false later = omega arith
 
-module _ (d : PlainDesign) (rules : IsDesign d) (accepted : IsAccepted d) where
+module _ (d : PlainDesign) (rules : IsDesign d) (flat : IsFlat d) (accepted : IsAccepted d) where
   main_here : has_number d.main (order (lowered_of d)) ≡ true
   main_here = order_main (lowered_of d) (subst (λ n. d.main < n) (sym (count_is d rules)) rules.main_there)
 
@@ -321,9 +322,9 @@ module _ (d : PlainDesign) (rules : IsDesign d) (accepted : IsAccepted d) where
       record {
         drivers = subst (λ (c : PlainNetComponent). (m : ℕ) (driver : PlainNetDriver) → slice_get c.drivers m ≡ Some driver → IsFitDriver (net_of (lowered_of d)) c driver) (sym same)
             (λ m driver e.
-            let a = are_at (Drives (net_of (lowered_of d)) (wired_in d (component_at d k))) (wired_in d (component_at d k)).drivers (component_drives d rules accepted k here) m driver e in
+            let a = are_at (Drives (net_of (lowered_of d)) (wired_in d (component_at d k))) (wired_in d (component_at d k)).drivers (component_drives d rules flat accepted k here) m driver e in
             record { guard = a.guard; source = λ w f. subst (λ v. fits.HasWidth (net_of (lowered_of d)) (wired_in d (component_at d k)) driver.source v) (some_same a.width w (sym a.target ∙ f)) a.source });
-        cells = subst (λ (c : PlainNetComponent). (m : ℕ) (cell : PlainCell) → slice_get c.cells m ≡ Some cell → IsFitKind n cell.kind) (sym same) (component_cells d rules accepted k here n is);
+        cells = subst (λ (c : PlainNetComponent). (m : ℕ) (cell : PlainCell) → slice_get c.cells m ≡ Some cell → IsFitKind n cell.kind) (sym same) (component_cells d rules flat accepted k here n is);
       }
     where
       some_same : (v w : ℕ) → Some v ≡ Some w → v ≡ w
@@ -334,7 +335,7 @@ module _ (d : PlainDesign) (rules : IsDesign d) (accepted : IsAccepted d) where
   net_fits = record {
     has_main = subst (λ n. place_in d.main (order (lowered_of d)) < n) (sym (net_long d rules)) (place_below d.main (order (lowered_of d)) main_here);
     externals = subst (λ (c : PlainNetComponent). (m : ℕ) (cell : PlainCell) → slice_get c.cells m ≡ Some cell → cell.external ≡ true → IsExternalKind cell.kind) (sym (placed d rules d.main main_here))
-        (component_externals d rules accepted d.main main_here);
+        (component_externals d rules flat accepted d.main main_here);
     components = λ n less.
         let r = there_at (order (lowered_of d)) n (subst (λ m. n < m) (net_long d rules) less) in
         component_fits n r.0 r.1;

@@ -17,6 +17,7 @@ use Rattle.cx_meaning.specs.Instances.{Instance, part_of}
 use Rattle.cx_meaning.specs.Active.{Owned, source_order}
 use Rattle.cx_meaning.specs.Islands.{kind_length, group_length, form_length}
 use Rattle.cx_meaning.specs.Sights.{In}
+use Rattle.cx_rules.specs.Flat.{IsFlat}
 use Rattle.cx_rules.specs.Accepted.{IsAccepted}
 use Rattle.cx_rules.specs.Items.{Pair, atoms_of, atoms_in, comparisons_of, comparisons_in, operands_of, operands_in, Range, ranges_of, ranges_in, sources_of, Visited, statements_in, test_in}
 use Rattle.cx_rules.specs.LimitRule.{Limited, OnRepeat, OnOccurrences, OnLatency, word_of, count_in, is_too_many, statement_limit}
@@ -152,7 +153,7 @@ passes p (x ∷ xs) y i = one (p x) refl (passes p xs y) i
     one true is later (inr j) = later j
     one false is later j = later j
 
-module _ (d : PlainDesign) (rules : IsDesign d) (accepted : IsAccepted d) (k : ℕ) (here : has_number k (order (lowered_of d)) ≡ true) where
+module _ (d : PlainDesign) (rules : IsDesign d) (flat : IsFlat d) (accepted : IsAccepted d) (k : ℕ) (here : has_number k (order (lowered_of d)) ≡ true) where
   abbrev part : PlainComponent
   part = component_at d k
 

@@ -1,6 +1,7 @@
 -- Of each driver of the net of an accepted design the target is there.
 use Rattle.std.proofs.Common.{◌≡◌, ℕ, ◌<◌, length, Option, Some, IsSome, slice_get, refl, sym, subst}
 use Rattle.cx_meaning.specs.Designs.{PlainDesign, component_at}
+use Rattle.cx_rules.specs.Flat.{IsFlat}
 use Rattle.cx_rules.specs.Accepted.{IsAccepted}
 use Rattle.cx_rules.specs.Wellformed.{IsDesign}
 use Rattle.cx_net.specs.Nets.{PlainNetDriver, PlainNetComponent}
@@ -22,7 +23,7 @@ use Rattle.cx_meaning.proofs.SightsLaws.{in_at}
 is_some : (o : Option ℕ) (w : ℕ) → o ≡ Some w → IsSome o
 is_some o w e = subst IsSome (sym e) refl
 
-module _ (d : PlainDesign) (rules : IsDesign d) (accepted : IsAccepted d) where
+module _ (d : PlainDesign) (rules : IsDesign d) (flat : IsFlat d) (accepted : IsAccepted d) where
   component_targets : (n k : ℕ) → slice_get (order (lowered_of d)) n ≡ Some k → (m : ℕ) (driver : PlainNetDriver) → slice_get (net_component_at (net_of (lowered_of d)) n).drivers m ≡ Some driver
       → IsSome (fits.target_width (net_of (lowered_of d)) (net_component_at (net_of (lowered_of d)) n) driver.target)
   component_targets n k is =
@@ -30,7 +31,7 @@ module _ (d : PlainDesign) (rules : IsDesign d) (accepted : IsAccepted d) where
       let same = stands_at d rules n k is in
       subst (λ (c : PlainNetComponent). (m : ℕ) (driver : PlainNetDriver) → slice_get c.drivers m ≡ Some driver → IsSome (fits.target_width (net_of (lowered_of d)) c driver.target)) (sym same)
       (λ m driver e.
-      let a = are_at (Drives (net_of (lowered_of d)) (wired_in d (component_at d k))) (wired_in d (component_at d k)).drivers (component_drives d rules accepted k here) m driver e in
+      let a = are_at (Drives (net_of (lowered_of d)) (wired_in d (component_at d k))) (wired_in d (component_at d k)).drivers (component_drives d rules flat accepted k here) m driver e in
       is_some (fits.target_width (net_of (lowered_of d)) (wired_in d (component_at d k)) driver.target) a.width a.target)
 
   pub targets_there : (n : ℕ) → n < length (net_of (lowered_of d)).components → (m : ℕ) (driver : PlainNetDriver) → slice_get (net_component_at (net_of (lowered_of d)) n).drivers m ≡ Some driver

@@ -12,6 +12,7 @@ use Rattle.cx_prim.specs.Table.{no_row, row_of}
 use Rattle.cx_meaning.specs.Designs.{PlainKind, OfPrimitive, OfComponent, PlainCell, PlainComponent, PlainDesign, component_at}
 use Rattle.cx_meaning.specs.Instances.{Instance, Cells, add_cell, cells_for, tree_within, tree_of}
 use Rattle.cx_meaning.specs.Sights.{In}
+use Rattle.cx_rules.specs.Flat.{IsFlat}
 use Rattle.cx_rules.specs.Accepted.{IsAccepted}
 use Rattle.cx_rules.specs.Items.{statements_in}
 use Rattle.cx_rules.specs.LimitRule.{OnWeight, OnWords, word_of, order_of}
@@ -273,13 +274,13 @@ module _ (d : PlainDesign) (rules : IsDesign d) (made : PlainComponent → Plain
 
 module _ (d : PlainDesign) (rules : IsDesign d) (parts : (k : ℕ) → k < length d.components → PartsHold (component_at d k)) (numbers : Instance → NetState → ℕ → ℕ) where
   -- the components of a design as they are wired, with wires in place of holes or not, have few nets
-  pub own_few : (made : PlainComponent → PlainNetComponent)
+  pub own_few : IsFlat d → (made : PlainComponent → PlainNetComponent)
       → ((k : ℕ) → signature_size (made (component_at d k)) ≡ signature_size (wired_in d (component_at d k)))
       → ((k : ℕ) → length (made (component_at d k)).wires ≤ length (wired_in d (component_at d k)).wires + (wired_in d (component_at d k)).holes)
       → ((k : ℕ) → length (made (component_at d k)).registers ≡ length (wired_in d (component_at d k)).registers)
       → (k : ℕ) → k < length d.components → OwnNets d rules made numbers k
-  own_few made sign wires registers k within =
-      let few = component_few d rules k within (parts k within) in
+  own_few flat made sign wires registers k within =
+      let few = component_few d rules k within (parts k within) (flat k within) in
       let timers : rows_cost row_nets (timers_of (component_at d k)) ≤ 12 * all_timers (lowered_component (component_at d k)).islands = timers_cost d rules made numbers k row_nets 12 timer_nets in
       let count : all_timers (lowered_component (component_at d k)).islands ≤ 2 * length (statements_in (component_at d k)) = timers_few d rules k within (parts k within) in
       let same : signature_size (made (component_at d k)) ≡ signature_size (wired_in d (component_at d k)) = sign k in
@@ -289,10 +290,10 @@ module _ (d : PlainDesign) (rules : IsDesign d) (parts : (k : ℕ) → k < lengt
       omega (arith, few)
 
   -- THE NET of a design
-  pub net_nets : IsAccepted d → nets_below (net_tree (net_of (lowered_of d))) ≤ 4194304
-  net_nets accepted =
+  pub net_nets : IsFlat d → IsAccepted d → nets_below (net_tree (net_of (lowered_of d))) ≤ 4194304
+  net_nets flat accepted =
       subst (λ tree. nets_below tree ≤ 4194304) (sym (net_tree-net_of d rules numbers))
-      (whole_nets d rules (wired_in d) numbers accepted (own_few (wired_in d) (λ k. refl) (λ k. (omega arith)) (λ k. refl)))
+      (whole_nets d rules (wired_in d) numbers accepted (own_few flat (wired_in d) (λ k. refl) (λ k. (omega arith)) (λ k. refl)))
 
   pub net_instances : IsAccepted d → instances_below (net_tree (net_of (lowered_of d))) ≤ 131072
   net_instances accepted = subst (λ tree. instances_below tree ≤ 131072) (sym (net_tree-net_of d rules numbers)) (whole_instances d rules (wired_in d) numbers accepted parts)

@@ -9,6 +9,7 @@ use Rattle.cx_prim.specs.Widths.{IsWidth}
 use Rattle.cx_meaning.specs.Designs.{PlainKind, OfPrimitive, OfComponent, PlainCell, PlainComponent, PlainDesign, no_component, component_at}
 use Rattle.cx_meaning.specs.Instances.{Instance}
 use Rattle.cx_meaning.specs.Sights.{In}
+use Rattle.cx_rules.specs.Flat.{IsFlat}
 use Rattle.cx_rules.specs.Accepted.{IsAccepted}
 use Rattle.cx_rules.specs.Externals.{numbers_of}
 use Rattle.cx_rules.specs.Items.{Dynamic, visit, statements_in}
@@ -79,7 +80,7 @@ outside_none (c ∷ cells) none cell i = by i (outside_none cells)
     by (inl e) later = ap (λ (x : PlainCell). x.external) (sym e) ∙ inside c.external none
     by (inr j) later = let less : cells_cost outside cells ≤ 0 = omega arith in later less cell j
 
-module _ (d : PlainDesign) (rules : IsDesign d) (accepted : IsAccepted d) (can : CanBeWritten d) where
+module _ (d : PlainDesign) (rules : IsDesign d) (flat : IsFlat d) (accepted : IsAccepted d) (can : CanBeWritten d) where
   sized : (k : ℕ) → k < length d.components → size_of (component_at d k) < design_size d
   sized k within = size_among d.components k (component_at d k) (slice_get-get_or d.components k no_component within)
 
@@ -126,7 +127,7 @@ module _ (d : PlainDesign) (rules : IsDesign d) (accepted : IsAccepted d) (can :
     component_writable =
         let size : size_of part < design_size d = sized k within in
         let small : design_size d < 2 ^ 32 = rules.few_parts in
-        let wired = component_few d rules k within (can.parts k within) in
+        let wired = component_few d rules k within (can.parts k within) (flat k within) in
         let cells : length C.cells ≤ length part.cells + 2 * length (statements_in part) = few_cells in
         record {
           input_widths = signature_wide part.inputs (rules.components k within).inputs;
@@ -137,7 +138,7 @@ module _ (d : PlainDesign) (rules : IsDesign d) (accepted : IsAccepted d) (can :
           few_registers = (let h : length C.registers < 2 ^ 64 = omega (arith, wired) in h);
           few_wires = (let h : length C.wires < 2 ^ 64 = omega (arith, wired) in h);
           few_cells = (let h : length C.cells < 2 ^ 64 = omega arith in h);
-          chains = targets_few d rules accepted k here;
+          chains = targets_few d rules flat accepted k here;
           drivers = drivers_nest;
         }
 
@@ -256,7 +257,7 @@ module _ (d : PlainDesign) (rules : IsDesign d) (accepted : IsAccepted d) (can :
     externals = subst (λ (x : PlainNetComponent). (c : ℕ) (cell : PlainCell) → slice_get x.cells c ≡ Some cell → cell.external ≡ true → IsWritableExternal cell) (sym (placed d rules d.main main_here)) memory_writable;
     externals_apart = subst (λ (x : PlainNetComponent). (c e : ℕ) (cell other : PlainCell) → slice_get x.cells c ≡ Some cell → cell.external ≡ true → slice_get x.cells e ≡ Some other → other.external ≡ true → cell.name ≡ other.name → c ≡ e)
         (sym (placed d rules d.main main_here)) memories_apart;
-    nets = net_nets d rules can.parts no_numbers accepted;
+    nets = net_nets d rules can.parts no_numbers flat accepted;
     instances = net_instances d rules can.parts no_numbers accepted;
     words = net_words d rules can.parts no_numbers accepted;
   }

@@ -3,6 +3,7 @@ use Rattle.std.proofs.Common.{◌≡◌, ℕ, [], ◌∷◌}
 use Rattle.cx_meaning.specs.Designs.{PlainComponent, PlainDesign}
 use Rattle.cx_meaning.specs.Instances as instances
 use Rattle.cx_meaning.specs.Instances.{Instance, Cells, OfInstance, cell_at, Path, State, tree_of, instance_at, words_of}
+use Rattle.cx_rules.specs.Flat.{IsFlat}
 use Rattle.cx_rules.specs.Accepted.{IsAccepted}
 use Rattle.cx_rules.specs.Wellformed.{IsDesign}
 use Rattle.cx_control.specs.Controls.{coded_control, coded_below}
@@ -59,9 +60,9 @@ module _ (d : PlainDesign) (of_island : PlainComponent → NetState → ℕ → 
         children n.ported
 
     -- THE LAWS OF THE ROOT'S BLOCK
-    module _ (design : IsDesign d) (accepted : IsAccepted d) (rules : (path : Path) → ControlRules (instance_at (tree_of d) path)) (islands : (path : Path) → IslandRules (instance_at (tree_of d) path)) where
+    module _ (design : IsDesign d) (flat : IsFlat d) (accepted : IsAccepted d) (rules : (path : Path) → ControlRules (instance_at (tree_of d) path)) (islands : (path : Path) → IslandRules (instance_at (tree_of d) path)) where
       given_at : (path : Path) → FineAt NodeGiven (instance_at (tree_of d) path)
-      given_at path = by (instance_at (tree_of d) path) (node_rules d design accepted path) (cell_rules d design accepted path) (rules_below d rules islands path) (islands_below d rules islands path) (seams_at d design accepted path)
+      given_at path = by (instance_at (tree_of d) path) (node_rules d design flat accepted path) (cell_rules d design flat accepted path) (rules_below d rules islands path) (islands_below d rules islands path) (seams_at d design flat accepted path)
         where
           by : (i : Instance) → NodeRules d i → CellRules i → ((more : Path) → ControlRules (instance_at i more)) → ((more : Path) → IslandRules (instance_at i more)) → AllNodes (SeamAt d) i → FineAt NodeGiven i
           by (instances.Node part cells) r o c k e = record { rules = r; own = o; control = c; islands = k; seams = e }

@@ -5,6 +5,7 @@ use Rattle.cx_prim.specs.Rows.{Row}
 use Rattle.cx_meaning.specs.Designs.{PlainComponent, PlainDesign}
 use Rattle.cx_meaning.specs.Instances as instances
 use Rattle.cx_meaning.specs.Instances.{Instance, Cells, no_cells, a_primitive, an_instance, OfInstance, cell_at, Path, tree_of}
+use Rattle.cx_rules.specs.Flat.{IsFlat}
 use Rattle.cx_rules.specs.Accepted.{IsAccepted}
 use Rattle.cx_rules.specs.Wellformed.{IsDesign}
 use Rattle.cx_net.specs.NetTree.{net_tree}
@@ -43,7 +44,7 @@ module _ (d : PlainDesign) where
   wire_bit (instances.Node outer others) (c ∷ path) part cells (kid, at, down) n low high = bit_child others (timers_of outer) c kid at path (AWire n) ∙ wire_bit kid path part cells down n low high
 
   -- THE NET IS GROUNDED
-  pub design_grounded : IsDesign d → IsAccepted d → IsGrounded (AreWords d) (net_tree (net_of (lowered_of d)))
-  design_grounded design accepted =
-      grounded_where d design accepted (λ loaded fits go s comes path part cells down n v low high has.
-      comes_bits d design accepted loaded fits go s comes path (AWire n) (subst (λ t. is_bit t path (AWire n) ≡ true) (sym (net_tree-net_of d design unnumbered)) (wire_bit (tree_of d) path part cells down n low high)) v has)
+  pub design_grounded : IsDesign d → IsFlat d → IsAccepted d → IsGrounded (AreWords d) (net_tree (net_of (lowered_of d)))
+  design_grounded design flat accepted =
+      grounded_where d design flat accepted (λ loaded fits go s comes path part cells down n v low high has.
+      comes_bits d design flat accepted loaded fits go s comes path (AWire n) (subst (λ t. is_bit t path (AWire n) ≡ true) (sym (net_tree-net_of d design unnumbered)) (wire_bit (tree_of d) path part cells down n low high)) v has)

@@ -5,6 +5,7 @@ use Rattle.cx_text.specs.Loading.{FitsRows}
 use Rattle.cx_meaning.specs.declared.kinds.PortDecl.{PortDecl}
 use Rattle.cx_meaning.specs.Designs.{PlainDesign}
 use Rattle.cx_meaning.specs.Instances.{Path, tree_of}
+use Rattle.cx_rules.specs.Flat.{IsFlat}
 use Rattle.cx_rules.specs.Accepted.{IsAccepted}
 use Rattle.cx_rules.specs.Wellformed.{IsDesign}
 use Rattle.cx_rules.specs.Ports.{declared_width}
@@ -35,7 +36,7 @@ use Rattle.cx_wiring_runs.specs.BlockNumbers.{component_numbers}
 use Rattle.cx_wiring_runs.specs.Blocks.{block, Solves}
 use Rattle.cx_wiring_runs.proofs.StartHolds.{holds_at_start, start_holds}
 
-module _ (d : PlainDesign) (design : IsDesign d) (accepted : IsAccepted d) where
+module _ (d : PlainDesign) (design : IsDesign d) (flat : IsFlat d) (accepted : IsAccepted d) where
   abbrev the_net : PlainNet
   the_net = net_of (lowered_of d)
 
@@ -50,13 +51,13 @@ module _ (d : PlainDesign) (design : IsDesign d) (accepted : IsAccepted d) where
   HoldsNet v = Holds (net_of (lowered_of d)) (net_of (lowered_of d)).main v
 
   names : TreeNames (net_of_instance (wired_in d) timers_of (component_numbers of_island) (tree_of d))
-  names = subst TreeNames same (tree_names (net_of (lowered_of d)) (net_fits d design accepted) (targets_there d design accepted))
+  names = subst TreeNames same (tree_names (net_of (lowered_of d)) (net_fits d design flat accepted) (targets_there d design flat accepted))
 
   bits : (go : Bool) (v : NetState) (look : NetLook) → HoldsNet v → IsWholeLook (net_of_instance (wired_in d) timers_of (component_numbers of_island) (tree_of d)) go v look → (path : Path) (node : Node)
       → is_bit (net_of_instance (wired_in d) timers_of (component_numbers of_island) (tree_of d)) path node ≡ true → (b : Bool) × (look path node ≡ Some (truth_bit b))
   bits =
       subst (λ t. (go : Bool) (v : NetState) (look : NetLook) → HoldsNet v → IsWholeLook t go v look → (path : Path) (node : Node) → is_bit t path node ≡ true → (b : Bool) × (look path node ≡ Some (truth_bit b))) same
-      (bits_are (net_of (lowered_of d)) (net_fits d design accepted) (targets_there d design accepted) (net_wide d design) rows_are_wide)
+      (bits_are (net_of (lowered_of d)) (net_fits d design flat accepted) (targets_there d design flat accepted) (net_wide d design) rows_are_wide)
 
   -- main has no inputs
   bare : (net_part (net_of_instance (wired_in d) timers_of (component_numbers of_island) (tree_of d))).inputs ≡ []
@@ -89,13 +90,13 @@ module _ (d : PlainDesign) (design : IsDesign d) (accepted : IsAccepted d) where
       → HoldsNet (net_after (net_of_instance (wired_in d) timers_of (component_numbers of_island) (tree_of d)) false true v look)
   design_holds_on =
       subst (λ t. (v : NetState) (look : NetLook) → HoldsNet v → IsWholeLook t true v look → HoldsNet (net_after t false true v look)) same
-      (laws.holds_on (net_of (lowered_of d)) (net_fits d design accepted) (net_wide d design) rows_are_wide true)
+      (laws.holds_on (net_of (lowered_of d)) (net_fits d design flat accepted) (net_wide d design) rows_are_wide true)
 
   -- THE RESET
   first_holds : (words : List (List ℕ)) (look : NetLook) → AreWords d words → HoldsNet (net_after (net_tree (net_of (lowered_of d))) true false (net_start (net_tree (net_of (lowered_of d))) words) look)
   first_holds words look (memories, fits, is) =
       subst (λ ws. HoldsNet (net_after (net_tree (net_of (lowered_of d))) true false (net_start (net_tree (net_of (lowered_of d))) ws) look)) is
-      (start_holds (net_of (lowered_of d)) (net_fits d design accepted) memories (subst (λ rows. FitsRows rows memories) (sym (rows_of-net_of d design.main_there)) fits) look)
+      (start_holds (net_of (lowered_of d)) (net_fits d design flat accepted) memories (subst (λ rows. FitsRows rows memories) (sym (rows_of-net_of d design.main_there)) fits) look)
 
   pub design_holds_first : (words : List (List ℕ)) (look : NetLook) → AreWords d words
       → HoldsNet (net_after (net_of_instance (wired_in d) timers_of (component_numbers of_island) (tree_of d)) true false
@@ -109,13 +110,13 @@ module _ (d : PlainDesign) (design : IsDesign d) (accepted : IsAccepted d) where
       by : AreWords d words → HoldsNet (net_start (net_tree (net_of (lowered_of d))) words)
       by (memories, fits, is) =
           subst (λ ws. HoldsNet (net_start (net_tree (net_of (lowered_of d))) ws)) is
-          (holds_at_start (net_of (lowered_of d)) (net_fits d design accepted) memories (subst (λ rows. FitsRows rows memories) (sym (rows_of-net_of d design.main_there)) fits))
+          (holds_at_start (net_of (lowered_of d)) (net_fits d design flat accepted) memories (subst (λ rows. FitsRows rows memories) (sym (rows_of-net_of d design.main_there)) fits))
   comes_hold words given true v (at_first look whole) = first_holds words look given
   comes_hold words given true v (at_next {s} look before whole) =
-      laws.holds_on (net_of (lowered_of d)) (net_fits d design accepted) (net_wide d design) rows_are_wide true s look (comes_hold words given true s before) whole
+      laws.holds_on (net_of (lowered_of d)) (net_fits d design flat accepted) (net_wide d design) rows_are_wide true s look (comes_hold words given true s before) whole
 
   -- and so each node of one bit has a bit
   pub comes_bits : (words : List (List ℕ)) → AreWords d words → (go : Bool) (s : NetState) → Comes (net_tree (net_of (lowered_of d))) words go s → (path : Path) (node : Node) → is_bit (net_tree (net_of (lowered_of d))) path node ≡ true
       → (v : BitVector) → NetHas (net_tree (net_of (lowered_of d))) go s path node v → (b : Bool) × (v ≡ truth_bit b)
   comes_bits words given go s comes =
-      bit_value (net_of (lowered_of d)) (net_fits d design accepted) (targets_there d design accepted) (net_wide d design) rows_are_wide go s (comes_hold words given go s comes)
+      bit_value (net_of (lowered_of d)) (net_fits d design flat accepted) (targets_there d design flat accepted) (net_wide d design) rows_are_wide go s (comes_hold words given go s comes)

@@ -2,6 +2,7 @@
 use Rattle.std.proofs.Common.{◌≡◌, ℕ, List}
 use Rattle.cx_meaning.specs.Designs.{PlainComponent, PlainDesign}
 use Rattle.cx_meaning.specs.Instances.{Instance, Cells, OfInstance, cell_at, Path, tree_of, instance_at, start, IsSettled}
+use Rattle.cx_rules.specs.Flat.{IsFlat}
 use Rattle.cx_rules.specs.Accepted.{IsAccepted}
 use Rattle.cx_rules.specs.Wellformed.{IsDesign}
 use Rattle.cx_control.specs.ControlRules.{ControlRules}
@@ -35,17 +36,17 @@ module _ (d : PlainDesign) where
         (λ s v around look form q. island_begun part cells s (port_in d part cells v around look) form q) (λ p s v around look cycle. owed_now d part cells given p s v around look cycle);
   }
 
-  module _ (design : IsDesign d) (accepted : IsAccepted d) (rules : (path : Path) → ControlRules (instance_at (tree_of d) path)) (islands : (path : Path) → IslandRules (instance_at (tree_of d) path))
+  module _ (design : IsDesign d) (flat : IsFlat d) (accepted : IsAccepted d) (rules : (path : Path) → ControlRules (instance_at (tree_of d) path)) (islands : (path : Path) → IslandRules (instance_at (tree_of d) path))
       (settled : (words : List (List ℕ)) → IsSettled (tree_of d) (start (tree_of d) words)) where
-    cells_hold : CellsHold d of_island (λ component inside. Begun d component inside) (HoldsNet d design accepted) nodes design accepted rules islands settled
+    cells_hold : CellsHold d of_island (λ component inside. Begun d component inside) (HoldsNet d design flat accepted) nodes design flat accepted rules islands settled
     cells_hold = record {
-      whole_solves = design_solves d design accepted;
-      holds_on = design_holds_on d design accepted;
-      holds_first = design_holds_first d design accepted;
-      islands_first = islands_start d design accepted;
+      whole_solves = design_solves d design flat accepted;
+      holds_on = design_holds_on d design flat accepted;
+      holds_first = design_holds_first d design flat accepted;
+      islands_first = islands_start d design flat accepted;
     }
 
     -- THE NET REALISES THE DESIGN
     pub net_realised : RealisesInNet d (net_tree (net_of (lowered_of d)))
     net_realised =
-        design_realised d of_island (λ component inside. Begun d component inside) (HoldsNet d design accepted) nodes design accepted rules islands settled cells_hold (design_runs d rules islands settled) (design_grounded d design accepted)
+        design_realised d of_island (λ component inside. Begun d component inside) (HoldsNet d design flat accepted) nodes design flat accepted rules islands settled cells_hold (design_runs d rules islands settled) (design_grounded d design flat accepted)

@@ -5,6 +5,7 @@ use Rattle.cx_meaning.specs.Designs.{PlainComponent, PlainDesign}
 use Rattle.cx_meaning.specs.Instances as instances
 use Rattle.cx_meaning.specs.Instances.{Instance, Cells, OfInstance, cell_at, Path, idle_at, tree_of, instance_at, start, IsSettled}
 use Rattle.cx_meaning.specs.Sights.{unheld}
+use Rattle.cx_rules.specs.Flat.{IsFlat}
 use Rattle.cx_rules.specs.Accepted.{IsAccepted}
 use Rattle.cx_rules.specs.Wellformed.{IsDesign}
 use Rattle.cx_lockstep.specs.Worlds.{Machine}
@@ -45,7 +46,7 @@ module _ (d : PlainDesign) (of_island : PlainComponent → NetState → ℕ → 
     (Begun : (part : PlainComponent) (cells : Cells) → Machine.Place (Coded.machine (coded_control (instances.Node part cells))) → Kept → NetState → NetAround → NetLook → Type 0) (Holds : NetState → Type 0)
     (nodes : (part : PlainComponent) (cells : Cells) (given : NodeGiven d of_island Begun part cells)
     → ((c : ℕ) (child : Instance) → cell_at cells c ≡ OfInstance child → BlockLaws (block_below (wired_in d) timers_of (component_numbers of_island) cells (timers_of part) c)) → NodeGives d of_island Begun part cells given.rules given.own)
-    (design : IsDesign d) (accepted : IsAccepted d) (rules : (path : Path) → ControlRules (instance_at (tree_of d) path)) (islands : (path : Path) → IslandRules (instance_at (tree_of d) path))
+    (design : IsDesign d) (flat : IsFlat d) (accepted : IsAccepted d) (rules : (path : Path) → ControlRules (instance_at (tree_of d) path)) (islands : (path : Path) → IslandRules (instance_at (tree_of d) path))
     (settled : (words : List (List ℕ)) → IsSettled (tree_of d) (start (tree_of d) words)) where
   -- WHAT CELLS HOLD, so that each node of one bit is a bit; and islands rest after the reset
   pub record CellsHold : Type 0 where
@@ -74,7 +75,7 @@ module _ (d : PlainDesign) (of_island : PlainComponent → NetState → ℕ → 
 
     root_laws : RootLaws (wired_in d) timers_of (component_numbers of_island) d Holds
     root_laws = record {
-      block_laws = design_blocks d of_island Begun nodes design accepted rules islands;
+      block_laws = design_blocks d of_island Begun nodes design flat accepted rules islands;
       keeps = keeps_it;
       below = region.coded.below;
       whole_solves = cells_hold.whole_solves;

@@ -6,6 +6,7 @@ use Rattle.cx_prim.specs.PipeRows.{timer_row}
 use Rattle.cx_meaning.specs.Designs.{PlainComponent, PlainDesign}
 use Rattle.cx_meaning.specs.Instances as instances
 use Rattle.cx_meaning.specs.Instances.{Instance, Cells, no_cells, a_primitive, an_instance, Path, just, loaded_at, instance_at, tree_of}
+use Rattle.cx_rules.specs.Flat.{IsFlat}
 use Rattle.cx_rules.specs.Accepted.{IsAccepted}
 use Rattle.cx_rules.specs.Wellformed.{IsDesign}
 use Rattle.cx_net.specs.NetTree.{NetInstance, NetNode, net_part, NetCells, no_net_cells, a_row, a_child, ARow, net_cell_at}
@@ -140,13 +141,13 @@ module _ (d : PlainDesign) where
         next at number s = record { es = s.es; ws = s.ws; place = s.place; state = s.state }
 
   -- ISLANDS REST after the reset of an accepted design
-  pub islands_start : IsDesign d → IsAccepted d → (words : List (List ℕ)) (look : NetLook)
+  pub islands_start : IsDesign d → IsFlat d → IsAccepted d → (words : List (List ℕ)) (look : NetLook)
       → IslandsRest of_island (wired_in d) timers_of (tree_of d) (net_after (net_at (tree_of d)) true false (net_start (net_at (tree_of d)) words) look)
-  islands_start design accepted words look =
+  islands_start design flat accepted words look =
       rests (tree_of d) (all_nodes TimerRules (tree_of d) fine) (net_after (net_at (tree_of d)) true false (net_start (net_at (tree_of d)) words) look) look (λ path n. refl) (λ path. at path)
     where
       fine : (path : Path) → FineAt TimerRules (instance_at (tree_of d) path)
-      fine path = by (instance_at (tree_of d) path) (node_rules d design accepted path)
+      fine path = by (instance_at (tree_of d) path) (node_rules d design flat accepted path)
         where
           by : (i : Instance) → NodeRules d i → FineAt TimerRules i
           by (instances.Node part cells) r = r.timers

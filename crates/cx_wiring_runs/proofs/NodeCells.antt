@@ -21,6 +21,7 @@ use Rattle.cx_rules.specs.Spots.{AStatement}
 use Rattle.cx_text.specs.declared.rules.Rule.TheVariants.{Limit}
 use Rattle.cx_text.specs.declared.limits.TheConstants.{OCCURRENCES, REPETITIONS}
 use Rattle.std.proofs.lemmas.Bool.{cases_lt, le-leb}
+use Rattle.cx_rules.specs.Flat.{IsFlat}
 use Rattle.cx_rules.specs.Accepted.{IsAccepted}
 use Rattle.cx_rules.specs.Ports.{component_of}
 use Rattle.cx_rules.specs.Wellformed.{IsForm, IsDesign, port_count}
@@ -55,8 +56,8 @@ pub record CellRules (i : Instance) : Type 0 where
   pub rounds : (v : Visited) → In (statements_in (part_of i)) v → (n : ℕ) → count_in v.form ≡ Some n → n < 2 ^ 32
 
 -- of every instance of an accepted design's tree
-pub cell_rules : (d : PlainDesign) → IsDesign d → IsAccepted d → (path : Path) → CellRules (instance_at (tree_of d) path)
-cell_rules d design accepted path = record {
+pub cell_rules : (d : PlainDesign) → IsDesign d → IsFlat d → IsAccepted d → (path : Path) → CellRules (instance_at (tree_of d) path)
+cell_rules d design flat accepted path = record {
   lawful = λ c row at. let p = instance_rows d path c row at in subst IsLawful p.1 (row_of_lawful p.0);
   no_enable = λ o c p row i owner target at side. (kept_instance d design accepted path).quiet o c p row i owner target at side;
   no_part = λ o c p child i owner target at. outside (instance_stands d path) o c p child i owner target at;

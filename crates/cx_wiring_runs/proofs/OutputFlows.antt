@@ -10,6 +10,7 @@ use Rattle.cx_meaning.specs.Designs.{PlainComponent, PlainDesign}
 use Rattle.cx_meaning.specs.Instances.{Instance, Node, Cells, no_cells, a_primitive, an_instance, OfRow, OfInstance, cell_at, part_of, Path, State, under, tree_of, instance_at}
 use Rattle.cx_meaning.specs.Active.{nothing}
 use Rattle.cx_meaning.specs.Sights.{unheld, Sees}
+use Rattle.cx_rules.specs.Flat.{IsFlat}
 use Rattle.cx_rules.specs.Accepted.{IsAccepted}
 use Rattle.cx_rules.specs.Wellformed.{IsDesign}
 use Rattle.cx_rules.specs.Ports.{declared_width}
@@ -56,14 +57,14 @@ at_node : (d : PlainDesign) (i : Instance) → SeamRules d i → FineAt (SeamAt 
 at_node d (Node part cells) rules = rules
 
 -- ALL NODES of its tree keep the rules
-pub all_seams : (d : PlainDesign) → IsDesign d → IsAccepted d → AllNodes (SeamAt d) (tree_of d)
-all_seams d design accepted = all_nodes (SeamAt d) (tree_of d) (λ path. at_node d (instance_at (tree_of d) path) (seam_rules d design accepted path))
+pub all_seams : (d : PlainDesign) → IsDesign d → IsFlat d → IsAccepted d → AllNodes (SeamAt d) (tree_of d)
+all_seams d design flat accepted = all_nodes (SeamAt d) (tree_of d) (λ path. at_node d (instance_at (tree_of d) path) (seam_rules d design flat accepted path))
 
 -- and all at and below an instance of it
-pub seams_at : (d : PlainDesign) → IsDesign d → IsAccepted d → (path : Path) → AllNodes (SeamAt d) (instance_at (tree_of d) path)
-seams_at d design accepted path =
+pub seams_at : (d : PlainDesign) → IsDesign d → IsFlat d → IsAccepted d → (path : Path) → AllNodes (SeamAt d) (instance_at (tree_of d) path)
+seams_at d design flat accepted path =
     all_nodes (SeamAt d) (instance_at (tree_of d) path)
-    (λ more. at_node d (instance_at (instance_at (tree_of d) path) more) (subst (SeamRules d) (sym (joined (tree_of d) path more)) (seam_rules d design accepted (path ++ more))))
+    (λ more. at_node d (instance_at (instance_at (tree_of d) path) more) (subst (SeamRules d) (sym (joined (tree_of d) path more)) (seam_rules d design flat accepted (path ++ more))))
 
 -- a primitive's cell is one of the design
 pub row_cell : (cells : Cells) (c : ℕ) (row : Row) → cell_at cells c ≡ OfRow row → has_cell_below cells c [] ≡ true

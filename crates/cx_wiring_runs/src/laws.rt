@@ -3,6 +3,7 @@
 ghost use Rattle.cx_meaning.specs.Designs.{PlainDesign};
 ghost use Rattle.cx_meaning.specs.Instances.{Path, instance_at, part_of, tree_of};
 ghost use Rattle.cx_rules.specs.Accepted.{IsAccepted};
+ghost use Rattle.cx_rules.specs.Flat.{IsFlat};
 ghost use Rattle.cx_rules.specs.Wellformed.{IsDesign};
 ghost use Rattle.cx_net.specs.NetTree.{net_tree};
 ghost use Rattle.cx_static.specs.Lowering.{lowered_component, lowered_of};
@@ -13,9 +14,9 @@ ghost use Rattle.cx_wiring_runs.specs.Listed.{KeepsWhatRuns};
 use cx_control::laws::instances_keep_rules;
 use cx_laws::laws::{accepted_has_no_empty_if, loaded_start_is_settled};
 
-/// The net of every accepted design realises it.
+/// The net of every accepted design without static components realises it.
 pub fn design_is_realised()
-    ensures { (d : PlainDesign) → IsDesign d → IsAccepted d → RealisesInNet d (net_tree (net_of (lowered_of d))) }
+    ensures { (d : PlainDesign) → IsDesign d → IsFlat d → IsAccepted d → RealisesInNet d (net_tree (net_of (lowered_of d))) }
 {
     instances_keep_rules();
     loaded_start_is_settled();

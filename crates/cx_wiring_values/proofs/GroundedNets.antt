@@ -5,6 +5,7 @@ use Rattle.cx_meaning.specs.Designs.{PlainComponent, PlainDesign}
 use Rattle.cx_meaning.specs.Instances as instances
 use Rattle.cx_meaning.specs.Instances.{Instance, Cells, Path, part_of, tree_of, instance_at}
 use Rattle.cx_meaning.specs.Active.{Active}
+use Rattle.cx_rules.specs.Flat.{IsFlat}
 use Rattle.cx_rules.specs.Accepted.{IsAccepted}
 use Rattle.cx_rules.specs.Circles.{IsAcyclic}
 use Rattle.cx_rules.specs.Items.{Dynamic}
@@ -29,7 +30,7 @@ use Rattle.cx_meaning.proofs.DesignsLemmas.{same_part}
 use Rattle.cx_laws.proofs.SourceLemmas.{source_in}
 use Rattle.cx_rules.proofs.CirclesLemmas.{own_acyclic}
 
-module _ (d : PlainDesign) (design : IsDesign d) (accepted : IsAccepted d) where
+module _ (d : PlainDesign) (design : IsDesign d) (flat : IsFlat d) (accepted : IsAccepted d) where
   -- nothing leads in a circle under what control may have active at once
   instance_together : (path : Path) (act : Active) → IsTogether (part_of (instance_at (tree_of d) path)).control act → IsAcyclic (instance_at (tree_of d) path) act
   instance_together path act together =
@@ -43,7 +44,7 @@ module _ (d : PlainDesign) (design : IsDesign d) (accepted : IsAccepted d) where
   unnumbered i v n = 0
 
   all_ruled : Ruled d unnumbered (tree_of d)
-  all_ruled path = record { seam = seam_rules d design accepted path; free = outputs_free d accepted path; acyclic = instance_together path }
+  all_ruled path = record { seam = seam_rules d design flat accepted path; free = outputs_free d accepted path; acyclic = instance_together path }
 
   abbrev tree : NetInstance
   tree = net_of_instance (wired_in d) timers_of unnumbered (tree_of d)

@@ -19,6 +19,7 @@ use Rattle.cx_rules.specs.Items.{atoms_of, atoms_in, operands_of, operands_in, R
 use Rattle.cx_rules.specs.WidthRules.{differ, is_wide, first_wide, IsBadLiteral}
 use Rattle.cx_rules.specs.ShapeRules.{is_hole, some_target, owner_length, is_bad_range}
 use Rattle.cx_rules.specs.Spots.{AnAssign, AStatement, AGroup}
+use Rattle.cx_rules.specs.Flat.{IsFlat}
 use Rattle.cx_rules.specs.Accepted.{IsAccepted}
 use Rattle.cx_rules.specs.Wellformed.{IsThere, IsAssign, IsForm, IsDesign, IsKind, StandsIn}
 use Rattle.cx_wiring.proofs.WholeInstances.{IsWhole, of_component, of_nothing, instance_whole, cells_alike, alike_there, alike_written, alike_source}
@@ -169,7 +170,7 @@ wide_among i (x ∷ xs) p (inr j) e = by (is_wide i x.port) (wide_among i xs p j
     by false later = later
 
 -- A COMPONENT of an accepted design
-module _ (d : PlainDesign) (design : IsDesign d) (accepted : IsAccepted d) (k : ℕ) (within : k < length d.components) where
+module _ (d : PlainDesign) (design : IsDesign d) (flat : IsFlat d) (accepted : IsAccepted d) (k : ℕ) (within : k < length d.components) where
   whole : Instance
   whole = component_of d k
 
@@ -335,11 +336,11 @@ no_form v (inl e) = subst (λ w. IsForm no_component w.form) e tt
 no_form v (inr i) = absurd i
 
 -- EVERY INSTANCE of an accepted design's tree
-pub port_rules : (d : PlainDesign) → IsDesign d → IsAccepted d → (path : Path) → PortRules d (instance_at (tree_of d) path)
-port_rules d design accepted path = by (instance_whole d design path)
+pub port_rules : (d : PlainDesign) → IsDesign d → IsFlat d → IsAccepted d → (path : Path) → PortRules d (instance_at (tree_of d) path)
+port_rules d design flat accepted path = by (instance_whole d design path)
   where
     by : {i : Instance} → IsWhole d i → PortRules d i
-    by (of_component m k within) = let n = some_components k (length d.components) within in tree_rules d design accepted k within m n.0 n.1
+    by (of_component m k within) = let n = some_components k (length d.components) within in tree_rules d design flat accepted k within m n.0 n.1
     by of_nothing = record {
       forms = no_form;
       assigns = λ o i. absurd i;

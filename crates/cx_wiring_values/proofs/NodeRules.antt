@@ -10,6 +10,7 @@ use Rattle.cx_meaning.specs.Active.{Owned, source_order}
 use Rattle.cx_meaning.specs.Sights.{In}
 use Rattle.cx_meaning.specs.Islands.{group_length}
 use Rattle.cx_rules.specs.Items.{Context, Dynamic, below_dynamic, Visited, visit, visit_parts, visit_all, test_in}
+use Rattle.cx_rules.specs.Flat.{IsFlat}
 use Rattle.cx_rules.specs.Accepted.{IsAccepted}
 use Rattle.cx_rules.specs.Wellformed.{IsDesign}
 use Rattle.cx_net.specs.Nets.{PlainNetTarget, ToWire, PlainNetDriver}
@@ -98,8 +99,8 @@ pub record NodeRules (d : PlainDesign) (i : Instance) : Type 0 where
   pub timers : TimerRules (part_of i) (cells_of i)
 
 -- of every instance of an accepted design's tree
-pub node_rules : (d : PlainDesign) → IsDesign d → IsAccepted d → (path : Path) → NodeRules d (instance_at (tree_of d) path)
-node_rules d design accepted path = by (instance_whole d design path) (port_rules d design accepted path)
+pub node_rules : (d : PlainDesign) → IsDesign d → IsFlat d → IsAccepted d → (path : Path) → NodeRules d (instance_at (tree_of d) path)
+node_rules d design flat accepted path = by (instance_whole d design path) (port_rules d design flat accepted path)
   where
     by : {i : Instance} → IsWhole d i → PortRules d i → NodeRules d i
     by (of_component m k within) rules = record {
@@ -108,7 +109,7 @@ node_rules d design accepted path = by (instance_whole d design path) (port_rule
       control_named = control_named d design k within;
       assigns_named = assigns_named d design k within;
       plain = plain_targets (component_at d k) (islands_named d design k within) (control_named d design k within) (λ o i. (rules.assigns o i).is_target);
-      timers = timer_rules d design accepted k within (tree_within d m) (λ o i. (rules.assigns o i).target);
+      timers = timer_rules d design flat accepted k within (tree_within d m) (λ o i. (rules.assigns o i).target);
     }
     by of_nothing rules = record { ports = rules; islands_named = tt; control_named = tt; assigns_named = tt; plain = plain_targets no_component tt tt (λ o i. absurd i); timers = no_timer_rules (λ o i. absurd i) }
 

@@ -23,6 +23,7 @@ use Rattle.cx_rules.specs.Items.{Dynamic, Visited, statements_in, is_comb}
 use Rattle.cx_rules.specs.ShapeRules.{is_hole}
 use Rattle.cx_rules.specs.Footprints.{AssignNames, Rests, literal_rests, input_rests, registered_rests, output_rests, done_rests, combinational_rests}
 use Rattle.cx_rules.specs.Spots.{AStatement, AnAssign}
+use Rattle.cx_rules.specs.Flat.{IsFlat}
 use Rattle.cx_rules.specs.Accepted.{IsAccepted}
 use Rattle.cx_rules.specs.Wellformed.{IsDesign}
 use Rattle.cx_frames.proofs.StatementFrames.{visited}
@@ -161,8 +162,8 @@ bare_form form place (inl e) static = differ (ap (λ (w : Visited). is_static w.
 bare_form form place (inr i) static = absurd i
 
 -- EVERY INSTANCE of an accepted design's tree
-pub seam_rules : (d : PlainDesign) → IsDesign d → IsAccepted d → (path : Path) → SeamRules d (instance_at (tree_of d) path)
-seam_rules d design accepted path = record { node = node_rules d design accepted path; kept = kept_instance d design accepted path; keeps = instance_ports d design path; rests = by (instance_whole d design path) }
+pub seam_rules : (d : PlainDesign) → IsDesign d → IsFlat d → IsAccepted d → (path : Path) → SeamRules d (instance_at (tree_of d) path)
+seam_rules d design flat accepted path = record { node = node_rules d design flat accepted path; kept = kept_instance d design accepted path; keeps = instance_ports d design path; rests = by (instance_whole d design path) }
   where
     by : {i : Instance} → IsWhole d i → RestRules i
     by (of_component m k within) = let n = some_components k (length d.components) within in tree_rests d accepted k within m n.0 n.1

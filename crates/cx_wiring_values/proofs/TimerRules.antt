@@ -20,6 +20,7 @@ use Rattle.cx_rules.specs.StaticControl.{form_occurrences, is_static, is_in_stat
 use Rattle.cx_rules.specs.LimitRule.{Limited, OnRepeat, OnOccurrences, OnLatency, word_of, count_in, is_too_many}
 use Rattle.cx_rules.specs.ShapeRules.{is_hole, some_target, enabled_name}
 use Rattle.cx_rules.specs.Spots.{AStatement, AGroup}
+use Rattle.cx_rules.specs.Flat.{IsFlat}
 use Rattle.cx_rules.specs.Accepted.{IsAccepted}
 use Rattle.cx_rules.specs.Wellformed.{IsDesign, IsForm, IsThere}
 use Rattle.cx_laws.specs.Positions.{FormIfs, StatementIfs, AllIfs}
@@ -229,7 +230,7 @@ first_limit false true c e = (OnOccurrences, refl)
 first_limit false false c e = (OnLatency, ap (λ x. if x then Some OnLatency else None) e)
 
 -- OF AN ACCEPTED DESIGN
-module _ (d : PlainDesign) (design : IsDesign d) (accepted : IsAccepted d) (k : ℕ) (within : k < length d.components) where
+module _ (d : PlainDesign) (design : IsDesign d) (flat : IsFlat d) (accepted : IsAccepted d) (k : ℕ) (within : k < length d.components) where
   may : (v : Visited) → In (statements_in (component_at d k)) v → is_in_static v.context ≡ true → may_stand (part_of (component_of d k)) v.context v.form ≡ true
   may v i static = go (may_stand (part_of (component_of d k)) v.context v.form) refl
     where

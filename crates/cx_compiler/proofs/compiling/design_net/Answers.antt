@@ -12,5 +12,5 @@ returns c =
     let net = plain_net c.in_ok-build.field-0 in
     record {
       value = net_passed plain_net d lowered net c.inline.result c.in_ok-lowered.ensures.value c.in_ok-build.ensures.value c.inline.ensures.value;
-      meaning = net_without_holes plain_net d net c.inline.result (λ rules accepted. c.in_ok-build.ensures.meaning d rules accepted c.in_ok-lowered.ensures.value) c.inline.ensures.value c.inline.ensures.meaning;
+      meaning = net_without_holes plain_net d net c.inline.result (λ rules flat accepted. c.in_ok-build.ensures.meaning d rules flat accepted c.in_ok-lowered.ensures.value) c.inline.ensures.value c.inline.ensures.meaning;
     }
