@@ -49,7 +49,9 @@ fn statement_registers(
         }
         Form::While { body, .. } => statement_registers(islands, registers, body),
         Form::Repeat { count, body } => counted_registers(islands, registers, *count, body),
-        Form::StaticInvoke(island) | Form::Timed(island) => sample_registers(islands, registers, *island),
+        Form::StaticInvoke(island) | Form::Timed(island) => sample_registers(
+            islands, registers, *island,
+        ),
     }
 }
 
