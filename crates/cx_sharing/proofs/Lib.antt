@@ -4,4 +4,6 @@ pub mod KeeperLemmas
 pub mod RemainingLemmas
 pub mod RowLemmas
 pub mod UsedLemmas
+pub mod TwinLemmas
+pub mod TwinStates
 pub mod KnownSharing
