@@ -6,4 +6,5 @@ pub mod RowLemmas
 pub mod UsedLemmas
 pub mod TwinLemmas
 pub mod TwinStates
+pub mod SharedSights
 pub mod KnownSharing

@@ -140,6 +140,11 @@ module _ {part : PlainComponent} {c : ℕ} where
   child_twin child (twin_rows p kind) e = absurd (row_instance (row_of p) child e)
   child_twin child (twin_parts k own twin kind beside) e = (k, twin, kind, refl, subst (λ x. IsBeside x twin) (instance_is own child e) beside)
 
+  pub nothing_twin : {at to : At} → AtTwin part c at to → at ≡ Nothing → to ≡ Nothing
+  nothing_twin no_twins e = refl
+  nothing_twin (twin_rows p kind) e = absurd (cc)
+  nothing_twin (twin_parts k child twin kind beside) e = absurd (cc)
+
   pub like_twin : {at to : At} → AtTwin part c at to → AtLike at to
   like_twin no_twins = both_nothing
   like_twin (twin_rows p kind) = same_row (row_of p)
