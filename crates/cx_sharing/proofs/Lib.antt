@@ -7,4 +7,5 @@ pub mod UsedLemmas
 pub mod TwinLemmas
 pub mod TwinStates
 pub mod SharedSights
+pub mod SharedCycles
 pub mod KnownSharing

@@ -33,7 +33,7 @@ row_renumbered (a_primitive own rest) (suc c) row e = row_renumbered rest c row 
 row_renumbered (an_instance child rest) zero row e = absurd (cc)
 row_renumbered (an_instance child rest) (suc c) row e = row_renumbered rest c row e
 
-child_renumbered : (cells : Cells) (c : ℕ) (child : Instance) (path : Path) → cell_at cells c ≡ OfInstance child → renumbered_below new_cell cells c path ≡ renumbered new_cell child path
+pub child_renumbered : (cells : Cells) (c : ℕ) (child : Instance) (path : Path) → cell_at cells c ≡ OfInstance child → renumbered_below new_cell cells c path ≡ renumbered new_cell child path
 child_renumbered no_cells c child path e = absurd (cc)
 child_renumbered (a_primitive row rest) zero child path e = absurd (cc)
 child_renumbered (a_primitive row rest) (suc c) child path e = child_renumbered rest c child path e
