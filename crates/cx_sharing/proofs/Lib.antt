@@ -8,4 +8,5 @@ pub mod TwinLemmas
 pub mod TwinStates
 pub mod SharedSights
 pub mod SharedCycles
+pub mod MeetLemmas
 pub mod KnownSharing
