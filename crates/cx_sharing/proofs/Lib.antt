@@ -9,4 +9,6 @@ pub mod TwinStates
 pub mod SharedSights
 pub mod SharedCycles
 pub mod MeetLemmas
+pub mod SharedGroups
+pub mod SharedLeaves
 pub mod KnownSharing
