@@ -11,4 +11,5 @@ pub mod SharedCycles
 pub mod MeetLemmas
 pub mod SharedGroups
 pub mod SharedLeaves
+pub mod SharedControl
 pub mod KnownSharing

@@ -9,7 +9,7 @@ use Rattle.cx_prim.specs.Table.{PrimitiveRow, row_of}
 use Rattle.cx_meaning.specs.declared.ports.PortRef.TheVariants as ports
 use Rattle.cx_meaning.specs.declared.sights.Seen.{Seen}
 use Rattle.cx_meaning.specs.Designs.{PlainKind, OfPrimitive, OfComponent, PlainCell, PlainGroup, PlainComponent, PlainDesign, component_at, no_component}
-use Rattle.cx_meaning.specs.Instances.{Instance, Node, Cells, no_cells, At, Nothing, OfRow, OfInstance, cell_at, cell_count, cells_of, part_of, add_cell, cells_for, tree_within, State, just}
+use Rattle.cx_meaning.specs.Instances.{Instance, Node, Cells, no_cells, At, Nothing, OfRow, OfInstance, cell_at, cell_count, cells_of, part_of, add_cell, cells_for, tree_within, Path, State, start_at, just}
 use Rattle.cx_meaning.specs.Active.{nothing}
 use Rattle.cx_meaning.specs.Sights.{Held, unheld, Sees, seen, part_port}
 use Rattle.cx_meaning.specs.Control.{assigns_drive}
@@ -20,7 +20,7 @@ use Rattle.cx_rules.specs.Circles.{AreAcyclic, AcyclicBelow}
 use Rattle.cx_rewrites.specs.Tallies.{none}
 use Rattle.cx_rewrites.specs.Carrying.{Exact, Carries}
 use Rattle.cx_rewrites.specs.Renaming.{AtLike, same_row, like_child, both_nothing}
-use Rattle.cx_rewrites.specs.Standing.{IsRenumbered}
+use Rattle.cx_rewrites.specs.Standing.{holds, renumbered, IsRenumbered}
 use Rattle.cx_sharing.specs.Uses.{assigns_use, is_stateless, is_plain_side, is_combinational, kind_in, is_candidate}
 use Rattle.cx_sharing.specs.Giving.{keeper, stays, staying, new_cell}
 use Rattle.cx_sharing.specs.SharedDesign.{remaining, shared_part, shared_design}
@@ -35,6 +35,7 @@ pub record IsBeside (child twin : Instance) : Type 0 where
   pub first_circles : AreAcyclic child
   pub circles : AreAcyclic twin
   pub tree : IsRenumbered new_cell has_state child twin
+  pub starts : (path : Path) → holds has_state child path ≡ true → start_at twin (renumbered new_cell child path) ≡ start_at child path
   -- its outputs, under its continuous assignments, are seen alike
   pub outputs : (s z : State) (n : ℕ) (x : Seen) → SharedStands child s z → Sees child unheld nothing s (ports.Output n) x → seen twin unheld nothing z (ports.Output n) ≡ x
   -- its control runs alike
