@@ -12,4 +12,5 @@ pub mod MeetLemmas
 pub mod SharedGroups
 pub mod SharedLeaves
 pub mod SharedControl
+pub mod SharedMain
 pub mod KnownSharing

@@ -193,3 +193,7 @@ module _ (d : PlainDesign) (design : IsDesign d) (accepted : IsAccepted d) where
   pub tree_beside : (m k : ℕ) → IsBeside (tree_within d m k) (tree_within (shared_design d) m k)
   tree_beside zero k = beside_of (tree_within d zero k) (tree_within (shared_design d) zero k) (leaf_twin d k) (fit_tree zero k)
   tree_beside (suc m) k = beside_of (tree_within d (suc m) k) (tree_within (shared_design d) (suc m) k) (tree_twin d m k (λ n. tree_beside m n)) (fit_tree (suc m) k)
+
+  pub tree_is_twin : (m k : ℕ) → IsTwin (tree_within d m k) (tree_within (shared_design d) m k)
+  tree_is_twin zero k = leaf_twin d k
+  tree_is_twin (suc m) k = tree_twin d m k (λ n. tree_beside m n)

@@ -152,7 +152,7 @@ module _ {part : PlainComponent} {c : ℕ} where
   like_twin (twin_parts k child twin kind beside) = like_child child twin (λ p. sym (ap (λ x. part_port x p) beside.part))
 
 -- a component's cell is no candidate, nor is one that holds something; a candidate holds nothing
-combines_false : (part : PlainComponent) (c : ℕ) → is_combinational (kind_in part.cells c) ≡ false → is_candidate part c ≡ false
+pub combines_false : (part : PlainComponent) (c : ℕ) → is_combinational (kind_in part.cells c) ≡ false → is_candidate part c ≡ false
 combines_false part c off = ap (λ a. a && list_any (λ (g : PlainGroup). assigns_drive g.assigns c) part.groups && not (assigns_use part.always c)) off
 
 pub part_other : (part : PlainComponent) (c k : ℕ) → kind_in part.cells c ≡ OfComponent k → is_candidate part c ≡ false
