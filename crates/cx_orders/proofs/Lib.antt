@@ -14,4 +14,3 @@ pub mod Halting
 pub mod HaltRuns
 pub mod AloneRuns
 pub mod KnownWoven
-pub mod SharedLemmas
