@@ -4,4 +4,13 @@ pub mod KeeperLemmas
 pub mod RemainingLemmas
 pub mod RowLemmas
 pub mod UsedLemmas
+pub mod TwinLemmas
+pub mod TwinStates
+pub mod SharedSights
+pub mod SharedCycles
+pub mod MeetLemmas
+pub mod SharedGroups
+pub mod SharedLeaves
+pub mod SharedControl
+pub mod SharedMain
 pub mod KnownSharing

@@ -2,5 +2,6 @@
 #![tactic(auto)]
 
 mod rows;
+pub mod run_laws;
 
 pub use rows::SharedRow;
