@@ -120,7 +120,7 @@ module _ (i j : Instance) (twin : IsTwin i j) (fit : IsFit i) (held : Held) wher
   test_shared v p o stands is before s z r =
       test_carried Exact R (shared_fault i) i j held held p.port (renamed (new_cell (part_of i)) p.port) o o
       (λ before2 s2 z2 stands2. seen_there i j twin (comb o) (comb o) (λ g. refl) (λ c. test_uses (part_of i) p o c ≡ true) (test_covers (part_of i) p o) (test_meets (part_of i) v p o stands is) held s2 z2 stands2
-        (comb_done o) (comb_acyclic o) p.port (test_inside p o p.port refl))
+      (comb_done o) (comb_acyclic o) p.port (test_inside p o p.port refl))
       (λ kind. told_here i kind p.port) before s z r
 
   -- A CALL
@@ -152,7 +152,7 @@ module _ (i j : Instance) (twin : IsTwin i j) (fit : IsFit i) (held : Held) wher
         recount (SharedStands i) (shared_fault i) (λ s n. below c none) (λ s n. none) (call i (control_below (cells_of i)) held g c) (call j (control_below (cells_of j)) held g (new_cell (part_of i) c))
         (call_carries Exact R (shared_fault i) i j held held (λ counted. SharedStands child) (shared_fault child) g g c (new_cell (part_of i) c) call_shared (control_below (cells_of i)) (control_below (cells_of j)) (λ own s n. none)
         (λ own. equals_carry Exact (λ counted. SharedStands child) (shared_fault child) (λ s n. none) (run_control child own) (control_below (cells_of i) c own) (run_control other own) (control_below (cells_of j) (new_cell (part_of i) c) own)
-          (λ s n. control_child (cells_of i) c child own s n at) (λ s n. control_child (cells_of j) (new_cell (part_of i) c) other own s n there) (beside.runs own)))
+        (λ s n. control_child (cells_of i) c child own s n at) (λ s n. control_child (cells_of j) (new_cell (part_of i) c) other own s n there) (beside.runs own)))
 
   -- AN ISLAND
   pub island_shared : (context : Context) (form : PlainForm) (place : Place) → StandsHere (part_of i) context form place

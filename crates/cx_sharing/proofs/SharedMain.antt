@@ -116,11 +116,12 @@ external_is d k (OfComponent j) h = absurd h
 keeps_all : (part : PlainComponent) (c : ℕ) (cells : List PlainCell) → ((k : ℕ) → k < length cells → kind_in part.cells (c + k) ≡ kind_in cells k)
     → ((cell : PlainCell) → In cells cell → cell.external ≡ true → IsMemory cell.kind) → KeepsExternals (stays part) c cells
 keeps_all part c [] kinds memories = tt
-keeps_all part c (cell ∷ cells) kinds memories =
-    (first,
-    keeps_all part (suc c) cells
-        (λ k lt. let next : suc c + k ≡ c + suc k = omega arith in ap (kind_in part.cells) next ∙ kinds (suc k) (omega (arith, lt)))
-        (λ x i on. memories x (inr i) on))
+keeps_all part c (cell ∷ cells) kinds memories = (
+  first,
+  keeps_all part (suc c) cells
+      (λ k lt. let next : suc c + k ≡ c + suc k = omega arith in ap (kind_in part.cells) next ∙ kinds (suc k) (omega (arith, lt)))
+      (λ x i on. memories x (inr i) on),
+)
   where
     first : cell.external ≡ true → stays part c ≡ true
     first on =
@@ -193,7 +194,7 @@ module _ (i j : Instance) (twin : IsTwin i j) (kept : KeepsExternals (stays (par
   words_shared s z stands memories =
       ap (map (λ c. cell_states.words_of (z (c ∷ [])))) externals_shared
       ∙ map_both (λ c. cell_states.words_of (z (c ∷ []))) (λ c. cell_states.words_of (s (c ∷ []))) (externals_of (part_of i))
-        (λ c k. let r = memories c k in ap cell_states.words_of (row_state i s z c r.0 stands r.1 r.2))
+      (λ c k. let r = memories c k in ap cell_states.words_of (row_state i s z c r.0 stands r.1 r.2))
 
 module _ (d : PlainDesign) (design : IsDesign d) (accepted : IsAccepted d) where
   -- the tree of the shared design has as many levels
@@ -219,10 +220,11 @@ module _ (d : PlainDesign) (design : IsDesign d) (accepted : IsAccepted d) where
       let number = r.number in
       let place : r.place ≡ c = omega (arith, number) in
       let within = r.within in
-      let kind : kind_in main.cells c ≡ OfPrimitive memory.primitive = ap (kind_in main.cells) (sym place) ∙ r.kind ∙ memory.is in
-      (row_of memory.primitive,
-      ap (λ x. cell_at x c) cells.1 ∙ cell_is cells.0 main.cells c (omega (arith, within, place)) ∙ ap (at_kind cells.0) kind,
-      ap not memory.holds_words)
+      let kind : kind_in main.cells c ≡ OfPrimitive memory.primitive = ap (kind_in main.cells) (sym place) ∙ r.kind ∙ memory.is in (
+        row_of memory.primitive,
+        ap (λ x. cell_at x c) cells.1 ∙ cell_is cells.0 main.cells c (omega (arith, within, place)) ∙ ap (at_kind cells.0) kind,
+        ap not memory.holds_words,
+      )
 
   -- THE RUN OF THE TWIN
   module _ (words : List (List ℕ)) (n : ℕ) where
@@ -249,7 +251,7 @@ module _ (d : PlainDesign) (design : IsDesign d) (accepted : IsAccepted d) where
     more_shared more = run_is ∙ more_followed (λ counted. SharedStands (tree_of d)) (shared_fault (tree_of d)) none none (run_main d words n) twin_run more carried
 
 -- NO COMPONENT HAS A CELL MORE
-staying_most : (set : ℕ → Bool) (c : ℕ) → staying set c ≤ c
+pub staying_most : (set : ℕ → Bool) (c : ℕ) → staying set c ≤ c
 staying_most set zero = omega arith
 staying_most set (suc c) = by (set c) (staying_most set c)
   where

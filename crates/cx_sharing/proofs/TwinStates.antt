@@ -117,14 +117,16 @@ held_other i j twin e path (in_child child at has) = let r = child_twin child (t
 renumbered_cells : (part : PlainComponent) (cells : Cells) (c : ℕ) (j : Instance) → ((e : ℕ) → AtTwin part (c + e) (cell_at cells e) (cell_at (cells_of j) (new_cell part (c + e)))) → AreRenumbered new_cell has_state part cells c j
 renumbered_cells part no_cells c j each = tt
 renumbered_cells part (a_primitive row rest) c j each =
-    let here : c + 0 ≡ c = omega arith in
-    ((λ has. ap (λ n. cell_at (cells_of j) (new_cell part n)) (sym here) ∙ (row_twin row (each 0) refl).3),
-    renumbered_cells part rest (suc c) j (λ e. let next : c + suc e ≡ suc c + e = omega arith in subst (λ n. AtTwin part n (cell_at rest e) (cell_at (cells_of j) (new_cell part n))) next (each (suc e))))
+    let here : c + 0 ≡ c = omega arith in (
+      (λ has. ap (λ n. cell_at (cells_of j) (new_cell part n)) (sym here) ∙ (row_twin row (each 0) refl).3),
+      renumbered_cells part rest (suc c) j (λ e. let next : c + suc e ≡ suc c + e = omega arith in subst (λ n. AtTwin part n (cell_at rest e) (cell_at (cells_of j) (new_cell part n))) next (each (suc e))),
+    )
 renumbered_cells part (an_instance child rest) c j each =
     let here : c + 0 ≡ c = omega arith in
-    let r = child_twin child (each 0) refl in
-    ((r.1, ap (λ n. cell_at (cells_of j) (new_cell part n)) (sym here) ∙ r.3, r.4.tree),
-    renumbered_cells part rest (suc c) j (λ e. let next : c + suc e ≡ suc c + e = omega arith in subst (λ n. AtTwin part n (cell_at rest e) (cell_at (cells_of j) (new_cell part n))) next (each (suc e))))
+    let r = child_twin child (each 0) refl in (
+      (r.1, ap (λ n. cell_at (cells_of j) (new_cell part n)) (sym here) ∙ r.3, r.4.tree),
+      renumbered_cells part rest (suc c) j (λ e. let next : c + suc e ≡ suc c + e = omega arith in subst (λ n. AtTwin part n (cell_at rest e) (cell_at (cells_of j) (new_cell part n))) next (each (suc e))),
+    )
 
 pub twin_renumbered : (i j : Instance) → IsTwin i j → IsRenumbered new_cell has_state i j
 twin_renumbered (Node part cells) j twin =
