@@ -13,4 +13,16 @@ pub mod SharedGroups
 pub mod SharedLeaves
 pub mod SharedControl
 pub mod SharedMain
+pub mod CandidateLemmas
+pub mod ReadLemmas
+pub mod MovedLists
+pub mod SharedParts
+pub mod RulesShared
+pub mod RestsShared
+pub mod CirclesShared
+pub mod RacesShared
+pub mod CallsShared
+pub mod StateRules
+pub mod LimitsShared
+pub mod AcceptedShared
 pub mod KnownSharing

@@ -251,7 +251,7 @@ module _ (d : PlainDesign) (design : IsDesign d) (accepted : IsAccepted d) where
     more_shared more = run_is ∙ more_followed (λ counted. SharedStands (tree_of d)) (shared_fault (tree_of d)) none none (run_main d words n) twin_run more carried
 
 -- NO COMPONENT HAS A CELL MORE
-staying_most : (set : ℕ → Bool) (c : ℕ) → staying set c ≤ c
+pub staying_most : (set : ℕ → Bool) (c : ℕ) → staying set c ≤ c
 staying_most set zero = omega arith
 staying_most set (suc c) = by (set c) (staying_most set c)
   where
