@@ -8,7 +8,7 @@ use Rattle.cx_meaning.specs.Sights.{In}
 use Rattle.cx_sharing.specs.Uses.{kind_in, is_candidate}
 use Rattle.cx_sharing.specs.Meeting.{meet}
 use Rattle.cx_sharing.specs.Giving.{Kept, same_kind, takes, give, kept_after, kept_of, is_in, keeper_in, keeper}
-use Rattle.cx_sharing.proofs.KeptLemmas.{Member, grown, Disjoint, AreSound, kept_sound}
+use Rattle.cx_sharing.proofs.KeptLemmas.{grown, Disjoint, kept_sound}
 
 -- an entry of a list that is the entry k, with more that is given to it
 pub record Later (ks : List Kept) (k : Kept) : Type 0 where
@@ -128,6 +128,18 @@ module _ (part : PlainComponent) where
       by true on f later = (x, ap (λ c. c || is_in x xs) (eq-eqb x x refl), on)
       by false off f later = let r = later f in (r.0, or_right (nat_eq x r.0) (is_in r.0 xs) r.1, r.2)
 
+  -- who is in an entry, when so many cells have been gone through, is kept by its cell
+  member_keeps : (x n m : ℕ) (k : Kept) → n ≤ length part.cells → In (kept_after part n) k → k.cell ≡ x → keeper part x ≡ x → is_in m (k.cell ∷ k.given) ≡ true → keeper part m ≡ x
+  member_keeps x n m k le i cell own e = ⊎_elim itself given (or_cases (nat_eq k.cell m) (is_in m k.given) e)
+    where
+      itself : nat_eq k.cell m ≡ true → keeper part m ≡ x
+      itself same = ap (keeper part) (sym (eqb-true k.cell m same) ∙ cell) ∙ own
+
+      given : is_in m k.given ≡ true → keeper part m ≡ x
+      given g =
+          let last : Later (kept_of part) k = kept_by n (length part.cells) k le i in
+          keeps_given (kept_of part) (kept_sound part (length part.cells)).disjoint last.entry m last.stands (last.given m g) ∙ last.cell ∙ cell
+
   -- TWO OF ONE KIND THAT STAY: the later one meets a cell that the earlier one keeps
   pub stays_meet : (x y : ℕ) → x < y → y < length part.cells → is_candidate part x ≡ true → is_candidate part y ≡ true → keeper part x ≡ x → keeper part y ≡ y
       → same_kind (kind_in part.cells x) (kind_in part.cells y) ≡ true → (m : ℕ) × (keeper part m ≡ x) × (meet part m y ≡ true)
@@ -135,19 +147,17 @@ module _ (part : PlainComponent) where
       let below : x < length part.cells = omega (arith, lt, within) in
       let entry = own_entry x below cx kx in
       let le : suc x ≤ y = omega (arith, lt) in
-      let now = kept_by (suc x) y entry.0 le entry.1 in
-      let cell : now.entry.cell ≡ x = now.cell ∙ entry.2 in
-      let refused = not_taken y within cy ky now.entry now.stands in
-      let kinds : same_kind (kind_in part.cells now.entry.cell) (kind_in part.cells y) ≡ true = ap (λ z. same_kind (kind_in part.cells z) (kind_in part.cells y)) cell ∙ same in
-      let some = not_all (λ z. meet part z y) (now.entry.cell ∷ now.entry.given) (second (same_kind (kind_in part.cells now.entry.cell) (kind_in part.cells y)) _ kinds refused) in
-      (some.0, ⊎_elim (λ e. ap (keeper part) (sym (eqb-true now.entry.cell some.0 e) ∙ cell) ∙ kx) (λ g. kept_for some.0 now.entry now.stands g ∙ cell) (or_cases (nat_eq now.entry.cell some.0) (is_in some.0 now.entry.given) some.1), some.2)
+      of_entry (kept_by (suc x) y entry.0 le entry.1) entry.2
     where
       second : (a b : Bool) → a ≡ true → (a && b) ≡ false → b ≡ false
       second true b on e = e
       second false b on e = absurd (cc)
 
-      kept_for : (m : ℕ) (k : Kept) → In (kept_after part y) k → is_in m k.given ≡ true → keeper part m ≡ k.cell
-      kept_for m k i g =
+      of_entry : {k : Kept} → Later (kept_after part y) k → k.cell ≡ x → (m : ℕ) × (keeper part m ≡ x) × (meet part m y ≡ true)
+      of_entry now is =
+          let cell : now.entry.cell ≡ x = now.cell ∙ is in
+          let kinds : same_kind (kind_in part.cells now.entry.cell) (kind_in part.cells y) ≡ true = ap (λ z. same_kind (kind_in part.cells z) (kind_in part.cells y)) cell ∙ same in
           let le : y ≤ length part.cells = omega (arith, within) in
-          let last = kept_by y (length part.cells) k le i in
-          keeps_given (kept_of part) (kept_sound part (length part.cells)).disjoint last.entry m last.stands (last.given m g) ∙ last.cell
+          let some = not_all (λ z. meet part z y) (now.entry.cell ∷ now.entry.given)
+          (second (same_kind (kind_in part.cells now.entry.cell) (kind_in part.cells y)) (list_all (λ z. not (meet part z y)) (now.entry.cell ∷ now.entry.given)) kinds (not_taken y within cy ky now.entry now.stands)) in
+          (some.0, member_keeps x y some.0 now.entry le now.stands cell kx some.1, some.2)

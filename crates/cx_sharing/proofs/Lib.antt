@@ -15,6 +15,7 @@ pub mod SharedControl
 pub mod SharedMain
 pub mod MeetMoved
 pub mod GrowLemmas
+pub mod SharedOnce
 pub mod CandidateLemmas
 pub mod ReadLemmas
 pub mod MovedLists

@@ -1,5 +1,5 @@
 -- What is used and what meets does so by the new numbers, where ports are those of renamed cells.
-use Rattle.std.proofs.Common.{◌≡◌, ℕ, zero, suc, inl, inr, ⊎_elim, Bool, true, false, ◌||◌, ◌&&◌, List, [], ◌∷◌, map, Option, Some, None, refl, sym, ap, ◌∙◌, subst}
+use Rattle.std.proofs.Common.{◌≡◌, ℕ, ⊎_elim, Bool, true, ◌||◌, ◌&&◌, List, [], ◌∷◌, map, Option, Some, None, refl, ap, ◌∙◌}
 use Rattle.std.specs.Prelude.{get_or}
 use Rattle.std.specs.List.{list_any}
 use Rattle.std.proofs.lemmas.Bool.{or_cases, or_right}
@@ -48,7 +48,7 @@ module _ (cell : ℕ → ℕ) where
       (list_any (λ (p : PlacedPort). targets_cell p.port (cell c)) (sources_of (moved_assign (renamed cell) a)))
       (target_moved a.target c)
       (λ h. ap (list_any (λ (p : PlacedPort). targets_cell p.port (cell c))) (sources_of-moved (renamed cell) a)
-        ∙ any_moved (moved_port (renamed cell)) (λ (p : PlacedPort). targets_cell p.port c) (λ (p : PlacedPort). targets_cell p.port (cell c)) (λ p. target_moved p.port c) (sources_of a) h)
+      ∙ any_moved (moved_port (renamed cell)) (λ (p : PlacedPort). targets_cell p.port c) (λ (p : PlacedPort). targets_cell p.port (cell c)) (λ p. target_moved p.port c) (sources_of a) h)
       e
 
   pub assigns_moved : (c : ℕ) (list : List PlainAssign) → assigns_use list c ≡ true → assigns_use (map (moved_assign (renamed cell)) list) (cell c) ≡ true
@@ -66,7 +66,7 @@ module _ (cell : ℕ → ℕ) where
         (list_any (λ g. group_uses other g (cell c)) (groups_of (moved_statement (renamed cell) s))) (list_any (λ (p : PlacedPort). targets_cell p.port (cell c)) (tests_of (moved_statement (renamed cell) s)))
         (λ h. ap (list_any (λ g. group_uses other g (cell c))) (groups_of-moved (renamed cell) s) ∙ any_same (λ g. group_uses part g c) (λ g. group_uses other g (cell c)) (λ g. group_moved g c) (groups_of s) h)
         (λ h. ap (list_any (λ (p : PlacedPort). targets_cell p.port (cell c))) (tests_of-moved (renamed cell) s)
-          ∙ any_moved (moved_port (renamed cell)) (λ (p : PlacedPort). targets_cell p.port c) (λ (p : PlacedPort). targets_cell p.port (cell c)) (λ p. target_moved p.port c) (tests_of s) h)
+        ∙ any_moved (moved_port (renamed cell)) (λ (p : PlacedPort). targets_cell p.port c) (λ (p : PlacedPort). targets_cell p.port (cell c)) (λ p. target_moved p.port c) (tests_of s) h)
         e
 
     comb_moved : (o : Option ℕ) (c : ℕ) → comb_uses part o c ≡ true → comb_uses other o (cell c) ≡ true
@@ -87,8 +87,8 @@ module _ (cell : ℕ → ℕ) where
     arms_moved (arm ∷ later) x y e =
         either_way ((uses part arm x && some_uses part later y) || (uses part arm y && some_uses part later x)) (arms_meet part later x y) _ _
         (either_way (uses part arm x && some_uses part later y) (uses part arm y && some_uses part later x) _ _
-          (both_ways_on (uses part arm x) (some_uses part later y) _ _ (uses_moved arm x) (later_moved y later))
-          (both_ways_on (uses part arm y) (some_uses part later x) _ _ (uses_moved arm y) (later_moved x later)))
+        (both_ways_on (uses part arm x) (some_uses part later y) _ _ (uses_moved arm x) (later_moved y later))
+        (both_ways_on (uses part arm y) (some_uses part later x) _ _ (uses_moved arm y) (later_moved x later)))
         (arms_moved later x y) e
 
     list_moved : (ss : PlainStatements) → list_of (moved_statements (renamed cell) ss) ≡ map (moved_statement (renamed cell)) (list_of ss)
@@ -115,8 +115,8 @@ module _ (cell : ℕ → ℕ) where
         either_way (list_any (λ (g : PlainGroup). has_both (assigns_use g.assigns) x y) part.groups) (list_any (λ (v : Visited). form_meets part v.form x y) (statements_in part))
         (list_any (λ (g : PlainGroup). has_both (assigns_use g.assigns) (cell x) (cell y)) other.groups) (list_any (λ (v : Visited). form_meets other v.form (cell x) (cell y)) (statements_in other))
         (λ h. ap (list_any (λ (g : PlainGroup). has_both (assigns_use g.assigns) (cell x) (cell y))) groups
-          ∙ any_moved (moved_group (renamed cell)) (λ (g : PlainGroup). has_both (assigns_use g.assigns) x y) (λ (g : PlainGroup). has_both (assigns_use g.assigns) (cell x) (cell y))
-            (λ g. both_ways_on (assigns_use g.assigns x) (assigns_use g.assigns y) _ _ (assigns_moved x g.assigns) (assigns_moved y g.assigns)) part.groups h)
+        ∙ any_moved (moved_group (renamed cell)) (λ (g : PlainGroup). has_both (assigns_use g.assigns) x y) (λ (g : PlainGroup). has_both (assigns_use g.assigns) (cell x) (cell y))
+        (λ g. both_ways_on (assigns_use g.assigns x) (assigns_use g.assigns y) _ _ (assigns_moved x g.assigns) (assigns_moved y g.assigns)) part.groups h)
         (λ h. ap (list_any (λ (v : Visited). form_meets other v.form (cell x) (cell y))) (ap (visit Dynamic) control ∙ visit-moved (renamed cell) Dynamic part.control)
-          ∙ any_moved (moved_visited (renamed cell)) (λ (v : Visited). form_meets part v.form x y) (λ (v : Visited). form_meets other v.form (cell x) (cell y)) (λ v. form_moved v.form x y) (statements_in part) h)
+        ∙ any_moved (moved_visited (renamed cell)) (λ (v : Visited). form_meets part v.form x y) (λ (v : Visited). form_meets other v.form (cell x) (cell y)) (λ v. form_moved v.form x y) (statements_in part) h)
         e
