@@ -1,6 +1,6 @@
 -- THE CONTROL of an instance is carried by that of the shared instance; so each instance of the tree of an accepted design stands beside one
 -- of the tree of the shared design.
-use Rattle.std.proofs.Common.{◌≡◌, ℕ, zero, suc, ◌<◌, ◌≤◌, inl, inr, ⊎_elim, Bool, true, false, Option, Some, None, List, [], ◌∷◌, ◌++◌, length, refl, sym, ap, ◌∙◌, subst}
+use Rattle.std.proofs.Common.{◌≡◌, ℕ, zero, suc, ◌<◌, inl, inr, ⊎_elim, Bool, true, false, Option, Some, None, List, [], length, refl, sym, ap, ◌∙◌, subst}
 use Rattle.std.proofs.lemmas.Bool.{cases_lt}
 use Rattle.std.proofs.lemmas.List.{get_or_past}
 use Rattle.cx_text.specs.declared.places.Place.{Place}
@@ -11,34 +11,33 @@ use Rattle.cx_meaning.specs.declared.ports.PortRef.TheVariants as ports
 use Rattle.cx_meaning.specs.Designs.{PlainComponent, PlainDesign, component_at, no_component, PlainForm, Empty, Enable, Seq, Par, If, While, Repeat, StaticSeq, StaticPar, StaticIf, StaticRepeat, Timed, PlainStatement, Placed, PlainStatements, no_statements, a_statement}
 use Rattle.cx_meaning.specs.Instances.{Instance, Node, cells_of, part_of, tree_within, State}
 use Rattle.cx_meaning.specs.Active.{Active, nothing, group, Entry, entries}
-use Rattle.cx_meaning.specs.Answers.{Meaning}
 use Rattle.cx_meaning.specs.Control.{Leaves, drives, run}
 use Rattle.cx_meaning.specs.Cycles.{Fault}
 use Rattle.cx_meaning.specs.Islands.{History, group_length, occurrence, form_flat, active_in, entry_if}
 use Rattle.cx_meaning.specs.Running.{leaves, control_below, run_control}
-use Rattle.cx_meaning.specs.Sights.{Held, unheld, In, seen}
+use Rattle.cx_meaning.specs.Sights.{Held, unheld, In}
 use Rattle.cx_meaning.proofs.ActiveLemmas.{entry_of}
 use Rattle.cx_meaning.proofs.DesignsLemmas.{same_part}
 use Rattle.cx_meaning.proofs.SightsLaws.{in_left, in_right}
 use Rattle.cx_rules.specs.Accepted.{IsAccepted}
 use Rattle.cx_rules.specs.Circles.{IsAcyclic, AreAcyclic, AcyclicBelow}
-use Rattle.cx_rules.specs.Items.{Context, Dynamic, below_dynamic, Visited, visit, visit_parts, visit_all, statements_in}
+use Rattle.cx_rules.specs.Items.{Context, Dynamic, below_dynamic, Visited, visit, visit_all, statements_in}
 use Rattle.cx_rules.specs.Wellformed.{IsDesign}
 use Rattle.cx_rules.proofs.CircleLemmas.{within_acyclic, within_group}
-use Rattle.cx_rules.proofs.CirclesLemmas.{own_acyclic, cells_below}
+use Rattle.cx_rules.proofs.CirclesLemmas.{own_acyclic}
 use Rattle.cx_laws.proofs.ApartLemmas.{stand_apart}
 use Rattle.cx_laws.proofs.EdgeLemmas.{StandApart, no_shared_circle}
 use Rattle.cx_laws.proofs.SourceLemmas.{fit_source}
 use Rattle.cx_frames.proofs.CircleFrames.{group_acyclic}
 use Rattle.cx_rewrites.specs.Moving.{moved_port, moved_form, moved_statement, moved_statements}
 use Rattle.cx_rewrites.specs.Renaming.{renamed}
-use Rattle.cx_rewrites.specs.Tallies.{Tally, none, Counted, uncounted, count}
+use Rattle.cx_rewrites.specs.Tallies.{Tally, none, uncounted, count}
 use Rattle.cx_rewrites.specs.Carrying.{Exact, Carries}
 use Rattle.cx_rewrites.specs.Beside.{MergesCarry, FormBeside, outright, empties, seqs, pars, ifs, whiles, repeats, Beside, placed, PartsBeside, no_parts, a_part, ArmsBeside, no_arms, an_arm}
 use Rattle.cx_rewrites.proofs.BesideLemmas.{run_carries}
 use Rattle.cx_rewrites.proofs.TurnLemmas.{equals_carry}
 use Rattle.cx_sharing.specs.Giving.{new_cell}
-use Rattle.cx_sharing.specs.SharedDesign.{shared_part, shared_design}
+use Rattle.cx_sharing.specs.SharedDesign.{shared_design}
 use Rattle.cx_sharing.specs.Following.{SharedStands, shared_fault}
 use Rattle.cx_sharing.proofs.UsedLemmas.{Covers, UsedMeet}
 use Rattle.cx_sharing.proofs.TwinLemmas.{IsBeside, IsTwin, leaf_twin, tree_twin}

@@ -19,17 +19,17 @@ use Rattle.cx_meaning.proofs.InstancesLemmas.{some_cells}
 use Rattle.cx_rules.specs.Accepted.{IsAccepted}
 use Rattle.cx_rules.specs.Externals.{row_for, rows_of, external_rows}
 use Rattle.cx_rules.specs.Externals as externals
-use Rattle.cx_rules.specs.Wellformed.{IsDesign, IsCell, is_memory, IsExternal}
+use Rattle.cx_rules.specs.Wellformed.{IsDesign, is_memory, IsExternal}
 use Rattle.cx_rewrites.specs.Tallies.{none}
 use Rattle.cx_rewrites.specs.Carrying.{Exact, Carried}
 use Rattle.cx_rewrites.specs.Standing.{holds, renumbered, renumbered_below}
 use Rattle.cx_rewrites.proofs.FollowLemmas.{end_followed, fault_followed, more_followed}
-use Rattle.cx_sharing.specs.Uses.{is_stateless, is_combinational, kind_in, is_candidate}
+use Rattle.cx_sharing.specs.Uses.{is_stateless, kind_in, is_candidate}
 use Rattle.cx_sharing.specs.Giving.{stays, staying, new_cell}
 use Rattle.cx_sharing.specs.SharedDesign.{remaining, shared_part, shared_design}
 use Rattle.cx_sharing.specs.Following.{has_state, SharedStands, shared_fault}
 use Rattle.cx_sharing.proofs.RemainingLemmas.{length_left, at_kind, cell_is}
-use Rattle.cx_sharing.proofs.TwinLemmas.{IsTwin, shared_component, stays_is, other_stays, combines_false, state_other, own_equal_back}
+use Rattle.cx_sharing.proofs.TwinLemmas.{IsTwin, shared_component, stays_is, other_stays, state_other, own_equal_back}
 use Rattle.cx_sharing.proofs.TwinStates.{HoldsAt, itself, in_child, holds_at, held_other, of_path, path_of, root_of, row_path, row_state, child_renumbered, start_state}
 use Rattle.cx_sharing.proofs.SharedControl.{tree_beside, tree_is_twin}
 

@@ -1,5 +1,5 @@
 -- An instance of a design beside the instance of the shared design: what stands at each cell, and at its new number.
-use Rattle.std.proofs.Common.{◌≡◌, ℕ, zero, suc, ◌<◌, ◌≤◌, inl, inr, ◌⊎◌, ⊎_elim, Bool, true, false, List, [], ◌∷◌, length, map, refl, sym, ap, ◌∙◌, subst, arith}
+use Rattle.std.proofs.Common.{◌≡◌, ℕ, zero, suc, ◌<◌, ◌≤◌, ⊎_elim, Bool, true, false, List, [], ◌∷◌, length, map, refl, sym, ap, ◌∙◌, subst}
 use Rattle.std.specs.Prelude.{get_or, not, ◌&&◌}
 use Rattle.std.specs.List.{list_any}
 use Rattle.std.proofs.lemmas.Bool.{cases_lt, eqb-true, eq-eqb, both_ways}
@@ -9,7 +9,7 @@ use Rattle.cx_prim.specs.Table.{PrimitiveRow, row_of}
 use Rattle.cx_meaning.specs.declared.ports.PortRef.TheVariants as ports
 use Rattle.cx_meaning.specs.declared.sights.Seen.{Seen}
 use Rattle.cx_meaning.specs.Designs.{PlainKind, OfPrimitive, OfComponent, PlainCell, PlainGroup, PlainComponent, PlainDesign, component_at, no_component}
-use Rattle.cx_meaning.specs.Instances.{Instance, Node, Cells, no_cells, At, Nothing, OfRow, OfInstance, cell_at, cell_count, cells_of, part_of, add_cell, cells_for, tree_within, Path, State, start_at, just}
+use Rattle.cx_meaning.specs.Instances.{Instance, Node, At, Nothing, OfRow, OfInstance, cell_at, cell_count, cells_of, part_of, add_cell, cells_for, tree_within, Path, State, start_at, just}
 use Rattle.cx_meaning.specs.Active.{nothing}
 use Rattle.cx_meaning.specs.Sights.{Held, unheld, Sees, seen, part_port}
 use Rattle.cx_meaning.specs.Control.{assigns_drive}
@@ -27,7 +27,7 @@ use Rattle.cx_sharing.specs.SharedDesign.{remaining, shared_part, shared_design}
 use Rattle.cx_sharing.specs.Following.{has_state, SharedStands, shared_fault}
 use Rattle.cx_sharing.proofs.KeptLemmas.{keeper_stays, new_apart}
 use Rattle.cx_sharing.proofs.KeeperLemmas.{keeper_kind, keeper_within, keeper_past, other_kept}
-use Rattle.cx_sharing.proofs.RemainingLemmas.{kind_left, length_left, staying_within, staying_past, StandsAt, stands_at, at_kind, cell_is, none_past}
+use Rattle.cx_sharing.proofs.RemainingLemmas.{kind_left, length_left, staying_within, staying_past, at_kind, cell_is, none_past}
 
 -- A CHILD AND THE SHARED ONE: what an instance asks of its children
 pub record IsBeside (child twin : Instance) : Type 0 where

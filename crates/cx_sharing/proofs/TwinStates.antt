@@ -1,23 +1,21 @@
 -- States of an instance and of the shared one: at a cell that holds something, at a child, and by idle turns.
-use Rattle.std.proofs.Common.{◌≡◌, ℕ, zero, suc, ◌+◌, Bool, true, false, [], ◌∷◌, refl, sym, ap, ◌∙◌, subst, arith}
-use Rattle.std.specs.Prelude.{not}
+use Rattle.std.proofs.Common.{◌≡◌, ℕ, zero, suc, ◌+◌, true, false, [], ◌∷◌, refl, sym, ap, ◌∙◌, subst, arith}
 use Rattle.std.proofs.lemmas.Bool.{both_ways}
 use Rattle.cx_text.proofs.BoolLaws.{from_not}
 use Rattle.cx_prim.specs.Rows.{Row}
-use Rattle.cx_meaning.specs.declared.ports.PortRef.TheVariants as ports
 use Rattle.cx_meaning.specs.Designs.{PlainComponent}
-use Rattle.cx_meaning.specs.Instances.{Instance, Node, Cells, no_cells, a_primitive, an_instance, At, OfRow, OfInstance, cell_at, cells_of, part_of, instance_at, child_at, Path, State, Set, start_at, start_below, under, merge, just, put, idle}
+use Rattle.cx_meaning.specs.Instances.{Instance, Node, Cells, no_cells, a_primitive, an_instance, OfRow, OfInstance, cell_at, cells_of, part_of, instance_at, child_at, Path, State, Set, start_at, start_below, under, merge, put, idle}
 use Rattle.cx_meaning.specs.Cycles.{Fault, fault_at}
 use Rattle.cx_meaning.specs.Calls.{fault_below}
 use Rattle.cx_meaning.specs.declared.sights.FaultKind.{FaultKind}
 use Rattle.cx_meaning.specs.declared.ports.PortRef.{PortRef}
 use Rattle.cx_rewrites.specs.Renaming.{renamed}
-use Rattle.cx_rewrites.specs.Standing.{Stands, holds, holds_below, renumbered, renumbered_below, IsRenumbered, AreRenumbered}
+use Rattle.cx_rewrites.specs.Standing.{holds, holds_below, renumbered, renumbered_below, IsRenumbered, AreRenumbered}
 use Rattle.cx_rewrites.proofs.StandingLemmas.{under_stands, put_stands, merge_stands, idle_stands}
 use Rattle.cx_sharing.specs.Uses.{is_stateless, is_candidate}
 use Rattle.cx_sharing.specs.Giving.{new_cell}
 use Rattle.cx_sharing.specs.Following.{has_state, SharedStands, shared_fault}
-use Rattle.cx_sharing.proofs.TwinLemmas.{IsBeside, AtTwin, IsTwin, row_twin, child_twin, part_other, state_other, own_equal}
+use Rattle.cx_sharing.proofs.TwinLemmas.{AtTwin, IsTwin, row_twin, child_twin, part_other, state_other, own_equal}
 
 -- paths by what stands at their first cell
 row_holds : (cells : Cells) (c : ℕ) (row : Row) → cell_at cells c ≡ OfRow row → holds_below has_state cells c [] ≡ has_state row
