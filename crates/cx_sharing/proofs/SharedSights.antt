@@ -1,38 +1,24 @@
 -- WHAT IS SEEN in an instance is seen in the shared one, under groups whose cells meet; and nothing leads in a circle there.
-use Rattle.std.proofs.Common.{◌≡◌, ℕ, zero, suc, ◌≤◌, inl, inr, ◌⊎◌, Bool, true, false, Option, Some, None, List, [], ◌∷◌, map, refl, sym, ap, ◌∙◌, subst, arith}
-use Rattle.std.proofs.lemmas.Bool.{both_ways}
+use Rattle.std.proofs.Common.{◌≡◌, ℕ, zero, suc, ◌≤◌, Bool, true, false, [], ◌∷◌, refl, sym, ap, ◌∙◌, arith}
 use Rattle.cx_text.proofs.BoolLaws.{not_not}
-use Rattle.cx_prim.specs.declared.ports.Side.{Side}
-use Rattle.cx_prim.specs.declared.ports.Side.TheVariants as sides
 use Rattle.cx_prim.specs.Rows.{Inputs, Row}
 use Rattle.cx_prim.specs.Table.{row_of}
-use Rattle.cx_meaning.specs.Rows.{side_of}
 use Rattle.cx_meaning.specs.declared.ports.PortRef.{PortRef}
 use Rattle.cx_meaning.specs.declared.ports.PortRef.TheVariants as ports
 use Rattle.cx_meaning.specs.declared.sights.Seen.{Seen}
 use Rattle.cx_meaning.specs.Designs.{PlainComponent}
 use Rattle.cx_meaning.specs.Instances.{Instance, Cells, no_cells, a_primitive, an_instance, At, Nothing, OfRow, OfInstance, cell_at, cell_count, cells_of, part_of, State, under}
-use Rattle.cx_meaning.specs.Active.{Active, nothing, Owned, offset_of, source_order}
-use Rattle.cx_meaning.specs.Sights.{Held, unheld, In, Sees, seen, outputs_below, is_done_cell}
-use Rattle.cx_rules.specs.Footprints.{Mentions, SideLeads, CellLeads, Leads, Depends, at_once, by_way_of}
-use Rattle.cx_rules.specs.RaceRule.{HasCycle}
+use Rattle.cx_meaning.specs.Active.{Active, nothing}
+use Rattle.cx_meaning.specs.Sights.{Held, unheld, Sees, seen, outputs_below, is_done_cell}
 use Rattle.cx_rules.specs.Circles.{IsAcyclic}
-use Rattle.cx_rules.proofs.ForeignLemmas.{sorted_among}
-use Rattle.cx_rewrites.specs.Moving.{moved_owned}
-use Rattle.cx_rewrites.specs.Driving.{assigns_of}
 use Rattle.cx_rewrites.specs.Renaming.{renamed, IsRenamed, Renames}
-use Rattle.cx_rewrites.proofs.ClosedLemmas.{Mention, mention_of}
-use Rattle.cx_rewrites.proofs.DriverLemmas.{assigns_of-moved, driven_moved}
-use Rattle.cx_rewrites.proofs.ReflectLemmas.{circle_back}
 use Rattle.cx_rewrites.proofs.RenamedLemmas.{seen_renamed, found_renamed}
-use Rattle.cx_sharing.specs.Uses.{is_stateless, is_candidate}
-use Rattle.cx_sharing.specs.Giving.{stays, new_cell}
+use Rattle.cx_sharing.specs.Uses.{is_stateless}
+use Rattle.cx_sharing.specs.Giving.{new_cell}
 use Rattle.cx_sharing.specs.Following.{has_state, SharedStands}
-use Rattle.cx_sharing.proofs.KeptLemmas.{new_apart}
-use Rattle.cx_sharing.proofs.RemainingLemmas.{stands_at}
 use Rattle.cx_sharing.proofs.RowLemmas.{stateless_row}
-use Rattle.cx_sharing.proofs.UsedLemmas.{IsIn, Inside, Covers, UsedMeet, active_uses, inside_closed, inside_apart, one_port, target_used}
-use Rattle.cx_sharing.proofs.TwinLemmas.{AtTwin, no_twins, twin_rows, twin_parts, IsTwin, row_twin, child_twin, nothing_twin, like_twin, stays_is, part_other, candidate_holds_nothing}
+use Rattle.cx_sharing.proofs.UsedLemmas.{Inside, Covers, UsedMeet}
+use Rattle.cx_sharing.proofs.TwinLemmas.{AtTwin, no_twins, twin_rows, twin_parts, IsTwin, row_twin, child_twin}
 use Rattle.cx_sharing.proofs.SharedParts.{AtShared, no_cell, a_row, a_part, Shares}
 use Rattle.cx_sharing.proofs.CirclesShared.{is_renamed, cycle_comes_back}
 use Rattle.cx_sharing.proofs.TwinStates.{row_state, child_state}
