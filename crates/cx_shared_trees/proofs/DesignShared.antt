@@ -11,9 +11,11 @@ use Rattle.cx_rules.specs.Accepted.{IsAccepted}
 use Rattle.cx_numbering.specs.Names.{cell_names}
 use Rattle.cx_numbering.specs.DesignOf.{number_or_0, Invoke, control_invokes, component_of, design_of}
 use Rattle.cx_numbering.specs.NameRules.{names_break, named, visit_block, Visited, statements_in, Standing, standing}
-use Rattle.cx_meaning.specs.Designs.{PlainComponent}
+use Rattle.cx_meaning.specs.Designs.{PlainComponent, PlainDesign}
 use Rattle.cx_meaning.specs.Instances.{State, tree_of, words_of}
-use Rattle.cx_meaning.specs.Answers.{End}
+use Rattle.cx_meaning.specs.Cycles.{Fault}
+use Rattle.cx_meaning.specs.Answers.{End, More}
+use Rattle.cx_meaning.specs.Answers as answers
 use Rattle.cx_meaning.specs.Running.{run_main}
 use Rattle.cx_rules.specs.Externals.{external_rows}
 use Rattle.cx_rules.specs.Sizes.{sizes_of, design_size}
@@ -31,9 +33,12 @@ use Rattle.cx_check.specs.Acceptance.{IsAcceptedTree}
 use Rattle.cx_copies.specs.Naming.{named_operand_form, named_form}
 use Rattle.cx_sharing.specs.SharedDesign.{shared_part, shared_design}
 use Rattle.cx_sharing.specs.SharedTree.{shared_tree}
+use Rattle.cx_sharing.specs.SharedRows.{rows_of, shared_rows}
+use Rattle.cx_sharing.specs.Following.{shared_fault}
 use Rattle.cx_sharing.proofs.AcceptedShared.{shared_accepted}
 use Rattle.cx_sharing.proofs.LimitsShared.{smaller}
-use Rattle.cx_sharing.proofs.SharedMain.{ends_shared, rows_shared}
+use Rattle.cx_sharing.proofs.SharedMain.{ends_shared, fault_shared, more_shared, rows_shared}
+use Rattle.cx_sharing.proofs.SharedOnce.{once_told}
 use Rattle.cx_shared_trees.proofs.TreeDesign.{shared_item, shared_items, component_names-shared, new_name, IsInvoke, component-shared}
 use Rattle.cx_shared_trees.proofs.NamesShared.{shared_visited, statements-shared, shared_standing, standing-shared, names_shared}
 
@@ -149,3 +154,14 @@ ends-alike tree words n t s design h ends =
 
 pub rows-alike : (tree : PlainTree) → IsDesign (design_of tree) → IsAcceptedTree tree → external_rows (design_of (shared_tree tree)) ≡ external_rows (design_of tree)
 rows-alike tree design h = ap external_rows (design-shared tree h.named) ∙ rows_shared (design_of tree) design
+
+pub faults-alike : (tree : PlainTree) (words : List (List ℕ)) (n t : ℕ) (fault : Fault) → IsDesign (design_of tree) → IsAcceptedTree tree → run_main (design_of tree) words n ≡ answers.Fault fault t
+    → run_main (design_of (shared_tree tree)) words n ≡ answers.Fault (shared_fault (tree_of (design_of tree)) fault) t
+faults-alike tree words n t fault design h stops = ap (λ d. run_main d words n) (design-shared tree h.named) ∙ fault_shared (design_of tree) design h.accepted words n fault t stops
+
+pub more-alike : (tree : PlainTree) (words : List (List ℕ)) (n : ℕ) → IsDesign (design_of tree) → IsAcceptedTree tree → run_main (design_of tree) words n ≡ More → run_main (design_of (shared_tree tree)) words n ≡ More
+more-alike tree words n design h more = ap (λ d. run_main d words n) (design-shared tree h.named) ∙ more_shared (design_of tree) design h.accepted words n more
+
+-- NOTHING MORE is shared
+pub nothing_more : (tree : PlainTree) → names_break tree ≡ None → shared_rows (shared_tree tree) ≡ []
+nothing_more tree named = ap (λ (d : PlainDesign). flat_map rows_of d.components) (design-shared tree named) ∙ once_told (design_of tree)

@@ -1,9 +1,11 @@
 //! Laws of the shared tree: each function does nothing, and its clauses are the law.
 
-ghost use Rattle.std.specs.Prelude.{◌≡◌, ◌<◌, ◌^◌, ℕ, List, None};
+ghost use Rattle.std.specs.Prelude.{◌≡◌, ◌<◌, ◌^◌, ℕ, List, [], None};
 ghost use Rattle.cx_ast.specs.PlainTree.{PlainTree};
 ghost use Rattle.cx_meaning.specs.Instances.{State, tree_of, words_of};
-ghost use Rattle.cx_meaning.specs.Answers.{End};
+ghost use Rattle.cx_meaning.specs.Answers.{End, More};
+ghost use Rattle.cx_meaning.specs.Answers as answers;
+ghost use Rattle.cx_meaning.specs.Cycles.{Fault};
 ghost use Rattle.cx_meaning.specs.Running.{run_main};
 ghost use Rattle.cx_rules.specs.Externals.{external_rows};
 ghost use Rattle.cx_rules.specs.Sizes.{design_size};
@@ -13,7 +15,9 @@ ghost use Rattle.cx_numbering.specs.NameRules.{names_break};
 ghost use Rattle.cx_names.specs.Targets.{HasTargets};
 ghost use Rattle.cx_check.specs.Acceptance.{IsAcceptedTree};
 ghost use Rattle.cx_print.specs.Printable.{IsPrintable};
+ghost use Rattle.cx_sharing.specs.Following.{shared_fault};
 ghost use Rattle.cx_sharing.specs.SharedDesign.{shared_design};
+ghost use Rattle.cx_sharing.specs.SharedRows.{shared_rows};
 ghost use Rattle.cx_sharing.specs.SharedTree.{shared_tree};
 
 /// The shared tree stands for the shared design, where the tree breaks no rule on names. That is what every design keeps, where
@@ -36,12 +40,24 @@ pub fn shared_trees_are_printable()
     ensures targets { (tree : PlainTree) → names_break tree ≡ None → HasTargets tree → HasTargets (shared_tree tree) }
 {}
 
-/// The design of the shared tree of an accepted tree has the same external memories, and where the run of the tree's design
-/// ends, on any data and under any budget of turns, its run ends in the same turn with the same words in them.
+/// The design of the shared tree of an accepted tree has the same external memories, and runs as the tree's design does, on all
+/// data and under each budget of turns. Where that ends, it ends in the same turn with the same words in them; where that has a
+/// fault, it has the fault in the same turn, by the new numbers of the cells; where that needs more turns, so does it.
 pub fn shared_trees_run_alike()
     ensures ends { (tree : PlainTree) (words : List (List ℕ)) (n t : ℕ) (s : State)
         → IsDesign (design_of tree) → IsAcceptedTree tree → run_main (design_of tree) words n ≡ End s t
         → (z : State) × (run_main (design_of (shared_tree tree)) words n ≡ End z t)
         × (words_of (tree_of (design_of (shared_tree tree))) z ≡ words_of (tree_of (design_of tree)) s) }
+    ensures faults { (tree : PlainTree) (words : List (List ℕ)) (n t : ℕ) (fault : Fault)
+        → IsDesign (design_of tree) → IsAcceptedTree tree → run_main (design_of tree) words n ≡ answers.Fault fault t
+        → run_main (design_of (shared_tree tree)) words n ≡ answers.Fault (shared_fault (tree_of (design_of tree)) fault) t }
+    ensures more { (tree : PlainTree) (words : List (List ℕ)) (n : ℕ)
+        → IsDesign (design_of tree) → IsAcceptedTree tree → run_main (design_of tree) words n ≡ More
+        → run_main (design_of (shared_tree tree)) words n ≡ More }
     ensures rows { (tree : PlainTree) → IsDesign (design_of tree) → IsAcceptedTree tree → external_rows (design_of (shared_tree tree)) ≡ external_rows (design_of tree) }
+{}
+
+/// A shared tree shares nothing more: no row is told of it, where the tree breaks no rule on names.
+pub fn shared_trees_share_nothing_more()
+    ensures { (tree : PlainTree) → names_break tree ≡ None → shared_rows (shared_tree tree) ≡ [] }
 {}

@@ -1,6 +1,6 @@
 -- SHARED ONCE: a shared component shares nothing more.
-use Rattle.std.proofs.Common.{◌≡◌, ℕ, zero, suc, ◌+◌, ◌-◌, ◌<◌, ◌≤◌, inl, inr, ⊎_elim, Bool, true, false, ◌&&◌, List, [], ◌∷◌, length, map, refl, sym, ap, ◌∙◌, subst, arith}
-use Rattle.std.specs.Prelude.{not, if◌then◌else◌}
+use Rattle.std.proofs.Common.{◌≡◌, ℕ, zero, suc, ◌+◌, ◌-◌, ◌<◌, ◌≤◌, inl, inr, ⊎_elim, Bool, true, false, ◌&&◌, List, [], ◌∷◌, ◌++◌, length, map, refl, sym, ap, ◌∙◌, subst, arith}
+use Rattle.std.specs.Prelude.{flat_map, not, if◌then◌else◌}
 use Rattle.std.specs.List.{list_all, list_any}
 use Rattle.std.proofs.lemmas.Bool.{both_ways, eqb-true, eq-eqb, cases_lt, or_cases}
 use Rattle.cx_text.proofs.BoolLaws.{from_not, or_left, or_right}
@@ -166,5 +166,11 @@ no_rows_from part own c (suc more) = ap (λ b. if b then rows_from part (suc c) 
 pub once_keeps : (d : PlainDesign) (k c : ℕ) → keeper (component_at (shared_design d) k) c ≡ c
 once_keeps d k c = ap (λ part. keeper part c) (shared_component d k) ∙ keeps_each (component_at d k) c
 
-pub once_rows : (d : PlainDesign) (k : ℕ) → rows_of (component_at (shared_design d) k) ≡ []
-once_rows d k = no_rows_from (component_at (shared_design d) k) (once_keeps d k) 0 (length (component_at (shared_design d) k).cells)
+-- and of the whole design no row is told
+none_told : (parts : List PlainComponent) → flat_map rows_of (map shared_part parts) ≡ []
+none_told [] = refl
+none_told (part ∷ parts) =
+    ap (λ rows. rows ++ flat_map rows_of (map shared_part parts)) (no_rows_from (shared_part part) (keeps_each part) 0 (length (shared_part part).cells)) ∙ none_told parts
+
+pub once_told : (d : PlainDesign) → flat_map rows_of (shared_design d).components ≡ []
+once_told d = none_told d.components

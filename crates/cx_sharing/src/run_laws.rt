@@ -1,6 +1,6 @@
 //! Laws of runs: each function does nothing, and its clause is the law.
 
-ghost use Rattle.std.specs.Prelude.{◌≡◌, ◌≤◌, ℕ, false, true, List, [], length};
+ghost use Rattle.std.specs.Prelude.{◌≡◌, ◌≤◌, ℕ, false, true, List, [], flat_map, length};
 ghost use Rattle.cx_meaning.specs.Designs.{PlainComponent, PlainDesign, component_at};
 ghost use Rattle.cx_meaning.specs.Instances.{State, tree_of, words_of};
 ghost use Rattle.cx_meaning.specs.Cycles.{Fault};
@@ -42,7 +42,7 @@ pub fn shared_is_smaller()
 /// A shared design shares nothing more: each cell of it stands for itself, and no row is told of it.
 pub fn shared_once()
     ensures keepers { (d : PlainDesign) (k c : ℕ) → keeper (component_at (shared_design d) k) c ≡ c }
-    ensures rows { (d : PlainDesign) (k : ℕ) → rows_of (component_at (shared_design d) k) ≡ [] }
+    ensures rows { (d : PlainDesign) → flat_map rows_of (shared_design d).components ≡ [] }
 {}
 
 /// Only combinational cells are given, so none that holds something.
