@@ -1,5 +1,5 @@
 -- THE PROMOTED TREE: promotable groups are static, and runs of their enables are static seqs.
-use Rattle.std.specs.Prelude.{◌≡◌, ℕ, suc, ◌⊎◌, Bool, true, false, ◌&&◌, nat_eq, nat_lt, List, [], ◌∷◌, ◌++◌, Option, Some, None, is_some, option_map, map, if◌then◌else◌}
+use Rattle.std.specs.Prelude.{◌≡◌, ℕ, suc, ◌-◌, ◌⊎◌, Bool, true, false, ◌&&◌, nat_eq, nat_lt, List, [], ◌∷◌, ◌++◌, Option, Some, None, is_some, option_map, map, if◌then◌else◌}
 use Rattle.cx_text.specs.declared.places.Place.{Place}
 use Rattle.cx_ast.specs.declared.operands.OperandForm.{OperandForm}
 use Rattle.cx_ast.specs.declared.operands.OperandForm.TheVariants as operands
@@ -16,12 +16,13 @@ use Rattle.cx_numbering.specs.DesignOf.{port_of, group_of, design_of}
 use Rattle.cx_promotion.specs.declared.rows.PromotedRow.{PromotedRow}
 use Rattle.cx_promotion.specs.Promotable.{promotable}
 
--- no more enables than this stand in one piece, and no block stands on a deeper level
+-- no more enables than this stand in one piece
 abbrev pub PIECE : ℕ
 PIECE = 4096
 
-abbrev pub LEVELS : ℕ
-LEVELS = 64
+-- so many levels of blocks may stand below the block of a component's control, which is on the first of 64
+abbrev pub BELOW_CONTROL : ℕ
+BELOW_CONTROL = 63
 
 -- GROUPS
 abbrev pub is_hole_item : OperandForm → Bool
@@ -86,34 +87,36 @@ module _ (is_long : List ℕ → Bool) where
   cut_if true ss = cut [] 0 ss
   cut_if false ss = ss
 
-  -- CONTROL on a level, a block of control on level 1. Runs are cut in blocks whose statements run in order, one after another, and
-  -- stand above the deepest level. Static control stays
+  -- CONTROL, by how many levels of blocks may stand below it. Runs are cut in blocks whose statements run one after another, and below
+  -- which another block may stand. Static control stays
   abbrev mutual
     pub promote_form : ℕ → PlainForm → PlainForm
-    promote_form level (plain.Enable group marks) = plain.Enable group marks
-    promote_form level (plain.Seq marks block) = plain.Seq marks (promote_block (suc level) true block)
-    promote_form level (plain.Par marks block) = plain.Par marks (promote_block (suc level) false block)
-    promote_form level (plain.StaticSeq length marks block) = plain.StaticSeq length marks block
-    promote_form level (plain.StaticPar length marks block) = plain.StaticPar length marks block
-    promote_form level (plain.If test comb body otherwise) = plain.If test comb (promote_block (suc level) true body) (promote_else (suc level) otherwise)
-    promote_form level (plain.StaticIf length test body otherwise) = plain.StaticIf length test body otherwise
-    promote_form level (plain.While test comb body) = plain.While test comb (promote_block (suc level) true body)
-    promote_form level (plain.Repeat count body) = plain.Repeat count (promote_block (suc level) true body)
-    promote_form level (plain.StaticRepeat length count body) = plain.StaticRepeat length count body
-    promote_form level (plain.Invoke cell inputs outputs) = plain.Invoke cell inputs outputs
-    promote_form level (plain.StaticInvoke length cell inputs outputs) = plain.StaticInvoke length cell inputs outputs
+    promote_form below (plain.Enable group marks) = plain.Enable group marks
+    promote_form below (plain.Seq marks block) = plain.Seq marks (promote_block (below - 1) true block)
+    promote_form below (plain.Par marks block) = plain.Par marks (promote_block (below - 1) false block)
+    promote_form below (plain.StaticSeq length marks block) = plain.StaticSeq length marks block
+    promote_form below (plain.StaticPar length marks block) = plain.StaticPar length marks block
+    promote_form below (plain.If test comb body otherwise) = plain.If test comb (promote_block (below - 1) true body) (promote_else (below - 1) otherwise)
+    promote_form below (plain.StaticIf length test body otherwise) = plain.StaticIf length test body otherwise
+    promote_form below (plain.While test comb body) = plain.While test comb (promote_block (below - 1) true body)
+    promote_form below (plain.Repeat count body) = plain.Repeat count (promote_block (below - 1) true body)
+    promote_form below (plain.StaticRepeat length count body) = plain.StaticRepeat length count body
+    promote_form below (plain.Invoke cell inputs outputs) = plain.Invoke cell inputs outputs
+    promote_form below (plain.StaticInvoke length cell inputs outputs) = plain.StaticInvoke length cell inputs outputs
 
     pub promote_else : ℕ → PlainElse → PlainElse
-    promote_else level NoElse = NoElse
-    promote_else level (Else block) = Else (promote_block level true block)
+    promote_else below NoElse = NoElse
+    promote_else below (Else block) = Else (promote_block below true block)
+
+    pub promote_statement : ℕ → PlainStatement → PlainStatement
+    promote_statement below (Placed attributes form place) = Placed attributes (promote_form below form) place
 
     pub promote_all : ℕ → PlainStatements → PlainStatements
-    promote_all level NoStatements = NoStatements
-    promote_all level (StatementThen (Placed attributes form place) ss) =
-        StatementThen (Placed attributes (promote_form level form) place) (promote_all level ss)
+    promote_all below NoStatements = NoStatements
+    promote_all below (StatementThen s ss) = StatementThen (promote_statement below s) (promote_all below ss)
 
     pub promote_block : ℕ → Bool → PlainBlock → PlainBlock
-    promote_block level in_order (Braces ss place) = Braces (cut_if (in_order && nat_lt level LEVELS) (promote_all level ss)) place
+    promote_block below in_order (Braces ss place) = Braces (cut_if (in_order && nat_lt 0 below) (promote_all below ss)) place
 
 -- A COMPONENT of the tree, by the instance that stands for it in the design
 module _ (tree : PlainTree) (part : PlainComponent) (i : Instance) where
@@ -128,6 +131,9 @@ module _ (tree : PlainTree) (part : PlainComponent) (i : Instance) where
   abbrev pub length_named : List ℕ → Option ℕ
   length_named name = length_found (group_among name (groups_in part.wires))
 
+  abbrev pub is_long : List ℕ → Bool
+  is_long name = is_some (length_named name)
+
   abbrev pub enables : OperandForm → Bool
   enables o = is_primitive_enable i (port_of tree part o)
 
@@ -138,7 +144,7 @@ module _ (tree : PlainTree) (part : PlainComponent) (i : Instance) where
   abbrev pub promote_component : PlainComponent
   promote_component = record part {
     wires = map promote_wire part.wires;
-    control = option_map (promote_block (λ name. is_some (length_named name)) 1 true) part.control;
+    control = option_map (promote_block is_long BELOW_CONTROL true) part.control;
   }
 
   -- a row for each promotable group, in source order
