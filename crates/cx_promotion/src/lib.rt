@@ -1,0 +1,7 @@
+//! Promotion as definitions: which groups have a known length, the tree in which they are static groups, how its design stands to the
+//! old one, and what is promised of its runs.
+#![tactic(auto)]
+
+mod rows;
+
+pub use rows::PromotedRow;
