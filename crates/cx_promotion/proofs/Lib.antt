@@ -1,0 +1,12 @@
+pub mod RowPorts
+pub mod RowCounts
+pub mod RowSides
+pub mod RowReady
+pub mod Orders
+pub mod Sources
+pub mod SeenAlike
+pub mod Twins
+pub mod Chains
+pub mod Together
+pub mod Runs
+pub mod Pieces
