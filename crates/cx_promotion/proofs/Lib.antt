@@ -7,6 +7,8 @@ pub mod Sources
 pub mod SeenAlike
 pub mod Twins
 pub mod Chains
+pub mod MadeBeside
+pub mod Stays
 pub mod Together
 pub mod Runs
 pub mod Pieces

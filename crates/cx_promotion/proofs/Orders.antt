@@ -7,6 +7,7 @@ use Rattle.cx_meaning.specs.Instances.{Instance}
 use Rattle.cx_meaning.specs.Active.{Active, Acting, Owned, offset_of, if_acting, if_target, acting, same_port}
 use Rattle.cx_meaning.specs.Sights.{In}
 use Rattle.cx_rules.specs.Items.{Range, ranges_of}
+use Rattle.cx_rules.specs.Footprints.{AssignNames}
 use Rattle.cx_rules.specs.Ports.{is_primitive_enable}
 use Rattle.cx_rules.specs.ShapeRules.{is_hole}
 use Rattle.cx_rules.proofs.FoundLemmas.{same_is}
@@ -109,36 +110,54 @@ acting_from act p (o ∷ rest) a j = by_target (λ k. later_from o (acting_from 
     by_target below false is k = below k
     by_target below true is k = by_offset below is (offset_of act o.owner) refl k
 
--- an assignment of the new design, and the one from which it was made; and one that is no done, and what was made of it
-pub record Made (list : List Owned) (q : Owned) : Type 0 where
+-- an assignment of the new design, and the one from which it was made, which names what it names
+pub record CameFrom (list : List Owned) (q : Owned) : Type 0 where
   pub owned : Owned
   pub stands : In list owned
   pub owner : owned.owner ≡ q.owner
   pub target : owned.assign.target ≡ q.assign.target
-  pub source : owned.assign.source ≡ q.assign.source
+  pub source : owned.assign.source.port ≡ q.assign.source.port
+  pub names : (r : PortRef) → AssignNames q.assign r → AssignNames owned.assign r
 
-later_made : {list : List Owned} {q : Owned} (o : Owned) → Made list q → Made (o ∷ list) q
-later_made o m = record { owned = m.owned; stands = inr m.stands; owner = m.owner; target = m.target; source = m.source }
+later_came : {list : List Owned} {q : Owned} (o : Owned) → CameFrom list q → CameFrom (o ∷ list) q
+later_came o m = record { owned = m.owned; stands = inr m.stands; owner = m.owner; target = m.target; source = m.source; names = m.names }
+
+came_itself : (list : List Owned) (o q : Owned) → o ≡ q → CameFrom (o ∷ list) q
+came_itself list o q e = subst (λ x. CameFrom (o ∷ list) x) e (record { owned = o; stands = inl refl; owner = refl; target = refl; source = refl; names = λ r n. n })
+
+bare_names : (o : Owned) (r : PortRef) → AssignNames (without_guard o).assign r → AssignNames o.assign r
+bare_names o r (inl n) = absurd n
+bare_names o r (inr e) = inr e
+
+came_bare : (list : List Owned) (o q : Owned) → without_guard o ≡ q → CameFrom (o ∷ list) q
+came_bare list o q e = subst (λ x. CameFrom (o ∷ list) x) e (record { owned = o; stands = inl refl; owner = refl; target = refl; source = refl; names = bare_names o })
+
+-- one that is no done, and what was made of it
+pub record WentTo (list : List Owned) (o : Owned) : Type 0 where
+  pub owned : Owned
+  pub stands : In list owned
+  pub owner : owned.owner ≡ o.owner
+  pub target : owned.assign.target ≡ o.assign.target
+
+later_went : {list : List Owned} {o : Owned} (x : Owned) → WentTo list o → WentTo (x ∷ list) o
+later_went x m = record { owned = m.owned; stands = inr m.stands; owner = m.owner; target = m.target }
 
 module _ (i : Instance) (promoted : ℕ → Type 0) where
-  pub came_from : {os ps : List Owned} → OrderMade i promoted os ps → (q : Owned) → In ps q → Made os q
+  pub came_from : {os ps : List Owned} → OrderMade i promoted os ps → (q : Owned) → In ps q → CameFrom os q
   came_from no_assigns q j = absurd j
-  came_from (stands {o = o} later) q (inl e) =
-      record { owned = o; stands = inl refl; owner = ap (λ (x : Owned). x.owner) e; target = ap (λ (x : Owned). x.assign.target) e; source = ap (λ (x : Owned). x.assign.source) e }
-  came_from (stands {o = o} later) q (inr j) = later_made o (came_from later q j)
-  came_from (bared {o = o} g mine is enable later) q (inl e) =
-      record { owned = o; stands = inl refl; owner = ap (λ (x : Owned). x.owner) e; target = ap (λ (x : Owned). x.assign.target) e; source = ap (λ (x : Owned). x.assign.source) e }
-  came_from (bared {o = o} g mine is enable later) q (inr j) = later_made o (came_from later q j)
-  came_from (dropped {o = o} g mine is hole later) q j = later_made o (came_from later q j)
+  came_from (stands {o = o} {os = os} later) q (inl e) = came_itself os o q e
+  came_from (stands {o = o} later) q (inr j) = later_came o (came_from later q j)
+  came_from (bared {o = o} {os = os} g mine is enable later) q (inl e) = came_bare os o q e
+  came_from (bared {o = o} g mine is enable later) q (inr j) = later_came o (came_from later q j)
+  came_from (dropped {o = o} g mine is hole later) q j = later_came o (came_from later q j)
 
-  pub went_to : {os ps : List Owned} → OrderMade i promoted os ps → (o : Owned) → In os o → is_hole o.assign.target ≡ false → Made ps o
+  pub went_to : {os ps : List Owned} → OrderMade i promoted os ps → (o : Owned) → In os o → is_hole o.assign.target ≡ false → WentTo ps o
   went_to no_assigns o j no_hole = absurd j
-  went_to (stands {o = x} later) o (inl e) no_hole =
-      record { owned = x; stands = inl refl; owner = ap (λ (y : Owned). y.owner) e; target = ap (λ (y : Owned). y.assign.target) e; source = ap (λ (y : Owned). y.assign.source) e }
-  went_to (stands {o = x} later) o (inr j) no_hole = later_made x (went_to later o j no_hole)
+  went_to (stands {o = x} later) o (inl e) no_hole = record { owned = x; stands = inl refl; owner = ap (λ (y : Owned). y.owner) e; target = ap (λ (y : Owned). y.assign.target) e }
+  went_to (stands {o = x} later) o (inr j) no_hole = later_went x (went_to later o j no_hole)
   went_to (bared {o = x} g mine is enable later) o (inl e) no_hole =
-      record { owned = without_guard x; stands = inl refl; owner = ap (λ (y : Owned). y.owner) e; target = ap (λ (y : Owned). y.assign.target) e; source = ap (λ (y : Owned). y.assign.source) e }
-  went_to (bared {o = x} g mine is enable later) o (inr j) no_hole = later_made (without_guard x) (went_to later o j no_hole)
+      record { owned = without_guard x; stands = inl refl; owner = ap (λ (y : Owned). y.owner) e; target = ap (λ (y : Owned). y.assign.target) e }
+  went_to (bared {o = x} g mine is enable later) o (inr j) no_hole = later_went (without_guard x) (went_to later o j no_hole)
   went_to (dropped {o = x} g mine is hole later) o (inl e) no_hole =
       absurd (true_false (is_hole o.assign.target) (subst (λ (y : Owned). is_hole y.assign.target ≡ true) e hole) no_hole)
   went_to (dropped g mine is hole later) o (inr j) no_hole = went_to later o j no_hole
