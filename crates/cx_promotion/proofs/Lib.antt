@@ -9,6 +9,9 @@ pub mod Twins
 pub mod Chains
 pub mod MadeBeside
 pub mod Stays
+pub mod Shapes
+pub mod Steps
+pub mod Members
 pub mod Together
 pub mod Runs
 pub mod Pieces

@@ -18,15 +18,12 @@ use Rattle.cx_prim.proofs.TableCases.{OfEachKind, of_row}
 use Rattle.cx_promotion.specs.Promotable.{is_named, first_named, or_else, starting_port, cycles_of}
 use Rattle.cx_promotion.proofs.RowPorts.{some_is, true_false, first_behind, spot_of, Spot, before, behind, address_count, no_done, no_content, no_write, addresses}
 
--- READY: a pipe that has gone no cycle, or any other state
-abbrev pub IsReady : CellState → Type 0
-IsReady Stateless = Unit {0}
-IsReady (Register value done) = Unit {0}
-IsReady (Memory words done) = Unit {0}
-IsReady (SequentialMemory words read_data done) = Unit {0}
-IsReady (Multiplier run product) = run.count ≡ 0
-IsReady (Divider run quotient remainder) = run.count ≡ 0
-IsReady (Timer count done) = count ≡ 0
+-- READY: a pipe of the row that has gone no cycle, or any other state
+abbrev pub IsReady : StateShape → CellState → Type 0
+IsReady (MultiplierOf width latency) (Multiplier run product) = run.count ≡ 0
+IsReady (DividerOf width latency) (Divider run quotient remainder) = run.count ≡ 0
+IsReady (TimerOf length) (Timer count done) = count ≡ 0
+IsReady _ _ = Unit {0}
 
 -- SO MANY CYCLES ARE LEFT: none, if the cell is done, and then it is ready
 abbrev pub FlagLeft : ℕ → Bool → Type 0
@@ -55,7 +52,7 @@ pub record Counts (row : Row) (e p n : ℕ) : Type 0 where
   pub some : 1 ≤ n
   pub begins : (d : CellState) → row.idle d ≡ d → HasLeft row.shape n d
   pub waits : (k : ℕ) (d : CellState) → HasLeft row.shape (suc k) d → (row.output d [] p ≡ Some (bit_of false)) ⊎ (row.output d [] p ≡ None)
-  pub stops : (d : CellState) → HasLeft row.shape 0 d → (row.output d [] p ≡ Some (bit_of true)) × IsReady d
+  pub stops : (d : CellState) → HasLeft row.shape 0 d → (row.output d [] p ≡ Some (bit_of true)) × IsReady row.shape d
   pub goes_on : (k : ℕ) (d : CellState) (inputs : Inputs) → HasLeft row.shape (suc k) d → row.output d [] p ≡ Some (bit_of false) → is_on inputs e ≡ true
       → HasLeft row.shape k (row.next d inputs)
 
@@ -85,7 +82,7 @@ register_waits : (w k : ℕ) (d : CellState) → HasLeft (RegisterOf w) (suc k) 
 register_waits w k (Register value done) left = inl (flag_waits k done left)
 register_waits w k d left = inr refl
 
-register_stops : (w : ℕ) (d : CellState) → HasLeft (RegisterOf w) 0 d → ((register_row w).output d [] 3 ≡ Some (bit_of true)) × IsReady d
+register_stops : (w : ℕ) (d : CellState) → HasLeft (RegisterOf w) 0 d → ((register_row w).output d [] 3 ≡ Some (bit_of true)) × IsReady (RegisterOf w) d
 register_stops w (Register value done) left = (ap (λ b. Some (bit_of b)) left, tt)
 register_stops w d left = absurd left
 
@@ -125,7 +122,7 @@ module _ (w : ℕ) (sizes address_widths : List ℕ) where
   memory_waits k (Memory words done) left = inl (when_off _ _ _ _ (three_two (length sizes)) (flag_waits k done left))
   memory_waits k d left = inr refl
 
-  memory_stops : (d : CellState) → HasLeft row.shape 0 d → (row.output d [] done_port ≡ Some (bit_of true)) × IsReady d
+  memory_stops : (d : CellState) → HasLeft row.shape 0 d → (row.output d [] done_port ≡ Some (bit_of true)) × IsReady row.shape d
   memory_stops (Memory words done) left = (when_off _ _ _ _ (three_two (length sizes)) (ap (λ b. Some (bit_of b)) left), tt)
   memory_stops d left = absurd left
 
@@ -156,7 +153,7 @@ module _ (w : ℕ) (sizes address_widths : List ℕ) where
       inl (ap Some (when_off (length sizes + 4 == length sizes + 3) (record { width = w; value = read_data }) (bit_of done) (bit_of false) (four_three (length sizes)) (ap bit_of left.0)))
   sequential_waits k d left = inr refl
 
-  sequential_stops : (d : CellState) → HasLeft sequential.shape 0 d → (sequential.output d [] last_port ≡ Some (bit_of true)) × IsReady d
+  sequential_stops : (d : CellState) → HasLeft sequential.shape 0 d → (sequential.output d [] last_port ≡ Some (bit_of true)) × IsReady sequential.shape d
   sequential_stops (SequentialMemory words read_data done) left =
       (ap Some (when_off (length sizes + 4 == length sizes + 3) (record { width = w; value = read_data }) (bit_of done) (bit_of true) (four_three (length sizes)) (ap bit_of left)), tt)
   sequential_stops d left = absurd left
@@ -221,7 +218,7 @@ module _ (w : ℕ) where
   multiplier_waits k (Multiplier run product) left = inl (ap (λ b. Some (bit_of b)) left.0)
   multiplier_waits k d left = inr refl
 
-  multiplier_stops : (d : CellState) → HasLeft (MultiplierOf w 3) 0 d → ((multiplier_row w).output d [] 4 ≡ Some (bit_of true)) × IsReady d
+  multiplier_stops : (d : CellState) → HasLeft (MultiplierOf w 3) 0 d → ((multiplier_row w).output d [] 4 ≡ Some (bit_of true)) × IsReady (MultiplierOf w 3) d
   multiplier_stops (Multiplier run product) left = (ap (λ b. Some (bit_of b)) left.1, left.0)
   multiplier_stops d left = absurd left
 
@@ -252,7 +249,7 @@ module _ (w : ℕ) (some_bits : 1 ≤ w) where
   divider_waits k (Divider run q r) left = inl (ap (λ b. Some (bit_of b)) left.0)
   divider_waits k d left = inr refl
 
-  divider_stops : (d : CellState) → HasLeft (DividerOf w w) 0 d → ((divider_row w).output d [] 5 ≡ Some (bit_of true)) × IsReady d
+  divider_stops : (d : CellState) → HasLeft (DividerOf w w) 0 d → ((divider_row w).output d [] 5 ≡ Some (bit_of true)) × IsReady (DividerOf w w) d
   divider_stops (Divider run q r) left = (ap (λ b. Some (bit_of b)) left.1, left.0)
   divider_stops d left = absurd left
 

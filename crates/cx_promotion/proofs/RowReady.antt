@@ -34,7 +34,7 @@ pub record LooksAlike (row : Row) (a b : CellState) : Type 0 where
   pub output : (inputs : Inputs) (n : ℕ) → IsOutput row n → row.output a inputs n ≡ row.output b inputs n
 
 abbrev pub ReadyLooksIdle : Row → Type 0
-ReadyLooksIdle row = (d : CellState) → IsReady d → LooksAlike row d (row.idle d)
+ReadyLooksIdle row = (d : CellState) → IsReady row.shape d → LooksAlike row d (row.idle d)
 
 pub looks_itself : (row : Row) (d : CellState) → LooksAlike row d d
 looks_itself row d = record { next = λ inputs. refl; idle = refl; demands = λ inputs n. refl; output = λ inputs n out. refl }
@@ -211,4 +211,53 @@ row_ready = of_row ReadyLooksIdle (record {
   multiplier = λ w is. multiplier_ready w;
   divider = λ w is. divider_ready w;
   timer = λ m some few. timer_ready m;
+})
+
+-- A SETTLED STATE is ready
+abbrev pub SettledIsReady : Row → Type 0
+SettledIsReady row = (d : CellState) → row.idle d ≡ d → IsReady row.shape d
+
+register_settled : (w : ℕ) → SettledIsReady (register_row w)
+register_settled w d e = tt
+
+memory_settled : (w : ℕ) (sizes address_widths : List ℕ) → SettledIsReady (memory_row w sizes address_widths)
+memory_settled w sizes address_widths d e = tt
+
+sequential_settled : (w : ℕ) (sizes address_widths : List ℕ) → SettledIsReady (sequential_memory_row w sizes address_widths)
+sequential_settled w sizes address_widths d e = tt
+
+multiplier_count : (a b : PipeRun) (x y : ℕ) → Multiplier a x ≡ Multiplier b y → a.count ≡ b.count
+multiplier_count a b x y e = let same : a ≡ b = cc in ap (λ (r : PipeRun). r.count) same
+
+multiplier_settled : (w : ℕ) → SettledIsReady (multiplier_row w)
+multiplier_settled w (Multiplier run product) e = sym (multiplier_count (stopped run) run product product e)
+multiplier_settled w d e = tt
+
+divider_count : (a b : PipeRun) (x y m n : ℕ) → Divider a x m ≡ Divider b y n → a.count ≡ b.count
+divider_count a b x y m n e = let same : a ≡ b = cc in ap (λ (r : PipeRun). r.count) same
+
+divider_settled : (w : ℕ) → SettledIsReady (divider_row w)
+divider_settled w (Divider run q r) e = sym (divider_count (stopped run) run q q r r e)
+divider_settled w d e = tt
+
+timer_count : (m n : ℕ) (a b : Bool) → Timer m a ≡ Timer n b → m ≡ n
+timer_count m n a b e = cc
+
+timer_settled : (m : ℕ) → SettledIsReady (timer_row m)
+timer_settled m (Timer count done) e = sym (timer_count 0 count false done e)
+timer_settled m d e = tt
+
+pub row_settled : (p : PrimitiveRow) → SettledIsReady (row_of p)
+row_settled = of_row SettledIsReady (record {
+  none = λ d e. tt;
+  constant = λ w v fits d e. tt;
+  unary = λ operator w v is d e. tt;
+  binary = λ operator w is d e. tt;
+  mux = λ w is d e. tt;
+  register = λ w is. register_settled w;
+  memory = λ w sizes address_widths layout. memory_settled w sizes address_widths;
+  sequential = λ w sizes address_widths layout. sequential_settled w sizes address_widths;
+  multiplier = λ w is. multiplier_settled w;
+  divider = λ w is. divider_settled w;
+  timer = λ m some few. timer_settled m;
 })
