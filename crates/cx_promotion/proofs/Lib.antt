@@ -12,6 +12,8 @@ pub mod Stays
 pub mod Shapes
 pub mod Steps
 pub mod Members
+pub mod Near
+pub mod GroupSeen
 pub mod Together
 pub mod Runs
 pub mod Pieces

@@ -1,10 +1,10 @@
 -- WHAT IS SEEN INSIDE a closed set of ports: where two instances have the same rows, active assignments in one order and states that look alike.
-use Rattle.std.specs.Prelude.{◌≡◌, ℕ, false, [], ◌∷◌, refl}
+use Rattle.std.specs.Prelude.{◌≡◌, ℕ, true, false, [], ◌∷◌, refl}
 use Rattle.std.proofs.Common.{sym, ap, ◌∙◌}
 use Rattle.std.proofs.Math.Path.{fun_ext}
 use Rattle.cx_prim.specs.declared.ports.Side.{Side}
 use Rattle.cx_prim.specs.declared.ports.Side.TheVariants as sides
-use Rattle.cx_prim.specs.Rows.{Inputs, Row}
+use Rattle.cx_prim.specs.Rows.{Inputs, Row, is_output_side}
 use Rattle.cx_meaning.specs.declared.ports.PortRef.{PortRef}
 use Rattle.cx_meaning.specs.declared.ports.PortRef.TheVariants as ports
 use Rattle.cx_meaning.specs.declared.sights.Seen.{Seen}
@@ -32,15 +32,15 @@ module _ (i j : Instance) (held : Held) (act other : Active) (s u : State) (look
   pub record IsAlike (p : PortRef) : Type 0 where
     pub target : (undriven : Seen) → target_seen undriven look (drivers (part_of i) act p) ≡ target_seen undriven look (drivers (part_of j) other p)
     pub cells : (c n : ℕ) → p ≡ ports.Cell c n → SameCell (cell_at (cells_of i) c) (cell_at (cells_of j) c)
-    pub output : (c n : ℕ) (row : Row) (inputs : Inputs) → p ≡ ports.Cell c n → cell_at (cells_of i) c ≡ OfRow row → row.output (s (c ∷ [])) inputs n ≡ row.output (u (c ∷ [])) inputs n
+    pub output : (c n : ℕ) (row : Row) (inputs : Inputs) → p ≡ ports.Cell c n → cell_at (cells_of i) c ≡ OfRow row → is_output_side (side_of row n) ≡ true → row.output (s (c ∷ [])) inputs n ≡ row.output (u (c ∷ [])) inputs n
     pub dones : (c n : ℕ) → p ≡ ports.Cell c n → is_done_cell act.done_cell c ≡ is_done_cell other.done_cell c
 
-  side_alike : (c n : ℕ) (row : Row) → IsAlike (ports.Cell c n) → cell_at (cells_of i) c ≡ OfRow row → (side : Side) → side_step (part_of i) act s look below row c n side ≡ side_step (part_of j) other u look below row c n side
-  side_alike c n row alike is sides.Enable = alike.target (bit_of false)
-  side_alike c n row alike is sides.Plain = alike.target Undefined
-  side_alike c n row alike is sides.Output =
-      ap (λ f. output_seen f (gather (λ q. look (ports.Cell c q)) (row.reads n) 0 row.ports)) (fun_ext (λ inputs. alike.output c n row inputs refl is))
-  side_alike c n row alike is sides.Registered = ap of_option (alike.output c n row [] refl is)
+  side_alike : (c n : ℕ) (row : Row) → IsAlike (ports.Cell c n) → cell_at (cells_of i) c ≡ OfRow row → (side : Side) → side_of row n ≡ side → side_step (part_of i) act s look below row c n side ≡ side_step (part_of j) other u look below row c n side
+  side_alike c n row alike is sides.Enable side = alike.target (bit_of false)
+  side_alike c n row alike is sides.Plain side = alike.target Undefined
+  side_alike c n row alike is sides.Output side =
+      ap (λ f. output_seen f (gather (λ q. look (ports.Cell c q)) (row.reads n) 0 row.ports)) (fun_ext (λ inputs. alike.output c n row inputs refl is (ap is_output_side side)))
+  side_alike c n row alike is sides.Registered side = ap of_option (alike.output c n row [] refl is (ap is_output_side side))
 
   part_alike : (c n : ℕ) → IsAlike (ports.Cell c n) → (port : PartPort) → part_step (part_of i) act s look below c n port ≡ part_step (part_of j) other u look below c n port
   part_alike c n alike Go = alike.target (bit_of false)
@@ -52,7 +52,7 @@ module _ (i j : Instance) (held : Held) (act other : Active) (s u : State) (look
       → cell_step (part_of i) act s look below c n at ≡ cell_step (part_of j) other u look below c n twin
   cell_alike c n alike Nothing Nothing same is = refl
   cell_alike c n alike (OfRow row) (OfRow twin) same is =
-      side_alike c n row alike is (side_of row n) ∙ ap (λ (r : Row). side_step (part_of j) other u look below r c n (side_of r n)) same
+      side_alike c n row alike is (side_of row n) refl ∙ ap (λ (r : Row). side_step (part_of j) other u look below r c n (side_of r n)) same
   cell_alike c n alike (OfInstance child) (OfInstance twin) same is =
       part_alike c n alike (part_port (part_of child) n) ∙ ap (λ port. part_step (part_of j) other u look below c n port) (same n)
   cell_alike c n alike _ _ same is = absurd same

@@ -94,3 +94,7 @@ target_from undriven look q a rest all =
     ap (settle undriven look)
     (ap (λ t. take_guard t a.assign.source.port (taken look rest)) here.0 ∙ ap (λ r. with_source r (taken look rest)) here.1 ∙ ap (with_source q) later.1)
     ∙ copies_agree look q later.2
+
+pub target_some : (undriven : Seen) (look : Look) (q : PortRef) (acts : List Acting) (a : Acting) → In acts a → ((b : Acting) → In acts b → IsFrom look q b) → target_seen undriven look acts ≡ look q
+target_some undriven look q [] a j all = absurd j
+target_some undriven look q (b ∷ rest) a j all = target_from undriven look q b rest all

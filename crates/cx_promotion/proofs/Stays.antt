@@ -123,7 +123,7 @@ mutual
       (λ q here. record {
         target = λ undriven. ap (target_seen undriven (seen (Node other more) held act s)) (sym (drivers_stay (Node part cells) (Node other more) (h, hs) act idle q));
         cells = λ c n is. same_cells (Node part cells) (Node other more) (h, hs) c;
-        output = λ c n row inputs is at. refl;
+        output = λ c n row inputs is at out. refl;
         dones = λ c n is. refl;
       })
       (children_stay cells more hs (cells_below (Node part cells) h.acyclic) (λ c. under c s))
