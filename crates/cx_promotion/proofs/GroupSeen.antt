@@ -161,7 +161,7 @@ module _ (i j : Instance) (t : Twins MadeBeside i j) (held : Held) (g o : ℕ) (
   abbrev ps : List Owned
   ps = source_order (part_of j)
 
-  pub shape : Shape whole x promoted.0
+  abbrev pub shape : Shape whole x promoted.0
   shape = shape_of whole x promoted.0 promoted.1
 
   pub acyclic : IsAcyclic i act

@@ -14,6 +14,8 @@ pub mod Steps
 pub mod Members
 pub mod Near
 pub mod GroupSeen
+pub mod RowStarts
+pub mod GroupTurn
 pub mod Together
 pub mod Runs
 pub mod Pieces

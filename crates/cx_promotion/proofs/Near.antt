@@ -28,7 +28,7 @@ near_itself i s = record { cells = λ c row is. looks_itself row (s (c ∷ []));
 child_stays : (child : Instance) (d : CellState) → idle_at child [] d ≡ d
 child_stays (Node part cells) d = refl
 
-idle_of_other : (cells : Cells) (c : ℕ) (d : CellState) → ((row : Row) → cell_at cells c ≡ OfRow row → ⊥) → idle_below cells c [] d ≡ d
+pub idle_of_other : (cells : Cells) (c : ℕ) (d : CellState) → ((row : Row) → cell_at cells c ≡ OfRow row → ⊥) → idle_below cells c [] d ≡ d
 idle_of_other no_cells c d none = refl
 idle_of_other (a_primitive own rest) zero d none = absurd (none own refl)
 idle_of_other (a_primitive own rest) (suc c) d none = idle_of_other rest c d none
