@@ -16,6 +16,8 @@ pub mod Near
 pub mod GroupSeen
 pub mod RowStarts
 pub mod GroupTurn
+pub mod StaticStays
+pub mod MadeControl
 pub mod Together
 pub mod Runs
 pub mod Pieces
