@@ -18,6 +18,8 @@ pub mod RowStarts
 pub mod GroupTurn
 pub mod StaticStays
 pub mod MadeControl
+pub mod LeavesQuicken
+pub mod PiecesQuicken
 pub mod Together
 pub mod Runs
 pub mod Pieces
