@@ -20,6 +20,8 @@ pub mod StaticStays
 pub mod MadeControl
 pub mod LeavesQuicken
 pub mod PiecesQuicken
+pub mod RunsQuicken
+pub mod Trees
 pub mod Together
 pub mod Runs
 pub mod Pieces

@@ -57,16 +57,16 @@ module _ (i whole : Instance) (kinds_at : (c : ℕ) → KindAt (cell_at (cells_o
   not_called (OfInstance child) other c later a_part none = absurd (cc)
 
   no_call : (p : PortRef) (later : Option ℕ) → is_part_port whole p ≡ false → called_by (cells_of i) p later ≡ later
-  no_call (ports.Cell c p) later none = not_called (cell_at (cells_of i) c) (cell_at (cells_of whole) c) c later (kinds_at c) none
-  no_call (ports.Input n) later none = refl
-  no_call (ports.Output n) later none = refl
-  no_call (ports.Done g) later none = refl
-  no_call (ports.Literal w v) later none = refl
+  no_call (ports.Cell c p) later apart = not_called (cell_at (cells_of i) c) (cell_at (cells_of whole) c) c later (kinds_at c) apart
+  no_call (ports.Input n) later apart = refl
+  no_call (ports.Output n) later apart = refl
+  no_call (ports.Done g) later apart = refl
+  no_call (ports.Literal w v) later apart = refl
 
   called_none : (list : List PlainAssign) → some_target (is_part_port whole) list ≡ false → called_in (cells_of i) list ≡ None
-  called_none [] none = refl
-  called_none (a ∷ rest) none =
-      let both = or_none (is_part_port whole a.target) (some_target (is_part_port whole) rest) none in
+  called_none [] apart = refl
+  called_none (a ∷ rest) apart =
+      let both = or_none (is_part_port whole a.target) (some_target (is_part_port whole) rest) apart in
       no_call a.target (called_in (cells_of i) rest) both.0 ∙ called_none rest both.1
 
 then_stay : (o : Answer State Fault) (n : ℕ) → then_do o n stay ≡ o
