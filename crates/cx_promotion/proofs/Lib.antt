@@ -22,6 +22,7 @@ pub mod LeavesQuicken
 pub mod PiecesQuicken
 pub mod RunsQuicken
 pub mod Trees
+pub mod DesignsQuicken
 pub mod Together
 pub mod Runs
 pub mod Pieces
