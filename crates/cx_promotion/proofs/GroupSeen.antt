@@ -41,7 +41,6 @@ use Rattle.cx_frames.proofs.RuleLemmas.{OwnerOf, continuous, of_group, owner_of}
 use Rattle.cx_rewrites.proofs.ClosedLemmas.{is_closed}
 use Rattle.cx_promotion.specs.Promotable.{is_named, is_done_at, is_done, looks_at_done, promoted_assigns}
 use Rattle.cx_promotion.specs.Made.{IsPromoted}
-use Rattle.cx_promotion.proofs.RowPorts.{true_false}
 use Rattle.cx_promotion.proofs.RowSides.{IsPlainPort, LooksAtPlain, row_sides}
 use Rattle.cx_promotion.proofs.RowReady.{IsOutput}
 use Rattle.cx_promotion.proofs.Orders.{Both, SameActing, acting_same, From, acting_from, CameFrom, came_from, WentTo, went_to}
@@ -51,20 +50,14 @@ use Rattle.cx_promotion.proofs.Twins.{Twins, beside_each, twin_cells, TwinAt, no
 use Rattle.cx_promotion.proofs.MadeBeside.{KindAt, no_cell, a_row, a_part, MadeBeside}
 use Rattle.cx_promotion.proofs.Stays.{same_cells, circle_back, leads_back, deeper, still_deeper, children_stay}
 use Rattle.cx_promotion.proofs.Shapes.{none_pass, IsOpen, RightAssign, of_done, of_enable, of_other, Shape, shape_of}
-use Rattle.cx_promotion.proofs.Members.{group_stands, one_offset, is_owner, promoted_bare}
+use Rattle.cx_promotion.proofs.Members.{plain_length, group_stands, one_offset, is_owner, promoted_bare}
 use Rattle.cx_promotion.proofs.Near.{Near, child_near}
 use Rattle.cx_promotion.proofs.Runs.{entry}
+use Rattle.cx_text.proofs.BoolLaws.{not_both}
+use Rattle.cx_text.proofs.OptionLaws.{same_some}
+use Rattle.cx_promotion.proofs.Impossible.{no_true, no_some}
 
 -- ports
-no_true : {A : Type 0} → false ≡ true → A
-no_true e = absurd (cc)
-
-none_some : {A : Type 0} {B : Type 0} (a : A) → None ≡ Some a → B
-none_some a e = absurd (cc)
-
-some_same : {A : Type 0} (a b : A) → Some a ≡ Some b → a ≡ b
-some_same a b e = cc
-
 cell_same : (c p d q : ℕ) → ports.Cell c p ≡ ports.Cell d q → c ≡ d
 cell_same c p d q e = cc
 
@@ -111,11 +104,6 @@ plain_there : (list : List PortRow) (n : ℕ) → side_from list n ≡ sides.Pla
 plain_there [] n e = absurd (cc)
 plain_there (port ∷ list) zero e = omega arith
 plain_there (port ∷ list) (suc n) e = let h = plain_there list n e in omega (arith, h)
-
-plain_length : (kind : GroupKind) → is_plain kind ≡ true → kind_length kind ≡ None
-plain_length kinds.Plain e = refl
-plain_length kinds.Comb e = no_true e
-plain_length (kinds.Timed n) e = no_true e
 
 -- the port of a cell is one of its row
 abbrev InRange : Instance → PortRef → Type 0
@@ -185,15 +173,15 @@ module _ (i j : Instance) (t : Twins MadeBeside i j) (held : Held) (g o : ℕ) (
     where
       by : OwnerOf (part_of i) a → (a.owner ≡ None) ⊎ (a.owner ≡ Some g) → OldKind a
       by (continuous e m) which = inl (e, m)
-      by (of_group n e m) (inl none) = none_some n (sym none ∙ e)
-      by (of_group n e m) (inr own) = inr (own, subst (λ k. In (group_at (part_of i) k).assigns a.assign) (some_same n g (sym e ∙ own)) m)
+      by (of_group n e m) (inl none) = no_some n (sym none ∙ e)
+      by (of_group n e m) (inr own) = inr (own, subst (λ k. In (group_at (part_of i) k).assigns a.assign) (same_some n g (sym e ∙ own)) m)
 
   -- what is active in the new one is so in the old one, and the other way round
   active_old : (w : Option ℕ) (k : ℕ) → offset_of more w ≡ Some k → (m : ℕ) × (offset_of act w ≡ Some m)
   active_old w k e = by (offset_of act w) (offset_of more w) refl (one_offset g o w) e
     where
       by : (a b : Option ℕ) → offset_of act w ≡ a → Both a b → b ≡ Some k → (m : ℕ) × (offset_of act w ≡ Some m)
-      by None None is both f = none_some k f
+      by None None is both f = no_some k f
       by (Some m) (Some n) is both f = (m, is)
       by None (Some n) is both f = absurd both
       by (Some m) None is both f = absurd both
@@ -202,7 +190,7 @@ module _ (i j : Instance) (t : Twins MadeBeside i j) (held : Held) (g o : ℕ) (
   active_new w k e = by (offset_of act w) (offset_of more w) refl (one_offset g o w) e
     where
       by : (a b : Option ℕ) → offset_of more w ≡ b → Both a b → a ≡ Some k → (m : ℕ) × (offset_of more w ≡ Some m)
-      by None None is both f = none_some k f
+      by None None is both f = no_some k f
       by (Some m) (Some n) is both f = (n, is)
       by None (Some n) is both f = absurd both
       by (Some m) None is both f = absurd both
@@ -230,7 +218,7 @@ module _ (i j : Instance) (t : Twins MadeBeside i j) (held : Held) (g o : ℕ) (
   done_target =
       let r = hole_is shape.done.target shape.done_hole in
       let own : Some g ≡ Some r.0 = (h.assigns (record { owner = Some g; assign = shape.done }) (group_stands (part_of i) g shape.done shape.done_stands)).own_hole r.0 r.1 in
-      r.1 ∙ ap ports.Done (sym (some_same g r.0 own))
+      r.1 ∙ ap ports.Done (sym (same_some g r.0 own))
 
   module _ (s : State) where
     abbrev look : Look
@@ -294,7 +282,7 @@ module _ (i j : Instance) (t : Twins MadeBeside i j) (held : Held) (g o : ℕ) (
         by : RightAssign whole shape.cell shape.port a → Drives a
         by (of_done hole) = no_true (sym (ap is_hole target) ∙ hole)
         by (of_enable p enable is source guard) = record { same = cell_same c q shape.cell p (sym target ∙ is); source = source; guard = guard }
-        by (of_other no_hole no_enable quiet) = absurd (true_false (is_primitive_enable whole a.target) (enable_target a.target target) no_enable)
+        by (of_other no_hole no_enable quiet) = absurd (not_both (is_primitive_enable whole a.target) (enable_target a.target target) no_enable)
 
     old_drives : (a : Owned) (k : ℕ) → In os a → offset_of act a.owner ≡ Some k → a.assign.target ≡ the_port → Drives a.assign × (a.owner ≡ Some g)
     old_drives a k stands active target = by (old_kind a k stands active)
@@ -338,9 +326,9 @@ module _ (i j : Instance) (t : Twins MadeBeside i j) (held : Held) (g o : ℕ) (
             own = sym m.owner ∙ d.1
 
             by : OwnerOf (part_of j) f.owned → f.owned.assign.guard ≡ Always
-            by (continuous e inside_always) = none_some g (sym e ∙ own)
+            by (continuous e inside_always) = no_some g (sym e ∙ own)
             by (of_group n e stands) =
-                let same : n ≡ g = some_same n g (sym e ∙ own) in
+                let same : n ≡ g = same_some n g (sym e ∙ own) in
                 let mine : In (group_at (part_of j) g).assigns f.owned.assign = subst (λ k. In (group_at (part_of j) k).assigns f.owned.assign) same stands in
                 let made : In (promoted_assigns whole x.assigns) f.owned.assign = subst (λ (y : PlainGroup). In y.assigns f.owned.assign) promoted.2 mine in
                 promoted_bare whole x x.assigns f.owned.assign made (enable_target f.owned.assign.target f.target)
@@ -423,8 +411,8 @@ module _ (i j : Instance) (t : Twins MadeBeside i j) (held : Held) (g o : ℕ) (
       p = source_in a.assign q names
 
       right : RightAssign whole shape.cell shape.port a.assign → looks_at_done whole a.assign ≡ false
-      right (of_done hole) = absurd (true_false (is_hole a.assign.target) hole inside.no_hole)
-      right (of_enable n enable is source guard) = absurd (true_false (is_primitive_enable whole a.assign.target) enable inside.no_enable)
+      right (of_done hole) = absurd (not_both (is_hole a.assign.target) hole inside.no_hole)
+      right (of_enable n enable is source guard) = absurd (not_both (is_primitive_enable whole a.assign.target) enable inside.no_enable)
       right (of_other no_hole no_enable quiet) = quiet
 
       by : OldKind a → looks_at_done whole a.assign ≡ false

@@ -56,7 +56,7 @@ same_le : (t : ℕ) → t ≤ t
 same_le t = omega arith
 
 -- an answer that stays under a greater budget
-grown : (n : ℕ) (o later : Answer State Fault) (a : State) (t : ℕ) → Grows n o later → o ≡ End a t → (t ≤ n) × (later ≡ End a t)
+pub grown : (n : ℕ) (o later : Answer State Fault) (a : State) (t : ℕ) → Grows n o later → o ≡ End a t → (t ≤ n) × (later ≡ End a t)
 grown n o later a t grows is = subst (λ x. Grows n x later) is grows
 
 -- EQUAL MEANINGS
@@ -77,10 +77,10 @@ with_settled i before k (answers.Fault f t) x carried settled = tt
 with_settled i before k More x carried settled = tt
 
 -- whatever was counted
-pub recounted : (before k l : Tally) (o x : Answer State Fault) → Carried NoLater Same same_fault before k o x → Carried NoLater Same same_fault before l o x
-recounted before k l (End a t) x (w, u, is, keeps, same) = (w, u, is, keeps, same)
-recounted before k l (answers.Fault f t) x carried = tt
-recounted before k l More x carried = tt
+pub recounted : (R : State → State → Type 0) (before k l : Tally) (o x : Answer State Fault) → Carried NoLater (λ counted s z. R s z) same_fault before k o x → Carried NoLater (λ counted s z. R s z) same_fault before l o x
+recounted R before k l (End a t) x (w, u, is, keeps, same) = (w, u, is, keeps, same)
+recounted R before k l (answers.Fault f t) x carried = tt
+recounted R before k l More x carried = tt
 
 -- CHILDREN of a settled instance are settled
 idle_child : (cells : Cells) (c : ℕ) (child : Instance) (path : Path) (d : CellState) → cell_at cells c ≡ OfInstance child → idle_below cells c path d ≡ idle_at child path d
@@ -241,7 +241,7 @@ module _ (i j : Instance) (t : Twins MadeBeside i j) where
 
         call_quicker : (counts : Counted State) (c : ℕ) (child : Instance) → cell_at (cells_of i) c ≡ OfInstance child → Quicker i counts (call i kids held g c) (call j others held g c)
         call_quicker counts c child is before s z n m room e settled =
-            recounted before (plus none (then_count (lift_answer c s (kids c (inputs_of_call i held g c s) (under c s) n)) n (λ s1 k. none))) (counts s n) (call i kids held g c s n) (call j others held g c z m)
+            recounted (λ a b. a ≡ b) before (plus none (then_count (lift_answer c s (kids c (inputs_of_call i held g c s) (under c s) n)) n (λ s1 k. none))) (counts s n) (call i kids held g c s n) (call j others held g c z m)
             (then_carried NoLater Same same_fault before none n m room
             (lift_answer c s (kids c (inputs_of_call i held g c s) (under c s) n)) (lift_answer c z (others c (inputs_of_call j held g c z) (under c z) m)) (λ s1 k. none)
             (after_child i held g c (captures i g)) (after_child j held g c (captures j g))

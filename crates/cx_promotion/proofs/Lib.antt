@@ -1,3 +1,4 @@
+pub mod Impossible
 pub mod RowPorts
 pub mod RowCounts
 pub mod RowSides

@@ -9,7 +9,7 @@ use Rattle.cx_meaning.specs.Designs.{Always, PlainAssign, PlainGroup, PlainCompo
 use Rattle.cx_meaning.specs.Instances.{Instance}
 use Rattle.cx_meaning.specs.Active.{Active, group, Entry, entries, offset_of, only_at, offset_in, Owned, owned, owned_by_groups, placed_in, by_place, source_order}
 use Rattle.cx_meaning.specs.Sights.{In}
-use Rattle.cx_meaning.specs.Islands.{group_length}
+use Rattle.cx_meaning.specs.Islands.{kind_length}
 use Rattle.cx_meaning.proofs.ActiveLemmas.{placed_still, placed_first}
 use Rattle.cx_meaning.proofs.DesignsLemmas.{owned_has}
 use Rattle.cx_meaning.proofs.SightsLaws.{in_left, in_right}
@@ -21,6 +21,7 @@ use Rattle.cx_promotion.specs.Made.{GroupMade, GroupsMade, no_groups, a_group, I
 use Rattle.cx_promotion.proofs.Orders.{Both}
 use Rattle.cx_promotion.proofs.Shapes.{Shape, shape_of}
 use Rattle.cx_promotion.proofs.Runs.{entry}
+use Rattle.cx_promotion.proofs.Impossible.{no_true, no_some}
 
 sorted_has : (list : List Owned) (o : Owned) → In list o → In (by_place list) o
 sorted_has [] o i = i
@@ -44,12 +45,6 @@ group_stands part g a i =
     (subst (λ n. In (owned_by_groups 0 part.groups) (record { owner = Some n; assign = a })) e (groups_have 0 part.groups g a i)))
 
 -- THE ACTIVE ASSIGNMENTS of one group are its own and the continuous ones, at whatever offset
-some_none : {A : Type 0} {B : Type 0} (a : A) → None ≡ Some a → B
-some_none a e = absurd (cc)
-
-some_same : {A : Type 0} (a b : A) → Some a ≡ Some b → a ≡ b
-some_same a b e = cc
-
 module _ (g o : ℕ) where
   pub one_offset : (w : Option ℕ) → Both (offset_of (group g) w) (offset_of (entries (entry (λ k. k) g o ∷ [])) w)
   one_offset None = tt
@@ -65,7 +60,13 @@ module _ (g o : ℕ) where
     where
       by : (b : Bool) → nat_eq g h ≡ b → (if b then Some 0 else None) ≡ Some k → (Some h ≡ None) ⊎ (Some h ≡ Some g)
       by true is f = inr (ap Some (sym (eqb-true g h is)))
-      by false is f = some_none k f
+      by false is f = no_some k f
+
+-- a plain group has no length
+pub plain_length : (kind : GroupKind) → is_plain kind ≡ true → kind_length kind ≡ None
+plain_length kinds.Plain e = refl
+plain_length kinds.Comb e = no_true e
+plain_length (kinds.Timed n) e = no_true e
 
 -- GROUPS of the new design
 module _ (i : Instance) (x : PlainGroup) where
@@ -93,15 +94,12 @@ group_made i no_groups g = inl refl
 group_made i (a_group here later) zero = here
 group_made i (a_group here later) (suc g) = group_made i later g
 
-plain_timed : {A : Type 0} (n : ℕ) → is_plain (kinds.Timed n) ≡ true → A
-plain_timed n e = absurd (cc)
-
 -- and not both
 pub not_promoted : (i : Instance) (old new : PlainComponent) (g : ℕ) → group_at new g ≡ group_at old g → IsPromoted i old new g → ⊥
 not_promoted i old new g stays (n, is, made) =
     let shape = shape_of i (group_at old g) n is in
     let same : (group_at old g).kind ≡ kinds.Timed n = ap (λ (x : PlainGroup). x.kind) (sym stays ∙ made) in
-    plain_timed n (subst (λ kind. is_plain kind ≡ true) same shape.plain)
+    no_true (subst (λ kind. is_plain kind ≡ true) same shape.plain)
 
 pub not_promoted_kind : (i : Instance) (old new : PlainComponent) (g : ℕ) → is_plain (group_at old g).kind ≡ false → IsPromoted i old new g → ⊥
 not_promoted_kind i old new g kind (n, is, made) =

@@ -12,7 +12,7 @@ use Rattle.cx_rules.specs.Ports.{is_primitive_enable}
 use Rattle.cx_rules.specs.ShapeRules.{is_hole}
 use Rattle.cx_rules.proofs.FoundLemmas.{same_is}
 use Rattle.cx_promotion.specs.Made.{without_guard, OrderMade, no_assigns, stands, bared, dropped}
-use Rattle.cx_promotion.proofs.RowPorts.{true_false}
+use Rattle.cx_text.proofs.BoolLaws.{not_both}
 
 -- what is not active is left out, and so is what drives another port
 pub not_active : (b : Bool) (act : Active) (o : Owned) (rest : List Acting) → offset_of act o.owner ≡ None → if_target b act o rest ≡ rest
@@ -71,7 +71,7 @@ module _ (i : Instance) (promoted : ℕ → Type 0) (act other : Active) (p : Po
   same_target true o quiet rest others later = same_offset (offset_of act o.owner) (offset_of other o.owner) (alike o.owner) o.assign quiet rest others later
 
   not_here : (o : Owned) → is_primitive_enable i o.assign.target ≡ true → o.assign.target ≡ p → ⊥
-  not_here o enable e = true_false (is_primitive_enable i p) (subst (λ t. is_primitive_enable i t ≡ true) e enable) no_enable
+  not_here o enable e = not_both (is_primitive_enable i p) (subst (λ t. is_primitive_enable i t ≡ true) e enable) no_enable
 
   -- at a port that is neither a done hole nor an enabling port
   pub acting_same : {os ps : List Owned} → OrderMade i promoted os ps → Quiet os → SameActing (acting act p os) (acting other p ps)
@@ -82,7 +82,7 @@ module _ (i : Instance) (promoted : ℕ → Type 0) (act other : Active) (p : Po
       subst (λ x. SameActing x (if_target (same_port o.assign.target p) other (without_guard o) (acting other p ps))) (sym (not_target act o p (acting act p os) (not_here o enable)))
       (subst (λ x. SameActing (acting act p os) x) (sym (not_target other (without_guard o) p (acting other p ps) (not_here o enable))) (acting_same later (λ x k j. quiet x k (inr j))))
   acting_same (dropped {o = o} {os = os} {ps = ps} g mine is hole later) quiet =
-      let not_mine : o.assign.target ≡ p → ⊥ = λ e. true_false (is_hole p) (subst (λ t. is_hole t ≡ true) e hole) no_hole in
+      let not_mine : o.assign.target ≡ p → ⊥ = λ e. not_both (is_hole p) (subst (λ t. is_hole t ≡ true) e hole) no_hole in
       subst (λ x. SameActing x (acting other p ps)) (sym (not_target act o p (acting act p os) not_mine)) (acting_same later (λ x k j. quiet x k (inr j)))
 
 -- WHERE AN ACTIVE ASSIGNMENT COMES FROM
@@ -159,5 +159,5 @@ module _ (i : Instance) (promoted : ℕ → Type 0) where
       record { owned = without_guard x; stands = inl refl; owner = ap (λ (y : Owned). y.owner) e; target = ap (λ (y : Owned). y.assign.target) e }
   went_to (bared {o = x} g mine is enable later) o (inr j) no_hole = later_went (without_guard x) (went_to later o j no_hole)
   went_to (dropped {o = x} g mine is hole later) o (inl e) no_hole =
-      absurd (true_false (is_hole o.assign.target) (subst (λ (y : Owned). is_hole y.assign.target ≡ true) e hole) no_hole)
+      absurd (not_both (is_hole o.assign.target) (subst (λ (y : Owned). is_hole y.assign.target ≡ true) e hole) no_hole)
   went_to (dropped g mine is hole later) o (inr j) no_hole = went_to later o j no_hole

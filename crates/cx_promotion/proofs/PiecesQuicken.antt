@@ -31,25 +31,17 @@ use Rattle.cx_promotion.specs.Made.{IsPromoted, IsRun, no_more, one_more}
 use Rattle.cx_promotion.proofs.RowReady.{SettledIsReady, row_settled}
 use Rattle.cx_promotion.proofs.Twins.{Twins, beside_each, idle-twin}
 use Rattle.cx_promotion.proofs.MadeBeside.{KindAt, no_cell, a_row, a_part, MadeBeside}
-use Rattle.cx_promotion.proofs.Shapes.{Shape, shape_of}
+use Rattle.cx_promotion.proofs.Shapes.{or_none, Shape, shape_of}
 use Rattle.cx_promotion.proofs.Near.{AreReady}
 use Rattle.cx_promotion.proofs.Chains.{total, chain, one_by_one, AllInStep, chain_ends}
 use Rattle.cx_promotion.proofs.Runs.{one_cycle}
 use Rattle.cx_promotion.proofs.Pieces as pieces
 use Rattle.cx_promotion.proofs.Pieces.{RunOf, static_seq_is}
 use Rattle.cx_promotion.proofs.GroupTurn.{group_in_step}
-use Rattle.cx_promotion.proofs.LeavesQuicken.{same_fault, Quicker}
+use Rattle.cx_promotion.proofs.LeavesQuicken.{same_fault, grown, Quicker}
+use Rattle.cx_promotion.proofs.Members.{plain_length}
 
 -- a group that drives no component cell calls none
-plain_length : (kind : GroupKind) → is_plain kind ≡ true → kind_length kind ≡ None
-plain_length kinds.Plain e = refl
-plain_length kinds.Comb e = absurd (cc)
-plain_length (kinds.Timed n) e = absurd (cc)
-
-or_none : (a b : Bool) → (a || b) ≡ false → (a ≡ false) × (b ≡ false)
-or_none true b e = absurd (cc)
-or_none false b e = (refl, e)
-
 module _ (i whole : Instance) (kinds_at : (c : ℕ) → KindAt (cell_at (cells_of i) c) (cell_at (cells_of whole) c)) where
   not_called : (at other : At) (c : ℕ) (later : Option ℕ) → KindAt at other → is_instance other ≡ false → if_instance at c later ≡ later
   not_called Nothing other c later (no_cell x) none = refl
@@ -132,9 +124,6 @@ module _ (part other : PlainComponent) (cells more : Cells) (t : Twins MadeBesid
     cells = λ c row is. let r = h.rows c row is in subst SettledIsReady r.1 (row_settled r.0) (s (c ∷ [])) (sym (idle_at-row i c row (s (c ∷ [])) is) ∙ settled (c ∷ []));
     below = λ c e path. settled (c ∷ e ∷ path);
   }
-
-  grown : (n : ℕ) (o later : Answer State Fault) (a : State) (k : ℕ) → Grows n o later → o ≡ End a k → (k ≤ n) × (later ≡ End a k)
-  grown n o later a k grows is = subst (λ x. Grows n x later) is grows
 
   some_group : {s0 : PlainStatement} {run : PlainStatements} → IsRun P (a_statement s0 run) → 1 ≤ length (groups_in_all (a_statement s0 run))
   some_group (one_more is later) = omega arith

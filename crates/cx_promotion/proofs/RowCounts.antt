@@ -16,7 +16,10 @@ use Rattle.cx_prim.specs.PipeRows.{multiplier_row, divider_row, holding, is_last
 use Rattle.cx_prim.specs.Table.{PrimitiveRow, row_of}
 use Rattle.cx_prim.proofs.TableCases.{OfEachKind, of_row}
 use Rattle.cx_promotion.specs.Promotable.{is_named, first_named, or_else, starting_port, cycles_of}
-use Rattle.cx_promotion.proofs.RowPorts.{some_is, true_false, first_behind, spot_of, Spot, before, behind, address_count, no_done, no_content, no_write, addresses}
+use Rattle.cx_promotion.proofs.RowPorts.{first_behind, spot_of, Spot, before, behind, address_count, no_done, no_content, no_write, addresses}
+use Rattle.cx_text.proofs.BoolLaws.{not_both}
+use Rattle.cx_text.proofs.OptionLaws.{same_some}
+use Rattle.cx_promotion.proofs.Impossible.{no_true, no_some}
 
 -- READY: a pipe of the row that has gone no cycle, or any other state
 abbrev pub IsReady : StateShape → CellState → Type 0
@@ -56,10 +59,6 @@ pub record Counts (row : Row) (e p n : ℕ) : Type 0 where
   pub goes_on : (k : ℕ) (d : CellState) (inputs : Inputs) → HasLeft row.shape (suc k) d → row.output d [] p ≡ Some (bit_of false) → is_on inputs e ≡ true
       → HasLeft row.shape k (row.next d inputs)
 
--- what is not there is not 0
-none_some : {A : Type 0} (a : A) → None ≡ Some a → ⊥
-none_some a e = cc
-
 when_on : {A : Type 0} (P : A → Type 0) (b : Bool) (x y : A) → b ≡ true → P x → P (if b then x else y)
 when_on P b x y e h = subst (λ (t : Bool). P (if t then x else y)) (sym e) h
 
@@ -89,7 +88,7 @@ register_stops w d left = absurd left
 register_goes : (w k : ℕ) (d : CellState) (inputs : Inputs) → HasLeft (RegisterOf w) (suc k) d → (register_row w).output d [] 3 ≡ Some (bit_of false) → is_on inputs 1 ≡ true
     → HasLeft (RegisterOf w) k ((register_row w).next d inputs)
 register_goes w k (Register value done) inputs left out on = when_on (HasLeft (RegisterOf w) k) (is_on inputs 1) (Register (value_at inputs 0) true) (Register value false) on (flag_goes k done left)
-register_goes w k d inputs left out on = absurd (none_some (bit_of false) out)
+register_goes w k d inputs left out on = no_some (bit_of false) out
 
 register_counts : (w : ℕ) → Counts (register_row w) 1 3 1
 register_counts w = record { some = omega arith; begins = register_begins w; waits = register_waits w; stops = register_stops w; goes_on = register_goes w }
@@ -129,7 +128,7 @@ module _ (w : ℕ) (sizes address_widths : List ℕ) where
   memory_goes : (k : ℕ) (d : CellState) (inputs : Inputs) → HasLeft row.shape (suc k) d → row.output d [] done_port ≡ Some (bit_of false) → is_on inputs (length sizes + 1) ≡ true
       → HasLeft row.shape k (row.next d inputs)
   memory_goes k (Memory words done) inputs left out on = when_on (HasLeft row.shape k) (is_on inputs (length sizes + 1)) _ (Memory words false) on (flag_goes k done left)
-  memory_goes k d inputs left out on = absurd (none_some (bit_of false) out)
+  memory_goes k d inputs left out on = no_some (bit_of false) out
 
   memory_counts : Counts row (length sizes + 1) done_port 1
   memory_counts = record { some = omega arith; begins = memory_begins; waits = memory_waits; stops = memory_stops; goes_on = memory_goes }
@@ -166,7 +165,7 @@ module _ (w : ℕ) (sizes address_widths : List ℕ) where
       accessed : (b : Bool) (ws : List ℕ) (m : ℕ) → HasLeft sequential.shape k (if b then SequentialMemory ws read_data true else SequentialMemory words m true)
       accessed true ws m = flag_goes k done left
       accessed false ws m = flag_goes k done left
-  sequential_goes k d inputs left out on = absurd (none_some (bit_of false) out)
+  sequential_goes k d inputs left out on = no_some (bit_of false) out
 
   sequential_counts : Counts sequential (length sizes) last_port 1
   sequential_counts = record { some = omega arith; begins = sequential_begins; waits = sequential_waits; stops = sequential_stops; goes_on = sequential_goes }
@@ -226,7 +225,7 @@ module _ (w : ℕ) where
       → HasLeft (MultiplierOf w 3) k ((multiplier_row w).next d inputs)
   multiplier_goes k (Multiplier run product) inputs left out on =
       when_on (HasLeft (MultiplierOf w 3) k) (is_on inputs 0) _ (Multiplier (stopped run) product) on (pipe_goes 3 k (holding run inputs) (held_left 3 k run inputs left))
-  multiplier_goes k d inputs left out on = absurd (none_some (bit_of false) out)
+  multiplier_goes k d inputs left out on = no_some (bit_of false) out
 
   multiplier_counts : Counts (multiplier_row w) 0 4 3
   multiplier_counts = record { some = omega arith; begins = multiplier_begins; waits = multiplier_waits; stops = multiplier_stops; goes_on = multiplier_goes }
@@ -261,7 +260,7 @@ module _ (w : ℕ) (some_bits : 1 ≤ w) where
       of_last : (b : Bool) (x y : ℕ) → HasLeft (DividerOf w w) k (if b then Divider (advanced w (holding run inputs)) x y else Divider (advanced w (holding run inputs)) q r)
       of_last true x y = pipe_goes w k (holding run inputs) (held_left w k run inputs left)
       of_last false x y = pipe_goes w k (holding run inputs) (held_left w k run inputs left)
-  divider_goes k d inputs left out on = absurd (none_some (bit_of false) out)
+  divider_goes k d inputs left out on = no_some (bit_of false) out
 
   divider_counts : Counts (divider_row w) 0 5 w
   divider_counts = record { some = some_bits; begins = divider_begins; waits = divider_waits; stops = divider_stops; goes_on = divider_goes }
@@ -273,35 +272,29 @@ RowCounts row = (e p n : ℕ) → is_named names.Done row.ports p ≡ true → s
 counts_at : (row : Row) (e p n f q m : ℕ) → e ≡ f → p ≡ q → n ≡ m → Counts row e p n → Counts row f q m
 counts_at row e p n f q m one two three c = subst (λ x. Counts row x q m) one (subst (λ x. Counts row e x m) two (subst (λ x. Counts row e p x) three c))
 
-not_true : {A : Type 0} → false ≡ true → A
-not_true e = absurd (cc)
-
-not_some : {A : Type 0} (n : ℕ) → None ≡ Some n → A
-not_some n e = absurd (cc)
-
 of_register : (w : ℕ) → RowCounts (register_row w)
-of_register w e zero n done start cycles = not_true done
-of_register w e (suc zero) n done start cycles = not_true done
-of_register w e (suc (suc zero)) n done start cycles = not_true done
-of_register w e (suc (suc (suc zero))) n done start cycles = counts_at (register_row w) 1 3 1 e 3 n (some_is 1 e start) refl (some_is 1 n cycles) (register_counts w)
-of_register w e (suc (suc (suc (suc p)))) n done start cycles = not_true done
+of_register w e zero n done start cycles = no_true done
+of_register w e (suc zero) n done start cycles = no_true done
+of_register w e (suc (suc zero)) n done start cycles = no_true done
+of_register w e (suc (suc (suc zero))) n done start cycles = counts_at (register_row w) 1 3 1 e 3 n (same_some 1 e start) refl (same_some 1 n cycles) (register_counts w)
+of_register w e (suc (suc (suc (suc p)))) n done start cycles = no_true done
 
 of_multiplier : (w : ℕ) → RowCounts (multiplier_row w)
-of_multiplier w e zero n done start cycles = not_true done
-of_multiplier w e (suc zero) n done start cycles = not_true done
-of_multiplier w e (suc (suc zero)) n done start cycles = not_true done
-of_multiplier w e (suc (suc (suc zero))) n done start cycles = not_true done
-of_multiplier w e (suc (suc (suc (suc zero)))) n done start cycles = counts_at (multiplier_row w) 0 4 3 e 4 n (some_is 0 e start) refl (some_is 3 n cycles) (multiplier_counts w)
-of_multiplier w e (suc (suc (suc (suc (suc p))))) n done start cycles = not_true done
+of_multiplier w e zero n done start cycles = no_true done
+of_multiplier w e (suc zero) n done start cycles = no_true done
+of_multiplier w e (suc (suc zero)) n done start cycles = no_true done
+of_multiplier w e (suc (suc (suc zero))) n done start cycles = no_true done
+of_multiplier w e (suc (suc (suc (suc zero)))) n done start cycles = counts_at (multiplier_row w) 0 4 3 e 4 n (same_some 0 e start) refl (same_some 3 n cycles) (multiplier_counts w)
+of_multiplier w e (suc (suc (suc (suc (suc p))))) n done start cycles = no_true done
 
 of_divider : (w : ℕ) → IsWidth w → RowCounts (divider_row w)
-of_divider w width e zero n done start cycles = not_true done
-of_divider w width e (suc zero) n done start cycles = not_true done
-of_divider w width e (suc (suc zero)) n done start cycles = not_true done
-of_divider w width e (suc (suc (suc zero))) n done start cycles = not_true done
-of_divider w width e (suc (suc (suc (suc zero)))) n done start cycles = not_true done
-of_divider w width e (suc (suc (suc (suc (suc zero))))) n done start cycles = counts_at (divider_row w) 0 5 w e 5 n (some_is 0 e start) refl (some_is w n cycles) (divider_counts w width.some_bits)
-of_divider w width e (suc (suc (suc (suc (suc (suc p)))))) n done start cycles = not_true done
+of_divider w width e zero n done start cycles = no_true done
+of_divider w width e (suc zero) n done start cycles = no_true done
+of_divider w width e (suc (suc zero)) n done start cycles = no_true done
+of_divider w width e (suc (suc (suc zero))) n done start cycles = no_true done
+of_divider w width e (suc (suc (suc (suc zero)))) n done start cycles = no_true done
+of_divider w width e (suc (suc (suc (suc (suc zero))))) n done start cycles = counts_at (divider_row w) 0 5 w e 5 n (same_some 0 e start) refl (same_some w n cycles) (divider_counts w width.some_bits)
+of_divider w width e (suc (suc (suc (suc (suc (suc p)))))) n done start cycles = no_true done
 
 -- of a memory
 module _ (w : ℕ) (sizes address_widths : List ℕ) (layout : IsLayout w sizes address_widths) where
@@ -321,21 +314,21 @@ module _ (w : ℕ) (sizes address_widths : List ℕ) (layout : IsLayout w sizes 
       let is : starting_port (memory_row w sizes address_widths) ≡ Some (suc (0 + length xs)) =
           ap (λ (o : Option ℕ). or_else o (or_else (first_named names.WriteEn (xs ++ tail) 0) (first_named names.Go (xs ++ tail) 0))) no
           ∙ ap (λ (o : Option ℕ). or_else o (first_named names.Go (xs ++ tail) 0)) yes in
-      let same : suc (0 + length xs) ≡ e = some_is (suc (0 + length xs)) e (sym is ∙ start) in
+      let same : suc (0 + length xs) ≡ e = same_some (suc (0 + length xs)) e (sym is ∙ start) in
       omega (arith, count)
 
   memory_place : (p : ℕ) → is_named names.Done (xs ++ tail) p ≡ true → Spot names.Done xs tail p → length sizes + 3 ≡ p
-  memory_place p done (before lt side none) = absurd (true_false (is_named names.Done (xs ++ tail) p) done none)
-  memory_place p done (behind zero at side same) = not_true (sym same ∙ done)
-  memory_place p done (behind (suc zero) at side same) = not_true (sym same ∙ done)
-  memory_place p done (behind (suc (suc zero)) at side same) = not_true (sym same ∙ done)
+  memory_place p done (before lt side none) = absurd (not_both (is_named names.Done (xs ++ tail) p) done none)
+  memory_place p done (behind zero at side same) = no_true (sym same ∙ done)
+  memory_place p done (behind (suc zero) at side same) = no_true (sym same ∙ done)
+  memory_place p done (behind (suc (suc zero)) at side same) = no_true (sym same ∙ done)
   memory_place p done (behind (suc (suc (suc zero))) at side same) = let e : p ≡ length xs + 3 = at in omega (arith, count)
-  memory_place p done (behind (suc (suc (suc (suc q)))) at side same) = not_true (sym same ∙ done)
+  memory_place p done (behind (suc (suc (suc (suc q)))) at side same) = no_true (sym same ∙ done)
 
   of_memory : RowCounts (memory_row w sizes address_widths)
   of_memory e p n done start cycles =
       counts_at (memory_row w sizes address_widths) (length sizes + 1) (length sizes + 3) 1 e p n
-      (memory_start e start) (memory_place p done (spot_of names.Done addresses address_widths tail p no_done)) (some_is 1 n cycles) (memory_counts w sizes address_widths)
+      (memory_start e start) (memory_place p done (spot_of names.Done addresses address_widths tail p no_done)) (same_some 1 n cycles) (memory_counts w sizes address_widths)
 
   abbrev end : List PortRow
   end = enable_port names.ContentEn ∷ enable_port names.WriteEn ∷ plain_port names.WriteData w ∷ registered_port names.ReadData w ∷ registered_port names.Done 1 ∷ []
@@ -345,34 +338,34 @@ module _ (w : ℕ) (sizes address_widths : List ℕ) (layout : IsLayout w sizes 
       let yes : first_named names.ContentEn (xs ++ end) 0 ≡ Some (0 + length xs) = first_behind names.ContentEn addresses address_widths end 0 no_content in
       let is : starting_port (sequential_memory_row w sizes address_widths) ≡ Some (0 + length xs) =
           ap (λ (o : Option ℕ). or_else o (or_else (first_named names.WriteEn (xs ++ end) 0) (first_named names.Go (xs ++ end) 0))) yes in
-      let same : 0 + length xs ≡ e = some_is (0 + length xs) e (sym is ∙ start) in
+      let same : 0 + length xs ≡ e = same_some (0 + length xs) e (sym is ∙ start) in
       omega (arith, count)
 
   sequential_place : (p : ℕ) → is_named names.Done (xs ++ end) p ≡ true → Spot names.Done xs end p → length sizes + 4 ≡ p
-  sequential_place p done (before lt side none) = absurd (true_false (is_named names.Done (xs ++ end) p) done none)
-  sequential_place p done (behind zero at side same) = not_true (sym same ∙ done)
-  sequential_place p done (behind (suc zero) at side same) = not_true (sym same ∙ done)
-  sequential_place p done (behind (suc (suc zero)) at side same) = not_true (sym same ∙ done)
-  sequential_place p done (behind (suc (suc (suc zero))) at side same) = not_true (sym same ∙ done)
+  sequential_place p done (before lt side none) = absurd (not_both (is_named names.Done (xs ++ end) p) done none)
+  sequential_place p done (behind zero at side same) = no_true (sym same ∙ done)
+  sequential_place p done (behind (suc zero) at side same) = no_true (sym same ∙ done)
+  sequential_place p done (behind (suc (suc zero)) at side same) = no_true (sym same ∙ done)
+  sequential_place p done (behind (suc (suc (suc zero))) at side same) = no_true (sym same ∙ done)
   sequential_place p done (behind (suc (suc (suc (suc zero)))) at side same) = let e : p ≡ length xs + 4 = at in omega (arith, count)
-  sequential_place p done (behind (suc (suc (suc (suc (suc q))))) at side same) = not_true (sym same ∙ done)
+  sequential_place p done (behind (suc (suc (suc (suc (suc q))))) at side same) = no_true (sym same ∙ done)
 
   of_sequential : RowCounts (sequential_memory_row w sizes address_widths)
   of_sequential e p n done start cycles =
       counts_at (sequential_memory_row w sizes address_widths) (length sizes) (length sizes + 4) 1 e p n
-      (sequential_start e start) (sequential_place p done (spot_of names.Done addresses address_widths end p no_done)) (some_is 1 n cycles) (sequential_counts w sizes address_widths)
+      (sequential_start e start) (sequential_place p done (spot_of names.Done addresses address_widths end p no_done)) (same_some 1 n cycles) (sequential_counts w sizes address_widths)
 
 pub row_counts : (p : PrimitiveRow) → RowCounts (row_of p)
 row_counts = of_row RowCounts (record {
-  none = λ e p n done start cycles. not_some n cycles;
-  constant = λ w v fits e p n done start cycles. not_some n cycles;
-  unary = λ operator w v is e p n done start cycles. not_some n cycles;
-  binary = λ operator w is e p n done start cycles. not_some n cycles;
-  mux = λ w is e p n done start cycles. not_some n cycles;
+  none = λ e p n done start cycles. no_some n cycles;
+  constant = λ w v fits e p n done start cycles. no_some n cycles;
+  unary = λ operator w v is e p n done start cycles. no_some n cycles;
+  binary = λ operator w is e p n done start cycles. no_some n cycles;
+  mux = λ w is e p n done start cycles. no_some n cycles;
   register = λ w is. of_register w;
   memory = of_memory;
   sequential = of_sequential;
   multiplier = λ w is. of_multiplier w;
   divider = of_divider;
-  timer = λ m some few e p n done start cycles. not_some n cycles;
+  timer = λ m some few e p n done start cycles. no_some n cycles;
 })

@@ -10,18 +10,12 @@ use Rattle.cx_prim.specs.MemoryRows.{IsLayout, ports_named, address_ports}
 use Rattle.cx_prim.proofs.MemoryLaws.{length-ports_named}
 use Rattle.cx_meaning.specs.Rows.{side_from}
 use Rattle.cx_promotion.specs.Promotable.{is_name, is_named, first_named}
-
-pub some_is : {A : Type 0} (a b : A) → Some a ≡ Some b → a ≡ b
-some_is a b e = cc
-
-pub true_false : (b : Bool) → b ≡ true → b ≡ false → ⊥
-true_false true one two = cc
-true_false false one two = cc
+use Rattle.cx_text.proofs.OptionLaws.{same_some}
 
 -- a port that is there has its name
 pub named_at : (name : PortName) (ports : List PortRow) (n : ℕ) (port : PortRow) → slice_get ports n ≡ Some port → is_named name ports n ≡ is_name name port.name
 named_at name [] n port e = absurd (cc)
-named_at name (x ∷ rest) zero port e = ap (λ (p : PortRow). is_name name p.name) (some_is x port e)
+named_at name (x ∷ rest) zero port e = ap (λ (p : PortRow). is_name name p.name) (same_some x port e)
 named_at name (x ∷ rest) (suc n) port e = named_at name rest n port e
 
 pub named_there : (name : PortName) (ports : List PortRow) (n : ℕ) → is_named name ports n ≡ true → n < length ports

@@ -19,6 +19,7 @@ use Rattle.cx_meaning.specs.Rows.{side_from, side_of}
 use Rattle.cx_promotion.specs.Promotable.{is_named}
 use Rattle.cx_promotion.proofs.RowPorts.{spot_of, Spot, before, behind, address_count, no_done, addresses}
 use Rattle.cx_promotion.proofs.RowCounts.{IsReady}
+use Rattle.cx_promotion.proofs.Impossible.{no_true, no_false}
 
 -- an output that is there and is no done
 pub record IsOutput (row : Row) (n : ℕ) : Type 0 where
@@ -39,21 +40,15 @@ ReadyLooksIdle row = (d : CellState) → IsReady row.shape d → LooksAlike row 
 pub looks_itself : (row : Row) (d : CellState) → LooksAlike row d d
 looks_itself row d = record { next = λ inputs. refl; idle = refl; demands = λ inputs n. refl; output = λ inputs n out. refl }
 
-not_false : {A : Type 0} → true ≡ false → A
-not_false e = absurd (cc)
-
-not_true : {A : Type 0} → false ≡ true → A
-not_true e = absurd (cc)
-
 -- a register
 register_ready : (w : ℕ) → ReadyLooksIdle (register_row w)
 register_ready w (Register value done) ready = record { next = λ inputs. refl; idle = refl; demands = λ inputs n. refl; output = outputs }
   where
     outputs : (inputs : Inputs) (n : ℕ) → IsOutput (register_row w) n → (register_row w).output (Register value done) inputs n ≡ (register_row w).output (Register value false) inputs n
-    outputs inputs zero is = not_true is.out
-    outputs inputs (suc zero) is = not_true is.out
+    outputs inputs zero is = no_true is.out
+    outputs inputs (suc zero) is = no_true is.out
     outputs inputs (suc (suc zero)) is = refl
-    outputs inputs (suc (suc (suc zero))) is = not_false is.other
+    outputs inputs (suc (suc (suc zero))) is = no_false is.other
     outputs inputs (suc (suc (suc (suc n)))) is = absurd (let lt = is.there in omega arith)
 register_ready w d ready = looks_itself (register_row w) d
 
@@ -76,11 +71,11 @@ multiplier_ready w (Multiplier run product) ready = record {
 }
   where
     outputs : (inputs : Inputs) (n : ℕ) → IsOutput (multiplier_row w) n → (multiplier_row w).output (Multiplier run product) inputs n ≡ (multiplier_row w).output (Multiplier (stopped run) product) inputs n
-    outputs inputs zero is = not_true is.out
-    outputs inputs (suc zero) is = not_true is.out
-    outputs inputs (suc (suc zero)) is = not_true is.out
+    outputs inputs zero is = no_true is.out
+    outputs inputs (suc zero) is = no_true is.out
+    outputs inputs (suc (suc zero)) is = no_true is.out
     outputs inputs (suc (suc (suc zero))) is = refl
-    outputs inputs (suc (suc (suc (suc zero)))) is = not_false is.other
+    outputs inputs (suc (suc (suc (suc zero)))) is = no_false is.other
     outputs inputs (suc (suc (suc (suc (suc n))))) is = absurd (let lt = is.there in omega arith)
 multiplier_ready w d ready = looks_itself (multiplier_row w) d
 
@@ -93,12 +88,12 @@ divider_ready w (Divider run q r) ready = record {
 }
   where
     outputs : (inputs : Inputs) (n : ℕ) → IsOutput (divider_row w) n → (divider_row w).output (Divider run q r) inputs n ≡ (divider_row w).output (Divider (stopped run) q r) inputs n
-    outputs inputs zero is = not_true is.out
-    outputs inputs (suc zero) is = not_true is.out
-    outputs inputs (suc (suc zero)) is = not_true is.out
+    outputs inputs zero is = no_true is.out
+    outputs inputs (suc zero) is = no_true is.out
+    outputs inputs (suc (suc zero)) is = no_true is.out
     outputs inputs (suc (suc (suc zero))) is = refl
     outputs inputs (suc (suc (suc (suc zero)))) is = refl
-    outputs inputs (suc (suc (suc (suc (suc zero))))) is = not_false is.other
+    outputs inputs (suc (suc (suc (suc (suc zero))))) is = no_false is.other
     outputs inputs (suc (suc (suc (suc (suc (suc n)))))) is = absurd (let lt = is.there in omega arith)
 divider_ready w d ready = looks_itself (divider_row w) d
 
@@ -112,9 +107,9 @@ timer_ready m (Timer count done) ready = record {
 }
   where
     outputs : (inputs : Inputs) (n : ℕ) → IsOutput (timer_row m) n → (timer_row m).output (Timer count done) inputs n ≡ (timer_row m).output (Timer 0 false) inputs n
-    outputs inputs zero is = not_true is.out
+    outputs inputs zero is = no_true is.out
     outputs inputs (suc zero) is = subst (λ (c : ℕ). (timer_row m).output (Timer c done) inputs 1 ≡ (timer_row m).output (Timer 0 false) inputs 1) (sym ready) refl
-    outputs inputs (suc (suc zero)) is = not_false is.other
+    outputs inputs (suc (suc zero)) is = no_false is.other
     outputs inputs (suc (suc (suc n))) is = absurd (let lt = is.there in omega arith)
 timer_ready m d ready = looks_itself (timer_row m) d
 
@@ -127,10 +122,10 @@ at_three d n e = grind (arith, nat_tests)
 
 both_chosen : {A : Type 0} (b : Bool) (x y z : A) → b ≡ true → (if b then x else y) ≡ (if b then x else z)
 both_chosen true x y z e = refl
-both_chosen false x y z e = not_true e
+both_chosen false x y z e = no_true e
 
 plain_is_no_output : {A : Type 0} (side : Side) → side ≡ sides.Plain → is_output_side side ≡ true → A
-plain_is_no_output side e out = not_true (sym (ap is_output_side e) ∙ out)
+plain_is_no_output side e out = no_true (sym (ap is_output_side e) ∙ out)
 
 beyond_tail : (ys : List PortRow) (xs : List PortRow) (n q : ℕ) → n ≡ length xs + (length ys + q) → n < length (xs ++ ys) → ⊥
 beyond_tail ys [] n q e lt = omega arith
@@ -153,9 +148,9 @@ module _ (w : ℕ) (sizes address_widths : List ℕ) (layout : IsLayout w sizes 
   memory_out : (n : ℕ) → IsOutput row n → Spot names.Done xs tail n → n ≡ length sizes + 2
   memory_out n is (before lt side none) = plain_is_no_output (side_of row n) side is.out
   memory_out n is (behind zero at side same) = plain_is_no_output (side_of row n) side is.out
-  memory_out n is (behind (suc zero) at side same) = not_true (sym (ap is_output_side side) ∙ is.out)
+  memory_out n is (behind (suc zero) at side same) = no_true (sym (ap is_output_side side) ∙ is.out)
   memory_out n is (behind (suc (suc zero)) at side same) = let e : n ≡ length xs + 2 = at in omega (arith, count)
-  memory_out n is (behind (suc (suc (suc zero))) at side same) = not_false (sym same ∙ is.other)
+  memory_out n is (behind (suc (suc (suc zero))) at side same) = no_false (sym same ∙ is.other)
   memory_out n is (behind (suc (suc (suc (suc q)))) at side same) =
       absurd (beyond_tail tail xs n q (let e : n ≡ length xs + suc (suc (suc (suc q))) = at in omega arith) is.there)
 
@@ -178,11 +173,11 @@ module _ (w : ℕ) (sizes address_widths : List ℕ) (layout : IsLayout w sizes 
 
   sequential_out : (n : ℕ) → IsOutput other n → Spot names.Done xs end n → n ≡ length sizes + 3
   sequential_out n is (before lt side none) = plain_is_no_output (side_of other n) side is.out
-  sequential_out n is (behind zero at side same) = not_true (sym (ap is_output_side side) ∙ is.out)
-  sequential_out n is (behind (suc zero) at side same) = not_true (sym (ap is_output_side side) ∙ is.out)
+  sequential_out n is (behind zero at side same) = no_true (sym (ap is_output_side side) ∙ is.out)
+  sequential_out n is (behind (suc zero) at side same) = no_true (sym (ap is_output_side side) ∙ is.out)
   sequential_out n is (behind (suc (suc zero)) at side same) = plain_is_no_output (side_of other n) side is.out
   sequential_out n is (behind (suc (suc (suc zero))) at side same) = let e : n ≡ length xs + 3 = at in omega (arith, count)
-  sequential_out n is (behind (suc (suc (suc (suc zero)))) at side same) = not_false (sym same ∙ is.other)
+  sequential_out n is (behind (suc (suc (suc (suc zero)))) at side same) = no_false (sym same ∙ is.other)
   sequential_out n is (behind (suc (suc (suc (suc (suc q))))) at side same) =
       absurd (beyond_tail end xs n q (let e : n ≡ length xs + suc (suc (suc (suc (suc q)))) = at in omega arith) is.there)
 

@@ -2,7 +2,7 @@
 use Rattle.std.specs.Prelude.{◌≡◌, ◌⊎◌, ◌<◌, ◌≤◌, ℕ, zero, suc, ◌+◌, ◌==◌, ◌&&◌, ◌||◌, nat_lt, nat_le, Bool, true, false, List, [], ◌∷◌, ◌++◌, length, if◌then◌else◌, refl}
 use Rattle.std.proofs.Common.{sym, ap, ◌∙◌, inl, inr, arith}
 use Rattle.std.proofs.lemmas.Bool.{eqb-true, ltb-true, leb-true}
-use Rattle.cx_text.proofs.BoolLaws.{and_left, and_right}
+use Rattle.cx_text.proofs.BoolLaws.{and_left, and_right, not_both}
 use Rattle.cx_prim.specs.declared.ports.PortName.TheVariants as names
 use Rattle.cx_prim.specs.declared.ports.PortRow.{PortRow}
 use Rattle.cx_prim.specs.declared.ports.Side.TheVariants as sides
@@ -18,7 +18,8 @@ use Rattle.cx_prim.specs.Table.{PrimitiveRow, no_row, row_of}
 use Rattle.cx_prim.proofs.TableCases.{OfEachKind, of_row}
 use Rattle.cx_meaning.specs.Rows.{side_from, side_of}
 use Rattle.cx_promotion.specs.Promotable.{is_named}
-use Rattle.cx_promotion.proofs.RowPorts.{true_false, spot_of, Spot, before, behind, address_count, no_done, addresses}
+use Rattle.cx_promotion.proofs.RowPorts.{spot_of, Spot, before, behind, address_count, no_done, addresses}
+use Rattle.cx_promotion.proofs.Impossible.{no_true}
 
 -- plain, and not a done
 abbrev pub IsPlainPort : Row → ℕ → Type 0
@@ -29,52 +30,49 @@ pub record LooksAtPlain (row : Row) : Type 0 where
   pub reads : (p m : ℕ) → row.reads p m ≡ true → IsPlainPort row m
   pub demands : (d : CellState) (inputs : Inputs) (n : ℕ) → row.demands d inputs n ≡ true → IsPlainPort row n
 
-not_true : {A : Type 0} → false ≡ true → A
-not_true e = absurd (cc)
-
 
 if_true : (b x : Bool) → (if b then x else false) ≡ true → x ≡ true
 if_true true x e = e
-if_true false x e = not_true e
+if_true false x e = no_true e
 
 below_zero : {A : Type 0} (m : ℕ) → nat_lt m 0 ≡ true → A
 below_zero m e = absurd (let h : m < 0 = ltb-true m 0 e in omega arith)
 
 no_ports : LooksAtPlain no_row
 no_ports = record {
-  done = λ p e. not_true e;
+  done = λ p e. no_true e;
   reads = λ p m e. below_zero m e;
-  demands = λ d inputs n e. not_true e;
+  demands = λ d inputs n e. no_true e;
 }
 
 -- rows without state
 constant_sides : (w v : ℕ) → LooksAtPlain (constant_row w v)
-constant_sides w v = record { done = named; reads = λ p m e. below_zero m e; demands = λ d inputs n e. not_true e }
+constant_sides w v = record { done = named; reads = λ p m e. below_zero m e; demands = λ d inputs n e. no_true e }
   where
     named : (p : ℕ) → is_named names.Done (constant_row w v).ports p ≡ true → side_of (constant_row w v) p ≡ sides.Registered
-    named zero e = not_true e
-    named (suc p) e = not_true e
+    named zero e = no_true e
+    named (suc p) e = no_true e
 
 unary_sides : (w v : ℕ) (f : BitVector → BitVector) → LooksAtPlain (unary_row w v f)
-unary_sides w v f = record { done = named; reads = λ p m e. plain m e; demands = λ d inputs n e. not_true e }
+unary_sides w v f = record { done = named; reads = λ p m e. plain m e; demands = λ d inputs n e. no_true e }
   where
     named : (p : ℕ) → is_named names.Done (unary_row w v f).ports p ≡ true → side_of (unary_row w v f) p ≡ sides.Registered
-    named zero e = not_true e
-    named (suc zero) e = not_true e
-    named (suc (suc p)) e = not_true e
+    named zero e = no_true e
+    named (suc zero) e = no_true e
+    named (suc (suc p)) e = no_true e
 
     plain : (m : ℕ) → nat_lt m 1 ≡ true → IsPlainPort (unary_row w v f) m
     plain zero e = (refl, refl)
     plain (suc m) e = absurd (let h : suc m < 1 = ltb-true (suc m) 1 e in omega arith)
 
 binary_sides : (w v : ℕ) (f : BitVector → BitVector → BitVector) → LooksAtPlain (binary_row w v f)
-binary_sides w v f = record { done = named; reads = λ p m e. plain m e; demands = λ d inputs n e. not_true e }
+binary_sides w v f = record { done = named; reads = λ p m e. plain m e; demands = λ d inputs n e. no_true e }
   where
     named : (p : ℕ) → is_named names.Done (binary_row w v f).ports p ≡ true → side_of (binary_row w v f) p ≡ sides.Registered
-    named zero e = not_true e
-    named (suc zero) e = not_true e
-    named (suc (suc zero)) e = not_true e
-    named (suc (suc (suc p))) e = not_true e
+    named zero e = no_true e
+    named (suc zero) e = no_true e
+    named (suc (suc zero)) e = no_true e
+    named (suc (suc (suc p))) e = no_true e
 
     plain : (m : ℕ) → nat_lt m 2 ≡ true → IsPlainPort (binary_row w v f) m
     plain zero e = (refl, refl)
@@ -82,14 +80,14 @@ binary_sides w v f = record { done = named; reads = λ p m e. plain m e; demands
     plain (suc (suc m)) e = absurd (let h : suc (suc m) < 2 = ltb-true (suc (suc m)) 2 e in omega arith)
 
 mux_sides : (w : ℕ) → LooksAtPlain (mux_row w)
-mux_sides w = record { done = named; reads = λ p m e. plain m e; demands = λ d inputs n e. not_true e }
+mux_sides w = record { done = named; reads = λ p m e. plain m e; demands = λ d inputs n e. no_true e }
   where
     named : (p : ℕ) → is_named names.Done (mux_row w).ports p ≡ true → side_of (mux_row w) p ≡ sides.Registered
-    named zero e = not_true e
-    named (suc zero) e = not_true e
-    named (suc (suc zero)) e = not_true e
-    named (suc (suc (suc zero))) e = not_true e
-    named (suc (suc (suc (suc p)))) e = not_true e
+    named zero e = no_true e
+    named (suc zero) e = no_true e
+    named (suc (suc zero)) e = no_true e
+    named (suc (suc (suc zero))) e = no_true e
+    named (suc (suc (suc (suc p)))) e = no_true e
 
     plain : (m : ℕ) → nat_lt m 3 ≡ true → IsPlainPort (mux_row w) m
     plain zero e = (refl, refl)
@@ -99,29 +97,29 @@ mux_sides w = record { done = named; reads = λ p m e. plain m e; demands = λ d
 
 -- a register, pipes, a timer
 register_sides : (w : ℕ) → LooksAtPlain (register_row w)
-register_sides w = record { done = named; reads = λ p m e. not_true e; demands = λ d inputs n e. plain n (eqb-true n 0 (if_true (is_on inputs 1) (n == 0) e)) }
+register_sides w = record { done = named; reads = λ p m e. no_true e; demands = λ d inputs n e. plain n (eqb-true n 0 (if_true (is_on inputs 1) (n == 0) e)) }
   where
     named : (p : ℕ) → is_named names.Done (register_row w).ports p ≡ true → side_of (register_row w) p ≡ sides.Registered
-    named zero e = not_true e
-    named (suc zero) e = not_true e
-    named (suc (suc zero)) e = not_true e
+    named zero e = no_true e
+    named (suc zero) e = no_true e
+    named (suc (suc zero)) e = no_true e
     named (suc (suc (suc zero))) e = refl
-    named (suc (suc (suc (suc p)))) e = not_true e
+    named (suc (suc (suc (suc p)))) e = no_true e
 
     plain : (n : ℕ) → n ≡ 0 → IsPlainPort (register_row w) n
     plain zero e = (refl, refl)
     plain (suc n) e = absurd (omega (arith, e))
 
 multiplier_sides : (w : ℕ) → LooksAtPlain (multiplier_row w)
-multiplier_sides w = record { done = named; reads = λ p m e. not_true e; demands = demanded }
+multiplier_sides w = record { done = named; reads = λ p m e. no_true e; demands = demanded }
   where
     named : (p : ℕ) → is_named names.Done (multiplier_row w).ports p ≡ true → side_of (multiplier_row w) p ≡ sides.Registered
-    named zero e = not_true e
-    named (suc zero) e = not_true e
-    named (suc (suc zero)) e = not_true e
-    named (suc (suc (suc zero))) e = not_true e
+    named zero e = no_true e
+    named (suc zero) e = no_true e
+    named (suc (suc zero)) e = no_true e
+    named (suc (suc (suc zero))) e = no_true e
     named (suc (suc (suc (suc zero)))) e = refl
-    named (suc (suc (suc (suc (suc p))))) e = not_true e
+    named (suc (suc (suc (suc (suc p))))) e = no_true e
 
     plain : (n : ℕ) → 1 ≤ n → n ≤ 2 → IsPlainPort (multiplier_row w) n
     plain zero low high = absurd (omega arith)
@@ -133,19 +131,19 @@ multiplier_sides w = record { done = named; reads = λ p m e. not_true e; demand
     demanded (Multiplier run product) inputs n e =
         let both = and_right (is_on inputs 0 && (run.count == 0)) (nat_le 1 n && nat_le n 2) e in
         plain n (leb-true 1 n (and_left (nat_le 1 n) (nat_le n 2) both)) (leb-true n 2 (and_right (nat_le 1 n) (nat_le n 2) both))
-    demanded d inputs n e = not_true e
+    demanded d inputs n e = no_true e
 
 divider_sides : (w : ℕ) → LooksAtPlain (divider_row w)
-divider_sides w = record { done = named; reads = λ p m e. not_true e; demands = demanded }
+divider_sides w = record { done = named; reads = λ p m e. no_true e; demands = demanded }
   where
     named : (p : ℕ) → is_named names.Done (divider_row w).ports p ≡ true → side_of (divider_row w) p ≡ sides.Registered
-    named zero e = not_true e
-    named (suc zero) e = not_true e
-    named (suc (suc zero)) e = not_true e
-    named (suc (suc (suc zero))) e = not_true e
-    named (suc (suc (suc (suc zero)))) e = not_true e
+    named zero e = no_true e
+    named (suc zero) e = no_true e
+    named (suc (suc zero)) e = no_true e
+    named (suc (suc (suc zero))) e = no_true e
+    named (suc (suc (suc (suc zero)))) e = no_true e
     named (suc (suc (suc (suc (suc zero))))) e = refl
-    named (suc (suc (suc (suc (suc (suc p)))))) e = not_true e
+    named (suc (suc (suc (suc (suc (suc p)))))) e = no_true e
 
     plain : (n : ℕ) → 1 ≤ n → n ≤ 2 → IsPlainPort (divider_row w) n
     plain zero low high = absurd (omega arith)
@@ -157,16 +155,16 @@ divider_sides w = record { done = named; reads = λ p m e. not_true e; demands =
     demanded (Divider run q r) inputs n e =
         let both = and_right (is_on inputs 0 && (run.count == 0)) (nat_le 1 n && nat_le n 2) e in
         plain n (leb-true 1 n (and_left (nat_le 1 n) (nat_le n 2) both)) (leb-true n 2 (and_right (nat_le 1 n) (nat_le n 2) both))
-    demanded d inputs n e = not_true e
+    demanded d inputs n e = no_true e
 
 timer_sides : (m : ℕ) → LooksAtPlain (timer_row m)
-timer_sides m = record { done = named; reads = λ p k e. not_true e; demands = λ d inputs n e. not_true e }
+timer_sides m = record { done = named; reads = λ p k e. no_true e; demands = λ d inputs n e. no_true e }
   where
     named : (p : ℕ) → is_named names.Done (timer_row m).ports p ≡ true → side_of (timer_row m) p ≡ sides.Registered
-    named zero e = not_true e
-    named (suc zero) e = not_true e
+    named zero e = no_true e
+    named (suc zero) e = no_true e
     named (suc (suc zero)) e = refl
-    named (suc (suc (suc p))) e = not_true e
+    named (suc (suc (suc p))) e = no_true e
 
 -- memories
 module _ (w : ℕ) (sizes address_widths : List ℕ) (layout : IsLayout w sizes address_widths) where
@@ -186,12 +184,12 @@ module _ (w : ℕ) (sizes address_widths : List ℕ) (layout : IsLayout w sizes 
   spot ys p = spot_of names.Done addresses address_widths ys p no_done
 
   memory_named : (p : ℕ) → is_named names.Done (xs ++ tail) p ≡ true → At tail p → side_from (xs ++ tail) p ≡ sides.Registered
-  memory_named p e (before lt side none) = absurd (true_false (is_named names.Done (xs ++ tail) p) e none)
-  memory_named p e (behind zero at side same) = not_true (sym same ∙ e)
-  memory_named p e (behind (suc zero) at side same) = not_true (sym same ∙ e)
-  memory_named p e (behind (suc (suc zero)) at side same) = not_true (sym same ∙ e)
+  memory_named p e (before lt side none) = absurd (not_both (is_named names.Done (xs ++ tail) p) e none)
+  memory_named p e (behind zero at side same) = no_true (sym same ∙ e)
+  memory_named p e (behind (suc zero) at side same) = no_true (sym same ∙ e)
+  memory_named p e (behind (suc (suc zero)) at side same) = no_true (sym same ∙ e)
   memory_named p e (behind (suc (suc (suc zero))) at side same) = side
-  memory_named p e (behind (suc (suc (suc (suc q)))) at side same) = not_true (sym same ∙ e)
+  memory_named p e (behind (suc (suc (suc (suc q)))) at side same) = no_true (sym same ∙ e)
 
   memory_plain : (n : ℕ) → n < length sizes + 1 → At tail n → (side_from (xs ++ tail) n ≡ sides.Plain) × (is_named names.Done (xs ++ tail) n ≡ false)
   memory_plain n low (before lt side none) = (side, none)
@@ -209,13 +207,13 @@ module _ (w : ℕ) (sizes address_widths : List ℕ) (layout : IsLayout w sizes 
   end = enable_port names.ContentEn ∷ enable_port names.WriteEn ∷ plain_port names.WriteData w ∷ registered_port names.ReadData w ∷ registered_port names.Done 1 ∷ []
 
   sequential_named : (p : ℕ) → is_named names.Done (xs ++ end) p ≡ true → At end p → side_from (xs ++ end) p ≡ sides.Registered
-  sequential_named p e (before lt side none) = absurd (true_false (is_named names.Done (xs ++ end) p) e none)
-  sequential_named p e (behind zero at side same) = not_true (sym same ∙ e)
-  sequential_named p e (behind (suc zero) at side same) = not_true (sym same ∙ e)
-  sequential_named p e (behind (suc (suc zero)) at side same) = not_true (sym same ∙ e)
-  sequential_named p e (behind (suc (suc (suc zero))) at side same) = not_true (sym same ∙ e)
+  sequential_named p e (before lt side none) = absurd (not_both (is_named names.Done (xs ++ end) p) e none)
+  sequential_named p e (behind zero at side same) = no_true (sym same ∙ e)
+  sequential_named p e (behind (suc zero) at side same) = no_true (sym same ∙ e)
+  sequential_named p e (behind (suc (suc zero)) at side same) = no_true (sym same ∙ e)
+  sequential_named p e (behind (suc (suc (suc zero))) at side same) = no_true (sym same ∙ e)
   sequential_named p e (behind (suc (suc (suc (suc zero)))) at side same) = side
-  sequential_named p e (behind (suc (suc (suc (suc (suc q))))) at side same) = not_true (sym same ∙ e)
+  sequential_named p e (behind (suc (suc (suc (suc (suc q))))) at side same) = no_true (sym same ∙ e)
 
   sequential_plain : (n : ℕ) → (n < length sizes) ⊎ (n ≡ length sizes + 2) → At end n → (side_from (xs ++ end) n ≡ sides.Plain) × (is_named names.Done (xs ++ end) n ≡ false)
   sequential_plain n low (before lt side none) = (side, none)
@@ -235,7 +233,7 @@ module _ (w : ℕ) (sizes address_widths : List ℕ) (layout : IsLayout w sizes 
   sequential_sides : LooksAtPlain (sequential_memory_row w sizes address_widths)
   sequential_sides = record {
     done = λ p e. sequential_named p e (spot end p);
-    reads = λ p m e. not_true e;
+    reads = λ p m e. no_true e;
     demands = λ d inputs n e. sequential_plain n (either n (is_on inputs (length sizes + 1)) (and_right (is_on inputs (length sizes)) _ e)) (spot end n);
   }
 

@@ -12,7 +12,9 @@ use Rattle.cx_prim.specs.Table.{PrimitiveRow, row_of}
 use Rattle.cx_prim.proofs.TableCases.{OfEachKind, of_row}
 use Rattle.cx_meaning.specs.Rows.{side_from, side_of}
 use Rattle.cx_promotion.specs.Promotable.{first_named, or_else, starting_port}
-use Rattle.cx_promotion.proofs.RowPorts.{some_is, first_behind, no_content, no_write, addresses}
+use Rattle.cx_promotion.proofs.RowPorts.{first_behind, no_content, no_write, addresses}
+use Rattle.cx_text.proofs.OptionLaws.{same_some}
+use Rattle.cx_promotion.proofs.Impossible.{no_some}
 
 abbrev pub IsStart : Row → ℕ → Type 0
 IsStart row e = (is_enable_side (side_of row e) ≡ true) × (e < length row.ports)
@@ -20,11 +22,8 @@ IsStart row e = (is_enable_side (side_of row e) ≡ true) × (e < length row.por
 abbrev pub Starts : Row → Type 0
 Starts row = (e : ℕ) → starting_port row ≡ Some e → IsStart row e
 
-not_some : {A : Type 0} (n : ℕ) → None ≡ Some n → A
-not_some n e = absurd (cc)
-
 at_start : (row : Row) (k e : ℕ) → Some k ≡ Some e → IsStart row k → IsStart row e
-at_start row k e same h = subst (IsStart row) (some_is k e same) h
+at_start row k e same h = subst (IsStart row) (same_some k e same) h
 
 side_behind : (xs ys : List PortRow) (q : ℕ) → side_from (xs ++ ys) (length xs + q) ≡ side_from ys q
 side_behind [] ys q = ap (side_from ys) (omega arith)
@@ -76,11 +75,11 @@ module _ (w : ℕ) (sizes address_widths : List ℕ) where
 
 pub row_starts : (p : PrimitiveRow) → Starts (row_of p)
 row_starts = of_row Starts (record {
-  none = λ e is. not_some e is;
-  constant = λ w v fits e is. not_some e is;
-  unary = λ operator w v all e is. not_some e is;
-  binary = λ operator w all e is. not_some e is;
-  mux = λ w all e is. not_some e is;
+  none = λ e is. no_some e is;
+  constant = λ w v fits e is. no_some e is;
+  unary = λ operator w v all e is. no_some e is;
+  binary = λ operator w all e is. no_some e is;
+  mux = λ w all e is. no_some e is;
   register = λ w all. register_starts w;
   memory = λ w sizes address_widths layout. memory_starts w sizes address_widths;
   sequential = λ w sizes address_widths layout. sequential_starts w sizes address_widths;

@@ -40,11 +40,9 @@ use Rattle.cx_promotion.proofs.Members.{group_made, not_promoted, not_promoted_k
 use Rattle.cx_promotion.proofs.Stays.{IsIdle}
 use Rattle.cx_promotion.proofs.StaticStays.{parts_static, island_stays}
 use Rattle.cx_promotion.proofs.MadeControl.{made_groups, groups_drive-made}
-use Rattle.cx_promotion.proofs.LeavesQuicken.{same_fault, SameSettled, Quicker, steady_quicker, with_settled, test_stays, enable_quicker}
+use Rattle.cx_promotion.proofs.LeavesQuicken.{same_fault, recounted, SameSettled, Quicker, steady_quicker, with_settled, test_stays, enable_quicker}
 use Rattle.cx_promotion.proofs.PiecesQuicken.{piece_quicker, promoted_quicker}
-
-no_true : {A : Type 0} → false ≡ true → A
-no_true e = absurd (cc)
+use Rattle.cx_promotion.proofs.Impossible.{no_true}
 
 comb_no_plain : (kind : GroupKind) → is_comb kind ≡ true → is_plain kind ≡ false
 comb_no_plain kinds.Plain e = no_true e
@@ -228,15 +226,10 @@ module _ (part other : PlainComponent) (cells more : Cells) (t : Twins MadeBesid
         an_arm (λ before z n a b x y k l e f one two. merges_carry s twin first a b x y one two)
         (beside first (λ v k. sub v (in_left (visit Dynamic s) (visit_all Dynamic ss) v k))) (arms_beside later (λ v k. sub v (in_right (visit Dynamic s) (visit_all Dynamic ss) v k)))
 
-  recounted : (before k l : Tally) (o x : Answer State Fault) → Carried NoLater R same_fault before k o x → Carried NoLater R same_fault before l o x
-  recounted before k l (End a n) x (w, u, is, keeps, same) = (w, u, is, keeps, same)
-  recounted before k l (answers.Fault f n) x carried = tt
-  recounted before k l More x carried = tt
-
   -- THE CONTROL of the instance
   pub node_quickens : Carries NoLater R same_fault (λ s n. none) (run_control i held) (run_control j held)
   node_quickens before s z n m room r =
-      recounted before (count L uncounted part.control s n) none (run_control i held s n) (run_control j held z m)
+      recounted (λ a b. (a ≡ b) × IsSettled i a) before (count L uncounted part.control s n) none (run_control i held s n) (run_control j held z m)
       (run_carries NoLater R same_fault L uncounted M rests (beside h.made.control (λ v k. k)) before s z n m room r)
 
 -- CONTROL, by the tree

@@ -18,22 +18,8 @@ use Rattle.cx_rules.specs.ShapeRules.{is_hole, some_target}
 use Rattle.cx_rules.specs.CallShape.{one, is_always, is_negated, is_atom, is_port_of}
 use Rattle.cx_rules.proofs.FoundLemmas.{same_is}
 use Rattle.cx_promotion.specs.Promotable.{is_named, starting_port, cycles_of, looks_at_done, is_right_enable, is_right, starts, keeps_all, length_if, of_cell, of_source, of_dones, promotable}
-
--- booleans
-pub both_true : (a b : Bool) → (a && b) ≡ true → (a ≡ true) × (b ≡ true)
-both_true true true e = (refl, refl)
-both_true true false e = absurd (cc)
-both_true false b e = absurd (cc)
-
-pub not_is : (a : Bool) → not a ≡ true → a ≡ false
-not_is true e = absurd (cc)
-not_is false e = refl
-
-no_some : {A : Type 0} {B : Type 0} (a : A) → None ≡ Some a → B
-no_some a e = absurd (cc)
-
-no_true : {A : Type 0} → false ≡ true → A
-no_true e = absurd (cc)
+use Rattle.cx_text.proofs.BoolLaws.{both_true, from_not}
+use Rattle.cx_promotion.proofs.Impossible.{no_true, no_some}
 
 -- lists
 pub all_pass : {A : Type 0} (test : A → Bool) (list : List A) (x : A) → list_all test list ≡ true → In list x → test x ≡ true
@@ -41,7 +27,7 @@ all_pass test [] x e j = absurd j
 all_pass test (y ∷ list) x e (inl same) = subst (λ z. test z ≡ true) same (both_true (test y) (list_all test list) e).0
 all_pass test (y ∷ list) x e (inr j) = all_pass test list x (both_true (test y) (list_all test list) e).1 j
 
-or_none : (a b : Bool) → (a || b) ≡ false → (a ≡ false) × (b ≡ false)
+pub or_none : (a b : Bool) → (a || b) ≡ false → (a ≡ false) × (b ≡ false)
 or_none true b e = absurd (cc)
 or_none false b e = (refl, e)
 
@@ -171,7 +157,7 @@ module _ (i : Instance) (x : PlainGroup) (c p : ℕ) (row : Row) where
           let last = both_true (same_port a.source.port one) _ inner.1 in
           let at = port_of_is c a.target inner.0 in
           of_enable at.0 is at.1 (same_is a.source.port one last.0) (open_is (ports.Cell c p) a.guard _ last.1)
-      by_enable no_hole false is h = of_other no_hole is (not_is (looks_at_done i a) h)
+      by_enable no_hole false is h = of_other no_hole is (from_not (looks_at_done i a) h)
 
       by_hole : (b : Bool) → is_hole a.target ≡ b → (if b then true else if is_primitive_enable i a.target then is_right_enable i x c p row a else not (looks_at_done i a)) ≡ true → RightAssign i c p a
       by_hole true is h = of_done is
@@ -217,7 +203,7 @@ module _ (i : Instance) (x : PlainGroup) (n : ℕ) (plain : is_plain x.kind ≡ 
         starting = begun.1;
         starts = begun.2;
         right = λ a j. right_is i x c p row a (all_pass (is_right i x c p row) x.assigns a middle.1 j);
-        quiet = λ a j. none_pass (looks_at_done i) (part_of i).always a (not_is (list_any (looks_at_done i) (part_of i).always) outer.1) j;
+        quiet = λ a j. none_pass (looks_at_done i) (part_of i).always a (from_not (list_any (looks_at_done i) (part_of i).always) outer.1) j;
       }
 
   of_length : (c p : ℕ) → done.source.port ≡ ports.Cell c p → (row : Row) → cell_at (cells_of i) c ≡ OfRow row → (b : Bool) → keeps_all i x c p row ≡ b → length_if i x c p row b ≡ Some n → Shape i x n
@@ -253,5 +239,5 @@ shape_of i x n e = by_test (is_plain x.kind && not (some_target (is_part_port i)
     by_test : (b : Bool) → (is_plain x.kind && not (some_target (is_part_port i) x.assigns)) ≡ b → (if b then of_dones i x (filter (λ a. is_hole a.target) x.assigns) else None) ≡ Some n → Shape i x n
     by_test true is h =
         let both = both_true (is_plain x.kind) (not (some_target (is_part_port i) x.assigns)) is in
-        by_dones both.0 (not_is (some_target (is_part_port i) x.assigns) both.1) (filter (λ a. is_hole a.target) x.assigns) refl h
+        by_dones both.0 (from_not (some_target (is_part_port i) x.assigns) both.1) (filter (λ a. is_hole a.target) x.assigns) refl h
     by_test false is h = no_some n h

@@ -26,9 +26,7 @@ use Rattle.cx_promotion.specs.Made.{IsPromoted}
 use Rattle.cx_promotion.proofs.Twins.{Twins, beside_each, idle-twin}
 use Rattle.cx_promotion.proofs.MadeBeside.{MadeBeside}
 use Rattle.cx_promotion.proofs.Stays.{IsIdle, seen_stays, cycle_stays}
-
-no_true : {A : Type 0} → false ≡ true → A
-no_true e = absurd (cc)
+use Rattle.cx_promotion.proofs.Impossible.{no_true}
 
 -- THE FLAT LIST and the length hang on the lengths of the groups that are enabled
 module _ (part other : PlainComponent) where
@@ -177,9 +175,6 @@ active_mine G h t (Runs g from to conditions ∷ rest) ((good, all), fine) e k =
     by true (inr j) later = later j
     by false j later = later j
 active_mine G h t (Looks port at conditions ∷ rest) (here, fine) e k = active_mine G h t rest fine e k
-
-some_none : {A : Type 0} (n : ℕ) → Some n ≡ None → A
-some_none n e = absurd (cc)
 
 -- AN ISLAND whose groups are not promoted stays
 module _ (i j : Instance) (t : Twins MadeBeside i j) (held : Held) where

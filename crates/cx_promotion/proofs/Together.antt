@@ -2,7 +2,7 @@
 use Rattle.std.specs.Prelude.{◌≡◌, ℕ, zero, suc, ◌+◌, refl}
 use Rattle.std.proofs.Common.{subst, sym, ap, arith}
 use Rattle.cx_meaning.specs.Answers.{Answer, End, Fault, More, after_turns, Turn, Ends, Goes, Faults, turn_then, turns_of}
-use Rattle.cx_promotion.proofs.Chains.{Way, InStep}
+use Rattle.cx_promotion.proofs.Chains.{Way, InStep, end_same}
 
 module _ {S F : Type 0} (rest : S → S) (old : ℕ → S → Turn S F) (new : ℕ → ℕ → S → Turn S F) (len : ℕ → ℕ) (Ready : S → Type 0) where
   -- At k s: the group has k cycles left; Near s u: u stands where s stands, but for what the group cannot tell
@@ -18,11 +18,8 @@ module _ {S F : Type 0} (rest : S → S) (old : ℕ → S → Turn S F) (new : �
     -- a cycle of the old group that goes on is one of the new group, with the same state after it
     pub cycle : (k o : ℕ) (s u a : S) → At (suc k) s → Near s u → old g s ≡ Goes a → (new g o u ≡ Goes a) × At k a
 
-  abbrev pub ended : S → ℕ → Answer S F
+  abbrev ended : S → ℕ → Answer S F
   ended s t = End s t
-
-  ended_same : (a b : S) (x y : ℕ) → ended a x ≡ ended b y → (a ≡ b) × (x ≡ y)
-  ended_same a b x y e = (cc, cc)
 
   abbrev pub Goal : ℕ → ℕ → ℕ → S → S → ℕ → Type 0
   Goal g k o u end t = (t ≡ k + 1) × (w : S) × Way rest old new len Ready g k o u w × Ready w × (rest w ≡ end)
@@ -30,7 +27,7 @@ module _ {S F : Type 0} (rest : S → S) (old : ℕ → S → Turn S F) (new : �
   -- one turn more
   one_more : (k : ℕ) (x : Answer S F) (end : S) (t : ℕ) → after_turns 1 x ≡ ended end t → (j : ℕ) × (x ≡ ended end j) × (t ≡ 1 + j)
   one_more k (End s j) end t e =
-      let both = ended_same s end (1 + j) t e in
+      let both = end_same rest old new len Ready s end (1 + j) t e in
       (j, ap (λ z. ended z j) both.0, sym both.1)
   one_more k (Fault f j) end t e = absurd (cc)
   one_more k More end t e = absurd (cc)
@@ -45,7 +42,7 @@ module _ {S F : Type 0} (rest : S → S) (old : ℕ → S → Turn S F) (new : �
     finish s end (suc n) t at e o =
         let stop = facts.stops s at in
         let ran : ended (rest s) 1 ≡ ended end t = subst (λ x. turn_then rest s x (λ after. turns_of rest (old g) after n) ≡ ended end t) stop.0 e in
-        let both = ended_same (rest s) end 1 t ran in
+        let both = end_same rest old new len Ready (rest s) end 1 t ran in
         let turns : 1 ≡ t = both.1 in
         (omega arith, s, refl, stop.1, both.0)
 
