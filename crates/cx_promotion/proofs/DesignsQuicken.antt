@@ -1,8 +1,9 @@
 -- A PROMOTED DESIGN QUICKENS: where the old run of main ends, the new one ends no later, in the same state.
-use Rattle.std.proofs.Common.{◌≡◌, ℕ, ◌≤◌, List, [], ◌∷◌, length, refl, sym, ap, ◌∙◌, subst, arith}
+use Rattle.std.proofs.Common.{◌≡◌, ℕ, ◌≤◌, List, [], ◌∷◌, length, map, refl, sym, ap, ◌∙◌, subst, arith}
 use Rattle.std.proofs.Math.Path.{fun_ext}
+use Rattle.cx_prim.specs.CellStates as cell_states
 use Rattle.cx_meaning.specs.Designs.{PlainComponent, PlainDesign, component_at}
-use Rattle.cx_meaning.specs.Instances.{Instance, part_of, tree_within, tree_of, Path, State, start_at, externals_from, externals_of, loaded_at, start}
+use Rattle.cx_meaning.specs.Instances.{Instance, part_of, tree_within, tree_of, Path, State, start_at, externals_from, externals_of, loaded_at, start, words_of}
 use Rattle.cx_meaning.specs.Sights.{unheld}
 use Rattle.cx_meaning.specs.Cycles.{Fault}
 use Rattle.cx_meaning.specs.Answers.{Answer, End}
@@ -13,6 +14,8 @@ use Rattle.cx_rules.specs.Wellformed.{IsDesign}
 use Rattle.cx_laws.proofs.StartLemmas.{design_starts_settled}
 use Rattle.cx_rewrites.specs.Tallies.{Tally, none}
 use Rattle.cx_rewrites.specs.Carrying.{NoLater, Carried}
+use Rattle.cx_rewrites.specs.Places.{SameDesign}
+use Rattle.cx_rewrites.proofs.PlaceDesigns.{run_main-same, external_rows-same}
 use Rattle.cx_promotion.specs.Made.{DesignMade, Quickens}
 use Rattle.cx_promotion.proofs.Twins.{Twins, beside_each, start_at-twin}
 use Rattle.cx_promotion.proofs.MadeBeside.{MadeBeside}
@@ -20,17 +23,17 @@ use Rattle.cx_promotion.proofs.LeavesQuicken.{same_fault, SameSettled}
 use Rattle.cx_promotion.proofs.RunsQuicken.{control_quickens}
 use Rattle.cx_promotion.proofs.Trees.{trees_are_twins}
 
+externals-twin : (i j : Instance) → Twins MadeBeside i j → externals_of (part_of i) ≡ externals_of (part_of j)
+externals-twin i j t = ap (externals_from 0) (beside_each MadeBeside i j t).made.cells
+
 -- the start is the same
 start-twin : (i j : Instance) → Twins MadeBeside i j → (words : List (List ℕ)) → start i words ≡ start j words
 start-twin i j t words = fun_ext each
   where
-    externals : externals_of (part_of i) ≡ externals_of (part_of j)
-    externals = ap (externals_from 0) (beside_each MadeBeside i j t).made.cells
-
     each : (path : Path) → start i words path ≡ start j words path
     each [] = start_at-twin MadeBeside i j t []
     each (c ∷ []) =
-        ap (λ es. loaded_at es words c (start_at i (c ∷ []))) externals ∙ ap (loaded_at (externals_of (part_of j)) words c) (start_at-twin MadeBeside i j t (c ∷ []))
+        ap (λ es. loaded_at es words c (start_at i (c ∷ []))) (externals-twin i j t) ∙ ap (loaded_at (externals_of (part_of j)) words c) (start_at-twin MadeBeside i j t (c ∷ []))
     each (c ∷ e ∷ path) = start_at-twin MadeBeside i j t (c ∷ e ∷ path)
 
 module _ (old new : PlainDesign) (design : IsDesign old) (accepted : IsAccepted old) (made : DesignMade old new) where
@@ -66,3 +69,16 @@ module _ (old new : PlainDesign) (design : IsDesign old) (accepted : IsAccepted 
   -- THE THEOREM
   pub design_quickens : Quickens old new
   design_quickens = record { rows = rows_same; runs = λ words n t s e. subst (λ tree. Ends tree words n s t) tree_is (twin_ends words n t s e) }
+
+  -- what the external memories hold is read alike
+  pub words_stay : (s : State) → words_of (tree_of new) s ≡ words_of (tree_of old) s
+  words_stay s =
+      ap (λ tree. words_of tree s) (sym tree_is)
+      ∙ ap (map (λ c. cell_states.words_of (s (c ∷ [])))) (sym (externals-twin (tree_of old) j (trees_are_twins old new design accepted made)))
+
+  -- and of a design that is the new one apart from places
+  pub again_quickens : (again : PlainDesign) → SameDesign new again → Quickens old again
+  again_quickens again same = record {
+    rows = design_quickens.rows ∙ external_rows-same new again same;
+    runs = λ words n t s e. let r = design_quickens.runs words n t s e in (r.0, sym (run_main-same new again same words n) ∙ r.1, r.2);
+  }

@@ -1,29 +1,29 @@
-pub mod Impossible
-pub mod RowPorts
-pub mod RowCounts
-pub mod RowSides
-pub mod RowReady
-pub mod Orders
-pub mod Sources
-pub mod SeenAlike
-pub mod Twins
-pub mod Chains
-pub mod MadeBeside
-pub mod Stays
-pub mod Shapes
-pub mod Steps
-pub mod Members
-pub mod Near
-pub mod GroupSeen
-pub mod RowStarts
-pub mod GroupTurn
-pub mod StaticStays
-pub mod MadeControl
-pub mod LeavesQuicken
-pub mod PiecesQuicken
-pub mod RunsQuicken
-pub mod Trees
-pub mod DesignsQuicken
-pub mod Together
-pub mod Runs
-pub mod Pieces
+mod Impossible
+mod RowPorts
+mod RowCounts
+mod RowSides
+mod RowReady
+mod Orders
+mod Sources
+mod SeenAlike
+mod Twins
+mod Chains
+mod MadeBeside
+mod Stays
+mod Shapes
+mod Steps
+mod Members
+mod Near
+mod GroupSeen
+mod RowStarts
+mod GroupTurn
+mod StaticStays
+mod MadeControl
+mod LeavesQuicken
+mod PiecesQuicken
+mod RunsQuicken
+mod Trees
+mod DesignsQuicken
+mod Together
+mod Runs
+mod Pieces
