@@ -1,8 +1,8 @@
 -- A PROMOTED DESIGN QUICKENS: where the old run of main ends, the new one ends no later, in the same state.
-use Rattle.std.proofs.Common.{◌≡◌, ℕ, ◌≤◌, List, [], ◌∷◌, length, map, refl, sym, ap, ◌∙◌, subst, arith}
+use Rattle.std.proofs.Common.{◌≡◌, ℕ, ◌≤◌, List, [], ◌∷◌, length, map, sym, ap, ◌∙◌, subst, arith}
 use Rattle.std.proofs.Math.Path.{fun_ext}
 use Rattle.cx_prim.specs.CellStates as cell_states
-use Rattle.cx_meaning.specs.Designs.{PlainComponent, PlainDesign, component_at}
+use Rattle.cx_meaning.specs.Designs.{PlainDesign, component_at}
 use Rattle.cx_meaning.specs.Instances.{Instance, part_of, tree_within, tree_of, Path, State, start_at, externals_from, externals_of, loaded_at, start, words_of}
 use Rattle.cx_meaning.specs.Sights.{unheld}
 use Rattle.cx_meaning.specs.Cycles.{Fault}
@@ -12,7 +12,7 @@ use Rattle.cx_rules.specs.Accepted.{IsAccepted}
 use Rattle.cx_rules.specs.Externals.{rows_of, external_rows}
 use Rattle.cx_rules.specs.Wellformed.{IsDesign}
 use Rattle.cx_laws.proofs.StartLemmas.{design_starts_settled}
-use Rattle.cx_rewrites.specs.Tallies.{Tally, none}
+use Rattle.cx_rewrites.specs.Tallies.{none}
 use Rattle.cx_rewrites.specs.Carrying.{NoLater, Carried}
 use Rattle.cx_rewrites.specs.Places.{SameDesign}
 use Rattle.cx_rewrites.proofs.PlaceDesigns.{run_main-same, external_rows-same}

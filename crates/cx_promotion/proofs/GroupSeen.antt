@@ -1,36 +1,31 @@
 -- WHAT A PROMOTED GROUP SEES in a cycle of the new design: all but dones as the old group sees it, and its enabling ports too.
 use Rattle.std.specs.Prelude.{◌≡◌, ◌⊎◌, ◌<◌, ℕ, zero, suc, Bool, true, false, not, List, [], ◌∷◌, Option, Some, None, length, refl}
 use Rattle.std.proofs.Common.{sym, ap, ◌∙◌, subst, inl, inr, arith}
-use Rattle.cx_bits.specs.BitVector.{BitVector}
 use Rattle.cx_prim.specs.declared.ports.PortName.TheVariants as names
 use Rattle.cx_prim.specs.declared.ports.PortRow.{PortRow}
 use Rattle.cx_prim.specs.declared.ports.Side.{Side}
 use Rattle.cx_prim.specs.declared.ports.Side.TheVariants as sides
 use Rattle.cx_prim.specs.Rows.{Inputs, Row, is_enable_side, is_output_side}
-use Rattle.cx_prim.specs.Table.{row_of}
 use Rattle.cx_prim.proofs.PortsLemmas.{is_enable_side-Enable}
-use Rattle.cx_meaning.specs.declared.kinds.GroupKind.{GroupKind}
-use Rattle.cx_meaning.specs.declared.kinds.GroupKind.TheVariants as kinds
 use Rattle.cx_meaning.specs.declared.ports.PortRef.{PortRef}
 use Rattle.cx_meaning.specs.declared.ports.PortRef.TheVariants as ports
 use Rattle.cx_meaning.specs.declared.ports.PlacedPort.{PlacedPort}
 use Rattle.cx_meaning.specs.declared.sights.Seen.{Seen}
 use Rattle.cx_meaning.specs.declared.sights.Seen.TheVariants as sights
 use Rattle.cx_meaning.specs.Rows.{side_from, side_of}
-use Rattle.cx_meaning.specs.Designs.{PlainGuard, Always, Atom, Negation, PlainAssign, PlainGroup, group_at}
+use Rattle.cx_meaning.specs.Designs.{PlainGuard, Always, PlainAssign, PlainGroup, group_at}
 use Rattle.cx_meaning.specs.Instances.{Instance, At, Nothing, OfRow, OfInstance, part_of, cells_of, cell_at, State, under}
-use Rattle.cx_meaning.specs.Active.{Active, nothing, group, entries, Acting, Owned, offset_of, same_port, source_order, acting, drivers}
+use Rattle.cx_meaning.specs.Active.{Active, nothing, group, entries, Acting, Owned, offset_of, same_port, source_order, drivers}
 use Rattle.cx_meaning.specs.Truths.{One, truth_of, not_truth}
-use Rattle.cx_meaning.specs.Sights.{In, Look, Below, Held, unheld, Sees, bit_of, of_option, guard_truth, target_seen, step, side_step, cell_step, seen, outputs_below}
-use Rattle.cx_meaning.specs.Islands.{kind_length}
+use Rattle.cx_meaning.specs.Sights.{In, Look, Held, unheld, Sees, bit_of, of_option, guard_truth, target_seen, side_step, cell_step, seen, outputs_below}
 use Rattle.cx_meaning.specs.Cycles.{enables}
 use Rattle.cx_meaning.proofs.ActiveLemmas.{only_self, acting_has}
 use Rattle.cx_meaning.proofs.DesignsLemmas.{group_there}
 use Rattle.cx_meaning.proofs.InstancesLemmas.{literal_is}
 use Rattle.cx_meaning.proofs.PortsLemmas.{same_self}
-use Rattle.cx_rules.specs.Circles.{IsAcyclic, AcyclicBelow}
+use Rattle.cx_rules.specs.Circles.{IsAcyclic}
 use Rattle.cx_rules.specs.Footprints.{AssignNames, Mentions, Leads}
-use Rattle.cx_rules.specs.Items.{is_plain, sources_of, ranges_of}
+use Rattle.cx_rules.specs.Items.{sources_of, ranges_of}
 use Rattle.cx_rules.specs.Ports.{is_primitive_enable, enables_cell, is_cell_output, is_target_only}
 use Rattle.cx_rules.specs.ShapeRules.{is_hole, owner_length}
 use Rattle.cx_rules.specs.CallShape.{one}
@@ -42,8 +37,7 @@ use Rattle.cx_rewrites.proofs.ClosedLemmas.{is_closed}
 use Rattle.cx_promotion.specs.Promotable.{is_named, is_done_at, is_done, looks_at_done, promoted_assigns}
 use Rattle.cx_promotion.specs.Made.{IsPromoted}
 use Rattle.cx_promotion.proofs.RowSides.{IsPlainPort, LooksAtPlain, row_sides}
-use Rattle.cx_promotion.proofs.RowReady.{IsOutput}
-use Rattle.cx_promotion.proofs.Orders.{Both, SameActing, acting_same, From, acting_from, CameFrom, came_from, WentTo, went_to}
+use Rattle.cx_promotion.proofs.Orders.{Both, acting_same, From, acting_from, CameFrom, came_from, went_to}
 use Rattle.cx_promotion.proofs.Sources.{target_same, IsFrom, target_from, target_some}
 use Rattle.cx_promotion.proofs.SeenAlike.{IsAlike, seen_inside}
 use Rattle.cx_promotion.proofs.Twins.{Twins, beside_each, twin_cells, TwinAt, none_there, a_row_there, a_child_there, twins_at}
@@ -203,8 +197,7 @@ module _ (i j : Instance) (t : Twins MadeBeside i j) (held : Held) (g o : ℕ) (
   mentions_back p q (a, inside, names) =
       let f = acting_from more p ps a inside in
       let m = origin f.owned f.stands in
-      let k = active_old m.owned.owner a.offset (ap (offset_of more) m.owner ∙ f.active) in
-      (
+      let k = active_old m.owned.owner a.offset (ap (offset_of more) m.owner ∙ f.active) in (
         record { offset = k.0; assign = m.owned.assign },
         acting_has act p os m.owned k.0 m.stands (ap (λ r. same_port r p) (m.target ∙ f.target) ∙ same_self p) k.1,
         m.names q (subst (λ (b : PlainAssign). AssignNames b q) f.same names),
@@ -300,8 +293,7 @@ module _ (i j : Instance) (t : Twins MadeBeside i j) (held : Held) (g o : ℕ) (
       old_from : (a : Acting) → In (drivers (part_of i) act the_port) a → IsFrom (seen i held act s) one a
       old_from a inside =
           let f = acting_from act the_port os a inside in
-          let d = (old_drives f.owned a.offset f.stands f.active f.target).0 in
-          (
+          let d = (old_drives f.owned a.offset f.stands f.active f.target).0 in (
             ap (λ (b : PlainAssign). guard_truth (seen i held act s) a.offset b.guard) f.same ∙ open_taken a.offset f.owned.assign.guard d.guard,
             ap (λ (b : PlainAssign). b.source.port) f.same ∙ d.source,
           )

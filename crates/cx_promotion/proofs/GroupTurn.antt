@@ -1,17 +1,14 @@
 -- A PROMOTED GROUP GOES IN STEP: a cycle of the old group that goes on is one of the new one, with the same state after it, and the cell's
 -- done ends both.
-use Rattle.std.specs.Prelude.{◌≡◌, ◌⊎◌, ◌<◌, ◌≤◌, ℕ, zero, suc, ◌==◌, Bool, true, false, List, [], ◌∷◌, Option, Some, None, Result, Ok, Err, length, eqb, refl}
+use Rattle.std.specs.Prelude.{◌≡◌, ◌⊎◌, ◌<◌, ◌≤◌, ℕ, zero, suc, ◌==◌, Bool, true, false, [], ◌∷◌, Option, Some, None, Result, Ok, length, eqb, refl}
 use Rattle.std.proofs.Common.{sym, ap, ◌∙◌, subst, inl, inr, arith}
 use Rattle.std.proofs.Math.Path.{fun_ext}
 use Rattle.std.proofs.lemmas.Bool.{eqb-true, eqb-false}
 use Rattle.cx_bits.specs.BitVector.{BitVector}
 use Rattle.cx_bits.specs.Operators as operators
 use Rattle.cx_prim.specs.CellStates.{CellState}
-use Rattle.cx_prim.specs.Rows.{Inputs, input, number_of, is_on, Row, edge, edge_of, is_enable_side}
-use Rattle.cx_prim.proofs.PortsLemmas.{is_enable_side-Enable}
-use Rattle.cx_meaning.specs.declared.ports.PortRef.{PortRef}
+use Rattle.cx_prim.specs.Rows.{number_of, is_on, Row, edge_of, is_enable_side}
 use Rattle.cx_meaning.specs.declared.ports.PortRef.TheVariants as ports
-use Rattle.cx_meaning.specs.declared.sights.Seen.{Seen}
 use Rattle.cx_meaning.specs.declared.sights.Seen.TheVariants as sights
 use Rattle.cx_meaning.specs.declared.sights.FaultKind.TheVariants as faults
 use Rattle.cx_meaning.specs.Rows.{side_of}
@@ -21,7 +18,7 @@ use Rattle.cx_meaning.specs.Active.{Active, group, entries}
 use Rattle.cx_meaning.specs.Truths.{Truth, One, Zero, truth_of}
 use Rattle.cx_meaning.specs.Truths as truths
 use Rattle.cx_meaning.specs.Sights.{Look, Held, bit_of, of_option, seen}
-use Rattle.cx_meaning.specs.Cycles.{Fault, fault_at, Outcome, Next, Stops, cell_outcome, outcome_at, outcome_of, first_fault, stepped, state_after, Ended, Goes, Faults, unless_fault, ended, every_cell, cycle}
+use Rattle.cx_meaning.specs.Cycles.{Fault, fault_at, Outcome, Next, cell_outcome, outcome_at, outcome_of, first_fault, stepped, state_after, Ended, Goes, Faults, unless_fault, ended, every_cell, cycle}
 use Rattle.cx_meaning.specs.Answers.{Turn, turn_then, turns_of}
 use Rattle.cx_meaning.specs.Answers as answers
 use Rattle.cx_meaning.specs.Islands.{turn_of}
@@ -30,7 +27,6 @@ use Rattle.cx_meaning.proofs.CycleLemmas.{goes_to, each_steps, row_within}
 use Rattle.cx_meaning.proofs.CyclesLemmas.{turn_goes}
 use Rattle.cx_meaning.proofs.InstancesLemmas.{row_is, top_idle, nothing_row, instance_row}
 use Rattle.cx_meaning.proofs.RunningLemmas.{idle_settles}
-use Rattle.cx_meaning.proofs.SightsLaws.{option_is}
 use Rattle.cx_frames.proofs.CycleLemmas.{idle_at-row}
 use Rattle.cx_frames.proofs.QuietLemmas.{quiet_outcome}
 use Rattle.cx_promotion.specs.Made.{IsPromoted}
@@ -44,7 +40,7 @@ use Rattle.cx_promotion.proofs.Steps.{Stepped, stepped_by, outcome_alike}
 use Rattle.cx_promotion.proofs.Near.{AreReady, Near, near_itself, idle_of_other, ready_near}
 use Rattle.cx_promotion.proofs.GroupSeen.{shape, row_looks, hole_seen, done_seen, none_seen, enables_alike, foreign_zero, started, plain_seen}
 use Rattle.cx_promotion.proofs.Chains.{InStep}
-use Rattle.cx_promotion.proofs.Together.{TurnFacts, in_step}
+use Rattle.cx_promotion.proofs.Together.{in_step}
 use Rattle.cx_promotion.proofs.Runs.{entry, one_cycle}
 
 next_is : (a b : CellState) → Next a ≡ Next b → a ≡ b
@@ -233,7 +229,7 @@ module _ (i j : Instance) (t : Twins MadeBeside i j) (held : Held) (g : ℕ) (pr
       row_rests c row is other =
           let lawful = h.kept.lawful c row is in
           let idles : cell_outcome (look s) c row (s (c ∷ [])) ≡ Next (row.idle (s (c ∷ []))) =
-              quiet_outcome row lawful (look s) c (s (c ∷ [])) (λ p side. foreign_zero i j t held g 0 promoted c p row is (ap is_enable_side side) s other) in
+          quiet_outcome row lawful (look s) c (s (c ∷ [])) (λ p side. foreign_zero i j t held g 0 promoted c p row is (ap is_enable_side side) s other) in
           let rested : after (c ∷ []) ≡ row.idle (s (c ∷ [])) = next_is (after (c ∷ [])) (row.idle (s (c ∷ []))) (sym (row_steps c row is) ∙ idles) in
           idle_at-row i c row (after (c ∷ [])) is ∙ ap row.idle rested ∙ lawful.idle_once (s (c ∷ [])) ∙ sym rested
 

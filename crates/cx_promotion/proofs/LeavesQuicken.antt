@@ -1,40 +1,36 @@
 -- THE LEAVES OF CONTROL from a settled state: where the old one ends, the new one ends no later in the same state.
-use Rattle.std.proofs.Common.{◌≡◌, ℕ, zero, suc, ◌+◌, ◌-◌, ◌≤◌, ◌⊎◌, inl, inr, Bool, true, false, List, [], ◌∷◌, ◌++◌, length, Option, Some, None, refl, sym, ap, ◌∙◌, subst, arith, ◌<◌}
+use Rattle.std.proofs.Common.{◌≡◌, ℕ, zero, suc, ◌≤◌, inl, inr, Bool, true, false, List, [], ◌∷◌, length, Option, Some, None, refl, sym, ap, ◌∙◌, subst, arith, ◌<◌}
 use Rattle.std.specs.Prelude.{nat_eq, ◌||◌, if◌then◌else◌}
 use Rattle.std.proofs.Math.Path.{fun_ext}
 use Rattle.std.proofs.lemmas.Bool.{eqb-true}
 use Rattle.cx_text.specs.declared.places.Place.{Place}
 use Rattle.cx_prim.specs.CellStates.{CellState}
-use Rattle.cx_meaning.specs.declared.kinds.GroupKind.{GroupKind}
-use Rattle.cx_meaning.specs.declared.kinds.GroupKind.TheVariants as kinds
 use Rattle.cx_meaning.specs.declared.ports.PortRef.{PortRef}
 use Rattle.cx_meaning.specs.declared.ports.PortRef.TheVariants as ports
-use Rattle.cx_meaning.specs.Designs.{PlainAssign, PlainGroup, PlainComponent, group_at, no_place, PlainForm, Enable, Seq, StaticSeq, PlainStatement, Placed, PlainStatements, no_statements, a_statement}
-use Rattle.cx_meaning.specs.Instances.{Instance, Node, Cells, no_cells, a_primitive, an_instance, At, Nothing, OfRow, OfInstance, part_of, cells_of, cell_at, Path, State, under, put, just, merge, idle, idle_at, idle_below, IsSettled}
-use Rattle.cx_meaning.specs.Active.{Active, nothing, group, comb, capture, only_at, offset_of, source_order}
+use Rattle.cx_meaning.specs.Designs.{PlainAssign, PlainGroup, group_at, Enable}
+use Rattle.cx_meaning.specs.Instances.{Instance, Node, Cells, no_cells, a_primitive, an_instance, At, Nothing, OfRow, OfInstance, part_of, cells_of, cell_at, Path, State, under, put, idle, idle_at, idle_below, IsSettled}
+use Rattle.cx_meaning.specs.Active.{group, comb, capture, offset_of, source_order}
 use Rattle.cx_meaning.specs.Truths.{truth_of}
-use Rattle.cx_meaning.specs.Sights.{In, Look, Held, seen}
+use Rattle.cx_meaning.specs.Sights.{In, Held, seen}
 use Rattle.cx_meaning.specs.Cycles.{Fault, Ended, cycle}
 use Rattle.cx_meaning.specs.Answers.{Answer, End, More, Meaning, Test, Holds, Fails, Unclear, idle_turn, one_turn, turns_of, then_do}
 use Rattle.cx_meaning.specs.Answers as answers
 use Rattle.cx_meaning.specs.Budgets.{Grows, IsSteady, Leaves}
 use Rattle.cx_meaning.specs.Islands.{kind_length, group_length, island, turn_of}
 use Rattle.cx_meaning.specs.Calls.{hole_turn, group_turn, test_of, test, if_instance, called_by, called_in, called, enables_at, enables_primitive, captures_in, captures, lift_answer, inputs_of_call, after_child, call, enable}
-use Rattle.cx_meaning.specs.Running.{Children, control_below}
+use Rattle.cx_meaning.specs.Running.{Children}
 use Rattle.cx_meaning.proofs.AnswersLemmas.{steady_idle, steady_turn, steady_turns}
 use Rattle.cx_meaning.proofs.RunningLemmas.{steady_island}
 use Rattle.cx_rules.specs.Circles.{IsAcyclic}
 use Rattle.cx_rules.specs.Footprints.{Mentions}
 use Rattle.cx_rules.proofs.FrameLemmas.{acting_alike}
-use Rattle.cx_rules.specs.Items.{Dynamic, Visited, statements_in}
-use Rattle.cx_rules.specs.Ports.{is_part_port}
-use Rattle.cx_rules.specs.ShapeRules.{some_target}
+use Rattle.cx_rules.specs.Items.{Dynamic, statements_in}
 use Rattle.cx_rewrites.specs.Tallies.{Tally, none, plus, Counted, then_count}
-use Rattle.cx_rewrites.specs.Carrying.{NoLater, Same, TestCarried, Carried, Carries}
+use Rattle.cx_rewrites.specs.Carrying.{NoLater, Same, Carried, Carries}
 use Rattle.cx_rewrites.proofs.CarryLemmas.{then_carried}
 use Rattle.cx_rewrites.proofs.TurnLemmas.{enable-turns, enable-call, enable-island}
 use Rattle.cx_promotion.specs.Made.{IsPromoted}
-use Rattle.cx_promotion.proofs.Twins.{Twins, TwinCells, beside_each, twin_cells, TwinAt, none_there, a_row_there, a_child_there, twins_at, idle-twin}
+use Rattle.cx_promotion.proofs.Twins.{Twins, beside_each, twin_cells, TwinAt, none_there, a_row_there, a_child_there, twins_at, idle-twin}
 use Rattle.cx_promotion.proofs.MadeBeside.{MadeBeside}
 use Rattle.cx_promotion.proofs.Members.{not_promoted}
 use Rattle.cx_promotion.proofs.SeenAlike.{SameCell}

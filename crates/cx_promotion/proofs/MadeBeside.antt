@@ -1,5 +1,5 @@
 -- AN INSTANCE OF THE OLD DESIGN AND THE ONE OF THE NEW DESIGN at its place: how the new component was made, and what the rules keep in the old one.
-use Rattle.std.specs.Prelude.{◌≡◌, ◌<◌, ℕ, true, List, [], Option, None, length}
+use Rattle.std.specs.Prelude.{◌≡◌, ◌<◌, ℕ, true, [], None, length}
 use Rattle.cx_prim.specs.Rows.{Row}
 use Rattle.cx_prim.specs.Table.{PrimitiveRow, row_of}
 use Rattle.cx_meaning.specs.declared.ports.PlacedPort.{PlacedPort}

@@ -1,17 +1,16 @@
 -- MADE CONTROL enables the same groups, which drive the same cells.
-use Rattle.std.proofs.Common.{◌≡◌, ℕ, zero, suc, ◌⊎◌, ⊎_elim, Bool, true, false, ◌||◌, List, [], ◌∷◌, ◌++◌, Option, Some, None, refl, sym, ap, ◌∙◌, subst, append_assoc}
+use Rattle.std.proofs.Common.{◌≡◌, ℕ, ⊎_elim, Bool, true, false, ◌||◌, List, [], ◌∷◌, ◌++◌, refl, sym, ap, ◌∙◌, append_assoc}
 use Rattle.std.specs.Prelude.{if◌then◌else◌}
-use Rattle.std.proofs.Math.Path.{fun_ext}
 use Rattle.cx_meaning.specs.declared.ports.PortRef.{PortRef}
 use Rattle.cx_meaning.specs.declared.ports.PortRef.TheVariants as ports
-use Rattle.cx_meaning.specs.Designs.{Always, PlainAssign, PlainGroup, PlainComponent, group_at, PlainForm, Empty, Enable, Seq, Par, If, While, Repeat, StaticSeq, PlainStatement, Placed, PlainStatements, no_statements, a_statement}
-use Rattle.cx_meaning.specs.Instances.{Instance, Set}
+use Rattle.cx_meaning.specs.Designs.{Always, PlainAssign, PlainGroup, PlainComponent, group_at, PlainForm, PlainStatement, PlainStatements, no_statements, a_statement}
+use Rattle.cx_meaning.specs.Instances.{Instance}
 use Rattle.cx_meaning.specs.Control.{with_comb, groups_in, groups_of, groups_in_all, targets_cell, assigns_drive, group_drives, groups_drive}
 use Rattle.cx_rules.specs.ShapeRules.{is_hole}
 use Rattle.cx_rules.specs.Ports.{is_primitive_enable}
 use Rattle.cx_rewrites.specs.Beside.{joined}
-use Rattle.cx_promotion.specs.Promotable.{bare_enable, promoted_assigns, promoted_group}
-use Rattle.cx_promotion.specs.Made.{IsRun, no_more, one_more, FormMade, empty, enable, seq, collapsed, par, if_made, while_made, repeat_made, static, StatementMade, placed, PartsMade, no_parts, a_part, a_run, ArmsMade, no_arms, an_arm, IsPromoted, PartMade}
+use Rattle.cx_promotion.specs.Promotable.{bare_enable, promoted_assigns}
+use Rattle.cx_promotion.specs.Made.{FormMade, empty, enable, seq, collapsed, par, if_made, while_made, repeat_made, static, StatementMade, placed, PartsMade, no_parts, a_part, a_run, ArmsMade, no_arms, an_arm, PartMade}
 use Rattle.cx_promotion.proofs.Members.{group_made}
 
 append_none : (gs : List ℕ) → gs ++ [] ≡ gs

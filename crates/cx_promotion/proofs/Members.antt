@@ -1,13 +1,12 @@
 -- ASSIGNMENTS IN SOURCE ORDER, and the groups that they stand in; and the groups of the new design.
-use Rattle.std.proofs.Common.{◌≡◌, ℕ, zero, suc, ◌+◌, ◌⊎◌, ◌<◌, inl, inr, Bool, true, false, List, [], ◌∷◌, ◌++◌, length, Option, Some, None, refl, sym, ap, ◌∙◌, subst, arith, get_or}
+use Rattle.std.proofs.Common.{◌≡◌, ℕ, zero, suc, ◌+◌, ◌⊎◌, inl, inr, Bool, true, false, List, [], ◌∷◌, ◌++◌, Option, Some, None, refl, sym, ap, ◌∙◌, subst, arith, get_or}
 use Rattle.std.specs.Prelude.{nat_eq, if◌then◌else◌}
 use Rattle.std.proofs.lemmas.Bool.{eqb-true}
-use Rattle.cx_meaning.specs.declared.ports.PortRef.{PortRef}
 use Rattle.cx_meaning.specs.declared.kinds.GroupKind.{GroupKind}
 use Rattle.cx_meaning.specs.declared.kinds.GroupKind.TheVariants as kinds
 use Rattle.cx_meaning.specs.Designs.{Always, PlainAssign, PlainGroup, PlainComponent, group_at, no_group}
 use Rattle.cx_meaning.specs.Instances.{Instance}
-use Rattle.cx_meaning.specs.Active.{Active, group, Entry, entries, offset_of, only_at, offset_in, Owned, owned, owned_by_groups, placed_in, by_place, source_order}
+use Rattle.cx_meaning.specs.Active.{group, entries, offset_of, Owned, owned, owned_by_groups, placed_in, by_place, source_order}
 use Rattle.cx_meaning.specs.Sights.{In}
 use Rattle.cx_meaning.specs.Islands.{kind_length}
 use Rattle.cx_meaning.proofs.ActiveLemmas.{placed_still, placed_first}
@@ -17,9 +16,9 @@ use Rattle.cx_rules.specs.Items.{is_plain}
 use Rattle.cx_rules.specs.Ports.{is_primitive_enable}
 use Rattle.cx_rules.specs.ShapeRules.{is_hole}
 use Rattle.cx_promotion.specs.Promotable.{promotable, bare_enable, promoted_assigns, promoted_group}
-use Rattle.cx_promotion.specs.Made.{GroupMade, GroupsMade, no_groups, a_group, IsPromoted}
+use Rattle.cx_promotion.specs.Made.{GroupsMade, no_groups, a_group, IsPromoted}
 use Rattle.cx_promotion.proofs.Orders.{Both}
-use Rattle.cx_promotion.proofs.Shapes.{Shape, shape_of}
+use Rattle.cx_promotion.proofs.Shapes.{shape_of}
 use Rattle.cx_promotion.proofs.Runs.{entry}
 use Rattle.cx_promotion.proofs.Impossible.{no_true, no_some}
 

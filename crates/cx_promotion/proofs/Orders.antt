@@ -2,11 +2,11 @@
 use Rattle.std.specs.Prelude.{◌≡◌, ℕ, Bool, true, false, List, [], ◌∷◌, Option, Some, None, refl}
 use Rattle.std.proofs.Common.{subst, sym, ap, ◌∙◌, inl, inr}
 use Rattle.cx_meaning.specs.declared.ports.PortRef.{PortRef}
-use Rattle.cx_meaning.specs.Designs.{Always, PlainAssign}
+use Rattle.cx_meaning.specs.Designs.{PlainAssign}
 use Rattle.cx_meaning.specs.Instances.{Instance}
 use Rattle.cx_meaning.specs.Active.{Active, Acting, Owned, offset_of, if_acting, if_target, acting, same_port}
 use Rattle.cx_meaning.specs.Sights.{In}
-use Rattle.cx_rules.specs.Items.{Range, ranges_of}
+use Rattle.cx_rules.specs.Items.{ranges_of}
 use Rattle.cx_rules.specs.Footprints.{AssignNames}
 use Rattle.cx_rules.specs.Ports.{is_primitive_enable}
 use Rattle.cx_rules.specs.ShapeRules.{is_hole}

@@ -1,37 +1,31 @@
 -- A PIECE QUICKENS: enables of promoted groups, one after another, and the static seq of them.
-use Rattle.std.proofs.Common.{◌≡◌, ℕ, zero, suc, ◌+◌, ◌-◌, ◌≤◌, Bool, true, false, ◌||◌, List, [], ◌∷◌, ◌++◌, length, Option, Some, None, refl, sym, ap, ◌∙◌, subst, arith}
+use Rattle.std.proofs.Common.{◌≡◌, ℕ, ◌+◌, ◌≤◌, false, List, [], ◌∷◌, ◌++◌, length, Option, Some, None, refl, sym, ap, ◌∙◌, subst, arith}
 use Rattle.std.proofs.Math.Path.{fun_ext}
 use Rattle.cx_text.specs.declared.places.Place.{Place}
-use Rattle.cx_prim.specs.CellStates.{CellState}
-use Rattle.cx_prim.specs.Rows.{Row}
-use Rattle.cx_meaning.specs.declared.kinds.GroupKind.{GroupKind}
-use Rattle.cx_meaning.specs.declared.kinds.GroupKind.TheVariants as kinds
 use Rattle.cx_meaning.specs.declared.ports.PortRef.{PortRef}
 use Rattle.cx_meaning.specs.declared.ports.PortRef.TheVariants as ports
-use Rattle.cx_meaning.specs.Designs.{PlainAssign, PlainGroup, PlainComponent, group_at, no_place, PlainForm, Enable, Seq, StaticSeq, PlainStatement, Placed, PlainStatements, no_statements, a_statement}
-use Rattle.cx_meaning.specs.Instances.{Instance, Node, Cells, At, Nothing, OfRow, OfInstance, part_of, cells_of, cell_at, Path, State, idle, IsSettled}
-use Rattle.cx_meaning.specs.Sights.{In, Held}
+use Rattle.cx_meaning.specs.Designs.{PlainAssign, PlainGroup, PlainComponent, group_at, no_place, Enable, Seq, StaticSeq, PlainStatement, Placed, PlainStatements, no_statements, a_statement}
+use Rattle.cx_meaning.specs.Instances.{Instance, Node, Cells, At, Nothing, OfRow, OfInstance, part_of, cells_of, cell_at, State, idle, IsSettled}
+use Rattle.cx_meaning.specs.Sights.{Held}
 use Rattle.cx_meaning.specs.Cycles.{Fault}
 use Rattle.cx_meaning.specs.Answers.{Answer, End, More, Meaning, Turn, turns_of, then_do, stay}
 use Rattle.cx_meaning.specs.Answers as answers
-use Rattle.cx_meaning.specs.Budgets.{Grows, IsSteady}
 use Rattle.cx_meaning.specs.Control.{Leaves, groups_in_all, run_parts}
 use Rattle.cx_meaning.specs.Islands.{kind_length, group_length, or_zero, occurrence, island_from, no_history, island}
-use Rattle.cx_meaning.specs.Calls.{group_turn, called_by, called_in, called, if_instance, enable}
+use Rattle.cx_meaning.specs.Calls.{group_turn, called_by, called_in, if_instance, enable}
 use Rattle.cx_meaning.specs.Running.{Children, leaves, control_below}
 use Rattle.cx_meaning.proofs.RunningLemmas.{steady_island, steady_statement}
-use Rattle.cx_rules.specs.Items.{is_plain}
 use Rattle.cx_rules.specs.Ports.{is_instance, is_part_port}
 use Rattle.cx_rules.specs.ShapeRules.{some_target}
 use Rattle.cx_frames.proofs.CycleLemmas.{idle_at-row}
-use Rattle.cx_rewrites.specs.Tallies.{Tally, none, Counted}
+use Rattle.cx_rewrites.specs.Tallies.{none, Counted}
 use Rattle.cx_rewrites.specs.Carrying.{NoLater, Same, Carried}
 use Rattle.cx_rewrites.proofs.TurnLemmas.{enable-turns, enable-island}
 use Rattle.cx_promotion.specs.Made.{IsPromoted, IsRun, no_more, one_more}
 use Rattle.cx_promotion.proofs.RowReady.{SettledIsReady, row_settled}
 use Rattle.cx_promotion.proofs.Twins.{Twins, beside_each, idle-twin}
 use Rattle.cx_promotion.proofs.MadeBeside.{KindAt, no_cell, a_row, a_part, MadeBeside}
-use Rattle.cx_promotion.proofs.Shapes.{or_none, Shape, shape_of}
+use Rattle.cx_promotion.proofs.Shapes.{or_none, shape_of}
 use Rattle.cx_promotion.proofs.Near.{AreReady}
 use Rattle.cx_promotion.proofs.Chains.{total, chain, one_by_one, AllInStep, chain_ends}
 use Rattle.cx_promotion.proofs.Runs.{one_cycle}

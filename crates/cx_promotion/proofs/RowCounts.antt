@@ -5,7 +5,7 @@ use Rattle.std.proofs.lemmas.Bool.{eqb-true}
 use Rattle.std.proofs.lemmas.Bool.Decides.{nat_tests}
 use Rattle.cx_bits.specs.Operators.{bit_of}
 use Rattle.cx_prim.specs.declared.ports.PortName.TheVariants as names
-use Rattle.cx_prim.specs.CellStates.{CellState, Stateless, Register, Memory, SequentialMemory, Multiplier, Divider, Timer, PipeRun, StateShape, NoState, RegisterOf, MemoryOf, SequentialMemoryOf, MultiplierOf, DividerOf, TimerOf}
+use Rattle.cx_prim.specs.CellStates.{CellState, Register, Memory, SequentialMemory, Multiplier, Divider, Timer, PipeRun, StateShape, RegisterOf, MemoryOf, SequentialMemoryOf, MultiplierOf, DividerOf, TimerOf}
 use Rattle.cx_prim.specs.Rows.{Inputs, value_at, is_on, Row}
 use Rattle.cx_prim.specs.declared.ports.PortRow.{PortRow}
 use Rattle.cx_prim.specs.CombinationalRows.{enable_port, plain_port, output_port, registered_port}
@@ -14,7 +14,7 @@ use Rattle.cx_prim.specs.RegisterRow.{register_row}
 use Rattle.cx_prim.specs.MemoryRows.{IsLayout, address_ports, memory_row, sequential_memory_row}
 use Rattle.cx_prim.specs.PipeRows.{multiplier_row, divider_row, holding, is_last, advanced, stopped}
 use Rattle.cx_prim.specs.Table.{PrimitiveRow, row_of}
-use Rattle.cx_prim.proofs.TableCases.{OfEachKind, of_row}
+use Rattle.cx_prim.proofs.TableCases.{of_row}
 use Rattle.cx_promotion.specs.Promotable.{is_named, first_named, or_else, starting_port, cycles_of}
 use Rattle.cx_promotion.proofs.RowPorts.{first_behind, spot_of, Spot, before, behind, address_count, no_done, no_content, no_write, addresses}
 use Rattle.cx_text.proofs.BoolLaws.{not_both}
@@ -312,8 +312,8 @@ module _ (w : ℕ) (sizes address_widths : List ℕ) (layout : IsLayout w sizes 
       let no : first_named names.ContentEn (xs ++ tail) 0 ≡ None = first_behind names.ContentEn addresses address_widths tail 0 no_content in
       let yes : first_named names.WriteEn (xs ++ tail) 0 ≡ Some (suc (0 + length xs)) = first_behind names.WriteEn addresses address_widths tail 0 no_write in
       let is : starting_port (memory_row w sizes address_widths) ≡ Some (suc (0 + length xs)) =
-          ap (λ (o : Option ℕ). or_else o (or_else (first_named names.WriteEn (xs ++ tail) 0) (first_named names.Go (xs ++ tail) 0))) no
-          ∙ ap (λ (o : Option ℕ). or_else o (first_named names.Go (xs ++ tail) 0)) yes in
+      ap (λ (o : Option ℕ). or_else o (or_else (first_named names.WriteEn (xs ++ tail) 0) (first_named names.Go (xs ++ tail) 0))) no
+      ∙ ap (λ (o : Option ℕ). or_else o (first_named names.Go (xs ++ tail) 0)) yes in
       let same : suc (0 + length xs) ≡ e = same_some (suc (0 + length xs)) e (sym is ∙ start) in
       omega (arith, count)
 
@@ -337,7 +337,7 @@ module _ (w : ℕ) (sizes address_widths : List ℕ) (layout : IsLayout w sizes 
   sequential_start e start =
       let yes : first_named names.ContentEn (xs ++ end) 0 ≡ Some (0 + length xs) = first_behind names.ContentEn addresses address_widths end 0 no_content in
       let is : starting_port (sequential_memory_row w sizes address_widths) ≡ Some (0 + length xs) =
-          ap (λ (o : Option ℕ). or_else o (or_else (first_named names.WriteEn (xs ++ end) 0) (first_named names.Go (xs ++ end) 0))) yes in
+      ap (λ (o : Option ℕ). or_else o (or_else (first_named names.WriteEn (xs ++ end) 0) (first_named names.Go (xs ++ end) 0))) yes in
       let same : 0 + length xs ≡ e = same_some (0 + length xs) e (sym is ∙ start) in
       omega (arith, count)
 

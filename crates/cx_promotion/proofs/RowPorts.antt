@@ -1,10 +1,9 @@
 -- PORTS OF ROWS, by their names: those of memories stand behind their address ports.
-use Rattle.std.specs.Prelude.{◌≡◌, ◌≤◌, ◌<◌, ℕ, zero, suc, ◌+◌, Bool, true, false, List, [], ◌∷◌, ◌++◌, Option, Some, None, length, slice_get, if◌then◌else◌, refl}
-use Rattle.std.proofs.Common.{sym, ap, ◌∙◌, subst, arith}
+use Rattle.std.specs.Prelude.{◌≡◌, ◌≤◌, ◌<◌, ℕ, zero, suc, ◌+◌, Bool, true, false, List, [], ◌∷◌, ◌++◌, Some, length, slice_get, if◌then◌else◌, refl}
+use Rattle.std.proofs.Common.{ap, ◌∙◌, arith}
 use Rattle.cx_prim.specs.declared.ports.PortName.{PortName}
 use Rattle.cx_prim.specs.declared.ports.PortName.TheVariants as names
 use Rattle.cx_prim.specs.declared.ports.PortRow.{PortRow}
-use Rattle.cx_prim.specs.declared.ports.Side.{Side}
 use Rattle.cx_prim.specs.declared.ports.Side.TheVariants as sides
 use Rattle.cx_prim.specs.MemoryRows.{IsLayout, ports_named, address_ports}
 use Rattle.cx_prim.proofs.MemoryLaws.{length-ports_named}

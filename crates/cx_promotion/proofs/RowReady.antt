@@ -12,10 +12,10 @@ use Rattle.cx_prim.specs.Rows.{Inputs, is_on, Row, is_output_side}
 use Rattle.cx_prim.specs.CombinationalRows.{enable_port, plain_port, output_port, registered_port}
 use Rattle.cx_prim.specs.RegisterRow.{register_row}
 use Rattle.cx_prim.specs.MemoryRows.{IsLayout, address_ports, memory_read, memory_row, sequential_memory_row}
-use Rattle.cx_prim.specs.PipeRows.{multiplier_row, divider_row, timer_row, multiplied, divided, holding, advanced, stopped, is_last}
+use Rattle.cx_prim.specs.PipeRows.{multiplier_row, divider_row, timer_row, multiplied, divided, holding, stopped}
 use Rattle.cx_prim.specs.Table.{PrimitiveRow, row_of}
-use Rattle.cx_prim.proofs.TableCases.{OfEachKind, of_row}
-use Rattle.cx_meaning.specs.Rows.{side_from, side_of}
+use Rattle.cx_prim.proofs.TableCases.{of_row}
+use Rattle.cx_meaning.specs.Rows.{side_of}
 use Rattle.cx_promotion.specs.Promotable.{is_named}
 use Rattle.cx_promotion.proofs.RowPorts.{spot_of, Spot, before, behind, address_count, no_done, addresses}
 use Rattle.cx_promotion.proofs.RowCounts.{IsReady}

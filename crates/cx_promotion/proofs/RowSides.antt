@@ -1,12 +1,12 @@
 -- THE PORTS THAT A ROW LOOKS AT: its done is registered; what it reads and demands is plain.
 use Rattle.std.specs.Prelude.{◌≡◌, ◌⊎◌, ◌<◌, ◌≤◌, ℕ, zero, suc, ◌+◌, ◌==◌, ◌&&◌, ◌||◌, nat_lt, nat_le, Bool, true, false, List, [], ◌∷◌, ◌++◌, length, if◌then◌else◌, refl}
-use Rattle.std.proofs.Common.{sym, ap, ◌∙◌, inl, inr, arith}
+use Rattle.std.proofs.Common.{sym, ◌∙◌, inl, inr, arith}
 use Rattle.std.proofs.lemmas.Bool.{eqb-true, ltb-true, leb-true}
 use Rattle.cx_text.proofs.BoolLaws.{and_left, and_right, not_both}
 use Rattle.cx_prim.specs.declared.ports.PortName.TheVariants as names
 use Rattle.cx_prim.specs.declared.ports.PortRow.{PortRow}
 use Rattle.cx_prim.specs.declared.ports.Side.TheVariants as sides
-use Rattle.cx_prim.specs.CellStates.{CellState, Multiplier, Divider, PipeRun}
+use Rattle.cx_prim.specs.CellStates.{CellState, Multiplier, Divider}
 use Rattle.cx_prim.specs.Rows.{Inputs, is_on, Row}
 use Rattle.cx_bits.specs.BitVector.{BitVector}
 use Rattle.cx_prim.specs.Operators.{apply_unary, apply_binary, binary_out_width}
@@ -15,7 +15,7 @@ use Rattle.cx_prim.specs.RegisterRow.{register_row}
 use Rattle.cx_prim.specs.MemoryRows.{IsLayout, address_ports, memory_row, sequential_memory_row}
 use Rattle.cx_prim.specs.PipeRows.{multiplier_row, divider_row, timer_row}
 use Rattle.cx_prim.specs.Table.{PrimitiveRow, no_row, row_of}
-use Rattle.cx_prim.proofs.TableCases.{OfEachKind, of_row}
+use Rattle.cx_prim.proofs.TableCases.{of_row}
 use Rattle.cx_meaning.specs.Rows.{side_from, side_of}
 use Rattle.cx_promotion.specs.Promotable.{is_named}
 use Rattle.cx_promotion.proofs.RowPorts.{spot_of, Spot, before, behind, address_count, no_done, addresses}
@@ -29,7 +29,6 @@ pub record LooksAtPlain (row : Row) : Type 0 where
   pub done : (p : ℕ) → is_named names.Done row.ports p ≡ true → side_of row p ≡ sides.Registered
   pub reads : (p m : ℕ) → row.reads p m ≡ true → IsPlainPort row m
   pub demands : (d : CellState) (inputs : Inputs) (n : ℕ) → row.demands d inputs n ≡ true → IsPlainPort row n
-
 
 if_true : (b x : Bool) → (if b then x else false) ≡ true → x ≡ true
 if_true true x e = e

@@ -1,15 +1,15 @@
 -- THE PORT THAT STARTS A CELL is an enabling port of its row.
-use Rattle.std.specs.Prelude.{◌≡◌, ◌<◌, ℕ, zero, suc, ◌+◌, true, List, [], ◌∷◌, ◌++◌, Option, Some, None, length, refl}
+use Rattle.std.specs.Prelude.{◌≡◌, ◌<◌, ℕ, suc, ◌+◌, true, List, [], ◌∷◌, ◌++◌, Option, Some, None, length, refl}
 use Rattle.std.proofs.Common.{sym, ap, ◌∙◌, subst, arith, length-append}
 use Rattle.cx_prim.specs.declared.ports.PortName.TheVariants as names
 use Rattle.cx_prim.specs.declared.ports.PortRow.{PortRow}
 use Rattle.cx_prim.specs.Rows.{Row, is_enable_side}
 use Rattle.cx_prim.specs.CombinationalRows.{enable_port, plain_port, output_port, registered_port}
 use Rattle.cx_prim.specs.RegisterRow.{register_row}
-use Rattle.cx_prim.specs.MemoryRows.{IsLayout, address_ports, memory_row, sequential_memory_row}
+use Rattle.cx_prim.specs.MemoryRows.{address_ports, memory_row, sequential_memory_row}
 use Rattle.cx_prim.specs.PipeRows.{multiplier_row, divider_row, timer_row}
 use Rattle.cx_prim.specs.Table.{PrimitiveRow, row_of}
-use Rattle.cx_prim.proofs.TableCases.{OfEachKind, of_row}
+use Rattle.cx_prim.proofs.TableCases.{of_row}
 use Rattle.cx_meaning.specs.Rows.{side_from, side_of}
 use Rattle.cx_promotion.specs.Promotable.{first_named, or_else, starting_port}
 use Rattle.cx_promotion.proofs.RowPorts.{first_behind, no_content, no_write, addresses}
@@ -57,8 +57,8 @@ module _ (w : ℕ) (sizes address_widths : List ℕ) where
       let none : first_named names.ContentEn (xs ++ tail) 0 ≡ None = first_behind names.ContentEn addresses address_widths tail 0 no_content in
       let some : first_named names.WriteEn (xs ++ tail) 0 ≡ Some (suc (0 + length xs)) = first_behind names.WriteEn addresses address_widths tail 0 no_write in
       let is : starting_port (memory_row w sizes address_widths) ≡ Some (suc (0 + length xs)) =
-          ap (λ (o : Option ℕ). or_else o (or_else (first_named names.WriteEn (xs ++ tail) 0) (first_named names.Go (xs ++ tail) 0))) none
-          ∙ ap (λ (o : Option ℕ). or_else o (first_named names.Go (xs ++ tail) 0)) some in
+      ap (λ (o : Option ℕ). or_else o (or_else (first_named names.WriteEn (xs ++ tail) 0) (first_named names.Go (xs ++ tail) 0))) none
+      ∙ ap (λ (o : Option ℕ). or_else o (first_named names.Go (xs ++ tail) 0)) some in
       let same : length xs + 1 ≡ suc (0 + length xs) = omega arith in
       at_start (memory_row w sizes address_widths) (length xs + 1) e (ap Some same ∙ sym is ∙ start) (behind_start xs tail 1 refl (omega arith))
 
@@ -69,7 +69,7 @@ module _ (w : ℕ) (sizes address_widths : List ℕ) where
   sequential_starts e start =
       let some : first_named names.ContentEn (xs ++ end) 0 ≡ Some (0 + length xs) = first_behind names.ContentEn addresses address_widths end 0 no_content in
       let is : starting_port (sequential_memory_row w sizes address_widths) ≡ Some (0 + length xs) =
-          ap (λ (o : Option ℕ). or_else o (or_else (first_named names.WriteEn (xs ++ end) 0) (first_named names.Go (xs ++ end) 0))) some in
+      ap (λ (o : Option ℕ). or_else o (or_else (first_named names.WriteEn (xs ++ end) 0) (first_named names.Go (xs ++ end) 0))) some in
       let same : length xs + 0 ≡ 0 + length xs = omega arith in
       at_start (sequential_memory_row w sizes address_widths) (length xs + 0) e (ap Some same ∙ sym is ∙ start) (behind_start xs end 0 refl (omega arith))
 

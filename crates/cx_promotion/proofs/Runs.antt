@@ -105,7 +105,7 @@ module _ (len : ℕ → ℕ) where
         let go : State → Answer State Fault = λ after. island_from i held list (k + sum_of gs) (suc (x + o)) h after n in
         let more : State → Answer State Fault = λ after. part_of_link g k (suc o) (link gs) after n in
         let same : (after : State) → go after ≡ more after = λ after.
-            subst (λ y. island_from i held list (k + sum_of gs) y h after n ≡ more after) next (in_group list x g gs k (suc o) is later (omega arith) h after n) in
+        subst (λ y. island_from i held list (k + sum_of gs) y h after n ≡ more after) next (in_group list x g gs k (suc o) is later (omega arith) h after n) in
         subst (λ y. island_from i held list y (x + o) before s (suc n) ≡ turn_then (idle i) s (one_cycle g o s) more) left
         (ap (λ y. turn_then (idle i) s y go) (turn_is list x g gs is h o (omega arith) s) ∙ turn_same s (one_cycle g o s) go more same)
 

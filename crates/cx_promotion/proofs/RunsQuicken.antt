@@ -1,24 +1,22 @@
 -- RUNS QUICKEN: where the run of an instance's control ends from a settled state, that of the new control ends no later in the same state.
-use Rattle.std.proofs.Common.{◌≡◌, ℕ, zero, suc, ◌⊎◌, ⊎_elim, inl, inr, Bool, true, false, List, [], ◌∷◌, ◌++◌, Option, Some, None, refl, sym, ap, ◌∙◌, subst, ◌<◌, length}
+use Rattle.std.proofs.Common.{◌≡◌, ℕ, zero, suc, ◌⊎◌, inl, inr, Bool, true, false, [], ◌∷◌, Option, Some, None, refl, sym, ap, ◌∙◌, subst}
 use Rattle.std.specs.Prelude.{nat_eq, is_some, if◌then◌else◌}
 use Rattle.std.proofs.Math.Path.{fun_ext}
 use Rattle.std.proofs.lemmas.Bool.{eqb-true}
 use Rattle.cx_text.specs.declared.places.Place.{Place}
 use Rattle.cx_meaning.specs.declared.kinds.GroupKind.{GroupKind}
 use Rattle.cx_meaning.specs.declared.kinds.GroupKind.TheVariants as kinds
-use Rattle.cx_meaning.specs.declared.ports.PlacedPort.{PlacedPort}
 use Rattle.cx_meaning.specs.declared.ports.PortRef.{PortRef}
 use Rattle.cx_meaning.specs.Designs.{PlainGroup, PlainComponent, group_at, no_place, PlainForm, Empty, Enable, Seq, Par, If, While, Repeat, StaticSeq, StaticPar, StaticIf, StaticRepeat, Timed, PlainStatement, Placed, PlainStatements, no_statements, a_statement}
-use Rattle.cx_meaning.specs.Instances.{Instance, Node, Cells, no_cells, a_primitive, an_instance, OfInstance, part_of, cell_at, Path, State, Set, merge, idle, idle_at, IsSettled}
-use Rattle.cx_meaning.specs.Active.{group, comb}
+use Rattle.cx_meaning.specs.Instances.{Instance, Node, Cells, no_cells, a_primitive, an_instance, OfInstance, cell_at, State, Set, merge, idle, idle_at, IsSettled}
+use Rattle.cx_meaning.specs.Active.{comb}
 use Rattle.cx_meaning.specs.Sights.{In, Held}
 use Rattle.cx_meaning.specs.Cycles.{Fault}
-use Rattle.cx_meaning.specs.Answers.{Answer, End, More, Meaning, Test, Holds, Fails, Unclear}
-use Rattle.cx_meaning.specs.Answers as answers
+use Rattle.cx_meaning.specs.Answers.{Test, Holds, Fails, Unclear}
 use Rattle.cx_meaning.specs.Control.{Leaves, groups_in, groups_of, groups_drive, run_form, run, run_parts}
 use Rattle.cx_meaning.specs.Islands.{kind_length, group_length, island}
 use Rattle.cx_meaning.specs.Calls.{test}
-use Rattle.cx_meaning.specs.Running.{Children, leaves, run_control, control_below}
+use Rattle.cx_meaning.specs.Running.{leaves, run_control, control_below}
 use Rattle.cx_meaning.proofs.InstancesLemmas.{instance_is}
 use Rattle.cx_meaning.proofs.RunningLemmas.{steady_island, idle_settles, settles_statement}
 use Rattle.cx_meaning.proofs.SightsLaws.{in_left, in_right}
@@ -27,13 +25,13 @@ use Rattle.cx_rules.specs.Items.{Context, Dynamic, Visited, visit, visit_all, st
 use Rattle.cx_rules.specs.StaticControl.{is_static}
 use Rattle.cx_rules.specs.Wellformed.{IsWith}
 use Rattle.cx_rules.proofs.CirclesLemmas.{own_acyclic}
-use Rattle.cx_rewrites.specs.Tallies.{Tally, none, Counted, uncounted, count_form, count, count_parts}
-use Rattle.cx_rewrites.specs.Carrying.{NoLater, Same, Rests, TestCarried, Carried, Carries}
+use Rattle.cx_rewrites.specs.Tallies.{Tally, none, uncounted, count_form, count, count_parts}
+use Rattle.cx_rewrites.specs.Carrying.{NoLater, Rests, TestCarried, Carries}
 use Rattle.cx_rewrites.specs.Beside.{joined, FormBeside, outright, empties, seqs, collapsed, pars, ifs, whiles, repeats, Beside, placed, PartsBeside, no_parts, a_part, as_one, ArmsBeside, no_arms, an_arm}
 use Rattle.cx_rewrites.proofs.BesideLemmas.{run_carries}
 use Rattle.cx_promotion.specs.Made as made
 use Rattle.cx_promotion.specs.Made.{IsPromoted, IsRun, FormMade, StatementMade, PartsMade, ArmsMade}
-use Rattle.cx_promotion.proofs.Twins.{Twins, TwinCells, beside_each, twin_cells, idle-twin}
+use Rattle.cx_promotion.proofs.Twins.{Twins, TwinCells, beside_each, idle-twin}
 use Rattle.cx_promotion.proofs.MadeBeside.{MadeBeside}
 use Rattle.cx_promotion.proofs.Shapes.{shape_of}
 use Rattle.cx_promotion.proofs.Members.{group_made, not_promoted, not_promoted_kind}
@@ -74,7 +72,7 @@ test_itself (Unclear f) = tt
 
 module _ (part other : PlainComponent) (cells more : Cells) (t : Twins MadeBeside (Node part cells) (Node other more)) (held : Held)
     (children : (c : ℕ) (child : Instance) → cell_at cells c ≡ OfInstance child → (own : Held)
-        → Carries NoLater (SameSettled child) same_fault (λ s n. none) (control_below cells c own) (control_below more c own)) where
+    → Carries NoLater (SameSettled child) same_fault (λ s n. none) (control_below cells c own) (control_below more c own)) where
   abbrev i : Instance
   i = Node part cells
 

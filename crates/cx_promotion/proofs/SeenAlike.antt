@@ -13,11 +13,11 @@ use Rattle.cx_meaning.specs.Rows.{side_of}
 use Rattle.cx_meaning.specs.Instances.{Instance, At, Nothing, OfRow, OfInstance, cell_at, cells_of, part_of, State, under}
 use Rattle.cx_meaning.specs.Active.{Active, nothing, drivers}
 use Rattle.cx_meaning.specs.Sights.{Look, Below, Held, unheld, Sees, PartPort, Go, AnInput, AnOutput, ItsDone, part_port, bit_of, is_done_cell, step, side_step, part_step, cell_step, target_seen, output_seen, of_option, gather, seen, outputs_below}
-use Rattle.cx_meaning.proofs.SightsLemmas.{step_alike, one_sight}
+use Rattle.cx_meaning.proofs.SightsLemmas.{step_alike}
 use Rattle.cx_rules.specs.Circles.{IsAcyclic, AcyclicBelow}
 use Rattle.cx_rules.specs.Footprints.{Leads}
 use Rattle.cx_rules.proofs.FoundLemmas.{seen_solves}
-use Rattle.cx_rewrites.specs.Solving.{Solves, IsSeenBelow}
+use Rattle.cx_rewrites.specs.Solving.{Solves}
 use Rattle.cx_rewrites.proofs.SolvedLemmas.{solved_is_found}
 
 -- two cells with one row, or two children whose ports are numbered alike
@@ -69,7 +69,7 @@ module _ (i j : Instance) (held : Held) (act other : Active) (s u : State) (insi
     (closed : (p q : PortRef) → inside p → Leads i act p q → inside q)
     (alike : (p : PortRef) → inside p → IsAlike i j held act other s u (seen j held other u) (outputs_below (cells_of j) (λ c. under c u)) p)
     (children : (c n : ℕ) (child : Instance) (x : Seen) → cell_at (cells_of i) c ≡ OfInstance child → Sees child unheld nothing (under c s) (ports.Output n) x
-        → outputs_below (cells_of j) (λ c. under c u) c n ≡ x) where
+    → outputs_below (cells_of j) (λ c. under c u) c n ≡ x) where
   abbrev look : Look
   look = seen j held other u
 

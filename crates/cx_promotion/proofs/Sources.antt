@@ -1,13 +1,11 @@
 -- WHAT A TARGET IS SEEN AS: by the same assignments at other offsets, and where each active one has the same source.
-use Rattle.std.specs.Prelude.{◌≡◌, ℕ, ◌==◌, Bool, true, false, List, [], ◌∷◌, ◌++◌, Option, Some, None, if◌then◌else◌, refl}
-use Rattle.std.proofs.Common.{subst, sym, ap, ◌∙◌, inl, inr, arith}
+use Rattle.std.specs.Prelude.{◌≡◌, ℕ, ◌==◌, Bool, true, List, [], ◌∷◌, ◌++◌, if◌then◌else◌, refl}
+use Rattle.std.proofs.Common.{ap, ◌∙◌, inl, inr, arith}
 use Rattle.std.proofs.lemmas.Bool.Decides.{nat_tests}
-use Rattle.cx_bits.specs.BitVector.{BitVector}
 use Rattle.cx_meaning.specs.declared.ports.PortRef.{PortRef}
-use Rattle.cx_meaning.specs.declared.ports.PlacedPort.{PlacedPort}
 use Rattle.cx_meaning.specs.declared.sights.Seen.{Seen}
 use Rattle.cx_meaning.specs.declared.sights.Seen.TheVariants as sights
-use Rattle.cx_meaning.specs.Designs.{PlainGuard, Always, Atom, Negation, All, Any, Compared, Within, PlainGuards, no_guards, a_guard, PlainAssign}
+use Rattle.cx_meaning.specs.Designs.{PlainGuard, Always, Atom, Negation, All, Any, Compared, Within, PlainGuards, no_guards, a_guard}
 use Rattle.cx_meaning.specs.Active.{Acting}
 use Rattle.cx_meaning.specs.Truths.{One, and_truth, or_truth, not_truth}
 use Rattle.cx_meaning.specs.Sights.{In, Look, guard_truth, all_truth, any_truth, Sources, with_source, take_guard, taken, agreed, all_agreed, settle, target_seen}
@@ -79,8 +77,7 @@ taken_copies : (look : Look) (q : PortRef) (acts : List Acting) → AllFrom look
 taken_copies look q [] all = ([], refl, no_copy)
 taken_copies look q (a ∷ rest) all =
     let later = taken_copies look q rest (λ x j. all x (inr j)) in
-    let here = all a (inl refl) in
-    (
+    let here = all a (inl refl) in (
       q ∷ later.0,
       ap (λ t. take_guard t a.assign.source.port (taken look rest)) here.0 ∙ ap (λ r. with_source r (taken look rest)) here.1 ∙ ap (with_source q) later.1,
       a_copy later.2,

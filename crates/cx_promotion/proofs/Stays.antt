@@ -1,18 +1,18 @@
 -- WHAT STAYS: where no promoted group is active, ports are seen alike in both designs and cycles are the same.
-use Rattle.std.proofs.Common.{◌≡◌, ℕ, zero, suc, Bool, true, false, List, [], ◌∷◌, length, None, refl, sym, ap, ◌∙◌, subst}
+use Rattle.std.proofs.Common.{◌≡◌, ℕ, zero, suc, [], ◌∷◌, length, None, refl, sym, ap, ◌∙◌, subst}
 use Rattle.std.proofs.Math.Path.{fun_ext}
 use Rattle.cx_prim.specs.declared.ports.Side.{Side}
 use Rattle.cx_prim.specs.declared.ports.Side.TheVariants as sides
-use Rattle.cx_prim.specs.Rows.{Inputs, Row}
+use Rattle.cx_prim.specs.Rows.{Row}
 use Rattle.cx_meaning.specs.declared.ports.PortRef.{PortRef}
 use Rattle.cx_meaning.specs.declared.ports.PortRef.TheVariants as ports
 use Rattle.cx_meaning.specs.declared.sights.Seen.{Seen}
 use Rattle.cx_meaning.specs.Rows.{side_of}
 use Rattle.cx_meaning.specs.Designs.{PlainComponent}
 use Rattle.cx_meaning.specs.Instances.{Instance, Node, Cells, no_cells, a_primitive, an_instance, At, Nothing, OfRow, OfInstance, part_of, cells_of, cell_at, cell_count, State, under}
-use Rattle.cx_meaning.specs.Active.{Active, nothing, source_order, acting, drivers}
+use Rattle.cx_meaning.specs.Active.{Active, nothing, drivers}
 use Rattle.cx_meaning.specs.Sights.{Look, Held, unheld, Sees, PartPort, Go, AnInput, AnOutput, ItsDone, later_port, part_port, target_seen, seen, outputs_below}
-use Rattle.cx_meaning.specs.Cycles.{Outcome, Next, outcome_at, outcome_of, ended, every_cell, cycle_by, cycle}
+use Rattle.cx_meaning.specs.Cycles.{Outcome, outcome_at, outcome_of, ended, every_cell, cycle_by, cycle}
 use Rattle.cx_meaning.proofs.InstancesLemmas.{instance_is}
 use Rattle.cx_meaning.proofs.SightsLemmas.{one_sight}
 use Rattle.cx_rules.specs.Circles.{IsAcyclic, AreAcyclic, AcyclicBelow}
@@ -21,7 +21,7 @@ use Rattle.cx_rules.proofs.CirclesLemmas.{cells_below, own_acyclic}
 use Rattle.cx_rules.proofs.FoundLemmas.{seen_found}
 use Rattle.cx_promotion.specs.Made.{IsPromoted, PartMade}
 use Rattle.cx_promotion.proofs.Orders.{acting_stays}
-use Rattle.cx_promotion.proofs.SeenAlike.{SameCell, IsAlike, seen_inside}
+use Rattle.cx_promotion.proofs.SeenAlike.{SameCell, seen_inside}
 use Rattle.cx_promotion.proofs.Twins.{Twins, TwinCells, beside_each, twin_cells, TwinAt, none_there, a_row_there, a_child_there, twins_at, cell_count-twin}
 use Rattle.cx_promotion.proofs.MadeBeside.{MadeBeside}
 

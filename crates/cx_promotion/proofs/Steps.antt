@@ -1,22 +1,18 @@
 -- THE STEP OF A CELL: what it tells of the ports that were looked at, and that it hangs on them and on the state as it looks.
-use Rattle.std.specs.Prelude.{◌≡◌, ◌<◌, ℕ, zero, suc, ◌+◌, ◌||◌, Bool, true, false, List, [], ◌∷◌, Option, Some, None, Result, Ok, Err, length, slice_get, if◌then◌else◌, refl}
+use Rattle.std.specs.Prelude.{◌≡◌, ◌<◌, ℕ, zero, suc, ◌+◌, ◌||◌, Bool, true, false, List, [], ◌∷◌, Option, Some, None, Result, Ok, Err, length, refl}
 use Rattle.std.proofs.Common.{sym, ap, ◌∙◌, subst, arith}
 use Rattle.std.proofs.Math.Path.{fun_ext}
 use Rattle.cx_bits.specs.BitVector.{BitVector}
-use Rattle.cx_prim.specs.declared.ports.PortName.TheVariants as names
 use Rattle.cx_prim.specs.declared.ports.PortRow.{PortRow}
-use Rattle.cx_prim.specs.declared.ports.Side.TheVariants as sides
 use Rattle.cx_prim.specs.CellStates.{CellState}
 use Rattle.cx_prim.specs.Rows.{Inputs, input, Row, edge, edge_of}
 use Rattle.cx_meaning.specs.declared.ports.PortRef.TheVariants as ports
 use Rattle.cx_meaning.specs.declared.sights.Seen.{Seen}
 use Rattle.cx_meaning.specs.declared.sights.Seen.TheVariants as sights
 use Rattle.cx_meaning.specs.declared.sights.FaultKind.{FaultKind}
-use Rattle.cx_meaning.specs.Rows.{side_of}
 use Rattle.cx_meaning.specs.Sights.{Look, Gathered, Given, Lacks, with_entry, gather_one, gather_port, gather}
-use Rattle.cx_meaning.specs.Cycles.{Outcome, Next, Stops, kind_of, after_edge, after_data, enables, looks_at, after_enabling, cell_outcome}
+use Rattle.cx_meaning.specs.Cycles.{Next, Stops, kind_of, after_edge, after_data, enables, looks_at, after_enabling, cell_outcome}
 use Rattle.cx_meaning.proofs.SightsLemmas.{gather_alike}
-use Rattle.cx_promotion.specs.Promotable.{is_named}
 use Rattle.cx_promotion.proofs.RowReady.{LooksAlike}
 use Rattle.cx_promotion.proofs.RowSides.{IsPlainPort, LooksAtPlain}
 

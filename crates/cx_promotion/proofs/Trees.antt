@@ -1,13 +1,13 @@
 -- THE TREES of a design and of the one that was made of it have one shape, and their instances stand beside each other.
-use Rattle.std.proofs.Common.{◌≡◌, ℕ, zero, suc, ◌+◌, ◌<◌, ◌⊎◌, ⊎_elim, inl, inr, Bool, true, false, List, [], ◌∷◌, length, Option, Some, None, refl, sym, ap, ◌∙◌, subst, arith}
+use Rattle.std.proofs.Common.{◌≡◌, ℕ, zero, suc, ◌<◌, ⊎_elim, inl, inr, Bool, true, false, List, [], ◌∷◌, length, None, refl, sym, ap, ◌∙◌, subst, arith}
 use Rattle.std.proofs.lemmas.Bool.{cases_lt}
 use Rattle.std.proofs.lemmas.List.{get_or_past}
 use Rattle.cx_text.specs.declared.rules.Rule.TheVariants.{NotASource, StaticGuard, StaticShape}
 use Rattle.cx_prim.specs.Rows.{Row}
 use Rattle.cx_prim.specs.Table.{PrimitiveRow, row_of}
 use Rattle.cx_meaning.specs.declared.ports.PlacedPort.{PlacedPort}
-use Rattle.cx_meaning.specs.Designs.{Empty, PlainAssign, PlainKind, OfPrimitive, OfComponent, PlainCell, PlainComponent, PlainDesign, component_at, group_at, no_component}
-use Rattle.cx_meaning.specs.Instances.{Instance, Node, Cells, no_cells, a_primitive, an_instance, At, Nothing, OfRow, OfInstance, part_of, cells_of, cell_at, add_cell, cells_for, tree_within, tree_of, Path, instance_at, child_at}
+use Rattle.cx_meaning.specs.Designs.{PlainKind, OfPrimitive, OfComponent, PlainCell, PlainComponent, PlainDesign, component_at, no_component}
+use Rattle.cx_meaning.specs.Instances.{Instance, Node, Cells, no_cells, a_primitive, an_instance, Nothing, OfRow, part_of, cells_of, cell_at, add_cell, cells_for, tree_within, tree_of, Path, instance_at, child_at}
 use Rattle.cx_meaning.specs.Active.{group, entries, Owned, source_order}
 use Rattle.cx_meaning.specs.Sights.{In}
 use Rattle.cx_meaning.specs.Islands.{History, active_in, form_flat}
@@ -114,7 +114,7 @@ module _ (d : PlainDesign) (design : IsDesign d) (accepted : IsAccepted d) (k : 
   no_range o i none r inside =
       let at = number_in (source_order part) o i in
       let bad : is_bad_range (owner_length (part_of (component_of d k)) o.owner) r ≡ true =
-          ap (λ x. is_bad_range (owner_length x o.owner) r) (same_part d (length d.components) k) ∙ ap (λ x. is_bad_range x r) none in
+      ap (λ x. is_bad_range (owner_length x o.owner) r) (same_part d (length d.components) k) ∙ ap (λ x. is_bad_range x r) none in
       accepted.shapes StaticGuard (record { component = k; part = AnAssign at.0 }) o.assign.place (path_of (component_of d k) o.assign.target) refl
       (record { within = within; number = at.0; is = refl; assign = o; stands = at.1; breaks = (r, inside, bad, (refl, refl)) })
 
@@ -154,9 +154,11 @@ module _ (old new : PlainDesign) (design : IsDesign old) (accepted : IsAccepted 
 
   shape_within : (m k : ℕ) → Twins Any (tree_within old m k) (tree_within new m k)
   shape_within zero k = (tt, tt)
-  shape_within (suc m) k =
-      (tt, subst (λ cells. TwinCells Any (cells_for (tree_within old m) (component_at old k).cells) (cells_for (tree_within new m) cells)) (cells_same k)
-      (shape_cells (tree_within old m) (tree_within new m) (shape_within m) (component_at old k).cells))
+  shape_within (suc m) k = (
+    tt,
+    subst (λ cells. TwinCells Any (cells_for (tree_within old m) (component_at old k).cells) (cells_for (tree_within new m) cells)) (cells_same k)
+        (shape_cells (tree_within old m) (tree_within new m) (shape_within m) (component_at old k).cells),
+  )
 
   -- the instances at one path are of one component, or there are none
   data AtPath : Instance → Instance → Type 0 where

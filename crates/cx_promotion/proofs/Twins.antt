@@ -1,9 +1,9 @@
 -- TWO TREES OF ONE SHAPE, whose instances stand beside each other: their idle edges, starts and cells are the same.
-use Rattle.std.proofs.Common.{◌≡◌, ℕ, zero, suc, List, [], ◌∷◌, refl, sym, ap, ◌∙◌, subst}
+use Rattle.std.proofs.Common.{◌≡◌, ℕ, zero, suc, [], ◌∷◌, refl, sym, ap, subst}
 use Rattle.std.proofs.Math.Path.{fun_ext}
 use Rattle.cx_prim.specs.CellStates.{CellState}
 use Rattle.cx_prim.specs.Rows.{Row}
-use Rattle.cx_meaning.specs.Instances.{Instance, Node, Cells, no_cells, a_primitive, an_instance, At, Nothing, OfRow, OfInstance, cell_at, cell_count, cells_of, Path, State, idle_at, idle_below, idle, start_at, start_below}
+use Rattle.cx_meaning.specs.Instances.{Instance, Node, Cells, no_cells, a_primitive, an_instance, At, Nothing, OfRow, OfInstance, cell_at, cell_count, cells_of, Path, idle_at, idle_below, idle, start_at, start_below}
 
 module _ (Beside : Instance → Instance → Type 0) where
   abbrev mutual
