@@ -46,12 +46,13 @@ pub same_cells : (i j : Instance) → Twins MadeBeside i j → (c : ℕ) → Sam
 same_cells i j t c = same_cell (cell_at (cells_of i) c) (cell_at (cells_of j) c) (twins_at MadeBeside (cells_of i) (cells_of j) (twin_cells MadeBeside i j t) c)
 
 -- A CIRCLE COMES BACK, where what leads on does so in the old instance
-pub circle_back : (i j : Instance) (act more : Active) → ((p q : PortRef) → Leads j more p q → Leads i act p q) → IsAcyclic i act → IsAcyclic j more
-circle_back i j act more back acyclic (p, circle) = acyclic (p, depends circle)
-  where
-    depends : {p q : PortRef} → Depends j more p q → Depends i act p q
-    depends {p} {q} (at_once l) = at_once (back p q l)
-    depends {p} {q} (by_way_of r l d) = by_way_of r (back p r l) (depends d)
+module _ (i j : Instance) (act more : Active) (back : (p q : PortRef) → Leads j more p q → Leads i act p q) where
+  pub depends_back : {p q : PortRef} → Depends j more p q → Depends i act p q
+  depends_back {p} {q} (at_once l) = at_once (back p q l)
+  depends_back {p} {q} (by_way_of r l d) = by_way_of r (back p r l) (depends_back d)
+
+  pub circle_back : IsAcyclic i act → IsAcyclic j more
+  circle_back acyclic (p, circle) = acyclic (p, depends_back circle)
 
 module _ (i j : Instance) (act more : Active) (cells : (c : ℕ) → SameCell (cell_at (cells_of i) c) (cell_at (cells_of j) c))
     (mentions : (p q : PortRef) → Mentions (drivers (part_of j) more p) q → Mentions (drivers (part_of i) act p) q) where

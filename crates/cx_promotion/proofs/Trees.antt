@@ -1,5 +1,5 @@
 -- THE TREES of a design and of the one that was made of it have one shape, and their instances stand beside each other.
-use Rattle.std.proofs.Common.{◌≡◌, ℕ, zero, suc, ◌<◌, ⊎_elim, inl, inr, Bool, true, false, List, [], ◌∷◌, length, None, refl, sym, ap, ◌∙◌, subst, arith}
+use Rattle.std.proofs.Common.{◌≡◌, ℕ, zero, suc, ◌<◌, ◌≤◌, ⊎_elim, inl, inr, Bool, true, false, List, [], ◌∷◌, length, None, refl, sym, ap, ◌∙◌, subst, arith}
 use Rattle.std.proofs.lemmas.Bool.{cases_lt}
 use Rattle.std.proofs.lemmas.List.{get_or_past}
 use Rattle.cx_text.specs.declared.rules.Rule.TheVariants.{NotASource, StaticGuard, StaticShape}
@@ -52,13 +52,14 @@ module _ (Beside : Instance → Instance → Type 0) where
     cells_by_path (an_instance child rest) (an_instance twin more) (t, h) each = (twins_by_path child twin t (λ path. each 0 path), cells_by_path rest more h (λ c path. each (suc c) path))
 
 -- cells of one list
-shape_cell : (f g : ℕ → Instance) → ((k : ℕ) → Twins Any (f k) (g k)) → (kind : PlainKind) (rest more : Cells) → TwinCells Any rest more → TwinCells Any (add_cell f kind rest) (add_cell g kind more)
-shape_cell f g each (OfPrimitive p) rest more h = (refl, h)
-shape_cell f g each (OfComponent k) rest more h = (each k, h)
+module _ (Beside : Instance → Instance → Type 0) (f g : ℕ → Instance) (each : (k : ℕ) → Twins Beside (f k) (g k)) where
+  twin_cell : (kind : PlainKind) (rest more : Cells) → TwinCells Beside rest more → TwinCells Beside (add_cell f kind rest) (add_cell g kind more)
+  twin_cell (OfPrimitive p) rest more h = (refl, h)
+  twin_cell (OfComponent k) rest more h = (each k, h)
 
-shape_cells : (f g : ℕ → Instance) → ((k : ℕ) → Twins Any (f k) (g k)) → (cells : List PlainCell) → TwinCells Any (cells_for f cells) (cells_for g cells)
-shape_cells f g each [] = tt
-shape_cells f g each (cell ∷ cells) = shape_cell f g each cell.kind (cells_for f cells) (cells_for g cells) (shape_cells f g each cells)
+  twin_list : (cells : List PlainCell) → TwinCells Beside (cells_for f cells) (cells_for g cells)
+  twin_list [] = tt
+  twin_list (cell ∷ cells) = twin_cell cell.kind (cells_for f cells) (cells_for g cells) (twin_list cells)
 
 -- a cell of a tree, and the same cell where the tree is deeper
 kind_at : (f g : ℕ → Instance) (kind : PlainKind) (rest more : Cells) → ((c : ℕ) → KindAt (cell_at rest c) (cell_at more c)) → (c : ℕ) → KindAt (cell_at (add_cell f kind rest) c) (cell_at (add_cell g kind more) c)
@@ -142,24 +143,28 @@ module _ (d : PlainDesign) (design : IsDesign d) (accepted : IsAccepted d) (k : 
   keeps_forms : (v : Visited) → In (statements_in part) v → IsForm part v.form
   keeps_forms v i = subst (λ x. IsForm x v.form) (same_part d (length d.components) k) ((design.components k within).statements v i).form
 
--- TWO DESIGNS
-module _ (old new : PlainDesign) (design : IsDesign old) (accepted : IsAccepted old) (is_made : DesignMade old new) where
+-- THE PARTS of both designs, also of those that are not there
+pub past_new : (old new : PlainDesign) → DesignMade old new → (k : ℕ) → length old.components ≤ k → length new.components ≤ k
+past_new old new made k past = let e = made.count in omega (arith, past)
+
+-- trees of one depth, whose instances stand beside each other where components do
+module _ (old new : PlainDesign) (made : DesignMade old new) (Beside : Instance → Instance → Type 0) (top : (m k : ℕ) → Beside (tree_within old m k) (tree_within new m k)) where
   cells_same : (k : ℕ) → (component_at old k).cells ≡ (component_at new k).cells
   cells_same k =
       ⊎_elim {C = (component_at old k).cells ≡ (component_at new k).cells}
-      (λ within. (is_made.parts k within).cells)
+      (λ within. (made.parts k within).cells)
       (λ past. ap (λ (x : PlainComponent). x.cells) (get_or_past old.components k no_component past)
-      ∙ sym (ap (λ (x : PlainComponent). x.cells) (get_or_past new.components k no_component (let e = is_made.count in omega (arith, past)))))
+      ∙ sym (ap (λ (x : PlainComponent). x.cells) (get_or_past new.components k no_component (past_new old new made k past))))
       (cases_lt k (length old.components))
 
-  shape_within : (m k : ℕ) → Twins Any (tree_within old m k) (tree_within new m k)
-  shape_within zero k = (tt, tt)
-  shape_within (suc m) k = (
-    tt,
-    subst (λ cells. TwinCells Any (cells_for (tree_within old m) (component_at old k).cells) (cells_for (tree_within new m) cells)) (cells_same k)
-        (shape_cells (tree_within old m) (tree_within new m) (shape_within m) (component_at old k).cells),
-  )
+  pub twins_within : (m k : ℕ) → Twins Beside (tree_within old m k) (tree_within new m k)
+  twins_within zero k = (top zero k, tt)
+  twins_within (suc m) k =
+      (top (suc m) k, subst (λ cells. TwinCells Beside (cells_for (tree_within old m) (component_at old k).cells) (cells_for (tree_within new m) cells)) (cells_same k)
+      (twin_list Beside (tree_within old m) (tree_within new m) (twins_within m) (component_at old k).cells))
 
+-- TWO DESIGNS
+module _ (old new : PlainDesign) (design : IsDesign old) (accepted : IsAccepted old) (is_made : DesignMade old new) where
   -- the instances at one path are of one component, or there are none
   data AtPath : Instance → Instance → Type 0 where
     a_tree : (m k : ℕ) → k < length old.components → AtPath (tree_within old m k) (tree_within new m k)
@@ -183,7 +188,7 @@ module _ (old new : PlainDesign) (design : IsDesign old) (accepted : IsAccepted 
   at_path [] (suc m) k lt = a_tree (suc m) k lt
   at_path (c ∷ path) zero k lt = no_tree
   at_path (c ∷ path) (suc m) k lt =
-      subst (λ cells. AtPath (child_at (cells_for (tree_within old m) (component_at old k).cells) c path) (child_at (cells_for (tree_within new m) cells) c path)) (cells_same k)
+      subst (λ cells. AtPath (child_at (cells_for (tree_within old m) (component_at old k).cells) c path) (child_at (cells_for (tree_within new m) cells) c path)) (cells_same old new is_made Any (λ m n. tt) k)
       (cells_path m path (λ n l. at_path path m n l) k (component_at old k).cells (design.components k lt).cells c)
 
   -- WHAT STANDS BESIDE
@@ -259,6 +264,6 @@ module _ (old new : PlainDesign) (design : IsDesign old) (accepted : IsAccepted 
   -- THE TREES are twins
   pub trees_are_twins : Twins MadeBeside (tree_of old) (tree_within new (length old.components) old.main)
   trees_are_twins =
-      twins_by_path MadeBeside (tree_of old) (tree_within new (length old.components) old.main) (shape_within (length old.components) old.main)
+      twins_by_path MadeBeside (tree_of old) (tree_within new (length old.components) old.main) (twins_within old new is_made Any (λ m k. tt) (length old.components) old.main)
       (λ path. beside_at (at_path path (length old.components) old.main design.main_there) (instance_acyclic old accepted path) (λ g there. instance_group old accepted path g there)
       (λ v h t stands. entries_acyclic old design accepted v h t path stands) (kept_instance old design accepted path))
