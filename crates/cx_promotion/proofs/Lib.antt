@@ -24,6 +24,8 @@ mod PiecesQuicken
 mod RunsQuicken
 mod Trees
 mod DesignsQuicken
+mod PortsMade
+mod LeadsMade
 mod Together
 mod Runs
 mod Pieces
