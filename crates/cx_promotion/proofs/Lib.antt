@@ -26,6 +26,9 @@ mod Trees
 mod DesignsQuicken
 mod PortsMade
 mod LeadsMade
+mod AssignsMade
+mod CallsMade
+mod VisitsMade
 mod Together
 mod Runs
 mod Pieces

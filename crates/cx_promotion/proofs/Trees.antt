@@ -198,7 +198,7 @@ module _ (old new : PlainDesign) (design : IsDesign old) (accepted : IsAccepted 
   abbrev Groups : Instance → Type 0
   Groups i = (g : ℕ) → g < length (part_of i).groups → IsAcyclic i (group g)
 
-  part_made : (m k : ℕ) → k < length old.components → PartMade (component_of old k) (part_of (tree_within old m k)) (part_of (tree_within new m k))
+  pub part_made : (m k : ℕ) → k < length old.components → PartMade (component_of old k) (part_of (tree_within old m k)) (part_of (tree_within new m k))
   part_made zero k lt = is_made.parts k lt
   part_made (suc m) k lt = is_made.parts k lt
 
