@@ -83,7 +83,7 @@ module _ (i j : Instance) (t : Twins SameSignature i j) (made : PartMade i (part
       )
 
   -- the length of a promoted group is not 0
-  some_length : (g : ℕ) (is : P g) → 1 ≤ is.0
+  pub some_length : (g : ℕ) (is : P g) → 1 ≤ is.0
   some_length g is =
       let shape = shape_of i (group_at (part_of i) g) is.0 is.1 in
       let r = rows shape.cell shape.row shape.at in

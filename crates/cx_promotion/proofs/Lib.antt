@@ -29,6 +29,8 @@ mod LeadsMade
 mod AssignsMade
 mod CallsMade
 mod VisitsMade
+mod StatementsMade
+mod RulesMade
 mod Together
 mod Runs
 mod Pieces

@@ -89,7 +89,7 @@ rows_for : (f : ℕ → Instance) (cells : List PlainCell) (c : ℕ) (row : Row)
 rows_for f [] c row e = absurd (cc)
 rows_for f (cell ∷ cells) c row e = row_kind f cell.kind (cells_for f cells) (rows_for f cells) c row e
 
-rows_within : (d : PlainDesign) (m k c : ℕ) (row : Row) → cell_at (cells_of (tree_within d m k)) c ≡ OfRow row → (p : PrimitiveRow) × (row_of p ≡ row)
+pub rows_within : (d : PlainDesign) (m k c : ℕ) (row : Row) → cell_at (cells_of (tree_within d m k)) c ≡ OfRow row → (p : PrimitiveRow) × (row_of p ≡ row)
 rows_within d zero k c row e = absurd (cc)
 rows_within d (suc m) k c row e = rows_for (tree_within d m) (component_at d k).cells c row e
 
@@ -133,7 +133,7 @@ module _ (d : PlainDesign) (design : IsDesign d) (accepted : IsAccepted d) (k : 
       accepted.shapes StaticShape (record { component = k; part = AStatement at.0 }) v.place (enabled_name (part_of (component_of d k)) v.form) refl
       (inr (inl (record { within = within; number = at.0; is = refl; statement = v; stands = at.1; breaks = (stat, bad, (refl, refl)) })))
 
-  keeps_statics : (v : Visited) → In (statements_in part) v → is_in_static v.context ≡ true → may_stand part v.context v.form ≡ true
+  pub keeps_statics : (v : Visited) → In (statements_in part) v → is_in_static v.context ≡ true → may_stand part v.context v.form ≡ true
   keeps_statics v i stat = by (may_stand part v.context v.form) (not_standing v i stat)
     where
       by : (b : Bool) → (b ≡ false → ⊥) → b ≡ true
