@@ -1,20 +1,19 @@
 -- RULES ON ASSIGNMENTS: where one of the new design breaks a rule, so does the one of the old design from which it was made.
-use Rattle.std.proofs.Common.{◌≡◌, ℕ, zero, suc, ◌⊎◌, inl, inr, Bool, true, false, ◌||◌, List, [], ◌∷◌, Option, Some, None, refl, sym, ap, ◌∙◌, subst}
+use Rattle.std.proofs.Common.{◌≡◌, ℕ, ◌⊎◌, inl, inr, Bool, true, false, ◌||◌, List, [], ◌∷◌, Option, Some, None, refl, sym, ap, ◌∙◌, subst}
 use Rattle.std.specs.Prelude.{if◌then◌else◌}
 use Rattle.cx_text.specs.declared.places.Place.{Place}
-use Rattle.cx_text.proofs.OptionLaws.{same_some}
 use Rattle.cx_meaning.specs.declared.kinds.GroupKind.{GroupKind}
 use Rattle.cx_meaning.specs.declared.kinds.GroupKind.TheVariants as kinds
 use Rattle.cx_meaning.specs.declared.ports.PlacedPort.{PlacedPort}
 use Rattle.cx_meaning.specs.declared.ports.PortRef.{PortRef}
-use Rattle.cx_meaning.specs.Designs.{PlainAssign, PlainGroup, PlainComponent, group_at}
+use Rattle.cx_meaning.specs.Designs.{PlainGroup, group_at}
 use Rattle.cx_meaning.specs.Instances.{Instance, part_of}
 use Rattle.cx_meaning.specs.Active.{nothing, Owned, source_order}
 use Rattle.cx_meaning.specs.Sights.{In}
 use Rattle.cx_meaning.specs.Islands.{kind_length}
-use Rattle.cx_rules.specs.Footprints.{AssignNames, Rests, Depends}
-use Rattle.cx_rules.specs.Items.{Pair, Range, comparisons_of, atoms_of, sources_of, ranges_of, is_plain, is_comb}
-use Rattle.cx_rules.specs.Ports.{width_of, written_width, is_source_only, is_target_only, is_primitive_enable, is_part_port, path_of}
+use Rattle.cx_rules.specs.Footprints.{AssignNames, Rests}
+use Rattle.cx_rules.specs.Items.{Pair, Range, comparisons_of, atoms_of, sources_of, is_comb}
+use Rattle.cx_rules.specs.Ports.{width_of, is_primitive_enable, is_part_port, path_of}
 use Rattle.cx_rules.specs.ShapeRules.{is_hole, BreaksDoneNotState, BreaksAlwaysEnable, BreaksCombEnable, owner_length, is_bad_range, BreaksStaticGuard, LeadsToInput, BreaksOutputNotState}
 use Rattle.cx_rules.specs.Spots.{AssignRule}
 use Rattle.cx_rules.specs.WidthRules.{differ, pairs_of, first_unequal, BreaksWidth, is_wide, first_wide, BreaksGuardWidth, BreaksLiteral, BreaksNotATarget, BreaksNotASource}
@@ -85,7 +84,7 @@ module _ (i j : Instance) (t : Twins SameSignature i j) (made : PartMade i (part
     (
       port,
       first_of_more (differ (width_of i o.assign.target) (width_of i o.assign.source.port)) o.assign.target port (first_unequal i (comparisons_of o.assign.guard))
-      (sym (unequal_same (record { first = o.assign.target; second = o.assign.source.port } ∷ [])) ∙ is),
+          (sym (unequal_same (record { first = o.assign.target; second = o.assign.source.port } ∷ [])) ∙ is),
       (refl, refl),
     ),
   )

@@ -1,6 +1,6 @@
 -- RULES ON GROUPS: where a group of the new design breaks a rule, so does the same group of the old one.
-use Rattle.std.proofs.Common.{◌≡◌, ℕ, zero, suc, ◌+◌, ◌≤◌, ◌⊎◌, inl, inr, Bool, true, false, ◌&&◌, ◌||◌, List, [], ◌∷◌, length, Option, Some, None, refl, sym, ap, ◌∙◌, subst, arith}
-use Rattle.std.specs.Prelude.{nat_eq, slice_get, if◌then◌else◌, ◌≢◌}
+use Rattle.std.proofs.Common.{◌≡◌, ℕ, suc, ◌+◌, ◌≤◌, ◌⊎◌, inl, inr, Bool, true, false, ◌&&◌, ◌||◌, List, [], ◌∷◌, length, Some, refl, sym, ap, ◌∙◌, subst, arith}
+use Rattle.std.specs.Prelude.{nat_eq, slice_get, if◌then◌else◌}
 use Rattle.std.proofs.lemmas.Bool.Decides.{nat_tests}
 use Rattle.cx_text.specs.declared.places.Place.{Place}
 use Rattle.cx_text.proofs.BoolLaws.{not_both}
@@ -12,23 +12,22 @@ use Rattle.cx_meaning.specs.declared.kinds.GroupKind.TheVariants as kinds
 use Rattle.cx_meaning.specs.declared.kinds.PortDecl.{PortDecl}
 use Rattle.cx_meaning.specs.declared.ports.PortRef.{PortRef}
 use Rattle.cx_meaning.specs.declared.ports.PortRef.TheVariants as ports
-use Rattle.cx_meaning.specs.Designs.{Always, PlainAssign, PlainGroup, PlainCell, PlainComponent, group_at}
-use Rattle.cx_meaning.specs.Instances.{Instance, At, Nothing, OfRow, OfInstance, part_of, cells_of, cell_at}
+use Rattle.cx_meaning.specs.Designs.{Always, PlainAssign, PlainGroup, PlainCell, group_at}
+use Rattle.cx_meaning.specs.Instances.{Instance, At, OfRow, OfInstance, part_of, cells_of, cell_at}
 use Rattle.cx_meaning.specs.Active.{group, Owned, same_port, source_order}
-use Rattle.cx_meaning.specs.Sights.{In, AnInput, AnOutput, ItsDone, part_port}
-use Rattle.cx_meaning.specs.Islands.{kind_length, group_length}
-use Rattle.cx_rules.specs.Footprints.{Depends}
+use Rattle.cx_meaning.specs.Sights.{In}
+use Rattle.cx_meaning.specs.Islands.{kind_length}
 use Rattle.cx_rules.specs.Items.{is_plain}
 use Rattle.cx_rules.specs.Ports.{is_primitive_enable, is_part_port, path_of}
 use Rattle.cx_rules.specs.ShapeRules.{is_hole, is_hole_of, some_target, BreaksNoDone, GroupBreaksStaticShape}
-use Rattle.cx_rules.specs.CallShape.{is_port_of, Calls, go_port, done_port, is_register_enable, is_register_cell, is_register, captured_from, captured, wanted_dones, with_target, is_right_go, is_right_enable, is_right_done, assigns_of, IsInput, IsOutputOrDone, CallsAnother, has_right_go, IsFedBack, has_right_enable, has_right_done, CallBreak, another_cell, wrong_go, input_by_output, wrong_enable, wrong_done, IsOutside, IsMisshapen, BreaksCallShape, GroupBreaksCallShape}
+use Rattle.cx_rules.specs.CallShape.{is_port_of, Calls, go_port, done_port, is_register_enable, is_register_cell, captured_from, captured, wanted_dones, with_target, is_right_go, is_right_enable, is_right_done, assigns_of, IsOutputOrDone, CallsAnother, has_right_go, IsFedBack, has_right_enable, has_right_done, CallBreak, another_cell, wrong_go, input_by_output, wrong_enable, wrong_done, IsOutside, IsMisshapen, BreaksCallShape, GroupBreaksCallShape}
 use Rattle.cx_frames.proofs.RuleLemmas.{OwnerOf, continuous, of_group, owner_of}
 use Rattle.cx_promotion.specs.Promotable.{bare_enable, promoted_assigns}
 use Rattle.cx_promotion.specs.Made.{without_guard, IsPromoted, PartMade}
-use Rattle.cx_promotion.proofs.Impossible.{no_true, no_false, no_some}
-use Rattle.cx_promotion.proofs.RowCounts.{Counts, RowCounts, row_counts}
+use Rattle.cx_promotion.proofs.Impossible.{no_true, no_some}
+use Rattle.cx_promotion.proofs.RowCounts.{RowCounts, row_counts}
 use Rattle.cx_promotion.proofs.Twins.{Twins, beside_each, TwinAt, none_there, a_row_there, a_child_there}
-use Rattle.cx_promotion.proofs.Shapes.{no_target, Shape, shape_of}
+use Rattle.cx_promotion.proofs.Shapes.{no_target, shape_of}
 use Rattle.cx_promotion.proofs.Members.{group_made}
 use Rattle.cx_promotion.proofs.PortsMade.{SameSignature, port_same, kind_is, enable_same, part_port_same}
 use Rattle.cx_promotion.proofs.LeadsMade.{depends_made}
@@ -75,8 +74,7 @@ module _ (i j : Instance) (t : Twins SameSignature i j) (made : PartMade i (part
 
   pub no_done_back : (g : ℕ) (place : Place) (name : List ℕ) → BreaksNoDone j g place name → OldGroupBreak BreaksNoDone g
   no_done_back g place name (plain, none, tells) =
-      let stays = plain_stays g plain in
-      (
+      let stays = plain_stays g plain in (
         (group_at (part_of i) g).place,
         (group_at (part_of i) g).name,
         (subst (λ (x : PlainGroup). is_plain x.kind ≡ true) stays plain, subst (λ (x : PlainGroup). some_target (is_hole_of g) x.assigns ≡ false) stays none, (refl, refl)),
@@ -228,8 +226,7 @@ module _ (i j : Instance) (t : Twins SameSignature i j) (made : PartMade i (part
 
   pub group_call_back : (g : ℕ) (place : Place) (name : List ℕ) → GroupBreaksCallShape j g place name → OldGroupBreak GroupBreaksCallShape g
   group_call_back g place name (plain, (c, calls, undriven), tells) =
-      let stays = plain_stays g plain in
-      (
+      let stays = plain_stays g plain in (
         (group_at (part_of i) g).place,
         (group_at (part_of i) g).name,
         (

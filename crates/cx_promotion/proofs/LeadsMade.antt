@@ -1,24 +1,20 @@
 -- WHAT LEADS ON in the new design does so in the old one, and what rests on state in the old design does so in the new one.
-use Rattle.std.proofs.Common.{◌≡◌, ℕ, zero, suc, ◌⊎◌, ⊎_elim, inl, inr, Bool, true, false, List, [], ◌∷◌, Option, Some, None, refl, sym, ap, ◌∙◌, subst}
+use Rattle.std.proofs.Common.{◌≡◌, ℕ, ◌⊎◌, inl, inr, Bool, true, false, List, [], ◌∷◌, refl, sym, ap, ◌∙◌, subst}
 use Rattle.std.specs.Prelude.{if◌then◌else◌}
-use Rattle.cx_prim.specs.declared.ports.Side.TheVariants as sides
 use Rattle.cx_prim.specs.Rows.{Row}
 use Rattle.cx_meaning.specs.declared.ports.PortRef.{PortRef}
-use Rattle.cx_meaning.specs.declared.ports.PortRef.TheVariants as ports
-use Rattle.cx_meaning.specs.Rows.{side_of}
 use Rattle.cx_meaning.specs.Designs.{Always, PlainAssign, PlainGroup, PlainComponent, group_at}
-use Rattle.cx_meaning.specs.Instances.{Instance, At, Nothing, OfRow, OfInstance, part_of, cells_of, cell_at}
-use Rattle.cx_meaning.specs.Active.{Active, Owned, same_port, offset_of, source_order, drivers}
-use Rattle.cx_meaning.specs.Sights.{In, AnOutput, ItsDone, part_port}
+use Rattle.cx_meaning.specs.Instances.{Instance, At, OfRow, OfInstance, part_of, cells_of, cell_at}
+use Rattle.cx_meaning.specs.Active.{Active, same_port, offset_of, source_order, drivers}
+use Rattle.cx_meaning.specs.Sights.{In, part_port}
 use Rattle.cx_meaning.proofs.ActiveLemmas.{acting_has}
 use Rattle.cx_meaning.proofs.PortsLemmas.{same_self}
-use Rattle.cx_rules.specs.Circles.{IsAcyclic}
 use Rattle.cx_rules.specs.Footprints.{AssignNames, Mentions, Rests, literal_rests, input_rests, registered_rests, output_rests, done_rests, combinational_rests, Depends}
 use Rattle.cx_rules.specs.Ports.{is_primitive_enable}
 use Rattle.cx_rules.specs.RaceRule.{HasCycle}
 use Rattle.cx_rules.specs.ShapeRules.{is_hole}
 use Rattle.cx_promotion.specs.Promotable.{bare_enable, promoted_assigns}
-use Rattle.cx_promotion.specs.Made.{IsPromoted, OrderMade, PartMade}
+use Rattle.cx_promotion.specs.Made.{IsPromoted, PartMade}
 use Rattle.cx_promotion.proofs.Orders.{acting_from, came_from}
 use Rattle.cx_promotion.proofs.Twins.{Twins, beside_each, TwinAt, none_there, a_row_there, a_child_there}
 use Rattle.cx_promotion.proofs.Members.{group_made}
@@ -76,8 +72,7 @@ module _ (whole : Instance) (old new : PlainComponent) (made : PartMade whole ol
   mentions_back : (act : Active) (p q : PortRef) → Mentions (drivers new act p) q → Mentions (drivers old act p) q
   mentions_back act p q (a, inside, names) =
       let f = acting_from act p (source_order new) a inside in
-      let m = came_from whole (IsPromoted whole old new) made.order f.owned f.stands in
-      (
+      let m = came_from whole (IsPromoted whole old new) made.order f.owned f.stands in (
         record { offset = a.offset; assign = m.owned.assign },
         acting_has act p (source_order old) m.owned a.offset m.stands (ap (λ r. same_port r p) (m.target ∙ f.target) ∙ same_self p) (ap (offset_of act) m.owner ∙ f.active),
         m.names q (subst (λ (b : PlainAssign). AssignNames b q) f.same names),

@@ -1,6 +1,6 @@
 -- A PROMOTED DESIGN KEEPS THE RULES of stages 3 to 6, where the old one does.
-use Rattle.std.proofs.Common.{◌≡◌, ℕ, zero, suc, ◌<◌, ◌≤◌, ⊎_elim, inl, inr, ◌⊎◌, List, [], ◌∷◌, length, refl, sym, ap, ◌∙◌, subst, arith}
-use Rattle.std.specs.Prelude.{slice_get, true, Some}
+use Rattle.std.proofs.Common.{◌≡◌, ℕ, zero, suc, ◌<◌, ◌≤◌, inl, inr, ◌⊎◌, List, length, refl, sym, ap, ◌∙◌, subst, arith}
+use Rattle.std.specs.Prelude.{true}
 use Rattle.std.proofs.lemmas.Bool.{cases_lt}
 use Rattle.std.proofs.lemmas.List.{get_or_past}
 use Rattle.cx_text.specs.declared.places.Place.{Place}
@@ -17,9 +17,9 @@ use Rattle.cx_rules.specs.Accepted.{Breaks, stage_of, KeepsStage, IsAccepted}
 use Rattle.cx_rules.specs.CallShape.{BreaksCallShape, GroupBreaksCallShape}
 use Rattle.cx_rules.specs.Items.{Visited, statements_in}
 use Rattle.cx_rules.specs.Ports.{component_of}
-use Rattle.cx_rules.specs.RaceRule.{HasCycle, arms_of, IsShared, IsEnabledTwice, BreaksCombCycle, GroupBreaksCombCycle, BreaksRace}
+use Rattle.cx_rules.specs.RaceRule.{HasCycle, arms_of, IsShared, BreaksCombCycle, GroupBreaksCombCycle, BreaksRace}
 use Rattle.cx_rules.specs.ShapeRules.{BreaksNoDone, BreaksDoneNotState, BreaksAlwaysEnable, BreaksCombEnable, BreaksStaticGuard, GroupBreaksStaticShape, BreaksStaticControl, BreaksLength, BreaksStaticTest, BreaksOutputNotState}
-use Rattle.cx_rules.specs.Spots.{Itself, AnAssign, AStatement, AGroup, Spot, AssignRule, StatementRule, GroupRule, OnAssign, OnStatement, OnGroup}
+use Rattle.cx_rules.specs.Spots.{AnAssign, AStatement, Spot, AssignRule, StatementRule, GroupRule, OnAssign, OnStatement, OnGroup}
 use Rattle.cx_rules.specs.StaticControl.{is_in_static, may_stand}
 use Rattle.cx_rules.specs.WidthRules.{BreaksWidth, BreaksGuardWidth, TestBreaksGuardWidth, BreaksLiteral, TestBreaksLiteral, BreaksNotATarget, BreaksNotASource, TestBreaksNotASource}
 use Rattle.cx_rules.specs.Wellformed.{IsDesign}
@@ -143,7 +143,7 @@ module _ (old new : PlainDesign) (design : IsDesign old) (accepted : IsAccepted 
 
   no_statement : (rule : StatementRule) → ((spot : Spot) (place : Place) (name : List ℕ) → OnStatement rule old spot place name → ⊥)
       → ((k : ℕ) (within : k < n) (w : Visited) (place : Place) (name : List ℕ) → Comes (i k) (j k) (t k) (made_at k within) (lengths k within) (stands_static k within) w → rule (j k) w place name
-          → OldStatement k within rule)
+      → OldStatement k within rule)
       → (spot : Spot) (place : Place) (name : List ℕ) → OnStatement rule new spot place name → ⊥
   no_statement rule keeps back spot place name on =
       let k : ℕ = spot.component in

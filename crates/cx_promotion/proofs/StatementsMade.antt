@@ -1,29 +1,28 @@
 -- RULES ON STATEMENTS: where one of the new design breaks a rule, so does the one of the old design from which it comes.
-use Rattle.std.proofs.Common.{◌≡◌, ℕ, zero, suc, ◌+◌, ◌≤◌, ◌⊎◌, inl, inr, Bool, true, false, ◌&&◌, List, [], ◌∷◌, ◌++◌, Option, Some, None, refl, sym, ap, ◌∙◌, subst, arith}
+use Rattle.std.proofs.Common.{◌≡◌, ℕ, ◌+◌, ◌≤◌, ◌⊎◌, inl, inr, Bool, true, false, ◌&&◌, List, [], ◌∷◌, Option, Some, None, refl, sym, ap, ◌∙◌, subst, arith}
 use Rattle.std.specs.Prelude.{slice_get, flat_map, is_some, ◌≢◌}
 use Rattle.cx_text.specs.declared.places.Place.{Place}
 use Rattle.cx_text.proofs.BoolLaws.{not_both}
 use Rattle.cx_meaning.specs.declared.ports.PlacedPort.{PlacedPort}
-use Rattle.cx_meaning.specs.declared.ports.PortRef.{PortRef}
-use Rattle.cx_meaning.specs.Designs.{PlainAssign, PlainGroup, PlainComponent, group_at, PlainForm, Empty, Enable, Seq, Par, If, While, Repeat, StaticSeq, StaticPar, StaticIf, StaticRepeat, Timed, PlainStatement, Placed, PlainStatements, no_statements, a_statement}
+use Rattle.cx_meaning.specs.Designs.{PlainGroup, PlainComponent, group_at, PlainForm, Empty, Enable, Seq, Par, If, While, Repeat, StaticSeq, StaticPar, StaticIf, StaticRepeat, Timed, PlainStatement, Placed, PlainStatements, no_statements, a_statement}
 use Rattle.cx_meaning.specs.Instances.{Instance, part_of}
 use Rattle.cx_meaning.specs.Sights.{In}
 use Rattle.cx_meaning.specs.Control.{groups_in, groups_of, groups_in_all, groups_drive, drives}
 use Rattle.cx_meaning.specs.Islands.{kind_length, group_length, or_zero, form_length, sum_length}
 use Rattle.cx_meaning.proofs.SightsLaws.{of_joined, in_left, in_right}
-use Rattle.cx_rules.specs.Footprints.{AssignNames, Reads, driven, named, tested, through, Rests}
-use Rattle.cx_rules.specs.Items.{Context, Dynamic, InStatic, Branch, Visited, visit, visit_parts, statements_in, test_in, option_list, tests_of}
-use Rattle.cx_rules.specs.Ports.{is_target_only, path_of}
+use Rattle.cx_rules.specs.Footprints.{Reads, driven, named, tested, through, Rests}
+use Rattle.cx_rules.specs.Items.{Context, Dynamic, InStatic, Branch, Visited, visit, statements_in, test_in, option_list, tests_of}
+use Rattle.cx_rules.specs.Ports.{path_of}
 use Rattle.cx_rules.specs.RaceRule.{arms_of, enabled_group, enabled_in, Arms, IsShared, IsEnabledTwice}
-use Rattle.cx_rules.specs.ShapeRules.{BreaksStaticControl, BreaksLength, BreaksStaticTest}
+use Rattle.cx_rules.specs.ShapeRules.{BreaksLength, BreaksStaticTest}
 use Rattle.cx_rules.specs.Spots.{StatementRule}
 use Rattle.cx_rules.specs.StaticControl.{is_static, is_in_static, may_stand, form_has_length, has_length, all_have_length, written_length}
-use Rattle.cx_rules.specs.WidthRules.{is_wide, differ, TestBreaksGuardWidth, TestBreaksLiteral, TestBreaksNotASource}
+use Rattle.cx_rules.specs.WidthRules.{differ, TestBreaksGuardWidth, TestBreaksLiteral, TestBreaksNotASource}
 use Rattle.cx_rules.proofs.ItemsLemmas.{tests_flat}
 use Rattle.cx_laws.proofs.TogetherLemmas.{in_flat}
 use Rattle.cx_laws.proofs.VisitLemmas.{visited}
 use Rattle.cx_promotion.specs.Made.{IsPromoted, IsRun, one_more, StatementMade, PartMade}
-use Rattle.cx_promotion.proofs.Impossible.{no_true, no_false, no_some}
+use Rattle.cx_promotion.proofs.Impossible.{no_true, no_some}
 use Rattle.cx_promotion.proofs.Twins.{Twins}
 use Rattle.cx_promotion.proofs.Shapes.{shape_of}
 use Rattle.cx_promotion.proofs.Members.{plain_length, group_made}
@@ -31,7 +30,7 @@ use Rattle.cx_promotion.proofs.StaticStays.{form_length_same, parts_static}
 use Rattle.cx_promotion.proofs.MadeControl.{made_groups, groups_drive-made}
 use Rattle.cx_promotion.proofs.PortsMade.{SameSignature, written_same, target_only_same}
 use Rattle.cx_promotion.proofs.LeadsMade.{within_group, rests_made}
-use Rattle.cx_promotion.proofs.VisitsMade.{ArmsFrom, Came, of_dynamic, of_piece, of_enable, the_same, statement_comes}
+use Rattle.cx_promotion.proofs.VisitsMade.{Came, of_dynamic, of_piece, of_enable, the_same, statement_comes}
 
 -- lists
 flat_back : {A B : Type 0} (each : A → List B) (xs : List A) (y : B) → In (flat_map each xs) y → (x : A) × In xs x × In (each x) y
@@ -175,8 +174,7 @@ module _ (i j : Instance) (t : Twins SameSignature i j) (made : PartMade i (part
   length_at context form (of_piece run) is has (inr zero_length) = absurd (piece_length run zero_length)
   length_at context form (of_enable v g inside e long) is has wrong = no_true is
   length_at context form (the_same v inside) is has wrong =
-      let same = static_groups_same v inside is in
-      (
+      let same = static_groups_same v inside is in (
         v,
         inside,
         v.place,
@@ -251,8 +249,7 @@ module _ (i j : Instance) (t : Twins SameSignature i j) (made : PartMade i (part
   two_back : (vs : List Visited) (context : Context) (form : PlainForm) → Came P vs context form → (two : Arms (arms_of form)) → (v : Visited) × In vs v × TwoBack v.form form two
   two_back vs context form (of_dynamic v inside tests dynamic enables arms) two =
       let one = arms two.one two.first two.first_stands in
-      let other = arms two.other two.second two.second_stands in
-      (
+      let other = arms two.other two.second two.second_stands in (
         v,
         inside,
         record {

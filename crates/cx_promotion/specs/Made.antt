@@ -8,12 +8,10 @@ use Rattle.cx_meaning.specs.Instances.{Instance, State}
 use Rattle.cx_meaning.specs.Active.{Owned, source_order}
 use Rattle.cx_meaning.specs.Answers.{End}
 use Rattle.cx_meaning.specs.Running.{run_main}
-use Rattle.cx_rules.specs.Accepted.{IsAccepted, KeepsStage}
 use Rattle.cx_rules.specs.Externals.{external_rows}
 use Rattle.cx_rules.specs.Ports.{component_of, is_primitive_enable}
 use Rattle.cx_rules.specs.ShapeRules.{is_hole}
 use Rattle.cx_rules.specs.StaticControl.{is_static}
-use Rattle.cx_rules.specs.Wellformed.{IsDesign}
 use Rattle.cx_rewrites.specs.Beside.{joined}
 use Rattle.cx_promotion.specs.Promotable.{promotable, promoted_group}
 
