@@ -1,0 +1,3 @@
+pub mod Promotable
+pub mod Rewriting
+pub mod Made
