@@ -1,1 +1,17 @@
 pub mod KnownProfiles
+pub mod DepthLemmas
+pub mod CellLemmas
+pub mod LoneDrivers
+pub mod PortLemmas
+pub mod WalkLemmas
+pub mod GrownLemmas
+pub mod ReadLemmas
+pub mod RestLemmas
+pub mod ReachLemmas
+pub mod RoleLemmas
+pub mod GainedLemmas
+pub mod CounterDrives
+pub mod InsideLemmas
+pub mod TreeLemmas
+pub mod PairLemmas
+pub mod CircleLemmas
