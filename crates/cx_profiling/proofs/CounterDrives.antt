@@ -47,7 +47,7 @@ abbrev pub wire : Place → Wire → ℕ → PlainAssign
 wire place w r = drive place (wire_target w r) (wire_source w r)
 
 -- a port of no counter's cell at c, and of none of so many from c on
-abbrev Away : ℕ → ℕ → PortRef → Type 0
+abbrev pub Away : ℕ → ℕ → PortRef → Type 0
 Away c n (ports.Cell e p) = (e < c) ⊎ (c + 2 * n ≤ e)
 Away c n (ports.Input m) = Unit {0}
 Away c n (ports.Output m) = Unit {0}

@@ -14,4 +14,11 @@ pub mod CounterDrives
 pub mod InsideLemmas
 pub mod TreeLemmas
 pub mod PairLemmas
+pub mod ShownLemmas
+pub mod OutputDrives
 pub mod CircleLemmas
+pub mod SightLemmas
+pub mod RowLemmas
+pub mod AcyclicLemmas
+pub mod CounterLooks
+pub mod GrownCycles

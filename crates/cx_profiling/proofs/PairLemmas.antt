@@ -5,7 +5,7 @@ use Rattle.cx_prim.specs.Rows.{Row}
 use Rattle.cx_prim.specs.Table.{row_of}
 use Rattle.cx_meaning.specs.declared.ports.PortRef.{PortRef}
 use Rattle.cx_meaning.specs.declared.ports.PortRef.TheVariants as ports
-use Rattle.cx_meaning.specs.Designs.{PlainCell, PlainComponent, PlainDesign, OfComponent, component_at}
+use Rattle.cx_meaning.specs.Designs.{PlainCell, PlainGroup, PlainComponent, PlainDesign, OfComponent, component_at}
 use Rattle.cx_meaning.specs.Instances.{Instance, OfRow, OfInstance, cell_at, cells_of, part_of, tree_within}
 use Rattle.cx_meaning.specs.Active.{Active, Acting, Owned, owned, owned_by_groups, drivers}
 use Rattle.cx_meaning.specs.Sights.{In, PartPort, part_port}
@@ -33,6 +33,10 @@ module _ (d : PlainDesign) (design : IsDesign d) (k : ℕ) (within : k < length 
   abbrev other : PlainComponent
   other = component_at (with_counts d) k
 
+  -- the groups that store counts, of main
+  abbrev pub stored : List (List ℕ) → List PlainGroup
+  stored names = store_groups part.place names (length part.cells + 2 * length (counters (component_of d k))) (address_width (length (shown_in (component_of d k)))) (suc (2 * length (counters (component_of d k)))) (length part.groups) 0 (shown_in (component_of d k))
+
   -- THE ASSIGNMENTS of the component, moved, and new ones
   pub whole_walk : Walk d part (assigns_of part) (assigns_of other)
   whole_walk = by (role d k within)
@@ -46,7 +50,7 @@ module _ (d : PlainDesign) (design : IsDesign d) (k : ℕ) (within : k < length 
       counted : Walk d part (owned_by_groups 0 part.groups) (owned_by_groups 0 (counted_groups d part (cells_of (component_of d k)) (length part.cells) part.groups))
       counted = counted_walk d part (cells_of (component_of d k)) (length part.cells) 0 part.groups (omega arith) groups_inside
 
-      stores : (names : List (List ℕ)) → Walk d part [] (owned_by_groups (length part.groups) (store_groups part.place names (length part.cells + 2 * length (counters (component_of d k))) (address_width (length (shown_in (component_of d k)))) (suc (2 * length (counters (component_of d k)))) (length part.groups) 0 (shown_in (component_of d k))))
+      stores : (names : List (List ℕ)) → Walk d part [] (owned_by_groups (length part.groups) (stored names))
       stores names =
           store_walk d part part.place names (length part.cells + 2 * length (counters (component_of d k))) (address_width (length (shown_in (component_of d k)))) (suc (2 * length (counters (component_of d k)))) (length part.groups) 0 (shown_in (component_of d k))
           (omega arith) (omega arith)
@@ -58,8 +62,8 @@ module _ (d : PlainDesign) (design : IsDesign d) (k : ℕ) (within : k < length 
       by (as_main names is e) =
           subst (λ x. Walk d part (assigns_of part) (assigns_of x)) (sym e)
           (both_walk d part (bare_walk d part part.always always_inside)
-          (subst (Walk d part (owned_by_groups 0 part.groups)) (sym (groups_joined 0 (length part.groups) (counted_groups d part (cells_of (component_of d k)) (length part.cells) part.groups) _ count))
-          (subst (λ x. Walk d part x _) (nothing_more d part (owned_by_groups 0 part.groups)) (both_walk d part counted (stores names)))))
+          (subst (Walk d part (owned_by_groups 0 part.groups)) (sym (groups_joined 0 (length part.groups) (counted_groups d part (cells_of (component_of d k)) (length part.cells) part.groups) (stored names) count))
+          (subst (λ x. Walk d part x (owned_by_groups 0 (counted_groups d part (cells_of (component_of d k)) (length part.cells) part.groups) ++ owned_by_groups (length part.groups) (stored names))) (nothing_more d part (owned_by_groups 0 part.groups)) (both_walk d part counted (stores names)))))
       by (as_child names is r e) =
           subst (λ x. Walk d part (assigns_of part) (assigns_of x)) (sym e) (both_walk d part (outputs_walk d part part.place (shown_in (component_of d k)) part.always always_inside) counted)
       by (as_kept is r e) =

@@ -21,7 +21,7 @@ joined_again [] ys zs = refl
 joined_again (x ∷ xs) ys zs = ap (λ list. x ∷ list) (joined_again xs ys zs)
 
 -- CELLS of counters: the register, and the adder behind it
-counter_count : (place : Place) (names : List (List ℕ)) (n k : ℕ) → length (counter_cells place names n k) ≡ 2 * k
+pub counter_count : (place : Place) (names : List (List ℕ)) (n k : ℕ) → length (counter_cells place names n k) ≡ 2 * k
 counter_count place names n zero = refl
 counter_count place names n (suc k) = let rest : length (counter_cells place names (suc (suc n)) k) ≡ 2 * k = counter_count place names (suc (suc n)) k in omega (arith, rest)
 
