@@ -22,3 +22,5 @@ pub mod RowLemmas
 pub mod AcyclicLemmas
 pub mod CounterLooks
 pub mod GrownCycles
+pub mod CountWithin
+pub mod GroupLemmas
