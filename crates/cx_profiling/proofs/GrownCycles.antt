@@ -5,11 +5,12 @@ use Rattle.std.proofs.lemmas.List.{length-append}
 use Rattle.cx_prim.specs.CellStates.{CellState, Register}
 use Rattle.cx_prim.specs.Rows.{Row}
 use Rattle.cx_meaning.specs.declared.ports.PortRef.TheVariants as ports
+use Rattle.cx_meaning.specs.declared.sights.FaultKind.{FaultKind}
 use Rattle.cx_meaning.specs.Designs.{PlainCell, PlainComponent, PlainDesign, OfComponent, component_at}
 use Rattle.cx_meaning.specs.Instances.{Instance, Node, Cells, no_cells, a_primitive, an_instance, OfRow, OfInstance, cell_at, cell_count, cells_of, Path, State, under, tree_within}
 use Rattle.cx_meaning.specs.Active.{Active}
 use Rattle.cx_meaning.specs.Sights.{Held, In, seen}
-use Rattle.cx_meaning.specs.Cycles.{Fault, Outcome, Next, Stops, outcome_at, stepped, Goes, cycle, every_cell}
+use Rattle.cx_meaning.specs.Cycles.{Fault, fault_at, Outcome, Next, Stops, outcome_at, stepped, Goes, cycle, every_cell}
 use Rattle.cx_meaning.proofs.CycleLemmas.{row_within}
 use Rattle.cx_meaning.proofs.InstancesLemmas.{instance_is, instance_row, row_instance, row_is, nothing_row, nothing_instance}
 use Rattle.cx_rules.specs.Circles.{IsAcyclic, AcyclicBelow}
@@ -72,21 +73,21 @@ cells_grown (an_instance x rest) from τ s t rows kids =
         (λ c child e. let next : from + suc c ≡ suc from + c = omega arith in subst (λ n. Grown child (at_cell n τ) (under n s) (under n t)) next (kids (suc c) child e)))
 
 -- so many cells follow, and more go on
-follow : (x y : ℕ → Outcome) (n extra c : ℕ) → ((e : ℕ) → c ≤ e → e < c + n → OutcomeFollows (λ f. f) e (x e) e (y e))
-    → ((e : ℕ) → c + n ≤ e → e < c + n + extra → (after : CellState) × (y e ≡ Next after)) → OutcomesFollow (λ f. f) x y c n c (n + extra)
-follow x y zero extra c old new = rest extra c (λ e past less. new e (omega (arith, past)) (omega (arith, less)))
+follow : (faults : Fault → Fault) (x y : ℕ → Outcome) (n extra c : ℕ) → ((e : ℕ) → c ≤ e → e < c + n → OutcomeFollows faults e (x e) e (y e))
+    → ((e : ℕ) → c + n ≤ e → e < c + n + extra → (after : CellState) × (y e ≡ Next after)) → OutcomesFollow faults x y c n c (n + extra)
+follow faults x y zero extra c old new = rest extra c (λ e past less. new e (omega (arith, past)) (omega (arith, less)))
   where
-    rest : (extra e : ℕ) → ((f : ℕ) → e ≤ f → f < e + extra → (after : CellState) × (y f ≡ Next after)) → OutcomesFollow (λ f. f) x y c 0 e (0 + extra)
+    rest : (extra e : ℕ) → ((f : ℕ) → e ≤ f → f < e + extra → (after : CellState) × (y f ≡ Next after)) → OutcomesFollow faults x y c 0 e (0 + extra)
     rest zero e h = no_more
     rest (suc extra) e h =
         let r = h e (omega arith) (omega arith) in
         let count : suc (0 + extra) ≡ 0 + suc extra = omega arith in
-        subst (λ q. OutcomesFollow (λ f. f) x y c 0 e q) count (new_one r.0 r.1 (rest extra (suc e) (λ f past less. h f (omega (arith, past)) (omega (arith, less)))))
-follow x y (suc n) extra c old new =
+        subst (λ q. OutcomesFollow faults x y c 0 e q) count (new_one r.0 r.1 (rest extra (suc e) (λ f past less. h f (omega (arith, past)) (omega (arith, less)))))
+follow faults x y (suc n) extra c old new =
     let count : suc (n + extra) ≡ suc n + extra = omega arith in
-    subst (λ q. OutcomesFollow (λ f. f) x y c (suc n) c q) count
+    subst (λ q. OutcomesFollow faults x y c (suc n) c q) count
     (both (old c (omega arith) (omega arith))
-    (follow x y n extra (suc c) (λ e past less. old e (omega (arith, past)) (omega (arith, less))) (λ e past less. new e (omega (arith, past)) (omega (arith, less)))))
+    (follow faults x y n extra (suc c) (λ e past less. old e (omega (arith, past)) (omega (arith, less))) (λ e past less. new e (omega (arith, past)) (omega (arith, less)))))
 
 module _ (d : PlainDesign) (design : IsDesign d) (m k : ℕ) (at : InTree d (suc m) k) where
   abbrev node : PlainComponent
@@ -123,6 +124,7 @@ module _ (d : PlainDesign) (design : IsDesign d) (m k : ℕ) (at : InTree d (suc
   module _ (act : Active) (acyclic : IsAcyclic i act) (deeper : AcyclicBelow (cells_of i)) (twin_acyclic : IsAcyclic j act) (twin_deeper : AcyclicBelow (cells_of j))
       (held twin : Held) (same : (n : ℕ) → n < length node.inputs → twin n ≡ held n)
       (kids : (τ : Tally) (s t : State) → Grown i τ s t → KidsAlike d design m k at s t)
+      (faults : Fault → Fault) (fixed : (c p : ℕ) (row : Row) (kind : FaultKind) → cell_at (cells_of i) c ≡ OfRow row → faults (fault_at kind (ports.Cell c p)) ≡ fault_at kind (ports.Cell c p))
       (further : (t : State) (e : ℕ) → length node.cells + 2 * length (counters (component_of d k)) ≤ e → e < length other.cells → (after : CellState) × (comes_to j twin act t e ≡ Next after)) where
     module _ (τ : Tally) (s t : State) (grown : Grown i τ s t) where
       alike : (c : ℕ) (row : Row) → cell_at (cells_of i) c ≡ OfRow row → cell_at (cells_of j) c ≡ OfRow row
@@ -138,20 +140,20 @@ module _ (d : PlainDesign) (design : IsDesign d) (m k : ℕ) (at : InTree d (suc
             (few, λ cell e stands is. absurd (instance_row (tree_within d m e) row (sym (at_component (tree_within d m) node.cells c cell e stands is) ∙ first)));
       }
 
-      follows_same : (c : ℕ) (o w : Outcome) → o ≡ w → OutcomeFollows (λ f. f) c o c w
-      follows_same c (Next a) w e = (a, sym e)
-      follows_same c (Stops kind p) w e = (p, sym e, refl)
+      follows_same : (c : ℕ) (row : Row) (o w : Outcome) → cell_at (cells_of i) c ≡ OfRow row → o ≡ w → OutcomeFollows faults c o c w
+      follows_same c row (Next a) w first e = (a, sym e)
+      follows_same c row (Stops kind p) w first e = (p, sym e, fixed c p row kind first)
 
-      follows : (c : ℕ) → c < length node.cells → OutcomeFollows (λ f. f) c (comes_to i held act s c) c (comes_to j twin act t c)
+      follows : (c : ℕ) → c < length node.cells → OutcomeFollows faults c (comes_to i held act s c) c (comes_to j twin act t c)
       follows c few = by (pair_at d design m k at c few)
         where
-          by : CellPair d design m k at c → OutcomeFollows (λ f. f) c (comes_to i held act s c) c (comes_to j twin act t c)
+          by : CellPair d design m k at c → OutcomeFollows faults c (comes_to i held act s c) c (comes_to j twin act t c)
           by (row_pair row first second moved) =
-              follows_same c (comes_to i held act s c) (comes_to j twin act t c) (same_outcome i j held twin act act s t c c (alike c row first second moved few))
+              follows_same c row (comes_to i held act s c) (comes_to j twin act t c) first (same_outcome i j held twin act act s t c c (alike c row first second moved few))
           by (child_pair cell e stands is below first second moved) =
               let here : comes_to i held act s c ≡ Next (s (c ∷ [])) = ap (λ a. outcome_at (seen i held act s) c a (s (c ∷ []))) first in
               let there : comes_to j twin act t c ≡ Next (t (c ∷ [])) = ap (λ a. outcome_at (seen j twin act t) c a (t (c ∷ []))) second in
-              subst (λ o. OutcomeFollows (λ f. f) c o c (comes_to j twin act t c)) (sym here) (t (c ∷ []), there)
+              subst (λ o. OutcomeFollows faults c o c (comes_to j twin act t c)) (sym here) (t (c ∷ []), there)
 
       register_goes : (x : Counter) → In (counters (component_of d k)) x
           → (after : CellState) × (comes_to j twin act t x.register ≡ Next after) × ((done : Bool) × (after ≡ Register (plus τ (made_with act) [] x.group % 2 ^ 64) done))
@@ -183,13 +185,13 @@ module _ (d : PlainDesign) (design : IsDesign d) (m k : ℕ) (at : InTree d (suc
           by (an_adder x there is) = (t (suc x.register ∷ []), ap (comes_to j twin act t) (sym is) ∙ adder_next d design m k at act twin t twin_acyclic twin_deeper x there)
           by (further_on far) = further t e far less
 
-      all_follow : OutcomesFollow (λ f. f) (comes_to i held act s) (comes_to j twin act t) 0 (cell_count (cells_of i)) 0 (cell_count (cells_of j))
+      all_follow : OutcomesFollow faults (comes_to i held act s) (comes_to j twin act t) 0 (cell_count (cells_of i)) 0 (cell_count (cells_of j))
       all_follow =
           let more = more_cells d k at.within in
           let total : length other.cells ≡ length node.cells + length more.0 = ap length more.1 ∙ length-append node.cells more.0 in
-          subst (λ n. OutcomesFollow (λ f. f) (comes_to i held act s) (comes_to j twin act t) 0 n 0 (cell_count (cells_of j))) (sym (count_listed (tree_within d m) node.cells))
-          (subst (λ n. OutcomesFollow (λ f. f) (comes_to i held act s) (comes_to j twin act t) 0 (length node.cells) 0 n) (sym (count_listed (tree_within (with_counts d) m) other.cells ∙ total))
-          (follow (comes_to i held act s) (comes_to j twin act t) (length node.cells) (length more.0) 0
+          subst (λ n. OutcomesFollow faults (comes_to i held act s) (comes_to j twin act t) 0 n 0 (cell_count (cells_of j))) (sym (count_listed (tree_within d m) node.cells))
+          (subst (λ n. OutcomesFollow faults (comes_to i held act s) (comes_to j twin act t) 0 (length node.cells) 0 n) (sym (count_listed (tree_within (with_counts d) m) other.cells ∙ total))
+          (follow faults (comes_to i held act s) (comes_to j twin act t) (length node.cells) (length more.0) 0
           (λ e past less. follows e (omega (arith, less)))
           (λ e past less. new_goes e (omega (arith, past)) (omega (arith, less, total)))))
 
@@ -228,6 +230,6 @@ module _ (d : PlainDesign) (design : IsDesign d) (m k : ℕ) (at : InTree d (suc
         grown_left = make_grown (plus τ (made_with act)) after (left_by j twin act t) rows_left kids_left registers_left
 
     -- THE CYCLE GROWS
-    pub cycle_grows : CycleCarries Exact (Grown i) (λ f. f) (made_with act) i j held twin act act
+    pub cycle_grows : CycleCarries Exact (Grown i) faults (made_with act) i j held twin act act
     cycle_grows =
-        cycle_follows Exact (Grown i) (λ f. f) (made_with act) i j held twin act act (λ τ s t grown. all_follow τ s t grown) (λ τ s t after grown goes. grown_left τ s t grown after goes)
+        cycle_follows Exact (Grown i) faults (made_with act) i j held twin act act (λ τ s t grown. all_follow τ s t grown) (λ τ s t after grown goes. grown_left τ s t grown after goes)

@@ -22,5 +22,10 @@ pub mod RowLemmas
 pub mod AcyclicLemmas
 pub mod CounterLooks
 pub mod GrownCycles
+pub mod SeenOutputs
 pub mod CountWithin
 pub mod GroupLemmas
+pub mod EnabledLemmas
+pub mod ArmLemmas
+pub mod FaultLemmas
+pub mod CallLemmas
