@@ -126,14 +126,14 @@ module _ (path : Path) (g : ℕ) where
       by (answers.Faults f) h = refl
 
 -- a group that is not listed is not active
-none_active : (g : ℕ) (h : History) (t : ℕ) (list : List Occurrence) → AllFine (λ x. x ≡ g → ⊥) (λ q. Unit {0}) list → offset_in (active_in h t list) g ≡ None
-none_active g h t [] fine = refl
-none_active g h t (Runs x from to conditions ∷ rest) ((other, all), fine) = by (nat_le from t && nat_lt t to && hold h conditions) (none_active g h t rest fine)
+pub none_active : (G : ℕ → Type 0) (F : PortRef → Type 0) (g : ℕ) → ((x : ℕ) → G x → x ≡ g → ⊥) → (h : History) (t : ℕ) (list : List Occurrence) → AllFine G F list → offset_in (active_in h t list) g ≡ None
+none_active G F g differ h t [] fine = refl
+none_active G F g differ h t (Runs x from to conditions ∷ rest) ((good, all), fine) = by (nat_le from t && nat_lt t to && hold h conditions) (none_active G F g differ h t rest fine)
   where
     by : (b : Bool) → offset_in (active_in h t rest) g ≡ None → offset_in (entry_if b x (t - from) (active_in h t rest)) g ≡ None
-    by true e = ap (λ b. if b then Some (t - from) else offset_in (active_in h t rest) g) (ne_eqb x g other) ∙ e
+    by true e = ap (λ b. if b then Some (t - from) else offset_in (active_in h t rest) g) (ne_eqb x g (differ x good)) ∙ e
     by false e = e
-none_active g h t (Looks port at conditions ∷ rest) (here, fine) = none_active g h t rest fine
+none_active G F g differ h t (Looks port at conditions ∷ rest) (here, fine) = none_active G F g differ h t rest fine
 
 called_drives : (cells : Cells) (assigns : List PlainAssign) (e : ℕ) → called_in cells assigns ≡ Some e → assigns_drive assigns e ≡ true
 called_drives cells [] e h = absurd (cc)
@@ -168,7 +168,7 @@ module _ (i : Instance) (kids : Children) (counts : ChildrenCount) (held : Held)
   module _ (g : ℕ) where
     island_own : (form : PlainForm) → ((h : ℕ) → In (groups_in form) h → h ≡ g → ⊥) → NeverCounts [] g (count_island i held form)
     island_own form all s n =
-        zero_island [] g (λ es. made_with (entries es)) i held (form_flat (part_of i) form 0 []) (λ h t. ap once (none_active g h t (form_flat (part_of i) form 0 []) (fine_list (λ x. x ≡ g → ⊥) form all)))
+        zero_island [] g (λ es. made_with (entries es)) i held (form_flat (part_of i) form 0 []) (λ h t. ap once (none_active (λ x. x ≡ g → ⊥) (λ q. Unit {0}) g (λ x other. other) h t (form_flat (part_of i) form 0 []) (fine_list (λ x. x ≡ g → ⊥) form all)))
         (form_length (part_of i) form) 0 no_history s n
 
     turns_own : (h : ℕ) → (h ≡ g → ⊥) → NeverCounts [] g (turns_count (group_turn i held h) (made_with (group h)))

@@ -75,6 +75,10 @@ part_given part (suc n) past =
     let far : length part.inputs ≤ n = omega (arith, past) in
     subst IsGiven (sym (ap (λ b. if b then AnInput n else output_port (length part.outputs) (n - length part.inputs)) (le-ltb n (length part.inputs) far))) (past_given (length part.outputs) (n - length part.inputs))
 
+-- done is the port behind the outputs
+pub done_port : (part : PlainComponent) → part_port part (first_gained part) ≡ ItsDone
+done_port part = by_number part (first_gained part) ∙ its_done (length part.inputs) (length part.outputs) (length part.inputs + length part.outputs) (omega arith)
+
 pub output_before : (part : PlainComponent) (p n : ℕ) → part_port part p ≡ AnOutput n → n < length part.outputs
 output_before part zero n e = absurd (cc)
 output_before part (suc m) n e = ⊎_elim input other (cases_lt m (length part.inputs))

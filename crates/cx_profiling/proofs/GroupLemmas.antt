@@ -1,17 +1,18 @@
 -- THE GROUPS of an instrumented component: each has its assignments, moved, and a counted one those of its counter behind them.
-use Rattle.std.proofs.Common.{◌≡◌, ℕ, zero, suc, ◌+◌, ◌*◌, ◌<◌, ◌≤◌, inl, inr, ◌⊎◌, ⊎_elim, Bool, true, false, ◌||◌, if◌then◌else◌, List, [], ◌∷◌, ◌++◌, length, map, Option, Some, None, slice_get, get_or, refl, sym, ap, ◌∙◌, subst, arith}
+use Rattle.std.proofs.Common.{◌≡◌, ℕ, zero, suc, ◌+◌, ◌-◌, ◌*◌, ◌<◌, ◌≤◌, inl, inr, ◌⊎◌, ⊎_elim, Bool, true, false, ◌||◌, if◌then◌else◌, List, [], ◌∷◌, ◌++◌, length, map, Option, Some, None, slice_get, get_or, refl, sym, ap, ◌∙◌, subst, arith}
 use Rattle.std.proofs.lemmas.Bool.{cases_eq}
-use Rattle.std.proofs.lemmas.List.{get_or_append_left}
+use Rattle.std.proofs.lemmas.List.{get_or_append_left, get_or-append_right, get_or_past}
 use Rattle.cx_text.specs.declared.places.Place.{Place}
 use Rattle.cx_meaning.specs.declared.ports.PortRef.{PortRef}
 use Rattle.cx_meaning.specs.declared.ports.PortRef.TheVariants as ports
 use Rattle.cx_meaning.specs.Designs.{PlainAssign, PlainGroup, PlainComponent, PlainDesign, component_at, group_at, no_group}
 use Rattle.cx_meaning.specs.Instances.{Instance, Cells, cells_of, just}
 use Rattle.cx_meaning.specs.Sights.{In}
+use Rattle.cx_meaning.specs.Islands.{kind_length, group_length}
 use Rattle.cx_meaning.specs.Control.{targets_cell, assigns_drive, group_drives}
 use Rattle.cx_meaning.proofs.InstancesLemmas.{not_just, just_same, just_true}
 use Rattle.cx_rules.specs.Ports.{component_of}
-use Rattle.cx_profiling.specs.Counters.{is_counted, Counter, counters_from, counters, shown_in}
+use Rattle.cx_profiling.specs.Counters.{is_counted, Counter, counters_from, counters, Shown, shown_in}
 use Rattle.cx_profiling.specs.Instrumented.{is_reached, moved_in, moved_assigns, group_with, counted_groups, counter_assigns, store_groups, address_width, with_counts}
 use Rattle.cx_profiling.proofs.RoleLemmas.{register_at, Role, as_main, as_child, as_kept, role, own_counters}
 use Rattle.cx_profiling.proofs.CounterDrives.{counted_length}
@@ -215,3 +216,31 @@ module _ (d : PlainDesign) (k : ℕ) (within : k < length d.components) (reached
           ∙ sym (drive_joined (moved_assigns d part (group_at part g).assigns) (counter_assigns part.place r) x.register) ∙ sym (ap (λ (y : PlainGroup). assigns_drive y.assigns x.register) e) ∙ driven)))
           (cases_eq x.register r)
 
+
+  -- a group behind those of the component is no static one
+  pub new_length : (g : ℕ) → length part.groups ≤ g → group_length other g ≡ group_length part g
+  new_length g past = by (role d k within) ∙ sym (ap (λ (x : PlainGroup). kind_length x.kind) (get_or_past part.groups g no_group past))
+    where
+      both : (b : Bool) → b ≡ true → b ≡ false → ⊥
+      both true e f = absurd (cc)
+      both false e f = absurd (cc)
+
+      count : length (counted_groups d part cells (length part.cells) part.groups) ≡ length part.groups
+      count = counted_length d part cells (length part.cells) part.groups
+
+      of_stores : (place : Place) (names : List (List ℕ)) (memory width n g j : ℕ) (list : List Shown) (number : ℕ) → kind_length (get_or (store_groups place names memory width n g j list) number no_group).kind ≡ None
+      of_stores place names memory width n g j [] number = refl
+      of_stores place names memory width n g j (x ∷ xs) zero = refl
+      of_stores place names memory width n g j (x ∷ xs) (suc number) = of_stores place names memory width (suc n) (suc g) (suc j) xs number
+
+      by : Role d k → group_length other g ≡ None
+      by (as_main names is e) =
+          ap (λ x. group_length x g) e
+          ∙ ap (λ (x : PlainGroup). kind_length x.kind)
+          (get_or-append_right (counted_groups d part cells (length part.cells) part.groups) (store_groups part.place names (length part.cells + 2 * length (counters (component_of d k))) (address_width (length (shown_in (component_of d k)))) (suc (2 * length (counters (component_of d k)))) (length part.groups) 0 (shown_in (component_of d k)))
+          (length part.groups) g no_group count past)
+          ∙ of_stores part.place names (length part.cells + 2 * length (counters (component_of d k))) (address_width (length (shown_in (component_of d k)))) (suc (2 * length (counters (component_of d k)))) (length part.groups) 0 (shown_in (component_of d k)) (g - length part.groups)
+      by (as_child names is r e) =
+          ap (λ x. group_length x g) e
+          ∙ ap (λ (x : PlainGroup). kind_length x.kind) (get_or_past (counted_groups d part cells (length part.cells) part.groups) g no_group (omega (arith, past, count)))
+      by (as_kept is r e) = absurd (both (is_reached d k) reached r)

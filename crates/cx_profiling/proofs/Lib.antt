@@ -29,3 +29,6 @@ pub mod EnabledLemmas
 pub mod ArmLemmas
 pub mod FaultLemmas
 pub mod CallLemmas
+pub mod LeafLemmas
+pub mod ControlLemmas
+pub mod OutputLemmas
