@@ -32,3 +32,6 @@ pub mod CallLemmas
 pub mod LeafLemmas
 pub mod ControlLemmas
 pub mod OutputLemmas
+pub mod StoreDrives
+pub mod MemoryLemmas
+pub mod StoreLemmas
