@@ -112,7 +112,7 @@ module _ (d : PlainDesign) (design : IsDesign d) (accepted : IsAccepted d) (m k 
   groups_same (g ∷ gs) c there few =
       ap (λ b. b || groups_drive other gs c) (old_driven d k at.within (in_reach d at) g c (there g (inl refl)) few) ∙ ap (λ b. group_drives part g c || b) (groups_same gs c (λ h i. there h (inr i)) few)
 
-  no_cell : (g c : ℕ) → length part.cells ≤ c → g < length part.groups → group_drives part g c ≡ true → ⊥
+  pub no_cell : (g c : ℕ) → length part.cells ≤ c → g < length part.groups → group_drives part g c ≡ true → ⊥
   no_cell g c past few driven =
       let r = targeted (group_at part g).assigns c driven in
       let is : IsAssign (component_of d k) (Some g) r.0 = (design.components k at.within).assigns (Some g) r.0 (few, r.1) in

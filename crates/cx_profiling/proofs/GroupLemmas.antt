@@ -194,6 +194,27 @@ module _ (d : PlainDesign) (k : ℕ) (within : k < length d.components) (reached
           ap (λ (x : PlainGroup). assigns_drive x.assigns c) e ∙ drive_joined (moved_assigns d part (group_at part g).assigns) [] c
           ∙ left_or (assigns_drive (moved_assigns d part (group_at part g).assigns) c) false refl ∙ moved_drive d part (group_at part g).assigns c
 
+  -- a cell behind all counters is driven by none of them
+  pub behind_undriven : (g c : ℕ) → g < length part.groups → length part.cells + 2 * length (counters (component_of d k)) ≤ c → group_drives part g c ≡ false → group_drives other g c ≡ false
+  behind_undriven g c few past none = by (group_is g few)
+    where
+      register_far : (r : ℕ) → In (counters (component_of d k)) (record { group = g; register = r }) → suc r < c
+      register_far r i =
+          let a = register_at cells (length part.cells) 0 part.groups (record { group = g; register = r }) (listed (record { group = g; register = r }) i) in
+          let number : r ≡ length part.cells + 2 * a.0 = a.2 in
+          let less : a.0 < length (counters (component_of d k)) = subst (λ list. a.0 < length list) (sym (own_counters d k)) a.1 in
+          omega (arith, number, less, past)
+
+      by : GroupOf d part cells (counters (component_of d k)) g (group_at part g) (group_at other g) → group_drives other g c ≡ false
+      by (counted_group r i is e) =
+          let far : suc r < c = register_far r i in
+          ap (λ (x : PlainGroup). assigns_drive x.assigns c) e ∙ drive_joined (moved_assigns d part (group_at part g).assigns) (counter_assigns part.place r) c
+          ∙ left_or (assigns_drive (moved_assigns d part (group_at part g).assigns) c) (assigns_drive (counter_assigns part.place r) c) (counter_drives part.place r c (λ h. omega (arith, far, h)) (λ h. omega (arith, far, h)))
+          ∙ moved_drive d part (group_at part g).assigns c ∙ none
+      by (plain_group is e) =
+          ap (λ (x : PlainGroup). assigns_drive x.assigns c) e ∙ drive_joined (moved_assigns d part (group_at part g).assigns) [] c
+          ∙ left_or (assigns_drive (moved_assigns d part (group_at part g).assigns) c) false refl ∙ moved_drive d part (group_at part g).assigns c ∙ none
+
   -- A REGISTER is driven by its group alone
   pub register_driven : (x : Counter) → In (counters (component_of d k)) x → (g : ℕ) → g < length part.groups → (group_drives part g x.register ≡ true → ⊥) → group_drives other g x.register ≡ true → g ≡ x.group
   register_driven x i g few not_old driven = by (group_is g few)

@@ -35,3 +35,4 @@ pub mod OutputLemmas
 pub mod StoreDrives
 pub mod MemoryLemmas
 pub mod StoreLemmas
+pub mod StartsGrown
