@@ -36,3 +36,4 @@ pub mod StoreDrives
 pub mod MemoryLemmas
 pub mod StoreLemmas
 pub mod StartsGrown
+pub mod MainLemmas

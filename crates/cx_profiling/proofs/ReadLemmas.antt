@@ -4,9 +4,9 @@ use Rattle.cx_meaning.specs.Answers.{Answer, End, Fault, More}
 use Rattle.cx_meaning.specs.Budgets.{Beyond, Grows}
 use Rattle.cx_profiling.specs.RunsAlike.{Owes, Reads}
 
-module _ (S U F : Type 0) (Q : S → U → Type 0) (k : ℕ) (old : ℕ → Answer S F) (new : ℕ → Answer U F)
+module _ (S U F : Type 0) (Q : ℕ → S → U → Type 0) (k : ℕ) (old : ℕ → Answer S F) (new : ℕ → Answer U F)
     (old_grows : (n m : ℕ) → n ≤ m → Grows n (old n) (old m)) (new_grows : (n m : ℕ) → n ≤ m → Grows n (new n) (new m))
-    (owes : (n : ℕ) → Owes Q k (old n) (new n) (new (n + 2 * k))) where
+    (owes : (n : ℕ) → Owes (Q n) k (old n) (new n) (new (n + 2 * k))) where
   abbrev ended : U → ℕ → Answer U F
   ended u v = End u v
 
@@ -33,32 +33,32 @@ module _ (S U F : Type 0) (Q : S → U → Type 0) (k : ℕ) (old : ℕ → Answ
       go : (x : Answer S F) → old (n + 2 * k) ≡ x → ⊥
       go (End s t) h =
           let beyond : n < t = subst (Beyond n) h (subst (λ y. Grows n y (old (n + 2 * k))) more (old_grows n (n + 2 * k) (omega arith))) in
-          let o : Owes Q k (End s t) (new (n + 2 * k)) (new (n + 2 * k + 2 * k)) = subst (λ y. Owes Q k y (new (n + 2 * k)) (new (n + 2 * k + 2 * k))) h (owes (n + 2 * k)) in
+          let o : Owes (Q (n + 2 * k)) k (End s t) (new (n + 2 * k)) (new (n + 2 * k + 2 * k)) = subst (λ y. Owes (Q (n + 2 * k)) k y (new (n + 2 * k)) (new (n + 2 * k + 2 * k))) h (owes (n + 2 * k)) in
           let g : Grows (n + 2 * k) (End u v) (new (n + 2 * k + 2 * k)) = subst (λ y. Grows (n + 2 * k) y (new (n + 2 * k + 2 * k))) e (new_grows (n + 2 * k) (n + 2 * k + 2 * k) (omega arith)) in
           let same : v ≡ t + 2 * k = turns_same u o.0 v (t + 2 * k) (sym g.1 ∙ o.1) in
           omega arith
       go (Fault f t) h =
-          let o : new (n + 2 * k) ≡ Fault f t = subst (λ y. Owes Q k y (new (n + 2 * k)) (new (n + 2 * k + 2 * k))) h (owes (n + 2 * k)) in
+          let o : new (n + 2 * k) ≡ Fault f t = subst (λ y. Owes (Q (n + 2 * k)) k y (new (n + 2 * k)) (new (n + 2 * k + 2 * k))) h (owes (n + 2 * k)) in
           subst Ends (sym e ∙ o) tt
       go More h =
-          let o : new (n + 2 * k) ≡ More = subst (λ y. Owes Q k y (new (n + 2 * k)) (new (n + 2 * k + 2 * k))) h (owes (n + 2 * k)) in
+          let o : new (n + 2 * k) ≡ More = subst (λ y. Owes (Q (n + 2 * k)) k y (new (n + 2 * k)) (new (n + 2 * k + 2 * k))) h (owes (n + 2 * k)) in
           subst Ends (sym e ∙ o) tt
 
-  pub profile_reads : (n : ℕ) → Reads Q k n (old n) (new (n + 2 * k))
+  pub profile_reads : (n : ℕ) → Reads (Q n) k n (old n) (new (n + 2 * k))
   profile_reads n = go (old n) refl
     where
-      more_reads : old n ≡ More → (x : Answer U F) → new (n + 2 * k) ≡ x → Beyond n x → Reads Q k n More (new (n + 2 * k))
+      more_reads : old n ≡ More → (x : Answer U F) → new (n + 2 * k) ≡ x → Beyond n x → Reads (Q n) k n More (new (n + 2 * k))
       more_reads h (End u v) e b = absurd (no_end n u v h e)
       more_reads h (Fault f v) e b = inr (f, v, b, e)
       more_reads h More e b = inl e
 
-      go : (x : Answer S F) → old n ≡ x → Reads Q k n x (new (n + 2 * k))
-      go (End s t) h = subst (λ y. Owes Q k y (new n) (new (n + 2 * k))) h (owes n)
+      go : (x : Answer S F) → old n ≡ x → Reads (Q n) k n x (new (n + 2 * k))
+      go (End s t) h = subst (λ y. Owes (Q n) k y (new n) (new (n + 2 * k))) h (owes n)
       go (Fault f t) h =
-          let o : new n ≡ Fault f t = subst (λ y. Owes Q k y (new n) (new (n + 2 * k))) h (owes n) in
+          let o : new n ≡ Fault f t = subst (λ y. Owes (Q n) k y (new n) (new (n + 2 * k))) h (owes n) in
           let g : Grows n (Fault f t) (new (n + 2 * k)) = subst (λ y. Grows n y (new (n + 2 * k))) o (new_grows n (n + 2 * k) (omega arith)) in
           g
       go More h =
-          let o : new n ≡ More = subst (λ y. Owes Q k y (new n) (new (n + 2 * k))) h (owes n) in
+          let o : new n ≡ More = subst (λ y. Owes (Q n) k y (new n) (new (n + 2 * k))) h (owes n) in
           let b : Beyond n (new (n + 2 * k)) = subst (λ y. Grows n y (new (n + 2 * k))) o (new_grows n (n + 2 * k) (omega arith)) in
           more_reads h (new (n + 2 * k)) refl b
