@@ -28,15 +28,15 @@ use Rattle.cx_rules.specs.Wellformed.{IsDesign}
 use Rattle.cx_rewrites.specs.Driving.{assigns_of}
 use Rattle.cx_profiling.specs.Counters.{is_counted, Counter, counters_from, counters, Shown, shown_in, first_gained}
 use Rattle.cx_profiling.specs.Instrumented.{drive, moved_assigns, counted_groups, output_assigns, store_groups, counter_cells, memory_cell, name_at, main_component, child_component, with_counts}
-use Rattle.cx_profiling.proofs.CellLemmas.{at_row, at_none, at_listed}
+use Rattle.cx_profiling.proofs.ListedCells.{at_row, at_none, at_listed}
 use Rattle.cx_profiling.proofs.PortLemmas.{IsInside, IsNew}
 use Rattle.cx_profiling.proofs.LoneDrivers.{other_port, AllSilent, silent_joined, silent_owner, silent_drives}
 use Rattle.cx_profiling.proofs.WalkLemmas.{owned_joined, groups_joined}
 use Rattle.cx_profiling.proofs.RoleLemmas.{counter_count, own_counters, register_there, adder_there, inputs_stay}
-use Rattle.cx_profiling.proofs.GainedLemmas.{IsGiven, given_output, given_done, part_given}
+use Rattle.cx_profiling.proofs.CellPorts.{IsGiven, given_output, given_done, part_given}
 use Rattle.cx_profiling.proofs.CounterDrives.{Wire, to_left, to_right, to_in, to_enable, wire_target, wire_source, wire, Away, old_silent, counted_silent, counted_length, counter_driven}
 use Rattle.cx_profiling.proofs.InsideLemmas.{targets_inside}
-use Rattle.cx_profiling.proofs.TreeLemmas.{InTree, in_reach, is_whole}
+use Rattle.cx_profiling.proofs.GrownTrees.{InTree, in_reach, is_whole}
 use Rattle.cx_profiling.proofs.PairLemmas.{stored, CellPair, row_pair, child_pair, pair_at}
 use Rattle.cx_profiling.proofs.ShownLemmas.{IsBelow, WhereShown, own_count, child_count, where_shown}
 use Rattle.cx_profiling.proofs.OutputDrives.{output_driven, no_output_driven}

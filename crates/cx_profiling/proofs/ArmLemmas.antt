@@ -33,9 +33,9 @@ use Rattle.cx_profiling.specs.Counters.{has_name, is_counted_kind, is_counted, C
 use Rattle.cx_profiling.specs.Counting.{ChildrenCount, counting}
 use Rattle.cx_profiling.specs.Growing.{Grown}
 use Rattle.cx_profiling.specs.Instrumented.{moved_in, with_counts}
-use Rattle.cx_profiling.proofs.CellLemmas.{count_listed}
+use Rattle.cx_profiling.proofs.ListedCells.{count_listed}
 use Rattle.cx_profiling.proofs.GrownLemmas.{Apart, grown_merge}
-use Rattle.cx_profiling.proofs.TreeLemmas.{InTree, in_reach, is_whole}
+use Rattle.cx_profiling.proofs.GrownTrees.{InTree, in_reach, is_whole}
 use Rattle.cx_profiling.proofs.CountWithin.{own_zero, own_arms_zero, below_zero, below_arms_zero}
 use Rattle.cx_profiling.proofs.GroupLemmas.{counted_there, old_driven, register_driven, register_past}
 use Rattle.cx_profiling.proofs.EnabledLemmas.{AreForms, Known, statement_known, is_enabled, arm_of, visits_of_arm}

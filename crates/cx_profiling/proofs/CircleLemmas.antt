@@ -21,12 +21,12 @@ use Rattle.cx_rewrites.specs.Moving.{moved_acting}
 use Rattle.cx_rewrites.proofs.ReflectLemmas.{IsImage, mentions_back}
 use Rattle.cx_profiling.specs.Counters.{first_gained}
 use Rattle.cx_profiling.specs.Instrumented.{moved_in, gained, with_counts}
-use Rattle.cx_profiling.proofs.CellLemmas.{at_component}
+use Rattle.cx_profiling.proofs.ListedCells.{at_component}
 use Rattle.cx_profiling.proofs.PortLemmas.{IsInside, IsNew, moved_apart, grown_number}
-use Rattle.cx_profiling.proofs.GainedLemmas.{IsGiven, given_output, given_done, part_given}
+use Rattle.cx_profiling.proofs.CellPorts.{IsGiven, given_output, given_done, part_given}
 use Rattle.cx_profiling.proofs.RoleLemmas.{inputs_stay}
 use Rattle.cx_profiling.proofs.InsideLemmas.{inside_closed}
-use Rattle.cx_profiling.proofs.TreeLemmas.{InTree}
+use Rattle.cx_profiling.proofs.GrownTrees.{InTree}
 use Rattle.cx_profiling.proofs.PairLemmas.{drives_moved, CellPair, row_pair, child_pair, pair_at, child_ports}
 
 -- a port from which nothing leads in more than so many steps

@@ -39,7 +39,7 @@ use Rattle.cx_profiling.specs.Growing.{Grown}
 use Rattle.cx_profiling.specs.Instrumented.{is_reached, moved_in, counter_cells, child_component, with_counts}
 use Rattle.cx_profiling.proofs.PortLemmas.{IsInside, there_inside}
 use Rattle.cx_profiling.proofs.RoleLemmas.{Role, as_main, as_child, as_kept, role, counter_count}
-use Rattle.cx_profiling.proofs.TreeLemmas.{InTree, in_reach, child_in_tree, no_main_below}
+use Rattle.cx_profiling.proofs.GrownTrees.{InTree, in_reach, child_in_tree, no_main_below}
 use Rattle.cx_profiling.proofs.PairLemmas.{CellPair, row_pair, child_pair, pair_at}
 use Rattle.cx_profiling.proofs.AcyclicLemmas.{ActsWithin, child_few, child_acyclic}
 use Rattle.cx_profiling.proofs.EnabledLemmas.{Known, statement_known}

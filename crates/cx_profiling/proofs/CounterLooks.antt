@@ -18,11 +18,11 @@ use Rattle.cx_rules.proofs.FoundLemmas.{seen_solves}
 use Rattle.cx_rewrites.specs.Cells.{comes_to}
 use Rattle.cx_profiling.specs.Counters.{Counter, counters}
 use Rattle.cx_profiling.specs.Instrumented.{with_counts}
-use Rattle.cx_profiling.proofs.CellLemmas.{at_row}
+use Rattle.cx_profiling.proofs.ListedCells.{at_row}
 use Rattle.cx_profiling.proofs.RoleLemmas.{register_there, adder_there}
 use Rattle.cx_profiling.proofs.CounterDrives.{Wire, to_left, to_right, to_in, to_enable, wire_target, wire_source, wire, counter_driven}
 use Rattle.cx_profiling.proofs.InsideLemmas.{targets_inside}
-use Rattle.cx_profiling.proofs.TreeLemmas.{InTree, in_reach}
+use Rattle.cx_profiling.proofs.GrownTrees.{InTree, in_reach}
 use Rattle.cx_profiling.proofs.RestLemmas.{counter_row}
 use Rattle.cx_profiling.proofs.RowLemmas.{number, adder_row, register_counts, register_rests, adder_goes, adder_shows}
 

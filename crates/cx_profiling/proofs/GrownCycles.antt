@@ -26,12 +26,12 @@ use Rattle.cx_profiling.specs.Counters.{Counter, counters}
 use Rattle.cx_profiling.specs.Counting.{once, made_with}
 use Rattle.cx_profiling.specs.Growing.{Grown, GrownCells}
 use Rattle.cx_profiling.specs.Instrumented.{moved_in, with_counts}
-use Rattle.cx_profiling.proofs.CellLemmas.{at_component, count_listed}
+use Rattle.cx_profiling.proofs.ListedCells.{at_component, count_listed}
 use Rattle.cx_profiling.proofs.PortLemmas.{IsInside}
 use Rattle.cx_profiling.proofs.GrownLemmas.{grown_numbers}
 use Rattle.cx_profiling.proofs.RestLemmas.{counter_row, grown_states}
 use Rattle.cx_profiling.proofs.RoleLemmas.{more_cells}
-use Rattle.cx_profiling.proofs.TreeLemmas.{InTree, is_whole}
+use Rattle.cx_profiling.proofs.GrownTrees.{InTree, is_whole}
 use Rattle.cx_profiling.proofs.PairLemmas.{CellPair, row_pair, child_pair, pair_at}
 use Rattle.cx_profiling.proofs.SightLemmas.{KidsAlike, RowsAlike, found_grows}
 use Rattle.cx_profiling.proofs.AcyclicLemmas.{child_few, NewCell, a_register, an_adder, further_on, new_cell_is}

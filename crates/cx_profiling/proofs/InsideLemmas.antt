@@ -18,7 +18,7 @@ use Rattle.cx_rules.proofs.ForeignLemmas.{sorted_among, owned_among, split, grou
 use Rattle.cx_laws.proofs.SourceLemmas.{source_in}
 use Rattle.cx_rewrites.specs.Driving.{assigns_of}
 use Rattle.cx_rewrites.proofs.ClosedLemmas.{is_closed}
-use Rattle.cx_profiling.proofs.CellLemmas.{at_component}
+use Rattle.cx_profiling.proofs.ListedCells.{at_component}
 use Rattle.cx_profiling.proofs.PortLemmas.{IsInside, there_inside}
 
 stands_in : (part : PlainComponent) (o : Owned) → In (assigns_of part) o → StandsIn part o.owner o.assign

@@ -48,13 +48,13 @@ use Rattle.cx_profiling.specs.Counters.{is_counted, is_counted_kind, has_name, C
 use Rattle.cx_profiling.specs.Counting.{once, made_with, count_island}
 use Rattle.cx_profiling.specs.Growing.{Grown, GrownCells}
 use Rattle.cx_profiling.specs.Instrumented.{gained, moved_number, moved_in, moved_assigns, group_with, counter_assigns, with_counts}
-use Rattle.cx_profiling.proofs.CellLemmas.{at_row, at_component, count_listed}
+use Rattle.cx_profiling.proofs.ListedCells.{at_row, at_component, count_listed}
 use Rattle.cx_profiling.proofs.PortLemmas.{IsInside, moved-component, grown_number, there_inside}
 use Rattle.cx_profiling.proofs.GrownLemmas.{grown_numbers}
 use Rattle.cx_profiling.proofs.RestLemmas.{grown_rests, grown_states}
 use Rattle.cx_profiling.proofs.RoleLemmas.{register_there, adder_there}
-use Rattle.cx_profiling.proofs.GainedLemmas.{done_port}
-use Rattle.cx_profiling.proofs.TreeLemmas.{InTree, in_reach, is_whole, trees_grow}
+use Rattle.cx_profiling.proofs.CellPorts.{done_port}
+use Rattle.cx_profiling.proofs.GrownTrees.{InTree, in_reach, is_whole, trees_grow}
 use Rattle.cx_profiling.proofs.PairLemmas.{CellPair, row_pair, child_pair, pair_at}
 use Rattle.cx_profiling.proofs.SightLemmas.{found_grows}
 use Rattle.cx_profiling.proofs.AcyclicLemmas.{ActsWithin, child_few}

@@ -43,7 +43,7 @@ use Rattle.cx_profiling.specs.Growing.{Grown}
 use Rattle.cx_profiling.specs.Instrumented.{moved_in, store_enables, address_width, main_component, with_counts}
 use Rattle.cx_profiling.specs.RunsAlike.{Owes}
 use Rattle.cx_profiling.proofs.GrownLemmas.{grown_numbers}
-use Rattle.cx_profiling.proofs.TreeLemmas.{InTree, in_reach, is_whole}
+use Rattle.cx_profiling.proofs.GrownTrees.{InTree, in_reach, is_whole}
 use Rattle.cx_profiling.proofs.AcyclicLemmas.{ActsWithin, main_acyclic, main_silent}
 use Rattle.cx_profiling.proofs.GroupLemmas.{behind_undriven}
 use Rattle.cx_profiling.proofs.ArmLemmas.{moved_groups, all_forms, no_cell}

@@ -24,7 +24,7 @@ use Rattle.cx_rules.specs.Spots.{Itself}
 use Rattle.cx_rules.specs.Accepted.{IsAccepted}
 use Rattle.cx_profiling.specs.Counters.{counters, Shown, shown_in}
 use Rattle.cx_profiling.specs.Instrumented.{width_from, address_width, memory_cell, counter_cells, name_at, counted_groups, store_groups, main_component, with_counts}
-use Rattle.cx_profiling.proofs.CellLemmas.{at_row}
+use Rattle.cx_profiling.proofs.ListedCells.{at_row}
 use Rattle.cx_profiling.proofs.CounterDrives.{counted_length}
 use Rattle.cx_profiling.proofs.RoleLemmas.{counter_count, grown_count}
 use Rattle.cx_profiling.proofs.RowLemmas.{number}

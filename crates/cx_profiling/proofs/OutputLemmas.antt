@@ -21,9 +21,9 @@ use Rattle.cx_profiling.specs.Counters.{ProfileEntry, Counter, counters, Shown, 
 use Rattle.cx_profiling.specs.Growing.{Grown}
 use Rattle.cx_profiling.specs.Instrumented.{is_reached, gained, with_counts}
 use Rattle.cx_profiling.proofs.RoleLemmas.{Role, as_main, as_child, as_kept, role, gained_child}
-use Rattle.cx_profiling.proofs.GainedLemmas.{gained_port}
+use Rattle.cx_profiling.proofs.CellPorts.{gained_port}
 use Rattle.cx_profiling.proofs.InsideLemmas.{targets_inside}
-use Rattle.cx_profiling.proofs.TreeLemmas.{InTree, in_reach, is_whole, no_main_below}
+use Rattle.cx_profiling.proofs.GrownTrees.{InTree, in_reach, is_whole, no_main_below}
 use Rattle.cx_profiling.proofs.PairLemmas.{CellPair, row_pair, child_pair, pair_at}
 use Rattle.cx_profiling.proofs.ShownLemmas.{IsBelow, WhereShown, own_count, child_count, where_shown}
 use Rattle.cx_profiling.proofs.OutputDrives.{output_driven}

@@ -17,14 +17,14 @@ use Rattle.cx_rewrites.specs.Moving.{moved_acting}
 use Rattle.cx_rewrites.specs.Driving.{assigns_of}
 use Rattle.cx_profiling.specs.Counters.{counters, Shown, shown_in, first_gained}
 use Rattle.cx_profiling.specs.Instrumented.{gained, moved_number, moved_in, moved_assigns, counted_groups, output_assigns, store_groups, address_width, with_counts}
-use Rattle.cx_profiling.proofs.CellLemmas.{at_row, at_component, CellIs, is_none, is_primitive, is_component, cell_is}
+use Rattle.cx_profiling.proofs.ListedCells.{at_row, at_component, CellIs, is_none, is_primitive, is_component, cell_is}
 use Rattle.cx_profiling.proofs.PortLemmas.{IsInside, moved-primitive, moved-component, grown_number}
 use Rattle.cx_profiling.proofs.WalkLemmas.{groups_joined, Walk, nothing_more, counted_walk, kept_walk, store_walk, outputs_walk, bare_walk, both_walk, walk_drives}
 use Rattle.cx_profiling.proofs.RoleLemmas.{Role, as_main, as_child, as_kept, role, first_cells}
-use Rattle.cx_profiling.proofs.GainedLemmas.{ports_alike}
+use Rattle.cx_profiling.proofs.CellPorts.{ports_alike}
 use Rattle.cx_profiling.proofs.CounterDrives.{counted_length}
 use Rattle.cx_profiling.proofs.InsideLemmas.{targets_inside}
-use Rattle.cx_profiling.proofs.TreeLemmas.{InTree, child_in_tree}
+use Rattle.cx_profiling.proofs.GrownTrees.{InTree, child_in_tree}
 
 module _ (d : PlainDesign) (design : IsDesign d) (k : ℕ) (within : k < length d.components) where
   abbrev part : PlainComponent

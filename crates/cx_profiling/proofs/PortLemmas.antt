@@ -12,7 +12,7 @@ use Rattle.cx_rules.specs.Wellformed.{IsThere, port_count}
 use Rattle.cx_meaning.proofs.DesignsLemmas.{same_part}
 use Rattle.cx_profiling.specs.Counters.{first_gained}
 use Rattle.cx_profiling.specs.Instrumented.{gained, moved_number, moved_in}
-use Rattle.cx_profiling.proofs.CellLemmas.{child_in_tree}
+use Rattle.cx_profiling.proofs.ListedCells.{child_in_tree}
 
 module _ (d : PlainDesign) where
   pub moved-primitive : (cell : PlainCell) (primitive : PrimitiveRow) (p : ℕ) → cell.kind ≡ OfPrimitive primitive → moved_number d (Some cell) p ≡ p

@@ -19,8 +19,8 @@ use Rattle.cx_laws.proofs.EdgeLemmas.{no_shared_circle}
 use Rattle.cx_rewrites.specs.Tallies.{Tally, at_cell}
 use Rattle.cx_profiling.specs.Growing.{Grown}
 use Rattle.cx_profiling.specs.Instrumented.{with_counts}
-use Rattle.cx_profiling.proofs.CellLemmas.{at_component}
-use Rattle.cx_profiling.proofs.TreeLemmas.{InTree, child_in_tree}
+use Rattle.cx_profiling.proofs.ListedCells.{at_component}
+use Rattle.cx_profiling.proofs.GrownTrees.{InTree, child_in_tree}
 use Rattle.cx_profiling.proofs.SightLemmas.{KidsAlike, seen_grows}
 use Rattle.cx_profiling.proofs.GrownCycles.{grown_rows, grown_kid}
 

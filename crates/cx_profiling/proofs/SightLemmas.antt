@@ -24,9 +24,9 @@ use Rattle.cx_rewrites.proofs.MoveLemmas.{driven_alike}
 use Rattle.cx_profiling.specs.Counters.{first_gained}
 use Rattle.cx_profiling.specs.Instrumented.{moved_in, gained, with_counts}
 use Rattle.cx_profiling.proofs.PortLemmas.{IsInside, grown_number}
-use Rattle.cx_profiling.proofs.GainedLemmas.{output_before}
+use Rattle.cx_profiling.proofs.CellPorts.{output_before}
 use Rattle.cx_profiling.proofs.InsideLemmas.{inside_closed}
-use Rattle.cx_profiling.proofs.TreeLemmas.{InTree}
+use Rattle.cx_profiling.proofs.GrownTrees.{InTree}
 use Rattle.cx_profiling.proofs.PairLemmas.{drives_moved, CellPair, row_pair, child_pair, pair_at, child_ports}
 
 -- the output of a child

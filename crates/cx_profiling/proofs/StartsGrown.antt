@@ -21,10 +21,10 @@ use Rattle.cx_rewrites.specs.Tallies.{Tally, none, at_cell}
 use Rattle.cx_profiling.specs.Counters.{Counter, counters, shown_in}
 use Rattle.cx_profiling.specs.Growing.{Grown}
 use Rattle.cx_profiling.specs.Instrumented.{address_width, counter_cells, memory_cell, name_at, main_component, with_counts}
-use Rattle.cx_profiling.proofs.CellLemmas.{at_row, count_listed}
+use Rattle.cx_profiling.proofs.ListedCells.{at_row, count_listed}
 use Rattle.cx_profiling.proofs.RestLemmas.{counter_row}
 use Rattle.cx_profiling.proofs.RoleLemmas.{counter_count, register_there, register_at, own_counters}
-use Rattle.cx_profiling.proofs.TreeLemmas.{InTree, in_reach, is_whole}
+use Rattle.cx_profiling.proofs.GrownTrees.{InTree, in_reach, is_whole}
 use Rattle.cx_profiling.proofs.PairLemmas.{CellPair, row_pair, child_pair, pair_at}
 use Rattle.cx_profiling.proofs.SightLemmas.{RowsAlike}
 use Rattle.cx_profiling.proofs.AcyclicLemmas.{child_few}

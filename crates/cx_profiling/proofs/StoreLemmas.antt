@@ -44,10 +44,10 @@ use Rattle.cx_rewrites.specs.Cells.{comes_to, left_by}
 use Rattle.cx_profiling.specs.Counters.{Counter, counters, Shown, shown_in}
 use Rattle.cx_profiling.specs.Growing.{Grown}
 use Rattle.cx_profiling.specs.Instrumented.{store_assigns, store_enables, address_width, main_component, with_counts}
-use Rattle.cx_profiling.proofs.CellLemmas.{count_listed}
+use Rattle.cx_profiling.proofs.ListedCells.{count_listed}
 use Rattle.cx_profiling.proofs.RestLemmas.{grown_states}
 use Rattle.cx_profiling.proofs.RoleLemmas.{register_at, own_counters}
-use Rattle.cx_profiling.proofs.TreeLemmas.{InTree, in_reach, is_whole}
+use Rattle.cx_profiling.proofs.GrownTrees.{InTree, in_reach, is_whole}
 use Rattle.cx_profiling.proofs.RowLemmas.{number}
 use Rattle.cx_profiling.proofs.AcyclicLemmas.{child_few}
 use Rattle.cx_profiling.proofs.GrownCycles.{grown_rows, grown_kid, make_grown}

@@ -9,7 +9,7 @@ use Rattle.cx_rules.specs.Wellformed.{IsDesign, IsKind, LeadsTo, by_cell, by_way
 use Rattle.cx_profiling.specs.Counters.{Counter, counters}
 use Rattle.cx_profiling.specs.Instrumented.{is_reached, reached_from, with_counts}
 use Rattle.cx_profiling.proofs.DepthLemmas.{Deep, deep, whole_tree}
-use Rattle.cx_profiling.proofs.CellLemmas.{at_row}
+use Rattle.cx_profiling.proofs.ListedCells.{at_row}
 use Rattle.cx_profiling.proofs.ReachLemmas.{reached_on, reached_leads, is_reached_within}
 use Rattle.cx_profiling.proofs.RestLemmas.{counter_row, GrewInto, CellsGrew}
 use Rattle.cx_profiling.proofs.RoleLemmas.{more_cells, register_there}
