@@ -1,3 +1,4 @@
 pub mod TreeLemmas
 pub mod ReachedLemmas
+pub mod NameLemmas
 pub mod KnownProfiles
