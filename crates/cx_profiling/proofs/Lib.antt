@@ -1,4 +1,9 @@
 pub mod TreeLemmas
 pub mod ReachedLemmas
 pub mod NameLemmas
+pub mod MovedParts
+pub mod ThereLemmas
+pub mod CounterLemmas
+pub mod GainedLemmas
+pub mod FitLemmas
 pub mod KnownProfiles
