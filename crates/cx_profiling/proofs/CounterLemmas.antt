@@ -1,17 +1,15 @@
 -- The counters of an instance, and the ports that show the counts.
-use Rattle.std.proofs.Common.{◌≡◌, ℕ, zero, suc, ◌+◌, ◌*◌, ◌<◌, ◌≤◌, Bool, true, false, inl, inr, ◌⊎◌, List, [], ◌∷◌, ◌++◌, length, map, Option, Some, None, refl, sym, ap, ◌∙◌, subst, arith}
+use Rattle.std.proofs.Common.{◌≡◌, ℕ, zero, suc, ◌+◌, ◌*◌, ◌<◌, Bool, true, false, inl, inr, ◌⊎◌, List, [], ◌∷◌, length, Some, refl, sym, ap, ◌∙◌, arith}
 use Rattle.std.specs.Prelude.{if◌then◌else◌}
 use Rattle.std.specs.List.{slice_get}
-use Rattle.cx_text.proofs.ListLaws.{front, behind}
 use Rattle.cx_text.specs.declared.places.Place.{Place}
 use Rattle.cx_prim.specs.declared.names.PrimitiveName.TheVariants as primitives
-use Rattle.cx_meaning.specs.declared.ports.PortRef.{PortRef}
 use Rattle.cx_meaning.specs.declared.ports.PortRef.TheVariants as ports
 use Rattle.cx_meaning.specs.Designs.{PlainGroup, PlainKind, OfPrimitive, OfComponent, PlainCell}
-use Rattle.cx_meaning.specs.Instances.{Instance, Node, Cells, no_cells, a_primitive, an_instance, cells_for, add_cell, part_of}
+use Rattle.cx_meaning.specs.Instances.{Instance, Cells, cells_for, add_cell, part_of}
 use Rattle.cx_meaning.specs.Sights.{In}
-use Rattle.cx_meaning.proofs.SightsLaws.{in_either, image_in}
-use Rattle.cx_profiling.specs.Counters.{is_counted, Counter, counters_from, Shown, shown_here, shown_at_cell, shown_in, shown_below, first_gained}
+use Rattle.cx_meaning.proofs.SightsLaws.{in_either}
+use Rattle.cx_profiling.specs.Counters.{is_counted, Counter, counters_from, Shown, shown_at_cell, shown_in, shown_below, first_gained}
 use Rattle.cx_profiling.specs.Instrumented.{new_cell, name_at, counter_cells}
 
 -- the registers of counters are every second cell

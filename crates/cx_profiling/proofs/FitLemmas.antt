@@ -1,12 +1,11 @@
 -- Assignments and statements that fit a component of a design: old ones, moved, and new ones.
-use Rattle.std.proofs.Common.{◌≡◌, ◌≢◌, ℕ, suc, ◌+◌, ◌<◌, Bool, true, false, List, [], ◌∷◌, inl, inr, length, map, Option, Some, None, refl, sym, ap, ◌∙◌, subst, arith}
-use Rattle.std.specs.Prelude.{option_map}
+use Rattle.std.proofs.Common.{◌≡◌, ◌≢◌, ℕ, ◌<◌, false, inl, inr, length, Option, Some, None, refl, sym, ap, ◌∙◌, subst}
 use Rattle.cx_text.proofs.OptionLaws.{map_some}
 use Rattle.cx_text.specs.declared.places.Place.{Place}
 use Rattle.cx_meaning.specs.declared.ports.PortRef.{PortRef}
 use Rattle.cx_meaning.specs.declared.ports.PortRef.TheVariants as ports
 use Rattle.cx_meaning.specs.declared.ports.PlacedPort.{PlacedPort}
-use Rattle.cx_meaning.specs.Designs.{PlainGuard, Always, Atom, Negation, All, Any, Compared, Within, PlainAssign, PlainComponent, PlainDesign, component_at, PlainForm}
+use Rattle.cx_meaning.specs.Designs.{PlainGuard, Always, Atom, Negation, All, Any, Compared, Within, PlainAssign, PlainComponent, PlainDesign, component_at}
 use Rattle.cx_meaning.specs.Sights.{In}
 use Rattle.cx_meaning.proofs.SightsLaws.{image_in}
 use Rattle.cx_rules.specs.Items.{sources_of, Visited, test_in}

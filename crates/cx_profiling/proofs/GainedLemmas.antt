@@ -1,8 +1,7 @@
 -- An instrumented component beside its own: the same parts in front, and what it gains behind them.
-use Rattle.std.proofs.Common.{◌≡◌, ◌≢◌, ℕ, zero, suc, ◌+◌, ◌*◌, ◌<◌, ◌≤◌, Bool, true, false, not, ◌&&◌, inl, inr, ◌⊎◌, List, [], ◌∷◌, ◌++◌, length, map, get_or, Option, Some, None, refl, sym, ap, ◌∙◌, subst, arith, add-one}
+use Rattle.std.proofs.Common.{◌≡◌, ℕ, zero, suc, ◌+◌, ◌*◌, ◌<◌, Bool, true, false, not, ◌&&◌, List, [], ◌∷◌, ◌++◌, length, map, Option, Some, None, refl, sym, ap, ◌∙◌, subst, arith}
 use Rattle.std.specs.Prelude.{nat_eq, if◌then◌else◌}
-use Rattle.std.specs.List.{slice_get, range_with_len}
-use Rattle.std.proofs.lemmas.Bool.{eq-eqb, eqb-true}
+use Rattle.std.specs.List.{slice_get}
 use Rattle.std.proofs.lemmas.List.{length-append}
 use Rattle.std.proofs.lemmas.List.FromFn.{get_or-map-range_with_len, length-map-range_with_len}
 use Rattle.cx_text.proofs.ListLaws.{front, there_below, length-map}
@@ -11,18 +10,16 @@ use Rattle.cx_text.specs.declared.places.Place.{Place}
 use Rattle.cx_prim.specs.Table.{row_of}
 use Rattle.cx_meaning.specs.declared.ports.PortRef.{PortRef}
 use Rattle.cx_meaning.specs.declared.ports.PortRef.TheVariants as ports
-use Rattle.cx_meaning.specs.Designs.{PlainAssign, PlainGroup, no_group, group_at, PlainKind, OfPrimitive, OfComponent, PlainCell, PlainComponent, no_component, PlainDesign, component_at}
-use Rattle.cx_meaning.specs.Instances.{Instance, Node, Cells, cells_of, cells_for, part_of}
+use Rattle.cx_meaning.specs.Designs.{PlainAssign, PlainGroup, PlainKind, OfPrimitive, OfComponent, PlainCell, PlainComponent, no_component, PlainDesign, component_at}
+use Rattle.cx_meaning.specs.Instances.{Cells, cells_of}
 use Rattle.cx_meaning.specs.Sights.{In}
-use Rattle.cx_meaning.proofs.SightsLaws.{in_at, number_in, in_either}
+use Rattle.cx_meaning.proofs.SightsLaws.{in_at}
 use Rattle.cx_rules.specs.Ports.{component_of}
-use Rattle.cx_rules.proofs.PortsLemmas.{part_is}
 use Rattle.cx_rules.specs.Wellformed.{IsDesign, IsKind}
-use Rattle.cx_profiling.specs.Counters.{is_counted, Counter, counters, counters_from, Shown, shown_in, shown_below, shown_here, first_gained, entry_count}
-use Rattle.cx_profiling.specs.Instrumented.{is_reached, counter_assigns, counter_cells, memory_cell, name_at, count_outputs, output_assigns, address_width, store_groups, gained, moved_by, moved_number, moved_in, moved_assigns, moved_invoke, group_with, counted_groups, kept_component, child_component, main_component, instrumented_component, with_counts}
+use Rattle.cx_profiling.specs.Counters.{is_counted, counters, counters_from, Shown, shown_in, first_gained}
+use Rattle.cx_profiling.specs.Instrumented.{is_reached, counter_assigns, counter_cells, memory_cell, name_at, count_outputs, address_width, store_groups, gained, moved_by, moved_number, moved_in, moved_invoke, group_with, counted_groups, kept_component, child_component, main_component, instrumented_component, with_counts}
 use Rattle.cx_profiling.specs.FreeNames.{free_names, names_of}
 use Rattle.cx_profiling.proofs.ThereLemmas.{Names, kind_ports}
-use Rattle.cx_profiling.proofs.CounterLemmas.{counter_cells-length}
 
 -- the outputs that show counts are as many as these
 pub count_outputs-length : (names : List (List ℕ)) (n : ℕ) (xs : List Shown) → length (count_outputs names n xs) ≡ length xs
@@ -95,7 +92,7 @@ module _ (d : PlainDesign) where
   gained_kept : (k : ℕ) → is_reached d k ≡ false → gained d k ≡ 0
   gained_kept k e = gained_none k (ap (λ b. b && not (nat_eq k d.main)) e)
 
-  gained_main : (k : ℕ) → nat_eq k d.main ≡ true → gained d k ≡ 0
+  pub gained_main : (k : ℕ) → nat_eq k d.main ≡ true → gained d k ≡ 0
   gained_main k e = gained_none k (ap (λ b. is_reached d k && not b) e ∙ by (is_reached d k))
     where
       by : (b : Bool) → b && not true ≡ false
@@ -127,17 +124,17 @@ module _ (d : PlainDesign) where
           → (x : PlainGroup) × (slice_get (counted_groups d (component_at d k) (cells_of (component_of d k)) (length (component_at d k).cells) (component_at d k).groups) g ≡ Some x) × (x.kind ≡ old.kind)
       by (new, at, (more, is, counter)) = (new, at, ap (λ x. x.kind) is)
 
-  kept_grown : (k : ℕ) → is_reached d k ≡ false → IsGrown k (kept_component d k)
+  pub kept_grown : (k : ℕ) → is_reached d k ≡ false → IsGrown k (kept_component d k)
   kept_grown k e = record { name = refl; inputs = refl; cells = λ c cell at. at; groups = kept_groups k; invokes = length-map (moved_invoke d (component_at d k)) (component_at d k).invokes;
     outputs = let z : gained d k ≡ 0 = gained_kept k e in omega arith }
 
-  child_grown : (k : ℕ) (names : List (List ℕ)) → is_reached d k ≡ true → nat_eq k d.main ≡ false → IsGrown k (child_component d k names)
+  pub child_grown : (k : ℕ) (names : List (List ℕ)) → is_reached d k ≡ true → nat_eq k d.main ≡ false → IsGrown k (child_component d k names)
   child_grown k names e f = record { name = refl; inputs = refl; cells = λ c cell at. front (component_at d k).cells (counter_cells (component_at d k).place names 0 (length (counters (component_of d k)))) c cell at;
     groups = counted_kinds k; invokes = length-map (moved_invoke d (component_at d k)) (component_at d k).invokes;
     outputs = length-append (component_at d k).outputs (count_outputs names (2 * length (counters (component_of d k))) (shown_in (component_of d k)))
         ∙ ap (λ n. length (component_at d k).outputs + n) (count_outputs-length names (2 * length (counters (component_of d k))) (shown_in (component_of d k)) ∙ sym (gained_child k e f)) }
 
-  main_grown : (k : ℕ) (names : List (List ℕ)) → nat_eq k d.main ≡ true → IsGrown k (main_component d k names)
+  pub main_grown : (k : ℕ) (names : List (List ℕ)) → nat_eq k d.main ≡ true → IsGrown k (main_component d k names)
   main_grown k names e = record { name = refl; inputs = refl; invokes = length-map (moved_invoke d (component_at d k)) (component_at d k).invokes;
     cells = λ c cell at. front (component_at d k).cells (counter_cells (component_at d k).place names 0 (length (counters (component_of d k)))
         ++ memory_cell (component_at d k).place (name_at names (2 * length (counters (component_of d k)))) (length (shown_in (component_of d k))) ∷ []) c cell at;

@@ -6,4 +6,8 @@ pub mod ThereLemmas
 pub mod CounterLemmas
 pub mod GainedLemmas
 pub mod FitLemmas
+pub mod CellLemmas
+pub mod NewAssigns
+pub mod ComponentLemmas
+pub mod DesignLemmas
 pub mod KnownProfiles
