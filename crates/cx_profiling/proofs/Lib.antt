@@ -1,3 +1,15 @@
+pub mod TreeLemmas
+pub mod ReachedLemmas
+pub mod NameLemmas
+pub mod MovedParts
+pub mod ThereLemmas
+pub mod CounterLemmas
+pub mod GainedLemmas
+pub mod FitLemmas
+pub mod CellLemmas
+pub mod NewAssigns
+pub mod ComponentLemmas
+pub mod DesignLemmas
 pub mod KnownProfiles
 pub mod DepthLemmas
 pub mod CellLemmas

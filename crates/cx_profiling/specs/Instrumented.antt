@@ -103,13 +103,13 @@ module _ (d : PlainDesign) where
   gained k = if is_reached d k && not (nat_eq k d.main) then length (shown_in (component_of d k)) else 0
 
   -- MOVED: the done of a component's cell stands behind the outputs that the component gains
+  abbrev pub moved_by : PlainKind → ℕ → ℕ
+  moved_by (OfPrimitive primitive) p = p
+  moved_by (OfComponent k) p = if nat_eq p (first_gained (component_at d k)) then p + gained k else p
+
   abbrev pub moved_number : Option PlainCell → ℕ → ℕ
   moved_number None p = p
   moved_number (Some cell) p = moved_by cell.kind p
-    where
-      moved_by : PlainKind → ℕ → ℕ
-      moved_by (OfPrimitive primitive) p = p
-      moved_by (OfComponent k) p = if nat_eq p (first_gained (component_at d k)) then p + gained k else p
 
   abbrev pub moved_in : PlainComponent → PortRef → PortRef
   moved_in part (ports.Cell c p) = ports.Cell c (moved_number (slice_get part.cells c) p)
@@ -172,7 +172,7 @@ module _ (d : PlainDesign) where
     abbrev pub main_component : List (List ℕ) → PlainComponent
     main_component names = record {
       name = part.name; latency = part.latency; inputs = part.inputs; outputs = part.outputs; place = part.place;
-      cells = part.cells ++ counter_cells part.place names 0 own ++ memory_cell part.place (name_at names (2 * own)) (length shown) ∷ [];
+      cells = part.cells ++ (counter_cells part.place names 0 own ++ memory_cell part.place (name_at names (2 * own)) (length shown) ∷ []);
       groups = counted_groups part cells (length part.cells) part.groups
           ++ store_groups part.place names (length part.cells + 2 * own) (address_width (length shown)) (suc (2 * own)) (length part.groups) 0 shown;
       invokes = map (moved_invoke part) part.invokes;
