@@ -354,11 +354,13 @@ module _ (d : PlainDesign) (design : IsDesign d) (m k : ℕ) (at : InTree d (suc
       where
         main_size : length other.cells ≡ suc place_of_memory
         main_size =
-            let first : length (node.cells ++ counter_cells node.place names 0 (length (counters (component_of d k)))) ≡ place_of_memory =
-            length-append node.cells (counter_cells node.place names 0 (length (counters (component_of d k)))) ∙ ap (λ n. length node.cells + n) (counter_count node.place names 0 (length (counters (component_of d k)))) in
-            ap (λ x. length x.cells) is
-            ∙ length-append (node.cells ++ counter_cells node.place names 0 (length (counters (component_of d k)))) (memory_cell node.place (name_at names (2 * length (counters (component_of d k)))) (length (shown_in (component_of d k))) ∷ [])
-            ∙ ap (λ n. n + 1) first ∙ (omega arith)
+            let counters_are : length (counter_cells node.place names 0 (length (counters (component_of d k)))) ≡ 2 * length (counters (component_of d k)) = counter_count node.place names 0 (length (counters (component_of d k))) in
+            let last = memory_cell node.place (name_at names (2 * length (counters (component_of d k)))) (length (shown_in (component_of d k))) ∷ [] in
+            let whole : length other.cells ≡ length node.cells + length (counter_cells node.place names 0 (length (counters (component_of d k))) ++ last) =
+            ap (λ x. length x.cells) is ∙ length-append node.cells (counter_cells node.place names 0 (length (counters (component_of d k))) ++ last) in
+            let behind_node : length (counter_cells node.place names 0 (length (counters (component_of d k))) ++ last) ≡ length (counter_cells node.place names 0 (length (counters (component_of d k)))) + 1 =
+            length-append (counter_cells node.place names 0 (length (counters (component_of d k)))) last in
+            omega (arith, whole, behind_node, counters_are)
 
     pub main_acyclic : IsAcyclic (tree_within d (suc m) k) act → IsAcyclic j act
     main_acyclic acyclic =

@@ -12,7 +12,7 @@ pub mod ComponentLemmas
 pub mod DesignLemmas
 pub mod KnownProfiles
 pub mod DepthLemmas
-pub mod CellLemmas
+pub mod ListedCells
 pub mod LoneDrivers
 pub mod PortLemmas
 pub mod WalkLemmas
@@ -21,10 +21,10 @@ pub mod ReadLemmas
 pub mod RestLemmas
 pub mod ReachLemmas
 pub mod RoleLemmas
-pub mod GainedLemmas
+pub mod CellPorts
 pub mod CounterDrives
 pub mod InsideLemmas
-pub mod TreeLemmas
+pub mod GrownTrees
 pub mod PairLemmas
 pub mod ShownLemmas
 pub mod OutputDrives
@@ -49,3 +49,4 @@ pub mod MemoryLemmas
 pub mod StoreLemmas
 pub mod StartsGrown
 pub mod MainLemmas
+pub mod AlikeLemmas

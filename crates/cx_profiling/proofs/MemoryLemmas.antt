@@ -100,19 +100,22 @@ module _ (d : PlainDesign) (k : ℕ) (within : k < length d.components) (names :
   -- it stands behind the counters, the last cell
   pub cells_total : length (component_at (with_counts d) k).cells ≡ suc place
   cells_total =
-      let first : length (part.cells ++ counter_cells part.place names 0 (length (counters (component_of d k)))) ≡ place =
-      length-append part.cells (counter_cells part.place names 0 (length (counters (component_of d k)))) ∙ ap (λ n. length part.cells + n) (counter_count part.place names 0 (length (counters (component_of d k)))) in
-      ap (λ x. length x.cells) is
-      ∙ length-append (part.cells ++ counter_cells part.place names 0 (length (counters (component_of d k)))) (memory_cell part.place (name_at names (2 * length (counters (component_of d k)))) size ∷ [])
-      ∙ ap (λ n. n + 1) first ∙ (omega arith)
+      let counters_count : length (counter_cells part.place names 0 (length (counters (component_of d k)))) ≡ 2 * length (counters (component_of d k)) = counter_count part.place names 0 (length (counters (component_of d k))) in
+      let last = memory_cell part.place (name_at names (2 * length (counters (component_of d k)))) size ∷ [] in
+      let whole : length (component_at (with_counts d) k).cells ≡ length part.cells + length (counter_cells part.place names 0 (length (counters (component_of d k))) ++ last) =
+      ap (λ x. length x.cells) is ∙ length-append part.cells (counter_cells part.place names 0 (length (counters (component_of d k))) ++ last) in
+      let behind_part : length (counter_cells part.place names 0 (length (counters (component_of d k))) ++ last) ≡ length (counter_cells part.place names 0 (length (counters (component_of d k)))) + 1 =
+      length-append (counter_cells part.place names 0 (length (counters (component_of d k)))) last in
+      omega (arith, whole, behind_part, counters_count)
 
   pub memory_at : (m : ℕ) → 1 ≤ size → cell_at (cells_of (tree_within (with_counts d) (suc m) k)) place ≡ OfRow (memory_row 64 (size ∷ []) (address_width size ∷ []))
   memory_at m some =
-      let first : length (part.cells ++ counter_cells part.place names 0 (length (counters (component_of d k)))) ≡ place =
-      length-append part.cells (counter_cells part.place names 0 (length (counters (component_of d k)))) ∙ ap (λ n. length part.cells + n) (counter_count part.place names 0 (length (counters (component_of d k)))) in
-      let number : place ≡ length (part.cells ++ counter_cells part.place names 0 (length (counters (component_of d k)))) + 0 = omega (arith, first) in
+      let counters_count : length (counter_cells part.place names 0 (length (counters (component_of d k)))) ≡ 2 * length (counters (component_of d k)) = counter_count part.place names 0 (length (counters (component_of d k))) in
+      let last = memory_cell part.place (name_at names (2 * length (counters (component_of d k)))) size ∷ [] in
+      let number : 2 * length (counters (component_of d k)) ≡ length (counter_cells part.place names 0 (length (counters (component_of d k)))) + 0 = omega (arith, counters_count) in
       at_row (tree_within (with_counts d) m) (component_at (with_counts d) k).cells place (memory_cell part.place (name_at names (2 * length (counters (component_of d k)))) size)
       (record { name = primitives.StdMemD1; numbers = 64 ∷ size ∷ address_width size ∷ [] })
       (ap (λ x. slice_get x.cells place) is
-      ∙ behind (part.cells ++ counter_cells part.place names 0 (length (counters (component_of d k)))) (memory_cell part.place (name_at names (2 * length (counters (component_of d k)))) size ∷ []) place 0 number) refl
+      ∙ behind part.cells (counter_cells part.place names 0 (length (counters (component_of d k))) ++ last) place (2 * length (counters (component_of d k))) refl
+      ∙ behind (counter_cells part.place names 0 (length (counters (component_of d k)))) last (2 * length (counters (component_of d k))) 0 number) refl
       ∙ ap OfRow (memory_is size some few_words)

@@ -16,10 +16,6 @@ use Rattle.cx_profiling.specs.Counters.{is_counted, Counter, counters_from, coun
 use Rattle.cx_profiling.specs.FreeNames.{free_names, names_of}
 use Rattle.cx_profiling.specs.Instrumented.{is_reached, new_cell, name_at, counter_cells, count_outputs, memory_cell, gained, group_with, counted_groups, counter_assigns, kept_component, child_component, main_component, instrumented_component, with_counts}
 
-joined_again : {A : Type 0} (xs ys zs : List A) → (xs ++ ys) ++ zs ≡ xs ++ (ys ++ zs)
-joined_again [] ys zs = refl
-joined_again (x ∷ xs) ys zs = ap (λ list. x ∷ list) (joined_again xs ys zs)
-
 -- CELLS of counters: the register, and the adder behind it
 pub counter_count : (place : Place) (names : List (List ℕ)) (n k : ℕ) → length (counter_cells place names n k) ≡ 2 * k
 counter_count place names n zero = refl
@@ -170,7 +166,7 @@ module _ (d : PlainDesign) where
       by : Role k → (more : List PlainCell) × ((component_at (with_counts d) k).cells ≡ (component_at d k).cells ++ more)
       by (as_main names is e) =
           (counter_cells (component_at d k).place names 0 (length (counters (component_of d k))) ++ memory_cell (component_at d k).place (name_at names (2 * length (counters (component_of d k)))) (length (shown_in (component_of d k))) ∷ [],
-          ap (λ part. part.cells) e ∙ joined_again (component_at d k).cells _ _)
+          ap (λ part. part.cells) e)
       by (as_child names is reached e) = (counter_cells (component_at d k).place names 0 (length (counters (component_of d k))), ap (λ part. part.cells) e)
       by (as_kept is reached e) = ([], ap (λ part. part.cells) e ∙ no_more (component_at d k).cells)
 
@@ -209,7 +205,7 @@ module _ (d : PlainDesign) where
         both false e f = absurd (cc)
 
         by : Role k → IsCell c P
-        by (as_main names is e) = of_list names (memory_cell (component_at d k).place (name_at names (2 * own)) (length (shown_in (component_of d k))) ∷ []) P c i (ap (λ part. part.cells) e ∙ joined_again (component_at d k).cells _ _) number (known names)
+        by (as_main names is e) = of_list names (memory_cell (component_at d k).place (name_at names (2 * own)) (length (shown_in (component_of d k))) ∷ []) P c i (ap (λ part. part.cells) e) number (known names)
         by (as_child names is r e) = of_list names [] P c i (ap (λ part. part.cells) e ∙ ap (λ list. (component_at d k).cells ++ list) (no_more (counter_cells (component_at d k).place names 0 own))) number (known names)
         by (as_kept is r e) = absurd (both (is_reached d k) reached r)
 

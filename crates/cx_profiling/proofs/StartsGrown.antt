@@ -145,17 +145,12 @@ module _ (d : PlainDesign) (design : IsDesign d) where
     pub externals_grow : externals_of (component_at (with_counts d) k) ≡ externals_of node ++ memory ∷ []
     externals_grow =
         let added = counter_cells node.place names 0 (length (counters (component_of d k))) in
-        let total : memory ≡ 0 + length (node.cells ++ added) =
-        (let first : length (node.cells ++ added) ≡ length node.cells + length added = length-append node.cells added in
-        let second : length added ≡ 2 * length (counters (component_of d k)) = counter_count node.place names 0 (length (counters (component_of d k))) in omega (arith, first, second)) in
+        let last = memory_cell node.place (name_at names (2 * length (counters (component_of d k)))) (length (shown_in (component_of d k))) ∷ [] in
+        let total : memory ≡ length node.cells + length added = (let second : length added ≡ 2 * length (counters (component_of d k)) = counter_count node.place names 0 (length (counters (component_of d k))) in omega (arith, second)) in
         ap externals_of is
-        ∙ externals_joined 0 (node.cells ++ added) (memory_cell node.place (name_at names (2 * length (counters (component_of d k)))) (length (shown_in (component_of d k))) ∷ []) memory total
-        ∙ ap (λ list. list ++ memory ∷ []) (externals_joined 0 node.cells added (length node.cells) (omega arith)
-        ∙ ap (λ list. externals_of node ++ list) (no_externals node.place names 0 (length (counters (component_of d k))) (length node.cells)) ∙ nothing_more (externals_of node))
-      where
-        nothing_more : (xs : List ℕ) → xs ++ [] ≡ xs
-        nothing_more [] = refl
-        nothing_more (x ∷ xs) = ap (λ list. x ∷ list) (nothing_more xs)
+        ∙ externals_joined 0 node.cells (added ++ last) (length node.cells) (omega arith)
+        ∙ ap (λ list. externals_of node ++ list) (externals_joined (length node.cells) added last memory total
+        ∙ ap (λ list. list ++ memory ∷ []) (no_externals node.place names 0 (length (counters (component_of d k))) (length node.cells)))
 
     pub external_row : (c : ℕ) → In (externals_of node) c → (c < length node.cells) × ((row : Row) × (cell_at (cells_of (tree_within d (suc m) k)) c ≡ OfRow row))
     external_row c i = by (external_there 0 node.cells c i)
