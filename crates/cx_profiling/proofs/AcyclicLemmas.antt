@@ -1,21 +1,18 @@
 -- The ports of new parts lead nowhere in three steps, so nothing leads in a circle under groups of the design.
-use Rattle.std.proofs.Common.{◌≡◌, ℕ, zero, suc, ◌+◌, ◌-◌, ◌*◌, ◌<◌, ◌≤◌, inl, inr, ◌⊎◌, ⊎_elim, Bool, true, false, if◌then◌else◌, List, [], ◌∷◌, ◌++◌, length, Option, Some, None, slice_get, refl, sym, ap, ◌∙◌, subst, arith}
-use Rattle.std.specs.Prelude.{nat_lt}
+use Rattle.std.proofs.Common.{◌≡◌, ℕ, zero, suc, ◌+◌, ◌-◌, ◌*◌, ◌<◌, ◌≤◌, inl, inr, ◌⊎◌, ⊎_elim, Bool, true, false, if◌then◌else◌, List, [], ◌∷◌, ◌++◌, length, Option, Some, None, refl, sym, ap, ◌∙◌, subst, arith}
 use Rattle.std.proofs.lemmas.Bool.{cases_lt, cases_eq, ltb-true}
 use Rattle.std.proofs.lemmas.Option.{slice_get_past}
 use Rattle.std.proofs.lemmas.List.{length-append}
 use Rattle.cx_text.specs.declared.places.Place.{Place}
 use Rattle.cx_text.proofs.ListLaws.{there_at}
-use Rattle.cx_prim.specs.declared.ports.Side.{Side}
 use Rattle.cx_prim.specs.declared.ports.Side.TheVariants as sides
 use Rattle.cx_prim.specs.declared.names.PrimitiveName.TheVariants as primitives
-use Rattle.cx_prim.specs.Rows.{Row}
 use Rattle.cx_prim.specs.MemoryRows.{memory_row}
 use Rattle.cx_meaning.specs.declared.ports.PortRef.{PortRef}
 use Rattle.cx_meaning.specs.declared.ports.PortRef.TheVariants as ports
 use Rattle.cx_meaning.specs.Rows.{side_of}
-use Rattle.cx_meaning.specs.Designs.{PlainCell, PlainGroup, PlainComponent, PlainDesign, OfPrimitive, component_at}
-use Rattle.cx_meaning.specs.Instances.{Instance, Cells, At, Nothing, OfRow, OfInstance, cell_at, cells_of, cells_for, part_of, tree_within}
+use Rattle.cx_meaning.specs.Designs.{PlainCell, PlainGroup, PlainComponent, PlainDesign, component_at}
+use Rattle.cx_meaning.specs.Instances.{Instance, Cells, OfRow, OfInstance, cell_at, cells_of, cells_for, part_of, tree_within}
 use Rattle.cx_meaning.specs.Active.{Active, Acting, Owned, owned, owned_by_groups, if_acting, drivers}
 use Rattle.cx_meaning.specs.Sights.{In, GuardNames, PartPort, part_port}
 use Rattle.cx_meaning.proofs.DesignsLemmas.{same_part}
@@ -28,9 +25,9 @@ use Rattle.cx_rules.specs.Wellformed.{IsDesign}
 use Rattle.cx_rewrites.specs.Driving.{assigns_of}
 use Rattle.cx_profiling.specs.Counters.{is_counted, Counter, counters_from, counters, Shown, shown_in, first_gained}
 use Rattle.cx_profiling.specs.Instrumented.{drive, moved_assigns, counted_groups, output_assigns, store_groups, counter_cells, memory_cell, name_at, main_component, child_component, with_counts}
-use Rattle.cx_profiling.proofs.ListedCells.{at_row, at_none, at_listed}
+use Rattle.cx_profiling.proofs.ListedCells.{at_row, at_none}
 use Rattle.cx_profiling.proofs.PortLemmas.{IsInside, IsNew}
-use Rattle.cx_profiling.proofs.LoneDrivers.{other_port, AllSilent, silent_joined, silent_owner, silent_drives}
+use Rattle.cx_profiling.proofs.LoneDrivers.{AllSilent, silent_joined, silent_drives}
 use Rattle.cx_profiling.proofs.WalkLemmas.{owned_joined, groups_joined}
 use Rattle.cx_profiling.proofs.RoleLemmas.{counter_count, own_counters, register_there, adder_there, inputs_stay}
 use Rattle.cx_profiling.proofs.CellPorts.{IsGiven, given_output, given_done, part_given}
@@ -38,9 +35,9 @@ use Rattle.cx_profiling.proofs.CounterDrives.{Wire, to_left, to_right, to_in, to
 use Rattle.cx_profiling.proofs.InsideLemmas.{targets_inside}
 use Rattle.cx_profiling.proofs.GrownTrees.{InTree, in_reach, is_whole}
 use Rattle.cx_profiling.proofs.PairLemmas.{stored, CellPair, row_pair, child_pair, pair_at}
-use Rattle.cx_profiling.proofs.ShownLemmas.{IsBelow, WhereShown, own_count, child_count, where_shown}
+use Rattle.cx_profiling.proofs.ShownLemmas.{WhereShown, own_count, child_count, where_shown}
 use Rattle.cx_profiling.proofs.OutputDrives.{output_driven, no_output_driven}
-use Rattle.cx_profiling.proofs.CircleLemmas.{Ends, IsKnown, moved_from, ending, old_known, plain_known, acyclic_grown}
+use Rattle.cx_profiling.proofs.CircleLemmas.{Ends, IsKnown, ending, old_known, plain_known, acyclic_grown}
 use Rattle.cx_profiling.proofs.RestLemmas.{counter_row}
 use Rattle.cx_profiling.proofs.RowLemmas.{adder_row}
 

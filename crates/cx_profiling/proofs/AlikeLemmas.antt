@@ -1,27 +1,25 @@
 -- THE THEOREM: an instrumented design runs as its design, two turns for each entry longer, and its last memory has the counts.
-use Rattle.std.proofs.Common.{◌≡◌, ℕ, zero, suc, ◌+◌, ◌*◌, ◌^◌, ◌%◌, ◌<◌, ◌≤◌, Bool, true, false, if◌then◌else◌, List, [], ◌∷◌, ◌++◌, length, map, refl, sym, ap, ◌∙◌, subst, arith}
+use Rattle.std.proofs.Common.{◌≡◌, ℕ, zero, suc, ◌+◌, ◌*◌, ◌^◌, ◌%◌, ◌<◌, ◌≤◌, if◌then◌else◌, List, [], ◌∷◌, ◌++◌, length, map, refl, sym, ap, ◌∙◌, subst, arith}
 use Rattle.std.proofs.lemmas.Bool.{ne_eqb}
 use Rattle.cx_prim.specs.CellStates.{AreWords}
 use Rattle.cx_meaning.specs.Designs.{PlainComponent, PlainDesign, component_at}
-use Rattle.cx_meaning.specs.Instances.{Instance, State, IsSettled, start, externals_of, words_of, part_of, tree_within, tree_of}
+use Rattle.cx_meaning.specs.Instances.{Instance, State, IsSettled, start, externals_of, words_of, tree_within, tree_of}
 use Rattle.cx_meaning.specs.Sights.{unheld}
 use Rattle.cx_meaning.specs.Cycles.{Fault}
 use Rattle.cx_meaning.specs.Running.{run_control, run_main}
 use Rattle.cx_meaning.proofs.DesignsLemmas.{same_part}
 use Rattle.cx_meaning.proofs.InstancesLemmas.{here}
 use Rattle.cx_meaning.proofs.RunningLemmas.{steady_control}
-use Rattle.cx_rules.specs.Ports.{component_of}
 use Rattle.cx_rules.specs.Accepted.{IsAccepted}
 use Rattle.cx_rules.specs.Wellformed.{IsDesign}
 use Rattle.cx_laws.proofs.StartLemmas.{design_starts_settled}
 use Rattle.cx_frames.proofs.EnableLemmas.{BareEnablesNothing, instance_bare}
 use Rattle.cx_profiling.specs.Counters.{ProfileEntry, Shown, shown_in, entries_of, entry_count}
 use Rattle.cx_profiling.specs.Counting.{count_control}
-use Rattle.cx_profiling.specs.Instrumented.{instrumented, is_reached, with_counts}
+use Rattle.cx_profiling.specs.Instrumented.{instrumented, with_counts}
 use Rattle.cx_profiling.specs.RunsAlike.{counts_of, Owes, HasMemories, InstrumentsAs, ReadsAs}
 use Rattle.cx_profiling.proofs.RoleLemmas.{Role, as_main, as_child, as_kept, role, grown_count}
 use Rattle.cx_profiling.proofs.GrownTrees.{InTree, main_in_tree}
-use Rattle.cx_profiling.proofs.OutputLemmas.{counted_of}
 use Rattle.cx_profiling.proofs.MainLemmas.{main_owes}
 use Rattle.cx_profiling.proofs.ReadLemmas.{profile_reads}
 

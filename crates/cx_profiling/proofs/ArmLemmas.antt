@@ -1,5 +1,5 @@
 -- TWO ARMS have counted apart, by the rule of races: what they leave together has the counts of both.
-use Rattle.std.proofs.Common.{◌≡◌, ◌≢◌, ℕ, zero, suc, ◌+◌, ◌<◌, ◌≤◌, inl, inr, ◌⊎◌, ⊎_elim, Bool, true, false, ◌||◌, List, [], ◌∷◌, ◌++◌, length, Option, Some, None, slice_get, refl, sym, ap, ◌∙◌, subst, arith}
+use Rattle.std.proofs.Common.{◌≡◌, ℕ, suc, ◌+◌, ◌<◌, ◌≤◌, inl, inr, ⊎_elim, Bool, true, false, ◌||◌, List, [], ◌∷◌, ◌++◌, length, Some, slice_get, refl, sym, ap, ◌∙◌, subst, arith}
 use Rattle.std.proofs.lemmas.Bool.{both_ways, or_cases, and_parts}
 use Rattle.cx_text.proofs.ListLaws.{behind}
 use Rattle.cx_meaning.specs.declared.kinds.GroupKind.{GroupKind}
@@ -7,7 +7,7 @@ use Rattle.cx_meaning.specs.declared.kinds.GroupKind.TheVariants as kinds
 use Rattle.cx_meaning.specs.declared.ports.PortRef.{PortRef}
 use Rattle.cx_meaning.specs.declared.ports.PortRef.TheVariants as ports
 use Rattle.cx_meaning.specs.Designs.{PlainAssign, PlainGroup, PlainComponent, PlainDesign, PlainForm, Empty, Enable, Seq, Par, If, While, Repeat, StaticSeq, StaticPar, StaticIf, StaticRepeat, Timed, PlainStatement, Placed, PlainStatements, no_statements, a_statement, component_at, group_at, list_of}
-use Rattle.cx_meaning.specs.Instances.{Instance, Cells, cell_count, cells_of, State, merge, tree_within}
+use Rattle.cx_meaning.specs.Instances.{Instance, Cells, cells_of, State, tree_within}
 use Rattle.cx_meaning.specs.Sights.{Held, In}
 use Rattle.cx_meaning.specs.Cycles.{Fault}
 use Rattle.cx_meaning.specs.Control.{Leaves, with_comb, targets_cell, assigns_drive, groups_in, groups_of, groups_in_all, group_drives, groups_drive, drives}
@@ -15,21 +15,21 @@ use Rattle.cx_meaning.specs.Running.{Children, leaves}
 use Rattle.cx_meaning.proofs.ControlLaws.{groups_drive_in}
 use Rattle.cx_meaning.proofs.InstancesLemmas.{just_true}
 use Rattle.cx_meaning.proofs.DesignsLemmas.{same_part}
-use Rattle.cx_rules.specs.Items.{Context, Dynamic, Visited, visit, visit_parts, visit_all, below_dynamic, statements_in, is_comb}
+use Rattle.cx_rules.specs.Items.{Dynamic, Visited, visit, visit_parts, below_dynamic, statements_in, is_comb}
 use Rattle.cx_rules.specs.Footprints.{Reads}
 use Rattle.cx_rules.specs.Footprints as footprints
 use Rattle.cx_rules.specs.Ports.{component_of}
-use Rattle.cx_rules.specs.RaceRule.{Arms, arms_of, IsShared, IsEnabledTwice, enabled_in}
+use Rattle.cx_rules.specs.RaceRule.{Arms, arms_of}
 use Rattle.cx_rules.specs.Accepted.{IsAccepted}
 use Rattle.cx_rules.specs.Wellformed.{IsDesign, IsForm, IsAssign, IsThere}
 use Rattle.cx_laws.proofs.RaceLemmas.{unshared, not_twice}
 use Rattle.cx_laws.proofs.VisitLemmas.{visited}
 use Rattle.cx_frames.proofs.ArmLemmas.{groups_joined}
-use Rattle.cx_rewrites.specs.Tallies.{Tally, plus, Counting, count, count_arms}
-use Rattle.cx_rewrites.specs.Carrying.{Pace, Exact}
+use Rattle.cx_rewrites.specs.Tallies.{Tally, Counting, count, count_arms}
+use Rattle.cx_rewrites.specs.Carrying.{Exact}
 use Rattle.cx_rewrites.specs.Moving.{moved_form, moved_statement, moved_statements}
 use Rattle.cx_rewrites.specs.Beside.{joined, MergesCarry}
-use Rattle.cx_profiling.specs.Counters.{has_name, is_counted_kind, is_counted, Counter, counters}
+use Rattle.cx_profiling.specs.Counters.{has_name, is_counted_kind, is_counted, counters}
 use Rattle.cx_profiling.specs.Counting.{ChildrenCount, counting}
 use Rattle.cx_profiling.specs.Growing.{Grown}
 use Rattle.cx_profiling.specs.Instrumented.{moved_in, with_counts}

@@ -8,10 +8,10 @@ use Rattle.cx_meaning.specs.Cycles.{Fault, cycle}
 use Rattle.cx_meaning.specs.Answers.{Answer, End, More, Turn, Ends, Goes, Faults, idle_turn}
 use Rattle.cx_meaning.specs.Answers as answers
 use Rattle.cx_meaning.specs.Islands.{turn_of}
-use Rattle.cx_meaning.specs.Calls.{captures, fault_below, lift_answer, inputs_of_call, after_child, call}
+use Rattle.cx_meaning.specs.Calls.{captures, lift_answer, inputs_of_call, after_child, call}
 use Rattle.cx_meaning.specs.Running.{Children}
 use Rattle.cx_rewrites.specs.Tallies.{Tally, none, plus, at_cell, below, Counted, then_count, turn_count, one_count}
-use Rattle.cx_rewrites.specs.Carrying.{Pace, Exact, Rests, Carried, Carries}
+use Rattle.cx_rewrites.specs.Carrying.{Exact, Rests, Carried, Carries}
 use Rattle.cx_rewrites.specs.Turns.{IsSeenAlike, CycleCarries}
 use Rattle.cx_rewrites.proofs.TallyLemmas.{plus-none}
 use Rattle.cx_rewrites.proofs.CarryLemmas.{then_carried, idle_carries, one_carries}

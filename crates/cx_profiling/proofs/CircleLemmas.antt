@@ -1,6 +1,6 @@
 -- NOTHING LEADS IN A CIRCLE in an instrumented instance, where nothing does in the instance: the ports of the component lead to each other as
 -- they did, and those of new parts lead nowhere in three steps.
-use Rattle.std.proofs.Common.{if◌then◌else◌, ◌≡◌, ℕ, zero, suc, ◌+◌, ◌*◌, ◌<◌, ◌≤◌, inl, inr, ◌⊎◌, ⊎_elim, List, [], ◌∷◌, ◌++◌, length, map, Option, Some, None, slice_get, refl, sym, ap, ◌∙◌, subst, arith}
+use Rattle.std.proofs.Common.{if◌then◌else◌, ◌≡◌, ℕ, zero, suc, ◌+◌, ◌<◌, ◌≤◌, ⊎_elim, length, Some, slice_get, refl, sym, ap, ◌∙◌, subst, arith}
 use Rattle.std.proofs.lemmas.Bool.{cases_lt, ne_eqb}
 use Rattle.cx_prim.specs.declared.ports.Side.{Side}
 use Rattle.cx_prim.specs.declared.ports.Side.TheVariants as sides
@@ -9,20 +9,19 @@ use Rattle.cx_meaning.specs.declared.ports.PortRef.{PortRef}
 use Rattle.cx_meaning.specs.declared.ports.PortRef.TheVariants as ports
 use Rattle.cx_meaning.specs.Rows.{side_of}
 use Rattle.cx_meaning.specs.Designs.{PlainCell, PlainComponent, PlainDesign, OfComponent, component_at}
-use Rattle.cx_meaning.specs.Instances.{Instance, At, Nothing, OfRow, OfInstance, cell_at, cells_of, part_of, tree_within}
-use Rattle.cx_meaning.specs.Active.{Active, Acting, drivers}
+use Rattle.cx_meaning.specs.Instances.{Instance, OfRow, cell_at, cells_of, part_of, tree_within}
+use Rattle.cx_meaning.specs.Active.{Active, drivers}
 use Rattle.cx_meaning.specs.Sights.{PartPort, Go, AnInput, AnOutput, ItsDone, part_port}
 use Rattle.cx_meaning.proofs.DesignsLemmas.{same_part}
 use Rattle.cx_meaning.proofs.InstancesLemmas.{instance_row}
 use Rattle.cx_rules.specs.Footprints.{Mentions, SideLeads, PartLeads, CellLeads, Leads, Depends, at_once, by_way_of}
 use Rattle.cx_rules.specs.Circles.{IsAcyclic}
 use Rattle.cx_rules.specs.Wellformed.{IsDesign}
-use Rattle.cx_rewrites.specs.Moving.{moved_acting}
 use Rattle.cx_rewrites.proofs.ReflectLemmas.{IsImage, mentions_back}
 use Rattle.cx_profiling.specs.Counters.{first_gained}
 use Rattle.cx_profiling.specs.Instrumented.{moved_in, gained, with_counts}
 use Rattle.cx_profiling.proofs.ListedCells.{at_component}
-use Rattle.cx_profiling.proofs.PortLemmas.{IsInside, IsNew, moved_apart, grown_number}
+use Rattle.cx_profiling.proofs.PortLemmas.{IsInside, moved_apart, grown_number}
 use Rattle.cx_profiling.proofs.CellPorts.{IsGiven, given_output, given_done, part_given}
 use Rattle.cx_profiling.proofs.RoleLemmas.{inputs_stay}
 use Rattle.cx_profiling.proofs.InsideLemmas.{inside_closed}

@@ -1,45 +1,44 @@
 -- THE CONTROL of an instrumented instance carries that of the instance, with the counts in its counters.
-use Rattle.std.proofs.Common.{◌≡◌, ℕ, zero, suc, ◌+◌, ◌*◌, ◌<◌, ◌≤◌, inl, inr, ⊎_elim, Bool, true, false, List, [], ◌∷◌, ◌++◌, length, Option, Some, None, slice_get, refl, sym, ap, ◌∙◌, subst, arith}
+use Rattle.std.proofs.Common.{◌≡◌, ℕ, zero, suc, ◌+◌, ◌*◌, ◌<◌, ◌≤◌, inl, inr, ⊎_elim, Bool, true, false, List, [], length, Option, Some, None, refl, sym, ap, ◌∙◌, subst, arith}
 use Rattle.std.proofs.lemmas.List.{length-append}
 use Rattle.cx_prim.specs.CellStates.{CellState}
 use Rattle.cx_meaning.specs.declared.kinds.GroupKind.{GroupKind}
 use Rattle.cx_meaning.specs.declared.kinds.GroupKind.TheVariants as kinds
 use Rattle.cx_meaning.specs.declared.ports.PortRef.{PortRef}
 use Rattle.cx_meaning.specs.declared.ports.PlacedPort.{PlacedPort}
-use Rattle.cx_meaning.specs.Designs.{PlainCell, PlainComponent, PlainDesign, PlainForm, Empty, Enable, Seq, Par, If, While, Repeat, StaticSeq, StaticPar, StaticIf, StaticRepeat, Timed, PlainStatement, component_at, group_at, OfComponent}
+use Rattle.cx_meaning.specs.Designs.{PlainComponent, PlainDesign, PlainForm, Empty, Enable, Seq, Par, If, While, Repeat, StaticSeq, StaticPar, StaticIf, StaticRepeat, Timed, component_at, group_at}
 use Rattle.cx_meaning.specs.Instances.{Instance, Cells, no_cells, a_primitive, an_instance, OfInstance, cell_at, cells_of, State, tree_within}
 use Rattle.cx_meaning.specs.Active.{Active}
 use Rattle.cx_meaning.specs.Sights.{Held, In}
 use Rattle.cx_meaning.specs.Cycles.{Fault, Next}
 use Rattle.cx_meaning.specs.Answers.{Meaning}
-use Rattle.cx_meaning.specs.Control.{Leaves, groups_in, groups_of, run}
+use Rattle.cx_meaning.specs.Control.{Leaves, groups_in, run}
 use Rattle.cx_meaning.specs.Islands.{form_flat, kind_length}
 use Rattle.cx_meaning.specs.Calls.{called, call_or_turns, enable_kind}
-use Rattle.cx_meaning.specs.Running.{Children, leaves, run_control, control_below}
-use Rattle.cx_meaning.proofs.DesignsLemmas.{same_part}
+use Rattle.cx_meaning.specs.Running.{leaves, run_control, control_below}
 use Rattle.cx_meaning.proofs.InstancesLemmas.{instance_is, row_instance, nothing_instance}
 use Rattle.cx_meaning.proofs.SightsLaws.{in_at}
 use Rattle.cx_rules.specs.Circles.{IsAcyclic}
-use Rattle.cx_rules.specs.Items.{Context, Dynamic, Visited, visit, visit_parts, statements_in, test_in, is_comb}
+use Rattle.cx_rules.specs.Items.{Context, Dynamic, Visited, visit_parts, statements_in, test_in, is_comb}
 use Rattle.cx_rules.specs.Ports.{component_of}
 use Rattle.cx_rules.specs.RaceRule.{enabled_group}
 use Rattle.cx_rules.specs.Accepted.{IsAccepted}
 use Rattle.cx_rules.specs.Wellformed.{IsDesign}
 use Rattle.cx_frames.proofs.ControlFrames.{Holds}
 use Rattle.cx_frames.proofs.IslandFrames.{AllFine, form_fine}
-use Rattle.cx_rewrites.specs.Tallies.{Tally, none, Counted, Counting, count}
-use Rattle.cx_rewrites.specs.Carrying.{Pace, Exact, Carried, Carries}
+use Rattle.cx_rewrites.specs.Tallies.{Tally, Counted, Counting}
+use Rattle.cx_rewrites.specs.Carrying.{Exact, Carried, Carries}
 use Rattle.cx_rewrites.specs.Moving.{moved_form, moved_statement}
 use Rattle.cx_rewrites.specs.Beside.{LeavesCarry}
 use Rattle.cx_rewrites.specs.Cells.{comes_to}
 use Rattle.cx_rewrites.proofs.MovedLemmas.{moved_carries}
-use Rattle.cx_profiling.specs.Counters.{counters, shown_in}
-use Rattle.cx_profiling.specs.Counting.{ChildrenCount, count_island, count_call_or_turns, count_enable, counting, count_control, count_below}
+use Rattle.cx_profiling.specs.Counters.{counters}
+use Rattle.cx_profiling.specs.Counting.{count_island, count_call_or_turns, count_enable, counting, count_control, count_below}
 use Rattle.cx_profiling.specs.Growing.{Grown}
 use Rattle.cx_profiling.specs.Instrumented.{is_reached, moved_in, counter_cells, child_component, with_counts}
 use Rattle.cx_profiling.proofs.PortLemmas.{IsInside, there_inside}
 use Rattle.cx_profiling.proofs.RoleLemmas.{Role, as_main, as_child, as_kept, role, counter_count}
-use Rattle.cx_profiling.proofs.GrownTrees.{InTree, in_reach, child_in_tree, no_main_below}
+use Rattle.cx_profiling.proofs.GrownTrees.{InTree, in_reach, no_main_below}
 use Rattle.cx_profiling.proofs.PairLemmas.{CellPair, row_pair, child_pair, pair_at}
 use Rattle.cx_profiling.proofs.AcyclicLemmas.{ActsWithin, child_few, child_acyclic}
 use Rattle.cx_profiling.proofs.EnabledLemmas.{Known, statement_known}

@@ -1,11 +1,11 @@
 -- WHAT DRIVES THE NEW PORTS of an instrumented component: each port of a counter one assignment of its group, and no other.
-use Rattle.std.proofs.Common.{◌≡◌, ℕ, zero, suc, ◌+◌, ◌*◌, ◌<◌, ◌≤◌, inl, inr, ◌⊎◌, ⊎_elim, Bool, true, false, if◌then◌else◌, List, [], ◌∷◌, ◌++◌, length, map, Option, Some, None, refl, sym, ap, ◌∙◌, subst, arith}
+use Rattle.std.proofs.Common.{◌≡◌, ℕ, suc, ◌+◌, ◌*◌, ◌<◌, ◌≤◌, inl, inr, ◌⊎◌, ⊎_elim, Bool, true, false, if◌then◌else◌, List, [], ◌∷◌, ◌++◌, length, Option, Some, None, refl, sym, ap, ◌∙◌, subst, arith}
 use Rattle.cx_text.specs.declared.places.Place.{Place}
 use Rattle.cx_meaning.specs.declared.ports.PortRef.{PortRef}
 use Rattle.cx_meaning.specs.declared.ports.PortRef.TheVariants as ports
 use Rattle.cx_meaning.specs.Designs.{PlainAssign, PlainGroup, PlainComponent, PlainDesign, component_at}
 use Rattle.cx_meaning.specs.Instances.{Cells, cells_of}
-use Rattle.cx_meaning.specs.Active.{Active, Owned, owned, owned_by_groups, offset_of, if_acting, same_port, drivers}
+use Rattle.cx_meaning.specs.Active.{Active, Owned, owned, owned_by_groups, if_acting, same_port, drivers}
 use Rattle.cx_meaning.specs.Sights.{In}
 use Rattle.cx_meaning.proofs.PortsLemmas.{same_self}
 use Rattle.cx_meaning.proofs.SightsLaws.{in_left, in_right}
@@ -14,7 +14,7 @@ use Rattle.cx_rewrites.specs.Driving.{assigns_of}
 use Rattle.cx_profiling.specs.Counters.{is_counted, Counter, counters_from, counters, Shown, shown_in}
 use Rattle.cx_profiling.specs.Instrumented.{drive, is_reached, moved_in, moved_assigns, group_with, counted_groups, counter_assigns, output_assigns, store_groups, address_width, main_component, child_component, with_counts}
 use Rattle.cx_profiling.proofs.PortLemmas.{IsInside, IsNew, old_or_new}
-use Rattle.cx_profiling.proofs.LoneDrivers.{other_port, AllSilent, silent_joined, Lone, here, later, lone_after, lone_before, lone_drives, silent_drives}
+use Rattle.cx_profiling.proofs.LoneDrivers.{other_port, AllSilent, silent_joined, Lone, here, later, lone_after, lone_before, lone_drives}
 use Rattle.cx_profiling.proofs.WalkLemmas.{owned_joined, groups_joined}
 use Rattle.cx_profiling.proofs.RoleLemmas.{register_at, Role, as_main, as_child, as_kept, role, own_counters}
 

@@ -1,8 +1,8 @@
 -- The tree of a design is deep enough: no cell leads back to its component, so every component of the tree stands there with all below it.
-use Rattle.std.proofs.Common.{◌≡◌, ℕ, zero, suc, ◌+◌, ◌-◌, ◌<◌, ◌≤◌, inl, inr, ⊎_elim, List, [], ◌∷◌, length, refl, sym, ap, ◌∙◌, subst, arith}
+use Rattle.std.proofs.Common.{◌≡◌, ℕ, zero, suc, ◌+◌, ◌-◌, ◌<◌, ◌≤◌, inl, inr, ⊎_elim, List, [], ◌∷◌, length, refl, ap, ◌∙◌, subst, arith}
 use Rattle.std.proofs.lemmas.Bool.{cases_lt}
 use Rattle.cx_meaning.specs.Designs.{PlainKind, OfPrimitive, OfComponent, PlainCell, PlainDesign, component_at}
-use Rattle.cx_meaning.specs.Instances.{Instance, Node, Cells, add_cell, cells_for, tree_within}
+use Rattle.cx_meaning.specs.Instances.{Node, Cells, add_cell, cells_for, tree_within}
 use Rattle.cx_meaning.specs.Sights.{In}
 use Rattle.cx_rules.specs.Ports.{component_of}
 use Rattle.cx_rules.specs.Wellformed.{IsDesign, IsKind, LeadsTo, by_cell, by_way_of}

@@ -1,5 +1,5 @@
 -- The faults of an island are at ports that a map leaves, where the ports that it moves are always values.
-use Rattle.std.proofs.Common.{◌≡◌, ℕ, zero, suc, inl, inr, ◌⊎◌, ⊎_elim, Bool, true, false, List, [], ◌∷◌, Option, Some, None, refl, sym, ap, ◌∙◌, subst}
+use Rattle.std.proofs.Common.{◌≡◌, ℕ, zero, suc, inl, inr, ◌⊎◌, Bool, true, false, List, [], ◌∷◌, Option, Some, None, refl, sym, ap, ◌∙◌, subst}
 use Rattle.cx_meaning.specs.declared.ports.PortRef.{PortRef}
 use Rattle.cx_meaning.specs.declared.sights.Seen.{Seen}
 use Rattle.cx_meaning.specs.declared.sights.Seen.TheVariants as sights
@@ -7,14 +7,13 @@ use Rattle.cx_meaning.specs.declared.sights.FaultKind.{FaultKind}
 use Rattle.cx_meaning.specs.declared.sights.FaultKind.TheVariants as kinds
 use Rattle.cx_meaning.specs.Instances.{Instance, State, idle}
 use Rattle.cx_meaning.specs.Active.{Active, nothing, entries}
-use Rattle.cx_meaning.specs.Truths.{truth_of}
 use Rattle.cx_meaning.specs.Sights.{Look, Held, In, bit_of, seen}
 use Rattle.cx_meaning.specs.Cycles.{Fault, fault_at, Ended, Goes, Faults, cycle}
 use Rattle.cx_meaning.specs.Answers.{Answer, End, More, Turn, Ends, after_turns, turn_then, idle_turn}
 use Rattle.cx_meaning.specs.Answers as answers
-use Rattle.cx_meaning.specs.Islands.{Occurrence, History, no_history, and_now, active_in, looked_at, fault_of, first_unclear, turn_of, unless_unclear, island_turn, island_from}
+use Rattle.cx_meaning.specs.Islands.{Occurrence, History, and_now, active_in, looked_at, fault_of, first_unclear, turn_of, unless_unclear, island_turn, island_from}
 use Rattle.cx_rewrites.specs.Tallies.{Tally}
-use Rattle.cx_rewrites.specs.Carrying.{Pace, Exact, Carried}
+use Rattle.cx_rewrites.specs.Carrying.{Exact, Carried}
 
 -- A port is left, or it is one bit
 abbrev pub IsLeft : (PortRef → PortRef) → Look → PortRef → Type 0

@@ -1,16 +1,16 @@
 -- THE GROUPS of an instrumented component: each has its assignments, moved, and a counted one those of its counter behind them.
-use Rattle.std.proofs.Common.{◌≡◌, ℕ, zero, suc, ◌+◌, ◌-◌, ◌*◌, ◌<◌, ◌≤◌, inl, inr, ◌⊎◌, ⊎_elim, Bool, true, false, ◌||◌, if◌then◌else◌, List, [], ◌∷◌, ◌++◌, length, map, Option, Some, None, slice_get, get_or, refl, sym, ap, ◌∙◌, subst, arith}
+use Rattle.std.proofs.Common.{◌≡◌, ℕ, zero, suc, ◌+◌, ◌-◌, ◌*◌, ◌<◌, ◌≤◌, inl, inr, ⊎_elim, Bool, true, false, ◌||◌, if◌then◌else◌, List, [], ◌∷◌, ◌++◌, length, None, get_or, refl, sym, ap, ◌∙◌, subst, arith}
 use Rattle.std.proofs.lemmas.Bool.{cases_eq}
 use Rattle.std.proofs.lemmas.List.{get_or_append_left, get_or-append_right, get_or_past}
 use Rattle.cx_text.specs.declared.places.Place.{Place}
 use Rattle.cx_meaning.specs.declared.ports.PortRef.{PortRef}
 use Rattle.cx_meaning.specs.declared.ports.PortRef.TheVariants as ports
 use Rattle.cx_meaning.specs.Designs.{PlainAssign, PlainGroup, PlainComponent, PlainDesign, component_at, group_at, no_group}
-use Rattle.cx_meaning.specs.Instances.{Instance, Cells, cells_of, just}
+use Rattle.cx_meaning.specs.Instances.{Cells, cells_of, just}
 use Rattle.cx_meaning.specs.Sights.{In}
 use Rattle.cx_meaning.specs.Islands.{kind_length, group_length}
 use Rattle.cx_meaning.specs.Control.{targets_cell, assigns_drive, group_drives}
-use Rattle.cx_meaning.proofs.InstancesLemmas.{not_just, just_same, just_true}
+use Rattle.cx_meaning.proofs.InstancesLemmas.{not_just, just_same}
 use Rattle.cx_rules.specs.Ports.{component_of}
 use Rattle.cx_profiling.specs.Counters.{is_counted, Counter, counters_from, counters, Shown, shown_in}
 use Rattle.cx_profiling.specs.Instrumented.{is_reached, moved_in, moved_assigns, group_with, counted_groups, counter_assigns, store_groups, address_width, with_counts}

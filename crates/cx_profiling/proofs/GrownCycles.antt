@@ -1,24 +1,24 @@
 -- A CYCLE OF THE INSTRUMENTED INSTANCE carries one of the instance: the same fault, or the same step with one more for each counter whose group acts.
-use Rattle.std.proofs.Common.{◌≡◌, ℕ, zero, suc, ◌+◌, ◌*◌, ◌^◌, ◌%◌, ◌<◌, ◌≤◌, inl, inr, ⊎_elim, Bool, true, false, List, [], ◌∷◌, length, Option, Some, None, slice_get, refl, sym, ap, ◌∙◌, subst, arith}
+use Rattle.std.proofs.Common.{◌≡◌, ℕ, zero, suc, ◌+◌, ◌*◌, ◌^◌, ◌%◌, ◌<◌, ◌≤◌, Bool, true, false, [], ◌∷◌, length, Option, Some, None, refl, sym, ap, ◌∙◌, subst, arith}
 use Rattle.std.proofs.Math.Nat.{mod-add-mod}
 use Rattle.std.proofs.lemmas.List.{length-append}
 use Rattle.cx_prim.specs.CellStates.{CellState, Register}
 use Rattle.cx_prim.specs.Rows.{Row}
 use Rattle.cx_meaning.specs.declared.ports.PortRef.TheVariants as ports
 use Rattle.cx_meaning.specs.declared.sights.FaultKind.{FaultKind}
-use Rattle.cx_meaning.specs.Designs.{PlainCell, PlainComponent, PlainDesign, OfComponent, component_at}
-use Rattle.cx_meaning.specs.Instances.{Instance, Node, Cells, no_cells, a_primitive, an_instance, OfRow, OfInstance, cell_at, cell_count, cells_of, Path, State, under, tree_within}
+use Rattle.cx_meaning.specs.Designs.{PlainComponent, PlainDesign, component_at}
+use Rattle.cx_meaning.specs.Instances.{Instance, Cells, no_cells, a_primitive, an_instance, OfRow, OfInstance, cell_at, cell_count, cells_of, Path, State, under, tree_within}
 use Rattle.cx_meaning.specs.Active.{Active}
 use Rattle.cx_meaning.specs.Sights.{Held, In, seen}
 use Rattle.cx_meaning.specs.Cycles.{Fault, fault_at, Outcome, Next, Stops, outcome_at, stepped, Goes, cycle, every_cell}
 use Rattle.cx_meaning.proofs.CycleLemmas.{row_within}
-use Rattle.cx_meaning.proofs.InstancesLemmas.{instance_is, instance_row, row_instance, row_is, nothing_row, nothing_instance}
+use Rattle.cx_meaning.proofs.InstancesLemmas.{instance_is, instance_row, row_instance, nothing_row, nothing_instance}
 use Rattle.cx_rules.specs.Circles.{IsAcyclic, AcyclicBelow}
 use Rattle.cx_rules.specs.Ports.{component_of}
 use Rattle.cx_rules.specs.Wellformed.{IsDesign}
 use Rattle.cx_frames.proofs.CycleLemmas.{cycle_keeps_children}
 use Rattle.cx_rewrites.specs.Tallies.{Tally, plus, at_cell}
-use Rattle.cx_rewrites.specs.Carrying.{Pace, Exact}
+use Rattle.cx_rewrites.specs.Carrying.{Exact}
 use Rattle.cx_rewrites.specs.Turns.{CycleCarries}
 use Rattle.cx_rewrites.specs.Cells.{comes_to, left_by, CellAlike, OutcomeFollows, OutcomesFollow, no_more, both, new_one}
 use Rattle.cx_rewrites.proofs.CellLemmas.{same_outcome, cell_left, cycle_follows}
@@ -27,9 +27,8 @@ use Rattle.cx_profiling.specs.Counting.{once, made_with}
 use Rattle.cx_profiling.specs.Growing.{Grown, GrownCells}
 use Rattle.cx_profiling.specs.Instrumented.{moved_in, with_counts}
 use Rattle.cx_profiling.proofs.ListedCells.{at_component, count_listed}
-use Rattle.cx_profiling.proofs.PortLemmas.{IsInside}
 use Rattle.cx_profiling.proofs.GrownLemmas.{grown_numbers}
-use Rattle.cx_profiling.proofs.RestLemmas.{counter_row, grown_states}
+use Rattle.cx_profiling.proofs.RestLemmas.{grown_states}
 use Rattle.cx_profiling.proofs.RoleLemmas.{more_cells}
 use Rattle.cx_profiling.proofs.GrownTrees.{InTree, is_whole}
 use Rattle.cx_profiling.proofs.PairLemmas.{CellPair, row_pair, child_pair, pair_at}

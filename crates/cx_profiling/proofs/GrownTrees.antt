@@ -1,17 +1,17 @@
 -- THE TREE OF THE INSTRUMENTED DESIGN beside the tree of the design: the same components at the same cells, each with its counters.
-use Rattle.std.proofs.Common.{◌≡◌, ℕ, zero, suc, ◌+◌, ◌<◌, ◌≤◌, inl, inr, ◌⊎◌, true, List, [], ◌∷◌, ◌++◌, length, Some, slice_get, refl, sym, ap, ◌∙◌, subst, arith}
+use Rattle.std.proofs.Common.{◌≡◌, ℕ, zero, suc, ◌+◌, ◌<◌, ◌≤◌, inl, inr, ◌⊎◌, true, List, [], ◌∷◌, ◌++◌, length, refl, sym, subst, arith}
 use Rattle.cx_prim.specs.declared.names.PrimitiveName.TheVariants as primitives
-use Rattle.cx_meaning.specs.Designs.{PlainKind, OfPrimitive, OfComponent, PlainCell, PlainComponent, PlainDesign, component_at}
-use Rattle.cx_meaning.specs.Instances.{Instance, Node, Cells, cell_at, OfRow, OfInstance, add_cell, cells_for, tree_within, tree_of}
+use Rattle.cx_meaning.specs.Designs.{PlainKind, OfPrimitive, OfComponent, PlainCell, PlainDesign, component_at}
+use Rattle.cx_meaning.specs.Instances.{Cells, add_cell, cells_for, tree_within}
 use Rattle.cx_meaning.specs.Sights.{In}
 use Rattle.cx_rules.specs.Ports.{component_of}
 use Rattle.cx_rules.specs.Wellformed.{IsDesign, IsKind, LeadsTo, by_cell, by_way_of}
-use Rattle.cx_profiling.specs.Counters.{Counter, counters}
+use Rattle.cx_profiling.specs.Counters.{counters}
 use Rattle.cx_profiling.specs.Instrumented.{is_reached, reached_from, with_counts}
 use Rattle.cx_profiling.proofs.DepthLemmas.{Deep, deep, whole_tree}
 use Rattle.cx_profiling.proofs.ListedCells.{at_row}
 use Rattle.cx_profiling.proofs.ReachLemmas.{reached_on, reached_leads, is_reached_within}
-use Rattle.cx_profiling.proofs.RestLemmas.{counter_row, GrewInto, CellsGrew}
+use Rattle.cx_profiling.proofs.RestLemmas.{GrewInto, CellsGrew}
 use Rattle.cx_profiling.proofs.RoleLemmas.{more_cells, register_there}
 
 -- a component of the tree, with so many levels below it: it is reached, and deep enough

@@ -1,6 +1,6 @@
 -- THE LEAVES OF CONTROL of an instrumented instance carry those of the instance: groups, tests, calls and islands.
-use Rattle.std.proofs.Common.{◌≡◌, ℕ, zero, suc, ◌+◌, ◌*◌, ◌^◌, ◌%◌, ◌<◌, ◌≤◌, inl, inr, ◌⊎◌, ⊎_elim, Bool, true, false, ◌||◌, ◌&&◌, if◌then◌else◌, List, [], ◌∷◌, ◌++◌, length, map, Option, Some, None, slice_get, nat_eq, is_none, refl, sym, ap, ◌∙◌, subst, arith}
-use Rattle.std.proofs.lemmas.Bool.{ne_eqb, eq-eqb, cases_eq, cases_lt, both_ways}
+use Rattle.std.proofs.Common.{◌≡◌, ℕ, suc, ◌+◌, ◌*◌, ◌^◌, ◌%◌, ◌<◌, ◌≤◌, inl, inr, ◌⊎◌, ⊎_elim, Bool, true, false, ◌||◌, ◌&&◌, if◌then◌else◌, List, [], ◌∷◌, ◌++◌, length, Option, Some, None, slice_get, nat_eq, is_none, refl, sym, ap, ◌∙◌, subst, arith}
+use Rattle.std.proofs.lemmas.Bool.{ne_eqb, eq-eqb, cases_eq, cases_lt}
 use Rattle.cx_prim.specs.CellStates.{CellState, Register}
 use Rattle.cx_prim.specs.Rows.{Row}
 use Rattle.cx_prim.specs.Table.{row_of}
@@ -9,26 +9,24 @@ use Rattle.cx_meaning.specs.declared.kinds.GroupKind.{GroupKind}
 use Rattle.cx_meaning.specs.declared.kinds.GroupKind.TheVariants as kinds
 use Rattle.cx_meaning.specs.declared.ports.PortRef.{PortRef}
 use Rattle.cx_meaning.specs.declared.ports.PortRef.TheVariants as ports
-use Rattle.cx_meaning.specs.declared.ports.PlacedPort.{PlacedPort}
-use Rattle.cx_meaning.specs.declared.sights.Seen.{Seen}
 use Rattle.cx_meaning.specs.declared.sights.FaultKind.{FaultKind}
 use Rattle.cx_meaning.specs.declared.sights.FaultKind.TheVariants as fault_kinds
-use Rattle.cx_meaning.specs.Designs.{PlainAssign, PlainCell, PlainGroup, PlainComponent, PlainDesign, PlainForm, Enable, OfComponent, component_at, group_at}
-use Rattle.cx_meaning.specs.Instances.{Instance, Cells, At, Nothing, OfRow, OfInstance, cell_at, cell_count, cells_of, part_of, Path, State, Set, under, put, beneath, just, merge, idle, tree_within}
-use Rattle.cx_meaning.specs.Active.{Active, nothing, group, comb, capture, Entry, entries, only_at, offset_in}
+use Rattle.cx_meaning.specs.Designs.{PlainAssign, PlainCell, PlainGroup, PlainComponent, PlainDesign, OfComponent, component_at, group_at}
+use Rattle.cx_meaning.specs.Instances.{Instance, Cells, At, Nothing, OfRow, OfInstance, cell_at, cell_count, cells_of, Path, State, under, put, beneath, just, idle, tree_within}
+use Rattle.cx_meaning.specs.Active.{Active, nothing, group, capture, entries, only_at}
 use Rattle.cx_meaning.specs.Truths.{Truth, One, Zero, truth_of}
 use Rattle.cx_meaning.specs.Truths as truths
-use Rattle.cx_meaning.specs.Sights.{Held, In, bit_of, seen, PartPort, Go, AnInput, AnOutput, ItsDone, part_port, part_step, cell_step, outputs_below, is_done_cell}
-use Rattle.cx_meaning.specs.Cycles.{Fault, fault_at, Outcome, Next, Stops, outcome_at, first_fault, state_after, Goes, Faults, cycle}
+use Rattle.cx_meaning.specs.Sights.{Held, In, bit_of, seen, part_port, part_step, cell_step, outputs_below, is_done_cell}
+use Rattle.cx_meaning.specs.Cycles.{Fault, fault_at, Next, Stops, outcome_at, first_fault, state_after, Faults, cycle}
 use Rattle.cx_meaning.specs.Answers.{Turn, Test, Holds, Fails, Unclear, turns_of}
 use Rattle.cx_meaning.specs.Answers as answers
-use Rattle.cx_meaning.specs.Islands.{Occurrence, History, no_history, active_in, form_flat, form_length, looked_at, group_length, kind_length, island, turn_of}
+use Rattle.cx_meaning.specs.Islands.{History, no_history, active_in, form_flat, form_length, group_length, kind_length, island, turn_of}
 use Rattle.cx_meaning.specs.Calls.{test, test_of, called, called_in, called_by, if_instance, captures, captures_in, enables_primitive, enables_at, group_turn, inputs_of_call, call}
 use Rattle.cx_meaning.specs.Running.{Children}
 use Rattle.cx_meaning.proofs.CycleLemmas.{row_within, one_stops, faults_with}
 use Rattle.cx_meaning.proofs.DesignsLemmas.{same_part}
-use Rattle.cx_meaning.proofs.InstancesLemmas.{instance_is, instance_row, row_instance, just_same, just_true, not_just}
-use Rattle.cx_rules.specs.Circles.{IsAcyclic, AcyclicBelow}
+use Rattle.cx_meaning.proofs.InstancesLemmas.{instance_is, instance_row, just_same, just_true, not_just}
+use Rattle.cx_rules.specs.Circles.{IsAcyclic}
 use Rattle.cx_rules.specs.Ports.{component_of}
 use Rattle.cx_rules.specs.Items.{Visited, statements_in}
 use Rattle.cx_rules.specs.Accepted.{IsAccepted}
@@ -38,16 +36,16 @@ use Rattle.cx_rules.proofs.FoundLemmas.{seen_solves}
 use Rattle.cx_frames.proofs.CircleFrames.{capture_acyclic}
 use Rattle.cx_frames.proofs.IslandFrames.{AllFine, looked_good}
 use Rattle.cx_rewrites.specs.Tallies.{Tally, none, plus, at_cell, below, Counted, turns_count}
-use Rattle.cx_rewrites.specs.Carrying.{Pace, Exact, Rests, TestCarried, TurnCarried, Carries}
+use Rattle.cx_rewrites.specs.Carrying.{Exact, Rests, TestCarried, TurnCarried, Carries}
 use Rattle.cx_rewrites.specs.Moving.{moved_fault, moved_form}
-use Rattle.cx_rewrites.specs.Turns.{IsSeenAlike, CycleCarries, GroupCarries}
+use Rattle.cx_rewrites.specs.Turns.{CycleCarries}
 use Rattle.cx_rewrites.specs.Cells.{comes_to}
 use Rattle.cx_rewrites.proofs.TurnLemmas.{group_carries}
 use Rattle.cx_rewrites.proofs.IslandLemmas.{island_carries}
 use Rattle.cx_profiling.specs.Counters.{is_counted, is_counted_kind, has_name, Counter, counters, first_gained}
 use Rattle.cx_profiling.specs.Counting.{once, made_with, count_island}
-use Rattle.cx_profiling.specs.Growing.{Grown, GrownCells}
-use Rattle.cx_profiling.specs.Instrumented.{gained, moved_number, moved_in, moved_assigns, group_with, counter_assigns, with_counts}
+use Rattle.cx_profiling.specs.Growing.{Grown}
+use Rattle.cx_profiling.specs.Instrumented.{gained, moved_number, moved_in, moved_assigns, counter_assigns, with_counts}
 use Rattle.cx_profiling.proofs.ListedCells.{at_row, at_component, count_listed}
 use Rattle.cx_profiling.proofs.PortLemmas.{IsInside, moved-component, grown_number, there_inside}
 use Rattle.cx_profiling.proofs.GrownLemmas.{grown_numbers}

@@ -1,7 +1,6 @@
 -- MAIN: the old control, and then the stores.
-use Rattle.std.proofs.Common.{◌≡◌, ℕ, zero, suc, ◌+◌, ◌-◌, ◌*◌, ◌^◌, ◌%◌, ◌<◌, ◌≤◌, inl, inr, ◌⊎◌, ⊎_elim, Bool, true, false, ◌||◌, List, [], ◌∷◌, ◌++◌, length, map, Option, Some, None, slice_get, refl, sym, ap, ◌∙◌, subst, arith}
+use Rattle.std.proofs.Common.{◌≡◌, ℕ, zero, suc, ◌+◌, ◌-◌, ◌*◌, ◌<◌, ◌≤◌, inl, inr, Bool, true, false, ◌||◌, List, [], ◌∷◌, ◌++◌, length, map, Some, slice_get, refl, sym, ap, ◌∙◌, subst, arith}
 use Rattle.std.specs.Prelude.{slice_set}
-use Rattle.std.proofs.lemmas.Bool.{cases_eq}
 use Rattle.std.proofs.lemmas.List.{map-append}
 use Rattle.cx_text.proofs.ListLaws.{behind, length-map}
 use Rattle.cx_prim.specs.CellStates.{CellState, Memory, AreWords}
@@ -9,8 +8,8 @@ use Rattle.cx_prim.specs.CellStates as cell_states
 use Rattle.cx_prim.specs.Rows.{Row}
 use Rattle.cx_prim.specs.MemoryRows.{memory_row}
 use Rattle.cx_meaning.specs.declared.ports.PortRef.TheVariants as ports
-use Rattle.cx_meaning.specs.Designs.{PlainComponent, PlainDesign, PlainStatement, PlainStatements, Placed, Seq, a_statement, statements_of, component_at, group_at}
-use Rattle.cx_meaning.specs.Instances.{Instance, OfRow, cell_at, cells_of, State, under, idle, IsSettled, start, externals_of, words_of, tree_within, tree_of, instance_at}
+use Rattle.cx_meaning.specs.Designs.{PlainComponent, PlainDesign, PlainStatement, PlainStatements, statements_of, component_at}
+use Rattle.cx_meaning.specs.Instances.{Instance, OfRow, cell_at, cells_of, State, under, idle, IsSettled, start, externals_of, words_of, tree_within}
 use Rattle.cx_meaning.specs.Active.{Active, group}
 use Rattle.cx_meaning.specs.Sights.{Held, unheld, In, bit_of, target_seen, side_step, cell_step, seen, outputs_below}
 use Rattle.cx_meaning.specs.Cycles.{Fault, Next, outcome_at}
@@ -19,9 +18,8 @@ use Rattle.cx_meaning.specs.Answers as answers
 use Rattle.cx_meaning.specs.Budgets.{Grows, Leaves}
 use Rattle.cx_meaning.specs.Control as control
 use Rattle.cx_meaning.specs.Control.{drives, groups_drive, group_drives, groups_of, run, run_parts}
-use Rattle.cx_meaning.specs.Running.{leaves, control_below, run_control, run_statement, run_main}
+use Rattle.cx_meaning.specs.Running.{leaves, control_below, run_control}
 use Rattle.cx_meaning.proofs.IdleLemmas.{kept_within}
-use Rattle.cx_meaning.proofs.InstancesLemmas.{here}
 use Rattle.cx_meaning.proofs.RunningLemmas.{steady_statement, settles_statement}
 use Rattle.cx_rules.specs.Circles.{IsAcyclic}
 use Rattle.cx_rules.specs.Items.{Dynamic, visit}
@@ -29,21 +27,20 @@ use Rattle.cx_rules.specs.Ports.{component_of}
 use Rattle.cx_rules.specs.Accepted.{IsAccepted}
 use Rattle.cx_rules.specs.Wellformed.{IsDesign}
 use Rattle.cx_rules.proofs.FoundLemmas.{seen_solves}
-use Rattle.cx_laws.proofs.StartLemmas.{design_starts_settled}
-use Rattle.cx_frames.proofs.EnableLemmas.{tree_lawful, BareEnablesNothing, instance_bare}
+use Rattle.cx_frames.proofs.EnableLemmas.{tree_lawful, BareEnablesNothing}
 use Rattle.cx_frames.proofs.QuietLemmas.{quiet_outcome}
 use Rattle.cx_frames.proofs.RunLemmas.{run_stays}
 use Rattle.cx_rewrites.specs.Tallies.{Tally, none, plus}
-use Rattle.cx_rewrites.specs.Carrying.{Pace, Exact, Carried, Carries}
+use Rattle.cx_rewrites.specs.Carrying.{Exact, Carried, Carries}
 use Rattle.cx_rewrites.specs.Moving.{moved_statement}
 use Rattle.cx_rewrites.specs.Cells.{comes_to, left_by}
-use Rattle.cx_profiling.specs.Counters.{Counter, counters, Shown, shown_in}
+use Rattle.cx_profiling.specs.Counters.{counters, Shown, shown_in}
 use Rattle.cx_profiling.specs.Counting.{count_control}
 use Rattle.cx_profiling.specs.Growing.{Grown}
 use Rattle.cx_profiling.specs.Instrumented.{moved_in, store_enables, address_width, main_component, with_counts}
 use Rattle.cx_profiling.specs.RunsAlike.{Owes}
 use Rattle.cx_profiling.proofs.GrownLemmas.{grown_numbers}
-use Rattle.cx_profiling.proofs.GrownTrees.{InTree, in_reach, is_whole}
+use Rattle.cx_profiling.proofs.GrownTrees.{InTree, in_reach}
 use Rattle.cx_profiling.proofs.AcyclicLemmas.{ActsWithin, main_acyclic, main_silent}
 use Rattle.cx_profiling.proofs.GroupLemmas.{behind_undriven}
 use Rattle.cx_profiling.proofs.ArmLemmas.{moved_groups, all_forms, no_cell}
@@ -51,7 +48,7 @@ use Rattle.cx_profiling.proofs.EnabledLemmas.{Known, statement_known}
 use Rattle.cx_profiling.proofs.SeenOutputs.{below_there}
 use Rattle.cx_profiling.proofs.ControlLemmas.{control_carries, child_control}
 use Rattle.cx_profiling.proofs.OutputLemmas.{counted_of}
-use Rattle.cx_profiling.proofs.MemoryLemmas.{memory_at, cells_total, few_words}
+use Rattle.cx_profiling.proofs.MemoryLemmas.{memory_at, cells_total}
 use Rattle.cx_profiling.proofs.StoreLemmas.{Between, stored_between, store_runs, store_leaves}
 use Rattle.cx_profiling.proofs.GrownCycles.{grown_rows}
 use Rattle.cx_profiling.proofs.StartsGrown.{start_grown, memory_start, externals_grow, external_row}

@@ -1,31 +1,26 @@
 -- THE MEMORY OF THE COUNTS: its row, what it shows, and what it comes to where a word is stored.
-use Rattle.std.proofs.Common.{◌≡◌, ℕ, zero, suc, ◌+◌, ◌*◌, ◌^◌, ◌<◌, ◌≤◌, ⊎_elim, inl, inr, Bool, true, false, ◌&&◌, if◌then◌else◌, nat_le, List, [], ◌∷◌, ◌++◌, length, Option, Some, None, get_or, slice_get, refl, sym, ap, ◌∙◌, subst, arith}
-use Rattle.std.specs.Prelude.{codes, nat_lt, slice_set, unwrap_or}
-use Rattle.std.proofs.lemmas.Bool.{lt-ltb, le-leb, leb-false, leb-true, cases_lt}
+use Rattle.std.proofs.Common.{◌≡◌, ℕ, zero, suc, ◌+◌, ◌*◌, ◌^◌, ◌<◌, ◌≤◌, ⊎_elim, inl, inr, Bool, true, false, if◌then◌else◌, nat_le, List, [], ◌∷◌, ◌++◌, length, slice_get, refl, sym, ap, ◌∙◌, subst, arith}
+use Rattle.std.specs.Prelude.{codes, slice_set}
+use Rattle.std.proofs.lemmas.Bool.{lt-ltb, le-leb, leb-false, cases_lt}
 use Rattle.std.proofs.lemmas.List.{length-append}
-use Rattle.cx_text.specs.declared.limits.TheConstants.{GROUPS}
 use Rattle.cx_text.specs.declared.places.Place.{Place}
 use Rattle.cx_text.specs.declared.rules.Rule.TheVariants.{Limit}
-use Rattle.cx_text.specs.Loading.{word_count}
 use Rattle.cx_text.proofs.ListLaws.{behind}
 use Rattle.cx_prim.specs.declared.names.PrimitiveName.TheVariants as primitives
-use Rattle.cx_prim.specs.CellStates.{CellState, Memory}
-use Rattle.cx_prim.specs.Rows.{Row}
+use Rattle.cx_prim.specs.CellStates.{Memory}
 use Rattle.cx_prim.specs.Table.{row_of}
 use Rattle.cx_prim.specs.MemoryRows.{memory_row}
 use Rattle.cx_meaning.specs.declared.ports.PortRef.TheVariants as ports
-use Rattle.cx_meaning.specs.declared.sights.Seen.{Seen}
-use Rattle.cx_meaning.specs.Designs.{PlainCell, PlainComponent, PlainDesign, OfPrimitive, component_at}
-use Rattle.cx_meaning.specs.Instances.{Instance, OfRow, cell_at, cells_of, tree_within}
+use Rattle.cx_meaning.specs.Designs.{PlainComponent, PlainDesign, component_at}
+use Rattle.cx_meaning.specs.Instances.{OfRow, cell_at, cells_of, tree_within}
 use Rattle.cx_meaning.specs.Sights.{Look, bit_of, of_option}
-use Rattle.cx_meaning.specs.Cycles.{Outcome, Next, cell_outcome}
+use Rattle.cx_meaning.specs.Cycles.{Next, cell_outcome}
 use Rattle.cx_rules.specs.Ports.{component_of}
 use Rattle.cx_rules.specs.Spots.{Itself}
 use Rattle.cx_rules.specs.Accepted.{IsAccepted}
 use Rattle.cx_profiling.specs.Counters.{counters, Shown, shown_in}
 use Rattle.cx_profiling.specs.Instrumented.{width_from, address_width, memory_cell, counter_cells, name_at, counted_groups, store_groups, main_component, with_counts}
 use Rattle.cx_profiling.proofs.ListedCells.{at_row}
-use Rattle.cx_profiling.proofs.CounterDrives.{counted_length}
 use Rattle.cx_profiling.proofs.RoleLemmas.{counter_count, grown_count}
 use Rattle.cx_profiling.proofs.RowLemmas.{number}
 

@@ -1,23 +1,21 @@
 -- COUNTS SHOW: the port that has the count of an entry is seen as what was counted of it, in every instance and under every active set.
-use Rattle.std.proofs.Common.{◌≡◌, ℕ, zero, suc, ◌+◌, ◌^◌, ◌%◌, ◌<◌, ◌≤◌, Bool, true, false, List, [], ◌∷◌, length, Option, Some, None, slice_get, refl, sym, ap, ◌∙◌, subst, arith}
+use Rattle.std.proofs.Common.{◌≡◌, ℕ, zero, suc, ◌+◌, ◌^◌, ◌%◌, ◌<◌, Bool, true, false, [], ◌∷◌, length, Some, slice_get, sym, ap, ◌∙◌, subst, arith}
 use Rattle.std.proofs.lemmas.Option.{slice_get_within}
-use Rattle.cx_prim.specs.CellStates.{Register}
 use Rattle.cx_meaning.specs.declared.ports.PortRef.TheVariants as ports
 use Rattle.cx_meaning.specs.declared.sights.Seen.TheVariants.{Undefined}
-use Rattle.cx_meaning.specs.Designs.{PlainCell, PlainComponent, PlainDesign, OfComponent, component_at}
-use Rattle.cx_meaning.specs.Instances.{Instance, OfInstance, cell_at, cells_of, part_of, State, under, tree_within}
+use Rattle.cx_meaning.specs.Designs.{PlainComponent, PlainDesign, component_at}
+use Rattle.cx_meaning.specs.Instances.{Instance, cells_of, part_of, State, under, tree_within}
 use Rattle.cx_meaning.specs.Active.{Active, nothing}
-use Rattle.cx_meaning.specs.Sights.{Look, Held, unheld, In, AnOutput, part_port, target_seen, part_step, cell_step, seen, outputs_below}
+use Rattle.cx_meaning.specs.Sights.{Look, Held, unheld, In, part_port, target_seen, part_step, cell_step, seen, outputs_below}
 use Rattle.cx_meaning.proofs.DesignsLemmas.{same_part}
 use Rattle.cx_meaning.proofs.InstancesLemmas.{instance_is, row_instance}
 use Rattle.cx_meaning.proofs.SightsLaws.{in_at}
 use Rattle.cx_rules.specs.Circles.{IsAcyclic}
-use Rattle.cx_rules.specs.Ports.{component_of}
 use Rattle.cx_rules.specs.Accepted.{IsAccepted}
 use Rattle.cx_rules.specs.Wellformed.{IsDesign}
 use Rattle.cx_rules.proofs.FoundLemmas.{seen_solves}
 use Rattle.cx_rewrites.specs.Tallies.{Tally, at_cell}
-use Rattle.cx_profiling.specs.Counters.{ProfileEntry, Counter, counters, Shown, shown_in, shown_here, first_gained}
+use Rattle.cx_profiling.specs.Counters.{ProfileEntry, Counter, counters, Shown, shown_in, first_gained}
 use Rattle.cx_profiling.specs.Growing.{Grown}
 use Rattle.cx_profiling.specs.Instrumented.{is_reached, gained, with_counts}
 use Rattle.cx_profiling.proofs.RoleLemmas.{Role, as_main, as_child, as_kept, role, gained_child}

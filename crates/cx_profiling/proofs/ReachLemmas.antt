@@ -1,11 +1,11 @@
 -- The components of the tree are reached, and no one of them is main again.
-use Rattle.std.proofs.Common.{◌≡◌, ℕ, zero, suc, ◌+◌, ◌<◌, ◌≤◌, inl, inr, ◌⊎◌, ⊎_elim, Bool, true, false, ◌||◌, List, [], ◌∷◌, ◌++◌, length, nat_eq, refl, sym, ap, ◌∙◌, subst, arith}
+use Rattle.std.proofs.Common.{◌≡◌, ℕ, zero, suc, ◌+◌, ◌≤◌, inl, inr, ◌⊎◌, ⊎_elim, Bool, true, false, ◌||◌, List, [], ◌∷◌, length, nat_eq, refl, sym, ap, ◌∙◌, subst, arith}
 use Rattle.std.specs.Prelude.{flat_map}
 use Rattle.std.proofs.lemmas.Bool.{eq-eqb}
 use Rattle.cx_meaning.specs.Designs.{PlainKind, OfPrimitive, OfComponent, PlainCell, PlainDesign, component_at}
 use Rattle.cx_meaning.specs.Sights.{In}
-use Rattle.cx_meaning.proofs.SightsLaws.{in_left, in_right, in_either}
-use Rattle.cx_rules.specs.Wellformed.{IsDesign, LeadsTo, by_cell, by_way_of}
+use Rattle.cx_meaning.proofs.SightsLaws.{in_either}
+use Rattle.cx_rules.specs.Wellformed.{LeadsTo, by_cell, by_way_of}
 use Rattle.cx_laws.proofs.TogetherLemmas.{in_flat}
 use Rattle.cx_profiling.specs.Instrumented.{has_number, component_of_kind, components_of, reached_from, is_reached}
 

@@ -1,20 +1,19 @@
 -- THE COMPONENTS OF AN INSTRUMENTED DESIGN, each by its role, with their signatures, cells and groups beside those of the design.
-use Rattle.std.proofs.Common.{◌≡◌, ℕ, zero, suc, ◌+◌, ◌*◌, ◌<◌, ◌≤◌, inl, inr, Bool, true, false, not, ◌&&◌, if◌then◌else◌, List, [], ◌∷◌, ◌++◌, length, map, Option, Some, None, slice_get, nat_eq, refl, sym, ap, ◌∙◌, subst, arith}
-use Rattle.std.specs.List.{range_with_len}
+use Rattle.std.proofs.Common.{◌≡◌, ℕ, zero, suc, ◌+◌, ◌*◌, ◌<◌, inl, inr, Bool, true, false, not, ◌&&◌, if◌then◌else◌, List, [], ◌∷◌, ◌++◌, length, Some, slice_get, nat_eq, refl, sym, ap, ◌∙◌, subst, arith}
 use Rattle.std.proofs.lemmas.Bool.{eqb-true, eqb-false}
 use Rattle.std.proofs.lemmas.List.{length-append}
 use Rattle.std.proofs.lemmas.List.FromFn.{get_or-map-range_with_len, length-map-range_with_len}
 use Rattle.cx_text.specs.declared.places.Place.{Place}
 use Rattle.cx_text.proofs.ListLaws.{append-front, front, behind}
 use Rattle.cx_prim.specs.declared.names.PrimitiveName.TheVariants as primitives
-use Rattle.cx_meaning.specs.Designs.{PlainAssign, PlainGroup, PlainCell, PlainComponent, PlainDesign, OfPrimitive, component_at, no_component}
+use Rattle.cx_meaning.specs.Designs.{PlainGroup, PlainCell, PlainComponent, PlainDesign, OfPrimitive, component_at, no_component}
 use Rattle.cx_meaning.specs.Instances.{Instance, Node, Cells, cells_of, part_of}
 use Rattle.cx_meaning.specs.Sights.{In}
 use Rattle.cx_meaning.proofs.DesignsLemmas.{same_part}
 use Rattle.cx_rules.specs.Ports.{component_of}
 use Rattle.cx_profiling.specs.Counters.{is_counted, Counter, counters_from, counters, Shown, shown_in}
 use Rattle.cx_profiling.specs.FreeNames.{free_names, names_of}
-use Rattle.cx_profiling.specs.Instrumented.{is_reached, new_cell, name_at, counter_cells, count_outputs, memory_cell, gained, group_with, counted_groups, counter_assigns, kept_component, child_component, main_component, instrumented_component, with_counts}
+use Rattle.cx_profiling.specs.Instrumented.{is_reached, new_cell, name_at, counter_cells, count_outputs, memory_cell, gained, kept_component, child_component, main_component, instrumented_component, with_counts}
 
 -- CELLS of counters: the register, and the adder behind it
 pub counter_count : (place : Place) (names : List (List ℕ)) (n k : ℕ) → length (counter_cells place names n k) ≡ 2 * k

@@ -1,15 +1,15 @@
 -- WHAT A COUNTER'S CELLS COME TO in a cycle: the register takes what stands at its input where it is enabled, and rests where it is not;
 -- the adder has no state.
-use Rattle.std.proofs.Common.{◌≡◌, ℕ, suc, ◌+◌, ◌^◌, ◌%◌, Bool, true, false, [], ◌∷◌, Some, refl, sym, ap, ◌∙◌, subst}
+use Rattle.std.proofs.Common.{◌≡◌, ℕ, ◌+◌, ◌^◌, ◌%◌, Bool, true, false, [], ◌∷◌, refl}
 use Rattle.cx_prim.specs.CellStates.{CellState, Register}
 use Rattle.cx_prim.specs.Rows.{Row}
 use Rattle.cx_prim.specs.Table.{row_of}
 use Rattle.cx_prim.specs.declared.names.PrimitiveName.TheVariants as primitives
 use Rattle.cx_meaning.specs.declared.ports.PortRef.TheVariants as ports
 use Rattle.cx_meaning.specs.declared.sights.Seen.{Seen}
-use Rattle.cx_meaning.specs.declared.sights.Seen.TheVariants.{Value, Conflict, Undefined}
-use Rattle.cx_meaning.specs.Sights.{Look, Gathered, Given, gather, gather_one, with_entry, bit_of, output_seen}
-use Rattle.cx_meaning.specs.Cycles.{Outcome, Next, after_enabling, cell_outcome}
+use Rattle.cx_meaning.specs.declared.sights.Seen.TheVariants.{Value}
+use Rattle.cx_meaning.specs.Sights.{Look, gather, bit_of, output_seen}
+use Rattle.cx_meaning.specs.Cycles.{Next, cell_outcome}
 use Rattle.cx_profiling.proofs.RestLemmas.{counter_row}
 
 abbrev pub number : ℕ → ℕ → Seen

@@ -1,14 +1,14 @@
 -- THE OUTPUTS THAT A COMPONENT HAD are seen alike in the whole tree, and nothing leads in a circle in it.
-use Rattle.std.proofs.Common.{◌≡◌, ℕ, zero, suc, ◌<◌, [], Option, Some, None, length, slice_get, refl, sym, ap, ◌∙◌, subst}
+use Rattle.std.proofs.Common.{◌≡◌, ℕ, zero, suc, ◌<◌, [], length, refl}
 use Rattle.cx_meaning.specs.declared.ports.PortRef.TheVariants as ports
 use Rattle.cx_meaning.specs.declared.sights.Seen.{Seen}
-use Rattle.cx_meaning.specs.Designs.{PlainCell, PlainComponent, PlainDesign, OfComponent, component_at}
-use Rattle.cx_meaning.specs.Instances.{Instance, cell_at, cells_of, State, under, tree_within}
-use Rattle.cx_meaning.specs.Active.{Active, nothing, group, capture, entries, comb}
+use Rattle.cx_meaning.specs.Designs.{PlainDesign, component_at}
+use Rattle.cx_meaning.specs.Instances.{cells_of, State, under, tree_within}
+use Rattle.cx_meaning.specs.Active.{nothing, entries}
 use Rattle.cx_meaning.specs.Islands.{History, active_in, form_flat}
 use Rattle.cx_meaning.specs.Sights.{unheld, Sees, seen, In}
 use Rattle.cx_meaning.proofs.SightsLaws.{in_at}
-use Rattle.cx_rules.specs.Circles.{IsAcyclic, AreAcyclic, AcyclicBelow}
+use Rattle.cx_rules.specs.Circles.{IsAcyclic, AcyclicBelow}
 use Rattle.cx_rules.specs.Items.{Visited, statements_in}
 use Rattle.cx_rules.specs.Accepted.{IsAccepted}
 use Rattle.cx_rules.specs.Wellformed.{IsDesign}

@@ -1,7 +1,6 @@
 -- WHAT DRIVES THE MEMORY OF THE COUNTS while a group stores a count: the assignments of that group alone.
-use Rattle.std.proofs.Common.{◌≡◌, ℕ, zero, suc, ◌+◌, ◌*◌, ◌<◌, ◌≤◌, inl, inr, ⊎_elim, Bool, true, false, if◌then◌else◌, List, [], ◌∷◌, ◌++◌, length, Option, Some, None, slice_get, get_or, nat_eq, refl, sym, ap, ◌∙◌, subst, arith}
+use Rattle.std.proofs.Common.{◌≡◌, ℕ, zero, suc, ◌+◌, ◌*◌, ◌<◌, ◌≤◌, inr, false, if◌then◌else◌, List, [], ◌∷◌, ◌++◌, length, Some, None, slice_get, get_or, refl, sym, ap, ◌∙◌, subst, arith}
 use Rattle.std.proofs.lemmas.Bool.{ne_eqb, eq-eqb}
-use Rattle.std.proofs.lemmas.Option.{slice_get_within}
 use Rattle.std.proofs.lemmas.List.{get_or-append-add}
 use Rattle.cx_text.specs.declared.places.Place.{Place}
 use Rattle.cx_meaning.specs.declared.kinds.GroupKind.TheVariants as kinds
@@ -9,16 +8,14 @@ use Rattle.cx_meaning.specs.declared.ports.PortRef.{PortRef}
 use Rattle.cx_meaning.specs.declared.ports.PortRef.TheVariants as ports
 use Rattle.cx_meaning.specs.Designs.{PlainAssign, PlainGroup, PlainComponent, PlainDesign, component_at, group_at, no_group}
 use Rattle.cx_meaning.specs.Instances.{cells_of}
-use Rattle.cx_meaning.specs.Active.{Active, Acting, Owned, owned, owned_by_groups, group, only_at, same_port, drivers, if_acting}
-use Rattle.cx_meaning.specs.Sights.{In}
+use Rattle.cx_meaning.specs.Active.{Active, owned, owned_by_groups, group, only_at, same_port, drivers, if_acting}
 use Rattle.cx_meaning.proofs.PortsLemmas.{same_self}
 use Rattle.cx_meaning.proofs.SightsLaws.{in_left, in_right}
 use Rattle.cx_rules.specs.Ports.{component_of}
 use Rattle.cx_rules.specs.Wellformed.{IsDesign}
-use Rattle.cx_rewrites.specs.Driving.{assigns_of}
 use Rattle.cx_profiling.specs.Counters.{counters, counters_from, Shown, shown_in}
 use Rattle.cx_profiling.specs.Instrumented.{drive, moved_assigns, counted_groups, store_assigns, store_groups, address_width, name_at, main_component, with_counts}
-use Rattle.cx_profiling.proofs.PortLemmas.{IsInside, IsNew}
+use Rattle.cx_profiling.proofs.PortLemmas.{IsNew}
 use Rattle.cx_profiling.proofs.LoneDrivers.{other_port, AllSilent, silent_joined, silent_owner, Lone, here, later, lone_after, lone_before, lone_drives}
 use Rattle.cx_profiling.proofs.WalkLemmas.{groups_joined}
 use Rattle.cx_profiling.proofs.RoleLemmas.{own_counters}

@@ -1,30 +1,28 @@
 -- THE STORES: each takes two turns, stores the count of its entry, and leaves all else of the settled state as it is.
-use Rattle.std.proofs.Common.{◌≡◌, ℕ, zero, suc, ◌+◌, ◌-◌, ◌*◌, ◌^◌, ◌%◌, ◌<◌, ◌≤◌, inl, inr, ◌⊎◌, ⊎_elim, Bool, true, false, ◌||◌, if◌then◌else◌, List, [], ◌∷◌, ◌++◌, length, map, Option, Some, None, slice_get, nat_eq, refl, sym, ap, ◌∙◌, subst, arith}
+use Rattle.std.proofs.Common.{◌≡◌, ℕ, zero, suc, ◌+◌, ◌*◌, ◌<◌, ◌≤◌, inl, inr, ◌⊎◌, ⊎_elim, true, false, ◌||◌, if◌then◌else◌, List, [], ◌∷◌, length, Some, None, slice_get, refl, sym, ap, ◌∙◌, subst, arith}
 use Rattle.std.specs.Prelude.{slice_set}
-use Rattle.std.proofs.lemmas.Bool.{ne_eqb, eq-eqb, cases_eq, cases_lt}
+use Rattle.std.proofs.lemmas.Bool.{ne_eqb, cases_eq, cases_lt}
 use Rattle.std.proofs.lemmas.Option.{slice_get_within}
 use Rattle.std.proofs.lemmas.List.{get_or_past}
-use Rattle.cx_text.specs.declared.places.Place.{Place}
-use Rattle.cx_prim.specs.CellStates.{CellState, Register, Memory}
+use Rattle.cx_prim.specs.CellStates.{CellState, Memory}
 use Rattle.cx_prim.specs.Rows.{Row}
 use Rattle.cx_prim.specs.MemoryRows.{memory_row}
-use Rattle.cx_meaning.specs.declared.kinds.GroupKind.TheVariants as kinds
 use Rattle.cx_meaning.specs.declared.ports.PortRef.{PortRef}
 use Rattle.cx_meaning.specs.declared.ports.PortRef.TheVariants as ports
 use Rattle.cx_meaning.specs.declared.sights.Seen.{Seen}
 use Rattle.cx_meaning.specs.declared.sights.Seen.TheVariants.{Undefined}
-use Rattle.cx_meaning.specs.Designs.{PlainAssign, PlainGroup, PlainComponent, PlainDesign, PlainStatement, Placed, Enable, PlainStatements, statements_of, component_at, group_at, no_group}
+use Rattle.cx_meaning.specs.Designs.{PlainAssign, PlainGroup, PlainComponent, PlainDesign, component_at, group_at, no_group}
 use Rattle.cx_meaning.specs.Instances.{Instance, At, Nothing, OfRow, OfInstance, cell_at, cell_count, cells_of, Path, State, under, just, idle, idle_at, IsSettled, tree_within}
-use Rattle.cx_meaning.specs.Active.{Active, group, only_at, drivers}
+use Rattle.cx_meaning.specs.Active.{group, only_at, drivers}
 use Rattle.cx_meaning.specs.Truths.{truth_of}
-use Rattle.cx_meaning.specs.Sights.{Look, Held, unheld, In, bit_of, of_option, target_seen, cell_step, step, seen, outputs_below}
-use Rattle.cx_meaning.specs.Cycles.{Outcome, Next, outcome_at, cell_outcome, first_of, first_fault, stepped, state_after, unless_fault, Goes, Faults, cycle}
+use Rattle.cx_meaning.specs.Sights.{Look, unheld, In, bit_of, of_option, target_seen, cell_step, step, seen, outputs_below}
+use Rattle.cx_meaning.specs.Cycles.{Outcome, Next, outcome_at, cell_outcome, first_of, first_fault, stepped, unless_fault, Goes, cycle}
 use Rattle.cx_meaning.specs.Answers.{Answer, End, More, turns_of, turn_then, then_do, after_turns}
 use Rattle.cx_meaning.specs.Answers as answers
-use Rattle.cx_meaning.specs.Control.{group_drives, assigns_drive, run, run_parts}
-use Rattle.cx_meaning.specs.Islands.{turn_of, kind_length}
+use Rattle.cx_meaning.specs.Control.{group_drives, assigns_drive}
+use Rattle.cx_meaning.specs.Islands.{turn_of}
 use Rattle.cx_meaning.specs.Calls.{hole_turn, group_turn, called, called_in, if_instance, call_or_turns, enable_kind}
-use Rattle.cx_meaning.specs.Running.{Children, leaves, control_below}
+use Rattle.cx_meaning.specs.Running.{Children}
 use Rattle.cx_meaning.proofs.SightsLaws.{in_at}
 use Rattle.cx_meaning.proofs.CycleLemmas.{row_within}
 use Rattle.cx_meaning.proofs.IdleLemmas.{kept_within}
@@ -43,18 +41,18 @@ use Rattle.cx_rewrites.specs.Tallies.{Tally, at_cell}
 use Rattle.cx_rewrites.specs.Cells.{comes_to, left_by}
 use Rattle.cx_profiling.specs.Counters.{Counter, counters, Shown, shown_in}
 use Rattle.cx_profiling.specs.Growing.{Grown}
-use Rattle.cx_profiling.specs.Instrumented.{store_assigns, store_enables, address_width, main_component, with_counts}
+use Rattle.cx_profiling.specs.Instrumented.{store_assigns, address_width, main_component, with_counts}
 use Rattle.cx_profiling.proofs.ListedCells.{count_listed}
 use Rattle.cx_profiling.proofs.RestLemmas.{grown_states}
 use Rattle.cx_profiling.proofs.RoleLemmas.{register_at, own_counters}
-use Rattle.cx_profiling.proofs.GrownTrees.{InTree, in_reach, is_whole}
+use Rattle.cx_profiling.proofs.GrownTrees.{InTree, is_whole}
 use Rattle.cx_profiling.proofs.RowLemmas.{number}
 use Rattle.cx_profiling.proofs.AcyclicLemmas.{child_few}
 use Rattle.cx_profiling.proofs.GrownCycles.{grown_rows, grown_kid, make_grown}
 use Rattle.cx_profiling.proofs.SeenOutputs.{below_there}
 use Rattle.cx_profiling.proofs.OutputLemmas.{counted_of, port_shows, outputs_show}
-use Rattle.cx_profiling.proofs.StoreDrives.{StoreWire, to_address, to_data, to_write, to_done, store_target, store_source, stores_one, memory_place, memory_width, store_driven, store_group}
-use Rattle.cx_profiling.proofs.MemoryLemmas.{memory_at, cells_total, done_shows, memory_stores}
+use Rattle.cx_profiling.proofs.StoreDrives.{StoreWire, to_address, to_data, to_write, to_done, store_target, store_source, store_driven, store_group}
+use Rattle.cx_profiling.proofs.MemoryLemmas.{memory_at, done_shows, memory_stores}
 
 none_stops : (outcome : ℕ → Outcome) (c n : ℕ) → ((e : ℕ) → c ≤ e → e < c + n → (after : CellState) × (outcome e ≡ Next after)) → first_fault outcome c n ≡ None
 none_stops outcome c zero h = refl
