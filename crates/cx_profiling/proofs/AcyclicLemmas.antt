@@ -29,9 +29,11 @@ use Rattle.cx_profiling.proofs.ListedCells.{at_row, at_none}
 use Rattle.cx_profiling.proofs.PortLemmas.{IsInside, IsNew}
 use Rattle.cx_profiling.proofs.LoneDrivers.{AllSilent, silent_joined, silent_drives}
 use Rattle.cx_profiling.proofs.WalkLemmas.{owned_joined, groups_joined}
-use Rattle.cx_profiling.proofs.RoleLemmas.{counter_count, own_counters, register_there, adder_there, inputs_stay}
+use Rattle.cx_profiling.proofs.CounterLemmas.{counter_cells-length}
+use Rattle.cx_profiling.proofs.GainedLemmas.{grown_at, counted_groups-length}
+use Rattle.cx_profiling.proofs.RoleLemmas.{own_counters, register_there, adder_there}
 use Rattle.cx_profiling.proofs.CellPorts.{IsGiven, given_output, given_done, part_given}
-use Rattle.cx_profiling.proofs.CounterDrives.{Wire, to_left, to_right, to_in, to_enable, wire_target, wire_source, wire, Away, old_silent, counted_silent, counted_length, counter_driven}
+use Rattle.cx_profiling.proofs.CounterDrives.{Wire, to_left, to_right, to_in, to_enable, wire_target, wire_source, wire, Away, old_silent, counted_silent, counter_driven}
 use Rattle.cx_profiling.proofs.InsideLemmas.{targets_inside}
 use Rattle.cx_profiling.proofs.GrownTrees.{InTree, in_reach, is_whole}
 use Rattle.cx_profiling.proofs.PairLemmas.{stored, CellPair, row_pair, child_pair, pair_at}
@@ -118,7 +120,7 @@ module _ (d : PlainDesign) (design : IsDesign d) (k : ℕ) (within : k < length 
   pub main_silent : (names : List (List ℕ)) → component_at (with_counts d) k ≡ main_component d k names → ActsWithin part act → (p : PortRef) → IsNew d part p
       → Away (length part.cells) (length (counters (component_of d k))) p → drivers (component_at (with_counts d) k) act p ≡ []
   main_silent names is acts p new away =
-      let count : 0 + length counted ≡ length part.groups = (let same : length counted ≡ length part.groups = counted_length d part (cells_of (component_of d k)) (length part.cells) part.groups in omega (arith, same)) in
+      let count : 0 + length counted ≡ length part.groups = (let same : length counted ≡ length part.groups = counted_groups-length d part (cells_of (component_of d k)) (length part.cells) part.groups in omega (arith, same)) in
       ap (λ other. drivers other act p) is
       ∙ silent_drives act p (main_component d k names)
       (silent_joined act p (owned None (moved_assigns d part part.always)) (owned_by_groups 0 (counted ++ stored d design k within names)) (always_silent p new)
@@ -223,7 +225,7 @@ module _ (d : PlainDesign) (design : IsDesign d) (m k : ℕ) (at : InTree d (suc
           let same : tree_within d m e ≡ child = instance_is (tree_within d m e) child (sym first ∙ stands) in
           let part_is : part_of child ≡ component_at d e = ap part_of (sym same) ∙ same_part d m e in
           let inputs : length (part_of (tree_within (with_counts d) m e)).inputs ≡ length (part_of child).inputs =
-          ap (λ (x : PlainComponent). length x.inputs) (same_part (with_counts d) m e) ∙ ap length (inputs_stay d e below.within) ∙ ap (λ (x : PlainComponent). length x.inputs) (sym part_is) in
+          ap (λ (x : PlainComponent). length x.inputs) (same_part (with_counts d) m e) ∙ ap length ((grown_at d e below.within).inputs) ∙ ap (λ (x : PlainComponent). length x.inputs) (sym part_is) in
           let far : suc (length (part_of (tree_within (with_counts d) m e)).inputs) ≤ p = omega (arith, past, inputs) in
           none_leads c p (part_port (part_of (tree_within (with_counts d) m e)) p) q (part_given (part_of (tree_within (with_counts d) m e)) p far) (subst (λ x. CellLeads other act c p x q) second l)
 
@@ -285,7 +287,7 @@ module _ (d : PlainDesign) (design : IsDesign d) (m k : ℕ) (at : InTree d (suc
   cells_end : (names : List (List ℕ)) → other ≡ child_component d k names → (c p : ℕ) → length node.cells + 2 * length (counters (component_of d k)) ≤ c → IsKnown d design m k at act (ports.Cell c p)
   cells_end names is c p past =
       let count : length other.cells ≡ length node.cells + 2 * length (counters (component_of d k)) =
-      ap (λ x. length x.cells) is ∙ length-append node.cells (counter_cells node.place names 0 (length (counters (component_of d k)))) ∙ ap (λ n. length node.cells + n) (counter_count node.place names 0 (length (counters (component_of d k)))) in
+      ap (λ x. length x.cells) is ∙ length-append node.cells (counter_cells node.place names 0 (length (counters (component_of d k)))) ∙ ap (λ n. length node.cells + n) (counter_cells-length node.place names 0 (length (counters (component_of d k)))) in
       let far : length other.cells ≤ c = omega (arith, past, count) in
       ending 0 (λ q l. subst (λ x. CellLeads other act c p x q) (at_none (tree_within (with_counts d) m) other.cells c (slice_get_past other.cells c far)) l)
 
@@ -351,7 +353,7 @@ module _ (d : PlainDesign) (design : IsDesign d) (m k : ℕ) (at : InTree d (suc
       where
         main_size : length other.cells ≡ suc place_of_memory
         main_size =
-            let counters_are : length (counter_cells node.place names 0 (length (counters (component_of d k)))) ≡ 2 * length (counters (component_of d k)) = counter_count node.place names 0 (length (counters (component_of d k))) in
+            let counters_are : length (counter_cells node.place names 0 (length (counters (component_of d k)))) ≡ 2 * length (counters (component_of d k)) = counter_cells-length node.place names 0 (length (counters (component_of d k))) in
             let last = memory_cell node.place (name_at names (2 * length (counters (component_of d k)))) (length (shown_in (component_of d k))) ∷ [] in
             let whole : length other.cells ≡ length node.cells + length (counter_cells node.place names 0 (length (counters (component_of d k))) ++ last) =
             ap (λ x. length x.cells) is ∙ length-append node.cells (counter_cells node.place names 0 (length (counters (component_of d k))) ++ last) in

@@ -18,7 +18,8 @@ use Rattle.cx_profiling.specs.Counters.{ProfileEntry, Shown, shown_in, entries_o
 use Rattle.cx_profiling.specs.Counting.{count_control}
 use Rattle.cx_profiling.specs.Instrumented.{instrumented, with_counts}
 use Rattle.cx_profiling.specs.RunsAlike.{counts_of, Owes, HasMemories, InstrumentsAs, ReadsAs}
-use Rattle.cx_profiling.proofs.RoleLemmas.{Role, as_main, as_child, as_kept, role, grown_count}
+use Rattle.cx_profiling.proofs.GainedLemmas.{components-length}
+use Rattle.cx_profiling.proofs.RoleLemmas.{Role, as_main, as_child, as_kept, role}
 use Rattle.cx_profiling.proofs.GrownTrees.{InTree, main_in_tree}
 use Rattle.cx_profiling.proofs.MainLemmas.{main_owes}
 use Rattle.cx_profiling.proofs.ReadLemmas.{profile_reads}
@@ -52,7 +53,7 @@ module _ (d : PlainDesign) (design : IsDesign d) (accepted : IsAccepted d) (grow
       first = ap (λ n. tree_within d n d.main) levels.1
 
       second : tree_of (with_counts d) ≡ tree_within (with_counts d) (suc levels.0) d.main
-      second = ap (λ n. tree_within (with_counts d) n d.main) (grown_count d ∙ levels.1)
+      second = ap (λ n. tree_within (with_counts d) n d.main) (components-length d ∙ levels.1)
 
       bare : BareEnablesNothing (tree_within (with_counts d) (suc levels.0) d.main)
       bare = subst BareEnablesNothing (here (tree_of (with_counts d)) ∙ second) (instance_bare (with_counts d) grown_accepted [])

@@ -182,9 +182,11 @@ module _ (d : PlainDesign) (design : IsDesign d) (accepted : IsAccepted d) (m k 
     unfolding two
     not_later g plain here there =
         let r = arm_of g later there in
-        not_twice d accepted k at.within v stands g
-        (two r.0 r.1 r.2, is_enabled part (below_dynamic v.context) arm g (arm_forms (length (list_of done)) arm arm_at) here plain,
-        is_enabled part (below_dynamic v.context) r.1 g (arm_forms (length (list_of done) + suc r.0) r.1 (later_at r.0 r.1 r.2)) r.3 plain)
+        not_twice d accepted k at.within v stands g (
+          two r.0 r.1 r.2,
+          is_enabled part (below_dynamic v.context) arm g (arm_forms (length (list_of done)) arm arm_at) here plain,
+          is_enabled part (below_dynamic v.context) r.1 g (arm_forms (length (list_of done) + suc r.0) r.1 (later_at r.0 r.1 r.2)) r.3 plain,
+        )
 
     abbrev L : Leaves State Fault
     L = leaves i kids held

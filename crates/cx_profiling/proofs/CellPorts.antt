@@ -7,7 +7,7 @@ use Rattle.cx_meaning.specs.Sights.{PartPort, Go, AnInput, AnOutput, ItsDone, ou
 use Rattle.cx_profiling.specs.Counters.{first_gained}
 use Rattle.cx_profiling.specs.Instrumented.{gained, with_counts}
 use Rattle.cx_profiling.proofs.PortLemmas.{grown_number}
-use Rattle.cx_profiling.proofs.RoleLemmas.{inputs_stay, outputs_grow}
+use Rattle.cx_profiling.proofs.GainedLemmas.{grown_at}
 
 abbrev numbered : ℕ → ℕ → ℕ → PartPort
 numbered inputs outputs zero = Go
@@ -104,8 +104,8 @@ module _ (d : PlainDesign) (k : ℕ) (within : k < length d.components) where
       → part_port (component_at (with_counts d) k) (grown_number d (first_gained (component_at d k)) (gained d k) p) ≡ part_port (component_at d k) p
   ports_alike p few =
       by_number (component_at (with_counts d) k) (grown_number d (first_gained (component_at d k)) (gained d k) p)
-      ∙ ap (λ inputs. numbered (length inputs) (length (component_at (with_counts d) k).outputs) (grown_number d (first_gained (component_at d k)) (gained d k) p)) (inputs_stay d k within)
-      ∙ ap (λ outputs. numbered (length (component_at d k).inputs) outputs (grown_number d (first_gained (component_at d k)) (gained d k) p)) (outputs_grow d k within)
+      ∙ ap (λ inputs. numbered (length inputs) (length (component_at (with_counts d) k).outputs) (grown_number d (first_gained (component_at d k)) (gained d k) p)) (grown_at d k within).inputs
+      ∙ ap (λ outputs. numbered (length (component_at d k).inputs) outputs (grown_number d (first_gained (component_at d k)) (gained d k) p)) ((grown_at d k within).outputs)
       ∙ same_number (length (component_at d k).inputs) (length (component_at d k).outputs) (gained d k) p few
       ∙ sym (by_number (component_at d k) p)
 
@@ -115,7 +115,7 @@ module _ (d : PlainDesign) (k : ℕ) (within : k < length d.components) where
       let number : first_gained (component_at d k) + m ≡ suc (length (component_at d k).inputs + (length (component_at d k).outputs + m)) = omega arith in
       let less : length (component_at d k).outputs + m < length (component_at d k).outputs + gained d k = omega (arith, few) in
       by_number (component_at (with_counts d) k) (first_gained (component_at d k) + m)
-      ∙ ap (λ inputs. numbered (length inputs) (length (component_at (with_counts d) k).outputs) (first_gained (component_at d k) + m)) (inputs_stay d k within)
-      ∙ ap (λ outputs. numbered (length (component_at d k).inputs) outputs (first_gained (component_at d k) + m)) (outputs_grow d k within)
+      ∙ ap (λ inputs. numbered (length inputs) (length (component_at (with_counts d) k).outputs) (first_gained (component_at d k) + m)) (grown_at d k within).inputs
+      ∙ ap (λ outputs. numbered (length (component_at d k).inputs) outputs (first_gained (component_at d k) + m)) ((grown_at d k within).outputs)
       ∙ ap (numbered (length (component_at d k).inputs) (length (component_at d k).outputs + gained d k)) number
       ∙ an_output (length (component_at d k).inputs) (length (component_at d k).outputs + gained d k) (length (component_at d k).inputs + (length (component_at d k).outputs + m)) (length (component_at d k).outputs + m) refl less

@@ -23,7 +23,7 @@ use Rattle.cx_profiling.specs.Instrumented.{moved_in, gained, with_counts}
 use Rattle.cx_profiling.proofs.ListedCells.{at_component}
 use Rattle.cx_profiling.proofs.PortLemmas.{IsInside, moved_apart, grown_number}
 use Rattle.cx_profiling.proofs.CellPorts.{IsGiven, given_output, given_done, part_given}
-use Rattle.cx_profiling.proofs.RoleLemmas.{inputs_stay}
+use Rattle.cx_profiling.proofs.GainedLemmas.{grown_at}
 use Rattle.cx_profiling.proofs.InsideLemmas.{inside_closed}
 use Rattle.cx_profiling.proofs.GrownTrees.{InTree}
 use Rattle.cx_profiling.proofs.PairLemmas.{drives_moved, CellPair, row_pair, child_pair, pair_at, child_ports}
@@ -143,11 +143,13 @@ module _ (d : PlainDesign) (design : IsDesign d) (m k : ℕ) (at : InTree d (suc
       same_component e f h = cc
 
       child_inside : (cell : PlainCell) (e : ℕ) → slice_get part.cells c ≡ Some cell → cell.kind ≡ OfComponent e → p ≤ first_gained (component_at d e) → IsInside d part (ports.Cell c p)
-      child_inside cell e stands is less =
-          (few, λ x f there kind.
-              let same : cell ≡ x = same_cell cell x stands there in
-              let number : e ≡ f = same_component e f (sym is ∙ ap (λ y. y.kind) same ∙ kind) in
-              subst (λ y. p ≤ first_gained (component_at d y)) number less)
+      child_inside cell e stands is less = (
+        few,
+        λ x f there kind.
+            let same : cell ≡ x = same_cell cell x stands there in
+            let number : e ≡ f = same_component e f (sym is ∙ ap (λ y. y.kind) same ∙ kind) in
+            subst (λ y. p ≤ first_gained (component_at d y)) number less,
+      )
 
       grown_same : (first more : ℕ) → p < first → grown_number d first more p ≡ p
       grown_same first more less = ap (λ b. if b then p + more else p) (ne_eqb p first (λ e. omega (arith, less, e)))
@@ -160,7 +162,7 @@ module _ (d : PlainDesign) (design : IsDesign d) (m k : ℕ) (at : InTree d (suc
           moved_from (ports.Cell c p) (child_inside cell e stands is (omega (arith, less))) (moved p ∙ ap (ports.Cell c) (grown_same (first_gained (component_at d e)) (gained d e) less)))
           (λ (past : first_gained (component_at d e) ≤ p).
           let inputs : length (part_of (tree_within (with_counts d) m e)).inputs ≡ length (component_at d e).inputs =
-          ap (λ (x : PlainComponent). length x.inputs) (same_part (with_counts d) m e) ∙ ap length (inputs_stay d e below.within) in
+          ap (λ (x : PlainComponent). length x.inputs) (same_part (with_counts d) m e) ∙ ap length ((grown_at d e below.within).inputs) in
           let far : suc (length (part_of (tree_within (with_counts d) m e)).inputs) ≤ p = omega (arith, past, inputs) in
           ending 0 (λ q l. none_leads (part_port (part_of (tree_within (with_counts d) m e)) p) q (part_given (part_of (tree_within (with_counts d) m e)) p far) (subst (λ x. CellLeads other act c p x q) second l)))
           (cases_lt p (first_gained (component_at d e)))

@@ -37,7 +37,8 @@ use Rattle.cx_profiling.specs.Counting.{count_island, count_call_or_turns, count
 use Rattle.cx_profiling.specs.Growing.{Grown}
 use Rattle.cx_profiling.specs.Instrumented.{is_reached, moved_in, counter_cells, child_component, with_counts}
 use Rattle.cx_profiling.proofs.PortLemmas.{IsInside, there_inside}
-use Rattle.cx_profiling.proofs.RoleLemmas.{Role, as_main, as_child, as_kept, role, counter_count}
+use Rattle.cx_profiling.proofs.CounterLemmas.{counter_cells-length}
+use Rattle.cx_profiling.proofs.RoleLemmas.{Role, as_main, as_child, as_kept, role}
 use Rattle.cx_profiling.proofs.GrownTrees.{InTree, in_reach, no_main_below}
 use Rattle.cx_profiling.proofs.PairLemmas.{CellPair, row_pair, child_pair, pair_at}
 use Rattle.cx_profiling.proofs.AcyclicLemmas.{ActsWithin, child_few, child_acyclic}
@@ -153,11 +154,11 @@ module _ (d : PlainDesign) (design : IsDesign d) (accepted : IsAccepted d) (grow
         by (child_pair cell e stands comp inner first second moved) =
             call_leaf d design accepted grown_accepted m k at entries_there further held twin same g c kind few is dynamic calls cell e stands comp (control_below (cells_of i)) (control_below (cells_of j)) (λ own. count_below (cells_of i) c own)
             (λ own twin_own alike.
-                equal_carries (Grown (tree_within d m e)) (count_control (tree_within d m e) own) (count_below (cells_of i) c own) (run_control (tree_within d m e) own) (control_below (cells_of i) c own)
-                (run_control (tree_within (with_counts d) m e) twin_own) (control_below (cells_of j) c twin_own)
-                (λ s n. count_child (cells_of i) c (tree_within d m e) first own s n) (λ s n. control_child (cells_of i) c (tree_within d m e) first own s n)
-                (λ s n. control_child (cells_of j) c (tree_within (with_counts d) m e) second twin_own s n)
-                (kids e inner (no_main_below d design at cell e (in_at node.cells c cell stands) comp) own twin_own alike))
+            equal_carries (Grown (tree_within d m e)) (count_control (tree_within d m e) own) (count_below (cells_of i) c own) (run_control (tree_within d m e) own) (control_below (cells_of i) c own)
+            (run_control (tree_within (with_counts d) m e) twin_own) (control_below (cells_of j) c twin_own)
+            (λ s n. count_child (cells_of i) c (tree_within d m e) first own s n) (λ s n. control_child (cells_of i) c (tree_within d m e) first own s n)
+            (λ s n. control_child (cells_of j) c (tree_within (with_counts d) m e) second twin_own s n)
+            (kids e inner (no_main_below d design at cell e (in_at node.cells c cell stands) comp) own twin_own alike))
 
     of_kind : (g : ℕ) (kind : GroupKind) → IsKnown g → (group_at node g).kind ≡ kind
         → Carries Exact (Grown i) (λ f. f) (count_enable i (count_below (cells_of i)) held g kind) (enable_kind i (control_below (cells_of i)) held g kind) (enable_kind j (control_below (cells_of j)) twin g kind)
@@ -204,7 +205,7 @@ module _ (d : PlainDesign) (design : IsDesign d) (accepted : IsAccepted d) (grow
       size : (names : List (List ℕ)) → component_at (with_counts d) e ≡ child_component d e names → length (component_at (with_counts d) e).cells ≡ length (component_at d e).cells + 2 * length (counters (component_of d e))
       size names is =
           ap (λ x. length x.cells) is ∙ length-append (component_at d e).cells (counter_cells (component_at d e).place names 0 (length (counters (component_of d e))))
-          ∙ ap (λ n. length (component_at d e).cells + n) (counter_count (component_at d e).place names 0 (length (counters (component_of d e))))
+          ∙ ap (λ n. length (component_at d e).cells + n) (counter_cells-length (component_at d e).place names 0 (length (counters (component_of d e))))
 
       none_further : (names : List (List ℕ)) → component_at (with_counts d) e ≡ child_component d e names → (act : Active) → ActsWithin (component_at d e) act → IsAcyclic (tree_within (with_counts d) (suc m) e) act → (twin : Held) (t : State) (c : ℕ)
           → length (component_at d e).cells + 2 * length (counters (component_of d e)) ≤ c → c < length (component_at (with_counts d) e).cells

@@ -13,10 +13,12 @@ use Rattle.cx_rules.specs.Ports.{component_of}
 use Rattle.cx_rewrites.specs.Driving.{assigns_of}
 use Rattle.cx_profiling.specs.Counters.{is_counted, Counter, counters_from, counters, Shown, shown_in}
 use Rattle.cx_profiling.specs.Instrumented.{drive, is_reached, moved_in, moved_assigns, group_with, counted_groups, counter_assigns, output_assigns, store_groups, address_width, main_component, child_component, with_counts}
+use Rattle.cx_profiling.proofs.GainedLemmas.{counted_groups-length}
 use Rattle.cx_profiling.proofs.PortLemmas.{IsInside, IsNew, old_or_new}
 use Rattle.cx_profiling.proofs.LoneDrivers.{other_port, AllSilent, silent_joined, Lone, here, later, lone_after, lone_before, lone_drives}
 use Rattle.cx_profiling.proofs.WalkLemmas.{owned_joined, groups_joined}
-use Rattle.cx_profiling.proofs.RoleLemmas.{register_at, Role, as_main, as_child, as_kept, role, own_counters}
+use Rattle.cx_profiling.proofs.CounterLemmas.{in_counters}
+use Rattle.cx_profiling.proofs.RoleLemmas.{Role, as_main, as_child, as_kept, role, own_counters}
 
 cell_number : (c e p q : ℕ) → ports.Cell c p ≡ ports.Cell e q → c ≡ e
 cell_number c e p q h = cc
@@ -86,9 +88,13 @@ wire_past to_in r c n past = inr past
 wire_past to_enable r c n past = inr past
 
 counter_silent : (act : Active) (p : PortRef) (owner : Option ℕ) (place : Place) (c n : ℕ) → Away c (suc n) p → AllSilent act p (owned owner (counter_assigns place c))
-counter_silent act p owner place c n away =
-    (inr (other_port (ports.Cell (suc c) 0) p (away_cell c n (suc c) 0 p away (inr refl))), (inr (other_port (ports.Cell (suc c) 1) p (away_cell c n (suc c) 1 p away (inr refl))),
-    (inr (other_port (ports.Cell c 0) p (away_cell c n c 0 p away (inl refl))), (inr (other_port (ports.Cell c 1) p (away_cell c n c 1 p away (inl refl))), tt))))
+counter_silent act p owner place c n away = (
+  inr (other_port (ports.Cell (suc c) 0) p (away_cell c n (suc c) 0 p away (inr refl))),
+  (
+    inr (other_port (ports.Cell (suc c) 1) p (away_cell c n (suc c) 1 p away (inr refl))),
+    (inr (other_port (ports.Cell c 0) p (away_cell c n c 0 p away (inl refl))), (inr (other_port (ports.Cell c 1) p (away_cell c n c 1 p away (inl refl))), tt)),
+  ),
+)
 
 apart_cells : (c e p q : ℕ) → (c ≡ e → ⊥) → same_port (ports.Cell c p) (ports.Cell e q) ≡ false
 apart_cells c e p q differ = other_port (ports.Cell c p) (ports.Cell e q) (λ h. differ (cell_number c e p q h))
@@ -120,15 +126,6 @@ lone_counter act owner place to_in r =
 lone_counter act owner place to_enable r =
     later (inr (apart_cells (suc r) r 0 1 (after_not r))) (later (inr (apart_cells (suc r) r 1 1 (after_not r)))
     (later (inr (apart_ports r 0 1 zero_not)) (here (same_self (ports.Cell r 1)) tt)))
-
-pub counted_length : (d : PlainDesign) (part : PlainComponent) (cells : Cells) (c : ℕ) (groups : List PlainGroup) → length (counted_groups d part cells c groups) ≡ length groups
-counted_length d part cells c [] = refl
-counted_length d part cells c (x ∷ xs) = by (is_counted cells x) (counted_length d part cells (suc (suc c)) xs) (counted_length d part cells c xs)
-  where
-    by : (t : Bool) → length (counted_groups d part cells (suc (suc c)) xs) ≡ length xs → length (counted_groups d part cells c xs) ≡ length xs
-        → length (if t then group_with d part x (counter_assigns part.place c) ∷ counted_groups d part cells (suc (suc c)) xs else group_with d part x [] ∷ counted_groups d part cells c xs) ≡ suc (length xs)
-    by true h k = ap suc h
-    by false h k = ap suc k
 
 module _ (d : PlainDesign) (part : PlainComponent) (act : Active) where
   pub old_silent : (p : PortRef) → IsNew d part p → (owner : Option ℕ) (list : List PlainAssign) → ((o : Owned) → In (owned owner list) o → IsInside d part o.assign.target)
@@ -199,13 +196,13 @@ module _ (d : PlainDesign) (part : PlainComponent) (act : Active) where
 
         past_register : (i : In (counters_from cells (suc (suc c)) (suc g) ys) x) → suc (suc c) ≤ x.register
         past_register i =
-            let r = register_at cells (suc (suc c)) (suc g) ys x i in
+            let r = in_counters cells (suc (suc c)) (suc g) ys x i in
             let number : x.register ≡ suc (suc c) + 2 * r.0 = r.2 in
             omega (arith, number)
 
         past_same : (i : In (counters_from cells c (suc g) ys) x) → c ≤ x.register
         past_same i =
-            let r = register_at cells c (suc g) ys x i in
+            let r = in_counters cells c (suc g) ys x i in
             let number : x.register ≡ c + 2 * r.0 = r.2 in
             omega (arith, number)
 
@@ -281,7 +278,7 @@ module _ (d : PlainDesign) (k : ℕ) (within : k < length d.components) (reached
       listed = subst (λ list. In list x) (own_counters d k) i
 
       number : (n : ℕ) × (n < length (counters_from cells (length part.cells) 0 part.groups)) × (x.register ≡ length part.cells + 2 * n)
-      number = register_at cells (length part.cells) 0 part.groups x listed
+      number = in_counters cells (length part.cells) 0 part.groups x listed
 
       past : length part.cells ≤ x.register
       past = let is : x.register ≡ length part.cells + 2 * number.0 = number.2 in omega (arith, is)
@@ -309,7 +306,7 @@ module _ (d : PlainDesign) (k : ℕ) (within : k < length d.components) (reached
           ∙ lone_drives act (wire_target w x.register) (main_component d k names) (record { owner = Some x.group; assign = wire part.place w x.register })
           (lone_after act (wire_target w x.register) _ (owned None (moved_assigns d part part.always)) (old_silent d part act (wire_target w x.register) new None part.always always_inside)
           (subst (Lone act (wire_target w x.register) _)
-          (sym (groups_joined 0 (length part.groups) (counted_groups d part cells (length part.cells) part.groups) _ (let count : length (counted_groups d part cells (length part.cells) part.groups) ≡ length part.groups = counted_length d part cells (length part.cells) part.groups in omega (arith, count))))
+          (sym (groups_joined 0 (length part.groups) (counted_groups d part cells (length part.cells) part.groups) _ (let count : length (counted_groups d part cells (length part.cells) part.groups) ≡ length part.groups = counted_groups-length d part cells (length part.cells) part.groups in omega (arith, count))))
           (lone_before act (wire_target w x.register) _ (owned_by_groups (length part.groups) (store_groups part.place names (length part.cells + 2 * length (counters (component_of d k))) (address_width (length (shown_in (component_of d k)))) (suc (2 * length (counters (component_of d k)))) (length part.groups) 0 (shown_in (component_of d k))))
           groups_lone
           (stores_silent d part act (wire_target w x.register) part.place names (length part.cells + 2 * length (counters (component_of d k))) (address_width (length (shown_in (component_of d k)))) (suc (2 * length (counters (component_of d k)))) (length part.groups) 0 (shown_in (component_of d k))

@@ -1,27 +1,11 @@
 -- The tree of a design is deep enough: no cell leads back to its component, so every component of the tree stands there with all below it.
-use Rattle.std.proofs.Common.{◌≡◌, ℕ, zero, suc, ◌+◌, ◌-◌, ◌<◌, ◌≤◌, inl, inr, ⊎_elim, List, [], ◌∷◌, length, refl, ap, ◌∙◌, subst, arith}
-use Rattle.std.proofs.lemmas.Bool.{cases_lt}
+use Rattle.std.proofs.Common.{◌≡◌, ℕ, zero, suc, ◌+◌, ◌-◌, ◌<◌, ◌≤◌, inl, inr, List, [], ◌∷◌, length, refl, ap, ◌∙◌, subst, arith}
 use Rattle.cx_meaning.specs.Designs.{PlainKind, OfPrimitive, OfComponent, PlainCell, PlainDesign, component_at}
 use Rattle.cx_meaning.specs.Instances.{Node, Cells, add_cell, cells_for, tree_within}
 use Rattle.cx_meaning.specs.Sights.{In}
 use Rattle.cx_rules.specs.Ports.{component_of}
-use Rattle.cx_rules.specs.Wellformed.{IsDesign, IsKind, LeadsTo, by_cell, by_way_of}
-use Rattle.cx_rules.proofs.Finite.{Distinct, distinct_few}
-
--- the numbers below a number
-below : ℕ → List ℕ
-below zero = []
-below (suc n) = n ∷ below n
-
-below_length : (n : ℕ) → length (below n) ≡ n
-unfolding below
-below_length zero = refl
-below_length (suc n) = ap suc (below_length n)
-
-in_below : (n k : ℕ) → k < n → In (below n) k
-unfolding below
-in_below zero k lt = absurd (omega (arith, lt))
-in_below (suc n) k lt = ⊎_elim (λ less. inr (in_below n k less)) (λ past. let same : n ≡ k = omega (arith, lt, past) in inl same) (cases_lt k n)
+use Rattle.cx_rules.specs.Wellformed.{IsDesign}
+use Rattle.cx_profiling.proofs.TreeLemmas.{IsWay, no_way, further, way_is_short}
 
 module _ (d : PlainDesign) where
   -- no chain of cells from component k is longer than so many levels
@@ -64,25 +48,13 @@ module _ (d : PlainDesign) where
       (levels_more (length d.components - m) m k h).1 ∙ ap (λ x. tree_within d x k) count
 
   module _ (design : IsDesign d) where
-    -- with the components above it, all different
-    deep_below : (m k : ℕ) (above : List ℕ) → k < length d.components → Distinct above → ((v : ℕ) → In above v → (v < length d.components) × LeadsTo d v k)
-        → length above + m ≡ length d.components → Deep m k
-    deep_below zero k above within apart leads count =
-        let few : length (k ∷ above) ≤ length (below (length d.components)) =
-        distinct_few (k ∷ above) (below (length d.components)) ((λ i. design.not_recursive k (leads k i).1), apart)
-        (λ v i. ⊎_elim (λ e. subst (λ x. In (below (length d.components)) x) e (in_below (length d.components) k within)) (λ j. in_below (length d.components) v (leads v j).0) i) in
-        let total : length (below (length d.components)) ≡ length d.components = below_length (length d.components) in
-        absurd (let less : suc (length above) ≤ length (below (length d.components)) = few in omega (arith, less, total, count))
-    deep_below (suc m) k above within apart leads count = λ cell j i is.
-        let known : IsKind d cell.kind = ((design.components k within).cells cell i).kind in
-        let there : j < length d.components = subst (IsKind d) is known in
-        let step : LeadsTo d k j = by_cell j cell i is in
-        deep_below m j (k ∷ above) there ((λ v. design.not_recursive k (leads k v).1), apart)
-        (λ v w. ⊎_elim (λ e. subst (λ x. (x < length d.components) × LeadsTo d x j) e (within, step)) (λ u. ((leads v u).0, by_way_of k (leads v u).1 step)) w)
-        (longer m (length above) count)
+    -- below a way down, with the levels that are left
+    deep_below : (m k : ℕ) (path : List ℕ) → IsWay d design path k → length path + m ≡ length d.components → Deep m k
+    deep_below zero k path way count = let few : length path < length d.components = way_is_short d design path k way in absurd (omega (arith, few, count))
+    deep_below (suc m) k path way count = λ cell j i is. deep_below m j (k ∷ path) (further d design path k j cell way i is) (longer (length path) count)
       where
-        longer : (m n : ℕ) → n + suc m ≡ length d.components → suc n + m ≡ length d.components
-        longer m n e = omega (arith, e)
+        longer : (n : ℕ) → n + suc m ≡ length d.components → suc n + m ≡ length d.components
+        longer n e = omega (arith, e)
 
     pub deep : (k : ℕ) → k < length d.components → Deep (length d.components) k
-    deep k within = deep_below (length d.components) k [] within tt (λ v i. absurd i) (let none : 0 + length d.components ≡ length d.components = omega arith in none)
+    deep k within = deep_below (length d.components) k [] (no_way d design k within) (let none : 0 + length d.components ≡ length d.components = omega arith in none)

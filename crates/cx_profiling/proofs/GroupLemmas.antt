@@ -14,8 +14,9 @@ use Rattle.cx_meaning.proofs.InstancesLemmas.{not_just, just_same}
 use Rattle.cx_rules.specs.Ports.{component_of}
 use Rattle.cx_profiling.specs.Counters.{is_counted, Counter, counters_from, counters, Shown, shown_in}
 use Rattle.cx_profiling.specs.Instrumented.{is_reached, moved_in, moved_assigns, group_with, counted_groups, counter_assigns, store_groups, address_width, with_counts}
-use Rattle.cx_profiling.proofs.RoleLemmas.{register_at, Role, as_main, as_child, as_kept, role, own_counters}
-use Rattle.cx_profiling.proofs.CounterDrives.{counted_length}
+use Rattle.cx_profiling.proofs.GainedLemmas.{counted_groups-length}
+use Rattle.cx_profiling.proofs.CounterLemmas.{in_counters}
+use Rattle.cx_profiling.proofs.RoleLemmas.{Role, as_main, as_child, as_kept, role, own_counters}
 
 -- a group of a list, by whether it is counted
 pub data GroupOf (d : PlainDesign) (part : PlainComponent) (cells : Cells) (listed : List Counter) (number : ℕ) (old new : PlainGroup) : Type 0 where
@@ -73,7 +74,7 @@ module _ (d : PlainDesign) (part : PlainComponent) (cells : Cells) where
   same_register c g (z ∷ zs) x y i h e = by (is_counted cells z) i h (same_register (suc (suc c)) (suc g) zs x y) (same_register c (suc g) zs x y)
     where
       past : (w : Counter) → In (counters_from cells (suc (suc c)) (suc g) zs) w → suc (suc c) ≤ w.register
-      past w i = let r = register_at cells (suc (suc c)) (suc g) zs w i in let number : w.register ≡ suc (suc c) + 2 * r.0 = r.2 in omega (arith, number)
+      past w i = let r = in_counters cells (suc (suc c)) (suc g) zs w i in let number : w.register ≡ suc (suc c) + 2 * r.0 = r.2 in omega (arith, number)
 
       by : (t : Bool) → In (if t then record { group = g; register = c } ∷ counters_from cells (suc (suc c)) (suc g) zs else counters_from cells c (suc g) zs) x
           → In (if t then record { group = g; register = c } ∷ counters_from cells (suc (suc c)) (suc g) zs else counters_from cells c (suc g) zs) y
@@ -140,7 +141,7 @@ module _ (d : PlainDesign) (k : ℕ) (within : k < length d.components) (reached
 
       by : Role d k → group_at other g ≡ get_or (counted_groups d part cells (length part.cells) part.groups) g no_group
       by (as_main names is e) =
-          let count : length (counted_groups d part cells (length part.cells) part.groups) ≡ length part.groups = counted_length d part cells (length part.cells) part.groups in
+          let count : length (counted_groups d part cells (length part.cells) part.groups) ≡ length part.groups = counted_groups-length d part cells (length part.cells) part.groups in
           ap (λ x. group_at x g) e
           ∙ get_or_append_left (counted_groups d part cells (length part.cells) part.groups) (store_groups part.place names (length part.cells + 2 * length (counters (component_of d k))) (address_width (length (shown_in (component_of d k)))) (suc (2 * length (counters (component_of d k)))) (length part.groups) 0 (shown_in (component_of d k)))
           no_group g (omega (arith, few, count))
@@ -163,18 +164,20 @@ module _ (d : PlainDesign) (k : ℕ) (within : k < length d.components) (reached
   counted_there x i =
       let r = counter_group d part cells (length part.cells) 0 part.groups x (listed x i) in
       let number : x.group ≡ r.0 = (let e : x.group ≡ 0 + r.0 = r.1 in omega (arith, e)) in
-      let few : x.group < length part.groups = (let less : r.0 < length part.groups = r.2 in omega (arith, number, less)) in
-      (few, ap (λ n. is_counted cells (group_at part n)) number ∙ r.4,
-      ap (λ (y : PlainGroup). assigns_drive y.assigns x.register) (first_groups x.group few ∙ ap (λ n. get_or (counted_groups d part cells (length part.cells) part.groups) n no_group) number ∙ r.3)
-      ∙ drive_joined (moved_assigns d part (get_or part.groups r.0 no_group).assigns) (counter_assigns part.place x.register) x.register
-      ∙ right_true (assigns_drive (moved_assigns d part (get_or part.groups r.0 no_group).assigns) x.register) (assigns_drive (counter_assigns part.place x.register) x.register) (counter_drives_register part.place x.register))
+      let few : x.group < length part.groups = (let less : r.0 < length part.groups = r.2 in omega (arith, number, less)) in (
+        few,
+        ap (λ n. is_counted cells (group_at part n)) number ∙ r.4,
+        ap (λ (y : PlainGroup). assigns_drive y.assigns x.register) (first_groups x.group few ∙ ap (λ n. get_or (counted_groups d part cells (length part.cells) part.groups) n no_group) number ∙ r.3)
+            ∙ drive_joined (moved_assigns d part (get_or part.groups r.0 no_group).assigns) (counter_assigns part.place x.register) x.register
+            ∙ right_true (assigns_drive (moved_assigns d part (get_or part.groups r.0 no_group).assigns) x.register) (assigns_drive (counter_assigns part.place x.register) x.register) (counter_drives_register part.place x.register),
+      )
     where
       right_true : (a b : Bool) → b ≡ true → (a || b) ≡ true
       right_true true b e = refl
       right_true false b e = e
 
   pub register_past : (x : Counter) → In (counters (component_of d k)) x → length part.cells ≤ x.register
-  register_past x i = let r = register_at cells (length part.cells) 0 part.groups x (listed x i) in let number : x.register ≡ length part.cells + 2 * r.0 = r.2 in omega (arith, number)
+  register_past x i = let r = in_counters cells (length part.cells) 0 part.groups x (listed x i) in let number : x.register ≡ length part.cells + 2 * r.0 = r.2 in omega (arith, number)
 
   left_or : (a b : Bool) → b ≡ false → (a || b) ≡ a
   left_or true b e = refl
@@ -200,7 +203,7 @@ module _ (d : PlainDesign) (k : ℕ) (within : k < length d.components) (reached
     where
       register_far : (r : ℕ) → In (counters (component_of d k)) (record { group = g; register = r }) → suc r < c
       register_far r i =
-          let a = register_at cells (length part.cells) 0 part.groups (record { group = g; register = r }) (listed (record { group = g; register = r }) i) in
+          let a = in_counters cells (length part.cells) 0 part.groups (record { group = g; register = r }) (listed (record { group = g; register = r }) i) in
           let number : r ≡ length part.cells + 2 * a.0 = a.2 in
           let less : a.0 < length (counters (component_of d k)) = subst (λ list. a.0 < length list) (sym (own_counters d k)) a.1 in
           omega (arith, number, less, past)
@@ -221,8 +224,8 @@ module _ (d : PlainDesign) (k : ℕ) (within : k < length d.components) (reached
     where
       odd : (r : ℕ) → In (counters (component_of d k)) (record { group = g; register = r }) → x.register ≡ suc r → ⊥
       odd r h e =
-          let a = register_at cells (length part.cells) 0 part.groups x (listed x i) in
-          let b = register_at cells (length part.cells) 0 part.groups (record { group = g; register = r }) (listed (record { group = g; register = r }) h) in
+          let a = in_counters cells (length part.cells) 0 part.groups x (listed x i) in
+          let b = in_counters cells (length part.cells) 0 part.groups (record { group = g; register = r }) (listed (record { group = g; register = r }) h) in
           let first : x.register ≡ length part.cells + 2 * a.0 = a.2 in
           let second : r ≡ length part.cells + 2 * b.0 = b.2 in
           omega (arith, e, first, second)
@@ -237,7 +240,6 @@ module _ (d : PlainDesign) (k : ℕ) (within : k < length d.components) (reached
           ∙ sym (drive_joined (moved_assigns d part (group_at part g).assigns) (counter_assigns part.place r) x.register) ∙ sym (ap (λ (y : PlainGroup). assigns_drive y.assigns x.register) e) ∙ driven)))
           (cases_eq x.register r)
 
-
   -- a group behind those of the component is no static one
   pub new_length : (g : ℕ) → length part.groups ≤ g → group_length other g ≡ group_length part g
   new_length g past = by (role d k within) ∙ sym (ap (λ (x : PlainGroup). kind_length x.kind) (get_or_past part.groups g no_group past))
@@ -247,7 +249,7 @@ module _ (d : PlainDesign) (k : ℕ) (within : k < length d.components) (reached
       both false e f = absurd (cc)
 
       count : length (counted_groups d part cells (length part.cells) part.groups) ≡ length part.groups
-      count = counted_length d part cells (length part.cells) part.groups
+      count = counted_groups-length d part cells (length part.cells) part.groups
 
       of_stores : (place : Place) (names : List (List ℕ)) (memory width n g j : ℕ) (list : List Shown) (number : ℕ) → kind_length (get_or (store_groups place names memory width n g j list) number no_group).kind ≡ None
       of_stores place names memory width n g j [] number = refl

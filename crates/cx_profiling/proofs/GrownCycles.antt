@@ -61,15 +61,17 @@ pub cells_grown : (cells : Cells) (from : ℕ) (τ : Tally) (s t : State)
     → ((c : ℕ) (child : Instance) → cell_at cells c ≡ OfInstance child → Grown child (at_cell (from + c) τ) (under (from + c) s) (under (from + c) t)) → GrownCells cells from τ s t
 cells_grown no_cells from τ s t rows kids = tt
 cells_grown (a_primitive row rest) from τ s t rows kids =
-    let same : from + 0 ≡ from = omega arith in
-    (subst (λ n. t (n ∷ []) ≡ s (n ∷ [])) same (rows 0 row refl),
-    cells_grown rest (suc from) τ s t (λ c r e. let next : from + suc c ≡ suc from + c = omega arith in subst (λ n. t (n ∷ []) ≡ s (n ∷ [])) next (rows (suc c) r e))
-        (λ c child e. let next : from + suc c ≡ suc from + c = omega arith in subst (λ n. Grown child (at_cell n τ) (under n s) (under n t)) next (kids (suc c) child e)))
+    let same : from + 0 ≡ from = omega arith in (
+      subst (λ n. t (n ∷ []) ≡ s (n ∷ [])) same (rows 0 row refl),
+      cells_grown rest (suc from) τ s t (λ c r e. let next : from + suc c ≡ suc from + c = omega arith in subst (λ n. t (n ∷ []) ≡ s (n ∷ [])) next (rows (suc c) r e))
+          (λ c child e. let next : from + suc c ≡ suc from + c = omega arith in subst (λ n. Grown child (at_cell n τ) (under n s) (under n t)) next (kids (suc c) child e)),
+    )
 cells_grown (an_instance x rest) from τ s t rows kids =
-    let same : from + 0 ≡ from = omega arith in
-    (subst (λ n. Grown x (at_cell n τ) (under n s) (under n t)) same (kids 0 x refl),
-    cells_grown rest (suc from) τ s t (λ c r e. let next : from + suc c ≡ suc from + c = omega arith in subst (λ n. t (n ∷ []) ≡ s (n ∷ [])) next (rows (suc c) r e))
-        (λ c child e. let next : from + suc c ≡ suc from + c = omega arith in subst (λ n. Grown child (at_cell n τ) (under n s) (under n t)) next (kids (suc c) child e)))
+    let same : from + 0 ≡ from = omega arith in (
+      subst (λ n. Grown x (at_cell n τ) (under n s) (under n t)) same (kids 0 x refl),
+      cells_grown rest (suc from) τ s t (λ c r e. let next : from + suc c ≡ suc from + c = omega arith in subst (λ n. t (n ∷ []) ≡ s (n ∷ [])) next (rows (suc c) r e))
+          (λ c child e. let next : from + suc c ≡ suc from + c = omega arith in subst (λ n. Grown child (at_cell n τ) (under n s) (under n t)) next (kids (suc c) child e)),
+    )
 
 -- so many cells follow, and more go on
 follow : (faults : Fault → Fault) (x y : ℕ → Outcome) (n extra c : ℕ) → ((e : ℕ) → c ≤ e → e < c + n → OutcomeFollows faults e (x e) e (y e))
@@ -114,11 +116,12 @@ module _ (d : PlainDesign) (design : IsDesign d) (m k : ℕ) (at : InTree d (suc
   pub make_grown : (τ : Tally) (s t : State) → RowsAlike d design m k at s t
       → ((c : ℕ) (child : Instance) → cell_at (cells_of i) c ≡ OfInstance child → Grown child (at_cell c τ) (under c s) (under c t))
       → ((x : Counter) → In (counters i) x → (done : Bool) × (t (x.register ∷ []) ≡ Register (τ [] x.group % 2 ^ 64) done)) → Grown i τ s t
-  make_grown τ s t rows kids registers =
-      (cells_grown (cells_of i) 0 τ s t
-          (λ c row e. let same : c ≡ 0 + c = omega arith in subst (λ n. t (n ∷ []) ≡ s (n ∷ [])) same (rows c row e))
-          (λ c child e. let same : c ≡ 0 + c = omega arith in subst (λ n. Grown child (at_cell n τ) (under n s) (under n t)) same (kids c child e)),
-      registers)
+  make_grown τ s t rows kids registers = (
+    cells_grown (cells_of i) 0 τ s t
+        (λ c row e. let same : c ≡ 0 + c = omega arith in subst (λ n. t (n ∷ []) ≡ s (n ∷ [])) same (rows c row e))
+        (λ c child e. let same : c ≡ 0 + c = omega arith in subst (λ n. Grown child (at_cell n τ) (under n s) (under n t)) same (kids c child e)),
+    registers,
+  )
 
   module _ (act : Active) (acyclic : IsAcyclic i act) (deeper : AcyclicBelow (cells_of i)) (twin_acyclic : IsAcyclic j act) (twin_deeper : AcyclicBelow (cells_of j))
       (held twin : Held) (same : (n : ℕ) → n < length node.inputs → twin n ≡ held n)

@@ -59,6 +59,7 @@ module _ (A B : Set) (a b x y : State) (τ k j : Tally) where
 
   -- WHAT TWO ARMS LEAVE TOGETHER
   pub grown_merge : (i : Instance) → Apart i → Grown i (plus τ k) a x → Grown i (plus τ j) b y → Grown i (plus τ (plus k j)) (merge A a b) (merge B x y)
-  grown_merge (Node part cells) apart (h, hc) (l, lc) =
-      (cells_merge (Node part cells) apart cells 0 (omega arith) h l,
-      λ counter at. counter_picks counter.register counter.group (B counter.register) (λ e. apart.own_later counter at e) (λ e. apart.own_first counter at e) (hc counter at) (lc counter at))
+  grown_merge (Node part cells) apart (h, hc) (l, lc) = (
+    cells_merge (Node part cells) apart cells 0 (omega arith) h l,
+    λ counter at. counter_picks counter.register counter.group (B counter.register) (λ e. apart.own_later counter at e) (λ e. apart.own_first counter at e) (hc counter at) (lc counter at),
+  )

@@ -1,16 +1,18 @@
 -- THE TREE OF THE INSTRUMENTED DESIGN beside the tree of the design: the same components at the same cells, each with its counters.
-use Rattle.std.proofs.Common.{◌≡◌, ℕ, zero, suc, ◌+◌, ◌<◌, ◌≤◌, inl, inr, ◌⊎◌, true, List, [], ◌∷◌, ◌++◌, length, refl, sym, subst, arith}
+use Rattle.std.proofs.Common.{◌≡◌, ℕ, zero, suc, ◌<◌, ◌≤◌, inl, inr, true, List, [], ◌∷◌, ◌++◌, length, refl, sym, subst, arith}
+use Rattle.std.proofs.lemmas.Bool.{eqb-false}
 use Rattle.cx_prim.specs.declared.names.PrimitiveName.TheVariants as primitives
 use Rattle.cx_meaning.specs.Designs.{PlainKind, OfPrimitive, OfComponent, PlainCell, PlainDesign, component_at}
 use Rattle.cx_meaning.specs.Instances.{Cells, add_cell, cells_for, tree_within}
 use Rattle.cx_meaning.specs.Sights.{In}
 use Rattle.cx_rules.specs.Ports.{component_of}
-use Rattle.cx_rules.specs.Wellformed.{IsDesign, IsKind, LeadsTo, by_cell, by_way_of}
+use Rattle.cx_rules.specs.Wellformed.{IsDesign}
 use Rattle.cx_profiling.specs.Counters.{counters}
-use Rattle.cx_profiling.specs.Instrumented.{is_reached, reached_from, with_counts}
+use Rattle.cx_profiling.specs.Instrumented.{is_reached, with_counts}
 use Rattle.cx_profiling.proofs.DepthLemmas.{Deep, deep, whole_tree}
 use Rattle.cx_profiling.proofs.ListedCells.{at_row}
-use Rattle.cx_profiling.proofs.ReachLemmas.{reached_on, reached_leads, is_reached_within}
+use Rattle.cx_profiling.proofs.ReachedLemmas.{is_reached-from, child_reached}
+use Rattle.cx_profiling.proofs.TreeLemmas.{child_there}
 use Rattle.cx_profiling.proofs.RestLemmas.{GrewInto, CellsGrew}
 use Rattle.cx_profiling.proofs.RoleLemmas.{more_cells, register_there}
 
@@ -18,42 +20,31 @@ use Rattle.cx_profiling.proofs.RoleLemmas.{more_cells, register_there}
 pub record InTree (d : PlainDesign) (m k : ℕ) : Type 0 where
   pub within : k < length d.components
   pub deep_enough : Deep d m k
-  pub levels : ℕ
-  pub total : levels + m ≡ length d.components
-  pub on_the_way : In (reached_from d levels d.main) k
+  pub few : m ≤ length d.components
+  pub reached : is_reached d k ≡ true
 
 module _ (d : PlainDesign) where
   pub in_reach : {m k : ℕ} → InTree d m k → is_reached d k ≡ true
-  in_reach {m} {k} at = is_reached_within d at.levels k (let total : at.levels + m ≡ length d.components = at.total in omega (arith, total)) at.on_the_way
-
-  pub few_levels : {m k : ℕ} → InTree d m k → m ≤ length d.components
-  few_levels {m} {k} at = let total : at.levels + m ≡ length d.components = at.total in omega (arith, total)
+  in_reach at = at.reached
 
   pub is_whole : {m k : ℕ} → InTree d m k → tree_within d m k ≡ component_of d k
-  is_whole {m} {k} at = whole_tree d m k at.deep_enough (few_levels at)
+  is_whole {m} {k} at = whole_tree d m k at.deep_enough at.few
 
   module _ (design : IsDesign d) where
     pub main_in_tree : InTree d (length d.components) d.main
-    main_in_tree = record { within = design.main_there; deep_enough = deep d design d.main design.main_there; levels = 0; total = omega arith; on_the_way = inl refl }
+    main_in_tree = record { within = design.main_there; deep_enough = deep d design d.main design.main_there; few = omega arith; reached = is_reached-from d design d.main (inl refl) }
 
     pub child_in_tree : {m k : ℕ} → InTree d (suc m) k → (cell : PlainCell) (j : ℕ) → In (component_at d k).cells cell → cell.kind ≡ OfComponent j → InTree d m j
     child_in_tree {m} {k} at cell j i is = record {
-      within = subst (IsKind d) is ((design.components k at.within).cells cell i).kind;
+      within = child_there d design k j cell at.within i is;
       deep_enough = at.deep_enough cell j i is;
-      levels = suc at.levels;
-      total = (let total : at.levels + suc m ≡ length d.components = at.total in omega (arith, total));
-      on_the_way = reached_on d at.levels d.main k j cell at.on_the_way i is;
+      few = (let most : suc m ≤ length d.components = at.few in omega (arith, most));
+      reached = (child_reached d design k j cell at.reached i is).0;
     }
 
     -- main is the component of no cell below it
     pub no_main_below : {m k : ℕ} → InTree d m k → (cell : PlainCell) (j : ℕ) → In (component_at d k).cells cell → cell.kind ≡ OfComponent j → j ≡ d.main → ⊥
-    no_main_below {m} {k} at cell j i is main =
-        let step : LeadsTo d k d.main = subst (LeadsTo d k) main (by_cell j cell i is) in
-        by (reached_leads d at.levels d.main k at.on_the_way) step
-      where
-        by : (d.main ≡ k) ⊎ LeadsTo d d.main k → LeadsTo d k d.main → ⊥
-        by (inl e) step = design.not_recursive d.main (subst (λ x. LeadsTo d x d.main) (sym e) step)
-        by (inr l) step = design.not_recursive d.main (by_way_of k l step)
+    no_main_below {m} {k} at cell j i is main = eqb-false j d.main (child_reached d design k j cell at.reached i is).1 main
 
     kinds_grow : (m : ℕ) (kind : PlainKind) (xs ys : Cells) → ((j : ℕ) → kind ≡ OfComponent j → GrewInto (tree_within d m j) (tree_within (with_counts d) m j)) → CellsGrew xs ys
         → CellsGrew (add_cell (tree_within d m) kind xs) (add_cell (tree_within (with_counts d) m) kind ys)
@@ -72,9 +63,10 @@ module _ (d : PlainDesign) where
     pub trees_grow : (m k : ℕ) → InTree d m k → GrewInto (tree_within d m k) (tree_within (with_counts d) m k)
     trees_grow zero k at = absurd at.deep_enough
     trees_grow (suc m) k at =
-        let more = more_cells d k at.within in
-        (subst (λ list. CellsGrew (cells_for (tree_within d m) (component_at d k).cells) (cells_for (tree_within (with_counts d) m) list)) (sym more.1)
-        (cells_grow m (component_at d k).cells more.0 (λ cell j i is. trees_grow m j (child_in_tree at cell j i is))),
-        λ counter i.
-            let r = register_there d k at.within (in_reach at) counter (subst (λ tree. In (counters tree) counter) (is_whole at) i) in
-            at_row (tree_within (with_counts d) m) (component_at (with_counts d) k).cells counter.register r.0 (record { name = primitives.Reg; numbers = 64 ∷ [] }) r.1 r.2)
+        let more = more_cells d k at.within in (
+          subst (λ list. CellsGrew (cells_for (tree_within d m) (component_at d k).cells) (cells_for (tree_within (with_counts d) m) list)) (sym more.1)
+              (cells_grow m (component_at d k).cells more.0 (λ cell j i is. trees_grow m j (child_in_tree at cell j i is))),
+          λ counter i.
+              let r = register_there d k at.within (in_reach at) counter (subst (λ tree. In (counters tree) counter) (is_whole at) i) in
+              at_row (tree_within (with_counts d) m) (component_at (with_counts d) k).cells counter.register r.0 (record { name = primitives.Reg; numbers = 64 ∷ [] }) r.1 r.2,
+        )

@@ -127,11 +127,13 @@ module _ (d : PlainDesign) (design : IsDesign d) (accepted : IsAccepted d) (grow
       by (child_pair cell f stands is below first second moved) = absurd (instance_row (tree_within d m f) row (sym first ∙ e))
 
   pub child_inside : (c p : ℕ) (cell : PlainCell) (e : ℕ) → c < length node.cells → slice_get node.cells c ≡ Some cell → cell.kind ≡ OfComponent e → p ≤ first_gained (component_at d e) → IsInside d node (ports.Cell c p)
-  child_inside c p cell e few stands is less =
-      (few, λ x f there kind.
-          let same : cell ≡ x = same_cell cell x stands there in
-          let number : e ≡ f = same_component e f (sym is ∙ ap (λ y. y.kind) same ∙ kind) in
-          subst (λ y. p ≤ first_gained (component_at d y)) number less)
+  child_inside c p cell e few stands is less = (
+    few,
+    λ x f there kind.
+        let same : cell ≡ x = same_cell cell x stands there in
+        let number : e ≡ f = same_component e f (sym is ∙ ap (λ y. y.kind) same ∙ kind) in
+        subst (λ y. p ≤ first_gained (component_at d y)) number less,
+  )
     where
       same_cell : (cell x : PlainCell) → slice_get node.cells c ≡ Some cell → slice_get node.cells c ≡ Some x → cell ≡ x
       same_cell cell x e f = let same : Some cell ≡ Some x = sym e ∙ f in cc
@@ -318,10 +320,12 @@ module _ (d : PlainDesign) (design : IsDesign d) (accepted : IsAccepted d) (grow
         by (child_pair cell e stands is inner first second moved) =
             ⊎_elim
             (λ (last : p ≡ first_gained (component_at d e)).
-            inr (is_done_cell act.done_cell c,
-            seen_solves i held act s acyclic (below_here d design accepted grown_accepted (suc m) k) (ports.Cell c p)
-            ∙ ap (cell_step node act s (seen i held act s) (outputs_below (cells_of i) (λ x. under x s)) c p) first
-            ∙ ap (part_step node act s (seen i held act s) (outputs_below (cells_of i) (λ x. under x s)) c p) (ap (λ x. part_port x p) (same_part d m e) ∙ ap (part_port (component_at d e)) last ∙ done_port (component_at d e))))
+            inr (
+              is_done_cell act.done_cell c,
+              seen_solves i held act s acyclic (below_here d design accepted grown_accepted (suc m) k) (ports.Cell c p)
+                  ∙ ap (cell_step node act s (seen i held act s) (outputs_below (cells_of i) (λ x. under x s)) c p) first
+                  ∙ ap (part_step node act s (seen i held act s) (outputs_below (cells_of i) (λ x. under x s)) c p) (ap (λ x. part_port x p) (same_part d m e) ∙ ap (part_port (component_at d e)) last ∙ done_port (component_at d e)),
+            ))
             (λ differ. inl (moved p ∙ ap (ports.Cell c) (grown_same (first_gained (component_at d e)) (gained d e) p differ)))
             (cases_eq p (first_gained (component_at d e)))
 
@@ -414,8 +418,8 @@ module _ (d : PlainDesign) (design : IsDesign d) (accepted : IsAccepted d) (grow
         carried_fixed (moved_fault mv) (Grown i) τ (count_island i held v.form s n) (island i held v.form s n) (island j twin (moved_form mv v.form) t u)
         (island_fixed (moved_fault mv) i held (form_flat node v.form 0 []) cycle_stays
         (λ s h x p kind inside no_bit.
-            ⊎_elim (λ e. ap (λ q. fault_at kind q) e) (λ b. absurd (no_bit b.0 b.1))
-            (left_or_bit nothing (bare_here d design accepted grown_accepted (suc m) k) s p (looked_good (λ g. g < length node.groups) (IsInside d node) h x (form_flat node v.form 0 []) fine p inside)))
+        ⊎_elim (λ e. ap (λ q. fault_at kind q) e) (λ b. absurd (no_bit b.0 b.1))
+        (left_or_bit nothing (bare_here d design accepted grown_accepted (suc m) k) s p (looked_good (λ g. g < length node.groups) (IsInside d node) h x (form_flat node v.form 0 []) fine p inside)))
         (form_length node v.form) 0 no_history s n)
         (island_carries mv Exact (Grown i) (moved_fault mv) (λ es. made_with (entries es)) (λ g. g < length node.groups) (IsInside d node) i j held twin v.form lengths fine
         (record {

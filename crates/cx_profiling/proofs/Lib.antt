@@ -19,7 +19,6 @@ pub mod WalkLemmas
 pub mod GrownLemmas
 pub mod ReadLemmas
 pub mod RestLemmas
-pub mod ReachLemmas
 pub mod RoleLemmas
 pub mod CellPorts
 pub mod CounterDrives

@@ -4,17 +4,14 @@ use Rattle.cx_prim.specs.Table.{PrimitiveRow, row_of}
 use Rattle.cx_meaning.specs.Designs.{PlainKind, OfPrimitive, OfComponent, PlainCell, PlainDesign, component_at}
 use Rattle.cx_meaning.specs.Instances.{Instance, Cells, At, Nothing, OfRow, OfInstance, cell_at, cell_count, cells_of, part_of, add_cell, cells_for, tree_within}
 use Rattle.cx_meaning.proofs.DesignsLemmas.{same_part}
+use Rattle.cx_profiling.proofs.ThereLemmas.{of_kind}
 
--- what stands at a cell of a kind
-abbrev pub kind_at : (ℕ → Instance) → PlainKind → At
-kind_at child (OfPrimitive primitive) = OfRow (row_of primitive)
-kind_at child (OfComponent k) = OfInstance (child k)
-
+-- what stands at a cell
 abbrev pub cell_kind_at : (ℕ → Instance) → Option PlainCell → At
 cell_kind_at child None = Nothing
-cell_kind_at child (Some cell) = kind_at child cell.kind
+cell_kind_at child (Some cell) = of_kind child cell.kind
 
-first_at : (child : ℕ → Instance) (kind : PlainKind) (rest : Cells) → cell_at (add_cell child kind rest) 0 ≡ kind_at child kind
+first_at : (child : ℕ → Instance) (kind : PlainKind) (rest : Cells) → cell_at (add_cell child kind rest) 0 ≡ of_kind child kind
 first_at child (OfPrimitive primitive) rest = refl
 first_at child (OfComponent k) rest = refl
 
@@ -29,11 +26,11 @@ at_listed child (cell ∷ cells) (suc c) = later_at child cell.kind (cells_for c
 
 pub at_row : (child : ℕ → Instance) (cells : List PlainCell) (c : ℕ) (cell : PlainCell) (primitive : PrimitiveRow) → slice_get cells c ≡ Some cell → cell.kind ≡ OfPrimitive primitive
     → cell_at (cells_for child cells) c ≡ OfRow (row_of primitive)
-at_row child cells c cell primitive at is = at_listed child cells c ∙ ap (cell_kind_at child) at ∙ ap (kind_at child) is
+at_row child cells c cell primitive at is = at_listed child cells c ∙ ap (cell_kind_at child) at ∙ ap (of_kind child) is
 
 pub at_component : (child : ℕ → Instance) (cells : List PlainCell) (c : ℕ) (cell : PlainCell) (k : ℕ) → slice_get cells c ≡ Some cell → cell.kind ≡ OfComponent k
     → cell_at (cells_for child cells) c ≡ OfInstance (child k)
-at_component child cells c cell k at is = at_listed child cells c ∙ ap (cell_kind_at child) at ∙ ap (kind_at child) is
+at_component child cells c cell k at is = at_listed child cells c ∙ ap (cell_kind_at child) at ∙ ap (of_kind child) is
 
 count_added : (child : ℕ → Instance) (kind : PlainKind) (rest : Cells) → cell_count (add_cell child kind rest) ≡ suc (cell_count rest)
 count_added child (OfPrimitive primitive) rest = refl
@@ -52,13 +49,13 @@ pub data CellIs (cells : List PlainCell) (c : ℕ) : Type 0 where
 pub cell_is : (cells : List PlainCell) (c : ℕ) → CellIs cells c
 cell_is cells c = by (slice_get cells c) refl
   where
-    of_kind : (cell : PlainCell) → slice_get cells c ≡ Some cell → (kind : PlainKind) → cell.kind ≡ kind → CellIs cells c
-    of_kind cell at (OfPrimitive primitive) is = is_primitive cell primitive at is
-    of_kind cell at (OfComponent k) is = is_component cell k at is
+    by_kind : (cell : PlainCell) → slice_get cells c ≡ Some cell → (kind : PlainKind) → cell.kind ≡ kind → CellIs cells c
+    by_kind cell at (OfPrimitive primitive) is = is_primitive cell primitive at is
+    by_kind cell at (OfComponent k) is = is_component cell k at is
 
     by : (o : Option PlainCell) → slice_get cells c ≡ o → CellIs cells c
     by None at = is_none at
-    by (Some cell) at = of_kind cell at cell.kind refl
+    by (Some cell) at = by_kind cell at cell.kind refl
 
 pub at_none : (child : ℕ → Instance) (cells : List PlainCell) (c : ℕ) → slice_get cells c ≡ None → cell_at (cells_for child cells) c ≡ Nothing
 at_none child cells c at = at_listed child cells c ∙ ap (cell_kind_at child) at

@@ -111,9 +111,12 @@ module _ (d : PlainDesign) (design : IsDesign d) (accepted : IsAccepted d) (grow
   stores_run : (τ : Tally) (s : State) (list : List Shown) (before : List Shown) (n : ℕ) → n ≡ length before → shown_in (component_of d k) ≡ before ++ list → (rest : List ℕ) → length rest ≡ length list
       → (u : State) → IsBetween (map (counted_of τ) before ++ rest) τ s u → (b : ℕ) → 2 * length list ≤ b
       → StoresEnd τ s u b (length node.groups + n) list
-  stores_run τ s [] before n number all rest count u between b enough =
-      (u, ap (End u) (omega arith), subst (λ words. IsBetween words τ s u) (ap (λ list. map (counted_of τ) before ++ list) (none_left rest count) ∙ nothing_more (map (counted_of τ) before) ∙ ap (map (counted_of τ)) (sym (nothing_more before) ∙ sym all)) between,
-      λ c less. refl)
+  stores_run τ s [] before n number all rest count u between b enough = (
+    u,
+    ap (End u) (omega arith),
+    subst (λ words. IsBetween words τ s u) (ap (λ list. map (counted_of τ) before ++ list) (none_left rest count) ∙ nothing_more (map (counted_of τ) before) ∙ ap (map (counted_of τ)) (sym (nothing_more before) ∙ sym all)) between,
+    λ c less. refl,
+  )
   stores_run τ s (x ∷ xs) before n number all [] count u between b enough = absurd (let wrong : 0 ≡ suc (length xs) = count in omega (arith, wrong))
   stores_run τ s (x ∷ xs) before n number all (r ∷ rest) count u between b enough =
       finish (two b (let much : 2 * suc (length xs) ≤ b = enough in omega (arith, much)))
@@ -145,16 +148,17 @@ module _ (d : PlainDesign) (design : IsDesign d) (accepted : IsAccepted d) (grow
           let done = later c e in
           let left : suc (suc c) - 2 ≡ c = omega arith in
           let group_is : suc (length node.groups + n) ≡ length node.groups + suc n = omega arith in
-          let turns : 2 + 2 * length xs ≡ 2 * suc (length xs) = omega arith in
-          (done.0,
-          ap (λ budget. run_parts M (statements_of (store_enables node.place (length node.groups + n) (x ∷ xs))) u budget) e
-          ∙ ap (λ o. then_do o (suc (suc c)) (run_parts M (statements_of (store_enables node.place (suc (length node.groups + n)) xs))))
-          (store_runs d design accepted grown_accepted m k at names is bare some n x listed (map (counted_of τ) before ++ r ∷ rest) τ s u between (control_below (cells_of j)) c)
-          ∙ ap (λ budget. after_turns 2 (run_parts M (statements_of (store_enables node.place (suc (length node.groups + n)) xs)) next budget)) left
-          ∙ ap (λ g. after_turns 2 (run_parts M (statements_of (store_enables node.place g xs)) next c)) group_is
-          ∙ ap (after_turns 2) done.1 ∙ ap (End done.0) turns,
-          done.2,
-          λ cell less. done.3 cell less ∙ store_leaves d design accepted grown_accepted m k at names is bare some n x listed (map (counted_of τ) before ++ r ∷ rest) τ s u between cell less)
+          let turns : 2 + 2 * length xs ≡ 2 * suc (length xs) = omega arith in (
+            done.0,
+            ap (λ budget. run_parts M (statements_of (store_enables node.place (length node.groups + n) (x ∷ xs))) u budget) e
+                ∙ ap (λ o. then_do o (suc (suc c)) (run_parts M (statements_of (store_enables node.place (suc (length node.groups + n)) xs))))
+                (store_runs d design accepted grown_accepted m k at names is bare some n x listed (map (counted_of τ) before ++ r ∷ rest) τ s u between (control_below (cells_of j)) c)
+                ∙ ap (λ budget. after_turns 2 (run_parts M (statements_of (store_enables node.place (suc (length node.groups + n)) xs)) next budget)) left
+                ∙ ap (λ g. after_turns 2 (run_parts M (statements_of (store_enables node.place g xs)) next c)) group_is
+                ∙ ap (after_turns 2) done.1 ∙ ap (End done.0) turns,
+            done.2,
+            λ cell less. done.3 cell less ∙ store_leaves d design accepted grown_accepted m k at names is bare some n x listed (map (counted_of τ) before ++ r ∷ rest) τ s u between cell less,
+          )
 
   abbrev row : Row
   row = memory_row 64 (size ∷ []) (address_width size ∷ [])
@@ -167,14 +171,15 @@ module _ (d : PlainDesign) (design : IsDesign d) (accepted : IsAccepted d) (grow
   memory_rests act acts acyclic twin t e past less =
       let total : length other.cells ≡ suc memory = cells_total d k at.within names is grown_accepted in
       let same : memory ≡ e = omega (arith, past, less, total) in
-      subst (λ c. (after : CellState) × (comes_to j twin act t c ≡ Next after)) same
-      (row.idle (t (memory ∷ [])),
-      ap (λ a. outcome_at (seen j twin act t) memory a (t (memory ∷ []))) at_memory
-      ∙ quiet_outcome row (tree_lawful (with_counts d) (suc m) k memory row at_memory) (seen j twin act t) memory (t (memory ∷ []))
-      (λ p side. seen_solves j twin act t acyclic (below_there d design accepted grown_accepted (suc m) k) (ports.Cell memory p)
-      ∙ ap (cell_step other act t (seen j twin act t) (outputs_below (cells_of j) (λ c. under c t)) memory p) at_memory
-      ∙ ap (side_step other act t (seen j twin act t) (outputs_below (cells_of j) (λ c. under c t)) row memory p) side
-      ∙ ap (target_seen (bit_of false) (seen j twin act t)) (main_silent d design k at.within act names is acts (ports.Cell memory p) (omega arith) (inr (omega arith)))))
+      subst (λ c. (after : CellState) × (comes_to j twin act t c ≡ Next after)) same (
+        row.idle (t (memory ∷ [])),
+        ap (λ a. outcome_at (seen j twin act t) memory a (t (memory ∷ []))) at_memory
+            ∙ quiet_outcome row (tree_lawful (with_counts d) (suc m) k memory row at_memory) (seen j twin act t) memory (t (memory ∷ []))
+            (λ p side. seen_solves j twin act t acyclic (below_there d design accepted grown_accepted (suc m) k) (ports.Cell memory p)
+            ∙ ap (cell_step other act t (seen j twin act t) (outputs_below (cells_of j) (λ c. under c t)) memory p) at_memory
+            ∙ ap (side_step other act t (seen j twin act t) (outputs_below (cells_of j) (λ c. under c t)) row memory p) side
+            ∙ ap (target_seen (bit_of false) (seen j twin act t)) (main_silent d design k at.within act names is acts (ports.Cell memory p) (omega arith) (inr (omega arith)))),
+      )
 
   -- THE OLD CONTROL in main
   old_control : Carries Exact (Grown i) (λ f. f) (count_control i unheld) (run_control i unheld) (run M (moved_statement (λ p. moved_in d node p) node.control))
@@ -248,11 +253,12 @@ module _ (d : PlainDesign) (design : IsDesign d) (accepted : IsAccepted d) (grow
         (run_stays j (tree_lawful (with_counts d) (suc m) k) bare unheld moved (start j (words ++ new ∷ [])) u n t ends).1 memory (control_spares, λ path. start_rests (words ++ new ∷ []) (memory ∷ path)) [] in
         let none_first : length node.groups ≡ length node.groups + 0 = omega arith in
         let r = stores_run tally s (shown_in (component_of d k)) [] 0 refl refl new whole.length u
-        (record { settled = settled; grown = counted; holds = kept ∙ memory_start d design m k at names is words new fits at_memory }) (n + 2 * size - t) (omega (arith, within)) in
-        (r.0,
-        in_two (n + 2 * size) ∙ ap (λ o. then_do o (n + 2 * size) (run_parts M stores)) later
-        ∙ ap (λ g. after_turns t (run_parts M (statements_of (store_enables node.place g (shown_in (component_of d k)))) u (n + 2 * size - t))) none_first ∙ ap (after_turns t) r.1,
-        words_after s u r.0 counted r.2 r.3)
+        (record { settled = settled; grown = counted; holds = kept ∙ memory_start d design m k at names is words new fits at_memory }) (n + 2 * size - t) (omega (arith, within)) in (
+          r.0,
+          in_two (n + 2 * size) ∙ ap (λ o. then_do o (n + 2 * size) (run_parts M stores)) later
+              ∙ ap (λ g. after_turns t (run_parts M (statements_of (store_enables node.place g (shown_in (component_of d k)))) u (n + 2 * size - t))) none_first ∙ ap (after_turns t) r.1,
+          words_after s u r.0 counted r.2 r.3,
+        )
 
     -- WHAT MAIN OWES
     pub main_owes : Owes LeavesCounts size (run_control i unheld (start i words) n) (run_control j unheld (start j (words ++ new ∷ [])) n) (run_control j unheld (start j (words ++ new ∷ [])) (n + 2 * size))

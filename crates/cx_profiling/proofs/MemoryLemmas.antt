@@ -1,14 +1,13 @@
 -- THE MEMORY OF THE COUNTS: its row, what it shows, and what it comes to where a word is stored.
-use Rattle.std.proofs.Common.{◌≡◌, ℕ, zero, suc, ◌+◌, ◌*◌, ◌^◌, ◌<◌, ◌≤◌, ⊎_elim, inl, inr, Bool, true, false, if◌then◌else◌, nat_le, List, [], ◌∷◌, ◌++◌, length, slice_get, refl, sym, ap, ◌∙◌, subst, arith}
-use Rattle.std.specs.Prelude.{codes, slice_set}
-use Rattle.std.proofs.lemmas.Bool.{lt-ltb, le-leb, leb-false, cases_lt}
+use Rattle.std.proofs.Common.{◌≡◌, ℕ, suc, ◌+◌, ◌*◌, ◌^◌, ◌<◌, ◌≤◌, ⊎_elim, inl, inr, Bool, true, false, List, [], ◌∷◌, ◌++◌, length, slice_get, refl, sym, ap, ◌∙◌, subst, arith}
+use Rattle.std.specs.Prelude.{unwrap_or, codes, slice_set}
+use Rattle.std.proofs.lemmas.Bool.{lt-ltb, cases_lt}
 use Rattle.std.proofs.lemmas.List.{length-append}
-use Rattle.cx_text.specs.declared.places.Place.{Place}
 use Rattle.cx_text.specs.declared.rules.Rule.TheVariants.{Limit}
 use Rattle.cx_text.proofs.ListLaws.{behind}
 use Rattle.cx_prim.specs.declared.names.PrimitiveName.TheVariants as primitives
 use Rattle.cx_prim.specs.CellStates.{Memory}
-use Rattle.cx_prim.specs.Table.{row_of}
+use Rattle.cx_prim.specs.Table.{row_of, no_row}
 use Rattle.cx_prim.specs.MemoryRows.{memory_row}
 use Rattle.cx_meaning.specs.declared.ports.PortRef.TheVariants as ports
 use Rattle.cx_meaning.specs.Designs.{PlainComponent, PlainDesign, component_at}
@@ -18,35 +17,16 @@ use Rattle.cx_meaning.specs.Cycles.{Next, cell_outcome}
 use Rattle.cx_rules.specs.Ports.{component_of}
 use Rattle.cx_rules.specs.Spots.{Itself}
 use Rattle.cx_rules.specs.Accepted.{IsAccepted}
-use Rattle.cx_profiling.specs.Counters.{counters, Shown, shown_in}
-use Rattle.cx_profiling.specs.Instrumented.{width_from, address_width, memory_cell, counter_cells, name_at, counted_groups, store_groups, main_component, with_counts}
+use Rattle.cx_profiling.specs.Counters.{counters, shown_in}
+use Rattle.cx_profiling.specs.Instrumented.{address_width, memory_cell, counter_cells, name_at, counted_groups, store_groups, main_component, with_counts}
+use Rattle.cx_profiling.proofs.CellLemmas.{memory_row-is}
 use Rattle.cx_profiling.proofs.ListedCells.{at_row}
-use Rattle.cx_profiling.proofs.RoleLemmas.{counter_count, grown_count}
+use Rattle.cx_profiling.proofs.CounterLemmas.{counter_cells-length}
+use Rattle.cx_profiling.proofs.GainedLemmas.{components-length, store_groups-length}
 use Rattle.cx_profiling.proofs.RowLemmas.{number}
 
--- ADDRESSES of so many words have 1 to 12 bits
-least_width : (more width k : ℕ) → k ≤ 4096 → 1 ≤ width → width ≤ 12 → (1 ≤ width_from more width k) × (width_from more width k ≤ 12)
-least_width zero width k few some most = (some, most)
-least_width (suc more) width k few some most = by (nat_le k (2 ^ width)) refl (λ less. least_width more (suc width) k few (omega (arith, some)) less)
-  where
-    twelve : width ≡ 12 → 2 ^ width ≡ 4096
-    twelve e = ap (λ w. 2 ^ w) e
-
-    by : (b : Bool) → nat_le k (2 ^ width) ≡ b → (suc width ≤ 12 → (1 ≤ width_from more (suc width) k) × (width_from more (suc width) k ≤ 12))
-        → (1 ≤ (if b then width else width_from more (suc width) k)) × ((if b then width else width_from more (suc width) k) ≤ 12)
-    by true e next = (some, most)
-    by false e next =
-        next (⊎_elim (λ (less : width < 12). omega (arith, less))
-        (λ (past : 12 ≤ width). let same : width ≡ 12 = omega (arith, past, most) in let size : 2 ^ width ≡ 4096 = twelve same in let far : 2 ^ width < k = leb-false k (2 ^ width) e in absurd (omega (arith, few, size, far)))
-        (cases_lt width 12))
-
 pub memory_is : (k : ℕ) → 1 ≤ k → k ≤ 4096 → row_of (record { name = primitives.StdMemD1; numbers = 64 ∷ k ∷ address_width k ∷ [] }) ≡ memory_row 64 (k ∷ []) (address_width k ∷ [])
-memory_is k some few =
-    let width = least_width k 1 k few (omega arith) (omega arith) in
-    let least : 1 ≤ address_width k = width.0 in
-    let most : address_width k ≤ 12 = width.1 in
-    let small : k * 1 < 2 ^ 32 = omega (arith, few) in
-    rw (le-leb 1 k some, lt-ltb (k * 1) (2 ^ 32) small, le-leb 1 (address_width k) least, le-leb (address_width k) 64 (omega (arith, most))) refl
+memory_is k some few = let small : k < 2 ^ 32 = omega (arith, few) in ap (λ o. unwrap_or o no_row) (memory_row-is k some small)
 
 -- WHAT IT SHOWS: the done of its state
 pub done_shows : (k a : ℕ) (words : List ℕ) (done : Bool) → of_option ((memory_row 64 (k ∷ []) (a ∷ [])).output (Memory words done) [] 4) ≡ bit_of done
@@ -70,17 +50,13 @@ module _ (d : PlainDesign) (k : ℕ) (within : k < length d.components) (names :
   abbrev place : ℕ
   place = length part.cells + 2 * length (counters (component_of d k))
 
-  stores_count : (at : Place) (names : List (List ℕ)) (memory width n g j : ℕ) (list : List Shown) → length (store_groups at names memory width n g j list) ≡ length list
-  stores_count at names memory width n g j [] = refl
-  stores_count at names memory width n g j (x ∷ xs) = ap suc (stores_count at names memory width (suc n) (suc g) (suc j) xs)
-
   -- the rule of limits bounds the groups of main
   few_groups : length (component_at (with_counts d) k).groups ≤ 4096
   few_groups =
       ⊎_elim
       (λ (past : 4096 < length (component_at (with_counts d) k).groups).
       absurd (grown_accepted.limits Limit (record { component = k; part = Itself 1 }) (component_at (with_counts d) k).place (codes "groups") refl
-      (inr (inl (record { within = subst (λ n. k < n) (sym (grown_count d)) within; is = refl; exceeds = past; tells = (refl, refl) })))))
+      (inr (inl (record { within = subst (λ n. k < n) (sym (components-length d)) within; is = refl; exceeds = past; tells = (refl, refl) })))))
       (λ few. few) (cases_lt 4096 (length (component_at (with_counts d) k).groups))
 
   pub few_words : size ≤ 4096
@@ -88,14 +64,14 @@ module _ (d : PlainDesign) (k : ℕ) (within : k < length d.components) (names :
       let stores = store_groups part.place names place (address_width size) (suc (2 * length (counters (component_of d k)))) (length part.groups) 0 (shown_in (component_of d k)) in
       let total : length (component_at (with_counts d) k).groups ≡ length (counted_groups d part (cells_of (component_of d k)) (length part.cells) part.groups) + size =
       ap (λ x. length x.groups) is ∙ length-append (counted_groups d part (cells_of (component_of d k)) (length part.cells) part.groups) stores
-      ∙ ap (λ n. length (counted_groups d part (cells_of (component_of d k)) (length part.cells) part.groups) + n) (stores_count part.place names place (address_width size) (suc (2 * length (counters (component_of d k)))) (length part.groups) 0 (shown_in (component_of d k))) in
+      ∙ ap (λ n. length (counted_groups d part (cells_of (component_of d k)) (length part.cells) part.groups) + n) (store_groups-length part.place names place (address_width size) (suc (2 * length (counters (component_of d k)))) (length part.groups) 0 (shown_in (component_of d k))) in
       let few : length (component_at (with_counts d) k).groups ≤ 4096 = few_groups in
       omega (arith, total, few)
 
   -- it stands behind the counters, the last cell
   pub cells_total : length (component_at (with_counts d) k).cells ≡ suc place
   cells_total =
-      let counters_count : length (counter_cells part.place names 0 (length (counters (component_of d k)))) ≡ 2 * length (counters (component_of d k)) = counter_count part.place names 0 (length (counters (component_of d k))) in
+      let counters_count : length (counter_cells part.place names 0 (length (counters (component_of d k)))) ≡ 2 * length (counters (component_of d k)) = counter_cells-length part.place names 0 (length (counters (component_of d k))) in
       let last = memory_cell part.place (name_at names (2 * length (counters (component_of d k)))) size ∷ [] in
       let whole : length (component_at (with_counts d) k).cells ≡ length part.cells + length (counter_cells part.place names 0 (length (counters (component_of d k))) ++ last) =
       ap (λ x. length x.cells) is ∙ length-append part.cells (counter_cells part.place names 0 (length (counters (component_of d k))) ++ last) in
@@ -105,7 +81,7 @@ module _ (d : PlainDesign) (k : ℕ) (within : k < length d.components) (names :
 
   pub memory_at : (m : ℕ) → 1 ≤ size → cell_at (cells_of (tree_within (with_counts d) (suc m) k)) place ≡ OfRow (memory_row 64 (size ∷ []) (address_width size ∷ []))
   memory_at m some =
-      let counters_count : length (counter_cells part.place names 0 (length (counters (component_of d k)))) ≡ 2 * length (counters (component_of d k)) = counter_count part.place names 0 (length (counters (component_of d k))) in
+      let counters_count : length (counter_cells part.place names 0 (length (counters (component_of d k)))) ≡ 2 * length (counters (component_of d k)) = counter_cells-length part.place names 0 (length (counters (component_of d k))) in
       let last = memory_cell part.place (name_at names (2 * length (counters (component_of d k)))) size ∷ [] in
       let number : 2 * length (counters (component_of d k)) ≡ length (counter_cells part.place names 0 (length (counters (component_of d k)))) + 0 = omega (arith, counters_count) in
       at_row (tree_within (with_counts d) m) (component_at (with_counts d) k).cells place (memory_cell part.place (name_at names (2 * length (counters (component_of d k)))) size)

@@ -1,5 +1,6 @@
 -- COUNTS SHOW: the port that has the count of an entry is seen as what was counted of it, in every instance and under every active set.
 use Rattle.std.proofs.Common.{◌≡◌, ℕ, zero, suc, ◌+◌, ◌^◌, ◌%◌, ◌<◌, Bool, true, false, [], ◌∷◌, length, Some, slice_get, sym, ap, ◌∙◌, subst, arith}
+use Rattle.std.proofs.lemmas.Bool.{ne_eqb}
 use Rattle.std.proofs.lemmas.Option.{slice_get_within}
 use Rattle.cx_meaning.specs.declared.ports.PortRef.TheVariants as ports
 use Rattle.cx_meaning.specs.declared.sights.Seen.TheVariants.{Undefined}
@@ -18,7 +19,8 @@ use Rattle.cx_rewrites.specs.Tallies.{Tally, at_cell}
 use Rattle.cx_profiling.specs.Counters.{ProfileEntry, Counter, counters, Shown, shown_in, first_gained}
 use Rattle.cx_profiling.specs.Growing.{Grown}
 use Rattle.cx_profiling.specs.Instrumented.{is_reached, gained, with_counts}
-use Rattle.cx_profiling.proofs.RoleLemmas.{Role, as_main, as_child, as_kept, role, gained_child}
+use Rattle.cx_profiling.proofs.GainedLemmas.{gained_child}
+use Rattle.cx_profiling.proofs.RoleLemmas.{Role, as_main, as_child, as_kept, role}
 use Rattle.cx_profiling.proofs.CellPorts.{gained_port}
 use Rattle.cx_profiling.proofs.InsideLemmas.{targets_inside}
 use Rattle.cx_profiling.proofs.GrownTrees.{InTree, in_reach, is_whole, no_main_below}
@@ -69,7 +71,7 @@ module _ (d : PlainDesign) (design : IsDesign d) (accepted : IsAccepted d) (grow
             let same : tree_within d m e ≡ b.child = instance_is (tree_within d m e) b.child (sym first ∙ b.stands) in
             let listed : slice_get (shown_in (tree_within d m e)) b.number ≡ Some b.inner = ap (λ tree. slice_get (shown_in tree) b.number) same ∙ b.listed in
             let few : b.number < gained d e =
-            subst (λ n. b.number < n) (sym (gained_child d e other_main (in_reach d inner)))
+            subst (λ n. b.number < n) (sym (gained_child d e (in_reach d inner) (ne_eqb e d.main other_main)))
             (subst (λ tree. b.number < length (shown_in tree)) (is_whole d inner) (slice_get_within (shown_in (tree_within d m e)) b.number b.inner listed)) in
             let zero_first : 0 + b.cell ≡ b.cell = omega arith in
             let first_is : first_gained (part_of b.child) ≡ first_gained (component_at d e) = ap (λ (tree : Instance). first_gained (part_of tree)) (sym same) ∙ ap first_gained (same_part d m e) in

@@ -20,9 +20,9 @@ use Rattle.cx_profiling.specs.Instrumented.{gained, moved_number, moved_in, coun
 use Rattle.cx_profiling.proofs.ListedCells.{at_row, at_component, CellIs, is_none, is_primitive, is_component, cell_is}
 use Rattle.cx_profiling.proofs.PortLemmas.{IsInside, moved-primitive, moved-component, grown_number}
 use Rattle.cx_profiling.proofs.WalkLemmas.{groups_joined, Walk, nothing_more, counted_walk, kept_walk, store_walk, outputs_walk, bare_walk, both_walk, walk_drives}
-use Rattle.cx_profiling.proofs.RoleLemmas.{Role, as_main, as_child, as_kept, role, first_cells}
+use Rattle.cx_profiling.proofs.GainedLemmas.{grown_at, counted_groups-length}
+use Rattle.cx_profiling.proofs.RoleLemmas.{Role, as_main, as_child, as_kept, role}
 use Rattle.cx_profiling.proofs.CellPorts.{ports_alike}
-use Rattle.cx_profiling.proofs.CounterDrives.{counted_length}
 use Rattle.cx_profiling.proofs.InsideLemmas.{targets_inside}
 use Rattle.cx_profiling.proofs.GrownTrees.{InTree, child_in_tree}
 
@@ -56,7 +56,7 @@ module _ (d : PlainDesign) (design : IsDesign d) (k : ℕ) (within : k < length 
           (omega arith) (omega arith)
 
       count : 0 + length (counted_groups d part (cells_of (component_of d k)) (length part.cells) part.groups) ≡ length part.groups
-      count = let same : length (counted_groups d part (cells_of (component_of d k)) (length part.cells) part.groups) ≡ length part.groups = counted_length d part (cells_of (component_of d k)) (length part.cells) part.groups in omega (arith, same)
+      count = let same : length (counted_groups d part (cells_of (component_of d k)) (length part.cells) part.groups) ≡ length part.groups = counted_groups-length d part (cells_of (component_of d k)) (length part.cells) part.groups in omega (arith, same)
 
       by : Role d k → Walk d part (assigns_of part) (assigns_of other)
       by (as_main names is e) =
@@ -91,12 +91,12 @@ module _ (d : PlainDesign) (design : IsDesign d) (m k : ℕ) (at : InTree d (suc
       by (is_none e) = let r = there_at (component_at d k).cells c few in absurd (none_some r.0 e r.1)
       by (is_primitive cell primitive e is) =
           row_pair (row_of primitive) (at_row (tree_within d m) (component_at d k).cells c cell primitive e is)
-          (at_row (tree_within (with_counts d) m) (component_at (with_counts d) k).cells c cell primitive (first_cells d k at.within c few ∙ e) is)
+          (at_row (tree_within (with_counts d) m) (component_at (with_counts d) k).cells c cell primitive ((grown_at d k at.within).cells c cell e) is)
           (λ p. ap (ports.Cell c) (ap (λ o. moved_number d o p) e ∙ moved-primitive d cell primitive p is))
       by (is_component cell j e is) =
           child_pair cell j e is (child_in_tree d design at cell j (in_at (component_at d k).cells c cell e) is)
           (at_component (tree_within d m) (component_at d k).cells c cell j e is)
-          (at_component (tree_within (with_counts d) m) (component_at (with_counts d) k).cells c cell j (first_cells d k at.within c few ∙ e) is)
+          (at_component (tree_within (with_counts d) m) (component_at (with_counts d) k).cells c cell j ((grown_at d k at.within).cells c cell e) is)
           (λ p. ap (ports.Cell c) (ap (λ o. moved_number d o p) e ∙ moved-component d cell j p is))
 
   -- a port of a component's cell

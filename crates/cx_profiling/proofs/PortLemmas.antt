@@ -110,14 +110,15 @@ module _ (d : PlainDesign) where
   -- a port that is there is one of them
   pub there_inside : (k : ℕ) → k < length d.components → (p : PortRef) → IsThere (component_of d k) p → IsInside (component_at d k) p
   there_inside k within (ports.Cell c p) (few, h) =
-      let whole : part_of (component_of d k) ≡ component_at d k = same_part d (length d.components) k in
-      (subst (λ (x : PlainComponent). c < length x.cells) whole few,
-      λ cell j at is.
-          let some : 0 < length d.components = omega (arith, within) in
-          let r = child_in_tree d (length d.components) k c cell j some at is in
-          let count : p < port_count (OfInstance r.0) = subst (λ x. p < port_count x) r.1 h in
-          let there : p < 2 + length (component_at d j).inputs + length (component_at d j).outputs = subst (λ (x : PlainComponent). p < 2 + length x.inputs + length x.outputs) r.2 count in
-          omega (arith, there))
+      let whole : part_of (component_of d k) ≡ component_at d k = same_part d (length d.components) k in (
+        subst (λ (x : PlainComponent). c < length x.cells) whole few,
+        λ cell j at is.
+            let some : 0 < length d.components = omega (arith, within) in
+            let r = child_in_tree d (length d.components) k c cell j some at is in
+            let count : p < port_count (OfInstance r.0) = subst (λ x. p < port_count x) r.1 h in
+            let there : p < 2 + length (component_at d j).inputs + length (component_at d j).outputs = subst (λ (x : PlainComponent). p < 2 + length x.inputs + length x.outputs) r.2 count in
+            omega (arith, there),
+      )
   there_inside k within (ports.Input n) h = subst (λ (x : PlainComponent). n < length x.inputs) (same_part d (length d.components) k) h
   there_inside k within (ports.Output n) h = subst (λ (x : PlainComponent). n < length x.outputs) (same_part d (length d.components) k) h
   there_inside k within (ports.Done g) h = subst (λ (x : PlainComponent). g < length x.groups) (same_part d (length d.components) k) h

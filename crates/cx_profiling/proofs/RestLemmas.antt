@@ -63,11 +63,14 @@ all_from part cells s c path =
 
 mutual
   pub grown_rests : (i j : Instance) → GrewInto i j → (τ : Tally) (s t : State) → Grown i τ s t → Grown i τ (idle i s) (idle j t)
-  grown_rests (Node part cells) (Node after more) (grew, registers) τ s t (h, k) =
-      (cells_rest cells more grew 0 τ s t (idle (Node part cells) s) (idle (Node after more) t) (all_from part cells s) (all_from after more t) h,
-      λ counter at. let r = k counter at in
-          (false, ap (idle_below more counter.register []) r.1
-          ∙ idle_below-row more counter.register counter_row (Register (τ [] counter.group % 2 ^ 64) r.0) (registers counter at) ∙ counter_rests (τ [] counter.group % 2 ^ 64) r.0))
+  grown_rests (Node part cells) (Node after more) (grew, registers) τ s t (h, k) = (
+    cells_rest cells more grew 0 τ s t (idle (Node part cells) s) (idle (Node after more) t) (all_from part cells s) (all_from after more t) h,
+    λ counter at. let r = k counter at in (
+      false,
+      ap (idle_below more counter.register []) r.1
+          ∙ idle_below-row more counter.register counter_row (Register (τ [] counter.group % 2 ^ 64) r.0) (registers counter at) ∙ counter_rests (τ [] counter.group % 2 ^ 64) r.0,
+    ),
+  )
 
   cells_rest : (cells more : Cells) → CellsGrew cells more → (k : ℕ) (τ : Tally) (s t a b : State) → IdleFrom cells k s a → IdleFrom more k t b → GrownCells cells k τ s t → GrownCells cells k τ a b
   cells_rest no_cells more grew k τ s t a b ea eb h = tt
@@ -75,11 +78,13 @@ mutual
   cells_rest (a_primitive row rest) (an_instance other more) grew k τ s t a b ea eb h = absurd grew
   cells_rest (an_instance child rest) no_cells grew k τ s t a b ea eb h = absurd grew
   cells_rest (an_instance child rest) (a_primitive other more) grew k τ s t a b ea eb h = absurd grew
-  cells_rest (a_primitive row rest) (a_primitive other more) (same, grew) k τ s t a b ea eb (h, hs) =
-      (first_from (a_primitive other more) k t b [] eb ∙ ap (λ (x : CellState). other.idle x) h ∙ ap (λ (x : Row). x.idle (s (k ∷ []))) (sym same) ∙ sym (first_from (a_primitive row rest) k s a [] ea),
-      cells_rest rest more grew (suc k) τ s t a b (next_from (a_primitive row rest) rest k s a (λ c path d. refl) ea) (next_from (a_primitive other more) more k t b (λ c path d. refl) eb) hs)
-  cells_rest (an_instance child rest) (an_instance other more) (inner, grew) k τ s t a b ea eb (h, hs) =
-      (grown_states child (at_cell k τ) (idle child (under k s)) (idle other (under k t)) (under k a) (under k b)
-          (λ path. sym (first_from (an_instance child rest) k s a path ea)) (λ path. sym (first_from (an_instance other more) k t b path eb))
-          (grown_rests child other inner (at_cell k τ) (under k s) (under k t) h),
-      cells_rest rest more grew (suc k) τ s t a b (next_from (an_instance child rest) rest k s a (λ c path d. refl) ea) (next_from (an_instance other more) more k t b (λ c path d. refl) eb) hs)
+  cells_rest (a_primitive row rest) (a_primitive other more) (same, grew) k τ s t a b ea eb (h, hs) = (
+    first_from (a_primitive other more) k t b [] eb ∙ ap (λ (x : CellState). other.idle x) h ∙ ap (λ (x : Row). x.idle (s (k ∷ []))) (sym same) ∙ sym (first_from (a_primitive row rest) k s a [] ea),
+    cells_rest rest more grew (suc k) τ s t a b (next_from (a_primitive row rest) rest k s a (λ c path d. refl) ea) (next_from (a_primitive other more) more k t b (λ c path d. refl) eb) hs,
+  )
+  cells_rest (an_instance child rest) (an_instance other more) (inner, grew) k τ s t a b ea eb (h, hs) = (
+    grown_states child (at_cell k τ) (idle child (under k s)) (idle other (under k t)) (under k a) (under k b)
+        (λ path. sym (first_from (an_instance child rest) k s a path ea)) (λ path. sym (first_from (an_instance other more) k t b path eb))
+        (grown_rests child other inner (at_cell k τ) (under k s) (under k t) h),
+    cells_rest rest more grew (suc k) τ s t a b (next_from (an_instance child rest) rest k s a (λ c path d. refl) ea) (next_from (an_instance other more) more k t b (λ c path d. refl) eb) hs,
+  )

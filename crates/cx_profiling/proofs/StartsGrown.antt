@@ -22,7 +22,8 @@ use Rattle.cx_profiling.specs.Growing.{Grown}
 use Rattle.cx_profiling.specs.Instrumented.{address_width, counter_cells, memory_cell, name_at, main_component, with_counts}
 use Rattle.cx_profiling.proofs.ListedCells.{at_row, count_listed}
 use Rattle.cx_profiling.proofs.RestLemmas.{counter_row}
-use Rattle.cx_profiling.proofs.RoleLemmas.{counter_count, register_there, register_at, own_counters}
+use Rattle.cx_profiling.proofs.CounterLemmas.{counter_cells-length, in_counters}
+use Rattle.cx_profiling.proofs.RoleLemmas.{register_there, own_counters}
 use Rattle.cx_profiling.proofs.GrownTrees.{InTree, in_reach, is_whole}
 use Rattle.cx_profiling.proofs.PairLemmas.{CellPair, row_pair, child_pair, pair_at}
 use Rattle.cx_profiling.proofs.SightLemmas.{RowsAlike}
@@ -145,7 +146,7 @@ module _ (d : PlainDesign) (design : IsDesign d) where
     externals_grow =
         let added = counter_cells node.place names 0 (length (counters (component_of d k))) in
         let last = memory_cell node.place (name_at names (2 * length (counters (component_of d k)))) (length (shown_in (component_of d k))) ∷ [] in
-        let total : memory ≡ length node.cells + length added = (let second : length added ≡ 2 * length (counters (component_of d k)) = counter_count node.place names 0 (length (counters (component_of d k))) in omega (arith, second)) in
+        let total : memory ≡ length node.cells + length added = (let second : length added ≡ 2 * length (counters (component_of d k)) = counter_cells-length node.place names 0 (length (counters (component_of d k))) in omega (arith, second)) in
         ap externals_of is
         ∙ externals_joined 0 node.cells (added ++ last) (length node.cells) (omega arith)
         ∙ ap (λ list. externals_of node ++ list) (externals_joined (length node.cells) added last memory total
@@ -173,15 +174,15 @@ module _ (d : PlainDesign) (design : IsDesign d) where
       start_grown =
           node_start m k at (λ e below a b x y. kids_start_grown m e below a b x y) (start (tree_within d (suc m) k) words) (start (tree_within (with_counts d) (suc m) k) (words ++ new ∷ []))
           (λ c row e.
-              let few : c < length node.cells = subst (λ n. c < n) (count_listed (tree_within d m) node.cells) (row_within (cells_of (tree_within d (suc m) k)) c row e) in
-              loaded_there c (other_memory c few) ∙ ap (loaded_at (externals_of node) words c) (rows_start m k at c row e))
+          let few : c < length node.cells = subst (λ n. c < n) (count_listed (tree_within d m) node.cells) (row_within (cells_of (tree_within d (suc m) k)) c row e) in
+          loaded_there c (other_memory c few) ∙ ap (loaded_at (externals_of node) words c) (rows_start m k at c row e))
           (λ c e path. refl) (λ c e path. refl)
           (λ x own. registers x own)
         where
           counter_number : (x : Counter) → In (counters (tree_within d (suc m) k)) x → (n : ℕ) × (n < length (counters (component_of d k))) × (x.register ≡ length node.cells + 2 * n)
           counter_number x own =
               let listed = subst (λ list. In list x) (own_counters d k) (subst (λ tree. In (counters tree) x) (is_whole d at) own) in
-              let r = register_at (cells_of (component_of d k)) (length node.cells) 0 node.groups x listed in
+              let r = in_counters (cells_of (component_of d k)) (length node.cells) 0 node.groups x listed in
               (r.0, subst (λ list. r.0 < length list) (sym (own_counters d k)) r.1, r.2)
 
           loaded_there : (c : ℕ) → (c ≡ memory → ⊥) → start (tree_within (with_counts d) (suc m) k) (words ++ new ∷ []) (c ∷ []) ≡ loaded_at (externals_of node) words c (start_at (tree_within (with_counts d) (suc m) k) (c ∷ []))

@@ -15,11 +15,12 @@ use Rattle.cx_rules.specs.Ports.{component_of}
 use Rattle.cx_rules.specs.Wellformed.{IsDesign}
 use Rattle.cx_profiling.specs.Counters.{counters, counters_from, Shown, shown_in}
 use Rattle.cx_profiling.specs.Instrumented.{drive, moved_assigns, counted_groups, store_assigns, store_groups, address_width, name_at, main_component, with_counts}
+use Rattle.cx_profiling.proofs.GainedLemmas.{counted_groups-length}
 use Rattle.cx_profiling.proofs.PortLemmas.{IsNew}
 use Rattle.cx_profiling.proofs.LoneDrivers.{other_port, AllSilent, silent_joined, silent_owner, Lone, here, later, lone_after, lone_before, lone_drives}
 use Rattle.cx_profiling.proofs.WalkLemmas.{groups_joined}
 use Rattle.cx_profiling.proofs.RoleLemmas.{own_counters}
-use Rattle.cx_profiling.proofs.CounterDrives.{Away, old_silent, counted_silent, counted_length}
+use Rattle.cx_profiling.proofs.CounterDrives.{Away, old_silent, counted_silent}
 use Rattle.cx_profiling.proofs.InsideLemmas.{targets_inside}
 use Rattle.cx_profiling.proofs.PairLemmas.{stored}
 
@@ -108,16 +109,20 @@ store_group_at place names memory width n h j number [] x at = absurd (cc)
 store_group_at place names memory width n h j zero (y ∷ ys) x at =
     let is : y ≡ x = cc in
     let group_is : h ≡ h + 0 = omega arith in
-    let word : j ≡ j + 0 = omega arith in
-    (name_at names n, ap (λ z. record { name = name_at names n; kind = kinds.Plain; assigns = store_assigns place memory width h j z.port; place = place }) is
-    ∙ ap (λ q. record { name = name_at names n; kind = kinds.Plain; assigns = store_assigns place memory width q j x.port; place = place }) group_is
-    ∙ ap (λ q. record { name = name_at names n; kind = kinds.Plain; assigns = store_assigns place memory width (h + 0) q x.port; place = place }) word)
+    let word : j ≡ j + 0 = omega arith in (
+      name_at names n,
+      ap (λ z. record { name = name_at names n; kind = kinds.Plain; assigns = store_assigns place memory width h j z.port; place = place }) is
+          ∙ ap (λ q. record { name = name_at names n; kind = kinds.Plain; assigns = store_assigns place memory width q j x.port; place = place }) group_is
+          ∙ ap (λ q. record { name = name_at names n; kind = kinds.Plain; assigns = store_assigns place memory width (h + 0) q x.port; place = place }) word,
+    )
 store_group_at place names memory width n h j (suc number) (y ∷ ys) x at =
     let group_is : suc h + number ≡ h + suc number = omega arith in
     let word : suc j + number ≡ j + suc number = omega arith in
-    let r = store_group_at place names memory width (suc n) (suc h) (suc j) number ys x at in
-    (r.0, r.1 ∙ ap (λ q. record { name = r.0; kind = kinds.Plain; assigns = store_assigns place memory width q (suc j + number) x.port; place = place }) group_is
-    ∙ ap (λ q. record { name = r.0; kind = kinds.Plain; assigns = store_assigns place memory width (h + suc number) q x.port; place = place }) word)
+    let r = store_group_at place names memory width (suc n) (suc h) (suc j) number ys x at in (
+      r.0,
+      r.1 ∙ ap (λ q. record { name = r.0; kind = kinds.Plain; assigns = store_assigns place memory width q (suc j + number) x.port; place = place }) group_is
+          ∙ ap (λ q. record { name = r.0; kind = kinds.Plain; assigns = store_assigns place memory width (h + suc number) q x.port; place = place }) word,
+    )
 
 module _ (d : PlainDesign) (design : IsDesign d) (k : ℕ) (within : k < length d.components) (names : List (List ℕ)) (is : component_at (with_counts d) k ≡ main_component d k names) where
   abbrev part : PlainComponent
@@ -145,7 +150,7 @@ module _ (d : PlainDesign) (design : IsDesign d) (k : ℕ) (within : k < length 
   wire_away to_done g n e = tt
 
   count : 0 + length counted ≡ length part.groups
-  count = let same : length counted ≡ length part.groups = counted_length d part (cells_of (component_of d k)) (length part.cells) part.groups in omega (arith, same)
+  count = let same : length counted ≡ length part.groups = counted_groups-length d part (cells_of (component_of d k)) (length part.cells) part.groups in omega (arith, same)
 
   -- WHAT A STORE DRIVES
   pub store_driven : (w : StoreWire) (n : ℕ) (x : Shown) → slice_get (shown_in (component_of d k)) n ≡ Some x
@@ -173,7 +178,9 @@ module _ (d : PlainDesign) (design : IsDesign d) (k : ℕ) (within : k < length 
   store_group n x at =
       let zero_first : 0 + n ≡ n = omega arith in
       let r = store_group_at part.place names memory_place memory_width (suc (2 * length (counters (component_of d k)))) (length part.groups) 0 n (shown_in (component_of d k)) x at in
-      let first : length counted ≡ length part.groups = counted_length d part (cells_of (component_of d k)) (length part.cells) part.groups in
-      (r.0, ap (λ other. group_at other (length part.groups + n)) is ∙ ap (λ q. get_or (counted ++ stored d design k within names) (q + n) no_group) (sym first)
-      ∙ get_or-append-add counted (stored d design k within names) n no_group ∙ r.1
-      ∙ ap (λ q. record { name = r.0; kind = kinds.Plain; assigns = store_assigns part.place memory_place memory_width (length part.groups + n) q x.port; place = part.place }) zero_first)
+      let first : length counted ≡ length part.groups = counted_groups-length d part (cells_of (component_of d k)) (length part.cells) part.groups in (
+        r.0,
+        ap (λ other. group_at other (length part.groups + n)) is ∙ ap (λ q. get_or (counted ++ stored d design k within names) (q + n) no_group) (sym first)
+            ∙ get_or-append-add counted (stored d design k within names) n no_group ∙ r.1
+            ∙ ap (λ q. record { name = r.0; kind = kinds.Plain; assigns = store_assigns part.place memory_place memory_width (length part.groups + n) q x.port; place = part.place }) zero_first,
+      )

@@ -44,7 +44,8 @@ use Rattle.cx_profiling.specs.Growing.{Grown}
 use Rattle.cx_profiling.specs.Instrumented.{store_assigns, address_width, main_component, with_counts}
 use Rattle.cx_profiling.proofs.ListedCells.{count_listed}
 use Rattle.cx_profiling.proofs.RestLemmas.{grown_states}
-use Rattle.cx_profiling.proofs.RoleLemmas.{register_at, own_counters}
+use Rattle.cx_profiling.proofs.CounterLemmas.{in_counters}
+use Rattle.cx_profiling.proofs.RoleLemmas.{own_counters}
 use Rattle.cx_profiling.proofs.GrownTrees.{InTree, is_whole}
 use Rattle.cx_profiling.proofs.RowLemmas.{number}
 use Rattle.cx_profiling.proofs.AcyclicLemmas.{child_few}
@@ -205,16 +206,16 @@ module _ (d : PlainDesign) (design : IsDesign d) (accepted : IsAccepted d) (grow
       holds = memory_ended;
       grown = make_grown d design m k at τ s (idle j (left_by j unheld (group g) u))
           (λ c r e.
-              let less : c < length node.cells = subst (λ n. c < n) (count_listed (tree_within d m) node.cells) (row_within (cells_of i) c r e) in
-              same_ended (c ∷ []) (other_cell c (omega (arith, less))) ∙ grown_rows d design m k at τ s u between.grown c r e)
+          let less : c < length node.cells = subst (λ n. c < n) (count_listed (tree_within d m) node.cells) (row_within (cells_of i) c r e) in
+          same_ended (c ∷ []) (other_cell c (omega (arith, less))) ∙ grown_rows d design m k at τ s u between.grown c r e)
           (λ c child e.
-              let less : c < length node.cells = child_few (tree_within d m) node.cells c child e in
-              grown_states child (at_cell c τ) (under c s) (under c u) (under c s) (under c (idle j (left_by j unheld (group g) u))) (λ path. refl)
-              (λ path. sym (same_ended (c ∷ path) (deep c path (omega (arith, less))))) (grown_kid d design m k at τ s u between.grown c child e))
+          let less : c < length node.cells = child_few (tree_within d m) node.cells c child e in
+          grown_states child (at_cell c τ) (under c s) (under c u) (under c s) (under c (idle j (left_by j unheld (group g) u))) (λ path. refl)
+          (λ path. sym (same_ended (c ∷ path) (deep c path (omega (arith, less))))) (grown_kid d design m k at τ s u between.grown c child e))
           (λ y own.
-              let r = between.grown.1 y own in
-              let less : y.register < memory = register_before y own in
-              (r.0, same_ended (y.register ∷ []) (other_cell y.register less) ∙ r.1));
+          let r = between.grown.1 y own in
+          let less : y.register < memory = register_before y own in
+          (r.0, same_ended (y.register ∷ []) (other_cell y.register less) ∙ r.1));
     }
       where
         deep : (c : ℕ) (path : Path) → c < memory → c ∷ path ≡ memory ∷ [] → ⊥
@@ -223,7 +224,7 @@ module _ (d : PlainDesign) (design : IsDesign d) (accepted : IsAccepted d) (grow
         register_before : (y : Counter) → In (counters i) y → y.register < memory
         register_before y own =
             let listed = subst (λ list. In list y) (own_counters d k) (subst (λ tree. In (counters tree) y) (is_whole d at) own) in
-            let r = register_at (cells_of (component_of d k)) (length node.cells) 0 node.groups y listed in
+            let r = in_counters (cells_of (component_of d k)) (length node.cells) 0 node.groups y listed in
             let number : y.register ≡ length node.cells + 2 * r.0 = r.2 in
             let few : r.0 < length (counters (component_of d k)) = subst (λ list. r.0 < length list) (sym (own_counters d k)) r.1 in
             omega (arith, number, few)
