@@ -1,11 +1,11 @@
 -- The tree of a design is deep enough: no cell leads back to its component, so every component of the tree stands there with all below it.
-use Rattle.std.proofs.Common.{◌≡◌, ℕ, zero, suc, ◌+◌, ◌-◌, ◌<◌, ◌≤◌, inl, inr, List, [], ◌∷◌, length, refl, ap, ◌∙◌, subst, arith}
-use Rattle.cx_meaning.specs.Designs.{PlainKind, OfPrimitive, OfComponent, PlainCell, PlainDesign, component_at}
-use Rattle.cx_meaning.specs.Instances.{Node, Cells, add_cell, cells_for, tree_within}
+use Rattle.std.proofs.Common.{◌≡◌, ℕ, zero, suc, ◌+◌, ◌-◌, ◌<◌, ◌≤◌, List, [], ◌∷◌, length, refl, ap, ◌∙◌, subst, arith}
+use Rattle.cx_meaning.specs.Designs.{OfComponent, PlainCell, PlainDesign, component_at}
+use Rattle.cx_meaning.specs.Instances.{Node, tree_within}
 use Rattle.cx_meaning.specs.Sights.{In}
 use Rattle.cx_rules.specs.Ports.{component_of}
 use Rattle.cx_rules.specs.Wellformed.{IsDesign}
-use Rattle.cx_profiling.proofs.TreeLemmas.{IsWay, no_way, further, way_is_short}
+use Rattle.cx_profiling.proofs.TreeLemmas.{cells_same, IsWay, no_way, further, way_is_short}
 
 module _ (d : PlainDesign) where
   -- no chain of cells from component k is longer than so many levels
@@ -14,21 +14,9 @@ module _ (d : PlainDesign) where
   Deep (suc m) k = (cell : PlainCell) (j : ℕ) → In (component_at d k).cells cell → cell.kind ≡ OfComponent j → Deep m j
 
   -- with one level more stands the same tree
-  same_kind : (m : ℕ) (kind : PlainKind) (xs ys : Cells) → ((j : ℕ) → kind ≡ OfComponent j → tree_within d m j ≡ tree_within d (suc m) j) → xs ≡ ys
-      → add_cell (tree_within d m) kind xs ≡ add_cell (tree_within d (suc m)) kind ys
-  same_kind m (OfPrimitive p) xs ys each e = ap (add_cell (tree_within d m) (OfPrimitive p)) e
-  same_kind m (OfComponent j) xs ys each e =
-      ap (add_cell (tree_within d m) (OfComponent j)) e ∙ ap (λ tree. add_cell (λ x. tree) (OfComponent j) ys) (each j refl)
-
-  same_cells : (m : ℕ) (cells : List PlainCell) → ((cell : PlainCell) (j : ℕ) → In cells cell → cell.kind ≡ OfComponent j → tree_within d m j ≡ tree_within d (suc m) j)
-      → cells_for (tree_within d m) cells ≡ cells_for (tree_within d (suc m)) cells
-  same_cells m [] each = refl
-  same_cells m (cell ∷ rest) each =
-      same_kind m cell.kind (cells_for (tree_within d m) rest) (cells_for (tree_within d (suc m)) rest) (λ j is. each cell j (inl refl) is) (same_cells m rest (λ x j i is. each x j (inr i) is))
-
   deeper_tree : (m k : ℕ) → Deep m k → tree_within d m k ≡ tree_within d (suc m) k
   deeper_tree zero k h = absurd h
-  deeper_tree (suc m) k h = ap (Node (component_at d k)) (same_cells m (component_at d k).cells (λ cell j i is. deeper_tree m j (h cell j i is)))
+  deeper_tree (suc m) k h = ap (Node (component_at d k)) (cells_same (tree_within d m) (tree_within d (suc m)) (component_at d k).cells (λ cell j i is. deeper_tree m j (h cell j i is)))
 
   deeper : (m k : ℕ) → Deep m k → Deep (suc m) k
   deeper zero k h = absurd h
