@@ -48,4 +48,4 @@ pub mod MemoryLemmas
 pub mod StoreLemmas
 pub mod StartsGrown
 pub mod MainLemmas
-pub mod AlikeLemmas
+pub mod RunsAlikeLemmas
