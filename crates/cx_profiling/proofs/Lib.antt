@@ -10,4 +10,8 @@ pub mod CellLemmas
 pub mod NewAssigns
 pub mod ComponentLemmas
 pub mod DesignLemmas
+pub mod AssignTable
+pub mod AlikeLemmas
+pub mod WidthsKept
+pub mod NewSorts
 pub mod KnownProfiles
