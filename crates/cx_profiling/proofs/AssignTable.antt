@@ -1,11 +1,10 @@
 -- THE TABLE OF ASSIGNMENTS: each of an instrumented component is an old one, moved, or of a counter, of an output or of a store.
-use Rattle.std.proofs.Common.{◌≡◌, ℕ, zero, suc, ◌+◌, ◌*◌, ◌<◌, ◌≤◌, Bool, true, false, inl, inr, ◌⊎◌, List, [], ◌∷◌, ◌++◌, length, map, Option, Some, None, refl, sym, ap, ◌∙◌, subst, arith}
+use Rattle.std.proofs.Common.{◌≡◌, ℕ, zero, suc, ◌+◌, ◌*◌, ◌<◌, ◌≤◌, true, false, inl, inr, ◌⊎◌, List, [], ◌∷◌, ◌++◌, length, map, Option, Some, None, refl, sym, ap, ◌∙◌, subst, arith}
 use Rattle.std.specs.Prelude.{nat_eq}
 use Rattle.std.specs.List.{slice_get}
 use Rattle.std.proofs.lemmas.Bool.{cases_lt}
 use Rattle.cx_text.proofs.ListLaws.{behind, there_at, append-front, there_below as below_there}
 use Rattle.cx_text.proofs.OptionLaws.{same_some}
-use Rattle.cx_text.specs.declared.places.Place.{Place}
 use Rattle.cx_meaning.specs.declared.ports.PortRef.TheVariants as ports
 use Rattle.cx_meaning.specs.Designs.{PlainAssign, PlainGroup, group_at, PlainComponent, PlainDesign, component_at}
 use Rattle.cx_meaning.specs.Instances.{Cells, cells_of}
@@ -19,9 +18,8 @@ use Rattle.cx_rules.specs.Wellformed.{StandsIn}
 use Rattle.cx_rewrites.specs.Moving.{moved_assign}
 use Rattle.cx_frames.proofs.RuleLemmas.{OwnerOf, continuous, of_group, owner_of}
 use Rattle.cx_profiling.specs.Counters.{counters, counters_from, Shown, shown_in}
-use Rattle.cx_profiling.specs.FreeNames.{free_names, names_of}
-use Rattle.cx_profiling.specs.Instrumented.{is_reached, drive, counter_assigns, counter_cells, output_assigns, address_width, store_assigns, store_groups, moved_in, moved_assigns, group_with, counted_groups, kept_component, child_component, main_component, instrumented_component, with_counts}
-use Rattle.cx_profiling.proofs.GainedLemmas.{by_kind, components-length, component_at-with_counts, counted_groups-length, counted_groups-at, store_groups-length}
+use Rattle.cx_profiling.specs.Instrumented.{is_reached, drive, counter_assigns, output_assigns, address_width, store_assigns, store_groups, moved_in, moved_assigns, group_with, counted_groups, kept_component, child_component, main_component, instrumented_component, with_counts}
+use Rattle.cx_profiling.proofs.GainedLemmas.{by_kind, component_at-with_counts, counted_groups-length, counted_groups-at, store_groups-length}
 use Rattle.cx_profiling.proofs.NewAssigns.{counters-is, store_groups-at}
 
 module _ (d : PlainDesign) (k : ℕ) where
@@ -126,13 +124,13 @@ module _ (d : PlainDesign) (k : ℕ) where
       store : (n : ℕ) → g ≡ length part.groups + n → IsMade (Some g) a
       store n e =
           let here : slice_get (store_groups part.place names (length part.cells + 2 * own) (address_width (length shown)) (suc (2 * own)) (length part.groups) 0 shown) n ≡ Some (group_at (main_component d k names) g) =
-              sym (behind (counted_groups d part cells (length part.cells) part.groups) (store_groups part.place names (length part.cells + 2 * own) (address_width (length shown)) (suc (2 * own)) (length part.groups) 0 shown) g n (e ∙ ap (λ m. m + n) (sym long))) ∙ at in
+          sym (behind (counted_groups d part cells (length part.cells) part.groups) (store_groups part.place names (length part.cells + 2 * own) (address_width (length shown)) (suc (2 * own)) (length part.groups) 0 shown) g n (e ∙ ap (λ m. m + n) (sym long))) ∙ at in
           let s = store_groups-at part.place names (length part.cells + 2 * own) (address_width (length shown)) (suc (2 * own)) (length part.groups) 0 shown n (group_at (main_component d k names) g) here in
           let z : 0 + n ≡ n = omega arith in
           let j : In (store_assigns part.place (length part.cells + 2 * own) (address_width (length shown)) (length part.groups + n) n s.0.port) a =
-              subst (λ m. In (store_assigns part.place (length part.cells + 2 * own) (address_width (length shown)) (length part.groups + n) m s.0.port) a) z (subst (λ y. In y.assigns a) s.2 i) in
+          subst (λ m. In (store_assigns part.place (length part.cells + 2 * own) (address_width (length shown)) (length part.groups + n) m s.0.port) a) z (subst (λ y. In y.assigns a) s.2 i) in
           let long : length (store_groups part.place names (length part.cells + 2 * own) (address_width (length shown)) (suc (2 * own)) (length part.groups) 0 shown) ≡ length shown =
-              store_groups-length part.place names (length part.cells + 2 * own) (address_width (length shown)) (suc (2 * own)) (length part.groups) 0 shown in
+          store_groups-length part.place names (length part.cells + 2 * own) (address_width (length shown)) (suc (2 * own)) (length part.groups) 0 shown in
           let less : n < length shown = subst (λ m. n < m) long (below_there (store_groups part.place names (length part.cells + 2 * own) (address_width (length shown)) (suc (2 * own)) (length part.groups) 0 shown) n (group_at (main_component d k names) g) here) in
           subst (λ m. IsMade (Some m) a) (sym e) (of_store n s.0 s.1 is_main less j)
 

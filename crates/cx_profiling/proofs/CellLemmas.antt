@@ -91,4 +91,5 @@ module _ (k : ℕ) (some : 1 ≤ k) (few : k < 2 ^ 32) where
   pub memory_cell-fits : (d : PlainDesign) (main : ℕ) (place : Place) (name : List ℕ) → main ≡ d.main → IsCell d main (memory_cell place name k)
   memory_cell-fits d main place name e = record {
     kind = (some_by (row_at primitives.StdMemD1 (64 ∷ k ∷ address_width k ∷ [])) (memory_row 64 (k ∷ []) (address_width k ∷ [])) memory_row-is, no_timer primitives.StdMemD1 refl);
-    external = λ f. (e, ap (λ row. is_memory row.shape) memory_row_of, omega arith) }
+    external = λ f. (e, ap (λ row. is_memory row.shape) memory_row_of, omega arith);
+  }

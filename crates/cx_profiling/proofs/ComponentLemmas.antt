@@ -154,7 +154,8 @@ module _ (d : PlainDesign) (rules : IsDesign d) (k : ℕ) (there : k < length d.
     port_names = (rules.components k there).port_names;
     cell_names = (rules.components k there).cell_names;
     group_names = subst AreApart (sym (kept_named d part part.groups)) (rules.components k there).group_names;
-    no_primitive_name = (rules.components k there).no_primitive_name }
+    no_primitive_name = (rules.components k there).no_primitive_name;
+  }
     where
       count : length (with_counts d).components ≡ length d.components
       count = components-length d
@@ -216,7 +217,8 @@ module _ (d : PlainDesign) (rules : IsDesign d) (k : ℕ) (there : k < length d.
     child_counters = record {
       register = λ m less. let r = register_at part.place names 0 own m less in (r.0, behind part.cells (counter_cells part.place names 0 own) (length part.cells + 2 * m) (2 * m) refl ∙ r.1);
       adder = λ m less. let a = adder_at part.place names 0 own m less in let z : suc (length part.cells + 2 * m) ≡ length part.cells + suc (2 * m) = omega arith in
-          (a.0, behind part.cells (counter_cells part.place names 0 own) (suc (length part.cells + 2 * m)) (suc (2 * m)) z ∙ a.1) }
+          (a.0, behind part.cells (counter_cells part.place names 0 own) (suc (length part.cells + 2 * m)) (suc (2 * m)) z ∙ a.1);
+    }
 
     child_of_group : (g : ℕ) (a : PlainAssign) → g < length (child_component d k names).groups → In (group_at (child_component d k names) g).assigns a → FitsAssign (with_counts d) (child_component d k names) (Some g) a
     child_of_group g a less i =
@@ -244,7 +246,8 @@ module _ (d : PlainDesign) (rules : IsDesign d) (k : ℕ) (there : k < length d.
       port_names = subst AreApart ports_are (apart_ports (2 * own + length shown) names named (2 * own) (length shown) (omega arith));
       cell_names = subst AreApart cells_are (apart_cells (2 * own + length shown) names named 0 (2 * own) (omega arith));
       group_names = subst AreApart (sym (groups_named d part cells (length part.cells) part.groups)) (rules.components k there).group_names;
-      no_primitive_name = (rules.components k there).no_primitive_name }
+      no_primitive_name = (rules.components k there).no_primitive_name;
+    }
       where
         one : (cell : PlainCell) → In part.cells cell ⊎ In (counter_cells part.place names 0 own) cell → IsCell (with_counts d) k cell
         one cell (inl i) = old_cell (with_counts d) refl (components-length d) cell i
@@ -282,9 +285,12 @@ module _ (d : PlainDesign) (rules : IsDesign d) (k : ℕ) (there : k < length d.
     main_counters = record {
       register = λ m less. let r = register_at part.place names 0 own m less in
           (r.0, behind part.cells new_cells (length part.cells + 2 * m) (2 * m) refl ∙ front (counter_cells part.place names 0 own) (memory_cell part.place (name_at names (2 * own)) (length shown) ∷ []) (2 * m) (new_cell part.place r.0 primitives.Reg (64 ∷ []) false) r.1);
-      adder = λ m less. let a = adder_at part.place names 0 own m less in let z : suc (length part.cells + 2 * m) ≡ length part.cells + suc (2 * m) = omega arith in
-          (a.0, behind part.cells new_cells (suc (length part.cells + 2 * m)) (suc (2 * m)) z
-          ∙ front (counter_cells part.place names 0 own) (memory_cell part.place (name_at names (2 * own)) (length shown) ∷ []) (suc (2 * m)) (new_cell part.place a.0 primitives.Add (64 ∷ []) false) a.1) }
+      adder = λ m less. let a = adder_at part.place names 0 own m less in let z : suc (length part.cells + 2 * m) ≡ length part.cells + suc (2 * m) = omega arith in (
+        a.0,
+        behind part.cells new_cells (suc (length part.cells + 2 * m)) (suc (2 * m)) z
+            ∙ front (counter_cells part.place names 0 own) (memory_cell part.place (name_at names (2 * own)) (length shown) ∷ []) (suc (2 * m)) (new_cell part.place a.0 primitives.Add (64 ∷ []) false) a.1,
+      );
+    }
 
     memory_at : slice_get made.cells memory ≡ Some (memory_cell part.place (name_at names (2 * own)) (length shown))
     memory_at =
@@ -317,8 +323,8 @@ module _ (d : PlainDesign) (rules : IsDesign d) (k : ℕ) (there : k < length d.
             let s = store_groups-at part.place names memory (address_width (length shown)) (suc (2 * own)) (length part.groups) 0 shown n (group_at made g) here in
             let x = shown_port d k made rules there reached grown main_counters s.0 s.1 in
             let fits : FitsAssign (with_counts d) made (Some (length part.groups + n)) a =
-                store_fits (with_counts d) made part.place memory (address_width (length shown)) (length part.groups + n) (0 + n) s.0.port a memory_names (subst (λ m. m < length made.groups) e less) x.0 x.1
-                (subst (λ y. In y.assigns a) s.2 i) in
+            store_fits (with_counts d) made part.place memory (address_width (length shown)) (length part.groups + n) (0 + n) s.0.port a memory_names (subst (λ m. m < length made.groups) e less) x.0 x.1
+            (subst (λ y. In y.assigns a) s.2 i) in
             subst (λ m. FitsAssign (with_counts d) made (Some m) a) (sym e) fits
 
         number : (m n : ℕ) → m ≤ n → (i : ℕ) × (n ≡ m + i)
@@ -343,7 +349,8 @@ module _ (d : PlainDesign) (rules : IsDesign d) (k : ℕ) (there : k < length d.
       port_names = (rules.components k there).port_names;
       cell_names = subst AreApart cells_are (apart_cells (suc (2 * own + length shown)) names named 0 (suc (2 * own)) (omega arith));
       group_names = subst AreApart groups_are (apart_groups (suc (2 * own + length shown)) names named (suc (2 * own)) (length shown) (omega arith));
-      no_primitive_name = (rules.components k there).no_primitive_name }
+      no_primitive_name = (rules.components k there).no_primitive_name;
+    }
       where
         new : (cell : PlainCell) → In (counter_cells part.place names 0 own) cell ⊎ In (memory_cell part.place (name_at names (2 * own)) (length shown) ∷ []) cell → IsCell (with_counts d) k cell
         new cell (inl i) = counter_cells-fit (with_counts d) k part.place names 0 own cell i

@@ -75,12 +75,28 @@ in_shown_below child [] from x i = absurd i
 in_shown_below child (cell ∷ cells) from x i = by cell.kind refl i (in_shown_below child cells (suc from) x)
   where
     later : IsShownBelow child cells (suc from) x → IsShownBelow child (cell ∷ cells) from x
-    later s = record { c = suc s.c; cell = s.cell; here = s.here; component = s.component; kind = s.kind; m = s.m; less = s.less;
-      port = s.port ∙ let z : suc from + s.c ≡ from + suc s.c = omega arith in ap (λ n. ports.Cell n (first_gained (part_of (child s.component)) + s.m)) z }
+    later s = record {
+      c = suc s.c;
+      cell = s.cell;
+      here = s.here;
+      component = s.component;
+      kind = s.kind;
+      m = s.m;
+      less = s.less;
+      port = s.port ∙ let z : suc from + s.c ≡ from + suc s.c = omega arith in ap (λ n. ports.Cell n (first_gained (part_of (child s.component)) + s.m)) z;
+    }
 
     here_shown : (k : ℕ) → cell.kind ≡ OfComponent k → (m : ℕ) × (m < length (shown_in (child k))) × (x.port ≡ ports.Cell from (first_gained (part_of (child k)) + m)) → IsShownBelow child (cell ∷ cells) from x
-    here_shown k e (m, less, port) = record { c = 0; cell = cell; here = refl; component = k; kind = e; m = m; less = less;
-      port = port ∙ let z : from ≡ from + 0 = omega arith in ap (λ n. ports.Cell n (first_gained (part_of (child k)) + m)) z }
+    here_shown k e (m, less, port) = record {
+      c = 0;
+      cell = cell;
+      here = refl;
+      component = k;
+      kind = e;
+      m = m;
+      less = less;
+      port = port ∙ let z : from ≡ from + 0 = omega arith in ap (λ n. ports.Cell n (first_gained (part_of (child k)) + m)) z;
+    }
 
     here_or_later : (k : ℕ) → cell.kind ≡ OfComponent k → In (shown_at_cell from (first_gained (part_of (child k))) (shown_in (child k))) x ⊎ In (shown_below (cells_for child cells) (suc from)) x
         → (In (shown_below (cells_for child cells) (suc from)) x → IsShownBelow child cells (suc from) x) → IsShownBelow child (cell ∷ cells) from x

@@ -60,7 +60,8 @@ profile_port n = record {
   no_go = λ e. let z : 112 ≡ 103 = first e in omega arith;
   no_clk = λ e. let z : 112 ≡ 99 = first e in omega arith;
   no_reset = λ e. let z : 112 ≡ 114 = first e in omega arith;
-  no_done = λ e. let z : 112 ≡ 100 = first e in omega arith }
+  no_done = λ e. let z : 112 ≡ 100 = first e in omega arith;
+}
   where
     first : {name : List ℕ} → profile_name n ≡ name → 112 ≡ get_or name 0 0
     first e = ap (λ bytes. get_or bytes 0 0) e
@@ -80,7 +81,8 @@ module _ (d : PlainDesign) (rules : IsDesign d) (k : ℕ) (there : k < length d.
     many = let z : length (free_names (names_of part) needed) ≡ needed = free_names-length (names_of part) needed few in omega arith;
     apart = free_names-apart (names_of part) needed few;
     free = λ name i j. free_names-free (names_of part) needed name i j;
-    other = λ name i. by name (free_names-numbered (names_of part) needed name i) }
+    other = λ name i. by name (free_names-numbered (names_of part) needed name i);
+  }
     where
       by : (name : List ℕ) → (m : ℕ) × (name ≡ profile_name m) → IsPort (record { name = name; width = 64 })
       by name (m, e) = subst (λ x. IsPort (record { name = x; width = 64 })) (sym e) (profile_port m)
@@ -152,7 +154,7 @@ module _ (d : PlainDesign) (rules : IsDesign d) (k : ℕ) (there : k < length d.
         let more : length part.groups + i < length made.groups = (let z : length made.groups ≡ length part.groups + length shown = groups-length in omega arith) in
         let long : length old_groups ≡ length part.groups = counted_groups-length d part (cells_of (component_of d k)) (length part.cells) part.groups in
         let at : slice_get stores i ≡ Some (group_at made (length part.groups + i)) =
-            sym (behind old_groups stores (length part.groups + i) i (ap (λ n. n + i) (sym long))) ∙ there_below made.groups (length part.groups + i) more in
+        sym (behind old_groups stores (length part.groups + i) i (ap (λ n. n + i) (sym long))) ∙ there_below made.groups (length part.groups + i) more in
         let s = store_groups-at part.place names (length part.cells + 2 * own) (address_width (length shown)) (suc (2 * own)) (length part.groups) 0 shown i (group_at made (length part.groups + i)) at in
         (more, ap (λ y. is_comb y.kind) s.2)
 
@@ -164,7 +166,8 @@ module _ (d : PlainDesign) (rules : IsDesign d) (k : ℕ) (there : k < length d.
         new (i, less, e) = record {
           form = subst (IsForm made) (sym e) (enable_kept i less);
           test = λ p f. absurd (none_is_some p (ap test_in (sym e) ∙ f));
-          no_hole = λ p f. absurd (none_is_some p (ap test_in (sym e) ∙ f)) }
+          no_hole = λ p f. absurd (none_is_some p (ap test_in (sym e) ∙ f));
+        }
 
         by : In (visit Dynamic (moved_statement (moved_in d part) part.control)) v ⊎ In (visit_all Dynamic (statements_of (store_enables part.place (length part.groups) shown))) v → FitsStatement (with_counts d) made v
         by (inl j) = old_statement made grown v j
@@ -189,30 +192,34 @@ module _ (d : PlainDesign) (rules : IsDesign d) (k : ℕ) (there : k < length d.
         child names e f reached few =
             let grown = child_grown d k names reached f in
             let outs : length (child_component d k names).outputs ≡ length part.outputs + length shown =
-                length-append part.outputs (count_outputs names (2 * own) shown) ∙ ap (λ n. length part.outputs + n) (count_outputs-length names (2 * own) shown) in
+            length-append part.outputs (count_outputs names (2 * own) shown) ∙ ap (λ n. length part.outputs + n) (count_outputs-length names (2 * own) shown) in
             let cells : length (child_component d k names).cells ≡ length part.cells + 2 * own =
-                length-append part.cells (counter_cells part.place names 0 own) ∙ ap (λ n. length part.cells + n) (counter_cells-length part.place names 0 own) in
+            length-append part.cells (counter_cells part.place names 0 own) ∙ ap (λ n. length part.cells + n) (counter_cells-length part.place names 0 own) in
             let groups : length (child_component d k names).groups ≡ length part.groups = counted_groups-length d part (cells_of (component_of d k)) (length part.cells) part.groups in
             let size : length (child_component d k names).inputs + length (child_component d k names).outputs + length (child_component d k names).cells + length (child_component d k names).groups ≤ size_of (child_component d k names) =
-                many_parts (child_component d k names) in
+            many_parts (child_component d k names) in
             let room : 2 * own + length shown + length (names_of part) < 2 ^ 64 = (let t = taken in omega arith) in
-            record { part = child_part d rules k there names (subst (AreNew d rules k there (2 * own + length shown)) (sym e) (are_new (2 * own + length shown) room)) reached grown;
-              statements = old_statement (child_component d k names) grown }
+            record {
+              part = child_part d rules k there names (subst (AreNew d rules k there (2 * own + length shown)) (sym e) (are_new (2 * own + length shown) room)) reached grown;
+              statements = old_statement (child_component d k names) grown;
+            }
 
         main : (names : List (List ℕ)) → names ≡ free_names (names_of part) (suc (2 * own + length shown)) → nat_eq k d.main ≡ true → size_of (main_component d k names) < 2 ^ 32 → IsWhole (main_component d k names)
         main names e f few =
             let grown = main_grown d k names f in
             let same : k ≡ d.main = eqb-true k d.main f in
             let cells : length (main_component d k names).cells ≡ length part.cells + (2 * own + 1) =
-                length-append part.cells (counter_cells part.place names 0 own ++ memory_cell part.place (name_at names (2 * own)) (length shown) ∷ [])
-                ∙ ap (λ n. length part.cells + n) (length-append (counter_cells part.place names 0 own) (memory_cell part.place (name_at names (2 * own)) (length shown) ∷ []) ∙ ap (λ n. n + 1) (counter_cells-length part.place names 0 own)) in
+            length-append part.cells (counter_cells part.place names 0 own ++ memory_cell part.place (name_at names (2 * own)) (length shown) ∷ [])
+            ∙ ap (λ n. length part.cells + n) (length-append (counter_cells part.place names 0 own) (memory_cell part.place (name_at names (2 * own)) (length shown) ∷ []) ∙ ap (λ n. n + 1) (counter_cells-length part.place names 0 own)) in
             let groups : length (main_component d k names).groups ≡ length part.groups + length shown = groups-length names grown in
             let size : length (main_component d k names).inputs + length (main_component d k names).outputs + length (main_component d k names).cells + length (main_component d k names).groups ≤ size_of (main_component d k names) =
-                many_parts (main_component d k names) in
+            many_parts (main_component d k names) in
             let room : suc (2 * own + length shown) + length (names_of part) < 2 ^ 64 = (let t = taken in omega arith) in
-            record { part = main_part d rules k there names (subst (AreNew d rules k there (suc (2 * own + length shown))) (sym e) (are_new (suc (2 * own + length shown)) room)) same
-                (is_reached-from d rules k (inl (sym same))) grown (subst (λ j. 1 ≤ length (shown_in (component_of d j))) (sym same) counted) (omega arith);
-              statements = main_statement names grown }
+            record {
+              part = main_part d rules k there names (subst (AreNew d rules k there (suc (2 * own + length shown))) (sym e) (are_new (suc (2 * own + length shown)) room)) same
+                  (is_reached-from d rules k (inl (sym same))) grown (subst (λ j. 1 ≤ length (shown_in (component_of d j))) (sym same) counted) (omega arith);
+              statements = main_statement names grown;
+            }
 
 module _ (d : PlainDesign) (rules : IsDesign d) (counted : 1 ≤ entry_count d) (few : design_size (with_counts d) < 2 ^ 32) where
   some_components : 0 < length d.components
@@ -235,7 +242,13 @@ module _ (d : PlainDesign) (rules : IsDesign d) (counted : 1 ≤ entry_count d) 
         cells = p.cells;
         assigns = λ owner a stands. is_assign (with_counts d) some_grown k owner a (p.assigns owner a stands);
         statements = λ v i. is_statement (with_counts d) some_grown k v (w.statements v i);
-        inputs = p.inputs; outputs = p.outputs; port_names = p.port_names; cell_names = p.cell_names; group_names = p.group_names; no_primitive_name = p.no_primitive_name }
+        inputs = p.inputs;
+        outputs = p.outputs;
+        port_names = p.port_names;
+        cell_names = p.cell_names;
+        group_names = p.group_names;
+        no_primitive_name = p.no_primitive_name;
+      }
 
   -- NO NEW CELL is of a component
   counters_bare : (place : Place) (names : List (List ℕ)) (n k : ℕ) (cell : PlainCell) (j : ℕ) → In (counter_cells place names n k) cell → cell.kind ≡ OfComponent j → ⊥
@@ -319,7 +332,8 @@ module _ (d : PlainDesign) (rules : IsDesign d) (counted : 1 ≤ entry_count d) 
         components = λ k less. keeps_component k (subst (λ n. k < n) (components-length d) less);
         component_names = λ j k a b e. rules.component_names j k (subst (λ n. j < n) (components-length d) a) (subst (λ n. k < n) (components-length d) b) (sym (kept_name j a) ∙ e ∙ kept_name k b);
         not_recursive = λ k l. rules.not_recursive k (leads_old k k l);
-        few_parts = few }
+        few_parts = few;
+      }
 
 -- of any design
 pub instrumented_keeps : (d : PlainDesign) → IsDesign d → design_size (instrumented d) < 2 ^ 32 → IsDesign (instrumented d)

@@ -31,12 +31,26 @@ pub record FitsAssign (d : PlainDesign) (part : PlainComponent) (owner : Option 
 
 module _ (d : PlainDesign) (some : 0 < length d.components) (k : ℕ) where
   pub fits_assign : (owner : Option ℕ) (a : PlainAssign) → IsAssign (component_of d k) owner a → FitsAssign d (component_at d k) owner a
-  fits_assign owner a h = record { target = from_there d some k a.target h.target; no_literal = h.no_literal; own_hole = h.own_hole; no_bare_done = h.no_bare_done;
-    output_outside = h.output_outside; sources = λ p i. from_there d some k p.port (h.sources p i); no_hole = h.no_hole }
+  fits_assign owner a h = record {
+    target = from_there d some k a.target h.target;
+    no_literal = h.no_literal;
+    own_hole = h.own_hole;
+    no_bare_done = h.no_bare_done;
+    output_outside = h.output_outside;
+    sources = λ p i. from_there d some k p.port (h.sources p i);
+    no_hole = h.no_hole;
+  }
 
   pub is_assign : (owner : Option ℕ) (a : PlainAssign) → FitsAssign d (component_at d k) owner a → IsAssign (component_of d k) owner a
-  is_assign owner a h = record { target = is_there d some k a.target h.target; no_literal = h.no_literal; own_hole = h.own_hole; no_bare_done = h.no_bare_done;
-    output_outside = h.output_outside; sources = λ p i. is_there d some k p.port (h.sources p i); no_hole = h.no_hole }
+  is_assign owner a h = record {
+    target = is_there d some k a.target h.target;
+    no_literal = h.no_literal;
+    own_hole = h.own_hole;
+    no_bare_done = h.no_bare_done;
+    output_outside = h.output_outside;
+    sources = λ p i. is_there d some k p.port (h.sources p i);
+    no_hole = h.no_hole;
+  }
 
 -- a statement that fits
 pub record FitsStatement (d : PlainDesign) (part : PlainComponent) (v : Visited) : Type 0 where
@@ -106,7 +120,8 @@ module _ (d : PlainDesign) (rules : IsDesign d) (k : ℕ) (there : k < length d.
     no_bare_done = λ g e f x. h.no_bare_done g (moved_done d part a.target g e) (moved_always d part a.guard f) (moved_literal d part a.source.port 1 1 x);
     output_outside = λ n e. h.output_outside n (moved_output d part a.target n e);
     sources = λ p i. by p (source p i);
-    no_hole = λ p i. bare p (source p i) }
+    no_hole = λ p i. bare p (source p i);
+  }
     where
       source : (p : PlacedPort) → In (sources_of (moved_assign move a)) p → (q : PlacedPort) × In (sources_of a) q × (moved_port move q ≡ p)
       source p i = image_in (moved_port move) (sources_of a) p (subst (λ ps. In ps p) (sources_of-moved move a) i)
@@ -148,7 +163,8 @@ module _ (d : PlainDesign) (part : PlainComponent) where
     no_bare_done = λ g e f x. cell_done c p g e;
     output_outside = λ n e. absurd (cell_output c p n e);
     sources = one_source place (ports.Cell c p) source names;
-    no_hole = one_bare place (ports.Cell c p) source bare }
+    no_hole = one_bare place (ports.Cell c p) source bare;
+  }
     where
       cell_literal : (c p w v : ℕ) → ports.Cell c p ≡ ports.Literal w v → ⊥
       cell_literal c p w v e = absurd cc
@@ -168,7 +184,8 @@ module _ (d : PlainDesign) (part : PlainComponent) where
     no_bare_done = λ g e f x. output_done n g e;
     output_outside = λ m e. refl;
     sources = one_source place (ports.Output n) source names;
-    no_hole = one_bare place (ports.Output n) source bare }
+    no_hole = one_bare place (ports.Output n) source bare;
+  }
     where
       output_literal : (n w v : ℕ) → ports.Output n ≡ ports.Literal w v → ⊥
       output_literal n w v e = absurd cc
@@ -185,7 +202,8 @@ module _ (d : PlainDesign) (part : PlainComponent) where
     no_bare_done = λ h e f x. cell_literal c p x;
     output_outside = λ n e. absurd (done_output g n e);
     sources = one_source place (ports.Done g) (ports.Cell c p) names;
-    no_hole = one_bare place (ports.Done g) (ports.Cell c p) refl }
+    no_hole = one_bare place (ports.Done g) (ports.Cell c p) refl;
+  }
     where
       done_literal : (g w v : ℕ) → ports.Done g ≡ ports.Literal w v → ⊥
       done_literal g w v e = absurd cc

@@ -61,9 +61,15 @@ module _ (d : PlainDesign) where
       by : (b : Bool) → IsCountedAt part c (length (if b then record { group = g; register = c } ∷ counters_from cells (suc (suc c)) (suc g) gs else counters_from cells c (suc g) gs))
           (if b then group_with d part x (counter_assigns part.place c) ∷ counted_groups d part cells (suc (suc c)) gs else group_with d part x [] ∷ counted_groups d part cells c gs) 0 old
       by true =
-          let z : c ≡ c + 2 * 0 = omega arith in
-          (group_with d part x (counter_assigns part.place c), refl, (counter_assigns part.place c, ap (λ o. group_with d part o (counter_assigns part.place c)) same,
-          λ a i. (0, omega arith, subst (λ r. In (counter_assigns part.place r) a) z i)))
+          let z : c ≡ c + 2 * 0 = omega arith in (
+            group_with d part x (counter_assigns part.place c),
+            refl,
+            (
+              counter_assigns part.place c,
+              ap (λ o. group_with d part o (counter_assigns part.place c)) same,
+              λ a i. (0, omega arith, subst (λ r. In (counter_assigns part.place r) a) z i),
+            ),
+          )
       by false = (group_with d part x [], refl, ([], ap (λ o. group_with d part o []) same, λ a i. absurd i))
   counted_groups-at part cells c g (x ∷ gs) (suc n) old e = by (is_counted cells x) (counted_groups-at part cells (suc (suc c)) (suc g) gs n old e) (counted_groups-at part cells c (suc g) gs n old e)
     where
@@ -127,28 +133,49 @@ module _ (d : PlainDesign) where
       by (new, at, (more, is, counter)) = (new, at, ap (λ x. x.kind) is)
 
   pub kept_grown : (k : ℕ) → is_reached d k ≡ false → IsGrown k (kept_component d k)
-  kept_grown k e = record { name = refl; inputs = refl; declared = λ n decl at. at; cells = λ c cell at. at; groups = kept_groups k; invokes = length-map (moved_invoke d (component_at d k)) (component_at d k).invokes;
-    outputs = let z : gained d k ≡ 0 = gained_kept k e in omega arith }
+  kept_grown k e = record {
+    name = refl;
+    inputs = refl;
+    declared = λ n decl at. at;
+    cells = λ c cell at. at;
+    groups = kept_groups k;
+    invokes = length-map (moved_invoke d (component_at d k)) (component_at d k).invokes;
+    outputs = let z : gained d k ≡ 0 = gained_kept k e in omega arith;
+  }
 
   pub child_grown : (k : ℕ) (names : List (List ℕ)) → is_reached d k ≡ true → nat_eq k d.main ≡ false → IsGrown k (child_component d k names)
-  child_grown k names e f = record { name = refl; inputs = refl; declared = λ n decl at. front (component_at d k).outputs (count_outputs names (2 * length (counters (component_of d k))) (shown_in (component_of d k))) n decl at;
+  child_grown k names e f = record {
+    name = refl;
+    inputs = refl;
+    declared = λ n decl at. front (component_at d k).outputs (count_outputs names (2 * length (counters (component_of d k))) (shown_in (component_of d k))) n decl at;
     cells = λ c cell at. front (component_at d k).cells (counter_cells (component_at d k).place names 0 (length (counters (component_of d k)))) c cell at;
-    groups = counted_kinds k; invokes = length-map (moved_invoke d (component_at d k)) (component_at d k).invokes;
+    groups = counted_kinds k;
+    invokes = length-map (moved_invoke d (component_at d k)) (component_at d k).invokes;
     outputs = length-append (component_at d k).outputs (count_outputs names (2 * length (counters (component_of d k))) (shown_in (component_of d k)))
-        ∙ ap (λ n. length (component_at d k).outputs + n) (count_outputs-length names (2 * length (counters (component_of d k))) (shown_in (component_of d k)) ∙ sym (gained_child k e f)) }
+        ∙ ap (λ n. length (component_at d k).outputs + n) (count_outputs-length names (2 * length (counters (component_of d k))) (shown_in (component_of d k)) ∙ sym (gained_child k e f));
+  }
 
   pub main_grown : (k : ℕ) (names : List (List ℕ)) → nat_eq k d.main ≡ true → IsGrown k (main_component d k names)
-  main_grown k names e = record { name = refl; inputs = refl; declared = λ n decl at. at; invokes = length-map (moved_invoke d (component_at d k)) (component_at d k).invokes;
+  main_grown k names e = record {
+    name = refl;
+    inputs = refl;
+    declared = λ n decl at. at;
+    invokes = length-map (moved_invoke d (component_at d k)) (component_at d k).invokes;
     cells = λ c cell at. front (component_at d k).cells (counter_cells (component_at d k).place names 0 (length (counters (component_of d k)))
         ++ memory_cell (component_at d k).place (name_at names (2 * length (counters (component_of d k)))) (length (shown_in (component_of d k))) ∷ []) c cell at;
     groups = λ g old at. by g old (counted_kinds k g old at);
-    outputs = let z : gained d k ≡ 0 = gained_main k e in omega arith }
+    outputs = let z : gained d k ≡ 0 = gained_main k e in omega arith;
+  }
     where
       by : (g : ℕ) (old : PlainGroup)
           → (x : PlainGroup) × (slice_get (counted_groups d (component_at d k) (cells_of (component_of d k)) (length (component_at d k).cells) (component_at d k).groups) g ≡ Some x) × (x.kind ≡ old.kind)
           → (x : PlainGroup) × (slice_get (main_component d k names).groups g ≡ Some x) × (x.kind ≡ old.kind)
-      by g old (x, at, kind) = (x, front (counted_groups d (component_at d k) (cells_of (component_of d k)) (length (component_at d k).cells) (component_at d k).groups)
-          (store_groups (component_at d k).place names (length (component_at d k).cells + 2 * length (counters (component_of d k))) (address_width (length (shown_in (component_of d k)))) (suc (2 * length (counters (component_of d k)))) (length (component_at d k).groups) 0 (shown_in (component_of d k))) g x at, kind)
+      by g old (x, at, kind) = (
+        x,
+        front (counted_groups d (component_at d k) (cells_of (component_of d k)) (length (component_at d k).cells) (component_at d k).groups)
+            (store_groups (component_at d k).place names (length (component_at d k).cells + 2 * length (counters (component_of d k))) (address_width (length (shown_in (component_of d k)))) (suc (2 * length (counters (component_of d k)))) (length (component_at d k).groups) 0 (shown_in (component_of d k))) g x at,
+        kind,
+      )
 
   -- by the three kinds of components
   pub by_kind : (P : PlainComponent → Type 0) (k : ℕ)

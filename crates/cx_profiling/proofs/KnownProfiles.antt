@@ -49,14 +49,19 @@ abbrev dbl : PlainComponent
 dbl = record (component (reg 32 ∷ adder ∷ [])
     (named (codes "p") (write 0 0 (Input 0)) ∷ named (codes "q") (add_to 0 1 1 (Cell 0 2)) ∷ [])
     (assign (Output 0) (Cell 0 2) 1 ∷ []) (seq (enable 0 ∷ enable 1 ∷ []))) {
-  inputs = record { name = codes "x"; width = 32 } ∷ []; outputs = record { name = codes "y"; width = 32 } ∷ [] }
+      inputs = record { name = codes "x"; width = 32 } ∷ [];
+      outputs = record { name = codes "y"; width = 32 } ∷ [];
+    }
 
 abbrev call_with : ℕ → ℕ → PlainGroup
 call_with g v = plain_group (assign (Cell 1 1) (number v) 1 ∷ assign (Cell 1 0) (one_bit 1) 1 ∷ assign (Done g) (Cell 1 3) 1 ∷ [])
 
 abbrev calls : PlainDesign
-calls = record { components = component (mem ∷ child_cell 1 ∷ reg 32 ∷ [])
-    (named (codes "st") (store 0 (Cell 1 2)) ∷ named (codes "su") (store 1 (Cell 2 2)) ∷ call_with 2 3 ∷ call_with 3 5 ∷ []) [] (seq (enable 2 ∷ enable 3 ∷ enable 0 ∷ [])) ∷ dbl ∷ []; main = 0 }
+calls = record {
+  components = component (mem ∷ child_cell 1 ∷ reg 32 ∷ [])
+      (named (codes "st") (store 0 (Cell 1 2)) ∷ named (codes "su") (store 1 (Cell 2 2)) ∷ call_with 2 3 ∷ call_with 3 5 ∷ []) [] (seq (enable 2 ∷ enable 3 ∷ enable 0 ∷ [])) ∷ dbl ∷ [];
+  main = 0;
+}
 
 known_calls : run_told calls five 1000 ≡ Ends 12 ((10 ∷ []) ∷ [])
 known_calls = refl

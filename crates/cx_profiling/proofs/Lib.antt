@@ -14,4 +14,5 @@ pub mod AssignTable
 pub mod AlikeLemmas
 pub mod WidthsKept
 pub mod NewSorts
+pub mod WidthStage
 pub mod KnownProfiles

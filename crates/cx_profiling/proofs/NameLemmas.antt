@@ -109,7 +109,7 @@ few_taken : (taken : List (List ℕ)) (a n : ℕ) → a + n < 2 ^ 64 → how_man
 few_taken [] a n few = let z : how_many (λ name. is_among name []) (map profile_name (range_with_len a n)) ≡ 0 = none_among (map profile_name (range_with_len a n)) in omega arith
 few_taken (x ∷ xs) a n few =
     let both : how_many (λ name. is_among name (x ∷ xs)) (map profile_name (range_with_len a n)) ≤ how_many (λ name. same_name x name) (map profile_name (range_with_len a n)) + how_many (λ name. is_among name xs) (map profile_name (range_with_len a n)) =
-        how_many-either (λ name. same_name x name) (λ name. is_among name xs) (λ name. is_among name (x ∷ xs)) (map profile_name (range_with_len a n)) (λ name. is_among-more name x xs) in
+    how_many-either (λ name. same_name x name) (λ name. is_among name xs) (λ name. is_among name (x ∷ xs)) (map profile_name (range_with_len a n)) (λ name. is_among-more name x xs) in
     let one : how_many (λ name. same_name x name) (map profile_name (range_with_len a n)) ≤ 1 = one_is x a n few in
     let rest : how_many (λ name. is_among name xs) (map profile_name (range_with_len a n)) ≤ length xs = few_taken xs a n few in
     omega arith
@@ -128,7 +128,7 @@ pub free_names-length : (taken : List (List ℕ)) (k : ℕ) → k + length taken
 free_names-length taken k few =
     let all : length (map profile_name (range_with_len 0 (k + length taken))) ≡ k + length taken = long 0 (k + length taken) in
     let parts : length (candidates taken (k + length taken)) + how_many (λ name. is_among name taken) (map profile_name (range_with_len 0 (k + length taken))) ≡ length (map profile_name (range_with_len 0 (k + length taken))) =
-        filter-length (λ name. is_among name taken) (map profile_name (range_with_len 0 (k + length taken))) in
+    filter-length (λ name. is_among name taken) (map profile_name (range_with_len 0 (k + length taken))) in
     let some : how_many (λ name. is_among name taken) (map profile_name (range_with_len 0 (k + length taken))) ≤ length taken = few_taken taken 0 (k + length taken) (omega arith) in
     length-take k (candidates taken (k + length taken)) (omega arith)
   where

@@ -73,7 +73,7 @@ module _ (d : PlainDesign) (k : ℕ) (new : PlainComponent) where
         by : (counter : Counter) × In (counters (component_of d k)) counter × (shown_here counter ≡ x) → IsCellPort (with_counts d) x.port
         by (counter, j, same) =
             let all : counters (component_of d k) ≡ counters_from (cells_of (component_of d k)) (length (component_at d k).cells) 0 (component_at d k).groups =
-                counters-is (component_of d k) ∙ ap (λ part. counters_from (cells_of (component_of d k)) (length part.cells) 0 part.groups) (part_is d k) in
+            counters-is (component_of d k) ∙ ap (λ part. counters_from (cells_of (component_of d k)) (length part.cells) 0 part.groups) (part_is d k) in
             let m = in_counters (cells_of (component_of d k)) (length (component_at d k).cells) 0 (component_at d k).groups counter (subst (λ list. In list counter) all j) in
             let less : m.0 < length (counters (component_of d k)) = subst (λ list. m.0 < length list) (sym all) m.1 in
             let port : x.port ≡ ports.Cell (length (component_at d k).cells + 2 * m.0) 2 = ap (λ y. y.port) (sym same) ∙ ap (λ r. ports.Cell r 2) m.2 in
@@ -87,11 +87,11 @@ module _ (d : PlainDesign) (k : ℕ) (new : PlainComponent) where
         let component : part_of (component_of d s.component) ≡ component_at d s.component = part_is d s.component in
         let port : x.port ≡ ports.Cell s.c (first_gained (component_at d s.component) + s.m) = s.port ∙ ap (λ n. ports.Cell n (first_gained (part_of (component_of d s.component)) + s.m)) zero_more ∙ ap (λ part. ports.Cell s.c (first_gained part + s.m)) component in
         let within : first_gained (component_at d s.component) + s.m < kind_ports d (OfComponent s.component) + gained_by d (OfComponent s.component) =
-            let l : s.m < gained d s.component = subst (λ n. s.m < n) (sym more) s.less in counted l in
+        let l : s.m < gained d s.component = subst (λ n. s.m < n) (sym more) s.less in counted l in
         let count : kind_ports (with_counts d) (OfComponent s.component) ≡ kind_ports d (OfComponent s.component) + gained_by d (OfComponent s.component) =
-            kind_ports-with_counts d (OfComponent s.component) (child_there d rules k s.component s.cell there here s.kind) in
+        kind_ports-with_counts d (OfComponent s.component) (child_there d rules k s.component s.cell there here s.kind) in
         let all : first_gained (component_at d s.component) + s.m < kind_ports (with_counts d) s.cell.kind =
-            subst (λ kind. first_gained (component_at d s.component) + s.m < kind_ports (with_counts d) kind) (sym s.kind) (subst (λ n. first_gained (component_at d s.component) + s.m < n) (sym count) within) in
+        subst (λ kind. first_gained (component_at d s.component) + s.m < kind_ports (with_counts d) kind) (sym s.kind) (subst (λ n. first_gained (component_at d s.component) + s.m < n) (sym count) within) in
         subst (IsCellPort (with_counts d)) (sym port) ((s.cell, grown.cells s.c s.cell s.here, all), refl)
       where
         zero_more : 0 + s.c ≡ s.c
@@ -153,6 +153,9 @@ store_groups-at place names memory width n g j (x ∷ xs) (suc i) y e = by (stor
     by (z, here, same) =
         let a : suc n + i ≡ n + suc i = omega arith in
         let b : suc g + i ≡ g + suc i = omega arith in
-        let c : suc j + i ≡ j + suc i = omega arith in
-        (z, inr here, same ∙ ap (λ m. store_group place names memory width m (suc g + i) (suc j + i) z.port) a ∙ ap (λ m. store_group place names memory width (n + suc i) m (suc j + i) z.port) b
-        ∙ ap (λ m. store_group place names memory width (n + suc i) (g + suc i) m z.port) c)
+        let c : suc j + i ≡ j + suc i = omega arith in (
+          z,
+          inr here,
+          same ∙ ap (λ m. store_group place names memory width m (suc g + i) (suc j + i) z.port) a ∙ ap (λ m. store_group place names memory width (n + suc i) m (suc j + i) z.port) b
+              ∙ ap (λ m. store_group place names memory width (n + suc i) (g + suc i) m z.port) c,
+        )

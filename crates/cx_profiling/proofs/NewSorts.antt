@@ -1,35 +1,31 @@
 -- The widths and sides of new cells, and of ports that show counts.
-use Rattle.std.proofs.Common.{◌≡◌, ℕ, zero, suc, ◌+◌, ◌-◌, ◌*◌, ◌^◌, ◌<◌, ◌≤◌, Bool, true, false, not, ◌&&◌, inl, inr, ◌⊎◌, List, [], ◌∷◌, ◌++◌, length, map, Option, Some, None, refl, sym, ap, ◌∙◌, subst, arith}
+use Rattle.std.proofs.Common.{◌≡◌, ℕ, zero, suc, ◌+◌, ◌-◌, ◌*◌, ◌^◌, ◌<◌, ◌≤◌, Bool, true, false, not, ◌&&◌, inl, inr, ◌⊎◌, List, [], ◌∷◌, ◌++◌, length, map, Some, None, refl, sym, ap, ◌∙◌, subst, arith}
 use Rattle.std.specs.Prelude.{nat_eq, nat_le, nat_lt, option_map, if◌then◌else◌}
 use Rattle.std.specs.List.{slice_get}
 use Rattle.std.proofs.lemmas.Bool.{lt-ltb, le-ltb, le-leb, leb-true, eqb-true}
 use Rattle.std.proofs.lemmas.Nat.{pow_pos}
 use Rattle.std.proofs.Math.Nat.{pow-suc}
 use Rattle.cx_text.proofs.ListLaws.{front, behind, there_below}
-use Rattle.cx_text.proofs.BoolLaws.{by_test}
 use Rattle.cx_text.proofs.NumberLaws.{true_false, lt_true}
-use Rattle.cx_text.specs.declared.places.Place.{Place}
 use Rattle.cx_prim.specs.declared.names.PrimitiveName.TheVariants as primitives
 use Rattle.cx_prim.specs.Rows.{is_output_side}
 use Rattle.cx_prim.specs.MemoryRows.{memory_row}
 use Rattle.cx_meaning.specs.declared.ports.PortRef.{PortRef}
 use Rattle.cx_meaning.specs.declared.ports.PortRef.TheVariants as ports
-use Rattle.cx_meaning.specs.declared.kinds.PortDecl.{PortDecl}
 use Rattle.cx_meaning.specs.Rows.{side_of}
-use Rattle.cx_meaning.specs.Designs.{PlainKind, OfPrimitive, OfComponent, PlainCell, PlainComponent, PlainDesign, component_at}
+use Rattle.cx_meaning.specs.Designs.{OfPrimitive, PlainCell, PlainComponent, PlainDesign, component_at}
 use Rattle.cx_meaning.specs.Instances.{Instance, cells_of, cells_for, part_of}
-use Rattle.cx_meaning.specs.Sights.{In, PartPort, AnInput, AnOutput, ItsDone, part_port, output_port, later_port}
+use Rattle.cx_meaning.specs.Sights.{In, AnInput, AnOutput, ItsDone, part_port, output_port, later_port}
 use Rattle.cx_meaning.proofs.SightsLaws.{in_at, in_either, image_in}
-use Rattle.cx_rules.specs.Ports.{component_of, keeps_literal, width_of, is_source_only, is_target_only, part_width, is_part_output}
+use Rattle.cx_rules.specs.Ports.{component_of, width_of, is_source_only, is_target_only, part_width, is_part_output}
 use Rattle.cx_rules.proofs.PortsLemmas.{part_is}
 use Rattle.cx_rules.specs.Wellformed.{IsDesign}
-use Rattle.cx_profiling.specs.Counters.{Counter, counters, counters_from, Shown, shown_here, shown_in, shown_below, first_gained}
-use Rattle.cx_profiling.specs.FreeNames.{free_names, names_of}
-use Rattle.cx_profiling.specs.Instrumented.{is_reached, new_cell, name_at, counter_cells, count_outputs, width_from, address_width, memory_cell, kept_component, child_component, main_component, instrumented_component, with_counts}
+use Rattle.cx_profiling.specs.Counters.{counters, counters_from, Shown, shown_here, shown_in, shown_below, first_gained}
+use Rattle.cx_profiling.specs.Instrumented.{is_reached, new_cell, name_at, counter_cells, count_outputs, width_from, address_width, memory_cell, child_component, main_component, instrumented_component, with_counts}
 use Rattle.cx_profiling.proofs.TreeLemmas.{component_of-is, child_there}
 use Rattle.cx_profiling.proofs.ReachedLemmas.{child_reached, is_reached-from}
 use Rattle.cx_profiling.proofs.CounterLemmas.{register_at, adder_at, counter_cells-length, in_counters, IsShownBelow, in_shown_below}
-use Rattle.cx_profiling.proofs.GainedLemmas.{by_kind, components-length, component_at-with_counts, grown_at, IsGrown}
+use Rattle.cx_profiling.proofs.GainedLemmas.{by_kind, components-length, component_at-with_counts, grown_at}
 use Rattle.cx_profiling.proofs.NewAssigns.{HasCounters, counters-is, shown_in-is}
 use Rattle.cx_profiling.proofs.CellLemmas.{memory_row_of, width_from-ge, width_from-le}
 use Rattle.cx_profiling.proofs.AlikeLemmas.{kind_width, is_kind_output, width_at, output_at}
@@ -74,12 +70,17 @@ module _ (d : PlainDesign) (k : ℕ) where
 
   counters_with : (more : List PlainCell) (names : List (List ℕ)) (new : PlainComponent) → new.cells ≡ part.cells ++ (counter_cells part.place names 0 own ++ more) → HasCounters d k new
   counters_with more names new cells = record {
-    register = λ m less. let r = register_at part.place names 0 own m less in
-        (r.0, ap (λ cs. slice_get cs (length part.cells + 2 * m)) cells
-        ∙ behind part.cells (counter_cells part.place names 0 own ++ more) (length part.cells + 2 * m) (2 * m) refl ∙ front (counter_cells part.place names 0 own) more (2 * m) (new_cell part.place r.0 primitives.Reg (64 ∷ []) false) r.1);
-    adder = λ m less. let a = adder_at part.place names 0 own m less in let z : suc (length part.cells + 2 * m) ≡ length part.cells + suc (2 * m) = omega arith in
-        (a.0, ap (λ cs. slice_get cs (suc (length part.cells + 2 * m))) cells
-        ∙ behind part.cells (counter_cells part.place names 0 own ++ more) (suc (length part.cells + 2 * m)) (suc (2 * m)) z ∙ front (counter_cells part.place names 0 own) more (suc (2 * m)) (new_cell part.place a.0 primitives.Add (64 ∷ []) false) a.1) }
+    register = λ m less. let r = register_at part.place names 0 own m less in (
+      r.0,
+      ap (λ cs. slice_get cs (length part.cells + 2 * m)) cells
+          ∙ behind part.cells (counter_cells part.place names 0 own ++ more) (length part.cells + 2 * m) (2 * m) refl ∙ front (counter_cells part.place names 0 own) more (2 * m) (new_cell part.place r.0 primitives.Reg (64 ∷ []) false) r.1,
+    );
+    adder = λ m less. let a = adder_at part.place names 0 own m less in let z : suc (length part.cells + 2 * m) ≡ length part.cells + suc (2 * m) = omega arith in (
+      a.0,
+      ap (λ cs. slice_get cs (suc (length part.cells + 2 * m))) cells
+          ∙ behind part.cells (counter_cells part.place names 0 own ++ more) (suc (length part.cells + 2 * m)) (suc (2 * m)) z ∙ front (counter_cells part.place names 0 own) more (suc (2 * m)) (new_cell part.place a.0 primitives.Add (64 ∷ []) false) a.1,
+    );
+  }
 
   has_counters : HasInstance d k → HasCounters d k (instrumented_component d k)
   has_counters has = by_kind d (λ new. HasInstance d k → HasCounters d k new) k
@@ -180,7 +181,7 @@ module _ (d : PlainDesign) (rules : IsDesign d) (k : ℕ) (there : k < length d.
   own_shown has x h =
       let s = image_in shown_here (counters (component_of d k)) x h in
       let all : counters (component_of d k) ≡ counters_from (cells_of (component_of d k)) (length (component_at d k).cells) 0 (component_at d k).groups =
-          counters-is (component_of d k) ∙ ap (λ part. counters_from (cells_of (component_of d k)) (length part.cells) 0 part.groups) (part_is d k) in
+      counters-is (component_of d k) ∙ ap (λ part. counters_from (cells_of (component_of d k)) (length part.cells) 0 part.groups) (part_is d k) in
       let m = in_counters (cells_of (component_of d k)) (length (component_at d k).cells) 0 (component_at d k).groups s.0 (subst (λ list. In list s.0) all s.1) in
       let less : m.0 < length (counters (component_of d k)) = subst (λ list. m.0 < length list) (sym all) m.1 in
       let port : x.port ≡ ports.Cell (length (component_at d k).cells + 2 * m.0) 2 = ap (λ y. y.port) (sym s.2) ∙ ap (λ r. ports.Cell r 2) m.2 in
@@ -205,18 +206,18 @@ module _ (d : PlainDesign) (rules : IsDesign d) (k : ℕ) (there : k < length d.
       let is : part_of (component_of d s.component) ≡ component_at d s.component = part_is d s.component in
       let zero_more : 0 + s.c ≡ s.c = omega arith in
       let port : x.port ≡ ports.Cell s.c (first_gained (component_at d s.component) + s.m) =
-          s.port ∙ ap (λ n. ports.Cell n (first_gained (part_of (component_of d s.component)) + s.m)) zero_more ∙ ap (λ part. ports.Cell s.c (first_gained part + s.m)) is in
+      s.port ∙ ap (λ n. ports.Cell n (first_gained (part_of (component_of d s.component)) + s.m)) zero_more ∙ ap (λ part. ports.Cell s.c (first_gained part + s.m)) is in
       let own_output = gained_output d s.component child.1 child.0 s.m s.less in
       let made : component_at (with_counts d) s.component ≡ instrumented_component d s.component = component_at-with_counts d s.component child_in in
       let output : slice_get (component_at (with_counts d) s.component).outputs (length (component_at d s.component).outputs + s.m) ≡ Some (record { name = own_output.0; width = 64 }) =
-          ap (λ part. slice_get part.outputs (length (component_at d s.component).outputs + s.m)) made ∙ own_output.1 in
+      ap (λ part. slice_get part.outputs (length (component_at d s.component).outputs + s.m)) made ∙ own_output.1 in
       let numbered : part_port (component_at (with_counts d) s.component) (first_gained (component_at d s.component) + s.m) ≡ AnOutput (length (component_at d s.component).outputs + s.m) =
-          gained_port (component_at (with_counts d) s.component) (length (component_at d s.component).inputs) (length (component_at d s.component).outputs) s.m (ap length (grown_at d s.component child_in).inputs)
-          (there_below (component_at (with_counts d) s.component).outputs (length (component_at d s.component).outputs + s.m) (record { name = own_output.0; width = 64 }) output) in
+      gained_port (component_at (with_counts d) s.component) (length (component_at d s.component).inputs) (length (component_at d s.component).outputs) s.m (ap length (grown_at d s.component child_in).inputs)
+      (there_below (component_at (with_counts d) s.component).outputs (length (component_at d s.component).outputs + s.m) (record { name = own_output.0; width = 64 }) output) in
       let wide : kind_width (with_counts d) s.cell.kind (first_gained (component_at d s.component) + s.m) ≡ Some 64 =
-          ap (λ kind. kind_width (with_counts d) kind (first_gained (component_at d s.component) + s.m)) s.kind ∙ ap (part_width (component_at (with_counts d) s.component)) numbered ∙ ap (option_map (λ decl. decl.width)) output in
+      ap (λ kind. kind_width (with_counts d) kind (first_gained (component_at d s.component) + s.m)) s.kind ∙ ap (part_width (component_at (with_counts d) s.component)) numbered ∙ ap (option_map (λ decl. decl.width)) output in
       let side : is_kind_output (with_counts d) s.cell.kind (first_gained (component_at d s.component) + s.m) ≡ true =
-          ap (λ kind. is_kind_output (with_counts d) kind (first_gained (component_at d s.component) + s.m)) s.kind ∙ ap is_part_output numbered in
+      ap (λ kind. is_kind_output (with_counts d) kind (first_gained (component_at d s.component) + s.m)) s.kind ∙ ap is_part_output numbered in
       let at : slice_get (instrumented_component d k).cells s.c ≡ Some s.cell = ap (λ part. slice_get part.cells s.c) (sym same) ∙ (grown_at d k there).cells s.c s.cell s.here in
       let sort = cell_sort s.c (first_gained (component_at d s.component) + s.m) 64 true s.cell at wide side in
       subst (λ p. IsSource p 64) (sym port) (sort.0, ap not sort.1)
@@ -235,9 +236,11 @@ module _ (d : PlainDesign) (rules : IsDesign d) (k : ℕ) (there : k < length d.
   pub shown_output : nat_eq k d.main ≡ false → is_reached d k ≡ true → (n : ℕ) → length (component_at d k).outputs ≤ n → n < length (component_at d k).outputs + length (shown_in (component_of d k)) → IsTarget (ports.Output n) 64
   shown_output f r n from to =
       let m = behind_by (length (component_at d k).outputs) n from in
-      let o = gained_output d k f r m.0 (let e : n ≡ length (component_at d k).outputs + m.0 = m.1 in omega arith) in
-      (ap (λ part. option_map (λ decl. decl.width) (slice_get part.outputs n)) (part_is (with_counts d) k ∙ same) ∙ ap (λ x. option_map (λ decl. decl.width) (slice_get (instrumented_component d k).outputs x)) m.1
-      ∙ ap (option_map (λ decl. decl.width)) o.1, refl)
+      let o = gained_output d k f r m.0 (let e : n ≡ length (component_at d k).outputs + m.0 = m.1 in omega arith) in (
+        ap (λ part. option_map (λ decl. decl.width) (slice_get part.outputs n)) (part_is (with_counts d) k ∙ same) ∙ ap (λ x. option_map (λ decl. decl.width) (slice_get (instrumented_component d k).outputs x)) m.1
+            ∙ ap (option_map (λ decl. decl.width)) o.1,
+        refl,
+      )
     where
       behind_by : (m n : ℕ) → m ≤ n → (i : ℕ) × (n ≡ m + i)
       behind_by zero n le = (n, omega arith)
@@ -274,8 +277,10 @@ module _ (d : PlainDesign) (rules : IsDesign d) (k : ℕ) (there : k < length d.
 
     -- and of the address of a word
     pub address_source : (j : ℕ) → j < words → IsSource (ports.Literal (address_width words) j) (address_width words)
-    address_source j less =
-        (ap (λ b. if b && nat_le (address_width words) 128 && nat_lt j (2 ^ address_width words) then Some (address_width words) else None) (le-leb 1 (address_width words) (width_from-ge words 1 words (omega arith)))
-        ∙ ap (λ b. if true && b && nat_lt j (2 ^ address_width words) then Some (address_width words) else None)
-        (le-leb (address_width words) 128 (let w : address_width words ≤ 32 = width_from-le words 1 words (omega arith) (omega arith) in omega arith))
-        ∙ ap (λ b. if true && true && b then Some (address_width words) else None) (lt_true j (2 ^ address_width words) (names_each words j less)), refl)
+    address_source j less = (
+      ap (λ b. if b && nat_le (address_width words) 128 && nat_lt j (2 ^ address_width words) then Some (address_width words) else None) (le-leb 1 (address_width words) (width_from-ge words 1 words (omega arith)))
+          ∙ ap (λ b. if true && b && nat_lt j (2 ^ address_width words) then Some (address_width words) else None)
+          (le-leb (address_width words) 128 (let w : address_width words ≤ 32 = width_from-le words 1 words (omega arith) (omega arith) in omega arith))
+          ∙ ap (λ b. if true && true && b then Some (address_width words) else None) (lt_true j (2 ^ address_width words) (names_each words j less)),
+      refl,
+    )

@@ -1,5 +1,5 @@
 -- An instrumented design keeps the rules on widths, literals, targets and sources.
-use Rattle.std.proofs.Common.{◌≡◌, ℕ, zero, suc, ◌+◌, ◌*◌, ◌^◌, ◌<◌, ◌≤◌, Bool, true, false, not, ◌&&◌, inl, inr, ◌⊎◌, List, [], ◌∷◌, ◌++◌, length, map, Option, Some, None, refl, sym, ap, ◌∙◌, subst, arith}
+use Rattle.std.proofs.Common.{◌≡◌, ℕ, zero, suc, ◌+◌, ◌<◌, Bool, true, false, inl, inr, List, [], ◌∷◌, ◌++◌, length, map, Option, Some, None, refl, sym, ap, ◌∙◌, subst, arith}
 use Rattle.std.specs.Prelude.{option_map, if◌then◌else◌}
 use Rattle.std.specs.List.{slice_get}
 use Rattle.cx_text.proofs.OptionLaws.{same_some}
@@ -15,10 +15,10 @@ use Rattle.cx_meaning.specs.Sights.{In}
 use Rattle.cx_meaning.proofs.ActiveLemmas.{placed_still, placed_first}
 use Rattle.cx_meaning.proofs.DesignsLemmas.{owned_has, there_below}
 use Rattle.cx_meaning.proofs.SightsLaws.{number_in, in_left, in_right, image_in}
-use Rattle.cx_rules.specs.Accepted.{IsAccepted, KeepsStage}
-use Rattle.cx_rules.specs.Items.{Pair, atoms_of, comparisons_of, sources_of}
+use Rattle.cx_rules.specs.Accepted.{IsAccepted}
+use Rattle.cx_rules.specs.Items.{Pair, atoms_of, sources_of}
 use Rattle.cx_rules.specs.Ports.{component_of, width_of, path_of, is_source_only, is_target_only}
-use Rattle.cx_rules.specs.Spots.{AnAssign, Spot, AssignRule, OnAssign}
+use Rattle.cx_rules.specs.Spots.{AnAssign, AssignRule, OnAssign}
 use Rattle.cx_rules.specs.WidthRules.{differ, pairs_of, first_unequal, is_wide, first_wide, IsBadLiteral, BreaksWidth, BreaksGuardWidth, BreaksLiteral, BreaksNotATarget, BreaksNotASource}
 use Rattle.cx_rules.specs.Wellformed.{IsDesign, StandsIn}
 use Rattle.cx_rewrites.specs.Moving.{moved_port, moved_assign}
@@ -115,13 +115,15 @@ module _ (d : PlainDesign) (rules : IsDesign d) (accepted : IsAccepted d) (k : �
         named = fits.sources
 
         same : (pair : Pair) → In (pairs_of a) pair → (width_of (component_of (with_counts d) k) (move pair.first) ≡ width_of (component_of d k) pair.first) × (width_of (component_of (with_counts d) k) (move pair.second) ≡ width_of (component_of d k) pair.second)
-        same pair (inl e) =
-            (subst (λ x. width_of (component_of (with_counts d) k) (move x.first) ≡ width_of (component_of d k) x.first) e (width_of-moved d rules k there a.target fits.target),
-            subst (λ x. width_of (component_of (with_counts d) k) (move x.second) ≡ width_of (component_of d k) x.second) e (width_of-moved d rules k there a.source.port (named a.source (inl refl))))
+        same pair (inl e) = (
+          subst (λ x. width_of (component_of (with_counts d) k) (move x.first) ≡ width_of (component_of d k) x.first) e (width_of-moved d rules k there a.target fits.target),
+          subst (λ x. width_of (component_of (with_counts d) k) (move x.second) ≡ width_of (component_of d k) x.second) e (width_of-moved d rules k there a.source.port (named a.source (inl refl))),
+        )
         same pair (inr i) =
-            let c = comparisons_are_operands a.guard pair i in
-            (subst (λ x. width_of (component_of (with_counts d) k) (move x) ≡ width_of (component_of d k) x) c.0.2 (width_of-moved d rules k there c.0.0.port (named c.0.0 (inr c.0.1))),
-            subst (λ x. width_of (component_of (with_counts d) k) (move x) ≡ width_of (component_of d k) x) c.1.2 (width_of-moved d rules k there c.1.0.port (named c.1.0 (inr c.1.1))))
+            let c = comparisons_are_operands a.guard pair i in (
+              subst (λ x. width_of (component_of (with_counts d) k) (move x) ≡ width_of (component_of d k) x) c.0.2 (width_of-moved d rules k there c.0.0.port (named c.0.0 (inr c.0.1))),
+              subst (λ x. width_of (component_of (with_counts d) k) (move x) ≡ width_of (component_of d k) x) c.1.2 (width_of-moved d rules k there c.1.0.port (named c.1.0 (inr c.1.1))),
+            )
 
     pub guard_width_kept : first_wide (component_of (with_counts d) k) (atoms_of (moved_assign move a).guard) ≡ None
     guard_width_kept =

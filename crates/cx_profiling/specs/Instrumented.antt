@@ -151,33 +151,48 @@ module _ (d : PlainDesign) where
     -- without an instance: its parts stay, but for the numbers of dones
     abbrev pub kept_component : PlainComponent
     kept_component = record {
-      name = part.name; latency = part.latency; inputs = part.inputs; outputs = part.outputs; cells = part.cells; place = part.place;
+      name = part.name;
+      latency = part.latency;
+      inputs = part.inputs;
+      outputs = part.outputs;
+      cells = part.cells;
+      place = part.place;
       groups = map (λ g. group_with part g []) part.groups;
       invokes = map (moved_invoke part) part.invokes;
       always = moved_assigns part part.always;
-      control = moved_statement (moved_in part) part.control }
+      control = moved_statement (moved_in part) part.control;
+    }
 
     -- with an instance that another has: counters, and outputs that show the counts of it and all below it
     abbrev pub child_component : List (List ℕ) → PlainComponent
     child_component names = record {
-      name = part.name; latency = part.latency; inputs = part.inputs; place = part.place;
+      name = part.name;
+      latency = part.latency;
+      inputs = part.inputs;
+      place = part.place;
       outputs = part.outputs ++ count_outputs names (2 * own) shown;
       cells = part.cells ++ counter_cells part.place names 0 own;
       groups = counted_groups part cells (length part.cells) part.groups;
       invokes = map (moved_invoke part) part.invokes;
       always = moved_assigns part part.always ++ output_assigns part.place (length part.outputs) shown;
-      control = moved_statement (moved_in part) part.control }
+      control = moved_statement (moved_in part) part.control;
+    }
 
     -- main: counters, the memory, and behind the old control a store for each count
     abbrev pub main_component : List (List ℕ) → PlainComponent
     main_component names = record {
-      name = part.name; latency = part.latency; inputs = part.inputs; outputs = part.outputs; place = part.place;
+      name = part.name;
+      latency = part.latency;
+      inputs = part.inputs;
+      outputs = part.outputs;
+      place = part.place;
       cells = part.cells ++ (counter_cells part.place names 0 own ++ memory_cell part.place (name_at names (2 * own)) (length shown) ∷ []);
       groups = counted_groups part cells (length part.cells) part.groups
           ++ store_groups part.place names (length part.cells + 2 * own) (address_width (length shown)) (suc (2 * own)) (length part.groups) 0 shown;
       invokes = map (moved_invoke part) part.invokes;
       always = moved_assigns part part.always;
-      control = Placed (Seq (a_statement (moved_statement (moved_in part) part.control) (statements_of (store_enables part.place (length part.groups) shown)))) part.place }
+      control = Placed (Seq (a_statement (moved_statement (moved_in part) part.control) (statements_of (store_enables part.place (length part.groups) shown)))) part.place;
+    }
 
     abbrev pub instrumented_component : PlainComponent
     instrumented_component =
