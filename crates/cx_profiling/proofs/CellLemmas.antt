@@ -41,7 +41,7 @@ counter_cells-fit d k place names n (suc count) cell (inr (inl e)) = subst (IsCe
 counter_cells-fit d k place names n (suc count) cell (inr (inr i)) = counter_cells-fit d k place names (suc (suc n)) count cell i
 
 -- THE MEMORY: its address has 1 to 64 bits
-width_from-le : (fuel w k : ℕ) → w ≤ 32 → k ≤ 2 ^ 32 → width_from fuel w k ≤ 32
+pub width_from-le : (fuel w k : ℕ) → w ≤ 32 → k ≤ 2 ^ 32 → width_from fuel w k ≤ 32
 width_from-le zero w k few small = few
 width_from-le (suc more) w k few small = by (nat_le k (2 ^ w)) refl (width_from-le more (suc w) k)
   where
@@ -58,7 +58,7 @@ width_from-le (suc more) w k few small = by (nat_le k (2 ^ w)) refl (width_from-
     by true e later = few
     by false e later = later (below e) small
 
-width_from-ge : (fuel w k : ℕ) → 1 ≤ w → 1 ≤ width_from fuel w k
+pub width_from-ge : (fuel w k : ℕ) → 1 ≤ w → 1 ≤ width_from fuel w k
 width_from-ge zero w k some = some
 width_from-ge (suc more) w k some = by (nat_le k (2 ^ w)) (width_from-ge more (suc w) k (omega arith))
   where
@@ -82,7 +82,7 @@ module _ (k : ℕ) (some : 1 ≤ k) (few : k < 2 ^ 32) where
       ap (λ b. if true && (b && list_all is_address_width (address_width k ∷ [])) then Some (memory_row 64 (k ∷ []) (address_width k ∷ [])) else None) sized
       ∙ ap (λ b. if true && (true && b) then Some (memory_row 64 (k ∷ []) (address_width k ∷ [])) else None) addressed
 
-  memory_row_of : row_of (record { name = primitives.StdMemD1; numbers = 64 ∷ k ∷ address_width k ∷ [] }) ≡ memory_row 64 (k ∷ []) (address_width k ∷ [])
+  pub memory_row_of : row_of (record { name = primitives.StdMemD1; numbers = 64 ∷ k ∷ address_width k ∷ [] }) ≡ memory_row 64 (k ∷ []) (address_width k ∷ [])
   memory_row_of = ap (λ o. unwrap_or o no_row) memory_row-is
 
   pub memory_ports : (d : PlainDesign) → kind_ports d (OfPrimitive (record { name = primitives.StdMemD1; numbers = 64 ∷ k ∷ address_width k ∷ [] })) ≡ 5

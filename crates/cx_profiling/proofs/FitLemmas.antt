@@ -67,7 +67,7 @@ module _ (d : PlainDesign) (some : 0 < length d.components) (k : ℕ) where
 
 -- a moved port is of the same sort
 module _ (d : PlainDesign) (part : PlainComponent) where
-  moved_literal : (p : PortRef) (w v : ℕ) → moved_in d part p ≡ ports.Literal w v → p ≡ ports.Literal w v
+  pub moved_literal : (p : PortRef) (w v : ℕ) → moved_in d part p ≡ ports.Literal w v → p ≡ ports.Literal w v
   moved_literal (ports.Cell c p) w v e = absurd cc
   moved_literal (ports.Input n) w v e = e
   moved_literal (ports.Output n) w v e = e

@@ -10,6 +10,7 @@ use Rattle.cx_text.specs.declared.places.Place.{Place}
 use Rattle.cx_prim.specs.Table.{row_of}
 use Rattle.cx_meaning.specs.declared.ports.PortRef.{PortRef}
 use Rattle.cx_meaning.specs.declared.ports.PortRef.TheVariants as ports
+use Rattle.cx_meaning.specs.declared.kinds.PortDecl.{PortDecl}
 use Rattle.cx_meaning.specs.Designs.{PlainAssign, PlainGroup, PlainKind, OfPrimitive, OfComponent, PlainCell, PlainComponent, no_component, PlainDesign, component_at}
 use Rattle.cx_meaning.specs.Instances.{Cells, cells_of}
 use Rattle.cx_meaning.specs.Sights.{In}
@@ -88,6 +89,7 @@ module _ (d : PlainDesign) where
     pub name : new.name ≡ (component_at d k).name
     pub inputs : new.inputs ≡ (component_at d k).inputs
     pub outputs : length new.outputs ≡ length (component_at d k).outputs + gained d k
+    pub declared : (n : ℕ) (decl : PortDecl) → slice_get (component_at d k).outputs n ≡ Some decl → slice_get new.outputs n ≡ Some decl
     pub cells : (c : ℕ) (cell : PlainCell) → slice_get (component_at d k).cells c ≡ Some cell → slice_get new.cells c ≡ Some cell
     pub groups : (g : ℕ) (old : PlainGroup) → slice_get (component_at d k).groups g ≡ Some old → (x : PlainGroup) × (slice_get new.groups g ≡ Some x) × (x.kind ≡ old.kind)
     pub invokes : length new.invokes ≡ length (component_at d k).invokes
@@ -134,6 +136,7 @@ module _ (d : PlainDesign) where
   kept_grown k e = record {
     name = refl;
     inputs = refl;
+    declared = λ n decl at. at;
     cells = λ c cell at. at;
     groups = kept_groups k;
     invokes = length-map (moved_invoke d (component_at d k)) (component_at d k).invokes;
@@ -144,6 +147,7 @@ module _ (d : PlainDesign) where
   child_grown k names e f = record {
     name = refl;
     inputs = refl;
+    declared = λ n decl at. front (component_at d k).outputs (count_outputs names (2 * length (counters (component_of d k))) (shown_in (component_of d k))) n decl at;
     cells = λ c cell at. front (component_at d k).cells (counter_cells (component_at d k).place names 0 (length (counters (component_of d k)))) c cell at;
     groups = counted_kinds k;
     invokes = length-map (moved_invoke d (component_at d k)) (component_at d k).invokes;
@@ -155,6 +159,7 @@ module _ (d : PlainDesign) where
   main_grown k names e = record {
     name = refl;
     inputs = refl;
+    declared = λ n decl at. at;
     invokes = length-map (moved_invoke d (component_at d k)) (component_at d k).invokes;
     cells = λ c cell at. front (component_at d k).cells (counter_cells (component_at d k).place names 0 (length (counters (component_of d k)))
         ++ memory_cell (component_at d k).place (name_at names (2 * length (counters (component_of d k)))) (length (shown_in (component_of d k))) ∷ []) c cell at;

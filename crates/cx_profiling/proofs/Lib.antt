@@ -10,6 +10,11 @@ pub mod CellLemmas
 pub mod NewAssigns
 pub mod ComponentLemmas
 pub mod DesignLemmas
+pub mod AssignTable
+pub mod AlikeLemmas
+pub mod WidthsKept
+pub mod NewSorts
+pub mod WidthStage
 pub mod KnownProfiles
 pub mod DepthLemmas
 pub mod ListedCells

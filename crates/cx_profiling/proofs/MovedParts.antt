@@ -1,10 +1,13 @@
 -- What a moved assignment and a moved statement look at: the moved ports.
-use Rattle.std.proofs.Common.{◌≡◌, ◌∷◌, ◌++◌, map, refl, sym, ap, ◌∙◌}
+use Rattle.std.proofs.Common.{◌≡◌, inl, inr, List, ◌∷◌, ◌++◌, map, refl, sym, ap, ◌∙◌}
 use Rattle.std.specs.Prelude.{option_map}
 use Rattle.std.proofs.lemmas.List.{map-append}
 use Rattle.cx_meaning.specs.declared.ports.PortRef.{PortRef}
 use Rattle.cx_meaning.specs.Designs.{PlainGuard, Always, Atom, Negation, All, Any, Compared, Within, PlainGuards, no_guards, a_guard, PlainAssign, PlainForm, Empty, Enable, Seq, Par, If, While, Repeat, StaticSeq, StaticPar, StaticIf, StaticRepeat, Timed, PlainStatement, Placed, PlainStatements, no_statements, a_statement}
-use Rattle.cx_rules.specs.Items.{operands_of, operands_in, sources_of, Context, below_dynamic, InStatic, Branch, Visited, visit, visit_parts, visit_all, test_in}
+use Rattle.cx_meaning.specs.declared.ports.PlacedPort.{PlacedPort}
+use Rattle.cx_meaning.specs.Sights.{In}
+use Rattle.cx_meaning.proofs.SightsLaws.{in_left, in_right, of_joined}
+use Rattle.cx_rules.specs.Items.{atoms_of, atoms_in, Pair, comparisons_of, comparisons_in, operands_of, operands_in, sources_of, Context, below_dynamic, InStatic, Branch, Visited, visit, visit_parts, visit_all, test_in}
 use Rattle.cx_rewrites.specs.Moving.{moved_port, moved_guard, moved_guards, moved_assign, moved_form, moved_statement, moved_statements}
 
 module _ (move : PortRef → PortRef) where
@@ -71,3 +74,81 @@ module _ (move : PortRef → PortRef) where
   test_in-moved (StaticIf length test a b) = refl
   test_in-moved (StaticRepeat length count a) = refl
   test_in-moved (Timed k) = refl
+
+  -- the ports that stand by themselves in a guard, and the comparisons
+  mutual
+    pub atoms_of-moved : (g : PlainGuard) → atoms_of (moved_guard move g) ≡ map (moved_port move) (atoms_of g)
+    atoms_of-moved Always = refl
+    atoms_of-moved (Atom p) = refl
+    atoms_of-moved (Negation g) = atoms_of-moved g
+    atoms_of-moved (All gs) = atoms_in-moved gs
+    atoms_of-moved (Any gs) = atoms_in-moved gs
+    atoms_of-moved (Compared c a b) = refl
+    atoms_of-moved (Within from to) = refl
+
+    atoms_in-moved : (gs : PlainGuards) → atoms_in (moved_guards move gs) ≡ map (moved_port move) (atoms_in gs)
+    atoms_in-moved no_guards = refl
+    atoms_in-moved (a_guard g gs) =
+        ap (λ ps. ps ++ atoms_in (moved_guards move gs)) (atoms_of-moved g) ∙ ap (λ ps. map (moved_port move) (atoms_of g) ++ ps) (atoms_in-moved gs)
+        ∙ sym (map-append (moved_port move) (atoms_of g) (atoms_in gs))
+
+  abbrev pub moved_pair : Pair → Pair
+  moved_pair pair = record { first = move pair.first; second = move pair.second }
+
+  mutual
+    pub comparisons_of-moved : (g : PlainGuard) → comparisons_of (moved_guard move g) ≡ map moved_pair (comparisons_of g)
+    comparisons_of-moved Always = refl
+    comparisons_of-moved (Atom p) = refl
+    comparisons_of-moved (Negation g) = comparisons_of-moved g
+    comparisons_of-moved (All gs) = comparisons_in-moved gs
+    comparisons_of-moved (Any gs) = comparisons_in-moved gs
+    comparisons_of-moved (Compared c a b) = refl
+    comparisons_of-moved (Within from to) = refl
+
+    comparisons_in-moved : (gs : PlainGuards) → comparisons_in (moved_guards move gs) ≡ map moved_pair (comparisons_in gs)
+    comparisons_in-moved no_guards = refl
+    comparisons_in-moved (a_guard g gs) =
+        ap (λ ps. ps ++ comparisons_in (moved_guards move gs)) (comparisons_of-moved g) ∙ ap (λ ps. map moved_pair (comparisons_of g) ++ ps) (comparisons_in-moved gs)
+        ∙ sym (map-append moved_pair (comparisons_of g) (comparisons_in gs))
+
+-- both are among the operands
+mutual
+  pub atoms_are_operands : (g : PlainGuard) (p : PlacedPort) → In (atoms_of g) p → In (operands_of g) p
+  atoms_are_operands Always p i = i
+  atoms_are_operands (Atom q) p i = i
+  atoms_are_operands (Negation g) p i = atoms_are_operands g p i
+  atoms_are_operands (All gs) p i = atoms_in_operands gs p i
+  atoms_are_operands (Any gs) p i = atoms_in_operands gs p i
+  atoms_are_operands (Compared c a b) p i = absurd i
+  atoms_are_operands (Within from to) p i = absurd i
+
+  atoms_in_operands : (gs : PlainGuards) (p : PlacedPort) → In (atoms_in gs) p → In (operands_in gs) p
+  atoms_in_operands no_guards p i = i
+  atoms_in_operands (a_guard g gs) p i =
+      of_joined (atoms_of g) (atoms_in gs) p i (λ j. in_left (operands_of g) (operands_in gs) p (atoms_are_operands g p j)) (λ j. in_right (operands_of g) (operands_in gs) p (atoms_in_operands gs p j))
+
+abbrev pub ArePorts : List PlacedPort → Pair → Type 0
+ArePorts ps pair = ((p : PlacedPort) × In ps p × (p.port ≡ pair.first)) × ((p : PlacedPort) × In ps p × (p.port ≡ pair.second))
+
+more_left : (ps qs : List PlacedPort) (pair : Pair) → ArePorts ps pair → ArePorts (ps ++ qs) pair
+more_left ps qs pair ((p, i, e), (q, j, f)) = ((p, in_left ps qs p i, e), (q, in_left ps qs q j, f))
+
+more_right : (ps qs : List PlacedPort) (pair : Pair) → ArePorts qs pair → ArePorts (ps ++ qs) pair
+more_right ps qs pair ((p, i, e), (q, j, f)) = ((p, in_right ps qs p i, e), (q, in_right ps qs q j, f))
+
+mutual
+  pub comparisons_are_operands : (g : PlainGuard) (pair : Pair) → In (comparisons_of g) pair → ArePorts (operands_of g) pair
+  comparisons_are_operands Always pair i = absurd i
+  comparisons_are_operands (Atom q) pair i = absurd i
+  comparisons_are_operands (Negation g) pair i = comparisons_are_operands g pair i
+  comparisons_are_operands (All gs) pair i = comparisons_in_operands gs pair i
+  comparisons_are_operands (Any gs) pair i = comparisons_in_operands gs pair i
+  comparisons_are_operands (Compared c a b) pair (inl e) = ((a, inl refl, ap (λ x. x.first) e), (b, inr (inl refl), ap (λ x. x.second) e))
+  comparisons_are_operands (Compared c a b) pair (inr i) = absurd i
+  comparisons_are_operands (Within from to) pair i = absurd i
+
+  comparisons_in_operands : (gs : PlainGuards) (pair : Pair) → In (comparisons_in gs) pair → ArePorts (operands_in gs) pair
+  comparisons_in_operands no_guards pair i = absurd i
+  comparisons_in_operands (a_guard g gs) pair i =
+      of_joined (comparisons_of g) (comparisons_in gs) pair i (λ j. more_left (operands_of g) (operands_in gs) pair (comparisons_are_operands g pair j))
+      (λ j. more_right (operands_of g) (operands_in gs) pair (comparisons_in_operands gs pair j))

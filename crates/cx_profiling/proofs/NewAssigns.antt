@@ -28,7 +28,7 @@ use Rattle.cx_profiling.proofs.FitLemmas.{FitsAssign, cell_driven, output_driven
 pub counters-is : (i : Instance) → counters i ≡ counters_from (cells_of i) (length (part_of i).cells) 0 (part_of i).groups
 counters-is (Node part cells) = refl
 
-shown_in-is : (i : Instance) → shown_in i ≡ map shown_here (counters i) ++ shown_below (cells_of i) 0
+pub shown_in-is : (i : Instance) → shown_in i ≡ map shown_here (counters i) ++ shown_below (cells_of i) 0
 shown_in-is (Node part cells) = refl
 
 module _ (d : PlainDesign) (k : ℕ) (new : PlainComponent) where

@@ -74,7 +74,7 @@ module _ (d : PlainDesign) (n : ℕ) where
     there_names (ports.Literal w v) any = any
 
 module _ (d : PlainDesign) (some : 0 < length d.components) where
-  tree_on : (m k : ℕ) → 0 < m → (n : ℕ) × (tree_within d m k ≡ Node (component_at d k) (cells_for (tree_within d n) (component_at d k).cells))
+  pub tree_on : (m k : ℕ) → 0 < m → (n : ℕ) × (tree_within d m k ≡ Node (component_at d k) (cells_for (tree_within d n) (component_at d k).cells))
   tree_on zero k less = absurd (omega arith)
   tree_on (suc n) k less = (n, refl)
 
