@@ -33,6 +33,16 @@ pub few_below : (ks : List ℕ) (n : ℕ) → Distinct ks → ((k : ℕ) → In 
 few_below ks n apart below =
     subst (λ m. length ks ≤ m) (length-range_with_len 0 n) (distinct_few ks (range_with_len 0 n) apart (λ k i. in_row 0 n k (omega arith) (let l : k < n = below k i in omega arith)))
 
+-- the same trees at the cells of a list
+kind_same : (f g : ℕ → Instance) (kind : PlainKind) (rest : Cells) → ((j : ℕ) → kind ≡ OfComponent j → f j ≡ g j) → add_cell f kind rest ≡ add_cell g kind rest
+kind_same f g (OfPrimitive p) rest h = refl
+kind_same f g (OfComponent k) rest h = ap (λ i. an_instance i rest) (h k refl)
+
+pub cells_same : (f g : ℕ → Instance) (cells : List PlainCell) → ((cell : PlainCell) (j : ℕ) → In cells cell → cell.kind ≡ OfComponent j → f j ≡ g j) → cells_for f cells ≡ cells_for g cells
+cells_same f g [] h = refl
+cells_same f g (c ∷ cs) h =
+    ap (add_cell f c.kind) (cells_same f g cs (λ cell j i. h cell j (inr i))) ∙ kind_same f g c.kind (cells_for g cs) (λ j e. h c j (inl refl) e)
+
 module _ (d : PlainDesign) (rules : IsDesign d) where
   -- the component of a cell is there
   pub child_there : (k j : ℕ) (cell : PlainCell) → k < length d.components → In (component_at d k).cells cell → cell.kind ≡ OfComponent j → j < length d.components
@@ -70,15 +80,6 @@ module _ (d : PlainDesign) (rules : IsDesign d) where
 
   pub way_is_short : (path : List ℕ) (k : ℕ) → IsWay path k → length path < length d.components
   way_is_short path k way = few_below (k ∷ path) (length d.components) way.apart way.there
-
-  kind_same : (f g : ℕ → Instance) (kind : PlainKind) (rest : Cells) → ((j : ℕ) → kind ≡ OfComponent j → f j ≡ g j) → add_cell f kind rest ≡ add_cell g kind rest
-  kind_same f g (OfPrimitive p) rest h = refl
-  kind_same f g (OfComponent k) rest h = ap (λ i. an_instance i rest) (h k refl)
-
-  cells_same : (f g : ℕ → Instance) (cells : List PlainCell) → ((cell : PlainCell) (j : ℕ) → In cells cell → cell.kind ≡ OfComponent j → f j ≡ g j) → cells_for f cells ≡ cells_for g cells
-  cells_same f g [] h = refl
-  cells_same f g (c ∷ cs) h =
-      ap (add_cell f c.kind) (cells_same f g cs (λ cell j i. h cell j (inr i))) ∙ kind_same f g c.kind (cells_for g cs) (λ j e. h c j (inl refl) e)
 
   -- with levels enough a tree is always the same
   levels : (n m : ℕ) (path : List ℕ) (k : ℕ) → IsWay path k → length d.components ≤ n + length path → n ≤ m → tree_within d n k ≡ tree_within d m k

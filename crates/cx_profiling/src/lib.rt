@@ -2,3 +2,4 @@
 #![tactic(auto)]
 
 pub mod design_laws;
+pub mod run_laws;

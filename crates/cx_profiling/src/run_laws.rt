@@ -1,0 +1,22 @@
+//! Laws of the runs of instrumented designs: each function does nothing, and its clause is the law.
+
+ghost use Rattle.std.specs.Prelude.{◌≤◌, ℕ};
+ghost use Rattle.cx_meaning.specs.Designs.{PlainDesign};
+ghost use Rattle.cx_rules.specs.Accepted.{IsAccepted};
+ghost use Rattle.cx_rules.specs.Wellformed.{IsDesign};
+ghost use Rattle.cx_profiling.specs.Counters.{entry_count};
+ghost use Rattle.cx_profiling.specs.Instrumented.{instrumented};
+ghost use Rattle.cx_profiling.specs.RunsAlike.{InstrumentsAs, ReadsAs};
+
+/// An instrumented design runs as its design, on all data and under each budget: it ends two turns later for each entry of the
+/// profile, its old memories have the words that those of the design have and its last memory the counts; or it has the same
+/// fault in the same turn; or it goes on where the design does.
+pub fn instrumented_runs_alike()
+    ensures { (d : PlainDesign) → IsDesign d → IsAccepted d → IsAccepted (instrumented d) → 1 ≤ entry_count d → InstrumentsAs d }
+{}
+
+/// One run of the instrumented design, within two turns more for each entry, tells how the run of the design ends within its
+/// budget, with the counts; a fault in a later turn, or that it goes on, tells that the design goes on.
+pub fn profile_reads_the_run()
+    ensures { (d : PlainDesign) → IsDesign d → IsAccepted d → IsAccepted (instrumented d) → 1 ≤ entry_count d → ReadsAs d }
+{}
