@@ -11,7 +11,7 @@ pub mod NewAssigns
 pub mod ComponentLemmas
 pub mod DesignLemmas
 pub mod AssignTable
-pub mod AlikeLemmas
+pub mod SortLemmas
 pub mod WidthsKept
 pub mod NewSorts
 pub mod WidthStage
@@ -53,4 +53,4 @@ pub mod MemoryLemmas
 pub mod StoreLemmas
 pub mod StartsGrown
 pub mod MainLemmas
-pub mod RunsAlikeLemmas
+pub mod AlikeLemmas

@@ -28,7 +28,7 @@ use Rattle.cx_profiling.proofs.CounterLemmas.{register_at, adder_at, counter_cel
 use Rattle.cx_profiling.proofs.GainedLemmas.{by_kind, components-length, component_at-with_counts, grown_at}
 use Rattle.cx_profiling.proofs.NewAssigns.{HasCounters, counters-is, shown_in-is}
 use Rattle.cx_profiling.proofs.CellLemmas.{memory_row_of, width_from-ge, width_from-le}
-use Rattle.cx_profiling.proofs.AlikeLemmas.{kind_width, is_kind_output, width_at, output_at}
+use Rattle.cx_profiling.proofs.SortLemmas.{kind_width, is_kind_output, width_at, output_at}
 use Rattle.cx_profiling.proofs.AssignTable.{HasInstance}
 
 -- an address names each word

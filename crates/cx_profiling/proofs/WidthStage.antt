@@ -29,7 +29,7 @@ use Rattle.cx_profiling.proofs.ThereLemmas.{Names}
 use Rattle.cx_profiling.proofs.FitLemmas.{fits_statement, moved_literal}
 use Rattle.cx_profiling.proofs.GainedLemmas.{by_kind, components-length, component_at-with_counts}
 use Rattle.cx_profiling.proofs.AssignTable.{IsMade, moved, of_counter, of_output, of_store, made_in_order, HasInstance}
-use Rattle.cx_profiling.proofs.AlikeLemmas.{written_width-moved, is_target_only-moved}
+use Rattle.cx_profiling.proofs.SortLemmas.{written_width-moved, is_target_only-moved}
 use Rattle.cx_profiling.proofs.WidthsKept.{width_kept, guard_width_kept, literal_kept, target_kept, source_kept}
 use Rattle.cx_profiling.proofs.NewSorts.{IsTarget, IsSource, register_in, register_write, register_out, adder_left, adder_right, adder_out, shown_source, shown_output, memory_address, memory_data, memory_write, memory_done, address_source}
 
@@ -195,8 +195,8 @@ module _ (d : PlainDesign) (rules : IsDesign d) (accepted : IsAccepted d) (count
   there : (n : ℕ) → n < length (with_counts d).components → n < length d.components
   there n less = subst (λ m. n < m) (components-length d) less
 
-  sound_at : {rule : AssignRule} (spot : Spot) (place : Place) (name : List ℕ) (b : OnAssign rule (with_counts d) spot place name) → IsSound (component_of (with_counts d) spot.component) b.assign.assign
-  sound_at spot place name b = sound d rules accepted counted small spot.component (there spot.component b.within) b.number b.assign b.stands
+  sound_at : {rule : AssignRule} (spot : Spot) (there_at : Place) (name : List ℕ) (b : OnAssign rule (with_counts d) spot there_at name) → IsSound (component_of (with_counts d) spot.component) b.assign.assign
+  sound_at spot there_at name b = sound d rules accepted counted small spot.component (there spot.component b.within) b.number b.assign b.stands
 
   no_width : (spot : Spot) (place : Place) (name : List ℕ) → OnAssign BreaksWidth (with_counts d) spot place name → ⊥
   no_width spot place name b = let s = sound_at spot place name b in let x = b.breaks in none_is_some x.0 (sym s.width ∙ x.1)

@@ -26,7 +26,7 @@ use Rattle.cx_profiling.specs.Instrumented.{moved_in, with_counts}
 use Rattle.cx_profiling.proofs.MovedParts.{sources_of-moved, atoms_of-moved, comparisons_of-moved, moved_pair, atoms_are_operands, comparisons_are_operands}
 use Rattle.cx_profiling.proofs.ThereLemmas.{Names}
 use Rattle.cx_profiling.proofs.FitLemmas.{FitsAssign, fits_assign, moved_literal}
-use Rattle.cx_profiling.proofs.AlikeLemmas.{width_of-moved, written_width-moved, is_source_only-moved, is_target_only-moved}
+use Rattle.cx_profiling.proofs.SortLemmas.{width_of-moved, written_width-moved, is_source_only-moved, is_target_only-moved}
 
 -- what stands in a component stands in its source order
 sorted_has : (list : List Owned) (o : Owned) → In list o → In (by_place list) o

@@ -1,4 +1,4 @@
-use Rattle.cx_profiling.proofs.RunsAlikeLemmas.{runs_alike}
+use Rattle.cx_profiling.proofs.AlikeLemmas.{runs_alike}
 use Rattle.cx_profiling.proofs.run_laws.instrumented_runs_alike.Goals as goal
 
 pub returns : goal.returns
