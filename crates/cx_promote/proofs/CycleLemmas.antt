@@ -32,40 +32,40 @@ work_named name numbers = record { cycles = cycles_named name numbers; pipe = is
 abbrev row_work : Option Row → Work
 row_work found = work_of (unwrap_or found no_row).shape
 
-none_found : {A : Type 0} → IsSome {A} None → ⊥
-none_found {A} some = let f : false ≡ true = some in cc
+none_found : false ≡ true → ⊥
+none_found e = cc
 
 chosen : (v : Work) (b : Bool) (row : Row) → v ≡ work_of row.shape → IsSome (if b then Some row else None) → v ≡ row_work (if b then Some row else None)
 chosen v true row e some = e
-chosen v false row e some = absurd (none_found {Row} some)
+chosen v false row e some = absurd (none_found some)
 
 of_width : (v : Work) (make : ℕ → Row) → ((w : ℕ) → v ≡ work_of (make w).shape) → (numbers : List ℕ) → IsSome (at_width make numbers) → v ≡ row_work (at_width make numbers)
-of_width v make h [] some = absurd (none_found {Row} some)
+of_width v make h [] some = absurd (none_found some)
 of_width v make h (w ∷ []) some = chosen v (is_width w) (make w) (h w) some
-of_width v make h (w ∷ x ∷ rest) some = absurd (none_found {Row} some)
+of_width v make h (w ∷ x ∷ rest) some = absurd (none_found some)
 
 of_constant : (numbers : List ℕ) → IsSome (constant_at numbers) → work_named Const [] ≡ row_work (constant_at numbers)
-of_constant [] some = absurd (none_found {Row} some)
-of_constant (w ∷ []) some = absurd (none_found {Row} some)
+of_constant [] some = absurd (none_found some)
+of_constant (w ∷ []) some = absurd (none_found some)
 of_constant (w ∷ v ∷ []) some = chosen (work_named Const []) (is_width w && nat_lt v (2 ^ w)) (constant_row w v) refl some
-of_constant (w ∷ v ∷ x ∷ rest) some = absurd (none_found {Row} some)
+of_constant (w ∷ v ∷ x ∷ rest) some = absurd (none_found some)
 
 of_slice : (numbers : List ℕ) → IsSome (slice_at numbers) → work_named Slice [] ≡ row_work (slice_at numbers)
-of_slice [] some = absurd (none_found {Row} some)
-of_slice (w ∷ []) some = absurd (none_found {Row} some)
+of_slice [] some = absurd (none_found some)
+of_slice (w ∷ []) some = absurd (none_found some)
 of_slice (w ∷ v ∷ []) some = chosen (work_named Slice []) ((is_width w && is_width v) && nat_le v w) (unary_row w v (λ a. low_bits_of a v)) refl some
-of_slice (w ∷ v ∷ x ∷ rest) some = absurd (none_found {Row} some)
+of_slice (w ∷ v ∷ x ∷ rest) some = absurd (none_found some)
 
 of_pad : (numbers : List ℕ) → IsSome (pad_at numbers) → work_named Pad [] ≡ row_work (pad_at numbers)
-of_pad [] some = absurd (none_found {Row} some)
-of_pad (w ∷ []) some = absurd (none_found {Row} some)
+of_pad [] some = absurd (none_found some)
+of_pad (w ∷ []) some = absurd (none_found some)
 of_pad (w ∷ v ∷ []) some = chosen (work_named Pad []) ((is_width w && is_width v) && nat_le w v) (unary_row w v (λ a. zero_extension_of a v)) refl some
-of_pad (w ∷ v ∷ x ∷ rest) some = absurd (none_found {Row} some)
+of_pad (w ∷ v ∷ x ∷ rest) some = absurd (none_found some)
 
 of_divider : (numbers : List ℕ) → IsSome (at_width divider_row numbers) → work_named DivPipe numbers ≡ row_work (at_width divider_row numbers)
-of_divider [] some = absurd (none_found {Row} some)
+of_divider [] some = absurd (none_found some)
 of_divider (w ∷ []) some = chosen (work_named DivPipe (w ∷ [])) (is_width w) (divider_row w) refl some
-of_divider (w ∷ x ∷ rest) some = absurd (none_found {Row} some)
+of_divider (w ∷ x ∷ rest) some = absurd (none_found some)
 
 of_timer : (numbers : List ℕ) → work_named Timer [] ≡ row_work (timer_at numbers)
 of_timer [] = refl
@@ -81,7 +81,7 @@ memory = record { cycles = Some 1; pipe = false }
 
 of_memory : (d : ℕ) (make : ℕ → List ℕ → List ℕ → Row) → ((w : ℕ) (sizes widths : List ℕ) → memory ≡ work_of (make w sizes widths).shape)
     → (numbers : List ℕ) → IsSome (memory_at d make numbers) → memory ≡ row_work (memory_at d make numbers)
-of_memory d make h [] some = absurd (none_found {Row} some)
+of_memory d make h [] some = absurd (none_found some)
 of_memory d make h (w ∷ rest) some =
     chosen memory ((is_width w && (length rest == 2 * d)) && (are_sizes (take d rest) && list_all is_address_width (drop d rest))) (make w (take d rest) (drop d rest)) (h w (take d rest) (drop d rest)) some
 

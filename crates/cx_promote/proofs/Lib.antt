@@ -1,7 +1,11 @@
 mod CycleLemmas
+mod PortLemmas
+mod StartLemmas
 mod WaitingLemmas
 mod CuttingLemmas
 mod ListLemmas
+mod OperandLemmas
 mod NameLemmas
 mod TargetLemmas
 mod SiteLemmas
+mod PromotedLemmas

@@ -32,15 +32,12 @@ bare_target test a false h = h
 
 promoted_targets : (test : OperandForm → Bool) (assigns : List PlainAssign) → AllTargets assigns → AllTargets (promote_assigns test assigns)
 promoted_targets test [] all a here = absurd here
-promoted_targets test (x ∷ rest) all a here = by (is_hole_item x.target.form) here
+promoted_targets test (x ∷ rest) all a here = by (is_hole_item x.target.form) here (promoted_targets test rest (λ y there. all y (inr there)))
   where
-    after : AllTargets rest
-    after y there = all y (inr there)
-
-    by : (hole : Bool) → In (if hole then promote_assigns test rest else bare_enable test x ∷ promote_assigns test rest) a → AssignHasTarget a
-    by true there = promoted_targets test rest after a there
-    by false (inl e) = subst AssignHasTarget e (bare_target test x (test x.target.form) (all x (inl refl)))
-    by false (inr there) = promoted_targets test rest after a there
+    by : (hole : Bool) → In (if hole then promote_assigns test rest else bare_enable test x ∷ promote_assigns test rest) a → AllTargets (promote_assigns test rest) → AssignHasTarget a
+    by true there after = after a there
+    by false (inl e) after = subst AssignHasTarget e (bare_target test x (test x.target.form) (all x (inl refl)))
+    by false (inr there) after = after a there
 
 group_targets : (test : OperandForm → Bool) (length : Option ℕ) (g : PlainGroup) → AllTargets g.assigns → AllTargets (promote_group test length g).assigns
 group_targets test None g all = all
@@ -88,7 +85,7 @@ abbrev Stands : List Standing → Type 0
 Stands list = (x : Standing) → In list x → is_literal x.assign.target.form ≡ false
 
 wire_parts : (ws : List PlainWire) → Stands (map (λ a. record { group = None; assign = a }) (always_in ws)) → Stands (flat_map of_group (groups_in ws)) → WiresTargets ws
-wire_parts [] always groups = unit
+wire_parts [] always groups = tt
 wire_parts (Group g ∷ ws) always groups =
     (λ a here. groups (record { group = Some g.name; assign = a }) (in_left (of_group g) (flat_map of_group (groups_in ws)) _ (in_map (λ x. record { group = Some g.name; assign = x }) g.assigns a here)),
     wire_parts ws always (λ x there. groups x (in_right (of_group g) (flat_map of_group (groups_in ws)) x there)))
@@ -102,11 +99,11 @@ always_back (Assign a ∷ ws) (h, all) x (inr there) = always_back ws all x ther
 
 groups_back : (ws : List PlainWire) → WiresTargets ws → Stands (flat_map of_group (groups_in ws))
 groups_back [] all x here = absurd here
-groups_back (Group g ∷ ws) (h, all) x here = by (in_either (of_group g) (flat_map of_group (groups_in ws)) x here)
+groups_back (Group g ∷ ws) (h, all) x here = by (in_either (of_group g) (flat_map of_group (groups_in ws)) x here) (groups_back ws all)
   where
-    by : In (of_group g) x ⊎ In (flat_map of_group (groups_in ws)) x → is_literal x.assign.target.form ≡ false
-    by (inl there) = let m = in_mapped (λ a. record { group = Some g.name; assign = a }) g.assigns x there in subst (λ y. is_literal y.assign.target.form ≡ false) m.1.1 (h m.0 m.1.0)
-    by (inr there) = groups_back ws all x there
+    by : In (of_group g) x ⊎ In (flat_map of_group (groups_in ws)) x → Stands (flat_map of_group (groups_in ws)) → is_literal x.assign.target.form ≡ false
+    by (inl there) rest = let m = in_mapped (λ a. record { group = Some g.name; assign = a }) g.assigns x there in subst (λ y. is_literal y.assign.target.form ≡ false) m.1.1 (h m.0 m.1.0)
+    by (inr there) rest = rest x there
 groups_back (Assign a ∷ ws) (h, all) x here = groups_back ws all x here
 
 part_targets : (part : PlainComponent) → Stands (standing part) → WiresTargets part.wires

@@ -1,4 +1,6 @@
 pub mod Cycles
+pub mod Looking
+pub mod Starting
 pub mod Waiting
 pub mod Lengths
 pub mod Cutting

@@ -93,6 +93,7 @@ fn promoted_statement(
 }
 
 #[cycle(control)]
+#[tactic(auto, using(crate::proofs::OperandLemmas::same_operand))]
 fn promoted_form(
     alloc: Global,
     lengths: &Lengths,

@@ -3,11 +3,11 @@
 ghost use Rattle.std.specs.Prelude.{◌≡◌, ◌<◌, length, map};
 ghost use Rattle.std.specs.List.{list_any};
 ghost use Rattle.cx_meaning.specs.Instances.{part_of};
-ghost use Rattle.cx_rules.specs.Items.{operands_of};
 ghost use Rattle.cx_rules.specs.Ports.{component_of};
 ghost use Rattle.cx_design.specs.PlainDesigns.{plain_design};
 ghost use Rattle.cx_design.specs.PlainForms.{plain_assign, plain_guard};
 ghost use Rattle.cx_promotion.specs.Promotable as promotable;
+ghost use Rattle.cx_promote.specs.Looking as looking;
 
 use crate::primitives::is_done_port;
 use cx_design::{Assign, Design, Guard, PortRef};
@@ -33,13 +33,16 @@ pub(crate) fn looks_at_done(design: &Design, number: usize, assign: &Assign) -> 
     requires within { number < length design.now.components.items }
     ensures value { result ≡ promotable.looks_at_done (component_of (plain_design design.now) number) (plain_assign assign.now) }
 {
-    is_done(design, number, assign.source.port) || guard_looks(design, number, &assign.guard)
+    if is_done(design, number, assign.source.port) {
+        return true;
+    }
+    guard_looks(design, number, &assign.guard)
 }
 
 /// Whether a guard has a done as an operand.
 fn guard_looks(design: &Design, number: usize, guard: &Guard) -> bool
     requires within { number < length design.now.components.items }
-    ensures value { result ≡ list_any (λ q. promotable.is_done (component_of (plain_design design.now) number) q.port) (operands_of (plain_guard guard.now)) }
+    ensures value { result ≡ looking.guard_looks (component_of (plain_design design.now) number) (plain_guard guard.now) }
 {
     match guard {
         Guard::True | Guard::During(_, _) => false,

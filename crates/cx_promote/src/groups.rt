@@ -143,6 +143,7 @@ fn kept_assign(alloc: Global, enables: bool, item: &AssignItem) -> Result<Assign
 }
 
 /// An assignment without its guard.
+#[tactic(auto, using(crate::proofs::OperandLemmas::same_operand))]
 fn bare_assign(alloc: Global, item: &AssignItem) -> Result<AssignItem, Memory>
     ensures value { IfOk result (λ a. written.plain_assign a ≡ record (written.plain_assign item.now) { guard = None }) }
 {

@@ -17,7 +17,7 @@ ghost use Rattle.cx_promotion.specs.Promotable as promotable;
 ghost use Rattle.cx_promote.specs.Waiting.{of_done, only};
 
 use crate::dones::always_looks;
-use crate::primitives::work;
+use crate::primitives::timing_of;
 use crate::starts::Started;
 use cx_design::{Assign, Design, Group, GroupKind, Guard, PortRef};
 use cx_design_parts::{At, component, is_part_port, stands_at};
@@ -107,7 +107,7 @@ fn length_by(
                     primitive,
                 };
                 if started.keeps_all(design, number, looks, group) {
-                    work(primitive).cycles
+                    timing_of(primitive).cycles
                 } else {
                     None
                 }

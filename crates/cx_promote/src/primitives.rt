@@ -13,7 +13,11 @@ pub(crate) fn is_done_port(primitive: &Primitive, port: u32) -> bool
     ensures value { result ≡ promotable.is_named PortName.Done (row_of primitive.now).ports port }
 {
     let port = port as usize;
-    port < primitive.port_count() && is_name(PortName::Done, primitive.port(port).name)
+    if port < primitive.port_count() {
+        is_name(PortName::Done, primitive.port(port).name)
+    } else {
+        false
+    }
 }
 
 /// The port that starts a primitive: `content_en`, else `write_en`, else `go`.
@@ -30,6 +34,7 @@ pub(crate) fn starting_port(primitive: &Primitive) -> Option<usize>
 }
 
 /// The first port of a name.
+#[tactic(auto, using(crate::proofs::PortLemmas::first_here, crate::proofs::PortLemmas::first_later, crate::proofs::PortLemmas::first_none))]
 fn port_named(primitive: &Primitive, name: PortName) -> Option<usize>
     ensures value { result ≡ promotable.first_named name (row_of primitive.now).ports 0 }
 {
@@ -54,33 +59,33 @@ fn is_name(wanted: PortName, name: PortName) -> bool
     }
 }
 
-/// How a primitive works: the cycles from its start until it is done, if it is ever done, and whether it is a pipe.
+/// The timing of a primitive: the cycles from its start until it is done, if it is ever done, and whether it is a pipe.
 #[derive(Clone, Copy)]
-pub(crate) struct Work {
+pub(crate) struct Timing {
     pub(crate) cycles: Option<u64>,
     pub(crate) is_pipe: bool,
 }
 
-/// How a primitive works.
-pub(crate) fn work(primitive: &Primitive) -> Work
+/// The timing of a primitive.
+pub(crate) fn timing_of(primitive: &Primitive) -> Timing
     ensures cycles { result.cycles ≡ promotable.cycles_of (row_of primitive.now).shape }
     ensures pipe { result.is_pipe ≡ promotable.is_pipe (row_of primitive.now).shape }
 {
     match PrimitiveName::from_text(primitive.name().as_bytes()) {
-        Some(name) => work_at(name, primitive.numbers()),
-        None => Work {
+        Some(name) => timing_at(name, primitive.numbers()),
+        None => Timing {
             cycles: None,
             is_pipe: false,
         },
     }
 }
 
-/// How the primitive of a name at its numbers works.
-fn work_at(name: PrimitiveName, numbers: &[u64]) -> Work
+/// The timing of the primitive of a name at its numbers.
+fn timing_at(name: PrimitiveName, numbers: &[u64]) -> Timing
     ensures cycles { result.cycles ≡ cycles_named name numbers.now }
     ensures pipe { result.is_pipe ≡ is_pipe_name name }
 {
-    Work {
+    Timing {
         cycles: cycles_at(name, numbers),
         is_pipe: is_pipe_at(name),
     }

@@ -5,7 +5,7 @@ ghost use Rattle.std.specs.List.{list_all, list_any};
 ghost use Rattle.cx_prim.specs.Table.{row_of};
 ghost use Rattle.cx_meaning.specs.declared.ports.PortRef.TheVariants as refs;
 ghost use Rattle.cx_meaning.specs.Active.{same_port as same_port_of};
-ghost use Rattle.cx_meaning.specs.Instances.{Instance, part_of};
+ghost use Rattle.cx_meaning.specs.Instances.{part_of};
 ghost use Rattle.cx_rules.specs.CallShape as shape;
 ghost use Rattle.cx_rules.specs.CallShape.{with_target};
 ghost use Rattle.cx_rules.specs.Ports.{component_of};
@@ -13,10 +13,11 @@ ghost use Rattle.cx_rules.specs.ShapeRules.{some_target};
 ghost use Rattle.cx_design.specs.PlainDesigns.{plain_design};
 ghost use Rattle.cx_design.specs.PlainForms.{plain_assign, plain_assigns, plain_group, plain_guard};
 ghost use Rattle.cx_promotion.specs.Promotable as promotable;
+ghost use Rattle.cx_promote.specs.Starting.{drives_right, drives_start};
 
 use crate::dones::looks_at_done;
 use crate::lengths::{is_always, is_hole};
-use crate::primitives::{is_done_port, starting_port, work};
+use crate::primitives::{is_done_port, starting_port, timing_of};
 use cx_design::{Assign, Design, Group, Guard, PortRef, Primitive};
 use cx_design_parts::is_primitive_enable;
 
@@ -31,20 +32,21 @@ pub(crate) struct Started<'a> {
 impl Started<'_> {
     /// Whether the group starts the cell and waits for its done, drives no other enabling port, and looks at no other done; nor
     /// does a continuous assignment, as `looks` tells.
+    #[tactic(auto, using(crate::proofs::StartLemmas::keeps_all_by))]
     pub(crate) fn keeps_all(self, design: &Design, number: usize, looks: bool, group: &Group) -> bool
         requires within { number < length design.now.components.items }
         requires looks { looks ≡ list_any (promotable.looks_at_done (component_of (plain_design design.now) number)) (part_of (component_of (plain_design design.now) number)).always }
-        ensures value { result ≡ promotable.keeps_all (component_of (plain_design design.now) number) (plain_group group.now) self.cell self.port (row_of self.primitive.now) }
+        ensures value { result ≡ promotable.keeps_all (component_of (plain_design design.now) number) (plain_group group.now) self.entry.cell self.entry.port (row_of self.entry.primitive.now) }
     {
-        is_done_port(self.primitive, self.port)
-            && self.starts(group)
-            && self.all_right(design, number, group)
-            && !looks
+        let done = is_done_port(self.primitive, self.port);
+        let starting = self.starts(group);
+        let right = self.all_right(design, number, group);
+        done && starting && right && !looks
     }
 
     /// Whether an assignment drives the port that starts the cell.
     fn starts(self, group: &Group) -> bool
-        ensures value { (i : Instance) → result ≡ promotable.starts i (plain_group group.now) self.cell self.port (row_of self.primitive.now) (promotable.starting_port (row_of self.primitive.now)) }
+        ensures value { result ≡ drives_start self.entry.cell (plain_group group.now).assigns (promotable.starting_port (row_of self.entry.primitive.now)) }
     {
         match starting_port(self.primitive) {
             None => false,
@@ -55,7 +57,7 @@ impl Started<'_> {
     /// Whether each assignment is one of the done, or drives an enabling port as it has to be, or looks at no done.
     fn all_right(self, design: &Design, number: usize, group: &Group) -> bool
         requires within { number < length design.now.components.items }
-        ensures value { result ≡ list_all (promotable.is_right (component_of (plain_design design.now) number) (plain_group group.now) self.cell self.port (row_of self.primitive.now)) (plain_group group.now).assigns }
+        ensures value { result ≡ list_all (promotable.is_right (component_of (plain_design design.now) number) (plain_group group.now) self.entry.cell self.entry.port (row_of self.entry.primitive.now)) (plain_group group.now).assigns }
     {
         for assign in &group.assigns {
             if !self.is_right(design, number, group, assign) {
@@ -67,7 +69,7 @@ impl Started<'_> {
 
     fn is_right(self, design: &Design, number: usize, group: &Group, assign: &Assign) -> bool
         requires within { number < length design.now.components.items }
-        ensures value { result ≡ promotable.is_right (component_of (plain_design design.now) number) (plain_group group.now) self.cell self.port (row_of self.primitive.now) (plain_assign assign.now) }
+        ensures value { result ≡ promotable.is_right (component_of (plain_design design.now) number) (plain_group group.now) self.entry.cell self.entry.port (row_of self.entry.primitive.now) (plain_assign assign.now) }
     {
         if is_hole(assign.target) {
             return true;
@@ -81,7 +83,7 @@ impl Started<'_> {
 
     /// Whether an enabling port is one of the cell and is driven once, by `1'd1`, without a guard or, of a pipe, while not done.
     fn is_right_enable(self, group: &Group, assign: &Assign) -> bool
-        ensures value { (i : Instance) → result ≡ promotable.is_right_enable i (plain_group group.now) self.cell self.port (row_of self.primitive.now) (plain_assign assign.now) }
+        ensures value { result ≡ drives_right (plain_group group.now) self.entry.cell self.entry.port (row_of self.entry.primitive.now) (plain_assign assign.now) }
     {
         self.is_own(assign.target)
             && is_one(assign.source.port)
@@ -91,7 +93,7 @@ impl Started<'_> {
 
     /// Whether a port is one of the cell.
     fn is_own(self, port: PortRef) -> bool
-        ensures value { result ≡ shape.is_port_of self.cell port }
+        ensures value { result ≡ shape.is_port_of self.entry.cell port }
     {
         match port {
             PortRef::Cell(cell, _) => cell == self.cell,
@@ -103,17 +105,17 @@ impl Started<'_> {
 
     /// Whether there is no guard or, of a pipe, the negated done.
     fn is_free(self, guard: &Guard) -> bool
-        ensures value { result ≡ (shape.is_always (plain_guard guard.now) || (promotable.is_pipe (row_of self.primitive.now).shape && shape.is_negated (refs.Cell self.cell self.port) (plain_guard guard.now))) }
+        ensures value { result ≡ (shape.is_always (plain_guard guard.now) || (promotable.is_pipe (row_of self.entry.primitive.now).shape && shape.is_negated (refs.Cell self.entry.cell self.entry.port) (plain_guard guard.now))) }
     {
-        is_always(guard) || work(self.primitive).is_pipe && self.is_not_done(guard)
+        is_always(guard) || timing_of(self.primitive).is_pipe && self.is_not_done(guard)
     }
 
     /// Whether a guard is the done.
     fn is_atom(self, guard: &Guard) -> bool
-        ensures value { result ≡ shape.is_atom (refs.Cell self.cell self.port) (plain_guard guard.now) }
+        ensures value { result ≡ shape.is_atom (refs.Cell self.entry.cell self.entry.port) (plain_guard guard.now) }
     {
         match guard {
-            Guard::Port(port) => is_port(self.cell, self.port as usize, port.port),
+            Guard::Port(port) => same_port(port.port, PortRef::Cell(self.cell, self.port)),
             Guard::True
             | Guard::Not(_)
             | Guard::And(_)
@@ -125,7 +127,7 @@ impl Started<'_> {
 
     /// Whether a guard is the negated done.
     fn is_not_done(self, guard: &Guard) -> bool
-        ensures value { result ≡ shape.is_negated (refs.Cell self.cell self.port) (plain_guard guard.now) }
+        ensures value { result ≡ shape.is_negated (refs.Cell self.entry.cell self.entry.port) (plain_guard guard.now) }
     {
         match guard {
             Guard::Not(guard) => self.is_atom(guard),
@@ -141,10 +143,10 @@ impl Started<'_> {
 
 /// Whether a port is this one of a cell.
 fn is_port(cell: u32, number: usize, port: PortRef) -> bool
-    ensures value { result ≡ same_port_of port (refs.Cell cell number) }
+    ensures value { result ≡ same_port_of (refs.Cell cell number) port }
 {
     match port {
-        PortRef::Cell(other, port) => other == cell && port as usize == number,
+        PortRef::Cell(other, port) => cell == other && number == port as usize,
         PortRef::Input(_) | PortRef::Output(_) | PortRef::Done(_) | PortRef::Literal(_, _) => false,
     }
 }

@@ -1,1 +1,2 @@
 mod KnownPromotions
+mod Unchanged

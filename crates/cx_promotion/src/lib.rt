@@ -3,5 +3,6 @@
 #![tactic(auto)]
 
 mod rows;
+pub mod tree_laws;
 
 pub use rows::PromotedRow;
