@@ -1,0 +1,252 @@
+-- RUNS QUICKEN: where the run of an instance's control ends from a settled state, that of the new control ends no later in the same state.
+use Rattle.std.proofs.Common.{◌≡◌, ℕ, zero, suc, ◌⊎◌, inl, inr, Bool, true, false, [], ◌∷◌, Option, Some, None, refl, sym, ap, ◌∙◌, subst}
+use Rattle.std.specs.Prelude.{nat_eq, is_some, if◌then◌else◌}
+use Rattle.std.proofs.Math.Path.{fun_ext}
+use Rattle.std.proofs.lemmas.Bool.{eqb-true}
+use Rattle.cx_text.specs.declared.places.Place.{Place}
+use Rattle.cx_meaning.specs.declared.kinds.GroupKind.{GroupKind}
+use Rattle.cx_meaning.specs.declared.kinds.GroupKind.TheVariants as kinds
+use Rattle.cx_meaning.specs.declared.ports.PortRef.{PortRef}
+use Rattle.cx_meaning.specs.Designs.{PlainGroup, PlainComponent, group_at, no_place, PlainForm, Empty, Enable, Seq, Par, If, While, Repeat, StaticSeq, StaticPar, StaticIf, StaticRepeat, Timed, PlainStatement, Placed, PlainStatements, no_statements, a_statement}
+use Rattle.cx_meaning.specs.Instances.{Instance, Node, Cells, no_cells, a_primitive, an_instance, OfInstance, cell_at, State, Set, merge, idle, idle_at, IsSettled}
+use Rattle.cx_meaning.specs.Active.{comb}
+use Rattle.cx_meaning.specs.Sights.{In, Held}
+use Rattle.cx_meaning.specs.Cycles.{Fault}
+use Rattle.cx_meaning.specs.Answers.{Test, Holds, Fails, Unclear}
+use Rattle.cx_meaning.specs.Control.{Leaves, groups_in, groups_of, groups_drive, run_form, run, run_parts}
+use Rattle.cx_meaning.specs.Islands.{kind_length, group_length, island}
+use Rattle.cx_meaning.specs.Calls.{test}
+use Rattle.cx_meaning.specs.Running.{leaves, run_control, control_below}
+use Rattle.cx_meaning.proofs.InstancesLemmas.{instance_is}
+use Rattle.cx_meaning.proofs.RunningLemmas.{steady_island, idle_settles, settles_statement}
+use Rattle.cx_meaning.proofs.SightsLaws.{in_left, in_right}
+use Rattle.cx_rules.specs.Circles.{IsAcyclic}
+use Rattle.cx_rules.specs.Items.{Context, Dynamic, Visited, visit, visit_all, statements_in, is_plain, is_comb}
+use Rattle.cx_rules.specs.StaticControl.{is_static}
+use Rattle.cx_rules.specs.Wellformed.{IsWith}
+use Rattle.cx_rules.proofs.CirclesLemmas.{own_acyclic}
+use Rattle.cx_rewrites.specs.Tallies.{Tally, none, uncounted, count_form, count, count_parts}
+use Rattle.cx_rewrites.specs.Carrying.{NoLater, Rests, TestCarried, Carries}
+use Rattle.cx_rewrites.specs.Beside.{joined, FormBeside, outright, empties, seqs, collapsed, pars, ifs, whiles, repeats, Beside, placed, PartsBeside, no_parts, a_part, as_one, ArmsBeside, no_arms, an_arm}
+use Rattle.cx_rewrites.proofs.BesideLemmas.{run_carries}
+use Rattle.cx_promotion.specs.Made as made
+use Rattle.cx_promotion.specs.Made.{IsPromoted, IsRun, FormMade, StatementMade, PartsMade, ArmsMade}
+use Rattle.cx_promotion.proofs.Twins.{Twins, TwinCells, beside_each, idle-twin}
+use Rattle.cx_promotion.proofs.MadeBeside.{MadeBeside}
+use Rattle.cx_promotion.proofs.Shapes.{shape_of}
+use Rattle.cx_promotion.proofs.Members.{group_made, not_promoted, not_promoted_kind}
+use Rattle.cx_promotion.proofs.Stays.{IsIdle}
+use Rattle.cx_promotion.proofs.StaticStays.{parts_static, island_stays}
+use Rattle.cx_promotion.proofs.MadeControl.{made_groups, groups_drive-made}
+use Rattle.cx_promotion.proofs.LeavesQuicken.{same_fault, recounted, SameSettled, Quicker, steady_quicker, with_settled, test_stays, enable_quicker}
+use Rattle.cx_promotion.proofs.PiecesQuicken.{piece_quicker, promoted_quicker}
+use Rattle.cx_promotion.proofs.Impossible.{no_true}
+
+comb_no_plain : (kind : GroupKind) → is_comb kind ≡ true → is_plain kind ≡ false
+comb_no_plain kinds.Plain e = no_true e
+comb_no_plain kinds.Comb e = refl
+comb_no_plain (kinds.Timed n) e = no_true e
+
+plain_no_length : (kind : GroupKind) → is_plain kind ≡ true → is_some (kind_length kind) ≡ true → ⊥
+plain_no_length kinds.Plain e f = no_true f
+plain_no_length kinds.Comb e f = no_true e
+plain_no_length (kinds.Timed n) e f = no_true e
+
+merge_settled : (i : Instance) (set : Set) (a b : State) → IsSettled i a → IsSettled i b → IsSettled i (merge set a b)
+merge_settled i set a b h k [] = k []
+merge_settled i set a b h k (c ∷ path) = one (set c)
+  where
+    one : (pick : Bool) → idle_at i (c ∷ path) (if pick then a (c ∷ path) else b (c ∷ path)) ≡ (if pick then a (c ∷ path) else b (c ∷ path))
+    one true = h (c ∷ path)
+    one false = k (c ∷ path)
+
+-- statements behind others are visited with them
+visit_joined : (context : Context) (first later : PlainStatements) (v : Visited) → In (visit_all context later) v → In (visit_all context (joined first later)) v
+visit_joined context no_statements later v k = k
+visit_joined context (a_statement s ss) later v k = in_right (visit context s) (visit_all context (joined ss later)) v (visit_joined context ss later v k)
+
+test_itself : (x : Test Fault) → TestCarried NoLater same_fault x x
+test_itself Holds = refl
+test_itself Fails = refl
+test_itself (Unclear f) = tt
+
+module _ (part other : PlainComponent) (cells more : Cells) (t : Twins MadeBeside (Node part cells) (Node other more)) (held : Held)
+    (children : (c : ℕ) (child : Instance) → cell_at cells c ≡ OfInstance child → (own : Held)
+    → Carries NoLater (SameSettled child) same_fault (λ s n. none) (control_below cells c own) (control_below more c own)) where
+  abbrev i : Instance
+  i = Node part cells
+
+  abbrev j : Instance
+  j = Node other more
+
+  abbrev h : MadeBeside i j
+  h = beside_each MadeBeside i j t
+
+  abbrev P : ℕ → Type 0
+  P g = IsPromoted h.whole part other g
+
+  abbrev L : Leaves State Fault
+  L = leaves i (control_below cells) held
+
+  abbrev M : Leaves State Fault
+  M = leaves j (control_below more) held
+
+  abbrev R : Tally → State → State → Type 0
+  R = SameSettled i
+
+  rests : Rests R L.rest M.rest
+  rests before s z r = (ap (idle i) r.0 ∙ ap (λ (rest : State → State). rest z) (sym (idle-twin MadeBeside i j t)), idle_settles i h.keeps_idle s)
+
+  -- a form that is quicker outright
+  outright_form : (form twin : PlainForm) → Quicker i (count_form L uncounted form) (run_form L form) (run_form M twin) → FormBeside NoLater R same_fault L uncounted M form twin
+  outright_form form twin quicker =
+      outright (λ before s z n m room r.
+      with_settled i before (count_form L uncounted form s n) (run_form L form s n) (run_form M twin z m)
+      (quicker before s z n m room r.0 r.1) (settles_statement i h.keeps_idle held (Placed form no_place) s n r.1))
+
+  -- TESTS
+  comb_idle : (with_group : Option ℕ) → IsWith part with_group → IsIdle i j h (comb with_group)
+  comb_idle None is g promoted = refl
+  comb_idle (Some k) is g promoted = by (nat_eq k g) refl
+    where
+      by : (b : Bool) → nat_eq k g ≡ b → ◌≡◌ {A = Option ℕ} (if b then Some 0 else None) None
+      by true e = absurd (not_promoted_kind h.whole part other k (comb_no_plain (group_at part k).kind is.1) (subst P (sym (eqb-true k g e)) promoted))
+      by false e = refl
+
+  comb_acyclic : (with_group : Option ℕ) → IsWith part with_group → IsAcyclic i (comb with_group)
+  comb_acyclic None is = own_acyclic i h.acyclic
+  comb_acyclic (Some k) is = h.groups k is.0
+
+  tests_carry : (p : PortRef) (with_group : Option ℕ) → IsWith part with_group → (before : Tally) (s z : State) → R before s z → TestCarried NoLater same_fault (L.test p with_group s) (M.test p with_group z)
+  tests_carry p with_group is before s z r =
+      subst (λ x. TestCarried NoLater same_fault (test i held p with_group s) x)
+      (ap (test i held p with_group) r.0 ∙ sym (test_stays i j t held p with_group z (comb_idle with_group is) (comb_acyclic with_group is)))
+      (test_itself (test i held p with_group s))
+
+  -- ARMS
+  merges_carry : (arm twin : PlainStatement) → StatementMade P arm twin → (a b x y : State) → (a ≡ x) × IsSettled i a → (b ≡ y) × IsSettled i b
+      → (merge (groups_drive part (groups_of arm)) a b ≡ merge (groups_drive other (groups_of twin)) x y) × IsSettled i (merge (groups_drive part (groups_of arm)) a b)
+  merges_carry arm twin is a b x y one two = (
+    ap (λ (set : Set). merge set a b) (fun_ext (λ c. sym (groups_drive-made h.whole part other h.made (groups_of arm) c)))
+        ∙ ap (λ gs. merge (groups_drive other gs) a b) (sym (made_groups P is))
+        ∙ ap (λ s. merge (groups_drive other (groups_of twin)) s b) one.0
+        ∙ ap (merge (groups_drive other (groups_of twin)) x) two.0,
+    merge_settled i (groups_drive part (groups_of arm)) a b one.1 two.1,
+  )
+
+  -- STATIC CONTROL of the source
+  static_still : (form : PlainForm) (place : Place) → is_static form ≡ true → ((v : Visited) → In (visit Dynamic (Placed form place)) v → In (statements_in part) v)
+      → (g : ℕ) → In (groups_in form) g → (P g → ⊥) × (group_length other g ≡ group_length part g)
+  static_still form place is sub g k = by (group_made h.whole h.made.groups g)
+    where
+      by : (group_at other g ≡ group_at part g) ⊎ P g → (P g → ⊥) × (group_length other g ≡ group_length part g)
+      by (inl stays) = (not_promoted h.whole part other g stays, ap (λ (x : PlainGroup). kind_length x.kind) stays)
+      by (inr promoted) =
+          absurd (plain_no_length (group_at part g).kind (shape_of h.whole (group_at part g) promoted.0 promoted.1).plain
+          (parts_static part Dynamic form is (λ v inside stat. h.statics v (sub v (inr inside)) stat) g k))
+
+  equal_beside : (form : PlainForm) → is_static form ≡ true → ((s : State) (n : ℕ) → island j held form s n ≡ island i held form s n) → FormBeside NoLater R same_fault L uncounted M form form
+  equal_beside Empty e same = no_true e
+  equal_beside (Enable g) e same = no_true e
+  equal_beside (Seq parts) e same = no_true e
+  equal_beside (Par arms) e same = no_true e
+  equal_beside (If p k a b) e same = no_true e
+  equal_beside (While p k a) e same = no_true e
+  equal_beside (Repeat k a) e same = no_true e
+  equal_beside (StaticSeq k parts) e same =
+      outright_form (StaticSeq k parts) (StaticSeq k parts)
+      (steady_quicker i (count_form L uncounted (StaticSeq k parts)) (island i held (StaticSeq k parts)) (island j held (StaticSeq k parts)) (steady_island i held (StaticSeq k parts)) same)
+  equal_beside (StaticPar k arms) e same =
+      outright_form (StaticPar k arms) (StaticPar k arms)
+      (steady_quicker i (count_form L uncounted (StaticPar k arms)) (island i held (StaticPar k arms)) (island j held (StaticPar k arms)) (steady_island i held (StaticPar k arms)) same)
+  equal_beside (StaticIf k p a b) e same =
+      outright_form (StaticIf k p a b) (StaticIf k p a b)
+      (steady_quicker i (count_form L uncounted (StaticIf k p a b)) (island i held (StaticIf k p a b)) (island j held (StaticIf k p a b)) (steady_island i held (StaticIf k p a b)) same)
+  equal_beside (StaticRepeat k m a) e same =
+      outright_form (StaticRepeat k m a) (StaticRepeat k m a)
+      (steady_quicker i (count_form L uncounted (StaticRepeat k m a)) (island i held (StaticRepeat k m a)) (island j held (StaticRepeat k m a)) (steady_island i held (StaticRepeat k m a)) same)
+  equal_beside (Timed k) e same = no_true e
+
+  static_beside : (form : PlainForm) (place : Place) → is_static form ≡ true → ((v : Visited) → In (visit Dynamic (Placed form place)) v → In (statements_in part) v)
+      → FormBeside NoLater R same_fault L uncounted M form form
+  static_beside form place is sub =
+      equal_beside form is (λ s n. island_stays i j t held (record { context = Dynamic; form = form; place = place }) (sub (record { context = Dynamic; form = form; place = place }) (inl refl)) (static_still form place is sub) s n)
+
+  -- AN ENABLE, of a group that stays or is promoted
+  enable_beside : (g : ℕ) (place : Place) → In (statements_in part) (record { context = Dynamic; form = Enable g; place = place }) → FormBeside NoLater R same_fault L uncounted M (Enable g) (Enable g)
+  enable_beside g place stands = outright_form (Enable g) (Enable g) (by (group_made h.whole h.made.groups g))
+    where
+      by : (group_at other g ≡ group_at part g) ⊎ P g → Quicker i (count_form L uncounted (Enable g)) (run_form L (Enable g)) (run_form M (Enable g))
+      by (inl stays) =
+          enable_quicker i j t held g stays (h.statements (record { context = Dynamic; form = Enable g; place = place }) stands).0 (control_below cells) (control_below more) children
+          (count_form L uncounted (Enable g)) place stands
+      by (inr promoted) = promoted_quicker part other cells more t held (control_below more) (count_form L uncounted (Enable g)) g promoted
+
+  -- A PIECE
+  piece_carries : (s0 : PlainStatement) (piece : PlainStatements) (place : Place) → IsRun P (a_statement s0 piece)
+      → Carries NoLater R same_fault (count_parts L uncounted (a_statement s0 piece)) (run_parts L (a_statement s0 piece)) (run M (Placed (StaticSeq None (a_statement s0 piece)) place))
+  piece_carries s0 piece place is before s z n m room r =
+      with_settled i before (count_parts L uncounted (a_statement s0 piece) s n) (run_parts L (a_statement s0 piece) s n) (island j held (StaticSeq None (a_statement s0 piece)) z m)
+      (piece_quicker part other cells more t held s0 piece is (count_parts L uncounted (a_statement s0 piece)) before s z n m room r.0 r.1)
+      (settles_statement i h.keeps_idle held (Placed (Seq (a_statement s0 piece)) no_place) s n r.1)
+
+  -- STATEMENTS stand beside what was made of them
+  mutual
+    form_beside : {form twin : PlainForm} → FormMade P form twin → (place : Place) → ((v : Visited) → In (visit Dynamic (Placed form place)) v → In (statements_in part) v)
+        → FormBeside NoLater R same_fault L uncounted M form twin
+    form_beside made.empty place sub = empties
+    form_beside (made.enable {g = g}) place sub = enable_beside g place (sub (record { context = Dynamic; form = Enable g; place = place }) (inl refl))
+    form_beside (made.seq parts) place sub = seqs (parts_beside parts (λ v k. sub v (inr k)))
+    form_beside (made.collapsed {p = p} parts) place sub = collapsed {there = p} (parts_beside parts (λ v k. sub v (inr k)))
+    form_beside (made.par arms) place sub = pars (arms_beside arms (λ v k. sub v (inr k)))
+    form_beside (made.if_made {test = p} {comb = with_group} {a = a} {b = b} one two) place sub =
+        ifs {p = p} {q = p} (tests_carry p.port with_group (h.statements (record { context = Dynamic; form = If p with_group a b; place = place }) (sub _ (inl refl))))
+        (beside one (λ v k. sub v (inr (in_left (visit Dynamic a) (visit Dynamic b) v k))))
+        (beside two (λ v k. sub v (inr (in_right (visit Dynamic a) (visit Dynamic b) v k))))
+    form_beside (made.while_made {test = p} {comb = with_group} {a = a} one) place sub =
+        whiles {p = p} {q = p} (tests_carry p.port with_group (h.statements (record { context = Dynamic; form = While p with_group a; place = place }) (sub _ (inl refl)))) (beside one (λ v k. sub v (inr k)))
+    form_beside (made.repeat_made one) place sub = repeats (beside one (λ v k. sub v (inr k)))
+    form_beside (made.static {form = form} is) place sub = static_beside form place is sub
+
+    beside : {s twin : PlainStatement} → StatementMade P s twin → ((v : Visited) → In (visit Dynamic s) v → In (statements_in part) v) → Beside NoLater R same_fault L uncounted M s twin
+    beside (made.placed {p = p} form) sub = placed (form_beside form p sub)
+
+    parts_beside : {ss twins : PlainStatements} → PartsMade P ss twins → ((v : Visited) → In (visit_all Dynamic ss) v → In (statements_in part) v) → PartsBeside NoLater R same_fault L uncounted M ss twins
+    parts_beside made.no_parts sub = no_parts
+    parts_beside (made.a_part {s = s} {ss = ss} first later) sub =
+        a_part (beside first (λ v k. sub v (in_left (visit Dynamic s) (visit_all Dynamic ss) v k))) (parts_beside later (λ v k. sub v (in_right (visit Dynamic s) (visit_all Dynamic ss) v k)))
+    parts_beside (made.a_run {s = s} {run = piece} {ss = ss} {p = p} is later) sub =
+        as_one s piece ss (piece_carries s piece p is) (parts_beside later (λ v k. sub v (visit_joined Dynamic (a_statement s piece) ss v k)))
+
+    arms_beside : {ss twins : PlainStatements} → ArmsMade P ss twins → ((v : Visited) → In (visit_all Dynamic ss) v → In (statements_in part) v) → ArmsBeside NoLater R same_fault L uncounted M ss twins
+    arms_beside made.no_arms sub = no_arms
+    arms_beside (made.an_arm {s = s} {t = twin} {ss = ss} first later) sub =
+        an_arm (λ before z n a b x y k l e f one two. merges_carry s twin first a b x y one two)
+        (beside first (λ v k. sub v (in_left (visit Dynamic s) (visit_all Dynamic ss) v k))) (arms_beside later (λ v k. sub v (in_right (visit Dynamic s) (visit_all Dynamic ss) v k)))
+
+  -- THE CONTROL of the instance
+  pub node_quickens : Carries NoLater R same_fault (λ s n. none) (run_control i held) (run_control j held)
+  node_quickens before s z n m room r =
+      recounted (λ a b. (a ≡ b) × IsSettled i a) before (count L uncounted part.control s n) none (run_control i held s n) (run_control j held z m)
+      (run_carries NoLater R same_fault L uncounted M rests (beside h.made.control (λ v k. k)) before s z n m room r)
+
+-- CONTROL, by the tree
+mutual
+  pub control_quickens : (i j : Instance) → Twins MadeBeside i j → (held : Held) → Carries NoLater (SameSettled i) same_fault (λ s n. none) (run_control i held) (run_control j held)
+  control_quickens (Node part cells) (Node other more) (h, hs) held before s z n m room r =
+      node_quickens part other cells more (h, hs) held (λ c child is own. below_quickens cells more hs c child is own) before s z n m room r
+
+  below_quickens : (cells more : Cells) → TwinCells MadeBeside cells more → (c : ℕ) (child : Instance) → cell_at cells c ≡ OfInstance child → (held : Held)
+      → Carries NoLater (SameSettled child) same_fault (λ s n. none) (control_below cells c held) (control_below more c held)
+  below_quickens no_cells no_cells h c child is held = absurd (cc)
+  below_quickens no_cells (a_primitive twin more) h c child is held = absurd h
+  below_quickens no_cells (an_instance twin more) h c child is held = absurd h
+  below_quickens (a_primitive row rest) no_cells h c child is held = absurd h
+  below_quickens (a_primitive row rest) (a_primitive twin more) (e, h) zero child is held = absurd (cc)
+  below_quickens (a_primitive row rest) (a_primitive twin more) (e, h) (suc c) child is held = below_quickens rest more h c child is held
+  below_quickens (a_primitive row rest) (an_instance twin more) h c child is held = absurd h
+  below_quickens (an_instance kid rest) no_cells h c child is held = absurd h
+  below_quickens (an_instance kid rest) (a_primitive twin more) h c child is held = absurd h
+  below_quickens (an_instance kid rest) (an_instance twin more) (t, h) zero child is held =
+      subst (λ k. Carries NoLater (SameSettled k) same_fault (λ s n. none) (run_control kid held) (run_control twin held)) (instance_is kid child is) (control_quickens kid twin t held)
+  below_quickens (an_instance kid rest) (an_instance twin more) (t, h) (suc c) child is held = below_quickens rest more h c child is held
