@@ -13,7 +13,7 @@ abbrev pub done_of : Pieces → List PlainStatement
 done_of pieces = plain_statements pieces.done.items
 
 abbrev pub open_of : Pieces → List PlainStatement
-open_of pieces = plain_statements pieces.open.items
+open_of pieces = plain_statements pieces.piece.items
 
 -- all that comes of it, where these statements are left
 abbrev pub cut_with : (List ℕ → Bool) → Pieces → PlainStatements → PlainStatements

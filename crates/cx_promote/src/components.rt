@@ -1,6 +1,6 @@
 //! Components of a promoted tree, and the rows of their groups.
 
-ghost use Rattle.std.specs.Prelude.{◌≡◌, ◌++◌, IfOk, OnOk, option_map};
+ghost use Rattle.std.specs.Prelude.{◌≡◌, ◌++◌, IfOk, OnOk, option_map, true};
 ghost use Rattle.cx_ast.specs.PlainTree.{plain_component};
 ghost use Rattle.cx_ast.specs.PlainStatements.{plain_block};
 ghost use Rattle.cx_numbering.specs.Names.{group_names, groups_in};
@@ -28,9 +28,9 @@ pub(crate) fn promoted_component(
     site: Site,
     lengths: Lengths,
 ) -> Result<ComponentItem, Memory>
-    requires site { IsSite site.entry }
-    requires lengths { Begins (promotion.length_of (tree_at site.entry) (part_at site.entry) (instance_at site.entry)) lengths.entry.cycles.now (groups_in (part_at site.entry).wires) }
-    requires numbers { AreNumbersOf (group_names (part_at site.entry)) lengths.entry.numbers.now }
+    requires site { IsSite site }
+    requires lengths { Begins (promotion.length_of (tree_at site) (part_at site) (instance_at site)) lengths.cycles.now (groups_in (part_at site).wires) }
+    requires numbers { AreNumbersOf (group_names (part_at site)) lengths.numbers.now }
     ensures value { IfOk result (λ c. plain_component c ≡ promotion.promote_component (tree_at site.entry) (part_at site.entry) (instance_at site.entry)) }
 {
     let item = site.part;
@@ -77,7 +77,7 @@ pub(crate) fn add_rows(
     site: Site,
     lengths: &[Option<u64>],
 ) -> Result<(), Memory>
-    requires lengths { Begins (promotion.length_of (tree_at site.entry) (part_at site.entry) (instance_at site.entry)) lengths.now (groups_in (part_at site.entry).wires) }
+    requires lengths { Begins (promotion.length_of (tree_at site) (part_at site) (instance_at site)) lengths.now (groups_in (part_at site).wires) }
     ensures value { OnOk result (rows.new.items ≡ rows.old.items ++ promotion.rows_in (tree_at site.entry) (part_at site.entry) (instance_at site.entry) (groups_in (part_at site.entry).wires)) }
 {
     let mut place = 0;

@@ -27,8 +27,8 @@ pub(crate) fn promoted_wires(
     site: Site,
     lengths: &[Option<u64>],
 ) -> Result<Vec<WireItem>, Memory>
-    requires site { IsSite site.entry }
-    requires lengths { Begins (promotion.length_of (tree_at site.entry) (part_at site.entry) (instance_at site.entry)) lengths.now (groups_in (part_at site.entry).wires) }
+    requires site { IsSite site }
+    requires lengths { Begins (promotion.length_of (tree_at site) (part_at site) (instance_at site)) lengths.now (groups_in (part_at site).wires) }
     ensures value { IfOk result (λ list. map written.plain_wire list.items ≡ map (promotion.promote_wire (tree_at site.entry) (part_at site.entry) (instance_at site.entry)) (part_at site.entry).wires) }
 {
     let groups = component(site.design, site.number).groups.as_slice();
@@ -57,8 +57,8 @@ fn by_length(
     group: &Group,
     item: &GroupItem,
 ) -> Result<GroupItem, Memory>
-    requires site { IsSite site.entry }
-    requires its { plain_group group.now ≡ group_of (tree_at site.entry) (part_at site.entry) (written.plain_group item.now) }
+    requires site { IsSite site }
+    requires its { plain_group group.now ≡ group_of (tree_at site) (part_at site) (written.plain_group item.now) }
     ensures value { IfOk result (λ g. written.plain_group g ≡ promotion.promote_group (promotion.enables (tree_at site.entry) (part_at site.entry) (instance_at site.entry)) length (written.plain_group item.now)) }
 {
     match length {
@@ -75,8 +75,8 @@ fn static_group(
     group: &Group,
     item: &GroupItem,
 ) -> Result<GroupItem, Memory>
-    requires site { IsSite site.entry }
-    requires its { plain_group group.now ≡ group_of (tree_at site.entry) (part_at site.entry) (written.plain_group item.now) }
+    requires site { IsSite site }
+    requires its { plain_group group.now ≡ group_of (tree_at site) (part_at site) (written.plain_group item.now) }
     ensures value { IfOk result (λ g. written.plain_group g ≡ promotion.promote_group (promotion.enables (tree_at site.entry) (part_at site.entry) (instance_at site.entry)) (Some cycles) (written.plain_group item.now)) }
 {
     let attributes = copied_attributes(alloc, item.attributes.as_slice())?;
@@ -105,8 +105,8 @@ fn static_assigns(
     assigns: &[Assign],
     items: &[AssignItem],
 ) -> Result<Vec<AssignItem>, Memory>
-    requires site { IsSite site.entry }
-    requires its { plain_assigns assigns.now ≡ map (assign_of (tree_at site.entry) (part_at site.entry)) (map written.plain_assign items.now) }
+    requires site { IsSite site }
+    requires its { plain_assigns assigns.now ≡ map (assign_of (tree_at site) (part_at site)) (map written.plain_assign items.now) }
     ensures value { IfOk result (λ list. map written.plain_assign list.items ≡ promotion.promote_assigns (promotion.enables (tree_at site.entry) (part_at site.entry) (instance_at site.entry)) (map written.plain_assign items.now)) }
 {
     let mut kept = Vec::new(alloc);

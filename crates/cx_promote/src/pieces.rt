@@ -17,18 +17,18 @@ const PIECE: usize = 4_096;
 #[derive(Drop)]
 pub(crate) struct Pieces {
     pub(crate) done: Vec<StatementItem>,
-    pub(crate) open: Vec<StatementItem>,
+    pub(crate) piece: Vec<StatementItem>,
 }
 
 impl Pieces {
     /// No statements.
     pub(crate) fn new(alloc: Global) -> Pieces
         ensures done { result.done.items ≡ [] }
-        ensures open { result.open.items ≡ [] }
+        ensures piece { result.piece.items ≡ [] }
     {
         Pieces {
             done: Vec::new(alloc),
-            open: Vec::new(alloc),
+            piece: Vec::new(alloc),
         }
     }
 
@@ -36,7 +36,7 @@ impl Pieces {
     fn is_full(&self) -> bool
         ensures value { result ≡ nat_eq (length (open_of self.now)) LONGEST }
     {
-        self.open.len() == PIECE
+        self.piece.len() == PIECE
     }
 
     /// Adds a statement: an enable of a run into the open piece, or into a new one where that is full; another statement behind the
@@ -58,21 +58,21 @@ impl Pieces {
         if self.is_full() {
             self.close(alloc)?;
         }
-        self.open.push(statement)?;
+        self.piece.push(statement)?;
         Ok(())
     }
 
     /// Closes the open piece: two enables or more are one static seq.
     pub(crate) fn close(&mut self, alloc: Global) -> Result<(), Memory>
         ensures done { (long : List ℕ → Bool) (later : PlainStatements) → OnOk result (before (done_of self.new) later ≡ before (done_of self.old) (closed long (open_of self.old) later)) }
-        ensures open { OnOk result (open_of self.new ≡ []) }
+        ensures piece { OnOk result (open_of self.new ≡ []) }
     {
-        let mut open = replace(&mut self.open, Vec::new(alloc));
-        if open.len() > 1 {
-            self.done.push(static_seq(alloc, open))?;
+        let mut piece = replace(&mut self.piece, Vec::new(alloc));
+        if piece.len() > 1 {
+            self.done.push(static_seq(alloc, piece))?;
             return Ok(());
         }
-        if let Some(only) = open.pop() {
+        if let Some(only) = piece.pop() {
             self.done.push(only)?;
         }
         Ok(())

@@ -1,5 +1,5 @@
 -- A tree without promotable groups is its promoted tree.
-use Rattle.std.proofs.Common.{◌≡◌, ℕ, suc, ◌-◌, nat_lt, nat_eq, ◌⊎◌, inl, inr, Bool, true, false, ◌&&◌, List, [], ◌∷◌, ◌++◌, map, Option, Some, None, is_some, option_map, refl, sym, ap, ◌∙◌, if◌then◌else◌}
+use Rattle.std.proofs.Common.{◌≡◌, ℕ, suc, ◌-◌, nat_lt, nat_eq, inl, inr, Bool, true, false, ◌&&◌, List, [], ◌∷◌, ◌++◌, map, Option, Some, None, is_some, option_map, refl, sym, ap, ◌∙◌, if◌then◌else◌}
 use Rattle.cx_ast.specs.PlainStatements.{PlainForm, PlainElse, NoElse, Else, PlainStatement, Placed, PlainStatements, NoStatements, StatementThen, PlainBlock, Braces}
 use Rattle.cx_ast.specs.PlainStatements as plain
 use Rattle.cx_ast.specs.PlainTree.{PlainGroup, PlainWire, PlainComponent, PlainTree}
