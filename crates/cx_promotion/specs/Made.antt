@@ -98,7 +98,3 @@ pub record DesignMade (old new : PlainDesign) : Type 0 where
 pub record Quickens (old new : PlainDesign) : Type 0 where
   pub rows : external_rows old ≡ external_rows new
   pub runs : (words : List (List ℕ)) (n t : ℕ) (s : State) → run_main old words n ≡ End s t → (k : ℕ) × (run_main new words n ≡ End s k) × (k ≤ t)
-
--- a promoted design keeps the rules of stages 3 to 6; the limits are asked of it
-abbrev pub PromotionKeepsRules : Type 0
-PromotionKeepsRules = (old new : PlainDesign) → IsDesign old → IsAccepted old → DesignMade old new → KeepsStage 7 new → IsAccepted new

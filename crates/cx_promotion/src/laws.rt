@@ -3,7 +3,7 @@
 ghost use Rattle.std.specs.Prelude.{◌≡◌};
 ghost use Rattle.cx_meaning.specs.Designs.{PlainDesign};
 ghost use Rattle.cx_meaning.specs.Instances.{State, tree_of, words_of};
-ghost use Rattle.cx_rules.specs.Accepted.{IsAccepted};
+ghost use Rattle.cx_rules.specs.Accepted.{IsAccepted, KeepsStage};
 ghost use Rattle.cx_rules.specs.Wellformed.{IsDesign};
 ghost use Rattle.cx_rewrites.specs.Places.{SameDesign};
 ghost use Rattle.cx_promotion.specs.Made.{DesignMade, Quickens};
@@ -18,4 +18,10 @@ pub fn promoted_runs_quicker()
         → IsDesign old → IsAccepted old → DesignMade old new → SameDesign new again → Quickens old again }
     ensures words { (old new : PlainDesign) (s : State)
         → IsDesign old → IsAccepted old → DesignMade old new → words_of (tree_of new) s ≡ words_of (tree_of old) s }
+{}
+
+/// A design that promotion makes of an accepted one breaks no rule but that on limits; so it is accepted where it keeps the limits,
+/// which may be passed, since a static seq counts anew.
+pub fn promoted_keeps_rules()
+    ensures { (old new : PlainDesign) → IsDesign old → IsAccepted old → DesignMade old new → KeepsStage 7 new → IsAccepted new }
 {}
