@@ -85,7 +85,7 @@ module _ (i j : Instance) (t : Twins SameSignature i j) (made : PartMade i (part
     (
       port,
       first_of_more (differ (width_of i o.assign.target) (width_of i o.assign.source.port)) o.assign.target port (first_unequal i (comparisons_of o.assign.guard))
-      (sym (unequal_same (record { first = o.assign.target; second = o.assign.source.port } ∷ [])) ∙ is),
+          (sym (unequal_same (record { first = o.assign.target; second = o.assign.source.port } ∷ [])) ∙ is),
       (refl, refl),
     ),
   )

@@ -75,8 +75,7 @@ module _ (i j : Instance) (t : Twins SameSignature i j) (made : PartMade i (part
 
   pub no_done_back : (g : ℕ) (place : Place) (name : List ℕ) → BreaksNoDone j g place name → OldGroupBreak BreaksNoDone g
   no_done_back g place name (plain, none, tells) =
-      let stays = plain_stays g plain in
-      (
+      let stays = plain_stays g plain in (
         (group_at (part_of i) g).place,
         (group_at (part_of i) g).name,
         (subst (λ (x : PlainGroup). is_plain x.kind ≡ true) stays plain, subst (λ (x : PlainGroup). some_target (is_hole_of g) x.assigns ≡ false) stays none, (refl, refl)),
@@ -228,8 +227,7 @@ module _ (i j : Instance) (t : Twins SameSignature i j) (made : PartMade i (part
 
   pub group_call_back : (g : ℕ) (place : Place) (name : List ℕ) → GroupBreaksCallShape j g place name → OldGroupBreak GroupBreaksCallShape g
   group_call_back g place name (plain, (c, calls, undriven), tells) =
-      let stays = plain_stays g plain in
-      (
+      let stays = plain_stays g plain in (
         (group_at (part_of i) g).place,
         (group_at (part_of i) g).name,
         (

@@ -76,8 +76,7 @@ module _ (whole : Instance) (old new : PlainComponent) (made : PartMade whole ol
   mentions_back : (act : Active) (p q : PortRef) → Mentions (drivers new act p) q → Mentions (drivers old act p) q
   mentions_back act p q (a, inside, names) =
       let f = acting_from act p (source_order new) a inside in
-      let m = came_from whole (IsPromoted whole old new) made.order f.owned f.stands in
-      (
+      let m = came_from whole (IsPromoted whole old new) made.order f.owned f.stands in (
         record { offset = a.offset; assign = m.owned.assign },
         acting_has act p (source_order old) m.owned a.offset m.stands (ap (λ r. same_port r p) (m.target ∙ f.target) ∙ same_self p) (ap (offset_of act) m.owner ∙ f.active),
         m.names q (subst (λ (b : PlainAssign). AssignNames b q) f.same names),

@@ -143,7 +143,7 @@ module _ (old new : PlainDesign) (design : IsDesign old) (accepted : IsAccepted 
 
   no_statement : (rule : StatementRule) → ((spot : Spot) (place : Place) (name : List ℕ) → OnStatement rule old spot place name → ⊥)
       → ((k : ℕ) (within : k < n) (w : Visited) (place : Place) (name : List ℕ) → Comes (i k) (j k) (t k) (made_at k within) (lengths k within) (stands_static k within) w → rule (j k) w place name
-          → OldStatement k within rule)
+      → OldStatement k within rule)
       → (spot : Spot) (place : Place) (name : List ℕ) → OnStatement rule new spot place name → ⊥
   no_statement rule keeps back spot place name on =
       let k : ℕ = spot.component in

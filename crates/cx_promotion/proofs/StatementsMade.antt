@@ -175,8 +175,7 @@ module _ (i j : Instance) (t : Twins SameSignature i j) (made : PartMade i (part
   length_at context form (of_piece run) is has (inr zero_length) = absurd (piece_length run zero_length)
   length_at context form (of_enable v g inside e long) is has wrong = no_true is
   length_at context form (the_same v inside) is has wrong =
-      let same = static_groups_same v inside is in
-      (
+      let same = static_groups_same v inside is in (
         v,
         inside,
         v.place,
@@ -251,8 +250,7 @@ module _ (i j : Instance) (t : Twins SameSignature i j) (made : PartMade i (part
   two_back : (vs : List Visited) (context : Context) (form : PlainForm) → Came P vs context form → (two : Arms (arms_of form)) → (v : Visited) × In vs v × TwoBack v.form form two
   two_back vs context form (of_dynamic v inside tests dynamic enables arms) two =
       let one = arms two.one two.first two.first_stands in
-      let other = arms two.other two.second two.second_stands in
-      (
+      let other = arms two.other two.second two.second_stands in (
         v,
         inside,
         record {

@@ -159,9 +159,11 @@ module _ (old new : PlainDesign) (made : DesignMade old new) (Beside : Instance 
 
   pub twins_within : (m k : ℕ) → Twins Beside (tree_within old m k) (tree_within new m k)
   twins_within zero k = (top zero k, tt)
-  twins_within (suc m) k =
-      (top (suc m) k, subst (λ cells. TwinCells Beside (cells_for (tree_within old m) (component_at old k).cells) (cells_for (tree_within new m) cells)) (cells_same k)
-      (twin_list Beside (tree_within old m) (tree_within new m) (twins_within m) (component_at old k).cells))
+  twins_within (suc m) k = (
+    top (suc m) k,
+    subst (λ cells. TwinCells Beside (cells_for (tree_within old m) (component_at old k).cells) (cells_for (tree_within new m) cells)) (cells_same k)
+        (twin_list Beside (tree_within old m) (tree_within new m) (twins_within m) (component_at old k).cells),
+  )
 
 -- TWO DESIGNS
 module _ (old new : PlainDesign) (design : IsDesign old) (accepted : IsAccepted old) (is_made : DesignMade old new) where
