@@ -1,3 +1,5 @@
+mod KnownPromotions
+mod Unchanged
 mod Impossible
 mod RowPorts
 mod RowCounts

@@ -4,5 +4,6 @@
 
 pub mod laws;
 mod rows;
+pub mod tree_laws;
 
 pub use rows::PromotedRow;
