@@ -1,0 +1,10 @@
+mod SourceOrder
+mod BareNames
+mod BareParts
+mod BareControl
+mod BareRules
+mod WrittenOrder
+mod SameTrees
+mod CommentLemmas
+mod RisingLemmas
+mod ReadLemmas

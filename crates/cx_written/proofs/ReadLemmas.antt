@@ -1,0 +1,92 @@
+-- WHAT IS WRITTEN IS READ as the tree that was printed, behind lines of comments.
+use Rattle.std.proofs.Common.{◌≡◌, ℕ, false, List, [], ◌∷◌, ◌++◌, map, refl, sym, ap, ◌∙◌, subst, append-nil}
+use Rattle.std.specs.List.{AllByRecursion}
+use Rattle.cx_text.specs.declared.places.Place.{Place}
+use Rattle.cx_text.specs.Places.{start, after_bytes}
+use Rattle.cx_ast.specs.declared.tokens.Token.{Token}
+use Rattle.cx_ast.specs.PlainTokens.{kinds_of}
+use Rattle.cx_ast.specs.PlainTree.{PlainTree, PlainComponent}
+use Rattle.cx_lex.specs.Lex.{Lex}
+use Rattle.cx_grammar.specs.Grammar.{Spells}
+use Rattle.cx_grammar.specs.Calyx.{file, spelled_within}
+use Rattle.cx_grammar.specs.Parsing.{Parse}
+use Rattle.cx_print.specs.Pieces.{tokens_of}
+use Rattle.cx_print.specs.Places.{without_places}
+use Rattle.cx_print.specs.Printable.{IsPrintable}
+use Rattle.cx_print.proofs.FileSpelling.{tree_added}
+use Rattle.cx_meaning.specs.Designs.{PlainDesign}
+use Rattle.cx_meaning.specs.Instances.{State, tree_of, words_of}
+use Rattle.cx_meaning.specs.Running.{run_main}
+use Rattle.cx_meaning.specs.Active.{no_later}
+use Rattle.cx_rules.specs.Accepted.{IsAccepted}
+use Rattle.cx_rules.specs.Externals.{external_rows}
+use Rattle.cx_numbering.specs.DesignOf.{design_of}
+use Rattle.cx_rewrites.specs.Places.{SameDesign}
+use Rattle.cx_written.specs.Ordered.{places_in, Rise, IsInOrder, AreOf, none_left, left_out, one_kept, StandAs, KeepsOrder}
+use Rattle.cx_written.specs.Written.{IsWritten, IsReadAs}
+use Rattle.cx_written.proofs.CommentLemmas.{shifted, behind_comments}
+use Rattle.cx_written.proofs.RisingLemmas.{text_in_order}
+use Rattle.cx_written.proofs.SameTrees.{same_design, same_accepted}
+
+-- some of what rises rises
+kept_of : (P : Place → Type 0) {some all : List Place} → AreOf some all → AllByRecursion P all → AllByRecursion P some
+kept_of P none_left h = tt
+kept_of P (left_out more) h = kept_of P more h.1
+kept_of P (one_kept more) h = (h.0, kept_of P more h.1)
+
+kept_rise : {some all : List Place} → AreOf some all → Rise all → Rise some
+kept_rise none_left h = tt
+kept_rise (left_out more) h = kept_rise more h.1
+kept_rise (one_kept {p = p} more) h = (kept_of (λ q. no_later q p ≡ false) more h.0, kept_rise more h.1)
+
+stand_in_order : (new old : List PlainComponent) → StandAs new old → AllByRecursion (λ part. Rise (places_in part)) old → AllByRecursion (λ part. Rise (places_in part)) new
+stand_in_order [] old s h = tt
+stand_in_order (part ∷ rest) [] s h = absurd s
+stand_in_order (part ∷ rest) (old ∷ more) s h = (kept_rise s.0 h.0, stand_in_order rest more s.1 h.1)
+
+-- TOKENS of the kinds of a printed tree are read as that tree
+no_tokens : (ts : List Token) → kinds_of ts ≡ [] → ts ≡ []
+no_tokens [] e = refl
+no_tokens (t ∷ ts) e = absurd cc
+
+record Read (tree : PlainTree) (tokens : List Token) : Type 0 where
+  pub again : PlainTree
+  pub parsed : Parse tokens again
+  pub equal : without_places again ≡ without_places tree
+
+read : (tree : PlainTree) → IsPrintable tree → (tokens : List Token) → kinds_of tokens ≡ tokens_of tree → Read tree tokens
+unfolding Parse
+read tree h tokens e =
+    let a = tree_added tree h in
+    let b = a.begun tokens [] (e ∙ a.added [] ∙ sym (append-nil a.kinds)) in
+    record { again = b.value; parsed = subst (λ rest. Spells (spelled_within 64) file tokens b.value rest) (no_tokens b.rest b.left) b.spelled; equal = b.is }
+
+-- what other places leave of a design
+record SameRuns (d e : PlainDesign) : Type 0 where
+  pub accepted : IsAccepted d → IsAccepted e
+  pub run : (words : List (List ℕ)) (n : ℕ) → run_main d words n ≡ run_main e words n
+  pub words : (s : State) → words_of (tree_of d) s ≡ words_of (tree_of e) s
+  pub rows : external_rows d ≡ external_rows e
+
+pub read_as : ((d e : PlainDesign) → SameDesign d e → IsAccepted d → IsAccepted e)
+    → ((d e : PlainDesign) (words : List (List ℕ)) (n : ℕ) → SameDesign d e → run_main d words n ≡ run_main e words n)
+    → ((d e : PlainDesign) (s : State) → SameDesign d e → words_of (tree_of d) s ≡ words_of (tree_of e) s)
+    → ((d e : PlainDesign) → SameDesign d e → external_rows d ≡ external_rows e)
+    → (text written : List ℕ) (tokens : List Token) (tree new : PlainTree) → Lex text tokens → Parse tokens tree → KeepsOrder tree new → IsPrintable new → IsWritten new written → IsReadAs new written
+read_as accepted run words rows text written tokens tree new lexed parsed keeps printable w =
+    let moved = shifted w.printed.lexed (after_bytes start w.comments) in
+    let whole : Lex written moved.others = subst (λ bytes. Lex bytes moved.others) (sym w.printed.appended) (behind_comments w.are start w.printed.text moved.others moved.lexed) in
+    let found = read new printable moved.others (moved.same ∙ w.printed.same) in
+    let same : SameDesign (design_of new) (design_of found.again) =
+        same_design new found.again (sym found.equal) (stand_in_order new.components tree.components keeps (text_in_order text tokens tree lexed parsed)) (text_in_order written moved.others found.again whole found.parsed) in
+    record {
+      again = found.again;
+      tokens = moved.others;
+      lexed = whole;
+      parsed = found.parsed;
+      equal = found.equal;
+      accepted = same_accepted new found.again (sym found.equal) (accepted (design_of new) (design_of found.again) same);
+      run = λ ws n. run (design_of new) (design_of found.again) ws n same;
+      words = λ s. words (design_of new) (design_of found.again) s same;
+      rows = rows (design_of new) (design_of found.again) same;
+    }

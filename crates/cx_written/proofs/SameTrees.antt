@@ -1,0 +1,136 @@
+-- TREES THAT ARE THE SAME apart from places: their designs are, and one is accepted where the other is.
+use Rattle.std.proofs.Common.{◌≡◌, ℕ, zero, suc, Bool, true, false, List, [], ◌∷◌, ◌++◌, codes, map, flat_map, get_or, Option, Some, None, option_map, length, refl, sym, ap, ◌∙◌, subst, if◌then◌else◌}
+use Rattle.std.specs.List.{AllByRecursion}
+use Rattle.cx_text.proofs.ListLaws.{length-map}
+use Rattle.cx_text.specs.declared.places.Place.{Place}
+use Rattle.cx_text.specs.Places.{start}
+use Rattle.cx_text.specs.declared.diagnostics.Diagnostic.{Diagnostic}
+use Rattle.cx_ast.specs.PlainTree as ast
+use Rattle.cx_ast.specs.PlainStatements as statements
+use Rattle.cx_print.specs.Places.{bare_form, bare_component, without_places}
+use Rattle.cx_meaning.specs.Designs.{component_at, no_component}
+use Rattle.cx_meaning.specs.Designs as plain
+use Rattle.cx_meaning.specs.Active.{source_order}
+use Rattle.cx_rules.specs.Accepted.{IsAccepted, comes_before}
+use Rattle.cx_numbering.specs.Names.{component_names}
+use Rattle.cx_numbering.specs.DesignOf.{number_or_0, component_of, design_of}
+use Rattle.cx_numbering.specs.NameRules.{Visited, statements_in, name_breaks, names_break, first_break, earlier, key_of}
+use Rattle.cx_rewrites.specs.Places.{unplaced, unplaced_cell, unplaced_group, unplaced_assign, unplaced_owned, SamePart, SameDesign}
+use Rattle.cx_check.specs.Unbuilt.{length_word, static_word, static_words, words_in, words_of_tree, is_before, first_place, first_unbuilt}
+use Rattle.cx_check.specs.Acceptance.{IsAcceptedTree}
+use Rattle.cx_written.specs.Ordered.{places_in, Rise, IsInOrder}
+use Rattle.cx_written.proofs.BareNames.{each_way, component_names-bare}
+use Rattle.cx_written.proofs.BareControl.{inputs-bare, outputs-bare, cells-bare, groups-bare, always-bare, control-bare}
+use Rattle.cx_written.proofs.BareRules.{bare_break, bare_visited, statements_in-bare, name_breaks-bare}
+use Rattle.cx_written.proofs.WrittenOrder.{bare_order, order-bare}
+
+-- DESIGNS
+same_part : (old new : ast.PlainTree) (part other : ast.PlainComponent) → without_places old ≡ without_places new → bare_component part ≡ bare_component other → Rise (places_in part) → Rise (places_in other)
+    → SamePart (component_of old part) (component_of new other)
+same_part old new part other e f h k =
+    let between : component_of (without_places old) (bare_component part) ≡ component_of (without_places new) (bare_component other) =
+        ap (λ t. component_of t (bare_component part)) e ∙ ap (component_of (without_places new)) f in
+    let order : bare_order (without_places old) (bare_component part) ≡ bare_order (without_places new) (bare_component other) =
+        ap (λ t. bare_order t (bare_component part)) e ∙ ap (bare_order (without_places new)) f in
+    record {
+      name = ap (λ (c : ast.PlainComponent). c.name) f;
+      inputs = inputs-bare old part ∙ ap (λ (c : plain.PlainComponent). c.inputs) between ∙ sym (inputs-bare new other);
+      outputs = outputs-bare old part ∙ ap (λ (c : plain.PlainComponent). c.outputs) between ∙ sym (outputs-bare new other);
+      cells = cells-bare old part ∙ ap (λ (c : plain.PlainComponent). c.cells) between ∙ sym (cells-bare new other);
+      groups = groups-bare old part ∙ ap (λ (c : plain.PlainComponent). c.groups) between ∙ sym (groups-bare new other);
+      always = always-bare old part ∙ ap (λ (c : plain.PlainComponent). c.always) between ∙ sym (always-bare new other);
+      order = order-bare old part h ∙ order ∙ sym (order-bare new other k);
+      control = control-bare old part ∙ ap (λ (c : plain.PlainComponent). c.control) between ∙ sym (control-bare new other);
+    }
+
+no_parts : SamePart no_component no_component
+no_parts = record { name = refl; inputs = refl; outputs = refl; cells = refl; groups = refl; always = refl; order = refl; control = refl }
+
+same_parts : (old new : ast.PlainTree) → without_places old ≡ without_places new → (parts others : List ast.PlainComponent) → map bare_component parts ≡ map bare_component others
+    → AllByRecursion (λ part. Rise (places_in part)) parts → AllByRecursion (λ part. Rise (places_in part)) others → (k : ℕ)
+    → SamePart (get_or (map (component_of old) parts) k no_component) (get_or (map (component_of new) others) k no_component)
+same_parts old new e [] [] f h i k = no_parts
+same_parts old new e [] (other ∷ others) f h i k = absurd cc
+same_parts old new e (part ∷ parts) [] f h i k = absurd cc
+same_parts old new e (part ∷ parts) (other ∷ others) f h i zero = same_part old new part other e cc h.0 i.0
+same_parts old new e (part ∷ parts) (other ∷ others) f h i (suc k) = same_parts old new e parts others cc h.1 i.1 k
+
+pub same_design : (old new : ast.PlainTree) → without_places old ≡ without_places new → IsInOrder old → IsInOrder new → SameDesign (design_of old) (design_of new)
+same_design old new e h i =
+    let parts : map bare_component old.components ≡ map bare_component new.components = ap (λ (t : ast.PlainTree). t.components) e in
+    record {
+      main = ap (number_or_0 (codes "main")) (sym (component_names-bare old) ∙ ap component_names e ∙ component_names-bare new);
+      count = length-map (component_of old) old.components ∙ sym (length-map bare_component old.components) ∙ ap (λ list. length list) parts ∙ length-map bare_component new.components ∙ sym (length-map (component_of new) new.components);
+      parts = same_parts old new e old.components new.components parts h i;
+    }
+
+-- NAMES: there is no first break where there is none
+no_first : (ds : List Diagnostic) → first_break ds ≡ None → ds ≡ []
+no_first [] e = refl
+no_first (d ∷ ds) e = absurd (by (first_break ds) e)
+  where
+    chosen : (b : Bool) (x y : Diagnostic) → (if b then Some x else Some y) ≡ None → ⊥
+    chosen true x y f = cc
+    chosen false x y f = cc
+
+    by : (o : Option Diagnostic) → earlier d o ≡ None → ⊥
+    by None f = cc
+    by (Some x) f = chosen (comes_before (key_of x) (key_of d)) x d f
+
+none_mapped : {A B : Type 0} (f : A → B) (xs : List A) → map f xs ≡ [] → xs ≡ []
+none_mapped f [] e = refl
+none_mapped f (x ∷ xs) e = absurd cc
+
+same_names : (old new : ast.PlainTree) → without_places old ≡ without_places new → names_break old ≡ None → names_break new ≡ None
+same_names old new e h =
+    let none : map bare_break (name_breaks new) ≡ [] = name_breaks-bare new ∙ ap name_breaks (sym e) ∙ sym (name_breaks-bare old) ∙ ap (map bare_break) (no_first (name_breaks old) h) in
+    ap first_break (none_mapped bare_break (name_breaks new) none)
+
+-- WHAT IS LEFT OUT as a whole
+at_start : Place → Place
+at_start p = start
+
+static_word-bare : (f : statements.PlainForm) (place : Place) → map at_start (static_word f place) ≡ static_word (bare_form f) start
+unfolding at_start
+static_word-bare (statements.Enable group marks) place = refl
+static_word-bare (statements.Seq marks block) place = refl
+static_word-bare (statements.Par marks block) place = refl
+static_word-bare (statements.StaticSeq written marks block) place = refl
+static_word-bare (statements.StaticPar written marks block) place = refl
+static_word-bare (statements.If test comb block otherwise) place = refl
+static_word-bare (statements.StaticIf written test block otherwise) place = refl
+static_word-bare (statements.While test comb body) place = refl
+static_word-bare (statements.Repeat count body) place = refl
+static_word-bare (statements.StaticRepeat written count body) place = refl
+static_word-bare (statements.Invoke cell inputs outputs) place = refl
+static_word-bare (statements.StaticInvoke written cell inputs outputs) place = refl
+
+words_in-bare : (part : ast.PlainComponent) → map at_start (words_in part) ≡ words_in (bare_component part)
+unfolding at_start
+words_in-bare part =
+    first part.length part.place (static_words (statements_in part))
+    ∙ ap (λ ws. length_word part.length start ++ ws) (each_way (λ (v : Visited). static_word v.form v.place) at_start bare_visited (λ v. static_word v.form v.place) (λ v. static_word-bare v.form v.place) (statements_in part) ∙ ap static_words (statements_in-bare part))
+  where
+    first : (l : Option ℕ) (place : Place) (ws : List Place) → map at_start (length_word l place ++ ws) ≡ length_word l start ++ map at_start ws
+    first None place ws = refl
+    first (Some n) place ws = refl
+
+words_of_tree-bare : (tree : ast.PlainTree) → map at_start (words_of_tree tree) ≡ words_of_tree (without_places tree)
+words_of_tree-bare tree = each_way words_in at_start bare_component words_in words_in-bare tree.components
+
+found_before : (ws : List Place) (p : Place) → first_place (Some p) ws ≡ None → ⊥
+found_before [] p e = cc
+found_before (w ∷ ws) p e = found_before ws (if is_before w p then w else p) e
+
+no_word : (ws : List Place) → first_place None ws ≡ None → ws ≡ []
+no_word [] e = refl
+no_word (w ∷ ws) e = absurd (found_before ws w e)
+
+same_words : (old new : ast.PlainTree) → without_places old ≡ without_places new → first_unbuilt old ≡ None → first_unbuilt new ≡ None
+same_words old new e h =
+    let none : map at_start (words_of_tree new) ≡ [] = words_of_tree-bare new ∙ ap words_of_tree (sym e) ∙ sym (words_of_tree-bare old) ∙ ap (map at_start) (no_word (words_of_tree old) h) in
+    ap (first_place None) (none_mapped at_start (words_of_tree new) none)
+
+-- ACCEPTED where the other is, and its design with it
+pub same_accepted : (old new : ast.PlainTree) → without_places old ≡ without_places new → (IsAccepted (design_of old) → IsAccepted (design_of new)) → IsAcceptedTree old → IsAcceptedTree new
+same_accepted old new e designs h = record { built = same_words old new e h.built; named = same_names old new e h.named; accepted = designs h.accepted }

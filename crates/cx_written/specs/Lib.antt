@@ -1,0 +1,3 @@
+pub mod Ordered
+pub mod Comments
+pub mod Written
