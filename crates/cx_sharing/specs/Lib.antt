@@ -1,0 +1,6 @@
+pub mod Uses
+pub mod Meeting
+pub mod Giving
+pub mod SharedDesign
+pub mod SharedTree
+pub mod SharedRows
