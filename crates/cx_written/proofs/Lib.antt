@@ -4,7 +4,7 @@ mod BareParts
 mod BareControl
 mod BareRules
 mod WrittenOrder
-mod SameTrees
+pub mod SameTrees
 mod CommentLemmas
-mod RisingLemmas
-mod ReadLemmas
+pub mod RisingLemmas
+pub mod ReadLemmas

@@ -14,14 +14,12 @@ use Rattle.cx_print.specs.Pieces.{tokens_of}
 use Rattle.cx_print.specs.Places.{without_places}
 use Rattle.cx_print.specs.Printable.{IsPrintable}
 use Rattle.cx_print.proofs.FileSpelling.{tree_added}
-use Rattle.cx_meaning.specs.Designs.{PlainDesign}
-use Rattle.cx_meaning.specs.Instances.{State, tree_of, words_of}
-use Rattle.cx_meaning.specs.Running.{run_main}
+use Rattle.cx_meaning.specs.Instances.{tree_of}
 use Rattle.cx_meaning.specs.Active.{no_later}
-use Rattle.cx_rules.specs.Accepted.{IsAccepted}
-use Rattle.cx_rules.specs.Externals.{external_rows}
 use Rattle.cx_numbering.specs.DesignOf.{design_of}
 use Rattle.cx_rewrites.specs.Places.{SameDesign}
+use Rattle.cx_rewrites.proofs.PlaceAccepted.{accepted_there}
+use Rattle.cx_rewrites.proofs.PlaceDesigns.{tree_of-same, run_main-same, words_of-same, external_rows-same}
 use Rattle.cx_written.specs.Ordered.{places_in, Rise, IsInOrder, AreOf, none_left, left_out, one_kept, StandAs, KeepsOrder}
 use Rattle.cx_written.specs.Written.{IsWritten, IsReadAs}
 use Rattle.cx_written.proofs.CommentLemmas.{shifted, behind_comments}
@@ -61,19 +59,8 @@ read tree h tokens e =
     let b = a.begun tokens [] (e ∙ a.added [] ∙ sym (append-nil a.kinds)) in
     record { again = b.value; parsed = subst (λ rest. Spells (spelled_within 64) file tokens b.value rest) (no_tokens b.rest b.left) b.spelled; equal = b.is }
 
--- what other places leave of a design
-record SameRuns (d e : PlainDesign) : Type 0 where
-  pub accepted : IsAccepted d → IsAccepted e
-  pub run : (words : List (List ℕ)) (n : ℕ) → run_main d words n ≡ run_main e words n
-  pub words : (s : State) → words_of (tree_of d) s ≡ words_of (tree_of e) s
-  pub rows : external_rows d ≡ external_rows e
-
-pub read_as : ((d e : PlainDesign) → SameDesign d e → IsAccepted d → IsAccepted e)
-    → ((d e : PlainDesign) (words : List (List ℕ)) (n : ℕ) → SameDesign d e → run_main d words n ≡ run_main e words n)
-    → ((d e : PlainDesign) (s : State) → SameDesign d e → words_of (tree_of d) s ≡ words_of (tree_of e) s)
-    → ((d e : PlainDesign) → SameDesign d e → external_rows d ≡ external_rows e)
-    → (text written : List ℕ) (tokens : List Token) (tree new : PlainTree) → Lex text tokens → Parse tokens tree → KeepsOrder tree new → IsPrintable new → IsWritten new written → IsReadAs new written
-read_as accepted run words rows text written tokens tree new lexed parsed keeps printable w =
+pub written_read : (text written : List ℕ) (tokens : List Token) (tree new : PlainTree) → Lex text tokens → Parse tokens tree → KeepsOrder tree new → IsPrintable new → IsWritten new written → IsReadAs new written
+written_read text written tokens tree new lexed parsed keeps printable w =
     let moved = shifted w.printed.lexed (after_bytes start w.comments) in
     let whole : Lex written moved.others = subst (λ bytes. Lex bytes moved.others) (sym w.printed.appended) (behind_comments w.are start w.printed.text moved.others moved.lexed) in
     let found = read new printable moved.others (moved.same ∙ w.printed.same) in
@@ -85,8 +72,8 @@ read_as accepted run words rows text written tokens tree new lexed parsed keeps 
       lexed = whole;
       parsed = found.parsed;
       equal = found.equal;
-      accepted = same_accepted new found.again (sym found.equal) (accepted (design_of new) (design_of found.again) same);
-      run = λ ws n. run (design_of new) (design_of found.again) ws n same;
-      words = λ s. words (design_of new) (design_of found.again) s same;
-      rows = rows (design_of new) (design_of found.again) same;
+      accepted = same_accepted new found.again (sym found.equal) (accepted_there (design_of new) (design_of found.again) same);
+      run = λ ws n. run_main-same (design_of new) (design_of found.again) same ws n;
+      words = words_of-same (tree_of (design_of new)) (tree_of (design_of found.again)) (tree_of-same (design_of new) (design_of found.again) same);
+      rows = external_rows-same (design_of new) (design_of found.again) same;
     }

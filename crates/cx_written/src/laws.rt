@@ -1,4 +1,4 @@
-//! Laws of what a rewriting writes: each function does nothing but call others, and its clause is the law.
+//! Laws of what a rewriting writes: each function does nothing, and its clause is the law.
 
 ghost use Rattle.std.specs.Prelude.{◌≡◌, ℕ, List};
 ghost use Rattle.cx_ast.specs.declared.tokens.Token.{Token};
@@ -11,8 +11,6 @@ ghost use Rattle.cx_print.specs.Printable.{IsPrintable};
 ghost use Rattle.cx_rewrites.specs.Places.{SameDesign};
 ghost use Rattle.cx_written.specs.Ordered.{IsInOrder, KeepsOrder};
 ghost use Rattle.cx_written.specs.Written.{IsReadAs, IsWritten};
-
-use cx_rewrites::place_laws::places_do_not_matter;
 
 /// In the tree of a text the places of assignments and of invokes rise in the order in which they are written.
 pub fn texts_are_in_order()
@@ -29,6 +27,4 @@ pub fn same_trees_have_same_designs()
 pub fn written_is_read()
     ensures { (text written : List ℕ) (tokens : List Token) (tree new : PlainTree) → Lex text tokens → Parse tokens tree
         → KeepsOrder tree new → IsPrintable new → IsWritten new written → IsReadAs new written }
-{
-    places_do_not_matter();
-}
+{}

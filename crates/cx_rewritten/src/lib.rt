@@ -1,0 +1,7 @@
+//! The texts that commands write of a rewritten design: a line for each part that is another, and the printed tree.
+#![tactic(auto)]
+
+mod lines;
+mod sharing;
+
+pub use sharing::share_text;
