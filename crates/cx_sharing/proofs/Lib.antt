@@ -1,1 +1,14 @@
+pub mod KindLemmas
+pub mod KeptLemmas
+pub mod KeeperLemmas
+pub mod RemainingLemmas
+pub mod RowLemmas
+pub mod UsedLemmas
+pub mod TwinLemmas
+pub mod TwinStates
+pub mod SharedSights
+pub mod SharedCycles
+pub mod MeetLemmas
+pub mod SharedGroups
+pub mod SharedLeaves
 pub mod KnownSharing

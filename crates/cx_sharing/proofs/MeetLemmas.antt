@@ -1,0 +1,154 @@
+-- What is used at once meets: by one port, one group, a condition with its comb group, and by the groups of a cycle of an island.
+use Rattle.std.proofs.Common.{◌≡◌, ◌≢◌, ℕ, zero, suc, ◌<◌, ◌≤◌, inl, inr, ◌⊎◌, ⊎_elim, Bool, true, false, ◌||◌, ◌&&◌, Option, Some, None, List, [], ◌∷◌, refl, sym, ap, ◌∙◌, subst}
+use Rattle.std.specs.Prelude.{slice_get, nat_eq, if◌then◌else◌}
+use Rattle.std.specs.List.{list_any}
+use Rattle.std.proofs.lemmas.Bool.{cases_lt, eqb-true, or_cases, or_right}
+use Rattle.cx_text.specs.declared.places.Place.{Place}
+use Rattle.cx_text.proofs.BoolLaws.{or_left, and_true}
+use Rattle.cx_text.proofs.OptionLaws.{none_some}
+use Rattle.cx_meaning.specs.declared.ports.PortRef.{PortRef}
+use Rattle.cx_meaning.specs.declared.ports.PortRef.TheVariants as ports
+use Rattle.cx_meaning.specs.declared.ports.PlacedPort.{PlacedPort}
+use Rattle.cx_meaning.specs.Designs.{PlainComponent, PlainForm, Empty, Enable, Seq, Par, If, While, Repeat, StaticSeq, StaticPar, StaticIf, StaticRepeat, Timed, PlainStatement, Placed, list_of}
+use Rattle.cx_meaning.specs.Instances.{just}
+use Rattle.cx_meaning.specs.Active.{nothing, only_at, group, capture, comb, Entry, entries}
+use Rattle.cx_meaning.specs.Control.{groups_of, targets_cell}
+use Rattle.cx_meaning.specs.Islands.{History, form_flat, form_length, active_in}
+use Rattle.cx_meaning.specs.Sights.{In}
+use Rattle.cx_meaning.proofs.ActiveLemmas.{entry_of}
+use Rattle.cx_meaning.proofs.InstancesLemmas.{just_true}
+use Rattle.cx_rules.specs.Items.{Context, Visited, visit, statements_in, tests_of}
+use Rattle.cx_rules.specs.RaceRule.{Arms, arms_of}
+use Rattle.cx_laws.specs.Positions.{active_at}
+use Rattle.cx_laws.proofs.IslandLemmas.{active_is, active_past}
+use Rattle.cx_laws.proofs.TogetherLemmas.{InArms, InPar, Together, together}
+use Rattle.cx_sharing.specs.Uses.{group_uses, uses, comb_uses, test_uses}
+use Rattle.cx_sharing.specs.Meeting.{has_both, arms_meet, form_meets, meet}
+use Rattle.cx_sharing.proofs.UsedLemmas.{any_of, Covers, UsedMeet, group_meets, statement_meets}
+
+-- ONE PORT, under the continuous assignments alone
+one_target : (p : PortRef) (x y : ℕ) → targets_cell p x ≡ true → targets_cell p y ≡ true → x ≡ y
+one_target (ports.Cell d n) x y a b = sym (just_true d x a) ∙ just_true d y b
+one_target (ports.Input n) x y a b = absurd (cc)
+one_target (ports.Output n) x y a b = absurd (cc)
+one_target (ports.Done g) x y a b = absurd (cc)
+one_target (ports.Literal w v) x y a b = absurd (cc)
+
+module _ (part : PlainComponent) where
+  pub port_covers : (p : PortRef) → Covers part (λ c. targets_cell p c ≡ true) nothing
+  port_covers p g k c acts uses = absurd (none_some k acts)
+
+  pub port_meets : (p : PortRef) → UsedMeet part (λ c. targets_cell p c ≡ true)
+  port_meets p x y a b = inl (one_target p x y a b)
+
+  -- ONE GROUP, a call in its capture cycle too
+  only_is : (g h k : ℕ) → only_at g h ≡ Some k → g ≡ h
+  only_is g h k e = by (nat_eq g h) refl e
+    where
+      by : (b : Bool) → nat_eq g h ≡ b → ◌≡◌ {A = Option ℕ} (if b then Some 0 else None) (Some k) → g ≡ h
+      by true same f = eqb-true g h same
+      by false differ f = absurd (none_some k f)
+
+  pub group_covers : (g : ℕ) → Covers part (λ c. group_uses part g c ≡ true) (group g)
+  group_covers g h k c acts uses = ap (λ n. group_uses part n c) (only_is g h k acts) ∙ uses
+
+  pub capture_covers : (g d : ℕ) → Covers part (λ c. group_uses part g c ≡ true) (capture g d)
+  capture_covers g d h k c acts uses = ap (λ n. group_uses part n c) (only_is g h k acts) ∙ uses
+
+  pub group_used_meet : (g : ℕ) → UsedMeet part (λ c. group_uses part g c ≡ true)
+  group_used_meet g x y a b = inr (group_meets part g x y a b)
+
+  -- A CONDITION and its comb group
+  pub test_covers : (test : PlacedPort) (o : Option ℕ) → Covers part (λ c. test_uses part test o c ≡ true) (comb o)
+  test_covers test None g k c acts uses = absurd (none_some k acts)
+  test_covers test (Some h) g k c acts uses = or_right (targets_cell test.port c) (group_uses part h c) (ap (λ n. group_uses part n c) (only_is h g k acts) ∙ uses)
+
+  pub test_meets : (v : Visited) (test : PlacedPort) (o : Option ℕ) → In (statements_in part) v → ((x y : ℕ) → form_meets part v.form x y ≡ has_both (test_uses part test o) x y)
+      → UsedMeet part (λ c. test_uses part test o c ≡ true)
+  test_meets v test o stands is x y a b =
+      inr (statement_meets part x y (any_of (λ w. form_meets part w.form x y) (statements_in part) v stands (is x y ∙ and_true (test_uses part test o x) (test_uses part test o y) a b)))
+
+  -- TWO ARMS of a par
+  arm_in : (arms : List PlainStatement) (n : ℕ) (s : PlainStatement) → slice_get arms n ≡ Some s → In arms s
+  arm_in [] n s e = absurd (cc)
+  arm_in (a ∷ later) zero s e = let same : a ≡ s = cc in inl same
+  arm_in (a ∷ later) (suc n) s e = inr (arm_in later n s e)
+
+  arms_meet-true : (arms : List PlainStatement) (m n : ℕ) (s t : PlainStatement) (x y : ℕ) → m ≢ n → slice_get arms m ≡ Some s → slice_get arms n ≡ Some t → uses part s x ≡ true → uses part t y ≡ true
+      → arms_meet part arms x y ≡ true
+  arms_meet-true [] m n s t x y differ e f a b = absurd (cc)
+  arms_meet-true (arm ∷ later) zero zero s t x y differ e f a b = absurd (differ refl)
+  arms_meet-true (arm ∷ later) zero (suc n) s t x y differ e f a b =
+      let same : arm ≡ s = cc in
+      or_left ((uses part arm x && list_any (λ u. uses part u y) later) || (uses part arm y && list_any (λ u. uses part u x) later)) (arms_meet part later x y)
+      (or_left (uses part arm x && list_any (λ u. uses part u y) later) (uses part arm y && list_any (λ u. uses part u x) later)
+      (and_true (uses part arm x) (list_any (λ u. uses part u y) later) (ap (λ u. uses part u x) same ∙ a) (any_of (λ u. uses part u y) later t (arm_in later n t f) b)))
+  arms_meet-true (arm ∷ later) (suc m) zero s t x y differ e f a b =
+      let same : arm ≡ t = cc in
+      or_left ((uses part arm x && list_any (λ u. uses part u y) later) || (uses part arm y && list_any (λ u. uses part u x) later)) (arms_meet part later x y)
+      (or_right (uses part arm x && list_any (λ u. uses part u y) later) (uses part arm y && list_any (λ u. uses part u x) later)
+      (and_true (uses part arm y) (list_any (λ u. uses part u x) later) (ap (λ u. uses part u y) same ∙ b) (any_of (λ u. uses part u x) later s (arm_in later m s e) a)))
+  arms_meet-true (arm ∷ later) (suc m) (suc n) s t x y differ e f a b =
+      or_right ((uses part arm x && list_any (λ u. uses part u y) later) || (uses part arm y && list_any (λ u. uses part u x) later)) (arms_meet part later x y)
+      (arms_meet-true later m n s t x y (λ same. differ (ap suc same)) e f a b)
+
+  in_form : (form : PlainForm) (x y : ℕ) → arms_meet part (arms_of form) x y ≡ true → form_meets part form x y ≡ true
+  in_form Empty x y e = absurd (cc)
+  in_form (Enable g) x y e = absurd (cc)
+  in_form (Seq parts) x y e = absurd (cc)
+  in_form (Par arms) x y e = e
+  in_form (If test o a b) x y e = absurd (cc)
+  in_form (While test o a) x y e = absurd (cc)
+  in_form (Repeat count a) x y e = absurd (cc)
+  in_form (StaticSeq length parts) x y e = absurd (cc)
+  in_form (StaticPar length arms) x y e = e
+  in_form (StaticIf length test a b) x y e = absurd (cc)
+  in_form (StaticRepeat length count a) x y e = absurd (cc)
+  in_form (Timed k) x y e = absurd (cc)
+
+  arm_uses : (s : PlainStatement) (g c : ℕ) → In (groups_of s) g → group_uses part g c ≡ true → uses part s c ≡ true
+  arm_uses s g c i e = or_left (list_any (λ h. group_uses part h c) (groups_of s)) (list_any (λ (p : PlacedPort). targets_cell p.port c) (tests_of s)) (any_of (λ h. group_uses part h c) (groups_of s) g i e)
+
+  par_meets : (v : Visited) (g f x y : ℕ) → In (statements_in part) v → InArms (arms_of v.form) g f → group_uses part g x ≡ true → group_uses part f y ≡ true → meet part x y ≡ true
+  par_meets v g f x y stands arms a b =
+      let two = arms.two in
+      statement_meets part x y (any_of (λ w. form_meets part w.form x y) (statements_in part) v stands
+      (in_form v.form x y (arms_meet-true (arms_of v.form) two.one two.other two.first two.second x y two.differ two.first_stands two.second_stands (arm_uses two.first g x arms.one a) (arm_uses two.second f y arms.other b))))
+
+  -- A CYCLE OF AN ISLAND, whose statements stand in the component's control or have no arms
+  abbrev pub StandsHere : Context → PlainForm → Place → Type 0
+  StandsHere context form place = (v : Visited) → In (visit context (Placed form place)) v → In (statements_in part) v ⊎ (arms_of v.form ≡ [])
+
+  module _ (context : Context) (form : PlainForm) (place : Place) (h : History) (t : ℕ) where
+    abbrev pub active_now : List Entry
+    active_now = active_in h t (form_flat part form 0 [])
+
+    pub now_together : (e f : Entry) → In active_now e → In active_now f → Together (visit context (Placed form place)) e f
+    now_together e f i j = ⊎_elim within past (cases_lt t (form_length part form))
+      where
+        within : t < form_length part form → Together (visit context (Placed form place)) e f
+        within lt =
+            let same : active_now ≡ active_at part h t form = active_is h t part form lt in
+            together part h t context (Placed form place) t e f (subst (λ x. In x e) same i) (subst (λ x. In x f) same j)
+
+        past : form_length part form ≤ t → Together (visit context (Placed form place)) e f
+        past le = let none : In [] e = subst (λ x. In x e) (active_past h t part form le) i in absurd none
+
+    abbrev pub NowUses : ℕ → Type 0
+    NowUses c = (e : Entry) × In active_now e × (group_uses part e.group c ≡ true)
+
+    pub now_covers : Covers part NowUses (entries active_now)
+    now_covers g k c acts uses = let r = entry_of active_now g k acts in (r.0, r.1, ap (λ n. group_uses part n c) r.2 ∙ uses)
+
+    pub now_meet : StandsHere context form place → UsedMeet part NowUses
+    now_meet here x y (e, i, a) (f, j, b) = inr (by (now_together e f i j))
+      where
+        by : Together (visit context (Placed form place)) e f → meet part x y ≡ true
+        by (inl same) = group_meets part e.group x y a (ap (λ (z : Entry). group_uses part z.group y) same ∙ b)
+        by (inr p) = ⊎_elim
+            (λ stands. par_meets p.statement e.group f.group x y stands p.arms a b)
+            (λ none. let first : slice_get [] p.arms.two.one ≡ Some p.arms.two.first = subst (λ list. slice_get list p.arms.two.one ≡ Some p.arms.two.first) none p.arms.two.first_stands in absurd (no_arm p.arms.two.one p.arms.two.first first))
+            (here p.statement p.stands)
+          where
+            no_arm : (n : ℕ) (s : PlainStatement) → slice_get {X = PlainStatement} [] n ≡ Some s → ⊥
+            no_arm n s e = cc

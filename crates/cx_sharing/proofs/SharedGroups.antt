@@ -1,0 +1,147 @@
+-- The groups of the shared component: their assignments, what they drive and call, and whether they capture.
+use Rattle.std.proofs.Common.{◌≡◌, ℕ, zero, suc, inl, inr, Bool, true, false, ◌||◌, Option, Some, None, List, [], ◌∷◌, ◌++◌, map, refl, sym, ap, ◌∙◌, subst}
+use Rattle.std.specs.Prelude.{get_or, nat_eq}
+use Rattle.std.proofs.lemmas.Bool.{eqb-true, eq-eqb}
+use Rattle.cx_meaning.specs.declared.ports.PortRef.{PortRef}
+use Rattle.cx_meaning.specs.declared.ports.PortRef.TheVariants as ports
+use Rattle.cx_meaning.specs.Designs.{PlainAssign, PlainGroup, PlainComponent, group_at, no_group, PlainForm, Empty, Enable, Seq, Par, If, While, Repeat, StaticSeq, StaticPar, StaticIf, StaticRepeat, Timed, PlainStatement, Placed, PlainStatements, no_statements, a_statement}
+use Rattle.cx_meaning.specs.Instances.{Instance, Cells, no_cells, a_primitive, an_instance, At, Nothing, OfRow, OfInstance, cell_at, cells_of, part_of}
+use Rattle.cx_meaning.specs.Control.{with_comb, groups_in, groups_of, groups_in_all, targets_cell, assigns_drive, group_drives, groups_drive, drives}
+use Rattle.cx_meaning.specs.Islands.{kind_length, group_length}
+use Rattle.cx_meaning.specs.Calls.{if_instance, called_by, called_in, called, enables_at, enables_primitive, captures_in, captures}
+use Rattle.cx_text.proofs.OptionLaws.{none_some, some_inj}
+use Rattle.cx_rewrites.specs.Moving.{moved_assign, moved_group, moved_form, moved_statement, moved_statements}
+use Rattle.cx_rewrites.specs.Renaming.{renamed}
+use Rattle.cx_sharing.specs.Uses.{is_candidate}
+use Rattle.cx_sharing.specs.Giving.{new_cell}
+use Rattle.cx_sharing.specs.SharedDesign.{shared_part}
+use Rattle.cx_sharing.proofs.TwinLemmas.{AtTwin, no_twins, twin_rows, twin_parts, IsTwin, own_equal_back}
+
+-- THE GROUPS of a moved statement are its groups
+mutual
+  form_groups : (move : PortRef → PortRef) (form : PlainForm) → groups_in (moved_form move form) ≡ groups_in form
+  form_groups move Empty = refl
+  form_groups move (Enable g) = refl
+  form_groups move (Seq parts) = all_groups move parts
+  form_groups move (Par arms) = all_groups move arms
+  form_groups move (If test comb a b) = ap (λ z. with_comb comb (z ++ groups_of (moved_statement move b))) (moved_groups move a) ∙ ap (λ z. with_comb comb (groups_of a ++ z)) (moved_groups move b)
+  form_groups move (While test comb a) = ap (with_comb comb) (moved_groups move a)
+  form_groups move (Repeat count a) = moved_groups move a
+  form_groups move (StaticSeq length parts) = all_groups move parts
+  form_groups move (StaticPar length arms) = all_groups move arms
+  form_groups move (StaticIf length test a b) = ap (λ z. z ++ groups_of (moved_statement move b)) (moved_groups move a) ∙ ap (λ z. groups_of a ++ z) (moved_groups move b)
+  form_groups move (StaticRepeat length count a) = moved_groups move a
+  form_groups move (Timed k) = refl
+
+  pub moved_groups : (move : PortRef → PortRef) (s : PlainStatement) → groups_of (moved_statement move s) ≡ groups_of s
+  moved_groups move (Placed form place) = form_groups move form
+
+  all_groups : (move : PortRef → PortRef) (ss : PlainStatements) → groups_in_all (moved_statements move ss) ≡ groups_in_all ss
+  all_groups move no_statements = refl
+  all_groups move (a_statement s ss) = ap (λ z. z ++ groups_in_all (moved_statements move ss)) (moved_groups move s) ∙ ap (λ z. groups_of s ++ z) (all_groups move ss)
+
+-- a group of the shared component
+group_in_moved : (move : PortRef → PortRef) (list : List PlainGroup) (g : ℕ) → get_or (map (moved_group move) list) g no_group ≡ moved_group move (get_or list g no_group)
+group_in_moved move [] g = refl
+group_in_moved move (x ∷ xs) zero = refl
+group_in_moved move (x ∷ xs) (suc g) = group_in_moved move xs g
+
+-- a cell that is called is a component's
+pub called_child : (cells : Cells) (list : List PlainAssign) (c : ℕ) → called_in cells list ≡ Some c → (child : Instance) × (cell_at cells c ≡ OfInstance child)
+called_child cells [] c e = absurd (none_some c e)
+called_child cells (a ∷ rest) c e = of_target a.target e (called_child cells rest c)
+  where
+    of_at : (at : At) (d : ℕ) → cell_at cells d ≡ at → if_instance at d (called_in cells rest) ≡ Some c → (called_in cells rest ≡ Some c → (child : Instance) × (cell_at cells c ≡ OfInstance child)) → (child : Instance) × (cell_at cells c ≡ OfInstance child)
+    of_at Nothing d is e later = later e
+    of_at (OfRow row) d is e later = later e
+    of_at (OfInstance child) d is e later = (child, ap (cell_at cells) (sym (some_inj d c e)) ∙ is)
+
+    of_target : (p : PortRef) → called_by cells p (called_in cells rest) ≡ Some c → (called_in cells rest ≡ Some c → (child : Instance) × (cell_at cells c ≡ OfInstance child)) → (child : Instance) × (cell_at cells c ≡ OfInstance child)
+    of_target (ports.Cell d n) e later = of_at (cell_at cells d) d refl e later
+    of_target (ports.Input n) e later = later e
+    of_target (ports.Output n) e later = later e
+    of_target (ports.Done g) e later = later e
+    of_target (ports.Literal w v) e later = later e
+
+module _ (i j : Instance) (twin : IsTwin i j) where
+  abbrev new : ℕ → ℕ
+  new = new_cell (part_of i)
+
+  group_shared : (g : ℕ) → group_at (part_of j) g ≡ moved_group (renamed (new_cell (part_of i))) (group_at (part_of i) g)
+  group_shared g = ap (λ (x : PlainComponent). get_or x.groups g no_group) twin.part ∙ group_in_moved (renamed (new_cell (part_of i))) (part_of i).groups g
+
+  pub assigns_shared : (g : ℕ) → (group_at (part_of j) g).assigns ≡ map (moved_assign (renamed (new_cell (part_of i)))) (group_at (part_of i) g).assigns
+  assigns_shared g = ap (λ (x : PlainGroup). x.assigns) (group_shared g)
+
+  pub length_shared : (g : ℕ) → group_length (part_of j) g ≡ group_length (part_of i) g
+  length_shared g = ap (λ (x : PlainGroup). kind_length x.kind) (group_shared g)
+
+  -- WHAT IS DRIVEN, of a cell that is no candidate
+  target_drives : (t : PortRef) (c : ℕ) → is_candidate (part_of i) c ≡ false → targets_cell (renamed (new_cell (part_of i)) t) (new_cell (part_of i) c) ≡ targets_cell t c
+  target_drives (ports.Cell d n) c none = own_equal_back (part_of i) d c none
+  target_drives (ports.Input n) c none = refl
+  target_drives (ports.Output n) c none = refl
+  target_drives (ports.Done g) c none = refl
+  target_drives (ports.Literal w v) c none = refl
+
+  assigns_drive-moved : (list : List PlainAssign) (c : ℕ) → is_candidate (part_of i) c ≡ false → assigns_drive (map (moved_assign (renamed (new_cell (part_of i)))) list) (new_cell (part_of i) c) ≡ assigns_drive list c
+  assigns_drive-moved [] c none = refl
+  assigns_drive-moved (a ∷ rest) c none =
+      ap (λ b. b || assigns_drive (map (moved_assign (renamed (new_cell (part_of i)))) rest) (new_cell (part_of i) c)) (target_drives a.target c none)
+      ∙ ap (λ b. targets_cell a.target c || b) (assigns_drive-moved rest c none)
+
+  groups_drive-shared : (gs : List ℕ) (c : ℕ) → is_candidate (part_of i) c ≡ false → groups_drive (part_of j) gs (new_cell (part_of i) c) ≡ groups_drive (part_of i) gs c
+  groups_drive-shared [] c none = refl
+  groups_drive-shared (g ∷ gs) c none =
+      ap (λ b. b || groups_drive (part_of j) gs (new_cell (part_of i) c)) (ap (λ list. assigns_drive list (new_cell (part_of i) c)) (assigns_shared g) ∙ assigns_drive-moved (group_at (part_of i) g).assigns c none)
+      ∙ ap (λ b. group_drives (part_of i) g c || b) (groups_drive-shared gs c none)
+
+  pub drives_shared : (s : PlainStatement) (c : ℕ) → is_candidate (part_of i) c ≡ false → drives (part_of j) (moved_statement (renamed (new_cell (part_of i))) s) (new_cell (part_of i) c) ≡ drives (part_of i) s c
+  drives_shared s c none = ap (λ gs. groups_drive (part_of j) gs (new_cell (part_of i) c)) (moved_groups (renamed (new_cell (part_of i))) s) ∙ groups_drive-shared (groups_of s) c none
+
+  -- WHAT IS CALLED
+  abbrev pub called_there : Option ℕ → Option ℕ
+  called_there None = None
+  called_there (Some c) = Some (new_cell (part_of i) c)
+
+  at_called : {at to : At} (c : ℕ) (later more : Option ℕ) → AtTwin (part_of i) c at to → more ≡ called_there later → if_instance to (new_cell (part_of i) c) more ≡ called_there (if_instance at c later)
+  at_called c later more no_twins e = e
+  at_called c later more (twin_rows p kind) e = e
+  at_called c later more (twin_parts k child other kind beside) e = refl
+
+  called_in-moved : (list : List PlainAssign) → called_in (cells_of j) (map (moved_assign (renamed (new_cell (part_of i)))) list) ≡ called_there (called_in (cells_of i) list)
+  called_in-moved [] = refl
+  called_in-moved (a ∷ rest) = by a.target (called_in-moved rest)
+    where
+      by : (p : PortRef) → called_in (cells_of j) (map (moved_assign (renamed (new_cell (part_of i)))) rest) ≡ called_there (called_in (cells_of i) rest)
+          → called_by (cells_of j) (renamed (new_cell (part_of i)) p) (called_in (cells_of j) (map (moved_assign (renamed (new_cell (part_of i)))) rest)) ≡ called_there (called_by (cells_of i) p (called_in (cells_of i) rest))
+      by (ports.Cell c n) e = at_called c (called_in (cells_of i) rest) _ (twin.cells c) e
+      by (ports.Input n) e = e
+      by (ports.Output n) e = e
+      by (ports.Done g) e = e
+      by (ports.Literal w v) e = e
+
+  pub called_shared : (g : ℕ) → called j g ≡ called_there (called i g)
+  called_shared g = ap (called_in (cells_of j)) (assigns_shared g) ∙ called_in-moved (group_at (part_of i) g).assigns
+
+  -- WHAT CAPTURES
+  at_enables : {at to : At} (c n : ℕ) → AtTwin (part_of i) c at to → enables_at to n ≡ enables_at at n
+  at_enables c n no_twins = refl
+  at_enables c n (twin_rows p kind) = refl
+  at_enables c n (twin_parts k child other kind beside) = refl
+
+  target_enables : (p : PortRef) → enables_primitive (cells_of j) (renamed (new_cell (part_of i)) p) ≡ enables_primitive (cells_of i) p
+  target_enables (ports.Cell c n) = at_enables c n (twin.cells c)
+  target_enables (ports.Input n) = refl
+  target_enables (ports.Output n) = refl
+  target_enables (ports.Done g) = refl
+  target_enables (ports.Literal w v) = refl
+
+  captures_in-moved : (list : List PlainAssign) → captures_in (cells_of j) (map (moved_assign (renamed (new_cell (part_of i)))) list) ≡ captures_in (cells_of i) list
+  captures_in-moved [] = refl
+  captures_in-moved (a ∷ rest) =
+      ap (λ b. b || captures_in (cells_of j) (map (moved_assign (renamed (new_cell (part_of i)))) rest)) (target_enables a.target)
+      ∙ ap (λ b. enables_primitive (cells_of i) a.target || b) (captures_in-moved rest)
+
+  pub captures_shared : (g : ℕ) → captures j g ≡ captures i g
+  captures_shared g = ap (captures_in (cells_of j)) (assigns_shared g) ∙ captures_in-moved (group_at (part_of i) g).assigns
