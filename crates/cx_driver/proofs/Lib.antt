@@ -3,6 +3,7 @@ pub mod InterpLemmas
 pub mod FaultLemmas
 pub mod RanLemmas
 pub mod SimLemmas
+pub mod SharingLemmas
 pub mod CauseLemmas
 pub mod CompleteLemmas
 pub mod FileLemmas

@@ -2,5 +2,6 @@ pub mod Loads
 pub mod Weaving
 pub mod Leaving
 pub mod Tried
+pub mod Sharing
 pub mod Outcomes
 pub mod Causes

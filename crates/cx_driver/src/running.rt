@@ -19,6 +19,7 @@ ghost use Rattle.cx_driver.specs.Causes.{HasCause, IsMemory, IsOfFile, IsTold, I
 ghost use Rattle.cx_commands.specs.Statuses.{IsRefusing, ReceivesLine, fixed_line, status_of};
 
 use crate::interpreting::interp;
+use crate::sharing::share;
 use crate::simulating::sim;
 use crate::trying::trial;
 use crate::weaving::weave_by;
@@ -189,6 +190,7 @@ fn answer<'a, F: Files>(
             budget,
         } => simulated(alloc, verilog, json, budget, files),
         Command::Trial { seed } => tried(alloc, seed),
+        Command::Share { design } => shared(alloc, design, files),
         Command::Weave {
             design,
             json,
@@ -302,6 +304,23 @@ fn checked<'a, F: Files>(
     match check_text(alloc, &text) {
         Ok(()) => accepted(alloc),
         Err(told) => Err(Refusal::Stop(told)),
+    }
+}
+
+/// The answer of sharing on a file.
+fn shared<'a, F: Files>(
+    alloc: Global,
+    design: &'a [u8],
+    files: &mut F,
+) -> Result<Vec<u8>, Refusal<'a>>
+    ensures answer { IfOk result (λ text. IsAnswer (F.held files.old) (asked.share design.now) text.items) }
+    ensures cause { IfErr result (HasCause (asked.share design.now) (F.held files.old) (F.faults files.old) (F.faults files.new)) }
+    ensures kept { F.held files.new ≡ F.held files.old }
+{
+    let text = read(alloc, files, design, DESIGN_BYTES)?;
+    match share(alloc, &text) {
+        Ok(answer) => Ok(answer),
+        Err(why) => Err(Refusal::Stop(why)),
     }
 }
 

@@ -1,12 +1,9 @@
-//! What `share` writes of the tree of a text.
+//! What `share` writes of a design.
 
-ghost use Rattle.std.specs.Prelude.{◌≡◌, ◌++◌, IfOk, IfErr, MatchResult};
-ghost use Rattle.cx_text.specs.declared.diagnostics.Diagnostic.{Diagnostic};
+ghost use Rattle.std.specs.Prelude.{◌≡◌, ◌++◌, IfOk};
 ghost use Rattle.cx_ast.specs.PlainTree.{plain_tree};
 ghost use Rattle.cx_design.specs.PlainDesigns.{plain_design};
 ghost use Rattle.cx_numbering.specs.DesignOf.{design_of};
-ghost use Rattle.cx_check.specs.Acceptance.{IsAcceptedTree, IsTreeRefusal, TreeBreak};
-ghost use Rattle.cx_check.specs.Verdicts.{TellsAs};
 ghost use Rattle.cx_print.specs.Printable.{IsPrintable};
 ghost use Rattle.cx_sharing.specs.SharedTree.{shared_tree};
 ghost use Rattle.cx_written.specs.Written.{IsReadAs};
@@ -16,44 +13,23 @@ ghost use Rattle.cx_rewritten.specs.SharedTexts.{IsSharedText, row_line};
 
 use crate::lines::push_word;
 use cx_ast::Tree;
-use cx_check::accept;
-use cx_design::{Checked, Refusal};
+use cx_design::Checked;
 use cx_print::print;
 use cx_share::{SharedRow, share};
 use cx_text::Memory;
 use std::alloc::Global;
 
-/// Writes the tree in which one cell stands for those that are never used together, behind a line for each cell that is gone, where the
-/// tree of a text is accepted.
-pub fn share_text(alloc: Global, tree: &Tree) -> Result<Vec<u8>, Refusal>
+/// Writes the tree in which one cell stands for those that are never used together, behind a line for each cell that is gone. The tree
+/// is that of some text, and the design is its design.
+pub fn share_text(alloc: Global, tree: &Tree, design: &Checked) -> Result<Vec<u8>, Memory>
+    requires design { plain_design design.now ≡ design_of (plain_tree tree.now) }
     requires source { IsTreeOfText (plain_tree tree.now) }
-    ensures accepted { IfOk result (λ _. IsAcceptedTree (plain_tree tree.now)) }
     ensures written { IfOk result (λ text. IsSharedText (plain_tree tree.now) text.items) }
     // What is written is read as the shared tree, at other places, and its design runs as that of the shared tree.
     ensures read { IfOk result (λ text. IsReadAs (shared_tree (plain_tree tree.now)) text.items) }
-
-    ensures rule { IfErr result (IsTreeRefusal (plain_tree tree.now)) }
-    // A tree that breaks a rule is refused, by that rule at that place and with its name, unless memory is wanting.
-    ensures all_refusals { (told : Diagnostic) → TreeBreak (plain_tree tree.now) told → MatchResult result (λ _. ⊥) (TellsAs (design_of (plain_tree tree.now)) told) }
 {
-    match accept(alloc, tree) {
-        Ok(design) => of_accepted(alloc, tree, &design),
-        Err(refusal) => Err(refusal),
-    }
-}
-
-/// The same of a tree with its design.
-fn of_accepted(alloc: Global, tree: &Tree, design: &Checked) -> Result<Vec<u8>, Refusal>
-    requires design { plain_design design.now ≡ design_of (plain_tree tree.now) }
-    requires printable { IsPrintable (plain_tree tree.now) }
-    ensures written { IfOk result (λ text. IsSharedText (plain_tree tree.now) text.items) }
-    ensures rule { IfErr result (IsTreeRefusal (plain_tree tree.now)) }
-    ensures memory { IfErr result IsMemory }
-{
-    match written(alloc, tree, design) {
-        Ok(text) => Ok(text),
-        Err(_) => Err(Refusal::Memory),
-    }
+    let text = written(alloc, tree, design)?;
+    Ok(text)
 }
 
 /// The lines, and the printed tree behind them.

@@ -1,12 +1,9 @@
--- THE RULES ON NAMES hang on no place: a tree without places has the same breaks, all at one place.
-use Rattle.std.proofs.Common.{◌≡◌, ℕ, zero, suc, Bool, true, false, ◌&&◌, ◌||◌, not, nat_eq, nat_le, List, [], ◌∷◌, ◌++◌, Option, Some, None, is_none, codes, map, flat_map, option_map, length, refl, sym, ap, ◌∙◌, subst, if◌then◌else◌}
-use Rattle.std.proofs.lemmas.List.{map-append}
-use Rattle.cx_text.proofs.ListLaws.{length-map}
+-- THE RULES ON NAMES of assignments, statements and cells hang on no place.
+use Rattle.std.proofs.Common.{◌≡◌, ℕ, Bool, true, false, ◌&&◌, ◌||◌, not, nat_le, List, [], ◌∷◌, ◌++◌, Option, Some, None, is_none, codes, map, flat_map, option_map, refl, sym, ap, ◌∙◌, if◌then◌else◌}
 use Rattle.cx_text.specs.declared.places.Place.{Place}
 use Rattle.cx_text.specs.Places.{start}
 use Rattle.cx_text.specs.declared.diagnostics.Diagnostic.{Diagnostic}
-use Rattle.cx_text.specs.declared.rules.Rule.{Rule}
-use Rattle.cx_text.specs.declared.rules.Rule.TheVariants.{Duplicate, UnknownName, BadParameters, LeftOut, Recursive, NoMain}
+use Rattle.cx_text.specs.declared.rules.Rule.TheVariants.{UnknownName, BadParameters, LeftOut}
 use Rattle.cx_prim.specs.declared.ports.PortRow.{PortRow}
 use Rattle.cx_prim.specs.PortNames.{text_of}
 use Rattle.cx_prim.specs.Rows.{is_output_side}
@@ -21,119 +18,11 @@ use Rattle.cx_ast.specs.declared.wiring.GroupWord.TheVariants as words
 use Rattle.cx_ast.specs.PlainTree as ast
 use Rattle.cx_ast.specs.PlainGuards as guards
 use Rattle.cx_ast.specs.PlainStatements as statements
-use Rattle.cx_print.specs.Places.{bare_operand, bare_bind, bare_guard, bare_guards, bare_form, bare_else, bare_block, bare_statements, bare_import, bare_port, bare_cell, bare_assign, bare_group, bare_wire, bare_component, without_places}
-use Rattle.cx_numbering.specs.Names.{same_name, is_among, is_own_name, port_names, component_names, groups_in, always_in, group_names, cell_among, group_among, CellOf, Neither, APrimitive, AComponent, cell_of, cell_go, is_external}
-use Rattle.cx_numbering.specs.NameRules.{tell, tell_if, path_of, Named, named, duplicates, bind_names, component_duplicates, primitive_named, main_breaks, operands_of, operands_in, guard_operands, Standing, standing, Visited, visit_parts, visit_else, visit_block, visit_all, statements_in, cell_ports, is_component, found_component, is_clock, is_own, is_unknown, unknown, is_left_out, is_hole, source_breaks, is_group, is_wrong_target, is_one, is_bare_done, assign_breaks, is_comb_word, is_comb_group, enable_breaks, with_breaks, output_rows, output_names, is_go_name, found_reg, is_reg, is_register_in, input_breaks, output_breaks, invoke_on, form_breaks, kind_breaks, is_narrow_memory, external_breaks, is_on_side, is_wrong_port, has_other_attribute, port_breaks, component_kinds, some_part, leads_back, recursive_breaks, cell_breaks, component_breaks, import_breaks, name_breaks}
-use Rattle.cx_written.proofs.BareNames.{both_ways, each_way, port_names-bare, component_names-bare, cell_among-bare, groups_in-bare, always_in-bare, group_names-bare, group_among-bare, bare_of, cell_of-bare, found_cell_ports-bare, cell_go-bare}
-
--- a break at no place of its own
-abbrev pub bare_break : Diagnostic → Diagnostic
-bare_break d = tell d.rule start d.name
-
-told : (t u : Bool) (rule : Rule) (place : Place) (name : List ℕ) → t ≡ u → map bare_break (tell_if t rule place name) ≡ tell_if u rule start name
-told true u rule place name e = ap (λ t. tell_if t rule start name) e
-told false u rule place name e = ap (λ t. tell_if t rule start name) e
-
-joined : (xs ys us vs : List Diagnostic) → map bare_break xs ≡ us → map bare_break ys ≡ vs → map bare_break (xs ++ ys) ≡ us ++ vs
-joined xs ys us vs e f = map-append bare_break xs ys ∙ ap (λ ds. ds ++ map bare_break ys) e ∙ ap (λ ds. us ++ ds) f
-
-abbrev bare_named : Named → Named
-bare_named x = named x.name start
-
-duplicates-bare : (before : List (List ℕ)) (xs : List Named) → map bare_break (duplicates before xs) ≡ duplicates before (map bare_named xs)
-duplicates-bare before [] = refl
-duplicates-bare before (x ∷ xs) =
-    joined (tell_if (is_among x.name before) Duplicate x.place x.name) (duplicates (x.name ∷ before) xs) _ _
-    (told (is_among x.name before) _ Duplicate x.place x.name refl) (duplicates-bare (x.name ∷ before) xs)
-
-repeats : {A : Type 0} (f : A → A) (n : A → Named) → ((x : A) → bare_named (n x) ≡ n (f x)) → (xs : List A) → map bare_break (duplicates [] (map n xs)) ≡ duplicates [] (map n (map f xs))
-repeats f n e xs = duplicates-bare [] (map n xs) ∙ ap (duplicates []) (both_ways n bare_named f n e xs)
-
--- OPERANDS of a guard
-mutual
-  operands_of-bare : (g : guards.PlainGuard) → map bare_operand (operands_of g) ≡ operands_of (bare_guard g)
-  operands_of-bare (guards.Or gs) = operands_in-bare gs
-  operands_of-bare (guards.And gs) = operands_in-bare gs
-  operands_of-bare (guards.Compare c left right) = refl
-  operands_of-bare (guards.Not g) = operands_of-bare g
-  operands_of-bare (guards.Operand o) = refl
-  operands_of-bare (guards.At n) = refl
-  operands_of-bare (guards.During from to) = refl
-
-  operands_in-bare : (gs : guards.PlainGuards) → map bare_operand (operands_in gs) ≡ operands_in (bare_guards gs)
-  operands_in-bare guards.NoGuards = refl
-  operands_in-bare (guards.GuardThen g gs) =
-      map-append bare_operand (operands_of g) (operands_in gs) ∙ ap (λ os. os ++ map bare_operand (operands_in gs)) (operands_of-bare g) ∙ ap (λ os. operands_of (bare_guard g) ++ os) (operands_in-bare gs)
-
-guard_operands-bare : (g : Option guards.PlainGuard) → map bare_operand (guard_operands g) ≡ guard_operands (option_map bare_guard g)
-guard_operands-bare None = refl
-guard_operands-bare (Some g) = operands_of-bare g
-
--- ASSIGNMENTS with their groups, and statements
-abbrev bare_standing : Standing → Standing
-bare_standing x = record { group = x.group; assign = bare_assign x.assign }
-
-standing-bare : (part : ast.PlainComponent) → map bare_standing (standing part) ≡ standing (bare_component part)
-standing-bare part =
-    map-append bare_standing (map free (always_in part.wires)) (flat_map inside (groups_in part.wires))
-    ∙ ap (λ xs. xs ++ map bare_standing (flat_map inside (groups_in part.wires))) (both_ways free bare_standing bare_assign free (λ a. refl) (always_in part.wires) ∙ ap (map free) (sym (always_in-bare part.wires)))
-    ∙ ap (λ xs. map free (always_in (bare_component part).wires) ++ xs) (each_way inside bare_standing bare_group inside inside-bare (groups_in part.wires) ∙ ap (flat_map inside) (sym (groups_in-bare part.wires)))
-  where
-    free : ast.PlainAssign → Standing
-    free a = record { group = None; assign = a }
-
-    inside : ast.PlainGroup → List Standing
-    inside g = map (λ a. record { group = Some g.name; assign = a }) g.assigns
-
-    inside-bare : (g : ast.PlainGroup) → map bare_standing (inside g) ≡ inside (bare_group g)
-    inside-bare g = both_ways (λ a. record { group = Some g.name; assign = a }) bare_standing bare_assign (λ a. record { group = Some g.name; assign = a }) (λ a. refl) g.assigns
-
-abbrev pub bare_visited : Visited → Visited
-bare_visited v = record { form = bare_form v.form; place = start }
-
-mutual
-  visit_parts-bare : (f : statements.PlainForm) → map bare_visited (visit_parts f) ≡ visit_parts (bare_form f)
-  visit_parts-bare (statements.Enable group marks) = refl
-  visit_parts-bare (statements.Seq marks block) = visit_block-bare block
-  visit_parts-bare (statements.Par marks block) = visit_block-bare block
-  visit_parts-bare (statements.StaticSeq written marks block) = visit_block-bare block
-  visit_parts-bare (statements.StaticPar written marks block) = visit_block-bare block
-  visit_parts-bare (statements.If test comb body otherwise) =
-      map-append bare_visited (visit_block body) (visit_else otherwise)
-      ∙ ap (λ vs. vs ++ map bare_visited (visit_else otherwise)) (visit_block-bare body) ∙ ap (λ vs. visit_block (bare_block body) ++ vs) (visit_else-bare otherwise)
-  visit_parts-bare (statements.StaticIf written test body otherwise) =
-      map-append bare_visited (visit_block body) (visit_else otherwise)
-      ∙ ap (λ vs. vs ++ map bare_visited (visit_else otherwise)) (visit_block-bare body) ∙ ap (λ vs. visit_block (bare_block body) ++ vs) (visit_else-bare otherwise)
-  visit_parts-bare (statements.While test comb body) = visit_block-bare body
-  visit_parts-bare (statements.Repeat count body) = visit_block-bare body
-  visit_parts-bare (statements.StaticRepeat written count body) = visit_block-bare body
-  visit_parts-bare (statements.Invoke cell inputs outputs) = refl
-  visit_parts-bare (statements.StaticInvoke written cell inputs outputs) = refl
-
-  visit_else-bare : (e : statements.PlainElse) → map bare_visited (visit_else e) ≡ visit_else (bare_else e)
-  visit_else-bare statements.NoElse = refl
-  visit_else-bare (statements.Else block) = visit_block-bare block
-
-  pub visit_block-bare : (b : statements.PlainBlock) → map bare_visited (visit_block b) ≡ visit_block (bare_block b)
-  visit_block-bare (statements.Braces list place) = visit_all-bare list
-
-  visit_all-bare : (list : statements.PlainStatements) → map bare_visited (visit_all list) ≡ visit_all (bare_statements list)
-  visit_all-bare statements.NoStatements = refl
-  visit_all-bare (statements.StatementThen (statements.Placed attributes form place) rest) =
-      ap (λ vs. record { form = bare_form form; place = start } ∷ vs)
-      (map-append bare_visited (visit_parts form) (visit_all rest)
-      ∙ ap (λ vs. vs ++ map bare_visited (visit_all rest)) (visit_parts-bare form) ∙ ap (λ vs. visit_parts (bare_form form) ++ vs) (visit_all-bare rest))
-
-pub statements_in-bare : (part : ast.PlainComponent) → map bare_visited (statements_in part) ≡ statements_in (bare_component part)
-statements_in-bare part = by part.control
-  where
-    of_control : Option statements.PlainBlock → List Visited
-    of_control None = []
-    of_control (Some block) = visit_block block
-
-    by : (c : Option statements.PlainBlock) → map bare_visited (of_control c) ≡ of_control (option_map bare_block c)
-    by None = refl
-    by (Some block) = visit_block-bare block
+use Rattle.cx_print.specs.Places.{bare_operand, bare_bind, bare_guard, bare_form, bare_port, bare_cell, bare_assign, bare_group, bare_component, without_places}
+use Rattle.cx_numbering.specs.Names.{same_name, is_among, is_own_name, port_names, groups_in, group_names, cell_among, group_among, CellOf, Neither, APrimitive, AComponent, cell_of, cell_go, is_external}
+use Rattle.cx_numbering.specs.NameRules.{tell_if, path_of, named, duplicates, bind_names, guard_operands, Standing, cell_ports, is_component, found_component, is_clock, is_own, is_unknown, unknown, is_left_out, is_hole, source_breaks, is_group, is_wrong_target, is_one, is_bare_done, assign_breaks, is_comb_word, is_comb_group, enable_breaks, with_breaks, output_rows, output_names, is_go_name, found_reg, is_reg, is_register_in, input_breaks, output_breaks, invoke_on, form_breaks, kind_breaks, is_narrow_memory, external_breaks, is_on_side, is_wrong_port, has_other_attribute, port_breaks}
+use Rattle.cx_written.proofs.BareNames.{each_way, port_names-bare, cell_among-bare, groups_in-bare, group_names-bare, group_among-bare, bare_of, cell_of-bare, found_cell_ports-bare, cell_go-bare}
+use Rattle.cx_written.proofs.BareItems.{bare_break, told, joined, bare_standing, repeats, guard_operands-bare}
 
 module _ (tree : ast.PlainTree) (part : ast.PlainComponent) where
   is_component-bare : (x : CellOf) → is_component tree part x ≡ is_component (without_places tree) (bare_component part) (bare_of x)
@@ -215,7 +104,7 @@ module _ (tree : ast.PlainTree) (part : ast.PlainComponent) where
   is_bare_done-bare : (a : ast.PlainAssign) → is_bare_done tree part a ≡ is_bare_done (without_places tree) (bare_component part) (bare_assign a)
   is_bare_done-bare a = cc (is_hole-bare a.target.form, unguarded-bare a.guard, is_one-bare a.source.form)
 
-  assign_breaks-bare : (x : Standing) → map bare_break (assign_breaks tree part x) ≡ assign_breaks (without_places tree) (bare_component part) (bare_standing x)
+  pub assign_breaks-bare : (x : Standing) → map bare_break (assign_breaks tree part x) ≡ assign_breaks (without_places tree) (bare_component part) (bare_standing x)
   assign_breaks-bare x =
       let form = x.assign.target.form in
       let no_target : is_left_out tree part form || is_wrong_target tree part x.group form || is_bare_done tree part x.assign
@@ -225,10 +114,13 @@ module _ (tree : ast.PlainTree) (part : ast.PlainComponent) where
           each_way (source_breaks tree part) bare_break bare_operand (source_breaks (without_places tree) (bare_component part)) source_breaks-bare (guard_operands x.assign.guard)
           ∙ ap (flat_map (source_breaks (without_places tree) (bare_component part))) (guard_operands-bare x.assign.guard) in
       let wrong : List Diagnostic = tell_if (is_left_out tree part form || is_wrong_target tree part x.group form || is_bare_done tree part x.assign) LeftOut x.assign.target.place (path_of form) in
-      let rest : List Diagnostic = source_breaks tree part x.assign.source ++ flat_map (source_breaks tree part) (guard_operands x.assign.guard) in
-      joined (unknown tree part x.assign.target) (wrong ++ rest) _ _ (unknown-bare x.assign.target)
-      (joined wrong rest _ _ (told (is_left_out tree part form || is_wrong_target tree part x.group form || is_bare_done tree part x.assign) _ LeftOut x.assign.target.place (path_of form) no_target)
-      (joined (source_breaks tree part x.assign.source) (flat_map (source_breaks tree part) (guard_operands x.assign.guard)) _ _ (source_breaks-bare x.assign.source) ops))
+      let first : List Diagnostic = unknown tree part x.assign.target in
+      let source : List Diagnostic = source_breaks tree part x.assign.source in
+      joined (first ++ wrong ++ source) (flat_map (source_breaks tree part) (guard_operands x.assign.guard)) _ _
+      (joined (first ++ wrong) source _ _
+      (joined first wrong _ _ (unknown-bare x.assign.target) (told (is_left_out tree part form || is_wrong_target tree part x.group form || is_bare_done tree part x.assign) _ LeftOut x.assign.target.place (path_of form) no_target))
+      (source_breaks-bare x.assign.source))
+      ops
 
   -- STATEMENTS
   is_comb_word-bare : (w : GroupWord) → is_comb_word tree part w ≡ is_comb_word (without_places tree) (bare_component part) w
@@ -300,23 +192,24 @@ module _ (tree : ast.PlainTree) (part : ast.PlainComponent) where
           cc (output_names-bare x, is_go_name-bare (cell_go x) b.name, cell_go-bare x, is_clock-bare cell b.name) in
       let wrong : List Diagnostic = tell_if (is_among b.name (output_names tree part x) || is_go_name tree part (cell_go x) b.name || is_clock tree part cell b.name) LeftOut b.place b.name in
       let missing : List Diagnostic = tell_if (not (is_among b.name (cell_ports tree part cell) || is_clock tree part cell b.name)) UnknownName b.place b.name in
-      joined missing (wrong ++ source_breaks tree part b.value) _ _
+      joined (missing ++ wrong) (source_breaks tree part b.value) _ _
+      (joined missing wrong _ _
       (told (not (is_among b.name (cell_ports tree part cell) || is_clock tree part cell b.name)) _ UnknownName b.place b.name (is_unknown_port-bare cell b.name))
-      (joined wrong (source_breaks tree part b.value) _ _
-      (told (is_among b.name (output_names tree part x) || is_go_name tree part (cell_go x) b.name || is_clock tree part cell b.name) _ LeftOut b.place b.name no_input)
-      (source_breaks-bare b.value))
+      (told (is_among b.name (output_names tree part x) || is_go_name tree part (cell_go x) b.name || is_clock tree part cell b.name) _ LeftOut b.place b.name no_input))
+      (source_breaks-bare b.value)
 
   output_breaks-bare : (cell : List ℕ) (x : CellOf) (b : BindItem) → map bare_break (output_breaks tree part cell x b) ≡ output_breaks (without_places tree) (bare_component part) cell (bare_of x) (bare_bind b)
   output_breaks-bare cell x b =
       let missing : List Diagnostic = tell_if (not (is_among b.name (cell_ports tree part cell) || is_clock tree part cell b.name)) UnknownName b.place b.name in
       let wrong : List Diagnostic = tell_if (not (is_among b.name (output_names tree part x))) LeftOut b.place b.name in
       let last : List Diagnostic = tell_if (not (is_register_in tree part b.value.form)) LeftOut b.value.place (path_of b.value.form) in
-      joined missing (wrong ++ unknown tree part b.value ++ last) _ _
+      joined (missing ++ wrong ++ unknown tree part b.value) last _ _
+      (joined (missing ++ wrong) (unknown tree part b.value) _ _
+      (joined missing wrong _ _
       (told (not (is_among b.name (cell_ports tree part cell) || is_clock tree part cell b.name)) _ UnknownName b.place b.name (is_unknown_port-bare cell b.name))
-      (joined wrong (unknown tree part b.value ++ last) _ _
-      (told (not (is_among b.name (output_names tree part x))) _ LeftOut b.place b.name (ap (λ names. not (is_among b.name names)) (output_names-bare x)))
-      (joined (unknown tree part b.value) last _ _ (unknown-bare b.value)
-      (told (not (is_register_in tree part b.value.form)) _ LeftOut b.value.place (path_of b.value.form) (ap not (is_register_in-bare b.value.form)))))
+      (told (not (is_among b.name (output_names tree part x))) _ LeftOut b.place b.name (ap (λ names. not (is_among b.name names)) (output_names-bare x))))
+      (unknown-bare b.value))
+      (told (not (is_register_in tree part b.value.form)) _ LeftOut b.value.place (path_of b.value.form) (ap not (is_register_in-bare b.value.form)))
 
   invoke_on-bare : (cell : List ℕ) (inputs outputs : List BindItem) (place : Place)
       → map bare_break (invoke_on tree part cell inputs outputs place (cell_among cell part.cells))
@@ -329,11 +222,11 @@ module _ (tree : ast.PlainTree) (part : ast.PlainComponent) where
           ++ flat_map (input_breaks (without_places tree) (bare_component part) cell (bare_of x)) (map bare_bind inputs)
           ++ flat_map (output_breaks (without_places tree) (bare_component part) cell (bare_of x)) (map bare_bind outputs)
       at_kind x =
-          joined (tell_if (is_none (cell_go x)) LeftOut place cell) (flat_map (input_breaks tree part cell x) inputs ++ flat_map (output_breaks tree part cell x) outputs) _ _
+          joined (tell_if (is_none (cell_go x)) LeftOut place cell ++ flat_map (input_breaks tree part cell x) inputs) (flat_map (output_breaks tree part cell x) outputs) _ _
+          (joined (tell_if (is_none (cell_go x)) LeftOut place cell) (flat_map (input_breaks tree part cell x) inputs) _ _
           (told (is_none (cell_go x)) _ LeftOut place cell (ap (λ go. is_none go) (sym (cell_go-bare x))))
-          (joined (flat_map (input_breaks tree part cell x) inputs) (flat_map (output_breaks tree part cell x) outputs) _ _
-          (each_way (input_breaks tree part cell x) bare_break bare_bind (input_breaks (without_places tree) (bare_component part) cell (bare_of x)) (input_breaks-bare cell x) inputs)
-          (each_way (output_breaks tree part cell x) bare_break bare_bind (output_breaks (without_places tree) (bare_component part) cell (bare_of x)) (output_breaks-bare cell x) outputs))
+          (each_way (input_breaks tree part cell x) bare_break bare_bind (input_breaks (without_places tree) (bare_component part) cell (bare_of x)) (input_breaks-bare cell x) inputs))
+          (each_way (output_breaks tree part cell x) bare_break bare_bind (output_breaks (without_places tree) (bare_component part) cell (bare_of x)) (output_breaks-bare cell x) outputs)
 
       by : (c : Option ast.PlainCell)
           → map bare_break (invoke_on tree part cell inputs outputs place c) ≡ invoke_on (without_places tree) (bare_component part) cell (map bare_bind inputs) (map bare_bind outputs) start (option_map bare_cell c)
@@ -344,7 +237,7 @@ module _ (tree : ast.PlainTree) (part : ast.PlainComponent) where
           ++ flat_map (input_breaks (without_places tree) (bare_component part) cell x) (map bare_bind inputs)
           ++ flat_map (output_breaks (without_places tree) (bare_component part) cell x) (map bare_bind outputs)) (sym (cell_of-bare tree c))
 
-  form_breaks-bare : (f : statements.PlainForm) (place : Place) → map bare_break (form_breaks tree part f place) ≡ form_breaks (without_places tree) (bare_component part) (bare_form f) start
+  pub form_breaks-bare : (f : statements.PlainForm) (place : Place) → map bare_break (form_breaks tree part f place) ≡ form_breaks (without_places tree) (bare_component part) (bare_form f) start
   form_breaks-bare (statements.Enable group marks) place = enable_breaks-bare group place
   form_breaks-bare (statements.Seq marks block) place = refl
   form_breaks-bare (statements.Par marks block) place = refl
@@ -358,14 +251,14 @@ module _ (tree : ast.PlainTree) (part : ast.PlainComponent) where
   form_breaks-bare (statements.Repeat count body) place = refl
   form_breaks-bare (statements.StaticRepeat written count body) place = refl
   form_breaks-bare (statements.Invoke cell inputs outputs) place =
-      joined (duplicates [] (bind_names inputs)) (duplicates [] (bind_names outputs) ++ invoke_on tree part cell inputs outputs place (cell_among cell part.cells)) _ _
-      (repeats bare_bind (λ b. named b.name b.place) (λ b. refl) inputs)
-      (joined (duplicates [] (bind_names outputs)) (invoke_on tree part cell inputs outputs place (cell_among cell part.cells)) _ _
-      (repeats bare_bind (λ b. named b.name b.place) (λ b. refl) outputs) (invoke_on-bare cell inputs outputs place))
+      joined (duplicates [] (bind_names inputs) ++ duplicates [] (bind_names outputs)) (invoke_on tree part cell inputs outputs place (cell_among cell part.cells)) _ _
+      (joined (duplicates [] (bind_names inputs)) (duplicates [] (bind_names outputs)) _ _
+      (repeats bare_bind (λ b. named b.name b.place) (λ b. refl) inputs) (repeats bare_bind (λ b. named b.name b.place) (λ b. refl) outputs))
+      (invoke_on-bare cell inputs outputs place)
   form_breaks-bare (statements.StaticInvoke written cell inputs outputs) place = refl
 
   -- CELLS and ports
-  kind_breaks-bare : (cell : ast.PlainCell) (x : CellOf) → map bare_break (kind_breaks tree part cell x) ≡ kind_breaks (without_places tree) (bare_component part) (bare_cell cell) (bare_of x)
+  pub kind_breaks-bare : (cell : ast.PlainCell) (x : CellOf) → map bare_break (kind_breaks tree part cell x) ≡ kind_breaks (without_places tree) (bare_component part) (bare_cell cell) (bare_of x)
   kind_breaks-bare cell Neither = refl
   kind_breaks-bare cell (APrimitive primitive) = told _ _ BadParameters cell.place cell.name refl
   kind_breaks-bare cell (AComponent component) = told _ _ BadParameters cell.place cell.name refl
@@ -375,7 +268,7 @@ module _ (tree : ast.PlainTree) (part : ast.PlainComponent) where
   is_narrow_memory-bare (APrimitive primitive) = refl
   is_narrow_memory-bare (AComponent component) = refl
 
-  external_breaks-bare : (cell : ast.PlainCell) → map bare_break (external_breaks tree part cell) ≡ external_breaks (without_places tree) (bare_component part) (bare_cell cell)
+  pub external_breaks-bare : (cell : ast.PlainCell) → map bare_break (external_breaks tree part cell) ≡ external_breaks (without_places tree) (bare_component part) (bare_cell cell)
   external_breaks-bare cell =
       told _ _ LeftOut cell.place cell.name
       (ap (λ b. is_external cell && not (same_name part.name (codes "main") && b))
@@ -392,96 +285,8 @@ module _ (tree : ast.PlainTree) (part : ast.PlainComponent) where
   is_wrong_port-bare : (input : Bool) (port : ast.PlainPort) → is_wrong_port tree part input port ≡ is_wrong_port (without_places tree) (bare_component part) input (bare_port port)
   is_wrong_port-bare input port = cc (is_on_side-bare input port.name, has_other_attribute-bare port.name port.attributes)
 
-  port_breaks-bare : (input : Bool) (port : ast.PlainPort) → map bare_break (port_breaks tree part input port) ≡ port_breaks (without_places tree) (bare_component part) input (bare_port port)
+  pub port_breaks-bare : (input : Bool) (port : ast.PlainPort) → map bare_break (port_breaks tree part input port) ≡ port_breaks (without_places tree) (bare_component part) input (bare_port port)
   port_breaks-bare input port =
       joined (tell_if (not (nat_le 1 port.width && nat_le port.width 128)) BadParameters port.place port.name) (tell_if (is_wrong_port tree part input port) LeftOut port.place port.name) _ _
       (told (not (nat_le 1 port.width && nat_le port.width 128)) _ BadParameters port.place port.name refl)
       (told (is_wrong_port tree part input port) _ LeftOut port.place port.name (is_wrong_port-bare input port))
-
-module _ (tree : ast.PlainTree) where
-  -- CIRCLES of components
-  component_kinds-bare : (part : ast.PlainComponent) → map bare_component (component_kinds tree part) ≡ component_kinds (without_places tree) (bare_component part)
-  component_kinds-bare part = each_way (λ cell. kinds (cell_of tree cell)) bare_component bare_cell (λ cell. kinds (cell_of (without_places tree) cell)) of_cell part.cells
-    where
-      kinds : CellOf → List ast.PlainComponent
-      kinds Neither = []
-      kinds (APrimitive primitive) = []
-      kinds (AComponent component) = component ∷ []
-
-      by : (x : CellOf) → map bare_component (kinds x) ≡ kinds (bare_of x)
-      by Neither = refl
-      by (APrimitive primitive) = refl
-      by (AComponent component) = refl
-
-      of_cell : (cell : ast.PlainCell) → map bare_component (kinds (cell_of tree cell)) ≡ kinds (cell_of (without_places tree) (bare_cell cell))
-      of_cell cell = by (cell_of tree cell) ∙ ap kinds (sym (cell_of-bare tree cell))
-
-  some_part-bare : (old new : ast.PlainComponent → Bool) → ((part : ast.PlainComponent) → old part ≡ new (bare_component part)) → (parts : List ast.PlainComponent) → some_part old parts ≡ some_part new (map bare_component parts)
-  some_part-bare old new e [] = refl
-  some_part-bare old new e (part ∷ rest) = ap (λ b. b || some_part old rest) (e part) ∙ ap (λ b. new (bare_component part) || b) (some_part-bare old new e rest)
-
-  leads_back-bare : (name : List ℕ) (n : ℕ) (part : ast.PlainComponent) → leads_back tree name n part ≡ leads_back (without_places tree) name n (bare_component part)
-  leads_back-bare name zero part = refl
-  leads_back-bare name (suc n) part =
-      ap (λ b. same_name part.name name || b)
-      (some_part-bare (leads_back tree name n) (leads_back (without_places tree) name n) (leads_back-bare name n) (component_kinds tree part)
-      ∙ ap (some_part (leads_back (without_places tree) name n)) (component_kinds-bare part))
-
-  recursive_breaks-bare : (part : ast.PlainComponent) (cell : ast.PlainCell) → map bare_break (recursive_breaks tree part cell) ≡ recursive_breaks (without_places tree) (bare_component part) (bare_cell cell)
-  recursive_breaks-bare part cell = by (cell_of tree cell) ∙ ap after (sym (cell_of-bare tree cell))
-    where
-      before : CellOf → List Diagnostic
-      before Neither = []
-      before (APrimitive primitive) = []
-      before (AComponent component) = tell_if (leads_back tree part.name (length tree.components) component) Recursive cell.place cell.name
-
-      after : CellOf → List Diagnostic
-      after Neither = []
-      after (APrimitive primitive) = []
-      after (AComponent component) = tell_if (leads_back (without_places tree) part.name (length (map bare_component tree.components)) component) Recursive start cell.name
-
-      by : (x : CellOf) → map bare_break (before x) ≡ after (bare_of x)
-      by Neither = refl
-      by (APrimitive primitive) = refl
-      by (AComponent component) =
-          told (leads_back tree part.name (length tree.components) component) _ Recursive cell.place cell.name
-          (leads_back-bare part.name (length tree.components) component
-          ∙ ap (λ n. leads_back (without_places tree) part.name n (bare_component component)) (sym (length-map bare_component tree.components)))
-
-  cell_breaks-bare : (part : ast.PlainComponent) (cell : ast.PlainCell) → map bare_break (cell_breaks tree part cell) ≡ cell_breaks (without_places tree) (bare_component part) (bare_cell cell)
-  cell_breaks-bare part cell =
-      joined (kind_breaks tree part cell (cell_of tree cell)) (external_breaks tree part cell ++ recursive_breaks tree part cell) _ _
-      (kind_breaks-bare tree part cell (cell_of tree cell) ∙ ap (kind_breaks (without_places tree) (bare_component part) (bare_cell cell)) (sym (cell_of-bare tree cell)))
-      (joined (external_breaks tree part cell) (recursive_breaks tree part cell) _ _ (external_breaks-bare tree part cell) (recursive_breaks-bare part cell))
-
-  component_duplicates-bare : (part : ast.PlainComponent) → map bare_break (component_duplicates part) ≡ component_duplicates (bare_component part)
-  component_duplicates-bare part =
-      let ports : map bare_break (duplicates [] (map (λ p. named p.name p.place) (part.inputs ++ part.outputs))) ≡ duplicates [] (map (λ p. named p.name p.place) (map bare_port part.inputs ++ map bare_port part.outputs)) =
-          repeats bare_port (λ p. named p.name p.place) (λ p. refl) (part.inputs ++ part.outputs) ∙ ap (λ ps. duplicates [] (map (λ p. named p.name p.place) ps)) (map-append bare_port part.inputs part.outputs) in
-      let groups : map bare_break (duplicates [] (map (λ g. named g.name g.place) (groups_in part.wires))) ≡ duplicates [] (map (λ g. named g.name g.place) (groups_in (map bare_wire part.wires))) =
-          repeats bare_group (λ g. named g.name g.place) (λ g. refl) (groups_in part.wires) ∙ ap (λ gs. duplicates [] (map (λ g. named g.name g.place) gs)) (sym (groups_in-bare part.wires)) in
-      joined (duplicates [] (map (λ p. named p.name p.place) (part.inputs ++ part.outputs)))
-      (duplicates [] (map (λ c. named c.name c.place) part.cells) ++ duplicates [] (map (λ g. named g.name g.place) (groups_in part.wires))) _ _ ports
-      (joined (duplicates [] (map (λ c. named c.name c.place) part.cells)) (duplicates [] (map (λ g. named g.name g.place) (groups_in part.wires))) _ _
-      (repeats bare_cell (λ c. named c.name c.place) (λ c. refl) part.cells) groups)
-
-  component_breaks-bare : (part : ast.PlainComponent) → map bare_break (component_breaks tree part) ≡ component_breaks (without_places tree) (bare_component part)
-  component_breaks-bare part =
-      joined (primitive_named part) _ _ _ (told _ _ Duplicate part.place part.name refl)
-      (joined (component_duplicates part) _ _ _ (component_duplicates-bare part)
-      (joined (flat_map (port_breaks tree part true) part.inputs) _ _ _ (each_way (port_breaks tree part true) bare_break bare_port _ (port_breaks-bare tree part true) part.inputs)
-      (joined (flat_map (port_breaks tree part false) part.outputs) _ _ _ (each_way (port_breaks tree part false) bare_break bare_port _ (port_breaks-bare tree part false) part.outputs)
-      (joined (flat_map (cell_breaks tree part) part.cells) _ _ _ (each_way (cell_breaks tree part) bare_break bare_cell _ (cell_breaks-bare part) part.cells)
-      (joined (flat_map (assign_breaks tree part) (standing part)) _ _ _
-      (each_way (assign_breaks tree part) bare_break bare_standing (assign_breaks (without_places tree) (bare_component part)) (assign_breaks-bare tree part) (standing part)
-      ∙ ap (flat_map (assign_breaks (without_places tree) (bare_component part))) (standing-bare part))
-      (each_way (λ v. form_breaks tree part v.form v.place) bare_break bare_visited (λ v. form_breaks (without_places tree) (bare_component part) v.form v.place) (λ v. form_breaks-bare tree part v.form v.place) (statements_in part)
-      ∙ ap (flat_map (λ v. form_breaks (without_places tree) (bare_component part) v.form v.place)) (statements_in-bare part)))))))
-
-  -- ALL BREAKS of a tree
-  pub name_breaks-bare : map bare_break (name_breaks tree) ≡ name_breaks (without_places tree)
-  name_breaks-bare =
-      joined (main_breaks tree) _ _ _ (told _ _ NoMain (record { line = 1; column = 1 }) [] (ap (λ names. not (is_among (codes "main") names)) (sym (component_names-bare tree))))
-      (joined (flat_map import_breaks tree.imports) _ _ _ (each_way import_breaks bare_break bare_import import_breaks (λ i. told _ _ LeftOut i.place i.path refl) tree.imports)
-      (joined (duplicates [] (map (λ part. named part.name part.place) tree.components)) _ _ _ (repeats bare_component (λ part. named part.name part.place) (λ part. refl) tree.components)
-      (each_way (component_breaks tree) bare_break bare_component (component_breaks (without_places tree)) component_breaks-bare tree.components)))

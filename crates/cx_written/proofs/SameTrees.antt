@@ -21,7 +21,8 @@ use Rattle.cx_check.specs.Acceptance.{IsAcceptedTree}
 use Rattle.cx_written.specs.Ordered.{places_in, Rise, IsInOrder}
 use Rattle.cx_written.proofs.BareNames.{each_way, component_names-bare}
 use Rattle.cx_written.proofs.BareControl.{inputs-bare, outputs-bare, cells-bare, groups-bare, always-bare, control-bare}
-use Rattle.cx_written.proofs.BareRules.{bare_break, bare_visited, statements_in-bare, name_breaks-bare}
+use Rattle.cx_written.proofs.BareItems.{bare_break, bare_visited, statements_in-bare}
+use Rattle.cx_written.proofs.BareTrees.{name_breaks-bare}
 use Rattle.cx_written.proofs.WrittenOrder.{bare_order, order-bare}
 
 -- DESIGNS

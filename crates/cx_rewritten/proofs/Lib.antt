@@ -1,0 +1,3 @@
+mod NamedOrder
+mod NamedPrintable
+pub mod SharedLemmas
