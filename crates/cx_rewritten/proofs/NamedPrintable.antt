@@ -11,6 +11,7 @@ use Rattle.cx_ast.specs.PlainStatements as plain
 use Rattle.cx_ast.specs.PlainTree as wires
 use Rattle.cx_copies.specs.Naming.{named_operand_form, named_guard, named_guards, named_assign, named_group, named_wire, named_bind, named_form, named_else, named_block, named_statement, named_statements}
 use Rattle.cx_print.specs.declared.guards.Binding.{Binding}
+use Rattle.cx_print.specs.declared.guards.Binding.TheVariants.{OrPart, AndPart, NotPart}
 use Rattle.cx_print.specs.Pieces.{needs_parens}
 use Rattle.cx_print.specs.Printable.{IsName, IfThere, IsForm, IsNoLiteral, IsBind, OneDeeper, IsWrapped, HasTwo, IsInside, AreParts, IsGuard, IsControl, IsElse, IsStatement, AreStatements, IsBlock, IsAssign, IsGroup, IsWire}
 
@@ -56,12 +57,12 @@ module _ (name : List ℕ → List ℕ) (names : (n : List ℕ) → IsName n →
 
   mutual
     guard_inside : (g : PlainGuard) (n : ℕ) → IsInside g n → IsInside (named_guard name g) n
-    guard_inside (guards.Or gs) n h = (two_printable gs h.0, parts_inside _ gs n h.1)
-    guard_inside (guards.And gs) n h = (two_printable gs h.0, parts_inside _ gs n h.1)
+    guard_inside (guards.Or gs) n h = (two_printable gs h.0, parts_inside OrPart gs n h.1)
+    guard_inside (guards.And gs) n h = (two_printable gs h.0, parts_inside AndPart gs n h.1)
     guard_inside (guards.Compare c left right) n h = (form_printable left.form h.0, form_printable right.form h.1)
     guard_inside (guards.Not g) n h =
-        deeper (IsWrapped (needs_parens _ g) (IsInside g)) (IsWrapped (needs_parens _ (named_guard name g)) (IsInside (named_guard name g)))
-        (λ m k. subst (λ t. IsWrapped t (IsInside (named_guard name g)) m) (sym (parens-named _ g)) (wrapped (IsInside g) (IsInside (named_guard name g)) (guard_inside g) (needs_parens _ g) m k)) n h
+        deeper (IsWrapped (needs_parens NotPart g) (IsInside g)) (IsWrapped (needs_parens NotPart (named_guard name g)) (IsInside (named_guard name g)))
+        (λ m k. subst (λ t. IsWrapped t (IsInside (named_guard name g)) m) (sym (parens-named NotPart g)) (wrapped (IsInside g) (IsInside (named_guard name g)) (guard_inside g) (needs_parens NotPart g) m k)) n h
     guard_inside (guards.Operand o) n h = form_printable o.form h
     guard_inside (guards.At at) n h = h
     guard_inside (guards.During from to) n h = h

@@ -19,7 +19,8 @@ use Rattle.cx_sharing.specs.Giving.{keeper, stays}
 use Rattle.cx_sharing.specs.SharedTree.{keeper_name, kept_name, left_cells, shared_component, shared_components, shared_tree}
 use Rattle.cx_sharing.specs.SharedRows.{row_of, rows_from, rows_of, shared_rows}
 use Rattle.cx_sharing.proofs.KeeperLemmas.{keeper_within}
-use Rattle.cx_written.specs.Ordered.{places_in, AreOf, StandAs, KeepsOrder}
+use Rattle.cx_copies.specs.Naming.{named_block}
+use Rattle.cx_written.specs.Ordered.{wire_places, invoke_places, places_in, AreOf, StandAs, KeepsOrder}
 use Rattle.cx_written.specs.Comments.{AreComments, no_line, a_line}
 use Rattle.cx_written.specs.Written.{IsReadAs}
 use Rattle.cx_written.proofs.ReadLemmas.{written_read}
@@ -31,7 +32,8 @@ use Rattle.cx_rewritten.proofs.NamedPrintable.{wires_printable, part_printable}
 -- ORDER
 part_order : (part : PlainComponent) (item : ast.PlainComponent) → places_in (shared_component part item) ≡ places_in item
 part_order part item =
-    ap (λ ps. ps ++ _) (wires-named (kept_name part) item.wires) ∙ ap (λ ps. _ ++ ps) (control-named (kept_name part) item.control)
+    ap (λ ps. ps ++ invoke_places (option_map (named_block (kept_name part)) item.control)) (wires-named (kept_name part) item.wires)
+    ∙ ap (λ ps. flat_map wire_places item.wires ++ ps) (control-named (kept_name part) item.control)
 
 stand_as : (parts : List PlainComponent) (items : List ast.PlainComponent) → StandAs (shared_components parts items) items
 stand_as parts [] = tt
@@ -144,7 +146,8 @@ comments_of [] h = no_line
 comments_of (row ∷ rows) h =
     let words : List ℕ = codes " shared" ++ (32 ∷ row.component) ++ (32 ∷ row.cell) ++ (32 ∷ row.kept) in
     let body : list_all is_in_line words ≡ true =
-        both_in_line (codes " shared") _ refl (both_in_line (32 ∷ row.component) _ h.0.0 (both_in_line (32 ∷ row.cell) (32 ∷ row.kept) h.0.1 h.0.2)) in
+        both_in_line (codes " shared" ++ (32 ∷ row.component) ++ (32 ∷ row.cell)) (32 ∷ row.kept)
+        (both_in_line (codes " shared" ++ (32 ∷ row.component)) (32 ∷ row.cell) (both_in_line (codes " shared") (32 ∷ row.component) refl h.0.0) h.0.1) h.0.2 in
     subst AreComments (spelled row (lines rows)) (a_line words (lines rows) body (comments_of rows h.1))
   where
     spelled : (row : SharedRow) (rest : List ℕ) → 47 ∷ 47 ∷ (codes " shared" ++ (32 ∷ row.component) ++ (32 ∷ row.cell) ++ (32 ∷ row.kept)) ++ 10 ∷ rest ≡ row_line row ++ rest

@@ -293,11 +293,19 @@ module _ (spelled : (n : Nest) → Spelling (Nested n)) where
     has_static_rest : Gives spelled static_rest EveryLength
     unfolding static_rest
     has_static_rest =
-        gives_choice spelled (behind t.Seq (mapped static_seq_of marked_block)) _ EveryLength (lengths_behind t.Seq (mapped static_seq_of marked_block) (lengths_mapped static_seq_of marked_block (λ r. of_block r.1) (λ x length place. refl) has_marked))
-        (gives_choice spelled (behind t.Par (mapped static_par_of marked_block)) _ EveryLength (lengths_behind t.Par (mapped static_par_of marked_block) (lengths_mapped static_par_of marked_block (λ r. of_block r.1) (λ x length place. refl) has_marked))
-        (gives_choice spelled (behind t.If static_if_rest) _ EveryLength (lengths_behind t.If static_if_rest has_static_if)
-        (gives_choice spelled (behind t.Repeat (mapped static_repeat_of repeat_rest)) _ EveryLength (lengths_behind t.Repeat (mapped static_repeat_of repeat_rest) (lengths_mapped static_repeat_of repeat_rest (λ r. of_block r.1) (λ x length place. refl) has_repeat_rest))
-        (lengths_behind t.Invoke (mapped static_invoke_of invoke_rest) (gives_pair spelled (λ x _. static_invoke_of x) invoke_rest (Empty tt) Passes Passes EveryLength (leads invoke_rest) (leads (Empty tt)) (λ p m q x y h k length place. then_later p m q h k))))))
+        let called : Grammar (Option ℕ → PlainForm) = behind t.Invoke (mapped static_invoke_of invoke_rest) in
+        let repeated : Grammar (Option ℕ → PlainForm) = behind t.Repeat (mapped static_repeat_of repeat_rest) in
+        let branched : Grammar (Option ℕ → PlainForm) = behind t.If static_if_rest in
+        let beside : Grammar (Option ℕ → PlainForm) = behind t.Par (mapped static_par_of marked_block) in
+        gives_choice spelled (behind t.Seq (mapped static_seq_of marked_block)) (Choice beside (Choice branched (Choice repeated called))) EveryLength
+        (lengths_behind t.Seq (mapped static_seq_of marked_block) (lengths_mapped static_seq_of marked_block (λ r. of_block r.1) (λ x length place. refl) has_marked))
+        (gives_choice spelled beside (Choice branched (Choice repeated called)) EveryLength
+        (lengths_behind t.Par (mapped static_par_of marked_block) (lengths_mapped static_par_of marked_block (λ r. of_block r.1) (λ x length place. refl) has_marked))
+        (gives_choice spelled branched (Choice repeated called) EveryLength (lengths_behind t.If static_if_rest has_static_if)
+        (gives_choice spelled repeated called EveryLength
+        (lengths_behind t.Repeat (mapped static_repeat_of repeat_rest) (lengths_mapped static_repeat_of repeat_rest (λ r. of_block r.1) (λ x length place. refl) has_repeat_rest))
+        (lengths_behind t.Invoke (mapped static_invoke_of invoke_rest)
+        (gives_pair spelled (λ x _. static_invoke_of x) invoke_rest (Empty tt) Passes Passes EveryLength (leads invoke_rest) (leads (Empty tt)) (λ p m q x y h k length place. then_later p m q h k))))))
 
     has_static : Gives spelled static_form Everywhere
     unfolding static_form
@@ -322,12 +330,14 @@ module _ (spelled : (n : Nest) → Spelling (Nested n)) where
     has_form : Has form of_form
     unfolding form seq par if_form while_form repeat static_statement
     has_form =
-        gives_choice spelled enable _ (StepsOf of_form) has_enable
-        (gives_choice spelled seq _ (StepsOf of_form) (has_second seq_of (sign t.Seq) marked_block (λ r. of_block r.1) of_form (λ p r. refl) has_marked)
-        (gives_choice spelled par _ (StepsOf of_form) (has_second par_of (sign t.Par) marked_block (λ r. of_block r.1) of_form (λ p r. refl) has_marked)
-        (gives_choice spelled if_form _ (StepsOf of_form) (behind_word t.If if_rest has_if)
-        (gives_choice spelled while_form _ (StepsOf of_form) (behind_word t.While while_rest has_while)
-        (gives_choice spelled repeat _ (StepsOf of_form) (has_second repeat_of (sign t.Repeat) repeat_rest (λ r. of_block r.1) of_form (λ p r. refl) has_repeat_rest)
+        let last : Grammar (PlainForm × Place) = Choice invoke static_statement in
+        let loops : Grammar (PlainForm × Place) = Choice while_form (Choice repeat last) in
+        gives_choice spelled enable (Choice seq (Choice par (Choice if_form loops))) (StepsOf of_form) has_enable
+        (gives_choice spelled seq (Choice par (Choice if_form loops)) (StepsOf of_form) (has_second seq_of (sign t.Seq) marked_block (λ r. of_block r.1) of_form (λ p r. refl) has_marked)
+        (gives_choice spelled par (Choice if_form loops) (StepsOf of_form) (has_second par_of (sign t.Par) marked_block (λ r. of_block r.1) of_form (λ p r. refl) has_marked)
+        (gives_choice spelled if_form loops (StepsOf of_form) (behind_word t.If if_rest has_if)
+        (gives_choice spelled while_form (Choice repeat last) (StepsOf of_form) (behind_word t.While while_rest has_while)
+        (gives_choice spelled repeat last (StepsOf of_form) (has_second repeat_of (sign t.Repeat) repeat_rest (λ r. of_block r.1) of_form (λ p r. refl) has_repeat_rest)
         (gives_choice spelled invoke static_statement (StepsOf of_form) has_invoke (behind_word t.Static static_form has_static)))))))
 
     unfoldable of_statement : PlainStatement → List Place

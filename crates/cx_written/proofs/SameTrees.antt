@@ -53,8 +53,8 @@ same_parts : (old new : ast.PlainTree) → without_places old ≡ without_places
 same_parts old new e [] [] f h i k = no_parts
 same_parts old new e [] (other ∷ others) f h i k = absurd cc
 same_parts old new e (part ∷ parts) [] f h i k = absurd cc
-same_parts old new e (part ∷ parts) (other ∷ others) f h i zero = same_part old new part other e cc h.0 i.0
-same_parts old new e (part ∷ parts) (other ∷ others) f h i (suc k) = same_parts old new e parts others cc h.1 i.1 k
+same_parts old new e (part ∷ parts) (other ∷ others) f h i zero = same_part old new part other e (cc) h.0 i.0
+same_parts old new e (part ∷ parts) (other ∷ others) f h i (suc k) = same_parts old new e parts others (cc) h.1 i.1 k
 
 pub same_design : (old new : ast.PlainTree) → without_places old ≡ without_places new → IsInOrder old → IsInOrder new → SameDesign (design_of old) (design_of new)
 same_design old new e h i =
