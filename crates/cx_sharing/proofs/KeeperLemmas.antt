@@ -1,15 +1,15 @@
 -- What is given stands behind the cell that it is given to, and is of its kind.
-use Rattle.std.proofs.Common.{◌≡◌, ℕ, zero, suc, ◌<◌, ◌≤◌, ◌+◌, inl, inr, ◌⊎◌, ⊎_elim, Bool, true, false, ◌||◌, ◌&&◌, List, [], ◌∷◌, refl, sym, ap, ◌∙◌, subst, arith}
+use Rattle.std.proofs.Common.{◌≡◌, ℕ, zero, suc, ◌<◌, ◌≤◌, inl, inr, ◌⊎◌, ⊎_elim, Bool, true, false, ◌&&◌, List, [], ◌∷◌, refl, sym, ap, ◌∙◌, subst, arith}
 use Rattle.std.specs.Prelude.{not, nat_eq, length, if◌then◌else◌}
 use Rattle.std.specs.List.{list_all}
 use Rattle.std.proofs.lemmas.Bool.{eqb-true, or_cases}
-use Rattle.cx_meaning.specs.Designs.{PlainKind, OfPrimitive, OfComponent, PlainComponent}
+use Rattle.cx_meaning.specs.Designs.{PlainComponent}
 use Rattle.cx_meaning.specs.Sights.{In}
 use Rattle.cx_sharing.specs.Uses.{kind_in, is_candidate}
 use Rattle.cx_sharing.specs.Meeting.{meet}
-use Rattle.cx_sharing.specs.Giving.{Kept, same_numbers, same_kind, takes, give, give_candidate, kept_after, kept_of, is_in, keeper_in, keeper, stays, staying, new_cell}
+use Rattle.cx_sharing.specs.Giving.{Kept, same_kind, takes, give, kept_after, kept_of, is_in, keeper}
 use Rattle.cx_sharing.proofs.KindLemmas.{same_kind-is}
-use Rattle.cx_sharing.proofs.KeptLemmas.{Member, grown, AllFine, AreSound, kept_sound, IsGiven, found}
+use Rattle.cx_sharing.proofs.KeptLemmas.{grown, AllFine, kept_sound, IsGiven, found}
 
 module _ (part : PlainComponent) where
   -- those that were given to a kept cell

@@ -2,15 +2,14 @@
 use Rattle.std.proofs.Common.{◌≡◌, ◌≢◌, ℕ, zero, suc, ◌<◌, ◌≤◌, inl, inr, ◌⊎◌, ⊎_elim, Bool, true, false, ◌||◌, ◌&&◌, Option, Some, None, List, [], ◌∷◌, refl, sym, ap, ◌∙◌, subst}
 use Rattle.std.specs.Prelude.{slice_get, nat_eq, if◌then◌else◌}
 use Rattle.std.specs.List.{list_any}
-use Rattle.std.proofs.lemmas.Bool.{cases_lt, eqb-true, or_cases, or_right}
+use Rattle.std.proofs.lemmas.Bool.{cases_lt, eqb-true, or_right}
 use Rattle.cx_text.specs.declared.places.Place.{Place}
 use Rattle.cx_text.proofs.BoolLaws.{or_left, and_true}
 use Rattle.cx_text.proofs.OptionLaws.{none_some}
 use Rattle.cx_meaning.specs.declared.ports.PortRef.{PortRef}
 use Rattle.cx_meaning.specs.declared.ports.PortRef.TheVariants as ports
 use Rattle.cx_meaning.specs.declared.ports.PlacedPort.{PlacedPort}
-use Rattle.cx_meaning.specs.Designs.{PlainComponent, PlainForm, Empty, Enable, Seq, Par, If, While, Repeat, StaticSeq, StaticPar, StaticIf, StaticRepeat, Timed, PlainStatement, Placed, list_of}
-use Rattle.cx_meaning.specs.Instances.{just}
+use Rattle.cx_meaning.specs.Designs.{PlainComponent, PlainForm, Empty, Enable, Seq, Par, If, While, Repeat, StaticSeq, StaticPar, StaticIf, StaticRepeat, Timed, PlainStatement, Placed}
 use Rattle.cx_meaning.specs.Active.{nothing, only_at, group, capture, comb, Entry, entries}
 use Rattle.cx_meaning.specs.Control.{groups_of, targets_cell}
 use Rattle.cx_meaning.specs.Islands.{History, form_flat, form_length, active_in}
@@ -18,11 +17,11 @@ use Rattle.cx_meaning.specs.Sights.{In}
 use Rattle.cx_meaning.proofs.ActiveLemmas.{entry_of}
 use Rattle.cx_meaning.proofs.InstancesLemmas.{just_true}
 use Rattle.cx_rules.specs.Items.{Context, Visited, visit, statements_in, tests_of}
-use Rattle.cx_rules.specs.RaceRule.{Arms, arms_of}
+use Rattle.cx_rules.specs.RaceRule.{arms_of}
 use Rattle.cx_laws.specs.Positions.{active_at}
 use Rattle.cx_laws.proofs.IslandLemmas.{active_is, active_past}
-use Rattle.cx_laws.proofs.TogetherLemmas.{InArms, InPar, Together, together}
-use Rattle.cx_sharing.specs.Uses.{group_uses, uses, comb_uses, test_uses}
+use Rattle.cx_laws.proofs.TogetherLemmas.{InArms, Together, together}
+use Rattle.cx_sharing.specs.Uses.{group_uses, uses, test_uses}
 use Rattle.cx_sharing.specs.Meeting.{has_both, arms_meet, form_meets, meet}
 use Rattle.cx_sharing.proofs.UsedLemmas.{any_of, Covers, UsedMeet, group_meets, statement_meets}
 

@@ -1,5 +1,5 @@
 -- Primitives that hold nothing: they have no enabling port, their outputs hang on inputs alone, and what an output reads is an input.
-use Rattle.std.proofs.Common.{◌≡◌, ℕ, zero, suc, ◌<◌, true, false, List, [], ◌∷◌, Option, refl, sym, arith}
+use Rattle.std.proofs.Common.{◌≡◌, ℕ, zero, suc, true, refl, arith}
 use Rattle.std.specs.Prelude.{nat_lt}
 use Rattle.std.proofs.lemmas.Bool.{ltb-true}
 use Rattle.cx_bits.specs.BitVector.{BitVector}

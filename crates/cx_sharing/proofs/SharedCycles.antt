@@ -10,8 +10,7 @@ use Rattle.cx_meaning.specs.declared.ports.PortRef.TheVariants as ports
 use Rattle.cx_meaning.specs.Instances.{Instance, At, Nothing, OfRow, OfInstance, cell_at, cell_count, cells_of, part_of, Path, State}
 use Rattle.cx_meaning.specs.Active.{Active}
 use Rattle.cx_meaning.specs.Sights.{Held, seen, is_done_cell}
-use Rattle.cx_meaning.specs.Cycles.{Fault, Outcome, Next, Stops, cell_outcome, outcome_at, first_of, first_fault, Ended, Goes, Faults, unless_fault, cycle}
-use Rattle.cx_meaning.specs.Answers as answers
+use Rattle.cx_meaning.specs.Cycles.{Fault, Outcome, Next, Stops, outcome_at, first_of, first_fault, Goes, unless_fault, cycle}
 use Rattle.cx_meaning.specs.Islands.{turn_of}
 use Rattle.cx_rules.specs.Circles.{IsAcyclic}
 use Rattle.cx_rewrites.specs.Tallies.{Tally}
@@ -26,7 +25,7 @@ use Rattle.cx_sharing.specs.Following.{has_state, SharedStands, shared_fault}
 use Rattle.cx_sharing.proofs.RemainingLemmas.{counted, from_zero}
 use Rattle.cx_sharing.proofs.RowLemmas.{stateless_goes}
 use Rattle.cx_sharing.proofs.UsedLemmas.{Covers, UsedMeet}
-use Rattle.cx_sharing.proofs.TwinLemmas.{IsTwin, row_twin, child_twin, nothing_twin, stays_is, other_stays, part_other, state_other}
+use Rattle.cx_sharing.proofs.TwinLemmas.{IsTwin, row_twin, child_twin, nothing_twin, stays_is, other_stays, state_other}
 use Rattle.cx_sharing.proofs.TwinStates.{HoldsAt, itself, in_child, holds_at, of_path, path_of, root_of, row_path, row_state, child_renumbered, told_here}
 use Rattle.cx_sharing.proofs.SharedSights.{seen_there}
 

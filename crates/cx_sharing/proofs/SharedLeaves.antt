@@ -1,5 +1,5 @@
 -- THE LEAVES OF CONTROL of an instance are carried by those of the shared instance: groups, conditions, calls and islands.
-use Rattle.std.proofs.Common.{◌≡◌, ℕ, zero, suc, inl, inr, ◌⊎◌, Bool, true, false, Option, Some, None, List, [], refl, sym, ap, ◌∙◌, subst}
+use Rattle.std.proofs.Common.{◌≡◌, ℕ, zero, suc, inl, inr, ◌⊎◌, Bool, true, false, Option, Some, None, [], refl, sym, ap, ◌∙◌}
 use Rattle.std.specs.Prelude.{nat_eq}
 use Rattle.std.proofs.lemmas.Bool.{eqb-true, eq-eqb}
 use Rattle.cx_text.specs.declared.places.Place.{Place}
@@ -7,26 +7,25 @@ use Rattle.cx_text.proofs.BoolLaws.{or_left}
 use Rattle.cx_meaning.specs.declared.ports.PortRef.{PortRef}
 use Rattle.cx_meaning.specs.declared.ports.PortRef.TheVariants as ports
 use Rattle.cx_meaning.specs.declared.ports.PlacedPort.{PlacedPort}
-use Rattle.cx_meaning.specs.Designs.{group_at, no_place, PlainForm, Enable, PlainStatement, Placed}
+use Rattle.cx_meaning.specs.Designs.{group_at, no_place, PlainForm, Enable, Placed}
 use Rattle.cx_meaning.specs.Instances.{Instance, Cells, no_cells, a_primitive, an_instance, OfInstance, cell_at, cells_of, part_of, State, idle}
 use Rattle.cx_meaning.specs.Active.{nothing, group, capture, comb, entries}
 use Rattle.cx_meaning.specs.Answers.{Answer, End, Fault, More, Meaning, turns_of}
 use Rattle.cx_meaning.specs.Control.{targets_cell}
-use Rattle.cx_meaning.specs.Cycles as cycles
 use Rattle.cx_meaning.specs.Islands.{History, group_length, form_flat, active_in, island}
-use Rattle.cx_meaning.specs.Calls.{group_turn, test, called, call, inputs_of_call, enable}
-use Rattle.cx_meaning.specs.Running.{Children, run_control, control_below}
+use Rattle.cx_meaning.specs.Calls.{group_turn, test, called, call, enable}
+use Rattle.cx_meaning.specs.Running.{run_control, control_below}
 use Rattle.cx_meaning.specs.Sights.{Held, In, is_done_cell}
 use Rattle.cx_meaning.proofs.InstancesLemmas.{just_same}
 use Rattle.cx_rules.specs.Circles.{IsAcyclic}
-use Rattle.cx_rules.specs.Items.{Context, Dynamic, Visited, visit, visit_parts, statements_in}
+use Rattle.cx_rules.specs.Items.{Context, Dynamic, Visited, visit, statements_in}
 use Rattle.cx_rules.specs.RaceRule.{arms_of}
 use Rattle.cx_frames.proofs.CircleFrames.{capture_acyclic}
 use Rattle.cx_frames.proofs.IslandFrames.{AllFine, form_fine}
 use Rattle.cx_rewrites.specs.Moving.{moved_form}
 use Rattle.cx_rewrites.specs.Renaming.{renamed}
 use Rattle.cx_rewrites.specs.Tallies.{Tally, none, below, Counted, turns_count, island_count}
-use Rattle.cx_rewrites.specs.Carrying.{Pace, Exact, Rests, Carried, Carries, TestCarried}
+use Rattle.cx_rewrites.specs.Carrying.{Exact, Rests, Carried, Carries, TestCarried}
 use Rattle.cx_rewrites.specs.Turns.{IsSeenAlike, GroupCarries, CallCarries, IslandCarries}
 use Rattle.cx_rewrites.proofs.TurnLemmas.{test_carried, group_carries, call_carries, enable-turns, enable-call, enable-island, equals_carry}
 use Rattle.cx_rewrites.proofs.IslandLemmas.{island_carries}
@@ -34,7 +33,7 @@ use Rattle.cx_sharing.specs.Uses.{group_uses, test_uses, is_candidate}
 use Rattle.cx_sharing.specs.Meeting.{has_both, form_meets}
 use Rattle.cx_sharing.specs.Giving.{new_cell}
 use Rattle.cx_sharing.specs.Following.{SharedStands, shared_fault}
-use Rattle.cx_sharing.proofs.UsedLemmas.{Inside, Covers, UsedMeet}
+use Rattle.cx_sharing.proofs.UsedLemmas.{Inside}
 use Rattle.cx_sharing.proofs.MeetLemmas.{port_covers, port_meets, group_covers, capture_covers, group_used_meet, test_covers, test_meets, StandsHere, NowUses, now_covers, now_meet}
 use Rattle.cx_sharing.proofs.TwinLemmas.{IsBeside, IsTwin, child_twin, part_other, own_number}
 use Rattle.cx_sharing.proofs.TwinStates.{child_state, back_state, idle_state, told_here, told_below}
@@ -120,7 +119,7 @@ module _ (i j : Instance) (twin : IsTwin i j) (fit : IsFit i) (held : Held) wher
   test_shared v p o stands is before s z r =
       test_carried Exact R (shared_fault i) i j held held p.port (renamed (new_cell (part_of i)) p.port) o o
       (λ before2 s2 z2 stands2. seen_there i j twin (comb o) (comb o) (λ g. refl) (λ c. test_uses (part_of i) p o c ≡ true) (test_covers (part_of i) p o) (test_meets (part_of i) v p o stands is) held s2 z2 stands2
-        (comb_done o) (comb_acyclic o) p.port (test_inside p o p.port refl))
+      (comb_done o) (comb_acyclic o) p.port (test_inside p o p.port refl))
       (λ kind. told_here i kind p.port) before s z r
 
   -- A CALL
@@ -152,7 +151,7 @@ module _ (i j : Instance) (twin : IsTwin i j) (fit : IsFit i) (held : Held) wher
         recount (SharedStands i) (shared_fault i) (λ s n. below c none) (λ s n. none) (call i (control_below (cells_of i)) held g c) (call j (control_below (cells_of j)) held g (new_cell (part_of i) c))
         (call_carries Exact R (shared_fault i) i j held held (λ counted. SharedStands child) (shared_fault child) g g c (new_cell (part_of i) c) call_shared (control_below (cells_of i)) (control_below (cells_of j)) (λ own s n. none)
         (λ own. equals_carry Exact (λ counted. SharedStands child) (shared_fault child) (λ s n. none) (run_control child own) (control_below (cells_of i) c own) (run_control other own) (control_below (cells_of j) (new_cell (part_of i) c) own)
-          (λ s n. control_child (cells_of i) c child own s n at) (λ s n. control_child (cells_of j) (new_cell (part_of i) c) other own s n there) (beside.runs own)))
+        (λ s n. control_child (cells_of i) c child own s n at) (λ s n. control_child (cells_of j) (new_cell (part_of i) c) other own s n there) (beside.runs own)))
 
   -- AN ISLAND
   pub island_shared : (context : Context) (form : PlainForm) (place : Place) → StandsHere (part_of i) context form place

@@ -1,41 +1,38 @@
 -- WHAT IS SEEN in an instance is seen in the shared one, under groups whose cells meet; and nothing leads in a circle there.
-use Rattle.std.proofs.Common.{◌≡◌, ℕ, zero, suc, ◌<◌, inl, inr, ◌⊎◌, ⊎_elim, Bool, true, false, Option, Some, None, List, [], ◌∷◌, ◌++◌, map, refl, sym, ap, ◌∙◌, subst, arith}
+use Rattle.std.proofs.Common.{◌≡◌, ℕ, zero, suc, ◌<◌, inl, inr, ◌⊎◌, Bool, true, false, Option, Some, None, List, [], ◌∷◌, map, refl, sym, ap, ◌∙◌, subst, arith}
 use Rattle.std.proofs.lemmas.Bool.{both_ways}
-use Rattle.std.proofs.lemmas.List.{map-append}
 use Rattle.cx_text.proofs.BoolLaws.{not_not}
 use Rattle.cx_prim.specs.declared.ports.Side.{Side}
 use Rattle.cx_prim.specs.declared.ports.Side.TheVariants as sides
 use Rattle.cx_prim.specs.Rows.{Inputs, Row}
-use Rattle.cx_prim.specs.Table.{PrimitiveRow, row_of}
+use Rattle.cx_prim.specs.Table.{row_of}
 use Rattle.cx_meaning.specs.Rows.{side_of}
 use Rattle.cx_meaning.specs.declared.ports.PortRef.{PortRef}
 use Rattle.cx_meaning.specs.declared.ports.PortRef.TheVariants as ports
 use Rattle.cx_meaning.specs.declared.sights.Seen.{Seen}
-use Rattle.cx_meaning.specs.Designs.{PlainAssign, PlainGroup, PlainComponent}
+use Rattle.cx_meaning.specs.Designs.{PlainComponent}
 use Rattle.cx_meaning.specs.Instances.{Instance, Cells, no_cells, a_primitive, an_instance, At, Nothing, OfRow, OfInstance, cell_at, cell_count, cells_of, part_of, State, under}
-use Rattle.cx_meaning.specs.Active.{Active, nothing, Owned, owned, owned_by_groups, offset_of, source_order}
-use Rattle.cx_meaning.specs.Sights.{Held, unheld, In, Sees, seen, outputs_below, is_done_cell, part_port}
-use Rattle.cx_meaning.proofs.CycleLemmas.{row_within}
+use Rattle.cx_meaning.specs.Active.{Active, nothing, Owned, offset_of, source_order}
+use Rattle.cx_meaning.specs.Sights.{Held, unheld, In, Sees, seen, outputs_below, is_done_cell}
 use Rattle.cx_rules.specs.Footprints.{Mentions, SideLeads, CellLeads, Leads, Depends, at_once, by_way_of}
 use Rattle.cx_rules.specs.RaceRule.{HasCycle}
-use Rattle.cx_rules.specs.Circles.{IsAcyclic, AcyclicBelow}
+use Rattle.cx_rules.specs.Circles.{IsAcyclic}
 use Rattle.cx_rules.proofs.ForeignLemmas.{sorted_among}
-use Rattle.cx_rewrites.specs.Moving.{moved_assign, moved_group, moved_owned}
+use Rattle.cx_rewrites.specs.Moving.{moved_owned}
 use Rattle.cx_rewrites.specs.Driving.{assigns_of}
 use Rattle.cx_rewrites.specs.Renaming.{renamed, IsRenamed, Renames}
 use Rattle.cx_rewrites.proofs.ClosedLemmas.{Mention, mention_of}
-use Rattle.cx_rewrites.proofs.DriverLemmas.{driven_moved}
+use Rattle.cx_rewrites.proofs.DriverLemmas.{assigns_of-moved, driven_moved}
 use Rattle.cx_rewrites.proofs.ReflectLemmas.{circle_back}
 use Rattle.cx_rewrites.proofs.RenamedLemmas.{seen_renamed, found_renamed}
 use Rattle.cx_sharing.specs.Uses.{is_stateless, is_candidate}
-use Rattle.cx_sharing.specs.Giving.{stays, staying, new_cell}
-use Rattle.cx_sharing.specs.SharedDesign.{shared_part}
+use Rattle.cx_sharing.specs.Giving.{stays, new_cell}
 use Rattle.cx_sharing.specs.Following.{has_state, SharedStands}
 use Rattle.cx_sharing.proofs.KeptLemmas.{new_apart}
-use Rattle.cx_sharing.proofs.RemainingLemmas.{StandsAt, stands_at}
+use Rattle.cx_sharing.proofs.RemainingLemmas.{stands_at}
 use Rattle.cx_sharing.proofs.RowLemmas.{stateless_row}
 use Rattle.cx_sharing.proofs.UsedLemmas.{IsIn, Inside, Covers, UsedMeet, active_uses, inside_closed, inside_apart, one_port, target_used}
-use Rattle.cx_sharing.proofs.TwinLemmas.{IsBeside, AtTwin, IsTwin, row_twin, child_twin, nothing_twin, like_twin, stays_is, part_other, candidate_holds_nothing}
+use Rattle.cx_sharing.proofs.TwinLemmas.{AtTwin, IsTwin, row_twin, child_twin, nothing_twin, like_twin, stays_is, part_other, candidate_holds_nothing}
 use Rattle.cx_sharing.proofs.TwinStates.{row_state, child_state}
 
 -- a member of a mapped list stands for one of the list
@@ -43,24 +40,6 @@ in_map : {A B : Type 0} (f : A → B) (list : List A) (y : B) → In (map f list
 in_map f [] y i = absurd i
 in_map f (x ∷ xs) y (inl e) = (x, inl refl, e)
 in_map f (x ∷ xs) y (inr i) = let r = in_map f xs y i in (r.0, inr r.1, r.2)
-
--- the assignments of a component whose ports are moved
-owned-moved : (move : PortRef → PortRef) (owner : Option ℕ) (list : List PlainAssign) → owned owner (map (moved_assign move) list) ≡ map (moved_owned move) (owned owner list)
-owned-moved move owner [] = refl
-owned-moved move owner (a ∷ rest) = ap (λ x. record { owner = owner; assign = moved_assign move a } ∷ x) (owned-moved move owner rest)
-
-owned_by_groups-moved : (move : PortRef → PortRef) (g : ℕ) (list : List PlainGroup) → owned_by_groups g (map (moved_group move) list) ≡ map (moved_owned move) (owned_by_groups g list)
-owned_by_groups-moved move g [] = refl
-owned_by_groups-moved move g (x ∷ xs) =
-    ap (λ z. z ++ owned_by_groups (suc g) (map (moved_group move) xs)) (owned-moved move (Some g) x.assigns)
-    ∙ ap (λ z. map (moved_owned move) (owned (Some g) x.assigns) ++ z) (owned_by_groups-moved move (suc g) xs)
-    ∙ sym (map-append (moved_owned move) (owned (Some g) x.assigns) (owned_by_groups (suc g) xs))
-
-assigns_of-shared : (part : PlainComponent) → assigns_of (shared_part part) ≡ map (moved_owned (renamed (new_cell part))) (assigns_of part)
-assigns_of-shared part =
-    ap (λ z. z ++ owned_by_groups 0 (map (moved_group (renamed (new_cell part))) part.groups)) (owned-moved (renamed (new_cell part)) None part.always)
-    ∙ ap (λ z. map (moved_owned (renamed (new_cell part))) (owned None part.always) ++ z) (owned_by_groups-moved (renamed (new_cell part)) 0 part.groups)
-    ∙ sym (map-append (moved_owned (renamed (new_cell part))) (owned None part.always) (owned_by_groups 0 part.groups))
 
 -- of a port that stands for a port of a cell
 record IsOf (cell : ℕ → ℕ) (t : PortRef) (e n : ℕ) : Type 0 where
@@ -121,7 +100,8 @@ module _ (i j : Instance) (twin : IsTwin i j) (act more : Active) (offsets : (g 
   driven_inside : (e n : ℕ) (q : PortRef) → Mention more (source_order (part_of j)) (ports.Cell e n) q → StandsFor e n
   driven_inside e n q m =
       let there : In (assigns_of (part_of j)) m.owned = sorted_among (assigns_of (part_of j)) m.owned m.stands in
-      let moved : assigns_of (part_of j) ≡ map (moved_owned (renamed (new_cell (part_of i)))) (assigns_of (part_of i)) = ap assigns_of twin.part ∙ assigns_of-shared (part_of i) in
+      let moved : assigns_of (part_of j) ≡ map (moved_owned (renamed (new_cell (part_of i)))) (assigns_of (part_of i)) =
+      assigns_of-moved (renamed (new_cell (part_of i))) (part_of i) (part_of j) (ap (λ (x : PlainComponent). x.always) twin.part) (ap (λ (x : PlainComponent). x.groups) twin.part) in
       let r = in_map (moved_owned (renamed (new_cell (part_of i)))) (assigns_of (part_of i)) m.owned (subst (λ list. In list m.owned) moved there) in
       let t = is_of (new_cell (part_of i)) r.0.assign.target e n (ap (λ (o : Owned). o.assign.target) r.2 ∙ m.target) in
       let acts : offset_of act r.0.owner ≡ Some m.offset = sym (same_offset r.0.owner) ∙ ap (λ (o : Owned). offset_of more o.owner) r.2 ∙ m.active in

@@ -1,5 +1,5 @@
 -- An instance of a design beside the instance of the shared design: what stands at each cell, and at its new number.
-use Rattle.std.proofs.Common.{◌≡◌, ℕ, zero, suc, ◌<◌, ◌≤◌, inl, inr, ◌⊎◌, ⊎_elim, Bool, true, false, List, [], ◌∷◌, length, map, refl, sym, ap, ◌∙◌, subst, arith}
+use Rattle.std.proofs.Common.{◌≡◌, ℕ, zero, suc, ◌<◌, ◌≤◌, ⊎_elim, Bool, true, false, List, [], ◌∷◌, length, map, refl, sym, ap, ◌∙◌, subst}
 use Rattle.std.specs.Prelude.{get_or, not, ◌&&◌}
 use Rattle.std.specs.List.{list_any}
 use Rattle.std.proofs.lemmas.Bool.{cases_lt, eqb-true, eq-eqb, both_ways}
@@ -9,7 +9,7 @@ use Rattle.cx_prim.specs.Table.{PrimitiveRow, row_of}
 use Rattle.cx_meaning.specs.declared.ports.PortRef.TheVariants as ports
 use Rattle.cx_meaning.specs.declared.sights.Seen.{Seen}
 use Rattle.cx_meaning.specs.Designs.{PlainKind, OfPrimitive, OfComponent, PlainCell, PlainGroup, PlainComponent, PlainDesign, component_at, no_component}
-use Rattle.cx_meaning.specs.Instances.{Instance, Node, Cells, no_cells, At, Nothing, OfRow, OfInstance, cell_at, cell_count, cells_of, part_of, add_cell, cells_for, tree_within, State, just}
+use Rattle.cx_meaning.specs.Instances.{Instance, Node, At, Nothing, OfRow, OfInstance, cell_at, cell_count, cells_of, part_of, add_cell, cells_for, tree_within, Path, State, start_at, just}
 use Rattle.cx_meaning.specs.Active.{nothing}
 use Rattle.cx_meaning.specs.Sights.{Held, unheld, Sees, seen, part_port}
 use Rattle.cx_meaning.specs.Control.{assigns_drive}
@@ -20,14 +20,14 @@ use Rattle.cx_rules.specs.Circles.{AreAcyclic, AcyclicBelow}
 use Rattle.cx_rewrites.specs.Tallies.{none}
 use Rattle.cx_rewrites.specs.Carrying.{Exact, Carries}
 use Rattle.cx_rewrites.specs.Renaming.{AtLike, same_row, like_child, both_nothing}
-use Rattle.cx_rewrites.specs.Standing.{IsRenumbered}
+use Rattle.cx_rewrites.specs.Standing.{holds, renumbered, IsRenumbered}
 use Rattle.cx_sharing.specs.Uses.{assigns_use, is_stateless, is_plain_side, is_combinational, kind_in, is_candidate}
 use Rattle.cx_sharing.specs.Giving.{keeper, stays, staying, new_cell}
 use Rattle.cx_sharing.specs.SharedDesign.{remaining, shared_part, shared_design}
 use Rattle.cx_sharing.specs.Following.{has_state, SharedStands, shared_fault}
 use Rattle.cx_sharing.proofs.KeptLemmas.{keeper_stays, new_apart}
 use Rattle.cx_sharing.proofs.KeeperLemmas.{keeper_kind, keeper_within, keeper_past, other_kept}
-use Rattle.cx_sharing.proofs.RemainingLemmas.{kind_left, length_left, staying_within, staying_past, StandsAt, stands_at, at_kind, cell_is, none_past}
+use Rattle.cx_sharing.proofs.RemainingLemmas.{kind_left, length_left, staying_within, staying_past, at_kind, cell_is, none_past}
 
 -- A CHILD AND THE SHARED ONE: what an instance asks of its children
 pub record IsBeside (child twin : Instance) : Type 0 where
@@ -35,6 +35,7 @@ pub record IsBeside (child twin : Instance) : Type 0 where
   pub first_circles : AreAcyclic child
   pub circles : AreAcyclic twin
   pub tree : IsRenumbered new_cell has_state child twin
+  pub starts : (path : Path) → holds has_state child path ≡ true → start_at twin (renumbered new_cell child path) ≡ start_at child path
   -- its outputs, under its continuous assignments, are seen alike
   pub outputs : (s z : State) (n : ℕ) (x : Seen) → SharedStands child s z → Sees child unheld nothing s (ports.Output n) x → seen twin unheld nothing z (ports.Output n) ≡ x
   -- its control runs alike
@@ -151,7 +152,7 @@ module _ {part : PlainComponent} {c : ℕ} where
   like_twin (twin_parts k child twin kind beside) = like_child child twin (λ p. sym (ap (λ x. part_port x p) beside.part))
 
 -- a component's cell is no candidate, nor is one that holds something; a candidate holds nothing
-combines_false : (part : PlainComponent) (c : ℕ) → is_combinational (kind_in part.cells c) ≡ false → is_candidate part c ≡ false
+pub combines_false : (part : PlainComponent) (c : ℕ) → is_combinational (kind_in part.cells c) ≡ false → is_candidate part c ≡ false
 combines_false part c off = ap (λ a. a && list_any (λ (g : PlainGroup). assigns_drive g.assigns c) part.groups && not (assigns_use part.always c)) off
 
 pub part_other : (part : PlainComponent) (c k : ℕ) → kind_in part.cells c ≡ OfComponent k → is_candidate part c ≡ false

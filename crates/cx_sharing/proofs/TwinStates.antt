@@ -1,22 +1,21 @@
 -- States of an instance and of the shared one: at a cell that holds something, at a child, and by idle turns.
-use Rattle.std.proofs.Common.{◌≡◌, ℕ, zero, suc, ◌+◌, Bool, true, false, [], ◌∷◌, refl, sym, ap, ◌∙◌, subst, arith}
-use Rattle.std.specs.Prelude.{not}
+use Rattle.std.proofs.Common.{◌≡◌, ℕ, zero, suc, ◌+◌, true, false, [], ◌∷◌, refl, sym, ap, ◌∙◌, subst, arith}
+use Rattle.std.proofs.lemmas.Bool.{both_ways}
 use Rattle.cx_text.proofs.BoolLaws.{from_not}
 use Rattle.cx_prim.specs.Rows.{Row}
-use Rattle.cx_meaning.specs.declared.ports.PortRef.TheVariants as ports
 use Rattle.cx_meaning.specs.Designs.{PlainComponent}
-use Rattle.cx_meaning.specs.Instances.{Instance, Node, Cells, no_cells, a_primitive, an_instance, At, OfRow, OfInstance, cell_at, cells_of, part_of, instance_at, child_at, Path, State, Set, under, merge, just, put, idle}
+use Rattle.cx_meaning.specs.Instances.{Instance, Node, Cells, no_cells, a_primitive, an_instance, OfRow, OfInstance, cell_at, cells_of, part_of, instance_at, child_at, Path, State, Set, start_at, start_below, under, merge, put, idle}
 use Rattle.cx_meaning.specs.Cycles.{Fault, fault_at}
 use Rattle.cx_meaning.specs.Calls.{fault_below}
 use Rattle.cx_meaning.specs.declared.sights.FaultKind.{FaultKind}
 use Rattle.cx_meaning.specs.declared.ports.PortRef.{PortRef}
 use Rattle.cx_rewrites.specs.Renaming.{renamed}
-use Rattle.cx_rewrites.specs.Standing.{Stands, holds, holds_below, renumbered, renumbered_below, IsRenumbered, AreRenumbered}
+use Rattle.cx_rewrites.specs.Standing.{holds, holds_below, renumbered, renumbered_below, IsRenumbered, AreRenumbered}
 use Rattle.cx_rewrites.proofs.StandingLemmas.{under_stands, put_stands, merge_stands, idle_stands}
 use Rattle.cx_sharing.specs.Uses.{is_stateless, is_candidate}
 use Rattle.cx_sharing.specs.Giving.{new_cell}
 use Rattle.cx_sharing.specs.Following.{has_state, SharedStands, shared_fault}
-use Rattle.cx_sharing.proofs.TwinLemmas.{IsBeside, AtTwin, IsTwin, row_twin, child_twin, part_other, state_other, own_equal}
+use Rattle.cx_sharing.proofs.TwinLemmas.{AtTwin, IsTwin, row_twin, child_twin, part_other, state_other, own_equal}
 
 -- paths by what stands at their first cell
 row_holds : (cells : Cells) (c : ℕ) (row : Row) → cell_at cells c ≡ OfRow row → holds_below has_state cells c [] ≡ has_state row
@@ -116,14 +115,16 @@ held_other i j twin e path (in_child child at has) = let r = child_twin child (t
 renumbered_cells : (part : PlainComponent) (cells : Cells) (c : ℕ) (j : Instance) → ((e : ℕ) → AtTwin part (c + e) (cell_at cells e) (cell_at (cells_of j) (new_cell part (c + e)))) → AreRenumbered new_cell has_state part cells c j
 renumbered_cells part no_cells c j each = tt
 renumbered_cells part (a_primitive row rest) c j each =
-    let here : c + 0 ≡ c = omega arith in
-    ((λ has. ap (λ n. cell_at (cells_of j) (new_cell part n)) (sym here) ∙ (row_twin row (each 0) refl).3),
-    renumbered_cells part rest (suc c) j (λ e. let next : c + suc e ≡ suc c + e = omega arith in subst (λ n. AtTwin part n (cell_at rest e) (cell_at (cells_of j) (new_cell part n))) next (each (suc e))))
+    let here : c + 0 ≡ c = omega arith in (
+      (λ has. ap (λ n. cell_at (cells_of j) (new_cell part n)) (sym here) ∙ (row_twin row (each 0) refl).3),
+      renumbered_cells part rest (suc c) j (λ e. let next : c + suc e ≡ suc c + e = omega arith in subst (λ n. AtTwin part n (cell_at rest e) (cell_at (cells_of j) (new_cell part n))) next (each (suc e))),
+    )
 renumbered_cells part (an_instance child rest) c j each =
     let here : c + 0 ≡ c = omega arith in
-    let r = child_twin child (each 0) refl in
-    ((r.1, ap (λ n. cell_at (cells_of j) (new_cell part n)) (sym here) ∙ r.3, r.4.tree),
-    renumbered_cells part rest (suc c) j (λ e. let next : c + suc e ≡ suc c + e = omega arith in subst (λ n. AtTwin part n (cell_at rest e) (cell_at (cells_of j) (new_cell part n))) next (each (suc e))))
+    let r = child_twin child (each 0) refl in (
+      (r.1, ap (λ n. cell_at (cells_of j) (new_cell part n)) (sym here) ∙ r.3, r.4.tree),
+      renumbered_cells part rest (suc c) j (λ e. let next : c + suc e ≡ suc c + e = omega arith in subst (λ n. AtTwin part n (cell_at rest e) (cell_at (cells_of j) (new_cell part n))) next (each (suc e))),
+    )
 
 pub twin_renumbered : (i j : Instance) → IsTwin i j → IsRenumbered new_cell has_state i j
 twin_renumbered (Node part cells) j twin =
@@ -140,3 +141,41 @@ pub told_below : (i : Instance) (c : ℕ) (child : Instance) (f : Fault) → cel
 told_below (Node part cells) c child f at =
     ap (λ path. record { kind = f.kind; path = new_cell part c ∷ path; port = renamed (new_cell (part_of (child_at cells c f.path))) f.port }) (child_renumbered cells c child f.path at)
     ∙ ap (λ x. record { kind = f.kind; path = new_cell part c ∷ renumbered new_cell child f.path; port = renamed (new_cell (part_of x)) f.port }) (child_is cells c child f.path at)
+
+-- THE START of a cell that holds something
+row_start : (cells : Cells) (c : ℕ) (row : Row) (path : Path) → cell_at cells c ≡ OfRow row → start_below cells c path ≡ row.start
+row_start no_cells c row path e = absurd (cc)
+row_start (a_primitive own rest) zero row path e = let same : own ≡ row = cc in ap (λ (x : Row). x.start) same
+row_start (a_primitive own rest) (suc c) row path e = row_start rest c row path e
+row_start (an_instance child rest) zero row path e = absurd (cc)
+row_start (an_instance child rest) (suc c) row path e = row_start rest c row path e
+
+child_start : (cells : Cells) (c : ℕ) (child : Instance) (path : Path) → cell_at cells c ≡ OfInstance child → start_below cells c path ≡ start_at child path
+child_start no_cells c child path e = absurd (cc)
+child_start (a_primitive row rest) zero child path e = absurd (cc)
+child_start (a_primitive row rest) (suc c) child path e = child_start rest c child path e
+child_start (an_instance own rest) zero child path e = let same : own ≡ child = cc in ap (λ x. start_at x path) same
+child_start (an_instance own rest) (suc c) child path e = child_start rest c child path e
+
+start_of : (i : Instance) (c : ℕ) (path : Path) → start_at i (c ∷ path) ≡ start_below (cells_of i) c path
+start_of (Node part cells) c path = refl
+
+pub start_state : (i j : Instance) → IsTwin i j → (path : Path) → holds has_state i path ≡ true → start_at j (renumbered new_cell i path) ≡ start_at i path
+start_state i j twin [] on = absurd (both_ways (holds has_state i []) (root_of i) on)
+start_state i j twin (c ∷ path) on = by (holds_at (cells_of i) c path (sym (of_path i c path) ∙ on))
+  where
+    by : HoldsAt (cells_of i) c path → start_at j (renumbered new_cell i (c ∷ path)) ≡ start_at i (c ∷ path)
+    by (itself row at root has) =
+        ap (start_at j) (path_of i c path)
+        ∙ start_of j (new_cell (part_of i) c) (renumbered_below new_cell (cells_of i) c path)
+        ∙ row_start (cells_of j) (new_cell (part_of i) c) row (renumbered_below new_cell (cells_of i) c path) (row_twin row (twin.cells c) at).3
+        ∙ sym (row_start (cells_of i) c row path at)
+        ∙ sym (start_of i c path)
+    by (in_child child at has) =
+        let r = child_twin child (twin.cells c) at in
+        ap (start_at j) (path_of i c path ∙ ap (λ rest. new_cell (part_of i) c ∷ rest) (child_renumbered (cells_of i) c child path at))
+        ∙ start_of j (new_cell (part_of i) c) (renumbered new_cell child path)
+        ∙ child_start (cells_of j) (new_cell (part_of i) c) r.1 (renumbered new_cell child path) r.3
+        ∙ r.4.starts path has
+        ∙ sym (child_start (cells_of i) c child path at)
+        ∙ sym (start_of i c path)

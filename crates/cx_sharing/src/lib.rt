@@ -1,6 +1,8 @@
 //! Sharing: which combinational cells are never used together, and the design and the tree in which they are one.
 #![tactic(auto)]
 
+pub mod accepted_laws;
 mod rows;
+pub mod run_laws;
 
 pub use rows::SharedRow;
