@@ -14,3 +14,4 @@ pub mod WovenLemmas
 pub mod OrderLemmas
 pub mod TrialDepth
 pub mod FilePromise
+pub mod AlikeLemmas

@@ -1,5 +1,5 @@
 -- What `share` does with a text is to write a text, or to tell a rule, and not both.
-use Rattle.std.proofs.Common.{◌≡◌, ◌⊎◌, inl, inr, ℕ, List, Result, Ok, Err, IfOk, IfErr, MatchResult, refl, sym, ap}
+use Rattle.std.proofs.Common.{◌≡◌, ◌⊎◌, inl, inr, ℕ, List, Result, Ok, Err, IfOk, IfErr, MatchResult, refl, sym, ap, subst}
 use Rattle.cx_text.specs.declared.diagnostics.Diagnostic.{Diagnostic}
 use Rattle.cx_text.specs.declared.limits.TheConstants.{DESIGN_BYTES}
 use Rattle.cx_ast.specs.PlainTree.{PlainTree}
@@ -10,7 +10,7 @@ use Rattle.cx_commands.specs.Unread.{HasTree}
 use Rattle.cx_commands.specs.declared.stops.Stop.{Stop}
 use Rattle.cx_commands.specs.declared.stops.Stop.TheVariants as stops
 use Rattle.cx_compiler.specs.Texts.{IsAcceptedText, IsTextRefusal, TextBreak}
-use Rattle.cx_compiler.proofs.Once.{not_both, same_stop}
+use Rattle.cx_compiler.proofs.Once.{not_both, same_answer, same_stop}
 use Rattle.cx_compiler.proofs.TextLemmas.{accepted_once, accepted_stop, text_stop}
 use Rattle.cx_driver.specs.Outcomes.{StopsCommand}
 use Rattle.cx_driver.specs.Sharing.{IsShared, IsSharedTree, Shares}
@@ -31,6 +31,11 @@ accepted_shares text stop is h = let told = shares_told text stop h in accepted_
 pub shares_once : (text answer : List ℕ) (stop : Stop) → Shares text (Ok answer) → Shares text (Err stop) → ⊥
 shares_once text answer stop (inl h) k = accepted_shares text stop (shared_accepted text h.0 h.1) k
 shares_once text answer stop (inr h) k = not_both answer (stops.Rule h.0) h.2
+
+-- what it answers is written of the text
+pub answer_shared : (text answer : List ℕ) → Shares text (Ok answer) → IsShared text answer
+answer_shared text answer (inl h) = subst (IsShared text) (sym (same_answer answer h.0 h.2)) h.1
+answer_shared text answer (inr h) = absurd (not_both answer (stops.Rule h.0) h.2)
 
 -- what is written of a text's tree is written of the text
 pub tree_shared : {X : Type 0} (bytes : X → List ℕ) (text : List ℕ) (tree : PlainTree) (r : Result X Stop) → HasTree text tree → IfOk r (λ _. IsAcceptedTree tree) → IfOk r (λ x. IsSharedTree tree (bytes x)) → IfOk r (λ x. IsShared text (bytes x))

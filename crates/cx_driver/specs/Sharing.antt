@@ -7,15 +7,14 @@ use Rattle.cx_commands.specs.Unread.{HasTree}
 use Rattle.cx_commands.specs.declared.stops.Stop.{Stop}
 use Rattle.cx_commands.specs.declared.stops.Stop.TheVariants as stops
 use Rattle.cx_compiler.specs.Texts.{TextBreak}
-use Rattle.cx_sharing.specs.SharedTree.{shared_tree}
-use Rattle.cx_written.specs.Written.{IsReadAs}
+use Rattle.cx_rewritten.specs.Alike.{RunsAs}
 use Rattle.cx_rewritten.specs.SharedTexts.{IsSharedText}
 
--- what it writes of a tree: the lines of what is shared, and a text that is read as the shared tree apart from places; it is accepted where
--- that is, and its design has the run of that tree's design
+-- what it writes of a tree: the lines of what is shared, and a text that is read as the shared tree apart from places; it is accepted, and
+-- its design runs as that of the tree
 pub record IsSharedTree (tree : PlainTree) (answer : List ℕ) : Type 0 where
   pub written : IsSharedText tree answer
-  pub read : IsReadAs (shared_tree tree) answer
+  pub runs : RunsAs tree answer
 
 -- WHAT IT WRITES OF A TEXT: the text is accepted, and this is written of its tree
 pub record IsShared (text answer : List ℕ) : Type 0 where

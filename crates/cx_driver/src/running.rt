@@ -9,6 +9,7 @@ ghost use Rattle.cx_commands.specs.Commands as asked;
 ghost use Rattle.cx_commands.specs.Lists.{IsList};
 ghost use Rattle.cx_commands.specs.Messages.{line_of};
 ghost use Rattle.cx_compiler.specs.Promise.{KeepsOfFile};
+ghost use Rattle.cx_driver.specs.Alike.{AlikeOfFile};
 ghost use Rattle.cx_driver.specs.Outcomes.{CanAnswer, IsAnswer, IsAnswerTo, IsStopped, OfTold};
 ghost use Rattle.cx_commands.specs.Reads.{HoldsWithin, IsReadFault};
 ghost use Rattle.cx_commands.specs.declared.refusals.Refusal.{Refusal as RefusalValue};
@@ -44,6 +45,10 @@ pub fn run<F: Files, O: Sink, E: Sink>(
     // THE PROMISE: what `compile` wrote of a file keeps it.
     ensures promise { result ≡ statuses.Done → (file : List ℕ) → Asks words.now (asked.compile file)
         → (verilog : List ℕ) × KeepsOfFile (F.held files.old) file verilog × (O.written out.new ≡ grown (O.written out.old) verilog) }
+
+    // What `share` wrote of a file is accepted, and interpreted as the file is.
+    ensures shared { result ≡ statuses.Done → (file : List ℕ) → Asks words.now (asked.share file)
+        → (answer : List ℕ) × AlikeOfFile (F.held files.old) file answer × (O.written out.new ≡ grown (O.written out.old) answer) }
 
     ensures words { (result ≡ statuses.Words) ↔ AsksNothing words.now }
     ensures read_fault { result ≡ statuses.ReadFault → (file : List ℕ) × IsFileOf words.now file

@@ -1,3 +1,4 @@
 mod NamedOrder
 mod NamedPrintable
 pub mod SharedLemmas
+pub mod AlikeLemmas

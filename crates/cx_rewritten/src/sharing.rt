@@ -4,9 +4,9 @@ ghost use Rattle.std.specs.Prelude.{◌≡◌, ◌++◌, IfOk};
 ghost use Rattle.cx_ast.specs.PlainTree.{plain_tree};
 ghost use Rattle.cx_design.specs.PlainDesigns.{plain_design};
 ghost use Rattle.cx_numbering.specs.DesignOf.{design_of};
+ghost use Rattle.cx_check.specs.Acceptance.{IsAcceptedTree};
 ghost use Rattle.cx_print.specs.Printable.{IsPrintable};
-ghost use Rattle.cx_sharing.specs.SharedTree.{shared_tree};
-ghost use Rattle.cx_written.specs.Written.{IsReadAs};
+ghost use Rattle.cx_rewritten.specs.Alike.{RunsAs};
 ghost use Rattle.cx_rewritten.specs.Sources.{IsTreeOfText};
 ghost use Rattle.cx_rewritten.specs.SharedTexts as texts;
 ghost use Rattle.cx_rewritten.specs.SharedTexts.{IsSharedText, row_line};
@@ -20,13 +20,14 @@ use cx_text::Memory;
 use std::alloc::Global;
 
 /// Writes the tree in which one cell stands for those that are never used together, behind a line for each cell that is gone. The tree
-/// is that of some text, and the design is its design.
+/// is that of some text and accepted, and the design is its design.
 pub fn share_text(alloc: Global, tree: &Tree, design: &Checked) -> Result<Vec<u8>, Memory>
     requires design { plain_design design.now ≡ design_of (plain_tree tree.now) }
     requires source { IsTreeOfText (plain_tree tree.now) }
+    requires accepted { IsAcceptedTree (plain_tree tree.now) }
     ensures written { IfOk result (λ text. IsSharedText (plain_tree tree.now) text.items) }
-    // What is written is read as the shared tree, at other places, and its design runs as that of the shared tree.
-    ensures read { IfOk result (λ text. IsReadAs (shared_tree (plain_tree tree.now)) text.items) }
+    // What is written is accepted, and its design runs as the design of the tree.
+    ensures runs { IfOk result (λ text. RunsAs (plain_tree tree.now) text.items) }
 {
     let text = written(alloc, tree, design)?;
     Ok(text)

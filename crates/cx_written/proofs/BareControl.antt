@@ -1,18 +1,17 @@
 -- CONTROL, CELLS AND COMPONENTS of the design of a tree without places.
-use Rattle.std.proofs.Common.{◌≡◌, ℕ, suc, ◌+◌, Bool, true, false, List, [], ◌∷◌, ◌++◌, Option, Some, None, codes, map, option_map, length, refl, sym, ap, ◌∙◌}
+use Rattle.std.proofs.Common.{◌≡◌, ℕ, ◌+◌, Bool, true, false, List, [], ◌∷◌, ◌++◌, Option, Some, None, map, option_map, length, refl, sym, ap, ◌∙◌}
 use Rattle.std.proofs.lemmas.List.{map-append}
 use Rattle.cx_text.proofs.ListLaws.{length-map}
 use Rattle.cx_text.specs.declared.places.Place.{Place}
 use Rattle.cx_text.specs.Places.{start}
-use Rattle.cx_ast.specs.declared.operands.OperandItem.{OperandItem}
 use Rattle.cx_ast.specs.PlainTree as ast
 use Rattle.cx_ast.specs.PlainStatements as statements
-use Rattle.cx_print.specs.Places.{bare_operand, bare_bind, bare_form, bare_else, bare_block, bare_statements, bare_port, bare_cell, bare_assign, bare_group, bare_component, without_places}
+use Rattle.cx_print.specs.Places.{bare_form, bare_else, bare_block, bare_statements, bare_port, bare_cell, bare_group, bare_component, without_places}
 use Rattle.cx_meaning.specs.Designs.{PlainKind, OfComponent, PlainCell, PlainForm, PlainStatement, Placed, PlainStatements, no_statements, a_statement, PlainGroup, PlainComponent}
 use Rattle.cx_meaning.specs.Designs as plain
-use Rattle.cx_numbering.specs.Names.{signature_ports, groups_in, always_in, group_names, component_names, CellOf, Neither, APrimitive, AComponent, cell_of}
-use Rattle.cx_numbering.specs.DesignOf.{number_or_0, Invoke, placed_of, assign_of, group_of, invokes_in, invokes_else, invokes_of, invokes_all, group_number, comb_number, seq_form, of_block, form_of, else_of, block_of, parts_of, all_of, invoke_groups, control_invokes, control_of, kind_or, plain_cell_of, decl_of, component_of}
-use Rattle.cx_rewrites.specs.Places.{unplaced_port, unplaced_assign, unplaced_group, unplaced_cell, unplaced_form, unplaced, unplaced_statements}
+use Rattle.cx_numbering.specs.Names.{signature_ports, groups_in, always_in, group_names, CellOf, Neither, APrimitive, AComponent, cell_of}
+use Rattle.cx_numbering.specs.DesignOf.{number_or_0, assign_of, group_of, invokes_in, invokes_else, invokes_of, invokes_all, group_number, comb_number, of_block, form_of, else_of, block_of, parts_of, all_of, invoke_groups, control_invokes, control_of, kind_or, plain_cell_of, decl_of, component_of}
+use Rattle.cx_rewrites.specs.Places.{unplaced_assign, unplaced_group, unplaced_cell, unplaced_form, unplaced, unplaced_statements}
 use Rattle.cx_written.proofs.BareNames.{both_ways, signature_ports-bare, component_names-bare, groups_in-bare, always_in-bare, group_names-bare, bare_of, cell_of-bare}
 use Rattle.cx_written.proofs.BareParts.{bare_invoke, placed_of-bare, assigns-bare, group_of-bare, invoke_groups-bare}
 
@@ -131,7 +130,7 @@ module _ (tree : ast.PlainTree) (part : ast.PlainComponent) where
   plain_cell_of-bare : (cell : ast.PlainCell) → unplaced_cell (plain_cell_of tree part cell) ≡ plain_cell_of (without_places tree) (bare_component part) (bare_cell cell)
   plain_cell_of-bare cell =
       let kind : kind_or tree part (cell_of tree cell) ≡ kind_or (without_places tree) (bare_component part) (cell_of (without_places tree) (bare_cell cell)) =
-          kind_or-bare (cell_of tree cell) ∙ ap (kind_or (without_places tree) (bare_component part)) (sym (cell_of-bare tree cell)) in
+      kind_or-bare (cell_of tree cell) ∙ ap (kind_or (without_places tree) (bare_component part)) (sym (cell_of-bare tree cell)) in
       cc kind
 
   decls-bare : (list : List ast.PlainPort) → map (decl_of tree part) (signature_ports list) ≡ map (decl_of (without_places tree) (bare_component part)) (signature_ports (map bare_port list))

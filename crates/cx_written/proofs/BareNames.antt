@@ -1,10 +1,10 @@
 -- NAMES of a tree and of its parts hang on no place.
-use Rattle.std.proofs.Common.{◌≡◌, ℕ, suc, Bool, true, false, List, [], ◌∷◌, ◌++◌, Option, Some, None, codes, map, flat_map, option_map, length, refl, sym, ap, ◌∙◌, if◌then◌else◌}
+use Rattle.std.proofs.Common.{◌≡◌, ℕ, Bool, true, false, List, [], ◌∷◌, ◌++◌, Option, Some, None, codes, map, flat_map, option_map, refl, ap, ◌∙◌, if◌then◌else◌}
 use Rattle.std.proofs.lemmas.List.{map-append}
 use Rattle.cx_prim.specs.declared.names.PrimitiveName.{PrimitiveName}
 use Rattle.cx_ast.specs.PlainTree as ast
 use Rattle.cx_print.specs.Places.{bare_port, bare_cell, bare_assign, bare_group, bare_wire, bare_component, without_places}
-use Rattle.cx_numbering.specs.Names.{same_name, primitive_of, is_own_name, if_not_own, signature_ports, port_names, component_names, cell_names, groups_in, always_in, group_names, component_among, cell_among, group_among, CellOf, Neither, APrimitive, AComponent, or_component, primitive_or, cell_of, cell_port_names, found_cell_ports, cell_go}
+use Rattle.cx_numbering.specs.Names.{same_name, primitive_of, is_own_name, if_not_own, signature_ports, port_names, component_names, cell_names, groups_in, always_in, group_names, component_among, cell_among, group_among, CellOf, Neither, APrimitive, AComponent, primitive_or, cell_of, cell_port_names, found_cell_ports, cell_go}
 
 -- LISTS: two ways round a square
 pub both_ways : {A B C D : Type 0} (f : A → B) (k : B → D) (h : A → C) (g : C → D) → ((x : A) → k (f x) ≡ g (h x)) → (xs : List A) → map k (map f xs) ≡ map g (map h xs)

@@ -1,5 +1,5 @@
 -- PORTS, GUARDS, ASSIGNMENTS AND GROUPS of the design of a tree without places: those of the tree's design, all at one place.
-use Rattle.std.proofs.Common.{◌≡◌, ℕ, suc, Bool, true, false, List, [], ◌∷◌, ◌++◌, Option, Some, None, codes, map, flat_map, option_map, length, refl, sym, ap, ◌∙◌}
+use Rattle.std.proofs.Common.{◌≡◌, ℕ, suc, List, [], ◌∷◌, ◌++◌, Option, Some, None, codes, map, flat_map, option_map, refl, sym, ap, ◌∙◌}
 use Rattle.std.proofs.lemmas.List.{map-append}
 use Rattle.cx_text.specs.declared.places.Place.{Place}
 use Rattle.cx_text.specs.Places.{start}
@@ -16,9 +16,8 @@ use Rattle.cx_ast.specs.PlainGuards as guards
 use Rattle.cx_print.specs.Places.{bare_operand, bare_bind, bare_guard, bare_guards, bare_cell, bare_assign, bare_group, bare_component, without_places}
 use Rattle.cx_meaning.specs.declared.ports.PortRef.{PortRef}
 use Rattle.cx_meaning.specs.declared.ports.PortRef.TheVariants as ports
-use Rattle.cx_meaning.specs.declared.ports.PlacedPort.{PlacedPort}
-use Rattle.cx_meaning.specs.Designs.{PlainGuard, Always, Atom, Negation, All, Any, Compared, Within, PlainGuards, no_guards, a_guard, guards_of, PlainAssign, PlainGroup}
-use Rattle.cx_numbering.specs.Names.{number_of, port_names, cell_names, group_names, cell_among, cell_of, found_cell_ports, cell_go}
+use Rattle.cx_meaning.specs.Designs.{PlainGuard, Atom, Negation, All, Any, a_guard, guards_of}
+use Rattle.cx_numbering.specs.Names.{number_of, port_names, cell_names, cell_among, cell_of, found_cell_ports, cell_go}
 use Rattle.cx_numbering.specs.DesignOf.{number_or_0, Invoke, own_port, cell_port, port_of, placed_of, comparison_of, guard_of, guards_in, guard_or_always, assign_of, kind_of, group_of, go_port, found_go, at, input_assign, go_guard, go_assign, register_of, capture_assigns, register_done, done_assign, invoke_group, invoke_groups}
 use Rattle.cx_rewrites.specs.Places.{unplaced_port, unplaced_guard, unplaced_guards, unplaced_assign, unplaced_group}
 use Rattle.cx_written.proofs.BareNames.{both_ways, each_way, port_names-bare, cell_names-bare, cell_among-bare, group_names-bare, found_cell_ports-bare, cell_of-bare, cell_go-bare}
@@ -116,8 +115,8 @@ module _ (tree : ast.PlainTree) (part : ast.PlainComponent) where
   go_assign-bare : (k : Invoke) → unplaced_assign (go_assign tree part k) ≡ go_assign (without_places tree) (bare_component part) (bare_invoke k)
   go_assign-bare k =
       let target : go_port (without_places tree) (bare_component part) (found_go (without_places tree) (bare_component part) (cell_among k.cell (map bare_cell part.cells))) k.cell
-              ≡ go_port tree part (found_go tree part (cell_among k.cell part.cells)) k.cell =
-          ap (λ go. go_port (without_places tree) (bare_component part) go k.cell) (found_go-bare k.cell) ∙ go_port-bare (found_go tree part (cell_among k.cell part.cells)) k.cell in
+      ≡ go_port tree part (found_go tree part (cell_among k.cell part.cells)) k.cell =
+      ap (λ go. go_port (without_places tree) (bare_component part) go k.cell) (found_go-bare k.cell) ∙ go_port-bare (found_go tree part (cell_among k.cell part.cells)) k.cell in
       cc (target, go_guard-bare k k.outputs)
 
   register_of-bare : (b : BindItem) → register_of (without_places tree) (bare_component part) (bare_bind b) ≡ register_of tree part b
@@ -161,13 +160,13 @@ module _ (tree : ast.PlainTree) (part : ast.PlainComponent) where
       let first = both_ways (input_assign tree part k) unplaced_assign bare_bind (input_assign (without_places tree) (bare_component part) (bare_invoke k)) (input_assign-bare k) k.inputs in
       let captures = each_way (capture_assigns tree part k) unplaced_assign bare_bind (capture_assigns (without_places tree) (bare_component part) (bare_invoke k)) (capture_assigns-bare k) k.outputs in
       let last : map unplaced_assign (flat_map (capture_assigns tree part k) k.outputs ++ (done_assign tree part k g k.outputs ∷ []))
-              ≡ flat_map (capture_assigns (without_places tree) (bare_component part) (bare_invoke k)) (map bare_bind k.outputs)
-              ++ (done_assign (without_places tree) (bare_component part) (bare_invoke k) g (map bare_bind k.outputs) ∷ []) =
-          map-append unplaced_assign (flat_map (capture_assigns tree part k) k.outputs) (done_assign tree part k g k.outputs ∷ [])
-          ∙ cc (captures, done_assign-bare k g k.outputs) in
+      ≡ flat_map (capture_assigns (without_places tree) (bare_component part) (bare_invoke k)) (map bare_bind k.outputs)
+      ++ (done_assign (without_places tree) (bare_component part) (bare_invoke k) g (map bare_bind k.outputs) ∷ []) =
+      map-append unplaced_assign (flat_map (capture_assigns tree part k) k.outputs) (done_assign tree part k g k.outputs ∷ [])
+      ∙ cc (captures, done_assign-bare k g k.outputs) in
       let all : map unplaced_assign (invoke_group tree part g k).assigns ≡ (invoke_group (without_places tree) (bare_component part) g (bare_invoke k)).assigns =
-          map-append unplaced_assign (map (input_assign tree part k) k.inputs) (go_assign tree part k ∷ (flat_map (capture_assigns tree part k) k.outputs ++ (done_assign tree part k g k.outputs ∷ [])))
-          ∙ cc (first, go_assign-bare k, last) in
+      map-append unplaced_assign (map (input_assign tree part k) k.inputs) (go_assign tree part k ∷ (flat_map (capture_assigns tree part k) k.outputs ++ (done_assign tree part k g k.outputs ∷ [])))
+      ∙ cc (first, go_assign-bare k, last) in
       cc all
 
   pub invoke_groups-bare : (n : ℕ) (ks : List Invoke) → map unplaced_group (invoke_groups tree part n ks) ≡ invoke_groups (without_places tree) (bare_component part) n (map bare_invoke ks)

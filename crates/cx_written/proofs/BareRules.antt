@@ -108,11 +108,11 @@ module _ (tree : ast.PlainTree) (part : ast.PlainComponent) where
   assign_breaks-bare x =
       let form = x.assign.target.form in
       let no_target : is_left_out tree part form || is_wrong_target tree part x.group form || is_bare_done tree part x.assign
-              ≡ is_left_out (without_places tree) (bare_component part) form || is_wrong_target (without_places tree) (bare_component part) x.group form || is_bare_done (without_places tree) (bare_component part) (bare_assign x.assign) =
-          cc (is_left_out-bare form, is_wrong_target-bare x.group form, is_bare_done-bare x.assign) in
+      ≡ is_left_out (without_places tree) (bare_component part) form || is_wrong_target (without_places tree) (bare_component part) x.group form || is_bare_done (without_places tree) (bare_component part) (bare_assign x.assign) =
+      cc (is_left_out-bare form, is_wrong_target-bare x.group form, is_bare_done-bare x.assign) in
       let ops : map bare_break (flat_map (source_breaks tree part) (guard_operands x.assign.guard)) ≡ flat_map (source_breaks (without_places tree) (bare_component part)) (guard_operands (option_map bare_guard x.assign.guard)) =
-          each_way (source_breaks tree part) bare_break bare_operand (source_breaks (without_places tree) (bare_component part)) source_breaks-bare (guard_operands x.assign.guard)
-          ∙ ap (flat_map (source_breaks (without_places tree) (bare_component part))) (guard_operands-bare x.assign.guard) in
+      each_way (source_breaks tree part) bare_break bare_operand (source_breaks (without_places tree) (bare_component part)) source_breaks-bare (guard_operands x.assign.guard)
+      ∙ ap (flat_map (source_breaks (without_places tree) (bare_component part))) (guard_operands-bare x.assign.guard) in
       let wrong : List Diagnostic = tell_if (is_left_out tree part form || is_wrong_target tree part x.group form || is_bare_done tree part x.assign) LeftOut x.assign.target.place (path_of form) in
       let first : List Diagnostic = unknown tree part x.assign.target in
       let source : List Diagnostic = source_breaks tree part x.assign.source in
@@ -188,8 +188,8 @@ module _ (tree : ast.PlainTree) (part : ast.PlainComponent) where
   input_breaks-bare : (cell : List ℕ) (x : CellOf) (b : BindItem) → map bare_break (input_breaks tree part cell x b) ≡ input_breaks (without_places tree) (bare_component part) cell (bare_of x) (bare_bind b)
   input_breaks-bare cell x b =
       let no_input : is_among b.name (output_names tree part x) || is_go_name tree part (cell_go x) b.name || is_clock tree part cell b.name
-              ≡ is_among b.name (output_names (without_places tree) (bare_component part) (bare_of x)) || is_go_name (without_places tree) (bare_component part) (cell_go (bare_of x)) b.name || is_clock (without_places tree) (bare_component part) cell b.name =
-          cc (output_names-bare x, is_go_name-bare (cell_go x) b.name, cell_go-bare x, is_clock-bare cell b.name) in
+      ≡ is_among b.name (output_names (without_places tree) (bare_component part) (bare_of x)) || is_go_name (without_places tree) (bare_component part) (cell_go (bare_of x)) b.name || is_clock (without_places tree) (bare_component part) cell b.name =
+      cc (output_names-bare x, is_go_name-bare (cell_go x) b.name, cell_go-bare x, is_clock-bare cell b.name) in
       let wrong : List Diagnostic = tell_if (is_among b.name (output_names tree part x) || is_go_name tree part (cell_go x) b.name || is_clock tree part cell b.name) LeftOut b.place b.name in
       let missing : List Diagnostic = tell_if (not (is_among b.name (cell_ports tree part cell) || is_clock tree part cell b.name)) UnknownName b.place b.name in
       joined (missing ++ wrong) (source_breaks tree part b.value) _ _

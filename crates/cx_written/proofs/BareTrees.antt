@@ -74,9 +74,9 @@ module _ (tree : ast.PlainTree) where
   component_duplicates-bare : (part : ast.PlainComponent) → map bare_break (component_duplicates part) ≡ component_duplicates (bare_component part)
   component_duplicates-bare part =
       let ports : map bare_break (duplicates [] (map (λ p. named p.name p.place) (part.inputs ++ part.outputs))) ≡ duplicates [] (map (λ p. named p.name p.place) (map bare_port part.inputs ++ map bare_port part.outputs)) =
-          repeats bare_port (λ p. named p.name p.place) (λ p. refl) (part.inputs ++ part.outputs) ∙ ap (λ ps. duplicates [] (map (λ p. named p.name p.place) ps)) (map-append bare_port part.inputs part.outputs) in
+      repeats bare_port (λ p. named p.name p.place) (λ p. refl) (part.inputs ++ part.outputs) ∙ ap (λ ps. duplicates [] (map (λ p. named p.name p.place) ps)) (map-append bare_port part.inputs part.outputs) in
       let groups : map bare_break (duplicates [] (map (λ g. named g.name g.place) (groups_in part.wires))) ≡ duplicates [] (map (λ g. named g.name g.place) (groups_in (map bare_wire part.wires))) =
-          repeats bare_group (λ g. named g.name g.place) (λ g. refl) (groups_in part.wires) ∙ ap (λ gs. duplicates [] (map (λ g. named g.name g.place) gs)) (sym (groups_in-bare part.wires)) in
+      repeats bare_group (λ g. named g.name g.place) (λ g. refl) (groups_in part.wires) ∙ ap (λ gs. duplicates [] (map (λ g. named g.name g.place) gs)) (sym (groups_in-bare part.wires)) in
       let cells : map bare_break (duplicates [] (map (λ c. named c.name c.place) part.cells)) ≡ duplicates [] (map (λ c. named c.name c.place) (map bare_cell part.cells)) = repeats bare_cell (λ c. named c.name c.place) (λ c. refl) part.cells in
       joined (duplicates [] (map (λ p. named p.name p.place) (part.inputs ++ part.outputs)) ++ duplicates [] (map (λ c. named c.name c.place) part.cells)) (duplicates [] (map (λ g. named g.name g.place) (groups_in part.wires))) _ _
       (joined (duplicates [] (map (λ p. named p.name p.place) (part.inputs ++ part.outputs))) (duplicates [] (map (λ c. named c.name c.place) part.cells)) _ _ ports cells) groups
@@ -86,28 +86,28 @@ module _ (tree : ast.PlainTree) where
       let one = told _ _ Duplicate part.place part.name refl in
       let two = joined (primitive_named part) (component_duplicates part) _ _ one (component_duplicates-bare part) in
       let inputs : map bare_break (flat_map (port_breaks tree part true) part.inputs) ≡ flat_map (port_breaks (without_places tree) (bare_component part) true) (map bare_port part.inputs) =
-          each_way (port_breaks tree part true) bare_break bare_port (port_breaks (without_places tree) (bare_component part) true) (port_breaks-bare tree part true) part.inputs in
+      each_way (port_breaks tree part true) bare_break bare_port (port_breaks (without_places tree) (bare_component part) true) (port_breaks-bare tree part true) part.inputs in
       let outputs : map bare_break (flat_map (port_breaks tree part false) part.outputs) ≡ flat_map (port_breaks (without_places tree) (bare_component part) false) (map bare_port part.outputs) =
-          each_way (port_breaks tree part false) bare_break bare_port (port_breaks (without_places tree) (bare_component part) false) (port_breaks-bare tree part false) part.outputs in
+      each_way (port_breaks tree part false) bare_break bare_port (port_breaks (without_places tree) (bare_component part) false) (port_breaks-bare tree part false) part.outputs in
       let cells : map bare_break (flat_map (cell_breaks tree part) part.cells) ≡ flat_map (cell_breaks (without_places tree) (bare_component part)) (map bare_cell part.cells) =
-          each_way (cell_breaks tree part) bare_break bare_cell (cell_breaks (without_places tree) (bare_component part)) (cell_breaks-bare part) part.cells in
+      each_way (cell_breaks tree part) bare_break bare_cell (cell_breaks (without_places tree) (bare_component part)) (cell_breaks-bare part) part.cells in
       let assigns : map bare_break (flat_map (assign_breaks tree part) (standing part)) ≡ flat_map (assign_breaks (without_places tree) (bare_component part)) (standing (bare_component part)) =
-          each_way (assign_breaks tree part) bare_break bare_standing (assign_breaks (without_places tree) (bare_component part)) (assign_breaks-bare tree part) (standing part)
-          ∙ ap (flat_map (assign_breaks (without_places tree) (bare_component part))) (standing-bare part) in
+      each_way (assign_breaks tree part) bare_break bare_standing (assign_breaks (without_places tree) (bare_component part)) (assign_breaks-bare tree part) (standing part)
+      ∙ ap (flat_map (assign_breaks (without_places tree) (bare_component part))) (standing-bare part) in
       let statements : map bare_break (flat_map (λ v. form_breaks tree part v.form v.place) (statements_in part)) ≡ flat_map (λ v. form_breaks (without_places tree) (bare_component part) v.form v.place) (statements_in (bare_component part)) =
-          each_way (λ v. form_breaks tree part v.form v.place) bare_break bare_visited (λ v. form_breaks (without_places tree) (bare_component part) v.form v.place) (λ v. form_breaks-bare tree part v.form v.place) (statements_in part)
-          ∙ ap (flat_map (λ v. form_breaks (without_places tree) (bare_component part) v.form v.place)) (statements_in-bare part) in
+      each_way (λ v. form_breaks tree part v.form v.place) bare_break bare_visited (λ v. form_breaks (without_places tree) (bare_component part) v.form v.place) (λ v. form_breaks-bare tree part v.form v.place) (statements_in part)
+      ∙ ap (flat_map (λ v. form_breaks (without_places tree) (bare_component part) v.form v.place)) (statements_in-bare part) in
       joined _ _ _ _ (joined _ _ _ _ (joined _ _ _ _ (joined _ _ _ _ (joined _ _ _ _ two inputs) outputs) cells) assigns) statements
 
   -- ALL BREAKS of a tree
   pub name_breaks-bare : map bare_break (name_breaks tree) ≡ name_breaks (without_places tree)
   name_breaks-bare =
       let first : map bare_break (main_breaks tree) ≡ main_breaks (without_places tree) =
-          told (not (is_among (codes "main") (component_names tree))) _ NoMain (record { line = 1; column = 1 }) [] (ap (λ names. not (is_among (codes "main") names)) (sym (component_names-bare tree))) in
+      told (not (is_among (codes "main") (component_names tree))) _ NoMain (record { line = 1; column = 1 }) [] (ap (λ names. not (is_among (codes "main") names)) (sym (component_names-bare tree))) in
       let imports : map bare_break (flat_map import_breaks tree.imports) ≡ flat_map import_breaks (map bare_import tree.imports) =
-          each_way import_breaks bare_break bare_import import_breaks (λ i. told _ _ LeftOut i.place i.path refl) tree.imports in
+      each_way import_breaks bare_break bare_import import_breaks (λ i. told _ _ LeftOut i.place i.path refl) tree.imports in
       let names : map bare_break (duplicates [] (map (λ part. named part.name part.place) tree.components)) ≡ duplicates [] (map (λ part. named part.name part.place) (map bare_component tree.components)) =
-          repeats bare_component (λ part. named part.name part.place) (λ part. refl) tree.components in
+      repeats bare_component (λ part. named part.name part.place) (λ part. refl) tree.components in
       let parts : map bare_break (flat_map (component_breaks tree) tree.components) ≡ flat_map (component_breaks (without_places tree)) (map bare_component tree.components) =
-          each_way (component_breaks tree) bare_break bare_component (component_breaks (without_places tree)) component_breaks-bare tree.components in
+      each_way (component_breaks tree) bare_break bare_component (component_breaks (without_places tree)) component_breaks-bare tree.components in
       joined _ _ _ _ (joined _ _ _ _ (joined _ _ _ _ first imports) names) parts

@@ -1,11 +1,11 @@
 -- TOKENS hang on no place, and lines of comments before a text are none.
-use Rattle.std.proofs.Common.{◌≡◌, ℕ, true, false, List, [], ◌∷◌, ◌++◌, refl, sym, ap, ◌∙◌, subst, append_assoc}
+use Rattle.std.proofs.Common.{◌≡◌, ℕ, List, [], ◌∷◌, ◌++◌, refl, sym, ap, subst, append_assoc}
 use Rattle.cx_text.specs.declared.places.Place.{Place}
 use Rattle.cx_text.specs.Places.{after_bytes}
 use Rattle.cx_text.proofs.PlaceLemmas.{after_bytes-append}
 use Rattle.cx_ast.specs.declared.tokens.Token.{Token}
 use Rattle.cx_ast.specs.PlainTokens.{kinds_of}
-use Rattle.cx_lex.specs.Lex.{IsGap, blank, line_comment, HasTokens, ended, gap, token}
+use Rattle.cx_lex.specs.Lex.{blank, line_comment, HasTokens, ended, gap, token}
 use Rattle.cx_written.specs.Comments.{AreComments, no_line, a_line}
 
 -- the tokens of the text where its first byte has another place
@@ -29,5 +29,5 @@ behind_comments no_line place text tokens h = h
 behind_comments (a_line body rest e more) place text tokens h =
     let line : List ℕ = 47 ∷ 47 ∷ body in
     let feed : HasTokens (after_bytes place line) (10 ∷ (rest ++ text)) tokens =
-        gap (10 ∷ []) (rest ++ text) (blank refl) (behind_comments more (after_bytes (after_bytes place line) (10 ∷ [])) text tokens (subst (λ p. HasTokens p text tokens) (after_bytes-append place line (10 ∷ rest)) h)) in
+    gap (10 ∷ []) (rest ++ text) (blank refl) (behind_comments more (after_bytes (after_bytes place line) (10 ∷ [])) text tokens (subst (λ p. HasTokens p text tokens) (after_bytes-append place line (10 ∷ rest)) h)) in
     subst (λ bytes. HasTokens place bytes tokens) (sym (append_assoc line (10 ∷ rest) text)) (gap line (10 ∷ (rest ++ text)) (line_comment e refl) feed)

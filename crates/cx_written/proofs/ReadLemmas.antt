@@ -1,5 +1,5 @@
 -- WHAT IS WRITTEN IS READ as the tree that was printed, behind lines of comments.
-use Rattle.std.proofs.Common.{◌≡◌, ℕ, false, List, [], ◌∷◌, ◌++◌, map, refl, sym, ap, ◌∙◌, subst, append-nil}
+use Rattle.std.proofs.Common.{◌≡◌, ℕ, false, List, [], ◌∷◌, refl, sym, ◌∙◌, subst, append-nil}
 use Rattle.std.specs.List.{AllByRecursion}
 use Rattle.cx_text.specs.declared.places.Place.{Place}
 use Rattle.cx_text.specs.Places.{start, after_bytes}
@@ -20,7 +20,7 @@ use Rattle.cx_numbering.specs.DesignOf.{design_of}
 use Rattle.cx_rewrites.specs.Places.{SameDesign}
 use Rattle.cx_rewrites.proofs.PlaceAccepted.{accepted_there}
 use Rattle.cx_rewrites.proofs.PlaceDesigns.{tree_of-same, run_main-same, words_of-same, external_rows-same}
-use Rattle.cx_written.specs.Ordered.{places_in, Rise, IsInOrder, AreOf, none_left, left_out, one_kept, StandAs, KeepsOrder}
+use Rattle.cx_written.specs.Ordered.{places_in, Rise, AreOf, none_left, left_out, one_kept, StandAs, KeepsOrder}
 use Rattle.cx_written.specs.Written.{IsWritten, IsReadAs}
 use Rattle.cx_written.proofs.CommentLemmas.{shifted, behind_comments}
 use Rattle.cx_written.proofs.RisingLemmas.{text_in_order}
@@ -65,7 +65,7 @@ written_read text written tokens tree new lexed parsed keeps printable w =
     let whole : Lex written moved.others = subst (λ bytes. Lex bytes moved.others) (sym w.printed.appended) (behind_comments w.are start w.printed.text moved.others moved.lexed) in
     let found = read new printable moved.others (moved.same ∙ w.printed.same) in
     let same : SameDesign (design_of new) (design_of found.again) =
-        same_design new found.again (sym found.equal) (stand_in_order new.components tree.components keeps (text_in_order text tokens tree lexed parsed)) (text_in_order written moved.others found.again whole found.parsed) in
+    same_design new found.again (sym found.equal) (stand_in_order new.components tree.components keeps (text_in_order text tokens tree lexed parsed)) (text_in_order written moved.others found.again whole found.parsed) in
     record {
       again = found.again;
       tokens = moved.others;

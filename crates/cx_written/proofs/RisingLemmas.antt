@@ -1,5 +1,5 @@
 -- In the tree of a text the places of assignments and invokes rise in the order in which they are written.
-use Rattle.std.proofs.Common.{◌≡◌, ℕ, zero, suc, ◌<◌, ◌≤◌, true, false, List, [], ◌∷◌, ◌++◌, map, flat_map, Option, Some, None, ◌⊎◌, inl, inr, refl, sym, ap, ◌∙◌, subst, arith, nat_lt, nat_eq, nat_le, ◌&&◌, ◌||◌}
+use Rattle.std.proofs.Common.{◌≡◌, ℕ, zero, suc, false, List, [], ◌∷◌, ◌++◌, map, flat_map, Option, Some, None, ◌⊎◌, inl, inr, refl, sym, ap, ◌∙◌, subst, arith}
 use Rattle.std.specs.List.{AllByRecursion}
 use Rattle.std.proofs.lemmas.List.{map-append}
 use Rattle.std.proofs.lemmas.Bool.Decides.{nat_tests}
@@ -7,18 +7,14 @@ use Rattle.cx_text.specs.declared.places.Place.{Place}
 use Rattle.cx_text.specs.Places.{start}
 use Rattle.cx_ast.specs.declared.tokens.Token.{Token}
 use Rattle.cx_ast.specs.declared.components.Attribute.{Attribute}
-use Rattle.cx_ast.specs.declared.operands.OperandItem.{OperandItem}
-use Rattle.cx_ast.specs.PlainGuards.{PlainGuard}
 use Rattle.cx_ast.specs.PlainStatements.{PlainForm, PlainElse, NoElse, Else, PlainStatement, PlainStatements, NoStatements, StatementThen, PlainBlock, statements_of, else_of}
 use Rattle.cx_ast.specs.PlainStatements as plain
-use Rattle.cx_ast.specs.PlainTree.{PlainTree, PlainComponent, PlainGroup, PlainWire, PlainAssign}
-use Rattle.cx_ast.specs.PlainTree as ast
+use Rattle.cx_ast.specs.PlainTree.{PlainTree, PlainComponent, PlainWire, PlainAssign}
 use Rattle.cx_lex.specs.Lex.{Lex}
 use Rattle.cx_grammar.specs.declared.terminals.Terminal.{Terminal}
 use Rattle.cx_grammar.specs.declared.terminals.Terminal.TheVariants as t
 use Rattle.cx_grammar.specs.Grammar.{Nest, Negation, Parens, Braces, Nested, Grammar, Empty, One, Pair, Choice, Several, Commas, Deeper, Spelling, Spells, Commas_of, IsComma}
-use Rattle.cx_grammar.specs.Calyx as calyx
-use Rattle.cx_grammar.specs.Calyx.{Named, sign, name, number, behind, before, within, pair, mapped, many, maybe, reference, target_of, target, value, assign_of, bare_assign, attributes, assign, group_word, marks, assigns, group_of, bare_group, assign_wire, group_wire, wire, wire_list, wires_part, cells, control, nest, component_word, signature, body, component_of, component, imports, components, file, spelled_within, block, otherwise, comb, operand, marked_block, if_of, if_rest, while_of, while_rest, repeat_rest, static_if_of, static_if_rest, invoke_rest, static_seq_of, static_par_of, static_repeat_of, static_invoke_of, static_rest, static_form, optional_length, enable_of, seq_of, par_of, repeat_of, invoke_of, form_of, enable, seq, par, if_form, while_form, repeat, invoke, static_statement, form, statement_of, statement, statements}
+use Rattle.cx_grammar.specs.Calyx.{sign, name, number, behind, before, within, pair, mapped, many, reference, target_of, target, value, assign_of, bare_assign, attributes, assign, group_word, marks, assigns, group_of, bare_group, assign_wire, group_wire, wire, wire_list, wires_part, cells, control, nest, component_word, signature, body, component_of, component, imports, components, file, spelled_within, block, otherwise, comb, operand, marked_block, if_of, if_rest, while_of, while_rest, repeat_rest, static_if_of, static_if_rest, invoke_rest, static_seq_of, static_par_of, static_repeat_of, static_invoke_of, static_rest, static_form, optional_length, enable_of, seq_of, par_of, repeat_of, invoke_of, form_of, enable, seq, par, if_form, while_form, repeat, invoke, static_statement, form, statement_of, statement, statements}
 use Rattle.cx_grammar.specs.Parsing.{Parse}
 use Rattle.cx_meaning.specs.Active.{no_later}
 use Rattle.cx_numbering.specs.DesignOf.{Invoke, invokes_in, invokes_else, invokes_of, invokes_all}

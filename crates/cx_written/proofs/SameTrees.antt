@@ -1,5 +1,5 @@
 -- TREES THAT ARE THE SAME apart from places: their designs are, and one is accepted where the other is.
-use Rattle.std.proofs.Common.{◌≡◌, ℕ, zero, suc, Bool, true, false, List, [], ◌∷◌, ◌++◌, codes, map, flat_map, get_or, Option, Some, None, option_map, length, refl, sym, ap, ◌∙◌, subst, if◌then◌else◌}
+use Rattle.std.proofs.Common.{◌≡◌, ℕ, zero, suc, Bool, true, false, List, [], ◌∷◌, ◌++◌, codes, map, get_or, Option, Some, None, length, refl, sym, ap, ◌∙◌, if◌then◌else◌}
 use Rattle.std.specs.List.{AllByRecursion}
 use Rattle.cx_text.proofs.ListLaws.{length-map}
 use Rattle.cx_text.specs.declared.places.Place.{Place}
@@ -10,12 +10,11 @@ use Rattle.cx_ast.specs.PlainStatements as statements
 use Rattle.cx_print.specs.Places.{bare_form, bare_component, without_places}
 use Rattle.cx_meaning.specs.Designs.{component_at, no_component}
 use Rattle.cx_meaning.specs.Designs as plain
-use Rattle.cx_meaning.specs.Active.{source_order}
 use Rattle.cx_rules.specs.Accepted.{IsAccepted, comes_before}
 use Rattle.cx_numbering.specs.Names.{component_names}
 use Rattle.cx_numbering.specs.DesignOf.{number_or_0, component_of, design_of}
 use Rattle.cx_numbering.specs.NameRules.{Visited, statements_in, name_breaks, names_break, first_break, earlier, key_of}
-use Rattle.cx_rewrites.specs.Places.{unplaced, unplaced_cell, unplaced_group, unplaced_assign, unplaced_owned, SamePart, SameDesign}
+use Rattle.cx_rewrites.specs.Places.{SamePart, SameDesign}
 use Rattle.cx_check.specs.Unbuilt.{length_word, static_word, static_words, words_in, words_of_tree, is_before, first_place, first_unbuilt}
 use Rattle.cx_check.specs.Acceptance.{IsAcceptedTree}
 use Rattle.cx_written.specs.Ordered.{places_in, Rise, IsInOrder}
@@ -30,9 +29,9 @@ same_part : (old new : ast.PlainTree) (part other : ast.PlainComponent) → with
     → SamePart (component_of old part) (component_of new other)
 same_part old new part other e f h k =
     let between : component_of (without_places old) (bare_component part) ≡ component_of (without_places new) (bare_component other) =
-        ap (λ t. component_of t (bare_component part)) e ∙ ap (component_of (without_places new)) f in
+    ap (λ t. component_of t (bare_component part)) e ∙ ap (component_of (without_places new)) f in
     let order : bare_order (without_places old) (bare_component part) ≡ bare_order (without_places new) (bare_component other) =
-        ap (λ t. bare_order t (bare_component part)) e ∙ ap (bare_order (without_places new)) f in
+    ap (λ t. bare_order t (bare_component part)) e ∙ ap (bare_order (without_places new)) f in
     record {
       name = ap (λ (c : ast.PlainComponent). c.name) f;
       inputs = inputs-bare old part ∙ ap (λ (c : plain.PlainComponent). c.inputs) between ∙ sym (inputs-bare new other);

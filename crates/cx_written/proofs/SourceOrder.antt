@@ -1,5 +1,5 @@
 -- SOURCE ORDER where places rise: the assignments as they are written.
-use Rattle.std.proofs.Common.{◌≡◌, ℕ, zero, suc, Bool, true, false, List, [], ◌∷◌, ◌++◌, map, flat_map, refl, sym, ap, ◌∙◌, if◌then◌else◌, nat_lt, nat_eq, nat_le, ◌&&◌, ◌||◌, arith, append_assoc}
+use Rattle.std.proofs.Common.{◌≡◌, Bool, true, false, List, [], ◌∷◌, ◌++◌, refl, ap, ◌∙◌, if◌then◌else◌, arith}
 use Rattle.std.specs.List.{AllByRecursion}
 use Rattle.std.proofs.lemmas.Bool.Decides.{nat_tests}
 use Rattle.cx_text.specs.declared.places.Place.{Place}

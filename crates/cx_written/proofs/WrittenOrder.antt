@@ -1,5 +1,5 @@
 -- Where the places of a tree rise, the source order of a component's assignments is the order in which they are written.
-use Rattle.std.proofs.Common.{◌≡◌, ℕ, suc, Bool, true, false, List, [], ◌∷◌, ◌++◌, map, flat_map, Option, Some, None, length, refl, sym, ap, ◌∙◌, subst, append_assoc, arith, nat_lt, nat_eq, nat_le, ◌&&◌, ◌||◌}
+use Rattle.std.proofs.Common.{◌≡◌, ℕ, suc, true, false, List, [], ◌∷◌, ◌++◌, map, flat_map, Option, Some, None, length, refl, sym, ap, ◌∙◌, subst, append_assoc, arith}
 use Rattle.std.specs.List.{AllByRecursion}
 use Rattle.std.proofs.lemmas.List.{map-append}
 use Rattle.std.proofs.lemmas.Bool.Decides.{nat_tests}
@@ -7,10 +7,10 @@ use Rattle.cx_text.specs.declared.places.Place.{Place}
 use Rattle.cx_ast.specs.PlainTree as ast
 use Rattle.cx_ast.specs.declared.statements.BindItem.{BindItem}
 use Rattle.cx_meaning.specs.Designs.{PlainAssign, PlainGroup}
-use Rattle.cx_meaning.specs.Active.{Owned, no_later, owned, owned_by_groups, by_place, placed_in, source_order}
+use Rattle.cx_meaning.specs.Active.{Owned, no_later, owned, owned_by_groups, by_place, source_order}
 use Rattle.cx_numbering.specs.Names.{groups_in, always_in, group_names}
 use Rattle.cx_numbering.specs.DesignOf.{Invoke, assign_of, group_of, input_assign, capture_assigns, done_assign, invoke_group, invoke_groups, control_invokes, component_of}
-use Rattle.cx_print.specs.Places.{bare_assign, bare_group, bare_wire, bare_component, without_places}
+use Rattle.cx_print.specs.Places.{bare_assign, bare_wire, bare_component, without_places}
 use Rattle.cx_rewrites.specs.Places.{unplaced_assign, unplaced_group, unplaced_owned}
 use Rattle.cx_written.specs.Ordered.{wire_places, invoke_places, places_in, Rise}
 use Rattle.cx_written.proofs.SourceOrder.{one_first, NoLaterThan, Behind, Sorted, AllNoLater, AllBehind, all_by_place, placed_first, between_placed, sorted_stays}
@@ -142,9 +142,10 @@ module _ (tree : ast.PlainTree) (part : ast.PlainComponent) where
 
   group_sorted : (w : Option ℕ) (list : List ast.PlainAssign) → Rise (map (λ a. a.place) list) → Sorted (owned w (in_place list))
   group_sorted w [] h = tt
-  group_sorted w (a ∷ rest) h =
-      (weaker (λ (o : Owned). After a.place o.assign.place) (NoLaterThan (record { owner = w; assign = assign_of tree part a })) (λ o k. one_first a.place o.assign.place k) _ (assigns_at (After a.place) w rest h.0),
-      group_sorted w rest h.1)
+  group_sorted w (a ∷ rest) h = (
+    weaker (λ (o : Owned). After a.place o.assign.place) (NoLaterThan (record { owner = w; assign = assign_of tree part a })) (λ o k. one_first a.place o.assign.place k) _ (assigns_at (After a.place) w rest h.0),
+    group_sorted w rest h.1,
+  )
 
   group_first : (w : Option ℕ) (list : List ast.PlainAssign) (ys : List Owned) → AllByRecursion (λ p. OwnedAt (After p) ys) (map (λ a. a.place) list) → AllNoLater (owned w (in_place list)) ys
   group_first w [] ys h = tt
