@@ -73,7 +73,7 @@ module _ (part : PlainComponent) where
   arm_in (a ∷ later) zero s e = let same : a ≡ s = cc in inl same
   arm_in (a ∷ later) (suc n) s e = inr (arm_in later n s e)
 
-  arms_meet-true : (arms : List PlainStatement) (m n : ℕ) (s t : PlainStatement) (x y : ℕ) → m ≢ n → slice_get arms m ≡ Some s → slice_get arms n ≡ Some t → uses part s x ≡ true → uses part t y ≡ true
+  pub arms_meet-true : (arms : List PlainStatement) (m n : ℕ) (s t : PlainStatement) (x y : ℕ) → m ≢ n → slice_get arms m ≡ Some s → slice_get arms n ≡ Some t → uses part s x ≡ true → uses part t y ≡ true
       → arms_meet part arms x y ≡ true
   arms_meet-true [] m n s t x y differ e f a b = absurd (cc)
   arms_meet-true (arm ∷ later) zero zero s t x y differ e f a b = absurd (differ refl)
@@ -91,7 +91,7 @@ module _ (part : PlainComponent) where
       or_right ((uses part arm x && list_any (λ u. uses part u y) later) || (uses part arm y && list_any (λ u. uses part u x) later)) (arms_meet part later x y)
       (arms_meet-true later m n s t x y (λ same. differ (ap suc same)) e f a b)
 
-  in_form : (form : PlainForm) (x y : ℕ) → arms_meet part (arms_of form) x y ≡ true → form_meets part form x y ≡ true
+  pub in_form : (form : PlainForm) (x y : ℕ) → arms_meet part (arms_of form) x y ≡ true → form_meets part form x y ≡ true
   in_form Empty x y e = absurd (cc)
   in_form (Enable g) x y e = absurd (cc)
   in_form (Seq parts) x y e = absurd (cc)

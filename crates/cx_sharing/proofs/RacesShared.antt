@@ -22,6 +22,7 @@ use Rattle.cx_sharing.specs.Meeting.{arms_meet, form_meets, meet}
 use Rattle.cx_sharing.specs.Giving.{new_cell}
 use Rattle.cx_sharing.proofs.KeptLemmas.{new_apart}
 use Rattle.cx_sharing.proofs.UsedLemmas.{any_of, target_used, named_used, no_candidate, statement_meets}
+use Rattle.cx_sharing.proofs.MeetLemmas.{arms_meet-true, in_form}
 use Rattle.cx_sharing.proofs.MovedLists as lists
 use Rattle.cx_sharing.proofs.MovedLists.{moved_visited}
 use Rattle.cx_sharing.proofs.SharedParts.{Shares, new_port, own_assigns, own_always}
@@ -59,54 +60,8 @@ module _ (part : PlainComponent) (s : PlainStatement) (c : ℕ) where
 
 -- TWO ARMS that use one each
 module _ (part : PlainComponent) (x y : ℕ) where
-  later_uses : (z : ℕ) (arms : List PlainStatement) (n : ℕ) (s : PlainStatement) → slice_get arms n ≡ Some s → uses part s z ≡ true → list_any (λ t. uses part t z) arms ≡ true
-  later_uses z [] n s e u = absurd (cc)
-  later_uses z (arm ∷ arms) zero s e u = let same : arm ≡ s = cc in ap (λ b. b || list_any (λ t. uses part t z) arms) (ap (λ t. uses part t z) same ∙ u)
-  later_uses z (arm ∷ arms) (suc n) s e u = or_right (uses part arm z) (list_any (λ t. uses part t z) arms) (later_uses z arms n s e u)
-
-  three : (a b c : Bool) → (a ≡ true) ⊎ (b ≡ true) ⊎ (c ≡ true) → (a || b || c) ≡ true
-  three true b c h = one b c
-    where
-      one : (b c : Bool) → (true || b || c) ≡ true
-      one true c = refl
-      one false c = refl
-  three false true c h = refl
-  three false false true h = refl
-  three false false false (inl e) = absurd (cc)
-  three false false false (inr (inl e)) = absurd (cc)
-  three false false false (inr (inr e)) = absurd (cc)
-
-  pub arms_use : (arms : List PlainStatement) (m n : ℕ) (s t : PlainStatement) → m ≢ n → slice_get arms m ≡ Some s → slice_get arms n ≡ Some t → uses part s x ≡ true → uses part t y ≡ true → arms_meet part arms x y ≡ true
-  arms_use [] m n s t differ a b u v = absurd (cc)
-  arms_use (arm ∷ arms) zero zero s t differ a b u v = absurd (differ refl)
-  arms_use (arm ∷ arms) zero (suc n) s t differ a b u v =
-      let same : arm ≡ s = cc in
-      three (uses part arm x && list_any (λ r. uses part r y) arms) (uses part arm y && list_any (λ r. uses part r x) arms) (arms_meet part arms x y)
-      (inl (ap₂ ◌&&◌ (ap (λ r. uses part r x) same ∙ u) (later_uses y arms n t b v)))
-  arms_use (arm ∷ arms) (suc m) zero s t differ a b u v =
-      let same : arm ≡ t = cc in
-      three (uses part arm x && list_any (λ r. uses part r y) arms) (uses part arm y && list_any (λ r. uses part r x) arms) (arms_meet part arms x y)
-      (inr (inl (ap₂ ◌&&◌ (ap (λ r. uses part r y) same ∙ v) (later_uses x arms m s a u))))
-  arms_use (arm ∷ arms) (suc m) (suc n) s t differ a b u v =
-      three (uses part arm x && list_any (λ r. uses part r y) arms) (uses part arm y && list_any (λ r. uses part r x) arms) (arms_meet part arms x y)
-      (inr (inr (arms_use arms m n s t (λ e. differ (ap suc e)) a b u v)))
-
-  form_by : (form : PlainForm) → arms_meet part (arms_of form) x y ≡ true → form_meets part form x y ≡ true
-  form_by Empty e = absurd (cc)
-  form_by (Enable g) e = absurd (cc)
-  form_by (Seq parts) e = absurd (cc)
-  form_by (Par arms) e = e
-  form_by (If test comb a b) e = absurd (cc)
-  form_by (While test comb a) e = absurd (cc)
-  form_by (Repeat count a) e = absurd (cc)
-  form_by (StaticSeq written parts) e = absurd (cc)
-  form_by (StaticPar written arms) e = e
-  form_by (StaticIf written test a b) e = absurd (cc)
-  form_by (StaticRepeat written count a) e = absurd (cc)
-  form_by (Timed k) e = absurd (cc)
-
   pub arms_meet_there : (v : Visited) → In (statements_in part) v → arms_meet part (arms_of v.form) x y ≡ true → meet part x y ≡ true
-  arms_meet_there v i e = statement_meets part x y (any_of (λ (w : Visited). form_meets part w.form x y) (statements_in part) v i (form_by v.form e))
+  arms_meet_there v i e = statement_meets part x y (any_of (λ (w : Visited). form_meets part w.form x y) (statements_in part) v i (in_form part v.form x y e))
 
 module _ (i j : Instance) (shares : Shares i j) where
   abbrev number : ℕ → ℕ
@@ -191,8 +146,8 @@ module _ (i j : Instance) (shares : Shares i j) where
         let u = driven_used (part_of i) a.old.first d.0 d.2 in
         let w = read_used (part_of i) a.old.second r.0 h.1 r.2 in
         ⊎_elim
-        (λ off. both_ways (meet (part_of i) d.0 r.0) off (arms_meet_there (part_of i) d.0 r.0 v there (arms_use (part_of i) d.0 r.0 (arms_of v.form) a.old.one a.old.other a.old.first a.old.second a.old.differ a.old.first_stands a.old.second_stands u w)))
-        (λ off. both_ways (meet (part_of i) r.0 d.0) off (arms_meet_there (part_of i) r.0 d.0 v there (arms_use (part_of i) r.0 d.0 (arms_of v.form) a.old.other a.old.one a.old.second a.old.first (λ e. a.old.differ (sym e)) a.old.second_stands a.old.first_stands w u)))
+        (λ off. both_ways (meet (part_of i) d.0 r.0) off (arms_meet_there (part_of i) d.0 r.0 v there (arms_meet-true (part_of i) (arms_of v.form) a.old.one a.old.other a.old.first a.old.second d.0 r.0 a.old.differ a.old.first_stands a.old.second_stands u w)))
+        (λ off. both_ways (meet (part_of i) r.0 d.0) off (arms_meet_there (part_of i) r.0 d.0 v there (arms_meet-true (part_of i) (arms_of v.form) a.old.other a.old.one a.old.second a.old.first r.0 d.0 (λ e. a.old.differ (sym e)) a.old.second_stands a.old.first_stands w u)))
         h.2)
         (new_apart (part_of i) d.0 r.0 (d.1 ∙ sym r.1))
 

@@ -13,36 +13,8 @@ use Rattle.cx_rewrites.specs.Moving.{moved_assign, moved_group, moved_form, move
 use Rattle.cx_rewrites.specs.Renaming.{renamed}
 use Rattle.cx_sharing.specs.Uses.{is_candidate}
 use Rattle.cx_sharing.specs.Giving.{new_cell}
+use Rattle.cx_sharing.proofs.MovedLists.{moved_group_at, groups_of-moved}
 use Rattle.cx_sharing.proofs.TwinLemmas.{AtTwin, no_twins, twin_rows, twin_parts, IsTwin, own_equal_back}
-
--- THE GROUPS of a moved statement are its groups
-mutual
-  form_groups : (move : PortRef → PortRef) (form : PlainForm) → groups_in (moved_form move form) ≡ groups_in form
-  form_groups move Empty = refl
-  form_groups move (Enable g) = refl
-  form_groups move (Seq parts) = all_groups move parts
-  form_groups move (Par arms) = all_groups move arms
-  form_groups move (If test comb a b) = ap (λ z. with_comb comb (z ++ groups_of (moved_statement move b))) (moved_groups move a) ∙ ap (λ z. with_comb comb (groups_of a ++ z)) (moved_groups move b)
-  form_groups move (While test comb a) = ap (with_comb comb) (moved_groups move a)
-  form_groups move (Repeat count a) = moved_groups move a
-  form_groups move (StaticSeq length parts) = all_groups move parts
-  form_groups move (StaticPar length arms) = all_groups move arms
-  form_groups move (StaticIf length test a b) = ap (λ z. z ++ groups_of (moved_statement move b)) (moved_groups move a) ∙ ap (λ z. groups_of a ++ z) (moved_groups move b)
-  form_groups move (StaticRepeat length count a) = moved_groups move a
-  form_groups move (Timed k) = refl
-
-  pub moved_groups : (move : PortRef → PortRef) (s : PlainStatement) → groups_of (moved_statement move s) ≡ groups_of s
-  moved_groups move (Placed form place) = form_groups move form
-
-  all_groups : (move : PortRef → PortRef) (ss : PlainStatements) → groups_in_all (moved_statements move ss) ≡ groups_in_all ss
-  all_groups move no_statements = refl
-  all_groups move (a_statement s ss) = ap (λ z. z ++ groups_in_all (moved_statements move ss)) (moved_groups move s) ∙ ap (λ z. groups_of s ++ z) (all_groups move ss)
-
--- a group of the shared component
-group_in_moved : (move : PortRef → PortRef) (list : List PlainGroup) (g : ℕ) → get_or (map (moved_group move) list) g no_group ≡ moved_group move (get_or list g no_group)
-group_in_moved move [] g = refl
-group_in_moved move (x ∷ xs) zero = refl
-group_in_moved move (x ∷ xs) (suc g) = group_in_moved move xs g
 
 -- a cell that is called is a component's
 pub called_child : (cells : Cells) (list : List PlainAssign) (c : ℕ) → called_in cells list ≡ Some c → (child : Instance) × (cell_at cells c ≡ OfInstance child)
@@ -66,7 +38,7 @@ module _ (i j : Instance) (twin : IsTwin i j) where
   new = new_cell (part_of i)
 
   group_shared : (g : ℕ) → group_at (part_of j) g ≡ moved_group (renamed (new_cell (part_of i))) (group_at (part_of i) g)
-  group_shared g = ap (λ (x : PlainComponent). get_or x.groups g no_group) twin.part ∙ group_in_moved (renamed (new_cell (part_of i))) (part_of i).groups g
+  group_shared g = ap (λ (x : PlainComponent). get_or x.groups g no_group) twin.part ∙ moved_group_at (renamed (new_cell (part_of i))) (part_of i).groups g
 
   pub assigns_shared : (g : ℕ) → (group_at (part_of j) g).assigns ≡ map (moved_assign (renamed (new_cell (part_of i)))) (group_at (part_of i) g).assigns
   assigns_shared g = ap (λ (x : PlainGroup). x.assigns) (group_shared g)
@@ -95,7 +67,7 @@ module _ (i j : Instance) (twin : IsTwin i j) where
       ∙ ap (λ b. group_drives (part_of i) g c || b) (groups_drive-shared gs c none)
 
   pub drives_shared : (s : PlainStatement) (c : ℕ) → is_candidate (part_of i) c ≡ false → drives (part_of j) (moved_statement (renamed (new_cell (part_of i))) s) (new_cell (part_of i) c) ≡ drives (part_of i) s c
-  drives_shared s c none = ap (λ gs. groups_drive (part_of j) gs (new_cell (part_of i) c)) (moved_groups (renamed (new_cell (part_of i))) s) ∙ groups_drive-shared (groups_of s) c none
+  drives_shared s c none = ap (λ gs. groups_drive (part_of j) gs (new_cell (part_of i) c)) (groups_of-moved (renamed (new_cell (part_of i))) s) ∙ groups_drive-shared (groups_of s) c none
 
   -- WHAT IS CALLED
   abbrev pub called_there : Option ℕ → Option ℕ

@@ -8,10 +8,11 @@ use Rattle.cx_prim.specs.Table.{PrimitiveRow, row_of}
 use Rattle.cx_meaning.specs.declared.ports.PortRef.{PortRef}
 use Rattle.cx_meaning.specs.declared.ports.PortRef.TheVariants as ports
 use Rattle.cx_meaning.specs.Designs.{PlainKind, OfPrimitive, OfComponent, PlainCell, PlainAssign, PlainGroup, PlainComponent, PlainDesign, component_at, no_component, group_at}
-use Rattle.cx_meaning.specs.Instances.{Instance, Node, Cells, no_cells, At, Nothing, OfRow, OfInstance, cell_at, cells_of, part_of, cells_for, tree_within, tree_of}
+use Rattle.cx_meaning.specs.Instances.{Instance, Node, Cells, no_cells, At, Nothing, OfRow, OfInstance, cell_at, cell_count, cells_of, part_of, cells_for, tree_within, tree_of}
 use Rattle.cx_meaning.specs.Active.{Owned, no_later, placed_in, by_place, source_order}
 use Rattle.cx_meaning.specs.Sights.{PartPort, part_port}
 use Rattle.cx_meaning.specs.Islands.{kind_length, group_length}
+use Rattle.cx_meaning.proofs.CycleLemmas.{count_for}
 use Rattle.cx_meaning.proofs.DesignsLemmas.{same_part}
 use Rattle.cx_rules.specs.Ports.{component_of, declared_width, part_width, cell_width, width_of, written_width, is_part_output, is_cell_output, is_source_only, is_target_only, enables_cell, is_primitive_enable, is_instance, is_part_port}
 use Rattle.cx_rules.specs.Items.{statements_in, Dynamic}
@@ -37,7 +38,7 @@ pub data AtShared (part : PlainComponent) (c : ℕ) : At → At → Type 0 where
 pub record Shares (i j : Instance) : Type 0 where
   pub part : part_of j ≡ shared_part (part_of i)
   pub cells : (c : ℕ) → AtShared (part_of i) c (cell_at (cells_of i) c) (cell_at (cells_of j) (new_cell (part_of i) c))
-  pub past : (e : ℕ) → staying (stays (part_of i)) (length (part_of i).cells) ≤ e → cell_at (cells_of j) e ≡ Nothing
+  pub past : (e : ℕ) → staying (stays (part_of i)) (cell_count (cells_of i)) ≤ e → cell_at (cells_of j) e ≡ Nothing
 
 -- THE COMPONENTS of the shared design
 pub as_many_parts : (d : PlainDesign) → length (shared_design d).components ≡ length d.components
@@ -91,8 +92,12 @@ module _ (d : PlainDesign) where
     cells = λ c. subst (λ (other : PlainComponent). AtShared (component_at d k) c (cell_at (cells_for (tree_within d n) (component_at d k).cells) c)
         (cell_at (cells_for (tree_within (shared_design d) n) other.cells) (new_cell (component_at d k) c))) (sym (shared_component d k))
         (cells-shared (component_at d k) (tree_within d n) (tree_within (shared_design d) n) (child-shared n) c);
-    past = λ e le. subst (λ (other : PlainComponent). cell_at (cells_for (tree_within (shared_design d) n) other.cells) e ≡ Nothing) (sym (shared_component d k))
-        (let many = length_left (stays (component_at d k)) (component_at d k).cells in none_past (tree_within (shared_design d) n) (remaining (stays (component_at d k)) 0 (component_at d k).cells) e (omega (arith, many, le)));
+    past = λ e le.
+        subst (λ (other : PlainComponent). cell_at (cells_for (tree_within (shared_design d) n) other.cells) e ≡ Nothing) (sym (shared_component d k))
+        (let many = length_left (stays (component_at d k)) (component_at d k).cells in
+        let count : staying (stays (component_at d k)) (cell_count (cells_for (tree_within d n) (component_at d k).cells)) ≡ staying (stays (component_at d k)) (length (component_at d k).cells) =
+        ap (staying (stays (component_at d k))) (count_for (tree_within d n) (component_at d k).cells) in
+        none_past (tree_within (shared_design d) n) (remaining (stays (component_at d k)) 0 (component_at d k).cells) e (omega (arith, many, count, le)));
   }
 
   pub component-shares : (k : ℕ) → Shares (component_of d k) (component_of (shared_design d) k)
@@ -205,9 +210,6 @@ module _ {i j : Instance} (shares : Shares i j) where
 
   pub own_always : (part_of j).always ≡ map (moved_assign new_port) (part_of i).always
   own_always = ap (λ (x : PlainComponent). x.always) shares.part
-
-  pub nothing_past : (e : ℕ) → staying (stays (part_of i)) (length (part_of i).cells) ≤ e → cell_at (cells_of j) e ≡ Nothing
-  nothing_past e le = shares.past e le
 
   -- LISTS
   pub source_order-shared : source_order (part_of j) ≡ map (moved_owned new_port) (source_order (part_of i))

@@ -106,7 +106,7 @@ module _ (i j : Instance) (shares : Shares i j) (inputs : HasInputs i) where
   leads_back q r e (n, inl is) = (n, inl (input_is (new_cell (part_of i)) r n (e ∙ is)))
   leads_back q r e (n, inr depends) =
       let d : Depends j nothing (move r) (ports.Input n) = subst (λ p. Depends j nothing p (ports.Input n)) (sym e) depends in
-      let b = depends_comes_back i j shares nothing (CellOf r) (nothing_covers i j shares (CellOf r)) (λ x y a c. inl (one_cell r x y a c)) r (ports.Input n) (inside_itself r) d in
+      let b = depends_comes_back i j shares nothing nothing (λ g. refl) (CellOf r) (nothing_covers i j shares (CellOf r)) (λ x y a c. inl (one_cell r x y a c)) r (ports.Input n) (inside_itself r) d in
       (n, inr (subst (Depends i nothing r) (input_is (new_cell (part_of i)) b.0 n b.1) b.2))
 
   pub output_not_state_back : (o : Owned) (place : Place) (name : List ℕ) → BreaksOutputNotState j (moved_owned move o) place name → ByAssign BreaksOutputNotState i o
