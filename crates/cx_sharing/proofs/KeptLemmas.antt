@@ -88,7 +88,7 @@ module _ (part : PlainComponent) where
   AllFine n ks = (k : Kept) → In ks k → IsFine n k
 
   -- no cell is in two entries
-  abbrev Disjoint : List Kept → Type 0
+  abbrev pub Disjoint : List Kept → Type 0
   Disjoint [] = Unit {0}
   Disjoint (k ∷ ks) = ((x : ℕ) (l : Kept) → Member k x → In ks l → Member l x → ⊥) × Disjoint ks
 
@@ -148,7 +148,7 @@ module _ (part : PlainComponent) where
       by false c h = record { fine = λ k i. kept_fine n k (h.fine k i); disjoint = h.disjoint }
 
   -- one entry, by one of its members
-  same_entry : (ks : List Kept) (k l : Kept) (x : ℕ) → Disjoint ks → In ks k → In ks l → Member k x → Member l x → k ≡ l
+  pub same_entry : (ks : List Kept) (k l : Kept) (x : ℕ) → Disjoint ks → In ks k → In ks l → Member k x → Member l x → k ≡ l
   same_entry [] k l x d i j m o = absurd i
   same_entry (z ∷ zs) k l x (first, rest) (inl e) (inl f) m o = sym e ∙ f
   same_entry (z ∷ zs) k l x (first, rest) (inl e) (inr j) m o = absurd (first x l (subst (λ y. Member y x) (sym e) m) j o)

@@ -13,6 +13,9 @@ pub mod SharedGroups
 pub mod SharedLeaves
 pub mod SharedControl
 pub mod SharedMain
+pub mod MeetMoved
+pub mod GrowLemmas
+pub mod SharedOnce
 pub mod CandidateLemmas
 pub mod ReadLemmas
 pub mod MovedLists

@@ -1,15 +1,15 @@
 -- The groups of the shared component: their assignments, what they drive and call, and whether they capture.
-use Rattle.std.proofs.Common.{◌≡◌, ℕ, zero, suc, false, ◌||◌, Option, Some, None, List, [], ◌∷◌, ◌++◌, map, refl, sym, ap, ◌∙◌}
+use Rattle.std.proofs.Common.{◌≡◌, ℕ, false, ◌||◌, Option, Some, None, List, [], ◌∷◌, map, refl, sym, ap, ◌∙◌}
 use Rattle.std.specs.Prelude.{get_or}
 use Rattle.cx_meaning.specs.declared.ports.PortRef.{PortRef}
 use Rattle.cx_meaning.specs.declared.ports.PortRef.TheVariants as ports
-use Rattle.cx_meaning.specs.Designs.{PlainAssign, PlainGroup, PlainComponent, group_at, no_group, PlainForm, Empty, Enable, Seq, Par, If, While, Repeat, StaticSeq, StaticPar, StaticIf, StaticRepeat, Timed, PlainStatement, Placed, PlainStatements, no_statements, a_statement}
+use Rattle.cx_meaning.specs.Designs.{PlainAssign, PlainGroup, PlainComponent, group_at, no_group, PlainStatement}
 use Rattle.cx_meaning.specs.Instances.{Instance, Cells, At, Nothing, OfRow, OfInstance, cell_at, cells_of, part_of}
-use Rattle.cx_meaning.specs.Control.{with_comb, groups_in, groups_of, groups_in_all, targets_cell, assigns_drive, group_drives, groups_drive, drives}
+use Rattle.cx_meaning.specs.Control.{groups_of, targets_cell, assigns_drive, group_drives, groups_drive, drives}
 use Rattle.cx_meaning.specs.Islands.{kind_length, group_length}
 use Rattle.cx_meaning.specs.Calls.{if_instance, called_by, called_in, called, enables_at, enables_primitive, captures_in, captures}
 use Rattle.cx_text.proofs.OptionLaws.{none_some, some_inj}
-use Rattle.cx_rewrites.specs.Moving.{moved_assign, moved_group, moved_form, moved_statement, moved_statements}
+use Rattle.cx_rewrites.specs.Moving.{moved_assign, moved_group, moved_statement}
 use Rattle.cx_rewrites.specs.Renaming.{renamed}
 use Rattle.cx_sharing.specs.Uses.{is_candidate}
 use Rattle.cx_sharing.specs.Giving.{new_cell}

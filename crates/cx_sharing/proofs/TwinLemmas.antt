@@ -169,6 +169,13 @@ candidate_holds_nothing part c p kind on = by (is_stateless (row_of p).shape) re
     by true e = refl
     by false e = absurd (both_ways (is_candidate part c) (state_other part c p kind e) on)
 
+pub given_combines : (part : PlainComponent) (c : ℕ) → stays part c ≡ false → is_combinational (kind_in part.cells c) ≡ true
+given_combines part c given = by (is_combinational (kind_in part.cells c)) refl
+  where
+    by : (b : Bool) → is_combinational (kind_in part.cells c) ≡ b → b ≡ true
+    by true e = refl
+    by false e = absurd (both_ways (stays part c) given (other_stays part c (combines_false part c e)))
+
 -- A NEW NUMBER OF A CELL THAT IS NO CANDIDATE is its own
 pub own_number : (part : PlainComponent) (c d : ℕ) → is_candidate part c ≡ false → new_cell part c ≡ new_cell part d → c ≡ d
 own_number part c d none e = ⊎_elim (λ same. same) (λ r. absurd (both_ways (is_candidate part c) none r.0)) (new_apart part c d e)
