@@ -1,4 +1,3 @@
 mod NamedOrder
-mod NamedPrintable
 pub mod SharedLemmas
 pub mod AlikeLemmas

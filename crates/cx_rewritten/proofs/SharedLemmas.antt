@@ -1,4 +1,4 @@
--- THE SHARED TREE of a printable tree is printable and keeps its order, and the lines before it are comments.
+-- THE SHARED TREE keeps the order of its tree, and the lines before it are comments.
 use Rattle.std.proofs.Common.{◌≡◌, ℕ, zero, suc, ◌<◌, ◌≤◌, Bool, true, false, ◌||◌, List, [], ◌∷◌, ◌++◌, codes, length, map, flat_map, Option, Some, None, option_map, refl, sym, ap, ◌∙◌, subst, if◌then◌else◌, arith, append_assoc}
 use Rattle.std.specs.List.{AllByRecursion, list_all}
 use Rattle.std.proofs.lemmas.Bool.Decides.{nat_tests}
@@ -18,7 +18,7 @@ use Rattle.cx_sharing.specs.declared.rows.SharedRow.{SharedRow}
 use Rattle.cx_sharing.specs.Giving.{keeper, stays}
 use Rattle.cx_sharing.specs.SharedTree.{keeper_name, kept_name, left_cells, shared_component, shared_components, shared_tree}
 use Rattle.cx_sharing.specs.SharedRows.{row_of, rows_from, rows_of, shared_rows}
-use Rattle.cx_sharing.proofs.KeeperLemmas.{keeper_within}
+use Rattle.cx_shared_trees.proofs.PrintableShared.{printable-shared}
 use Rattle.cx_copies.specs.Naming.{named_block}
 use Rattle.cx_written.specs.Ordered.{wire_places, invoke_places, places_in, AreOf, StandAs, KeepsOrder}
 use Rattle.cx_written.specs.Comments.{AreComments, no_line, a_line}
@@ -27,7 +27,6 @@ use Rattle.cx_written.proofs.ReadLemmas.{written_read}
 use Rattle.cx_rewritten.specs.Sources.{IsTreeOfText}
 use Rattle.cx_rewritten.specs.SharedTexts.{row_line, lines, IsSharedText}
 use Rattle.cx_rewritten.proofs.NamedOrder.{all_of, wires-named, control-named}
-use Rattle.cx_rewritten.proofs.NamedPrintable.{wires_printable, part_printable}
 
 -- ORDER
 part_order : (part : PlainComponent) (item : ast.PlainComponent) → places_in (shared_component part item) ≡ places_in item
@@ -51,62 +50,12 @@ shared_keeps_order tree = stand_as (design_of tree).components tree.components
 abbrev Named : List PlainCell → Type 0
 Named cells = AllByRecursion (λ (cell : PlainCell). IsName cell.name) cells
 
-name_at : (cells : List PlainCell) (c : ℕ) → Named cells → c < length cells → IsName (cell_name cells c)
-name_at [] c h lt = absurd (omega arith)
-name_at (cell ∷ cells) zero h lt = h.0
-name_at (cell ∷ cells) (suc c) h lt = name_at cells c h.1 (let k : suc c < suc (length cells) = lt in omega (arith, k))
-
-kept_names : (part : PlainComponent) → Named part.cells → (n : List ℕ) → IsName n → IsName (kept_name part n)
-kept_names part h n is = by (number_of n (map (λ cell. cell.name) part.cells)) refl
-  where
-    by : (o : Option ℕ) → number_of n (map (λ (cell : PlainCell). cell.name) part.cells) ≡ o → IsName (keeper_name part o n)
-    by None e = is
-    by (Some c) e =
-        (let inside = number_within n (map (λ (cell : PlainCell). cell.name) part.cells) c e in
-        let count = length-map (λ (cell : PlainCell). cell.name) part.cells in
-        name_at part.cells (keeper part c) h (keeper_within part c (omega (arith, inside, count))))
-
 cells_named : (tree : ast.PlainTree) (item : ast.PlainComponent) → AllByRecursion IsCell item.cells → Named (component_of tree item).cells
 cells_named tree item h = by item.cells h
   where
     by : (cells : List ast.PlainCell) → AllByRecursion IsCell cells → Named (map (plain_cell_of tree item) cells)
     by [] k = tt
     by (cell ∷ cells) k = (k.0.1, by cells k.1)
-
--- PRINTABLE
-cells_left : (part : PlainComponent) (c : ℕ) (cells : List ast.PlainCell) → AllByRecursion IsCell cells → AllByRecursion IsCell (left_cells part c cells)
-cells_left part c [] h = tt
-cells_left part c (cell ∷ cells) h = by (stays part c) (cells_left part (suc c) cells h.1)
-  where
-    by : (t : Bool) → AllByRecursion IsCell (left_cells part (suc c) cells) → AllByRecursion IsCell (if t then cell ∷ left_cells part (suc c) cells else left_cells part (suc c) cells)
-    by true k = (h.0, k)
-    by false k = k
-
-part_shared : (tree : ast.PlainTree) (item : ast.PlainComponent) → IsComponent item → IsComponent (shared_component (component_of tree item) item)
-part_shared tree item h =
-    let names = kept_names (component_of tree item) (cells_named tree item h.cells) in
-    record {
-      attributes = h.attributes;
-      length = h.length;
-      name = h.name;
-      marks = h.marks;
-      inputs = h.inputs;
-      outputs = h.outputs;
-      cells = cells_left (component_of tree item) 0 item.cells h.cells;
-      wires = wires_printable (kept_name (component_of tree item)) names item.wires h.wires;
-      control = part_printable (kept_name (component_of tree item)) names item.control h.control;
-    }
-
-parts_shared : (tree : ast.PlainTree) (items : List ast.PlainComponent) → AllByRecursion IsComponent items → AllByRecursion IsComponent (shared_components (map (component_of tree) items) items)
-parts_shared tree [] h = tt
-parts_shared tree (item ∷ items) h = (part_shared tree item h.0, parts_shared tree items h.1)
-
-some_shared : (tree : ast.PlainTree) (items : List ast.PlainComponent) → (items ≡ [] → ⊥) → shared_components (map (component_of tree) items) items ≡ [] → ⊥
-some_shared tree [] h e = h refl
-some_shared tree (item ∷ items) h e = absurd cc
-
-pub shared_printable : (tree : ast.PlainTree) → IsPrintable tree → IsPrintable (shared_tree tree)
-shared_printable tree h = record { imports = h.imports; some = some_shared tree tree.components h.some; components = parts_shared tree tree.components h.components }
 
 -- COMMENTS: no name ends a line
 in_line : (b : ℕ) → is_name_byte b ≡ true → is_in_line b ≡ true
@@ -170,5 +119,5 @@ lines_are_comments tree h = comments_of (shared_rows tree) (parts_in_line tree t
 pub shared_read : (tree : ast.PlainTree) (written : List ℕ) → IsTreeOfText tree → IsSharedText tree written → IsReadAs (shared_tree tree) written
 shared_read tree written s w =
     let printable = tree_of_text s.0 s.1 tree s.2 s.3 in
-    written_read s.0 written s.1 tree (shared_tree tree) s.2 s.3 (shared_keeps_order tree) (shared_printable tree printable)
+    written_read s.0 written s.1 tree (shared_tree tree) s.2 s.3 (shared_keeps_order tree) (printable-shared tree printable)
     (record { comments = lines (shared_rows tree); are = lines_are_comments tree printable; printed = w })
