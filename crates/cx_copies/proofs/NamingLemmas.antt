@@ -46,15 +46,18 @@ same_guard_option : (g : Option PlainGuard) → option_map (named_guard itself) 
 same_guard_option None = refl
 same_guard_option (Some g) = ap Some (same_guard g)
 
-same_assign : (a : PlainAssign) → named_assign itself a ≡ a
+pub same_assign : (a : PlainAssign) → named_assign itself a ≡ a
 same_assign a =
     ap (λ o. record { attributes = a.attributes; target = o; guard = option_map (named_guard itself) a.guard; source = named_operand itself a.source; place = a.place }) (same_operand a.target)
     ∙ ap (λ g. record { attributes = a.attributes; target = a.target; guard = g; source = named_operand itself a.source; place = a.place }) (same_guard_option a.guard)
     ∙ ap (λ o. record { attributes = a.attributes; target = a.target; guard = a.guard; source = o; place = a.place }) (same_operand a.source)
 
+pub same_group : (g : PlainGroup) → named_group itself g ≡ g
+same_group g =
+    ap (λ assigns. record { attributes = g.attributes; kind = g.kind; name = g.name; marks = g.marks; assigns = assigns; place = g.place }) (same_map (named_assign itself) same_assign g.assigns)
+
 same_wire : (w : PlainWire) → named_wire itself w ≡ w
-same_wire (Group g) =
-    ap (λ assigns. Group (record { attributes = g.attributes; kind = g.kind; name = g.name; marks = g.marks; assigns = assigns; place = g.place })) (same_map (named_assign itself) same_assign g.assigns)
+same_wire (Group g) = ap Group (same_group g)
 same_wire (Assign a) = ap Assign (same_assign a)
 
 pub same_wires : (ws : List PlainWire) → map (named_wire itself) ws ≡ ws
@@ -67,7 +70,7 @@ same_binds : (bs : List BindItem) → map (named_bind itself) bs ≡ bs
 same_binds bs = same_map (named_bind itself) same_bind bs
 
 mutual
-  same_form : (f : PlainForm) → named_form itself f ≡ f
+  pub same_form : (f : PlainForm) → named_form itself f ≡ f
   same_form (Enable group marks) = refl
   same_form (Seq marks block) = ap (Seq marks) (same_block block)
   same_form (Par marks block) = ap (Par marks) (same_block block)

@@ -13,6 +13,7 @@ use cx_text::{Memory, Name};
 use std::alloc::Global;
 
 /// A block, with other names of cells.
+#[tactic(auto, using(crate::proofs::NamingLemmas::statements_named))]
 #[cycle(control)]
 pub fn named_block<N: CellNames>(alloc: Global, names: &N, block: &Block) -> Result<Block, Memory>
     ensures value { IfOk result (λ named. plain_block named ≡ naming.named_block (N.renaming names.now) (plain_block block.now)) }
@@ -72,7 +73,7 @@ fn named_else<N: CellNames>(
 }
 
 #[cycle(control)]
-fn named_form<N: CellNames>(
+pub(crate) fn named_form<N: CellNames>(
     alloc: Global,
     names: &N,
     form: &StatementForm,

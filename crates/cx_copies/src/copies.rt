@@ -1,14 +1,14 @@
 //! Copies of a tree and of the parts of it in which cells are named.
 
 ghost use Rattle.std.specs.Prelude.{◌≡◌, IfOk, map, option_map};
-ghost use Rattle.cx_ast.specs.PlainStatements.{plain_block, plain_statement, plain_statements};
-ghost use Rattle.cx_ast.specs.PlainTree.{plain_component, plain_tree, plain_wire};
+ghost use Rattle.cx_ast.specs.PlainStatements.{plain_block, plain_form, plain_statement, plain_statements};
+ghost use Rattle.cx_ast.specs.PlainTree.{plain_assign, plain_component, plain_group, plain_tree, plain_wire};
 
-use crate::control::{named_block, named_statement};
+use crate::control::{named_block, named_form, named_statement};
 use crate::names::SameNames;
 use crate::parts::{copied_attributes, copied_cells, copied_imports, copied_marks, copied_name, copied_ports};
-use crate::wires::named_wires;
-use cx_ast::{Block, ComponentItem, StatementItem, Tree, WireItem};
+use crate::wires::{named_assign, named_group, named_wires};
+use cx_ast::{AssignItem, Block, ComponentItem, GroupItem, StatementForm, StatementItem, Tree, WireItem};
 use cx_text::Memory;
 use std::alloc::Global;
 
@@ -20,6 +20,22 @@ pub fn copied_wires(alloc: Global, wires: &[WireItem]) -> Result<Vec<WireItem>, 
     named_wires(alloc, &SameNames, wires)
 }
 
+/// The same group again.
+#[tactic(auto, using(crate::proofs::NamingLemmas::same_group))]
+pub fn copied_group(alloc: Global, group: &GroupItem) -> Result<GroupItem, Memory>
+    ensures value { IfOk result (λ copy. plain_group copy ≡ plain_group group.now) }
+{
+    named_group(alloc, &SameNames, group)
+}
+
+/// The same assignment again.
+#[tactic(auto, using(crate::proofs::NamingLemmas::same_assign))]
+pub fn copied_assign(alloc: Global, assign: &AssignItem) -> Result<AssignItem, Memory>
+    ensures value { IfOk result (λ copy. plain_assign copy ≡ plain_assign assign.now) }
+{
+    named_assign(alloc, &SameNames, assign)
+}
+
 /// The same statement again.
 #[tactic(auto, using(crate::proofs::NamingLemmas::same_statement))]
 pub fn copied_statement(
@@ -29,6 +45,14 @@ pub fn copied_statement(
     ensures value { IfOk result (λ copy. plain_statement copy ≡ plain_statement statement.now) }
 {
     named_statement(alloc, &SameNames, statement)
+}
+
+/// The same form of a statement again.
+#[tactic(auto, using(crate::proofs::NamingLemmas::same_form))]
+pub fn copied_form(alloc: Global, form: &StatementForm) -> Result<StatementForm, Memory>
+    ensures value { IfOk result (λ copy. plain_form copy ≡ plain_form form.now) }
+{
+    named_form(alloc, &SameNames, form)
 }
 
 /// The same statements again.

@@ -24,6 +24,7 @@ pub(crate) fn named_option<N: CellNames>(
     }
 }
 
+#[tactic(auto, using(crate::proofs::NamingLemmas::guards_named))]
 #[cycle(guard)]
 fn named_guard<N: CellNames>(
     alloc: Global,

@@ -15,7 +15,7 @@ pub fn copied_name(alloc: Global, name: &Name) -> Result<Name, Memory>
 }
 
 /// The same name again, where there is one.
-pub(crate) fn copied_option(alloc: Global, name: &Option<Name>) -> Result<Option<Name>, Memory>
+pub fn copied_option(alloc: Global, name: &Option<Name>) -> Result<Option<Name>, Memory>
     ensures value { IfOk result (λ copy. copy ≡ name.now) }
 {
     match name {

@@ -36,7 +36,7 @@ fn named_wire<N: CellNames>(alloc: Global, names: &N, wire: &WireItem) -> Result
     }
 }
 
-fn named_group<N: CellNames>(
+pub(crate) fn named_group<N: CellNames>(
     alloc: Global,
     names: &N,
     group: &GroupItem,
@@ -71,7 +71,7 @@ fn named_assigns<N: CellNames>(
     Ok(named)
 }
 
-fn named_assign<N: CellNames>(
+pub(crate) fn named_assign<N: CellNames>(
     alloc: Global,
     names: &N,
     assign: &AssignItem,
