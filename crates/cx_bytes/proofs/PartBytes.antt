@@ -5,6 +5,7 @@ use Rattle.cx_meaning.specs.Active.{Owned, source_order}
 use Rattle.cx_meaning.specs.Sights.{In}
 use Rattle.cx_rules.specs.Items.{Dynamic, visit, statements_in}
 use Rattle.cx_rules.specs.Sizes.{assigns_size, groups_size}
+use Rattle.cx_rules.specs.Flat.{IsFlatPart}
 use Rattle.cx_rules.specs.Wellformed.{IsForm, IsDesign}
 use Rattle.cx_static.specs.Islands.{PlainPoint, PlainOccurrence, PlainIsland, PlainLowered}
 use Rattle.cx_static.specs.Lowering.{unlowered, lowered_component, lowered_of}
@@ -64,15 +65,15 @@ islands_paid (i ∷ islands) =
     one_paid (length i.timers) (length i.points) (length i.occurrences) (points_cost i.points) (occurrences_cost i.occurrences) (points_many i.points) (occurrences_many i.occurrences) in
     omega (arith, h, p, o, own)
 
-module _ (d : PlainDesign) (rules : IsDesign d) (k : ℕ) (within : k < length d.components) (parts : PartsHold (component_at d k)) (shallow : Shallow 64 (component_at d k).control) where
+module _ (d : PlainDesign) (rules : IsDesign d) (k : ℕ) (within : k < length d.components) (flat : IsFlatPart (component_at d k)) (parts : PartsHold (component_at d k)) (shallow : Shallow 64 (component_at d k).control) where
   abbrev part : PlainComponent
   part = component_at d k
 
   abbrev low : PlainLowered
   low = lowered_component part
 
-  untimed : IsFlatPart part → Untimed (statements_in part)
-  untimed flat v i n is = no_timed part flat n (subst (IsForm part) is (subst (λ x. IsForm x v.form) (same_part d (length d.components) k) ((rules.components k within).statements v i).form))
+  untimed : Untimed (statements_in part)
+  untimed v i n is = no_timed part flat n (subst (IsForm part) is (subst (λ x. IsForm x v.form) (same_part d (length d.components) k) ((rules.components k within).statements v i).form))
 
   all_parts : (list : List Owned) → ((o : Owned) → In list o → HasParts o.assign.guard) → AllParts (groups low) list
   all_parts [] each = tt

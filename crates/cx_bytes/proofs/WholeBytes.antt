@@ -99,7 +99,7 @@ module _ (d : PlainDesign) (rules : IsDesign d) (flat : IsFlat d) (accepted : Is
         let name : length (module_name (net d rules small).main n) ≤ 15 = module_short d rules small n less in
         let written = cells_written d rules (net d rules small) (order (lowered_of d)) n 0 (lowered_cells d rules k) (λ cell j i is. signed d rules small j (cells_here d rules k here cell j i is)) less from in
         let cheap = lowered_cheap d rules k within in
-        let cost = part_cost d rules k within (parts k within) (shallow k within) in
+        let cost = part_cost d rules k within (flat k within) (parts k within) (shallow k within) in
         let drivers = drivers_short in
         let both : sum_over module_bytes (lists_from (cell_modules n) 0 D.cells ++ component_module (net d rules small) n D ∷ []) ≡ sum_over module_bytes (lists_from (cell_modules n) 0 D.cells) + sum_over module_bytes (component_module (net d rules small) n D ∷ []) =
         sum_over-append module_bytes (lists_from (cell_modules n) 0 D.cells) (component_module (net d rules small) n D ∷ []) in

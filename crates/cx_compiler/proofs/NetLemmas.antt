@@ -21,7 +21,7 @@ own_net text d net stands sized =
       design = d;
       stands = stands;
       within = sized.0;
-      is = sized.2 rules.0 rules.1;
+      is = sized.2 rules.0 rules.1 rules.2;
       emitted = subst CanBeEmitted (sym sized.1) (text_emitted text d stands sized.0);
     }
 
@@ -34,7 +34,7 @@ module _ {X : Type 0} (net : X → PlainNet) (rows : X → List PlainRow) (text 
   pub rows_of_text : (d : PlainDesign) (r : Result X Stop) → IsDesignOf text d → IfOk r (λ x. IsSizedNet d (net x)) → IfOk r (λ x. rows x ≡ external_rows d) → IfOk r (λ x. rows x ≡ net_rows (net x))
   rows_of_text d (Ok x) stands sized same =
       let rules = text_rules text d stands sized.0 in
-      let own = sized.2 rules.0 rules.1 in
+      let own = sized.2 rules.0 rules.1 rules.2 in
       same ∙ sym own.rows
   rows_of_text d (Err stop) stands sized same = tt
 

@@ -33,7 +33,7 @@ bytes_few : (text : List ℕ) (d : PlainDesign) → IsDesignOf text d → design
 bytes_few text d h within =
     let rules = text_rules text d h within in
     let small : design_size d ≤ 16384 = within in
-    written_bytes d rules.0 rules.1 small (design_parts h.0 d h.3) (text_shallow text d h) (written_sound text d h within)
+    written_bytes d rules.0 rules.1 rules.2 small (design_parts h.0 d h.3) (text_shallow text d h) (written_sound text d h within)
 
 -- the text that spells it
 pub answer_few : (text answer : List ℕ) (d : PlainDesign) → IsDesignOf text d → design_size d ≤ COMPILE_SIZE → IsVerilogOf answer (written_source d) → length answer ≤ 4096 * design_size d + 256 * weight_of d
@@ -60,13 +60,13 @@ module _ (d : PlainDesign) (rules : IsDesign d) (flat : IsFlat d) (accepted : Is
 pub tree_short : (tree : PlainTree) (d : PlainDesign) → HasTargets tree → IsAcceptedTree tree → d ≡ design_of tree → HasWords d → IsShallow d → IsShortWithin d
 tree_short tree d targets accepted same words shallow within =
     let rules = tree_rules tree d targets accepted same within in
-    short d rules.0 rules.1 within (design_parts tree d same) shallow (emitted_sound (written_net d) (tree_emitted tree d targets accepted same words within))
+    short d rules.0 rules.1 rules.2 within (design_parts tree d same) shallow (emitted_sound (written_net d) (tree_emitted tree d targets accepted same words within))
 
 -- and of a text that is
 pub written_short : (text : List ℕ) (d : PlainDesign) → IsDesignOf text d → IsShortWithin d
 written_short text d h within =
     let rules = text_rules text d h within in
-    short d rules.0 rules.1 within (design_parts h.0 d h.3) (text_shallow text d h) (written_sound text d h within)
+    short d rules.0 rules.1 rules.2 within (design_parts h.0 d h.3) (text_shallow text d h) (written_sound text d h within)
 
 pub never_too_long : (text : List ℕ) (d : PlainDesign) → IsDesignOf text d → design_size d ≤ COMPILE_SIZE → (n : ℕ) → IsTooLong VERILOG_BYTES (text_of (written_source d)) (TooLong n) → ⊥
 never_too_long text d h within n long =

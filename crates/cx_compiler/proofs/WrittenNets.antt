@@ -151,7 +151,7 @@ pub tree_emitted : (tree : PlainTree) (d : PlainDesign) → HasTargets tree → 
 tree_emitted tree d targets accepted same words within =
     let rules = tree_rules tree d targets accepted same within in
     let small : design_size d ≤ 16384 = within in
-    net_emitted d rules.0 rules.1 (record { small = small; parts = design_parts tree d same; words = words })
+    net_emitted d rules.0 rules.1 rules.2 (record { small = small; parts = design_parts tree d same; words = words })
 
 -- and so can that of an accepted text
 pub text_emitted : (text : List ℕ) (d : PlainDesign) → IsDesignOf text d → EmitsWithin d
@@ -167,4 +167,4 @@ pub written_nets : (text : List ℕ) (d : PlainDesign) → IsDesignOf text d →
 written_nets text d h within =
     let rules = text_rules text d h within in
     let small : design_size d ≤ 16384 = within in
-    nets_weigh d rules.0 rules.1 (record { small = small; parts = design_parts h.0 d h.3; words = λ cell i external. design_words text d h d.main rules.0.main_there cell i })
+    nets_weigh d rules.0 rules.1 rules.2 (record { small = small; parts = design_parts h.0 d h.3; words = λ cell i external. design_words text d h d.main rules.0.main_there cell i })

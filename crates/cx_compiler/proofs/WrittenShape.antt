@@ -8,6 +8,7 @@ use Rattle.std.proofs.lemmas.Option.{slice_get-map, slice_get-get_or, slice_get_
 use Rattle.cx_meaning.specs.Designs.{PlainKind, OfPrimitive, OfComponent, PlainCell, PlainComponent, PlainDesign, component_at}
 use Rattle.cx_meaning.specs.Sights.{In}
 use Rattle.cx_rules.specs.Items.{statements_in}
+use Rattle.cx_rules.specs.Flat.{IsFlat}
 use Rattle.cx_rules.specs.Wellformed.{IsForm, LeadsTo, by_cell, by_way_of, IsDesign}
 use Rattle.cx_rules.specs.Accepted.{IsAccepted}
 use Rattle.cx_vtree.specs.Sound.{is_sound}
@@ -62,7 +63,7 @@ timer_at [] n cell are e = absurd (cc)
 timer_at (c ∷ cells) zero cell are e = let same : c ≡ cell = cc in subst IsTimer same are.0
 timer_at (c ∷ cells) (suc n) cell are e = timer_at cells n cell are.1 e
 
-module _ (d : PlainDesign) (rules : IsDesign d) where
+module _ (d : PlainDesign) (rules : IsDesign d) (flat : IsFlat d) where
   abbrev low : PlainLowereds
   low = lowered_of d
 
@@ -97,8 +98,8 @@ module _ (d : PlainDesign) (rules : IsDesign d) where
     within : k < length d.components
     within = there d rules k here
 
-    untimed : IsFlatPart part → Untimed (statements_in part)
-    untimed flat v i n is = no_timed part flat n (subst (IsForm part) is (subst (λ x. IsForm x v.form) (same_part d (length d.components) k) ((rules.components k within).statements v i).form))
+    untimed : Untimed (statements_in part)
+    untimed v i n is = no_timed part (flat k within) n (subst (IsForm part) is (subst (λ x. IsForm x v.form) (same_part d (length d.components) k) ((rules.components k within).statements v i).form))
 
     -- CELLS: the design's own come first
     own_kind : (cell : PlainCell) → In part.cells cell → (kind : PlainKind) → cell.kind ≡ kind → kind_for stands (kind_in places kind) ≡ kind

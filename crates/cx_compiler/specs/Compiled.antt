@@ -122,9 +122,9 @@ IsDesignWritten d answer = (design_size d ≤ COMPILE_SIZE) × IsVerilogOf answe
 abbrev pub IsDesignTooLarge : PlainDesign → Stop → Type 0
 IsDesignTooLarge d stop = (stop ≡ stops.Memory) ⊎ ((COMPILE_SIZE < design_size d) × (stop ≡ stops.Rule (too_large d)))
 
--- where the design is within the size, it keeps what every design keeps, and breaks no rule
+-- where the design is within the size, it keeps what every design keeps, has no static component, and breaks no rule
 abbrev pub KeepsRulesWithin : PlainDesign → Type 0
-KeepsRulesWithin d = design_size d ≤ COMPILE_SIZE → IsDesign d × IsAccepted d
+KeepsRulesWithin d = design_size d ≤ COMPILE_SIZE → IsDesign d × IsFlat d × IsAccepted d
 
 -- and its net can be emitted
 abbrev pub EmitsWithin : PlainDesign → Type 0

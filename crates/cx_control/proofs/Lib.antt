@@ -29,4 +29,3 @@ pub mod DesignLaws
 pub mod SamplingLaws
 pub mod IslandLaws
 pub mod ControlCodes
-pub mod CodingsLemmas

@@ -6,7 +6,6 @@ use Rattle.cx_meaning.specs.Answers.{Test, Holds, Fails, Unclear}
 use Rattle.cx_lockstep.specs.Worlds.{Store, Control, At, Done, Machine, step}
 use Rattle.cx_lockstep.specs.Machines.{within, InSeq, First, Second, second_start, seq_machine, InPar, Both, LeftOnly, RightOnly, left_of, right_of, join, par_machine, InIf, AtTest, InThen, InElse, if_machine, by_test, InWhile, AtHead, InBody, while_machine, InRepeat, in_round, next_round, repeat_machine, done_machine}
 use Rattle.cx_control.specs.Codings.{Coding, Bank, beside, shift, zeros, at_fine, unit_coding, no_coding, seq_number, seq_other, seq_place, seq_fine, seq_coding, branch_of, if_number, if_other, if_place, if_fine, if_coding, while_number, while_other, while_place, while_fine, while_coding, turned, repeat_other, IsFineRound, repeat_coding, bank_code, control_at, region_bank, done_bank, left_control, right_control, AreFine, par_bank, place_in, only_place, bank_coding}
-use Rattle.cx_control.proofs.CodingsLemmas.{beside_none}
 
 -- the same on so many first numbers
 abbrev pub SameUpTo : ℕ → (ℕ → ℕ) → (ℕ → ℕ) → Type 0
@@ -19,6 +18,13 @@ beside_right : (count : ℕ) (a b : ℕ → ℕ) (j : ℕ) → shift count (besi
 beside_right count a b j =
     let back : (count + j) - count ≡ j = omega arith in
     ap (λ t. if t then a (count + j) else b ((count + j) - count)) (le-ltb (count + j) count (omega arith)) ∙ ap b back
+
+pub beside_none : (count : ℕ) (a b : ℕ → ℕ) → ((j : ℕ) → a j ≡ 0) → ((j : ℕ) → b j ≡ 0) → (j : ℕ) → beside count a b j ≡ 0
+beside_none count a b first second j = either (nat_lt j count)
+  where
+    either : (t : Bool) → ◌≡◌ {A = ℕ} (if t then a j else b (j - count)) 0
+    either true = first j
+    either false = second (j - count)
 
 left_same : (count more : ℕ) (a b : ℕ → ℕ) → SameUpTo (count + more) a b → SameUpTo count a b
 left_same count more a b same = λ j less. same j (omega arith)

@@ -27,7 +27,7 @@ pub fn path(alloc: Global, design: &Design, number: usize, port: PortRef) -> Res
     Name::from_bytes(alloc, text.as_slice())
 }
 
-#[tactic(auto, using(crate::proofs::CellLemmas::part_within))]
+#[tactic(auto, using(cx_meaning::proofs::DesignsLemmas::same_part))]
 fn path_bytes(
     alloc: Global,
     design: &Design,

@@ -1,7 +1,7 @@
-mod QuietLemmas
-mod EnableLemmas
-mod CycleLemmas
-mod KeepLemmas
+pub mod QuietLemmas
+pub mod EnableLemmas
+pub mod CycleLemmas
+pub mod KeepLemmas
 pub mod RunLemmas
 pub mod AlikeLemmas
 pub mod ControlFrames
@@ -11,12 +11,12 @@ pub mod CircleFrames
 pub mod LeafFrames
 pub mod IslandFrames
 pub mod StatementFrames
-mod BothLemmas
+pub mod BothLemmas
 pub mod ShareLemmas
-mod ArmLemmas
-mod NextLemmas
+pub mod ArmLemmas
+pub mod NextLemmas
 pub mod KnownOutcomes
-mod InputLemmas
-mod InputRuns
-mod InputRules
+pub mod InputLemmas
+pub mod InputRuns
+pub mod InputRules
 pub mod SharedLemmas

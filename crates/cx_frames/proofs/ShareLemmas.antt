@@ -30,7 +30,7 @@ module _ (d : PlainDesign) (accepted : IsAccepted d) (k : ℕ) (within : k < len
   shared_below v i zero e l shared = absurd (omega arith)
   shared_below v i (suc n) e l shared = shared_least v i e (λ f m s. shared_below v i n f (omega arith) s) shared
 
-  unshared : (v : Visited) → In (statements_in (component_at d k)) v → (c : ℕ) → IsShared (component_at d k) (arms_of v.form) c → ⊥
+  pub unshared : (v : Visited) → In (statements_in (component_at d k)) v → (c : ℕ) → IsShared (component_at d k) (arms_of v.form) c → ⊥
   unshared v i c shared = shared_below v i (suc c) c (omega arith) (subst (λ x. IsShared x (arms_of v.form) c) (sym (same_part d (length d.components) k)) shared)
 
 -- a component that is not there has no arms

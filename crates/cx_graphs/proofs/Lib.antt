@@ -9,7 +9,7 @@ pub mod Ends
 pub mod EdgeLemmas
 mod Takes
 mod SearchLemmas
-mod Members
+pub mod Members
 mod OwnerLemmas
 mod TallyAdditions
 mod Beginnings

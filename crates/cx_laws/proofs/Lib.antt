@@ -1,19 +1,19 @@
-mod StartLemmas
-mod ReadsLemmas
-mod PositionLemmas
-mod IslandLemmas
-mod EdgeLemmas
-mod TogetherLemmas
-mod VisitLemmas
-mod SourceLemmas
-mod RaceLemmas
-mod ApartLemmas
-mod LengthLemmas
-mod ExampleLemmas
-mod SampleLemmas
-mod SampledLemmas
-mod RowWidths
-mod SightWidths
-mod TreeLemmas
-mod SeenLemmas
+pub mod StartLemmas
+pub mod ReadsLemmas
+pub mod PositionLemmas
+pub mod IslandLemmas
+pub mod EdgeLemmas
+pub mod TogetherLemmas
+pub mod VisitLemmas
+pub mod SourceLemmas
+pub mod RaceLemmas
+pub mod ApartLemmas
+pub mod LengthLemmas
+pub mod ExampleLemmas
+pub mod SampleLemmas
+pub mod SampledLemmas
+pub mod RowWidths
+pub mod SightWidths
+pub mod TreeLemmas
+pub mod SeenLemmas
 pub mod SamplesLemmas

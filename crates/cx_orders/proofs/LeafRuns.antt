@@ -1,5 +1,5 @@
 -- Runs of leaves that end: they are the runs of the meaning, where everything else is settled.
-use Rattle.std.proofs.Common.{◌≡◌, ℕ, zero, suc, ◌≤◌, ◌<◌, Bool, true, false, ◌&&◌, nat_eq, if◌then◌else◌, List, [], ◌∷◌, ◌++◌, length, Option, Some, None, refl, sym, ap, ◌∙◌, subst, arith}
+use Rattle.std.proofs.Common.{◌≡◌, ℕ, zero, suc, ◌≤◌, ◌<◌, Bool, true, false, ◌&&◌, nat_eq, if◌then◌else◌, List, [], ◌∷◌, ◌++◌, length, Option, Some, None, refl, sym, ap, ◌∙◌, subst, arith, ◌+◌}
 use Rattle.std.proofs.Math.Path.{fun_ext}
 use Rattle.cx_meaning.specs.declared.ports.PortRef.{PortRef}
 use Rattle.cx_meaning.specs.declared.ports.PortRef.TheVariants as ports
@@ -11,7 +11,7 @@ use Rattle.cx_meaning.specs.Truths.{truth_of}
 use Rattle.cx_meaning.specs.Sights.{Held, In, seen}
 use Rattle.cx_meaning.specs.Cycles.{Fault, Ended, cycle, cycle_of, every_cell}
 use Rattle.cx_meaning.specs.Cycles as cycles
-use Rattle.cx_meaning.specs.Answers.{Answer, End, More, Meaning, Turn, turn_then, turns_of, idle_turn, one_turn}
+use Rattle.cx_meaning.specs.Answers.{Answer, End, More, Meaning, Turn, after_turns, turn_then, turns_of, idle_turn, one_turn}
 use Rattle.cx_meaning.specs.Answers as answers
 use Rattle.cx_meaning.specs.Control.{group_drives, drives}
 use Rattle.cx_meaning.specs.Islands.{History, form_flat, active_in, looked_at, first_unclear, and_now, is_one, island_turn, island_from, turn_of, unless_unclear}
@@ -29,7 +29,6 @@ use Rattle.cx_orders.specs.Leaves.{form_drives, rested, own_turn, own_island, is
 use Rattle.cx_orders.specs.Steps.{turned, behind_child}
 use Rattle.cx_orders.proofs.OwnTurns.{OnlyIn, TurnsIn, turn_only, capture_only, island_only}
 use Rattle.cx_orders.proofs.Orders.{Goes, EndsIn}
-use Rattle.cx_orders.proofs.SharedLemmas.{later_one}
 
 -- what the laws say of an instance of an accepted design
 pub record IsLawful (i : Instance) : Type 0 where
@@ -49,6 +48,9 @@ pub record IsLawful (i : Instance) : Type 0 where
 -- a run that ends in a state after at most so many turns
 abbrev pub Answered : Answer State Fault → State → ℕ → Type 0
 Answered x final m = (t : ℕ) × (x ≡ End final t) × (t ≤ m)
+
+pub later_one : (x : Answer State Fault) (final : State) (m : ℕ) → Answered x final m → Answered (after_turns 1 x) final (suc m)
+later_one x final m (t, e, less) = (1 + t, ap (after_turns 1) e, omega arith)
 
 -- beside driven cells all is settled
 abbrev pub Busy : Instance → Set → State → Type 0

@@ -14,4 +14,7 @@ pub mod Halting
 pub mod HaltRuns
 pub mod AloneRuns
 pub mod KnownWoven
-pub mod SharedLemmas
+pub mod Joining
+pub mod LeafEnds
+pub mod StatementEnds
+pub mod Apart

@@ -36,9 +36,8 @@ use Rattle.cx_orders.proofs.Inside.{IsSound, Stands, inner_stands, itself, Insid
 use Rattle.cx_orders.proofs.Fits.{Fits, ArmsFit, AllSound, sound_below, below_fits, par_arms_fit}
 use Rattle.cx_orders.proofs.Orders.{Goes, EndsIn, leaves_some}
 use Rattle.cx_orders.proofs.Ending.{seq_splits, loop_splits, repeat_splits, waiting_stays, par_splits, call_splits, call_begins, put_same, ends_only}
-use Rattle.cx_orders.proofs.LeafRuns.{IsLawful, Answered, busy_settled, rested_idle, group_runs, behind_runs, island_runs, idling_runs}
+use Rattle.cx_orders.proofs.LeafRuns.{IsLawful, Answered, later_one, busy_settled, rested_idle, group_runs, behind_runs, island_runs, idling_runs}
 use Rattle.cx_meaning.proofs.PortsLemmas.{same_self}
-use Rattle.cx_orders.proofs.SharedLemmas.{later_one}
 use Rattle.cx_meaning.proofs.SightsLaws.{in_left, in_right, behind_comb}
 use Rattle.cx_rules.proofs.ItemsLemmas.{tests_flat}
 use Rattle.cx_meaning.proofs.InstancesLemmas.{here as here_again, just_true}

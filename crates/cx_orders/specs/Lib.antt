@@ -3,3 +3,4 @@ pub mod Leaves
 pub mod Steps
 pub mod Woven
 pub mod Alone
+pub mod Enough

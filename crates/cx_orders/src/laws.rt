@@ -9,10 +9,11 @@ ghost use Rattle.cx_meaning.specs.Running.{run_main};
 ghost use Rattle.cx_rules.specs.Accepted.{IsAccepted};
 ghost use Rattle.cx_rules.specs.Wellformed.{IsDesign};
 ghost use Rattle.cx_orders.specs.Alone.{LeafHasAlone};
+ghost use Rattle.cx_orders.specs.Enough.{AllEnd};
 ghost use Rattle.cx_orders.specs.Woven.{Choices, Ends, Faults, More, woven};
 
 use cx_frames::apart_laws::listed_cells_suffice;
-use cx_frames::arm_laws::{next_arm, own_inputs_suffice, whole_par};
+use cx_frames::arm_laws::{next_arm, own_inputs_suffice, runs_agree, whole_par};
 use cx_laws::laws::{accepted_entries_are_acyclic, loaded_start_is_settled};
 use cx_meaning::laws::designs_keep_idle;
 
@@ -63,6 +64,23 @@ pub fn run_faults_too()
     own_inputs_suffice();
     next_arm();
     whole_par();
+    designs_keep_idle();
+    loaded_start_is_settled();
+}
+
+/// In an accepted design, where the run of main ends, every order of the leaves ends in the same state, after a number of
+/// choices that is one for all orders.
+pub fn orders_end()
+    ensures { (d : PlainDesign) (words : List (List ℕ)) (n : ℕ) (after : State) (turns : ℕ)
+        → IsDesign d → IsAccepted d → run_main d words n ≡ answers.End after turns
+        → AllEnd d words after }
+{
+    accepted_entries_are_acyclic();
+    listed_cells_suffice();
+    own_inputs_suffice();
+    next_arm();
+    whole_par();
+    runs_agree();
     designs_keep_idle();
     loaded_start_is_settled();
 }

@@ -46,7 +46,7 @@ module _ (move : PortRef → PortRef) where
       ∙ ap (λ z. map (moved_owned move) (owned (Some g) x.assigns) ++ z) (owned_by_groups-moved (suc g) xs)
       ∙ sym (map-append (moved_owned move) (owned (Some g) x.assigns) (owned_by_groups (suc g) xs))
 
-  assigns_of-moved : (part other : PlainComponent) → other.always ≡ map (moved_assign move) part.always → other.groups ≡ map (moved_group move) part.groups
+  pub assigns_of-moved : (part other : PlainComponent) → other.always ≡ map (moved_assign move) part.always → other.groups ≡ map (moved_group move) part.groups
       → assigns_of other ≡ map (moved_owned move) (assigns_of part)
   assigns_of-moved part other always groups =
       ap (λ z. owned None z ++ owned_by_groups 0 other.groups) always

@@ -17,12 +17,17 @@ fn reads_the_system(rt: HostRuntime) -> Result<(), Fail> {
     assert_eq!(rt; read, Ok(written));
     let long = files.read_file(alloc, b"seventy_thousand", 69_999);
     assert_eq!(rt; long.err(), Some(FileAnswer::TooLong(70_000)));
-    for name in [b"absent".as_slice(), b"\xff", b"", b"."] {
-        let failed = files.read_file(alloc, name, usize::MAX);
-        assert_eq!(rt; failed.err(), Some(FileAnswer::Failed), "{name:?}");
-    }
     fs::remove_file(&rt, "seventy_thousand")?;
     Ok(())
+}
+
+#[test]
+fn fails_on_no_file(rt: HostRuntime) {
+    let mut files = RealFiles::new(&rt);
+    for name in [b"absent".as_slice(), b"\xff", b"", b"."] {
+        let failed = files.read_file(rt.alloc(), name, usize::MAX);
+        assert_eq!(rt; failed.err(), Some(FileAnswer::Failed), "{name:?}");
+    }
 }
 
 /// A device that takes nothing, or fails.

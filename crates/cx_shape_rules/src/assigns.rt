@@ -58,7 +58,7 @@ fn is_always_enable(design: &Design, number: usize, owned: OwnedAssign<'_>) -> b
 }
 
 /// Whether an assignment of a comb group drives an enabling port, a port of a component's cell or a done.
-#[tactic(auto, using(crate::proofs::PartLemmas::part_within))]
+#[tactic(auto, using(cx_meaning::proofs::DesignsLemmas::same_part))]
 fn is_comb_enable(design: &Design, number: usize, owned: OwnedAssign<'_>) -> bool
     requires within { number < length design.now.components.items }
     ensures value { result ≡ breaks.is_comb_enable (component_of (plain_design design.now) number) (plain_owned owned.entry) }
@@ -71,7 +71,7 @@ fn is_comb_enable(design: &Design, number: usize, owned: OwnedAssign<'_>) -> boo
 }
 
 /// Whether a guard has a range of offsets that is empty, or goes past the static group around it.
-#[tactic(auto, using(crate::proofs::PartLemmas::part_within))]
+#[tactic(auto, using(cx_meaning::proofs::DesignsLemmas::same_part))]
 fn is_bad_guard(
     alloc: Global,
     design: &Design,

@@ -67,7 +67,7 @@ fn is_comparison(op: Operator) -> bool
 }
 
 /// The width of a literal, which is 1 to 128.
-#[tactic(auto, using(crate::proofs::Literals::good_width))]
+#[tactic(auto, using(cx_vtree::proofs::SoundLemmas::not_wide))]
 fn literal_width(bits: Bits) -> Option<u8>
     ensures { result ≡ (if sound.bad_width bits.width then None else Some bits.width) }
 {

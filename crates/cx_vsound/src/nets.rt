@@ -56,7 +56,7 @@ fn add_net<'a>(driven: &mut Names<'a>, doubled: bool, net: &'a Name) -> Result<b
 }
 
 /// Adds the nets that connections drive, by the outputs of the instance's module. Tells whether one of them was driven before.
-#[tactic(auto, using(crate::proofs::Tests::or_assoc))]
+#[tactic(auto, using(cx_text::proofs::BoolLaws::or_assoc))]
 pub fn add_driven<'a>(
     driven: &mut Names<'a>,
     ports: &[ModulePort],

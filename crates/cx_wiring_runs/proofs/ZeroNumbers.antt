@@ -18,7 +18,7 @@ use Rattle.cx_wiring.specs.Counts.{registers_of}
 use Rattle.cx_wiring_cycles.specs.Shown.{counted, enable_number, form_number, number_of, parts_number, arms_number}
 use Rattle.cx_wiring_runs.specs.BlockNumbers.{component_numbers}
 use Rattle.cx_wiring_runs.specs.Blocks.{numbers_at, numbers_below}
-use Rattle.cx_control.proofs.CodingsLemmas.{beside_none}
+use Rattle.cx_control.specs.CodingLaws.{beside_none}
 
 counted_none : (first : ℕ) (f : ℕ → ℕ) → first ≡ 0 → ((n : ℕ) → f n ≡ 0) → (n : ℕ) → counted first f n ≡ 0
 counted_none first f e h zero = e

@@ -5,9 +5,8 @@ use Rattle.cx_prim.specs.declared.ports.PortRow.{PortRow}
 use Rattle.cx_meaning.specs.declared.ports.PortRef.TheVariants as ports
 use Rattle.cx_net.specs.Nets.{PlainNetExpr, OfPort, OfRegister, OfWire, OfHole, OfGo, Fixed, Inverse, AllOf, AnyOf, Sum, Compares, PlainNetExprs, no_exprs, an_expr, PlainNetTarget, PlainNetDriver, PlainNetComponent}
 use Rattle.cx_net.specs.NetTree.{NetCells}
-use Rattle.cx_net.specs.NetMeaning.{Node, APort, AWire, AHole, NetAround, is_true, net_expr, all_expr, any_expr, chain, same_target, drivers_to, gather_known, is_own_node}
+use Rattle.cx_net.specs.NetMeaning.{both_known, Node, APort, AWire, AHole, NetAround, is_true, net_expr, all_expr, any_expr, chain, same_target, drivers_to, gather_known, is_own_node}
 use Rattle.cx_wiring.specs.NetNames.{ExprNames, ExprsName, DriversName}
-use Rattle.cx_wiring_values.proofs.SharedLemmas.{grows_both}
 
 -- a value that is known on the one side is known on the other
 abbrev pub Less : {A : Type 0} → Option A → Option A → Type 0
@@ -28,7 +27,10 @@ module _ {A B : Type 0} where
   grows_then f g None b l h x e = none_is_some x e
   grows_then f g (Some a) b l h x e = subst (λ o. option_and_then g o ≡ Some x) (sym (l a refl)) (h a x e)
 
-grows_if : {A : Type 0} (t : Bool) (a b c d : Option A) → Less a c → Less b d → Less (if t then a else b) (if t then c else d)
+pub grows_both : (f : BitVector → BitVector → BitVector) (a b c d : Option BitVector) → Less a c → Less b d → Less (both_known f a b) (both_known f c d)
+grows_both f a b c d l m = grows_then (λ x. option_map (f x) b) (λ x. option_map (f x) d) a c l (λ x. grows_map (f x) b d m)
+
+pub grows_if : {A : Type 0} (t : Bool) (a b c d : Option A) → Less a c → Less b d → Less (if t then a else b) (if t then c else d)
 grows_if true a b c d l m = l
 grows_if false a b c d l m = m
 

@@ -29,4 +29,3 @@ pub mod IslandGoes
 pub mod IslesOwe
 pub mod PointPorts
 pub mod NodeIslands
-pub mod SharedLemmas

@@ -11,8 +11,7 @@ use Rattle.cx_meaning.specs.Sights.{PartPort, Go, AnInput, AnOutput, ItsDone}
 use Rattle.cx_net.specs.Nets.{PlainNetExpr, OfPort, OfRegister, OfWire, OfHole, OfGo, Fixed, Inverse, AllOf, AnyOf, Sum, Compares, PlainNetExprs, no_exprs, an_expr, PlainNetTarget, ToWire, ToHole, ToDone, PlainNetDriver, PlainNetComponent}
 use Rattle.cx_net.specs.NetTree.{NetInstance, NetNode, NetCells, no_net_cells, a_row, a_child, NetAt, NoCell, ARow, AChild, net_part, net_cell_at}
 use Rattle.cx_net.specs.NetMeaning.{NetState, below_cell, Node, APort, AWire, AHole, TheDone, NetLook, NetAround, around_child, net_part_port, is_true, net_expr, all_expr, any_expr, chain, drivers_to, registers_of, driven_node, row_node, child_node, cell_node, own_step, net_step, child_step}
-use Rattle.cx_wiring_values.proofs.GrowLemmas.{Less, less_self, grows_map, grows_then, gather_grows}
-use Rattle.cx_wiring_values.proofs.SharedLemmas.{grows_both, grows_if}
+use Rattle.cx_wiring_values.proofs.GrowLemmas.{Less, less_self, grows_map, grows_then, gather_grows, grows_both, grows_if}
 
 -- what is known around an instance
 pub record AroundRises (a b : NetAround) : Type 0 where

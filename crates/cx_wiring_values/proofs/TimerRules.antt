@@ -28,6 +28,7 @@ use Rattle.cx_frames.proofs.StatementFrames.{visited}
 use Rattle.cx_static.specs.Lowering.{lowered_component}
 use Rattle.cx_wiring.specs.Assignments.{is_driven, driven_assigns}
 use Rattle.cx_wiring.proofs.DesignNames.{in_filter}
+use Rattle.cx_wiring.proofs.ComponentCounts as counts
 use Rattle.cx_wiring.proofs.ListedLaws.{FormRepeats, StatementRepeats, AllRepeats}
 use Rattle.cx_wiring.proofs.IslandCells.{StatementMakes, FormMakes, PartsMake, RunsWell, timers_fit}
 use Rattle.cx_wiring.proofs.TimerRows.{TimersFit, IsOwnTarget}
@@ -43,10 +44,10 @@ pub record TimerRules (part : PlainComponent) (cells : Cells) : Type 0 where
   -- each static if takes some cycles
   pub ifs : (v : Visited) → In (statements_in part) v → FormIfs (λ n. 0 < n) part v.form
 
--- WHAT HOLDS of a visited statement: it may stand where it stands, takes some cycles where it is static, and as an island no more than
--- 32 bits number
+-- WHAT HOLDS of a visited statement: it is not lowered, may stand where it stands, takes some cycles where it is static, and as an island no
+-- more than 32 bits number
 pub record VisitWell (part : PlainComponent) (v : Visited) : Type 0 where
-  pub form : IsForm part v.form
+  pub untimed : (n : ℕ) → v.form ≡ Timed n → ⊥
   pub stands : is_in_static v.context ≡ true → may_stand part v.context v.form ≡ true
   pub lasts : is_static v.form ≡ true → form_has_length part v.context v.form ≡ true → 0 < form_length part v.form
   pub limited : is_island part v ≡ true → form_length part v.form < 2 ^ 32
@@ -64,22 +65,22 @@ module _ (part : PlainComponent) where
 
   -- none is Timed
   mutual
-    no_timed : (context : Context) (form : PlainForm) → IsForm part form → AllWell (visit_parts context form) → NoTimed form
-    no_timed context Empty is w = tt
-    no_timed context (Enable g) is w = tt
-    no_timed context (Seq parts) is w = none_timed _ parts w
-    no_timed context (Par arms) is w = none_timed _ arms w
-    no_timed context (If test comb a b) is w = (untimed _ a (first_well (visit _ a) (visit _ b) w), untimed _ b (rest_well (visit _ a) (visit _ b) w))
-    no_timed context (While test comb a) is w = untimed _ a w
-    no_timed context (Repeat count a) is w = untimed _ a w
-    no_timed context (StaticSeq written parts) is w = tt
-    no_timed context (StaticPar written arms) is w = tt
-    no_timed context (StaticIf written test a b) is w = tt
-    no_timed context (StaticRepeat written count a) is w = tt
-    no_timed context (Timed k) is w = is
+    no_timed : (context : Context) (form : PlainForm) → ((n : ℕ) → form ≡ Timed n → ⊥) → AllWell (visit_parts context form) → NoTimed form
+    no_timed context Empty not_lowered w = tt
+    no_timed context (Enable g) not_lowered w = tt
+    no_timed context (Seq parts) not_lowered w = none_timed _ parts w
+    no_timed context (Par arms) not_lowered w = none_timed _ arms w
+    no_timed context (If test comb a b) not_lowered w = (untimed _ a (first_well (visit _ a) (visit _ b) w), untimed _ b (rest_well (visit _ a) (visit _ b) w))
+    no_timed context (While test comb a) not_lowered w = untimed _ a w
+    no_timed context (Repeat count a) not_lowered w = untimed _ a w
+    no_timed context (StaticSeq written parts) not_lowered w = tt
+    no_timed context (StaticPar written arms) not_lowered w = tt
+    no_timed context (StaticIf written test a b) not_lowered w = tt
+    no_timed context (StaticRepeat written count a) not_lowered w = tt
+    no_timed context (Timed k) not_lowered w = not_lowered k refl
 
     untimed : (context : Context) (s : PlainStatement) → AllWell (visit context s) → IsUntimed s
-    untimed context (Placed form place) w = no_timed context form ((w (record { context = context; form = form; place = place }) (inl refl)).form) (λ v i. w v (inr i))
+    untimed context (Placed form place) w = no_timed context form ((w (record { context = context; form = form; place = place }) (inl refl)).untimed) (λ v i. w v (inr i))
 
     none_timed : (context : Context) (ss : PlainStatements) → AllWell (visit_all context ss) → NoneTimed ss
     none_timed context no_statements w = tt
@@ -285,7 +286,7 @@ module _ (d : PlainDesign) (design : IsDesign d) (flat : IsFlat d) (accepted : I
 
   visit_well : (v : Visited) → In (statements_in (component_at d k)) v → VisitWell (component_at d k) v
   visit_well v i = record {
-    form = subst (λ part. IsForm part v.form) (same_part d (length d.components) k) ((design.components k within).statements v i).form;
+    untimed = λ n is. counts.no_timed (component_at d k) (flat k within) n (subst (IsForm (component_at d k)) is (subst (λ part. IsForm part v.form) (same_part d (length d.components) k) ((design.components k within).statements v i).form));
     stands = λ static. subst (λ x. may_stand x v.context v.form ≡ true) (same_part d (length d.components) k) (may v i static);
     lasts = subst (λ x. is_static v.form ≡ true → form_has_length x v.context v.form ≡ true → 0 < form_length x v.form) (same_part d (length d.components) k) (last v i);
     limited = subst (λ x. is_island x v ≡ true → form_length x v.form < 2 ^ 32) (same_part d (length d.components) k) (few v i);

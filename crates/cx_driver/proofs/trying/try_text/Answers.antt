@@ -13,7 +13,7 @@ compile_design-requires c = record { net = c.requires.net; short = c.requires.sh
 pub line_of-requires : goal.line_of-requires
 line_of-requires c =
     let rules = c.requires.rules c.in-Ok.ensures.answer.0 in
-    let realised = c.in-Ok.ensures.meaning rules.0 rules.1 in
+    let realised = c.in-Ok.ensures.meaning rules.0 rules.1 rules.2 in
     let Leaves : List ℕ → Type 0 = λ text. TextLeaves text zeros BUDGET (plain_left c.in-Ok-simulate.left) in
     record {
       small = left_small c.args.seed (plain_design c.args.design.now) c.requires.ends.0 c.requires.ends.1 realised c.in-Ok.verilog.items c.in-Ok.ensures.answer
@@ -23,7 +23,7 @@ line_of-requires c =
 pub returns-in-Ok-simulate : goal.returns-in-Ok-simulate
 returns-in-Ok-simulate c =
     let rules = c.requires.rules c.in-Ok.ensures.answer.0 in
-    let realised = c.in-Ok.ensures.meaning rules.0 rules.1 in
+    let realised = c.in-Ok.ensures.meaning rules.0 rules.1 rules.2 in
     let Leaves : List ℕ → Type 0 = λ text. TextLeaves text zeros BUDGET (plain_left c.in-Ok-simulate.left) in
     record {
       answer = simulated_line c.args.seed (plain_design c.args.design.now) c.requires.ends.0 c.requires.ends.1 realised c.in-Ok.verilog.items c.in-Ok.ensures.answer
@@ -34,7 +34,7 @@ returns-in-Ok-simulate c =
 pub returns-in-Ok : goal.returns-in-Ok
 returns-in-Ok c =
     let rules = c.requires.rules c.in-Ok.ensures.answer.0 in
-    let realised = c.in-Ok.ensures.meaning rules.0 rules.1 in
+    let realised = c.in-Ok.ensures.meaning rules.0 rules.1 rules.2 in
     let Stops : List ℕ → Type 0 = λ text. IsSimStop text zeros BUDGET c.in-Err-simulate.stop in
     record {
       answer = tt;
