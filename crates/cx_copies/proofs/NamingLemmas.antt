@@ -1,14 +1,11 @@
 -- Parts of a tree under names that stay.
-use Rattle.std.proofs.Common.{◌≡◌, ◌∙◌, refl, sym, ap, ℕ, List, [], ◌∷◌, Option, Some, None, map, option_map}
+use Rattle.std.proofs.Common.{◌≡◌, ◌∙◌, refl, ap, ℕ, List, [], ◌∷◌, Option, Some, None, map, option_map}
 use Rattle.cx_ast.specs.declared.operands.OperandItem.{OperandItem}
 use Rattle.cx_ast.specs.declared.operands.OperandForm.{OperandForm}
 use Rattle.cx_ast.specs.declared.operands.OperandForm.TheVariants as operands
 use Rattle.cx_ast.specs.declared.statements.BindItem.{BindItem}
-use Rattle.cx_ast.specs.declared.statements.Block.{Block}
-use Rattle.cx_ast.specs.declared.statements.StatementForm as forms
-use Rattle.cx_ast.proofs.PlainStatementsLemmas.{if_form, static_if_form}
 use Rattle.cx_ast.specs.PlainGuards.{PlainGuard, guards_of, Or, And, Compare, Not, Operand, At, During, PlainGuards, NoGuards, GuardThen}
-use Rattle.cx_ast.specs.PlainStatements.{PlainForm, statements_of, else_of, plain_block, plain_form, Enable, Seq, Par, StaticSeq, StaticPar, If, StaticIf, While, Repeat, StaticRepeat, Invoke, StaticInvoke, PlainElse, NoElse, Else, PlainStatement, Placed, PlainStatements, NoStatements, StatementThen, PlainBlock, Braces}
+use Rattle.cx_ast.specs.PlainStatements.{PlainForm, statements_of, Enable, Seq, Par, StaticSeq, StaticPar, If, StaticIf, While, Repeat, StaticRepeat, Invoke, StaticInvoke, PlainElse, NoElse, Else, PlainStatement, Placed, PlainStatements, NoStatements, StatementThen, PlainBlock, Braces}
 use Rattle.cx_ast.specs.PlainTree.{PlainAssign, PlainGroup, PlainWire, Group, Assign}
 use Rattle.cx_copies.specs.Naming.{named_operand_form, named_operand, named_guard, named_guards, named_assign, named_group, named_wire, named_bind, named_form, named_else, named_statement, named_statements, named_block}
 
@@ -111,27 +108,3 @@ guards_named name (g ∷ gs) = ap (GuardThen (named_guard name g)) (guards_named
 pub statements_named : (name : List ℕ → List ℕ) (ss : List PlainStatement) → named_statements name (statements_of ss) ≡ statements_of (map (named_statement name) ss)
 statements_named name [] = refl
 statements_named name (s ∷ ss) = ap (StatementThen (named_statement name s)) (statements_named name ss)
-
--- a condition with its blocks
-pub if_named : (name : List ℕ → List ℕ) (test other_test : OperandItem) (comb other_comb : Option (List ℕ)) (yes other_yes : Block) (no other_no : Option Block)
-    → other_test ≡ named_operand name test → other_comb ≡ comb → plain_block other_yes ≡ named_block name (plain_block yes)
-    → else_of (option_map plain_block other_no) ≡ named_else name (else_of (option_map plain_block no))
-    → plain_form (forms.If other_test other_comb other_yes other_no) ≡ named_form name (plain_form (forms.If test comb yes no))
-if_named name test other_test comb other_comb yes other_yes no other_no t c y n =
-    if_form other_test other_comb other_yes other_no
-    ∙ ap (λ o. If o other_comb (plain_block other_yes) (else_of (option_map plain_block other_no))) t
-    ∙ ap (λ o. If (named_operand name test) o (plain_block other_yes) (else_of (option_map plain_block other_no))) c
-    ∙ ap (λ b. If (named_operand name test) comb b (else_of (option_map plain_block other_no))) y
-    ∙ ap (If (named_operand name test) comb (named_block name (plain_block yes))) n
-    ∙ sym (ap (named_form name) (if_form test comb yes no))
-
-pub static_if_named : (name : List ℕ → List ℕ) (length : Option ℕ) (test other_test : OperandItem) (yes other_yes : Block) (no other_no : Option Block)
-    → other_test ≡ named_operand name test → plain_block other_yes ≡ named_block name (plain_block yes)
-    → else_of (option_map plain_block other_no) ≡ named_else name (else_of (option_map plain_block no))
-    → plain_form (forms.StaticIf length other_test other_yes other_no) ≡ named_form name (plain_form (forms.StaticIf length test yes no))
-static_if_named name length test other_test yes other_yes no other_no t y n =
-    static_if_form length other_test other_yes other_no
-    ∙ ap (λ o. StaticIf length o (plain_block other_yes) (else_of (option_map plain_block other_no))) t
-    ∙ ap (λ b. StaticIf length (named_operand name test) b (else_of (option_map plain_block other_no))) y
-    ∙ ap (StaticIf length (named_operand name test) (named_block name (plain_block yes))) n
-    ∙ sym (ap (named_form name) (static_if_form length test yes no))

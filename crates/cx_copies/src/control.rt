@@ -1,6 +1,6 @@
 //! Control, with other names of cells.
 
-ghost use Rattle.std.specs.Prelude.{◌≡◌, IfOk, map, option_map};
+ghost use Rattle.std.specs.Prelude.{◌≡◌, IfOk, option_map};
 ghost use Rattle.cx_ast.specs.PlainStatements as plain;
 ghost use Rattle.cx_ast.specs.PlainStatements.{plain_block, plain_form, plain_statement, plain_statements};
 ghost use Rattle.cx_copies.specs.Naming as naming;
@@ -13,7 +13,6 @@ use cx_text::{Memory, Name};
 use std::alloc::Global;
 
 /// A block, with other names of cells.
-#[tactic(auto, using(crate::proofs::NamingLemmas::statements_named))]
 #[cycle(control)]
 pub fn named_block<N: CellNames>(alloc: Global, names: &N, block: &Block) -> Result<Block, Memory>
     ensures value { IfOk result (λ named. plain_block named ≡ naming.named_block (N.renaming names.now) (plain_block block.now)) }
@@ -31,7 +30,7 @@ fn named_statements<N: CellNames>(
     names: &N,
     statements: &[StatementItem],
 ) -> Result<Vec<StatementItem>, Memory>
-    ensures value { IfOk result (λ named. plain_statements named.items ≡ map (naming.named_statement (N.renaming names.now)) (plain_statements statements.now)) }
+    ensures value { IfOk result (λ named. plain.statements_of (plain_statements named.items) ≡ naming.named_statements (N.renaming names.now) (plain.statements_of (plain_statements statements.now))) }
 {
     let mut named = Vec::with_capacity(alloc, statements.len())?;
     for statement in statements {
@@ -92,31 +91,67 @@ pub(crate) fn named_form<N: CellNames>(
             let block = named_block(alloc, names, block)?;
             Ok(StatementForm::Par { marks, block })
         }
-        StatementForm::StaticSeq { length, marks, block } => {
+        StatementForm::StaticSeq {
+            length,
+            marks,
+            block,
+        } => {
             let length = *length;
             let marks = copied_marks(alloc, marks)?;
             let block = named_block(alloc, names, block)?;
-            Ok(StatementForm::StaticSeq { length, marks, block })
+            Ok(StatementForm::StaticSeq {
+                length,
+                marks,
+                block,
+            })
         }
-        StatementForm::StaticPar { length, marks, block } => {
+        StatementForm::StaticPar {
+            length,
+            marks,
+            block,
+        } => {
             let length = *length;
             let marks = copied_marks(alloc, marks)?;
             let block = named_block(alloc, names, block)?;
-            Ok(StatementForm::StaticPar { length, marks, block })
+            Ok(StatementForm::StaticPar {
+                length,
+                marks,
+                block,
+            })
         }
-        StatementForm::If { test, comb, yes, no } => {
+        StatementForm::If {
+            test,
+            comb,
+            yes,
+            no,
+        } => {
             let test = named_operand(alloc, names, test)?;
             let comb = copied_option(alloc, comb)?;
             let yes = named_block(alloc, names, yes)?;
             let no = named_else(alloc, names, no)?;
-            Ok(StatementForm::If { test, comb, yes, no })
+            Ok(StatementForm::If {
+                test,
+                comb,
+                yes,
+                no,
+            })
         }
-        StatementForm::StaticIf { length, test, yes, no } => {
+        StatementForm::StaticIf {
+            length,
+            test,
+            yes,
+            no,
+        } => {
             let length = *length;
             let test = named_operand(alloc, names, test)?;
             let yes = named_block(alloc, names, yes)?;
             let no = named_else(alloc, names, no)?;
-            Ok(StatementForm::StaticIf { length, test, yes, no })
+            Ok(StatementForm::StaticIf {
+                length,
+                test,
+                yes,
+                no,
+            })
         }
         StatementForm::While { test, comb, body } => {
             let test = named_operand(alloc, names, test)?;
@@ -129,24 +164,50 @@ pub(crate) fn named_form<N: CellNames>(
             let body = named_block(alloc, names, body)?;
             Ok(StatementForm::Repeat { count, body })
         }
-        StatementForm::StaticRepeat { length, count, body } => {
+        StatementForm::StaticRepeat {
+            length,
+            count,
+            body,
+        } => {
             let length = *length;
             let count = *count;
             let body = named_block(alloc, names, body)?;
-            Ok(StatementForm::StaticRepeat { length, count, body })
+            Ok(StatementForm::StaticRepeat {
+                length,
+                count,
+                body,
+            })
         }
-        StatementForm::Invoke { cell, inputs, outputs } => {
+        StatementForm::Invoke {
+            cell,
+            inputs,
+            outputs,
+        } => {
             let cell = names.name(alloc, cell)?;
             let inputs = named_binds(alloc, names, inputs)?;
             let outputs = named_binds(alloc, names, outputs)?;
-            Ok(StatementForm::Invoke { cell, inputs, outputs })
+            Ok(StatementForm::Invoke {
+                cell,
+                inputs,
+                outputs,
+            })
         }
-        StatementForm::StaticInvoke { length, cell, inputs, outputs } => {
+        StatementForm::StaticInvoke {
+            length,
+            cell,
+            inputs,
+            outputs,
+        } => {
             let length = *length;
             let cell = names.name(alloc, cell)?;
             let inputs = named_binds(alloc, names, inputs)?;
             let outputs = named_binds(alloc, names, outputs)?;
-            Ok(StatementForm::StaticInvoke { length, cell, inputs, outputs })
+            Ok(StatementForm::StaticInvoke {
+                length,
+                cell,
+                inputs,
+                outputs,
+            })
         }
     }
 }

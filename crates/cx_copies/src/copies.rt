@@ -6,42 +6,43 @@ ghost use Rattle.cx_ast.specs.PlainTree.{plain_assign, plain_component, plain_gr
 
 use crate::control::{named_block, named_form, named_statement};
 use crate::names::SameNames;
-use crate::parts::{copied_attributes, copied_cells, copied_imports, copied_marks, copied_name, copied_ports};
+use crate::parts::{
+    copied_attributes, copied_cells, copied_imports, copied_marks, copied_name, copied_ports,
+};
 use crate::wires::{named_assign, named_group, named_wires};
-use cx_ast::{AssignItem, Block, ComponentItem, GroupItem, StatementForm, StatementItem, Tree, WireItem};
+use cx_ast::{
+    AssignItem, Block, ComponentItem, GroupItem, StatementForm, StatementItem, Tree, WireItem,
+};
 use cx_text::Memory;
 use std::alloc::Global;
 
 /// The same groups and assignments again.
-#[tactic(auto, using(crate::proofs::NamingLemmas::same_wires))]
 pub fn copied_wires(alloc: Global, wires: &[WireItem]) -> Result<Vec<WireItem>, Memory>
     ensures value { IfOk result (λ copies. map plain_wire copies.items ≡ map plain_wire wires.now) }
 {
-    named_wires(alloc, &SameNames, wires)
+    let copies = named_wires(alloc, &SameNames, wires)?;
+    Ok(copies)
 }
 
 /// The same group again.
-#[tactic(auto, using(crate::proofs::NamingLemmas::same_group))]
 pub fn copied_group(alloc: Global, group: &GroupItem) -> Result<GroupItem, Memory>
     ensures value { IfOk result (λ copy. plain_group copy ≡ plain_group group.now) }
 {
-    named_group(alloc, &SameNames, group)
+    let copy = named_group(alloc, &SameNames, group)?;
+    Ok(copy)
 }
 
 /// The same assignment again.
-#[tactic(auto, using(crate::proofs::NamingLemmas::same_assign))]
 pub fn copied_assign(alloc: Global, assign: &AssignItem) -> Result<AssignItem, Memory>
     ensures value { IfOk result (λ copy. plain_assign copy ≡ plain_assign assign.now) }
 {
-    named_assign(alloc, &SameNames, assign)
+    let copy = named_assign(alloc, &SameNames, assign)?;
+    Ok(copy)
 }
 
 /// The same statement again.
 #[tactic(auto, using(crate::proofs::NamingLemmas::same_statement))]
-pub fn copied_statement(
-    alloc: Global,
-    statement: &StatementItem,
-) -> Result<StatementItem, Memory>
+pub fn copied_statement(alloc: Global, statement: &StatementItem) -> Result<StatementItem, Memory>
     ensures value { IfOk result (λ copy. plain_statement copy ≡ plain_statement statement.now) }
 {
     named_statement(alloc, &SameNames, statement)

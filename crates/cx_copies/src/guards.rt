@@ -1,7 +1,7 @@
 //! Guards, with other names of cells.
 
-ghost use Rattle.std.specs.Prelude.{◌≡◌, IfOk, map, option_map};
-ghost use Rattle.cx_ast.specs.PlainGuards.{plain_guard, plain_guards};
+ghost use Rattle.std.specs.Prelude.{◌≡◌, IfOk, option_map};
+ghost use Rattle.cx_ast.specs.PlainGuards.{guards_of, plain_guard, plain_guards};
 ghost use Rattle.cx_copies.specs.Naming as naming;
 
 use crate::names::CellNames;
@@ -24,7 +24,6 @@ pub(crate) fn named_option<N: CellNames>(
     }
 }
 
-#[tactic(auto, using(crate::proofs::NamingLemmas::guards_named))]
 #[cycle(guard)]
 fn named_guard<N: CellNames>(
     alloc: Global,
@@ -45,7 +44,9 @@ fn named_guard<N: CellNames>(
             let part = named_guard(alloc, names, part)?;
             Ok(GuardItem::Not(Box::new(alloc, part)?))
         }
-        GuardItem::Operand(operand) => Ok(GuardItem::Operand(named_operand(alloc, names, operand)?)),
+        GuardItem::Operand(operand) => Ok(GuardItem::Operand(named_operand(
+            alloc, names, operand,
+        )?)),
         GuardItem::At(cycle) => Ok(GuardItem::At(*cycle)),
         GuardItem::During(from, to) => Ok(GuardItem::During(*from, *to)),
     }
@@ -57,7 +58,7 @@ fn named_guards<N: CellNames>(
     names: &N,
     guards: &[GuardItem],
 ) -> Result<Vec<GuardItem>, Memory>
-    ensures value { IfOk result (λ named. plain_guards named.items ≡ map (naming.named_guard (N.renaming names.now)) (plain_guards guards.now)) }
+    ensures value { IfOk result (λ named. guards_of (plain_guards named.items) ≡ naming.named_guards (N.renaming names.now) (guards_of (plain_guards guards.now))) }
 {
     let mut named = Vec::with_capacity(alloc, guards.len())?;
     for guard in guards {

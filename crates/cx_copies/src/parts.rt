@@ -38,10 +38,7 @@ pub fn copied_imports(alloc: Global, imports: &[ImportItem]) -> Result<Vec<Impor
 }
 
 /// The same attributes again.
-pub fn copied_attributes(
-    alloc: Global,
-    attributes: &[Attribute],
-) -> Result<Vec<Attribute>, Memory>
+pub fn copied_attributes(alloc: Global, attributes: &[Attribute]) -> Result<Vec<Attribute>, Memory>
     ensures value { IfOk result (λ copies. copies.items ≡ attributes.now) }
 {
     let mut copies = Vec::with_capacity(alloc, attributes.len())?;

@@ -119,12 +119,16 @@ put_next cell given i x old mid lt is inside p = record {
     or-true : (a : Bool) → (a || true) ≡ true
     or-true true = refl
     or-true false = refl
+
     all : is_in x (take (i + 1) given) ≡ true
     all = is_in_next given i x x lt is ∙ ap (λ v. is_in x (take i given) || v) (just_itself x) ∙ or-true (is_in x (take i given))
+
     here : get_or (set mid x cell) x 0 ≡ (if is_in x (take (i + 1) given) then cell else get_or old x 0)
     here = get_or-set_same mid x cell 0 inside ∙ ap (λ v. if v then cell else get_or old x 0) (sym all)
+
     same : (c : ℕ) → c ≡ x → get_or (set mid x cell) c 0 ≡ (if is_in c (take (i + 1) given) then cell else get_or old c 0)
     same c e = rw e here
+
     other : (c : ℕ) → c < length old → (c ≡ x → ⊥) → get_or (set mid x cell) c 0 ≡ (if is_in c (take (i + 1) given) then cell else get_or old c 0)
     other c below h =
         get_or-set_other mid x c cell 0 h ∙ p.cells c below
@@ -145,9 +149,9 @@ put_all cell given i old new end p = let all : take i given ≡ given = take_all
 
 pub kept_before : (count : ℕ) (k : Kept) (ks : List Kept) (given old new : List ℕ) → k.given ≡ reverse given → KeptBy count ks old → Put k.cell given old new → KeptBy count (k ∷ ks) new
 kept_before count k ks given old new e b p = record {
-  count = p.count ∙ b.count;
+  long = p.count ∙ b.long;
   cells = λ c lt.
-      let below : c < length old = omega (arith, b.count) in
+      let below : c < length old = omega (arith, b.long) in
       let listed : is_in c given ≡ is_in c k.given = sym (ap (is_in c) e ∙ any-reverse (λ x. nat_eq x c) given) in
       p.cells c below ∙ ap (λ v. if v then k.cell else get_or old c 0) listed ∙ ap (λ v. if is_in c k.given then k.cell else v) (b.cells c lt);
 }

@@ -13,7 +13,6 @@ use Rattle.cx_prim.specs.MemoryRows.{address_ports, memory_row, sequential_memor
 use Rattle.cx_prim.specs.Table.{PrimitiveRow, row_at, row_of, no_row, at_width, constant_at, slice_at, pad_at, memory_at, timer_at}
 use Rattle.cx_sharing.specs.Uses.{is_stateless}
 
-
 abbrev Alike : Row → Type 0
 Alike row = is_stateless row.shape ≡ not (list_any (λ port. is_enable_side port.side) row.ports)
 

@@ -60,8 +60,10 @@ adds_one xs cell inside = record {
     or-true : (a : Bool) → (a || true) ≡ true
     or-true true = refl
     or-true false = refl
+
     here : get_or (set xs cell true) cell false ≡ (get_or xs cell false || just cell cell)
     here = get_or-set_same xs cell true false inside ∙ sym (or-true (get_or xs cell false)) ∙ ap (λ v. get_or xs cell false || v) (sym (just_itself cell))
+
     subst_to : (c : ℕ) → c ≡ cell → get_or (set xs cell true) c false ≡ (get_or xs c false || just cell c)
     subst_to c e = rw e here
 
@@ -119,8 +121,10 @@ members_more marks i cells marked b = record {
   where
     other : (c : ℕ) → (c ≡ i → ⊥) → {v : Bool} → is_in c cells ≡ v → is_in c (cells ++ i ∷ []) ≡ v
     other c h e = is_in_push cells i c ∙ ap (λ v. is_in c cells || v) (just_other i c (λ x. h (sym x))) ∙ or-false (is_in c cells) ∙ e
+
     here : is_in i (cells ++ i ∷ []) ≡ get_or marks i false
     here = is_in_push cells i i ∙ ap (λ v. v || just i i) (b.later i (omega arith)) ∙ just_itself i ∙ sym marked
+
     same : (c : ℕ) → c ≡ i → is_in c (cells ++ i ∷ []) ≡ get_or marks c false
     same c e = rw e here
 
@@ -132,5 +136,6 @@ members_same marks i cells bare b = record {
   where
     here : is_in i cells ≡ get_or marks i false
     here = b.later i (omega arith) ∙ sym bare
+
     same : (c : ℕ) → c ≡ i → is_in c cells ≡ get_or marks c false
     same c e = rw e here

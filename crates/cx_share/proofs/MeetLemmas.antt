@@ -49,10 +49,10 @@ pub used_list : (part : PlainComponent) (s : PlainStatement) (groups tested : Li
 used_list part s groups tested count mid marks cells g t p q l =
     same_list count (λ c. any_of (group_uses part) groups c || any_of just tested c) (uses part s) cells
     (λ c. ap (λ gs. any_of (group_uses part) gs c || any_of just tested c) g
-        ∙ ap (λ ts. any_of (group_uses part) (groups_of s) c || any_of just ts c) t
-        ∙ ap (λ v. any_of (group_uses part) (groups_of s) c || v) (port_cells (tests_of s) c))
+    ∙ ap (λ ts. any_of (group_uses part) (groups_of s) c || any_of just ts c) t
+    ∙ ap (λ v. any_of (group_uses part) (groups_of s) c || v) (port_cells (tests_of s) c))
     (filled_list count marks (λ c. any_of (group_uses part) groups c || any_of just tested c) cells
-        (adds_then (replicate count false) mid marks (any_of (group_uses part) groups) (any_of just tested) p q) l)
+    (adds_then (replicate count false) mid marks (any_of (group_uses part) groups) (any_of just tested) p q) l)
 
 -- any two of a list are any two of a set
 pub joins_listed : (count : ℕ) (set : Set) (cells : List ℕ) (a b : List (List Bool)) → IsTable count a → Lists count set cells
@@ -79,13 +79,13 @@ arm_more part arm rest count later cells a b c t wide m l p q =
     joins_same count a c
     (λ x y. arms_meet part rest x y || ((is_in x cells && get_or later y false) || (get_or later x false && is_in y cells))) (arms_meet part (arm ∷ rest)) t
     (λ x y h k.
-        let left : x < length later = omega (arith, wide) in
-        let right : y < length later = omega (arith, wide) in
-        ap (λ v. arms_meet part rest x y || ((v && get_or later y false) || (get_or later x false && is_in y cells))) (l x h)
-        ∙ ap (λ v. arms_meet part rest x y || ((uses part arm x && v) || (get_or later x false && is_in y cells))) (m y right)
-        ∙ ap (λ v. arms_meet part rest x y || ((uses part arm x && any_of (uses part) rest y) || (v && is_in y cells))) (m x left)
-        ∙ ap (λ v. arms_meet part rest x y || ((uses part arm x && any_of (uses part) rest y) || (any_of (uses part) rest x && v))) (l y k)
-        ∙ one_more_arm part arm rest x y)
+    let left : x < length later = omega (arith, wide) in
+    let right : y < length later = omega (arith, wide) in
+    ap (λ v. arms_meet part rest x y || ((v && get_or later y false) || (get_or later x false && is_in y cells))) (l x h)
+    ∙ ap (λ v. arms_meet part rest x y || ((uses part arm x && v) || (get_or later x false && is_in y cells))) (m y right)
+    ∙ ap (λ v. arms_meet part rest x y || ((uses part arm x && any_of (uses part) rest y) || (v && is_in y cells))) (m x left)
+    ∙ ap (λ v. arms_meet part rest x y || ((uses part arm x && any_of (uses part) rest y) || (any_of (uses part) rest x && v))) (l y k)
+    ∙ one_more_arm part arm rest x y)
     (joins_then a b c (arms_meet part rest) (λ x y. (is_in x cells && get_or later y false) || (get_or later x false && is_in y cells)) p q)
 
 pub marks_more : (part : PlainComponent) (arm : PlainStatement) (rest : List PlainStatement) (count : ℕ) (later new : List Bool) (cells : List ℕ)
@@ -107,7 +107,7 @@ made_marks : (count : ℕ) (first second : ℕ → Set) (a b c : List (List Bool
 made_marks count first second a b c blank p q x h =
     let start : IsTable count a = rw blank (blank_table count) in
     let none : AreMarks (row_at a x) (λ y. false) = rw blank (blank_marks count x h) in
-    let inside : x < length a = omega (arith, start.rows) in
+    let inside : x < length a = omega (arith, start.height) in
     let both : Joins a c (λ n m. first n m || second n m) = joins_then a b c first second p q in
     marks_added (row_at a x) (row_at c x) (λ y. first x y || second x y) none (both.rows x inside)
 
@@ -122,7 +122,7 @@ meeting_made part lists visited a b c blank used seen p q =
     record {
       table = table;
       pairs = λ x h y lt.
-          let wide : length (row_at c x) ≡ length part.cells = table.marks x h in
+          let wide : length (row_at c x) ≡ length part.cells = table.width x h in
           let below : y < length part.cells = omega (arith, wide) in
           made_marks (length part.cells) (pairs_of (λ cells n m. is_in n cells && is_in m cells) lists) (pairs_of (λ v. form_meets part v.form) visited) a b c blank p q x h y lt
           ∙ ap (λ v. v || list_any (λ w. form_meets part w.form x y) visited) (both_listed lists part.groups x y (λ g. used g x h) (λ g. used g y below))

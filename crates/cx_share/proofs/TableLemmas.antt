@@ -26,17 +26,17 @@ pub joins_same : (count : ℕ) (a b : List (List Bool)) (p q : ℕ → Set) → 
 joins_same count a b p q t h f = record {
   count = f.count;
   rows = λ x lt.
-      let inside : x < count = omega (arith, t.rows) in
-      adds_same (row_at a x) (row_at b x) (p x) (q x) (λ y below. h x y inside (let wide : length (row_at a x) ≡ count = t.marks x inside in omega (arith, wide))) (f.rows x lt);
+      let inside : x < count = omega (arith, t.height) in
+      adds_same (row_at a x) (row_at b x) (p x) (q x) (λ y below. h x y inside (let wide : length (row_at a x) ≡ count = t.width x inside in omega (arith, wide))) (f.rows x lt);
 }
 
 -- a table stays one
 pub joined_table : (count : ℕ) (a b : List (List Bool)) (p : ℕ → Set) → IsTable count a → Joins a b p → IsTable count b
 joined_table count a b p t f = record {
-  rows = f.count ∙ t.rows;
-  marks = λ x inside.
-      let lt : x < length a = omega (arith, t.rows) in
-      (f.rows x lt).count ∙ t.marks x inside;
+  height = f.count ∙ t.height;
+  width = λ x inside.
+      let lt : x < length a = omega (arith, t.height) in
+      (f.rows x lt).count ∙ t.width x inside;
 }
 
 -- a row is changed
@@ -50,15 +50,19 @@ joins_row rows one row set_of inside p = record {
     and-true : (v w : Bool) → v ≡ true → w ≡ (v && w)
     and-true true w e = refl
     and-true false w e = absurd (cc)
+
     and-false : (v w : Bool) → v ≡ false → false ≡ (v && w)
     and-false true w e = absurd (cc)
     and-false false w e = refl
+
     here : Adds (row_at rows one) (row_at (set rows one row) one) (λ y. just one one && set_of y)
     here =
         let at : row_at (set rows one row) one ≡ row = get_or-set_same rows one row [] inside in
         rw at (adds_same (row_at rows one) row set_of (λ y. just one one && set_of y) (λ y lt. and-true (just one one) (set_of y) (just_itself one)) p)
+
     same : (x : ℕ) → x ≡ one → Adds (row_at rows x) (row_at (set rows one row) x) (λ y. just one x && set_of y)
     same x e = rw e here
+
     other : (x : ℕ) → (x ≡ one → ⊥) → Adds (row_at rows x) (row_at (set rows one row) x) (λ y. just one x && set_of y)
     other x h =
         let at : row_at (set rows one row) x ≡ row_at rows x = get_or-set_other rows one x row [] h in
@@ -100,8 +104,8 @@ joins_all f xs i old new end p = let all : take i xs ≡ xs = take_all xs i end 
 -- no pairs
 pub blank_table : (count : ℕ) → IsTable count (replicate count (replicate count false))
 blank_table count = record {
-  rows = length-replicate count (replicate count false);
-  marks = λ x lt. ap length (get_or-replicate count x (replicate count false) [] lt) ∙ length-replicate count false;
+  height = length-replicate count (replicate count false);
+  width = λ x lt. ap length (get_or-replicate count x (replicate count false) [] lt) ∙ length-replicate count false;
 }
 
 pub blank_marks : (count x : ℕ) → x < count → AreMarks (row_at (replicate count (replicate count false)) x) (λ y. false)

@@ -49,10 +49,12 @@ listed_more count groups i lists cells l h = record {
   where
     length_push : (xs : List (List ℕ)) (x : List ℕ) → length (xs ++ x ∷ []) ≡ length xs + 1
     length_push xs x = grind arith
+
     before : (g : ℕ) → g < i → Lists count (assigns_use (get_or groups g no_group).assigns) (get_or (lists ++ cells ∷ []) g [])
     before g lt =
         let at : get_or (lists ++ cells ∷ []) g [] ≡ get_or lists g [] = get_or_append_left lists (cells ∷ []) [] g (omega (arith, l.listed)) in
         rw at (l.each g lt)
+
     here : (g : ℕ) → g ≡ i → Lists count (assigns_use (get_or groups g no_group).assigns) (get_or (lists ++ cells ∷ []) g [])
     here g e =
         let at : get_or (lists ++ cells ∷ []) i [] ≡ cells = get_or_at lists cells [] [] i l.listed in
@@ -90,6 +92,7 @@ one_more_arm part arm later x y = turned (arms_meet part later x y) (uses part a
     or-true : (b : Bool) → (b || true) ≡ true
     or-true true = refl
     or-true false = refl
+
     turned : (met one other arm_y : Bool) → (met || (one || (other && arm_y))) ≡ (one || (arm_y && other) || met)
     turned true true other arm_y = refl
     turned true false other arm_y = sym (or-true (arm_y && other))

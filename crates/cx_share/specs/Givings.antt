@@ -28,7 +28,7 @@ pub record Put (cell : ℕ) (given old new : List ℕ) : Type 0 where
 
 -- for each of so many cells the cell that stands for it, by what is kept
 pub record KeptBy (count : ℕ) (ks : List giving.Kept) (keepers : List ℕ) : Type 0 where
-  pub count : length keepers ≡ count
+  pub long : length keepers ≡ count
   pub cells : (c : ℕ) → c < count → get_or keepers c 0 ≡ keeper_in ks c
 
 -- for each cell of a component the cell that stands for it

@@ -11,5 +11,5 @@ name_by (Some number) names name = get_or names number name
 
 -- for the first cells the names of the cells that stand for them
 pub record AreKeeperNames (part : PlainComponent) (count : ℕ) (names : List (List ℕ)) : Type 0 where
-  pub count : length names ≡ count
+  pub long : length names ≡ count
   pub named : (c : ℕ) → c < count → (other : List ℕ) → get_or names c other ≡ cell_name part.cells (keeper part c)

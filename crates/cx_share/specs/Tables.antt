@@ -10,8 +10,8 @@ row_at rows x = get_or rows x []
 
 -- a table over so many cells
 pub record IsTable (count : ℕ) (rows : List (List Bool)) : Type 0 where
-  pub rows : length rows ≡ count
-  pub marks : (x : ℕ) → x < count → length (row_at rows x) ≡ count
+  pub height : length rows ≡ count
+  pub width : (x : ℕ) → x < count → length (row_at rows x) ≡ count
 
 -- the marks of pairs are added
 pub record Joins (old new : List (List Bool)) (pair : ℕ → Set) : Type 0 where

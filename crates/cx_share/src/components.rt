@@ -35,7 +35,12 @@ pub(crate) fn shared_components(
 {
     let mut components = Vec::with_capacity(alloc, items.len())?;
     for (number, item) in items.iter().enumerate() {
-        components.push(shared_component(alloc, &parts[number], keepers[number].as_slice(), item)?)?;
+        components.push(shared_component(
+            alloc,
+            &parts[number],
+            keepers[number].as_slice(),
+            item,
+        )?)?;
     }
     Ok(components)
 }
@@ -74,19 +79,16 @@ fn shared_component(
 }
 
 /// The cells that stay.
-fn left_cells(
-    alloc: Global,
-    keepers: &[usize],
-    cells: &[CellItem],
-) -> Result<Vec<CellItem>, Memory>
+fn left_cells(alloc: Global, keepers: &[usize], cells: &[CellItem]) -> Result<Vec<CellItem>, Memory>
     requires count { length keepers.now ≡ length cells.now }
     ensures value { IfOk result (λ left. (part : PlainComponent) → AreKeepers part keepers.now → map ast.plain_cell left.items ≡ shared.left_cells part 0 (map ast.plain_cell cells.now)) }
 {
     let mut left = Vec::new(alloc);
     for (number, cell) in cells.iter().enumerate() {
-        if keepers[number] == number {
-            left.push(copied_cell(alloc, cell)?)?;
+        if keepers[number] != number {
+            continue;
         }
+        left.push(copied_cell(alloc, cell)?)?;
     }
     Ok(left)
 }

@@ -1,6 +1,6 @@
 //! Giving: each candidate is given to the first kept one that takes it, else it is kept.
 
-ghost use Rattle.std.specs.Prelude.{◌≡◌, ◌<◌, ◌×◌, ℕ, true, false, IfOk, IfSome, IfNone, OnOk, get_or, length, map, if◌then◌else◌, All};
+ghost use Rattle.std.specs.Prelude.{◌≡◌, ◌<◌, ℕ, [], true, false, IfOk, IfSome, IfNone, OnOk, get_or, length, map, if◌then◌else◌, All};
 ghost use Rattle.std.specs.List.{list_any};
 ghost use Rattle.cx_design.specs.PlainForms.{plain_cell, plain_component};
 ghost use Rattle.cx_sharing.specs.Giving as giving;
@@ -43,7 +43,8 @@ fn keepers(alloc: Global, part: &Component) -> Result<Vec<usize>, Memory>
     let candidates = candidates(alloc, part)?;
     let table = meeting(alloc, part)?;
     let kept = kept_cells(alloc, part, candidates.as_slice(), table.as_slice())?;
-    keepers_by(alloc, part.cells.len(), kept.as_slice())
+    let keepers = keepers_by(alloc, part.cells.len(), kept.as_slice())?;
+    Ok(keepers)
 }
 
 /// What is kept of all cells.
@@ -60,9 +61,10 @@ fn kept_cells(
 {
     let mut kept = Vec::new(alloc);
     for cell in 0..part.cells.len() {
-        if candidates[cell] {
-            give(alloc, &mut kept, part, table, cell)?;
+        if !candidates[cell] {
+            continue;
         }
+        give(alloc, &mut kept, part, table, cell)?;
     }
     Ok(kept)
 }
@@ -91,12 +93,7 @@ fn give(
 }
 
 /// The number of the first that takes a cell.
-fn first_taker(
-    kept: &[Kept],
-    part: &Component,
-    table: &[Vec<bool>],
-    cell: usize,
-) -> Option<usize>
+fn first_taker(kept: &[Kept], part: &Component, table: &[Vec<bool>], cell: usize) -> Option<usize>
     requires cell { cell < length part.now.cells.items }
     requires kept { AllWithin cell (map plain_kept kept.now) }
     requires table { IsMeeting (plain_component part.now) (lists_of table.now) }

@@ -54,9 +54,10 @@ pub(crate) fn members(alloc: Global, marks: &[bool]) -> Result<Vec<usize>, Memor
 {
     let mut cells = Vec::new(alloc);
     for (cell, mark) in marks.iter().enumerate() {
-        if *mark {
-            cells.push(cell)?;
+        if !*mark {
+            continue;
         }
+        cells.push(cell)?;
     }
     Ok(cells)
 }

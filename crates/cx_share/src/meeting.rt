@@ -27,7 +27,13 @@ pub(crate) fn meeting(alloc: Global, part: &Component) -> Result<Vec<Vec<bool>>,
     let statements = statements(alloc, part)?;
     let mut table = no_pairs(alloc, part.cells.len())?;
     add_lists(&mut table, used.as_slice());
-    add_forms(alloc, part, used.as_slice(), &mut table, statements.as_slice())?;
+    add_forms(
+        alloc,
+        part,
+        used.as_slice(),
+        &mut table,
+        statements.as_slice(),
+    )?;
     Ok(table)
 }
 

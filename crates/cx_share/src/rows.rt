@@ -42,20 +42,16 @@ fn add_rows(
 {
     for number in 0..part.cells.len() {
         let keeper = keepers[number];
-        if keeper != number {
-            rows.push(row_of(alloc, part, number, keeper)?)?;
+        if keeper == number {
+            continue;
         }
+        rows.push(row_of(alloc, part, number, keeper)?)?;
     }
     Ok(())
 }
 
 /// The row of a given cell.
-fn row_of(
-    alloc: Global,
-    part: &Component,
-    cell: usize,
-    keeper: usize,
-) -> Result<SharedRow, Memory>
+fn row_of(alloc: Global, part: &Component, cell: usize, keeper: usize) -> Result<SharedRow, Memory>
     requires cell { cell < length part.now.cells.items }
     requires keeper { keeper < length part.now.cells.items }
     ensures component { IfOk result (λ row. row.component ≡ part.now.name) }

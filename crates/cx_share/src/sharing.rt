@@ -34,7 +34,12 @@ pub fn share(alloc: Global, tree: &Tree, design: &Checked) -> Result<Sharing, Me
     let keepers = all_keepers(alloc, parts)?;
     let rows = all_rows(alloc, parts, keepers.as_slice())?;
     let imports = copied_imports(alloc, tree.imports.as_slice())?;
-    let components = shared_components(alloc, parts, keepers.as_slice(), tree.components.as_slice())?;
+    let components = shared_components(
+        alloc,
+        parts,
+        keepers.as_slice(),
+        tree.components.as_slice(),
+    )?;
     let tree = Tree {
         imports,
         components,

@@ -32,7 +32,8 @@ fn used_by_group(alloc: Global, count: usize, group: &Group) -> Result<Vec<usize
 {
     let mut marks = no_cells(alloc, count)?;
     add_assigns(alloc, &mut marks, group.assigns.as_slice())?;
-    members(alloc, marks.as_slice())
+    let cells = members(alloc, marks.as_slice())?;
+    Ok(cells)
 }
 
 /// Adds the cells that assignments use.
@@ -94,7 +95,8 @@ pub(crate) fn used_by_statement(
     let mut marks = no_cells(alloc, part.cells.len())?;
     add_groups(part, used, &mut marks, groups.as_slice());
     add_tested(&mut marks, tested.as_slice());
-    members(alloc, marks.as_slice())
+    let cells = members(alloc, marks.as_slice())?;
+    Ok(cells)
 }
 
 /// Adds the cells that groups use.
