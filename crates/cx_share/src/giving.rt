@@ -1,0 +1,183 @@
+//! Giving: each candidate is given to the first kept one that takes it, else it is kept.
+
+ghost use Rattle.std.specs.Prelude.{◌≡◌, ◌<◌, ℕ, [], true, false, IfOk, IfSome, IfNone, OnOk, get_or, length, map, if◌then◌else◌, All};
+ghost use Rattle.std.specs.List.{list_any};
+ghost use Rattle.cx_design.specs.PlainForms.{plain_cell, plain_component};
+ghost use Rattle.cx_sharing.specs.Giving as giving;
+ghost use Rattle.cx_sharing.specs.Giving.{kept_of, keeper_in};
+ghost use Rattle.cx_sharing.specs.Meeting.{meet};
+ghost use Rattle.cx_sharing.specs.Uses.{is_candidate};
+ghost use Rattle.cx_share.specs.Marks.{AreMarks, lists_of};
+ghost use Rattle.cx_share.specs.Tables.{IsMeeting};
+ghost use Rattle.cx_share.specs.Givings.{AllKeepers, AllWithin, AreKeepers, KeptBy, Put, Within, no_kept, plain_kept};
+
+use crate::candidates::candidates;
+use crate::kinds::is_same_kind;
+use crate::meeting::meeting;
+use cx_design::Component;
+use cx_text::Memory;
+use std::alloc::Global;
+
+/// A kept cell, and those that were given to it, in cell order.
+#[derive(Drop)]
+pub(crate) struct Kept {
+    pub cell: usize,
+    pub given: Vec<usize>,
+}
+
+/// For each component the cells that stand for its cells.
+pub(crate) fn all_keepers(alloc: Global, parts: &[Component]) -> Result<Vec<Vec<usize>>, Memory>
+    ensures value { IfOk result (λ keepers. AllKeepers (map plain_component parts.now) (lists_of keepers.items)) }
+{
+    let mut lists = Vec::with_capacity(alloc, parts.len())?;
+    for part in parts {
+        lists.push(keepers(alloc, part)?)?;
+    }
+    Ok(lists)
+}
+
+/// For each cell of a component the number of the cell that stands for it.
+fn keepers(alloc: Global, part: &Component) -> Result<Vec<usize>, Memory>
+    ensures value { IfOk result (λ keepers. AreKeepers (plain_component part.now) keepers.items) }
+{
+    let candidates = candidates(alloc, part)?;
+    let table = meeting(alloc, part)?;
+    let kept = kept_cells(alloc, part, candidates.as_slice(), table.as_slice())?;
+    let keepers = keepers_by(alloc, part.cells.len(), kept.as_slice())?;
+    Ok(keepers)
+}
+
+/// What is kept of all cells.
+fn kept_cells(
+    alloc: Global,
+    part: &Component,
+    candidates: &[bool],
+    table: &[Vec<bool>],
+) -> Result<Vec<Kept>, Memory>
+    requires count { length candidates.now ≡ length part.now.cells.items }
+    requires candidates { AreMarks candidates.now (is_candidate (plain_component part.now)) }
+    requires table { IsMeeting (plain_component part.now) (lists_of table.now) }
+    ensures value { IfOk result (λ kept. map plain_kept kept.items ≡ kept_of (plain_component part.now)) }
+{
+    let mut kept = Vec::new(alloc);
+    for cell in 0..part.cells.len() {
+        if !candidates[cell] {
+            continue;
+        }
+        give(alloc, &mut kept, part, table, cell)?;
+    }
+    Ok(kept)
+}
+
+/// Gives a cell to the first that takes it, or keeps it.
+fn give(
+    alloc: Global,
+    kept: &mut Vec<Kept>,
+    part: &Component,
+    table: &[Vec<bool>],
+    cell: usize,
+) -> Result<(), Memory>
+    requires cell { cell < length part.now.cells.items }
+    requires kept { AllWithin cell (map plain_kept kept.old.items) }
+    requires table { IsMeeting (plain_component part.now) (lists_of table.now) }
+    ensures value { OnOk result (map plain_kept kept.new.items ≡ giving.give (plain_component part.now) cell (map plain_kept kept.old.items)) }
+{
+    match first_taker(kept.as_slice(), part, table, cell) {
+        Some(taker) => kept[taker].given.push(cell)?,
+        None => kept.push(Kept {
+            cell,
+            given: Vec::new(alloc),
+        })?,
+    }
+    Ok(())
+}
+
+/// The number of the first that takes a cell.
+fn first_taker(kept: &[Kept], part: &Component, table: &[Vec<bool>], cell: usize) -> Option<usize>
+    requires cell { cell < length part.now.cells.items }
+    requires kept { AllWithin cell (map plain_kept kept.now) }
+    requires table { IsMeeting (plain_component part.now) (lists_of table.now) }
+    ensures within { IfSome result (λ i. i < length kept.now) }
+    ensures takes { IfSome result (λ i. giving.takes (plain_component part.now) cell (get_or (map plain_kept kept.now) i no_kept) ≡ true) }
+    ensures first { IfSome result (λ i. (k : ℕ) → k < i → giving.takes (plain_component part.now) cell (get_or (map plain_kept kept.now) k no_kept) ≡ false) }
+    ensures none { IfNone result ((k : ℕ) → k < length kept.now → giving.takes (plain_component part.now) cell (get_or (map plain_kept kept.now) k no_kept) ≡ false) }
+{
+    for (number, keeper) in kept.iter().enumerate() {
+        if takes(keeper, part, table, cell) {
+            return Some(number);
+        }
+    }
+    None
+}
+
+/// Whether a kept one takes a cell: they are of one kind, and the cell meets neither it nor any that was given to it.
+fn takes(kept: &Kept, part: &Component, table: &[Vec<bool>], cell: usize) -> bool
+    requires cell { cell < length part.now.cells.items }
+    requires kept { Within cell (plain_kept kept.now) }
+    requires table { IsMeeting (plain_component part.now) (lists_of table.now) }
+    ensures value { result ≡ giving.takes (plain_component part.now) cell (plain_kept kept.now) }
+{
+    is_same_kind(&part.cells[kept.cell].kind, &part.cells[cell].kind)
+        && !meets(part, table, kept.cell, cell)
+        && !meets_any(part, table, kept.given.as_slice(), cell)
+}
+
+/// Whether a cell meets one of several.
+fn meets_any(part: &Component, table: &[Vec<bool>], given: &[usize], cell: usize) -> bool
+    requires cell { cell < length part.now.cells.items }
+    requires given { All (λ x. x < length part.now.cells.items) given.now }
+    requires table { IsMeeting (plain_component part.now) (lists_of table.now) }
+    ensures value { result ≡ list_any (λ x. meet (plain_component part.now) x cell) given.now }
+{
+    for other in given {
+        if meets(part, table, *other, cell) {
+            return true;
+        }
+    }
+    false
+}
+
+/// Whether two cells meet.
+fn meets(part: &Component, table: &[Vec<bool>], one: usize, other: usize) -> bool
+    requires one { one < length part.now.cells.items }
+    requires other { other < length part.now.cells.items }
+    requires table { IsMeeting (plain_component part.now) (lists_of table.now) }
+    ensures value { result ≡ meet (plain_component part.now) one other }
+{
+    table[one][other]
+}
+
+/// For each of so many cells the number of the cell that stands for it.
+fn keepers_by(alloc: Global, count: usize, kept: &[Kept]) -> Result<Vec<usize>, Memory>
+    ensures value { IfOk result (λ keepers. KeptBy count (map plain_kept kept.now) keepers.items) }
+{
+    let mut keepers = each_itself(alloc, count)?;
+    let mut left = kept.len();
+    while left > 0 {
+        left -= 1;
+        put_keeper(&mut keepers, &kept[left]);
+    }
+    Ok(keepers)
+}
+
+/// Each of so many cells stands for itself.
+fn each_itself(alloc: Global, count: usize) -> Result<Vec<usize>, Memory>
+    ensures value { IfOk result (λ keepers. KeptBy count [] keepers.items) }
+{
+    let mut keepers = Vec::with_capacity(alloc, count)?;
+    for cell in 0..count {
+        keepers.push(cell)?;
+    }
+    Ok(keepers)
+}
+
+/// A kept cell stands for those that were given to it.
+fn put_keeper(keepers: &mut Vec<usize>, kept: &Kept)
+    ensures value { Put kept.now.cell kept.now.given.items keepers.old.items keepers.new.items }
+{
+    for given in &kept.given {
+        if *given < keepers.len() {
+            keepers[*given] = kept.cell;
+        }
+    }
+}
