@@ -29,11 +29,11 @@ use Rattle.cx_driver.proofs.SharingLemmas.{answer_shared}
 
 module _ (d e : PlainDesign) where
   answers_alike : (memories : List PlainMemory) (budget : ℕ) (a b : Answer State cycles.Fault) → AreAlike d e a b → ToldAlike (told_of d memories budget a) (told_of e memories budget b)
-  answers_alike memories budget (End s t) b (both_end s z t same) = ap (λ words. Ok (dump_text t (with_words memories words))) same
-  answers_alike memories budget (Fault f t) b (both_fault f g t same) =
+  answers_alike memories budget a b (both_end s z t same) = ap (λ words. Ok (dump_text t (with_words memories words))) same
+  answers_alike memories budget a b (both_fault f g t same) =
       let path : List ℕ = full_path (tree_of e) g.path g.port in
       (stops.Fault g.kind path t, (path, ap (λ kind. stops.Fault kind path t) same), refl)
-  answers_alike memories budget More b both_go_on = (stops.More budget, refl, refl)
+  answers_alike memories budget a b both_go_on = (stops.More budget, refl, refl)
 
   loaded_alike : RunAlike d e → (budget : ℕ) (loaded : Result (List PlainMemory) DataFault) → ToldAlike (loaded_result d budget loaded) (loaded_result e budget loaded)
   loaded_alike alike budget (Ok memories) =

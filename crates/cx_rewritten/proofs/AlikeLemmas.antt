@@ -49,9 +49,9 @@ tree_design tree d targets accepted same keeps =
 module _ (tree new : PlainTree) (written : List ℕ) (r : IsReadAs new written) where
   module _ (alike : RunAlike (design_of tree) (design_of new)) where
     words_alike : (a b : Answer State cycles.Fault) → AreAlike (design_of tree) (design_of new) a b → AreAlike (design_of tree) (design_of r.again) a b
-    words_alike (End s t) b (both_end s z t e) = both_end s z t (sym (r.words z) ∙ e)
-    words_alike (Fault f t) b (both_fault f g t e) = both_fault f g t e
-    words_alike More b both_go_on = both_go_on
+    words_alike a b (both_end s z t e) = both_end s z t (sym (r.words z) ∙ e)
+    words_alike a b (both_fault f g t e) = both_fault f g t e
+    words_alike a b both_go_on = both_go_on
 
   pub runs_as : IsAcceptedTree new → RunAlike (design_of tree) (design_of new) → RunsAs tree written
   runs_as accepted alike = record {

@@ -7,6 +7,6 @@ use Rattle.cx_rewritten.proofs.sharing.share_text.Goals as goal
 pub written-requires : goal.written-requires
 written-requires c = record { design = c.requires.design; printable = tree_of_text c.requires.source.0 c.requires.source.1 (plain_tree c.args.tree.now) c.requires.source.2 c.requires.source.3 }
 
-pub returns-in_ok-text-clause-runs : goal.returns-in_ok-text-clause-runs
-returns-in_ok-text-clause-runs c =
+pub returns-clause-runs : goal.returns-clause-runs
+returns-clause-runs c =
     shared_runs (plain_tree c.args.tree.now) (plain_design c.args.design.now) c.in_ok-text.text.items c.requires.source c.requires.accepted c.requires.design c.args.design.now.keeps c.in_ok-text.ensures
