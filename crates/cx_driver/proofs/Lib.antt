@@ -11,6 +11,7 @@ pub mod LeftLemmas
 pub mod TrialMemory
 pub mod TrialLemmas
 pub mod WovenLemmas
+pub mod ListLemmas
 pub mod OrderLemmas
 pub mod TrialDepth
 pub mod FilePromise
