@@ -1,35 +1,31 @@
 -- THE SHARED DESIGN IS ACCEPTED, where the design is: what breaks a rule in it breaks the rule in the design, at the same part.
-use Rattle.std.proofs.Common.{◌≡◌, ℕ, zero, suc, ◌<◌, ◌≤◌, inl, inr, ⊎_elim, Bool, true, false, List, [], ◌∷◌, ◌++◌, length, map, Some, None, slice_get, refl, sym, ap, ◌∙◌, subst, arith}
+use Rattle.std.proofs.Common.{◌≡◌, ℕ, zero, suc, ◌<◌, ◌≤◌, inl, inr, Bool, true, false, List, [], ◌∷◌, ◌++◌, length, map, Some, None, slice_get, refl, sym, ap, ◌∙◌, subst, arith}
 use Rattle.std.specs.Prelude.{get_or}
-use Rattle.std.proofs.lemmas.List.{length-map, get_or_past}
-use Rattle.std.proofs.lemmas.Bool.{cases_lt}
+use Rattle.std.proofs.lemmas.List.{length-map}
 use Rattle.cx_text.specs.declared.places.Place.{Place}
 use Rattle.cx_text.specs.declared.rules.Rule.{Rule}
 use Rattle.cx_text.specs.declared.rules.Rule.TheVariants as rules
 use Rattle.cx_text.specs.declared.limits.TheConstants.{CELLS, GROUPS, INSTANCES, INSTANCE_DEPTH, MEMORY_WORDS, WEIGHT}
-use Rattle.cx_meaning.specs.Designs.{PlainAssign, PlainGroup, PlainComponent, PlainDesign, component_at, no_component, group_at, no_group}
-use Rattle.cx_meaning.specs.Instances.{Instance, part_of, tree_of}
-use Rattle.cx_meaning.specs.Active.{Owned, owned, owned_by_groups, by_place, source_order, nothing, group}
+use Rattle.cx_meaning.specs.Designs.{PlainAssign, PlainGroup, PlainComponent, PlainDesign, component_at, group_at, no_group}
+use Rattle.cx_meaning.specs.Instances.{part_of, tree_of}
+use Rattle.cx_meaning.specs.Active.{Owned, owned, owned_by_groups, by_place, source_order}
 use Rattle.cx_meaning.specs.Sights.{In}
 use Rattle.cx_meaning.proofs.ActiveLemmas.{placed_first, placed_still}
 use Rattle.cx_meaning.proofs.DesignsLemmas.{same_part, owned_has}
 use Rattle.cx_meaning.proofs.SightsLaws.{number_in, in_left, in_right}
 use Rattle.cx_rules.specs.Ports.{component_of, is_source_only}
 use Rattle.cx_rules.specs.Items.{Visited, statements_in}
-use Rattle.cx_rules.specs.Footprints.{AssignNames, Rests}
-use Rattle.cx_rules.specs.Spots.{Itself, AnAssign, AStatement, AGroup, Whole, Spot, AssignRule, StatementRule, GroupRule, OnAssign, OnStatement, OnGroup}
+use Rattle.cx_rules.specs.Spots.{AnAssign, Spot, AssignRule, StatementRule, GroupRule, OnAssign, OnStatement, OnGroup}
 use Rattle.cx_rules.specs.WidthRules.{BreaksWidth, BreaksGuardWidth, TestBreaksGuardWidth, BreaksLiteral, TestBreaksLiteral, BreaksNotATarget, BreaksNotASource, TestBreaksNotASource}
 use Rattle.cx_rules.specs.ShapeRules.{BreaksNoDone, BreaksDoneNotState, BreaksAlwaysEnable, BreaksCombEnable, BreaksStaticGuard, GroupBreaksStaticShape, BreaksStaticControl, BreaksLength, BreaksStaticTest, BreaksOutputNotState}
 use Rattle.cx_rules.specs.CallShape.{BreaksCallShape, GroupBreaksCallShape}
 use Rattle.cx_rules.specs.RaceRule.{arms_of, IsShared, BreaksCombCycle, GroupBreaksCombCycle, BreaksRace}
 use Rattle.cx_rules.specs.LimitRule.{Limited, OnCells, OnGroups, OnInstances, OnDepth, OnWords, OnWeight, BreaksStatement, BreaksPart, BreaksTree}
 use Rattle.cx_rules.specs.Sizes.{weight_of, instances_below, depth_below, words_below}
-use Rattle.cx_rules.specs.Accepted.{Breaks, stage_of, KeepsStage, IsAccepted}
+use Rattle.cx_rules.specs.Accepted.{Breaks, KeepsStage, IsAccepted}
 use Rattle.cx_frames.proofs.ShareLemmas.{unshared}
 use Rattle.cx_rewrites.specs.Moving.{moved_owned}
-use Rattle.cx_rewrites.specs.Renaming.{renamed}
-use Rattle.cx_sharing.specs.Giving.{new_cell}
-use Rattle.cx_sharing.specs.SharedDesign.{shared_part, shared_design}
+use Rattle.cx_sharing.specs.SharedDesign.{shared_design}
 use Rattle.cx_sharing.proofs.TwinLemmas.{shared_component}
 use Rattle.cx_sharing.proofs.MovedLists.{moved_visited}
 use Rattle.cx_sharing.proofs.SharedParts.{Shares, new_port, as_many_parts, component-shares, source_order-shared, statements_in-shared}

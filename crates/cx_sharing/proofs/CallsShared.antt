@@ -1,34 +1,33 @@
 -- THE RULE ON CALLS: an assignment that breaks it in an instance of the shared design breaks it in the instance of the design. The cells that it
 -- speaks of, components, registers and what has an enabling port, share their numbers with no other.
-use Rattle.std.proofs.Common.{◌≡◌, ◌≢◌, ℕ, zero, suc, ◌+◌, ◌<◌, inl, inr, ◌⊎◌, ⊎_elim, Bool, true, false, ◌||◌, ◌&&◌, List, [], ◌∷◌, ◌++◌, length, map, Option, Some, None, option_map, slice_get, refl, sym, ap, ap₂, ◌∙◌, subst, arith}
+use Rattle.std.proofs.Common.{◌≡◌, ℕ, zero, suc, ◌+◌, ◌<◌, inl, inr, ⊎_elim, Bool, true, false, ◌||◌, ◌&&◌, List, [], ◌∷◌, length, map, Option, Some, None, option_map, slice_get, refl, sym, ap, ap₂, ◌∙◌, subst, arith}
 use Rattle.std.specs.Prelude.{nat_eq, if◌then◌else◌}
 use Rattle.std.specs.List.{list_all, list_any}
 use Rattle.std.proofs.lemmas.Bool.{eqb-true, eq-eqb, both_ways, or_cases}
 use Rattle.std.proofs.lemmas.List.{map-append, length-map}
 use Rattle.cx_text.specs.declared.places.Place.{Place}
-use Rattle.cx_text.proofs.BoolLaws.{and_both}
 use Rattle.cx_prim.specs.declared.names.PrimitiveName.{PrimitiveName}
 use Rattle.cx_prim.specs.declared.names.PrimitiveName.TheVariants as primitives
 use Rattle.cx_prim.specs.declared.ports.Side.{Side}
 use Rattle.cx_prim.specs.declared.ports.Side.TheVariants as sides
-use Rattle.cx_prim.specs.Rows.{Row, is_enable_side}
-use Rattle.cx_prim.specs.Table.{PrimitiveRow, row_of}
+use Rattle.cx_prim.specs.Rows.{is_enable_side}
+use Rattle.cx_prim.specs.Table.{row_of}
 use Rattle.cx_meaning.specs.Rows.{side_of}
 use Rattle.cx_meaning.specs.declared.ports.PortRef.{PortRef}
 use Rattle.cx_meaning.specs.declared.ports.PortRef.TheVariants as ports
-use Rattle.cx_meaning.specs.Designs.{PlainGuard, Always, Atom, Negation, All, Any, Compared, Within, PlainGuards, no_guards, a_guard, PlainAssign, PlainGroup, PlainKind, OfPrimitive, OfComponent, PlainCell, PlainComponent, group_at}
-use Rattle.cx_meaning.specs.Instances.{Instance, At, Nothing, OfRow, OfInstance, part_of, cells_of, cell_at}
+use Rattle.cx_meaning.specs.Designs.{PlainGuard, Always, Atom, Negation, All, Any, Compared, Within, PlainGuards, no_guards, a_guard, PlainAssign, PlainGroup, PlainKind, OfPrimitive, PlainCell, PlainComponent}
+use Rattle.cx_meaning.specs.Instances.{Instance, At, OfInstance, part_of, cells_of, cell_at}
 use Rattle.cx_meaning.specs.Active.{Owned, group, same_port}
-use Rattle.cx_meaning.specs.Sights.{In, PartPort, AnInput, AnOutput, ItsDone, part_port}
+use Rattle.cx_meaning.specs.Sights.{In, part_port}
 use Rattle.cx_rules.specs.Ports.{enables_cell, is_primitive_enable, is_part_port}
 use Rattle.cx_rules.specs.Items.{is_plain}
 use Rattle.cx_rules.specs.Footprints.{Depends}
 use Rattle.cx_rules.specs.ShapeRules.{is_hole_of, some_target}
-use Rattle.cx_rules.specs.CallShape.{is_port_of, Calls, go_port, done_port, write_en_of, register_done, is_reg_name, is_reg_kind, is_register_cell, is_register, one, with_target, is_atom, is_always, is_negated, is_right_go, is_right_enable, is_register_enable, captured_from, captured, wanted_dones, joined, conjuncts, conjuncts_in, are_dones, is_right_done_assign, is_right_done, assigns_of, IsInput, IsOutputOrDone, IsFedBack, CallsAnother, CallBreak, another_cell, wrong_go, input_by_output, wrong_enable, wrong_done, IsOutside, IsMisshapen, BreaksCallShape, GroupBreaksCallShape}
+use Rattle.cx_rules.specs.CallShape.{is_port_of, Calls, go_port, done_port, write_en_of, register_done, is_reg_name, is_reg_kind, is_register_cell, is_register, one, with_target, is_atom, is_always, is_negated, is_right_go, is_right_enable, is_register_enable, captured_from, captured, wanted_dones, joined, conjuncts, conjuncts_in, are_dones, is_right_done, assigns_of, IsOutputOrDone, IsFedBack, CallBreak, another_cell, wrong_go, input_by_output, wrong_enable, wrong_done, IsOutside, IsMisshapen, BreaksCallShape, GroupBreaksCallShape}
 use Rattle.cx_numbering.specs.Names.{go_name}
-use Rattle.cx_rewrites.specs.Moving.{moved_port, moved_guard, moved_guards, moved_assign, moved_owned, moved_group}
+use Rattle.cx_rewrites.specs.Moving.{moved_guard, moved_guards, moved_assign, moved_owned}
 use Rattle.cx_rewrites.specs.Renaming.{renamed}
-use Rattle.cx_sharing.specs.Uses.{is_stateless, is_combinational, kind_in, is_candidate}
+use Rattle.cx_sharing.specs.Uses.{is_combinational, kind_in, is_candidate}
 use Rattle.cx_sharing.specs.Giving.{keeper, stays, staying, new_cell}
 use Rattle.cx_sharing.specs.SharedDesign.{remaining, shared_part}
 use Rattle.cx_sharing.proofs.KeptLemmas.{new_apart}
@@ -38,9 +37,9 @@ use Rattle.cx_sharing.proofs.TwinLemmas.{part_other, candidate_holds_nothing, st
 use Rattle.cx_sharing.proofs.CandidateLemmas.{candidate_is}
 use Rattle.cx_sharing.proofs.ReadLemmas.{started_none}
 use Rattle.cx_sharing.proofs.MovedLists.{some_target-moved}
-use Rattle.cx_sharing.proofs.SharedParts.{shared_kind, AtShared, no_cell, a_row, a_part, Shares, new_port, is_primitive_enable-shared, is_part_port-shared, group_at-shared, own_assigns}
+use Rattle.cx_sharing.proofs.SharedParts.{shared_kind, AtShared, no_cell, a_row, a_part, Shares, is_primitive_enable-shared, is_part_port-shared, group_at-shared, own_assigns}
 use Rattle.cx_sharing.proofs.RulesShared.{ByAssign, ByGroup, in_map, hole_of_kept}
-use Rattle.cx_sharing.proofs.RestsShared.{stands_for, child_there}
+use Rattle.cx_sharing.proofs.RestsShared.{stands_for}
 use Rattle.cx_sharing.proofs.CirclesShared.{group_depends_back}
 
 module _ (cell : ℕ → ℕ) where

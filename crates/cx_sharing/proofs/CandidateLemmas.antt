@@ -1,5 +1,5 @@
 -- What is known of a candidate: it is a primitive without a state, some group drives it, and no continuous assignment uses it.
-use Rattle.std.proofs.Common.{◌≡◌, ℕ, Bool, true, false, ◌&&◌, refl, sym, ap, ◌∙◌}
+use Rattle.std.proofs.Common.{◌≡◌, ℕ, Bool, true, false, ◌&&◌, refl}
 use Rattle.std.specs.Prelude.{not}
 use Rattle.std.specs.List.{list_any}
 use Rattle.cx_text.proofs.BoolLaws.{and_both}

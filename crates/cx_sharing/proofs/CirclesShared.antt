@@ -1,5 +1,5 @@
 -- A CIRCLE of an instance of the shared design is a circle of the instance of the design.
-use Rattle.std.proofs.Common.{◌≡◌, ℕ, zero, suc, ◌<◌, ◌≤◌, inl, inr, ◌⊎◌, ⊎_elim, Bool, true, false, List, [], ◌∷◌, length, map, Option, Some, None, refl, sym, ap, ◌∙◌, subst, arith}
+use Rattle.std.proofs.Common.{◌≡◌, ℕ, ◌<◌, ◌≤◌, inl, ⊎_elim, Bool, true, false, Option, Some, None, refl, sym, ap, ◌∙◌, subst}
 use Rattle.std.proofs.lemmas.Bool.{cases_lt, both_ways}
 use Rattle.cx_prim.specs.Table.{PrimitiveRow, row_of}
 use Rattle.cx_prim.specs.declared.ports.Side.{Side}
@@ -7,28 +7,28 @@ use Rattle.cx_prim.specs.declared.ports.Side.TheVariants as sides
 use Rattle.cx_meaning.specs.Rows.{side_of}
 use Rattle.cx_meaning.specs.declared.ports.PortRef.{PortRef}
 use Rattle.cx_meaning.specs.declared.ports.PortRef.TheVariants as ports
-use Rattle.cx_meaning.specs.Designs.{PlainAssign, OfPrimitive, PlainComponent}
-use Rattle.cx_meaning.specs.Instances.{Instance, At, Nothing, OfRow, OfInstance, part_of, cells_of, cell_at, cell_count}
-use Rattle.cx_meaning.specs.Active.{Active, nothing, group, Owned, source_order, offset_of, same_port, drivers}
+use Rattle.cx_meaning.specs.Designs.{PlainComponent}
+use Rattle.cx_meaning.specs.Instances.{Instance, At, OfRow, part_of, cells_of, cell_at, cell_count}
+use Rattle.cx_meaning.specs.Active.{Active, nothing, group, Owned, source_order, offset_of, drivers}
 use Rattle.cx_meaning.specs.Sights.{In}
-use Rattle.cx_rules.specs.Footprints.{AssignNames, Mentions, SideLeads, PartLeads, CellLeads, Leads, Depends, at_once, by_way_of}
+use Rattle.cx_rules.specs.Footprints.{Mentions, SideLeads, CellLeads, Leads, Depends, at_once, by_way_of}
 use Rattle.cx_rules.specs.RaceRule.{HasCycle}
 use Rattle.cx_rules.proofs.ForeignLemmas.{sorted_among}
 use Rattle.cx_text.proofs.OptionLaws.{none_some}
-use Rattle.cx_rewrites.specs.Moving.{moved_assign, moved_owned}
+use Rattle.cx_rewrites.specs.Moving.{moved_owned}
 use Rattle.cx_rewrites.specs.Renaming.{renamed, IsRenamed}
 use Rattle.cx_rewrites.specs.Driving.{assigns_of}
 use Rattle.cx_rewrites.proofs.DriverLemmas.{driven_moved}
-use Rattle.cx_rewrites.proofs.ClosedLemmas.{Mention, mention_of}
+use Rattle.cx_rewrites.proofs.ClosedLemmas.{mention_of}
 use Rattle.cx_rewrites.proofs.ReflectLemmas.{depends_back, circle_back}
-use Rattle.cx_sharing.specs.Uses.{is_stateless, group_uses, kind_in, is_candidate}
+use Rattle.cx_sharing.specs.Uses.{is_stateless, group_uses, is_candidate}
 use Rattle.cx_sharing.specs.Giving.{stays, staying, new_cell}
 use Rattle.cx_sharing.proofs.KeptLemmas.{new_apart}
 use Rattle.cx_sharing.proofs.RowLemmas.{stateless_row}
-use Rattle.cx_sharing.proofs.UsedLemmas.{target_used, Inside, IsIn, Covers, UsedMeet, active_uses, inside_closed, one_port, inside_apart}
+use Rattle.cx_sharing.proofs.UsedLemmas.{target_used, Inside, Covers, UsedMeet, active_uses, inside_closed, one_port, inside_apart}
 use Rattle.cx_sharing.proofs.MeetLemmas.{group_covers, group_used_meet}
 use Rattle.cx_sharing.proofs.TwinLemmas.{candidate_holds_nothing, part_other, stays_is}
-use Rattle.cx_sharing.proofs.RemainingLemmas.{StandsAt, stands_at}
+use Rattle.cx_sharing.proofs.RemainingLemmas.{stands_at}
 use Rattle.cx_sharing.proofs.SharedParts.{Shares, new_port, cells_alike, source_order-shared, AtShared, no_cell, a_row, a_part}
 use Rattle.cx_sharing.proofs.RulesShared.{in_map}
 use Rattle.cx_sharing.proofs.RestsShared.{stands_for}

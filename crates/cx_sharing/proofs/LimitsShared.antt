@@ -1,20 +1,20 @@
 -- LIMITS: a given cell is a primitive without words, so each count over the shared design is that over the design, or less.
-use Rattle.std.proofs.Common.{◌≡◌, ℕ, zero, suc, ◌+◌, ◌<◌, ◌≤◌, max, inl, inr, ⊎_elim, Bool, true, false, List, [], ◌∷◌, length, map, refl, sym, ap, ap₂, ◌∙◌, subst, arith}
+use Rattle.std.proofs.Common.{◌≡◌, ℕ, zero, suc, ◌+◌, ◌<◌, ◌≤◌, max, ⊎_elim, Bool, true, false, List, [], ◌∷◌, length, refl, sym, ap, ap₂, ◌∙◌, arith}
 use Rattle.std.specs.Prelude.{if◌then◌else◌}
 use Rattle.std.proofs.lemmas.Bool.{eq-eqb, both_ways}
 use Rattle.std.proofs.lemmas.List.{length-map}
 use Rattle.cx_prim.specs.CellStates.{StateShape, NoState, RegisterOf, MemoryOf, SequentialMemoryOf, MultiplierOf, DividerOf, TimerOf}
 use Rattle.cx_prim.specs.Table.{PrimitiveRow, row_of}
 use Rattle.cx_meaning.specs.Designs.{PlainKind, OfPrimitive, OfComponent, PlainCell, PlainComponent, PlainDesign, component_at}
-use Rattle.cx_meaning.specs.Instances.{Instance, Node, Cells, cells_for, add_cell, tree_within, tree_of}
-use Rattle.cx_rules.specs.Items.{Dynamic, visit, statements_in}
+use Rattle.cx_meaning.specs.Instances.{Instance, Node, cells_for, add_cell, tree_within, tree_of}
+use Rattle.cx_rules.specs.Items.{Dynamic, statements_in}
 use Rattle.cx_rules.specs.StaticControl.{occurrences_of}
 use Rattle.cx_rules.specs.Sizes.{assigns_size, groups_size, size_of, weight_below, weight_in, weight_of, instances_below, instances_in, depth_below, depth_in, shape_words, words_below, words_in}
 use Rattle.cx_meaning.specs.Islands.{kind_length, group_length}
-use Rattle.cx_meaning.specs.Designs.{PlainGroup, group_at}
+use Rattle.cx_meaning.specs.Designs.{PlainGroup}
 use Rattle.cx_rewrites.specs.Renaming.{renamed}
-use Rattle.cx_sharing.specs.Uses.{is_stateless, kind_in, is_candidate}
-use Rattle.cx_sharing.specs.Giving.{keeper, stays, staying, new_cell}
+use Rattle.cx_sharing.specs.Uses.{is_stateless, kind_in}
+use Rattle.cx_sharing.specs.Giving.{keeper, stays, new_cell}
 use Rattle.cx_sharing.specs.SharedDesign.{remaining, shared_part, shared_design}
 use Rattle.cx_sharing.proofs.KeeperLemmas.{WasGiven, given_or_kept}
 use Rattle.cx_sharing.proofs.RemainingLemmas.{length_left}

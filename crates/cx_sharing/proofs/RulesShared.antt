@@ -1,24 +1,24 @@
 -- EACH RULE on widths, shapes and static control that an instance of the shared design breaks, the instance of the design breaks at the same part.
-use Rattle.std.proofs.Common.{◌≡◌, ◌≢◌, ℕ, zero, suc, ◌+◌, inl, inr, ◌⊎◌, Bool, true, false, ◌||◌, ◌&&◌, List, [], ◌∷◌, map, Option, Some, None, option_map, slice_get, refl, sym, ap, ap₂, ◌∙◌, subst}
+use Rattle.std.proofs.Common.{◌≡◌, ◌≢◌, ℕ, zero, suc, inl, inr, ◌⊎◌, Bool, true, false, ◌||◌, ◌&&◌, List, [], ◌∷◌, map, Option, Some, None, option_map, slice_get, refl, sym, ap, ap₂, ◌∙◌, subst}
 use Rattle.std.specs.Prelude.{nat_eq, nat_lt, nat_le, if◌then◌else◌}
 use Rattle.cx_text.specs.declared.places.Place.{Place}
 use Rattle.cx_meaning.specs.declared.ports.PortRef.{PortRef}
 use Rattle.cx_meaning.specs.declared.ports.PortRef.TheVariants as ports
 use Rattle.cx_meaning.specs.declared.ports.PlacedPort.{PlacedPort}
-use Rattle.cx_meaning.specs.Designs.{PlainGroup, PlainComponent, group_at, PlainForm}
+use Rattle.cx_meaning.specs.Designs.{PlainGroup, group_at}
 use Rattle.cx_meaning.specs.Instances.{Instance, part_of}
 use Rattle.cx_meaning.specs.Active.{Owned}
 use Rattle.cx_meaning.specs.Sights.{In}
-use Rattle.cx_meaning.specs.Islands.{group_length, form_length}
-use Rattle.cx_rules.specs.Ports.{width_of, written_width, is_source_only, is_target_only, is_primitive_enable, is_part_port}
-use Rattle.cx_rules.specs.Items.{Pair, atoms_of, sources_of, Range, ranges_of, Visited, test_in, is_plain, is_comb}
+use Rattle.cx_meaning.specs.Islands.{form_length}
+use Rattle.cx_rules.specs.Ports.{width_of, is_target_only, is_primitive_enable, is_part_port}
+use Rattle.cx_rules.specs.Items.{Pair, atoms_of, sources_of, Visited, test_in, is_plain, is_comb}
 use Rattle.cx_rules.specs.Spots.{AssignRule, StatementRule, GroupRule}
 use Rattle.cx_rules.specs.WidthRules.{differ, pairs_of, first_unequal, BreaksWidth, is_wide, first_wide, BreaksGuardWidth, TestBreaksGuardWidth, IsBadLiteral, BreaksLiteral, TestBreaksLiteral, BreaksNotATarget, BreaksNotASource, TestBreaksNotASource}
 use Rattle.cx_rules.specs.ShapeRules.{is_hole, is_hole_of, some_target, BreaksNoDone, BreaksAlwaysEnable, BreaksCombEnable, owner_length, is_bad_range, BreaksStaticGuard, GroupBreaksStaticShape, BreaksStaticControl, BreaksLength}
-use Rattle.cx_rules.specs.StaticControl.{is_static, is_in_static, may_stand, form_has_length, written_length, is_island, form_occurrences}
+use Rattle.cx_rules.specs.StaticControl.{written_length, is_island, form_occurrences}
 use Rattle.cx_rules.specs.LimitRule.{Limited, OnRepeat, OnOccurrences, OnLatency, is_too_many, count_in, statement_limit, BreaksStatement}
 use Rattle.cx_text.specs.declared.limits.TheConstants.{OCCURRENCES, REPETITIONS}
-use Rattle.cx_rewrites.specs.Moving.{moved_port, moved_assign, moved_owned, moved_group, moved_form}
+use Rattle.cx_rewrites.specs.Moving.{moved_port, moved_assign, moved_owned, moved_form}
 use Rattle.cx_rewrites.specs.Renaming.{renamed}
 use Rattle.cx_rewrites.proofs.IslandLemmas.{form_length-moved}
 use Rattle.cx_sharing.specs.Giving.{new_cell}

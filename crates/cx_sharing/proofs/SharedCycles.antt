@@ -53,6 +53,9 @@ module _ (set : ℕ → Bool) (told : Fault → Fault) (x y : ℕ → Outcome)
 module _ (i j : Instance) (twin : IsTwin i j) (act more : Active) (offsets : (g : ℕ) → more.offset g ≡ act.offset g)
     (used : ℕ → Type 0) (covers : Covers (part_of i) used act) (meets : UsedMeet (part_of i) used)
     (held : Held) (dones : (c : ℕ) → is_done_cell act.done_cell c ≡ is_done_cell more.done_cell (new_cell (part_of i) c)) (acyclic : IsAcyclic i act) where
+  abbrev new : ℕ → ℕ
+  new = new_cell (part_of i)
+
   module _ (s z : State) (stands : SharedStands i s z) where
     -- a primitive that holds something is alike
     row_other : (c : ℕ) (row : Row) → cell_at (cells_of i) c ≡ OfRow row → has_state row ≡ true → is_candidate (part_of i) c ≡ false
@@ -60,7 +63,7 @@ module _ (i j : Instance) (twin : IsTwin i j) (act more : Active) (offsets : (g 
         let r = row_twin row (twin.cells c) at in
         state_other (part_of i) c r.0 r.2 (ap (λ (x : Row). is_stateless x.shape) r.1 ∙ from_not (is_stateless row.shape) has)
 
-    row_alike : (c : ℕ) (row : Row) → cell_at (cells_of i) c ≡ OfRow row → has_state row ≡ true → CellAlike i j held held act more s z c (new_cell (part_of i) c)
+    row_alike : (c : ℕ) (row : Row) → cell_at (cells_of i) c ≡ OfRow row → has_state row ≡ true → CellAlike i j held held act more s z c (new c)
     row_alike c row at has = record {
       row = row;
       here = at;
@@ -77,38 +80,38 @@ module _ (i j : Instance) (twin : IsTwin i j) (act more : Active) (offsets : (g 
         ∙ stateless_goes r.0 stateless (seen i held act s) c (s (c ∷ []))
         ∙ ap (λ (x : Row). Next (x.idle (s (c ∷ [])))) r.1
 
-    row_goes_there : (c : ℕ) (row : Row) → cell_at (cells_of i) c ≡ OfRow row → has_state row ≡ false → comes_to j held more z (new_cell (part_of i) c) ≡ Next (row.idle (z (new_cell (part_of i) c ∷ [])))
+    row_goes_there : (c : ℕ) (row : Row) → cell_at (cells_of i) c ≡ OfRow row → has_state row ≡ false → comes_to j held more z (new c) ≡ Next (row.idle (z (new c ∷ [])))
     row_goes_there c row at none =
         let r = row_twin row (twin.cells c) at in
-        let e = new_cell (part_of i) c in
+        let e = new c in
         let stateless : is_stateless (row_of r.0).shape ≡ true = ap (λ (x : Row). is_stateless x.shape) r.1 ∙ not_not (is_stateless row.shape) none in
         ap (λ x. outcome_at (seen j held more z) e x (z (e ∷ []))) (r.3 ∙ ap OfRow (sym r.1))
         ∙ stateless_goes r.0 stateless (seen j held more z) e (z (e ∷ []))
         ∙ ap (λ (x : Row). Next (x.idle (z (e ∷ [])))) r.1
 
     -- WHAT A CELL COMES TO, the cell of its new number does
-    of_outcome : (c : ℕ) (o : Outcome) → comes_to j held more z (new_cell (part_of i) c) ≡ o → OutcomeFollows (shared_fault i) c o (new_cell (part_of i) c) (comes_to j held more z (new_cell (part_of i) c))
+    of_outcome : (c : ℕ) (o : Outcome) → comes_to j held more z (new c) ≡ o → OutcomeFollows (shared_fault i) c o (new c) (comes_to j held more z (new c))
     of_outcome c (Next d) e = (d, e)
     of_outcome c (Stops kind p) e = (p, e, told_here i kind (ports.Cell c p))
 
-    both_go : (c : ℕ) (d f : CellState) → comes_to i held act s c ≡ Next d → comes_to j held more z (new_cell (part_of i) c) ≡ Next f
-        → OutcomeFollows (shared_fault i) c (comes_to i held act s c) (new_cell (part_of i) c) (comes_to j held more z (new_cell (part_of i) c))
-    both_go c d f e g = subst (λ o. OutcomeFollows (shared_fault i) c o (new_cell (part_of i) c) (comes_to j held more z (new_cell (part_of i) c))) (sym e) (f, g)
+    both_go : (c : ℕ) (d f : CellState) → comes_to i held act s c ≡ Next d → comes_to j held more z (new c) ≡ Next f
+        → OutcomeFollows (shared_fault i) c (comes_to i held act s c) (new c) (comes_to j held more z (new c))
+    both_go c d f e g = subst (λ o. OutcomeFollows (shared_fault i) c o (new c) (comes_to j held more z (new c))) (sym e) (f, g)
 
-    cell_follows : (c : ℕ) → OutcomeFollows (shared_fault i) c (comes_to i held act s c) (new_cell (part_of i) c) (comes_to j held more z (new_cell (part_of i) c))
+    cell_follows : (c : ℕ) → OutcomeFollows (shared_fault i) c (comes_to i held act s c) (new c) (comes_to j held more z (new c))
     cell_follows c = by (cell_at (cells_of i) c) refl
       where
-        by : (at : At) → cell_at (cells_of i) c ≡ at → OutcomeFollows (shared_fault i) c (comes_to i held act s c) (new_cell (part_of i) c) (comes_to j held more z (new_cell (part_of i) c))
+        by : (at : At) → cell_at (cells_of i) c ≡ at → OutcomeFollows (shared_fault i) c (comes_to i held act s c) (new c) (comes_to j held more z (new c))
         by Nothing is =
             both_go c _ _ (ap (λ x. outcome_at (seen i held act s) c x (s (c ∷ []))) is)
-            (ap (λ x. outcome_at (seen j held more z) (new_cell (part_of i) c) x (z (new_cell (part_of i) c ∷ []))) (nothing_twin (twin.cells c) is))
+            (ap (λ x. outcome_at (seen j held more z) (new c) x (z (new c ∷ []))) (nothing_twin (twin.cells c) is))
         by (OfInstance child) is =
             both_go c _ _ (ap (λ x. outcome_at (seen i held act s) c x (s (c ∷ []))) is)
-            (ap (λ x. outcome_at (seen j held more z) (new_cell (part_of i) c) x (z (new_cell (part_of i) c ∷ []))) (child_twin child (twin.cells c) is).3)
+            (ap (λ x. outcome_at (seen j held more z) (new c) x (z (new c ∷ []))) (child_twin child (twin.cells c) is).3)
         by (OfRow row) is = of_state (has_state row) refl
           where
-            of_state : (b : Bool) → has_state row ≡ b → OutcomeFollows (shared_fault i) c (comes_to i held act s c) (new_cell (part_of i) c) (comes_to j held more z (new_cell (part_of i) c))
-            of_state true has = of_outcome c (comes_to i held act s c) (sym (same_outcome i j held held act more s z c (new_cell (part_of i) c) (row_alike c row is has)))
+            of_state : (b : Bool) → has_state row ≡ b → OutcomeFollows (shared_fault i) c (comes_to i held act s c) (new c) (comes_to j held more z (new c))
+            of_state true has = of_outcome c (comes_to i held act s c) (sym (same_outcome i j held held act more s z c (new c) (row_alike c row is has)))
             of_state false none = both_go c _ _ (row_goes c row is none) (row_goes_there c row is none)
 
     -- a cell that is given goes on
@@ -137,15 +140,15 @@ module _ (i j : Instance) (twin : IsTwin i j) (act more : Active) (offsets : (g 
     row_left c path row root at has goes =
         ap (λ rest. left_by j held more z (renumbered new_cell i (c ∷ rest))) root
         ∙ ap (left_by j held more z) (row_path i c row at)
-        ∙ cell_left i j held held act more s z c (new_cell (part_of i) c) (row_alike c row at has) (left_by i held act s) goes
+        ∙ cell_left i j held held act more s z c (new c) (row_alike c row at has) (left_by i held act s) goes
         ∙ ap (λ rest. left_by i held act s (c ∷ rest)) (sym root)
 
     child_left : (c : ℕ) (path : Path) (child : Instance) → cell_at (cells_of i) c ≡ OfInstance child → holds has_state child path ≡ true → holds has_state i (c ∷ path) ≡ true
         → left_by j held more z (renumbered new_cell i (c ∷ path)) ≡ left_by i held act s (c ∷ path)
     child_left c [] child at has on = absurd (both_ways (holds has_state child []) (root_of child) has)
     child_left c (e ∷ path) child at has on =
-        let there : renumbered new_cell i (c ∷ e ∷ path) ≡ new_cell (part_of i) c ∷ new_cell (part_of child) e ∷ renumbered_below new_cell (cells_of child) e path =
-        path_of i c (e ∷ path) ∙ ap (λ rest. new_cell (part_of i) c ∷ rest) (child_renumbered (cells_of i) c child (e ∷ path) at ∙ path_of child e path) in
+        let there : renumbered new_cell i (c ∷ e ∷ path) ≡ new c ∷ new_cell (part_of child) e ∷ renumbered_below new_cell (cells_of child) e path =
+        path_of i c (e ∷ path) ∙ ap (λ rest. new c ∷ rest) (child_renumbered (cells_of i) c child (e ∷ path) at ∙ path_of child e path) in
         ap (left_by j held more z) there ∙ ap z (sym there) ∙ stands (c ∷ e ∷ path) on
 
     left_stands : cycle i held act s ≡ Goes (left_by i held act s) → SharedStands i (left_by i held act s) (left_by j held more z)

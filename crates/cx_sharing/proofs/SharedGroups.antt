@@ -37,54 +37,54 @@ module _ (i j : Instance) (twin : IsTwin i j) where
   abbrev new : ℕ → ℕ
   new = new_cell (part_of i)
 
-  group_shared : (g : ℕ) → group_at (part_of j) g ≡ moved_group (renamed (new_cell (part_of i))) (group_at (part_of i) g)
-  group_shared g = ap (λ (x : PlainComponent). get_or x.groups g no_group) twin.part ∙ moved_group_at (renamed (new_cell (part_of i))) (part_of i).groups g
+  group_shared : (g : ℕ) → group_at (part_of j) g ≡ moved_group (renamed new) (group_at (part_of i) g)
+  group_shared g = ap (λ (x : PlainComponent). get_or x.groups g no_group) twin.part ∙ moved_group_at (renamed new) (part_of i).groups g
 
-  pub assigns_shared : (g : ℕ) → (group_at (part_of j) g).assigns ≡ map (moved_assign (renamed (new_cell (part_of i)))) (group_at (part_of i) g).assigns
+  pub assigns_shared : (g : ℕ) → (group_at (part_of j) g).assigns ≡ map (moved_assign (renamed new)) (group_at (part_of i) g).assigns
   assigns_shared g = ap (λ (x : PlainGroup). x.assigns) (group_shared g)
 
   pub length_shared : (g : ℕ) → group_length (part_of j) g ≡ group_length (part_of i) g
   length_shared g = ap (λ (x : PlainGroup). kind_length x.kind) (group_shared g)
 
   -- WHAT IS DRIVEN, of a cell that is no candidate
-  target_drives : (t : PortRef) (c : ℕ) → is_candidate (part_of i) c ≡ false → targets_cell (renamed (new_cell (part_of i)) t) (new_cell (part_of i) c) ≡ targets_cell t c
+  target_drives : (t : PortRef) (c : ℕ) → is_candidate (part_of i) c ≡ false → targets_cell (renamed new t) (new c) ≡ targets_cell t c
   target_drives (ports.Cell d n) c none = own_equal_back (part_of i) d c none
   target_drives (ports.Input n) c none = refl
   target_drives (ports.Output n) c none = refl
   target_drives (ports.Done g) c none = refl
   target_drives (ports.Literal w v) c none = refl
 
-  assigns_drive-moved : (list : List PlainAssign) (c : ℕ) → is_candidate (part_of i) c ≡ false → assigns_drive (map (moved_assign (renamed (new_cell (part_of i)))) list) (new_cell (part_of i) c) ≡ assigns_drive list c
+  assigns_drive-moved : (list : List PlainAssign) (c : ℕ) → is_candidate (part_of i) c ≡ false → assigns_drive (map (moved_assign (renamed new)) list) (new c) ≡ assigns_drive list c
   assigns_drive-moved [] c none = refl
   assigns_drive-moved (a ∷ rest) c none =
-      ap (λ b. b || assigns_drive (map (moved_assign (renamed (new_cell (part_of i)))) rest) (new_cell (part_of i) c)) (target_drives a.target c none)
+      ap (λ b. b || assigns_drive (map (moved_assign (renamed new)) rest) (new c)) (target_drives a.target c none)
       ∙ ap (λ b. targets_cell a.target c || b) (assigns_drive-moved rest c none)
 
-  groups_drive-shared : (gs : List ℕ) (c : ℕ) → is_candidate (part_of i) c ≡ false → groups_drive (part_of j) gs (new_cell (part_of i) c) ≡ groups_drive (part_of i) gs c
+  groups_drive-shared : (gs : List ℕ) (c : ℕ) → is_candidate (part_of i) c ≡ false → groups_drive (part_of j) gs (new c) ≡ groups_drive (part_of i) gs c
   groups_drive-shared [] c none = refl
   groups_drive-shared (g ∷ gs) c none =
-      ap (λ b. b || groups_drive (part_of j) gs (new_cell (part_of i) c)) (ap (λ list. assigns_drive list (new_cell (part_of i) c)) (assigns_shared g) ∙ assigns_drive-moved (group_at (part_of i) g).assigns c none)
+      ap (λ b. b || groups_drive (part_of j) gs (new c)) (ap (λ list. assigns_drive list (new c)) (assigns_shared g) ∙ assigns_drive-moved (group_at (part_of i) g).assigns c none)
       ∙ ap (λ b. group_drives (part_of i) g c || b) (groups_drive-shared gs c none)
 
-  pub drives_shared : (s : PlainStatement) (c : ℕ) → is_candidate (part_of i) c ≡ false → drives (part_of j) (moved_statement (renamed (new_cell (part_of i))) s) (new_cell (part_of i) c) ≡ drives (part_of i) s c
-  drives_shared s c none = ap (λ gs. groups_drive (part_of j) gs (new_cell (part_of i) c)) (groups_of-moved (renamed (new_cell (part_of i))) s) ∙ groups_drive-shared (groups_of s) c none
+  pub drives_shared : (s : PlainStatement) (c : ℕ) → is_candidate (part_of i) c ≡ false → drives (part_of j) (moved_statement (renamed new) s) (new c) ≡ drives (part_of i) s c
+  drives_shared s c none = ap (λ gs. groups_drive (part_of j) gs (new c)) (groups_of-moved (renamed new) s) ∙ groups_drive-shared (groups_of s) c none
 
   -- WHAT IS CALLED
   abbrev pub called_there : Option ℕ → Option ℕ
   called_there None = None
-  called_there (Some c) = Some (new_cell (part_of i) c)
+  called_there (Some c) = Some (new c)
 
-  at_called : {at to : At} (c : ℕ) (later more : Option ℕ) → AtTwin (part_of i) c at to → more ≡ called_there later → if_instance to (new_cell (part_of i) c) more ≡ called_there (if_instance at c later)
+  at_called : {at to : At} (c : ℕ) (later more : Option ℕ) → AtTwin (part_of i) c at to → more ≡ called_there later → if_instance to (new c) more ≡ called_there (if_instance at c later)
   at_called c later more no_twins e = e
   at_called c later more (twin_rows p kind) e = e
   at_called c later more (twin_parts k child other kind beside) e = refl
 
-  called_in-moved : (list : List PlainAssign) → called_in (cells_of j) (map (moved_assign (renamed (new_cell (part_of i)))) list) ≡ called_there (called_in (cells_of i) list)
+  called_in-moved : (list : List PlainAssign) → called_in (cells_of j) (map (moved_assign (renamed new)) list) ≡ called_there (called_in (cells_of i) list)
   called_in-moved [] = refl
   called_in-moved (a ∷ rest) = by a.target (called_in-moved rest)
     where
-      by : (p : PortRef) → called_in (cells_of j) (map (moved_assign (renamed (new_cell (part_of i)))) rest) ≡ called_there (called_in (cells_of i) rest)
-          → called_by (cells_of j) (renamed (new_cell (part_of i)) p) (called_in (cells_of j) (map (moved_assign (renamed (new_cell (part_of i)))) rest)) ≡ called_there (called_by (cells_of i) p (called_in (cells_of i) rest))
+      by : (p : PortRef) → called_in (cells_of j) (map (moved_assign (renamed new)) rest) ≡ called_there (called_in (cells_of i) rest)
+          → called_by (cells_of j) (renamed new p) (called_in (cells_of j) (map (moved_assign (renamed new)) rest)) ≡ called_there (called_by (cells_of i) p (called_in (cells_of i) rest))
       by (ports.Cell c n) e = at_called c (called_in (cells_of i) rest) _ (twin.cells c) e
       by (ports.Input n) e = e
       by (ports.Output n) e = e
@@ -100,17 +100,17 @@ module _ (i j : Instance) (twin : IsTwin i j) where
   at_enables c n (twin_rows p kind) = refl
   at_enables c n (twin_parts k child other kind beside) = refl
 
-  target_enables : (p : PortRef) → enables_primitive (cells_of j) (renamed (new_cell (part_of i)) p) ≡ enables_primitive (cells_of i) p
+  target_enables : (p : PortRef) → enables_primitive (cells_of j) (renamed new p) ≡ enables_primitive (cells_of i) p
   target_enables (ports.Cell c n) = at_enables c n (twin.cells c)
   target_enables (ports.Input n) = refl
   target_enables (ports.Output n) = refl
   target_enables (ports.Done g) = refl
   target_enables (ports.Literal w v) = refl
 
-  captures_in-moved : (list : List PlainAssign) → captures_in (cells_of j) (map (moved_assign (renamed (new_cell (part_of i)))) list) ≡ captures_in (cells_of i) list
+  captures_in-moved : (list : List PlainAssign) → captures_in (cells_of j) (map (moved_assign (renamed new)) list) ≡ captures_in (cells_of i) list
   captures_in-moved [] = refl
   captures_in-moved (a ∷ rest) =
-      ap (λ b. b || captures_in (cells_of j) (map (moved_assign (renamed (new_cell (part_of i)))) rest)) (target_enables a.target)
+      ap (λ b. b || captures_in (cells_of j) (map (moved_assign (renamed new)) rest)) (target_enables a.target)
       ∙ ap (λ b. enables_primitive (cells_of i) a.target || b) (captures_in-moved rest)
 
   pub captures_shared : (g : ℕ) → captures j g ≡ captures i g

@@ -67,6 +67,9 @@ pub record IsFit (i : Instance) : Type 0 where
   pub enables : (g : ℕ) (h : History) (t : ℕ) → IsAcyclic i (entries (active_in h t (form_flat (part_of i) (Enable g) 0 [])))
 
 module _ (i j : Instance) (twin : IsTwin i j) (fit : IsFit i) (held : Held) where
+  abbrev new : ℕ → ℕ
+  new = new_cell (part_of i)
+
   abbrev R : Tally → State → State → Type 0
   R counted = SharedStands i
 
@@ -81,12 +84,12 @@ module _ (i j : Instance) (twin : IsTwin i j) (fit : IsFit i) (held : Held) wher
   port_inside (ports.Done g) = tt
   port_inside (ports.Literal w v) = tt
 
-  bare_seen : (p : PortRef) → IsSeenAlike R i j held held nothing nothing p (renamed (new_cell (part_of i)) p)
+  bare_seen : (p : PortRef) → IsSeenAlike R i j held held nothing nothing p (renamed new p)
   bare_seen p before s z stands =
       seen_there i j twin nothing nothing (λ g. refl) (λ c. targets_cell p c ≡ true) (port_covers (part_of i) p) (port_meets (part_of i) p) held s z stands (λ c. refl) fit.bare p (port_inside p)
 
   -- A GROUP
-  group_seen : (g : ℕ) (p : PortRef) → Inside (part_of i) (λ c. group_uses (part_of i) g c ≡ true) p → IsSeenAlike R i j held held (group g) (group g) p (renamed (new_cell (part_of i)) p)
+  group_seen : (g : ℕ) (p : PortRef) → Inside (part_of i) (λ c. group_uses (part_of i) g c ≡ true) p → IsSeenAlike R i j held held (group g) (group g) p (renamed new p)
   group_seen g p here before s z stands =
       seen_there i j twin (group g) (group g) (λ h. refl) (λ c. group_uses (part_of i) g c ≡ true) (group_covers (part_of i) g) (group_used_meet (part_of i) g) held s z stands (λ c. refl) (fit.groups g) p here
 
@@ -110,31 +113,31 @@ module _ (i j : Instance) (twin : IsTwin i j) (fit : IsFit i) (held : Held) wher
   comb_acyclic None = fit.bare
   comb_acyclic (Some g) = fit.groups g
 
-  comb_done : (o : Option ℕ) (c : ℕ) → is_done_cell (comb o).done_cell c ≡ is_done_cell (comb o).done_cell (new_cell (part_of i) c)
+  comb_done : (o : Option ℕ) (c : ℕ) → is_done_cell (comb o).done_cell c ≡ is_done_cell (comb o).done_cell (new c)
   comb_done None c = refl
   comb_done (Some g) c = refl
 
   pub test_shared : (v : Visited) (p : PlacedPort) (o : Option ℕ) → In (statements_in (part_of i)) v → ((x y : ℕ) → form_meets (part_of i) v.form x y ≡ has_both (test_uses (part_of i) p o) x y)
-      → (before : Tally) (s z : State) → R before s z → TestCarried Exact (shared_fault i) (test i held p.port o s) (test j held (renamed (new_cell (part_of i)) p.port) o z)
+      → (before : Tally) (s z : State) → R before s z → TestCarried Exact (shared_fault i) (test i held p.port o s) (test j held (renamed new p.port) o z)
   test_shared v p o stands is before s z r =
-      test_carried Exact R (shared_fault i) i j held held p.port (renamed (new_cell (part_of i)) p.port) o o
+      test_carried Exact R (shared_fault i) i j held held p.port (renamed new p.port) o o
       (λ before2 s2 z2 stands2. seen_there i j twin (comb o) (comb o) (λ g. refl) (λ c. test_uses (part_of i) p o c ≡ true) (test_covers (part_of i) p o) (test_meets (part_of i) v p o stands is) held s2 z2 stands2
       (comb_done o) (comb_acyclic o) p.port (test_inside p o p.port refl))
       (λ kind. told_here i kind p.port) before s z r
 
   -- A CALL
-  own_same : (c e : ℕ) → is_candidate (part_of i) c ≡ false → nat_eq c e ≡ nat_eq (new_cell (part_of i) c) (new_cell (part_of i) e)
-  own_same c e other = by (nat_eq c e) refl (nat_eq (new_cell (part_of i) c) (new_cell (part_of i) e)) refl
+  own_same : (c e : ℕ) → is_candidate (part_of i) c ≡ false → nat_eq c e ≡ nat_eq (new c) (new e)
+  own_same c e other = by (nat_eq c e) refl (nat_eq (new c) (new e)) refl
     where
-      by : (x : Bool) → nat_eq c e ≡ x → (y : Bool) → nat_eq (new_cell (part_of i) c) (new_cell (part_of i) e) ≡ y → x ≡ y
+      by : (x : Bool) → nat_eq c e ≡ x → (y : Bool) → nat_eq (new c) (new e) ≡ y → x ≡ y
       by true f true g = refl
       by false f false g = refl
-      by true f false g = sym (eq-eqb (new_cell (part_of i) c) (new_cell (part_of i) e) (ap (new_cell (part_of i)) (eqb-true c e f))) ∙ g
-      by false f true g = sym f ∙ eq-eqb c e (own_number (part_of i) c e other (eqb-true (new_cell (part_of i) c) (new_cell (part_of i) e) g))
+      by true f false g = sym (eq-eqb (new c) (new e) (ap new (eqb-true c e f))) ∙ g
+      by false f true g = sym f ∙ eq-eqb c e (own_number (part_of i) c e other (eqb-true (new c) (new e) g))
 
-  module _ (g c : ℕ) (child other : Instance) (at : cell_at (cells_of i) c ≡ OfInstance child) (there : cell_at (cells_of j) (new_cell (part_of i) c) ≡ OfInstance other)
+  module _ (g c : ℕ) (child other : Instance) (at : cell_at (cells_of i) c ≡ OfInstance child) (there : cell_at (cells_of j) (new c) ≡ OfInstance other)
       (none_given : is_candidate (part_of i) c ≡ false) (beside : IsBeside child other) where
-    call_shared : CallCarries Exact R (λ counted. SharedStands child) (shared_fault i) (shared_fault child) i j held held g g c (new_cell (part_of i) c)
+    call_shared : CallCarries Exact R (λ counted. SharedStands child) (shared_fault i) (shared_fault child) i j held held g g c (new c)
     call_shared = record {
       rests = rests;
       inputs = λ input. group_seen g (ports.Cell c (suc input)) (inl none_given);
@@ -142,29 +145,29 @@ module _ (i j : Instance) (twin : IsTwin i j) (fit : IsFit i) (held : Held) wher
       ends = λ before counted s z own twin_own stands kids. back_state i c child own twin_own s z at none_given kids stands;
       told = λ f. told_below i c child f at;
       captured = captures_shared i j twin g;
-      capture_cycle = λ capturing. cycle_shared i j twin (capture g c) (capture g (new_cell (part_of i) c)) (λ h. refl) (λ e. group_uses (part_of i) g e ≡ true) (capture_covers (part_of i) g c) (group_used_meet (part_of i) g)
+      capture_cycle = λ capturing. cycle_shared i j twin (capture g c) (capture g (new c)) (λ h. refl) (λ e. group_uses (part_of i) g e ≡ true) (capture_covers (part_of i) g c) (group_used_meet (part_of i) g)
           held (λ e. own_same c e none_given) (capture_acyclic i g c (fit.groups g)) none;
     }
 
-    call_runs : Carries Exact R (shared_fault i) (λ s n. none) (call i (control_below (cells_of i)) held g c) (call j (control_below (cells_of j)) held g (new_cell (part_of i) c))
+    call_runs : Carries Exact R (shared_fault i) (λ s n. none) (call i (control_below (cells_of i)) held g c) (call j (control_below (cells_of j)) held g (new c))
     call_runs =
-        recount (SharedStands i) (shared_fault i) (λ s n. below c none) (λ s n. none) (call i (control_below (cells_of i)) held g c) (call j (control_below (cells_of j)) held g (new_cell (part_of i) c))
-        (call_carries Exact R (shared_fault i) i j held held (λ counted. SharedStands child) (shared_fault child) g g c (new_cell (part_of i) c) call_shared (control_below (cells_of i)) (control_below (cells_of j)) (λ own s n. none)
-        (λ own. equals_carry Exact (λ counted. SharedStands child) (shared_fault child) (λ s n. none) (run_control child own) (control_below (cells_of i) c own) (run_control other own) (control_below (cells_of j) (new_cell (part_of i) c) own)
-        (λ s n. control_child (cells_of i) c child own s n at) (λ s n. control_child (cells_of j) (new_cell (part_of i) c) other own s n there) (beside.runs own)))
+        recount (SharedStands i) (shared_fault i) (λ s n. below c none) (λ s n. none) (call i (control_below (cells_of i)) held g c) (call j (control_below (cells_of j)) held g (new c))
+        (call_carries Exact R (shared_fault i) i j held held (λ counted. SharedStands child) (shared_fault child) g g c (new c) call_shared (control_below (cells_of i)) (control_below (cells_of j)) (λ own s n. none)
+        (λ own. equals_carry Exact (λ counted. SharedStands child) (shared_fault child) (λ s n. none) (run_control child own) (control_below (cells_of i) c own) (run_control other own) (control_below (cells_of j) (new c) own)
+        (λ s n. control_child (cells_of i) c child own s n at) (λ s n. control_child (cells_of j) (new c) other own s n there) (beside.runs own)))
 
   -- AN ISLAND
   pub island_shared : (context : Context) (form : PlainForm) (place : Place) → StandsHere (part_of i) context form place
       → ((h : History) (t : ℕ) → IsAcyclic i (entries (active_in h t (form_flat (part_of i) form 0 []))))
-      → Carries Exact R (shared_fault i) (λ s n. none) (island i held form) (island j held (moved_form (renamed (new_cell (part_of i))) form))
+      → Carries Exact R (shared_fault i) (λ s n. none) (island i held form) (island j held (moved_form (renamed new) form))
   island_shared context form place here acyclic =
-      recount (SharedStands i) (shared_fault i) (island_count (λ es. none) i held form) (λ s n. none) (island i held form) (island j held (moved_form (renamed (new_cell (part_of i))) form))
-      (island_carries (renamed (new_cell (part_of i))) Exact R (shared_fault i) (λ es. none) (λ g. Unit {0}) (λ p. Unit {0}) i j held held form (length_shared i j twin) fine carries)
+      recount (SharedStands i) (shared_fault i) (island_count (λ es. none) i held form) (λ s n. none) (island i held form) (island j held (moved_form (renamed new) form))
+      (island_carries (renamed new) Exact R (shared_fault i) (λ es. none) (λ g. Unit {0}) (λ p. Unit {0}) i j held held form (length_shared i j twin) fine carries)
     where
       fine : AllFine (λ g. Unit {0}) (λ p. Unit {0}) (form_flat (part_of i) form 0 [])
       fine = form_fine (λ g. Unit {0}) (λ p. Unit {0}) (λ f. Unit {0}) (λ f p known e. tt) (part_of i) context form 0 [] tt (record { groups = λ g k. tt; forms = λ v k. tt }) tt
 
-      carries : IslandCarries Exact R (shared_fault i) (renamed (new_cell (part_of i))) (λ es. none) (λ p. Unit {0}) i j held held (form_flat (part_of i) form 0 [])
+      carries : IslandCarries Exact R (shared_fault i) (renamed new) (λ es. none) (λ p. Unit {0}) i j held held (form_flat (part_of i) form 0 [])
       carries = record {
         rests = rests;
         samples = λ p known. bare_seen p;
@@ -200,9 +203,9 @@ module _ (i j : Instance) (twin : IsTwin i j) (fit : IsFit i) (held : Held) wher
           let own = called_child (cells_of i) (group_at (part_of i) g).assigns c calls in
           let r = child_twin own.0 (twin.cells c) own.1 in
           equals_carry Exact R (shared_fault i) (λ s n. none) (call i (control_below (cells_of i)) held g c) (enable i (control_below (cells_of i)) held g)
-          (call j (control_below (cells_of j)) held g (new_cell (part_of i) c)) (enable j (control_below (cells_of j)) held g)
+          (call j (control_below (cells_of j)) held g (new c)) (enable j (control_below (cells_of j)) held g)
           (λ s n. enable-call i (control_below (cells_of i)) held g c plain calls s n)
-          (λ s n. enable-call j (control_below (cells_of j)) held g (new_cell (part_of i) c) (length_shared i j twin g ∙ plain) (called_shared i j twin g ∙ ap (called_there i j twin) calls) s n)
+          (λ s n. enable-call j (control_below (cells_of j)) held g (new c) (length_shared i j twin g ∙ plain) (called_shared i j twin g ∙ ap (called_there i j twin) calls) s n)
           (call_runs g c own.0 r.1 own.1 r.3 (part_other (part_of i) c r.0 r.2) r.4)
 
       by : (k : Option ℕ) → group_length (part_of i) g ≡ k → (o : Option ℕ) → called i g ≡ o → Carries Exact R (shared_fault i) (λ s n. none) (enable i (control_below (cells_of i)) held g) (enable j (control_below (cells_of j)) held g)

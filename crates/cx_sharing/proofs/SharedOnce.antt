@@ -46,7 +46,7 @@ module _ (part : PlainComponent) where
   twin = shared_part part
 
   -- a cell of the shared component stands for one that stays
-  old : (e : ℕ) → e < length (shared_part part).cells → StandsAt (stays part) (length part.cells) e
+  old : (e : ℕ) → e < length twin.cells → StandsAt (stays part) (length part.cells) e
   old e lt = let same = length_left (stays part) part.cells in stands_at (stays part) (length part.cells) e (omega (arith, lt, same))
 
   -- what some moved assignment drives of a cell that is no candidate
@@ -72,7 +72,7 @@ module _ (part : PlainComponent) where
       (or_cases (assigns_drive (map (moved_assign (renamed (new_cell part))) g.assigns) (new_cell part c)) (list_any (λ (x : PlainGroup). assigns_drive x.assigns (new_cell part c)) (map (moved_group (renamed (new_cell part))) rest)) e)
 
   -- A CANDIDATE of the shared component stands for a candidate
-  candidate_back : (e : ℕ) (lt : e < length (shared_part part).cells) → is_candidate (shared_part part) e ≡ true → is_candidate part (old e lt).cell ≡ true
+  candidate_back : (e : ℕ) (lt : e < length twin.cells) → is_candidate twin e ≡ true → is_candidate part (old e lt).cell ≡ true
   candidate_back e lt on = by (is_candidate part c) refl
     where
       c : ℕ
@@ -81,8 +81,8 @@ module _ (part : PlainComponent) where
       number : new_cell part c ≡ e
       number = stays_is part c (old e lt).on ∙ (old e lt).number
 
-      kind : kind_in (shared_part part).cells e ≡ kind_in part.cells c
-      kind = ap (kind_in (shared_part part).cells) (sym (old e lt).number) ∙ kind_left (stays part) part.cells c (old e lt).on (old e lt).within
+      kind : kind_in twin.cells e ≡ kind_in part.cells c
+      kind = ap (kind_in twin.cells) (sym (old e lt).number) ∙ kind_left (stays part) part.cells c (old e lt).on (old e lt).within
 
       three : (a b d : Bool) → (a && b && d) ≡ true → (a ≡ true) × (b ≡ true) × (d ≡ true)
       three true true true h = (refl, refl, refl)
@@ -90,21 +90,21 @@ module _ (part : PlainComponent) where
       three true false d h = absurd (cc)
       three false b d h = absurd (cc)
 
-      all : (is_combinational (kind_in (shared_part part).cells e) ≡ true) × (list_any (λ (g : PlainGroup). assigns_drive g.assigns e) (shared_part part).groups ≡ true) × (not (assigns_use (shared_part part).always e) ≡ true)
-      all = three (is_combinational (kind_in (shared_part part).cells e)) (list_any (λ (g : PlainGroup). assigns_drive g.assigns e) (shared_part part).groups) (not (assigns_use (shared_part part).always e)) on
+      all : (is_combinational (kind_in twin.cells e) ≡ true) × (list_any (λ (g : PlainGroup). assigns_drive g.assigns e) twin.groups ≡ true) × (not (assigns_use twin.always e) ≡ true)
+      all = three (is_combinational (kind_in twin.cells e)) (list_any (λ (g : PlainGroup). assigns_drive g.assigns e) twin.groups) (not (assigns_use twin.always e)) on
 
       unread : (b : Bool) → assigns_use part.always c ≡ b → not b ≡ true
       unread false is = refl
       unread true is =
-          absurd (both_ways (assigns_use (shared_part part).always e) (from_not (assigns_use (shared_part part).always e) all.2)
-          (ap (assigns_use (shared_part part).always) (sym number) ∙ assigns_moved (new_cell part) c part.always is))
+          absurd (both_ways (assigns_use twin.always e) (from_not (assigns_use twin.always e) all.2)
+          (ap (assigns_use twin.always) (sym number) ∙ assigns_moved (new_cell part) c part.always is))
 
       by : (b : Bool) → is_candidate part c ≡ b → b ≡ true
       by true is = refl
       by false none =
           let combines : is_combinational (kind_in part.cells c) ≡ true = ap is_combinational (sym kind) ∙ all.0 in
           let driven : list_any (λ (g : PlainGroup). assigns_drive g.assigns c) part.groups ≡ true =
-          groups_back part.groups c none (ap (λ n. list_any (λ (g : PlainGroup). assigns_drive g.assigns n) (shared_part part).groups) number ∙ all.1) in
+          groups_back part.groups c none (ap (λ n. list_any (λ (g : PlainGroup). assigns_drive g.assigns n) twin.groups) number ∙ all.1) in
           sym none
           ∙ ap (λ a. a && list_any (λ (g : PlainGroup). assigns_drive g.assigns c) part.groups && not (assigns_use part.always c)) combines
           ∙ ap (λ a. true && a && not (assigns_use part.always c)) driven
@@ -114,10 +114,10 @@ module _ (part : PlainComponent) where
   staying_less c d lt = ⊎_elim (λ h. h) (λ le. let whole : (c - d) + d ≡ c = omega (arith, le) in let more : staying (stays part) d ≤ staying (stays part) c = subst (λ n. staying (stays part) d ≤ staying (stays part) n) whole (staying_more (stays part) d (c - d)) in absurd (omega (arith, lt, more))) (cases_lt c d)
 
   -- none takes a later one
-  refused : (e : ℕ) → e < length (shared_part part).cells → is_candidate (shared_part part) e ≡ true → (k : Kept) → k.given ≡ [] → k.cell < e → is_candidate (shared_part part) k.cell ≡ true → takes (shared_part part) e k ≡ false
-  refused e lt on k bare before first = by (same_kind (kind_in (shared_part part).cells k.cell) (kind_in (shared_part part).cells e)) refl
+  refused : (e : ℕ) → e < length twin.cells → is_candidate twin e ≡ true → (k : Kept) → k.given ≡ [] → k.cell < e → is_candidate twin k.cell ≡ true → takes twin e k ≡ false
+  refused e lt on k bare before first = by (same_kind (kind_in twin.cells k.cell) (kind_in twin.cells e)) refl
     where
-      below : k.cell < length (shared_part part).cells
+      below : k.cell < length twin.cells
       below = omega (arith, lt, before)
 
       x : StandsAt (stays part) (length part.cells) k.cell
@@ -129,35 +129,35 @@ module _ (part : PlainComponent) where
       order : x.cell < y.cell
       order = let one = x.number in let two = y.number in staying_less x.cell y.cell (omega (arith, one, two, before))
 
-      kinds : (n : ℕ) (z : StandsAt (stays part) (length part.cells) n) → kind_in (shared_part part).cells n ≡ kind_in part.cells z.cell
-      kinds n z = ap (kind_in (shared_part part).cells) (sym z.number) ∙ kind_left (stays part) part.cells z.cell z.on z.within
+      kinds : (n : ℕ) (z : StandsAt (stays part) (length part.cells) n) → kind_in twin.cells n ≡ kind_in part.cells z.cell
+      kinds n z = ap (kind_in twin.cells) (sym z.number) ∙ kind_left (stays part) part.cells z.cell z.on z.within
 
-      meets : same_kind (kind_in (shared_part part).cells k.cell) (kind_in (shared_part part).cells e) ≡ true → meet (shared_part part) k.cell e ≡ true
+      meets : same_kind (kind_in twin.cells k.cell) (kind_in twin.cells e) ≡ true → meet twin k.cell e ≡ true
       meets same =
           let r = stays_meet part x.cell y.cell order y.within (candidate_back k.cell below first) (candidate_back e lt on) (eqb-true (keeper part x.cell) x.cell x.on) (eqb-true (keeper part y.cell) y.cell y.on)
-          (ap (λ z. same_kind z (kind_in part.cells y.cell)) (sym (kinds k.cell x)) ∙ ap (same_kind (kind_in (shared_part part).cells k.cell)) (sym (kinds e y)) ∙ same) in
+          (ap (λ z. same_kind z (kind_in part.cells y.cell)) (sym (kinds k.cell x)) ∙ ap (same_kind (kind_in twin.cells k.cell)) (sym (kinds e y)) ∙ same) in
           let one : new_cell part r.0 ≡ k.cell = ap (staying (stays part)) r.1 ∙ x.number in
           let two : new_cell part y.cell ≡ e = stays_is part y.cell y.on ∙ y.number in
-          ap (λ z. meet (shared_part part) z e) (sym one) ∙ ap (meet (shared_part part) (new_cell part r.0)) (sym two)
-          ∙ meet_moved (new_cell part) part (shared_part part) refl refl r.0 y.cell r.2
+          ap (λ z. meet twin z e) (sym one) ∙ ap (meet twin (new_cell part r.0)) (sym two)
+          ∙ meet_moved (new_cell part) part twin refl refl r.0 y.cell r.2
 
-      by : (b : Bool) → same_kind (kind_in (shared_part part).cells k.cell) (kind_in (shared_part part).cells e) ≡ b → (b && list_all (λ z. not (meet (shared_part part) z e)) (k.cell ∷ k.given)) ≡ false
+      by : (b : Bool) → same_kind (kind_in twin.cells k.cell) (kind_in twin.cells e) ≡ b → (b && list_all (λ z. not (meet twin z e)) (k.cell ∷ k.given)) ≡ false
       by false differ = refl
-      by true same = ap (λ b. not b && list_all (λ z. not (meet (shared_part part) z e)) k.given) (meets same)
+      by true same = ap (λ b. not b && list_all (λ z. not (meet twin z e)) k.given) (meets same)
 
-  kept_bare : (n : ℕ) → n ≤ length (shared_part part).cells → AreBare (kept_after (shared_part part) n)
+  kept_bare : (n : ℕ) → n ≤ length twin.cells → AreBare (kept_after twin n)
   kept_bare zero le = λ k i. absurd i
-  kept_bare (suc n) le = by (is_candidate (shared_part part) n) refl (kept_bare n (omega (arith, le)))
+  kept_bare (suc n) le = by (is_candidate twin n) refl (kept_bare n (omega (arith, le)))
     where
-      by : (b : Bool) → is_candidate (shared_part part) n ≡ b → AreBare (kept_after (shared_part part) n) → AreBare (if b then give (shared_part part) n (kept_after (shared_part part) n) else kept_after (shared_part part) n)
+      by : (b : Bool) → is_candidate twin n ≡ b → AreBare (kept_after twin n) → AreBare (if b then give twin n (kept_after twin n) else kept_after twin n)
       by false off bare = bare
       by true on bare =
-          give_bare (shared_part part) n (kept_after (shared_part part) n) bare
-          (λ k i. let fine = (kept_sound (shared_part part) n).fine k i in refused n (omega (arith, le)) on k (bare k i) (fine.below k.cell (inl refl)) (fine.candidates k.cell (inl refl)))
+          give_bare twin n (kept_after twin n) bare
+          (λ k i. let fine = (kept_sound twin n).fine k i in refused n (omega (arith, le)) on k (bare k i) (fine.below k.cell (inl refl)) (fine.candidates k.cell (inl refl)))
 
   -- EACH CELL of the shared component stands for itself
-  pub keeps_each : (c : ℕ) → keeper (shared_part part) c ≡ c
-  keeps_each c = bare_keeps (kept_of (shared_part part)) (kept_bare (length (shared_part part).cells) (omega arith)) c
+  pub keeps_each : (c : ℕ) → keeper twin c ≡ c
+  keeps_each c = bare_keeps (kept_of twin) (kept_bare (length twin.cells) (omega arith)) c
 
 no_rows_from : (part : PlainComponent) → ((c : ℕ) → keeper part c ≡ c) → (c more : ℕ) → rows_from part c more ≡ []
 no_rows_from part own c zero = refl

@@ -1,5 +1,5 @@
 -- THE RULES ON STATE: what does not rest on state in an instance of the shared design does not in the instance of the design.
-use Rattle.std.proofs.Common.{◌≡◌, ℕ, inl, inr, ◌⊎◌, List, Option, Some, None, option_map, refl, sym, ap, ◌∙◌, subst}
+use Rattle.std.proofs.Common.{◌≡◌, ℕ, inl, inr, ◌⊎◌, List, Option, refl, sym, ap, ◌∙◌, subst}
 use Rattle.cx_text.specs.declared.places.Place.{Place}
 use Rattle.cx_meaning.specs.declared.ports.PortRef.{PortRef}
 use Rattle.cx_meaning.specs.declared.ports.PortRef.TheVariants as ports
@@ -8,9 +8,9 @@ use Rattle.cx_meaning.specs.Designs.{PlainForm, Empty, Enable, Seq, Par, If, Whi
 use Rattle.cx_meaning.specs.Instances.{Instance, part_of}
 use Rattle.cx_meaning.specs.Active.{Owned, nothing}
 use Rattle.cx_rules.specs.Items.{Visited}
-use Rattle.cx_rules.specs.Footprints.{AssignNames, Rests, Depends}
+use Rattle.cx_rules.specs.Footprints.{Rests, Depends}
 use Rattle.cx_rules.specs.ShapeRules.{BreaksDoneNotState, BreaksStaticTest, LeadsToInput, BreaksOutputNotState}
-use Rattle.cx_rewrites.specs.Moving.{moved_port, moved_assign, moved_owned, moved_form}
+use Rattle.cx_rewrites.specs.Moving.{moved_port, moved_owned, moved_form}
 use Rattle.cx_rewrites.specs.Renaming.{renamed}
 use Rattle.cx_rewrites.proofs.ReflectLemmas.{names_back}
 use Rattle.cx_sharing.specs.Giving.{new_cell}

@@ -1,0 +1,8 @@
+use Rattle.cx_shared_trees.proofs.DesignShared.{shared_tree_accepted, names-kept}
+use Rattle.cx_shared_trees.proofs.laws.shared_is_accepted.Goals as goal
+
+pub returns-clause-accepted : goal.returns-clause-accepted
+returns-clause-accepted c = λ tree accepted. shared_tree_accepted tree accepted
+
+pub returns-clause-named : goal.returns-clause-named
+returns-clause-named c = λ tree none. names-kept tree none
