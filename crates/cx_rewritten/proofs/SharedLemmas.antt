@@ -8,7 +8,6 @@ use Rattle.cx_ast.specs.PlainTree as ast
 use Rattle.cx_lex.specs.Bytes.{is_name_start, is_digit, is_name_byte, is_in_line}
 use Rattle.cx_meaning.specs.Designs.{PlainCell, PlainComponent}
 use Rattle.cx_rules.specs.Ports.{cell_name}
-use Rattle.cx_names_scopes.proofs.NameLemmas.{number_within}
 use Rattle.cx_numbering.specs.Names.{number_of}
 use Rattle.cx_numbering.specs.DesignOf.{plain_cell_of, component_of, design_of}
 use Rattle.cx_print.specs.Layout.{IsWritableWord}
