@@ -1,5 +1,7 @@
 -- What is written of an accepted tree is accepted, and its design runs as that of the tree.
-use Rattle.std.proofs.Common.{◌≡◌, ℕ, List, refl, sym, ◌∙◌, subst}
+use Rattle.std.proofs.Common.{◌≡◌, ◌<◌, ◌^◌, ℕ, List, refl, sym, ap, ◌∙◌, subst}
+use Rattle.std.proofs.Math.Logic.{∥∥₁_elim}
+use denote.Struct.Props.{props}
 use Rattle.cx_ast.specs.PlainTree.{PlainTree}
 use Rattle.cx_meaning.specs.Answers.{Answer, End, Fault, More}
 use Rattle.cx_meaning.specs.Cycles as cycles
@@ -7,8 +9,12 @@ use Rattle.cx_meaning.specs.Designs.{PlainDesign}
 use Rattle.cx_meaning.specs.Instances.{State, tree_of, words_of}
 use Rattle.cx_meaning.specs.Running.{run_main}
 use Rattle.cx_rules.specs.Accepted.{IsAccepted}
+use Rattle.cx_rules.specs.Sizes.{design_size}
 use Rattle.cx_rules.specs.Wellformed.{IsDesign}
 use Rattle.cx_numbering.specs.DesignOf.{design_of}
+use Rattle.cx_names.specs.Targets.{HasTargets}
+use Rattle.cx_names.proofs.Whole.{is_design}
+use Rattle.cx_names.proofs.TargetLemmas.{targets_in_text}
 use Rattle.cx_check.specs.Acceptance.{IsAcceptedTree}
 use Rattle.cx_sharing.specs.Following.{shared_fault}
 use Rattle.cx_sharing.specs.SharedDesign.{shared_design}
@@ -32,6 +38,12 @@ shared_alike d design accepted = record { rows = rows_shared d design; runs = λ
     by words n (Fault f t) e =
         subst (AreAlike d (shared_design d) (Fault f t)) (sym (fault_shared d design accepted words n f t e)) (both_fault f (shared_fault (tree_of d) f) t refl)
     by words n More e = subst (AreAlike d (shared_design d) More) (sym (more_shared d design accepted words n e)) both_go_on
+
+-- the design of an accepted tree keeps what each design keeps
+pub tree_design : (tree : PlainTree) (d : PlainDesign) → HasTargets tree → IsAcceptedTree tree → d ≡ design_of tree → ∥ IsDesign d ∥₁ → IsDesign (design_of tree)
+tree_design tree d targets accepted same keeps =
+    let small : design_size d < 2 ^ 32 = ∥∥₁_elim keeps (hlevel props) (λ design. design.few_parts) in
+    is_design tree targets accepted.named (subst (λ e. design_size e < 2 ^ 32) same small)
 
 -- at other places
 module _ (tree new : PlainTree) (written : List ℕ) (r : IsReadAs new written) where
@@ -60,3 +72,8 @@ shared_runs tree written source accepted design w =
     let alike = shared_alike (design_of tree) design accepted.accepted in
     runs_as tree (shared_tree tree) written (shared_read tree written source w) (shared_tree_accepted tree accepted)
     (subst (RunAlike (design_of tree)) (sym (design-shared tree accepted.named)) alike)
+
+-- and of one whose design is held
+pub held_runs : (tree : PlainTree) (d : PlainDesign) (written : List ℕ) → IsTreeOfText tree → IsAcceptedTree tree → d ≡ design_of tree → ∥ IsDesign d ∥₁ → IsSharedText tree written → RunsAs tree written
+held_runs tree d written source accepted same keeps w =
+    shared_runs tree written source accepted (tree_design tree d (targets_in_text source.1 tree source.3) accepted same keeps) w
