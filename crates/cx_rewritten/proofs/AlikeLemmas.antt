@@ -6,7 +6,7 @@ use Rattle.cx_ast.specs.PlainTree.{PlainTree}
 use Rattle.cx_meaning.specs.Answers.{Answer, End, Fault, More}
 use Rattle.cx_meaning.specs.Cycles as cycles
 use Rattle.cx_meaning.specs.Designs.{PlainDesign}
-use Rattle.cx_meaning.specs.Instances.{State, tree_of, words_of}
+use Rattle.cx_meaning.specs.Instances.{State, tree_of}
 use Rattle.cx_meaning.specs.Running.{run_main}
 use Rattle.cx_rules.specs.Accepted.{IsAccepted}
 use Rattle.cx_rules.specs.Sizes.{design_size}

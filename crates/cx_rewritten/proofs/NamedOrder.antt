@@ -1,11 +1,10 @@
 -- A tree with other names of cells keeps the order of its assignments and invokes, and is printable where the names are.
-use Rattle.std.proofs.Common.{◌≡◌, ℕ, zero, suc, Bool, true, false, List, [], ◌∷◌, ◌++◌, map, flat_map, Option, Some, None, option_map, refl, sym, ap, ◌∙◌, subst}
-use Rattle.std.specs.List.{AllByRecursion}
+use Rattle.std.proofs.Common.{◌≡◌, ℕ, List, [], ◌∷◌, ◌++◌, map, flat_map, Option, Some, None, option_map, refl, sym, ap, ◌∙◌}
 use Rattle.std.proofs.lemmas.List.{map-append}
 use Rattle.cx_text.specs.declared.places.Place.{Place}
 use Rattle.cx_ast.specs.PlainTree as ast
 use Rattle.cx_ast.specs.PlainStatements as statements
-use Rattle.cx_copies.specs.Naming.{named_assign, named_group, named_wire, named_form, named_else, named_block, named_statements}
+use Rattle.cx_copies.specs.Naming.{named_assign, named_wire, named_form, named_else, named_block, named_statements}
 use Rattle.cx_numbering.specs.DesignOf.{Invoke, invokes_in, invokes_else, invokes_of, invokes_all}
 use Rattle.cx_written.specs.Ordered.{wire_places, invoke_places, AreOf, none_left, one_kept}
 

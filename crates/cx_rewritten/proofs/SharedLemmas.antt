@@ -1,21 +1,19 @@
 -- THE SHARED TREE keeps the order of its tree, and the lines before it are comments.
-use Rattle.std.proofs.Common.{◌≡◌, ℕ, zero, suc, ◌<◌, ◌≤◌, Bool, true, false, ◌||◌, List, [], ◌∷◌, ◌++◌, codes, length, map, flat_map, Option, Some, None, option_map, refl, sym, ap, ◌∙◌, subst, if◌then◌else◌, arith, append_assoc}
+use Rattle.std.proofs.Common.{◌≡◌, ℕ, zero, suc, Bool, true, false, List, [], ◌∷◌, ◌++◌, codes, length, map, flat_map, option_map, refl, sym, ap, ◌∙◌, subst, if◌then◌else◌, arith, append_assoc}
 use Rattle.std.specs.List.{AllByRecursion, list_all}
 use Rattle.std.proofs.lemmas.Bool.Decides.{nat_tests}
 use Rattle.cx_text.proofs.BoolLaws.{and_true, and_left, and_right, or_left}
-use Rattle.cx_text.proofs.ListLaws.{length-map}
 use Rattle.cx_ast.specs.PlainTree as ast
 use Rattle.cx_lex.specs.Bytes.{is_name_start, is_digit, is_name_byte, is_in_line}
 use Rattle.cx_meaning.specs.Designs.{PlainCell, PlainComponent}
 use Rattle.cx_rules.specs.Ports.{cell_name}
-use Rattle.cx_numbering.specs.Names.{number_of}
 use Rattle.cx_numbering.specs.DesignOf.{plain_cell_of, component_of, design_of}
 use Rattle.cx_print.specs.Layout.{IsWritableWord}
 use Rattle.cx_print.proofs.FileGiven.{tree_of_text}
 use Rattle.cx_print.specs.Printable.{IsName, IsCell, IsComponent, IsPrintable}
 use Rattle.cx_sharing.specs.declared.rows.SharedRow.{SharedRow}
 use Rattle.cx_sharing.specs.Giving.{keeper, stays}
-use Rattle.cx_sharing.specs.SharedTree.{keeper_name, kept_name, left_cells, shared_component, shared_components, shared_tree}
+use Rattle.cx_sharing.specs.SharedTree.{kept_name, shared_component, shared_components, shared_tree}
 use Rattle.cx_sharing.specs.SharedRows.{row_of, rows_from, rows_of, shared_rows}
 use Rattle.cx_shared_trees.proofs.PrintableShared.{printable-shared}
 use Rattle.cx_copies.specs.Naming.{named_block}

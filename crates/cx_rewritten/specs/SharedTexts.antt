@@ -1,5 +1,5 @@
 -- What `share` writes of a tree.
-use Rattle.std.specs.Prelude.{ℕ, List, [], ◌∷◌, ◌++◌, codes, flat_map}
+use Rattle.std.specs.Prelude.{ℕ, List, ◌∷◌, ◌++◌, codes, flat_map}
 use Rattle.cx_ast.specs.PlainTree.{PlainTree}
 use Rattle.cx_print.specs.Printed.{AppendsTree}
 use Rattle.cx_sharing.specs.declared.rows.SharedRow.{SharedRow}
