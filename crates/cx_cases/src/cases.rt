@@ -10,9 +10,9 @@ use std::alloc::Global;
 const SHOWN: usize = 300;
 
 /// The keys of a step.
-const KEYS: [&str; 12] = [
-    "words", "status", "stdout", "stderr", "save", "reads", "writes", "lines", "most", "room",
-    "cut", "fronts",
+const KEYS: [&str; 13] = [
+    "words", "status", "stdout", "stderr", "comments", "save", "reads", "writes", "lines", "most",
+    "room", "cut", "fronts",
 ];
 
 /// The first step of a case that tells something else than it should, behind the name of the case; nothing where there is none.
@@ -182,7 +182,8 @@ fn is_wanted(
         Some(list) => list.iter().any(|one| one.as_u64() == Some(status)),
         None => step.get("status").and_then(Value::as_u64) == Some(status),
     };
-    let is_out = is_content(alloc, step.get("stdout"), told.out.bytes())?;
+    let is_out = is_content(alloc, step.get("stdout"), told.out.bytes())?
+        && has_comments(alloc, step.get("comments"), told.out.bytes())?;
     let is_err = is_content(alloc, err, told.err.bytes())?;
     Ok(is_status && is_out && is_err)
 }
@@ -191,6 +192,18 @@ fn is_wanted(
 fn is_content(alloc: Global, content: Option<&Value>, bytes: &[u8]) -> Result<bool, Trouble> {
     match content {
         Some(content) => Ok(bytes_of(alloc, content)?.as_slice() == bytes),
+        None => Ok(true),
+    }
+}
+
+/// Whether bytes begin with the lines of a content, and no comment stands behind them; each do where none is given.
+fn has_comments(alloc: Global, content: Option<&Value>, bytes: &[u8]) -> Result<bool, Trouble> {
+    match content {
+        Some(content) => {
+            let lines = bytes_of(alloc, content)?;
+            let rest = bytes.get(lines.len()..).unwrap_or(b"//".as_slice());
+            Ok(bytes.starts_with(lines.as_slice()) && !rest.starts_with(b"//".as_slice()))
+        }
         None => Ok(true),
     }
 }

@@ -1,89 +1,60 @@
 -- Words that are none of a command.
-use Rattle.std.proofs.Common.{◌≡◌, ◌<◌, ◌≤◌, ℕ, List, [], ◌∷◌, length, slice_index_or, get_or, codes, Option, Some, None, MatchOption, refl, sym, ap, ◌∙◌, subst, arith}
+use Rattle.std.proofs.Common.{◌≡◌, ◌<◌, ◌≤◌, ℕ, Bool, true, false, ◌&&◌, nat_eq, if◌then◌else◌, List, [], ◌∷◌, length, slice_index_or, codes, Option, Some, None, MatchOption, refl, sym, ap, ◌∙◌, subst, arith}
+use Rattle.std.specs.Str.Parse.{digits_value}
 use Rattle.cx_commands.specs.Asked.{asked_of}
 use Rattle.cx_commands.specs.Lists.{IsList}
 use Rattle.cx_commands.specs.declared.commands.Command.{Command}
-use Rattle.cx_commands.specs.Commands.{IsBudget, Asked, Asks, AsksNothing, AsksNoDesign, AsksNoOther, HasList, compile, interp, check, sim, trial, weave}
+use Rattle.cx_commands.specs.Commands.{IsBudget, Asked, Asks, AsksNothing, AsksNoDesign, AsksNoOther, HasList, compile, interp, check, sim, trial, share, weave}
 
 pub neither : (words : List (List ℕ)) → AsksNoDesign words → AsksNoOther words → AsksNothing words
-neither words d r (compile design) asks = d.compiles design asks
+neither words d r (compile design) asks = d.verdicts.compiles design asks
 neither words d r (interp design json budget) asks = r.runs.interprets design json budget asks
-neither words d r (check design) asks = d.checks design asks
+neither words d r (check design) asks = d.verdicts.checks design asks
 neither words d r (sim verilog json budget) asks = r.runs.simulates verilog json budget asks
 neither words d r (trial seed) asks = r.others.tries seed asks
+neither words d r (share design) asks = d.shares design asks
 neither words d r (weave design json steps list) asks = r.others.weaves design json steps list asks
 
--- words begin with one word
-abbrev word_or : List ℕ → List (List ℕ) → List ℕ
-word_or none [] = none
-word_or none (w ∷ ws) = w
+-- two equal words
+abbrev same : List ℕ → List ℕ → Bool
+same [] [] = true
+same [] (b ∷ ys) = false
+same (a ∷ xs) [] = false
+same (a ∷ xs) (b ∷ ys) = nat_eq a b && same xs ys
 
-same_word : (words : List (List ℕ)) (a b : List ℕ) (later others : List (List ℕ)) → words ≡ a ∷ later → words ≡ b ∷ others → a ≡ b
-same_word words a b later others h i = ap (word_or []) (sym h ∙ i)
+-- THE COMMAND of words that spell one, read from the left
+abbrev on_one : List ℕ → List ℕ → Asked
+on_one name word =
+    if same name (codes "compile") then compile word else if same name (codes "check") then check word
+    else if same name (codes "share") then share word else trial (digits_value 10 word)
 
-letters_differ : (a b : ℕ) → a ≡ 99 → b ≡ 116 → a ≡ b → ⊥
-letters_differ a b c t e = omega (arith, c, t, e)
+abbrev on_two : List ℕ → List ℕ → List ℕ → List ℕ → Asked
+on_two name first second digits =
+    if same name (codes "interp") then interp first second (digits_value 10 digits) else sim first second (digits_value 10 digits)
 
-check_no_trial : codes "check" ≡ codes "trial" → ⊥
-check_no_trial e = letters_differ _ _ refl refl (ap (λ bytes. get_or bytes 0 0) e)
+abbrev asked_by : List (List ℕ) → Option Asked
+asked_by [] = None
+asked_by (name ∷ []) = None
+asked_by (name ∷ word ∷ []) = Some (on_one name word)
+asked_by (name ∷ first ∷ second ∷ []) = None
+asked_by (name ∷ first ∷ second ∷ digits ∷ []) = Some (on_two name first second digits)
+asked_by (name ∷ first ∷ second ∷ digits ∷ list ∷ []) = Some (weave first second (digits_value 10 digits) list)
+asked_by (name ∷ first ∷ second ∷ digits ∷ list ∷ more ∷ rest) = None
+
+is_asked : (words : List (List ℕ)) (command : Asked) → Asks words command → asked_by words ≡ Some command
+is_asked words (compile d) h = ap asked_by h
+is_asked words (interp d j n) h = ap asked_by h.1 ∙ ap (λ m. Some (interp d j m)) h.2.value
+is_asked words (check d) h = ap asked_by h
+is_asked words (sim d j n) h = ap asked_by h.1 ∙ ap (λ m. Some (sim d j m)) h.2.value
+is_asked words (trial s) h = ap asked_by h.1 ∙ ap (λ m. Some (trial m)) h.2.value
+is_asked words (share d) h = ap asked_by h
+is_asked words (weave d j n l) h = ap asked_by h.1 ∙ ap (λ m. Some (weave d j m l)) h.2.value
 
 -- words ask for one command
 pub one_command : (words : List (List ℕ)) (a b : Asked) → Asks words a → Asks words b → a ≡ b
-one_command words (compile d) (compile e) h i = cc
-one_command words (compile d) (interp e k m) h i = absurd (let second = i.1 in cc)
-one_command words (compile d) (check e) h i = absurd (cc)
-one_command words (compile d) (sim e k m) h i = absurd (let second = i.1 in cc)
-one_command words (compile d) (trial s) h i = absurd (let second = i.1 in cc)
-one_command words (compile d) (weave e k m l) h i = absurd (let second = i.1 in cc)
-one_command words (interp d j n) (compile e) h i = absurd (let first = h.1 in cc)
-one_command words (interp d j n) (interp e k m) h i =
-    let first = h.1 in
-    let second = i.1 in
-    let value = h.2.value in
-    let other = i.2.value in
-    cc
-one_command words (interp d j n) (check e) h i = absurd (let first = h.1 in cc)
-one_command words (interp d j n) (sim e k m) h i = absurd (let first = h.1 in let second = i.1 in cc)
-one_command words (interp d j n) (trial s) h i = absurd (let first = h.1 in let second = i.1 in cc)
-one_command words (interp d j n) (weave e k m l) h i = absurd (let first = h.1 in let second = i.1 in cc)
-one_command words (check d) (compile e) h i = absurd (cc)
-one_command words (check d) (interp e k m) h i = absurd (let second = i.1 in cc)
-one_command words (check d) (check e) h i = cc
-one_command words (check d) (sim e k m) h i = absurd (let second = i.1 in cc)
-one_command words (check d) (trial s) h i = absurd (check_no_trial (same_word words (codes "check") (codes "trial") (d ∷ []) (i.0 ∷ []) h i.1))
-one_command words (check d) (weave e k m l) h i = absurd (let second = i.1 in cc)
-one_command words (sim d j n) (compile e) h i = absurd (let first = h.1 in cc)
-one_command words (sim d j n) (interp e k m) h i = absurd (let first = h.1 in let second = i.1 in cc)
-one_command words (sim d j n) (check e) h i = absurd (let first = h.1 in cc)
-one_command words (sim d j n) (sim e k m) h i =
-    let first = h.1 in
-    let second = i.1 in
-    let value = h.2.value in
-    let other = i.2.value in
-    cc
-one_command words (sim d j n) (trial s) h i = absurd (let first = h.1 in let second = i.1 in cc)
-one_command words (sim d j n) (weave e k m l) h i = absurd (let first = h.1 in let second = i.1 in cc)
-one_command words (trial s) (compile e) h i = absurd (let first = h.1 in cc)
-one_command words (trial s) (interp e k m) h i = absurd (let first = h.1 in let second = i.1 in cc)
-one_command words (trial s) (check e) h i = absurd (check_no_trial (same_word words (codes "check") (codes "trial") (e ∷ []) (h.0 ∷ []) i h.1))
-one_command words (trial s) (sim e k m) h i = absurd (let first = h.1 in let second = i.1 in cc)
-one_command words (trial s) (trial t) h i =
-    let first = h.1 in
-    let second = i.1 in
-    let value = h.2.value in
-    let other = i.2.value in
-    cc
-one_command words (trial s) (weave e k m l) h i = absurd (let first = h.1 in let second = i.1 in cc)
-one_command words (weave d j n l) (compile e) h i = absurd (let first = h.1 in cc)
-one_command words (weave d j n l) (interp e k m) h i = absurd (let first = h.1 in let second = i.1 in cc)
-one_command words (weave d j n l) (check e) h i = absurd (let first = h.1 in cc)
-one_command words (weave d j n l) (sim e k m) h i = absurd (let first = h.1 in let second = i.1 in cc)
-one_command words (weave d j n l) (trial s) h i = absurd (let first = h.1 in let second = i.1 in cc)
-one_command words (weave d j n l) (weave e k m o) h i =
-    let first = h.1 in
-    let second = i.1 in
-    let value = h.2.value in
-    let other = i.2.value in
+one_command words a b h i =
+    let first = is_asked words a h in
+    let second = is_asked words b i in
     cc
 
 -- a list with two items is those at its first two indices
@@ -100,6 +71,7 @@ has_list words (interp design json budget) asks = tt
 has_list words (check design) asks = tt
 has_list words (sim verilog json budget) asks = tt
 has_list words (trial seed) asks = tt
+has_list words (share design) asks = tt
 has_list words (weave design json steps list) asks = asks.3
 
 -- the words of a woven run, where the last is a list and where it is none

@@ -1,7 +1,7 @@
 //! The commands that the words on the command line spell.
 
 ghost use Rattle.std.specs.Prelude.{◌≡◌, ℕ, List, MatchOption};
-ghost use Rattle.cx_commands.specs.Commands.{Asks, AsksDesign, AsksNeither, AsksNoDesign, AsksNoOther, AsksNoRun, AsksNothing, AsksRun, IsBudget, check, compile, interp, sim, trial, weave};
+ghost use Rattle.cx_commands.specs.Commands.{Asks, AsksDesign, AsksNeither, AsksNoDesign, AsksNoOther, AsksNoRun, AsksNoVerdict, AsksNothing, AsksRun, IsBudget, check, compile, interp, share, sim, trial, weave};
 ghost use Rattle.cx_commands.specs.Asked.{asked_of};
 ghost use Rattle.cx_commands.specs.Lists.{IsList};
 
@@ -35,6 +35,10 @@ pub enum Command<'a> {
     /// Tries the design of a seed.
     Trial {
         seed: u64,
+    },
+    /// Writes the design of a file with one cell in the place of those that are never used together.
+    Share {
+        design: &'a [u8],
     },
     /// Runs the design of a file on a data file by so many choices, those of a list.
     Weave {
@@ -76,9 +80,19 @@ fn command_on_numbers(words: &[Word]) -> Option<Command<'_>>
     }
 }
 
-/// The command of the words `compile FILE` or `check FILE`.
+/// The command of the words `compile FILE`, `check FILE` or `share FILE`.
 fn command_on_design(words: &[Word]) -> Option<Command<'_>>
     ensures { MatchOption result (AsksNoDesign words.now) (λ command. Asks words.now (asked_of command)) }
+{
+    match verdict_of(words) {
+        Some(command) => Some(command),
+        None => sharer_of(words),
+    }
+}
+
+/// The command of the words `compile FILE` or `check FILE`.
+fn verdict_of(words: &[Word]) -> Option<Command<'_>>
+    ensures { MatchOption result (AsksNoVerdict words.now) (λ command. Asks words.now (asked_of command)) }
 {
     match compiler_of(words) {
         Some(command) => Some(command),
@@ -100,6 +114,15 @@ fn checker_of(words: &[Word]) -> Option<Command<'_>>
 {
     match design_of(words, b"check".as_slice()) {
         Some(design) => Some(Command::Check { design }),
+        None => None,
+    }
+}
+
+fn sharer_of(words: &[Word]) -> Option<Command<'_>>
+    ensures { MatchOption result ((design : List ℕ) → Asks words.now (share design) → ⊥) (λ command. Asks words.now (asked_of command)) }
+{
+    match design_of(words, b"share".as_slice()) {
+        Some(design) => Some(Command::Share { design }),
         None => None,
     }
 }

@@ -3,6 +3,7 @@ pub mod InterpLemmas
 pub mod FaultLemmas
 pub mod RanLemmas
 pub mod SimLemmas
+pub mod SharingLemmas
 pub mod CauseLemmas
 pub mod CompleteLemmas
 pub mod FileLemmas
@@ -14,3 +15,4 @@ pub mod ListLemmas
 pub mod OrderLemmas
 pub mod TrialDepth
 pub mod FilePromise
+pub mod AlikeLemmas

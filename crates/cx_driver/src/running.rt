@@ -9,6 +9,7 @@ ghost use Rattle.cx_commands.specs.Commands as asked;
 ghost use Rattle.cx_commands.specs.Lists.{IsList};
 ghost use Rattle.cx_commands.specs.Messages.{line_of};
 ghost use Rattle.cx_compiler.specs.Promise.{KeepsOfFile};
+ghost use Rattle.cx_driver.specs.Alike.{AlikeOfFile};
 ghost use Rattle.cx_driver.specs.Outcomes.{CanAnswer, IsAnswer, IsAnswerTo, IsStopped, OfTold};
 ghost use Rattle.cx_commands.specs.Reads.{HoldsWithin, IsReadFault};
 ghost use Rattle.cx_commands.specs.declared.refusals.Refusal.{Refusal as RefusalValue};
@@ -19,6 +20,7 @@ ghost use Rattle.cx_driver.specs.Causes.{HasCause, IsMemory, IsOfFile, IsTold, I
 ghost use Rattle.cx_commands.specs.Statuses.{IsRefusing, ReceivesLine, fixed_line, status_of};
 
 use crate::interpreting::interp;
+use crate::sharing::share;
 use crate::simulating::sim;
 use crate::trying::trial;
 use crate::weaving::weave_by;
@@ -43,6 +45,10 @@ pub fn run<F: Files, O: Sink, E: Sink>(
     // THE PROMISE: what `compile` wrote of a file keeps it.
     ensures promise { result ≡ statuses.Done → (file : List ℕ) → Asks words.now (asked.compile file)
         → (verilog : List ℕ) × KeepsOfFile (F.held files.old) file verilog × (O.written out.new ≡ grown (O.written out.old) verilog) }
+
+    // What `share` wrote of a file is accepted, and interpreted as the file is.
+    ensures shared { result ≡ statuses.Done → (file : List ℕ) → Asks words.now (asked.share file)
+        → (answer : List ℕ) × AlikeOfFile (F.held files.old) file answer × (O.written out.new ≡ grown (O.written out.old) answer) }
 
     ensures words { (result ≡ statuses.Words) ↔ AsksNothing words.now }
     ensures read_fault { result ≡ statuses.ReadFault → (file : List ℕ) × IsFileOf words.now file
@@ -189,6 +195,7 @@ fn answer<'a, F: Files>(
             budget,
         } => simulated(alloc, verilog, json, budget, files),
         Command::Trial { seed } => tried(alloc, seed),
+        Command::Share { design } => shared(alloc, design, files),
         Command::Weave {
             design,
             json,
@@ -302,6 +309,23 @@ fn checked<'a, F: Files>(
     match check_text(alloc, &text) {
         Ok(()) => accepted(alloc),
         Err(told) => Err(Refusal::Stop(told)),
+    }
+}
+
+/// The answer of sharing on a file.
+fn shared<'a, F: Files>(
+    alloc: Global,
+    design: &'a [u8],
+    files: &mut F,
+) -> Result<Vec<u8>, Refusal<'a>>
+    ensures answer { IfOk result (λ text. IsAnswer (F.held files.old) (asked.share design.now) text.items) }
+    ensures cause { IfErr result (HasCause (asked.share design.now) (F.held files.old) (F.faults files.old) (F.faults files.new)) }
+    ensures kept { F.held files.new ≡ F.held files.old }
+{
+    let text = read(alloc, files, design, DESIGN_BYTES)?;
+    match share(alloc, &text) {
+        Ok(answer) => Ok(answer),
+        Err(why) => Err(Refusal::Stop(why)),
     }
 }
 

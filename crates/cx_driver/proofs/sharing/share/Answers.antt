@@ -1,0 +1,20 @@
+use Rattle.cx_ast.specs.PlainTree.{plain_tree}
+use Rattle.cx_compiler.proofs.TextLemmas.{tree_refused, no_tree_refused}
+use Rattle.cx_driver.proofs.SharingLemmas.{all_shared, all_told, tree_shared}
+use Rattle.cx_driver.proofs.sharing.share.Goals as goal
+
+pub share_tree-requires : goal.share_tree-requires
+share_tree-requires c = record { source = (c.args.text.now, c.in-Ok.ensures.tree.0, c.in-Ok.ensures.tree.1, c.in-Ok.ensures.tree.2) }
+
+pub returns-in-Ok : goal.returns-in-Ok
+returns-in-Ok c =
+    let text = c.args.text.now in
+    let r = c.share_tree.result in
+    let answer = tree_shared (λ v. v.items) text (plain_tree c.in-Ok.tree) r c.in-Ok.ensures.tree c.share_tree.ensures.accepted c.share_tree.ensures.shared in
+    let cause = tree_refused text (plain_tree c.in-Ok.tree) r c.in-Ok.ensures.tree c.share_tree.ensures.cause in
+    record {
+      answer = answer;
+      cause = cause;
+      all_answers = λ is. all_shared (λ v. v.items) text r cause is;
+      all_refusals = λ told b. all_told (λ v. v.items) text r answer cause told b;
+    }

@@ -1,0 +1,3 @@
+mod NamedOrder
+pub mod SharedLemmas
+pub mod AlikeLemmas
